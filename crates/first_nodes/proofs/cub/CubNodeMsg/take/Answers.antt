@@ -1,0 +1,10 @@
+use Rattle.std.proofs.lemmas.Result.{on_ok_weaker}
+use Rattle.node_kit.specs.Steps.Input.{Take}
+use Rattle.first_nodes.specs.State.{IsCub}
+use Rattle.first_nodes.specs.Rules.{cub_step}
+use Rattle.first_nodes.proofs.Right.{cub_keeps}
+use Rattle.first_nodes.proofs.Nodes.{acts}
+use Rattle.first_nodes.proofs.cub.CubNodeMsg.take.Goals as goal
+
+pub returns : goal.returns
+returns c = on_ok_weaker c.take_in.result (λ d. acts cub_step IsCub cub_keeps (Take c.args._stamp c.args._link c.args.msg) _ _ _ _ d) c.take_in.ensures

@@ -1,0 +1,6 @@
+pub mod Courses
+pub mod Form
+pub mod Life
+pub mod Links
+pub mod Outputs
+pub mod Steps

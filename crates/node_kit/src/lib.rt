@@ -1,0 +1,24 @@
+//! What a node is: its steps, what it puts out and writes down, with whom it is linked, and what a
+//! run is given and gives back.
+#![tactic(auto)]
+
+mod course;
+mod form;
+mod gate;
+mod journal;
+mod life;
+mod links;
+mod node;
+mod outbox;
+
+pub use course::{Course, Digest32, Kept, Order, OrderKind, ReadFault};
+pub use form::in_form;
+pub use gate::{Gate, OpenGate};
+pub use journal::{Entry, Journal, What};
+pub use life::Life;
+pub use links::LinkTable;
+pub use node::Node;
+pub use outbox::{Out, Outbox};
+
+#[cfg(test)]
+mod tests;

@@ -1,0 +1,5 @@
+pub mod Arriving
+pub mod Below
+pub mod Delivering
+pub mod Happening
+pub mod Running

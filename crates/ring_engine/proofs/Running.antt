@@ -1,0 +1,260 @@
+-- A run: from event to event, and from beat to beat.
+use Rattle.std.proofs.Common.{◌≡◌, ◌≢◌, ℕ, zero, suc, ◌+◌, ◌<◌, ◌≤◌, Bool, true, false, List, [], ◌∷◌, ◌++◌, length, Some, refl, ap, sym, ◌∙◌, subst, arith, ⊎_elim, length-append}
+use Rattle.std.specs.Prelude.{slice_get, slice_set, if◌then◌else◌}
+use Rattle.std.specs.List.{AllByRecursion}
+use Rattle.std.proofs.lemmas.Option.{none-some}
+use Rattle.std.proofs.lemmas.Bool.{cases_eq}
+use Rattle.tiger_base.specs.declared.number.Stamp.{Stamp}
+use Rattle.tiger_base.specs.declared.number.LinkNo.{LinkNo}
+use Rattle.tiger_base.specs.declared.message.Note.{Note}
+use Rattle.slot_plan.specs.declared.params.Params.{Params}
+use Rattle.node_kit.specs.declared.course.Course.{Course}
+use Rattle.node_kit.specs.declared.journal.Entry.{Entry}
+use Rattle.node_kit.specs.Life.{Lifetime, lifetime_of, acts, dies}
+use Rattle.node_kit.specs.Links.{links_of, link_count, IsInLink}
+use Rattle.node_kit.specs.Steps.{Input, Deed}
+use Rattle.node_kit.specs.Steps.Input.{Take, Tick}
+use Rattle.ring_engine.specs.declared.mail.Letter.{Letter}
+use Rattle.ring_engine.specs.Traffic.{Traffic, collected, after_collecting, AreOpen}
+use Rattle.ring_engine.specs.Turns.{Past, Scene, scene, after_event, event, after_takes, takes, after_beat, turn, IsReady, IsReadyFor, KeepsReady}
+use Rattle.ring_engine.specs.Runs.{stamp_in, opening, after_beats, HasRun, HasEnded}
+use Rattle.ring_engine.specs.Places.{each_below, new_channel, in_links_of, AllStand, Ring, IsSound, IsAt, HasLived, AllHaveLived, AreInLinks}
+use Rattle.ring_engine.proofs.Below.{length-each_below, get-each_below, get-below, links_into-lead}
+
+get-set_same : {A : Type 0} (xs : List A) (n : ℕ) (x y : A) → slice_get xs n ≡ Some y → slice_get (slice_set xs n x) n ≡ Some x
+get-set_same [] n x y e = absurd (none-some y e)
+get-set_same (z ∷ zs) zero x y e = refl
+get-set_same (z ∷ zs) (suc n) x y e = get-set_same zs n x y e
+
+get-set_other : {A : Type 0} (xs : List A) (n k : ℕ) (x : A) → k ≢ n → slice_get (slice_set xs n x) k ≡ slice_get xs k
+get-set_other [] n k x ne = refl
+get-set_other (z ∷ zs) zero zero x ne = absurd (ne refl)
+get-set_other (z ∷ zs) zero (suc k) x ne = refl
+get-set_other (z ∷ zs) (suc n) zero x ne = refl
+get-set_other (z ∷ zs) (suc n) (suc k) x ne = get-set_other zs n k x (λ e. ne (ap suc e))
+
+length-set_at : {A : Type 0} (xs : List A) (n : ℕ) (x : A) → length (slice_set xs n x) ≡ length xs
+length-set_at [] n x = refl
+length-set_at (z ∷ zs) zero x = refl
+length-set_at (z ∷ zs) (suc n) x = ap suc (length-set_at zs n x)
+
+same-element : {A : Type 0} (xs : List A) (k : ℕ) (x y : A) → slice_get xs k ≡ Some x → slice_get xs k ≡ Some y → x ≡ y
+same-element xs k x y hx hy = let e : Some x ≡ Some y = sym hx ∙ hy in cc
+
+-- what a turn makes of the node alone
+takes-past : {M S : Type 0} (note : M → Note) (step : S → Input M → Deed M S) (stamp : Stamp) (ls : List (Letter M)) (s : Scene M S)
+    → (takes note step stamp ls s).past ≡ after_takes note step stamp ls s.past
+takes-past note step stamp [] s = refl
+takes-past note step stamp (l ∷ ls) s = takes-past note step stamp ls (event note step (Take stamp l.link l.msg) s)
+
+past-of_cases : {M S : Type 0} (a b : Bool) (x y z : Scene M S) (x' y' z' : Past S) → x.past ≡ x' → y.past ≡ y' → z.past ≡ z'
+    → (if a then x else if b then y else z).past ≡ (if a then x' else if b then y' else z')
+past-of_cases true b x y z x' y' z' hx hy hz = hx
+past-of_cases false true x y z x' y' z' hx hy hz = hy
+past-of_cases false false x y z x' y' z' hx hy hz = hz
+
+turn-past : {M S : Type 0} (note : M → Note) (step : S → Input M → Deed M S) (stamp : Stamp) (links : List LinkNo) (s : Scene M S)
+    → (turn note step stamp links s).past ≡ after_beat note step stamp (collected stamp.beat links s.channels) s.past
+unfolding turn after_beat
+turn-past note step stamp links s =
+    let rest = after_collecting stamp.beat links s.channels in
+    let letters = collected stamp.beat links s.channels in
+    past-of_cases (acts s.past.life stamp.beat) (dies s.past.life stamp.beat) _ _ _ _ _ _
+    (ap (after_event note step (Tick stamp)) (takes-past note step stamp letters (record { past = s.past; channels = rest }))) refl refl
+
+-- after the turns of the nodes below n: the others are as they were
+pub record Midway {M S : Type 0} (note : M → Note) (step : S → Input M → Deed M S) (stands : S → Params → ℕ → Type 0) (c : Course) (count beat n : ℕ)
+    (old now : Ring M S) : Type 0 where
+  pub sound : IsSound stands c.plan.params count beat now
+  pub ahead : (k : ℕ) (past : Past S) → n ≤ k → IsAt old k past → IsAt now k past
+  pub behind : (k : ℕ) (past : Past S) → k < n → IsAt old k past → HasLived note step c beat k past now
+
+-- the ring after the turn of node n
+abbrev pub with_node : {M S : Type 0} → Ring M S → ℕ → S → Lifetime → List Entry → List (Traffic M) → Ring M S
+with_node r n s life j channels =
+    record { nodes = slice_set r.nodes n s; lives = slice_set r.lives n life; journals = slice_set r.journals n j; channels = channels }
+
+elsewhere : {M S : Type 0} (r : Ring M S) (n k : ℕ) (s : S) (life : Lifetime) (j : List Entry) (ts : List (Traffic M)) (past : Past S) → k ≢ n
+    → IsAt r k past → IsAt (with_node r n s life j ts) k past
+elsewhere r n k s life j ts past ne h = record {
+  state = get-set_other r.nodes n k s ne ∙ h.state;
+  life = get-set_other r.lives n k life ne ∙ h.life;
+  journal = get-set_other r.journals n k j ne ∙ h.journal;
+}
+
+pub ready-node : {M S : Type 0} (stands : S → Params → ℕ → Type 0) (c : Course) (count beat n : ℕ) (r : Ring M S) (rows : List (List LinkNo)) (links : List LinkNo) (stamp : Stamp) (s : S)
+    (life : Lifetime) (j : List Entry) → stamp ≡ stamp_in c n beat → IsSound stands c.plan.params count beat r → AreInLinks c.plan.params count rows → slice_get rows n ≡ Some links
+    → slice_get r.nodes n ≡ Some s → IsReadyFor stands stamp.beat links (scene s life j r.channels)
+ready-node {M} {S} stands c count beat n r rows links stamp s life j dated sound all here_links here =
+    let p = c.plan.params in
+    let below : n < count = let h = get-below r.nodes n s here in omega (arith, h, sound.nodes) in
+    let e : in_links_of (links_of p) n ≡ links = same-element rows n (in_links_of (links_of p) n) links (ap (λ q. slice_get q n) all ∙ get-each_below (in_links_of (links_of p)) count n below) here_links in
+    subst (λ (q : Stamp). IsReadyFor {M = M} {S = S} stands q.beat links (scene s life j r.channels)) (sym dated) (record {
+      params = p;
+      number = n;
+      ready = record { stands_here = sound.stand n s here; count = sound.channels; unsent = sound.unsent };
+      lead = subst (AllByRecursion (λ k. IsInLink p n k.0)) e (links_into-lead p n (link_count (links_of p)));
+    })
+
+pub length-rows : (p : Params) (count : ℕ) (rows : List (List LinkNo)) → AreInLinks p count rows → length rows ≡ count
+length-rows p count rows all = ap length all ∙ length-each_below (in_links_of (links_of p)) count
+
+stand-on : {S : Type 0} (stands : S → Params → ℕ → Type 0) (p : Params) (n : ℕ) (nodes : List S) (s s' : S) → slice_get nodes n ≡ Some s → AllStand stands p nodes
+    → stands s' p n → AllStand stands p (slice_set nodes n s')
+stand-on stands p n nodes s s' here all new k t e =
+    ⊎_elim
+    (λ (same : k ≡ n).
+    let et : s' ≡ t = same-element (slice_set nodes n s') n s' t (get-set_same nodes n s' s here) (ap (slice_get (slice_set nodes n s')) (sym same) ∙ e) in
+    subst (λ m. stands t p m) (sym same) (subst (λ u. stands u p n) et new))
+    (λ (other : k ≢ n). all k t (sym (get-set_other nodes n k s' other) ∙ e))
+    (cases_eq k n)
+
+-- node n has lived through its beat
+lived-here : {M S : Type 0} (note : M → Note) (step : S → Input M → Deed M S) (c : Course) (beat n : ℕ) (now : Ring M S) (stamp : Stamp) (links : List LinkNo) (s s' : S)
+    (life life' : Lifetime) (j j' : List Entry) (ts' : List (Traffic M)) (past : Past S) → stamp ≡ stamp_in c n beat → slice_get now.nodes n ≡ Some s
+    → slice_get now.lives n ≡ Some life → slice_get now.journals n ≡ Some j
+    → ◌≡◌ {A = Scene M S} (scene s' life' j' ts') (turn note step stamp links (scene s life j now.channels))
+    → IsAt now n past → HasLived note step c beat n past (with_node now n s' life' j' ts')
+lived-here {M} {S} note step c beat n now stamp links s s' life life' j j' ts' past dated hs hl hj turned at =
+    let es : s ≡ past.state = same-element now.nodes n s past.state hs at.state in
+    let el : life ≡ past.life = same-element now.lives n life past.life hl at.life in
+    let ej : j ≡ past.journal = same-element now.journals n j past.journal hj at.journal in
+    let was : ◌≡◌ {A = Past S} (record { state = s; life = life; journal = j }) past = rw (es, el, ej) refl in
+    let letters = collected stamp.beat links now.channels in
+    let is : ◌≡◌ {A = Past S} (record { state = s'; life = life'; journal = j' }) (after_beat note step (stamp_in c n beat) letters past) =
+    ap (λ (q : Scene M S). q.past) turned ∙ turn-past note step stamp links (scene s life j now.channels)
+    ∙ ap (after_beat note step stamp letters) was ∙ ap (λ q. after_beat note step q letters past) dated in
+    record {
+      letters = letters;
+      here = record {
+        state = get-set_same now.nodes n s' s hs ∙ ap (λ (q : Past S). Some q.state) is;
+        life = get-set_same now.lives n life' life hl ∙ ap (λ (q : Past S). Some q.life) is;
+        journal = get-set_same now.journals n j' j hj ∙ ap (λ (q : Past S). Some q.journal) is;
+      };
+    }
+
+-- one node further
+pub midway-on : {M S : Type 0} (note : M → Note) (step : S → Input M → Deed M S) (stands : S → Params → ℕ → Type 0) (c : Course) (count beat n : ℕ) (old now : Ring M S)
+    (stamp : Stamp) (links : List LinkNo) (s s' : S) (life life' : Lifetime) (j j' : List Entry) (ts' : List (Traffic M))
+    → stamp ≡ stamp_in c n beat → slice_get now.nodes n ≡ Some s → slice_get now.lives n ≡ Some life → slice_get now.journals n ≡ Some j
+    → ◌≡◌ {A = Scene M S} (scene s' life' j' ts') (turn note step stamp links (scene s life j now.channels))
+    → KeepsReady {M = M} {S = S} stands stamp.beat (scene s life j now.channels) (scene s' life' j' ts')
+    → Midway note step stands c count beat n old now → Midway note step stands c count beat (n + 1) old (with_node now n s' life' j' ts')
+midway-on {M} {S} note step stands c count beat n old now stamp links s s' life life' j j' ts' dated hs hl hj turned keeps m =
+    let was : IsReady {M = M} {S = S} stands c.plan.params n beat (scene s life j now.channels) =
+    record { stands_here = m.sound.stand n s hs; count = m.sound.channels; unsent = m.sound.unsent } in
+    let keeps_here : KeepsReady {M = M} {S = S} stands beat (scene s life j now.channels) (scene s' life' j' ts') =
+    subst (λ (q : Stamp). KeepsReady {M = M} {S = S} stands q.beat (scene s life j now.channels) (scene s' life' j' ts')) dated keeps in
+    let is = keeps_here c.plan.params n was in
+    record {
+      sound = record {
+        stand = stand-on stands c.plan.params n now.nodes s s' hs m.sound.stand is.stands_here;
+        nodes = length-set_at now.nodes n s' ∙ m.sound.nodes;
+        lives = length-set_at now.lives n life' ∙ m.sound.lives;
+        journals = length-set_at now.journals n j' ∙ m.sound.journals;
+        channels = is.count;
+        unsent = is.unsent;
+      };
+      ahead = λ k past high at. elsewhere now n k s' life' j' ts' past (λ e. absurd (omega arith)) (m.ahead k past (omega arith) at);
+      behind = λ k past low at. ⊎_elim
+          (λ (same : k ≡ n). subst (λ q. IsAt old q past → HasLived note step c beat q past (with_node now n s' life' j' ts')) (sym same)
+          (λ at_n. lived-here note step c beat n now stamp links s s' life life' j j' ts' past dated hs hl hj turned (m.ahead n past (omega arith) at_n)) at)
+          (λ (other : k ≢ n). let h = m.behind k past (omega arith) at in
+          record { letters = h.letters; here = elsewhere now n k s' life' j' ts' _ other h.here })
+          (cases_eq k n);
+    }
+
+-- a run with one beat more
+after_beats-push : {M S : Type 0} (note : M → Note) (step : S → Input M → Deed M S) (c : Course) (n beat : ℕ) (ls : List (List (Letter M))) (l : List (Letter M)) (past : Past S)
+    → after_beats note step c n beat (ls ++ l ∷ []) past ≡ after_beat note step (stamp_in c n (beat + length ls)) l (after_beats note step c n beat ls past)
+after_beats-push note step c n beat [] l past = let e : beat + 0 ≡ beat = omega arith in rw e refl
+after_beats-push note step c n beat (k ∷ ls) l past =
+    after_beats-push note step c n (beat + 1) ls l (after_beat note step (stamp_in c n beat) k past)
+    ∙ (let e : beat + 1 + length ls ≡ beat + suc (length ls) = omega arith in
+    ap (λ b. after_beat note step (stamp_in c n b) l (after_beats note step c n (beat + 1) ls (after_beat note step (stamp_in c n beat) k past))) e)
+
+run-more : {M S : Type 0} (note : M → Note) (step : S → Input M → Deed M S) (c : Course) (n beats : ℕ) (first : S) (past : Past S) (l : List (Letter M))
+    → HasRun note step c n beats first past → HasRun note step c n (beats + 1) first (after_beat note step (stamp_in c n beats) l past)
+run-more note step c n beats first past l h = record {
+  letters = h.letters ++ l ∷ [];
+  each_beat = length-append h.letters (l ∷ []) ∙ ap (λ k. k + 1) h.each_beat;
+  here = ap (after_beat note step (stamp_in c n beats) l) h.here
+      ∙ sym (after_beats-push note step c n 0 h.letters l (opening c n first)
+      ∙ (let e : 0 + length h.letters ≡ beats = let g = h.each_beat in omega (arith, g) in
+      ap (λ b. after_beat note step (stamp_in c n b) l (after_beats note step c n 0 h.letters (opening c n first))) e));
+}
+
+-- node n has come from its opening to where it is
+pub record HasCome {M S : Type 0} (note : M → Note) (step : S → Input M → Deed M S) (c : Course) (n beats : ℕ) (first : S) (r : Ring M S) : Type 0 where
+  pub past : Past S
+  pub run : HasRun note step c n beats first past
+  pub here : IsAt r n past
+
+abbrev pub AllHaveCome : {M S : Type 0} → (M → Note) → (S → Input M → Deed M S) → Course → ℕ → List S → Ring M S → Type 0
+AllHaveCome {M} {S} note step c beats given r = (n : ℕ) (first : S) → slice_get given n ≡ Some first → HasCome note step c n beats first r
+
+pub come-more : {M S : Type 0} (note : M → Note) (step : S → Input M → Deed M S) (c : Course) (beats : ℕ) (given : List S) (old new : Ring M S)
+    → AllHaveLived note step c beats old new → AllHaveCome note step c beats given old → AllHaveCome note step c (beats + 1) given new
+come-more note step c beats given old new lived come n first e =
+    let h = come n first e in
+    let l = lived n h.past h.here in
+    record { past = _; run = run-more note step c n beats first h.past l.letters h.run; here = l.here }
+
+-- before the first beat
+pub come-open : {M S : Type 0} (note : M → Note) (step : S → Input M → Deed M S) (c : Course) (count : ℕ) (given : List S) (lives : List Lifetime) (journals : List (List Entry))
+    (channels : List (Traffic M)) → count ≡ length given → lives ≡ each_below (lifetime_of c) count → journals ≡ each_below (λ _. []) count
+    → AllHaveCome note step c 0 given (record { nodes = given; lives = lives; journals = journals; channels = channels })
+come-open note step c count given lives journals channels len living written n first e =
+    let below : n < count = let h = get-below given n first e in omega (arith, h, len) in
+    record {
+      past = opening c n first;
+      run = record { letters = []; each_beat = refl; here = refl };
+      here = record {
+        state = e;
+        life = ap (λ q. slice_get q n) living ∙ get-each_below (lifetime_of c) count n below;
+        journal = ap (λ q. slice_get q n) written ∙ get-each_below (λ _. []) count n below;
+      };
+    }
+
+unsent-open : {M : Type 0} (c : Course) (k : ℕ) (ts : List (Traffic M)) → ts ≡ each_below (new_channel c) k → AreOpen 0 ts
+unsent-open c k ts new l t e =
+    let below : l < k = let h = get-below ts l t e in let g = ap length new ∙ length-each_below (new_channel c) k in omega (arith, h, g) in
+    let same : new_channel c l ≡ t = same-element ts l (new_channel c l) t (ap (λ q. slice_get q l) new ∙ get-each_below (new_channel c) k l below) e in
+    subst (λ q. q.clock.last_send ≤ 0) same (omega arith)
+
+pub sound-open : {M S : Type 0} (stands : S → Params → ℕ → Type 0) (c : Course) (count : ℕ) (given : List S) (lives : List Lifetime) (journals : List (List Entry))
+    (channels : List (Traffic M)) → AllStand stands c.plan.params given → count ≡ length given → lives ≡ each_below (lifetime_of c) count
+    → journals ≡ each_below (λ _. []) count → channels ≡ each_below (new_channel c) (link_count (links_of c.plan.params))
+    → IsSound stands c.plan.params count 0 (record { nodes = given; lives = lives; journals = journals; channels = channels })
+sound-open stands c count given lives journals channels all len living written new = record {
+  stand = all;
+  nodes = sym len;
+  lives = ap length living ∙ length-each_below (lifetime_of c) count;
+  journals = ap length written ∙ length-each_below (λ _. []) count;
+  channels = sym (ap length new ∙ length-each_below (new_channel c) (link_count (links_of c.plan.params)));
+  unsent = unsent-open c (link_count (links_of c.plan.params)) channels new;
+}
+
+-- one beat later
+pub sound-later : {M S : Type 0} (stands : S → Params → ℕ → Type 0) (p : Params) (count count' beat : ℕ) (r : Ring M S) → count ≡ count' → IsSound stands p count beat r
+    → IsSound stands p count' (beat + 1) r
+sound-later stands p count count' beat r same h = record {
+  stand = h.stand;
+  nodes = h.nodes ∙ same;
+  lives = h.lives ∙ same;
+  journals = h.journals ∙ same;
+  channels = h.channels;
+  unsent = λ k t e. let low = h.unsent k t e in omega (arith, low);
+}
+
+pub all-ended : {M S : Type 0} (note : M → Note) (step : S → Input M → Deed M S) (c : Course) (given : List S) (r : Ring M S)
+    → AllHaveCome note step c c.beats given r → (n : ℕ) (first : S) → slice_get given n ≡ Some first → HasEnded {M = M} note step c n first r.nodes r.journals
+all-ended note step c given r come n first e =
+    let h = come n first e in
+    record { past = h.past; run = h.run; node = h.here.state; journal = h.here.journal }
+
+pub ended-at : {M S : Type 0} (note : M → Note) (step : S → Input M → Deed M S) (c : Course) (beat : ℕ) (given : List S) (r : Ring M S) (journals : List (List Entry)) → beat ≡ c.beats
+    → journals ≡ r.journals → AllHaveCome note step c beat given r → (n : ℕ) (first : S) → slice_get given n ≡ Some first → HasEnded {M = M} note step c n first r.nodes journals
+ended-at {M} note step c beat given r journals last same come n first e =
+    subst (λ js. HasEnded {M = M} note step c n first r.nodes js) (sym same)
+    (all-ended note step c given r (subst (λ b. AllHaveCome note step c b given r) last come) n first e)

@@ -1,0 +1,27 @@
+use Rattle.std.proofs.Common.{◌∙◌, ap, sym, arith}
+use Rattle.node_kit.specs.Links.{link_count}
+use Rattle.ring_engine.specs.Places.{each_below, new_channel, Ring}
+use Rattle.node_kit.specs.Life.{lifetime_of}
+use Rattle.ring_engine.proofs.Running.{come-open, sound-open, come-more, sound-later, ended-at}
+use Rattle.ring_engine.proofs.run.run_plain.Goals as goal
+
+pub loop-beat-init : goal.loop-beat-init
+loop-beat-init g c =
+    let lives = c.in_ok-lives.ensures ∙ ap (each_below (lifetime_of c.args.course.now)) (sym c.requires.count) in
+    let journals = c.in_ok-journals.ensures ∙ ap (each_below (λ _. _)) (sym c.requires.count) in
+    let channels = c.in_ok-channels.ensures ∙ ap (λ t. each_below (new_channel c.args.course.now) (link_count t)) c.requires.links in
+    record {
+      sound = sound-open _ c.args.course.now _ _ _ _ _ c.requires.stand c.args.nodes.ok.0 lives journals channels;
+      come = come-open _ _ c.args.course.now _ _ _ _ _ c.args.nodes.ok.0 lives journals;
+    }
+
+pub loop-beat-preserved : goal.loop-beat-preserved
+loop-beat-preserved g c = record {
+  sound = sound-later _ _ _ _ _ _ (c.loop-beat.nodes.ok.0 ∙ c.loop-beat.invariant.sound.nodes) c.in_ok-run_beat.ensures.sound;
+  come = come-more _ _ _ _ _ _ _ c.in_ok-run_beat.ensures.lived c.loop-beat.invariant.come;
+}
+
+pub returns-clause-runs : goal.returns-clause-runs
+returns-clause-runs g c =
+    let r : Ring _ _ = record { nodes = c.loop-beat.nodes.items; lives = c.loop-beat.lives.items; journals = c.loop-beat.journals.items; channels = c.loop-beat.channels.items } in
+    ended-at _ _ _ c.loop-beat.beat _ r _ (omega (arith, c.loop-beat.auto.beat-end, c.loop-beat-test.false)) c.new.ensures c.loop-beat.invariant.come

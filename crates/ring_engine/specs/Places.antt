@@ -1,0 +1,78 @@
+-- The rows of a run, by node and by link: nodes, lives, journals, in-links and channels.
+use Rattle.std.specs.Prelude.{◌≡◌, ℕ, zero, suc, Bool, false, ◌==◌, List, [], ◌∷◌, ◌++◌, length, Option, Some, None, slice_get, if◌then◌else◌}
+use Rattle.tiger_base.specs.declared.number.LinkNo.{LinkNo}
+use Rattle.tiger_base.specs.declared.message.Note.{Note}
+use Rattle.slot_plan.specs.declared.params.Params.{Params}
+use Rattle.link_timing.specs.Clock.{new_clock}
+use Rattle.node_kit.specs.declared.course.Course.{Course}
+use Rattle.node_kit.specs.declared.journal.Entry.{Entry}
+use Rattle.node_kit.specs.Life.{Lifetime}
+use Rattle.node_kit.specs.Links.{Links, ends_of, links_of, link_count}
+use Rattle.node_kit.specs.Steps.{Input, Deed}
+use Rattle.ring_engine.specs.declared.mail.Letter.{Letter}
+use Rattle.ring_engine.specs.Traffic.{Traffic, AreOpen}
+use Rattle.ring_engine.specs.Turns.{Past, after_beat}
+use Rattle.ring_engine.specs.Runs.{stamp_in}
+
+-- one of each number below n
+abbrev pub each_below : {A : Type 0} → (ℕ → A) → ℕ → List A
+each_below f zero = []
+each_below f (suc n) = each_below f n ++ f n ∷ []
+
+-- the link of a number before the first beat
+abbrev pub new_channel : {M : Type 0} → Course → ℕ → Traffic M
+new_channel c link = record { clock = new_clock link c.delay c.plan.params.delay; flights = [] }
+
+-- whether these ends of a link, if there is one, lead to node n
+abbrev pub leads_to : ℕ → Option (ℕ × ℕ) → Bool
+leads_to n None = false
+leads_to n (Some ends) = ends.1 == n
+
+-- the links below a number that lead to node n, by number
+unfoldable pub links_into : Links → ℕ → ℕ → List LinkNo
+links_into t n zero = []
+links_into t n (suc l) = links_into t n l ++ (if leads_to n (ends_of t l) then (record { 0 = l }) ∷ [] else [])
+
+-- the in-links of node n
+abbrev pub in_links_of : Links → ℕ → List LinkNo
+in_links_of t n = links_into t n (link_count t)
+
+-- each node stands at its number
+abbrev pub AllStand : {S : Type 0} → (S → Params → ℕ → Type 0) → Params → List S → Type 0
+AllStand {S} stands p nodes = (n : ℕ) (s : S) → slice_get nodes n ≡ Some s → stands s p n
+
+-- all nodes, and all links
+pub record Ring (M S : Type 0) : Type 0 where
+  pub nodes : List S
+  pub lives : List Lifetime
+  pub journals : List (List Entry)
+  pub channels : List (Traffic M)
+
+-- the nodes stand at their numbers, there is a life and a journal for each, and a channel for each link, on which
+-- nothing was sent after the beat
+pub record IsSound {M S : Type 0} (stands : S → Params → ℕ → Type 0) (p : Params) (count beat : ℕ) (r : Ring M S) : Type 0 where
+  pub stand : AllStand stands p r.nodes
+  pub nodes : length r.nodes ≡ count
+  pub lives : length r.lives ≡ count
+  pub journals : length r.journals ≡ count
+  pub channels : link_count (links_of p) ≡ length r.channels
+  pub unsent : AreOpen beat r.channels
+
+-- node n is at this point
+pub record IsAt {M S : Type 0} (r : Ring M S) (n : ℕ) (past : Past S) : Type 0 where
+  pub state : slice_get r.nodes n ≡ Some past.state
+  pub life : slice_get r.lives n ≡ Some past.life
+  pub journal : slice_get r.journals n ≡ Some past.journal
+
+-- node n has come from this point through its beat, to which letters were brought
+pub record HasLived {M S : Type 0} (note : M → Note) (step : S → Input M → Deed M S) (c : Course) (beat n : ℕ) (past : Past S) (new : Ring M S) : Type 0 where
+  pub letters : List (Letter M)
+  pub here : IsAt new n (after_beat note step (stamp_in c n beat) letters past)
+
+-- each node has
+abbrev pub AllHaveLived : {M S : Type 0} → (M → Note) → (S → Input M → Deed M S) → Course → ℕ → Ring M S → Ring M S → Type 0
+AllHaveLived {M} {S} note step c beat old new = (n : ℕ) (past : Past S) → IsAt old n past → HasLived note step c beat n past new
+
+-- the in-links of every node
+abbrev pub AreInLinks : Params → ℕ → List (List LinkNo) → Type 0
+AreInLinks p count rows = rows ≡ each_below (in_links_of (links_of p)) count

@@ -1,0 +1,44 @@
+-- The runs of nodes: each beat in its order, from the opening on.
+use Rattle.std.specs.Prelude.{◌≡◌, ℕ, ◌+◌, List, [], ◌∷◌, length, Some, slice_get}
+use Rattle.tiger_base.specs.declared.number.Stamp.{Stamp}
+use Rattle.tiger_base.specs.declared.message.Note.{Note}
+use Rattle.node_kit.specs.declared.course.Course.{Course}
+use Rattle.node_kit.specs.declared.journal.Entry.{Entry}
+use Rattle.node_kit.specs.Courses.{reading_of}
+use Rattle.node_kit.specs.Life.{lifetime_of}
+use Rattle.node_kit.specs.Steps.{Input, Deed}
+use Rattle.ring_engine.specs.declared.mail.Letter.{Letter}
+use Rattle.ring_engine.specs.Turns.{Past, after_beat}
+
+-- the stamp of node n's events in a beat
+abbrev pub stamp_in : Course → ℕ → ℕ → Stamp
+stamp_in c n beat = record { beat = beat; reading = reading_of c n beat }
+
+-- node n before the first beat
+abbrev pub opening : {S : Type 0} → Course → ℕ → S → Past S
+opening c n first = record { state = first; life = lifetime_of c n; journal = [] }
+
+-- node n after beats from a first one on, in each of which it is brought these letters
+abbrev pub after_beats : {M S : Type 0} → (M → Note) → (S → Input M → Deed M S) → Course → ℕ → ℕ → List (List (Letter M)) → Past S → Past S
+after_beats note step c n beat [] past = past
+after_beats note step c n beat (letters ∷ rest) past =
+    after_beats note step c n (beat + 1) rest (after_beat note step (stamp_in c n beat) letters past)
+
+-- node n came here in so many beats from its opening: letters were brought to it in each
+pub record HasRun {M S : Type 0} (note : M → Note) (step : S → Input M → Deed M S) (c : Course) (n beats : ℕ) (first : S) (past : Past S) : Type 0 where
+  pub letters : List (List (Letter M))
+  pub each_beat : length letters ≡ beats
+  pub here : past ≡ after_beats note step c n 0 letters (opening c n first)
+
+-- node n is given back with its journal after its run
+pub record HasEnded {M S : Type 0} (note : M → Note) (step : S → Input M → Deed M S) (c : Course) (n : ℕ) (first : S)
+    (nodes : List S) (journals : List (List Entry)) : Type 0 where
+  pub past : Past S
+  pub run : HasRun note step c n c.beats first past
+  pub node : slice_get nodes n ≡ Some past.state
+  pub journal : slice_get journals n ≡ Some past.journal
+
+-- so it is with each node that was given
+abbrev pub EachHasEnded : {M S : Type 0} → (M → Note) → (S → Input M → Deed M S) → Course → List S → List S → List (List Entry) → Type 0
+EachHasEnded note step c given nodes journals =
+    (n : ℕ) (first : _) → slice_get given n ≡ Some first → HasEnded note step c n first nodes journals

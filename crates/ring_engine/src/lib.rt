@@ -1,0 +1,14 @@
+//! A run of any nodes on one thread: beat for beat, each node takes what arrives and then ticks.
+#![tactic(auto)]
+
+mod delivery;
+mod events;
+mod gathering;
+mod mail;
+mod opening;
+mod run;
+
+pub use run::{Ran, run_plain};
+
+#[cfg(test)]
+mod tests;

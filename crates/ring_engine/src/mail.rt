@@ -1,0 +1,104 @@
+//! The links, and the messages under way on them.
+ghost use Rattle.std.specs.Prelude.{◌≡◌, ◌≤◌, [], ◌++◌, OnOk};
+ghost use Rattle.link_timing.specs.Clock.{new_clock, FixedIsWithin};
+
+use link_timing::{Delay, LinkClock};
+use std::alloc::Global;
+use std::collections::VecDeque;
+use std::marker::Model;
+use tiger_base::{Beat, LinkNo, NoMemory};
+
+/// A message under way, and the beat in which it arrives.
+#[derive(Drop)]
+pub struct Flight<M> {
+    pub arrival: Beat,
+    pub msg: M,
+}
+
+/// A message that arrived, and the link on which it came.
+#[derive(Drop)]
+pub struct Letter<M> {
+    pub link: LinkNo,
+    pub msg: M,
+}
+
+/// A link: its clock, and the messages under way on it, the oldest first.
+#[derive(Drop)]
+pub struct Channel<M> {
+    clock: LinkClock,
+    flights: VecDeque<Flight<M>>,
+}
+
+impl<M> Model for Channel<M> {
+    ghost use Rattle.ring_engine.specs.Traffic.{Traffic};
+
+    ghost Value = { Traffic M };
+
+    ghost view = { λ c. record { clock = c.clock; flights = c.flights.items } };
+}
+
+impl<M> Channel<M> {
+    ghost use Rattle.ring_engine.specs.Traffic.{first_arrived, after_arrival};
+
+    /// A link with nothing under way.
+    pub fn new(alloc: Global, link: LinkNo, delay: Delay, most: u64) -> Channel<M>
+        requires positive { 1 ≤ most }
+        requires small { most ≤ 16 }
+        requires within { FixedIsWithin delay most }
+        ensures { result ≡ record { clock = new_clock link.0 delay most; flights = [] } }
+    {
+        Channel {
+            clock: LinkClock::new(link, delay, most),
+            flights: VecDeque::new(alloc),
+        }
+    }
+
+    /// Takes out the first message, where it has arrived by a beat.
+    pub fn next_arrived(&mut self, beat: Beat) -> Option<M>
+        ensures message { result ≡ first_arrived beat self.old.flights }
+        ensures rest { self.new ≡ after_arrival beat self.old }
+    {
+        let arrived = match self.flights.front() {
+            Some(flight) => flight.arrival <= beat,
+            None => false,
+        };
+        if !arrived {
+            return None;
+        }
+        match self.flights.pop_front() {
+            Some(Flight { msg, .. }) => Some(msg),
+            None => None,
+        }
+    }
+}
+
+impl<M: Drop> Channel<M> {
+    ghost use Rattle.ring_engine.specs.Traffic.{after_sending, arrived, after_arrivals};
+
+    /// Takes out all that has arrived by a beat, and puts it at the end of some letters.
+    pub fn empty(
+        &mut self,
+        beat: Beat,
+        link: LinkNo,
+        letters: &mut VecDeque<Letter<M>>,
+    ) -> Result<(), NoMemory>
+        ensures letters { OnOk result (letters.new.items ≡ letters.old.items ++ arrived link beat self.old.flights) }
+        ensures rest { OnOk result (self.new ≡ after_arrivals beat self.old) }
+    {
+        while let Some(msg) = self.next_arrived(beat) {
+            letters.push_back(Letter { link, msg })?;
+        }
+        Ok(())
+    }
+
+    /// Sends a message in a beat.
+    pub fn send(&mut self, beat: Beat, msg: M) -> Result<(), NoMemory>
+        requires early { beat ≤ 100000 }
+        requires rises { self.old.clock.last_send ≤ beat }
+        ensures { OnOk result (self.new ≡ after_sending beat msg self.old) }
+    {
+        let arrival = self.clock.arrival(beat);
+        self.flights.push_back(Flight { arrival, msg })?;
+        Ok(())
+    }
+}

@@ -1,0 +1,98 @@
+//! A run of any nodes on one thread.
+ghost use Rattle.std.specs.Prelude.{◌≡◌, ◌+◌, ◌<◌, ◌≤◌, length, IfOk, OnOk, vec_len};
+ghost use Rattle.node_kit.specs.Courses.{IsCourse};
+ghost use Rattle.node_kit.specs.Links.{links_of, viewers_of};
+ghost use Rattle.ring_engine.specs.Runs.{EachHasEnded};
+ghost use Rattle.ring_engine.specs.Places.{AllStand, AreInLinks, IsSound, AllHaveLived};
+
+use crate::events::live;
+use crate::mail::Channel;
+use crate::opening::{all_in_links, all_lives, new_channels, new_journals};
+use node_kit::{Course, Journal, Life, LinkTable, Node};
+use std::alloc::Global;
+use tiger_base::{Beat, LinkNo, Message, NoMemory, NodeNo, Sequence};
+
+/// What a run gives: a journal for each node, and the nodes as they are at its end.
+#[derive(Drop)]
+pub struct Ran<T> {
+    pub journals: Sequence<Journal>,
+    pub nodes: Vec<T>,
+}
+
+/// Runs the nodes of a course. In each beat each node, by number, takes what arrives in the beat, by
+/// link number and then in the link's order, and then ticks.
+///
+/// `NoMemory` is the only error; it gives nothing back.
+pub fn run_plain<M: Message, T: Node<M>>(
+    alloc: Global,
+    mut nodes: Vec<T>,
+    links: &LinkTable,
+    course: &Course,
+) -> Result<Ran<T>, NoMemory>
+    requires links { links.now ≡ links_of course.now.plan.params }
+    requires course { IsCourse course.now }
+    requires count { vec_len nodes ≡ viewers_of links.now + 1 }
+    requires stand { AllStand T.stands_at course.now.plan.params nodes.items }
+    ensures journals { IfOk result (λ r. length r.journals ≡ vec_len nodes) }
+    ensures nodes { IfOk result (λ r. vec_len r.nodes ≡ vec_len nodes) }
+    ensures runs { IfOk result (λ r. EachHasEnded M.note_of T.step course.now nodes.items r.nodes.items r.journals) }
+{
+    let in_links = all_in_links(alloc, links)?;
+    let mut lives = all_lives(alloc, course, links)?;
+    let mut journals = new_journals(alloc, links)?;
+    let mut channels = new_channels(alloc, course, links)?;
+    for beat in 0..course.beats {
+        run_beat(
+            alloc,
+            course,
+            beat,
+            in_links.as_slice(),
+            &mut nodes,
+            &mut lives,
+            &mut journals,
+            &mut channels,
+        )?;
+    }
+    Ok(Ran {
+        journals: Sequence::new(journals),
+        nodes,
+    })
+}
+
+fn run_beat<M: Message, T: Node<M>>(
+    alloc: Global,
+    course: &Course,
+    beat: Beat,
+    in_links: &[Sequence<LinkNo>],
+    nodes: &mut Vec<T>,
+    lives: &mut Vec<Life>,
+    journals: &mut Vec<Journal>,
+    channels: &mut Vec<Channel<M>>,
+) -> Result<(), NoMemory>
+    requires course { IsCourse course.now }
+    requires early { beat ≤ 100000 }
+    requires few { vec_len nodes.old ≤ 1000 }
+    requires in_links { AreInLinks course.now.plan.params (vec_len nodes.old) in_links.now }
+    requires sound { IsSound T.stands_at course.now.plan.params (vec_len nodes.old) beat
+        (record { nodes = nodes.old.items; lives = lives.old.items; journals = journals.old.items; channels = channels.old.items }) }
+    ensures sound { OnOk result (IsSound T.stands_at course.now.plan.params (vec_len nodes.old) beat
+        (record { nodes = nodes.new.items; lives = lives.new.items; journals = journals.new.items; channels = channels.new.items })) }
+    ensures lived { OnOk result (AllHaveLived M.note_of T.step course.now beat
+        (record { nodes = nodes.old.items; lives = lives.old.items; journals = journals.old.items; channels = channels.old.items })
+        (record { nodes = nodes.new.items; lives = lives.new.items; journals = journals.new.items; channels = channels.new.items })) }
+{
+    for n in 0..nodes.len() {
+        let stamp = course.stamp(NodeNo(n as u32), beat);
+        let links = in_links[n].as_slice();
+        live(
+            alloc,
+            stamp,
+            links,
+            &mut nodes[n],
+            &mut lives[n],
+            &mut journals[n],
+            channels,
+        )?;
+    }
+    Ok(())
+}

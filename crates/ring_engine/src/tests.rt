@@ -1,0 +1,170 @@
+//! A run of toy nodes, of which three send one message each.
+ghost use Rattle.std.specs.Prelude.{◌≡◌, ℕ, ◌+◌, ◌∷◌, [], IfOk, Some, None, vec_len, slice_get};
+ghost use Rattle.std.specs.Option.{ForSome, option_map_or};
+ghost use Rattle.tiger_base.specs.declared.message.Msg.{Msg};
+ghost use Rattle.tiger_base.specs.declared.message.Msg.TheVariants.{Heartbeat};
+ghost use Rattle.node_kit.specs.declared.outbox.Out.TheVariants.{Send};
+ghost use Rattle.node_kit.specs.Links.{IsOutLink, ends_of, viewers_of};
+ghost use Rattle.node_kit.specs.Steps.{Deed};
+ghost use Rattle.node_kit.specs.Steps.Input.{Take, Tick};
+ghost use Rattle.node_kit.specs.Courses.{IsCourse};
+ghost use Rattle.ring_engine.specs.declared.tests.Toy.{Toy};
+
+use super::*;
+use link_timing::Delay;
+use node_kit::{Course, Entry, LinkTable, Node, Out, Outbox, What};
+use slot_plan::{Params, Plan};
+use std::alloc::Global;
+use std::test::Fail;
+use tiger_base::{Beat, LinkNo, Msg, NoMemory, NodeNo, Note, Sequence, Stamp};
+
+/// A node that sends a heartbeat at its first tick, if it has a link for it.
+#[derive(Drop)]
+struct Toy {
+    out: Option<LinkNo>,
+}
+
+impl<'a> Node<Msg<'a>> for Toy {
+    ghost step = { λ s i. elim i as (λ _. Deed Msg Toy) [
+      | Take stamp link msg ↦ record { outs = []; state = s }
+      | Tick stamp ↦ record { outs = option_map_or (λ l. Send l Heartbeat ∷ []) s.out []; state = record { out = None } }
+    ] };
+
+    ghost stands_at = { λ s p n. ForSome s.out (λ l. IsOutLink p n l.0) };
+
+    fn take(
+        &mut self,
+        _stamp: Stamp,
+        _link: LinkNo,
+        _msg: Msg<'a>,
+        _out: &mut Outbox<Msg<'a>>,
+    ) -> Result<(), NoMemory> {
+        Ok(())
+    }
+
+    fn tick(&mut self, _stamp: Stamp, out: &mut Outbox<Msg<'a>>) -> Result<(), NoMemory> {
+        if let Some(link) = self.out {
+            self.out = None;
+            return out.push(Out::Send(link, Msg::Heartbeat));
+        }
+        Ok(())
+    }
+}
+
+fn plan() -> Plan
+    ensures cubs { result.params.cubs ≡ 8 }
+    ensures skew { result.params.skew ≡ 4000 }
+    ensures delay { result.params.delay ≡ 2 }
+{
+    Plan {
+        params: Params {
+            cubs: 8,
+            disks: 1,
+            slots: 16,
+            play: 1000000,
+            pieces: 2,
+            block: 4,
+            beat: 10000,
+            delay: 2,
+            skew: 4000,
+            window_a: 800000,
+            window_b: 200000,
+            read_lead: 100000,
+            min_lead: 3000000,
+            max_lead: 4000000,
+            batch: 20,
+            heart: 50,
+            deadman: 1000000,
+            hold: 3000000,
+        },
+    }
+}
+
+/// Cub 2 dies in beat 1; the clock of cub 1 is 300 ahead.
+fn course(alloc: Global) -> Result<Course, NoMemory>
+    ensures { IfOk result IsCourse }
+{
+    let offsets: Vec<u64> = vec![in alloc; 0, 300, 0, 0, 0, 0, 0, 0, 7]?;
+    let deaths: Vec<Option<Beat>> = vec![in alloc;
+        None,
+        None,
+        Some(1),
+        None,
+        None,
+        None,
+        None,
+        None,
+    ]?;
+    Ok(Course {
+        plan: plan(),
+        beats: 3,
+        offsets: Sequence::new(offsets),
+        deaths: Sequence::new(deaths),
+        faults: Sequence::new(Vec::new(alloc)),
+        delay: Delay::Fixed(1),
+    })
+}
+
+/// Cub 0 and the controller are to send to cub 1, and cub 1 to cub 2.
+fn toy_at(links: &LinkTable, node: NodeNo) -> Toy
+    ensures { ForSome result.out (λ l. (to : ℕ) × (ends_of links.now l.0 ≡ Some (node.0, to))) }
+{
+    let out = match node.0 {
+        0 => links.link(node, NodeNo(1)),
+        1 => links.link(node, NodeNo(2)),
+        16 => links.link(node, NodeNo(1)),
+        _ => None,
+    };
+    Toy { out }
+}
+
+fn toys(alloc: Global, links: &LinkTable) -> Result<Vec<Toy>, NoMemory>
+    ensures count { IfOk result (λ r. vec_len r ≡ viewers_of links.now + 1) }
+    ensures stand { IfOk result (λ r. (n : ℕ) (s : Toy) → slice_get r.items n ≡ Some s
+        → ForSome s.out (λ l. (to : ℕ) × (ends_of links.now l.0 ≡ Some (n, to)))) }
+{
+    let mut toys = Vec::new(alloc);
+    for node in 0..links.nodes() {
+        toys.push(toy_at(links, NodeNo(node)))?;
+    }
+    Ok(toys)
+}
+
+fn entry(beat: Beat, reading: u64, what: What) -> Entry {
+    Entry {
+        stamp: Stamp { beat, reading },
+        what,
+    }
+}
+
+#[test]
+fn nodes_take_by_link_number_and_then_tick(rt: HostRuntime) -> Result<(), Fail> {
+    let alloc = rt.alloc();
+    let course = course(alloc)?;
+    let links = LinkTable::new(&course.plan);
+    let nodes = toys(alloc, &links)?;
+    let ran = run_plain(alloc, nodes, &links, &course)?;
+    assert_eq!(rt; ran.nodes.len(), 18);
+    assert_eq!(rt; ran.journals.len(), 18);
+    let of_cub_0 = [entry(0, 0, What::Sent(LinkNo(24), Note::Heartbeat))];
+    let of_cub_1 = [
+        entry(0, 300, What::Sent(LinkNo(26), Note::Heartbeat)),
+        entry(1, 10300, What::Got(LinkNo(1), Note::Heartbeat)),
+        entry(1, 10300, What::Got(LinkNo(24), Note::Heartbeat)),
+    ];
+    let of_cub_2 = [entry(1, 10000, What::Died)];
+    let of_controller = [entry(0, 7, What::Sent(LinkNo(1), Note::Heartbeat))];
+    assert!(rt; writes(&ran, 0, &of_cub_0));
+    assert!(rt; writes(&ran, 1, &of_cub_1));
+    assert!(rt; writes(&ran, 2, &of_cub_2));
+    assert!(rt; writes(&ran, 3, &[]));
+    assert!(rt; writes(&ran, 16, &of_controller));
+    Ok(())
+}
+
+fn writes<T>(ran: &Ran<T>, node: usize, entries: &[Entry]) -> bool {
+    match ran.journals.get(node) {
+        Some(journal) => journal.as_slice() == entries,
+        None => false,
+    }
+}

@@ -1,0 +1,11 @@
+//! The numbers of a plan, the conditions that they meet, and the times of the schedule's visits.
+#![tactic(auto)]
+
+mod params;
+mod plan;
+
+pub use params::{Params, PlanFault};
+pub use plan::Plan;
+
+#[cfg(test)]
+mod tests;

@@ -1,0 +1,17 @@
+-- Which words are a command.
+use Rattle.std.specs.Prelude.{◌≡◌, ◌≢◌, ℕ, ◌≤◌, List, [], ◌∷◌, map, length, slice_index, codes, String, string_bytes}
+use Rattle.std.specs.Fmt.{decimal}
+use Rattle.std.specs.declared.alloc.Global.{Global}
+
+-- no plus and no leading zero
+abbrev pub IsPlain : List ℕ → Type 0
+IsPlain word = (slice_index word 0 ≢ 43) × (slice_index word 0 ≡ 48 → length word ≡ 1)
+
+abbrev pub texts_of : List (String Global) → List (List ℕ)
+texts_of words = map string_bytes words
+
+-- the words `run NAME W`, where W is from 1 to 64 in decimal
+pub record IsRun (words : List (List ℕ)) (name : List ℕ) (workers : ℕ) : Type 0 where
+  pub form : words ≡ codes "run" ∷ name ∷ decimal workers ∷ []
+  pub some : 1 ≤ workers
+  pub few : workers ≤ 64

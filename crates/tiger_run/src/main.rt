@@ -1,0 +1,97 @@
+//! Runs a scenario of the video fileserver over real files, and writes its report.
+#![tactic(auto)]
+
+mod inputs;
+mod json;
+mod parts;
+mod planning;
+mod reading;
+mod run;
+mod scenario;
+mod status;
+mod stop;
+mod top;
+mod words;
+mod writing;
+
+use node_kit::OpenGate;
+use outside::{DirFiles, StdSink};
+use status::{Status, exit_of, line_of};
+use std::alloc::{AllocError, Global};
+use std::process::ExitCode;
+use std::{env, io};
+use top::tiger;
+
+const HELP: &str = "tiger: a video fileserver whose schedule no machine holds
+
+usage: tiger run NAME W    run the scenario of the file NAME with W workers, 1 to 64
+       tiger --help        this text
+       tiger --version     the version
+";
+
+const VERSION: &str = "tiger 0.1.0\n";
+
+/// The words after the program's name; a status where they cannot be had.
+fn words_of(rt: &HostRuntime, alloc: Global) -> Result<Vec<String>, Status> {
+    let args = match env::args(rt) {
+        Ok(args) => args,
+        Err(e) => {
+            return Err(if e.kind() == io::ErrorKind::OutOfMemory {
+                Status::NoMemory
+            } else {
+                Status::Words
+            });
+        }
+    };
+    let mut words = Vec::new(alloc);
+    for word in args.skip(1) {
+        words.push(word)?;
+    }
+    Ok(words)
+}
+
+/// The text that one word alone asks for.
+fn asked_text(words: &[String]) -> Option<&'static str> {
+    match words {
+        [word] => match word.as_str() {
+            "--help" => Some(HELP),
+            "--version" => Some(VERSION),
+            _ => None,
+        },
+        _ => None,
+    }
+}
+
+/// Does what the words say, and answers how that ended.
+fn status_of(rt: &HostRuntime, alloc: Global) -> Status {
+    let words = match words_of(rt, alloc) {
+        Ok(words) => words,
+        Err(status) => return status,
+    };
+    if let Some(text) = asked_text(words.as_slice()) {
+        return match rt.print(text) {
+            Ok(()) => Status::Done,
+            Err(_) => Status::WriteFault,
+        };
+    }
+    let mut files = DirFiles::new(rt);
+    let mut out = StdSink::new(rt);
+    tiger(alloc, &words, &mut files, &mut out, &OpenGate).status
+}
+
+/// Says on standard error how a run ended.
+fn say(rt: &HostRuntime, alloc: Global, status: &Status) -> Result<(), AllocError> {
+    let line = line_of(alloc, status)?;
+    let _ = rt.eprint(line.as_str());
+    Ok(())
+}
+
+fn main(rt: HostRuntime) -> ExitCode {
+    let alloc = rt.alloc();
+    let status = status_of(&rt, alloc);
+    let _ = say(&rt, alloc, &status);
+    ExitCode::from(exit_of(&status))
+}
+
+#[cfg(test)]
+mod tests;

@@ -1,0 +1,80 @@
+//! The words of the command line.
+ghost use Rattle.std.specs.Prelude.{◌≡◌, ◌≢◌, ◌≤◌, ◌^◌, ◌<◌, ◌↔◌, ℕ, List, MatchOption, IsTrue, codes, length, slice_index};
+ghost use Rattle.std.specs.Fmt.{decimal};
+ghost use Rattle.tiger_run.specs.Words.{IsPlain, IsRun, texts_of};
+
+/// The command `run NAME W`.
+#[derive(Clone, Copy, Debug)]
+pub struct Run<'a> {
+    /// The name of the scenario's file.
+    pub name: &'a str,
+    /// The number of workers, from 1 to 64.
+    pub workers: u64,
+}
+
+/// Whether no sign and no leading zero stands first.
+fn is_plain(word: &[u8]) -> bool
+    requires { 0 < length word.now }
+    ensures { IsTrue result ↔ IsPlain word.now }
+{
+    if word[0] == b'+' {
+        false
+    } else {
+        word[0] != b'0' || word.len() == 1
+    }
+}
+
+/// The number that the word is in decimal, without a sign or a leading zero.
+fn number_of(word: &str) -> Option<u64>
+    ensures { MatchOption result ((n : ℕ) → n < 2 ^ 64 → word.now ≢ decimal n) (λ n. word.now ≡ decimal n) }
+{
+    match word.parse::<u64>() {
+        Ok(number) => {
+            if is_plain(word.as_bytes()) {
+                Some(number)
+            } else {
+                None
+            }
+        }
+        Err(_) => None,
+    }
+}
+
+/// The number of workers that the word is in decimal, from 1 to 64.
+fn workers_of(word: &str) -> Option<u64>
+    ensures { MatchOption result ((n : ℕ) → 1 ≤ n → n ≤ 64 → word.now ≢ decimal n) (λ n. (1 ≤ n) × (n ≤ 64) × (word.now ≡ decimal n)) }
+{
+    let number = number_of(word)?;
+    if 1 <= number && number <= 64 {
+        Some(number)
+    } else {
+        None
+    }
+}
+
+/// The words as the command `run NAME W`; `None` exactly where they are not in its form.
+pub fn run_in(words: &[String]) -> Option<Run<'_>>
+    ensures { MatchOption result ((name : List ℕ) (workers : ℕ) → ¬ IsRun (texts_of words.now) name workers) (λ run. IsRun (texts_of words.now) run.name.now run.workers) }
+{
+    match words {
+        [command, name, workers] => {
+            if !is_run(command.as_str()) {
+                return None;
+            }
+            match workers_of(workers.as_str()) {
+                Some(workers) => Some(Run {
+                    name: name.as_str(),
+                    workers,
+                }),
+                None => None,
+            }
+        }
+        _ => None,
+    }
+}
+
+fn is_run(word: &str) -> bool
+    ensures { IsTrue result ↔ (word.now ≡ codes "run") }
+{
+    word == "run"
+}
