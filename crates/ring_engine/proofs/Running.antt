@@ -1,5 +1,5 @@
 -- A run: from event to event, and from beat to beat.
-use Rattle.std.proofs.Common.{◌≡◌, ◌≢◌, ℕ, zero, suc, ◌+◌, ◌<◌, ◌≤◌, Bool, true, false, List, [], ◌∷◌, ◌++◌, length, Some, refl, ap, sym, ◌∙◌, subst, arith, ⊎_elim, length-append}
+use Rattle.std.proofs.Common.{add-one, ◌≡◌, ◌≢◌, ℕ, zero, suc, ◌+◌, ◌<◌, ◌≤◌, Bool, true, false, List, [], ◌∷◌, ◌++◌, length, Some, refl, ap, sym, ◌∙◌, subst, arith, ⊎_elim, length-append}
 use Rattle.std.specs.Prelude.{slice_get, slice_set, if◌then◌else◌}
 use Rattle.std.specs.List.{AllByRecursion}
 use Rattle.std.proofs.lemmas.Option.{none-some}
@@ -19,6 +19,7 @@ use Rattle.ring_engine.specs.Traffic.{Traffic, collected, after_collecting, AreO
 use Rattle.ring_engine.specs.Turns.{Past, Scene, scene, after_event, event, after_takes, takes, after_beat, turn, IsReady, IsReadyFor, KeepsReady}
 use Rattle.ring_engine.specs.Runs.{stamp_in, opening, after_beats, HasRun, HasEnded}
 use Rattle.ring_engine.specs.Places.{each_below, new_channel, in_links_of, AllStand, Ring, IsSound, IsAt, HasLived, AllHaveLived, AreInLinks}
+use Rattle.ring_engine.specs.Whole.{opening_ring, with_node, HaveTurns, HavePassed, IsWholeRun}
 use Rattle.ring_engine.proofs.Below.{length-each_below, get-each_below, get-below, links_into-lead}
 
 get-set_same : {A : Type 0} (xs : List A) (n : ℕ) (x y : A) → slice_get xs n ≡ Some y → slice_get (slice_set xs n x) n ≡ Some x
@@ -68,11 +69,6 @@ pub record Midway {M S : Type 0} (note : M → Note) (step : S → Input M → D
   pub sound : IsSound stands c.plan.params count beat now
   pub ahead : (k : ℕ) (past : Past S) → n ≤ k → IsAt old k past → IsAt now k past
   pub behind : (k : ℕ) (past : Past S) → k < n → IsAt old k past → HasLived note step c beat k past now
-
--- the ring after the turn of node n
-abbrev pub with_node : {M S : Type 0} → Ring M S → ℕ → S → Lifetime → List Entry → List (Traffic M) → Ring M S
-with_node r n s life j channels =
-    record { nodes = slice_set r.nodes n s; lives = slice_set r.lives n life; journals = slice_set r.journals n j; channels = channels }
 
 elsewhere : {M S : Type 0} (r : Ring M S) (n k : ℕ) (s : S) (life : Lifetime) (j : List Entry) (ts : List (Traffic M)) (past : Past S) → k ≢ n
     → IsAt r k past → IsAt (with_node r n s life j ts) k past
@@ -258,3 +254,49 @@ pub ended-at : {M S : Type 0} (note : M → Note) (step : S → Input M → Deed
 ended-at {M} note step c beat given r journals last same come n first e =
     subst (λ js. HasEnded {M = M} note step c n first r.nodes js) (sym same)
     (all-ended note step c given r (subst (λ b. AllHaveCome note step c b given r) last come) n first e)
+
+-- one turn more, and one beat more
+pub turns-on : {M S : Type 0} (note : M → Note) (step : S → Input M → Deed M S) (c : Course) (count beat n : ℕ) (old now : Ring M S) (stamp : Stamp)
+    (rows : List (List LinkNo)) (links : List LinkNo) (s s' : S) (life life' : Lifetime) (j j' : List Entry) (ts' : List (Traffic M))
+    → stamp ≡ stamp_in c n beat → n < count → AreInLinks c.plan.params count rows → slice_get rows n ≡ Some links
+    → slice_get now.nodes n ≡ Some s → slice_get now.lives n ≡ Some life → slice_get now.journals n ≡ Some j
+    → ◌≡◌ {A = Scene M S} (scene s' life' j' ts') (turn note step stamp links (scene s life j now.channels))
+    → HaveTurns note step c beat n old now → HaveTurns note step c beat (n + 1) old (with_node now n s' life' j' ts')
+turns-on {M} {S} note step c count beat n old now stamp rows links s s' life life' j j' ts' dated below all here_links hs hl hj turned turns =
+    let p = c.plan.params in
+    let row : links ≡ in_links_of (links_of p) n = same-element rows n links (in_links_of (links_of p) n) here_links
+    (ap (λ q. slice_get q n) all ∙ get-each_below (in_links_of (links_of p)) count n below) in
+    subst (λ k. HaveTurns note step c beat k old (with_node now n s' life' j' ts')) (sym (add-one n)) (
+      now,
+      turns,
+      record {
+        past = record { state = s; life = life; journal = j };
+        here = record { state = hs; life = hl; journal = hj };
+        scene = scene s' life' j' ts';
+        turned = turned ∙ ap (λ q. turn note step q links (scene s life j now.channels)) dated
+            ∙ ap (λ q. turn note step (stamp_in c n beat) q (scene s life j now.channels)) row;
+        after = refl;
+      },
+    )
+
+pub passed-on : {M S : Type 0} (note : M → Note) (step : S → Input M → Deed M S) (c : Course) (count count' beat : ℕ) (old now new : Ring M S) → count' ≡ count
+    → HaveTurns note step c beat count' now new → HavePassed note step c count beat old now → HavePassed note step c count (beat + 1) old new
+passed-on note step c count count' beat old now new same turns passed =
+    subst (λ b. HavePassed note step c count b old new) (sym (add-one beat)) (now, passed, subst (λ k. HaveTurns note step c beat k now new) same turns)
+
+pub ring-opens : {M S : Type 0} (c : Course) (count : ℕ) (given : List S) (lives : List Lifetime) (journals : List (List Entry)) (channels : List (Traffic M))
+    → count ≡ length given → lives ≡ each_below (lifetime_of c) count → journals ≡ each_below (λ _. []) count
+    → channels ≡ each_below (new_channel c) (link_count (links_of c.plan.params))
+    → ◌≡◌ {A = Ring M S} (record { nodes = given; lives = lives; journals = journals; channels = channels }) (opening_ring c given)
+ring-opens c count given lives journals channels len living written new =
+    rw (living ∙ ap (each_below (lifetime_of c)) len, written ∙ ap (each_below (λ _. [])) len, new) refl
+
+pub whole-run : {M S : Type 0} (note : M → Note) (step : S → Input M → Deed M S) (c : Course) (count beat : ℕ) (given : List S) (r : Ring M S) (journals : List (List Entry))
+    → count ≡ length given → beat ≡ c.beats → journals ≡ r.journals → HavePassed note step c count beat (opening_ring c given) r
+    → IsWholeRun {M = M} note step c given r.nodes journals
+whole-run note step c count beat given r journals len last same passed = record {
+  last = r;
+  passed = subst (λ k. HavePassed note step c k c.beats (opening_ring c given) r) len (subst (λ b. HavePassed note step c count b (opening_ring c given) r) last passed);
+  same_nodes = refl;
+  same_journals = same;
+}

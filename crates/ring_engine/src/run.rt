@@ -3,6 +3,7 @@ ghost use Rattle.std.specs.Prelude.{◌≡◌, ◌+◌, ◌<◌, ◌≤◌, leng
 ghost use Rattle.node_kit.specs.Courses.{IsCourse};
 ghost use Rattle.node_kit.specs.Links.{links_of, viewers_of};
 ghost use Rattle.ring_engine.specs.Runs.{EachHasEnded};
+ghost use Rattle.ring_engine.specs.Whole.{IsWholeRun, HaveTurns};
 ghost use Rattle.ring_engine.specs.Places.{AllStand, AreInLinks, IsSound, AllHaveLived};
 
 use crate::events::live;
@@ -36,6 +37,7 @@ pub fn run_plain<M: Message, T: Node<M>>(
     ensures journals { IfOk result (λ r. length r.journals ≡ vec_len nodes) }
     ensures nodes { IfOk result (λ r. vec_len r.nodes ≡ vec_len nodes) }
     ensures runs { IfOk result (λ r. EachHasEnded M.note_of T.step course.now nodes.items r.nodes.items r.journals) }
+    ensures whole { IfOk result (λ r. IsWholeRun M.note_of T.step course.now nodes.items r.nodes.items r.journals) }
 {
     let in_links = all_in_links(alloc, links)?;
     let mut lives = all_lives(alloc, course, links)?;
@@ -76,6 +78,9 @@ fn run_beat<M: Message, T: Node<M>>(
     requires sound { IsSound T.stands_at course.now.plan.params (vec_len nodes.old) beat
         (record { nodes = nodes.old.items; lives = lives.old.items; journals = journals.old.items; channels = channels.old.items }) }
     ensures sound { OnOk result (IsSound T.stands_at course.now.plan.params (vec_len nodes.old) beat
+        (record { nodes = nodes.new.items; lives = lives.new.items; journals = journals.new.items; channels = channels.new.items })) }
+    ensures turns { OnOk result (HaveTurns M.note_of T.step course.now beat (vec_len nodes.old)
+        (record { nodes = nodes.old.items; lives = lives.old.items; journals = journals.old.items; channels = channels.old.items })
         (record { nodes = nodes.new.items; lives = lives.new.items; journals = journals.new.items; channels = channels.new.items })) }
     ensures lived { OnOk result (AllHaveLived M.note_of T.step course.now beat
         (record { nodes = nodes.old.items; lives = lives.old.items; journals = journals.old.items; channels = channels.old.items })

@@ -1,5 +1,5 @@
 -- How a run that wrote its report ended.
-use Rattle.std.proofs.Common.{ℕ, List, Option}
+use Rattle.std.proofs.Common.{◌≡◌, ℕ, List, Option, Some, None, IfSome, subst, sym}
 use Rattle.outside.specs.Told.{Told, Counts}
 use Rattle.node_kit.specs.declared.course.Kept.{Kept}
 use Rattle.tiger_run.specs.declared.status.Status.{Status}
@@ -27,3 +27,8 @@ EndsSink-wrote (statuses.Scenario fault) old new before after kept wrote = absur
 EndsSink-wrote statuses.WriteFault old new before after kept wrote = wrote
 EndsSink-wrote statuses.NoMemory old new before after kept wrote = wrote
 EndsSink-wrote (statuses.TooLong file given most) old new before after kept wrote = absurd wrote
+
+-- a value that is there is the given one, so what holds of that holds of it
+pub some_same : {A : Type 0} (Q : A → Type 0) (o : Option A) (x : A) → IfSome o (λ y. y ≡ x) → Q x → IfSome o Q
+some_same Q None x same q = tt
+some_same Q (Some y) x same q = subst Q (sym same) q

@@ -8,7 +8,9 @@ use Rattle.node_kit.specs.declared.course.Kept.{Kept}
 use Rattle.tiger_run.specs.declared.status.Status.{Status}
 use Rattle.tiger_run.specs.declared.status.Status.TheVariants as statuses
 use Rattle.tiger_run.specs.Words.{IsRun}
-use Rattle.tiger_run.specs.Inputs.{InputsCause}
+use Rattle.tiger_run.specs.declared.inputs.Inputs.{Inputs}
+use Rattle.tiger_run.specs.Inputs.{InputsCause, AreInputs}
+use Rattle.tiger_run.specs.Runs.{IsRunOf}
 use Rattle.first_report.specs.Text.{report_text}
 
 -- why a text was not put whole, piece by piece: a front of it was written
@@ -46,3 +48,12 @@ EndsSink old new before after kept statuses.Done = Wrote old new before after ke
 EndsSink old new before after kept statuses.WriteFault = Wrote old new before after kept statuses.WriteFault
 EndsSink old new before after kept statuses.NoMemory = Wrote old new before after kept statuses.NoMemory
 EndsSink old new before after kept _ = (new ≡ old) × (kept ≡ None)
+
+-- what is kept is of the run of the scenario that the words name: it was read, and then its files, and its nodes ran
+pub record HasRunFor (G : Type 0) (told : List ℕ → Told) (words : List (List ℕ)) (k : Kept) : Type 0 where
+  pub name : List ℕ
+  pub workers : ℕ
+  pub named : IsRun words name workers
+  pub inputs : Inputs
+  pub read : AreInputs told name inputs
+  pub ran : IsRunOf G inputs.scenario.course inputs.library k

@@ -4,9 +4,8 @@ use crate::reading::read_scenario;
 use crate::status::{Status, exit_of, line_of};
 use crate::stop::{ReadStop, ScenarioFault};
 use crate::top::tiger;
-use crate::writing::put_lines;
 use node_kit::OpenGate;
-use outside::{MemFiles, MemSink, SinkFault};
+use outside::{MemFiles, MemSink};
 use std::alloc::Global;
 use std::process::Abort;
 use std::test::Fail;
@@ -38,12 +37,17 @@ fn status_of(
     if let Some(bytes) = ten {
         files.put("ten", bytes.to_vec(alloc)?)?;
     }
+    let mut out = MemSink::new(alloc);
+    let given = words_of(alloc, words)?;
+    Ok(tiger(alloc, &given, &mut files, &mut out, &OpenGate).status)
+}
+
+fn words_of(alloc: Global, words: &[&str]) -> Result<Vec<String>, Fail> {
     let mut given = Vec::new(alloc);
     for word in words {
         given.push(String::from_str(alloc, word)?)?;
     }
-    let mut out = MemSink::new(alloc);
-    Ok(tiger(alloc, &given, &mut files, &mut out, &OpenGate).status)
+    Ok(given)
 }
 
 fn run_one(alloc: Global, scenario: Option<&[u8]>, ten: Option<&[u8]>) -> Result<Status, Fail> {
@@ -136,48 +140,19 @@ fn words_out_of_form_are_refused(rt: HostRuntime) -> Result<(), Fail> {
 #[test]
 fn other_statuses_have_their_lines_and_numbers(rt: HostRuntime) -> Result<(), Fail> {
     let alloc = rt.alloc();
-    let file = Some(FileNo(0));
     let rule = ScenarioFault {
         rule: 4,
         item: 2,
         left: 1000001,
         right: 1000000,
     };
-    let scenario_long = Status::TooLong {
-        file: None,
-        given: 4194305,
-        most: 4194304,
-    };
-    let file_long = Status::TooLong {
-        file,
-        given: 16777217,
-        most: 16777216,
-    };
+    let scenario = Status::Scenario(rule);
+    let line = "tiger: scenario rule 4 item 2 left 1000001 right 1000000\n";
     for wanted in [
         (Status::Done, "", 0),
-        (
-            Status::ReadFault { file: None },
-            "tiger: read fault scenario\n",
-            4,
-        ),
-        (Status::ReadFault { file }, "tiger: read fault file 0\n", 4),
-        (
-            Status::Scenario(rule),
-            "tiger: scenario rule 4 item 2 left 1000001 right 1000000\n",
-            5,
-        ),
+        (scenario, line, 5),
         (Status::WriteFault, "tiger: write fault\n", 6),
         (Status::NoMemory, "tiger: no memory\n", 7),
-        (
-            scenario_long,
-            "tiger: too long scenario given 4194305 most 4194304\n",
-            8,
-        ),
-        (
-            file_long,
-            "tiger: too long file 0 given 16777217 most 16777216\n",
-            8,
-        ),
     ] {
         assert_said(&rt, alloc, wanted.0, wanted)?;
     }
@@ -185,16 +160,86 @@ fn other_statuses_have_their_lines_and_numbers(rt: HostRuntime) -> Result<(), Fa
 }
 
 #[test]
-fn a_second_put_that_fails_keeps_the_first_line_and_a_front(rt: HostRuntime) -> Result<(), Fail> {
-    let mut out = MemSink::new(rt.alloc());
-    out.fail_at(1, 5)?;
-    let put = put_lines(&mut out, b"start 0 file 0 slot 1 first 0\nblock 0\ntotal\n");
-    assert_eq!(rt; put, Err(SinkFault::Failed));
-    assert_eq!(rt;
-        out.bytes(),
-        b"start 0 file 0 slot 1 first 0\nblock".as_slice()
-    );
+fn a_read_that_fails_names_its_file(rt: HostRuntime) -> Result<(), Fail> {
+    let alloc = rt.alloc();
+    let cases: [(u64, Option<FileNo>, &str); 2] = [
+        (0, None, "tiger: read fault scenario\n"),
+        (1, Some(FileNo(0)), "tiger: read fault file 0\n"),
+    ];
+    for (call, file, line) in cases {
+        let mut files = MemFiles::new(alloc);
+        files.put("one.json", ONE.as_bytes().to_vec(alloc)?)?;
+        files.put("ten", b"1234567890".to_vec(alloc)?)?;
+        files.fail_at(call)?;
+        let mut out = MemSink::new(alloc);
+        let words = words_of(alloc, &["run", "one.json", "1"])?;
+        let status = tiger(alloc, &words, &mut files, &mut out, &OpenGate).status;
+        assert_said(&rt, alloc, status, (Status::ReadFault { file }, line, 4))?;
+    }
     Ok(())
+}
+
+#[test]
+fn a_file_above_its_limit_is_too_long(rt: HostRuntime) -> Result<(), Fail> {
+    let alloc = rt.alloc();
+    let long = vec![in alloc; b'a'; 16777217]?;
+    let status = run_one(alloc, Some(ONE.as_bytes()), Some(long.as_slice()))?;
+    let wanted = Status::TooLong {
+        file: Some(FileNo(0)),
+        given: 16777217,
+        most: 16777216,
+    };
+    let line = "tiger: too long file 0 given 16777217 most 16777216\n";
+    assert_said(&rt, alloc, status, (wanted, line, 8))?;
+    let wanted = Status::TooLong {
+        file: None,
+        given: 4194305,
+        most: 4194304,
+    };
+    let line = "tiger: too long scenario given 4194305 most 4194304\n";
+    assert_said(&rt, alloc, wanted, (wanted, line, 8))
+}
+
+const SIX_LINES: &str = "start 0 file 0 slot 1 first 0
+block 0 due 500000 whole 4 sent 50
+block 1 due 1500000 whole 4 sent 150
+block 2 due 2500000 whole 2 sent 250
+end 0 whole 3 pieces 0 missing 0 bytes 10 sha256 c775e7b757ede630cd0aa1113bd102661ab38829ca52a6422ab782862f268646
+total starts 1 placed 1 whole 3 pieces 0 missing 0
+";
+
+/// How the stored scenario ends where the put of a number keeps some bytes and fails, and what is written then.
+fn assert_written(
+    rt: &impl Abort,
+    alloc: Global,
+    failing: Option<(u64, u64)>,
+    status: Status,
+    written: &[u8],
+) -> Result<(), Fail> {
+    let mut files = MemFiles::new(alloc);
+    files.put("one.json", ONE.as_bytes().to_vec(alloc)?)?;
+    files.put("ten", b"1234567890".to_vec(alloc)?)?;
+    let mut out = MemSink::new(alloc);
+    if let Some((put, keep)) = failing {
+        out.fail_at(put, keep)?;
+    }
+    let words = words_of(alloc, &["run", "one.json", "1"])?;
+    let ended = tiger(alloc, &words, &mut files, &mut out, &OpenGate);
+    assert!(rt; ended.status == status);
+    assert!(rt; ended.kept.is_some());
+    assert!(rt; out.bytes() == written);
+    Ok(())
+}
+
+#[test]
+fn one_viewer_gets_its_three_blocks(rt: HostRuntime) -> Result<(), Fail> {
+    assert_written(&rt, rt.alloc(), None, Status::Done, SIX_LINES.as_bytes())
+}
+
+#[test]
+fn a_put_that_fails_ends_the_run_behind_a_front_of_its_line(rt: HostRuntime) -> Result<(), Fail> {
+    let front = b"start 0 file 0 slot 1 first 0\nblock".as_slice();
+    assert_written(&rt, rt.alloc(), Some((1, 5)), Status::WriteFault, front)
 }
 
 #[test]

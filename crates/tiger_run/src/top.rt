@@ -1,9 +1,9 @@
 //! The program as a function of its words, its files and its output.
-ghost use Rattle.std.specs.Prelude.{length, ◌≡◌, ◌^◌, ◌-◌, ◌<◌, ◌≤◌, ◌↔◌, ℕ, List, IsSomeAnd};
+ghost use Rattle.std.specs.Prelude.{length, ◌≡◌, ◌^◌, ◌-◌, ◌<◌, ◌≤◌, ◌↔◌, ℕ, List, IsSomeAnd, IfSome};
 ghost use Rattle.outside.specs.Written.{Appended};
 ghost use Rattle.first_report.specs.Text.{report_text};
 ghost use Rattle.tiger_run.specs.Words.{IsRun, texts_of};
-ghost use Rattle.tiger_run.specs.Ending.{InputCause, Wrote, EndsSink};
+ghost use Rattle.tiger_run.specs.Ending.{InputCause, Wrote, EndsSink, HasRunFor};
 
 use crate::inputs::{Inputs, read_inputs};
 use crate::run::run_first;
@@ -33,7 +33,8 @@ fn write_report<K: Sink>(alloc: Global, out: &mut K, kept: Kept) -> Ended
     requires faults { K.faults out.old < 2 ^ 64 - 1 }
     requires beats { kept.course.beats ≤ 100000 }
     requires orders { length kept.orders ≤ 4000 }
-    ensures { Wrote (K.written out.old) (K.written out.new) (K.faults out.old) (K.faults out.new) result.kept result.status }
+    ensures same { IfSome result.kept (λ k. k ≡ kept) }
+    ensures wrote { Wrote (K.written out.old) (K.written out.new) (K.faults out.old) (K.faults out.new) result.kept result.status }
 {
     let Ok(text) = report(alloc, &kept) else {
         return refused(Status::NoMemory);
@@ -65,6 +66,9 @@ pub fn tiger<F: Files, K: Sink, G: Gate>(
 
     // All was written: the report of what was kept.
     ensures done { result.status ≡ Status.Done → IsSomeAnd result.kept (λ k. Appended (K.written out.old) (K.written out.new) (report_text k)) }
+
+    // What is kept is of the run of the scenario that was read.
+    ensures ran { IfSome result.kept (HasRunFor G (F.told files.old) (texts_of words.now.items)) }
 
     // Why an input was refused.
     ensures input { InputCause (F.told files.old) (texts_of words.now.items) (F.counts files.old) (F.counts files.new) result.status }

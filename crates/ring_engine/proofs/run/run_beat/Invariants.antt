@@ -1,4 +1,5 @@
 use Rattle.std.proofs.Common.{◌≡◌, vec_len}
+use Rattle.ring_engine.specs.Whole.{HaveTurns}
 use Rattle.ring_engine.proofs.Running.{Midway}
 use Rattle.ring_engine.proofs.run.run_beat.Given as goal
 
@@ -6,6 +7,9 @@ use Rattle.ring_engine.proofs.run.run_beat.Given as goal
 abbrev pub invariant-loop-n : goal.invariant-loop-n
 invariant-loop-n g l = record {
   midway : Midway g.M.Message.note_of g.T.Node.step g.T.Node.stands_at l.course (vec_len l.fn.nodes) l.beat l.n
+      (record { nodes = l.fn.nodes.items; lives = l.fn.lives.items; journals = l.fn.journals.items; channels = l.fn.channels.items })
+      (record { nodes = l.nodes.items; lives = l.lives.items; journals = l.journals.items; channels = l.channels.items });
+  turns : HaveTurns g.M.Message.note_of g.T.Node.step l.course l.beat l.n
       (record { nodes = l.fn.nodes.items; lives = l.fn.lives.items; journals = l.fn.journals.items; channels = l.fn.channels.items })
       (record { nodes = l.nodes.items; lives = l.lives.items; journals = l.journals.items; channels = l.channels.items });
   end : l.n-end ≡ vec_len l.fn.nodes;

@@ -2,7 +2,7 @@ use Rattle.std.proofs.Common.{◌∙◌, ap, sym, arith}
 use Rattle.node_kit.specs.Links.{link_count}
 use Rattle.ring_engine.specs.Places.{each_below, new_channel, Ring}
 use Rattle.node_kit.specs.Life.{lifetime_of}
-use Rattle.ring_engine.proofs.Running.{come-open, sound-open, come-more, sound-later, ended-at}
+use Rattle.ring_engine.proofs.Running.{come-open, sound-open, come-more, sound-later, ended-at, ring-opens, passed-on, whole-run}
 use Rattle.ring_engine.proofs.run.run_plain.Goals as goal
 
 pub loop-beat-init : goal.loop-beat-init
@@ -12,12 +12,14 @@ loop-beat-init g c =
     let channels = c.in_ok-channels.ensures ∙ ap (λ t. each_below (new_channel c.args.course.now) (link_count t)) c.requires.links in
     record {
       sound = sound-open _ c.args.course.now _ _ _ _ _ c.requires.stand c.args.nodes.ok.0 lives journals channels;
+      passed = ring-opens c.args.course.now _ _ _ _ _ c.args.nodes.ok.0 lives journals channels;
       come = come-open _ _ c.args.course.now _ _ _ _ _ c.args.nodes.ok.0 lives journals;
     }
 
 pub loop-beat-preserved : goal.loop-beat-preserved
 loop-beat-preserved g c = record {
   sound = sound-later _ _ _ _ _ _ (c.loop-beat.nodes.ok.0 ∙ c.loop-beat.invariant.sound.nodes) c.in_ok-run_beat.ensures.sound;
+  passed = passed-on _ _ _ _ _ _ _ _ _ (c.loop-beat.nodes.ok.0 ∙ c.loop-beat.invariant.sound.nodes) c.in_ok-run_beat.ensures.turns c.loop-beat.invariant.passed;
   come = come-more _ _ _ _ _ _ _ c.in_ok-run_beat.ensures.lived c.loop-beat.invariant.come;
 }
 
@@ -25,3 +27,8 @@ pub returns-clause-runs : goal.returns-clause-runs
 returns-clause-runs g c =
     let r : Ring _ _ = record { nodes = c.loop-beat.nodes.items; lives = c.loop-beat.lives.items; journals = c.loop-beat.journals.items; channels = c.loop-beat.channels.items } in
     ended-at _ _ _ c.loop-beat.beat _ r _ (omega (arith, c.loop-beat.auto.beat-end, c.loop-beat-test.false)) c.new.ensures c.loop-beat.invariant.come
+
+pub returns-clause-whole : goal.returns-clause-whole
+returns-clause-whole g c =
+    let r : Ring _ _ = record { nodes = c.loop-beat.nodes.items; lives = c.loop-beat.lives.items; journals = c.loop-beat.journals.items; channels = c.loop-beat.channels.items } in
+    whole-run _ _ _ _ c.loop-beat.beat _ r _ c.args.nodes.ok.0 (omega (arith, c.loop-beat.auto.beat-end, c.loop-beat-test.false)) c.new.ensures c.loop-beat.invariant.passed

@@ -1,5 +1,6 @@
 use Rattle.std.proofs.Common.{vec_len}
 use Rattle.ring_engine.specs.Places.{IsSound}
+use Rattle.ring_engine.specs.Whole.{HavePassed, opening_ring}
 use Rattle.ring_engine.proofs.Running.{AllHaveCome}
 use Rattle.ring_engine.proofs.run.run_plain.Given as goal
 
@@ -7,6 +8,8 @@ use Rattle.ring_engine.proofs.run.run_plain.Given as goal
 abbrev pub invariant-loop-beat : goal.invariant-loop-beat
 invariant-loop-beat g l = record {
   sound : IsSound g.T.Node.stands_at l.course.plan.params (vec_len l.fn.nodes) l.beat
+      (record { nodes = l.nodes.items; lives = l.lives.items; journals = l.journals.items; channels = l.channels.items });
+  passed : HavePassed g.M.Message.note_of g.T.Node.step l.course (vec_len l.fn.nodes) l.beat (opening_ring l.course l.fn.nodes.items)
       (record { nodes = l.nodes.items; lives = l.lives.items; journals = l.journals.items; channels = l.channels.items });
   come : AllHaveCome g.M.Message.note_of g.T.Node.step l.course l.beat l.fn.nodes.items
       (record { nodes = l.nodes.items; lives = l.lives.items; journals = l.journals.items; channels = l.channels.items });

@@ -2,8 +2,8 @@ use Rattle.std.proofs.Common.{◌∙◌}
 use Rattle.tiger_run.proofs.top.write_report.Goals as goal
 use Rattle.tiger_run.proofs.top.write_report.Goals.{in-Ok-put_lines, in-Err-Failed, in-Err-NoMemory}
 
-pub returns : goal.returns
-returns g c =
+pub returns-clause-wrote : goal.returns-clause-wrote
+returns-clause-wrote g c =
     let text = c.as_slice.ensures.value ∙ c.in-Ok.ensures in
     elim c.match-put_lines.branch [
       | in-Ok-put_lines w ↦ rw w.status-is (rw text at w.in-Ok-put_lines.ensures.appended)

@@ -1,0 +1,138 @@
+//! The instances that are held, with the reading until which each is held.
+ghost use Rattle.std.specs.Prelude.{◌≡◌, ◌+◌, [], IfOk, OnOk, OnErr, length, not};
+ghost use Rattle.deschedule.specs.Holds.{IsOnce, is_held, with_hold, must_pass, once_passed, with_pass, holds_at};
+
+use std::alloc::Global;
+use std::marker::Model;
+use tiger_base::{Instance, Micros, NoMemory};
+
+/// A deschedule that is held until a reading, and whether it was passed on.
+#[derive(Clone, Copy)]
+pub struct Holding {
+    pub instance: Instance,
+    pub until: Micros,
+    pub passed: bool,
+}
+
+/// The deschedules that are held, at most one of an instance, seen as the list of them in the order
+/// in which they came.
+#[derive(Drop)]
+pub struct Held {
+    holds: Vec<Holding>,
+}
+
+impl Model for Held {
+    ghost use Rattle.std.specs.Prelude.{List};
+    ghost use Rattle.deschedule.specs.declared.held.Holding.{Holding};
+    ghost use Rattle.deschedule.specs.Holds.{IsOnce};
+
+    ghost Value = { List Holding };
+
+    ghost view = { λ h. h.holds.items };
+
+    ghost invariant = { λ h. IsOnce h.holds.items };
+}
+
+impl Held {
+    /// Nothing is held.
+    pub fn new(alloc: Global) -> Held
+        ensures { result ≡ [] }
+    {
+        Held {
+            holds: Vec::new(alloc),
+        }
+    }
+
+    /// Holds an instance until a reading, not passed on. False, and nothing changes, exactly where it
+    /// is held already; without memory for it nothing changes either.
+    pub fn hold(&mut self, instance: Instance, until: Micros) -> Result<bool, NoMemory>
+        ensures entered { IfOk result (λ new. new ≡ not (is_held self.old instance)) }
+        ensures after { OnOk result (self.new ≡ with_hold self.old instance until) }
+        ensures err { OnErr result (self.new ≡ self.old) }
+    {
+        if contains(&self.holds, instance) {
+            return Ok(false);
+        }
+        self.holds.push(Holding {
+            instance,
+            until,
+            passed: false,
+        })?;
+        Ok(true)
+    }
+
+    /// Whether the instance is held.
+    pub fn is_held(&self, instance: Instance) -> bool
+        ensures held { result ≡ is_held self.now instance }
+        ensures once { IsOnce self.now }
+    {
+        contains(&self.holds, instance)
+    }
+
+    /// Whether the instance is held, and its deschedule was not passed on.
+    pub fn must_pass(&self, instance: Instance) -> bool
+        ensures { result ≡ must_pass self.now instance }
+    {
+        must_pass(&self.holds, instance)
+    }
+
+    /// Notes that the instance's deschedule was passed on. False, and nothing changes, exactly where
+    /// it is not held.
+    pub fn set_passed(&mut self, instance: Instance) -> bool
+        ensures there { result ≡ is_held self.old instance }
+        ensures after { self.new ≡ with_pass self.old instance }
+    {
+        let found = contains(&self.holds, instance);
+        pass_on(&mut self.holds, instance);
+        found
+    }
+
+    /// Releases each instance whose reading has come, and answers how many.
+    pub fn expire(&mut self, reading: Micros) -> u64
+        ensures after { self.new ≡ holds_at self.old reading }
+        ensures count { result + length self.new ≡ length self.old }
+    {
+        let before = self.holds.len();
+        release(&mut self.holds, reading);
+        (before - self.holds.len()) as u64
+    }
+}
+
+fn contains(holds: &[Holding], instance: Instance) -> bool
+    ensures { result ≡ is_held holds.now instance }
+{
+    holds.iter().any(|h| h.instance.0 == instance.0)
+}
+
+fn must_pass(holds: &[Holding], instance: Instance) -> bool
+    ensures { result ≡ must_pass holds.now instance }
+{
+    holds
+        .iter()
+        .any(|h| h.instance.0 == instance.0 && !h.passed)
+}
+
+fn pass_on(holds: &mut Vec<Holding>, instance: Instance)
+    ensures { holds.new.items ≡ with_pass holds.old.items instance }
+{
+    for hold in holds.iter_mut() {
+        *hold = once_passed(hold, instance);
+    }
+}
+
+// The deschedule again, passed on where it is of the instance.
+fn once_passed(hold: &Holding, instance: Instance) -> Holding
+    ensures { result ≡ once_passed instance hold.now }
+{
+    let mut hold = *hold;
+    if hold.instance.0 == instance.0 {
+        hold.passed = true;
+    }
+    hold
+}
+
+fn release(holds: &mut Vec<Holding>, reading: Micros)
+    ensures { holds.new.items ≡ holds_at holds.old.items reading }
+{
+    holds.retain(|h| h.until > reading);
+}

@@ -1,0 +1,4 @@
+pub mod Copies
+pub mod Image
+pub mod Origin
+pub mod Seen

@@ -1,0 +1,143 @@
+//! The starts that wait for a free visit, and those that wait for the predecessor's death.
+ghost use Rattle.std.specs.Prelude.{◌≡◌, [], ◌++◌, IfOk, OnOk, OnErr, length, not, false};
+ghost use Rattle.insert_queue.specs.Queues.{has_start, is_asked, with_waiting, with_redundant, without, without_start, after_take_over, oldest_for, IsOnce};
+
+use std::alloc::Global;
+use std::marker::Model;
+use tiger_base::{Ask, DiskNo, Instance, NoMemory};
+
+/// Where a start stood before it was dropped.
+#[derive(Clone, Copy, Debug, PartialEq, Eq)]
+pub struct Gave {
+    pub waiting: bool,
+    pub redundant: bool,
+}
+
+/// The starts that wait for a free visit, and the redundant ones, which wait until the predecessor is
+/// believed dead. They are seen as these two lists, the oldest first; an instance stands at most once
+/// in both together.
+#[derive(Drop)]
+pub struct Starts {
+    waiting: Vec<Ask>,
+    redundant: Vec<Ask>,
+}
+
+impl Model for Starts {
+    ghost use Rattle.std.specs.Prelude.{◌++◌};
+    ghost use Rattle.insert_queue.specs.Queues.{Queues, IsOnce};
+
+    ghost Value = { Queues };
+
+    ghost view = { λ s. record { waiting = s.waiting.items; redundant = s.redundant.items } };
+
+    ghost invariant = { λ s. IsOnce (s.waiting.items ++ s.redundant.items) };
+}
+
+impl Starts {
+    /// No start.
+    pub fn new(alloc: Global) -> Starts
+        ensures { result ≡ record { waiting = []; redundant = [] } }
+    {
+        Starts {
+            waiting: Vec::new(alloc),
+            redundant: Vec::new(alloc),
+        }
+    }
+
+    /// Puts a start at the end of those that wait. False, and nothing changes, exactly where its
+    /// instance stands in one of the lists; without memory for it nothing changes either.
+    pub fn ask(&mut self, ask: Ask) -> Result<bool, NoMemory>
+        ensures entered { IfOk result (λ new. new ≡ not (is_asked self.old ask.instance)) }
+        ensures after { OnOk result (self.new ≡ with_waiting self.old ask) }
+        ensures err { OnErr result (self.new ≡ self.old) }
+    {
+        if self.is_asked(ask.instance) {
+            return Ok(false);
+        }
+        self.waiting.push(ask)?;
+        Ok(true)
+    }
+
+    /// Puts a start at the end of the redundant ones. False, and nothing changes, exactly where its
+    /// instance stands in one of the lists; without memory for it nothing changes either.
+    pub fn ask_redundant(&mut self, ask: Ask) -> Result<bool, NoMemory>
+        ensures entered { IfOk result (λ new. new ≡ not (is_asked self.old ask.instance)) }
+        ensures after { OnOk result (self.new ≡ with_redundant self.old ask) }
+        ensures err { OnErr result (self.new ≡ self.old) }
+    {
+        if self.is_asked(ask.instance) {
+            return Ok(false);
+        }
+        self.redundant.push(ask)?;
+        Ok(true)
+    }
+
+    /// Whether a start of the instance stands in one of the lists.
+    pub fn is_asked(&self, instance: Instance) -> bool
+        ensures asked { result ≡ is_asked self.now instance }
+        ensures once { IsOnce (self.now.waiting ++ self.now.redundant) }
+    {
+        has_start(&self.waiting, instance) || has_start(&self.redundant, instance)
+    }
+
+    /// Drops the instance's start, and says where it stood. All others stay, in their order.
+    pub fn drop_instance(&mut self, instance: Instance) -> Gave
+        ensures waited { result.waiting ≡ has_start self.old.waiting instance }
+        ensures redundant { result.redundant ≡ has_start self.old.redundant instance }
+        ensures after { self.new ≡ without_start self.old instance }
+        ensures gone { is_asked self.new instance ≡ false }
+    {
+        let gave = Gave {
+            waiting: has_start(&self.waiting, instance),
+            redundant: has_start(&self.redundant, instance),
+        };
+        remove(&mut self.waiting, instance);
+        remove(&mut self.redundant, instance);
+        gave
+    }
+
+    /// Lends the redundant starts, the oldest first.
+    pub fn redundant(&self) -> &[Ask]
+        ensures { result.now ≡ self.now.redundant }
+    {
+        self.redundant.as_slice()
+    }
+
+    /// Moves the redundant starts, in their order, to the end of those that wait, and answers how
+    /// many. Without memory for them nothing changes.
+    pub fn take_over(&mut self) -> Result<u64, NoMemory>
+        ensures moved { IfOk result (λ moved. moved ≡ length self.old.redundant) }
+        ensures after { OnOk result (self.new ≡ after_take_over self.old) }
+        ensures err { OnErr result (self.new ≡ self.old) }
+    {
+        let moved = self.redundant.len() as u64;
+        self.waiting.extend_from_slice(&self.redundant)?;
+        self.redundant.clear();
+        Ok(moved)
+    }
+
+    /// The oldest start that waits for the disk; `None` exactly where none waits for it.
+    pub fn next(&self, disk: DiskNo) -> Option<Ask>
+        ensures { result ≡ oldest_for self.now.waiting disk }
+    {
+        oldest_for(&self.waiting, disk)
+    }
+}
+
+fn has_start(asks: &[Ask], instance: Instance) -> bool
+    ensures { result ≡ has_start asks.now instance }
+{
+    asks.iter().any(|ask| ask.instance.0 == instance.0)
+}
+
+fn oldest_for(asks: &[Ask], disk: DiskNo) -> Option<Ask>
+    ensures { result ≡ oldest_for asks.now disk }
+{
+    asks.iter().find(|ask| ask.disk.0 == disk.0).copied()
+}
+
+fn remove(asks: &mut Vec<Ask>, instance: Instance)
+    ensures { asks.new.items ≡ without asks.old.items instance }
+{
+    asks.retain(|ask| ask.instance.0 != instance.0);
+}

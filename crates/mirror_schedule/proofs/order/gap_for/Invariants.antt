@@ -1,0 +1,10 @@
+use Rattle.std.proofs.Common.{◌≡◌, drop}
+use Rattle.mirror_schedule.specs.Pieces.{comes_before}
+use Rattle.mirror_schedule.specs.Sorted.{gap_from}
+use Rattle.mirror_schedule.proofs.order.gap_for.Given as goal
+
+abbrev pub invariant-loop-y : goal.invariant-loop-y
+invariant-loop-y l = record {
+  count : l.place ≡ l.y-index;
+  rest : gap_from (comes_before l.plan.params) l.x 0 l.items ≡ gap_from (comes_before l.plan.params) l.x l.y-index (drop l.y-index l.items);
+}

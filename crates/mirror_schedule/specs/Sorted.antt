@@ -1,0 +1,36 @@
+-- Lists in an order, each element once.
+use Rattle.std.specs.Prelude.{◌≡◌, ℕ, ◌+◌, ◌||◌, ◌&&◌, ◌==◌, nat_lt, Bool, true, false, List, [], ◌∷◌, Option, Some, None, if◌then◌else◌}
+use Rattle.std.specs.List.{AllByRecursion}
+
+-- whether numbers are less than others: the first that differ decide
+abbrev pub is_less : List ℕ → List ℕ → Bool
+is_less [] ys = false
+is_less (x ∷ xs) [] = false
+is_less (x ∷ xs) (y ∷ ys) = nat_lt x y || (x == y && is_less xs ys)
+
+-- whether numbers are the same
+abbrev pub are_same : List ℕ → List ℕ → Bool
+are_same [] [] = true
+are_same [] (y ∷ ys) = false
+are_same (x ∷ xs) [] = false
+are_same (x ∷ xs) (y ∷ ys) = x == y && are_same xs ys
+
+-- each element comes before those behind it
+abbrev pub IsSorted : {X : Type 0} → (X → X → Bool) → List X → Type 0
+IsSorted before [] = Unit {0}
+IsSorted before (x ∷ xs) = AllByRecursion (λ y. before x y ≡ true) xs × IsSorted before xs
+
+-- the list with an element at its place in the order; one that is there stays as it is
+abbrev pub with_one : {X : Type 0} → (X → X → Bool) → X → List X → List X
+with_one before x [] = x ∷ []
+with_one before x (y ∷ ys) = if before x y then x ∷ y ∷ ys else (if before y x then y ∷ with_one before x ys else y ∷ ys)
+
+-- the place of a new element in a list whose first place has a number; none where it is there
+abbrev pub gap_from : {X : Type 0} → (X → X → Bool) → X → ℕ → List X → Option ℕ
+gap_from before x place [] = Some place
+gap_from before x place (y ∷ ys) = if before x y then Some place else (if before y x then gap_from before x (place + 1) ys else None)
+
+-- the list without the first element that passes a test
+abbrev pub without_first : {X : Type 0} → (X → Bool) → List X → List X
+without_first test [] = []
+without_first test (x ∷ xs) = if test x then xs else x ∷ without_first test xs

@@ -1,0 +1,6 @@
+pub mod Calls
+pub mod Laws
+pub mod Order
+pub mod Places
+pub mod Retained
+pub mod Walks

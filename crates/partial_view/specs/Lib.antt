@@ -1,0 +1,5 @@
+pub mod Adding
+pub mod Lines
+pub mod Takes
+pub mod Views
+pub mod Walks
