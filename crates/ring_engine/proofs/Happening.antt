@@ -12,13 +12,15 @@ use Rattle.node_kit.specs.declared.journal.Entry.{Entry}
 use Rattle.node_kit.specs.declared.outbox.Out.{Out}
 use Rattle.node_kit.specs.Life.{Lifetime, acts, dies, trimmed}
 use Rattle.node_kit.specs.Links.{links_of, link_count, IsInLink}
-use Rattle.node_kit.specs.Steps.{Input, Deed, Acts, entry_of}
+use Rattle.node_kit.specs.Steps.{Input, Deed, Acts, IsAllowed, entry_of}
 use Rattle.node_kit.specs.Steps.Input.{Take, Tick}
 use Rattle.node_kit.proofs.Ring.{ends_counted}
 use Rattle.ring_engine.specs.declared.mail.Flight.{Flight}
 use Rattle.ring_engine.specs.declared.mail.Letter.{Letter}
 use Rattle.ring_engine.specs.Traffic.{Traffic, posted, arrived, flights_at, letters_on, emptied, collected, after_collecting, AreOpen, IsPostable, IsLink}
-use Rattle.ring_engine.specs.Turns.{Past, Scene, scene, turn, after_event, channels_after_event, event, takes, links_of_letters, IsReadyFor, KeepsReady}
+use Rattle.run_facts.specs.Events.{NodeEvent, Past, after, after_all, after_input, kept_outs, AreFair}
+use Rattle.run_facts.specs.Events.NodeEvent.{Does, Dies}
+use Rattle.ring_engine.specs.Turns.{Scene, scene, turn, happens, happen, is_taken, letter_events, end_events, beat_events, links_of_letters, IsReady, IsReadyFor, KeepsReady}
 use Rattle.ring_engine.proofs.Arriving.{length-posted, length-after_collecting, AreOpen-posted, AreOpen-after_collecting}
 use Rattle.ring_engine.proofs.Delivering.{postable-allowed}
 
@@ -48,8 +50,8 @@ pub taken : {M S : Type 0} (note : M → Note) (step : S → Input M → Deed M 
     → kept ≡ (trimmed life stamp false after).outs → j1 ≡ j ++ (record { stamp = stamp; what = Got link noted }) ∷ []
     → j2 ≡ j1 ++ map (entry_of note stamp) kept → ts' ≡ posted stamp.beat kept ts
     → ◌≡◌ {A = Scene M S} (record { past = record { state = s'; life = life'; journal = j2 }; channels = ts' })
-    (event note step (Take stamp link msg) (record { past = record { state = s; life = life; journal = j }; channels = ts }))
-unfolding after_event channels_after_event
+    (happens note step (Does (Take stamp link msg)) (record { past = record { state = s; life = life; journal = j }; channels = ts }))
+unfolding after_input kept_outs
 taken note step stands stamp link msg s s' before after kept life life' noted j j1 j2 ts ts' says acted none lived trim got wrote sent =
     let whole : after ≡ (step s (Take stamp link msg)).outs = acted.appended ∙ ap (λ os. os ++ (step s (Take stamp link msg)).outs) none in
     let entries : j2 ≡ j ++ (record { stamp = stamp; what = Got link (note msg) }) ∷ map (entry_of note stamp) kept =
@@ -62,29 +64,88 @@ pub ticked : {M S : Type 0} (note : M → Note) (step : S → Input M → Deed M
     → Acts note step stands (Tick stamp) s s' before after → before ≡ [] → life' ≡ (trimmed life stamp true after).life
     → kept ≡ (trimmed life stamp true after).outs → j2 ≡ j ++ map (entry_of note stamp) kept → ts' ≡ posted stamp.beat kept ts
     → ◌≡◌ {A = Scene M S} (record { past = record { state = s'; life = life'; journal = j2 }; channels = ts' })
-    (event note step (Tick stamp) (record { past = record { state = s; life = life; journal = j }; channels = ts }))
-unfolding after_event channels_after_event
+    (happens note step (Does (Tick stamp)) (record { past = record { state = s; life = life; journal = j }; channels = ts }))
+unfolding after_input kept_outs
 ticked note step stands stamp s s' before after kept life life' j j2 ts ts' acted none lived trim wrote sent =
     let whole : after ≡ (step s (Tick stamp)).outs = acted.appended ∙ ap (λ os. os ++ (step s (Tick stamp)).outs) none in
     rw (acted.moved, lived, wrote, sent) (rw trim (rw whole refl))
+
+-- trimming leaves what may be put out
+fair-event : {M S : Type 0} (step : S → Input M → Deed M S) (P : Out M → Type 0) (i : Input M) (past : Past S) → AllByRecursion P (step past.state i).outs
+    → AllByRecursion P (kept_outs step i past)
+unfolding kept_outs trimmed
+fair-event step P i past h = h
 
 -- an event keeps what is ready
 pub ready-event : {M S : Type 0} (note : M → Note) (step : S → Input M → Deed M S) (stands : S → Params → ℕ → Type 0) (i : Input M) (s s' : S)
     (before after kept : List (Out M)) (life life' : Lifetime) (j j' : List Entry) (beat : ℕ) (ts ts' : List (Traffic M))
     → Acts note step stands i s s' before after → ts' ≡ posted beat kept ts
-    → KeepsReady stands beat (record { past = record { state = s; life = life; journal = j }; channels = ts })
+    → KeepsReady note step stands beat (Does i ∷ []) (record { past = record { state = s; life = life; journal = j }; channels = ts })
     (record { past = record { state = s'; life = life'; journal = j' }; channels = ts' })
-ready-event note step stands i s s' before after kept life life' j j' beat ts ts' acted sent p n r = record {
-  stands_here = acted.stays p n r.stands_here;
-  count = r.count ∙ sym (ap length sent ∙ length-posted beat kept ts);
-  unsent = subst (AreOpen beat) (sym sent) (AreOpen-posted beat kept ts r.unsent);
-}
+ready-event note step stands i s s' before after kept life life' j j' beat ts ts' acted sent p n r = (
+  record {
+    stands_here = acted.stays p n r.stands_here;
+    count = r.count ∙ sym (ap length sent ∙ length-posted beat kept ts);
+    unsent = subst (AreOpen beat) (sym sent) (AreOpen-posted beat kept ts r.unsent);
+  },
+  (fair-event step (IsAllowed note p n) i (record { state = s; life = life; journal = j }) (acted.allowed p n r.stands_here), tt),
+)
+
+-- the event that a letter brings, or none
+pub heard : {M S : Type 0} (note : M → Note) (step : S → Input M → Deed M S) (stamp : Stamp) (l : Letter M) (old new : Scene M S) → is_taken old.past.life l.sent stamp.beat ≡ true
+    → new ≡ happens note step (Does (Take stamp l.link l.msg)) old → new ≡ happen note step (letter_events note step stamp (l ∷ []) old.past) old
+heard note step stamp l old new yes_taken took = rw yes_taken took
+
+pub unheard : {M S : Type 0} (note : M → Note) (step : S → Input M → Deed M S) (stamp : Stamp) (l : Letter M) (old : Scene M S) → is_taken old.past.life l.sent stamp.beat ≡ false
+    → old ≡ happen note step (letter_events note step stamp (l ∷ []) old.past) old
+unheard note step stamp l old lost = rw lost refl
+
+pub heard-keeps : {M S : Type 0} (note : M → Note) (step : S → Input M → Deed M S) (stands : S → Params → ℕ → Type 0) (stamp : Stamp) (l : Letter M) (old new : Scene M S)
+    → is_taken old.past.life l.sent stamp.beat ≡ true → KeepsReady note step stands stamp.beat (Does (Take stamp l.link l.msg) ∷ []) old new
+    → KeepsReady note step stands stamp.beat (letter_events note step stamp (l ∷ []) old.past) old new
+heard-keeps note step stands stamp l old new yes_taken keeps = rw yes_taken keeps
+
+pub unheard-keeps : {M S : Type 0} (note : M → Note) (step : S → Input M → Deed M S) (stands : S → Params → ℕ → Type 0) (stamp : Stamp) (l : Letter M) (old : Scene M S)
+    → is_taken old.past.life l.sent stamp.beat ≡ false → KeepsReady note step stands stamp.beat (letter_events note step stamp (l ∷ []) old.past) old old
+unheard-keeps note step stands stamp l old lost = rw lost (λ p n r. (r, tt))
 
 -- one letter further
+happen-on : {M S : Type 0} (note : M → Note) (step : S → Input M → Deed M S) (stamp : Stamp) (e : NodeEvent M) (rest : List (Letter M)) (old new : Scene M S) (b : Bool)
+    → new ≡ happen note step (cond b (e ∷ []) []) old
+    → happen note step (letter_events note step stamp rest new.past) new
+    ≡ happen note step (cond b (e ∷ letter_events note step stamp rest (after note step e old.past)) (letter_events note step stamp rest old.past)) old
+happen-on note step stamp e rest old new true took = ap (λ q. happen note step (letter_events note step stamp rest q.past) q) took
+happen-on note step stamp e rest old new false took = ap (λ q. happen note step (letter_events note step stamp rest q.past) q) took
+
 pub takes-on : {M S : Type 0} (note : M → Note) (step : S → Input M → Deed M S) (stamp : Stamp) (l : Letter M) (rest todo : List (Letter M)) (old new whole : Scene M S)
-    → todo ≡ l ∷ rest → new ≡ event note step (Take stamp l.link l.msg) old → takes note step stamp todo old ≡ whole → takes note step stamp rest new ≡ whole
+    → todo ≡ l ∷ rest → new ≡ happen note step (letter_events note step stamp (l ∷ []) old.past) old
+    → happen note step (letter_events note step stamp todo old.past) old ≡ whole → happen note step (letter_events note step stamp rest new.past) new ≡ whole
 takes-on note step stamp l rest todo old new whole next took inv =
-    ap (takes note step stamp rest) took ∙ sym (ap (λ ls. takes note step stamp ls old) next) ∙ inv
+    happen-on note step stamp (Does (Take stamp l.link l.msg)) rest old new (is_taken old.past.life l.sent stamp.beat) took
+    ∙ sym (ap (λ ls. happen note step (letter_events note step stamp ls old.past) old) next) ∙ inv
+
+keeps-on : {M S : Type 0} (note : M → Note) (step : S → Input M → Deed M S) (stands : S → Params → ℕ → Type 0) (stamp : Stamp) (e : NodeEvent M) (rest : List (Letter M))
+    (old new last : Scene M S) (b : Bool) → new ≡ happen note step (cond b (e ∷ []) []) old
+    → KeepsReady note step stands stamp.beat (cond b (e ∷ []) []) old new
+    → KeepsReady note step stands stamp.beat (letter_events note step stamp rest new.past) new last
+    → KeepsReady note step stands stamp.beat (cond b (e ∷ letter_events note step stamp rest (after note step e old.past)) (letter_events note step stamp rest old.past)) old last
+keeps-on {M} {S} note step stands stamp e rest old new last true took keeps more p n r =
+    let first = keeps p n r in
+    let then_more = more p n first.0 in
+    (then_more.0, (first.1.0, subst (λ (q : Scene M S). AreFair note step p n (letter_events note step stamp rest q.past) q.past) took then_more.1))
+keeps-on {M} {S} note step stands stamp e rest old new last false took keeps more p n r =
+    let first = keeps p n r in
+    let then_more = more p n first.0 in
+    (then_more.0, subst (λ (q : Scene M S). AreFair note step p n (letter_events note step stamp rest q.past) q.past) took then_more.1)
+
+pub keeps-letter : {M S : Type 0} (note : M → Note) (step : S → Input M → Deed M S) (stands : S → Params → ℕ → Type 0) (stamp : Stamp) (l : Letter M) (rest todo : List (Letter M))
+    (old new last : Scene M S) → todo ≡ l ∷ rest → new ≡ happen note step (letter_events note step stamp (l ∷ []) old.past) old
+    → KeepsReady note step stands stamp.beat (letter_events note step stamp (l ∷ []) old.past) old new
+    → KeepsReady note step stands stamp.beat (letter_events note step stamp rest new.past) new last
+    → KeepsReady note step stands stamp.beat (letter_events note step stamp todo old.past) old last
+keeps-letter note step stands stamp l rest todo old new last next took keeps more =
+    subst (λ ls. KeepsReady note step stands stamp.beat (letter_events note step stamp ls old.past) old last) (sym next)
+    (keeps-on note step stands stamp (Does (Take stamp l.link l.msg)) rest old new last (is_taken old.past.life l.sent stamp.beat) took keeps more)
 
 pub ready-first : {M S : Type 0} (stands : S → Params → ℕ → Type 0) (beat : ℕ) (l : Letter M) (rest todo : List (Letter M)) (s : Scene M S) → todo ≡ l ∷ rest
     → IsReadyFor stands beat (links_of_letters todo) s → IsReadyFor stands beat (l.link ∷ []) s
@@ -95,12 +156,12 @@ ready-first stands beat l rest todo s next r = record {
   lead = ((subst (λ ls. AllByRecursion (λ k. IsInLink r.params r.number k.0) (links_of_letters ls)) next r.lead).0, tt);
 }
 
-pub ready-rest : {M S : Type 0} (stands : S → Params → ℕ → Type 0) (beat : ℕ) (l : Letter M) (rest todo : List (Letter M)) (old new : Scene M S) → todo ≡ l ∷ rest
-    → KeepsReady stands beat old new → IsReadyFor stands beat (links_of_letters todo) old → IsReadyFor stands beat (links_of_letters rest) new
-ready-rest stands beat l rest todo old new next keeps r = record {
+pub ready-rest : {M S : Type 0} (note : M → Note) (step : S → Input M → Deed M S) (stands : S → Params → ℕ → Type 0) (beat : ℕ) (es : List (NodeEvent M)) (l : Letter M) (rest todo : List (Letter M)) (old new : Scene M S) → todo ≡ l ∷ rest
+    → KeepsReady note step stands beat es old new → IsReadyFor stands beat (links_of_letters todo) old → IsReadyFor stands beat (links_of_letters rest) new
+ready-rest note step stands beat es l rest todo old new next keeps r = record {
   params = r.params;
   number = r.number;
-  ready = keeps r.params r.number r.ready;
+  ready = (keeps r.params r.number r.ready).0;
   lead = (subst (λ ls. AllByRecursion (λ k. IsInLink r.params r.number k.0) (links_of_letters ls)) next r.lead).1;
 }
 
@@ -116,7 +177,7 @@ all-arrived : {M : Type 0} (P : LinkNo → Type 0) (link : LinkNo) (beat : ℕ) 
     → AllByRecursion P (links_of_letters more) → AllByRecursion P (links_of_letters (arrived link beat fs ++ more))
 all-arrived P link beat [] more h m = m
 all-arrived {M} P link beat (f ∷ fs) more h m =
-    elim (nat_le f.arrival beat) as (λ b. AllByRecursion P (links_of_letters {M = M} (cond b ((record { link = link; msg = f.msg }) ∷ arrived link beat fs) [] ++ more)))
+    elim (nat_le f.arrival beat) as (λ b. AllByRecursion P (links_of_letters {M = M} (cond b ((record { link = link; sent = f.sent; msg = f.msg }) ∷ arrived link beat fs) [] ++ more)))
     [ true ↦ (h, all-arrived P link beat fs more h m) | false ↦ m ]
 
 pub all-collected : {M : Type 0} (P : LinkNo → Type 0) (beat : ℕ) (ls : List LinkNo) (ts : List (Traffic M)) → AllByRecursion P ls
@@ -128,35 +189,13 @@ all-collected P beat (l ∷ ls) ts h =
 
 -- collecting keeps what is ready
 pub ready-collected : {M S : Type 0} (stands : S → Params → ℕ → Type 0) (beat : ℕ) (links : List LinkNo) (past : Past S) (ts ts' : List (Traffic M))
-    → ts' ≡ after_collecting beat links ts → KeepsReady stands beat (record { past = past; channels = ts }) (record { past = past; channels = ts' })
+    → ts' ≡ after_collecting beat links ts → (p : Params) (n : ℕ) → IsReady stands p n beat (record { past = past; channels = ts })
+    → IsReady stands p n beat (record { past = past; channels = ts' })
 ready-collected stands beat links past ts ts' left p n r = record {
   stands_here = r.stands_here;
   count = r.count ∙ sym (ap length left ∙ length-after_collecting beat links ts);
   unsent = subst (AreOpen beat) (sym left) (AreOpen-after_collecting beat links ts r.unsent);
 }
-
--- a node's turn where it acts, where it dies, and where it is dead
-pub turned-acting : {M S : Type 0} (note : M → Note) (step : S → Input M → Deed M S) (stamp : Stamp) (links : List LinkNo) (past : Past S) (ts ts' : List (Traffic M))
-    (letters : List (Letter M)) (mid new : Scene M S) → acts past.life stamp.beat ≡ true → letters ≡ collected stamp.beat links ts
-    → ts' ≡ after_collecting stamp.beat links ts → mid ≡ takes note step stamp letters (record { past = past; channels = ts' })
-    → new ≡ event note step (Tick stamp) mid → new ≡ turn note step stamp links (record { past = past; channels = ts })
-unfolding turn
-turned-acting note step stamp links past ts ts' letters mid new live found left took ticks =
-    rw live (ticks ∙ ap (event note step (Tick stamp)) (took ∙ ap (λ ls. takes note step stamp ls (record { past = past; channels = ts' })) found
-    ∙ ap (λ q. takes note step stamp (collected stamp.beat links ts) (record { past = past; channels = q })) left))
-
-pub turned-dying : {M S : Type 0} (note : M → Note) (step : S → Input M → Deed M S) (stamp : Stamp) (links : List LinkNo) (past : Past S) (j : List Entry) (ts ts' : List (Traffic M))
-    → acts past.life stamp.beat ≡ false → dies past.life stamp.beat ≡ true → ts' ≡ after_collecting stamp.beat links ts
-    → j ≡ past.journal ++ (record { stamp = stamp; what = Died }) ∷ []
-    → ◌≡◌ {A = Scene M S} (scene past.state past.life j ts') (turn note step stamp links (record { past = past; channels = ts }))
-unfolding turn
-turned-dying note step stamp links past j ts ts' idle dead left wrote = rw (idle, dead) (rw (wrote, left) refl)
-
-pub turned-idle : {M S : Type 0} (note : M → Note) (step : S → Input M → Deed M S) (stamp : Stamp) (links : List LinkNo) (past : Past S) (ts ts' : List (Traffic M))
-    → acts past.life stamp.beat ≡ false → dies past.life stamp.beat ≡ false → ts' ≡ after_collecting stamp.beat links ts
-    → ◌≡◌ {A = Scene M S} (record { past = past; channels = ts' }) (turn note step stamp links (record { past = past; channels = ts }))
-unfolding turn
-turned-idle note step stamp links past ts ts' idle undead left = rw (idle, undead) (rw left refl)
 
 -- collected letters are ready for their node
 pub ready-letters : {M S : Type 0} (stands : S → Params → ℕ → Type 0) (beat : ℕ) (links : List LinkNo) (past : Past S) (ts ts' : List (Traffic M)) (letters : List (Letter M))
@@ -170,14 +209,106 @@ ready-letters stands beat links past ts ts' letters found left r = record {
       (all-collected (λ k. IsInLink r.params r.number k.0) beat links ts r.lead);
 }
 
-pub ready-kept : {M S : Type 0} (stands : S → Params → ℕ → Type 0) (beat : ℕ) (links : List LinkNo) (old new : Scene M S) → KeepsReady stands beat old new
-    → IsReadyFor stands beat links old → IsReadyFor stands beat [] new
-ready-kept stands beat links old new keeps r =
-    record { params = r.params; number = r.number; ready = keeps r.params r.number r.ready; lead = tt }
+pub ready-kept : {M S : Type 0} (note : M → Note) (step : S → Input M → Deed M S) (stands : S → Params → ℕ → Type 0) (beat : ℕ) (es : List (NodeEvent M)) (links : List LinkNo) (old new : Scene M S)
+    → KeepsReady note step stands beat es old new → IsReadyFor stands beat links old → IsReadyFor stands beat [] new
+ready-kept note step stands beat es links old new keeps r =
+    record { params = r.params; number = r.number; ready = (keeps r.params r.number r.ready).0; lead = tt }
 
--- what only writes keeps what is ready
-pub ready-written : {M S : Type 0} (stands : S → Params → ℕ → Type 0) (beat : ℕ) (links : List LinkNo) (past : Past S) (j : List Entry) (ts ts' : List (Traffic M))
-    → ts' ≡ after_collecting beat links ts → KeepsReady stands beat (record { past = past; channels = ts }) (scene past.state past.life j ts')
-ready-written stands beat links past j ts ts' left p n r =
-    let kept = ready-collected stands beat links past ts ts' left p n r in
-    record { stands_here = kept.stands_here; count = kept.count; unsent = kept.unsent }
+-- the end of a beat where the node acts, where it dies, and where it is dead
+pub end-acting : {M : Type 0} (stamp : Stamp) (life : Lifetime) → acts life stamp.beat ≡ true → end_events {M = M} stamp life ≡ Does (Tick stamp) ∷ []
+unfolding end_events
+end-acting stamp life live = rw live refl
+
+pub end-dying : {M : Type 0} (stamp : Stamp) (life : Lifetime) → acts life stamp.beat ≡ false → dies life stamp.beat ≡ true → end_events {M = M} stamp life ≡ Dies stamp ∷ []
+unfolding end_events
+end-dying stamp life idle dead = rw (idle, dead) refl
+
+pub end-idle : {M : Type 0} (stamp : Stamp) (life : Lifetime) → acts life stamp.beat ≡ false → dies life stamp.beat ≡ false → end_events {M = M} stamp life ≡ []
+unfolding end_events
+end-idle stamp life idle undead = rw (idle, undead) refl
+
+-- the end of a beat, where its events are known
+pub ended : {M S : Type 0} (note : M → Note) (step : S → Input M → Deed M S) (es known : List (NodeEvent M)) (old new : Scene M S) → es ≡ known → new ≡ happen note step known old
+    → new ≡ happen note step es old
+ended note step es known old new is happened = happened ∙ ap (λ q. happen note step q old) (sym is)
+
+pub ended-keeps : {M S : Type 0} (note : M → Note) (step : S → Input M → Deed M S) (stands : S → Params → ℕ → Type 0) (beat : ℕ) (es known : List (NodeEvent M)) (old new : Scene M S)
+    → es ≡ known → KeepsReady note step stands beat known old new → KeepsReady note step stands beat es old new
+ended-keeps note step stands beat es known old new is keeps = subst (λ q. KeepsReady note step stands beat q old new) (sym is) keeps
+
+-- nothing happens to a node, or it dies: it is as ready as it was
+pub idle-keeps : {M S : Type 0} (note : M → Note) (step : S → Input M → Deed M S) (stands : S → Params → ℕ → Type 0) (beat : ℕ) (old : Scene M S)
+    → KeepsReady note step stands beat [] old old
+idle-keeps note step stands beat old p n r = (r, tt)
+
+pub died-keeps : {M S : Type 0} (note : M → Note) (step : S → Input M → Deed M S) (stands : S → Params → ℕ → Type 0) (stamp : Stamp) (past : Past S) (j : List Entry) (ts : List (Traffic M))
+    → KeepsReady note step stands stamp.beat (Dies stamp ∷ []) (record { past = past; channels = ts }) (scene past.state past.life j ts)
+died-keeps note step stands stamp past j ts p n r =
+    (record { stands_here = r.stands_here; count = r.count; unsent = r.unsent }, (tt, tt))
+
+pub died-is : {M S : Type 0} (note : M → Note) (step : S → Input M → Deed M S) (stamp : Stamp) (past : Past S) (j : List Entry) (ts : List (Traffic M))
+    → j ≡ past.journal ++ (record { stamp = stamp; what = Died }) ∷ []
+    → ◌≡◌ {A = Scene M S} (scene past.state past.life j ts) (happen note step (Dies stamp ∷ []) (record { past = past; channels = ts }))
+died-is note step stamp past j ts wrote = rw wrote refl
+
+pub none-left : {A : Type 0} (xs : List A) → length xs ≡ 0 → xs ≡ []
+none-left [] e = refl
+none-left (x ∷ xs) e = absurd (omega (arith, e))
+
+pub none-keeps : {M S : Type 0} (note : M → Note) (step : S → Input M → Deed M S) (stands : S → Params → ℕ → Type 0) (stamp : Stamp) (ls : List (Letter M)) (old : Scene M S)
+    → ls ≡ [] → KeepsReady note step stands stamp.beat (letter_events note step stamp ls old.past) old old
+none-keeps note step stands stamp ls old none =
+    subst (λ q. KeepsReady note step stands stamp.beat (letter_events note step stamp q old.past) old old) (sym none) (idle-keeps note step stands stamp.beat old)
+
+-- events that follow others
+happen-append : {M S : Type 0} (note : M → Note) (step : S → Input M → Deed M S) (es fs : List (NodeEvent M)) (s : Scene M S)
+    → happen note step (es ++ fs) s ≡ happen note step fs (happen note step es s)
+happen-append note step [] fs s = refl
+happen-append note step (e ∷ es) fs s = happen-append note step es fs (happens note step e s)
+
+happen-past : {M S : Type 0} (note : M → Note) (step : S → Input M → Deed M S) (es : List (NodeEvent M)) (s : Scene M S)
+    → (happen note step es s).past ≡ after_all note step es s.past
+happen-past note step [] s = refl
+happen-past note step (e ∷ es) s = happen-past note step es (happens note step e s)
+
+fair-append : {M S : Type 0} (note : M → Note) (step : S → Input M → Deed M S) (p : Params) (n : ℕ) (es fs : List (NodeEvent M)) (past : Past S)
+    → AreFair note step p n es past → AreFair note step p n fs (after_all note step es past) → AreFair note step p n (es ++ fs) past
+fair-append note step p n [] fs past h g = g
+fair-append note step p n (e ∷ es) fs past h g = (h.0, fair-append note step p n es fs (after note step e past) h.1 g)
+
+-- a whole turn
+pub turned : {M S : Type 0} (note : M → Note) (step : S → Input M → Deed M S) (stamp : Stamp) (links : List LinkNo) (past : Past S) (ts ts' : List (Traffic M))
+    (letters : List (Letter M)) (mid new : Scene M S) → letters ≡ collected stamp.beat links ts → ts' ≡ after_collecting stamp.beat links ts
+    → mid ≡ happen note step (letter_events note step stamp letters past) (record { past = past; channels = ts' })
+    → new ≡ happen note step (end_events stamp mid.past.life) mid → new ≡ turn note step stamp links (record { past = past; channels = ts })
+unfolding turn beat_events
+turned {M} {S} note step stamp links past ts ts' letters mid new found left took ends =
+    let s : Scene M S = record { past = past; channels = ts' } in
+    let all = letter_events note step stamp letters past in
+    let same : mid.past ≡ after_all note step all past = ap (λ (q : Scene M S). q.past) took ∙ happen-past note step all s in
+    ends
+    ∙ ap (λ (q : Scene M S). happen note step (end_events stamp mid.past.life) q) took
+    ∙ ap (λ (q : Past S). happen note step (end_events stamp q.life) (happen note step all s)) same
+    ∙ sym (happen-append note step all (end_events stamp (after_all note step all past).life) s)
+    ∙ ap (λ ls. happen note step (beat_events note step stamp ls past) s) found
+    ∙ ap (λ q. happen note step (beat_events note step stamp (collected stamp.beat links ts) past) (record { past = past; channels = q })) left
+
+pub turned-keeps : {M S : Type 0} (note : M → Note) (step : S → Input M → Deed M S) (stands : S → Params → ℕ → Type 0) (stamp : Stamp) (links : List LinkNo) (past : Past S) (ts ts' : List (Traffic M))
+    (letters : List (Letter M)) (mid new : Scene M S) → letters ≡ collected stamp.beat links ts → ts' ≡ after_collecting stamp.beat links ts
+    → mid ≡ happen note step (letter_events note step stamp letters past) (record { past = past; channels = ts' })
+    → KeepsReady note step stands stamp.beat (letter_events note step stamp letters past) (record { past = past; channels = ts' }) mid
+    → KeepsReady note step stands stamp.beat (end_events stamp mid.past.life) mid new
+    → KeepsReady note step stands stamp.beat (beat_events note step stamp (collected stamp.beat links ts) past) (record { past = past; channels = ts }) new
+unfolding beat_events
+turned-keeps {M} {S} note step stands stamp links past ts ts' letters mid new found left took keeps ends p n r =
+    let s : Scene M S = record { past = past; channels = ts' } in
+    let all = letter_events note step stamp letters past in
+    let same : mid.past ≡ after_all note step all past = ap (λ (q : Scene M S). q.past) took ∙ happen-past note step all s in
+    let first = keeps p n (ready-collected stands stamp.beat links past ts ts' left p n r) in
+    let second = ends p n first.0 in
+    let tail : AreFair note step p n (end_events stamp (after_all note step all past).life) (after_all note step all past) =
+    subst (λ (q : Past S). AreFair note step p n (end_events stamp q.life) q) same second.1 in (
+      second.0,
+      subst (λ ls. AreFair note step p n (beat_events note step stamp ls past) past) found
+          (fair-append note step p n all (end_events stamp (after_all note step all past).life) past first.1 tail),
+    )

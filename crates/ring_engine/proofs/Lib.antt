@@ -1,5 +1,9 @@
+pub mod Accounts
 pub mod Arriving
 pub mod Below
+pub mod Channels
 pub mod Delivering
 pub mod Happening
+pub mod Progressing
 pub mod Running
+pub mod Wholes

@@ -1,6 +1,6 @@
 -- A run: from event to event, and from beat to beat.
-use Rattle.std.proofs.Common.{add-one, ◌≡◌, ◌≢◌, ℕ, zero, suc, ◌+◌, ◌<◌, ◌≤◌, Bool, true, false, List, [], ◌∷◌, ◌++◌, length, Some, refl, ap, sym, ◌∙◌, subst, arith, ⊎_elim, length-append}
-use Rattle.std.specs.Prelude.{slice_get, slice_set, if◌then◌else◌}
+use Rattle.std.proofs.Common.{add-one, ◌≡◌, ◌≢◌, ℕ, zero, suc, ◌+◌, ◌<◌, ◌≤◌, List, [], ◌∷◌, ◌++◌, length, Some, refl, ap, sym, ◌∙◌, subst, arith, ⊎_elim, length-append}
+use Rattle.std.specs.Prelude.{slice_get, slice_set}
 use Rattle.std.specs.List.{AllByRecursion}
 use Rattle.std.proofs.lemmas.Option.{none-some}
 use Rattle.std.proofs.lemmas.Bool.{cases_eq}
@@ -10,19 +10,19 @@ use Rattle.tiger_base.specs.declared.message.Note.{Note}
 use Rattle.slot_plan.specs.declared.params.Params.{Params}
 use Rattle.node_kit.specs.declared.course.Course.{Course}
 use Rattle.node_kit.specs.declared.journal.Entry.{Entry}
-use Rattle.node_kit.specs.Life.{Lifetime, lifetime_of, acts, dies}
+use Rattle.node_kit.specs.Life.{Lifetime, lifetime_of}
 use Rattle.node_kit.specs.Links.{links_of, link_count, IsInLink}
 use Rattle.node_kit.specs.Steps.{Input, Deed}
-use Rattle.node_kit.specs.Steps.Input.{Take, Tick}
 use Rattle.ring_engine.specs.declared.mail.Letter.{Letter}
 use Rattle.ring_engine.specs.Traffic.{Traffic, collected, after_collecting, AreOpen}
-use Rattle.ring_engine.specs.Turns.{Past, Scene, scene, after_event, event, after_takes, takes, after_beat, turn, IsReady, IsReadyFor, KeepsReady}
-use Rattle.ring_engine.specs.Runs.{stamp_in, opening, after_beats, HasRun, HasEnded}
+use Rattle.run_facts.specs.Events.{NodeEvent, Past, after_all, AreFair}
+use Rattle.ring_engine.specs.Turns.{Scene, scene, happens, happen, beat_events, turn, IsReady, IsReadyFor, KeepsReady}
+use Rattle.ring_engine.specs.Runs.{stamp_in, opening_of, after_beat, after_beats, HasRun, HasEnded}
 use Rattle.ring_engine.specs.Places.{each_below, new_channel, in_links_of, AllStand, Ring, IsSound, IsAt, HasLived, AllHaveLived, AreInLinks}
-use Rattle.ring_engine.specs.Whole.{opening_ring, with_node, HaveTurns, HavePassed, IsWholeRun}
+use Rattle.ring_engine.specs.Whole.{opening_ring, with_node, brought_to, HaveTurns, HavePassed, IsWholeRun}
 use Rattle.ring_engine.proofs.Below.{length-each_below, get-each_below, get-below, links_into-lead}
 
-get-set_same : {A : Type 0} (xs : List A) (n : ℕ) (x y : A) → slice_get xs n ≡ Some y → slice_get (slice_set xs n x) n ≡ Some x
+pub get-set_same : {A : Type 0} (xs : List A) (n : ℕ) (x y : A) → slice_get xs n ≡ Some y → slice_get (slice_set xs n x) n ≡ Some x
 get-set_same [] n x y e = absurd (none-some y e)
 get-set_same (z ∷ zs) zero x y e = refl
 get-set_same (z ∷ zs) (suc n) x y e = get-set_same zs n x y e
@@ -34,34 +34,26 @@ get-set_other (z ∷ zs) zero (suc k) x ne = refl
 get-set_other (z ∷ zs) (suc n) zero x ne = refl
 get-set_other (z ∷ zs) (suc n) (suc k) x ne = get-set_other zs n k x (λ e. ne (ap suc e))
 
-length-set_at : {A : Type 0} (xs : List A) (n : ℕ) (x : A) → length (slice_set xs n x) ≡ length xs
+pub length-set_at : {A : Type 0} (xs : List A) (n : ℕ) (x : A) → length (slice_set xs n x) ≡ length xs
 length-set_at [] n x = refl
 length-set_at (z ∷ zs) zero x = refl
 length-set_at (z ∷ zs) (suc n) x = ap suc (length-set_at zs n x)
 
-same-element : {A : Type 0} (xs : List A) (k : ℕ) (x y : A) → slice_get xs k ≡ Some x → slice_get xs k ≡ Some y → x ≡ y
+pub same-element : {A : Type 0} (xs : List A) (k : ℕ) (x y : A) → slice_get xs k ≡ Some x → slice_get xs k ≡ Some y → x ≡ y
 same-element xs k x y hx hy = let e : Some x ≡ Some y = sym hx ∙ hy in cc
 
 -- what a turn makes of the node alone
-takes-past : {M S : Type 0} (note : M → Note) (step : S → Input M → Deed M S) (stamp : Stamp) (ls : List (Letter M)) (s : Scene M S)
-    → (takes note step stamp ls s).past ≡ after_takes note step stamp ls s.past
-takes-past note step stamp [] s = refl
-takes-past note step stamp (l ∷ ls) s = takes-past note step stamp ls (event note step (Take stamp l.link l.msg) s)
+happen-past : {M S : Type 0} (note : M → Note) (step : S → Input M → Deed M S) (es : List (NodeEvent M)) (s : Scene M S)
+    → (happen note step es s).past ≡ after_all note step es s.past
+happen-past note step [] s = refl
+happen-past note step (e ∷ es) s = happen-past note step es (happens note step e s)
 
-past-of_cases : {M S : Type 0} (a b : Bool) (x y z : Scene M S) (x' y' z' : Past S) → x.past ≡ x' → y.past ≡ y' → z.past ≡ z'
-    → (if a then x else if b then y else z).past ≡ (if a then x' else if b then y' else z')
-past-of_cases true b x y z x' y' z' hx hy hz = hx
-past-of_cases false true x y z x' y' z' hx hy hz = hy
-past-of_cases false false x y z x' y' z' hx hy hz = hz
-
-turn-past : {M S : Type 0} (note : M → Note) (step : S → Input M → Deed M S) (stamp : Stamp) (links : List LinkNo) (s : Scene M S)
+pub turn-past : {M S : Type 0} (note : M → Note) (step : S → Input M → Deed M S) (stamp : Stamp) (links : List LinkNo) (s : Scene M S)
     → (turn note step stamp links s).past ≡ after_beat note step stamp (collected stamp.beat links s.channels) s.past
-unfolding turn after_beat
+unfolding turn
 turn-past note step stamp links s =
-    let rest = after_collecting stamp.beat links s.channels in
-    let letters = collected stamp.beat links s.channels in
-    past-of_cases (acts s.past.life stamp.beat) (dies s.past.life stamp.beat) _ _ _ _ _ _
-    (ap (after_event note step (Tick stamp)) (takes-past note step stamp letters (record { past = s.past; channels = rest }))) refl refl
+    happen-past note step (beat_events note step stamp (collected stamp.beat links s.channels) s.past)
+    (record { past = s.past; channels = after_collecting stamp.beat links s.channels })
 
 -- after the turns of the nodes below n: the others are as they were
 pub record Midway {M S : Type 0} (note : M → Note) (step : S → Input M → Deed M S) (stands : S → Params → ℕ → Type 0) (c : Course) (count beat n : ℕ)
@@ -70,7 +62,7 @@ pub record Midway {M S : Type 0} (note : M → Note) (step : S → Input M → D
   pub ahead : (k : ℕ) (past : Past S) → n ≤ k → IsAt old k past → IsAt now k past
   pub behind : (k : ℕ) (past : Past S) → k < n → IsAt old k past → HasLived note step c beat k past now
 
-elsewhere : {M S : Type 0} (r : Ring M S) (n k : ℕ) (s : S) (life : Lifetime) (j : List Entry) (ts : List (Traffic M)) (past : Past S) → k ≢ n
+pub elsewhere : {M S : Type 0} (r : Ring M S) (n k : ℕ) (s : S) (life : Lifetime) (j : List Entry) (ts : List (Traffic M)) (past : Past S) → k ≢ n
     → IsAt r k past → IsAt (with_node r n s life j ts) k past
 elsewhere r n k s life j ts past ne h = record {
   state = get-set_other r.nodes n k s ne ∙ h.state;
@@ -131,17 +123,17 @@ lived-here {M} {S} note step c beat n now stamp links s s' life life' j j' ts' p
 
 -- one node further
 pub midway-on : {M S : Type 0} (note : M → Note) (step : S → Input M → Deed M S) (stands : S → Params → ℕ → Type 0) (c : Course) (count beat n : ℕ) (old now : Ring M S)
-    (stamp : Stamp) (links : List LinkNo) (s s' : S) (life life' : Lifetime) (j j' : List Entry) (ts' : List (Traffic M))
+    (stamp : Stamp) (links : List LinkNo) (es : List (NodeEvent M)) (s s' : S) (life life' : Lifetime) (j j' : List Entry) (ts' : List (Traffic M))
     → stamp ≡ stamp_in c n beat → slice_get now.nodes n ≡ Some s → slice_get now.lives n ≡ Some life → slice_get now.journals n ≡ Some j
     → ◌≡◌ {A = Scene M S} (scene s' life' j' ts') (turn note step stamp links (scene s life j now.channels))
-    → KeepsReady {M = M} {S = S} stands stamp.beat (scene s life j now.channels) (scene s' life' j' ts')
+    → KeepsReady note step stands stamp.beat es (scene s life j now.channels) (scene s' life' j' ts')
     → Midway note step stands c count beat n old now → Midway note step stands c count beat (n + 1) old (with_node now n s' life' j' ts')
-midway-on {M} {S} note step stands c count beat n old now stamp links s s' life life' j j' ts' dated hs hl hj turned keeps m =
+midway-on {M} {S} note step stands c count beat n old now stamp links es s s' life life' j j' ts' dated hs hl hj turned keeps m =
     let was : IsReady {M = M} {S = S} stands c.plan.params n beat (scene s life j now.channels) =
     record { stands_here = m.sound.stand n s hs; count = m.sound.channels; unsent = m.sound.unsent } in
-    let keeps_here : KeepsReady {M = M} {S = S} stands beat (scene s life j now.channels) (scene s' life' j' ts') =
-    subst (λ (q : Stamp). KeepsReady {M = M} {S = S} stands q.beat (scene s life j now.channels) (scene s' life' j' ts')) dated keeps in
-    let is = keeps_here c.plan.params n was in
+    let keeps_here : KeepsReady note step stands beat es (scene s life j now.channels) (scene s' life' j' ts') =
+    subst (λ (q : Stamp). KeepsReady note step stands q.beat es (scene s life j now.channels) (scene s' life' j' ts')) dated keeps in
+    let is = (keeps_here c.plan.params n was).0 in
     record {
       sound = record {
         stand = stand-on stands c.plan.params n now.nodes s s' hs m.sound.stand is.stands_here;
@@ -175,9 +167,9 @@ run-more note step c n beats first past l h = record {
   letters = h.letters ++ l ∷ [];
   each_beat = length-append h.letters (l ∷ []) ∙ ap (λ k. k + 1) h.each_beat;
   here = ap (after_beat note step (stamp_in c n beats) l) h.here
-      ∙ sym (after_beats-push note step c n 0 h.letters l (opening c n first)
+      ∙ sym (after_beats-push note step c n 0 h.letters l (opening_of c n first)
       ∙ (let e : 0 + length h.letters ≡ beats = let g = h.each_beat in omega (arith, g) in
-      ap (λ b. after_beat note step (stamp_in c n b) l (after_beats note step c n 0 h.letters (opening c n first))) e));
+      ap (λ b. after_beat note step (stamp_in c n b) l (after_beats note step c n 0 h.letters (opening_of c n first))) e));
 }
 
 -- node n has come from its opening to where it is
@@ -203,7 +195,7 @@ pub come-open : {M S : Type 0} (note : M → Note) (step : S → Input M → Dee
 come-open note step c count given lives journals channels len living written n first e =
     let below : n < count = let h = get-below given n first e in omega (arith, h, len) in
     record {
-      past = opening c n first;
+      past = opening_of c n first;
       run = record { letters = []; each_beat = refl; here = refl };
       here = record {
         state = e;
@@ -255,14 +247,33 @@ ended-at {M} note step c beat given r journals last same come n first e =
     subst (λ js. HasEnded {M = M} note step c n first r.nodes js) (sym same)
     (all-ended note step c given r (subst (λ b. AllHaveCome note step c b given r) last come) n first e)
 
+-- what a node puts out in its turn is what it may
+pub fair-turn : {M S : Type 0} (note : M → Note) (step : S → Input M → Deed M S) (stands : S → Params → ℕ → Type 0) (c : Course) (count beat n : ℕ) (now : Ring M S) (stamp : Stamp)
+    (links : List LinkNo) (s s' : S) (life life' : Lifetime) (j j' : List Entry) (ts' : List (Traffic M)) → stamp ≡ stamp_in c n beat → links ≡ in_links_of (links_of c.plan.params) n
+    → slice_get now.nodes n ≡ Some s → IsSound stands c.plan.params count beat now
+    → KeepsReady note step stands stamp.beat (beat_events note step stamp (collected stamp.beat links now.channels) (record { state = s; life = life; journal = j }))
+    (scene s life j now.channels) (scene s' life' j' ts')
+    → AreFair note step c.plan.params n (beat_events note step (stamp_in c n beat) (brought_to c beat n now) (record { state = s; life = life; journal = j })) (record { state = s; life = life; journal = j })
+fair-turn {M} {S} note step stands c count beat n now stamp links s s' life life' j j' ts' dated row hs sound keeps =
+    let was : IsReady {M = M} {S = S} stands c.plan.params n beat (scene s life j now.channels) =
+    record { stands_here = sound.stand n s hs; count = sound.channels; unsent = sound.unsent } in
+    let past : Past S = record { state = s; life = life; journal = j } in
+    let keeps_here : KeepsReady note step stands beat (beat_events note step (stamp_in c n beat) (brought_to c beat n now) past) (scene s life j now.channels) (scene s' life' j' ts') =
+    subst (λ (ls : List LinkNo). KeepsReady note step stands beat (beat_events note step (stamp_in c n beat) (collected beat ls now.channels) past) (scene s life j now.channels) (scene s' life' j' ts')) row
+    (subst (λ (q : Stamp). KeepsReady note step stands q.beat (beat_events note step q (collected q.beat links now.channels) past) (scene s life j now.channels) (scene s' life' j' ts')) dated keeps) in
+    (keeps_here c.plan.params n was).1
+
 -- one turn more, and one beat more
-pub turns-on : {M S : Type 0} (note : M → Note) (step : S → Input M → Deed M S) (c : Course) (count beat n : ℕ) (old now : Ring M S) (stamp : Stamp)
+pub turns-on : {M S : Type 0} (note : M → Note) (step : S → Input M → Deed M S) (stands : S → Params → ℕ → Type 0) (c : Course) (count beat n : ℕ) (old now : Ring M S) (stamp : Stamp)
     (rows : List (List LinkNo)) (links : List LinkNo) (s s' : S) (life life' : Lifetime) (j j' : List Entry) (ts' : List (Traffic M))
     → stamp ≡ stamp_in c n beat → n < count → AreInLinks c.plan.params count rows → slice_get rows n ≡ Some links
     → slice_get now.nodes n ≡ Some s → slice_get now.lives n ≡ Some life → slice_get now.journals n ≡ Some j
     → ◌≡◌ {A = Scene M S} (scene s' life' j' ts') (turn note step stamp links (scene s life j now.channels))
+    → IsSound stands c.plan.params count beat now
+    → KeepsReady note step stands stamp.beat (beat_events note step stamp (collected stamp.beat links now.channels) (record { state = s; life = life; journal = j }))
+    (scene s life j now.channels) (scene s' life' j' ts')
     → HaveTurns note step c beat n old now → HaveTurns note step c beat (n + 1) old (with_node now n s' life' j' ts')
-turns-on {M} {S} note step c count beat n old now stamp rows links s s' life life' j j' ts' dated below all here_links hs hl hj turned turns =
+turns-on {M} {S} note step stands c count beat n old now stamp rows links s s' life life' j j' ts' dated below all here_links hs hl hj turned sound keeps turns =
     let p = c.plan.params in
     let row : links ≡ in_links_of (links_of p) n = same-element rows n links (in_links_of (links_of p) n) here_links
     (ap (λ q. slice_get q n) all ∙ get-each_below (in_links_of (links_of p)) count n below) in
@@ -272,6 +283,7 @@ turns-on {M} {S} note step c count beat n old now stamp rows links s s' life lif
       record {
         past = record { state = s; life = life; journal = j };
         here = record { state = hs; life = hl; journal = hj };
+        fair = fair-turn note step stands c count beat n now stamp links s s' life life' j j' ts' dated row hs sound keeps;
         scene = scene s' life' j' ts';
         turned = turned ∙ ap (λ q. turn note step q links (scene s life j now.channels)) dated
             ∙ ap (λ q. turn note step (stamp_in c n beat) q (scene s life j now.channels)) row;

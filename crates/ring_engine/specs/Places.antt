@@ -11,8 +11,8 @@ use Rattle.node_kit.specs.Links.{Links, ends_of, links_of, link_count}
 use Rattle.node_kit.specs.Steps.{Input, Deed}
 use Rattle.ring_engine.specs.declared.mail.Letter.{Letter}
 use Rattle.ring_engine.specs.Traffic.{Traffic, AreOpen}
-use Rattle.ring_engine.specs.Turns.{Past, after_beat}
-use Rattle.ring_engine.specs.Runs.{stamp_in}
+use Rattle.run_facts.specs.Events.{Past}
+use Rattle.ring_engine.specs.Runs.{stamp_in, after_beat}
 
 -- one of each number below n
 abbrev pub each_below : {A : Type 0} → (ℕ → A) → ℕ → List A

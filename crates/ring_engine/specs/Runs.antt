@@ -8,15 +8,21 @@ use Rattle.node_kit.specs.Courses.{reading_of}
 use Rattle.node_kit.specs.Life.{lifetime_of}
 use Rattle.node_kit.specs.Steps.{Input, Deed}
 use Rattle.ring_engine.specs.declared.mail.Letter.{Letter}
-use Rattle.ring_engine.specs.Turns.{Past, after_beat}
+use Rattle.run_facts.specs.Events.{Past, opening, after_all}
+use Rattle.ring_engine.specs.Turns.{beat_events}
 
 -- the stamp of node n's events in a beat
 abbrev pub stamp_in : Course → ℕ → ℕ → Stamp
 stamp_in c n beat = record { beat = beat; reading = reading_of c n beat }
 
+-- a node after a beat in which these letters are brought to it: it takes those that it hears and ticks where it
+-- acts, and where it dies it writes that it does
+abbrev pub after_beat : {M S : Type 0} → (M → Note) → (S → Input M → Deed M S) → Stamp → List (Letter M) → Past S → Past S
+after_beat note step stamp letters past = after_all note step (beat_events note step stamp letters past) past
+
 -- node n before the first beat
-abbrev pub opening : {S : Type 0} → Course → ℕ → S → Past S
-opening c n first = record { state = first; life = lifetime_of c n; journal = [] }
+abbrev pub opening_of : {S : Type 0} → Course → ℕ → S → Past S
+opening_of c n first = opening first (lifetime_of c n)
 
 -- node n after beats from a first one on, in each of which it is brought these letters
 abbrev pub after_beats : {M S : Type 0} → (M → Note) → (S → Input M → Deed M S) → Course → ℕ → ℕ → List (List (Letter M)) → Past S → Past S
@@ -28,7 +34,7 @@ after_beats note step c n beat (letters ∷ rest) past =
 pub record HasRun {M S : Type 0} (note : M → Note) (step : S → Input M → Deed M S) (c : Course) (n beats : ℕ) (first : S) (past : Past S) : Type 0 where
   pub letters : List (List (Letter M))
   pub each_beat : length letters ≡ beats
-  pub here : past ≡ after_beats note step c n 0 letters (opening c n first)
+  pub here : past ≡ after_beats note step c n 0 letters (opening_of c n first)
 
 -- node n is given back with its journal after its run
 pub record HasEnded {M S : Type 0} (note : M → Note) (step : S → Input M → Deed M S) (c : Course) (n : ℕ) (first : S)

@@ -16,13 +16,13 @@ pub record Traffic (M : Type 0) : Type 0 where
 abbrev pub after_sending : {M : Type 0} → ℕ → M → Traffic M → Traffic M
 after_sending beat msg t = record {
   clock = after_send t.clock beat;
-  flights = t.flights ++ (record { arrival = arrival_at t.clock beat; msg = msg }) ∷ [];
+  flights = t.flights ++ (record { sent = beat; arrival = arrival_at t.clock beat; msg = msg }) ∷ [];
 }
 
 -- the first message, where it has arrived by a beat, and what is then left
-abbrev pub first_arrived : {M : Type 0} → ℕ → List (Flight M) → Option M
+abbrev pub first_arrived : {M : Type 0} → ℕ → List (Flight M) → Option (Flight M)
 first_arrived beat [] = None
-first_arrived beat (f ∷ fs) = if nat_le f.arrival beat then Some f.msg else None
+first_arrived beat (f ∷ fs) = if nat_le f.arrival beat then Some f else None
 
 abbrev pub flights_after_arrival : {M : Type 0} → ℕ → List (Flight M) → List (Flight M)
 flights_after_arrival beat [] = []
@@ -35,7 +35,7 @@ after_arrival beat t = record { clock = t.clock; flights = flights_after_arrival
 abbrev pub arrived : {M : Type 0} → LinkNo → ℕ → List (Flight M) → List (Letter M)
 arrived link beat [] = []
 arrived link beat (f ∷ fs) =
-    if nat_le f.arrival beat then (record { link = link; msg = f.msg }) ∷ arrived link beat fs else []
+    if nat_le f.arrival beat then (record { link = link; sent = f.sent; msg = f.msg }) ∷ arrived link beat fs else []
 
 abbrev pub under_way : {M : Type 0} → ℕ → List (Flight M) → List (Flight M)
 under_way beat [] = []

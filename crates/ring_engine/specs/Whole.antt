@@ -6,8 +6,10 @@ use Rattle.node_kit.specs.declared.journal.Entry.{Entry}
 use Rattle.node_kit.specs.Life.{Lifetime, lifetime_of}
 use Rattle.node_kit.specs.Links.{links_of, link_count}
 use Rattle.node_kit.specs.Steps.{Input, Deed}
-use Rattle.ring_engine.specs.Traffic.{Traffic}
-use Rattle.ring_engine.specs.Turns.{Past, Scene, turn}
+use Rattle.ring_engine.specs.declared.mail.Letter.{Letter}
+use Rattle.ring_engine.specs.Traffic.{Traffic, collected}
+use Rattle.run_facts.specs.Events.{Past, AreFair}
+use Rattle.ring_engine.specs.Turns.{Scene, beat_events, turn}
 use Rattle.ring_engine.specs.Runs.{stamp_in}
 use Rattle.ring_engine.specs.Places.{each_below, new_channel, in_links_of, Ring, IsAt}
 
@@ -29,10 +31,16 @@ with_node r n state life journal channels = record {
   channels = channels;
 }
 
--- node n has its turn in a beat: it changes as its turn says, and so do the links, and all else stays
+-- what is brought to node n in a beat
+abbrev pub brought_to : {M S : Type 0} → Course → ℕ → ℕ → Ring M S → List (Letter M)
+brought_to c beat n r = collected beat (in_links_of (links_of c.plan.params) n) r.channels
+
+-- node n has its turn in a beat: it changes as its turn says, and so do the links, it puts out only what it may, and
+-- all else stays
 pub record HasTurn {M S : Type 0} (note : M → Note) (step : S → Input M → Deed M S) (c : Course) (beat n : ℕ) (old new : Ring M S) : Type 0 where
   pub past : Past S
   pub here : IsAt old n past
+  pub fair : AreFair note step c.plan.params n (beat_events note step (stamp_in c n beat) (brought_to c beat n old) past) past
   pub scene : Scene M S
   pub turned : scene ≡ turn note step (stamp_in c n beat) (in_links_of (links_of c.plan.params) n) (record { past = past; channels = old.channels })
   pub after : new ≡ with_node old n scene.past.state scene.past.life scene.past.journal scene.channels

@@ -1,8 +1,9 @@
 //! The events of a node in a run: it takes messages, it ticks, it dies.
-ghost use Rattle.std.specs.Prelude.{◌≡◌, ◌≤◌, ◌∷◌, [], ◌++◌, OnOk};
-ghost use Rattle.std.specs.List.{AllByRecursion};
+ghost use Rattle.std.specs.Prelude.{◌≡◌, ◌≤◌, ◌∷◌, [], OnOk};
 ghost use Rattle.node_kit.specs.Steps.Input.{Take, Tick};
-ghost use Rattle.ring_engine.specs.Turns.{scene, IsReadyFor, KeepsReady, event, takes, turn, links_of_letters};
+ghost use Rattle.run_facts.specs.Events.NodeEvent.{Does};
+ghost use Rattle.ring_engine.specs.Traffic.{collected};
+ghost use Rattle.ring_engine.specs.Turns.{scene, IsReadyFor, KeepsReady, happens, happen, letter_events, end_events, beat_events, turn, links_of_letters};
 
 use crate::delivery::deliver;
 use crate::gathering::gather;
@@ -13,8 +14,8 @@ use std::collections::VecDeque;
 use tiger_base::{LinkNo, Message, NoMemory, Stamp};
 
 /// A node's beat: it takes what has arrived on its in-links, by link number and then in the link's
-/// order, and then ticks. Where it does not act, what has arrived is lost; where it dies, that is
-/// written.
+/// order, and then ticks. What it does not hear is lost, and where it does not act all of it is;
+/// where it dies, that is written.
 pub fn live<M: Message, T: Node<M>>(
     alloc: Global,
     stamp: Stamp,
@@ -31,22 +32,15 @@ pub fn live<M: Message, T: Node<M>>(
     ensures turn { OnOk result ((scene node.new life.new journal.new channels.new.items)
         ≡ turn M.note_of T.step stamp links.now
         (scene node.old life.old journal.old channels.old.items)) }
-    ensures keeps { OnOk result (KeepsReady T.stands_at stamp.beat
+    ensures keeps { OnOk result (KeepsReady M.note_of T.step T.stands_at stamp.beat
+        (beat_events M.note_of T.step stamp (collected stamp.beat links.now channels.old.items)
+        (record { state = node.old; life = life.old; journal = journal.old }))
         (scene node.old life.old journal.old channels.old.items)
         (scene node.new life.new journal.new channels.new.items)) }
 {
     let letters = gather(alloc, stamp.beat, links, channels)?;
-    if life.acts(stamp.beat) {
-        take_all(alloc, stamp, letters, node, life, journal, channels)?;
-        return tick(alloc, stamp, node, life, journal, channels);
-    }
-    if life.dies(stamp.beat) {
-        return journal.write(Entry {
-            stamp,
-            what: What::Died,
-        });
-    }
-    Ok(())
+    take_all(alloc, stamp, letters, node, life, journal, channels)?;
+    end_beat(alloc, stamp, node, life, journal, channels)
 }
 
 fn take_all<M: Message, T: Node<M>>(
@@ -63,14 +57,46 @@ fn take_all<M: Message, T: Node<M>>(
     requires ready { IsReadyFor T.stands_at stamp.beat (links_of_letters letters.items)
         (scene node.old life.old journal.old channels.old.items) }
     ensures takes { OnOk result ((scene node.new life.new journal.new channels.new.items)
-        ≡ takes M.note_of T.step stamp letters.items
+        ≡ happen M.note_of T.step
+        (letter_events M.note_of T.step stamp letters.items (record { state = node.old; life = life.old; journal = journal.old }))
         (scene node.old life.old journal.old channels.old.items)) }
-    ensures keeps { OnOk result (KeepsReady T.stands_at stamp.beat
+    ensures keeps { OnOk result (KeepsReady M.note_of T.step T.stands_at stamp.beat
+        (letter_events M.note_of T.step stamp letters.items (record { state = node.old; life = life.old; journal = journal.old }))
         (scene node.old life.old journal.old channels.old.items)
         (scene node.new life.new journal.new channels.new.items)) }
 {
     while let Some(letter) = letters.pop_front() {
-        take_one(alloc, stamp, letter, node, life, journal, channels)?;
+        take_heard(alloc, stamp, letter, node, life, journal, channels)?;
+    }
+    Ok(())
+}
+
+/// Takes a letter where the node acts and hears it; else it is lost.
+fn take_heard<M: Message, T: Node<M>>(
+    alloc: Global,
+    stamp: Stamp,
+    letter: Letter<M>,
+    node: &mut T,
+    life: &mut Life,
+    journal: &mut Journal,
+    channels: &mut Vec<Channel<M>>,
+) -> Result<(), NoMemory>
+    requires early { stamp.beat ≤ 100000 }
+    requires reading { stamp.reading ≤ 1000000000000 }
+    requires ready { IsReadyFor T.stands_at stamp.beat (letter.link ∷ [])
+        (scene node.old life.old journal.old channels.old.items) }
+    ensures takes { OnOk result ((scene node.new life.new journal.new channels.new.items)
+        ≡ happen M.note_of T.step
+        (letter_events M.note_of T.step stamp (letter ∷ []) (record { state = node.old; life = life.old; journal = journal.old }))
+        (scene node.old life.old journal.old channels.old.items)) }
+    ensures keeps { OnOk result (KeepsReady M.note_of T.step T.stands_at stamp.beat
+        (letter_events M.note_of T.step stamp (letter ∷ []) (record { state = node.old; life = life.old; journal = journal.old }))
+        (scene node.old life.old journal.old channels.old.items)
+        (scene node.new life.new journal.new channels.new.items)) }
+{
+    let taken = life.acts(stamp.beat) && life.hears(letter.sent, stamp.beat);
+    if taken {
+        return take_one(alloc, stamp, letter, node, life, journal, channels);
     }
     Ok(())
 }
@@ -89,13 +115,14 @@ fn take_one<M: Message, T: Node<M>>(
     requires ready { IsReadyFor T.stands_at stamp.beat (letter.link ∷ [])
         (scene node.old life.old journal.old channels.old.items) }
     ensures event { OnOk result ((scene node.new life.new journal.new channels.new.items)
-        ≡ event M.note_of T.step (Take stamp letter.link letter.msg)
+        ≡ happens M.note_of T.step (Does (Take stamp letter.link letter.msg))
         (scene node.old life.old journal.old channels.old.items)) }
-    ensures keeps { OnOk result (KeepsReady T.stands_at stamp.beat
+    ensures keeps { OnOk result (KeepsReady M.note_of T.step T.stands_at stamp.beat
+        (Does (Take stamp letter.link letter.msg) ∷ [])
         (scene node.old life.old journal.old channels.old.items)
         (scene node.new life.new journal.new channels.new.items)) }
 {
-    let Letter { link, msg } = letter;
+    let Letter { link, msg, .. } = letter;
     let note = msg.note();
     let mut outputs = Outbox::new(alloc);
     node.take(stamp, link, msg, &mut outputs)?;
@@ -105,6 +132,38 @@ fn take_one<M: Message, T: Node<M>>(
         what: What::Got(link, note),
     })?;
     deliver(stamp, &mut outputs, journal, channels)
+}
+
+/// The end of a node's beat: it ticks where it acts, and where it dies it writes that it does.
+fn end_beat<M: Message, T: Node<M>>(
+    alloc: Global,
+    stamp: Stamp,
+    node: &mut T,
+    life: &mut Life,
+    journal: &mut Journal,
+    channels: &mut Vec<Channel<M>>,
+) -> Result<(), NoMemory>
+    requires early { stamp.beat ≤ 100000 }
+    requires reading { stamp.reading ≤ 1000000000000 }
+    requires ready { IsReadyFor T.stands_at stamp.beat []
+        (scene node.old life.old journal.old channels.old.items) }
+    ensures ends { OnOk result ((scene node.new life.new journal.new channels.new.items)
+        ≡ happen M.note_of T.step (end_events stamp life.old)
+        (scene node.old life.old journal.old channels.old.items)) }
+    ensures keeps { OnOk result (KeepsReady M.note_of T.step T.stands_at stamp.beat (end_events stamp life.old)
+        (scene node.old life.old journal.old channels.old.items)
+        (scene node.new life.new journal.new channels.new.items)) }
+{
+    if life.acts(stamp.beat) {
+        return tick(alloc, stamp, node, life, journal, channels);
+    }
+    if life.dies(stamp.beat) {
+        return journal.write(Entry {
+            stamp,
+            what: What::Died,
+        });
+    }
+    Ok(())
 }
 
 fn tick<M: Message, T: Node<M>>(
@@ -120,9 +179,9 @@ fn tick<M: Message, T: Node<M>>(
     requires ready { IsReadyFor T.stands_at stamp.beat []
         (scene node.old life.old journal.old channels.old.items) }
     ensures event { OnOk result ((scene node.new life.new journal.new channels.new.items)
-        ≡ event M.note_of T.step (Tick stamp)
+        ≡ happens M.note_of T.step (Does (Tick stamp))
         (scene node.old life.old journal.old channels.old.items)) }
-    ensures keeps { OnOk result (KeepsReady T.stands_at stamp.beat
+    ensures keeps { OnOk result (KeepsReady M.note_of T.step T.stands_at stamp.beat (Does (Tick stamp) ∷ [])
         (scene node.old life.old journal.old channels.old.items)
         (scene node.new life.new journal.new channels.new.items)) }
 {

@@ -8,17 +8,19 @@ use std::collections::VecDeque;
 use std::marker::Model;
 use tiger_base::{Beat, LinkNo, NoMemory};
 
-/// A message under way, and the beat in which it arrives.
+/// A message under way, and the beats in which it was sent and arrives.
 #[derive(Drop)]
 pub struct Flight<M> {
+    pub sent: Beat,
     pub arrival: Beat,
     pub msg: M,
 }
 
-/// A message that arrived, and the link on which it came.
+/// A message that arrived, the link on which it came, and the beat in which it was sent.
 #[derive(Drop)]
 pub struct Letter<M> {
     pub link: LinkNo,
+    pub sent: Beat,
     pub msg: M,
 }
 
@@ -54,8 +56,8 @@ impl<M> Channel<M> {
     }
 
     /// Takes out the first message, where it has arrived by a beat.
-    pub fn next_arrived(&mut self, beat: Beat) -> Option<M>
-        ensures message { result ≡ first_arrived beat self.old.flights }
+    pub fn next_arrived(&mut self, beat: Beat) -> Option<Flight<M>>
+        ensures flight { result ≡ first_arrived beat self.old.flights }
         ensures rest { self.new ≡ after_arrival beat self.old }
     {
         let arrived = match self.flights.front() {
@@ -65,10 +67,7 @@ impl<M> Channel<M> {
         if !arrived {
             return None;
         }
-        match self.flights.pop_front() {
-            Some(Flight { msg, .. }) => Some(msg),
-            None => None,
-        }
+        self.flights.pop_front()
     }
 }
 
@@ -85,8 +84,9 @@ impl<M: Drop> Channel<M> {
         ensures letters { OnOk result (letters.new.items ≡ letters.old.items ++ arrived link beat self.old.flights) }
         ensures rest { OnOk result (self.new ≡ after_arrivals beat self.old) }
     {
-        while let Some(msg) = self.next_arrived(beat) {
-            letters.push_back(Letter { link, msg })?;
+        while let Some(flight) = self.next_arrived(beat) {
+            let Flight { sent, msg, .. } = flight;
+            letters.push_back(Letter { link, sent, msg })?;
         }
         Ok(())
     }
@@ -98,7 +98,11 @@ impl<M: Drop> Channel<M> {
         ensures { OnOk result (self.new ≡ after_sending beat msg self.old) }
     {
         let arrival = self.clock.arrival(beat);
-        self.flights.push_back(Flight { arrival, msg })?;
+        self.flights.push_back(Flight {
+            sent: beat,
+            arrival,
+            msg,
+        })?;
         Ok(())
     }
 }

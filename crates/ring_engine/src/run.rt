@@ -2,6 +2,11 @@
 ghost use Rattle.std.specs.Prelude.{◌≡◌, ◌+◌, ◌<◌, ◌≤◌, length, IfOk, OnOk, vec_len};
 ghost use Rattle.node_kit.specs.Courses.{IsCourse};
 ghost use Rattle.node_kit.specs.Links.{links_of, viewers_of};
+ghost use Rattle.node_kit.specs.Life.{lifetime_of};
+ghost use Rattle.run_facts.specs.Carried.{AreCarried};
+ghost use Rattle.run_facts.specs.Histories.{HaveHistory};
+ghost use Rattle.run_facts.specs.Paced.{ArePaced};
+ghost use Rattle.run_facts.specs.Timed.{AreTimed};
 ghost use Rattle.ring_engine.specs.Runs.{EachHasEnded};
 ghost use Rattle.ring_engine.specs.Whole.{IsWholeRun, HaveTurns};
 ghost use Rattle.ring_engine.specs.Places.{AllStand, AreInLinks, IsSound, AllHaveLived};
@@ -37,6 +42,10 @@ pub fn run_plain<M: Message, T: Node<M>>(
     ensures journals { IfOk result (λ r. length r.journals ≡ vec_len nodes) }
     ensures nodes { IfOk result (λ r. vec_len r.nodes ≡ vec_len nodes) }
     ensures runs { IfOk result (λ r. EachHasEnded M.note_of T.step course.now nodes.items r.nodes.items r.journals) }
+    ensures history { IfOk result (λ r. HaveHistory M.note_of T.step course.now.plan.params (lifetime_of course.now) course.now.beats nodes.items r.nodes.items r.journals) }
+    ensures carried { IfOk result (λ r. AreCarried course.now.plan.params course.now.beats (lifetime_of course.now) r.journals) }
+    ensures paced { IfOk result (λ r. ArePaced course.now r.journals) }
+    ensures timed { IfOk result (λ r. AreTimed course.now.plan.params course.now.beats (lifetime_of course.now) r.journals) }
     ensures whole { IfOk result (λ r. IsWholeRun M.note_of T.step course.now nodes.items r.nodes.items r.journals) }
 {
     let in_links = all_in_links(alloc, links)?;

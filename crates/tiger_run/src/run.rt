@@ -1,14 +1,16 @@
 //! One run: from a scenario and its library to what is kept.
-ghost use Rattle.std.specs.Prelude.{◌≡◌, ◌≤◌, length, All, IfOk};
+ghost use Rattle.std.specs.Prelude.{◌≡◌, ◌≤◌, [], ◌∷◌, length, All, IfOk};
+ghost use Rattle.controller_core.specs.Orders.{AreOrders};
+ghost use Rattle.disk_image.specs.Image.{HasLengths};
 ghost use Rattle.node_kit.specs.Courses.{IsCourse};
 ghost use Rattle.tiger_run.specs.Meaning.{IsScenario};
 ghost use Rattle.tiger_run.specs.Runs.{IsCatalogueOf, order_of, AreJournals, IsRunOf};
 
 use crate::scenario::{ScEvent, Scenario};
-use first_nodes::{AnyNode, make_nodes};
 use first_report::digests_of;
 use node_kit::{Course, Gate, Journal, Kept, LinkTable, Order, OrderKind};
 use ring_engine::run_plain;
+use ring_nodes::{AnyNode, make_images, make_nodes};
 use slot_plan::Plan;
 use std::alloc::Global;
 use stripe_layout::{Catalogue, FileInfo};
@@ -66,13 +68,26 @@ fn journals_of<G: Gate>(
     order: Order,
     gate: &G,
 ) -> Result<Sequence<Journal>, NoMemory>
-    requires { IsCourse course.now }
-    ensures { IfOk result (AreJournals G course.now catalogue.now library.now order) }
+    requires course { IsCourse course.now }
+    requires lengths { HasLengths library.now catalogue.now }
+    requires orders { AreOrders course.now.plan.params (order ∷ []) }
+    ensures { IfOk result (AreJournals G course.now catalogue.now library.now (order ∷ [])) }
 {
-    let nodes = make_nodes(alloc, course, catalogue, library, order, gate)?;
+    let images = make_images(alloc, &course.plan, catalogue, library)?;
+    let orders = only(alloc, order)?;
+    let nodes = make_nodes(alloc, course, images.as_slice(), orders, gate)?;
     let links = LinkTable::new(&course.plan);
     let ran = run_plain::<Msg<'_>, AnyNode<'_, G>>(alloc, nodes, &links, course)?;
     Ok(ran.journals)
+}
+
+/// The one order, as a list.
+fn only(alloc: Global, order: Order) -> Result<Sequence<Order>, NoMemory>
+    ensures { IfOk result (λ orders. orders ≡ order ∷ []) }
+{
+    let mut orders = Vec::new(alloc);
+    orders.push(order)?;
+    Ok(Sequence::new(orders))
 }
 
 /// Runs a scenario over its library, and keeps what the report speaks of.
@@ -100,8 +115,7 @@ pub fn run_first<G: Gate>(
     let catalogue = catalogue_of(alloc, &course.plan, disk, bytes)?;
     let order = order_of(&event, &catalogue, disk);
     let journals = journals_of(alloc, &course, &catalogue, library, order, gate)?;
-    let mut orders = Vec::new(alloc);
-    orders.push(order)?;
+    let orders = only(alloc, order)?;
     let digests = digests_of(
         alloc,
         &course,
@@ -112,7 +126,7 @@ pub fn run_first<G: Gate>(
     Ok(Kept {
         course,
         catalogue,
-        orders: Sequence::new(orders),
+        orders,
         journals,
         digests: Sequence::new(digests),
     })
@@ -122,7 +136,8 @@ pub fn run_first<G: Gate>(
 fn file_of(library: &Library) -> &[u8]
     requires one { length library.now ≡ 1 }
     requires filled { All (λ bytes. 1 ≤ length bytes) library.now }
-    ensures { 1 ≤ length result.now }
+    ensures some { 1 ≤ length result.now }
+    ensures only { library.now ≡ result.now ∷ [] }
 {
     match library.file(FileNo(0)) {
         Some(bytes) => bytes,

@@ -29,8 +29,8 @@ loop-n-preserved g c =
     let life : slice_get c.loop-n.lives.items c.loop-n.n ≡ Some c.index_mut-in-loop-n.result.now = slice_get_read _ (length c.loop-n.lives.items) _ _ refl (omega (arith, sound.lives, low)) c.index_mut-in-loop-n.ensures.value in
     let journal : slice_get c.loop-n.journals.items c.loop-n.n ≡ Some c.index_mut-in-loop-n-2.result.now = slice_get_read _ (length c.loop-n.journals.items) _ _ refl (omega (arith, sound.journals, low)) c.index_mut-in-loop-n-2.ensures.value in
     record {
-      midway = midway-on _ _ _ c.args.course.now _ c.args.beat c.loop-n.n _ _ _ _ _ _ _ _ _ _ _ c.stamp-stamp.ensures.stamp node life journal c.in_ok-live.ensures.turn c.in_ok-live.ensures.keeps c.loop-n.invariant.midway;
-      turns = turns-on _ _ c.args.course.now (vec_len c.args.nodes.now) c.args.beat c.loop-n.n _ _ _ c.args.in_links.now _ _ _ _ _ _ _ _ c.stamp-stamp.ensures.stamp low c.requires.in_links (links ∙ ap Some (sym c.as_slice-links.ensures)) node life journal c.in_ok-live.ensures.turn c.loop-n.invariant.turns;
+      midway = midway-on _ _ _ c.args.course.now _ c.args.beat c.loop-n.n _ _ _ _ _ _ _ _ _ _ _ _ c.stamp-stamp.ensures.stamp node life journal c.in_ok-live.ensures.turn c.in_ok-live.ensures.keeps c.loop-n.invariant.midway;
+      turns = turns-on _ _ _ c.args.course.now (vec_len c.args.nodes.now) c.args.beat c.loop-n.n _ _ _ c.args.in_links.now _ _ _ _ _ _ _ _ c.stamp-stamp.ensures.stamp low c.requires.in_links (links ∙ ap Some (sym c.as_slice-links.ensures)) node life journal c.in_ok-live.ensures.turn sound c.in_ok-live.ensures.keeps c.loop-n.invariant.turns;
       end = c.loop-n.invariant.end;
     }
 

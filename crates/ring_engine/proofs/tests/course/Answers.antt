@@ -20,9 +20,9 @@ unfolding offsets
 returns c =
     let given : c.new.result ≡ offsets = c.new.ensures ∙ c.in_ok-offsets.ensures.items in
     record {
-      beats = omega arith;
+      beats = c.requires.beats;
       offsets = ap length given ∙ (let e = c.plan.ensures.cubs in omega (arith, e));
       skewed = subst (All (λ o. o ≤ c.plan.result.params.skew)) (sym given) (are_skewed c.plan.result.params.skew c.plan.ensures.skew);
       deaths = ap length (c.new-2.ensures ∙ c.in_ok-deaths.ensures.items) ∙ (let e = c.plan.ensures.cubs in omega (arith, e));
-      delay = (omega arith, (let e = c.plan.ensures.delay in omega (arith, e)));
+      delay = (c.requires.low, (let e = c.plan.ensures.delay in let h = c.requires.high in omega (arith, e, h)));
     }

@@ -12,7 +12,7 @@ loop-node-preserved c =
       count = omega (arith, c.in_ok-push.ensures.len, c.loop-node.invariant.count);
       stand = λ n s e. ⊎_elim
           (λ old. c.loop-node.invariant.stand n s old)
-          (λ new. subst (λ t. ForSome t.out (λ k. (to : ℕ) × (ends_of c.args.links.now k.0 ≡ Some (n, to)))) new.1
-          (subst (λ m. ForSome c.toy_at.result.out (λ k. (to : ℕ) × (ends_of c.args.links.now k.0 ≡ Some (m, to)))) (sym (new.0 ∙ sym len ∙ c.loop-node.invariant.count)) c.toy_at.ensures))
+          (λ new. subst (λ t. ForSome t.out (λ k. (to : ℕ) × (ends_of c.args.links.now k.0 ≡ Some (n, to))) × ForSome t.relay (λ k. (to : ℕ) × (ends_of c.args.links.now k.0 ≡ Some (n, to)))) new.1
+          (subst (λ m. ForSome c.toy_at.result.out (λ k. (to : ℕ) × (ends_of c.args.links.now k.0 ≡ Some (m, to))) × ForSome c.toy_at.result.relay (λ k. (to : ℕ) × (ends_of c.args.links.now k.0 ≡ Some (m, to)))) (sym (new.0 ∙ sym len ∙ c.loop-node.invariant.count)) (c.toy_at.ensures.out, c.toy_at.ensures.relay)))
           (get-pushed c.loop-node.toys.items c.toy_at.result s n (ap (λ q. slice_get q n) (sym c.in_ok-push.ensures.items) ∙ e));
     }

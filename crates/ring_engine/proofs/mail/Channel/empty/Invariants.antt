@@ -3,11 +3,11 @@ use Rattle.ring_engine.specs.Traffic.{arrived, after_arrivals}
 use Rattle.ring_engine.proofs.mail.Channel.empty.Given as goal
 
 -- what is taken out and what has arrived besides make all that had arrived
-abbrev pub invariant-loop-msg : goal.invariant-loop-msg
-invariant-loop-msg g l = record {
+abbrev pub invariant-loop-flight : goal.invariant-loop-flight
+invariant-loop-flight g l = record {
   letters : l.letters.items ++ arrived l.link l.beat l.self.flights ≡ l.fn.letters.items ++ arrived l.link l.beat l.fn.self.flights;
   rest : after_arrivals l.beat l.self ≡ after_arrivals l.beat l.fn.self;
 }
 
-abbrev pub decreases-loop-msg : goal.decreases-loop-msg
-decreases-loop-msg g l = length l.self.flights
+abbrev pub decreases-loop-flight : goal.decreases-loop-flight
+decreases-loop-flight g l = length l.self.flights

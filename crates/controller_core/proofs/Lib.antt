@@ -1,0 +1,5 @@
+pub mod InBeat
+pub mod InForm
+pub mod Keeps
+pub mod StartAndStops
+pub mod Told

@@ -1,0 +1,11 @@
+pub mod Carrying
+pub mod Commanding
+pub mod Events
+pub mod Follows
+pub mod Grown
+pub mod Late
+pub mod Noted
+pub mod Starting
+pub mod Taking
+pub mod Witness
+pub mod Wrapped

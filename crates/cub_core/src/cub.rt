@@ -1,0 +1,113 @@
+//! A cub as a node.
+ghost use Rattle.std.specs.Prelude.{◌≡◌, ◌≤◌, ◌<◌, OnOk};
+ghost use Rattle.rule_kit.specs.Deeds.{Did};
+ghost use Rattle.cub_rules.specs.State.{opening_store};
+ghost use Rattle.cub_rules.specs.Messages.{taking};
+ghost use Rattle.cub_rules.specs.Ticks.{ticking};
+ghost use Rattle.cub_rules.specs.Cubs.{on_cub};
+
+use crate::ticking::tick;
+use cub_messages::hear;
+use cub_rules::Store;
+use node_kit::{Node, Outbox};
+use partial_view::View;
+use rule_kit::Site;
+use slot_plan::Plan;
+use std::alloc::Global;
+use std::marker::Model;
+use tiger_base::{CubNo, LinkNo, Micros, Msg, NoMemory, Stamp};
+
+/// A cub of a plan, seen as its plan's numbers, its own number and what it keeps.
+///
+/// Where it runs out of memory it keeps nothing from then on.
+#[derive(Drop)]
+pub struct Cub<'a> {
+    alloc: Global,
+    site: Site,
+    store: Store<'a>,
+}
+
+impl<'a> Model for Cub<'a> {
+    ghost use Rattle.cub_rules.specs.State.{CubState, IsStoreOf};
+
+    ghost Value = { CubState };
+
+    ghost view = { λ c. record { params = c.site.plan.params; cub = c.site.cub.0; store = c.store } };
+
+    ghost invariant = { λ c. IsStoreOf c.site.plan.params c.site.cub.0 c.store };
+}
+
+impl<'a> Cub<'a> {
+    /// A cub that keeps nothing yet, whose predecessor was last heard at a reading. It takes no memory.
+    pub fn new(alloc: Global, plan: &Plan, cub: CubNo, heard: Micros) -> Cub<'a>
+        requires inside { cub.0 < plan.now.params.cubs }
+        requires heard { heard ≤ 1000000000000 }
+        ensures { result ≡ record { params = plan.now.params; cub = cub.0; store = opening_store plan.now.params heard } }
+    {
+        Cub {
+            alloc,
+            site: Site { plan: *plan, cub },
+            store: Store::new(alloc, plan, heard),
+        }
+    }
+
+    /// Its records of visits, to be read.
+    pub fn view(&self) -> &View
+        ensures { result.now ≡ self.now.store.view }
+    {
+        self.store.view.view()
+    }
+
+    /// Takes a message that came on a link.
+    pub fn take_in(
+        &mut self,
+        stamp: Stamp,
+        link: LinkNo,
+        msg: Msg<'a>,
+        out: &mut Outbox<Msg<'a>>,
+    ) -> Result<(), NoMemory>
+        requires { stamp.reading ≤ 1000000000000 }
+        ensures { OnOk result (Did (on_cub self.old (taking self.old.params self.old.cub stamp link msg.entry self.old.store)) out.old out.new self.new) }
+    {
+        let done = hear(&self.site, stamp, link, msg, &mut self.store, out);
+        if done.is_err() {
+            self.store = Store::new(self.alloc, &self.site.plan, stamp.reading);
+        }
+        done
+    }
+
+    /// Ends a beat.
+    pub fn end_beat(&mut self, stamp: Stamp, out: &mut Outbox<Msg<'a>>) -> Result<(), NoMemory>
+        requires { stamp.reading ≤ 1000000000000 }
+        ensures { OnOk result (Did (on_cub self.old (ticking self.old.params self.old.cub stamp self.old.store)) out.old out.new self.new) }
+    {
+        let done = tick(&self.site, stamp, &mut self.store, out);
+        if done.is_err() {
+            self.store = Store::new(self.alloc, &self.site.plan, stamp.reading);
+        }
+        done
+    }
+}
+
+impl<'a> Node<Msg<'a>> for Cub<'a> {
+    ghost use Rattle.cub_rules.specs.State.{IsCub};
+    ghost use Rattle.cub_rules.specs.Cubs.{cub_step};
+
+    ghost step = { cub_step };
+
+    ghost stands_at = { IsCub };
+
+    fn take(
+        &mut self,
+        stamp: Stamp,
+        link: LinkNo,
+        msg: Msg<'a>,
+        out: &mut Outbox<Msg<'a>>,
+    ) -> Result<(), NoMemory> {
+        self.take_in(stamp, link, msg, out)
+    }
+
+    fn tick(&mut self, stamp: Stamp, out: &mut Outbox<Msg<'a>>) -> Result<(), NoMemory> {
+        self.end_beat(stamp, out)
+    }
+}

@@ -1,0 +1,393 @@
+//! Cubs that are fed by hand, in a plan of eight cubs with a disk each: what each event puts out, as a list.
+ghost use Rattle.std.specs.Prelude.{◌≡◌, ◌≤◌, ◌<◌};
+
+use crate::Cub;
+use node_kit::{LinkTable, Node, Out, Outbox, What};
+use rule_kit::Site;
+use slot_plan::{Params, Plan};
+use std::alloc::Global;
+use std::marker::Model;
+use std::process::Abort;
+use std::test::Fail;
+use tiger_base::{
+    Ask, Beat, CubNo, DiskNo, FileNo, Instance, Kind, Library, LinkNo, Message, Micros, Msg,
+    NoMemory, Note, Part, Rec, SlotNo, Span, Stamp, State, Tag, Tenancy, Visit, Want,
+};
+
+fn plan() -> Plan
+    ensures { result.params.cubs ≡ 8 }
+{
+    Plan {
+        params: Params {
+            cubs: 8,
+            disks: 1,
+            slots: 16,
+            play: 1000000,
+            pieces: 2,
+            block: 4,
+            beat: 10000,
+            delay: 2,
+            skew: 4000,
+            window_a: 800000,
+            window_b: 200000,
+            read_lead: 100000,
+            min_lead: 3000000,
+            max_lead: 4000000,
+            batch: 20,
+            heart: 50,
+            deadman: 1000000,
+            hold: 3000000,
+        },
+    }
+}
+
+fn site(number: u32) -> Site
+    requires { number < 8 }
+{
+    Site {
+        plan: plan(),
+        cub: CubNo(number),
+    }
+}
+
+/// The cub of a site.
+#[derive(Drop)]
+struct Fed<'a> {
+    alloc: Global,
+    site: Site,
+    cub: Cub<'a>,
+}
+
+impl<'a> Model for Fed<'a> {
+    ghost use Rattle.cub_rules.specs.State.{CubState, IsCub};
+
+    ghost Value = { CubState };
+
+    ghost view = { λ f. f.cub };
+
+    ghost invariant = { λ f. IsCub f.cub f.site.plan.params f.site.cub.0 };
+}
+
+/// The cub of a number, which heard its predecessor at a reading.
+fn cub_at<'a>(alloc: Global, number: u32, heard: Micros) -> Fed<'a>
+    requires number { number < 8 }
+    requires heard { heard ≤ 1000000000000 }
+{
+    let site = site(number);
+    Fed {
+        alloc,
+        site,
+        cub: Cub::new(alloc, &site.plan, site.cub, heard),
+    }
+}
+
+fn stamp(beat: Beat) -> Stamp
+    requires { beat ≤ 100000 }
+    ensures { result.reading ≤ 1000000000 }
+{
+    Stamp {
+        beat,
+        reading: beat * 10000,
+    }
+}
+
+/// What the journal keeps of each output.
+fn written<'a>(alloc: Global, out: &mut Outbox<Msg<'a>>) -> Result<Vec<What>, NoMemory> {
+    let mut list = Vec::new(alloc);
+    for _ in 0..20 {
+        match out.take_first() {
+            Some(Out::Send(link, msg)) => list.push(What::Sent(link, msg.note()))?,
+            Some(Out::Act(what)) => list.push(what)?,
+            None => return Ok(list),
+        }
+    }
+    Ok(list)
+}
+
+impl<'a> Fed<'a> {
+    /// What it puts out on a message of a link that leads to it; on any other link it fails.
+    fn on(
+        mut self,
+        beat: Beat,
+        link: LinkNo,
+        msg: Msg<'a>,
+    ) -> Result<(Fed<'a>, Vec<What>), NoMemory>
+        requires { beat ≤ 100000 }
+    {
+        let mut out = Outbox::new(self.alloc);
+        let Some((_, to)) = LinkTable::new(&self.site.plan).ends(link) else {
+            return Err(NoMemory);
+        };
+        if to.0 != self.site.cub.0 {
+            return Err(NoMemory);
+        }
+        self.cub.take(stamp(beat), link, msg, &mut out)?;
+        let list = written(self.alloc, &mut out)?;
+        Ok((self, list))
+    }
+
+    /// What it puts out at the end of a beat.
+    fn at_end(mut self, beat: Beat) -> Result<(Fed<'a>, Vec<What>), NoMemory>
+        requires { beat ≤ 100000 }
+    {
+        let mut out = Outbox::new(self.alloc);
+        self.cub.tick(stamp(beat), &mut out)?;
+        let list = written(self.alloc, &mut out)?;
+        Ok((self, list))
+    }
+}
+
+/// A file of 64 blocks, the first of which is on disk 0.
+fn ask() -> Ask {
+    Ask {
+        instance: Instance(0),
+        file: FileNo(0),
+        count: 64,
+        disk: DiskNo(0),
+    }
+}
+
+fn tenancy(last: Visit) -> Tenancy {
+    Tenancy {
+        instance: Instance(0),
+        file: FileNo(0),
+        slot: SlotNo(1),
+        first: 0,
+        last,
+    }
+}
+
+fn state(visit: Visit) -> State {
+    State {
+        tenancy: tenancy(63),
+        visit,
+    }
+}
+
+fn rec(visit: Visit, kind: Kind) -> Rec {
+    Rec {
+        tenancy: tenancy(63),
+        visit,
+        kind,
+    }
+}
+
+/// The deschedule, with the tag of a visit of slot 1.
+fn deschedule(visit: Visit) -> Note {
+    Note::Deschedule {
+        instance: Instance(0),
+        tag: Some(Tag {
+            slot: SlotNo(1),
+            visit,
+        }),
+    }
+}
+
+/// The first cub puts the start that it got, and sends the states of the first two visits on.
+#[test]
+fn a_start_is_put_into_slot_one(rt: HostRuntime) -> Result<(), Fail> {
+    let alloc = rt.alloc();
+    let cub = cub_at(alloc, 0, 0);
+    let start = Msg::Start {
+        ask: ask(),
+        redundant: false,
+    };
+    let (cub, first) = cub.at_end(0)?;
+    assert_eq!(rt;
+        first.as_slice(),
+        [What::Sent(LinkNo(24), Note::Heartbeat)].as_slice()
+    );
+    let (cub, start) = cub.on(1, LinkNo(0), start)?;
+    assert_eq!(rt;
+        start.as_slice(),
+        [What::Queued(Instance(0), DiskNo(0))].as_slice()
+    );
+    let (cub, put) = cub.at_end(1)?;
+    assert_eq!(rt;
+        put.as_slice(),
+        [
+            What::Put(tenancy(63)),
+            What::Took(rec(0, Kind::Own)),
+            What::Sent(LinkNo(24), Note::ViewerState(state(0))),
+            What::Sent(LinkNo(8), Note::Placed(tenancy(63))),
+            What::Sent(LinkNo(24), Note::ViewerState(state(1))),
+            What::Sent(LinkNo(25), Note::ViewerState(state(1))),
+        ]
+        .as_slice()
+    );
+    assert_eq!(rt;
+        cub.cub.view().first_of(Instance(0)),
+        Some(rec(0, Kind::Own))
+    );
+    Ok(())
+}
+
+/// The second cub gets the redundant start, then the deschedule without a tag, and then the first visit's state: it
+/// discards the state, and passes the deschedule on, once.
+#[test]
+fn a_state_behind_its_deschedule_passes_it_on(rt: HostRuntime) -> Result<(), Fail> {
+    let alloc = rt.alloc();
+    let cub = cub_at(alloc, 1, 0);
+    let start = Msg::Start {
+        ask: ask(),
+        redundant: true,
+    };
+    let stop = Msg::Deschedule {
+        instance: Instance(0),
+        tag: None,
+    };
+    let (cub, first) = cub.on(1, LinkNo(1), start)?;
+    assert_eq!(rt; first.len(), 0);
+    let (cub, first) = cub.at_end(1)?;
+    assert_eq!(rt; first.len(), 0);
+    let (cub, second) = cub.on(2, LinkNo(1), stop)?;
+    assert_eq!(rt; second.len(), 0);
+    let (cub, second) = cub.at_end(2)?;
+    assert_eq!(rt; second.len(), 0);
+    let (cub, third) = cub.on(3, LinkNo(24), Msg::ViewerState(state(0)))?;
+    assert_eq!(rt;
+        third.as_slice(),
+        [
+            What::Sent(LinkNo(26), deschedule(2)),
+            What::Sent(LinkNo(27), deschedule(2))
+        ]
+        .as_slice()
+    );
+    let (cub, next) = cub.on(3, LinkNo(24), Msg::ViewerState(state(1)))?;
+    assert_eq!(rt; next.len(), 0);
+    let (cub, third) = cub.at_end(3)?;
+    assert_eq!(rt; third.len(), 0);
+    assert_eq!(rt; cub.cub.view().first_of(Instance(0)), None);
+    Ok(())
+}
+
+/// The third cub took the second visit's state, and drops both records when the deschedule overtakes it.
+#[test]
+fn a_deschedule_with_a_tag_drops_both_records(rt: HostRuntime) -> Result<(), Fail> {
+    let alloc = rt.alloc();
+    let cub = cub_at(alloc, 2, 0);
+    let stop = Msg::Deschedule {
+        instance: Instance(0),
+        tag: Some(Tag {
+            slot: SlotNo(1),
+            visit: 2,
+        }),
+    };
+    let (cub, second) = cub.on(2, LinkNo(25), Msg::ViewerState(state(1)))?;
+    assert_eq!(rt;
+        second.as_slice(),
+        [
+            What::Took(rec(1, Kind::Backup)),
+            What::Took(rec(2, Kind::Own))
+        ]
+        .as_slice()
+    );
+    let (cub, second) = cub.at_end(2)?;
+    assert_eq!(rt; second.len(), 0);
+    let (cub, third) = cub.at_end(3)?;
+    assert_eq!(rt; third.len(), 0);
+    let (cub, fourth) = cub.on(4, LinkNo(26), stop)?;
+    assert_eq!(rt;
+        fourth.as_slice(),
+        [
+            What::Sent(LinkNo(28), deschedule(3)),
+            What::Sent(LinkNo(29), deschedule(3)),
+            What::Dropped(rec(1, Kind::Backup)),
+            What::Dropped(rec(2, Kind::Own)),
+        ]
+        .as_slice()
+    );
+    let (cub, fourth) = cub.at_end(4)?;
+    assert_eq!(rt; fourth.len(), 0);
+    assert_eq!(rt; cub.cub.view().first_of(Instance(0)), None);
+    Ok(())
+}
+
+/// A file of 256 bytes.
+fn library(alloc: Global) -> Result<Library, NoMemory> {
+    let mut file = Vec::new(alloc);
+    for _ in 0..256 {
+        file.push(b'a')?;
+    }
+    let mut files = Vec::new(alloc);
+    files.push(file)?;
+    Ok(Library::new(files))
+}
+
+/// The fourth block of the file, on the last visit of a tenancy of four.
+fn want() -> Want {
+    Want {
+        instance: Instance(0),
+        slot: SlotNo(1),
+        visit: 3,
+        file: FileNo(0),
+        block: 3,
+        piece: 0,
+    }
+}
+
+fn span() -> Span {
+    Span {
+        file: FileNo(0),
+        from: 12,
+        len: 4,
+    }
+}
+
+/// A block from its state to the viewers, who get it in the beat in which it is due, before the heartbeat of that beat.
+fn send_a_block<'a>(rt: &impl Abort, alloc: Global, library: &'a Library) -> Result<(), NoMemory> {
+    let cub = cub_at(alloc, 3, 3000000);
+    let told = Msg::ViewerState(State {
+        tenancy: tenancy(3),
+        visit: 3,
+    });
+    let own = Rec {
+        tenancy: tenancy(3),
+        visit: 3,
+        kind: Kind::Own,
+    };
+    let answer = Msg::ReadDone {
+        want: want(),
+        part: Part::of(library, span(), b"aaaa"),
+    };
+    let (cub, took) = cub.on(301, LinkNo(28), told)?;
+    assert_eq!(rt; took.as_slice(), [What::Took(own)].as_slice());
+    let (cub, before) = cub.at_end(339)?;
+    assert_eq!(rt; before.len(), 0);
+    let (cub, asked) = cub.at_end(340)?;
+    assert_eq!(rt;
+        asked.as_slice(),
+        [What::Sent(LinkNo(43), Note::ReadAsk(want()))].as_slice()
+    );
+    let (cub, again) = cub.at_end(341)?;
+    assert_eq!(rt; again.len(), 0);
+    let (cub, read) = cub.on(342, LinkNo(51), answer)?;
+    assert_eq!(rt; read.len(), 0);
+    let (cub, early) = cub.at_end(349)?;
+    assert_eq!(rt; early.len(), 0);
+    let (cub, due) = cub.at_end(350)?;
+    let whole = Note::Whole {
+        want: want(),
+        sent: 350,
+        part: span(),
+    };
+    assert_eq!(rt;
+        due.as_slice(),
+        [
+            What::Sent(LinkNo(19), whole),
+            What::Dropped(own),
+            What::Sent(LinkNo(30), Note::Heartbeat),
+        ]
+        .as_slice()
+    );
+    let (cub, late) = cub.at_end(351)?;
+    assert_eq!(rt; late.len(), 0);
+    Ok(())
+}
+
+#[test]
+fn a_block_goes_to_the_viewers_when_it_is_due(rt: HostRuntime) -> Result<(), Fail> {
+    let library = library(rt.alloc())?;
+    send_a_block(&rt, rt.alloc(), &library)?;
+    Ok(())
+}

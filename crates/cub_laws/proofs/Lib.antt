@@ -1,0 +1,11 @@
+pub mod Cubs
+pub mod Deschedules
+pub mod Insertions
+pub mod Lists
+pub mod Messages
+pub mod Numbers
+pub mod Positions
+pub mod Records
+pub mod Stores
+pub mod Ticks
+pub mod Walks

@@ -1,0 +1,106 @@
+//! What a cub does with a disk's answer.
+ghost use Rattle.std.specs.Prelude.{◌≡◌, ◌≤◌, IsTrue, OnOk};
+ghost use Rattle.std.specs.List.{AllByRecursion, list_any};
+ghost use Rattle.slot_plan.specs.Keys.{IsKey};
+ghost use Rattle.node_kit.specs.Form.{is_place};
+ghost use Rattle.partial_view.specs.Views.{line_at};
+ghost use Rattle.rule_kit.specs.Deeds.{Did};
+ghost use Rattle.cub_rules.specs.Records.{same_want};
+ghost use Rattle.cub_rules.specs.State.{IsStoreOf, IsLineOf, IsPieceAt, want_of, want_of_piece};
+ghost use Rattle.cub_rules.specs.Messages.{is_block_of, is_wanted, storing, meeting_answer};
+
+use cub_rules::{Store, StoredPart};
+use mirror_schedule::PieceView;
+use node_kit::{Out, Outbox, What};
+use partial_view::View;
+use rule_kit::Site;
+use tiger_base::{Kind, Msg, NoMemory, Part, PieceState, Rec, Want};
+
+/// For a record that is still there the part is stored, or the failure written down.
+#[tactic(auto, unfolding(cub_rules::specs::Messages::meeting_answer))]
+pub fn take_answer<'a>(
+    site: &Site,
+    want: Want,
+    part: Option<Part<'a>>,
+    store: &mut Store<'a>,
+    out: &mut Outbox<Msg<'a>>,
+) -> Result<(), NoMemory>
+    requires form { IsTrue (is_place site.now.plan.params want.slot.0 want.visit) }
+    requires stored { IsStoreOf site.now.plan.params site.now.cub.0 store.old }
+    ensures { OnOk result (Did (meeting_answer want part.entry store.old) out.old out.new store.new) }
+{
+    if !is_wanted(site, &want, store) {
+        return Ok(());
+    }
+    match part {
+        Some(part) => store.parts.push(StoredPart { want, part }),
+        None => out.push(Out::Act(What::ReadFailed(want))),
+    }
+}
+
+/// Whether a want is of a record, or a piece record, that is still there.
+#[tactic(auto, unfolding(cub_rules::specs::Messages::is_wanted))]
+fn is_wanted(site: &Site, want: &Want, store: &Store) -> bool
+    requires form { IsTrue (is_place site.now.plan.params want.now.slot.0 want.now.visit) }
+    requires stored { IsStoreOf site.now.plan.params site.now.cub.0 store.now }
+    ensures { result ≡ is_wanted want.now store.now }
+{
+    has_block(site, want, store.view.view()) || has_piece(site, want, &store.pieces)
+}
+
+/// Whether a view has the own record of the block that is wanted.
+fn has_block(site: &Site, want: &Want, view: &View) -> bool
+    requires key { IsKey view.now.params (want.now.slot, want.now.visit) }
+    requires lines { AllByRecursion (IsLineOf site.now.plan.params site.now.cub.0) view.now.lines }
+    ensures { result ≡ is_block_of want.now (line_at (want.now.slot, want.now.visit) view.now.lines) }
+{
+    match view.line(want.slot, want.visit) {
+        Some(line) => line.rec.kind == Kind::Own && *want == want_of(&line.rec),
+        None => false,
+    }
+}
+
+/// Whether a set of piece records has the piece that is wanted.
+fn has_piece(site: &Site, want: &Want, pieces: &PieceView) -> bool
+    requires { AllByRecursion (IsPieceAt site.now.plan.params site.now.cub.0) pieces.now.items }
+    ensures { result ≡ list_any (λ x. same_want want.now (want_of_piece x)) pieces.now.items }
+{
+    let mut next = pieces.after(None);
+    while let Some(piece) = next {
+        if *want == want_of_piece(&piece) {
+            return true;
+        }
+        next = pieces.after(Some(piece));
+    }
+    false
+}
+
+/// The block of a record's visit.
+fn want_of(rec: &Rec) -> Want
+    requires { rec.now.tenancy.first ≤ rec.now.visit }
+    ensures { result ≡ want_of rec.now }
+{
+    Want {
+        instance: rec.tenancy.instance,
+        slot: rec.tenancy.slot,
+        visit: rec.visit,
+        file: rec.tenancy.file,
+        block: rec.visit - rec.tenancy.first,
+        piece: 0,
+    }
+}
+
+/// The piece of a piece record.
+fn want_of_piece(x: &PieceState) -> Want
+    requires { x.now.tenancy.first ≤ x.now.visit }
+    ensures { result ≡ want_of_piece x.now }
+{
+    Want {
+        instance: x.tenancy.instance,
+        slot: x.tenancy.slot,
+        visit: x.visit,
+        file: x.tenancy.file,
+        block: x.visit - x.tenancy.first,
+        piece: x.piece,
+    }
+}

@@ -1,0 +1,75 @@
+//! What a cub does with a mirror state and with a kill.
+ghost use Rattle.std.specs.Prelude.{◌≡◌, IsTrue, IfOk, OnOk, None, filter, not, if◌then◌else◌};
+ghost use Rattle.node_kit.specs.Form.{is_piece};
+ghost use Rattle.cub_rules.specs.State.{IsStoreOf};
+ghost use Rattle.mirror_schedule.specs.Pieces.{IsPieceOf, IsPieces, is_in};
+ghost use Rattle.cub_rules.specs.Records.{pieces_with, with_piece_record};
+ghost use Rattle.cub_rules.specs.Messages.{meeting_piece, meeting_kill, is_piece_part};
+ghost use Rattle.cub_messages.specs.Rules.{DidQuietly, is_piece_want};
+
+use cub_rules::{Store, StoredPart};
+use mirror_schedule::PieceView;
+use rule_kit::Site;
+use tiger_base::{Instance, NoMemory, PieceState, Sequence, Visit, Want};
+
+/// A piece record is added, and is still to be asked for, unless its instance is held or it is for another cub.
+#[tactic(auto, unfolding(cub_rules::specs::Messages::meeting_piece, cub_rules::specs::Records::with_piece_record))]
+pub fn take_piece(site: &Site, piece: PieceState, store: &mut Store) -> Result<(), NoMemory>
+    requires form { IsTrue (is_piece site.now.plan.params piece) }
+    requires stored { IsStoreOf site.now.plan.params site.now.cub.0 store.old }
+    ensures { OnOk result (DidQuietly (meeting_piece site.now.plan.params site.now.cub.0 piece store.old) store.new) }
+{
+    if store.held.is_held(piece.tenancy.instance) {
+        return Ok(());
+    }
+    if site.plan.cub_of(piece.visit + u64::from(piece.piece)) != site.cub {
+        return Ok(());
+    }
+    if add_new(piece, &mut store.pieces)? {
+        store.unasked.add(piece)?;
+    }
+    Ok(())
+}
+
+/// Adds a piece to a set; `false`, and nothing changes, exactly where it is there already.
+fn add_new(piece: PieceState, pieces: &mut PieceView) -> Result<bool, NoMemory>
+    requires { IsPieceOf pieces.old.params piece }
+    ensures answer { IfOk result (λ new. new ≡ not (is_in piece pieces.old.items)) }
+    ensures after { OnOk result (pieces.new ≡ (if is_in piece pieces.old.items then pieces.old else pieces_with piece pieces.old)) }
+{
+    stand_in_order(pieces);
+    pieces.add(piece)
+}
+
+/// The pieces of a set stand in their order.
+fn stand_in_order(pieces: &PieceView)
+    ensures { IsPieces pieces.now.params pieces.now.items }
+{
+    pieces.after(None);
+}
+
+/// The piece records of a visit, and the parts that are stored for them, are dropped.
+#[tactic(auto, unfolding(cub_rules::specs::Messages::meeting_kill))]
+pub fn take_kill(instance: Instance, visit: Visit, store: &mut Store)
+    ensures { DidQuietly (meeting_kill instance visit store.old) store.new }
+{
+    store.pieces.remove_visit(instance, visit);
+    store.unasked.remove_visit(instance, visit);
+    drop_parts(instance, visit, &mut store.parts);
+}
+
+/// The parts of the pieces of a visit are dropped.
+fn drop_parts(instance: Instance, visit: Visit, parts: &mut Sequence<StoredPart>)
+    ensures { parts.new ≡ filter (λ x. not (is_piece_part instance visit x)) parts.old }
+{
+    parts
+        .items
+        .retain(|stored| !is_piece_of(instance, visit, &stored.want));
+}
+
+/// Whether a piece of a visit is wanted.
+fn is_piece_of(instance: Instance, visit: Visit, want: &Want) -> bool
+    ensures { result ≡ is_piece_want instance visit want.now }
+{
+    want.instance.0 == instance.0 && want.visit == visit && 0 < want.piece
+}

@@ -1,0 +1,79 @@
+//! What a cub does with a viewer state.
+ghost use Rattle.std.specs.Prelude.{◌≡◌, ◌≤◌, IsTrue, OnOk};
+ghost use Rattle.node_kit.specs.Form.{is_tenancy};
+ghost use Rattle.viewer_state.specs.States.{is_visit_of};
+ghost use Rattle.rule_kit.specs.Deeds.{Did};
+ghost use Rattle.cub_rules.specs.State.{IsStoreOf};
+ghost use Rattle.cub_rules.specs.Messages.{told, meeting_state};
+ghost use Rattle.cub_messages.specs.Rules.{IsNear};
+
+use crate::passing::{pass_from, position_at};
+use crate::records::{drop_start, take_record};
+use cub_rules::Store;
+use node_kit::Outbox;
+use rule_kit::Site;
+use tiger_base::{Kind, Msg, NoMemory, Rec, SlotNo, Stamp, State, Tenancy, Visit};
+
+/// A state of a visit of its tenancy lets the visit's cub, and the next one, take their records; where its instance is held
+/// it is discarded, and the deschedule passed on.
+#[tactic(auto, unfolding(cub_rules::specs::Messages::meeting_state))]
+pub fn take_state<'a>(
+    site: &Site,
+    stamp: Stamp,
+    state: State,
+    store: &mut Store<'a>,
+    out: &mut Outbox<Msg<'a>>,
+) -> Result<(), NoMemory>
+    requires reading { stamp.reading ≤ 1000000000000 }
+    requires form { IsTrue (is_tenancy site.now.plan.params state.tenancy) }
+    requires stored { IsStoreOf site.now.plan.params site.now.cub.0 store.old }
+    ensures { OnOk result (Did (meeting_state site.now.plan.params site.now.cub.0 stamp state store.old) out.old out.new store.new) }
+{
+    if state.visit < state.tenancy.first || state.tenancy.last < state.visit {
+        return Ok(());
+    }
+    let Some(place) = position_at(site, state.tenancy.slot, state.visit) else {
+        return Ok(());
+    };
+    if store.held.is_held(state.tenancy.instance) {
+        pass_from(site, stamp, state.tenancy.instance, place, store, out)
+    } else {
+        tell(site, state, place, store, out)
+    }
+}
+
+/// A start of the instance that waits is dropped, and the records are taken that the state tells of.
+fn tell<'a>(
+    site: &Site,
+    state: State,
+    place: (SlotNo, Visit),
+    store: &mut Store<'a>,
+    out: &mut Outbox<Msg<'a>>,
+) -> Result<(), NoMemory>
+    requires form { IsTrue (is_tenancy site.now.plan.params state.tenancy) }
+    requires visit { IsTrue (is_visit_of state.tenancy state.visit) }
+    requires params { store.old.view.params ≡ site.now.plan.params }
+    ensures { OnOk result (Did (told state place store.old) out.old out.new store.new) }
+{
+    let (tenancy, visit) = (state.tenancy, state.visit);
+    drop_start(tenancy.instance, store, out)?;
+    if place.1 == visit {
+        return take_record(record_of(tenancy, visit, Kind::Own), store, out);
+    }
+    take_record(record_of(tenancy, visit, Kind::Backup), store, out)?;
+    if visit < tenancy.last {
+        take_record(record_of(tenancy, visit + 1, Kind::Own), store, out)?;
+    }
+    Ok(())
+}
+
+/// The record of a visit.
+fn record_of(tenancy: Tenancy, visit: Visit, kind: Kind) -> Rec
+    ensures { result ≡ record { tenancy = tenancy; visit = visit; kind = kind } }
+{
+    Rec {
+        tenancy,
+        visit,
+        kind,
+    }
+}

@@ -1,0 +1,5 @@
+pub mod Cubs
+pub mod Messages
+pub mod Records
+pub mod State
+pub mod Ticks

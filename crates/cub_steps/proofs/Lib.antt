@@ -1,0 +1,5 @@
+pub mod Waiting
+pub mod Going
+pub mod Putting
+pub mod Visits
+pub mod Turns

@@ -1,0 +1,45 @@
+use Rattle.std.proofs.Common.{◌∙◌, sym}
+use Rattle.std.proofs.lemmas.Bool.{both_ways}
+use Rattle.slot_plan.specs.Keys.{Key}
+use Rattle.cub_rules.specs.State.{IsAsk}
+use Rattle.cub_steps.proofs.Waiting.{is_asked_oldest, oldest_all}
+use Rattle.cub_steps.proofs.Turns.{IsTurned, turned, all_put, all_taken}
+use Rattle.cub_steps.proofs.insertion.put_on.Goals as goal
+
+pub prove-unreachable-requires : goal.prove-unreachable-requires
+prove-unreachable-requires c =
+    both_ways c.is_asked.result c.if-prove.true (c.is_asked.ensures.asked ∙ is_asked_oldest c.loop-ask.store.starts c.args.disk c.in-Some.ask (sym c.in-Some.ensures))
+
+pub tenancy_from-tenancy-requires-clause-count : goal.tenancy_from-tenancy-requires-clause-count
+tenancy_from-tenancy-requires-clause-count c =
+    oldest_all IsAsk c.loop-ask.store.starts.waiting c.args.disk c.in-Some.ask c.loop-ask.invariant.asks (sym c.in-Some.ensures)
+
+-- what holds after a start is put
+after_put : (c : goal.In_ok-put)
+    → IsTurned c.args.kind c.args.site.now.plan.params c.args.site.now.cub.0 c.args.reading c.args.disk c.args.store.now c.args.out.now c.loop-ask.store c.put.new.store c.put.new.out
+after_put c =
+    let p = c.args.site.now.plan.params in
+    let k : Key = (c.in-Some-free_on.slot, c.in-Some-free_on.visit) in
+    turned c.args.kind p c.args.site.now.cub.0 c.args.reading c.args.disk c.args.store.now c.args.out.now c.loop-ask.store c.loop-ask.out c.in-Some.ask k c.put.new.store c.put.new.out
+    c.loop-ask.invariant.plan c.loop-ask.invariant.asks c.loop-ask.invariant.comes c.is_asked.ensures.once (sym c.in-Some.ensures)
+    c.in-Some-free_on.ensures.free
+    (rw c.tenancy_from-tenancy.ensures at c.in_ok-put.ensures)
+
+pub loop-ask-preserved : goal.loop-ask-preserved
+loop-ask-preserved c =
+    let t = after_put c in
+    record { comes = t.comes; plan = t.plan; asks = t.asks }
+
+pub loop-ask-smaller : goal.loop-ask-smaller
+loop-ask-smaller c = (after_put c).fewer
+
+pub returns-in_default-free_on-clause-did : goal.returns-in_default-free_on-clause-did
+returns-in_default-free_on-clause-did c =
+    let p = c.args.site.now.plan.params in
+    all_taken c.args.kind p c.args.site.now.cub.0 c.args.reading c.args.disk c.args.store.now c.args.out.now c.loop-ask.store c.loop-ask.out c.loop-ask.invariant.comes
+    c.in_default-free_on.ensures.free
+
+pub returns-in_default-clause-did : goal.returns-in_default-clause-did
+returns-in_default-clause-did c =
+    all_put c.args.kind c.args.site.now.plan.params c.args.site.now.cub.0 c.args.reading c.args.disk c.args.store.now c.args.out.now c.loop-ask.store c.loop-ask.out c.loop-ask.invariant.comes
+    (sym c.in_default.ensures)

@@ -1,0 +1,89 @@
+//! The steps that go by the clock alone: release, deadman, heartbeat.
+ghost use Rattle.std.specs.Prelude.{◌≡◌, ◌++◌, OnOk, map, filter, not};
+ghost use Rattle.std.specs.List.{AllByRecursion};
+ghost use Rattle.rule_kit.specs.Deeds.{Did};
+ghost use Rattle.cub_rules.specs.declared.store.Store.{Store};
+ghost use Rattle.cub_rules.specs.State.{IsStoreOf, IsPartHere};
+ghost use Rattle.cub_rules.specs.Ticks.{releasing, believing, beating, queued, is_stale};
+
+use crate::ring::predecessor;
+use cub_rules::{Store, StoredPart};
+use node_kit::{Out, Outbox, What};
+use rule_kit::Site;
+use slot_plan::Plan;
+use tiger_base::{Ask, Micros, Msg, NoMemory, Stamp};
+
+/// Release: what is held long enough is released, and split visits and stored parts whose play time is over are
+/// forgotten. It puts nothing out.
+#[tactic(auto, unfolding(cub_rules::specs::Ticks::releasing))]
+pub fn release<'a>(site: &Site, stamp: Stamp, store: &mut Store<'a>)
+    requires { IsStoreOf site.now.plan.params site.now.cub.0 store.old }
+    ensures { store.new ≡ (releasing site.now.plan.params stamp store.old).state }
+{
+    store.held.expire(stamp.reading);
+    store.splits.expire(&site.plan, stamp.reading);
+    forget_stale(&mut store.parts.items, &site.plan, stamp.reading);
+}
+
+/// Forgets the stored parts whose play time is over.
+fn forget_stale<'a>(parts: &mut Vec<StoredPart<'a>>, plan: &Plan, reading: Micros)
+    requires { AllByRecursion (IsPartHere plan.now.params) parts.old.items }
+    ensures { parts.new.items ≡ filter (λ x. not (is_stale plan.now.params reading x)) parts.old.items }
+{
+    for i in (0..parts.len()).rev() {
+        if is_stale(&parts[i], plan, reading) {
+            parts.remove(i);
+        }
+    }
+}
+
+/// Whether the play time of a stored part's visit is over.
+fn is_stale<'a>(x: &StoredPart<'a>, plan: &Plan, reading: Micros) -> bool
+    requires { IsPartHere plan.now.params x.now }
+    ensures { result ≡ is_stale plan.now.params reading x.now }
+{
+    plan.due(x.want.slot, x.want.visit) + plan.params.play <= reading
+}
+
+/// Deadman: where the predecessor was silent for too long it is believed dead from now on, and the redundant starts
+/// wait behind the others. After `NoMemory` nothing is claimed.
+#[tactic(auto, unfolding(cub_rules::specs::Ticks::believing))]
+pub fn watch<'a>(
+    site: &Site,
+    stamp: Stamp,
+    store: &mut Store<'a>,
+    out: &mut Outbox<Msg<'a>>,
+) -> Result<(), NoMemory>
+    ensures { OnOk result (Did (believing site.now.plan.params site.now.cub.0 stamp store.old) out.old out.new store.new) }
+{
+    if store.believes || !store.watch.check(stamp.reading) {
+        return Ok(());
+    }
+    out.push(Out::Act(What::Believed(predecessor(site))))?;
+    write_queued(store.starts.redundant(), out)?;
+    store.starts.take_over()?;
+    store.believes = true;
+    Ok(())
+}
+
+/// Writes down that starts wait.
+fn write_queued<'a>(asks: &[Ask], out: &mut Outbox<Msg<'a>>) -> Result<(), NoMemory>
+    ensures { OnOk result (out.new ≡ out.old ++ map queued asks.now) }
+{
+    for ask in asks {
+        out.push(Out::Act(What::Queued(ask.instance, ask.disk)))?;
+    }
+    Ok(())
+}
+
+/// Heartbeat: in every beat that the plan's number divides, one goes to the successor, whatever the cub keeps. After
+/// `NoMemory` nothing is claimed.
+#[tactic(auto, unfolding(cub_rules::specs::Ticks::beating))]
+pub fn beat<'a>(site: &Site, stamp: Stamp, out: &mut Outbox<Msg<'a>>) -> Result<(), NoMemory>
+    ensures { OnOk result ((h : Store) → Did (beating site.now.plan.params site.now.cub.0 stamp h) out.old out.new h) }
+{
+    if stamp.beat % site.plan.params.heart == 0 {
+        out.push(Out::Send(site.ahead(1), Msg::Heartbeat))?;
+    }
+    Ok(())
+}

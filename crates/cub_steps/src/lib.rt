@@ -1,0 +1,14 @@
+//! The steps of a cub's tick that do not walk its view: release, deadman, insertion, heartbeat.
+#![tactic(auto)]
+
+mod clocked;
+mod insertion;
+mod ring;
+
+pub use clocked::{beat, release, watch};
+pub use insertion::insert;
+
+#[cfg(test)]
+mod sample_stores;
+#[cfg(test)]
+mod tests;

@@ -1,0 +1,19 @@
+-- Which states of a view are still to be forwarded, and up to which time there is none.
+use Rattle.std.specs.Prelude.{◌≡◌, ℕ, ◌+◌, ◌<◌, Bool, true, ◌&&◌, not, nat_lt, List}
+use Rattle.std.specs.List.{AllByRecursion}
+use Rattle.slot_plan.specs.declared.params.Params.{Params}
+use Rattle.slot_plan.specs.Times.{due}
+use Rattle.partial_view.specs.declared.line.Line.{Line}
+use Rattle.state_forward.specs.Forwards.{is_own}
+
+-- whether the state of the next visit is still to be forwarded: of an own record below its tenancy's last visit
+abbrev pub is_pending : Line → Bool
+is_pending x = is_own x.rec.kind && nat_lt x.rec.visit x.rec.tenancy.last && not x.forwarded
+
+-- when the visit behind a line's is due
+abbrev pub next_due : Params → Line → ℕ
+next_due p x = due p x.rec.tenancy.slot.0 (x.rec.visit + 1)
+
+-- no state that is still to be forwarded is of a visit that is due at the limit or before it
+abbrev pub IsForwardedTo : Params → ℕ → List Line → Type 0
+IsForwardedTo p limit lines = AllByRecursion (λ x. is_pending x ≡ true → limit < next_due p x) lines

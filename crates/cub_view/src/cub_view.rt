@@ -1,0 +1,139 @@
+//! A view that knows up to which time its states are forwarded, so that a tick need not walk it where nothing is to forward.
+ghost use Rattle.std.specs.Prelude.{◌≡◌, ℕ, ◌^◌, ◌≤◌, ◌<◌, true, [], IfOk, OnOk, OnErr, option_map, is_some, count_by};
+ghost use Rattle.slot_plan.specs.Keys.{IsKey};
+ghost use Rattle.partial_view.specs.Lines.{visit_of, unmarked, is_of};
+ghost use Rattle.partial_view.specs.Views.{Seen, line_at, with_mark, without, without_instance, with_record};
+ghost use Rattle.partial_view.specs.Adding.{answer_to};
+ghost use Rattle.cub_view.specs.Pending.{IsForwardedTo, is_pending, next_due};
+ghost use Rattle.state_forward.specs.Forwards.{is_own};
+
+use partial_view::{Added, Flag, View};
+use slot_plan::Plan;
+use std::alloc::Global;
+use std::marker::Model;
+use tiger_base::{Instance, Kind, Micros, NoMemory, Rec, SlotNo, Visit};
+
+/// A view of a plan, seen as that view is, and a time up to which its states are known to be forwarded.
+#[derive(Drop)]
+pub struct CubView {
+    view: View,
+    plan: Plan,
+    forwarded_to: Micros,
+}
+
+impl Model for CubView {
+    ghost use Rattle.std.specs.Prelude.{◌≡◌};
+    ghost use Rattle.partial_view.specs.Views.{Seen};
+    ghost use Rattle.cub_view.specs.Pending.{IsForwardedTo};
+
+    ghost Value = { Seen };
+
+    ghost view = { λ v. v.view };
+
+    ghost invariant = { λ v. (v.view.params ≡ v.plan.params) × IsForwardedTo v.plan.params v.forwarded_to v.view.lines };
+}
+
+impl CubView {
+    /// The view of a plan that has no record yet. It takes no memory.
+    pub fn new(alloc: Global, plan: &Plan) -> CubView
+        ensures { result ≡ record { params = plan.now.params; lines = [] } }
+    {
+        CubView {
+            view: View::new(alloc, plan),
+            plan: *plan,
+            forwarded_to: 0,
+        }
+    }
+
+    /// The view, to be read.
+    pub fn view(&self) -> &View
+        ensures { result.now ≡ self.now }
+    {
+        &self.view
+    }
+
+    /// Adds a record, with no flag set, where its slot and visit have none; else, and without memory for it, nothing changes.
+    pub fn add(&mut self, rec: Rec) -> Result<Added, NoMemory>
+        requires key { IsKey self.old.params (visit_of rec) }
+        requires visit { rec.visit < 2 ^ 32 }
+        ensures answer { IfOk result (λ added. added ≡ answer_to rec self.old.lines) }
+        ensures ok { OnOk result (self.new ≡ record self.old { lines = with_record self.old.params rec self.old.lines }) }
+        ensures err { OnErr result (self.new ≡ self.old) }
+    {
+        let added = self.view.add(rec)?;
+        if let Added::New = added {
+            self.forwarded_to = forwarded_before(&self.plan, self.forwarded_to, rec);
+        }
+        Ok(added)
+    }
+
+    /// Sets a flag at a slot and visit; `false` exactly where there is no line.
+    pub fn mark(&mut self, slot: SlotNo, visit: Visit, flag: Flag) -> bool
+        requires { IsKey self.old.params (slot, visit) }
+        ensures found { result ≡ is_some (line_at (slot, visit) self.old.lines) }
+        ensures marked { self.new ≡ record self.old { lines = with_mark (slot, visit) flag self.old.lines } }
+    {
+        self.view.mark(slot, visit, flag)
+    }
+
+    /// Removes the record of a slot and visit, and gives it; `None` exactly where there was none.
+    pub fn remove(&mut self, slot: SlotNo, visit: Visit) -> Option<Rec>
+        requires { IsKey self.old.params (slot, visit) }
+        ensures record { result ≡ option_map (λ x. x.rec) (line_at (slot, visit) self.old.lines) }
+        ensures left { self.new ≡ record self.old { lines = without (slot, visit) self.old.lines } }
+    {
+        self.view.remove(slot, visit)
+    }
+
+    /// Removes all records of an instance, and says how many there were.
+    pub fn remove_instance(&mut self, instance: Instance) -> u64
+        ensures count { result ≡ count_by (is_of instance) self.old.lines }
+        ensures left { self.new ≡ record self.old { lines = without_instance instance self.old.lines } }
+    {
+        self.view.remove_instance(instance)
+    }
+
+    /// Whether it is known that no state of a visit that is due at the limit or before it is still to be forwarded. It is
+    /// known for each limit up to the one that was set last, where no record was added since whose next visit is due by
+    /// then; `false` says only that the lines have to be walked.
+    pub fn is_forwarded_to(&self, limit: Micros) -> bool
+        ensures { result ≡ true → IsForwardedTo self.now.params limit self.now.lines }
+    {
+        limit <= self.forwarded_to
+    }
+
+    /// Keeps in mind that the states are forwarded up to a limit, or up to a later one that was set before.
+    pub fn set_forwarded_to(&mut self, limit: Micros)
+        requires { IsForwardedTo self.old.params limit self.old.lines }
+        ensures { self.new ≡ self.old }
+    {
+        if self.forwarded_to < limit {
+            self.forwarded_to = limit;
+        }
+    }
+}
+
+/// The given time, or the last one before the record's next visit is due, where the state of that visit is to be forwarded
+/// and this is earlier.
+fn forwarded_before(plan: &Plan, time: Micros, rec: Rec) -> Micros
+    requires key { IsKey plan.now.params (visit_of rec) }
+    requires visit { rec.visit < 2 ^ 32 }
+    ensures earlier { result ≤ time }
+    ensures before { is_pending (unmarked rec) ≡ true → result < next_due plan.now.params (unmarked rec) }
+{
+    if !is_own(rec.kind) || rec.visit >= rec.tenancy.last {
+        return time;
+    }
+    let next = plan.due(rec.tenancy.slot, rec.visit + 1);
+    if next <= time { next - 1 } else { time }
+}
+
+/// Whether a record is the cub's own.
+fn is_own(kind: Kind) -> bool
+    ensures { result ≡ is_own kind }
+{
+    match kind {
+        Kind::Own => true,
+        Kind::Backup => false,
+    }
+}

@@ -1,0 +1,100 @@
+//! What is forwarded in views of a small plan, beside times that were worked out by hand.
+ghost use Rattle.std.specs.Prelude.{◌≡◌, ◌<◌, ◌≤◌, [], IfOk};
+ghost use Rattle.slot_plan.specs.Conditions.{IsInRange};
+
+use crate::CubView;
+use partial_view::{Added, Flag};
+use slot_plan::{Params, Plan};
+use std::process::Abort;
+use std::test::Fail;
+use tiger_base::{FileNo, Instance, Kind, Rec, SlotNo, Tenancy};
+
+const SMALL: Params = Params {
+    cubs: 8,
+    disks: 1,
+    slots: 16,
+    play: 1000000,
+    pieces: 2,
+    block: 4,
+    beat: 10000,
+    delay: 2,
+    skew: 4000,
+    window_a: 800000,
+    window_b: 200000,
+    read_lead: 100000,
+    min_lead: 3000000,
+    max_lead: 4000000,
+    batch: 20,
+    heart: 50,
+    deadman: 1000000,
+    hold: 3000000,
+};
+
+// Visit 3 of slot 1: the next visit is due at 4500000.
+const RECORD: Rec = Rec {
+    tenancy: Tenancy {
+        instance: Instance(0),
+        file: FileNo(0),
+        slot: SlotNo(1),
+        first: 2,
+        last: 4,
+    },
+    visit: 3,
+    kind: Kind::Own,
+};
+
+/// The plan with these numbers, whose conditions all hold.
+fn plan_of(rt: &impl Abort, params: Params) -> Plan
+    requires { IsInRange params }
+    ensures { result.params ≡ params }
+{
+    match Plan::new(params) {
+        Ok(plan) => plan,
+        Err(_) => panic!(rt; "a condition is false"),
+    }
+}
+
+#[test]
+fn limit_stands_until_an_earlier_state_comes(rt: HostRuntime) -> Result<(), Fail> {
+    let plan = plan_of(&rt, SMALL);
+    let mut view = CubView::new(rt.alloc(), &plan);
+    view.set_forwarded_to(4600000);
+    view.set_forwarded_to(2000000);
+    assert!(rt; view.is_forwarded_to(4600000));
+    assert!(rt; !view.is_forwarded_to(4600001));
+    assert_eq!(rt; view.add(RECORD)?, Added::New);
+    assert!(rt; view.is_forwarded_to(4499999));
+    assert!(rt; !view.is_forwarded_to(4500000));
+    Ok(())
+}
+
+#[test]
+fn limit_stands_where_nothing_more_is_to_forward(rt: HostRuntime) -> Result<(), Fail> {
+    let plan = plan_of(&rt, SMALL);
+    let mut view = CubView::new(rt.alloc(), &plan);
+    view.set_forwarded_to(5500000);
+    let last = Rec { visit: 4, ..RECORD };
+    let backup = Rec {
+        kind: Kind::Backup,
+        ..RECORD
+    };
+    assert_eq!(rt; view.add(last)?, Added::New);
+    assert_eq!(rt; view.add(backup)?, Added::New);
+    assert_eq!(rt; view.add(RECORD)?, Added::Known);
+    assert!(rt; view.mark(SlotNo(1), 3, Flag::Asked));
+    assert_eq!(rt; view.view().has(SlotNo(1), 3), Some(Instance(0)));
+    assert!(rt; view.is_forwarded_to(5500000));
+    Ok(())
+}
+
+#[test]
+fn records_are_removed(rt: HostRuntime) -> Result<(), Fail> {
+    let plan = plan_of(&rt, SMALL);
+    let mut view = CubView::new(rt.alloc(), &plan);
+    assert_eq!(rt; view.add(RECORD)?, Added::New);
+    assert_eq!(rt; view.remove(SlotNo(1), 3), Some(RECORD));
+    assert_eq!(rt; view.add(RECORD)?, Added::New);
+    assert_eq!(rt; view.remove_instance(Instance(0)), 1);
+    assert_eq!(rt; view.view().after(None), None);
+    Ok(())
+}

@@ -1,0 +1,8 @@
+pub mod Asked
+pub mod Parts
+pub mod Samples
+pub mod Served
+pub mod Splits
+pub mod States
+pub mod Steps
+pub mod Stops

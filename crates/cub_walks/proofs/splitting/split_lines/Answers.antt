@@ -1,0 +1,46 @@
+use Rattle.std.proofs.Common.{◌∙◌}
+use Rattle.partial_view.proofs.Walks.{there, next_key, given_key}
+use Rattle.cub_rules.specs.State.{IsLineOf}
+use Rattle.cub_walks.proofs.Steps.{of_next}
+use Rattle.cub_walks.proofs.Splits.{split_begun, split_plan, split_view, split_fewer, split_on, split_store, split_sent}
+use Rattle.cub_walks.proofs.splitting.split_lines.Goals as goal
+
+pub loop-next-init : goal.loop-next-init
+loop-next-init c = split_begun c.after-next.ensures.walk c.after-next.ensures.next
+
+pub split_line-requires-clause-pieces : goal.split_line-requires-clause-pieces
+split_line-requires-clause-pieces c =
+    let plan = split_plan c.loop-next.invariant in
+    plan.0 ∙ c.requires.stored.pieces_plan
+
+pub split_line-requires-clause-unasked : goal.split_line-requires-clause-unasked
+split_line-requires-clause-unasked c =
+    let plan = split_plan c.loop-next.invariant in
+    plan.1 ∙ c.requires.stored.unasked_plan
+
+pub split_line-requires-clause-line : goal.split_line-requires-clause-line
+split_line-requires-clause-line c =
+    of_next (IsLineOf c.args.site.now.plan.params c.args.site.now.cub.0) c.requires.stored.lines c.loop-next.invariant.walk c.in-Some.is
+
+pub split_line-requires-clause-key : goal.split_line-requires-clause-key
+split_line-requires-clause-key c = next_key c.loop-next.invariant.walk c.in-Some.is
+
+pub split_line-requires-clause-there : goal.split_line-requires-clause-there
+split_line-requires-clause-there c = there c.loop-next.invariant.walk c.in-Some.is
+
+pub after-next-requires-in-Some : goal.after-next-requires-in-Some
+after-next-requires-in-Some c = given_key c.loop-next.invariant.walk c.in-Some.is (split_view c.loop-next.invariant c.in-Some.line c.in_ok-split_line.ensures.store) c.key.ensures
+
+pub loop-next-smaller : goal.loop-next-smaller
+loop-next-smaller c =
+    split_fewer c.loop-next.invariant c.in-Some.line c.in_ok-split_line.ensures.store c.in-Some.is c.key.ensures c.after-next-in-Some.ensures.next c.after-next-in-Some.ensures.walk
+
+pub loop-next-preserved : goal.loop-next-preserved
+loop-next-preserved c =
+    split_on c.loop-next.invariant c.in-Some.line c.in_ok-split_line.ensures.store c.in-Some.is c.key.ensures c.after-next-in-Some.ensures.next c.after-next-in-Some.ensures.walk c.in_ok-split_line.ensures.outs
+
+pub returns-clause-store : goal.returns-clause-store
+returns-clause-store c = split_store c.loop-next.invariant c.in_default.is
+
+pub returns-clause-outs : goal.returns-clause-outs
+returns-clause-outs c = split_sent c.loop-next.invariant c.in_default.is

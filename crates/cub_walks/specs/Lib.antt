@@ -1,0 +1,4 @@
+pub mod Leavings
+pub mod Limits
+pub mod Splitting
+pub mod Stopping

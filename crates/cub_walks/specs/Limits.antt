@@ -1,0 +1,23 @@
+-- Up to which time the states of visits go out in a beat, and what goes out where.
+use Rattle.std.specs.Prelude.{ℕ, ◌+◌, List, [], ◌∷◌, if◌then◌else◌}
+use Rattle.tiger_base.specs.declared.number.Stamp.{Stamp}
+use Rattle.tiger_base.specs.declared.tenancy.State.{State}
+use Rattle.tiger_base.specs.declared.tenancy.Want.{Want}
+use Rattle.tiger_base.specs.declared.message.Msg.{Msg}
+use Rattle.tiger_base.specs.declared.message.Msg.TheVariants as msg
+use Rattle.node_kit.specs.declared.outbox.Out.{Out}
+use Rattle.node_kit.specs.declared.outbox.Out.TheVariants as out
+use Rattle.rule_kit.specs.Ways.{way_ahead, way_to_disk}
+use Rattle.slot_plan.specs.declared.params.Params.{Params}
+use Rattle.state_forward.specs.Forwards.{is_batch_beat}
+
+unfoldable pub forward_limit : Params → Stamp → ℕ
+forward_limit p stamp = stamp.reading + (if is_batch_beat p stamp.beat then p.max_lead else p.min_lead)
+
+-- a viewer state, sent to the next two cubs
+abbrev pub sent_on : Params → ℕ → State → List (Out Msg)
+sent_on p cub state = out.Send (way_ahead p cub 1) (msg.ViewerState state) ∷ out.Send (way_ahead p cub 2) (msg.ViewerState state) ∷ []
+
+-- a disk is asked
+abbrev pub asks : Params → ℕ → Want → List (Out Msg)
+asks p disk want = out.Send (way_to_disk p disk) (msg.ReadAsk want) ∷ []

@@ -1,0 +1,38 @@
+-- What a cub keeps once the visits of some lines were split.
+use Rattle.std.specs.Prelude.{◌≡◌, ℕ, List, [], ◌∷◌, ◌++◌, map, drop, Option, if◌then◌else◌}
+use Rattle.std.specs.List.{flat_map}
+use Rattle.tiger_base.specs.declared.number.Stamp.{Stamp}
+use Rattle.tiger_base.specs.declared.message.Msg.{Msg}
+use Rattle.tiger_base.specs.declared.tenancy.PieceState.{PieceState}
+use Rattle.tiger_base.specs.declared.tenancy.Rec.{Rec}
+use Rattle.slot_plan.specs.declared.params.Params.{Params}
+use Rattle.node_kit.specs.declared.outbox.Out.{Out}
+use Rattle.partial_view.specs.declared.line.Line.{Line}
+use Rattle.partial_view.specs.Views.{Seen}
+use Rattle.partial_view.specs.Walks.{Underway}
+use Rattle.mirror_schedule.specs.Pieces.{Pieces, pieces_of, is_in}
+use Rattle.mirror_schedule.specs.Splits.{with_split}
+use Rattle.cub_rules.specs.declared.store.Store.{Store}
+use Rattle.cub_rules.specs.Records.{with_piece_record, pieces_with}
+use Rattle.cub_rules.specs.Ticks.{split_line, split_outs, split_visits, first_pieces, with_each, sent_ahead}
+
+-- the lines' visits were split, and this is the view then
+abbrev pub with_split_of : Params → Stamp → List Line → Seen → Store → Store
+with_split_of p stamp lines view h =
+    with_each with_piece_record (flat_map (first_pieces p stamp) lines)
+    (record h { view = view; splits = with_each with_split (flat_map (split_visits p stamp) lines) h.splits })
+
+-- the pieces of a visit that go to the next cubs
+abbrev pub sent_pieces : Params → ℕ → Rec → List (Out Msg)
+sent_pieces p cub r = map (sent_ahead p cub) (drop 1 (pieces_of p r))
+
+-- a set of pieces with one that is in none of both, or is in the first one already
+abbrev pub with_new : PieceState → Pieces → Pieces → Pieces
+with_new x known items = if is_in x known.items then items else pieces_with x items
+
+-- a walk that splits is under way: the visits of the lines behind it were split
+pub record SplitTo (p : Params) (cub : ℕ) (stamp : Stamp) (before : Store) (outs_before : List (Out Msg)) (now : Store) (outs_now : List (Out Msg)) (next : Option Line) : Type 0 where
+  pub done : List Line
+  pub walk : Underway (λ x. x ∷ []) (λ x. split_line p stamp x ∷ []) before.view [] now.view done next
+  pub store : now ≡ with_split_of p stamp done now.view before
+  pub outs : outs_now ≡ outs_before ++ flat_map (split_outs p cub stamp) done

@@ -1,0 +1,124 @@
+//! Forwarding: the states of visits that are soon due go to the next two cubs, once.
+ghost use Rattle.std.specs.Prelude.{◌≡◌, ◌^◌, ◌<◌, ◌≤◌, ◌++◌, ◌∷◌, [], OnOk, Some, map};
+ghost use Rattle.std.specs.List.{AllByRecursion, flat_map};
+ghost use Rattle.slot_plan.specs.Keys.{IsKey};
+ghost use Rattle.partial_view.specs.Lines.{key_of};
+ghost use Rattle.partial_view.specs.Views.{IsWalk, line_at};
+ghost use Rattle.partial_view.specs.Walks.{replaced};
+ghost use Rattle.rule_kit.specs.Deeds.{Did};
+ghost use Rattle.cub_rules.specs.State.{IsStoreOf, IsLineOf};
+ghost use Rattle.cub_rules.specs.Ticks.{forwarding, forward_line, forward_outs, is_to_forward};
+ghost use Rattle.cub_walks.specs.Limits.{forward_limit, sent_on};
+
+use crate::walking::after;
+use cub_rules::Store;
+use cub_view::CubView;
+use node_kit::{Out, Outbox};
+use partial_view::{Flag, Line};
+use rule_kit::Site;
+use slot_plan::Plan;
+use state_forward::must_forward;
+use tiger_base::{Micros, Msg, NoMemory, Stamp, State};
+
+/// Sends the state of the next visit to the next two cubs for each own record whose next visit is due within the lead of
+/// this beat, where it was not sent yet. The lines are walked only where some may be left to forward.
+pub fn forward<'a>(
+    site: &Site,
+    stamp: Stamp,
+    store: &mut Store<'a>,
+    out: &mut Outbox<Msg<'a>>,
+) -> Result<(), NoMemory>
+    requires reading { stamp.reading ≤ 1000000000000 }
+    requires stored { IsStoreOf site.now.plan.params site.now.cub.0 store.old }
+    ensures { OnOk result (Did (forwarding site.now.plan.params site.now.cub.0 stamp store.old) out.old out.new store.new) }
+{
+    let limit = forward_limit(&site.plan, stamp);
+    if store.view.is_forwarded_to(limit) {
+        return Ok(());
+    }
+    forward_lines(site, stamp, &mut store.view, out)?;
+    store.view.set_forwarded_to(limit);
+    Ok(())
+}
+
+/// The time up to which states are forwarded in a beat.
+#[tactic(auto, unfolding(crate::specs::Limits::forward_limit))]
+fn forward_limit(plan: &Plan, stamp: Stamp) -> Micros
+    requires { stamp.reading ≤ 1000000000000 }
+    ensures { result ≡ forward_limit plan.now.params stamp }
+{
+    let params = plan.params();
+    if stamp.beat % params.batch == 0 {
+        stamp.reading + params.max_lead
+    } else {
+        stamp.reading + params.min_lead
+    }
+}
+
+/// Forwards the states of all lines.
+fn forward_lines<'a>(
+    site: &Site,
+    stamp: Stamp,
+    view: &mut CubView,
+    out: &mut Outbox<Msg<'a>>,
+) -> Result<(), NoMemory>
+    requires reading { stamp.reading ≤ 1000000000000 }
+    requires plan { view.old.params ≡ site.now.plan.params }
+    requires lines { AllByRecursion (IsLineOf site.now.plan.params site.now.cub.0) view.old.lines }
+    ensures view { OnOk result (view.new ≡ record view.old { lines = map (forward_line site.now.plan.params stamp) view.old.lines }) }
+    ensures outs { OnOk result (out.new ≡ out.old ++ flat_map (forward_outs site.now.plan.params site.now.cub.0 stamp) view.old.lines) }
+{
+    let mut next = after(view, None);
+    while let Some(line) = next {
+        forward_line(site, stamp, view, line, out)?;
+        next = after(view, Some(line.key()));
+    }
+    Ok(())
+}
+
+/// Forwards the state of one line.
+fn forward_line<'a>(
+    site: &Site,
+    stamp: Stamp,
+    view: &mut CubView,
+    line: Line,
+    out: &mut Outbox<Msg<'a>>,
+) -> Result<(), NoMemory>
+    requires reading { stamp.reading ≤ 1000000000000 }
+    requires line { IsLineOf site.now.plan.params site.now.cub.0 line }
+    requires key { IsKey view.old.params (key_of line) }
+    requires there { line_at (key_of line) view.old.lines ≡ Some line }
+    requires walk { IsWalk view.old.params view.old.lines }
+    ensures view { OnOk result (view.new ≡ record view.old { lines = replaced (key_of line) (forward_line site.now.plan.params stamp line ∷ []) view.old.lines }) }
+    ensures outs { OnOk result (out.new ≡ out.old ++ forward_outs site.now.plan.params site.now.cub.0 stamp line) }
+{
+    if is_to_forward(&site.plan, stamp, &line) {
+        let state = State {
+            tenancy: line.rec.tenancy,
+            visit: line.rec.visit + 1,
+        };
+        send_state(site, state, out)?;
+        view.mark(line.rec.tenancy.slot, line.rec.visit, Flag::Forwarded);
+    }
+    Ok(())
+}
+
+/// Whether a line's next state goes out.
+#[tactic(auto, unfolding(cub_rules::specs::Ticks::is_to_forward))]
+fn is_to_forward(plan: &Plan, stamp: Stamp, line: &Line) -> bool
+    requires reading { stamp.reading ≤ 1000000000000 }
+    requires slot { line.now.rec.tenancy.slot.0 < plan.now.params.slots }
+    requires visit { line.now.rec.visit < 2 ^ 32 }
+    ensures { result ≡ is_to_forward plan.now.params stamp line.now }
+{
+    !line.forwarded && must_forward(plan, stamp, &line.rec)
+}
+
+/// Sends a viewer state to the next two cubs.
+fn send_state<'a>(site: &Site, state: State, out: &mut Outbox<Msg<'a>>) -> Result<(), NoMemory>
+    ensures { OnOk result (out.new ≡ out.old ++ sent_on site.now.plan.params site.now.cub.0 state) }
+{
+    out.push(Out::Send(site.ahead(1), Msg::ViewerState(state)))?;
+    out.push(Out::Send(site.ahead(2), Msg::ViewerState(state)))?;
+    Ok(())
+}

@@ -1,0 +1,47 @@
+//! Pieces in the order of their leaving times.
+ghost use Rattle.std.specs.Prelude.{◌≡◌, ◌≤◌, IfSome};
+ghost use Rattle.mirror_schedule.specs.Pieces.{IsPieceOf, IsPieces};
+ghost use Rattle.cub_rules.specs.Ticks.{leaves_by};
+ghost use Rattle.cub_rules.specs.Records.{pieces_but};
+ghost use Rattle.cub_walks.specs.Leavings.{first_leaving, but_first_leaving};
+
+use mirror_pieces::piece_due;
+use mirror_schedule::PieceView;
+use slot_plan::Plan;
+use tiger_base::{Micros, PieceState};
+
+/// Takes out the first piece, where it leaves by a time; `None` exactly where there is none that does.
+pub(crate) fn take_leaving(plan: &Plan, pieces: &mut PieceView, time: Micros) -> Option<PieceState>
+    requires plan { pieces.old.params ≡ plan.now.params }
+    ensures first { result ≡ first_leaving plan.now.params time pieces.old.items }
+    ensures left { pieces.new ≡ record pieces.old { items = but_first_leaving plan.now.params time pieces.old.items } }
+    ensures order { IsPieces plan.now.params pieces.old.items }
+    ensures piece { IfSome result (IsPieceOf plan.now.params) }
+{
+    let piece = pieces.after(None)?;
+    if leaves_by(plan, time, &piece) {
+        pieces.remove(piece);
+        Some(piece)
+    } else {
+        None
+    }
+}
+
+/// Whether a piece leaves by a time.
+#[tactic(auto, unfolding(cub_rules::specs::Ticks::leaves_by, mirror_schedule::specs::Pieces::leaving_of))]
+fn leaves_by(plan: &Plan, time: Micros, x: &PieceState) -> bool
+    requires { IsPieceOf plan.now.params x.now }
+    ensures { result ≡ leaves_by plan.now.params time x.now }
+{
+    let params = plan.params();
+    let due = plan.due(x.tenancy.slot, x.visit);
+    piece_due(due, x.piece, params.play, params.pieces as u32) <= time
+}
+
+/// Takes out all pieces that leave by a time.
+pub(crate) fn drop_leaving(plan: &Plan, pieces: &mut PieceView, time: Micros)
+    requires plan { pieces.old.params ≡ plan.now.params }
+    ensures { pieces.new ≡ pieces_but (leaves_by plan.now.params time) pieces.old }
+{
+    while take_leaving(plan, pieces, time).is_some() {}
+}

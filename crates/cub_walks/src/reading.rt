@@ -1,0 +1,179 @@
+//! Reading: the disks are asked for the blocks and pieces that leave soon, once.
+ghost use Rattle.std.specs.Prelude.{◌≡◌, ◌+◌, ◌*◌, ◌<◌, ◌≤◌, ◌++◌, ◌∷◌, [], OnOk, Some, map, filter};
+ghost use Rattle.std.specs.List.{AllByRecursion, flat_map};
+ghost use Rattle.slot_plan.specs.Keys.{IsKey};
+ghost use Rattle.partial_view.specs.Lines.{key_of};
+ghost use Rattle.partial_view.specs.Views.{IsWalk, line_at};
+ghost use Rattle.partial_view.specs.Walks.{replaced};
+ghost use Rattle.state_forward.specs.Forwards.{is_own};
+ghost use Rattle.rule_kit.specs.Deeds.{Did};
+ghost use Rattle.cub_rules.specs.State.{IsStoreOf, IsLineOf, IsPieceAt, want_of, want_of_piece};
+ghost use Rattle.cub_rules.specs.Records.{pieces_but};
+ghost use Rattle.cub_rules.specs.Ticks.{reading, must_read, ask_line, ask_outs, asked_of_disk, leaves_by};
+ghost use Rattle.cub_walks.specs.Limits.{asks};
+
+use crate::leaving::take_leaving;
+use crate::walking::after_by;
+use cub_rules::Store;
+use cub_view::CubView;
+use mirror_pieces::piece_disk;
+use mirror_schedule::PieceView;
+use node_kit::{Out, Outbox};
+use partial_view::{Flag, Line};
+use rule_kit::Site;
+use slot_plan::Plan;
+use tiger_base::{DiskNo, Kind, Msg, NoMemory, PieceState, Rec, Stamp, Want};
+
+/// Asks the disks for the block of each own record, and then for each piece, that leaves within the read lead and was not
+/// asked for yet. Each walk stops at the first that leaves later.
+pub fn read<'a>(
+    site: &Site,
+    stamp: Stamp,
+    store: &mut Store<'a>,
+    out: &mut Outbox<Msg<'a>>,
+) -> Result<(), NoMemory>
+    requires reading { stamp.reading ≤ 1000000000000 }
+    requires stored { IsStoreOf site.now.plan.params site.now.cub.0 store.old }
+    ensures { OnOk result (Did (reading site.now.plan.params stamp store.old) out.old out.new store.new) }
+{
+    read_blocks(site, stamp, &mut store.view, out)?;
+    read_pieces(site, stamp, &mut store.unasked, out)?;
+    Ok(())
+}
+
+/// Asks for blocks.
+fn read_blocks<'a>(
+    site: &Site,
+    stamp: Stamp,
+    view: &mut CubView,
+    out: &mut Outbox<Msg<'a>>,
+) -> Result<(), NoMemory>
+    requires reading { stamp.reading ≤ 1000000000000 }
+    requires plan { view.old.params ≡ site.now.plan.params }
+    requires lines { AllByRecursion (IsLineOf site.now.plan.params site.now.cub.0) view.old.lines }
+    ensures view { OnOk result (view.new ≡ record view.old { lines = map (ask_line site.now.plan.params stamp) view.old.lines }) }
+    ensures outs { OnOk result (out.new ≡ out.old ++ flat_map (ask_outs site.now.plan.params stamp) view.old.lines) }
+{
+    let time = stamp.reading + site.plan.params.read_lead;
+    let mut next = after_by(&site.plan, view, None, time);
+    while let Some(line) = next {
+        read_block(site, stamp, view, line, out)?;
+        next = after_by(&site.plan, view, Some(line.key()), time);
+    }
+    Ok(())
+}
+
+/// Asks for the block of one line.
+fn read_block<'a>(
+    site: &Site,
+    stamp: Stamp,
+    view: &mut CubView,
+    line: Line,
+    out: &mut Outbox<Msg<'a>>,
+) -> Result<(), NoMemory>
+    requires reading { stamp.reading ≤ 1000000000000 }
+    requires line { IsLineOf site.now.plan.params site.now.cub.0 line }
+    requires key { IsKey view.old.params (key_of line) }
+    requires there { line_at (key_of line) view.old.lines ≡ Some line }
+    requires walk { IsWalk view.old.params view.old.lines }
+    ensures view { OnOk result (view.new ≡ record view.old { lines = replaced (key_of line) (ask_line site.now.plan.params stamp line ∷ []) view.old.lines }) }
+    ensures outs { OnOk result (out.new ≡ out.old ++ ask_outs site.now.plan.params stamp line) }
+{
+    if must_read(&site.plan, stamp, &line) {
+        let disk = site.plan.disk_of(line.rec.visit);
+        ask(site, disk, want_of(line.rec), out)?;
+        view.mark(line.rec.tenancy.slot, line.rec.visit, Flag::Asked);
+    }
+    Ok(())
+}
+
+/// Whether a line's block is asked for.
+#[tactic(auto, unfolding(cub_rules::specs::Ticks::must_read))]
+fn must_read(plan: &Plan, stamp: Stamp, line: &Line) -> bool
+    requires reading { stamp.reading ≤ 1000000000000 }
+    requires key { IsKey plan.now.params (key_of line.now) }
+    ensures { result ≡ must_read plan.now.params stamp line.now }
+{
+    let due = plan.due(line.rec.tenancy.slot, line.rec.visit);
+    is_own(line.rec.kind) && !line.asked && due <= stamp.reading + plan.params.read_lead
+}
+
+/// The block of a record.
+pub(crate) fn want_of(rec: Rec) -> Want
+    requires { rec.tenancy.first ≤ rec.visit }
+    ensures { result ≡ want_of rec }
+{
+    Want {
+        instance: rec.tenancy.instance,
+        slot: rec.tenancy.slot,
+        visit: rec.visit,
+        file: rec.tenancy.file,
+        block: rec.visit - rec.tenancy.first,
+        piece: 0,
+    }
+}
+
+/// Asks a disk.
+fn ask<'a>(site: &Site, disk: DiskNo, want: Want, out: &mut Outbox<Msg<'a>>) -> Result<(), NoMemory>
+    requires { disk.0 < site.now.plan.params.cubs * site.now.plan.params.disks }
+    ensures { OnOk result (out.new ≡ out.old ++ asks site.now.plan.params disk.0 want) }
+{
+    out.push(Out::Send(site.to_disk(disk), Msg::ReadAsk(want)))?;
+    Ok(())
+}
+
+/// Asks for pieces.
+fn read_pieces<'a>(
+    site: &Site,
+    stamp: Stamp,
+    unasked: &mut PieceView,
+    out: &mut Outbox<Msg<'a>>,
+) -> Result<(), NoMemory>
+    requires reading { stamp.reading ≤ 1000000000000 }
+    requires plan { unasked.old.params ≡ site.now.plan.params }
+    requires pieces { AllByRecursion (IsPieceAt site.now.plan.params site.now.cub.0) unasked.old.items }
+    ensures pieces { OnOk result (unasked.new ≡ pieces_but (leaves_by site.now.plan.params (stamp.reading + site.now.plan.params.read_lead)) unasked.old) }
+    ensures outs { OnOk result (out.new ≡ out.old ++ map (asked_of_disk site.now.plan.params) (filter (leaves_by site.now.plan.params (stamp.reading + site.now.plan.params.read_lead)) unasked.old.items)) }
+{
+    let time = stamp.reading + site.plan.params.read_lead;
+    while let Some(piece) = take_leaving(&site.plan, unasked, time) {
+        read_piece(site, piece, out)?;
+    }
+    Ok(())
+}
+
+/// Asks for one piece.
+fn read_piece<'a>(site: &Site, piece: PieceState, out: &mut Outbox<Msg<'a>>) -> Result<(), NoMemory>
+    requires piece { IsPieceAt site.now.plan.params site.now.cub.0 piece }
+    ensures { OnOk result (out.new ≡ out.old ++ asked_of_disk site.now.plan.params piece ∷ []) }
+{
+    let params = &site.plan.params;
+    let disks = (params.cubs * params.disks) as u32;
+    let disk = piece_disk(site.plan.disk_of(piece.visit), piece.piece, disks);
+    ask(site, disk, want_of_piece(piece), out)
+}
+
+/// The piece of a piece record.
+pub(crate) fn want_of_piece(piece: PieceState) -> Want
+    requires { piece.tenancy.first ≤ piece.visit }
+    ensures { result ≡ want_of_piece piece }
+{
+    Want {
+        instance: piece.tenancy.instance,
+        slot: piece.tenancy.slot,
+        visit: piece.visit,
+        file: piece.tenancy.file,
+        block: piece.visit - piece.tenancy.first,
+        piece: piece.piece,
+    }
+}
+
+/// Whether a record is the cub's own.
+pub(crate) fn is_own(kind: Kind) -> bool
+    ensures { result ≡ is_own kind }
+{
+    match kind {
+        Kind::Own => true,
+        Kind::Backup => false,
+    }
+}

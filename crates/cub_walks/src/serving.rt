@@ -1,0 +1,227 @@
+//! Serving: blocks and pieces go to the viewers when they are due, and their records are dropped.
+ghost use Rattle.std.specs.Prelude.{◌≡◌, ◌≤◌, ◌++◌, ◌∷◌, [], OnOk, Some, map, filter, not};
+ghost use Rattle.std.specs.List.{AllByRecursion, flat_map};
+ghost use Rattle.slot_plan.specs.Keys.{IsKey};
+ghost use Rattle.partial_view.specs.Lines.{key_of};
+ghost use Rattle.partial_view.specs.Views.{IsWalk, line_at};
+ghost use Rattle.partial_view.specs.Walks.{replaced};
+ghost use Rattle.rule_kit.specs.Deeds.{Did};
+ghost use Rattle.cub_rules.specs.State.{IsStoreOf, IsLineOf, IsPieceAt, want_of};
+ghost use Rattle.cub_rules.specs.Records.{pieces_but, stored_for, dropped};
+ghost use Rattle.cub_rules.specs.Ticks.{serving, is_served, is_past, serve_outs, sent_whole, piece_outs, leaves_by};
+ghost use Rattle.cub_walks.specs.Stopping.{served_line, past_line, past_outs};
+
+use crate::leaving::{drop_leaving, take_leaving};
+use crate::reading::{is_own, want_of, want_of_piece};
+use crate::walking::after_by;
+use cub_rules::{Store, StoredPart};
+use cub_view::CubView;
+use mirror_schedule::PieceView;
+use node_kit::{Out, Outbox, What};
+use partial_view::Line;
+use rule_kit::Site;
+use slot_plan::Plan;
+use tiger_base::{Msg, NoMemory, Part, PieceState, Sequence, Stamp, Want};
+
+/// Sends the block of each own record that is due, where its part is stored, and drops the record; then drops each backup
+/// record that is due; then sends each piece that leaves, where its part is stored, and drops the piece record. Each walk
+/// stops at the first that leaves later.
+pub fn serve<'a>(
+    site: &Site,
+    stamp: Stamp,
+    store: &mut Store<'a>,
+    out: &mut Outbox<Msg<'a>>,
+) -> Result<(), NoMemory>
+    requires reading { stamp.reading ≤ 1000000000000 }
+    requires stored { IsStoreOf site.now.plan.params site.now.cub.0 store.old }
+    ensures { OnOk result (Did (serving site.now.plan.params site.now.cub.0 stamp store.old) out.old out.new store.new) }
+{
+    serve_blocks(site, stamp, &mut store.view, &store.parts, out)?;
+    drop_backups(site, stamp, &mut store.view, out)?;
+    serve_pieces(site, stamp, &mut store.pieces, &store.parts, out)?;
+    drop_leaving(&site.plan, &mut store.unasked, stamp.reading);
+    Ok(())
+}
+
+/// Serves the own records that are due.
+fn serve_blocks<'a>(
+    site: &Site,
+    stamp: Stamp,
+    view: &mut CubView,
+    parts: &Sequence<StoredPart<'a>>,
+    out: &mut Outbox<Msg<'a>>,
+) -> Result<(), NoMemory>
+    requires reading { stamp.reading ≤ 1000000000000 }
+    requires plan { view.old.params ≡ site.now.plan.params }
+    requires lines { AllByRecursion (IsLineOf site.now.plan.params site.now.cub.0) view.old.lines }
+    ensures view { OnOk result (view.new ≡ record view.old { lines = filter (λ x. not (is_served site.now.plan.params stamp x)) view.old.lines }) }
+    ensures outs { OnOk result (out.new ≡ out.old ++ flat_map (serve_outs site.now.plan.params site.now.cub.0 stamp parts.now) view.old.lines) }
+{
+    let mut next = after_by(&site.plan, view, None, stamp.reading);
+    while let Some(line) = next {
+        serve_block(site, stamp, view, parts, line, out)?;
+        next = after_by(&site.plan, view, Some(line.key()), stamp.reading);
+    }
+    Ok(())
+}
+
+/// Serves one line, where it is an own record's that is due.
+fn serve_block<'a>(
+    site: &Site,
+    stamp: Stamp,
+    view: &mut CubView,
+    parts: &Sequence<StoredPart<'a>>,
+    line: Line,
+    out: &mut Outbox<Msg<'a>>,
+) -> Result<(), NoMemory>
+    requires line { IsLineOf site.now.plan.params site.now.cub.0 line }
+    requires key { IsKey view.old.params (key_of line) }
+    requires there { line_at (key_of line) view.old.lines ≡ Some line }
+    requires walk { IsWalk view.old.params view.old.lines }
+    ensures view { OnOk result (view.new ≡ record view.old { lines = replaced (key_of line) (served_line site.now.plan.params stamp line) view.old.lines }) }
+    ensures outs { OnOk result (out.new ≡ out.old ++ serve_outs site.now.plan.params site.now.cub.0 stamp parts.now line) }
+{
+    if is_served(&site.plan, stamp, &line) {
+        send_whole(site, stamp, want_of(line.rec), parts, out)?;
+        out.push(Out::Act(What::Dropped(line.rec)))?;
+        view.remove(line.rec.tenancy.slot, line.rec.visit);
+    }
+    Ok(())
+}
+
+/// Whether a line is an own record's that is due.
+#[tactic(auto, unfolding(cub_rules::specs::Ticks::is_served))]
+fn is_served(plan: &Plan, stamp: Stamp, line: &Line) -> bool
+    requires { IsKey plan.now.params (key_of line.now) }
+    ensures { result ≡ is_served plan.now.params stamp line.now }
+{
+    let due = plan.due(line.rec.tenancy.slot, line.rec.visit);
+    is_own(line.rec.kind) && due <= stamp.reading
+}
+
+/// Sends a block to the viewers, where its part is stored.
+fn send_whole<'a>(
+    site: &Site,
+    stamp: Stamp,
+    want: Want,
+    parts: &Sequence<StoredPart<'a>>,
+    out: &mut Outbox<Msg<'a>>,
+) -> Result<(), NoMemory>
+    ensures { OnOk result (out.new ≡ out.old ++ sent_whole site.now.plan.params site.now.cub.0 stamp want (stored_for want parts.now)) }
+{
+    if let Some(part) = stored_for(want, parts) {
+        let sent = stamp.beat;
+        out.push(Out::Send(site.to_viewers(), Msg::Whole { want, sent, part }))?;
+    }
+    Ok(())
+}
+
+/// The part that is stored for a want.
+fn stored_for<'a>(want: Want, parts: &Sequence<StoredPart<'a>>) -> Option<Part<'a>>
+    ensures { result ≡ stored_for want parts.now }
+{
+    find_part(want, parts.as_slice())
+}
+
+/// The first part that is for a want.
+#[tactic(auto, unfolding(cub_rules::specs::Records::stored_for))]
+fn find_part<'a>(want: Want, parts: &[StoredPart<'a>]) -> Option<Part<'a>>
+    ensures { result ≡ stored_for want parts.now }
+{
+    for x in parts {
+        if x.want == want {
+            return Some(x.part.again());
+        }
+    }
+    None
+}
+
+/// Drops the backup records that are due.
+fn drop_backups<'a>(
+    site: &Site,
+    stamp: Stamp,
+    view: &mut CubView,
+    out: &mut Outbox<Msg<'a>>,
+) -> Result<(), NoMemory>
+    requires reading { stamp.reading ≤ 1000000000000 }
+    requires plan { view.old.params ≡ site.now.plan.params }
+    ensures view { OnOk result (view.new ≡ record view.old { lines = filter (λ x. not (is_past site.now.plan.params stamp x)) view.old.lines }) }
+    ensures outs { OnOk result (out.new ≡ out.old ++ map dropped (filter (is_past site.now.plan.params stamp) view.old.lines)) }
+{
+    let mut next = after_by(&site.plan, view, None, stamp.reading);
+    while let Some(line) = next {
+        drop_backup(&site.plan, stamp, view, line, out)?;
+        next = after_by(&site.plan, view, Some(line.key()), stamp.reading);
+    }
+    Ok(())
+}
+
+/// Drops one line, where it is a backup record's that is due.
+fn drop_backup<'a>(
+    plan: &Plan,
+    stamp: Stamp,
+    view: &mut CubView,
+    line: Line,
+    out: &mut Outbox<Msg<'a>>,
+) -> Result<(), NoMemory>
+    requires plan { view.old.params ≡ plan.now.params }
+    requires key { IsKey view.old.params (key_of line) }
+    requires there { line_at (key_of line) view.old.lines ≡ Some line }
+    requires walk { IsWalk view.old.params view.old.lines }
+    ensures view { OnOk result (view.new ≡ record view.old { lines = replaced (key_of line) (past_line plan.now.params stamp line) view.old.lines }) }
+    ensures outs { OnOk result (out.new ≡ out.old ++ past_outs plan.now.params stamp line) }
+{
+    if is_past(plan, stamp, &line) {
+        out.push(Out::Act(What::Dropped(line.rec)))?;
+        view.remove(line.rec.tenancy.slot, line.rec.visit);
+    }
+    Ok(())
+}
+
+/// Whether a line is a backup record's that is due.
+#[tactic(auto, unfolding(cub_rules::specs::Ticks::is_past))]
+fn is_past(plan: &Plan, stamp: Stamp, line: &Line) -> bool
+    requires { IsKey plan.now.params (key_of line.now) }
+    ensures { result ≡ is_past plan.now.params stamp line.now }
+{
+    let due = plan.due(line.rec.tenancy.slot, line.rec.visit);
+    !is_own(line.rec.kind) && due <= stamp.reading
+}
+
+/// Serves the piece records that leave.
+fn serve_pieces<'a>(
+    site: &Site,
+    stamp: Stamp,
+    pieces: &mut PieceView,
+    parts: &Sequence<StoredPart<'a>>,
+    out: &mut Outbox<Msg<'a>>,
+) -> Result<(), NoMemory>
+    requires plan { pieces.old.params ≡ site.now.plan.params }
+    requires pieces { AllByRecursion (IsPieceAt site.now.plan.params site.now.cub.0) pieces.old.items }
+    ensures pieces { OnOk result (pieces.new ≡ pieces_but (leaves_by site.now.plan.params stamp.reading) pieces.old) }
+    ensures outs { OnOk result (out.new ≡ out.old ++ flat_map (piece_outs site.now.plan.params site.now.cub.0 stamp parts.now) (filter (leaves_by site.now.plan.params stamp.reading) pieces.old.items)) }
+{
+    while let Some(piece) = take_leaving(&site.plan, pieces, stamp.reading) {
+        send_piece(site, stamp, piece, parts, out)?;
+    }
+    Ok(())
+}
+
+/// Sends a piece to the viewers, where its part is stored.
+fn send_piece<'a>(
+    site: &Site,
+    stamp: Stamp,
+    piece: PieceState,
+    parts: &Sequence<StoredPart<'a>>,
+    out: &mut Outbox<Msg<'a>>,
+) -> Result<(), NoMemory>
+    requires { IsPieceAt site.now.plan.params site.now.cub.0 piece }
+    ensures { OnOk result (out.new ≡ out.old ++ piece_outs site.now.plan.params site.now.cub.0 stamp parts.now piece) }
+{
+    let want = want_of_piece(piece);
+    if let Some(part) = stored_for(want, parts) {
+        let sent = stamp.beat;
+        out.push(Out::Send(site.to_viewers(), Msg::Piece { want, sent, part }))?;
+    }
+    Ok(())
+}

@@ -1,0 +1,43 @@
+//! The lines of a cub's view, one after another.
+ghost use Rattle.std.specs.Prelude.{◌≡◌, IfSome};
+ghost use Rattle.std.specs.Option.{ForSome};
+ghost use Rattle.slot_plan.specs.Keys.{IsKey};
+ghost use Rattle.partial_view.specs.Lines.{key_of};
+ghost use Rattle.partial_view.specs.Views.{IsWalk, next_behind};
+ghost use Rattle.cub_walks.specs.Stopping.{due_by};
+
+use cub_view::CubView;
+use partial_view::Line;
+use slot_plan::Plan;
+use tiger_base::{Micros, SlotNo, Visit};
+
+/// The next line behind a slot and visit, or the first where none is given; `None` exactly where there is none.
+pub(crate) fn after(view: &CubView, key: Option<(SlotNo, Visit)>) -> Option<Line>
+    requires { ForSome key (IsKey view.now.params) }
+    ensures next { result ≡ next_behind view.now.params key view.now.lines }
+    ensures key { IfSome result (λ line. IsKey view.now.params (key_of line)) }
+    ensures walk { IsWalk view.now.params view.now.lines }
+{
+    view.view().after(key)
+}
+
+/// That line, where it is due at a time or before it.
+pub(crate) fn after_by(
+    plan: &Plan,
+    view: &CubView,
+    key: Option<(SlotNo, Visit)>,
+    time: Micros,
+) -> Option<Line>
+    requires plan { view.now.params ≡ plan.now.params }
+    requires key { ForSome key (IsKey view.now.params) }
+    ensures next { result ≡ due_by plan.now.params time (next_behind view.now.params key view.now.lines) }
+    ensures key { IfSome result (λ line. IsKey view.now.params (key_of line)) }
+    ensures walk { IsWalk view.now.params view.now.lines }
+{
+    let line = after(view, key)?;
+    if plan.due(line.rec.tenancy.slot, line.rec.visit) <= time {
+        Some(line)
+    } else {
+        None
+    }
+}

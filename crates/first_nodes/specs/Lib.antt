@@ -1,6 +1,0 @@
-pub mod AllNodes
-pub mod Audience
-pub mod Others
-pub mod Rules
-pub mod State
-pub mod Ways

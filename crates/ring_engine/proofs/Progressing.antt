@@ -1,0 +1,397 @@
+-- The progress of a run, node by node and link by link.
+use Rattle.std.proofs.Common.{add-one, ◌≡◌, ◌≢◌, ℕ, zero, suc, ◌+◌, ◌<◌, ◌≤◌, List, [], ◌∷◌, ◌++◌, map, filter, length, Bool, true, false, Some, None, refl, ap, sym, ◌∙◌, subst, arith, cond, ⊎_elim, append-nil}
+use Rattle.std.specs.Prelude.{slice_get, nat_lt, ◌==◌, if◌then◌else◌}
+use Rattle.std.specs.List.{AllByRecursion}
+use Rattle.std.proofs.lemmas.Bool.{cases_Bool, cases_eq, eq-eqb, ne_eqb}
+use Rattle.std.proofs.lemmas.Bool.Decides.{nat_tests}
+use Rattle.tiger_base.specs.declared.number.Stamp.{Stamp}
+use Rattle.tiger_base.specs.declared.number.LinkNo.{LinkNo}
+use Rattle.tiger_base.specs.declared.message.Note.{Note}
+use Rattle.slot_plan.specs.declared.params.Params.{Params}
+use Rattle.link_timing.specs.Clock.{Clock, new_clock}
+use Rattle.link_timing.proofs.Arrivals.{IsClock-new_clock}
+use Rattle.node_kit.specs.declared.course.Course.{Course}
+use Rattle.node_kit.specs.declared.journal.Entry.{Entry}
+use Rattle.node_kit.specs.Courses.{IsCourse}
+use Rattle.node_kit.specs.Life.{Lifetime, lifetime_of, acts, dies}
+use Rattle.node_kit.specs.Links.{links_of, ends_of, link_count, IsInLink}
+use Rattle.node_kit.specs.Steps.{Input, Deed}
+use Rattle.node_kit.specs.Steps.Input.{Take, Tick}
+use Rattle.node_kit.proofs.Ring.{ends_counted}
+use Rattle.run_facts.specs.Events.{NodeEvent, Past, Dated, after_all, stamp_at, AreFair, sends_along, takes_along}
+use Rattle.run_facts.specs.Events.NodeEvent.{Does, Dies}
+use Rattle.run_facts.specs.Paced.{brought}
+use Rattle.run_facts.proofs.Rows.{all-append, all-weaker}
+use Rattle.run_facts.proofs.Along.{life-after, after_all-append, sends-append, takes-append, fair-append, sends-in_beat, sends-none}
+use Rattle.run_facts.proofs.Links.{is_caught, arriving, OnLink, link-opens, link-brings}
+use Rattle.run_facts.proofs.Timelines.{IsTakeAt, AreInTurn, IsTimeline, timeline-opens, timeline-acts, timeline-dies, timeline-idle}
+use Rattle.ring_engine.specs.declared.mail.Letter.{Letter}
+use Rattle.ring_engine.specs.Traffic.{Traffic, after_arrivals, collected, after_collecting}
+use Rattle.ring_engine.specs.Turns.{Scene, letter_events, end_events, beat_events, turn}
+use Rattle.ring_engine.specs.Runs.{stamp_in, opening_of}
+use Rattle.ring_engine.specs.Places.{new_channel, in_links_of, Ring, IsAt}
+use Rattle.ring_engine.specs.Whole.{opening_ring, with_node, brought_to, HasTurn, HaveTurns, HavePassed, IsWholeRun}
+use Rattle.ring_engine.proofs.Below.{get-each_below, length-each_below, links_into-lead}
+use Rattle.ring_engine.proofs.Happening.{end-acting, end-dying, end-idle}
+use Rattle.ring_engine.proofs.Running.{get-set_same, length-set_at, same-element, elsewhere, turn-past}
+use Rattle.ring_engine.proofs.Channels.{sent_all, happen-at, pass, sends-on, has_link, emptied-at, under_way-waiting, bring, on_link, collected-at, has-into, into-rises, collected-link, collected-rises, events-takes, events-in_turn, events-idle, beat-takes}
+
+-- the number of beats that node k has come through, where the nodes below n have come through beat b
+abbrev pub next_of : ℕ → ℕ → ℕ → ℕ
+next_of b n k = if nat_lt k n then b + 1 else b
+
+next-here : (b n : ℕ) → next_of b n n ≡ b
+next-here b n = let e : nat_lt n n ≡ false = grind (arith, nat_tests) in rw e refl
+
+next-then : (b n : ℕ) → next_of b (suc n) n ≡ b + 1
+next-then b n = let e : nat_lt n (suc n) ≡ true = grind (arith, nat_tests) in rw e refl
+
+next-other : (b n k : ℕ) → k ≢ n → next_of b (suc n) k ≡ next_of b n k
+next-other b n k other = ⊎_elim
+    (λ (e : nat_lt k n ≡ true). let f : nat_lt k (suc n) ≡ true = grind (arith, nat_tests, e) in rw (e, f) refl)
+    (λ (e : nat_lt k n ≡ false). let f : nat_lt k (suc n) ≡ false = grind (arith, nat_tests, e, other) in rw (e, f) refl)
+    (cases_Bool (nat_lt k n))
+
+next-low : (b n k : ℕ) → next_of b n k ≤ b + 1
+next-low b n k = ⊎_elim
+    (λ (e : nat_lt k n ≡ true). rw e (omega arith))
+    (λ (e : nat_lt k n ≡ false). rw e (omega arith))
+    (cases_Bool (nat_lt k n))
+
+next-all : (b n k : ℕ) → k < n → next_of b n k ≡ b + 1
+next-all b n k h = let e : nat_lt k n ≡ true = grind (arith, nat_tests, h) in rw e refl
+
+pub next-none : (b k : ℕ) → next_of b 0 k ≡ b
+next-none b k = let e : nat_lt k 0 ≡ false = grind (arith, nat_tests) in rw e refl
+
+-- a link between two nodes whose events are known
+pub record OnChannel {M S : Type 0} (note : M → Note) (step : S → Input M → Deed M S) (c : Course) (first : ℕ → S) (events : ℕ → List (NodeEvent M))
+    (b n l from to : ℕ) (channels : List (Traffic M)) : Type 0 where
+  pub traffic : Traffic M
+  pub here : slice_get channels l ≡ Some traffic
+  pub calm : traffic.clock.last_send ≤ b
+  pub account : OnLink (lifetime_of c to) c.plan.params.delay (new_clock l c.delay c.plan.params.delay)
+      (sends_along note step l (events from) (opening_of c from (first from))) (takes_along l (events to)) traffic.clock (map pass traffic.flights) (next_of b n to)
+
+-- what happened to the nodes, of which those below n have come through beat b
+pub record Progress {M S : Type 0} (note : M → Note) (step : S → Input M → Deed M S) (c : Course) (count : ℕ) (first : ℕ → S) (b n : ℕ) (r : Ring M S) : Type 0 where
+  pub events : ℕ → List (NodeEvent M)
+  pub size : length r.journals ≡ count
+  pub here : (k : ℕ) → k < count → IsAt r k (after_all note step (events k) (opening_of c k (first k)))
+  pub fair : (k : ℕ) → k < count → AreFair note step c.plan.params k (events k) (opening_of c k (first k))
+  pub timeline : (k : ℕ) → k < count → IsTimeline (stamp_in c k) c.plan.params k (lifetime_of c k) (next_of b n k) (events k)
+  pub links : (l from to : ℕ) → from < count → to < count → ends_of (links_of c.plan.params) l ≡ Some (from, to)
+      → OnChannel note step c first events b n l from to r.channels
+
+-- a node's part of its beat
+beat-timeline : {M S : Type 0} (note : M → Note) (step : S → Input M → Deed M S) (c : Course) (n b : ℕ) (ls : List (Letter M)) (past : Past S) (es : List (NodeEvent M))
+    → past.life ≡ lifetime_of c n → AllByRecursion (IsTakeAt (stamp_in c n b) c.plan.params n) (letter_events note step (stamp_in c n b) ls past)
+    → AreInTurn (letter_events note step (stamp_in c n b) ls past) → IsTimeline (stamp_in c n) c.plan.params n (lifetime_of c n) b es
+    → IsTimeline (stamp_in c n) c.plan.params n (lifetime_of c n) (b + 1) (es ++ beat_events note step (stamp_in c n b) ls past)
+unfolding beat_events
+beat-timeline {M} note step c n b ls past es same takes turn timeline =
+    let p = c.plan.params in
+    let stamp = stamp_in c n b in
+    let life = lifetime_of c n in
+    let taken = letter_events note step stamp ls past in
+    let still : (after_all note step taken past).life ≡ life = life-after note step taken past ∙ same in
+    let whole : (end : List (NodeEvent M)) → end_events stamp life ≡ end → IsTimeline (stamp_in c n) p n life (b + 1) (es ++ (taken ++ end))
+    → IsTimeline (stamp_in c n) p n life (b + 1) (es ++ (taken ++ end_events stamp (after_all note step taken past).life)) =
+    λ end is done. subst (λ q. IsTimeline (stamp_in c n) p n life (b + 1) (es ++ (taken ++ q))) (sym (ap (end_events stamp) still ∙ is)) done in
+    ⊎_elim
+    (λ (live : acts life b ≡ true).
+    whole (Does (Tick stamp) ∷ []) (end-acting stamp life live) (timeline-acts (stamp_in c n) p n life b es taken (λ k. refl) live takes turn timeline))
+    (λ (idle : acts life b ≡ false).
+    let none : taken ≡ [] = events-idle note step stamp ls past (ap (λ (q : Lifetime). acts q b) same ∙ idle) in
+    ⊎_elim
+    (λ (dead : dies life b ≡ true).
+    whole (Dies stamp ∷ []) (end-dying stamp life idle dead)
+    (subst (λ q. IsTimeline (stamp_in c n) p n life (b + 1) (es ++ (q ++ Dies stamp ∷ []))) (sym none) (timeline-dies (stamp_in c n) p n life b es (λ k. refl) idle dead timeline)))
+    (λ (undead : dies life b ≡ false).
+    whole [] (end-idle stamp life idle undead)
+    (subst (λ q. IsTimeline (stamp_in c n) p n life (b + 1) q) (sym (ap (λ q. es ++ (q ++ [])) none ∙ append-nil es)) (timeline-idle (stamp_in c n) p n life b es idle undead timeline)))
+    (cases_Bool (dies life b)))
+    (cases_Bool (acts life b))
+
+-- the events that node k has besides, where node n has its turn
+abbrev more : {M : Type 0} → ℕ → List (NodeEvent M) → ℕ → List (NodeEvent M)
+more n es k = cond (k == n) es []
+
+more-here : {M : Type 0} (n : ℕ) (es : List (NodeEvent M)) (k : ℕ) → k ≡ n → more n es k ≡ es
+more-here n es k same = ap (λ b. cond b es []) (eq-eqb k n same)
+
+more-other : {M : Type 0} (n : ℕ) (es : List (NodeEvent M)) (k : ℕ) → k ≢ n → more n es k ≡ []
+more-other n es k other = ap (λ b. cond b es []) (ne_eqb k n other)
+
+with-more : {M : Type 0} (n : ℕ) (es old : List (NodeEvent M)) (k : ℕ) → k ≢ n → old ≡ old ++ more n es k
+with-more n es old k other = sym (append-nil old) ∙ ap (λ q. old ++ q) (sym (more-other n es k other))
+
+-- the links in a turn
+channels-turn : {M S : Type 0} (note : M → Note) (step : S → Input M → Deed M S) (stamp : Stamp) (links : List LinkNo) (past : Past S) (ts : List (Traffic M)) (l : ℕ) (t : Traffic M)
+    → slice_get ts l ≡ Some t
+    → slice_get (turn note step stamp links (record { past = past; channels = ts })).channels l
+    ≡ Some (sent_all (sends_along note step l (beat_events note step stamp (collected stamp.beat links ts) past) past) (cond (has_link l links) (after_arrivals stamp.beat t) t))
+unfolding turn
+channels-turn note step stamp links past ts l t h =
+    happen-at note step l (beat_events note step stamp (collected stamp.beat links ts) past) (record { past = past; channels = after_collecting stamp.beat links ts })
+    (cond (has_link l links) (after_arrivals stamp.beat t) t) (emptied-at stamp.beat l links ts t h)
+
+-- the receiver's part
+receives : {M S : Type 0} (note : M → Note) (step : S → Input M → Deed M S) (c : Course) (b n l to : ℕ) (start : Clock) (sent : List (Dated M)) (old : List (NodeEvent M))
+    (past : Past S) (ts : List (Traffic M)) (t : Traffic M) → slice_get ts l ≡ Some t → past.life ≡ lifetime_of c n
+    → has_link l (in_links_of (links_of c.plan.params) n) ≡ (to == n)
+    → OnLink (lifetime_of c to) c.plan.params.delay start sent (takes_along l old) t.clock (map pass t.flights) (next_of b n to)
+    → OnLink (lifetime_of c to) c.plan.params.delay start sent
+    (takes_along l (old ++ more n (beat_events note step (stamp_in c n b) (collected b (in_links_of (links_of c.plan.params) n) ts) past) to))
+    (cond (has_link l (in_links_of (links_of c.plan.params) n)) (after_arrivals b t) t).clock
+    (map pass (cond (has_link l (in_links_of (links_of c.plan.params) n)) (after_arrivals b t) t).flights) (next_of b (suc n) to)
+receives {M} {S} note step c b n l to start sent old past ts t here same leads on =
+    let p = c.plan.params in
+    let links = in_links_of (links_of p) n in
+    let letters = collected b links ts in
+    let es = beat_events note step (stamp_in c n b) letters past in
+    let goal_at : Bool → List (NodeEvent M) → ℕ → Type 0 = λ q new next.
+    OnLink (lifetime_of c to) p.delay start sent (takes_along l new) (cond q (after_arrivals b t) t).clock (map pass (cond q (after_arrivals b t) t).flights) next in
+    ⊎_elim
+    (λ (is_n : to ≡ n).
+    let yes_link : has_link l links ≡ true = leads ∙ eq-eqb to n is_n in
+    let now : next_of b n to ≡ b = ap (next_of b n) is_n ∙ next-here b n in
+    let then_next : b + 1 ≡ next_of b (suc n) to = sym (next-then b n) ∙ sym (ap (next_of b (suc n)) is_n) in
+    let on_b = subst (λ q. OnLink (lifetime_of c to) p.delay start sent (takes_along l old) t.clock (map pass t.flights) q) now on in
+    let new = link-brings (lifetime_of c to) p.delay start sent (takes_along l old) t.clock (map pass t.flights) b on_b in
+    let arrive : map (bring b) (filter (on_link l) letters) ≡ arriving b (map pass t.flights) =
+    collected-at b l links ts t here on_b.ahead ∙ ap (λ q. cond q (arriving b (map pass t.flights)) []) yes_link in
+    let life : past.life ≡ lifetime_of c to = same ∙ ap (lifetime_of c) (sym is_n) in
+    let got : takes_along l es ≡ map brought (filter (is_caught (lifetime_of c to)) (arriving b (map pass t.flights))) =
+    beat-takes note step (stamp_in c n b) l (lifetime_of c to) letters past life ∙ ap (λ q. map brought (filter (is_caught (lifetime_of c to)) q)) arrive in
+    let all_got : takes_along l old ++ map brought (filter (is_caught (lifetime_of c to)) (arriving b (map pass t.flights))) ≡ takes_along l (old ++ more n es to) =
+    ap (λ q. takes_along l old ++ q) (sym got) ∙ sym (takes-append l old es) ∙ ap (λ q. takes_along l (old ++ q)) (sym (more-here n es to is_n)) in
+    subst (λ q. goal_at q (old ++ more n es to) (next_of b (suc n) to)) (sym yes_link)
+    (subst (λ q. OnLink (lifetime_of c to) p.delay start sent q t.clock (map pass (after_arrivals b t).flights) (next_of b (suc n) to)) all_got
+    (subst (λ q. OnLink (lifetime_of c to) p.delay start sent (takes_along l old ++ map brought (filter (is_caught (lifetime_of c to)) (arriving b (map pass t.flights)))) t.clock (map pass (after_arrivals b t).flights) q) then_next
+    (subst (λ q. OnLink (lifetime_of c to) p.delay start sent (takes_along l old ++ map brought (filter (is_caught (lifetime_of c to)) (arriving b (map pass t.flights)))) t.clock q (b + 1)) (sym (under_way-waiting b t.flights)) new))))
+    (λ (other : to ≢ n).
+    let no_link : has_link l links ≡ false = leads ∙ ne_eqb to n other in
+    subst (λ q. goal_at q (old ++ more n es to) (next_of b (suc n) to)) (sym no_link)
+    (subst (λ q. goal_at false q (next_of b (suc n) to)) (with-more n es old to other)
+    (subst (λ q. goal_at false old q) (sym (next-other b n to other)) on)))
+    (cases_eq to n)
+
+-- the sender's part
+sends-more : {M S : Type 0} (note : M → Note) (step : S → Input M → Deed M S) (c : Course) (first : ℕ → S) (events : ℕ → List (NodeEvent M)) (n l from to : ℕ) (es : List (NodeEvent M)) (past : Past S)
+    → past ≡ after_all note step (events n) (opening_of c n (first n)) → AreFair note step c.plan.params n es past → ends_of (links_of c.plan.params) l ≡ Some (from, to)
+    → sends_along note step l (events from) (opening_of c from (first from)) ++ sends_along note step l es past
+    ≡ sends_along note step l (events from ++ more n es from) (opening_of c from (first from))
+sends-more note step c first events n l from to es past is fair ends = ⊎_elim
+    (λ (same : from ≡ n).
+    ap (λ q. sends_along note step l (events from) (opening_of c from (first from)) ++ sends_along note step l es q) (is ∙ sym (ap (λ k. after_all note step (events k) (opening_of c k (first k))) same))
+    ∙ sym (sends-append note step l (events from) es (opening_of c from (first from)))
+    ∙ ap (λ q. sends_along note step l (events from ++ q) (opening_of c from (first from))) (sym (more-here n es from same)))
+    (λ (other : from ≢ n).
+    ap (λ q. sends_along note step l (events from) (opening_of c from (first from)) ++ q) (sends-none note step c.plan.params n from to l es past ends other fair)
+    ∙ append-nil (sends_along note step l (events from) (opening_of c from (first from)))
+    ∙ ap (λ q. sends_along note step l q (opening_of c from (first from))) (with-more n es (events from) from other))
+    (cases_eq from n)
+
+-- a link in a turn
+link-turn : {M S : Type 0} (note : M → Note) (step : S → Input M → Deed M S) (c : Course) (first : ℕ → S) (events : ℕ → List (NodeEvent M)) (b n l from to : ℕ) (past : Past S) (ts : List (Traffic M))
+    → b ≤ 100000 → past.life ≡ lifetime_of c n → past ≡ after_all note step (events n) (opening_of c n (first n))
+    → AllByRecursion (λ e. (stamp_at e).beat ≡ b) (beat_events note step (stamp_in c n b) (collected b (in_links_of (links_of c.plan.params) n) ts) past)
+    → AreFair note step c.plan.params n (beat_events note step (stamp_in c n b) (collected b (in_links_of (links_of c.plan.params) n) ts) past) past
+    → ends_of (links_of c.plan.params) l ≡ Some (from, to) → OnChannel note step c first events b n l from to ts
+    → OnChannel note step c first (λ k. events k ++ more n (beat_events note step (stamp_in c n b) (collected b (in_links_of (links_of c.plan.params) n) ts) past) k) b (suc n) l from to
+    (turn note step (stamp_in c n b) (in_links_of (links_of c.plan.params) n) (record { past = past; channels = ts })).channels
+link-turn {M} {S} note step c first events b n l from to past ts early life is dated fair ends on =
+    let p = c.plan.params in
+    let links = in_links_of (links_of p) n in
+    let es = beat_events note step (stamp_in c n b) (collected b links ts) past in
+    let t = on.traffic in
+    let t1 : Traffic M = cond (has_link l links) (after_arrivals b t) t in
+    let start = new_clock l c.delay p.delay in
+    let old_sent = sends_along note step l (events from) (opening_of c from (first from)) in
+    let leads : has_link l links ≡ (to == n) = has-into (links_of p) n l (link_count (links_of p)) (ends_counted (links_of p) l (from, to) ends) ∙ ap (λ o. (elim o as (λ _. Bool) [ Some e ↦ e.1 == n | None ↦ false ])) ends in
+    let got = receives note step c b n l to start old_sent (events to) past ts t on.here life leads on.account in
+    let calm : t1.clock.last_send ≤ b = ⊎_elim
+    (λ (q : has_link l links ≡ true). subst (λ (k : Bool). (cond k (after_arrivals b t) t).clock.last_send ≤ b) (sym q) on.calm)
+    (λ (q : has_link l links ≡ false). subst (λ (k : Bool). (cond k (after_arrivals b t) t).clock.last_send ≤ b) (sym q) on.calm)
+    (cases_Bool (has_link l links)) in
+    let next = next-low b (suc n) to in
+    let sent = sends-on (lifetime_of c to) p.delay start old_sent (takes_along l (events to ++ more n es to)) t1 (next_of b (suc n) to) b (sends_along note step l es past)
+    (sends-in_beat note step l b es past dated) calm early next got in
+    record {
+      traffic = sent_all (sends_along note step l es past) t1;
+      here = channels-turn note step (stamp_in c n b) links past ts l t on.here;
+      calm = sent.1;
+      account = subst (λ q. OnLink (lifetime_of c to) p.delay start q (takes_along l (events to ++ more n es to)) (sent_all (sends_along note step l es past) t1).clock
+          (map pass (sent_all (sends_along note step l es past) t1).flights) (next_of b (suc n) to))
+          (sends-more note step c first events n l from to es past is fair ends) sent.0;
+    }
+
+take-beat : {M : Type 0} (stamp : Stamp) (p : Params) (n : ℕ) (e : NodeEvent M) → IsTakeAt stamp p n e → (stamp_at e).beat ≡ stamp.beat
+take-beat stamp p n (Does (Take s l m)) h = ap (λ (q : Stamp). q.beat) h.0
+take-beat stamp p n (Does (Tick s)) h = absurd h
+take-beat stamp p n (Dies s) h = absurd h
+
+end-beat : (M : Type 0) (stamp : Stamp) (life : Lifetime) → AllByRecursion (λ (e : NodeEvent M). (stamp_at e).beat ≡ stamp.beat) (end_events stamp life)
+unfolding end_events
+end-beat M stamp life = ⊎_elim
+    (λ (e : acts life stamp.beat ≡ true). rw e (refl, tt))
+    (λ (e : acts life stamp.beat ≡ false). ⊎_elim
+    (λ (q : dies life stamp.beat ≡ true). rw (e, q) (refl, tt))
+    (λ (q : dies life stamp.beat ≡ false). rw (e, q) tt)
+    (cases_Bool (dies life stamp.beat)))
+    (cases_Bool (acts life stamp.beat))
+
+events-dated : {M S : Type 0} (note : M → Note) (step : S → Input M → Deed M S) (stamp : Stamp) (p : Params) (n : ℕ) (ls : List (Letter M)) (past : Past S)
+    → AllByRecursion (IsTakeAt stamp p n) (letter_events note step stamp ls past) → AllByRecursion (λ e. (stamp_at e).beat ≡ stamp.beat) (beat_events note step stamp ls past)
+unfolding beat_events
+events-dated {M} note step stamp p n ls past takes =
+    all-append (λ (e : NodeEvent M). (stamp_at e).beat ≡ stamp.beat) (letter_events note step stamp ls past) (end_events stamp (after_all note step (letter_events note step stamp ls past) past).life)
+    (all-weaker (IsTakeAt stamp p n) (λ (e : NodeEvent M). (stamp_at e).beat ≡ stamp.beat) (letter_events note step stamp ls past) (λ e h. take-beat stamp p n e h) takes)
+    (end-beat M stamp (after_all note step (letter_events note step stamp ls past) past).life)
+
+-- the progress with one turn more, by a node at a known point
+turn-made : {M S : Type 0} (note : M → Note) (step : S → Input M → Deed M S) (c : Course) (count : ℕ) (first : ℕ → S) (b n : ℕ) (old : Ring M S) (st : Progress note step c count first b n old)
+    (past : Past S) → b ≤ 100000 → n < count → past ≡ after_all note step (st.events n) (opening_of c n (first n))
+    → AreFair note step c.plan.params n (beat_events note step (stamp_in c n b) (brought_to c b n old) past) past
+    → (scene : Scene M S) → scene ≡ turn note step (stamp_in c n b) (in_links_of (links_of c.plan.params) n) (record { past = past; channels = old.channels })
+    → Progress note step c count first b (suc n) (with_node old n scene.past.state scene.past.life scene.past.journal scene.channels)
+turn-made {M} {S} note step c count first b n old st past early below is fair scene turned =
+    let p = c.plan.params in
+    let stamp = stamp_in c n b in
+    let links = in_links_of (links_of p) n in
+    let letters = collected b links old.channels in
+    let es = beat_events note step stamp letters past in
+    let life : past.life ≡ lifetime_of c n = ap (λ (q : Past S). q.life) is ∙ life-after note step (st.events n) (opening_of c n (first n)) in
+    let lead : AllByRecursion (λ (x : Letter M). IsInLink p n x.link.0) letters = collected-link (λ k. IsInLink p n k.0) b links old.channels (links_into-lead p n (link_count (links_of p))) in
+    let takes = events-takes note step stamp p n letters past lead in
+    let dated = events-dated note step stamp p n letters past takes in
+    let in_turn = events-in_turn note step stamp letters past (collected-rises b links old.channels (into-rises (links_of p) n (link_count (links_of p)))) in
+    let new = with_node old n scene.past.state scene.past.life scene.past.journal scene.channels in
+    let now : scene.past ≡ after_all note step es past = ap (λ (q : Scene M S). q.past) turned ∙ turn-past note step stamp links (record { past = past; channels = old.channels }) in
+    let was = st.here n below in
+    let after_n : scene.past ≡ after_all note step (st.events n ++ more n es n) (opening_of c n (first n)) =
+    now ∙ ap (after_all note step es) is ∙ sym (after_all-append note step (st.events n) es (opening_of c n (first n)))
+    ∙ ap (λ q. after_all note step (st.events n ++ q) (opening_of c n (first n))) (sym (more-here n es n refl)) in
+    let here_n : IsAt new n (after_all note step (st.events n ++ more n es n) (opening_of c n (first n))) =
+    subst (λ (q : Past S). IsAt new n q) after_n (record {
+      state = get-set_same old.nodes n scene.past.state _ was.state;
+      life = get-set_same old.lives n scene.past.life _ was.life;
+      journal = get-set_same old.journals n scene.past.journal _ was.journal;
+    }) in
+    let fair_n : AreFair note step p n (st.events n ++ more n es n) (opening_of c n (first n)) =
+    subst (λ q. AreFair note step p n (st.events n ++ q) (opening_of c n (first n))) (sym (more-here n es n refl))
+    (fair-append note step p n (st.events n) es (opening_of c n (first n)) (st.fair n below) (subst (λ q. AreFair note step p n es q) is fair)) in
+    let timeline_n : IsTimeline (stamp_in c n) p n (lifetime_of c n) (next_of b (suc n) n) (st.events n ++ more n es n) =
+    subst (λ q. IsTimeline (stamp_in c n) p n (lifetime_of c n) (next_of b (suc n) n) (st.events n ++ q)) (sym (more-here n es n refl))
+    (subst (λ q. IsTimeline (stamp_in c n) p n (lifetime_of c n) q (st.events n ++ es)) (sym (next-then b n))
+    (beat-timeline note step c n b letters past (st.events n) life takes in_turn (subst (λ q. IsTimeline (stamp_in c n) p n (lifetime_of c n) q (st.events n)) (next-here b n) (st.timeline n below)))) in
+    record {
+      events = λ k. st.events k ++ more n es k;
+      size = length-set_at old.journals n scene.past.journal ∙ st.size;
+      here = λ k low. ⊎_elim
+          (λ (same : k ≡ n). subst (λ j. IsAt new j (after_all note step (st.events j ++ more n es j) (opening_of c j (first j)))) (sym same) here_n)
+          (λ (other : k ≢ n). subst (λ q. IsAt new k (after_all note step q (opening_of c k (first k)))) (with-more n es (st.events k) k other)
+          (elsewhere old n k scene.past.state scene.past.life scene.past.journal scene.channels (after_all note step (st.events k) (opening_of c k (first k))) other (st.here k low)))
+          (cases_eq k n);
+      fair = λ k low. ⊎_elim
+          (λ (same : k ≡ n). subst (λ j. AreFair note step p j (st.events j ++ more n es j) (opening_of c j (first j))) (sym same) fair_n)
+          (λ (other : k ≢ n). subst (λ q. AreFair note step p k q (opening_of c k (first k))) (with-more n es (st.events k) k other) (st.fair k low))
+          (cases_eq k n);
+      timeline = λ k low. ⊎_elim
+          (λ (same : k ≡ n). subst (λ j. IsTimeline (stamp_in c j) p j (lifetime_of c j) (next_of b (suc n) j) (st.events j ++ more n es j)) (sym same) timeline_n)
+          (λ (other : k ≢ n). subst (λ q. IsTimeline (stamp_in c k) p k (lifetime_of c k) (next_of b (suc n) k) q) (with-more n es (st.events k) k other)
+          (subst (λ q. IsTimeline (stamp_in c k) p k (lifetime_of c k) q (st.events k)) (sym (next-other b n k other)) (st.timeline k low)))
+          (cases_eq k n);
+      links = λ l from to low_from low_to ends.
+          subst (λ (q : Scene M S). OnChannel note step c first (λ k. st.events k ++ more n es k) b (suc n) l from to q.channels) (sym turned)
+          (link-turn note step c first st.events b n l from to past old.channels early life is dated fair ends (st.links l from to low_from low_to ends));
+    }
+
+same-past : {M S : Type 0} (r : Ring M S) (n : ℕ) (x y : Past S) → IsAt r n x → IsAt r n y → x ≡ y
+same-past {M} {S} r n x y h g =
+    let es : x.state ≡ y.state = same-element r.nodes n x.state y.state h.state g.state in
+    let el : x.life ≡ y.life = same-element r.lives n x.life y.life h.life g.life in
+    let ej : x.journal ≡ y.journal = same-element r.journals n x.journal y.journal h.journal g.journal in
+    let all : ◌≡◌ {A = Past S} (record { state = x.state; life = x.life; journal = x.journal }) (record { state = y.state; life = y.life; journal = y.journal }) = rw (es, el, ej) refl in
+    all
+
+-- and by a turn of the run
+progress-turn : {M S : Type 0} (note : M → Note) (step : S → Input M → Deed M S) (c : Course) (count : ℕ) (first : ℕ → S) (b n : ℕ) (old new : Ring M S)
+    → b ≤ 100000 → n < count → HasTurn note step c b n old new → Progress note step c count first b n old → Progress note step c count first b (suc n) new
+progress-turn {M} {S} note step c count first b n old new early below h st =
+    subst (λ q. Progress note step c count first b (suc n) q) (sym h.after)
+    (turn-made note step c count first b n old st h.past early below (same-past old n h.past _ h.here (st.here n below)) h.fair h.scene h.turned)
+
+progress-turns : {M S : Type 0} (note : M → Note) (step : S → Input M → Deed M S) (c : Course) (count : ℕ) (first : ℕ → S) (b n : ℕ) (old new : Ring M S)
+    → b ≤ 100000 → n ≤ count → HaveTurns note step c b n old new → Progress note step c count first b 0 old → Progress note step c count first b n new
+progress-turns note step c count first b zero old new early low h st = subst (λ q. Progress note step c count first b 0 q) (sym h) st
+progress-turns note step c count first b (suc n) old new early low h st =
+    progress-turn note step c count first b n h.0 new early (omega (arith, low)) h.2 (progress-turns note step c count first b n old h.0 early (omega (arith, low)) h.1 st)
+
+-- the next beat
+next-beat : (b count k : ℕ) → k < count → next_of b count k ≡ next_of (suc b) 0 k
+next-beat b count k h =
+    let e : nat_lt k count ≡ true = grind (arith, nat_tests, h) in
+    let f : nat_lt k 0 ≡ false = grind (arith, nat_tests) in
+    let g : b + 1 ≡ suc b = add-one b in
+    rw (e, f) g
+
+progress-later : {M S : Type 0} (note : M → Note) (step : S → Input M → Deed M S) (c : Course) (count : ℕ) (first : ℕ → S) (b : ℕ) (r : Ring M S)
+    → Progress note step c count first b count r → Progress note step c count first (suc b) 0 r
+progress-later note step c count first b r st = record {
+  events = st.events;
+  size = st.size;
+  here = st.here;
+  fair = st.fair;
+  timeline = λ k low. subst (λ q. IsTimeline (stamp_in c k) c.plan.params k (lifetime_of c k) q (st.events k)) (next-beat b count k low) (st.timeline k low);
+  links = λ l from to low_from low_to ends.
+      let on = st.links l from to low_from low_to ends in
+      let calm = on.calm in
+      record {
+        traffic = on.traffic;
+        here = on.here;
+        calm = omega (arith, calm);
+        account = subst (λ q. OnLink (lifetime_of c to) c.plan.params.delay (new_clock l c.delay c.plan.params.delay)
+            (sends_along note step l (st.events from) (opening_of c from (first from))) (takes_along l (st.events to)) on.traffic.clock (map pass on.traffic.flights) q)
+            (next-beat b count to low_to) on.account;
+      };
+}
+
+progress-beats : {M S : Type 0} (note : M → Note) (step : S → Input M → Deed M S) (c : Course) (count : ℕ) (first : ℕ → S) (b : ℕ) (old new : Ring M S)
+    → b ≤ 100000 → HavePassed note step c count b old new → Progress note step c count first 0 0 old → Progress note step c count first b 0 new
+progress-beats note step c count first zero old new early h st = subst (λ q. Progress note step c count first 0 0 q) (sym h) st
+progress-beats note step c count first (suc b) old new early h st =
+    progress-later note step c count first b new
+    (progress-turns note step c count first b count h.0 new (omega (arith, early)) (omega arith) h.2 (progress-beats note step c count first b old h.0 (omega (arith, early)) h.1 st))
+
+-- before the first beat
+progress-opens : {M S : Type 0} (note : M → Note) (step : S → Input M → Deed M S) (c : Course) (given : List S) (first : ℕ → S)
+    → IsCourse c → ((k : ℕ) → k < length given → slice_get given k ≡ Some (first k)) → Progress note step c (length given) first 0 0 (opening_ring c given)
+progress-opens {M} {S} note step c given first course all =
+    let p = c.plan.params in
+    let delay = c.plan.sound.ranges.delay in
+    record {
+      events = λ k. [];
+      size = length-each_below (λ _. []) (length given);
+      here = λ k low. record {
+        state = all k low;
+        life = get-each_below (lifetime_of c) (length given) k low;
+        journal = get-each_below (λ _. []) (length given) k low;
+      };
+      fair = λ k low. tt;
+      timeline = λ k low. subst (λ q. IsTimeline {M = M} (stamp_in c k) p k (lifetime_of c k) q []) (sym (next-none 0 k)) (timeline-opens (stamp_in c k) p k (lifetime_of c k));
+      links = λ l from to low_from low_to ends. record {
+        traffic = new_channel c l;
+        here = get-each_below (new_channel c) (link_count (links_of p)) l (ends_counted (links_of p) l (from, to) ends);
+        calm = omega arith;
+        account = subst (λ q. OnLink {X = M} (lifetime_of c to) p.delay (new_clock l c.delay p.delay) [] [] (new_clock l c.delay p.delay) [] q) (sym (next-none 0 to)) (link-opens (lifetime_of c to) (new_clock l c.delay p.delay) (IsClock-new_clock l c.delay p.delay delay.0 delay.1 course.delay));
+      };
+    }
+
+-- at the end of a whole run
+pub progress-ends : {M S : Type 0} (note : M → Note) (step : S → Input M → Deed M S) (c : Course) (given nodes : List S) (journals : List (List Entry)) (first : ℕ → S)
+    → IsCourse c → ((k : ℕ) → k < length given → slice_get given k ≡ Some (first k)) → (whole : IsWholeRun {M = M} note step c given nodes journals)
+    → Progress note step c (length given) first c.beats 0 whole.last
+progress-ends note step c given nodes journals first course all whole =
+    progress-beats note step c (length given) first c.beats (opening_ring c given) whole.last course.beats whole.passed (progress-opens note step c given first course all)

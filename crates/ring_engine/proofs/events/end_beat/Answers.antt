@@ -1,0 +1,32 @@
+use Rattle.std.proofs.Common.{◌∙◌, sym, refl}
+use Rattle.std.proofs.lemmas.Result.{on_ok_weaker}
+use Rattle.ring_engine.proofs.Happening.{end-acting, end-dying, end-idle, ended, ended-keeps, idle-keeps, died-keeps, died-is}
+use Rattle.ring_engine.proofs.events.end_beat.Goals as goal
+
+pub returns-then-acts-clause-ends : goal.returns-then-acts-clause-ends
+returns-then-acts-clause-ends g c =
+    on_ok_weaker c.tick.result (λ d. ended _ _ _ _ _ _ (end-acting _ _ (sym c.acts.ensures ∙ c.if-acts.true)) d) c.tick.ensures.event
+
+pub returns-then-acts-clause-keeps : goal.returns-then-acts-clause-keeps
+returns-then-acts-clause-keeps g c =
+    on_ok_weaker c.tick.result (λ d. ended-keeps _ _ _ _ _ _ _ _ (end-acting _ _ (sym c.acts.ensures ∙ c.if-acts.true)) d) c.tick.ensures.keeps
+
+pub returns-then-dies-clause-ends : goal.returns-then-dies-clause-ends
+returns-then-dies-clause-ends g c =
+    on_ok_weaker c.write.result
+    (λ d. ended g.M.Message.note_of g.T.Node.step _ _ _ _ (end-dying _ _ (sym c.acts.ensures ∙ c.if-acts.false) (sym c.dies.ensures ∙ c.if-dies.true)) (died-is g.M.Message.note_of g.T.Node.step c.args.stamp _ _ _ d))
+    c.write.ensures.ok
+
+pub returns-then-dies-clause-keeps : goal.returns-then-dies-clause-keeps
+returns-then-dies-clause-keeps g c =
+    on_ok_weaker c.write.result
+    (λ d. ended-keeps g.M.Message.note_of g.T.Node.step _ _ _ _ _ _ (end-dying _ _ (sym c.acts.ensures ∙ c.if-acts.false) (sym c.dies.ensures ∙ c.if-dies.true)) (died-keeps g.M.Message.note_of g.T.Node.step _ c.args.stamp _ _ _))
+    c.write.ensures.ok
+
+pub returns-clause-ends : goal.returns-clause-ends
+returns-clause-ends g c =
+    ended g.M.Message.note_of g.T.Node.step _ _ _ _ (end-idle _ _ (sym c.acts.ensures ∙ c.if-acts.false) (sym c.dies.ensures ∙ c.if-dies.false)) refl
+
+pub returns-clause-keeps : goal.returns-clause-keeps
+returns-clause-keeps g c =
+    ended-keeps g.M.Message.note_of g.T.Node.step _ _ _ _ _ _ (end-idle _ _ (sym c.acts.ensures ∙ c.if-acts.false) (sym c.dies.ensures ∙ c.if-dies.false)) (idle-keeps g.M.Message.note_of g.T.Node.step _ _ _)

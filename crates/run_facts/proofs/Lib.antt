@@ -1,0 +1,12 @@
+pub mod Along
+pub mod Carrying
+pub mod Counts
+pub mod Indexed
+pub mod Journals
+pub mod Links
+pub mod Noting
+pub mod Orders
+pub mod Pacing
+pub mod Recording
+pub mod Rows
+pub mod Timelines

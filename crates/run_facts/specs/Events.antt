@@ -1,0 +1,126 @@
+-- What happens to a node in a run, and what that makes of it: it takes a message, it ticks, or it dies.
+use Rattle.std.specs.Prelude.{ℕ, Bool, true, false, ◌==◌, List, [], ◌∷◌, ◌++◌, if◌then◌else◌}
+use Rattle.std.specs.List.{AllByRecursion}
+use Rattle.tiger_base.specs.declared.number.Stamp.{Stamp}
+use Rattle.tiger_base.specs.declared.message.Note.{Note}
+use Rattle.slot_plan.specs.declared.params.Params.{Params}
+use Rattle.node_kit.specs.declared.journal.Entry.{Entry}
+use Rattle.node_kit.specs.declared.journal.What.TheVariants as what
+use Rattle.node_kit.specs.declared.outbox.Out.{Out}
+use Rattle.node_kit.specs.declared.outbox.Out.TheVariants as out
+use Rattle.node_kit.specs.Life.{Lifetime, trimmed}
+use Rattle.node_kit.specs.Steps.{Input, Deed, IsAllowed, stamp_of, entries_of}
+use Rattle.node_kit.specs.Steps.Input.{Take, Tick}
+
+-- an event of a node: it does a step, or it dies
+pub data NodeEvent (M : Type 0) : Type 0 where
+  Does : (input : Input M) → NodeEvent M
+  Dies : (stamp : Stamp) → NodeEvent M
+
+-- a node in a run: its state, its life, and what it wrote
+pub record Past (S : Type 0) : Type 0 where
+  pub state : S
+  pub life : Lifetime
+  pub journal : List Entry
+
+-- a node before its first event
+abbrev pub opening : {S : Type 0} → S → Lifetime → Past S
+opening state life = record { state = state; life = life; journal = [] }
+
+abbrev pub is_tick_input : {M : Type 0} → Input M → Bool
+is_tick_input (Take stamp link msg) = false
+is_tick_input (Tick stamp) = true
+
+-- what a node puts out at an input, less what its death cuts off
+unfoldable pub kept_outs : {M S : Type 0} → (S → Input M → Deed M S) → Input M → Past S → List (Out M)
+kept_outs step i past = (trimmed past.life (stamp_of i) (is_tick_input i) (step past.state i).outs).outs
+
+-- the node after an input: its state is its step's, and it wrote what it took and what it put out
+unfoldable pub after_input : {M S : Type 0} → (M → Note) → (S → Input M → Deed M S) → Input M → Past S → Past S
+after_input note step i past = record {
+  state = (step past.state i).state;
+  life = (trimmed past.life (stamp_of i) (is_tick_input i) (step past.state i).outs).life;
+  journal = past.journal ++ entries_of note i (kept_outs step i past);
+}
+
+-- the node after its death, which it wrote down
+abbrev pub after_death : {S : Type 0} → Stamp → Past S → Past S
+after_death stamp past = record {
+  state = past.state;
+  life = past.life;
+  journal = past.journal ++ (record { stamp = stamp; what = what.Died }) ∷ [];
+}
+
+-- the node after an event
+abbrev pub after : {M S : Type 0} → (M → Note) → (S → Input M → Deed M S) → NodeEvent M → Past S → Past S
+after note step (Does i) past = after_input note step i past
+after note step (Dies stamp) past = after_death stamp past
+
+-- and after several, the oldest first
+abbrev pub after_all : {M S : Type 0} → (M → Note) → (S → Input M → Deed M S) → List (NodeEvent M) → Past S → Past S
+after_all note step [] past = past
+after_all note step (e ∷ es) past = after_all note step es (after note step e past)
+
+-- what a node puts out in an event
+abbrev pub outs_of : {M S : Type 0} → (S → Input M → Deed M S) → NodeEvent M → Past S → List (Out M)
+outs_of step (Does i) past = kept_outs step i past
+outs_of step (Dies stamp) past = []
+
+-- node n may put out all that it puts out in these events
+abbrev pub AreFair : {M S : Type 0} → (M → Note) → (S → Input M → Deed M S) → Params → ℕ → List (NodeEvent M) → Past S → Type 0
+AreFair note step p n [] past = Unit {0}
+AreFair note step p n (e ∷ es) past =
+    AllByRecursion (IsAllowed note p n) (outs_of step e past) × AreFair note step p n es (after note step e past)
+
+-- when an event happens
+abbrev pub stamp_at : {M : Type 0} → NodeEvent M → Stamp
+stamp_at (Does i) = stamp_of i
+stamp_at (Dies stamp) = stamp
+
+abbrev pub is_tick : {M : Type 0} → NodeEvent M → Bool
+is_tick (Does i) = is_tick_input i
+is_tick (Dies stamp) = false
+
+abbrev pub is_death : {M : Type 0} → NodeEvent M → Bool
+is_death (Does i) = false
+is_death (Dies stamp) = true
+
+-- whether a message is taken on a link
+abbrev pub is_input_on : {M : Type 0} → ℕ → Input M → Bool
+is_input_on l (Take stamp link msg) = link.0 == l
+is_input_on l (Tick stamp) = false
+
+abbrev pub is_take_on : {M : Type 0} → ℕ → NodeEvent M → Bool
+is_take_on l (Does i) = is_input_on l i
+is_take_on l (Dies stamp) = false
+
+-- a thing and the beat in which it was sent or got
+pub record Dated (X : Type 0) : Type 0 where
+  pub beat : ℕ
+  pub item : X
+
+-- what these outputs of a beat send on a link
+abbrev pub sends_of : {M : Type 0} → ℕ → ℕ → List (Out M) → List (Dated M)
+sends_of l beat [] = []
+sends_of l beat (out.Send link msg ∷ os) =
+    if link.0 == l then (record { beat = beat; item = msg }) ∷ sends_of l beat os else sends_of l beat os
+sends_of l beat (out.Act what ∷ os) = sends_of l beat os
+
+-- what a node sends on a link in these events
+abbrev pub sends_along : {M S : Type 0} → (M → Note) → (S → Input M → Deed M S) → ℕ → List (NodeEvent M) → Past S → List (Dated M)
+sends_along note step l [] past = []
+sends_along note step l (e ∷ es) past =
+    sends_of l (stamp_at e).beat (outs_of step e past) ++ sends_along note step l es (after note step e past)
+
+-- what a node takes on a link in these events
+abbrev pub input_on : {M : Type 0} → ℕ → Input M → List (Dated M)
+input_on l (Take stamp link msg) = if link.0 == l then (record { beat = stamp.beat; item = msg }) ∷ [] else []
+input_on l (Tick stamp) = []
+
+abbrev pub take_on : {M : Type 0} → ℕ → NodeEvent M → List (Dated M)
+take_on l (Does i) = input_on l i
+take_on l (Dies stamp) = []
+
+abbrev pub takes_along : {M : Type 0} → ℕ → List (NodeEvent M) → List (Dated M)
+takes_along l [] = []
+takes_along l (e ∷ es) = take_on l e ++ takes_along l es
