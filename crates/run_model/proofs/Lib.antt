@@ -1,0 +1,14 @@
+pub mod Fronts
+pub mod Moments
+pub mod Ticks
+pub mod Lengths
+pub mod Bytes
+pub mod Below
+pub mod Reflects
+pub mod Deliveries
+pub mod Reasons
+pub mod Timely
+pub mod Carriage
+pub mod Ends
+pub mod Seats
+pub mod Walking

@@ -1,0 +1,202 @@
+-- The tests of what is timed are true exactly of what is.
+use Rattle.std.proofs.Common.{◌≡◌, ℕ, zero, suc, ◌+◌, ◌%◌, ◌<◌, ◌≤◌, Bool, false, not, ◌&&◌, IsTrue, nat_lt, nat_le, List, [], ◌∷◌, ◌++◌, Option, Some, None, is_some, slice_get, refl, ap, subst, ⊎_elim, inl, inr, arith, add-zero}
+use Rattle.std.specs.Prelude.{◌==◌, ◌↔◌, ◌⊎◌}
+use Rattle.std.specs.List.{list_all, AllByRecursion}
+use Rattle.std.proofs.lemmas.Bool.{false≢true}
+use Rattle.tiger_base.specs.declared.number.Stamp.{Stamp}
+use Rattle.slot_plan.specs.declared.params.Params.{Params}
+use Rattle.slot_plan.specs.Times.{time_of}
+use Rattle.node_kit.specs.declared.course.Course.{Course}
+use Rattle.node_kit.specs.declared.course.Kept.{Kept}
+use Rattle.node_kit.specs.declared.journal.What.{What}
+use Rattle.node_kit.specs.declared.journal.What.TheVariants as what
+use Rattle.node_kit.specs.declared.journal.Entry.{Entry}
+use Rattle.node_kit.specs.Life.{death_of, lifetime_of}
+use Rattle.run_facts.specs.Timed.{IsRead, IsNotBelow, AreRising, is_died, death_within, EndsInDeath, IsDeathOf, IsTimed, AreTimed, DieApart}
+use Rattle.run_model.specs.Runs.{IsTimedRun}
+use Rattle.run_model.specs.Tests.{each_from, each_below, is_read, rises_from, is_before_death, ends_in_death, dies_as, is_timed, timed_in, one_lives}
+use Rattle.run_model.proofs.Reflects.{and_both, and_left, and_right, both, negated, equal, less, at_most, all, each_found, each_gives}
+
+reads : (p : Params) (e : Entry) → IsTrue (is_read p e) ↔ IsRead p e
+reads p e =
+    let a = nat_le (time_of p e.stamp.beat) e.stamp.reading in
+    let b = nat_le e.stamp.reading (time_of p e.stamp.beat + p.skew) in (
+      (λ h. record {
+        low = (at_most (time_of p e.stamp.beat) e.stamp.reading).0 (and_left a b h);
+        high = (at_most e.stamp.reading (time_of p e.stamp.beat + p.skew)).0 (and_right a b h);
+      }),
+      (λ g. and_both a b ((at_most (time_of p e.stamp.beat) e.stamp.reading).1 g.low) ((at_most e.stamp.reading (time_of p e.stamp.beat + p.skew)).1 g.high)),
+    )
+
+-- an entry is not below a stamp
+abbrev IsBehind : Stamp → Entry → Type 0
+IsBehind s e = (s.beat ≤ e.stamp.beat) × (s.reading ≤ e.stamp.reading)
+
+behind_more : (s t : Stamp) (es : List Entry) → s.beat ≤ t.beat → s.reading ≤ t.reading → AllByRecursion (IsBehind t) es → AllByRecursion (IsBehind s) es
+behind_more s t [] b r h = tt
+behind_more s t (e ∷ es) b r h =
+    let now = h.0 in
+    let nb = now.0 in
+    let nr = now.1 in
+    ((omega arith, omega arith), behind_more s t es b r h.1)
+
+not_below : (e : Entry) (es : List Entry) → AllByRecursion (IsBehind e.stamp) es → AllByRecursion (IsNotBelow e) es
+not_below e [] h = tt
+not_below e (f ∷ fs) h = (record { beat = h.0.0; reading = h.0.1 }, not_below e fs h.1)
+
+rises_found : (s : Stamp) (es : List Entry) → IsTrue (rises_from s es) → AllByRecursion (IsBehind s) es × AreRising es
+rises_found s [] h = (tt, tt)
+rises_found s (e ∷ es) h =
+    let a = nat_le s.beat e.stamp.beat in
+    let b = nat_le s.reading e.stamp.reading in
+    let ab = and_left (a && b) (rises_from e.stamp es) h in
+    let rest = rises_found e.stamp es (and_right (a && b) (rises_from e.stamp es) h) in
+    let beat : s.beat ≤ e.stamp.beat = (at_most s.beat e.stamp.beat).0 (and_left a b ab) in
+    let reading : s.reading ≤ e.stamp.reading = (at_most s.reading e.stamp.reading).0 (and_right a b ab) in
+    (((beat, reading), behind_more s e.stamp es beat reading rest.0), (not_below e es rest.0, rest.1))
+
+rises_gives : (s : Stamp) (es : List Entry) → AllByRecursion (IsBehind s) es → AreRising es → IsTrue (rises_from s es)
+rises_gives s [] h g = refl
+rises_gives s (e ∷ es) h g =
+    let a = nat_le s.beat e.stamp.beat in
+    let b = nat_le s.reading e.stamp.reading in
+    and_both (a && b) (rises_from e.stamp es)
+    (and_both a b ((at_most s.beat e.stamp.beat).1 h.0.0) ((at_most s.reading e.stamp.reading).1 h.0.1))
+    (rises_gives e.stamp es (behind e es g.0) g.1)
+  where
+    behind : (d : Entry) (ds : List Entry) → AllByRecursion (IsNotBelow d) ds → AllByRecursion (IsBehind d.stamp) ds
+    behind d [] k = tt
+    behind d (f ∷ fs) k = ((k.0.beat, k.0.reading), behind d fs k.1)
+
+from_start : (es : List Entry) → AllByRecursion (IsBehind (record { beat = 0; reading = 0 })) es
+from_start [] = tt
+from_start (e ∷ es) = ((omega arith, omega arith), from_start es)
+
+rises : (es : List Entry) → IsTrue (rises_from (record { beat = 0; reading = 0 }) es) ↔ AreRising es
+rises es = (
+  (λ h. (rises_found (record { beat = 0; reading = 0 }) es h).1),
+  (λ g. rises_gives (record { beat = 0; reading = 0 }) es (from_start es) g),
+)
+
+-- deaths
+before_death : (death : ℕ) (e : Entry) → IsTrue (is_before_death death e) ↔ ((is_died e.what ≡ false) × (e.stamp.beat < death))
+before_death death e =
+    both (not (is_died e.what)) (nat_lt e.stamp.beat death) (is_died e.what ≡ false) (e.stamp.beat < death) (negated (is_died e.what)) (less e.stamp.beat death)
+
+death_said : (w : What) → IsTrue (is_died w) ↔ (w ≡ what.Died)
+death_said what.Died = ((λ h. refl), (λ e. refl))
+death_said other = ((λ h. absurd (false≢true h)), (λ e. absurd (cc)))
+
+ends_found : (death : ℕ) (es : List Entry) → IsTrue (ends_in_death death es) → EndsInDeath death es
+ends_found death [] h = absurd (false≢true h)
+ends_found death (e ∷ []) h = record {
+  before = [];
+  last = e;
+  all = refl;
+  died = (death_said e.what).0 (and_left (is_died e.what) (e.stamp.beat == death) h);
+  in_beat = (equal e.stamp.beat death).0 (and_right (is_died e.what) (e.stamp.beat == death) h);
+  alone = tt;
+}
+ends_found death (e ∷ f ∷ fs) h =
+    let rest = ends_found death (f ∷ fs) (and_right (is_before_death death e) (ends_in_death death (f ∷ fs)) h) in
+    record {
+      before = e ∷ rest.before;
+      last = rest.last;
+      all = ap (λ ds. e ∷ ds) rest.all;
+      died = rest.died;
+      in_beat = rest.in_beat;
+      alone = ((before_death death e).0 (and_left (is_before_death death e) (ends_in_death death (f ∷ fs)) h), rest.alone);
+    }
+
+ends_gives : (death : ℕ) (before : List Entry) (last : Entry) → last.what ≡ what.Died → last.stamp.beat ≡ death
+    → AllByRecursion (λ e. (is_died e.what ≡ false) × (e.stamp.beat < death)) before → IsTrue (ends_in_death death (before ++ last ∷ []))
+ends_gives death [] last died beat h =
+    and_both (is_died last.what) (last.stamp.beat == death) ((death_said last.what).1 died) ((equal last.stamp.beat death).1 beat)
+ends_gives death (e ∷ []) last died beat h =
+    and_both (is_before_death death e) (ends_in_death death (last ∷ [])) ((before_death death e).1 h.0) (ends_gives death [] last died beat tt)
+ends_gives death (e ∷ f ∷ fs) last died beat h =
+    and_both (is_before_death death e) (ends_in_death death (f ∷ fs ++ last ∷ [])) ((before_death death e).1 h.0) (ends_gives death (f ∷ fs) last died beat h.1)
+
+dies : (death : Option ℕ) (es : List Entry) → IsTrue (dies_as death es) ↔ IsDeathOf death es
+dies None es = all (λ e. is_died e.what ≡ false) (λ e. not (is_died e.what)) (λ e. negated (is_died e.what)) es
+dies (Some death) es = (
+  (λ h. ends_found death es h),
+  (λ g. rw g.all (ends_gives death g.before g.last g.died g.in_beat g.alone)),
+)
+
+-- a journal is timed
+times : (p : Params) (beats : ℕ) (death : Option ℕ) (es : List Entry) → IsTrue (is_timed p beats death es) ↔ IsTimed p beats (record { death = death }) es
+unfolding is_timed
+times p beats death es =
+    let a = list_all (is_read p) es in
+    let b = rises_from (record { beat = 0; reading = 0 }) es in
+    let c = list_all (λ (e : Entry). nat_lt e.stamp.beat beats) es in
+    let d = dies_as (death_within beats death) es in
+    let early = all (λ (e : Entry). e.stamp.beat < beats) (λ e. nat_lt e.stamp.beat beats) (λ e. less e.stamp.beat beats) es in (
+      (λ h.
+          let bcd = and_right a (b && (c && d)) h in
+          let cd = and_right b (c && d) bcd in
+          record {
+            reads = (all (IsRead p) (is_read p) (reads p) es).0 (and_left a (b && (c && d)) h);
+            rising = (rises es).0 (and_left b (c && d) bcd);
+            early = early.0 (and_left c d cd);
+            death = (dies (death_within beats death) es).0 (and_right c d cd);
+          }),
+      (λ g. and_both a (b && (c && d)) ((all (IsRead p) (is_read p) (reads p) es).1 g.reads)
+          (and_both b (c && d) ((rises es).1 g.rising)
+          (and_both c d (early.1 g.early) ((dies (death_within beats death) es).1 g.death)))),
+    )
+
+-- a test of each element and its number
+pub numbered_found : {X : Type 0} (test : ℕ → X → Bool) (n : ℕ) (xs : List X) → IsTrue (each_from test n xs)
+    → (m : ℕ) (x : X) → slice_get xs m ≡ Some x → IsTrue (test (n + m) x)
+numbered_found test n [] h m x e = absurd (cc)
+numbered_found test n (y ∷ ys) h zero x e =
+    let same : y ≡ x = cc in
+    rw (add-zero n, ← same) (and_left (test n y) (each_from test (n + 1) ys) h)
+numbered_found test n (y ∷ ys) h (suc m) x e =
+    let far : n + 1 + m ≡ n + suc m = omega arith in
+    subst (λ (k : ℕ). IsTrue (test k x)) far (numbered_found test (n + 1) ys (and_right (test n y) (each_from test (n + 1) ys) h) m x e)
+
+pub numbered_gives : {X : Type 0} (test : ℕ → X → Bool) (n : ℕ) (xs : List X)
+    → ((m : ℕ) (x : X) → slice_get xs m ≡ Some x → IsTrue (test (n + m) x)) → IsTrue (each_from test n xs)
+numbered_gives test n [] g = refl
+numbered_gives test n (y ∷ ys) g =
+    and_both (test n y) (each_from test (n + 1) ys)
+    (subst (λ (k : ℕ). IsTrue (test k y)) (add-zero n) (g 0 y refl))
+    (numbered_gives test (n + 1) ys
+    (λ m x e. let far : n + suc m ≡ n + 1 + m = omega arith in subst (λ (k : ℕ). IsTrue (test k x)) far (g (suc m) x e)))
+
+all_times : (c : Course) (journals : List (List Entry))
+    → IsTrue (each_from (timed_in c) 0 journals) ↔ AreTimed c.plan.params c.beats (lifetime_of c) journals
+all_times c journals = (
+  (λ h. λ n journal e.
+      let here = numbered_found (timed_in c) 0 journals h n journal e in
+      let same : 0 + n ≡ n = omega arith in
+      (times c.plan.params c.beats (death_of c n) journal).0 (subst (λ (k : ℕ). IsTrue (timed_in c k journal)) same here)),
+  (λ g. numbered_gives (timed_in c) 0 journals
+      (λ n journal e.
+      let same : n ≡ 0 + n = omega arith in
+      subst (λ (k : ℕ). IsTrue (timed_in c k journal)) same ((times c.plan.params c.beats (death_of c n) journal).1 (g n journal e)))),
+)
+
+none_or : (a b : Option ℕ) → IsTrue (not (is_some a && is_some b)) ↔ ((a ≡ None) ⊎ (b ≡ None))
+none_or None b = ((λ h. inl refl), (λ g. refl))
+none_or (Some x) None = ((λ h. inr refl), (λ g. refl))
+none_or (Some x) (Some y) = ((λ h. absurd (false≢true h)), (λ g. ⊎_elim (λ (e : Some x ≡ None). absurd (cc)) (λ (e : Some y ≡ None). absurd (cc)) g))
+
+all_apart : (c : Course) → IsTrue (each_below (one_lives c) c.plan.params.cubs) ↔ DieApart c.plan.params (lifetime_of c)
+all_apart c = (
+  (λ h. λ n l. (none_or (death_of c n) (death_of c ((n + 1) % c.plan.params.cubs))).0 (each_found (one_lives c) c.plan.params.cubs h n l)),
+  (λ g. each_gives (one_lives c) c.plan.params.cubs (λ n l. (none_or (death_of c n) (death_of c ((n + 1) % c.plan.params.cubs))).1 (g n l))),
+)
+
+-- the test of a timed run is true exactly of one
+pub timed : (k : Kept)
+    → IsTrue (each_from (timed_in k.course) 0 k.journals && each_below (one_lives k.course) k.course.plan.params.cubs) ↔ IsTimedRun k
+timed k =
+    let a = each_from (timed_in k.course) 0 k.journals in
+    let b = each_below (one_lives k.course) k.course.plan.params.cubs in (
+      (λ h. record { timed = (all_times k.course k.journals).0 (and_left a b h); apart = (all_apart k.course).0 (and_right a b h) }),
+      (λ g. and_both a b ((all_times k.course k.journals).1 g.timed) ((all_apart k.course).1 g.apart)),
+    )

@@ -1,0 +1,69 @@
+-- A visit's block may be missing: a read failed, the block's cub had just died or a piece was lost after its death, or
+-- the instance was stopped.
+use Rattle.std.specs.Prelude.{◌≡◌, ℕ, ◌+◌, ◌*◌, ◌<◌, ◌≤◌, List, ◌⊎◌}
+use Rattle.tiger_base.specs.declared.tenancy.Tenancy.{Tenancy}
+use Rattle.slot_plan.specs.declared.params.Params.{Params}
+use Rattle.slot_plan.specs.Conditions.{longest_way}
+use Rattle.slot_plan.specs.Times.{due, cub_of, time_of}
+use Rattle.mirror_pieces.specs.Pieces.{leaving}
+use Rattle.node_kit.specs.declared.journal.What.{What}
+use Rattle.node_kit.specs.declared.journal.What.TheVariants as what
+use Rattle.node_kit.specs.declared.journal.Entry.{Entry}
+use Rattle.run_model.specs.Fronts.{AnyByRecursion}
+use Rattle.run_model.specs.Served.{journal_at, IsVisitOf}
+
+-- how long a death may go unnoticed: visits that are due so long after it, or later, are taken over in time
+unfoldable pub takeover : Params → ℕ
+takeover p = 2 * longest_way p + 3 * p.skew + p.deadman + p.read_lead + 2 * p.beat + 1
+
+-- an entry says that the read of a block (piece 0) or of a piece failed, that the node died, or that an instance was stopped
+abbrev pub IsFailedRead : ℕ → ℕ → ℕ → What → Type 0
+IsFailedRead v visit piece (what.ReadFailed want) = (want.instance.0 ≡ v) × (want.visit ≡ visit) × (want.piece ≡ piece)
+IsFailedRead v visit piece other = ⊥
+
+abbrev pub IsDeath : What → Type 0
+IsDeath what.Died = Unit {0}
+IsDeath other = ⊥
+
+abbrev pub IsStopOf : ℕ → What → Type 0
+IsStopOf v (what.Gone instance) = instance.0 ≡ v
+IsStopOf v other = ⊥
+
+-- the read failed at a cub
+abbrev pub ReadFailed : List (List Entry) → ℕ → ℕ → ℕ → ℕ → Type 0
+ReadFailed journals cub v visit piece = AnyByRecursion (λ e. IsFailedRead v visit piece e.what) (journal_at journals cub)
+
+-- a cub died at a true time of which this holds
+abbrev pub DiedAt : Params → List (List Entry) → ℕ → (ℕ → Type 0) → Type 0
+DiedAt p journals cub When = AnyByRecursion (λ e. IsDeath e.what × When (time_of p e.stamp.beat)) (journal_at journals cub)
+
+-- piece k was lost: its read failed anywhere, or its cub died before it had left
+abbrev pub PieceIsLost : Params → List (List Entry) → Tenancy → ℕ → ℕ → Type 0
+PieceIsLost p journals t visit k =
+    AnyByRecursion (λ journal. AnyByRecursion (λ e. IsFailedRead t.instance.0 visit k e.what) journal) journals
+    ⊎ DiedAt p journals (cub_of p (visit + k)) (λ death. death < leaving (due p t.slot.0 visit) k p.play p.pieces + p.beat)
+
+-- the block's cub died long before, and a piece was lost
+pub record LostInPieces (p : Params) (journals : List (List Entry)) (t : Tenancy) (visit : ℕ) : Type 0 where
+  pub died : DiedAt p journals (cub_of p visit) (λ death. death + takeover p ≤ due p t.slot.0 visit)
+  pub piece : ℕ
+  pub low : 1 ≤ piece
+  pub high : piece ≤ p.pieces
+  pub lost : PieceIsLost p journals t visit piece
+
+-- the block's cub died before it had served the visit, and too late for the next one to take over
+abbrev pub LostInDeath : Params → List (List Entry) → Tenancy → ℕ → Type 0
+LostInDeath p journals t visit = DiedAt p journals (cub_of p visit)
+    (λ death. (death < due p t.slot.0 visit + p.beat) × (due p t.slot.0 visit < death + takeover p))
+
+-- the instance was stopped less than a block play time after the visit was due, or before
+abbrev pub WasStopped : Params → List (List Entry) → Tenancy → ℕ → Type 0
+WasStopped p journals t visit = AnyByRecursion (λ journal. AnyByRecursion
+    (λ e. IsStopOf t.instance.0 e.what × (time_of p e.stamp.beat < due p t.slot.0 visit + p.play)) journal) journals
+
+-- the visit of an instance is excused: by a read, by a piece, by a death or by a stop
+pub record IsExcused (p : Params) (journals : List (List Entry)) (v visit : ℕ) : Type 0 where
+  pub tenancy : Tenancy
+  pub visited : IsVisitOf journals v visit tenancy
+  pub excuse : ReadFailed journals (cub_of p visit) tenancy.instance.0 visit 0
+      ⊎ (LostInPieces p journals tenancy visit ⊎ (LostInDeath p journals tenancy visit ⊎ WasStopped p journals tenancy visit))

@@ -1,0 +1,13 @@
+pub mod Fronts
+pub mod Schedule
+pub mod Views
+pub mod Moments
+pub mod Parts
+pub mod Served
+pub mod Excuses
+pub mod Orders
+pub mod Runs
+pub mod Laws
+pub mod Slots
+pub mod Tests
+pub mod Ways

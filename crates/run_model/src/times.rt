@@ -1,0 +1,52 @@
+//! True times and due times of any beats, slots and visits, also of those that no run comes to.
+ghost use Rattle.std.specs.Prelude.{◌≡◌, ◌^◌, ◌<◌, ◌≤◌};
+ghost use Rattle.slot_plan.specs.Times.{time_of, due};
+ghost use Rattle.mirror_pieces.specs.Pieces.{leaving};
+ghost use Rattle.run_model.specs.Excuses.{takeover};
+
+use slot_plan::Plan;
+use tiger_base::{Beat, SlotNo, Visit};
+
+/// The true time of a beat, in microseconds.
+#[tactic(auto, unfolding(slot_plan::specs::Times::time_of))]
+pub fn time_of(plan: &Plan, beat: Beat) -> u128
+    ensures value { result ≡ time_of plan.now.params beat }
+    ensures small { result < 2 ^ 100 }
+{
+    beat as u128 * plan.params.beat as u128
+}
+
+/// When a visit of a slot is due.
+#[tactic(auto, unfolding(slot_plan::specs::Times::due, slot_plan::specs::Times::first_due))]
+pub fn due(plan: &Plan, slot: SlotNo, visit: Visit) -> u128
+    ensures value { result ≡ due plan.now.params slot.0 visit }
+    ensures small { result < 2 ^ 100 }
+{
+    let p = &plan.params;
+    let disks = p.cubs as u128 * p.disks as u128;
+    slot.0 as u128 * disks * p.play as u128 / p.slots as u128 + visit as u128 * p.play as u128
+}
+
+/// When a piece of a block leaves that is due at a time.
+#[tactic(auto, unfolding(mirror_pieces::specs::Pieces::leaving))]
+pub fn leaving(plan: &Plan, due: u128, piece: u64) -> u128
+    requires due { due < 2 ^ 100 }
+    requires first { 1 ≤ piece }
+    requires last { piece ≤ plan.now.params.pieces }
+    ensures value { result ≡ leaving due piece plan.now.params.play plan.now.params.pieces }
+    ensures small { result < 2 ^ 101 }
+{
+    let p = &plan.params;
+    due + (piece as u128 - 1) * p.play as u128 / p.pieces as u128
+}
+
+/// How long a death may go unnoticed.
+#[tactic(auto, unfolding(crate::specs::Excuses::takeover))]
+pub fn takeover(plan: &Plan) -> u128
+    ensures value { result ≡ takeover plan.now.params }
+    ensures small { result < 2 ^ 40 }
+{
+    let p = &plan.params;
+    let all = 2 * (p.delay * p.beat) + 3 * p.skew + p.deadman + p.read_lead + 2 * p.beat + 1;
+    all as u128
+}
