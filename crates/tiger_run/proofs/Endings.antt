@@ -1,34 +1,41 @@
--- How a run that wrote its report ended.
-use Rattle.std.proofs.Common.{◌≡◌, ℕ, List, Option, Some, None, IfSome, subst, sym}
-use Rattle.outside.specs.Told.{Told, Counts}
+-- How many orders a run has, and which text is written of it.
+use Rattle.std.proofs.Common.{◌≡◌, ℕ, suc, ◌+◌, ◌≤◌, List, [], ◌∷◌, length, Option, refl, sym, ap, subst, arith}
+use Rattle.stripe_layout.specs.declared.catalogue.Catalogue.{Catalogue}
 use Rattle.node_kit.specs.declared.course.Kept.{Kept}
+use Rattle.scenario_read.specs.declared.scenario.ScEvent.{ScEvent}
+use Rattle.scenario_read.specs.declared.scenario.ScEvent.TheVariants as event
+use Rattle.scenario_read.specs.declared.scenario.Scenario.{Scenario}
+use Rattle.scenario_read.specs.Orders.{orders_from}
+use Rattle.scenario_read.specs.Sound.{IsScenario}
+use Rattle.tiger_ring.specs.Rings.{IsRingRun}
+use Rattle.run_report.specs.Text.{report_text, summary_text}
 use Rattle.tiger_run.specs.declared.status.Status.{Status}
-use Rattle.tiger_run.specs.declared.status.Status.TheVariants as statuses
-use Rattle.tiger_run.specs.Ending.{InputCause, Wrote, EndsSink}
+use Rattle.tiger_run.specs.Words.{IsRun, IsMake}
+use Rattle.tiger_run.specs.Ending.{text_for, EndsSink}
 
-pub InputCause-wrote : (status : Status) (told : List ℕ → Told) (words : List (List ℕ)) (before_counts after_counts : Counts) (old new : Option (List ℕ)) (before after : ℕ) (kept : Option Kept)
-    → Wrote old new before after kept status → InputCause told words before_counts after_counts status
-InputCause-wrote statuses.Done told words bc ac old new before after kept wrote = tt
-InputCause-wrote statuses.Words told words bc ac old new before after kept wrote = tt
-InputCause-wrote (statuses.Absent file) told words bc ac old new before after kept wrote = absurd wrote
-InputCause-wrote (statuses.ReadFault file) told words bc ac old new before after kept wrote = absurd wrote
-InputCause-wrote (statuses.Scenario fault) told words bc ac old new before after kept wrote = absurd wrote
-InputCause-wrote statuses.WriteFault told words bc ac old new before after kept wrote = tt
-InputCause-wrote statuses.NoMemory told words bc ac old new before after kept wrote = tt
-InputCause-wrote (statuses.TooLong file given most) told words bc ac old new before after kept wrote = absurd wrote
+-- as many orders as events
+pub length-orders_from : (c : Catalogue) (n : ℕ) (events : List ScEvent) → length (orders_from c n events) ≡ length events
+length-orders_from c n [] = refl
+length-orders_from c n (event.Begin beat file ∷ events) = ap suc (length-orders_from c (n + 1) events)
+length-orders_from c n (event.Finish beat instance ∷ events) = ap suc (length-orders_from c n events)
 
-pub EndsSink-wrote : (status : Status) (old new : Option (List ℕ)) (before after : ℕ) (kept : Option Kept)
-    → Wrote old new before after kept status → EndsSink old new before after kept status
-EndsSink-wrote statuses.Done old new before after kept wrote = wrote
-EndsSink-wrote statuses.Words old new before after kept wrote = absurd wrote
-EndsSink-wrote (statuses.Absent file) old new before after kept wrote = absurd wrote
-EndsSink-wrote (statuses.ReadFault file) old new before after kept wrote = absurd wrote
-EndsSink-wrote (statuses.Scenario fault) old new before after kept wrote = absurd wrote
-EndsSink-wrote statuses.WriteFault old new before after kept wrote = wrote
-EndsSink-wrote statuses.NoMemory old new before after kept wrote = wrote
-EndsSink-wrote (statuses.TooLong file given most) old new before after kept wrote = absurd wrote
+-- a run has as many orders as its scenario has events
+pub few_orders : (G : Type 0) (s : Scenario) (library : List (List ℕ)) (k : Kept) → IsScenario s → IsRingRun G s library k → length k.orders ≤ 4000
+few_orders G s library k sound ran = omega (arith, sound.events.few, ap length ran.orders, length-orders_from k.catalogue 0 s.events)
 
--- a value that is there is the given one, so what holds of that holds of it
-pub some_same : {A : Type 0} (Q : A → Type 0) (o : Option A) (x : A) → IfSome o (λ y. y ≡ x) → Q x → IfSome o Q
-some_same Q None x same q = tt
-some_same Q (Some y) x same q = subst Q (sym same) q
+-- the text of words that name a scenario, and of words that make one
+text_for-run : (words : List (List ℕ)) (name : List ℕ) (workers : ℕ) → IsRun words name workers → text_for words ≡ report_text
+text_for-run words name workers run = rw run.form refl
+
+text_for-make : (words : List (List ℕ)) (number : ℕ) → IsMake words number → text_for words ≡ summary_text
+text_for-make words number make = rw make.form refl
+
+pub EndsSink-run : (words : List (List ℕ)) (name : List ℕ) (workers : ℕ) (old new : Option (List ℕ)) (before after : ℕ) (kept : Option Kept) (status : Status)
+    → IsRun words name workers → EndsSink old new before after report_text kept status → EndsSink old new before after (text_for words) kept status
+EndsSink-run words name workers old new before after kept status run ends =
+    subst (λ (text : Kept → List ℕ). EndsSink old new before after text kept status) (sym (text_for-run words name workers run)) ends
+
+pub EndsSink-make : (words : List (List ℕ)) (number : ℕ) (old new : Option (List ℕ)) (before after : ℕ) (kept : Option Kept) (status : Status)
+    → IsMake words number → EndsSink old new before after summary_text kept status → EndsSink old new before after (text_for words) kept status
+EndsSink-make words number old new before after kept status make ends =
+    subst (λ (text : Kept → List ℕ). EndsSink old new before after text kept status) (sym (text_for-make words number make)) ends

@@ -1,9 +1,7 @@
-pub mod JsonLemmas
-pub mod Loop
 pub mod DecimalLemmas
-pub mod Readings
-pub mod Puts
 pub mod WordLists
-pub mod Endings
-pub mod Courses
 pub mod Texts
+pub mod Puts
+pub mod Readings
+pub mod Endings
+pub mod Completeness

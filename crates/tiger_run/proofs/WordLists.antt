@@ -18,3 +18,7 @@ IsRun-from words command name workers n is run number low high = record {
   some = low;
   few = high;
 }
+
+-- words name one scenario
+pub IsRun-name : (words : List (List ℕ)) (name other : List ℕ) (n m : ℕ) → IsRun words name n → IsRun words other m → name ≡ other
+IsRun-name words name other n m a b = let e = a.form in let f = b.form in cc

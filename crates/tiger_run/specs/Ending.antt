@@ -1,59 +1,102 @@
--- How a run ends.
-use Rattle.std.specs.Prelude.{◌≡◌, ℕ, ◌<◌, List, Option, Some, None, IsSomeAnd}
+-- How a call of the program ends.
+use Rattle.std.specs.Prelude.{◌≡◌, ℕ, ◌<◌, Bool, false, if◌then◌else◌, List, [], ◌∷◌, Option, Some, None, IsSomeAnd, codes, ◌⊎◌}
+use Rattle.std.specs.Str.{bytes_eq}
 use Rattle.outside.specs.Told.{Told, Counts}
 use Rattle.outside.specs.Written.{Appended, FrontAppended}
 use Rattle.outside.specs.declared.sink.SinkFault.{SinkFault}
 use Rattle.outside.specs.declared.sink.SinkFault.TheVariants as faults
 use Rattle.node_kit.specs.declared.course.Kept.{Kept}
+use Rattle.scenario_read.specs.declared.scenario.Scenario.{Scenario}
+use Rattle.scenario_read.specs.Meaning.{said_by}
+use Rattle.scenario_make.specs.Made.{made_scenario, made_library}
+use Rattle.run_report.specs.Text.{report_text, summary_text}
+use Rattle.tiger_ring.specs.Rings.{IsRingRun}
+use Rattle.tiger_run.specs.declared.inputs.Inputs.{Inputs}
 use Rattle.tiger_run.specs.declared.status.Status.{Status}
 use Rattle.tiger_run.specs.declared.status.Status.TheVariants as statuses
-use Rattle.tiger_run.specs.Words.{IsRun}
-use Rattle.tiger_run.specs.declared.inputs.Inputs.{Inputs}
+use Rattle.tiger_run.specs.Words.{IsRun, IsMake}
 use Rattle.tiger_run.specs.Inputs.{InputsCause, AreInputs}
-use Rattle.tiger_run.specs.Runs.{IsRunOf}
-use Rattle.first_report.specs.Text.{report_text}
+
+-- ---- what is kept
+
+-- the scenario of this name was read, and then its files, and the ring ran for them
+pub record IsNamedRun (G : Type 0) (told : List ℕ → Told) (name : List ℕ) (k : Kept) : Type 0 where
+  pub inputs : Inputs
+  pub read : AreInputs told name inputs
+  pub ran : IsRingRun G inputs.scenario inputs.library k
+
+-- the ring ran for the scenario and the files that are made of this number
+pub record IsMadeRun (G : Type 0) (number : ℕ) (k : Kept) : Type 0 where
+  pub scenario : Scenario
+  pub made : said_by scenario ≡ made_scenario number
+  pub ran : IsRingRun G scenario (made_library number) k
+
+-- the run is the one that the words ask for: that of the named scenario, or of the made one
+abbrev pub IsAskedRun : (G : Type 0) → (List ℕ → Told) → List (List ℕ) → Kept → Type 0
+IsAskedRun G told words k =
+    ((name : List ℕ) × (workers : ℕ) × IsRun words name workers × IsNamedRun G told name k)
+    ⊎ ((number : ℕ) × IsMake words number × IsMadeRun G number k)
+
+-- ---- what is written
+
+-- the first word is `make`
+abbrev pub begins_make : List (List ℕ) → Bool
+begins_make [] = false
+begins_make (word ∷ words) = bytes_eq word (codes "make")
+
+-- the text that the words ask for: the report of a run, or of a made run the summary of its report
+abbrev pub text_for : List (List ℕ) → Kept → List ℕ
+text_for words k = if begins_make words then summary_text k else report_text k
+
+-- want of memory: nothing was written, or a front of the text of what was kept
+abbrev pub OutOfMemory : Option (List ℕ) → Option (List ℕ) → (Kept → List ℕ) → Option Kept → Type 0
+OutOfMemory old new text None = new ≡ old
+OutOfMemory old new text (Some kept) = FrontAppended old new (text kept)
+
+-- what was written with each status, and what is kept: of words or inputs that are refused nothing is written, and nothing kept
+abbrev pub EndsSink : Option (List ℕ) → Option (List ℕ) → ℕ → ℕ → (Kept → List ℕ) → Option Kept → Status → Type 0
+EndsSink old new before after text kept statuses.Done = IsSomeAnd kept (λ k. Appended old new (text k))
+EndsSink old new before after text kept statuses.WriteFault = (before < after) × IsSomeAnd kept (λ k. FrontAppended old new (text k))
+EndsSink old new before after text kept statuses.NoMemory = OutOfMemory old new text kept
+EndsSink old new before after text kept _ = (new ≡ old) × (kept ≡ None)
+
+-- ---- why an input was refused
+
+-- the words name a scenario, and this is why it, or one of its files, was refused
+abbrev pub IsRefused : (List ℕ → Told) → List (List ℕ) → Counts → Counts → Status → Type 0
+IsRefused told words old new status = (name : List ℕ) × (workers : ℕ) × IsRun words name workers × InputsCause told name old new status
+
+-- each status that refuses an input has its cause
+abbrev pub InputCause : (List ℕ → Told) → List (List ℕ) → Counts → Counts → Status → Type 0
+InputCause told words old new (statuses.Absent file) = IsRefused told words old new (statuses.Absent file)
+InputCause told words old new (statuses.ReadFault file) = IsRefused told words old new (statuses.ReadFault file)
+InputCause told words old new (statuses.Scenario fault) = IsRefused told words old new (statuses.Scenario fault)
+InputCause told words old new (statuses.TooLong file given most) = IsRefused told words old new (statuses.TooLong file given most)
+InputCause told words old new _ = Unit {0}
+
+-- the words or an input were refused
+abbrev pub IsRefusal : Status → Type 0
+IsRefusal statuses.Done = ⊥
+IsRefusal statuses.WriteFault = ⊥
+IsRefusal statuses.NoMemory = ⊥
+IsRefusal _ = Unit {0}
+
+-- ---- parts of it
+
+-- how the run of a named scenario ends: an input was refused, or all were read
+abbrev pub EndsInputs : (List ℕ → Told) → List ℕ → Counts → Counts → Status → Type 0
+EndsInputs told name old new statuses.Done = Unit {0}
+EndsInputs told name old new statuses.WriteFault = Unit {0}
+EndsInputs told name old new status = InputsCause told name old new status
 
 -- why a text was not put whole, piece by piece: a front of it was written
 abbrev pub TextCause : Option (List ℕ) → Option (List ℕ) → ℕ → ℕ → List ℕ → SinkFault → Type 0
 TextCause old new before after text faults.Failed = (before < after) × FrontAppended old new text
 TextCause old new before after text faults.NoMemory = FrontAppended old new text
 
--- an input was not read: the words name a scenario, and this is why
-abbrev pub StoppedAt : (List ℕ → Told) → List (List ℕ) → Counts → Counts → Status → Type 0
-StoppedAt told words old new status = (name : List ℕ) × (workers : ℕ) × IsRun words name workers × InputsCause told name old new status
-
--- each status that refuses an input has its cause
-abbrev pub InputCause : (List ℕ → Told) → List (List ℕ) → Counts → Counts → Status → Type 0
-InputCause told words old new (statuses.Absent file) = StoppedAt told words old new (statuses.Absent file)
-InputCause told words old new (statuses.ReadFault file) = StoppedAt told words old new (statuses.ReadFault file)
-InputCause told words old new (statuses.Scenario fault) = StoppedAt told words old new (statuses.Scenario fault)
-InputCause told words old new (statuses.TooLong file given most) = StoppedAt told words old new (statuses.TooLong file given most)
-InputCause told words old new _ = Unit {0}
-
--- want of memory: nothing was written, or a front of the report of what was kept
-abbrev pub OutOfMemory : Option (List ℕ) → Option (List ℕ) → Option Kept → Type 0
-OutOfMemory old new None = new ≡ old
-OutOfMemory old new (Some kept) = FrontAppended old new (report_text kept)
-
--- how the writing of a report ended: all of it was written, or a front of it and a put failed, or memory ran out
-abbrev pub Wrote : Option (List ℕ) → Option (List ℕ) → ℕ → ℕ → Option Kept → Status → Type 0
-Wrote old new before after kept statuses.Done = IsSomeAnd kept (λ k. Appended old new (report_text k))
-Wrote old new before after kept statuses.WriteFault = (before < after) × IsSomeAnd kept (λ k. FrontAppended old new (report_text k))
-Wrote old new before after kept statuses.NoMemory = OutOfMemory old new kept
-Wrote old new before after kept _ = ⊥
-
--- what was written with each status: of an input or words that are refused nothing is written, and nothing is kept
-abbrev pub EndsSink : Option (List ℕ) → Option (List ℕ) → ℕ → ℕ → Option Kept → Status → Type 0
-EndsSink old new before after kept statuses.Done = Wrote old new before after kept statuses.Done
-EndsSink old new before after kept statuses.WriteFault = Wrote old new before after kept statuses.WriteFault
-EndsSink old new before after kept statuses.NoMemory = Wrote old new before after kept statuses.NoMemory
-EndsSink old new before after kept _ = (new ≡ old) × (kept ≡ None)
-
--- what is kept is of the run of the scenario that the words name: it was read, and then its files, and its nodes ran
-pub record HasRunFor (G : Type 0) (told : List ℕ → Told) (words : List (List ℕ)) (k : Kept) : Type 0 where
-  pub name : List ℕ
-  pub workers : ℕ
-  pub named : IsRun words name workers
-  pub inputs : Inputs
-  pub read : AreInputs told name inputs
-  pub ran : IsRunOf G inputs.scenario.course inputs.library k
+-- how the writing of a text ended, and that the run is kept
+abbrev pub Wrote : Option (List ℕ) → Option (List ℕ) → ℕ → ℕ → List ℕ → Status → Type 0
+Wrote old new before after text statuses.Done = Appended old new text
+Wrote old new before after text statuses.WriteFault = (before < after) × FrontAppended old new text
+Wrote old new before after text statuses.NoMemory = FrontAppended old new text
+Wrote old new before after text _ = ⊥

@@ -1,10 +1,5 @@
-pub mod Fault
-pub mod Json
-pub mod Plan
-pub mod Parts
-pub mod Meaning
 pub mod Words
 pub mod Statuses
 pub mod Inputs
+pub mod Runnable
 pub mod Ending
-pub mod Runs

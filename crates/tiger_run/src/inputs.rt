@@ -3,14 +3,12 @@ ghost use Rattle.std.specs.Prelude.{◌≡◌, ◌==◌, ◌+◌, ◌^◌, ◌�
 ghost use Rattle.std.specs.List.{position};
 ghost use Rattle.tiger_base.specs.Library.{contents};
 ghost use Rattle.outside.specs.Told.{AreTold, NeverFell};
-ghost use Rattle.tiger_run.specs.Meaning.{IsScenario};
-ghost use Rattle.tiger_run.specs.Inputs.{AreFirst, names_of, OneCause, FilesCause, InputsCause, AreInputs};
+ghost use Rattle.scenario_read.specs.Sound.{IsScenario};
+ghost use Rattle.tiger_run.specs.Inputs.{names_of, AreFirst, AreInputs, most_file, OneCause, FilesCause, InputsCause};
 
-use crate::reading::read_scenario;
-use crate::scenario::{FileLine, Scenario};
 use crate::status::Status;
-use crate::stop::{ReadStop, ScenarioFault};
 use outside::{FileFault, Files};
+use scenario_read::{FileLine, ReadStop, Scenario, ScenarioFault, read_scenario};
 use std::alloc::Global;
 use tiger_base::{FileNo, Library};
 
@@ -69,6 +67,7 @@ fn read_files<F: Files>(
     ensures never_fell { NeverFell (F.counts files.old) (F.counts files.new) }
     ensures read { IfOk result (λ v. AreFirst (F.told files.old) (names_of lines.now) (contents v.items)) }
     ensures all { IfOk result (λ v. vec_len v ≡ length lines.now) }
+    ensures short { IfOk result (λ v. All (λ bytes. length bytes ≤ most_file) (contents v.items)) }
     ensures cause { IfErr result (FilesCause (F.told files.old) (names_of lines.now) (F.counts files.old) (F.counts files.new)) }
 {
     let mut read = Vec::new(alloc);
@@ -99,6 +98,7 @@ pub fn read_inputs<F: Files>(alloc: Global, files: &mut F, name: &str) -> Result
     ensures sound { IfOk result (λ inputs. IsScenario inputs.scenario) }
     ensures files { IfOk result (λ inputs. length inputs.library ≡ length inputs.scenario.files) }
     ensures filled { IfOk result (λ inputs. All (λ bytes. 1 ≤ length bytes) inputs.library) }
+    ensures short { IfOk result (λ inputs. All (λ bytes. length bytes ≤ most_file) inputs.library) }
     ensures cause { IfErr result (InputsCause (F.told files.old) name.now (F.counts files.old) (F.counts files.new)) }
 {
     let bytes = read_one(alloc, files, None, name, MOST_SCENARIO)?;

@@ -2,14 +2,7 @@
 #![tactic(auto)]
 
 mod inputs;
-mod json;
-mod parts;
-mod planning;
-mod reading;
-mod run;
-mod scenario;
 mod status;
-mod stop;
 mod top;
 mod words;
 mod writing;
@@ -25,6 +18,7 @@ use top::tiger;
 const HELP: &str = "tiger: a video fileserver whose schedule no machine holds
 
 usage: tiger run NAME W    run the scenario of the file NAME with W workers, 1 to 64
+       tiger make NUMBER   make the scenario of NUMBER, run it, and sum it up
        tiger --help        this text
        tiger --version     the version
 ";

@@ -3,7 +3,7 @@ ghost use Rattle.std.specs.Prelude.{◌≡◌, ◌++◌, IfOk, OnOk, string_byte
 ghost use Rattle.tiger_run.specs.Statuses.{worded, input_text, fault_text, line_of, exit_of};
 ghost use Rattle.tiger_run.specs.declared.status.Status.TheVariants as statuses;
 
-use crate::stop::ScenarioFault;
+use scenario_read::ScenarioFault;
 use std::alloc::{AllocError, AllocFailed, Global};
 use std::fmt::Write;
 use tiger_base::FileNo;

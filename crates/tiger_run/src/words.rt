@@ -1,15 +1,15 @@
 //! The words of the command line.
 ghost use Rattle.std.specs.Prelude.{◌≡◌, ◌≢◌, ◌≤◌, ◌^◌, ◌<◌, ◌↔◌, ℕ, List, MatchOption, IsTrue, codes, length, slice_index};
 ghost use Rattle.std.specs.Fmt.{decimal};
-ghost use Rattle.tiger_run.specs.Words.{IsPlain, IsRun, texts_of};
+ghost use Rattle.tiger_run.specs.Words.{IsPlain, IsRun, IsMake, IsNoCommand, Asks, texts_of};
 
-/// The command `run NAME W`.
+/// What the words ask for.
 #[derive(Clone, Copy, Debug)]
-pub struct Run<'a> {
-    /// The name of the scenario's file.
-    pub name: &'a str,
-    /// The number of workers, from 1 to 64.
-    pub workers: u64,
+pub enum Command<'a> {
+    /// To run the scenario of the file `name`, with 1 to 64 workers.
+    Run { name: &'a str, workers: u64 },
+    /// To make the scenario of a number, and to run it.
+    Make { number: u64 },
 }
 
 /// Whether no sign and no leading zero stands first.
@@ -53,8 +53,8 @@ fn workers_of(word: &str) -> Option<u64>
 }
 
 /// The words as the command `run NAME W`; `None` exactly where they are not in its form.
-pub fn run_in(words: &[String]) -> Option<Run<'_>>
-    ensures { MatchOption result ((name : List ℕ) (workers : ℕ) → ¬ IsRun (texts_of words.now) name workers) (λ run. IsRun (texts_of words.now) run.name.now run.workers) }
+fn run_in(words: &[String]) -> Option<Command<'_>>
+    ensures { MatchOption result ((name : List ℕ) (workers : ℕ) → ¬ IsRun (texts_of words.now) name workers) (Asks (texts_of words.now)) }
 {
     match words {
         [command, name, workers] => {
@@ -62,7 +62,7 @@ pub fn run_in(words: &[String]) -> Option<Run<'_>>
                 return None;
             }
             match workers_of(workers.as_str()) {
-                Some(workers) => Some(Run {
+                Some(workers) => Some(Command::Run {
                     name: name.as_str(),
                     workers,
                 }),
@@ -73,8 +73,42 @@ pub fn run_in(words: &[String]) -> Option<Run<'_>>
     }
 }
 
+/// The words as the command `make NUMBER`; `None` exactly where they are not in its form.
+fn make_in(words: &[String]) -> Option<u64>
+    ensures { MatchOption result ((number : ℕ) → ¬ IsMake (texts_of words.now) number) (IsMake (texts_of words.now)) }
+{
+    match words {
+        [command, number] => {
+            if !is_make(command.as_str()) {
+                return None;
+            }
+            number_of(number.as_str())
+        }
+        _ => None,
+    }
+}
+
 fn is_run(word: &str) -> bool
     ensures { IsTrue result ↔ (word.now ≡ codes "run") }
 {
     word == "run"
+}
+
+fn is_make(word: &str) -> bool
+    ensures { IsTrue result ↔ (word.now ≡ codes "make") }
+{
+    word == "make"
+}
+
+/// The command that the words are; `None` exactly where they are none.
+pub fn command_in(words: &[String]) -> Option<Command<'_>>
+    ensures { MatchOption result (IsNoCommand (texts_of words.now)) (Asks (texts_of words.now)) }
+{
+    match run_in(words) {
+        Some(run) => Some(run),
+        None => match make_in(words) {
+            Some(number) => Some(Command::Make { number }),
+            None => None,
+        },
+    }
 }

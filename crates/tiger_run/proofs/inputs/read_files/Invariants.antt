@@ -1,7 +1,8 @@
-use Rattle.std.proofs.Common.{◌≡◌, ◌+◌, length, sum_by}
+use Rattle.std.proofs.Common.{◌≡◌, ◌+◌, ◌≤◌, length, sum_by}
+use Rattle.std.specs.List.{All}
 use Rattle.tiger_base.specs.Library.{contents}
 use Rattle.outside.specs.Told.{NeverFell}
-use Rattle.tiger_run.specs.Inputs.{AreFirst, names_of}
+use Rattle.tiger_run.specs.Inputs.{AreFirst, names_of, most_file}
 use Rattle.tiger_run.proofs.inputs.read_files.Given as goal
 
 abbrev pub invariant-loop-line : goal.invariant-loop-line
@@ -14,5 +15,6 @@ invariant-loop-line g l =
       never_fell : NeverFell (counts l.fn.files) (counts l.files);
       calls : (counts l.files).calls ≡ (counts l.fn.files).calls + l.line-index;
       read : AreFirst (told l.fn.files) (names_of l.lines) (contents l.read.items);
+      short : All (λ bytes. length bytes ≤ most_file) (contents l.read.items);
       left : l.left + sum_by length (contents l.read.items) ≡ 67108864;
     }

@@ -2,8 +2,8 @@ use Rattle.std.proofs.Common.{◌≡◌, length, ap, sym, ◌∙◌, inr, arith}
 use Rattle.std.proofs.lemmas.Result.{err_from_is_err_and}
 use Rattle.std.specs.Prelude.{option_map}
 use Rattle.tiger_base.specs.Library.{contents}
-use Rattle.tiger_run.specs.Fault.{broken}
-use Rattle.tiger_run.specs.Meaning.{said_by}
+use Rattle.scenario_read.specs.Fault.{broken}
+use Rattle.scenario_read.specs.Meaning.{said_by}
 use Rattle.tiger_run.specs.Inputs.{names_of}
 use Rattle.tiger_run.proofs.Readings.{InputsCause-files, position-contents, first_empty-None, length-names_of, length-contents}
 use Rattle.tiger_run.proofs.inputs.read_inputs.Goals as goal
@@ -38,13 +38,16 @@ returns-clause-read g c =
     let lengths = rw c.as_slice-2.ensures at c.in_ok-read.ensures.all in
     let all : length (contents read) ≡ length (names_of lines) = omega (arith, length-contents read, length-names_of lines, c.in_ok-read.read.ok.0, lengths) in
     let full = sym (position-contents read) ∙ sym (rw c.as_slice-3.ensures.value at c.first_empty.ensures) ∙ c.in_default.is in
-    rw c.new.ensures (c.in_ok-bytes.bytes.items, c.in_ok-bytes.ensures.read, means, (first, all), ap (option_map (broken 13)) full)
+    rw c.new.ensures (record { bytes = c.in_ok-bytes.bytes.items; read = c.in_ok-bytes.ensures.read; means = means; files = (first, all); filled = full })
 
 pub returns-clause-files : goal.returns-clause-files
 returns-clause-files g c =
     let read = c.in_ok-read.read.items in
     let lengths = rw c.as_slice-2.ensures at c.in_ok-read.ensures.all in
     rw c.new.ensures (omega (arith, length-contents read, c.in_ok-read.read.ok.0, lengths))
+
+pub returns-clause-short : goal.returns-clause-short
+returns-clause-short g c = rw c.new.ensures c.in_ok-read.ensures.short
 
 pub returns-clause-filled : goal.returns-clause-filled
 returns-clause-filled g c =

@@ -1,17 +1,32 @@
-use Rattle.tiger_run.proofs.Endings.{some_same}
+use Rattle.std.proofs.Common.{ℕ, List, subst}
+use Rattle.run_report.specs.Text.{report_text}
+use Rattle.tiger_run.specs.Words.{IsRun, IsMake, texts_of}
+use Rattle.tiger_run.specs.Ending.{EndsInputs}
+use Rattle.tiger_run.proofs.WordLists.{IsRun-name}
+use Rattle.tiger_run.proofs.Endings.{EndsSink-run, EndsSink-make}
+use Rattle.tiger_run.proofs.Completeness.{run_completes}
 use Rattle.tiger_run.proofs.top.tiger.Goals as goal
 
-pub returns-clause-words : goal.returns-clause-words
-returns-clause-words g c =
-    (λ e. absurd (rw e at c.write_report.ensures.wrote), λ none. absurd (none c.in-Some.run'.name.now c.in-Some.run'.workers (rw c.as_slice.ensures.value at c.in-Some.ensures)))
+pub returns-in-Some-Run-clause-sink : goal.returns-in-Some-Run-clause-sink
+returns-in-Some-Run-clause-sink g c =
+    let words = texts_of c.args.words.now.items in
+    let run : IsRun words c.in-Some-Run.name.now c.in-Some-Run.field-0-1 = rw (c.as_slice.ensures.value, c.in-Some-Run.field-0-is) at c.in-Some-Run.ensures in
+    EndsSink-run words c.in-Some-Run.name.now c.in-Some-Run.field-0-1 _ _ _ _ _ _ run c.run_named.ensures.sink
 
-pub returns-clause-ran : goal.returns-clause-ran
-returns-clause-ran g c =
-    some_same _ _ _ c.write_report.ensures.same (record {
-      name = c.in-Some.run'.name.now;
-      workers = c.in-Some.run'.workers;
-      named = rw c.as_slice.ensures.value at c.in-Some.ensures;
-      inputs = _;
-      read = c.in-Ok.ensures.read;
-      ran = c.in-Ok-run_first.ensures.ran;
-    })
+pub returns-in-Some-Run-clause-complete : goal.returns-in-Some-Run-clause-complete
+returns-in-Some-Run-clause-complete g c = λ name workers asked runnable no_fault put_all.
+    let words = texts_of c.args.words.now.items in
+    let run : IsRun words c.in-Some-Run.name.now c.in-Some-Run.field-0-1 = rw (c.as_slice.ensures.value, c.in-Some-Run.field-0-is) at c.in-Some-Run.ensures in
+    let same = IsRun-name words c.in-Some-Run.name.now name c.in-Some-Run.field-0-1 workers run asked in
+    let told = g.F.Files.told c.args.files.now in
+    let old = g.F.Files.counts c.args.files.now in
+    let new = g.F.Files.counts c.run_named.new.files in
+    let status = c.run_named.result.status in
+    let ends = subst (λ (n : List ℕ). EndsInputs told n old new status) same c.run_named.ensures.input in
+    run_completes status told name old new _ _ _ _ report_text c.run_named.result.kept runnable no_fault put_all ends c.run_named.ensures.sink
+
+pub returns-in-Some-Make-clause-sink : goal.returns-in-Some-Make-clause-sink
+returns-in-Some-Make-clause-sink g c =
+    let words = texts_of c.args.words.now.items in
+    let make : IsMake words c.in-Some-Make.number = rw (c.as_slice.ensures.value, c.in-Some-Make.field-0-is) at c.in-Some-Make.ensures in
+    EndsSink-make words c.in-Some-Make.number _ _ _ _ _ _ make c.run_made.ensures.sink

@@ -1,0 +1,4 @@
+pub mod Outcomes
+pub mod Tables
+pub mod Digests
+pub mod Text

@@ -1,0 +1,71 @@
+//! The report of a kept run: which blocks the viewers got, whole or in pieces, and why the others are missing.
+#![tactic(auto)]
+
+ghost use Rattle.std.specs.Prelude.{◌≡◌, ◌≤◌, length, IfOk};
+ghost use Rattle.run_report.specs.Text.{report_text, summary_text, kept_outcomes};
+
+mod digest;
+mod firsts;
+mod found;
+mod gather;
+mod index;
+mod outcome;
+mod placed;
+mod tally;
+mod text;
+mod times;
+
+use crate::text::{outcomes_text, push_size, push_total};
+pub use digest::digests_of;
+pub use found::outcomes;
+use node_kit::Kept;
+pub use outcome::{BlockKind, BlockOut, Outcome, Reason};
+use std::alloc::Global;
+use tiger_base::NoMemory;
+
+fn kept_outcomes(alloc: Global, kept: &Kept) -> Result<Vec<Outcome>, NoMemory>
+    requires beats { kept.now.course.beats ≤ 100000 }
+    ensures { IfOk result (λ os. os.items ≡ kept_outcomes kept.now) }
+{
+    let orders = kept.orders.as_slice();
+    outcomes(
+        alloc,
+        &kept.course,
+        &kept.catalogue,
+        orders,
+        kept.journals.as_slice(),
+    )
+}
+
+/// The report of a kept run: the lines of each start in the order of the orders, and the total.
+#[tactic(auto, unfolding(crate::specs::Text::report_text))]
+pub fn report(alloc: Global, kept: &Kept) -> Result<Vec<u8>, NoMemory>
+    requires beats { kept.now.course.beats ≤ 100000 }
+    requires orders { length kept.now.orders ≤ 4000 }
+    ensures { IfOk result (λ text. text.items ≡ report_text kept.now) }
+{
+    let outcomes = kept_outcomes(alloc, kept)?;
+    let told = outcomes.as_slice();
+    let text = outcomes_text(alloc, kept.digests.as_slice(), told)?;
+    Ok(text.into_bytes())
+}
+
+/// The summary of a kept run: the last line of its report, and how many bytes the report has, with
+/// their digest.
+#[tactic(auto, unfolding(crate::specs::Text::report_text, crate::specs::Text::summary_text))]
+pub fn summary(alloc: Global, kept: &Kept) -> Result<Vec<u8>, NoMemory>
+    requires beats { kept.now.course.beats ≤ 100000 }
+    requires orders { length kept.now.orders ≤ 4000 }
+    ensures { IfOk result (λ text. text.items ≡ summary_text kept.now) }
+{
+    let outcomes = kept_outcomes(alloc, kept)?;
+    let told = outcomes.as_slice();
+    let report = outcomes_text(alloc, kept.digests.as_slice(), told)?;
+    let mut text = String::new(alloc);
+    push_total(&mut text, told)?;
+    push_size(alloc, &mut text, report.as_str().as_bytes())?;
+    Ok(text.into_bytes())
+}
+
+#[cfg(test)]
+mod tests;

@@ -1,0 +1,72 @@
+//! Counts of blocks.
+
+use crate::outcome::{BlockKind, BlockOut};
+
+/// How many blocks are whole, in pieces and missing, and how many bytes those have that are not missing.
+#[derive(Clone, Copy, Debug, PartialEq, Eq)]
+pub struct Tally {
+    pub whole: u64,
+    pub pieces: u64,
+    pub missing: u64,
+    pub bytes: u64,
+}
+
+impl Tally {
+    ghost use Rattle.std.specs.Prelude.{◌≡◌};
+    ghost use Rattle.run_report.specs.Text.{plus, nothing, kind_tally, tally_of, Fits};
+
+    /// The counts of no block.
+    pub const NOTHING: Tally = Tally {
+        whole: 0,
+        pieces: 0,
+        missing: 0,
+        bytes: 0,
+    };
+
+    /// The sum of both.
+    pub fn plus(self, other: Tally) -> Tally
+        requires { Fits (plus self other) }
+        ensures { result ≡ plus self other }
+    {
+        Tally {
+            whole: self.whole + other.whole,
+            pieces: self.pieces + other.pieces,
+            missing: self.missing + other.missing,
+            bytes: self.bytes + other.bytes,
+        }
+    }
+
+    /// The counts of one block.
+    pub fn of_kind(kind: &BlockKind) -> Tally
+        ensures { result ≡ kind_tally kind.now }
+    {
+        match kind {
+            BlockKind::Whole { len, .. } => Tally {
+                whole: 1,
+                bytes: *len,
+                ..Tally::NOTHING
+            },
+            BlockKind::Pieces { len, .. } => Tally {
+                pieces: 1,
+                bytes: *len,
+                ..Tally::NOTHING
+            },
+            BlockKind::Missing(_) => Tally {
+                missing: 1,
+                ..Tally::NOTHING
+            },
+        }
+    }
+
+    /// The sum over these blocks.
+    pub fn of(blocks: &[BlockOut]) -> Tally
+        requires { Fits (tally_of blocks.now) }
+        ensures { result ≡ tally_of blocks.now }
+    {
+        let mut tally = Tally::NOTHING;
+        for block in blocks {
+            tally = tally.plus(Tally::of_kind(&block.kind));
+        }
+        tally
+    }
+}

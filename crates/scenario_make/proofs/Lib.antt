@@ -1,0 +1,7 @@
+mod Drawing
+mod Dying
+mod EventLists
+mod Growing
+mod Making
+mod Sounds
+mod Starting

@@ -1,0 +1,212 @@
+-- What holds of the deaths that were read.
+use Rattle.std.proofs.Common.{◌≡◌, ℕ, zero, suc, ◌+◌, ◌-◌, ◌%◌, ◌≤◌, ◌<◌, min, Bool, true, false, cond, ◌||◌, List, [], ◌∷◌, ◌++◌, length, map, get_or, Option, Some, None, option_and_then, option_map, codes, Ok, refl, subst, sym, ap, ◌∙◌, arith, ⊎_elim, inl, inr}
+use Rattle.std.specs.Prelude.{◌⊎◌, ◌==◌, IfSome, is_some, slice_get}
+use Rattle.std.specs.List.{All, AllByRecursion, list_any, count_by, range_with_len}
+use Rattle.std.proofs.lemmas.Bool.{cases_Bool, cases_eq, eq-eqb, ne_eqb}
+use Rattle.std.proofs.Math.Nat.{mod_self, mod-eq_of_lt, mod-lt}
+use Rattle.std.proofs.lemmas.Bool.{false≢true}
+use Rattle.std.proofs.lemmas.Option.{same_Some, slice_get-get_or}
+use Rattle.std.proofs.lemmas.List.Elements.{All-map}
+use Rattle.std.proofs.lemmas.List.Sums.{sum_by-cons}
+use Rattle.std.proofs.lemmas.List.FromFn.{length-map-range_with_len, get_or-map-range_with_len, map-range_with_len_more}
+use Rattle.serde_json.specs.Data.{Data}
+use Rattle.serde_json.specs.Find.{get}
+use Rattle.scenario_read.specs.declared.deaths.Death.{Death}
+use Rattle.scenario_read.specs.Json.{below_at, has_only, is_one_of}
+use Rattle.scenario_read.specs.Items.{items_of}
+use Rattle.scenario_read.specs.Deaths.{are_close, death_after, deaths_given, death_in, by_cub, deaths_of}
+use Rattle.scenario_read.proofs.Inversions.{bind-ok, ok-same, below_at-range}
+use Rattle.scenario_read.proofs.ItemFacts.{AreRead, items_of-read, given_or-read}
+
+-- one more cub
+pub by_cub-more : (ds : List Death) (n : ℕ) (so_far : List (Option ℕ)) (x : Option ℕ) → so_far ≡ map (death_in ds) (range_with_len 0 n) → x ≡ death_in ds n
+    → so_far ++ x ∷ [] ≡ map (death_in ds) (range_with_len 0 (n + 1))
+by_cub-more ds n so_far x e f = rw (e, f) (sym (map-range_with_len_more (death_in ds) 0 n n (omega arith)))
+
+-- no two of the deaths are close
+abbrev pub AreApart : ℕ → List Death → Type 0
+AreApart cubs [] = Unit {0}
+AreApart cubs (d ∷ ds) = AllByRecursion (λ e. are_close cubs d.cub e.cub ≡ false) ds × AreApart cubs ds
+
+pub record AreDeaths (cubs beats : ℕ) (ds : List Death) : Type 0 where
+  pub early : AllByRecursion (λ d. d.beat < beats) ds
+  pub apart : AreApart cubs ds
+
+each-push : {X : Type 0} (P : X → Type 0) (xs : List X) (x : X) → AllByRecursion P xs → P x → AllByRecursion P (xs ++ x ∷ [])
+each-push P [] x all h = (h, tt)
+each-push P (y ∷ ys) x all h = (all.0, each-push P ys x all.1 h)
+
+either-false : (a b : Bool) → (a || b) ≡ false → (a ≡ false) × (b ≡ false)
+either-false false b e = (refl, e)
+either-false true b e = absurd (cc)
+
+apart-push : (cubs : ℕ) (ds : List Death) (x : Death) → AreApart cubs ds → list_any (λ e. are_close cubs e.cub x.cub) ds ≡ false → AreApart cubs (ds ++ x ∷ [])
+apart-push cubs [] x all none = (tt, tt)
+apart-push cubs (d ∷ ds) x all none =
+    let both = either-false (are_close cubs d.cub x.cub) (list_any (λ (e : Death). are_close cubs e.cub x.cub) ds) none in
+    (each-push (λ (e : Death). are_close cubs d.cub e.cub ≡ false) ds x all.0 both.0, apart-push cubs ds x all.1 both.1)
+
+-- a value behind a test that fails
+passed-some : {A : Type 0} (b : Bool) (o : Option A) (y : A) → cond b None o ≡ Some y → (b ≡ false) × (o ≡ Some y)
+passed-some false o y e = (refl, e)
+passed-some true o y e = absurd (cc)
+
+-- a death by its parts
+death-by-parts : (b : Bool) (cubs beats : ℕ) (front : List Death) (cub beat : Option ℕ) (x : Death) → ((n : ℕ) → beat ≡ Some n → n < beats)
+    → cond b (option_and_then (λ c. cond (list_any (λ e. are_close cubs e.cub c) front) None (option_map {U = Death} (λ n. record { cub = c; beat = n }) beat)) cub) None ≡ Some x
+    → (x.beat < beats) × (list_any (λ e. are_close cubs e.cub x.cub) front ≡ false)
+death-by-parts true cubs beats front (Some c) (Some n) x early e =
+    let p = passed-some (list_any (λ (d : Death). are_close cubs d.cub c) front) (Some (record { cub = c; beat = n })) x e in
+    subst (λ (y : Death). (y.beat < beats) × (list_any (λ d. are_close cubs d.cub y.cub) front ≡ false)) (same_Some (record { cub = c; beat = n }) x p.1) (early n refl, p.0)
+death-by-parts true cubs beats front (Some c) None x early e =
+    let p = passed-some (list_any (λ (d : Death). are_close cubs d.cub c) front) None x e in absurd (let f = p.1 in cc)
+death-by-parts true cubs beats front None beat x early e = absurd (cc)
+death-by-parts false cubs beats front cub beat x early e = absurd (cc)
+
+death_after-keeps : (cubs beats : ℕ) (front : List Death) (d : Data) (x : Death) → AreDeaths cubs beats front → death_after cubs beats front d ≡ Some x → AreDeaths cubs beats (front ++ x ∷ [])
+unfolding death_after
+death_after-keeps cubs beats front d x h e =
+    let p = death-by-parts (has_only (is_one_of (codes "cub" ∷ codes "beat" ∷ [])) d) cubs beats front (below_at (codes "cub") cubs d) (below_at (codes "beat") beats d) x
+    (λ n. below_at-range (codes "beat") beats d n) e in
+    record { early = each-push (λ (y : Death). y.beat < beats) front x h.early p.0; apart = apart-push cubs front x h.apart p.1 }
+
+given-sound : (cubs beats : ℕ) (d : Data) (ds : List Death) → items_of 11 0 32 32 (death_after cubs beats) d ≡ Ok ds → AreRead (AreDeaths cubs beats) 0 32 ds
+given-sound cubs beats d ds e = items_of-read 11 0 32 32 (death_after cubs beats) (AreDeaths cubs beats) d ds (death_after-keeps cubs beats) (record { early = tt; apart = tt }) e
+
+deaths_given-sound : (cubs beats : ℕ) (d : Data) (ds : List Death) → deaths_given cubs beats d ≡ Ok ds → AreRead (AreDeaths cubs beats) 0 32 ds
+unfolding deaths_given
+deaths_given-sound cubs beats d ds e =
+    given_or-read (AreRead (AreDeaths cubs beats) 0 32) [] (items_of 11 0 32 32 (death_after cubs beats)) (get (codes "deaths") d) ds
+    (record { kept = record { early = tt; apart = tt }; low = omega arith; high = omega arith })
+    (λ f. given-sound cubs beats f ds) e
+
+-- ---- the deaths by cub
+
+-- where the first death is another cub's, the rest decides
+other_cub : (d : Death) (ds : List Death) (c : ℕ) → (d.cub == c) ≡ false → death_in (d ∷ ds) c ≡ death_in ds c
+other_cub d ds c e = rw e refl
+
+no_death : (ds : List Death) (c : ℕ) → AllByRecursion (λ e. (e.cub == c) ≡ false) ds → death_in ds c ≡ None
+no_death [] c none = refl
+no_death (d ∷ ds) c none = other_cub d ds c none.0 ∙ no_death ds c none.1
+
+early_death : (beats : ℕ) (ds : List Death) (c : ℕ) → AllByRecursion (λ d. d.beat < beats) ds → IfSome (death_in ds c) (λ b. b < beats)
+early_death beats [] c all = tt
+early_death beats (d ∷ ds) c all = ⊎_elim
+    (λ (e : (d.cub == c) ≡ true). rw e all.0)
+    (λ (e : (d.cub == c) ≡ false). rw e (early_death beats ds c all.1))
+    (cases_Bool (d.cub == c))
+
+differ : (a b : ℕ) → (a == b) ≡ false → a ≡ b → ⊥
+differ a b e same = false≢true (sym e ∙ eq-eqb a b same)
+
+-- three numbers that a pair that is not close does not make equal
+pub record AreFar (cubs a b : ℕ) : Type 0 where
+  pub other : a ≡ b → ⊥
+  pub after : (a + 1) % cubs ≡ b → ⊥
+  pub before : (b + 1) % cubs ≡ a → ⊥
+
+far : (cubs a b : ℕ) → are_close cubs a b ≡ false → AreFar cubs a b
+unfolding are_close
+far cubs a b e =
+    let p = either-false ((a == b) || ((a + 1) % cubs == b)) ((b + 1) % cubs == a) e in
+    let q = either-false (a == b) ((a + 1) % cubs == b) p.0 in
+    record { other = differ a b q.0; after = differ ((a + 1) % cubs) b q.1; before = differ ((b + 1) % cubs) a p.1 }
+
+-- of the cubs that stand side by side with one that dies, none is among those that are far from it
+none_after : (cubs a b : ℕ) (ds : List Death) → (a + 1) % cubs ≡ b → AllByRecursion (λ e. are_close cubs a e.cub ≡ false) ds → AllByRecursion (λ e. (e.cub == b) ≡ false) ds
+none_after cubs a b [] next all = tt
+none_after cubs a b (d ∷ ds) next all = (ne_eqb d.cub b (λ same. (far cubs a d.cub all.0).after (next ∙ sym same)), none_after cubs a b ds next all.1)
+
+none_before : (cubs a b : ℕ) (ds : List Death) → (a + 1) % cubs ≡ b → AllByRecursion (λ e. are_close cubs b e.cub ≡ false) ds → AllByRecursion (λ e. (e.cub == a) ≡ false) ds
+none_before cubs a b [] next all = tt
+none_before cubs a b (d ∷ ds) next all =
+    (ne_eqb d.cub a (λ same. (far cubs b d.cub all.0).before (ap (λ (k : ℕ). (k + 1) % cubs) same ∙ next)), none_before cubs a b ds next all.1)
+
+-- of two different cubs side by side one does not die
+pub one_lives : (cubs a b : ℕ) (ds : List Death) → (a ≡ b → ⊥) → (a + 1) % cubs ≡ b → AreApart cubs ds → (death_in ds a ≡ None) ⊎ (death_in ds b ≡ None)
+one_lives cubs a b [] ne next apart = inl refl
+one_lives cubs a b (d ∷ ds) ne next apart = ⊎_elim
+    (λ (e : d.cub ≡ a).
+    let far_ones = subst (λ (k : ℕ). AllByRecursion (λ x. are_close cubs k x.cub ≡ false) ds) e apart.0 in
+    inr (other_cub d ds b (ne_eqb d.cub b (λ same. ne (sym e ∙ same))) ∙ no_death ds b (none_after cubs a b ds next far_ones)))
+    (λ (no : d.cub ≡ a → ⊥). ⊎_elim
+    (λ (e : d.cub ≡ b).
+    let far_ones = subst (λ (k : ℕ). AllByRecursion (λ x. are_close cubs k x.cub ≡ false) ds) e apart.0 in
+    inl (other_cub d ds a (ne_eqb d.cub a no) ∙ no_death ds a (none_before cubs a b ds next far_ones)))
+    (λ (nor : d.cub ≡ b → ⊥). ⊎_elim
+    (λ (x : death_in ds a ≡ None). inl (other_cub d ds a (ne_eqb d.cub a no) ∙ x))
+    (λ (y : death_in ds b ≡ None). inr (other_cub d ds b (ne_eqb d.cub b nor) ∙ y))
+    (one_lives cubs a b ds ne next apart.1))
+    (cases_eq d.cub b))
+    (cases_eq d.cub a)
+
+-- how many cubs from a on die
+abbrev dying : List Death → ℕ → ℕ → ℕ
+dying ds a n = count_by is_some (map (death_in ds) (range_with_len a n))
+
+dying-suc : (ds : List Death) (a n : ℕ) → dying ds a (suc n) ≡ cond (is_some (death_in ds a)) 1 0 + dying ds (a + 1) n
+dying-suc ds a n = sum_by-cons (λ (o : Option ℕ). cond (is_some o) 1 0) (death_in ds a) (map (death_in ds) (range_with_len (a + 1) n))
+
+none_dying : (a n : ℕ) → dying [] a n ≡ 0
+none_dying a zero = refl
+none_dying a (suc n) = let rest = none_dying (a + 1) n in let head = dying-suc [] a n in omega arith
+
+counted-most : (o : Option ℕ) → cond (is_some o) 1 0 ≤ 1
+counted-most (Some x) = omega arith
+counted-most None = omega arith
+
+-- one more death makes one more cub die at most, and none where its cub is passed
+one_more : (d : Death) (ds : List Death) (a n : ℕ) → dying (d ∷ ds) a n ≤ dying ds a n + min 1 (d.cub + 1 - a)
+one_more d ds a zero = omega arith
+one_more d ds a (suc n) = ⊎_elim
+    (λ (e : d.cub ≡ a).
+    let rest = one_more d ds (a + 1) n in
+    let head = counted-most (death_in (d ∷ ds) a) in
+    omega (arith, rest, head, dying-suc (d ∷ ds) a n, dying-suc ds a n))
+    (λ (ne : d.cub ≡ a → ⊥).
+    let rest = one_more d ds (a + 1) n in
+    let head = ap {B = ℕ} (λ (o : Option ℕ). cond (is_some o) 1 0) (other_cub d ds a (ne_eqb d.cub a ne)) in
+    omega (arith, rest, head, dying-suc (d ∷ ds) a n, dying-suc ds a n))
+    (cases_eq d.cub a)
+
+pub few_dying : (ds : List Death) (a n : ℕ) → count_by is_some (map (death_in ds) (range_with_len a n)) ≤ length ds
+few_dying [] a n = omega (arith, none_dying a n)
+few_dying (d ∷ ds) a n = omega (arith, one_more d ds a n, few_dying ds a n)
+
+all_early : (beats : ℕ) (ds : List Death) (n : ℕ) → AllByRecursion (λ d. d.beat < beats) ds → All (λ o. IfSome o (λ b. b < beats)) (map (death_in ds) (range_with_len 0 n))
+all_early beats ds n all =
+    All-map (λ (o : Option ℕ). IfSome o (λ b. b < beats)) (death_in ds) (range_with_len 0 n) (λ k d lt. early_death beats ds (get_or (range_with_len 0 n) k d) all)
+
+-- what holds of the deaths by cub
+pub record AreByCub (cubs beats : ℕ) (deaths : List (Option ℕ)) : Type 0 where
+  pub count : length deaths ≡ cubs
+  pub few : count_by is_some deaths ≤ 32
+  pub early : All (λ o. IfSome o (λ b. b < beats)) deaths
+  pub apart : (n : ℕ) → n < cubs → (slice_get deaths n ≡ Some None) ⊎ (slice_get deaths ((n + 1) % cubs) ≡ Some None)
+
+death_at : (ds : List Death) (cubs n : ℕ) → n < cubs → slice_get (map (death_in ds) (range_with_len 0 cubs)) n ≡ Some (death_in ds n)
+death_at ds cubs n lt =
+    slice_get-get_or (map (death_in ds) (range_with_len 0 cubs)) n None (omega (arith, length-map-range_with_len (death_in ds) 0 cubs))
+    ∙ ap Some (get_or-map-range_with_len (death_in ds) 0 cubs n n None lt (omega arith))
+
+next_differs : (cubs n : ℕ) → 2 ≤ cubs → n < cubs → n ≡ (n + 1) % cubs → ⊥
+next_differs cubs n some lt same = ⊎_elim
+    (λ (e : n + 1 ≡ cubs). let z : (n + 1) % cubs ≡ 0 = ap (λ (k : ℕ). k % cubs) e ∙ mod_self cubs in omega arith)
+    (λ (ne : n + 1 ≡ cubs → ⊥). let z : (n + 1) % cubs ≡ n + 1 = mod-eq_of_lt {n = n + 1} {m = cubs} (omega arith) in omega arith)
+    (cases_eq (n + 1) cubs)
+
+pub deaths_of-sound : (cubs beats : ℕ) (d : Data) (deaths : List (Option ℕ)) → 2 ≤ cubs → deaths_of cubs beats d ≡ Ok deaths → AreByCub cubs beats deaths
+unfolding deaths_of by_cub
+deaths_of-sound cubs beats d deaths some e =
+    let a = bind-ok (deaths_given cubs beats d) (λ ds. Ok (by_cub cubs ds)) deaths e in
+    let r = deaths_given-sound cubs beats d a.0 a.1 in
+    subst (AreByCub cubs beats) (ok-same (map (death_in a.0) (range_with_len 0 cubs)) deaths a.2) (record {
+      count = length-map-range_with_len (death_in a.0) 0 cubs;
+      few = omega (arith, few_dying a.0 0 cubs, r.high);
+      early = all_early beats a.0 cubs r.kept.early;
+      apart = λ n lt. ⊎_elim
+          (λ (x : death_in a.0 n ≡ None). inl (death_at a.0 cubs n lt ∙ ap Some x))
+          (λ (y : death_in a.0 ((n + 1) % cubs) ≡ None). inr (death_at a.0 cubs ((n + 1) % cubs) (mod-lt (n + 1) {m = cubs} (omega arith)) ∙ ap Some y))
+          (one_lives cubs n ((n + 1) % cubs) a.0 (next_differs cubs n some lt) refl r.kept.apart);
+    })

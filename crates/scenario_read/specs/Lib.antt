@@ -1,0 +1,12 @@
+pub mod Fault
+pub mod Json
+pub mod Items
+pub mod Plan
+pub mod Timing
+pub mod Files
+pub mod Events
+pub mod Deaths
+pub mod ReadFaults
+pub mod Meaning
+pub mod Sound
+pub mod Orders

@@ -1,0 +1,4 @@
+pub mod Facts
+pub mod Histories
+pub mod Lives
+pub mod Rings

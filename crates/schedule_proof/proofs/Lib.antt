@@ -1,0 +1,7 @@
+pub mod Beats
+pub mod Calm
+pub mod Knot
+pub mod Origins
+pub mod Room
+pub mod Silence
+pub mod Timely

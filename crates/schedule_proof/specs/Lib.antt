@@ -1,0 +1,4 @@
+pub mod Facts
+pub mod Laws
+pub mod Logs
+pub mod Schedule

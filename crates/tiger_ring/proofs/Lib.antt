@@ -1,0 +1,2 @@
+mod Stopless
+mod Following

@@ -1,0 +1,300 @@
+//! Runs of small scenarios: which visits were served, the schedule before and after, and what changed journals tell.
+ghost use Rattle.std.specs.Prelude.{◌≡◌, ◌≤◌, length, All, IfOk};
+
+use crate::run_ring;
+use node_kit::{Entry, Journal, Kept, OpenGate, What};
+use run_model::{carried, delivered, excused, schedule_at, timed};
+use scenario_read::read_scenario;
+use std::alloc::{AllocError, Global};
+use std::fmt::Write;
+use std::test::Fail;
+use tiger_base::{
+    Instance, Library, Micros, NoMemory, Note, Sequence, Span, Stamp, Tenancy, Visit,
+};
+
+/// How every scenario begins.
+const PLAN: &str =
+    "{\"plan\":{\"cubs\":8,\"disks\":1,\"slots\":16,\"play\":1000000,\"pieces\":2,\"block\":4,\"beat\":10000,\"delay\":2,\"skew\":4000,\"window_a\":800000,\"window_b\":200000,\"read_lead\":100000,\"min_lead\":3000000,\"max_lead\":4000000,\"batch\":20,\"heart\":50,\"deadman\":1000000,\"hold\":3000000},\"links\":{\"fixed\":1},";
+
+const TEN: &str = "\"files\":[{\"name\":\"ten\",\"disk\":0}],";
+
+const LONG: &str = "\"files\":[{\"name\":\"long\",\"disk\":0}],";
+
+const BOTH: &str = "\"files\":[{\"name\":\"long\",\"disk\":0},{\"name\":\"ten\",\"disk\":4}],";
+
+const START: &str = "\"beats\":600,\"events\":[{\"beat\":0,\"start\":0}]";
+
+/// Ten bytes.
+fn ten(alloc: Global) -> Result<Vec<u8>, NoMemory>
+    ensures { IfOk result (λ v. length v.items ≡ 10) }
+{
+    Ok(vec![in alloc; b'1', b'2', b'3', b'4', b'5', b'6', b'7', b'8', b'9', b'0']?)
+}
+
+/// 256 bytes.
+fn long(alloc: Global) -> Result<Vec<u8>, NoMemory>
+    ensures { IfOk result (λ v. length v.items ≡ 256) }
+{
+    Ok(vec![in alloc; b'a'; 256]?)
+}
+
+/// A library of one file.
+fn one(alloc: Global, file: Vec<u8>) -> Result<Library, NoMemory>
+    requires some { 1 ≤ length file.items }
+    requires few { length file.items ≤ 16777216 }
+    ensures count { IfOk result (λ l. length l ≡ 1) }
+    ensures filled { IfOk result (λ l. All (λ bytes. 1 ≤ length bytes) l) }
+    ensures short { IfOk result (λ l. All (λ bytes. length bytes ≤ 16777216) l) }
+{
+    let mut files = Vec::new(alloc);
+    files.push(file)?;
+    Ok(Library::new(files))
+}
+
+/// The library of two files.
+fn both(alloc: Global) -> Result<Library, NoMemory>
+    ensures count { IfOk result (λ l. length l ≡ 2) }
+    ensures filled { IfOk result (λ l. All (λ bytes. 1 ≤ length bytes) l) }
+    ensures short { IfOk result (λ l. All (λ bytes. length bytes ≤ 16777216) l) }
+{
+    let mut files = Vec::new(alloc);
+    files.push(long(alloc)?)?;
+    files.push(ten(alloc)?)?;
+    Ok(Library::new(files))
+}
+
+/// The run of a scenario over a library.
+fn run_of(
+    alloc: Global,
+    files: &str,
+    rest: &str,
+    library: &Library,
+    count: usize,
+) -> Result<Kept, Fail>
+    requires count { length library.now ≡ count }
+    requires filled { All (λ bytes. 1 ≤ length bytes) library.now }
+    requires short { All (λ bytes. length bytes ≤ 16777216) library.now }
+{
+    let text = format!(in alloc; "{PLAN}{files}{rest}}}")?;
+    let scenario = read_scenario(alloc, text.as_bytes())?;
+    if scenario.files.len() != count {
+        return Err(Fail::new("another number of files"));
+    }
+    Ok(run_ring(alloc, scenario, library, &OpenGate)?)
+}
+
+/// Whether a visit was served (`d`, or `D` where it need not have been), or need not have been (`e`), or neither.
+fn letter(k: &Kept, v: Instance, n: Visit) -> &'static str {
+    match (delivered(k, v, n), excused(k, v, n)) {
+        (true, false) => "d",
+        (true, true) => "D",
+        (false, true) => "e",
+        (false, false) => ".",
+    }
+}
+
+fn push_fates(k: &Kept, v: Instance, visits: Visit, text: &mut String) -> Result<(), AllocError> {
+    for n in 0..visits {
+        text.push_str(letter(k, v, n))?;
+    }
+    text.push_str(" ")
+}
+
+fn push_slots(k: &Kept, entries: u64, alloc: Global, text: &mut String) -> Result<(), NoMemory> {
+    let slots = schedule_at(alloc, k, entries)?;
+    text.push_str("[")?;
+    for t in slots.tenancies.as_slice() {
+        write!(
+            text,
+            "{} in {} {}-{}",
+            t.instance.0, t.slot.0, t.first, t.last
+        )?;
+        text.push_str(";")?;
+    }
+    text.push_str("]")?;
+    Ok(())
+}
+
+/// The fates of the first visits of the first instances, whether the run is carried and timed, and its schedule
+/// before the first entry and after the last.
+fn told(alloc: Global, k: &Kept, instances: u32, visits: Visit) -> Result<String, NoMemory> {
+    let mut text = String::new(alloc);
+    for v in 0..instances {
+        push_fates(k, Instance(v), visits, &mut text)?;
+    }
+    text.push_str(if carried(k) { "carried " } else { "" })?;
+    text.push_str(if timed(k) { "timed " } else { "" })?;
+    push_slots(k, 0, alloc, &mut text)?;
+    push_slots(k, u64::MAX, alloc, &mut text)?;
+    Ok(text)
+}
+
+/// What is told of a run with the file of ten bytes.
+fn of_ten(alloc: Global, rest: &str) -> Result<String, Fail> {
+    let library = one(alloc, ten(alloc)?)?;
+    let k = run_of(alloc, TEN, rest, &library, 1)?;
+    Ok(told(alloc, &k, 1, 4)?)
+}
+
+/// What is told of a run with the long file.
+fn of_long(alloc: Global, rest: &str, visits: Visit) -> Result<String, Fail> {
+    let library = one(alloc, long(alloc)?)?;
+    let k = run_of(alloc, LONG, rest, &library, 1)?;
+    Ok(told(alloc, &k, 1, visits)?)
+}
+
+/// What is told of a run with both files.
+fn of_both(alloc: Global, rest: &str) -> Result<String, Fail> {
+    let library = both(alloc)?;
+    let k = run_of(alloc, BOTH, rest, &library, 2)?;
+    Ok(told(alloc, &k, 2, 8)?)
+}
+
+#[test]
+fn visits_are_served_or_excused(rt: HostRuntime) -> Result<(), Fail> {
+    let alloc = rt.alloc();
+    let plain = of_ten(alloc, START)?;
+    assert_eq!(rt; plain.as_str(), "ddd. carried timed [][0 in 1 0-2;]");
+    let stopped = of_ten(
+        alloc,
+        "\"beats\":600,\"events\":[{\"beat\":0,\"start\":0},{\"beat\":100,\"stop\":0}]",
+    )?;
+    assert_eq!(rt; stopped.as_str(), "Dee. carried timed [][]");
+    let unread = of_ten(
+        alloc,
+        "\"beats\":600,\"events\":[{\"beat\":0,\"start\":0}],\"read_faults\":[{\"disk\":1,\"from\":130,\"until\":160}]",
+    )?;
+    assert_eq!(rt; unread.as_str(), "ded. carried timed [][0 in 1 0-2;]");
+    let first = of_ten(
+        alloc,
+        "\"beats\":600,\"events\":[{\"beat\":0,\"start\":0}],\"deaths\":[{\"cub\":0,\"beat\":0}]",
+    )?;
+    assert_eq!(rt; first.as_str(), "ddd. carried timed [][0 in 3 0-2;]");
+    Ok(())
+}
+
+#[test]
+fn a_death_costs_what_comes_too_soon_after_it(rt: HostRuntime) -> Result<(), Fail> {
+    let alloc = rt.alloc();
+    let early = of_long(
+        alloc,
+        "\"beats\":600,\"events\":[{\"beat\":0,\"start\":0}],\"deaths\":[{\"cub\":3,\"beat\":200}]",
+        7,
+    )?;
+    assert_eq!(rt; early.as_str(), "dddddd. carried timed [][0 in 1 0-63;]");
+    let late = of_long(
+        alloc,
+        "\"beats\":700,\"events\":[{\"beat\":0,\"start\":0}],\"deaths\":[{\"cub\":3,\"beat\":300}]",
+        8,
+    )?;
+    assert_eq!(rt; late.as_str(), "dddeddd. carried timed [][0 in 1 0-63;]");
+    let other = of_both(
+        alloc,
+        "\"beats\":1000,\"events\":[{\"beat\":0,\"start\":0},{\"beat\":400,\"stop\":0},{\"beat\":400,\"start\":1}]",
+    )?;
+    assert_eq!(rt;
+        other.as_str(),
+        "dddDeeee ....ddd. carried timed [][1 in 1 4-6;]"
+    );
+    Ok(())
+}
+
+/// How the journals of a run are changed.
+#[derive(Clone, Copy)]
+enum Change {
+    /// The viewers' notes of blocks are lost.
+    Lost,
+    /// All is written down later.
+    Late(Micros),
+    /// What is put into a slot is followed by another instance.
+    Twice,
+    /// The viewers got other bytes.
+    Span,
+    /// They were told of another beat.
+    Beat,
+}
+
+/// Writes what becomes of an entry.
+fn write_changed(change: Change, e: &Entry, journal: &mut Journal) -> Result<(), NoMemory> {
+    let Entry { stamp, what } = *e;
+    match (change, what) {
+        (Change::Lost, What::Got(_, Note::Whole { .. })) => Ok(()),
+        (Change::Late(by), _) => {
+            let reading = stamp.reading.saturating_add(by);
+            journal.write(Entry {
+                stamp: Stamp {
+                    beat: stamp.beat,
+                    reading,
+                },
+                what,
+            })
+        }
+        (Change::Twice, What::Put(t)) => {
+            journal.write(*e)?;
+            let other = Tenancy {
+                instance: Instance(1),
+                ..t
+            };
+            journal.write(Entry {
+                stamp,
+                what: What::Put(other),
+            })
+        }
+        (Change::Span, What::Got(link, Note::Whole { want, sent, part })) => {
+            let part = Span {
+                len: part.len.saturating_sub(1),
+                ..part
+            };
+            journal.write(Entry {
+                stamp,
+                what: What::Got(link, Note::Whole { want, sent, part }),
+            })
+        }
+        (Change::Beat, What::Got(link, Note::Whole { want, sent, part })) => {
+            let sent = sent.saturating_sub(1);
+            journal.write(Entry {
+                stamp,
+                what: What::Got(link, Note::Whole { want, sent, part }),
+            })
+        }
+        _ => journal.write(*e),
+    }
+}
+
+fn changed_journal(alloc: Global, change: Change, journal: &[Entry]) -> Result<Journal, NoMemory> {
+    let mut changed = Journal::new(alloc);
+    for e in journal {
+        write_changed(change, e, &mut changed)?;
+    }
+    Ok(changed)
+}
+
+/// What is told of the run with ten bytes, once its journals are changed.
+fn of_changed(alloc: Global, change: Change) -> Result<String, Fail> {
+    let library = one(alloc, ten(alloc)?)?;
+    let mut k = run_of(alloc, TEN, START, &library, 1)?;
+    let mut journals = Vec::new(alloc);
+    for journal in k.journals.as_slice() {
+        journals.push(changed_journal(alloc, change, journal.as_slice())?)?;
+    }
+    k.journals = Sequence::new(journals);
+    Ok(told(alloc, &k, 1, 4)?)
+}
+
+#[test]
+fn changed_journals_tell_it(rt: HostRuntime) -> Result<(), Fail> {
+    let alloc = rt.alloc();
+    let lost = of_changed(alloc, Change::Lost)?;
+    assert_eq!(rt; lost.as_str(), ".... timed [][0 in 1 0-2;]");
+    let within = of_changed(alloc, Change::Late(4000))?;
+    assert_eq!(rt; within.as_str(), "ddd. carried timed [][0 in 1 0-2;]");
+    let late = of_changed(alloc, Change::Late(4001))?;
+    assert_eq!(rt; late.as_str(), "ddd. carried [][0 in 1 0-2;]");
+    let twice = of_changed(alloc, Change::Twice)?;
+    assert_eq!(rt; twice.as_str(), "ddd. carried timed [][1 in 1 0-2;]");
+    let span = of_changed(alloc, Change::Span)?;
+    assert_eq!(rt; span.as_str(), ".... timed [][0 in 1 0-2;]");
+    let beat = of_changed(alloc, Change::Beat)?;
+    assert_eq!(rt; beat.as_str(), ".... timed [][0 in 1 0-2;]");
+    Ok(())
+}
