@@ -43,11 +43,11 @@ use Rattle.schedule_laws.proofs.Order.{tick_of, after_tick, ticked_before, beats
 use Rattle.schedule_laws.proofs.States.{stamp_made, state_way, start_none, stop_came}
 
 -- an event and what befell the node in it
-stamp_same : (e : NodeEvent Msg) → stamp_at e ≡ stamp_of (input_of e)
+pub stamp_same : (e : NodeEvent Msg) → stamp_at e ≡ stamp_of (input_of e)
 stamp_same (Does i) = refl
 stamp_same (Dies stamp) = refl
 
-tick_same : (e : NodeEvent Msg) → is_death e ≡ false → is_tick e ≡ is_tick_input (input_of e)
+pub tick_same : (e : NodeEvent Msg) → is_death e ≡ false → is_tick e ≡ is_tick_input (input_of e)
 tick_same (Does (Take stamp link m)) d = refl
 tick_same (Does (Tick stamp)) d = refl
 tick_same (Dies stamp) d = absurd (cc)
@@ -71,7 +71,7 @@ sends_first l b link m os d t more zero q =
     (link, t, inl (ap (λ (x : Dated Msg). out.Send link x.item) (sym z)), ap (λ (x : Dated Msg). x.beat) (sym z))
 sends_first l b link m os d t more (suc j) q = sending_later l b (out.Send link m) os d (more j q)
 
-sends_in : (l b : ℕ) (os : List (Out Msg)) (d : Dated Msg) (k : ℕ) → slice_get (sends_of l b os) k ≡ Some d → IsSending l b os d
+pub sends_in : (l b : ℕ) (os : List (Out Msg)) (d : Dated Msg) (k : ℕ) → slice_get (sends_of l b os) k ≡ Some d → IsSending l b os d
 sends_in l b [] d k e = absurd (none-some d e)
 sends_in l b (out.Act what ∷ os) d k e = sending_later l b (out.Act what) os d (sends_in l b os d k e)
 sends_in l b (out.Send link m ∷ os) d k e =
@@ -158,7 +158,7 @@ is_take l (Does (Tick stamp)) t = absurd (cc)
 is_take l (Dies stamp) t = absurd (cc)
 
 -- of more events as many or more pass a test
-count_rises : {S : Type 0} (test : NodeEvent Msg → Bool) (h : History Msg S) (n i j : ℕ) → i ≤ j → count_of test h n i ≤ count_of test h n j
+pub count_rises : {S : Type 0} (test : NodeEvent Msg → Bool) (h : History Msg S) (n i j : ℕ) → i ≤ j → count_of test h n i ≤ count_of test h n j
 count_rises test h n i zero l = let e : i ≡ 0 = omega arith in subst (λ k. count_of test h n k ≤ 0) (sym e) (omega arith)
 count_rises test h n i (suc j) l = ⊎_elim
     (λ (e : i ≡ suc j). subst (λ k. count_of test h n k ≤ count_of test h n (suc j)) (sym e) (omega arith))
@@ -414,6 +414,15 @@ module _ {S : Type 0} (step : S → Input Msg → Deed Msg S) (p : Params) (plan
 
   pub never_reached : (c v y : ℕ) → ReachedAt p (lives_of h) c v y → ⊥
   never_reached c v y g = by_beats NoneReached none_step y c v g
+
+  -- a start is sent by another node than a cub
+  pub start_sender : (n i : ℕ) (link : LinkNo) (a : Ask) (x : Bool) → i < h.count n → In (out.Send link (msg.Start a x)) (outs noted step h n i) → p.cubs ≤ n
+  start_sender n i link a x low k = ⊎_elim
+      (λ (small : n < p.cubs).
+      absurd (start_none p n plan small ((lives_of h).input n i) (store_at p n ((lives_of h).input n) i) link a x
+      (subst (λ (os : List (Out Msg)). In (out.Send link (msg.Start a x)) os) (quiet.cubs n i small low) k)))
+      (λ (other : p.cubs ≤ n). other)
+      (cases_lt n p.cubs)
 
   -- a start comes from another node
   start_from : (c i : ℕ) (stamp : Stamp) (link : LinkNo) (a : Ask) (x : Bool) → (f : CameFrom c i stamp.beat link (msg.Start a x)) → p.cubs ≤ f.from

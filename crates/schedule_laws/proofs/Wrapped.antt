@@ -29,12 +29,12 @@ cub_outs p c h (Take stamp link m) = refl
 cub_outs p c h (Tick stamp) = refl
 
 -- an event that is no death is a step at its input
-after_state : {S : Type 0} (step : S → Input Msg → Deed Msg S) (e : NodeEvent Msg) (x : Past S) → is_death e ≡ false → (after noted step e x).state ≡ (step x.state (input_of e)).state
+pub after_state : {S : Type 0} (step : S → Input Msg → Deed Msg S) (e : NodeEvent Msg) (x : Past S) → is_death e ≡ false → (after noted step e x).state ≡ (step x.state (input_of e)).state
 unfolding after_input
 after_state step (Does i) x d = refl
 after_state step (Dies stamp) x d = absurd (cc)
 
-event_outs : {S : Type 0} (step : S → Input Msg → Deed Msg S) (e : NodeEvent Msg) (x : Past S) → is_death e ≡ false → outs_of step e x ≡ (step x.state (input_of e)).outs
+pub event_outs : {S : Type 0} (step : S → Input Msg → Deed Msg S) (e : NodeEvent Msg) (x : Past S) → is_death e ≡ false → outs_of step e x ≡ (step x.state (input_of e)).outs
 unfolding kept_outs trimmed
 event_outs step (Does i) x d = refl
 event_outs step (Dies stamp) x d = absurd (cc)

@@ -1,4 +1,4 @@
--- How many orders a run has, and which text is written of it.
+-- How many orders a run has, that it has one schedule, and which text is written of it.
 use Rattle.std.proofs.Common.{◌≡◌, ℕ, suc, ◌+◌, ◌≤◌, List, [], ◌∷◌, length, Option, refl, sym, ap, subst, arith}
 use Rattle.stripe_layout.specs.declared.catalogue.Catalogue.{Catalogue}
 use Rattle.node_kit.specs.declared.course.Kept.{Kept}
@@ -8,10 +8,14 @@ use Rattle.scenario_read.specs.declared.scenario.Scenario.{Scenario}
 use Rattle.scenario_read.specs.Orders.{orders_from}
 use Rattle.scenario_read.specs.Sound.{IsScenario}
 use Rattle.tiger_ring.specs.Rings.{IsRingRun}
+use Rattle.ring_schedule.specs.Scenarios.{IsCalmScenario, AreShort}
+use Rattle.ring_schedule.proofs.Scenarios.{calm_runs_put_fairly, calm_runs_pass_nobody_over}
+use Rattle.outside.specs.Told.{Told, Counts}
+use Rattle.tiger_run.specs.declared.status.Status.TheVariants as statuses
 use Rattle.run_report.specs.Text.{report_text, summary_text}
 use Rattle.tiger_run.specs.declared.status.Status.{Status}
-use Rattle.tiger_run.specs.Words.{IsRun, IsMake}
-use Rattle.tiger_run.specs.Ending.{text_for, EndsSink}
+use Rattle.tiger_run.specs.Words.{IsRun, IsMake, IsNoCommand}
+use Rattle.tiger_run.specs.Ending.{text_for, EndsSink, EndsInputs, HasOneSchedule}
 
 -- as many orders as events
 pub length-orders_from : (c : Catalogue) (n : ℕ) (events : List ScEvent) → length (orders_from c n events) ≡ length events
@@ -22,6 +26,20 @@ length-orders_from c n (event.Finish beat instance ∷ events) = ap suc (length-
 -- a run has as many orders as its scenario has events
 pub few_orders : (G : Type 0) (s : Scenario) (library : List (List ℕ)) (k : Kept) → IsScenario s → IsRingRun G s library k → length k.orders ≤ 4000
 few_orders G s library k sound ran = omega (arith, sound.events.few, ap length ran.orders, length-orders_from k.catalogue 0 s.events)
+
+-- the run of a scenario without stops and deaths has one schedule
+pub has_one_schedule : (G : Type 0) (s : Scenario) (library : List (List ℕ)) (k : Kept) → IsScenario s → IsCalmScenario s → AreShort library → IsRingRun G s library k
+    → HasOneSchedule k
+has_one_schedule G s library k sound calm short ran = record {
+  fair = calm_runs_put_fairly G s library k sound calm short ran;
+  patient = calm_runs_pass_nobody_over G s library k sound calm short ran;
+}
+
+-- words that name a scenario are not refused
+pub words-run : (words : List (List ℕ)) (name : List ℕ) (workers : ℕ) (told : List ℕ → Told) (old new : Counts) (status : Status)
+    → IsRun words name workers → EndsInputs told name old new status → (status ≡ statuses.Words → IsNoCommand words) × (IsNoCommand words → status ≡ statuses.Words)
+words-run words name workers told old new status run ends =
+    (λ is. absurd (subst (λ (s : Status). EndsInputs told name old new s) is ends), λ none. absurd (none.no_run name workers run))
 
 -- the text of words that name a scenario, and of words that make one
 text_for-run : (words : List (List ℕ)) (name : List ℕ) (workers : ℕ) → IsRun words name workers → text_for words ≡ report_text

@@ -3,7 +3,7 @@ use Rattle.run_report.specs.Text.{report_text}
 use Rattle.tiger_run.specs.Words.{IsRun, IsMake, texts_of}
 use Rattle.tiger_run.specs.Ending.{EndsInputs}
 use Rattle.tiger_run.proofs.WordLists.{IsRun-name}
-use Rattle.tiger_run.proofs.Endings.{EndsSink-run, EndsSink-make}
+use Rattle.tiger_run.proofs.Endings.{EndsSink-run, EndsSink-make, words-run}
 use Rattle.tiger_run.proofs.Completeness.{run_completes}
 use Rattle.tiger_run.proofs.top.tiger.Goals as goal
 
@@ -30,3 +30,9 @@ returns-in-Some-Make-clause-sink g c =
     let words = texts_of c.args.words.now.items in
     let make : IsMake words c.in-Some-Make.number = rw (c.as_slice.ensures.value, c.in-Some-Make.field-0-is) at c.in-Some-Make.ensures in
     EndsSink-make words c.in-Some-Make.number _ _ _ _ _ _ make c.run_made.ensures.sink
+
+pub returns-in-Some-Run-clause-words : goal.returns-in-Some-Run-clause-words
+returns-in-Some-Run-clause-words g c =
+    let words = texts_of c.args.words.now.items in
+    let run : IsRun words c.in-Some-Run.name.now c.in-Some-Run.field-0-1 = rw (c.as_slice.ensures.value, c.in-Some-Run.field-0-is) at c.in-Some-Run.ensures in
+    words-run words c.in-Some-Run.name.now c.in-Some-Run.field-0-1 (g.F.Files.told c.args.files.now) _ _ _ run c.run_named.ensures.input

@@ -1,0 +1,7 @@
+pub mod Controllers
+pub mod Once
+pub mod Openings
+pub mod Readings
+pub mod Rings
+pub mod Scenarios
+pub mod Stopless

@@ -1,0 +1,38 @@
+-- A scenario without stops and deaths, and what holds of its run.
+use Rattle.std.specs.Prelude.{◌≡◌, ℕ, ◌≤◌, true, List, length, All, None}
+use Rattle.node_kit.specs.declared.course.Kept.{Kept}
+use Rattle.run_facts.specs.Order.{order_of}
+use Rattle.run_model.specs.Orders.{PutsAreFair}
+use Rattle.run_model.specs.Runs.{NoneIsPassedOver}
+use Rattle.scenario_read.specs.declared.scenario.Scenario.{Scenario}
+use Rattle.scenario_read.specs.Events.{is_start}
+use Rattle.scenario_read.specs.Sound.{IsScenario}
+use Rattle.schedule_proof.specs.Schedule.{IsOneSchedule}
+use Rattle.schedule_laws.specs.Facts.{facts_of}
+use Rattle.schedule_laws.specs.Histories.{lives_of}
+use Rattle.schedule_laws.specs.Rings.{calm}
+use Rattle.tiger_ring.specs.Rings.{IsRingRun}
+
+-- every event is a start, and no cub dies
+pub record IsCalmScenario (s : Scenario) : Type 0 where
+  pub starts : All (λ e. is_start e ≡ true) s.events
+  pub alive : All (λ death. death ≡ None) s.course.deaths
+
+-- no file is longer than 16 MiB
+abbrev pub AreShort : List (List ℕ) → Type 0
+AreShort library = All (λ bytes. length bytes ≤ 16777216) library
+
+-- whatever is kept of the run of such a scenario: over the order of all entries each Put finds its slot free at the
+-- moment before it, from its first visit on, and is rightly put
+abbrev pub CalmRunsPutFairly : (G : Type 0) → Type 0
+CalmRunsPutFairly G = (s : Scenario) (library : List (List ℕ)) (k : Kept) → IsScenario s → IsCalmScenario s → AreShort library → IsRingRun G s library k
+    → PutsAreFair k.course.plan.params k.orders (order_of k.course.beats k.journals)
+
+-- and what its cubs did is one schedule
+abbrev pub CalmRunsHaveOneSchedule : (G : Type 0) → Type 0
+CalmRunsHaveOneSchedule G = (s : Scenario) (library : List (List ℕ)) (k : Kept) → IsScenario s → IsCalmScenario s → AreShort library
+    → (run : IsRingRun G s library k) → IsOneSchedule k.course.plan.params (facts_of k.course.plan.params (lives_of run.steps.history.history) (calm k.orders))
+
+-- and at the end of each tick of a cub no start is passed over
+abbrev pub CalmRunsPassNobodyOver : (G : Type 0) → Type 0
+CalmRunsPassNobodyOver G = (s : Scenario) (library : List (List ℕ)) (k : Kept) → IsScenario s → IsCalmScenario s → AreShort library → IsRingRun G s library k → NoneIsPassedOver k

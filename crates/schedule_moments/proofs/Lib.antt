@@ -1,0 +1,9 @@
+mod Ones
+mod Ordered
+mod Written
+mod Singles
+mod Holders
+pub mod Fair
+mod Plain
+mod Beliefs
+pub mod Passing
