@@ -334,6 +334,24 @@ fn span() -> Span {
     }
 }
 
+/// The own record of the visit in these tests.
+fn own_record() -> Rec {
+    Rec {
+        tenancy: tenancy(3),
+        visit: 3,
+        kind: Kind::Own,
+    }
+}
+
+/// The block of that visit on its way to the viewers.
+fn whole_note() -> Note {
+    Note::Whole {
+        want: want(),
+        sent: 350,
+        part: span(),
+    }
+}
+
 /// A block from its state to the viewers, who get it in the beat in which it is due, before the heartbeat of that beat.
 fn send_a_block<'a>(rt: &impl Abort, alloc: Global, library: &'a Library) -> Result<(), NoMemory> {
     let cub = cub_at(alloc, 3, 3000000);
@@ -341,17 +359,12 @@ fn send_a_block<'a>(rt: &impl Abort, alloc: Global, library: &'a Library) -> Res
         tenancy: tenancy(3),
         visit: 3,
     });
-    let own = Rec {
-        tenancy: tenancy(3),
-        visit: 3,
-        kind: Kind::Own,
-    };
     let answer = Msg::ReadDone {
         want: want(),
         part: Part::of(library, span(), b"aaaa"),
     };
     let (cub, took) = cub.on(301, LinkNo(28), told)?;
-    assert_eq!(rt; took.as_slice(), [What::Took(own)].as_slice());
+    assert_eq!(rt; took.as_slice(), [What::Took(own_record())].as_slice());
     let (cub, before) = cub.at_end(339)?;
     assert_eq!(rt; before.len(), 0);
     let (cub, asked) = cub.at_end(340)?;
@@ -366,16 +379,11 @@ fn send_a_block<'a>(rt: &impl Abort, alloc: Global, library: &'a Library) -> Res
     let (cub, early) = cub.at_end(349)?;
     assert_eq!(rt; early.len(), 0);
     let (cub, due) = cub.at_end(350)?;
-    let whole = Note::Whole {
-        want: want(),
-        sent: 350,
-        part: span(),
-    };
     assert_eq!(rt;
         due.as_slice(),
         [
-            What::Sent(LinkNo(19), whole),
-            What::Dropped(own),
+            What::Sent(LinkNo(19), whole_note()),
+            What::Dropped(own_record()),
             What::Sent(LinkNo(30), Note::Heartbeat),
         ]
         .as_slice()

@@ -1,7 +1,6 @@
 -- What the rules on messages say of themselves beside their deeds.
-use Rattle.std.specs.Prelude.{◌≡◌, ◌≤◌, ◌<◌, ◌==◌, ◌&&◌, nat_lt, ℕ, Bool, List, [], ◌∷◌, if◌then◌else◌}
+use Rattle.std.specs.Prelude.{◌≡◌, ◌≤◌, ◌<◌, List, [], ◌∷◌, if◌then◌else◌}
 use Rattle.tiger_base.specs.declared.number.Instance.{Instance}
-use Rattle.tiger_base.specs.declared.tenancy.Want.{Want}
 use Rattle.tiger_base.specs.declared.message.Msg.{Msg}
 use Rattle.slot_plan.specs.declared.params.Params.{Params}
 use Rattle.slot_plan.specs.Keys.{Key}
@@ -15,10 +14,6 @@ use Rattle.cub_rules.specs.Records.{dropped}
 -- a deed that puts nothing out, and its state
 abbrev pub DidQuietly : Deed Msg Store → Store → Type 0
 DidQuietly deed h = (deed.outs ≡ []) × (h ≡ deed.state)
-
--- whether a want is of a piece of a visit of an instance
-abbrev pub is_piece_want : Instance → ℕ → Want → Bool
-is_piece_want v visit want = want.instance.0 == v.0 && want.visit == visit && nat_lt 0 want.piece
 
 -- a position that a message in form, or a record of the cub, can give
 abbrev pub IsNear : Params → Key → Type 0

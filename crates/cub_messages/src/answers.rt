@@ -33,7 +33,7 @@ pub fn take_answer<'a>(
         return Ok(());
     }
     match part {
-        Some(part) => store.parts.push(StoredPart { want, part }),
+        Some(part) => store.parts.push(&site.plan, StoredPart { want, part }),
         None => out.push(Out::Act(What::ReadFailed(want))),
     }
 }

@@ -1,16 +1,16 @@
 //! What a cub does with a mirror state and with a kill.
-ghost use Rattle.std.specs.Prelude.{◌≡◌, IsTrue, IfOk, OnOk, None, filter, not, if◌then◌else◌};
+ghost use Rattle.std.specs.Prelude.{◌≡◌, IsTrue, IfOk, OnOk, None, not, if◌then◌else◌};
 ghost use Rattle.node_kit.specs.Form.{is_piece};
 ghost use Rattle.cub_rules.specs.State.{IsStoreOf};
 ghost use Rattle.mirror_schedule.specs.Pieces.{IsPieceOf, IsPieces, is_in};
 ghost use Rattle.cub_rules.specs.Records.{pieces_with, with_piece_record};
-ghost use Rattle.cub_rules.specs.Messages.{meeting_piece, meeting_kill, is_piece_part};
-ghost use Rattle.cub_messages.specs.Rules.{DidQuietly, is_piece_want};
+ghost use Rattle.cub_rules.specs.Messages.{meeting_piece, meeting_kill};
+ghost use Rattle.cub_messages.specs.Rules.{DidQuietly};
 
-use cub_rules::{Store, StoredPart};
+use cub_rules::Store;
 use mirror_schedule::PieceView;
 use rule_kit::Site;
-use tiger_base::{Instance, NoMemory, PieceState, Sequence, Visit, Want};
+use tiger_base::{Instance, NoMemory, PieceState, Visit};
 
 /// A piece record is added, and is still to be asked for, unless its instance is held or it is for another cub.
 #[tactic(auto, unfolding(cub_rules::specs::Messages::meeting_piece, cub_rules::specs::Records::with_piece_record))]
@@ -55,21 +55,5 @@ pub fn take_kill(instance: Instance, visit: Visit, store: &mut Store)
 {
     store.pieces.remove_visit(instance, visit);
     store.unasked.remove_visit(instance, visit);
-    drop_parts(instance, visit, &mut store.parts);
-}
-
-/// The parts of the pieces of a visit are dropped.
-fn drop_parts(instance: Instance, visit: Visit, parts: &mut Sequence<StoredPart>)
-    ensures { parts.new ≡ filter (λ x. not (is_piece_part instance visit x)) parts.old }
-{
-    parts
-        .items
-        .retain(|stored| !is_piece_of(instance, visit, &stored.want));
-}
-
-/// Whether a piece of a visit is wanted.
-fn is_piece_of(instance: Instance, visit: Visit, want: &Want) -> bool
-    ensures { result ≡ is_piece_want instance visit want.now }
-{
-    want.instance.0 == instance.0 && want.visit == visit && 0 < want.piece
+    store.parts.drop_pieces(instance, visit);
 }

@@ -6,14 +6,14 @@ ghost use Rattle.partial_view.specs.Lines.{key_of, visit_of, is_of};
 ghost use Rattle.partial_view.specs.Views.{IsWalk, line_at, next_behind, without_instance};
 ghost use Rattle.partial_view.specs.Walks.{replaced};
 ghost use Rattle.rule_kit.specs.Deeds.{Did};
-ghost use Rattle.cub_rules.specs.Records.{took, dropped, dropping_lines, dropping_start, dropping_pieces, is_part_of};
+ghost use Rattle.cub_rules.specs.Records.{took, dropped, dropping_lines, dropping_start, dropping_pieces};
 ghost use Rattle.cub_messages.specs.Rules.{DidQuietly, outs_if_of, left_if_of};
 
-use cub_rules::{Store, StoredPart};
+use cub_rules::Store;
 use cub_view::CubView;
 use node_kit::{Out, Outbox, What};
 use partial_view::{Added, Line};
-use tiger_base::{Instance, Msg, NoMemory, Rec, Sequence, SlotNo, Visit};
+use tiger_base::{Instance, Msg, NoMemory, Rec, SlotNo, Visit};
 
 /// A record is taken, with Took; where the view has one at its slot and visit already, that one stays.
 #[tactic(auto, using(crate::proofs::Adding::new_where_none), unfolding(cub_rules::specs::Records::took))]
@@ -114,15 +114,5 @@ pub(crate) fn drop_pieces(instance: Instance, store: &mut Store)
 {
     store.pieces.remove_instance(instance);
     store.unasked.remove_instance(instance);
-    drop_parts(instance, &mut store.parts);
-}
-
-/// All parts of an instance are dropped.
-fn drop_parts(instance: Instance, parts: &mut Sequence<StoredPart>)
-    ensures { parts.new ≡ filter (λ x. not (is_part_of instance x)) parts.old }
-{
-    let number = instance.0;
-    parts
-        .items
-        .retain(|stored| stored.want.instance.0 != number);
+    store.parts.drop_instance(instance);
 }

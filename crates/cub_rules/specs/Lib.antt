@@ -1,4 +1,5 @@
 pub mod Cubs
+pub mod Fresh
 pub mod Messages
 pub mod Records
 pub mod State

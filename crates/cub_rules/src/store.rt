@@ -2,6 +2,7 @@
 ghost use Rattle.std.specs.Prelude.{◌≡◌, ◌-◌, ◌≤◌};
 ghost use Rattle.cub_rules.specs.State.{opening_store};
 
+use crate::parts::StoredParts;
 use cub_view::CubView;
 use deadman::Watch;
 use deschedule::Held;
@@ -9,7 +10,7 @@ use insert_queue::Starts;
 use mirror_schedule::{PieceView, Splits};
 use slot_plan::Plan;
 use std::alloc::Global;
-use tiger_base::{Micros, Part, Sequence, Want};
+use tiger_base::{Micros, Part, Want};
 
 /// A part that a disk gave, and what was asked for it.
 #[derive(Drop)]
@@ -38,7 +39,7 @@ pub struct Store<'a> {
     /// The visits that it split.
     pub splits: Splits,
     /// The parts that the disks gave.
-    pub parts: Sequence<StoredPart<'a>>,
+    pub parts: StoredParts<'a>,
 }
 
 impl<'a> Store<'a> {
@@ -56,7 +57,7 @@ impl<'a> Store<'a> {
             pieces: PieceView::new(alloc, plan),
             unasked: PieceView::new(alloc, plan),
             splits: Splits::new(alloc),
-            parts: Sequence::new(Vec::new(alloc)),
+            parts: StoredParts::new(alloc, plan),
         }
     }
 }

@@ -1,17 +1,23 @@
-//! What a cub keeps at first.
-ghost use Rattle.std.specs.Prelude.{◌≡◌};
+//! What a cub keeps at first, and which of its stored parts it forgets.
+ghost use Rattle.std.specs.Prelude.{◌≡◌, ◌≤◌, ◌<◌, IfOk};
 
-use crate::Store;
+use crate::{Store, StoredPart, StoredParts};
 use slot_plan::{Params, Plan};
+use std::alloc::Global;
 use std::test::Fail;
-use tiger_base::{DiskNo, Instance};
+use tiger_base::{DiskNo, FileNo, Instance, Library, Micros, NoMemory, Part, SlotNo, Span, Want};
 
-fn plan() -> Plan {
+/// A plan of eight disks with a number of slots: slot 1 is first due at eight seconds over this number.
+fn plan(slots: u64) -> Plan
+    requires some { 1 < slots }
+    requires few { slots ≤ 4096 }
+    ensures { result.params.slots ≡ slots }
+{
     Plan {
         params: Params {
             cubs: 8,
             disks: 1,
-            slots: 16,
+            slots,
             play: 1000000,
             pieces: 2,
             block: 4,
@@ -33,7 +39,7 @@ fn plan() -> Plan {
 
 #[test]
 fn a_cub_keeps_nothing_at_first(rt: HostRuntime) -> Result<(), Fail> {
-    let store = Store::new(rt.alloc(), &plan(), 7);
+    let store = Store::new(rt.alloc(), &plan(16), 7);
     assert!(rt; store.view.view().after(None).is_none());
     assert!(rt; store.starts.next(DiskNo(0)).is_none());
     assert!(rt; !store.held.is_held(Instance(0)));
@@ -42,5 +48,123 @@ fn a_cub_keeps_nothing_at_first(rt: HostRuntime) -> Result<(), Fail> {
     assert!(rt; !store.believes);
     assert!(rt; store.pieces.after(None).is_none());
     assert!(rt; store.unasked.after(None).is_none());
+    assert!(rt; store.parts.is_empty());
+    Ok(())
+}
+
+/// A library of an empty file.
+fn library(alloc: Global) -> Result<Library, NoMemory> {
+    let mut files = Vec::new(alloc);
+    files.push(Vec::new(alloc))?;
+    Ok(Library::new(files))
+}
+
+/// A part of visit 0 of slot 1 for an instance.
+fn part_of<'a>(library: &'a Library, instance: u32) -> Result<StoredPart<'a>, Fail>
+    ensures slot { IfOk result (λ x. x.want.slot.0 ≡ 1) }
+    ensures visit { IfOk result (λ x. x.want.visit ≡ 0) }
+{
+    let span = Span {
+        file: FileNo(0),
+        from: 0,
+        len: 0,
+    };
+    let want = Want {
+        instance: Instance(instance),
+        slot: SlotNo(1),
+        visit: 0,
+        file: FileNo(0),
+        block: 0,
+        piece: 1,
+    };
+    let part = Part::of(library, span, b"").ok_or("no part")?;
+    Ok(StoredPart { want, part })
+}
+
+/// How many parts are kept behind a reading, where a part of visit 0 of slot 1 comes under a plan, what is stale is forgotten
+/// under another, and the parts were begun with a first one.
+fn kept<'a>(
+    alloc: Global,
+    library: &'a Library,
+    first: &Plan,
+    came: &Plan,
+    forgets: &Plan,
+    reading: Micros,
+) -> Result<usize, Fail>
+    requires first { 1 < first.now.params.slots }
+    requires came { 1 < came.now.params.slots }
+    requires forgets { 1 < forgets.now.params.slots }
+{
+    let mut parts = StoredParts::new(alloc, first);
+    parts.push(came, part_of(library, 7)?)?;
+    parts.forget_stale(forgets, reading);
+    Ok(parts.len())
+}
+
+#[test]
+fn stale_parts_are_forgotten_under_the_plan_they_came_under(rt: HostRuntime) -> Result<(), Fail> {
+    let library = library(rt.alloc())?;
+    let half = plan(16);
+    for (reading, left) in [(0, 1), (1499999, 1), (1500000, 0), (9000000, 0)] {
+        assert_eq!(rt;
+            kept(rt.alloc(), &library, &half, &half, &half, reading)?,
+            left
+        );
+    }
+    Ok(())
+}
+
+#[test]
+fn stale_parts_are_forgotten_under_another_plan(rt: HostRuntime) -> Result<(), Fail> {
+    let library = library(rt.alloc())?;
+    let half = plan(16);
+    let quarter = plan(32);
+    for (reading, left) in [(1249999, 1), (1250000, 0)] {
+        assert_eq!(rt;
+            kept(rt.alloc(), &library, &half, &half, &quarter, reading)?,
+            left
+        );
+        assert_eq!(rt;
+            kept(rt.alloc(), &library, &half, &quarter, &quarter, reading)?,
+            left
+        );
+    }
+    for (reading, left) in [(1499999, 1), (1500000, 0)] {
+        assert_eq!(rt;
+            kept(rt.alloc(), &library, &half, &quarter, &half, reading)?,
+            left
+        );
+        assert_eq!(rt;
+            kept(rt.alloc(), &library, &quarter, &half, &half, reading)?,
+            left
+        );
+    }
+    Ok(())
+}
+
+/// How many of three parts are kept, of instances 7, 8 and 7, where those of an instance are dropped, and then one more
+/// instance's that are pieces of visit 0.
+fn dropped<'a>(
+    alloc: Global,
+    library: &'a Library,
+    instance: u32,
+    other: u32,
+) -> Result<usize, Fail> {
+    let plan = plan(16);
+    let mut parts = StoredParts::new(alloc, &plan);
+    parts.push(&plan, part_of(library, 7)?)?;
+    parts.push(&plan, part_of(library, 8)?)?;
+    parts.push(&plan, part_of(library, 7)?)?;
+    parts.drop_instance(Instance(instance));
+    parts.drop_pieces(Instance(other), 0);
+    Ok(parts.len())
+}
+
+#[test]
+fn parts_are_dropped_by_instance(rt: HostRuntime) -> Result<(), Fail> {
+    let library = library(rt.alloc())?;
+    for (instance, other, left) in [(6, 6, 3), (7, 6, 1), (8, 6, 2), (6, 7, 1), (7, 8, 0)] {
+        assert_eq!(rt; dropped(rt.alloc(), &library, instance, other)?, left);
+    }
     Ok(())
 }

@@ -1,17 +1,15 @@
 //! The steps that go by the clock alone: release, deadman, heartbeat.
-ghost use Rattle.std.specs.Prelude.{◌≡◌, ◌++◌, OnOk, map, filter, not};
-ghost use Rattle.std.specs.List.{AllByRecursion};
+ghost use Rattle.std.specs.Prelude.{◌≡◌, ◌++◌, OnOk, map};
 ghost use Rattle.rule_kit.specs.Deeds.{Did};
 ghost use Rattle.cub_rules.specs.declared.store.Store.{Store};
-ghost use Rattle.cub_rules.specs.State.{IsStoreOf, IsPartHere};
-ghost use Rattle.cub_rules.specs.Ticks.{releasing, believing, beating, queued, is_stale};
+ghost use Rattle.cub_rules.specs.State.{IsStoreOf};
+ghost use Rattle.cub_rules.specs.Ticks.{releasing, believing, beating, queued};
 
 use crate::ring::predecessor;
-use cub_rules::{Store, StoredPart};
+use cub_rules::Store;
 use node_kit::{Out, Outbox, What};
 use rule_kit::Site;
-use slot_plan::Plan;
-use tiger_base::{Ask, Micros, Msg, NoMemory, Stamp};
+use tiger_base::{Ask, Msg, NoMemory, Stamp};
 
 /// Release: what is held long enough is released, and split visits and stored parts whose play time is over are
 /// forgotten. It puts nothing out.
@@ -22,27 +20,7 @@ pub fn release<'a>(site: &Site, stamp: Stamp, store: &mut Store<'a>)
 {
     store.held.expire(stamp.reading);
     store.splits.expire(&site.plan, stamp.reading);
-    forget_stale(&mut store.parts.items, &site.plan, stamp.reading);
-}
-
-/// Forgets the stored parts whose play time is over.
-fn forget_stale<'a>(parts: &mut Vec<StoredPart<'a>>, plan: &Plan, reading: Micros)
-    requires { AllByRecursion (IsPartHere plan.now.params) parts.old.items }
-    ensures { parts.new.items ≡ filter (λ x. not (is_stale plan.now.params reading x)) parts.old.items }
-{
-    for i in (0..parts.len()).rev() {
-        if is_stale(&parts[i], plan, reading) {
-            parts.remove(i);
-        }
-    }
-}
-
-/// Whether the play time of a stored part's visit is over.
-fn is_stale<'a>(x: &StoredPart<'a>, plan: &Plan, reading: Micros) -> bool
-    requires { IsPartHere plan.now.params x.now }
-    ensures { result ≡ is_stale plan.now.params reading x.now }
-{
-    plan.due(x.want.slot, x.want.visit) + plan.params.play <= reading
+    store.parts.forget_stale(&site.plan, stamp.reading);
 }
 
 /// Deadman: where the predecessor was silent for too long it is believed dead from now on, and the redundant starts

@@ -142,7 +142,7 @@ pub fn busy<'a>(alloc: Global, site: &Site, part: Part<'a>) -> Result<Store<'a>,
         block: 0,
         piece: 1,
     };
-    store.parts.push(StoredPart { want, part })?;
+    store.parts.push(&site.plan, StoredPart { want, part })?;
     Ok(store)
 }
 

@@ -1,10 +1,11 @@
--- What is still to be forwarded where a view changes.
+-- What is still to be forwarded or to be split where a view changes.
 use Rattle.std.proofs.Common.{◌≡◌, ℕ, ◌+◌, ◌*◌, ◌<◌, ◌≤◌, ◌&&◌, nat_lt, Bool, true, false, cond, not, List, [], ◌∷◌, Option, Some, None, is_some, refl, subst, ◌∙◌, sym, ap, arith}
+use Rattle.std.specs.List.{AllByRecursion}
 use Rattle.std.proofs.lemmas.Bool.{both_ways}
 use Rattle.std.proofs.Math.Nat.{mul-le-mul}
 use Rattle.slot_plan.specs.declared.params.Params.{Params}
 use Rattle.slot_plan.specs.Conditions.{IsPlan}
-use Rattle.slot_plan.specs.Keys.{Key, is_earlier}
+use Rattle.slot_plan.specs.Keys.{Key, due_of, is_earlier}
 use Rattle.slot_plan.specs.Times.{due}
 use Rattle.tiger_base.specs.declared.number.Instance.{Instance}
 use Rattle.tiger_base.specs.declared.tenancy.Rec.{Rec}
@@ -19,7 +20,7 @@ use Rattle.partial_view.specs.Adding.{answer_to, answer_at}
 use Rattle.partial_view.proofs.Order.{all_filter, all_implies}
 use Rattle.partial_view.proofs.Calls.{with_record-known}
 use Rattle.state_forward.specs.Forwards.{is_own}
-use Rattle.cub_view.specs.Pending.{is_pending, next_due, IsForwardedTo}
+use Rattle.cub_view.specs.Pending.{is_pending, next_due, IsForwardedTo, is_unsplit, IsSplitFrom}
 
 -- the next visit is due later than at the beginning
 pub next_due_pos : (p : Params) → IsPlan p → (slot visit : ℕ) → 1 ≤ due p slot (visit + 1)
@@ -28,12 +29,21 @@ next_due_pos p plan slot visit =
     let many : 1 * p.play ≤ (visit + 1) * p.play = mul-le-mul (omega arith) (omega arith) in
     omega (arith, plan.c1, plan.c2)
 
--- at an earlier time
+-- what is known up to a time is known up to an earlier one, and what is known from a time on from a later one on
 pub forwarded_earlier : (p : Params) (low high : ℕ) (lines : List Line) → low ≤ high → IsForwardedTo p high lines → IsForwardedTo p low lines
 forwarded_earlier p low high lines e h =
     all_implies (λ x. is_pending x ≡ true → high < next_due p x) (λ x. is_pending x ≡ true → low < next_due p x) (λ x f pending. omega (arith, f pending)) lines h
 
--- a flag that is set
+pub split_later : (p : Params) (low high : ℕ) (lines : List Line) → low ≤ high → IsSplitFrom p low lines → IsSplitFrom p high lines
+split_later p low high lines e h =
+    all_implies (λ x. is_unsplit x ≡ true → due_of p (key_of x) < low) (λ x. is_unsplit x ≡ true → due_of p (key_of x) < high) (λ x f unsplit. omega (arith, f unsplit)) lines h
+
+rec_marked : (flag : Flag) (x : Line) → (marked flag x).rec ≡ x.rec
+rec_marked Forwarded x = refl
+rec_marked Asked x = refl
+rec_marked Split x = refl
+
+-- a flag that is set leaves nothing to do that was not to be done before
 pending_marked : (flag : Flag) (x : Line) → is_pending (marked flag x) ≡ true → is_pending x ≡ true
 pending_marked Forwarded x h = absurd (both_ways (is_pending (marked Forwarded x)) (never x) h)
   where
@@ -47,46 +57,59 @@ pending_marked Forwarded x h = absurd (both_ways (is_pending (marked Forwarded x
 pending_marked Asked x h = h
 pending_marked Split x h = h
 
-rec_marked : (flag : Flag) (x : Line) → (marked flag x).rec ≡ x.rec
-rec_marked Forwarded x = refl
-rec_marked Asked x = refl
-rec_marked Split x = refl
+unsplit_marked : (flag : Flag) (x : Line) → is_unsplit (marked flag x) ≡ true → is_unsplit x ≡ true
+unsplit_marked Forwarded x h = h
+unsplit_marked Asked x h = h
+unsplit_marked Split x h = absurd (both_ways (is_unsplit (marked Split x)) (never (is_own x.rec.kind)) h)
+  where
+    never : (a : Bool) → (not a && not true) ≡ false
+    never true = refl
+    never false = refl
 
-pub forwarded_mark : (p : Params) (limit : ℕ) (k : Key) (flag : Flag) (lines : List Line) → IsForwardedTo p limit lines → IsForwardedTo p limit (with_mark k flag lines)
+-- what holds of each line, where a flag is set that keeps it
+all_marked : (P : Line → Type 0) (k : Key) (flag : Flag) → ((x : Line) → P x → P (marked flag x)) → (lines : List Line) → AllByRecursion P lines → AllByRecursion P (with_mark k flag lines)
 unfolding with_mark
-forwarded_mark p limit k flag [] h = tt
-forwarded_mark p limit k flag (x ∷ xs) h = (
-  elim (is_at k x) as (λ t. is_pending (cond t (marked flag x) x) ≡ true → limit < next_due p (cond t (marked flag x) x)) [
-    | true ↦ (λ pending. subst (λ (r : Rec). limit < due p r.tenancy.slot.0 (r.visit + 1)) (sym (rec_marked flag x)) (h.0 (pending_marked flag x pending)))
-    | false ↦ h.0
-  ],
-  forwarded_mark p limit k flag xs h.1,
+all_marked P k flag keeps [] h = tt
+all_marked P k flag keeps (x ∷ xs) h = (
+  elim (is_at k x) as (λ t. P (cond t (marked flag x) x)) [ true ↦ keeps x h.0 | false ↦ h.0 ],
+  all_marked P k flag keeps xs h.1,
 )
 
-pub forwarded_without : (p : Params) (limit : ℕ) (k : Key) (lines : List Line) → IsForwardedTo p limit lines → IsForwardedTo p limit (without k lines)
+pub forwarded_mark : (p : Params) (limit : ℕ) (k : Key) (flag : Flag) (lines : List Line) → IsForwardedTo p limit lines → IsForwardedTo p limit (with_mark k flag lines)
+forwarded_mark p limit k flag lines h =
+    all_marked (λ x. is_pending x ≡ true → limit < next_due p x) k flag
+    (λ x f pending. subst (λ (r : Rec). limit < due p r.tenancy.slot.0 (r.visit + 1)) (sym (rec_marked flag x)) (f (pending_marked flag x pending))) lines h
+
+pub split_mark : (p : Params) (limit : ℕ) (k : Key) (flag : Flag) (lines : List Line) → IsSplitFrom p limit lines → IsSplitFrom p limit (with_mark k flag lines)
+split_mark p limit k flag lines h =
+    all_marked (λ x. is_unsplit x ≡ true → due_of p (key_of x) < limit) k flag
+    (λ x f unsplit. subst (λ (r : Rec). due_of p (visit_of r) < limit) (sym (rec_marked flag x)) (f (unsplit_marked flag x unsplit))) lines h
+
+-- where lines are removed
+pub all_without : (P : Line → Type 0) (k : Key) (lines : List Line) → AllByRecursion P lines → AllByRecursion P (without k lines)
 unfolding without
-forwarded_without p limit k lines h = all_filter (λ x. is_pending x ≡ true → limit < next_due p x) (λ x. not (is_at k x)) lines h
+all_without P k lines h = all_filter P (λ x. not (is_at k x)) lines h
 
-pub forwarded_without_instance : (p : Params) (limit : ℕ) (v : Instance) (lines : List Line) → IsForwardedTo p limit lines → IsForwardedTo p limit (without_instance v lines)
+pub all_without_instance : (P : Line → Type 0) (v : Instance) (lines : List Line) → AllByRecursion P lines → AllByRecursion P (without_instance v lines)
 unfolding without_instance
-forwarded_without_instance p limit v lines h = all_filter (λ x. is_pending x ≡ true → limit < next_due p x) (λ x. not (is_of v x)) lines h
+all_without_instance P v lines h = all_filter P (λ x. not (is_of v x)) lines h
 
--- one more line, where the order of the lines is that of a plan
-forwarded_line : (p q : Params) (limit : ℕ) (x : Line) (lines : List Line) → IsForwardedTo p limit lines → (is_pending x ≡ true → limit < next_due p x) → IsForwardedTo p limit (with_line q x lines)
+-- and where there is one more line
+all_with_line : (P : Line → Type 0) (q : Params) (x : Line) (lines : List Line) → AllByRecursion P lines → P x → AllByRecursion P (with_line q x lines)
 unfolding with_line
-forwarded_line p q limit x [] h here = (here, tt)
-forwarded_line p q limit x (y ∷ ys) h here =
-    elim (is_earlier q (key_of x) (key_of y)) as (λ t. IsForwardedTo p limit (cond t (x ∷ y ∷ ys) (y ∷ with_line q x ys))) [
+all_with_line P q x [] h here = (here, tt)
+all_with_line P q x (y ∷ ys) h here =
+    elim (is_earlier q (key_of x) (key_of y)) as (λ t. AllByRecursion P (cond t (x ∷ y ∷ ys) (y ∷ with_line q x ys))) [
       | true ↦ (here, h)
-      | false ↦ (h.0, forwarded_line p q limit x ys h.1 here)
+      | false ↦ (h.0, all_with_line P q x ys h.1 here)
     ]
 
-pub forwarded_add : (p q : Params) (limit : ℕ) (r : Rec) (lines : List Line) → IsForwardedTo p limit lines → (is_pending (unmarked r) ≡ true → limit < next_due p (unmarked r)) → IsForwardedTo p limit (with_record q r lines)
+pub all_with_record : (P : Line → Type 0) (q : Params) (r : Rec) (lines : List Line) → AllByRecursion P lines → P (unmarked r) → AllByRecursion P (with_record q r lines)
 unfolding with_record
-forwarded_add p q limit r lines h here =
-    elim (is_some (line_at (visit_of r) lines)) as (λ t. IsForwardedTo p limit (cond t lines (with_line q (unmarked r) lines))) [
+all_with_record P q r lines h here =
+    elim (is_some (line_at (visit_of r) lines)) as (λ t. AllByRecursion P (cond t lines (with_line q (unmarked r) lines))) [
       | true ↦ h
-      | false ↦ forwarded_line p q limit (unmarked r) lines h here
+      | false ↦ all_with_line P q (unmarked r) lines h here
     ]
 
 -- a record that was not new
@@ -98,6 +121,10 @@ known p r lines added e old = cases (line_at (visit_of r) lines) refl
     cases (Some x) is = with_record-known p r lines x is
 
 -- a view of the same plan whose lines have become others
-pub kept_by : (q : Params) (limit : ℕ) (s now : Seen) (lines : List Line) → s.params ≡ q → now ≡ record s { lines = lines } → IsForwardedTo q limit lines → (now.params ≡ q) × IsForwardedTo q limit now.lines
-kept_by q limit s now lines same is h =
-    (ap (λ (r : Seen). r.params) is ∙ same, subst (λ (r : Seen). IsForwardedTo q limit r.lines) (sym is) h)
+pub kept_by : (q : Params) (low high : ℕ) (s now : Seen) (lines : List Line) → s.params ≡ q → now ≡ record s { lines = lines } → IsForwardedTo q low lines → IsSplitFrom q high lines
+    → (now.params ≡ q) × IsForwardedTo q low now.lines × IsSplitFrom q high now.lines
+kept_by q low high s now lines same is f g = (
+  ap (λ (r : Seen). r.params) is ∙ same,
+  subst (λ (r : Seen). IsForwardedTo q low r.lines) (sym is) f,
+  subst (λ (r : Seen). IsSplitFrom q high r.lines) (sym is) g,
+)

@@ -1,10 +1,11 @@
-//! A view that knows up to which time its states are forwarded, so that a tick need not walk it where nothing is to forward.
+//! A view that knows up to which time its states are forwarded, and from which on its visits are split, so that a tick need
+//! not walk it where nothing is to forward or to split.
 ghost use Rattle.std.specs.Prelude.{◌≡◌, ℕ, ◌^◌, ◌≤◌, ◌<◌, true, [], IfOk, OnOk, OnErr, option_map, is_some, count_by};
-ghost use Rattle.slot_plan.specs.Keys.{IsKey};
+ghost use Rattle.slot_plan.specs.Keys.{IsKey, due_of};
 ghost use Rattle.partial_view.specs.Lines.{visit_of, unmarked, is_of};
 ghost use Rattle.partial_view.specs.Views.{Seen, line_at, with_mark, without, without_instance, with_record};
 ghost use Rattle.partial_view.specs.Adding.{answer_to};
-ghost use Rattle.cub_view.specs.Pending.{IsForwardedTo, is_pending, next_due};
+ghost use Rattle.cub_view.specs.Pending.{IsForwardedTo, is_pending, next_due, IsSplitFrom, is_unsplit};
 ghost use Rattle.state_forward.specs.Forwards.{is_own};
 
 use partial_view::{Added, Flag, View};
@@ -13,24 +14,26 @@ use std::alloc::Global;
 use std::marker::Model;
 use tiger_base::{Instance, Kind, Micros, NoMemory, Rec, SlotNo, Visit};
 
-/// A view of a plan, seen as that view is, and a time up to which its states are known to be forwarded.
+/// A view of a plan, seen as that view is, a time up to which its states are known to be forwarded, and a time from which on
+/// its visits are known to be split.
 #[derive(Drop)]
 pub struct CubView {
     view: View,
     plan: Plan,
     forwarded_to: Micros,
+    split_from: Micros,
 }
 
 impl Model for CubView {
     ghost use Rattle.std.specs.Prelude.{◌≡◌};
     ghost use Rattle.partial_view.specs.Views.{Seen};
-    ghost use Rattle.cub_view.specs.Pending.{IsForwardedTo};
+    ghost use Rattle.cub_view.specs.Pending.{IsForwardedTo, IsSplitFrom};
 
     ghost Value = { Seen };
 
     ghost view = { λ v. v.view };
 
-    ghost invariant = { λ v. (v.view.params ≡ v.plan.params) × IsForwardedTo v.plan.params v.forwarded_to v.view.lines };
+    ghost invariant = { λ v. (v.view.params ≡ v.plan.params) × IsForwardedTo v.plan.params v.forwarded_to v.view.lines × IsSplitFrom v.plan.params v.split_from v.view.lines };
 }
 
 impl CubView {
@@ -42,6 +45,7 @@ impl CubView {
             view: View::new(alloc, plan),
             plan: *plan,
             forwarded_to: 0,
+            split_from: 0,
         }
     }
 
@@ -63,6 +67,7 @@ impl CubView {
         let added = self.view.add(rec)?;
         if let Added::New = added {
             self.forwarded_to = forwarded_before(&self.plan, self.forwarded_to, rec);
+            self.split_from = split_after(&self.plan, self.split_from, rec);
         }
         Ok(added)
     }
@@ -111,6 +116,25 @@ impl CubView {
             self.forwarded_to = limit;
         }
     }
+
+    /// Whether it is known that no visit of a backup record that is due at the limit or later is still to be split. It is known
+    /// for each limit from the one that was set last on, where no backup record was added since that is due at it or later;
+    /// `false` says only that the lines have to be walked.
+    pub fn is_split_from(&self, limit: Micros) -> bool
+        ensures { result ≡ true → IsSplitFrom self.now.params limit self.now.lines }
+    {
+        self.split_from <= limit
+    }
+
+    /// Keeps in mind that the visits are split from a limit on, or from an earlier one on that is known.
+    pub fn set_split_from(&mut self, limit: Micros)
+        requires { IsSplitFrom self.old.params limit self.old.lines }
+        ensures { self.new ≡ self.old }
+    {
+        if limit < self.split_from {
+            self.split_from = limit;
+        }
+    }
 }
 
 /// The given time, or the last one before the record's next visit is due, where the state of that visit is to be forwarded
@@ -126,6 +150,19 @@ fn forwarded_before(plan: &Plan, time: Micros, rec: Rec) -> Micros
     }
     let next = plan.due(rec.tenancy.slot, rec.visit + 1);
     if next <= time { next - 1 } else { time }
+}
+
+/// The given time, or the next one after the record is due, where its visit is to be split and this is later.
+fn split_after(plan: &Plan, time: Micros, rec: Rec) -> Micros
+    requires key { IsKey plan.now.params (visit_of rec) }
+    ensures later { time ≤ result }
+    ensures after { is_unsplit (unmarked rec) ≡ true → due_of plan.now.params (visit_of rec) < result }
+{
+    if is_own(rec.kind) {
+        return time;
+    }
+    let due = plan.due(rec.tenancy.slot, rec.visit);
+    if due < time { time } else { due + 1 }
 }
 
 /// Whether a record is the cub's own.

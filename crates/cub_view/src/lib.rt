@@ -1,4 +1,4 @@
-//! A cub's view, and how far its states are known to be forwarded.
+//! A cub's view, how far its states are known to be forwarded, and from when on its visits are known to be split.
 #![tactic(auto)]
 
 mod cub_view;

@@ -1,4 +1,4 @@
-//! What is forwarded in views of a small plan, beside times that were worked out by hand.
+//! What is forwarded and what is split in views of a small plan, beside times that were worked out by hand.
 ghost use Rattle.std.specs.Prelude.{◌≡◌, ◌<◌, ◌≤◌, [], IfOk};
 ghost use Rattle.slot_plan.specs.Conditions.{IsInRange};
 
@@ -30,7 +30,7 @@ const SMALL: Params = Params {
     hold: 3000000,
 };
 
-// Visit 3 of slot 1: the next visit is due at 4500000.
+// Visit 3 of slot 1, which is due at 3500000; the next visit is due at 4500000.
 const RECORD: Rec = Rec {
     tenancy: Tenancy {
         instance: Instance(0),
@@ -84,6 +84,47 @@ fn limit_stands_where_nothing_more_is_to_forward(rt: HostRuntime) -> Result<(), 
     assert!(rt; view.mark(SlotNo(1), 3, Flag::Asked));
     assert_eq!(rt; view.view().has(SlotNo(1), 3), Some(Instance(0)));
     assert!(rt; view.is_forwarded_to(5500000));
+    Ok(())
+}
+
+#[test]
+fn split_limit_is_raised_by_a_later_backup_record(rt: HostRuntime) -> Result<(), Fail> {
+    let plan = plan_of(&rt, SMALL);
+    let mut view = CubView::new(rt.alloc(), &plan);
+    assert!(rt; view.is_split_from(0));
+    let backup = Rec {
+        kind: Kind::Backup,
+        ..RECORD
+    };
+    assert_eq!(rt; view.add(backup)?, Added::New);
+    assert!(rt; !view.is_split_from(3500000));
+    assert!(rt; view.is_split_from(3500001));
+    let later = Rec { visit: 4, ..backup };
+    assert_eq!(rt; view.add(later)?, Added::New);
+    assert!(rt; !view.is_split_from(4500000));
+    assert!(rt; view.is_split_from(4500001));
+    Ok(())
+}
+
+#[test]
+fn split_limit_stands_where_nothing_later_is_to_split(rt: HostRuntime) -> Result<(), Fail> {
+    let plan = plan_of(&rt, SMALL);
+    let mut view = CubView::new(rt.alloc(), &plan);
+    let backup = Rec {
+        kind: Kind::Backup,
+        ..RECORD
+    };
+    let own = Rec { visit: 4, ..RECORD };
+    let earlier = Rec { visit: 2, ..backup };
+    assert_eq!(rt; view.add(backup)?, Added::New);
+    assert_eq!(rt; view.add(own)?, Added::New);
+    assert_eq!(rt; view.add(earlier)?, Added::New);
+    assert_eq!(rt; view.add(backup)?, Added::Known);
+    assert!(rt; view.is_split_from(3500001));
+    view.set_split_from(3500001);
+    assert!(rt; view.mark(SlotNo(1), 3, Flag::Split));
+    assert!(rt; view.is_split_from(3500001));
+    assert!(rt; !view.is_split_from(3500000));
     Ok(())
 }
 

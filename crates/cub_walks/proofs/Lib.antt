@@ -6,3 +6,4 @@ pub mod Splits
 pub mod States
 pub mod Steps
 pub mod Stops
+pub mod Unsplit

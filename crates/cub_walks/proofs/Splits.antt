@@ -146,7 +146,7 @@ pieces_plan (x ∷ xs) h =
     (rest.0 ∙ here.0, rest.1 ∙ here.1)
 
 module _ (p : Params) (stamp : Stamp) where
-  view_then : (xs : List Line) (view : Seen) (h : Store) → (with_split_of p stamp xs view h).view ≡ view
+  pub view_then : (xs : List Line) (view : Seen) (h : Store) → (with_split_of p stamp xs view h).view ≡ view
   view_then xs view h =
       ap (λ (g : Store). g.view) (pieces_apart (flat_map (first_pieces p stamp) xs) h view (with_each with_split (flat_map (split_visits p stamp) xs) h.splits))
 

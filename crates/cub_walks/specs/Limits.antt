@@ -1,5 +1,5 @@
--- Up to which time the states of visits go out in a beat, and what goes out where.
-use Rattle.std.specs.Prelude.{ℕ, ◌+◌, List, [], ◌∷◌, if◌then◌else◌}
+-- Up to which time the states of visits go out in a beat, from which on visits are split, and what goes out where.
+use Rattle.std.specs.Prelude.{ℕ, ◌+◌, ◌*◌, List, [], ◌∷◌, if◌then◌else◌}
 use Rattle.tiger_base.specs.declared.number.Stamp.{Stamp}
 use Rattle.tiger_base.specs.declared.tenancy.State.{State}
 use Rattle.tiger_base.specs.declared.tenancy.Want.{Want}
@@ -13,6 +13,10 @@ use Rattle.state_forward.specs.Forwards.{is_batch_beat}
 
 unfoldable pub forward_limit : Params → Stamp → ℕ
 forward_limit p stamp = stamp.reading + (if is_batch_beat p stamp.beat then p.max_lead else p.min_lead)
+
+-- the time from which on visits are split in a beat: one that is due earlier is due too early
+unfoldable pub split_limit : Params → Stamp → ℕ
+split_limit p stamp = stamp.reading + p.read_lead + p.skew + p.delay * p.beat + p.beat
 
 -- a viewer state, sent to the next two cubs
 abbrev pub sent_on : Params → ℕ → State → List (Out Msg)

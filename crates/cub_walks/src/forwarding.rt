@@ -10,7 +10,7 @@ ghost use Rattle.cub_rules.specs.State.{IsStoreOf, IsLineOf};
 ghost use Rattle.cub_rules.specs.Ticks.{forwarding, forward_line, forward_outs, is_to_forward};
 ghost use Rattle.cub_walks.specs.Limits.{forward_limit, sent_on};
 
-use crate::walking::after;
+use crate::walking::{after, after_near};
 use cub_rules::Store;
 use cub_view::CubView;
 use node_kit::{Out, Outbox};
@@ -69,9 +69,11 @@ fn forward_lines<'a>(
     ensures outs { OnOk result (out.new ≡ out.old ++ flat_map (forward_outs site.now.plan.params site.now.cub.0 stamp) view.old.lines) }
 {
     let mut next = after(view, None);
+    let mut place: usize = 0;
     while let Some(line) = next {
         forward_line(site, stamp, view, line, out)?;
-        next = after(view, Some(line.key()));
+        next = after_near(view, place, line.key());
+        place = place.saturating_add(1);
     }
     Ok(())
 }

@@ -13,7 +13,7 @@ ghost use Rattle.cub_rules.specs.Ticks.{reading, must_read, ask_line, ask_outs, 
 ghost use Rattle.cub_walks.specs.Limits.{asks};
 
 use crate::leaving::take_leaving;
-use crate::walking::after_by;
+use crate::walking::{after_by, after_near_by};
 use cub_rules::Store;
 use cub_view::CubView;
 use mirror_pieces::piece_disk;
@@ -56,9 +56,11 @@ fn read_blocks<'a>(
 {
     let time = stamp.reading + site.plan.params.read_lead;
     let mut next = after_by(&site.plan, view, None, time);
+    let mut place: usize = 0;
     while let Some(line) = next {
         read_block(site, stamp, view, line, out)?;
-        next = after_by(&site.plan, view, Some(line.key()), time);
+        next = after_near_by(&site.plan, view, place, line.key(), time);
+        place = place.saturating_add(1);
     }
     Ok(())
 }

@@ -14,14 +14,14 @@ ghost use Rattle.cub_walks.specs.Stopping.{served_line, past_line, past_outs};
 use crate::leaving::{drop_leaving, take_leaving};
 use crate::reading::{is_own, want_of, want_of_piece};
 use crate::walking::after_by;
-use cub_rules::{Store, StoredPart};
+use cub_rules::{Store, StoredParts};
 use cub_view::CubView;
 use mirror_schedule::PieceView;
 use node_kit::{Out, Outbox, What};
 use partial_view::Line;
 use rule_kit::Site;
 use slot_plan::Plan;
-use tiger_base::{Msg, NoMemory, Part, PieceState, Sequence, Stamp, Want};
+use tiger_base::{Msg, NoMemory, PieceState, Stamp, Want};
 
 /// Sends the block of each own record that is due, where its part is stored, and drops the record; then drops each backup
 /// record that is due; then sends each piece that leaves, where its part is stored, and drops the piece record. Each walk
@@ -48,7 +48,7 @@ fn serve_blocks<'a>(
     site: &Site,
     stamp: Stamp,
     view: &mut CubView,
-    parts: &Sequence<StoredPart<'a>>,
+    parts: &StoredParts<'a>,
     out: &mut Outbox<Msg<'a>>,
 ) -> Result<(), NoMemory>
     requires reading { stamp.reading ≤ 1000000000000 }
@@ -70,7 +70,7 @@ fn serve_block<'a>(
     site: &Site,
     stamp: Stamp,
     view: &mut CubView,
-    parts: &Sequence<StoredPart<'a>>,
+    parts: &StoredParts<'a>,
     line: Line,
     out: &mut Outbox<Msg<'a>>,
 ) -> Result<(), NoMemory>
@@ -104,36 +104,16 @@ fn send_whole<'a>(
     site: &Site,
     stamp: Stamp,
     want: Want,
-    parts: &Sequence<StoredPart<'a>>,
+    parts: &StoredParts<'a>,
     out: &mut Outbox<Msg<'a>>,
 ) -> Result<(), NoMemory>
     ensures { OnOk result (out.new ≡ out.old ++ sent_whole site.now.plan.params site.now.cub.0 stamp want (stored_for want parts.now)) }
 {
-    if let Some(part) = stored_for(want, parts) {
+    if let Some(part) = parts.part_for(want) {
         let sent = stamp.beat;
         out.push(Out::Send(site.to_viewers(), Msg::Whole { want, sent, part }))?;
     }
     Ok(())
-}
-
-/// The part that is stored for a want.
-fn stored_for<'a>(want: Want, parts: &Sequence<StoredPart<'a>>) -> Option<Part<'a>>
-    ensures { result ≡ stored_for want parts.now }
-{
-    find_part(want, parts.as_slice())
-}
-
-/// The first part that is for a want.
-#[tactic(auto, unfolding(cub_rules::specs::Records::stored_for))]
-fn find_part<'a>(want: Want, parts: &[StoredPart<'a>]) -> Option<Part<'a>>
-    ensures { result ≡ stored_for want parts.now }
-{
-    for x in parts {
-        if x.want == want {
-            return Some(x.part.again());
-        }
-    }
-    None
 }
 
 /// Drops the backup records that are due.
@@ -193,7 +173,7 @@ fn serve_pieces<'a>(
     site: &Site,
     stamp: Stamp,
     pieces: &mut PieceView,
-    parts: &Sequence<StoredPart<'a>>,
+    parts: &StoredParts<'a>,
     out: &mut Outbox<Msg<'a>>,
 ) -> Result<(), NoMemory>
     requires plan { pieces.old.params ≡ site.now.plan.params }
@@ -212,14 +192,14 @@ fn send_piece<'a>(
     site: &Site,
     stamp: Stamp,
     piece: PieceState,
-    parts: &Sequence<StoredPart<'a>>,
+    parts: &StoredParts<'a>,
     out: &mut Outbox<Msg<'a>>,
 ) -> Result<(), NoMemory>
     requires { IsPieceAt site.now.plan.params site.now.cub.0 piece }
     ensures { OnOk result (out.new ≡ out.old ++ piece_outs site.now.plan.params site.now.cub.0 stamp parts.now piece) }
 {
     let want = want_of_piece(piece);
-    if let Some(part) = stored_for(want, parts) {
+    if let Some(part) = parts.part_for(want) {
         let sent = stamp.beat;
         out.push(Out::Send(site.to_viewers(), Msg::Piece { want, sent, part }))?;
     }

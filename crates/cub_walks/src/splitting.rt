@@ -9,20 +9,22 @@ ghost use Rattle.mirror_schedule.specs.Pieces.{IsPieceOf, IsPieces};
 ghost use Rattle.rule_kit.specs.Deeds.{Did};
 ghost use Rattle.cub_rules.specs.State.{IsStoreOf, IsLineOf};
 ghost use Rattle.cub_rules.specs.Ticks.{splitting, must_split, split_line, split_outs, sent_ahead};
+ghost use Rattle.cub_walks.specs.Limits.{split_limit};
 ghost use Rattle.cub_walks.specs.Splitting.{with_split_of, sent_pieces, with_new};
 
 use crate::reading::is_own;
-use crate::walking::after;
+use crate::walking::{after, after_near};
 use cub_rules::Store;
 use mirror_schedule::PieceView;
 use node_kit::{Out, Outbox};
 use partial_view::{Flag, Line};
 use rule_kit::Site;
 use slot_plan::Plan;
-use tiger_base::{Msg, NoMemory, PieceState, Rec, Stamp};
+use tiger_base::{Micros, Msg, NoMemory, PieceState, Rec, Stamp};
 
 /// Where the predecessor is believed dead, splits the visit of each backup record that is due late enough and was not split
-/// yet: the first piece becomes the cub's own piece record, and the mirror states of the others go to the next cubs.
+/// yet: the first piece becomes the cub's own piece record, and the mirror states of the others go to the next cubs. The
+/// lines are walked only where some visit may be left to split.
 pub fn split<'a>(
     site: &Site,
     stamp: Stamp,
@@ -33,10 +35,27 @@ pub fn split<'a>(
     requires stored { IsStoreOf site.now.plan.params site.now.cub.0 store.old }
     ensures { OnOk result (Did (splitting site.now.plan.params site.now.cub.0 stamp store.old) out.old out.new store.new) }
 {
-    if store.believes {
-        split_lines(site, stamp, store, out)?;
+    if !store.believes {
+        return Ok(());
     }
+    let limit = split_limit(&site.plan, stamp);
+    if store.view.is_split_from(limit) {
+        return Ok(());
+    }
+    split_lines(site, stamp, store, out)?;
+    store.view.set_split_from(limit);
     Ok(())
+}
+
+/// The time from which on visits are split in a beat; those that are due earlier are due too early.
+#[tactic(auto, unfolding(crate::specs::Limits::split_limit))]
+fn split_limit(plan: &Plan, stamp: Stamp) -> Micros
+    requires { stamp.reading ≤ 1000000000000 }
+    ensures { result ≡ split_limit plan.now.params stamp }
+{
+    let params = plan.params();
+    let way = params.delay * params.beat;
+    stamp.reading + params.read_lead + params.skew + way + params.beat
 }
 
 /// Splits the visits of all lines.
@@ -52,9 +71,11 @@ fn split_lines<'a>(
     ensures outs { OnOk result (out.new ≡ out.old ++ flat_map (split_outs site.now.plan.params site.now.cub.0 stamp) store.old.view.lines) }
 {
     let mut next = after(&store.view, None);
+    let mut place: usize = 0;
     while let Some(line) = next {
         split_line(site, stamp, store, line, out)?;
-        next = after(&store.view, Some(line.key()));
+        next = after_near(&store.view, place, line.key());
+        place = place.saturating_add(1);
     }
     Ok(())
 }
@@ -95,17 +116,16 @@ fn split_line<'a>(
 }
 
 /// Whether the visit of a line is split.
-#[tactic(auto, unfolding(cub_rules::specs::Ticks::must_split))]
+#[tactic(auto, unfolding(cub_rules::specs::Ticks::must_split, crate::specs::Limits::split_limit))]
 fn must_split(plan: &Plan, stamp: Stamp, line: &Line) -> bool
     requires reading { stamp.reading ≤ 1000000000000 }
     requires key { IsKey plan.now.params (key_of line.now) }
     ensures { result ≡ must_split plan.now.params stamp line.now }
 {
-    let params = plan.params();
-    let way = params.delay * params.beat;
-    let ready = stamp.reading + params.read_lead + params.skew + way + params.beat;
-    let due = plan.due(line.rec.tenancy.slot, line.rec.visit);
-    !is_own(line.rec.kind) && !line.split && ready <= due
+    if is_own(line.rec.kind) || line.split {
+        return false;
+    }
+    split_limit(plan, stamp) <= plan.due(line.rec.tenancy.slot, line.rec.visit)
 }
 
 /// Sends the mirror states of a visit's pieces but the first.

@@ -182,7 +182,7 @@ fn take_part<'a>(
     ensures { OnOk result (IsStoreOf site.now.plan.params site.now.cub.0 store.new) }
 {
     if u64::from(want.slot.0) < site.plan.params.slots && want.visit <= 2147483648 {
-        store.parts.push(StoredPart { want, part })?;
+        store.parts.push(&site.plan, StoredPart { want, part })?;
         Ok(())
     } else {
         panic!(rt; "no part of this plan")
@@ -343,13 +343,14 @@ fn what_is_due_goes_to_the_viewers(rt: HostRuntime) -> Result<(), Fail> {
     Ok(())
 }
 
-/// What goes out for the backup record at a reading, and the piece and the visit that are kept.
+/// What goes out for the backup record at a reading, the piece and the visit that are kept, and whether it is known then that
+/// no visit that is due as late as that record's is still to be split.
 fn mirrored(
     rt: &impl Abort,
     alloc: Global,
     believes: bool,
     reading: u64,
-) -> Result<(Vec<What>, Option<PieceState>, Option<(SlotNo, u64)>), NoMemory>
+) -> Result<(Vec<What>, Option<PieceState>, Option<(SlotNo, u64)>, bool), NoMemory>
     requires { reading ≤ 1000000000000 }
 {
     let site = site_of(rt, SMALL);
@@ -361,20 +362,22 @@ fn mirrored(
     let stamp = Stamp { beat: 0, reading };
     split(&site, stamp, &mut store, &mut out)?;
     let kept = store.splits.take_of(Instance(0));
-    Ok((all(alloc, &mut out)?, store.unasked.after(None), kept))
+    let known = store.view.is_split_from(2500000);
+    let whats = all(alloc, &mut out)?;
+    Ok((whats, store.unasked.after(None), kept, known))
 }
 
 #[test]
 fn visit_of_a_dead_cub_is_split(rt: HostRuntime) -> Result<(), Fail> {
     let second = PieceState { piece: 2, ..PIECE };
     let sent = [What::Sent(LinkNo(30), Note::MirrorState(second))];
-    let (whats, piece, visit) = mirrored(&rt, rt.alloc(), true, 2366000)?;
+    let (whats, piece, visit, known) = mirrored(&rt, rt.alloc(), true, 2366000)?;
     assert!(rt; whats.as_slice() == sent.as_slice());
     assert!(rt; piece == Some(PIECE));
-    assert!(rt; visit == Some((SlotNo(1), 2)));
+    assert!(rt; visit == Some((SlotNo(1), 2)) && known);
     for (believes, reading) in [(true, 2366001), (false, 2366000)] {
-        let (whats, piece, visit) = mirrored(&rt, rt.alloc(), believes, reading)?;
-        assert!(rt; whats.is_empty() && piece.is_none() && visit.is_none());
+        let (whats, piece, visit, known) = mirrored(&rt, rt.alloc(), believes, reading)?;
+        assert!(rt; whats.is_empty() && piece.is_none() && visit.is_none() && !known);
     }
     Ok(())
 }

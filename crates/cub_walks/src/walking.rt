@@ -1,5 +1,5 @@
 //! The lines of a cub's view, one after another.
-ghost use Rattle.std.specs.Prelude.{◌≡◌, IfSome};
+ghost use Rattle.std.specs.Prelude.{◌≡◌, Some, IfSome};
 ghost use Rattle.std.specs.Option.{ForSome};
 ghost use Rattle.slot_plan.specs.Keys.{IsKey};
 ghost use Rattle.partial_view.specs.Lines.{key_of};
@@ -21,6 +21,16 @@ pub(crate) fn after(view: &CubView, key: Option<(SlotNo, Visit)>) -> Option<Line
     view.view().after(key)
 }
 
+/// The next line behind a slot and visit, whose own line stands at a place where the walk took no line out.
+pub(crate) fn after_near(view: &CubView, place: usize, key: (SlotNo, Visit)) -> Option<Line>
+    requires { IsKey view.now.params key }
+    ensures next { result ≡ next_behind view.now.params (Some key) view.now.lines }
+    ensures key { IfSome result (λ line. IsKey view.now.params (key_of line)) }
+    ensures walk { IsWalk view.now.params view.now.lines }
+{
+    view.view().after_near(place, key)
+}
+
 /// That line, where it is due at a time or before it.
 pub(crate) fn after_by(
     plan: &Plan,
@@ -35,6 +45,29 @@ pub(crate) fn after_by(
     ensures walk { IsWalk view.now.params view.now.lines }
 {
     let line = after(view, key)?;
+    if plan.due(line.rec.tenancy.slot, line.rec.visit) <= time {
+        Some(line)
+    } else {
+        None
+    }
+}
+
+/// The next line behind a slot and visit, whose own line stands at a place where the walk took no line out, where it is due at a
+/// time or before it.
+pub(crate) fn after_near_by(
+    plan: &Plan,
+    view: &CubView,
+    place: usize,
+    key: (SlotNo, Visit),
+    time: Micros,
+) -> Option<Line>
+    requires plan { view.now.params ≡ plan.now.params }
+    requires key { IsKey view.now.params key }
+    ensures next { result ≡ due_by plan.now.params time (next_behind view.now.params (Some key) view.now.lines) }
+    ensures key { IfSome result (λ line. IsKey view.now.params (key_of line)) }
+    ensures walk { IsWalk view.now.params view.now.lines }
+{
+    let line = after_near(view, place, key)?;
     if plan.due(line.rec.tenancy.slot, line.rec.visit) <= time {
         Some(line)
     } else {

@@ -1,14 +1,12 @@
 -- Lists of pieces, and what is taken out of a list.
-use Rattle.std.proofs.Common.{◌≡◌, ℕ, ◌+◌, ◌-◌, ◌<◌, ◌≤◌, Bool, true, false, cond, ◌||◌, nat_lt, not, List, [], ◌∷◌, ◌++◌, length, get_or, find, count_by, map, zero, suc, add-one, add-zero, Option, Some, None, refl, ap, sym, subst, ◌∙◌, arith}
-use Rattle.std.specs.List.{AllByRecursion, filter, list_any, remove, position, position_from, range_with_len}
-use Rattle.std.proofs.lemmas.List.Sums.{length-filter}
-use Rattle.std.proofs.lemmas.Bool.{lt-ltb}
+use Rattle.std.proofs.Common.{◌≡◌, ℕ, ◌+◌, ◌-◌, ◌<◌, ◌≤◌, Bool, true, false, cond, not, List, [], ◌∷◌, ◌++◌, length, get_or, find, map, zero, suc, add-one, add-zero, Some, None, refl, ap, sym, ◌∙◌, arith}
+use Rattle.std.specs.List.{filter, remove, position, position_from, range_with_len}
 use Rattle.std.proofs.lemmas.Iterator.Adapters.{position_from-zero}
 use Rattle.tiger_base.specs.declared.tenancy.Rec.{Rec}
 use Rattle.tiger_base.specs.declared.tenancy.Tenancy.{Tenancy}
 use Rattle.tiger_base.specs.declared.tenancy.PieceState.{PieceState}
 use Rattle.slot_plan.specs.declared.params.Params.{Params}
-use Rattle.mirror_schedule.specs.Sorted.{IsSorted, with_one, gap_from, without_first}
+use Rattle.mirror_schedule.specs.Sorted.{with_one, gap_from, without_first}
 use Rattle.mirror_schedule.specs.Pieces.{IsPieces, IsPieceOf, Pieces, comes_before, is_same, is_in, with_piece, pieces_of}
 use Rattle.mirror_schedule.proofs.Orders.{all_filter, all_with_one, sorted_filter, sorted_with_one}
 use Rattle.mirror_schedule.proofs.Members.{is_there, is_new}
@@ -35,18 +33,6 @@ pub is_in-new : (p : Params) (x : PieceState) (items : List PieceState) (place :
     → is_in x items ≡ false
 unfolding is_in
 is_in-new p x items place h e = is_new (comes_before p) is_same (pieces_order p) (pieces_same p) x 0 place items h.order e
-
--- some pass a test where one does
-any_filtered : {X : Type 0} (test : X → Bool) (xs : List X) → nat_lt 0 (length (filter test xs)) ≡ list_any test xs
-any_filtered test [] = refl
-any_filtered test (x ∷ xs) =
-    elim (test x) as (λ b. nat_lt 0 (length (cond b (x ∷ filter test xs) (filter test xs))) ≡ (b || list_any test xs)) [
-      | true ↦ lt-ltb 0 (suc (length (filter test xs))) (omega arith)
-      | false ↦ any_filtered test xs
-    ]
-
-pub any_counted : {X : Type 0} (test : X → Bool) (xs : List X) (n : ℕ) → n ≡ count_by test xs → nat_lt 0 n ≡ list_any test xs
-any_counted test xs n e = ap (λ (m : ℕ). nat_lt 0 m) (e ∙ sym (length-filter test xs)) ∙ any_filtered test xs
 
 module _ {X : Type 0} (test : X → Bool) where
   -- none passes the test
@@ -104,6 +90,9 @@ module _ {X : Type 0} (test : X → Bool) where
   some_left place xs d h =
       let at : place - 0 ≡ place = omega arith in
       (some_from 0 place xs d (sym (position_from-zero test xs) ∙ h)).left ∙ ap (λ (n : ℕ). remove xs n) at
+
+  pub some_inside : (place : ℕ) (xs : List X) (d : X) → position test xs ≡ Some place → place < length xs
+  some_inside place xs d h = omega (arith, (some_from 0 place xs d (sym (position_from-zero test xs) ∙ h)).high)
 
 -- the pieces of a visit up to a number
 abbrev pub pieces_to : Tenancy → ℕ → ℕ → List PieceState

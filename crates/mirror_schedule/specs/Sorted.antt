@@ -1,5 +1,5 @@
 -- Lists in an order, each element once.
-use Rattle.std.specs.Prelude.{◌≡◌, ℕ, ◌+◌, ◌||◌, ◌&&◌, ◌==◌, nat_lt, Bool, true, false, List, [], ◌∷◌, Option, Some, None, if◌then◌else◌}
+use Rattle.std.specs.Prelude.{◌≡◌, ℕ, suc, ◌+◌, ◌||◌, ◌&&◌, ◌==◌, nat_lt, Bool, true, false, List, [], ◌∷◌, Option, Some, None, if◌then◌else◌}
 use Rattle.std.specs.List.{AllByRecursion}
 
 -- whether numbers are less than others: the first that differ decide
@@ -29,6 +29,11 @@ with_one before x (y ∷ ys) = if before x y then x ∷ y ∷ ys else (if before
 abbrev pub gap_from : {X : Type 0} → (X → X → Bool) → X → ℕ → List X → Option ℕ
 gap_from before x place [] = Some place
 gap_from before x place (y ∷ ys) = if before x y then Some place else (if before y x then gap_from before x (place + 1) ys else None)
+
+-- how many elements come before a given one, up to the first that does not
+abbrev pub place_of : {X : Type 0} → (X → X → Bool) → X → List X → ℕ
+place_of before x [] = 0
+place_of before x (y ∷ ys) = if before y x then suc (place_of before x ys) else 0
 
 -- the list without the first element that passes a test
 abbrev pub without_first : {X : Type 0} → (X → Bool) → List X → List X

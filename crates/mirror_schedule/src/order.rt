@@ -1,12 +1,12 @@
 //! The order in which pieces are sent.
-ghost use Rattle.std.specs.Prelude.{◌≡◌, ◌≤◌, ◌^◌};
-ghost use Rattle.std.specs.List.{AllByRecursion};
+ghost use Rattle.std.specs.Prelude.{◌≡◌, ◌≤◌, ◌^◌, length};
 ghost use Rattle.std.specs.Option.{ForSome};
-ghost use Rattle.mirror_schedule.specs.Pieces.{IsPieceOf, leaving_of, rank_of, listed, comes_before, is_behind};
-ghost use Rattle.mirror_schedule.specs.Sorted.{gap_from};
+ghost use Rattle.mirror_schedule.specs.Pieces.{IsPieceOf, IsPieces, leaving_of, rank_of, listed, comes_before, is_behind};
+ghost use Rattle.mirror_schedule.specs.Sorted.{gap_from, place_of};
 
 use mirror_pieces::piece_due;
 use slot_plan::Plan;
+use std::collections::VecDeque;
 use tiger_base::{Micros, PieceState, Visit};
 
 /// When a piece leaves.
@@ -62,21 +62,36 @@ pub fn is_behind(plan: &Plan, given: &Option<PieceState>, x: &PieceState) -> boo
     }
 }
 
-/// The place of a new piece among some in their order; `None` where it is there.
-pub fn gap_for(plan: &Plan, items: &[PieceState], x: &PieceState) -> Option<usize>
-    requires items { AllByRecursion (IsPieceOf plan.now.params) items.now }
+/// The place of a new piece among some in their order, found by halving; `None` where it is there.
+pub fn gap_for(plan: &Plan, items: &VecDeque<PieceState>, x: &PieceState) -> Option<usize>
+    requires items { IsPieces plan.now.params items.now.items }
     requires piece { IsPieceOf plan.now.params x.now }
-    ensures { result ≡ gap_from (comes_before plan.now.params) x.now 0 items.now }
+    ensures { result ≡ gap_from (comes_before plan.now.params) x.now 0 items.now.items }
 {
-    let mut place = 0;
-    for y in items {
-        if comes_before(plan, x, y) {
-            return Some(place);
-        }
-        if !comes_before(plan, y, x) {
-            return None;
-        }
-        place += 1;
+    let place = first_not_before(plan, items, x);
+    if place < items.len() && !comes_before(plan, x, &items[place]) {
+        None
+    } else {
+        Some(place)
     }
-    Some(place)
+}
+
+/// How many pieces come before the given one, of some in their order.
+pub fn first_not_before(plan: &Plan, items: &VecDeque<PieceState>, x: &PieceState) -> usize
+    requires items { IsPieces plan.now.params items.now.items }
+    requires piece { IsPieceOf plan.now.params x.now }
+    ensures place { result ≡ place_of (comes_before plan.now.params) x.now items.now.items }
+    ensures inside { result ≤ length items.now.items }
+{
+    let mut low = 0;
+    let mut high = items.len();
+    while low < high {
+        let middle = low + (high - low) / 2;
+        if comes_before(plan, &items[middle], x) {
+            low = middle + 1;
+        } else {
+            high = middle;
+        }
+    }
+    low
 }

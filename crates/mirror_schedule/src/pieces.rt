@@ -1,14 +1,14 @@
 //! The pieces that a cub is to send.
-ghost use Rattle.std.specs.Prelude.{◌≡◌, [], not, filter, count_by, find, IfOk, OnOk, OnErr, IfSome};
+ghost use Rattle.std.specs.Prelude.{◌≡◌, ◌≤◌, [], length, not, filter, drop, count_by, find, position, IfOk, OnOk, OnErr, IfSome};
 ghost use Rattle.std.specs.Option.{ForSome};
 ghost use Rattle.std.specs.List.{AllByRecursion};
 ghost use Rattle.mirror_schedule.specs.Pieces.{IsPieceOf, IsPieces, is_same, is_in, is_behind, with_piece, is_of_visit, is_of};
 ghost use Rattle.mirror_schedule.specs.Choices.{covers};
-ghost use Rattle.mirror_schedule.specs.declared.pieces.Wanted.TheVariants.{One};
 
-use crate::order::{gap_for, is_behind};
+use crate::order::{first_not_before, gap_for, is_behind};
 use slot_plan::Plan;
 use std::alloc::Global;
+use std::collections::VecDeque;
 use std::marker::Model;
 use tiger_base::{Instance, NoMemory, PieceState, Visit};
 
@@ -17,7 +17,8 @@ use tiger_base::{Instance, NoMemory, PieceState, Visit};
 #[derive(Drop)]
 pub struct PieceView {
     plan: Plan,
-    items: Vec<PieceState>,
+    // The first piece leaves again and again, and its removal here moves no other.
+    items: VecDeque<PieceState>,
 }
 
 impl Model for PieceView {
@@ -37,7 +38,7 @@ impl PieceView {
     {
         PieceView {
             plan: *plan,
-            items: Vec::new(alloc),
+            items: VecDeque::new(alloc),
         }
     }
 
@@ -73,7 +74,10 @@ impl PieceView {
         ensures found { result ≡ is_in piece self.old.items }
         ensures left { self.new ≡ record self.old { items = filter (λ x. not (is_same piece x)) self.old.items } }
     {
-        self.leave_out(&Wanted::One(piece)) > 0
+        match position_of(&self.items, piece) {
+            Some(place) => self.items.remove(place).is_some(),
+            None => false,
+        }
     }
 
     /// Removes the pieces of an instance's visit, and answers how many.
@@ -104,19 +108,16 @@ impl PieceView {
 /// Which pieces are to be removed.
 #[derive(Clone, Copy)]
 enum Wanted {
-    One(PieceState),
     OfVisit(Instance, Visit),
     Of(Instance),
 }
 
 impl Wanted {
     /// Whether a piece is among them.
-    #[tactic(auto, unfolding(crate::specs::Pieces::is_same))]
     fn covers(&self, x: &PieceState) -> bool
         ensures { result ≡ covers self.now x.now }
     {
         match self {
-            Wanted::One(piece) => piece == x,
             Wanted::OfVisit(instance, visit) => {
                 x.tenancy.instance == *instance && x.visit == *visit
             }
@@ -125,8 +126,15 @@ impl Wanted {
     }
 }
 
+/// The place of a piece among some, looked for from the first on.
+fn position_of(items: &VecDeque<PieceState>, piece: PieceState) -> Option<usize>
+    ensures { result ≡ position (is_same piece) items.now.items }
+{
+    items.iter().position(|x| piece == *x)
+}
+
 /// Removes what is wanted from some pieces, and answers how many that are.
-fn leave_out(items: &mut Vec<PieceState>, wanted: &Wanted) -> u64
+fn leave_out(items: &mut VecDeque<PieceState>, wanted: &Wanted) -> u64
     ensures count { result ≡ count_by (covers wanted.now) items.old.items }
     ensures left { items.new.items ≡ filter (λ x. not (covers wanted.now x)) items.old.items }
 {
@@ -140,16 +148,43 @@ fn leave_out(items: &mut Vec<PieceState>, wanted: &Wanted) -> u64
     count
 }
 
-/// The first piece behind the given one, or of all where none is given.
-fn next_behind(plan: &Plan, items: &[PieceState], given: Option<PieceState>) -> Option<PieceState>
-    requires items { AllByRecursion (IsPieceOf plan.now.params) items.now }
+/// The first piece behind the given one, or of all where none is given, of some in their order.
+fn next_behind(
+    plan: &Plan,
+    items: &VecDeque<PieceState>,
+    given: Option<PieceState>,
+) -> Option<PieceState>
+    requires items { IsPieces plan.now.params items.now.items }
     requires given { ForSome given (IsPieceOf plan.now.params) }
-    ensures next { result ≡ find (is_behind plan.now.params given) items.now }
+    ensures next { result ≡ find (is_behind plan.now.params given) items.now.items }
     ensures piece { IfSome result (IsPieceOf plan.now.params) }
 {
-    for x in items {
-        if is_behind(plan, &given, x) {
-            return Some(*x);
+    match given {
+        None => first_behind(plan, items, 0, given),
+        Some(piece) => {
+            let place = first_not_before(plan, items, &piece);
+            first_behind(plan, items, place, given)
+        }
+    }
+}
+
+/// The same of any pieces, seen one after another from a place on.
+fn first_behind(
+    plan: &Plan,
+    items: &VecDeque<PieceState>,
+    start: usize,
+    given: Option<PieceState>,
+) -> Option<PieceState>
+    requires items { AllByRecursion (IsPieceOf plan.now.params) items.now.items }
+    requires given { ForSome given (IsPieceOf plan.now.params) }
+    requires start { start ≤ length items.now.items }
+    ensures next { result ≡ find (is_behind plan.now.params given) (drop start items.now.items) }
+    ensures piece { IfSome result (IsPieceOf plan.now.params) }
+{
+    for i in start..items.len() {
+        let x = items[i];
+        if is_behind(plan, &given, &x) {
+            return Some(x);
         }
     }
     None

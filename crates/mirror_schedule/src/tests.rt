@@ -104,6 +104,20 @@ fn pieces_are_walked_by_the_time_of_leaving(rt: HostRuntime) -> Result<(), Fail>
 }
 
 #[test]
+fn a_piece_behind_the_first_is_removed(rt: HostRuntime) -> Result<(), Fail> {
+    let plan = plan_of(&rt, SMALL);
+    let mut view = PieceView::new(rt.alloc(), &plan);
+    assert!(rt; !view.remove(piece(2)));
+    assert!(rt; view.add(piece(1))?);
+    assert!(rt; view.add(piece(2))?);
+    assert!(rt; view.remove(piece(2)));
+    assert!(rt; !view.remove(piece(2)));
+    assert!(rt; view.after(None) == Some(piece(1)));
+    assert!(rt; view.after(Some(piece(1))).is_none());
+    Ok(())
+}
+
+#[test]
 fn split_visits_are_given_back_by_slot(rt: HostRuntime) -> Result<(), Fail> {
     let mut splits = Splits::new(rt.alloc());
     splits.remember(Instance(0), SlotNo(1), 3)?;

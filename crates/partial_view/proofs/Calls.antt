@@ -1,5 +1,5 @@
 -- What the calls of a view do at the place that was found.
-use Rattle.std.proofs.Common.{◌≡◌, ℕ, ◌+◌, ◌<◌, ◌≤◌, zero, suc, List, [], ◌∷◌, ◌++◌, length, get_or, Option, Some, None, IfSome, refl, sym, ap, subst, ◌∙◌, arith}
+use Rattle.std.proofs.Common.{◌≡◌, ℕ, ◌+◌, ◌<◌, ◌≤◌, zero, suc, List, [], ◌∷◌, ◌++◌, length, get_or, Option, Some, None, IfSome, IsSome, OnSome, ◌↔◌, refl, sym, ap, subst, ◌∙◌, arith}
 use Rattle.std.specs.List.{insert, remove, slice_get}
 use Rattle.std.proofs.lemmas.List.{get_or_at, set_at, take_at, drop_at}
 use Rattle.std.proofs.lemmas.Bool.{le-leb, lt-leb}
@@ -12,6 +12,7 @@ use Rattle.partial_view.specs.declared.line.Flag.{Flag}
 use Rattle.partial_view.specs.Lines.{key_of, visit_of, marked, unmarked}
 use Rattle.partial_view.specs.Views.{Seen, IsWalk, IsFoundAt, IsGapAt, line_at, line_due, next_behind, with_mark, without, with_line, with_record}
 use Rattle.partial_view.proofs.Order.{walk_later, walk_earlier, walk_put}
+use Rattle.partial_view.proofs.Places.{found_inside}
 use Rattle.partial_view.proofs.Laws.{line_at-front, line_at-back, line_at-here, with_mark-front, with_mark-back, with_mark-here, without-front, without-back, without-here, with_line-front, with_line-back, next-front, next-back, next-here, line_due-none}
 
 -- what is seen of a view
@@ -93,6 +94,11 @@ module _ (p : Params) (k : Key) (lines : List Line) (i : ℕ) (w : IsWalk p line
       let was : remove lines i ≡ f.front ++ f.back = ap (λ (ys : List Line). remove ys i) f.parts ∙ remove_at f.front f.line f.back i f.long in
       was ∙ sym (ap (λ (ys : List Line). without k ys) f.parts ∙ (ap (λ (x : Key). without x (f.front ++ f.line ∷ f.back)) (sym f.key) ∙ without-parts p f.front f.line f.back walk))
 
+  -- what is left where a line is taken out there, which cannot fail
+  pub left-found : (o : Option Line) (n : ℕ) (ys : List Line) → n ≡ length lines → IsSome o ↔ (i < n) → OnSome o (ys ≡ remove lines i) → IsFoundAt k lines i → ys ≡ without k lines
+  left-found None n ys long there e f = let inside = found_inside k lines i f in absurd (cc (there.1 (omega arith)))
+  left-found (Some x) n ys long there e f = e ∙ remove-found f
+
   pub remove-gap : IsGapAt p k lines i → lines ≡ without k lines
   remove-gap g =
       let same_lines : without k (g.front ++ g.back) ≡ g.front ++ g.back =
@@ -137,13 +143,6 @@ pub key-get : (p : Params) (lines : List Line) (i : ℕ) → IsWalk p lines → 
 key-get p [] i w = tt
 key-get p (x ∷ xs) zero w = w.0
 key-get p (x ∷ xs) (suc i) w = key-get p xs i w.2
-
--- what was found stands in equal lines too
-pub found-along : (k : Key) {ys lines : List Line} (i : ℕ) → ys ≡ lines → IsFoundAt k ys i → IsFoundAt k lines i
-found-along k i e f = subst (λ (zs : List Line). IsFoundAt k zs i) e f
-
-pub gap-along : (p : Params) (k : Key) {ys lines : List Line} (i : ℕ) → ys ≡ lines → IsGapAt p k ys i → IsGapAt p k lines i
-gap-along p k i e g = subst (λ (zs : List Line). IsGapAt p k zs i) e g
 
 -- what is seen of a view whose lines are changed
 pub seen-with : (p : Params) (lines ys : List Line) (s : Seen) (f : Params → List Line → List Line) → record_of p lines ≡ s → ys ≡ f p lines → record_of p ys ≡ record_of s.params (f s.params s.lines)

@@ -111,6 +111,17 @@ gap_from p k lines i d w r h =
           later = (first, later_all p k x xs first (walk_later p r.front x xs walk));
         }
 
+-- a line of the visit that stands at some place
+found_line : (k : Key) (lines : List Line) (i : ℕ) (d : Line) → same (key_of (get_or lines i d)) k ≡ true → i < length lines → IsFoundAt k lines i
+found_line k [] i d h l = absurd (omega arith)
+found_line k (x ∷ xs) zero d h l = record { front = []; line = x; back = xs; parts = refl; long = refl; key = same_is (key_of x) k h }
+found_line k (x ∷ xs) (suc i) d h l =
+    let r = found_line k xs i d h (omega arith) in
+    record { front = x ∷ r.front; line = r.line; back = r.back; parts = ap (λ ys. x ∷ ys) r.parts; long = ap suc r.long; key = r.key }
+
+pub found_there : (k : Key) (lines : List Line) (i : ℕ) (d : Line) (j : Key) {t : Bool} → j ≡ key_of (get_or lines i d) → t ≡ same j k → t ≡ true → i < length lines → IsFoundAt k lines i
+found_there k lines i d j e b h l = found_line k lines i d (subst (λ (x : Key). same x k ≡ true) e (sym b ∙ h)) l
+
 -- where a found line and a gap can stand
 pub found_inside : (k : Key) (lines : List Line) (i : ℕ) → IsFoundAt k lines i → i < length lines
 found_inside k lines i f = omega (arith, f.long, ap length f.parts, length-append f.front (f.line ∷ f.back))

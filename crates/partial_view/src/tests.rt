@@ -95,6 +95,8 @@ fn lines_are_walked_by_due_time(rt: HostRuntime) -> Result<(), Fail> {
     ] {
         let next = view.after(Some((SlotNo(slot), visit)));
         assert_eq!(rt; next.map(|line| line.key()), want);
+        let near = view.after_near(1, (SlotNo(slot), visit));
+        assert_eq!(rt; near.map(|line| line.key()), want);
     }
     assert_eq!(rt; view.first_of(Instance(7)), Some(own(7, 1, 0)));
     assert_eq!(rt; view.first_of(Instance(6)), None);

@@ -1,7 +1,7 @@
 //! A cub's records by slot and visit, kept as one list in the order of their due times.
-ghost use Rattle.std.specs.Prelude.{◌≡◌, ℕ, ◌^◌, ◌≤◌, ◌<◌, [], IfOk, OnOk, OnErr, IfErr, IfSome, MatchResult, option_map, is_some, count_by, length, slice_get};
+ghost use Rattle.std.specs.Prelude.{◌≡◌, ℕ, ◌^◌, ◌≤◌, ◌<◌, [], IfOk, OnOk, OnErr, IfErr, IfSome, Some, MatchResult, option_map, is_some, count_by, length, slice_get};
 ghost use Rattle.std.specs.Option.{ForSome};
-ghost use Rattle.slot_plan.specs.Keys.{IsKey};
+ghost use Rattle.slot_plan.specs.Keys.{IsKey, due_of, is_earlier};
 ghost use Rattle.partial_view.specs.Lines.{key_of, visit_of, instance_of, is_of};
 ghost use Rattle.partial_view.specs.Views.{Seen, IsWalk, line_at, first_of, next_behind, line_due, with_mark, without, without_instance, with_record, place_of, IsFoundAt, IsGapAt};
 ghost use Rattle.partial_view.specs.Adding.{answer_to, answer_by};
@@ -9,6 +9,7 @@ ghost use Rattle.partial_view.specs.Adding.{answer_to, answer_by};
 use crate::line::{Flag, Line};
 use slot_plan::Plan;
 use std::alloc::Global;
+use std::collections::VecDeque;
 use std::marker::Model;
 use tiger_base::{Instance, Micros, NoMemory, Rec, SlotNo, Visit};
 
@@ -27,7 +28,8 @@ pub enum Added {
 #[derive(Drop)]
 pub struct View {
     plan: Plan,
-    lines: Vec<Line>,
+    // The first lines leave at each tick, and a removal here moves only those on the shorter side.
+    lines: VecDeque<Line>,
 }
 
 impl Model for View {
@@ -47,7 +49,7 @@ impl View {
     {
         View {
             plan: *plan,
-            lines: Vec::new(alloc),
+            lines: VecDeque::new(alloc),
         }
     }
 
@@ -107,12 +109,24 @@ impl View {
         line_from(&self.lines, place)
     }
 
+    /// The next line behind a slot and visit, as `after` gives it. Their line is looked for at a place first, which is where a
+    /// walk that takes no line out finds it; any place serves.
+    pub fn after_near(&self, place: usize, key: (SlotNo, Visit)) -> Option<Line>
+        requires { IsKey self.now.params key }
+        ensures next { result ≡ next_behind self.now.params (Some key) self.now.lines }
+        ensures key { IfSome result (λ line. IsKey self.now.params (key_of line)) }
+        ensures walk { IsWalk self.now.params self.now.lines }
+    {
+        let behind = place_near(&self.plan, &self.lines, place, key);
+        line_from(&self.lines, behind)
+    }
+
     /// The first record that is due at a reading; `None` exactly where none is.
     pub fn due_before(&self, reading: Micros) -> Option<Rec>
         requires { reading ≤ 1000000000000 }
         ensures { result ≡ option_map (λ x. x.rec) (line_due self.now.params reading self.now.lines) }
     {
-        let line = self.lines.first()?;
+        let line = line_from(&self.lines, 0)?;
         if self.plan.due(line.rec.tenancy.slot, line.rec.visit) <= reading {
             Some(line.rec)
         } else {
@@ -142,7 +156,7 @@ impl View {
         ensures left { self.new ≡ record self.old { lines = without (slot, visit) self.old.lines } }
     {
         match place_of(&self.plan, &self.lines, (slot, visit)) {
-            Ok(place) => Some(self.lines.remove(place).rec),
+            Ok(place) => Some(self.lines.remove(place)?.rec),
             Err(_) => None,
         }
     }
@@ -173,8 +187,8 @@ fn known(wanted: Instance, there: Instance) -> Added
 
 /// The first record of an instance among some lines.
 #[tactic(auto, unfolding(crate::specs::Views::first_of))]
-fn first_of(lines: &[Line], instance: Instance) -> Option<Rec>
-    ensures { result ≡ option_map (λ x. x.rec) (first_of instance lines.now) }
+fn first_of(lines: &VecDeque<Line>, instance: Instance) -> Option<Rec>
+    ensures { result ≡ option_map (λ x. x.rec) (first_of instance lines.now.items) }
 {
     for line in lines {
         if line.rec.tenancy.instance.0 == instance.0 {
@@ -185,18 +199,18 @@ fn first_of(lines: &[Line], instance: Instance) -> Option<Rec>
 }
 
 /// The line at a place.
-fn line_from(lines: &[Line], place: usize) -> Option<Line>
-    ensures { result ≡ slice_get lines.now place }
+fn line_from(lines: &VecDeque<Line>, place: usize) -> Option<Line>
+    ensures { result ≡ slice_get lines.now.items place }
 {
     lines.get(place).copied()
 }
 
 /// Where the first line behind a visit stands, or the first of all where none is given.
-fn place_behind(plan: &Plan, lines: &[Line], given: Option<(SlotNo, Visit)>) -> usize
+fn place_behind(plan: &Plan, lines: &VecDeque<Line>, given: Option<(SlotNo, Visit)>) -> usize
     requires given { ForSome given (IsKey plan.now.params) }
-    requires walk { IsWalk plan.now.params lines.now }
-    requires fits { length lines.now < 2 ^ 63 }
-    ensures { slice_get lines.now result ≡ next_behind plan.now.params given lines.now }
+    requires walk { IsWalk plan.now.params lines.now.items }
+    requires fits { length lines.now.items < 2 ^ 63 }
+    ensures { slice_get lines.now.items result ≡ next_behind plan.now.params given lines.now.items }
 {
     match given {
         None => 0,
@@ -207,11 +221,25 @@ fn place_behind(plan: &Plan, lines: &[Line], given: Option<(SlotNo, Visit)>) -> 
     }
 }
 
-/// Where the line of a visit stands, or as an `Err` where it would stand, found by halving.
-fn place_of(plan: &Plan, lines: &[Line], key: (SlotNo, Visit)) -> Result<usize, usize>
+/// Where the first line behind a visit stands, whose own line is looked for at a place first.
+fn place_near(plan: &Plan, lines: &VecDeque<Line>, place: usize, key: (SlotNo, Visit)) -> usize
     requires key { IsKey plan.now.params key }
-    requires walk { IsWalk plan.now.params lines.now }
-    ensures { MatchResult result (λ place. IsFoundAt key lines.now place) (λ place. IsGapAt plan.now.params key lines.now place) }
+    requires walk { IsWalk plan.now.params lines.now.items }
+    requires fits { length lines.now.items < 2 ^ 63 }
+    ensures { slice_get lines.now.items result ≡ next_behind plan.now.params (Some key) lines.now.items }
+{
+    if place < lines.len() && lines[place].key() == key {
+        place + 1
+    } else {
+        place_behind(plan, lines, Some(key))
+    }
+}
+
+/// Where the line of a visit stands, or as an `Err` where it would stand, found by halving.
+fn place_of(plan: &Plan, lines: &VecDeque<Line>, key: (SlotNo, Visit)) -> Result<usize, usize>
+    requires key { IsKey plan.now.params key }
+    requires walk { IsWalk plan.now.params lines.now.items }
+    ensures { MatchResult result (λ place. IsFoundAt key lines.now.items place) (λ place. IsGapAt plan.now.params key lines.now.items place) }
 {
     let place = first_not_before(plan, lines, key);
     if place < lines.len() && lines[place].key() == key {
@@ -222,20 +250,32 @@ fn place_of(plan: &Plan, lines: &[Line], key: (SlotNo, Visit)) -> Result<usize, 
 }
 
 /// How many lines come before a visit.
-fn first_not_before(plan: &Plan, lines: &[Line], key: (SlotNo, Visit)) -> usize
+fn first_not_before(plan: &Plan, lines: &VecDeque<Line>, key: (SlotNo, Visit)) -> usize
     requires key { IsKey plan.now.params key }
-    requires walk { IsWalk plan.now.params lines.now }
-    ensures { result ≡ place_of plan.now.params key lines.now }
+    requires walk { IsWalk plan.now.params lines.now.items }
+    ensures { result ≡ place_of plan.now.params key lines.now.items }
 {
+    let due = plan.due(key.0, key.1);
     let mut low = 0;
     let mut high = lines.len();
     while low < high {
         let middle = low + (high - low) / 2;
-        if plan.is_earlier(lines[middle].key(), key) {
+        if is_before(plan, lines[middle].key(), due, key) {
             low = middle + 1;
         } else {
             high = middle;
         }
     }
     low
+}
+
+/// Whether one visit comes before another whose due time is at hand.
+#[tactic(auto, unfolding(slot_plan::specs::Keys::is_earlier))]
+fn is_before(plan: &Plan, a: (SlotNo, Visit), due: Micros, b: (SlotNo, Visit)) -> bool
+    requires first { IsKey plan.now.params a }
+    requires due { due ≡ due_of plan.now.params b }
+    ensures { result ≡ is_earlier plan.now.params a b }
+{
+    let due_a = plan.due(a.0, a.1);
+    due_a < due || (due_a == due && (a.0.0 < b.0.0 || (a.0.0 == b.0.0 && a.1 < b.1)))
 }

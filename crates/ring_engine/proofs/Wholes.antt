@@ -46,11 +46,11 @@ links-sound p plan =
     }
 
 -- the first states of nodes, of which there is one
-firsts : {S : Type 0} (given : List S) → 1 ≤ length given → (first : ℕ → S) × ((k : ℕ) → k < length given → slice_get given k ≡ Some (first k))
+pub firsts : {S : Type 0} (given : List S) → 1 ≤ length given → (first : ℕ → S) × ((k : ℕ) → k < length given → slice_get given k ≡ Some (first k))
 firsts [] h = absurd (omega (arith, h))
 firsts {S} (x ∷ xs) h = ((λ k. get_or (x ∷ xs) k x), (λ k low. slice_get-get_or (x ∷ xs) k x low))
 
-accounts-run : {M S : Type 0} (note : M → Note) (step : S → Input M → Deed M S) (c : Course) (count : ℕ) (first : ℕ → S) (r : Ring M S) → IsCourse c → count ≡ viewers_of (links_of c.plan.params) + 1
+pub accounts-run : {M S : Type 0} (note : M → Note) (step : S → Input M → Deed M S) (c : Course) (count : ℕ) (first : ℕ → S) (r : Ring M S) → IsCourse c → count ≡ viewers_of (links_of c.plan.params) + 1
     → (st : Progress note step c count first c.beats 0 r)
     → AreAccounted note step c.plan.params (stamp_in c) (lifetime_of c) (λ l. new_clock l c.delay c.plan.params.delay) count c.beats first st.events
 accounts-run note step c count first r course size st = record {
@@ -61,7 +61,7 @@ accounts-run note step c count first r course size st = record {
   links = λ l from to low_from low_to ends. let on = link-end note step c count first r st l from to low_from low_to ends in (on.0.clock, _, on.1);
 }
 
-history-run : {M S : Type 0} (note : M → Note) (step : S → Input M → Deed M S) (c : Course) (given : List S) (first : ℕ → S) (r : Ring M S) → IsCourse c
+abbrev pub history-run : {M S : Type 0} (note : M → Note) (step : S → Input M → Deed M S) (c : Course) (given : List S) (first : ℕ → S) (r : Ring M S) → IsCourse c
     → length given ≡ viewers_of (links_of c.plan.params) + 1 → ((k : ℕ) → k < length given → slice_get given k ≡ Some (first k))
     → (st : Progress note step c (length given) first c.beats 0 r) → HaveHistory {M = M} note step c.plan.params (lifetime_of c) c.beats given r.nodes r.journals
 history-run {M} {S} note step c given first r course size all st =

@@ -11,7 +11,7 @@ use Rattle.disk_image.specs.Image.{Image}
 use Rattle.disk_core.specs.State.{DiskState}
 use Rattle.node_kit.specs.declared.course.Order.{Order}
 use Rattle.node_kit.specs.declared.course.ReadFault.{ReadFault}
-use Rattle.cub_rules.specs.State.{IsStoreOf, opening_store}
+use Rattle.cub_rules.specs.State.{CubState, IsStoreOf, opening_store}
 use Rattle.ring_nodes.specs.declared.nodes.AnyNode.{AnyNode}
 use Rattle.ring_nodes.specs.declared.nodes.AnyNode.TheVariants as node
 use Rattle.ring_nodes.specs.AllNodes.{StandsAny, AllStand, node_count, numbered, each_numbered, opening_cub, opening_disk, opening_controller, opening_nodes, faults_of}
@@ -39,6 +39,11 @@ each_numbered-more f first zero (y ∷ ys) x e =
 each_numbered-more f first (suc i) (y ∷ ys) x e =
     let at : first + suc i ≡ first + 1 + i = omega arith in
     rw at (ap (λ zs. f first y ∷ zs) (each_numbered-more f (first + 1) i ys x e))
+
+-- one more cub
+pub cubs-more : {G : Type 0} (before : List (AnyNode G)) (p : Params) (n : ℕ) (c : CubState) → c ≡ record { params = p; cub = n; store = opening_store p 0 }
+    → (before ++ numbered (opening_cub p) n) ++ node.Cub c ∷ [] ≡ before ++ numbered (opening_cub p) (n + 1)
+cubs-more {G} before p n c is = rw is (numbered-more (opening_cub {G = G} p) n before)
 
 -- one more disk
 pub disks-more : {G : Type 0} (before : List (AnyNode G)) (p : Params) (faults : List ReadFault) (images : List Image) (i : ℕ) (m : Image) (d : DiskState)

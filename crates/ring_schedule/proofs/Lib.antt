@@ -1,3 +1,4 @@
+pub mod Calmness
 pub mod Controllers
 pub mod Once
 pub mod Openings

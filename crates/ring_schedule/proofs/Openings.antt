@@ -28,7 +28,7 @@ use Rattle.ring_nodes.specs.AllNodes.{any_step, node_count, numbered, each_numbe
 use Rattle.ring_nodes.proofs.Numbered.{length-numbered, length-each_numbered, opening_count}
 use Rattle.ring_engine.specs.Places.{each_below, Ring}
 use Rattle.ring_engine.specs.Whole.{HaveTurns, HavePassed, IsWholeRun}
-use Rattle.tiger_ring.specs.Steps.{ring_of}
+use Rattle.ring_facts.specs.Steps.{ring_of}
 use Rattle.ring_schedule.specs.Rings.{IsCalmRing}
 
 -- places of two lists, one behind the other

@@ -1,93 +1,42 @@
 -- The history of a whole run, in which the clock of each node shows what the course says.
-use Rattle.std.proofs.Common.{◌≡◌, ℕ, ◌+◌, ◌<◌, ◌≤◌, List, [], ◌∷◌, length, get_or, true, false, Some, refl, sym, ap, ◌∙◌, arith}
+use Rattle.std.proofs.Common.{◌≡◌, ℕ, ◌+◌, ◌<◌, List, length, true, false, Some, refl, ap, ◌∙◌, arith}
 use Rattle.std.specs.Prelude.{slice_get}
-use Rattle.std.proofs.Math.Nat.{mul-le-mul}
-use Rattle.std.proofs.lemmas.Option.{slice_get-get_or}
 use Rattle.tiger_base.specs.declared.number.Stamp.{Stamp}
 use Rattle.tiger_base.specs.declared.message.Msg.{Msg}
 use Rattle.tiger_base.specs.Notes.{noted}
-use Rattle.slot_plan.specs.declared.params.Params.{Params}
-use Rattle.slot_plan.specs.Conditions.{IsPlan}
-use Rattle.link_timing.specs.Clock.{new_clock}
 use Rattle.node_kit.specs.declared.course.Course.{Course}
 use Rattle.node_kit.specs.declared.journal.Entry.{Entry}
 use Rattle.node_kit.specs.Courses.{IsCourse, reading_of}
 use Rattle.node_kit.specs.Life.{lifetime_of}
-use Rattle.node_kit.specs.Links.{IsLinks, links_of, viewers_of}
+use Rattle.node_kit.specs.Links.{links_of, viewers_of}
 use Rattle.node_kit.specs.Steps.{Deed, Input}
 use Rattle.node_kit.specs.Steps.Input.{Take, Tick}
-use Rattle.run_facts.specs.Events.{NodeEvent, Past, is_tick, is_death, stamp_at}
+use Rattle.run_facts.specs.Events.{NodeEvent, is_tick, is_death, stamp_at}
 use Rattle.run_facts.specs.Events.NodeEvent.{Does, Dies}
-use Rattle.run_facts.specs.Histories.{HaveHistory, beat, ticks, last_of}
+use Rattle.run_facts.specs.Histories.{HaveHistory, beat, ticks}
 use Rattle.run_facts.proofs.Counts.{count-numbered}
-use Rattle.run_facts.proofs.Indexed.{history_of, last-all, all-at}
-use Rattle.node_kit.proofs.Ring.{from_counted}
-use Rattle.run_facts.proofs.Recording.{AreAccounted, run-of_accounts, complete-of_accounts}
+use Rattle.run_facts.proofs.Indexed.{all-at}
 use Rattle.ring_engine.specs.Runs.{stamp_in}
 use Rattle.ring_engine.specs.Places.{Ring}
 use Rattle.ring_engine.specs.Whole.{IsWholeRun}
-use Rattle.ring_engine.proofs.Below.{get-below}
-use Rattle.ring_engine.proofs.Running.{same-element}
 use Rattle.ring_engine.proofs.Progressing.{Progress, progress-ends}
-use Rattle.ring_engine.proofs.Accounts.{clock-of, timeline-end, link-end}
+use Rattle.ring_engine.proofs.Wholes.{firsts, history-run}
 use Rattle.schedule_laws.specs.Facts.{TickedAt}
 use Rattle.schedule_laws.specs.Histories.{input_of, lives_of}
-
-links_sound : (p : Params) → IsPlan p → IsLinks (links_of p)
-links_sound p plan =
-    let cubs = plan.ranges.cubs in
-    let disks = plan.ranges.disks in
-    let pieces = plan.ranges.pieces in
-    let room = plan.c10 in
-    let product = mul-le-mul {n₁ = p.cubs} {m₁ = p.disks} {n₂ = 64} {m₂ = 8} cubs.1 disks.1 in
-    record {
-      ring = omega (arith, cubs, pieces, room);
-      cubs_high = cubs.1;
-      disks_high = omega (arith, product);
-      reach_low = omega arith;
-      reach_high = omega (arith, pieces);
-    }
 
 -- a history of a run, and that each event is stamped as the course says
 pub record HasReadings {S : Type 0} (step : S → Input Msg → Deed Msg S) (c : Course) (given nodes : List S) (journals : List (List Entry)) : Type 0 where
   pub have : HaveHistory {M = Msg} noted step c.plan.params (lifetime_of c) c.beats given nodes journals
   pub reads : (n i : ℕ) → n < length given → i < have.history.count n → stamp_at (have.history.event n i) ≡ stamp_in c n (stamp_at (have.history.event n i)).beat
 
-accounts_run : {S : Type 0} (step : S → Input Msg → Deed Msg S) (c : Course) (count : ℕ) (first : ℕ → S) (r : Ring Msg S) → IsCourse c → count ≡ viewers_of (links_of c.plan.params) + 1
-    → (st : Progress {M = Msg} noted step c count first c.beats 0 r)
-    → AreAccounted {M = Msg} noted step c.plan.params (stamp_in c) (lifetime_of c) (λ l. new_clock l c.delay c.plan.params.delay) count c.beats first st.events
-accounts_run step c count first r course size st = record {
-  clock = λ n. clock-of c n course;
-  fair = st.fair;
-  timeline = timeline-end noted step c count first r st;
-  senders = λ l from to ends. let low = from_counted (links_of c.plan.params) from to l (links_sound c.plan.params c.plan.sound) ends in omega (arith, low, size);
-  links = λ l from to low_from low_to ends. let on = link-end noted step c count first r st l from to low_from low_to ends in (on.0.clock, _, on.1);
-}
-
 readings_run : {S : Type 0} (step : S → Input Msg → Deed Msg S) (c : Course) (given : List S) (first : ℕ → S) (r : Ring Msg S) → IsCourse c
     → length given ≡ viewers_of (links_of c.plan.params) + 1 → ((k : ℕ) → k < length given → slice_get given k ≡ Some (first k))
     → (st : Progress {M = Msg} noted step c (length given) first c.beats 0 r) → HasReadings step c given r.nodes r.journals
 readings_run {S} step c given first r course size all st =
-    let accounts = accounts_run step c (length given) first r course size st in
-    let h = history_of first (lifetime_of c) st.events in
-    let last : (n : ℕ) → last_of noted step h n ≡ _ = last-all noted step first (lifetime_of c) st.events in
     record {
-      have = record {
-        history = h;
-        theirs = record {
-          opens = λ n s e. (same-element given n (first n) s (all n (get-below given n s e)) e, refl);
-          writes = λ n low. (st.here n low).journal ∙ ap (λ (s : Past S). Some s.journal) (sym (last n));
-          ends = λ n low. (st.here n low).state ∙ ap (λ (s : Past S). Some s.state) (sym (last n));
-        };
-        run = run-of_accounts noted step c.plan.params (stamp_in c) (lifetime_of c) (λ l. new_clock l c.delay c.plan.params.delay) (length given) c.beats first st.events accounts;
-        complete = complete-of_accounts noted step c.plan.params (stamp_in c) (lifetime_of c) (λ l. new_clock l c.delay c.plan.params.delay) (length given) c.beats first st.events accounts;
-      };
+      have = history-run noted step c given first r course size all st;
       reads = λ n i low inside. all-at (λ e. stamp_at e ≡ stamp_in c n (stamp_at e).beat) (st.events n) i inside (st.timeline n low).stamped;
     }
-
-firsts : {S : Type 0} (given : List S) → 1 ≤ length given → (first : ℕ → S) × ((k : ℕ) → k < length given → slice_get given k ≡ Some (first k))
-firsts [] h = absurd (omega (arith, h))
-firsts {S} (x ∷ xs) h = ((λ k. get_or (x ∷ xs) k x), (λ k low. slice_get-get_or (x ∷ xs) k x low))
 
 pub readings_whole : {S : Type 0} (step : S → Input Msg → Deed Msg S) (c : Course) (given nodes : List S) (journals : List (List Entry)) → IsCourse c
     → length given ≡ viewers_of (links_of c.plan.params) + 1 → (whole : IsWholeRun {M = Msg} noted step c given nodes journals) → HasReadings step c given whole.last.nodes whole.last.journals

@@ -40,15 +40,16 @@ use Rattle.scenario_read.proofs.OrderFacts.{orders-given}
 use Rattle.ring_nodes.specs.declared.nodes.AnyNode.{AnyNode}
 use Rattle.ring_nodes.specs.AllNodes.{any_step, node_count, image_at, images_of}
 use Rattle.ring_nodes.proofs.Numbered.{length-numbered, opening_count}
-use Rattle.tiger_ring.specs.Rings.{IsRingRun}
-use Rattle.tiger_ring.specs.Steps.{ring_of}
-use Rattle.schedule_moments.specs.Calm.{AreCalmJournals}
-use Rattle.schedule_moments.specs.Calm.{StopNothing}
+use Rattle.ring_facts.specs.Rings.{IsRingRun}
+use Rattle.ring_facts.specs.Steps.{ring_of}
+use Rattle.schedule_moments.specs.Calm.{AreCalmJournals, StopNothing}
 use Rattle.schedule_moments.proofs.Fair as fair
 use Rattle.schedule_moments.proofs.Passing as passing
+use Rattle.schedule_views.proofs.Parts as views
+use Rattle.schedule_views.proofs.Local as local
 use Rattle.ring_schedule.specs.Orders.{AreCalmOrders}
 use Rattle.ring_schedule.specs.Rings.{IsCalmRing}
-use Rattle.ring_schedule.specs.Scenarios.{IsCalmScenario, AreShort, CalmRunsPutFairly, CalmRunsHaveOneSchedule, CalmRunsPassNobodyOver}
+use Rattle.ring_schedule.specs.Scenarios.{IsCalmScenario, HasOneSchedule, AreShort, CalmRunsPutFairly, CalmRunsHaveOneSchedule, CalmRunsPassNobodyOver, CalmRunsKeepViews, CalmRunsAreLocal}
 use Rattle.ring_schedule.proofs.Controllers.{begun}
 use Rattle.ring_schedule.proofs.Stopless.{none_stopped}
 use Rattle.ring_schedule.proofs.Openings.{get_some, calm_ring, journal_count}
@@ -181,11 +182,26 @@ calm_runs_have_one_schedule G s library k scenario calm short run =
     ring_one_schedule G k.course.plan.params k.orders run.steps.history.history k.course.plan.sound (orders G s library k scenario calm short run)
     (ring G s library k scenario calm short run run.steps.nodes k.journals refl run.steps.history)
 
+-- no journal of it says that an instance was stopped
+nothing_stopped : (G : Type 0) (s : Scenario) (library : List (List ℕ)) (k : Kept) → IsScenario s → IsCalmScenario s → AreShort library → IsRingRun G s library k
+    → StopNothing k.journals
+nothing_stopped G s library k scenario calm short run =
+    none_stopped k.course.plan.params k.course.beats (reading_of k.course (controller_of (links_of k.course.plan.params))) k.orders k.journals
+    (begun k.course.plan.params k.orders (orders G s library k scenario calm short run)) run.commanded
+
+pub calm_runs_keep_views : (G : Type 0) → CalmRunsKeepViews G
+calm_runs_keep_views G s library k scenario calm short run =
+    views.calm_views_are_part (AnyNode G) any_step k.course.plan.params (node_count k.course.plan.params) run.steps.history.history k.orders k.journals k.course.beats k.course.plan.sound
+    (journals G s library k scenario calm short run run.steps.nodes k.journals refl run.steps.history) (nothing_stopped G s library k scenario calm short run)
+
+pub calm_runs_are_local : (G : Type 0) → CalmRunsAreLocal G
+calm_runs_are_local G s library k scenario calm short run =
+    local.calm_entries_are_local (AnyNode G) any_step k.course.plan.params (node_count k.course.plan.params) run.steps.history.history k.orders k.journals k.course.beats k.course.plan.sound
+    (journals G s library k scenario calm short run run.steps.nodes k.journals refl run.steps.history)
+
 pub calm_runs_pass_nobody_over : (G : Type 0) → CalmRunsPassNobodyOver G
 calm_runs_pass_nobody_over G s library k scenario calm short run c beat small low acting =
-    let none : StopNothing k.journals =
-    none_stopped k.course.plan.params k.course.beats (reading_of k.course (controller_of (links_of k.course.plan.params))) k.orders k.journals
-    (begun k.course.plan.params k.orders (orders G s library k scenario calm short run)) run.commanded in
+    let none = nothing_stopped G s library k scenario calm short run in
     let count = size G s library k scenario calm short run in
     let whole = run.steps.whole in
     let r = readings_whole any_step k.course (ring_of G k.course k.catalogue library k.orders) run.steps.nodes k.journals (course G s library k scenario calm short run) (omega (arith, count)) run.steps.whole in
@@ -195,3 +211,13 @@ calm_runs_pass_nobody_over G s library k scenario calm short run c beat small lo
     subst (λ (js : List (List Entry)). IsNotPassedOver k.course.plan.params k.orders (end_of_tick beat c (order_of k.course.beats js)) c (reading_of k.course c beat)) (sym whole.same_journals)
     (passing.calm_starts_are_not_passed_over (AnyNode G) any_step k.course.plan.params (node_count k.course.plan.params) r.have.history k.orders whole.last.journals k.course.beats k.course.plan.sound
     (journals G s library k scenario calm short run whole.last.nodes whole.last.journals whole.same_journals r.have) (subst StopNothing whole.same_journals none) c beat (reading_of k.course c beat) low tick)
+
+-- so there is one schedule in such a run
+pub has_one_schedule : (G : Type 0) (s : Scenario) (library : List (List ℕ)) (k : Kept) → IsScenario s → IsCalmScenario s → AreShort library → IsRingRun G s library k
+    → HasOneSchedule k
+has_one_schedule G s library k scenario calm short run = record {
+  fair = calm_runs_put_fairly G s library k scenario calm short run;
+  part = calm_runs_keep_views G s library k scenario calm short run;
+  local = calm_runs_are_local G s library k scenario calm short run;
+  patient = calm_runs_pass_nobody_over G s library k scenario calm short run;
+}

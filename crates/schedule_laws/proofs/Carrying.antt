@@ -125,7 +125,7 @@ steps_made a k n a_in k_in =
     rw e (rw f (mod-eq_of_lt k_in)))
     (cases_lt (a + k) n)
 
-way_ends : (p : Params) (c k : ℕ) → IsPlan p → c < p.cubs → 1 ≤ k → k ≤ 2 → ends_of (links_of p) (way_ahead p c k).0 ≡ Some (c, cub_of p (c + k))
+pub way_ends : (p : Params) (c k : ℕ) → IsPlan p → c < p.cubs → 1 ≤ k → k ≤ 2 → ends_of (links_of p) (way_ahead p c k).0 ≡ Some (c, cub_of p (c + k))
 unfolding way_ahead cub_of
 way_ends p c k plan here low high =
     let links = links_sound p plan in
@@ -145,7 +145,7 @@ before_next p a c small e =
 way_of : (p : Params) (c : ℕ) (link : LinkNo) → (link ≡ way_ahead p c 1) ⊎ (link ≡ way_ahead p c 2) → (k : ℕ) × (1 ≤ k) × (k ≤ 2) × ((k ≡ 1) ⊎ (k ≡ 2)) × (link ≡ way_ahead p c k)
 way_of p c link w = ⊎_elim (λ e. (1, omega arith, omega arith, inl refl, e)) (λ e. (2, omega arith, omega arith, inr refl, e)) w
 
-same_ends : (a b c d : ℕ) → ◌≡◌ {A = Option (ℕ × ℕ)} (Some (a, b)) (Some (c, d)) → (a ≡ c) × (b ≡ d)
+pub same_ends : (a b c d : ℕ) → ◌≡◌ {A = Option (ℕ × ℕ)} (Some (a, b)) (Some (c, d)) → (a ≡ c) × (b ≡ d)
 same_ends a b c d e =
     (ap (λ (o : Option (ℕ × ℕ)). (elim o as (λ _. ℕ) [ Some q ↦ q.0 | None ↦ 0 ])) e, ap (λ (o : Option (ℕ × ℕ)). (elim o as (λ _. ℕ) [ Some q ↦ q.1 | None ↦ 0 ])) e)
 
@@ -200,19 +200,19 @@ module _ {S : Type 0} (step : S → Input Msg → Deed Msg S) (p : Params) (plan
       }
 
   -- who sent what a cub took
-  record CameFrom (c i : ℕ) (b : ℕ) (link : LinkNo) (m : Msg) : Type 0 where
-    from : ℕ
-    known : from < nodes
-    at : ℕ
-    done : at < h.count from
-    way : LinkNo
-    same : way.0 ≡ link.0
-    sent : In (out.Send way m) (outs noted step h from at)
-    ends : ends_of (links_of p) link.0 ≡ Some (from, c)
-    later : beat h from at < b
-    soon : b ≤ beat h from at + p.delay
+  pub record CameFrom (c i : ℕ) (b : ℕ) (link : LinkNo) (m : Msg) : Type 0 where
+    pub from : ℕ
+    pub known : from < nodes
+    pub at : ℕ
+    pub done : at < h.count from
+    pub way : LinkNo
+    pub same : way.0 ≡ link.0
+    pub sent : In (out.Send way m) (outs noted step h from at)
+    pub ends : ends_of (links_of p) link.0 ≡ Some (from, c)
+    pub later : beat h from at < b
+    pub soon : b ≤ beat h from at + p.delay
 
-  came : (c i : ℕ) (stamp : Stamp) (link : LinkNo) (m : Msg) → c < p.cubs → i < h.count c → (lives_of h).input c i ≡ Take stamp link m → CameFrom c i stamp.beat link m
+  pub came : (c i : ℕ) (stamp : Stamp) (link : LinkNo) (m : Msg) → c < p.cubs → i < h.count c → (lives_of h).input c i ≡ Take stamp link m → CameFrom c i stamp.beat link m
   came c i stamp link m small low e =
       let wide = quiet.all_cubs in
       let k = quiet.run.carried c i stamp link m (omega arith) low (event_is c i small low ∙ ap (λ (x : Input Msg). Does x) e) in
@@ -224,7 +224,7 @@ module _ {S : Type 0} (step : S → Input Msg → Deed Msg S) (p : Params) (plan
       record { from = k.from; known = k.known; at = s.at; done = s.before; way = r.0; same = r.1; sent = r.2; ends = k.ends; later = omega arith; soon = omega arith }
 
   -- and of a state, a cub did
-  state_from : (c i : ℕ) (stamp : Stamp) (link : LinkNo) (s : State) → c < p.cubs → (f : CameFrom c i stamp.beat link (msg.ViewerState s)) → i < h.count c
+  pub state_from : (c i : ℕ) (stamp : Stamp) (link : LinkNo) (s : State) → c < p.cubs → (f : CameFrom c i stamp.beat link (msg.ViewerState s)) → i < h.count c
       → (small : f.from < p.cubs) × ((k : ℕ) × (1 ≤ k) × (k ≤ 2) × ((k ≡ 1) ⊎ (k ≡ 2)) × (f.way ≡ way_ahead p f.from k)) × In (out.Send f.way (msg.ViewerState s)) (outs_at p f.from ((lives_of h).input f.from) f.at)
   state_from c i stamp link s here f low = ⊎_elim
       (λ (small : f.from < p.cubs).

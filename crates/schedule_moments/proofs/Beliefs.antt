@@ -56,7 +56,7 @@ behind_it p c plan small = next_own p c (predecessor p c) plan small (mod-eq_of_
 
 module _ {S : Type 0} (step : S → Input Msg → Deed Msg S) (p : Params) (plan : IsPlan p) (nodes : ℕ) (h : History Msg S) (orders : List Order)
     (journals : List (List Entry)) (are : AreCalmJournals step p nodes h orders journals) where
-  laws : Laws p (facts_of p (lives_of h) (calm orders))
+  pub laws : Laws p (facts_of p (lives_of h) (calm orders))
   laws =
       let ring = fair.in_ring step p plan nodes h orders journals are in
       let cubs = meet_the_laws p (lives_of h) orders plan ring.lived ring.formed ring.started in

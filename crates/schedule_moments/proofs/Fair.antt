@@ -19,7 +19,7 @@ use Rattle.node_kit.specs.declared.outbox.Out.{Out}
 use Rattle.node_kit.specs.Steps.{Deed, Input, stamp_of, entry_of}
 use Rattle.node_kit.specs.Steps.Input.{Take, Tick}
 use Rattle.cub_rules.specs.declared.store.Store.{Store}
-use Rattle.run_facts.specs.Events.{NodeEvent, Past, kept_outs, outs_of}
+use Rattle.run_facts.specs.Events.{NodeEvent, Past, kept_outs, outs_of, stamp_at}
 use Rattle.run_facts.specs.Events.NodeEvent.{Does, Dies}
 use Rattle.run_facts.specs.Histories.{History, outs, past, last_of}
 use Rattle.run_facts.specs.Order.{Noted, beat_of, order_of}
@@ -46,8 +46,8 @@ use Rattle.schedule_laws.proofs.Carrying.{lived, formed, heard, run_laws, never_
 use Rattle.schedule_laws.proofs.Rings.{have_one_schedule}
 use Rattle.schedule_moments.specs.Calm.{AreCalmJournals, CalmPutsAreFair}
 use Rattle.schedule_moments.proofs.Ones.{IsOne, none_one, one_append, one_map, one_length, one_split}
-use Rattle.schedule_moments.proofs.Ordered.{order_where, rising_order, rising_before, one_order, numbered_below}
-use Rattle.schedule_moments.proofs.Written.{WrittenAt, event_wrote, one_event_more, written_at, stamp_same}
+use Rattle.schedule_moments.proofs.Ordered.{note_of, order_where, rising_order, rising_before, one_order, numbered_below, in_order}
+use Rattle.schedule_moments.proofs.Written.{WrittenAt, event_wrote, one_event_more, written_at, act_written, stamp_same}
 use Rattle.schedule_moments.proofs.Singles.{puts, put_found, deed_single}
 use Rattle.schedule_moments.proofs.Holders.{holder_put}
 
@@ -186,6 +186,21 @@ module _ {S : Type 0} (step : S → Input Msg → Deed Msg S) (p : Params) (plan
       let j = journal_is x.node s.journal s.at in
       let w = written_at step h x.node (h.count x.node) x.entry (subst (λ (es : List Entry). In x.entry es) j.1 s.there) in
       (w.at, event_put x.node (h.count x.node) x.entry t j.0 (omega arith) w is)
+
+  -- and a cub's Put has an entry in the order, where its beat is one of the order's
+  pub put_logged : (beats d x : ℕ) (t : Tenancy) → DidAt p (lives_of h) d (put_out t) x → x < beats
+      → (y : Noted) × In y (order_of beats journals) × (y.entry.what ≡ what.Put t) × (beat_of y ≡ x) × (y.node ≡ d)
+  put_logged beats d x t did early =
+      let wide = are.history.all_cubs in
+      let ds = did.small in
+      let stamp : Stamp = stamp_at (h.event d did.at) in
+      let e : Entry = record { stamp = stamp; what = what.Put t } in
+      let out = subst (λ (os : List (Out Msg)). In (put_out t) os) (sym (are.history.cubs d did.at ds did.done)) did.did in
+      let there : In e (past noted step h d (h.count d)).journal = act_written step h d did.at (what.Put t) did.done out in
+      let is_beat : stamp.beat ≡ x = ap (λ (s : Stamp). s.beat) (stamp_same (h.event d did.at)) ∙ did.in_beat in
+      let zero_low : 0 ≤ stamp.beat = omega arith in
+      let high : stamp.beat < 0 + beats = omega arith in
+      (note_of d e, in_order 0 beats journals d (past noted step h d (h.count d)).journal e (are.writes d (omega arith)) there zero_low high, refl, is_beat, refl)
 
   -- at most one entry of the order puts an instance
   log_one : (v beats : ℕ) → IsOne (λ (x : Noted). is_put_of v x.entry.what) (order_of beats journals)

@@ -1,9 +1,9 @@
 mod Ones
-mod Ordered
-mod Written
+pub mod Ordered
+pub mod Written
 mod Singles
-mod Holders
+pub mod Holders
 pub mod Fair
 mod Plain
-mod Beliefs
+pub mod Beliefs
 pub mod Passing

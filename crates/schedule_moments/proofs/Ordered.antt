@@ -55,7 +55,15 @@ order_where b (suc k) js x i = ⊎_elim
     (λ q. let r = order_where (b + 1) k js x q in let low = r.0 in (omega arith, r.1))
     (in_cases x (in_beat b 0 js) (order_from (b + 1) k js) i)
 
-all_from : {X : Type 0} (P : X → Type 0) (xs : List X) → ((x : X) → In x xs → P x) → AllByRecursion P xs
+-- and each is of one of the order's beats
+pub order_below : (b k : ℕ) (js : List (List Entry)) (x : Noted) → In x (order_from b k js) → beat_of x < b + k
+order_below b zero js x i = absurd i
+order_below b (suc k) js x i = ⊎_elim
+    (λ q. let same = (in_beat_where b 0 js x q).0 in omega arith)
+    (λ q. let l = order_below (b + 1) k js x q in omega arith)
+    (in_cases x (in_beat b 0 js) (order_from (b + 1) k js) i)
+
+pub all_from : {X : Type 0} (P : X → Type 0) (xs : List X) → ((x : X) → In x xs → P x) → AllByRecursion P xs
 all_from P [] h = tt
 all_from P (x ∷ xs) h = (h x (inl refl), all_from P xs (λ y i. h y (inr i)))
 

@@ -21,12 +21,10 @@ use Rattle.node_kit.specs.declared.course.OrderKind.TheVariants as kind
 use Rattle.node_kit.specs.declared.journal.What.{What}
 use Rattle.node_kit.specs.declared.journal.What.TheVariants as what
 use Rattle.node_kit.specs.declared.journal.Entry.{Entry}
-use Rattle.node_kit.specs.declared.outbox.Out.{Out}
 use Rattle.node_kit.specs.Steps.{Deed, Input, stamp_of}
 use Rattle.node_kit.specs.Steps.Input.{Take}
 use Rattle.cub_laws.proofs.Numbers.{visit_own}
 use Rattle.run_facts.specs.Commanded.{is_gone}
-use Rattle.run_facts.specs.Events.{stamp_at}
 use Rattle.run_facts.specs.Histories.{History, past}
 use Rattle.run_facts.specs.Order.{Noted, beat_of, journal_of, order_of}
 use Rattle.run_facts.proofs.Orders.{Rising}
@@ -43,8 +41,8 @@ use Rattle.schedule_laws.proofs.Members.{in_filter, from_map, from_filter}
 use Rattle.schedule_laws.proofs.Inserting.{put_out}
 use Rattle.schedule_laws.proofs.Carrying.{lived}
 use Rattle.schedule_moments.specs.Calm.{AreCalmJournals, StopNothing, CalmStartsAreNotPassedOver}
-use Rattle.schedule_moments.proofs.Ordered.{note_of, order_where, rising_order, rising_filter, in_order}
-use Rattle.schedule_moments.proofs.Written.{event_wrote, event_took, written_at, act_written, stamp_same}
+use Rattle.schedule_moments.proofs.Ordered.{order_where, rising_order, rising_filter}
+use Rattle.schedule_moments.proofs.Written.{event_wrote, event_took, written_at}
 use Rattle.schedule_moments.proofs.Holders.{holder_since}
 use Rattle.schedule_moments.proofs.Beliefs as beliefs
 use Rattle.schedule_moments.proofs.Fair as fair
@@ -54,7 +52,7 @@ any_by : {X : Type 0} (P : X → Type 0) (xs : List X) → AnyByRecursion P xs �
 any_by P [] h = absurd h
 any_by P (x ∷ xs) h = ⊎_elim (λ q. (x, inl refl, q)) (λ k. let r = any_by P xs k in (r.0, inr r.1, r.2)) h
 
-any_found : {X : Type 0} (test : X → Bool) (xs : List X) → list_any test xs ≡ true → (x : X) × In x xs × (test x ≡ true)
+pub any_found : {X : Type 0} (test : X → Bool) (xs : List X) → list_any test xs ≡ true → (x : X) × In x xs × (test x ≡ true)
 any_found test [] e = absurd (cc)
 any_found {X} test (x ∷ xs) e = ⊎_elim
     (λ (t : test x ≡ true). (x, inl refl, t))
@@ -107,6 +105,16 @@ belief_is : (d : ℕ) (w : What) → is_belief_of d w ≡ true → (cub : CubNo)
 belief_is d (what.Believed cub) e = (cub, refl)
 belief_is d other e = absurd (cc)
 
+-- where no journal says that an instance was stopped, no entry of the order does
+pub nothing_gone : (journals : List (List Entry)) → StopNothing journals → (beats : ℕ) (x : Noted) → In x (order_of beats journals) → is_gone x.entry.what ≡ false
+nothing_gone journals unstopped beats x i =
+    let s = (order_where 0 beats journals x i).1 in
+    let none = unstopped x.node s.journal s.at in
+    ⊎_elim
+    (λ (t : is_gone x.entry.what ≡ true). absurd (true≢false (sym (any_true (λ (e : Entry). is_gone e.what) s.journal x.entry s.there t) ∙ none)))
+    (λ (f : is_gone x.entry.what ≡ false). f)
+    (cases_Bool (is_gone x.entry.what))
+
 module _ {S : Type 0} (step : S → Input Msg → Deed Msg S) (p : Params) (plan : IsPlan p) (nodes : ℕ) (h : History Msg S) (orders : List Order)
     (journals : List (List Entry)) (are : AreCalmJournals step p nodes h orders journals) (unstopped : StopNothing journals)
     (beats c beat reading : ℕ) (known : beat < beats) (ticked : TickedAt p (lives_of h) c beat reading) where
@@ -149,13 +157,7 @@ module _ {S : Type 0} (step : S → Input Msg → Deed Msg S) (p : Params) (plan
 
   -- nothing is stopped
   none_gone : (x : Noted) → In x front → is_gone x.entry.what ≡ false
-  none_gone x i =
-      let s = (order_where 0 beats journals x (from_filter (is_up_to beat c) x log i).0).1 in
-      let none = unstopped x.node s.journal s.at in
-      ⊎_elim
-      (λ (t : is_gone x.entry.what ≡ true). absurd (true≢false (sym (any_true (λ (e : Entry). is_gone e.what) s.journal x.entry s.there t) ∙ none)))
-      (λ (f : is_gone x.entry.what ≡ false). f)
-      (cases_Bool (is_gone x.entry.what))
+  none_gone x i = nothing_gone journals unstopped beats x (from_filter (is_up_to beat c) x log i).0
 
   -- a start that the journal says was got came in a message, and is the one that was ordered
   got_start : (ask : Ask) (e : Entry) → IsOrdered orders ask → In e (journal_of c front) → IsStartOf ask.instance.0 false e.what
@@ -186,23 +188,16 @@ module _ {S : Type 0} (step : S → Input Msg → Deed Msg S) (p : Params) (plan
   -- a cub's Put has an entry, in the front where it comes early enough
   put_there : (d x : ℕ) (t : Tenancy) → DidAt p (lives_of h) d (put_out t) x → (x < beat) ⊎ ((x ≡ beat) × (d ≤ c)) → (y : Noted) × In y front × (y.entry.what ≡ what.Put t) × (beat_of y ≡ x)
   put_there d x t did early =
-      let wide = are.history.all_cubs in
-      let ds = did.small in
-      let stamp : Stamp = stamp_at (h.event d did.at) in
-      let e : Entry = record { stamp = stamp; what = what.Put t } in
-      let out = subst (λ (os : List (Out Msg)). In (put_out t) os) (sym (are.history.cubs d did.at ds did.done)) did.did in
-      let there : In e (past noted step h d (h.count d)).journal = act_written step h d did.at (what.Put t) did.done out in
-      let is_beat : stamp.beat ≡ x = ap (λ (s : Stamp). s.beat) (stamp_same (h.event d did.at)) ∙ did.in_beat in
-      let low : stamp.beat < beats = ⊎_elim (λ l. let z : stamp.beat < beats = omega arith in z) (λ q. let q0 = q.0 in let z : stamp.beat < beats = omega arith in z) early in
-      let zero_low : 0 ≤ stamp.beat = omega arith in
-      let high : stamp.beat < 0 + beats = omega arith in
-      let y : Noted = note_of d e in
-      let in_log : In y log = in_order 0 beats journals d (past noted step h d (h.count d)).journal e (are.writes d (omega arith)) there zero_low high in
+      let low : x < beats = ⊎_elim (λ l. let z : x < beats = omega arith in z) (λ q. let q0 = q.0 in let z : x < beats = omega arith in z) early in
+      let r = fair.put_logged step p plan nodes h orders journals are beats d x t did low in
+      let y : Noted = r.0 in
+      let y_beat = r.3 in
+      let y_node = r.4 in
       let up : is_up_to beat c y ≡ true = up_to_by beat c y (⊎_elim
-      (λ l. let z : stamp.beat < beat = omega arith in inl z)
-      (λ q. let q0 = q.0 in let z : stamp.beat ≡ beat = omega arith in inr (z, q.1))
+      (λ l. let z : beat_of y < beat = omega arith in inl z)
+      (λ q. let q0 = q.0 in let q1 = q.1 in let z : beat_of y ≡ beat = omega arith in let n : y.node ≤ c = omega arith in inr (z, n))
       early) in
-      (y, in_filter (is_up_to beat c) y log in_log up, refl, is_beat)
+      (y, in_filter (is_up_to beat c) y log r.1 up, r.2, y_beat)
 
   -- the window in which a Put's first visit stands
   record Opening (x : ℕ) (t : Tenancy) : Type 0 where

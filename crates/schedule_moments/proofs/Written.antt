@@ -23,7 +23,7 @@ use Rattle.schedule_laws.specs.Histories.{input_of}
 use Rattle.schedule_laws.proofs.Members.{in_left, in_right, in_cases, in_map, from_map, all_in}
 
 -- an output that is written as an entry of the node's own is that entry
-acted : (o : Out Msg) (w : What) → IsOwnEntry w → what_of noted o ≡ w → o ≡ out.Act w
+pub acted : (o : Out Msg) (w : What) → IsOwnEntry w → what_of noted o ≡ w → o ≡ out.Act w
 acted (out.Send link m) w own q = absurd (subst IsOwnEntry (sym q) own)
 acted (out.Act v) w own q = ap (λ (x : What). out.Act x) q
 

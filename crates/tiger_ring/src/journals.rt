@@ -7,7 +7,7 @@ ghost use Rattle.node_kit.specs.Life.{lifetime_of};
 ghost use Rattle.run_facts.specs.Carried.{AreCarried};
 ghost use Rattle.run_facts.specs.Paced.{ArePaced};
 ghost use Rattle.run_facts.specs.Timed.{AreTimed};
-ghost use Rattle.tiger_ring.specs.Steps.{HasRun, FollowOrders};
+ghost use Rattle.ring_facts.specs.Steps.{HasRun, FollowOrders};
 
 use node_kit::{Course, Gate, Journal, LinkTable, Order};
 use ring_engine::run_plain;

@@ -1,15 +1,17 @@
 //! Runs of small scenarios: which visits were served, the schedule before and after, and what changed journals tell.
 ghost use Rattle.std.specs.Prelude.{◌≡◌, ◌≤◌, length, All, IfOk};
+ghost use Rattle.ring_schedule.specs.Scenarios.{HasOneSchedule};
 
 use crate::run_ring;
 use node_kit::{Entry, Journal, Kept, OpenGate, What};
+use ring_schedule::is_calm;
 use run_model::{carried, delivered, excused, schedule_at, timed};
 use scenario_read::read_scenario;
 use std::alloc::{AllocError, Global};
 use std::fmt::Write;
 use std::test::Fail;
 use tiger_base::{
-    Instance, Library, Micros, NoMemory, Note, Sequence, Span, Stamp, Tenancy, Visit,
+    Beat, Instance, Library, Micros, NoMemory, Note, Sequence, Span, Stamp, Tenancy, Visit,
 };
 
 /// How every scenario begins.
@@ -296,5 +298,89 @@ fn changed_journals_tell_it(rt: HostRuntime) -> Result<(), Fail> {
     assert_eq!(rt; span.as_str(), ".... timed [][0 in 1 0-2;]");
     let beat = of_changed(alloc, Change::Beat)?;
     assert_eq!(rt; beat.as_str(), ".... timed [][0 in 1 0-2;]");
+    Ok(())
+}
+
+/// 64 bytes.
+fn sixteen_blocks(alloc: Global) -> Result<Vec<u8>, NoMemory>
+    ensures { IfOk result (λ v. length v.items ≡ 64) }
+{
+    Ok(vec![in alloc; b'a'; 64]?)
+}
+
+/// Seventeen starts in the first beat, in a run of so many beats.
+fn seventeen(alloc: Global, beats: Beat) -> Result<String, AllocError> {
+    let mut text = String::new(alloc);
+    write!(text, "\"beats\":{beats},\"events\":[")?;
+    for _ in 0..16 {
+        text.push_str("{\"beat\":0,\"start\":0},")?;
+    }
+    text.push_str("{\"beat\":0,\"start\":0}]")?;
+    Ok(text)
+}
+
+/// The run of a scenario that is found to have no stops and no deaths: there is one schedule.
+fn calm_run_of(
+    alloc: Global,
+    files: &str,
+    rest: &str,
+    library: &Library,
+    count: usize,
+) -> Result<Kept, Fail>
+    requires count { length library.now ≡ count }
+    requires filled { All (λ bytes. 1 ≤ length bytes) library.now }
+    requires short { All (λ bytes. length bytes ≤ 16777216) library.now }
+    ensures one_schedule { IfOk result HasOneSchedule }
+{
+    let text = format!(in alloc; "{PLAN}{files}{rest}}}")?;
+    let scenario = read_scenario(alloc, text.as_bytes())?;
+    if scenario.files.len() != count {
+        return Err(Fail::new("another number of files"));
+    }
+    if !is_calm(&scenario) {
+        return Err(Fail::new("a stop or a death"));
+    }
+    Ok(run_ring(alloc, scenario, library, &OpenGate)?)
+}
+
+/// What was put, in the order of the journals.
+fn puts(alloc: Global, k: &Kept) -> Result<String, NoMemory> {
+    let mut text = String::new(alloc);
+    for journal in k.journals.as_slice() {
+        for e in journal.as_slice() {
+            if let What::Put(t) = e.what {
+                write!(
+                    text,
+                    "{} in {} {}-{}",
+                    t.instance.0, t.slot.0, t.first, t.last
+                )?;
+                text.push_str(";")?;
+            }
+        }
+    }
+    Ok(text)
+}
+
+/// What was put in so many beats for seventeen starts of a file of sixteen blocks, in a run that has one schedule.
+fn put_of_seventeen(alloc: Global, beats: Beat) -> Result<String, Fail> {
+    let library = one(alloc, sixteen_blocks(alloc)?)?;
+    let rest = seventeen(alloc, beats)?;
+    let k = calm_run_of(alloc, TEN, rest.as_str(), &library, 1)?;
+    Ok(puts(alloc, &k)?)
+}
+
+#[test]
+fn the_seventeenth_start_waits_until_a_slot_is_free(rt: HostRuntime) -> Result<(), Fail> {
+    let alloc = rt.alloc();
+    let before = put_of_seventeen(alloc, 1500)?;
+    assert_eq!(rt;
+        before.as_str(),
+        "0 in 1 0-15;1 in 2 0-15;2 in 3 0-15;3 in 4 0-15;4 in 5 0-15;5 in 6 0-15;6 in 7 0-15;7 in 8 0-15;8 in 9 0-15;9 in 10 0-15;10 in 11 0-15;11 in 12 0-15;12 in 13 0-15;13 in 14 0-15;14 in 15 0-15;15 in 0 8-23;"
+    );
+    let behind = put_of_seventeen(alloc, 1700)?;
+    assert_eq!(rt;
+        behind.as_str(),
+        "0 in 1 0-15;1 in 2 0-15;2 in 3 0-15;3 in 4 0-15;4 in 5 0-15;5 in 6 0-15;6 in 7 0-15;7 in 8 0-15;8 in 9 0-15;9 in 10 0-15;10 in 11 0-15;11 in 12 0-15;12 in 13 0-15;13 in 14 0-15;14 in 15 0-15;15 in 0 8-23;16 in 1 16-31;"
+    );
     Ok(())
 }

@@ -1,5 +1,5 @@
--- How many orders a run has, that it has one schedule, and which text is written of it.
-use Rattle.std.proofs.Common.{◌≡◌, ℕ, suc, ◌+◌, ◌≤◌, List, [], ◌∷◌, length, Option, refl, sym, ap, subst, arith}
+-- How many orders a run has, and which text is written of it.
+use Rattle.std.proofs.Common.{◌≡◌, ℕ, suc, ◌+◌, ◌≤◌, List, [], ◌∷◌, length, Option, Some, refl, sym, ap, subst, arith}
 use Rattle.stripe_layout.specs.declared.catalogue.Catalogue.{Catalogue}
 use Rattle.node_kit.specs.declared.course.Kept.{Kept}
 use Rattle.scenario_read.specs.declared.scenario.ScEvent.{ScEvent}
@@ -7,15 +7,14 @@ use Rattle.scenario_read.specs.declared.scenario.ScEvent.TheVariants as event
 use Rattle.scenario_read.specs.declared.scenario.Scenario.{Scenario}
 use Rattle.scenario_read.specs.Orders.{orders_from}
 use Rattle.scenario_read.specs.Sound.{IsScenario}
-use Rattle.tiger_ring.specs.Rings.{IsRingRun}
-use Rattle.ring_schedule.specs.Scenarios.{IsCalmScenario, AreShort}
-use Rattle.ring_schedule.proofs.Scenarios.{calm_runs_put_fairly, calm_runs_pass_nobody_over}
+use Rattle.ring_facts.specs.Rings.{IsRingRun}
 use Rattle.outside.specs.Told.{Told, Counts}
+use Rattle.outside.specs.Written.{Appended, FrontAppended}
 use Rattle.tiger_run.specs.declared.status.Status.TheVariants as statuses
 use Rattle.run_report.specs.Text.{report_text, summary_text}
 use Rattle.tiger_run.specs.declared.status.Status.{Status}
 use Rattle.tiger_run.specs.Words.{IsRun, IsMake, IsNoCommand}
-use Rattle.tiger_run.specs.Ending.{text_for, EndsSink, EndsInputs, HasOneSchedule}
+use Rattle.tiger_run.specs.Ending.{text_for, Wrote, EndsSink, EndsInputs}
 
 -- as many orders as events
 pub length-orders_from : (c : Catalogue) (n : ℕ) (events : List ScEvent) → length (orders_from c n events) ≡ length events
@@ -26,14 +25,6 @@ length-orders_from c n (event.Finish beat instance ∷ events) = ap suc (length-
 -- a run has as many orders as its scenario has events
 pub few_orders : (G : Type 0) (s : Scenario) (library : List (List ℕ)) (k : Kept) → IsScenario s → IsRingRun G s library k → length k.orders ≤ 4000
 few_orders G s library k sound ran = omega (arith, sound.events.few, ap length ran.orders, length-orders_from k.catalogue 0 s.events)
-
--- the run of a scenario without stops and deaths has one schedule
-pub has_one_schedule : (G : Type 0) (s : Scenario) (library : List (List ℕ)) (k : Kept) → IsScenario s → IsCalmScenario s → AreShort library → IsRingRun G s library k
-    → HasOneSchedule k
-has_one_schedule G s library k sound calm short ran = record {
-  fair = calm_runs_put_fairly G s library k sound calm short ran;
-  patient = calm_runs_pass_nobody_over G s library k sound calm short ran;
-}
 
 -- words that name a scenario are not refused
 pub words-run : (words : List (List ℕ)) (name : List ℕ) (workers : ℕ) (told : List ℕ → Told) (old new : Counts) (status : Status)
@@ -57,3 +48,15 @@ pub EndsSink-make : (words : List (List ℕ)) (number : ℕ) (old new : Option (
     → IsMake words number → EndsSink old new before after summary_text kept status → EndsSink old new before after (text_for words) kept status
 EndsSink-make words number old new before after kept status make ends =
     subst (λ (text : Kept → List ℕ). EndsSink old new before after text kept status) (sym (text_for-make words number make)) ends
+
+-- the text of what is kept was written, or why it was not
+pub EndsSink-wrote : (old new : Option (List ℕ)) (before after : ℕ) (text : Kept → List ℕ) (k : Kept) (given : List ℕ) (status : Status)
+    → given ≡ text k → Wrote old new before after given status → EndsSink old new before after text (Some k) status
+EndsSink-wrote old new before after text k given statuses.Done e wrote = subst (λ t. Appended old new t) e wrote
+EndsSink-wrote old new before after text k given statuses.WriteFault e wrote = (wrote.0, subst (λ t. FrontAppended old new t) e wrote.1)
+EndsSink-wrote old new before after text k given statuses.NoMemory e wrote = subst (λ t. FrontAppended old new t) e wrote
+EndsSink-wrote old new before after text k given statuses.Words e wrote = absurd wrote
+EndsSink-wrote old new before after text k given (statuses.Absent file) e wrote = absurd wrote
+EndsSink-wrote old new before after text k given (statuses.ReadFault file) e wrote = absurd wrote
+EndsSink-wrote old new before after text k given (statuses.Scenario fault) e wrote = absurd wrote
+EndsSink-wrote old new before after text k given (statuses.TooLong file had most) e wrote = absurd wrote

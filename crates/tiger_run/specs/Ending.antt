@@ -6,14 +6,12 @@ use Rattle.outside.specs.Written.{Appended, FrontAppended}
 use Rattle.outside.specs.declared.sink.SinkFault.{SinkFault}
 use Rattle.outside.specs.declared.sink.SinkFault.TheVariants as faults
 use Rattle.node_kit.specs.declared.course.Kept.{Kept}
-use Rattle.run_model.specs.Orders.{PutsAreFair}
-use Rattle.run_model.specs.Runs.{order_in, NoneIsPassedOver}
 use Rattle.scenario_read.specs.declared.scenario.Scenario.{Scenario}
 use Rattle.scenario_read.specs.Meaning.{said_by}
 use Rattle.scenario_make.specs.Made.{made_scenario, made_library}
 use Rattle.run_report.specs.Text.{report_text, summary_text}
-use Rattle.ring_schedule.specs.Scenarios.{IsCalmScenario}
-use Rattle.tiger_ring.specs.Rings.{IsRingRun}
+use Rattle.ring_schedule.specs.Scenarios.{IsCalmScenario, HasOneSchedule}
+use Rattle.ring_facts.specs.Rings.{IsRingRun}
 use Rattle.tiger_run.specs.declared.inputs.Inputs.{Inputs}
 use Rattle.tiger_run.specs.declared.status.Status.{Status}
 use Rattle.tiger_run.specs.declared.status.Status.TheVariants as statuses
@@ -21,12 +19,6 @@ use Rattle.tiger_run.specs.Words.{IsRun, IsMake}
 use Rattle.tiger_run.specs.Inputs.{InputsCause, AreInputs}
 
 -- ---- what is kept
-
--- In the order of all entries each Put finds its slot free from its first visit on, at the moment before it, and is rightly
--- put; and at the end of each tick of a cub no start is passed over.
-pub record HasOneSchedule (k : Kept) : Type 0 where
-  pub fair : PutsAreFair k.course.plan.params k.orders (order_in k)
-  pub patient : NoneIsPassedOver k
 
 -- the scenario of this name was read, and then its files, and the ring ran for them; where the scenario has no stops and no
 -- deaths there is one schedule

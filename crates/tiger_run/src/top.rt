@@ -3,7 +3,7 @@ ghost use Rattle.std.specs.Prelude.{length, ◌≡◌, ◌^◌, ◌-◌, ◌<◌
 ghost use Rattle.outside.specs.Written.{Appended};
 ghost use Rattle.run_report.specs.Text.{report_text, summary_text};
 ghost use Rattle.scenario_read.specs.Sound.{IsScenario};
-ghost use Rattle.tiger_ring.specs.Rings.{IsRingRun};
+ghost use Rattle.ring_facts.specs.Rings.{IsRingRun};
 ghost use Rattle.tiger_run.specs.Words.{IsRun, IsMake, IsNoCommand, texts_of};
 ghost use Rattle.tiger_run.specs.Inputs.{InputsCause, most_file};
 ghost use Rattle.tiger_run.specs.Runnable.{IsRunnable};

@@ -35,3 +35,6 @@ pub returns : goal.returns
 returns c =
     with_both c.args.site.now.plan.params c.args.site.now.cub.0 _ _ c.new-store.result c.hold.new.self c.remember.new.self c.push.new.self
     (rw c.requires refl) (rw c.requires refl) c.new-store.ensures c.in_ok-remember.ensures.ok c.in_ok-push.ensures.ok
+
+pub push-requires : goal.push-requires
+push-requires c = rw c.requires refl

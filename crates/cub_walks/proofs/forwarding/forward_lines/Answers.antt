@@ -1,3 +1,4 @@
+use Rattle.std.proofs.Common.{refl}
 use Rattle.cub_rules.specs.State.{IsLineOf}
 use Rattle.cub_rules.specs.Ticks.{forward_line}
 use Rattle.partial_view.proofs.Walks.{begun, there, next_key, given_key, on, fewer, ended_view, ended_outs}
@@ -18,16 +19,16 @@ forward_line-requires-clause-key c = next_key c.loop-next.invariant c.in-Some.is
 pub forward_line-requires-clause-there : goal.forward_line-requires-clause-there
 forward_line-requires-clause-there c = there c.loop-next.invariant c.in-Some.is
 
-pub after-next-requires-in-Some : goal.after-next-requires-in-Some
-after-next-requires-in-Some c = given_key c.loop-next.invariant c.in-Some.is c.in_ok-forward_line.ensures.view c.key.ensures
+pub after_near-next-requires : goal.after_near-next-requires
+after_near-next-requires c = given_key c.loop-next.invariant c.in-Some.is c.in_ok-forward_line.ensures.view c.key.ensures c.key.result refl
 
 pub loop-next-smaller : goal.loop-next-smaller
 loop-next-smaller c =
-    fewer c.loop-next.invariant c.in-Some.is c.in_ok-forward_line.ensures.view c.in_ok-forward_line.ensures.outs c.key.ensures c.after-next-in-Some.ensures.next c.after-next-in-Some.ensures.walk
+    fewer c.loop-next.invariant c.in-Some.is c.in_ok-forward_line.ensures.view c.in_ok-forward_line.ensures.outs c.key.ensures c.after_near-next.ensures.next c.after_near-next.ensures.walk
 
 pub loop-next-preserved : goal.loop-next-preserved
 loop-next-preserved c =
-    on c.loop-next.invariant c.in-Some.is c.in_ok-forward_line.ensures.view c.in_ok-forward_line.ensures.outs c.key.ensures c.after-next-in-Some.ensures.next c.after-next-in-Some.ensures.walk
+    on c.loop-next.invariant c.in-Some.is c.in_ok-forward_line.ensures.view c.in_ok-forward_line.ensures.outs c.key.ensures c.after_near-next.ensures.next c.after_near-next.ensures.walk
 
 pub returns-clause-view : goal.returns-clause-view
 returns-clause-view c = one_each (forward_line c.args.site.now.plan.params c.args.stamp) c.args.view.now c.loop-next.view (ended_view c.loop-next.invariant c.in_default.is)

@@ -1,3 +1,4 @@
+use Rattle.std.proofs.Common.{refl}
 use Rattle.cub_rules.specs.State.{IsLineOf}
 use Rattle.cub_rules.specs.Ticks.{ask_line}
 use Rattle.cub_walks.proofs.Asked.{ask_keeps, ask_rests}
@@ -19,17 +20,17 @@ read_block-requires-clause-key c = next_key c.loop-next.invariant.walk (ahead_is
 pub read_block-requires-clause-there : goal.read_block-requires-clause-there
 read_block-requires-clause-there c = there c.loop-next.invariant.walk (ahead_is c.loop-next.invariant c.in-Some.is)
 
-pub after_by-next-requires-in-Some-clause-key : goal.after_by-next-requires-in-Some-clause-key
-after_by-next-requires-in-Some-clause-key c =
-    given_key c.loop-next.invariant.walk (ahead_is c.loop-next.invariant c.in-Some.is) c.in_ok-read_block.ensures.view c.key.ensures
+pub after_near_by-next-requires-clause-key : goal.after_near_by-next-requires-clause-key
+after_near_by-next-requires-clause-key c =
+    given_key c.loop-next.invariant.walk (ahead_is c.loop-next.invariant c.in-Some.is) c.in_ok-read_block.ensures.view c.key.ensures c.key.result refl
 
 pub loop-next-smaller : goal.loop-next-smaller
 loop-next-smaller c =
-    fewer_to c.loop-next.invariant c.in-Some.is c.in_ok-read_block.ensures.view c.in_ok-read_block.ensures.outs c.key.ensures c.after_by-next-in-Some.ensures.next c.after_by-next-in-Some.ensures.walk
+    fewer_to c.loop-next.invariant c.in-Some.is c.in_ok-read_block.ensures.view c.in_ok-read_block.ensures.outs c.key.ensures c.after_near_by-next.ensures.next c.after_near_by-next.ensures.walk
 
 pub loop-next-preserved : goal.loop-next-preserved
 loop-next-preserved c =
-    on_to c.loop-next.invariant c.in-Some.is c.in_ok-read_block.ensures.view c.in_ok-read_block.ensures.outs c.key.ensures c.after_by-next-in-Some.ensures.next c.after_by-next-in-Some.ensures.walk
+    on_to c.loop-next.invariant c.in-Some.is c.in_ok-read_block.ensures.view c.in_ok-read_block.ensures.outs c.key.ensures c.after_near_by-next.ensures.next c.after_near_by-next.ensures.walk
 
 pub returns-clause-view : goal.returns-clause-view
 returns-clause-view c =

@@ -1,4 +1,4 @@
-use Rattle.std.proofs.Common.{◌∙◌}
+use Rattle.std.proofs.Common.{refl, ◌∙◌}
 use Rattle.partial_view.proofs.Walks.{there, next_key, given_key}
 use Rattle.cub_rules.specs.State.{IsLineOf}
 use Rattle.cub_walks.proofs.Steps.{of_next}
@@ -28,16 +28,17 @@ split_line-requires-clause-key c = next_key c.loop-next.invariant.walk c.in-Some
 pub split_line-requires-clause-there : goal.split_line-requires-clause-there
 split_line-requires-clause-there c = there c.loop-next.invariant.walk c.in-Some.is
 
-pub after-next-requires-in-Some : goal.after-next-requires-in-Some
-after-next-requires-in-Some c = given_key c.loop-next.invariant.walk c.in-Some.is (split_view c.loop-next.invariant c.in-Some.line c.in_ok-split_line.ensures.store) c.key.ensures
+pub after_near-next-requires : goal.after_near-next-requires
+after_near-next-requires c =
+    given_key c.loop-next.invariant.walk c.in-Some.is (split_view c.loop-next.invariant c.in-Some.line c.in_ok-split_line.ensures.store) c.key.ensures c.key.result refl
 
 pub loop-next-smaller : goal.loop-next-smaller
 loop-next-smaller c =
-    split_fewer c.loop-next.invariant c.in-Some.line c.in_ok-split_line.ensures.store c.in-Some.is c.key.ensures c.after-next-in-Some.ensures.next c.after-next-in-Some.ensures.walk
+    split_fewer c.loop-next.invariant c.in-Some.line c.in_ok-split_line.ensures.store c.in-Some.is c.key.ensures c.after_near-next.ensures.next c.after_near-next.ensures.walk
 
 pub loop-next-preserved : goal.loop-next-preserved
 loop-next-preserved c =
-    split_on c.loop-next.invariant c.in-Some.line c.in_ok-split_line.ensures.store c.in-Some.is c.key.ensures c.after-next-in-Some.ensures.next c.after-next-in-Some.ensures.walk c.in_ok-split_line.ensures.outs
+    split_on c.loop-next.invariant c.in-Some.line c.in_ok-split_line.ensures.store c.in-Some.is c.key.ensures c.after_near-next.ensures.next c.after_near-next.ensures.walk c.in_ok-split_line.ensures.outs
 
 pub returns-clause-store : goal.returns-clause-store
 returns-clause-store c = split_store c.loop-next.invariant c.in_default.is

@@ -4,9 +4,9 @@ use Rattle.partial_view.proofs.view.first_not_before.Given as goal
 
 abbrev pub invariant-loop-low : goal.invariant-loop-low
 invariant-loop-low l = record {
-  above : l.low ≤ place_of l.plan.params l.key l.lines;
-  below : place_of l.plan.params l.key l.lines ≤ l.high;
-  inside : l.high ≤ length l.lines;
+  above : l.low ≤ place_of l.plan.params l.key l.lines.items;
+  below : place_of l.plan.params l.key l.lines.items ≤ l.high;
+  inside : l.high ≤ length l.lines.items;
 }
 
 abbrev pub decreases-loop-low : goal.decreases-loop-low

@@ -1,14 +1,16 @@
+use Rattle.std.proofs.Common.{◌∙◌, ap, arith}
+use Rattle.partial_view.specs.Lines.{key_of}
 use Rattle.partial_view.proofs.Places.{found_by, gap_by, gap_past}
 use Rattle.partial_view.proofs.view.place_of.Goals as goal
-use Rattle.partial_view.proofs.view.place_of.Goals.{else-place-lines-via-then-place-lines+else-eq, else-place-lines-via-else-place-lines}
+use Rattle.partial_view.proofs.view.place_of.Goals.{else-place-len-via-then-place-len+else-eq, else-place-len-via-else-place-len}
 
 pub returns-then-eq : goal.returns-then-eq
 returns-then-eq c =
-    found_by c.args.plan.now.params c.args.key c.args.lines.now _ c.requires.walk c.first_not_before-place.ensures _ c.key.result c.key.ensures c.eq.ensures c.if-eq.true c.if-place-lines.true
+    found_by c.args.plan.now.params c.args.key c.args.lines.now.items _ c.requires.walk c.first_not_before-place.ensures _ c.key.result (c.key.ensures ∙ ap key_of c.index.ensures) c.eq.ensures c.if-eq.true (omega arith)
 
-pub returns-else-place-lines : goal.returns-else-place-lines
-returns-else-place-lines c =
-    elim c.else-place-lines.branch [
-      | else-place-lines-via-then-place-lines+else-eq w ↦ gap_by c.args.plan.now.params c.args.key c.args.lines.now _ c.requires.walk c.first_not_before-place.ensures _ w.key.result w.key.ensures w.eq.ensures w.if-eq.false
-      | else-place-lines-via-else-place-lines w ↦ gap_past c.args.plan.now.params c.args.key c.args.lines.now _ c.requires.walk c.first_not_before-place.ensures w.if-place-lines.false
+pub returns-else-place-len : goal.returns-else-place-len
+returns-else-place-len c =
+    elim c.else-place-len.branch [
+      | else-place-len-via-then-place-len+else-eq w ↦ gap_by c.args.plan.now.params c.args.key c.args.lines.now.items _ c.requires.walk c.first_not_before-place.ensures _ w.key.result (w.key.ensures ∙ ap key_of w.index.ensures) w.eq.ensures w.if-eq.false
+      | else-place-len-via-else-place-len w ↦ gap_past c.args.plan.now.params c.args.key c.args.lines.now.items _ c.requires.walk c.first_not_before-place.ensures (omega (arith, w.if-place-len.false, c.len.ensures, c.args.lines.now.ok.0))
     ]

@@ -4,7 +4,7 @@ use Rattle.slot_plan.specs.Times.{disk_count}
 use Rattle.node_kit.specs.Links.{links_of, controller_of}
 use Rattle.ring_nodes.specs.AllNodes.{image_at, images_of}
 use Rattle.ring_nodes.proofs.Numbered.{length-numbered}
-use Rattle.tiger_ring.specs.Steps.{ring_of}
+use Rattle.ring_facts.specs.Steps.{ring_of}
 use Rattle.tiger_ring.proofs.Following.{follow-whole, controller-opens}
 use Rattle.tiger_ring.proofs.journals.journals_of.Goals as goal
 

@@ -1,4 +1,6 @@
-use Rattle.tiger_run.proofs.Endings.{few_orders, has_one_schedule}
+use Rattle.std.proofs.Common.{◌∙◌}
+use Rattle.run_report.specs.Text.{report_text}
+use Rattle.tiger_run.proofs.Endings.{few_orders, EndsSink-wrote}
 use Rattle.tiger_run.proofs.top.run_named.Goals as goal
 
 pub report-requires-clause-orders : goal.report-requires-clause-orders
@@ -9,5 +11,9 @@ returns-clause-ran g c = record {
   inputs = c.in-Ok.inputs;
   read = c.in-Ok.ensures.read;
   ran = c.in-Ok-run_ring.ensures.ran;
-  one_schedule = λ calm. has_one_schedule g.row.G.Denot c.in-Ok.inputs.scenario c.in-Ok.inputs.library c.in-Ok-run_ring.kept c.in-Ok.ensures.sound calm c.in-Ok.ensures.short c.in-Ok-run_ring.ensures.ran;
+  one_schedule = c.in-Ok-run_ring.ensures.one_schedule;
 }
+
+pub returns-clause-sink : goal.returns-clause-sink
+returns-clause-sink g c =
+    EndsSink-wrote _ _ _ _ report_text c.in-Ok-run_ring.kept c.as_slice.result.now c.written.result (c.as_slice.ensures.value ∙ c.in-Ok-report.ensures) c.written.ensures

@@ -1,7 +1,7 @@
-use Rattle.cub_view.proofs.Pending.{kept_by, forwarded_without}
+use Rattle.cub_view.proofs.Pending.{kept_by, all_without}
 use Rattle.cub_view.proofs.cub_view.CubView.remove.Goals as goal
 
 pub invariant_of-self : goal.invariant_of-self
 invariant_of-self c =
-    kept_by c.self.inside.plan.params c.self.inside.forwarded_to c.self.inside.view c.remove.new.self _ c.self.invariant.0 c.remove.ensures.left
-    (forwarded_without c.self.inside.plan.params c.self.inside.forwarded_to (c.args.slot, c.args.visit) c.self.inside.view.lines c.self.invariant.1)
+    kept_by c.self.inside.plan.params c.self.inside.forwarded_to c.self.inside.split_from c.self.inside.view c.remove.new.self _ c.self.invariant.0 c.remove.ensures.left
+    (all_without _ (c.args.slot, c.args.visit) c.self.inside.view.lines c.self.invariant.1) (all_without _ (c.args.slot, c.args.visit) c.self.inside.view.lines c.self.invariant.2)

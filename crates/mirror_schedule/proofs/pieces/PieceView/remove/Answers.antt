@@ -1,8 +1,36 @@
-use Rattle.std.proofs.Common.{sym, ◌∙◌}
-use Rattle.mirror_schedule.specs.Pieces.{is_in, is_same}
-use Rattle.mirror_schedule.proofs.PieceLists.{any_counted}
+use Rattle.std.proofs.Common.{◌∙◌, ap, subst, sym, not, List}
+use Rattle.tiger_base.specs.declared.tenancy.PieceState.{PieceState}
+use Rattle.mirror_schedule.specs.Pieces.{Pieces, IsPieces, is_in, is_same}
+use Rattle.mirror_schedule.proofs.PieceLists.{pieces_filter}
+use Rattle.mirror_schedule.proofs.PlaceRemovals.{left_placed, left_whole, found_placed, found_none, seen_without}
 use Rattle.mirror_schedule.proofs.pieces.PieceView.remove.Goals as goal
 
-pub returns-clause-found : goal.returns-clause-found
-unfolding is_in
-returns-clause-found c = any_counted (is_same c.args.piece) c.args.self.now.items c.leave_out.result c.leave_out.ensures.count
+pub invariant_of-self : goal.invariant_of-self
+invariant_of-self c =
+    let p = c.self.inside.plan.params in
+    let items = c.self.inside.items.items in
+    subst (λ (ys : List PieceState). IsPieces p ys)
+    (sym (left_placed p c.args.piece items c.self.invariant c.in-Some.place c.in-Some.ensures c.remove.result c.self.inside.items.len _ c.self.inside.items.ok.0 c.remove.ensures.variant c.remove.ensures.items))
+    (pieces_filter p (λ z. not (is_same c.args.piece z)) items c.self.invariant)
+
+pub returns-in-Some-clause-found : goal.returns-in-Some-clause-found
+returns-in-Some-clause-found c =
+    c.is_some.ensures
+    ∙ found_placed c.args.piece c.self.inside.items.items c.in-Some.place c.in-Some.ensures c.remove.result c.self.inside.items.len c.self.inside.items.ok.0 c.remove.ensures.variant
+    ∙ ap (λ (m : Pieces). is_in c.args.piece m.items) c.self.view_is
+
+pub returns-in-Some-clause-left : goal.returns-in-Some-clause-left
+returns-in-Some-clause-left c =
+    let p = c.self.inside.plan.params in
+    seen_without p c.args.piece c.self.inside.items.items _ c.args.self.now c.self.view_is
+    (left_placed p c.args.piece c.self.inside.items.items c.self.invariant c.in-Some.place c.in-Some.ensures c.remove.result c.self.inside.items.len _ c.self.inside.items.ok.0 c.remove.ensures.variant c.remove.ensures.items)
+
+pub returns-in-None-clause-found : goal.returns-in-None-clause-found
+returns-in-None-clause-found c =
+    found_none c.args.piece c.self.inside.items.items c.in-None.ensures ∙ ap (λ (m : Pieces). is_in c.args.piece m.items) c.self.view_is
+
+pub returns-in-None-clause-left : goal.returns-in-None-clause-left
+returns-in-None-clause-left c =
+    let p = c.self.inside.plan.params in
+    let items = c.self.inside.items.items in
+    sym c.self.view_is ∙ seen_without p c.args.piece items items c.args.self.now c.self.view_is (left_whole p c.args.piece items c.self.invariant c.in-None.ensures)

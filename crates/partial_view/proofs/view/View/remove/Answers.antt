@@ -2,31 +2,31 @@ use Rattle.std.proofs.Common.{◌∙◌, ap, subst, sym, List, Option, option_ma
 use Rattle.partial_view.specs.declared.line.Line.{Line}
 use Rattle.partial_view.specs.Views.{Seen, IsWalk, line_at, without}
 use Rattle.partial_view.proofs.Order.{walk_without}
-use Rattle.partial_view.proofs.Calls.{line-by, line-gap, remove-found, remove-gap, found-along, gap-along, seen-with}
+use Rattle.partial_view.proofs.Calls.{line-by, line-gap, remove-found, left-found, remove-gap, seen-with}
 use Rattle.partial_view.proofs.view.View.remove.Goals as goal
 
-pub invariant_of-self : goal.invariant_of-self
-invariant_of-self c =
+pub invariant_of-self-in-Ok : goal.invariant_of-self-in-Ok
+invariant_of-self-in-Ok c =
     subst (λ (ys : List Line). IsWalk c.self.inside.plan.params ys)
-    (sym (c.remove.ensures.items ∙ remove-found c.self.inside.plan.params (c.args.slot, c.args.visit) c.self.inside.lines.items c.in-Ok.place c.self.invariant (found-along (c.args.slot, c.args.visit) c.in-Ok.place c.deref.ensures.value c.in-Ok.ensures)))
+    (sym (left-found c.self.inside.plan.params (c.args.slot, c.args.visit) c.self.inside.lines.items c.in-Ok.place c.self.invariant c.remove.result c.self.inside.lines.len _ c.self.inside.lines.ok.0 c.remove.ensures.variant c.remove.ensures.items c.in-Ok.ensures))
     (walk_without c.self.inside.plan.params (c.args.slot, c.args.visit) c.self.inside.lines.items c.self.invariant)
 
-pub returns-in-Ok-clause-record : goal.returns-in-Ok-clause-record
-returns-in-Ok-clause-record c =
+pub returns-in_ok-remove-in-Ok-clause-record : goal.returns-in_ok-remove-in-Ok-clause-record
+returns-in_ok-remove-in-Ok-clause-record c =
     ap (λ (o : Option Line). option_map (λ x. x.rec) o)
-    (line-by c.self.inside.plan.params (c.args.slot, c.args.visit) c.self.inside.lines.items c.in-Ok.place c.self.invariant c.remove.result c.remove.ensures.value (found-along (c.args.slot, c.args.visit) c.in-Ok.place c.deref.ensures.value c.in-Ok.ensures) ∙ ap (λ (s : Seen). line_at (c.args.slot, c.args.visit) s.lines) c.self.view_is)
+    (line-by c.self.inside.plan.params (c.args.slot, c.args.visit) c.self.inside.lines.items c.in-Ok.place c.self.invariant c.in_ok-remove-in-Ok.field-0 c.in_ok-remove-in-Ok.ensures.value c.in-Ok.ensures ∙ ap (λ (s : Seen). line_at (c.args.slot, c.args.visit) s.lines) c.self.view_is)
 
-pub returns-in-Ok-clause-left : goal.returns-in-Ok-clause-left
-returns-in-Ok-clause-left c =
+pub returns-in_ok-remove-in-Ok-clause-left : goal.returns-in_ok-remove-in-Ok-clause-left
+returns-in_ok-remove-in-Ok-clause-left c =
     seen-with c.self.inside.plan.params c.self.inside.lines.items _ c.args.self.now (λ p lines. without (c.args.slot, c.args.visit) lines) c.self.view_is
-    (c.remove.ensures.items ∙ remove-found c.self.inside.plan.params (c.args.slot, c.args.visit) c.self.inside.lines.items c.in-Ok.place c.self.invariant (found-along (c.args.slot, c.args.visit) c.in-Ok.place c.deref.ensures.value c.in-Ok.ensures))
+    (c.in_ok-remove-in-Ok.ensures.items ∙ remove-found c.self.inside.plan.params (c.args.slot, c.args.visit) c.self.inside.lines.items c.in-Ok.place c.self.invariant c.in-Ok.ensures)
 
 pub returns-in-Err-clause-record : goal.returns-in-Err-clause-record
 returns-in-Err-clause-record c =
     ap (λ (o : Option Line). option_map (λ x. x.rec) o)
-    (sym (line-gap c.self.inside.plan.params (c.args.slot, c.args.visit) c.self.inside.lines.items c.in-Err.field-0 c.self.invariant (gap-along c.self.inside.plan.params (c.args.slot, c.args.visit) c.in-Err.field-0 c.deref.ensures.value c.in-Err.ensures)) ∙ ap (λ (s : Seen). line_at (c.args.slot, c.args.visit) s.lines) c.self.view_is)
+    (sym (line-gap c.self.inside.plan.params (c.args.slot, c.args.visit) c.self.inside.lines.items c.in-Err.field-0 c.self.invariant c.in-Err.ensures) ∙ ap (λ (s : Seen). line_at (c.args.slot, c.args.visit) s.lines) c.self.view_is)
 
 pub returns-in-Err-clause-left : goal.returns-in-Err-clause-left
 returns-in-Err-clause-left c =
     sym c.self.view_is ∙ seen-with c.self.inside.plan.params c.self.inside.lines.items _ c.args.self.now (λ p lines. without (c.args.slot, c.args.visit) lines) c.self.view_is
-    (remove-gap c.self.inside.plan.params (c.args.slot, c.args.visit) c.self.inside.lines.items c.in-Err.field-0 c.self.invariant (gap-along c.self.inside.plan.params (c.args.slot, c.args.visit) c.in-Err.field-0 c.deref.ensures.value c.in-Err.ensures))
+    (remove-gap c.self.inside.plan.params (c.args.slot, c.args.visit) c.self.inside.lines.items c.in-Err.field-0 c.self.invariant c.in-Err.ensures)

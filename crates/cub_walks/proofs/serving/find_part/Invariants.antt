@@ -1,6 +1,0 @@
-use Rattle.std.proofs.Common.{◌≡◌, drop}
-use Rattle.cub_rules.specs.Records.{stored_for}
-use Rattle.cub_walks.proofs.serving.find_part.Given as goal
-
-abbrev pub invariant-loop-x : goal.invariant-loop-x
-invariant-loop-x l = stored_for l.want (drop l.x-index l.parts) ≡ stored_for l.want l.parts

@@ -1,0 +1,9 @@
+use Rattle.std.proofs.Common.{◌∙◌, ap, arith}
+use Rattle.partial_view.specs.Lines.{key_of}
+use Rattle.partial_view.proofs.Places.{found_there}
+use Rattle.partial_view.proofs.Calls.{next-found}
+use Rattle.partial_view.proofs.view.place_near.Goals as goal
+
+pub returns-then-eq : goal.returns-then-eq
+returns-then-eq c =
+    next-found c.args.plan.now.params c.args.key c.args.lines.now.items c.args.place c.requires.walk (found_there c.args.key c.args.lines.now.items c.args.place _ c.key.result (c.key.ensures ∙ ap key_of c.index.ensures) c.eq.ensures c.if-eq.true (omega arith))

@@ -1,0 +1,7 @@
+mod Cuts
+mod Order
+mod Journals
+mod Telling
+mod Events
+pub mod Local
+pub mod Parts

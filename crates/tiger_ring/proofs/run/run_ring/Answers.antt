@@ -1,0 +1,21 @@
+use Rattle.std.proofs.Common.{refl, ◌∙◌}
+use Rattle.ring_schedule.proofs.Scenarios.{has_one_schedule}
+use Rattle.tiger_ring.proofs.run.run_ring.Goals as goal
+
+pub returns-clause-ran : goal.returns-clause-ran
+returns-clause-ran g c = record {
+  course = refl;
+  catalogue = c.in_ok-catalogue.ensures;
+  orders = c.in_ok-orders.ensures.orders;
+  steps = rw (← c.as_slice.ensures) c.in_ok-journals.ensures.steps;
+  carried = c.in_ok-journals.ensures.carried;
+  paced = c.in_ok-journals.ensures.paced;
+  timed = c.in_ok-journals.ensures.timed;
+  apart = c.requires.scenario.apart;
+  commanded = rw (← c.as_slice.ensures) c.in_ok-journals.ensures.commanded;
+  digests = c.new.ensures ∙ c.in_ok-digests.ensures ∙ rw (c.as_slice-4.ensures.value, c.in_ok-found.ensures, c.as_slice-2.ensures, c.as_slice-3.ensures) refl;
+}
+
+pub returns-clause-one_schedule : goal.returns-clause-one_schedule
+returns-clause-one_schedule g c =
+    λ calm. has_one_schedule g.row.G.Denot c.args.scenario c.args.library.now _ c.requires.scenario calm c.requires.short (returns-clause-ran g c)
