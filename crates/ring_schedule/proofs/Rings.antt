@@ -41,7 +41,7 @@ use Rattle.ring_nodes.specs.declared.nodes.AnyNode.{AnyNode}
 use Rattle.ring_nodes.specs.declared.nodes.AnyNode.TheVariants as node
 use Rattle.ring_nodes.specs.AllNodes.{any_step, node_count}
 use Rattle.schedule_laws.specs.Lives.{In}
-use Rattle.schedule_laws.specs.Histories.{input_of, IsCalmHistory, IsStartSent, AreOrderly}
+use Rattle.schedule_laws.specs.Histories.{input_of, IsLivingHistory, IsCalmHistory, IsStartSent, AreOrderly}
 use Rattle.schedule_laws.specs.Rings.{calm}
 use Rattle.schedule_laws.proofs.Members.{chosen}
 use Rattle.schedule_laws.specs.Lives.{is_tick_input}
@@ -222,8 +222,8 @@ module _ {G : Type 0} (p : Params) (plan : IsPlan p) (orders : List Order) (fine
       (eq-or-lt_of_le past))
       (cases_lt n ctrl)
 
-  pub calm_history : IsCalmHistory any_step p (node_count p) h
-  calm_history = record {
+  pub living_history : IsLivingHistory any_step p (node_count p) h
+  living_history = record {
     run = ring.run;
     all_cubs = omega arith;
     alive = ring.alive;
@@ -233,6 +233,11 @@ module _ {G : Type 0} (p : Params) (plan : IsPlan p) (orders : List Order) (fine
         (λ q. let e = q.2 in absurd (cc))
         (λ q. let e = q.3 in absurd (cc))
         (other_out n i link (msg.ViewerState s) inside from low k);
+  }
+
+  pub calm_history : IsCalmHistory any_step p (node_count p) h
+  calm_history = record {
+    living = living_history;
     unstopped = λ n i link v tag inside from low k. ⊎_elim
         (λ q. let e = q.2 in absurd (cc))
         (λ q. let e = q.3 in absurd (cc))
@@ -287,7 +292,7 @@ module _ {G : Type 0} (p : Params) (plan : IsPlan p) (orders : List Order) (fine
   start_link n c l k a inside small s =
       let x = sent-numbered noted any_step l h n (h.count n) k (record { beat = s.beat; item = msg.Start a s.redundant }) s.sent in
       let r = sends_in l (beat h n x.at) (outs noted any_step h n x.at) (record { beat = s.beat; item = msg.Start a s.redundant }) x.place x.sends in
-      let other : p.cubs ≤ n = start_sender any_step p plan (node_count p) h calm_history (calm orders) n x.at r.0 a s.redundant x.before r.2 in
+      let other : p.cubs ≤ n = start_sender any_step p plan (node_count p) h living_history (calm orders) n x.at r.0 a s.redundant x.before r.2 in
       let e = from_controller n x.at r.0 a s.redundant inside other x.before r.2 in
       let low = (ordered_at x.at r.0 a s.redundant (subst (λ y. x.at < h.count y) e x.before) (subst (λ y. In (out.Send r.0 (msg.Start a s.redundant)) (outs noted any_step h y x.at)) e r.2)).4 in
       let small_link : l < p.cubs = subst (λ y. y < p.cubs) r.1 low in
@@ -330,7 +335,7 @@ module _ {G : Type 0} (p : Params) (plan : IsPlan p) (orders : List Order) (fine
       → AreCalmJournals any_step p (node_count p) h orders journals
   calm_journals journals count writes = record {
     history = calm_history;
-    starts = starts_of any_step p plan (node_count p) h calm_history orders orderly;
+    starts = starts_of any_step p plan (node_count p) h living_history orders orderly;
     others = λ n i t inside from low k. others_write n i (what.Put t) inside from low k;
     count = count;
     writes = writes;

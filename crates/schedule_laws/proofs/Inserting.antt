@@ -30,7 +30,7 @@ use Rattle.insert_queue.specs.Queues as queues
 use Rattle.rule_kit.specs.Ways.{way_ahead}
 use Rattle.rule_kit.specs.Deeds.{nothing}
 use Rattle.cub_rules.specs.declared.store.Store.{Store}
-use Rattle.cub_rules.specs.Ticks.{putting, free_on}
+use Rattle.cub_rules.specs.Ticks.{putting, told_placed, free_on}
 use Rattle.schedule_proof.specs.Facts.{IsGiven}
 use Rattle.schedule_laws.specs.Lives.{In}
 use Rattle.schedule_laws.proofs.Members.{chosen, in_left, in_right, in_cases, from_filter}
@@ -99,6 +99,9 @@ pub record Puts (p : Params) (c reading : ℕ) (waiting : List Ask) (h : Store) 
   pub one : (t : Tenancy) (r : Rec) → In (put_out t) d.outs → In (taken_out r) d.outs → r.tenancy.slot.0 ≡ t.slot.0 → r.visit ≡ t.first → r.tenancy ≡ t
   -- no start and no deschedule goes out
   pub plain : AreMeek Nobody d.outs
+  -- the controller is told of each Put, and of nothing else
+  pub tells : (t : Tenancy) → In (put_out t) d.outs → In (told_placed p c t) d.outs
+  pub placed : (link : LinkNo) (t : Tenancy) → In (out.Send link (msg.Placed t)) d.outs → In (put_out t) d.outs
 
 well_wider : (p : Params) (c reading : ℕ) (waiting : List Ask) (b b' : Bool) (t : Tenancy) (outs more : List (Out Msg)) → ((o : Out Msg) → In o outs → In o more) → b ≡ b'
     → PutWell p c reading waiting b t outs → PutWell p c reading waiting b' t more
@@ -131,6 +134,8 @@ puts_nothing p c reading waiting h = record {
   sent = λ link s k. absurd k;
   one = λ t r k. absurd k;
   plain = tt;
+  tells = λ t k. absurd k;
+  placed = λ link t k. absurd k;
 }
 
 -- one deed, and then another
@@ -168,6 +173,14 @@ module _ (p : Params) (c reading : ℕ) (waiting : List Ask) (h : Store) (d e : 
         (λ q. let w = second.sent link s q in (in_right (put_out s.tenancy) d.outs e.outs w.0, w.1, w.2))
         (in_cases (out.Send link (msg.ViewerState s)) d.outs e.outs k);
     plain = meek_append Nobody d.outs e.outs first.plain second.plain;
+    tells = λ t k. ⊎_elim
+        (λ q. in_left (told_placed p c t) d.outs e.outs (first.tells t q))
+        (λ q. in_right (told_placed p c t) d.outs e.outs (second.tells t q))
+        (in_cases (put_out t) d.outs e.outs k);
+    placed = λ link t k. ⊎_elim
+        (λ q. in_left (put_out t) d.outs e.outs (first.placed link t q))
+        (λ q. in_right (put_out t) d.outs e.outs (second.placed link t q))
+        (in_cases (out.Send link (msg.Placed t)) d.outs e.outs k);
     one = λ t r k i s n. ⊎_elim
         (λ kq. ⊎_elim
         (λ iq. first.one t r kq iq s n)

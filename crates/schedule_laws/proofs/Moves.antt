@@ -58,13 +58,14 @@ pub record Moves (p : Params) (c : ℕ) (May : Rec → Type 0) (lines : List Lin
   pub forth : (x : Line) → In x lines → Stays x.rec d.state.view.lines ⊎ May x.rec
   pub took : (r : Rec) → In (taken_out r) d.outs → Stays r d.state.view.lines ⊎ May r
 
--- outputs that tell nothing of records, Puts, viewer states, starts and deschedules
+-- outputs that tell nothing of records, Puts, viewer states, starts, deschedules and places
 abbrev pub IsQuiet : Out Msg → Type 0
 IsQuiet (out.Act (what.Took r)) = ⊥
 IsQuiet (out.Act (what.Put t)) = ⊥
 IsQuiet (out.Send link (msg.ViewerState s)) = ⊥
 IsQuiet (out.Send link (msg.Start a redundant)) = ⊥
 IsQuiet (out.Send link (msg.Deschedule v tag)) = ⊥
+IsQuiet (out.Send link (msg.Placed t)) = ⊥
 IsQuiet other = Unit {0}
 
 abbrev pub AreQuiet : List (Out Msg) → Type 0

@@ -109,6 +109,18 @@ own_sent p c t link s k = ⊎_elim
     k)
     k
 
+own_placed : (p : Params) (c : ℕ) (t : Tenancy) (link : LinkNo) (u : Tenancy) → In (out.Send link (msg.Placed u)) (put_out t ∷ taken_out (own_of t t.first) ∷ state_out p c t ∷ told_placed p c t ∷ []) → u ≡ t
+own_placed p c t link u k = ⊎_elim
+    (λ (q : out.Send link (msg.Placed u) ≡ put_out t). absurd (cc))
+    (λ k. ⊎_elim
+    (λ (q : out.Send link (msg.Placed u) ≡ taken_out (own_of t t.first)). absurd (cc))
+    (λ k. ⊎_elim
+    (λ (q : out.Send link (msg.Placed u) ≡ state_out p c t). let z : msg.Placed u ≡ msg.ViewerState (record { tenancy = t; visit = t.first }) = cc in absurd (cc))
+    (λ k. ⊎_elim (λ (q : out.Send link (msg.Placed u) ≡ told_placed p c t). let z : msg.Placed u ≡ msg.Placed t = cc in cc) (λ q. absurd q) k)
+    k)
+    k)
+    k
+
 -- a Put on a disk of the cub's own
 own_puts : (p : Params) (c reading disk : ℕ) (waiting : List Ask) (h : Store) (a : Ask) (k : Key) → disk % p.cubs ≡ c → IsSeated p reading disk waiting h a k
     → Puts p c reading waiting h (putting_own p c (tenancy_from a k) h)
@@ -155,6 +167,14 @@ own_puts p c reading disk waiting h a k own seat =
           subst (λ (q : State). In (put_out q.tenancy) (putting_own p c t h).outs × (q.visit ≡ q.tenancy.first) × (link ≡ way_ahead p c 1)) (sym e.0)
           (subst (λ (os : List (Out Msg)). In (put_out t) os) (sym outs) (inl refl), refl, e.1);
       plain = subst (λ (os : List (Out Msg)). AreMeek Nobody os) (sym outs) (tt, (tt, (tt, (tt, tt))));
+      tells = λ u i.
+          let e = own_put p c t u (subst (λ (os : List (Out Msg)). In (put_out u) os) outs i) in
+          subst (λ (q : Tenancy). In (told_placed p c q) (putting_own p c t h).outs) (sym e)
+          (subst (λ (os : List (Out Msg)). In (told_placed p c t) os) (sym outs) (inr (inr (inr (inl refl)))));
+      placed = λ link u i.
+          let e = own_placed p c t link u (subst (λ (os : List (Out Msg)). In (out.Send link (msg.Placed u)) os) outs i) in
+          subst (λ (q : Tenancy). In (put_out q) (putting_own p c t h).outs) (sym e)
+          (subst (λ (os : List (Out Msg)). In (put_out t) os) (sym outs) (inl refl));
       one = λ u r i j s n.
           let e = own_took p c t r (subst (λ (os : List (Out Msg)). In (taken_out r) os) outs j) in
           let f = own_put p c t u (subst (λ (os : List (Out Msg)). In (put_out u) os) outs i) in

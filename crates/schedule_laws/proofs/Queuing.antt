@@ -108,7 +108,7 @@ AddsStart m old new = (a : Ask) × (redundant : Bool) × (m ≡ msg.Start a redu
 abbrev pub StartsAfter : Msg → Queues → Queues → Type 0
 StartsAfter m old new = (new ≡ old) ⊎ (DropsStart m old new ⊎ AddsStart m old new)
 
-met_after : (p : Params) (c : ℕ) (stamp : Stamp) (s : State) (o : Option Key) (h : Store)
+pub met_after : (p : Params) (c : ℕ) (stamp : Stamp) (s : State) (o : Option Key) (h : Store)
     → (((met p c stamp s o h).state.starts ≡ h.starts) ⊎ ((met p c stamp s o h).state.starts ≡ without_start h.starts s.tenancy.instance)) × ((met p c stamp s o h).state.watch ≡ h.watch)
 met_after p c stamp s None h = (inl refl, refl)
 met_after p c stamp s (Some k) h =
@@ -126,7 +126,7 @@ meeting_state_after p c stamp s h =
     chosen (λ (d : Deed Msg Store). StartsAfter (msg.ViewerState s) h.starts d.state.starts × (d.state.watch ≡ h.watch)) (is_visit_of s.tenancy s.visit) (met p c stamp s (position_at p c s.tenancy.slot s.visit) h) (nothing h)
     (λ _. (⊎_elim (λ e. inl e) (λ e. inr (inl (s.tenancy.instance, refl, e))) m.0, m.1)) (λ _. (inl refl, refl))
 
-meeting_start_after : (a : Ask) (redundant : Bool) (h : Store)
+pub meeting_start_after : (a : Ask) (redundant : Bool) (h : Store)
     → StartsAfter (msg.Start a redundant) h.starts (meeting_start a redundant h).state.starts × ((meeting_start a redundant h).state.watch ≡ h.watch)
 unfolding meeting_start
 meeting_start_after a redundant h =
@@ -154,7 +154,7 @@ killing_splits_steady : (p : Params) (c : ℕ) (v : Instance) (h : Store) → St
 unfolding killing_splits
 killing_splits_steady p c v h = (refl, refl)
 
-descheduling_after : (p : Params) (c : ℕ) (stamp : Stamp) (v : Instance) (tag : Option Tag) (h : Store)
+pub descheduling_after : (p : Params) (c : ℕ) (stamp : Stamp) (v : Instance) (tag : Option Tag) (h : Store)
     → ((descheduling p c stamp v tag h).state.starts ≡ without_start h.starts v) × ((descheduling p c stamp v tag h).state.watch ≡ h.watch)
 unfolding descheduling
 descheduling_after p c stamp v tag h =

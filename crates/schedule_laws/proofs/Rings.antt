@@ -39,12 +39,12 @@ have_one_schedule p lives orders plan ring =
 pub history_in_ring : {S : Type 0} (step : S → Input Msg → Deed Msg S) (p : Params) (nodes : ℕ) (h : History Msg S) (orders : List Order) → IsPlan p → IsCalmHistory step p nodes h
     → AreOrderly step p nodes h orders → AreInRing p (lives_of h) (calm orders)
 history_in_ring step p nodes h orders plan quiet starts = record {
-  lived = lived step p plan nodes h quiet (calm orders);
-  formed = formed step p plan nodes h quiet (calm orders);
-  started = starts_of step p plan nodes h quiet orders starts;
-  run = run_laws step p plan nodes h quiet (calm orders) (λ c a d. d);
+  lived = lived step p plan nodes h quiet.living (calm orders);
+  formed = formed step p plan nodes h quiet.living (calm orders);
+  started = starts_of step p plan nodes h quiet.living orders starts;
+  run = run_laws step p plan nodes h quiet.living (calm orders) (λ c a d. d);
   told = λ g. absurd (never_reached step p plan nodes h quiet (calm orders) _ _ _ g);
-  heard = λ c b d to w late. heard step p plan nodes h quiet (calm orders) c b d to w late;
+  heard = λ c b d to w late. heard step p plan nodes h quiet.living (calm orders) c b d to w late;
 }
 
 pub histories_have_one_schedule : (S : Type 0) → HaveOneSchedule S

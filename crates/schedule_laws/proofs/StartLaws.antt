@@ -68,7 +68,7 @@ told_by (msg.Whole want sent part) v k = absurd k
 told_by (msg.Piece want sent part) v k = absurd k
 
 -- what stands after insertion and is not due stands after the tick
-after_insertion_moves : (p : Params) (c : ℕ) (stamp : Stamp) (h : Store) (x : Line) → In x (inserting p c stamp (before_inserting p c stamp h)).state.view.lines
+pub after_insertion_moves : (p : Params) (c : ℕ) (stamp : Stamp) (h : Store) (x : Line) → In x (inserting p c stamp (before_inserting p c stamp h)).state.view.lines
     → Stays x.rec (ticking p c stamp h).state.view.lines ⊎ IsDueAt p stamp.reading x.rec
 unfolding ticking
 after_insertion_moves p c stamp h x i =
@@ -152,7 +152,7 @@ module _ (p : Params) (plan : IsPlan p) (lives : Lives) (are : AreLives p lives)
       (cases_order d.at e.at)
 
   -- a start waits on until its instance is put or reached
-  abbrev IsOut : ℕ → ℕ → ℕ → Type 0
+  abbrev pub IsOut : ℕ → ℕ → ℕ → Type 0
   IsOut c v b = IsPlacedBy (facts_of p lives outside) c v b ⊎ ReachedBy (facts_of p lives outside) c v b
 
   told_out : (c i b : ℕ) (stamp : Stamp) (link : LinkNo) (m : Msg) (v : Instance) (n : ℕ) → c < p.cubs → i < lives.count c → beat_at (lives.input c) i ≤ b → lives.input c i ≡ Take stamp link m → Tells m v → n ≡ v.0
@@ -180,7 +180,7 @@ module _ (p : Params) (plan : IsPlan p) (lives : Lives) (are : AreLives p lives)
       }))
       (told_by m v k)
 
-  put_placed : (c i b : ℕ) (stamp : Stamp) (a : Ask) → c < p.cubs → i < lives.count c → beat_at (lives.input c) i ≤ b → lives.input c i ≡ Tick stamp
+  pub put_placed : (c i b : ℕ) (stamp : Stamp) (a : Ask) → c < p.cubs → i < lives.count c → beat_at (lives.input c) i ≤ b → lives.input c i ≡ Tick stamp
       → PutOf a (inserting p c stamp (before_inserting p c stamp (store_at p c (lives.input c) i))).outs → IsPlacedBy (facts_of p lives outside) c a.instance.0 b
   put_placed c i b stamp a small low h e k = record {
     beat = beat_at (lives.input c) i;
@@ -206,7 +206,7 @@ module _ (p : Params) (plan : IsPlan p) (lives : Lives) (are : AreLives p lives)
       (λ q. inr (inl (put_placed c i b stamp a small low h e q)))
       ((tick_seats p c stamp s (once_at p c (lives.input c) i)).forth a (before_forth p c stamp s a w))
 
-  waits_on : (c b n : ℕ) (a : Ask) → c < p.cubs → n < lives.count c → beat_at (lives.input c) n ≤ b → (i j : ℕ) → j ≤ i → i ≤ n → In a (store_at p c (lives.input c) j).starts.waiting
+  pub waits_on : (c b n : ℕ) (a : Ask) → c < p.cubs → n < lives.count c → beat_at (lives.input c) n ≤ b → (i j : ℕ) → j ≤ i → i ≤ n → In a (store_at p c (lives.input c) j).starts.waiting
       → In a (store_at p c (lives.input c) i).starts.waiting ⊎ IsOut c a.instance.0 b
   waits_on c b n a small low h zero j l m w = let e : j ≡ 0 = omega arith in inl (subst (λ k. In a (store_at p c (lives.input c) k).starts.waiting) e w)
   waits_on c b n a small low h (suc i) j l m w = ⊎_elim
@@ -256,7 +256,7 @@ module _ (p : Params) (plan : IsPlan p) (lives : Lives) (are : AreLives p lives)
           (cases_Bool (has_start (store_at p c (lives.input c) i).starts.waiting a.instance))
 
   -- a start joins the waiting ones, or its instance is known
-  joins : (c i b : ℕ) (a : Ask) (stamp : Stamp) (link : LinkNo) → c < p.cubs → i < lives.count c → beat_at (lives.input c) i ≤ b → lives.input c i ≡ Take stamp link (msg.Start a false)
+  pub joins : (c i b : ℕ) (a : Ask) (stamp : Stamp) (link : LinkNo) → c < p.cubs → i < lives.count c → beat_at (lives.input c) i ≤ b → lives.input c i ≡ Take stamp link (msg.Start a false)
       → In a (store_at p c (lives.input c) (suc i)).starts.waiting ⊎ IsOut c a.instance.0 b
   joins c i b a stamp link small low h e =
       let inputs : ℕ → Input Msg = lives.input c in

@@ -89,7 +89,7 @@ state_way p c plan here (Tick stamp) h link s k = ⊎_elim
     (loud p c stamp h (out.Send link (msg.ViewerState s)) (λ q. q) k)
 
 -- a tick sends no start and no deschedule
-tick_meek : (p : Params) (c : ℕ) → IsPlan p → c < p.cubs → (stamp : Stamp) (h : Store) (link : LinkNo) (m : Msg) → (IsQuiet (out.Send link m) → ⊥) → (IsMeek Nobody (out.Send link m) → ⊥)
+pub tick_meek : (p : Params) (c : ℕ) → IsPlan p → c < p.cubs → (stamp : Stamp) (h : Store) (link : LinkNo) (m : Msg) → (IsQuiet (out.Send link m) → ⊥) → (IsMeek Nobody (out.Send link m) → ⊥)
     → ((s : State) → msg.ViewerState s ≡ m → ⊥) → In (out.Send link m) (ticking p c stamp h).outs → ⊥
 tick_meek p c plan here stamp h link m loud_one meek_one other k = ⊎_elim
     (λ i. meek_one (all_in (IsMeek Nobody) (out.Send link m) _ (inserting_puts p c stamp plan here (before_inserting p c stamp h)).plain i))

@@ -49,10 +49,11 @@ abbrev pub MayLeave : Msg → Rec → Type 0
 MayLeave (msg.Deschedule v tag) r = r.tenancy.instance.0 ≡ v.0
 MayLeave other r = ⊥
 
--- outputs that put nothing and send no state
+-- outputs that put nothing, and send no state and no place
 abbrev pub IsNoPut : Out Msg → Type 0
 IsNoPut (out.Act (what.Put t)) = ⊥
 IsNoPut (out.Send link (msg.ViewerState s)) = ⊥
+IsNoPut (out.Send link (msg.Placed t)) = ⊥
 IsNoPut other = Unit {0}
 
 abbrev pub AreNoPuts : List (Out Msg) → Type 0
@@ -65,6 +66,7 @@ IsHushed Held (out.Act (what.Put t)) = ⊥
 IsHushed Held (out.Send link (msg.ViewerState s)) = ⊥
 IsHushed Held (out.Send link (msg.Start a redundant)) = ⊥
 IsHushed Held (out.Send link (msg.Deschedule v tag)) = Held v
+IsHushed Held (out.Send link (msg.Placed t)) = ⊥
 IsHushed Held other = Unit {0}
 
 abbrev pub AreHushed : (Instance → Type 0) → List (Out Msg) → Type 0
@@ -77,6 +79,7 @@ quiet_hushed Held (out.Act other) q = tt
 quiet_hushed Held (out.Send link (msg.ViewerState s)) q = q
 quiet_hushed Held (out.Send link (msg.Start a redundant)) q = q
 quiet_hushed Held (out.Send link (msg.Deschedule v tag)) q = absurd q
+quiet_hushed Held (out.Send link (msg.Placed t)) q = q
 quiet_hushed Held (out.Send link other) q = tt
 
 hushed_no_put : (Held : Instance → Type 0) (o : Out Msg) → IsHushed Held o → IsNoPut o
@@ -84,6 +87,7 @@ hushed_no_put Held (out.Act (what.Took r)) q = tt
 hushed_no_put Held (out.Act (what.Put t)) q = q
 hushed_no_put Held (out.Act other) q = tt
 hushed_no_put Held (out.Send link (msg.ViewerState s)) q = q
+hushed_no_put Held (out.Send link (msg.Placed t)) q = q
 hushed_no_put Held (out.Send link other) q = tt
 
 hushed_meek_one : (Held : Instance → Type 0) (o : Out Msg) → IsHushed Held o → IsMeek Held o
@@ -100,11 +104,11 @@ hushed_no_puts : (Held : Instance → Type 0) (outs : List (Out Msg)) → AreHus
 hushed_no_puts Held [] q = tt
 hushed_no_puts Held (o ∷ os) q = (hushed_no_put Held o q.0, hushed_no_puts Held os q.1)
 
-hushed_meek : (Held : Instance → Type 0) (outs : List (Out Msg)) → AreHushed Held outs → AreMeek Held outs
+pub hushed_meek : (Held : Instance → Type 0) (outs : List (Out Msg)) → AreHushed Held outs → AreMeek Held outs
 hushed_meek Held [] q = tt
 hushed_meek Held (o ∷ os) q = (hushed_meek_one Held o q.0, hushed_meek Held os q.1)
 
-hushed_append : (Held : Instance → Type 0) (xs ys : List (Out Msg)) → AreHushed Held xs → AreHushed Held ys → AreHushed Held (xs ++ ys)
+pub hushed_append : (Held : Instance → Type 0) (xs ys : List (Out Msg)) → AreHushed Held xs → AreHushed Held ys → AreHushed Held (xs ++ ys)
 hushed_append Held [] ys q w = w
 hushed_append Held (x ∷ xs) ys q w = (q.0, hushed_append Held xs ys q.1 w)
 
@@ -112,14 +116,14 @@ pub hushed_took : (Held : Instance → Type 0) (r : Rec) (outs : List (Out Msg))
 hushed_took Held r outs q h = all_in (IsHushed Held) (taken_out r) outs q h
 
 -- what must be passed on is held
-must_pass_held : (v : Instance) (xs : List Holding) → must_pass xs v ≡ true → is_held xs v ≡ true
+pub must_pass_held : (v : Instance) (xs : List Holding) → must_pass xs v ≡ true → is_held xs v ≡ true
 must_pass_held v [] e = e
 must_pass_held v (x ∷ xs) e = ⊎_elim
     (λ (t : holds.is_of v x ≡ true). or_left (holds.is_of v x) (is_held xs v) t)
     (λ (t : holds.is_of v x ≡ false). or_right (holds.is_of v x) (is_held xs v) (must_pass_held v xs (subst (λ b. ((b && not x.passed) || must_pass xs v) ≡ true) t e)))
     (cases_Bool (holds.is_of v x))
 
-no_puts_append : (xs ys : List (Out Msg)) → AreNoPuts xs → AreNoPuts ys → AreNoPuts (xs ++ ys)
+pub no_puts_append : (xs ys : List (Out Msg)) → AreNoPuts xs → AreNoPuts ys → AreNoPuts (xs ++ ys)
 no_puts_append [] ys q w = w
 no_puts_append (x ∷ xs) ys q w = (q.0, no_puts_append xs ys q.1 w)
 
@@ -129,23 +133,23 @@ pub record Silent (p : Params) (c : ℕ) (May : Rec → Type 0) (Held : Instance
   pub quiet : AreHushed Held d.outs
 
 module _ (p : Params) (c : ℕ) (May : Rec → Type 0) (Held : Instance → Type 0) where
-  hush : (lines : List Line) (d : Deed Msg Store) → d.state.view.lines ≡ lines → AreQuiet d.outs → Silent p c May Held lines d
+  pub hush : (lines : List Line) (d : Deed Msg Store) → d.state.view.lines ≡ lines → AreQuiet d.outs → Silent p c May Held lines d
   hush lines d e q = record { moves = still p c May lines d e q; quiet = all_quiet_hushed Held d.outs q }
 
-  silent_both : (f g : Store → Deed Msg Store) (h : Store) → Silent p c May Held h.view.lines (f h) → Silent p c May Held (f h).state.view.lines (g (f h).state)
+  pub silent_both : (f g : Store → Deed Msg Store) (h : Store) → Silent p c May Held h.view.lines (f h) → Silent p c May Held (f h).state.view.lines (g (f h).state)
       → Silent p c May Held h.view.lines (then_do f g h)
   silent_both f g h one two = record {
     moves = moves_both p c May f g h one.moves two.moves;
     quiet = hushed_append Held (f h).outs (g (f h).state).outs one.quiet two.quiet;
   }
 
-  nothing_silent : (h : Store) → Silent p c May Held h.view.lines (nothing h)
+  pub nothing_silent : (h : Store) → Silent p c May Held h.view.lines (nothing h)
   nothing_silent h = hush h.view.lines (nothing h) refl tt
 
-  if_silent : (b : Bool) (d e : Deed Msg Store) (lines : List Line) → Silent p c May Held lines d → Silent p c May Held lines e → Silent p c May Held lines (cond b d e)
+  pub if_silent : (b : Bool) (d e : Deed Msg Store) (lines : List Line) → Silent p c May Held lines d → Silent p c May Held lines e → Silent p c May Held lines (cond b d e)
   if_silent b d e lines one two = chosen (λ (x : Deed Msg Store). Silent p c May Held lines x) b d e (λ _. one) (λ _. two)
 
-  passing_on_silent : (stamp : Stamp) (v : Instance) (k : Key) (h : Store) → Held v → Silent p c May Held h.view.lines (passing_on p c stamp v k h)
+  pub passing_on_silent : (stamp : Stamp) (v : Instance) (k : Key) (h : Store) → Held v → Silent p c May Held h.view.lines (passing_on p c stamp v k h)
   unfolding passing_on
   passing_on_silent stamp v k h ok =
       let quiet : AreHushed Held (passing_on p c stamp v k h).outs =
@@ -168,7 +172,7 @@ module _ (p : Params) (c : ℕ) (May : Rec → Type 0) (Held : Instance → Type
   queueing_silent a h =
       hush h.view.lines (queueing a h) refl (chosen AreQuiet (is_asked h.starts a.instance) [] (out.Act (what.Queued a.instance a.disk) ∷ []) (λ _. tt) (λ _. (tt, tt)))
 
-  meeting_start_silent : (a : Ask) (redundant : Bool) (h : Store) → Silent p c May Held h.view.lines (meeting_start a redundant h)
+  pub meeting_start_silent : (a : Ask) (redundant : Bool) (h : Store) → Silent p c May Held h.view.lines (meeting_start a redundant h)
   unfolding meeting_start
   meeting_start_silent a redundant h =
       if_silent (not (is_ask a) || is_held h.held a.instance || shows h.view.lines a.instance) (nothing h)
@@ -179,13 +183,13 @@ module _ (p : Params) (c : ℕ) (May : Rec → Type 0) (Held : Instance → Type
   unfolding with_piece_record
   same_with_piece x h = chosen (λ (s : Store). s.view.lines ≡ h.view.lines) (pieces.is_in x h.pieces.items) h _ (λ _. refl) (λ _. refl)
 
-  meeting_piece_silent : (x : PieceState) (h : Store) → Silent p c May Held h.view.lines (meeting_piece p c x h)
+  pub meeting_piece_silent : (x : PieceState) (h : Store) → Silent p c May Held h.view.lines (meeting_piece p c x h)
   unfolding meeting_piece
   meeting_piece_silent x h =
       if_silent (is_held h.held x.tenancy.instance || not (cub_of p (x.visit + x.piece) == c)) (nothing h) (record { outs = []; state = with_piece_record x h }) h.view.lines
       (nothing_silent h) (hush h.view.lines (record { outs = []; state = with_piece_record x h }) (same_with_piece x h) tt)
 
-  meeting_kill_silent : (v : Instance) (visit : ℕ) (h : Store) → Silent p c May Held h.view.lines (meeting_kill v visit h)
+  pub meeting_kill_silent : (v : Instance) (visit : ℕ) (h : Store) → Silent p c May Held h.view.lines (meeting_kill v visit h)
   unfolding meeting_kill
   meeting_kill_silent v visit h = hush h.view.lines (meeting_kill v visit h) refl tt
 
@@ -193,21 +197,21 @@ module _ (p : Params) (c : ℕ) (May : Rec → Type 0) (Held : Instance → Type
   storing_silent want (Some part) h = hush h.view.lines (storing want (Some part) h) refl tt
   storing_silent want None h = hush h.view.lines (storing want None h) refl (tt, tt)
 
-  meeting_answer_silent : (want : Want) (part : Option LibraryPart) (h : Store) → Silent p c May Held h.view.lines (meeting_answer want part h)
+  pub meeting_answer_silent : (want : Want) (part : Option LibraryPart) (h : Store) → Silent p c May Held h.view.lines (meeting_answer want part h)
   unfolding meeting_answer
   meeting_answer_silent want part h = if_silent (is_wanted want h) (storing want part h) (nothing h) h.view.lines (storing_silent want part h) (nothing_silent h)
 
-  hearing_beat_silent : (stamp : Stamp) (link : LinkNo) (h : Store) → Silent p c May Held h.view.lines (hearing_beat p c stamp link h)
+  pub hearing_beat_silent : (stamp : Stamp) (link : LinkNo) (h : Store) → Silent p c May Held h.view.lines (hearing_beat p c stamp link h)
   unfolding hearing_beat
   hearing_beat_silent stamp link h =
       let done : Deed Msg Store = record { outs = []; state = record h { watch = record h.watch { heard = stamp.reading } } } in
       if_silent (link.0 == (way_ahead p (predecessor p c) 1).0) done (nothing h) h.view.lines (hush h.view.lines done refl tt) (nothing_silent h)
 
-  dropping_pieces_silent : (v : Instance) (h : Store) → Silent p c May Held h.view.lines (dropping_pieces v h)
+  pub dropping_pieces_silent : (v : Instance) (h : Store) → Silent p c May Held h.view.lines (dropping_pieces v h)
   unfolding dropping_pieces
   dropping_pieces_silent v h = hush h.view.lines (dropping_pieces v h) refl tt
 
-  killing_splits_silent : (v : Instance) (h : Store) → Silent p c May Held h.view.lines (killing_splits p c v h)
+  pub killing_splits_silent : (v : Instance) (h : Store) → Silent p c May Held h.view.lines (killing_splits p c v h)
   unfolding killing_splits
   killing_splits_silent v h =
       hush h.view.lines (killing_splits p c v h) refl
@@ -243,7 +247,7 @@ module _ (p : Params) (c : ℕ) (May : Rec → Type 0) where
   each_no_puts [] h = tt
   each_no_puts (r ∷ rs) h = no_puts_append (took r h).outs (each_in_turn took rs (took r h).state).outs (took_no_puts r h) (each_no_puts rs (took r h).state)
 
-  each_meek : (Held : Instance → Type 0) (rs : List Rec) (h : Store) → AreMeek Held (each_in_turn took rs h).outs
+  pub each_meek : (Held : Instance → Type 0) (rs : List Rec) (h : Store) → AreMeek Held (each_in_turn took rs h).outs
   each_meek Held [] h = tt
   each_meek Held (r ∷ rs) h = meek_append Held (took r h).outs (each_in_turn took rs (took r h).state).outs (took_meek Held r h) (each_meek Held rs (took r h).state)
 
@@ -270,7 +274,7 @@ module _ (p : Params) (c : ℕ) (May : Rec → Type 0) where
       (λ _. met_mild stamp s (position_at p c s.tenancy.slot s.visit) h) (λ _. (tt, tt))
 
 -- a deschedule takes away the instance's records
-dropping_lines_silent : (p : Params) (c : ℕ) (Held : Instance → Type 0) (v : Instance) (h : Store) → Silent p c (λ r. r.tenancy.instance.0 ≡ v.0) Held h.view.lines (dropping_lines v h)
+pub dropping_lines_silent : (p : Params) (c : ℕ) (Held : Instance → Type 0) (v : Instance) (h : Store) → Silent p c (λ r. r.tenancy.instance.0 ≡ v.0) Held h.view.lines (dropping_lines v h)
 unfolding dropping_lines without_instance
 dropping_lines_silent p c Held v h =
     let quiet : AreQuiet (dropping_lines v h).outs = quiet_map dropped (λ x. tt) (filter (is_of v) h.view.lines) in

@@ -27,8 +27,8 @@ use Rattle.cub_rules.specs.Ticks.{tenancy_from, sending, putting, told_placed, o
 use Rattle.schedule_proof.specs.Facts.{IsGiven}
 use Rattle.cub_laws.proofs.Numbers.{visit_own, next_own, disks_own, predecessor_below}
 use Rattle.schedule_laws.specs.Lives.{In}
-use Rattle.schedule_laws.proofs.Members.{chosen, in_cases, all_in}
-use Rattle.schedule_laws.proofs.Moves.{AreMeek, meek_append, took_meek, Moves, taken_out, still, moves_both, is_taken, took_new, took_none, took_moves}
+use Rattle.schedule_laws.proofs.Members.{chosen, in_right, in_cases, all_in}
+use Rattle.schedule_laws.proofs.Moves.{AreMeek, meek_append, took_meek, Moves, taken_out, untaken, still, moves_both, is_taken, took_new, took_none, took_moves}
 use Rattle.schedule_laws.proofs.Inserting.{Nobody, Never, put_out, IsAt, none_at, PutWell, Puts, puts_nothing, puts_then, IsSeated, fewer_starts}
 use Rattle.schedule_laws.proofs.Putting.{putting_moves, took_kept, each_puts, inserting_own_puts}
 
@@ -87,7 +87,8 @@ dead_moves p c t h =
     let told : List (Out Msg) = told_placed p c t ∷ [] in
     moves_both p c Never (putting t) (then_do (took (backup_of t t.first)) (then_do (second t) (sending told))) h (putting_moves p c t h)
     (moves_both p c Never (took (backup_of t t.first)) (then_do (second t) (sending told)) h1 (took_moves p c Never (backup_of t t.first) h1)
-    (moves_both p c Never (second t) (sending told) h2 (second_moves p c t h2) (still p c Never h3.view.lines (sending told h3) refl (tt, tt))))
+    (moves_both p c Never (second t) (sending told) h2 (second_moves p c t h2)
+    (untaken p c Never h3.view.lines (sending told h3) refl (λ r k. ⊎_elim (λ (q : taken_out r ≡ told_placed p c t). absurd (cc)) (λ q. absurd q) k))))
 
 pub dead_kept : (p : Params) (c : ℕ) (t : Tenancy) (h : Store) → ((putting_for_dead p c t h).state.believes ≡ h.believes) × ((putting_for_dead p c t h).state.starts ≡ (putting t h).state.starts)
 unfolding putting_for_dead
@@ -131,6 +132,18 @@ dead_sent p c t h link s k = ⊎_elim
     (λ i. let q = (second_out t (first_done t h) (out.Send link (msg.ViewerState s)) i).is in let z : ⊥ = absurd (cc) in z)
     (λ k. ⊎_elim (λ (q : out.Send link (msg.ViewerState s) ≡ told_placed p c t). let y : msg.ViewerState s ≡ msg.Placed t = cc in let z : ⊥ = absurd (cc) in z) (λ q. q) k)
     (in_cases (out.Send link (msg.ViewerState s)) (second t (first_done t h)).outs (told_placed p c t ∷ []) k))
+    k)
+    k
+
+dead_placed : (p : Params) (c : ℕ) (t : Tenancy) (h : Store) (link : LinkNo) (u : Tenancy) → In (out.Send link (msg.Placed u)) (dead_list p c t h) → u ≡ t
+dead_placed p c t h link u k = ⊎_elim
+    (λ (q : out.Send link (msg.Placed u) ≡ put_out t). absurd (cc))
+    (λ k. ⊎_elim
+    (λ (q : out.Send link (msg.Placed u) ≡ taken_out (backup_of t t.first)). absurd (cc))
+    (λ k. ⊎_elim
+    (λ i. let q = (second_out t (first_done t h) (out.Send link (msg.Placed u)) i).is in absurd (cc))
+    (λ k. ⊎_elim (λ (q : out.Send link (msg.Placed u) ≡ told_placed p c t). let z : msg.Placed u ≡ msg.Placed t = cc in cc) (λ q. absurd q) k)
+    (in_cases (out.Send link (msg.Placed u)) (second t (first_done t h)).outs (told_placed p c t ∷ []) k))
     k)
     k
 
@@ -188,6 +201,14 @@ dead_puts p c reading disk waiting h a k plan small owner believes seat =
           (dead_took p c t h r (subst (λ (os : List (Out Msg)). In (taken_out r) os) outs i));
       sent = λ link s i. absurd (dead_sent p c t h link s (subst (λ (os : List (Out Msg)). In (out.Send link (msg.ViewerState s)) os) outs i));
       plain = subst (λ (os : List (Out Msg)). AreMeek Nobody os) (sym outs) (tt, (tt, meek_append Nobody (second t (first_done t h)).outs (told_placed p c t ∷ []) (second_meek t (first_done t h)) (tt, tt)));
+      tells = λ u i.
+          let e = dead_put p c t h u (subst (λ (os : List (Out Msg)). In (put_out u) os) outs i) in
+          subst (λ (q : Tenancy). In (told_placed p c q) (putting_for_dead p c t h).outs) (sym e)
+          (subst (λ (os : List (Out Msg)). In (told_placed p c t) os) (sym outs) (inr (inr (in_right (told_placed p c t) (second t (first_done t h)).outs (told_placed p c t ∷ []) (inl refl)))));
+      placed = λ link u i.
+          let e = dead_placed p c t h link u (subst (λ (os : List (Out Msg)). In (out.Send link (msg.Placed u)) os) outs i) in
+          subst (λ (q : Tenancy). In (put_out q) (putting_for_dead p c t h).outs) (sym e)
+          (subst (λ (os : List (Out Msg)). In (put_out t) os) (sym outs) (inl refl));
       one = λ u r i j s n.
           let f = dead_put p c t h u (subst (λ (os : List (Out Msg)). In (put_out u) os) outs i) in
           ⊎_elim

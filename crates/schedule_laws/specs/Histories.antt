@@ -34,14 +34,18 @@ abbrev pub lives_of : {S : Type 0} → History Msg S → Lives
 lives_of h = record { count = h.count; input = λ c i. input_of (h.event c i) }
 
 -- A history in which nobody dies and time is not too long, whose first nodes are cubs, which put out what a cub's rules
--- put out; the other nodes send no viewer state and no deschedule.
-pub record IsCalmHistory {S : Type 0} (step : S → Input Msg → Deed Msg S) (p : Params) (nodes : ℕ) (h : History Msg S) : Type 0 where
+-- put out; the other nodes send no viewer state.
+pub record IsLivingHistory {S : Type 0} (step : S → Input Msg → Deed Msg S) (p : Params) (nodes : ℕ) (h : History Msg S) : Type 0 where
   pub run : IsRun noted step p nodes h
   pub all_cubs : p.cubs ≤ nodes
   pub alive : (n i : ℕ) → n < nodes → i < h.count n → is_death (h.event n i) ≡ false
   pub short : (n i : ℕ) → n < nodes → i < h.count n → reading h n i ≤ 1000000000000
   pub cubs : (c i : ℕ) → c < p.cubs → i < h.count c → outs noted step h c i ≡ outs_at p c ((lives_of h).input c) i
   pub states : (n i : ℕ) (link : LinkNo) (s : State) → n < nodes → p.cubs ≤ n → i < h.count n → In (out.Send link (msg.ViewerState s)) (outs noted step h n i) → ⊥
+
+-- and nobody is stopped: the other nodes send no deschedule
+pub record IsCalmHistory {S : Type 0} (step : S → Input Msg → Deed Msg S) (p : Params) (nodes : ℕ) (h : History Msg S) : Type 0 where
+  pub living : IsLivingHistory step p nodes h
   pub unstopped : (n i : ℕ) (link : LinkNo) (v : Instance) (tag : Option Tag) → n < nodes → p.cubs ≤ n → i < h.count n → In (out.Send link (msg.Deschedule v tag)) (outs noted step h n i) → ⊥
 
 -- note number k of a link from a node to cub c is a start

@@ -88,4 +88,4 @@ module _ {S : Type 0} (step : S → Input Msg → Deed Msg S) (p : Params) (plan
 
   pub unbelieved : (c i : ℕ) (d : CubNo) → c < p.cubs → i < h.count c → In (out.Act (what.Believed d)) (outs noted step h c i) → ⊥
   unbelieved c i d small low k =
-      told_so c i d ((lives_of h).input c i) small low refl (subst (λ (os : List (Out Msg)). In (out.Act (what.Believed d)) os) (are.history.cubs c i small low) k)
+      told_so c i d ((lives_of h).input c i) small low refl (subst (λ (os : List (Out Msg)). In (out.Act (what.Believed d)) os) (are.history.living.cubs c i small low) k)

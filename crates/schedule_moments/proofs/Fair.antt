@@ -80,12 +80,12 @@ module _ {S : Type 0} (step : S → Input Msg → Deed Msg S) (p : Params) (plan
 
   pub in_ring : AreInRing p (lives_of h) (calm orders)
   in_ring = record {
-    lived = lived step p plan nodes h are.history (calm orders);
-    formed = formed step p plan nodes h are.history (calm orders);
+    lived = lived step p plan nodes h are.history.living (calm orders);
+    formed = formed step p plan nodes h are.history.living (calm orders);
     started = are.starts;
-    run = run_laws step p plan nodes h are.history (calm orders) (λ c a d. d);
+    run = run_laws step p plan nodes h are.history.living (calm orders) (λ c a d. d);
     told = λ g. absurd (never_reached step p plan nodes h are.history (calm orders) _ _ _ g);
-    heard = λ c b d to w late. heard step p plan nodes h are.history (calm orders) c b d to w late;
+    heard = λ c b d to w late. heard step p plan nodes h are.history.living (calm orders) c b d to w late;
   }
 
   pub schedule : IsOneSchedule p told
@@ -110,7 +110,7 @@ module _ {S : Type 0} (step : S → Input Msg → Deed Msg S) (p : Params) (plan
       (λ (small : n < p.cubs). record {
         small = small;
         done = omega arith;
-        did = subst (λ (os : List (Out Msg)). In (put_out t) os) (are.history.cubs n w.at small (omega arith)) r.0;
+        did = subst (λ (os : List (Out Msg)). In (put_out t) os) (are.history.living.cubs n w.at small (omega arith)) r.0;
         stamp_is = sym (stamp_same (h.event n w.at)) ∙ sym r.1;
       })
       (λ (other : p.cubs ≤ n). absurd (are.others n w.at t known other (omega arith) r.0))
@@ -142,7 +142,7 @@ module _ {S : Type 0} (step : S → Input Msg → Deed Msg S) (p : Params) (plan
   outs_one v n i known low = ⊎_elim
       (λ (small : n < p.cubs).
       let inputs : ℕ → Input Msg = (lives_of h).input n in
-      subst (λ (os : List (Out Msg)). IsOne (puts v) os) (sym (are.history.cubs n i small low)) (deed_single p n v (inputs i) (store_at p n inputs i) (once_at p n inputs i)))
+      subst (λ (os : List (Out Msg)). IsOne (puts v) os) (sym (are.history.living.cubs n i small low)) (deed_single p n v (inputs i) (store_at p n inputs i) (once_at p n inputs i)))
       (λ (other : p.cubs ≤ n). none_one (puts v) (outs noted step h n i)
       (λ o k e. let f = put_found v o e in are.others n i f.0 known other low (subst (λ (x : Out Msg). In x (outs noted step h n i)) f.1 k)))
       (cases_lt n p.cubs)
@@ -165,7 +165,7 @@ module _ {S : Type 0} (step : S → Input Msg → Deed Msg S) (p : Params) (plan
       let two : PutBy n i y.stamp second.0 = event_put n (suc i) y second.0 known low (record { at = i; before = omega arith; there = l }) second.1 in
       let same = schedule.once n n x.stamp.beat y.stamp.beat first.0 second.0 (did_at n w.at x.stamp first.0 one) (did_at n i y.stamp second.0 two) (second.2 ∙ sym first.2) in
       let beats : y.stamp.beat ≡ x.stamp.beat = same.2 in
-      let rise = behind p (h.count n) ((lives_of h).input n) (lived step p plan nodes h are.history (calm orders) n one.small) w.at i w.before two.done (put_tick n w.at x.stamp first.0 one) in
+      let rise = behind p (h.count n) ((lives_of h).input n) (lived step p plan nodes h are.history.living (calm orders) n one.small) w.at i w.before two.done (put_tick n w.at x.stamp first.0 one) in
       let xb : beat_at ((lives_of h).input n) w.at ≡ x.stamp.beat = ap (λ (s : Stamp). s.beat) one.stamp_is in
       let yb : beat_at ((lives_of h).input n) i ≡ y.stamp.beat = ap (λ (s : Stamp). s.beat) two.stamp_is in
       let z : ⊥ = absurd (omega arith) in z))
@@ -191,11 +191,11 @@ module _ {S : Type 0} (step : S → Input Msg → Deed Msg S) (p : Params) (plan
   pub put_logged : (beats d x : ℕ) (t : Tenancy) → DidAt p (lives_of h) d (put_out t) x → x < beats
       → (y : Noted) × In y (order_of beats journals) × (y.entry.what ≡ what.Put t) × (beat_of y ≡ x) × (y.node ≡ d)
   put_logged beats d x t did early =
-      let wide = are.history.all_cubs in
+      let wide = are.history.living.all_cubs in
       let ds = did.small in
       let stamp : Stamp = stamp_at (h.event d did.at) in
       let e : Entry = record { stamp = stamp; what = what.Put t } in
-      let out = subst (λ (os : List (Out Msg)). In (put_out t) os) (sym (are.history.cubs d did.at ds did.done)) did.did in
+      let out = subst (λ (os : List (Out Msg)). In (put_out t) os) (sym (are.history.living.cubs d did.at ds did.done)) did.did in
       let there : In e (past noted step h d (h.count d)).journal = act_written step h d did.at (what.Put t) did.done out in
       let is_beat : stamp.beat ≡ x = ap (λ (s : Stamp). s.beat) (stamp_same (h.event d did.at)) ∙ did.in_beat in
       let zero_low : 0 ≤ stamp.beat = omega arith in

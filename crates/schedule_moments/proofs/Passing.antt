@@ -128,7 +128,7 @@ module _ {S : Type 0} (step : S → Input Msg → Deed Msg S) (p : Params) (plan
   small = ticked.small
 
   inside : c < nodes
-  inside = let wide = are.history.all_cubs in let s = ticked.small in omega arith
+  inside = let wide = are.history.living.all_cubs in let s = ticked.small in omega arith
 
   -- an entry of the cub in the front stands in its journal
   mine : (e : Entry) → In e (journal_of c front) → In e (past noted step h c (h.count c)).journal × (e.stamp.beat ≤ beat)
@@ -168,7 +168,7 @@ module _ {S : Type 0} (step : S → Input Msg → Deed Msg S) (p : Params) (plan
       let a : Ask = s.1 in
       let there = mine e i in
       let w = written_at step h c (h.count c) e there.0 in
-      let t = event_took step p c (h.event c w.at) (past noted step h c w.at) e link (note.Start a false) (are.history.run.fair c w.at inside w.before) w.there s.2 in
+      let t = event_took step p c (h.event c w.at) (past noted step h c w.at) e link (note.Start a false) (are.history.living.run.fair c w.at inside w.before) w.there s.2 in
       let message : t.message ≡ msg.Start a false = start_back t.message a false t.same in
       let input : (lives_of h).input c w.at ≡ Take e.stamp link (msg.Start a false) = ap input_of t.is ∙ ap (λ (m : Msg). Take e.stamp link m) message in
       let mine_ordered = are.starts.ordered c w.at e.stamp link a false small w.before input in
@@ -209,7 +209,7 @@ module _ {S : Type 0} (step : S → Input Msg → Deed Msg S) (p : Params) (plan
       let inputs : ℕ → Input Msg = (lives_of h).input d in
       let stamp : Stamp = stamp_of (inputs did.at) in
       let seat = fair.put_seat step p plan nodes h orders journals are d did.at stamp t (record { small = did.small; done = did.done; did = did.did; stamp_is = refl }) in
-      let reads = (lived step p plan nodes h are.history (calm orders) d did.small).reads did.at did.done in
+      let reads = (lived step p plan nodes h are.history.living (calm orders) d did.small).reads did.at did.done in
       let same : time_of p (beat_at inputs did.at) ≡ time_of p x = ap (λ n. time_of p n) did.in_beat in
       let r0 = reads.0 in
       let r1 = reads.1 in
@@ -221,7 +221,7 @@ module _ {S : Type 0} (step : S → Input Msg → Deed Msg S) (p : Params) (plan
   tick_reads : (time_of p beat ≤ reading) × (reading ≤ time_of p beat + p.skew)
   tick_reads =
       let inputs : ℕ → Input Msg = (lives_of h).input c in
-      let reads = (lived step p plan nodes h are.history (calm orders) c small).reads ticked.at ticked.done in
+      let reads = (lived step p plan nodes h are.history.living (calm orders) c small).reads ticked.at ticked.done in
       let wb : time_of p (beat_at inputs ticked.at) ≡ time_of p beat = ap (λ (i : Input Msg). time_of p (stamp_of i).beat) ticked.is in
       let wr : reading_at inputs ticked.at ≡ reading = ap (λ (i : Input Msg). (stamp_of i).reading) ticked.is in
       let r0 = reads.0 in

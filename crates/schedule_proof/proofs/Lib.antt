@@ -1,3 +1,4 @@
+pub mod Alive
 pub mod Beats
 pub mod Calm
 pub mod Knot

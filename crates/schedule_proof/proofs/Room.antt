@@ -27,7 +27,7 @@ pub record Room (p : Params) : Type 0 where
   pub silence : p.heart * p.beat + way p + p.skew ≤ p.deadman
   pub heart : 1 ≤ p.heart
 
-way_is : (p : Params) → way p ≡ longest_way p
+pub way_is : (p : Params) → way p ≡ longest_way p
 unfolding time_of
 way_is p = omega arith
 

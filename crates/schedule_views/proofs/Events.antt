@@ -97,7 +97,7 @@ module _ {S : Type 0} (step : S → Input Msg → Deed Msg S) (p : Params) (plan
 
   -- a cub is one of the nodes
   pub inside : (c : ℕ) → c < p.cubs → c < nodes
-  inside c small = let wide = are.history.all_cubs in omega arith
+  inside c small = let wide = are.history.living.all_cubs in omega arith
 
   -- each entry of a cub that tells neither of a message that was got nor of a death is so
   pub cub_output : (c : ℕ) → c < p.cubs → (front : List Entry) (e : Entry) (back : List Entry) → front ++ e ∷ back ≡ so_far step h c (h.count c) → is_got e.what ≡ false → is_died e.what ≡ false
@@ -109,13 +109,13 @@ module _ {S : Type 0} (step : S → Input Msg → Deed Msg S) (p : Params) (plan
       let stamp = stamp_same (h.event c w.at) in (
         o.output,
         ap (λ (x : Entry). x.what) (sym o.is),
-        all_in (IsAllowed noted p c) o.output (outs noted step h c w.at) (are.history.run.fair c w.at (inside c small) w.before) there,
+        all_in (IsAllowed noted p c) o.output (outs noted step h c w.at) (are.history.living.run.fair c w.at (inside c small) w.before) there,
         record {
           at = w.at;
           done = w.before;
           earlier = o.earlier;
           later = o.later;
-          outs_are = sym (are.history.cubs c w.at small w.before) ∙ o.outs_are;
+          outs_are = sym (are.history.living.cubs c w.at small w.before) ∙ o.outs_are;
           front_is = w.front_is ∙ ap (λ (l : List Entry). so_far step h c w.at ++ l) (o.part_is ∙ ap (λ (s : Stamp). got_at (inputs_of h c w.at) ++ map (entry_of noted s) o.earlier) stamp);
           stamp_is = ap (λ (x : Entry). x.stamp) o.is ∙ stamp;
         },
@@ -151,7 +151,7 @@ module _ {S : Type 0} (step : S → Input Msg → Deed Msg S) (p : Params) (plan
       → Entered (facts_of p (lives_of h) (calm orders)) c r.tenancy r.visit (beat_at (inputs_of h c) at)
   entered_written c at e r small done i took =
       let w = event_wrote step (h.event c at) (past noted step h c at) e (what.Took r) tt i took in
-      entered c at r small done (subst (λ (os : List (Out Msg)). In (out.Act (what.Took r)) os) (are.history.cubs c at small done) w.0)
+      entered c at r small done (subst (λ (os : List (Out Msg)). In (out.Act (what.Took r)) os) (are.history.living.cubs c at small done) w.0)
 
   -- a front of the order has a front of a cub's journal, and what it lacks is of what comes behind
   pub record IsFrontAt (c : ℕ) (front back : List Noted) : Type 0 where
@@ -188,5 +188,5 @@ module _ {S : Type 0} (step : S → Input Msg → Deed Msg S) (p : Params) (plan
       let e = any_found (λ (x : Entry). is_died x.what) (journal_of c front) t in
       let there : In e.0 (so_far step h c (h.count c)) = subst (λ (l : List Entry). In e.0 l) f.is (in_left e.0 (journal_of c front) _ e.1) in
       let w = written_at step h c (h.count c) e.0 there in
-      event_lives step p c (h.event c w.at) (past noted step h c w.at) e.0 (are.history.alive c w.at (inside c small) w.before)
-      (are.history.run.fair c w.at (inside c small) w.before) w.there e.2
+      event_lives step p c (h.event c w.at) (past noted step h c w.at) e.0 (are.history.living.alive c w.at (inside c small) w.before)
+      (are.history.living.run.fair c w.at (inside c small) w.before) w.there e.2

@@ -75,8 +75,8 @@ module _ {S : Type 0} (step : S → Input Msg → Deed Msg S) (p : Params) (plan
   state_came : (c at : ℕ) (stamp : Stamp) (link : LinkNo) (s : State) → c < p.cubs → at < h.count c → inputs_of h c at ≡ Take stamp link (msg.ViewerState s)
       → IsTrue (is_from_before p c (ends_of (links_of p) link.0))
   state_came c at stamp link s small done is =
-      let f = came step p plan nodes h are.history (calm orders) c at stamp link (msg.ViewerState s) small done is in
-      let w = state_from step p plan nodes h are.history (calm orders) c at stamp link s small f done in
+      let f = came step p plan nodes h are.history.living (calm orders) c at stamp link (msg.ViewerState s) small done is in
+      let w = state_from step p plan nodes h are.history.living (calm orders) c at stamp link s small f done in
       let k : ℕ = w.1.0 in
       let link_is : (way_ahead p f.from k).0 ≡ link.0 = ap (λ (x : LinkNo). x.0) (sym w.1.4) ∙ f.same in
       let ends = sym (way_ends p f.from k plan w.0 w.1.1 w.1.2) ∙ ap (λ n. ends_of (links_of p) n) link_is ∙ f.ends in

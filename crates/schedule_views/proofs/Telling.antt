@@ -83,7 +83,7 @@ module _ {S : Type 0} (step : S → Input Msg → Deed Msg S) (p : Params) (plan
       ap records_of (one_event_more step h c i)
       ∙ records_after old (wrote step h c i)
       ∙ event_recorded step (h.event c i) (past noted step h c i) (records_of old)
-      ∙ ap (λ (os : List (Out Msg)). recorded_by os (records_of old)) (quiet.cubs c i small low)
+      ∙ ap (λ (os : List (Out Msg)). recorded_by os (records_of old)) (quiet.living.cubs c i small low)
 
   -- before each event the journal tells the records of the view
   pub told : (i : ℕ) → i ≤ h.count c → AreRecordsOf (store_at p c (inputs_of h c) i).view.lines (records_of (so_far step h c i))

@@ -1,0 +1,12 @@
+pub mod Begun
+pub mod Cubs
+pub mod HoldLaws
+pub mod Holds
+pub mod Ledger
+pub mod PassFrom
+pub mod PassLaws
+pub mod Passing
+pub mod Persist
+pub mod RecordPasses
+pub mod Starts
+pub mod Tags

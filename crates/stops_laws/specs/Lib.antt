@@ -1,0 +1,2 @@
+pub mod HoldsHere
+pub mod StopFactsOf

@@ -1,0 +1,10 @@
+pub mod Ahead
+pub mod Conflicts
+pub mod CuttingOn
+pub mod Ends
+pub mod Passes
+pub mod Reach
+pub mod Setting
+pub mod StopRoom
+pub mod Stopped
+pub mod Waves

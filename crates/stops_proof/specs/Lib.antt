@@ -1,0 +1,4 @@
+pub mod StopFacts
+pub mod StopLaws
+pub mod StopLogs
+pub mod StoppedSchedule

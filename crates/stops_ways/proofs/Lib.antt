@@ -1,0 +1,11 @@
+pub mod Commanding
+pub mod Controllers
+pub mod Deschedules
+pub mod Ends
+pub mod InRing
+pub mod Knowing
+pub mod Laws
+pub mod Placings
+pub mod Stopping
+pub mod Visits
+pub mod Ways
