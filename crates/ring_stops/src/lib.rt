@@ -2,9 +2,15 @@
 #![tactic(auto)]
 
 ghost use Rattle.ring_stops.specs.Rings.{RingHasOneScheduleWithStops};
+ghost use Rattle.ring_stops.specs.Scenarios.{LivingRunsHaveOneSchedule};
 
 /// Whatever befalls the nodes of a ring from their opening on, where nobody dies, the cubs have one schedule: whoever is put
 /// in a slot finds it free, or its holder stopped before.
 pub fn ring_has_one_schedule_with_stops<G>()
     ensures { RingHasOneScheduleWithStops G }
+{}
+
+/// In the run of a scenario without deaths the cubs have one schedule, whatever it starts and stops.
+pub fn living_runs_have_one_schedule<G>()
+    ensures { LivingRunsHaveOneSchedule G }
 {}

@@ -1,0 +1,132 @@
+-- The run of a scenario without deaths is that of a ring in which nobody dies, and its starts have blocks.
+use Rattle.std.proofs.Common.{◌≡◌, ℕ, zero, suc, ◌+◌, ◌*◌, ◌<◌, ◌≤◌, nat_lt, nat_le, ◌&&◌, List, [], ◌∷◌, length, Bool, true, false, cond, Option, Some, None, option_map, option_and_then, refl, sym, ap, subst, ◌∙◌, arith, ⊎_elim}
+use Rattle.std.specs.Prelude.{slice_get}
+use Rattle.std.specs.Int.{div_ceil}
+use Rattle.std.specs.List.{All}
+use Rattle.std.proofs.lemmas.Bool.{cases_lt, le-leb}
+use Rattle.std.proofs.lemmas.List.{length-map}
+use Rattle.std.proofs.lemmas.Grind.{div_ceil_times}
+use Rattle.std.proofs.lemmas.Option.{none-some, slice_get-map, slice_get_within, get_or_from_slice_get}
+use Rattle.std.proofs.Math.Nat.{mul-le-mul, mul-le-mul_right, add-mul}
+use Rattle.tiger_base.specs.declared.tenancy.Ask.{Ask}
+use Rattle.stripe_layout.specs.declared.catalogue.FileInfo.{FileInfo}
+use Rattle.stripe_layout.specs.declared.catalogue.Catalogue.{Catalogue}
+use Rattle.stripe_layout.specs.Places.{block_count}
+use Rattle.stripe_layout.proofs.Blocks.{block_count-there, one_block}
+use Rattle.node_kit.specs.declared.course.Course.{Course}
+use Rattle.node_kit.specs.declared.course.Kept.{Kept}
+use Rattle.node_kit.specs.declared.course.Order.{Order}
+use Rattle.node_kit.specs.declared.course.OrderKind.TheVariants as kinds
+use Rattle.node_kit.specs.Courses.{IsCourse}
+use Rattle.node_kit.specs.Life.{lifetime_of}
+use Rattle.scenario_read.specs.declared.scenario.FileLine.{FileLine}
+use Rattle.scenario_read.specs.declared.scenario.ScEvent.{ScEvent}
+use Rattle.scenario_read.specs.declared.scenario.ScEvent.TheVariants.{Begin, Finish}
+use Rattle.scenario_read.specs.declared.scenario.Scenario.{Scenario}
+use Rattle.scenario_read.specs.Sound.{StartsWithin, IsScenario}
+use Rattle.scenario_read.specs.Orders.{IsCatalogueOf, first_disk, orders_from, start_order}
+use Rattle.scenario_read.proofs.Inversions.{map-some}
+use Rattle.scenario_read.proofs.OrderFacts.{orders-given}
+use Rattle.ring_facts.specs.Rings.{IsRingRun}
+use Rattle.ring_schedule.specs.Rings.{IsCalmRing}
+use Rattle.ring_schedule.specs.Scenarios.{AreShort}
+use Rattle.ring_schedule.proofs.Openings.{get_some, calm_ring}
+use Rattle.ring_stops.specs.Rings.{AreCountedOrders}
+use Rattle.ring_stops.specs.Scenarios.{IsLivingScenario, LivingRunsHaveOneSchedule}
+use Rattle.ring_stops.proofs.Rings.{ring_one_schedule}
+
+-- what holds of all elements of a list holds of the one at a place
+all_at : {X : Type 0} (P : X → Type 0) (xs : List X) (k : ℕ) (x : X) → All P xs → slice_get xs k ≡ Some x → P x
+all_at P xs k x all at = subst P (get_or_from_slice_get xs k x x at) (all k x (slice_get_within xs k x at))
+
+-- nobody has a death
+no_death : (b : Bool) (o : Option (Option ℕ)) → ((d : Option ℕ) → o ≡ Some d → d ≡ None) → cond b (option_and_then (λ d. d) o) None ≡ None
+no_death false o h = refl
+no_death true None h = refl
+no_death true (Some d) h = h d refl
+
+deathless : (c : Course) (n : ℕ) → All (λ death. death ≡ None) c.deaths → (lifetime_of c n).death ≡ None
+deathless c n all = no_death (nat_lt n c.plan.params.cubs) (slice_get c.deaths n) (λ d e. all_at (λ death. death ≡ None) c.deaths n d all e)
+
+-- a file has no more blocks than bytes
+few_blocks : (len size : ℕ) → 1 ≤ size → div_ceil len size ≤ len
+few_blocks len size sized =
+    let bounds = div_ceil_times len size sized in ⊎_elim
+    (λ (many : len < div_ceil len size).
+    let up : (len + 1) * size ≤ div_ceil len size * size = mul-le-mul_right size (omega (arith, many)) in
+    let least : len * 1 ≤ len * size = mul-le-mul (omega arith) sized in
+    let sum = add-mul len 1 size in
+    let high = bounds.1 in
+    absurd (omega (arith, up, least, sum, high)))
+    (λ (few : div_ceil len size ≤ len). few)
+    (cases_lt len (div_ceil len size))
+
+both_true : (a b : Bool) → a ≡ true → b ≡ true → (a && b) ≡ true
+both_true true true e f = refl
+both_true true false e f = f
+both_true false b e f = e
+
+-- each file of the scenario has blocks
+count_fits : (s : Scenario) (library : List (List ℕ)) (c : Catalogue) (file : ℕ) → AreShort library → IsCatalogueOf s library c → file < length s.files
+    → (1 ≤ block_count c file) × (block_count c file ≤ 16777216)
+count_fits s library c file short is low =
+    let disks = is.first_disks in
+    let same : length c.files ≡ length s.files =
+    sym (length-map c.files (λ (info : FileInfo). info.disk)) ∙ ap length disks ∙ length-map s.files (λ (line : FileLine). line.disk) in
+    let info = get_some c.files file (omega (arith, same, low)) in
+    let there : option_map (λ (bytes : List ℕ). length bytes) (slice_get library file) ≡ Some info.0.len =
+    sym (slice_get-map (λ (bytes : List ℕ). length bytes) library file)
+    ∙ ap (λ (ns : List ℕ). slice_get ns file) is.lengths
+    ∙ slice_get-map (λ (x : FileInfo). x.len) c.files file
+    ∙ ap (λ (o : Option FileInfo). option_map (λ (x : FileInfo). x.len) o) info.1 in
+    let m = map-some (λ (bytes : List ℕ). length bytes) (slice_get library file) info.0.len there in
+    let most : length m.0 ≤ 16777216 = all_at (λ (bytes : List ℕ). length bytes ≤ 16777216) library file m.0 short m.1 in
+    let len = m.2 in
+    let count = block_count-there c file info.0 info.1 in
+    let some = one_block c file info.0 info.1 in
+    let few = few_blocks info.0.len c.block c.sound.block_low in
+    (omega (arith, count, some), omega (arith, count, few, most, len))
+
+-- equal orders are of one kind
+same_kind : (a b : Order) → Some a ≡ Some b → a.what ≡ b.what
+same_kind a b e = let z : a ≡ b = cc in ap (λ (x : Order). x.what) z
+
+-- what a start among the orders asks for has blocks
+fit_ask : (c : Catalogue) (files n : ℕ) (es : List ScEvent) → ((file : ℕ) → file < files → (1 ≤ block_count c file) × (block_count c file ≤ 16777216))
+    → ((j : ℕ) (e : ScEvent) → slice_get es j ≡ Some e → StartsWithin files e)
+    → (k beat : ℕ) (ask : Ask) → slice_get (orders_from c n es) k ≡ Some (record { beat = beat; what = kinds.Begin ask })
+    → (1 ≤ ask.count) × (ask.count ≤ 16777216)
+fit_ask c files n [] fit given k at ask e = absurd (none-some (record { beat = at; what = kinds.Begin ask }) e)
+fit_ask c files n (Begin beat file ∷ es) fit given zero at ask e =
+    let w = same_kind (start_order c n beat file) (record { beat = at; what = kinds.Begin ask }) e in
+    let same : record { instance = record { 0 = n }; file = file; count = block_count c file.0; disk = first_disk c file.0 } ≡ ask = cc in
+    subst (λ (x : Ask). (1 ≤ x.count) × (x.count ≤ 16777216)) same (fit file.0 (given 0 (Begin beat file) refl))
+fit_ask c files n (Begin beat file ∷ es) fit given (suc k) at ask e = fit_ask c files (n + 1) es fit (λ j x q. given (suc j) x q) k at ask e
+fit_ask c files n (Finish beat v ∷ es) fit given zero at ask e =
+    let w : kinds.Finish v ≡ kinds.Begin ask = same_kind (record { beat = beat; what = kinds.Finish v }) (record { beat = at; what = kinds.Begin ask }) e in absurd (cc)
+fit_ask c files n (Finish beat v ∷ es) fit given (suc k) at ask e = fit_ask c files n es fit (λ j x q. given (suc j) x q) k at ask e
+
+counted_orders : (s : Scenario) (library : List (List ℕ)) (c : Catalogue) → IsScenario s → AreShort library → IsCatalogueOf s library c
+    → AreCountedOrders s.course.plan.params (orders_from c 0 s.events)
+counted_orders s library c scenario short is = record {
+  given = orders-given s c scenario is.first_disks;
+  counted = λ k ask starts.
+      let fits = fit_ask c (length s.files) 0 s.events (λ file low. count_fits s library c file short is low)
+      (λ j e q. all_at (StartsWithin (length s.files)) s.events j e scenario.events.within q) k starts.0 ask starts.1 in
+      both_true (nat_le 1 ask.count) (nat_le ask.count 16777216) (le-leb _ _ fits.0) (le-leb _ _ fits.1);
+}
+
+-- the ring of a run of a scenario without deaths
+module _ (G : Type 0) (s : Scenario) (library : List (List ℕ)) (k : Kept) (scenario : IsScenario s) (living : IsLivingScenario s) (short : AreShort library) (run : IsRingRun G s library k) where
+  orders : AreCountedOrders k.course.plan.params k.orders
+  orders = subst (λ (c : Course). AreCountedOrders c.plan.params k.orders) (sym run.course)
+      (subst (λ (os : List Order). AreCountedOrders s.course.plan.params os) (sym run.orders) (counted_orders s library k.catalogue scenario short run.catalogue))
+
+  ring : IsCalmRing k.course.plan.params k.orders run.steps.history.history
+  ring = calm_ring G k.course k.catalogue library k.orders run.steps.nodes k.journals (subst IsCourse (sym run.course) scenario.course)
+      (λ n. deathless k.course n (subst (λ (c : Course). All (λ death. death ≡ None) c.deaths) (sym run.course) living)) run.steps.history
+
+pub living_runs_have_one_schedule : (G : Type 0) → LivingRunsHaveOneSchedule G
+living_runs_have_one_schedule G s library k scenario living short run =
+    ring_one_schedule G k.course.plan.params k.orders run.steps.history.history k.course.plan.sound (orders G s library k scenario living short run)
+    (ring G s library k scenario living short run)
