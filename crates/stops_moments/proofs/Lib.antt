@@ -1,0 +1,5 @@
+mod Ones
+mod Singles
+mod Orders
+mod Gone
+pub mod Fair
