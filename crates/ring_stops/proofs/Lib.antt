@@ -1,3 +1,4 @@
 pub mod Commands
+pub mod Putting
 pub mod Rings
 pub mod Scenarios

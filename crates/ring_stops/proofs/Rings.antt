@@ -1,10 +1,11 @@
 -- A ring's history without deaths is a history in which a controller gives orders, with orderly starts.
-use Rattle.std.proofs.Common.{◌≡◌, ℕ, zero, suc, ◌+◌, ◌<◌, ◌≤◌, ◌==◌, List, [], filter, Bool, true, false, Option, Some, None, refl, sym, ap, subst, ◌∙◌, arith, ⊎_elim, inl, inr, eq-or-lt_of_le}
+use Rattle.std.proofs.Common.{◌≡◌, ℕ, zero, suc, ◌+◌, ◌<◌, ◌≤◌, ◌==◌, List, [], length, filter, Bool, true, false, Option, Some, None, refl, sym, ap, subst, ◌∙◌, arith, ⊎_elim, inl, inr, eq-or-lt_of_le}
 use Rattle.std.specs.Prelude.{◌⊎◌, slice_get}
 use Rattle.std.proofs.lemmas.Bool.{cases_lt, lt-ltb, eqb-true}
 use Rattle.tiger_base.specs.declared.number.LinkNo.{LinkNo}
 use Rattle.tiger_base.specs.declared.number.Stamp.{Stamp}
 use Rattle.tiger_base.specs.declared.tenancy.Ask.{Ask}
+use Rattle.tiger_base.specs.declared.tenancy.Tenancy.{Tenancy}
 use Rattle.tiger_base.specs.declared.tenancy.Want.{Want}
 use Rattle.tiger_base.specs.Span.{LibraryPart}
 use Rattle.tiger_base.specs.declared.message.Msg.{Msg}
@@ -15,6 +16,8 @@ use Rattle.slot_plan.specs.Conditions.{IsPlan}
 use Rattle.slot_plan.specs.Times.{disk_count}
 use Rattle.node_kit.specs.declared.course.Order.{Order}
 use Rattle.node_kit.specs.declared.course.OrderKind.TheVariants.{Begin}
+use Rattle.node_kit.specs.declared.journal.Entry.{Entry}
+use Rattle.node_kit.specs.declared.journal.What.TheVariants as what
 use Rattle.node_kit.specs.declared.outbox.Out.{Out}
 use Rattle.node_kit.specs.declared.outbox.Out.TheVariants as out
 use Rattle.node_kit.specs.Form.{is_in_form}
@@ -24,7 +27,7 @@ use Rattle.node_kit.specs.Steps.Input.{Take, Tick}
 use Rattle.rule_kit.specs.Ways.{way_from_disk}
 use Rattle.rule_kit.specs.Deeds.{nothing}
 use Rattle.run_facts.specs.Events.{NodeEvent, is_tick, is_death, sends_of}
-use Rattle.run_facts.specs.Histories.{History, past, outs, beat, ticks, sent}
+use Rattle.run_facts.specs.Histories.{History, past, outs, beat, ticks, sent, last_of}
 use Rattle.run_facts.proofs.Counts.{sent-numbered}
 use Rattle.disk_core.specs.State.{DiskState}
 use Rattle.disk_core.specs.Rules.{asked, answers, read_part, disk_step}
@@ -47,8 +50,10 @@ use Rattle.ring_schedule.proofs.Controllers.{in_place, order_made, start_sent}
 use Rattle.stops_ways.specs.Controllers as control
 use Rattle.stops_ways.specs.Histories.{IsCommandedHistory}
 use Rattle.stops_schedule.proofs.Assembled.{living_schedule}
+use Rattle.stops_moments.specs.Living.{AreLivingJournals}
 use Rattle.ring_stops.specs.Rings.{AreCountedOrders, RingHasOneScheduleWithStops}
 use Rattle.ring_stops.proofs.Commands.{IsCommand, commanding_out, start_out, one_order, commanding_once}
+use Rattle.ring_stops.proofs.Putting.{disk_put, command_put}
 
 -- a disk sends parts only
 abbrev IsAnswer : Msg → Type 0
@@ -184,6 +189,24 @@ module _ {G : Type 0} (p : Params) (plan : IsPlan p) (orders : List Order) (fine
       (eq-or-lt_of_le past))
       (cases_lt n ctrl)
 
+  -- another node than a cub puts nothing
+  others_put : (n i : ℕ) (t : Tenancy) → n < node_count p → p.cubs ≤ n → i < h.count n → In (out.Act (what.Put t)) (outs noted any_step h n i) → ⊥
+  others_put n i t inside from low k = ⊎_elim
+      (λ (disk : n < ctrl).
+      let d = kept (λ s. (d : DiskState) × (s ≡ node.Disk d)) (λ s j w. ((disk_step w.0 j).state, ap (λ (x : AnyNode G). (any_step x j).state) w.1)) n i inside (omega arith) (ring.opens.disks n from disk) in
+      let e = outs_are n i inside low ∙ ap (λ (x : AnyNode G). (any_step x (input_of (h.event n i))).outs) d.1 in
+      disk_put d.0 (input_of (h.event n i)) t (subst (λ (os : List (Out Msg)). In (out.Act (what.Put t)) os) e k))
+      (λ (past : ctrl ≤ n). ⊎_elim
+      (λ (e : ctrl ≡ n).
+      let same = commands i (subst (λ x. i < h.count x) (sym e) low) in
+      command_put p orders (inputs i) (control.known_at p orders inputs i) t
+      (subst (λ (os : List (Out Msg)). In (out.Act (what.Put t)) os) same (subst (λ x. In (out.Act (what.Put t)) (outs noted any_step h x i)) (sym e) k)))
+      (λ (g : ctrl < n).
+      let e : n ≡ p.cubs + disk_count p + 1 = omega arith in
+      viewers_put_out i (out.Act (what.Put t)) (subst (λ x. i < h.count x) e low) (subst (λ x. In (out.Act (what.Put t)) (outs noted any_step h x i)) e k))
+      (eq-or-lt_of_le past))
+      (cases_lt n ctrl)
+
   living_history : IsLivingHistory any_step p (node_count p) h
   living_history = record {
     run = ring.run;
@@ -292,6 +315,17 @@ module _ {G : Type 0} (p : Params) (plan : IsPlan p) (orders : List Order) (fine
           same = sym same;
         } in
         (links, once_sent w (h.count ctrl) (omega arith) a.instance.0 j k one two);
+  }
+
+  -- and their journals are those of a history without deaths, if there is one for each node
+  pub living_journals : (journals : List (List Entry)) → length journals ≡ node_count p → ((n : ℕ) → n < node_count p → slice_get journals n ≡ Some (last_of noted any_step h n).journal)
+      → AreLivingJournals any_step p (node_count p) h orders journals
+  living_journals journals count writes = record {
+    history = commanded_history;
+    orderly = orderly;
+    others = λ n i t inside from low k. others_put n i t inside from low k;
+    count = count;
+    writes = writes;
   }
 
 pub ring_one_schedule : (G : Type 0) → RingHasOneScheduleWithStops G

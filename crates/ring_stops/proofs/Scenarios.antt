@@ -27,13 +27,19 @@ use Rattle.scenario_read.specs.Sound.{StartsWithin, IsScenario}
 use Rattle.scenario_read.specs.Orders.{IsCatalogueOf, first_disk, orders_from, start_order}
 use Rattle.scenario_read.proofs.Inversions.{map-some}
 use Rattle.scenario_read.proofs.OrderFacts.{orders-given}
+use Rattle.ring_nodes.specs.declared.nodes.AnyNode.{AnyNode}
+use Rattle.ring_nodes.specs.AllNodes.{any_step, node_count, image_at, images_of}
+use Rattle.ring_nodes.proofs.Numbered.{length-numbered, opening_count}
 use Rattle.ring_facts.specs.Rings.{IsRingRun}
+use Rattle.ring_facts.specs.Steps.{ring_of}
+use Rattle.stops_moments.specs.Living.{AreLivingJournals}
+use Rattle.stops_moments.proofs.Fair as fair
 use Rattle.ring_schedule.specs.Rings.{IsCalmRing}
 use Rattle.ring_schedule.specs.Scenarios.{AreShort}
-use Rattle.ring_schedule.proofs.Openings.{get_some, calm_ring}
+use Rattle.ring_schedule.proofs.Openings.{get_some, calm_ring, journal_count}
 use Rattle.ring_stops.specs.Rings.{AreCountedOrders}
-use Rattle.ring_stops.specs.Scenarios.{IsLivingScenario, LivingRunsHaveOneSchedule}
-use Rattle.ring_stops.proofs.Rings.{ring_one_schedule}
+use Rattle.ring_stops.specs.Scenarios.{IsLivingScenario, LivingRunsHaveOneSchedule, LivingRunsPutFairly}
+use Rattle.ring_stops.proofs.Rings.{living_journals, ring_one_schedule}
 
 -- what holds of all elements of a list holds of the one at a place
 all_at : {X : Type 0} (P : X → Type 0) (xs : List X) (k : ℕ) (x : X) → All P xs → slice_get xs k ≡ Some x → P x
@@ -122,11 +128,32 @@ module _ (G : Type 0) (s : Scenario) (library : List (List ℕ)) (k : Kept) (sce
   orders = subst (λ (c : Course). AreCountedOrders c.plan.params k.orders) (sym run.course)
       (subst (λ (os : List Order). AreCountedOrders s.course.plan.params os) (sym run.orders) (counted_orders s library k.catalogue scenario short run.catalogue))
 
+  abbrev given : List (AnyNode G)
+  given = ring_of G k.course k.catalogue library k.orders
+
+  size : length given ≡ node_count k.course.plan.params
+  size =
+      let images = images_of k.course.plan.params k.catalogue library in
+      let all = length-numbered (image_at k.course.plan.params k.catalogue library) (k.course.plan.params.cubs * k.course.plan.params.disks) in
+      opening_count k.course.plan.params k.course.faults images k.orders given all refl
+
   ring : IsCalmRing k.course.plan.params k.orders run.steps.history.history
   ring = calm_ring G k.course k.catalogue library k.orders run.steps.nodes k.journals (subst IsCourse (sym run.course) scenario.course)
       (λ n. deathless k.course n (subst (λ (c : Course). All (λ death. death ≡ None) c.deaths) (sym run.course) living)) run.steps.history
+
+  journals : AreLivingJournals any_step k.course.plan.params (node_count k.course.plan.params) run.steps.history.history k.orders k.journals
+  journals =
+      let whole = size in
+      living_journals k.course.plan.params k.course.plan.sound k.orders orders run.steps.history.history ring k.journals
+      (journal_count any_step k.course given run.steps.nodes k.journals run.steps.whole ∙ size)
+      (λ n low. run.steps.history.theirs.writes n (omega (arith, whole, low)))
 
 pub living_runs_have_one_schedule : (G : Type 0) → LivingRunsHaveOneSchedule G
 living_runs_have_one_schedule G s library k scenario living short run =
     ring_one_schedule G k.course.plan.params k.orders run.steps.history.history k.course.plan.sound (orders G s library k scenario living short run)
     (ring G s library k scenario living short run)
+
+pub living_runs_put_fairly : (G : Type 0) → LivingRunsPutFairly G
+living_runs_put_fairly G s library k scenario living short run =
+    fair.living_puts_are_fair (AnyNode G) any_step k.course.plan.params (node_count k.course.plan.params) run.steps.history.history k.orders k.journals k.course.beats k.course.plan.sound
+    (journals G s library k scenario living short run)

@@ -2,7 +2,7 @@
 #![tactic(auto)]
 
 ghost use Rattle.ring_stops.specs.Rings.{RingHasOneScheduleWithStops};
-ghost use Rattle.ring_stops.specs.Scenarios.{LivingRunsHaveOneSchedule};
+ghost use Rattle.ring_stops.specs.Scenarios.{LivingRunsHaveOneSchedule, LivingRunsPutFairly};
 
 /// Whatever befalls the nodes of a ring from their opening on, where nobody dies, the cubs have one schedule: whoever is put
 /// in a slot finds it free, or its holder stopped before.
@@ -13,4 +13,10 @@ pub fn ring_has_one_schedule_with_stops<G>()
 /// In the run of a scenario without deaths the cubs have one schedule, whatever it starts and stops.
 pub fn living_runs_have_one_schedule<G>()
     ensures { LivingRunsHaveOneSchedule G }
+{}
+
+/// In the run of a scenario without deaths each Put finds its slot free, at the moment before its entry in the order of all
+/// entries, and it is rightly put.
+pub fn living_runs_put_fairly<G>()
+    ensures { LivingRunsPutFairly G }
 {}
