@@ -1,0 +1,10 @@
+pub mod Accounts
+pub mod Deliveries
+pub mod Returns
+pub mod Visits
+pub mod Truths
+pub mod Served
+pub mod Turns
+pub mod Patience
+pub mod Claims
+pub mod Samples
