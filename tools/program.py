@@ -3,14 +3,13 @@
 Python 3.8 or later, and nothing but its standard library.
 """
 import argparse
-import importlib.machinery
-import importlib.util
 import os
 import subprocess
 import sys
 
 TOP = os.path.dirname(os.path.dirname(os.path.realpath(__file__)))
 LAUNCHER = os.path.join(TOP, "tiger")
+PROGRAM = os.path.join(TOP, "crates", "tiger_run", "out", "tiger_run")
 CASES = os.path.join(TOP, "conformance")
 WAIT = 300  # seconds after which a run counts as hung
 
@@ -65,15 +64,7 @@ def built():
     if subprocess.run([LAUNCHER, "--version"], stdout=subprocess.DEVNULL).returncode != 0:
         print("the program could not be built", file=sys.stderr)
         sys.exit(NO_PROGRAM)
-    return launcher().PROGRAM
-
-
-def launcher():
-    """The launcher as a module."""
-    loader = importlib.machinery.SourceFileLoader("launcher", LAUNCHER)
-    module = importlib.util.module_from_spec(importlib.util.spec_from_loader("launcher", loader))
-    loader.exec_module(module)
-    return module
+    return PROGRAM
 
 
 def words(doc):
