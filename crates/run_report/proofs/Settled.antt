@@ -6,7 +6,7 @@ use Rattle.std.proofs.lemmas.List.{append-nil}
 use Rattle.std.proofs.lemmas.List.Concat.{flat_map-append}
 use Rattle.tiger_base.specs.declared.tenancy.Tenancy.{Tenancy}
 use Rattle.slot_plan.specs.declared.params.Params.{Params}
-use Rattle.slot_plan.specs.Times.{due, first_due}
+use Rattle.slot_plan.specs.Times.{due, first_due, time_of}
 use Rattle.stripe_layout.specs.declared.catalogue.Catalogue.{Catalogue}
 use Rattle.node_kit.specs.declared.course.Course.{Course}
 use Rattle.node_kit.specs.declared.journal.Entry.{Entry}
@@ -26,8 +26,8 @@ not_after : (c : Course) (slot visit : ℕ) → is_settled c slot visit ≡ fals
 unfolding is_settled
 not_after c slot visit e =
     let more = due_more c.plan.params slot visit in
-    let late = leb-false (due c.plan.params slot visit + 2 * c.plan.params.play) (c.beats * c.plan.params.beat) e in
-    lt-leb (due c.plan.params slot (visit + 1) + 2 * c.plan.params.play) (c.beats * c.plan.params.beat) (omega arith)
+    let late = leb-false (due c.plan.params slot visit + 2 * c.plan.params.play) (time_of c.plan.params c.beats) e in
+    lt-leb (due c.plan.params slot (visit + 1) + 2 * c.plan.params.play) (time_of c.plan.params c.beats) (omega arith)
 
 one_not : (c : Course) (l : Catalogue) (js : List (List Entry)) (t : Tenancy) (visit : ℕ) → is_settled c t.slot.0 visit ≡ false
     → settled_block c l js t visit ≡ []

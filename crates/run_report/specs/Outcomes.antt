@@ -1,7 +1,8 @@
 -- What the journals of a run tell of its starts.
-use Rattle.std.specs.Prelude.{ℕ, ◌+◌, ◌-◌, ◌*◌, Bool, false, ◌&&◌, ◌==◌, nat_lt, nat_le, List, [], ◌∷◌, map, find, Option, Some, None, option_map, option_to_list, if◌then◌else◌}
+use Rattle.std.specs.Prelude.{◌≡◌, ℕ, ◌+◌, ◌-◌, ◌≤◌, Bool, false, ◌&&◌, ◌==◌, nat_lt, nat_le, List, [], ◌∷◌, map, find, Option, Some, None, option_map, option_to_list, if◌then◌else◌}
 use Rattle.std.specs.Option.{option_or}
 use Rattle.std.specs.List.{flat_map, list_any, range_with_len}
+use Rattle.std.proofs.Common.{refl}
 use Rattle.tiger_base.specs.declared.number.FileNo.{FileNo}
 use Rattle.tiger_base.specs.declared.part.Span.{Span}
 use Rattle.tiger_base.specs.declared.tenancy.Ask.{Ask}
@@ -22,7 +23,7 @@ use Rattle.node_kit.specs.declared.journal.What.{What}
 use Rattle.node_kit.specs.declared.journal.What.TheVariants as what
 use Rattle.run_facts.specs.Commanded.{is_gone_of}
 use Rattle.run_model.specs.declared.parcels.Parcel.{Parcel}
-use Rattle.run_model.specs.Served.{journal_at, wholes_got, pieces_got, pieces_numbered}
+use Rattle.run_model.specs.Served.{journal_at, wholes_got, pieces_got, pieces_numbered, IsSettled}
 use Rattle.run_model.specs.Tests.{read_failed, lost_in_death}
 use Rattle.run_report.specs.declared.outcome.BlockKind.{BlockKind}
 use Rattle.run_report.specs.declared.outcome.BlockKind.TheVariants as kind
@@ -118,9 +119,14 @@ abbrev pub block_at : Params → Catalogue → Tenancy → ℕ → BlockKind →
 block_at p l t visit kind =
     record { block = visit - t.first; due = due p t.slot.0 visit; span = span_at l t visit; kind = kind }
 
--- whether a visit is so long over at the end of the run that nothing of its block is under way
+-- the test of a fact, if what the fact says is that one number is at most another
+abbrev pub test_of : (Fact : Type 0) {m n : ℕ} → Fact ≡ (m ≤ n) → Bool
+test_of Fact {m} {n} says = nat_le m n
+
+-- whether a visit of a slot is settled at the end of the run
 unfoldable pub is_settled : Course → ℕ → ℕ → Bool
-is_settled c slot visit = nat_le (due c.plan.params slot visit + 2 * c.plan.params.play) (c.beats * c.plan.params.beat)
+is_settled c slot visit =
+    test_of (IsSettled c.plan.params (time_of c.plan.params c.beats) slot visit) refl
 
 -- the block of a visit, if the visit is settled and anything is to be told of it
 unfoldable pub settled_block : Course → Catalogue → List (List Entry) → Tenancy → ℕ → List BlockOut

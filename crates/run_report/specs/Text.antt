@@ -1,5 +1,5 @@
 -- The report as text: each line ends with one line feed, and numbers are decimal.
-use Rattle.std.specs.Prelude.{ℕ, ◌+◌, ◌<◌, ◌^◌, List, [], ◌∷◌, ◌++◌, length, Option, Some, None, slice_get, codes}
+use Rattle.std.specs.Prelude.{ℕ, ◌+◌, ◌<◌, ◌^◌, List, [], ◌∷◌, ◌++◌, length, Option, Some, None, All, slice_get, codes}
 use Rattle.std.specs.Fmt.{decimal}
 use Rattle.std.specs.List.{flat_map}
 use Rattle.hex.specs.Hex.{encode_lower}
@@ -52,20 +52,30 @@ stop_line v None = []
 stop_line v (Some beat) = worded (codes "stop ") v ++ worded (codes " at ") beat ++ codes "\n"
 
 abbrev pub nothing : Tally
-nothing = record { whole = 0; pieces = 0; missing = 0; bytes = 0 }
+nothing = record { whole = 0; pieces = 0; missing = 0 }
 
 abbrev pub plus : Tally → Tally → Tally
-plus a b = record { whole = a.whole + b.whole; pieces = a.pieces + b.pieces; missing = a.missing + b.missing; bytes = a.bytes + b.bytes }
+plus a b = record { whole = a.whole + b.whole; pieces = a.pieces + b.pieces; missing = a.missing + b.missing }
 
--- a block counts as whole, as pieces or as missing; one that is not missing has bytes
+-- a block counts as whole, as pieces or as missing
 abbrev pub kind_tally : BlockKind → Tally
-kind_tally (kind.Whole len sent) = record { whole = 1; pieces = 0; missing = 0; bytes = len }
-kind_tally (kind.Pieces len sent) = record { whole = 0; pieces = 1; missing = 0; bytes = len }
-kind_tally (kind.Missing reason) = record { whole = 0; pieces = 0; missing = 1; bytes = 0 }
+kind_tally (kind.Whole len sent) = record { whole = 1; pieces = 0; missing = 0 }
+kind_tally (kind.Pieces len sent) = record { whole = 0; pieces = 1; missing = 0 }
+kind_tally (kind.Missing reason) = record { whole = 0; pieces = 0; missing = 1 }
 
 abbrev pub tally_of : List BlockOut → Tally
 tally_of [] = nothing
 tally_of (b ∷ bs) = plus (kind_tally b.kind) (tally_of bs)
+
+-- how many bytes came of a block: none of one that is missing
+abbrev pub kind_bytes : BlockKind → ℕ
+kind_bytes (kind.Whole len sent) = len
+kind_bytes (kind.Pieces len sent) = len
+kind_bytes (kind.Missing reason) = 0
+
+abbrev pub bytes_of : List BlockOut → ℕ
+bytes_of [] = 0
+bytes_of (b ∷ bs) = kind_bytes b.kind + bytes_of bs
 
 -- the counts of blocks
 abbrev pub counts_text : Tally → List ℕ
@@ -77,15 +87,20 @@ digest_text (Some d) = encode_lower d.0
 digest_text None = []
 
 -- the last line of a start: its counts, its bytes and their digest
-unfoldable pub end_line : ℕ → Tally → Option Digest32 → List ℕ
-end_line v t digest =
-    worded (codes "end ") v ++ counts_text t ++ worded (codes " bytes ") t.bytes ++ codes " sha256 " ++ digest_text digest ++ codes "\n"
+unfoldable pub end_line : ℕ → List BlockOut → Option Digest32 → List ℕ
+end_line v blocks digest =
+    worded (codes "end ") v ++ counts_text (tally_of blocks)
+    ++ worded (codes " bytes ") (bytes_of blocks) ++ codes " sha256 " ++ digest_text digest ++ codes "\n"
+
+-- the last lines of a start: its stop, if there was one, and its counts
+abbrev pub ending_lines : List Digest32 → Outcome → List ℕ
+ending_lines digests o =
+    stop_line o.ask.instance.0 o.stop
+    ++ end_line o.ask.instance.0 o.blocks (slice_get digests o.ask.instance.0)
 
 -- the lines of one start
 unfoldable pub outcome_lines : List Digest32 → Outcome → List ℕ
-outcome_lines digests o =
-    start_line o ++ flat_map block_line o.blocks ++ stop_line o.ask.instance.0 o.stop
-    ++ end_line o.ask.instance.0 (tally_of o.blocks) (slice_get digests o.ask.instance.0)
+outcome_lines digests o = start_line o ++ flat_map block_line o.blocks ++ ending_lines digests o
 
 abbrev pub placed_count : Option Tenancy → ℕ
 placed_count (Some t) = 1
@@ -129,4 +144,7 @@ pub record Fits (t : Tally) : Type 0 where
   pub whole : t.whole < 2 ^ 64
   pub pieces : t.pieces < 2 ^ 64
   pub missing : t.missing < 2 ^ 64
-  pub bytes : t.bytes < 2 ^ 64
+
+-- the bytes of each start fit 64 bits
+abbrev pub BytesFit : List Outcome → Type 0
+BytesFit os = All (λ o. bytes_of o.blocks < 2 ^ 64) os

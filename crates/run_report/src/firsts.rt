@@ -51,7 +51,8 @@ impl Firsts {
 
     /// Keeps a beat under a key, unless one stands there.
     pub fn keep(&mut self, key: Key, beat: Beat) -> Result<(), NoMemory>
-        ensures { OnOk result ((q : Key) → beat_under q self.new ≡ option_or (beat_under q self.old) (if is_same key q then Some beat else None)) }
+        ensures { OnOk result ((q : Key) → beat_under q self.new
+            ≡ option_or (beat_under q self.old) (if is_same key q then Some beat else None)) }
     {
         if self.map.contains_key(&key) {
             return Ok(());
@@ -96,7 +97,9 @@ impl Puts {
 
     /// Keeps a Put of its instance, unless an earlier one, or one of the same beat, stands there.
     pub fn keep(&mut self, put: Placed) -> Result<(), NoMemory>
-        ensures { OnOk result ((v : ℕ) → put_under v self.new ≡ both (put_under v self.old) (if put.tenancy.instance.0 == v then Some put else None)) }
+        ensures { OnOk result ((v : ℕ) → put_under v self.new
+            ≡ both (put_under v self.old)
+            (if put.tenancy.instance.0 == v then Some put else None)) }
     {
         let v = put.tenancy.instance;
         if !is_sooner(self.get(v), &put) {

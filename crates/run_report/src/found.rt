@@ -20,7 +20,8 @@ fn pieces_sent(
     v: Instance,
     visit: Visit,
 ) -> Result<Option<Sequence<Beat>>, NoMemory>
-    ensures { IfOk result (λ sent. sent ≡ pieces_sent index.now.course.plan.params index.now.journals v.0 visit) }
+    ensures { IfOk result (λ sent. sent
+        ≡ pieces_sent index.now.course.plan.params index.now.journals v.0 visit) }
 {
     let mut sent = Sequence::new(Vec::new(alloc));
     for k in 1..index.course().plan.params.pieces as u32 + 1 {
@@ -89,7 +90,8 @@ fn kind_of(
     requires slot { t.now.slot.0 < index.now.course.plan.params.slots }
     requires visit { visit ≤ 2 ^ 32 }
     requires len { len ≡ (span_at catalogue.now t.now visit).len }
-    ensures { IfOk result (λ kind. kind ≡ kind_of index.now.course.plan.params catalogue.now index.now.journals t.now visit) }
+    ensures { IfOk result (λ kind. kind
+        ≡ kind_of index.now.course.plan.params catalogue.now index.now.journals t.now visit) }
 {
     if let Some(sent) = index.whole_sent(t.instance, visit) {
         return Ok(Some(BlockKind::Whole { len, sent }));
@@ -116,7 +118,7 @@ fn span_at(catalogue: &Catalogue, t: &Tenancy, visit: Visit) -> Span
     }
 }
 
-#[tactic(auto, unfolding(crate::specs::Outcomes::is_settled))]
+#[tactic(auto, unfolding(crate::specs::Outcomes::is_settled, slot_plan::specs::Times::time_of))]
 fn is_settled(course: &Course, slot: SlotNo, visit: Visit) -> bool
     requires beats { course.now.beats ≤ 100000 }
     requires slot { slot.0 < course.now.plan.params.slots }
@@ -141,7 +143,8 @@ fn push_block(
     requires slot { t.now.slot.0 < index.now.course.plan.params.slots }
     requires first { t.now.first ≤ visit }
     requires visit { visit ≤ 2 ^ 32 }
-    ensures { OnOk result (blocks.new ≡ blocks.old ++ settled_block index.now.course catalogue.now index.now.journals t.now visit) }
+    ensures { OnOk result (blocks.new ≡ blocks.old
+        ++ settled_block index.now.course catalogue.now index.now.journals t.now visit) }
 {
     let span = span_at(catalogue, t, visit);
     if let Some(kind) = kind_of(alloc, index, catalogue, t, visit, span.len)? {
@@ -165,7 +168,8 @@ fn tenancy_blocks(
 ) -> Result<Sequence<BlockOut>, NoMemory>
     requires beats { index.now.course.beats ≤ 100000 }
     requires form { IsTrue (is_tenancy index.now.course.plan.params t.now) }
-    ensures { IfOk result (λ blocks. blocks ≡ blocks_of index.now.course catalogue.now index.now.journals (Some t.now)) }
+    ensures { IfOk result (λ blocks. blocks
+        ≡ blocks_of index.now.course catalogue.now index.now.journals (Some t.now)) }
 {
     let mut blocks = Sequence::new(Vec::new(alloc));
     for visit in t.first..t.last + 1 {
@@ -187,7 +191,8 @@ fn blocks_of(
 ) -> Result<Sequence<BlockOut>, NoMemory>
     requires beats { index.now.course.beats ≤ 100000 }
     requires form { IfSome placed.now (λ t. IsTrue (is_tenancy index.now.course.plan.params t)) }
-    ensures { IfOk result (λ blocks. blocks ≡ blocks_of index.now.course catalogue.now index.now.journals placed.now) }
+    ensures { IfOk result (λ blocks. blocks
+        ≡ blocks_of index.now.course catalogue.now index.now.journals placed.now) }
 {
     match placed {
         Some(t) => tenancy_blocks(alloc, index, catalogue, t),
@@ -203,7 +208,8 @@ fn outcome_of(
     ask: Ask,
 ) -> Result<Outcome, NoMemory>
     requires beats { index.now.course.beats ≤ 100000 }
-    ensures { IfOk result (λ o. o ≡ outcome_of index.now.course catalogue.now index.now.journals ask) }
+    ensures { IfOk result (λ o. o
+        ≡ outcome_of index.now.course catalogue.now index.now.journals ask) }
 {
     let placed = index.placed(ask.instance);
     let blocks = blocks_of(alloc, index, catalogue, &placed)?;
@@ -223,8 +229,8 @@ fn push_outcome(
     order: &OrderKind,
 ) -> Result<(), NoMemory>
     requires beats { index.now.course.beats ≤ 100000 }
-    ensures { OnOk result (outcomes.new.items
-        ≡ outcomes.old.items ++ order_outcomes index.now.course catalogue.now index.now.journals order.now) }
+    ensures { OnOk result (outcomes.new.items ≡ outcomes.old.items
+        ++ order_outcomes index.now.course catalogue.now index.now.journals order.now) }
 {
     if let OrderKind::Begin(ask) = order {
         outcomes.push(outcome_of(alloc, index, catalogue, *ask)?)?;
@@ -243,7 +249,8 @@ pub fn outcomes(
     journals: &[Journal],
 ) -> Result<Vec<Outcome>, NoMemory>
     requires beats { course.now.beats ≤ 100000 }
-    ensures { IfOk result (λ os. os.items ≡ outcomes_of course.now catalogue.now orders.now journals.now) }
+    ensures { IfOk result (λ os. os.items
+        ≡ outcomes_of course.now catalogue.now orders.now journals.now) }
 {
     let index = Index::of(alloc, course, journals)?;
     let mut outcomes = Vec::new(alloc);

@@ -38,7 +38,8 @@ pub fn key_at(instance: Instance, visit: Visit, piece: u32) -> Key
 }
 
 fn keep_put(puts: &mut Puts, plan: &Plan, beat: Beat, what: &What) -> Result<(), NoMemory>
-    ensures { OnOk result ((v : ℕ) → put_under v puts.new ≡ both (put_under v puts.old) (earliest (put_by plan.now.params v beat what.now))) }
+    ensures { OnOk result ((v : ℕ) → put_under v puts.new
+        ≡ both (put_under v puts.old) (earliest (put_by plan.now.params v beat what.now))) }
 {
     match what {
         What::Put(tenancy) if in_form(plan, &Note::Placed(*tenancy)) => puts.keep(Placed {
@@ -62,7 +63,8 @@ fn keep_puts(puts: &mut Puts, plan: &Plan, journal: &[Entry]) -> Result<(), NoMe
 /// The earliest Put of each instance, by beat, then node, then place.
 #[tactic(auto, unfolding(crate::specs::Outcomes::puts_of))]
 pub fn all_puts(alloc: Global, plan: &Plan, journals: &[Journal]) -> Result<Puts, NoMemory>
-    ensures { IfOk result (λ puts. (v : ℕ) → put_under v puts ≡ earliest (puts_of plan.now.params journals.now v)) }
+    ensures { IfOk result (λ puts. (v : ℕ) → put_under v puts
+        ≡ earliest (puts_of plan.now.params journals.now v)) }
 {
     let mut puts = Puts::new(alloc);
     for journal in journals {
@@ -73,7 +75,8 @@ pub fn all_puts(alloc: Global, plan: &Plan, journals: &[Journal]) -> Result<Puts
 
 fn keep_stop(stops: &mut Firsts, beat: Beat, what: &What) -> Result<(), NoMemory>
     ensures { OnOk result ((v : ℕ) → beat_under (key_at v 0 0) stops.new
-        ≡ option_or (beat_under (key_at v 0 0) stops.old) (if is_gone_of v what.now then Some beat else None)) }
+        ≡ option_or (beat_under (key_at v 0 0) stops.old)
+        (if is_gone_of v what.now then Some beat else None)) }
 {
     match what {
         What::Gone(instance) => stops.keep(key_at(*instance, 0, 0), beat),
@@ -95,7 +98,8 @@ pub fn first_stops(alloc: Global, journal: &[Entry]) -> Result<Firsts, NoMemory>
 
 fn keep_whole(wholes: &mut Firsts, what: &What) -> Result<(), NoMemory>
     ensures { OnOk result ((v visit : ℕ) → beat_under (key_at v visit 0) wholes.new
-        ≡ option_or (beat_under (key_at v visit 0) wholes.old) (first_sent (whole_in v visit what.now))) }
+        ≡ option_or (beat_under (key_at v visit 0) wholes.old)
+        (first_sent (whole_in v visit what.now))) }
 {
     match what {
         What::Got(_, Note::Whole { want, sent, .. }) => {
@@ -119,7 +123,8 @@ pub fn first_wholes(alloc: Global, journal: &[Entry]) -> Result<Firsts, NoMemory
 
 fn keep_piece(pieces: &mut Firsts, what: &What) -> Result<(), NoMemory>
     ensures { OnOk result ((v visit k : ℕ) → beat_under (key_at v visit k) pieces.new
-        ≡ option_or (beat_under (key_at v visit k) pieces.old) (first_sent (pieces_numbered k (piece_in v visit what.now)))) }
+        ≡ option_or (beat_under (key_at v visit k) pieces.old)
+        (first_sent (pieces_numbered k (piece_in v visit what.now)))) }
 {
     match what {
         What::Got(_, Note::Piece { want, sent, .. }) => {
@@ -143,7 +148,8 @@ pub fn first_pieces(alloc: Global, journal: &[Entry]) -> Result<Firsts, NoMemory
 
 fn keep_failed(failed: &mut Firsts, beat: Beat, what: &What) -> Result<(), NoMemory>
     ensures { OnOk result ((v visit : ℕ) → is_some (beat_under (key_at v visit 0) failed.new)
-        ≡ (is_some (beat_under (key_at v visit 0) failed.old) || is_failed_read v visit 0 what.now)) }
+        ≡ (is_some (beat_under (key_at v visit 0) failed.old)
+        || is_failed_read v visit 0 what.now)) }
 {
     match what {
         What::ReadFailed(want) if want.piece == 0 => {
@@ -155,7 +161,8 @@ fn keep_failed(failed: &mut Firsts, beat: Beat, what: &What) -> Result<(), NoMem
 
 fn keep_all_failed(failed: &mut Firsts, journal: &[Entry]) -> Result<(), NoMemory>
     ensures { OnOk result ((v visit : ℕ) → is_some (beat_under (key_at v visit 0) failed.new)
-        ≡ (is_some (beat_under (key_at v visit 0) failed.old) || read_failed v visit 0 journal.now)) }
+        ≡ (is_some (beat_under (key_at v visit 0) failed.old)
+        || read_failed v visit 0 journal.now)) }
 {
     for e in journal {
         keep_failed(failed, e.stamp.beat, &e.what)?;

@@ -35,7 +35,8 @@ impl<'a> Model for Index<'a> {
 
     ghost view = { λ i. record { course = i.course.now; journals = i.journals.now } };
 
-    ghost invariant = { λ i. AreTables i.course.now.plan.params i.journals.now i.puts i.stops i.wholes i.pieces i.failed i.deaths };
+    ghost invariant = { λ i. AreTables i.course.now.plan.params i.journals.now
+        i.puts i.stops i.wholes i.pieces i.failed i.deaths };
 }
 
 impl<'a> Index<'a> {
@@ -46,7 +47,8 @@ impl<'a> Index<'a> {
         course: &'a Course,
         journals: &'a [Journal],
     ) -> Result<Index<'a>, NoMemory>
-        ensures { IfOk result (λ i. i ≡ record { course = course.now; journals = journals.now }) }
+        ensures { IfOk result (λ i. i
+            ≡ record { course = course.now; journals = journals.now }) }
     {
         let plan = &course.plan;
         let links = LinkTable::new(plan);
@@ -97,7 +99,8 @@ impl<'a> Index<'a> {
 
     /// When the piece of a number was sent that they got first.
     pub fn piece_sent(&self, v: Instance, visit: Visit, piece: u32) -> Option<Beat>
-        ensures { result ≡ piece_sent self.now.course.plan.params self.now.journals v.0 visit piece }
+        ensures { result
+            ≡ piece_sent self.now.course.plan.params self.now.journals v.0 visit piece }
     {
         self.pieces.get(key_at(v, visit, piece))
     }
@@ -113,7 +116,8 @@ impl<'a> Index<'a> {
     pub fn died_between(&self, cub: CubNo, span: u128, time: u128, end: u128) -> bool
         requires cub { cub.0 < self.now.course.plan.params.cubs }
         requires span { span < 2 ^ 101 }
-        ensures { result ≡ died_between self.now.course.plan.params span time end (journal_at self.now.journals cub.0) }
+        ensures { result ≡ died_between self.now.course.plan.params span time end
+            (journal_at self.now.journals cub.0) }
     {
         match self.deaths.get(cub.0 as usize) {
             Some(deaths) => some_between(&self.course.plan, span, time, end, deaths.as_slice()),

@@ -1,7 +1,7 @@
 //! The report of a kept run: which blocks the viewers got, whole or in pieces, and why the others are missing.
 #![tactic(auto)]
 
-ghost use Rattle.std.specs.Prelude.{◌≡◌, ◌≤◌, length, IfOk};
+ghost use Rattle.std.specs.Prelude.{◌≡◌, ◌≤◌, ◌<◌, length, IfOk};
 ghost use Rattle.run_report.specs.Text.{report_text, summary_text, kept_outcomes};
 
 mod digest;
@@ -37,32 +37,52 @@ fn kept_outcomes(alloc: Global, kept: &Kept) -> Result<Vec<Outcome>, NoMemory>
     )
 }
 
+/// A report is of fewer orders than this: a tenancy has 2^31 + 1 visits at most, so the counts of all
+/// their blocks fit 64 bits.
+pub const ORDERS_LIMIT: usize = 4294967296;
+
 /// The report of a kept run: the lines of each start in the order of the orders, and the total.
-#[tactic(auto, unfolding(crate::specs::Text::report_text))]
 pub fn report(alloc: Global, kept: &Kept) -> Result<Vec<u8>, NoMemory>
     requires beats { kept.now.course.beats ≤ 100000 }
-    requires orders { length kept.now.orders ≤ 4000 }
+    requires orders { length kept.now.orders < ORDERS_LIMIT }
     ensures { IfOk result (λ text. text.items ≡ report_text kept.now) }
 {
     let outcomes = kept_outcomes(alloc, kept)?;
-    let told = outcomes.as_slice();
-    let text = outcomes_text(alloc, kept.digests.as_slice(), told)?;
+    report_of(alloc, kept, outcomes.as_slice())
+}
+
+/// The report of a kept run whose outcomes are there already.
+#[tactic(auto, unfolding(crate::specs::Text::report_text))]
+pub fn report_of(alloc: Global, kept: &Kept, outcomes: &[Outcome]) -> Result<Vec<u8>, NoMemory>
+    requires orders { length kept.now.orders < ORDERS_LIMIT }
+    requires told { outcomes.now ≡ kept_outcomes kept.now }
+    ensures { IfOk result (λ text. text.items ≡ report_text kept.now) }
+{
+    let text = outcomes_text(alloc, kept.digests.as_slice(), outcomes)?;
     Ok(text.into_bytes())
 }
 
 /// The summary of a kept run: the last line of its report, and how many bytes the report has, with
 /// their digest.
-#[tactic(auto, unfolding(crate::specs::Text::report_text, crate::specs::Text::summary_text))]
 pub fn summary(alloc: Global, kept: &Kept) -> Result<Vec<u8>, NoMemory>
     requires beats { kept.now.course.beats ≤ 100000 }
-    requires orders { length kept.now.orders ≤ 4000 }
+    requires orders { length kept.now.orders < ORDERS_LIMIT }
     ensures { IfOk result (λ text. text.items ≡ summary_text kept.now) }
 {
     let outcomes = kept_outcomes(alloc, kept)?;
-    let told = outcomes.as_slice();
-    let report = outcomes_text(alloc, kept.digests.as_slice(), told)?;
+    summary_of(alloc, kept, outcomes.as_slice())
+}
+
+/// The summary of a kept run whose outcomes are there already.
+#[tactic(auto, unfolding(crate::specs::Text::report_text, crate::specs::Text::summary_text))]
+pub fn summary_of(alloc: Global, kept: &Kept, outcomes: &[Outcome]) -> Result<Vec<u8>, NoMemory>
+    requires orders { length kept.now.orders < ORDERS_LIMIT }
+    requires told { outcomes.now ≡ kept_outcomes kept.now }
+    ensures { IfOk result (λ text. text.items ≡ summary_text kept.now) }
+{
+    let report = outcomes_text(alloc, kept.digests.as_slice(), outcomes)?;
     let mut text = String::new(alloc);
-    push_total(&mut text, told)?;
+    push_total(&mut text, outcomes)?;
     push_size(alloc, &mut text, report.as_str().as_bytes())?;
     Ok(text.into_bytes())
 }

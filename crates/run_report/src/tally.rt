@@ -1,14 +1,15 @@
-//! Counts of blocks.
+//! Counts of blocks, and of their bytes.
+ghost use Rattle.std.specs.Prelude.{◌≡◌, ◌<◌, ◌^◌};
+ghost use Rattle.run_report.specs.Text.{kind_bytes, bytes_of};
 
 use crate::outcome::{BlockKind, BlockOut};
 
-/// How many blocks are whole, in pieces and missing, and how many bytes those have that are not missing.
+/// How many blocks are whole, in pieces and missing.
 #[derive(Clone, Copy, Debug, PartialEq, Eq)]
 pub struct Tally {
     pub whole: u64,
     pub pieces: u64,
     pub missing: u64,
-    pub bytes: u64,
 }
 
 impl Tally {
@@ -20,7 +21,6 @@ impl Tally {
         whole: 0,
         pieces: 0,
         missing: 0,
-        bytes: 0,
     };
 
     /// The sum of both.
@@ -32,7 +32,6 @@ impl Tally {
             whole: self.whole + other.whole,
             pieces: self.pieces + other.pieces,
             missing: self.missing + other.missing,
-            bytes: self.bytes + other.bytes,
         }
     }
 
@@ -41,14 +40,12 @@ impl Tally {
         ensures { result ≡ kind_tally kind.now }
     {
         match kind {
-            BlockKind::Whole { len, .. } => Tally {
+            BlockKind::Whole { .. } => Tally {
                 whole: 1,
-                bytes: *len,
                 ..Tally::NOTHING
             },
-            BlockKind::Pieces { len, .. } => Tally {
+            BlockKind::Pieces { .. } => Tally {
                 pieces: 1,
-                bytes: *len,
                 ..Tally::NOTHING
             },
             BlockKind::Missing(_) => Tally {
@@ -69,4 +66,26 @@ impl Tally {
         }
         tally
     }
+}
+
+fn kind_bytes(kind: &BlockKind) -> u64
+    ensures { result ≡ kind_bytes kind.now }
+{
+    match kind {
+        BlockKind::Whole { len, .. } => *len,
+        BlockKind::Pieces { len, .. } => *len,
+        BlockKind::Missing(_) => 0,
+    }
+}
+
+/// How many bytes came of these blocks.
+pub fn bytes_of(blocks: &[BlockOut]) -> u64
+    requires { bytes_of blocks.now < 2 ^ 64 }
+    ensures { result ≡ bytes_of blocks.now }
+{
+    let mut bytes = 0;
+    for block in blocks {
+        bytes += kind_bytes(&block.kind);
+    }
+    bytes
 }

@@ -1,10 +1,10 @@
 //! The lines of a report.
-ghost use Rattle.std.specs.Prelude.{◌≡◌, ◌++◌, OnOk, IfOk, string_bytes, length, slice_get};
+ghost use Rattle.std.specs.Prelude.{◌≡◌, ◌++◌, ◌<◌, ◌^◌, OnOk, IfOk, string_bytes, length, slice_get};
 ghost use Rattle.std.specs.List.{flat_map};
-ghost use Rattle.run_report.specs.Text.{spaced, reason_text, kind_text, block_line, start_line, stop_line, counts_text, digest_text, end_line, outcome_lines, total_line, outcomes_text, size_line, tally_of, total_tally, all_placed, Fits};
+ghost use Rattle.run_report.specs.Text.{spaced, reason_text, kind_text, block_line, start_line, stop_line, counts_text, digest_text, end_line, ending_lines, outcome_lines, total_line, outcomes_text, size_line, tally_of, bytes_of, total_tally, all_placed, Fits, BytesFit};
 
 use crate::outcome::{BlockKind, BlockOut, Outcome, Reason};
-use crate::tally::Tally;
+use crate::tally::{Tally, bytes_of};
 use node_kit::Digest32;
 use sha2::{Digest, Sha256};
 use std::alloc::{AllocError, Global};
@@ -45,7 +45,8 @@ fn push_block(text: &mut String, out: &BlockOut) -> Result<(), AllocError>
 }
 
 fn push_blocks(text: &mut String, blocks: &[BlockOut]) -> Result<(), AllocError>
-    ensures { OnOk result (string_bytes text.new ≡ string_bytes text.old ++ flat_map block_line blocks.now) }
+    ensures { OnOk result (string_bytes text.new
+        ≡ string_bytes text.old ++ flat_map block_line blocks.now) }
 {
     for block in blocks {
         push_block(text, block)?;
@@ -85,7 +86,8 @@ fn push_digest(
     text: &mut String,
     digest: &Option<Digest32>,
 ) -> Result<(), AllocError>
-    ensures { OnOk result (string_bytes text.new ≡ string_bytes text.old ++ digest_text digest.now) }
+    ensures { OnOk result (string_bytes text.new
+        ≡ string_bytes text.old ++ digest_text digest.now) }
 {
     match digest {
         Some(digest) => {
@@ -101,15 +103,17 @@ fn push_end(
     alloc: Global,
     text: &mut String,
     v: Instance,
-    tally: Tally,
+    blocks: &[BlockOut],
     digest: &Option<Digest32>,
 ) -> Result<(), AllocError>
+    requires counts { Fits (tally_of blocks.now) }
+    requires bytes { bytes_of blocks.now < 2 ^ 64 }
     ensures { OnOk result (string_bytes text.new
-        ≡ string_bytes text.old ++ end_line v.0 tally digest.now) }
+        ≡ string_bytes text.old ++ end_line v.0 blocks.now digest.now) }
 {
     write!(text, "end {}", v.0)?;
-    push_counts(text, tally)?;
-    write!(text, " bytes {} sha256 ", tally.bytes)?;
+    push_counts(text, Tally::of(blocks))?;
+    write!(text, " bytes {} sha256 ", bytes_of(blocks))?;
     push_digest(alloc, text, digest)?;
     text.push_str("\n")
 }
@@ -128,16 +132,15 @@ fn push_ending(
     digests: &[Digest32],
     out: &Outcome,
 ) -> Result<(), AllocError>
-    requires { Fits (tally_of out.now.blocks) }
-    ensures { OnOk result (string_bytes text.new ≡ string_bytes text.old
-        ++ (stop_line out.now.ask.instance.0 out.now.stop
-        ++ end_line out.now.ask.instance.0 (tally_of out.now.blocks) (slice_get digests.now out.now.ask.instance.0))) }
+    requires counts { Fits (tally_of out.now.blocks) }
+    requires bytes { bytes_of out.now.blocks < 2 ^ 64 }
+    ensures { OnOk result (string_bytes text.new
+        ≡ string_bytes text.old ++ ending_lines digests.now out.now) }
 {
     let v = out.ask.instance;
     push_stop(text, v, out.stop)?;
-    let tally = Tally::of(out.blocks.as_slice());
     let digest = digest_at(digests, v);
-    push_end(alloc, text, v, tally, &digest)
+    push_end(alloc, text, v, out.blocks.as_slice(), &digest)
 }
 
 #[tactic(auto, unfolding(crate::specs::Text::outcome_lines))]
@@ -147,8 +150,10 @@ fn push_outcome(
     digests: &[Digest32],
     out: &Outcome,
 ) -> Result<(), AllocError>
-    requires { Fits (tally_of out.now.blocks) }
-    ensures { OnOk result (string_bytes text.new ≡ string_bytes text.old ++ outcome_lines digests.now out.now) }
+    requires counts { Fits (tally_of out.now.blocks) }
+    requires bytes { bytes_of out.now.blocks < 2 ^ 64 }
+    ensures { OnOk result (string_bytes text.new
+        ≡ string_bytes text.old ++ outcome_lines digests.now out.now) }
 {
     push_start(text, out)?;
     push_blocks(text, out.blocks.as_slice())?;
@@ -184,7 +189,8 @@ fn total_tally(outcomes: &[Outcome]) -> Tally
 #[tactic(auto, unfolding(crate::specs::Text::total_line))]
 pub fn push_total(text: &mut String, outcomes: &[Outcome]) -> Result<(), AllocError>
     requires { Fits (total_tally outcomes.now) }
-    ensures { OnOk result (string_bytes text.new ≡ string_bytes text.old ++ total_line outcomes.now) }
+    ensures { OnOk result (string_bytes text.new
+        ≡ string_bytes text.old ++ total_line outcomes.now) }
 {
     let starts = outcomes.len();
     let placed = all_placed(outcomes);
@@ -200,7 +206,8 @@ pub fn outcomes_text(
     digests: &[Digest32],
     outcomes: &[Outcome],
 ) -> Result<String, AllocError>
-    requires { Fits (total_tally outcomes.now) }
+    requires counts { Fits (total_tally outcomes.now) }
+    requires bytes { BytesFit outcomes.now }
     ensures { IfOk result (λ text. string_bytes text ≡ outcomes_text digests.now outcomes.now) }
 {
     let mut text = String::new(alloc);

@@ -41,7 +41,8 @@ pub fn is_stopped_below(plan: &Plan, time: u128, stop: Option<Beat>) -> bool
 /// Whether one of these deaths was less than a span before a time, and below another one.
 pub fn some_between(plan: &Plan, span: u128, time: u128, end: u128, deaths: &[Beat]) -> bool
     requires { span < 2 ^ 101 }
-    ensures { result ≡ list_any (λ beat. nat_lt time (time_of plan.now.params beat + span) && nat_lt (time_of plan.now.params beat) end) deaths.now }
+    ensures { result ≡ list_any (λ beat. nat_lt time (time_of plan.now.params beat + span)
+        && nat_lt (time_of plan.now.params beat) end) deaths.now }
 {
     deaths.iter().any(|beat| {
         let death = time_of(plan, *beat);
