@@ -19,11 +19,15 @@ pub record IsCalmScenario (s : Scenario) : Type 0 where
   pub starts : All (λ e. is_start e ≡ true) s.events
   pub alive : All (λ death. death ≡ None) s.course.deaths
 
--- In the order of all entries each Put finds its slot free from its first visit on, at the moment before it, and is rightly
--- put; at every moment each record of each cub's view is part of the schedule; what a cub takes and which viewer states it
--- sends follows from what it has; and at the end of each tick of a cub no start is passed over.
+-- in the order of all entries each Put finds its slot free from its first visit on, at the moment before it, and is rightly
+-- put
+abbrev pub HasFairPuts : Kept → Type 0
+HasFairPuts k = PutsAreFair k.course.plan.params k.orders (order_in k)
+
+-- A kept run has fair Puts; at every moment each record of each cub's view is part of the schedule; what a cub takes and
+-- which viewer states it sends follows from what it has; and at the end of each tick of a cub no start is passed over.
 pub record HasOneSchedule (k : Kept) : Type 0 where
-  pub fair : PutsAreFair k.course.plan.params k.orders (order_in k)
+  pub fair : HasFairPuts k
   pub part : ViewsAreAlwaysPart k.course.plan.params (order_in k)
   pub local : EntriesAreLocal k.course.plan.params (order_in k)
   pub patient : NoneIsPassedOver k
@@ -32,11 +36,9 @@ pub record HasOneSchedule (k : Kept) : Type 0 where
 abbrev pub AreShort : List (List ℕ) → Type 0
 AreShort library = All (λ bytes. length bytes ≤ 16777216) library
 
--- whatever is kept of the run of such a scenario: over the order of all entries each Put finds its slot free at the
--- moment before it, from its first visit on, and is rightly put
+-- whatever is kept of the run of such a scenario has fair Puts
 abbrev pub CalmRunsPutFairly : (G : Type 0) → Type 0
-CalmRunsPutFairly G = (s : Scenario) (library : List (List ℕ)) (k : Kept) → IsScenario s → IsCalmScenario s → AreShort library → IsRingRun G s library k
-    → PutsAreFair k.course.plan.params k.orders (order_of k.course.beats k.journals)
+CalmRunsPutFairly G = (s : Scenario) (library : List (List ℕ)) (k : Kept) → IsScenario s → IsCalmScenario s → AreShort library → IsRingRun G s library k → HasFairPuts k
 
 -- and what its cubs did is one schedule
 abbrev pub CalmRunsHaveOneSchedule : (G : Type 0) → Type 0

@@ -1,8 +1,6 @@
 -- A scenario without deaths, and what holds of its run.
 use Rattle.std.specs.Prelude.{◌≡◌, ℕ, List, All, None}
 use Rattle.node_kit.specs.declared.course.Kept.{Kept}
-use Rattle.run_facts.specs.Order.{order_of}
-use Rattle.run_model.specs.Orders.{PutsAreFair}
 use Rattle.scenario_read.specs.declared.scenario.Scenario.{Scenario}
 use Rattle.scenario_read.specs.Sound.{IsScenario}
 use Rattle.schedule_laws.specs.Facts.{facts_of}
@@ -10,7 +8,7 @@ use Rattle.schedule_laws.specs.Histories.{lives_of}
 use Rattle.stops_proof.specs.StoppedSchedule.{IsStoppedSchedule}
 use Rattle.stops_ways.specs.Controllers.{commanded}
 use Rattle.ring_facts.specs.Rings.{IsRingRun}
-use Rattle.ring_schedule.specs.Scenarios.{AreShort}
+use Rattle.ring_schedule.specs.Scenarios.{AreShort, HasFairPuts}
 
 -- no cub dies
 abbrev pub IsLivingScenario : Scenario → Type 0
@@ -23,8 +21,7 @@ LivingRunsHaveOneSchedule G = (s : Scenario) (library : List (List ℕ)) (k : Ke
     → (run : IsRingRun G s library k)
     → IsStoppedSchedule k.course.plan.params (facts_of k.course.plan.params (lives_of run.steps.history.history) (commanded k.course.plan.params k.orders (lives_of run.steps.history.history)))
 
--- And over the order of all entries each Put finds its slot free at the moment before it, from its first visit on, and is
--- rightly put.
+-- And over the order of all entries each Put finds its slot free, and is rightly put.
 abbrev pub LivingRunsPutFairly : (G : Type 0) → Type 0
 LivingRunsPutFairly G = (s : Scenario) (library : List (List ℕ)) (k : Kept) → IsScenario s → IsLivingScenario s → AreShort library → IsRingRun G s library k
-    → PutsAreFair k.course.plan.params k.orders (order_of k.course.beats k.journals)
+    → HasFairPuts k

@@ -4,6 +4,10 @@
 ghost use Rattle.ring_stops.specs.Rings.{RingHasOneScheduleWithStops};
 ghost use Rattle.ring_stops.specs.Scenarios.{LivingRunsHaveOneSchedule, LivingRunsPutFairly};
 
+mod living;
+
+pub use living::is_living;
+
 /// Whatever befalls the nodes of a ring from their opening on, where nobody dies, the cubs have one schedule: whoever is put
 /// in a slot finds it free, or its holder stopped before.
 pub fn ring_has_one_schedule_with_stops<G>()
