@@ -29,9 +29,11 @@ pub fn journals_of<G: Gate>(
     requires lengths { HasLengths library.now catalogue.now }
     requires orders { AreOrders course.now.plan.params orders.now }
     ensures steps { IfOk result (HasRun G course.now catalogue.now library.now orders.now) }
-    ensures carried { IfOk result (AreCarried course.now.plan.params course.now.beats (lifetime_of course.now)) }
+    ensures carried { IfOk result (AreCarried course.now.plan.params course.now.beats
+        (lifetime_of course.now)) }
     ensures paced { IfOk result (ArePaced course.now) }
-    ensures timed { IfOk result (AreTimed course.now.plan.params course.now.beats (lifetime_of course.now)) }
+    ensures timed { IfOk result (AreTimed course.now.plan.params course.now.beats
+        (lifetime_of course.now)) }
     ensures commanded { IfOk result (FollowOrders course.now orders.now) }
 {
     let images = make_images(alloc, &course.plan, catalogue, library)?;

@@ -4,7 +4,7 @@
 mod journals;
 mod run;
 
-pub use run::run_ring;
+pub use run::{RingRun, run_ring, run_with_outcomes};
 
 #[cfg(test)]
 mod tests;

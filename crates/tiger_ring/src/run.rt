@@ -1,18 +1,28 @@
 //! One whole run.
 ghost use Rattle.std.specs.Prelude.{◌≡◌, ◌≤◌, length, All, IfOk};
 ghost use Rattle.scenario_read.specs.Sound.{IsScenario};
+ghost use Rattle.run_report.specs.Text.{kept_outcomes};
 ghost use Rattle.ring_facts.specs.Rings.{IsRingRun};
-ghost use Rattle.ring_schedule.specs.Scenarios.{IsCalmScenario, HasOneSchedule};
+ghost use Rattle.ring_schedule.specs.Scenarios.{IsCalmScenario, HasOneSchedule, HasFairPuts};
+ghost use Rattle.ring_stops.specs.Scenarios.{IsLivingScenario};
 
 use crate::journals::journals_of;
 use node_kit::{Gate, Kept};
-use run_report::{digests_of, outcomes};
+use run_report::{Outcome, digests_of, outcomes};
 use scenario_read::{Scenario, catalogue_of, orders_of};
 use std::alloc::Global;
 use tiger_base::{Library, NoMemory, Sequence};
 
+/// What is kept of a run, and what became of each of its starts.
+#[derive(Drop)]
+pub struct RingRun {
+    pub kept: Kept,
+    pub outcomes: Vec<Outcome>,
+}
+
 /// Runs a scenario over its library, and keeps what is told of the run. Each read of a disk passes
-/// the gate. Where the scenario has no stops and no deaths there is one schedule.
+/// the gate. If the scenario has no stops and no deaths there is one schedule, and if nobody dies in
+/// it each Put finds its slot free.
 ///
 /// `NoMemory` is the only error; it gives nothing back.
 pub fn run_ring<G: Gate>(
@@ -27,24 +37,47 @@ pub fn run_ring<G: Gate>(
     requires short { All (λ bytes. length bytes ≤ 16777216) library.now }
     ensures ran { IfOk result (IsRingRun G scenario library.now) }
     ensures one_schedule { IfOk result (λ k. IsCalmScenario scenario → HasOneSchedule k) }
+    ensures fair { IfOk result (λ k. IsLivingScenario scenario → HasFairPuts k) }
+{
+    let RingRun { kept, .. } = run_with_outcomes(alloc, scenario, library, gate)?;
+    Ok(kept)
+}
+
+/// The same run, with what became of each start: it is found once, for the digests, and a report needs
+/// it too.
+pub fn run_with_outcomes<G: Gate>(
+    alloc: Global,
+    scenario: Scenario,
+    library: &Library,
+    gate: &G,
+) -> Result<RingRun, NoMemory>
+    requires scenario { IsScenario scenario }
+    requires files { length library.now ≡ length scenario.files }
+    requires filled { All (λ bytes. 1 ≤ length bytes) library.now }
+    requires short { All (λ bytes. length bytes ≤ 16777216) library.now }
+    ensures ran { IfOk result (λ run. IsRingRun G scenario library.now run.kept) }
+    ensures told { IfOk result (λ run. run.outcomes.items ≡ kept_outcomes run.kept) }
+    ensures one_schedule { IfOk result (λ run. IsCalmScenario scenario → HasOneSchedule run.kept) }
+    ensures fair { IfOk result (λ run. IsLivingScenario scenario → HasFairPuts run.kept) }
 {
     let catalogue = catalogue_of(alloc, &scenario, library)?;
     let orders = orders_of(alloc, &scenario, &catalogue)?;
     let course = scenario.course;
     let journals = journals_of(alloc, &course, &catalogue, library, orders.as_slice(), gate)?;
-    let found = outcomes(
+    let outcomes = outcomes(
         alloc,
         &course,
         &catalogue,
         orders.as_slice(),
         journals.as_slice(),
     )?;
-    let digests = digests_of(alloc, library, found.as_slice())?;
-    Ok(Kept {
+    let digests = digests_of(alloc, library, outcomes.as_slice())?;
+    let kept = Kept {
         course,
         catalogue,
         orders,
         journals,
         digests: Sequence::new(digests),
-    })
+    };
+    Ok(RingRun { kept, outcomes })
 }

@@ -1,10 +1,11 @@
 //! Runs of small scenarios: which visits were served, the schedule before and after, and what changed journals tell.
 ghost use Rattle.std.specs.Prelude.{◌≡◌, ◌≤◌, length, All, IfOk};
-ghost use Rattle.ring_schedule.specs.Scenarios.{HasOneSchedule};
+ghost use Rattle.ring_schedule.specs.Scenarios.{HasOneSchedule, HasFairPuts};
 
 use crate::run_ring;
 use node_kit::{Entry, Journal, Kept, OpenGate, What};
 use ring_schedule::is_calm;
+use ring_stops::is_living;
 use run_model::{carried, delivered, excused, schedule_at, timed};
 use scenario_read::read_scenario;
 use std::alloc::{AllocError, Global};
@@ -343,6 +344,30 @@ fn calm_run_of(
     Ok(run_ring(alloc, scenario, library, &OpenGate)?)
 }
 
+/// The run of a scenario that is found to have no deaths: its Puts are fair.
+fn living_run_of(
+    alloc: Global,
+    files: &str,
+    rest: &str,
+    library: &Library,
+    count: usize,
+) -> Result<Kept, Fail>
+    requires count { length library.now ≡ count }
+    requires filled { All (λ bytes. 1 ≤ length bytes) library.now }
+    requires short { All (λ bytes. length bytes ≤ 16777216) library.now }
+    ensures fair { IfOk result HasFairPuts }
+{
+    let text = format!(in alloc; "{PLAN}{files}{rest}}}")?;
+    let scenario = read_scenario(alloc, text.as_bytes())?;
+    if scenario.files.len() != count {
+        return Err(Fail::new("another number of files"));
+    }
+    if !is_living(&scenario) {
+        return Err(Fail::new("a death"));
+    }
+    Ok(run_ring(alloc, scenario, library, &OpenGate)?)
+}
+
 /// What was put, in the order of the journals.
 fn puts(alloc: Global, k: &Kept) -> Result<String, NoMemory> {
     let mut text = String::new(alloc);
@@ -359,6 +384,24 @@ fn puts(alloc: Global, k: &Kept) -> Result<String, NoMemory> {
         }
     }
     Ok(text)
+}
+
+/// What was put in a run of two starts, of which the first is stopped when the second comes, and in
+/// which each Put is fair.
+fn put_after_a_stop(alloc: Global) -> Result<String, Fail> {
+    let library = both(alloc)?;
+    let rest =
+        "\"beats\":1000,\"events\":[{\"beat\":0,\"start\":0},{\"beat\":400,\"stop\":0},{\"beat\":400,\"start\":1}]";
+    let k = living_run_of(alloc, BOTH, rest, &library, 2)?;
+    Ok(puts(alloc, &k)?)
+}
+
+#[test]
+fn a_slot_is_put_again_after_a_stop(rt: HostRuntime) -> Result<(), Fail> {
+    let alloc = rt.alloc();
+    let text = put_after_a_stop(alloc)?;
+    assert_eq!(rt; text.as_str(), "0 in 1 0-63;1 in 1 4-6;");
+    Ok(())
 }
 
 /// What was put in so many beats for seventeen starts of a file of sixteen blocks, in a run that has one schedule.

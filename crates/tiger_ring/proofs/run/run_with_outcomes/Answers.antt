@@ -1,6 +1,7 @@
 use Rattle.std.proofs.Common.{refl, ◌∙◌}
 use Rattle.ring_schedule.proofs.Scenarios.{has_one_schedule}
-use Rattle.tiger_ring.proofs.run.run_ring.Goals as goal
+use Rattle.ring_stops.proofs.Scenarios.{living_runs_put_fairly}
+use Rattle.tiger_ring.proofs.run.run_with_outcomes.Goals as goal
 
 pub returns-clause-ran : goal.returns-clause-ran
 returns-clause-ran g c = record {
@@ -13,9 +14,16 @@ returns-clause-ran g c = record {
   timed = c.in_ok-journals.ensures.timed;
   apart = c.requires.scenario.apart;
   commanded = rw (← c.as_slice.ensures) c.in_ok-journals.ensures.commanded;
-  digests = c.new.ensures ∙ c.in_ok-digests.ensures ∙ rw (c.as_slice-4.ensures.value, c.in_ok-found.ensures, c.as_slice-2.ensures, c.as_slice-3.ensures) refl;
+  digests = c.new.ensures ∙ c.in_ok-digests.ensures ∙ rw (c.as_slice-4.ensures.value, c.in_ok-outcomes.ensures, c.as_slice-2.ensures, c.as_slice-3.ensures) refl;
 }
+
+pub returns-clause-told : goal.returns-clause-told
+returns-clause-told g c = rw (c.in_ok-outcomes.ensures, c.as_slice-2.ensures, c.as_slice-3.ensures) refl
 
 pub returns-clause-one_schedule : goal.returns-clause-one_schedule
 returns-clause-one_schedule g c =
     λ calm. has_one_schedule g.row.G.Denot c.args.scenario c.args.library.now _ c.requires.scenario calm c.requires.short (returns-clause-ran g c)
+
+pub returns-clause-fair : goal.returns-clause-fair
+returns-clause-fair g c =
+    λ living. living_runs_put_fairly g.row.G.Denot c.args.scenario c.args.library.now _ c.requires.scenario living c.requires.short (returns-clause-ran g c)
