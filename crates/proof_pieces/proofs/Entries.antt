@@ -1,0 +1,202 @@
+-- Where the records come from by which pieces are asked for, and that they enter before any ask.
+use Rattle.std.proofs.Common.{◌≡◌, ℕ, ◌+◌, ◌<◌, ◌≤◌, refl, sym, ap, ◌∙◌, arith, ⊎_elim, inl, inr, eq-or-lt_of_le}
+use Rattle.std.specs.Prelude.{◌⊎◌}
+use Rattle.tiger_base.specs.declared.tenancy.Tenancy.{Tenancy}
+use Rattle.slot_plan.specs.declared.params.Params.{Params}
+use Rattle.slot_plan.specs.Times.{time_of, due, cub_of}
+use Rattle.slot_plan.proofs.Times.{time_next, time_below, cub_below, cub_ahead}
+use Rattle.proof_schedule.specs.Facts.{Facts, DiedLongBefore, Entered}
+use Rattle.proof_schedule.specs.Schedule.{IsHeld}
+use Rattle.proof_schedule.proofs.Origins.{entered_held}
+use Rattle.proof_schedule.proofs.Room.{soon_after}
+use Rattle.proof_schedule.proofs.Silence.{believed_died}
+use Rattle.proof_schedule.proofs.Timely.{entered_in_time}
+use Rattle.proof_schedule.proofs.Invariant.{Setting}
+use Rattle.proof_pieces.specs.PieceFacts.{PieceFacts, leave, Arises, Uses}
+use Rattle.proof_pieces.specs.PieceLaws.{PieceLaws, IsThere}
+use Rattle.proof_pieces.proofs.Leaving.{leave_after, lead}
+
+-- A record of piece j came by a mirror state, which cub a sent at its split in beat x.
+pub record ByMirror (p : Params) (q : PieceFacts) (c a : ℕ) (t : Tenancy) (n j x e : ℕ) : Type 0 where
+  pub ahead : ℕ
+  pub sent : q.MirrorSent a ahead t n j x
+  pub piece : j ≡ ahead + 1
+  pub some : 1 ≤ ahead
+  pub to : c ≡ cub_of p (a + ahead)
+
+-- A record of piece j, which entered in beat e, comes of a split: of a split by the same cub, if j
+-- is 1, or else by the mirror state of the cub that split.
+pub record Origin (p : Params) (q : PieceFacts) (c : ℕ) (t : Tenancy) (n j e : ℕ) : Type 0 where
+  pub cub : ℕ
+  pub beat : ℕ
+  pub split : q.Split cub t n beat
+  pub by : beat ≤ e
+  pub soon : e ≤ beat + p.delay
+  pub how : ((c ≡ cub) × (j ≡ 1)) ⊎ ByMirror p q c cub t n j beat e
+
+module _ (p : Params) (r : Facts) (g : Setting p r) (q : PieceFacts) (m : PieceLaws p r q) where
+  -- Each record of a piece has its origin.
+  origin_of : {c n j e : ℕ} {t : Tenancy} → ((j ≡ 1) × q.Split c t n e) ⊎ q.Mirrored c t n j e
+      → Origin p q c t n j e
+  origin_of {c} {n} {j} {e} {t} w = ⊎_elim
+      (λ a. record { cub = c; beat = e; split = a.1; by = omega arith; soon = omega arith; how = inl (refl, a.0) })
+      (λ a.
+      let s = m.mirrored a in
+      let o = m.mirrors s.sent in
+      let later = s.later in
+      record {
+        cub = s.from;
+        beat = s.beat;
+        split = o.split;
+        by = omega arith;
+        soon = s.soon;
+        how = inr (record { ahead = s.ahead; sent = s.sent; piece = o.piece; some = o.some; to = s.to });
+      })
+      w
+
+  -- What arises is a record of the block, or has an origin.
+  pub kind_of : {c n j e : ℕ} {t : Tenancy} → Arises r q c t n j e
+      → ((j ≡ 0) × Entered r c t n e) ⊎ Origin p q c t n j e
+  kind_of w = ⊎_elim (λ a. inl a) (λ a. inr (origin_of a)) w
+
+  -- If it is of a piece, it has an origin.
+  pub origin : {c n j e : ℕ} {t : Tenancy} → 1 ≤ j → Arises r q c t n j e → Origin p q c t n j e
+  origin some w = ⊎_elim (λ a. let a0 = a.0 in absurd (omega arith)) (λ a. a) (kind_of w)
+
+  -- A split is of a tenancy that was put.
+  pub split_held : {c n b : ℕ} {t : Tenancy} → q.Split c t n b → IsHeld r t n b
+  split_held w =
+      let k = m.splits w in
+      let o = entered_held p r g.law k.entered in
+      let by = k.by in
+      let ob = o.by in
+      record { cub = o.cub; beat = o.beat; put = o.put; by = omega arith; low = o.low; high = o.high }
+
+  -- So each record by which something is asked for is of a tenancy that was put.
+  pub arises_held : {c n j e : ℕ} {t : Tenancy} → Arises r q c t n j e → IsHeld r t n e
+  arises_held w = ⊎_elim
+      (λ a. entered_held p r g.law a.1)
+      (λ o.
+      let h = split_held o.split in
+      let by = o.by in
+      let hb = h.by in
+      record { cub = h.cub; beat = h.beat; put = h.put; by = omega arith; low = h.low; high = h.high })
+      (kind_of w)
+
+  -- A record of a view enters before a block is to be read, with the skew and a beat to spare.
+  own_early : {c n e : ℕ} {t : Tenancy} → Entered r c t n e
+      → time_of p e + p.read_lead + p.skew + p.beat ≤ due p t.slot.0 n
+  own_early {c} {n} {e} {t} w =
+      let o = entered_in_time p g.room r g.law w in
+      let low = (entered_held p r g.law w).low in
+      let room = g.room in
+      let leads = lead p g.ok in
+      ⊎_elim
+      (λ (f : t.first ≡ n). let z = o.first (sym f) in omega arith)
+      (λ (f : t.first < n). let z = o.later f in let opens = room.opens in omega arith)
+      (eq-or-lt_of_le low)
+
+  -- So does each record of a piece: its visit is split a way before.
+  pub arises_early : {c n j e : ℕ} {t : Tenancy} → Arises r q c t n j e
+      → time_of p e + p.read_lead + p.skew + p.beat ≤ due p t.slot.0 n
+  arises_early {c} {n} {j} {e} {t} w = ⊎_elim
+      (λ a. own_early a.1)
+      (λ o.
+      let z = m.splits o.split in
+      let soon = z.soon in
+      let reads = z.tick.low in
+      let after = soon_after p o.beat e o.soon in
+      omega arith)
+      (kind_of w)
+
+  -- So a record of a piece enters before the piece is asked for, whoever asks.
+  pub entered_before : {c d n j b e : ℕ} {t : Tenancy} → q.Asks c t n j b → Arises r q d t n j e
+      → e < b
+  entered_before {c} {d} {n} {j} {b} {e} {t} w k =
+      let o = m.asks w in
+      let soon = o.soon in
+      let reads = o.tick.high in
+      let after = leave_after p t n j in
+      let early = arises_early k in
+      let some = g.room.beat in
+      time_below p e b (omega arith)
+
+  -- And before it is sent.
+  pub entered_sent : {c d n j b e : ℕ} {t : Tenancy} → q.Serves c t n j b → Arises r q d t n j e
+      → e < b
+  entered_sent {c} {d} {n} {j} {b} {e} {t} w k =
+      let o = m.serves w in
+      let soon = o.soon in
+      let reads = o.tick.high in
+      let after = leave_after p t n j in
+      let early = arises_early k in
+      let some = g.room.beat in
+      time_below p e b (omega (arith, g.ok.ranges.read_lead))
+
+  -- What leaves at a tick leaves at no later one: there it was too late to be fresh, since readings
+  -- never fall.
+  once : {c n j a b lead : ℕ} {t : Tenancy} → IsThere p r q c t n j a lead
+      → (v : IsThere p r q c t n j b lead) → v.beat < b → a < b → ⊥
+  once {c} {n} {j} {a} {b} {lead} {t} w v early l =
+      let soon = w.soon in
+      ⊎_elim
+      (λ (e : v.beat ≡ b). omega arith)
+      (λ k.
+      let next = k.next in
+      let undue = k.undue in
+      ⊎_elim
+      (λ t. let rise = m.rising t k.ticked (omega arith) in omega arith)
+      (λ d. let last = g.law.run.last v.tick.came d in omega arith)
+      w.whole)
+      v.fresh
+
+  -- So a cub asks once for a piece.
+  pub asks_once : {c n j a b : ℕ} {t : Tenancy} → q.Asks c t n j a → q.Asks c t n j b → a < b → ⊥
+  asks_once w v l = once (m.asks w) (m.asks v) (entered_before v (m.asks v).arises) l
+
+  -- And it sends it once.
+  pub sent_once : {c n j a b : ℕ} {t : Tenancy} → q.Serves c t n j a → q.Serves c t n j b → a < b
+      → ⊥
+  sent_once w v l = once (m.serves w) (m.serves v) (entered_sent v (m.serves v).arises) l
+
+  -- A piece is used less than a beat after it leaves.
+  pub there_soon : {c n j b lead : ℕ} {t : Tenancy} → IsThere p r q c t n j b lead
+      → time_of p b < leave p t n j + p.beat
+  there_soon {c} {n} {j} {b} {lead} {t} w =
+      let after = leave_after p t n j in
+      let early = arises_early w.arises in
+      let some = g.room.beat in
+      ⊎_elim
+      (λ (e : w.beat ≡ b). let te = ap (λ v. time_of p v) e in omega arith)
+      (λ k.
+      let te : time_of p b ≡ time_of p k.beat + p.beat = ap (λ v. time_of p v) k.next ∙ time_next p k.beat in
+      let reads = (g.law.run.reads k.ticked).0 in
+      let undue = k.undue in
+      omega arith)
+      w.fresh
+
+  -- Whatever is used is there, with one of the two leads.
+  pub used_there : {c n j b : ℕ} {t : Tenancy} → Uses q c t n j b
+      → (lead : ℕ) × IsThere p r q c t n j b lead
+  used_there w = ⊎_elim (λ a. (p.read_lead, m.asks a)) (λ a. (0, m.serves a)) w
+
+  -- The cub of a visit that is split has died long before.
+  pub split_dead : {c n b : ℕ} {t : Tenancy} → q.Split c t n b → DiedLongBefore p r (cub_of p n) b
+  split_dead {c} {n} {b} {t} w =
+      let k = m.splits w in
+      let by = k.believed.by in
+      let o = believed_died p g.ok g.room r g.law (cub_of p n) (cub_below p n g.ok.ranges) (k.next ∙ sym (cub_ahead p n 1)) k.believed.believed in
+      let long = o.long in
+      record { until = o.until; died = o.died; long = omega arith }
+
+  -- So has the cub of a visit of which a piece is asked for.
+  pub asked_dead : {c n j b : ℕ} {t : Tenancy} → q.Asks c t n j b → 1 ≤ j
+      → DiedLongBefore p r (cub_of p n) b
+  asked_dead {c} {n} {j} {b} {t} w some =
+      let o = m.asks w in
+      let s = origin some o.arises in
+      let d = split_dead s.split in
+      let by = o.by in
+      let sb = s.by in
+      let long = d.long in
+      record { until = d.until; died = d.died; long = omega arith }

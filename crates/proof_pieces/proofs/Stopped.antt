@@ -1,0 +1,169 @@
+-- Nothing of an instance is used later than a block play time after its stop.
+use Rattle.std.proofs.Common.{◌≡◌, ℕ, ◌+◌, ◌*◌, ◌<◌, ◌≤◌, sym, ap, subst, ◌∙◌, arith, ⊎_elim, inl, inr}
+use Rattle.std.proofs.lemmas.Bool.{cases_lt}
+use Rattle.tiger_base.specs.declared.tenancy.Tenancy.{Tenancy}
+use Rattle.slot_plan.specs.declared.params.Params.{Params}
+use Rattle.slot_plan.specs.Times.{time_of, due, cub_of}
+use Rattle.slot_plan.proofs.Times.{time_mono, time_below, cub_below, cub_ahead}
+use Rattle.proof_schedule.specs.Facts.{Facts, Entered, IsReleasedBy, Ended}
+use Rattle.proof_schedule.proofs.Conflicts.{not_released, record_reached}
+use Rattle.proof_schedule.proofs.Ends.{IsEnd}
+use Rattle.proof_schedule.proofs.Kept.{over_before}
+use Rattle.proof_schedule.proofs.Reach.{from_base, enters}
+use Rattle.proof_schedule.proofs.Room.{way, wave_after}
+use Rattle.proof_schedule.proofs.Waves.{reached_after}
+use Rattle.proof_schedule.proofs.Invariant.{Setting}
+use Rattle.proof_pieces.specs.PieceFacts.{PieceFacts, Arises, Uses}
+use Rattle.proof_pieces.specs.PieceLaws.{PieceLaws, IsThere, IsKilled, IsForgotten}
+use Rattle.proof_pieces.proofs.Entries.{Origin, ByMirror, origin, split_dead, there_soon, used_there, kind_of, split_held, arises_held}
+use Rattle.proof_pieces.proofs.Leaving.{leave_until}
+
+-- Of a tenancy t that was put and stopped, with its end.
+module _ (p : Params) (r : Facts) (g : Setting p r) (q : PieceFacts) (m : PieceLaws p r q)
+    (t : Tenancy) (x z base : ℕ) (e : IsEnd p r t x z base) where
+  -- A cub that was reached splits nothing of it.
+  pub split_unreached : {a n y h : ℕ} → q.Split a t n y → r.Reached a t.instance.0 h → h ≤ y → ⊥
+  split_unreached w reached le = let k = m.splits w in not_released p r g t x z base e k.entered (k.since _ reached le)
+
+  -- So nothing of it is split after its wave: the cub that splits has been reached by then.
+  pub split_over : {a n y : ℕ} → q.Split a t n y → y ≤ z + (p.cubs + 1) * p.delay
+  split_over {a} {n} {y} w = ⊎_elim
+      (λ (late : z + (p.cubs + 1) * p.delay < y).
+      let k = m.splits w in
+      let soon = k.soon in
+      let reads = k.tick.low in
+      let low = (split_held p r g q m w).low in
+      let mono = time_mono p z y (omega arith) in
+      let play = g.room.play in
+      let from = from_base p r g t x z base e n low (omega arith) in
+      let h = record_reached p r g t x z base e k.entered (inr k.next) from k.tick.came (omega arith) in
+      let by = h.by in
+      absurd (split_unreached w h.reached (omega arith)))
+      (λ (fine : y ≤ z + (p.cubs + 1) * p.delay). fine)
+      (cases_lt (z + (p.cubs + 1) * p.delay) y)
+
+  -- So its records, of pieces too, enter at most a way later.
+  pub arises_over : {c n j y : ℕ} → Arises r q c t n j y → y ≤ z + (p.cubs + 2) * p.delay
+  arises_over {c} {n} {j} {y} w = ⊎_elim
+      (λ a. (enters p r g t x z base e a.1).by)
+      (λ o.
+      let over = split_over o.split in
+      let soon = o.soon in
+      omega arith)
+      (kind_of p r g q m w)
+
+  -- So none of them enters after a hold.
+  pub not_released_piece : {c n j y : ℕ} → Arises r q c t n j y → IsReleasedBy p r c t.instance.0 y
+      → ⊥
+  not_released_piece {c} {n} {j} {y} w k =
+      let by = arises_over w in
+      let a = wave_after p g.turn z y (p.cubs + 2) (omega arith) by in
+      let over = k.over in
+      let after = reached_after p r g t x z base e k.reached in
+      let mono = time_mono p z k.beat (omega arith) in
+      let play = g.room.play in
+      omega arith
+
+  -- So a cub that was reached uses nothing of it.
+  pub there_unreached : {c n j b h lead : ℕ} → IsThere p r q c t n j b lead
+      → r.Reached c t.instance.0 h → h ≤ b → ⊥
+  there_unreached w reached le = not_released_piece w.arises (w.since _ reached le)
+
+  -- The cub after a visit's lives, if a piece of the visit is there: it splits, so the visit's own
+  -- is dead.
+  ended_split : {c n b y j lead : ℕ} → IsThere p r q c t n j b lead → 1 ≤ j → y < b
+      → Ended r (cub_of p (n + 1)) y
+  ended_split {c} {n} {b} {y} {j} {lead} w some l =
+      let o = origin p r g q m some w.arises in
+      let d = split_dead p r g q m o.split in
+      ⊎_elim
+      (λ k. k)
+      (λ k. absurd (g.law.run.apart d.died.died k.died (sym (cub_ahead p n 1))))
+      (g.law.run.up w.tick.came l (cub_below p (n + 1) g.ok.ranges))
+
+  -- The first piece is not used after that cub was reached.
+  by_first : {c a n j b h : ℕ} → Uses q c t n j b → c ≡ a → r.Reached a t.instance.0 h → h ≤ b → ⊥
+  by_first {c} {a} {n} {j} {b} {h} w same reached le =
+      there_unreached (used_there p r g q m w).1 (subst (λ v. r.Reached v t.instance.0 h) (sym same) reached) le
+
+  -- Another piece is not used a way after the kill: it would have been sent behind it, so split
+  -- after the deschedule came.
+  by_mirror : {c a n j b y s k h : ℕ} → Uses q c t n j b → ByMirror p q c a t n j s k
+      → IsKilled p r q a t n y h → h + p.delay ≤ b → ⊥
+  by_mirror {c} {a} {n} {j} {b} {y} {s} {k} {h} w o kill late =
+      let some = o.some in
+      let piece = o.piece in
+      let few = (used_there p r g q m w).1.few in
+      let by = kill.by in
+      let sent = kill.kills o.ahead some (omega arith) in
+      let again = m.killed sent o.to piece w (omega arith) in
+      split_unreached (m.mirrors again.sent).split kill.reached again.after
+
+  -- So if a piece is used a way after the splitting cub was reached, that cub had forgotten the
+  -- split.
+  pub used_forgotten : {c n j b h : ℕ} → Uses q c t n j b → 1 ≤ j
+      → r.Reached (cub_of p (n + 1)) t.instance.0 h → h + p.delay ≤ b
+      → IsForgotten p r (cub_of p (n + 1)) t n h
+  used_forgotten {c} {n} {j} {b} {h} w some reached late =
+      let o = origin p r g q m some (used_there p r g q m w).1.arises in
+      let a = (m.splits o.split).next in
+      let here : r.Reached o.cub t.instance.0 h = subst (λ v. r.Reached v t.instance.0 h) (sym a) reached in
+      let delay = g.turn.delay in
+      let up = ended_split {y = h} (used_there p r g q m w).1 some (omega arith) in
+      ⊎_elim
+      (λ (l : o.beat < h). ⊎_elim
+      (λ kill. absurd (⊎_elim
+      (λ f. by_first w f.0 here (omega arith))
+      (λ f. by_mirror w f kill late)
+      o.how))
+      (λ k. subst (λ v. IsForgotten p r v t n h) a k)
+      (m.kills o.split here l (subst (λ v. r.Came v h) (sym a) (g.law.run.came up.ticked)) (omega arith)))
+      (λ (l : h ≤ o.beat). absurd (split_unreached o.split here l))
+      (cases_lt o.beat h)
+
+  -- So nothing is used later than a block play time after the stop. If the visit lies before the
+  -- wave it had left before. If not, its cub is reached, or the splitting one, before the split may
+  -- be forgotten.
+  pub not_late : {c n j b : ℕ} → Uses q c t n j b → time_of p z + p.play < time_of p b → ⊥
+  not_late {c} {n} {j} {b} w late =
+      let o = (used_there p r g q m w).1 in
+      let soon = there_soon p r g q m o in
+      let until = leave_until p g.ok t n j o.few in
+      let held = arises_held p r g q m o.arises in
+      let room = g.room in
+      let from = from_base p r g t x z base e n held.low (omega (arith, room)) in
+      let over = over_before p r g z b (omega arith) in
+      let after : time_of p z + way p + p.skew < due p t.slot.0 n = omega arith in
+      ⊎_elim
+      (λ a. late_own o a.0 a.1 from over)
+      (λ k. late_piece w o k from over late after)
+      (kind_of p r g q m o.arises)
+    where
+      -- The whole block is used by the visit's cub, which was reached.
+      late_own : {c n j b lead : ℕ} → (o : IsThere p r q c t n j b lead) → j ≡ 0
+          → Entered r c t n o.beat → base ≤ n → z + (p.cubs + 1) * p.delay < b → ⊥
+      late_own {c} {n} {j} {b} {lead} o whole entered from over =
+          let here : c ≡ cub_of p n = o.here ∙ ap (λ v. cub_of p v) (let u : n + j ≡ n = omega arith in u) in
+          let h = record_reached p r g t x z base e entered (inl here) from o.tick.came (omega arith) in
+          let by = h.by in
+          there_unreached o h.reached (omega arith)
+
+      -- A piece is used by a cub that the kill has reached.
+      late_piece : {c n j b lead : ℕ} → Uses q c t n j b → (o : IsThere p r q c t n j b lead)
+          → Origin p q c t n j o.beat → base ≤ n → z + (p.cubs + 1) * p.delay < b
+          → time_of p z + p.play < time_of p b → time_of p z + way p + p.skew < due p t.slot.0 n → ⊥
+      late_piece {c} {n} {j} {b} {lead} w o s from over late after =
+          let split = m.splits s.split in
+          let until = z + (p.cubs + 1) * p.delay in
+          let some : 1 ≤ j = ⊎_elim (λ a. let a1 = a.1 in omega arith) (λ a. let k = a.piece in omega arith) s.how in
+          let up = ended_split {y = until} o some over in
+          let h = record_reached p r g t x z base e split.entered (inr split.next) from (subst (λ v. r.Came v until) (sym split.next) (g.law.run.came up.ticked)) (omega arith) in
+          let by = h.by in
+          let far = wave_after p g.turn z (z + (p.cubs + 2) * p.delay) (p.cubs + 2) (omega arith) (omega arith) in
+          let arrived = time_below p (z + (p.cubs + 2) * p.delay) b (omega arith) in
+          let f = used_forgotten w some (subst (λ v. r.Reached v t.instance.0 h.beat) split.next h.reached) (omega arith) in
+          let past = f.past in
+          let before = f.before in
+          let reads = (g.law.run.reads f.ticked).1 in
+          let a = wave_after p g.turn z f.beat (p.cubs + 1) (omega arith) (omega arith) in
+          omega arith
