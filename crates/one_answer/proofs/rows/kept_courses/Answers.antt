@@ -1,0 +1,17 @@
+use Rattle.std.proofs.Common.{◌≡◌, ◌+◌, refl, arith}
+use Rattle.node_kit.specs.Courses.{reading_of}
+use Rattle.one_answer.proofs.rows.kept_courses.Goals as goal
+
+pub returns-clause-fast : goal.returns-clause-fast
+returns-clause-fast g c note step h =
+    let shown : reading_of c 0 0 + 1 ≡ reading_of c 0 0 = h.stamped 0 0 (omega arith) (omega arith) in
+    omega (arith, shown)
+
+pub returns-clause-out_of_turn : goal.returns-clause-out_of_turn
+returns-clause-out_of_turn g c note step h =
+    let turn = h.in_turn 0 0 1 _ _ _ _ _ _ (omega arith) (omega arith) (omega arith) refl refl refl in
+    omega (arith, turn)
+
+pub returns-clause-unsent : goal.returns-clause-unsent
+returns-clause-unsent g c ends note step h =
+    let none = h.on_links 0 0 1 (omega arith) (omega arith) ends in absurd (cc)

@@ -1,0 +1,47 @@
+-- What a course says of a history: when events happen, what the links bring, and in which order.
+use Rattle.std.specs.Prelude.{◌≡◌, ℕ, zero, suc, ◌<◌, ◌≤◌, List, [], ◌++◌, Some, length}
+use Rattle.tiger_base.specs.declared.number.Stamp.{Stamp}
+use Rattle.tiger_base.specs.declared.number.LinkNo.{LinkNo}
+use Rattle.tiger_base.specs.declared.message.Note.{Note}
+use Rattle.link_timing.specs.Clock.{new_clock}
+use Rattle.node_kit.specs.declared.course.Course.{Course}
+use Rattle.node_kit.specs.declared.journal.Entry.{Entry}
+use Rattle.node_kit.specs.Courses.{reading_of}
+use Rattle.node_kit.specs.Life.{lifetime_of}
+use Rattle.node_kit.specs.Links.{links_of, ends_of}
+use Rattle.node_kit.specs.Steps.{Input, Deed}
+use Rattle.node_kit.specs.Steps.Input.{Take}
+use Rattle.run_facts.specs.Events.{Dated, take_on}
+use Rattle.run_facts.specs.Events.NodeEvent.{Does}
+use Rattle.run_facts.specs.Histories.{History, HaveHistory, beat, reading, sent}
+use Rattle.run_facts.specs.Paced.{ArePacedOn}
+
+-- what node n takes on a link in its first i events, in order, each with its beat
+abbrev pub taken : {M S : Type 0} → ℕ → History M S → ℕ → ℕ → List (Dated M)
+taken l h n zero = []
+taken l h n (suc i) = taken l h n i ++ take_on l (h.event n i)
+
+-- A history keeps its course if each event happens at the reading that its node's clock shows in that
+-- beat; if on each link exactly those messages are taken that the link's clock brings to a living
+-- receiver within the run's beats, each in the beat in which it is brought; and if of two messages that
+-- a node takes in one beat the first came on no higher link.
+pub record KeepsCourse {M S : Type 0} (note : M → Note) (step : S → Input M → Deed M S)
+    (c : Course) (nodes : ℕ) (h : History M S) : Type 0 where
+  pub stamped : (n i : ℕ) → n < nodes → i < h.count n → reading h n i ≡ reading_of c n (beat h n i)
+  pub on_links : (l from to : ℕ) → from < nodes → to < nodes
+      → ends_of (links_of c.plan.params) l ≡ Some (from, to)
+      → ArePacedOn (new_clock l c.delay c.plan.params.delay) (lifetime_of c to) c.beats
+      (sent note step l h from (h.count from)) (taken l h to (h.count to))
+  pub in_turn : (n i j : ℕ) (a b : Stamp) (k l : LinkNo) (m o : M)
+      → n < nodes → i < j → j < h.count n
+      → h.event n i ≡ Does (Take a k m) → h.event n j ≡ Does (Take b l o)
+      → a.beat ≡ b.beat → k.0 ≤ l.0
+
+-- The nodes given have lived, by their own steps, through a history that keeps its course, and each of
+-- them has a journal and is given back.
+pub record HaveKeptCourse {M S : Type 0} (note : M → Note) (step : S → Input M → Deed M S)
+    (c : Course) (given nodes : List S) (journals : List (List Entry)) : Type 0 where
+  pub lived : HaveHistory note step c.plan.params (lifetime_of c) c.beats given nodes journals
+  pub keeps : KeepsCourse note step c (length given) lived.history
+  pub each_has_journal : length journals ≡ length given
+  pub each_is_back : length nodes ≡ length given

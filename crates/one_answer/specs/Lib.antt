@@ -1,0 +1,5 @@
+pub mod Answers
+pub mod Catalogues
+pub mod Courses
+pub mod Handed
+pub mod Samples
