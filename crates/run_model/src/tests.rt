@@ -5,18 +5,13 @@ use link_timing::Delay;
 use node_kit::{Course, Entry, Journal, Kept, What};
 use slot_plan::{Params, Plan};
 use std::alloc::Global;
-use std::fmt::Write;
+use std::process::Abort;
 use std::test::Fail;
 use stripe_layout::{Catalogue, FileInfo};
 use tiger_base::{
     Beat, DiskNo, FileNo, Instance, LinkNo, NoMemory, Note, Sequence, SlotNo, Span, Stamp, Tenancy,
-    Visit, Want,
+    Want,
 };
-
-/// The controller and the viewers, behind eight cubs and eight disks.
-const CONTROLLER: u64 = 16;
-
-const VIEWERS: u64 = 17;
 
 fn small_plan() -> Plan {
     Plan {
@@ -43,66 +38,6 @@ fn small_plan() -> Plan {
     }
 }
 
-/// An entry, and the node in whose journal it stands.
-#[derive(Clone, Copy)]
-struct Row {
-    node: u64,
-    entry: Entry,
-}
-
-fn line_at(node: u64, beat: Beat, reading: u64, what: What) -> Row {
-    Row {
-        node,
-        entry: Entry {
-            stamp: Stamp { beat, reading },
-            what,
-        },
-    }
-}
-
-/// A line at the true time of its beat.
-fn line(node: u64, beat: Beat, what: What) -> Row {
-    line_at(node, beat, beat.saturating_mul(10000), what)
-}
-
-fn journal_of(alloc: Global, node: u64, lines: &[Row]) -> Result<Journal, NoMemory> {
-    let mut journal = Journal::new(alloc);
-    for line in lines {
-        if line.node == node {
-            journal.write(line.entry)?;
-        }
-    }
-    Ok(journal)
-}
-
-fn journals_of(alloc: Global, lines: &[Row]) -> Result<Vec<Journal>, NoMemory> {
-    let mut journals = Vec::new(alloc);
-    for node in 0..18 {
-        journals.push(journal_of(alloc, node, lines)?)?;
-    }
-    Ok(journals)
-}
-
-/// A cub, and the beat in which it dies by the course.
-type Death = (u64, Beat);
-
-fn death_of(cub: u64, deaths: &[Death]) -> Option<Beat> {
-    for death in deaths {
-        if death.0 == cub {
-            return Some(death.1);
-        }
-    }
-    None
-}
-
-fn deaths_of(alloc: Global, deaths: &[Death]) -> Result<Vec<Option<Beat>>, NoMemory> {
-    let mut beats = Vec::new(alloc);
-    for cub in 0..8 {
-        beats.push(death_of(cub, deaths))?;
-    }
-    Ok(beats)
-}
-
 /// A file of ten bytes, so of three blocks, whose first one is on disk 0.
 fn ten(alloc: Global) -> Result<Catalogue, NoMemory> {
     let mut files = Vec::new(alloc);
@@ -117,450 +52,469 @@ fn ten(alloc: Global) -> Result<Catalogue, NoMemory> {
     })
 }
 
-/// A run of so many beats with these deaths and these lines.
-fn kept(alloc: Global, beats: u64, deaths: &[Death], lines: &[Row]) -> Result<Kept, NoMemory> {
+/// What instance 0 wants in slot 1, whose visits 0, 1 and 2 are due at 500000, 1500000 and 2500000.
+fn want(visit: u32, piece: u32) -> Want {
+    Want {
+        instance: Instance(0),
+        slot: SlotNo(1),
+        visit: visit as u64,
+        file: FileNo(0),
+        block: visit as u64,
+        piece,
+    }
+}
+
+fn span(from: u32, len: u32) -> Span {
+    Span {
+        file: FileNo(0),
+        from: from as u64,
+        len: len as u64,
+    }
+}
+
+/// A tenancy of three visits.
+fn tenancy(instance: u32, slot: u32, first: u32) -> Tenancy {
+    Tenancy {
+        instance: Instance(instance),
+        file: FileNo(0),
+        slot: SlotNo(slot),
+        first: first as u64,
+        last: u64::from(first).saturating_add(2),
+    }
+}
+
+/// Some bytes of the file, sent in a beat as visit 0's whole block.
+fn whole(sent: u32, len: u32) -> Note {
+    Note::Whole {
+        want: want(0, 0),
+        sent: sent as u64,
+        part: span(0, len),
+    }
+}
+
+/// Some bytes of the file, sent in a beat as a piece of visit 0's block.
+fn piece(number: u32, sent: u32, from: u32, len: u32) -> Note {
+    Note::Piece {
+        want: want(0, number),
+        sent: sent as u64,
+        part: span(from, len),
+    }
+}
+
+/// What an entry says, by its kind and its numbers; the first number of a note is its link.
+fn what_of(kind: &str, numbers: &[u32]) -> Option<What> {
+    match (kind, numbers) {
+        ("died", []) => Some(What::Died),
+        ("unqueued", [v]) => Some(What::Unqueued(Instance(*v))),
+        ("gone", [v]) => Some(What::Gone(Instance(*v))),
+        ("put", [v, slot, first]) => Some(What::Put(tenancy(*v, *slot, *first))),
+        ("failed", [visit, piece]) => Some(What::ReadFailed(want(*visit, *piece))),
+        ("sent-heartbeat", [l]) => Some(What::Sent(LinkNo(*l), Note::Heartbeat)),
+        ("got-heartbeat", [l]) => Some(What::Got(LinkNo(*l), Note::Heartbeat)),
+        ("got-ask", [l]) => Some(What::Got(LinkNo(*l), Note::ReadAsk(want(0, 0)))),
+        ("sent-whole", [l, sent, len]) => Some(What::Sent(LinkNo(*l), whole(*sent, *len))),
+        ("got-whole", [l, sent, len]) => Some(What::Got(LinkNo(*l), whole(*sent, *len))),
+        ("sent-piece", [l, number, sent, from, len]) => {
+            Some(What::Sent(LinkNo(*l), piece(*number, *sent, *from, *len)))
+        }
+        ("got-piece", [l, number, sent, from, len]) => {
+            Some(What::Got(LinkNo(*l), piece(*number, *sent, *from, *len)))
+        }
+        _ => None,
+    }
+}
+
+fn numbers_in(alloc: Global, words: &str) -> Result<Vec<u32>, Fail> {
+    let mut numbers = Vec::new(alloc);
+    for word in words.split_ascii_whitespace() {
+        numbers.push(word.parse::<u32>()?)?;
+    }
+    Ok(numbers)
+}
+
+/// A beat and its true time, or another reading, as `3/34000`.
+fn stamp_of(text: &str) -> Result<Stamp, Fail> {
+    match text.split_once('/') {
+        Some((beat, reading)) => Ok(Stamp {
+            beat: beat.parse::<u64>()?,
+            reading: reading.parse::<u64>()?,
+        }),
+        None => {
+            let beat = text.parse::<u64>()?;
+            let reading = beat.saturating_mul(10000);
+            Ok(Stamp { beat, reading })
+        }
+    }
+}
+
+/// A line of a sample, as `0@3 sent-heartbeat 24`.
+#[derive(Drop)]
+struct Line<'a> {
+    node: usize,
+    stamp: Stamp,
+    kind: &'a str,
+    numbers: Vec<u32>,
+}
+
+fn line_of<'a>(alloc: Global, text: &'a str) -> Result<Line<'a>, Fail> {
+    let (place, words) = text.split_once(' ').ok_or("no words")?;
+    let (node, stamp) = place.split_once('@').ok_or("no beat")?;
+    let (kind, numbers) = words.split_once(' ').unwrap_or((words, ""));
+    Ok(Line {
+        node: node.parse::<usize>()?,
+        stamp: stamp_of(stamp)?,
+        kind,
+        numbers: numbers_in(alloc, numbers)?,
+    })
+}
+
+/// The deaths of the course and the journals.
+#[derive(Drop)]
+struct Sample {
+    deaths: Vec<Option<Beat>>,
+    journals: Vec<Journal>,
+}
+
+/// Eight cubs, eight disks, the controller and the viewers, who have written nothing.
+fn blank(alloc: Global) -> Result<Sample, NoMemory> {
+    let mut journals = Vec::new(alloc);
+    for _ in 0..18 {
+        journals.push(Journal::new(alloc))?;
+    }
+    let mut deaths = Vec::new(alloc);
+    for _ in 0..8 {
+        deaths.push(None)?;
+    }
+    Ok(Sample { deaths, journals })
+}
+
+/// Adds a line: a death of the course, or an entry of a journal.
+fn add(sample: &mut Sample, line: &Line<'_>) -> Result<(), Fail> {
+    if line.kind == "dies" {
+        let death = sample.deaths.get_mut(line.node).ok_or("no such cub")?;
+        *death = Some(line.stamp.beat);
+        return Ok(());
+    }
+    let journal = sample.journals.get_mut(line.node).ok_or("no such node")?;
+    let what = what_of(line.kind, line.numbers.as_slice()).ok_or("no such entry")?;
+    Ok(journal.write(Entry {
+        stamp: line.stamp,
+        what,
+    })?)
+}
+
+/// A run of so many beats with these lines.
+fn kept(alloc: Global, beats: u64, lines: &str) -> Result<Kept, Fail> {
+    let mut sample = blank(alloc)?;
+    for line in lines.split(", ") {
+        add(&mut sample, &line_of(alloc, line)?)?;
+    }
+    let Sample { deaths, journals } = sample;
     Ok(Kept {
         course: Course {
             plan: small_plan(),
             beats,
             offsets: Sequence::new(Vec::new(alloc)),
-            deaths: Sequence::new(deaths_of(alloc, deaths)?),
+            deaths: Sequence::new(deaths),
             faults: Sequence::new(Vec::new(alloc)),
             delay: Delay::Fixed(1),
         },
         catalogue: ten(alloc)?,
         orders: Sequence::new(Vec::new(alloc)),
-        journals: Sequence::new(journals_of(alloc, lines)?),
+        journals: Sequence::new(journals),
         digests: Sequence::new(Vec::new(alloc)),
     })
 }
 
-/// Whether a run of ten beats is carried.
-fn is_carried(alloc: Global, deaths: &[Death], lines: &[Row]) -> Result<bool, NoMemory> {
-    let k = kept(alloc, 10, deaths, lines)?;
-    Ok(carried(&k))
-}
-
-/// Whether a run of ten beats is timed.
-fn is_timed(alloc: Global, deaths: &[Death], lines: &[Row]) -> Result<bool, NoMemory> {
-    let k = kept(alloc, 10, deaths, lines)?;
-    Ok(timed(&k))
-}
-
-/// Whether instance 0 has its block at a visit in a run of 600 beats.
-fn is_delivered(alloc: Global, visit: Visit, lines: &[Row]) -> Result<bool, NoMemory> {
-    let k = kept(alloc, 600, &[], lines)?;
-    Ok(delivered(&k, Instance(0), visit))
-}
-
-/// Whether instance 0 may miss its block at a visit in a run of 600 beats.
-fn is_excused(alloc: Global, visit: Visit, lines: &[Row]) -> Result<bool, NoMemory> {
-    let k = kept(alloc, 600, &[], lines)?;
-    Ok(excused(&k, Instance(0), visit))
-}
-
-/// The slots after so many entries of a run of ten beats, each with its instance.
-fn slots_text(alloc: Global, entries: u64, lines: &[Row]) -> Result<String, NoMemory> {
-    let k = kept(alloc, 10, &[], lines)?;
-    let slots = schedule_at(alloc, &k, entries)?;
-    let mut text = String::new(alloc);
+/// The slots after so many entries, each with its instance.
+fn slots_text(alloc: Global, k: &Kept, entries: u64) -> Result<String, NoMemory> {
+    let slots = schedule_at(alloc, k, entries)?;
+    let mut pairs = Vec::new(alloc);
     for t in slots.tenancies.as_slice() {
-        write!(text, "slot {} has {};", t.slot.0, t.instance.0)?;
+        pairs.push((t.slot.0, t.instance.0))?;
     }
-    Ok(text)
+    Ok(format!(in alloc; "{:?}", pairs.as_slice())?)
 }
 
-/// Link 24 leads from cub 0 to cub 1.
-fn beat_sent(node: u64, beat: Beat) -> Row {
-    line(node, beat, What::Sent(LinkNo(24), Note::Heartbeat))
+/// What is said of a run, asked as `carried` or `delivered 0`.
+fn answer_to(alloc: Global, k: &Kept, question: &str) -> Result<String, Fail> {
+    let holds = match question.split_once(' ') {
+        None => if question == "carried" {
+            carried(k)
+        } else {
+            timed(k)
+        },
+        Some(("delivered", visit)) => delivered(k, Instance(0), visit.parse::<u64>()?),
+        Some(("excused", visit)) => excused(k, Instance(0), visit.parse::<u64>()?),
+        Some((_, entries)) => return Ok(slots_text(alloc, k, entries.parse::<u64>()?)?),
+    };
+    Ok(String::from_str(alloc, if holds { "yes" } else { "no" })?)
 }
 
-fn beat_got(node: u64, beat: Beat) -> Row {
-    line(node, beat, What::Got(LinkNo(24), Note::Heartbeat))
+/// Whether a row's question about a run of so many beats is answered as the row says.
+fn is_answered(alloc: Global, beats: u64, row: &str) -> Result<bool, Fail> {
+    let (question, rest) = row.split_once(" | ").ok_or("no question")?;
+    let (lines, want) = rest.split_once(" | ").ok_or("no lines")?;
+    let k = kept(alloc, beats, lines)?;
+    let answer = answer_to(alloc, &k, question)?;
+    Ok(answer.as_str() == want)
+}
+
+fn assert_answered(rt: &impl Abort, alloc: Global, beats: u64, rows: &str) -> Result<(), Fail> {
+    for row in rows.lines() {
+        assert!(rt; is_answered(alloc, beats, row)?, "{row}");
+    }
+    Ok(())
 }
 
 /// What is sent in beat 3 may come in beat 5, but neither in the same beat nor in beat 6, nor as
 /// another note.
 #[test]
 fn what_comes_in_time_is_carried(rt: HostRuntime) -> Result<(), Fail> {
-    let alloc = rt.alloc();
-    let sent = beat_sent(0, 3);
-    let in_time = is_carried(alloc, &[], &[sent, beat_got(1, 5)])?;
-    let at_once = is_carried(alloc, &[], &[sent, beat_got(1, 3)])?;
-    let late = is_carried(alloc, &[], &[sent, beat_got(1, 6)])?;
-    let ask = Note::ReadAsk(want(0, 0));
-    let other = is_carried(alloc, &[], &[sent, line(1, 5, What::Got(LinkNo(24), ask))])?;
-    assert_eq!(rt;
-        [in_time, at_once, late, other],
-        [true, false, false, false]
-    );
-    Ok(())
+    assert_answered(
+        &rt,
+        rt.alloc(),
+        10,
+        "\
+carried | 0@3 sent-heartbeat 24, 1@5 got-heartbeat 24 | yes
+carried | 0@3 sent-heartbeat 24, 1@3 got-heartbeat 24 | no
+carried | 0@3 sent-heartbeat 24, 1@6 got-heartbeat 24 | no
+carried | 0@3 sent-heartbeat 24, 1@5 got-ask 24 | no
+",
+    )
 }
 
 /// What is sent in beat 3 may be lost if its receiver dies in beat 5, and not if it dies in beat 6;
 /// what is sent in beat 8 of ten may arrive after the last beat, and what is sent in beat 7 not.
 #[test]
 fn what_is_lost_has_a_cause(rt: HostRuntime) -> Result<(), Fail> {
-    let alloc = rt.alloc();
-    let sent = beat_sent(0, 3);
-    let lost = is_carried(alloc, &[], &[sent])?;
-    let dies = is_carried(alloc, &[(1, 5)], &[sent])?;
-    let dies_later = is_carried(alloc, &[(1, 6)], &[sent])?;
-    let at_end = is_carried(alloc, &[], &[beat_sent(0, 8)])?;
-    let before_end = is_carried(alloc, &[], &[beat_sent(0, 7)])?;
-    assert_eq!(rt;
-        [lost, dies, dies_later, at_end, before_end],
-        [false, true, false, true, false]
-    );
-    Ok(())
+    assert_answered(
+        &rt,
+        rt.alloc(),
+        10,
+        "\
+carried | 0@3 sent-heartbeat 24 | no
+carried | 1@5 dies, 0@3 sent-heartbeat 24 | yes
+carried | 1@6 dies, 0@3 sent-heartbeat 24 | no
+carried | 0@8 sent-heartbeat 24 | yes
+carried | 0@7 sent-heartbeat 24 | no
+",
+    )
 }
 
 /// Only cub 0 sends on link 24, and only cub 1 gets what comes on it; there is no link 56.
 #[test]
 fn each_note_stands_at_its_end(rt: HostRuntime) -> Result<(), Fail> {
-    let alloc = rt.alloc();
-    let both = is_carried(alloc, &[], &[beat_sent(0, 3), beat_got(1, 4)])?;
-    let got_by_cub_2 = is_carried(alloc, &[], &[beat_got(2, 4)])?;
-    let sent_by_cub_1 = is_carried(alloc, &[], &[beat_sent(1, 9)])?;
-    let no_link = line(0, 9, What::Sent(LinkNo(56), Note::Heartbeat));
-    let nowhere = is_carried(alloc, &[], &[no_link])?;
-    assert_eq!(rt;
-        [both, got_by_cub_2, sent_by_cub_1, nowhere],
-        [true, false, false, false]
-    );
-    Ok(())
-}
-
-fn read(beat: Beat, reading: u64) -> Row {
-    line_at(2, beat, reading, What::Unqueued(Instance(0)))
+    assert_answered(
+        &rt,
+        rt.alloc(),
+        10,
+        "\
+carried | 0@3 sent-heartbeat 24, 1@4 got-heartbeat 24 | yes
+carried | 2@4 got-heartbeat 24 | no
+carried | 1@9 sent-heartbeat 24 | no
+carried | 0@9 sent-heartbeat 56 | no
+",
+    )
 }
 
 /// Beat 3 is at 30000, and the skew is 4000; of ten beats the last one is beat 9.
 #[test]
 fn readings_stay_within_the_skew(rt: HostRuntime) -> Result<(), Fail> {
-    let alloc = rt.alloc();
-    let highest = is_timed(alloc, &[], &[read(3, 34000)])?;
-    let above = is_timed(alloc, &[], &[read(3, 34001)])?;
-    let below = is_timed(alloc, &[], &[read(3, 29999)])?;
-    let stays = is_timed(alloc, &[], &[read(3, 34000), read(3, 34000)])?;
-    let falls = is_timed(alloc, &[], &[read(3, 34000), read(3, 33999)])?;
-    let over = is_timed(alloc, &[], &[read(10, 100000)])?;
-    assert_eq!(rt;
-        [highest, above, below, stays, falls, over],
-        [true, false, false, true, false, false]
-    );
-    Ok(())
-}
-
-fn died(cub: u64, beat: Beat) -> Row {
-    line(cub, beat, What::Died)
+    assert_answered(
+        &rt,
+        rt.alloc(),
+        10,
+        "\
+timed | 2@3/34000 unqueued 0 | yes
+timed | 2@3/34001 unqueued 0 | no
+timed | 2@3/29999 unqueued 0 | no
+timed | 2@3/34000 unqueued 0, 2@3/34000 unqueued 0 | yes
+timed | 2@3/34000 unqueued 0, 2@3/33999 unqueued 0 | no
+timed | 2@10/100000 unqueued 0 | no
+",
+    )
 }
 
 /// Cub 2 dies in beat 4, or by the last row in none.
 #[test]
 fn a_death_is_written_once_and_last(rt: HostRuntime) -> Result<(), Fail> {
-    let alloc = rt.alloc();
-    let last = is_timed(alloc, &[(2, 4)], &[read(3, 30000), died(2, 4)])?;
-    let entry_after = is_timed(alloc, &[(2, 4)], &[died(2, 4), read(4, 40000)])?;
-    let entry_in_its_beat = is_timed(alloc, &[(2, 4)], &[read(4, 40000), died(2, 4)])?;
-    let late = is_timed(alloc, &[(2, 4)], &[died(2, 5)])?;
-    let unwritten = is_timed(alloc, &[(2, 4)], &[read(3, 30000)])?;
-    let no_death = is_timed(alloc, &[], &[died(2, 4)])?;
-    assert_eq!(rt;
-        [
-            last,
-            entry_after,
-            entry_in_its_beat,
-            late,
-            unwritten,
-            no_death
-        ],
-        [true, false, false, false, false, false]
-    );
-    Ok(())
+    assert_answered(
+        &rt,
+        rt.alloc(),
+        10,
+        "\
+timed | 2@4 dies, 2@3/30000 unqueued 0, 2@4 died | yes
+timed | 2@4 dies, 2@4 died, 2@4/40000 unqueued 0 | no
+timed | 2@4 dies, 2@4/40000 unqueued 0, 2@4 died | no
+timed | 2@4 dies, 2@5 died | no
+timed | 2@4 dies, 2@3/30000 unqueued 0 | no
+timed | 2@4 died | no
+",
+    )
 }
 
 /// Cubs 2 and 4 have a cub between them; 2 and 3 stand side by side, and so do 7 and 0.
 #[test]
 fn cubs_side_by_side_do_not_both_die(rt: HostRuntime) -> Result<(), Fail> {
-    let alloc = rt.alloc();
-    let apart = is_timed(alloc, &[(2, 4), (4, 6)], &[died(2, 4), died(4, 6)])?;
-    let neighbours = is_timed(alloc, &[(2, 4), (3, 6)], &[died(2, 4), died(3, 6)])?;
-    let around = is_timed(alloc, &[(7, 4), (0, 6)], &[died(7, 4), died(0, 6)])?;
-    assert_eq!(rt; [apart, neighbours, around], [true, false, false]);
-    Ok(())
-}
-
-/// A Put of a tenancy of three visits.
-fn put(cub: u64, beat: Beat, instance: u32, slot: u32, first: Visit) -> Row {
-    let tenancy = Tenancy {
-        instance: Instance(instance),
-        file: FileNo(0),
-        slot: SlotNo(slot),
-        first,
-        last: first.saturating_add(2),
-    };
-    line(cub, beat, What::Put(tenancy))
-}
-
-fn gone(beat: Beat, instance: u32) -> Row {
-    line(CONTROLLER, beat, What::Gone(Instance(instance)))
+    assert_answered(
+        &rt,
+        rt.alloc(),
+        10,
+        "\
+timed | 2@4 dies, 4@6 dies, 2@4 died, 4@6 died | yes
+timed | 2@4 dies, 3@6 dies, 2@4 died, 3@6 died | no
+timed | 7@4 dies, 0@6 dies, 7@4 died, 0@6 died | no
+",
+    )
 }
 
 /// Cub 3's Put is of a lower slot, and comes after cub 0's of the same beat; the third one is of a
 /// higher slot, and the last one of the first one's slot.
 #[test]
 fn a_put_takes_its_slot(rt: HostRuntime) -> Result<(), Fail> {
-    let alloc = rt.alloc();
-    let puts = [
-        put(3, 1, 1, 0, 3),
-        put(1, 9, 2, 1, 9),
-        put(2, 5, 3, 2, 2),
-        put(0, 1, 0, 1, 0),
-    ];
-    let before = slots_text(alloc, 0, &puts)?;
-    let first = slots_text(alloc, 1, &puts)?;
-    let third = slots_text(alloc, 3, &puts)?;
-    let all = slots_text(alloc, 18446744073709551615, &puts)?;
-    assert_eq!(rt; before.as_str(), "");
-    assert_eq!(rt; first.as_str(), "slot 1 has 0;");
-    assert_eq!(rt; third.as_str(), "slot 0 has 1;slot 1 has 0;slot 2 has 3;");
-    assert_eq!(rt; all.as_str(), "slot 0 has 1;slot 1 has 2;slot 2 has 3;");
-    Ok(())
+    assert_answered(
+        &rt,
+        rt.alloc(),
+        10,
+        "\
+slots 0 | 3@1 put 1 0 3, 1@9 put 2 1 9, 2@5 put 3 2 2, 0@1 put 0 1 0 | []
+slots 1 | 3@1 put 1 0 3, 1@9 put 2 1 9, 2@5 put 3 2 2, 0@1 put 0 1 0 | [(1, 0)]
+slots 3 | 3@1 put 1 0 3, 1@9 put 2 1 9, 2@5 put 3 2 2, 0@1 put 0 1 0 | [(0, 1), (1, 0), (2, 3)]
+slots 18446744073709551615 | 3@1 put 1 0 3, 1@9 put 2 1 9, 2@5 put 3 2 2, 0@1 put 0 1 0 | [(0, 1), (1, 2), (2, 3)]
+",
+    )
 }
 
 /// Instance 4 is put, stopped and put again, and then instance 1 gets its slot.
 #[test]
 fn a_put_after_its_stop_changes_nothing(rt: HostRuntime) -> Result<(), Fail> {
-    let alloc = rt.alloc();
-    let lines = [
-        put(0, 1, 4, 1, 0),
-        gone(3, 4),
-        put(2, 4, 4, 3, 2),
-        put(1, 5, 1, 1, 1),
-    ];
-    let stopped = slots_text(alloc, 2, &lines)?;
-    let put_again = slots_text(alloc, 3, &lines)?;
-    let all = slots_text(alloc, 4, &lines)?;
-    assert_eq!(rt; stopped.as_str(), "");
-    assert_eq!(rt; put_again.as_str(), "");
-    assert_eq!(rt; all.as_str(), "slot 1 has 1;");
-    Ok(())
-}
-
-/// What instance 0 wants in slot 1, whose visits 0, 1 and 2 are due at 500000, 1500000 and 2500000.
-fn want(visit: Visit, piece: u32) -> Want {
-    Want {
-        instance: Instance(0),
-        slot: SlotNo(1),
-        visit,
-        file: FileNo(0),
-        block: visit,
-        piece,
-    }
-}
-
-/// Some bytes of the file, sent in a beat as visit 0's whole block.
-fn whole(sent: Beat, len: u64) -> Note {
-    Note::Whole {
-        want: want(0, 0),
-        sent,
-        part: Span {
-            file: FileNo(0),
-            from: 0,
-            len,
-        },
-    }
-}
-
-/// Some bytes of the file, sent in a beat as a piece of visit 0's block.
-fn piece(number: u32, sent: Beat, from: u64, len: u64) -> Note {
-    Note::Piece {
-        want: want(0, number),
-        sent,
-        part: Span {
-            file: FileNo(0),
-            from,
-            len,
-        },
-    }
-}
-
-/// A cub sends a note to the viewers, on link 16 and its number.
-fn sent(cub: u32, beat: Beat, note: Note) -> Row {
-    line(
-        cub as u64,
-        beat,
-        What::Sent(LinkNo(cub.saturating_add(16)), note),
-    )
-}
-
-fn got(cub: u32, beat: Beat, note: Note) -> Row {
-    line(
-        VIEWERS,
-        beat,
-        What::Got(LinkNo(cub.saturating_add(16)), note),
-    )
-}
-
-/// Whether visit 0 is delivered where cub 0 sends so many bytes in a beat, and the viewers get them.
-fn comes_whole(alloc: Global, beat: Beat, len: u64) -> Result<bool, NoMemory> {
-    let note = whole(beat, len);
-    is_delivered(
-        alloc,
-        0,
-        &[put(0, 1, 0, 1, 0), sent(0, beat, note), got(0, 52, note)],
+    assert_answered(
+        &rt,
+        rt.alloc(),
+        10,
+        "\
+slots 2 | 0@1 put 4 1 0, 16@3 gone 4, 2@4 put 4 3 2, 1@5 put 1 1 1 | []
+slots 3 | 0@1 put 4 1 0, 16@3 gone 4, 2@4 put 4 3 2, 1@5 put 1 1 1 | []
+slots 4 | 0@1 put 4 1 0, 16@3 gone 4, 2@4 put 4 3 2, 1@5 put 1 1 1 | [(1, 1)]
+",
     )
 }
 
 /// Visit 0 is due in beat 50, and its block has four bytes.
 #[test]
 fn a_block_comes_whole(rt: HostRuntime) -> Result<(), Fail> {
-    let alloc = rt.alloc();
-    let when_due = comes_whole(alloc, 50, 4)?;
-    let early = comes_whole(alloc, 49, 4)?;
-    let late = comes_whole(alloc, 51, 4)?;
-    let short = comes_whole(alloc, 50, 3)?;
-    let note = whole(50, 4);
-    let placed = put(0, 1, 0, 1, 0);
-    let lines = [
-        placed,
-        sent(0, 50, note),
-        got(0, 51, note),
-        got(0, 52, note),
-    ];
-    let twice = is_delivered(alloc, 0, &lines)?;
-    let by_cub_1 = is_delivered(alloc, 0, &[placed, sent(1, 50, note), got(1, 51, note)])?;
-    let next_visit = is_delivered(alloc, 1, &[placed, sent(0, 50, note), got(0, 51, note)])?;
-    assert_eq!(rt; [when_due, early, late, short], [true, false, false, false]);
-    assert_eq!(rt; [twice, by_cub_1, next_visit], [false, false, false]);
-    Ok(())
-}
-
-/// Whether visit 0 is delivered where cub 1 sends its first piece, cub 2 some bytes as its second, and
-/// the viewers get both and one thing more.
-fn comes_in_pieces(alloc: Global, beat: Beat, from: u64, more: Row) -> Result<bool, NoMemory> {
-    let first = piece(1, 50, 0, 2);
-    let second = piece(2, beat, from, 4u64.saturating_sub(from));
-    is_delivered(
-        alloc,
-        0,
-        &[
-            put(0, 1, 0, 1, 0),
-            sent(1, 50, first),
-            got(1, 51, first),
-            sent(2, beat, second),
-            got(2, 102, second),
-            more,
-        ],
+    assert_answered(
+        &rt,
+        rt.alloc(),
+        600,
+        "\
+delivered 0 | 0@1 put 0 1 0, 0@50 sent-whole 16 50 4, 17@52 got-whole 16 50 4 | yes
+delivered 0 | 0@1 put 0 1 0, 0@49 sent-whole 16 49 4, 17@52 got-whole 16 49 4 | no
+delivered 0 | 0@1 put 0 1 0, 0@51 sent-whole 16 51 4, 17@52 got-whole 16 51 4 | no
+delivered 0 | 0@1 put 0 1 0, 0@50 sent-whole 16 50 3, 17@52 got-whole 16 50 3 | no
+delivered 0 | 0@1 put 0 1 0, 0@50 sent-whole 16 50 4, 17@51 got-whole 16 50 4, 17@52 got-whole 16 50 4 | no
+delivered 0 | 0@1 put 0 1 0, 1@50 sent-whole 17 50 4, 17@51 got-whole 17 50 4 | no
+delivered 1 | 0@1 put 0 1 0, 0@50 sent-whole 16 50 4, 17@51 got-whole 16 50 4 | no
+",
     )
 }
 
 /// Cub 1 sends the first two bytes in beat 50, and cub 2 the other two in beat 100.
 #[test]
 fn a_block_comes_in_pieces(rt: HostRuntime) -> Result<(), Fail> {
-    let alloc = rt.alloc();
-    let nothing = read(102, 1020000);
-    let first = piece(1, 50, 0, 2);
-    let both = comes_in_pieces(alloc, 100, 2, nothing)?;
-    let early = comes_in_pieces(alloc, 99, 2, nothing)?;
-    let all_bytes = comes_in_pieces(alloc, 100, 0, nothing)?;
-    let first_twice = comes_in_pieces(alloc, 100, 2, got(1, 103, first))?;
-    let whole_too = comes_in_pieces(alloc, 100, 2, got(0, 103, whole(50, 4)))?;
-    let one = is_delivered(
-        alloc,
-        0,
-        &[put(0, 1, 0, 1, 0), sent(1, 50, first), got(1, 51, first)],
-    )?;
-    assert_eq!(rt;
-        [both, early, all_bytes, first_twice, whole_too, one],
-        [true, false, false, false, false, false]
-    );
-    Ok(())
-}
-
-fn read_failed(node: u64, visit: Visit, piece: u32) -> Row {
-    line(node, 40, What::ReadFailed(want(visit, piece)))
+    assert_answered(
+        &rt,
+        rt.alloc(),
+        600,
+        "\
+delivered 0 | 0@1 put 0 1 0, 1@50 sent-piece 17 1 50 0 2, 17@51 got-piece 17 1 50 0 2, 2@100 sent-piece 18 2 100 2 2, 17@102 got-piece 18 2 100 2 2, 2@102/1020000 unqueued 0 | yes
+delivered 0 | 0@1 put 0 1 0, 1@50 sent-piece 17 1 50 0 2, 17@51 got-piece 17 1 50 0 2, 2@99 sent-piece 18 2 99 2 2, 17@102 got-piece 18 2 99 2 2, 2@102/1020000 unqueued 0 | no
+delivered 0 | 0@1 put 0 1 0, 1@50 sent-piece 17 1 50 0 2, 17@51 got-piece 17 1 50 0 2, 2@100 sent-piece 18 2 100 0 4, 17@102 got-piece 18 2 100 0 4, 2@102/1020000 unqueued 0 | no
+delivered 0 | 0@1 put 0 1 0, 1@50 sent-piece 17 1 50 0 2, 17@51 got-piece 17 1 50 0 2, 2@100 sent-piece 18 2 100 2 2, 17@102 got-piece 18 2 100 2 2, 17@103 got-piece 17 1 50 0 2 | no
+delivered 0 | 0@1 put 0 1 0, 1@50 sent-piece 17 1 50 0 2, 17@51 got-piece 17 1 50 0 2, 2@100 sent-piece 18 2 100 2 2, 17@102 got-piece 18 2 100 2 2, 17@103 got-whole 16 50 4 | no
+delivered 0 | 0@1 put 0 1 0, 1@50 sent-piece 17 1 50 0 2, 17@51 got-piece 17 1 50 0 2 | no
+",
+    )
 }
 
 /// Visit 0 is cub 0's. Its block may be missing where the whole read failed there.
 #[test]
 fn a_failed_read_excuses(rt: HostRuntime) -> Result<(), Fail> {
-    let alloc = rt.alloc();
-    let placed = put(0, 1, 0, 1, 0);
-    let failed = is_excused(alloc, 0, &[placed, read_failed(0, 0, 0)])?;
-    let nothing = is_excused(alloc, 0, &[placed])?;
-    let elsewhere = is_excused(alloc, 0, &[placed, read_failed(1, 0, 0)])?;
-    let of_a_piece = is_excused(alloc, 0, &[placed, read_failed(1, 0, 1)])?;
-    let of_visit_1 = is_excused(alloc, 0, &[placed, read_failed(0, 1, 0)])?;
-    assert_eq!(rt;
-        [failed, nothing, elsewhere, of_a_piece, of_visit_1],
-        [true, false, false, false, false]
-    );
-    Ok(())
+    assert_answered(
+        &rt,
+        rt.alloc(),
+        600,
+        "\
+excused 0 | 0@1 put 0 1 0, 0@40 failed 0 0 | yes
+excused 0 | 0@1 put 0 1 0 | no
+excused 0 | 0@1 put 0 1 0, 1@40 failed 0 0 | no
+excused 0 | 0@1 put 0 1 0, 1@40 failed 0 1 | no
+excused 0 | 0@1 put 0 1 0, 0@40 failed 1 0 | no
+",
+    )
 }
 
 /// Visit 1 is cub 1's and due at 1500000; a death may go unnoticed for 1172001 at most, so a death in
 /// beat 33 is too late for the next cub, and one in beat 151 too late to matter.
 #[test]
 fn a_late_death_excuses(rt: HostRuntime) -> Result<(), Fail> {
-    let alloc = rt.alloc();
-    let placed = put(0, 1, 0, 1, 0);
-    let noticed = is_excused(alloc, 1, &[placed, died(1, 32)])?;
-    let unnoticed = is_excused(alloc, 1, &[placed, died(1, 33)])?;
-    let when_due = is_excused(alloc, 1, &[placed, died(1, 150)])?;
-    let after = is_excused(alloc, 1, &[placed, died(1, 151)])?;
-    let other_cub = is_excused(alloc, 1, &[placed, died(2, 150)])?;
-    assert_eq!(rt;
-        [noticed, unnoticed, when_due, after, other_cub],
-        [false, true, true, false, false]
-    );
-    Ok(())
+    assert_answered(
+        &rt,
+        rt.alloc(),
+        600,
+        "\
+excused 1 | 0@1 put 0 1 0, 1@32 died | no
+excused 1 | 0@1 put 0 1 0, 1@33 died | yes
+excused 1 | 0@1 put 0 1 0, 1@150 died | yes
+excused 1 | 0@1 put 0 1 0, 1@151 died | no
+excused 1 | 0@1 put 0 1 0, 2@150 died | no
+",
+    )
 }
 
 /// Cub 1 died in time, so visit 1 comes in two pieces; the second is cub 3's and leaves at 2000000.
 #[test]
 fn a_lost_piece_excuses(rt: HostRuntime) -> Result<(), Fail> {
-    let alloc = rt.alloc();
-    let placed = put(0, 1, 0, 1, 0);
-    let dead = died(1, 32);
-    let failed = is_excused(alloc, 1, &[placed, dead, read_failed(2, 1, 1)])?;
-    let third = is_excused(alloc, 1, &[placed, dead, read_failed(2, 1, 3)])?;
-    let sender_dies = is_excused(alloc, 1, &[placed, dead, died(3, 200)])?;
-    let after = is_excused(alloc, 1, &[placed, dead, died(3, 201)])?;
-    let alive = is_excused(alloc, 1, &[placed, read_failed(2, 1, 1)])?;
-    assert_eq!(rt;
-        [failed, third, sender_dies, after, alive],
-        [true, false, true, false, false]
-    );
-    Ok(())
+    assert_answered(
+        &rt,
+        rt.alloc(),
+        600,
+        "\
+excused 1 | 0@1 put 0 1 0, 1@32 died, 2@40 failed 1 1 | yes
+excused 1 | 0@1 put 0 1 0, 1@32 died, 2@40 failed 1 3 | no
+excused 1 | 0@1 put 0 1 0, 1@32 died, 3@200 died | yes
+excused 1 | 0@1 put 0 1 0, 1@32 died, 3@201 died | no
+excused 1 | 0@1 put 0 1 0, 2@40 failed 1 1 | no
+",
+    )
 }
 
 /// Visit 0 is due at 500000, and a block plays for 1000000.
 #[test]
 fn a_stop_excuses(rt: HostRuntime) -> Result<(), Fail> {
-    let alloc = rt.alloc();
-    let placed = put(0, 1, 0, 1, 0);
-    let stopped = is_excused(alloc, 0, &[placed, gone(149, 0)])?;
-    let played = is_excused(alloc, 0, &[placed, gone(150, 0)])?;
-    let other = is_excused(alloc, 0, &[placed, gone(149, 1)])?;
-    assert_eq!(rt; [stopped, played, other], [true, false, false]);
-    Ok(())
+    assert_answered(
+        &rt,
+        rt.alloc(),
+        600,
+        "\
+excused 0 | 0@1 put 0 1 0, 16@149 gone 0 | yes
+excused 0 | 0@1 put 0 1 0, 16@150 gone 0 | no
+excused 0 | 0@1 put 0 1 0, 16@149 gone 1 | no
+",
+    )
 }
 
 /// The viewers get block 0, and a read and a stop are written down; but no cub put instance 0.
 #[test]
 fn an_instance_that_was_never_put_is_neither(rt: HostRuntime) -> Result<(), Fail> {
-    let alloc = rt.alloc();
-    let note = whole(50, 4);
-    let lines = [
-        read_failed(0, 0, 0),
-        sent(0, 50, note),
-        got(0, 51, note),
-        gone(60, 0),
-    ];
-    let came = is_delivered(alloc, 0, &lines)?;
-    let may_be_missing = is_excused(alloc, 0, &lines)?;
-    assert_eq!(rt; [came, may_be_missing], [false, false]);
-    Ok(())
+    assert_answered(
+        &rt,
+        rt.alloc(),
+        600,
+        "\
+delivered 0 | 0@40 failed 0 0, 0@50 sent-whole 16 50 4, 17@51 got-whole 16 50 4, 16@60 gone 0 | no
+excused 0 | 0@40 failed 0 0, 0@50 sent-whole 16 50 4, 17@51 got-whole 16 50 4, 16@60 gone 0 | no
+",
+    )
 }
