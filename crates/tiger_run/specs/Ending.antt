@@ -10,7 +10,8 @@ use Rattle.scenario_read.specs.declared.scenario.Scenario.{Scenario}
 use Rattle.scenario_read.specs.Meaning.{said_by}
 use Rattle.scenario_make.specs.Made.{made_scenario, made_library}
 use Rattle.run_report.specs.Text.{report_text, summary_text}
-use Rattle.ring_schedule.specs.Scenarios.{IsCalmScenario, HasOneSchedule}
+use Rattle.ring_schedule.specs.Scenarios.{IsCalmScenario, HasOneSchedule, HasFairPuts}
+use Rattle.ring_stops.specs.Scenarios.{IsLivingScenario}
 use Rattle.ring_facts.specs.Rings.{IsRingRun}
 use Rattle.tiger_run.specs.declared.inputs.Inputs.{Inputs}
 use Rattle.tiger_run.specs.declared.status.Status.{Status}
@@ -20,19 +21,24 @@ use Rattle.tiger_run.specs.Inputs.{InputsCause, AreInputs}
 
 -- ---- what is kept
 
--- the scenario of this name was read, and then its files, and the ring ran for them; where the scenario has no stops and no
--- deaths there is one schedule
+-- The ring ran for a scenario and its files, and this is kept of it. If the scenario has no stops and no deaths there is one
+-- schedule; if nobody dies in it each Put finds its slot free, and is rightly put.
+pub record IsRunOf (G : Type 0) (s : Scenario) (library : List (List ℕ)) (k : Kept) : Type 0 where
+  pub ran : IsRingRun G s library k
+  pub one_schedule : IsCalmScenario s → HasOneSchedule k
+  pub fair : IsLivingScenario s → HasFairPuts k
+
+-- the scenario of this name was read, and then its files, and the ring ran for them
 pub record IsNamedRun (G : Type 0) (told : List ℕ → Told) (name : List ℕ) (k : Kept) : Type 0 where
   pub inputs : Inputs
   pub read : AreInputs told name inputs
-  pub ran : IsRingRun G inputs.scenario inputs.library k
-  pub one_schedule : IsCalmScenario inputs.scenario → HasOneSchedule k
+  pub run : IsRunOf G inputs.scenario inputs.library k
 
 -- the ring ran for the scenario and the files that are made of this number
 pub record IsMadeRun (G : Type 0) (number : ℕ) (k : Kept) : Type 0 where
   pub scenario : Scenario
   pub made : said_by scenario ≡ made_scenario number
-  pub ran : IsRingRun G scenario (made_library number) k
+  pub run : IsRunOf G scenario (made_library number) k
 
 -- the run is the one that the words ask for: that of the named scenario, or of the made one
 abbrev pub IsAskedRun : (G : Type 0) → (List ℕ → Told) → List (List ℕ) → Kept → Type 0

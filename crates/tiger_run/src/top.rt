@@ -15,12 +15,12 @@ use crate::words::{Command, command_in};
 use crate::writing::put_lines;
 use node_kit::{Gate, Kept};
 use outside::{Files, Sink, SinkFault};
-use run_report::{report, summary};
+use run_report::{report_of, summary_of};
 use scenario_make::{Made, make};
 use scenario_read::Scenario;
 use std::alloc::Global;
 use tiger_base::Library;
-use tiger_ring::run_ring;
+use tiger_ring::run_with_outcomes;
 
 /// How a run ended, and what was kept of it.
 #[derive(Drop)]
@@ -66,15 +66,15 @@ fn run_named<F: Files, K: Sink, G: Gate>(
         Ok(inputs) => inputs,
         Err(status) => return refused(status),
     };
-    let Ok(kept) = run_ring(alloc, scenario, &library, gate) else {
+    let Ok(run) = run_with_outcomes(alloc, scenario, &library, gate) else {
         return refused(Status::NoMemory);
     };
-    let Ok(text) = report(alloc, &kept) else {
+    let Ok(text) = report_of(alloc, &run.kept, run.outcomes.as_slice()) else {
         return refused(Status::NoMemory);
     };
     Ended {
         status: written(out, text.as_slice()),
-        kept: Some(kept),
+        kept: Some(run.kept),
     }
 }
 
@@ -88,15 +88,15 @@ fn run_made<K: Sink, G: Gate>(alloc: Global, number: u64, out: &mut K, gate: &G)
     let Ok(Made { scenario, library }) = make(alloc, number) else {
         return refused(Status::NoMemory);
     };
-    let Ok(kept) = run_ring(alloc, scenario, &library, gate) else {
+    let Ok(run) = run_with_outcomes(alloc, scenario, &library, gate) else {
         return refused(Status::NoMemory);
     };
-    let Ok(text) = summary(alloc, &kept) else {
+    let Ok(text) = summary_of(alloc, &run.kept, run.outcomes.as_slice()) else {
         return refused(Status::NoMemory);
     };
     Ended {
         status: written(out, text.as_slice()),
-        kept: Some(kept),
+        kept: Some(run.kept),
     }
 }
 
