@@ -1,8 +1,8 @@
 -- What files in memory tell after one was put.
-use Rattle.std.proofs.Common.{◌≡◌, ℕ, List, Bool, true, false, cond, Option, Some, None, refl, Vec, Global}
+use Rattle.std.proofs.Common.{◌≡◌, ℕ, List, true, false, cond, Option, Some, refl, Vec, Global}
 use Rattle.std.specs.Map.{update}
 use Rattle.std.specs.Str.{bytes_eq}
-use Rattle.outside.specs.Told.{Told, bytes}
+use Rattle.outside.specs.Told.{bytes}
 use Rattle.outside.specs.Memory.{found_bytes, with_file}
 
 pub found_bytes-update : (files : List ℕ → Option (Vec ℕ Global)) (name other : List ℕ) (v : Vec ℕ Global)

@@ -1,5 +1,5 @@
 -- What a source of files tells of a name, what it counts, and why a file was not read.
-use Rattle.std.specs.Prelude.{◌≡◌, ℕ, ◌<◌, ◌≤◌, List, length}
+use Rattle.std.specs.Prelude.{◌≡◌, ℕ, ◌^◌, ◌<◌, ◌≤◌, Bool, true, false, List, length, Result, Err}
 use Rattle.outside.specs.declared.files.FileFault.{FileFault}
 use Rattle.outside.specs.declared.files.FileFault.TheVariants.{Failed, Absent, TooLong, NoMemory}
 
@@ -9,7 +9,7 @@ pub data Told : Type 0 where
   absent : Told
   untold : Told
 
--- where something is told, it is these bytes
+-- if something is told, it is these bytes
 abbrev pub AreTold : Told → List ℕ → Type 0
 AreTold (bytes b) given = given ≡ b
 AreTold absent given = ⊥
@@ -21,7 +21,7 @@ NoneTold (bytes b) = ⊥
 NoneTold absent = Unit {0}
 NoneTold untold = Unit {0}
 
--- where something is told, it is at least so many bytes
+-- if something is told, it is at least so many bytes
 abbrev pub HasBytes : Told → ℕ → Type 0
 HasBytes (bytes b) given = given ≤ length b
 HasBytes absent given = ⊥
@@ -43,9 +43,24 @@ pub record NeverFell (old new : Counts) : Type 0 where
   pub faults : old.faults ≤ new.faults
   pub absences : old.absences ≤ new.absences
 
--- why a file was not read, if at most so many bytes were asked for
-abbrev pub HasCause : Told → ℕ → Counts → Counts → FileFault → Type 0
-HasCause told most old new Failed = old.faults < new.faults
-HasCause told most old new Absent = (old.absences < new.absences) × NoneTold told
-HasCause told most old new (TooLong given) = (most < given) × HasBytes told given
-HasCause told most old new NoMemory = Unit {0}
+-- the answer is that reading failed
+abbrev pub is_failed : {A : Type 0} → Result A FileFault → Bool
+is_failed (Err Failed) = true
+is_failed _ = false
+
+-- a source of files: what it tells of each name, and what it counted
+pub record FilesState : Type 0 where
+  pub told : List ℕ → Told
+  pub counts : Counts
+
+-- how many calls a source can have had before the next one
+abbrev pub most_calls : ℕ
+most_calls = 2 ^ 33
+
+-- why a file was not read, if at most so many of its bytes were asked for
+abbrev pub HasCause : List ℕ → ℕ → FilesState → FilesState → FileFault → Type 0
+HasCause name most old new Failed = old.counts.faults < new.counts.faults
+HasCause name most old new Absent =
+    (old.counts.absences < new.counts.absences) × NoneTold (old.told name)
+HasCause name most old new (TooLong given) = (most < given) × HasBytes (old.told name) given
+HasCause name most old new NoMemory = Unit {0}

@@ -46,7 +46,7 @@ impl<'r, R: rt::Files> DirFiles<'r, R> {
 /// The most bytes that one read asks for.
 const CHUNK: usize = 4096;
 
-/// Reads to the end, or until one byte more than the most was read; false where a read failed.
+/// Reads to the end, or until one byte more than the most was read; false if a read failed.
 fn read_up_to<F: Read>(file: &mut F, bytes: &mut Vec<u8>, most: u64) -> Result<bool, AllocError> {
     let mut chunk = [0u8; CHUNK];
     while (bytes.len() as u64) <= most {
@@ -64,9 +64,7 @@ fn read_up_to<F: Read>(file: &mut F, bytes: &mut Vec<u8>, most: u64) -> Result<b
 impl<'r, R: rt::Files> Files for DirFiles<'r, R> {
     ghost use Rattle.outside.specs.Told.{untold};
 
-    ghost told = { λ _ _. untold };
-
-    ghost counts = { λ d. d };
+    ghost state = { λ d. record { told = λ _. untold; counts = d } };
 
     fn read_whole(&mut self, alloc: Global, name: &str, most: u64) -> Result<Vec<u8>, FileFault> {
         self.calls += 1;

@@ -39,22 +39,19 @@ impl<T: Drop> From<AllocFailed<T>> for FileFault {
 
 /// A source of whole files. Contracts see what it tells of each name, and what it counts.
 pub trait Files {
-    ghost use Rattle.std.specs.Prelude.{◌≡◌, ◌+◌, ◌^◌, ◌≤◌, ℕ, List, IfOk, IfErr, length};
-    ghost use Rattle.outside.specs.Told.{Told, Counts, AreTold, HasCause, NeverFell};
+    ghost use Rattle.std.specs.Prelude.{◌≡◌, ◌+◌, ◌≤◌, IfOk, IfErr, length};
+    ghost use Rattle.outside.specs.Told.{FilesState, AreTold, HasCause, NeverFell, most_calls};
 
-    /// What is told of each name. No call changes it.
-    ghost told: { Self → List ℕ → Told };
-
-    /// The calls, faults and absences so far.
-    ghost counts: { Self → Counts };
+    /// What is told of each name, which no call changes, and the calls, faults and absences so far.
+    ghost state: { Self → FilesState };
 
     /// The whole file of this name, if it has at most so many bytes.
     fn read_whole(&mut self, alloc: Global, name: &str, most: u64) -> Result<Vec<u8>, FileFault>
-        requires { (counts self.old).calls ≤ 2 ^ 33 }
-        ensures same { told self.new ≡ told self.old }
-        ensures counted { (counts self.new).calls ≡ (counts self.old).calls + 1 }
-        ensures never_fell { NeverFell (counts self.old) (counts self.new) }
-        ensures read { IfOk result (λ v. AreTold (told self.old name.now) v.items) }
+        requires { (state self.old).counts.calls ≤ most_calls }
+        ensures same { (state self.new).told ≡ (state self.old).told }
+        ensures counted { (state self.new).counts.calls ≡ (state self.old).counts.calls + 1 }
+        ensures never_fell { NeverFell (state self.old).counts (state self.new).counts }
+        ensures read { IfOk result (λ v. AreTold ((state self.old).told name.now) v.items) }
         ensures limit { IfOk result (λ v. length v.items ≤ most) }
-        ensures cause { IfErr result (HasCause (told self.old name.now) most (counts self.old) (counts self.new)) };
+        ensures cause { IfErr result (HasCause name.now most (state self.old) (state self.new)) };
 }

@@ -33,9 +33,9 @@ impl Model for MemFiles {
 }
 
 impl MemFiles {
-    ghost use Rattle.std.specs.Prelude.{◌≡◌, ◌++◌, ◌∷◌, [], ℕ, List, OnOk, OnErr};
+    ghost use Rattle.std.specs.Prelude.{◌≡◌, ◌++◌, ◌∷◌, [], OnOk, OnErr};
     ghost use Rattle.outside.specs.Told.{none_yet};
-    ghost use Rattle.outside.specs.Memory.{told_of, with_file};
+    ghost use Rattle.outside.specs.Memory.{AreWith};
 
     /// No files, of which no call fails.
     pub fn new(alloc: Global) -> MemFiles
@@ -53,7 +53,7 @@ impl MemFiles {
 
     /// Puts a file of this name there, in place of an earlier one. Without memory nothing changes.
     pub fn put(&mut self, name: &str, bytes: Vec<u8>) -> Result<(), NoMemory>
-        ensures told { OnOk result ((other : List ℕ) → told_of self.new.entries other ≡ with_file (told_of self.old.entries) name.now bytes.items other) }
+        ensures told { OnOk result (AreWith self.old.entries name.now bytes.items self.new.entries) }
         ensures others { OnOk result (self.new ≡ record self.old { entries = self.new.entries }) }
         ensures err { OnErr result (self.new ≡ self.old) }
     {
@@ -73,30 +73,29 @@ impl MemFiles {
 }
 
 impl Files for MemFiles {
-    ghost use Rattle.std.specs.Prelude.{◌≡◌, ◌+◌, ◌^◌, ◌≤◌, ◌&&◌, ◌==◌, if◌then◌else◌, IfOk, IfErr, length};
-    ghost use Rattle.std.specs.List.{list_any};
-    ghost use Rattle.outside.specs.Memory.{told_of, one_if, is_absent};
-    ghost use Rattle.outside.specs.Told.{AreTold, HasCause, NeverFell};
+    ghost use Rattle.std.specs.Prelude.{◌≡◌, ◌+◌, ◌≤◌, ◌&&◌, not, IfOk, IfErr, length};
+    ghost use Rattle.outside.specs.Memory.{told_of, one_if, fails_next, lacks, source_of};
+    ghost use Rattle.outside.specs.Told.{AreTold, HasCause, NeverFell, is_failed, most_calls};
 
-    ghost told = { λ m. told_of m.entries };
-
-    ghost counts = { λ m. m.counts };
+    ghost state = { λ m. source_of m };
 
     fn read_whole(&mut self, alloc: Global, name: &str, most: u64) -> Result<Vec<u8>, FileFault>
-        requires { self.old.counts.calls ≤ 2 ^ 33 }
+        requires { self.old.counts.calls ≤ most_calls }
         ensures same { told_of self.new.entries ≡ told_of self.old.entries }
         ensures counted { self.new.counts.calls ≡ self.old.counts.calls + 1 }
         ensures never_fell { NeverFell self.old.counts self.new.counts }
         ensures read { IfOk result (λ v. AreTold (told_of self.old.entries name.now) v.items) }
         ensures limit { IfOk result (λ v. length v.items ≤ most) }
-        ensures cause { IfErr result (HasCause (told_of self.old.entries name.now) most self.old.counts self.new.counts) }
+        ensures cause { IfErr result (HasCause name.now most (source_of self.old) (source_of self.new)) }
+
+        // A call fails exactly if it was made to.
+        ensures failed { is_failed result ≡ fails_next self.old }
 
         // Faults rise exactly at the calls that were made to fail, absences exactly at other calls
         // on names that were not put.
-        ensures faults { let fails = list_any (λ call. call == self.old.counts.calls) self.old.failing in
-            self.new.counts.faults ≡ self.old.counts.faults + one_if fails }
-        ensures absences { let fails = list_any (λ call. call == self.old.counts.calls) self.old.failing in
-            self.new.counts.absences ≡ self.old.counts.absences + (if fails then 0 else one_if (is_absent (told_of self.old.entries name.now))) }
+        ensures faults { self.new.counts.faults ≡ self.old.counts.faults + one_if (fails_next self.old) }
+        ensures absences { let found_none = not (fails_next self.old) && lacks self.old name.now in
+            self.new.counts.absences ≡ self.old.counts.absences + one_if found_none }
         ensures rest { self.new ≡ record self.old { counts = self.new.counts } }
     {
         let call = self.calls;

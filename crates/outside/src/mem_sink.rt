@@ -38,6 +38,7 @@ impl Model for MemSink {
 
 impl MemSink {
     ghost use Rattle.std.specs.Prelude.{◌≡◌, ◌++◌, ◌∷◌, [], OnOk, OnErr};
+    ghost use Rattle.outside.specs.declared.mem_sink.FailingPut.{FailingPut};
 
     /// An empty sink, of which no put fails.
     pub fn new(alloc: Global) -> MemSink
@@ -61,7 +62,8 @@ impl MemSink {
     /// Makes the put of this number keep the first `keep` bytes of its piece and fail; puts are
     /// counted from 0, and of two for one number the first counts. Without memory nothing changes.
     pub fn fail_at(&mut self, call: u64, keep: u64) -> Result<(), NoMemory>
-        ensures ok { OnOk result (self.new ≡ record self.old { failing = self.old.failing ++ record { call = call; keep = keep } ∷ [] }) }
+        ensures ok { let put : FailingPut = record { call = call; keep = keep } in
+            OnOk result (self.new ≡ record self.old { failing = self.old.failing ++ put ∷ [] }) }
         ensures err { OnErr result (self.new ≡ self.old) }
     {
         self.failing.push(FailingPut { call, keep })?;
@@ -77,23 +79,21 @@ fn kept_at(failing: &[FailingPut], call: u64) -> Option<u64>
 }
 
 impl Sink for MemSink {
-    ghost use Rattle.std.specs.Prelude.{◌≡◌, ◌+◌, ◌-◌, ◌^◌, ◌<◌, ◌++◌, min, take, Some, None, OnOk, IfErr, IsErrOf, OnErr};
-    ghost use Rattle.outside.specs.Written.{Appended, SinkCause};
-    ghost use Rattle.outside.specs.Memory.{kept_at, KeepsOnly};
+    ghost use Rattle.std.specs.Prelude.{◌≡◌, ◌+◌, ◌-◌, ◌^◌, ◌≤◌, min, Some, None, OnOk, IfErr};
+    ghost use Rattle.outside.specs.Written.{Appended, SinkCause, most_faults};
+    ghost use Rattle.outside.specs.Memory.{kept_next, KeepsOnly, sunk_in};
 
-    ghost written = { λ m. Some m.bytes };
-
-    ghost faults = { λ m. m.faults };
+    ghost state = { λ m. sunk_in m };
 
     fn put(&mut self, piece: &[u8]) -> Result<(), SinkFault>
-        requires { self.old.faults < 2 ^ 64 - 1 }
+        requires { self.old.faults ≤ most_faults }
         ensures appended { OnOk result (Appended (Some self.old.bytes) (Some self.new.bytes) piece.now) }
         ensures no_fault { OnOk result (self.new.faults ≡ self.old.faults) }
-        ensures cause { IfErr result (SinkCause (Some self.old.bytes) (Some self.new.bytes) self.old.faults self.new.faults piece.now) }
+        ensures cause { IfErr result (SinkCause (sunk_in self.old) (sunk_in self.new) piece.now) }
 
-        // A put fails exactly where it was made to, and then keeps the bytes that were named.
-        ensures kept { IfErr result (KeepsOnly self.old.bytes self.new.bytes (kept_at self.old.failing self.old.calls) piece.now) }
-        ensures not_failing { OnOk result (kept_at self.old.failing self.old.calls ≡ None) }
+        // A put fails exactly if it was made to, and then keeps the bytes that were named.
+        ensures kept { IfErr result (KeepsOnly self.old self.new piece.now) }
+        ensures not_failing { OnOk result (kept_next self.old ≡ None) }
 
         // Each put counts, up to the greatest number.
         ensures calls { self.new.calls ≡ min (self.old.calls + 1) (2 ^ 64 - 1) }

@@ -33,21 +33,18 @@ impl<T: Drop> From<AllocFailed<T>> for SinkFault {
     }
 }
 
-/// A sink for bytes. Contracts see what was written to it, where it tells that, and its faults.
+/// A sink for bytes. Contracts see what was written to it, if it tells that, and its faults.
 pub trait Sink {
-    ghost use Rattle.std.specs.Prelude.{◌≡◌, ◌^◌, ◌-◌, ◌<◌, ℕ, List, Option, OnOk, IfErr};
-    ghost use Rattle.outside.specs.Written.{Appended, SinkCause};
+    ghost use Rattle.std.specs.Prelude.{◌≡◌, ◌≤◌, OnOk, IfErr};
+    ghost use Rattle.outside.specs.Written.{SinkState, Appended, SinkCause, most_faults};
 
-    /// What was written, where it is told. Whether it is told never changes.
-    ghost written: { Self → Option (List ℕ) };
-
-    /// How many puts failed. It never falls.
-    ghost faults: { Self → ℕ };
+    /// What was written, if it is told, and how many puts failed. Whether it is told never changes.
+    ghost state: { Self → SinkState };
 
     /// Writes the piece behind what was written before.
     fn put(&mut self, piece: &[u8]) -> Result<(), SinkFault>
-        requires { faults self.old < 2 ^ 64 - 1 }
-        ensures appended { OnOk result (Appended (written self.old) (written self.new) piece.now) }
-        ensures no_fault { OnOk result (faults self.new ≡ faults self.old) }
-        ensures cause { IfErr result (SinkCause (written self.old) (written self.new) (faults self.old) (faults self.new) piece.now) };
+        requires { (state self.old).faults ≤ most_faults }
+        ensures appended { OnOk result (Appended (state self.old).written (state self.new).written piece.now) }
+        ensures no_fault { OnOk result ((state self.new).faults ≡ (state self.old).faults) }
+        ensures cause { IfErr result (SinkCause (state self.old) (state self.new) piece.now) };
 }

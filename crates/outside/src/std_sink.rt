@@ -29,7 +29,7 @@ impl<'r, R: Print> StdSink<'r, R> {
         StdSink { rt, faults: 0 }
     }
 
-    /// Writes all of the piece; false where a write failed or took nothing.
+    /// Writes all of the piece; false if a write failed or took nothing.
     fn write(&self, piece: &[u8]) -> bool {
         let mut writer = std::io::writer(self.rt);
         let mut done = 0usize;
@@ -46,9 +46,7 @@ impl<'r, R: Print> StdSink<'r, R> {
 impl<'r, R: Print> Sink for StdSink<'r, R> {
     ghost use Rattle.std.specs.Prelude.{None};
 
-    ghost written = { λ _. None };
-
-    ghost faults = { λ s. s };
+    ghost state = { λ s. record { written = None; faults = s } };
 
     fn put(&mut self, piece: &[u8]) -> Result<(), SinkFault> {
         if self.write(piece) {

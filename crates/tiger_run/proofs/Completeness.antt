@@ -1,19 +1,20 @@
--- Where nothing stands in its way, a run ends with `Done`, or memory ran out.
+-- If nothing stands in its way, a run ends with `Done`, or memory ran out.
 use Rattle.std.proofs.Common.{◌≡◌, ℕ, zero, suc, ◌+◌, ◌<◌, ◌≤◌, ◌==◌, List, [], ◌∷◌, length, map, sum_by, get_or, Bool, false, cond, nat_lt, Option, Some, None, refl, sym, ap, ◌∙◌, subst, arith, inl, inr, ◌⊎◌}
 use Rattle.std.specs.List.{All, slice_get, position_or_len}
 use Rattle.std.specs.Prelude.{option_map}
 use Rattle.std.proofs.lemmas.List.Elements.{All-head, All-tail}
 use Rattle.std.proofs.lemmas.List.Sums.{sum_by-cons, position_or_len_is}
 use Rattle.std.proofs.lemmas.Bool.Decides.{nat_tests}
-use Rattle.outside.specs.Told.{Told, Counts, AreTold, NoneTold, HasBytes, bytes}
+use Rattle.outside.specs.Told.{Told, FilesState, AreTold, NoneTold, HasBytes, bytes}
+use Rattle.outside.specs.Written.{SinkState}
 use Rattle.node_kit.specs.declared.course.Kept.{Kept}
 use Rattle.scenario_read.specs.declared.stop.ScenarioFault.{ScenarioFault}
 use Rattle.scenario_read.specs.Fault.{broken}
 use Rattle.scenario_read.specs.Meaning.{Said, meaning}
 use Rattle.tiger_run.specs.declared.status.Status.{Status}
 use Rattle.tiger_run.specs.declared.status.Status.TheVariants as statuses
-use Rattle.tiger_run.specs.Inputs.{AreFirst, AreFiles, names_of, most_file, first_empty, files_fault, ReadAs, OfFile, IsLimit, HasEmptyFile, InputsCause}
-use Rattle.tiger_run.specs.Runnable.{IsRunnable}
+use Rattle.tiger_run.specs.Inputs.{AreFirst, names_of, most_file, first_empty, files_fault, ReadAs, StopsAt, IsMissing, IsTooLong, HasEmptyFile, InputsCause}
+use Rattle.tiger_run.specs.Runnable.{IsRunnable, NoReadFailed, NoPutFailed}
 use Rattle.tiger_run.specs.Ending.{EndsSink, EndsInputs}
 
 -- what is told are these bytes
@@ -61,7 +62,8 @@ room_for told (n ∷ ns) (file ∷ files) (b ∷ bs) name same short first at =
     }
 
 -- the files that were read are the files
-read_all : (told : List ℕ → Told) (names files read : List (List ℕ)) → map told names ≡ map bytes files → AreFiles told names read → read ≡ files
+read_all : (told : List ℕ → Told) (names files read : List (List ℕ)) → map told names ≡ map bytes files
+    → AreFirst told names read × (length read ≡ length names) → read ≡ files
 read_all told [] [] [] same are = refl
 read_all told [] [] (r ∷ rs) same are = absurd are.0
 read_all told [] (file ∷ files) read same are = absurd (cc)
@@ -73,18 +75,6 @@ read_all told (n ∷ ns) (file ∷ files) (r ∷ rs) same are =
     let first : r ≡ file = AreTold-bytes (told n) file r heads are.0.0 in
     let rest : rs ≡ files = read_all told ns files rs tails (are.0.1, omega (arith, are.1)) in
     cc
-
--- a file of a runnable scenario that is among those read has bytes
-told_of : (told : List ℕ → Told) (names files : List (List ℕ)) (f : ℕ) (name : List ℕ) → map told names ≡ map bytes files → slice_get names f ≡ Some name → (content : List ℕ) × (told name ≡ bytes content)
-told_of told [] files f name same at = absurd (cc)
-told_of told (n ∷ ns) [] f name same at = absurd (cc)
-told_of told (n ∷ ns) (file ∷ files) zero name same at =
-    let heads : told n ≡ bytes file = cc in
-    let e : n ≡ name = cc in
-    (file, sym (ap told e) ∙ heads)
-told_of told (n ∷ ns) (file ∷ files) (suc f) name same at =
-    let tails : map told ns ≡ map bytes files = cc in
-    told_of told ns files f name tails at
 
 filled_fails : (file : List ℕ) → 1 ≤ length file → (length file == 0) ≡ false
 filled_fails file some = grind (arith, nat_tests)
@@ -105,56 +95,66 @@ no_fault files fault filled e =
 -- what was read of a runnable scenario says what it says
 said_as : (told : List ℕ → Told) (name : List ℕ) (P : Said → Type 0) (r : IsRunnable told name) → ReadAs (told name) P → P r.said
 said_as told name P r read =
-    let same : read.0 ≡ r.scenario = AreTold-bytes (told name) r.scenario read.0 r.is_told read.1 in
-    let e : read.2 ≡ r.said = (let a = read.3 in let b = r.is_sound in let m = ap meaning same in cc) in
-    subst P e read.4
+    let same : read.bytes ≡ r.scenario = AreTold-bytes (told name) r.scenario read.bytes r.is_told read.read.0 in
+    let e : read.said ≡ r.said = (let a = read.means in let b = r.is_sound in let m = ap meaning same in cc) in
+    subst P e read.holds
+
+-- where the reading of a runnable scenario stops, there is a file with bytes
+room_at : (told : List ℕ → Told) (names files : List (List ℕ)) (f : ℕ) (P : ℕ → Told → Type 0)
+    → map told names ≡ map bytes files → All (λ file. length file ≤ most_file) files
+    → (stops : StopsAt told names f P) → HasRoom (told stops.name) (sum_by length stops.before) (sum_by length files)
+room_at told names files f P same short stops =
+    let at : slice_get names (length stops.before) ≡ Some stops.name = ap (slice_get names) stops.count ∙ stops.named in
+    room_for told names files stops.before stops.name same short stops.read.first at
 
 -- no input of a runnable scenario is refused but for a call that failed
-unrefused : (status : Status) (told : List ℕ → Told) (name : List ℕ) (old new : Counts) → IsRunnable told name → new.faults ≡ old.faults
-    → InputsCause told name old new status → status ≡ statuses.NoMemory
-unrefused (statuses.Absent None) told name old new r same cause = absurd (NoneTold-bytes (told name) r.scenario r.is_told cause.2)
-unrefused (statuses.Absent (Some f)) told name old new r same cause =
-    let file = said_as told name (λ said. OfFile told (names_of said.files) f.0 NoneTold) r cause.2 in
-    let content = told_of told (names_of r.said.files) r.files f.0 file.0 r.are_told file.1 in
-    absurd (NoneTold-bytes (told file.0) content.0 content.1 file.2)
-unrefused (statuses.ReadFault None) told name old new r same cause = absurd (omega (arith, cause.0))
-unrefused (statuses.ReadFault (Some f)) told name old new r same cause = absurd (omega (arith, cause.0))
-unrefused (statuses.TooLong None given most) told name old new r same cause =
-    let has = HasBytes-bytes (told name) r.scenario given r.is_told cause.3 in
-    absurd (omega (arith, has, r.is_short, cause.0, cause.1))
-unrefused (statuses.TooLong (Some f) given most) told name old new r same cause =
-    let why = said_as told name (λ said. OfFile told (names_of said.files) f.0 (λ file. HasBytes file given) × IsLimit told (names_of said.files) f.0 most) r cause.2 in
-    let file = why.0 in
-    let limit = why.1 in
-    let at : slice_get (names_of r.said.files) (length limit.0) ≡ Some file.0 = ap (slice_get (names_of r.said.files)) limit.2 ∙ file.1 in
-    let room = room_for told (names_of r.said.files) r.files limit.0 file.0 r.are_told r.are_short limit.1 at in
-    let has = HasBytes-bytes (told file.0) room.content given room.is_told file.2 in
-    absurd (omega (arith, has, room.short, room.fits, r.are_few, cause.0, limit.3))
-unrefused (statuses.Scenario fault) told name old new r same (inl breaks) =
-    let text : breaks.0 ≡ r.scenario = AreTold-bytes (told name) r.scenario breaks.0 r.is_told breaks.1 in
-    let a = breaks.2 in
+unrefused : (status : Status) (name : List ℕ) (old new : FilesState) → IsRunnable old.told name → NoReadFailed old new
+    → InputsCause name old new status → status ≡ statuses.NoMemory
+unrefused (statuses.Absent None) name old new r same cause = absurd (NoneTold-bytes (old.told name) r.scenario r.is_told cause.2)
+unrefused (statuses.Absent (Some f)) name old new r same cause =
+    let names = names_of r.said.files in
+    let stops = said_as old.told name (λ said. StopsAt old.told (names_of said.files) f.0 IsMissing) r cause.2 in
+    let room = room_at old.told names r.files f.0 IsMissing r.are_told r.are_short stops in
+    absurd (NoneTold-bytes (old.told stops.name) room.content room.is_told stops.why)
+unrefused (statuses.ReadFault None) name old new r same cause = absurd (omega (arith, cause.1))
+unrefused (statuses.ReadFault (Some f)) name old new r same cause = absurd (omega (arith, cause.1))
+unrefused (statuses.TooLong None given most) name old new r same cause =
+    let why = cause.1 in
+    let has = HasBytes-bytes (old.told name) r.scenario given r.is_told why.2 in
+    absurd (omega (arith, has, r.is_short, why.0, why.1))
+unrefused (statuses.TooLong (Some f) given most) name old new r same cause =
+    let names = names_of r.said.files in
+    let stops = said_as old.told name (λ said. StopsAt old.told (names_of said.files) f.0 (IsTooLong given most)) r cause.1 in
+    let room = room_at old.told names r.files f.0 (IsTooLong given most) r.are_told r.are_short stops in
+    let why = stops.why in
+    let has = HasBytes-bytes (old.told stops.name) room.content given room.is_told why.2 in
+    absurd (omega (arith, has, room.short, room.fits, r.are_few, why.0, why.1))
+unrefused (statuses.Scenario fault) name old new r same (inl cause) =
+    let breaks = cause.1 in
+    let text : breaks.bytes ≡ r.scenario = AreTold-bytes (old.told name) r.scenario breaks.bytes r.is_told breaks.read.0 in
+    let a = breaks.means in
     let b = r.is_sound in
     let m = ap meaning text in
     absurd (cc)
-unrefused (statuses.Scenario fault) told name old new r same (inr empty) =
-    let why = said_as told name (HasEmptyFile told fault) r empty in
-    let read : why.0 ≡ r.files = read_all told (names_of r.said.files) r.files why.0 r.are_told why.1 in
-    absurd (no_fault r.files fault r.are_filled (sym (ap files_fault read) ∙ why.2))
-unrefused statuses.NoMemory told name old new r same cause = refl
-unrefused statuses.Done told name old new r same cause = absurd cause
-unrefused statuses.Words told name old new r same cause = absurd cause
-unrefused statuses.WriteFault told name old new r same cause = absurd cause
+unrefused (statuses.Scenario fault) name old new r same (inr empty) =
+    let why = said_as old.told name (HasEmptyFile old new fault) r empty in
+    let read : why.1 ≡ r.files = read_all old.told (names_of r.said.files) r.files why.1 r.are_told (why.2.0.first, why.2.1) in
+    absurd (no_fault r.files fault r.are_filled (sym (ap files_fault read) ∙ why.3))
+unrefused statuses.NoMemory name old new r same cause = refl
+unrefused statuses.Done name old new r same cause = absurd cause
+unrefused statuses.Words name old new r same cause = absurd cause
+unrefused statuses.WriteFault name old new r same cause = absurd cause
 
 -- nor does its run end in another way, but for a put that failed
-pub run_completes : (status : Status) (told : List ℕ → Told) (name : List ℕ) (old_counts new_counts : Counts) (old new : Option (List ℕ)) (before after : ℕ) (text : Kept → List ℕ) (kept : Option Kept)
-    → IsRunnable told name → new_counts.faults ≡ old_counts.faults → after ≡ before
-    → EndsInputs told name old_counts new_counts status → EndsSink old new before after text kept status
+pub run_completes : (status : Status) (name : List ℕ) (old_files new_files : FilesState) (old new : SinkState) (text : Kept → List ℕ) (kept : Option Kept)
+    → IsRunnable old_files.told name → NoReadFailed old_files new_files → NoPutFailed old new
+    → EndsInputs name old_files new_files status → EndsSink old new text kept status
     → (status ≡ statuses.Done) ⊎ (status ≡ statuses.NoMemory)
-run_completes statuses.Done told name oc nc old new before after text kept r same puts ends sink = inl refl
-run_completes statuses.WriteFault told name oc nc old new before after text kept r same puts ends sink = absurd (omega (arith, sink.0))
-run_completes statuses.NoMemory told name oc nc old new before after text kept r same puts ends sink = inr refl
-run_completes statuses.Words told name oc nc old new before after text kept r same puts ends sink = absurd ends
-run_completes (statuses.Absent file) told name oc nc old new before after text kept r same puts ends sink = inr (unrefused (statuses.Absent file) told name oc nc r same ends)
-run_completes (statuses.ReadFault file) told name oc nc old new before after text kept r same puts ends sink = inr (unrefused (statuses.ReadFault file) told name oc nc r same ends)
-run_completes (statuses.Scenario fault) told name oc nc old new before after text kept r same puts ends sink = inr (unrefused (statuses.Scenario fault) told name oc nc r same ends)
-run_completes (statuses.TooLong file given most) told name oc nc old new before after text kept r same puts ends sink = inr (unrefused (statuses.TooLong file given most) told name oc nc r same ends)
+run_completes statuses.Done name of nf old new text kept r same puts ends sink = inl refl
+run_completes statuses.WriteFault name of nf old new text kept r same puts ends sink = absurd (omega (arith, sink.0, puts))
+run_completes statuses.NoMemory name of nf old new text kept r same puts ends sink = inr refl
+run_completes statuses.Words name of nf old new text kept r same puts ends sink = absurd ends
+run_completes (statuses.Absent file) name of nf old new text kept r same puts ends sink = inr (unrefused (statuses.Absent file) name of nf r same ends)
+run_completes (statuses.ReadFault file) name of nf old new text kept r same puts ends sink = inr (unrefused (statuses.ReadFault file) name of nf r same ends)
+run_completes (statuses.Scenario fault) name of nf old new text kept r same puts ends sink = inr (unrefused (statuses.Scenario fault) name of nf r same ends)
+run_completes (statuses.TooLong file given most) name of nf old new text kept r same puts ends sink = inr (unrefused (statuses.TooLong file given most) name of nf r same ends)

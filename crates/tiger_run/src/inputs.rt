@@ -1,10 +1,12 @@
 //! Reading the scenario and its files.
-ghost use Rattle.std.specs.Prelude.{◌≡◌, ◌==◌, ◌+◌, ◌^◌, ◌≤◌, ◌<◌, All, length, IfOk, IfErr, vec_len};
+ghost use Rattle.std.specs.Prelude.{◌≡◌, ◌==◌, ◌+◌, ◌≤◌, All, length, IfOk, IfErr, vec_len};
 ghost use Rattle.std.specs.List.{position};
 ghost use Rattle.tiger_base.specs.Library.{contents};
-ghost use Rattle.outside.specs.Told.{AreTold, NeverFell};
+ghost use Rattle.outside.specs.Told.{AreTold, NeverFell, most_calls};
 ghost use Rattle.scenario_read.specs.Sound.{IsScenario};
-ghost use Rattle.tiger_run.specs.Inputs.{names_of, AreFirst, AreInputs, most_file, OneCause, FilesCause, InputsCause};
+ghost use Rattle.tiger_run.specs.Inputs.{most_file, most_named, most_reads, most_earlier};
+ghost use Rattle.tiger_run.specs.Inputs.{names_of, AreRead, AreInputs, MadeCalls};
+ghost use Rattle.tiger_run.specs.Inputs.{OneCause, FilesCause, InputsCause};
 
 use crate::status::Status;
 use outside::{FileFault, Files};
@@ -38,13 +40,14 @@ fn read_one<F: Files>(
     name: &str,
     most: u64,
 ) -> Result<Vec<u8>, Status>
-    requires { (F.counts files.old).calls ≤ 2 ^ 33 }
-    ensures same { F.told files.new ≡ F.told files.old }
-    ensures counted { (F.counts files.new).calls ≡ (F.counts files.old).calls + 1 }
-    ensures never_fell { NeverFell (F.counts files.old) (F.counts files.new) }
-    ensures read { IfOk result (λ v. AreTold (F.told files.old name.now) v.items) }
+    requires { (F.state files.old).counts.calls ≤ most_calls }
+    ensures same { (F.state files.new).told ≡ (F.state files.old).told }
+    ensures counted { MadeCalls 1 (F.state files.old) (F.state files.new) }
+    ensures never_fell { NeverFell (F.state files.old).counts (F.state files.new).counts }
+    ensures read { IfOk result (λ v. AreTold ((F.state files.old).told name.now) v.items) }
     ensures limit { IfOk result (λ v. length v.items ≤ most) }
-    ensures cause { IfErr result (OneCause (F.told files.old name.now) file most (F.counts files.old) (F.counts files.new)) }
+    ensures cause { let old = F.state files.old in
+        IfErr result (OneCause file name.now most old (F.state files.new)) }
 {
     match files.read_whole(alloc, name, most) {
         Ok(bytes) => Ok(bytes),
@@ -61,14 +64,18 @@ fn read_files<F: Files>(
     files: &mut F,
     lines: &[FileLine],
 ) -> Result<Vec<Vec<u8>>, Status>
-    requires few { length lines.now ≤ 64 }
-    requires calls { (F.counts files.old).calls ≤ 2 ^ 32 + 1 }
-    ensures same { F.told files.new ≡ F.told files.old }
-    ensures never_fell { NeverFell (F.counts files.old) (F.counts files.new) }
-    ensures read { IfOk result (λ v. AreFirst (F.told files.old) (names_of lines.now) (contents v.items)) }
+    requires few { length lines.now ≤ most_named }
+    requires calls { (F.state files.old).counts.calls ≤ most_earlier + 1 }
+    ensures same { (F.state files.new).told ≡ (F.state files.old).told }
+    ensures counted { IfOk result (λ _. MadeCalls (length lines.now) (F.state files.old) (F.state files.new)) }
+    ensures few_calls { let old = F.state files.old in
+        (F.state files.new).counts.calls ≤ old.counts.calls + length lines.now }
+    ensures never_fell { NeverFell (F.state files.old).counts (F.state files.new).counts }
+    ensures read { let told = (F.state files.old).told in
+        IfOk result (λ v. AreRead told (names_of lines.now) (contents v.items)) }
     ensures all { IfOk result (λ v. vec_len v ≡ length lines.now) }
-    ensures short { IfOk result (λ v. All (λ bytes. length bytes ≤ most_file) (contents v.items)) }
-    ensures cause { IfErr result (FilesCause (F.told files.old) (names_of lines.now) (F.counts files.old) (F.counts files.new)) }
+    ensures cause { let old = F.state files.old in
+        IfErr result (FilesCause (names_of lines.now) old (F.state files.new)) }
 {
     let mut read = Vec::new(alloc);
     let mut left = MOST_FILES;
@@ -91,15 +98,19 @@ fn first_empty(read: &[Vec<u8>]) -> Option<usize>
 
 /// The scenario of this name, and then its files.
 pub fn read_inputs<F: Files>(alloc: Global, files: &mut F, name: &str) -> Result<Inputs, Status>
-    requires { (F.counts files.old).calls ≤ 2 ^ 32 }
-    ensures same { F.told files.new ≡ F.told files.old }
-    ensures never_fell { NeverFell (F.counts files.old) (F.counts files.new) }
-    ensures read { IfOk result (AreInputs (F.told files.old) name.now) }
+    requires { (F.state files.old).counts.calls ≤ most_earlier }
+    ensures same { (F.state files.new).told ≡ (F.state files.old).told }
+    ensures counted { IfOk result (λ inputs.
+        MadeCalls (1 + length inputs.scenario.files) (F.state files.old) (F.state files.new)) }
+    ensures few_calls { let old = F.state files.old in
+        (F.state files.new).counts.calls ≤ old.counts.calls + most_reads }
+    ensures never_fell { NeverFell (F.state files.old).counts (F.state files.new).counts }
+    ensures read { IfOk result (AreInputs (F.state files.old).told name.now) }
     ensures sound { IfOk result (λ inputs. IsScenario inputs.scenario) }
     ensures files { IfOk result (λ inputs. length inputs.library ≡ length inputs.scenario.files) }
     ensures filled { IfOk result (λ inputs. All (λ bytes. 1 ≤ length bytes) inputs.library) }
     ensures short { IfOk result (λ inputs. All (λ bytes. length bytes ≤ most_file) inputs.library) }
-    ensures cause { IfErr result (InputsCause (F.told files.old) name.now (F.counts files.old) (F.counts files.new)) }
+    ensures cause { IfErr result (InputsCause name.now (F.state files.old) (F.state files.new)) }
 {
     let bytes = read_one(alloc, files, None, name, MOST_SCENARIO)?;
     let scenario = match read_scenario(alloc, bytes.as_slice()) {

@@ -1,6 +1,6 @@
 //! How a run ended, as it is said on standard error and by the exit status.
 ghost use Rattle.std.specs.Prelude.{◌≡◌, ◌++◌, IfOk, OnOk, string_bytes};
-ghost use Rattle.tiger_run.specs.Statuses.{worded, input_text, fault_text, line_of, exit_of};
+ghost use Rattle.tiger_run.specs.Statuses.{IsPushed, worded, input_text, fault_text, line_of, exit_of};
 ghost use Rattle.tiger_run.specs.declared.status.Status.TheVariants as statuses;
 
 use scenario_read::ScenarioFault;
@@ -8,7 +8,7 @@ use std::alloc::{AllocError, AllocFailed, Global};
 use std::fmt::Write;
 use tiger_base::FileNo;
 
-/// How a run ended. Where a file is named, none means the scenario.
+/// How a run ended. A file that is `None` is the scenario.
 #[derive(Clone, Copy, Debug, PartialEq, Eq)]
 pub enum Status {
     /// Everything was read, run and written.
@@ -54,7 +54,7 @@ impl<T: Drop> From<AllocFailed<T>> for Status {
 }
 
 fn push_input(text: &mut String, words: &str, file: Option<FileNo>) -> Result<(), AllocError>
-    ensures { OnOk result (string_bytes text.new ≡ string_bytes text.old ++ (words.now ++ input_text file)) }
+    ensures { OnOk result (IsPushed text.old text.new (words.now ++ input_text file)) }
 {
     text.push_str(words)?;
     match file {
@@ -64,14 +64,14 @@ fn push_input(text: &mut String, words: &str, file: Option<FileNo>) -> Result<()
 }
 
 fn push_number(text: &mut String, words: &str, number: u64) -> Result<(), AllocError>
-    ensures { OnOk result (string_bytes text.new ≡ string_bytes text.old ++ worded words.now number) }
+    ensures { OnOk result (IsPushed text.old text.new (worded words.now number)) }
 {
     text.push_str(words)?;
     write!(text, "{number}")
 }
 
 fn push_fault(text: &mut String, fault: &ScenarioFault) -> Result<(), AllocError>
-    ensures { OnOk result (string_bytes text.new ≡ string_bytes text.old ++ fault_text fault.now) }
+    ensures { OnOk result (IsPushed text.old text.new (fault_text fault.now)) }
 {
     push_number(text, "tiger: scenario rule ", fault.rule as u64)?;
     push_number(text, " item ", fault.item as u64)?;
@@ -80,7 +80,7 @@ fn push_fault(text: &mut String, fault: &ScenarioFault) -> Result<(), AllocError
 }
 
 fn push_line(text: &mut String, status: &Status) -> Result<(), AllocError>
-    ensures { OnOk result (string_bytes text.new ≡ string_bytes text.old ++ line_of status.now) }
+    ensures { OnOk result (IsPushed text.old text.new (line_of status.now)) }
 {
     match status {
         Status::Done => Ok(()),
@@ -108,7 +108,7 @@ fn push_line(text: &mut String, status: &Status) -> Result<(), AllocError>
     }
 }
 
-/// The line on standard error that says how a run ended; empty where everything was done.
+/// The line on standard error that says how a run ended; empty if everything was done.
 pub fn line_of(alloc: Global, status: &Status) -> Result<String, AllocError>
     ensures { IfOk result (λ line. string_bytes line ≡ line_of status.now) }
 {

@@ -1,13 +1,13 @@
 //! The program as a function of its words, its files and its output.
-ghost use Rattle.std.specs.Prelude.{length, ◌≡◌, ◌^◌, ◌-◌, ◌<◌, ◌≤◌, ◌↔◌, ◌⊎◌, All, ℕ, List, IsSomeAnd, IfSome};
-ghost use Rattle.outside.specs.Written.{Appended};
+ghost use Rattle.std.specs.Prelude.{◌≡◌, ◌+◌, ◌≤◌, ◌↔◌, ◌⊎◌, ℕ, IsSomeAnd, IfSome};
+ghost use Rattle.outside.specs.Written.{most_faults};
 ghost use Rattle.run_report.specs.Text.{report_text, summary_text};
-ghost use Rattle.scenario_read.specs.Sound.{IsScenario};
-ghost use Rattle.ring_facts.specs.Rings.{IsRingRun};
-ghost use Rattle.tiger_run.specs.Words.{IsRun, IsMake, IsNoCommand, texts_of};
-ghost use Rattle.tiger_run.specs.Inputs.{InputsCause, most_file};
-ghost use Rattle.tiger_run.specs.Runnable.{IsRunnable};
-ghost use Rattle.tiger_run.specs.Ending.{IsNamedRun, IsMadeRun, IsAskedRun, IsRefusal, text_for, Wrote, EndsSink, EndsInputs, InputCause};
+ghost use Rattle.tiger_run.specs.Words.{IsMake, IsNoRun, IsNoCommand, texts_of};
+ghost use Rattle.tiger_run.specs.Inputs.{most_reads, most_earlier};
+ghost use Rattle.tiger_run.specs.Runnable.{IsRunnableCommand, NoReadFailed, NoPutFailed};
+ghost use Rattle.tiger_run.specs.Ending.{IsNamedRun, IsMadeRun, IsAskedRun, IsRefusal};
+ghost use Rattle.tiger_run.specs.Ending.{text_for, IsWritten, Wrote, EndsSink};
+ghost use Rattle.tiger_run.specs.Ending.{EndsInputs, InputCause};
 
 use crate::inputs::{Inputs, read_inputs};
 use crate::status::Status;
@@ -37,8 +37,9 @@ fn refused(status: Status) -> Ended
 
 /// Writes a text, and says how that ended.
 fn written<K: Sink>(out: &mut K, text: &[u8]) -> Status
-    requires { K.faults out.old < 2 ^ 64 - 1 }
-    ensures { Wrote (K.written out.old) (K.written out.new) (K.faults out.old) (K.faults out.new) text.now result }
+    requires { (K.state out.old).faults ≤ most_faults }
+    ensures wrote { Wrote (K.state out.old) (K.state out.new) text.now result }
+    ensures one_fault { (K.state out.new).faults ≤ (K.state out.old).faults + 1 }
 {
     match put_lines(out, text) {
         Ok(()) => Status::Done,
@@ -55,11 +56,17 @@ fn run_named<F: Files, K: Sink, G: Gate>(
     out: &mut K,
     gate: &G,
 ) -> Ended
-    requires calls { (F.counts files.old).calls ≤ 2 ^ 32 }
-    requires faults { K.faults out.old < 2 ^ 64 - 1 }
-    ensures ran { IfSome result.kept (IsNamedRun G (F.told files.old) name.now) }
-    ensures input { EndsInputs (F.told files.old) name.now (F.counts files.old) (F.counts files.new) result.status }
-    ensures sink { EndsSink (K.written out.old) (K.written out.new) (K.faults out.old) (K.faults out.new) report_text result.kept result.status }
+    requires calls { (F.state files.old).counts.calls ≤ most_earlier }
+    requires faults { (K.state out.old).faults ≤ most_faults }
+    ensures ran { let old = F.state files.old in
+        IfSome result.kept (IsNamedRun G old (F.state files.new) name.now) }
+    ensures input { EndsInputs name.now (F.state files.old) (F.state files.new) result.status }
+    ensures same { (F.state files.new).told ≡ (F.state files.old).told }
+    ensures few_calls { let old = F.state files.old in
+        (F.state files.new).counts.calls ≤ old.counts.calls + most_reads }
+    ensures sink { let old = K.state out.old in
+        EndsSink old (K.state out.new) report_text result.kept result.status }
+    ensures one_fault { (K.state out.new).faults ≤ (K.state out.old).faults + 1 }
     ensures silent { IsRefusal result.status → out.new ≡ out.old }
 {
     let Inputs { scenario, library } = match read_inputs(alloc, files, name) {
@@ -80,9 +87,11 @@ fn run_named<F: Files, K: Sink, G: Gate>(
 
 /// Makes the scenario of a number, runs it, and writes the summary of its report.
 fn run_made<K: Sink, G: Gate>(alloc: Global, number: u64, out: &mut K, gate: &G) -> Ended
-    requires { K.faults out.old < 2 ^ 64 - 1 }
+    requires { (K.state out.old).faults ≤ most_faults }
     ensures ran { IfSome result.kept (IsMadeRun G number) }
-    ensures sink { EndsSink (K.written out.old) (K.written out.new) (K.faults out.old) (K.faults out.new) summary_text result.kept result.status }
+    ensures sink { let old = K.state out.old in
+        EndsSink old (K.state out.new) summary_text result.kept result.status }
+    ensures one_fault { (K.state out.new).faults ≤ (K.state out.old).faults + 1 }
     ensures taken { ¬ IsRefusal result.status }
 {
     let Ok(Made { scenario, library }) = make(alloc, number) else {
@@ -109,35 +118,52 @@ pub fn tiger<F: Files, K: Sink, G: Gate>(
     out: &mut K,
     gate: &G,
 ) -> Ended
-    requires calls { (F.counts files.old).calls ≤ 2 ^ 32 }
-    requires faults { K.faults out.old < 2 ^ 64 - 1 }
+    requires calls { (F.state files.old).counts.calls ≤ most_earlier }
+    requires faults { (K.state out.old).faults ≤ most_faults }
 
-    // The words are refused exactly where they are no command.
+    // The words are refused exactly if they are no command.
     ensures words { (result.status ≡ Status.Words) ↔ IsNoCommand (texts_of words.now.items) }
 
     // All was written: the text that the words ask for, of what is kept.
-    ensures done { result.status ≡ Status.Done → IsSomeAnd result.kept (λ k. Appended (K.written out.old) (K.written out.new) (text_for (texts_of words.now.items) k)) }
+    ensures done { let text = text_for (texts_of words.now.items) in
+        result.status ≡ Status.Done →
+        IsSomeAnd result.kept (λ k. IsWritten (K.state out.old) (K.state out.new) (text k)) }
 
-    // What is kept is the run that the words ask for.
-    ensures ran { IfSome result.kept (IsAskedRun G (F.told files.old) (texts_of words.now.items)) }
+    // What is kept is the run that the words ask for. If they name a scenario, it was read, and then
+    // each of its files, with one call for each.
+    ensures ran { let old = F.state files.old in
+        IfSome result.kept (IsAskedRun G old (F.state files.new) (texts_of words.now.items)) }
 
-    // Why an input was refused.
-    ensures input { InputCause (F.told files.old) (texts_of words.now.items) (F.counts files.old) (F.counts files.new) result.status }
+    // Why an input was refused: it is the first, in the order of work, that is not as it should be.
+    ensures input { let old = F.state files.old in
+        InputCause (texts_of words.now.items) old (F.state files.new) result.status }
 
     // What was written with each status, and what is kept.
-    ensures sink { EndsSink (K.written out.old) (K.written out.new) (K.faults out.old) (K.faults out.new) (text_for (texts_of words.now.items)) result.kept result.status }
+    ensures sink { let text = text_for (texts_of words.now.items) in
+        EndsSink (K.state out.old) (K.state out.new) text result.kept result.status }
 
     // Only a named scenario has files that are read.
-    ensures unread { ((name : List ℕ) (workers : ℕ) → ¬ IsRun (texts_of words.now.items) name workers) → files.new ≡ files.old }
+    ensures unread { IsNoRun (texts_of words.now.items) → files.new ≡ files.old }
+
+    // What is told of the files stays, few calls were made, and at most one put failed: so the files
+    // and the output can be used again.
+    ensures same { (F.state files.new).told ≡ (F.state files.old).told }
+    ensures few_calls { let old = F.state files.old in
+        (F.state files.new).counts.calls ≤ old.counts.calls + most_reads }
+    ensures one_fault { (K.state out.new).faults ≤ (K.state out.old).faults + 1 }
 
     // Nothing is put before words and inputs are good.
     ensures silent { IsRefusal result.status → out.new ≡ out.old }
 
     // A named scenario is run, unless something stands in its way.
-    ensures complete { (name : List ℕ) (workers : ℕ) → IsRun (texts_of words.now.items) name workers → IsRunnable (F.told files.old) name → (F.counts files.new).faults ≡ (F.counts files.old).faults → K.faults out.new ≡ K.faults out.old → (result.status ≡ Status.Done) ⊎ (result.status ≡ Status.NoMemory) }
+    ensures complete { IsRunnableCommand (F.state files.old).told (texts_of words.now.items) →
+        NoReadFailed (F.state files.old) (F.state files.new) →
+        NoPutFailed (K.state out.old) (K.state out.new) →
+        (result.status ≡ Status.Done) ⊎ (result.status ≡ Status.NoMemory) }
 
     // A made scenario is never refused.
-    ensures made { (number : ℕ) → IsMake (texts_of words.now.items) number → ¬ IsRefusal result.status }
+    ensures made { (number : ℕ) →
+        IsMake (texts_of words.now.items) number → ¬ IsRefusal result.status }
 {
     match command_in(words.as_slice()) {
         Some(Command::Run { name, .. }) => run_named(alloc, name, files, out, gate),

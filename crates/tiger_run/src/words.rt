@@ -1,7 +1,8 @@
 //! The words of the command line.
-ghost use Rattle.std.specs.Prelude.{◌≡◌, ◌≢◌, ◌≤◌, ◌^◌, ◌<◌, ◌↔◌, ℕ, List, MatchOption, IsTrue, codes, length, slice_index};
+ghost use Rattle.std.specs.Prelude.{◌≡◌, ◌<◌, ◌↔◌, MatchOption, IsTrue, codes, length};
 ghost use Rattle.std.specs.Fmt.{decimal};
-ghost use Rattle.tiger_run.specs.Words.{IsPlain, IsRun, IsMake, IsNoCommand, Asks, texts_of};
+ghost use Rattle.tiger_run.specs.Words.{IsPlain, IsNoNumber, AreWorkers, AreNoWorkers};
+ghost use Rattle.tiger_run.specs.Words.{IsMake, IsNoRun, IsNoMake, IsNoCommand, Asks, texts_of};
 
 /// What the words ask for.
 #[derive(Clone, Copy, Debug)]
@@ -26,7 +27,7 @@ fn is_plain(word: &[u8]) -> bool
 
 /// The number that the word is in decimal, without a sign or a leading zero.
 fn number_of(word: &str) -> Option<u64>
-    ensures { MatchOption result ((n : ℕ) → n < 2 ^ 64 → word.now ≢ decimal n) (λ n. word.now ≡ decimal n) }
+    ensures { MatchOption result (IsNoNumber word.now) (λ n. word.now ≡ decimal n) }
 {
     match word.parse::<u64>() {
         Ok(number) => {
@@ -42,7 +43,7 @@ fn number_of(word: &str) -> Option<u64>
 
 /// The number of workers that the word is in decimal, from 1 to 64.
 fn workers_of(word: &str) -> Option<u64>
-    ensures { MatchOption result ((n : ℕ) → 1 ≤ n → n ≤ 64 → word.now ≢ decimal n) (λ n. (1 ≤ n) × (n ≤ 64) × (word.now ≡ decimal n)) }
+    ensures { MatchOption result (AreNoWorkers word.now) (AreWorkers word.now) }
 {
     let number = number_of(word)?;
     if 1 <= number && number <= 64 {
@@ -52,9 +53,9 @@ fn workers_of(word: &str) -> Option<u64>
     }
 }
 
-/// The words as the command `run NAME W`; `None` exactly where they are not in its form.
+/// The words as the command `run NAME W`; `None` exactly if they are not in its form.
 fn run_in(words: &[String]) -> Option<Command<'_>>
-    ensures { MatchOption result ((name : List ℕ) (workers : ℕ) → ¬ IsRun (texts_of words.now) name workers) (Asks (texts_of words.now)) }
+    ensures { MatchOption result (IsNoRun (texts_of words.now)) (Asks (texts_of words.now)) }
 {
     match words {
         [command, name, workers] => {
@@ -73,9 +74,9 @@ fn run_in(words: &[String]) -> Option<Command<'_>>
     }
 }
 
-/// The words as the command `make NUMBER`; `None` exactly where they are not in its form.
+/// The words as the command `make NUMBER`; `None` exactly if they are not in its form.
 fn make_in(words: &[String]) -> Option<u64>
-    ensures { MatchOption result ((number : ℕ) → ¬ IsMake (texts_of words.now) number) (IsMake (texts_of words.now)) }
+    ensures { MatchOption result (IsNoMake (texts_of words.now)) (IsMake (texts_of words.now)) }
 {
     match words {
         [command, number] => {
@@ -100,7 +101,7 @@ fn is_make(word: &str) -> bool
     word == "make"
 }
 
-/// The command that the words are; `None` exactly where they are none.
+/// The command that the words are; `None` exactly if they are none.
 pub fn command_in(words: &[String]) -> Option<Command<'_>>
     ensures { MatchOption result (IsNoCommand (texts_of words.now)) (Asks (texts_of words.now)) }
 {

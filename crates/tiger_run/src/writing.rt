@@ -1,7 +1,7 @@
 //! Writing a text line by line.
-ghost use Rattle.std.specs.Prelude.{◌≡◌, ◌^◌, ◌-◌, ◌<◌, ◌≤◌, length, OnOk, IfErr};
-ghost use Rattle.outside.specs.Written.{Appended};
-ghost use Rattle.tiger_run.specs.Ending.{TextCause};
+ghost use Rattle.std.specs.Prelude.{◌+◌, ◌<◌, ◌≤◌, length, OnOk, IfErr};
+ghost use Rattle.outside.specs.Written.{most_faults};
+ghost use Rattle.tiger_run.specs.Ending.{IsWritten, TextCause};
 
 use outside::{Sink, SinkFault};
 
@@ -19,9 +19,10 @@ fn line_len(text: &[u8]) -> usize
 
 /// Puts the text, one line with each call.
 pub fn put_lines<K: Sink>(out: &mut K, text: &[u8]) -> Result<(), SinkFault>
-    requires { K.faults out.old < 2 ^ 64 - 1 }
-    ensures appended { OnOk result (Appended (K.written out.old) (K.written out.new) text.now) }
-    ensures cause { IfErr result (TextCause (K.written out.old) (K.written out.new) (K.faults out.old) (K.faults out.new) text.now) }
+    requires { (K.state out.old).faults ≤ most_faults }
+    ensures written { OnOk result (IsWritten (K.state out.old) (K.state out.new) text.now) }
+    ensures cause { IfErr result (TextCause (K.state out.old) (K.state out.new) text.now) }
+    ensures one_fault { (K.state out.new).faults ≤ (K.state out.old).faults + 1 }
 {
     let mut done = 0usize;
     while done < text.len() {

@@ -1,18 +1,17 @@
-use Rattle.std.proofs.Common.{◌≡◌, ◌≤◌, ◌++◌, ◌∷◌, [], Some, length, length-append, sym, ap, ◌∙◌, arith}
+use Rattle.std.proofs.Common.{◌≡◌, ◌≤◌, ◌++◌, ◌∷◌, [], Some, length, length-append, sym, ap, subst, ◌∙◌, List, ℕ, arith}
 use Rattle.std.specs.List.{slice_get}
 use Rattle.std.proofs.lemmas.Result.{err_from_is_err_and}
-use Rattle.std.proofs.lemmas.List.Elements.{All-push}
 use Rattle.std.proofs.lemmas.List.Sums.{sum_by_push}
 use Rattle.tiger_base.specs.Library.{contents}
+use Rattle.outside.specs.Told.{Told, AreTold}
 use Rattle.tiger_run.specs.Inputs.{names_of, most_file, most_after}
-use Rattle.tiger_run.proofs.Readings.{FilesCause-next, AreFirst-push, names_of-at, length-contents, contents-push}
+use Rattle.tiger_run.proofs.Readings.{FilesCause-next, AreRead-push, names_of-at, length-contents, contents-push}
 use Rattle.tiger_run.proofs.inputs.read_files.Goals as goal
 
 pub returns-in_err-bytes-clause-cause : goal.returns-in_err-bytes-clause-cause
 returns-in_err-bytes-clause-cause g c =
     let p = err_from_is_err_and c.from_residual.result c.from_residual.ensures.1 in
-    let told = g.F.Files.told c.args.files.now in
-    let counts = g.F.Files.counts in
+    let state = g.F.Files.state in
     let lines = c.args.lines.now in
     let i = c.loop-line.line-index in
     let before = contents c.loop-line.read.items in
@@ -21,9 +20,8 @@ returns-in_err-bytes-clause-cause g c =
     let at : slice_get (names_of lines) c.len.result ≡ Some c.as_str.result.now =
     ap (slice_get (names_of lines)) file ∙ names_of-at lines i c.line-item.result (omega arith) c.line-item.is ∙ ap Some (sym c.as_str.ensures) in
     let most : c.min-most.result ≡ most_after before = omega (arith, c.loop-line.invariant.left) in
-    let cause = rw c.loop-line.invariant.same at c.in_err-bytes.ensures.cause in
-    rw (p.1, p.2) (FilesCause-next c.in_err-bytes.field-0.0 told (names_of lines) before c.as_str.result.now (counts c.args.files.now) (counts c.loop-line.files) (counts c.read_one.new.files) (record { 0 = c.len.result }) c.min-most.result
-    c.loop-line.invariant.read (omega arith) most at (omega arith) c.read_one.ensures.counted c.loop-line.invariant.never_fell.faults c.loop-line.invariant.never_fell.absences cause)
+    rw (p.1, p.2) (FilesCause-next c.in_err-bytes.field-0.0 (names_of lines) before c.as_str.result.now (state c.args.files.now) (state c.loop-line.files) (state c.read_one.new.files) (record { 0 = c.len.result }) c.min-most.result
+    c.loop-line.invariant.same c.loop-line.invariant.read (omega arith) most at (omega arith) c.read_one.ensures.counted c.loop-line.invariant.never_fell.faults c.loop-line.invariant.never_fell.absences c.in_err-bytes.ensures.cause)
 
 pub loop-line-preserved : goal.loop-line-preserved
 loop-line-preserved g c =
@@ -38,13 +36,12 @@ loop-line-preserved g c =
     ap (slice_get names) place ∙ names_of-at lines i c.line-item.result (omega arith) c.line-item.is ∙ ap Some (sym c.as_str.ensures) in
     let read = rw c.loop-line.invariant.same at c.in_ok-bytes.ensures.read in
     let limit = c.in_ok-bytes.ensures.limit in
-    let short : length bytes ≤ most_file = omega (arith, limit) in
+    let within : length bytes ≤ most_after before = omega (arith, limit, c.loop-line.invariant.left) in
     record {
       count = rw pushed (omega (arith, length-append before (bytes ∷ [])));
       same = c.read_one.ensures.same ∙ c.loop-line.invariant.same;
       never_fell = record { calls = omega arith; faults = omega arith; absences = omega arith };
       calls = omega arith;
-      read = rw pushed (AreFirst-push (g.F.Files.told c.args.files.now) names before c.as_str.result.now bytes c.loop-line.invariant.read at read);
-      short = rw pushed (All-push (λ b. length b ≤ most_file) before bytes c.loop-line.invariant.short short);
+      read = rw pushed (AreRead-push (g.F.Files.state c.args.files.now).told names before c.as_str.result.now bytes c.loop-line.invariant.read at read within);
       left = rw (pushed, sum_by_push length before bytes) (omega (arith, c.in_ok-bytes.bytes.ok.0, limit));
     }

@@ -25,4 +25,4 @@ returns-clause-ran g c =
 
 pub returns-clause-sink : goal.returns-clause-sink
 returns-clause-sink g c =
-    EndsSink-wrote _ _ _ _ summary_text c.in-Ok-run_with_outcomes.run'.kept c.as_slice-2.result.now c.written.result (c.as_slice-2.ensures.value ∙ c.in-Ok-summary_of.ensures) c.written.ensures
+    EndsSink-wrote (g.K.Sink.state c.args.out.now) (g.K.Sink.state c.written.new.out) summary_text c.in-Ok-run_with_outcomes.run'.kept c.as_slice-2.result.now c.written.result (c.as_slice-2.ensures.value ∙ c.in-Ok-summary_of.ensures) c.written.ensures.wrote

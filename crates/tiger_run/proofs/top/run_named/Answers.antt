@@ -12,6 +12,7 @@ pub returns-clause-ran : goal.returns-clause-ran
 returns-clause-ran g c = record {
   inputs = c.in-Ok.inputs;
   read = c.in-Ok.ensures.read;
+  calls = c.in-Ok.ensures.counted;
   run = record {
     ran = c.in-Ok-run_with_outcomes.ensures.ran;
     one_schedule = c.in-Ok-run_with_outcomes.ensures.one_schedule;
@@ -21,4 +22,4 @@ returns-clause-ran g c = record {
 
 pub returns-clause-sink : goal.returns-clause-sink
 returns-clause-sink g c =
-    EndsSink-wrote _ _ _ _ report_text c.in-Ok-run_with_outcomes.run'.kept c.as_slice-2.result.now c.written.result (c.as_slice-2.ensures.value ∙ c.in-Ok-report_of.ensures) c.written.ensures
+    EndsSink-wrote (g.K.Sink.state c.args.out.now) (g.K.Sink.state c.written.new.out) report_text c.in-Ok-run_with_outcomes.run'.kept c.as_slice-2.result.now c.written.result (c.as_slice-2.ensures.value ∙ c.in-Ok-report_of.ensures) c.written.ensures.wrote

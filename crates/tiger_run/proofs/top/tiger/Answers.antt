@@ -11,28 +11,27 @@ pub returns-in-Some-Run-clause-sink : goal.returns-in-Some-Run-clause-sink
 returns-in-Some-Run-clause-sink g c =
     let words = texts_of c.args.words.now.items in
     let run : IsRun words c.in-Some-Run.name.now c.in-Some-Run.field-0-1 = rw (c.as_slice.ensures.value, c.in-Some-Run.field-0-is) at c.in-Some-Run.ensures in
-    EndsSink-run words c.in-Some-Run.name.now c.in-Some-Run.field-0-1 _ _ _ _ _ _ run c.run_named.ensures.sink
+    EndsSink-run words c.in-Some-Run.name.now c.in-Some-Run.field-0-1 (g.K.Sink.state c.args.out.now) (g.K.Sink.state c.run_named.new.out) c.run_named.result.kept c.run_named.result.status run c.run_named.ensures.sink
 
 pub returns-in-Some-Run-clause-complete : goal.returns-in-Some-Run-clause-complete
-returns-in-Some-Run-clause-complete g c = λ name workers asked runnable no_fault put_all.
+returns-in-Some-Run-clause-complete g c = λ command none_failed put_all.
     let words = texts_of c.args.words.now.items in
     let run : IsRun words c.in-Some-Run.name.now c.in-Some-Run.field-0-1 = rw (c.as_slice.ensures.value, c.in-Some-Run.field-0-is) at c.in-Some-Run.ensures in
-    let same = IsRun-name words c.in-Some-Run.name.now name c.in-Some-Run.field-0-1 workers run asked in
-    let told = g.F.Files.told c.args.files.now in
-    let old = g.F.Files.counts c.args.files.now in
-    let new = g.F.Files.counts c.run_named.new.files in
+    let same = IsRun-name words c.in-Some-Run.name.now command.name c.in-Some-Run.field-0-1 command.workers run command.asked in
+    let old = g.F.Files.state c.args.files.now in
+    let new = g.F.Files.state c.run_named.new.files in
     let status = c.run_named.result.status in
-    let ends = subst (λ (n : List ℕ). EndsInputs told n old new status) same c.run_named.ensures.input in
-    run_completes status told name old new _ _ _ _ report_text c.run_named.result.kept runnable no_fault put_all ends c.run_named.ensures.sink
+    let ends = subst (λ (n : List ℕ). EndsInputs n old new status) same c.run_named.ensures.input in
+    run_completes status command.name old new (g.K.Sink.state c.args.out.now) (g.K.Sink.state c.run_named.new.out) report_text c.run_named.result.kept command.runnable none_failed put_all ends c.run_named.ensures.sink
 
 pub returns-in-Some-Make-clause-sink : goal.returns-in-Some-Make-clause-sink
 returns-in-Some-Make-clause-sink g c =
     let words = texts_of c.args.words.now.items in
     let make : IsMake words c.in-Some-Make.number = rw (c.as_slice.ensures.value, c.in-Some-Make.field-0-is) at c.in-Some-Make.ensures in
-    EndsSink-make words c.in-Some-Make.number _ _ _ _ _ _ make c.run_made.ensures.sink
+    EndsSink-make words c.in-Some-Make.number (g.K.Sink.state c.args.out.now) (g.K.Sink.state c.run_made.new.out) c.run_made.result.kept c.run_made.result.status make c.run_made.ensures.sink
 
 pub returns-in-Some-Run-clause-words : goal.returns-in-Some-Run-clause-words
 returns-in-Some-Run-clause-words g c =
     let words = texts_of c.args.words.now.items in
     let run : IsRun words c.in-Some-Run.name.now c.in-Some-Run.field-0-1 = rw (c.as_slice.ensures.value, c.in-Some-Run.field-0-is) at c.in-Some-Run.ensures in
-    words-run words c.in-Some-Run.name.now c.in-Some-Run.field-0-1 (g.F.Files.told c.args.files.now) _ _ _ run c.run_named.ensures.input
+    words-run words c.in-Some-Run.name.now c.in-Some-Run.field-0-1 (g.F.Files.state c.args.files.now) (g.F.Files.state c.run_named.new.files) c.run_named.result.status run c.run_named.ensures.input

@@ -3,11 +3,13 @@ use Rattle.outside.specs.Written.{Appended}
 use Rattle.tiger_run.proofs.writing.put_lines.Given as goal
 
 abbrev pub invariant-loop-done : goal.invariant-loop-done
-invariant-loop-done g l = record {
-  within : l.done ≤ length l.text;
-  written : Appended (g.K.Sink.written l.fn.out) (g.K.Sink.written l.out) (take l.done l.text);
-  no_fault : g.K.Sink.faults l.out ≡ g.K.Sink.faults l.fn.out;
-}
+invariant-loop-done g l =
+    let state = g.K.Sink.state in
+    record {
+      within : l.done ≤ length l.text;
+      written : Appended (state l.fn.out).written (state l.out).written (take l.done l.text);
+      no_fault : (state l.out).faults ≡ (state l.fn.out).faults;
+    }
 
 abbrev pub decreases-loop-done : goal.decreases-loop-done
 decreases-loop-done g l = length l.text - l.done

@@ -1,7 +1,7 @@
-use Rattle.std.proofs.Common.{◌≡◌, ap, sym, ◌∙◌, string_bytes, Some}
+use Rattle.std.proofs.Common.{ap, ◌∙◌, string_bytes, Some}
 use Rattle.std.specs.BTreeMap.{get_by_text}
 use Rattle.std.proofs.lemmas.Map.Text.{btree_map_updates_text}
-use Rattle.outside.specs.Memory.{found_bytes, told_of, with_file, MemoryFiles}
+use Rattle.outside.specs.Memory.{found_bytes, MemoryFiles}
 use Rattle.outside.proofs.MemoryLemmas.{found_bytes-update}
 use Rattle.outside.proofs.mem_files.MemFiles.put.Goals as goal
 
