@@ -13,9 +13,13 @@ use Rattle.outside.specs.declared.mem_sink.FailingPut.{FailingPut}
 use Rattle.outside.specs.declared.sink.SinkFault.{SinkFault}
 use Rattle.outside.specs.declared.sink.SinkFault.TheVariants.{Failed, NoMemory}
 
+-- names of files with their bytes
+abbrev pub Entries : Type 0
+Entries = List (String Global × Vec ℕ Global)
+
 -- files in memory: names with their bytes, the calls that fail, and the counts
 pub record MemoryFiles : Type 0 where
-  pub entries : List (String Global × Vec ℕ Global)
+  pub entries : Entries
   pub failing : List ℕ
   pub counts : Counts
 
@@ -24,15 +28,16 @@ found_bytes (Some v) = bytes v.items
 found_bytes None = absent
 
 -- everything is told: a name's bytes, or that it is absent
-abbrev pub told_of : List (String Global × Vec ℕ Global) → List ℕ → Told
-told_of entries name = found_bytes (lookup (is_at (λ k. slice_cmp nat_cmp name (string_bytes k))) entries)
+abbrev pub told_of : Entries → List ℕ → Told
+told_of entries name =
+    found_bytes (lookup (is_at (λ k. slice_cmp nat_cmp name (string_bytes k))) entries)
 
 -- the same, but for one name, of which these bytes are told
 abbrev pub with_file : (List ℕ → Told) → List ℕ → List ℕ → List ℕ → Told
 with_file told name content other = if bytes_eq name other then bytes content else told other
 
 -- these entries tell the same as those, but for one name, of which they tell these bytes
-abbrev pub AreWith : List (String Global × Vec ℕ Global) → List ℕ → List ℕ → List (String Global × Vec ℕ Global) → Type 0
+abbrev pub AreWith : Entries → List ℕ → List ℕ → Entries → Type 0
 AreWith old name content new =
     (other : List ℕ) → told_of new other ≡ with_file (told_of old) name content other
 

@@ -1,5 +1,5 @@
-//! What a program reads and writes outside itself: whole files and a sink for bytes, with a cause for
-//! each failure.
+//! What a program reads and writes outside itself: whole files and a sink for bytes, with a cause
+//! for each failure.
 #![tactic(auto)]
 
 mod dir_files;

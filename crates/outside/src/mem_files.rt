@@ -53,7 +53,8 @@ impl MemFiles {
 
     /// Puts a file of this name there, in place of an earlier one. Without memory nothing changes.
     pub fn put(&mut self, name: &str, bytes: Vec<u8>) -> Result<(), NoMemory>
-        ensures told { OnOk result (AreWith self.old.entries name.now bytes.items self.new.entries) }
+        ensures told { OnOk result
+            (AreWith self.old.entries name.now bytes.items self.new.entries) }
         ensures others { OnOk result (self.new ≡ record self.old { entries = self.new.entries }) }
         ensures err { OnErr result (self.new ≡ self.old) }
     {
@@ -62,9 +63,11 @@ impl MemFiles {
         Ok(())
     }
 
-    /// Makes the call of this number fail; calls are counted from 0. Without memory nothing changes.
+    /// Makes the call of this number fail; calls are counted from 0. Without memory nothing
+    /// changes.
     pub fn fail_at(&mut self, call: u64) -> Result<(), NoMemory>
-        ensures ok { OnOk result (self.new ≡ record self.old { failing = self.old.failing ++ call ∷ [] }) }
+        ensures ok { OnOk result
+            (self.new ≡ record self.old { failing = self.old.failing ++ call ∷ [] }) }
         ensures err { OnErr result (self.new ≡ self.old) }
     {
         self.failing.push(call)?;
@@ -86,14 +89,16 @@ impl Files for MemFiles {
         ensures never_fell { NeverFell self.old.counts self.new.counts }
         ensures read { IfOk result (λ v. AreTold (told_of self.old.entries name.now) v.items) }
         ensures limit { IfOk result (λ v. length v.items ≤ most) }
-        ensures cause { IfErr result (HasCause name.now most (source_of self.old) (source_of self.new)) }
+        ensures cause { IfErr result
+            (HasCause name.now most (source_of self.old) (source_of self.new)) }
 
         // A call fails exactly if it was made to.
         ensures failed { is_failed result ≡ fails_next self.old }
 
         // Faults rise exactly at the calls that were made to fail, absences exactly at other calls
         // on names that were not put.
-        ensures faults { self.new.counts.faults ≡ self.old.counts.faults + one_if (fails_next self.old) }
+        ensures faults { let fails = fails_next self.old in
+            self.new.counts.faults ≡ self.old.counts.faults + one_if fails }
         ensures absences { let found_none = not (fails_next self.old) && lacks self.old name.now in
             self.new.counts.absences ≡ self.old.counts.absences + one_if found_none }
         ensures rest { self.new ≡ record self.old { counts = self.new.counts } }

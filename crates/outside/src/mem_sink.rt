@@ -7,7 +7,8 @@ use std::alloc::Global;
 use std::marker::Model;
 use tiger_base::NoMemory;
 
-/// A put that is made to fail: its number, counted from 0, and how many bytes of its piece it keeps.
+/// A put that is made to fail: its number, counted from 0, and how many bytes of its piece it
+/// keeps.
 #[derive(Clone, Copy, Debug, PartialEq, Eq)]
 pub struct FailingPut {
     pub call: u64,
@@ -87,7 +88,8 @@ impl Sink for MemSink {
 
     fn put(&mut self, piece: &[u8]) -> Result<(), SinkFault>
         requires { self.old.faults ≤ most_faults }
-        ensures appended { OnOk result (Appended (Some self.old.bytes) (Some self.new.bytes) piece.now) }
+        ensures appended { OnOk result
+            (Appended (Some self.old.bytes) (Some self.new.bytes) piece.now) }
         ensures no_fault { OnOk result (self.new.faults ≡ self.old.faults) }
         ensures cause { IfErr result (SinkCause (sunk_in self.old) (sunk_in self.new) piece.now) }
 

@@ -44,7 +44,8 @@ pub trait Sink {
     /// Writes the piece behind what was written before.
     fn put(&mut self, piece: &[u8]) -> Result<(), SinkFault>
         requires { (state self.old).faults ≤ most_faults }
-        ensures appended { OnOk result (Appended (state self.old).written (state self.new).written piece.now) }
+        ensures appended { OnOk result
+            (Appended (state self.old).written (state self.new).written piece.now) }
         ensures no_fault { OnOk result ((state self.new).faults ≡ (state self.old).faults) }
         ensures cause { IfErr result (SinkCause (state self.old) (state self.new) piece.now) };
 }

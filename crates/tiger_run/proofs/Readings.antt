@@ -1,5 +1,5 @@
 -- Reading files in order.
-use Rattle.std.proofs.Common.{◌≡◌, ℕ, zero, suc, ◌+◌, ◌<◌, ◌≤◌, ◌==◌, List, [], ◌∷◌, ◌++◌, length, get_or, vec_len, Vec, Global, Bool, cond, nat_lt, Option, Some, None, Ok, refl, sym, ap, ◌∙◌, subst, inr, arith}
+use Rattle.std.proofs.Common.{◌≡◌, ℕ, zero, suc, ◌+◌, ◌<◌, ◌≤◌, ◌==◌, List, [], ◌∷◌, ◌++◌, length, get_or, vec_len, Vec, Global, Bool, cond, nat_lt, Option, Some, None, Ok, refl, sym, ap, subst, inr, arith}
 use Rattle.std.specs.List.{All, position, position_or_len, slice_get}
 use Rattle.std.proofs.lemmas.List.Sums.{fails_before_first, sum_by_push}
 use Rattle.std.proofs.lemmas.List.Elements.{All-push}

@@ -67,7 +67,8 @@ fn read_files<F: Files>(
     requires few { length lines.now ≤ most_named }
     requires calls { (F.state files.old).counts.calls ≤ most_earlier + 1 }
     ensures same { (F.state files.new).told ≡ (F.state files.old).told }
-    ensures counted { IfOk result (λ _. MadeCalls (length lines.now) (F.state files.old) (F.state files.new)) }
+    ensures counted { let old = F.state files.old in
+        IfOk result (λ _. MadeCalls (length lines.now) old (F.state files.new)) }
     ensures few_calls { let old = F.state files.old in
         (F.state files.new).counts.calls ≤ old.counts.calls + length lines.now }
     ensures never_fell { NeverFell (F.state files.old).counts (F.state files.new).counts }

@@ -129,8 +129,8 @@ pub fn tiger<F: Files, K: Sink, G: Gate>(
         result.status ≡ Status.Done →
         IsSomeAnd result.kept (λ k. IsWritten (K.state out.old) (K.state out.new) (text k)) }
 
-    // What is kept is the run that the words ask for. If they name a scenario, it was read, and then
-    // each of its files, with one call for each.
+    // What is kept is the run that the words ask for. If they name a scenario, it was read, and
+    // then each of its files, with one call for each.
     ensures ran { let old = F.state files.old in
         IfSome result.kept (IsAskedRun G old (F.state files.new) (texts_of words.now.items)) }
 
@@ -145,8 +145,8 @@ pub fn tiger<F: Files, K: Sink, G: Gate>(
     // Only a named scenario has files that are read.
     ensures unread { IsNoRun (texts_of words.now.items) → files.new ≡ files.old }
 
-    // What is told of the files stays, few calls were made, and at most one put failed: so the files
-    // and the output can be used again.
+    // What is told of the files stays, few calls were made, and at most one put failed: so the
+    // files and the output can be used again.
     ensures same { (F.state files.new).told ≡ (F.state files.old).told }
     ensures few_calls { let old = F.state files.old in
         (F.state files.new).counts.calls ≤ old.counts.calls + most_reads }

@@ -1,10 +1,9 @@
-use Rattle.std.proofs.Common.{◌≡◌, ◌≤◌, ◌++◌, ◌∷◌, [], Some, length, length-append, sym, ap, subst, ◌∙◌, List, ℕ, arith}
+use Rattle.std.proofs.Common.{◌≡◌, ◌≤◌, ◌++◌, ◌∷◌, [], Some, length, length-append, sym, ap, ◌∙◌, arith}
 use Rattle.std.specs.List.{slice_get}
 use Rattle.std.proofs.lemmas.Result.{err_from_is_err_and}
 use Rattle.std.proofs.lemmas.List.Sums.{sum_by_push}
 use Rattle.tiger_base.specs.Library.{contents}
-use Rattle.outside.specs.Told.{Told, AreTold}
-use Rattle.tiger_run.specs.Inputs.{names_of, most_file, most_after}
+use Rattle.tiger_run.specs.Inputs.{names_of, most_after}
 use Rattle.tiger_run.proofs.Readings.{FilesCause-next, AreRead-push, names_of-at, length-contents, contents-push}
 use Rattle.tiger_run.proofs.inputs.read_files.Goals as goal
 

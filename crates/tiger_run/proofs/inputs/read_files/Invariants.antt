@@ -1,4 +1,4 @@
-use Rattle.std.proofs.Common.{◌≡◌, ◌+◌, ◌≤◌, length, sum_by}
+use Rattle.std.proofs.Common.{◌≡◌, ◌+◌, length, sum_by}
 use Rattle.tiger_base.specs.Library.{contents}
 use Rattle.outside.specs.Told.{NeverFell}
 use Rattle.tiger_run.specs.Inputs.{AreRead, names_of, most_files}

@@ -1,7 +1,6 @@
-use Rattle.std.proofs.Common.{◌≡◌, ◌∙◌, ◌≤◌, ◌+◌, take, drop, arith}
+use Rattle.std.proofs.Common.{◌∙◌, take, drop, arith}
 use Rattle.std.proofs.Math.Seq.{take-add}
 use Rattle.std.proofs.lemmas.Result.{err_from_is_err_and}
-use Rattle.tiger_run.specs.Ending.{TextCause}
 use Rattle.tiger_run.proofs.Puts.{Appended-more, TextCause-at, TextCause-faults, part-within, part-is, length-part, around-part}
 use Rattle.tiger_run.proofs.writing.put_lines.Goals as goal
 
