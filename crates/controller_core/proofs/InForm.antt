@@ -6,6 +6,7 @@ use Rattle.std.proofs.lemmas.List.Elements.{All-head, All-tail, All-push}
 use Rattle.tiger_base.specs.declared.number.Instance.{Instance}
 use Rattle.tiger_base.specs.declared.number.NoMemory.{NoMemory}
 use Rattle.tiger_base.specs.declared.tenancy.Tenancy.{Tenancy}
+use Rattle.tiger_base.specs.Limits.{most_visit}
 use Rattle.slot_plan.specs.declared.params.Params.{Params}
 use Rattle.node_kit.specs.Form.{is_tenancy}
 use Rattle.controller_core.specs.declared.known.Known.{Known}
@@ -36,8 +37,8 @@ placed_in_form p t old new (Ok x) form h ok err = subst (λ k. AreInForm p k) (s
 placed_in_form p t old new (Err x) form h ok err = subst (λ k. AreInForm p k) (sym err) h
 
 -- a tenancy that is not over by a visit has no later last visit than there can be
-pub visit_in_form : (p : Params) (t : Tenancy) (n : ℕ) → IsTrue (is_tenancy p t) → nat_lt t.last n ≡ false → n ≤ 2147483648
+pub visit_in_form : (p : Params) (t : Tenancy) (n : ℕ) → IsTrue (is_tenancy p t) → nat_lt t.last n ≡ false → n ≤ most_visit
 visit_in_form p t n form over = grind (arith, common_steps)
 
-pub tag_in_form : (p : Params) (t : Tenancy) (n : ℕ) → IsTrue (is_tenancy p t) → nat_lt t.last n ≡ false → IsTrue (nat_lt t.slot.0 p.slots && nat_le n 2147483648)
+pub tag_in_form : (p : Params) (t : Tenancy) (n : ℕ) → IsTrue (is_tenancy p t) → nat_lt t.last n ≡ false → IsTrue (nat_lt t.slot.0 p.slots && nat_le n most_visit)
 tag_in_form p t n form over = grind (arith, common_steps)

@@ -19,9 +19,9 @@ use Rattle.node_kit.specs.declared.outbox.Out.{Out}
 use Rattle.node_kit.specs.Form.{IsInForm, is_in_form, is_tenancy, is_tag}
 use Rattle.node_kit.specs.Steps.{Deed, IsAllowed}
 use Rattle.node_kit.specs.Steps.Input.{Take, Tick}
-use Rattle.rule_kit.specs.Deeds.{nothing}
-use Rattle.rule_kit.proofs.Places.{KeepsPlace, IsRightAt, nothing_right, chosen_right, each_in_turn_right}
-use Rattle.rule_kit.proofs.Ways.{to_cub_leads}
+use Rattle.node_kit.specs.Deeds.{nothing}
+use Rattle.node_kit.proofs.Places.{KeepsPlace, IsRightAt, nothing_right, chosen_right, each_in_turn_right}
+use Rattle.node_kit.proofs.Ways.{to_cub_leads}
 use Rattle.controller_core.specs.declared.known.Known.{Known}
 use Rattle.controller_core.specs.Orders.{orders_in, start_of}
 use Rattle.controller_core.specs.State.{ControllerState, IsController, AreInForm, tenancy_of, is_gone}

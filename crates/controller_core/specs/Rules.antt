@@ -19,8 +19,8 @@ use Rattle.node_kit.specs.declared.outbox.Out.TheVariants as out
 use Rattle.node_kit.specs.Form.{is_in_form}
 use Rattle.node_kit.specs.Steps.{Deed, Input}
 use Rattle.node_kit.specs.Steps.Input.{Take, Tick}
-use Rattle.rule_kit.specs.Ways.{way_to_cub}
-use Rattle.rule_kit.specs.Deeds.{nothing, each_in_turn, wrapped}
+use Rattle.node_kit.specs.Ways.{way_to_cub}
+use Rattle.node_kit.specs.Deeds.{nothing, each_in_turn, wrapped}
 use Rattle.controller_core.specs.declared.known.Known.{Known}
 use Rattle.controller_core.specs.Orders.{orders_in, start_of}
 use Rattle.controller_core.specs.State.{ControllerState, tenancy_of, is_gone}

@@ -1,6 +1,7 @@
 //! The node of the controller.
 ghost use Rattle.std.specs.Prelude.{◌≡◌, [], ◌≤◌, OnOk};
-ghost use Rattle.rule_kit.specs.Deeds.{Did, nothing};
+ghost use Rattle.tiger_base.specs.Limits.{most_reading};
+ghost use Rattle.node_kit.specs.Deeds.{Did, nothing};
 ghost use Rattle.controller_core.specs.Orders.{AreOrders};
 ghost use Rattle.controller_core.specs.State.{tenancy_of};
 ghost use Rattle.controller_core.specs.Rules.{on_controller, commanding, taking};
@@ -66,7 +67,7 @@ impl Controller {
         stamp: Stamp,
         out: &mut Outbox<Msg<'a>>,
     ) -> Result<(), NoMemory>
-        requires { stamp.reading ≤ 1000000000000 }
+        requires { stamp.reading ≤ most_reading }
         ensures { OnOk result (Did (on_controller self.old (commanding self.old.params self.old.orders stamp self.old.known)) out.old out.new self.new) }
     {
         self.known

@@ -1,15 +1,15 @@
 //! What a controller knows of the instances, and what its rules make of it.
 ghost use Rattle.std.specs.Prelude.{◌≡◌, ◌≤◌, [], ◌++◌, OnOk, OnErr, IsTrue};
 ghost use Rattle.std.specs.List.Sorted.{IsNonDecreasingBy};
+ghost use Rattle.tiger_base.specs.Limits.{most_reading};
 ghost use Rattle.node_kit.specs.declared.course.Order.{Order};
 ghost use Rattle.node_kit.specs.Form.{is_tenancy};
-ghost use Rattle.rule_kit.specs.Deeds.{Did};
+ghost use Rattle.node_kit.specs.Deeds.{Did};
 ghost use Rattle.controller_core.specs.State.{AreInForm, tenancy_of, is_gone};
 ghost use Rattle.controller_core.specs.Rules.{to_both, starts, gone_from, visit_due, stopping, carrying, commanding, placing, taking};
 
 use crate::orders::{orders_in, start_of};
-use node_kit::{Order, OrderKind, Out, Outbox, What, in_form};
-use rule_kit::cub_link;
+use node_kit::{Order, OrderKind, Out, Outbox, What, cub_link, in_form};
 use slot_plan::Plan;
 use std::alloc::Global;
 use tiger_base::{
@@ -78,7 +78,7 @@ impl Known {
         stamp: Stamp,
         out: &mut Outbox<Msg<'a>>,
     ) -> Result<(), NoMemory>
-        requires reading { stamp.reading ≤ 1000000000000 }
+        requires reading { stamp.reading ≤ most_reading }
         requires in_time { IsNonDecreasingBy (λ (o : Order). o.beat) orders.now }
         requires in_form { AreInForm plan.now.params self.old }
         ensures did { OnOk result (Did (commanding plan.now.params orders.now stamp self.old) out.old out.new self.new) }
@@ -100,7 +100,7 @@ impl Known {
         order: &Order,
         out: &mut Outbox<Msg<'a>>,
     ) -> Result<(), NoMemory>
-        requires reading { reading ≤ 1000000000000 }
+        requires reading { reading ≤ most_reading }
         requires in_form { AreInForm plan.now.params self.old }
         ensures did { OnOk result (Did (carrying plan.now.params orders.now reading order.now self.old) out.old out.new self.new) }
         ensures placed { self.new.placed ≡ self.old.placed }
@@ -121,7 +121,7 @@ impl Known {
         instance: Instance,
         out: &mut Outbox<Msg<'a>>,
     ) -> Result<(), NoMemory>
-        requires reading { reading ≤ 1000000000000 }
+        requires reading { reading ≤ most_reading }
         requires in_form { AreInForm plan.now.params self.old }
         ensures did { OnOk result (Did (stopping plan.now.params orders.now reading instance self.old) out.old out.new self.new) }
         ensures placed { self.new.placed ≡ self.old.placed }
@@ -207,7 +207,7 @@ fn send_to_both<'a>(
 /// The last visit of a tenancy, from its first on, that is due: the first, where none is.
 #[tactic(auto, unfolding(crate::specs::Rules::visit_due))]
 fn visit_due(plan: &Plan, tenancy: &Tenancy, reading: Micros) -> Visit
-    requires reading { reading ≤ 1000000000000 }
+    requires reading { reading ≤ most_reading }
     requires in_form { IsTrue (is_tenancy plan.now.params tenancy.now) }
     ensures { result ≡ visit_due plan.now.params tenancy.now reading }
 {

@@ -1,5 +1,6 @@
 //! A start of a file of three blocks on a ring of eight cubs, and its stops.
 ghost use Rattle.std.specs.Prelude.{◌≡◌, ◌≤◌, ◌*◌, ℕ, ◌∷◌, [], IfOk};
+ghost use Rattle.tiger_base.specs.Limits.{most_beats, most_reading};
 ghost use Rattle.slot_plan.specs.declared.params.Params.{Params};
 ghost use Rattle.node_kit.specs.Links.{IsInLink};
 ghost use Rattle.node_kit.specs.declared.course.OrderKind.TheVariants.{Begin, Finish};
@@ -122,8 +123,8 @@ fn read_output<'a>(out: Out<Msg<'a>>) -> Said {
 }
 
 fn at(beat: Beat) -> Stamp
-    requires { beat ≤ 100000 }
-    ensures { result.reading ≤ 1000000000000 }
+    requires { beat ≤ most_beats }
+    ensures { result.reading ≤ most_reading }
 {
     Stamp {
         beat,
@@ -152,8 +153,8 @@ fn said_in(
     other: Beat,
 ) -> Result<Vec<Said>, NoMemory>
     requires stops { stops.0 ≤ stops.1 }
-    requires one { one ≤ 100000 }
-    requires other { other ≤ 100000 }
+    requires one { one ≤ most_beats }
+    requires other { other ≤ most_beats }
 {
     let mut controller = controller(alloc, stops.0, stops.1)?;
     if let Some(first) = placed {
@@ -254,7 +255,7 @@ fn told<M: Message, T: Node<M>>(
     msg: M,
     out: &mut Outbox<M>,
 ) -> Result<(), NoMemory>
-    requires reading { stamp.reading ≤ 1000000000000 }
+    requires reading { stamp.reading ≤ most_reading }
     requires in_link { (p : Params) × (n : ℕ) × T.stands_at node.old p n × IsInLink p n link.0 }
 {
     node.take(stamp, link, msg, out)?;

@@ -14,7 +14,7 @@ use Rattle.node_kit.specs.declared.course.OrderKind.TheVariants.{Begin, Finish}
 use Rattle.node_kit.specs.declared.outbox.Out.{Out}
 use Rattle.node_kit.specs.Form.{is_tenancy}
 use Rattle.node_kit.specs.Steps.{Deed}
-use Rattle.rule_kit.specs.Deeds.{nothing}
+use Rattle.node_kit.specs.Deeds.{nothing}
 use Rattle.run_facts.specs.Commanded.{is_gone_of, is_finish_of, is_over, place_of}
 use Rattle.controller_core.specs.declared.known.Known.{Known}
 use Rattle.controller_core.specs.Orders as orders

@@ -11,7 +11,7 @@ use Rattle.slot_plan.specs.Conditions.{IsPlan}
 use Rattle.node_kit.specs.declared.course.Order.{Order}
 use Rattle.node_kit.specs.declared.outbox.Out.{Out}
 use Rattle.node_kit.specs.Steps.{Deed, what_of}
-use Rattle.rule_kit.specs.Deeds.{then_do, each_in_turn}
+use Rattle.node_kit.specs.Deeds.{then_do, each_in_turn}
 use Rattle.run_facts.specs.Commanded.{is_gone_of, is_finish_of, is_over, place_of}
 use Rattle.controller_core.specs.declared.known.Known.{Known}
 use Rattle.controller_core.specs.State.{AreInForm, tenancy_of, is_gone}

@@ -19,8 +19,8 @@ use Rattle.node_kit.specs.declared.course.OrderKind.{OrderKind}
 use Rattle.node_kit.specs.declared.course.OrderKind.TheVariants.{Begin, Finish}
 use Rattle.node_kit.specs.declared.outbox.Out.{Out}
 use Rattle.node_kit.specs.Steps.{Deed, what_of}
-use Rattle.rule_kit.specs.Ways.{way_to_cub}
-use Rattle.rule_kit.specs.Deeds.{nothing, each_in_turn}
+use Rattle.node_kit.specs.Ways.{way_to_cub}
+use Rattle.node_kit.specs.Deeds.{nothing, each_in_turn}
 use Rattle.run_facts.specs.Commanded.{Dispatch, end_of, start_of, starts_for, starts_at, starts_ordered}
 use Rattle.controller_core.specs.declared.known.Known.{Known}
 use Rattle.controller_core.specs.Orders as orders

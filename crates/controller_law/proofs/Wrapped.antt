@@ -10,7 +10,7 @@ use Rattle.node_kit.specs.declared.journal.What.TheVariants as what
 use Rattle.node_kit.specs.declared.journal.Entry.{Entry}
 use Rattle.node_kit.specs.Life.{trimmed}
 use Rattle.node_kit.specs.Steps.{Deed, Input, stamp_of, entries_of}
-use Rattle.rule_kit.specs.Deeds.{wrapped}
+use Rattle.node_kit.specs.Deeds.{wrapped}
 use Rattle.run_facts.specs.Events.{NodeEvent, Past, after, after_input, kept_outs, is_tick, is_tick_input}
 use Rattle.run_facts.specs.Events.NodeEvent.{Does, Dies}
 use Rattle.run_facts.specs.Histories.{History, past, last_of, count_of}

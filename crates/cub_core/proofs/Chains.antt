@@ -3,11 +3,12 @@ use Rattle.std.proofs.Common.{◌≡◌, ℕ, Bool, false, Result, Ok, Err, OnOk
 use Rattle.std.proofs.lemmas.List.{append-nil}
 use Rattle.tiger_base.specs.declared.number.Stamp.{Stamp}
 use Rattle.tiger_base.specs.declared.message.Msg.{Msg}
+use Rattle.tiger_base.specs.Limits.{most_reading}
 use Rattle.slot_plan.specs.declared.params.Params.{Params}
 use Rattle.node_kit.specs.declared.outbox.Out.{Out}
 use Rattle.node_kit.specs.Steps.{Deed}
-use Rattle.rule_kit.specs.declared.site.Site.{Site}
-use Rattle.rule_kit.specs.Deeds.{Did, then_do}
+use Rattle.node_kit.specs.declared.site.Site.{Site}
+use Rattle.node_kit.specs.Deeds.{Did, then_do}
 use Rattle.cub_rules.specs.declared.store.Store.{Store}
 use Rattle.cub_rules.specs.State.{IsStoreOf}
 use Rattle.cub_rules.specs.Ticks.{releasing, believing, inserting, splitting, forwarding, reading, serving, beating, ticking}
@@ -34,7 +35,7 @@ watched site stamp {h} {new} kept is =
     let rule = believing site.plan.params site.cub.0 stamp in
     followed site.plan.params site.cub.0 rule h new (believing_right site.plan.params site.cub.0 stamp) kept is
 
-pub inserted : (site : Site) (stamp : Stamp) {h new : Store} → stamp.reading ≤ 1000000000000 → IsKept site h
+pub inserted : (site : Site) (stamp : Stamp) {h new : Store} → stamp.reading ≤ most_reading → IsKept site h
     → new ≡ (inserting site.plan.params site.cub.0 stamp h).state → IsKept site new
 inserted site stamp {h} {new} short kept is =
     let rule = inserting site.plan.params site.cub.0 stamp in

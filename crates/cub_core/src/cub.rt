@@ -1,6 +1,7 @@
 //! A cub as a node.
 ghost use Rattle.std.specs.Prelude.{◌≡◌, ◌≤◌, ◌<◌, OnOk};
-ghost use Rattle.rule_kit.specs.Deeds.{Did};
+ghost use Rattle.tiger_base.specs.Limits.{most_reading};
+ghost use Rattle.node_kit.specs.Deeds.{Did};
 ghost use Rattle.cub_rules.specs.State.{opening_store};
 ghost use Rattle.cub_rules.specs.Messages.{taking};
 ghost use Rattle.cub_rules.specs.Ticks.{ticking};
@@ -9,9 +10,8 @@ ghost use Rattle.cub_rules.specs.Cubs.{on_cub};
 use crate::ticking::tick;
 use cub_messages::hear;
 use cub_rules::Store;
-use node_kit::{Node, Outbox};
+use node_kit::{Node, Outbox, Site};
 use partial_view::View;
-use rule_kit::Site;
 use slot_plan::Plan;
 use std::alloc::Global;
 use std::marker::Model;
@@ -41,7 +41,7 @@ impl<'a> Cub<'a> {
     /// A cub that keeps nothing yet, whose predecessor was last heard at a reading. It takes no memory.
     pub fn new(alloc: Global, plan: &Plan, cub: CubNo, heard: Micros) -> Cub<'a>
         requires inside { cub.0 < plan.now.params.cubs }
-        requires heard { heard ≤ 1000000000000 }
+        requires heard { heard ≤ most_reading }
         ensures { result ≡ record { params = plan.now.params; cub = cub.0; store = opening_store plan.now.params heard } }
     {
         Cub {
@@ -66,7 +66,7 @@ impl<'a> Cub<'a> {
         msg: Msg<'a>,
         out: &mut Outbox<Msg<'a>>,
     ) -> Result<(), NoMemory>
-        requires { stamp.reading ≤ 1000000000000 }
+        requires { stamp.reading ≤ most_reading }
         ensures { OnOk result (Did (on_cub self.old (taking self.old.params self.old.cub stamp link msg.entry self.old.store)) out.old out.new self.new) }
     {
         let done = hear(&self.site, stamp, link, msg, &mut self.store, out);
@@ -78,7 +78,7 @@ impl<'a> Cub<'a> {
 
     /// Ends a beat.
     pub fn end_beat(&mut self, stamp: Stamp, out: &mut Outbox<Msg<'a>>) -> Result<(), NoMemory>
-        requires { stamp.reading ≤ 1000000000000 }
+        requires { stamp.reading ≤ most_reading }
         ensures { OnOk result (Did (on_cub self.old (ticking self.old.params self.old.cub stamp self.old.store)) out.old out.new self.new) }
     {
         let done = tick(&self.site, stamp, &mut self.store, out);

@@ -1,9 +1,9 @@
 //! Cubs that are fed by hand, in a plan of eight cubs with a disk each: what each event puts out, as a list.
 ghost use Rattle.std.specs.Prelude.{◌≡◌, ◌≤◌, ◌<◌};
+ghost use Rattle.tiger_base.specs.Limits.{most_beats, most_reading};
 
 use crate::Cub;
-use node_kit::{LinkTable, Node, Out, Outbox, What};
-use rule_kit::Site;
+use node_kit::{LinkTable, Node, Out, Outbox, Site, What};
 use slot_plan::{Params, Plan};
 use std::alloc::Global;
 use std::marker::Model;
@@ -71,7 +71,7 @@ impl<'a> Model for Fed<'a> {
 /// The cub of a number, which heard its predecessor at a reading.
 fn cub_at<'a>(alloc: Global, number: u32, heard: Micros) -> Fed<'a>
     requires number { number < 8 }
-    requires heard { heard ≤ 1000000000000 }
+    requires heard { heard ≤ most_reading }
 {
     let site = site(number);
     Fed {
@@ -82,7 +82,7 @@ fn cub_at<'a>(alloc: Global, number: u32, heard: Micros) -> Fed<'a>
 }
 
 fn stamp(beat: Beat) -> Stamp
-    requires { beat ≤ 100000 }
+    requires { beat ≤ most_beats }
     ensures { result.reading ≤ 1000000000 }
 {
     Stamp {
@@ -112,7 +112,7 @@ impl<'a> Fed<'a> {
         link: LinkNo,
         msg: Msg<'a>,
     ) -> Result<(Fed<'a>, Vec<What>), NoMemory>
-        requires { beat ≤ 100000 }
+        requires { beat ≤ most_beats }
     {
         let mut out = Outbox::new(self.alloc);
         let Some((_, to)) = LinkTable::new(&self.site.plan).ends(link) else {
@@ -128,7 +128,7 @@ impl<'a> Fed<'a> {
 
     /// What it puts out at the end of a beat.
     fn at_end(mut self, beat: Beat) -> Result<(Fed<'a>, Vec<What>), NoMemory>
-        requires { beat ≤ 100000 }
+        requires { beat ≤ most_beats }
     {
         let mut out = Outbox::new(self.alloc);
         self.cub.tick(stamp(beat), &mut out)?;

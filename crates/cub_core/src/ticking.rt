@@ -1,14 +1,14 @@
 //! The steps of a tick, one after another.
 ghost use Rattle.std.specs.Prelude.{◌≡◌, ◌≤◌, OnOk};
-ghost use Rattle.rule_kit.specs.Deeds.{Did};
+ghost use Rattle.tiger_base.specs.Limits.{most_reading};
+ghost use Rattle.node_kit.specs.Deeds.{Did};
 ghost use Rattle.cub_rules.specs.State.{IsStoreOf};
 ghost use Rattle.cub_rules.specs.Ticks.{ticking};
 
 use cub_rules::Store;
 use cub_steps::{beat, insert, release, watch};
 use cub_walks::{forward, read, serve, split};
-use node_kit::Outbox;
-use rule_kit::Site;
+use node_kit::{Outbox, Site};
 use tiger_base::{Msg, NoMemory, Stamp};
 
 /// Release, deadman, insertion, splitting, forwarding, reading, serving, heartbeat. After `NoMemory` nothing is claimed.
@@ -19,7 +19,7 @@ pub(crate) fn tick<'a>(
     store: &mut Store<'a>,
     out: &mut Outbox<Msg<'a>>,
 ) -> Result<(), NoMemory>
-    requires reading { stamp.reading ≤ 1000000000000 }
+    requires reading { stamp.reading ≤ most_reading }
     requires stored { IsStoreOf site.now.plan.params site.now.cub.0 store.old }
     ensures { OnOk result (Did (ticking site.now.plan.params site.now.cub.0 stamp store.old) out.old out.new store.new) }
 {

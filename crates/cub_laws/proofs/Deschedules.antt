@@ -6,6 +6,7 @@ use Rattle.tiger_base.specs.declared.number.Stamp.{Stamp}
 use Rattle.tiger_base.specs.declared.tenancy.Tag.{Tag}
 use Rattle.tiger_base.specs.declared.message.Msg.TheVariants as msg
 use Rattle.tiger_base.specs.Notes.{noted}
+use Rattle.tiger_base.specs.Limits.{most_reading}
 use Rattle.slot_plan.specs.declared.params.Params.{Params}
 use Rattle.slot_plan.specs.Conditions.{IsPlan}
 use Rattle.slot_plan.specs.Keys.{Key}
@@ -15,10 +16,10 @@ use Rattle.node_kit.specs.Steps.{IsAllowed}
 use Rattle.partial_view.proofs.Order.{all_filter}
 use Rattle.deschedule.specs.Holds.{must_pass, with_hold, with_pass}
 use Rattle.mirror_schedule.specs.Splits as splits
-use Rattle.rule_kit.specs.Deeds.{then_do}
-use Rattle.rule_kit.specs.Ways.{way_ahead}
-use Rattle.rule_kit.proofs.Places.{nothing_right}
-use Rattle.rule_kit.proofs.Ways.{ahead_leads}
+use Rattle.node_kit.specs.Deeds.{then_do}
+use Rattle.node_kit.specs.Ways.{way_ahead}
+use Rattle.node_kit.proofs.Places.{nothing_right}
+use Rattle.node_kit.proofs.Ways.{ahead_leads}
 use Rattle.cub_rules.specs.State.{IsStoreOf, IsSplitHere}
 use Rattle.cub_rules.specs.Records.{dropping_lines, dropping_start, dropping_pieces}
 use Rattle.cub_rules.specs.Messages.{passed_on, is_reached, passing_on, passing_from, holding, passing, position, kills, killing_splits, dropping_all, descheduling}
@@ -28,7 +29,7 @@ use Rattle.cub_laws.proofs.Stores.{IsRule, both_rules, tested_rule, with_held, w
 use Rattle.cub_laws.proofs.Records.{dropping_lines_right, dropping_start_right, dropping_pieces_right}
 use Rattle.cub_laws.proofs.Positions.{IsInPlan, position_in_plan, reached_small}
 
-pub passing_on_right : (p : Params) (c : ℕ) (stamp : Stamp) (v : Instance) (k : Key) → IsPlan p → c < p.cubs → stamp.reading ≤ 1000000000000 → IsInPlan p k
+pub passing_on_right : (p : Params) (c : ℕ) (stamp : Stamp) (v : Instance) (k : Key) → IsPlan p → c < p.cubs → stamp.reading ≤ most_reading → IsInPlan p k
     → IsRule p c (passing_on p c stamp v k)
 unfolding passing_on
 passing_on_right p c stamp v k plan here short inside h kept =
@@ -45,7 +46,7 @@ passing_on_right p c stamp v k plan here short inside h kept =
           (λ _. tt);
     }
 
-pub passing_from_right : (p : Params) (c : ℕ) (stamp : Stamp) (v : Instance) (o : Option Key) → IsPlan p → c < p.cubs → stamp.reading ≤ 1000000000000
+pub passing_from_right : (p : Params) (c : ℕ) (stamp : Stamp) (v : Instance) (o : Option Key) → IsPlan p → c < p.cubs → stamp.reading ≤ most_reading
     → IfSome o (IsInPlan p) → IsRule p c (passing_from p c stamp v o)
 passing_from_right p c stamp v None plan here short inside h kept = nothing_right (IsStoreOf p c) p c h kept
 passing_from_right p c stamp v (Some k) plan here short inside h kept =
@@ -54,7 +55,7 @@ passing_from_right p c stamp v (Some k) plan here short inside h kept =
 pub holding_right : (p : Params) (c : ℕ) (stamp : Stamp) (v : Instance) → IsRule p c (holding p stamp v)
 holding_right p c stamp v h kept = record { keeps = with_held p c h (with_hold h.held v (stamp.reading + p.hold)) kept; allowed = tt }
 
-pub passing_right : (p : Params) (c : ℕ) (stamp : Stamp) (v : Instance) (tag : Option Tag) → IsPlan p → c < p.cubs → stamp.reading ≤ 1000000000000
+pub passing_right : (p : Params) (c : ℕ) (stamp : Stamp) (v : Instance) (tag : Option Tag) → IsPlan p → c < p.cubs → stamp.reading ≤ most_reading
     → IsTrue (is_tag p tag) → IsRule p c (passing p c stamp v tag)
 passing_right p c stamp v tag plan here short form h kept =
     passing_from_right p c stamp v (position p c v tag h.view.lines) plan here short (position_in_plan p c v tag h.view.lines form kept.lines) h kept
@@ -80,7 +81,7 @@ dropping_all_right p c v plan here =
     (both_rules p c (dropping_start v) (then_do (dropping_pieces v) (killing_splits p c v)) (dropping_start_right p c v)
     (both_rules p c (dropping_pieces v) (killing_splits p c v) (dropping_pieces_right p c v) (killing_splits_right p c v plan here)))
 
-pub descheduling_right : (p : Params) (c : ℕ) (stamp : Stamp) (v : Instance) (tag : Option Tag) → IsPlan p → c < p.cubs → stamp.reading ≤ 1000000000000
+pub descheduling_right : (p : Params) (c : ℕ) (stamp : Stamp) (v : Instance) (tag : Option Tag) → IsPlan p → c < p.cubs → stamp.reading ≤ most_reading
     → IsTrue (is_tag p tag) → IsRule p c (descheduling p c stamp v tag)
 unfolding descheduling
 descheduling_right p c stamp v tag plan here short form =

@@ -8,6 +8,7 @@ use Rattle.tiger_base.specs.declared.tenancy.Tenancy.{Tenancy}
 use Rattle.tiger_base.specs.declared.message.Msg.{Msg}
 use Rattle.tiger_base.specs.declared.message.Msg.TheVariants as msg
 use Rattle.tiger_base.specs.Notes.{noted}
+use Rattle.tiger_base.specs.Limits.{most_blocks, most_reading}
 use Rattle.slot_plan.specs.declared.params.Params.{Params}
 use Rattle.slot_plan.specs.Conditions.{IsPlan}
 use Rattle.slot_plan.specs.Times.{due, cub_of, disk_of}
@@ -20,10 +21,10 @@ use Rattle.node_kit.specs.Form.{is_tenancy}
 use Rattle.node_kit.specs.Steps.{Deed, IsAllowed}
 use Rattle.partial_view.proofs.Order.{all_filter}
 use Rattle.slot_owner.specs.Free.{is_free}
-use Rattle.rule_kit.specs.Deeds.{nothing, then_do, each_in_turn}
-use Rattle.rule_kit.specs.Ways.{way_ahead}
-use Rattle.rule_kit.proofs.Places.{nothing_right, chosen_right}
-use Rattle.rule_kit.proofs.Ways.{ahead_leads, to_controller_leads}
+use Rattle.node_kit.specs.Deeds.{nothing, then_do, each_in_turn}
+use Rattle.node_kit.specs.Ways.{way_ahead}
+use Rattle.node_kit.proofs.Places.{nothing_right, chosen_right}
+use Rattle.node_kit.proofs.Ways.{ahead_leads, to_controller_leads}
 use Rattle.cub_rules.specs.declared.store.Store.{Store}
 use Rattle.cub_rules.specs.State.{IsStoreOf, IsAsk, IsRecordOf}
 use Rattle.cub_rules.specs.Records.{predecessor, took}
@@ -45,7 +46,7 @@ pub record IsOpening (p : Params) (disk : ℕ) (k : Key) : Type 0 where
   pub on_disk : disk_of p k.1 ≡ disk
   pub small : k.1 ≤ 102000000
 
-free_is_opening : (p : Params) (reading disk : ℕ) (h : Store) → IsPlan p → reading ≤ 1000000000000 → IfSome (free_on p reading disk h) (IsOpening p disk)
+free_is_opening : (p : Params) (reading disk : ℕ) (h : Store) → IsPlan p → reading ≤ most_reading → IfSome (free_on p reading disk h) (IsOpening p disk)
 unfolding free_on
 free_is_opening p reading disk h plan short =
     some_has (IsOpening p disk) _
@@ -61,8 +62,8 @@ free_is_opening p reading disk h plan short =
 -- a start from an opening is a tenancy in form, on the cub of the opening's disk
 start_at_opening : (p : Params) (c disk : ℕ) (a : Ask) (k : Key) → disk % p.cubs ≡ c → IsAsk a → IsOpening p disk k → IsStartAt p c (tenancy_from a k)
 start_at_opening p c disk a k own ask free =
-    let both = and_parts (nat_le 1 a.count) (nat_le a.count 16777216) ask in
-    let high : a.count ≤ 16777216 = leb-true _ _ both.1 in
+    let both = and_parts (nat_le 1 a.count) (nat_le a.count most_blocks) ask in
+    let high : a.count ≤ most_blocks = leb-true _ _ both.1 in
     let order : k.1 ≤ k.1 + (a.count - 1) = omega arith in
     record {
       in_form = tenancy_from_parts p (tenancy_from a k) free.slot order (omega (arith, free.small));
@@ -119,7 +120,7 @@ put_or_wait_right p c disk owner put rest a None right after own ask free h kept
 put_or_wait_right p c disk owner put rest a (Some k) right after own ask free h kept =
     both_rules p c (put (tenancy_from a k)) rest (right (tenancy_from a k) (start_at_opening p owner disk a k own ask free)) after h kept
 
-putting_each_right : (p : Params) (c reading disk owner : ℕ) (put : Tenancy → Store → Deed Msg Store) → IsPlan p → reading ≤ 1000000000000
+putting_each_right : (p : Params) (c reading disk owner : ℕ) (put : Tenancy → Store → Deed Msg Store) → IsPlan p → reading ≤ most_reading
     → ((t : Tenancy) → IsStartAt p owner t → IsRule p c (put t)) → disk % p.cubs ≡ owner → (asks : List Ask) → AllByRecursion IsAsk asks
     → IsRule p c (putting_each put p reading disk asks)
 unfolding putting_each
@@ -128,20 +129,20 @@ putting_each_right p c reading disk owner put plan short right own (a ∷ rest) 
     put_or_wait_right p c disk owner put (putting_each put p reading disk rest) a (free_on p reading disk h) right
     (putting_each_right p c reading disk owner put plan short right own rest each.1) own each.0 (free_is_opening p reading disk h plan short) h kept
 
-pub putting_on_right : (p : Params) (c reading disk owner : ℕ) (put : Tenancy → Store → Deed Msg Store) → IsPlan p → reading ≤ 1000000000000
+pub putting_on_right : (p : Params) (c reading disk owner : ℕ) (put : Tenancy → Store → Deed Msg Store) → IsPlan p → reading ≤ most_reading
     → ((t : Tenancy) → IsStartAt p owner t → IsRule p c (put t)) → disk % p.cubs ≡ owner → IsRule p c (putting_on put p reading disk)
 unfolding putting_on
 putting_on_right p c reading disk owner put plan short right own h kept =
     putting_each_right p c reading disk owner put plan short right own (filter (is_for disk) h.starts.waiting)
     (all_filter IsAsk (is_for disk) h.starts.waiting kept.waiting) h kept
 
-pub inserting_own_right : (p : Params) (c : ℕ) (stamp : Stamp) → IsPlan p → c < p.cubs → stamp.reading ≤ 1000000000000 → IsRule p c (inserting_own p c stamp)
+pub inserting_own_right : (p : Params) (c : ℕ) (stamp : Stamp) → IsPlan p → c < p.cubs → stamp.reading ≤ most_reading → IsRule p c (inserting_own p c stamp)
 inserting_own_right p c stamp plan here short =
     each_rule p c (λ d. d % p.cubs ≡ c) (putting_on (putting_own p c) p stamp.reading)
     (λ d own. putting_on_right p c stamp.reading d c (putting_own p c) plan short (λ t start. putting_own_right p c t plan here start) own)
     (disks_at p c) (disks_own p c here)
 
-pub inserting_for_dead_right : (p : Params) (c : ℕ) (stamp : Stamp) → IsPlan p → c < p.cubs → stamp.reading ≤ 1000000000000
+pub inserting_for_dead_right : (p : Params) (c : ℕ) (stamp : Stamp) → IsPlan p → c < p.cubs → stamp.reading ≤ most_reading
     → IsRule p c (inserting_for_dead p c stamp)
 inserting_for_dead_right p c stamp plan here short h kept =
     let before = predecessor p c in
@@ -153,7 +154,7 @@ inserting_for_dead_right p c stamp plan here short h kept =
     in
     chosen_right (IsStoreOf p c) p c h.believes (rule h) (nothing h) (λ _. right h kept) (λ _. nothing_right (IsStoreOf p c) p c h kept)
 
-pub inserting_right : (p : Params) (c : ℕ) (stamp : Stamp) → IsPlan p → c < p.cubs → stamp.reading ≤ 1000000000000 → IsRule p c (inserting p c stamp)
+pub inserting_right : (p : Params) (c : ℕ) (stamp : Stamp) → IsPlan p → c < p.cubs → stamp.reading ≤ most_reading → IsRule p c (inserting p c stamp)
 unfolding inserting
 inserting_right p c stamp plan here short =
     both_rules p c (inserting_own p c stamp) (inserting_for_dead p c stamp) (inserting_own_right p c stamp plan here short)

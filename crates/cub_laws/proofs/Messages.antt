@@ -13,6 +13,7 @@ use Rattle.tiger_base.specs.Span.{LibraryPart}
 use Rattle.tiger_base.specs.declared.message.Msg.{Msg}
 use Rattle.tiger_base.specs.declared.message.Msg.TheVariants as msg
 use Rattle.tiger_base.specs.Notes.{noted}
+use Rattle.tiger_base.specs.Limits.{most_reading, most_visit}
 use Rattle.slot_plan.specs.declared.params.Params.{Params}
 use Rattle.slot_plan.specs.Conditions.{IsPlan}
 use Rattle.slot_plan.specs.Times.{cub_of}
@@ -26,9 +27,9 @@ use Rattle.partial_view.proofs.Order.{all_filter}
 use Rattle.insert_queue.specs.Queues.{Queues, is_asked, with_waiting, with_redundant}
 use Rattle.deschedule.specs.Holds.{is_held}
 use Rattle.mirror_schedule.specs.Pieces.{is_of_visit}
-use Rattle.rule_kit.specs.Deeds.{nothing, each_in_turn}
-use Rattle.rule_kit.specs.Ways.{way_ahead}
-use Rattle.rule_kit.proofs.Places.{nothing_right, chosen_right}
+use Rattle.node_kit.specs.Deeds.{nothing, each_in_turn}
+use Rattle.node_kit.specs.Ways.{way_ahead}
+use Rattle.node_kit.proofs.Places.{nothing_right, chosen_right}
 use Rattle.cub_rules.specs.State.{IsStoreOf, IsAsk, is_ask, IsRecordOf, IsPartHere}
 use Rattle.cub_rules.specs.Records.{predecessor, took, dropping_start}
 use Rattle.cub_rules.specs.Messages.{position_at, records_told, told, met, meeting_state, queueing, queueing_redundant, shows, meeting_start, meeting_piece, is_piece_part, meeting_kill, is_wanted, storing, meeting_answer, hearing_beat, hearing, taking, passing_from}
@@ -44,7 +45,7 @@ told_right p c s k own =
     both_rules p c (dropping_start s.tenancy.instance) (each_in_turn took (records_told s k)) (dropping_start_right p c s.tenancy.instance)
     (each_rule p c (IsRecordOf p c) took (took_right p c) (records_told s k) own)
 
-met_right : (p : Params) (c : ℕ) (stamp : Stamp) (s : State) (o : Option Key) → IsPlan p → c < p.cubs → stamp.reading ≤ 1000000000000
+met_right : (p : Params) (c : ℕ) (stamp : Stamp) (s : State) (o : Option Key) → IsPlan p → c < p.cubs → stamp.reading ≤ most_reading
     → IsTrue (is_tenancy p s.tenancy) → s.tenancy.first ≤ s.visit → s.visit ≤ s.tenancy.last → IfSome o (IsPosition p c s.tenancy.slot s.visit)
     → IsRule p c (met p c stamp s o)
 met_right p c stamp s None plan here short form low high at h kept = nothing_right (IsStoreOf p c) p c h kept
@@ -54,12 +55,12 @@ met_right p c stamp s (Some k) plan here short form low high at h kept =
     (λ _. passing_from_right p c stamp s.tenancy.instance (Some k) plan here short inside h kept)
     (λ _. told_right p c s k (told_records p c s k form low high at) h kept)
 
-pub meeting_state_right : (p : Params) (c : ℕ) (stamp : Stamp) (s : State) → IsPlan p → c < p.cubs → stamp.reading ≤ 1000000000000
-    → IsTrue (is_tenancy p s.tenancy && nat_le s.visit 2147483648) → IsRule p c (meeting_state p c stamp s)
+pub meeting_state_right : (p : Params) (c : ℕ) (stamp : Stamp) (s : State) → IsPlan p → c < p.cubs → stamp.reading ≤ most_reading
+    → IsTrue (is_tenancy p s.tenancy && nat_le s.visit most_visit) → IsRule p c (meeting_state p c stamp s)
 unfolding meeting_state
 meeting_state_right p c stamp s plan here short form h kept =
     let o = position_at p c s.tenancy.slot s.visit in
-    let tenancy = (and_parts (is_tenancy p s.tenancy) (nat_le s.visit 2147483648) form).0 in
+    let tenancy = (and_parts (is_tenancy p s.tenancy) (nat_le s.visit most_visit) form).0 in
     tested_rule p c (is_visit_of s.tenancy s.visit) (met p c stamp s o h) h
     (λ e.
     let both = and_parts (nat_le s.tenancy.first s.visit) (nat_le s.visit s.tenancy.last) e in
@@ -168,7 +169,7 @@ hearing_beat_right p c stamp link h kept =
     })
     kept
 
-pub hearing_right : (p : Params) (c : ℕ) (stamp : Stamp) (link : LinkNo) (m : Msg) → IsPlan p → c < p.cubs → stamp.reading ≤ 1000000000000
+pub hearing_right : (p : Params) (c : ℕ) (stamp : Stamp) (link : LinkNo) (m : Msg) → IsPlan p → c < p.cubs → stamp.reading ≤ most_reading
     → IsTrue (is_in_form p (noted m)) → IsRule p c (hearing p c stamp link m)
 unfolding hearing
 hearing_right p c stamp link (msg.ViewerState s) plan here short form h kept = meeting_state_right p c stamp s plan here short form h kept
@@ -180,7 +181,7 @@ hearing_right p c stamp link (msg.ReadDone want part) plan here short form h kep
 hearing_right p c stamp link msg.Heartbeat plan here short form h kept = hearing_beat_right p c stamp link h kept
 hearing_right p c stamp link other plan here short form h kept = nothing_right (IsStoreOf p c) p c h kept
 
-pub taking_right : (p : Params) (c : ℕ) (stamp : Stamp) (link : LinkNo) (m : Msg) → IsPlan p → c < p.cubs → stamp.reading ≤ 1000000000000
+pub taking_right : (p : Params) (c : ℕ) (stamp : Stamp) (link : LinkNo) (m : Msg) → IsPlan p → c < p.cubs → stamp.reading ≤ most_reading
     → IsRule p c (taking p c stamp link m)
 unfolding taking
 taking_right p c stamp link m plan here short h kept =

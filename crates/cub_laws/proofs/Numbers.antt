@@ -5,6 +5,7 @@ use Rattle.std.proofs.Math.Nat.{mod-mod_of_dvd, dvd-mul_right, mod-add-mod, add-
 use Rattle.std.proofs.lemmas.Bool.{and_parts, and_from, ltb-true, leb-true, lt-ltb, le-leb}
 use Rattle.tiger_base.specs.declared.tenancy.PieceState.{PieceState}
 use Rattle.tiger_base.specs.declared.tenancy.Tenancy.{Tenancy}
+use Rattle.tiger_base.specs.Limits.{most_visit}
 use Rattle.slot_plan.specs.declared.params.Params.{Params}
 use Rattle.slot_plan.specs.Conditions.{IsPlan, IsInRange}
 use Rattle.slot_plan.specs.Times.{due, cub_of, disk_of, disk_count}
@@ -15,21 +16,21 @@ use Rattle.cub_rules.specs.Records.{predecessor}
 use Rattle.cub_rules.specs.Ticks.{disks_at}
 use Rattle.cub_laws.proofs.Lists.{all_map, all_range}
 
-pub tenancy_parts : (p : Params) (t : Tenancy) → IsTrue (is_tenancy p t) → (t.slot.0 < p.slots) × (t.first ≤ t.last) × (t.last ≤ 2147483648)
+pub tenancy_parts : (p : Params) (t : Tenancy) → IsTrue (is_tenancy p t) → (t.slot.0 < p.slots) × (t.first ≤ t.last) × (t.last ≤ most_visit)
 tenancy_parts p t form =
-    let outer = and_parts (nat_lt t.slot.0 p.slots && nat_le t.first t.last) (nat_le t.last 2147483648) form in
+    let outer = and_parts (nat_lt t.slot.0 p.slots && nat_le t.first t.last) (nat_le t.last most_visit) form in
     let inner = and_parts (nat_lt t.slot.0 p.slots) (nat_le t.first t.last) outer.0 in
     (ltb-true _ _ inner.0, leb-true _ _ inner.1, leb-true _ _ outer.1)
 
-pub tenancy_from_parts : (p : Params) (t : Tenancy) → t.slot.0 < p.slots → t.first ≤ t.last → t.last ≤ 2147483648 → IsTrue (is_tenancy p t)
+pub tenancy_from_parts : (p : Params) (t : Tenancy) → t.slot.0 < p.slots → t.first ≤ t.last → t.last ≤ most_visit → IsTrue (is_tenancy p t)
 tenancy_from_parts p t slot order last = and_from _ _ (and_from _ _ (lt-ltb _ _ slot) (le-leb _ _ order)) (le-leb _ _ last)
 
-pub place_parts : (p : Params) (slot visit : ℕ) → IsTrue (is_place p slot visit) → (slot < p.slots) × (visit ≤ 2147483648)
+pub place_parts : (p : Params) (slot visit : ℕ) → IsTrue (is_place p slot visit) → (slot < p.slots) × (visit ≤ most_visit)
 place_parts p slot visit form =
-    let both = and_parts (nat_lt slot p.slots) (nat_le visit 2147483648) form in
+    let both = and_parts (nat_lt slot p.slots) (nat_le visit most_visit) form in
     (ltb-true _ _ both.0, leb-true _ _ both.1)
 
-pub place_from_parts : (p : Params) (slot visit : ℕ) → slot < p.slots → visit ≤ 2147483648 → IsTrue (is_place p slot visit)
+pub place_from_parts : (p : Params) (slot visit : ℕ) → slot < p.slots → visit ≤ most_visit → IsTrue (is_place p slot visit)
 place_from_parts p slot visit inside small = and_from _ _ (lt-ltb _ _ inside) (le-leb _ _ small)
 
 -- a visit of a tenancy in form is in form
@@ -38,7 +39,7 @@ visit_in_form p t visit form high =
     let parts = tenancy_parts p t form in
     place_from_parts p t.slot.0 visit parts.0 (omega (arith, parts.2))
 
-pub state_in_form : (p : Params) (t : Tenancy) (visit : ℕ) → IsTrue (is_tenancy p t) → visit ≤ t.last → IsTrue (is_tenancy p t && nat_le visit 2147483648)
+pub state_in_form : (p : Params) (t : Tenancy) (visit : ℕ) → IsTrue (is_tenancy p t) → visit ≤ t.last → IsTrue (is_tenancy p t && nat_le visit most_visit)
 state_in_form p t visit form high = and_from _ _ form (le-leb _ _ (let parts = tenancy_parts p t form in omega (arith, parts.2)))
 
 -- the parts of a piece record in form

@@ -9,6 +9,7 @@ use Rattle.tiger_base.specs.declared.tenancy.Kind.TheVariants.{Own}
 use Rattle.tiger_base.specs.declared.tenancy.Rec.{Rec}
 use Rattle.tiger_base.specs.declared.tenancy.State.{State}
 use Rattle.tiger_base.specs.declared.tenancy.Tag.{Tag}
+use Rattle.tiger_base.specs.Limits.{most_reading}
 use Rattle.slot_plan.specs.declared.params.Params.{Params}
 use Rattle.slot_plan.specs.Conditions.{IsPlan}
 use Rattle.slot_plan.specs.Times.{cub_of}
@@ -72,7 +73,7 @@ position_in_plan p c v (Some tag) some form own =
 position_in_plan p c v None some form own = of_line p c (first_of v some) (found_has (IsLineOf p c) (is_of v) some own)
 
 -- the visit that a deschedule is passed on to is small
-pub reached_small : (p : Params) (stamp : Stamp) (slot : SlotNo) (visit : ℕ) → IsPlan p → stamp.reading ≤ 1000000000000 → is_reached p stamp slot visit ≡ true
+pub reached_small : (p : Params) (stamp : Stamp) (slot : SlotNo) (visit : ℕ) → IsPlan p → stamp.reading ≤ most_reading → is_reached p stamp slot visit ≡ true
     → visit ≤ 102000000
 unfolding is_reached
 reached_small p stamp slot visit plan short e =

@@ -16,8 +16,8 @@ use Rattle.partial_view.proofs.Order.{all_filter}
 use Rattle.insert_queue.specs.Queues as queues
 use Rattle.mirror_schedule.specs.Pieces as pieces
 use Rattle.mirror_schedule.proofs.Orders.{all_with_one}
-use Rattle.rule_kit.specs.Deeds.{nothing}
-use Rattle.rule_kit.proofs.Places.{nothing_right, chosen_right}
+use Rattle.node_kit.specs.Deeds.{nothing}
+use Rattle.node_kit.proofs.Places.{nothing_right, chosen_right}
 use Rattle.cub_rules.specs.declared.store.Store.{Store}
 use Rattle.cub_rules.specs.State.{IsStoreOf, IsRecordOf, IsLineOf, IsAsk, IsPieceAt, IsPartHere}
 use Rattle.cub_rules.specs.Records.{took, dropped, dropping_lines, dropping_start, dropping_pieces, with_piece_record, is_part_of}

@@ -9,8 +9,8 @@ use Rattle.partial_view.specs.declared.line.Line.{Line}
 use Rattle.insert_queue.specs.Queues.{Queues}
 use Rattle.deschedule.specs.declared.held.Holding.{Holding}
 use Rattle.mirror_schedule.specs.Splits.{Split}
-use Rattle.rule_kit.specs.Deeds.{nothing, then_do, each_in_turn}
-use Rattle.rule_kit.proofs.Places.{IsRightAt, nothing_right, then_right, chosen_right}
+use Rattle.node_kit.specs.Deeds.{nothing, then_do, each_in_turn}
+use Rattle.node_kit.proofs.Places.{IsRightAt, nothing_right, then_right, chosen_right}
 use Rattle.cub_rules.specs.declared.store.Store.{Store}
 use Rattle.cub_rules.specs.declared.store.StoredPart.{StoredPart}
 use Rattle.cub_rules.specs.State.{IsStoreOf, IsLineOf, IsAsk, IsPieceAt, IsSplitHere, IsPartHere}

@@ -4,6 +4,7 @@ use Rattle.std.specs.List.{AllByRecursion}
 use Rattle.tiger_base.specs.declared.number.Stamp.{Stamp}
 use Rattle.tiger_base.specs.declared.tenancy.Ask.{Ask}
 use Rattle.tiger_base.specs.Notes.{noted}
+use Rattle.tiger_base.specs.Limits.{most_reading}
 use Rattle.slot_plan.specs.declared.params.Params.{Params}
 use Rattle.slot_plan.specs.Conditions.{IsPlan}
 use Rattle.node_kit.specs.Steps.{IsAllowed}
@@ -12,8 +13,8 @@ use Rattle.insert_queue.specs.Queues.{after_take_over}
 use Rattle.deschedule.specs.Holds.{holds_at}
 use Rattle.deadman.specs.Silence.{is_silent}
 use Rattle.mirror_schedule.specs.Splits.{is_over}
-use Rattle.rule_kit.specs.Deeds.{then_do}
-use Rattle.rule_kit.proofs.Ways.{ahead_leads}
+use Rattle.node_kit.specs.Deeds.{then_do}
+use Rattle.node_kit.proofs.Ways.{ahead_leads}
 use Rattle.cub_rules.specs.State.{IsAsk, IsSplitHere, IsPartHere}
 use Rattle.cub_rules.specs.Ticks.{is_stale, releasing, queued, believing, inserting, splitting, forwarding, reading, serving, beating, ticking}
 use Rattle.cub_laws.proofs.Lists.{all_append}
@@ -76,7 +77,7 @@ late_steps_right p c stamp plan here =
     (both_rules p c (reading p stamp) (then_do (serving p c stamp) (beating p c stamp)) (reading_right p c stamp plan)
     (both_rules p c (serving p c stamp) (beating p c stamp) (serving_right p c stamp here) (beating_right p c stamp plan here))))
 
-pub ticking_right : (p : Params) (c : ℕ) (stamp : Stamp) → IsPlan p → c < p.cubs → stamp.reading ≤ 1000000000000 → IsRule p c (ticking p c stamp)
+pub ticking_right : (p : Params) (c : ℕ) (stamp : Stamp) → IsPlan p → c < p.cubs → stamp.reading ≤ most_reading → IsRule p c (ticking p c stamp)
 unfolding ticking
 ticking_right p c stamp plan here short =
     both_rules p c (releasing p stamp) _ (releasing_right p c stamp)

@@ -26,9 +26,9 @@ use Rattle.state_forward.specs.Forwards.{is_own, must_forward, is_next_due, is_b
 use Rattle.mirror_schedule.specs.Pieces.{pieces_of}
 use Rattle.mirror_schedule.specs.Splits.{Split, split_before, with_split}
 use Rattle.mirror_schedule.proofs.Orders.{all_with_one}
-use Rattle.rule_kit.specs.Deeds.{then_do}
-use Rattle.rule_kit.specs.Ways.{way_ahead, way_to_disk}
-use Rattle.rule_kit.proofs.Ways.{ahead_leads, to_disk_leads, to_viewers_leads}
+use Rattle.node_kit.specs.Deeds.{then_do}
+use Rattle.node_kit.specs.Ways.{way_ahead, way_to_disk}
+use Rattle.node_kit.proofs.Ways.{ahead_leads, to_disk_leads, to_viewers_leads}
 use Rattle.cub_rules.specs.declared.store.Store.{Store}
 use Rattle.cub_rules.specs.declared.store.StoredPart.{StoredPart}
 use Rattle.cub_rules.specs.State.{IsStoreOf, IsLineOf, IsPieceAt, IsSplitHere, visit_here, want_of, want_of_piece}

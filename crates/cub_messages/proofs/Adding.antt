@@ -18,7 +18,7 @@ use Rattle.mirror_schedule.specs.Sorted.{gap_from, with_one}
 use Rattle.mirror_schedule.specs.Pieces.{IsPieces, Pieces, comes_before, is_in, with_piece}
 use Rattle.mirror_schedule.proofs.Orders.{with_one-there}
 use Rattle.mirror_schedule.proofs.PieceLists.{is_in-new}
-use Rattle.rule_kit.specs.Deeds.{Did}
+use Rattle.node_kit.specs.Deeds.{Did}
 use Rattle.cub_rules.specs.declared.store.Store.{Store}
 use Rattle.cub_rules.specs.Records.{took, view_with, pieces_with}
 

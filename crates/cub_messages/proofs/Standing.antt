@@ -9,6 +9,7 @@ use Rattle.tiger_base.specs.declared.tenancy.PieceState.{PieceState}
 use Rattle.tiger_base.specs.declared.tenancy.Rec.{Rec}
 use Rattle.tiger_base.specs.declared.tenancy.Tenancy.{Tenancy}
 use Rattle.tiger_base.specs.declared.tenancy.Want.{Want}
+use Rattle.tiger_base.specs.Limits.{most_visit}
 use Rattle.slot_plan.specs.declared.params.Params.{Params}
 use Rattle.slot_plan.specs.Keys.{Key}
 use Rattle.node_kit.specs.Form.{is_tenancy, is_piece}
@@ -52,11 +53,11 @@ first_has p cub v lines r all e = by_line (first_of v lines) refl e
 pub record IsFit (p : Params) (t : Tenancy) : Type 0 where
   pub slot : t.slot.0 < p.slots
   pub ordered : t.first ≤ t.last
-  pub last : t.last ≤ 2147483648
+  pub last : t.last ≤ most_visit
 
 pub fit : (p : Params) (t : Tenancy) → IsTrue (is_tenancy p t) → IsFit p t
 fit p t h =
-    let both = and_parts (nat_lt t.slot.0 p.slots && nat_le t.first t.last) (nat_le t.last 2147483648) h in
+    let both = and_parts (nat_lt t.slot.0 p.slots && nat_le t.first t.last) (nat_le t.last most_visit) h in
     let first = and_parts (nat_lt t.slot.0 p.slots) (nat_le t.first t.last) both.0 in
     record { slot = ltb-true _ _ first.0; ordered = leb-true _ _ first.1; last = leb-true _ _ both.1 }
 
@@ -67,7 +68,7 @@ piece_begun p x h =
     let visit = and_parts (is_tenancy p x.tenancy) (nat_le x.tenancy.first x.visit && nat_le x.visit x.tenancy.last) both.0 in
     leb-true _ _ (and_parts (nat_le x.tenancy.first x.visit) (nat_le x.visit x.tenancy.last) visit.1).0
 
-pub record_small : (p : Params) (cub : ℕ) (r : Rec) → IsRecordOf p cub r → r.visit ≤ 2147483648
+pub record_small : (p : Params) (cub : ℕ) (r : Rec) → IsRecordOf p cub r → r.visit ≤ most_visit
 record_small p cub r h = omega (arith, h.not_over, (fit p r.tenancy h.in_form).last)
 
 pub record_near : (p : Params) (cub : ℕ) (r : Rec) → IsRecordOf p cub r → IsNear p (position_of r)

@@ -4,16 +4,15 @@ ghost use Rattle.std.specs.List.{AllByRecursion, list_any};
 ghost use Rattle.slot_plan.specs.Keys.{IsKey};
 ghost use Rattle.node_kit.specs.Form.{is_place};
 ghost use Rattle.partial_view.specs.Views.{line_at};
-ghost use Rattle.rule_kit.specs.Deeds.{Did};
+ghost use Rattle.node_kit.specs.Deeds.{Did};
 ghost use Rattle.cub_rules.specs.Records.{same_want};
 ghost use Rattle.cub_rules.specs.State.{IsStoreOf, IsLineOf, IsPieceAt, want_of, want_of_piece};
 ghost use Rattle.cub_rules.specs.Messages.{is_block_of, is_wanted, storing, meeting_answer};
 
 use cub_rules::{Store, StoredPart};
 use mirror_schedule::PieceView;
-use node_kit::{Out, Outbox, What};
+use node_kit::{Out, Outbox, Site, What};
 use partial_view::View;
-use rule_kit::Site;
 use tiger_base::{Kind, Msg, NoMemory, Part, PieceState, Rec, Want};
 
 /// For a record that is still there the part is stored, or the failure written down.

@@ -1,8 +1,9 @@
 //! What a cub does with a deschedule.
 ghost use Rattle.std.specs.Prelude.{◌≡◌, ◌≤◌, IsTrue, IfSome, OnOk};
 ghost use Rattle.std.specs.List.{AllByRecursion};
+ghost use Rattle.tiger_base.specs.Limits.{most_reading, most_visit};
 ghost use Rattle.node_kit.specs.Form.{is_tag};
-ghost use Rattle.rule_kit.specs.Deeds.{Did};
+ghost use Rattle.node_kit.specs.Deeds.{Did};
 ghost use Rattle.cub_rules.specs.State.{IsStoreOf, IsLineOf};
 ghost use Rattle.cub_rules.specs.Messages.{position_of, position, passing, dropping_all, descheduling};
 ghost use Rattle.cub_messages.specs.Rules.{IsNear};
@@ -11,9 +12,8 @@ use crate::passing::{pass_from, position_at};
 use crate::records::{drop_lines, drop_pieces, drop_start};
 use crate::splits::kill_splits;
 use cub_rules::Store;
-use node_kit::Outbox;
+use node_kit::{Outbox, Site};
 use partial_view::View;
-use rule_kit::Site;
 use tiger_base::{Instance, Kind, Msg, NoMemory, Rec, SlotNo, Stamp, Tag, Visit};
 
 /// The instance is held; from a position the deschedule is passed on, where it was not yet; and all that the cub keeps of
@@ -27,7 +27,7 @@ pub fn take_deschedule<'a>(
     store: &mut Store<'a>,
     out: &mut Outbox<Msg<'a>>,
 ) -> Result<(), NoMemory>
-    requires reading { stamp.reading ≤ 1000000000000 }
+    requires reading { stamp.reading ≤ most_reading }
     requires form { IsTrue (is_tag site.now.plan.params tag) }
     requires stored { IsStoreOf site.now.plan.params site.now.cub.0 store.old }
     ensures { OnOk result (Did (descheduling site.now.plan.params site.now.cub.0 stamp instance tag store.old) out.old out.new store.new) }
@@ -47,7 +47,7 @@ fn pass<'a>(
     store: &mut Store<'a>,
     out: &mut Outbox<Msg<'a>>,
 ) -> Result<(), NoMemory>
-    requires reading { stamp.reading ≤ 1000000000000 }
+    requires reading { stamp.reading ≤ most_reading }
     requires form { IsTrue (is_tag site.now.plan.params tag) }
     requires lines { AllByRecursion (IsLineOf site.now.plan.params site.now.cub.0) store.old.view.lines }
     ensures { OnOk result (Did (passing site.now.plan.params site.now.cub.0 stamp instance tag store.old) out.old out.new store.new) }
@@ -81,7 +81,7 @@ fn position(
 
 /// The position that a record gives.
 fn position_of(rec: &Rec) -> (SlotNo, Visit)
-    requires { rec.now.visit ≤ 2147483648 }
+    requires { rec.now.visit ≤ most_visit }
     ensures { result ≡ position_of rec.now }
 {
     match rec.kind {

@@ -1,6 +1,7 @@
 //! Which rule a cub follows on a message.
 ghost use Rattle.std.specs.Prelude.{◌≡◌, ◌≤◌, ◌<◌, OnOk};
-ghost use Rattle.rule_kit.specs.Deeds.{Did};
+ghost use Rattle.tiger_base.specs.Limits.{most_reading};
+ghost use Rattle.node_kit.specs.Deeds.{Did};
 ghost use Rattle.cub_rules.specs.State.{IsStoreOf};
 ghost use Rattle.cub_rules.specs.Messages.{hearing_beat, taking};
 ghost use Rattle.cub_rules.specs.Records.{predecessor};
@@ -12,8 +13,7 @@ use crate::pieces::{take_kill, take_piece};
 use crate::starts::take_start;
 use crate::states::take_state;
 use cub_rules::Store;
-use node_kit::{Outbox, in_form};
-use rule_kit::Site;
+use node_kit::{Outbox, Site, in_form};
 use tiger_base::{CubNo, LinkNo, Message, Msg, NoMemory, Stamp};
 
 /// What a cub does with a message that came on a link: one that is not in form is ignored.
@@ -26,7 +26,7 @@ pub fn hear<'a>(
     store: &mut Store<'a>,
     out: &mut Outbox<Msg<'a>>,
 ) -> Result<(), NoMemory>
-    requires reading { stamp.reading ≤ 1000000000000 }
+    requires reading { stamp.reading ≤ most_reading }
     requires stored { IsStoreOf site.now.plan.params site.now.cub.0 store.old }
     ensures { OnOk result (Did (taking site.now.plan.params site.now.cub.0 stamp link msg.entry store.old) out.old out.new store.new) }
 {

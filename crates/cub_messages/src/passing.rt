@@ -1,13 +1,13 @@
 //! Where a cub stands to a visit, and how it passes a deschedule on from there.
 ghost use Rattle.std.specs.Prelude.{◌≡◌, ◌≤◌, ◌<◌, IsTrue, IfSome, OnOk, Some};
+ghost use Rattle.tiger_base.specs.Limits.{most_reading};
 ghost use Rattle.node_kit.specs.Form.{is_place};
-ghost use Rattle.rule_kit.specs.Deeds.{Did};
+ghost use Rattle.node_kit.specs.Deeds.{Did};
 ghost use Rattle.cub_rules.specs.Messages.{position_at, is_reached, passing_on, passing_from};
 ghost use Rattle.cub_messages.specs.Rules.{IsNear};
 
 use cub_rules::Store;
-use node_kit::{Out, Outbox};
-use rule_kit::Site;
+use node_kit::{Out, Outbox, Site};
 use tiger_base::{Instance, Msg, NoMemory, SlotNo, Stamp, Tag, Visit};
 
 /// Where a cub stands to a visit: at it on the visit's cub, at the next one on the next cub, and nowhere else.
@@ -35,7 +35,7 @@ pub(crate) fn pass_from<'a>(
     store: &mut Store<'a>,
     out: &mut Outbox<Msg<'a>>,
 ) -> Result<(), NoMemory>
-    requires reading { stamp.reading ≤ 1000000000000 }
+    requires reading { stamp.reading ≤ most_reading }
     requires near { IsNear site.now.plan.params place }
     ensures { OnOk result (Did (passing_from site.now.plan.params site.now.cub.0 stamp instance (Some place) store.old) out.old out.new store.new) }
 {
@@ -57,7 +57,7 @@ fn pass_on<'a>(
     store: &mut Store<'a>,
     out: &mut Outbox<Msg<'a>>,
 ) -> Result<(), NoMemory>
-    requires reading { stamp.reading ≤ 1000000000000 }
+    requires reading { stamp.reading ≤ most_reading }
     requires near { IsNear site.now.plan.params place }
     ensures { OnOk result (Did (passing_on site.now.plan.params site.now.cub.0 stamp instance place store.old) out.old out.new store.new) }
 {
@@ -74,7 +74,7 @@ fn pass_on<'a>(
 /// Whether the states of a visit may be on their way already.
 #[tactic(auto, unfolding(cub_rules::specs::Messages::is_reached))]
 fn is_reached(site: &Site, stamp: Stamp, slot: SlotNo, visit: Visit) -> bool
-    requires reading { stamp.reading ≤ 1000000000000 }
+    requires reading { stamp.reading ≤ most_reading }
     requires slot { slot.0 < site.now.plan.params.slots }
     requires visit { visit ≤ 4294967296 }
     ensures { result ≡ is_reached site.now.plan.params stamp slot visit }

@@ -9,7 +9,7 @@ ghost use Rattle.cub_messages.specs.Rules.{DidQuietly};
 
 use cub_rules::Store;
 use mirror_schedule::PieceView;
-use rule_kit::Site;
+use node_kit::Site;
 use tiger_base::{Instance, NoMemory, PieceState, Visit};
 
 /// A piece record is added, and is still to be asked for, unless its instance is held or it is for another cub.

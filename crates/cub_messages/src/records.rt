@@ -5,14 +5,13 @@ ghost use Rattle.slot_plan.specs.Keys.{IsKey};
 ghost use Rattle.partial_view.specs.Lines.{key_of, visit_of, is_of};
 ghost use Rattle.partial_view.specs.Views.{IsWalk, line_at, next_behind, without_instance};
 ghost use Rattle.partial_view.specs.Walks.{replaced};
-ghost use Rattle.rule_kit.specs.Deeds.{Did};
+ghost use Rattle.node_kit.specs.Deeds.{Did};
 ghost use Rattle.cub_rules.specs.Records.{took, dropped, dropping_lines, dropping_start, dropping_pieces};
 ghost use Rattle.cub_messages.specs.Rules.{DidQuietly, outs_if_of, left_if_of};
 
 use cub_rules::Store;
-use cub_view::CubView;
 use node_kit::{Out, Outbox, What};
-use partial_view::{Added, Line};
+use partial_view::{Added, CubView, Line};
 use tiger_base::{Instance, Msg, NoMemory, Rec, SlotNo, Visit};
 
 /// A record is taken, with Took; where the view has one at its slot and visit already, that one stays.

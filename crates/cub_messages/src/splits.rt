@@ -2,13 +2,12 @@
 ghost use Rattle.std.specs.Prelude.{◌≡◌, ◌++◌, filter, not, OnOk};
 ghost use Rattle.std.specs.List.{flat_map};
 ghost use Rattle.mirror_schedule.specs.Splits.{is_of};
-ghost use Rattle.rule_kit.specs.Deeds.{Did};
+ghost use Rattle.node_kit.specs.Deeds.{Did};
 ghost use Rattle.cub_rules.specs.Messages.{kills, killing_splits};
 
 use cub_rules::Store;
 use mirror_schedule::Splits;
-use node_kit::{Out, Outbox};
-use rule_kit::Site;
+use node_kit::{Out, Outbox, Site};
 use tiger_base::{Instance, Msg, NoMemory, SlotNo, Visit};
 
 /// The split visits of an instance are killed and forgotten.

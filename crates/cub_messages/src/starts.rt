@@ -1,13 +1,13 @@
 //! What a cub does with a start.
 ghost use Rattle.std.specs.Prelude.{◌≡◌, OnOk};
-ghost use Rattle.rule_kit.specs.Deeds.{Did};
+ghost use Rattle.node_kit.specs.Deeds.{Did};
 ghost use Rattle.cub_rules.specs.State.{is_ask};
 ghost use Rattle.cub_rules.specs.Messages.{queueing, queueing_redundant, meeting_start, shows};
 
 use cub_rules::Store;
 use node_kit::{Out, Outbox, What};
 use partial_view::View;
-use tiger_base::{Ask, Instance, Msg, NoMemory};
+use tiger_base::{Ask, Instance, MOST_BLOCKS, Msg, NoMemory};
 
 /// A start waits, and a redundant one waits apart while the predecessor is not believed dead. One of a held instance, or of
 /// one that the view shows, is discarded, and so is one of no block or of too many.
@@ -45,7 +45,7 @@ fn queue<'a>(ask: Ask, store: &mut Store<'a>, out: &mut Outbox<Msg<'a>>) -> Resu
 fn is_ask(ask: &Ask) -> bool
     ensures { result ≡ is_ask ask.now }
 {
-    1 <= ask.count && ask.count <= 16777216
+    1 <= ask.count && ask.count <= MOST_BLOCKS
 }
 
 /// Whether a view has a record of an instance.

@@ -1,8 +1,9 @@
 //! What a cub does with a viewer state.
 ghost use Rattle.std.specs.Prelude.{◌≡◌, ◌≤◌, IsTrue, OnOk};
+ghost use Rattle.tiger_base.specs.Limits.{most_reading};
 ghost use Rattle.node_kit.specs.Form.{is_tenancy};
 ghost use Rattle.viewer_state.specs.States.{is_visit_of};
-ghost use Rattle.rule_kit.specs.Deeds.{Did};
+ghost use Rattle.node_kit.specs.Deeds.{Did};
 ghost use Rattle.cub_rules.specs.State.{IsStoreOf};
 ghost use Rattle.cub_rules.specs.Messages.{told, meeting_state};
 ghost use Rattle.cub_messages.specs.Rules.{IsNear};
@@ -10,8 +11,7 @@ ghost use Rattle.cub_messages.specs.Rules.{IsNear};
 use crate::passing::{pass_from, position_at};
 use crate::records::{drop_start, take_record};
 use cub_rules::Store;
-use node_kit::Outbox;
-use rule_kit::Site;
+use node_kit::{Outbox, Site};
 use tiger_base::{Kind, Msg, NoMemory, Rec, SlotNo, Stamp, State, Tenancy, Visit};
 
 /// A state of a visit of its tenancy lets the visit's cub, and the next one, take their records; where its instance is held
@@ -24,7 +24,7 @@ pub fn take_state<'a>(
     store: &mut Store<'a>,
     out: &mut Outbox<Msg<'a>>,
 ) -> Result<(), NoMemory>
-    requires reading { stamp.reading ≤ 1000000000000 }
+    requires reading { stamp.reading ≤ most_reading }
     requires form { IsTrue (is_tenancy site.now.plan.params state.tenancy) }
     requires stored { IsStoreOf site.now.plan.params site.now.cub.0 store.old }
     ensures { OnOk result (Did (meeting_state site.now.plan.params site.now.cub.0 stamp state store.old) out.old out.new store.new) }

@@ -5,8 +5,7 @@ ghost use Rattle.cub_rules.specs.State.{IsPieceAt, IsRecordOf, IsStoreOf};
 
 use super::*;
 use cub_rules::Store;
-use node_kit::{Out, Outbox, What, in_form};
-use rule_kit::Site;
+use node_kit::{Out, Outbox, Site, What, in_form};
 use slot_plan::{Params, Plan};
 use std::alloc::Global;
 use std::process::Abort;

@@ -32,8 +32,8 @@ use Rattle.insert_queue.specs.Queues.{is_asked, with_waiting, with_redundant}
 use Rattle.deschedule.specs.Holds.{is_held, must_pass, with_hold, with_pass}
 use Rattle.mirror_schedule.specs.Pieces.{is_of_visit}
 use Rattle.mirror_schedule.specs.Splits as splits
-use Rattle.rule_kit.specs.Ways.{way_ahead}
-use Rattle.rule_kit.specs.Deeds.{nothing, then_do, each_in_turn}
+use Rattle.node_kit.specs.Ways.{way_ahead}
+use Rattle.node_kit.specs.Deeds.{nothing, then_do, each_in_turn}
 use Rattle.cub_rules.specs.declared.store.Store.{Store}
 use Rattle.cub_rules.specs.declared.store.StoredPart.{StoredPart}
 use Rattle.cub_rules.specs.State.{want_of, want_of_piece, visit_here, is_ask}

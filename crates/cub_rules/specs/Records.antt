@@ -16,7 +16,7 @@ use Rattle.partial_view.specs.Lines as lines
 use Rattle.partial_view.specs.Views.{Seen, line_at, with_record, without_instance}
 use Rattle.insert_queue.specs.Queues.{has_start, without_start}
 use Rattle.mirror_schedule.specs.Pieces as pieces
-use Rattle.rule_kit.specs.Deeds.{nothing}
+use Rattle.node_kit.specs.Deeds.{nothing}
 use Rattle.cub_rules.specs.declared.store.Store.{Store}
 use Rattle.cub_rules.specs.declared.store.StoredPart.{StoredPart}
 

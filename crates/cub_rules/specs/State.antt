@@ -7,6 +7,7 @@ use Rattle.tiger_base.specs.declared.tenancy.Kind.TheVariants.{Own, Backup}
 use Rattle.tiger_base.specs.declared.tenancy.PieceState.{PieceState}
 use Rattle.tiger_base.specs.declared.tenancy.Rec.{Rec}
 use Rattle.tiger_base.specs.declared.tenancy.Want.{Want}
+use Rattle.tiger_base.specs.Limits.{most_blocks}
 use Rattle.slot_plan.specs.declared.params.Params.{Params}
 use Rattle.slot_plan.specs.Conditions.{IsPlan}
 use Rattle.slot_plan.specs.Times.{cub_of}
@@ -45,7 +46,7 @@ want_of_piece x = record {
 
 -- a start has from 1 to as many blocks as the longest file has
 abbrev pub is_ask : Ask → Bool
-is_ask a = nat_le 1 a.count && nat_le a.count 16777216
+is_ask a = nat_le 1 a.count && nat_le a.count most_blocks
 
 abbrev pub IsAsk : Ask → Type 0
 IsAsk a = IsTrue (is_ask a)

@@ -31,8 +31,8 @@ use Rattle.deschedule.specs.Holds.{holds_at}
 use Rattle.deadman.specs.Silence.{is_silent}
 use Rattle.mirror_schedule.specs.Pieces.{pieces_of, leaving_of}
 use Rattle.mirror_schedule.specs.Splits.{Split, is_over, with_split}
-use Rattle.rule_kit.specs.Ways.{way_ahead, way_to_controller, way_to_viewers, way_to_disk}
-use Rattle.rule_kit.specs.Deeds.{nothing, then_do, each_in_turn}
+use Rattle.node_kit.specs.Ways.{way_ahead, way_to_controller, way_to_viewers, way_to_disk}
+use Rattle.node_kit.specs.Deeds.{nothing, then_do, each_in_turn}
 use Rattle.cub_rules.specs.declared.store.Store.{Store}
 use Rattle.cub_rules.specs.declared.store.StoredPart.{StoredPart}
 use Rattle.cub_rules.specs.State.{want_of, want_of_piece}

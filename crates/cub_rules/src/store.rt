@@ -1,9 +1,10 @@
 //! What a cub keeps.
 ghost use Rattle.std.specs.Prelude.{◌≡◌, ◌-◌, ◌≤◌};
+ghost use Rattle.tiger_base.specs.Limits.{most_reading};
 ghost use Rattle.cub_rules.specs.State.{opening_store};
 
 use crate::parts::StoredParts;
-use cub_view::CubView;
+use partial_view::CubView;
 use deadman::Watch;
 use deschedule::Held;
 use insert_queue::Starts;
@@ -45,7 +46,7 @@ pub struct Store<'a> {
 impl<'a> Store<'a> {
     /// Nothing yet; the predecessor was last heard at a reading.
     pub fn new(alloc: Global, plan: &Plan, heard: Micros) -> Store<'a>
-        requires { heard ≤ 1000000000000 }
+        requires { heard ≤ most_reading }
         ensures { result ≡ opening_store plan.now.params heard }
     {
         Store {

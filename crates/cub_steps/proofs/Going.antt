@@ -5,7 +5,7 @@ use Rattle.tiger_base.specs.declared.message.Msg.{Msg}
 use Rattle.slot_plan.specs.declared.params.Params.{Params}
 use Rattle.node_kit.specs.declared.outbox.Out.{Out}
 use Rattle.node_kit.specs.Steps.{Deed}
-use Rattle.rule_kit.specs.Deeds.{Did, nothing, then_do}
+use Rattle.node_kit.specs.Deeds.{Did, nothing, then_do}
 use Rattle.cub_rules.specs.Ticks.{disks_at}
 
 -- the outputs now and those of the rest are the outputs before and those of the whole, and the rest ends where the whole does

@@ -19,9 +19,9 @@ use Rattle.partial_view.specs.Lines.{visit_of}
 use Rattle.partial_view.specs.Views.{Seen, line_at, with_record}
 use Rattle.partial_view.specs.Adding.{answer_to, answer_at}
 use Rattle.partial_view.proofs.Order.{all_filter}
-use Rattle.cub_view.proofs.Pending.{known}
+use Rattle.partial_view.proofs.Pending.{known}
 use Rattle.insert_queue.specs.Queues.{Queues, without, without_start, oldest_for, IsOnce}
-use Rattle.rule_kit.specs.Deeds.{nothing, then_do}
+use Rattle.node_kit.specs.Deeds.{nothing, then_do}
 use Rattle.cub_rules.specs.declared.store.Store.{Store}
 use Rattle.cub_rules.specs.Records.{took}
 use Rattle.cub_rules.specs.State.{IsAsk}

@@ -10,7 +10,7 @@ use Rattle.slot_plan.specs.Keys.{Key}
 use Rattle.node_kit.specs.declared.outbox.Out.{Out}
 use Rattle.node_kit.specs.Steps.{Deed}
 use Rattle.insert_queue.specs.Queues.{Queues, without_start, oldest_for, IsOnce}
-use Rattle.rule_kit.specs.Deeds.{Did, each_in_turn}
+use Rattle.node_kit.specs.Deeds.{Did, each_in_turn}
 use Rattle.cub_rules.specs.declared.store.Store.{Store}
 use Rattle.cub_rules.specs.State.{IsAsk}
 use Rattle.cub_rules.specs.Ticks.{is_for, free_on, putting_on, tenancy_from, disks_at}

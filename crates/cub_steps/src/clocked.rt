@@ -1,14 +1,13 @@
 //! The steps that go by the clock alone: release, deadman, heartbeat.
 ghost use Rattle.std.specs.Prelude.{◌≡◌, ◌++◌, OnOk, map};
-ghost use Rattle.rule_kit.specs.Deeds.{Did};
+ghost use Rattle.node_kit.specs.Deeds.{Did};
 ghost use Rattle.cub_rules.specs.declared.store.Store.{Store};
 ghost use Rattle.cub_rules.specs.State.{IsStoreOf};
 ghost use Rattle.cub_rules.specs.Ticks.{releasing, believing, beating, queued};
 
 use crate::ring::predecessor;
 use cub_rules::Store;
-use node_kit::{Out, Outbox, What};
-use rule_kit::Site;
+use node_kit::{Out, Outbox, Site, What};
 use tiger_base::{Ask, Msg, NoMemory, Stamp};
 
 /// Release: what is held long enough is released, and split visits and stored parts whose play time is over are

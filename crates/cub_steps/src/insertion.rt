@@ -1,7 +1,8 @@
 //! Insertion: starts that wait are put into free visits.
 ghost use Rattle.std.specs.Prelude.{◌≡◌, ◌≤◌, ◌<◌, [], ◌∷◌, ◌++◌, OnOk, IfSome};
 ghost use Rattle.std.specs.List.{AllByRecursion};
-ghost use Rattle.rule_kit.specs.Deeds.{Did, each_in_turn};
+ghost use Rattle.tiger_base.specs.Limits.{most_reading};
+ghost use Rattle.node_kit.specs.Deeds.{Did, each_in_turn};
 ghost use Rattle.partial_view.specs.Lines.{visit_of};
 ghost use Rattle.slot_plan.specs.Keys.{IsKey};
 ghost use Rattle.cub_rules.specs.State.{IsStoreOf, IsAsk};
@@ -11,9 +12,8 @@ ghost use Rattle.cub_steps.specs.Placing.{putting_by};
 
 use crate::ring::predecessor;
 use cub_rules::Store;
-use node_kit::{Out, Outbox, What};
+use node_kit::{Out, Outbox, Site, What};
 use partial_view::Added;
-use rule_kit::Site;
 use slot_owner::free_visit;
 use tiger_base::{
     Ask, CubNo, DiskNo, Kind, Micros, Msg, NoMemory, Rec, SlotNo, Stamp, State, Tenancy, Visit,
@@ -29,7 +29,7 @@ pub fn insert<'a>(
     store: &mut Store<'a>,
     out: &mut Outbox<Msg<'a>>,
 ) -> Result<(), NoMemory>
-    requires reading { stamp.reading ≤ 1000000000000 }
+    requires reading { stamp.reading ≤ most_reading }
     requires stored { IsStoreOf site.now.plan.params site.now.cub.0 store.old }
     ensures { OnOk result (Did (inserting site.now.plan.params site.now.cub.0 stamp store.old) out.old out.new store.new) }
 {
@@ -56,7 +56,7 @@ fn put_at<'a>(
     store: &mut Store<'a>,
     out: &mut Outbox<Msg<'a>>,
 ) -> Result<(), NoMemory>
-    requires reading { reading ≤ 1000000000000 }
+    requires reading { reading ≤ most_reading }
     requires cub { cub.0 < site.now.plan.params.cubs }
     requires plan { store.old.view.params ≡ site.now.plan.params }
     requires asks { AllByRecursion IsAsk store.old.starts.waiting }
@@ -81,7 +81,7 @@ fn put_on<'a>(
     store: &mut Store<'a>,
     out: &mut Outbox<Msg<'a>>,
 ) -> Result<(), NoMemory>
-    requires reading { reading ≤ 1000000000000 }
+    requires reading { reading ≤ most_reading }
     requires plan { store.old.view.params ≡ site.now.plan.params }
     requires asks { AllByRecursion IsAsk store.old.starts.waiting }
     ensures did { OnOk result (Did (putting_on (putting_by kind site.now.plan.params site.now.cub.0) site.now.plan.params reading disk.0 store.old) out.old out.new store.new) }
@@ -108,7 +108,7 @@ fn free_on<'a>(
     disk: DiskNo,
     store: &Store<'a>,
 ) -> Option<(SlotNo, Visit)>
-    requires reading { reading ≤ 1000000000000 }
+    requires reading { reading ≤ most_reading }
     requires plan { store.now.view.params ≡ site.now.plan.params }
     ensures free { result ≡ free_on site.now.plan.params reading disk.0 store.now }
     ensures slot { IfSome result (λ k. k.0.0 < site.now.plan.params.slots) }

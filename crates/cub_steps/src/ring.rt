@@ -2,7 +2,7 @@
 ghost use Rattle.std.specs.Prelude.{◌≡◌, ◌<◌};
 ghost use Rattle.cub_rules.specs.Records.{predecessor};
 
-use rule_kit::Site;
+use node_kit::Site;
 use tiger_base::CubNo;
 
 /// The cub before this one.

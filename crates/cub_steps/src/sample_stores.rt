@@ -1,10 +1,10 @@
 //! What a cub of a small plan keeps, for the tests.
 ghost use Rattle.std.specs.Prelude.{◌≡◌, ◌≤◌, ◌<◌, OnOk, IfOk};
+ghost use Rattle.tiger_base.specs.Limits.{most_blocks, most_reading};
 ghost use Rattle.cub_rules.specs.State.{IsStoreOf};
 
 use cub_rules::{Store, StoredPart};
-use node_kit::{Out, Outbox, What};
-use rule_kit::Site;
+use node_kit::{Out, Outbox, Site, What};
 use slot_plan::{Params, Plan};
 use std::alloc::Global;
 use tiger_base::{
@@ -50,7 +50,7 @@ pub fn site(cub: u32) -> Site
 /// The tick of a beat, where the clock is right.
 pub fn tick(beat: u64) -> Stamp
     requires { beat ≤ 1000 }
-    ensures { result.reading ≤ 1000000000000 }
+    ensures { result.reading ≤ most_reading }
 {
     Stamp {
         beat,
@@ -96,7 +96,7 @@ pub fn empty<'a>(alloc: Global, site: &Site) -> Store<'a>
 pub fn wait<'a>(site: &Site, store: &mut Store<'a>, ask: Ask) -> Result<(), NoMemory>
     requires stored { IsStoreOf site.now.plan.params site.now.cub.0 store.old }
     requires low { 1 ≤ ask.count }
-    requires high { ask.count ≤ 16777216 }
+    requires high { ask.count ≤ most_blocks }
     ensures { OnOk result (IsStoreOf site.now.plan.params site.now.cub.0 store.new) }
 {
     store.starts.ask(ask)?;

@@ -4,8 +4,7 @@ ghost use Rattle.std.specs.Prelude.{◌≤◌};
 use crate::sample_stores::{busy, empty, occupied, site, start, tenancy, tick, wait, written};
 use crate::{beat, insert, release, watch};
 use cub_rules::Store;
-use node_kit::{Outbox, What};
-use rule_kit::Site;
+use node_kit::{Outbox, Site, What};
 use std::alloc::Global;
 use std::test::Fail;
 use tiger_base::{

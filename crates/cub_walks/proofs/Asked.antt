@@ -18,7 +18,7 @@ use Rattle.partial_view.specs.Views.{Seen}
 use Rattle.partial_view.specs.Walks.{KeepsVisits}
 use Rattle.state_forward.specs.Forwards.{is_own}
 use Rattle.mirror_schedule.specs.Pieces.{Pieces}
-use Rattle.rule_kit.specs.Deeds.{Did}
+use Rattle.node_kit.specs.Deeds.{Did}
 use Rattle.cub_rules.specs.declared.store.Store.{Store}
 use Rattle.cub_rules.specs.Records.{pieces_but}
 use Rattle.cub_rules.specs.Ticks.{must_read, ask_line, ask_outs, reading, reading_blocks, reading_pieces, asked_of_disk, leaves_by}

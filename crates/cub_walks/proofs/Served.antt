@@ -15,7 +15,7 @@ use Rattle.partial_view.proofs.Calls.{record_of}
 use Rattle.partial_view.proofs.Walks.{flat_map-filter}
 use Rattle.state_forward.specs.Forwards.{is_own}
 use Rattle.mirror_schedule.specs.Pieces.{Pieces}
-use Rattle.rule_kit.specs.Deeds.{Did}
+use Rattle.node_kit.specs.Deeds.{Did}
 use Rattle.cub_rules.specs.declared.store.Store.{Store}
 use Rattle.cub_rules.specs.declared.store.StoredPart.{StoredPart}
 use Rattle.cub_rules.specs.Records.{pieces_but, dropped}

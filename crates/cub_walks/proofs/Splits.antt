@@ -23,7 +23,7 @@ use Rattle.mirror_schedule.specs.Splits.{Split, with_split}
 use Rattle.mirror_schedule.proofs.Orders.{with_one-there}
 use Rattle.mirror_schedule.proofs.PieceLists.{is_in-new}
 use Rattle.node_kit.specs.Steps.{Deed}
-use Rattle.rule_kit.specs.Deeds.{Did, nothing}
+use Rattle.node_kit.specs.Deeds.{Did, nothing}
 use Rattle.cub_rules.specs.declared.store.Store.{Store}
 use Rattle.cub_rules.specs.Records.{with_piece_record, pieces_with}
 use Rattle.cub_rules.specs.Ticks.{must_split, split_line, split_outs, split_visits, first_pieces, with_each, sent_ahead, splitting}

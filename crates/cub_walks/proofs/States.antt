@@ -7,7 +7,7 @@ use Rattle.tiger_base.specs.declared.message.Msg.{Msg}
 use Rattle.node_kit.specs.declared.outbox.Out.{Out}
 use Rattle.partial_view.specs.Views.{Seen}
 use Rattle.partial_view.proofs.Calls.{record_of}
-use Rattle.rule_kit.specs.Deeds.{Did}
+use Rattle.node_kit.specs.Deeds.{Did}
 use Rattle.cub_rules.specs.declared.store.Store.{Store}
 use Rattle.std.proofs.lemmas.List.{append-nil}
 use Rattle.slot_plan.specs.declared.params.Params.{Params}
@@ -17,7 +17,7 @@ use Rattle.partial_view.specs.declared.line.Flag.TheVariants.{Forwarded}
 use Rattle.partial_view.specs.Lines.{key_of, marked}
 use Rattle.partial_view.specs.Walks.{KeepsVisits}
 use Rattle.state_forward.specs.Forwards.{is_own, is_batch_beat, is_next_due, must_forward}
-use Rattle.cub_view.specs.Pending.{is_pending, next_due, IsForwardedTo}
+use Rattle.partial_view.specs.Pending.{is_pending, next_due, IsForwardedTo}
 use Rattle.cub_rules.specs.Ticks.{is_to_forward, forward_line, forward_outs, forwarding}
 use Rattle.cub_walks.specs.Limits.{forward_limit}
 

@@ -17,8 +17,8 @@ use Rattle.partial_view.proofs.Calls.{record_of}
 use Rattle.partial_view.proofs.Order.{all_implies}
 use Rattle.state_forward.specs.Forwards.{is_own}
 use Rattle.mirror_schedule.specs.Splits.{Split, with_split}
-use Rattle.rule_kit.specs.Deeds.{Did}
-use Rattle.cub_view.specs.Pending.{is_unsplit, IsSplitFrom}
+use Rattle.node_kit.specs.Deeds.{Did}
+use Rattle.partial_view.specs.Pending.{is_unsplit, IsSplitFrom}
 use Rattle.cub_rules.specs.declared.store.Store.{Store}
 use Rattle.cub_rules.specs.Records.{with_piece_record}
 use Rattle.cub_rules.specs.Ticks.{must_split, split_line, split_outs, split_visits, first_pieces, with_each, splitting}

@@ -7,7 +7,7 @@ use Rattle.tiger_base.specs.declared.message.Msg.{Msg}
 use Rattle.tiger_base.specs.declared.message.Msg.TheVariants as msg
 use Rattle.node_kit.specs.declared.outbox.Out.{Out}
 use Rattle.node_kit.specs.declared.outbox.Out.TheVariants as out
-use Rattle.rule_kit.specs.Ways.{way_ahead, way_to_disk}
+use Rattle.node_kit.specs.Ways.{way_ahead, way_to_disk}
 use Rattle.slot_plan.specs.declared.params.Params.{Params}
 use Rattle.state_forward.specs.Forwards.{is_batch_beat}
 

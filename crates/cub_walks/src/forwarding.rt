@@ -1,21 +1,20 @@
 //! Forwarding: the states of visits that are soon due go to the next two cubs, once.
 ghost use Rattle.std.specs.Prelude.{◌≡◌, ◌^◌, ◌<◌, ◌≤◌, ◌++◌, ◌∷◌, [], OnOk, Some, map};
 ghost use Rattle.std.specs.List.{AllByRecursion, flat_map};
+ghost use Rattle.tiger_base.specs.Limits.{most_reading};
 ghost use Rattle.slot_plan.specs.Keys.{IsKey};
 ghost use Rattle.partial_view.specs.Lines.{key_of};
 ghost use Rattle.partial_view.specs.Views.{IsWalk, line_at};
 ghost use Rattle.partial_view.specs.Walks.{replaced};
-ghost use Rattle.rule_kit.specs.Deeds.{Did};
+ghost use Rattle.node_kit.specs.Deeds.{Did};
 ghost use Rattle.cub_rules.specs.State.{IsStoreOf, IsLineOf};
 ghost use Rattle.cub_rules.specs.Ticks.{forwarding, forward_line, forward_outs, is_to_forward};
 ghost use Rattle.cub_walks.specs.Limits.{forward_limit, sent_on};
 
 use crate::walking::{after, after_near};
 use cub_rules::Store;
-use cub_view::CubView;
-use node_kit::{Out, Outbox};
-use partial_view::{Flag, Line};
-use rule_kit::Site;
+use node_kit::{Out, Outbox, Site};
+use partial_view::{CubView, Flag, Line};
 use slot_plan::Plan;
 use state_forward::must_forward;
 use tiger_base::{Micros, Msg, NoMemory, Stamp, State};
@@ -28,7 +27,7 @@ pub fn forward<'a>(
     store: &mut Store<'a>,
     out: &mut Outbox<Msg<'a>>,
 ) -> Result<(), NoMemory>
-    requires reading { stamp.reading ≤ 1000000000000 }
+    requires reading { stamp.reading ≤ most_reading }
     requires stored { IsStoreOf site.now.plan.params site.now.cub.0 store.old }
     ensures { OnOk result (Did (forwarding site.now.plan.params site.now.cub.0 stamp store.old) out.old out.new store.new) }
 {
@@ -44,7 +43,7 @@ pub fn forward<'a>(
 /// The time up to which states are forwarded in a beat.
 #[tactic(auto, unfolding(crate::specs::Limits::forward_limit))]
 fn forward_limit(plan: &Plan, stamp: Stamp) -> Micros
-    requires { stamp.reading ≤ 1000000000000 }
+    requires { stamp.reading ≤ most_reading }
     ensures { result ≡ forward_limit plan.now.params stamp }
 {
     let params = plan.params();
@@ -62,7 +61,7 @@ fn forward_lines<'a>(
     view: &mut CubView,
     out: &mut Outbox<Msg<'a>>,
 ) -> Result<(), NoMemory>
-    requires reading { stamp.reading ≤ 1000000000000 }
+    requires reading { stamp.reading ≤ most_reading }
     requires plan { view.old.params ≡ site.now.plan.params }
     requires lines { AllByRecursion (IsLineOf site.now.plan.params site.now.cub.0) view.old.lines }
     ensures view { OnOk result (view.new ≡ record view.old { lines = map (forward_line site.now.plan.params stamp) view.old.lines }) }
@@ -86,7 +85,7 @@ fn forward_line<'a>(
     line: Line,
     out: &mut Outbox<Msg<'a>>,
 ) -> Result<(), NoMemory>
-    requires reading { stamp.reading ≤ 1000000000000 }
+    requires reading { stamp.reading ≤ most_reading }
     requires line { IsLineOf site.now.plan.params site.now.cub.0 line }
     requires key { IsKey view.old.params (key_of line) }
     requires there { line_at (key_of line) view.old.lines ≡ Some line }
@@ -108,7 +107,7 @@ fn forward_line<'a>(
 /// Whether a line's next state goes out.
 #[tactic(auto, unfolding(cub_rules::specs::Ticks::is_to_forward))]
 fn is_to_forward(plan: &Plan, stamp: Stamp, line: &Line) -> bool
-    requires reading { stamp.reading ≤ 1000000000000 }
+    requires reading { stamp.reading ≤ most_reading }
     requires slot { line.now.rec.tenancy.slot.0 < plan.now.params.slots }
     requires visit { line.now.rec.visit < 2 ^ 32 }
     ensures { result ≡ is_to_forward plan.now.params stamp line.now }

@@ -1,12 +1,13 @@
 //! Reading: the disks are asked for the blocks and pieces that leave soon, once.
 ghost use Rattle.std.specs.Prelude.{◌≡◌, ◌+◌, ◌*◌, ◌<◌, ◌≤◌, ◌++◌, ◌∷◌, [], OnOk, Some, map, filter};
 ghost use Rattle.std.specs.List.{AllByRecursion, flat_map};
+ghost use Rattle.tiger_base.specs.Limits.{most_reading};
 ghost use Rattle.slot_plan.specs.Keys.{IsKey};
 ghost use Rattle.partial_view.specs.Lines.{key_of};
 ghost use Rattle.partial_view.specs.Views.{IsWalk, line_at};
 ghost use Rattle.partial_view.specs.Walks.{replaced};
 ghost use Rattle.state_forward.specs.Forwards.{is_own};
-ghost use Rattle.rule_kit.specs.Deeds.{Did};
+ghost use Rattle.node_kit.specs.Deeds.{Did};
 ghost use Rattle.cub_rules.specs.State.{IsStoreOf, IsLineOf, IsPieceAt, want_of, want_of_piece};
 ghost use Rattle.cub_rules.specs.Records.{pieces_but};
 ghost use Rattle.cub_rules.specs.Ticks.{reading, must_read, ask_line, ask_outs, asked_of_disk, leaves_by};
@@ -15,12 +16,10 @@ ghost use Rattle.cub_walks.specs.Limits.{asks};
 use crate::leaving::take_leaving;
 use crate::walking::{after_by, after_near_by};
 use cub_rules::Store;
-use cub_view::CubView;
 use mirror_pieces::piece_disk;
 use mirror_schedule::PieceView;
-use node_kit::{Out, Outbox};
-use partial_view::{Flag, Line};
-use rule_kit::Site;
+use node_kit::{Out, Outbox, Site};
+use partial_view::{CubView, Flag, Line};
 use slot_plan::Plan;
 use tiger_base::{DiskNo, Kind, Msg, NoMemory, PieceState, Rec, Stamp, Want};
 
@@ -32,7 +31,7 @@ pub fn read<'a>(
     store: &mut Store<'a>,
     out: &mut Outbox<Msg<'a>>,
 ) -> Result<(), NoMemory>
-    requires reading { stamp.reading ≤ 1000000000000 }
+    requires reading { stamp.reading ≤ most_reading }
     requires stored { IsStoreOf site.now.plan.params site.now.cub.0 store.old }
     ensures { OnOk result (Did (reading site.now.plan.params stamp store.old) out.old out.new store.new) }
 {
@@ -48,7 +47,7 @@ fn read_blocks<'a>(
     view: &mut CubView,
     out: &mut Outbox<Msg<'a>>,
 ) -> Result<(), NoMemory>
-    requires reading { stamp.reading ≤ 1000000000000 }
+    requires reading { stamp.reading ≤ most_reading }
     requires plan { view.old.params ≡ site.now.plan.params }
     requires lines { AllByRecursion (IsLineOf site.now.plan.params site.now.cub.0) view.old.lines }
     ensures view { OnOk result (view.new ≡ record view.old { lines = map (ask_line site.now.plan.params stamp) view.old.lines }) }
@@ -73,7 +72,7 @@ fn read_block<'a>(
     line: Line,
     out: &mut Outbox<Msg<'a>>,
 ) -> Result<(), NoMemory>
-    requires reading { stamp.reading ≤ 1000000000000 }
+    requires reading { stamp.reading ≤ most_reading }
     requires line { IsLineOf site.now.plan.params site.now.cub.0 line }
     requires key { IsKey view.old.params (key_of line) }
     requires there { line_at (key_of line) view.old.lines ≡ Some line }
@@ -92,7 +91,7 @@ fn read_block<'a>(
 /// Whether a line's block is asked for.
 #[tactic(auto, unfolding(cub_rules::specs::Ticks::must_read))]
 fn must_read(plan: &Plan, stamp: Stamp, line: &Line) -> bool
-    requires reading { stamp.reading ≤ 1000000000000 }
+    requires reading { stamp.reading ≤ most_reading }
     requires key { IsKey plan.now.params (key_of line.now) }
     ensures { result ≡ must_read plan.now.params stamp line.now }
 {
@@ -131,7 +130,7 @@ fn read_pieces<'a>(
     unasked: &mut PieceView,
     out: &mut Outbox<Msg<'a>>,
 ) -> Result<(), NoMemory>
-    requires reading { stamp.reading ≤ 1000000000000 }
+    requires reading { stamp.reading ≤ most_reading }
     requires plan { unasked.old.params ≡ site.now.plan.params }
     requires pieces { AllByRecursion (IsPieceAt site.now.plan.params site.now.cub.0) unasked.old.items }
     ensures pieces { OnOk result (unasked.new ≡ pieces_but (leaves_by site.now.plan.params (stamp.reading + site.now.plan.params.read_lead)) unasked.old) }

@@ -1,11 +1,12 @@
 //! Serving: blocks and pieces go to the viewers when they are due, and their records are dropped.
 ghost use Rattle.std.specs.Prelude.{◌≡◌, ◌≤◌, ◌++◌, ◌∷◌, [], OnOk, Some, map, filter, not};
 ghost use Rattle.std.specs.List.{AllByRecursion, flat_map};
+ghost use Rattle.tiger_base.specs.Limits.{most_reading};
 ghost use Rattle.slot_plan.specs.Keys.{IsKey};
 ghost use Rattle.partial_view.specs.Lines.{key_of};
 ghost use Rattle.partial_view.specs.Views.{IsWalk, line_at};
 ghost use Rattle.partial_view.specs.Walks.{replaced};
-ghost use Rattle.rule_kit.specs.Deeds.{Did};
+ghost use Rattle.node_kit.specs.Deeds.{Did};
 ghost use Rattle.cub_rules.specs.State.{IsStoreOf, IsLineOf, IsPieceAt, want_of};
 ghost use Rattle.cub_rules.specs.Records.{pieces_but, stored_for, dropped};
 ghost use Rattle.cub_rules.specs.Ticks.{serving, is_served, is_past, serve_outs, sent_whole, piece_outs, leaves_by};
@@ -15,11 +16,9 @@ use crate::leaving::{drop_leaving, take_leaving};
 use crate::reading::{is_own, want_of, want_of_piece};
 use crate::walking::after_by;
 use cub_rules::{Store, StoredParts};
-use cub_view::CubView;
 use mirror_schedule::PieceView;
-use node_kit::{Out, Outbox, What};
-use partial_view::Line;
-use rule_kit::Site;
+use node_kit::{Out, Outbox, Site, What};
+use partial_view::{CubView, Line};
 use slot_plan::Plan;
 use tiger_base::{Msg, NoMemory, PieceState, Stamp, Want};
 
@@ -32,7 +31,7 @@ pub fn serve<'a>(
     store: &mut Store<'a>,
     out: &mut Outbox<Msg<'a>>,
 ) -> Result<(), NoMemory>
-    requires reading { stamp.reading ≤ 1000000000000 }
+    requires reading { stamp.reading ≤ most_reading }
     requires stored { IsStoreOf site.now.plan.params site.now.cub.0 store.old }
     ensures { OnOk result (Did (serving site.now.plan.params site.now.cub.0 stamp store.old) out.old out.new store.new) }
 {
@@ -51,7 +50,7 @@ fn serve_blocks<'a>(
     parts: &StoredParts<'a>,
     out: &mut Outbox<Msg<'a>>,
 ) -> Result<(), NoMemory>
-    requires reading { stamp.reading ≤ 1000000000000 }
+    requires reading { stamp.reading ≤ most_reading }
     requires plan { view.old.params ≡ site.now.plan.params }
     requires lines { AllByRecursion (IsLineOf site.now.plan.params site.now.cub.0) view.old.lines }
     ensures view { OnOk result (view.new ≡ record view.old { lines = filter (λ x. not (is_served site.now.plan.params stamp x)) view.old.lines }) }
@@ -123,7 +122,7 @@ fn drop_backups<'a>(
     view: &mut CubView,
     out: &mut Outbox<Msg<'a>>,
 ) -> Result<(), NoMemory>
-    requires reading { stamp.reading ≤ 1000000000000 }
+    requires reading { stamp.reading ≤ most_reading }
     requires plan { view.old.params ≡ site.now.plan.params }
     ensures view { OnOk result (view.new ≡ record view.old { lines = filter (λ x. not (is_past site.now.plan.params stamp x)) view.old.lines }) }
     ensures outs { OnOk result (out.new ≡ out.old ++ map dropped (filter (is_past site.now.plan.params stamp) view.old.lines)) }

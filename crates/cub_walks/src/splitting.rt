@@ -1,12 +1,13 @@
 //! Splitting: the visits of a dead predecessor are split into mirror pieces.
 ghost use Rattle.std.specs.Prelude.{◌≡◌, ◌^◌, ◌≤◌, ◌++◌, ◌∷◌, [], OnOk, Some, map};
 ghost use Rattle.std.specs.List.{flat_map};
+ghost use Rattle.tiger_base.specs.Limits.{most_reading};
 ghost use Rattle.slot_plan.specs.Keys.{IsKey};
 ghost use Rattle.partial_view.specs.Lines.{key_of};
 ghost use Rattle.partial_view.specs.Views.{IsWalk, line_at};
 ghost use Rattle.partial_view.specs.Walks.{replaced};
 ghost use Rattle.mirror_schedule.specs.Pieces.{IsPieceOf, IsPieces};
-ghost use Rattle.rule_kit.specs.Deeds.{Did};
+ghost use Rattle.node_kit.specs.Deeds.{Did};
 ghost use Rattle.cub_rules.specs.State.{IsStoreOf, IsLineOf};
 ghost use Rattle.cub_rules.specs.Ticks.{splitting, must_split, split_line, split_outs, sent_ahead};
 ghost use Rattle.cub_walks.specs.Limits.{split_limit};
@@ -16,9 +17,8 @@ use crate::reading::is_own;
 use crate::walking::{after, after_near};
 use cub_rules::Store;
 use mirror_schedule::PieceView;
-use node_kit::{Out, Outbox};
+use node_kit::{Out, Outbox, Site};
 use partial_view::{Flag, Line};
-use rule_kit::Site;
 use slot_plan::Plan;
 use tiger_base::{Micros, Msg, NoMemory, PieceState, Rec, Stamp};
 
@@ -31,7 +31,7 @@ pub fn split<'a>(
     store: &mut Store<'a>,
     out: &mut Outbox<Msg<'a>>,
 ) -> Result<(), NoMemory>
-    requires reading { stamp.reading ≤ 1000000000000 }
+    requires reading { stamp.reading ≤ most_reading }
     requires stored { IsStoreOf site.now.plan.params site.now.cub.0 store.old }
     ensures { OnOk result (Did (splitting site.now.plan.params site.now.cub.0 stamp store.old) out.old out.new store.new) }
 {
@@ -50,7 +50,7 @@ pub fn split<'a>(
 /// The time from which on visits are split in a beat; those that are due earlier are due too early.
 #[tactic(auto, unfolding(crate::specs::Limits::split_limit))]
 fn split_limit(plan: &Plan, stamp: Stamp) -> Micros
-    requires { stamp.reading ≤ 1000000000000 }
+    requires { stamp.reading ≤ most_reading }
     ensures { result ≡ split_limit plan.now.params stamp }
 {
     let params = plan.params();
@@ -65,7 +65,7 @@ fn split_lines<'a>(
     store: &mut Store<'a>,
     out: &mut Outbox<Msg<'a>>,
 ) -> Result<(), NoMemory>
-    requires reading { stamp.reading ≤ 1000000000000 }
+    requires reading { stamp.reading ≤ most_reading }
     requires stored { IsStoreOf site.now.plan.params site.now.cub.0 store.old }
     ensures store { OnOk result (store.new ≡ with_split_of site.now.plan.params stamp store.old.view.lines (record store.old.view { lines = map (split_line site.now.plan.params stamp) store.old.view.lines }) store.old) }
     ensures outs { OnOk result (out.new ≡ out.old ++ flat_map (split_outs site.now.plan.params site.now.cub.0 stamp) store.old.view.lines) }
@@ -88,7 +88,7 @@ fn split_line<'a>(
     line: Line,
     out: &mut Outbox<Msg<'a>>,
 ) -> Result<(), NoMemory>
-    requires reading { stamp.reading ≤ 1000000000000 }
+    requires reading { stamp.reading ≤ most_reading }
     requires pieces { store.old.pieces.params ≡ site.now.plan.params }
     requires unasked { store.old.unasked.params ≡ site.now.plan.params }
     requires line { IsLineOf site.now.plan.params site.now.cub.0 line }
@@ -118,7 +118,7 @@ fn split_line<'a>(
 /// Whether the visit of a line is split.
 #[tactic(auto, unfolding(cub_rules::specs::Ticks::must_split, crate::specs::Limits::split_limit))]
 fn must_split(plan: &Plan, stamp: Stamp, line: &Line) -> bool
-    requires reading { stamp.reading ≤ 1000000000000 }
+    requires reading { stamp.reading ≤ most_reading }
     requires key { IsKey plan.now.params (key_of line.now) }
     ensures { result ≡ must_split plan.now.params stamp line.now }
 {

@@ -1,21 +1,21 @@
 //! Cub 3 of a small plan around the times of its records, beside times and links that were worked out by hand.
 ghost use Rattle.std.specs.Prelude.{◌≡◌, ◌≤◌, IfOk, OnOk, true};
+ghost use Rattle.tiger_base.specs.Limits.{most_reading};
 ghost use Rattle.slot_plan.specs.Conditions.{IsInRange};
 ghost use Rattle.mirror_schedule.specs.Pieces.{IsPieceOf};
 ghost use Rattle.cub_rules.specs.State.{IsStoreOf, IsRecordOf, IsPieceAt};
 
 use crate::{forward, read, serve, split};
 use cub_rules::{Store, StoredPart};
-use node_kit::{Out, Outbox, What};
+use node_kit::{Out, Outbox, Site, What};
 use partial_view::Added;
-use rule_kit::Site;
 use slot_plan::{Params, Plan};
 use std::alloc::Global;
 use std::process::Abort;
 use std::test::Fail;
 use tiger_base::{
-    CubNo, FileNo, Instance, Kind, Library, LinkNo, Message, Msg, NoMemory, Note, Part, PieceState,
-    Rec, SlotNo, Span, Stamp, State, Tenancy, Want,
+    CubNo, FileNo, Instance, Kind, Library, LinkNo, MOST_VISIT, Message, Msg, NoMemory, Note, Part,
+    PieceState, Rec, SlotNo, Span, Stamp, State, Tenancy, Want,
 };
 
 const SMALL: Params = Params {
@@ -109,7 +109,7 @@ fn is_record(site: &Site, rec: Rec) -> bool
 {
     let t = &rec.tenancy;
     let params = &site.plan.params;
-    if u64::from(t.slot.0) >= params.slots || t.last > 2147483648 || rec.visit > t.last {
+    if u64::from(t.slot.0) >= params.slots || t.last > MOST_VISIT || rec.visit > t.last {
         return false;
     }
     let here = match rec.kind {
@@ -146,7 +146,7 @@ fn is_piece(site: &Site, x: PieceState) -> bool
     let t = &x.tenancy;
     let params = &site.plan.params;
     u64::from(t.slot.0) < params.slots
-        && (t.first <= x.visit && x.visit <= t.last && t.last <= 2147483648)
+        && (t.first <= x.visit && x.visit <= t.last && t.last <= MOST_VISIT)
         && (1 <= x.piece && u64::from(x.piece) <= params.pieces)
         && (x.visit + u64::from(x.piece)) % params.cubs == u64::from(site.cub.0)
 }
@@ -181,7 +181,7 @@ fn take_part<'a>(
     requires { IsStoreOf site.now.plan.params site.now.cub.0 store.old }
     ensures { OnOk result (IsStoreOf site.now.plan.params site.now.cub.0 store.new) }
 {
-    if u64::from(want.slot.0) < site.plan.params.slots && want.visit <= 2147483648 {
+    if u64::from(want.slot.0) < site.plan.params.slots && want.visit <= MOST_VISIT {
         store.parts.push(&site.plan, StoredPart { want, part })?;
         Ok(())
     } else {
@@ -215,7 +215,7 @@ fn all<'a>(alloc: Global, out: &mut Outbox<Msg<'a>>) -> Result<Vec<What>, NoMemo
 
 /// What goes out for a record at a beat and a reading.
 fn forwarded(rt: &impl Abort, alloc: Global, rec: Rec, stamp: Stamp) -> Result<Vec<What>, NoMemory>
-    requires { stamp.reading ≤ 1000000000000 }
+    requires { stamp.reading ≤ most_reading }
 {
     let site = site_of(rt, SMALL);
     let mut out = Outbox::new(alloc);
@@ -247,7 +247,7 @@ fn state_goes_to_the_next_two_cubs(rt: HostRuntime) -> Result<(), Fail> {
 
 /// What goes out to the disks at a reading.
 fn asked(rt: &impl Abort, alloc: Global, reading: u64) -> Result<Vec<What>, NoMemory>
-    requires { reading ≤ 1000000000000 }
+    requires { reading ≤ most_reading }
 {
     let site = site_of(rt, SMALL);
     let mut out = Outbox::new(alloc);
@@ -276,7 +276,7 @@ fn served(
     library: &Library,
     reading: u64,
 ) -> Result<Vec<What>, NoMemory>
-    requires { reading ≤ 1000000000000 }
+    requires { reading ≤ most_reading }
 {
     let site = site_of(rt, SMALL);
     let mut out = Outbox::new(alloc);
@@ -351,7 +351,7 @@ fn mirrored(
     believes: bool,
     reading: u64,
 ) -> Result<(Vec<What>, Option<PieceState>, Option<(SlotNo, u64)>, bool), NoMemory>
-    requires { reading ≤ 1000000000000 }
+    requires { reading ≤ most_reading }
 {
     let site = site_of(rt, SMALL);
     let mut out = Outbox::new(alloc);

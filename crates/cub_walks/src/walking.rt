@@ -6,8 +6,7 @@ ghost use Rattle.partial_view.specs.Lines.{key_of};
 ghost use Rattle.partial_view.specs.Views.{IsWalk, next_behind};
 ghost use Rattle.cub_walks.specs.Stopping.{due_by};
 
-use cub_view::CubView;
-use partial_view::Line;
+use partial_view::{CubView, Line};
 use slot_plan::Plan;
 use tiger_base::{Micros, SlotNo, Visit};
 

@@ -9,9 +9,9 @@ use Rattle.slot_plan.specs.declared.params.Params.{Params}
 use Rattle.node_kit.specs.Form.{is_in_form}
 use Rattle.node_kit.specs.Steps.{IsAllowed}
 use Rattle.node_kit.specs.Steps.Input.{Take, Tick}
-use Rattle.rule_kit.proofs.Places.{KeepsPlace, IsRightAt, nothing_right, chosen_right}
-use Rattle.rule_kit.proofs.Ways.{from_disk_leads}
-use Rattle.rule_kit.specs.Deeds.{nothing}
+use Rattle.node_kit.proofs.Places.{KeepsPlace, IsRightAt, nothing_right, chosen_right}
+use Rattle.node_kit.proofs.Ways.{from_disk_leads}
+use Rattle.node_kit.specs.Deeds.{nothing}
 use Rattle.disk_core.specs.State.{DiskState, IsDisk}
 use Rattle.disk_core.specs.Rules.{answers, asked, disk_step}
 

@@ -13,8 +13,8 @@ use Rattle.node_kit.specs.declared.outbox.Out.TheVariants as out
 use Rattle.node_kit.specs.Form.{is_in_form}
 use Rattle.node_kit.specs.Steps.{Deed, Input}
 use Rattle.node_kit.specs.Steps.Input.{Take, Tick}
-use Rattle.rule_kit.specs.Ways.{way_from_disk}
-use Rattle.rule_kit.specs.Deeds.{nothing}
+use Rattle.node_kit.specs.Ways.{way_from_disk}
+use Rattle.node_kit.specs.Deeds.{nothing}
 use Rattle.disk_core.specs.State.{DiskState}
 
 -- whether a fault is of the disk, and the beat lies in it: it begins with beat from, and until is the first beat behind it

@@ -1,11 +1,10 @@
 //! The node of a disk.
 ghost use Rattle.std.specs.Prelude.{◌≡◌, ◌<◌, ◌*◌, OnOk};
-ghost use Rattle.rule_kit.specs.Deeds.{Did};
+ghost use Rattle.node_kit.specs.Deeds.{Did};
 ghost use Rattle.disk_core.specs.Rules.{is_faulty, part_for, read_part, asked};
 
 use disk_image::DiskImage;
-use node_kit::{Gate, Node, Out, Outbox, ReadFault, in_form};
-use rule_kit::disk_answer_link;
+use node_kit::{Gate, Node, Out, Outbox, ReadFault, disk_answer_link, in_form};
 use slot_plan::Plan;
 use std::marker::Model;
 use tiger_base::{Beat, DiskNo, LinkNo, Message, Msg, NoMemory, Part, Sequence, Stamp, Want};

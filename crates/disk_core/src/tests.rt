@@ -1,5 +1,6 @@
 //! Disks of a ring of eight cubs, with a file of ten bytes in blocks of four.
 ghost use Rattle.std.specs.Prelude.{◌≡◌, ◌≤◌, ℕ, ◌∷◌, [], IfOk, length, map};
+ghost use Rattle.tiger_base.specs.Limits.{most_reading};
 ghost use Rattle.slot_plan.specs.declared.params.Params.{Params};
 ghost use Rattle.node_kit.specs.Links.{IsInLink};
 
@@ -276,7 +277,7 @@ fn told<M: Message, T: Node<M>>(
     msg: M,
     out: &mut Outbox<M>,
 ) -> Result<(), NoMemory>
-    requires reading { stamp.reading ≤ 1000000000000 }
+    requires reading { stamp.reading ≤ most_reading }
     requires in_link { (p : Params) × (n : ℕ) × T.stands_at node.old p n × IsInLink p n link.0 }
 {
     node.take(stamp, link, msg, out)?;

@@ -1,5 +1,6 @@
 -- The arrivals on a link, one send after the other.
 use Rattle.std.proofs.Common.{◌≡◌, ℕ, ◌+◌, ◌%◌, ◌<◌, ◌≤◌, max, List, [], ◌∷◌, ◌++◌, refl, ap, arith}
+use Rattle.tiger_base.specs.Limits.{most_beats}
 use Rattle.rand_pcg.specs.Pcg.{pcg32}
 use Rattle.link_timing.specs.declared.Delay.{Delay}
 use Rattle.link_timing.specs.declared.Delay.TheVariants as delays
@@ -36,7 +37,7 @@ pub GoesOn-from_IsClock : (c : Clock) (sent : ℕ) → IsClock c → c.last_send
 GoesOn-from_IsClock c sent k rises = goes_on c.pace c.most c.last_send c.last_arrival sent k.positive rises k.pace
 
 -- the clock after a send is a clock again
-pub IsClock-after_send : (c : Clock) (sent : ℕ) → IsClock c → c.last_send ≤ sent → sent ≤ 100000 → IsClock (after_send c sent)
+pub IsClock-after_send : (c : Clock) (sent : ℕ) → IsClock c → c.last_send ≤ sent → sent ≤ most_beats → IsClock (after_send c sent)
 IsClock-after_send c sent k rises early =
     record { positive = k.positive; small = k.small; early = early; pace = (GoesOn-from_IsClock c sent k rises).pace }
 

@@ -1,5 +1,6 @@
 -- In which beats a link's messages arrive, by the link's number, its delay and the beats of its sends.
 use Rattle.std.specs.Prelude.{ℕ, ◌+◌, ◌%◌, ◌≤◌, ◌<◌, max, List, [], ◌∷◌}
+use Rattle.tiger_base.specs.Limits.{most_beats}
 use Rattle.rand_pcg.specs.Lcg.{started, increment_of}
 use Rattle.rand_pcg.specs.Pcg.{multiplier_64, pcg32}
 use Rattle.link_timing.specs.declared.Delay.{Delay}
@@ -68,13 +69,13 @@ IsPace (paces.Drawn generator) most send arrival = arrival ≤ send + most
 pub record IsClock (c : Clock) : Type 0 where
   pub positive : 1 ≤ c.most
   pub small : c.most ≤ 16
-  pub early : c.last_send ≤ 100000
+  pub early : c.last_send ≤ most_beats
   pub pace : IsPace c.pace c.most c.last_send c.last_arrival
 
 -- beats of sends, none below the one before it
 abbrev pub AreSends : ℕ → List ℕ → Type 0
 AreSends low [] = Unit {0}
-AreSends low (sent ∷ sends) = (low ≤ sent) × (sent ≤ 100000) × AreSends sent sends
+AreSends low (sent ∷ sends) = (low ≤ sent) × (sent ≤ most_beats) × AreSends sent sends
 
 -- one arrival for each send, from one beat to the greatest delay after it, and none below the one before it
 abbrev pub AreArrivals : ℕ → ℕ → List ℕ → List ℕ → Type 0

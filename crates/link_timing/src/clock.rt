@@ -1,5 +1,6 @@
 //! The clock of one link, which says in which beat each message arrives.
 ghost use Rattle.std.specs.Prelude.{◌≡◌, ◌+◌, ◌<◌, ◌≤◌};
+ghost use Rattle.tiger_base.specs.Limits.{most_beats};
 ghost use Rattle.link_timing.specs.Clock.{new_clock, arrival_at, after_send, FixedIsWithin};
 
 use crate::Delay;
@@ -70,7 +71,7 @@ impl LinkClock {
     /// The beat in which a message that is sent in beat `sent` arrives. It takes no memory.
     #[tactic(auto, unfolding(crate::specs::Clock::arrival_at, crate::specs::Clock::pace_after))]
     pub fn arrival(&mut self, sent: Beat) -> Beat
-        requires early { sent ≤ 100000 }
+        requires early { sent ≤ most_beats }
         requires rises { self.old.last_send ≤ sent }
         ensures value { result ≡ arrival_at self.old sent }
         ensures after { self.new ≡ after_send self.old sent }

@@ -1,11 +1,12 @@
 -- What a run is given: its ranges, and what the clock of each node shows.
 use Rattle.std.specs.Prelude.{◌≡◌, ℕ, ◌+◌, ◌-◌, ◌*◌, ◌%◌, ◌≤◌, ◌==◌, length, All, nat_lt, slice_index, if◌then◌else◌}
+use Rattle.tiger_base.specs.Limits.{most_beats}
 use Rattle.link_timing.specs.Clock.{FixedIsWithin}
 use Rattle.node_kit.specs.declared.course.Course.{Course}
 
 -- the ranges: as many beats as a run may have, and an offset within the skew for each cub and for the controller
 pub record IsCourse (c : Course) : Type 0 where
-  pub beats : c.beats ≤ 100000
+  pub beats : c.beats ≤ most_beats
   pub offsets : length c.offsets ≡ c.plan.params.cubs + 1
   pub skewed : All (λ o. o ≤ c.plan.params.skew) c.offsets
   pub deaths : length c.deaths ≡ c.plan.params.cubs

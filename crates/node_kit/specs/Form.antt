@@ -5,14 +5,15 @@ use Rattle.tiger_base.specs.declared.tenancy.Tag.{Tag}
 use Rattle.tiger_base.specs.declared.tenancy.Tenancy.{Tenancy}
 use Rattle.tiger_base.specs.declared.message.Note.{Note}
 use Rattle.tiger_base.specs.declared.message.Note.TheVariants as note
+use Rattle.tiger_base.specs.Limits.{most_visit}
 use Rattle.slot_plan.specs.declared.params.Params.{Params}
 
 -- the slot is the plan's, and the visit is not too large
 abbrev pub is_place : Params → ℕ → ℕ → Bool
-is_place p slot visit = nat_lt slot p.slots && nat_le visit 2147483648
+is_place p slot visit = nat_lt slot p.slots && nat_le visit most_visit
 
 abbrev pub is_tenancy : Params → Tenancy → Bool
-is_tenancy p t = nat_lt t.slot.0 p.slots && nat_le t.first t.last && nat_le t.last 2147483648
+is_tenancy p t = nat_lt t.slot.0 p.slots && nat_le t.first t.last && nat_le t.last most_visit
 
 abbrev pub is_tag : Params → Option Tag → Bool
 is_tag p None = true
@@ -26,7 +27,7 @@ is_piece p piece =
     && (nat_le 1 piece.piece && nat_le piece.piece p.pieces)
 
 abbrev pub is_in_form : Params → Note → Bool
-is_in_form p (note.ViewerState state) = is_tenancy p state.tenancy && nat_le state.visit 2147483648
+is_in_form p (note.ViewerState state) = is_tenancy p state.tenancy && nat_le state.visit most_visit
 is_in_form p (note.MirrorState piece) = is_piece p piece
 is_in_form p (note.Start ask redundant) = true
 is_in_form p (note.Deschedule instance tag) = is_tag p tag

@@ -1,5 +1,6 @@
 //! What a run is given, and what is kept of it.
 ghost use Rattle.std.specs.Prelude.{◌≡◌, ◌≤◌};
+ghost use Rattle.tiger_base.specs.Limits.{most_beats, most_reading};
 ghost use Rattle.node_kit.specs.Courses.{IsCourse, offset_of, reading_of};
 
 use crate::journal::Journal;
@@ -51,9 +52,9 @@ impl Course {
     /// takes no memory.
     pub fn stamp(&self, node: NodeNo, beat: Beat) -> Stamp
         requires course { IsCourse self.now }
-        requires early { beat ≤ 100000 }
+        requires early { beat ≤ most_beats }
         ensures stamp { result ≡ record { beat = beat; reading = reading_of self.now node.0 beat } }
-        ensures low { result.reading ≤ 1000000000000 }
+        ensures low { result.reading ≤ most_reading }
     {
         Stamp {
             beat,

@@ -3,9 +3,7 @@ ghost use Rattle.std.specs.Prelude.{◌≡◌};
 ghost use Rattle.node_kit.specs.Form.{is_in_form};
 
 use slot_plan::Plan;
-use tiger_base::{Note, PieceState, SlotNo, Tag, Tenancy, Visit};
-
-const MOST_VISIT: Visit = 2147483648;
+use tiger_base::{MOST_VISIT, Note, PieceState, SlotNo, Tag, Tenancy, Visit};
 
 /// Whether the slots and visits of a message are those of a plan (docs/protocol.md, "Form").
 pub fn in_form(plan: &Plan, note: &Note) -> bool

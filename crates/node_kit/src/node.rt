@@ -1,5 +1,6 @@
 //! What every node of a run is.
 ghost use Rattle.std.specs.Prelude.{◌≡◌, ℕ, ◌≤◌, OnOk};
+ghost use Rattle.tiger_base.specs.Limits.{most_reading};
 ghost use Rattle.slot_plan.specs.declared.params.Params.{Params};
 ghost use Rattle.node_kit.specs.Links.{IsInLink};
 ghost use Rattle.node_kit.specs.Steps.{Input, Deed, Acts};
@@ -26,12 +27,12 @@ pub trait Node<M: Message>: Drop {
         msg: M,
         out: &mut Outbox<M>,
     ) -> Result<(), NoMemory>
-        requires reading { stamp.reading ≤ 1000000000000 }
+        requires reading { stamp.reading ≤ most_reading }
         requires in_link { (p : Params) × (n : ℕ) × stands_at self.old p n × IsInLink p n link.0 }
         ensures { OnOk result (Acts M.note_of step stands_at (Take stamp link msg) self.old self.new out.old out.new) };
 
     /// Ends its beat, and appends what it puts out.
     fn tick(&mut self, stamp: Stamp, out: &mut Outbox<M>) -> Result<(), NoMemory>
-        requires { stamp.reading ≤ 1000000000000 }
+        requires { stamp.reading ≤ most_reading }
         ensures { OnOk result (Acts M.note_of step stands_at (Tick stamp) self.old self.new out.old out.new) };
 }

@@ -10,8 +10,8 @@ use slot_plan::{Params, Plan};
 use std::alloc::Global;
 use std::test::Fail;
 use tiger_base::{
-    Beat, CubNo, DiskNo, FileNo, Instance, LinkNo, Message, Msg, NoMemory, NodeNo, Note,
-    PieceState, Sequence, SlotNo, Stamp, State, Tag, Tenancy, Visit, Want,
+    Beat, CubNo, DiskNo, FileNo, Instance, LinkNo, MOST_VISIT, Message, Msg, NoMemory, NodeNo,
+    Note, PieceState, Sequence, SlotNo, Stamp, State, Tag, Tenancy, Visit, Want,
 };
 
 fn plan() -> Plan {
@@ -177,7 +177,7 @@ fn kill(slot: u32, visit: Visit) -> Note {
 
 #[test]
 fn messages_are_in_form_up_to_their_bounds(rt: HostRuntime) {
-    let high = 2147483648;
+    let high = MOST_VISIT;
     let rows = [
         (Note::Placed(tenancy(15, 3, high)), true),
         (Note::Placed(tenancy(16, 3, high)), false),

@@ -3,6 +3,7 @@ use Rattle.std.proofs.Common.{◌≡◌, ℕ, zero, suc, ◌<◌, ◌≤◌, Lis
 use Rattle.std.specs.Prelude.{nat_lt}
 use Rattle.std.proofs.lemmas.Bool.Decides.{nat_tests}
 use Rattle.tiger_base.specs.declared.message.Note.{Note}
+use Rattle.tiger_base.specs.Limits.{most_beats}
 use Rattle.link_timing.specs.Clock.{new_clock}
 use Rattle.link_timing.proofs.Arrivals.{IsClock-new_clock}
 use Rattle.node_kit.specs.declared.course.Course.{Course}
@@ -44,7 +45,7 @@ module _ {M S : Type 0} (note : M → Note) (step : S → Input M → Deed M S) 
       let theirs = lived.all from low_from in
       let rising = rising-counted 0 (events from) theirs.counted in
       let most = course.beats in
-      let few = all-weaker (λ (e : NodeEvent M). (stamp_at e).beat < c.beats) (λ e. (stamp_at e).beat ≤ 100000)
+      let few = all-weaker (λ (e : NodeEvent M). (stamp_at e).beat < c.beats) (λ e. (stamp_at e).beat ≤ most_beats)
       (events from) (λ e h. omega (arith, h, most)) theirs.early in
       let is_clock = IsClock-new_clock l c.delay c.plan.params.delay delay.0 delay.1 course.delay in
       let order = order-sends note step l 0 (events from) past rising.0 few rising.1 in

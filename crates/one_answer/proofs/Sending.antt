@@ -6,6 +6,7 @@ use Rattle.std.proofs.lemmas.Bool.{cases_Bool}
 use Rattle.std.proofs.lemmas.Bool.Decides.{nat_tests}
 use Rattle.std.proofs.lemmas.List.Elements.{filter-append}
 use Rattle.tiger_base.specs.declared.message.Note.{Note}
+use Rattle.tiger_base.specs.Limits.{most_beats}
 use Rattle.node_kit.specs.declared.outbox.Out.{Out}
 use Rattle.node_kit.specs.declared.outbox.Out.TheVariants as out
 use Rattle.node_kit.specs.Steps.{Input, Deed}
@@ -70,7 +71,7 @@ sends-below {M} note step b l (e ∷ es) past r =
 
 -- the sends of one event stand in order before those of the later ones
 order-sends_of : {M : Type 0} (l low beat : ℕ) (os : List (Out M)) (ds : List (Dated M)) → low ≤ beat
-    → beat ≤ 100000
+    → beat ≤ most_beats
     → AreInOrder beat ds → AreInOrder low (sends_of l beat os ++ ds)
 order-sends_of l low beat [] ds h few r = order-lower low beat ds h r
 order-sends_of l low beat (out.Send link msg ∷ os) ds h few r = ⊎_elim
@@ -83,7 +84,7 @@ order-sends_of l low beat (out.Act what ∷ os) ds h few r = order-sends_of l lo
 pub order-sends : {M S : Type 0} (note : M → Note) (step : S → Input M → Deed M S) (l low : ℕ)
     (es : List (NodeEvent M)) (past : Past S)
     → AllByRecursion (λ e. low ≤ (stamp_at e).beat) es
-    → AllByRecursion (λ e. (stamp_at e).beat ≤ 100000) es
+    → AllByRecursion (λ e. (stamp_at e).beat ≤ most_beats) es
     → Rising (λ (e : NodeEvent M). (stamp_at e).beat) es
     → AreInOrder low (sends_along note step l es past)
 order-sends note step l low [] past h few r = tt

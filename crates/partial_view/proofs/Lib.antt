@@ -4,3 +4,4 @@ pub mod Order
 pub mod Places
 pub mod Retained
 pub mod Walks
+pub mod Pending

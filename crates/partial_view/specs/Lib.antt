@@ -1,5 +1,6 @@
 pub mod Adding
 pub mod Lines
+pub mod Pending
 pub mod Takes
 pub mod Views
 pub mod Walks

@@ -1,12 +1,17 @@
-//! A cub's view of the schedule: its records, in the order of their due times.
+//! A cub's view of the schedule: its records, in the order of their due times, how far its states are known to be
+//! forwarded, and from when on its visits are known to be split.
 #![tactic(auto)]
 
+mod cub_view;
 mod line;
 mod view;
 
+pub use cub_view::CubView;
 pub use line::{Flag, Line};
 pub use view::{Added, View};
 
+#[cfg(test)]
+mod cub_view_tests;
 #[cfg(test)]
 mod sample_walks;
 #[cfg(test)]

@@ -1,6 +1,7 @@
 //! A cub's records by slot and visit, kept as one list in the order of their due times.
 ghost use Rattle.std.specs.Prelude.{◌≡◌, ℕ, ◌^◌, ◌≤◌, ◌<◌, [], IfOk, OnOk, OnErr, IfErr, IfSome, Some, MatchResult, option_map, is_some, count_by, length, slice_get};
 ghost use Rattle.std.specs.Option.{ForSome};
+ghost use Rattle.tiger_base.specs.Limits.{most_reading};
 ghost use Rattle.slot_plan.specs.Keys.{IsKey, due_of, is_earlier};
 ghost use Rattle.partial_view.specs.Lines.{key_of, visit_of, instance_of, is_of};
 ghost use Rattle.partial_view.specs.Views.{Seen, IsWalk, line_at, first_of, next_behind, line_due, with_mark, without, without_instance, with_record, place_of, IsFoundAt, IsGapAt};
@@ -123,7 +124,7 @@ impl View {
 
     /// The first record that is due at a reading; `None` exactly where none is.
     pub fn due_before(&self, reading: Micros) -> Option<Rec>
-        requires { reading ≤ 1000000000000 }
+        requires { reading ≤ most_reading }
         ensures { result ≡ option_map (λ x. x.rec) (line_due self.now.params reading self.now.lines) }
     {
         let line = line_from(&self.lines, 0)?;

@@ -10,6 +10,7 @@ use Rattle.std.proofs.lemmas.Bool.Decides.{nat_tests}
 use Rattle.tiger_base.specs.declared.number.Stamp.{Stamp}
 use Rattle.tiger_base.specs.declared.number.LinkNo.{LinkNo}
 use Rattle.tiger_base.specs.declared.message.Note.{Note}
+use Rattle.tiger_base.specs.Limits.{most_beats}
 use Rattle.slot_plan.specs.declared.params.Params.{Params}
 use Rattle.link_timing.specs.Clock.{Clock, arrival_at}
 use Rattle.node_kit.specs.declared.outbox.Out.{Out}
@@ -91,7 +92,7 @@ pass f = record { sent = f.sent; arrival = f.arrival; item = f.msg }
 
 -- what is sent in a beat keeps the account of a link
 pub sends-on : {M : Type 0} (life : Lifetime) (most : ℕ) (start : Clock) (sent got : List (Dated M)) (t : Traffic M) (next beat : ℕ) (ds : List (Dated M))
-    → AllByRecursion (λ (d : Dated M). d.beat ≡ beat) ds → t.clock.last_send ≤ beat → beat ≤ 100000 → next ≤ beat + 1
+    → AllByRecursion (λ (d : Dated M). d.beat ≡ beat) ds → t.clock.last_send ≤ beat → beat ≤ most_beats → next ≤ beat + 1
     → OnLink life most start sent got t.clock (map pass t.flights) next
     → OnLink life most start (sent ++ ds) got (sent_all ds t).clock (map pass (sent_all ds t).flights) next × ((sent_all ds t).clock.last_send ≤ beat)
 sends-on {M} life most start sent got t next beat [] dated rises early soon on =

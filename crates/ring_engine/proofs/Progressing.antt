@@ -7,6 +7,7 @@ use Rattle.std.proofs.lemmas.Bool.Decides.{nat_tests}
 use Rattle.tiger_base.specs.declared.number.Stamp.{Stamp}
 use Rattle.tiger_base.specs.declared.number.LinkNo.{LinkNo}
 use Rattle.tiger_base.specs.declared.message.Note.{Note}
+use Rattle.tiger_base.specs.Limits.{most_beats}
 use Rattle.slot_plan.specs.declared.params.Params.{Params}
 use Rattle.link_timing.specs.Clock.{Clock, new_clock}
 use Rattle.link_timing.proofs.Arrivals.{IsClock-new_clock}
@@ -195,7 +196,7 @@ sends-more note step c first events n l from to es past is fair ends = ⊎_elim
 
 -- a link in a turn
 link-turn : {M S : Type 0} (note : M → Note) (step : S → Input M → Deed M S) (c : Course) (first : ℕ → S) (events : ℕ → List (NodeEvent M)) (b n l from to : ℕ) (past : Past S) (ts : List (Traffic M))
-    → b ≤ 100000 → past.life ≡ lifetime_of c n → past ≡ after_all note step (events n) (opening_of c n (first n))
+    → b ≤ most_beats → past.life ≡ lifetime_of c n → past ≡ after_all note step (events n) (opening_of c n (first n))
     → AllByRecursion (λ e. (stamp_at e).beat ≡ b) (beat_events note step (stamp_in c n b) (collected b (in_links_of (links_of c.plan.params) n) ts) past)
     → AreFair note step c.plan.params n (beat_events note step (stamp_in c n b) (collected b (in_links_of (links_of c.plan.params) n) ts) past) past
     → ends_of (links_of c.plan.params) l ≡ Some (from, to) → OnChannel note step c first events b n l from to ts
@@ -252,7 +253,7 @@ events-dated {M} note step stamp p n ls past takes =
 
 -- the progress with one turn more, by a node at a known point
 turn-made : {M S : Type 0} (note : M → Note) (step : S → Input M → Deed M S) (c : Course) (count : ℕ) (first : ℕ → S) (b n : ℕ) (old : Ring M S) (st : Progress note step c count first b n old)
-    (past : Past S) → b ≤ 100000 → n < count → past ≡ after_all note step (st.events n) (opening_of c n (first n))
+    (past : Past S) → b ≤ most_beats → n < count → past ≡ after_all note step (st.events n) (opening_of c n (first n))
     → AreFair note step c.plan.params n (beat_events note step (stamp_in c n b) (brought_to c b n old) past) past
     → (scene : Scene M S) → scene ≡ turn note step (stamp_in c n b) (in_links_of (links_of c.plan.params) n) (record { past = past; channels = old.channels })
     → Progress note step c count first b (suc n) (with_node old n scene.past.state scene.past.life scene.past.journal scene.channels)
@@ -318,13 +319,13 @@ same-past {M} {S} r n x y h g =
 
 -- and by a turn of the run
 progress-turn : {M S : Type 0} (note : M → Note) (step : S → Input M → Deed M S) (c : Course) (count : ℕ) (first : ℕ → S) (b n : ℕ) (old new : Ring M S)
-    → b ≤ 100000 → n < count → HasTurn note step c b n old new → Progress note step c count first b n old → Progress note step c count first b (suc n) new
+    → b ≤ most_beats → n < count → HasTurn note step c b n old new → Progress note step c count first b n old → Progress note step c count first b (suc n) new
 progress-turn {M} {S} note step c count first b n old new early below h st =
     subst (λ q. Progress note step c count first b (suc n) q) (sym h.after)
     (turn-made note step c count first b n old st h.past early below (same-past old n h.past _ h.here (st.here n below)) h.fair h.scene h.turned)
 
 progress-turns : {M S : Type 0} (note : M → Note) (step : S → Input M → Deed M S) (c : Course) (count : ℕ) (first : ℕ → S) (b n : ℕ) (old new : Ring M S)
-    → b ≤ 100000 → n ≤ count → HaveTurns note step c b n old new → Progress note step c count first b 0 old → Progress note step c count first b n new
+    → b ≤ most_beats → n ≤ count → HaveTurns note step c b n old new → Progress note step c count first b 0 old → Progress note step c count first b n new
 progress-turns note step c count first b zero old new early low h st = subst (λ q. Progress note step c count first b 0 q) (sym h) st
 progress-turns note step c count first b (suc n) old new early low h st =
     progress-turn note step c count first b n h.0 new early (omega (arith, low)) h.2 (progress-turns note step c count first b n old h.0 early (omega (arith, low)) h.1 st)
@@ -359,7 +360,7 @@ progress-later note step c count first b r st = record {
 }
 
 progress-beats : {M S : Type 0} (note : M → Note) (step : S → Input M → Deed M S) (c : Course) (count : ℕ) (first : ℕ → S) (b : ℕ) (old new : Ring M S)
-    → b ≤ 100000 → HavePassed note step c count b old new → Progress note step c count first 0 0 old → Progress note step c count first b 0 new
+    → b ≤ most_beats → HavePassed note step c count b old new → Progress note step c count first 0 0 old → Progress note step c count first b 0 new
 progress-beats note step c count first zero old new early h st = subst (λ q. Progress note step c count first 0 0 q) (sym h) st
 progress-beats note step c count first (suc b) old new early h st =
     progress-later note step c count first b new

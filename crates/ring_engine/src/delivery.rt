@@ -1,6 +1,7 @@
 //! What is done with the outputs of an event: each is written down, and messages are sent.
 ghost use Rattle.std.specs.Prelude.{◌≡◌, ◌<◌, ◌≤◌, [], ◌∷◌, ◌++◌, OnOk, map, vec_len};
 ghost use Rattle.std.specs.List.{AllByRecursion};
+ghost use Rattle.tiger_base.specs.Limits.{most_beats};
 ghost use Rattle.node_kit.specs.Steps.{entry_of};
 ghost use Rattle.ring_engine.specs.Traffic.{sent_on, posted_one, posted, AreOpen, IsPostable};
 
@@ -15,7 +16,7 @@ pub fn deliver<M: Message>(
     journal: &mut Journal,
     channels: &mut Vec<Channel<M>>,
 ) -> Result<(), NoMemory>
-    requires early { stamp.beat ≤ 100000 }
+    requires early { stamp.beat ≤ most_beats }
     requires open { AreOpen stamp.beat channels.old.items }
     requires links { AllByRecursion (IsPostable (vec_len channels.old)) outputs.old }
     ensures journal { OnOk result (journal.new ≡ journal.old ++ map (entry_of M.note_of stamp) outputs.old) }
@@ -33,7 +34,7 @@ fn deliver_one<M: Message>(
     journal: &mut Journal,
     channels: &mut Vec<Channel<M>>,
 ) -> Result<(), NoMemory>
-    requires early { stamp.beat ≤ 100000 }
+    requires early { stamp.beat ≤ most_beats }
     requires open { AreOpen stamp.beat channels.old.items }
     requires link { IsPostable (vec_len channels.old) output }
     ensures journal { OnOk result (journal.new ≡ journal.old ++ entry_of M.note_of stamp output ∷ []) }
@@ -57,7 +58,7 @@ fn send_on<M: Message>(
     msg: M,
     channels: &mut Vec<Channel<M>>,
 ) -> Result<(), NoMemory>
-    requires early { beat ≤ 100000 }
+    requires early { beat ≤ most_beats }
     requires open { AreOpen beat channels.old.items }
     requires link { link.0 < vec_len channels.old }
     ensures { OnOk result (channels.new.items ≡ sent_on beat link msg channels.old.items) }

@@ -1,5 +1,6 @@
 //! The events of a node in a run: it takes messages, it ticks, it dies.
 ghost use Rattle.std.specs.Prelude.{◌≡◌, ◌≤◌, ◌∷◌, [], OnOk};
+ghost use Rattle.tiger_base.specs.Limits.{most_beats, most_reading};
 ghost use Rattle.node_kit.specs.Steps.Input.{Take, Tick};
 ghost use Rattle.run_facts.specs.Events.NodeEvent.{Does};
 ghost use Rattle.ring_engine.specs.Traffic.{collected};
@@ -25,8 +26,8 @@ pub fn live<M: Message, T: Node<M>>(
     journal: &mut Journal,
     channels: &mut Vec<Channel<M>>,
 ) -> Result<(), NoMemory>
-    requires early { stamp.beat ≤ 100000 }
-    requires reading { stamp.reading ≤ 1000000000000 }
+    requires early { stamp.beat ≤ most_beats }
+    requires reading { stamp.reading ≤ most_reading }
     requires ready { IsReadyFor T.stands_at stamp.beat links.now
         (scene node.old life.old journal.old channels.old.items) }
     ensures turn { OnOk result ((scene node.new life.new journal.new channels.new.items)
@@ -52,8 +53,8 @@ fn take_all<M: Message, T: Node<M>>(
     journal: &mut Journal,
     channels: &mut Vec<Channel<M>>,
 ) -> Result<(), NoMemory>
-    requires early { stamp.beat ≤ 100000 }
-    requires reading { stamp.reading ≤ 1000000000000 }
+    requires early { stamp.beat ≤ most_beats }
+    requires reading { stamp.reading ≤ most_reading }
     requires ready { IsReadyFor T.stands_at stamp.beat (links_of_letters letters.items)
         (scene node.old life.old journal.old channels.old.items) }
     ensures takes { OnOk result ((scene node.new life.new journal.new channels.new.items)
@@ -81,8 +82,8 @@ fn take_heard<M: Message, T: Node<M>>(
     journal: &mut Journal,
     channels: &mut Vec<Channel<M>>,
 ) -> Result<(), NoMemory>
-    requires early { stamp.beat ≤ 100000 }
-    requires reading { stamp.reading ≤ 1000000000000 }
+    requires early { stamp.beat ≤ most_beats }
+    requires reading { stamp.reading ≤ most_reading }
     requires ready { IsReadyFor T.stands_at stamp.beat (letter.link ∷ [])
         (scene node.old life.old journal.old channels.old.items) }
     ensures takes { OnOk result ((scene node.new life.new journal.new channels.new.items)
@@ -110,8 +111,8 @@ fn take_one<M: Message, T: Node<M>>(
     journal: &mut Journal,
     channels: &mut Vec<Channel<M>>,
 ) -> Result<(), NoMemory>
-    requires early { stamp.beat ≤ 100000 }
-    requires reading { stamp.reading ≤ 1000000000000 }
+    requires early { stamp.beat ≤ most_beats }
+    requires reading { stamp.reading ≤ most_reading }
     requires ready { IsReadyFor T.stands_at stamp.beat (letter.link ∷ [])
         (scene node.old life.old journal.old channels.old.items) }
     ensures event { OnOk result ((scene node.new life.new journal.new channels.new.items)
@@ -143,8 +144,8 @@ fn end_beat<M: Message, T: Node<M>>(
     journal: &mut Journal,
     channels: &mut Vec<Channel<M>>,
 ) -> Result<(), NoMemory>
-    requires early { stamp.beat ≤ 100000 }
-    requires reading { stamp.reading ≤ 1000000000000 }
+    requires early { stamp.beat ≤ most_beats }
+    requires reading { stamp.reading ≤ most_reading }
     requires ready { IsReadyFor T.stands_at stamp.beat []
         (scene node.old life.old journal.old channels.old.items) }
     ensures ends { OnOk result ((scene node.new life.new journal.new channels.new.items)
@@ -174,8 +175,8 @@ fn tick<M: Message, T: Node<M>>(
     journal: &mut Journal,
     channels: &mut Vec<Channel<M>>,
 ) -> Result<(), NoMemory>
-    requires early { stamp.beat ≤ 100000 }
-    requires reading { stamp.reading ≤ 1000000000000 }
+    requires early { stamp.beat ≤ most_beats }
+    requires reading { stamp.reading ≤ most_reading }
     requires ready { IsReadyFor T.stands_at stamp.beat []
         (scene node.old life.old journal.old channels.old.items) }
     ensures event { OnOk result ((scene node.new life.new journal.new channels.new.items)

@@ -1,5 +1,6 @@
 //! The links, and the messages under way on them.
 ghost use Rattle.std.specs.Prelude.{◌≡◌, ◌≤◌, [], ◌++◌, OnOk};
+ghost use Rattle.tiger_base.specs.Limits.{most_beats};
 ghost use Rattle.link_timing.specs.Clock.{new_clock, FixedIsWithin};
 
 use link_timing::{Delay, LinkClock};
@@ -93,7 +94,7 @@ impl<M: Drop> Channel<M> {
 
     /// Sends a message in a beat.
     pub fn send(&mut self, beat: Beat, msg: M) -> Result<(), NoMemory>
-        requires early { beat ≤ 100000 }
+        requires early { beat ≤ most_beats }
         requires rises { self.old.clock.last_send ≤ beat }
         ensures { OnOk result (self.new ≡ after_sending beat msg self.old) }
     {

@@ -1,5 +1,6 @@
 //! A run of any nodes on one thread.
 ghost use Rattle.std.specs.Prelude.{◌≡◌, ◌+◌, ◌<◌, ◌≤◌, length, IfOk, OnOk, vec_len};
+ghost use Rattle.tiger_base.specs.Limits.{most_beats};
 ghost use Rattle.node_kit.specs.Courses.{IsCourse};
 ghost use Rattle.node_kit.specs.Links.{links_of, viewers_of};
 ghost use Rattle.node_kit.specs.Life.{lifetime_of};
@@ -81,7 +82,7 @@ fn run_beat<M: Message, T: Node<M>>(
     channels: &mut Vec<Channel<M>>,
 ) -> Result<(), NoMemory>
     requires course { IsCourse course.now }
-    requires early { beat ≤ 100000 }
+    requires early { beat ≤ most_beats }
     requires few { vec_len nodes.old ≤ 1000 }
     requires in_links { AreInLinks course.now.plan.params (vec_len nodes.old) in_links.now }
     requires sound { IsSound T.stands_at course.now.plan.params (vec_len nodes.old) beat

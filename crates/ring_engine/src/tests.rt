@@ -3,6 +3,7 @@ ghost use Rattle.std.specs.Prelude.{◌≡◌, ℕ, ◌+◌, ◌≤◌, ◌∷�
 ghost use Rattle.std.specs.Option.{ForSome, option_map_or};
 ghost use Rattle.tiger_base.specs.declared.message.Msg.{Msg};
 ghost use Rattle.tiger_base.specs.declared.message.Msg.TheVariants.{Heartbeat};
+ghost use Rattle.tiger_base.specs.Limits.{most_beats};
 ghost use Rattle.node_kit.specs.declared.outbox.Out.TheVariants.{Send};
 ghost use Rattle.node_kit.specs.Links.{IsOutLink, ends_of, viewers_of};
 ghost use Rattle.node_kit.specs.Steps.{Deed};
@@ -91,7 +92,7 @@ fn plan() -> Plan
 
 /// The clock of cub 1 is 300 ahead; cub 2 dies in this beat, if in any.
 fn course(alloc: Global, beats: u64, delay: u64, death: Option<Beat>) -> Result<Course, NoMemory>
-    requires beats { beats ≤ 100000 }
+    requires beats { beats ≤ most_beats }
     requires low { 1 ≤ delay }
     requires high { delay ≤ 2 }
     ensures { IfOk result IsCourse }

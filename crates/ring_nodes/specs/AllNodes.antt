@@ -8,7 +8,7 @@ use Rattle.disk_image.specs.Image.{Image}
 use Rattle.node_kit.specs.declared.course.Order.{Order}
 use Rattle.node_kit.specs.declared.course.ReadFault.{ReadFault}
 use Rattle.node_kit.specs.Steps.{Deed, Input}
-use Rattle.rule_kit.specs.Deeds.{wrapped}
+use Rattle.node_kit.specs.Deeds.{wrapped}
 use Rattle.cub_rules.specs.State.{opening_store, IsCub}
 use Rattle.cub_rules.specs.Cubs.{cub_step}
 use Rattle.disk_core.specs.State.{IsDisk}

@@ -1,5 +1,6 @@
 //! The nodes of a small ring, made and asked through the trait.
 ghost use Rattle.std.specs.Prelude.{◌≡◌, ◌≤◌, ◌∷◌, [], ℕ, IfOk, length, map};
+ghost use Rattle.tiger_base.specs.Limits.{most_reading};
 ghost use Rattle.slot_plan.specs.declared.params.Params.{Params};
 ghost use Rattle.node_kit.specs.Links.{IsInLink};
 ghost use Rattle.node_kit.specs.declared.course.OrderKind.TheVariants.{Begin};
@@ -128,7 +129,7 @@ fn ended<M: Message, T: Node<M>>(
     stamp: Stamp,
     out: &mut Outbox<M>,
 ) -> Result<(), NoMemory>
-    requires { stamp.reading ≤ 1000000000000 }
+    requires { stamp.reading ≤ most_reading }
 {
     node.tick(stamp, out)
 }
@@ -141,7 +142,7 @@ fn told<M: Message, T: Node<M>>(
     msg: M,
     out: &mut Outbox<M>,
 ) -> Result<(), NoMemory>
-    requires reading { stamp.reading ≤ 1000000000000 }
+    requires reading { stamp.reading ≤ most_reading }
     requires in_link { (p : Params) × (n : ℕ) × T.stands_at node.old p n × IsInLink p n link.0 }
 {
     node.take(stamp, link, msg, out)

@@ -6,6 +6,7 @@ use Rattle.std.proofs.lemmas.Option.{none-some}
 use Rattle.std.proofs.Math.Nat.{mul-le-mul}
 use Rattle.tiger_base.specs.declared.message.Msg.{Msg}
 use Rattle.tiger_base.specs.Notes.{noted}
+use Rattle.tiger_base.specs.Limits.{most_beats, most_reading}
 use Rattle.slot_plan.specs.declared.params.Params.{Params}
 use Rattle.slot_plan.specs.Times.{time_of, disk_count}
 use Rattle.stripe_layout.specs.declared.catalogue.Catalogue.{Catalogue}
@@ -117,12 +118,12 @@ alive_at step nodes beats h complete n i inside low none = go (h.event n i) refl
         absurd (cc)
 
 -- the readings of a run are not too large
-read_low : (c : Course) (b r : ℕ) → IsCourse c → b < c.beats → r ≤ time_of c.plan.params b + c.plan.params.skew → r ≤ 1000000000000
+read_low : (c : Course) (b r : ℕ) → IsCourse c → b < c.beats → r ≤ time_of c.plan.params b + c.plan.params.skew → r ≤ most_reading
 unfolding time_of
 read_low c b r course early high =
     let ranges = c.plan.sound.ranges in
     let many = course.beats in
-    let few : b ≤ 100000 = omega (arith, early, many) in
+    let few : b ≤ most_beats = omega (arith, early, many) in
     let product : b * c.plan.params.beat ≤ 100000 * 1000000 = mul-le-mul few ranges.beat.1 in
     let skew = ranges.skew in
     omega (arith, product, skew, high)

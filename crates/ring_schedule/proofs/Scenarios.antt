@@ -11,6 +11,7 @@ use Rattle.std.proofs.Math.Nat.{mul-le-mul, mul-le-mul_right, add-mul}
 use Rattle.tiger_base.specs.declared.tenancy.Ask.{Ask}
 use Rattle.tiger_base.specs.declared.message.Msg.{Msg}
 use Rattle.tiger_base.specs.Notes.{noted}
+use Rattle.tiger_base.specs.Limits.{most_blocks, most_file}
 use Rattle.node_kit.specs.declared.journal.Entry.{Entry}
 use Rattle.run_facts.specs.Histories.{HaveHistory}
 use Rattle.run_facts.specs.Order.{order_of}
@@ -87,7 +88,7 @@ both_true true false e f = f
 both_true false b e f = e
 
 count_fits : (s : Scenario) (library : List (List ℕ)) (c : Catalogue) (file : ℕ) → AreShort library → IsCatalogueOf s library c → file < length s.files
-    → (1 ≤ block_count c file) × (block_count c file ≤ 16777216)
+    → (1 ≤ block_count c file) × (block_count c file ≤ most_blocks)
 count_fits s library c file short is low =
     let disks = is.first_disks in
     let same : length c.files ≡ length s.files =
@@ -99,7 +100,7 @@ count_fits s library c file short is low =
     ∙ slice_get-map (λ (x : FileInfo). x.len) c.files file
     ∙ ap (λ (o : Option FileInfo). option_map (λ (x : FileInfo). x.len) o) info.1 in
     let m = map-some (λ (bytes : List ℕ). length bytes) (slice_get library file) info.0.len there in
-    let most : length m.0 ≤ 16777216 = all_at (λ (bytes : List ℕ). length bytes ≤ 16777216) library file m.0 short m.1 in
+    let most : length m.0 ≤ most_file = all_at (λ (bytes : List ℕ). length bytes ≤ most_file) library file m.0 short m.1 in
     let len = m.2 in
     let count = block_count-there c file info.0 info.1 in
     let some = one_block c file info.0 info.1 in
@@ -110,9 +111,9 @@ count_fits s library c file short is low =
 record IsFitStart (o : Order) : Type 0 where
   ask : Ask
   what : o.what ≡ kinds.Begin ask
-  fits : (1 ≤ ask.count) × (ask.count ≤ 16777216)
+  fits : (1 ≤ ask.count) × (ask.count ≤ most_blocks)
 
-fit_starts : (c : Catalogue) (files n : ℕ) (es : List ScEvent) → ((file : ℕ) → file < files → (1 ≤ block_count c file) × (block_count c file ≤ 16777216))
+fit_starts : (c : Catalogue) (files n : ℕ) (es : List ScEvent) → ((file : ℕ) → file < files → (1 ≤ block_count c file) × (block_count c file ≤ most_blocks))
     → ((j : ℕ) (e : ScEvent) → slice_get es j ≡ Some e → (is_start e ≡ true) × StartsWithin files e) → (k : ℕ) (o : Order) → slice_get (orders_from c n es) k ≡ Some o → IsFitStart o
 fit_starts c files n [] fit given k o e = absurd (none-some o e)
 fit_starts c files n (Begin beat file ∷ es) fit given zero o e =
@@ -134,7 +135,7 @@ calm_orders s library c scenario calm short is =
           let w = f.what in
           let same : ask ≡ f.ask = cc in
           let fits = f.fits in
-          subst IsAsk (sym same) (both_true (nat_le 1 f.ask.count) (nat_le f.ask.count 16777216) (le-leb _ _ fits.0) (le-leb _ _ fits.1));
+          subst IsAsk (sym same) (both_true (nat_le 1 f.ask.count) (nat_le f.ask.count most_blocks) (le-leb _ _ fits.0) (le-leb _ _ fits.1));
       unstopped = λ k v stops.
           let f = each k (record { beat = stops.0; what = kinds.Finish v }) stops.1 in
           let w = f.what in

@@ -2,6 +2,7 @@
 use Rattle.std.specs.Prelude.{◌≡◌, ℕ, ◌+◌, ◌<◌, ◌≤◌, false, List, []}
 use Rattle.tiger_base.specs.declared.message.Msg.{Msg}
 use Rattle.tiger_base.specs.Notes.{noted}
+use Rattle.tiger_base.specs.Limits.{most_reading}
 use Rattle.slot_plan.specs.declared.params.Params.{Params}
 use Rattle.slot_plan.specs.Conditions.{IsPlan}
 use Rattle.slot_plan.specs.Times.{disk_count}
@@ -30,7 +31,7 @@ pub record IsCalmRing {G : Type 0} (p : Params) (orders : List Order) (h : Histo
   pub run : IsRun noted any_step p (node_count p) h
   pub opens : Opens p orders h
   pub alive : (n i : ℕ) → n < node_count p → i < h.count n → is_death (h.event n i) ≡ false
-  pub short : (n i : ℕ) → n < node_count p → i < h.count n → reading h n i ≤ 1000000000000
+  pub short : (n i : ℕ) → n < node_count p → i < h.count n → reading h n i ≤ most_reading
 
 -- it has one schedule
 abbrev pub RingHasOneSchedule : (G : Type 0) → Type 0

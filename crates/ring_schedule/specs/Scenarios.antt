@@ -1,5 +1,6 @@
 -- A scenario without stops and deaths, and what holds of its run.
 use Rattle.std.specs.Prelude.{◌≡◌, ℕ, ◌≤◌, true, List, length, All, None}
+use Rattle.tiger_base.specs.Limits.{most_file}
 use Rattle.node_kit.specs.declared.course.Kept.{Kept}
 use Rattle.run_facts.specs.Order.{order_of}
 use Rattle.run_model.specs.Orders.{PutsAreFair}
@@ -34,7 +35,7 @@ pub record HasOneSchedule (k : Kept) : Type 0 where
 
 -- no file is longer than 16 MiB
 abbrev pub AreShort : List (List ℕ) → Type 0
-AreShort library = All (λ bytes. length bytes ≤ 16777216) library
+AreShort library = All (λ bytes. length bytes ≤ most_file) library
 
 -- whatever is kept of the run of such a scenario has fair Puts
 abbrev pub CalmRunsPutFairly : (G : Type 0) → Type 0

@@ -23,8 +23,8 @@ use Rattle.node_kit.specs.declared.journal.What.TheVariants as what
 use Rattle.node_kit.specs.declared.outbox.Out.{Out}
 use Rattle.node_kit.specs.declared.outbox.Out.TheVariants as out
 use Rattle.node_kit.specs.Steps.{Deed}
-use Rattle.rule_kit.specs.Ways.{way_to_cub}
-use Rattle.rule_kit.specs.Deeds.{nothing, each_in_turn}
+use Rattle.node_kit.specs.Ways.{way_to_cub}
+use Rattle.node_kit.specs.Deeds.{nothing, each_in_turn}
 use Rattle.run_facts.specs.Events.{Dated, sends_of}
 use Rattle.controller_core.specs.declared.known.Known.{Known}
 use Rattle.controller_core.specs.Orders.{Starts, orders_in, start_of}

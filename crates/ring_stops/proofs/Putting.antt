@@ -17,8 +17,8 @@ use Rattle.node_kit.specs.declared.outbox.Out.TheVariants as out
 use Rattle.node_kit.specs.Form.{is_in_form}
 use Rattle.node_kit.specs.Steps.{Deed, Input}
 use Rattle.node_kit.specs.Steps.Input.{Take, Tick}
-use Rattle.rule_kit.specs.Ways.{way_to_cub, way_from_disk}
-use Rattle.rule_kit.specs.Deeds.{nothing, each_in_turn}
+use Rattle.node_kit.specs.Ways.{way_to_cub, way_from_disk}
+use Rattle.node_kit.specs.Deeds.{nothing, each_in_turn}
 use Rattle.disk_core.specs.State.{DiskState}
 use Rattle.disk_core.specs.Rules.{asked, answers, read_part, disk_step}
 use Rattle.controller_core.specs.declared.known.Known.{Known}

@@ -24,8 +24,8 @@ use Rattle.node_kit.specs.Form.{is_in_form}
 use Rattle.node_kit.specs.Links.{links_of, ends_of, controller_of}
 use Rattle.node_kit.specs.Steps.{Deed, Input, stamp_of}
 use Rattle.node_kit.specs.Steps.Input.{Take, Tick}
-use Rattle.rule_kit.specs.Ways.{way_from_disk}
-use Rattle.rule_kit.specs.Deeds.{nothing}
+use Rattle.node_kit.specs.Ways.{way_from_disk}
+use Rattle.node_kit.specs.Deeds.{nothing}
 use Rattle.run_facts.specs.Events.{NodeEvent, is_tick, is_death, sends_of}
 use Rattle.run_facts.specs.Histories.{History, past, outs, beat, ticks, sent, last_of}
 use Rattle.run_facts.proofs.Counts.{sent-numbered}

@@ -9,6 +9,7 @@ use Rattle.std.proofs.lemmas.Grind.{div_ceil_times}
 use Rattle.std.proofs.lemmas.Option.{none-some, slice_get-map, slice_get_within, get_or_from_slice_get}
 use Rattle.std.proofs.Math.Nat.{mul-le-mul, mul-le-mul_right, add-mul}
 use Rattle.tiger_base.specs.declared.tenancy.Ask.{Ask}
+use Rattle.tiger_base.specs.Limits.{most_blocks, most_file}
 use Rattle.stripe_layout.specs.declared.catalogue.FileInfo.{FileInfo}
 use Rattle.stripe_layout.specs.declared.catalogue.Catalogue.{Catalogue}
 use Rattle.stripe_layout.specs.Places.{block_count}
@@ -74,7 +75,7 @@ both_true false b e f = e
 
 -- each file of the scenario has blocks
 count_fits : (s : Scenario) (library : List (List ℕ)) (c : Catalogue) (file : ℕ) → AreShort library → IsCatalogueOf s library c → file < length s.files
-    → (1 ≤ block_count c file) × (block_count c file ≤ 16777216)
+    → (1 ≤ block_count c file) × (block_count c file ≤ most_blocks)
 count_fits s library c file short is low =
     let disks = is.first_disks in
     let same : length c.files ≡ length s.files =
@@ -86,7 +87,7 @@ count_fits s library c file short is low =
     ∙ slice_get-map (λ (x : FileInfo). x.len) c.files file
     ∙ ap (λ (o : Option FileInfo). option_map (λ (x : FileInfo). x.len) o) info.1 in
     let m = map-some (λ (bytes : List ℕ). length bytes) (slice_get library file) info.0.len there in
-    let most : length m.0 ≤ 16777216 = all_at (λ (bytes : List ℕ). length bytes ≤ 16777216) library file m.0 short m.1 in
+    let most : length m.0 ≤ most_file = all_at (λ (bytes : List ℕ). length bytes ≤ most_file) library file m.0 short m.1 in
     let len = m.2 in
     let count = block_count-there c file info.0 info.1 in
     let some = one_block c file info.0 info.1 in
@@ -98,15 +99,15 @@ same_kind : (a b : Order) → Some a ≡ Some b → a.what ≡ b.what
 same_kind a b e = let z : a ≡ b = cc in ap (λ (x : Order). x.what) z
 
 -- what a start among the orders asks for has blocks
-fit_ask : (c : Catalogue) (files n : ℕ) (es : List ScEvent) → ((file : ℕ) → file < files → (1 ≤ block_count c file) × (block_count c file ≤ 16777216))
+fit_ask : (c : Catalogue) (files n : ℕ) (es : List ScEvent) → ((file : ℕ) → file < files → (1 ≤ block_count c file) × (block_count c file ≤ most_blocks))
     → ((j : ℕ) (e : ScEvent) → slice_get es j ≡ Some e → StartsWithin files e)
     → (k beat : ℕ) (ask : Ask) → slice_get (orders_from c n es) k ≡ Some (record { beat = beat; what = kinds.Begin ask })
-    → (1 ≤ ask.count) × (ask.count ≤ 16777216)
+    → (1 ≤ ask.count) × (ask.count ≤ most_blocks)
 fit_ask c files n [] fit given k at ask e = absurd (none-some (record { beat = at; what = kinds.Begin ask }) e)
 fit_ask c files n (Begin beat file ∷ es) fit given zero at ask e =
     let w = same_kind (start_order c n beat file) (record { beat = at; what = kinds.Begin ask }) e in
     let same : record { instance = record { 0 = n }; file = file; count = block_count c file.0; disk = first_disk c file.0 } ≡ ask = cc in
-    subst (λ (x : Ask). (1 ≤ x.count) × (x.count ≤ 16777216)) same (fit file.0 (given 0 (Begin beat file) refl))
+    subst (λ (x : Ask). (1 ≤ x.count) × (x.count ≤ most_blocks)) same (fit file.0 (given 0 (Begin beat file) refl))
 fit_ask c files n (Begin beat file ∷ es) fit given (suc k) at ask e = fit_ask c files (n + 1) es fit (λ j x q. given (suc j) x q) k at ask e
 fit_ask c files n (Finish beat v ∷ es) fit given zero at ask e =
     let w : kinds.Finish v ≡ kinds.Begin ask = same_kind (record { beat = beat; what = kinds.Finish v }) (record { beat = at; what = kinds.Begin ask }) e in absurd (cc)
@@ -119,7 +120,7 @@ counted_orders s library c scenario short is = record {
   counted = λ k ask starts.
       let fits = fit_ask c (length s.files) 0 s.events (λ file low. count_fits s library c file short is low)
       (λ j e q. all_at (StartsWithin (length s.files)) s.events j e scenario.events.within q) k starts.0 ask starts.1 in
-      both_true (nat_le 1 ask.count) (nat_le ask.count 16777216) (le-leb _ _ fits.0) (le-leb _ _ fits.1);
+      both_true (nat_le 1 ask.count) (nat_le ask.count most_blocks) (le-leb _ _ fits.0) (le-leb _ _ fits.1);
 }
 
 -- the ring of a run of a scenario without deaths

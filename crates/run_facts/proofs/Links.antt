@@ -6,6 +6,7 @@ use Rattle.std.specs.List.{AllByRecursion}
 use Rattle.std.proofs.lemmas.Bool.{cases_Bool}
 use Rattle.std.proofs.lemmas.Bool.Decides.{nat_tests}
 use Rattle.std.proofs.lemmas.List.Elements.{filter-append}
+use Rattle.tiger_base.specs.Limits.{most_beats}
 use Rattle.link_timing.specs.Clock.{Clock, IsClock, arrival_at, after_send}
 use Rattle.link_timing.proofs.Arrivals.{GoesOn-from_IsClock, IsClock-after_send}
 use Rattle.node_kit.specs.Life.{Lifetime, acts, hears}
@@ -67,7 +68,7 @@ link-opens life start k = record {
 
 -- one message more is sent
 pub link-sends : {X : Type 0} (life : Lifetime) (most : ℕ) (start : Clock) (sent got : List (Dated X)) (clock : Clock) (flights : List (Passage X)) (next beat : ℕ) (item : X)
-    → clock.last_send ≤ beat → beat ≤ 100000 → next ≤ beat + 1 → OnLink life most start sent got clock flights next
+    → clock.last_send ≤ beat → beat ≤ most_beats → next ≤ beat + 1 → OnLink life most start sent got clock flights next
     → OnLink life most start (sent ++ (record { beat = beat; item = item }) ∷ []) got (after_send clock beat) (flights ++ (record { sent = beat; arrival = arrival_at clock beat; item = item }) ∷ []) next
 link-sends {X} life most start sent got clock flights next beat item rises early soon on =
     let goes = GoesOn-from_IsClock clock beat on.is_clock rises in

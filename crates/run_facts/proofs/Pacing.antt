@@ -4,6 +4,7 @@ use Rattle.std.specs.Prelude.{◌==◌}
 use Rattle.std.specs.List.{AllByRecursion}
 use Rattle.std.proofs.lemmas.Bool.{cases_Bool}
 use Rattle.tiger_base.specs.declared.message.Note.{Note}
+use Rattle.tiger_base.specs.Limits.{most_beats}
 use Rattle.link_timing.specs.Clock.{Clock, IsClock, new_clock, arrival_at, after_send}
 use Rattle.link_timing.proofs.Arrivals.{GoesOn-from_IsClock, IsClock-after_send, IsClock-new_clock}
 use Rattle.node_kit.specs.declared.journal.What.{What}
@@ -23,7 +24,7 @@ use Rattle.run_facts.proofs.Carrying.{paced-carries}
 -- sends in beats that never fall
 abbrev pub AreInOrder : {X : Type 0} → ℕ → List (Dated X) → Type 0
 AreInOrder low [] = Unit {0}
-AreInOrder low (s ∷ ss) = (low ≤ s.beat) × (s.beat ≤ 100000) × AreInOrder s.beat ss
+AreInOrder low (s ∷ ss) = (low ≤ s.beat) × (s.beat ≤ most_beats) × AreInOrder s.beat ss
 
 -- what they are on their way
 record RunsOn {X : Type 0} (most : ℕ) (clock : Clock) (sent : List (Dated X)) : Type 0 where
@@ -47,7 +48,7 @@ runs-on {X} clock (s ∷ ss) k h =
 abbrev sent_one : ℕ → Entry → List (Dated Note)
 sent_one l e = sent_by l e.stamp.beat e.what
 
-order-one : (l low : ℕ) (e : Entry) (rest : List (Dated Note)) → low ≤ e.stamp.beat → e.stamp.beat ≤ 100000 → AreInOrder e.stamp.beat rest → AreInOrder low rest → AreInOrder low (sent_one l e ++ rest)
+order-one : (l low : ℕ) (e : Entry) (rest : List (Dated Note)) → low ≤ e.stamp.beat → e.stamp.beat ≤ most_beats → AreInOrder e.stamp.beat rest → AreInOrder low rest → AreInOrder low (sent_one l e ++ rest)
 order-one l low e rest above early here there = by_what e.what
   where
     by_what : (w : What) → AreInOrder low (sent_by l e.stamp.beat w ++ rest)
@@ -66,7 +67,7 @@ order-one l low e rest above early here there = by_what e.what
     by_what (what.Believed c) = there
     by_what what.Died = there
 
-order-sent : (l low beats : ℕ) (journal : List Entry) → beats ≤ 100000 → AllByRecursion (λ (e : Entry). low ≤ e.stamp.beat) journal → AreRising journal
+order-sent : (l low beats : ℕ) (journal : List Entry) → beats ≤ most_beats → AllByRecursion (λ (e : Entry). low ≤ e.stamp.beat) journal → AreRising journal
     → AllByRecursion (λ (e : Entry). e.stamp.beat < beats) journal → AreInOrder low (sent_on l journal)
 unfolding sent_on
 order-sent l low beats [] few above rising early = tt

@@ -7,6 +7,7 @@ use Rattle.std.proofs.lemmas.Bool.{leb-true}
 use Rattle.std.proofs.lemmas.List.FromFn.{length-range_with_len}
 use Rattle.tiger_base.specs.declared.number.FileNo.{FileNo}
 use Rattle.tiger_base.specs.declared.tenancy.Tenancy.{Tenancy}
+use Rattle.tiger_base.specs.Limits.{most_visit}
 use Rattle.slot_plan.specs.declared.params.Params.{Params}
 use Rattle.stripe_layout.specs.Layout.{block_span}
 use Rattle.stripe_layout.specs.Places.{place_of, place_in}
@@ -131,7 +132,7 @@ unfolding blocks_of
 blocks_of-small c l js None h = record { whole = omega arith; pieces = omega arith; missing = omega arith }
 blocks_of-small c l js (Some t) h =
     let n = length-range_with_len t.first (t.last + 1 - t.first) in
-    let last = leb-true t.last 2147483648 (and_right (nat_lt t.slot.0 c.plan.params.slots && nat_le t.first t.last) (nat_le t.last 2147483648) h) in
+    let last = leb-true t.last most_visit (and_right (nat_lt t.slot.0 c.plan.params.slots && nat_le t.first t.last) (nat_le t.last most_visit) h) in
     small_within (length (visits_of t)) 2147483649 (tally_of (flat_map (settled_block c l js t) (visits_of t))) (omega arith)
     (settled-small c l js t (visits_of t))
 
@@ -162,7 +163,7 @@ unfolding blocks_of
 blocks_of-bytes c l js None h = omega arith
 blocks_of-bytes c l js (Some t) h =
     let n = length-range_with_len t.first (t.last + 1 - t.first) in
-    let last = leb-true t.last 2147483648 (and_right (nat_lt t.slot.0 c.plan.params.slots && nat_le t.first t.last) (nat_le t.last 2147483648) h) in
+    let last = leb-true t.last most_visit (and_right (nat_lt t.slot.0 c.plan.params.slots && nat_le t.first t.last) (nat_le t.last most_visit) h) in
     let low = settled-bytes c l js t (visits_of t) in
     omega arith
 

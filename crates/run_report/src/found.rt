@@ -1,5 +1,6 @@
 //! What the journals tell of the starts.
 ghost use Rattle.std.specs.Prelude.{◌≡◌, ◌++◌, ◌≤◌, ◌<◌, ◌^◌, IsTrue, IfOk, IfSome, OnOk, Some};
+ghost use Rattle.tiger_base.specs.Limits.{most_beats};
 ghost use Rattle.node_kit.specs.Form.{is_tenancy};
 ghost use Rattle.run_model.specs.Tests.{lost_in_death};
 ghost use Rattle.run_report.specs.Outcomes.{pieces_sent, span_at, reason_of, missing_of, kind_of, is_settled, settled_block, blocks_of, outcome_of, order_outcomes, outcomes_of};
@@ -120,7 +121,7 @@ fn span_at(catalogue: &Catalogue, t: &Tenancy, visit: Visit) -> Span
 
 #[tactic(auto, unfolding(crate::specs::Outcomes::is_settled, slot_plan::specs::Times::time_of))]
 fn is_settled(course: &Course, slot: SlotNo, visit: Visit) -> bool
-    requires beats { course.now.beats ≤ 100000 }
+    requires beats { course.now.beats ≤ most_beats }
     requires slot { slot.0 < course.now.plan.params.slots }
     requires visit { visit ≤ 2 ^ 32 }
     ensures { result ≡ is_settled course.now slot.0 visit }
@@ -166,7 +167,7 @@ fn tenancy_blocks(
     catalogue: &Catalogue,
     t: &Tenancy,
 ) -> Result<Sequence<BlockOut>, NoMemory>
-    requires beats { index.now.course.beats ≤ 100000 }
+    requires beats { index.now.course.beats ≤ most_beats }
     requires form { IsTrue (is_tenancy index.now.course.plan.params t.now) }
     ensures { IfOk result (λ blocks. blocks
         ≡ blocks_of index.now.course catalogue.now index.now.journals (Some t.now)) }
@@ -189,7 +190,7 @@ fn blocks_of(
     catalogue: &Catalogue,
     placed: &Option<Tenancy>,
 ) -> Result<Sequence<BlockOut>, NoMemory>
-    requires beats { index.now.course.beats ≤ 100000 }
+    requires beats { index.now.course.beats ≤ most_beats }
     requires form { IfSome placed.now (λ t. IsTrue (is_tenancy index.now.course.plan.params t)) }
     ensures { IfOk result (λ blocks. blocks
         ≡ blocks_of index.now.course catalogue.now index.now.journals placed.now) }
@@ -207,7 +208,7 @@ fn outcome_of(
     catalogue: &Catalogue,
     ask: Ask,
 ) -> Result<Outcome, NoMemory>
-    requires beats { index.now.course.beats ≤ 100000 }
+    requires beats { index.now.course.beats ≤ most_beats }
     ensures { IfOk result (λ o. o
         ≡ outcome_of index.now.course catalogue.now index.now.journals ask) }
 {
@@ -228,7 +229,7 @@ fn push_outcome(
     catalogue: &Catalogue,
     order: &OrderKind,
 ) -> Result<(), NoMemory>
-    requires beats { index.now.course.beats ≤ 100000 }
+    requires beats { index.now.course.beats ≤ most_beats }
     ensures { OnOk result (outcomes.new.items ≡ outcomes.old.items
         ++ order_outcomes index.now.course catalogue.now index.now.journals order.now) }
 {
@@ -248,7 +249,7 @@ pub fn outcomes(
     orders: &[Order],
     journals: &[Journal],
 ) -> Result<Vec<Outcome>, NoMemory>
-    requires beats { course.now.beats ≤ 100000 }
+    requires beats { course.now.beats ≤ most_beats }
     ensures { IfOk result (λ os. os.items
         ≡ outcomes_of course.now catalogue.now orders.now journals.now) }
 {

@@ -2,6 +2,7 @@
 #![tactic(auto)]
 
 ghost use Rattle.std.specs.Prelude.{◌≡◌, ◌≤◌, ◌<◌, length, IfOk};
+ghost use Rattle.tiger_base.specs.Limits.{most_beats};
 ghost use Rattle.run_report.specs.Text.{report_text, summary_text, kept_outcomes};
 
 mod digest;
@@ -24,7 +25,7 @@ use std::alloc::Global;
 use tiger_base::NoMemory;
 
 fn kept_outcomes(alloc: Global, kept: &Kept) -> Result<Vec<Outcome>, NoMemory>
-    requires beats { kept.now.course.beats ≤ 100000 }
+    requires beats { kept.now.course.beats ≤ most_beats }
     ensures { IfOk result (λ os. os.items ≡ kept_outcomes kept.now) }
 {
     let orders = kept.orders.as_slice();
@@ -43,7 +44,7 @@ pub const ORDERS_LIMIT: usize = 4294967296;
 
 /// The report of a kept run: the lines of each start in the order of the orders, and the total.
 pub fn report(alloc: Global, kept: &Kept) -> Result<Vec<u8>, NoMemory>
-    requires beats { kept.now.course.beats ≤ 100000 }
+    requires beats { kept.now.course.beats ≤ most_beats }
     requires orders { length kept.now.orders < ORDERS_LIMIT }
     ensures { IfOk result (λ text. text.items ≡ report_text kept.now) }
 {
@@ -65,7 +66,7 @@ pub fn report_of(alloc: Global, kept: &Kept, outcomes: &[Outcome]) -> Result<Vec
 /// The summary of a kept run: the last line of its report, and how many bytes the report has, with
 /// their digest.
 pub fn summary(alloc: Global, kept: &Kept) -> Result<Vec<u8>, NoMemory>
-    requires beats { kept.now.course.beats ≤ 100000 }
+    requires beats { kept.now.course.beats ≤ most_beats }
     requires orders { length kept.now.orders < ORDERS_LIMIT }
     ensures { IfOk result (λ text. text.items ≡ summary_text kept.now) }
 {

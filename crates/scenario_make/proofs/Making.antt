@@ -1,6 +1,7 @@
 -- What is made of a number, from what its parts are.
 use Rattle.std.proofs.Common.{◌≡◌, ℕ, ◌≤◌, List, length, Option, ap, sym, ◌∙◌, refl, subst}
 use Rattle.std.specs.List.{All}
+use Rattle.tiger_base.specs.Limits.{most_file}
 use Rattle.rand_pcg.specs.Lcg.{Lcg}
 use Rattle.link_timing.specs.declared.Delay.TheVariants.{Drawn}
 use Rattle.slot_plan.specs.declared.params.Params.{Params}
@@ -52,5 +53,5 @@ as_many h library files e f = ap length e ∙ length-contents_by h 8 ∙ sym (ap
 pub none_empty : (h : Lcg) (library : List (List ℕ)) → library ≡ contents_by h 8 → All (λ bytes. 1 ≤ length bytes) library
 none_empty h library e = subst (λ (l : List (List ℕ)). All (λ bytes. 1 ≤ length bytes) l) (sym e) (contents-filled h 8)
 
-pub all_short : (h : Lcg) (library : List (List ℕ)) → library ≡ contents_by h 8 → All (λ bytes. length bytes ≤ 16777216) library
-all_short h library e = subst (λ (l : List (List ℕ)). All (λ bytes. length bytes ≤ 16777216) l) (sym e) (contents-short h 8)
+pub all_short : (h : Lcg) (library : List (List ℕ)) → library ≡ contents_by h 8 → All (λ bytes. length bytes ≤ most_file) library
+all_short h library e = subst (λ (l : List (List ℕ)). All (λ bytes. length bytes ≤ most_file) l) (sym e) (contents-short h 8)

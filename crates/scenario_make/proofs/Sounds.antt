@@ -9,6 +9,7 @@ use Rattle.std.proofs.lemmas.List.Elements.{All-map, All-weaker}
 use Rattle.std.proofs.lemmas.List.FromFn.{length-range_with_len, get_or-range_with_len, length-map-range_with_len, get_or-map-range_with_len}
 use Rattle.std.proofs.lemmas.List.Sums.{count_by-le-length}
 use Rattle.std.proofs.lemmas.Option.{slice_get-get_or}
+use Rattle.tiger_base.specs.Limits.{most_beats, most_file}
 use Rattle.rand_pcg.specs.Lcg.{Lcg}
 use Rattle.link_timing.specs.Clock.{FixedIsWithin}
 use Rattle.slot_plan.specs.Times.{disk_count, time_of}
@@ -34,7 +35,7 @@ death_in q n = if nat_lt n q.plan.cubs then option_and_then (λ d. d) (slice_get
 -- what a scenario says breaks no rule
 record IsSound (q : Said) : Type 0 where
   low : 1 ≤ q.beats
-  high : q.beats ≤ 100000
+  high : q.beats ≤ most_beats
   offsets : length q.offsets ≡ q.plan.cubs + 1
   skewed : All (λ o. o ≤ q.plan.skew) q.offsets
   by_cub : length q.deaths ≡ q.plan.cubs
@@ -125,10 +126,10 @@ contents-filled g n =
     all_by (λ bytes. 1 ≤ length bytes) (λ (i : ℕ). bytes_of i (length_by (at_file g i))) n
     (λ k _. rw (length-bytes_of k (length_by (at_file g k))) (length_by-range (at_file g k)).0)
 
-pub contents-short : (g : Lcg) (n : ℕ) → All (λ bytes. length bytes ≤ 16777216) (contents_by g n)
+pub contents-short : (g : Lcg) (n : ℕ) → All (λ bytes. length bytes ≤ most_file) (contents_by g n)
 unfolding contents_by
 contents-short g n =
-    all_by (λ bytes. length bytes ≤ 16777216) (λ (i : ℕ). bytes_of i (length_by (at_file g i))) n
+    all_by (λ bytes. length bytes ≤ most_file) (λ (i : ℕ). bytes_of i (length_by (at_file g i))) n
     (λ k _. rw (length-bytes_of k (length_by (at_file g k))) (let range = length_by-range (at_file g k) in omega (arith, range.1)))
 
 -- ---- the events

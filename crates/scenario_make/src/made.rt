@@ -1,5 +1,6 @@
 //! A scenario and its library, made of a number.
 ghost use Rattle.std.specs.Prelude.{◌≡◌, ◌≤◌, IfOk, All, length};
+ghost use Rattle.tiger_base.specs.Limits.{most_file};
 ghost use Rattle.scenario_read.specs.Meaning.{said_by};
 ghost use Rattle.scenario_read.specs.Sound.{IsScenario};
 ghost use Rattle.scenario_make.specs.Made.{made_plan, made_scenario, made_library};
@@ -31,7 +32,7 @@ pub fn make(alloc: Global, number: u64) -> Result<Made, NoMemory>
     // The library has each file that is named, and each has a byte at least.
     ensures all { IfOk result (λ m. length m.library ≡ length m.scenario.files) }
     ensures filled { IfOk result (λ m. All (λ bytes. 1 ≤ length bytes) m.library) }
-    ensures short { IfOk result (λ m. All (λ bytes. length bytes ≤ 16777216) m.library) }
+    ensures short { IfOk result (λ m. All (λ bytes. length bytes ≤ most_file) m.library) }
 {
     let mut generator = Lcg64Xsh32::new(number, 1);
     let offsets = offsets(alloc, &mut generator)?;

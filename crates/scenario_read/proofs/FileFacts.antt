@@ -5,6 +5,7 @@ use Rattle.std.proofs.lemmas.Bool.{leb-true}
 use Rattle.std.proofs.lemmas.Option.{same_Some}
 use Rattle.std.proofs.lemmas.List.{length-replicate}
 use Rattle.std.proofs.lemmas.List.Elements.{All-nil, All-replicate}
+use Rattle.tiger_base.specs.Limits.{most_beats}
 use Rattle.serde_json.specs.Data.{Data}
 use Rattle.serde_json.specs.Find.{get, as_number, as_u64, as_str}
 use Rattle.link_timing.specs.Clock.{FixedIsWithin}
@@ -25,15 +26,15 @@ use Rattle.scenario_read.proofs.ItemFacts.{AreRead, items_of-read, given_or-read
 
 pub record AreBeats (cubs beats : ℕ) : Type 0 where
   pub some : 1 ≤ beats
-  pub few : beats ≤ 100000
+  pub few : beats ≤ most_beats
   pub product : beats * cubs ≤ 2000000
 
 pub beats_of-sound : (cubs : ℕ) (d : Data) (beats : ℕ) → beats_of cubs d ≡ Ok beats → AreBeats cubs beats
 unfolding beats_of
 beats_of-sound cubs d beats e =
-    let a = bind-ok (found (ranged_at (codes "beats") 1 100000 d) (broken 5 0)) _ beats e in
+    let a = bind-ok (found (ranged_at (codes "beats") 1 most_beats d) (broken 5 0)) _ beats e in
     let b = bind-ok (keeps (nat_le (a.0 * cubs) 2000000) (exceeded 5 (a.0 * cubs) 2000000)) _ beats a.2 in
-    let r = ranged_at-range (codes "beats") 1 100000 d a.0 (found-ok (ranged_at (codes "beats") 1 100000 d) (broken 5 0) a.0 a.1) in
+    let r = ranged_at-range (codes "beats") 1 most_beats d a.0 (found-ok (ranged_at (codes "beats") 1 most_beats d) (broken 5 0) a.0 a.1) in
     let p = leb-true (a.0 * cubs) 2000000 (keeps-ok (nat_le (a.0 * cubs) 2000000) (exceeded 5 (a.0 * cubs) 2000000) b.0 b.1) in
     subst (AreBeats cubs) (ok-same a.0 beats b.2) (record { some = r.0; few = r.1; product = p })
 

@@ -1,5 +1,6 @@
 -- The run's beats, how long messages are under way, and how far the clocks are ahead.
 use Rattle.std.specs.Prelude.{ℕ, ◌+◌, ◌*◌, nat_le, if◌then◌else◌, List, [], ◌∷◌, replicate, Option, Some, None, option_and_then, option_map, Result, Ok, codes}
+use Rattle.tiger_base.specs.Limits.{most_beats}
 use Rattle.serde_json.specs.Data.{Data}
 use Rattle.serde_json.specs.Find.{get, as_number, as_u64}
 use Rattle.link_timing.specs.declared.Delay.{Delay}
@@ -13,7 +14,7 @@ use Rattle.scenario_read.specs.Items.{items_of, given_or}
 -- the number of beats: from 1 to 100000, and in all cubs together at most 2000000
 unfoldable pub beats_of : ℕ → Data → Result ℕ ScenarioFault
 beats_of cubs d = do
-  beats ← found (ranged_at (codes "beats") 1 100000 d) (broken 5 0)
+  beats ← found (ranged_at (codes "beats") 1 most_beats d) (broken 5 0)
   product ← keeps (nat_le (beats * cubs) 2000000) (exceeded 5 (beats * cubs) 2000000)
   Ok beats
 

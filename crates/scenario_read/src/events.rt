@@ -1,5 +1,6 @@
 //! Reading the events of a scenario.
 ghost use Rattle.std.specs.Prelude.{◌≡◌, ◌≤◌, ◌+◌, ◌<◌, [], ◌∷◌, map, length, IfOk};
+ghost use Rattle.tiger_base.specs.Limits.{most_beats};
 ghost use Rattle.serde_json.specs.View.{view};
 ghost use Rattle.scenario_read.specs.Fault.{Gives, GivesAs};
 ghost use Rattle.scenario_read.specs.Items.{items_after};
@@ -148,7 +149,7 @@ fn starts_in(events: &[ScEvent]) -> u64
 /// Tests that the starts do not ask for too many blocks in the run's time.
 #[tactic(auto, unfolding(crate::specs::Events::few_blocks))]
 pub fn few_blocks(plan: &Plan, beats: u64, events: &[ScEvent]) -> Result<(), ReadStop>
-    requires beats { beats ≤ 100000 }
+    requires beats { beats ≤ most_beats }
     requires events { length events.now ≤ 4000 }
     ensures { Gives result (few_blocks plan.now.params beats (starts_in events.now)) }
 {

@@ -1,5 +1,6 @@
 //! Reading the run's beats, the delay of its links and the offsets of its clocks.
 ghost use Rattle.std.specs.Prelude.{◌≡◌, ◌≤◌, [], map, length, IfOk};
+ghost use Rattle.tiger_base.specs.Limits.{most_beats};
 ghost use Rattle.serde_json.specs.View.{view};
 ghost use Rattle.scenario_read.specs.Fault.{Gives, GivesAs};
 ghost use Rattle.scenario_read.specs.Items.{items_after};
@@ -11,16 +12,16 @@ use link_timing::Delay;
 use serde_json::Value;
 use slot_plan::Plan;
 use std::alloc::Global;
-use tiger_base::{Micros, Sequence};
+use tiger_base::{MOST_BEATS, Micros, Sequence};
 
 /// The number of beats, which in all cubs together are not too many.
 #[tactic(auto, unfolding(crate::specs::Timing::beats_of))]
 pub fn beats_of(cubs: u64, top: &Value) -> Result<u64, ReadStop>
     requires { cubs ≤ 64 }
     ensures gives { Gives result (beats_of cubs (view top.now)) }
-    ensures range { IfOk result (λ beats. beats ≤ 100000) }
+    ensures range { IfOk result (λ beats. beats ≤ most_beats) }
 {
-    let Some(beats) = ranged(top, "beats", 1, 100000) else {
+    let Some(beats) = ranged(top, "beats", 1, MOST_BEATS) else {
         return Err(broken(5, 0));
     };
     let all = beats * cubs;

@@ -27,8 +27,8 @@ use Rattle.partial_view.specs.Views.{line_at}
 use Rattle.slot_owner.specs.Free.{is_free}
 use Rattle.insert_queue.specs.Queues.{without}
 use Rattle.insert_queue.specs.Queues as queues
-use Rattle.rule_kit.specs.Ways.{way_ahead}
-use Rattle.rule_kit.specs.Deeds.{nothing}
+use Rattle.node_kit.specs.Ways.{way_ahead}
+use Rattle.node_kit.specs.Deeds.{nothing}
 use Rattle.cub_rules.specs.declared.store.Store.{Store}
 use Rattle.cub_rules.specs.Ticks.{putting, told_placed, free_on}
 use Rattle.schedule_proof.specs.Facts.{IsGiven}

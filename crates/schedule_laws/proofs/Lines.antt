@@ -4,6 +4,7 @@ use Rattle.std.specs.Prelude.{◌⊎◌}
 use Rattle.tiger_base.specs.declared.number.Stamp.{Stamp}
 use Rattle.tiger_base.specs.declared.tenancy.Rec.{Rec}
 use Rattle.tiger_base.specs.declared.message.Msg.{Msg}
+use Rattle.tiger_base.specs.Limits.{most_reading}
 use Rattle.slot_plan.specs.declared.params.Params.{Params}
 use Rattle.slot_plan.specs.Conditions.{IsPlan}
 use Rattle.node_kit.specs.Steps.{Input, stamp_of}
@@ -150,10 +151,10 @@ module _ (p : Params) (c : ℕ) (plan : IsPlan p) (here : c < p.cubs) (inputs : 
     parts = tt;
   }
 
-  deed_kept : (i : Input Msg) (h : Store) → (stamp_of i).reading ≤ 1000000000000 → IsStoreOf p c h → IsStoreOf p c (deed_of p c i h).state
+  deed_kept : (i : Input Msg) (h : Store) → (stamp_of i).reading ≤ most_reading → IsStoreOf p c h → IsStoreOf p c (deed_of p c i h).state
   deed_kept (Take stamp link m) h short kept = (taking_right p c stamp link m plan here short h kept).keeps
   deed_kept (Tick stamp) h short kept = (ticking_right p c stamp plan here short h kept).keeps
 
-  pub kept_at : (i : ℕ) → ((k : ℕ) → k < i → (stamp_of (inputs k)).reading ≤ 1000000000000) → IsStoreOf p c (store_at p c inputs i)
+  pub kept_at : (i : ℕ) → ((k : ℕ) → k < i → (stamp_of (inputs k)).reading ≤ most_reading) → IsStoreOf p c (store_at p c inputs i)
   kept_at zero short = opening_kept
   kept_at (suc i) short = deed_kept (inputs i) (store_at p c inputs i) (short i (omega arith)) (kept_at i (λ k l. short k (omega arith)))

@@ -30,8 +30,8 @@ use Rattle.deadman.specs.Silence.{Silence}
 use Rattle.deschedule.specs.Holds.{is_held, must_pass}
 use Rattle.deadman.specs.Silence.{is_silent}
 use Rattle.mirror_schedule.specs.Pieces as pieces
-use Rattle.rule_kit.specs.Ways.{way_ahead}
-use Rattle.rule_kit.specs.Deeds.{nothing, then_do, each_in_turn}
+use Rattle.node_kit.specs.Ways.{way_ahead}
+use Rattle.node_kit.specs.Deeds.{nothing, then_do, each_in_turn}
 use Rattle.cub_rules.specs.declared.store.Store.{Store}
 use Rattle.cub_rules.specs.State.{is_ask}
 use Rattle.cub_rules.specs.Records.{predecessor, view_with, took, dropping_lines, dropping_start, dropping_pieces, with_piece_record}

@@ -12,6 +12,7 @@ use Rattle.tiger_base.specs.declared.tenancy.Tag.{Tag}
 use Rattle.tiger_base.specs.declared.tenancy.Tenancy.{Tenancy}
 use Rattle.tiger_base.specs.declared.message.Msg.{Msg}
 use Rattle.tiger_base.specs.declared.message.Msg.TheVariants as msg
+use Rattle.tiger_base.specs.Limits.{most_blocks}
 use Rattle.slot_plan.specs.declared.params.Params.{Params}
 use Rattle.slot_plan.specs.Conditions.{IsPlan}
 use Rattle.slot_plan.specs.Times.{due, cub_of, disk_of}
@@ -21,7 +22,7 @@ use Rattle.partial_view.specs.declared.line.Line.{Line}
 use Rattle.insert_queue.specs.Queues as queues
 use Rattle.insert_queue.specs.Queues.{Queues, is_asked, has_start, with_waiting}
 use Rattle.deschedule.specs.Holds.{is_held}
-use Rattle.rule_kit.specs.Deeds.{then_do}
+use Rattle.node_kit.specs.Deeds.{then_do}
 use Rattle.cub_rules.specs.declared.store.Store.{Store}
 use Rattle.cub_rules.specs.Messages.{taking, shows}
 use Rattle.cub_rules.specs.Ticks.{inserting, splitting, forwarding, reading, serving, beating, ticking}
@@ -109,7 +110,7 @@ module _ (p : Params) (plan : IsPlan p) (lives : Lives) (are : AreLives p lives)
       let before = s.before in
       let low = d.done in
       let o = starts.ordered c s.at s.stamp s.link w.well.ask s.redundant d.small (omega arith) s.is in
-      let count = leb-true _ _ (and_parts (nat_le 1 w.well.ask.count) (nat_le w.well.ask.count 16777216) (starts.counted w.well.ask o)).0 in
+      let count = leb-true _ _ (and_parts (nat_le 1 w.well.ask.count) (nat_le w.well.ask.count most_blocks) (starts.counted w.well.ask o)).0 in
       let last = w.well.last in
       record { ask = w.well.ask; ordered = o; asked = record { instance = w.well.instance; file = w.well.file; count = omega arith; disk = w.well.disk } }
 

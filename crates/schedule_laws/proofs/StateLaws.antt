@@ -12,6 +12,7 @@ use Rattle.tiger_base.specs.declared.tenancy.Tag.{Tag}
 use Rattle.tiger_base.specs.declared.tenancy.Tenancy.{Tenancy}
 use Rattle.tiger_base.specs.declared.message.Msg.{Msg}
 use Rattle.tiger_base.specs.declared.message.Msg.TheVariants as msg
+use Rattle.tiger_base.specs.Limits.{most_reading}
 use Rattle.slot_plan.specs.declared.params.Params.{Params}
 use Rattle.slot_plan.specs.Conditions.{IsPlan}
 use Rattle.slot_plan.specs.Times.{due, cub_of}
@@ -301,7 +302,7 @@ module _ (p : Params) (plan : IsPlan p) (lives : Lives) (are : AreLives p lives)
       f.how))
       (cases_Bool (is_held h.held t.instance))
 
-  short : (c i : ℕ) → c < p.cubs → i < lives.count c → (k : ℕ) → k < suc i → (stamp_of (lives.input c k)).reading ≤ 1000000000000
+  short : (c i : ℕ) → c < p.cubs → i < lives.count c → (k : ℕ) → k < suc i → (stamp_of (lives.input c k)).reading ≤ most_reading
   short c i small low k l = (are c small).short k (omega arith)
 
   -- a record that was idle till now was too early at the tick of the beat before
@@ -364,7 +365,7 @@ module _ (p : Params) (plan : IsPlan p) (lives : Lives) (are : AreLives p lives)
       (λ i.
       let f = (forwarded p a w.stamp plan d.small h link s i).0 in
       let parts = forward_parts p w.stamp f.rec plan f.must in
-      let sh : w.stamp.reading ≤ 1000000000000 = let e = (are a d.small).short d.at d.done in let q = ap (λ (j : Input Msg). (stamp_of j).reading) w.is in omega arith in
+      let sh : w.stamp.reading ≤ most_reading = let e = (are a d.small).short d.at d.done in let q = ap (λ (j : Input Msg). (stamp_of j).reading) w.is in omega arith in
       let kept = kept_at p a plan d.small inputs d.at (λ j l. short a d.at d.small d.done j (omega arith)) in
       let own = own_visit p a f.rec (f.own kept sh) parts.0 in
       let c = came a d.at f.rec w.stamp d.small d.done w.is parts.0 parts.1 f.how in

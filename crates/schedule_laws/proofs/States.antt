@@ -20,7 +20,7 @@ use Rattle.node_kit.specs.declared.outbox.Out.TheVariants as out
 use Rattle.node_kit.specs.Steps.{Input}
 use Rattle.node_kit.specs.Steps.Input.{Take, Tick}
 use Rattle.state_forward.specs.Forwards.{is_own, is_batch_beat, is_next_due, must_forward}
-use Rattle.rule_kit.specs.Ways.{way_ahead}
+use Rattle.node_kit.specs.Ways.{way_ahead}
 use Rattle.cub_rules.specs.declared.store.Store.{Store}
 use Rattle.cub_rules.specs.State.{IsRecordOf, visit_here}
 use Rattle.cub_rules.specs.Ticks.{inserting, ticking, next_state}

@@ -34,8 +34,8 @@ use Rattle.deschedule.specs.Holds as holds
 use Rattle.deschedule.specs.Holds.{is_held, must_pass}
 use Rattle.mirror_schedule.specs.Splits as splits
 use Rattle.mirror_schedule.specs.Pieces as pieces
-use Rattle.rule_kit.specs.Ways.{way_ahead}
-use Rattle.rule_kit.specs.Deeds.{nothing, then_do, each_in_turn}
+use Rattle.node_kit.specs.Ways.{way_ahead}
+use Rattle.node_kit.specs.Deeds.{nothing, then_do, each_in_turn}
 use Rattle.cub_rules.specs.declared.store.Store.{Store}
 use Rattle.cub_rules.specs.State.{is_ask}
 use Rattle.cub_rules.specs.Records.{predecessor, view_with, took, dropped, dropping_lines, dropping_start, dropping_pieces, with_piece_record}

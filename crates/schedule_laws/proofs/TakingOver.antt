@@ -20,7 +20,7 @@ use Rattle.node_kit.specs.declared.outbox.Out.TheVariants as out
 use Rattle.node_kit.specs.Steps.{Deed}
 use Rattle.partial_view.specs.declared.line.Line.{Line}
 use Rattle.insert_queue.specs.Queues as queues
-use Rattle.rule_kit.specs.Deeds.{nothing, then_do, each_in_turn}
+use Rattle.node_kit.specs.Deeds.{nothing, then_do, each_in_turn}
 use Rattle.cub_rules.specs.declared.store.Store.{Store}
 use Rattle.cub_rules.specs.Records.{predecessor, took}
 use Rattle.cub_rules.specs.Ticks.{tenancy_from, sending, putting, told_placed, own_of, backup_of, putting_for_dead, putting_on, inserting_own, inserting_for_dead, inserting, disks_at}

@@ -25,7 +25,7 @@ use Rattle.partial_view.specs.declared.line.Line.{Line}
 use Rattle.partial_view.specs.Lines.{visit_of, is_at}
 use Rattle.partial_view.specs.Views.{line_at}
 use Rattle.deschedule.specs.Holds.{is_held}
-use Rattle.rule_kit.specs.Deeds.{nothing, each_in_turn}
+use Rattle.node_kit.specs.Deeds.{nothing, each_in_turn}
 use Rattle.cub_rules.specs.declared.store.Store.{Store}
 use Rattle.cub_rules.specs.Records.{took, dropping_start}
 use Rattle.cub_rules.specs.Messages.{position_at, records_told, told, met, meeting_state, passing_from, hearing, taking}

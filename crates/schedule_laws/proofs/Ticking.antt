@@ -8,6 +8,7 @@ use Rattle.tiger_base.specs.declared.tenancy.Rec.{Rec}
 use Rattle.tiger_base.specs.declared.tenancy.State.{State}
 use Rattle.tiger_base.specs.declared.message.Msg.{Msg}
 use Rattle.tiger_base.specs.declared.message.Msg.TheVariants as msg
+use Rattle.tiger_base.specs.Limits.{most_reading}
 use Rattle.slot_plan.specs.declared.params.Params.{Params}
 use Rattle.slot_plan.specs.Conditions.{IsPlan}
 use Rattle.node_kit.specs.declared.outbox.Out.{Out}
@@ -15,8 +16,8 @@ use Rattle.node_kit.specs.declared.outbox.Out.TheVariants as out
 use Rattle.node_kit.specs.Steps.{Deed}
 use Rattle.partial_view.specs.declared.line.Line.{Line}
 use Rattle.state_forward.specs.Forwards.{must_forward}
-use Rattle.rule_kit.specs.Ways.{way_ahead}
-use Rattle.rule_kit.specs.Deeds.{then_do}
+use Rattle.node_kit.specs.Ways.{way_ahead}
+use Rattle.node_kit.specs.Deeds.{then_do}
 use Rattle.cub_rules.specs.declared.store.Store.{Store}
 use Rattle.cub_rules.specs.State.{IsStoreOf, IsLineOf, IsRecordOf}
 use Rattle.cub_laws.proofs.Ticks.{releasing_right, believing_right}
@@ -184,10 +185,10 @@ pub record Forwarded (p : Params) (c : ℕ) (stamp : Stamp) (h : Store) (s : Sta
   pub must : must_forward p stamp rec ≡ true
   pub how : ((x : Line) × In x h.view.lines × (x.rec ≡ rec) × (x.forwarded ≡ false)) ⊎ In (taken_out rec) (ticking p c stamp h).outs
   -- it is a record of this cub
-  pub own : IsStoreOf p c h → stamp.reading ≤ 1000000000000 → IsRecordOf p c rec
+  pub own : IsStoreOf p c h → stamp.reading ≤ most_reading → IsRecordOf p c rec
 
 -- what a cub keeps when forwarding begins is what this cub may keep
-kept_before : (p : Params) (c : ℕ) (stamp : Stamp) → IsPlan p → c < p.cubs → (h : Store) → IsStoreOf p c h → stamp.reading ≤ 1000000000000 → IsStoreOf p c (before_forwarding p c stamp h)
+kept_before : (p : Params) (c : ℕ) (stamp : Stamp) → IsPlan p → c < p.cubs → (h : Store) → IsStoreOf p c h → stamp.reading ≤ most_reading → IsStoreOf p c (before_forwarding p c stamp h)
 kept_before p c stamp plan here h kept short =
     let h1 : Store = (releasing p stamp h).state in
     let h2 : Store = before_inserting p c stamp h in

@@ -13,7 +13,7 @@ use Rattle.node_kit.specs.declared.outbox.Out.TheVariants as out
 use Rattle.node_kit.specs.Steps.{Deed, Input, stamp_of}
 use Rattle.node_kit.specs.Steps.Input.{Take, Tick}
 use Rattle.deadman.specs.Silence.{Silence, is_silent}
-use Rattle.rule_kit.specs.Ways.{way_ahead}
+use Rattle.node_kit.specs.Ways.{way_ahead}
 use Rattle.cub_rules.specs.declared.store.Store.{Store}
 use Rattle.cub_rules.specs.Records.{predecessor}
 use Rattle.cub_rules.specs.Ticks.{releasing, believing, inserting, splitting, forwarding, reading, serving, beating, ticking}

@@ -6,7 +6,7 @@ use Rattle.slot_plan.specs.declared.params.Params.{Params}
 use Rattle.node_kit.specs.Life.{trimmed}
 use Rattle.node_kit.specs.Steps.{Deed, Input}
 use Rattle.node_kit.specs.Steps.Input.{Take, Tick}
-use Rattle.rule_kit.specs.Deeds.{wrapped}
+use Rattle.node_kit.specs.Deeds.{wrapped}
 use Rattle.cub_rules.specs.declared.store.Store.{Store}
 use Rattle.cub_rules.specs.State.{CubState, opening_store}
 use Rattle.cub_rules.specs.Cubs.{cub_step}

@@ -15,7 +15,7 @@ use Rattle.node_kit.specs.declared.outbox.Out.{Out}
 use Rattle.node_kit.specs.declared.outbox.Out.TheVariants as out
 use Rattle.node_kit.specs.Steps.Input.{Take, Tick}
 use Rattle.deadman.specs.Silence.{is_silent}
-use Rattle.rule_kit.specs.Ways.{way_ahead}
+use Rattle.node_kit.specs.Ways.{way_ahead}
 use Rattle.cub_rules.specs.State.{IsAsk}
 use Rattle.cub_rules.specs.Records.{predecessor}
 use Rattle.schedule_proof.specs.Facts.{Facts}

@@ -8,6 +8,7 @@ use Rattle.tiger_base.specs.declared.tenancy.Tag.{Tag}
 use Rattle.tiger_base.specs.declared.message.Msg.{Msg}
 use Rattle.tiger_base.specs.declared.message.Msg.TheVariants as msg
 use Rattle.tiger_base.specs.Notes.{noted}
+use Rattle.tiger_base.specs.Limits.{most_reading}
 use Rattle.slot_plan.specs.declared.params.Params.{Params}
 use Rattle.slot_plan.specs.Conditions.{IsPlan}
 use Rattle.node_kit.specs.declared.course.Order.{Order}
@@ -39,7 +40,7 @@ pub record IsLivingHistory {S : Type 0} (step : S → Input Msg → Deed Msg S) 
   pub run : IsRun noted step p nodes h
   pub all_cubs : p.cubs ≤ nodes
   pub alive : (n i : ℕ) → n < nodes → i < h.count n → is_death (h.event n i) ≡ false
-  pub short : (n i : ℕ) → n < nodes → i < h.count n → reading h n i ≤ 1000000000000
+  pub short : (n i : ℕ) → n < nodes → i < h.count n → reading h n i ≤ most_reading
   pub cubs : (c i : ℕ) → c < p.cubs → i < h.count c → outs noted step h c i ≡ outs_at p c ((lives_of h).input c) i
   pub states : (n i : ℕ) (link : LinkNo) (s : State) → n < nodes → p.cubs ≤ n → i < h.count n → In (out.Send link (msg.ViewerState s)) (outs noted step h n i) → ⊥
 

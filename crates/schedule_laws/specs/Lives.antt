@@ -6,6 +6,7 @@ use Rattle.tiger_base.specs.declared.tenancy.State.{State}
 use Rattle.tiger_base.specs.declared.message.Msg.{Msg}
 use Rattle.tiger_base.specs.declared.message.Msg.TheVariants as msg
 use Rattle.tiger_base.specs.Notes.{noted}
+use Rattle.tiger_base.specs.Limits.{most_reading}
 use Rattle.slot_plan.specs.declared.params.Params.{Params}
 use Rattle.slot_plan.specs.Times.{time_of}
 use Rattle.node_kit.specs.declared.outbox.Out.{Out}
@@ -56,7 +57,7 @@ pub record IsLife (p : Params) (count : ℕ) (inputs : ℕ → Input Msg) : Type
   pub in_beat : (i : ℕ) → i < count → beat_at inputs i ≡ ticks_at inputs i
   pub reads : (i : ℕ) → i < count → (time_of p (beat_at inputs i) ≤ reading_at inputs i) × (reading_at inputs i ≤ time_of p (beat_at inputs i) + p.skew)
   pub rising : (j i : ℕ) → j ≤ i → i < count → reading_at inputs j ≤ reading_at inputs i
-  pub short : (i : ℕ) → i < count → reading_at inputs i ≤ 1000000000000
+  pub short : (i : ℕ) → i < count → reading_at inputs i ≤ most_reading
 
 -- for each cub how many inputs it has, and which
 pub record Lives : Type 0 where

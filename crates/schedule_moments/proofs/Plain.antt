@@ -24,7 +24,7 @@ use Rattle.viewer_state.specs.States.{is_visit_of}
 use Rattle.insert_queue.specs.Queues.{is_asked, has_start}
 use Rattle.deschedule.specs.Holds.{is_held, must_pass}
 use Rattle.mirror_schedule.specs.Pieces.{pieces_of}
-use Rattle.rule_kit.specs.Ways.{way_ahead, way_to_disk}
+use Rattle.node_kit.specs.Ways.{way_ahead, way_to_disk}
 use Rattle.schedule_laws.proofs.Moves.{is_taken, taken_out}
 use Rattle.schedule_laws.proofs.Inserting.{state_out}
 use Rattle.node_kit.specs.declared.journal.What.TheVariants as what
@@ -34,7 +34,7 @@ use Rattle.node_kit.specs.Steps.{Deed}
 use Rattle.partial_view.specs.declared.line.Line.{Line}
 use Rattle.partial_view.specs.Lines.{is_of}
 use Rattle.mirror_schedule.specs.Splits as splits
-use Rattle.rule_kit.specs.Deeds.{nothing, each_in_turn}
+use Rattle.node_kit.specs.Deeds.{nothing, each_in_turn}
 use Rattle.cub_rules.specs.declared.store.Store.{Store}
 use Rattle.cub_rules.specs.declared.store.StoredPart.{StoredPart}
 use Rattle.cub_rules.specs.State.{is_ask, want_of, want_of_piece}

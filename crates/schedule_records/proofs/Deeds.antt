@@ -10,7 +10,7 @@ use Rattle.node_kit.specs.declared.outbox.Out.{Out}
 use Rattle.node_kit.specs.Steps.{Deed}
 use Rattle.partial_view.specs.declared.line.Line.{Line}
 use Rattle.partial_view.specs.Lines.{unmarked}
-use Rattle.rule_kit.specs.Deeds.{nothing, then_do, each_in_turn}
+use Rattle.node_kit.specs.Deeds.{nothing, then_do, each_in_turn}
 use Rattle.cub_rules.specs.declared.store.Store.{Store}
 use Rattle.cub_rules.specs.Records.{took, dropped}
 use Rattle.run_model.specs.Views.{same_record}

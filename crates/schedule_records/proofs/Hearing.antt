@@ -31,8 +31,8 @@ use Rattle.insert_queue.specs.Queues.{is_asked, has_start}
 use Rattle.deschedule.specs.Holds.{is_held, must_pass}
 use Rattle.mirror_schedule.specs.Pieces as pieces
 use Rattle.mirror_schedule.specs.Splits as splits
-use Rattle.rule_kit.specs.Ways.{way_ahead}
-use Rattle.rule_kit.specs.Deeds.{nothing, then_do, each_in_turn}
+use Rattle.node_kit.specs.Ways.{way_ahead}
+use Rattle.node_kit.specs.Deeds.{nothing, then_do, each_in_turn}
 use Rattle.cub_rules.specs.declared.store.Store.{Store}
 use Rattle.cub_rules.specs.State.{is_ask}
 use Rattle.cub_rules.specs.Records.{predecessor, took, dropped, dropping_lines, dropping_start, dropping_pieces, with_piece_record}

@@ -16,7 +16,7 @@ use Rattle.node_kit.specs.declared.outbox.Out.TheVariants as out
 use Rattle.node_kit.specs.Steps.{Deed}
 use Rattle.partial_view.specs.declared.line.Line.{Line}
 use Rattle.partial_view.specs.Lines.{unmarked}
-use Rattle.rule_kit.specs.Deeds.{nothing, then_do, each_in_turn}
+use Rattle.node_kit.specs.Deeds.{nothing, then_do, each_in_turn}
 use Rattle.cub_rules.specs.declared.store.Store.{Store}
 use Rattle.cub_rules.specs.Records.{predecessor, took}
 use Rattle.cub_rules.specs.Ticks.{tenancy_from, sending, putting, told_placed, own_of, backup_of, putting_own, putting_for_dead, put_or_wait, free_on, putting_each, is_for, putting_on, disks_at, inserting_own, inserting_for_dead, inserting}

@@ -28,8 +28,8 @@ use Rattle.state_forward.specs.Forwards.{is_own, must_forward}
 use Rattle.insert_queue.specs.Queues.{after_take_over}
 use Rattle.deadman.specs.Silence.{is_silent}
 use Rattle.mirror_schedule.specs.Pieces.{pieces_of}
-use Rattle.rule_kit.specs.Ways.{way_ahead, way_to_disk}
-use Rattle.rule_kit.specs.Deeds.{nothing, then_do}
+use Rattle.node_kit.specs.Ways.{way_ahead, way_to_disk}
+use Rattle.node_kit.specs.Deeds.{nothing, then_do}
 use Rattle.cub_rules.specs.declared.store.Store.{Store}
 use Rattle.cub_rules.specs.declared.store.StoredPart.{StoredPart}
 use Rattle.cub_rules.specs.State.{want_of, want_of_piece}

@@ -15,7 +15,7 @@ use Rattle.node_kit.specs.declared.outbox.Out.TheVariants as out
 use Rattle.node_kit.specs.Steps.{Input}
 use Rattle.node_kit.specs.Steps.Input.{Take, Tick}
 use Rattle.partial_view.specs.declared.line.Line.{Line}
-use Rattle.rule_kit.specs.Ways.{way_ahead}
+use Rattle.node_kit.specs.Ways.{way_ahead}
 use Rattle.run_model.specs.Fronts.{AnyByRecursion}
 use Rattle.run_model.specs.Views.{recorded}
 use Rattle.run_model.specs.Parts.{IsAtOrBefore, IsForCub, IsOwnRecordFor}

@@ -23,7 +23,7 @@ use Rattle.node_kit.specs.declared.outbox.Out.TheVariants as out
 use Rattle.node_kit.specs.Links.{links_of, ends_of}
 use Rattle.node_kit.specs.Steps.{Deed, Input, entry_of, stamp_of}
 use Rattle.node_kit.specs.Steps.Input.{Take, Tick}
-use Rattle.rule_kit.specs.Ways.{way_ahead}
+use Rattle.node_kit.specs.Ways.{way_ahead}
 use Rattle.run_facts.specs.Histories.{History}
 use Rattle.run_facts.specs.Order.{Noted, journal_of, order_of}
 use Rattle.run_facts.specs.Timed.{is_died}

@@ -2,6 +2,7 @@
 #![tactic(auto)]
 
 ghost use Rattle.std.specs.Prelude.{◌≡◌, ◌≤◌, MatchOption};
+ghost use Rattle.tiger_base.specs.Limits.{most_reading};
 ghost use Rattle.slot_plan.specs.Keys.{Key};
 ghost use Rattle.slot_plan.specs.Windows.{least_visit, IsOpen, IsLeastOpen};
 ghost use Rattle.slot_owner.specs.Free.{is_free};
@@ -19,7 +20,7 @@ pub fn free_visit(
     disk: DiskNo,
 ) -> Option<(SlotNo, Visit)>
     requires view { view.now.params ≡ plan.now.params }
-    requires reading { reading ≤ 1000000000000 }
+    requires reading { reading ≤ most_reading }
     ensures visit { result ≡ least_visit plan.now.params reading disk.0 (is_free view.now.lines) }
     ensures least { let p = plan.now.params in let free = is_free view.now.lines in
         MatchOption result

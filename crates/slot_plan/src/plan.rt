@@ -1,4 +1,5 @@
 //! A plan: numbers that meet every condition, and the times of its visits.
+ghost use Rattle.tiger_base.specs.Limits.{most_reading};
 ghost use Rattle.slot_plan.specs.Conditions.{IsPlan};
 
 use crate::params::{Params, PlanFault, at_most, below};
@@ -95,7 +96,7 @@ impl Plan {
     /// Whether the visit is in the window when a clock shows the reading.
     #[tactic(auto, unfolding(crate::specs::Times::in_window))]
     pub fn in_window(&self, reading: Micros, slot: SlotNo, visit: Visit) -> bool
-        requires reading { reading ≤ 1000000000000 }
+        requires reading { reading ≤ most_reading }
         requires slot { slot.0 < self.now.params.slots }
         requires visit { visit ≤ 2 ^ 32 }
         ensures { result ≡ in_window self.now.params reading slot.0 visit }
@@ -107,7 +108,7 @@ impl Plan {
     /// The last visit of the slot that is due at the reading or before it, and `None` before the slot's first.
     pub fn visit_at_or_before(&self, slot: SlotNo, reading: Micros) -> Option<Visit>
         requires slot { slot.0 < self.now.params.slots }
-        requires reading { reading ≤ 1000000000000 }
+        requires reading { reading ≤ most_reading }
         ensures visit { result ≡ visit_by self.now.params slot.0 reading }
         ensures latest { MatchOption result (reading < due self.now.params slot.0 0)
             (λ n. IsLatest self.now.params slot.0 reading n) }
@@ -152,7 +153,7 @@ impl Plan {
         disk: DiskNo,
         after: Option<(SlotNo, Visit)>,
     ) -> Option<(SlotNo, Visit)>
-        requires reading { reading ≤ 1000000000000 }
+        requires reading { reading ≤ most_reading }
         requires after { ForSome after (IsKey self.now.params) }
         ensures visit { let p = self.now.params in result ≡ least_visit p reading disk.0 (is_behind p after) }
         ensures next { let p = self.now.params in
@@ -173,7 +174,7 @@ impl Plan {
 
     /// The earliest time at which an open visit that comes behind the given one can be due.
     fn search_start(&self, reading: Micros, after: Option<(SlotNo, Visit)>) -> Micros
-        requires reading { reading ≤ 1000000000000 }
+        requires reading { reading ≤ most_reading }
         requires after { ForSome after (IsKey self.now.params) }
         ensures { result ≡ from_of self.now.params reading after }
     {

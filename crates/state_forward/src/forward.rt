@@ -1,5 +1,6 @@
 //! The test of forwarding, and the receivers of a state.
 ghost use Rattle.std.specs.Prelude.{◌≡◌, ◌≤◌, ◌<◌, ◌^◌, ◌+◌};
+ghost use Rattle.tiger_base.specs.Limits.{most_reading};
 ghost use Rattle.slot_plan.specs.Times.{due, cub_of};
 ghost use Rattle.state_forward.specs.Forwards.{must_forward, targets, is_own, is_batch_beat, is_next_due};
 
@@ -13,7 +14,7 @@ use tiger_base::{CubNo, Kind, Micros, Rec, Stamp, Visit};
 pub fn must_forward(plan: &Plan, stamp: Stamp, rec: &Rec) -> bool
     requires slot { rec.now.tenancy.slot.0 < plan.now.params.slots }
     requires visit { rec.now.visit < 2 ^ 32 }
-    requires reading { stamp.reading ≤ 1000000000000 }
+    requires reading { stamp.reading ≤ most_reading }
     ensures { result ≡ must_forward plan.now.params stamp rec.now }
 {
     let params = plan.params();

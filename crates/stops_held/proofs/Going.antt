@@ -8,6 +8,7 @@ use Rattle.tiger_base.specs.declared.tenancy.State.{State}
 use Rattle.tiger_base.specs.declared.tenancy.Tenancy.{Tenancy}
 use Rattle.tiger_base.specs.declared.message.Msg.{Msg}
 use Rattle.tiger_base.specs.declared.message.Msg.TheVariants as msg
+use Rattle.tiger_base.specs.Limits.{most_reading}
 use Rattle.slot_plan.specs.declared.params.Params.{Params}
 use Rattle.slot_plan.specs.Conditions.{IsPlan}
 use Rattle.slot_plan.specs.Times.{cub_of}
@@ -19,7 +20,7 @@ use Rattle.node_kit.specs.Steps.{Input, stamp_of}
 use Rattle.node_kit.specs.Steps.Input.{Tick}
 use Rattle.partial_view.specs.declared.line.Line.{Line}
 use Rattle.state_forward.specs.Forwards.{is_own, must_forward}
-use Rattle.rule_kit.specs.Ways.{way_ahead}
+use Rattle.node_kit.specs.Ways.{way_ahead}
 use Rattle.cub_rules.specs.declared.store.Store.{Store}
 use Rattle.cub_rules.specs.Ticks.{ticking}
 use Rattle.schedule_proof.specs.Laws.{WasEarly}
@@ -160,7 +161,7 @@ module _ (p : Params) (plan : IsPlan p) (lives : Lives) (outside : Outside) (ord
       let f = (forwarded p a w.stamp plan d.small h link s i).0 in
       let life = order.lived a d.small in
       let low = d.done in
-      let sh : w.stamp.reading ≤ 1000000000000 = let e = life.short d.at d.done in let q = ap (λ (j : Input Msg). (stamp_of j).reading) w.is in omega arith in
+      let sh : w.stamp.reading ≤ most_reading = let e = life.short d.at d.done in let q = ap (λ (j : Input Msg). (stamp_of j).reading) w.is in omega arith in
       let kept = kept_at p a plan d.small inputs d.at (λ j l. life.short j (omega arith)) in
       let parts = forward_parts p w.stamp f.rec plan f.must in
       let own = own_visit p a f.rec (f.own kept sh) parts.0 in

@@ -8,7 +8,7 @@ use Rattle.tiger_base.specs.declared.tenancy.Tenancy.{Tenancy}
 use Rattle.tiger_base.specs.Notes.{noted}
 use Rattle.node_kit.specs.Form.{is_in_form}
 use Rattle.viewer_state.specs.States.{is_visit_of}
-use Rattle.rule_kit.specs.Deeds.{nothing}
+use Rattle.node_kit.specs.Deeds.{nothing}
 use Rattle.schedule_laws.proofs.Inserting.{Never}
 use Rattle.schedule_laws.proofs.Moves.{taken_out}
 use Rattle.schedule_laws.proofs.Taking.{HeldIn, hushed_took, passing_from_silent, taking_hears}

@@ -28,8 +28,8 @@ use Rattle.partial_view.specs.Lines as lines
 use Rattle.partial_view.specs.Views.{first_of}
 use Rattle.deschedule.specs.declared.held.Holding.{Holding}
 use Rattle.deschedule.specs.Holds.{is_held, must_pass}
-use Rattle.rule_kit.specs.Ways.{way_ahead}
-use Rattle.rule_kit.specs.Deeds.{nothing}
+use Rattle.node_kit.specs.Ways.{way_ahead}
+use Rattle.node_kit.specs.Deeds.{nothing}
 use Rattle.cub_rules.specs.declared.store.Store.{Store}
 use Rattle.cub_rules.specs.State.{visit_here}
 use Rattle.cub_rules.specs.Messages.{position_at, position_by, position_of, position, is_reached, passing_on, passing_from, passing, holding, dropping_all, descheduling, meeting_state, hearing, taking}

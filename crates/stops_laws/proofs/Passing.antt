@@ -16,7 +16,7 @@ use Rattle.node_kit.specs.Steps.{Deed}
 use Rattle.viewer_state.specs.States.{is_visit_of}
 use Rattle.deschedule.specs.declared.held.Holding.{Holding}
 use Rattle.deschedule.specs.Holds.{is_held, must_pass, with_hold, with_pass}
-use Rattle.rule_kit.specs.Deeds.{nothing, then_do}
+use Rattle.node_kit.specs.Deeds.{nothing, then_do}
 use Rattle.cub_rules.specs.declared.store.Store.{Store}
 use Rattle.cub_rules.specs.Messages.{position_at, passing_on, passing_from, told, met, meeting_state, position, holding, dropping_all, descheduling, hearing, taking}
 use Rattle.schedule_laws.proofs.Members.{chosen}

@@ -18,7 +18,7 @@ use Rattle.node_kit.specs.Steps.{Deed, Input, stamp_of}
 use Rattle.node_kit.specs.Steps.Input.{Take}
 use Rattle.insert_queue.specs.Queues.{Queues, is_of, without_start}
 use Rattle.deschedule.specs.Holds.{is_held}
-use Rattle.rule_kit.specs.Deeds.{nothing}
+use Rattle.node_kit.specs.Deeds.{nothing}
 use Rattle.cub_rules.specs.declared.store.Store.{Store}
 use Rattle.cub_rules.specs.State.{is_ask}
 use Rattle.cub_rules.specs.Messages.{queueing, queueing_redundant, shows, meeting_start, descheduling, hearing, taking}

@@ -18,8 +18,8 @@ use Rattle.node_kit.specs.Form.{is_in_form}
 use Rattle.node_kit.specs.Steps.{Deed}
 use Rattle.viewer_state.specs.States.{is_visit_of}
 use Rattle.deschedule.specs.Holds.{is_held, must_pass}
-use Rattle.rule_kit.specs.Ways.{way_ahead}
-use Rattle.rule_kit.specs.Deeds.{nothing, then_do, each_in_turn}
+use Rattle.node_kit.specs.Ways.{way_ahead}
+use Rattle.node_kit.specs.Deeds.{nothing, then_do, each_in_turn}
 use Rattle.cub_rules.specs.declared.store.Store.{Store}
 use Rattle.cub_rules.specs.Records.{took, dropping_lines, dropping_start, dropping_pieces}
 use Rattle.cub_rules.specs.Messages.{position_at, is_reached, passed_on, passing_on, passing_from, records_told, told, met, meeting_state, position, holding, passing, killing_splits, dropping_all, descheduling, hearing, taking}

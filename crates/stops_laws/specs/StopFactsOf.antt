@@ -14,7 +14,7 @@ use Rattle.node_kit.specs.Form.{is_in_form}
 use Rattle.node_kit.specs.Steps.Input.{Take}
 use Rattle.viewer_state.specs.States.{is_visit_of}
 use Rattle.deschedule.specs.Holds.{is_held, must_pass}
-use Rattle.rule_kit.specs.Ways.{way_ahead}
+use Rattle.node_kit.specs.Ways.{way_ahead}
 use Rattle.cub_rules.specs.declared.store.Store.{Store}
 use Rattle.cub_rules.specs.Messages.{position_at, position, holding}
 use Rattle.schedule_laws.specs.Lives.{Lives, store_at}

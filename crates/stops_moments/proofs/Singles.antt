@@ -16,7 +16,7 @@ use Rattle.node_kit.specs.declared.outbox.Out.TheVariants as out
 use Rattle.node_kit.specs.Steps.{Deed, Input, what_of}
 use Rattle.node_kit.specs.Steps.Input.{Take, Tick}
 use Rattle.insert_queue.specs.Queues.{IsOnce}
-use Rattle.rule_kit.specs.Deeds.{nothing, each_in_turn}
+use Rattle.node_kit.specs.Deeds.{nothing, each_in_turn}
 use Rattle.cub_rules.specs.declared.store.Store.{Store}
 use Rattle.cub_rules.specs.Records.{predecessor, took}
 use Rattle.cub_rules.specs.Messages.{taking}

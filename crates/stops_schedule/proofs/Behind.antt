@@ -17,7 +17,7 @@ use Rattle.node_kit.specs.declared.course.OrderKind.TheVariants.{Begin, Finish}
 use Rattle.node_kit.specs.declared.outbox.Out.{Out}
 use Rattle.node_kit.specs.declared.outbox.Out.TheVariants as out
 use Rattle.node_kit.specs.Steps.{Deed}
-use Rattle.rule_kit.specs.Deeds.{nothing, each_in_turn}
+use Rattle.node_kit.specs.Deeds.{nothing, each_in_turn}
 use Rattle.run_facts.specs.Events.{Dated, sends_of}
 use Rattle.controller_core.specs.declared.known.Known.{Known}
 use Rattle.controller_core.specs.Orders.{start_of}

@@ -18,8 +18,8 @@ use Rattle.node_kit.specs.declared.outbox.Out.{Out}
 use Rattle.node_kit.specs.declared.outbox.Out.TheVariants as out
 use Rattle.node_kit.specs.Steps.{Deed, Input, stamp_of}
 use Rattle.node_kit.specs.Steps.Input.{Take, Tick}
-use Rattle.rule_kit.specs.Ways.{way_to_cub}
-use Rattle.rule_kit.specs.Deeds.{each_in_turn}
+use Rattle.node_kit.specs.Ways.{way_to_cub}
+use Rattle.node_kit.specs.Deeds.{each_in_turn}
 use Rattle.run_facts.specs.Events.{NodeEvent, Dated, is_tick, sends_of}
 use Rattle.run_facts.specs.Events.NodeEvent.{Does, Dies}
 use Rattle.run_facts.specs.Histories.{History, outs, beat, sent}

@@ -21,8 +21,8 @@ use Rattle.node_kit.specs.declared.outbox.Out.TheVariants as out
 use Rattle.node_kit.specs.Links.{links_of}
 use Rattle.node_kit.specs.Steps.{Deed, Input, stamp_of}
 use Rattle.node_kit.specs.Steps.Input.{Take, Tick}
-use Rattle.rule_kit.specs.Ways.{way_to_cub, way_to_controller}
-use Rattle.rule_kit.proofs.Ways.{links_sound}
+use Rattle.node_kit.specs.Ways.{way_to_cub, way_to_controller}
+use Rattle.node_kit.proofs.Ways.{links_sound}
 use Rattle.run_facts.specs.Events.{stamp_at, is_tick}
 use Rattle.run_facts.specs.Events.NodeEvent.{Does}
 use Rattle.run_facts.specs.Histories.{History, beat, reading, ticks}

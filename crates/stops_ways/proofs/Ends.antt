@@ -4,7 +4,7 @@ use Rattle.std.proofs.lemmas.Bool.{lt-ltb, le-ltb, ltb-true, ltb-false}
 use Rattle.std.proofs.lemmas.Nat.{mod_below}
 use Rattle.slot_plan.specs.declared.params.Params.{Params}
 use Rattle.node_kit.specs.Links.{Links, IsLinks, links_of, controller_of, viewers_of, link_count, ends_of}
-use Rattle.rule_kit.specs.Ways.{way_to_cub, way_to_controller}
+use Rattle.node_kit.specs.Ways.{way_to_cub, way_to_controller}
 use Rattle.schedule_laws.proofs.Members.{chosen}
 use Rattle.schedule_laws.proofs.Carrying.{same_ends}
 

@@ -8,7 +8,7 @@ use Rattle.slot_plan.specs.Conditions.{IsPlan}
 use Rattle.node_kit.specs.declared.course.Order.{Order}
 use Rattle.node_kit.specs.Steps.{Deed, Input, stamp_of}
 use Rattle.node_kit.specs.Steps.Input.{Take}
-use Rattle.rule_kit.specs.Ways.{way_ahead}
+use Rattle.node_kit.specs.Ways.{way_ahead}
 use Rattle.run_facts.specs.Histories.{History}
 use Rattle.schedule_proof.specs.Laws.{IsTold}
 use Rattle.schedule_laws.specs.Lives.{Lives, beat_at}

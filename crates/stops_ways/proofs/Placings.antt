@@ -9,7 +9,7 @@ use Rattle.slot_plan.specs.Conditions.{IsPlan}
 use Rattle.node_kit.specs.declared.outbox.Out.TheVariants as out
 use Rattle.node_kit.specs.Steps.{Input}
 use Rattle.node_kit.specs.Steps.Input.{Take, Tick}
-use Rattle.rule_kit.specs.Ways.{way_ahead}
+use Rattle.node_kit.specs.Ways.{way_ahead}
 use Rattle.cub_rules.specs.declared.store.Store.{Store}
 use Rattle.cub_rules.specs.Messages.{taking}
 use Rattle.cub_rules.specs.Ticks.{next_state, told_placed}

@@ -18,7 +18,7 @@ use Rattle.node_kit.specs.declared.outbox.Out.{Out}
 use Rattle.node_kit.specs.declared.outbox.Out.TheVariants as out
 use Rattle.node_kit.specs.Links.{links_of, ends_of}
 use Rattle.node_kit.specs.Steps.{Deed, Input, stamp_of}
-use Rattle.rule_kit.specs.Ways.{way_ahead, way_to_cub}
+use Rattle.node_kit.specs.Ways.{way_ahead, way_to_cub}
 use Rattle.run_facts.specs.Events.{is_tick}
 use Rattle.run_facts.specs.Histories.{History, outs, beat}
 use Rattle.schedule_proof.specs.Facts.{Facts, Ended, IsBeside}

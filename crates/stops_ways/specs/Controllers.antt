@@ -16,8 +16,8 @@ use Rattle.node_kit.specs.declared.outbox.Out.TheVariants as out
 use Rattle.node_kit.specs.Links.{links_of, controller_of}
 use Rattle.node_kit.specs.Steps.{Deed, Input}
 use Rattle.node_kit.specs.Steps.Input.{Take, Tick}
-use Rattle.rule_kit.specs.Ways.{way_to_cub}
-use Rattle.rule_kit.specs.Deeds.{nothing}
+use Rattle.node_kit.specs.Ways.{way_to_cub}
+use Rattle.node_kit.specs.Deeds.{nothing}
 use Rattle.controller_core.specs.declared.known.Known.{Known}
 use Rattle.controller_core.specs.Rules.{taking, commanding}
 use Rattle.schedule_laws.specs.Lives.{In, Lives, beat_at}

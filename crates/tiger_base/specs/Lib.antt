@@ -1,3 +1,4 @@
 pub mod Library
+pub mod Limits
 pub mod Notes
 pub mod Span

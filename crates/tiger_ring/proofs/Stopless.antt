@@ -34,8 +34,8 @@ use Rattle.deschedule.specs.Holds.{is_held, must_pass}
 use Rattle.deadman.specs.Silence.{is_silent}
 use Rattle.mirror_schedule.specs.Pieces.{pieces_of}
 use Rattle.mirror_schedule.specs.Splits as splits
-use Rattle.rule_kit.specs.Deeds.{nothing, then_do, each_in_turn}
-use Rattle.rule_kit.specs.Ways.{way_ahead, way_to_disk}
+use Rattle.node_kit.specs.Deeds.{nothing, then_do, each_in_turn}
+use Rattle.node_kit.specs.Ways.{way_ahead, way_to_disk}
 use Rattle.run_facts.proofs.Rows.{all-append, all-map, all-given}
 use Rattle.cub_rules.specs.declared.store.Store.{Store}
 use Rattle.cub_rules.specs.declared.store.StoredPart.{StoredPart}

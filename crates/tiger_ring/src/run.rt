@@ -1,5 +1,6 @@
 //! One whole run.
 ghost use Rattle.std.specs.Prelude.{◌≡◌, ◌≤◌, length, All, IfOk};
+ghost use Rattle.tiger_base.specs.Limits.{most_file};
 ghost use Rattle.scenario_read.specs.Sound.{IsScenario};
 ghost use Rattle.run_report.specs.Text.{kept_outcomes};
 ghost use Rattle.ring_facts.specs.Rings.{IsRingRun};
@@ -34,7 +35,7 @@ pub fn run_ring<G: Gate>(
     requires scenario { IsScenario scenario }
     requires files { length library.now ≡ length scenario.files }
     requires filled { All (λ bytes. 1 ≤ length bytes) library.now }
-    requires short { All (λ bytes. length bytes ≤ 16777216) library.now }
+    requires short { All (λ bytes. length bytes ≤ most_file) library.now }
     ensures ran { IfOk result (IsRingRun G scenario library.now) }
     ensures one_schedule { IfOk result (λ k. IsCalmScenario scenario → HasOneSchedule k) }
     ensures fair { IfOk result (λ k. IsLivingScenario scenario → HasFairPuts k) }
@@ -54,7 +55,7 @@ pub fn run_with_outcomes<G: Gate>(
     requires scenario { IsScenario scenario }
     requires files { length library.now ≡ length scenario.files }
     requires filled { All (λ bytes. 1 ≤ length bytes) library.now }
-    requires short { All (λ bytes. length bytes ≤ 16777216) library.now }
+    requires short { All (λ bytes. length bytes ≤ most_file) library.now }
     ensures ran { IfOk result (λ run. IsRingRun G scenario library.now run.kept) }
     ensures told { IfOk result (λ run. run.outcomes.items ≡ kept_outcomes run.kept) }
     ensures one_schedule { IfOk result (λ run. IsCalmScenario scenario → HasOneSchedule run.kept) }

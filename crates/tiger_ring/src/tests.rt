@@ -1,5 +1,6 @@
 //! Runs of small scenarios: which visits were served, the schedule before and after, and what changed journals tell.
 ghost use Rattle.std.specs.Prelude.{◌≡◌, ◌≤◌, length, All, IfOk};
+ghost use Rattle.tiger_base.specs.Limits.{most_file};
 ghost use Rattle.ring_schedule.specs.Scenarios.{HasOneSchedule, HasFairPuts};
 
 use crate::run_ring;
@@ -44,10 +45,10 @@ fn long(alloc: Global) -> Result<Vec<u8>, NoMemory>
 /// A library of one file.
 fn one(alloc: Global, file: Vec<u8>) -> Result<Library, NoMemory>
     requires some { 1 ≤ length file.items }
-    requires few { length file.items ≤ 16777216 }
+    requires few { length file.items ≤ most_file }
     ensures count { IfOk result (λ l. length l ≡ 1) }
     ensures filled { IfOk result (λ l. All (λ bytes. 1 ≤ length bytes) l) }
-    ensures short { IfOk result (λ l. All (λ bytes. length bytes ≤ 16777216) l) }
+    ensures short { IfOk result (λ l. All (λ bytes. length bytes ≤ most_file) l) }
 {
     let mut files = Vec::new(alloc);
     files.push(file)?;
@@ -58,7 +59,7 @@ fn one(alloc: Global, file: Vec<u8>) -> Result<Library, NoMemory>
 fn both(alloc: Global) -> Result<Library, NoMemory>
     ensures count { IfOk result (λ l. length l ≡ 2) }
     ensures filled { IfOk result (λ l. All (λ bytes. 1 ≤ length bytes) l) }
-    ensures short { IfOk result (λ l. All (λ bytes. length bytes ≤ 16777216) l) }
+    ensures short { IfOk result (λ l. All (λ bytes. length bytes ≤ most_file) l) }
 {
     let mut files = Vec::new(alloc);
     files.push(long(alloc)?)?;
@@ -76,7 +77,7 @@ fn run_of(
 ) -> Result<Kept, Fail>
     requires count { length library.now ≡ count }
     requires filled { All (λ bytes. 1 ≤ length bytes) library.now }
-    requires short { All (λ bytes. length bytes ≤ 16777216) library.now }
+    requires short { All (λ bytes. length bytes ≤ most_file) library.now }
 {
     let text = format!(in alloc; "{PLAN}{files}{rest}}}")?;
     let scenario = read_scenario(alloc, text.as_bytes())?;
@@ -330,7 +331,7 @@ fn calm_run_of(
 ) -> Result<Kept, Fail>
     requires count { length library.now ≡ count }
     requires filled { All (λ bytes. 1 ≤ length bytes) library.now }
-    requires short { All (λ bytes. length bytes ≤ 16777216) library.now }
+    requires short { All (λ bytes. length bytes ≤ most_file) library.now }
     ensures one_schedule { IfOk result HasOneSchedule }
 {
     let text = format!(in alloc; "{PLAN}{files}{rest}}}")?;
@@ -354,7 +355,7 @@ fn living_run_of(
 ) -> Result<Kept, Fail>
     requires count { length library.now ≡ count }
     requires filled { All (λ bytes. 1 ≤ length bytes) library.now }
-    requires short { All (λ bytes. length bytes ≤ 16777216) library.now }
+    requires short { All (λ bytes. length bytes ≤ most_file) library.now }
     ensures fair { IfOk result HasFairPuts }
 {
     let text = format!(in alloc; "{PLAN}{files}{rest}}}")?;

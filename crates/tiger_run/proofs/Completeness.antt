@@ -5,6 +5,7 @@ use Rattle.std.specs.Prelude.{option_map}
 use Rattle.std.proofs.lemmas.List.Elements.{All-head, All-tail}
 use Rattle.std.proofs.lemmas.List.Sums.{sum_by-cons, position_or_len_is}
 use Rattle.std.proofs.lemmas.Bool.Decides.{nat_tests}
+use Rattle.tiger_base.specs.Limits.{most_file}
 use Rattle.outside.specs.Told.{Told, FilesState, AreTold, NoneTold, HasBytes, bytes}
 use Rattle.outside.specs.Written.{SinkState}
 use Rattle.node_kit.specs.declared.course.Kept.{Kept}
@@ -13,7 +14,7 @@ use Rattle.scenario_read.specs.Fault.{broken}
 use Rattle.scenario_read.specs.Meaning.{Said, meaning}
 use Rattle.tiger_run.specs.declared.status.Status.{Status}
 use Rattle.tiger_run.specs.declared.status.Status.TheVariants as statuses
-use Rattle.tiger_run.specs.Inputs.{AreFirst, names_of, most_file, first_empty, files_fault, ReadAs, StopsAt, IsMissing, IsTooLong, HasEmptyFile, InputsCause}
+use Rattle.tiger_run.specs.Inputs.{AreFirst, names_of, first_empty, files_fault, ReadAs, StopsAt, IsMissing, IsTooLong, HasEmptyFile, InputsCause}
 use Rattle.tiger_run.specs.Runnable.{IsRunnable, NoReadFailed, NoPutFailed}
 use Rattle.tiger_run.specs.Ending.{EndsSink, EndsInputs}
 

@@ -11,10 +11,11 @@ use Rattle.tiger_base.specs.declared.number.FileNo.{FileNo}
 use Rattle.scenario_read.specs.declared.scenario.FileLine.{FileLine}
 use Rattle.scenario_read.specs.Fault.{broken}
 use Rattle.std.specs.Prelude.{option_map}
+use Rattle.tiger_base.specs.Limits.{most_file}
 use Rattle.scenario_read.specs.Meaning.{Said, meaning}
 use Rattle.tiger_run.specs.declared.status.Status.{Status}
 use Rattle.tiger_run.specs.declared.status.Status.TheVariants as statuses
-use Rattle.tiger_run.specs.Inputs.{AreFirst, AreRead, AreFiles, IsRead, names_of, most_file, most_after, first_empty, files_fault}
+use Rattle.tiger_run.specs.Inputs.{AreFirst, AreRead, AreFiles, IsRead, names_of, most_after, first_empty, files_fault}
 use Rattle.tiger_run.specs.Inputs.{StopsAt, StopsAtFile, IsMissing, IsUnread, IsTooLong, FilesCause, OneCause, InputsCause}
 
 pub AreFirst-push : (told : List ℕ → Told) (names cs : List (List ℕ)) (name c : List ℕ) → AreFirst told names cs → slice_get names (length cs) ≡ Some name → AreTold (told name) c → AreFirst told names (cs ++ c ∷ [])

@@ -2,6 +2,7 @@
 use Rattle.std.specs.Prelude.{◌≡◌, ℕ, ◌+◌, ◌-◌, ◌<◌, ◌≤◌, ◌==◌, ◌^◌, min, List, [], ◌∷◌, map, length, sum_by, All, Option, Some, None, option_map, Ok, Err, slice_get, ◌⊎◌}
 use Rattle.std.specs.List.{position}
 use Rattle.outside.specs.Told.{Told, FilesState, AreTold, NoneTold, HasBytes}
+use Rattle.tiger_base.specs.Limits.{most_file}
 use Rattle.tiger_base.specs.declared.number.FileNo.{FileNo}
 use Rattle.scenario_read.specs.declared.stop.ScenarioFault.{ScenarioFault}
 use Rattle.scenario_read.specs.declared.scenario.FileLine.{FileLine}
@@ -17,10 +18,7 @@ use Rattle.tiger_run.specs.declared.status.Status.TheVariants as statuses
 abbrev pub most_scenario : ℕ
 most_scenario = 4194304
 
--- how many bytes one file may have, and all files together
-abbrev pub most_file : ℕ
-most_file = 16777216
-
+-- how many bytes all files together may have
 abbrev pub most_files : ℕ
 most_files = 67108864
 

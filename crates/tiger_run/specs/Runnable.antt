@@ -1,10 +1,11 @@
 -- What stands in no run's way.
 use Rattle.std.specs.Prelude.{◌≡◌, ℕ, ◌≤◌, List, map, length, sum_by, All, Ok}
+use Rattle.tiger_base.specs.Limits.{most_file}
 use Rattle.outside.specs.Told.{Told, bytes, FilesState}
 use Rattle.outside.specs.Written.{SinkState}
 use Rattle.scenario_read.specs.Meaning.{Said, meaning}
 use Rattle.tiger_run.specs.Words.{IsRun}
-use Rattle.tiger_run.specs.Inputs.{names_of, most_scenario, most_file, most_files}
+use Rattle.tiger_run.specs.Inputs.{names_of, most_scenario, most_files}
 
 -- the scenario of this name is told and breaks no rule, and all files that it names are told, each
 -- within the limits and none empty

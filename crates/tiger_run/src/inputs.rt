@@ -2,9 +2,10 @@
 ghost use Rattle.std.specs.Prelude.{◌≡◌, ◌==◌, ◌+◌, ◌≤◌, All, length, IfOk, IfErr, vec_len};
 ghost use Rattle.std.specs.List.{position};
 ghost use Rattle.tiger_base.specs.Library.{contents};
+ghost use Rattle.tiger_base.specs.Limits.{most_file};
 ghost use Rattle.outside.specs.Told.{AreTold, NeverFell, most_calls};
 ghost use Rattle.scenario_read.specs.Sound.{IsScenario};
-ghost use Rattle.tiger_run.specs.Inputs.{most_file, most_named, most_reads, most_earlier};
+ghost use Rattle.tiger_run.specs.Inputs.{most_named, most_reads, most_earlier};
 ghost use Rattle.tiger_run.specs.Inputs.{names_of, AreRead, AreInputs, MadeCalls};
 ghost use Rattle.tiger_run.specs.Inputs.{OneCause, FilesCause, InputsCause};
 
@@ -12,7 +13,7 @@ use crate::status::Status;
 use outside::{FileFault, Files};
 use scenario_read::{FileLine, ReadStop, Scenario, ScenarioFault, read_scenario};
 use std::alloc::Global;
-use tiger_base::{FileNo, Library};
+use tiger_base::{FileNo, Library, MOST_FILE};
 
 /// A scenario and its files.
 #[derive(Drop)]
@@ -24,9 +25,7 @@ pub struct Inputs {
 /// The most bytes of a scenario.
 const MOST_SCENARIO: u64 = 4194304;
 
-/// The most bytes of one file, and of all files together.
-const MOST_FILE: u64 = 16777216;
-
+/// The most bytes of all files together.
 const MOST_FILES: u64 = 67108864;
 
 /// The rule that no file is empty.

@@ -3,7 +3,7 @@ use Rattle.tiger_base.specs.declared.message.Msg.{Msg}
 use Rattle.tiger_base.specs.declared.message.Msg.TheVariants as msg
 use Rattle.node_kit.specs.Steps.{Deed, Input}
 use Rattle.node_kit.specs.Steps.Input.{Take, Tick}
-use Rattle.rule_kit.specs.Deeds.{nothing}
+use Rattle.node_kit.specs.Deeds.{nothing}
 use Rattle.viewer_core.specs.Parts.{KeptParts, key_of, with_part}
 
 -- what is kept after a message, whether it is in form or not

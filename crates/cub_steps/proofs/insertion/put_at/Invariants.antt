@@ -1,6 +1,6 @@
 use Rattle.std.proofs.Common.{◌≡◌}
 use Rattle.std.specs.List.{AllByRecursion}
-use Rattle.rule_kit.specs.Deeds.{each_in_turn}
+use Rattle.node_kit.specs.Deeds.{each_in_turn}
 use Rattle.cub_rules.specs.State.{IsAsk}
 use Rattle.cub_rules.specs.Ticks.{putting_on, disks_at}
 use Rattle.cub_steps.specs.Placing.{putting_by}

@@ -2,7 +2,7 @@ use Rattle.std.proofs.Common.{sym}
 use Rattle.std.proofs.lemmas.List.{append-nil}
 use Rattle.std.proofs.lemmas.Result.{on_ok_weaker}
 use Rattle.node_kit.specs.Steps.Input.{Take}
-use Rattle.rule_kit.proofs.Places.{acts}
+use Rattle.node_kit.proofs.Places.{acts}
 use Rattle.controller_core.specs.State.{IsController}
 use Rattle.controller_core.specs.Rules.{controller_step}
 use Rattle.controller_core.proofs.Keeps.{controller_keeps}

@@ -1,6 +1,6 @@
 use Rattle.std.proofs.lemmas.Result.{on_ok_weaker}
 use Rattle.node_kit.specs.Steps.Input.{Tick}
-use Rattle.rule_kit.proofs.Places.{acts}
+use Rattle.node_kit.proofs.Places.{acts}
 use Rattle.controller_core.specs.State.{IsController}
 use Rattle.controller_core.specs.Rules.{controller_step}
 use Rattle.controller_core.proofs.Keeps.{controller_keeps}

@@ -1,5 +1,5 @@
 use Rattle.std.proofs.Common.{drop}
-use Rattle.rule_kit.proofs.Turns.{IsUnderway}
+use Rattle.node_kit.proofs.Turns.{IsUnderway}
 use Rattle.controller_core.specs.State.{AreInForm}
 use Rattle.controller_core.specs.Rules.{carrying}
 use Rattle.controller_core.proofs.known.Known.command.Given as goal

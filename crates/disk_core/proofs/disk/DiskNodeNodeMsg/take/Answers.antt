@@ -3,7 +3,7 @@ use Rattle.node_kit.specs.Steps.Input.{Take}
 use Rattle.disk_core.specs.State.{IsDisk}
 use Rattle.disk_core.specs.Rules.{disk_step}
 use Rattle.disk_core.proofs.Keeps.{disk_keeps}
-use Rattle.rule_kit.proofs.Places.{acts}
+use Rattle.node_kit.proofs.Places.{acts}
 use Rattle.disk_core.proofs.disk.DiskNodeNodeMsg.take.Goals as goal
 
 pub returns : goal.returns

@@ -2,8 +2,7 @@
 ghost use Rattle.std.specs.Prelude.{◌≡◌, ◌<◌, ◌≤◌, [], IfOk};
 ghost use Rattle.slot_plan.specs.Conditions.{IsInRange};
 
-use crate::CubView;
-use partial_view::{Added, Flag};
+use crate::{Added, CubView, Flag};
 use slot_plan::{Params, Plan};
 use std::process::Abort;
 use std::test::Fail;

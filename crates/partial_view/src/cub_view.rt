@@ -5,10 +5,10 @@ ghost use Rattle.slot_plan.specs.Keys.{IsKey, due_of};
 ghost use Rattle.partial_view.specs.Lines.{visit_of, unmarked, is_of};
 ghost use Rattle.partial_view.specs.Views.{Seen, line_at, with_mark, without, without_instance, with_record};
 ghost use Rattle.partial_view.specs.Adding.{answer_to};
-ghost use Rattle.cub_view.specs.Pending.{IsForwardedTo, is_pending, next_due, IsSplitFrom, is_unsplit};
+ghost use Rattle.partial_view.specs.Pending.{IsForwardedTo, is_pending, next_due, IsSplitFrom, is_unsplit};
 ghost use Rattle.state_forward.specs.Forwards.{is_own};
 
-use partial_view::{Added, Flag, View};
+use crate::{Added, Flag, View};
 use slot_plan::Plan;
 use std::alloc::Global;
 use std::marker::Model;
@@ -27,7 +27,7 @@ pub struct CubView {
 impl Model for CubView {
     ghost use Rattle.std.specs.Prelude.{◌≡◌};
     ghost use Rattle.partial_view.specs.Views.{Seen};
-    ghost use Rattle.cub_view.specs.Pending.{IsForwardedTo, IsSplitFrom};
+    ghost use Rattle.partial_view.specs.Pending.{IsForwardedTo, IsSplitFrom};
 
     ghost Value = { Seen };
 

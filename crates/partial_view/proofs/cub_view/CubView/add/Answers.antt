@@ -1,8 +1,8 @@
 use Rattle.std.proofs.Common.{◌∙◌, ap, List}
 use Rattle.partial_view.specs.declared.line.Line.{Line}
 use Rattle.partial_view.proofs.Calls.{record_of}
-use Rattle.cub_view.proofs.Pending.{kept_by, known, all_with_record, forwarded_earlier, split_later}
-use Rattle.cub_view.proofs.cub_view.CubView.add.Goals as goal
+use Rattle.partial_view.proofs.Pending.{kept_by, known, all_with_record, forwarded_earlier, split_later}
+use Rattle.partial_view.proofs.cub_view.CubView.add.Goals as goal
 
 pub invariant_of-self-in-New : goal.invariant_of-self-in-New
 invariant_of-self-in-New c =

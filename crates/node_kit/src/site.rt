@@ -1,6 +1,6 @@
 //! Where a cub stands, and the links on which cubs, disks and the controller send.
 ghost use Rattle.std.specs.Prelude.{◌≡◌, ◌<◌, ◌*◌, ◌≤◌, ◌%◌, max};
-ghost use Rattle.rule_kit.specs.Ways.{way_from_disk, way_to_cub};
+ghost use Rattle.node_kit.specs.Ways.{way_from_disk, way_to_cub};
 
 use slot_plan::Plan;
 use tiger_base::{CubNo, DiskNo, LinkNo};
@@ -14,7 +14,7 @@ pub struct Site {
 }
 
 impl Site {
-    ghost use Rattle.rule_kit.specs.Ways.{way_ahead, way_to_controller, way_to_viewers, way_to_disk};
+    ghost use Rattle.node_kit.specs.Ways.{way_ahead, way_to_controller, way_to_viewers, way_to_disk};
 
     /// The link to the cub that many steps after this one: from 1 to as many as a block has pieces,
     /// and to 2 where it has one.

@@ -1,5 +1,5 @@
-use Rattle.cub_view.proofs.Pending.{kept_by, all_without}
-use Rattle.cub_view.proofs.cub_view.CubView.remove.Goals as goal
+use Rattle.partial_view.proofs.Pending.{kept_by, all_without}
+use Rattle.partial_view.proofs.cub_view.CubView.remove.Goals as goal
 
 pub invariant_of-self : goal.invariant_of-self
 invariant_of-self c =

@@ -1,5 +1,5 @@
-use Rattle.cub_view.proofs.Pending.{kept_by, forwarded_mark, split_mark}
-use Rattle.cub_view.proofs.cub_view.CubView.mark.Goals as goal
+use Rattle.partial_view.proofs.Pending.{kept_by, forwarded_mark, split_mark}
+use Rattle.partial_view.proofs.cub_view.CubView.mark.Goals as goal
 
 pub invariant_of-self : goal.invariant_of-self
 invariant_of-self c =

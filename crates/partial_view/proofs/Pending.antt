@@ -20,7 +20,7 @@ use Rattle.partial_view.specs.Adding.{answer_to, answer_at}
 use Rattle.partial_view.proofs.Order.{all_filter, all_implies}
 use Rattle.partial_view.proofs.Calls.{with_record-known}
 use Rattle.state_forward.specs.Forwards.{is_own}
-use Rattle.cub_view.specs.Pending.{is_pending, next_due, IsForwardedTo, is_unsplit, IsSplitFrom}
+use Rattle.partial_view.specs.Pending.{is_pending, next_due, IsForwardedTo, is_unsplit, IsSplitFrom}
 
 -- the next visit is due later than at the beginning
 pub next_due_pos : (p : Params) → IsPlan p → (slot visit : ℕ) → 1 ≤ due p slot (visit + 1)
