@@ -9,6 +9,7 @@ use Rattle.tiger_base.specs.declared.message.Msg.{Msg}
 use Rattle.tiger_base.specs.declared.message.Msg.TheVariants as msg
 use Rattle.tiger_base.specs.Notes.{noted}
 use Rattle.tiger_base.specs.Limits.{most_blocks, most_reading}
+use Rattle.tiger_base.specs.Records.{own_of, backup_of}
 use Rattle.slot_plan.specs.declared.params.Params.{Params}
 use Rattle.slot_plan.specs.Conditions.{IsPlan}
 use Rattle.slot_plan.specs.Times.{due, cub_of, disk_of}
@@ -28,7 +29,7 @@ use Rattle.node_kit.proofs.Ways.{ahead_leads, to_controller_leads}
 use Rattle.cub_rules.specs.declared.store.Store.{Store}
 use Rattle.cub_rules.specs.State.{IsStoreOf, IsAsk, IsRecordOf}
 use Rattle.cub_rules.specs.Records.{predecessor, took}
-use Rattle.cub_rules.specs.Ticks.{tenancy_from, sending, putting, told_placed, own_of, backup_of, putting_own, putting_for_dead, put_or_wait, free_on, putting_each, is_for, putting_on, inserting_own, inserting_for_dead, inserting, disks_at}
+use Rattle.cub_rules.specs.Ticks.{tenancy_from, sending, putting, told_placed, putting_own, putting_for_dead, put_or_wait, free_on, putting_each, is_for, putting_on, inserting_own, inserting_for_dead, inserting, disks_at}
 use Rattle.cub_laws.proofs.Lists.{some_has}
 use Rattle.cub_laws.proofs.Numbers.{tenancy_from_parts, state_in_form, visit_small, visit_own, disks_own, predecessor_below, next_own}
 use Rattle.cub_laws.proofs.Stores.{IsRule, both_rules, each_rule}

@@ -10,6 +10,8 @@ use Rattle.tiger_base.specs.declared.tenancy.Want.{Want}
 use Rattle.tiger_base.specs.Span.{LibraryPart}
 use Rattle.tiger_base.specs.declared.message.Msg.TheVariants as msg
 use Rattle.tiger_base.specs.Notes.{noted}
+use Rattle.tiger_base.specs.Kinds.{is_own}
+use Rattle.tiger_base.specs.Records.{want_of, want_of_piece}
 use Rattle.slot_plan.specs.declared.params.Params.{Params}
 use Rattle.slot_plan.specs.Conditions.{IsPlan}
 use Rattle.slot_plan.specs.Times.{cub_of, disk_of, disk_count}
@@ -22,7 +24,7 @@ use Rattle.partial_view.specs.declared.line.Flag.{Flag}
 use Rattle.partial_view.specs.declared.line.Flag.TheVariants as flag
 use Rattle.partial_view.specs.Lines.{marked}
 use Rattle.partial_view.proofs.Order.{all_filter}
-use Rattle.state_forward.specs.Forwards.{is_own, must_forward, is_next_due, is_batch_beat}
+use Rattle.state_forward.specs.Forwards.{must_forward, is_next_due, is_batch_beat}
 use Rattle.mirror_schedule.specs.Pieces.{pieces_of}
 use Rattle.mirror_schedule.specs.Splits.{Split, split_before, with_split}
 use Rattle.mirror_schedule.proofs.Orders.{all_with_one}
@@ -31,7 +33,7 @@ use Rattle.node_kit.specs.Ways.{way_ahead, way_to_disk}
 use Rattle.node_kit.proofs.Ways.{ahead_leads, to_disk_leads, to_viewers_leads}
 use Rattle.cub_rules.specs.declared.store.Store.{Store}
 use Rattle.cub_rules.specs.declared.store.StoredPart.{StoredPart}
-use Rattle.cub_rules.specs.State.{IsStoreOf, IsLineOf, IsPieceAt, IsSplitHere, visit_here, want_of, want_of_piece}
+use Rattle.cub_rules.specs.State.{IsStoreOf, IsLineOf, IsPieceAt, IsSplitHere, visit_here}
 use Rattle.cub_rules.specs.Records.{with_piece_record, dropped, stored_for}
 use Rattle.cub_rules.specs.Ticks.{must_split, sent_ahead, split_outs, first_pieces, split_visits, split_line, with_each, with_split_lines, splitting, is_to_forward, next_state, forward_outs, forward_line, forwarding, must_read, ask_outs, ask_line, reading_blocks, leaves_by, asked_of_disk, reading_pieces, reading, is_served, is_past, sent_whole, serve_outs, serving_blocks, dropping_backups, sent_piece, piece_outs, serving_pieces, serving}
 use Rattle.cub_laws.proofs.Lists.{all_append, all_map, all_flat_map, all_range, all_chosen}

@@ -1,12 +1,13 @@
 //! What a cub does with a disk's answer.
 ghost use Rattle.std.specs.Prelude.{◌≡◌, ◌≤◌, IsTrue, OnOk};
 ghost use Rattle.std.specs.List.{AllByRecursion, list_any};
+ghost use Rattle.tiger_base.specs.Records.{want_of, want_of_piece};
 ghost use Rattle.slot_plan.specs.Keys.{IsKey};
 ghost use Rattle.node_kit.specs.Form.{is_place};
 ghost use Rattle.partial_view.specs.Views.{line_at};
 ghost use Rattle.node_kit.specs.Deeds.{Did};
 ghost use Rattle.cub_rules.specs.Records.{same_want};
-ghost use Rattle.cub_rules.specs.State.{IsStoreOf, IsLineOf, IsPieceAt, want_of, want_of_piece};
+ghost use Rattle.cub_rules.specs.State.{IsStoreOf, IsLineOf, IsPieceAt};
 ghost use Rattle.cub_rules.specs.Messages.{is_block_of, is_wanted, storing, meeting_answer};
 
 use cub_rules::{Store, StoredPart};

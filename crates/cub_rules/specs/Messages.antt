@@ -16,6 +16,8 @@ use Rattle.tiger_base.specs.Span.{LibraryPart}
 use Rattle.tiger_base.specs.declared.message.Msg.{Msg}
 use Rattle.tiger_base.specs.declared.message.Msg.TheVariants as msg
 use Rattle.tiger_base.specs.Notes.{noted}
+use Rattle.tiger_base.specs.Kinds.{is_own}
+use Rattle.tiger_base.specs.Records.{want_of, want_of_piece}
 use Rattle.slot_plan.specs.declared.params.Params.{Params}
 use Rattle.slot_plan.specs.Times.{due, cub_of}
 use Rattle.slot_plan.specs.Keys.{Key}
@@ -27,7 +29,6 @@ use Rattle.node_kit.specs.Steps.{Deed}
 use Rattle.viewer_state.specs.States.{is_visit_of}
 use Rattle.partial_view.specs.declared.line.Line.{Line}
 use Rattle.partial_view.specs.Views.{line_at, first_of}
-use Rattle.state_forward.specs.Forwards.{is_own}
 use Rattle.insert_queue.specs.Queues.{is_asked, with_waiting, with_redundant}
 use Rattle.deschedule.specs.Holds.{is_held, must_pass, with_hold, with_pass}
 use Rattle.mirror_schedule.specs.Pieces.{is_of_visit}
@@ -36,7 +37,7 @@ use Rattle.node_kit.specs.Ways.{way_ahead}
 use Rattle.node_kit.specs.Deeds.{nothing, then_do, each_in_turn}
 use Rattle.cub_rules.specs.declared.store.Store.{Store}
 use Rattle.cub_rules.specs.declared.store.StoredPart.{StoredPart}
-use Rattle.cub_rules.specs.State.{want_of, want_of_piece, visit_here, is_ask}
+use Rattle.cub_rules.specs.State.{visit_here, is_ask}
 use Rattle.cub_rules.specs.Records.{predecessor, took, dropping_lines, dropping_start, dropping_pieces, same_want, pieces_but, with_piece_record}
 
 -- Where a cub stands to a visit of a slot that a state or a tag names: at that visit where it is the visit's cub, at the

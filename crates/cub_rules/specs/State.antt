@@ -1,12 +1,11 @@
 -- What a cub keeps, and what always holds of it.
-use Rattle.std.specs.Prelude.{◌≡◌, ℕ, ◌+◌, ◌-◌, ◌≤◌, ◌<◌, [], false, Bool, ◌&&◌, nat_le, IsTrue}
+use Rattle.std.specs.Prelude.{◌≡◌, ℕ, ◌+◌, ◌≤◌, ◌<◌, [], false, Bool, ◌&&◌, nat_le, IsTrue}
 use Rattle.std.specs.List.{AllByRecursion}
 use Rattle.tiger_base.specs.declared.tenancy.Ask.{Ask}
 use Rattle.tiger_base.specs.declared.tenancy.Kind.{Kind}
 use Rattle.tiger_base.specs.declared.tenancy.Kind.TheVariants.{Own, Backup}
 use Rattle.tiger_base.specs.declared.tenancy.PieceState.{PieceState}
 use Rattle.tiger_base.specs.declared.tenancy.Rec.{Rec}
-use Rattle.tiger_base.specs.declared.tenancy.Want.{Want}
 use Rattle.tiger_base.specs.Limits.{most_blocks}
 use Rattle.slot_plan.specs.declared.params.Params.{Params}
 use Rattle.slot_plan.specs.Conditions.{IsPlan}
@@ -21,28 +20,6 @@ use Rattle.cub_rules.specs.declared.store.StoredPart.{StoredPart}
 abbrev pub visit_here : Kind → ℕ → ℕ
 visit_here Own visit = visit
 visit_here Backup visit = visit + 1
-
--- the block of a record's visit
-abbrev pub want_of : Rec → Want
-want_of r = record {
-  instance = r.tenancy.instance;
-  slot = r.tenancy.slot;
-  visit = r.visit;
-  file = r.tenancy.file;
-  block = r.visit - r.tenancy.first;
-  piece = 0;
-}
-
--- the piece of a piece record
-abbrev pub want_of_piece : PieceState → Want
-want_of_piece x = record {
-  instance = x.tenancy.instance;
-  slot = x.tenancy.slot;
-  visit = x.visit;
-  file = x.tenancy.file;
-  block = x.visit - x.tenancy.first;
-  piece = x.piece;
-}
 
 -- a start has from 1 to as many blocks as the longest file has
 abbrev pub is_ask : Ask → Bool

@@ -4,7 +4,6 @@ use Rattle.std.specs.List.{flat_map, range_with_len}
 use Rattle.tiger_base.specs.declared.number.CubNo.{CubNo}
 use Rattle.tiger_base.specs.declared.number.Stamp.{Stamp}
 use Rattle.tiger_base.specs.declared.tenancy.Ask.{Ask}
-use Rattle.tiger_base.specs.declared.tenancy.Kind.TheVariants.{Own, Backup}
 use Rattle.tiger_base.specs.declared.tenancy.PieceState.{PieceState}
 use Rattle.tiger_base.specs.declared.tenancy.Rec.{Rec}
 use Rattle.tiger_base.specs.declared.tenancy.Tenancy.{Tenancy}
@@ -12,6 +11,8 @@ use Rattle.tiger_base.specs.declared.tenancy.Want.{Want}
 use Rattle.tiger_base.specs.Span.{LibraryPart}
 use Rattle.tiger_base.specs.declared.message.Msg.{Msg}
 use Rattle.tiger_base.specs.declared.message.Msg.TheVariants as msg
+use Rattle.tiger_base.specs.Kinds.{is_own}
+use Rattle.tiger_base.specs.Records.{own_of, backup_of, want_of, want_of_piece}
 use Rattle.slot_plan.specs.declared.params.Params.{Params}
 use Rattle.slot_plan.specs.Times.{due, disk_of, disk_count}
 use Rattle.slot_plan.specs.Keys.{Key, due_of}
@@ -24,7 +25,7 @@ use Rattle.node_kit.specs.Steps.{Deed}
 use Rattle.partial_view.specs.declared.line.Line.{Line}
 use Rattle.partial_view.specs.declared.line.Flag.TheVariants as flag
 use Rattle.partial_view.specs.Lines.{key_of, marked}
-use Rattle.state_forward.specs.Forwards.{is_own, must_forward}
+use Rattle.state_forward.specs.Forwards.{must_forward}
 use Rattle.slot_owner.specs.Free.{is_free}
 use Rattle.insert_queue.specs.Queues.{without_start, after_take_over}
 use Rattle.deschedule.specs.Holds.{holds_at}
@@ -35,7 +36,6 @@ use Rattle.node_kit.specs.Ways.{way_ahead, way_to_controller, way_to_viewers, wa
 use Rattle.node_kit.specs.Deeds.{nothing, then_do, each_in_turn}
 use Rattle.cub_rules.specs.declared.store.Store.{Store}
 use Rattle.cub_rules.specs.declared.store.StoredPart.{StoredPart}
-use Rattle.cub_rules.specs.State.{want_of, want_of_piece}
 use Rattle.cub_rules.specs.Records.{predecessor, took, dropped, stored_for, pieces_but, with_piece_record}
 
 -- whether the play time of a stored part's visit is over
@@ -88,12 +88,6 @@ putting t h = record { outs = out.Act (what.Put t) ∷ []; state = record h { st
 
 abbrev pub told_placed : Params → ℕ → Tenancy → Out Msg
 told_placed p cub t = out.Send (way_to_controller p cub) (msg.Placed t)
-
-abbrev pub own_of : Tenancy → ℕ → Rec
-own_of t visit = record { tenancy = t; visit = visit; kind = Own }
-
-abbrev pub backup_of : Tenancy → ℕ → Rec
-backup_of t visit = record { tenancy = t; visit = visit; kind = Backup }
 
 -- On a disk of its own a cub puts a start: it takes the own record of the first visit, and sends the visit's state to its
 -- successor.

@@ -9,6 +9,7 @@ use Rattle.tiger_base.specs.declared.tenancy.Kind.{Kind}
 use Rattle.tiger_base.specs.declared.tenancy.Kind.TheVariants.{Own, Backup}
 use Rattle.tiger_base.specs.declared.tenancy.Rec.{Rec}
 use Rattle.tiger_base.specs.declared.tenancy.Tenancy.{Tenancy}
+use Rattle.tiger_base.specs.Records.{own_of, backup_of}
 use Rattle.slot_plan.specs.declared.params.Params.{Params}
 use Rattle.slot_plan.specs.Keys.{Key}
 use Rattle.node_kit.specs.Steps.{Deed}
@@ -25,7 +26,7 @@ use Rattle.node_kit.specs.Deeds.{nothing, then_do}
 use Rattle.cub_rules.specs.declared.store.Store.{Store}
 use Rattle.cub_rules.specs.Records.{took}
 use Rattle.cub_rules.specs.State.{IsAsk}
-use Rattle.cub_rules.specs.Ticks.{is_for, free_on, put_or_wait, putting_each, putting_on, putting, putting_own, putting_for_dead, own_of, backup_of, tenancy_from}
+use Rattle.cub_rules.specs.Ticks.{is_for, free_on, put_or_wait, putting_each, putting_on, putting, putting_own, putting_for_dead, tenancy_from}
 use Rattle.cub_steps.specs.Placing.{putting_by}
 use Rattle.cub_steps.proofs.Waiting.{oldest_first, none_left}
 

@@ -4,6 +4,7 @@ use Rattle.std.specs.List.{flat_map, filter}
 use Rattle.std.proofs.lemmas.Bool.{lt-leb}
 use Rattle.tiger_base.specs.declared.number.Stamp.{Stamp}
 use Rattle.tiger_base.specs.declared.message.Msg.{Msg}
+use Rattle.tiger_base.specs.Kinds.{is_own}
 use Rattle.slot_plan.specs.declared.params.Params.{Params}
 use Rattle.slot_plan.specs.Conditions.{IsPlan}
 use Rattle.slot_plan.proofs.Times.{product_le}
@@ -16,7 +17,6 @@ use Rattle.partial_view.specs.declared.line.Flag.TheVariants.{Asked}
 use Rattle.partial_view.specs.Lines.{key_of, marked}
 use Rattle.partial_view.specs.Views.{Seen}
 use Rattle.partial_view.specs.Walks.{KeepsVisits}
-use Rattle.state_forward.specs.Forwards.{is_own}
 use Rattle.mirror_schedule.specs.Pieces.{Pieces}
 use Rattle.node_kit.specs.Deeds.{Did}
 use Rattle.cub_rules.specs.declared.store.Store.{Store}

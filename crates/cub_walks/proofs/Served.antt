@@ -4,6 +4,7 @@ use Rattle.std.specs.List.{AllByRecursion, flat_map, filter}
 use Rattle.std.proofs.lemmas.Bool.{lt-leb}
 use Rattle.tiger_base.specs.declared.number.Stamp.{Stamp}
 use Rattle.tiger_base.specs.declared.message.Msg.{Msg}
+use Rattle.tiger_base.specs.Kinds.{is_own}
 use Rattle.slot_plan.specs.declared.params.Params.{Params}
 use Rattle.slot_plan.specs.Keys.{due_of}
 use Rattle.node_kit.specs.declared.outbox.Out.{Out}
@@ -13,7 +14,6 @@ use Rattle.partial_view.specs.Views.{Seen}
 use Rattle.partial_view.specs.Walks.{KeepsVisits}
 use Rattle.partial_view.proofs.Calls.{record_of}
 use Rattle.partial_view.proofs.Walks.{flat_map-filter}
-use Rattle.state_forward.specs.Forwards.{is_own}
 use Rattle.mirror_schedule.specs.Pieces.{Pieces}
 use Rattle.node_kit.specs.Deeds.{Did}
 use Rattle.cub_rules.specs.declared.store.Store.{Store}

@@ -4,6 +4,7 @@ use Rattle.std.specs.List.{flat_map}
 use Rattle.std.proofs.lemmas.Bool.{and_parts, or_cases, or_parts, both_ways, leb-true, leb-false}
 use Rattle.tiger_base.specs.declared.number.Stamp.{Stamp}
 use Rattle.tiger_base.specs.declared.message.Msg.{Msg}
+use Rattle.tiger_base.specs.Kinds.{is_own}
 use Rattle.node_kit.specs.declared.outbox.Out.{Out}
 use Rattle.partial_view.specs.Views.{Seen}
 use Rattle.partial_view.proofs.Calls.{record_of}
@@ -16,7 +17,7 @@ use Rattle.partial_view.specs.declared.line.Line.{Line}
 use Rattle.partial_view.specs.declared.line.Flag.TheVariants.{Forwarded}
 use Rattle.partial_view.specs.Lines.{key_of, marked}
 use Rattle.partial_view.specs.Walks.{KeepsVisits}
-use Rattle.state_forward.specs.Forwards.{is_own, is_batch_beat, is_next_due, must_forward}
+use Rattle.state_forward.specs.Forwards.{is_batch_beat, is_next_due, must_forward}
 use Rattle.partial_view.specs.Pending.{is_pending, next_due, IsForwardedTo}
 use Rattle.cub_rules.specs.Ticks.{is_to_forward, forward_line, forward_outs, forwarding}
 use Rattle.cub_walks.specs.Limits.{forward_limit}

@@ -6,6 +6,7 @@ use Rattle.std.proofs.lemmas.List.{append-nil}
 use Rattle.tiger_base.specs.declared.number.Stamp.{Stamp}
 use Rattle.tiger_base.specs.declared.message.Msg.{Msg}
 use Rattle.tiger_base.specs.declared.tenancy.PieceState.{PieceState}
+use Rattle.tiger_base.specs.Kinds.{is_own}
 use Rattle.node_kit.specs.declared.outbox.Out.{Out}
 use Rattle.slot_plan.specs.declared.params.Params.{Params}
 use Rattle.slot_plan.specs.Keys.{due_of}
@@ -15,7 +16,6 @@ use Rattle.partial_view.specs.Lines.{key_of, marked}
 use Rattle.partial_view.specs.Views.{Seen}
 use Rattle.partial_view.proofs.Calls.{record_of}
 use Rattle.partial_view.proofs.Order.{all_implies}
-use Rattle.state_forward.specs.Forwards.{is_own}
 use Rattle.mirror_schedule.specs.Splits.{Split, with_split}
 use Rattle.node_kit.specs.Deeds.{Did}
 use Rattle.partial_view.specs.Pending.{is_unsplit, IsSplitFrom}

@@ -2,13 +2,14 @@
 ghost use Rattle.std.specs.Prelude.{◌≡◌, ◌+◌, ◌*◌, ◌<◌, ◌≤◌, ◌++◌, ◌∷◌, [], OnOk, Some, map, filter};
 ghost use Rattle.std.specs.List.{AllByRecursion, flat_map};
 ghost use Rattle.tiger_base.specs.Limits.{most_reading};
+ghost use Rattle.tiger_base.specs.Kinds.{is_own};
+ghost use Rattle.tiger_base.specs.Records.{want_of, want_of_piece};
 ghost use Rattle.slot_plan.specs.Keys.{IsKey};
 ghost use Rattle.partial_view.specs.Lines.{key_of};
 ghost use Rattle.partial_view.specs.Views.{IsWalk, line_at};
 ghost use Rattle.partial_view.specs.Walks.{replaced};
-ghost use Rattle.state_forward.specs.Forwards.{is_own};
 ghost use Rattle.node_kit.specs.Deeds.{Did};
-ghost use Rattle.cub_rules.specs.State.{IsStoreOf, IsLineOf, IsPieceAt, want_of, want_of_piece};
+ghost use Rattle.cub_rules.specs.State.{IsStoreOf, IsLineOf, IsPieceAt};
 ghost use Rattle.cub_rules.specs.Records.{pieces_but};
 ghost use Rattle.cub_rules.specs.Ticks.{reading, must_read, ask_line, ask_outs, asked_of_disk, leaves_by};
 ghost use Rattle.cub_walks.specs.Limits.{asks};

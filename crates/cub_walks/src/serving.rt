@@ -2,12 +2,13 @@
 ghost use Rattle.std.specs.Prelude.{◌≡◌, ◌≤◌, ◌++◌, ◌∷◌, [], OnOk, Some, map, filter, not};
 ghost use Rattle.std.specs.List.{AllByRecursion, flat_map};
 ghost use Rattle.tiger_base.specs.Limits.{most_reading};
+ghost use Rattle.tiger_base.specs.Records.{want_of};
 ghost use Rattle.slot_plan.specs.Keys.{IsKey};
 ghost use Rattle.partial_view.specs.Lines.{key_of};
 ghost use Rattle.partial_view.specs.Views.{IsWalk, line_at};
 ghost use Rattle.partial_view.specs.Walks.{replaced};
 ghost use Rattle.node_kit.specs.Deeds.{Did};
-ghost use Rattle.cub_rules.specs.State.{IsStoreOf, IsLineOf, IsPieceAt, want_of};
+ghost use Rattle.cub_rules.specs.State.{IsStoreOf, IsLineOf, IsPieceAt};
 ghost use Rattle.cub_rules.specs.Records.{pieces_but, stored_for, dropped};
 ghost use Rattle.cub_rules.specs.Ticks.{serving, is_served, is_past, serve_outs, sent_whole, piece_outs, leaves_by};
 ghost use Rattle.cub_walks.specs.Stopping.{served_line, past_line, past_outs};

@@ -9,6 +9,7 @@ use Rattle.slot_plan.specs.Keys.{Key, due_of, is_earlier}
 use Rattle.slot_plan.specs.Times.{due}
 use Rattle.tiger_base.specs.declared.number.Instance.{Instance}
 use Rattle.tiger_base.specs.declared.tenancy.Rec.{Rec}
+use Rattle.tiger_base.specs.Kinds.{is_own}
 use Rattle.partial_view.specs.declared.line.Line.{Line}
 use Rattle.partial_view.specs.declared.line.Flag.{Flag}
 use Rattle.partial_view.specs.declared.line.Flag.TheVariants.{Forwarded, Asked, Split}
@@ -19,7 +20,6 @@ use Rattle.partial_view.specs.Views.{line_at, with_mark, without, without_instan
 use Rattle.partial_view.specs.Adding.{answer_to, answer_at}
 use Rattle.partial_view.proofs.Order.{all_filter, all_implies}
 use Rattle.partial_view.proofs.Calls.{with_record-known}
-use Rattle.state_forward.specs.Forwards.{is_own}
 use Rattle.partial_view.specs.Pending.{is_pending, next_due, IsForwardedTo, is_unsplit, IsSplitFrom}
 
 -- the next visit is due later than at the beginning

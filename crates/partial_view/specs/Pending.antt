@@ -1,12 +1,12 @@
 -- Which states of a view are still to be forwarded, and up to which time there is none; which of its visits are still to be split, and from which time on there is none.
 use Rattle.std.specs.Prelude.{◌≡◌, ℕ, ◌+◌, ◌<◌, Bool, true, ◌&&◌, not, nat_lt, List}
 use Rattle.std.specs.List.{AllByRecursion}
+use Rattle.tiger_base.specs.Kinds.{is_own}
 use Rattle.slot_plan.specs.declared.params.Params.{Params}
 use Rattle.slot_plan.specs.Keys.{due_of}
 use Rattle.slot_plan.specs.Times.{due}
 use Rattle.partial_view.specs.declared.line.Line.{Line}
 use Rattle.partial_view.specs.Lines.{key_of}
-use Rattle.state_forward.specs.Forwards.{is_own}
 
 -- whether the state of the next visit is still to be forwarded: of an own record below its tenancy's last visit
 abbrev pub is_pending : Line → Bool

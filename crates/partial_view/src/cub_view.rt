@@ -6,13 +6,12 @@ ghost use Rattle.partial_view.specs.Lines.{visit_of, unmarked, is_of};
 ghost use Rattle.partial_view.specs.Views.{Seen, line_at, with_mark, without, without_instance, with_record};
 ghost use Rattle.partial_view.specs.Adding.{answer_to};
 ghost use Rattle.partial_view.specs.Pending.{IsForwardedTo, is_pending, next_due, IsSplitFrom, is_unsplit};
-ghost use Rattle.state_forward.specs.Forwards.{is_own};
 
 use crate::{Added, Flag, View};
 use slot_plan::Plan;
 use std::alloc::Global;
 use std::marker::Model;
-use tiger_base::{Instance, Kind, Micros, NoMemory, Rec, SlotNo, Visit};
+use tiger_base::{Instance, Micros, NoMemory, Rec, SlotNo, Visit};
 
 /// A view of a plan, seen as that view is, a time up to which its states are known to be forwarded, and a time from which on
 /// its visits are known to be split.
@@ -145,7 +144,7 @@ fn forwarded_before(plan: &Plan, time: Micros, rec: Rec) -> Micros
     ensures earlier { result ≤ time }
     ensures before { is_pending (unmarked rec) ≡ true → result < next_due plan.now.params (unmarked rec) }
 {
-    if !is_own(rec.kind) || rec.visit >= rec.tenancy.last {
+    if !rec.kind.is_own() || rec.visit >= rec.tenancy.last {
         return time;
     }
     let next = plan.due(rec.tenancy.slot, rec.visit + 1);
@@ -158,19 +157,9 @@ fn split_after(plan: &Plan, time: Micros, rec: Rec) -> Micros
     ensures later { time ≤ result }
     ensures after { is_unsplit (unmarked rec) ≡ true → due_of plan.now.params (visit_of rec) < result }
 {
-    if is_own(rec.kind) {
+    if rec.kind.is_own() {
         return time;
     }
     let due = plan.due(rec.tenancy.slot, rec.visit);
     if due < time { time } else { due + 1 }
-}
-
-/// Whether a record is the cub's own.
-fn is_own(kind: Kind) -> bool
-    ensures { result ≡ is_own kind }
-{
-    match kind {
-        Kind::Own => true,
-        Kind::Backup => false,
-    }
 }

@@ -7,7 +7,8 @@ use Rattle.tiger_base.specs.declared.tenancy.Ask.{Ask}
 use Rattle.tiger_base.specs.declared.tenancy.Tenancy.{Tenancy}
 use Rattle.slot_plan.specs.Conditions.{IsPlan}
 use Rattle.slot_plan.specs.Times.{time_of, first_due, due, cub_of, disk_of}
-use Rattle.proof_schedule.specs.Example.{small_plan, order, viewer, first_beat, one_put, LawsCanBeMet}
+use Rattle.slot_plan.specs.Samples.{small}
+use Rattle.proof_schedule.specs.Example.{order, viewer, first_beat, one_put, LawsCanBeMet}
 use Rattle.proof_schedule.specs.Facts.{Facts}
 use Rattle.proof_schedule.specs.RunLaws.{RunLaws}
 use Rattle.proof_schedule.specs.LinkLaws.{LinkLaws}
@@ -113,26 +114,26 @@ later : {f : Fact} → IsIn f (first_beat 8) → Contains one_put f
 later h = (tail (tail (tail (tail (tail (tail (tail (tail h)))))))).there
 
 -- Times, due times and cubs of the small plan.
-time_is : (b : ℕ) → time_of small_plan b ≡ b * 10000
+time_is : (b : ℕ) → time_of small b ≡ b * 10000
 unfolding time_of
 time_is b = refl
 
-due_is : due small_plan 1 0 ≡ 500000
+due_is : due small 1 0 ≡ 500000
 unfolding due first_due
 due_is = refl
 
-cub_is : cub_of small_plan 0 ≡ 0
+cub_is : cub_of small 0 ≡ 0
 unfolding cub_of
 cub_is = refl
 
-disk_is : disk_of small_plan 0 ≡ 0
+disk_is : disk_of small 0 ≡ 0
 unfolding disk_of
 disk_is = refl
 
 abbrev r : Facts
 r = facts_in one_put
 
-plan : IsPlan small_plan
+plan : IsPlan small
 plan = record {
   ranges = record {
     cubs = omega arith;
@@ -191,7 +192,7 @@ asked_in : IsIn (Asked 0 order 1) one_put
 asked_in = tail head
 
 -- The runner and the clocks: before cub 0 comes to beat 1 each cub has ended beat 0.
-runs : RunLaws small_plan r
+runs : RunLaws small r
 runs = record {
   came = λ {c} {b} {l} h. ⊎_elim
       (λ k. subst (λ v. r.Came c v) (sym k.0) (later (in_first 8 c k.1).came))
@@ -214,12 +215,12 @@ runs = record {
       (λ k.
       let k0 = k.0 in
       let k2 = k.2 in
-      let z : (time_of small_plan b ≤ l) × (l ≤ time_of small_plan b + 4000) = omega arith in
+      let z : (time_of small b ≤ l) × (l ≤ time_of small b + 4000) = omega arith in
       z)
       (λ k.
       let k0 = k.0 in
       let k2 = k.2 in
-      let z : (time_of small_plan b ≤ l) × (l ≤ time_of small_plan b + 4000) = omega arith in
+      let z : (time_of small b ≤ l) × (l ≤ time_of small b + 4000) = omega arith in
       z)
       (its (Ticked c b l) h);
 }
@@ -229,7 +230,7 @@ early : {c b : ℕ} → r.Came c b → b ≤ 1
 early {c} {b} h = ⊎_elim (λ k. let k0 = k.0 in omega arith) (λ k. let k0 = k.0 in omega arith) (its (Came c b) h)
 
 -- The links: the state and the heartbeats are under way yet, and of the two starts one has come.
-links : LinkLaws small_plan r
+links : LinkLaws small r
 links = record {
   carried = λ {c} {t} {m} {y} h. absurd (its (Got c t m y) h);
   arrives = λ {a} {k} {t} {m} {x} c b h to w late. let e = (its (Sent a k t m x) h).4 in let l = early w in absurd (omega arith);
@@ -247,7 +248,7 @@ links = record {
 }
 
 -- The Put is in the window, at a visit of cub 0.
-put_is : Inserts small_plan r 0 viewer 1
+put_is : Inserts small r 0 viewer 1
 put_is =
     let time = time_is 1 in
     let visit = due_is in
@@ -263,16 +264,16 @@ put_is =
     }
 
 -- Records and states: one record enters and one state goes out, both by the Put.
-states : StateLaws small_plan r
+states : StateLaws small r
 states = record {
   inserts = λ {c} {t} {x} h.
       let k = its (Put c t x) h in
-      subst (λ v. Inserts small_plan r v t x) (sym k.0) (subst (λ v. Inserts small_plan r 0 v x) (sym k.1) (subst (λ v. Inserts small_plan r 0 viewer v) (sym k.2) put_is));
+      subst (λ v. Inserts small r v t x) (sym k.0) (subst (λ v. Inserts small r 0 v x) (sym k.1) (subst (λ v. Inserts small r 0 viewer v) (sym k.2) put_is));
   inserted = λ {c} {t} {n} {x} h.
       let k = its (Inserted c t n x) h in
       let put = subst (λ v. r.Put v t x) (sym k.0) (subst (λ v. r.Put 0 v x) (sym k.1) (subst (λ v. r.Put 0 viewer v) (sym k.3) put_in.there)) in
       let first : t.first ≡ 0 = ap (λ (v : Tenancy). v.first) k.1 in
-      (put, inl (k.2 ∙ sym first, inl (k.0 ∙ sym cub_is ∙ ap (λ v. cub_of small_plan v) (sym first))));
+      (put, inl (k.2 ∙ sym first, inl (k.0 ∙ sym cub_is ∙ ap (λ v. cub_of small v) (sym first))));
   free = λ {c} {t} {u} {x} {y} h e le slot.
       let a = its (Put c t x) h in
       ⊎_elim
@@ -287,7 +288,7 @@ states = record {
       let o = its (Sent a k t m x) h in
       let put = subst (λ v. r.Put v t x) (sym o.0) (subst (λ v. r.Put 0 v x) (sym o.2) (subst (λ v. r.Put 0 viewer v) (sym o.4) put_in.there)) in
       let first : t.first ≡ 0 = ap (λ (v : Tenancy). v.first) o.2 in
-      inl (record { put = put; first = o.3 ∙ sym first; near = o.1; own = o.0 ∙ sym cub_is ∙ ap (λ v. cub_of small_plan v) (sym first) });
+      inl (record { put = put; first = o.3 ∙ sym first; near = o.1; own = o.0 ∙ sym cub_is ∙ ap (λ v. cub_of small v) (sym first) });
   ahead = λ {a} {k} {m} {x} {t} h. inl (its (Sent a k t m x) h).1;
   forwards = λ {a} {t} {n} {y} {b} {l} e le w own more undue soon. absurd (⊎_elim
       (λ k. its (Took a t n y) k)
@@ -301,10 +302,10 @@ states = record {
 }
   where
     shown : {c n b : ℕ} {t : Tenancy} → (c ≡ 0) × (t ≡ viewer) × (n ≡ 0) × (b ≡ 1)
-        → IsShown small_plan r c t n b
+        → IsShown small r c t n b
     shown {c} {n} {b} {t} k =
         let visit = due_is in
-        let one : IsShown small_plan r 0 viewer 0 1 = record {
+        let one : IsShown small r 0 viewer 0 1 = record {
           reading = 10000;
           ticked = ticked_in.there;
           undue = omega arith;
@@ -313,11 +314,11 @@ states = record {
           by = omega arith;
           since = λ x h le. absurd (its (Reached 0 0 x) h);
         } in
-        subst (λ v. IsShown small_plan r v t n b) (sym k.0) (subst (λ v. IsShown small_plan r 0 v n b) (sym k.1)
-        (subst (λ v. IsShown small_plan r 0 viewer v b) (sym k.2) (subst (λ v. IsShown small_plan r 0 viewer 0 v) (sym k.3) one)))
+        subst (λ v. IsShown small r v t n b) (sym k.0) (subst (λ v. IsShown small r 0 v n b) (sym k.1)
+        (subst (λ v. IsShown small r 0 viewer v b) (sym k.2) (subst (λ v. IsShown small r 0 viewer 0 v) (sym k.3) one)))
 
 -- The start of the Put is the one order's.
-start_is : Comes small_plan r 0 viewer 1
+start_is : Comes small r 0 viewer 1
 start_is = record {
   ask = order;
   asked = record { instance = refl; file = refl; count = refl; disk = sym disk_is };
@@ -329,13 +330,13 @@ start_is = record {
 }
 
 -- Starts: the one that came is put in the beat in which it came.
-starts : StartLaws small_plan r
+starts : StartLaws small r
 starts = record {
   one_order = λ {a} {b} {x} {y} h k same. let o = its (Begun a x) h in let q = its (Begun b y) k in (q.0 ∙ sym o.0, q.1 ∙ sym o.1);
   gone_after = λ {ask} {o} {z} h k. absurd (its (Gone ask.instance.0 z) k);
   comes = λ {c} {t} {x} h.
       let k = its (Put c t x) h in
-      subst (λ v. Comes small_plan r v t x) (sym k.0) (subst (λ v. Comes small_plan r 0 v x) (sym k.1) (subst (λ v. Comes small_plan r 0 viewer v) (sym k.2) start_is));
+      subst (λ v. Comes small r v t x) (sym k.0) (subst (λ v. Comes small r 0 v x) (sym k.1) (subst (λ v. Comes small r 0 viewer v) (sym k.2) start_is));
   once = λ {c} {t} {u} {x} {y} h k same. let o = its (Put c t x) h in let q = its (Put c u y) k in (q.1 ∙ sym o.1, q.2 ∙ sym o.2);
   waits = λ {c} {ask} {y} {b} {l} s n k le w slot window. ⊎_elim
       (λ a.
@@ -348,7 +349,7 @@ starts = record {
 }
 
 -- Heartbeats: beat 0 has one, beat 1 none, and nobody is believed dead.
-watch : WatchLaws small_plan r
+watch : WatchLaws small r
 watch = record {
   beats = λ {c} {b} {l} h heart. ⊎_elim
       (λ k. subst (λ v. r.Beat c v) (sym k.0) (later (in_first 8 c k.1).beats))
@@ -358,7 +359,7 @@ watch = record {
 }
 
 -- Nothing is stopped,
-stops : StopLaws small_plan r
+stops : StopLaws small r
 stops = record {
   how = λ {v} {z} h. absurd (its (Gone v z) h);
   gone_at = λ {v} {s} {n} {z} h. absurd (its (StoppedAt v s n z) h);
@@ -372,7 +373,7 @@ stops = record {
 }
 
 -- and no deschedule comes.
-holds : HoldLaws small_plan r
+holds : HoldLaws small r
 holds = record {
   reached = λ {c} {v} {y} h. absurd (its (Reached c v y) h);
   reached_tag = λ {c} {v} {s} {q} {y} h. absurd (its (GotTag c v s q y) h);

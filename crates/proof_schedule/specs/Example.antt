@@ -1,34 +1,11 @@
--- A run in which one viewer is put, as a list of facts that meets the laws.
+-- A run of the small plan in which one viewer is put, as a list of facts that meets the laws.
 use Rattle.std.specs.Prelude.{ℕ, zero, suc, List, [], ◌∷◌}
 use Rattle.tiger_base.specs.declared.tenancy.Ask.{Ask}
 use Rattle.tiger_base.specs.declared.tenancy.Tenancy.{Tenancy}
-use Rattle.slot_plan.specs.declared.params.Params.{Params}
 use Rattle.slot_plan.specs.Conditions.{IsPlan}
+use Rattle.slot_plan.specs.Samples.{small}
 use Rattle.proof_schedule.specs.Laws.{Laws}
 use Rattle.proof_schedule.specs.Logs.{Fact, facts_in, Came, Ticked, Put, Inserted, Shows, Sent, Begun, Asked, Beat}
-
--- Eight cubs of one disk each, and sixteen slots: visit 0 of slot 1 is due after half a second.
-abbrev pub small_plan : Params
-small_plan = record {
-  cubs = 8;
-  disks = 1;
-  slots = 16;
-  play = 1000000;
-  pieces = 2;
-  block = 4;
-  beat = 10000;
-  delay = 2;
-  skew = 4000;
-  window_a = 800000;
-  window_b = 200000;
-  read_lead = 100000;
-  min_lead = 3000000;
-  max_lead = 4000000;
-  batch = 20;
-  heart = 50;
-  deadman = 1000000;
-  hold = 3000000;
-}
 
 -- The order of one viewer, for a file of one block on disk 0.
 abbrev pub order : Ask
@@ -70,5 +47,5 @@ one_put =
 
 -- The laws can be met, in a run in which a Put is made.
 abbrev pub LawsCanBeMet : Type 0
-LawsCanBeMet = IsPlan small_plan × Laws small_plan (facts_in one_put)
+LawsCanBeMet = IsPlan small × Laws small (facts_in one_put)
     × (facts_in one_put).Put 0 viewer 1

@@ -7,7 +7,7 @@ use Rattle.tiger_base.specs.declared.tenancy.Ask.{Ask}
 use Rattle.tiger_base.specs.declared.tenancy.Kind.{Kind}
 use Rattle.tiger_base.specs.declared.tenancy.Tenancy.{Tenancy}
 use Rattle.tiger_base.specs.declared.tenancy.Want.{Want}
-use Rattle.slot_plan.specs.declared.params.Params.{Params}
+use Rattle.slot_plan.specs.Samples.{small}
 use Rattle.stripe_layout.specs.declared.catalogue.Catalogue.{Catalogue}
 use Rattle.stripe_layout.specs.declared.catalogue.FileInfo.{FileInfo}
 use Rattle.stripe_layout.specs.Layout.{IsCatalogue}
@@ -21,29 +21,8 @@ use Rattle.run_facts.specs.Order.{Noted, journals_of}
 use Rattle.run_claims.specs.Accounts.{Account, Ticking, account_by}
 use Rattle.run_claims.specs.Served.{AreServed}
 
--- Sixteen slots; a block play time of 100 beats, each of 10000 micros; two mirror pieces; a delay of two beats. Node 16 is
--- the controller and node 17 the viewers. Link 16 + c leads from cub c to the viewers, link 40 + d from cub d to disk d.
-abbrev pub small : Params
-small = record {
-  cubs = 8;
-  disks = 1;
-  slots = 16;
-  play = 1000000;
-  pieces = 2;
-  block = 4;
-  beat = 10000;
-  delay = 2;
-  skew = 4000;
-  window_a = 800000;
-  window_b = 200000;
-  read_lead = 100000;
-  min_lead = 3000000;
-  max_lead = 4000000;
-  batch = 20;
-  heart = 50;
-  deadman = 1000000;
-  hold = 3000000;
-}
+-- In the ring of these logs node 16 is the controller and node 17 the viewers. Link 16 + c leads from cub c to the viewers,
+-- link 40 + d from cub d to disk d.
 
 -- ---- entries
 

@@ -4,13 +4,14 @@
 ghost use Rattle.std.specs.Prelude.{◌≡◌, ℕ, ◌∷◌, [], false};
 ghost use Rattle.tiger_base.specs.declared.tenancy.Kind.TheVariants.{Own};
 ghost use Rattle.tiger_base.specs.declared.message.Note.TheVariants.{Whole};
+ghost use Rattle.slot_plan.specs.Samples.{small};
 ghost use Rattle.run_claims.specs.Accounts.{end_of};
 ghost use Rattle.run_claims.specs.Returns.{NobodyComesBack};
 ghost use Rattle.run_claims.specs.Visits.{AreServedOnce};
 ghost use Rattle.run_claims.specs.Truths.{BeliefsAreTrue, FailuresAreTrue};
 ghost use Rattle.run_claims.specs.Turns.{AreInTurn};
 ghost use Rattle.run_claims.specs.Patience.{NobodyIsPassedOver};
-ghost use Rattle.run_claims.specs.Samples.{small, seat, gone, put, took, want, bytes, sends, gets, asks, asked, fails, faulty, dies, believes, IsOfTen, seated, block, piece, ask, ordered, starts, once, IsServedBy, two_beats};
+ghost use Rattle.run_claims.specs.Samples.{seat, gone, put, took, want, bytes, sends, gets, asks, asked, fails, faulty, dies, believes, IsOfTen, seated, block, piece, ask, ordered, starts, once, IsServedBy, two_beats};
 
 /// Instance 0 is stopped in beat 10. The longest way lasts two beats and a block plays for 100.
 pub fn no_return()

@@ -5,7 +5,7 @@ use Rattle.std.specs.List.{list_any}
 use Rattle.std.proofs.lemmas.Bool.{false≢true}
 use Rattle.tiger_base.specs.declared.tenancy.Tenancy.{Tenancy}
 use Rattle.slot_plan.specs.declared.params.Params.{Params}
-use Rattle.slot_plan.specs.Times.{due, cub_of, time_of}
+use Rattle.slot_plan.specs.Times.{due, cub_of, time_of, takeover}
 use Rattle.mirror_pieces.specs.Pieces.{leaving}
 use Rattle.node_kit.specs.declared.journal.What.{What}
 use Rattle.node_kit.specs.declared.journal.What.TheVariants as what
@@ -14,7 +14,7 @@ use Rattle.run_facts.specs.Commanded.{is_gone_of}
 use Rattle.run_facts.specs.Timed.{is_died}
 use Rattle.run_model.specs.Fronts.{AnyByRecursion}
 use Rattle.run_model.specs.Served.{journal_at}
-use Rattle.run_model.specs.Excuses.{takeover, IsFailedRead, IsDeath, IsStopOf, ReadFailed, PieceIsLost, LostInPieces, LostInDeath, WasStopped, IsExcused}
+use Rattle.run_model.specs.Excuses.{IsFailedRead, IsDeath, IsStopOf, ReadFailed, PieceIsLost, LostInPieces, LostInDeath, WasStopped, IsExcused}
 use Rattle.run_model.specs.Tests.{some_below, is_failed_read, read_failed, died_between, died_before, piece_is_lost, lost_in_pieces, lost_in_death, stopped_before, was_stopped, has_excuse, some_tenancy}
 use Rattle.run_model.proofs.Reflects.{and_both, and_left, and_right, both, either, equal, less, at_most, any, some_found, some_gives}
 use Rattle.run_model.proofs.Deliveries.{tenancy_found, tenancy_gives}

@@ -1,20 +1,15 @@
 -- A visit's block may be missing: a read failed, the block's cub had just died or a piece was lost after its death, or
 -- the instance was stopped.
-use Rattle.std.specs.Prelude.{◌≡◌, ℕ, ◌+◌, ◌*◌, ◌<◌, ◌≤◌, List, ◌⊎◌}
+use Rattle.std.specs.Prelude.{◌≡◌, ℕ, ◌+◌, ◌<◌, ◌≤◌, List, ◌⊎◌}
 use Rattle.tiger_base.specs.declared.tenancy.Tenancy.{Tenancy}
 use Rattle.slot_plan.specs.declared.params.Params.{Params}
-use Rattle.slot_plan.specs.Conditions.{longest_way}
-use Rattle.slot_plan.specs.Times.{due, cub_of, time_of}
+use Rattle.slot_plan.specs.Times.{due, cub_of, time_of, takeover}
 use Rattle.mirror_pieces.specs.Pieces.{leaving}
 use Rattle.node_kit.specs.declared.journal.What.{What}
 use Rattle.node_kit.specs.declared.journal.What.TheVariants as what
 use Rattle.node_kit.specs.declared.journal.Entry.{Entry}
 use Rattle.run_model.specs.Fronts.{AnyByRecursion}
 use Rattle.run_model.specs.Served.{journal_at, IsVisitOf}
-
--- how long a death may go unnoticed: visits that are due so long after it, or later, are taken over in time
-unfoldable pub takeover : Params → ℕ
-takeover p = 2 * longest_way p + 3 * p.skew + p.deadman + p.read_lead + 2 * p.beat + 1
 
 -- an entry says that the read of a block (piece 0) or of a piece failed, that the node died, or that an instance was stopped
 abbrev pub IsFailedRead : ℕ → ℕ → ℕ → What → Type 0

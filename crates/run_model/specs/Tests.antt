@@ -8,7 +8,7 @@ use Rattle.tiger_base.specs.declared.tenancy.Want.{Want}
 use Rattle.tiger_base.specs.declared.part.Span.{Span}
 use Rattle.tiger_base.specs.declared.message.Note.TheVariants as note
 use Rattle.slot_plan.specs.declared.params.Params.{Params}
-use Rattle.slot_plan.specs.Times.{due, cub_of, time_of}
+use Rattle.slot_plan.specs.Times.{due, cub_of, time_of, takeover}
 use Rattle.stripe_layout.specs.Places.{place_of}
 use Rattle.stripe_layout.specs.declared.catalogue.Catalogue.{Catalogue}
 use Rattle.stripe_layout.specs.declared.place.Place.{Place}
@@ -25,7 +25,6 @@ use Rattle.run_model.specs.declared.parcels.Parcel.{Parcel}
 use Rattle.run_model.specs.declared.parcels.Form.{Form}
 use Rattle.run_model.specs.declared.parcels.Form.TheVariants.{Whole, Piece, AnyPiece}
 use Rattle.run_model.specs.Served.{journal_at, whole_in, piece_in, wholes_got, pieces_got, pieces_numbered, want_of}
-use Rattle.run_model.specs.Excuses.{takeover}
 
 -- whether a test holds of each number below a bound, and of one of them
 abbrev pub each_below : (ℕ → Bool) → ℕ → Bool

@@ -1,8 +1,7 @@
 //! True times and due times of any beats, slots and visits, also of those that no run comes to.
 ghost use Rattle.std.specs.Prelude.{◌≡◌, ◌^◌, ◌<◌, ◌≤◌};
-ghost use Rattle.slot_plan.specs.Times.{time_of, due};
+ghost use Rattle.slot_plan.specs.Times.{time_of, due, takeover};
 ghost use Rattle.mirror_pieces.specs.Pieces.{leaving};
-ghost use Rattle.run_model.specs.Excuses.{takeover};
 
 use slot_plan::Plan;
 use tiger_base::{Beat, SlotNo, Visit};
@@ -41,7 +40,7 @@ pub fn leaving(plan: &Plan, due: u128, piece: u64) -> u128
 }
 
 /// How long a death may go unnoticed.
-#[tactic(auto, unfolding(crate::specs::Excuses::takeover))]
+#[tactic(auto, unfolding(slot_plan::specs::Times::takeover))]
 pub fn takeover(plan: &Plan) -> u128
     ensures value { result ≡ takeover plan.now.params }
     ensures small { result < 2 ^ 40 }

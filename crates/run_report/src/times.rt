@@ -1,8 +1,7 @@
 //! Times of any beats, also of those that no run comes to.
 ghost use Rattle.std.specs.Prelude.{◌≡◌, ◌+◌, ◌^◌, ◌<◌, ◌&&◌, nat_lt};
 ghost use Rattle.std.specs.List.{list_any};
-ghost use Rattle.slot_plan.specs.Times.{time_of};
-ghost use Rattle.run_model.specs.Excuses.{takeover};
+ghost use Rattle.slot_plan.specs.Times.{time_of, takeover};
 ghost use Rattle.run_report.specs.Outcomes.{is_stopped_below};
 
 use slot_plan::Plan;
@@ -18,7 +17,7 @@ fn time_of(plan: &Plan, beat: Beat) -> u128
 }
 
 /// How long a death may go unnoticed, in microseconds.
-#[tactic(auto, unfolding(run_model::specs::Excuses::takeover))]
+#[tactic(auto, unfolding(slot_plan::specs::Times::takeover))]
 pub fn takeover(plan: &Plan) -> u128
     ensures value { result ≡ takeover plan.now.params }
     ensures small { result < 2 ^ 40 }

@@ -10,6 +10,7 @@ use Rattle.tiger_base.specs.declared.tenancy.State.{State}
 use Rattle.tiger_base.specs.declared.tenancy.Tenancy.{Tenancy}
 use Rattle.tiger_base.specs.declared.message.Msg.{Msg}
 use Rattle.tiger_base.specs.declared.message.Msg.TheVariants as msg
+use Rattle.tiger_base.specs.Records.{own_of}
 use Rattle.slot_plan.specs.declared.params.Params.{Params}
 use Rattle.slot_plan.specs.Conditions.{IsPlan}
 use Rattle.slot_plan.specs.Times.{cub_of}
@@ -22,7 +23,7 @@ use Rattle.node_kit.specs.Ways.{way_ahead}
 use Rattle.node_kit.specs.Deeds.{then_do, each_in_turn}
 use Rattle.cub_rules.specs.declared.store.Store.{Store}
 use Rattle.cub_rules.specs.Records.{took}
-use Rattle.cub_rules.specs.Ticks.{tenancy_from, sending, putting, told_placed, own_of, putting_own, put_or_wait, free_on, putting_each, is_for, putting_on, inserting_own, disks_at}
+use Rattle.cub_rules.specs.Ticks.{tenancy_from, sending, putting, told_placed, putting_own, put_or_wait, free_on, putting_each, is_for, putting_on, inserting_own, disks_at}
 use Rattle.schedule_proof.specs.Facts.{IsGiven}
 use Rattle.cub_laws.proofs.Numbers.{visit_own, disks_own}
 use Rattle.schedule_laws.specs.Lives.{In}

@@ -8,6 +8,7 @@ use Rattle.tiger_base.specs.declared.tenancy.Ask.{Ask}
 use Rattle.tiger_base.specs.declared.tenancy.Rec.{Rec}
 use Rattle.tiger_base.specs.declared.tenancy.Tenancy.{Tenancy}
 use Rattle.tiger_base.specs.declared.message.Msg.{Msg}
+use Rattle.tiger_base.specs.Records.{own_of, backup_of}
 use Rattle.slot_plan.specs.declared.params.Params.{Params}
 use Rattle.slot_plan.specs.Conditions.{IsPlan}
 use Rattle.slot_plan.specs.Times.{due, disk_of, in_window}
@@ -23,7 +24,7 @@ use Rattle.insert_queue.proofs.Once.{IsOnce-without, has_start-gone}
 use Rattle.node_kit.specs.Deeds.{nothing, each_in_turn}
 use Rattle.cub_rules.specs.declared.store.Store.{Store}
 use Rattle.cub_rules.specs.Records.{predecessor, took}
-use Rattle.cub_rules.specs.Ticks.{tenancy_from, putting, told_placed, own_of, backup_of, putting_own, putting_for_dead, put_or_wait, free_on, putting_each, is_for, putting_on, disks_at, inserting_own, inserting_for_dead, inserting}
+use Rattle.cub_rules.specs.Ticks.{tenancy_from, putting, told_placed, putting_own, putting_for_dead, put_or_wait, free_on, putting_each, is_for, putting_on, disks_at, inserting_own, inserting_for_dead, inserting}
 use Rattle.schedule_laws.specs.Lives.{In}
 use Rattle.schedule_laws.proofs.Members.{chosen, in_left, in_right, in_cases, in_filter, from_filter, all_in}
 use Rattle.schedule_laws.proofs.Moves.{Moves}

@@ -19,7 +19,7 @@ use Rattle.node_kit.specs.declared.outbox.Out.{Out}
 use Rattle.node_kit.specs.declared.outbox.Out.TheVariants as out
 use Rattle.node_kit.specs.Steps.{Input}
 use Rattle.node_kit.specs.Steps.Input.{Take, Tick}
-use Rattle.state_forward.specs.Forwards.{is_own, is_batch_beat, is_next_due, must_forward}
+use Rattle.state_forward.specs.Forwards.{is_batch_beat, is_next_due, must_forward}
 use Rattle.node_kit.specs.Ways.{way_ahead}
 use Rattle.cub_rules.specs.declared.store.Store.{Store}
 use Rattle.cub_rules.specs.State.{IsRecordOf, visit_here}
@@ -40,6 +40,7 @@ use Rattle.deschedule.specs.Holds.{is_held}
 use Rattle.tiger_base.specs.declared.number.Instance.{Instance}
 use Rattle.tiger_base.specs.declared.tenancy.Ask.{Ask}
 use Rattle.tiger_base.specs.declared.tenancy.Tag.{Tag}
+use Rattle.tiger_base.specs.Kinds.{is_own}
 use Rattle.schedule_laws.proofs.Ticking.{forwarded, before_inserting, before_forwarding, loud}
 use Rattle.schedule_laws.proofs.Order.{tick_of}
 

@@ -11,6 +11,7 @@ use Rattle.tiger_base.specs.declared.tenancy.State.{State}
 use Rattle.tiger_base.specs.declared.tenancy.Tenancy.{Tenancy}
 use Rattle.tiger_base.specs.declared.message.Msg.{Msg}
 use Rattle.tiger_base.specs.declared.message.Msg.TheVariants as msg
+use Rattle.tiger_base.specs.Records.{own_of, backup_of}
 use Rattle.slot_plan.specs.declared.params.Params.{Params}
 use Rattle.slot_plan.specs.Conditions.{IsPlan}
 use Rattle.slot_plan.specs.Times.{cub_of}
@@ -23,7 +24,7 @@ use Rattle.insert_queue.specs.Queues as queues
 use Rattle.node_kit.specs.Deeds.{nothing, then_do, each_in_turn}
 use Rattle.cub_rules.specs.declared.store.Store.{Store}
 use Rattle.cub_rules.specs.Records.{predecessor, took}
-use Rattle.cub_rules.specs.Ticks.{tenancy_from, sending, putting, told_placed, own_of, backup_of, putting_for_dead, putting_on, inserting_own, inserting_for_dead, inserting, disks_at}
+use Rattle.cub_rules.specs.Ticks.{tenancy_from, sending, putting, told_placed, putting_for_dead, putting_on, inserting_own, inserting_for_dead, inserting, disks_at}
 use Rattle.schedule_proof.specs.Facts.{IsGiven}
 use Rattle.cub_laws.proofs.Numbers.{visit_own, next_own, disks_own, predecessor_below}
 use Rattle.schedule_laws.specs.Lives.{In}

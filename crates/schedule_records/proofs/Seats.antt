@@ -6,6 +6,7 @@ use Rattle.tiger_base.specs.declared.tenancy.Ask.{Ask}
 use Rattle.tiger_base.specs.declared.tenancy.Rec.{Rec}
 use Rattle.tiger_base.specs.declared.tenancy.Tenancy.{Tenancy}
 use Rattle.tiger_base.specs.declared.message.Msg.{Msg}
+use Rattle.tiger_base.specs.Records.{own_of, backup_of}
 use Rattle.slot_plan.specs.declared.params.Params.{Params}
 use Rattle.slot_plan.specs.Conditions.{IsPlan}
 use Rattle.slot_plan.specs.Times.{cub_of}
@@ -19,7 +20,7 @@ use Rattle.partial_view.specs.Lines.{unmarked}
 use Rattle.node_kit.specs.Deeds.{nothing, then_do, each_in_turn}
 use Rattle.cub_rules.specs.declared.store.Store.{Store}
 use Rattle.cub_rules.specs.Records.{predecessor, took}
-use Rattle.cub_rules.specs.Ticks.{tenancy_from, sending, putting, told_placed, own_of, backup_of, putting_own, putting_for_dead, put_or_wait, free_on, putting_each, is_for, putting_on, disks_at, inserting_own, inserting_for_dead, inserting}
+use Rattle.cub_rules.specs.Ticks.{tenancy_from, sending, putting, told_placed, putting_own, putting_for_dead, put_or_wait, free_on, putting_each, is_for, putting_on, disks_at, inserting_own, inserting_for_dead, inserting}
 use Rattle.cub_laws.proofs.Numbers.{visit_own, next_own, disks_own, predecessor_below}
 use Rattle.run_model.specs.Parts.{IsAtOrBefore, IsOwnRecordFor}
 use Rattle.schedule_laws.specs.Lives.{In}

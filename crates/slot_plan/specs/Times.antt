@@ -1,6 +1,7 @@
 -- When the visits of the slots are due, on which disk and cub, and which of them stand in the window.
 use Rattle.std.specs.Prelude.{ℕ, ◌+◌, ◌-◌, ◌*◌, ◌/◌, ◌%◌, ◌≤◌, Bool, ◌&&◌, IsTrue, nat_lt, nat_le, Option, Some, None, if◌then◌else◌}
 use Rattle.slot_plan.specs.declared.params.Params.{Params}
+use Rattle.slot_plan.specs.Conditions.{longest_way}
 
 -- the true time at which a beat begins
 unfoldable pub time_of : Params → ℕ → ℕ
@@ -47,3 +48,7 @@ pub record WindowsApart (p : Params) : Type 0 where
       → IsTrue (in_window p reading slot visit)
       → IsTrue (in_window p later_reading slot (visit + 1))
       → time + p.beat ≤ later
+
+-- how long a death may go unnoticed: visits that are due so long after it, or later, are taken over in time
+unfoldable pub takeover : Params → ℕ
+takeover p = 2 * longest_way p + 3 * p.skew + p.deadman + p.read_lead + 2 * p.beat + 1

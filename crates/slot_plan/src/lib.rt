@@ -3,9 +3,11 @@
 
 mod params;
 mod plan;
+mod samples;
 
 pub use params::{Params, PlanFault};
 pub use plan::Plan;
+pub use samples::small_plan;
 
 #[cfg(test)]
 mod tests;

@@ -18,10 +18,10 @@ impl Plan {
     ghost use Rattle.std.specs.Option.{ForSome};
     ghost use Rattle.slot_plan.specs.Conditions.{IsInRange, IsPlan, plan_fault};
     ghost use Rattle.slot_plan.specs.declared.params.Params.{Params};
-    ghost use Rattle.slot_plan.specs.Times.{first_due, due, cub_of, disk_of, in_window, visit_by, disk_count, IsLatest, WindowsApart};
+    ghost use Rattle.slot_plan.specs.Times.{first_due, due, cub_of, disk_of, in_window, visit_by, disk_count, takeover, IsLatest, WindowsApart};
     ghost use Rattle.slot_plan.specs.Keys.{Key, IsKey, is_earlier, is_behind};
     ghost use Rattle.slot_plan.specs.Windows.{least_visit, IsOpen, IsLeastOpen};
-    ghost use Rattle.slot_plan.specs.Searches.{from_of, IsBetween, IsFirstBetween, IsFirstFrom};
+    ghost use Rattle.slot_plan.specs.Searches.{from_of, IsBetween, IsFirstBetween, IsFirstFrom, EntersFrom, IsNextEntry};
 
     /// The plan with these numbers. An `Err` names the first condition that is false.
     #[tactic(auto, unfolding(crate::specs::Conditions::plan_fault))]
@@ -91,6 +91,16 @@ impl Plan {
         ensures { result.0 ≡ disk_of self.now.params visit }
     {
         DiskNo((visit % (self.params.cubs * self.params.disks)) as u32)
+    }
+
+    /// How long a death may go unnoticed: what is due this long after it, or later, is taken over in time.
+    #[tactic(auto, unfolding(crate::specs::Times::takeover))]
+    pub fn takeover(&self) -> Micros
+        ensures value { result ≡ takeover self.now.params }
+        ensures small { result < 2 ^ 40 }
+    {
+        let p = &self.params;
+        2 * (p.delay * p.beat) + 3 * p.skew + p.deadman + p.read_lead + 2 * p.beat + 1
     }
 
     /// Whether the visit is in the window when a clock shows the reading.
@@ -170,6 +180,17 @@ impl Plan {
         } else {
             self.first_between(disk, self.due(first.0, first.1) + 1, last)
         }
+    }
+
+    /// The first reading after the given one at which a visit of the disk comes into the window.
+    pub fn next_entry(&self, reading: Micros, disk: DiskNo) -> Micros
+        requires reading { reading ≤ most_reading }
+        requires disk { disk.0 < disk_count self.now.params }
+        ensures next { IsNextEntry self.now.params disk.0 reading result }
+        ensures none_before { EntersFrom self.now.params disk.0 reading result }
+    {
+        let (slot, visit) = self.first_from(disk, reading + self.params.window_a + 1);
+        self.due(slot, visit).saturating_sub(self.params.window_a)
     }
 
     /// The earliest time at which an open visit that comes behind the given one can be due.

@@ -2,30 +2,9 @@
 ghost use Rattle.std.specs.Prelude.{◌≡◌};
 ghost use Rattle.slot_plan.specs.Conditions.{IsInRange};
 
-use crate::{Params, Plan, PlanFault};
+use crate::{Params, Plan, PlanFault, small_plan};
 use std::process::Abort;
 use tiger_base::{CubNo, DiskNo, SlotNo};
-
-const SMALL: Params = Params {
-    cubs: 8,
-    disks: 1,
-    slots: 16,
-    play: 1000000,
-    pieces: 2,
-    block: 4,
-    beat: 10000,
-    delay: 2,
-    skew: 4000,
-    window_a: 800000,
-    window_b: 200000,
-    read_lead: 100000,
-    min_lead: 3000000,
-    max_lead: 4000000,
-    batch: 20,
-    heart: 50,
-    deadman: 1000000,
-    hold: 3000000,
-};
 
 const LARGE: Params = Params {
     cubs: 14,
@@ -61,8 +40,8 @@ fn plan_of(rt: &impl Abort, params: Params) -> Plan
 
 #[test]
 fn due_times_of_the_small_plan(rt: HostRuntime) {
-    let plan = plan_of(&rt, SMALL);
-    assert_eq!(rt; plan.params(), SMALL);
+    let plan = small_plan();
+    assert_eq!(rt; plan.params(), plan.params);
     for (slot, visit, want) in [(1, 0, 500000), (15, 0, 7500000), (0, 8, 8000000)] {
         assert_eq!(rt; plan.due(SlotNo(slot), visit), want);
     }
@@ -82,7 +61,7 @@ fn due_times_of_the_large_plan(rt: HostRuntime) {
 
 #[test]
 fn window_stands_open_between_its_ends(rt: HostRuntime) {
-    let plan = plan_of(&rt, SMALL);
+    let plan = small_plan();
     for (reading, want) in [(10000, true), (299999, true), (300000, false)] {
         assert_eq!(rt; plan.in_window(reading, SlotNo(1), 0), want);
     }
@@ -91,15 +70,28 @@ fn window_stands_open_between_its_ends(rt: HostRuntime) {
 
 #[test]
 fn last_visit_is_none_before_the_first(rt: HostRuntime) {
-    let plan = plan_of(&rt, SMALL);
+    let plan = small_plan();
     for (reading, want) in [(499999, None), (1000000, Some(0)), (1500000, Some(1))] {
         assert_eq!(rt; plan.visit_at_or_before(SlotNo(1), reading), want);
     }
 }
 
 #[test]
+fn a_late_death_is_noticed_within_a_span(rt: HostRuntime) {
+    assert_eq!(rt; small_plan().takeover(), 1172001);
+}
+
+#[test]
+fn next_entry_is_that_of_the_next_visit(rt: HostRuntime) {
+    let plan = small_plan();
+    for (reading, want) in [(0, 7200000), (7199999, 7200000), (7200000, 7700000)] {
+        assert_eq!(rt; plan.next_entry(reading, DiskNo(0)), want);
+    }
+}
+
+#[test]
 fn next_visit_of_a_disk_is_found_once(rt: HostRuntime) {
-    let plan = plan_of(&rt, SMALL);
+    let plan = small_plan();
     let first = (SlotNo(1), 0);
     assert_eq!(rt; plan.next_window_visit(10000, DiskNo(0), None), Some(first));
     assert_eq!(rt; plan.next_window_visit(10000, DiskNo(0), Some(first)), None);
@@ -110,14 +102,15 @@ fn next_visit_of_a_disk_is_found_once(rt: HostRuntime) {
 
 #[test]
 fn first_false_condition_is_named(rt: HostRuntime) {
+    let small = small_plan().params();
     let widest = Params {
         window_a: 986000,
-        ..SMALL
+        ..small
     };
     assert!(rt; Plan::new(widest).is_ok());
     let wider = Params {
         window_a: 986001,
-        ..SMALL
+        ..small
     };
     let fault = PlanFault {
         condition: 2,

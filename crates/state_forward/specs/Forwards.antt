@@ -1,16 +1,11 @@
 -- When a cub forwards the state of the visit behind a record's, and to whom it sends the state of a visit.
-use Rattle.std.specs.Prelude.{ℕ, ◌+◌, ◌%◌, Bool, true, false, ◌&&◌, ◌||◌, ◌==◌, nat_lt, nat_le, List, [], ◌∷◌}
+use Rattle.std.specs.Prelude.{ℕ, ◌+◌, ◌%◌, Bool, ◌&&◌, ◌||◌, ◌==◌, nat_lt, nat_le, List, [], ◌∷◌}
 use Rattle.tiger_base.specs.declared.number.Stamp.{Stamp}
 use Rattle.tiger_base.specs.declared.number.CubNo.{CubNo}
-use Rattle.tiger_base.specs.declared.tenancy.Kind.{Kind}
-use Rattle.tiger_base.specs.declared.tenancy.Kind.TheVariants.{Own, Backup}
 use Rattle.tiger_base.specs.declared.tenancy.Rec.{Rec}
+use Rattle.tiger_base.specs.Kinds.{is_own}
 use Rattle.slot_plan.specs.declared.params.Params.{Params}
 use Rattle.slot_plan.specs.Times.{due, cub_of}
-
-abbrev pub is_own : Kind → Bool
-is_own Own = true
-is_own Backup = false
 
 -- whether a cub forwards ahead of the latest time in this beat
 abbrev pub is_batch_beat : Params → ℕ → Bool

@@ -2,10 +2,10 @@
 ghost use Rattle.std.specs.Prelude.{◌≡◌, ◌≤◌, ◌<◌, ◌^◌, ◌+◌};
 ghost use Rattle.tiger_base.specs.Limits.{most_reading};
 ghost use Rattle.slot_plan.specs.Times.{due, cub_of};
-ghost use Rattle.state_forward.specs.Forwards.{must_forward, targets, is_own, is_batch_beat, is_next_due};
+ghost use Rattle.state_forward.specs.Forwards.{must_forward, targets, is_batch_beat, is_next_due};
 
 use slot_plan::Plan;
-use tiger_base::{CubNo, Kind, Micros, Rec, Stamp, Visit};
+use tiger_base::{CubNo, Micros, Rec, Stamp, Visit};
 
 /// Whether the cub forwards the state of the visit behind the record's. It does so for its own
 /// record, where that visit is one of the tenancy's, and is due at most the minimum lead after the
@@ -18,7 +18,7 @@ pub fn must_forward(plan: &Plan, stamp: Stamp, rec: &Rec) -> bool
     ensures { result ≡ must_forward plan.now.params stamp rec.now }
 {
     let params = plan.params();
-    is_own(rec.kind)
+    rec.kind.is_own()
         && rec.visit < rec.tenancy.last
         && (is_next_due(plan, rec, stamp.reading + params.min_lead)
             || (stamp.beat % params.batch == 0
@@ -33,15 +33,6 @@ pub fn targets(plan: &Plan, visit: Visit) -> [CubNo; 2]
     ensures { result ≡ targets plan.now.params visit }
 {
     [cub_of(plan, visit), cub_of(plan, visit + 1)]
-}
-
-fn is_own(kind: Kind) -> bool
-    ensures { result ≡ is_own kind }
-{
-    match kind {
-        Kind::Own => true,
-        Kind::Backup => false,
-    }
 }
 
 fn is_next_due(plan: &Plan, rec: &Rec, time: Micros) -> bool

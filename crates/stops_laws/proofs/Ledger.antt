@@ -13,6 +13,7 @@ use Rattle.tiger_base.specs.declared.tenancy.Tenancy.{Tenancy}
 use Rattle.tiger_base.specs.declared.tenancy.Want.{Want}
 use Rattle.tiger_base.specs.Span.{LibraryPart}
 use Rattle.tiger_base.specs.declared.message.Msg.{Msg}
+use Rattle.tiger_base.specs.Records.{own_of, backup_of}
 use Rattle.slot_plan.specs.declared.params.Params.{Params}
 use Rattle.slot_plan.specs.Times.{cub_of}
 use Rattle.slot_plan.specs.Keys.{Key}
@@ -29,7 +30,7 @@ use Rattle.cub_rules.specs.declared.store.Store.{Store}
 use Rattle.cub_rules.specs.State.{is_ask}
 use Rattle.cub_rules.specs.Records.{predecessor, view_with, took, dropping_lines, dropping_start, dropping_pieces, with_piece_record}
 use Rattle.cub_rules.specs.Messages.{records_told, told, queueing, queueing_redundant, shows, meeting_start, killing_splits, dropping_all, meeting_piece, meeting_kill, is_wanted, storing, meeting_answer, hearing_beat}
-use Rattle.cub_rules.specs.Ticks.{releasing, number, queued, believing, tenancy_from, putting, own_of, backup_of, putting_own, putting_for_dead, put_or_wait, free_on, putting_each, is_for, putting_on, disks_at, inserting_own, inserting_for_dead, inserting, with_each, first_pieces, split_outs, with_split_lines, splitting, forwarding, reading_blocks, reading_pieces, reading, serving_blocks, dropping_backups, serving_pieces, serving, beating, ticking}
+use Rattle.cub_rules.specs.Ticks.{releasing, number, queued, believing, tenancy_from, putting, putting_own, putting_for_dead, put_or_wait, free_on, putting_each, is_for, putting_on, disks_at, inserting_own, inserting_for_dead, inserting, with_each, first_pieces, split_outs, with_split_lines, splitting, forwarding, reading_blocks, reading_pieces, reading, serving_blocks, dropping_backups, serving_pieces, serving, beating, ticking}
 use Rattle.schedule_laws.proofs.Members.{chosen}
 use Rattle.schedule_laws.proofs.Moves.{is_taken, taken_out}
 

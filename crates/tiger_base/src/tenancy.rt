@@ -1,4 +1,7 @@
 //! Who holds a slot, and what the machines tell one another of it.
+ghost use Rattle.std.specs.Prelude.{◌≡◌, ◌≤◌};
+ghost use Rattle.tiger_base.specs.Kinds.{is_own};
+ghost use Rattle.tiger_base.specs.Records.{own_of, backup_of, want_of, want_of_piece};
 
 use crate::number::{DiskNo, FileNo, Instance, SlotNo, Visit};
 
@@ -37,12 +40,48 @@ pub enum Kind {
     Backup,
 }
 
+impl Kind {
+    /// Whether the cub has the record because the visit is its own.
+    pub fn is_own(self) -> bool
+        ensures { result ≡ is_own self }
+    {
+        match self {
+            Kind::Own => true,
+            Kind::Backup => false,
+        }
+    }
+}
+
 /// What a cub's view holds of a visit.
 #[derive(Clone, Copy, Debug, PartialEq, Eq)]
 pub struct Rec {
     pub tenancy: Tenancy,
     pub visit: Visit,
     pub kind: Kind,
+}
+
+impl Rec {
+    /// The own record of a visit of the tenancy.
+    pub fn own(tenancy: Tenancy, visit: Visit) -> Rec
+        ensures { result ≡ own_of tenancy visit }
+    {
+        Rec {
+            tenancy,
+            visit,
+            kind: Kind::Own,
+        }
+    }
+
+    /// The backup record of a visit of the tenancy.
+    pub fn backup(tenancy: Tenancy, visit: Visit) -> Rec
+        ensures { result ≡ backup_of tenancy visit }
+    {
+        Rec {
+            tenancy,
+            visit,
+            kind: Kind::Backup,
+        }
+    }
 }
 
 /// A start: the file's number of blocks, and the disk that has its first block.
@@ -70,4 +109,36 @@ pub struct Want {
     pub file: FileNo,
     pub block: u64,
     pub piece: u32,
+}
+
+impl Want {
+    /// The block of a record's visit.
+    pub fn of_block(rec: &Rec) -> Want
+        requires { rec.now.tenancy.first ≤ rec.now.visit }
+        ensures { result ≡ want_of rec.now }
+    {
+        Want {
+            instance: rec.tenancy.instance,
+            slot: rec.tenancy.slot,
+            visit: rec.visit,
+            file: rec.tenancy.file,
+            block: rec.visit - rec.tenancy.first,
+            piece: 0,
+        }
+    }
+
+    /// The piece of a piece record.
+    pub fn of_piece(piece: &PieceState) -> Want
+        requires { piece.now.tenancy.first ≤ piece.now.visit }
+        ensures { result ≡ want_of_piece piece.now }
+    {
+        Want {
+            instance: piece.tenancy.instance,
+            slot: piece.tenancy.slot,
+            visit: piece.visit,
+            file: piece.tenancy.file,
+            block: piece.visit - piece.tenancy.first,
+            piece: piece.piece,
+        }
+    }
 }

@@ -1,8 +1,9 @@
-//! Files, parts and notes on a small library.
+//! Files, parts and notes on a small library, and the records of a tenancy.
 ghost use Rattle.std.specs.Prelude.{◌≡◌, IfOk, ◌∷◌, []};
 
 use crate::{
-    FileNo, Instance, Library, Message, Msg, NoMemory, Note, Part, Sequence, SlotNo, Span, Want,
+    FileNo, Instance, Library, Message, Msg, NoMemory, Note, Part, PieceState, Rec, Sequence,
+    SlotNo, Span, Tenancy, Want,
 };
 use std::alloc::Global;
 use std::process::Abort;
@@ -94,4 +95,35 @@ fn a_sequence_grows_at_its_end(rt: HostRuntime) -> Result<(), Fail> {
     assert_eq!(rt; sequence.as_slice(), [3, 4].as_slice());
     assert_eq!(rt; sequence.into_vec().as_slice(), [3, 4].as_slice());
     Ok(())
+}
+
+#[test]
+fn a_block_is_counted_from_the_first_visit(rt: HostRuntime) {
+    let tenancy = Tenancy {
+        instance: Instance(3),
+        file: FileNo(5),
+        slot: SlotNo(1),
+        first: 2,
+        last: 4,
+    };
+    let own = Rec::own(tenancy, 3);
+    let backup = Rec::backup(tenancy, 3);
+    assert!(rt; own.kind.is_own() && !backup.kind.is_own());
+    let block = Want {
+        instance: Instance(3),
+        slot: SlotNo(1),
+        visit: 3,
+        file: FileNo(5),
+        block: 1,
+        piece: 0,
+    };
+    assert_eq!(rt; Want::of_block(&own), block);
+    assert_eq!(rt; Want::of_block(&backup), block);
+    let state = PieceState {
+        tenancy,
+        visit: 3,
+        piece: 2,
+    };
+    let piece = Want { piece: 2, ..block };
+    assert_eq!(rt; Want::of_piece(&state), piece);
 }

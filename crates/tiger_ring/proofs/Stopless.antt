@@ -15,6 +15,7 @@ use Rattle.tiger_base.specs.Span.{LibraryPart}
 use Rattle.tiger_base.specs.declared.message.Msg.{Msg}
 use Rattle.tiger_base.specs.declared.message.Msg.TheVariants as msg
 use Rattle.tiger_base.specs.Notes.{noted}
+use Rattle.tiger_base.specs.Records.{want_of, want_of_piece, own_of, backup_of}
 use Rattle.slot_plan.specs.declared.params.Params.{Params}
 use Rattle.slot_plan.specs.Times.{disk_of, cub_of}
 use Rattle.slot_plan.specs.Keys.{Key}
@@ -39,10 +40,10 @@ use Rattle.node_kit.specs.Ways.{way_ahead, way_to_disk}
 use Rattle.run_facts.proofs.Rows.{all-append, all-map, all-given}
 use Rattle.cub_rules.specs.declared.store.Store.{Store}
 use Rattle.cub_rules.specs.declared.store.StoredPart.{StoredPart}
-use Rattle.cub_rules.specs.State.{CubState, is_ask, want_of, want_of_piece}
+use Rattle.cub_rules.specs.State.{CubState, is_ask}
 use Rattle.cub_rules.specs.Records.{predecessor, took, dropped, dropping_lines, dropping_start, dropping_pieces, stored_for}
 use Rattle.cub_rules.specs.Messages.{passed_on, is_reached, passing_on, passing_from, records_told, told, met, position_at, meeting_state, queueing, queueing_redundant, shows, meeting_start, holding, passing, position, kills, killing_splits, dropping_all, descheduling, meeting_piece, meeting_kill, is_wanted, storing, meeting_answer, hearing_beat, hearing, taking}
-use Rattle.cub_rules.specs.Ticks.{releasing, queued, believing, disks_at, sending, putting, own_of, backup_of, putting_own, putting_for_dead, put_or_wait, tenancy_from, free_on, putting_each, is_for, putting_on, inserting_own, inserting_for_dead, inserting, must_split, sent_ahead, split_outs, splitting, is_to_forward, next_state, forward_outs, forwarding, must_read, ask_outs, reading_blocks, leaves_by, asked_of_disk, reading_pieces, reading, is_served, sent_whole, serve_outs, serving_blocks, is_past, dropping_backups, sent_piece, piece_outs, serving_pieces, serving, beating, ticking}
+use Rattle.cub_rules.specs.Ticks.{releasing, queued, believing, disks_at, sending, putting, putting_own, putting_for_dead, put_or_wait, tenancy_from, free_on, putting_each, is_for, putting_on, inserting_own, inserting_for_dead, inserting, must_split, sent_ahead, split_outs, splitting, is_to_forward, next_state, forward_outs, forwarding, must_read, ask_outs, reading_blocks, leaves_by, asked_of_disk, reading_pieces, reading, is_served, sent_whole, serve_outs, serving_blocks, is_past, dropping_backups, sent_piece, piece_outs, serving_pieces, serving, beating, ticking}
 use Rattle.cub_rules.specs.Cubs.{cub_step}
 use Rattle.disk_core.specs.State.{DiskState}
 use Rattle.disk_core.specs.Rules.{answers, asked, disk_step}

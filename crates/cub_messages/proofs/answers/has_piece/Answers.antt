@@ -1,7 +1,8 @@
 use Rattle.std.proofs.Common.{◌≡◌, ◌∙◌, sym, subst}
 use Rattle.tiger_base.specs.declared.tenancy.PieceState.{PieceState}
+use Rattle.tiger_base.specs.Records.{want_of_piece}
 use Rattle.mirror_schedule.specs.Pieces.{IsPieceOf}
-use Rattle.cub_rules.specs.State.{want_of_piece, IsPieceAt}
+use Rattle.cub_rules.specs.State.{IsPieceAt}
 use Rattle.cub_messages.proofs.PieceWalk.{begun, found, piece_at, on, fewer, ended}
 use Rattle.cub_messages.proofs.Standing.{piece_begun, wants_compared}
 use Rattle.cub_messages.proofs.answers.has_piece.Goals as goal

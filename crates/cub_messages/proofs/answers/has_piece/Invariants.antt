@@ -1,5 +1,5 @@
+use Rattle.tiger_base.specs.Records.{want_of_piece}
 use Rattle.cub_rules.specs.Records.{same_want}
-use Rattle.cub_rules.specs.State.{want_of_piece}
 use Rattle.cub_messages.proofs.PieceWalk.{Looking, left}
 use Rattle.cub_messages.proofs.answers.has_piece.Given as goal
 

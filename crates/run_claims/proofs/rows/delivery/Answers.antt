@@ -1,15 +1,15 @@
 use Rattle.std.proofs.Common.{◌≡◌, ◌∷◌, [], refl, ⊎_elim, inl, arith}
 use Rattle.std.proofs.lemmas.Bool.{false≢true}
-use Rattle.slot_plan.specs.Times.{due, first_due, cub_of, time_of}
+use Rattle.slot_plan.specs.Times.{due, first_due, cub_of, time_of, takeover}
+use Rattle.slot_plan.specs.Samples.{small}
 use Rattle.stripe_layout.specs.Places.{place_of}
 use Rattle.stripe_layout.specs.Layout.{block_span}
 use Rattle.mirror_pieces.specs.Pieces.{leaving}
 use Rattle.run_model.specs.Served.{journal_at, wholes_got, pieces_got}
-use Rattle.run_model.specs.Excuses.{takeover}
 use Rattle.run_model.specs.Tests.{was_sent, came_whole, piece_came, came_in_pieces, came, piece_is_lost, lost_in_pieces, lost_in_death, was_stopped, has_excuse}
 use Rattle.run_model.proofs.Deliveries.{delivered}
 use Rattle.run_model.proofs.Reasons.{excused}
-use Rattle.run_claims.specs.Samples.{small, ten, all, block, seated, bytes, sends, gets, seat}
+use Rattle.run_claims.specs.Samples.{ten, all, block, seated, bytes, sends, gets, seat}
 use Rattle.run_claims.proofs.rows.delivery.Goals as goal
 
 pub returns-clause-comes : goal.returns-clause-comes

@@ -1,10 +1,11 @@
 use Rattle.std.proofs.Common.{◌∷◌, [], refl, inl, arith}
 use Rattle.std.proofs.lemmas.Bool.{false≢true}
 use Rattle.slot_plan.specs.Times.{due, first_due}
+use Rattle.slot_plan.specs.Samples.{small}
 use Rattle.stripe_layout.specs.Places.{place_of}
 use Rattle.stripe_layout.specs.Layout.{block_span}
 use Rattle.mirror_pieces.specs.Pieces.{piece_of, piece_start, piece_end}
-use Rattle.run_claims.specs.Samples.{small, ten, all, block, seated, want, bytes, gets, seat}
+use Rattle.run_claims.specs.Samples.{ten, all, block, seated, want, bytes, gets, seat}
 use Rattle.run_claims.proofs.Fits.{passes-for-some}
 use Rattle.run_claims.proofs.rows.strangers.Goals as goal
 
