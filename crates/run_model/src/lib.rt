@@ -16,6 +16,3 @@ pub use missing::excused;
 pub use served::delivered;
 pub use slots::{Slots, schedule_at};
 pub use timing::timed;
-
-#[cfg(test)]
-mod tests;

@@ -87,6 +87,3 @@ pub fn summary_of(alloc: Global, kept: &Kept, outcomes: &[Outcome]) -> Result<Ve
     push_size(alloc, &mut text, report.as_str().as_bytes())?;
     Ok(text.into_bytes())
 }
-
-#[cfg(test)]
-mod tests;

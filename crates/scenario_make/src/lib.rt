@@ -9,6 +9,3 @@ mod made;
 mod troubles;
 
 pub use made::{Made, make};
-
-#[cfg(test)]
-mod tests;

@@ -19,6 +19,3 @@ pub use orders::orders_of;
 pub use reading::read_scenario;
 pub use scenario::{FileLine, Name, ScEvent, Scenario};
 pub use stop::{ReadStop, ScenarioFault};
-
-#[cfg(test)]
-mod tests;

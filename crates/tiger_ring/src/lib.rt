@@ -5,6 +5,3 @@ mod journals;
 mod run;
 
 pub use run::{RingRun, run_ring, run_with_outcomes};
-
-#[cfg(test)]
-mod tests;

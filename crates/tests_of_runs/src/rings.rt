@@ -1,20 +1,21 @@
 //! Runs of small scenarios: which visits were served, the schedule before and after, and what changed journals tell.
 ghost use Rattle.std.specs.Prelude.{◌≡◌, ◌≤◌, length, All, IfOk};
 ghost use Rattle.tiger_base.specs.Limits.{most_file};
+ghost use Rattle.scenario_read.specs.Sound.{IsScenario};
 ghost use Rattle.ring_schedule.specs.Scenarios.{HasOneSchedule, HasFairPuts};
 
-use crate::run_ring;
 use node_kit::{Entry, Journal, Kept, OpenGate, What};
 use ring_schedule::is_calm;
 use ring_stops::is_living;
 use run_model::{carried, delivered, excused, schedule_at, timed};
-use scenario_read::read_scenario;
+use scenario_read::{Scenario, read_scenario};
 use std::alloc::{AllocError, Global};
 use std::fmt::Write;
 use std::test::Fail;
 use tiger_base::{
-    Beat, Instance, Library, Micros, NoMemory, Note, Sequence, Span, Stamp, Tenancy, Visit,
+    Instance, Library, Micros, NoMemory, Note, Sequence, Span, Stamp, Tenancy, Visit,
 };
+use tiger_ring::run_ring;
 
 /// How every scenario begins.
 const PLAN: &str =
@@ -67,6 +68,28 @@ fn both(alloc: Global) -> Result<Library, NoMemory>
     Ok(Library::new(files))
 }
 
+/// A scenario's text.
+fn text_of(alloc: Global, files: &str, rest: &str) -> Result<String, AllocError> {
+    let mut text = String::from_str(alloc, PLAN)?;
+    text.push_str(files)?;
+    text.push_str(rest)?;
+    text.push_str("}")?;
+    Ok(text)
+}
+
+/// The scenario that a text says, if it has so many files.
+fn scenario_of(alloc: Global, files: &str, rest: &str, count: usize) -> Result<Scenario, Fail>
+    ensures sound { IfOk result IsScenario }
+    ensures count { IfOk result (λ s. length s.files ≡ count) }
+{
+    let text = text_of(alloc, files, rest)?;
+    let scenario = read_scenario(alloc, text.as_bytes())?;
+    if scenario.files.len() != count {
+        return Err(Fail::new("another number of files"));
+    }
+    Ok(scenario)
+}
+
 /// The run of a scenario over a library.
 fn run_of(
     alloc: Global,
@@ -79,11 +102,7 @@ fn run_of(
     requires filled { All (λ bytes. 1 ≤ length bytes) library.now }
     requires short { All (λ bytes. length bytes ≤ most_file) library.now }
 {
-    let text = format!(in alloc; "{PLAN}{files}{rest}}}")?;
-    let scenario = read_scenario(alloc, text.as_bytes())?;
-    if scenario.files.len() != count {
-        return Err(Fail::new("another number of files"));
-    }
+    let scenario = scenario_of(alloc, files, rest, count)?;
     Ok(run_ring(alloc, scenario, library, &OpenGate)?)
 }
 
@@ -104,18 +123,14 @@ fn push_fates(k: &Kept, v: Instance, visits: Visit, text: &mut String) -> Result
     text.push_str(" ")
 }
 
+/// The tenancies after so many entries, each as its instance, slot, first and last visit.
 fn push_slots(k: &Kept, entries: u64, alloc: Global, text: &mut String) -> Result<(), NoMemory> {
     let slots = schedule_at(alloc, k, entries)?;
-    text.push_str("[")?;
+    let mut rows = Vec::new(alloc);
     for t in slots.tenancies.as_slice() {
-        write!(
-            text,
-            "{} in {} {}-{}",
-            t.instance.0, t.slot.0, t.first, t.last
-        )?;
-        text.push_str(";")?;
+        rows.push((t.instance.0, t.slot.0, t.first, t.last))?;
     }
-    text.push_str("]")?;
+    write!(text, "{:?}", rows.as_slice())?;
     Ok(())
 }
 
@@ -157,48 +172,59 @@ fn of_both(alloc: Global, rest: &str) -> Result<String, Fail> {
 #[test]
 fn visits_are_served_or_excused(rt: HostRuntime) -> Result<(), Fail> {
     let alloc = rt.alloc();
-    let plain = of_ten(alloc, START)?;
-    assert_eq!(rt; plain.as_str(), "ddd. carried timed [][0 in 1 0-2;]");
-    let stopped = of_ten(
-        alloc,
-        "\"beats\":600,\"events\":[{\"beat\":0,\"start\":0},{\"beat\":100,\"stop\":0}]",
-    )?;
-    assert_eq!(rt; stopped.as_str(), "Dee. carried timed [][]");
-    let unread = of_ten(
-        alloc,
-        "\"beats\":600,\"events\":[{\"beat\":0,\"start\":0}],\"read_faults\":[{\"disk\":1,\"from\":130,\"until\":160}]",
-    )?;
-    assert_eq!(rt; unread.as_str(), "ded. carried timed [][0 in 1 0-2;]");
-    let first = of_ten(
-        alloc,
-        "\"beats\":600,\"events\":[{\"beat\":0,\"start\":0}],\"deaths\":[{\"cub\":0,\"beat\":0}]",
-    )?;
-    assert_eq!(rt; first.as_str(), "ddd. carried timed [][0 in 3 0-2;]");
+    let cases = [
+        (START, "ddd. carried timed [][(0, 1, 0, 2)]"),
+        (
+            r#""beats":600,"events":[{"beat":0,"start":0},{"beat":100,"stop":0}]"#,
+            "Dee. carried timed [][]",
+        ),
+        (
+            r#""beats":600,"events":[{"beat":0,"start":0}],"read_faults":[{"disk":1,"from":130,"until":160}]"#,
+            "ded. carried timed [][(0, 1, 0, 2)]",
+        ),
+        (
+            r#""beats":600,"events":[{"beat":0,"start":0}],"deaths":[{"cub":0,"beat":0}]"#,
+            "ddd. carried timed [][(0, 3, 0, 2)]",
+        ),
+    ];
+    for (rest, want) in cases {
+        let told = of_ten(alloc, rest)?;
+        assert_eq!(rt; told.as_str(), want);
+    }
     Ok(())
 }
 
 #[test]
 fn a_death_costs_what_comes_too_soon_after_it(rt: HostRuntime) -> Result<(), Fail> {
     let alloc = rt.alloc();
-    let early = of_long(
-        alloc,
-        "\"beats\":600,\"events\":[{\"beat\":0,\"start\":0}],\"deaths\":[{\"cub\":3,\"beat\":200}]",
-        7,
-    )?;
-    assert_eq!(rt; early.as_str(), "dddddd. carried timed [][0 in 1 0-63;]");
-    let late = of_long(
-        alloc,
-        "\"beats\":700,\"events\":[{\"beat\":0,\"start\":0}],\"deaths\":[{\"cub\":3,\"beat\":300}]",
-        8,
-    )?;
-    assert_eq!(rt; late.as_str(), "dddeddd. carried timed [][0 in 1 0-63;]");
-    let other = of_both(
-        alloc,
-        "\"beats\":1000,\"events\":[{\"beat\":0,\"start\":0},{\"beat\":400,\"stop\":0},{\"beat\":400,\"start\":1}]",
+    let cases = [
+        (
+            r#""beats":600,"events":[{"beat":0,"start":0}],"deaths":[{"cub":3,"beat":200}]"#,
+            7,
+            "dddddd. carried timed [][(0, 1, 0, 63)]",
+        ),
+        (
+            r#""beats":700,"events":[{"beat":0,"start":0}],"deaths":[{"cub":3,"beat":300}]"#,
+            8,
+            "dddeddd. carried timed [][(0, 1, 0, 63)]",
+        ),
+    ];
+    for (rest, visits, want) in cases {
+        let told = of_long(alloc, rest, visits)?;
+        assert_eq!(rt; told.as_str(), want);
+    }
+    Ok(())
+}
+
+#[test]
+fn another_file_gets_the_slot_of_a_stopped_one(rt: HostRuntime) -> Result<(), Fail> {
+    let told = of_both(
+        rt.alloc(),
+        r#""beats":1000,"events":[{"beat":0,"start":0},{"beat":400,"stop":0},{"beat":400,"start":1}]"#,
     )?;
     assert_eq!(rt;
-        other.as_str(),
-        "dddDeeee ....ddd. carried timed [][1 in 1 4-6;]"
+        told.as_str(),
+        "dddDeeee ....ddd. carried timed [][(1, 1, 4, 6)]"
     );
     Ok(())
 }
@@ -288,18 +314,18 @@ fn of_changed(alloc: Global, change: Change) -> Result<String, Fail> {
 #[test]
 fn changed_journals_tell_it(rt: HostRuntime) -> Result<(), Fail> {
     let alloc = rt.alloc();
-    let lost = of_changed(alloc, Change::Lost)?;
-    assert_eq!(rt; lost.as_str(), ".... timed [][0 in 1 0-2;]");
-    let within = of_changed(alloc, Change::Late(4000))?;
-    assert_eq!(rt; within.as_str(), "ddd. carried timed [][0 in 1 0-2;]");
-    let late = of_changed(alloc, Change::Late(4001))?;
-    assert_eq!(rt; late.as_str(), "ddd. carried [][0 in 1 0-2;]");
-    let twice = of_changed(alloc, Change::Twice)?;
-    assert_eq!(rt; twice.as_str(), "ddd. carried timed [][1 in 1 0-2;]");
-    let span = of_changed(alloc, Change::Span)?;
-    assert_eq!(rt; span.as_str(), ".... timed [][0 in 1 0-2;]");
-    let beat = of_changed(alloc, Change::Beat)?;
-    assert_eq!(rt; beat.as_str(), ".... timed [][0 in 1 0-2;]");
+    let cases = [
+        (Change::Lost, ".... timed [][(0, 1, 0, 2)]"),
+        (Change::Late(4000), "ddd. carried timed [][(0, 1, 0, 2)]"),
+        (Change::Late(4001), "ddd. carried [][(0, 1, 0, 2)]"),
+        (Change::Twice, "ddd. carried timed [][(1, 1, 0, 2)]"),
+        (Change::Span, ".... timed [][(0, 1, 0, 2)]"),
+        (Change::Beat, ".... timed [][(0, 1, 0, 2)]"),
+    ];
+    for (change, want) in cases {
+        let told = of_changed(alloc, change)?;
+        assert_eq!(rt; told.as_str(), want);
+    }
     Ok(())
 }
 
@@ -311,9 +337,10 @@ fn sixteen_blocks(alloc: Global) -> Result<Vec<u8>, NoMemory>
 }
 
 /// Seventeen starts in the first beat, in a run of so many beats.
-fn seventeen(alloc: Global, beats: Beat) -> Result<String, AllocError> {
-    let mut text = String::new(alloc);
-    write!(text, "\"beats\":{beats},\"events\":[")?;
+fn seventeen(alloc: Global, beats: &str) -> Result<String, AllocError> {
+    let mut text = String::from_str(alloc, "\"beats\":")?;
+    text.push_str(beats)?;
+    text.push_str(",\"events\":[")?;
     for _ in 0..16 {
         text.push_str("{\"beat\":0,\"start\":0},")?;
     }
@@ -334,11 +361,7 @@ fn calm_run_of(
     requires short { All (λ bytes. length bytes ≤ most_file) library.now }
     ensures one_schedule { IfOk result HasOneSchedule }
 {
-    let text = format!(in alloc; "{PLAN}{files}{rest}}}")?;
-    let scenario = read_scenario(alloc, text.as_bytes())?;
-    if scenario.files.len() != count {
-        return Err(Fail::new("another number of files"));
-    }
+    let scenario = scenario_of(alloc, files, rest, count)?;
     if !is_calm(&scenario) {
         return Err(Fail::new("a stop or a death"));
     }
@@ -358,31 +381,28 @@ fn living_run_of(
     requires short { All (λ bytes. length bytes ≤ most_file) library.now }
     ensures fair { IfOk result HasFairPuts }
 {
-    let text = format!(in alloc; "{PLAN}{files}{rest}}}")?;
-    let scenario = read_scenario(alloc, text.as_bytes())?;
-    if scenario.files.len() != count {
-        return Err(Fail::new("another number of files"));
-    }
+    let scenario = scenario_of(alloc, files, rest, count)?;
     if !is_living(&scenario) {
         return Err(Fail::new("a death"));
     }
     Ok(run_ring(alloc, scenario, library, &OpenGate)?)
 }
 
+/// Adds what was put in a journal, each as its instance, slot, first and last visit.
+fn push_puts(journal: &[Entry], text: &mut String) -> Result<(), AllocError> {
+    for e in journal {
+        if let What::Put(t) = e.what {
+            write!(text, "{:?}", (t.instance.0, t.slot.0, t.first, t.last))?;
+        }
+    }
+    Ok(())
+}
+
 /// What was put, in the order of the journals.
-fn puts(alloc: Global, k: &Kept) -> Result<String, NoMemory> {
+fn puts(alloc: Global, k: &Kept) -> Result<String, AllocError> {
     let mut text = String::new(alloc);
     for journal in k.journals.as_slice() {
-        for e in journal.as_slice() {
-            if let What::Put(t) = e.what {
-                write!(
-                    text,
-                    "{} in {} {}-{}",
-                    t.instance.0, t.slot.0, t.first, t.last
-                )?;
-                text.push_str(";")?;
-            }
-        }
+        push_puts(journal.as_slice(), &mut text)?;
     }
     Ok(text)
 }
@@ -392,7 +412,7 @@ fn puts(alloc: Global, k: &Kept) -> Result<String, NoMemory> {
 fn put_after_a_stop(alloc: Global) -> Result<String, Fail> {
     let library = both(alloc)?;
     let rest =
-        "\"beats\":1000,\"events\":[{\"beat\":0,\"start\":0},{\"beat\":400,\"stop\":0},{\"beat\":400,\"start\":1}]";
+        r#""beats":1000,"events":[{"beat":0,"start":0},{"beat":400,"stop":0},{"beat":400,"start":1}]"#;
     let k = living_run_of(alloc, BOTH, rest, &library, 2)?;
     Ok(puts(alloc, &k)?)
 }
@@ -401,30 +421,31 @@ fn put_after_a_stop(alloc: Global) -> Result<String, Fail> {
 fn a_slot_is_put_again_after_a_stop(rt: HostRuntime) -> Result<(), Fail> {
     let alloc = rt.alloc();
     let text = put_after_a_stop(alloc)?;
-    assert_eq!(rt; text.as_str(), "0 in 1 0-63;1 in 1 4-6;");
+    assert_eq!(rt; text.as_str(), "(0, 1, 0, 63)(1, 1, 4, 6)");
     Ok(())
 }
 
 /// What was put in so many beats for seventeen starts of a file of sixteen blocks, in a run that has one schedule.
-fn put_of_seventeen(alloc: Global, beats: Beat) -> Result<String, Fail> {
+fn put_of_seventeen(alloc: Global, beats: &str) -> Result<String, Fail> {
     let library = one(alloc, sixteen_blocks(alloc)?)?;
     let rest = seventeen(alloc, beats)?;
     let k = calm_run_of(alloc, TEN, rest.as_str(), &library, 1)?;
     Ok(puts(alloc, &k)?)
 }
 
+/// What the first sixteen starts get.
+const SIXTEEN: &str =
+    "(0, 1, 0, 15)(1, 2, 0, 15)(2, 3, 0, 15)(3, 4, 0, 15)(4, 5, 0, 15)(5, 6, 0, 15)(6, 7, 0, 15)(7, 8, 0, 15)(8, 9, 0, 15)(9, 10, 0, 15)(10, 11, 0, 15)(11, 12, 0, 15)(12, 13, 0, 15)(13, 14, 0, 15)(14, 15, 0, 15)(15, 0, 8, 23)";
+
 #[test]
 fn the_seventeenth_start_waits_until_a_slot_is_free(rt: HostRuntime) -> Result<(), Fail> {
     let alloc = rt.alloc();
-    let before = put_of_seventeen(alloc, 1500)?;
+    let before = put_of_seventeen(alloc, "1500")?;
+    assert_eq!(rt; before.as_str(), SIXTEEN);
+    let behind = put_of_seventeen(alloc, "1700")?;
     assert_eq!(rt;
-        before.as_str(),
-        "0 in 1 0-15;1 in 2 0-15;2 in 3 0-15;3 in 4 0-15;4 in 5 0-15;5 in 6 0-15;6 in 7 0-15;7 in 8 0-15;8 in 9 0-15;9 in 10 0-15;10 in 11 0-15;11 in 12 0-15;12 in 13 0-15;13 in 14 0-15;14 in 15 0-15;15 in 0 8-23;"
-    );
-    let behind = put_of_seventeen(alloc, 1700)?;
-    assert_eq!(rt;
-        behind.as_str(),
-        "0 in 1 0-15;1 in 2 0-15;2 in 3 0-15;3 in 4 0-15;4 in 5 0-15;5 in 6 0-15;6 in 7 0-15;7 in 8 0-15;8 in 9 0-15;9 in 10 0-15;10 in 11 0-15;11 in 12 0-15;12 in 13 0-15;13 in 14 0-15;14 in 15 0-15;15 in 0 8-23;16 in 1 16-31;"
+        behind.as_str().strip_prefix(SIXTEEN),
+        Some("(16, 1, 16, 31)")
     );
     Ok(())
 }

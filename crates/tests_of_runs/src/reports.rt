@@ -1,9 +1,9 @@
 //! The report of a small run that goes through every kind of line.
 ghost use Rattle.std.specs.Prelude.{◌≡◌, IfOk};
 
-use crate::{ORDERS_LIMIT, digests_of, outcomes, report, summary};
 use link_timing::Delay;
 use node_kit::{Course, Entry, Journal, Kept, Order, OrderKind, What};
+use run_report::{ORDERS_LIMIT, digests_of, outcomes, report, summary};
 use slot_plan::{Params, Plan, PlanFault};
 use std::alloc::Global;
 use std::test::Fail;

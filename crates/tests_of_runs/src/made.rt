@@ -1,6 +1,6 @@
 //! What is made of a number, beside what another program drew for it.
 
-use crate::make;
+use scenario_make::make;
 use std::alloc::Global;
 use std::process::Abort;
 use std::test::Fail;

@@ -1,0 +1,14 @@
+//! Tests of the calls that read a scenario, run it, judge what is kept of it and report it.
+
+#![tactic(auto)]
+
+#[cfg(test)]
+mod journals;
+#[cfg(test)]
+mod made;
+#[cfg(test)]
+mod reports;
+#[cfg(test)]
+mod rings;
+#[cfg(test)]
+mod scenarios;
