@@ -19,7 +19,7 @@ use tiger_base::{CubNo, LinkNo, Micros, Msg, NoMemory, Stamp};
 
 /// A cub of a plan, seen as its plan's numbers, its own number and what it keeps.
 ///
-/// Where it runs out of memory it keeps nothing from then on.
+/// If it runs out of memory it keeps nothing from then on.
 #[derive(Drop)]
 pub struct Cub<'a> {
     alloc: Global,
@@ -42,7 +42,11 @@ impl<'a> Cub<'a> {
     pub fn new(alloc: Global, plan: &Plan, cub: CubNo, heard: Micros) -> Cub<'a>
         requires inside { cub.0 < plan.now.params.cubs }
         requires heard { heard ≤ most_reading }
-        ensures { result ≡ record { params = plan.now.params; cub = cub.0; store = opening_store plan.now.params heard } }
+        ensures { result ≡ record {
+          params = plan.now.params;
+          cub = cub.0;
+          store = opening_store plan.now.params heard;
+        } }
     {
         Cub {
             alloc,
@@ -67,7 +71,9 @@ impl<'a> Cub<'a> {
         out: &mut Outbox<Msg<'a>>,
     ) -> Result<(), NoMemory>
         requires { stamp.reading ≤ most_reading }
-        ensures { OnOk result (Did (on_cub self.old (taking self.old.params self.old.cub stamp link msg.entry self.old.store)) out.old out.new self.new) }
+        ensures { let s = self.old in
+            OnOk result (Did (on_cub s (taking s.params s.cub stamp link msg.entry s.store))
+            out.old out.new self.new) }
     {
         let done = hear(&self.site, stamp, link, msg, &mut self.store, out);
         if done.is_err() {
@@ -79,7 +85,9 @@ impl<'a> Cub<'a> {
     /// Ends a beat.
     pub fn end_beat(&mut self, stamp: Stamp, out: &mut Outbox<Msg<'a>>) -> Result<(), NoMemory>
         requires { stamp.reading ≤ most_reading }
-        ensures { OnOk result (Did (on_cub self.old (ticking self.old.params self.old.cub stamp self.old.store)) out.old out.new self.new) }
+        ensures { let s = self.old in
+            OnOk result (Did (on_cub s (ticking s.params s.cub stamp s.store))
+            out.old out.new self.new) }
     {
         let done = tick(&self.site, stamp, &mut self.store, out);
         if done.is_err() {

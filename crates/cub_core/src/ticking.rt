@@ -21,7 +21,9 @@ pub(crate) fn tick<'a>(
 ) -> Result<(), NoMemory>
     requires reading { stamp.reading ≤ most_reading }
     requires stored { IsStoreOf site.now.plan.params site.now.cub.0 store.old }
-    ensures { OnOk result (Did (ticking site.now.plan.params site.now.cub.0 stamp store.old) out.old out.new store.new) }
+    ensures { OnOk result (Did
+        (ticking site.now.plan.params site.now.cub.0 stamp store.old)
+        out.old out.new store.new) }
 {
     release(site, stamp, store);
     watch(site, stamp, store, out)?;

@@ -27,7 +27,9 @@ pub fn take_answer<'a>(
 ) -> Result<(), NoMemory>
     requires form { IsTrue (is_place site.now.plan.params want.slot.0 want.visit) }
     requires stored { IsStoreOf site.now.plan.params site.now.cub.0 store.old }
-    ensures { OnOk result (Did (meeting_answer want part.entry store.old) out.old out.new store.new) }
+    ensures { OnOk result (Did
+        (meeting_answer want part.entry store.old)
+        out.old out.new store.new) }
 {
     if !is_wanted(site, &want, store) {
         return Ok(());
@@ -52,7 +54,8 @@ fn is_wanted(site: &Site, want: &Want, store: &Store) -> bool
 fn has_block(site: &Site, want: &Want, view: &View) -> bool
     requires key { IsKey view.now.params (want.now.slot, want.now.visit) }
     requires lines { AllByRecursion (IsLineOf site.now.plan.params site.now.cub.0) view.now.lines }
-    ensures { result ≡ is_block_of want.now (line_at (want.now.slot, want.now.visit) view.now.lines) }
+    ensures { result
+        ≡ is_block_of want.now (line_at (want.now.slot, want.now.visit) view.now.lines) }
 {
     match view.line(want.slot, want.visit) {
         Some(line) => line.rec.kind == Kind::Own && *want == want_of(&line.rec),

@@ -16,7 +16,7 @@ use node_kit::{Outbox, Site};
 use partial_view::View;
 use tiger_base::{Instance, Kind, Msg, NoMemory, Rec, SlotNo, Stamp, Tag, Visit};
 
-/// The instance is held; from a position the deschedule is passed on, where it was not yet; and all that the cub keeps of
+/// The instance is held; from a position the deschedule is passed on, unless it was before; and all that the cub keeps of
 /// the instance is dropped.
 #[tactic(auto, unfolding(cub_rules::specs::Messages::descheduling))]
 pub fn take_deschedule<'a>(
@@ -30,7 +30,9 @@ pub fn take_deschedule<'a>(
     requires reading { stamp.reading ≤ most_reading }
     requires form { IsTrue (is_tag site.now.plan.params tag) }
     requires stored { IsStoreOf site.now.plan.params site.now.cub.0 store.old }
-    ensures { OnOk result (Did (descheduling site.now.plan.params site.now.cub.0 stamp instance tag store.old) out.old out.new store.new) }
+    ensures { OnOk result (Did
+        (descheduling site.now.plan.params site.now.cub.0 stamp instance tag store.old)
+        out.old out.new store.new) }
 {
     let until = stamp.reading + site.plan.params.hold;
     store.held.hold(instance, until)?;
@@ -38,7 +40,7 @@ pub fn take_deschedule<'a>(
     drop_all(site, instance, store, out)
 }
 
-/// From a position the deschedule is passed on, where it was not yet.
+/// From a position the deschedule is passed on, unless it was before.
 fn pass<'a>(
     site: &Site,
     stamp: Stamp,
@@ -49,8 +51,11 @@ fn pass<'a>(
 ) -> Result<(), NoMemory>
     requires reading { stamp.reading ≤ most_reading }
     requires form { IsTrue (is_tag site.now.plan.params tag) }
-    requires lines { AllByRecursion (IsLineOf site.now.plan.params site.now.cub.0) store.old.view.lines }
-    ensures { OnOk result (Did (passing site.now.plan.params site.now.cub.0 stamp instance tag store.old) out.old out.new store.new) }
+    requires lines { let p = site.now.plan.params in
+        AllByRecursion (IsLineOf p site.now.cub.0) store.old.view.lines }
+    ensures { OnOk result (Did
+        (passing site.now.plan.params site.now.cub.0 stamp instance tag store.old)
+        out.old out.new store.new) }
 {
     match position(site, instance, tag, store.view.view()) {
         Some(place) => pass_from(site, stamp, instance, place, store, out),
@@ -58,7 +63,7 @@ fn pass<'a>(
     }
 }
 
-/// Where a cub stands to a deschedule: by its tag, or by the instance's earliest record.
+/// The position of a cub to a deschedule: by its tag, or by the instance's earliest record.
 fn position(
     site: &Site,
     instance: Instance,
@@ -67,7 +72,8 @@ fn position(
 ) -> Option<(SlotNo, Visit)>
     requires form { IsTrue (is_tag site.now.plan.params tag) }
     requires lines { AllByRecursion (IsLineOf site.now.plan.params site.now.cub.0) view.now.lines }
-    ensures position { result ≡ position site.now.plan.params site.now.cub.0 instance tag view.now.lines }
+    ensures position { let p = site.now.plan.params in
+        result ≡ position p site.now.cub.0 instance tag view.now.lines }
     ensures near { IfSome result (IsNear site.now.plan.params) }
 {
     match tag {
@@ -97,7 +103,9 @@ fn drop_all<'a>(
     store: &mut Store<'a>,
     out: &mut Outbox<Msg<'a>>,
 ) -> Result<(), NoMemory>
-    ensures { OnOk result (Did (dropping_all site.now.plan.params site.now.cub.0 instance store.old) out.old out.new store.new) }
+    ensures { OnOk result (Did
+        (dropping_all site.now.plan.params site.now.cub.0 instance store.old)
+        out.old out.new store.new) }
 {
     drop_lines(instance, store, out)?;
     drop_start(instance, store, out)?;

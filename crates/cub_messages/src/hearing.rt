@@ -28,7 +28,9 @@ pub fn hear<'a>(
 ) -> Result<(), NoMemory>
     requires reading { stamp.reading ≤ most_reading }
     requires stored { IsStoreOf site.now.plan.params site.now.cub.0 store.old }
-    ensures { OnOk result (Did (taking site.now.plan.params site.now.cub.0 stamp link msg.entry store.old) out.old out.new store.new) }
+    ensures { OnOk result (Did
+        (taking site.now.plan.params site.now.cub.0 stamp link msg.entry store.old)
+        out.old out.new store.new) }
 {
     if !in_form(&site.plan, &msg.note()) {
         return Ok(());
@@ -60,7 +62,8 @@ pub fn hear<'a>(
 /// A heartbeat on the predecessor's link is heard.
 #[tactic(auto, unfolding(cub_rules::specs::Messages::hearing_beat))]
 pub fn take_heartbeat(site: &Site, stamp: Stamp, link: LinkNo, store: &mut Store)
-    ensures { DidQuietly (hearing_beat site.now.plan.params site.now.cub.0 stamp link store.old) store.new }
+    ensures { DidQuietly
+        (hearing_beat site.now.plan.params site.now.cub.0 stamp link store.old) store.new }
 {
     let before = Site {
         plan: site.plan,

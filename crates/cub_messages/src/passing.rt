@@ -1,4 +1,4 @@
-//! Where a cub stands to a visit, and how it passes a deschedule on from there.
+//! The position of a cub to a visit, and how it passes a deschedule on from there.
 ghost use Rattle.std.specs.Prelude.{◌≡◌, ◌≤◌, ◌<◌, IsTrue, IfSome, OnOk, Some};
 ghost use Rattle.tiger_base.specs.Limits.{most_reading};
 ghost use Rattle.node_kit.specs.Form.{is_place};
@@ -10,7 +10,7 @@ use cub_rules::Store;
 use node_kit::{Out, Outbox, Site};
 use tiger_base::{Instance, Msg, NoMemory, SlotNo, Stamp, Tag, Visit};
 
-/// Where a cub stands to a visit: at it on the visit's cub, at the next one on the next cub, and nowhere else.
+/// The position of a cub to a visit: that visit on its own cub, the next one on the next cub, and none on any other.
 #[tactic(auto, unfolding(cub_rules::specs::Messages::position_at))]
 pub(crate) fn position_at(site: &Site, slot: SlotNo, visit: Visit) -> Option<(SlotNo, Visit)>
     requires { IsTrue (is_place site.now.plan.params slot.0 visit) }
@@ -26,7 +26,7 @@ pub(crate) fn position_at(site: &Site, slot: SlotNo, visit: Visit) -> Option<(Sl
     }
 }
 
-/// From a position an instance's deschedule is passed on, where it is held and was not passed on yet.
+/// From a position an instance's deschedule is passed on if it is held and was not passed on yet.
 pub(crate) fn pass_from<'a>(
     site: &Site,
     stamp: Stamp,
@@ -37,7 +37,9 @@ pub(crate) fn pass_from<'a>(
 ) -> Result<(), NoMemory>
     requires reading { stamp.reading ≤ most_reading }
     requires near { IsNear site.now.plan.params place }
-    ensures { OnOk result (Did (passing_from site.now.plan.params site.now.cub.0 stamp instance (Some place) store.old) out.old out.new store.new) }
+    ensures { OnOk result (Did
+        (passing_from site.now.plan.params site.now.cub.0 stamp instance (Some place) store.old)
+        out.old out.new store.new) }
 {
     if store.held.must_pass(instance) {
         pass_on(site, stamp, instance, place, store, out)
@@ -46,8 +48,8 @@ pub(crate) fn pass_from<'a>(
     }
 }
 
-/// The deschedule goes to the next two cubs where the states of the visit behind the position may be on their way, and
-/// counts as passed on.
+/// The deschedule goes to the next two cubs if the states of the visit behind the position may be on their way, and in
+/// either case it counts as passed on.
 #[tactic(auto, unfolding(cub_rules::specs::Messages::passing_on))]
 fn pass_on<'a>(
     site: &Site,
@@ -59,7 +61,9 @@ fn pass_on<'a>(
 ) -> Result<(), NoMemory>
     requires reading { stamp.reading ≤ most_reading }
     requires near { IsNear site.now.plan.params place }
-    ensures { OnOk result (Did (passing_on site.now.plan.params site.now.cub.0 stamp instance place store.old) out.old out.new store.new) }
+    ensures { OnOk result (Did
+        (passing_on site.now.plan.params site.now.cub.0 stamp instance place store.old)
+        out.old out.new store.new) }
 {
     let (slot, visit) = (place.0, place.1 + 1);
     store.held.set_passed(instance);

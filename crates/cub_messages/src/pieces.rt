@@ -17,7 +17,8 @@ use tiger_base::{Instance, NoMemory, PieceState, Visit};
 pub fn take_piece(site: &Site, piece: PieceState, store: &mut Store) -> Result<(), NoMemory>
     requires form { IsTrue (is_piece site.now.plan.params piece) }
     requires stored { IsStoreOf site.now.plan.params site.now.cub.0 store.old }
-    ensures { OnOk result (DidQuietly (meeting_piece site.now.plan.params site.now.cub.0 piece store.old) store.new) }
+    ensures { OnOk result (DidQuietly
+        (meeting_piece site.now.plan.params site.now.cub.0 piece store.old) store.new) }
 {
     if store.held.is_held(piece.tenancy.instance) {
         return Ok(());
@@ -31,11 +32,12 @@ pub fn take_piece(site: &Site, piece: PieceState, store: &mut Store) -> Result<(
     Ok(())
 }
 
-/// Adds a piece to a set; `false`, and nothing changes, exactly where it is there already.
+/// Adds a piece to a set. The answer is `false`, and nothing changes, exactly if it is there already.
 fn add_new(piece: PieceState, pieces: &mut PieceView) -> Result<bool, NoMemory>
     requires { IsPieceOf pieces.old.params piece }
     ensures answer { IfOk result (λ new. new ≡ not (is_in piece pieces.old.items)) }
-    ensures after { OnOk result (pieces.new ≡ (if is_in piece pieces.old.items then pieces.old else pieces_with piece pieces.old)) }
+    ensures after { OnOk result (pieces.new
+        ≡ (if is_in piece pieces.old.items then pieces.old else pieces_with piece pieces.old)) }
 {
     stand_in_order(pieces);
     pieces.add(piece)

@@ -14,7 +14,7 @@ use node_kit::{Out, Outbox, What};
 use partial_view::{Added, CubView, Line};
 use tiger_base::{Instance, Msg, NoMemory, Rec, SlotNo, Visit};
 
-/// A record is taken, with Took; where the view has one at its slot and visit already, that one stays.
+/// A record is taken, with Took; if the view has one at its slot and visit already, that one stays.
 #[tactic(auto, using(crate::proofs::Adding::new_where_none), unfolding(cub_rules::specs::Records::took))]
 pub fn take_record<'a>(
     rec: Rec,
@@ -50,8 +50,11 @@ fn drop_each<'a>(
     view: &mut CubView,
     out: &mut Outbox<Msg<'a>>,
 ) -> Result<(), NoMemory>
-    ensures left { OnOk result (view.new ≡ record view.old { lines = without_instance instance view.old.lines }) }
-    ensures outs { OnOk result (out.new ≡ out.old ++ map dropped (filter (is_of instance) view.old.lines)) }
+    ensures left { OnOk result (view.new ≡ record view.old {
+      lines = without_instance instance view.old.lines;
+    }) }
+    ensures outs { OnOk result (out.new ≡ out.old
+        ++ map dropped (filter (is_of instance) view.old.lines)) }
 {
     let mut next = line_after(view, None);
     while let Some(line) = next {
@@ -61,7 +64,7 @@ fn drop_each<'a>(
     Ok(())
 }
 
-/// The next line behind a slot and visit, or the first where none is given.
+/// The next line behind a slot and visit, or the first if none is given.
 fn line_after(view: &CubView, key: Option<(SlotNo, Visit)>) -> Option<Line>
     requires { ForSome key (IsKey view.now.params) }
     ensures next { result ≡ next_behind view.now.params key view.now.lines }
@@ -70,7 +73,7 @@ fn line_after(view: &CubView, key: Option<(SlotNo, Visit)>) -> Option<Line>
     view.view().after(key)
 }
 
-/// Takes a line out, and writes it down, where it is of an instance.
+/// Takes a line out, and writes that down, if it is of an instance.
 fn drop_if_of<'a>(
     instance: Instance,
     line: &Line,
@@ -80,7 +83,9 @@ fn drop_if_of<'a>(
     requires key { IsKey view.old.params (key_of line.now) }
     requires there { line_at (key_of line.now) view.old.lines ≡ Some line.now }
     requires walk { IsWalk view.old.params view.old.lines }
-    ensures lines { OnOk result (view.new ≡ record view.old { lines = replaced (key_of line.now) (left_if_of instance line.now) view.old.lines }) }
+    ensures lines { OnOk result (view.new ≡ record view.old {
+      lines = replaced (key_of line.now) (left_if_of instance line.now) view.old.lines;
+    }) }
     ensures outs { OnOk result (out.new ≡ out.old ++ outs_if_of instance line.now) }
 {
     if line.rec.tenancy.instance.0 == instance.0 {

@@ -18,7 +18,9 @@ pub(crate) fn kill_splits<'a>(
     store: &mut Store<'a>,
     out: &mut Outbox<Msg<'a>>,
 ) -> Result<(), NoMemory>
-    ensures { OnOk result (Did (killing_splits site.now.plan.params site.now.cub.0 instance store.old) out.old out.new store.new) }
+    ensures { OnOk result (Did
+        (killing_splits site.now.plan.params site.now.cub.0 instance store.old)
+        out.old out.new store.new) }
 {
     kill_each(site, instance, &mut store.splits, out)
 }
@@ -30,7 +32,8 @@ fn kill_each<'a>(
     splits: &mut Splits,
     out: &mut Outbox<Msg<'a>>,
 ) -> Result<(), NoMemory>
-    ensures outs { OnOk result (out.new ≡ out.old ++ flat_map (kills site.now.plan.params site.now.cub.0) (filter (is_of instance) splits.old)) }
+    ensures outs { OnOk result (out.new ≡ out.old ++ flat_map
+        (kills site.now.plan.params site.now.cub.0) (filter (is_of instance) splits.old)) }
     ensures left { OnOk result (splits.new ≡ filter (λ x. not (is_of instance x)) splits.old) }
 {
     while let Some((slot, visit)) = splits.take_of(instance) {
@@ -47,7 +50,8 @@ fn kill<'a>(
     visit: Visit,
     out: &mut Outbox<Msg<'a>>,
 ) -> Result<(), NoMemory>
-    ensures { OnOk result (out.new ≡ out.old ++ kills site.now.plan.params site.now.cub.0 (instance, slot, visit)) }
+    ensures { OnOk result (out.new ≡ out.old
+        ++ kills site.now.plan.params site.now.cub.0 (instance, slot, visit)) }
 {
     for steps in 1..site.plan.params.pieces {
         let msg = Msg::Kill {

@@ -14,7 +14,7 @@ use cub_rules::Store;
 use node_kit::{Outbox, Site};
 use tiger_base::{Kind, Msg, NoMemory, Rec, SlotNo, Stamp, State, Tenancy, Visit};
 
-/// A state of a visit of its tenancy lets the visit's cub, and the next one, take their records; where its instance is held
+/// A state of a visit of its tenancy lets the visit's cub, and the next one, take their records; if its instance is held
 /// it is discarded, and the deschedule passed on.
 #[tactic(auto, unfolding(cub_rules::specs::Messages::meeting_state))]
 pub fn take_state<'a>(
@@ -27,7 +27,9 @@ pub fn take_state<'a>(
     requires reading { stamp.reading ≤ most_reading }
     requires form { IsTrue (is_tenancy site.now.plan.params state.tenancy) }
     requires stored { IsStoreOf site.now.plan.params site.now.cub.0 store.old }
-    ensures { OnOk result (Did (meeting_state site.now.plan.params site.now.cub.0 stamp state store.old) out.old out.new store.new) }
+    ensures { OnOk result (Did
+        (meeting_state site.now.plan.params site.now.cub.0 stamp state store.old)
+        out.old out.new store.new) }
 {
     if state.visit < state.tenancy.first || state.tenancy.last < state.visit {
         return Ok(());

@@ -7,7 +7,7 @@ use Rattle.cub_rules.specs.State.{CubState}
 use Rattle.cub_rules.specs.Messages.{taking}
 use Rattle.cub_rules.specs.Ticks.{ticking}
 
--- where what it keeps changes, so does the cub
+-- what is done to what a cub keeps, done to the cub
 abbrev pub on_cub : CubState → Deed Msg Store → Deed Msg CubState
 on_cub s d = record { outs = d.outs; state = record s { store = d.state } }
 

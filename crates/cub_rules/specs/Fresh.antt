@@ -21,7 +21,7 @@ end_of p x = due p x.want.slot.0 x.want.visit + p.play
 abbrev pub IsFresh : Params → Timed → Type 0
 IsFresh p x = x.1 ≤ end_of p x.0
 
--- so it is with each part
+-- each part is fresh
 abbrev pub AreFresh : Params → List Timed → Type 0
 AreFresh p xs = AllByRecursion (IsFresh p) xs
 

@@ -40,8 +40,8 @@ use Rattle.cub_rules.specs.declared.store.StoredPart.{StoredPart}
 use Rattle.cub_rules.specs.State.{visit_here, is_ask}
 use Rattle.cub_rules.specs.Records.{predecessor, took, dropping_lines, dropping_start, dropping_pieces, same_want, pieces_but, with_piece_record}
 
--- Where a cub stands to a visit of a slot that a state or a tag names: at that visit where it is the visit's cub, at the
--- next one where it is the next one's cub, and nowhere else.
+-- Where a cub stands to a visit of a slot that a state or a tag names: at that visit if it is the visit's cub, at the
+-- next one if it is the next one's cub, and else nowhere.
 unfoldable pub position_at : Params → ℕ → SlotNo → ℕ → Option Key
 position_at p cub slot visit =
     if cub_of p visit == cub then Some (slot, visit) else if cub_of p (visit + 1) == cub then Some (slot, visit + 1) else None
@@ -63,13 +63,13 @@ passing_on p cub stamp v k h = record {
   state = record h { held = with_pass h.held v };
 }
 
--- the same, where there is a position and the deschedule is held and was not passed on yet
+-- it is passed on if there is a position and it is held and was not passed on yet
 abbrev pub passing_from : Params → ℕ → Stamp → Instance → Option Key → Store → Deed Msg Store
 passing_from p cub stamp v None h = nothing h
 passing_from p cub stamp v (Some k) h = if must_pass h.held v then passing_on p cub stamp v k h else nothing h
 
 -- the records that a state lets a cub add from its position: the visit's own record; or, on the next cub, the backup
--- record and, where the visit is not the last, the next visit's own record
+-- record and, if the visit is not the last, the next visit's own record
 abbrev pub records_told : State → Key → List Rec
 records_told s k =
     if k.1 == s.visit then record { tenancy = s.tenancy; visit = s.visit; kind = Own } ∷ []
@@ -86,8 +86,8 @@ met p cub stamp s None h = nothing h
 met p cub stamp s (Some k) h =
     if is_held h.held s.tenancy.instance then passing_from p cub stamp s.tenancy.instance (Some k) h else told s k h
 
--- Viewer state: a state of a visit of its tenancy, on the visit's cub or the next one. Of an instance that is held it is
--- discarded, and the deschedule passed on.
+-- Viewer state: a state of a visit of its tenancy, on the visit's cub or the next one, lets it take records. A state of
+-- an instance that is held is discarded, and the deschedule passed on.
 unfoldable pub meeting_state : Params → ℕ → Stamp → State → Store → Deed Msg Store
 meeting_state p cub stamp s h =
     if is_visit_of s.tenancy s.visit then met p cub stamp s (position_at p cub s.tenancy.slot s.visit) h else nothing h
@@ -122,7 +122,7 @@ abbrev pub position_by : Option Line → Option Key
 position_by None = None
 position_by (Some x) = Some (position_of x.rec)
 
--- where a cub stands to a deschedule: by its tag, or by the instance's earliest record
+-- the position of a cub to a deschedule: by its tag, or by the instance's earliest record
 abbrev pub position : Params → ℕ → Instance → Option Tag → List Line → Option Key
 position p cub v (Some tag) lines = position_at p cub tag.slot tag.visit
 position p cub v None lines = position_by (first_of v lines)
@@ -150,7 +150,7 @@ abbrev pub dropping_all : Params → ℕ → Instance → Store → Deed Msg Sto
 dropping_all p cub v =
     then_do (dropping_lines v) (then_do (dropping_start v) (then_do (dropping_pieces v) (killing_splits p cub v)))
 
--- Deschedule: the instance is held; from a position the deschedule is passed on, where it was not yet; all that the cub
+-- Deschedule: the instance is held; from a position the deschedule is passed on, unless it was before; all that the cub
 -- keeps of the instance is dropped.
 unfoldable pub descheduling : Params → ℕ → Stamp → Instance → Option Tag → Store → Deed Msg Store
 descheduling p cub stamp v tag =

@@ -24,11 +24,11 @@ use Rattle.cub_rules.specs.declared.store.StoredPart.{StoredPart}
 unfoldable pub predecessor : Params → ℕ → ℕ
 predecessor p cub = (cub + (p.cubs - 1)) % p.cubs
 
--- a view with a record, which is a new one where its slot and visit have none
+-- a view with a record, which is a new one if its slot and visit have none
 abbrev pub view_with : Rec → Seen → Seen
 view_with r v = record v { lines = with_record v.params r v.lines }
 
--- A record is taken: where the view has one at its slot and visit, that one stays and nothing is added.
+-- A record is taken: if the view has one at its slot and visit, that one stays and nothing is added.
 unfoldable pub took : Rec → Store → Deed Msg Store
 took r h =
     if is_some (line_at (lines.visit_of r) h.view.lines) then nothing h

@@ -28,7 +28,7 @@ is_ask a = nat_le 1 a.count && nat_le a.count most_blocks
 abbrev pub IsAsk : Ask → Type 0
 IsAsk a = IsTrue (is_ask a)
 
--- a record of a visit of its tenancy, which is in form, on a cub that such a record belongs to
+-- a record of a visit of its tenancy, which is in form, on a cub that records of its kind and visit belong to
 pub record IsRecordOf (p : Params) (cub : ℕ) (r : Rec) : Type 0 where
   pub in_form : IsTrue (is_tenancy p r.tenancy)
   pub begun : r.tenancy.first ≤ r.visit
@@ -47,7 +47,7 @@ pub record IsPieceAt (p : Params) (cub : ℕ) (x : PieceState) : Type 0 where
 abbrev pub IsSplitHere : Params → Split → Type 0
 IsSplitHere p x = IsTrue (is_place p x.1.0 x.2)
 
--- so is a stored part
+-- a stored part is of a slot of the plan, and its visit is not too large
 abbrev pub IsPartHere : Params → StoredPart → Type 0
 IsPartHere p x = IsTrue (is_place p x.want.slot.0 x.want.visit)
 

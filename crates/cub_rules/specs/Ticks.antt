@@ -59,7 +59,7 @@ queued a = out.Act (what.Queued a.instance a.disk)
 abbrev pub number : ℕ → CubNo
 number n = record { 0 = n }
 
--- Deadman: where the predecessor was silent for too long it is believed dead from now on, and the redundant starts wait
+-- Deadman: if the predecessor was silent for too long it is believed dead from now on, and the redundant starts wait
 -- behind the others.
 unfoldable pub believing : Params → ℕ → Stamp → Store → Deed Msg Store
 believing p cub stamp h =
@@ -97,7 +97,7 @@ putting_own p cub t =
     (then_do (took (own_of t t.first))
     (sending (out.Send (way_ahead p cub 1) (msg.ViewerState (record { tenancy = t; visit = t.first })) ∷ told_placed p cub t ∷ [])))
 
--- On a disk of its predecessor: it takes the backup record of the first visit and, where that is not the last, the own
+-- On a disk of its predecessor it takes the backup record of the first visit and, if that is not the last, the own
 -- record of the next one.
 unfoldable pub putting_for_dead : Params → ℕ → Tenancy → Store → Deed Msg Store
 putting_for_dead p cub t =
@@ -106,7 +106,7 @@ putting_for_dead p cub t =
     (then_do (if nat_lt t.first t.last then took (own_of t (t.first + 1)) else nothing)
     (sending (told_placed p cub t ∷ []))))
 
--- where a visit is free the start is put there and the others follow; where none is, they all wait on
+-- if a visit is free the start is put there and the others follow; if none is, they all wait on
 abbrev pub put_or_wait : (Tenancy → Store → Deed Msg Store) → (Store → Deed Msg Store) → Ask → Option Key → Store → Deed Msg Store
 put_or_wait put rest a None h = nothing h
 put_or_wait put rest a (Some k) h = then_do (put (tenancy_from a k)) rest h
@@ -135,7 +135,7 @@ inserting_for_dead p cub stamp h =
     if h.believes then each_in_turn (putting_on (putting_for_dead p cub) p stamp.reading) (disks_at p (predecessor p cub)) h
     else nothing h
 
--- Insertion: on each disk of its own, and then, where the predecessor is believed dead, on each of its disks.
+-- Insertion: starts are put on each disk of its own and then, if the predecessor is believed dead, on each of that one's disks.
 unfoldable pub inserting : Params → ℕ → Stamp → Store → Deed Msg Store
 inserting p cub stamp = then_do (inserting_own p cub stamp) (inserting_for_dead p cub stamp)
 
@@ -173,7 +173,7 @@ with_split_lines p stamp h = record h {
   splits = with_each with_split (flat_map (split_visits p stamp) h.view.lines) h.splits;
 }
 
--- Splitting: where the predecessor is believed dead, its visits are split into their pieces.
+-- Splitting: if the predecessor is believed dead, its visits are split into their pieces.
 unfoldable pub splitting : Params → ℕ → Stamp → Store → Deed Msg Store
 splitting p cub stamp h =
     if h.believes then
@@ -249,7 +249,7 @@ is_served p stamp x = is_own x.rec.kind && nat_le (due_of p (key_of x)) stamp.re
 unfoldable pub is_past : Params → Stamp → Line → Bool
 is_past p stamp x = not (is_own x.rec.kind) && nat_le (due_of p (key_of x)) stamp.reading
 
--- a block goes to the viewers where its part is stored
+-- a block goes to the viewers if its part is stored
 abbrev pub sent_whole : Params → ℕ → Stamp → Want → Option LibraryPart → List (Out Msg)
 sent_whole p cub stamp want None = []
 sent_whole p cub stamp want (Some part) = out.Send (way_to_viewers p cub) (msg.Whole want stamp.beat part) ∷ []
@@ -270,7 +270,7 @@ dropping_backups p stamp h = record {
   state = record h { view = record h.view { lines = filter (λ x. not (is_past p stamp x)) h.view.lines } };
 }
 
--- a piece goes to the viewers where its part is stored
+-- a piece goes to the viewers if its part is stored
 abbrev pub sent_piece : Params → ℕ → Stamp → Want → Option LibraryPart → List (Out Msg)
 sent_piece p cub stamp want None = []
 sent_piece p cub stamp want (Some part) = out.Send (way_to_viewers p cub) (msg.Piece want stamp.beat part) ∷ []

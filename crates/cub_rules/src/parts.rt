@@ -1,4 +1,4 @@
-//! The parts that a cub has stored, each with a time before which it is fresh, so that a tick works out no due time of those.
+//! The parts that a cub has stored, each with a time before which it is fresh: until then a tick works out no due time.
 ghost use Rattle.std.specs.Prelude.{◌≡◌, ◌≤◌, ◌==◌, ◌++◌, ◌∷◌, [], true, OnOk, OnErr, filter, length, not};
 ghost use Rattle.std.specs.List.{AllByRecursion};
 ghost use Rattle.cub_rules.specs.Fresh.{stored_of, end_of, IsFresh, has_same_times};
@@ -113,7 +113,7 @@ fn find_part<'a>(want: Want, items: &[(StoredPart<'a>, Micros)]) -> Option<Part<
     None
 }
 
-/// A time before which a part is fresh under some numbers: the end of its visit's play time where they are the plan's.
+/// A time before which a part is fresh under some numbers: the end of its visit's play time if they are the plan's.
 fn fresh_until<'a>(params: &Params, plan: &Plan, x: &StoredPart<'a>) -> Micros
     requires { IsPartHere plan.now.params x.now }
     ensures { result ≤ end_of params.now x.now }
@@ -148,8 +148,10 @@ fn forget_stale<'a>(
     reading: Micros,
 )
     requires here { AllByRecursion (λ x. IsPartHere plan.now.params x.0) items.old.items }
-    requires times { AllByRecursion (λ x. timed ≡ true → IsFresh plan.now.params x) items.old.items }
-    ensures { items.new.items ≡ filter (λ x. not (is_stale plan.now.params reading x.0)) items.old.items }
+    requires times { AllByRecursion
+        (λ x. timed ≡ true → IsFresh plan.now.params x) items.old.items }
+    ensures { items.new.items
+        ≡ filter (λ x. not (is_stale plan.now.params reading x.0)) items.old.items }
 {
     for i in (0..items.len()).rev() {
         if is_stale(&items[i], timed, plan, reading) {
@@ -158,7 +160,7 @@ fn forget_stale<'a>(
     }
 }
 
-/// Whether the play time of a part's visit is over, which it is not before the part's time, where that is the plan's.
+/// Whether the play time of a part's visit is over, which it is not before the part's time, if that is the plan's.
 fn is_stale<'a>(x: &(StoredPart<'a>, Micros), timed: bool, plan: &Plan, reading: Micros) -> bool
     requires here { IsPartHere plan.now.params x.now.0 }
     requires time { timed ≡ true → IsFresh plan.now.params x.now }
@@ -180,7 +182,8 @@ fn drop_instance<'a>(instance: Instance, items: &mut Vec<(StoredPart<'a>, Micros
 
 /// Drops the parts of the pieces of a visit.
 fn drop_pieces<'a>(instance: Instance, visit: Visit, items: &mut Vec<(StoredPart<'a>, Micros)>)
-    ensures { items.new.items ≡ filter (λ x. not (is_piece_part instance visit x.0)) items.old.items }
+    ensures { items.new.items
+        ≡ filter (λ x. not (is_piece_part instance visit x.0)) items.old.items }
 {
     items.retain(|x| !is_piece_part(instance, visit, &x.0));
 }

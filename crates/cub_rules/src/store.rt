@@ -4,11 +4,11 @@ ghost use Rattle.tiger_base.specs.Limits.{most_reading};
 ghost use Rattle.cub_rules.specs.State.{opening_store};
 
 use crate::parts::StoredParts;
-use partial_view::CubView;
 use deadman::Watch;
 use deschedule::Held;
 use insert_queue::Starts;
 use mirror_schedule::{PieceView, Splits};
+use partial_view::CubView;
 use slot_plan::Plan;
 use std::alloc::Global;
 use tiger_base::{Micros, Part, Want};

@@ -22,7 +22,7 @@ pub fn release<'a>(site: &Site, stamp: Stamp, store: &mut Store<'a>)
     store.parts.forget_stale(&site.plan, stamp.reading);
 }
 
-/// Deadman: where the predecessor was silent for too long it is believed dead from now on, and the redundant starts
+/// Deadman: if the predecessor was silent for too long it is believed dead from now on, and the redundant starts
 /// wait behind the others. After `NoMemory` nothing is claimed.
 #[tactic(auto, unfolding(cub_rules::specs::Ticks::believing))]
 pub fn watch<'a>(
@@ -31,7 +31,9 @@ pub fn watch<'a>(
     store: &mut Store<'a>,
     out: &mut Outbox<Msg<'a>>,
 ) -> Result<(), NoMemory>
-    ensures { OnOk result (Did (believing site.now.plan.params site.now.cub.0 stamp store.old) out.old out.new store.new) }
+    ensures { OnOk result (Did
+        (believing site.now.plan.params site.now.cub.0 stamp store.old)
+        out.old out.new store.new) }
 {
     if store.believes || !store.watch.check(stamp.reading) {
         return Ok(());
@@ -57,7 +59,8 @@ fn write_queued<'a>(asks: &[Ask], out: &mut Outbox<Msg<'a>>) -> Result<(), NoMem
 /// `NoMemory` nothing is claimed.
 #[tactic(auto, unfolding(cub_rules::specs::Ticks::beating))]
 pub fn beat<'a>(site: &Site, stamp: Stamp, out: &mut Outbox<Msg<'a>>) -> Result<(), NoMemory>
-    ensures { OnOk result ((h : Store) → Did (beating site.now.plan.params site.now.cub.0 stamp h) out.old out.new h) }
+    ensures { OnOk result ((h : Store) → Did
+        (beating site.now.plan.params site.now.cub.0 stamp h) out.old out.new h) }
 {
     if stamp.beat % site.plan.params.heart == 0 {
         out.push(Out::Send(site.ahead(1), Msg::Heartbeat))?;

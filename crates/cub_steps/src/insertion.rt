@@ -20,7 +20,7 @@ use tiger_base::{
     Ask, CubNo, DiskNo, Kind, Micros, Msg, NoMemory, Rec, SlotNo, Stamp, State, Tenancy, Visit,
 };
 
-/// Insertion: on each disk of the cub's own, and then, where the predecessor is believed dead, on each of its disks,
+/// Insertion: on each disk of the cub's own and then, if the predecessor is believed dead, on each of that one's disks,
 /// the starts that wait are put, the oldest first, each into the first visit that is free. After `NoMemory` nothing is
 /// claimed.
 #[tactic(auto, unfolding(cub_rules::specs::Ticks::inserting))]
@@ -32,7 +32,9 @@ pub fn insert<'a>(
 ) -> Result<(), NoMemory>
     requires reading { stamp.reading ≤ most_reading }
     requires stored { IsStoreOf site.now.plan.params site.now.cub.0 store.old }
-    ensures { OnOk result (Did (inserting site.now.plan.params site.now.cub.0 stamp store.old) out.old out.new store.new) }
+    ensures { OnOk result (Did
+        (inserting site.now.plan.params site.now.cub.0 stamp store.old)
+        out.old out.new store.new) }
 {
     put_at(site, stamp.reading, site.cub, Kind::Own, store, out)?;
     if store.believes {
@@ -61,7 +63,10 @@ fn put_at<'a>(
     requires cub { cub.0 < site.now.plan.params.cubs }
     requires plan { store.old.view.params ≡ site.now.plan.params }
     requires asks { AllByRecursion IsAsk store.old.starts.waiting }
-    ensures did { OnOk result (Did (each_in_turn (putting_on (putting_by kind site.now.plan.params site.now.cub.0) site.now.plan.params reading) (disks_at site.now.plan.params cub.0) store.old) out.old out.new store.new) }
+    ensures did { let p = site.now.plan.params in
+        let put_on_disk = putting_on (putting_by kind p site.now.cub.0) p reading in
+        OnOk result (Did (each_in_turn put_on_disk (disks_at p cub.0) store.old)
+        out.old out.new store.new) }
     ensures plan { OnOk result (store.new.view.params ≡ site.now.plan.params) }
     ensures asks { OnOk result (AllByRecursion IsAsk store.new.starts.waiting) }
 {
@@ -85,7 +90,9 @@ fn put_on<'a>(
     requires reading { reading ≤ most_reading }
     requires plan { store.old.view.params ≡ site.now.plan.params }
     requires asks { AllByRecursion IsAsk store.old.starts.waiting }
-    ensures did { OnOk result (Did (putting_on (putting_by kind site.now.plan.params site.now.cub.0) site.now.plan.params reading disk.0 store.old) out.old out.new store.new) }
+    ensures did { let p = site.now.plan.params in
+        let put_on_disk = putting_on (putting_by kind p site.now.cub.0) p reading in
+        OnOk result (Did (put_on_disk disk.0 store.old) out.old out.new store.new) }
     ensures plan { OnOk result (store.new.view.params ≡ site.now.plan.params) }
     ensures asks { OnOk result (AllByRecursion IsAsk store.new.starts.waiting) }
 {
@@ -144,7 +151,9 @@ fn put<'a>(
     requires slot { tenancy.slot.0 < site.now.plan.params.slots }
     requires visit { tenancy.first ≤ 2000000000 }
     requires plan { store.old.view.params ≡ site.now.plan.params }
-    ensures { OnOk result (Did (putting_by kind site.now.plan.params site.now.cub.0 tenancy store.old) out.old out.new store.new) }
+    ensures { OnOk result (Did
+        (putting_by kind site.now.plan.params site.now.cub.0 tenancy store.old)
+        out.old out.new store.new) }
 {
     match kind {
         Kind::Own => put_own(site, tenancy, store, out),
@@ -163,7 +172,9 @@ fn put_own<'a>(
     requires slot { tenancy.slot.0 < site.now.plan.params.slots }
     requires visit { tenancy.first ≤ 2000000000 }
     requires plan { store.old.view.params ≡ site.now.plan.params }
-    ensures { OnOk result (Did (putting_own site.now.plan.params site.now.cub.0 tenancy store.old) out.old out.new store.new) }
+    ensures { OnOk result (Did
+        (putting_own site.now.plan.params site.now.cub.0 tenancy store.old)
+        out.old out.new store.new) }
 {
     start(tenancy, store, out)?;
     take(own_record(tenancy, tenancy.first), store, out)?;
@@ -186,7 +197,9 @@ fn put_for_dead<'a>(
     requires slot { tenancy.slot.0 < site.now.plan.params.slots }
     requires visit { tenancy.first ≤ 2000000000 }
     requires plan { store.old.view.params ≡ site.now.plan.params }
-    ensures { OnOk result (Did (putting_for_dead site.now.plan.params site.now.cub.0 tenancy store.old) out.old out.new store.new) }
+    ensures { OnOk result (Did
+        (putting_for_dead site.now.plan.params site.now.cub.0 tenancy store.old)
+        out.old out.new store.new) }
 {
     start(tenancy, store, out)?;
     let backup = Rec {
@@ -203,7 +216,8 @@ fn put_for_dead<'a>(
 
 /// Tells the controller where an instance was put.
 fn tell_placed<'a>(site: &Site, tenancy: Tenancy, out: &mut Outbox<Msg<'a>>) -> Result<(), NoMemory>
-    ensures { OnOk result (out.new ≡ out.old ++ told_placed site.now.plan.params site.now.cub.0 tenancy ∷ []) }
+    ensures { OnOk result (out.new ≡ out.old
+        ++ told_placed site.now.plan.params site.now.cub.0 tenancy ∷ []) }
 {
     out.push(Out::Send(site.to_controller(), Msg::Placed(tenancy)))
 }
@@ -220,7 +234,7 @@ fn start<'a>(
     out.push(Out::Act(What::Put(tenancy)))
 }
 
-/// Takes a record, where the view has none of its slot and visit.
+/// Takes a record, unless the view has one of its slot and visit.
 #[tactic(auto, unfolding(cub_rules::specs::Records::took))]
 fn take<'a>(rec: Rec, store: &mut Store<'a>, out: &mut Outbox<Msg<'a>>) -> Result<(), NoMemory>
     requires key { IsKey store.old.view.params (visit_of rec) }

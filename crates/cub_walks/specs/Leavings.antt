@@ -6,7 +6,7 @@ use Rattle.slot_plan.specs.declared.params.Params.{Params}
 use Rattle.mirror_schedule.specs.Pieces.{Pieces}
 use Rattle.cub_rules.specs.Ticks.{leaves_by}
 
--- the first piece, where it leaves by a time, and the pieces without it
+-- the first piece, if it leaves by a time, and the pieces without it
 abbrev pub first_leaving : Params → ℕ → List PieceState → Option PieceState
 first_leaving p time [] = None
 first_leaving p time (x ∷ xs) = if leaves_by p time x then Some x else None

@@ -1,4 +1,4 @@
--- Up to which time the states of visits go out in a beat, from which on visits are split, and what goes out where.
+-- The times between which a beat forwards and splits, and the messages that the walks send.
 use Rattle.std.specs.Prelude.{ℕ, ◌+◌, ◌*◌, List, [], ◌∷◌, if◌then◌else◌}
 use Rattle.tiger_base.specs.declared.number.Stamp.{Stamp}
 use Rattle.tiger_base.specs.declared.tenancy.State.{State}
@@ -11,6 +11,7 @@ use Rattle.node_kit.specs.Ways.{way_ahead, way_to_disk}
 use Rattle.slot_plan.specs.declared.params.Params.{Params}
 use Rattle.state_forward.specs.Forwards.{is_batch_beat}
 
+-- the time up to which states are forwarded in a beat
 unfoldable pub forward_limit : Params → Stamp → ℕ
 forward_limit p stamp = stamp.reading + (if is_batch_beat p stamp.beat then p.max_lead else p.min_lead)
 

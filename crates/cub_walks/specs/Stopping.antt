@@ -12,19 +12,19 @@ use Rattle.node_kit.specs.declared.outbox.Out.{Out}
 use Rattle.cub_rules.specs.Records.{dropped}
 use Rattle.cub_rules.specs.Ticks.{is_served, is_past}
 
--- a line, where it is due at a time or before it
+-- a line, if it is due at a time or before it
 abbrev pub due_by : Params → ℕ → Option Line → Option Line
 due_by p time None = None
 due_by p time (Some x) = if nat_le (due_of p (key_of x)) time then Some x else None
 
--- a walk is under way, and its next line counts only where it is due at a time or before it
+-- a walk is under way, and its next line counts only if it is due at a time or before it
 pub record UnderwayTo {X : Type 0} (p : Params) (time : ℕ) (outs_of : Line → List X) (lines_of : Line → List Line) (before : Seen) (outs_before : List X) (now : Seen) (outs_now : List X) (next : Option Line) : Type 0 where
   pub ahead : Option Line
   pub walk : Underway outs_of lines_of before outs_before now outs_now ahead
   pub plan : before.params ≡ p
   pub bound : next ≡ due_by p time ahead
 
--- what is left of a line that is served, and of one whose backup record is dropped, and what the latter gives out
+-- what is left of a line that may be served, and of one whose backup record may be dropped, and what the latter gives out
 abbrev pub served_line : Params → Stamp → Line → List Line
 served_line p stamp x = if is_served p stamp x then [] else x ∷ []
 

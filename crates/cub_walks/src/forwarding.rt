@@ -20,7 +20,7 @@ use state_forward::must_forward;
 use tiger_base::{Micros, Msg, NoMemory, Stamp, State};
 
 /// Sends the state of the next visit to the next two cubs for each own record whose next visit is due within the lead of
-/// this beat, where it was not sent yet. The lines are walked only where some may be left to forward.
+/// this beat, unless it was sent before. The lines are walked only if some may be left to forward.
 pub fn forward<'a>(
     site: &Site,
     stamp: Stamp,
@@ -29,7 +29,9 @@ pub fn forward<'a>(
 ) -> Result<(), NoMemory>
     requires reading { stamp.reading ≤ most_reading }
     requires stored { IsStoreOf site.now.plan.params site.now.cub.0 store.old }
-    ensures { OnOk result (Did (forwarding site.now.plan.params site.now.cub.0 stamp store.old) out.old out.new store.new) }
+    ensures { OnOk result (Did
+        (forwarding site.now.plan.params site.now.cub.0 stamp store.old)
+        out.old out.new store.new) }
 {
     let limit = forward_limit(&site.plan, stamp);
     if store.view.is_forwarded_to(limit) {
@@ -64,8 +66,11 @@ fn forward_lines<'a>(
     requires reading { stamp.reading ≤ most_reading }
     requires plan { view.old.params ≡ site.now.plan.params }
     requires lines { AllByRecursion (IsLineOf site.now.plan.params site.now.cub.0) view.old.lines }
-    ensures view { OnOk result (view.new ≡ record view.old { lines = map (forward_line site.now.plan.params stamp) view.old.lines }) }
-    ensures outs { OnOk result (out.new ≡ out.old ++ flat_map (forward_outs site.now.plan.params site.now.cub.0 stamp) view.old.lines) }
+    ensures view { OnOk result (view.new ≡ record view.old {
+      lines = map (forward_line site.now.plan.params stamp) view.old.lines;
+    }) }
+    ensures outs { OnOk result (out.new ≡ out.old
+        ++ flat_map (forward_outs site.now.plan.params site.now.cub.0 stamp) view.old.lines) }
 {
     let mut next = after(view, None);
     let mut place: usize = 0;
@@ -90,8 +95,12 @@ fn forward_line<'a>(
     requires key { IsKey view.old.params (key_of line) }
     requires there { line_at (key_of line) view.old.lines ≡ Some line }
     requires walk { IsWalk view.old.params view.old.lines }
-    ensures view { OnOk result (view.new ≡ record view.old { lines = replaced (key_of line) (forward_line site.now.plan.params stamp line ∷ []) view.old.lines }) }
-    ensures outs { OnOk result (out.new ≡ out.old ++ forward_outs site.now.plan.params site.now.cub.0 stamp line) }
+    ensures view { OnOk result (view.new ≡ record view.old {
+      lines = replaced (key_of line)
+          (forward_line site.now.plan.params stamp line ∷ []) view.old.lines;
+    }) }
+    ensures outs { OnOk result (out.new ≡ out.old
+        ++ forward_outs site.now.plan.params site.now.cub.0 stamp line) }
 {
     if is_to_forward(&site.plan, stamp, &line) {
         let state = State {

@@ -10,11 +10,13 @@ use mirror_schedule::PieceView;
 use slot_plan::Plan;
 use tiger_base::{Micros, PieceState};
 
-/// Takes out the first piece, where it leaves by a time; `None` exactly where there is none that does.
+/// Takes out the first piece if it leaves by a time; the answer is `None` exactly if there is none that does.
 pub(crate) fn take_leaving(plan: &Plan, pieces: &mut PieceView, time: Micros) -> Option<PieceState>
     requires plan { pieces.old.params ≡ plan.now.params }
     ensures first { result ≡ first_leaving plan.now.params time pieces.old.items }
-    ensures left { pieces.new ≡ record pieces.old { items = but_first_leaving plan.now.params time pieces.old.items } }
+    ensures left { pieces.new ≡ record pieces.old {
+      items = but_first_leaving plan.now.params time pieces.old.items;
+    } }
     ensures order { IsPieces plan.now.params pieces.old.items }
     ensures piece { IfSome result (IsPieceOf plan.now.params) }
 {

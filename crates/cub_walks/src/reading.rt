@@ -25,7 +25,7 @@ use slot_plan::Plan;
 use tiger_base::{DiskNo, Kind, Msg, NoMemory, PieceState, Rec, Stamp, Want};
 
 /// Asks the disks for the block of each own record, and then for each piece, that leaves within the read lead and was not
-/// asked for yet. Each walk stops at the first that leaves later.
+/// asked for yet. Each walk stops at the first that leaves later, since lines and pieces stand in the order of their times.
 pub fn read<'a>(
     site: &Site,
     stamp: Stamp,
@@ -34,7 +34,9 @@ pub fn read<'a>(
 ) -> Result<(), NoMemory>
     requires reading { stamp.reading ≤ most_reading }
     requires stored { IsStoreOf site.now.plan.params site.now.cub.0 store.old }
-    ensures { OnOk result (Did (reading site.now.plan.params stamp store.old) out.old out.new store.new) }
+    ensures { OnOk result (Did
+        (reading site.now.plan.params stamp store.old)
+        out.old out.new store.new) }
 {
     read_blocks(site, stamp, &mut store.view, out)?;
     read_pieces(site, stamp, &mut store.unasked, out)?;
@@ -51,8 +53,11 @@ fn read_blocks<'a>(
     requires reading { stamp.reading ≤ most_reading }
     requires plan { view.old.params ≡ site.now.plan.params }
     requires lines { AllByRecursion (IsLineOf site.now.plan.params site.now.cub.0) view.old.lines }
-    ensures view { OnOk result (view.new ≡ record view.old { lines = map (ask_line site.now.plan.params stamp) view.old.lines }) }
-    ensures outs { OnOk result (out.new ≡ out.old ++ flat_map (ask_outs site.now.plan.params stamp) view.old.lines) }
+    ensures view { OnOk result (view.new ≡ record view.old {
+      lines = map (ask_line site.now.plan.params stamp) view.old.lines;
+    }) }
+    ensures outs { OnOk result (out.new ≡ out.old
+        ++ flat_map (ask_outs site.now.plan.params stamp) view.old.lines) }
 {
     let time = stamp.reading + site.plan.params.read_lead;
     let mut next = after_by(&site.plan, view, None, time);
@@ -78,7 +83,10 @@ fn read_block<'a>(
     requires key { IsKey view.old.params (key_of line) }
     requires there { line_at (key_of line) view.old.lines ≡ Some line }
     requires walk { IsWalk view.old.params view.old.lines }
-    ensures view { OnOk result (view.new ≡ record view.old { lines = replaced (key_of line) (ask_line site.now.plan.params stamp line ∷ []) view.old.lines }) }
+    ensures view { OnOk result (view.new ≡ record view.old {
+      lines =
+          replaced (key_of line) (ask_line site.now.plan.params stamp line ∷ []) view.old.lines;
+    }) }
     ensures outs { OnOk result (out.new ≡ out.old ++ ask_outs site.now.plan.params stamp line) }
 {
     if must_read(&site.plan, stamp, &line) {
@@ -133,9 +141,13 @@ fn read_pieces<'a>(
 ) -> Result<(), NoMemory>
     requires reading { stamp.reading ≤ most_reading }
     requires plan { unasked.old.params ≡ site.now.plan.params }
-    requires pieces { AllByRecursion (IsPieceAt site.now.plan.params site.now.cub.0) unasked.old.items }
-    ensures pieces { OnOk result (unasked.new ≡ pieces_but (leaves_by site.now.plan.params (stamp.reading + site.now.plan.params.read_lead)) unasked.old) }
-    ensures outs { OnOk result (out.new ≡ out.old ++ map (asked_of_disk site.now.plan.params) (filter (leaves_by site.now.plan.params (stamp.reading + site.now.plan.params.read_lead)) unasked.old.items)) }
+    requires pieces { let p = site.now.plan.params in
+        AllByRecursion (IsPieceAt p site.now.cub.0) unasked.old.items }
+    ensures pieces { let p = site.now.plan.params in let time = stamp.reading + p.read_lead in
+        OnOk result (unasked.new ≡ pieces_but (leaves_by p time) unasked.old) }
+    ensures outs { let p = site.now.plan.params in let time = stamp.reading + p.read_lead in
+        OnOk result (out.new ≡ out.old
+        ++ map (asked_of_disk p) (filter (leaves_by p time) unasked.old.items)) }
 {
     let time = stamp.reading + site.plan.params.read_lead;
     while let Some(piece) = take_leaving(&site.plan, unasked, time) {

@@ -23,8 +23,8 @@ use partial_view::{CubView, Line};
 use slot_plan::Plan;
 use tiger_base::{Msg, NoMemory, PieceState, Stamp, Want};
 
-/// Sends the block of each own record that is due, where its part is stored, and drops the record; then drops each backup
-/// record that is due; then sends each piece that leaves, where its part is stored, and drops the piece record. Each walk
+/// Sends the block of each own record that is due, if its part is stored, and drops the record; then drops each backup
+/// record that is due; then sends each piece that leaves, if its part is stored, and drops the piece record. Each walk
 /// stops at the first that leaves later.
 pub fn serve<'a>(
     site: &Site,
@@ -34,7 +34,9 @@ pub fn serve<'a>(
 ) -> Result<(), NoMemory>
     requires reading { stamp.reading ≤ most_reading }
     requires stored { IsStoreOf site.now.plan.params site.now.cub.0 store.old }
-    ensures { OnOk result (Did (serving site.now.plan.params site.now.cub.0 stamp store.old) out.old out.new store.new) }
+    ensures { OnOk result (Did
+        (serving site.now.plan.params site.now.cub.0 stamp store.old)
+        out.old out.new store.new) }
 {
     serve_blocks(site, stamp, &mut store.view, &store.parts, out)?;
     drop_backups(site, stamp, &mut store.view, out)?;
@@ -54,8 +56,11 @@ fn serve_blocks<'a>(
     requires reading { stamp.reading ≤ most_reading }
     requires plan { view.old.params ≡ site.now.plan.params }
     requires lines { AllByRecursion (IsLineOf site.now.plan.params site.now.cub.0) view.old.lines }
-    ensures view { OnOk result (view.new ≡ record view.old { lines = filter (λ x. not (is_served site.now.plan.params stamp x)) view.old.lines }) }
-    ensures outs { OnOk result (out.new ≡ out.old ++ flat_map (serve_outs site.now.plan.params site.now.cub.0 stamp parts.now) view.old.lines) }
+    ensures view { OnOk result (view.new ≡ record view.old {
+      lines = filter (λ x. not (is_served site.now.plan.params stamp x)) view.old.lines;
+    }) }
+    ensures outs { OnOk result (out.new ≡ out.old ++ flat_map
+        (serve_outs site.now.plan.params site.now.cub.0 stamp parts.now) view.old.lines) }
 {
     let mut next = after_by(&site.plan, view, None, stamp.reading);
     while let Some(line) = next {
@@ -65,7 +70,7 @@ fn serve_blocks<'a>(
     Ok(())
 }
 
-/// Serves one line, where it is an own record's that is due.
+/// Serves one line, if it is an own record's that is due.
 fn serve_block<'a>(
     site: &Site,
     stamp: Stamp,
@@ -78,8 +83,12 @@ fn serve_block<'a>(
     requires key { IsKey view.old.params (key_of line) }
     requires there { line_at (key_of line) view.old.lines ≡ Some line }
     requires walk { IsWalk view.old.params view.old.lines }
-    ensures view { OnOk result (view.new ≡ record view.old { lines = replaced (key_of line) (served_line site.now.plan.params stamp line) view.old.lines }) }
-    ensures outs { OnOk result (out.new ≡ out.old ++ serve_outs site.now.plan.params site.now.cub.0 stamp parts.now line) }
+    ensures view { OnOk result (view.new ≡ record view.old {
+      lines =
+          replaced (key_of line) (served_line site.now.plan.params stamp line) view.old.lines;
+    }) }
+    ensures outs { OnOk result (out.new ≡ out.old
+        ++ serve_outs site.now.plan.params site.now.cub.0 stamp parts.now line) }
 {
     if is_served(&site.plan, stamp, &line) {
         send_whole(site, stamp, want_of(line.rec), parts, out)?;
@@ -99,7 +108,7 @@ fn is_served(plan: &Plan, stamp: Stamp, line: &Line) -> bool
     is_own(line.rec.kind) && due <= stamp.reading
 }
 
-/// Sends a block to the viewers, where its part is stored.
+/// Sends a block to the viewers, if its part is stored.
 fn send_whole<'a>(
     site: &Site,
     stamp: Stamp,
@@ -107,7 +116,8 @@ fn send_whole<'a>(
     parts: &StoredParts<'a>,
     out: &mut Outbox<Msg<'a>>,
 ) -> Result<(), NoMemory>
-    ensures { OnOk result (out.new ≡ out.old ++ sent_whole site.now.plan.params site.now.cub.0 stamp want (stored_for want parts.now)) }
+    ensures { OnOk result (out.new ≡ out.old
+        ++ sent_whole site.now.plan.params site.now.cub.0 stamp want (stored_for want parts.now)) }
 {
     if let Some(part) = parts.part_for(want) {
         let sent = stamp.beat;
@@ -125,8 +135,11 @@ fn drop_backups<'a>(
 ) -> Result<(), NoMemory>
     requires reading { stamp.reading ≤ most_reading }
     requires plan { view.old.params ≡ site.now.plan.params }
-    ensures view { OnOk result (view.new ≡ record view.old { lines = filter (λ x. not (is_past site.now.plan.params stamp x)) view.old.lines }) }
-    ensures outs { OnOk result (out.new ≡ out.old ++ map dropped (filter (is_past site.now.plan.params stamp) view.old.lines)) }
+    ensures view { OnOk result (view.new ≡ record view.old {
+      lines = filter (λ x. not (is_past site.now.plan.params stamp x)) view.old.lines;
+    }) }
+    ensures outs { OnOk result (out.new ≡ out.old
+        ++ map dropped (filter (is_past site.now.plan.params stamp) view.old.lines)) }
 {
     let mut next = after_by(&site.plan, view, None, stamp.reading);
     while let Some(line) = next {
@@ -136,7 +149,7 @@ fn drop_backups<'a>(
     Ok(())
 }
 
-/// Drops one line, where it is a backup record's that is due.
+/// Drops one line, if it is a backup record's that is due.
 fn drop_backup<'a>(
     plan: &Plan,
     stamp: Stamp,
@@ -148,7 +161,9 @@ fn drop_backup<'a>(
     requires key { IsKey view.old.params (key_of line) }
     requires there { line_at (key_of line) view.old.lines ≡ Some line }
     requires walk { IsWalk view.old.params view.old.lines }
-    ensures view { OnOk result (view.new ≡ record view.old { lines = replaced (key_of line) (past_line plan.now.params stamp line) view.old.lines }) }
+    ensures view { OnOk result (view.new ≡ record view.old {
+      lines = replaced (key_of line) (past_line plan.now.params stamp line) view.old.lines;
+    }) }
     ensures outs { OnOk result (out.new ≡ out.old ++ past_outs plan.now.params stamp line) }
 {
     if is_past(plan, stamp, &line) {
@@ -177,9 +192,13 @@ fn serve_pieces<'a>(
     out: &mut Outbox<Msg<'a>>,
 ) -> Result<(), NoMemory>
     requires plan { pieces.old.params ≡ site.now.plan.params }
-    requires pieces { AllByRecursion (IsPieceAt site.now.plan.params site.now.cub.0) pieces.old.items }
-    ensures pieces { OnOk result (pieces.new ≡ pieces_but (leaves_by site.now.plan.params stamp.reading) pieces.old) }
-    ensures outs { OnOk result (out.new ≡ out.old ++ flat_map (piece_outs site.now.plan.params site.now.cub.0 stamp parts.now) (filter (leaves_by site.now.plan.params stamp.reading) pieces.old.items)) }
+    requires pieces { let p = site.now.plan.params in
+        AllByRecursion (IsPieceAt p site.now.cub.0) pieces.old.items }
+    ensures pieces { OnOk result (pieces.new
+        ≡ pieces_but (leaves_by site.now.plan.params stamp.reading) pieces.old) }
+    ensures outs { let p = site.now.plan.params in
+        OnOk result (out.new ≡ out.old ++ flat_map (piece_outs p site.now.cub.0 stamp parts.now)
+        (filter (leaves_by p stamp.reading) pieces.old.items)) }
 {
     while let Some(piece) = take_leaving(&site.plan, pieces, stamp.reading) {
         send_piece(site, stamp, piece, parts, out)?;
@@ -187,7 +206,7 @@ fn serve_pieces<'a>(
     Ok(())
 }
 
-/// Sends a piece to the viewers, where its part is stored.
+/// Sends a piece to the viewers, if its part is stored.
 fn send_piece<'a>(
     site: &Site,
     stamp: Stamp,
@@ -196,7 +215,8 @@ fn send_piece<'a>(
     out: &mut Outbox<Msg<'a>>,
 ) -> Result<(), NoMemory>
     requires { IsPieceAt site.now.plan.params site.now.cub.0 piece }
-    ensures { OnOk result (out.new ≡ out.old ++ piece_outs site.now.plan.params site.now.cub.0 stamp parts.now piece) }
+    ensures { OnOk result (out.new ≡ out.old
+        ++ piece_outs site.now.plan.params site.now.cub.0 stamp parts.now piece) }
 {
     let want = want_of_piece(piece);
     if let Some(part) = parts.part_for(want) {

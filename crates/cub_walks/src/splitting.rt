@@ -22,9 +22,9 @@ use partial_view::{Flag, Line};
 use slot_plan::Plan;
 use tiger_base::{Micros, Msg, NoMemory, PieceState, Rec, Stamp};
 
-/// Where the predecessor is believed dead, splits the visit of each backup record that is due late enough and was not split
+/// If the predecessor is believed dead, splits the visit of each backup record that is due late enough and was not split
 /// yet: the first piece becomes the cub's own piece record, and the mirror states of the others go to the next cubs. The
-/// lines are walked only where some visit may be left to split.
+/// lines are walked only if some visit may be left to split.
 pub fn split<'a>(
     site: &Site,
     stamp: Stamp,
@@ -33,7 +33,9 @@ pub fn split<'a>(
 ) -> Result<(), NoMemory>
     requires reading { stamp.reading ≤ most_reading }
     requires stored { IsStoreOf site.now.plan.params site.now.cub.0 store.old }
-    ensures { OnOk result (Did (splitting site.now.plan.params site.now.cub.0 stamp store.old) out.old out.new store.new) }
+    ensures { OnOk result (Did
+        (splitting site.now.plan.params site.now.cub.0 stamp store.old)
+        out.old out.new store.new) }
 {
     if !store.believes {
         return Ok(());
@@ -67,8 +69,11 @@ fn split_lines<'a>(
 ) -> Result<(), NoMemory>
     requires reading { stamp.reading ≤ most_reading }
     requires stored { IsStoreOf site.now.plan.params site.now.cub.0 store.old }
-    ensures store { OnOk result (store.new ≡ with_split_of site.now.plan.params stamp store.old.view.lines (record store.old.view { lines = map (split_line site.now.plan.params stamp) store.old.view.lines }) store.old) }
-    ensures outs { OnOk result (out.new ≡ out.old ++ flat_map (split_outs site.now.plan.params site.now.cub.0 stamp) store.old.view.lines) }
+    ensures store { let p = site.now.plan.params in let before = store.old.view in
+        OnOk result (store.new ≡ with_split_of p stamp before.lines
+        (record before { lines = map (split_line p stamp) before.lines }) store.old) }
+    ensures outs { OnOk result (out.new ≡ out.old
+        ++ flat_map (split_outs site.now.plan.params site.now.cub.0 stamp) store.old.view.lines) }
 {
     let mut next = after(&store.view, None);
     let mut place: usize = 0;
@@ -95,8 +100,12 @@ fn split_line<'a>(
     requires key { IsKey store.old.view.params (key_of line) }
     requires there { line_at (key_of line) store.old.view.lines ≡ Some line }
     requires walk { IsWalk store.old.view.params store.old.view.lines }
-    ensures store { OnOk result (store.new ≡ with_split_of site.now.plan.params stamp (line ∷ []) (record store.old.view { lines = replaced (key_of line) (split_line site.now.plan.params stamp line ∷ []) store.old.view.lines }) store.old) }
-    ensures outs { OnOk result (out.new ≡ out.old ++ split_outs site.now.plan.params site.now.cub.0 stamp line) }
+    ensures store { let p = site.now.plan.params in let before = store.old.view in
+        let after = replaced (key_of line) (split_line p stamp line ∷ []) before.lines in
+        OnOk result (store.new
+        ≡ with_split_of p stamp (line ∷ []) (record before { lines = after }) store.old) }
+    ensures outs { OnOk result (out.new ≡ out.old
+        ++ split_outs site.now.plan.params site.now.cub.0 stamp line) }
 {
     if must_split(&site.plan, stamp, &line) {
         send_pieces(site, line.rec, out)?;
@@ -130,7 +139,8 @@ fn must_split(plan: &Plan, stamp: Stamp, line: &Line) -> bool
 
 /// Sends the mirror states of a visit's pieces but the first.
 fn send_pieces<'a>(site: &Site, rec: Rec, out: &mut Outbox<Msg<'a>>) -> Result<(), NoMemory>
-    ensures { OnOk result (out.new ≡ out.old ++ sent_pieces site.now.plan.params site.now.cub.0 rec) }
+    ensures { OnOk result (out.new ≡ out.old
+        ++ sent_pieces site.now.plan.params site.now.cub.0 rec) }
 {
     for k in 2..site.plan.params.pieces + 1 {
         let piece = PieceState {
@@ -147,7 +157,8 @@ fn send_pieces<'a>(site: &Site, rec: Rec, out: &mut Outbox<Msg<'a>>) -> Result<(
 fn send_ahead<'a>(site: &Site, piece: PieceState, out: &mut Outbox<Msg<'a>>) -> Result<(), NoMemory>
     requires low { 2 ≤ piece.piece }
     requires high { piece.piece ≤ site.now.plan.params.pieces }
-    ensures { OnOk result (out.new ≡ out.old ++ sent_ahead site.now.plan.params site.now.cub.0 piece ∷ []) }
+    ensures { OnOk result (out.new ≡ out.old
+        ++ sent_ahead site.now.plan.params site.now.cub.0 piece ∷ []) }
 {
     let steps = (piece.piece - 1) as u64;
     out.push(Out::Send(site.ahead(steps), Msg::MirrorState(piece)))?;

@@ -10,7 +10,7 @@ use partial_view::{CubView, Line};
 use slot_plan::Plan;
 use tiger_base::{Micros, SlotNo, Visit};
 
-/// The next line behind a slot and visit, or the first where none is given; `None` exactly where there is none.
+/// The next line behind a slot and visit, or the first if none is given. The answer is `None` exactly if there is none.
 pub(crate) fn after(view: &CubView, key: Option<(SlotNo, Visit)>) -> Option<Line>
     requires { ForSome key (IsKey view.now.params) }
     ensures next { result ≡ next_behind view.now.params key view.now.lines }
@@ -20,7 +20,8 @@ pub(crate) fn after(view: &CubView, key: Option<(SlotNo, Visit)>) -> Option<Line
     view.view().after(key)
 }
 
-/// The next line behind a slot and visit, whose own line stands at a place where the walk took no line out.
+/// The next line behind a slot and visit, found from a place: the line of that slot and visit stands there, unless the walk
+/// took lines out.
 pub(crate) fn after_near(view: &CubView, place: usize, key: (SlotNo, Visit)) -> Option<Line>
     requires { IsKey view.now.params key }
     ensures next { result ≡ next_behind view.now.params (Some key) view.now.lines }
@@ -30,7 +31,7 @@ pub(crate) fn after_near(view: &CubView, place: usize, key: (SlotNo, Visit)) -> 
     view.view().after_near(place, key)
 }
 
-/// That line, where it is due at a time or before it.
+/// The next line as `after` gives it, if it is due at a time or before it.
 pub(crate) fn after_by(
     plan: &Plan,
     view: &CubView,
@@ -39,7 +40,8 @@ pub(crate) fn after_by(
 ) -> Option<Line>
     requires plan { view.now.params ≡ plan.now.params }
     requires key { ForSome key (IsKey view.now.params) }
-    ensures next { result ≡ due_by plan.now.params time (next_behind view.now.params key view.now.lines) }
+    ensures next { result
+        ≡ due_by plan.now.params time (next_behind view.now.params key view.now.lines) }
     ensures key { IfSome result (λ line. IsKey view.now.params (key_of line)) }
     ensures walk { IsWalk view.now.params view.now.lines }
 {
@@ -51,8 +53,7 @@ pub(crate) fn after_by(
     }
 }
 
-/// The next line behind a slot and visit, whose own line stands at a place where the walk took no line out, where it is due at a
-/// time or before it.
+/// The next line as `after_near` gives it, if it is due at a time or before it.
 pub(crate) fn after_near_by(
     plan: &Plan,
     view: &CubView,
@@ -62,7 +63,8 @@ pub(crate) fn after_near_by(
 ) -> Option<Line>
     requires plan { view.now.params ≡ plan.now.params }
     requires key { IsKey view.now.params key }
-    ensures next { result ≡ due_by plan.now.params time (next_behind view.now.params (Some key) view.now.lines) }
+    ensures next { result
+        ≡ due_by plan.now.params time (next_behind view.now.params (Some key) view.now.lines) }
     ensures key { IfSome result (λ line. IsKey view.now.params (key_of line)) }
     ensures walk { IsWalk view.now.params view.now.lines }
 {

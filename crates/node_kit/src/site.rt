@@ -17,7 +17,7 @@ impl Site {
     ghost use Rattle.node_kit.specs.Ways.{way_ahead, way_to_controller, way_to_viewers, way_to_disk};
 
     /// The link to the cub that many steps after this one: from 1 to as many as a block has pieces,
-    /// and to 2 where it has one.
+    /// and to 2 if it has one.
     #[tactic(auto, unfolding(crate::specs::Ways::way_ahead))]
     pub fn ahead(&self, steps: u64) -> LinkNo
         requires low { 1 ≤ steps }
