@@ -23,12 +23,12 @@ use Rattle.node_kit.specs.Steps.{Deed, IsAllowed}
 use Rattle.partial_view.proofs.Order.{all_filter}
 use Rattle.slot_owner.specs.Free.{is_free}
 use Rattle.node_kit.specs.Deeds.{nothing, then_do, each_in_turn}
-use Rattle.node_kit.specs.Ways.{way_ahead}
+use Rattle.node_kit.specs.Ways.{way_ahead, predecessor}
 use Rattle.node_kit.proofs.Places.{nothing_right, chosen_right}
 use Rattle.node_kit.proofs.Ways.{ahead_leads, to_controller_leads}
 use Rattle.cub_rules.specs.declared.store.Store.{Store}
 use Rattle.cub_rules.specs.State.{IsStoreOf, IsAsk, IsRecordOf}
-use Rattle.cub_rules.specs.Records.{predecessor, took}
+use Rattle.cub_rules.specs.Records.{took}
 use Rattle.cub_rules.specs.Ticks.{tenancy_from, sending, putting, told_placed, putting_own, putting_for_dead, put_or_wait, free_on, putting_each, is_for, putting_on, inserting_own, inserting_for_dead, inserting, disks_at}
 use Rattle.cub_laws.proofs.Lists.{some_has}
 use Rattle.cub_laws.proofs.Numbers.{tenancy_from_parts, state_in_form, visit_small, visit_own, disks_own, predecessor_below, next_own}

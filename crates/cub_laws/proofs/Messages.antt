@@ -28,10 +28,10 @@ use Rattle.insert_queue.specs.Queues.{Queues, is_asked, with_waiting, with_redun
 use Rattle.deschedule.specs.Holds.{is_held}
 use Rattle.mirror_schedule.specs.Pieces.{is_of_visit}
 use Rattle.node_kit.specs.Deeds.{nothing, each_in_turn}
-use Rattle.node_kit.specs.Ways.{way_ahead}
+use Rattle.node_kit.specs.Ways.{way_ahead, predecessor}
 use Rattle.node_kit.proofs.Places.{nothing_right, chosen_right}
 use Rattle.cub_rules.specs.State.{IsStoreOf, IsAsk, is_ask, IsRecordOf, IsPartHere}
-use Rattle.cub_rules.specs.Records.{predecessor, took, dropping_start}
+use Rattle.cub_rules.specs.Records.{took, dropping_start}
 use Rattle.cub_rules.specs.Messages.{position_at, records_told, told, met, meeting_state, queueing, queueing_redundant, shows, meeting_start, meeting_piece, is_piece_part, meeting_kill, is_wanted, storing, meeting_answer, hearing_beat, hearing, taking, passing_from}
 use Rattle.cub_laws.proofs.Lists.{all_append, all_chosen}
 use Rattle.cub_laws.proofs.Stores.{IsRule, both_rules, each_rule, tested_rule, with_starts, with_parts}

@@ -12,7 +12,7 @@ use Rattle.slot_plan.specs.Times.{due, cub_of, disk_of, disk_count}
 use Rattle.slot_plan.proofs.Times.{product_le, due_first, cub_below, disk_below}
 use Rattle.mirror_pieces.specs.Pieces.{piece_disk}
 use Rattle.node_kit.specs.Form.{is_tenancy, is_place, is_piece}
-use Rattle.cub_rules.specs.Records.{predecessor}
+use Rattle.node_kit.specs.Ways.{predecessor}
 use Rattle.cub_rules.specs.Ticks.{disks_at}
 use Rattle.cub_laws.proofs.Lists.{all_map, all_range}
 

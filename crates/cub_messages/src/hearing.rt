@@ -2,9 +2,9 @@
 ghost use Rattle.std.specs.Prelude.{◌≡◌, ◌≤◌, ◌<◌, OnOk};
 ghost use Rattle.tiger_base.specs.Limits.{most_reading};
 ghost use Rattle.node_kit.specs.Deeds.{Did};
+ghost use Rattle.node_kit.specs.Ways.{predecessor};
 ghost use Rattle.cub_rules.specs.State.{IsStoreOf};
 ghost use Rattle.cub_rules.specs.Messages.{hearing_beat, taking};
-ghost use Rattle.cub_rules.specs.Records.{predecessor};
 ghost use Rattle.cub_messages.specs.Rules.{DidQuietly};
 
 use crate::answers::take_answer;
@@ -75,7 +75,7 @@ pub fn take_heartbeat(site: &Site, stamp: Stamp, link: LinkNo, store: &mut Store
 }
 
 /// The cub before a cub in the ring.
-#[tactic(auto, unfolding(cub_rules::specs::Records::predecessor))]
+#[tactic(auto, unfolding(node_kit::specs::Ways::predecessor))]
 fn predecessor(site: &Site) -> CubNo
     ensures number { result.0 ≡ predecessor site.now.plan.params site.now.cub.0 }
     ensures inside { result.0 < site.now.plan.params.cubs }

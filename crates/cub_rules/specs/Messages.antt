@@ -33,12 +33,12 @@ use Rattle.insert_queue.specs.Queues.{is_asked, with_waiting, with_redundant}
 use Rattle.deschedule.specs.Holds.{is_held, must_pass, with_hold, with_pass}
 use Rattle.mirror_schedule.specs.Pieces.{is_of_visit}
 use Rattle.mirror_schedule.specs.Splits as splits
-use Rattle.node_kit.specs.Ways.{way_ahead}
+use Rattle.node_kit.specs.Ways.{way_ahead, predecessor}
 use Rattle.node_kit.specs.Deeds.{nothing, then_do, each_in_turn}
 use Rattle.cub_rules.specs.declared.store.Store.{Store}
 use Rattle.cub_rules.specs.declared.store.StoredPart.{StoredPart}
 use Rattle.cub_rules.specs.State.{visit_here, is_ask}
-use Rattle.cub_rules.specs.Records.{predecessor, took, dropping_lines, dropping_start, dropping_pieces, same_want, pieces_but, with_piece_record}
+use Rattle.cub_rules.specs.Records.{took, dropping_lines, dropping_start, dropping_pieces, same_want, pieces_but, with_piece_record}
 
 -- Where a cub stands to a visit of a slot that a state or a tag names: at that visit if it is the visit's cub, at the
 -- next one if it is the next one's cub, and else nowhere.

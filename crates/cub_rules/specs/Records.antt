@@ -1,12 +1,11 @@
 -- What enters and leaves what a cub keeps: records, starts, piece records.
-use Rattle.std.specs.Prelude.{ℕ, ◌+◌, ◌-◌, ◌%◌, ◌==◌, ◌&&◌, List, [], ◌∷◌, Bool, not, is_some, filter, map, Option, find, option_map, if◌then◌else◌}
+use Rattle.std.specs.Prelude.{◌==◌, ◌&&◌, List, [], ◌∷◌, Bool, not, is_some, filter, map, Option, find, option_map, if◌then◌else◌}
 use Rattle.tiger_base.specs.declared.number.Instance.{Instance}
 use Rattle.tiger_base.specs.declared.tenancy.PieceState.{PieceState}
 use Rattle.tiger_base.specs.declared.tenancy.Rec.{Rec}
 use Rattle.tiger_base.specs.declared.tenancy.Want.{Want}
 use Rattle.tiger_base.specs.Span.{LibraryPart}
 use Rattle.tiger_base.specs.declared.message.Msg.{Msg}
-use Rattle.slot_plan.specs.declared.params.Params.{Params}
 use Rattle.node_kit.specs.declared.journal.What.TheVariants as what
 use Rattle.node_kit.specs.declared.outbox.Out.{Out}
 use Rattle.node_kit.specs.declared.outbox.Out.TheVariants as out
@@ -19,10 +18,6 @@ use Rattle.mirror_schedule.specs.Pieces as pieces
 use Rattle.node_kit.specs.Deeds.{nothing}
 use Rattle.cub_rules.specs.declared.store.Store.{Store}
 use Rattle.cub_rules.specs.declared.store.StoredPart.{StoredPart}
-
--- the cub before a cub in the ring
-unfoldable pub predecessor : Params → ℕ → ℕ
-predecessor p cub = (cub + (p.cubs - 1)) % p.cubs
 
 -- a view with a record, which is a new one if its slot and visit have none
 abbrev pub view_with : Rec → Seen → Seen

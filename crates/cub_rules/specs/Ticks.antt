@@ -32,11 +32,11 @@ use Rattle.deschedule.specs.Holds.{holds_at}
 use Rattle.deadman.specs.Silence.{is_silent}
 use Rattle.mirror_schedule.specs.Pieces.{pieces_of, leaving_of}
 use Rattle.mirror_schedule.specs.Splits.{Split, is_over, with_split}
-use Rattle.node_kit.specs.Ways.{way_ahead, way_to_controller, way_to_viewers, way_to_disk}
+use Rattle.node_kit.specs.Ways.{way_ahead, way_to_controller, way_to_viewers, way_to_disk, predecessor}
 use Rattle.node_kit.specs.Deeds.{nothing, then_do, each_in_turn}
 use Rattle.cub_rules.specs.declared.store.Store.{Store}
 use Rattle.cub_rules.specs.declared.store.StoredPart.{StoredPart}
-use Rattle.cub_rules.specs.Records.{predecessor, took, dropped, stored_for, pieces_but, with_piece_record}
+use Rattle.cub_rules.specs.Records.{took, dropped, stored_for, pieces_but, with_piece_record}
 
 -- whether the play time of a stored part's visit is over
 abbrev pub is_stale : Params → ℕ → StoredPart → Bool

@@ -4,10 +4,11 @@ ghost use Rattle.std.specs.List.{AllByRecursion};
 ghost use Rattle.tiger_base.specs.Limits.{most_reading};
 ghost use Rattle.tiger_base.specs.Records.{own_of};
 ghost use Rattle.node_kit.specs.Deeds.{Did, each_in_turn};
+ghost use Rattle.node_kit.specs.Ways.{predecessor};
 ghost use Rattle.partial_view.specs.Lines.{visit_of};
 ghost use Rattle.slot_plan.specs.Keys.{IsKey};
 ghost use Rattle.cub_rules.specs.State.{IsStoreOf, IsAsk};
-ghost use Rattle.cub_rules.specs.Records.{took, predecessor};
+ghost use Rattle.cub_rules.specs.Records.{took};
 ghost use Rattle.cub_rules.specs.Ticks.{inserting, free_on, putting_on, disks_at, putting, putting_own, putting_for_dead, tenancy_from, told_placed};
 ghost use Rattle.cub_steps.specs.Placing.{putting_by};
 

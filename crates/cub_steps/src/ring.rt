@@ -1,12 +1,12 @@
 //! The cub before a cub in the ring.
 ghost use Rattle.std.specs.Prelude.{◌≡◌, ◌<◌};
-ghost use Rattle.cub_rules.specs.Records.{predecessor};
+ghost use Rattle.node_kit.specs.Ways.{predecessor};
 
 use node_kit::Site;
 use tiger_base::CubNo;
 
 /// The cub before this one.
-#[tactic(auto, unfolding(cub_rules::specs::Records::predecessor))]
+#[tactic(auto, unfolding(node_kit::specs::Ways::predecessor))]
 pub(crate) fn predecessor(site: &Site) -> CubNo
     ensures number { result.0 ≡ predecessor site.now.plan.params site.now.cub.0 }
     ensures inside { result.0 < site.now.plan.params.cubs }

@@ -22,9 +22,8 @@ use Rattle.node_kit.specs.Links.{links_of, ends_of}
 use Rattle.node_kit.specs.Steps.{Deed, Input, IsAllowed, stamp_of}
 use Rattle.node_kit.specs.Steps.Input.{Take, Tick}
 use Rattle.node_kit.proofs.Ring.{ends_between}
-use Rattle.node_kit.specs.Ways.{way_ahead}
+use Rattle.node_kit.specs.Ways.{way_ahead, predecessor}
 use Rattle.node_kit.proofs.Ways.{links_sound}
-use Rattle.cub_rules.specs.Records.{predecessor}
 use Rattle.run_facts.specs.Events.{NodeEvent, Dated, stamp_at, is_tick, is_death, is_take_on, sends_of}
 use Rattle.run_facts.specs.Events.NodeEvent.{Does, Dies}
 use Rattle.run_facts.specs.Histories.{History, IsRun, outs, beat, reading, ticks, takes, count_of, sent}

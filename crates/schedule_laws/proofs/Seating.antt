@@ -22,8 +22,9 @@ use Rattle.slot_owner.specs.Free.{is_free}
 use Rattle.insert_queue.specs.Queues.{Queues, is_of, has_start, without, without_start, IsOnce}
 use Rattle.insert_queue.proofs.Once.{IsOnce-without, has_start-gone}
 use Rattle.node_kit.specs.Deeds.{nothing, each_in_turn}
+use Rattle.node_kit.specs.Ways.{predecessor}
 use Rattle.cub_rules.specs.declared.store.Store.{Store}
-use Rattle.cub_rules.specs.Records.{predecessor, took}
+use Rattle.cub_rules.specs.Records.{took}
 use Rattle.cub_rules.specs.Ticks.{tenancy_from, putting, told_placed, putting_own, putting_for_dead, put_or_wait, free_on, putting_each, is_for, putting_on, disks_at, inserting_own, inserting_for_dead, inserting}
 use Rattle.schedule_laws.specs.Lives.{In}
 use Rattle.schedule_laws.proofs.Members.{chosen, in_left, in_right, in_cases, in_filter, from_filter, all_in}

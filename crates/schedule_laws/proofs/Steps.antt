@@ -27,11 +27,11 @@ use Rattle.insert_queue.specs.Queues.{after_take_over}
 use Rattle.deadman.specs.Silence.{is_silent}
 use Rattle.mirror_schedule.specs.Pieces as pieces
 use Rattle.mirror_schedule.specs.Pieces.{pieces_of}
-use Rattle.node_kit.specs.Ways.{way_ahead}
+use Rattle.node_kit.specs.Ways.{way_ahead, predecessor}
 use Rattle.node_kit.specs.Deeds.{nothing, then_do}
 use Rattle.cub_rules.specs.declared.store.Store.{Store}
 use Rattle.cub_rules.specs.declared.store.StoredPart.{StoredPart}
-use Rattle.cub_rules.specs.Records.{predecessor, dropped, stored_for, with_piece_record}
+use Rattle.cub_rules.specs.Records.{dropped, stored_for, with_piece_record}
 use Rattle.cub_rules.specs.Ticks.{number, releasing, queued, believing, must_split, sent_ahead, split_outs, first_pieces, split_line, with_each, with_split_lines, splitting, is_to_forward, next_state, forward_outs, forward_line, forwarding, must_read, ask_outs, ask_line, reading_blocks, leaves_by, asked_of_disk, reading_pieces, reading, is_served, is_past, sent_whole, serve_outs, serving_blocks, dropping_backups, sent_piece, piece_outs, serving_pieces, serving, beating}
 use Rattle.schedule_laws.specs.Lives.{In}
 use Rattle.schedule_laws.proofs.Members.{chosen, from_map, in_flat_map, from_flat_map}

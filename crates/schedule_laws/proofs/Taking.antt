@@ -34,11 +34,11 @@ use Rattle.deschedule.specs.Holds as holds
 use Rattle.deschedule.specs.Holds.{is_held, must_pass}
 use Rattle.mirror_schedule.specs.Splits as splits
 use Rattle.mirror_schedule.specs.Pieces as pieces
-use Rattle.node_kit.specs.Ways.{way_ahead}
+use Rattle.node_kit.specs.Ways.{way_ahead, predecessor}
 use Rattle.node_kit.specs.Deeds.{nothing, then_do, each_in_turn}
 use Rattle.cub_rules.specs.declared.store.Store.{Store}
 use Rattle.cub_rules.specs.State.{is_ask}
-use Rattle.cub_rules.specs.Records.{predecessor, view_with, took, dropped, dropping_lines, dropping_start, dropping_pieces, with_piece_record}
+use Rattle.cub_rules.specs.Records.{view_with, took, dropped, dropping_lines, dropping_start, dropping_pieces, with_piece_record}
 use Rattle.cub_rules.specs.Messages.{position_at, is_reached, passed_on, passing_on, passing_from, records_told, told, met, meeting_state, queueing, queueing_redundant, shows, meeting_start, position, holding, passing, kills, killing_splits, dropping_all, descheduling, meeting_piece, meeting_kill, is_wanted, storing, meeting_answer, hearing_beat, hearing, taking}
 use Rattle.schedule_laws.specs.Lives.{In}
 use Rattle.schedule_laws.proofs.Members.{chosen, all_in}

@@ -22,8 +22,9 @@ use Rattle.node_kit.specs.Steps.{Deed}
 use Rattle.partial_view.specs.declared.line.Line.{Line}
 use Rattle.insert_queue.specs.Queues as queues
 use Rattle.node_kit.specs.Deeds.{nothing, then_do, each_in_turn}
+use Rattle.node_kit.specs.Ways.{predecessor}
 use Rattle.cub_rules.specs.declared.store.Store.{Store}
-use Rattle.cub_rules.specs.Records.{predecessor, took}
+use Rattle.cub_rules.specs.Records.{took}
 use Rattle.cub_rules.specs.Ticks.{tenancy_from, sending, putting, told_placed, putting_for_dead, putting_on, inserting_own, inserting_for_dead, inserting, disks_at}
 use Rattle.schedule_proof.specs.Facts.{IsGiven}
 use Rattle.cub_laws.proofs.Numbers.{visit_own, next_own, disks_own, predecessor_below}

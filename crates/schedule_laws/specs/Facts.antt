@@ -15,9 +15,8 @@ use Rattle.node_kit.specs.declared.outbox.Out.{Out}
 use Rattle.node_kit.specs.declared.outbox.Out.TheVariants as out
 use Rattle.node_kit.specs.Steps.Input.{Take, Tick}
 use Rattle.deadman.specs.Silence.{is_silent}
-use Rattle.node_kit.specs.Ways.{way_ahead}
+use Rattle.node_kit.specs.Ways.{way_ahead, predecessor}
 use Rattle.cub_rules.specs.State.{IsAsk}
-use Rattle.cub_rules.specs.Records.{predecessor}
 use Rattle.schedule_proof.specs.Facts.{Facts}
 use Rattle.schedule_laws.specs.Lives.{In, Lives, store_at, outs_at, is_tick_input, beat_at}
 

@@ -19,8 +19,8 @@ use Rattle.node_kit.specs.Steps.{Deed, Input}
 use Rattle.node_kit.specs.Steps.Input.{Take, Tick}
 use Rattle.deadman.specs.Silence.{Silence, is_silent}
 use Rattle.node_kit.specs.Deeds.{nothing}
+use Rattle.node_kit.specs.Ways.{predecessor}
 use Rattle.cub_rules.specs.declared.store.Store.{Store}
-use Rattle.cub_rules.specs.Records.{predecessor}
 use Rattle.cub_rules.specs.Messages.{taking}
 use Rattle.cub_rules.specs.Ticks.{releasing, believing}
 use Rattle.cub_laws.proofs.Numbers.{predecessor_below, next_own}

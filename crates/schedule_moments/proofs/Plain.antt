@@ -25,7 +25,7 @@ use Rattle.viewer_state.specs.States.{is_visit_of}
 use Rattle.insert_queue.specs.Queues.{is_asked, has_start}
 use Rattle.deschedule.specs.Holds.{is_held, must_pass}
 use Rattle.mirror_schedule.specs.Pieces.{pieces_of}
-use Rattle.node_kit.specs.Ways.{way_ahead, way_to_disk}
+use Rattle.node_kit.specs.Ways.{way_ahead, way_to_disk, predecessor}
 use Rattle.schedule_laws.proofs.Moves.{is_taken, taken_out}
 use Rattle.schedule_laws.proofs.Inserting.{state_out}
 use Rattle.node_kit.specs.declared.journal.What.TheVariants as what
@@ -39,7 +39,7 @@ use Rattle.node_kit.specs.Deeds.{nothing, each_in_turn}
 use Rattle.cub_rules.specs.declared.store.Store.{Store}
 use Rattle.cub_rules.specs.declared.store.StoredPart.{StoredPart}
 use Rattle.cub_rules.specs.State.{is_ask}
-use Rattle.cub_rules.specs.Records.{predecessor, view_with, with_piece_record, took, dropped, dropping_lines, dropping_start, dropping_pieces, stored_for}
+use Rattle.cub_rules.specs.Records.{view_with, with_piece_record, took, dropped, dropping_lines, dropping_start, dropping_pieces, stored_for}
 use Rattle.cub_rules.specs.Messages.{is_reached, passed_on, queueing_redundant, shows, is_wanted, passing_on, passing_from, records_told, told, met, meeting_state, queueing, meeting_start, position, holding, passing, kills, killing_splits, dropping_all, descheduling, meeting_piece, meeting_kill, storing, meeting_answer, hearing_beat, hearing, taking, position_at}
 use Rattle.cub_rules.specs.Ticks.{releasing, believing, tenancy_from, putting_own, putting_for_dead, put_or_wait, free_on, putting_each, is_for, putting_on, disks_at, inserting_own, inserting_for_dead, inserting, must_split, sent_ahead, first_pieces, with_each, with_split_lines, split_outs, splitting, is_to_forward, next_state, forward_outs, must_read, asked_of_disk, leaves_by, is_served, is_past, putting, told_placed, forwarding, ask_outs, reading_blocks, reading_pieces, reading, sent_whole, serve_outs, serving_blocks, dropping_backups, sent_piece, piece_outs, serving_pieces, serving, beating, ticking}
 use Rattle.run_facts.proofs.Rows.{all-append}

@@ -31,11 +31,11 @@ use Rattle.insert_queue.specs.Queues.{is_asked, has_start}
 use Rattle.deschedule.specs.Holds.{is_held, must_pass}
 use Rattle.mirror_schedule.specs.Pieces as pieces
 use Rattle.mirror_schedule.specs.Splits as splits
-use Rattle.node_kit.specs.Ways.{way_ahead}
+use Rattle.node_kit.specs.Ways.{way_ahead, predecessor}
 use Rattle.node_kit.specs.Deeds.{nothing, then_do, each_in_turn}
 use Rattle.cub_rules.specs.declared.store.Store.{Store}
 use Rattle.cub_rules.specs.State.{is_ask}
-use Rattle.cub_rules.specs.Records.{predecessor, took, dropped, dropping_lines, dropping_start, dropping_pieces, with_piece_record}
+use Rattle.cub_rules.specs.Records.{took, dropped, dropping_lines, dropping_start, dropping_pieces, with_piece_record}
 use Rattle.cub_rules.specs.Messages.{position_at, is_reached, passed_on, passing_on, passing_from, records_told, told, met, meeting_state, queueing, queueing_redundant, shows, meeting_start, position, holding, passing, kills, killing_splits, dropping_all, descheduling, meeting_piece, meeting_kill, is_wanted, storing, meeting_answer, hearing_beat, hearing, taking}
 use Rattle.run_model.specs.Parts.{IsForCub}
 use Rattle.schedule_laws.specs.Lives.{In}

@@ -18,8 +18,9 @@ use Rattle.node_kit.specs.Steps.{Deed}
 use Rattle.partial_view.specs.declared.line.Line.{Line}
 use Rattle.partial_view.specs.Lines.{unmarked}
 use Rattle.node_kit.specs.Deeds.{nothing, then_do, each_in_turn}
+use Rattle.node_kit.specs.Ways.{predecessor}
 use Rattle.cub_rules.specs.declared.store.Store.{Store}
-use Rattle.cub_rules.specs.Records.{predecessor, took}
+use Rattle.cub_rules.specs.Records.{took}
 use Rattle.cub_rules.specs.Ticks.{tenancy_from, sending, putting, told_placed, putting_own, putting_for_dead, put_or_wait, free_on, putting_each, is_for, putting_on, disks_at, inserting_own, inserting_for_dead, inserting}
 use Rattle.cub_laws.proofs.Numbers.{visit_own, next_own, disks_own, predecessor_below}
 use Rattle.run_model.specs.Parts.{IsAtOrBefore, IsOwnRecordFor}

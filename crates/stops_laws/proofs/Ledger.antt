@@ -24,11 +24,11 @@ use Rattle.insert_queue.specs.Queues.{after_take_over}
 use Rattle.deschedule.specs.Holds.{is_held, holds_at}
 use Rattle.deadman.specs.Silence.{is_silent}
 use Rattle.mirror_schedule.specs.Pieces as pieces
-use Rattle.node_kit.specs.Ways.{way_ahead}
+use Rattle.node_kit.specs.Ways.{way_ahead, predecessor}
 use Rattle.node_kit.specs.Deeds.{nothing, then_do, each_in_turn}
 use Rattle.cub_rules.specs.declared.store.Store.{Store}
 use Rattle.cub_rules.specs.State.{is_ask}
-use Rattle.cub_rules.specs.Records.{predecessor, view_with, took, dropping_lines, dropping_start, dropping_pieces, with_piece_record}
+use Rattle.cub_rules.specs.Records.{view_with, took, dropping_lines, dropping_start, dropping_pieces, with_piece_record}
 use Rattle.cub_rules.specs.Messages.{records_told, told, queueing, queueing_redundant, shows, meeting_start, killing_splits, dropping_all, meeting_piece, meeting_kill, is_wanted, storing, meeting_answer, hearing_beat}
 use Rattle.cub_rules.specs.Ticks.{releasing, number, queued, believing, tenancy_from, putting, putting_own, putting_for_dead, put_or_wait, free_on, putting_each, is_for, putting_on, disks_at, inserting_own, inserting_for_dead, inserting, with_each, first_pieces, split_outs, with_split_lines, splitting, forwarding, reading_blocks, reading_pieces, reading, serving_blocks, dropping_backups, serving_pieces, serving, beating, ticking}
 use Rattle.schedule_laws.proofs.Members.{chosen}

@@ -18,8 +18,9 @@ use Rattle.node_kit.specs.Steps.{Deed, Input, what_of}
 use Rattle.node_kit.specs.Steps.Input.{Take, Tick}
 use Rattle.insert_queue.specs.Queues.{IsOnce}
 use Rattle.node_kit.specs.Deeds.{nothing, each_in_turn}
+use Rattle.node_kit.specs.Ways.{predecessor}
 use Rattle.cub_rules.specs.declared.store.Store.{Store}
-use Rattle.cub_rules.specs.Records.{predecessor, took}
+use Rattle.cub_rules.specs.Records.{took}
 use Rattle.cub_rules.specs.Messages.{taking}
 use Rattle.cub_rules.specs.Ticks.{tenancy_from, putting, told_placed, putting_own, putting_for_dead, put_or_wait, free_on, putting_each, is_for, putting_on, disks_at, inserting_own, inserting_for_dead, inserting, releasing, believing, splitting, forwarding, reading, serving, ticking}
 use Rattle.run_model.specs.Moments.{is_put_of}

@@ -36,12 +36,12 @@ use Rattle.deadman.specs.Silence.{is_silent}
 use Rattle.mirror_schedule.specs.Pieces.{pieces_of}
 use Rattle.mirror_schedule.specs.Splits as splits
 use Rattle.node_kit.specs.Deeds.{nothing, then_do, each_in_turn}
-use Rattle.node_kit.specs.Ways.{way_ahead, way_to_disk}
+use Rattle.node_kit.specs.Ways.{way_ahead, way_to_disk, predecessor}
 use Rattle.run_facts.proofs.Rows.{all-append, all-map, all-given}
 use Rattle.cub_rules.specs.declared.store.Store.{Store}
 use Rattle.cub_rules.specs.declared.store.StoredPart.{StoredPart}
 use Rattle.cub_rules.specs.State.{CubState, is_ask}
-use Rattle.cub_rules.specs.Records.{predecessor, took, dropped, dropping_lines, dropping_start, dropping_pieces, stored_for}
+use Rattle.cub_rules.specs.Records.{took, dropped, dropping_lines, dropping_start, dropping_pieces, stored_for}
 use Rattle.cub_rules.specs.Messages.{passed_on, is_reached, passing_on, passing_from, records_told, told, met, position_at, meeting_state, queueing, queueing_redundant, shows, meeting_start, holding, passing, position, kills, killing_splits, dropping_all, descheduling, meeting_piece, meeting_kill, is_wanted, storing, meeting_answer, hearing_beat, hearing, taking}
 use Rattle.cub_rules.specs.Ticks.{releasing, queued, believing, disks_at, sending, putting, putting_own, putting_for_dead, put_or_wait, tenancy_from, free_on, putting_each, is_for, putting_on, inserting_own, inserting_for_dead, inserting, must_split, sent_ahead, split_outs, splitting, is_to_forward, next_state, forward_outs, forwarding, must_read, ask_outs, reading_blocks, leaves_by, asked_of_disk, reading_pieces, reading, is_served, sent_whole, serve_outs, serving_blocks, is_past, dropping_backups, sent_piece, piece_outs, serving_pieces, serving, beating, ticking}
 use Rattle.cub_rules.specs.Cubs.{cub_step}
