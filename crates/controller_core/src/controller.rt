@@ -1,12 +1,15 @@
 //! The node of the controller.
 ghost use Rattle.std.specs.Prelude.{◌≡◌, [], ◌≤◌, OnOk};
+ghost use Rattle.std.specs.Bool.{OnTrue};
 ghost use Rattle.tiger_base.specs.Limits.{most_reading};
 ghost use Rattle.node_kit.specs.Deeds.{Did, nothing};
+ghost use Rattle.node_kit.specs.Steps.{Rests};
 ghost use Rattle.controller_core.specs.Orders.{AreOrders};
 ghost use Rattle.controller_core.specs.State.{tenancy_of};
 ghost use Rattle.controller_core.specs.Rules.{on_controller, commanding, taking};
 
 use crate::known::Known;
+use crate::orders::orders_in;
 use node_kit::{Node, Order, Outbox};
 use slot_plan::Plan;
 use std::alloc::Global;
@@ -82,6 +85,13 @@ impl<'a> Node<Msg<'a>> for Controller {
     ghost step = { controller_step };
 
     ghost stands_at = { IsController };
+
+    #[tactic(auto, unfolding(crate::specs::Rules::commanding))]
+    fn rests(&self, stamp: Stamp) -> bool
+        ensures { OnTrue result (Rests controller_step stamp self.now) }
+    {
+        orders_in(self.orders.as_slice(), stamp.beat).is_empty()
+    }
 
     fn take(
         &mut self,

@@ -105,6 +105,10 @@ impl<'a> Node<Msg<'a>> for Cub<'a> {
 
     ghost stands_at = { IsCub };
 
+    fn rests(&self, _stamp: Stamp) -> bool {
+        false
+    }
+
     fn take(
         &mut self,
         stamp: Stamp,

@@ -117,6 +117,10 @@ impl<'a, G: Gate> Node<Msg<'a>> for DiskNode<'a, G> {
 
     ghost stands_at = { IsDisk };
 
+    fn rests(&self, _stamp: Stamp) -> bool {
+        true
+    }
+
     fn take(
         &mut self,
         stamp: Stamp,

@@ -1,6 +1,7 @@
 -- What a run is given: its ranges, and what the clock of each node shows.
 use Rattle.std.specs.Prelude.{◌≡◌, ℕ, ◌+◌, ◌-◌, ◌*◌, ◌%◌, ◌≤◌, ◌==◌, length, All, nat_lt, slice_index, if◌then◌else◌}
 use Rattle.tiger_base.specs.Limits.{most_beats}
+use Rattle.tiger_base.specs.declared.number.Stamp.{Stamp}
 use Rattle.link_timing.specs.Clock.{FixedIsWithin}
 use Rattle.node_kit.specs.declared.course.Course.{Course}
 
@@ -25,3 +26,20 @@ offset_of c n =
 -- what the clock of node n shows in a beat
 abbrev pub reading_of : Course → ℕ → ℕ → ℕ
 reading_of c n beat = beat * c.plan.params.beat + offset_of c n
+
+-- the stamp of node n's events in a beat
+abbrev pub stamp_in : Course → ℕ → ℕ → Stamp
+stamp_in c n beat = record { beat = beat; reading = reading_of c n beat }
+
+-- how a clock is set: how much it gains in a beat, and how far it is ahead
+pub record Setting : Type 0 where
+  pub step : ℕ
+  pub offset : ℕ
+
+-- how the clock of node n is set
+abbrev pub setting_of : Course → ℕ → Setting
+setting_of c n = record { step = c.plan.params.beat; offset = offset_of c n }
+
+-- the stamp of a beat by a clock that is set so
+abbrev pub stamp_by : Setting → ℕ → Stamp
+stamp_by k beat = record { beat = beat; reading = beat * k.step + k.offset }

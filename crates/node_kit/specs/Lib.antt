@@ -4,5 +4,6 @@ pub mod Form
 pub mod Life
 pub mod Links
 pub mod Outputs
+pub mod Rows
 pub mod Steps
 pub mod Ways

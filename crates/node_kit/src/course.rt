@@ -1,13 +1,10 @@
 //! What a run is given, and what is kept of it.
-ghost use Rattle.std.specs.Prelude.{◌≡◌, ◌≤◌};
-ghost use Rattle.tiger_base.specs.Limits.{most_beats, most_reading};
-ghost use Rattle.node_kit.specs.Courses.{IsCourse, offset_of, reading_of};
 
 use crate::journal::Journal;
 use link_timing::Delay;
 use slot_plan::Plan;
 use stripe_layout::Catalogue;
-use tiger_base::{Ask, Beat, DiskNo, Instance, Micros, NodeNo, Sequence, Stamp};
+use tiger_base::{Ask, Beat, DiskNo, Instance, Micros, Sequence};
 
 /// What the controller is to do.
 #[derive(Clone, Copy, Debug, PartialEq, Eq)]
@@ -47,41 +44,6 @@ pub struct Course {
     pub delay: Delay,
 }
 
-impl Course {
-    /// The stamp of a node's events in a beat: the beat, and what the node's clock shows then. It
-    /// takes no memory.
-    pub fn stamp(&self, node: NodeNo, beat: Beat) -> Stamp
-        requires course { IsCourse self.now }
-        requires early { beat ≤ most_beats }
-        ensures stamp { result ≡ record { beat = beat; reading = reading_of self.now node.0 beat } }
-        ensures low { result.reading ≤ most_reading }
-    {
-        Stamp {
-            beat,
-            reading: beat * self.plan.params.beat + self.offset(node),
-        }
-    }
-
-    fn offset(&self, node: NodeNo) -> Micros
-        requires { IsCourse self.now }
-        ensures offset { result ≡ offset_of self.now node.0 }
-        ensures skewed { result ≤ self.now.plan.params.skew }
-    {
-        let cubs = self.plan.params.cubs as usize;
-        let all = cubs + cubs * self.plan.params.disks as usize;
-        let n = node.0 as usize;
-        if n < cubs {
-            self.offsets.items[n]
-        } else if n < all {
-            self.offsets.items[(n - cubs) % cubs]
-        } else if n == all {
-            self.offsets.items[cubs]
-        } else {
-            0
-        }
-    }
-}
-
 /// The SHA-256 of some bytes.
 #[derive(Clone, Copy, Debug, PartialEq, Eq)]
 pub struct Digest32(pub [u8; 32]);
@@ -94,4 +56,11 @@ pub struct Kept {
     pub orders: Sequence<Order>,
     pub journals: Sequence<Journal>,
     pub digests: Sequence<Digest32>,
+}
+
+/// What a run gives: a journal for each node, and the nodes as they are at its end.
+#[derive(Drop)]
+pub struct Ran<T> {
+    pub journals: Sequence<Journal>,
+    pub nodes: Vec<T>,
 }

@@ -3,6 +3,7 @@
 #![tactic(auto)]
 
 mod course;
+mod dial;
 mod form;
 mod gate;
 mod journal;
@@ -12,7 +13,8 @@ mod node;
 mod outbox;
 mod site;
 
-pub use course::{Course, Digest32, Kept, Order, OrderKind, ReadFault};
+pub use course::{Course, Digest32, Kept, Order, OrderKind, Ran, ReadFault};
+pub use dial::Dial;
 pub use form::in_form;
 pub use gate::{Gate, OpenGate};
 pub use journal::{Entry, Journal, What};

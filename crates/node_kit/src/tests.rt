@@ -227,6 +227,10 @@ impl<M: Message> Node<M> for Echo {
 
     ghost stands_at = { λ s p n. ⊤ };
 
+    fn rests(&self, _stamp: Stamp) -> bool {
+        false
+    }
+
     fn take(
         &mut self,
         _stamp: Stamp,

@@ -11,7 +11,7 @@ use Rattle.slot_plan.specs.Times.{time_of}
 use Rattle.link_timing.specs.Clock.{new_clock}
 use Rattle.node_kit.specs.declared.course.Course.{Course}
 use Rattle.node_kit.specs.declared.journal.Entry.{Entry}
-use Rattle.node_kit.specs.Courses.{IsCourse, offset_of, reading_of}
+use Rattle.node_kit.specs.Courses.{IsCourse, offset_of, reading_of, stamp_in}
 use Rattle.node_kit.specs.Life.{lifetime_of}
 use Rattle.node_kit.specs.Links.{links_of, ends_of}
 use Rattle.node_kit.specs.Steps.{Input, Deed}
@@ -26,9 +26,9 @@ use Rattle.run_facts.proofs.Timelines.{IsTimeline}
 use Rattle.run_facts.proofs.Journals.{IsClockOf, stamped-written, placed-written, timed-written, linked-written}
 use Rattle.run_facts.proofs.Noting.{paced-noted, carried-noted}
 use Rattle.ring_engine.specs.Traffic.{Traffic}
-use Rattle.ring_engine.specs.Runs.{stamp_in, opening_of}
+use Rattle.ring_engine.specs.Runs.{opening_of}
 use Rattle.ring_engine.specs.Places.{Ring}
-use Rattle.ring_engine.proofs.Below.{get-below}
+use Rattle.node_kit.proofs.Rows.{get-below}
 use Rattle.ring_engine.proofs.Running.{same-element}
 use Rattle.ring_engine.proofs.Channels.{pass}
 use Rattle.ring_engine.proofs.Progressing.{next-none, Progress}

@@ -16,7 +16,7 @@ use Rattle.link_timing.specs.Clock.{Clock, arrival_at}
 use Rattle.node_kit.specs.declared.outbox.Out.{Out}
 use Rattle.node_kit.specs.declared.outbox.Out.TheVariants as out
 use Rattle.node_kit.specs.Life.{Lifetime, acts, dies, hears}
-use Rattle.node_kit.specs.Links.{Links, ends_of, IsInLink}
+use Rattle.node_kit.specs.Links.{Links, ends_of, IsInLink, leads_to, links_into}
 use Rattle.node_kit.specs.Steps.{Input, Deed}
 use Rattle.node_kit.specs.Steps.Input.{Take}
 use Rattle.run_facts.specs.Events.{NodeEvent, Past, Dated, after, after_all, outs_of, stamp_at, sends_of, sends_along, takes_along}
@@ -30,7 +30,6 @@ use Rattle.run_facts.proofs.Links.{is_caught, arriving, waiting, OnLink, link-se
 use Rattle.run_facts.proofs.Timelines.{IsInTurn, AreInTurn, IsTakeAt}
 use Rattle.ring_engine.specs.declared.mail.Flight.{Flight}
 use Rattle.ring_engine.specs.declared.mail.Letter.{Letter}
-use Rattle.ring_engine.specs.Places.{leads_to, links_into}
 use Rattle.ring_engine.specs.Traffic.{Traffic, changed_at, after_sending, after_arrivals, arrived, under_way, flights_at, sent_on, letters_on, emptied, collected, after_collecting, posted}
 use Rattle.ring_engine.specs.Turns.{Scene, happens, happen, is_taken, letter_events, end_events, beat_events}
 

@@ -1,6 +1,5 @@
 pub mod Accounts
 pub mod Arriving
-pub mod Below
 pub mod Channels
 pub mod Delivering
 pub mod Happening

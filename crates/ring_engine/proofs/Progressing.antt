@@ -13,9 +13,9 @@ use Rattle.link_timing.specs.Clock.{Clock, new_clock}
 use Rattle.link_timing.proofs.Arrivals.{IsClock-new_clock}
 use Rattle.node_kit.specs.declared.course.Course.{Course}
 use Rattle.node_kit.specs.declared.journal.Entry.{Entry}
-use Rattle.node_kit.specs.Courses.{IsCourse}
+use Rattle.node_kit.specs.Courses.{IsCourse, stamp_in}
 use Rattle.node_kit.specs.Life.{Lifetime, lifetime_of, acts, dies}
-use Rattle.node_kit.specs.Links.{links_of, ends_of, link_count, IsInLink}
+use Rattle.node_kit.specs.Links.{links_of, ends_of, link_count, IsInLink, in_links_of}
 use Rattle.node_kit.specs.Steps.{Input, Deed}
 use Rattle.node_kit.specs.Steps.Input.{Take, Tick}
 use Rattle.node_kit.proofs.Ring.{ends_counted}
@@ -29,10 +29,10 @@ use Rattle.run_facts.proofs.Timelines.{IsTakeAt, AreInTurn, IsTimeline, timeline
 use Rattle.ring_engine.specs.declared.mail.Letter.{Letter}
 use Rattle.ring_engine.specs.Traffic.{Traffic, after_arrivals, collected, after_collecting}
 use Rattle.ring_engine.specs.Turns.{Scene, letter_events, end_events, beat_events, turn}
-use Rattle.ring_engine.specs.Runs.{stamp_in, opening_of}
-use Rattle.ring_engine.specs.Places.{new_channel, in_links_of, Ring, IsAt}
+use Rattle.ring_engine.specs.Runs.{opening_of}
+use Rattle.ring_engine.specs.Places.{new_channel, Ring, IsAt}
 use Rattle.ring_engine.specs.Whole.{opening_ring, with_node, brought_to, HasTurn, HaveTurns, HavePassed, IsWholeRun}
-use Rattle.ring_engine.proofs.Below.{get-each_below, length-each_below, links_into-lead}
+use Rattle.node_kit.proofs.Rows.{get-each_below, length-each_below, links_into-lead}
 use Rattle.ring_engine.proofs.Happening.{end-acting, end-dying, end-idle}
 use Rattle.ring_engine.proofs.Running.{get-set_same, length-set_at, same-element, elsewhere, turn-past}
 use Rattle.ring_engine.proofs.Channels.{sent_all, happen-at, pass, sends-on, has_link, emptied-at, under_way-waiting, bring, on_link, collected-at, has-into, into-rises, collected-link, collected-rises, events-takes, events-in_turn, events-idle, beat-takes}

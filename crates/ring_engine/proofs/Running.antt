@@ -11,16 +11,18 @@ use Rattle.slot_plan.specs.declared.params.Params.{Params}
 use Rattle.node_kit.specs.declared.course.Course.{Course}
 use Rattle.node_kit.specs.declared.journal.Entry.{Entry}
 use Rattle.node_kit.specs.Life.{Lifetime, lifetime_of}
-use Rattle.node_kit.specs.Links.{links_of, link_count, IsInLink}
+use Rattle.node_kit.specs.Links.{links_of, link_count, IsInLink, in_links_of}
 use Rattle.node_kit.specs.Steps.{Input, Deed}
 use Rattle.ring_engine.specs.declared.mail.Letter.{Letter}
 use Rattle.ring_engine.specs.Traffic.{Traffic, collected, after_collecting, AreOpen}
 use Rattle.run_facts.specs.Events.{NodeEvent, Past, after_all, AreFair}
 use Rattle.ring_engine.specs.Turns.{Scene, scene, happens, happen, beat_events, turn, IsReady, IsReadyFor, KeepsReady}
-use Rattle.ring_engine.specs.Runs.{stamp_in, opening_of, after_beat, after_beats, HasRun, HasEnded}
-use Rattle.ring_engine.specs.Places.{each_below, new_channel, in_links_of, AllStand, Ring, IsSound, IsAt, HasLived, AllHaveLived, AreInLinks}
+use Rattle.ring_engine.specs.Runs.{opening_of, after_beat, after_beats, HasRun, HasEnded}
+use Rattle.node_kit.specs.Courses.{stamp_in}
+use Rattle.ring_engine.specs.Places.{new_channel, Ring, IsSound, IsAt, HasLived, AllHaveLived, AreInLinks}
+use Rattle.node_kit.specs.Rows.{each_below, AllStand}
 use Rattle.ring_engine.specs.Whole.{opening_ring, with_node, brought_to, HaveTurns, HavePassed, IsWholeRun}
-use Rattle.ring_engine.proofs.Below.{length-each_below, get-each_below, get-below, links_into-lead}
+use Rattle.node_kit.proofs.Rows.{length-each_below, get-each_below, get-below, links_into-lead}
 
 pub get-set_same : {A : Type 0} (xs : List A) (n : ℕ) (x y : A) → slice_get xs n ≡ Some y → slice_get (slice_set xs n x) n ≡ Some x
 get-set_same [] n x y e = absurd (none-some y e)

@@ -9,7 +9,7 @@ use Rattle.slot_plan.specs.Conditions.{IsPlan}
 use Rattle.link_timing.specs.Clock.{new_clock}
 use Rattle.node_kit.specs.declared.course.Course.{Course}
 use Rattle.node_kit.specs.declared.journal.Entry.{Entry}
-use Rattle.node_kit.specs.Courses.{IsCourse}
+use Rattle.node_kit.specs.Courses.{IsCourse, stamp_in}
 use Rattle.node_kit.specs.Life.{lifetime_of}
 use Rattle.node_kit.specs.Links.{IsLinks, links_of, viewers_of}
 use Rattle.node_kit.specs.Steps.{Input, Deed}
@@ -21,10 +21,9 @@ use Rattle.run_facts.specs.Paced.{ArePaced}
 use Rattle.run_facts.specs.Timed.{AreTimed}
 use Rattle.run_facts.proofs.Indexed.{history_of, last-all}
 use Rattle.run_facts.proofs.Recording.{AreAccounted, run-of_accounts, complete-of_accounts}
-use Rattle.ring_engine.specs.Runs.{stamp_in}
 use Rattle.ring_engine.specs.Places.{Ring}
 use Rattle.ring_engine.specs.Whole.{IsWholeRun}
-use Rattle.ring_engine.proofs.Below.{get-below}
+use Rattle.node_kit.proofs.Rows.{get-below}
 use Rattle.ring_engine.proofs.Running.{same-element}
 use Rattle.ring_engine.proofs.Progressing.{Progress, progress-ends}
 use Rattle.ring_engine.proofs.Accounts.{clock-of, timeline-end, link-end, carried-run, paced-run, timed-run}

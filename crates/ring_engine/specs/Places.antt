@@ -1,5 +1,5 @@
--- The rows of a run, by node and by link: nodes, lives, journals, in-links and channels.
-use Rattle.std.specs.Prelude.{◌≡◌, ℕ, zero, suc, Bool, false, ◌==◌, List, [], ◌∷◌, ◌++◌, length, Option, Some, None, slice_get, if◌then◌else◌}
+-- The rows of a run, by node and by link: nodes, lives, journals and channels.
+use Rattle.std.specs.Prelude.{◌≡◌, ℕ, List, [], length, Some, slice_get}
 use Rattle.tiger_base.specs.declared.number.LinkNo.{LinkNo}
 use Rattle.tiger_base.specs.declared.message.Note.{Note}
 use Rattle.slot_plan.specs.declared.params.Params.{Params}
@@ -7,39 +7,18 @@ use Rattle.link_timing.specs.Clock.{new_clock}
 use Rattle.node_kit.specs.declared.course.Course.{Course}
 use Rattle.node_kit.specs.declared.journal.Entry.{Entry}
 use Rattle.node_kit.specs.Life.{Lifetime}
-use Rattle.node_kit.specs.Links.{Links, ends_of, links_of, link_count}
+use Rattle.node_kit.specs.Links.{links_of, link_count, in_links_of}
+use Rattle.node_kit.specs.Rows.{each_below, AllStand}
 use Rattle.node_kit.specs.Steps.{Input, Deed}
 use Rattle.ring_engine.specs.declared.mail.Letter.{Letter}
 use Rattle.ring_engine.specs.Traffic.{Traffic, AreOpen}
 use Rattle.run_facts.specs.Events.{Past}
-use Rattle.ring_engine.specs.Runs.{stamp_in, after_beat}
-
--- one of each number below n
-abbrev pub each_below : {A : Type 0} → (ℕ → A) → ℕ → List A
-each_below f zero = []
-each_below f (suc n) = each_below f n ++ f n ∷ []
+use Rattle.ring_engine.specs.Runs.{after_beat}
+use Rattle.node_kit.specs.Courses.{stamp_in}
 
 -- the link of a number before the first beat
 abbrev pub new_channel : {M : Type 0} → Course → ℕ → Traffic M
 new_channel c link = record { clock = new_clock link c.delay c.plan.params.delay; flights = [] }
-
--- whether these ends of a link, if there is one, lead to node n
-abbrev pub leads_to : ℕ → Option (ℕ × ℕ) → Bool
-leads_to n None = false
-leads_to n (Some ends) = ends.1 == n
-
--- the links below a number that lead to node n, by number
-unfoldable pub links_into : Links → ℕ → ℕ → List LinkNo
-links_into t n zero = []
-links_into t n (suc l) = links_into t n l ++ (if leads_to n (ends_of t l) then (record { 0 = l }) ∷ [] else [])
-
--- the in-links of node n
-abbrev pub in_links_of : Links → ℕ → List LinkNo
-in_links_of t n = links_into t n (link_count t)
-
--- each node stands at its number
-abbrev pub AllStand : {S : Type 0} → (S → Params → ℕ → Type 0) → Params → List S → Type 0
-AllStand {S} stands p nodes = (n : ℕ) (s : S) → slice_get nodes n ≡ Some s → stands s p n
 
 -- all nodes, and all links
 pub record Ring (M S : Type 0) : Type 0 where

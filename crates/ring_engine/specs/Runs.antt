@@ -4,16 +4,12 @@ use Rattle.tiger_base.specs.declared.number.Stamp.{Stamp}
 use Rattle.tiger_base.specs.declared.message.Note.{Note}
 use Rattle.node_kit.specs.declared.course.Course.{Course}
 use Rattle.node_kit.specs.declared.journal.Entry.{Entry}
-use Rattle.node_kit.specs.Courses.{reading_of}
+use Rattle.node_kit.specs.Courses.{stamp_in}
 use Rattle.node_kit.specs.Life.{lifetime_of}
 use Rattle.node_kit.specs.Steps.{Input, Deed}
 use Rattle.ring_engine.specs.declared.mail.Letter.{Letter}
 use Rattle.run_facts.specs.Events.{Past, opening, after_all}
 use Rattle.ring_engine.specs.Turns.{beat_events}
-
--- the stamp of node n's events in a beat
-abbrev pub stamp_in : Course → ℕ → ℕ → Stamp
-stamp_in c n beat = record { beat = beat; reading = reading_of c n beat }
 
 -- a node after a beat in which these letters are brought to it: it takes those that it hears and ticks where it
 -- acts, and where it dies it writes that it does

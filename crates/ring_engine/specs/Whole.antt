@@ -4,14 +4,15 @@ use Rattle.tiger_base.specs.declared.message.Note.{Note}
 use Rattle.node_kit.specs.declared.course.Course.{Course}
 use Rattle.node_kit.specs.declared.journal.Entry.{Entry}
 use Rattle.node_kit.specs.Life.{Lifetime, lifetime_of}
-use Rattle.node_kit.specs.Links.{links_of, link_count}
+use Rattle.node_kit.specs.Links.{links_of, link_count, in_links_of}
 use Rattle.node_kit.specs.Steps.{Input, Deed}
 use Rattle.ring_engine.specs.declared.mail.Letter.{Letter}
 use Rattle.ring_engine.specs.Traffic.{Traffic, collected}
 use Rattle.run_facts.specs.Events.{Past, AreFair}
 use Rattle.ring_engine.specs.Turns.{Scene, beat_events, turn}
-use Rattle.ring_engine.specs.Runs.{stamp_in}
-use Rattle.ring_engine.specs.Places.{each_below, new_channel, in_links_of, Ring, IsAt}
+use Rattle.node_kit.specs.Courses.{stamp_in}
+use Rattle.ring_engine.specs.Places.{new_channel, Ring, IsAt}
+use Rattle.node_kit.specs.Rows.{each_below}
 
 -- the ring before the first beat
 abbrev pub opening_ring : {M S : Type 0} → Course → List S → Ring M S

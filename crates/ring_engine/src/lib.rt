@@ -8,7 +8,7 @@ mod mail;
 mod opening;
 mod run;
 
-pub use run::{Ran, run_plain};
+pub use run::run_plain;
 
 #[cfg(test)]
 mod tests;

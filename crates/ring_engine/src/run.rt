@@ -10,21 +10,15 @@ ghost use Rattle.run_facts.specs.Paced.{ArePaced};
 ghost use Rattle.run_facts.specs.Timed.{AreTimed};
 ghost use Rattle.ring_engine.specs.Runs.{EachHasEnded};
 ghost use Rattle.ring_engine.specs.Whole.{IsWholeRun, HaveTurns};
-ghost use Rattle.ring_engine.specs.Places.{AllStand, AreInLinks, IsSound, AllHaveLived};
+ghost use Rattle.ring_engine.specs.Places.{AreInLinks, IsSound, AllHaveLived};
+ghost use Rattle.node_kit.specs.Rows.{AllStand};
 
 use crate::events::live;
 use crate::mail::Channel;
 use crate::opening::{all_in_links, all_lives, new_channels, new_journals};
-use node_kit::{Course, Journal, Life, LinkTable, Node};
+use node_kit::{Course, Journal, Life, LinkTable, Node, Ran};
 use std::alloc::Global;
 use tiger_base::{Beat, LinkNo, Message, NoMemory, NodeNo, Sequence};
-
-/// What a run gives: a journal for each node, and the nodes as they are at its end.
-#[derive(Drop)]
-pub struct Ran<T> {
-    pub journals: Sequence<Journal>,
-    pub nodes: Vec<T>,
-}
 
 /// Runs the nodes of a course. In each beat each node, by number, takes what arrives in the beat, by
 /// link number and then in the link's order, and then ticks.

@@ -1,12 +1,13 @@
 //! Runs of toy nodes, of which three send one message each and two pass on what they take.
 ghost use Rattle.std.specs.Prelude.{◌≡◌, ℕ, ◌+◌, ◌≤◌, ◌∷◌, [], ◌++◌, IfOk, OnOk, Some, None, vec_len, slice_get};
+ghost use Rattle.std.specs.Bool.{OnTrue};
 ghost use Rattle.std.specs.Option.{ForSome, option_map_or};
 ghost use Rattle.tiger_base.specs.declared.message.Msg.{Msg};
 ghost use Rattle.tiger_base.specs.declared.message.Msg.TheVariants.{Heartbeat};
 ghost use Rattle.tiger_base.specs.Limits.{most_beats};
 ghost use Rattle.node_kit.specs.declared.outbox.Out.TheVariants.{Send};
 ghost use Rattle.node_kit.specs.Links.{IsOutLink, ends_of, viewers_of};
-ghost use Rattle.node_kit.specs.Steps.{Deed};
+ghost use Rattle.node_kit.specs.Steps.{Deed, Input, Rests};
 ghost use Rattle.node_kit.specs.Steps.Input.{Take, Tick};
 ghost use Rattle.node_kit.specs.Courses.{IsCourse};
 ghost use Rattle.ring_engine.specs.declared.tests.Toy.{Toy};
@@ -43,6 +44,15 @@ impl<'a> Node<Msg<'a>> for Toy {
     ] };
 
     ghost stands_at = { λ s p n. ForSome s.out (λ l. IsOutLink p n l.0) × ForSome s.relay (λ l. IsOutLink p n l.0) };
+
+    fn rests(&self, _stamp: Stamp) -> bool
+        ensures { OnTrue result (Rests (λ (s : Toy) (i : Input Msg). elim i as (λ _. Deed Msg Toy) [
+          | Take stamp link msg ↦ record { outs = option_map_or (λ l. Send l Heartbeat ∷ []) s.relay []; state = s }
+          | Tick stamp ↦ record { outs = option_map_or (λ l. Send l Heartbeat ∷ []) s.out []; state = record { out = None; relay = s.relay } }
+        ]) _stamp self.now) }
+    {
+        self.out.is_none()
+    }
 
     fn take(
         &mut self,

@@ -23,6 +23,15 @@ impl<'a, G: Gate> Node<Msg<'a>> for AnyNode<'a, G> {
 
     ghost stands_at = { StandsAny };
 
+    fn rests(&self, stamp: Stamp) -> bool {
+        match self {
+            AnyNode::Cub(cub) => cub.rests(stamp),
+            AnyNode::Disk(disk) => disk.rests(stamp),
+            AnyNode::Controller(controller) => controller.rests(stamp),
+            AnyNode::Viewers(viewers) => viewers.rests(stamp),
+        }
+    }
+
     fn take(
         &mut self,
         stamp: Stamp,

@@ -6,7 +6,7 @@ use Rattle.tiger_base.specs.declared.message.Msg.{Msg}
 use Rattle.tiger_base.specs.Notes.{noted}
 use Rattle.node_kit.specs.declared.course.Course.{Course}
 use Rattle.node_kit.specs.declared.journal.Entry.{Entry}
-use Rattle.node_kit.specs.Courses.{IsCourse, reading_of}
+use Rattle.node_kit.specs.Courses.{IsCourse, reading_of, stamp_in}
 use Rattle.node_kit.specs.Life.{lifetime_of}
 use Rattle.node_kit.specs.Links.{links_of, viewers_of}
 use Rattle.node_kit.specs.Steps.{Deed, Input}
@@ -16,7 +16,6 @@ use Rattle.run_facts.specs.Events.NodeEvent.{Does, Dies}
 use Rattle.run_facts.specs.Histories.{HaveHistory, beat, ticks}
 use Rattle.run_facts.proofs.Counts.{count-numbered}
 use Rattle.run_facts.proofs.Indexed.{all-at}
-use Rattle.ring_engine.specs.Runs.{stamp_in}
 use Rattle.ring_engine.specs.Places.{Ring}
 use Rattle.ring_engine.specs.Whole.{IsWholeRun}
 use Rattle.ring_engine.proofs.Progressing.{Progress, progress-ends}

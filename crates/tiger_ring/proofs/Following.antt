@@ -17,7 +17,7 @@ use Rattle.node_kit.specs.declared.journal.What.TheVariants as what
 use Rattle.node_kit.specs.declared.journal.What.{What}
 use Rattle.node_kit.specs.declared.outbox.Out.{Out}
 use Rattle.node_kit.specs.declared.outbox.Out.TheVariants as out
-use Rattle.node_kit.specs.Courses.{IsCourse, reading_of}
+use Rattle.node_kit.specs.Courses.{IsCourse, reading_of, stamp_in}
 use Rattle.node_kit.specs.Life.{lifetime_of, trimmed}
 use Rattle.node_kit.specs.Links.{links_of, controller_of}
 use Rattle.node_kit.specs.Steps.{Input, entries_of, entry_of}
@@ -29,9 +29,9 @@ use Rattle.run_facts.specs.Commanded.{is_gone, StopsNone, IsCommanded, AreComman
 use Rattle.run_facts.specs.Timed.{death_within}
 use Rattle.run_facts.proofs.Timelines.{EndAt, IsTimeline}
 use Rattle.run_facts.proofs.Indexed.{history_of, last-all, count-front, count-all, passing-ticks, counted-at, all-at}
-use Rattle.ring_engine.specs.Runs.{stamp_in, opening_of}
+use Rattle.ring_engine.specs.Runs.{opening_of}
 use Rattle.ring_engine.specs.Whole.{IsWholeRun}
-use Rattle.ring_engine.proofs.Below.{get-below}
+use Rattle.node_kit.proofs.Rows.{get-below}
 use Rattle.ring_engine.proofs.Running.{same-element}
 use Rattle.ring_engine.proofs.Progressing.{next-none, progress-ends}
 use Rattle.disk_image.specs.Image.{Image}

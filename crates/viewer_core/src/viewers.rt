@@ -103,6 +103,10 @@ impl<'a> Node<Msg<'a>> for Viewers<'a> {
 
     ghost stands_at = { AreViewers };
 
+    fn rests(&self, _stamp: Stamp) -> bool {
+        true
+    }
+
     fn take(
         &mut self,
         _stamp: Stamp,

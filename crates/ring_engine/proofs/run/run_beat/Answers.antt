@@ -1,7 +1,7 @@
 use Rattle.std.proofs.Common.{◌≡◌, ◌<◌, Some, length, refl, ap, sym, ◌∙◌, arith}
 use Rattle.std.specs.Prelude.{slice_get, vec_len}
 use Rattle.std.proofs.lemmas.Option.{slice_get_read}
-use Rattle.ring_engine.proofs.Below.{get-below}
+use Rattle.node_kit.proofs.Rows.{get-below}
 use Rattle.ring_engine.proofs.Running.{ready-node, length-rows, midway-on, turns-on}
 use Rattle.ring_engine.proofs.run.run_beat.Goals as goal
 

@@ -1,9 +1,9 @@
 use Rattle.std.proofs.Common.{◌∙◌, ◌+◌, ap, sym, arith}
-use Rattle.node_kit.specs.Links.{link_count}
-use Rattle.ring_engine.specs.Places.{each_below, new_channel, Ring}
+use Rattle.node_kit.specs.Links.{link_count, viewers_of}
+use Rattle.ring_engine.specs.Places.{new_channel, Ring}
+use Rattle.node_kit.specs.Rows.{each_below}
 use Rattle.node_kit.specs.Life.{lifetime_of}
 use Rattle.ring_engine.proofs.Running.{come-open, sound-open, come-more, sound-later, ended-at, ring-opens, passed-on, whole-run}
-use Rattle.node_kit.specs.Links.{viewers_of}
 use Rattle.ring_engine.proofs.Wholes.{history-whole, carried-whole, paced-whole, timed-whole}
 use Rattle.ring_engine.proofs.run.run_plain.Goals as goal
 

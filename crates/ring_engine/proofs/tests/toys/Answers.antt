@@ -2,7 +2,7 @@ use Rattle.std.proofs.Common.{◌≡◌, ℕ, Some, ◌∙◌, ap, sym, subst, �
 use Rattle.std.specs.Prelude.{slice_get}
 use Rattle.std.specs.Option.{ForSome}
 use Rattle.node_kit.specs.Links.{ends_of}
-use Rattle.ring_engine.proofs.Below.{get-pushed}
+use Rattle.node_kit.proofs.Rows.{get-pushed}
 use Rattle.ring_engine.proofs.tests.toys.Goals as goal
 
 pub loop-node-preserved : goal.loop-node-preserved
