@@ -10,7 +10,7 @@ use Rattle.stripe_layout.specs.declared.catalogue.Catalogue.{Catalogue}
 use Rattle.stripe_layout.specs.declared.place.Place.{Place}
 use Rattle.mirror_pieces.specs.Pieces.{piece_of}
 use Rattle.node_kit.specs.declared.journal.Entry.{Entry}
-use Rattle.run_model.specs.Served.{want_of}
+use Rattle.run_model.specs.Served.{want_of_visit}
 use Rattle.run_model.specs.Tests.{same_want, same_span, some_tenancy}
 use Rattle.run_model.proofs.Deliveries.{want_same, span_same, tenancy_gives}
 use Rattle.run_model.proofs.Reflects.{and_both}
@@ -25,7 +25,7 @@ fits p want part (Some block) =
 -- whether it is what a tenancy wants, with the bytes that the tenancy's file has there
 abbrev pub is_what_it_wants : Params → Catalogue → Want → Span → Tenancy → Bool
 is_what_it_wants p catalogue want part t =
-    same_want want (want_of t want.visit want.piece) && fits p want part (place_of catalogue t.file (want.visit - t.first))
+    same_want want (want_of_visit t want.visit want.piece) && fits p want part (place_of catalogue t.file (want.visit - t.first))
 
 fitting : (p : Params) (want : Want) (part : Span) (place : Option Place) (block : Place) → place ≡ Some block
     → part ≡ (if want.piece == 0 then block.span else piece_of block.span p.pieces want.piece)
@@ -38,7 +38,7 @@ pub passes-for-some : (p : Params) (catalogue : Catalogue) (journals : List (Lis
     → IsTrue (some_tenancy journals want.instance.0 want.visit (is_what_it_wants p catalogue want part))
 passes-for-some p catalogue journals want part o =
     let t = o.tenancy in
-    let w = want_of t want.visit want.piece in
+    let w = want_of_visit t want.visit want.piece in
     let place = place_of catalogue t.file (want.visit - t.first) in
     tenancy_gives journals want.instance.0 want.visit (is_what_it_wants p catalogue want part) t o.visited
     (and_both (same_want want w) (fits p want part place) ((want_same want w).1 o.wanted) (fitting p want part place o.block o.place o.span))

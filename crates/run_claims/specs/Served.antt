@@ -15,7 +15,7 @@ use Rattle.node_kit.specs.declared.journal.What.TheVariants as what
 use Rattle.node_kit.specs.declared.journal.Entry.{Entry}
 use Rattle.node_kit.specs.Links.{links_of, viewers_of}
 use Rattle.run_facts.specs.Order.{Noted}
-use Rattle.run_model.specs.Served.{IsVisitOf, IsDelivered, IsSettled, want_of}
+use Rattle.run_model.specs.Served.{IsVisitOf, IsDelivered, IsSettled, want_of_visit}
 use Rattle.run_model.specs.Excuses.{IsExcused}
 
 -- each visit of a tenancy that is settled at the end of the run was delivered, or is excused
@@ -34,7 +34,7 @@ IsServedIfPut p catalogue journals end other = Unit {0}
 pub record IsOfVisit (p : Params) (catalogue : Catalogue) (journals : List (List Entry)) (want : Want) (part : Span) : Type 0 where
   pub tenancy : Tenancy
   pub visited : IsVisitOf journals want.instance.0 want.visit tenancy
-  pub wanted : want ≡ want_of tenancy want.visit want.piece
+  pub wanted : want ≡ want_of_visit tenancy want.visit want.piece
   pub block : Place
   pub place : place_of catalogue tenancy.file (want.visit - tenancy.first) ≡ Some block
   pub span : part ≡ (if want.piece == 0 then block.span else piece_of block.span p.pieces want.piece)

@@ -20,7 +20,7 @@ use Rattle.node_kit.specs.declared.journal.What.TheVariants as what
 use Rattle.node_kit.specs.declared.journal.Entry.{Entry}
 use Rattle.run_model.specs.declared.parcels.Parcel.{Parcel}
 use Rattle.run_model.specs.Fronts.{AnyByRecursion}
-use Rattle.run_model.specs.Served.{journal_at, IsPut, IsVisitOf, wholes_got, pieces_got, pieces_numbered, want_of, WasSent, CameWhole, PieceCame, CameInPieces, IsDelivered}
+use Rattle.run_model.specs.Served.{journal_at, IsPut, IsVisitOf, wholes_got, pieces_got, pieces_numbered, want_of_visit, WasSent, CameWhole, PieceCame, CameInPieces, IsDelivered}
 use Rattle.run_model.specs.Tests.{each_below, only, is_empty, same_want, same_span, same_parcel, says, says_in, is_about, was_sent, whole_fits, came_whole, piece_fits, piece_came, pieces_fit, came_in_pieces, visited, some_tenancy, came}
 use Rattle.run_model.proofs.Reflects.{and_both, and_left, and_right, or_either, both, either, equal, less, at_most, any_gives, any, each_found, each_gives}
 
@@ -173,7 +173,7 @@ whole_came p c journals t n =
     let none = is_empty (pieces_got p journals v n) in (
       (λ h.
           let f = whole_found p journals t n (place_of c t.file (n - t.first)) (only (wholes_got p journals v n)) (and_right none _ h) in
-          let wants = same_want f.second.want (want_of t n 0) in
+          let wants = same_want f.second.want (want_of_visit t n 0) in
           let spans = same_span f.second.span f.first.span in
           let sends = was_sent p journals (cub_of p n) true f.second (due p t.slot.0 n) in
           record {
@@ -182,17 +182,17 @@ whole_came p c journals t n =
             place = f.some_first;
             once = only_one (wholes_got p journals v n) f.second f.some_second;
             alone = empty_is (pieces_got p journals v n) (and_left none _ h);
-            want = (want_same f.second.want (want_of t n 0)).0 (and_left wants spans (and_left (wants && spans) sends f.holds));
+            want = (want_same f.second.want (want_of_visit t n 0)).0 (and_left wants spans (and_left (wants && spans) sends f.holds));
             span = (span_same f.second.span f.first.span).0 (and_right wants spans (and_left (wants && spans) sends f.holds));
             sent = (sent_as p journals (cub_of p n) true f.second (due p t.slot.0 n)).0 (and_right (wants && spans) sends f.holds);
           }),
       (λ g.
-          let wants = same_want g.parcel.want (want_of t n 0) in
+          let wants = same_want g.parcel.want (want_of_visit t n 0) in
           let spans = same_span g.parcel.span g.block.span in
           let sends = was_sent p journals (cub_of p n) true g.parcel (due p t.slot.0 n) in
           rw (g.alone, g.place, g.once)
           (and_both (wants && spans) sends
-          (and_both wants spans ((want_same g.parcel.want (want_of t n 0)).1 g.want) ((span_same g.parcel.span g.block.span).1 g.span))
+          (and_both wants spans ((want_same g.parcel.want (want_of_visit t n 0)).1 g.want) ((span_same g.parcel.span g.block.span).1 g.span))
           ((sent_as p journals (cub_of p n) true g.parcel (due p t.slot.0 n)).1 g.sent))),
     )
 
@@ -211,23 +211,23 @@ piece_has_come p journals t n block k =
       (λ h.
           let f = piece_found p journals t n block k (only got) h in
           let x = f.0 in
-          let wants = same_want x.want (want_of t n k) in
+          let wants = same_want x.want (want_of_visit t n k) in
           let spans = same_span x.span (piece_of block p.pieces k) in
           let sends = was_sent p journals (cub_of p (n + k)) false x time in
           record {
             parcel = x;
             once = only_one got x f.1;
-            want = (want_same x.want (want_of t n k)).0 (and_left wants spans (and_left (wants && spans) sends f.2));
+            want = (want_same x.want (want_of_visit t n k)).0 (and_left wants spans (and_left (wants && spans) sends f.2));
             span = (span_same x.span (piece_of block p.pieces k)).0 (and_right wants spans (and_left (wants && spans) sends f.2));
             sent = (sent_as p journals (cub_of p (n + k)) false x time).0 (and_right (wants && spans) sends f.2);
           }),
       (λ g.
-          let wants = same_want g.parcel.want (want_of t n k) in
+          let wants = same_want g.parcel.want (want_of_visit t n k) in
           let spans = same_span g.parcel.span (piece_of block p.pieces k) in
           let sends = was_sent p journals (cub_of p (n + k)) false g.parcel time in
           rw g.once
           (and_both (wants && spans) sends
-          (and_both wants spans ((want_same g.parcel.want (want_of t n k)).1 g.want) ((span_same g.parcel.span (piece_of block p.pieces k)).1 g.span))
+          (and_both wants spans ((want_same g.parcel.want (want_of_visit t n k)).1 g.want) ((span_same g.parcel.span (piece_of block p.pieces k)).1 g.span))
           ((sent_as p journals (cub_of p (n + k)) false g.parcel time).1 g.sent))),
     )
 

@@ -8,7 +8,6 @@ use Rattle.node_kit.specs.declared.course.Kept.{Kept}
 use Rattle.node_kit.specs.declared.journal.What.{What}
 use Rattle.node_kit.specs.declared.journal.What.TheVariants as what
 use Rattle.node_kit.specs.declared.journal.Entry.{Entry}
-use Rattle.node_kit.specs.Life.{lifetime_of}
 use Rattle.node_kit.specs.Links.{Links, links_of, ends_of}
 use Rattle.run_facts.specs.Carried.{IsAtItsEnd}
 use Rattle.run_model.specs.Runs.{IsCarriedRun}
@@ -43,7 +42,7 @@ all_at_end p n journal = all (λ e. IsAtItsEnd p n e.what) (λ e. at_its_end (li
 
 -- where all links carry, the test of the ends is true exactly of a run that is carried
 pub carried : (k : Kept) (t : Links) → t ≡ links_of k.course.plan.params
-    → ((l : ℕ) → LinkCarries k.course.plan.params k.course.beats (lifetime_of k.course) k.journals l)
+    → ((l : ℕ) → LinkCarries k l)
     → IsTrue (each_from (at_ends t) 0 k.journals) ↔ IsCarriedRun k
 carried k t e on =
     let p = k.course.plan.params in (

@@ -14,7 +14,7 @@ use Rattle.node_kit.specs.declared.journal.Entry.{Entry}
 use Rattle.node_kit.specs.Life.{death_of, lifetime_of}
 use Rattle.run_facts.specs.Timed.{IsRead, IsNotBelow, AreRising, is_died, death_within, EndsInDeath, IsDeathOf, IsTimed, AreTimed, DieApart}
 use Rattle.run_model.specs.Runs.{IsTimedRun}
-use Rattle.run_model.specs.Tests.{each_from, each_below, is_read, rises_from, is_before_death, ends_in_death, dies_as, is_timed, timed_in, one_lives}
+use Rattle.run_model.specs.Tests.{is_timed_run, each_from, each_below, is_read, rises_from, is_before_death, ends_in_death, dies_as, is_timed, timed_in, one_lives}
 use Rattle.run_model.proofs.Reflects.{and_both, and_left, and_right, both, negated, equal, less, at_most, all, each_found, each_gives}
 
 reads : (p : Params) (e : Entry) → IsTrue (is_read p e) ↔ IsRead p e
@@ -192,8 +192,7 @@ all_apart c = (
 )
 
 -- the test of a timed run is true exactly of one
-pub timed : (k : Kept)
-    → IsTrue (each_from (timed_in k.course) 0 k.journals && each_below (one_lives k.course) k.course.plan.params.cubs) ↔ IsTimedRun k
+pub timed : (k : Kept) → IsTrue (is_timed_run k) ↔ IsTimedRun k
 timed k =
     let a = each_from (timed_in k.course) 0 k.journals in
     let b = each_below (one_lives k.course) k.course.plan.params.cubs in (

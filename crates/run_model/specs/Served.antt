@@ -58,8 +58,8 @@ abbrev pub pieces_numbered : ℕ → List Parcel → List Parcel
 pieces_numbered k pieces = filter (λ x. x.want.piece == k) pieces
 
 -- what is wanted at a visit of a tenancy: the visit's block, whole or in a piece
-abbrev pub want_of : Tenancy → ℕ → ℕ → Want
-want_of t visit piece = record {
+abbrev pub want_of_visit : Tenancy → ℕ → ℕ → Want
+want_of_visit t visit piece = record {
   instance = t.instance;
   slot = t.slot;
   visit = visit;
@@ -83,7 +83,7 @@ pub record CameWhole (p : Params) (c : Catalogue) (journals : List (List Entry))
   pub place : place_of c t.file (visit - t.first) ≡ Some block
   pub once : wholes_got p journals t.instance.0 visit ≡ parcel ∷ []
   pub alone : pieces_got p journals t.instance.0 visit ≡ []
-  pub want : parcel.want ≡ want_of t visit 0
+  pub want : parcel.want ≡ want_of_visit t visit 0
   pub span : parcel.span ≡ block.span
   pub sent : WasSent p journals (cub_of p visit) parcel.link (note.Whole parcel.want parcel.sent parcel.span) parcel.sent (due p t.slot.0 visit)
 
@@ -92,7 +92,7 @@ pub record CameWhole (p : Params) (c : Catalogue) (journals : List (List Entry))
 pub record PieceCame (p : Params) (journals : List (List Entry)) (t : Tenancy) (visit : ℕ) (block : Span) (k : ℕ) : Type 0 where
   pub parcel : Parcel
   pub once : pieces_numbered k (pieces_got p journals t.instance.0 visit) ≡ parcel ∷ []
-  pub want : parcel.want ≡ want_of t visit k
+  pub want : parcel.want ≡ want_of_visit t visit k
   pub span : parcel.span ≡ piece_of block p.pieces k
   pub sent : WasSent p journals (cub_of p (visit + k)) parcel.link (note.Piece parcel.want parcel.sent parcel.span) parcel.sent
       (leaving (due p t.slot.0 visit) k p.play p.pieces)

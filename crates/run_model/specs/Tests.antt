@@ -19,12 +19,13 @@ use Rattle.node_kit.specs.declared.journal.Entry.{Entry}
 use Rattle.run_facts.specs.Commanded.{is_gone_of}
 use Rattle.run_facts.specs.Timed.{is_died, death_within}
 use Rattle.node_kit.specs.declared.course.Course.{Course}
+use Rattle.node_kit.specs.declared.course.Kept.{Kept}
 use Rattle.node_kit.specs.Life.{death_of}
 use Rattle.node_kit.specs.Links.{Links, ends_of}
 use Rattle.run_model.specs.declared.parcels.Parcel.{Parcel}
 use Rattle.run_model.specs.declared.parcels.Form.{Form}
 use Rattle.run_model.specs.declared.parcels.Form.TheVariants.{Whole, Piece, AnyPiece}
-use Rattle.run_model.specs.Served.{journal_at, whole_in, piece_in, wholes_got, pieces_got, pieces_numbered, want_of}
+use Rattle.run_model.specs.Served.{journal_at, whole_in, piece_in, wholes_got, pieces_got, pieces_numbered, want_of_visit}
 
 -- whether a test holds of each number below a bound, and of one of them
 abbrev pub each_below : (ℕ → Bool) → ℕ → Bool
@@ -97,7 +98,7 @@ was_sent p journals cub whole x time = is_about p x.sent time && says_in whole x
 -- whether a block came whole
 abbrev pub whole_fits : Params → List (List Entry) → Tenancy → ℕ → Option Place → Option Parcel → Bool
 whole_fits p journals t visit (Some block) (Some x) =
-    same_want x.want (want_of t visit 0) && same_span x.span block.span
+    same_want x.want (want_of_visit t visit 0) && same_span x.span block.span
     && was_sent p journals (cub_of p visit) true x (due p t.slot.0 visit)
 whole_fits p journals t visit place parcel = false
 
@@ -110,16 +111,19 @@ came_whole p c journals t visit =
 abbrev pub piece_fits : Params → List (List Entry) → Tenancy → ℕ → Span → ℕ → Option Parcel → Bool
 piece_fits p journals t visit block k None = false
 piece_fits p journals t visit block k (Some x) =
-    same_want x.want (want_of t visit k) && same_span x.span (piece_of block p.pieces k)
+    same_want x.want (want_of_visit t visit k) && same_span x.span (piece_of block p.pieces k)
     && was_sent p journals (cub_of p (visit + k)) false x (leaving (due p t.slot.0 visit) k p.play p.pieces)
 
 unfoldable pub piece_came : Params → List (List Entry) → Tenancy → ℕ → Span → ℕ → Bool
 piece_came p journals t visit block k =
     piece_fits p journals t visit block k (only (pieces_numbered k (pieces_got p journals t.instance.0 visit)))
 
+abbrev pub all_pieces_came : Params → List (List Entry) → Tenancy → ℕ → Span → Bool
+all_pieces_came p journals t visit block = each_below (λ before. piece_came p journals t visit block (before + 1)) p.pieces
+
 abbrev pub pieces_fit : Params → List (List Entry) → Tenancy → ℕ → Option Place → Bool
 pieces_fit p journals t visit None = false
-pieces_fit p journals t visit (Some block) = each_below (λ before. piece_came p journals t visit block.span (before + 1)) p.pieces
+pieces_fit p journals t visit (Some block) = all_pieces_came p journals t visit block.span
 
 unfoldable pub came_in_pieces : Params → Catalogue → List (List Entry) → Tenancy → ℕ → Bool
 came_in_pieces p c journals t visit =
@@ -158,10 +162,13 @@ piece_is_lost p journals t visit k =
     list_any (read_failed t.instance.0 visit k) journals
     || died_before p 1 (leaving (due p t.slot.0 visit) k p.play p.pieces + p.beat) (journal_at journals (cub_of p (visit + k)))
 
+abbrev pub some_piece_is_lost : Params → List (List Entry) → Tenancy → ℕ → Bool
+some_piece_is_lost p journals t visit = some_below (λ before. piece_is_lost p journals t visit (before + 1)) p.pieces
+
 unfoldable pub lost_in_pieces : Params → List (List Entry) → Tenancy → ℕ → Bool
 lost_in_pieces p journals t visit =
     died_before p (takeover p) (due p t.slot.0 visit) (journal_at journals (cub_of p visit))
-    && some_below (λ before. piece_is_lost p journals t visit (before + 1)) p.pieces
+    && some_piece_is_lost p journals t visit
 
 unfoldable pub lost_in_death : Params → List (List Entry) → Tenancy → ℕ → Bool
 lost_in_death p journals t visit =
@@ -237,3 +244,7 @@ timed_in c n journal = is_timed c.plan.params c.beats (death_of c n) journal
 -- whether a cub or the next one lives on
 abbrev pub one_lives : Course → ℕ → Bool
 one_lives c n = not (is_some (death_of c n) && is_some (death_of c ((n + 1) % c.plan.params.cubs)))
+
+-- whether all entries of a run are timed, and no two cubs side by side die
+abbrev pub is_timed_run : Kept → Bool
+is_timed_run k = each_from (timed_in k.course) 0 k.journals && each_below (one_lives k.course) k.course.plan.params.cubs

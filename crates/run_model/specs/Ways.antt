@@ -1,9 +1,9 @@
 -- What is left to compare along a link.
 use Rattle.std.specs.Prelude.{◌≡◌, ℕ, ◌+◌, ◌≤◌, List, ◌∷◌, length, drop, Some, slice_get}
 use Rattle.tiger_base.specs.declared.message.Note.{Note}
-use Rattle.slot_plan.specs.declared.params.Params.{Params}
+use Rattle.node_kit.specs.declared.course.Kept.{Kept}
 use Rattle.node_kit.specs.declared.journal.Entry.{Entry}
-use Rattle.node_kit.specs.Life.{Lifetime}
+use Rattle.node_kit.specs.Life.{lifetime_of}
 use Rattle.node_kit.specs.Links.{links_of, ends_of}
 use Rattle.run_facts.specs.Events.{Dated}
 use Rattle.run_facts.specs.Carried.{sent_on, got_on, AreCarriedOn}
@@ -27,8 +27,8 @@ pub record IsNext (way : Way) (next : ℕ) (receiver : List Entry) (a : Arrival)
 abbrev pub IsInTime : Way → ℕ → Note → Arrival → Type 0
 IsInTime way sent note a = (a.note ≡ note) × (sent + 1 ≤ a.beat) × (a.beat ≤ sent + way.most)
 
--- a link carries, where the journals of both its nodes are there
-abbrev pub LinkCarries : Params → ℕ → (ℕ → Lifetime) → List (List Entry) → ℕ → Type 0
-LinkCarries p beats lives journals l = (from to : ℕ) (sender receiver : List Entry) → ends_of (links_of p) l ≡ Some (from, to)
-    → slice_get journals from ≡ Some sender → slice_get journals to ≡ Some receiver
-    → AreCarriedOn p.delay beats (lives to) (sent_on l sender) (got_on l receiver)
+-- a link of a kept run carries, if the journals of both its nodes are there
+abbrev pub LinkCarries : Kept → ℕ → Type 0
+LinkCarries k l = (from to : ℕ) (sender receiver : List Entry) → ends_of (links_of k.course.plan.params) l ≡ Some (from, to)
+    → slice_get k.journals from ≡ Some sender → slice_get k.journals to ≡ Some receiver
+    → AreCarriedOn k.course.plan.params.delay k.course.beats (lifetime_of k.course to) (sent_on l sender) (got_on l receiver)

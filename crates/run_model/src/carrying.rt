@@ -1,7 +1,6 @@
 //! Whether what was sent was got.
 ghost use Rattle.std.specs.Prelude.{◌≡◌, ◌↔◌, ◌+◌, ◌<◌, ◌≤◌, List, [], ◌∷◌, ◌++◌, length, drop, IsTrue, IfSome, IfNone, MatchOption, ℕ};
 ghost use Rattle.tiger_base.specs.declared.message.Note.{Note};
-ghost use Rattle.node_kit.specs.Life.{lifetime_of};
 ghost use Rattle.node_kit.specs.Links.{links_of};
 ghost use Rattle.run_facts.specs.Events.{Dated};
 ghost use Rattle.run_facts.specs.Carried.{sent_by, sent_on, got_by, got_on, MayBeLost};
@@ -36,7 +35,7 @@ pub fn carried(k: &Kept) -> bool
 
 fn all_links_carry(k: &Kept, links: &LinkTable) -> bool
     requires { links.now ≡ links_of k.now.course.plan.params }
-    ensures { IsTrue result ↔ ((l : ℕ) → LinkCarries k.now.course.plan.params k.now.course.beats (lifetime_of k.now.course) k.now.journals l) }
+    ensures { IsTrue result ↔ ((l : ℕ) → LinkCarries k.now l) }
 {
     for l in 0..links.count() {
         if !link_carries(k, links, LinkNo(l)) {
@@ -48,7 +47,7 @@ fn all_links_carry(k: &Kept, links: &LinkTable) -> bool
 
 fn link_carries(k: &Kept, links: &LinkTable, link: LinkNo) -> bool
     requires { links.now ≡ links_of k.now.course.plan.params }
-    ensures { IsTrue result ↔ LinkCarries k.now.course.plan.params k.now.course.beats (lifetime_of k.now.course) k.now.journals link.0 }
+    ensures { IsTrue result ↔ LinkCarries k.now link.0 }
 {
     let Some((from, to)) = links.ends(link) else {
         return true;

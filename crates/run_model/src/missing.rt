@@ -1,15 +1,15 @@
 //! Whether a visit's block may be missing.
-ghost use Rattle.std.specs.Prelude.{◌≡◌, ◌↔◌, ◌+◌, ◌^◌, ◌<◌, ◌≤◌, IsTrue};
+ghost use Rattle.std.specs.Prelude.{◌≡◌, ◌↔◌, ◌^◌, ◌<◌, ◌≤◌, IsTrue};
 ghost use Rattle.std.specs.List.{list_any};
 ghost use Rattle.slot_plan.specs.Times.{due};
 ghost use Rattle.run_model.specs.Excuses.{IsExcused};
-ghost use Rattle.run_model.specs.Tests.{some_below, visited, is_failed_read, read_failed, died_before, died_between, piece_is_lost, lost_in_pieces, lost_in_death, stopped_before, was_stopped, has_excuse, some_tenancy};
+ghost use Rattle.run_model.specs.Tests.{visited, is_failed_read, read_failed, died_before, died_between, piece_is_lost, some_piece_is_lost, lost_in_pieces, lost_in_death, stopped_before, was_stopped, has_excuse, some_tenancy};
 ghost use Rattle.run_facts.specs.Timed.{is_died};
 ghost use Rattle.run_facts.specs.Commanded.{is_gone_of};
 
 use crate::parcels::journal_at;
 use crate::served::cub_of;
-use crate::times::{due, leaving, takeover, time_of};
+use crate::times::{due, leaving, time_of};
 use node_kit::{Entry, Kept, What};
 use slot_plan::Plan;
 use tiger_base::{Instance, Tenancy, Visit};
@@ -64,11 +64,12 @@ fn lost_in_pieces(k: &Kept, t: &Tenancy, n: Visit) -> bool
 {
     let plan = &k.course.plan;
     let own = journal_at(k, cub_of(plan, n, 0));
-    died_before(plan, takeover(plan), due(plan, t.slot, n), own) && some_piece_is_lost(k, t, n)
+    let span = plan.takeover() as u128;
+    died_before(plan, span, due(plan, t.slot, n), own) && some_piece_is_lost(k, t, n)
 }
 
 fn some_piece_is_lost(k: &Kept, t: &Tenancy, n: Visit) -> bool
-    ensures { result ≡ some_below (λ before. piece_is_lost k.now.course.plan.params k.now.journals t.now n (before + 1)) k.now.course.plan.params.pieces }
+    ensures { result ≡ some_piece_is_lost k.now.course.plan.params k.now.journals t.now n }
 {
     for before in 0..k.course.plan.params.pieces {
         if piece_is_lost(k, t, n, before + 1) {
@@ -107,7 +108,7 @@ fn lost_in_death(k: &Kept, t: &Tenancy, n: Visit) -> bool
     let time = due(plan, t.slot, n);
     let own = journal_at(k, cub_of(plan, n, 0));
     let end = time + plan.params.beat as u128;
-    died_between(plan, takeover(plan), time, end, own)
+    died_between(plan, plan.takeover() as u128, time, end, own)
 }
 
 #[tactic(auto, unfolding(crate::specs::Tests::was_stopped))]

@@ -3,8 +3,8 @@ ghost use Rattle.std.specs.Prelude.{◌≡◌, ◌↔◌, ◌+◌, ◌≤◌, Is
 ghost use Rattle.std.specs.List.{list_any};
 ghost use Rattle.slot_plan.specs.Times.{cub_of};
 ghost use Rattle.mirror_pieces.specs.Pieces.{piece_of};
-ghost use Rattle.run_model.specs.Served.{want_of, IsDelivered};
-ghost use Rattle.run_model.specs.Tests.{each_below, same_span, came_whole, piece_came, came_in_pieces, came, visited, some_tenancy};
+ghost use Rattle.run_model.specs.Served.{want_of_visit, IsDelivered};
+ghost use Rattle.run_model.specs.Tests.{same_span, came_whole, piece_came, all_pieces_came, came_in_pieces, came, visited, some_tenancy};
 
 use crate::parcels::{Form, none_got, only_got, was_sent};
 use crate::times::{due, leaving};
@@ -69,7 +69,7 @@ fn came_whole(k: &Kept, t: &Tenancy, n: Visit) -> bool
         only_got(k, t.instance, n, Form::Whole),
     ) {
         (Some(place), Some(x)) => {
-            x.want == want_of(t, n, 0)
+            x.want == want_of_visit(t, n, 0)
                 && x.span == place.span
                 && was_sent(k, cub_of(plan, n, 0), true, &x, due(plan, t.slot, n))
         }
@@ -93,7 +93,7 @@ fn came_in_pieces(k: &Kept, t: &Tenancy, n: Visit) -> bool
 
 fn all_pieces_came(k: &Kept, t: &Tenancy, n: Visit, block: Span) -> bool
     requires { t.now.first ≤ n }
-    ensures { result ≡ each_below (λ before. piece_came k.now.course.plan.params k.now.journals t.now n block (before + 1)) k.now.course.plan.params.pieces }
+    ensures { result ≡ all_pieces_came k.now.course.plan.params k.now.journals t.now n block }
 {
     for before in 0..k.course.plan.params.pieces {
         if !piece_came(k, t, n, block, before + 1) {
@@ -113,7 +113,7 @@ fn piece_came(k: &Kept, t: &Tenancy, n: Visit, block: Span, piece: u64) -> bool
     let plan = &k.course.plan;
     match only_got(k, t.instance, n, Form::Piece(piece)) {
         Some(x) => {
-            x.want == want_of(t, n, piece as u32)
+            x.want == want_of_visit(t, n, piece as u32)
                 && is_piece(plan, &block, piece, &x.span)
                 && was_sent(
                     k,
@@ -135,9 +135,9 @@ pub fn cub_of(plan: &Plan, n: Visit, ahead: u64) -> u64
     ((n as u128 + ahead as u128) % plan.params.cubs as u128) as u64
 }
 
-fn want_of(t: &Tenancy, n: Visit, piece: u32) -> Want
+fn want_of_visit(t: &Tenancy, n: Visit, piece: u32) -> Want
     requires { t.now.first ≤ n }
-    ensures { result ≡ want_of t.now n piece }
+    ensures { result ≡ want_of_visit t.now n piece }
 {
     Want {
         instance: t.instance,

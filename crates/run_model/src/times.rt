@@ -1,6 +1,6 @@
 //! True times and due times of any beats, slots and visits, also of those that no run comes to.
 ghost use Rattle.std.specs.Prelude.{◌≡◌, ◌^◌, ◌<◌, ◌≤◌};
-ghost use Rattle.slot_plan.specs.Times.{time_of, due, takeover};
+ghost use Rattle.slot_plan.specs.Times.{time_of, due};
 ghost use Rattle.mirror_pieces.specs.Pieces.{leaving};
 
 use slot_plan::Plan;
@@ -37,15 +37,4 @@ pub fn leaving(plan: &Plan, due: u128, piece: u64) -> u128
 {
     let p = &plan.params;
     due + (piece as u128 - 1) * p.play as u128 / p.pieces as u128
-}
-
-/// How long a death may go unnoticed.
-#[tactic(auto, unfolding(slot_plan::specs::Times::takeover))]
-pub fn takeover(plan: &Plan) -> u128
-    ensures value { result ≡ takeover plan.now.params }
-    ensures small { result < 2 ^ 40 }
-{
-    let p = &plan.params;
-    let all = 2 * (p.delay * p.beat) + 3 * p.skew + p.deadman + p.read_lead + 2 * p.beat + 1;
-    all as u128
 }

@@ -1,10 +1,10 @@
 //! Whether all entries were written at their times.
-ghost use Rattle.std.specs.Prelude.{◌≡◌, ◌↔◌, ◌<◌, ◌&&◌, IsTrue, nat_lt};
+ghost use Rattle.std.specs.Prelude.{◌≡◌, ◌↔◌, ◌<◌, IsTrue, nat_lt};
 ghost use Rattle.std.specs.List.{list_all};
 ghost use Rattle.node_kit.specs.Life.{death_of};
 ghost use Rattle.run_facts.specs.Timed.{death_within};
 ghost use Rattle.run_model.specs.Runs.{IsTimedRun};
-ghost use Rattle.run_model.specs.Tests.{each_from, each_below, timed_in, one_lives, is_read, rises_from, never_dies, dies_as, ends_in_death};
+ghost use Rattle.run_model.specs.Tests.{is_timed_run, each_from, each_below, timed_in, one_lives, is_read, rises_from, never_dies, dies_as, ends_in_death};
 
 use crate::missing::is_died;
 use crate::times::time_of;
@@ -22,7 +22,7 @@ pub fn timed(k: &Kept) -> bool
 }
 
 fn is_timed_run(k: &Kept) -> bool
-    ensures { result ≡ (each_from (timed_in k.now.course) 0 k.now.journals && each_below (one_lives k.now.course) k.now.course.plan.params.cubs) }
+    ensures { result ≡ is_timed_run k.now }
 {
     all_timed(k) && die_apart(&k.course)
 }

@@ -7,7 +7,7 @@ ghost use Rattle.run_report.specs.Outcomes.{pieces_sent, span_at, reason_of, mis
 
 use crate::index::Index;
 use crate::outcome::{BlockKind, BlockOut, Outcome, Reason};
-use crate::times::{is_stopped_below, takeover};
+use crate::times::is_stopped_below;
 use node_kit::{Course, Journal, Order, OrderKind};
 use std::alloc::Global;
 use stripe_layout::Catalogue;
@@ -44,7 +44,7 @@ fn lost_in_death(index: &Index, t: &Tenancy, visit: Visit) -> bool
     let plan = &index.course().plan;
     let time = plan.due(t.slot, visit) as u128;
     let end = time + plan.params.beat as u128;
-    index.died_between(plan.cub_of(visit), takeover(plan), time, end)
+    index.died_between(plan.cub_of(visit), plan.takeover() as u128, time, end)
 }
 
 #[tactic(auto, unfolding(crate::specs::Outcomes::reason_of))]

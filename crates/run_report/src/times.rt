@@ -1,7 +1,7 @@
 //! Times of any beats, also of those that no run comes to.
 ghost use Rattle.std.specs.Prelude.{◌≡◌, ◌+◌, ◌^◌, ◌<◌, ◌&&◌, nat_lt};
 ghost use Rattle.std.specs.List.{list_any};
-ghost use Rattle.slot_plan.specs.Times.{time_of, takeover};
+ghost use Rattle.slot_plan.specs.Times.{time_of};
 ghost use Rattle.run_report.specs.Outcomes.{is_stopped_below};
 
 use slot_plan::Plan;
@@ -14,17 +14,6 @@ fn time_of(plan: &Plan, beat: Beat) -> u128
     ensures small { result < 2 ^ 100 }
 {
     beat as u128 * plan.params.beat as u128
-}
-
-/// How long a death may go unnoticed, in microseconds.
-#[tactic(auto, unfolding(slot_plan::specs::Times::takeover))]
-pub fn takeover(plan: &Plan) -> u128
-    ensures value { result ≡ takeover plan.now.params }
-    ensures small { result < 2 ^ 40 }
-{
-    let p = &plan.params;
-    let all = 2 * (p.delay * p.beat) + 3 * p.skew + p.deadman + p.read_lead + 2 * p.beat + 1;
-    all as u128
 }
 
 /// Whether a stop, if there was one, was below a time.

@@ -3,7 +3,7 @@
 use link_timing::Delay;
 use node_kit::{Course, Entry, Journal, Kept, What};
 use run_model::{carried, delivered, excused, schedule_at, timed};
-use slot_plan::{Params, Plan};
+use slot_plan::small_plan;
 use std::alloc::Global;
 use std::process::Abort;
 use std::test::Fail;
@@ -12,31 +12,6 @@ use tiger_base::{
     Beat, DiskNo, FileNo, Instance, LinkNo, NoMemory, Note, Sequence, SlotNo, Span, Stamp, Tenancy,
     Want,
 };
-
-fn small_plan() -> Plan {
-    Plan {
-        params: Params {
-            cubs: 8,
-            disks: 1,
-            slots: 16,
-            play: 1000000,
-            pieces: 2,
-            block: 4,
-            beat: 10000,
-            delay: 2,
-            skew: 4000,
-            window_a: 800000,
-            window_b: 200000,
-            read_lead: 100000,
-            min_lead: 3000000,
-            max_lead: 4000000,
-            batch: 20,
-            heart: 50,
-            deadman: 1000000,
-            hold: 3000000,
-        },
-    }
-}
 
 /// A file of ten bytes, so of three blocks, whose first one is on disk 0.
 fn ten(alloc: Global) -> Result<Catalogue, NoMemory> {

@@ -4,7 +4,7 @@ ghost use Rattle.std.specs.Prelude.{◌≡◌, IfOk};
 use link_timing::Delay;
 use node_kit::{Course, Entry, Journal, Kept, Order, OrderKind, What};
 use run_report::{ORDERS_LIMIT, digests_of, outcomes, report, summary};
-use slot_plan::{Params, Plan, PlanFault};
+use slot_plan::small_plan;
 use std::alloc::Global;
 use std::test::Fail;
 use stripe_layout::{Catalogue, FileInfo};
@@ -12,29 +12,6 @@ use tiger_base::{
     Ask, Beat, DiskNo, FileNo, Instance, Library, LinkNo, NoMemory, Note, Sequence, SlotNo, Span,
     Stamp, Tenancy, Visit, Want,
 };
-
-fn small_plan() -> Result<Plan, PlanFault> {
-    Plan::new(Params {
-        cubs: 8,
-        disks: 1,
-        slots: 16,
-        play: 1000000,
-        pieces: 2,
-        block: 4,
-        beat: 10000,
-        delay: 2,
-        skew: 4000,
-        window_a: 800000,
-        window_b: 200000,
-        read_lead: 100000,
-        min_lead: 3000000,
-        max_lead: 4000000,
-        batch: 20,
-        heart: 50,
-        deadman: 1000000,
-        hold: 3000000,
-    })
-}
 
 fn at(beat: Beat, what: What) -> Entry {
     Entry {
@@ -196,17 +173,17 @@ total starts 3 placed 2 whole 2 pieces 1 missing 3
 report bytes 714 sha256 d83c9cf3a7e73f8731cee966c7675dbf26b2acb6acd20c7dd9d20bdea0339dbc
 ";
 
-fn course(alloc: Global) -> Result<Course, PlanFault>
-    ensures { IfOk result (λ c. c.beats ≡ 600) }
+fn course(alloc: Global) -> Course
+    ensures { result.beats ≡ 600 }
 {
-    Ok(Course {
-        plan: small_plan()?,
+    Course {
+        plan: small_plan(),
         beats: 600,
         offsets: Sequence::new(Vec::new(alloc)),
         deaths: Sequence::new(Vec::new(alloc)),
         faults: Sequence::new(Vec::new(alloc)),
         delay: Delay::Fixed(1),
-    })
+    }
 }
 
 fn catalogue(alloc: Global) -> Result<Catalogue, NoMemory> {
@@ -225,7 +202,7 @@ fn catalogue(alloc: Global) -> Result<Catalogue, NoMemory> {
 fn kept(alloc: Global) -> Result<Kept, Fail>
     ensures { IfOk result (λ k. k.course.beats ≡ 600) }
 {
-    let course = course(alloc)?;
+    let course = course(alloc);
     let catalogue = catalogue(alloc)?;
     let orders = orders(alloc)?;
     let journals = journals(alloc)?;

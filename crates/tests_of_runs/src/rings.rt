@@ -244,50 +244,65 @@ enum Change {
     Beat,
 }
 
-/// Writes what becomes of an entry.
-fn write_changed(change: Change, e: &Entry, journal: &mut Journal) -> Result<(), NoMemory> {
-    let Entry { stamp, what } = *e;
-    match (change, what) {
-        (Change::Lost, What::Got(_, Note::Whole { .. })) => Ok(()),
-        (Change::Late(by), _) => {
-            let reading = stamp.reading.saturating_add(by);
-            journal.write(Entry {
-                stamp: Stamp {
-                    beat: stamp.beat,
-                    reading,
-                },
-                what,
-            })
-        }
-        (Change::Twice, What::Put(t)) => {
-            journal.write(*e)?;
-            let other = Tenancy {
-                instance: Instance(1),
-                ..t
-            };
-            journal.write(Entry {
-                stamp,
-                what: What::Put(other),
-            })
-        }
-        (Change::Span, What::Got(link, Note::Whole { want, sent, part })) => {
-            let part = Span {
+/// Writes what becomes of a block that the viewers got.
+fn write_got(change: Change, e: &Entry, journal: &mut Journal) -> Result<(), NoMemory> {
+    let What::Got(link, Note::Whole { want, sent, part }) = e.what else {
+        return journal.write(*e);
+    };
+    let note = match change {
+        Change::Lost => return Ok(()),
+        Change::Span => Note::Whole {
+            want,
+            sent,
+            part: Span {
                 len: part.len.saturating_sub(1),
                 ..part
+            },
+        },
+        _ => Note::Whole {
+            want,
+            sent: sent.saturating_sub(1),
+            part,
+        },
+    };
+    journal.write(Entry {
+        stamp: e.stamp,
+        what: What::Got(link, note),
+    })
+}
+
+/// Writes what is put, and another instance behind it.
+fn write_put(e: &Entry, journal: &mut Journal) -> Result<(), NoMemory> {
+    journal.write(*e)?;
+    let What::Put(t) = e.what else {
+        return Ok(());
+    };
+    let other = Tenancy {
+        instance: Instance(1),
+        ..t
+    };
+    journal.write(Entry {
+        stamp: e.stamp,
+        what: What::Put(other),
+    })
+}
+
+/// Writes what becomes of an entry.
+fn write_changed(change: Change, e: &Entry, journal: &mut Journal) -> Result<(), NoMemory> {
+    match change {
+        Change::Late(by) => {
+            let reading = e.stamp.reading.saturating_add(by);
+            let stamp = Stamp {
+                beat: e.stamp.beat,
+                reading,
             };
             journal.write(Entry {
                 stamp,
-                what: What::Got(link, Note::Whole { want, sent, part }),
+                what: e.what,
             })
         }
-        (Change::Beat, What::Got(link, Note::Whole { want, sent, part })) => {
-            let sent = sent.saturating_sub(1);
-            journal.write(Entry {
-                stamp,
-                what: What::Got(link, Note::Whole { want, sent, part }),
-            })
-        }
-        _ => journal.write(*e),
+        Change::Twice => write_put(e, journal),
+        _ => write_got(change, e, journal),
     }
 }
 
