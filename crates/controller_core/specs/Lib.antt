@@ -1,3 +1,4 @@
 pub mod Orders
 pub mod Rules
 pub mod State
+pub mod Taken

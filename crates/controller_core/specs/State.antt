@@ -1,5 +1,5 @@
 -- What a controller is seen as, and where it stands.
-use Rattle.std.specs.Prelude.{◌≡◌, ◌==◌, ℕ, ◌+◌, Bool, List, All, IsTrue, Option, find}
+use Rattle.std.specs.Prelude.{◌≡◌, ◌==◌, ℕ, ◌+◌, Bool, List, [], All, IsTrue, Option, find}
 use Rattle.std.specs.List.{list_any}
 use Rattle.tiger_base.specs.declared.number.Instance.{Instance}
 use Rattle.tiger_base.specs.declared.tenancy.Tenancy.{Tenancy}
@@ -16,7 +16,11 @@ pub record ControllerState : Type 0 where
   pub orders : List Order
   pub known : Known
 
--- the tenancy of an instance, where it was told one
+-- a controller that knows nothing yet
+abbrev pub fresh_controller : Params → List Order → ControllerState
+fresh_controller p orders = record { params = p; orders = orders; known = record { placed = []; gone = [] } }
+
+-- the tenancy that is known of an instance: the first one of it, if there is one
 abbrev pub tenancy_of : List Tenancy → Instance → Option Tenancy
 tenancy_of placed v = find (λ t. t.instance.0 == v.0) placed
 

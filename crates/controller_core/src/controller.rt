@@ -2,11 +2,12 @@
 ghost use Rattle.std.specs.Prelude.{◌≡◌, [], ◌≤◌, OnOk};
 ghost use Rattle.std.specs.Bool.{OnTrue};
 ghost use Rattle.tiger_base.specs.Limits.{most_reading};
-ghost use Rattle.node_kit.specs.Deeds.{Did, nothing};
 ghost use Rattle.node_kit.specs.Steps.{Rests};
+ghost use Rattle.node_kit.specs.Steps.Input.{Tick};
+ghost use Rattle.node_kit.specs.Deeds.{Did};
 ghost use Rattle.controller_core.specs.Orders.{AreOrders};
-ghost use Rattle.controller_core.specs.State.{tenancy_of};
-ghost use Rattle.controller_core.specs.Rules.{on_controller, commanding, taking};
+ghost use Rattle.controller_core.specs.State.{fresh_controller, tenancy_of};
+ghost use Rattle.controller_core.specs.Rules.{taking, controller_step};
 
 use crate::known::Known;
 use crate::orders::orders_in;
@@ -40,7 +41,7 @@ impl Controller {
     /// The controller of a plan with its orders, which knows nothing yet. It takes no memory.
     pub fn new(alloc: Global, plan: &Plan, orders: Sequence<Order>) -> Controller
         requires { AreOrders plan.now.params orders }
-        ensures { result ≡ record { params = plan.now.params; orders = orders; known = record { placed = []; gone = [] } } }
+        ensures { result ≡ fresh_controller plan.now.params orders }
     {
         Controller {
             plan: *plan,
@@ -50,7 +51,7 @@ impl Controller {
     }
 
     /// Where an instance was placed: the first tenancy in form that was told of it. `None` exactly
-    /// where none was.
+    /// if none was, as `first_places_are_kept` says.
     pub fn tenancy(&self, instance: Instance) -> Option<Tenancy>
         ensures { result ≡ tenancy_of self.now.known.placed instance }
     {
@@ -59,7 +60,8 @@ impl Controller {
 
     /// Takes a message.
     pub(crate) fn hear<'a>(&mut self, msg: &Msg<'a>) -> Result<(), NoMemory>
-        ensures { OnOk result (self.new ≡ record self.old { known = taking self.old.params msg.now self.old.known }) }
+        ensures { OnOk result (self.new ≡
+            record self.old { known = taking self.old.params msg.now self.old.known }) }
     {
         self.known.take(&self.plan, msg)
     }
@@ -71,7 +73,7 @@ impl Controller {
         out: &mut Outbox<Msg<'a>>,
     ) -> Result<(), NoMemory>
         requires { stamp.reading ≤ most_reading }
-        ensures { OnOk result (Did (on_controller self.old (commanding self.old.params self.old.orders stamp self.old.known)) out.old out.new self.new) }
+        ensures { OnOk result (Did (controller_step self.old (Tick stamp)) out.old out.new self.new) }
     {
         self.known
             .command(&self.plan, self.orders.as_slice(), stamp, out)

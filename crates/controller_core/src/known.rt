@@ -81,7 +81,8 @@ impl Known {
         requires reading { stamp.reading ≤ most_reading }
         requires in_time { IsNonDecreasingBy (λ (o : Order). o.beat) orders.now }
         requires in_form { AreInForm plan.now.params self.old }
-        ensures did { OnOk result (Did (commanding plan.now.params orders.now stamp self.old) out.old out.new self.new) }
+        ensures did { OnOk result (Did (commanding plan.now.params orders.now stamp self.old)
+            out.old out.new self.new) }
         ensures in_form { AreInForm plan.now.params self.new }
     {
         for order in orders_in(orders, stamp.beat) {
@@ -102,7 +103,8 @@ impl Known {
     ) -> Result<(), NoMemory>
         requires reading { reading ≤ most_reading }
         requires in_form { AreInForm plan.now.params self.old }
-        ensures did { OnOk result (Did (carrying plan.now.params orders.now reading order.now self.old) out.old out.new self.new) }
+        ensures did { OnOk result (Did
+            (carrying plan.now.params orders.now reading order.now self.old) out.old out.new self.new) }
         ensures placed { self.new.placed ≡ self.old.placed }
     {
         match &order.what {
@@ -123,7 +125,8 @@ impl Known {
     ) -> Result<(), NoMemory>
         requires reading { reading ≤ most_reading }
         requires in_form { AreInForm plan.now.params self.old }
-        ensures did { OnOk result (Did (stopping plan.now.params orders.now reading instance self.old) out.old out.new self.new) }
+        ensures did { OnOk result (Did
+            (stopping plan.now.params orders.now reading instance self.old) out.old out.new self.new) }
         ensures placed { self.new.placed ≡ self.old.placed }
     {
         if is_gone(self.gone.as_slice(), instance) {
@@ -154,7 +157,8 @@ impl Known {
         out: &mut Outbox<Msg<'a>>,
     ) -> Result<(), NoMemory>
         requires { n ≤ 4294967296 }
-        ensures did { OnOk result (Did (gone_from plan.now.params instance tag n self.old) out.old out.new self.new) }
+        ensures did { OnOk result (Did (gone_from plan.now.params instance tag n self.old)
+            out.old out.new self.new) }
         ensures placed { self.new.placed ≡ self.old.placed }
     {
         out.push(Out::Act(What::Gone(instance)))?;
@@ -198,7 +202,8 @@ fn send_to_both<'a>(
     out: &mut Outbox<Msg<'a>>,
 ) -> Result<(), NoMemory>
     requires { n ≤ 4294967296 }
-    ensures { OnOk result (out.new ≡ out.old ++ to_both plan.now.params n first.entry second.entry) }
+    ensures { OnOk result (out.new ≡
+        out.old ++ to_both plan.now.params n first.entry second.entry) }
 {
     out.push(Out::Send(cub_link(plan, n), first))?;
     out.push(Out::Send(cub_link(plan, n + 1), second))

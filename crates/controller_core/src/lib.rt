@@ -3,10 +3,12 @@
 
 mod controller;
 mod known;
+mod laws;
 mod orders;
 
 pub use controller::Controller;
 pub use known::Known;
+pub use laws::first_places_are_kept;
 
 #[cfg(test)]
 mod tests;

@@ -2,6 +2,7 @@
 use Rattle.std.proofs.Common.{◌≡◌, ℕ, zero, suc, ◌+◌, ◌<◌, ◌≤◌, List, [], ◌∷◌, ◌++◌, Bool, true, false, cond, nat_lt, IsTrue, arith, refl, sym, ap, subst, ◌∙◌}
 use Rattle.std.proofs.lemmas.Bool.{le-ltb}
 use Rattle.std.proofs.lemmas.List.Elements.{All-nil}
+use Rattle.tiger_base.specs.declared.number.Instance.{Instance}
 use Rattle.tiger_base.specs.declared.number.LinkNo.{LinkNo}
 use Rattle.tiger_base.specs.declared.number.Stamp.{Stamp}
 use Rattle.tiger_base.specs.declared.tenancy.Tenancy.{Tenancy}
@@ -17,13 +18,15 @@ use Rattle.node_kit.specs.Steps.Input.{Take, Tick}
 use Rattle.run_facts.specs.Events.{NodeEvent, Past, after, after_input, kept_outs, is_tick, is_death, stamp_at}
 use Rattle.run_facts.specs.Events.NodeEvent.{Does, Dies}
 use Rattle.run_facts.specs.Histories.{History, past, last_of, ticks}
-use Rattle.run_facts.specs.Commanded.{IsCommanded, starts_sent, starts_ordered, gone_in, gone_before}
+use Rattle.run_facts.specs.Commanded.{IsCommanded, place_known, starts_sent, starts_ordered, gone_in, gone_before}
 use Rattle.controller_core.specs.declared.known.Known.{Known}
 use Rattle.controller_core.specs.Orders.{AreOrders}
-use Rattle.controller_core.specs.State.{ControllerState, is_gone}
+use Rattle.controller_core.specs.State.{ControllerState, fresh_controller, is_gone, tenancy_of}
 use Rattle.controller_core.specs.Rules.{controller_step, commanding, taking}
-use Rattle.controller_law.specs.Follows.{opening_controller, IsControllersRun, ControllersFollow}
+use Rattle.controller_law.specs.Follows.{IsControllersRun, ControllersFollow, ControllersKnowPlaces}
 use Rattle.controller_law.proofs.Carrying.{one_if}
+use Rattle.controller_law.proofs.Grown.{places_got_all}
+use Rattle.controller_law.proofs.Taking.{found}
 use Rattle.controller_law.proofs.Events.{Followed, got, entries, took, ticked}
 
 -- a controller that knows so much
@@ -78,7 +81,7 @@ record Reached (p : Params) (os : List Order) (reading : ℕ → ℕ) (h : Histo
   here : (past noted controller_step h n i).state ≡ knowing p os known
   followed : Followed p os reading (ticks h n i) known (past noted controller_step h n i).journal
 
-reached_first : (p : Params) (os : List Order) (reading : ℕ → ℕ) (h : History Msg ControllerState) (n : ℕ) → h.first n ≡ opening_controller p os
+reached_first : (p : Params) (os : List Order) (reading : ℕ → ℕ) (h : History Msg ControllerState) (n : ℕ) → h.first n ≡ fresh_controller p os
     → Reached p os reading h n 0
 reached_first p os reading h n opens = record {
   known = record { placed = []; gone = [] };
@@ -142,7 +145,7 @@ by_event p os beats reading h n i (Dies stamp) plan are run inside e r =
     absurd (let dead = ap (λ (x : NodeEvent Msg). is_death x) e in let alive = run.lives i inside in cc)
 
 reached : (p : Params) (os : List Order) (beats : ℕ) (reading : ℕ → ℕ) (h : History Msg ControllerState) (n i : ℕ)
-    → IsPlan p → AreOrders p os → h.first n ≡ opening_controller p os → IsControllersRun beats reading h n → i ≤ h.count n
+    → IsPlan p → AreOrders p os → h.first n ≡ fresh_controller p os → IsControllersRun beats reading h n → i ≤ h.count n
     → Reached p os reading h n i
 reached p os beats reading h n zero plan are opens run inside = reached_first p os reading h n opens
 reached p os beats reading h n (suc i) plan are opens run inside =
@@ -160,8 +163,23 @@ commanded p os reading beats known journal f = record {
   once = λ v. at_most_one (is_gone known.gone (record { 0 = v })) _ (f.once (record { 0 = v }));
 }
 
+-- at the end
+ended : (p : Params) (os : List Order) (beats : ℕ) (reading : ℕ → ℕ) (h : History Msg ControllerState) (n : ℕ)
+    → IsPlan p → AreOrders p os → h.first n ≡ fresh_controller p os → IsControllersRun beats reading h n
+    → (known : Known) × ((last_of noted controller_step h n).state ≡ knowing p os known)
+    × Followed p os reading beats known (last_of noted controller_step h n).journal
+ended p os beats reading h n plan are opens run =
+    let r = reached p os beats reading h n (h.count n) plan are opens run (omega arith) in
+    (r.known, r.here, subst (λ t. Followed p os reading t r.known (last_of noted controller_step h n).journal) run.all_beats r.followed)
+
 pub controllers_follow : ControllersFollow
 controllers_follow p os beats reading h n plan are opens run =
-    let r = reached p os beats reading h n (h.count n) plan are opens run (omega arith) in
-    commanded p os reading beats r.known (last_of noted controller_step h n).journal
-    (subst (λ t. Followed p os reading t r.known (last_of noted controller_step h n).journal) run.all_beats r.followed)
+    let end = ended p os beats reading h n plan are opens run in
+    commanded p os reading beats end.0 (last_of noted controller_step h n).journal end.2
+
+pub controllers_know_places : ControllersKnowPlaces
+controllers_know_places p os beats reading h n plan are opens run v =
+    let end = ended p os beats reading h n plan are opens run in
+    let journal = (last_of noted controller_step h n).journal in
+    ap (λ (s : ControllerState). tenancy_of s.known.placed v) end.1
+    ∙ (sym (end.2.places_are v) ∙ sym (ap (λ ts. found v ts) (places_got_all p beats journal end.2.by)))

@@ -1,9 +1,7 @@
 -- What a controller knows after a message, and what its journal then tells of it.
-use Rattle.std.proofs.Common.{◌≡◌, ℕ, List, [], ◌∷◌, Bool, true, false, cond, ◌==◌, Option, Some, None, arith, refl, sym, ap, ◌∙◌}
+use Rattle.std.proofs.Common.{◌≡◌, List, [], ◌∷◌, Bool, true, false, cond, ◌==◌, Option, Some, None, refl, sym, ap, ◌∙◌}
 use Rattle.std.specs.Prelude.{find}
 use Rattle.std.specs.Option.{option_or}
-use Rattle.std.proofs.lemmas.Bool.Decides.{nat_tests}
-use Rattle.std.proofs.lemmas.List.Folds.{find-append}
 use Rattle.tiger_base.specs.declared.number.Instance.{Instance}
 use Rattle.tiger_base.specs.declared.number.LinkNo.{LinkNo}
 use Rattle.tiger_base.specs.declared.tenancy.Tenancy.{Tenancy}
@@ -12,12 +10,14 @@ use Rattle.tiger_base.specs.declared.message.Msg.TheVariants as msg
 use Rattle.tiger_base.specs.Notes.{noted}
 use Rattle.slot_plan.specs.declared.params.Params.{Params}
 use Rattle.node_kit.specs.declared.journal.What.TheVariants as what
-use Rattle.node_kit.specs.Form.{is_in_form}
+use Rattle.node_kit.specs.Form.{is_in_form, is_tenancy}
 use Rattle.run_facts.specs.Commanded.{place_of}
 use Rattle.controller_core.specs.declared.known.Known.{Known}
 use Rattle.controller_core.specs.State.{AreInForm, tenancy_of}
 use Rattle.controller_core.specs.Rules.{placed_once, placing, hearing, taking}
+use Rattle.controller_core.specs.Taken.{place_told}
 use Rattle.controller_core.proofs.InForm.{placing_in_form}
+use Rattle.controller_core.proofs.Keeping as keeping
 
 once_gone : (t : Tenancy) (o : Option Tenancy) (known : Known) → (placed_once t o known).gone ≡ known.gone
 once_gone t None known = refl
@@ -50,44 +50,21 @@ unfolding taking
 taking_in_form p m known kept =
     if_in_form p (is_in_form p (noted m)) (hearing m known) known (λ form. hearing_in_form p m known form kept) kept
 
-equal : (a b : ℕ) → (a == b) ≡ true → a ≡ b
-equal a b e = grind (arith, nat_tests)
-
-or_none : (o : Option Tenancy) → option_or o None ≡ o
-or_none None = refl
-or_none (Some t) = refl
-
--- a tenancy of an instance of which one is known already
-known_before : (t u : Tenancy) (placed : List Tenancy) (v : Instance) (b : Bool) → (t.instance.0 == v.0) ≡ b
-    → tenancy_of placed t.instance ≡ Some u → option_or (tenancy_of placed v) (cond b (Some t) None) ≡ tenancy_of placed v
-known_before t u placed v true e there =
-    let same : tenancy_of placed v ≡ Some u =
-    ap (λ n. tenancy_of placed (record { 0 = n })) (sym (equal t.instance.0 v.0 e)) ∙ there in
-    rw same refl
-known_before t u placed v false e there = or_none (tenancy_of placed v)
-
-placed_tells : (t : Tenancy) (known : Known) (v : Instance) (o : Option Tenancy) → tenancy_of known.placed t.instance ≡ o
-    → option_or (tenancy_of known.placed v) (cond (t.instance.0 == v.0) (Some t) None) ≡ tenancy_of (placed_once t o known).placed v
-placed_tells t known v None e = sym (find-append (λ (u : Tenancy). u.instance.0 == v.0) known.placed (t ∷ []))
-placed_tells t known v (Some u) e = known_before t u known.placed v (t.instance.0 == v.0) refl e
-
 -- the tenancy of an instance among those that are told
 abbrev pub found : Instance → List Tenancy → Option Tenancy
 found v ts = find (λ t. t.instance.0 == v.0) ts
 
-told_if : (p : Params) (t : Tenancy) (known : Known) (v : Instance) (b : Bool)
-    → option_or (tenancy_of known.placed v) (found v (cond b (t ∷ []) [])) ≡ tenancy_of (cond b (placing t known) known).placed v
-unfolding placing
-told_if p t known v true = placed_tells t known v (tenancy_of known.placed t.instance) refl
-told_if p t known v false = or_none (tenancy_of known.placed v)
+found_if : (v : Instance) (t : Tenancy) (b : Bool) → found v (cond b (t ∷ []) []) ≡ cond b (cond (t.instance.0 == v.0) (Some t) None) None
+found_if v t true = refl
+found_if v t false = refl
 
-untold : (b : Bool) (known : Known) (v : Instance) → option_or (tenancy_of known.placed v) None ≡ tenancy_of (cond b known known).placed v
-untold true known v = or_none (tenancy_of known.placed v)
-untold false known v = or_none (tenancy_of known.placed v)
+-- the place that the journal tells of a message is the one that the message tells
+place_is : (p : Params) (link : LinkNo) (m : Msg) (v : Instance) → found v (place_of p (what.Got link (noted m))) ≡ place_told p v m
+place_is p link (msg.Placed t) v = found_if v t (is_tenancy p t)
+place_is p link other v = refl
 
 -- what a message tells is what is known after it
 pub taking_tells : (p : Params) (link : LinkNo) (m : Msg) (known : Known) (v : Instance)
     → option_or (tenancy_of known.placed v) (found v (place_of p (what.Got link (noted m)))) ≡ tenancy_of (taking p m known).placed v
-unfolding taking hearing
-taking_tells p link (msg.Placed t) known v = told_if p t known v (is_in_form p (noted (msg.Placed t)))
-taking_tells p link other known v = untold (is_in_form p (noted other)) known v
+taking_tells p link m known v =
+    ap (λ o. option_or (tenancy_of known.placed v) o) (place_is p link m v) ∙ sym (keeping.taking_tells p m known v)

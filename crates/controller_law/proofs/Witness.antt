@@ -14,10 +14,10 @@ use Rattle.run_facts.specs.Events.NodeEvent.{Does}
 use Rattle.run_facts.specs.Histories.{History, last_of, beat, ticks}
 use Rattle.run_facts.specs.Histories as history
 use Rattle.run_facts.specs.Commanded.{starts_sent, starts_ordered}
-use Rattle.controller_core.specs.State.{ControllerState}
+use Rattle.controller_core.specs.State.{ControllerState, fresh_controller}
 use Rattle.controller_core.specs.Rules.{controller_step}
 use Rattle.controller_core.proofs.StartAndStops.{start_and_stops, are_orders}
-use Rattle.controller_law.specs.Follows.{opening_controller, IsControllersRun}
+use Rattle.controller_law.specs.Follows.{IsControllersRun}
 use Rattle.controller_law.proofs.Follows.{controllers_follow}
 
 -- two ticks, in beats 0 and 1
@@ -27,7 +27,7 @@ tick_at (suc i) = Does (Tick (record { beat = 1; reading = 10000 }))
 
 abbrev two_ticks : Params → List Order → History Msg ControllerState
 two_ticks p os =
-    record { first = λ n. opening_controller p os; life = λ n. record { death = None }; count = λ n. 2; event = λ n i. tick_at i }
+    record { first = λ n. fresh_controller p os; life = λ n. record { death = None }; count = λ n. 2; event = λ n i. tick_at i }
 
 alive : (p : Params) (os : List Order) (i : ℕ) → i < 2 → is_death (tick_at i) ≡ false
 alive p os zero inside = refl

@@ -16,9 +16,9 @@ use Rattle.run_facts.specs.Events.NodeEvent.{Does, Dies}
 use Rattle.run_facts.specs.Histories.{History, past, last_of, count_of}
 use Rattle.run_facts.specs.Commanded.{IsCommanded}
 use Rattle.controller_core.specs.Orders.{AreOrders}
-use Rattle.controller_core.specs.State.{ControllerState}
+use Rattle.controller_core.specs.State.{ControllerState, fresh_controller}
 use Rattle.controller_core.specs.Rules.{controller_step}
-use Rattle.controller_law.specs.Follows.{opening_controller, IsControllersRun}
+use Rattle.controller_law.specs.Follows.{IsControllersRun}
 use Rattle.controller_law.proofs.Follows.{controllers_follow}
 
 -- the same events of controllers that all begin in one state
@@ -85,9 +85,9 @@ past_wrapped step wrap same first h n opens (suc i) =
 pub wrapped_follow : {S : Type 0} (step : S → Input Msg → Deed Msg S) (wrap : ControllerState → S)
     → ((s : ControllerState) (i : Input Msg) → step (wrap s) i ≡ wrapped wrap (controller_step s i))
     → (p : Params) (os : List Order) (beats : ℕ) (reading : ℕ → ℕ) (h : History Msg S) (n : ℕ) → IsPlan p → AreOrders p os
-    → h.first n ≡ wrap (opening_controller p os) → IsControllersRun beats reading h n
+    → h.first n ≡ wrap (fresh_controller p os) → IsControllersRun beats reading h n
     → IsCommanded p beats reading os (last_of noted step h n).journal
 wrapped_follow step wrap same p os beats reading h n plan are opens run =
-    let first = opening_controller p os in
+    let first = fresh_controller p os in
     subst (λ j. IsCommanded p beats reading os j) (sym (past_wrapped step wrap same first h n opens (h.count n)).journal)
     (controllers_follow p os beats reading (unwrapped first h) n plan are refl (same_run beats reading first h n run))

@@ -26,7 +26,12 @@ impl<'a, G> Model for DiskNode<'a, G> {
 
     ghost Value = { DiskState };
 
-    ghost view = { λ d. record { params = d.plan.params; disk = d.disk.0; image = d.image.now; faults = d.faults } };
+    ghost view = { λ d. record {
+      params = d.plan.params;
+      disk = d.disk.0;
+      image = d.image.now;
+      faults = d.faults;
+    } };
 
     ghost invariant = { λ d. d.disk.0 < d.plan.params.cubs * d.plan.params.disks };
 }
@@ -42,7 +47,12 @@ impl<'a, G: Gate> DiskNode<'a, G> {
         gate: &'a G,
     ) -> DiskNode<'a, G>
         requires { disk.0 < plan.now.params.cubs * plan.now.params.disks }
-        ensures { result ≡ record { params = plan.now.params; disk = disk.0; image = image.now; faults = faults } }
+        ensures { result ≡ record {
+          params = plan.now.params;
+          disk = disk.0;
+          image = image.now;
+          faults = faults;
+        } }
     {
         DiskNode {
             plan: *plan,

@@ -13,7 +13,7 @@ use Rattle.cub_rules.specs.State.{opening_store, IsCub}
 use Rattle.cub_rules.specs.Cubs.{cub_step}
 use Rattle.disk_core.specs.State.{IsDisk}
 use Rattle.disk_core.specs.Rules.{disk_step}
-use Rattle.controller_core.specs.State.{IsController}
+use Rattle.controller_core.specs.State.{IsController, fresh_controller}
 use Rattle.controller_core.specs.Rules.{controller_step}
 use Rattle.viewer_core.specs.Parts.{AreViewers}
 use Rattle.viewer_core.specs.Rules.{viewers_step}
@@ -67,7 +67,7 @@ opening_disk p faults disk image =
 
 -- the controller opens with its orders, and knows nothing yet
 abbrev pub opening_controller : {G : Type 0} → Params → List Order → AnyNode G
-opening_controller p orders = node.Controller (record { params = p; orders = orders; known = record { placed = []; gone = [] } })
+opening_controller p orders = node.Controller (fresh_controller p orders)
 
 -- the nodes of a run as they open: the cubs, the disks, the controller, and the viewers, who have nothing
 abbrev pub opening_nodes : {G : Type 0} → Params → List ReadFault → List Image → List Order → List (AnyNode G)

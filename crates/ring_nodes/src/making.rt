@@ -26,7 +26,8 @@ pub fn make_images<'a>(
     library: &'a Library,
 ) -> Result<Vec<DiskImage<'a>>, NoMemory>
     requires { HasLengths library.now catalogue.now }
-    ensures { IfOk result (λ images. images.items ≡ images_of plan.now.params catalogue.now library.now) }
+    ensures { IfOk result (λ images. images.items ≡
+        images_of plan.now.params catalogue.now library.now) }
 {
     let mut images: Vec<DiskImage<'a>> = Vec::new(alloc);
     for disk in 0..(plan.params.cubs * plan.params.disks) as u32 {
@@ -48,7 +49,8 @@ pub fn make_nodes<'a, G: Gate>(
 ) -> Result<Vec<AnyNode<'a, G>>, NoMemory>
     requires images { length images.now ≡ disk_count course.now.plan.params }
     requires orders { AreOrders course.now.plan.params orders }
-    ensures nodes { IfOk result (λ nodes. nodes.items ≡ opening_nodes course.now.plan.params course.now.faults images.now orders) }
+    ensures nodes { IfOk result (λ nodes. nodes.items ≡
+        opening_nodes course.now.plan.params course.now.faults images.now orders) }
     ensures count { IfOk result (λ nodes. vec_len nodes ≡ node_count course.now.plan.params) }
     ensures stand { IfOk result (λ nodes. AllStand course.now.plan.params nodes.items) }
 {
@@ -67,7 +69,8 @@ fn add_cubs<'a, G>(
     plan: &Plan,
     nodes: &mut Vec<AnyNode<'a, G>>,
 ) -> Result<(), NoMemory>
-    ensures { OnOk result (nodes.new.items ≡ nodes.old.items ++ numbered (opening_cub plan.now.params) plan.now.params.cubs) }
+    ensures { OnOk result (nodes.new.items ≡
+        nodes.old.items ++ numbered (opening_cub plan.now.params) plan.now.params.cubs) }
 {
     for cub in 0..plan.params.cubs as u32 {
         nodes.push(AnyNode::Cub(Cub::new(alloc, plan, CubNo(cub), 0)))?;
@@ -84,7 +87,8 @@ fn add_disks<'a, G: Gate>(
     nodes: &mut Vec<AnyNode<'a, G>>,
 ) -> Result<(), NoMemory>
     requires { length images.now ≡ disk_count course.now.plan.params }
-    ensures { OnOk result (nodes.new.items ≡ nodes.old.items ++ each_numbered (opening_disk course.now.plan.params course.now.faults) 0 images.now) }
+    ensures { OnOk result (nodes.new.items ≡ nodes.old.items
+        ++ each_numbered (opening_disk course.now.plan.params course.now.faults) 0 images.now) }
 {
     for place in 0..images.len() {
         let disk = DiskNo(place as u32);

@@ -36,7 +36,8 @@ use Rattle.ring_engine.proofs.Running.{same-element}
 use Rattle.ring_engine.proofs.Progressing.{next-none, progress-ends}
 use Rattle.disk_image.specs.Image.{Image}
 use Rattle.controller_core.specs.Orders.{AreOrders}
-use Rattle.controller_law.specs.Follows.{opening_controller, IsControllersRun}
+use Rattle.controller_core.specs.State.{fresh_controller}
+use Rattle.controller_law.specs.Follows.{IsControllersRun}
 use Rattle.controller_law.proofs.Wrapped.{wrapped_follow}
 use Rattle.ring_nodes.specs.declared.nodes.AnyNode.{AnyNode}
 use Rattle.ring_nodes.specs.declared.nodes.AnyNode.TheVariants as node
@@ -141,13 +142,13 @@ other-stands (node.Controller s) p n other h = other (sym (ap (λ (q : Params). 
 other-stands (node.Viewers s) p n other h = tt
 
 pub follow-whole : (G : Type 0) (c : Course) (given nodes : List (AnyNode G)) (os : List Order) (journals : List (List Entry)) → IsCourse c → AreOrders c.plan.params os
-    → AllStand c.plan.params given → slice_get given (controller_of (links_of c.plan.params)) ≡ Some (node.Controller (opening_controller c.plan.params os))
+    → AllStand c.plan.params given → slice_get given (controller_of (links_of c.plan.params)) ≡ Some (node.Controller (fresh_controller c.plan.params os))
     → IsWholeRun {M = Msg} noted (any_step {G = G}) c given nodes journals
     → AreCommanded c.plan.params c.beats (reading_of c (controller_of (links_of c.plan.params))) os journals
 follow-whole G c given nodes os journals course orders stand at whole =
     let p = c.plan.params in
     let k = controller_of (links_of p) in
-    let opened : AnyNode G = node.Controller (opening_controller p os) in
+    let opened : AnyNode G = node.Controller (fresh_controller p os) in
     let first : ℕ → AnyNode G = λ n. get_or given n opened in
     let all : (n : ℕ) → n < length given → slice_get given n ≡ Some (first n) = λ n low. slice_get-get_or given n opened low in
     let st = progress-ends {M = Msg} noted (any_step {G = G}) c given nodes journals first course all whole in
@@ -182,11 +183,11 @@ get-middle (x ∷ xs) y ys = get-middle xs y ys
 
 -- the controller stands behind the cubs and the disks
 pub controller-opens : (G : Type 0) (p : Params) (faults : List ReadFault) (images : List Image) (os : List Order) → length images ≡ disk_count p
-    → slice_get (opening_nodes {G = G} p faults images os) (controller_of (links_of p)) ≡ Some (node.Controller (opening_controller p os))
+    → slice_get (opening_nodes {G = G} p faults images os) (controller_of (links_of p)) ≡ Some (node.Controller (fresh_controller p os))
 controller-opens G p faults images os count =
     let cubs : List (AnyNode G) = numbered (opening_cub p) p.cubs in
     let disks : List (AnyNode G) = each_numbered (opening_disk p faults) 0 images in
     let some = length-numbered (opening_cub {G = G} p) p.cubs in
     let others = length-each_numbered (opening_disk {G = G} p faults) 0 images in
     let number : length (cubs ++ disks) ≡ controller_of (links_of p) = length-append cubs disks ∙ rw (some, others, count) refl in
-    ap (λ n. slice_get (opening_nodes {G = G} p faults images os) n) (sym number) ∙ get-middle (cubs ++ disks) (node.Controller (opening_controller p os)) (node.Viewers [] ∷ [])
+    ap (λ n. slice_get (opening_nodes {G = G} p faults images os) n) (sym number) ∙ get-middle (cubs ++ disks) (node.Controller (fresh_controller p os)) (node.Viewers [] ∷ [])

@@ -44,7 +44,8 @@ impl<'a> Viewers<'a> {
     /// The first part that came for an instance, a visit and a piece, which is 0 for the whole block.
     /// `None` exactly where no such part came.
     pub fn part_of(&self, instance: Instance, visit: Visit, piece: u32) -> Option<Part<'a>>
-        ensures { result ≡ part_under (record { instance = instance; visit = visit; piece = piece }) self.now }
+        ensures { result ≡
+            part_under (record { instance = instance; visit = visit; piece = piece }) self.now }
     {
         let key = Key {
             instance,
