@@ -2,7 +2,7 @@
 //! number, of which it does not. They stand in contracts of functions without a body, and not in
 //! tests, since a weakened definition must be refused where a crate is checked without its tests.
 ghost use Rattle.std.specs.Prelude.{◌≡◌, ℕ, ◌∷◌, [], false};
-ghost use Rattle.tiger_base.specs.declared.tenancy.Kind.TheVariants.{Own};
+ghost use Rattle.tiger_base.specs.Records.{own_of};
 ghost use Rattle.tiger_base.specs.declared.message.Note.TheVariants.{Whole};
 ghost use Rattle.slot_plan.specs.Samples.{small};
 ghost use Rattle.run_claims.specs.Accounts.{end_of};
@@ -11,15 +11,16 @@ ghost use Rattle.run_claims.specs.Visits.{AreServedOnce};
 ghost use Rattle.run_claims.specs.Truths.{BeliefsAreTrue, FailuresAreTrue};
 ghost use Rattle.run_claims.specs.Turns.{AreInTurn};
 ghost use Rattle.run_claims.specs.Patience.{NobodyIsPassedOver};
-ghost use Rattle.run_claims.specs.Samples.{seat, gone, put, took, want, bytes, sends, gets, asks, asked, fails, faulty, dies, believes, IsOfTen, seated, block, piece, ask, ordered, starts, once, IsServedBy, two_beats};
+ghost use Rattle.run_model.specs.Samples.{three, gone, put, took, want, bytes, sends, gets, asks, asked, fails, dies, believes, IsOfTen, seated, block, piece, ask, ordered, starts};
+ghost use Rattle.run_claims.specs.Samples.{faulty, once, IsServedBy, two_beats};
 
 /// Instance 0 is stopped in beat 10. The longest way lasts two beats and a block plays for 100.
 pub fn no_return()
-    ensures put_in_time { NobodyComesBack small (gone 10 0 ∷ put 0 12 (seat 0 0 2) ∷ []) }
-    ensures put_late { NobodyComesBack small (gone 10 0 ∷ put 0 13 (seat 0 0 2) ∷ []) → ⊥ }
-    ensures put_of_other { NobodyComesBack small (gone 10 1 ∷ put 0 13 (seat 0 0 2) ∷ []) }
-    ensures took_in_time { NobodyComesBack small (gone 10 0 ∷ took 0 110 (seat 0 0 2) 0 Own ∷ []) }
-    ensures took_late { NobodyComesBack small (gone 10 0 ∷ took 0 111 (seat 0 0 2) 0 Own ∷ []) → ⊥ }
+    ensures put_in_time { NobodyComesBack small (gone 10 0 ∷ put 0 12 three ∷ []) }
+    ensures put_late { NobodyComesBack small (gone 10 0 ∷ put 0 13 three ∷ []) → ⊥ }
+    ensures put_of_other { NobodyComesBack small (gone 10 1 ∷ put 0 13 three ∷ []) }
+    ensures took_in_time { NobodyComesBack small (gone 10 0 ∷ took 0 110 (own_of three 0) ∷ []) }
+    ensures took_late { NobodyComesBack small (gone 10 0 ∷ took 0 111 (own_of three 0) ∷ []) → ⊥ }
     ensures sent_in_time { NobodyComesBack small (gone 10 0 ∷ sends 0 110 (block 0 0 110 0 4) ∷ []) }
     ensures block_late { NobodyComesBack small (gone 10 0 ∷ sends 0 111 (block 0 0 111 0 4) ∷ []) → ⊥ }
     ensures piece_late { NobodyComesBack small (gone 10 0 ∷ sends 1 111 (piece 0 0 1 111 0 2) ∷ []) → ⊥ }
@@ -90,7 +91,7 @@ pub fn in_order()
 
 /// Cub 0 gets the start of instance 0 in beat 1, and ticks at 10000: visit 0 of slot 1 is in the window.
 pub fn patience()
-    ensures put_then { NobodyIsPassedOver small ordered (once 1 10000) (starts 0 1 ask false ∷ put 0 1 (seat 0 0 2) ∷ []) }
+    ensures put_then { NobodyIsPassedOver small ordered (once 1 10000) (starts 0 1 ask false ∷ put 0 1 three ∷ []) }
     ensures stopped { NobodyIsPassedOver small ordered (once 2 20000) (starts 0 1 ask false ∷ gone 1 0 ∷ []) }
     ensures passed_over { NobodyIsPassedOver small ordered (once 1 10000) (starts 0 1 ask false ∷ []) → ⊥ }
 {}

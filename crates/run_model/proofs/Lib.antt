@@ -12,3 +12,4 @@ pub mod Carriage
 pub mod Ends
 pub mod Seats
 pub mod Walking
+pub mod OnSamples

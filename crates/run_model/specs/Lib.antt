@@ -11,3 +11,4 @@ pub mod Laws
 pub mod Slots
 pub mod Tests
 pub mod Ways
+pub mod Samples

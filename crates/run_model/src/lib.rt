@@ -5,6 +5,7 @@ mod carrying;
 mod laws;
 mod missing;
 mod parcels;
+pub mod rows;
 mod served;
 mod slots;
 mod times;

@@ -3,7 +3,7 @@ use Rattle.std.proofs.lemmas.Bool.{false≢true}
 use Rattle.slot_plan.specs.Times.{due, first_due, disk_of, in_window}
 use Rattle.run_model.specs.Moments.{moment_at}
 use Rattle.run_model.specs.Schedule.{after_entry}
-use Rattle.run_claims.specs.Samples.{ask}
+use Rattle.run_model.specs.Samples.{ask}
 use Rattle.run_claims.proofs.rows.patience.Goals as goal
 
 pub returns-clause-put_then : goal.returns-clause-put_then

@@ -1,16 +1,13 @@
 use Rattle.std.proofs.Common.{◌∷◌, [], refl, inl, arith}
 use Rattle.std.proofs.lemmas.Bool.{false≢true}
-use Rattle.slot_plan.specs.Times.{due, first_due}
 use Rattle.slot_plan.specs.Samples.{small}
-use Rattle.stripe_layout.specs.Places.{place_of}
-use Rattle.stripe_layout.specs.Layout.{block_span}
-use Rattle.mirror_pieces.specs.Pieces.{piece_of, piece_start, piece_end}
-use Rattle.run_claims.specs.Samples.{ten, all, block, seated, want, bytes, gets, seat}
+use Rattle.run_model.specs.Samples.{ten, all, block, seated, want, bytes, gets, seat}
+use Rattle.run_model.proofs.OnSamples.{on_samples}
 use Rattle.run_claims.proofs.Fits.{passes-for-some}
 use Rattle.run_claims.proofs.rows.strangers.Goals as goal
 
 pub returns-clause-piece : goal.returns-clause-piece
-unfolding due first_due place_of block_span piece_of piece_start piece_end
+unfolding on_samples
 returns-clause-piece c s = record {
   settled = ((λ n first last end. absurd (omega (arith, end))), (tt, tt));
   got = (
@@ -36,7 +33,7 @@ returns-clause-piece c s = record {
 }
 
 pub returns-clause-short : goal.returns-clause-short
-unfolding place_of block_span
+unfolding on_samples
 returns-clause-short c s h =
     let journals = all (seated ∷ gets 0 51 (block 0 0 50 0 3) ∷ []) in
     false≢true (passes-for-some small (ten s) journals (want 0 0 0) (bytes 0 3) (h.got.1.0 refl).1)

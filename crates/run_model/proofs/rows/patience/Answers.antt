@@ -1,0 +1,41 @@
+use Rattle.std.proofs.Common.{◌≡◌, refl, sym, ⊎_elim, inl, inr, arith}
+use Rattle.std.proofs.lemmas.Bool.{false≢true}
+use Rattle.run_model.specs.Samples.{ask}
+use Rattle.run_model.proofs.OnSamples.{on_samples, only-order}
+use Rattle.run_model.proofs.rows.patience.Goals as goal
+
+pub returns-clause-put_then : goal.returns-clause-put_then
+unfolding on_samples
+returns-clause-put_then c = record { taken = λ a slot visit o s p g l d w. let same = only-order ask a o in absurd (false≢true (sym (rw (← same) at p))) }
+
+pub returns-clause-stopped : goal.returns-clause-stopped
+unfolding on_samples
+returns-clause-stopped c = record { taken = λ a slot visit o s p g l d w. let same = only-order ask a o in absurd (false≢true (sym (rw (← same) at g))) }
+
+pub returns-clause-waits : goal.returns-clause-waits
+unfolding on_samples
+returns-clause-waits c h = ⊎_elim (λ t. let holder = t.1 in absurd (cc)) (λ n. n) (h.taken ask 1 0 (inl refl) (inl (refl, inl (refl, refl))) refl refl (omega arith) refl refl)
+
+pub returns-clause-put_too_late : goal.returns-clause-put_too_late
+unfolding on_samples
+returns-clause-put_too_late c h = ⊎_elim (λ t. let holder = t.1 in absurd (cc)) (λ n. n) (h.taken ask 1 0 (inl refl) (inl (refl, inl (refl, refl))) refl refl (omega arith) refl refl)
+
+pub returns-clause-other_put : goal.returns-clause-other_put
+unfolding on_samples
+returns-clause-other_put c h = ⊎_elim (λ t. let holder = t.1 in absurd (cc)) (λ n. n) (h.taken ask 1 0 (inl refl) (inl (refl, inl (refl, refl))) refl refl (omega arith) refl refl)
+
+pub returns-clause-other_stopped : goal.returns-clause-other_stopped
+unfolding on_samples
+returns-clause-other_stopped c h = ⊎_elim (λ t. let holder = t.1 in absurd (cc)) (λ n. n) (h.taken ask 1 0 (inl refl) (inl (refl, inl (refl, refl))) refl refl (omega arith) refl refl)
+
+pub returns-clause-last_slot : goal.returns-clause-last_slot
+unfolding on_samples
+returns-clause-last_slot c h = ⊎_elim (λ t. let holder = t.1 in absurd (cc)) (λ n. n) (h.taken ask 15 0 (inl refl) (inl (refl, inl (refl, refl))) refl refl (omega arith) refl refl)
+
+pub returns-clause-for_dead : goal.returns-clause-for_dead
+unfolding on_samples
+returns-clause-for_dead c h = ⊎_elim (λ t. let holder = t.1 in absurd (cc)) (λ n. n) (h.taken ask 1 0 (inl refl) (inr (refl, (refl, inl (refl, refl)))) refl refl (omega arith) refl refl)
+
+pub returns-clause-for_living : goal.returns-clause-for_living
+unfolding on_samples
+returns-clause-for_living c = record { taken = λ a slot visit o s p g l d w. ⊎_elim (λ own. ⊎_elim (λ x. absurd (false≢true (sym x.1))) (λ n. absurd n) own.1) (λ next. absurd (false≢true next.1.0)) s }
