@@ -1,21 +1,16 @@
 //! How calls over files in memory end, and what is said of it.
-ghost use Rattle.std.specs.Prelude.{◌≡◌, ◌<◌, IfOk};
+ghost use Rattle.std.specs.Prelude.{◌≡◌, IfOk};
 
 use crate::status::{Status, exit_of, line_of};
-use crate::top::tiger;
+use crate::top::{Ended, tiger};
 use node_kit::OpenGate;
 use outside::{MemFiles, MemSink};
-use scenario_read::ScenarioFault;
 use std::alloc::Global;
-use std::process::Abort;
 use std::test::Fail;
-use tiger_base::FileNo;
 
-const HEAD: &str =
-    "{\"plan\":{\"cubs\":8,\"disks\":1,\"slots\":16,\"play\":1000000,\"pieces\":2,\"block\":4,\"beat\":10000,\"delay\":2,\"skew\":4000,\"window_a\":";
-
-const TAIL: &str =
-    ",\"window_b\":200000,\"read_lead\":100000,\"min_lead\":3000000,\"max_lead\":4000000,\"batch\":20,\"heart\":50,\"deadman\":1000000,\"hold\":3000000},\"beats\":600,\"links\":{\"fixed\":1},\"files\":[{\"name\":\"ten\",\"disk\":0}],\"events\":[{\"beat\":0,\"start\":0}]";
+/// The scenario of one viewer of the file `ten`.
+const ONE: &str =
+    r#"{"plan":{"cubs":8,"disks":1,"slots":16,"play":1000000,"pieces":2,"block":4,"beat":10000,"delay":2,"skew":4000,"window_a":800000,"window_b":200000,"read_lead":100000,"min_lead":3000000,"max_lead":4000000,"batch":20,"heart":50,"deadman":1000000,"hold":3000000},"beats":600,"links":{"fixed":1},"files":[{"name":"ten","disk":0}],"events":[{"beat":0,"start":0}]}"#;
 
 const SIX_LINES: &str = "start 0 file 0 slot 1 first 0
 block 0 due 500000 whole 4 sent 50
@@ -29,68 +24,75 @@ const TWO_LINES: &str = "total starts 300 placed 256 whole 4238 pieces 307 missi
 report bytes 243282 sha256 02f52f4c906e9f9cc859c5216a52e51b2987e0a20c49a6e151845728a33b57a0
 ";
 
-const RUN_ONE: [&str; 3] = ["run", "one.json", "1"];
-
-/// The scenario of one viewer of the file `ten`, with a window and with more keys.
-fn scenario_with(alloc: Global, window_a: &str, more: &str) -> Result<Vec<u8>, Fail> {
-    let mut text = Vec::new(alloc);
-    for part in [HEAD, window_a, TAIL, more, "}"] {
-        text.extend_from_slice(part.as_bytes())?;
-    }
-    Ok(text)
-}
-
 /// What a call is given: the scenario `one.json` and the file `ten`, if they are there, and the read
 /// and the put that fail, the latter with the bytes that it keeps.
-#[derive(Clone, Copy)]
-struct Setting<'a> {
-    scenario: Option<&'a [u8]>,
-    ten: Option<&'a [u8]>,
+#[derive(Drop)]
+struct Given {
+    scenario: Option<Vec<u8>>,
+    ten: Option<Vec<u8>>,
     failing_read: Option<u64>,
     failing_put: Option<(u64, u64)>,
 }
 
-/// A scenario and a file, where no read and no put fails.
-fn given<'a>(scenario: &'a [u8], ten: &'a [u8]) -> Setting<'a> {
-    Setting {
-        scenario: Some(scenario),
-        ten: Some(ten),
+/// The scenario and its ten bytes; no read and no put fails.
+fn given_one(alloc: Global) -> Result<Given, Fail> {
+    Ok(Given {
+        scenario: Some(ONE.as_bytes().to_vec(alloc)?),
+        ten: Some(b"1234567890".to_vec(alloc)?),
         failing_read: None,
         failing_put: None,
-    }
+    })
 }
 
-/// How a call ended, whether its run was kept, and what was written.
-#[derive(Drop)]
-struct Seen {
-    status: Status,
-    kept: bool,
-    written: Vec<u8>,
+/// So many letters.
+fn letters(alloc: Global, count: &str) -> Result<Vec<u8>, Fail> {
+    let count = count.parse::<usize>()?;
+    Ok(vec![in alloc; b'a'; count]?)
+}
+
+/// The scenario with one text in another's place.
+fn edited(alloc: Global, edit: &str) -> Result<Vec<u8>, Fail> {
+    let (old, new) = edit.split_once(" for ").ok_or("no edit")?;
+    Ok(ONE.replacen(alloc, old, new, 1)?.into_bytes())
+}
+
+/// Changes what a call is given, as `ten: none` or `put: 1 3`.
+fn change(alloc: Global, given: &mut Given, change: &str) -> Result<(), Fail> {
+    match change.split_once(": ").ok_or("no change")? {
+        ("scenario", "none") => given.scenario = None,
+        ("scenario", edit) => given.scenario = Some(edited(alloc, edit)?),
+        ("letters", count) => given.scenario = Some(letters(alloc, count)?),
+        ("ten", "none") => given.ten = None,
+        ("ten", count) => given.ten = Some(letters(alloc, count)?),
+        ("read", call) => given.failing_read = Some(call.parse::<u64>()?),
+        (_, numbers) => {
+            let (put, keep) = numbers.split_once(' ').ok_or("no put")?;
+            given.failing_put = Some((put.parse::<u64>()?, keep.parse::<u64>()?));
+        }
+    }
+    Ok(())
 }
 
 /// The files in memory, before the first read.
-fn files_of(alloc: Global, given: &Setting<'_>) -> Result<MemFiles, Fail>
+fn files_of(
+    alloc: Global,
+    scenario: Option<Vec<u8>>,
+    ten: Option<Vec<u8>>,
+    failing: Option<u64>,
+) -> Result<MemFiles, Fail>
     ensures { IfOk result (λ m. m.counts.calls ≡ 0) }
 {
     let mut files = MemFiles::new(alloc);
-    if let Some(bytes) = given.scenario {
-        files.put("one.json", bytes.to_vec(alloc)?)?;
+    if let Some(bytes) = scenario {
+        files.put("one.json", bytes)?;
     }
-    if let Some(bytes) = given.ten {
-        files.put("ten", bytes.to_vec(alloc)?)?;
+    if let Some(bytes) = ten {
+        files.put("ten", bytes)?;
     }
-    if let Some(call) = given.failing_read {
+    if let Some(call) = failing {
         files.fail_at(call)?;
     }
     Ok(files)
-}
-
-fn words_of(alloc: Global, words: &[&str]) -> Result<Vec<String>, Fail> {
-    let mut given = Vec::new(alloc);
-    for word in words {
-        given.push(String::from_str(alloc, word)?)?;
-    }
-    Ok(given)
 }
 
 /// The sink in memory, before the first put.
@@ -104,83 +106,72 @@ fn sink_of(alloc: Global, failing: Option<(u64, u64)>) -> Result<MemSink, Fail>
     Ok(out)
 }
 
-/// The call that these words and files make.
-fn ran(alloc: Global, words: &[&str], given: &Setting<'_>) -> Result<Seen, Fail> {
-    let mut files = files_of(alloc, given)?;
-    let mut out = sink_of(alloc, given.failing_put)?;
+fn words_of(alloc: Global, words: &str) -> Result<Vec<String>, Fail> {
+    let mut given = Vec::new(alloc);
+    for word in words.split_ascii_whitespace() {
+        given.push(String::from_str(alloc, word)?)?;
+    }
+    Ok(given)
+}
+
+/// The exit number, whether a run was kept, the line on standard error, and what was written.
+fn told(alloc: Global, ended: &Ended, written: &[u8]) -> Result<Vec<u8>, Fail> {
+    let kept = if ended.kept.is_some() { "kept" } else { "none" };
+    let line = line_of(alloc, &ended.status)?;
+    let front = format!(in alloc; "{} {kept} {}", exit_of(&ended.status), line.as_str())?;
+    let mut text = front.into_bytes();
+    text.extend_from_slice(written)?;
+    Ok(text)
+}
+
+/// What is told of the call that these words and files make.
+fn ran(alloc: Global, words: &str, given: Given) -> Result<Vec<u8>, Fail> {
+    let Given {
+        scenario,
+        ten,
+        failing_read,
+        failing_put,
+    } = given;
+    let mut files = files_of(alloc, scenario, ten, failing_read)?;
+    let mut out = sink_of(alloc, failing_put)?;
     let words = words_of(alloc, words)?;
     let ended = tiger(alloc, &words, &mut files, &mut out, &OpenGate);
-    Ok(Seen {
-        status: ended.status,
-        kept: ended.kept.is_some(),
-        written: out.bytes().to_vec(alloc)?,
-    })
+    told(alloc, &ended, out.bytes())
 }
 
-/// What one word after another asks of the scenario of one viewer, over its ten bytes.
-fn ran_one(alloc: Global, words: &[&str]) -> Result<Seen, Fail> {
-    let one = scenario_with(alloc, "800000", "")?;
-    ran(alloc, words, &given(one.as_slice(), b"1234567890"))
-}
-
-fn broken(rule: u32, item: u32) -> ScenarioFault {
-    ScenarioFault {
-        rule,
-        item,
-        left: 0,
-        right: 0,
+/// What is told of a call on the scenario of one viewer, once what it is given is changed.
+fn ran_one(alloc: Global, words: &str, changes: &str) -> Result<Vec<u8>, Fail> {
+    let mut given = given_one(alloc)?;
+    for part in changes.split("; ") {
+        if !part.is_empty() {
+            change(alloc, &mut given, part)?;
+        }
     }
-}
-
-/// A run was refused with this status, its line on standard error and its number: nothing was written or kept.
-fn assert_refused(
-    rt: &impl Abort,
-    alloc: Global,
-    ran: &Seen,
-    wanted: (Status, &str, u8),
-) -> Result<(), Fail> {
-    assert!(rt; ran.written.is_empty());
-    assert!(rt; !ran.kept);
-    assert_said(rt, alloc, ran.status, wanted)
-}
-
-/// The status, its line on standard error and its number.
-fn assert_said(
-    rt: &impl Abort,
-    alloc: Global,
-    status: Status,
-    wanted: (Status, &str, u8),
-) -> Result<(), Fail> {
-    assert_eq!(rt; status, wanted.0);
-    let line = line_of(alloc, &status)?;
-    assert_eq!(rt; line.as_str(), wanted.1);
-    assert_eq!(rt; exit_of(&status), wanted.2);
-    Ok(())
+    ran(alloc, words, given)
 }
 
 #[test]
 fn one_viewer_gets_its_three_blocks(rt: HostRuntime) -> Result<(), Fail> {
-    let ran = ran_one(rt.alloc(), &RUN_ONE)?;
-    assert_eq!(&rt; ran.status, Status::Done);
-    assert!(&rt; ran.kept);
-    assert!(&rt; ran.written.as_slice() == SIX_LINES.as_bytes());
+    let told = ran_one(rt.alloc(), "run one.json 1", "")?;
+    assert!(rt; told.as_slice().strip_prefix(b"0 kept ") == Some(SIX_LINES.as_bytes()));
     Ok(())
 }
 
 #[test]
 fn a_made_scenario_is_summed_up(rt: HostRuntime) -> Result<(), Fail> {
-    let alloc = rt.alloc();
-    let nothing = Setting {
-        scenario: None,
-        ten: None,
-        failing_read: None,
-        failing_put: None,
-    };
-    let ran = ran(alloc, &["make", "0"], &nothing)?;
-    assert_eq!(&rt; ran.status, Status::Done);
-    assert!(&rt; ran.kept);
-    assert!(&rt; ran.written.as_slice() == TWO_LINES.as_bytes());
+    let told = ran_one(rt.alloc(), "make 0", "scenario: none; ten: none")?;
+    assert!(rt; told.as_slice().strip_prefix(b"0 kept ") == Some(TWO_LINES.as_bytes()));
     Ok(())
+}
+
+/// Whether a call wrote so many bytes of the report, and then a put failed.
+fn is_cut(alloc: Global, put: &str, len: usize) -> Result<bool, Fail> {
+    let told = ran_one(alloc, "run one.json 1", put)?;
+    let text = told.as_slice();
+    let written = text
+        .strip_prefix(b"6 kept tiger: write fault\n")
+        .ok_or("no write fault")?;
+    Ok(written.len() == len && SIX_LINES.as_bytes().starts_with(written))
 }
 
 #[test]
@@ -188,183 +179,82 @@ fn each_put_that_fails_ends_the_run_behind_a_front_of_its_line(
     rt: HostRuntime,
 ) -> Result<(), Fail> {
     let alloc = rt.alloc();
-    let one = scenario_with(alloc, "800000", "")?;
-    for (put, keep, written) in [
-        (0, 3, 3),
-        (1, 3, 33),
-        (2, 3, 68),
-        (3, 3, 105),
-        (4, 3, 142),
-        (5, 3, 256),
-        (1, 5, 35),
+    for (put, len) in [
+        ("put: 0 3", 3),
+        ("put: 1 3", 33),
+        ("put: 2 3", 68),
+        ("put: 3 3", 105),
+        ("put: 4 3", 142),
+        ("put: 5 3", 256),
+        ("put: 1 5", 35),
     ] {
-        let failing_put = Some((put, keep));
-        let given = Setting {
-            failing_put,
-            ..given(one.as_slice(), b"1234567890")
-        };
-        let ran = ran(alloc, &RUN_ONE, &given)?;
-        assert_eq!(&rt; ran.status, Status::WriteFault);
-        assert!(&rt; ran.kept);
-        assert_eq!(&rt; ran.written.len(), written);
-        assert!(&rt; SIX_LINES.as_bytes().starts_with(ran.written.as_slice()));
+        assert!(rt; is_cut(alloc, put, len)?, "{put}");
     }
     Ok(())
 }
 
-/// No front of a scenario is one: each breaks the first rule.
-fn assert_no_scenario(rt: &impl Abort, alloc: Global, fronts: &[u8]) -> Result<(), Fail> {
-    let wanted = Status::Scenario(broken(1, 0));
-    for len in 0..fronts.len() {
-        let ran = ran(alloc, &RUN_ONE, &given(&fronts[..len], b"1234567890"))?;
-        assert_eq!(rt; ran.status, wanted);
-    }
-    Ok(())
+/// Whether a front of the scenario breaks the first rule.
+fn is_no_scenario(alloc: Global, front: &[u8]) -> Result<bool, Fail> {
+    let mut given = given_one(alloc)?;
+    given.scenario = Some(front.to_vec(alloc)?);
+    let told = ran(alloc, "run one.json 1", given)?;
+    let wanted = "5 none tiger: scenario rule 1 item 0 left 0 right 0\n";
+    Ok(told.as_slice() == wanted.as_bytes())
 }
 
 #[test]
 fn a_scenario_that_is_cut_breaks_the_first_rule(rt: HostRuntime) -> Result<(), Fail> {
     let alloc = rt.alloc();
-    let one = scenario_with(alloc, "800000", "")?;
-    assert_no_scenario(&rt, alloc, one.as_slice())?;
-    let half = &one.as_slice()[..one.len() / 2];
-    let ran = ran(alloc, &RUN_ONE, &given(half, b"1234567890"))?;
-    let line = "tiger: scenario rule 1 item 0 left 0 right 0\n";
-    assert_refused(&rt, alloc, &ran, (Status::Scenario(broken(1, 0)), line, 5))
+    let one = ONE.as_bytes();
+    for len in 0..one.len() {
+        assert!(rt; is_no_scenario(alloc, &one[..len])?);
+    }
+    Ok(())
+}
+
+// Each row has the words of a call, the changes of what it is given, and how it ends: nothing was kept and written.
+const REFUSALS: &str = r#"run one.json 0 | | 2 none tiger: words
+run one.json 01 | | 2 none tiger: words
+run one.json 65 | | 2 none tiger: words
+run one.json +1 | | 2 none tiger: words
+run one.json | | 2 none tiger: words
+runs one.json 1 | | 2 none tiger: words
+make 01 | | 2 none tiger: words
+make -1 | | 2 none tiger: words
+make 18446744073709551616 | | 2 none tiger: words
+make | | 2 none tiger: words
+ | | 2 none tiger: words
+run one.json 1 | scenario: none | 3 none tiger: absent scenario
+run one.json 1 | ten: none | 3 none tiger: absent file 0
+run one.json 1 | read: 0 | 4 none tiger: read fault scenario
+run one.json 1 | read: 1 | 4 none tiger: read fault file 0
+run one.json 1 | scenario: "window_a":800000 for "window_a":986001 | 5 none tiger: scenario rule 4 item 2 left 1000001 right 1000000
+run one.json 1 | scenario: "beats" for "deaths":[{"cub":3,"beat":5},{"cub":4,"beat":5}],"beats" | 5 none tiger: scenario rule 11 item 1 left 0 right 0
+run one.json 1 | ten: 0 | 5 none tiger: scenario rule 13 item 0 left 0 right 0
+run one.json 1 | letters: 4194305 | 8 none tiger: too long scenario given 4194305 most 4194304
+run one.json 1 | ten: 16777217 | 8 none tiger: too long file 0 given 16777217 most 16777216"#;
+
+/// Whether a row's call ends as the row says.
+fn is_refused(alloc: Global, row: &str) -> Result<bool, Fail> {
+    let (words, rest) = row.split_once(" |").ok_or("no changes")?;
+    let (changes, wanted) = rest.split_once(" | ").ok_or("no end")?;
+    let told = ran_one(alloc, words, changes.trim_ascii())?;
+    Ok(told.as_slice().trim_ascii_end() == wanted.as_bytes())
 }
 
 #[test]
-fn a_scenario_that_breaks_a_rule_is_refused(rt: HostRuntime) -> Result<(), Fail> {
+fn what_is_not_as_it_should_be_is_refused(rt: HostRuntime) -> Result<(), Fail> {
     let alloc = rt.alloc();
-    let window = ScenarioFault {
-        rule: 4,
-        item: 2,
-        left: 1000001,
-        right: 1000000,
-    };
-    let neighbours = ",\"deaths\":[{\"cub\":3,\"beat\":5},{\"cub\":4,\"beat\":5}]";
-    let cases: [(&str, &str, &[u8], ScenarioFault, &str); 3] = [
-        (
-            "986001",
-            "",
-            b"1234567890",
-            window,
-            "tiger: scenario rule 4 item 2 left 1000001 right 1000000\n",
-        ),
-        (
-            "800000",
-            neighbours,
-            b"1234567890",
-            broken(11, 1),
-            "tiger: scenario rule 11 item 1 left 0 right 0\n",
-        ),
-        (
-            "800000",
-            "",
-            b"",
-            broken(13, 0),
-            "tiger: scenario rule 13 item 0 left 0 right 0\n",
-        ),
-    ];
-    for (window_a, more, ten, fault, line) in cases {
-        let scenario = scenario_with(alloc, window_a, more)?;
-        let ran = ran(alloc, &RUN_ONE, &given(scenario.as_slice(), ten))?;
-        assert_refused(&rt, alloc, &ran, (Status::Scenario(fault), line, 5))?;
+    for row in REFUSALS.lines() {
+        assert!(rt; is_refused(alloc, row)?, "{row}");
     }
     Ok(())
 }
 
 #[test]
-fn words_out_of_form_are_refused(rt: HostRuntime) -> Result<(), Fail> {
-    let alloc = rt.alloc();
-    let all: [&[&str]; 11] = [
-        &["run", "one.json", "0"],
-        &["run", "one.json", "01"],
-        &["run", "one.json", "65"],
-        &["run", "one.json", "+1"],
-        &["run", "one.json"],
-        &["runs", "one.json", "1"],
-        &["make", "01"],
-        &["make", "-1"],
-        &["make", "18446744073709551616"],
-        &["make"],
-        &[],
-    ];
-    for words in all {
-        let ran = ran_one(alloc, words)?;
-        assert_refused(&rt, alloc, &ran, (Status::Words, "tiger: words\n", 2))?;
-    }
-    Ok(())
-}
-
-#[test]
-fn a_scenario_or_file_that_is_not_there_is_absent(rt: HostRuntime) -> Result<(), Fail> {
-    let alloc = rt.alloc();
-    let one = scenario_with(alloc, "800000", "")?;
-    let both = given(one.as_slice(), b"1234567890");
-    let scenario = Setting {
-        scenario: None,
-        ..both
-    };
-    let no_scenario = ran(alloc, &RUN_ONE, &scenario)?;
-    let wanted = (Status::Absent { file: None }, "tiger: absent scenario\n", 3);
-    assert_refused(&rt, alloc, &no_scenario, wanted)?;
-    let no_file = ran(alloc, &RUN_ONE, &Setting { ten: None, ..both })?;
-    let file = Some(FileNo(0));
-    let wanted = (Status::Absent { file }, "tiger: absent file 0\n", 3);
-    assert_refused(&rt, alloc, &no_file, wanted)
-}
-
-#[test]
-fn a_read_that_fails_names_its_file(rt: HostRuntime) -> Result<(), Fail> {
-    let alloc = rt.alloc();
-    let one = scenario_with(alloc, "800000", "")?;
-    let cases: [(u64, Option<FileNo>, &str); 2] = [
-        (0, None, "tiger: read fault scenario\n"),
-        (1, Some(FileNo(0)), "tiger: read fault file 0\n"),
-    ];
-    for (call, file, line) in cases {
-        let given = Setting {
-            failing_read: Some(call),
-            ..given(one.as_slice(), b"1234567890")
-        };
-        let ran = ran(alloc, &RUN_ONE, &given)?;
-        assert_refused(&rt, alloc, &ran, (Status::ReadFault { file }, line, 4))?;
-    }
-    Ok(())
-}
-
-#[test]
-fn a_file_above_its_limit_is_too_long(rt: HostRuntime) -> Result<(), Fail> {
-    let alloc = rt.alloc();
-    let one = scenario_with(alloc, "800000", "")?;
-    let long = vec![in alloc; b'a'; 16777217]?;
-    let ran = ran(alloc, &RUN_ONE, &given(one.as_slice(), long.as_slice()))?;
-    let wanted = Status::TooLong {
-        file: Some(FileNo(0)),
-        given: 16777217,
-        most: 16777216,
-    };
-    let line = "tiger: too long file 0 given 16777217 most 16777216\n";
-    assert_refused(&rt, alloc, &ran, (wanted, line, 8))
-}
-
-#[test]
-fn other_statuses_have_their_lines_and_numbers(rt: HostRuntime) -> Result<(), Fail> {
-    let alloc = rt.alloc();
-    let scenario = Status::TooLong {
-        file: None,
-        given: 4194305,
-        most: 4194304,
-    };
-    let line = "tiger: too long scenario given 4194305 most 4194304\n";
-    for wanted in [
-        (Status::Done, "", 0),
-        (Status::WriteFault, "tiger: write fault\n", 6),
-        (Status::NoMemory, "tiger: no memory\n", 7),
-        (scenario, line, 8),
-    ] {
-        assert_said(&rt, alloc, wanted.0, wanted)?;
-    }
+fn want_of_memory_has_its_line_and_number(rt: HostRuntime) -> Result<(), Fail> {
+    let line = line_of(rt.alloc(), &Status::NoMemory)?;
+    assert_eq!(rt; line.as_str(), "tiger: no memory\n");
+    assert_eq!(rt; exit_of(&Status::NoMemory), 7);
     Ok(())
 }
