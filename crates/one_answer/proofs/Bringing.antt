@@ -9,7 +9,7 @@ use Rattle.link_timing.proofs.Arrivals.{GoesOn-from_IsClock, IsClock-after_send}
 use Rattle.node_kit.specs.Life.{Lifetime}
 use Rattle.run_facts.specs.Events.{Dated}
 use Rattle.run_facts.specs.Paced.{Passage, passages, is_heard, brought, ArePacedOn}
-use Rattle.run_facts.proofs.Pacing.{AreInOrder}
+use Rattle.run_facts.specs.Accounts.{AreInOrder}
 use Rattle.run_facts.proofs.Rows.{all-weaker, filter-none}
 use Rattle.one_answer.proofs.Dated.{dated_below, arriving_below, order-above}
 use Rattle.one_answer.proofs.Lists.{filter-swap}

@@ -4,7 +4,7 @@ use Rattle.std.specs.Prelude.{nat_lt}
 use Rattle.std.specs.List.{AllByRecursion}
 use Rattle.run_facts.specs.Events.{NodeEvent, Dated, stamp_at}
 use Rattle.run_facts.specs.Paced.{Passage}
-use Rattle.run_facts.proofs.Pacing.{AreInOrder}
+use Rattle.run_facts.specs.Accounts.{AreInOrder}
 use Rattle.run_facts.proofs.Rows.{all-weaker}
 
 -- the events of the beats below one, what is sent or taken in them, and what arrives in them

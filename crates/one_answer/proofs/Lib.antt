@@ -3,8 +3,6 @@ pub mod Bringing
 pub mod Catalogues
 pub mod Dated
 pub mod Determined
-pub mod Keeping
-pub mod Listed
 pub mod Lists
 pub mod Living
 pub mod One

@@ -17,9 +17,9 @@ use Rattle.run_facts.specs.Events.NodeEvent.{Does, Dies}
 use Rattle.run_facts.specs.Histories.{History, past, beat, sent, IsRun, IsComplete}
 use Rattle.run_facts.specs.Paced.{ArePacedOn}
 use Rattle.run_facts.proofs.Along.{life-after}
-use Rattle.run_facts.proofs.Timelines.{IsInTurn, LivesBy}
-use Rattle.one_answer.specs.Courses.{KeepsCourse}
-use Rattle.one_answer.proofs.Listed.{events_of, listed-all, listed-sends, listed-takes, listed-ticks, listed-counted, listed-turn, listed-ended, listed-alive}
+use Rattle.run_facts.specs.Accounts.{IsInTurn, LivesBy}
+use Rattle.run_facts.specs.Kept.{KeepsCourse}
+use Rattle.run_facts.proofs.Listed.{events_of, listed-all, listed-sends, listed-takes, listed-ticks, listed-counted, listed-turn, listed-ended, listed-alive}
 use Rattle.one_answer.proofs.Resting.{IsRest}
 
 -- what node n takes comes on a link from one of the nodes

@@ -10,7 +10,7 @@ use Rattle.run_facts.specs.Events.{NodeEvent, Past, opening, after_all}
 use Rattle.run_facts.specs.Histories.{History, HaveHistory, last_of}
 use Rattle.one_answer.specs.Answers.{AreSame, RunsAreOne}
 use Rattle.one_answer.proofs.Beats.{all-same}
-use Rattle.one_answer.proofs.Listed.{events_of, listed-last, listed-length, listed-get}
+use Rattle.run_facts.proofs.Listed.{events_of, listed-last, listed-length, listed-get}
 use Rattle.one_answer.proofs.Lists.{some-same, element-of, each-same}
 use Rattle.one_answer.proofs.Living.{lived-of}
 

@@ -7,16 +7,12 @@ use Rattle.tiger_base.specs.declared.number.Stamp.{Stamp}
 use Rattle.node_kit.specs.Life.{Lifetime, acts}
 use Rattle.node_kit.specs.Steps.{Input}
 use Rattle.node_kit.specs.Steps.Input.{Take, Tick}
-use Rattle.run_facts.specs.Events.{NodeEvent, stamp_at, is_tick_input, is_death}
+use Rattle.run_facts.specs.Events.{NodeEvent, stamp_at, is_tick_input}
 use Rattle.run_facts.specs.Events.NodeEvent.{Does, Dies}
 use Rattle.run_facts.proofs.Rows.{all-weaker, filter-none}
-use Rattle.run_facts.proofs.Timelines.{tick_count, AreCounted, AreInTurn, LivesBy, AreAlive, rising-counted}
+use Rattle.run_facts.proofs.Timelines.{rising-counted}
+use Rattle.run_facts.specs.Accounts.{tick_count, AreCounted, AreInTurn, LivesBy, AreAlive, DeathIsLast}
 use Rattle.one_answer.proofs.Dated.{events_below}
-
--- a death is the last event
-abbrev pub DeathIsLast : {M : Type 0} → List (NodeEvent M) → Type 0
-DeathIsLast [] = Unit {0}
-DeathIsLast (e ∷ es) = (is_death e ≡ true → es ≡ []) × DeathIsLast es
 
 -- All events that a node has from one on, before which it ticked t times, up to its death or the end of the
 -- beats. Its clock shows these readings, by beat.

@@ -11,8 +11,7 @@ use Rattle.node_kit.specs.declared.outbox.Out.{Out}
 use Rattle.node_kit.specs.declared.outbox.Out.TheVariants as out
 use Rattle.node_kit.specs.Steps.{Input, Deed}
 use Rattle.run_facts.specs.Events.{NodeEvent, Past, Dated, after, outs_of, stamp_at, sends_of, sends_along}
-use Rattle.run_facts.proofs.Orders.{Rising}
-use Rattle.run_facts.proofs.Pacing.{AreInOrder}
+use Rattle.run_facts.specs.Accounts.{Rising, AreInOrder}
 use Rattle.run_facts.proofs.Rows.{all-append, all-weaker, filter-all, filter-none}
 use Rattle.one_answer.proofs.Dated.{events_below, dated_below, order-lower}
 

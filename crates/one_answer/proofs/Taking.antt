@@ -10,7 +10,8 @@ use Rattle.node_kit.specs.Life.{Lifetime, acts}
 use Rattle.node_kit.specs.Steps.Input.{Take, Tick}
 use Rattle.run_facts.specs.Events.{NodeEvent, Dated, stamp_at, take_on, takes_along}
 use Rattle.run_facts.specs.Events.NodeEvent.{Does, Dies}
-use Rattle.run_facts.proofs.Timelines.{IsInTurn, rising-counted}
+use Rattle.run_facts.proofs.Timelines.{rising-counted}
+use Rattle.run_facts.specs.Accounts.{IsInTurn}
 use Rattle.one_answer.proofs.Dated.{dated_below}
 use Rattle.one_answer.proofs.Lists.{all-filter, head-tail}
 use Rattle.one_answer.proofs.Resting.{IsRest, rest-idle}

@@ -6,7 +6,7 @@ use Rattle.node_kit.specs.declared.journal.Entry.{Entry}
 use Rattle.node_kit.specs.Courses.{IsCourse}
 use Rattle.node_kit.specs.Steps.{Input, Deed}
 use Rattle.run_facts.specs.Histories.{History}
-use Rattle.one_answer.specs.Courses.{HaveKeptCourse}
+use Rattle.run_facts.specs.Kept.{HaveKept}
 
 -- Two histories are the same up to a number of nodes if each node below it has as many events in both,
 -- and the same event of each number.
@@ -20,7 +20,7 @@ abbrev pub RunsAreOne : (M S : Type 0) → Type 0
 RunsAreOne M S =
     (note : M → Note) (step : S → Input M → Deed M S) (c : Course) (given nodes others : List S)
     (journals books : List (List Entry)) → IsCourse c
-    → (one : HaveKeptCourse note step c given nodes journals)
-    → (two : HaveKeptCourse note step c given others books)
+    → (one : HaveKept note step c given nodes journals)
+    → (two : HaveKept note step c given others books)
     → AreSame (length given) one.lived.history two.lived.history
     × (journals ≡ books) × (nodes ≡ others)

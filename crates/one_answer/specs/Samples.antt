@@ -9,7 +9,7 @@ use Rattle.node_kit.specs.Steps.Input.{Take, Tick}
 use Rattle.run_facts.specs.Events.{NodeEvent}
 use Rattle.run_facts.specs.Events.NodeEvent.{Does}
 use Rattle.run_facts.specs.Histories.{History}
-use Rattle.one_answer.specs.Courses.{KeepsCourse}
+use Rattle.run_facts.specs.Kept.{KeepsCourse}
 
 -- a history in which each node has this many events, and these
 abbrev pub with_events : (ℕ → ℕ) → (ℕ → ℕ → NodeEvent ℕ) → History ℕ ℕ

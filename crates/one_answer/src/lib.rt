@@ -3,7 +3,6 @@
 
 ghost use Rattle.one_answer.specs.Answers.{RunsAreOne};
 ghost use Rattle.one_answer.specs.Catalogues.{CataloguesAreOne};
-ghost use Rattle.one_answer.specs.Handed.{AccountsKeep};
 
 pub mod rows;
 
@@ -11,11 +10,6 @@ pub mod rows;
 /// journals, and they are the same at the end.
 pub fn runs_are_one<M, S>()
     ensures { RunsAreOne M S }
-{}
-
-/// What a runner hands over, the events of all nodes and each link's account, keeps the course.
-pub fn accounts_keep_the_course<M, S>()
-    ensures { AccountsKeep M S }
 {}
 
 /// The lengths and first disks of its files, its block and its number of disks determine a catalogue.

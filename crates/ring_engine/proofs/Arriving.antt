@@ -5,8 +5,10 @@ use Rattle.std.specs.List.{AllByRecursion}
 use Rattle.tiger_base.specs.declared.number.LinkNo.{LinkNo}
 use Rattle.node_kit.specs.declared.outbox.Out.{Out}
 use Rattle.node_kit.specs.declared.outbox.Out.TheVariants as out
-use Rattle.ring_engine.specs.declared.mail.Letter.{Letter}
-use Rattle.ring_engine.specs.Traffic.{Traffic, changed_at, after_sending, after_arrivals, arrived, flights_at, sent_on, letters_on, emptied, collected, after_collecting, posted_one, posted, AreOpen, IsLink}
+use Rattle.run_facts.specs.declared.mail.Letter.{Letter}
+use Rattle.ring_engine.specs.Traffic.{changed_at, after_sending, after_arrivals, flights_at, sent_on, letters_on, emptied, collected, after_collecting, posted_one, posted, AreOpen, IsLink}
+use Rattle.run_facts.specs.Rings.{Traffic}
+use Rattle.run_facts.specs.Beats.{arrived}
 
 -- writing an element that was changed is changing it
 pub changed_at-set : {A : Type 0} (f : A → A) (xs : List A) (n : ℕ) (x : A) → slice_get xs n ≡ Some x → slice_set xs n (f x) ≡ changed_at f xs n

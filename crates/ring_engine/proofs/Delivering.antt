@@ -9,7 +9,8 @@ use Rattle.node_kit.specs.declared.outbox.Out.TheVariants as out
 use Rattle.node_kit.specs.Links.{links_of, link_count}
 use Rattle.node_kit.specs.Steps.{IsAllowed}
 use Rattle.node_kit.proofs.Ring.{ends_counted}
-use Rattle.ring_engine.specs.Traffic.{Traffic, posted_one, posted, IsPostable}
+use Rattle.ring_engine.specs.Traffic.{posted_one, posted, IsPostable}
+use Rattle.run_facts.specs.Rings.{Traffic}
 use Rattle.ring_engine.proofs.Arriving.{length-posted_one}
 
 pub written-on : {M : Type 0} (e : Out M → Entry) (j j' whole : List Entry) (o : Out M) (rest todo : List (Out M)) → j' ≡ j ++ e o ∷ []

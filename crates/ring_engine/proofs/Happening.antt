@@ -1,7 +1,6 @@
 -- The events of a node: what they make of it and of the links.
-use Rattle.std.proofs.Common.{◌≡◌, ℕ, List, [], ◌∷◌, ◌++◌, map, length, Bool, true, false, refl, ap, sym, ◌∙◌, subst, append_assoc, arith}
+use Rattle.std.proofs.Common.{◌≡◌, ℕ, List, [], ◌∷◌, ◌++◌, map, length, Bool, true, false, refl, ap, sym, ◌∙◌, subst, append_assoc, arith, cond}
 use Rattle.std.specs.Prelude.{Result, Ok, Err, OnOk, slice_get, nat_le}
-use Rattle.std.proofs.Common.{cond}
 use Rattle.std.specs.List.{AllByRecursion}
 use Rattle.tiger_base.specs.declared.number.Stamp.{Stamp}
 use Rattle.tiger_base.specs.declared.number.LinkNo.{LinkNo}
@@ -10,17 +9,19 @@ use Rattle.slot_plan.specs.declared.params.Params.{Params}
 use Rattle.node_kit.specs.declared.journal.What.TheVariants.{Got, Died}
 use Rattle.node_kit.specs.declared.journal.Entry.{Entry}
 use Rattle.node_kit.specs.declared.outbox.Out.{Out}
-use Rattle.node_kit.specs.Life.{Lifetime, acts, dies, trimmed}
+use Rattle.node_kit.specs.Life.{Lifetime, trimmed}
 use Rattle.node_kit.specs.Links.{links_of, link_count, IsInLink}
 use Rattle.node_kit.specs.Steps.{Input, Deed, Acts, IsAllowed, entry_of}
 use Rattle.node_kit.specs.Steps.Input.{Take, Tick}
 use Rattle.node_kit.proofs.Ring.{ends_counted}
-use Rattle.ring_engine.specs.declared.mail.Flight.{Flight}
-use Rattle.ring_engine.specs.declared.mail.Letter.{Letter}
-use Rattle.ring_engine.specs.Traffic.{Traffic, posted, arrived, flights_at, letters_on, emptied, collected, after_collecting, AreOpen, IsPostable, IsLink}
+use Rattle.run_facts.specs.declared.mail.Flight.{Flight}
+use Rattle.run_facts.specs.declared.mail.Letter.{Letter}
+use Rattle.ring_engine.specs.Traffic.{posted, flights_at, letters_on, emptied, collected, after_collecting, AreOpen, IsPostable, IsLink}
+use Rattle.run_facts.specs.Rings.{Traffic}
+use Rattle.run_facts.specs.Beats.{arrived, is_taken, letter_events, end_events, beat_events}
 use Rattle.run_facts.specs.Events.{NodeEvent, Past, after, after_all, after_input, kept_outs, AreFair}
 use Rattle.run_facts.specs.Events.NodeEvent.{Does, Dies}
-use Rattle.ring_engine.specs.Turns.{Scene, scene, turn, happens, happen, is_taken, letter_events, end_events, beat_events, links_of_letters, IsReady, IsReadyFor, KeepsReady}
+use Rattle.ring_engine.specs.Turns.{Scene, scene, turn, happens, happen, links_of_letters, IsReady, IsReadyFor, KeepsReady}
 use Rattle.ring_engine.proofs.Arriving.{length-posted, length-after_collecting, AreOpen-posted, AreOpen-after_collecting}
 use Rattle.ring_engine.proofs.Delivering.{postable-allowed}
 
@@ -213,19 +214,6 @@ pub ready-kept : {M S : Type 0} (note : M → Note) (step : S → Input M → De
     → KeepsReady note step stands beat es old new → IsReadyFor stands beat links old → IsReadyFor stands beat [] new
 ready-kept note step stands beat es links old new keeps r =
     record { params = r.params; number = r.number; ready = (keeps r.params r.number r.ready).0; lead = tt }
-
--- the end of a beat where the node acts, where it dies, and where it is dead
-pub end-acting : {M : Type 0} (stamp : Stamp) (life : Lifetime) → acts life stamp.beat ≡ true → end_events {M = M} stamp life ≡ Does (Tick stamp) ∷ []
-unfolding end_events
-end-acting stamp life live = rw live refl
-
-pub end-dying : {M : Type 0} (stamp : Stamp) (life : Lifetime) → acts life stamp.beat ≡ false → dies life stamp.beat ≡ true → end_events {M = M} stamp life ≡ Dies stamp ∷ []
-unfolding end_events
-end-dying stamp life idle dead = rw (idle, dead) refl
-
-pub end-idle : {M : Type 0} (stamp : Stamp) (life : Lifetime) → acts life stamp.beat ≡ false → dies life stamp.beat ≡ false → end_events {M = M} stamp life ≡ []
-unfolding end_events
-end-idle stamp life idle undead = rw (idle, undead) refl
 
 -- the end of a beat, where its events are known
 pub ended : {M S : Type 0} (note : M → Note) (step : S → Input M → Deed M S) (es known : List (NodeEvent M)) (old new : Scene M S) → es ≡ known → new ≡ happen note step known old

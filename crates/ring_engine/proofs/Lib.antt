@@ -1,4 +1,3 @@
-pub mod Accounts
 pub mod Arriving
 pub mod Channels
 pub mod Delivering

@@ -1,5 +1,5 @@
 -- The progress of a run, node by node and link by link.
-use Rattle.std.proofs.Common.{add-one, ◌≡◌, ◌≢◌, ℕ, zero, suc, ◌+◌, ◌<◌, ◌≤◌, List, [], ◌∷◌, ◌++◌, map, filter, length, Bool, true, false, Some, None, refl, ap, sym, ◌∙◌, subst, arith, cond, ⊎_elim, append-nil}
+use Rattle.std.proofs.Common.{add-one, ◌≡◌, ◌≢◌, ℕ, zero, suc, ◌+◌, ◌<◌, ◌≤◌, List, [], ◌++◌, map, filter, length, Bool, true, false, Some, None, refl, ap, sym, ◌∙◌, subst, arith, cond, ⊎_elim, append-nil}
 use Rattle.std.specs.Prelude.{slice_get, nat_lt, ◌==◌, if◌then◌else◌}
 use Rattle.std.specs.List.{AllByRecursion}
 use Rattle.std.proofs.lemmas.Bool.{cases_Bool, cases_eq, eq-eqb, ne_eqb}
@@ -8,111 +8,35 @@ use Rattle.tiger_base.specs.declared.number.Stamp.{Stamp}
 use Rattle.tiger_base.specs.declared.number.LinkNo.{LinkNo}
 use Rattle.tiger_base.specs.declared.message.Note.{Note}
 use Rattle.tiger_base.specs.Limits.{most_beats}
-use Rattle.slot_plan.specs.declared.params.Params.{Params}
 use Rattle.link_timing.specs.Clock.{Clock, new_clock}
 use Rattle.link_timing.proofs.Arrivals.{IsClock-new_clock}
 use Rattle.node_kit.specs.declared.course.Course.{Course}
 use Rattle.node_kit.specs.declared.journal.Entry.{Entry}
 use Rattle.node_kit.specs.Courses.{IsCourse, stamp_in}
-use Rattle.node_kit.specs.Life.{Lifetime, lifetime_of, acts, dies}
+use Rattle.node_kit.specs.Life.{lifetime_of}
 use Rattle.node_kit.specs.Links.{links_of, ends_of, link_count, IsInLink, in_links_of}
 use Rattle.node_kit.specs.Steps.{Input, Deed}
-use Rattle.node_kit.specs.Steps.Input.{Take, Tick}
 use Rattle.node_kit.proofs.Ring.{ends_counted}
 use Rattle.run_facts.specs.Events.{NodeEvent, Past, Dated, after_all, stamp_at, AreFair, sends_along, takes_along}
-use Rattle.run_facts.specs.Events.NodeEvent.{Does, Dies}
 use Rattle.run_facts.specs.Paced.{brought}
-use Rattle.run_facts.proofs.Rows.{all-append, all-weaker}
+use Rattle.run_facts.proofs.Rows.{same-element}
 use Rattle.run_facts.proofs.Along.{life-after, after_all-append, sends-append, takes-append, fair-append, sends-in_beat, sends-none}
-use Rattle.run_facts.proofs.Links.{is_caught, arriving, OnLink, link-opens, link-brings}
-use Rattle.run_facts.proofs.Timelines.{IsTakeAt, AreInTurn, IsTimeline, timeline-opens, timeline-acts, timeline-dies, timeline-idle}
-use Rattle.ring_engine.specs.declared.mail.Letter.{Letter}
-use Rattle.ring_engine.specs.Traffic.{Traffic, after_arrivals, collected, after_collecting}
-use Rattle.ring_engine.specs.Turns.{Scene, letter_events, end_events, beat_events, turn}
-use Rattle.ring_engine.specs.Runs.{opening_of}
-use Rattle.ring_engine.specs.Places.{new_channel, Ring, IsAt}
+use Rattle.run_facts.proofs.Links.{link-opens, link-brings}
+use Rattle.run_facts.specs.Accounts.{is_caught, arriving, OnLink, IsTimeline}
+use Rattle.run_facts.proofs.Timelines.{timeline-opens}
+use Rattle.run_facts.specs.declared.mail.Letter.{Letter}
+use Rattle.ring_engine.specs.Traffic.{after_arrivals, collected, after_collecting}
+use Rattle.run_facts.specs.Rings.{Traffic, Ring, IsAt}
+use Rattle.ring_engine.specs.Turns.{Scene, turn}
+use Rattle.run_facts.specs.Beats.{beat_events, opening_of, pass, bring, on_link}
+use Rattle.ring_engine.specs.Places.{new_channel}
 use Rattle.ring_engine.specs.Whole.{opening_ring, with_node, brought_to, HasTurn, HaveTurns, HavePassed, IsWholeRun}
 use Rattle.node_kit.proofs.Rows.{get-each_below, length-each_below, links_into-lead}
-use Rattle.ring_engine.proofs.Happening.{end-acting, end-dying, end-idle}
-use Rattle.ring_engine.proofs.Running.{get-set_same, length-set_at, same-element, elsewhere, turn-past}
-use Rattle.ring_engine.proofs.Channels.{sent_all, happen-at, pass, sends-on, has_link, emptied-at, under_way-waiting, bring, on_link, collected-at, has-into, into-rises, collected-link, collected-rises, events-takes, events-in_turn, events-idle, beat-takes}
-
--- the number of beats that node k has come through, where the nodes below n have come through beat b
-abbrev pub next_of : ℕ → ℕ → ℕ → ℕ
-next_of b n k = if nat_lt k n then b + 1 else b
-
-next-here : (b n : ℕ) → next_of b n n ≡ b
-next-here b n = let e : nat_lt n n ≡ false = grind (arith, nat_tests) in rw e refl
-
-next-then : (b n : ℕ) → next_of b (suc n) n ≡ b + 1
-next-then b n = let e : nat_lt n (suc n) ≡ true = grind (arith, nat_tests) in rw e refl
-
-next-other : (b n k : ℕ) → k ≢ n → next_of b (suc n) k ≡ next_of b n k
-next-other b n k other = ⊎_elim
-    (λ (e : nat_lt k n ≡ true). let f : nat_lt k (suc n) ≡ true = grind (arith, nat_tests, e) in rw (e, f) refl)
-    (λ (e : nat_lt k n ≡ false). let f : nat_lt k (suc n) ≡ false = grind (arith, nat_tests, e, other) in rw (e, f) refl)
-    (cases_Bool (nat_lt k n))
-
-next-low : (b n k : ℕ) → next_of b n k ≤ b + 1
-next-low b n k = ⊎_elim
-    (λ (e : nat_lt k n ≡ true). rw e (omega arith))
-    (λ (e : nat_lt k n ≡ false). rw e (omega arith))
-    (cases_Bool (nat_lt k n))
-
-next-all : (b n k : ℕ) → k < n → next_of b n k ≡ b + 1
-next-all b n k h = let e : nat_lt k n ≡ true = grind (arith, nat_tests, h) in rw e refl
-
-pub next-none : (b k : ℕ) → next_of b 0 k ≡ b
-next-none b k = let e : nat_lt k 0 ≡ false = grind (arith, nat_tests) in rw e refl
-
--- a link between two nodes whose events are known
-pub record OnChannel {M S : Type 0} (note : M → Note) (step : S → Input M → Deed M S) (c : Course) (first : ℕ → S) (events : ℕ → List (NodeEvent M))
-    (b n l from to : ℕ) (channels : List (Traffic M)) : Type 0 where
-  pub traffic : Traffic M
-  pub here : slice_get channels l ≡ Some traffic
-  pub calm : traffic.clock.last_send ≤ b
-  pub account : OnLink (lifetime_of c to) c.plan.params.delay (new_clock l c.delay c.plan.params.delay)
-      (sends_along note step l (events from) (opening_of c from (first from))) (takes_along l (events to)) traffic.clock (map pass traffic.flights) (next_of b n to)
-
--- what happened to the nodes, of which those below n have come through beat b
-pub record Progress {M S : Type 0} (note : M → Note) (step : S → Input M → Deed M S) (c : Course) (count : ℕ) (first : ℕ → S) (b n : ℕ) (r : Ring M S) : Type 0 where
-  pub events : ℕ → List (NodeEvent M)
-  pub size : length r.journals ≡ count
-  pub here : (k : ℕ) → k < count → IsAt r k (after_all note step (events k) (opening_of c k (first k)))
-  pub fair : (k : ℕ) → k < count → AreFair note step c.plan.params k (events k) (opening_of c k (first k))
-  pub timeline : (k : ℕ) → k < count → IsTimeline (stamp_in c k) c.plan.params k (lifetime_of c k) (next_of b n k) (events k)
-  pub links : (l from to : ℕ) → from < count → to < count → ends_of (links_of c.plan.params) l ≡ Some (from, to)
-      → OnChannel note step c first events b n l from to r.channels
-
--- a node's part of its beat
-beat-timeline : {M S : Type 0} (note : M → Note) (step : S → Input M → Deed M S) (c : Course) (n b : ℕ) (ls : List (Letter M)) (past : Past S) (es : List (NodeEvent M))
-    → past.life ≡ lifetime_of c n → AllByRecursion (IsTakeAt (stamp_in c n b) c.plan.params n) (letter_events note step (stamp_in c n b) ls past)
-    → AreInTurn (letter_events note step (stamp_in c n b) ls past) → IsTimeline (stamp_in c n) c.plan.params n (lifetime_of c n) b es
-    → IsTimeline (stamp_in c n) c.plan.params n (lifetime_of c n) (b + 1) (es ++ beat_events note step (stamp_in c n b) ls past)
-unfolding beat_events
-beat-timeline {M} note step c n b ls past es same takes turn timeline =
-    let p = c.plan.params in
-    let stamp = stamp_in c n b in
-    let life = lifetime_of c n in
-    let taken = letter_events note step stamp ls past in
-    let still : (after_all note step taken past).life ≡ life = life-after note step taken past ∙ same in
-    let whole : (end : List (NodeEvent M)) → end_events stamp life ≡ end → IsTimeline (stamp_in c n) p n life (b + 1) (es ++ (taken ++ end))
-    → IsTimeline (stamp_in c n) p n life (b + 1) (es ++ (taken ++ end_events stamp (after_all note step taken past).life)) =
-    λ end is done. subst (λ q. IsTimeline (stamp_in c n) p n life (b + 1) (es ++ (taken ++ q))) (sym (ap (end_events stamp) still ∙ is)) done in
-    ⊎_elim
-    (λ (live : acts life b ≡ true).
-    whole (Does (Tick stamp) ∷ []) (end-acting stamp life live) (timeline-acts (stamp_in c n) p n life b es taken (λ k. refl) live takes turn timeline))
-    (λ (idle : acts life b ≡ false).
-    let none : taken ≡ [] = events-idle note step stamp ls past (ap (λ (q : Lifetime). acts q b) same ∙ idle) in
-    ⊎_elim
-    (λ (dead : dies life b ≡ true).
-    whole (Dies stamp ∷ []) (end-dying stamp life idle dead)
-    (subst (λ q. IsTimeline (stamp_in c n) p n life (b + 1) (es ++ (q ++ Dies stamp ∷ []))) (sym none) (timeline-dies (stamp_in c n) p n life b es (λ k. refl) idle dead timeline)))
-    (λ (undead : dies life b ≡ false).
-    whole [] (end-idle stamp life idle undead)
-    (subst (λ q. IsTimeline (stamp_in c n) p n life (b + 1) q) (sym (ap (λ q. es ++ (q ++ [])) none ∙ append-nil es)) (timeline-idle (stamp_in c n) p n life b es idle undead timeline)))
-    (cases_Bool (dies life b)))
-    (cases_Bool (acts life b))
+use Rattle.run_facts.proofs.Beats.{under_way-waiting, events-takes, events-in_turn, beat-takes, beat-timeline, events-dated}
+use Rattle.ring_engine.proofs.Running.{get-set_same, length-set_at, elsewhere, turn-past}
+use Rattle.ring_engine.proofs.Channels.{sent_all, happen-at, sends-on, emptied-at, collected-at, collected-link, collected-rises}
+use Rattle.run_facts.proofs.InLinks.{has_link, has-into, into-rises}
+use Rattle.run_facts.proofs.Progress.{next_of, next-here, next-then, next-other, next-low, next-none, OnChannel, Progress}
 
 -- the events that node k has besides, where node n has its turn
 abbrev more : {M : Type 0} → ℕ → List (NodeEvent M) → ℕ → List (NodeEvent M)
@@ -227,29 +151,6 @@ link-turn {M} {S} note step c first events b n l from to past ts early life is d
           (map pass (sent_all (sends_along note step l es past) t1).flights) (next_of b (suc n) to))
           (sends-more note step c first events n l from to es past is fair ends) sent.0;
     }
-
-take-beat : {M : Type 0} (stamp : Stamp) (p : Params) (n : ℕ) (e : NodeEvent M) → IsTakeAt stamp p n e → (stamp_at e).beat ≡ stamp.beat
-take-beat stamp p n (Does (Take s l m)) h = ap (λ (q : Stamp). q.beat) h.0
-take-beat stamp p n (Does (Tick s)) h = absurd h
-take-beat stamp p n (Dies s) h = absurd h
-
-end-beat : (M : Type 0) (stamp : Stamp) (life : Lifetime) → AllByRecursion (λ (e : NodeEvent M). (stamp_at e).beat ≡ stamp.beat) (end_events stamp life)
-unfolding end_events
-end-beat M stamp life = ⊎_elim
-    (λ (e : acts life stamp.beat ≡ true). rw e (refl, tt))
-    (λ (e : acts life stamp.beat ≡ false). ⊎_elim
-    (λ (q : dies life stamp.beat ≡ true). rw (e, q) (refl, tt))
-    (λ (q : dies life stamp.beat ≡ false). rw (e, q) tt)
-    (cases_Bool (dies life stamp.beat)))
-    (cases_Bool (acts life stamp.beat))
-
-events-dated : {M S : Type 0} (note : M → Note) (step : S → Input M → Deed M S) (stamp : Stamp) (p : Params) (n : ℕ) (ls : List (Letter M)) (past : Past S)
-    → AllByRecursion (IsTakeAt stamp p n) (letter_events note step stamp ls past) → AllByRecursion (λ e. (stamp_at e).beat ≡ stamp.beat) (beat_events note step stamp ls past)
-unfolding beat_events
-events-dated {M} note step stamp p n ls past takes =
-    all-append (λ (e : NodeEvent M). (stamp_at e).beat ≡ stamp.beat) (letter_events note step stamp ls past) (end_events stamp (after_all note step (letter_events note step stamp ls past) past).life)
-    (all-weaker (IsTakeAt stamp p n) (λ (e : NodeEvent M). (stamp_at e).beat ≡ stamp.beat) (letter_events note step stamp ls past) (λ e h. take-beat stamp p n e h) takes)
-    (end-beat M stamp (after_all note step (letter_events note step stamp ls past) past).life)
 
 -- the progress with one turn more, by a node at a known point
 turn-made : {M S : Type 0} (note : M → Note) (step : S → Input M → Deed M S) (c : Course) (count : ℕ) (first : ℕ → S) (b n : ℕ) (old : Ring M S) (st : Progress note step c count first b n old)

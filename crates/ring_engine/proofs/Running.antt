@@ -13,16 +13,19 @@ use Rattle.node_kit.specs.declared.journal.Entry.{Entry}
 use Rattle.node_kit.specs.Life.{Lifetime, lifetime_of}
 use Rattle.node_kit.specs.Links.{links_of, link_count, IsInLink, in_links_of}
 use Rattle.node_kit.specs.Steps.{Input, Deed}
-use Rattle.ring_engine.specs.declared.mail.Letter.{Letter}
-use Rattle.ring_engine.specs.Traffic.{Traffic, collected, after_collecting, AreOpen}
-use Rattle.run_facts.specs.Events.{NodeEvent, Past, after_all, AreFair}
-use Rattle.ring_engine.specs.Turns.{Scene, scene, happens, happen, beat_events, turn, IsReady, IsReadyFor, KeepsReady}
-use Rattle.ring_engine.specs.Runs.{opening_of, after_beat, after_beats, HasRun, HasEnded}
+use Rattle.run_facts.specs.declared.mail.Letter.{Letter}
+use Rattle.ring_engine.specs.Traffic.{collected, after_collecting, AreOpen}
+use Rattle.run_facts.specs.Rings.{Traffic, Ring, IsAt}
+use Rattle.run_facts.specs.Events.{NodeEvent, Past, after_all, AreFair, written}
+use Rattle.ring_engine.specs.Turns.{Scene, scene, happens, happen, turn, IsReady, IsReadyFor, KeepsReady}
+use Rattle.run_facts.specs.Beats.{beat_events, opening_of, after_beat, after_beats}
+use Rattle.ring_engine.specs.Runs.{HasRun, HasEnded}
 use Rattle.node_kit.specs.Courses.{stamp_in}
-use Rattle.ring_engine.specs.Places.{new_channel, Ring, IsSound, IsAt, HasLived, AllHaveLived, AreInLinks}
+use Rattle.ring_engine.specs.Places.{new_channel, IsSound, HasLived, AllHaveLived, AreInLinks}
 use Rattle.node_kit.specs.Rows.{each_below, AllStand}
 use Rattle.ring_engine.specs.Whole.{opening_ring, with_node, brought_to, HaveTurns, HavePassed, IsWholeRun}
 use Rattle.node_kit.proofs.Rows.{length-each_below, get-each_below, get-below, links_into-lead}
+use Rattle.run_facts.proofs.Rows.{same-element}
 
 pub get-set_same : {A : Type 0} (xs : List A) (n : ℕ) (x y : A) → slice_get xs n ≡ Some y → slice_get (slice_set xs n x) n ≡ Some x
 get-set_same [] n x y e = absurd (none-some y e)
@@ -40,9 +43,6 @@ pub length-set_at : {A : Type 0} (xs : List A) (n : ℕ) (x : A) → length (sli
 length-set_at [] n x = refl
 length-set_at (z ∷ zs) zero x = refl
 length-set_at (z ∷ zs) (suc n) x = ap suc (length-set_at zs n x)
-
-pub same-element : {A : Type 0} (xs : List A) (k : ℕ) (x y : A) → slice_get xs k ≡ Some x → slice_get xs k ≡ Some y → x ≡ y
-same-element xs k x y hx hy = let e : Some x ≡ Some y = sym hx ∙ hy in cc
 
 -- what a turn makes of the node alone
 happen-past : {M S : Type 0} (note : M → Note) (step : S → Input M → Deed M S) (es : List (NodeEvent M)) (s : Scene M S)

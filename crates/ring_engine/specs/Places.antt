@@ -1,31 +1,23 @@
 -- The rows of a run, by node and by link: nodes, lives, journals and channels.
-use Rattle.std.specs.Prelude.{◌≡◌, ℕ, List, [], length, Some, slice_get}
+use Rattle.std.specs.Prelude.{◌≡◌, ℕ, List, [], length}
 use Rattle.tiger_base.specs.declared.number.LinkNo.{LinkNo}
 use Rattle.tiger_base.specs.declared.message.Note.{Note}
 use Rattle.slot_plan.specs.declared.params.Params.{Params}
 use Rattle.link_timing.specs.Clock.{new_clock}
 use Rattle.node_kit.specs.declared.course.Course.{Course}
-use Rattle.node_kit.specs.declared.journal.Entry.{Entry}
-use Rattle.node_kit.specs.Life.{Lifetime}
 use Rattle.node_kit.specs.Links.{links_of, link_count, in_links_of}
 use Rattle.node_kit.specs.Rows.{each_below, AllStand}
 use Rattle.node_kit.specs.Steps.{Input, Deed}
-use Rattle.ring_engine.specs.declared.mail.Letter.{Letter}
-use Rattle.ring_engine.specs.Traffic.{Traffic, AreOpen}
+use Rattle.run_facts.specs.declared.mail.Letter.{Letter}
+use Rattle.ring_engine.specs.Traffic.{AreOpen}
+use Rattle.run_facts.specs.Rings.{Traffic, Ring, IsAt}
 use Rattle.run_facts.specs.Events.{Past}
-use Rattle.ring_engine.specs.Runs.{after_beat}
+use Rattle.run_facts.specs.Beats.{after_beat}
 use Rattle.node_kit.specs.Courses.{stamp_in}
 
 -- the link of a number before the first beat
 abbrev pub new_channel : {M : Type 0} → Course → ℕ → Traffic M
 new_channel c link = record { clock = new_clock link c.delay c.plan.params.delay; flights = [] }
-
--- all nodes, and all links
-pub record Ring (M S : Type 0) : Type 0 where
-  pub nodes : List S
-  pub lives : List Lifetime
-  pub journals : List (List Entry)
-  pub channels : List (Traffic M)
 
 -- the nodes stand at their numbers, there is a life and a journal for each, and a channel for each link, on which
 -- nothing was sent after the beat
@@ -36,12 +28,6 @@ pub record IsSound {M S : Type 0} (stands : S → Params → ℕ → Type 0) (p 
   pub journals : length r.journals ≡ count
   pub channels : link_count (links_of p) ≡ length r.channels
   pub unsent : AreOpen beat r.channels
-
--- node n is at this point
-pub record IsAt {M S : Type 0} (r : Ring M S) (n : ℕ) (past : Past S) : Type 0 where
-  pub state : slice_get r.nodes n ≡ Some past.state
-  pub life : slice_get r.lives n ≡ Some past.life
-  pub journal : slice_get r.journals n ≡ Some past.journal
 
 -- node n has come from this point through its beat, to which letters were brought
 pub record HasLived {M S : Type 0} (note : M → Note) (step : S → Input M → Deed M S) (c : Course) (beat n : ℕ) (past : Past S) (new : Ring M S) : Type 0 where

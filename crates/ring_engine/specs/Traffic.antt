@@ -1,16 +1,13 @@
 -- The links of a run, and the messages under way on them.
 use Rattle.std.specs.Prelude.{◌≡◌, ℕ, zero, suc, ◌<◌, ◌≤◌, List, [], ◌∷◌, ◌++◌, nat_le, Option, Some, None, slice_get, if◌then◌else◌}
 use Rattle.tiger_base.specs.declared.number.LinkNo.{LinkNo}
-use Rattle.link_timing.specs.Clock.{Clock, arrival_at, after_send}
+use Rattle.link_timing.specs.Clock.{arrival_at, after_send}
 use Rattle.node_kit.specs.declared.outbox.Out.{Out}
 use Rattle.node_kit.specs.declared.outbox.Out.TheVariants as out
-use Rattle.ring_engine.specs.declared.mail.Flight.{Flight}
-use Rattle.ring_engine.specs.declared.mail.Letter.{Letter}
-
--- a link: its clock, and the messages under way on it, the oldest first
-pub record Traffic (M : Type 0) : Type 0 where
-  pub clock : Clock
-  pub flights : List (Flight M)
+use Rattle.run_facts.specs.declared.mail.Flight.{Flight}
+use Rattle.run_facts.specs.declared.mail.Letter.{Letter}
+use Rattle.run_facts.specs.Beats.{arrived, under_way}
+use Rattle.run_facts.specs.Rings.{Traffic}
 
 -- a message is sent in a beat
 abbrev pub after_sending : {M : Type 0} → ℕ → M → Traffic M → Traffic M
@@ -30,16 +27,6 @@ flights_after_arrival beat (f ∷ fs) = if nat_le f.arrival beat then fs else f 
 
 abbrev pub after_arrival : {M : Type 0} → ℕ → Traffic M → Traffic M
 after_arrival beat t = record { clock = t.clock; flights = flights_after_arrival beat t.flights }
-
--- the messages of a link that have arrived by a beat, and what is under way still
-abbrev pub arrived : {M : Type 0} → LinkNo → ℕ → List (Flight M) → List (Letter M)
-arrived link beat [] = []
-arrived link beat (f ∷ fs) =
-    if nat_le f.arrival beat then (record { link = link; sent = f.sent; msg = f.msg }) ∷ arrived link beat fs else []
-
-abbrev pub under_way : {M : Type 0} → ℕ → List (Flight M) → List (Flight M)
-under_way beat [] = []
-under_way beat (f ∷ fs) = if nat_le f.arrival beat then under_way beat fs else f ∷ fs
 
 abbrev pub after_arrivals : {M : Type 0} → ℕ → Traffic M → Traffic M
 after_arrivals beat t = record { clock = t.clock; flights = under_way beat t.flights }

@@ -1,19 +1,19 @@
 -- What becomes of a node and of the links in a node's turn.
-use Rattle.std.specs.Prelude.{◌≡◌, ℕ, Bool, ◌&&◌, List, [], ◌∷◌, ◌++◌, length, map, if◌then◌else◌}
+use Rattle.std.specs.Prelude.{◌≡◌, ℕ, List, [], ◌∷◌, length, map}
 use Rattle.std.specs.List.{AllByRecursion}
 use Rattle.tiger_base.specs.declared.number.Stamp.{Stamp}
 use Rattle.tiger_base.specs.declared.number.LinkNo.{LinkNo}
 use Rattle.tiger_base.specs.declared.message.Note.{Note}
 use Rattle.slot_plan.specs.declared.params.Params.{Params}
 use Rattle.node_kit.specs.declared.journal.Entry.{Entry}
-use Rattle.node_kit.specs.Life.{Lifetime, acts, dies, hears}
+use Rattle.node_kit.specs.Life.{Lifetime}
 use Rattle.node_kit.specs.Links.{links_of, link_count, IsInLink}
 use Rattle.node_kit.specs.Steps.{Input, Deed}
-use Rattle.node_kit.specs.Steps.Input.{Take, Tick}
-use Rattle.run_facts.specs.Events.{NodeEvent, Past, after, after_all, outs_of, stamp_at, AreFair}
-use Rattle.run_facts.specs.Events.NodeEvent.{Does, Dies}
-use Rattle.ring_engine.specs.declared.mail.Letter.{Letter}
-use Rattle.ring_engine.specs.Traffic.{Traffic, posted, collected, after_collecting, AreOpen}
+use Rattle.run_facts.specs.Events.{NodeEvent, Past, after, outs_of, stamp_at, AreFair}
+use Rattle.run_facts.specs.declared.mail.Letter.{Letter}
+use Rattle.ring_engine.specs.Traffic.{posted, collected, after_collecting, AreOpen}
+use Rattle.run_facts.specs.Rings.{Traffic}
+use Rattle.run_facts.specs.Beats.{beat_events}
 
 -- a node in its place among the links
 pub record Scene (M S : Type 0) : Type 0 where
@@ -35,29 +35,6 @@ happens note step e s = record {
 abbrev pub happen : {M S : Type 0} → (M → Note) → (S → Input M → Deed M S) → List (NodeEvent M) → Scene M S → Scene M S
 happen note step [] s = s
 happen note step (e ∷ es) s = happen note step es (happens note step e s)
-
--- whether a node with this life takes in a beat what was sent in another
-abbrev pub is_taken : Lifetime → ℕ → ℕ → Bool
-is_taken life sent now = acts life now && hears life sent now
-
--- the events that letters bring: those that the node takes
-abbrev pub letter_events : {M S : Type 0} → (M → Note) → (S → Input M → Deed M S) → Stamp → List (Letter M) → Past S → List (NodeEvent M)
-letter_events note step stamp [] past = []
-letter_events note step stamp (l ∷ ls) past =
-    if is_taken past.life l.sent stamp.beat then
-    Does (Take stamp l.link l.msg) ∷ letter_events note step stamp ls (after note step (Does (Take stamp l.link l.msg)) past)
-    else letter_events note step stamp ls past
-
--- the event that ends a node's beat: it ticks where it acts, and where it dies it writes that it does
-unfoldable pub end_events : {M : Type 0} → Stamp → Lifetime → List (NodeEvent M)
-end_events stamp life =
-    if acts life stamp.beat then Does (Tick stamp) ∷ [] else if dies life stamp.beat then Dies stamp ∷ [] else []
-
--- the events of a node's beat to which letters come
-unfoldable pub beat_events : {M S : Type 0} → (M → Note) → (S → Input M → Deed M S) → Stamp → List (Letter M) → Past S → List (NodeEvent M)
-beat_events note step stamp letters past =
-    letter_events note step stamp letters past
-    ++ end_events stamp (after_all note step (letter_events note step stamp letters past) past).life
 
 -- a node's turn in a beat: it is brought what has arrived on its in-links, and lives through its beat
 unfoldable pub turn : {M S : Type 0} → (M → Note) → (S → Input M → Deed M S) → Stamp → List LinkNo → Scene M S → Scene M S

@@ -4,12 +4,14 @@ ghost use Rattle.tiger_base.specs.Limits.{most_beats, most_reading};
 ghost use Rattle.node_kit.specs.Steps.Input.{Take, Tick};
 ghost use Rattle.run_facts.specs.Events.NodeEvent.{Does};
 ghost use Rattle.ring_engine.specs.Traffic.{collected};
-ghost use Rattle.ring_engine.specs.Turns.{scene, IsReadyFor, KeepsReady, happens, happen, letter_events, end_events, beat_events, turn, links_of_letters};
+ghost use Rattle.ring_engine.specs.Turns.{scene, IsReadyFor, KeepsReady, happens, happen, turn, links_of_letters};
+ghost use Rattle.run_facts.specs.Beats.{letter_events, end_events, beat_events};
 
 use crate::delivery::deliver;
 use crate::gathering::gather;
-use crate::mail::{Channel, Letter};
+use crate::mail::Channel;
 use node_kit::{Entry, Journal, Life, Node, Outbox, What};
+use run_facts::Letter;
 use std::alloc::Global;
 use std::collections::VecDeque;
 use tiger_base::{LinkNo, Message, NoMemory, Stamp};

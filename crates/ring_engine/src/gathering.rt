@@ -3,7 +3,8 @@ ghost use Rattle.std.specs.Prelude.{◌≡◌, ◌<◌, [], ◌∷◌, ◌++◌,
 ghost use Rattle.std.specs.List.{AllByRecursion};
 ghost use Rattle.ring_engine.specs.Traffic.{letters_on, emptied, collected, after_collecting, IsLink};
 
-use crate::mail::{Channel, Letter};
+use crate::mail::Channel;
+use run_facts::Letter;
 use std::alloc::Global;
 use std::collections::VecDeque;
 use tiger_base::{Beat, LinkNo, NoMemory};

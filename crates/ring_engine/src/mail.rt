@@ -4,26 +4,11 @@ ghost use Rattle.tiger_base.specs.Limits.{most_beats};
 ghost use Rattle.link_timing.specs.Clock.{new_clock, FixedIsWithin};
 
 use link_timing::{Delay, LinkClock};
+use run_facts::{Flight, Letter};
 use std::alloc::Global;
 use std::collections::VecDeque;
 use std::marker::Model;
 use tiger_base::{Beat, LinkNo, NoMemory};
-
-/// A message under way, and the beats in which it was sent and arrives.
-#[derive(Drop)]
-pub struct Flight<M> {
-    pub sent: Beat,
-    pub arrival: Beat,
-    pub msg: M,
-}
-
-/// A message that arrived, the link on which it came, and the beat in which it was sent.
-#[derive(Drop)]
-pub struct Letter<M> {
-    pub link: LinkNo,
-    pub sent: Beat,
-    pub msg: M,
-}
 
 /// A link: its clock, and the messages under way on it, the oldest first.
 #[derive(Drop)]
@@ -33,7 +18,7 @@ pub struct Channel<M> {
 }
 
 impl<M> Model for Channel<M> {
-    ghost use Rattle.ring_engine.specs.Traffic.{Traffic};
+    ghost use Rattle.run_facts.specs.Rings.{Traffic};
 
     ghost Value = { Traffic M };
 
@@ -73,7 +58,8 @@ impl<M> Channel<M> {
 }
 
 impl<M: Drop> Channel<M> {
-    ghost use Rattle.ring_engine.specs.Traffic.{after_sending, arrived, after_arrivals};
+    ghost use Rattle.ring_engine.specs.Traffic.{after_sending, after_arrivals};
+    ghost use Rattle.run_facts.specs.Beats.{arrived};
 
     /// Takes out all that has arrived by a beat, and puts it at the end of some letters.
     pub fn empty(

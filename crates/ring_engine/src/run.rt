@@ -5,7 +5,7 @@ ghost use Rattle.node_kit.specs.Courses.{IsCourse};
 ghost use Rattle.node_kit.specs.Links.{links_of, viewers_of};
 ghost use Rattle.node_kit.specs.Life.{lifetime_of};
 ghost use Rattle.run_facts.specs.Carried.{AreCarried};
-ghost use Rattle.run_facts.specs.Histories.{HaveHistory};
+ghost use Rattle.run_facts.specs.Kept.{HaveKept};
 ghost use Rattle.run_facts.specs.Paced.{ArePaced};
 ghost use Rattle.run_facts.specs.Timed.{AreTimed};
 ghost use Rattle.ring_engine.specs.Runs.{EachHasEnded};
@@ -37,7 +37,7 @@ pub fn run_plain<M: Message, T: Node<M>>(
     ensures journals { IfOk result (λ r. length r.journals ≡ vec_len nodes) }
     ensures nodes { IfOk result (λ r. vec_len r.nodes ≡ vec_len nodes) }
     ensures runs { IfOk result (λ r. EachHasEnded M.note_of T.step course.now nodes.items r.nodes.items r.journals) }
-    ensures history { IfOk result (λ r. HaveHistory M.note_of T.step course.now.plan.params (lifetime_of course.now) course.now.beats nodes.items r.nodes.items r.journals) }
+    ensures kept { IfOk result (λ r. HaveKept M.note_of T.step course.now nodes.items r.nodes.items r.journals) }
     ensures carried { IfOk result (λ r. AreCarried course.now.plan.params course.now.beats (lifetime_of course.now) r.journals) }
     ensures paced { IfOk result (λ r. ArePaced course.now r.journals) }
     ensures timed { IfOk result (λ r. AreTimed course.now.plan.params course.now.beats (lifetime_of course.now) r.journals) }

@@ -27,7 +27,7 @@ use Rattle.ring_nodes.specs.declared.nodes.AnyNode.{AnyNode}
 use Rattle.ring_nodes.specs.declared.nodes.AnyNode.TheVariants as node
 use Rattle.ring_nodes.specs.AllNodes.{any_step, node_count, numbered, each_numbered, opening_cub, opening_disk, opening_controller, opening_nodes, faults_of, image_at, images_of}
 use Rattle.ring_nodes.proofs.Numbered.{length-numbered, length-each_numbered, opening_count}
-use Rattle.ring_engine.specs.Places.{Ring}
+use Rattle.run_facts.specs.Rings.{Ring}
 use Rattle.node_kit.specs.Rows.{each_below}
 use Rattle.ring_engine.specs.Whole.{HaveTurns, HavePassed, IsWholeRun}
 use Rattle.ring_facts.specs.Steps.{ring_of}

@@ -16,10 +16,11 @@ use Rattle.run_facts.specs.Events.NodeEvent.{Does, Dies}
 use Rattle.run_facts.specs.Histories.{HaveHistory, beat, ticks}
 use Rattle.run_facts.proofs.Counts.{count-numbered}
 use Rattle.run_facts.proofs.Indexed.{all-at}
-use Rattle.ring_engine.specs.Places.{Ring}
+use Rattle.run_facts.specs.Rings.{Ring}
 use Rattle.ring_engine.specs.Whole.{IsWholeRun}
-use Rattle.ring_engine.proofs.Progressing.{Progress, progress-ends}
-use Rattle.ring_engine.proofs.Wholes.{firsts, history-run}
+use Rattle.ring_engine.proofs.Progressing.{progress-ends}
+use Rattle.run_facts.proofs.Progress.{Progress}
+use Rattle.run_facts.proofs.Kept.{firsts, history-run}
 use Rattle.schedule_laws.specs.Facts.{TickedAt}
 use Rattle.schedule_laws.specs.Histories.{input_of, lives_of}
 

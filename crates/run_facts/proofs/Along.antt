@@ -15,22 +15,12 @@ use Rattle.node_kit.specs.declared.outbox.Out.{Out}
 use Rattle.node_kit.specs.declared.outbox.Out.TheVariants as out
 use Rattle.node_kit.specs.Life.{trimmed}
 use Rattle.node_kit.specs.Links.{links_of, ends_of}
-use Rattle.node_kit.specs.Steps.{Input, Deed, IsAllowed, IsOwnEntry, entry_of, entries_of}
+use Rattle.node_kit.specs.Steps.{Input, Deed, IsAllowed, IsOwnEntry, entry_of}
 use Rattle.node_kit.specs.Steps.Input.{Take, Tick}
-use Rattle.run_facts.specs.Events.{NodeEvent, Past, Dated, after, after_all, after_input, kept_outs, outs_of, stamp_at, AreFair, sends_of, sends_along, take_on, takes_along}
+use Rattle.run_facts.specs.Events.{NodeEvent, Past, Dated, after, after_all, after_input, kept_outs, outs_of, stamp_at, AreFair, sends_of, sends_along, take_on, takes_along, entries_at, written, noted_as}
 use Rattle.run_facts.specs.Events.NodeEvent.{Does, Dies}
 use Rattle.run_facts.specs.Carried.{sent_by, got_by, sent_on, got_on}
 use Rattle.run_facts.proofs.Rows.{all-append}
-
--- what an event writes
-abbrev pub entries_at : {M S : Type 0} → (M → Note) → (S → Input M → Deed M S) → NodeEvent M → Past S → List Entry
-entries_at note step (Does i) past = entries_of note i (kept_outs step i past)
-entries_at note step (Dies stamp) past = (record { stamp = stamp; what = what.Died }) ∷ []
-
--- and several
-abbrev pub written : {M S : Type 0} → (M → Note) → (S → Input M → Deed M S) → List (NodeEvent M) → Past S → List Entry
-written note step [] past = []
-written note step (e ∷ es) past = entries_at note step e past ++ written note step es (after note step e past)
 
 journal-at : {M S : Type 0} (note : M → Note) (step : S → Input M → Deed M S) (e : NodeEvent M) (past : Past S)
     → (after note step e past).journal ≡ past.journal ++ entries_at note step e past
@@ -121,10 +111,6 @@ pub sends-none : {M S : Type 0} (note : M → Note) (step : S → Input M → De
 sends-none note step p n from to l [] past ends other h = refl
 sends-none note step p n from to l (e ∷ es) past ends other h =
     rw (sends-elsewhere note p n from to l (stamp_at e).beat (outs_of step e past) ends other h.0, sends-none note step p n from to l es (after note step e past) ends other h.1) refl
-
--- the note of what was sent or got
-abbrev pub noted_as : {M : Type 0} → (M → Note) → Dated M → Dated Note
-noted_as note d = record { beat = d.beat; item = note d.item }
 
 -- an entry of a node's own tells of no message and of no death
 own-sent : (l beat : ℕ) (w : What) → IsOwnEntry w → sent_by l beat w ≡ []

@@ -10,9 +10,8 @@ use Rattle.node_kit.specs.Life.{Lifetime, acts, hears}
 use Rattle.run_facts.specs.Events.{Dated}
 use Rattle.run_facts.specs.Carried.{AreCarriedOn, MayBeLost, DiedBy}
 use Rattle.run_facts.specs.Paced.{Passage, passages, is_heard, brought, ArePacedOn}
-use Rattle.run_facts.proofs.Orders.{Rising}
+use Rattle.run_facts.specs.Accounts.{Rising, IsTimely, is_caught}
 use Rattle.run_facts.proofs.Rows.{all-weaker, filter-none}
-use Rattle.run_facts.proofs.Links.{IsTimely, is_caught}
 
 -- who does not act in a beat does not act later, and is dead
 pub acts-later : (death : Option ℕ) (a b : ℕ) → a ≤ b → acts (record { death = death }) a ≡ false → acts (record { death = death }) b ≡ false

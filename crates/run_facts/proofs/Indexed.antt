@@ -14,25 +14,12 @@ use Rattle.node_kit.specs.Steps.{Input, Deed, IsAllowed}
 use Rattle.node_kit.specs.Steps.Input.{Take, Tick}
 use Rattle.run_facts.specs.Events.{NodeEvent, Past, Dated, opening, after, after_all, outs_of, stamp_at, is_tick, is_death, is_take_on, AreFair, sends_of, sends_along, take_on, takes_along}
 use Rattle.run_facts.specs.Events.NodeEvent.{Does, Dies}
-use Rattle.run_facts.specs.Histories.{History, past, last_of, count_of, sent}
+use Rattle.run_facts.specs.Histories.{past, last_of, count_of, sent}
 use Rattle.run_facts.specs.Paced.{Passage, passages, is_heard, brought}
-use Rattle.run_facts.proofs.Orders.{Rising}
+use Rattle.run_facts.specs.Accounts.{Rising, IsTimely, tick_count, AreCounted, AreAlive, event_at, front, history_of}
 use Rattle.run_facts.proofs.Rows.{all-weaker, filter-none}
 use Rattle.run_facts.proofs.Along.{after_all-append, sends-append}
-use Rattle.run_facts.proofs.Links.{IsTimely}
 use Rattle.run_facts.proofs.Carrying.{unheard-later}
-use Rattle.run_facts.proofs.Timelines.{tick_count, AreCounted, AreAlive}
-
--- the event of a number, and the events before it
-abbrev pub event_at : {M : Type 0} → List (NodeEvent M) → ℕ → NodeEvent M
-event_at [] i = Dies (record { beat = 0; reading = 0 })
-event_at (e ∷ es) zero = e
-event_at (e ∷ es) (suc i) = event_at es i
-
-abbrev pub front : {M : Type 0} → ℕ → List (NodeEvent M) → List (NodeEvent M)
-front zero es = []
-front (suc i) [] = []
-front (suc i) (e ∷ es) = e ∷ front i es
 
 pub front-more : {M : Type 0} (i : ℕ) (es : List (NodeEvent M)) → i < length es → front (suc i) es ≡ front i es ++ event_at es i ∷ []
 front-more i [] h = absurd (omega (arith, h))
@@ -42,10 +29,6 @@ front-more (suc i) (e ∷ es) h = ap (λ fs. e ∷ fs) (front-more i es (omega (
 pub front-all : {M : Type 0} (es : List (NodeEvent M)) → front (length es) es ≡ es
 front-all [] = refl
 front-all (e ∷ es) = ap (λ fs. e ∷ fs) (front-all es)
-
--- the history of these events
-abbrev pub history_of : {M S : Type 0} → (ℕ → S) → (ℕ → Lifetime) → (ℕ → List (NodeEvent M)) → History M S
-history_of first life events = record { first = first; life = life; count = λ n. length (events n); event = λ n i. event_at (events n) i }
 
 pub past-front : {M S : Type 0} (note : M → Note) (step : S → Input M → Deed M S) (first : ℕ → S) (life : ℕ → Lifetime) (events : ℕ → List (NodeEvent M)) (n i : ℕ)
     → i ≤ length (events n) → past note step (history_of first life events) n i ≡ after_all note step (front i (events n)) (opening (first n) (life n))

@@ -8,7 +8,6 @@ use Rattle.tiger_base.specs.declared.number.Stamp.{Stamp}
 use Rattle.tiger_base.specs.declared.number.LinkNo.{LinkNo}
 use Rattle.tiger_base.specs.declared.message.Note.{Note}
 use Rattle.slot_plan.specs.declared.params.Params.{Params}
-use Rattle.slot_plan.specs.Times.{time_of}
 use Rattle.node_kit.specs.declared.journal.What.{What}
 use Rattle.node_kit.specs.declared.journal.What.TheVariants as what
 use Rattle.node_kit.specs.declared.journal.Entry.{Entry}
@@ -17,15 +16,15 @@ use Rattle.node_kit.specs.declared.outbox.Out.TheVariants as out
 use Rattle.node_kit.specs.Life.{Lifetime, acts}
 use Rattle.node_kit.specs.Steps.{Input, Deed, IsAllowed, IsOwnEntry, entry_of, stamp_of}
 use Rattle.node_kit.specs.Steps.Input.{Take, Tick}
-use Rattle.run_facts.specs.Events.{NodeEvent, Past, after, kept_outs, stamp_at, AreFair}
+use Rattle.run_facts.specs.Events.{NodeEvent, Past, after, kept_outs, stamp_at, AreFair, entries_at, written}
 use Rattle.run_facts.specs.Events.NodeEvent.{Does, Dies}
 use Rattle.run_facts.specs.Carried.{IsAtItsEnd}
 use Rattle.run_facts.specs.Paced.{IsByLink, AreByLink}
 use Rattle.run_facts.specs.Timed.{IsRead, IsNotBelow, AreRising, is_died, death_within, IsDeathOf, IsTimed}
-use Rattle.run_facts.proofs.Orders.{Rising}
+use Rattle.run_facts.specs.Accounts.{Rising, IsLed, IsInTurn, AreInTurn, LivesBy, AreAlive, EndAt, IsTimeline, IsClockOf, front}
 use Rattle.run_facts.proofs.Rows.{all-append, all-left, all-weaker, all-both, all-given}
-use Rattle.run_facts.proofs.Along.{entries_at, written, written-append}
-use Rattle.run_facts.proofs.Timelines.{IsLed, IsInTurn, AreInTurn, LivesBy, AreAlive, EndAt, IsTimeline, rising-counted}
+use Rattle.run_facts.proofs.Along.{written-append}
+use Rattle.run_facts.proofs.Timelines.{rising-counted}
 
 -- entries have their events' stamps
 stamped-outs : {M : Type 0} (note : M → Note) (Q : Stamp → Type 0) (stamp : Stamp) (os : List (Out M)) → Q stamp → AllByRecursion (λ x. Q x.stamp) (map (entry_of note stamp) os)
@@ -64,13 +63,6 @@ rising-written note step (e ∷ es) past r =
     (stamped-entries note step (λ s. s.beat ≡ (stamp_at e).beat) e past refl)
     (stamped-written note step (λ s. (stamp_at e).beat ≤ s.beat) es (after note step e past) r.0)
     (rising-written note step es (after note step e past) r.1)
-
--- the clock by which a node's entries are stamped: it shows the true time or more, by the skew at most, and never falls
-pub record IsClockOf (p : Params) (when : ℕ → Stamp) : Type 0 where
-  pub dated : (b : ℕ) → (when b).beat ≡ b
-  pub low : (b : ℕ) → time_of p b ≤ (when b).reading
-  pub high : (b : ℕ) → (when b).reading ≤ time_of p b + p.skew
-  pub grows : (a b : ℕ) → a ≤ b → (when a).reading ≤ (when b).reading
 
 read-by : (p : Params) (when : ℕ → Stamp) (x : Entry) → IsClockOf p when → x.stamp ≡ when x.stamp.beat → IsRead p x
 read-by p when x k h =

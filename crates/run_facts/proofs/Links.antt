@@ -1,7 +1,7 @@
 -- One link: what was sent, run through the clock, is what was brought followed by what is under way.
-use Rattle.std.proofs.Common.{◌≡◌, ℕ, ◌+◌, ◌<◌, ◌≤◌, List, [], ◌∷◌, ◌++◌, map, filter, Bool, true, false, ◌&&◌, refl, ap, sym, ◌∙◌, subst, arith, ⊎_elim, append_assoc, append-nil}
+use Rattle.std.proofs.Common.{◌≡◌, ℕ, ◌+◌, ◌<◌, ◌≤◌, List, [], ◌∷◌, ◌++◌, map, filter, true, false, refl, ap, sym, ◌∙◌, subst, arith, ⊎_elim, append_assoc, append-nil}
 use Rattle.std.proofs.lemmas.List.{map-append}
-use Rattle.std.specs.Prelude.{nat_le, nat_lt, if◌then◌else◌}
+use Rattle.std.specs.Prelude.{nat_le, nat_lt}
 use Rattle.std.specs.List.{AllByRecursion}
 use Rattle.std.proofs.lemmas.Bool.{cases_Bool}
 use Rattle.std.proofs.lemmas.Bool.Decides.{nat_tests}
@@ -9,16 +9,11 @@ use Rattle.std.proofs.lemmas.List.Elements.{filter-append}
 use Rattle.tiger_base.specs.Limits.{most_beats}
 use Rattle.link_timing.specs.Clock.{Clock, IsClock, arrival_at, after_send}
 use Rattle.link_timing.proofs.Arrivals.{GoesOn-from_IsClock, IsClock-after_send}
-use Rattle.node_kit.specs.Life.{Lifetime, acts, hears}
+use Rattle.node_kit.specs.Life.{Lifetime}
 use Rattle.run_facts.specs.Events.{Dated}
 use Rattle.run_facts.specs.Paced.{Passage, passages, is_heard, brought, ArePacedOn}
-use Rattle.run_facts.proofs.Orders.{Rising}
+use Rattle.run_facts.specs.Accounts.{Rising, clock_after, IsTimely, is_caught, OnLink, arriving, waiting}
 use Rattle.run_facts.proofs.Rows.{all-append, all-weaker, rising-push, rising-right, filter-none, filter-same}
-
--- the clock after sends
-abbrev pub clock_after : {X : Type 0} → Clock → List (Dated X) → Clock
-clock_after clock [] = clock
-clock_after clock (s ∷ ss) = clock_after (after_send clock s.beat) ss
 
 pub clock_after-append : {X : Type 0} (clock : Clock) (xs ys : List (Dated X)) → clock_after clock (xs ++ ys) ≡ clock_after (clock_after clock xs) ys
 clock_after-append clock [] ys = refl
@@ -28,28 +23,6 @@ pub passages-append : {X : Type 0} (clock : Clock) (xs ys : List (Dated X)) → 
 passages-append clock [] ys = refl
 passages-append clock (x ∷ xs) ys =
     ap (λ ps. (record { sent = x.beat; arrival = arrival_at clock x.beat; item = x.item }) ∷ ps) (passages-append (after_send clock x.beat) xs ys)
-
--- from one beat to the greatest delay under way
-abbrev pub IsTimely : {X : Type 0} → ℕ → Passage X → Type 0
-IsTimely most f = (f.sent < f.arrival) × (f.arrival ≤ f.sent + most)
-
--- a receiver that acts in the beat hears it
-abbrev pub is_caught : {X : Type 0} → Lifetime → Passage X → Bool
-is_caught life f = acts life f.arrival && hears life f.sent f.arrival
-
--- what was sent and what was got on a link, whose clock and what is under way stand so, where all of the beats below one was brought
-pub record OnLink {X : Type 0} (life : Lifetime) (most : ℕ) (start : Clock) (sent got : List (Dated X)) (clock : Clock) (flights : List (Passage X)) (next : ℕ) : Type 0 where
-  pub clocked : clock ≡ clock_after start sent
-  pub is_clock : IsClock clock
-  pub same_most : clock.most ≡ most
-  pub timely : AllByRecursion (IsTimely most) (passages start sent)
-  pub rising : Rising (λ (f : Passage X). f.arrival) (passages start sent)
-  pub capped : AllByRecursion (λ (f : Passage X). f.arrival ≤ clock.last_arrival) (passages start sent)
-  pub gone : List (Passage X)
-  pub split : passages start sent ≡ gone ++ flights
-  pub got_is : got ≡ map brought (filter (is_caught life) gone)
-  pub behind : AllByRecursion (λ (f : Passage X). f.arrival < next) gone
-  pub ahead : AllByRecursion (λ (f : Passage X). next ≤ f.arrival) flights
 
 pub link-opens : {X : Type 0} (life : Lifetime) (start : Clock) → IsClock start → OnLink {X = X} life start.most start [] [] start [] 0
 link-opens life start k = record {
@@ -96,15 +69,6 @@ link-sends {X} life most start sent got clock flights next beat item rises early
       behind = on.behind;
       ahead = all-append (λ (f : Passage X). next ≤ f.arrival) flights (new ∷ []) on.ahead (omega (arith, later, soon), tt);
     }
-
--- what has arrived by a beat, and what is under way still
-abbrev pub arriving : {X : Type 0} → ℕ → List (Passage X) → List (Passage X)
-arriving beat [] = []
-arriving beat (f ∷ fs) = if nat_le f.arrival beat then f ∷ arriving beat fs else []
-
-abbrev pub waiting : {X : Type 0} → ℕ → List (Passage X) → List (Passage X)
-waiting beat [] = []
-waiting beat (f ∷ fs) = if nat_le f.arrival beat then waiting beat fs else f ∷ fs
 
 arriving-waiting : {X : Type 0} (beat : ℕ) (fs : List (Passage X)) → fs ≡ arriving beat fs ++ waiting beat fs
 arriving-waiting beat [] = refl

@@ -5,12 +5,10 @@ use Rattle.std.proofs.lemmas.Bool.{cases_Bool}
 use Rattle.tiger_base.specs.declared.message.Note.{Note}
 use Rattle.link_timing.specs.Clock.{Clock, arrival_at, after_send}
 use Rattle.node_kit.specs.Life.{Lifetime}
-use Rattle.run_facts.specs.Events.{Dated}
+use Rattle.run_facts.specs.Events.{Dated, noted_as}
 use Rattle.run_facts.specs.Paced.{Passage, passages, is_heard, brought, ArePacedOn}
 use Rattle.run_facts.specs.Carried.{AreCarriedOn}
-use Rattle.run_facts.proofs.Orders.{Rising}
-use Rattle.run_facts.proofs.Links.{IsTimely}
-use Rattle.run_facts.proofs.Along.{noted_as}
+use Rattle.run_facts.specs.Accounts.{Rising, IsTimely}
 use Rattle.run_facts.proofs.Carrying.{paced-carries}
 
 abbrev pub noted_pass : {M : Type 0} → (M → Note) → Passage M → Passage Note

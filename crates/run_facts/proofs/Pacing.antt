@@ -16,15 +16,9 @@ use Rattle.run_facts.specs.Carried.{sent_by, sent_on, got_on}
 use Rattle.run_facts.specs.Paced.{Passage, passages}
 use Rattle.run_facts.specs.Timed.{IsNotBelow, AreRising}
 use Rattle.run_facts.specs.Laws.{PacedIsCarried}
-use Rattle.run_facts.proofs.Orders.{Rising}
+use Rattle.run_facts.specs.Accounts.{Rising, IsTimely, AreInOrder}
 use Rattle.run_facts.proofs.Rows.{all-weaker}
-use Rattle.run_facts.proofs.Links.{IsTimely}
 use Rattle.run_facts.proofs.Carrying.{paced-carries}
-
--- sends in beats that never fall
-abbrev pub AreInOrder : {X : Type 0} → ℕ → List (Dated X) → Type 0
-AreInOrder low [] = Unit {0}
-AreInOrder low (s ∷ ss) = (low ≤ s.beat) × (s.beat ≤ most_beats) × AreInOrder s.beat ss
 
 -- what they are on their way
 record RunsOn {X : Type 0} (most : ℕ) (clock : Clock) (sent : List (Dated X)) : Type 0 where

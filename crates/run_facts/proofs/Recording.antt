@@ -15,28 +15,17 @@ use Rattle.node_kit.specs.Life.{Lifetime, acts, dies}
 use Rattle.node_kit.specs.Links.{links_of, ends_of, IsInLink}
 use Rattle.node_kit.specs.Steps.{Input, Deed, IsAllowed, stamp_of}
 use Rattle.node_kit.specs.Steps.Input.{Take}
-use Rattle.run_facts.specs.Events.{NodeEvent, Past, Dated, opening, outs_of, stamp_at, is_tick, is_death, is_take_on, AreFair, sends_along, takes_along}
+use Rattle.run_facts.specs.Events.{NodeEvent, Past, Dated, opening, outs_of, stamp_at, is_tick, is_death, is_take_on, sends_along, takes_along}
 use Rattle.run_facts.specs.Events.NodeEvent.{Does, Dies}
-use Rattle.run_facts.specs.Histories.{past, ticks, takes, sent, CameOn, IsRun, IsComplete}
-use Rattle.run_facts.specs.Paced.{Passage, passages, is_heard, brought}
+use Rattle.run_facts.specs.Histories.{past, ticks, takes, sent, CameOn, IsRun, IsComplete, taken}
+use Rattle.run_facts.specs.Paced.{passages, is_heard, brought}
 use Rattle.run_facts.specs.Timed.{death_within}
 use Rattle.run_facts.proofs.Along.{life-after}
-use Rattle.run_facts.proofs.Links.{is_caught, OnLink, link-ends}
+use Rattle.run_facts.proofs.Links.{link-ends}
+use Rattle.run_facts.specs.Accounts.{is_caught, tick_count, IsLed, LivesBy, AreAlive, EndAt, event_at, front, history_of, AreAccounted}
 use Rattle.run_facts.proofs.Carrying.{heard-acts}
-use Rattle.run_facts.proofs.Timelines.{tick_count, count-append, IsLed, LivesBy, AreAlive, EndAt, IsTimeline, rising-counted}
-use Rattle.run_facts.proofs.Journals.{IsClockOf}
-use Rattle.run_facts.proofs.Indexed.{event_at, front, history_of, past-front, passing, count-front, count-all, passing-ticks, passing-front, sent-all, all-at, rising-at, counted-at, fair-at, death-last, alive-from, alive-append, take-at, takes-counted, heard-at, heard-counted, passage-at, sending-at, timely-at}
-
--- the events of all nodes, beat for beat, and each link's account
-pub record AreAccounted {M S : Type 0} (note : M → Note) (step : S → Input M → Deed M S) (p : Params) (when : ℕ → ℕ → Stamp) (life : ℕ → Lifetime) (start : ℕ → Clock)
-    (nodes beats : ℕ) (first : ℕ → S) (events : ℕ → List (NodeEvent M)) : Type 0 where
-  pub clock : (n : ℕ) → IsClockOf p (when n)
-  pub fair : (n : ℕ) → n < nodes → AreFair note step p n (events n) (opening (first n) (life n))
-  pub timeline : (n : ℕ) → n < nodes → IsTimeline (when n) p n (life n) beats (events n)
-  pub senders : (l from to : ℕ) → ends_of (links_of p) l ≡ Some (from, to) → from < nodes
-  pub links : (l from to : ℕ) → from < nodes → to < nodes → ends_of (links_of p) l ≡ Some (from, to)
-      → (clock : Clock) × (flights : List (Passage M))
-      × OnLink (life to) p.delay (start l) (sends_along note step l (events from) (opening (first from) (life from))) (takes_along l (events to)) clock flights beats
+use Rattle.run_facts.proofs.Timelines.{count-append, rising-counted}
+use Rattle.run_facts.proofs.Indexed.{past-front, passing, count-front, count-all, passing-ticks, passing-front, sent-all, all-at, rising-at, counted-at, fair-at, death-last, alive-from, alive-append, take-at, takes-counted, heard-at, heard-counted, passage-at, sending-at, timely-at}
 
 -- ends of a node's events
 within-low : (beats : ℕ) (o : Option ℕ) (death : ℕ) → death_within beats o ≡ Some death → death < beats
@@ -132,15 +121,16 @@ module _ {M S : Type 0} (note : M → Note) (step : S → Input M → Deed M S) 
   alive-total n low alive =
       total n ∙ alive-ticks (when n) beats (death_within beats (life n).death) (events n) (accounts.timeline n low).ends (alive-from (events n) alive)
 
-  together : (n m i : ℕ) → n < nodes → m < nodes → i ≤ length (events n) → ((j : ℕ) → j < length (events m) → is_death (event_at (events m) j) ≡ false)
-      → ticks (history_of first life events) n i ≤ ticks (history_of first life events) m (length (events m)) + 1
-  together n m i low low_m h alive =
-      let mine = count-front is_tick first life events n i h in
+  level : (n m i : ℕ) → n < nodes → m < nodes → i < length (events n) → ((j : ℕ) → j < length (events m) → is_death (event_at (events m) j) ≡ false)
+      → (stamp_at (event_at (events n) i)).beat ≤ ticks (history_of first life events) m (length (events m))
+  level n m i low low_m h alive =
+      let mine = count-front is_tick first life events n i (omega (arith, h)) in
       let part = passing-front is_tick i (events n) in
       let all = passing-ticks (events n) in
       let high = ticks-high (when n) beats (death_within beats (life n).death) (events n) (accounts.timeline n low).ends (λ d e. within-low beats (life n).death d e) in
       let theirs = alive-total m low_m alive in
-      omega (arith, mine, part, all, high, theirs)
+      let at = in-beat n i low h in
+      omega (arith, mine, part, all, high, theirs, at)
 
   came : (n i : ℕ) (stamp : Stamp) (link : LinkNo) (msg : M) → n < nodes → i < length (events n) → event_at (events n) i ≡ Does (Take stamp link msg)
       → CameOn note step p nodes (history_of first life events) n link.0 (takes link.0 (history_of first life events) n i) stamp.beat msg
@@ -203,7 +193,7 @@ module _ {M S : Type 0} (note : M → Note) (step : S → Input M → Deed M S) 
     in_beat = in-beat;
     reads = shown;
     rising = rises;
-    together = together;
+    level = level;
     ended = λ n i low h died. ended-at (when n) beats (death_within beats (life n).death) (events n) i (accounts.timeline n low).ends h died;
     fair = λ n i low h.
         subst (λ (s : Past S). AllByRecursion (IsAllowed note p n) (outs_of step (event_at (events n) i) s)) (sym (past-front note step first life events n i (omega (arith, h))))

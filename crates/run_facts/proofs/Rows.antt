@@ -1,7 +1,8 @@
 -- Lists, of which each element has a property.
-use Rattle.std.proofs.Common.{◌≡◌, ℕ, ◌≤◌, List, [], ◌∷◌, ◌++◌, map, filter, Bool, true, false, refl, ap, cond}
+use Rattle.std.proofs.Common.{◌≡◌, ℕ, ◌≤◌, List, [], ◌∷◌, ◌++◌, map, filter, Bool, true, false, refl, ap, cond, ◌+◌, Some, sym, ◌∙◌}
 use Rattle.std.specs.List.{AllByRecursion}
-use Rattle.run_facts.proofs.Orders.{Rising}
+use Rattle.run_facts.specs.Accounts.{Rising}
+use Rattle.std.specs.Prelude.{slice_get}
 
 pub all-append : {X : Type 0} (P : X → Type 0) (xs ys : List X) → AllByRecursion P xs → AllByRecursion P ys → AllByRecursion P (xs ++ ys)
 all-append P [] ys h g = g
@@ -53,3 +54,6 @@ filter-none p (x ∷ xs) h = rw h.0 (filter-none p xs h.1)
 pub filter-same : {X : Type 0} (p q : X → Bool) (xs : List X) → AllByRecursion (λ x. p x ≡ q x) xs → filter p xs ≡ filter q xs
 filter-same p q [] h = refl
 filter-same p q (x ∷ xs) h = rw h.0 (ap (λ ys. cond (q x) (x ∷ ys) ys) (filter-same p q xs h.1))
+
+pub same-element : {A : Type 0} (xs : List A) (k : ℕ) (x y : A) → slice_get xs k ≡ Some x → slice_get xs k ≡ Some y → x ≡ y
+same-element xs k x y hx hy = let e : Some x ≡ Some y = sym hx ∙ hy in cc

@@ -1,68 +1,19 @@
 -- One node's events, beat for beat: when they happen, and how they end.
 use Rattle.std.proofs.Common.{◌≡◌, ℕ, suc, ◌+◌, ◌<◌, ◌≤◌, List, [], ◌∷◌, ◌++◌, true, false, Option, Some, None, refl, ap, sym, ◌∙◌, subst, arith, cond, ⊎_elim}
-use Rattle.std.specs.Prelude.{nat_lt, if◌then◌else◌}
+use Rattle.std.specs.Prelude.{nat_lt}
 use Rattle.std.specs.List.{AllByRecursion}
 use Rattle.std.proofs.lemmas.Bool.{cases_Bool}
 use Rattle.std.proofs.lemmas.Bool.Decides.{nat_tests}
 use Rattle.tiger_base.specs.declared.number.Stamp.{Stamp}
 use Rattle.slot_plan.specs.declared.params.Params.{Params}
 use Rattle.node_kit.specs.Life.{Lifetime, acts, dies}
-use Rattle.node_kit.specs.Links.{IsInLink}
-use Rattle.node_kit.specs.Steps.{stamp_of}
 use Rattle.node_kit.specs.Steps.Input.{Take, Tick}
 use Rattle.run_facts.specs.Events.{NodeEvent, stamp_at, is_tick, is_death}
 use Rattle.run_facts.specs.Events.NodeEvent.{Does, Dies}
 use Rattle.run_facts.specs.Timed.{death_within}
-use Rattle.run_facts.proofs.Orders.{Rising}
+use Rattle.run_facts.specs.Accounts.{Rising, tick_count, AreCounted, IsLed, IsInTurn, AreInTurn, LivesBy, EndAt, IsTimeline, IsTakeAt}
 use Rattle.run_facts.proofs.Rows.{all-append, all-weaker, all-both}
-
-abbrev pub tick_count : {M : Type 0} → List (NodeEvent M) → ℕ
-tick_count [] = 0
-tick_count (e ∷ es) = if is_tick e then suc (tick_count es) else tick_count es
-
--- the beat of each event is the number of ticks before it
-abbrev pub AreCounted : {M : Type 0} → ℕ → List (NodeEvent M) → Type 0
-AreCounted t [] = Unit {0}
-AreCounted t (e ∷ es) = ((stamp_at e).beat ≡ t) × AreCounted (if is_tick e then suc t else t) es
-
--- what is taken comes on an in-link
-abbrev pub IsLed : {M : Type 0} → Params → ℕ → NodeEvent M → Type 0
-IsLed p n (Does (Take stamp link msg)) = IsInLink p n link.0
-IsLed p n (Does (Tick stamp)) = Unit {0}
-IsLed p n (Dies stamp) = Unit {0}
-
--- of two messages taken in one beat the first came on no higher link
-abbrev pub IsInTurn : {M : Type 0} → NodeEvent M → NodeEvent M → Type 0
-IsInTurn (Does (Take stamp link msg)) (Does (Take later other more)) = stamp.beat ≡ later.beat → link.0 ≤ other.0
-IsInTurn old new = Unit {0}
-
-abbrev pub AreInTurn : {M : Type 0} → List (NodeEvent M) → Type 0
-AreInTurn [] = Unit {0}
-AreInTurn (e ∷ es) = AllByRecursion (IsInTurn e) es × AreInTurn es
-
--- it is as the life has it
-abbrev pub LivesBy : {M : Type 0} → Lifetime → NodeEvent M → Type 0
-LivesBy life (Does i) = acts life (stamp_of i).beat ≡ true
-LivesBy life (Dies stamp) = (acts life stamp.beat ≡ false) × (dies life stamp.beat ≡ true)
-
-abbrev pub AreAlive : {M : Type 0} → List (NodeEvent M) → Type 0
-AreAlive es = AllByRecursion (λ e. is_death e ≡ false) es
-
--- the events before a beat end with its last tick, or with the death
-abbrev pub EndAt : {M : Type 0} → (ℕ → Stamp) → ℕ → Option ℕ → List (NodeEvent M) → Type 0
-EndAt when next None es = AreAlive es × (tick_count es ≡ next)
-EndAt {M} when next (Some death) es =
-    (front : List (NodeEvent M)) × (es ≡ front ++ Dies (when death) ∷ []) × AreAlive front × (tick_count front ≡ death)
-
--- the events of node n in the beats below one
-pub record IsTimeline {M : Type 0} (when : ℕ → Stamp) (p : Params) (n : ℕ) (life : Lifetime) (next : ℕ) (es : List (NodeEvent M)) : Type 0 where
-  pub stamped : AllByRecursion (λ e. stamp_at e ≡ when (stamp_at e).beat) es
-  pub early : AllByRecursion (λ e. (stamp_at e).beat < next) es
-  pub counted : AreCounted 0 es
-  pub led : AllByRecursion (IsLed p n) es
-  pub in_turn : AreInTurn es
-  pub lived : AllByRecursion (LivesBy life) es
-  pub ends : EndAt when next (death_within next life.death) es
+use Rattle.run_facts.specs.Histories.{taken}
 
 pub timeline-opens : {M : Type 0} (when : ℕ → Stamp) (p : Params) (n : ℕ) (life : Lifetime) → IsTimeline {M = M} when p n life 0 []
 timeline-opens {M} when p n life = record {
@@ -148,12 +99,6 @@ apart-all : {M : Type 0} (next : ℕ) (es fs : List (NodeEvent M)) → AllByRecu
     → AllByRecursion (λ e. AllByRecursion (IsInTurn e) fs) es
 apart-all next [] fs h g = tt
 apart-all next (e ∷ es) fs h g = (apart-one e next fs h.0 g, apart-all next es fs h.1 g)
-
--- a message that is taken in a beat
-abbrev pub IsTakeAt : {M : Type 0} → Stamp → Params → ℕ → NodeEvent M → Type 0
-IsTakeAt now p n (Does (Take stamp link msg)) = (stamp ≡ now) × IsInLink p n link.0
-IsTakeAt now p n (Does (Tick stamp)) = ⊥
-IsTakeAt now p n (Dies stamp) = ⊥
 
 take-stamp : {M : Type 0} (now : Stamp) (p : Params) (n : ℕ) (e : NodeEvent M) → IsTakeAt now p n e → (stamp_at e ≡ now) × (is_tick e ≡ false) × (is_death e ≡ false) × IsLed p n e
 take-stamp now p n (Does (Take stamp link msg)) h = (h.0, refl, refl, h.1)

@@ -124,3 +124,17 @@ take_on l (Dies stamp) = []
 abbrev pub takes_along : {M : Type 0} → ℕ → List (NodeEvent M) → List (Dated M)
 takes_along l [] = []
 takes_along l (e ∷ es) = take_on l e ++ takes_along l es
+
+-- what an event writes
+abbrev pub entries_at : {M S : Type 0} → (M → Note) → (S → Input M → Deed M S) → NodeEvent M → Past S → List Entry
+entries_at note step (Does i) past = entries_of note i (kept_outs step i past)
+entries_at note step (Dies stamp) past = (record { stamp = stamp; what = what.Died }) ∷ []
+
+-- and several
+abbrev pub written : {M S : Type 0} → (M → Note) → (S → Input M → Deed M S) → List (NodeEvent M) → Past S → List Entry
+written note step [] past = []
+written note step (e ∷ es) past = entries_at note step e past ++ written note step es (after note step e past)
+
+-- the note of what was sent or got
+abbrev pub noted_as : {M : Type 0} → (M → Note) → Dated M → Dated Note
+noted_as note d = record { beat = d.beat; item = note d.item }

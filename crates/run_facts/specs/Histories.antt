@@ -1,5 +1,5 @@
 -- The history of a run: for each node its events in its own order, from which all else is computed.
-use Rattle.std.specs.Prelude.{◌≡◌, ℕ, zero, suc, ◌+◌, ◌<◌, ◌≤◌, Bool, true, false, List, [], ◌++◌, length, Some, slice_get, if◌then◌else◌}
+use Rattle.std.specs.Prelude.{◌≡◌, ℕ, zero, suc, ◌+◌, ◌<◌, ◌≤◌, Bool, true, false, List, [], ◌++◌, length, Some, slice_get, if◌then◌else◌, not}
 use Rattle.std.specs.List.{AllByRecursion}
 use Rattle.tiger_base.specs.declared.number.Stamp.{Stamp}
 use Rattle.tiger_base.specs.declared.number.LinkNo.{LinkNo}
@@ -12,7 +12,7 @@ use Rattle.node_kit.specs.Life.{Lifetime, acts, dies}
 use Rattle.node_kit.specs.Links.{links_of, ends_of}
 use Rattle.node_kit.specs.Steps.{Input, Deed, IsAllowed}
 use Rattle.node_kit.specs.Steps.Input.{Take}
-use Rattle.run_facts.specs.Events.{NodeEvent, Past, Dated, opening, after, outs_of, stamp_at, is_tick, is_death, is_take_on, sends_of}
+use Rattle.run_facts.specs.Events.{NodeEvent, Past, Dated, opening, after, outs_of, stamp_at, is_tick, is_death, is_take_on, sends_of, take_on}
 use Rattle.run_facts.specs.Events.NodeEvent.{Does, Dies}
 
 -- for each node its state and its life at the beginning, how many events it has, and the event of each number below that
@@ -54,10 +54,19 @@ ticks h n i = count_of is_tick h n i
 abbrev pub takes : {M S : Type 0} → ℕ → History M S → ℕ → ℕ → ℕ
 takes l h n i = count_of (is_take_on l) h n i
 
+-- how many events node n has that are no death: it is alive in each of the numbers below
+abbrev pub living : {M S : Type 0} → History M S → ℕ → ℕ
+living h n = count_of (λ e. not (is_death e)) h n (h.count n)
+
 -- what node n sends on a link in its first i events, in order, each with its beat
 abbrev pub sent : {M S : Type 0} → (M → Note) → (S → Input M → Deed M S) → ℕ → History M S → ℕ → ℕ → List (Dated M)
 sent note step l h n zero = []
 sent note step l h n (suc i) = sent note step l h n i ++ sends_of l (beat h n i) (outs note step h n i)
+
+-- what node n takes on a link in its first i events, in order, each with its beat
+abbrev pub taken : {M S : Type 0} → ℕ → History M S → ℕ → ℕ → List (Dated M)
+taken l h n zero = []
+taken l h n (suc i) = taken l h n i ++ take_on l (h.event n i)
 
 -- what node n takes on a link as number k of that link was sent there as number k by the link's other end, one of
 -- so many nodes, from one beat to the greatest delay before
@@ -72,16 +81,16 @@ pub record CameOn {M S : Type 0} (note : M → Note) (step : S → Input M → D
   pub soon : now ≤ when + p.delay
 
 -- What carrying, the clocks and the runner give, and nothing of the nodes' rules: for nodes of these numbers, one
--- tick ends each beat, and no node that lives is a whole beat behind; its readings are within the skew and never
--- fall; its death is its last event; it puts out what it may; what it takes was sent so, and what was sent was
+-- tick ends each beat, and a node that lives has ended each beat below that of any event; its readings are within the skew
+-- and never fall; its death is its last event; it puts out what it may; what it takes was sent so, and what was sent was
 -- taken before the tick that ends the last beat in which it may arrive.
 pub record IsRun {M S : Type 0} (note : M → Note) (step : S → Input M → Deed M S) (p : Params) (nodes : ℕ) (h : History M S) : Type 0 where
   pub in_beat : (n i : ℕ) → n < nodes → i < h.count n → beat h n i ≡ ticks h n i
   pub reads : (n i : ℕ) → n < nodes → i < h.count n
       → (time_of p (beat h n i) ≤ reading h n i) × (reading h n i ≤ time_of p (beat h n i) + p.skew)
   pub rising : (n j i : ℕ) → n < nodes → j ≤ i → i < h.count n → reading h n j ≤ reading h n i
-  pub together : (n m i : ℕ) → n < nodes → m < nodes → i ≤ h.count n
-      → ((j : ℕ) → j < h.count m → is_death (h.event m j) ≡ false) → ticks h n i ≤ ticks h m (h.count m) + 1
+  pub level : (n m i : ℕ) → n < nodes → m < nodes → i < h.count n
+      → ((j : ℕ) → j < h.count m → is_death (h.event m j) ≡ false) → beat h n i ≤ ticks h m (h.count m)
   pub ended : (n i : ℕ) → n < nodes → i < h.count n → is_death (h.event n i) ≡ true → i + 1 ≡ h.count n
   pub fair : (n i : ℕ) → n < nodes → i < h.count n → AllByRecursion (IsAllowed note p n) (outs note step h n i)
   pub carried : (n i : ℕ) (stamp : Stamp) (link : LinkNo) (msg : M) → n < nodes → i < h.count n

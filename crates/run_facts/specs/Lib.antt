@@ -1,8 +1,12 @@
+pub mod Accounts
+pub mod Beats
 pub mod Carried
 pub mod Commanded
 pub mod Events
 pub mod Histories
+pub mod Kept
 pub mod Laws
 pub mod Order
 pub mod Paced
+pub mod Rings
 pub mod Timed

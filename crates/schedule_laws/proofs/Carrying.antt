@@ -27,6 +27,7 @@ use Rattle.node_kit.proofs.Ways.{links_sound}
 use Rattle.run_facts.specs.Events.{NodeEvent, Dated, stamp_at, is_tick, is_death, is_take_on, sends_of}
 use Rattle.run_facts.specs.Events.NodeEvent.{Does, Dies}
 use Rattle.run_facts.specs.Histories.{History, IsRun, outs, beat, reading, ticks, takes, count_of, sent}
+use Rattle.run_facts.proofs.Levels.{together}
 use Rattle.run_facts.proofs.Counts.{sent-stays, sent-numbered, count-numbered}
 use Rattle.schedule_proof.specs.Facts.{Ended, GotBy}
 use Rattle.schedule_proof.specs.Laws.{RunLaws, WasSent, HeardIn}
@@ -393,7 +394,7 @@ module _ {S : Type 0} (step : S → Input Msg → Deed Msg S) (p : Params) (plan
       let tb = (lived c w.small).in_beat w.at w.done in
       let ts = ticks_same c (suc w.at) w.small wd in
       let tick = after_tick ((lives_of h).input c) w.at (ap is_tick_input w.is) in
-      let t = living.run.together c d (suc w.at) (omega arith) (omega arith) wd (λ j l. living.alive d j (omega arith) l) in
+      let t = together noted step p nodes h living.run c d (suc w.at) (omega arith) (omega arith) wd (λ j l. living.alive d j (omega arith) l) in
       ended d a small (omega arith)
 
   reads : {c b l : ℕ} → TickedAt p (lives_of h) c b l → (time_of p b ≤ l) × (l ≤ time_of p b + p.skew)

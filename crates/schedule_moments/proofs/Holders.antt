@@ -8,7 +8,7 @@ use Rattle.node_kit.specs.declared.journal.What.{What}
 use Rattle.node_kit.specs.declared.journal.What.TheVariants as what
 use Rattle.run_facts.specs.Commanded.{is_gone}
 use Rattle.run_facts.specs.Order.{Noted, beat_of}
-use Rattle.run_facts.proofs.Orders.{Rising}
+use Rattle.run_facts.specs.Accounts.{Rising}
 use Rattle.run_model.specs.Schedule.{Schedule, Stop, is_stopped, unless_of, empty_schedule, changed, after_entry, schedule_of}
 use Rattle.schedule_laws.specs.Lives.{In}
 use Rattle.schedule_laws.proofs.Members.{chosen, all_in}

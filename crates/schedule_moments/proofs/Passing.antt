@@ -27,7 +27,7 @@ use Rattle.cub_laws.proofs.Numbers.{visit_own}
 use Rattle.run_facts.specs.Commanded.{is_gone}
 use Rattle.run_facts.specs.Histories.{History, past}
 use Rattle.run_facts.specs.Order.{Noted, beat_of, journal_of, order_of}
-use Rattle.run_facts.proofs.Orders.{Rising}
+use Rattle.run_facts.specs.Accounts.{Rising}
 use Rattle.run_model.specs.Fronts.{AnyByRecursion}
 use Rattle.run_model.specs.Schedule.{schedule_of}
 use Rattle.run_model.specs.Moments.{is_belief_of, is_put_of, moment_at}

@@ -14,10 +14,10 @@ use Rattle.node_kit.specs.declared.outbox.Out.{Out}
 use Rattle.node_kit.specs.declared.outbox.Out.TheVariants as out
 use Rattle.node_kit.specs.Steps.{Deed, Input, IsAllowed, IsOwnEntry, what_of, entry_of, stamp_of}
 use Rattle.node_kit.specs.Steps.Input.{Take, Tick}
-use Rattle.run_facts.specs.Events.{NodeEvent, Past, kept_outs, outs_of, stamp_at}
+use Rattle.run_facts.specs.Events.{NodeEvent, Past, kept_outs, outs_of, stamp_at, entries_at}
 use Rattle.run_facts.specs.Events.NodeEvent.{Does, Dies}
 use Rattle.run_facts.specs.Histories.{History, past}
-use Rattle.run_facts.proofs.Along.{entries_at, journal-after}
+use Rattle.run_facts.proofs.Along.{journal-after}
 use Rattle.schedule_laws.specs.Lives.{In}
 use Rattle.schedule_laws.specs.Histories.{input_of}
 use Rattle.schedule_laws.proofs.Members.{in_left, in_right, in_cases, in_map, from_map, all_in}

@@ -19,11 +19,10 @@ use Rattle.node_kit.specs.declared.outbox.Out.{Out}
 use Rattle.node_kit.specs.declared.outbox.Out.TheVariants as out
 use Rattle.node_kit.specs.Steps.{Deed, Input, IsAllowed, IsOwnEntry, what_of, entry_of, stamp_of}
 use Rattle.node_kit.specs.Steps.Input.{Take, Tick}
-use Rattle.run_facts.specs.Events.{NodeEvent, Past, kept_outs, outs_of, is_death}
+use Rattle.run_facts.specs.Events.{NodeEvent, Past, kept_outs, outs_of, is_death, entries_at}
 use Rattle.run_facts.specs.Events.NodeEvent.{Does, Dies}
 use Rattle.run_facts.specs.Histories.{History, past, outs}
 use Rattle.run_facts.specs.Timed.{is_died}
-use Rattle.run_facts.proofs.Along.{entries_at}
 use Rattle.run_facts.proofs.Journals.{is_got}
 use Rattle.run_facts.specs.Order.{Noted, journal_of, order_of}
 use Rattle.schedule_proof.specs.Facts.{Entered}

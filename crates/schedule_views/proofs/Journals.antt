@@ -12,11 +12,10 @@ use Rattle.node_kit.specs.declared.journal.Entry.{Entry}
 use Rattle.node_kit.specs.declared.outbox.Out.{Out}
 use Rattle.node_kit.specs.Steps.{Deed, Input, entry_of}
 use Rattle.node_kit.specs.Steps.Input.{Take, Tick}
-use Rattle.run_facts.specs.Events.{NodeEvent, Past, kept_outs, outs_of, stamp_at}
+use Rattle.run_facts.specs.Events.{NodeEvent, Past, kept_outs, outs_of, stamp_at, entries_at}
 use Rattle.run_facts.specs.Events.NodeEvent.{Does, Dies}
 use Rattle.run_facts.specs.Histories.{History, past}
-use Rattle.run_facts.proofs.Along.{entries_at}
-use Rattle.run_facts.proofs.Orders.{Rising}
+use Rattle.run_facts.specs.Accounts.{Rising}
 use Rattle.run_facts.specs.Timed.{is_died}
 use Rattle.run_facts.proofs.Journals.{is_got, stamped-written, rising-append}
 use Rattle.schedule_laws.specs.Lives.{In, IsLife, beat_at}

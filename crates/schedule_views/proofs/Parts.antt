@@ -19,7 +19,7 @@ use Rattle.node_kit.specs.Steps.{Deed, Input, entry_of, stamp_of}
 use Rattle.run_facts.specs.Histories.{History}
 use Rattle.run_facts.specs.Order.{Noted, beat_of, journal_of, order_of}
 use Rattle.run_facts.specs.Timed.{is_died}
-use Rattle.run_facts.proofs.Orders.{Rising}
+use Rattle.run_facts.specs.Accounts.{Rising}
 use Rattle.run_model.specs.Schedule.{schedule_of}
 use Rattle.run_model.specs.Views.{records_of}
 use Rattle.run_model.specs.Moments.{moment_at}

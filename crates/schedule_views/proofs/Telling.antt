@@ -14,10 +14,9 @@ use Rattle.node_kit.specs.declared.outbox.Out.{Out}
 use Rattle.node_kit.specs.declared.outbox.Out.TheVariants as out
 use Rattle.node_kit.specs.Steps.{Deed, Input, entry_of, stamp_of}
 use Rattle.node_kit.specs.Steps.Input.{Take, Tick}
-use Rattle.run_facts.specs.Events.{NodeEvent, Past, kept_outs, outs_of}
+use Rattle.run_facts.specs.Events.{NodeEvent, Past, kept_outs, outs_of, entries_at}
 use Rattle.run_facts.specs.Events.NodeEvent.{Does, Dies}
 use Rattle.run_facts.specs.Histories.{History, past}
-use Rattle.run_facts.proofs.Along.{entries_at}
 use Rattle.run_model.specs.Views.{records_of, recorded}
 use Rattle.run_model.proofs.Moments.{records_more}
 use Rattle.schedule_laws.specs.Lives.{In, store_at, outs_at}

@@ -20,12 +20,11 @@ use Rattle.node_kit.specs.declared.outbox.Out.TheVariants as out
 use Rattle.node_kit.specs.Steps.{Deed, Input, stamp_of, entry_of}
 use Rattle.node_kit.specs.Steps.Input.{Take, Tick}
 use Rattle.cub_rules.specs.declared.store.Store.{Store}
-use Rattle.run_facts.specs.Events.{NodeEvent, Past, kept_outs, outs_of, stamp_at}
+use Rattle.run_facts.specs.Events.{NodeEvent, Past, kept_outs, outs_of, stamp_at, entries_at}
 use Rattle.run_facts.specs.Events.NodeEvent.{Does, Dies}
 use Rattle.run_facts.specs.Histories.{History, outs, past, last_of}
 use Rattle.run_facts.specs.Order.{Noted, beat_of, order_of}
-use Rattle.run_facts.proofs.Along.{entries_at}
-use Rattle.run_facts.proofs.Orders.{Rising}
+use Rattle.run_facts.specs.Accounts.{Rising}
 use Rattle.run_model.specs.Schedule.{IsFreeFrom, schedule_of}
 use Rattle.run_model.specs.Moments.{is_put_of, moment_at}
 use Rattle.run_model.specs.Orders.{IsOrdered, PutIsFair, EntryIsFair}

@@ -27,13 +27,14 @@ use Rattle.run_facts.specs.Events.NodeEvent.{Does, Dies}
 use Rattle.run_facts.specs.Histories.{last_of}
 use Rattle.run_facts.specs.Commanded.{is_gone, StopsNone, IsCommanded, AreCommanded}
 use Rattle.run_facts.specs.Timed.{death_within}
-use Rattle.run_facts.proofs.Timelines.{EndAt, IsTimeline}
-use Rattle.run_facts.proofs.Indexed.{history_of, last-all, count-front, count-all, passing-ticks, counted-at, all-at}
-use Rattle.ring_engine.specs.Runs.{opening_of}
+use Rattle.run_facts.specs.Accounts.{EndAt, IsTimeline, history_of}
+use Rattle.run_facts.proofs.Indexed.{last-all, count-front, count-all, passing-ticks, counted-at, all-at}
+use Rattle.run_facts.specs.Beats.{opening_of}
 use Rattle.ring_engine.specs.Whole.{IsWholeRun}
 use Rattle.node_kit.proofs.Rows.{get-below}
-use Rattle.ring_engine.proofs.Running.{same-element}
-use Rattle.ring_engine.proofs.Progressing.{next-none, progress-ends}
+use Rattle.run_facts.proofs.Rows.{same-element}
+use Rattle.ring_engine.proofs.Progressing.{progress-ends}
+use Rattle.run_facts.proofs.Progress.{next-none}
 use Rattle.disk_image.specs.Image.{Image}
 use Rattle.controller_core.specs.Orders.{AreOrders}
 use Rattle.controller_core.specs.State.{fresh_controller}

@@ -1,6 +1,7 @@
 use Rattle.std.proofs.Common.{◌∙◌, sym, refl}
 use Rattle.std.proofs.lemmas.Result.{on_ok_weaker}
-use Rattle.ring_engine.proofs.Happening.{end-acting, end-dying, end-idle, ended, ended-keeps, idle-keeps, died-keeps, died-is}
+use Rattle.ring_engine.proofs.Happening.{ended, ended-keeps, idle-keeps, died-keeps, died-is}
+use Rattle.run_facts.proofs.Beats.{end-acting, end-dying, end-idle}
 use Rattle.ring_engine.proofs.events.end_beat.Goals as goal
 
 pub returns-then-acts-clause-ends : goal.returns-then-acts-clause-ends

@@ -1,5 +1,6 @@
 use Rattle.std.proofs.Common.{◌≡◌, length}
-use Rattle.ring_engine.specs.Turns.{Scene, scene, happen, letter_events, links_of_letters, IsReadyFor, KeepsReady}
+use Rattle.ring_engine.specs.Turns.{Scene, scene, happen, links_of_letters, IsReadyFor, KeepsReady}
+use Rattle.run_facts.specs.Beats.{letter_events}
 use Rattle.ring_engine.proofs.events.take_all.Given as goal
 
 -- what is taken and what is still to be taken make all of it

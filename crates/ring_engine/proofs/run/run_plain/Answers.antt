@@ -1,10 +1,11 @@
 use Rattle.std.proofs.Common.{◌∙◌, ◌+◌, ap, sym, arith}
 use Rattle.node_kit.specs.Links.{link_count, viewers_of}
-use Rattle.ring_engine.specs.Places.{new_channel, Ring}
+use Rattle.ring_engine.specs.Places.{new_channel}
+use Rattle.run_facts.specs.Rings.{Ring}
 use Rattle.node_kit.specs.Rows.{each_below}
 use Rattle.node_kit.specs.Life.{lifetime_of}
 use Rattle.ring_engine.proofs.Running.{come-open, sound-open, come-more, sound-later, ended-at, ring-opens, passed-on, whole-run}
-use Rattle.ring_engine.proofs.Wholes.{history-whole, carried-whole, paced-whole, timed-whole}
+use Rattle.ring_engine.proofs.Wholes.{kept-whole, carried-whole, paced-whole, timed-whole}
 use Rattle.ring_engine.proofs.run.run_plain.Goals as goal
 
 pub loop-beat-init : goal.loop-beat-init
@@ -35,9 +36,10 @@ returns-clause-whole g c =
     let r : Ring _ _ = record { nodes = c.loop-beat.nodes.items; lives = c.loop-beat.lives.items; journals = c.loop-beat.journals.items; channels = c.loop-beat.channels.items } in
     whole-run _ _ _ _ c.loop-beat.beat _ r _ c.args.nodes.ok.0 (omega (arith, c.loop-beat.auto.beat-end, c.loop-beat-test.false)) c.new.ensures c.loop-beat.invariant.passed
 
-pub returns-clause-history : goal.returns-clause-history
-returns-clause-history g c =
-    history-whole _ _ c.args.course.now c.args.nodes.items _ _ c.requires.course (sym c.args.nodes.ok.0 ∙ c.requires.count ∙ ap (λ t. viewers_of t + 1) c.requires.links) (returns-clause-whole g c)
+pub returns-clause-kept : goal.returns-clause-kept
+returns-clause-kept g c =
+    kept-whole _ _ c.args.course.now c.args.nodes.items _ _ c.requires.course (sym c.args.nodes.ok.0 ∙ c.requires.count ∙ ap (λ t. viewers_of t + 1) c.requires.links)
+    (c.loop-beat.invariant.sound.nodes ∙ c.args.nodes.ok.0) (returns-clause-whole g c)
 
 pub returns-clause-carried : goal.returns-clause-carried
 returns-clause-carried g c =

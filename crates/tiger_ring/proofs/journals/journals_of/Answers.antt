@@ -23,7 +23,7 @@ returns-clause-steps g c =
     c.in_ok-nodes.ensures.nodes ∙ rw (images, c.in_ok-given.ensures) refl in
     record {
       nodes = c.in_ok-ran.ran.nodes.items;
-      history = rw (← opened) c.in_ok-ran.ensures.history;
+      history = rw (← opened) c.in_ok-ran.ensures.kept.lived;
       whole = rw (← opened) c.in_ok-ran.ensures.whole;
     }
 

@@ -15,26 +15,23 @@ use Rattle.node_kit.specs.Courses.{IsCourse, offset_of, reading_of, stamp_in}
 use Rattle.node_kit.specs.Life.{lifetime_of}
 use Rattle.node_kit.specs.Links.{links_of, ends_of}
 use Rattle.node_kit.specs.Steps.{Input, Deed}
-use Rattle.run_facts.specs.Events.{sends_along, takes_along}
+use Rattle.run_facts.specs.Events.{sends_along, takes_along, written, noted_as}
 use Rattle.run_facts.specs.Carried.{sent_on, got_on, IsAtItsEnd, AreCarriedOn, AreCarried}
 use Rattle.run_facts.specs.Paced.{ArePacedOn, AreByLink, ArePaced}
 use Rattle.run_facts.specs.Timed.{IsTimed, AreTimed}
-use Rattle.run_facts.proofs.Rows.{all-weaker}
-use Rattle.run_facts.proofs.Along.{written, journal-after, sent-written, got-written, noted_as}
-use Rattle.run_facts.proofs.Links.{OnLink, link-ends}
-use Rattle.run_facts.proofs.Timelines.{IsTimeline}
-use Rattle.run_facts.proofs.Journals.{IsClockOf, stamped-written, placed-written, timed-written, linked-written}
+use Rattle.run_facts.proofs.Rows.{all-weaker, same-element}
+use Rattle.run_facts.proofs.Along.{journal-after, sent-written, got-written}
+use Rattle.run_facts.proofs.Links.{link-ends}
+use Rattle.run_facts.specs.Accounts.{OnLink, IsTimeline, IsClockOf}
+use Rattle.run_facts.proofs.Journals.{stamped-written, placed-written, timed-written, linked-written}
 use Rattle.run_facts.proofs.Noting.{paced-noted, carried-noted}
-use Rattle.ring_engine.specs.Traffic.{Traffic}
-use Rattle.ring_engine.specs.Runs.{opening_of}
-use Rattle.ring_engine.specs.Places.{Ring}
+use Rattle.run_facts.specs.Rings.{Traffic, Ring}
+use Rattle.run_facts.specs.Beats.{opening_of, pass}
 use Rattle.node_kit.proofs.Rows.{get-below}
-use Rattle.ring_engine.proofs.Running.{same-element}
-use Rattle.ring_engine.proofs.Channels.{pass}
-use Rattle.ring_engine.proofs.Progressing.{next-none, Progress}
+use Rattle.run_facts.proofs.Progress.{next-none, Progress}
 
 -- an offset is within the skew
-offset-skewed : (c : Course) (n : ℕ) → IsCourse c → offset_of c n ≤ c.plan.params.skew
+pub offset-skewed : (c : Course) (n : ℕ) → IsCourse c → offset_of c n ≤ c.plan.params.skew
 offset-skewed c n course =
     let p = c.plan.params in
     let cubs = p.cubs in
@@ -66,12 +63,12 @@ clock-of c n course = record {
 }
 
 -- the journal of a node at the end
-record IsWritten {M S : Type 0} (note : M → Note) (step : S → Input M → Deed M S) (c : Course) (count : ℕ) (first : ℕ → S) (r : Ring M S) (st : Progress note step c count first c.beats 0 r)
+pub record IsWritten {M S : Type 0} (note : M → Note) (step : S → Input M → Deed M S) (c : Course) (count : ℕ) (first : ℕ → S) (r : Ring M S) (st : Progress note step c count first c.beats 0 r)
     (n : ℕ) (journal : List Entry) : Type 0 where
   low : n < count
   is : journal ≡ written note step (st.events n) (opening_of c n (first n))
 
-is-written : {M S : Type 0} (note : M → Note) (step : S → Input M → Deed M S) (c : Course) (count : ℕ) (first : ℕ → S) (r : Ring M S) (st : Progress note step c count first c.beats 0 r)
+pub is-written : {M S : Type 0} (note : M → Note) (step : S → Input M → Deed M S) (c : Course) (count : ℕ) (first : ℕ → S) (r : Ring M S) (st : Progress note step c count first c.beats 0 r)
     (n : ℕ) (journal : List Entry) → slice_get r.journals n ≡ Some journal → IsWritten note step c count first r st n journal
 is-written note step c count first r st n journal h =
     let within = get-below r.journals n journal h in
@@ -100,18 +97,18 @@ link-end note step c count first r st l from to low_from low_to ends =
     )
 
 -- the notes of a link
-noted-sent : {M S : Type 0} (note : M → Note) (step : S → Input M → Deed M S) (c : Course) (count : ℕ) (first : ℕ → S) (r : Ring M S) (st : Progress note step c count first c.beats 0 r)
+pub noted-sent : {M S : Type 0} (note : M → Note) (step : S → Input M → Deed M S) (c : Course) (count : ℕ) (first : ℕ → S) (r : Ring M S) (st : Progress note step c count first c.beats 0 r)
     (n l : ℕ) (journal : List Entry) → IsWritten note step c count first r st n journal
     → map (noted_as note) (sends_along note step l (st.events n) (opening_of c n (first n))) ≡ sent_on l journal
 noted-sent note step c count first r st n l journal t =
     sym (sent-written note step c.plan.params n l (st.events n) (opening_of c n (first n)) (st.fair n t.low)) ∙ ap (sent_on l) (sym t.is)
 
-noted-got : {M S : Type 0} (note : M → Note) (step : S → Input M → Deed M S) (c : Course) (count : ℕ) (first : ℕ → S) (r : Ring M S) (st : Progress note step c count first c.beats 0 r)
+pub noted-got : {M S : Type 0} (note : M → Note) (step : S → Input M → Deed M S) (c : Course) (count : ℕ) (first : ℕ → S) (r : Ring M S) (st : Progress note step c count first c.beats 0 r)
     (n l : ℕ) (journal : List Entry) → IsWritten note step c count first r st n journal → map (noted_as note) (takes_along l (st.events n)) ≡ got_on l journal
 noted-got note step c count first r st n l journal t =
     sym (got-written note step c.plan.params n l (st.events n) (opening_of c n (first n)) (st.fair n t.low)) ∙ ap (got_on l) (sym t.is)
 
-paced-link : {M S : Type 0} (note : M → Note) (step : S → Input M → Deed M S) (c : Course) (count : ℕ) (first : ℕ → S) (r : Ring M S) (st : Progress note step c count first c.beats 0 r)
+pub paced-link : {M S : Type 0} (note : M → Note) (step : S → Input M → Deed M S) (c : Course) (count : ℕ) (first : ℕ → S) (r : Ring M S) (st : Progress note step c count first c.beats 0 r)
     (l from to : ℕ) (sender receiver : List Entry) → ends_of (links_of c.plan.params) l ≡ Some (from, to)
     → IsWritten note step c count first r st from sender → IsWritten note step c count first r st to receiver
     → ArePacedOn (new_clock l c.delay c.plan.params.delay) (lifetime_of c to) c.beats (sent_on l sender) (got_on l receiver)
@@ -123,7 +120,7 @@ paced-link note step c count first r st l from to sender receiver ends hs hr =
     (subst (λ q. ArePacedOn start (lifetime_of c to) c.beats (map (noted_as note) (sends_along note step l (st.events from) (opening_of c from (first from)))) q) (noted-got note step c count first r st to l receiver hr)
     (paced-noted note start (lifetime_of c to) c.beats (sends_along note step l (st.events from) (opening_of c from (first from))) (takes_along l (st.events to)) paced))
 
-carried-link : {M S : Type 0} (note : M → Note) (step : S → Input M → Deed M S) (c : Course) (count : ℕ) (first : ℕ → S) (r : Ring M S) (st : Progress note step c count first c.beats 0 r)
+pub carried-link : {M S : Type 0} (note : M → Note) (step : S → Input M → Deed M S) (c : Course) (count : ℕ) (first : ℕ → S) (r : Ring M S) (st : Progress note step c count first c.beats 0 r)
     (l from to : ℕ) (sender receiver : List Entry) → ends_of (links_of c.plan.params) l ≡ Some (from, to)
     → IsWritten note step c count first r st from sender → IsWritten note step c count first r st to receiver
     → AreCarriedOn c.plan.params.delay c.beats (lifetime_of c to) (sent_on l sender) (got_on l receiver)

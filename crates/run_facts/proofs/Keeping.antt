@@ -10,13 +10,13 @@ use Rattle.run_facts.specs.Events.NodeEvent.{Does}
 use Rattle.run_facts.specs.Paced.{ArePacedOn}
 use Rattle.run_facts.proofs.Along.{takes-append}
 use Rattle.run_facts.proofs.Links.{link-ends}
-use Rattle.run_facts.proofs.Timelines.{IsInTurn, AreInTurn}
-use Rattle.run_facts.proofs.Indexed.{event_at, front, front-more, front-all, history_of, sent-all, all-at}
-use Rattle.one_answer.specs.Courses.{taken}
-use Rattle.one_answer.specs.Handed.{AccountsKeep}
+use Rattle.run_facts.specs.Accounts.{IsInTurn, AreInTurn, event_at, front, history_of}
+use Rattle.run_facts.proofs.Indexed.{front-more, front-all, sent-all, all-at}
+use Rattle.run_facts.specs.Histories.{taken}
+use Rattle.run_facts.specs.Laws.{AccountsKeep}
 
 -- what is taken, by number and in lists
-taken-front : {M S : Type 0} (l : ℕ) (first : ℕ → S) (life : ℕ → Lifetime)
+pub taken-front : {M S : Type 0} (l : ℕ) (first : ℕ → S) (life : ℕ → Lifetime)
     (events : ℕ → List (NodeEvent M)) (n i : ℕ)
     → i ≤ length (events n)
     → taken l (history_of first life events) n i ≡ takes_along l (front i (events n))
@@ -28,21 +28,21 @@ taken-front l first life events n (suc i) h =
     ∙ sym (takes-append l (front i (events n)) (e ∷ []))
     ∙ sym (ap (takes_along l) (front-more i (events n) (omega (arith, h))))
 
-taken-all : {M S : Type 0} (l : ℕ) (first : ℕ → S) (life : ℕ → Lifetime)
+pub taken-all : {M S : Type 0} (l : ℕ) (first : ℕ → S) (life : ℕ → Lifetime)
     (events : ℕ → List (NodeEvent M)) (n : ℕ)
     → taken l (history_of first life events) n (length (events n)) ≡ takes_along l (events n)
 taken-all l first life events n =
     taken-front l first life events n (length (events n)) (omega arith) ∙ ap (takes_along l) (front-all (events n))
 
 -- the turn of two events
-turn-at : {M : Type 0} (es : List (NodeEvent M)) (i j : ℕ) → i < j → j < length es → AreInTurn es
+pub turn-at : {M : Type 0} (es : List (NodeEvent M)) (i j : ℕ) → i < j → j < length es → AreInTurn es
     → IsInTurn (event_at es i) (event_at es j)
 turn-at [] i j low high h = absurd (omega (arith, high))
 turn-at (e ∷ es) i zero low high h = absurd (omega (arith, low))
 turn-at (e ∷ es) zero (suc j) low high h = all-at (IsInTurn e) es j (omega (arith, high)) h.0
 turn-at (e ∷ es) (suc i) (suc j) low high h = turn-at es i j (omega (arith, low)) (omega (arith, high)) h.1
 
-turn-of_takes : {M : Type 0} (es : List (NodeEvent M)) (i j : ℕ) (a b : Stamp) (k l : LinkNo) (m o : M)
+pub turn-of_takes : {M : Type 0} (es : List (NodeEvent M)) (i j : ℕ) (a b : Stamp) (k l : LinkNo) (m o : M)
     → i < j → j < length es → AreInTurn es
     → event_at es i ≡ Does (Take a k m) → event_at es j ≡ Does (Take b l o) → a.beat ≡ b.beat
     → k.0 ≤ l.0

@@ -1,5 +1,5 @@
 -- What a course says of a history: when events happen, what the links bring, and in which order.
-use Rattle.std.specs.Prelude.{◌≡◌, ℕ, zero, suc, ◌<◌, ◌≤◌, List, [], ◌++◌, Some, length}
+use Rattle.std.specs.Prelude.{◌≡◌, ℕ, ◌<◌, ◌≤◌, List, Some, length}
 use Rattle.tiger_base.specs.declared.number.Stamp.{Stamp}
 use Rattle.tiger_base.specs.declared.number.LinkNo.{LinkNo}
 use Rattle.tiger_base.specs.declared.message.Note.{Note}
@@ -11,15 +11,9 @@ use Rattle.node_kit.specs.Life.{lifetime_of}
 use Rattle.node_kit.specs.Links.{links_of, ends_of}
 use Rattle.node_kit.specs.Steps.{Input, Deed}
 use Rattle.node_kit.specs.Steps.Input.{Take}
-use Rattle.run_facts.specs.Events.{Dated, take_on}
 use Rattle.run_facts.specs.Events.NodeEvent.{Does}
-use Rattle.run_facts.specs.Histories.{History, HaveHistory, beat, reading, sent}
+use Rattle.run_facts.specs.Histories.{History, HaveHistory, beat, reading, sent, taken}
 use Rattle.run_facts.specs.Paced.{ArePacedOn}
-
--- what node n takes on a link in its first i events, in order, each with its beat
-abbrev pub taken : {M S : Type 0} → ℕ → History M S → ℕ → ℕ → List (Dated M)
-taken l h n zero = []
-taken l h n (suc i) = taken l h n i ++ take_on l (h.event n i)
 
 -- A history keeps its course if each event happens at the reading that its node's clock shows in that
 -- beat; if on each link exactly those messages are taken that the link's clock brings to a living
@@ -39,7 +33,7 @@ pub record KeepsCourse {M S : Type 0} (note : M → Note) (step : S → Input M 
 
 -- The nodes given have lived, by their own steps, through a history that keeps its course, and each of
 -- them has a journal and is given back.
-pub record HaveKeptCourse {M S : Type 0} (note : M → Note) (step : S → Input M → Deed M S)
+pub record HaveKept {M S : Type 0} (note : M → Note) (step : S → Input M → Deed M S)
     (c : Course) (given nodes : List S) (journals : List (List Entry)) : Type 0 where
   pub lived : HaveHistory note step c.plan.params (lifetime_of c) c.beats given nodes journals
   pub keeps : KeepsCourse note step c (length given) lived.history

@@ -6,10 +6,8 @@ use Rattle.std.proofs.lemmas.Bool.{cases_Bool, cases_eq}
 use Rattle.tiger_base.specs.declared.message.Note.{Note}
 use Rattle.node_kit.specs.Steps.{Input, Deed}
 use Rattle.run_facts.specs.Events.{NodeEvent, opening, after_all, is_tick, is_death, sends_of, sends_along, take_on, takes_along}
-use Rattle.run_facts.specs.Histories.{History, past, last_of, beat, outs, ticks, sent}
-use Rattle.run_facts.proofs.Timelines.{tick_count, AreCounted, IsInTurn, AreInTurn, AreAlive}
-use Rattle.one_answer.specs.Courses.{taken}
-use Rattle.one_answer.proofs.Resting.{DeathIsLast}
+use Rattle.run_facts.specs.Histories.{History, past, last_of, beat, outs, ticks, sent, taken}
+use Rattle.run_facts.specs.Accounts.{tick_count, AreCounted, IsInTurn, AreInTurn, AreAlive, DeathIsLast}
 
 -- k events of node n, from number i on, and all of them
 abbrev pub listed : {M S : Type 0} → History M S → ℕ → ℕ → ℕ → List (NodeEvent M)
@@ -19,10 +17,10 @@ listed h n i (suc k) = h.event n i ∷ listed h n (suc i) k
 abbrev pub events_of : {M S : Type 0} → History M S → ℕ → List (NodeEvent M)
 events_of h n = listed h n 0 (h.count n)
 
-next-sum : (i k m : ℕ) → i + suc k ≡ m → suc i + k ≡ m
+pub next-sum : (i k m : ℕ) → i + suc k ≡ m → suc i + k ≡ m
 next-sum i k m e = omega (arith, e)
 
-no-more : (i m : ℕ) → i + 0 ≡ m → m ≡ i
+pub no-more : (i m : ℕ) → i + 0 ≡ m → m ≡ i
 no-more i m e = omega (arith, e)
 
 -- what holds of each event
@@ -34,7 +32,7 @@ listed-all h P n i (suc k) m e f =
     (f i (omega arith) (omega (arith, e)), rest)
 
 -- what a node becomes, sends, takes and ticks in them
-listed-past : {M S : Type 0} (note : M → Note) (step : S → Input M → Deed M S) (h : History M S)
+pub listed-past : {M S : Type 0} (note : M → Note) (step : S → Input M → Deed M S) (h : History M S)
     (n i k m : ℕ) → i + k ≡ m
     → after_all note step (listed h n i k) (past note step h n i) ≡ past note step h n m
 listed-past note step h n i zero m e = ap (past note step h n) (sym (no-more i m e))
