@@ -1,7 +1,7 @@
 //! What a cub does with a disk's answer.
 ghost use Rattle.std.specs.Prelude.{◌≡◌, ◌≤◌, IsTrue, OnOk};
 ghost use Rattle.std.specs.List.{AllByRecursion, list_any};
-ghost use Rattle.tiger_base.specs.Records.{want_of, want_of_piece};
+ghost use Rattle.tiger_base.specs.Records.{want_of_piece};
 ghost use Rattle.slot_plan.specs.Keys.{IsKey};
 ghost use Rattle.node_kit.specs.Form.{is_place};
 ghost use Rattle.partial_view.specs.Views.{line_at};
@@ -14,7 +14,7 @@ use cub_rules::{Store, StoredPart};
 use mirror_schedule::PieceView;
 use node_kit::{Out, Outbox, Site, What};
 use partial_view::View;
-use tiger_base::{Kind, Msg, NoMemory, Part, PieceState, Rec, Want};
+use tiger_base::{Msg, NoMemory, Part, Want};
 
 /// For a record that is still there the part is stored, or the failure written down.
 #[tactic(auto, unfolding(cub_rules::specs::Messages::meeting_answer))]
@@ -58,7 +58,7 @@ fn has_block(site: &Site, want: &Want, view: &View) -> bool
         ≡ is_block_of want.now (line_at (want.now.slot, want.now.visit) view.now.lines) }
 {
     match view.line(want.slot, want.visit) {
-        Some(line) => line.rec.kind == Kind::Own && *want == want_of(&line.rec),
+        Some(line) => line.rec.kind.is_own() && *want == Want::of_block(&line.rec),
         None => false,
     }
 }
@@ -70,40 +70,10 @@ fn has_piece(site: &Site, want: &Want, pieces: &PieceView) -> bool
 {
     let mut next = pieces.after(None);
     while let Some(piece) = next {
-        if *want == want_of_piece(&piece) {
+        if *want == Want::of_piece(&piece) {
             return true;
         }
         next = pieces.after(Some(piece));
     }
     false
-}
-
-/// The block of a record's visit.
-fn want_of(rec: &Rec) -> Want
-    requires { rec.now.tenancy.first ≤ rec.now.visit }
-    ensures { result ≡ want_of rec.now }
-{
-    Want {
-        instance: rec.tenancy.instance,
-        slot: rec.tenancy.slot,
-        visit: rec.visit,
-        file: rec.tenancy.file,
-        block: rec.visit - rec.tenancy.first,
-        piece: 0,
-    }
-}
-
-/// The piece of a piece record.
-fn want_of_piece(x: &PieceState) -> Want
-    requires { x.now.tenancy.first ≤ x.now.visit }
-    ensures { result ≡ want_of_piece x.now }
-{
-    Want {
-        instance: x.tenancy.instance,
-        slot: x.tenancy.slot,
-        visit: x.visit,
-        file: x.tenancy.file,
-        block: x.visit - x.tenancy.first,
-        piece: x.piece,
-    }
 }

@@ -2,7 +2,6 @@
 ghost use Rattle.std.specs.Prelude.{◌≡◌, ◌≤◌, ◌<◌, OnOk};
 ghost use Rattle.tiger_base.specs.Limits.{most_reading};
 ghost use Rattle.node_kit.specs.Deeds.{Did};
-ghost use Rattle.node_kit.specs.Ways.{predecessor};
 ghost use Rattle.cub_rules.specs.State.{IsStoreOf};
 ghost use Rattle.cub_rules.specs.Messages.{hearing_beat, taking};
 ghost use Rattle.cub_messages.specs.Rules.{DidQuietly};
@@ -14,7 +13,7 @@ use crate::starts::take_start;
 use crate::states::take_state;
 use cub_rules::Store;
 use node_kit::{Outbox, Site, in_form};
-use tiger_base::{CubNo, LinkNo, Message, Msg, NoMemory, Stamp};
+use tiger_base::{LinkNo, Message, Msg, NoMemory, Stamp};
 
 /// What a cub does with a message that came on a link: one that is not in form is ignored.
 #[tactic(auto, unfolding(cub_rules::specs::Messages::taking, cub_rules::specs::Messages::hearing))]
@@ -67,19 +66,9 @@ pub fn take_heartbeat(site: &Site, stamp: Stamp, link: LinkNo, store: &mut Store
 {
     let before = Site {
         plan: site.plan,
-        cub: predecessor(site),
+        cub: site.predecessor(),
     };
     if link == before.ahead(1) {
         store.watch.heard(stamp.reading);
     }
-}
-
-/// The cub before a cub in the ring.
-#[tactic(auto, unfolding(node_kit::specs::Ways::predecessor))]
-fn predecessor(site: &Site) -> CubNo
-    ensures number { result.0 ≡ predecessor site.now.plan.params site.now.cub.0 }
-    ensures inside { result.0 < site.now.plan.params.cubs }
-{
-    let cubs = site.plan.params.cubs;
-    CubNo(((u64::from(site.cub.0) + (cubs - 1)) % cubs) as u32)
 }

@@ -12,7 +12,7 @@ use crate::passing::{pass_from, position_at};
 use crate::records::{drop_start, take_record};
 use cub_rules::Store;
 use node_kit::{Outbox, Site};
-use tiger_base::{Kind, Msg, NoMemory, Rec, SlotNo, Stamp, State, Tenancy, Visit};
+use tiger_base::{Msg, NoMemory, Rec, SlotNo, Stamp, State, Visit};
 
 /// A state of a visit of its tenancy lets the visit's cub, and the next one, take their records; if its instance is held
 /// it is discarded, and the deschedule passed on.
@@ -60,22 +60,11 @@ fn tell<'a>(
     let (tenancy, visit) = (state.tenancy, state.visit);
     drop_start(tenancy.instance, store, out)?;
     if place.1 == visit {
-        return take_record(record_of(tenancy, visit, Kind::Own), store, out);
+        return take_record(Rec::own(tenancy, visit), store, out);
     }
-    take_record(record_of(tenancy, visit, Kind::Backup), store, out)?;
+    take_record(Rec::backup(tenancy, visit), store, out)?;
     if visit < tenancy.last {
-        take_record(record_of(tenancy, visit + 1, Kind::Own), store, out)?;
+        take_record(Rec::own(tenancy, visit + 1), store, out)?;
     }
     Ok(())
-}
-
-/// The record of a visit.
-fn record_of(tenancy: Tenancy, visit: Visit, kind: Kind) -> Rec
-    ensures { result ≡ record { tenancy = tenancy; visit = visit; kind = kind } }
-{
-    Rec {
-        tenancy,
-        visit,
-        kind,
-    }
 }

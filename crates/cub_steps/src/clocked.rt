@@ -5,7 +5,6 @@ ghost use Rattle.cub_rules.specs.declared.store.Store.{Store};
 ghost use Rattle.cub_rules.specs.State.{IsStoreOf};
 ghost use Rattle.cub_rules.specs.Ticks.{releasing, believing, beating, queued};
 
-use crate::ring::predecessor;
 use cub_rules::Store;
 use node_kit::{Out, Outbox, Site, What};
 use tiger_base::{Ask, Msg, NoMemory, Stamp};
@@ -38,7 +37,7 @@ pub fn watch<'a>(
     if store.believes || !store.watch.check(stamp.reading) {
         return Ok(());
     }
-    out.push(Out::Act(What::Believed(predecessor(site))))?;
+    out.push(Out::Act(What::Believed(site.predecessor())))?;
     write_queued(store.starts.redundant(), out)?;
     store.starts.take_over()?;
     store.believes = true;

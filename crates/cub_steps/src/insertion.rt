@@ -2,9 +2,7 @@
 ghost use Rattle.std.specs.Prelude.{◌≡◌, ◌≤◌, ◌<◌, [], ◌∷◌, ◌++◌, OnOk, IfSome};
 ghost use Rattle.std.specs.List.{AllByRecursion};
 ghost use Rattle.tiger_base.specs.Limits.{most_reading};
-ghost use Rattle.tiger_base.specs.Records.{own_of};
 ghost use Rattle.node_kit.specs.Deeds.{Did, each_in_turn};
-ghost use Rattle.node_kit.specs.Ways.{predecessor};
 ghost use Rattle.partial_view.specs.Lines.{visit_of};
 ghost use Rattle.slot_plan.specs.Keys.{IsKey};
 ghost use Rattle.cub_rules.specs.State.{IsStoreOf, IsAsk};
@@ -12,7 +10,6 @@ ghost use Rattle.cub_rules.specs.Records.{took};
 ghost use Rattle.cub_rules.specs.Ticks.{inserting, free_on, putting_on, disks_at, putting, putting_own, putting_for_dead, tenancy_from, told_placed};
 ghost use Rattle.cub_steps.specs.Placing.{putting_by};
 
-use crate::ring::predecessor;
 use cub_rules::Store;
 use node_kit::{Out, Outbox, Site, What};
 use partial_view::Added;
@@ -42,7 +39,7 @@ pub fn insert<'a>(
         put_at(
             site,
             stamp.reading,
-            predecessor(site),
+            site.predecessor(),
             Kind::Backup,
             store,
             out,
@@ -178,7 +175,7 @@ fn put_own<'a>(
         out.old out.new store.new) }
 {
     start(tenancy, store, out)?;
-    take(own_record(tenancy, tenancy.first), store, out)?;
+    take(Rec::own(tenancy, tenancy.first), store, out)?;
     let state = State {
         tenancy,
         visit: tenancy.first,
@@ -203,14 +200,9 @@ fn put_for_dead<'a>(
         out.old out.new store.new) }
 {
     start(tenancy, store, out)?;
-    let backup = Rec {
-        tenancy,
-        visit: tenancy.first,
-        kind: Kind::Backup,
-    };
-    take(backup, store, out)?;
+    take(Rec::backup(tenancy, tenancy.first), store, out)?;
     if tenancy.first < tenancy.last {
-        take(own_record(tenancy, tenancy.first + 1), store, out)?;
+        take(Rec::own(tenancy, tenancy.first + 1), store, out)?;
     }
     tell_placed(site, tenancy, out)
 }
@@ -247,15 +239,4 @@ fn take<'a>(rec: Rec, store: &mut Store<'a>, out: &mut Outbox<Msg<'a>>) -> Resul
         out.push(Out::Act(What::Took(rec)))?;
     }
     Ok(())
-}
-
-/// The own record of a visit of a tenancy.
-fn own_record(tenancy: Tenancy, visit: Visit) -> Rec
-    ensures { result ≡ own_of tenancy visit }
-{
-    Rec {
-        tenancy,
-        visit,
-        kind: Kind::Own,
-    }
 }

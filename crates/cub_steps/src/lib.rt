@@ -3,7 +3,6 @@
 
 mod clocked;
 mod insertion;
-mod ring;
 
 pub use clocked::{beat, release, watch};
 pub use insertion::insert;

@@ -2,8 +2,6 @@
 ghost use Rattle.std.specs.Prelude.{◌≡◌, ◌+◌, ◌*◌, ◌<◌, ◌≤◌, ◌++◌, ◌∷◌, [], OnOk, Some, map, filter};
 ghost use Rattle.std.specs.List.{AllByRecursion, flat_map};
 ghost use Rattle.tiger_base.specs.Limits.{most_reading};
-ghost use Rattle.tiger_base.specs.Kinds.{is_own};
-ghost use Rattle.tiger_base.specs.Records.{want_of, want_of_piece};
 ghost use Rattle.slot_plan.specs.Keys.{IsKey};
 ghost use Rattle.partial_view.specs.Lines.{key_of};
 ghost use Rattle.partial_view.specs.Views.{IsWalk, line_at};
@@ -22,7 +20,7 @@ use mirror_schedule::PieceView;
 use node_kit::{Out, Outbox, Site};
 use partial_view::{CubView, Flag, Line};
 use slot_plan::Plan;
-use tiger_base::{DiskNo, Kind, Msg, NoMemory, PieceState, Rec, Stamp, Want};
+use tiger_base::{DiskNo, Msg, NoMemory, PieceState, Stamp, Want};
 
 /// Asks the disks for the block of each own record, and then for each piece, that leaves within the read lead and was not
 /// asked for yet. Each walk stops at the first that leaves later, since lines and pieces stand in the order of their times.
@@ -91,7 +89,7 @@ fn read_block<'a>(
 {
     if must_read(&site.plan, stamp, &line) {
         let disk = site.plan.disk_of(line.rec.visit);
-        ask(site, disk, want_of(line.rec), out)?;
+        ask(site, disk, Want::of_block(&line.rec), out)?;
         view.mark(line.rec.tenancy.slot, line.rec.visit, Flag::Asked);
     }
     Ok(())
@@ -105,22 +103,7 @@ fn must_read(plan: &Plan, stamp: Stamp, line: &Line) -> bool
     ensures { result ≡ must_read plan.now.params stamp line.now }
 {
     let due = plan.due(line.rec.tenancy.slot, line.rec.visit);
-    is_own(line.rec.kind) && !line.asked && due <= stamp.reading + plan.params.read_lead
-}
-
-/// The block of a record.
-pub(crate) fn want_of(rec: Rec) -> Want
-    requires { rec.tenancy.first ≤ rec.visit }
-    ensures { result ≡ want_of rec }
-{
-    Want {
-        instance: rec.tenancy.instance,
-        slot: rec.tenancy.slot,
-        visit: rec.visit,
-        file: rec.tenancy.file,
-        block: rec.visit - rec.tenancy.first,
-        piece: 0,
-    }
+    line.rec.kind.is_own() && !line.asked && due <= stamp.reading + plan.params.read_lead
 }
 
 /// Asks a disk.
@@ -164,30 +147,5 @@ fn read_piece<'a>(site: &Site, piece: PieceState, out: &mut Outbox<Msg<'a>>) -> 
     let params = &site.plan.params;
     let disks = (params.cubs * params.disks) as u32;
     let disk = piece_disk(site.plan.disk_of(piece.visit), piece.piece, disks);
-    ask(site, disk, want_of_piece(piece), out)
-}
-
-/// The piece of a piece record.
-pub(crate) fn want_of_piece(piece: PieceState) -> Want
-    requires { piece.tenancy.first ≤ piece.visit }
-    ensures { result ≡ want_of_piece piece }
-{
-    Want {
-        instance: piece.tenancy.instance,
-        slot: piece.tenancy.slot,
-        visit: piece.visit,
-        file: piece.tenancy.file,
-        block: piece.visit - piece.tenancy.first,
-        piece: piece.piece,
-    }
-}
-
-/// Whether a record is the cub's own.
-pub(crate) fn is_own(kind: Kind) -> bool
-    ensures { result ≡ is_own kind }
-{
-    match kind {
-        Kind::Own => true,
-        Kind::Backup => false,
-    }
+    ask(site, disk, Want::of_piece(&piece), out)
 }

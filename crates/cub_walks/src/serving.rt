@@ -2,7 +2,6 @@
 ghost use Rattle.std.specs.Prelude.{◌≡◌, ◌≤◌, ◌++◌, ◌∷◌, [], OnOk, Some, map, filter, not};
 ghost use Rattle.std.specs.List.{AllByRecursion, flat_map};
 ghost use Rattle.tiger_base.specs.Limits.{most_reading};
-ghost use Rattle.tiger_base.specs.Records.{want_of};
 ghost use Rattle.slot_plan.specs.Keys.{IsKey};
 ghost use Rattle.partial_view.specs.Lines.{key_of};
 ghost use Rattle.partial_view.specs.Views.{IsWalk, line_at};
@@ -14,7 +13,6 @@ ghost use Rattle.cub_rules.specs.Ticks.{serving, is_served, is_past, serve_outs,
 ghost use Rattle.cub_walks.specs.Stopping.{served_line, past_line, past_outs};
 
 use crate::leaving::{drop_leaving, take_leaving};
-use crate::reading::{is_own, want_of, want_of_piece};
 use crate::walking::after_by;
 use cub_rules::{Store, StoredParts};
 use mirror_schedule::PieceView;
@@ -91,7 +89,7 @@ fn serve_block<'a>(
         ++ serve_outs site.now.plan.params site.now.cub.0 stamp parts.now line) }
 {
     if is_served(&site.plan, stamp, &line) {
-        send_whole(site, stamp, want_of(line.rec), parts, out)?;
+        send_whole(site, stamp, Want::of_block(&line.rec), parts, out)?;
         out.push(Out::Act(What::Dropped(line.rec)))?;
         view.remove(line.rec.tenancy.slot, line.rec.visit);
     }
@@ -105,7 +103,7 @@ fn is_served(plan: &Plan, stamp: Stamp, line: &Line) -> bool
     ensures { result ≡ is_served plan.now.params stamp line.now }
 {
     let due = plan.due(line.rec.tenancy.slot, line.rec.visit);
-    is_own(line.rec.kind) && due <= stamp.reading
+    line.rec.kind.is_own() && due <= stamp.reading
 }
 
 /// Sends a block to the viewers, if its part is stored.
@@ -180,7 +178,7 @@ fn is_past(plan: &Plan, stamp: Stamp, line: &Line) -> bool
     ensures { result ≡ is_past plan.now.params stamp line.now }
 {
     let due = plan.due(line.rec.tenancy.slot, line.rec.visit);
-    !is_own(line.rec.kind) && due <= stamp.reading
+    !line.rec.kind.is_own() && due <= stamp.reading
 }
 
 /// Serves the piece records that leave.
@@ -218,7 +216,7 @@ fn send_piece<'a>(
     ensures { OnOk result (out.new ≡ out.old
         ++ piece_outs site.now.plan.params site.now.cub.0 stamp parts.now piece) }
 {
-    let want = want_of_piece(piece);
+    let want = Want::of_piece(&piece);
     if let Some(part) = parts.part_for(want) {
         let sent = stamp.beat;
         out.push(Out::Send(site.to_viewers(), Msg::Piece { want, sent, part }))?;

@@ -13,7 +13,6 @@ ghost use Rattle.cub_rules.specs.Ticks.{splitting, must_split, split_line, split
 ghost use Rattle.cub_walks.specs.Limits.{split_limit};
 ghost use Rattle.cub_walks.specs.Splitting.{with_split_of, sent_pieces, with_new};
 
-use crate::reading::is_own;
 use crate::walking::{after, after_near};
 use cub_rules::Store;
 use mirror_schedule::PieceView;
@@ -131,7 +130,7 @@ fn must_split(plan: &Plan, stamp: Stamp, line: &Line) -> bool
     requires key { IsKey plan.now.params (key_of line.now) }
     ensures { result ≡ must_split plan.now.params stamp line.now }
 {
-    if is_own(line.rec.kind) || line.split {
+    if line.rec.kind.is_own() || line.split {
         return false;
     }
     split_limit(plan, stamp) <= plan.due(line.rec.tenancy.slot, line.rec.visit)

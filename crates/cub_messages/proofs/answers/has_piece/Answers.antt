@@ -10,12 +10,12 @@ use Rattle.cub_messages.proofs.answers.has_piece.Goals as goal
 pub loop-next-init : goal.loop-next-init
 loop-next-init c = begun _ _ _ _ c.after-next.ensures.order c.after-next.ensures.next
 
-pub want_of_piece-requires : goal.want_of_piece-requires
-want_of_piece-requires c =
+pub of_piece-requires : goal.of_piece-requires
+of_piece-requires c =
     piece_begun c.args.site.now.plan.params c.in-Some.piece (piece_at c.loop-next.invariant c.in-Some.is (IsPieceAt c.args.site.now.plan.params c.args.site.now.cub.0) c.requires).in_form
 
 pub returns-then-eq : goal.returns-then-eq
-returns-then-eq c = sym (found c.loop-next.invariant c.in-Some.is (wants_compared c.args.want.now c.want_of_piece.result (want_of_piece c.in-Some.piece) c.eq.result c.eq.ensures c.want_of_piece.ensures ∙ c.if-eq.true))
+returns-then-eq c = sym (found c.loop-next.invariant c.in-Some.is (wants_compared c.args.want.now c.of_piece.result (want_of_piece c.in-Some.piece) c.eq.result c.eq.ensures c.of_piece.ensures ∙ c.if-eq.true))
 
 pub after-next-requires-in-Some : goal.after-next-requires-in-Some
 after-next-requires-in-Some c j e =
@@ -27,7 +27,7 @@ loop-next-smaller c = fewer c.loop-next.invariant c.in-Some.is c.after-next-in-S
 
 pub loop-next-preserved : goal.loop-next-preserved
 loop-next-preserved c = on c.loop-next.invariant c.in-Some.is c.after-next-in-Some.ensures.next
-    (wants_compared c.args.want.now c.want_of_piece.result (want_of_piece c.in-Some.piece) c.eq.result c.eq.ensures c.want_of_piece.ensures ∙ c.if-eq.false)
+    (wants_compared c.args.want.now c.of_piece.result (want_of_piece c.in-Some.piece) c.eq.result c.eq.ensures c.of_piece.ensures ∙ c.if-eq.false)
 
 pub returns : goal.returns
 returns c = sym (ended c.loop-next.invariant c.in_default.is)
