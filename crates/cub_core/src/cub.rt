@@ -76,6 +76,7 @@ impl<'a> Cub<'a> {
             out.old out.new self.new) }
     {
         let done = hear(&self.site, stamp, link, msg, &mut self.store, out);
+        // After an error nothing is known of the store; an empty one is a cub's.
         if done.is_err() {
             self.store = Store::new(self.alloc, &self.site.plan, stamp.reading);
         }
@@ -90,6 +91,7 @@ impl<'a> Cub<'a> {
             out.old out.new self.new) }
     {
         let done = tick(&self.site, stamp, &mut self.store, out);
+        // After an error nothing is known of the store; an empty one is a cub's.
         if done.is_err() {
             self.store = Store::new(self.alloc, &self.site.plan, stamp.reading);
         }

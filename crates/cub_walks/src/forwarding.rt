@@ -38,6 +38,7 @@ pub fn forward<'a>(
         return Ok(());
     }
     forward_lines(site, stamp, &mut store.view, out)?;
+    // All that is due by the limit is forwarded, so no beat needs to walk before a later limit or a new record.
     store.view.set_forwarded_to(limit);
     Ok(())
 }
@@ -73,6 +74,7 @@ fn forward_lines<'a>(
         ++ flat_map (forward_outs site.now.plan.params site.now.cub.0 stamp) view.old.lines) }
 {
     let mut next = after(view, None);
+    // The walk takes no line out: the line that it stands at is the one of this number.
     let mut place: usize = 0;
     while let Some(line) = next {
         forward_line(site, stamp, view, line, out)?;

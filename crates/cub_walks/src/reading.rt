@@ -59,6 +59,7 @@ fn read_blocks<'a>(
 {
     let time = stamp.reading + site.plan.params.read_lead;
     let mut next = after_by(&site.plan, view, None, time);
+    // The walk takes no line out: the line that it stands at is the one of this number.
     let mut place: usize = 0;
     while let Some(line) = next {
         read_block(site, stamp, view, line, out)?;

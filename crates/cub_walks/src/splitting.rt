@@ -44,6 +44,7 @@ pub fn split<'a>(
         return Ok(());
     }
     split_lines(site, stamp, store, out)?;
+    // All that is due from the limit on is split, and the limit only rises: a beat walks again only after a new record.
     store.view.set_split_from(limit);
     Ok(())
 }
@@ -75,6 +76,7 @@ fn split_lines<'a>(
         ++ flat_map (split_outs site.now.plan.params site.now.cub.0 stamp) store.old.view.lines) }
 {
     let mut next = after(&store.view, None);
+    // The walk takes no line out: the line that it stands at is the one of this number.
     let mut place: usize = 0;
     while let Some(line) = next {
         split_line(site, stamp, store, line, out)?;
@@ -175,6 +177,7 @@ fn add_piece(
     ensures pieces { OnOk result (pieces.new ≡ with_new piece pieces.old pieces.old) }
     ensures unasked { OnOk result (unasked.new ≡ with_new piece pieces.old unasked.old) }
 {
+    // The call tells that the set has each piece once, in order.
     are_in_order(pieces);
     if pieces.add(piece)? {
         unasked.add(piece)?;
