@@ -84,7 +84,7 @@ fn a_late_death_is_noticed_within_a_span(rt: HostRuntime) {
 #[test]
 fn next_entry_is_that_of_the_next_visit(rt: HostRuntime) {
     let plan = small_plan();
-    for (reading, want) in [(0, 7200000), (7199999, 7200000), (7200000, 7700000)] {
+    for (reading, want) in [(0, 200000), (199999, 200000), (200000, 700000)] {
         assert_eq!(rt; plan.next_entry(reading, DiskNo(0)), want);
     }
 }

@@ -3,7 +3,7 @@
 
 mod forward;
 
-pub use forward::{must_forward, targets};
+pub use forward::{lead_in, must_forward, next_due, targets};
 
 #[cfg(test)]
 mod tests;

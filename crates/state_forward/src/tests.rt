@@ -1,32 +1,8 @@
 //! Forwarding around both leads of a plan, and the receivers at the end of the ring.
-ghost use Rattle.std.specs.Prelude.{◌≡◌};
-ghost use Rattle.slot_plan.specs.Conditions.{IsInRange};
 
 use crate::{must_forward, targets};
-use slot_plan::{Params, Plan};
-use std::process::Abort;
+use slot_plan::small_plan;
 use tiger_base::{CubNo, FileNo, Instance, Kind, Rec, SlotNo, Stamp, Tenancy};
-
-const PARAMS: Params = Params {
-    cubs: 8,
-    disks: 1,
-    slots: 16,
-    play: 1000000,
-    pieces: 2,
-    block: 4,
-    beat: 10000,
-    delay: 2,
-    skew: 4000,
-    window_a: 800000,
-    window_b: 200000,
-    read_lead: 100000,
-    min_lead: 3000000,
-    max_lead: 4000000,
-    batch: 20,
-    heart: 50,
-    deadman: 1000000,
-    hold: 3000000,
-};
 
 // The record of visit 3 of slot 1: the next visit is due at 4500000.
 const RECORD: Rec = Rec {
@@ -41,20 +17,9 @@ const RECORD: Rec = Rec {
     kind: Kind::Own,
 };
 
-// The plan with these numbers, whose conditions all hold.
-fn plan_of(rt: &impl Abort, params: Params) -> Plan
-    requires { IsInRange params }
-    ensures { result.params ≡ params }
-{
-    match Plan::new(params) {
-        Ok(plan) => plan,
-        Err(_) => panic!(rt; "a condition is false"),
-    }
-}
-
 #[test]
 fn own_record_is_forwarded_from_its_lead_on(rt: HostRuntime) {
-    let plan = plan_of(&rt, PARAMS);
+    let plan = small_plan();
     let cases = [
         (151, 1499999, false),
         (151, 1500000, true),
@@ -75,7 +40,7 @@ fn own_record_is_forwarded_from_its_lead_on(rt: HostRuntime) {
 
 #[test]
 fn backup_and_last_visit_are_not_forwarded(rt: HostRuntime) {
-    let plan = plan_of(&rt, PARAMS);
+    let plan = small_plan();
     let stamp = Stamp {
         beat: 200,
         reading: 9000000,
@@ -92,7 +57,7 @@ fn backup_and_last_visit_are_not_forwarded(rt: HostRuntime) {
 
 #[test]
 fn state_goes_to_the_cubs_of_its_visit_and_the_next(rt: HostRuntime) {
-    let plan = plan_of(&rt, PARAMS);
+    let plan = small_plan();
     assert_eq!(rt; targets(&plan, 3), [CubNo(3), CubNo(4)]);
     assert_eq!(rt; targets(&plan, 15), [CubNo(7), CubNo(0)]);
 }
