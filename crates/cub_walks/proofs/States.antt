@@ -17,8 +17,8 @@ use Rattle.partial_view.specs.declared.line.Line.{Line}
 use Rattle.partial_view.specs.declared.line.Flag.TheVariants.{Forwarded}
 use Rattle.partial_view.specs.Lines.{key_of, marked}
 use Rattle.partial_view.specs.Walks.{KeepsVisits}
-use Rattle.state_forward.specs.Forwards.{is_batch_beat, is_next_due, must_forward}
-use Rattle.partial_view.specs.Pending.{is_pending, next_due, IsForwardedTo}
+use Rattle.state_forward.specs.Forwards.{is_batch_beat, is_next_due, must_forward, next_due}
+use Rattle.partial_view.specs.Pending.{is_pending, IsForwardedTo}
 use Rattle.cub_rules.specs.Ticks.{is_to_forward, forward_line, forward_outs, forwarding}
 use Rattle.cub_walks.specs.Limits.{forward_limit}
 
@@ -48,38 +48,38 @@ pending_late p stamp x h pending = bits x.forwarded (is_own x.rec.kind) (nat_lt 
     bits f true false s e g = absurd (cc)
 
 -- the lead of the beat reaches up to the limit
-soon_by : (p : Params) → IsPlan p → (stamp : Stamp) (x : Line) → is_soon p stamp x ≡ true → next_due p x ≤ forward_limit p stamp
+soon_by : (p : Params) → IsPlan p → (stamp : Stamp) (x : Line) → is_soon p stamp x ≡ true → next_due p x.rec ≤ forward_limit p stamp
 unfolding forward_limit
 soon_by p plan stamp x h = by_beat (is_batch_beat p stamp.beat) refl
   where
-    by_beat : (b : Bool) → is_batch_beat p stamp.beat ≡ b → next_due p x ≤ stamp.reading + cond b p.max_lead p.min_lead
+    by_beat : (b : Bool) → is_batch_beat p stamp.beat ≡ b → next_due p x.rec ≤ stamp.reading + cond b p.max_lead p.min_lead
     by_beat b e =
         ⊎_elim
-        (λ low. let by_low : next_due p x ≤ stamp.reading + p.min_lead = leb-true _ _ low in least b by_low)
+        (λ low. let by_low : next_due p x.rec ≤ stamp.reading + p.min_lead = leb-true _ _ low in least b by_low)
         (λ high. let both = and_parts _ _ high in most b (sym e ∙ both.0) (leb-true _ _ both.1))
         (or_cases _ _ h)
       where
-        least : (b : Bool) → next_due p x ≤ stamp.reading + p.min_lead → next_due p x ≤ stamp.reading + cond b p.max_lead p.min_lead
+        least : (b : Bool) → next_due p x.rec ≤ stamp.reading + p.min_lead → next_due p x.rec ≤ stamp.reading + cond b p.max_lead p.min_lead
         least true low = omega (arith, low, plan.c6)
         least false low = low
 
-        most : (b : Bool) → b ≡ true → next_due p x ≤ stamp.reading + p.max_lead → next_due p x ≤ stamp.reading + cond b p.max_lead p.min_lead
+        most : (b : Bool) → b ≡ true → next_due p x.rec ≤ stamp.reading + p.max_lead → next_due p x.rec ≤ stamp.reading + cond b p.max_lead p.min_lead
         most true is high = high
         most false is high = absurd (cc)
 
-late_after : (p : Params) (stamp : Stamp) (x : Line) → is_soon p stamp x ≡ false → forward_limit p stamp < next_due p x
+late_after : (p : Params) (stamp : Stamp) (x : Line) → is_soon p stamp x ≡ false → forward_limit p stamp < next_due p x.rec
 unfolding forward_limit
 late_after p stamp x h =
     let parts = or_parts _ _ h in
     by_beat (is_batch_beat p stamp.beat) parts.0 parts.1
   where
     by_beat : (b : Bool) → is_next_due p x.rec (stamp.reading + p.min_lead) ≡ false → (b && is_next_due p x.rec (stamp.reading + p.max_lead)) ≡ false
-        → stamp.reading + cond b p.max_lead p.min_lead < next_due p x
+        → stamp.reading + cond b p.max_lead p.min_lead < next_due p x.rec
     by_beat true low high = leb-false _ _ high
     by_beat false low high = leb-false _ _ low
 
 -- a state that is not pending by the limit does not go out
-stays_here : (p : Params) → IsPlan p → (stamp : Stamp) (x : Line) → (is_pending x ≡ true → forward_limit p stamp < next_due p x) → is_to_forward p stamp x ≡ false
+stays_here : (p : Params) → IsPlan p → (stamp : Stamp) (x : Line) → (is_pending x ≡ true → forward_limit p stamp < next_due p x.rec) → is_to_forward p stamp x ≡ false
 stays_here p plan stamp x h = by_test (is_to_forward p stamp x) refl
   where
     by_test : (t : Bool) → is_to_forward p stamp x ≡ t → is_to_forward p stamp x ≡ false
@@ -98,7 +98,7 @@ nothing_marked p plan stamp [] h = refl
 nothing_marked p plan stamp (x ∷ xs) h = rw (stays_here p plan stamp x h.0) (ap (λ zs. x ∷ zs) (nothing_marked p plan stamp xs h.1))
 
 -- after the walk all is forwarded up to the limit
-forwarded_here : (p : Params) (stamp : Stamp) (x : Line) (t : Bool) → is_to_forward p stamp x ≡ t → is_pending (cond t (marked Forwarded x) x) ≡ true → forward_limit p stamp < next_due p (cond t (marked Forwarded x) x)
+forwarded_here : (p : Params) (stamp : Stamp) (x : Line) (t : Bool) → is_to_forward p stamp x ≡ t → is_pending (cond t (marked Forwarded x) x) ≡ true → forward_limit p stamp < next_due p (cond t (marked Forwarded x) x).rec
 forwarded_here p stamp x true e pending = absurd (both_ways (is_pending (marked Forwarded x)) (never (is_own x.rec.kind) (nat_lt x.rec.visit x.rec.tenancy.last)) pending)
   where
     never : (o l : Bool) → (o && l && false) ≡ false

@@ -19,13 +19,14 @@ IsOnce (h ∷ hs) = (is_held hs h.instance ≡ false) × IsOnce hs
 -- all that is held, with a further instance until a reading, unless it is held already
 abbrev pub with_hold : List Holding → Instance → ℕ → List Holding
 with_hold holds v until =
-    if is_held holds v then holds else holds ++ record { instance = v; until = until; passed = false } ∷ []
+    if is_held holds v then holds
+    else holds ++ record { instance = v; until = until; passed = false } ∷ []
 
 -- whether the instance is held, and was not passed on
 abbrev pub must_pass : List Holding → Instance → Bool
 must_pass holds v = list_any (λ h. is_of v h && not h.passed) holds
 
--- what is held, passed on where it is of the instance
+-- what is held, passed on if it is of the instance
 abbrev pub once_passed : Instance → Holding → Holding
 once_passed v h = if is_of v h then record h { passed = true } else h
 

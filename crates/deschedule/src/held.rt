@@ -43,7 +43,7 @@ impl Held {
         }
     }
 
-    /// Holds an instance until a reading, not passed on. False, and nothing changes, exactly where it
+    /// Holds an instance until a reading, not passed on. False, and nothing changes, exactly if it
     /// is held already; without memory for it nothing changes either.
     pub fn hold(&mut self, instance: Instance, until: Micros) -> Result<bool, NoMemory>
         ensures entered { IfOk result (λ new. new ≡ not (is_held self.old instance)) }
@@ -76,7 +76,7 @@ impl Held {
         must_pass(&self.holds, instance)
     }
 
-    /// Notes that the instance's deschedule was passed on. False, and nothing changes, exactly where
+    /// Notes that the instance's deschedule was passed on. False, and nothing changes, exactly if
     /// it is not held.
     pub fn set_passed(&mut self, instance: Instance) -> bool
         ensures there { result ≡ is_held self.old instance }
@@ -120,7 +120,7 @@ fn pass_on(holds: &mut Vec<Holding>, instance: Instance)
     }
 }
 
-// The deschedule again, passed on where it is of the instance.
+// The deschedule again, passed on if it is of the instance.
 fn once_passed(hold: &Holding, instance: Instance) -> Holding
     ensures { result ≡ once_passed instance hold.now }
 {

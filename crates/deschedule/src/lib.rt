@@ -1,4 +1,5 @@
-//! The deschedules that a cub holds, so that a late state of a stopped viewer does not bring it back.
+//! The deschedules that a cub holds, so that a late state of a stopped viewer does not bring it
+//! back.
 #![tactic(auto)]
 
 mod held;

@@ -13,7 +13,7 @@ use Rattle.disk_image.specs.declared.copies.Extract.{Extract}
 unfoldable pub piece_span : Span → ℕ → ℕ → Span
 piece_span block pieces k = if k == 0 then block else piece_of block pieces k
 
--- how many disks further a disk is than another one, round so many disks
+-- how many disks further a disk is than another one, round all disks
 abbrev pub turns_to : ℕ → ℕ → ℕ → ℕ
 turns_to from disk disks = (disk % disks + disks - from % disks) % disks
 
@@ -28,10 +28,13 @@ pub record HasExtract (library : List (List ℕ)) (span : Span) (o : Option Extr
   pub there : o ≡ Some extract
   pub exact : IsExtract library span extract
 
--- the row has the copy of piece k of each block of the file for which that piece is on the disk, at the number of the block's round
+-- the row has the copy of piece k of each block of the file for which that piece is on the disk, at
+-- the number of the block's round
 pub record IsRow (m : Image) (file : FileNo) (k : ℕ) (row : List Extract) : Type 0 where
-  pub held : (block : ℕ) (p : Place) → place_of m.catalogue file block ≡ Some p → piece_disk p.disk.0 k m.catalogue.disks ≡ m.disk
-      → HasExtract m.library (piece_span p.span m.pieces k) (slice_get row (block / m.catalogue.disks))
+  pub held : (block : ℕ) (p : Place)
+      → place_of m.catalogue file block ≡ Some p → piece_disk p.disk.0 k m.catalogue.disks ≡ m.disk
+      → HasExtract m.library (piece_span p.span m.pieces k)
+      (slice_get row (block / m.catalogue.disks))
 
 -- each element of a list is there, and is what the element of its index is to be
 pub record IsEach {X : Type 0} (P : ℕ → X → Type 0) (xs : List X) : Type 0 where
@@ -50,11 +53,13 @@ pub record IsCopied (m : Image) (copies : List (List (List Extract))) : Type 0 w
 -- the copy of a file, a piece number and a round
 abbrev pub stored : List (List (List Extract)) → ℕ → ℕ → ℕ → Option Extract
 stored copies file k round =
-    option_and_then (λ rows. option_and_then (λ row. slice_get row round) (slice_get rows k)) (slice_get copies file)
+    option_and_then (λ rows. option_and_then (λ row. slice_get row round) (slice_get rows k))
+    (slice_get copies file)
 
--- a piece of a block, or for 0 the whole block, where it is on the image's disk
+-- a piece of a block, or for 0 the whole block, if it is on the image's disk
 unfoldable pub held_part : Image → FileNo → ℕ → ℕ → Option LibraryPart
 held_part m file block k =
     option_and_then
-    (λ p. if piece_disk p.disk.0 k m.catalogue.disks == m.disk then Some (record { library = m.library; span = piece_span p.span m.pieces k }) else None)
+    (λ p. if piece_disk p.disk.0 k m.catalogue.disks == m.disk
+    then Some (record { library = m.library; span = piece_span p.span m.pieces k }) else None)
     (place_of m.catalogue file block)

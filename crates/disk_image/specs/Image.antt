@@ -17,17 +17,18 @@ pub record Image : Type 0 where
 abbrev pub HasLengths : List (List ℕ) → Catalogue → Type 0
 HasLengths library c = map (λ bytes. length bytes) library ≡ map (λ info. info.len) c.files
 
--- a block of a file, where the layout puts it on the image's disk
+-- a block of a file, if the layout puts it on the image's disk
 unfoldable pub block_part : Image → FileNo → ℕ → Option LibraryPart
 block_part m file block =
-    option_and_then (λ p. if p.disk.0 == m.disk then Some (record { library = m.library; span = p.span }) else None)
+    option_and_then
+    (λ p. if p.disk.0 == m.disk then Some (record { library = m.library; span = p.span }) else None)
     (place_of m.catalogue file block)
 
 -- whether the blocks have a piece of this number
 abbrev pub is_piece : Image → ℕ → Bool
 is_piece m k = nat_le 1 k && nat_le k m.pieces
 
--- a piece of a block, where the block's disk puts it on the image's disk
+-- a piece of a block, if the block's disk puts it on the image's disk
 unfoldable pub piece_part : Image → FileNo → ℕ → ℕ → Option LibraryPart
 piece_part m file block k =
     option_and_then

@@ -3,4 +3,9 @@ use Rattle.disk_image.specs.Image.{Image}
 use Rattle.disk_image.specs.declared.source.Source.{Source}
 
 abbrev pub image_of : Source → Image
-image_of s = record { library = s.library.now; catalogue = s.catalogue.now; pieces = s.pieces; disk = s.disk.0 }
+image_of s = record {
+  library = s.library.now;
+  catalogue = s.catalogue.now;
+  pieces = s.pieces;
+  disk = s.disk.0;
+}

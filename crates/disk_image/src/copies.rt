@@ -18,7 +18,8 @@ pub type Row = Sequence<Extract>;
 /// A copy of the bytes of a file that the span names.
 pub fn copy_out(alloc: Global, file: &[u8], span: Span) -> Result<Extract, NoMemory>
     requires { span.from + span.len ≤ length file.now }
-    ensures { IfOk result (λ x. (x.span ≡ span) × (x.bytes ≡ take span.len (drop span.from file.now))) }
+    ensures { IfOk result (λ x.
+        (x.span ≡ span) × (x.bytes ≡ take span.len (drop span.from file.now))) }
 {
     let bytes = file[span.from as usize..][..span.len as usize].to_vec(alloc)?;
     Ok(Extract {

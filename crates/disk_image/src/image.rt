@@ -36,7 +36,7 @@ impl<'a> Model for DiskImage<'a> {
 }
 
 impl<'a> DiskImage<'a> {
-    /// Copies what the disk has of a library that is laid out so, each block being cut into so many
+    /// Copies what the disk has of a library with this layout, each block being cut into `pieces`
     /// pieces.
     pub fn build(
         alloc: Global,
@@ -48,8 +48,12 @@ impl<'a> DiskImage<'a> {
         requires lengths { HasLengths library.now catalogue.now }
         requires some { 1 ≤ pieces }
         requires few { pieces ≤ 8 }
-        ensures { IfOk result (λ image. image ≡
-            record { library = library.now; catalogue = catalogue.now; pieces = pieces; disk = disk.0 }) }
+        ensures { IfOk result (λ image. image ≡ record {
+          library = library.now;
+          catalogue = catalogue.now;
+          pieces = pieces;
+          disk = disk.0;
+        }) }
     {
         let catalogue = again(alloc, catalogue)?;
         let copies = Source {
@@ -68,14 +72,14 @@ impl<'a> DiskImage<'a> {
         })
     }
 
-    /// The block of a file, blocks being counted from 0; `None` exactly where it is not on this disk.
+    /// The block of a file, blocks being counted from 0; `None` exactly if it is not on this disk.
     pub fn read_block(&'a self, file: FileNo, block: u64) -> Option<Part<'a>>
         ensures { result ≡ block_part self.now file block }
     {
         self.read(file, block, 0)
     }
 
-    /// Piece `k` of a block of a file, pieces being counted from 1; `None` exactly where that piece is
+    /// Piece `k` of a block of a file, pieces being counted from 1; `None` exactly if that piece is
     /// not on this disk.
     pub fn read_piece(&'a self, file: FileNo, block: u64, k: u32) -> Option<Part<'a>>
         ensures { result ≡ piece_part self.now file block k }
@@ -86,7 +90,7 @@ impl<'a> DiskImage<'a> {
         self.read(file, block, k)
     }
 
-    /// Piece `k` of a block of a file, or the whole block where `k` is 0, if it is on this disk.
+    /// Piece `k` of a block of a file, or the whole block if `k` is 0, if it is on this disk.
     fn read(&'a self, file: FileNo, block: u64, k: u32) -> Option<Part<'a>>
         requires { k ≤ self.now.pieces }
         ensures { result ≡ held_part self.now file block k }

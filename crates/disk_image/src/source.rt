@@ -8,7 +8,7 @@ use std::alloc::Global;
 use stripe_layout::Catalogue;
 use tiger_base::{DiskNo, FileNo, Library, NoMemory, Sequence};
 
-/// The files, their layout, the number of pieces of a block, and the disk of which copies are made.
+/// The files, their layout, the number of pieces of a block, and the disk that the copies are of.
 #[derive(Drop)]
 pub struct Source<'s> {
     pub library: &'s Library,
@@ -85,7 +85,8 @@ impl<'s> Source<'s> {
     fn piece(&self, alloc: Global, file: FileNo, block: u64, k: u32) -> Result<Extract, NoMemory>
         requires block { block < block_count self.now.catalogue.now file.0 }
         requires piece { k ≤ self.now.pieces }
-        ensures { IfOk result (λ x. (p : Place) → place_of self.now.catalogue.now file block ≡ Some p →
+        ensures { IfOk result (λ x. (p : Place) →
+            place_of self.now.catalogue.now file block ≡ Some p →
             IsExtract self.now.library.now (piece_span p.span self.now.pieces k) x) }
     {
         let bytes = self.library.file(file).unwrap();

@@ -5,7 +5,8 @@ use Rattle.tiger_base.specs.declared.number.Instance.{Instance}
 use Rattle.tiger_base.specs.declared.number.DiskNo.{DiskNo}
 use Rattle.tiger_base.specs.declared.tenancy.Ask.{Ask}
 
--- the starts that wait for a free visit, and those that wait for the predecessor's death, the oldest first
+-- the starts that wait for a free visit, and those that wait for the predecessor's death, the
+-- oldest first
 pub record Queues : Type 0 where
   pub waiting : List Ask
   pub redundant : List Ask
@@ -23,11 +24,13 @@ is_asked q v = has_start q.waiting v || has_start q.redundant v
 
 -- the queues with a further start that waits, unless its instance stands in them already
 abbrev pub with_waiting : Queues → Ask → Queues
-with_waiting q a = if is_asked q a.instance then q else record q { waiting = q.waiting ++ a ∷ [] }
+with_waiting q a =
+    if is_asked q a.instance then q else record q { waiting = q.waiting ++ a ∷ [] }
 
 -- the same with a further redundant one
 abbrev pub with_redundant : Queues → Ask → Queues
-with_redundant q a = if is_asked q a.instance then q else record q { redundant = q.redundant ++ a ∷ [] }
+with_redundant q a =
+    if is_asked q a.instance then q else record q { redundant = q.redundant ++ a ∷ [] }
 
 -- a list with no start of the instance
 abbrev pub without : List Ask → Instance → List Ask

@@ -13,9 +13,9 @@ pub struct Gave {
     pub redundant: bool,
 }
 
-/// The starts that wait for a free visit, and the redundant ones, which wait until the predecessor is
-/// believed dead. They are seen as these two lists, the oldest first; an instance stands at most once
-/// in both together.
+/// The starts that wait for a free visit, and the redundant ones, which wait until the predecessor
+/// is believed dead. They are seen as these two lists, the oldest first; an instance stands at most
+/// once in both together.
 #[derive(Drop)]
 pub struct Starts {
     waiting: Vec<Ask>,
@@ -44,7 +44,7 @@ impl Starts {
         }
     }
 
-    /// Puts a start at the end of those that wait. False, and nothing changes, exactly where its
+    /// Puts a start at the end of those that wait. False, and nothing changes, exactly if its
     /// instance stands in one of the lists; without memory for it nothing changes either.
     pub fn ask(&mut self, ask: Ask) -> Result<bool, NoMemory>
         ensures entered { IfOk result (λ new. new ≡ not (is_asked self.old ask.instance)) }
@@ -58,7 +58,7 @@ impl Starts {
         Ok(true)
     }
 
-    /// Puts a start at the end of the redundant ones. False, and nothing changes, exactly where its
+    /// Puts a start at the end of the redundant ones. False, and nothing changes, exactly if its
     /// instance stands in one of the lists; without memory for it nothing changes either.
     pub fn ask_redundant(&mut self, ask: Ask) -> Result<bool, NoMemory>
         ensures entered { IfOk result (λ new. new ≡ not (is_asked self.old ask.instance)) }
@@ -116,7 +116,7 @@ impl Starts {
         Ok(moved)
     }
 
-    /// The oldest start that waits for the disk; `None` exactly where none waits for it.
+    /// The oldest start that waits for the disk; `None` exactly if none waits for it.
     pub fn next(&self, disk: DiskNo) -> Option<Ask>
         ensures { result ≡ oldest_for self.now.waiting disk }
     {

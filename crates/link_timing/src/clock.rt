@@ -12,7 +12,7 @@ use tiger_base::{Beat, LinkNo};
 /// How long the next message is under way.
 #[derive(Drop)]
 pub enum Pace {
-    /// So many beats.
+    /// This number of beats.
     Fixed(u64),
     /// As many beats as the generator's next word says.
     Drawn(Lcg64Xsh32),

@@ -10,7 +10,7 @@ pub use clock::LinkClock;
 /// How long messages are under way, in beats.
 #[derive(Clone, Copy, Debug, PartialEq, Eq)]
 pub enum Delay {
-    /// Each message takes so many beats.
+    /// Each message takes this number of beats.
     Fixed(u64),
     /// Each message takes a drawn number of beats; the number given starts the generators.
     Drawn(u64),

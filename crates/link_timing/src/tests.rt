@@ -11,7 +11,8 @@ fn fixed_delay_is_added(rt: HostRuntime) {
     assert_eq!(rt; clock.arrival(100000), 100001);
 }
 
-// The words are those of PCG-XSH-RR 64/32 with state 7 and streams 0 and 24, computed by another program.
+// The words are those of PCG-XSH-RR 64/32 with state 7 and streams 0 and 24, computed by another
+// program.
 #[test]
 fn each_link_draws_from_its_own_stream(rt: HostRuntime) {
     let mut first = LinkClock::new(LinkNo(0), Delay::Drawn(7), 2);

@@ -18,10 +18,10 @@ piece_of block pieces k =
       len = piece_end block.len pieces k - piece_start block.len pieces k;
     }
 
--- the disk of a piece, where the block is on disk d
+-- the disk of a piece, if the block is on disk d
 unfoldable pub piece_disk : ℕ → ℕ → ℕ → ℕ
 piece_disk d k disks = (d + k) % disks
 
--- when a piece leaves, where the block is due at that time
+-- when a piece leaves, if the block is due at that time
 unfoldable pub leaving : ℕ → ℕ → ℕ → ℕ → ℕ
 leaving due k play pieces = due + (k - 1) * play / pieces

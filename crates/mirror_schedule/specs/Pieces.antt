@@ -11,9 +11,12 @@ use Rattle.mirror_schedule.specs.Sorted.{is_less, are_same, IsSorted, with_one}
 
 -- the pieces of a record's visit, from piece 1 on
 unfoldable pub pieces_of : Params → Rec → List PieceState
-pieces_of p r = map (λ k. record { tenancy = r.tenancy; visit = r.visit; piece = k }) (range_with_len 1 p.pieces)
+pieces_of p r =
+    map (λ k. record { tenancy = r.tenancy; visit = r.visit; piece = k })
+    (range_with_len 1 p.pieces)
 
--- the piece's slot is one of the plan's, its visit is in reach of the calls, and a block has a piece of its number
+-- the piece's slot is one of the plan's, its visit is in reach of the calls, and a block has a
+-- piece of its number
 pub record IsPieceOf (p : Params) (x : PieceState) : Type 0 where
   pub slot : x.tenancy.slot.0 < p.slots
   pub visit : x.visit ≤ 2 ^ 32
@@ -27,7 +30,8 @@ leaving_of p x = leaving (due p x.tenancy.slot.0 x.visit) x.piece p.play p.piece
 -- the numbers of a piece: slot, visit and piece, and then the rest of its tenancy
 abbrev pub numbers_of : PieceState → List ℕ
 numbers_of x =
-    x.tenancy.slot.0 ∷ x.visit ∷ x.piece ∷ x.tenancy.instance.0 ∷ x.tenancy.file.0 ∷ x.tenancy.first ∷ x.tenancy.last ∷ []
+    x.tenancy.slot.0 ∷ x.visit ∷ x.piece
+    ∷ x.tenancy.instance.0 ∷ x.tenancy.file.0 ∷ x.tenancy.first ∷ x.tenancy.last ∷ []
 
 -- what orders the pieces: the time of leaving, and then these numbers
 abbrev pub rank_of : Params → PieceState → List ℕ
@@ -37,7 +41,8 @@ rank_of p x = leaving_of p x ∷ numbers_of x
 abbrev pub listed : ℕ × ℕ × ℕ × ℕ × ℕ × ℕ × ℕ × ℕ → List ℕ
 listed n = n.0 ∷ n.1 ∷ n.2 ∷ n.3 ∷ n.4 ∷ n.5 ∷ n.6 ∷ n.7 ∷ []
 
--- whether a piece comes before another: it leaves earlier, or at the same time with the lesser numbers
+-- whether a piece comes before another: it leaves earlier, or at the same time with the lesser
+-- numbers
 unfoldable pub comes_before : Params → PieceState → PieceState → Bool
 comes_before p a b = is_less (rank_of p a) (rank_of p b)
 
@@ -49,7 +54,7 @@ is_same a b = are_same (numbers_of a) (numbers_of b)
 unfoldable pub is_in : PieceState → List PieceState → Bool
 is_in x items = list_any (is_same x) items
 
--- whether a piece comes behind the given one, where one is given
+-- whether a piece comes behind the given one, if one is given
 abbrev pub is_behind : Params → Option PieceState → PieceState → Bool
 is_behind p None x = true
 is_behind p (Some given) x = comes_before p given x

@@ -23,12 +23,16 @@ IsSorted before (x ∷ xs) = AllByRecursion (λ y. before x y ≡ true) xs × Is
 -- the list with an element at its place in the order; one that is there stays as it is
 abbrev pub with_one : {X : Type 0} → (X → X → Bool) → X → List X → List X
 with_one before x [] = x ∷ []
-with_one before x (y ∷ ys) = if before x y then x ∷ y ∷ ys else (if before y x then y ∷ with_one before x ys else y ∷ ys)
+with_one before x (y ∷ ys) =
+    if before x y then x ∷ y ∷ ys
+    else (if before y x then y ∷ with_one before x ys else y ∷ ys)
 
--- the place of a new element in a list whose first place has a number; none where it is there
+-- the place of a new element in a list whose first place has a number; none if it is there
 abbrev pub gap_from : {X : Type 0} → (X → X → Bool) → X → ℕ → List X → Option ℕ
 gap_from before x place [] = Some place
-gap_from before x place (y ∷ ys) = if before x y then Some place else (if before y x then gap_from before x (place + 1) ys else None)
+gap_from before x place (y ∷ ys) =
+    if before x y then Some place
+    else (if before y x then gap_from before x (place + 1) ys else None)
 
 -- how many elements come before a given one, up to the first that does not
 abbrev pub place_of : {X : Type 0} → (X → X → Bool) → X → List X → ℕ

@@ -1,4 +1,5 @@
-//! What a cub keeps of mirror pieces: the pieces that it is to send, and the visits that it has split.
+//! What a cub keeps of mirror pieces: the pieces that it is to send, and the visits that it has
+//! split.
 #![tactic(auto)]
 
 mod order;

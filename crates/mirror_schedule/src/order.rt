@@ -29,7 +29,8 @@ pub fn comes_before(plan: &Plan, a: &PieceState, b: &PieceState) -> bool
     rank(plan, a) < rank(plan, b)
 }
 
-/// What orders the pieces: the time of leaving, the slot, the visit and the piece, and then whose it is.
+/// What orders the pieces: the time of leaving, the slot, the visit and the piece, and then whose
+/// it is.
 type Rank = (Micros, u32, Visit, u32, u32, u32, Visit, Visit);
 
 /// The rank of a piece among all.
@@ -50,7 +51,7 @@ fn rank(plan: &Plan, x: &PieceState) -> Rank
     )
 }
 
-/// Whether a piece comes behind the given one, where one is given.
+/// Whether a piece comes behind the given one, if one is given.
 pub fn is_behind(plan: &Plan, given: &Option<PieceState>, x: &PieceState) -> bool
     requires given { ForSome given.now (IsPieceOf plan.now.params) }
     requires piece { IsPieceOf plan.now.params x.now }
@@ -62,7 +63,7 @@ pub fn is_behind(plan: &Plan, given: &Option<PieceState>, x: &PieceState) -> boo
     }
 }
 
-/// The place of a new piece among some in their order, found by halving; `None` where it is there.
+/// The place of a new piece among some in their order, found by halving; `None` if it is there.
 pub fn gap_for(plan: &Plan, items: &VecDeque<PieceState>, x: &PieceState) -> Option<usize>
     requires items { IsPieces plan.now.params items.now.items }
     requires piece { IsPieceOf plan.now.params x.now }

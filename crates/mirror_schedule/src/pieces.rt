@@ -12,8 +12,8 @@ use std::collections::VecDeque;
 use std::marker::Model;
 use tiger_base::{Instance, NoMemory, PieceState, Visit};
 
-/// A set of pieces, walked by the time of leaving, then slot, visit and piece. It is seen as the plan's
-/// numbers and the list of the pieces in this order.
+/// A set of pieces, walked by the time of leaving, then slot, visit and piece. It is seen as the
+/// plan's numbers and the list of the pieces in this order.
 #[derive(Drop)]
 pub struct PieceView {
     plan: Plan,
@@ -42,11 +42,13 @@ impl PieceView {
         }
     }
 
-    /// Adds a piece; `false` where it is there already. Without memory for it nothing changes.
+    /// Adds a piece; `false` if it is there already. Without memory for it nothing changes.
     pub fn add(&mut self, piece: PieceState) -> Result<bool, NoMemory>
         requires { IsPieceOf self.old.params piece }
         ensures answer { IfOk result (λ added. added ≡ not (is_in piece self.old.items)) }
-        ensures ok { OnOk result (self.new ≡ record self.old { items = with_piece self.old.params piece self.old.items }) }
+        ensures ok { OnOk result (self.new ≡ record self.old {
+          items = with_piece self.old.params piece self.old.items;
+        }) }
         ensures err { OnErr result (self.new ≡ self.old) }
     {
         match gap_for(&self.plan, &self.items, &piece) {
@@ -58,8 +60,8 @@ impl PieceView {
         }
     }
 
-    /// The next piece behind the given one, or the first where none is given; `None` exactly where
-    /// there is none.
+    /// The next piece behind the given one, or the first if none is given; `None` exactly if there
+    /// is none.
     pub fn after(&self, given: Option<PieceState>) -> Option<PieceState>
         requires { ForSome given (IsPieceOf self.now.params) }
         ensures next { result ≡ find (is_behind self.now.params given) self.now.items }
@@ -69,10 +71,12 @@ impl PieceView {
         next_behind(&self.plan, &self.items, given)
     }
 
-    /// Removes a piece; `false` exactly where it is not there.
+    /// Removes a piece; `false` exactly if it is not there.
     pub fn remove(&mut self, piece: PieceState) -> bool
         ensures found { result ≡ is_in piece self.old.items }
-        ensures left { self.new ≡ record self.old { items = filter (λ x. not (is_same piece x)) self.old.items } }
+        ensures left { self.new ≡ record self.old {
+          items = filter (λ x. not (is_same piece x)) self.old.items;
+        } }
     {
         match position_of(&self.items, piece) {
             Some(place) => self.items.remove(place).is_some(),
@@ -83,7 +87,9 @@ impl PieceView {
     /// Removes the pieces of an instance's visit, and answers how many.
     pub fn remove_visit(&mut self, instance: Instance, visit: Visit) -> u64
         ensures count { result ≡ count_by (is_of_visit instance visit) self.old.items }
-        ensures left { self.new ≡ record self.old { items = filter (λ x. not (is_of_visit instance visit x)) self.old.items } }
+        ensures left { self.new ≡ record self.old {
+          items = filter (λ x. not (is_of_visit instance visit x)) self.old.items;
+        } }
     {
         self.leave_out(&Wanted::OfVisit(instance, visit))
     }
@@ -91,7 +97,9 @@ impl PieceView {
     /// Removes the pieces of an instance, and answers how many.
     pub fn remove_instance(&mut self, instance: Instance) -> u64
         ensures count { result ≡ count_by (is_of instance) self.old.items }
-        ensures left { self.new ≡ record self.old { items = filter (λ x. not (is_of instance x)) self.old.items } }
+        ensures left { self.new ≡ record self.old {
+          items = filter (λ x. not (is_of instance x)) self.old.items;
+        } }
     {
         self.leave_out(&Wanted::Of(instance))
     }
@@ -99,7 +107,9 @@ impl PieceView {
     /// Removes what is wanted, and answers how many pieces that are.
     fn leave_out(&mut self, wanted: &Wanted) -> u64
         ensures count { result ≡ count_by (covers wanted.now) self.old.items }
-        ensures left { self.new ≡ record self.old { items = filter (λ x. not (covers wanted.now x)) self.old.items } }
+        ensures left { self.new ≡ record self.old {
+          items = filter (λ x. not (covers wanted.now x)) self.old.items;
+        } }
     {
         leave_out(&mut self.items, wanted)
     }
@@ -148,7 +158,7 @@ fn leave_out(items: &mut VecDeque<PieceState>, wanted: &Wanted) -> u64
     count
 }
 
-/// The first piece behind the given one, or of all where none is given, of some in their order.
+/// The first piece behind the given one, or of all if none is given, of some in their order.
 fn next_behind(
     plan: &Plan,
     items: &VecDeque<PieceState>,

@@ -9,8 +9,8 @@ use std::alloc::Global;
 use std::marker::Model;
 use tiger_base::{Instance, Micros, NoMemory, SlotNo, Visit};
 
-/// A set of split visits, seen as the list of their instances, slots and visits, in the order of slot,
-/// then visit, then instance.
+/// A set of split visits, seen as the list of their instances, slots and visits, in the order of
+/// slot, then visit, then instance.
 #[derive(Drop)]
 pub struct Splits {
     items: Vec<(Instance, SlotNo, Visit)>,
@@ -57,8 +57,8 @@ impl Splits {
         }
     }
 
-    /// Forgets the first of an instance's visits, by slot and then visit, and gives it; `None` exactly
-    /// where none is remembered.
+    /// Forgets the first of an instance's visits, by slot and then visit, and gives it; `None`
+    /// exactly if none is remembered.
     pub fn take_of(&mut self, instance: Instance) -> Option<(SlotNo, Visit)>
         ensures first { result ≡ option_map key_of (find (is_of instance) self.old) }
         ensures left { self.new ≡ without_first (is_of instance) self.old }
@@ -86,7 +86,7 @@ fn comes_before(a: &(Instance, SlotNo, Visit), b: &(Instance, SlotNo, Visit)) ->
     (a.1.0, a.2, a.0.0) < (b.1.0, b.2, b.0.0)
 }
 
-/// The place of a new one among some in their order; `None` where it is there.
+/// The place of a new one among some in their order; `None` if it is there.
 fn gap_for(items: &[(Instance, SlotNo, Visit)], x: &(Instance, SlotNo, Visit)) -> Option<usize>
     ensures { result ≡ gap_from split_before x.now 0 items.now }
 {
@@ -123,7 +123,8 @@ fn is_over(plan: &Plan, reading: Micros, x: &(Instance, SlotNo, Visit)) -> bool
 fn forget_over(items: &mut Vec<(Instance, SlotNo, Visit)>, plan: &Plan, reading: Micros) -> u64
     requires { AllByRecursion (IsSplitOf plan.now.params) items.old.items }
     ensures count { result ≡ count_by (is_over plan.now.params reading) items.old.items }
-    ensures left { items.new.items ≡ filter (λ x. not (is_over plan.now.params reading x)) items.old.items }
+    ensures left { items.new.items ≡
+        filter (λ x. not (is_over plan.now.params reading x)) items.old.items }
 {
     let mut count = 0;
     for i in (0..items.len()).rev() {

@@ -1,45 +1,11 @@
 //! Pieces and split visits of a small plan, beside values that were worked out by hand.
 ghost use Rattle.std.specs.Prelude.{◌≡◌, ◌∷◌, [], IfOk};
-ghost use Rattle.slot_plan.specs.Conditions.{IsInRange};
 
 use crate::{PieceView, Splits, split};
-use slot_plan::{Params, Plan};
+use slot_plan::small_plan;
 use std::alloc::Global;
-use std::process::Abort;
 use std::test::Fail;
 use tiger_base::{FileNo, Instance, Kind, NoMemory, PieceState, Rec, SlotNo, Tenancy};
-
-const SMALL: Params = Params {
-    cubs: 8,
-    disks: 1,
-    slots: 16,
-    play: 1000000,
-    pieces: 2,
-    block: 4,
-    beat: 10000,
-    delay: 2,
-    skew: 4000,
-    window_a: 800000,
-    window_b: 200000,
-    read_lead: 100000,
-    min_lead: 3000000,
-    max_lead: 4000000,
-    batch: 20,
-    heart: 50,
-    deadman: 1000000,
-    hold: 3000000,
-};
-
-/// The plan with these numbers, whose conditions all hold.
-fn plan_of(rt: &impl Abort, params: Params) -> Plan
-    requires { IsInRange params }
-    ensures { result.params ≡ params }
-{
-    match Plan::new(params) {
-        Ok(plan) => plan,
-        Err(_) => panic!(rt; "a condition is false"),
-    }
-}
 
 /// Four visits of slot 1.
 const OURS: Tenancy = Tenancy {
@@ -65,7 +31,7 @@ fn piece(k: u32) -> PieceState
 
 #[test]
 fn a_visit_is_split_into_its_pieces(rt: HostRuntime) -> Result<(), Fail> {
-    let plan = plan_of(&rt, SMALL);
+    let plan = small_plan();
     let rec = Rec {
         tenancy: OURS,
         visit: 3,
@@ -78,7 +44,7 @@ fn a_visit_is_split_into_its_pieces(rt: HostRuntime) -> Result<(), Fail> {
 
 #[test]
 fn a_piece_is_there_once(rt: HostRuntime) -> Result<(), Fail> {
-    let plan = plan_of(&rt, SMALL);
+    let plan = small_plan();
     let mut view = PieceView::new(rt.alloc(), &plan);
     assert!(rt; view.add(piece(1))?);
     assert!(rt; !view.add(piece(1))?);
@@ -89,7 +55,7 @@ fn a_piece_is_there_once(rt: HostRuntime) -> Result<(), Fail> {
 
 #[test]
 fn pieces_are_walked_by_the_time_of_leaving(rt: HostRuntime) -> Result<(), Fail> {
-    let plan = plan_of(&rt, SMALL);
+    let plan = small_plan();
     let mut view = PieceView::new(rt.alloc(), &plan);
     assert!(rt; view.add(piece(2))?);
     assert!(rt; view.add(piece(1))?);
@@ -105,7 +71,7 @@ fn pieces_are_walked_by_the_time_of_leaving(rt: HostRuntime) -> Result<(), Fail>
 
 #[test]
 fn a_piece_behind_the_first_is_removed(rt: HostRuntime) -> Result<(), Fail> {
-    let plan = plan_of(&rt, SMALL);
+    let plan = small_plan();
     let mut view = PieceView::new(rt.alloc(), &plan);
     assert!(rt; !view.remove(piece(2)));
     assert!(rt; view.add(piece(1))?);
@@ -145,7 +111,7 @@ fn remembered(alloc: Global) -> Result<Splits, NoMemory>
 
 #[test]
 fn split_visits_are_forgotten_after_their_play_time(rt: HostRuntime) -> Result<(), Fail> {
-    let plan = plan_of(&rt, SMALL);
+    let plan = small_plan();
     let mut early = remembered(rt.alloc())?;
     assert_eq!(rt; early.expire(&plan, 4499999), 0);
     assert!(rt; early.take_of(Instance(0)).is_some());

@@ -10,6 +10,7 @@ use Rattle.slot_plan.specs.Times.{due}
 use Rattle.tiger_base.specs.declared.number.Instance.{Instance}
 use Rattle.tiger_base.specs.declared.tenancy.Rec.{Rec}
 use Rattle.tiger_base.specs.Kinds.{is_own}
+use Rattle.state_forward.specs.Forwards.{next_due}
 use Rattle.partial_view.specs.declared.line.Line.{Line}
 use Rattle.partial_view.specs.declared.line.Flag.{Flag}
 use Rattle.partial_view.specs.declared.line.Flag.TheVariants.{Forwarded, Asked, Split}
@@ -20,7 +21,7 @@ use Rattle.partial_view.specs.Views.{line_at, with_mark, without, without_instan
 use Rattle.partial_view.specs.Adding.{answer_to, answer_at}
 use Rattle.partial_view.proofs.Order.{all_filter, all_implies}
 use Rattle.partial_view.proofs.Calls.{with_record-known}
-use Rattle.partial_view.specs.Pending.{is_pending, next_due, IsForwardedTo, is_unsplit, IsSplitFrom}
+use Rattle.partial_view.specs.Pending.{is_pending, IsForwardedTo, is_unsplit, IsSplitFrom}
 
 -- the next visit is due later than at the beginning
 pub next_due_pos : (p : Params) → IsPlan p → (slot visit : ℕ) → 1 ≤ due p slot (visit + 1)
@@ -32,7 +33,7 @@ next_due_pos p plan slot visit =
 -- what is known up to a time is known up to an earlier one, and what is known from a time on from a later one on
 pub forwarded_earlier : (p : Params) (low high : ℕ) (lines : List Line) → low ≤ high → IsForwardedTo p high lines → IsForwardedTo p low lines
 forwarded_earlier p low high lines e h =
-    all_implies (λ x. is_pending x ≡ true → high < next_due p x) (λ x. is_pending x ≡ true → low < next_due p x) (λ x f pending. omega (arith, f pending)) lines h
+    all_implies (λ x. is_pending x ≡ true → high < next_due p x.rec) (λ x. is_pending x ≡ true → low < next_due p x.rec) (λ x f pending. omega (arith, f pending)) lines h
 
 pub split_later : (p : Params) (low high : ℕ) (lines : List Line) → low ≤ high → IsSplitFrom p low lines → IsSplitFrom p high lines
 split_later p low high lines e h =
@@ -77,8 +78,8 @@ all_marked P k flag keeps (x ∷ xs) h = (
 
 pub forwarded_mark : (p : Params) (limit : ℕ) (k : Key) (flag : Flag) (lines : List Line) → IsForwardedTo p limit lines → IsForwardedTo p limit (with_mark k flag lines)
 forwarded_mark p limit k flag lines h =
-    all_marked (λ x. is_pending x ≡ true → limit < next_due p x) k flag
-    (λ x f pending. subst (λ (r : Rec). limit < due p r.tenancy.slot.0 (r.visit + 1)) (sym (rec_marked flag x)) (f (pending_marked flag x pending))) lines h
+    all_marked (λ x. is_pending x ≡ true → limit < next_due p x.rec) k flag
+    (λ x f pending. subst (λ (r : Rec). limit < next_due p r) (sym (rec_marked flag x)) (f (pending_marked flag x pending))) lines h
 
 pub split_mark : (p : Params) (limit : ℕ) (k : Key) (flag : Flag) (lines : List Line) → IsSplitFrom p limit lines → IsSplitFrom p limit (with_mark k flag lines)
 split_mark p limit k flag lines h =

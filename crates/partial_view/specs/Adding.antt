@@ -8,11 +8,11 @@ use Rattle.partial_view.specs.declared.view.Added.TheVariants.{New, Known, Other
 use Rattle.partial_view.specs.Lines.{visit_of, instance_of}
 use Rattle.partial_view.specs.Views.{line_at}
 
--- where the visit is taken: the same instance has it, or another one
+-- if the visit is taken: the same instance has it, or another one
 abbrev pub answer_by : Instance → Instance → Added
 answer_by wanted there = if there.0 == wanted.0 then Known else Other there
 
--- it is new where its visit has no line
+-- it is new if its visit has no line
 abbrev pub answer_at : Instance → Option Line → Added
 answer_at wanted None = New
 answer_at wanted (Some line) = answer_by wanted (instance_of line)

@@ -1,4 +1,5 @@
--- What the tests' walk gives out and leaves of a line: its record where it is asked for, and the line where it is not.
+-- What the tests' walk gives out and leaves of a line: its record if it is asked for, and the line
+-- if it is not.
 use Rattle.std.specs.Prelude.{List, [], ◌∷◌, if◌then◌else◌}
 use Rattle.tiger_base.specs.declared.tenancy.Rec.{Rec}
 use Rattle.partial_view.specs.declared.line.Line.{Line}

@@ -9,7 +9,8 @@ use Rattle.partial_view.specs.declared.line.Line.{Line}
 use Rattle.partial_view.specs.declared.line.Flag.{Flag}
 use Rattle.partial_view.specs.Lines.{key_of, visit_of, marked, unmarked, is_at, is_of}
 
--- what is seen of a view: the plan's numbers, and the lines in the order of their due times, slots and visits
+-- what is seen of a view: the plan's numbers, and the lines in the order of their due times, slots
+-- and visits
 pub record Seen : Type 0 where
   pub params : Params
   pub lines : List Line
@@ -31,7 +32,7 @@ line_at k lines = find (is_at k) lines
 unfoldable pub first_of : Instance → List Line → Option Line
 first_of v lines = find (is_of v) lines
 
--- the first line behind a visit, or of all where none is given
+-- the first line behind a visit, or of all if none is given
 unfoldable pub next_behind : Params → Option Key → List Line → Option Line
 next_behind p given lines = find (λ x. is_behind p given (key_of x)) lines
 
@@ -53,11 +54,13 @@ without_instance v lines = filter (λ x. not (is_of v x)) lines
 -- the lines, with one more in its place in the order
 unfoldable pub with_line : Params → Line → List Line → List Line
 with_line p x [] = x ∷ []
-with_line p x (y ∷ ys) = if is_earlier p (key_of x) (key_of y) then x ∷ y ∷ ys else y ∷ with_line p x ys
+with_line p x (y ∷ ys) =
+    if is_earlier p (key_of x) (key_of y) then x ∷ y ∷ ys else y ∷ with_line p x ys
 
--- the lines with a record's line, which is a new one where its visit has none
+-- the lines with a record's line, which is a new one if its visit has none
 unfoldable pub with_record : Params → Rec → List Line → List Line
-with_record p r lines = if is_some (line_at (visit_of r) lines) then lines else with_line p (unmarked r) lines
+with_record p r lines =
+    if is_some (line_at (visit_of r) lines) then lines else with_line p (unmarked r) lines
 
 -- how many lines come before a visit
 unfoldable pub place_of : Params → Key → List Line → ℕ

@@ -1,4 +1,5 @@
--- Walks over the lines of a view, in which each line gives something out and becomes some lines of its visit.
+-- Walks over the lines of a view, in which each line gives something out and becomes some lines of
+-- its visit.
 use Rattle.std.specs.Prelude.{◌≡◌, ℕ, List, [], ◌∷◌, ◌++◌, length, not, Option, Some, None, filter, slice_get, if◌then◌else◌}
 use Rattle.std.specs.List.{AllByRecursion, flat_map}
 use Rattle.slot_plan.specs.Keys.{Key, is_earlier}
@@ -14,8 +15,11 @@ replaced k others lines = flat_map (λ y. if is_at k y then others else y ∷ []
 abbrev pub KeepsVisits : (Line → List Line) → Type 0
 KeepsVisits lines_of = (x : Line) → AllByRecursion (λ y. key_of y ≡ key_of x) (lines_of x)
 
--- a walk is under way: the lines behind it have given out what is theirs and have become what they become, and the others are as they were
-pub record Underway {X : Type 0} (outs_of : Line → List X) (lines_of : Line → List Line) (before : Seen) (outs_before : List X) (now : Seen) (outs_now : List X) (next : Option Line) : Type 0 where
+-- a walk is under way: the lines behind it have given out what is theirs and have become what they
+-- become, and the others are as they were
+pub record Underway {X : Type 0} (outs_of : Line → List X) (lines_of : Line → List Line)
+    (before : Seen) (outs_before : List X) (now : Seen) (outs_now : List X) (next : Option Line)
+    : Type 0 where
   pub done : List Line
   pub ahead : List Line
   pub parts : before.lines ≡ done ++ ahead
@@ -26,7 +30,8 @@ pub record Underway {X : Type 0} (outs_of : Line → List X) (lines_of : Line �
   pub walk_now : IsWalk now.params now.lines
   pub keeps : KeepsVisits lines_of
 
--- how many lines a walk has yet to see, where this one is the next
+-- how many lines a walk has yet to see, if this one is the next
 unfoldable pub left : Option Line → Seen → ℕ
 left None seen = 0
-left (Some x) seen = length (filter (λ y. not (is_earlier seen.params (key_of y) (key_of x))) seen.lines)
+left (Some x) seen =
+    length (filter (λ y. not (is_earlier seen.params (key_of y) (key_of x))) seen.lines)

@@ -1,33 +1,10 @@
-//! What is forwarded and what is split in views of a small plan, beside times that were worked out by hand.
-ghost use Rattle.std.specs.Prelude.{◌≡◌, ◌<◌, ◌≤◌, [], IfOk};
-ghost use Rattle.slot_plan.specs.Conditions.{IsInRange};
+//! What is forwarded and what is split in views of a small plan, beside times that were worked out
+//! by hand.
 
 use crate::{Added, CubView, Flag};
-use slot_plan::{Params, Plan};
-use std::process::Abort;
+use slot_plan::small_plan;
 use std::test::Fail;
 use tiger_base::{FileNo, Instance, Kind, Rec, SlotNo, Tenancy};
-
-const SMALL: Params = Params {
-    cubs: 8,
-    disks: 1,
-    slots: 16,
-    play: 1000000,
-    pieces: 2,
-    block: 4,
-    beat: 10000,
-    delay: 2,
-    skew: 4000,
-    window_a: 800000,
-    window_b: 200000,
-    read_lead: 100000,
-    min_lead: 3000000,
-    max_lead: 4000000,
-    batch: 20,
-    heart: 50,
-    deadman: 1000000,
-    hold: 3000000,
-};
 
 // Visit 3 of slot 1, which is due at 3500000; the next visit is due at 4500000.
 const RECORD: Rec = Rec {
@@ -42,20 +19,9 @@ const RECORD: Rec = Rec {
     kind: Kind::Own,
 };
 
-/// The plan with these numbers, whose conditions all hold.
-fn plan_of(rt: &impl Abort, params: Params) -> Plan
-    requires { IsInRange params }
-    ensures { result.params ≡ params }
-{
-    match Plan::new(params) {
-        Ok(plan) => plan,
-        Err(_) => panic!(rt; "a condition is false"),
-    }
-}
-
 #[test]
 fn limit_stands_until_an_earlier_state_comes(rt: HostRuntime) -> Result<(), Fail> {
-    let plan = plan_of(&rt, SMALL);
+    let plan = small_plan();
     let mut view = CubView::new(rt.alloc(), &plan);
     view.set_forwarded_to(4600000);
     view.set_forwarded_to(2000000);
@@ -69,7 +35,7 @@ fn limit_stands_until_an_earlier_state_comes(rt: HostRuntime) -> Result<(), Fail
 
 #[test]
 fn limit_stands_where_nothing_more_is_to_forward(rt: HostRuntime) -> Result<(), Fail> {
-    let plan = plan_of(&rt, SMALL);
+    let plan = small_plan();
     let mut view = CubView::new(rt.alloc(), &plan);
     view.set_forwarded_to(5500000);
     let last = Rec { visit: 4, ..RECORD };
@@ -88,7 +54,7 @@ fn limit_stands_where_nothing_more_is_to_forward(rt: HostRuntime) -> Result<(), 
 
 #[test]
 fn split_limit_is_raised_by_a_later_backup_record(rt: HostRuntime) -> Result<(), Fail> {
-    let plan = plan_of(&rt, SMALL);
+    let plan = small_plan();
     let mut view = CubView::new(rt.alloc(), &plan);
     assert!(rt; view.is_split_from(0));
     let backup = Rec {
@@ -107,7 +73,7 @@ fn split_limit_is_raised_by_a_later_backup_record(rt: HostRuntime) -> Result<(),
 
 #[test]
 fn split_limit_stands_where_nothing_later_is_to_split(rt: HostRuntime) -> Result<(), Fail> {
-    let plan = plan_of(&rt, SMALL);
+    let plan = small_plan();
     let mut view = CubView::new(rt.alloc(), &plan);
     let backup = Rec {
         kind: Kind::Backup,
@@ -129,7 +95,7 @@ fn split_limit_stands_where_nothing_later_is_to_split(rt: HostRuntime) -> Result
 
 #[test]
 fn records_are_removed(rt: HostRuntime) -> Result<(), Fail> {
-    let plan = plan_of(&rt, SMALL);
+    let plan = small_plan();
     let mut view = CubView::new(rt.alloc(), &plan);
     assert_eq!(rt; view.add(RECORD)?, Added::New);
     assert_eq!(rt; view.remove(SlotNo(1), 3), Some(RECORD));

@@ -1,5 +1,5 @@
-//! A cub's view of the schedule: its records, in the order of their due times, how far its states are known to be
-//! forwarded, and from when on its visits are known to be split.
+//! A cub's view of the schedule: its records, in the order of their due times, how far its states
+//! are known to be forwarded, and from when on its visits are known to be split.
 #![tactic(auto)]
 
 mod cub_view;

@@ -23,8 +23,10 @@ pub fn mark_each(view: &mut View, flag: Flag)
 
 /// Takes out every line that is asked for, and gives it out: a walk that drops lines.
 pub fn take_asked(view: &mut View, taken: &mut Vec<Rec>) -> Result<(), NoMemory>
-    ensures left { OnOk result (view.new ≡ record view.old { lines = filter (λ x. not x.asked) view.old.lines }) }
-    ensures taken { OnOk result (taken.new.items ≡ taken.old.items ++ flat_map rec_if_asked view.old.lines) }
+    ensures left { OnOk result
+        (view.new ≡ record view.old { lines = filter (λ x. not x.asked) view.old.lines }) }
+    ensures taken { OnOk result
+        (taken.new.items ≡ taken.old.items ++ flat_map rec_if_asked view.old.lines) }
 {
     let mut next = view.after(None);
     while let Some(line) = next {
@@ -39,7 +41,9 @@ fn take_if_asked(view: &mut View, line: &Line, taken: &mut Vec<Rec>) -> Result<(
     requires key { IsKey view.old.params (key_of line.now) }
     requires there { line_at (key_of line.now) view.old.lines ≡ Some line.now }
     requires walk { IsWalk view.old.params view.old.lines }
-    ensures lines { OnOk result (view.new ≡ record view.old { lines = replaced (key_of line.now) (left_if_asked line.now) view.old.lines }) }
+    ensures lines { OnOk result (view.new ≡ record view.old {
+      lines = replaced (key_of line.now) (left_if_asked line.now) view.old.lines;
+    }) }
     ensures taken { OnOk result (taken.new.items ≡ taken.old.items ++ rec_if_asked line.now) }
 {
     if line.asked {

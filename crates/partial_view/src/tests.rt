@@ -1,46 +1,12 @@
 //! Views of a small plan, beside values that were worked out by hand.
 ghost use Rattle.std.specs.Prelude.{◌≡◌, IfOk};
-ghost use Rattle.slot_plan.specs.Conditions.{IsInRange};
 
 use crate::sample_walks::{mark_each, take_asked};
 use crate::{Added, Flag, Line, View};
-use slot_plan::{Params, Plan};
+use slot_plan::{Plan, small_plan};
 use std::alloc::Global;
-use std::process::Abort;
 use std::test::Fail;
 use tiger_base::{FileNo, Instance, Kind, NoMemory, Rec, SlotNo, Tenancy, Visit};
-
-const SMALL: Params = Params {
-    cubs: 8,
-    disks: 1,
-    slots: 16,
-    play: 1000000,
-    pieces: 2,
-    block: 4,
-    beat: 10000,
-    delay: 2,
-    skew: 4000,
-    window_a: 800000,
-    window_b: 200000,
-    read_lead: 100000,
-    min_lead: 3000000,
-    max_lead: 4000000,
-    batch: 20,
-    heart: 50,
-    deadman: 1000000,
-    hold: 3000000,
-};
-
-/// The plan with these numbers, whose conditions all hold.
-fn plan_of(rt: &impl Abort, params: Params) -> Plan
-    requires { IsInRange params }
-    ensures { result.params ≡ params }
-{
-    match Plan::new(params) {
-        Ok(plan) => plan,
-        Err(_) => panic!(rt; "a condition is false"),
-    }
-}
 
 /// The own record of an instance at a slot and visit.
 fn own(instance: u32, slot: u32, visit: Visit) -> Rec
@@ -74,7 +40,7 @@ fn three_lines(alloc: Global, plan: &Plan) -> Result<View, NoMemory>
 
 #[test]
 fn a_visit_has_one_instance(rt: HostRuntime) -> Result<(), Fail> {
-    let plan = plan_of(&rt, SMALL);
+    let plan = small_plan();
     let mut view = View::new(rt.alloc(), &plan);
     assert_eq!(rt; view.add(own(0, 1, 0))?, Added::New);
     assert_eq!(rt; view.add(own(0, 1, 0))?, Added::Known);
@@ -86,7 +52,7 @@ fn a_visit_has_one_instance(rt: HostRuntime) -> Result<(), Fail> {
 
 #[test]
 fn lines_are_walked_by_due_time(rt: HostRuntime) -> Result<(), Fail> {
-    let view = three_lines(rt.alloc(), &plan_of(&rt, SMALL))?;
+    let view = three_lines(rt.alloc(), &small_plan())?;
     for (slot, visit, want) in [
         (1, 0, Some((SlotNo(1), 1))),
         (2, 0, Some((SlotNo(1), 1))),
@@ -107,7 +73,7 @@ fn lines_are_walked_by_due_time(rt: HostRuntime) -> Result<(), Fail> {
 
 #[test]
 fn lines_are_marked_and_removed(rt: HostRuntime) -> Result<(), Fail> {
-    let mut view = three_lines(rt.alloc(), &plan_of(&rt, SMALL))?;
+    let mut view = three_lines(rt.alloc(), &small_plan())?;
     assert!(rt; view.mark(SlotNo(1), 1, Flag::Asked));
     assert!(rt; !view.mark(SlotNo(2), 1, Flag::Asked));
     assert_eq!(rt; view.remove(SlotNo(3), 0), Some(own(7, 3, 0)));
@@ -126,7 +92,7 @@ fn lines_are_marked_and_removed(rt: HostRuntime) -> Result<(), Fail> {
 
 #[test]
 fn walks_mark_and_take_lines(rt: HostRuntime) -> Result<(), Fail> {
-    let mut view = three_lines(rt.alloc(), &plan_of(&rt, SMALL))?;
+    let mut view = three_lines(rt.alloc(), &small_plan())?;
     let mut taken = Vec::new(rt.alloc());
     assert!(rt; view.mark(SlotNo(1), 1, Flag::Asked));
     take_asked(&mut view, &mut taken)?;

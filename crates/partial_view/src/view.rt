@@ -54,11 +54,14 @@ impl View {
         }
     }
 
-    /// Adds a record, with no flag set, where its slot and visit have none; else, and without memory for it, nothing changes.
+    /// Adds a record, with no flag set, if its slot and visit have none; else, and without memory
+    /// for it, nothing changes.
     pub fn add(&mut self, rec: Rec) -> Result<Added, NoMemory>
         requires { IsKey self.old.params (visit_of rec) }
         ensures answer { IfOk result (λ added. added ≡ answer_to rec self.old.lines) }
-        ensures ok { OnOk result (self.new ≡ record self.old { lines = with_record self.old.params rec self.old.lines }) }
+        ensures ok { OnOk result (self.new ≡ record self.old {
+          lines = with_record self.old.params rec self.old.lines;
+        }) }
         ensures err { OnErr result (self.new ≡ self.old) }
     {
         match place_of(&self.plan, &self.lines, (rec.tenancy.slot, rec.visit)) {
@@ -70,7 +73,7 @@ impl View {
         }
     }
 
-    /// The line of a slot and a visit; `None` exactly where there is none.
+    /// The line of a slot and a visit; `None` exactly if there is none.
     pub fn line(&self, slot: SlotNo, visit: Visit) -> Option<Line>
         requires { IsKey self.now.params (slot, visit) }
         ensures { result ≡ line_at (slot, visit) self.now.lines }
@@ -81,7 +84,7 @@ impl View {
         }
     }
 
-    /// The instance that has a slot and a visit; `None` exactly where there is none.
+    /// The instance that has a slot and a visit; `None` exactly if there is none.
     pub fn has(&self, slot: SlotNo, visit: Visit) -> Option<Instance>
         requires { IsKey self.now.params (slot, visit) }
         ensures { result ≡ option_map instance_of (line_at (slot, visit) self.now.lines) }
@@ -92,14 +95,15 @@ impl View {
         }
     }
 
-    /// The first record of an instance; `None` exactly where it has none.
+    /// The first record of an instance; `None` exactly if it has none.
     pub fn first_of(&self, instance: Instance) -> Option<Rec>
         ensures { result ≡ option_map (λ x. x.rec) (first_of instance self.now.lines) }
     {
         first_of(&self.lines, instance)
     }
 
-    /// The next line behind a slot and visit, or the first where none is given; `None` exactly where there is none.
+    /// The next line behind a slot and visit, or the first if none is given; `None` exactly if
+    /// there is none.
     pub fn after(&self, key: Option<(SlotNo, Visit)>) -> Option<Line>
         requires { ForSome key (IsKey self.now.params) }
         ensures next { result ≡ next_behind self.now.params key self.now.lines }
@@ -110,8 +114,8 @@ impl View {
         line_from(&self.lines, place)
     }
 
-    /// The next line behind a slot and visit, as `after` gives it. Their line is looked for at a place first, which is where a
-    /// walk that takes no line out finds it; any place serves.
+    /// The next line behind a slot and visit, as `after` gives it. Their line is looked for at a
+    /// place first, which is where a walk that takes no line out finds it; any place serves.
     pub fn after_near(&self, place: usize, key: (SlotNo, Visit)) -> Option<Line>
         requires { IsKey self.now.params key }
         ensures next { result ≡ next_behind self.now.params (Some key) self.now.lines }
@@ -122,10 +126,11 @@ impl View {
         line_from(&self.lines, behind)
     }
 
-    /// The first record that is due at a reading; `None` exactly where none is.
+    /// The first record that is due at a reading; `None` exactly if none is.
     pub fn due_before(&self, reading: Micros) -> Option<Rec>
         requires { reading ≤ most_reading }
-        ensures { result ≡ option_map (λ x. x.rec) (line_due self.now.params reading self.now.lines) }
+        ensures { result ≡
+            option_map (λ x. x.rec) (line_due self.now.params reading self.now.lines) }
     {
         let line = line_from(&self.lines, 0)?;
         if self.plan.due(line.rec.tenancy.slot, line.rec.visit) <= reading {
@@ -135,11 +140,13 @@ impl View {
         }
     }
 
-    /// Sets a flag at a slot and visit; `false` exactly where there is no line.
+    /// Sets a flag at a slot and visit; `false` exactly if there is no line.
     pub fn mark(&mut self, slot: SlotNo, visit: Visit, flag: Flag) -> bool
         requires { IsKey self.old.params (slot, visit) }
         ensures found { result ≡ is_some (line_at (slot, visit) self.old.lines) }
-        ensures marked { self.new ≡ record self.old { lines = with_mark (slot, visit) flag self.old.lines } }
+        ensures marked { self.new ≡ record self.old {
+          lines = with_mark (slot, visit) flag self.old.lines;
+        } }
     {
         match place_of(&self.plan, &self.lines, (slot, visit)) {
             Ok(place) => {
@@ -150,7 +157,7 @@ impl View {
         }
     }
 
-    /// Removes the record of a slot and visit, and gives it; `None` exactly where there was none.
+    /// Removes the record of a slot and visit, and gives it; `None` exactly if there was none.
     pub fn remove(&mut self, slot: SlotNo, visit: Visit) -> Option<Rec>
         requires { IsKey self.old.params (slot, visit) }
         ensures record { result ≡ option_map (λ x. x.rec) (line_at (slot, visit) self.old.lines) }
@@ -165,7 +172,9 @@ impl View {
     /// Removes all records of an instance, and says how many there were.
     pub fn remove_instance(&mut self, instance: Instance) -> u64
         ensures count { result ≡ count_by (is_of instance) self.old.lines }
-        ensures left { self.new ≡ record self.old { lines = without_instance instance self.old.lines } }
+        ensures left { self.new ≡ record self.old {
+          lines = without_instance instance self.old.lines;
+        } }
     {
         let number = instance.0;
         let before = self.lines.len();
@@ -175,7 +184,7 @@ impl View {
     }
 }
 
-/// What to answer where the slot and visit of a record are taken.
+/// What to answer if the slot and visit of a record are taken.
 fn known(wanted: Instance, there: Instance) -> Added
     ensures { result ≡ answer_by wanted there }
 {
@@ -206,7 +215,7 @@ fn line_from(lines: &VecDeque<Line>, place: usize) -> Option<Line>
     lines.get(place).copied()
 }
 
-/// Where the first line behind a visit stands, or the first of all where none is given.
+/// Where the first line behind a visit stands, or the first of all if none is given.
 fn place_behind(plan: &Plan, lines: &VecDeque<Line>, given: Option<(SlotNo, Visit)>) -> usize
     requires given { ForSome given (IsKey plan.now.params) }
     requires walk { IsWalk plan.now.params lines.now.items }
@@ -227,7 +236,8 @@ fn place_near(plan: &Plan, lines: &VecDeque<Line>, place: usize, key: (SlotNo, V
     requires key { IsKey plan.now.params key }
     requires walk { IsWalk plan.now.params lines.now.items }
     requires fits { length lines.now.items < 2 ^ 63 }
-    ensures { slice_get lines.now.items result ≡ next_behind plan.now.params (Some key) lines.now.items }
+    ensures { slice_get lines.now.items result ≡
+        next_behind plan.now.params (Some key) lines.now.items }
 {
     if place < lines.len() && lines[place].key() == key {
         place + 1
@@ -240,7 +250,8 @@ fn place_near(plan: &Plan, lines: &VecDeque<Line>, place: usize, key: (SlotNo, V
 fn place_of(plan: &Plan, lines: &VecDeque<Line>, key: (SlotNo, Visit)) -> Result<usize, usize>
     requires key { IsKey plan.now.params key }
     requires walk { IsWalk plan.now.params lines.now.items }
-    ensures { MatchResult result (λ place. IsFoundAt key lines.now.items place) (λ place. IsGapAt plan.now.params key lines.now.items place) }
+    ensures { MatchResult result (λ place. IsFoundAt key lines.now.items place)
+        (λ place. IsGapAt plan.now.params key lines.now.items place) }
 {
     let place = first_not_before(plan, lines, key);
     if place < lines.len() && lines[place].key() == key {

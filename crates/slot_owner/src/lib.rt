@@ -11,8 +11,8 @@ use partial_view::View;
 use slot_plan::Plan;
 use tiger_base::{DiskNo, Micros, SlotNo, Visit};
 
-/// The first visit of a disk in the window of which the view has no record, by due time and then slot; `None` says that
-/// every visit of the disk in the window has one. It takes no memory.
+/// The first visit of a disk in the window that the view has no record of, by due time and then
+/// slot; `None` says that every visit of the disk in the window has one. It takes no memory.
 pub fn free_visit(
     plan: &Plan,
     view: &View,

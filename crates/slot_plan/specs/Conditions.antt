@@ -78,7 +78,9 @@ tests p =
 -- the first test that fails, numbered from n on
 abbrev pub first_false : ℕ → List Test → Option PlanFault
 first_false n [] = None
-first_false n (t ∷ ts) = if t.0 then first_false (n + 1) ts else Some (record { condition = n; left = t.1; right = t.2 })
+first_false n (t ∷ ts) =
+    if t.0 then first_false (n + 1) ts
+    else Some (record { condition = n; left = t.1; right = t.2 })
 
 -- the first false condition, if there is one
 unfoldable pub plan_fault : Params → Option PlanFault

@@ -22,12 +22,12 @@ is_earlier p a b =
     nat_lt (due_of p a) (due_of p b)
     || (due_of p a == due_of p b && (nat_lt a.0.0 b.0.0 || (a.0.0 == b.0.0 && nat_lt a.1 b.1)))
 
--- whether a visit comes behind a given one, where one is given
+-- whether a visit comes behind a given one, if one is given
 unfoldable pub is_behind : Params → Option Key → Key → Bool
 is_behind p None k = true
 is_behind p (Some a) k = is_earlier p a k
 
--- the earlier one of two visits, where both are there
+-- the earlier one of two visits, if both are there
 unfoldable pub sooner : Params → Option Key → Option Key → Option Key
 sooner p None b = b
 sooner p (Some a) None = Some a

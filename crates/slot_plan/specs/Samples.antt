@@ -1,8 +1,9 @@
 -- The plan of worked examples and of tests.
 use Rattle.slot_plan.specs.declared.params.Params.{Params}
 
--- Eight cubs of one disk each, and sixteen slots: visit 0 of slot 1 is due after half a second. A block play time has 100
--- beats, each of 10000 microseconds; a block has two mirror pieces, and a message takes at most two beats.
+-- Eight cubs of one disk each, and sixteen slots: visit 0 of slot 1 is due after half a second. A
+-- block play time has 100 beats, each of 10000 microseconds; a block has two mirror pieces, and a
+-- message takes at most two beats.
 abbrev pub small : Params
 small = record {
   cubs = 8;

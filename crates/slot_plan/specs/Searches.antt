@@ -21,15 +21,18 @@ pub record IsFirstFrom (p : Params) (disk time : ℕ) (k : Key) : Type 0 where
   pub in_plan : k.0.0 < p.slots
   pub on_disk : disk_of p k.1 ≡ disk
   pub from : time ≤ due_of p k
-  pub first : (j : Key) → j.0.0 < p.slots → disk_of p j.1 ≡ disk → time ≤ due_of p j → due_of p k ≤ due_of p j
+  pub first : (j : Key) → j.0.0 < p.slots → disk_of p j.1 ≡ disk → time ≤ due_of p j
+      → due_of p k ≤ due_of p j
 
--- each visit of the disk that comes into the window after one reading comes into it at another one or later
+-- each visit of the disk that comes into the window after one reading comes into it at another one
+-- or later
 abbrev pub EntersFrom : Params → ℕ → ℕ → ℕ → Type 0
 EntersFrom p disk reading until =
     (k : Key) → k.0.0 < p.slots → disk_of p k.1 ≡ disk
     → reading + p.window_a < due_of p k → until + p.window_a ≤ due_of p k
 
--- the next visit of the disk that comes into the window after one reading comes into it at another one
+-- the next visit of the disk that comes into the window after one reading comes into it at another
+-- one
 pub record IsNextEntry (p : Params) (disk reading until : ℕ) : Type 0 where
   pub key : Key
   pub next : IsFirstFrom p disk (reading + p.window_a + 1) key

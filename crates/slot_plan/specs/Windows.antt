@@ -20,19 +20,22 @@ pub record IsLeastOpen (p : Params) (reading disk : ℕ) (test : Key → Bool) (
 abbrev pub is_open : Params → ℕ → ℕ → (Key → Bool) → Key → Bool
 is_open p reading disk test k = (disk_of p k.1 == disk) && in_window p reading k.0.0 k.1 && test k
 
--- a visit, where it passes a test
+-- a visit, if it passes a test
 abbrev pub passing : (Key → Bool) → ℕ → Option ℕ → Option Key
 passing test slot None = None
-passing test slot (Some n) = if test (record { 0 = slot }, n) then Some (record { 0 = slot }, n) else None
+passing test slot (Some n) =
+    if test (record { 0 = slot }, n) then Some (record { 0 = slot }, n) else None
 
--- the one visit of a slot that can be in the window, the last that is due when the window opens, where it passes a test
+-- the one visit of a slot that can be in the window, the last that is due when the window opens, if
+-- it passes a test
 unfoldable pub slot_visit : Params → ℕ → (Key → Bool) → ℕ → Option Key
 slot_visit p reading test slot = passing test slot (visit_by p slot (reading + p.window_a))
 
 -- the earliest of these visits of the slots below a number
 unfoldable pub least_below : Params → ℕ → (Key → Bool) → ℕ → Option Key
 least_below p reading test zero = None
-least_below p reading test (suc s) = sooner p (slot_visit p reading test s) (least_below p reading test s)
+least_below p reading test (suc s) =
+    sooner p (slot_visit p reading test s) (least_below p reading test s)
 
 -- of the visits of a disk that are in the window and pass a test, the one before all others
 unfoldable pub least_visit : Params → ℕ → ℕ → (Key → Bool) → Option Key

@@ -32,9 +32,9 @@ pub struct Params {
     pub min_lead: u64,
     /// How long before its due time a visit's state is forwarded at the earliest.
     pub max_lead: u64,
-    /// In each so many beats there is one in which a cub forwards ahead of the latest time.
+    /// A cub forwards ahead of the latest time in one of this number of beats.
     pub batch: u64,
-    /// In each so many beats there is one in which a cub sends a heartbeat.
+    /// A cub sends a heartbeat in one of this number of beats.
     pub heart: u64,
     /// The silence after which a cub is believed dead.
     pub deadman: u64,
@@ -57,7 +57,8 @@ pub struct PlanFault {
 pub(crate) fn below(condition: u32, left: u64, right: u64) -> Result<(), PlanFault>
     ensures ok { OnOk result (left < right) }
     ensures err { OnErr result (right ≤ left) }
-    ensures fault { IfErr result (λ f. f ≡ record { condition = condition; left = left; right = right }) }
+    ensures fault { IfErr result (λ f.
+        f ≡ record { condition = condition; left = left; right = right }) }
 {
     if left < right {
         Ok(())
@@ -74,7 +75,8 @@ pub(crate) fn below(condition: u32, left: u64, right: u64) -> Result<(), PlanFau
 pub(crate) fn at_most(condition: u32, left: u64, right: u64) -> Result<(), PlanFault>
     ensures ok { OnOk result (left ≤ right) }
     ensures err { OnErr result (right < left) }
-    ensures fault { IfErr result (λ f. f ≡ record { condition = condition; left = left; right = right }) }
+    ensures fault { IfErr result (λ f.
+        f ≡ record { condition = condition; left = left; right = right }) }
 {
     if left <= right {
         Ok(())

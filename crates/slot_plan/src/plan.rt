@@ -93,7 +93,8 @@ impl Plan {
         DiskNo((visit % (self.params.cubs * self.params.disks)) as u32)
     }
 
-    /// How long a death may go unnoticed: what is due this long after it, or later, is taken over in time.
+    /// How long a death may go unnoticed: what is due this long after it, or later, is taken over
+    /// in time.
     #[tactic(auto, unfolding(crate::specs::Times::takeover))]
     pub fn takeover(&self) -> Micros
         ensures value { result ≡ takeover self.now.params }
@@ -115,7 +116,8 @@ impl Plan {
         due <= reading + self.params.window_a && due > reading + self.params.window_b
     }
 
-    /// The last visit of the slot that is due at the reading or before it, and `None` before the slot's first.
+    /// The last visit of the slot that is due at the reading or before it, and `None` before the
+    /// slot's first.
     pub fn visit_at_or_before(&self, slot: SlotNo, reading: Micros) -> Option<Visit>
         requires slot { slot.0 < self.now.params.slots }
         requires reading { reading ≤ most_reading }
@@ -127,7 +129,8 @@ impl Plan {
         self.visit_by(slot, reading)
     }
 
-    /// The last visit of the slot that is due at a time, which may be a window's length behind the last reading, or before it.
+    /// The last visit of the slot that is due at a time, which may be a window's length behind the
+    /// last reading, or before it.
     #[tactic(auto, unfolding(crate::specs::Times::visit_by))]
     fn visit_by(&self, slot: SlotNo, time: Micros) -> Option<Visit>
         requires slot { slot.0 < self.now.params.slots }
@@ -155,8 +158,9 @@ impl Plan {
         due_a < due_b || (due_a == due_b && (a.0.0 < b.0.0 || (a.0.0 == b.0.0 && a.1 < b.1)))
     }
 
-    /// The next visit of the disk, by due time and then slot, that is in the window when a clock shows the reading, and
-    /// comes behind the given one, where one is given. `None` says that there is none.
+    /// The next visit of the disk, by due time and then slot, that is in the window when a clock
+    /// shows the reading, and comes behind the given one, if one is given. `None` says that there
+    /// is none.
     pub fn next_window_visit(
         &self,
         reading: Micros,
@@ -165,7 +169,8 @@ impl Plan {
     ) -> Option<(SlotNo, Visit)>
         requires reading { reading ≤ most_reading }
         requires after { ForSome after (IsKey self.now.params) }
-        ensures visit { let p = self.now.params in result ≡ least_visit p reading disk.0 (is_behind p after) }
+        ensures visit { let p = self.now.params in
+            result ≡ least_visit p reading disk.0 (is_behind p after) }
         ensures next { let p = self.now.params in
             MatchOption result
             ((k : Key) → ¬ IsOpen p reading disk.0 (is_behind p after) k)
@@ -247,7 +252,7 @@ impl Plan {
         }
     }
 
-    /// Whether a visit comes behind the given one, where one is given.
+    /// Whether a visit comes behind the given one, if one is given.
     #[tactic(auto, unfolding(crate::specs::Keys::is_behind))]
     fn is_behind(&self, after: Option<(SlotNo, Visit)>, key: (SlotNo, Visit)) -> bool
         requires key { IsKey self.now.params key }
@@ -260,12 +265,13 @@ impl Plan {
         }
     }
 
-    /// Numbers in their ranges of which no condition is false are a plan.
+    /// Numbers in their ranges are a plan if no condition is false.
     pub fn sound_without_fault()
         ensures { (p : Params) → IsInRange p → plan_fault p ≡ None → IsPlan p }
     {}
 
-    /// Whatever the test, what the function of the next visit finds is the visit before all others, and only that.
+    /// Whatever the test, what the function of the next visit finds is the visit before all others,
+    /// and only that.
     pub fn least_visit_laws(&self)
         ensures found { let p = self.now.params in (reading disk : ℕ) (test : Key → Bool) →
             MatchOption (least_visit p reading disk test)

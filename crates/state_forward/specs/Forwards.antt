@@ -1,4 +1,5 @@
--- When a cub forwards the state of the visit behind a record's, and to whom it sends the state of a visit.
+-- When a cub forwards the state of the visit behind a record's, and to whom it sends the state of a
+-- visit.
 use Rattle.std.specs.Prelude.{ℕ, ◌+◌, ◌%◌, Bool, ◌&&◌, ◌||◌, ◌==◌, nat_lt, nat_le, List, [], ◌∷◌, if◌then◌else◌}
 use Rattle.tiger_base.specs.declared.number.Stamp.{Stamp}
 use Rattle.tiger_base.specs.declared.number.CubNo.{CubNo}
@@ -29,9 +30,11 @@ is_in_lead p stamp rec =
     is_next_due p rec (stamp.reading + p.min_lead)
     || (is_batch_beat p stamp.beat && is_next_due p rec (stamp.reading + p.max_lead))
 
--- whether the state of the next visit is forwarded: of an own record below its tenancy's last visit, in time
+-- whether the state of the next visit is forwarded: of an own record below its tenancy's last
+-- visit, in time
 unfoldable pub must_forward : Params → Stamp → Rec → Bool
-must_forward p stamp rec = is_own rec.kind && nat_lt rec.visit rec.tenancy.last && is_in_lead p stamp rec
+must_forward p stamp rec =
+    is_own rec.kind && nat_lt rec.visit rec.tenancy.last && is_in_lead p stamp rec
 
 -- the cubs that care for a visit: that of the visit, and that of the next
 unfoldable pub targets : Params → ℕ → List CubNo

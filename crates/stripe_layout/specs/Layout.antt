@@ -13,7 +13,8 @@ pub record IsCatalogue (files : List FileInfo) (block disks : ℕ) : Type 0 wher
   pub disks_low : 1 ≤ disks
   pub disks_high : disks ≤ 512
 
--- a block's bytes, in a file of so many bytes: from the block's start to that of the next, or to the file's end
+-- a block's bytes, in a file of this length: from the block's start to that of the next, or to the
+-- file's end
 unfoldable pub block_span : FileNo → ℕ → ℕ → ℕ → Span
 block_span file len size block =
     record { file = file; from = block * size; len = min ((block + 1) * size) len - block * size }

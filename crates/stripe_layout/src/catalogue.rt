@@ -24,7 +24,7 @@ impl Catalogue {
     ghost use Rattle.std.specs.Prelude.{◌≡◌, ◌↔◌, ◌≤◌, length, IsNone};
     ghost use Rattle.stripe_layout.specs.Places.{block_count, place_of};
 
-    /// The number of blocks of a file; 0 exactly where there is no such file.
+    /// The number of blocks of a file; 0 exactly if there is no such file.
     #[tactic(auto, unfolding(crate::specs::Places::block_count))]
     pub fn block_count(&self, file: FileNo) -> u64
         ensures value { result ≡ block_count self.now file.0 }
@@ -36,8 +36,8 @@ impl Catalogue {
         }
     }
 
-    /// Where a block of a file lies, blocks being counted from 0; `None` exactly where the file has
-    /// no such block.
+    /// Where a block of a file lies, blocks being counted from 0; `None` exactly if the file has no
+    /// such block.
     #[tactic(auto, unfolding(crate::specs::Places::place_of, crate::specs::Places::block_count))]
     pub fn place(&self, file: FileNo, block: u64) -> Option<Place>
         ensures value { result ≡ place_of self.now file block }

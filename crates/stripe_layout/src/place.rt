@@ -12,7 +12,8 @@ pub struct Place {
     pub span: Span,
 }
 
-/// The disk that is so many disks after the first one, round all disks.
+/// The disk that a block is on: as many disks after the first one as the block's number, round all
+/// disks.
 pub fn disk_after(first: DiskNo, block: u64, disks: u32) -> DiskNo
     requires { 1 ≤ disks }
     ensures { result.0 ≡ (first.0 + block) % disks }
@@ -22,7 +23,7 @@ pub fn disk_after(first: DiskNo, block: u64, disks: u32) -> DiskNo
     DiskNo(disk as u32)
 }
 
-/// The bytes of a block of a file of `len` bytes, where a full block has `size` bytes.
+/// The bytes of a block of a file of `len` bytes, if a full block has `size` bytes.
 #[tactic(auto, unfolding(crate::specs::Layout::block_span))]
 pub fn span_of(file: FileNo, len: u64, size: u64, block: u64) -> Span
     requires sized { 1 ≤ size }

@@ -1,4 +1,4 @@
-//! The blocks of a file of ten bytes, of which a full block has four.
+//! The blocks of a file of ten bytes, if a full block has four.
 
 use crate::{Catalogue, FileInfo, Place};
 use std::test::Fail;

@@ -1,4 +1,5 @@
-//! What every other crate speaks of: numbers and their limits, tenancies, files and their parts, and messages.
+//! What every other crate speaks of: numbers and their limits, tenancies, files and their parts,
+//! and messages.
 #![tactic(auto)]
 
 mod library;

@@ -24,7 +24,7 @@ impl Model for Library {
 }
 
 impl Library {
-    /// A library of these files, the first of which has number 0.
+    /// A library of these files; the first has number 0.
     pub fn new(files: Vec<Vec<u8>>) -> Library
         requires { vec_len files < 2 ^ 32 }
         ensures { result ≡ contents files.items }
@@ -32,7 +32,7 @@ impl Library {
         Library { files }
     }
 
-    /// The bytes of a file; `None` exactly where there is no such file.
+    /// The bytes of a file; `None` exactly if there is no such file.
     pub fn file(&self, file: FileNo) -> Option<&[u8]>
         ensures { option_copied result ≡ slice_get self.now file.0 }
     {

@@ -36,7 +36,7 @@ pub enum Msg<'a> {
     Heartbeat,
     /// Asks a disk for a block or a piece.
     ReadAsk(Want),
-    /// The disk's answer, with no part where the read failed.
+    /// The disk's answer, with no part if the read failed.
     ReadDone {
         want: Want,
         part: Option<Part<'a>>,
@@ -92,7 +92,7 @@ pub enum Note {
     },
 }
 
-/// A message of which a journal keeps a note. Nodes, runners and links are generic in it, since a
+/// A message that a journal keeps a note of. Nodes, runners and links are generic in it, since a
 /// bound that names the lifetime of `Msg` can stand neither in a type's invariant nor in a thread.
 pub trait Message: Drop {
     ghost note_of: { Self → Note };

@@ -33,7 +33,7 @@ impl<'a> Model for Part<'a> {
 }
 
 impl<'a> Part<'a> {
-    /// The part; `None` exactly where the bytes are not the library's bytes of the span, or the span
+    /// The part; `None` exactly if the bytes are not the library's bytes of the span, or the span
     /// reaches past its file.
     pub fn of(library: &'a Library, span: Span, bytes: &'a [u8]) -> Option<Part<'a>>
         ensures part { IfSome result (λ p. p ≡ record { library = library.now; span = span }) }

@@ -56,7 +56,7 @@ impl<X> Sequence<X> {
         self.items.as_slice()
     }
 
-    /// The element at an index, counted from 0; `None` exactly where there is none.
+    /// The element at an index, counted from 0; `None` exactly if there is none.
     pub fn get(&self, index: usize) -> Option<&X>
         ensures { option_copied result ≡ slice_get self.now index }
     {

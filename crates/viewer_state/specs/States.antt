@@ -13,7 +13,8 @@ is_visit_of t visit = nat_le t.first visit && nat_le visit t.last
 
 -- the state of a visit, if the visit is one of the tenancy's
 abbrev pub state_for : Tenancy → ℕ → Option State
-state_for t visit = if is_visit_of t visit then Some (record { tenancy = t; visit = visit }) else None
+state_for t visit =
+    if is_visit_of t visit then Some (record { tenancy = t; visit = visit }) else None
 
 -- the state of the visit behind a state's, if the tenancy has one
 abbrev pub next_state : State → Option State

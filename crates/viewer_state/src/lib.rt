@@ -6,7 +6,7 @@ ghost use Rattle.viewer_state.specs.States.{IsVisitOf, state_for, next_state};
 
 use tiger_base::{State, Tenancy, Visit};
 
-/// The tenancy's state of a visit; `None` exactly where the visit lies outside first..last.
+/// The tenancy's state of a visit; `None` exactly if the visit lies outside first..last.
 pub fn state_for(tenancy: Tenancy, visit: Visit) -> Option<State>
     ensures state { result ≡ state_for tenancy visit }
     ensures visit { MatchOption result (¬ IsVisitOf tenancy visit) (λ s. IsVisitOf tenancy visit) }
@@ -18,11 +18,12 @@ pub fn state_for(tenancy: Tenancy, visit: Visit) -> Option<State>
     }
 }
 
-/// The state of the next visit; `None` exactly where the visit is the tenancy's last.
+/// The state of the next visit; `None` exactly if the visit is the tenancy's last.
 pub fn derive_next(state: State) -> Option<State>
     requires { IsVisitOf state.tenancy state.visit }
     ensures next { result ≡ next_state state }
-    ensures last { MatchOption result (state.visit ≡ state.tenancy.last) (λ s. state.visit < state.tenancy.last) }
+    ensures last { MatchOption result (state.visit ≡ state.tenancy.last)
+        (λ s. state.visit < state.tenancy.last) }
 {
     if state.visit == state.tenancy.last {
         None
