@@ -12,29 +12,9 @@ use Rattle.node_kit.specs.declared.outbox.Out.TheVariants as out
 use Rattle.node_kit.specs.Steps.{Input, Deed}
 use Rattle.run_facts.specs.Events.{NodeEvent, Past, Dated, after, outs_of, stamp_at, sends_of, sends_along}
 use Rattle.run_facts.specs.Accounts.{Rising, AreInOrder}
-use Rattle.run_facts.proofs.Rows.{all-append, all-weaker, filter-all, filter-none}
+use Rattle.run_facts.proofs.Rows.{all-weaker, filter-all, filter-none}
+use Rattle.run_facts.proofs.Along.{sends_of-dated, sends-dated}
 use Rattle.one_answer.proofs.Dated.{events_below, dated_below, order-lower}
-
--- what is sent has the beats of the events that send it
-sends_of-dated : {M : Type 0} (P : ℕ → Type 0) (l beat : ℕ) (os : List (Out M)) → P beat
-    → AllByRecursion (λ (d : Dated M). P d.beat) (sends_of l beat os)
-sends_of-dated P l beat [] h = tt
-sends_of-dated P l beat (out.Send link msg ∷ os) h = ⊎_elim
-    (λ (e : (link.0 == l) ≡ true). rw e (h, sends_of-dated P l beat os h))
-    (λ (e : (link.0 == l) ≡ false). rw e (sends_of-dated P l beat os h))
-    (cases_Bool (link.0 == l))
-sends_of-dated P l beat (out.Act what ∷ os) h = sends_of-dated P l beat os h
-
-sends-dated : {M S : Type 0} (note : M → Note) (step : S → Input M → Deed M S) (P : ℕ → Type 0) (l : ℕ)
-    (es : List (NodeEvent M)) (past : Past S)
-    → AllByRecursion (λ e. P (stamp_at e).beat) es
-    → AllByRecursion (λ (d : Dated M). P d.beat) (sends_along note step l es past)
-sends-dated note step P l [] past h = tt
-sends-dated {M} note step P l (e ∷ es) past h =
-    let next = after note step e past in
-    let here = sends_of l (stamp_at e).beat (outs_of step e past) in
-    all-append (λ (d : Dated M). P d.beat) here (sends_along note step l es next)
-    (sends_of-dated P l (stamp_at e).beat (outs_of step e past) h.0) (sends-dated note step P l es next h.1)
 
 -- what is sent below a beat is what the events below it send
 pub sends-below : {M S : Type 0} (note : M → Note) (step : S → Input M → Deed M S) (b l : ℕ)

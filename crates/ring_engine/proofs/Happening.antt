@@ -21,6 +21,7 @@ use Rattle.run_facts.specs.Rings.{Traffic}
 use Rattle.run_facts.specs.Beats.{arrived, is_taken, letter_events, end_events, beat_events}
 use Rattle.run_facts.specs.Events.{NodeEvent, Past, after, after_all, after_input, kept_outs, AreFair}
 use Rattle.run_facts.specs.Events.NodeEvent.{Does, Dies}
+use Rattle.run_facts.proofs.Along.{fair-append}
 use Rattle.ring_engine.specs.Turns.{Scene, scene, turn, happens, happen, links_of_letters, IsReady, IsReadyFor, KeepsReady}
 use Rattle.ring_engine.proofs.Arriving.{length-posted, length-after_collecting, AreOpen-posted, AreOpen-after_collecting}
 use Rattle.ring_engine.proofs.Delivering.{postable-allowed}
@@ -254,15 +255,10 @@ happen-append : {M S : Type 0} (note : M → Note) (step : S → Input M → Dee
 happen-append note step [] fs s = refl
 happen-append note step (e ∷ es) fs s = happen-append note step es fs (happens note step e s)
 
-happen-past : {M S : Type 0} (note : M → Note) (step : S → Input M → Deed M S) (es : List (NodeEvent M)) (s : Scene M S)
+pub happen-past : {M S : Type 0} (note : M → Note) (step : S → Input M → Deed M S) (es : List (NodeEvent M)) (s : Scene M S)
     → (happen note step es s).past ≡ after_all note step es s.past
 happen-past note step [] s = refl
 happen-past note step (e ∷ es) s = happen-past note step es (happens note step e s)
-
-fair-append : {M S : Type 0} (note : M → Note) (step : S → Input M → Deed M S) (p : Params) (n : ℕ) (es fs : List (NodeEvent M)) (past : Past S)
-    → AreFair note step p n es past → AreFair note step p n fs (after_all note step es past) → AreFair note step p n (es ++ fs) past
-fair-append note step p n [] fs past h g = g
-fair-append note step p n (e ∷ es) fs past h g = (h.0, fair-append note step p n es fs (after note step e past) h.1 g)
 
 -- a whole turn
 pub turned : {M S : Type 0} (note : M → Note) (step : S → Input M → Deed M S) (stamp : Stamp) (links : List LinkNo) (past : Past S) (ts ts' : List (Traffic M))

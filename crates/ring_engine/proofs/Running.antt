@@ -24,6 +24,7 @@ use Rattle.node_kit.specs.Courses.{stamp_in}
 use Rattle.ring_engine.specs.Places.{new_channel, IsSound, HasLived, AllHaveLived, AreInLinks}
 use Rattle.node_kit.specs.Rows.{each_below, AllStand}
 use Rattle.ring_engine.specs.Whole.{opening_ring, with_node, brought_to, HaveTurns, HavePassed, IsWholeRun}
+use Rattle.ring_engine.proofs.Happening.{happen-past}
 use Rattle.node_kit.proofs.Rows.{length-each_below, get-each_below, get-below, links_into-lead}
 use Rattle.run_facts.proofs.Rows.{same-element}
 
@@ -45,11 +46,6 @@ length-set_at (z ∷ zs) zero x = refl
 length-set_at (z ∷ zs) (suc n) x = ap suc (length-set_at zs n x)
 
 -- what a turn makes of the node alone
-happen-past : {M S : Type 0} (note : M → Note) (step : S → Input M → Deed M S) (es : List (NodeEvent M)) (s : Scene M S)
-    → (happen note step es s).past ≡ after_all note step es s.past
-happen-past note step [] s = refl
-happen-past note step (e ∷ es) s = happen-past note step es (happens note step e s)
-
 pub turn-past : {M S : Type 0} (note : M → Note) (step : S → Input M → Deed M S) (stamp : Stamp) (links : List LinkNo) (s : Scene M S)
     → (turn note step stamp links s).past ≡ after_beat note step stamp (collected stamp.beat links s.channels) s.past
 unfolding turn

@@ -1,5 +1,5 @@
 -- Events one after another: what they write, send and take.
-use Rattle.std.proofs.Common.{◌≡◌, ℕ, List, [], ◌∷◌, ◌++◌, map, true, false, Some, None, refl, ap, sym, ◌∙◌, subst, ⊎_elim, append_assoc, append-nil}
+use Rattle.std.proofs.Common.{◌≡◌, ℕ, List, [], ◌∷◌, ◌++◌, map, true, false, Some, None, refl, ap, sym, ◌∙◌, ⊎_elim, append_assoc, append-nil}
 use Rattle.std.specs.Prelude.{◌==◌}
 use Rattle.std.specs.List.{AllByRecursion}
 use Rattle.std.proofs.lemmas.List.{map-append}
@@ -76,22 +76,31 @@ pub fair-append : {M S : Type 0} (note : M → Note) (step : S → Input M → D
 fair-append note step p n [] fs past h g = g
 fair-append note step p n (e ∷ es) fs past h g = (h.0, fair-append note step p n es fs (after note step e past) h.1 g)
 
--- what happens in one beat is sent in it
-sends-dated : {M : Type 0} (l beat : ℕ) (os : List (Out M)) → AllByRecursion (λ (d : Dated M). d.beat ≡ beat) (sends_of l beat os)
-sends-dated l beat [] = tt
-sends-dated l beat (out.Send link msg ∷ os) = ⊎_elim
-    (λ (e : (link.0 == l) ≡ true). rw e (refl, sends-dated l beat os))
-    (λ (e : (link.0 == l) ≡ false). rw e (sends-dated l beat os))
+-- what is sent has the beats of the events that send it
+pub sends_of-dated : {M : Type 0} (P : ℕ → Type 0) (l beat : ℕ) (os : List (Out M)) → P beat
+    → AllByRecursion (λ (d : Dated M). P d.beat) (sends_of l beat os)
+sends_of-dated P l beat [] h = tt
+sends_of-dated P l beat (out.Send link msg ∷ os) h = ⊎_elim
+    (λ (e : (link.0 == l) ≡ true). rw e (h, sends_of-dated P l beat os h))
+    (λ (e : (link.0 == l) ≡ false). rw e (sends_of-dated P l beat os h))
     (cases_Bool (link.0 == l))
-sends-dated l beat (out.Act what ∷ os) = sends-dated l beat os
+sends_of-dated P l beat (out.Act what ∷ os) h = sends_of-dated P l beat os h
 
+pub sends-dated : {M S : Type 0} (note : M → Note) (step : S → Input M → Deed M S) (P : ℕ → Type 0) (l : ℕ)
+    (es : List (NodeEvent M)) (past : Past S)
+    → AllByRecursion (λ e. P (stamp_at e).beat) es
+    → AllByRecursion (λ (d : Dated M). P d.beat) (sends_along note step l es past)
+sends-dated note step P l [] past h = tt
+sends-dated {M} note step P l (e ∷ es) past h =
+    let next = after note step e past in
+    let here = sends_of l (stamp_at e).beat (outs_of step e past) in
+    all-append (λ (d : Dated M). P d.beat) here (sends_along note step l es next)
+    (sends_of-dated P l (stamp_at e).beat (outs_of step e past) h.0) (sends-dated note step P l es next h.1)
+
+-- what happens in one beat is sent in it
 pub sends-in_beat : {M S : Type 0} (note : M → Note) (step : S → Input M → Deed M S) (l beat : ℕ) (es : List (NodeEvent M)) (past : Past S)
     → AllByRecursion (λ e. (stamp_at e).beat ≡ beat) es → AllByRecursion (λ (d : Dated M). d.beat ≡ beat) (sends_along note step l es past)
-sends-in_beat note step l beat [] past h = tt
-sends-in_beat {M} note step l beat (e ∷ es) past h =
-    all-append (λ (d : Dated M). d.beat ≡ beat) (sends_of l (stamp_at e).beat (outs_of step e past)) (sends_along note step l es (after note step e past))
-    (subst (λ b. AllByRecursion (λ (d : Dated M). d.beat ≡ b) (sends_of l (stamp_at e).beat (outs_of step e past))) h.0 (sends-dated l (stamp_at e).beat (outs_of step e past)))
-    (sends-in_beat note step l beat es (after note step e past) h.1)
+sends-in_beat note step l beat es past h = sends-dated note step (λ b. b ≡ beat) l es past h
 
 -- a node sends nothing on a link that leads from another
 sends-elsewhere : {M : Type 0} (note : M → Note) (p : Params) (n from to l beat : ℕ) (os : List (Out M)) → ends_of (links_of p) l ≡ Some (from, to) → (from ≡ n → ⊥)

@@ -1,5 +1,5 @@
 -- What a node's events write: when, by which link, until which death, and at which end of a link.
-use Rattle.std.proofs.Common.{◌≡◌, ℕ, ◌+◌, ◌<◌, ◌≤◌, List, [], ◌∷◌, ◌++◌, map, Bool, true, false, Option, Some, None, refl, ap, sym, ◌∙◌, subst, arith, cond, ⊎_elim}
+use Rattle.std.proofs.Common.{◌≡◌, ℕ, ◌<◌, ◌≤◌, List, [], ◌∷◌, ◌++◌, map, Bool, true, false, Option, Some, None, refl, ap, sym, ◌∙◌, subst, arith, cond, ⊎_elim}
 use Rattle.std.specs.Prelude.{nat_lt}
 use Rattle.std.specs.List.{AllByRecursion}
 use Rattle.std.proofs.lemmas.Bool.{cases_Bool}
@@ -21,7 +21,7 @@ use Rattle.run_facts.specs.Events.NodeEvent.{Does, Dies}
 use Rattle.run_facts.specs.Carried.{IsAtItsEnd}
 use Rattle.run_facts.specs.Paced.{IsByLink, AreByLink}
 use Rattle.run_facts.specs.Timed.{IsRead, IsNotBelow, AreRising, is_died, death_within, IsDeathOf, IsTimed}
-use Rattle.run_facts.specs.Accounts.{Rising, IsLed, IsInTurn, AreInTurn, LivesBy, AreAlive, EndAt, IsTimeline, IsClockOf, front}
+use Rattle.run_facts.specs.Accounts.{Rising, IsLed, IsInTurn, AreInTurn, LivesBy, AreAlive, EndAt, IsTimeline, IsClockOf}
 use Rattle.run_facts.proofs.Rows.{all-append, all-left, all-weaker, all-both, all-given}
 use Rattle.run_facts.proofs.Along.{written-append}
 use Rattle.run_facts.proofs.Timelines.{rising-counted}

@@ -21,12 +21,12 @@ use Rattle.run_facts.proofs.Rows.{all-weaker}
 use Rattle.run_facts.proofs.Carrying.{paced-carries}
 
 -- what they are on their way
-record RunsOn {X : Type 0} (most : ℕ) (clock : Clock) (sent : List (Dated X)) : Type 0 where
-  timely : AllByRecursion (IsTimely most) (passages clock sent)
-  above : AllByRecursion (λ (f : Passage X). clock.last_arrival ≤ f.arrival) (passages clock sent)
-  rising : Rising (λ (f : Passage X). f.arrival) (passages clock sent)
+pub record RunsOn {X : Type 0} (most : ℕ) (clock : Clock) (sent : List (Dated X)) : Type 0 where
+  pub timely : AllByRecursion (IsTimely most) (passages clock sent)
+  pub above : AllByRecursion (λ (f : Passage X). clock.last_arrival ≤ f.arrival) (passages clock sent)
+  pub rising : Rising (λ (f : Passage X). f.arrival) (passages clock sent)
 
-runs-on : {X : Type 0} (clock : Clock) (sent : List (Dated X)) → IsClock clock → AreInOrder clock.last_send sent → RunsOn clock.most clock sent
+pub runs-on : {X : Type 0} (clock : Clock) (sent : List (Dated X)) → IsClock clock → AreInOrder clock.last_send sent → RunsOn clock.most clock sent
 runs-on clock [] k h = record { timely = tt; above = tt; rising = tt }
 runs-on {X} clock (s ∷ ss) k h =
     let goes = GoesOn-from_IsClock clock s.beat k h.0 in

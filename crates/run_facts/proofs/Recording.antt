@@ -17,7 +17,7 @@ use Rattle.node_kit.specs.Steps.{Input, Deed, IsAllowed, stamp_of}
 use Rattle.node_kit.specs.Steps.Input.{Take}
 use Rattle.run_facts.specs.Events.{NodeEvent, Past, Dated, opening, outs_of, stamp_at, is_tick, is_death, is_take_on, sends_along, takes_along}
 use Rattle.run_facts.specs.Events.NodeEvent.{Does, Dies}
-use Rattle.run_facts.specs.Histories.{past, ticks, takes, sent, CameOn, IsRun, IsComplete, taken}
+use Rattle.run_facts.specs.Histories.{past, ticks, takes, sent, CameOn, IsRun, IsComplete}
 use Rattle.run_facts.specs.Paced.{passages, is_heard, brought}
 use Rattle.run_facts.specs.Timed.{death_within}
 use Rattle.run_facts.proofs.Along.{life-after}

@@ -65,7 +65,7 @@ count-append (e ∷ es) fs = ⊎_elim
     (λ (q : is_tick e ≡ false). rw q (count-append es fs))
     (cases_Bool (is_tick e))
 
-counted-append : {M : Type 0} (t : ℕ) (es fs : List (NodeEvent M)) → AreCounted t es → AreCounted (t + tick_count es) fs → AreCounted t (es ++ fs)
+pub counted-append : {M : Type 0} (t : ℕ) (es fs : List (NodeEvent M)) → AreCounted t es → AreCounted (t + tick_count es) fs → AreCounted t (es ++ fs)
 counted-append t [] fs h g = let e : t + 0 ≡ t = omega arith in subst (λ k. AreCounted k fs) e g
 counted-append t (e ∷ es) fs h g = ⊎_elim
     (λ (q : is_tick e ≡ true).

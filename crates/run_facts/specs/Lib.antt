@@ -9,4 +9,5 @@ pub mod Laws
 pub mod Order
 pub mod Paced
 pub mod Rings
+pub mod Samples
 pub mod Timed

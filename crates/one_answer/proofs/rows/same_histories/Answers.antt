@@ -1,6 +1,6 @@
 use Rattle.std.proofs.Common.{◌≡◌, ℕ, zero, suc, ◌<◌, refl, ap, arith}
 use Rattle.run_facts.specs.Events.{NodeEvent, stamp_at}
-use Rattle.one_answer.specs.Samples.{ticking}
+use Rattle.run_facts.specs.Samples.{ticking}
 use Rattle.one_answer.proofs.rows.same_histories.Goals as goal
 
 abbrev reading_at : NodeEvent ℕ → ℕ

@@ -1,6 +1,6 @@
 use Rattle.std.proofs.Common.{◌≡◌, ◌+◌, refl, arith}
 use Rattle.node_kit.specs.Courses.{reading_of}
-use Rattle.one_answer.proofs.rows.kept_courses.Goals as goal
+use Rattle.run_facts.proofs.worked.kept_courses.Goals as goal
 
 pub returns-clause-fast : goal.returns-clause-fast
 returns-clause-fast g c note step h =
