@@ -8,6 +8,8 @@ use Rattle.stripe_layout.specs.Layout.{block_span}
 use Rattle.stripe_layout.specs.Places.{place_of}
 use Rattle.mirror_pieces.specs.Pieces.{piece_start, piece_end, piece_of, leaving}
 use Rattle.node_kit.specs.declared.journal.Entry.{Entry}
+use Rattle.node_kit.specs.Life.{acts}
+use Rattle.run_facts.specs.Carried.{sent_on, got_on}
 use Rattle.run_model.specs.Schedule.{after_entry}
 use Rattle.run_model.specs.Views.{same_record}
 use Rattle.run_model.specs.Moments.{moment_at, next_moment}
@@ -15,13 +17,13 @@ use Rattle.run_model.specs.Orders.{IsOrdered}
 use Rattle.run_model.specs.Served.{IsDelivered, journal_at, wholes_got, pieces_got}
 use Rattle.run_model.specs.Excuses.{IsExcused}
 use Rattle.run_model.specs.Samples.{IsOfTen, ten, begins}
-use Rattle.run_model.specs.Tests.{some_tenancy, was_sent, came_whole, piece_came, came_in_pieces, came, piece_is_lost, lost_in_pieces, lost_in_death, was_stopped, has_excuse}
+use Rattle.run_model.specs.Tests.{some_tenancy, was_sent, came_whole, piece_came, came_in_pieces, came, piece_is_lost, lost_in_pieces, lost_in_death, was_stopped, has_excuse, is_timed}
 use Rattle.run_model.proofs.Deliveries.{delivered}
 use Rattle.run_model.proofs.Reasons.{excused}
 
 -- `unfolding on_samples` lets a proof compute each definition of this crate on a log that is written out
 unfoldable pub on_samples : Unit {0}
-unfolding time_of first_due due cub_of disk_of in_window takeover block_span place_of piece_start piece_end piece_of leaving after_entry same_record moment_at next_moment journal_at wholes_got pieces_got was_sent came_whole piece_came came_in_pieces came piece_is_lost lost_in_pieces lost_in_death was_stopped has_excuse
+unfolding time_of first_due due cub_of disk_of in_window takeover block_span place_of piece_start piece_end piece_of leaving after_entry same_record moment_at next_moment journal_at wholes_got pieces_got was_sent came_whole piece_came came_in_pieces came piece_is_lost lost_in_pieces lost_in_death was_stopped has_excuse acts sent_on got_on is_timed
 on_samples = tt
 
 -- a visit is delivered, or excused, in these journals if the test says so, and the other way round

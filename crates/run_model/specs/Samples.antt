@@ -1,5 +1,5 @@
 -- Short words for the entries of worked logs, on the ring of the plan of worked examples.
-use Rattle.std.specs.Prelude.{◌≡◌, ℕ, ◌+◌, ◌*◌, Bool, List, [], ◌∷◌}
+use Rattle.std.specs.Prelude.{◌≡◌, ℕ, ◌+◌, ◌*◌, Bool, List, [], ◌∷◌, Option, None}
 use Rattle.tiger_base.specs.declared.message.Note.{Note}
 use Rattle.tiger_base.specs.declared.message.Note.TheVariants as note
 use Rattle.tiger_base.specs.declared.part.Span.{Span}
@@ -7,10 +7,12 @@ use Rattle.tiger_base.specs.declared.tenancy.Ask.{Ask}
 use Rattle.tiger_base.specs.declared.tenancy.Rec.{Rec}
 use Rattle.tiger_base.specs.declared.tenancy.Tenancy.{Tenancy}
 use Rattle.tiger_base.specs.declared.tenancy.Want.{Want}
+use Rattle.slot_plan.specs.Conditions.{IsPlan}
 use Rattle.slot_plan.specs.Samples.{small}
 use Rattle.stripe_layout.specs.declared.catalogue.Catalogue.{Catalogue}
 use Rattle.stripe_layout.specs.declared.catalogue.FileInfo.{FileInfo}
 use Rattle.stripe_layout.specs.Layout.{IsCatalogue}
+use Rattle.node_kit.specs.declared.course.Kept.{Kept}
 use Rattle.node_kit.specs.declared.course.Order.{Order}
 use Rattle.node_kit.specs.declared.course.OrderKind.TheVariants as kind
 use Rattle.node_kit.specs.declared.journal.Entry.{Entry}
@@ -181,3 +183,25 @@ IsDeliveredBy sound log = IsDelivered small (ten sound) (all log) 0 0
 -- and a visit of instance 0 is excused
 abbrev pub IsExcusedBy : ℕ → List Noted → Type 0
 IsExcusedBy visit log = IsExcused small (all log) 0 visit
+
+-- the deaths of cubs 0, 1 and 7, where the others live
+abbrev pub dying : Option ℕ → Option ℕ → Option ℕ → List (Option ℕ)
+dying a b z = a ∷ b ∷ None ∷ None ∷ None ∷ None ∷ None ∷ z ∷ []
+
+-- what is kept of a run of so many beats, with these deaths and orders, in which all clocks show the true time; the rest
+-- is that of some other run
+abbrev pub kept : Kept → IsPlan small → ℕ → List (Option ℕ) → List Order → List Noted → Kept
+kept other plan beats deaths orders log = record {
+  course = record {
+    plan = record { params = small; sound = plan };
+    beats = beats;
+    offsets = 0 ∷ 0 ∷ 0 ∷ 0 ∷ 0 ∷ 0 ∷ 0 ∷ 0 ∷ 0 ∷ [];
+    deaths = deaths;
+    faults = other.course.faults;
+    delay = other.course.delay;
+  };
+  catalogue = other.catalogue;
+  orders = orders;
+  journals = all log;
+  digests = other.digests;
+}

@@ -4,14 +4,18 @@
 //! crate is checked without its tests.
 ghost use Rattle.std.specs.Prelude.{◌≡◌, ◌∷◌, [], true, false, Some, None};
 ghost use Rattle.tiger_base.specs.Records.{own_of, backup_of};
-ghost use Rattle.node_kit.specs.declared.journal.What.TheVariants.{Took};
+ghost use Rattle.tiger_base.specs.declared.message.Note.TheVariants.{Heartbeat};
+ghost use Rattle.node_kit.specs.declared.course.Kept.{Kept};
+ghost use Rattle.node_kit.specs.declared.journal.What.TheVariants.{Took, Unqueued};
+ghost use Rattle.slot_plan.specs.Conditions.{IsPlan};
 ghost use Rattle.slot_plan.specs.Samples.{small};
 ghost use Rattle.run_model.specs.Served.{IsSettled};
 ghost use Rattle.run_model.specs.Schedule.{schedule_of, IsFreeFrom};
 ghost use Rattle.run_model.specs.Moments.{moment_at, view_of};
 ghost use Rattle.run_model.specs.Orders.{PutsAreFair, IsTaken, IsNotPassedOver, end_of_tick};
 ghost use Rattle.run_model.specs.Parts.{ViewsAreAlwaysPart, EntriesAreLocal};
-ghost use Rattle.run_model.specs.Samples.{at_reading, gone, put, took, dropped, told, tells, starts, dies, believes, sends, gets, fails, later, seat, seat_in, three, want, block, piece, first_block, first_half, second_half, IsOfTen, ask_for, begins, ask, ordered, seated, IsDeliveredBy, IsExcusedBy};
+ghost use Rattle.run_model.specs.Runs.{NoneIsPassedOver, IsTimedRun, IsCarriedRun};
+ghost use Rattle.run_model.specs.Samples.{kept, dying, at_reading, gone, put, took, dropped, told, tells, starts, dies, believes, sends, gets, fails, later, seat, seat_in, three, want, block, piece, first_block, first_half, second_half, IsOfTen, ask_for, begins, ask, ordered, seated, IsDeliveredBy, IsExcusedBy};
 
 /// Instance 0 has slot 1 for visits 0 to 2.
 pub fn free()
@@ -200,6 +204,7 @@ pub fn excuses()
     ensures late_stop { IsExcusedBy 0 (put 0 1 three ∷ gone 150 0 ∷ []) → ⊥ }
     ensures other_stop { IsExcusedBy 0 (put 0 1 three ∷ gone 149 1 ∷ []) → ⊥ }
     ensures never_put { IsExcusedBy 0 (gone 149 0 ∷ []) → ⊥ }
+    ensures other_put { IsExcusedBy 0 (put 0 1 (seat 1 0 2) ∷ gone 149 1 ∷ []) → ⊥ }
     ensures not_its_visit { IsExcusedBy 3 (put 0 1 three ∷ gone 149 0 ∷ []) → ⊥ }
 {}
 
@@ -214,7 +219,56 @@ pub fn deaths()
     ensures of_other { IsExcusedBy 1 (put 0 1 three ∷ dies 2 100 ∷ []) → ⊥ }
     ensures piece_unread { IsExcusedBy 1 (put 0 1 three ∷ dies 1 32 ∷ fails 2 140 (want 0 1 1) ∷ []) }
     ensures cub_lives { IsExcusedBy 1 (put 0 1 three ∷ fails 2 140 (want 0 1 1) ∷ []) → ⊥ }
+    ensures piece_before_death { IsExcusedBy 1 (put 0 1 three ∷ fails 2 140 (want 0 1 1) ∷ dies 1 151 ∷ []) → ⊥ }
     ensures no_piece { IsExcusedBy 1 (put 0 1 three ∷ dies 1 32 ∷ fails 4 140 (want 0 1 3) ∷ []) → ⊥ }
     ensures piece_dead { IsExcusedBy 1 (put 0 1 three ∷ dies 1 32 ∷ dies 3 200 ∷ []) }
     ensures piece_sent { IsExcusedBy 1 (put 0 1 three ∷ dies 1 32 ∷ dies 3 201 ∷ []) → ⊥ }
+{}
+
+/// In beat 0 visit 0 of slot 1 is in the window; in beat 650 visit 7 of slot 0 is, which is cub 7's.
+pub fn every_tick()
+    ensures put_then { (k : Kept) (p : IsPlan small) → NoneIsPassedOver
+        (kept k p 1 (dying None None None) ordered (starts 0 0 ask false ∷ put 0 0 three ∷ [])) }
+    ensures waits { (k : Kept) (p : IsPlan small) → NoneIsPassedOver
+        (kept k p 1 (dying None None None) ordered (starts 0 0 ask false ∷ [])) → ⊥ }
+    ensures dies_then { (k : Kept) (p : IsPlan small) → NoneIsPassedOver
+        (kept k p 1 (dying (Some 0) None None) ordered (starts 0 0 ask false ∷ [])) }
+    ensures dies_later { (k : Kept) (p : IsPlan small) → NoneIsPassedOver
+        (kept k p 2 (dying (Some 1) None None) ordered (starts 0 0 ask false ∷ dies 0 1 ∷ [])) → ⊥ }
+    ensures last_cub { (k : Kept) (p : IsPlan small) → NoneIsPassedOver
+        (kept k p 651 (dying None None None) (begins (ask_for 0 0 3 7)) (starts 7 1 (ask_for 0 0 3 7) false ∷ [])) → ⊥ }
+{}
+
+/// Runs of ten beats, in which cub 2 writes in beat 3.
+pub fn timed_run()
+    ensures skewed { (k : Kept) (p : IsPlan small) → IsTimedRun
+        (kept k p 10 (dying None None None) [] (at_reading 2 3 34000 (Unqueued (record { 0 = 9 })) ∷ [])) }
+    ensures too_skewed { (k : Kept) (p : IsPlan small) → IsTimedRun
+        (kept k p 10 (dying None None None) [] (at_reading 2 3 34001 (Unqueued (record { 0 = 9 })) ∷ [])) → ⊥ }
+    ensures early { (k : Kept) (p : IsPlan small) → IsTimedRun
+        (kept k p 10 (dying None None None) [] (at_reading 2 3 29999 (Unqueued (record { 0 = 9 })) ∷ [])) → ⊥ }
+    ensures behind_the_end { (k : Kept) (p : IsPlan small) → IsTimedRun
+        (kept k p 10 (dying None None None) [] (later 10 ∷ [])) → ⊥ }
+    ensures dead { (k : Kept) (p : IsPlan small) → IsTimedRun
+        (kept k p 10 (dying None None (Some 4)) [] (later 3 ∷ dies 7 4 ∷ [])) }
+    ensures not_written { (k : Kept) (p : IsPlan small) → IsTimedRun
+        (kept k p 10 (dying None None (Some 4)) [] (later 3 ∷ [])) → ⊥ }
+    ensures unforeseen { (k : Kept) (p : IsPlan small) → IsTimedRun
+        (kept k p 10 (dying None None None) [] (later 3 ∷ dies 7 4 ∷ [])) → ⊥ }
+    ensures next_dead { (k : Kept) (p : IsPlan small) → IsTimedRun
+        (kept k p 10 (dying (Some 5) None (Some 4)) [] (dies 7 4 ∷ dies 0 5 ∷ [])) → ⊥ }
+    ensures next_but_one_dead { (k : Kept) (p : IsPlan small) → IsTimedRun
+        (kept k p 10 (dying None (Some 5) (Some 4)) [] (dies 7 4 ∷ dies 1 5 ∷ [])) }
+{}
+
+/// Runs of ten beats, in which cub 0 sends the viewers a heartbeat in beat 3.
+pub fn carried_run()
+    ensures late { (k : Kept) (p : IsPlan small) → IsCarriedRun
+        (kept k p 10 (dying None None None) [] (sends 0 3 Heartbeat ∷ gets 0 6 Heartbeat ∷ [])) → ⊥ }
+    ensures at_once { (k : Kept) (p : IsPlan small) → IsCarriedRun
+        (kept k p 10 (dying None None None) [] (sends 0 3 Heartbeat ∷ gets 0 3 Heartbeat ∷ [])) → ⊥ }
+    ensures lost { (k : Kept) (p : IsPlan small) → IsCarriedRun
+        (kept k p 10 (dying None None None) [] (sends 0 3 Heartbeat ∷ [])) → ⊥ }
+    ensures never_sent { (k : Kept) (p : IsPlan small) → IsCarriedRun
+        (kept k p 10 (dying None None None) [] (gets 0 5 Heartbeat ∷ [])) → ⊥ }
 {}

@@ -42,3 +42,7 @@ returns-clause-no_piece c h = false≢true (excuse-to-test 1 _ h)
 pub returns-clause-piece_sent : goal.returns-clause-piece_sent
 unfolding on_samples
 returns-clause-piece_sent c h = false≢true (excuse-to-test 1 _ h)
+
+pub returns-clause-piece_before_death : goal.returns-clause-piece_before_death
+unfolding on_samples
+returns-clause-piece_before_death c h = false≢true (excuse-to-test 1 _ h)

@@ -42,3 +42,7 @@ returns-clause-never_put c h = false≢true (excuse-to-test 0 _ h)
 pub returns-clause-not_its_visit : goal.returns-clause-not_its_visit
 unfolding on_samples
 returns-clause-not_its_visit c h = false≢true (excuse-to-test 3 _ h)
+
+pub returns-clause-other_put : goal.returns-clause-other_put
+unfolding on_samples
+returns-clause-other_put c h = false≢true (excuse-to-test 0 _ h)
