@@ -86,9 +86,12 @@ asked disk beat w = at (8 + disk) beat (what.Got (record { 0 = 40 + disk }) (not
 abbrev pub fails : ℕ → ℕ → Want → Noted
 fails cub beat w = at cub beat (what.ReadFailed w)
 
--- time passes up to a beat, in which a cub writes what changes nothing
+-- time passes up to a beat, in which cub 2 writes what changes nothing, at a reading and at the true time
+abbrev pub later_at : ℕ → ℕ → Noted
+later_at beat reading = at_reading 2 beat reading (what.Unqueued (record { 0 = 9 }))
+
 abbrev pub later : ℕ → Noted
-later beat = at 2 beat (what.Unqueued (record { 0 = 9 }))
+later beat = later_at beat (beat * 10000)
 
 -- ---- what they speak of
 

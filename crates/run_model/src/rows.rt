@@ -5,17 +5,17 @@
 ghost use Rattle.std.specs.Prelude.{◌≡◌, ◌∷◌, [], true, false, Some, None};
 ghost use Rattle.tiger_base.specs.Records.{own_of, backup_of};
 ghost use Rattle.tiger_base.specs.declared.message.Note.TheVariants.{Heartbeat};
-ghost use Rattle.node_kit.specs.declared.course.Kept.{Kept};
-ghost use Rattle.node_kit.specs.declared.journal.What.TheVariants.{Took, Unqueued};
 ghost use Rattle.slot_plan.specs.Conditions.{IsPlan};
 ghost use Rattle.slot_plan.specs.Samples.{small};
+ghost use Rattle.node_kit.specs.declared.course.Kept.{Kept};
+ghost use Rattle.node_kit.specs.declared.journal.What.TheVariants.{Took};
 ghost use Rattle.run_model.specs.Served.{IsSettled};
 ghost use Rattle.run_model.specs.Schedule.{schedule_of, IsFreeFrom};
 ghost use Rattle.run_model.specs.Moments.{moment_at, view_of};
 ghost use Rattle.run_model.specs.Orders.{PutsAreFair, IsTaken, IsNotPassedOver, end_of_tick};
 ghost use Rattle.run_model.specs.Parts.{ViewsAreAlwaysPart, EntriesAreLocal};
 ghost use Rattle.run_model.specs.Runs.{NoneIsPassedOver, IsTimedRun, IsCarriedRun};
-ghost use Rattle.run_model.specs.Samples.{kept, dying, at_reading, gone, put, took, dropped, told, tells, starts, dies, believes, sends, gets, fails, later, seat, seat_in, three, want, block, piece, first_block, first_half, second_half, IsOfTen, ask_for, begins, ask, ordered, seated, IsDeliveredBy, IsExcusedBy};
+ghost use Rattle.run_model.specs.Samples.{kept, dying, at_reading, gone, put, took, dropped, told, tells, starts, dies, believes, sends, gets, fails, later, later_at, seat, seat_in, three, want, block, piece, first_block, first_half, second_half, IsOfTen, ask_for, begins, ask, ordered, seated, IsDeliveredBy, IsExcusedBy};
 
 /// Instance 0 has slot 1 for visits 0 to 2.
 pub fn free()
@@ -33,7 +33,8 @@ pub fn free()
 pub fn views()
     ensures taken { view_of (moment_at (took 0 1 (own_of three 0) ∷ [])) 0 ≡ own_of three 0 ∷ [] }
     ensures of_other { view_of (moment_at (took 0 1 (own_of three 0) ∷ [])) 1 ≡ [] }
-    ensures dropped { view_of (moment_at (took 0 1 (own_of three 0) ∷ dropped 0 2 (own_of three 0) ∷ [])) 0 ≡ [] }
+    ensures dropped { view_of (moment_at (took 0 1 (own_of three 0) ∷ dropped 0 2 (own_of three 0) ∷ [])) 0
+        ≡ [] }
     ensures other_visit { view_of (moment_at (took 0 1 (own_of three 0) ∷ dropped 0 2 (own_of three 8) ∷ [])) 0
         ≡ own_of three 0 ∷ [] }
     ensures other_kind { view_of (moment_at (took 0 1 (own_of three 0) ∷ dropped 0 2 (backup_of three 0) ∷ [])) 0
@@ -43,36 +44,51 @@ pub fn views()
     ensures again { view_of (moment_at (dropped 0 1 (own_of three 0) ∷ took 0 2 (own_of three 0) ∷ [])) 0
         ≡ own_of three 0 ∷ [] }
     ensures dead { view_of (moment_at (took 0 1 (own_of three 0) ∷ dies 0 2 ∷ [])) 0 ≡ [] }
-    ensures other_dead { view_of (moment_at (took 0 1 (own_of three 0) ∷ dies 1 2 ∷ [])) 0 ≡ own_of three 0 ∷ [] }
+    ensures other_dead { view_of (moment_at (took 0 1 (own_of three 0) ∷ dies 1 2 ∷ [])) 0
+        ≡ own_of three 0 ∷ [] }
 {}
 
-/// Cub 0 has a record of instance 0, which has slot 1 for visits 0 to 2; a block plays for 100 beats.
+/// Cub 0 has a record of instance 0, which has slot 1 for visits 0 to 2. A block plays for 100
+/// beats.
 pub fn part()
     ensures held { ViewsAreAlwaysPart small (put 0 1 three ∷ took 0 1 (own_of three 0) ∷ []) }
     ensures never_put { ViewsAreAlwaysPart small (took 7 1 (own_of three 7) ∷ []) → ⊥ }
-    ensures held_by_other { ViewsAreAlwaysPart small (put 0 1 (seat 1 0 2) ∷ took 0 1 (own_of three 0) ∷ []) → ⊥ }
-    ensures for_a_while { ViewsAreAlwaysPart small (took 0 1 (own_of three 0) ∷ dropped 0 1 (own_of three 0) ∷ []) → ⊥ }
+    ensures held_by_other { ViewsAreAlwaysPart small
+        (put 0 1 (seat 1 0 2) ∷ took 0 1 (own_of three 0) ∷ []) → ⊥ }
+    ensures for_a_while { ViewsAreAlwaysPart small
+        (took 0 1 (own_of three 0) ∷ dropped 0 1 (own_of three 0) ∷ []) → ⊥ }
     ensures behind { ViewsAreAlwaysPart small (put 0 1 three ∷ took 0 1 (own_of three 3) ∷ []) → ⊥ }
-    ensures before { ViewsAreAlwaysPart small (put 0 1 (seat 0 1 3) ∷ took 0 1 (own_of (seat 0 1 3) 0) ∷ []) → ⊥ }
+    ensures before { ViewsAreAlwaysPart small
+        (put 0 1 (seat 0 1 3) ∷ took 0 1 (own_of (seat 0 1 3) 0) ∷ []) → ⊥ }
     ensures just_stopped { ViewsAreAlwaysPart small (gone 20 0 ∷ took 0 120 (own_of three 0) ∷ []) }
-    ensures long_stopped { ViewsAreAlwaysPart small (gone 20 0 ∷ took 0 121 (own_of three 0) ∷ []) → ⊥ }
-    ensures other_stopped { ViewsAreAlwaysPart small (gone 20 1 ∷ took 0 120 (own_of three 0) ∷ []) → ⊥ }
-    ensures stays { ViewsAreAlwaysPart small (gone 20 0 ∷ took 0 120 (own_of three 0) ∷ later 121 ∷ []) → ⊥ }
+    ensures long_stopped { ViewsAreAlwaysPart small
+        (gone 20 0 ∷ took 0 121 (own_of three 0) ∷ []) → ⊥ }
+    ensures other_stopped { ViewsAreAlwaysPart small
+        (gone 20 1 ∷ took 0 120 (own_of three 0) ∷ []) → ⊥ }
+    ensures stays { ViewsAreAlwaysPart small
+        (gone 20 0 ∷ took 0 120 (own_of three 0) ∷ later 121 ∷ []) → ⊥ }
 {}
 
 /// Link 24 leads from cub 0 to cub 1, link 25 to cub 2, and link 37 from cub 6 to cub 0. Visit 9 of
 /// slot 1 is due at 9500000; the greatest lead, a play time and the skew are 5004000.
 pub fn local()
     ensures came { EntriesAreLocal small (told 1 5 24 three 0 ∷ took 1 5 (own_of three 1) ∷ []) }
-    ensures backup { EntriesAreLocal small (told 1 5 24 three 0 ∷ took 1 5 (backup_of three 0) ∷ []) }
+    ensures backup { EntriesAreLocal small
+        (told 1 5 24 three 0 ∷ took 1 5 (backup_of three 0) ∷ []) }
     ensures own_put { EntriesAreLocal small (put 0 1 three ∷ took 0 1 (own_of three 0) ∷ []) }
     ensures nothing_came { EntriesAreLocal small (took 7 5 (own_of (seat 0 0 8) 7) ∷ []) → ⊥ }
-    ensures from_afar { EntriesAreLocal small (told 1 5 37 three 0 ∷ took 1 5 (own_of three 1) ∷ []) → ⊥ }
-    ensures of_other { EntriesAreLocal small (told 1 5 24 (seat 1 0 2) 0 ∷ took 1 5 (own_of three 1) ∷ []) → ⊥ }
-    ensures too_old { EntriesAreLocal small (told 2 5 25 three 0 ∷ took 2 5 (own_of three 2) ∷ []) → ⊥ }
-    ensures not_its_own { EntriesAreLocal small (told 1 5 24 three 1 ∷ took 1 5 (own_of three 2) ∷ []) → ⊥ }
-    ensures not_its_backup { EntriesAreLocal small (told 1 5 24 three 1 ∷ took 1 5 (backup_of three 1) ∷ []) → ⊥ }
-    ensures other_put { EntriesAreLocal small (put 0 1 (seat 1 0 2) ∷ took 0 1 (own_of three 0) ∷ []) → ⊥ }
+    ensures from_afar { EntriesAreLocal small
+        (told 1 5 37 three 0 ∷ took 1 5 (own_of three 1) ∷ []) → ⊥ }
+    ensures of_other { EntriesAreLocal small
+        (told 1 5 24 (seat 1 0 2) 0 ∷ took 1 5 (own_of three 1) ∷ []) → ⊥ }
+    ensures too_old { EntriesAreLocal small
+        (told 2 5 25 three 0 ∷ took 2 5 (own_of three 2) ∷ []) → ⊥ }
+    ensures not_its_own { EntriesAreLocal small
+        (told 1 5 24 three 1 ∷ took 1 5 (own_of three 2) ∷ []) → ⊥ }
+    ensures not_its_backup { EntriesAreLocal small
+        (told 1 5 24 three 1 ∷ took 1 5 (backup_of three 1) ∷ []) → ⊥ }
+    ensures other_put { EntriesAreLocal small
+        (put 0 1 (seat 1 0 2) ∷ took 0 1 (own_of three 0) ∷ []) → ⊥ }
     ensures soon { EntriesAreLocal small (told 1 449 24 (seat 0 0 12) 9
         ∷ at_reading 1 449 4496000 (Took (own_of (seat 0 0 12) 9)) ∷ []) }
     ensures too_soon { EntriesAreLocal small (told 1 449 24 (seat 0 0 12) 9
@@ -83,17 +99,20 @@ pub fn local()
 pub fn sending()
     ensures has_own { EntriesAreLocal small (put 1 5 (seat 0 1 3) ∷ took 1 5 (own_of (seat 0 1 3) 1)
         ∷ tells 1 6 26 (seat 0 1 3) 2 ∷ []) }
-    ensures has_none { EntriesAreLocal small (put 1 5 (seat 0 1 3) ∷ tells 1 6 26 (seat 0 1 3) 2 ∷ []) → ⊥ }
+    ensures has_none { EntriesAreLocal small
+        (put 1 5 (seat 0 1 3) ∷ tells 1 6 26 (seat 0 1 3) 2 ∷ []) → ⊥ }
     ensures has_backup { EntriesAreLocal small (told 1 5 24 three 0 ∷ took 1 5 (backup_of three 0)
         ∷ tells 1 6 26 three 1 ∷ []) → ⊥ }
-    ensures has_earlier { EntriesAreLocal small (put 1 5 (seat 0 1 3) ∷ took 1 5 (own_of (seat 0 1 3) 1)
+    ensures has_earlier { EntriesAreLocal small
+        (put 1 5 (seat 0 1 3) ∷ took 1 5 (own_of (seat 0 1 3) 1)
         ∷ tells 1 6 26 (seat 0 1 3) 3 ∷ []) → ⊥ }
-    ensures has_other { EntriesAreLocal small (put 1 5 (seat 0 1 3) ∷ took 1 5 (own_of (seat 0 1 3) 1)
+    ensures has_other { EntriesAreLocal small
+        (put 1 5 (seat 0 1 3) ∷ took 1 5 (own_of (seat 0 1 3) 1)
         ∷ tells 1 6 26 (seat 1 1 3) 2 ∷ []) → ⊥ }
 {}
 
-/// Visit 0 of slot 1 is cub 0's and due at 500000; it is in the window above 200000 and up to 800000
-/// before. In slot 16, which the plan does not have, it would be due at 8000000.
+/// Visit 0 of slot 1 is cub 0's and due at 500000; it is in the window above 200000 and up to
+/// 800000 before. In slot 16, which the plan does not have, it would be due at 8000000.
 pub fn rightly_put()
     ensures rightly { PutsAreFair small ordered (put 0 1 three ∷ []) }
     ensures held { PutsAreFair small ordered (put 0 0 (seat 1 0 0) ∷ put 0 1 three ∷ []) → ⊥ }
@@ -109,7 +128,8 @@ pub fn rightly_put()
     ensures for_dead { PutsAreFair small ordered (believes 1 1 0 ∷ put 1 1 three ∷ []) }
     ensures for_living { PutsAreFair small ordered (put 1 1 three ∷ []) → ⊥ }
     ensures by_next_but_one { PutsAreFair small ordered (believes 2 1 0 ∷ put 2 1 three ∷ []) → ⊥ }
-    ensures believed_by_other { PutsAreFair small ordered (believes 2 0 0 ∷ put 1 1 three ∷ []) → ⊥ }
+    ensures believed_by_other { PutsAreFair small ordered
+        (believes 2 0 0 ∷ put 1 1 three ∷ []) → ⊥ }
     ensures twice { PutsAreFair small ordered (put 0 1 three ∷ put 0 1 three ∷ []) → ⊥ }
 {}
 
@@ -120,18 +140,25 @@ pub fn taken()
     ensures behind { IsTaken small (moment_at (put 0 1 three ∷ [])) 0 1 3 → ⊥ }
     ensures before { IsTaken small (moment_at (put 1 1 (seat 0 1 3) ∷ [])) 0 1 0 → ⊥ }
     ensures other_slot { IsTaken small (moment_at (put 0 1 three ∷ [])) 0 2 0 → ⊥ }
-    ensures recorded { IsTaken small (moment_at (gone 20 0 ∷ took 0 120 (own_of three 0) ∷ [])) 0 1 0 }
-    ensures long_stopped { IsTaken small (moment_at (gone 20 0 ∷ took 0 121 (own_of three 0) ∷ [])) 0 1 0 → ⊥ }
-    ensures other_visit { IsTaken small (moment_at (gone 20 0 ∷ took 0 120 (own_of three 0) ∷ [])) 0 1 1 → ⊥ }
-    ensures other_view { IsTaken small (moment_at (gone 20 0 ∷ took 0 120 (own_of three 0) ∷ [])) 1 1 0 → ⊥ }
+    ensures recorded { IsTaken small
+        (moment_at (gone 20 0 ∷ took 0 120 (own_of three 0) ∷ [])) 0 1 0 }
+    ensures long_stopped { IsTaken small
+        (moment_at (gone 20 0 ∷ took 0 121 (own_of three 0) ∷ [])) 0 1 0 → ⊥ }
+    ensures other_visit { IsTaken small
+        (moment_at (gone 20 0 ∷ took 0 120 (own_of three 0) ∷ [])) 0 1 1 → ⊥ }
+    ensures other_view { IsTaken small
+        (moment_at (gone 20 0 ∷ took 0 120 (own_of three 0) ∷ [])) 1 1 0 → ⊥ }
 {}
 
 /// Cub 0 gets the start of instance 0 in beat 1, and ticks at 10000: visit 0 of slot 1 is in the
 /// window. At 7000000 visit 0 of slot 15, the last one, is the only one of its disk in the window.
 pub fn patience()
-    ensures put_then { IsNotPassedOver small ordered (end_of_tick 1 0 (starts 0 1 ask false ∷ put 0 1 three ∷ [])) 0 10000 }
-    ensures stopped { IsNotPassedOver small ordered (end_of_tick 2 0 (starts 0 1 ask false ∷ gone 1 0 ∷ [])) 0 20000 }
-    ensures waits { IsNotPassedOver small ordered (end_of_tick 1 0 (starts 0 1 ask false ∷ [])) 0 10000 → ⊥ }
+    ensures put_then { IsNotPassedOver small ordered
+        (end_of_tick 1 0 (starts 0 1 ask false ∷ put 0 1 three ∷ [])) 0 10000 }
+    ensures stopped { IsNotPassedOver small ordered
+        (end_of_tick 2 0 (starts 0 1 ask false ∷ gone 1 0 ∷ [])) 0 20000 }
+    ensures waits { IsNotPassedOver small ordered
+        (end_of_tick 1 0 (starts 0 1 ask false ∷ [])) 0 10000 → ⊥ }
     ensures put_too_late { IsNotPassedOver small ordered
         (end_of_tick 1 0 (starts 0 1 ask false ∷ put 1 1 three ∷ [])) 0 10000 → ⊥ }
     ensures other_put { IsNotPassedOver small ordered
@@ -142,15 +169,18 @@ pub fn patience()
         (end_of_tick 700 0 (starts 0 1 ask false ∷ [])) 0 7000000 → ⊥ }
     ensures for_dead { IsNotPassedOver small ordered
         (end_of_tick 1 1 (starts 1 1 ask true ∷ believes 1 1 0 ∷ [])) 1 10000 → ⊥ }
-    ensures for_living { IsNotPassedOver small ordered (end_of_tick 1 1 (starts 1 1 ask true ∷ [])) 1 10000 }
+    ensures for_living { IsNotPassedOver small ordered
+        (end_of_tick 1 1 (starts 1 1 ask true ∷ [])) 1 10000 }
 {}
 
 /// Visit 0 of instance 0 is due at 500000, in beat 50; its block has four bytes. Of its pieces, of
 /// two bytes each, the first leaves in beat 50 from cub 1, and the second in beat 100 from cub 2.
 pub fn delivery()
-    ensures whole { (s : IsOfTen) → IsDeliveredBy s (seated ∷ sends 0 50 first_block ∷ gets 0 51 first_block ∷ []) }
+    ensures whole { (s : IsOfTen) → IsDeliveredBy s
+        (seated ∷ sends 0 50 first_block ∷ gets 0 51 first_block ∷ []) }
     ensures nothing { (s : IsOfTen) → IsDeliveredBy s (seated ∷ sends 0 50 first_block ∷ []) → ⊥ }
-    ensures never_put { (s : IsOfTen) → IsDeliveredBy s (sends 0 50 first_block ∷ gets 0 51 first_block ∷ []) → ⊥ }
+    ensures never_put { (s : IsOfTen) → IsDeliveredBy s
+        (sends 0 50 first_block ∷ gets 0 51 first_block ∷ []) → ⊥ }
     ensures not_its_visit { (s : IsOfTen) → IsDeliveredBy s
         (put 0 1 (seat 0 8 10) ∷ sends 0 50 first_block ∷ gets 0 51 first_block ∷ []) → ⊥ }
     ensures twice { (s : IsOfTen) → IsDeliveredBy s
@@ -163,24 +193,33 @@ pub fn delivery()
         (seated ∷ sends 0 51 (block 0 0 51 0 4) ∷ gets 0 52 (block 0 0 51 0 4) ∷ []) → ⊥ }
     ensures early { (s : IsOfTen) → IsDeliveredBy s
         (seated ∷ sends 0 49 (block 0 0 49 0 4) ∷ gets 0 50 (block 0 0 49 0 4) ∷ []) → ⊥ }
-    ensures other_beat { (s : IsOfTen) → IsDeliveredBy s (seated ∷ sends 0 51 first_block ∷ gets 0 52 first_block ∷ []) → ⊥ }
-    ensures other_cub { (s : IsOfTen) → IsDeliveredBy s (seated ∷ sends 1 50 first_block ∷ gets 1 51 first_block ∷ []) → ⊥ }
+    ensures other_beat { (s : IsOfTen) → IsDeliveredBy s
+        (seated ∷ sends 0 51 first_block ∷ gets 0 52 first_block ∷ []) → ⊥ }
+    ensures other_cub { (s : IsOfTen) → IsDeliveredBy s
+        (seated ∷ sends 1 50 first_block ∷ gets 1 51 first_block ∷ []) → ⊥ }
 {}
 
 /// The same block, in its two pieces.
 pub fn pieces()
     ensures both { (s : IsOfTen) → IsDeliveredBy s
-        (seated ∷ sends 1 50 first_half ∷ sends 2 100 second_half ∷ gets 1 51 first_half ∷ gets 2 101 second_half ∷ []) }
-    ensures one { (s : IsOfTen) → IsDeliveredBy s (seated ∷ sends 1 50 first_half ∷ gets 1 51 first_half ∷ []) → ⊥ }
-    ensures twice { (s : IsOfTen) → IsDeliveredBy s (seated ∷ sends 1 50 first_half ∷ sends 2 100 second_half
+        (seated ∷ sends 1 50 first_half ∷ sends 2 100 second_half
+        ∷ gets 1 51 first_half ∷ gets 2 101 second_half ∷ []) }
+    ensures one { (s : IsOfTen) → IsDeliveredBy s
+        (seated ∷ sends 1 50 first_half ∷ gets 1 51 first_half ∷ []) → ⊥ }
+    ensures twice { (s : IsOfTen) → IsDeliveredBy s
+        (seated ∷ sends 1 50 first_half ∷ sends 2 100 second_half
         ∷ gets 1 51 first_half ∷ gets 2 101 second_half ∷ gets 2 101 second_half ∷ []) → ⊥ }
-    ensures and_whole { (s : IsOfTen) → IsDeliveredBy s (seated ∷ sends 0 50 first_block ∷ sends 1 50 first_half
+    ensures and_whole { (s : IsOfTen) → IsDeliveredBy s
+        (seated ∷ sends 0 50 first_block ∷ sends 1 50 first_half
         ∷ gets 0 51 first_block ∷ gets 1 51 first_half ∷ []) → ⊥ }
-    ensures other_bytes { (s : IsOfTen) → IsDeliveredBy s (seated ∷ sends 1 50 first_half ∷ sends 2 100 (piece 0 0 2 100 0 4)
+    ensures other_bytes { (s : IsOfTen) → IsDeliveredBy s
+        (seated ∷ sends 1 50 first_half ∷ sends 2 100 (piece 0 0 2 100 0 4)
         ∷ gets 1 51 first_half ∷ gets 2 101 (piece 0 0 2 100 0 4) ∷ []) → ⊥ }
-    ensures early { (s : IsOfTen) → IsDeliveredBy s (seated ∷ sends 1 50 first_half ∷ sends 2 50 (piece 0 0 2 50 2 2)
+    ensures early { (s : IsOfTen) → IsDeliveredBy s
+        (seated ∷ sends 1 50 first_half ∷ sends 2 50 (piece 0 0 2 50 2 2)
         ∷ gets 1 51 first_half ∷ gets 2 51 (piece 0 0 2 50 2 2) ∷ []) → ⊥ }
-    ensures other_cub { (s : IsOfTen) → IsDeliveredBy s (seated ∷ sends 1 50 first_half ∷ sends 0 100 second_half
+    ensures other_cub { (s : IsOfTen) → IsDeliveredBy s
+        (seated ∷ sends 1 50 first_half ∷ sends 0 100 second_half
         ∷ gets 1 51 first_half ∷ gets 0 101 second_half ∷ []) → ⊥ }
 {}
 
@@ -208,24 +247,28 @@ pub fn excuses()
     ensures not_its_visit { IsExcusedBy 3 (put 0 1 three ∷ gone 149 0 ∷ []) → ⊥ }
 {}
 
-/// Visit 1 is cub 1's and due in beat 150. Its death excuses the visit in beats 33 to 150; if it died
-/// before that, a lost piece does: of the second piece, which cub 3 sends in beat 200, a death up to
-/// that beat.
+/// Visit 1 is cub 1's and due in beat 150. A death of that cub in beats 33 to 150 excuses the visit;
+/// if it died before, the visit is excused by a lost piece, as by the second one if cub 3, which
+/// sends it in beat 200, died up to that beat.
 pub fn deaths()
     ensures first { IsExcusedBy 1 (put 0 1 three ∷ dies 1 33 ∷ []) }
     ensures taken_over { IsExcusedBy 1 (put 0 1 three ∷ dies 1 32 ∷ []) → ⊥ }
     ensures last { IsExcusedBy 1 (put 0 1 three ∷ dies 1 150 ∷ []) }
     ensures after { IsExcusedBy 1 (put 0 1 three ∷ dies 1 151 ∷ []) → ⊥ }
     ensures of_other { IsExcusedBy 1 (put 0 1 three ∷ dies 2 100 ∷ []) → ⊥ }
-    ensures piece_unread { IsExcusedBy 1 (put 0 1 three ∷ dies 1 32 ∷ fails 2 140 (want 0 1 1) ∷ []) }
+    ensures piece_unread { IsExcusedBy 1
+        (put 0 1 three ∷ dies 1 32 ∷ fails 2 140 (want 0 1 1) ∷ []) }
     ensures cub_lives { IsExcusedBy 1 (put 0 1 three ∷ fails 2 140 (want 0 1 1) ∷ []) → ⊥ }
-    ensures piece_before_death { IsExcusedBy 1 (put 0 1 three ∷ fails 2 140 (want 0 1 1) ∷ dies 1 151 ∷ []) → ⊥ }
-    ensures no_piece { IsExcusedBy 1 (put 0 1 three ∷ dies 1 32 ∷ fails 4 140 (want 0 1 3) ∷ []) → ⊥ }
+    ensures piece_before_death { IsExcusedBy 1
+        (put 0 1 three ∷ fails 2 140 (want 0 1 1) ∷ dies 1 151 ∷ []) → ⊥ }
+    ensures no_piece { IsExcusedBy 1
+        (put 0 1 three ∷ dies 1 32 ∷ fails 4 140 (want 0 1 3) ∷ []) → ⊥ }
     ensures piece_dead { IsExcusedBy 1 (put 0 1 three ∷ dies 1 32 ∷ dies 3 200 ∷ []) }
     ensures piece_sent { IsExcusedBy 1 (put 0 1 three ∷ dies 1 32 ∷ dies 3 201 ∷ []) → ⊥ }
 {}
 
-/// In beat 0 visit 0 of slot 1 is in the window; in beat 650 visit 7 of slot 0 is, which is cub 7's.
+/// In beat 0 visit 0 of slot 1 is in the window, and in beat 650 visit 7 of slot 0, which is cub
+/// 7's.
 pub fn every_tick()
     ensures put_then { (k : Kept) (p : IsPlan small) → NoneIsPassedOver
         (kept k p 1 (dying None None None) ordered (starts 0 0 ask false ∷ put 0 0 three ∷ [])) }
@@ -236,17 +279,18 @@ pub fn every_tick()
     ensures dies_later { (k : Kept) (p : IsPlan small) → NoneIsPassedOver
         (kept k p 2 (dying (Some 1) None None) ordered (starts 0 0 ask false ∷ dies 0 1 ∷ [])) → ⊥ }
     ensures last_cub { (k : Kept) (p : IsPlan small) → NoneIsPassedOver
-        (kept k p 651 (dying None None None) (begins (ask_for 0 0 3 7)) (starts 7 1 (ask_for 0 0 3 7) false ∷ [])) → ⊥ }
+        (kept k p 651 (dying None None None) (begins (ask_for 0 0 3 7))
+        (starts 7 1 (ask_for 0 0 3 7) false ∷ [])) → ⊥ }
 {}
 
 /// Runs of ten beats, in which cub 2 writes in beat 3.
 pub fn timed_run()
     ensures skewed { (k : Kept) (p : IsPlan small) → IsTimedRun
-        (kept k p 10 (dying None None None) [] (at_reading 2 3 34000 (Unqueued (record { 0 = 9 })) ∷ [])) }
+        (kept k p 10 (dying None None None) [] (later_at 3 34000 ∷ [])) }
     ensures too_skewed { (k : Kept) (p : IsPlan small) → IsTimedRun
-        (kept k p 10 (dying None None None) [] (at_reading 2 3 34001 (Unqueued (record { 0 = 9 })) ∷ [])) → ⊥ }
+        (kept k p 10 (dying None None None) [] (later_at 3 34001 ∷ [])) → ⊥ }
     ensures early { (k : Kept) (p : IsPlan small) → IsTimedRun
-        (kept k p 10 (dying None None None) [] (at_reading 2 3 29999 (Unqueued (record { 0 = 9 })) ∷ [])) → ⊥ }
+        (kept k p 10 (dying None None None) [] (later_at 3 29999 ∷ [])) → ⊥ }
     ensures behind_the_end { (k : Kept) (p : IsPlan small) → IsTimedRun
         (kept k p 10 (dying None None None) [] (later 10 ∷ [])) → ⊥ }
     ensures dead { (k : Kept) (p : IsPlan small) → IsTimedRun
