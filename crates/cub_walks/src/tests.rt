@@ -1,7 +1,7 @@
 //! Cub 3 of a small plan around the times of its records, beside times and links that were worked out by hand.
 ghost use Rattle.std.specs.Prelude.{◌≡◌, ◌≤◌, IfOk, OnOk, true};
 ghost use Rattle.tiger_base.specs.Limits.{most_reading};
-ghost use Rattle.slot_plan.specs.Conditions.{IsInRange};
+ghost use Rattle.slot_plan.specs.Samples.{small};
 ghost use Rattle.mirror_schedule.specs.Pieces.{IsPieceOf};
 ghost use Rattle.cub_rules.specs.State.{IsStoreOf, IsRecordOf, IsPieceAt};
 
@@ -9,34 +9,13 @@ use crate::{forward, read, serve, split};
 use cub_rules::{Store, StoredPart};
 use node_kit::{Out, Outbox, Site, What};
 use partial_view::Added;
-use slot_plan::{Params, Plan};
+use slot_plan::small_plan;
 use std::alloc::Global;
 use std::process::Abort;
 use std::test::Fail;
 use tiger_base::{
     CubNo, FileNo, Instance, Kind, Library, LinkNo, MOST_VISIT, Message, Msg, NoMemory, Note, Part,
     PieceState, Rec, SlotNo, Span, Stamp, State, Tenancy, Want,
-};
-
-const SMALL: Params = Params {
-    cubs: 8,
-    disks: 1,
-    slots: 16,
-    play: 1000000,
-    pieces: 2,
-    block: 4,
-    beat: 10000,
-    delay: 2,
-    skew: 4000,
-    window_a: 800000,
-    window_b: 200000,
-    read_lead: 100000,
-    min_lead: 3000000,
-    max_lead: 4000000,
-    batch: 20,
-    heart: 50,
-    deadman: 1000000,
-    hold: 3000000,
 };
 
 /// Slot 1: visit n is due at 500000 + 1000000 n.
@@ -81,17 +60,13 @@ const fn want(visit: u64, block: u64, piece: u32) -> Want {
     }
 }
 
-/// Cub 3 of the plan with these numbers, whose conditions all hold.
-fn site_of(rt: &impl Abort, params: Params) -> Site
-    requires { IsInRange params }
-    ensures { result.plan.params ≡ params }
+/// Cub 3 of the small plan.
+fn site() -> Site
+    ensures { result.plan.params ≡ small }
 {
-    match Plan::new(params) {
-        Ok(plan) if plan.params.cubs > 3 => Site {
-            plan,
-            cub: CubNo(3),
-        },
-        _ => panic!(rt; "a condition is false"),
+    Site {
+        plan: small_plan(),
+        cub: CubNo(3),
     }
 }
 
@@ -213,72 +188,97 @@ fn all<'a>(alloc: Global, out: &mut Outbox<Msg<'a>>) -> Result<Vec<What>, NoMemo
     Ok(whats)
 }
 
-/// What goes out for a record at a beat and a reading.
-fn forwarded(rt: &impl Abort, alloc: Global, rec: Rec, stamp: Stamp) -> Result<Vec<What>, NoMemory>
+/// Fails unless these go out for a record at a beat and a reading, in this order.
+fn assert_forwarded(
+    rt: &impl Abort,
+    alloc: Global,
+    rec: Rec,
+    stamp: Stamp,
+    wanted: &[What],
+) -> Result<(), NoMemory>
     requires { stamp.reading ≤ most_reading }
 {
-    let site = site_of(rt, SMALL);
+    let site = site();
     let mut out = Outbox::new(alloc);
     let mut store = empty(alloc, &site);
     take(rt, &site, rec, &mut store)?;
     forward(&site, stamp, &mut store, &mut out)?;
-    all(alloc, &mut out)
+    assert_all(rt, alloc, &mut out, wanted)
+}
+
+/// Fails unless these are all outputs, in this order.
+fn assert_all<'a>(
+    rt: &impl Abort,
+    alloc: Global,
+    out: &mut Outbox<Msg<'a>>,
+    wanted: &[What],
+) -> Result<(), NoMemory> {
+    let whats = all(alloc, out)?;
+    assert_eq!(rt; whats.as_slice(), wanted);
+    Ok(())
+}
+
+fn at(beat: u64, reading: u64) -> Stamp
+    ensures { result.reading ≡ reading }
+{
+    Stamp { beat, reading }
 }
 
 #[test]
 fn state_goes_to_the_next_two_cubs(rt: HostRuntime) -> Result<(), Fail> {
+    let alloc = rt.alloc();
     let state = Note::ViewerState(State {
         tenancy: TENANCY,
         visit: 4,
     });
     let sent = [What::Sent(LinkNo(30), state), What::Sent(LinkNo(31), state)];
-    for (beat, reading, rec, count) in [
-        (151, 1499999, OWN, 0),
-        (151, 1500000, OWN, 2),
-        (160, 500000, OWN, 2),
-        (161, 500000, OWN, 0),
-        (160, 9500000, BACKUP, 0),
-    ] {
-        let whats = forwarded(&rt, rt.alloc(), rec, Stamp { beat, reading })?;
-        assert!(rt; whats.as_slice() == &sent[..count]);
-    }
+    assert_forwarded(&rt, alloc, OWN, at(151, 1499999), &[])?;
+    assert_forwarded(&rt, alloc, OWN, at(151, 1500000), &sent)?;
+    assert_forwarded(&rt, alloc, OWN, at(160, 500000), &sent)?;
+    assert_forwarded(&rt, alloc, OWN, at(161, 500000), &[])?;
+    assert_forwarded(&rt, alloc, BACKUP, at(160, 9500000), &[])?;
     Ok(())
 }
 
-/// What goes out to the disks at a reading.
-fn asked(rt: &impl Abort, alloc: Global, reading: u64) -> Result<Vec<What>, NoMemory>
+/// Fails unless these go out to the disks at a reading, in this order.
+fn assert_asked(
+    rt: &impl Abort,
+    alloc: Global,
+    reading: u64,
+    wanted: &[What],
+) -> Result<(), NoMemory>
     requires { reading ≤ most_reading }
 {
-    let site = site_of(rt, SMALL);
+    let site = site();
     let mut out = Outbox::new(alloc);
     let mut store = filled(rt, alloc, &site)?;
     let stamp = Stamp { beat: 0, reading };
     read(&site, stamp, &mut store, &mut out)?;
-    all(alloc, &mut out)
+    assert_all(rt, alloc, &mut out, wanted)
 }
 
 #[test]
 fn disk_is_asked_for_blocks_and_then_pieces(rt: HostRuntime) -> Result<(), Fail> {
     let block = What::Sent(LinkNo(43), Note::ReadAsk(want(3, 2, 0)));
     let piece = What::Sent(LinkNo(43), Note::ReadAsk(want(2, 1, 1)));
-    let asks = [block, piece];
-    for (reading, from) in [(2399999, 2), (2400000, 1), (3399999, 1), (3400000, 0)] {
-        let whats = asked(&rt, rt.alloc(), reading)?;
-        assert!(rt; whats.as_slice() == &asks[from..]);
-    }
+    assert_asked(&rt, rt.alloc(), 2399999, &[])?;
+    assert_asked(&rt, rt.alloc(), 2400000, &[piece])?;
+    assert_asked(&rt, rt.alloc(), 3399999, &[piece])?;
+    assert_asked(&rt, rt.alloc(), 3400000, &[block, piece])?;
     Ok(())
 }
 
-/// What goes out to the viewers at a reading, where the parts of block and piece are stored.
-fn served(
+/// Fails unless these go out at a reading, in this order if the parts of block and piece are stored.
+fn assert_served(
     rt: &impl Abort,
     alloc: Global,
     library: &Library,
     reading: u64,
-) -> Result<Vec<What>, NoMemory>
+    wanted: &[What],
+) -> Result<(), NoMemory>
     requires { reading ≤ most_reading }
 {
-    let site = site_of(rt, SMALL);
+    let site = site();
     let mut out = Outbox::new(alloc);
     let mut store = filled(rt, alloc, &site)?;
     let piece = part_of(rt, library, 4, b"56");
@@ -287,7 +287,7 @@ fn served(
     take_part(rt, &site, want(3, 2, 0), block, &mut store)?;
     let stamp = Stamp { beat: 350, reading };
     serve(&site, stamp, &mut store, &mut out)?;
-    all(alloc, &mut out)
+    assert_all(rt, alloc, &mut out, wanted)
 }
 
 /// A library of the file `1234567890`.
@@ -330,30 +330,37 @@ fn what_is_due_goes_to_the_viewers(rt: HostRuntime) -> Result<(), Fail> {
         sent: 350,
         part: span(4, 2),
     };
-    let all = [
-        What::Sent(LinkNo(19), block),
-        What::Dropped(OWN),
-        What::Dropped(BACKUP),
-        What::Sent(LinkNo(19), piece),
-    ];
-    for (reading, from) in [(2499999, 4), (2500000, 2), (3499999, 2), (3500000, 0)] {
-        let whats = served(&rt, rt.alloc(), &library, reading)?;
-        assert!(rt; whats.as_slice() == &all[from..]);
-    }
+    let (block, own) = (What::Sent(LinkNo(19), block), What::Dropped(OWN));
+    let (backup, piece) = (What::Dropped(BACKUP), What::Sent(LinkNo(19), piece));
+    assert_served(&rt, rt.alloc(), &library, 2499999, &[])?;
+    assert_served(&rt, rt.alloc(), &library, 2500000, &[backup, piece])?;
+    assert_served(&rt, rt.alloc(), &library, 3499999, &[backup, piece])?;
+    assert_served(
+        &rt,
+        rt.alloc(),
+        &library,
+        3500000,
+        &[block, own, backup, piece],
+    )?;
     Ok(())
 }
 
-/// What goes out for the backup record at a reading, the piece and the visit that are kept, and whether it is known then that
-/// no visit that is due as late as that record's is still to be split.
-fn mirrored(
+/// The piece and the visit that are kept, and whether it is known that no visit that is due as late as the backup
+/// record's is still to be split.
+type Kept = (Option<PieceState>, Option<(SlotNo, u64)>, bool);
+
+/// Fails unless these go out for the backup record at a reading, and this is kept.
+fn assert_mirrored(
     rt: &impl Abort,
     alloc: Global,
     believes: bool,
     reading: u64,
-) -> Result<(Vec<What>, Option<PieceState>, Option<(SlotNo, u64)>, bool), NoMemory>
+    sent: &[What],
+    kept: Kept,
+) -> Result<(), NoMemory>
     requires { reading ≤ most_reading }
 {
-    let site = site_of(rt, SMALL);
+    let site = site();
     let mut out = Outbox::new(alloc);
     let mut store = empty(alloc, &site);
     take(rt, &site, OWN, &mut store)?;
@@ -361,23 +368,20 @@ fn mirrored(
     store.believes = believes;
     let stamp = Stamp { beat: 0, reading };
     split(&site, stamp, &mut store, &mut out)?;
-    let kept = store.splits.take_of(Instance(0));
+    let visit = store.splits.take_of(Instance(0));
     let known = store.view.is_split_from(2500000);
-    let whats = all(alloc, &mut out)?;
-    Ok((whats, store.unasked.after(None), kept, known))
+    assert_eq!(rt; (store.unasked.after(None), visit, known), kept);
+    assert_all(rt, alloc, &mut out, sent)
 }
 
 #[test]
 fn visit_of_a_dead_cub_is_split(rt: HostRuntime) -> Result<(), Fail> {
     let second = PieceState { piece: 2, ..PIECE };
-    let sent = [What::Sent(LinkNo(30), Note::MirrorState(second))];
-    let (whats, piece, visit, known) = mirrored(&rt, rt.alloc(), true, 2366000)?;
-    assert!(rt; whats.as_slice() == sent.as_slice());
-    assert!(rt; piece == Some(PIECE));
-    assert!(rt; visit == Some((SlotNo(1), 2)) && known);
-    for (believes, reading) in [(true, 2366001), (false, 2366000)] {
-        let (whats, piece, visit, known) = mirrored(&rt, rt.alloc(), believes, reading)?;
-        assert!(rt; whats.is_empty() && piece.is_none() && visit.is_none() && !known);
-    }
+    let sent = What::Sent(LinkNo(30), Note::MirrorState(second));
+    let kept = (Some(PIECE), Some((SlotNo(1), 2)), true);
+    let nothing = (None, None, false);
+    assert_mirrored(&rt, rt.alloc(), true, 2366000, &[sent], kept)?;
+    assert_mirrored(&rt, rt.alloc(), true, 2366001, &[], nothing)?;
+    assert_mirrored(&rt, rt.alloc(), false, 2366000, &[], nothing)?;
     Ok(())
 }
