@@ -5,49 +5,27 @@ ghost use Rattle.cub_rules.specs.State.{IsStoreOf};
 
 use cub_rules::{Store, StoredPart};
 use node_kit::{Out, Outbox, Site, What};
-use slot_plan::{Params, Plan};
+use slot_plan::small_plan;
 use std::alloc::Global;
 use tiger_base::{
     Ask, CubNo, DiskNo, FileNo, Instance, Kind, Message, Msg, NoMemory, Part, Rec, SlotNo, Stamp,
     Tenancy, Visit, Want,
 };
 
-/// A cub of a plan of eight cubs with a disk each: slot s is first due at s times 500000.
+/// A cub of the small plan: slot s is first due at s times 500000.
 pub fn site(cub: u32) -> Site
     requires { cub < 8 }
     ensures cub { result.cub.0 ≡ cub }
     ensures cubs { result.plan.params.cubs ≡ 8 }
     ensures slots { result.plan.params.slots ≡ 16 }
 {
-    let plan = Plan {
-        params: Params {
-            cubs: 8,
-            disks: 1,
-            slots: 16,
-            play: 1000000,
-            pieces: 2,
-            block: 4,
-            beat: 10000,
-            delay: 2,
-            skew: 4000,
-            window_a: 800000,
-            window_b: 200000,
-            read_lead: 100000,
-            min_lead: 3000000,
-            max_lead: 4000000,
-            batch: 20,
-            heart: 50,
-            deadman: 1000000,
-            hold: 3000000,
-        },
-    };
     Site {
-        plan,
+        plan: small_plan(),
         cub: CubNo(cub),
     }
 }
 
-/// The tick of a beat, where the clock is right.
+/// The tick of a beat by a clock that is right.
 pub fn tick(beat: u64) -> Stamp
     requires { beat ≤ 1000 }
     ensures { result.reading ≤ most_reading }
