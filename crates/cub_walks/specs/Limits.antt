@@ -1,5 +1,5 @@
 -- The times between which a beat forwards and splits, and the messages that the walks send.
-use Rattle.std.specs.Prelude.{ℕ, ◌+◌, ◌*◌, List, [], ◌∷◌, if◌then◌else◌}
+use Rattle.std.specs.Prelude.{ℕ, ◌+◌, ◌*◌, List, [], ◌∷◌}
 use Rattle.tiger_base.specs.declared.number.Stamp.{Stamp}
 use Rattle.tiger_base.specs.declared.tenancy.State.{State}
 use Rattle.tiger_base.specs.declared.tenancy.Want.{Want}
@@ -9,11 +9,11 @@ use Rattle.node_kit.specs.declared.outbox.Out.{Out}
 use Rattle.node_kit.specs.declared.outbox.Out.TheVariants as out
 use Rattle.node_kit.specs.Ways.{way_ahead, way_to_disk}
 use Rattle.slot_plan.specs.declared.params.Params.{Params}
-use Rattle.state_forward.specs.Forwards.{is_batch_beat}
+use Rattle.state_forward.specs.Forwards.{lead_in}
 
 -- the time up to which states are forwarded in a beat
 unfoldable pub forward_limit : Params → Stamp → ℕ
-forward_limit p stamp = stamp.reading + (if is_batch_beat p stamp.beat then p.max_lead else p.min_lead)
+forward_limit p stamp = stamp.reading + lead_in p stamp.beat
 
 -- the time from which on visits are split in a beat: one that is due earlier is due too early
 unfoldable pub split_limit : Params → Stamp → ℕ

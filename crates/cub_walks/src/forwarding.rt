@@ -16,7 +16,7 @@ use cub_rules::Store;
 use node_kit::{Out, Outbox, Site};
 use partial_view::{CubView, Flag, Line};
 use slot_plan::Plan;
-use state_forward::must_forward;
+use state_forward::{lead_in, must_forward};
 use tiger_base::{Micros, Msg, NoMemory, Stamp, State};
 
 /// Sends the state of the next visit to the next two cubs for each own record whose next visit is due within the lead of
@@ -49,12 +49,7 @@ fn forward_limit(plan: &Plan, stamp: Stamp) -> Micros
     requires { stamp.reading ≤ most_reading }
     ensures { result ≡ forward_limit plan.now.params stamp }
 {
-    let params = plan.params();
-    if stamp.beat % params.batch == 0 {
-        stamp.reading + params.max_lead
-    } else {
-        stamp.reading + params.min_lead
-    }
+    stamp.reading + lead_in(plan, stamp.beat)
 }
 
 /// Forwards the states of all lines.
