@@ -1,5 +1,4 @@
 use Rattle.std.proofs.Common.{◌≡◌, refl, arith}
-use Rattle.tiger_base.specs.declared.tenancy.Tenancy.{Tenancy}
 use Rattle.run_model.specs.Samples.{three}
 use Rattle.run_model.proofs.OnSamples.{on_samples}
 use Rattle.run_model.proofs.rows.free.Goals as goal

@@ -1,4 +1,4 @@
-use Rattle.std.proofs.Common.{◌≡◌, refl, sym, ⊎_elim, inl, inr, arith}
+use Rattle.std.proofs.Common.{refl, sym, ⊎_elim, inl, inr, arith}
 use Rattle.std.proofs.lemmas.Bool.{false≢true}
 use Rattle.run_model.specs.Samples.{ask}
 use Rattle.run_model.proofs.OnSamples.{on_samples, only-order}
