@@ -307,6 +307,8 @@ pub fn timed_run()
 
 /// Runs of ten beats, in which cub 0 sends the viewers a heartbeat in beat 3.
 pub fn carried_run()
+    ensures in_time { (k : Kept) (p : IsPlan small) → IsCarriedRun
+        (kept k p 10 (dying None None None) [] (sends 0 3 Heartbeat ∷ gets 0 5 Heartbeat ∷ [])) }
     ensures late { (k : Kept) (p : IsPlan small) → IsCarriedRun
         (kept k p 10 (dying None None None) [] (sends 0 3 Heartbeat ∷ gets 0 6 Heartbeat ∷ [])) → ⊥ }
     ensures at_once { (k : Kept) (p : IsPlan small) → IsCarriedRun

@@ -9,7 +9,7 @@ use Rattle.run_model.proofs.rows.rightly_put.Goals as goal
 
 pub returns-clause-rightly : goal.returns-clause-rightly
 unfolding on_samples
-returns-clause-rightly c = (record { free = λ t e. absurd (cc); rightly = record { ask = ask; ordered = inl refl; asked = record { instance = refl; file = refl; count = refl; disk = refl }; slot = omega arith; window = refl; cub = inl refl; once = omega arith } }, tt)
+returns-clause-rightly c = (record { free = λ t e. absurd (cc); rightly = record { ask = ask; ordered = inl refl; asked = record { instance = refl; file = refl; count = omega arith; disk = refl }; slot = omega arith; window = refl; cub = inl refl; once = omega arith } }, tt)
 
 pub returns-clause-held : goal.returns-clause-held
 unfolding on_samples
@@ -53,7 +53,7 @@ returns-clause-too_short c h = let e = only-order (ask) h.0.rightly.ask h.0.righ
 
 pub returns-clause-for_dead : goal.returns-clause-for_dead
 unfolding on_samples
-returns-clause-for_dead c = (tt, (record { free = λ t e. absurd (cc); rightly = record { ask = ask; ordered = inl refl; asked = record { instance = refl; file = refl; count = refl; disk = refl }; slot = omega arith; window = refl; cub = inr (refl, refl); once = omega arith } }, tt))
+returns-clause-for_dead c = (tt, (record { free = λ t e. absurd (cc); rightly = record { ask = ask; ordered = inl refl; asked = record { instance = refl; file = refl; count = omega arith; disk = refl }; slot = omega arith; window = refl; cub = inr (refl, refl); once = omega arith } }, tt))
 
 pub returns-clause-for_living : goal.returns-clause-for_living
 unfolding on_samples
