@@ -47,9 +47,9 @@ on-sixteen life from to sender receiver e a b =
     let f : 0 ≡ from = ap (λ (o : Option (ℕ × ℕ)). (unwrap_or o (0, 0)).0) e in
     let t : 17 ≡ to = ap (λ (o : Option (ℕ × ℕ)). (unwrap_or o (0, 0)).1) e in
     let s : unwrap_or (slice_get journals 0) [] ≡ sender =
-        ap (λ (o : Option (List Entry)). unwrap_or o []) (subst (λ (n : ℕ). slice_get journals n ≡ Some sender) (sym f) a) in
+    ap (λ (o : Option (List Entry)). unwrap_or o []) (subst (λ (n : ℕ). slice_get journals n ≡ Some sender) (sym f) a) in
     let r : unwrap_or (slice_get journals 17) [] ≡ receiver =
-        ap (λ (o : Option (List Entry)). unwrap_or o []) (subst (λ (n : ℕ). slice_get journals n ≡ Some receiver) (sym t) b) in
+    ap (λ (o : Option (List Entry)). unwrap_or o []) (subst (λ (n : ℕ). slice_get journals n ≡ Some receiver) (sym t) b) in
     subst (λ (x : List Entry). AreCarriedOn 2 10 life (sent_on 16 x) (got_on 16 receiver)) s
     (subst (λ (y : List Entry). AreCarriedOn 2 10 life (sent_on 16 (unwrap_or (slice_get journals 0) [])) (got_on 16 y)) r
     (refl, omega arith, omega arith, tt))
@@ -59,7 +59,7 @@ on-each k plan l from to sender receiver e a b =
     let life = lifetime_of (run k plan).course to in
     ⊎_elim
     (λ (same : 16 ≡ l). subst (λ (m : ℕ). AreCarriedOn 2 10 life (sent_on m sender) (got_on m receiver)) same
-        (on-sixteen life from to sender receiver (subst (λ (m : ℕ). ends_of (links_of small) m ≡ Some (from, to)) (sym same) e) a b))
+    (on-sixteen life from to sender receiver (subst (λ (m : ℕ). ends_of (links_of small) m ≡ Some (from, to)) (sym same) e) a b))
     (λ (other : 16 ≡ l → ⊥). rw (none-sent l (ne_eqb 16 l other) from sender a, none-got l (ne_eqb 16 l other) to receiver b) tt)
     (cases_eq 16 l)
 
