@@ -1,4 +1,4 @@
-use Rattle.std.proofs.Common.{◌≡◌, ℕ, Bool, true, false, IsTrue, List, [], ◌∷◌, Option, Some, None, refl, sym, ap, subst, ⊎_elim, arith}
+use Rattle.std.proofs.Common.{◌≡◌, ℕ, false, IsTrue, List, [], ◌∷◌, Option, Some, None, refl, sym, ap, subst, ⊎_elim, arith}
 use Rattle.std.specs.Prelude.{slice_get, unwrap_or, ◌==◌}
 use Rattle.std.proofs.lemmas.Bool.{false≢true, ne_eqb, cases_eq}
 use Rattle.tiger_base.specs.declared.message.Note.TheVariants.{Heartbeat}
@@ -10,7 +10,7 @@ use Rattle.node_kit.specs.Links.{links_of, ends_of}
 use Rattle.node_kit.specs.Life.{Lifetime, lifetime_of}
 use Rattle.run_facts.specs.Carried.{AreCarriedOn, sent_on, got_on}
 use Rattle.run_model.specs.Samples.{all, sends, gets, dying, kept}
-use Rattle.run_model.specs.Tests.{each_from, is_empty}
+use Rattle.run_model.specs.Tests.{is_empty}
 use Rattle.run_model.specs.Ways.{LinkCarries}
 use Rattle.run_model.proofs.Ends.{carried}
 use Rattle.run_model.proofs.Timely.{numbered_found}
