@@ -157,6 +157,8 @@ pub fn patience()
         (end_of_tick 1 0 (starts 0 1 ask false ∷ put 0 1 three ∷ [])) 0 10000 }
     ensures stopped { IsNotPassedOver small ordered
         (end_of_tick 2 0 (starts 0 1 ask false ∷ gone 1 0 ∷ [])) 0 20000 }
+    ensures taken { IsNotPassedOver small ordered
+        (end_of_tick 1 0 (put 0 0 (seat 1 0 2) ∷ starts 0 1 ask false ∷ [])) 0 10000 }
     ensures waits { IsNotPassedOver small ordered
         (end_of_tick 1 0 (starts 0 1 ask false ∷ [])) 0 10000 → ⊥ }
     ensures put_too_late { IsNotPassedOver small ordered

@@ -1,6 +1,10 @@
-use Rattle.std.proofs.Common.{refl, sym, ⊎_elim, inl, inr, arith}
-use Rattle.std.proofs.lemmas.Bool.{false≢true}
-use Rattle.run_model.specs.Samples.{ask}
+use Rattle.std.proofs.Common.{◌≡◌, ℕ, ◌+◌, ◌*◌, ◌/◌, ◌<◌, IsTrue, refl, sym, ap, ◌∙◌, ⊎_elim, inl, inr, arith}
+use Rattle.std.proofs.lemmas.Bool.{false≢true, leb-true, ltb-true}
+use Rattle.tiger_base.specs.declared.tenancy.Ask.{Ask}
+use Rattle.slot_plan.specs.Samples.{small}
+use Rattle.slot_plan.specs.Times.{disk_of, in_window}
+use Rattle.run_model.specs.Samples.{ask, seat}
+use Rattle.run_model.proofs.Reflects.{and_left, and_right}
 use Rattle.run_model.proofs.OnSamples.{on_samples, only-order}
 use Rattle.run_model.proofs.rows.patience.Goals as goal
 
@@ -39,3 +43,21 @@ returns-clause-for_dead c h = ⊎_elim (λ t. let holder = t.1 in absurd (cc)) (
 pub returns-clause-for_living : goal.returns-clause-for_living
 unfolding on_samples
 returns-clause-for_living c = record { taken = λ a slot visit o s p g l d w. ⊎_elim (λ own. ⊎_elim (λ x. absurd (false≢true (sym x.1))) (λ n. absurd n) own.1) (λ next. absurd (false≢true next.1.0)) s }
+
+-- visit 0 of slot 1 is the only one of disk 0 in the window
+only-one : (slot visit : ℕ) → slot < 16 → disk_of small visit ≡ 0 → IsTrue (in_window small 10000 slot visit) → (slot ≡ 1) × (visit ≡ 0)
+unfolding on_samples
+only-one slot visit low on_disk window =
+    let before = leb-true (slot * 8 * 1000000 / 16 + visit * 1000000) 810000 (and_left _ _ window) in
+    let after = ltb-true 210000 (slot * 8 * 1000000 / 16 + visit * 1000000) (and_right _ _ window) in
+    (omega (arith, before, after, low), omega (arith, before, after, low))
+
+pub returns-clause-taken : goal.returns-clause-taken
+unfolding on_samples
+returns-clause-taken c = record {
+  taken = λ a slot visit o s p g low d window.
+      let same = only-order ask a o in
+      let first : 0 ≡ a.disk.0 = ap (λ (x : Ask). x.disk.0) same in
+      let here = only-one slot visit low (d ∙ sym first) window in
+      rw (here.0, here.1) (inl (seat 1 0 2, refl, omega arith, omega arith));
+}
