@@ -90,10 +90,12 @@ fn stops()
 /// visit 9 was told before, or the one up to visit 3 is not in form (it begins with visit 5), it
 /// is not.
 fn places()
-    ensures late { (p : Params) → p.cubs ≡ 8 → p.disks ≡ 1 → p.slots ≡ 16 → p.play ≡ 10 → is_stopped p ((record { beat = 5; what = Finish (record { 0 = 0 }) }) ∷ [])
+    ensures late { (p : Params) → p.cubs ≡ 8 → p.disks ≡ 1 → p.slots ≡ 16 → p.play ≡ 10 →
+        is_stopped p ((record { beat = 5; what = Finish (record { 0 = 0 }) }) ∷ [])
         ((record { stamp = record { beat = 2; reading = 20 }; what = Got (record { 0 = 24 }) (Placed (record { instance = record { 0 = 0 }; file = record { 0 = 0 }; slot = record { 0 = 0 }; first = 0; last = 3 })) })
         ∷ []) 0 5 50 ≡ false }
-    ensures told_before { (p : Params) → p.cubs ≡ 8 → p.disks ≡ 1 → p.slots ≡ 16 → p.play ≡ 10 → is_stopped p ((record { beat = 5; what = Finish (record { 0 = 0 }) }) ∷ [])
+    ensures told_before { (p : Params) → p.cubs ≡ 8 → p.disks ≡ 1 → p.slots ≡ 16 → p.play ≡ 10 →
+        is_stopped p ((record { beat = 5; what = Finish (record { 0 = 0 }) }) ∷ [])
         ((record { stamp = record { beat = 1; reading = 10 }; what = Got (record { 0 = 24 }) (Placed (record { instance = record { 0 = 0 }; file = record { 0 = 0 }; slot = record { 0 = 0 }; first = 0; last = 9 })) })
         ∷ (record { stamp = record { beat = 2; reading = 20 }; what = Got (record { 0 = 24 }) (Placed (record { instance = record { 0 = 0 }; file = record { 0 = 0 }; slot = record { 0 = 0 }; first = 0; last = 3 })) })
         ∷ []) 0 5 50 ≡ true }

@@ -21,7 +21,7 @@ use Rattle.node_kit.specs.declared.journal.Entry.{Entry}
 use Rattle.run_model.specs.declared.parcels.Parcel.{Parcel}
 use Rattle.run_model.specs.Fronts.{AnyByRecursion}
 use Rattle.run_model.specs.Served.{journal_at, IsPut, IsVisitOf, wholes_got, pieces_got, pieces_numbered, want_of_visit, WasSent, CameWhole, PieceCame, CameInPieces, IsDelivered}
-use Rattle.run_model.specs.Tests.{each_below, only, is_empty, same_want, same_span, same_parcel, says, says_in, is_about, was_sent, whole_fits, came_whole, piece_fits, piece_came, pieces_fit, came_in_pieces, visited, some_tenancy, came}
+use Rattle.run_model.specs.Tests.{all_below, only, is_empty, same_want, same_span, same_parcel, says, says_in, is_about, was_sent, whole_fits, came_whole, piece_fits, piece_came, pieces_fit, came_in_pieces, visited, some_tenancy, came}
 use Rattle.run_model.proofs.Reflects.{and_both, and_left, and_right, or_either, both, either, equal, less, at_most, any_gives, any, each_found, each_gives}
 
 -- lists of one element and of none
@@ -233,7 +233,7 @@ piece_has_come p journals t n block k =
 
 -- all of them did
 all_pieces : (p : Params) (journals : List (List Entry)) (t : Tenancy) (n : ℕ) (block : Span)
-    → IsTrue (each_below (λ before. piece_came p journals t n block (before + 1)) p.pieces)
+    → IsTrue (all_below (λ before. piece_came p journals t n block (before + 1)) p.pieces)
     ↔ ((k : ℕ) → 1 ≤ k → k ≤ p.pieces → PieceCame p journals t n block k)
 all_pieces p journals t n block =
     let test : ℕ → Bool = λ before. piece_came p journals t n block (before + 1) in (

@@ -8,22 +8,22 @@ use Rattle.node_kit.specs.declared.course.Kept.{Kept}
 use Rattle.node_kit.specs.declared.journal.What.{What}
 use Rattle.node_kit.specs.declared.journal.What.TheVariants as what
 use Rattle.node_kit.specs.declared.journal.Entry.{Entry}
-use Rattle.node_kit.specs.Links.{Links, links_of, ends_of}
+use Rattle.node_kit.specs.Links.{Links, links_of, ends_of, leads_to, leads_from}
 use Rattle.run_facts.specs.Carried.{IsAtItsEnd}
 use Rattle.run_model.specs.Runs.{IsCarriedRun}
-use Rattle.run_model.specs.Tests.{each_from, leads_to, leads_from, at_its_end, at_ends}
+use Rattle.run_model.specs.Tests.{each_from, at_its_end, at_ends}
 use Rattle.run_model.specs.Ways.{LinkCarries}
 use Rattle.run_model.proofs.Reflects.{equal, all}
 use Rattle.run_model.proofs.Timely.{numbered_found, numbered_gives}
 
-leads_to_is : (o : Option (ℕ × ℕ)) (n : ℕ) → IsTrue (leads_to o n) ↔ ((from : ℕ) × ◌≡◌ {A = Option (ℕ × ℕ)} o (Some (from, n)))
+leads_to_is : (o : Option (ℕ × ℕ)) (n : ℕ) → IsTrue (leads_to n o) ↔ ((from : ℕ) × ◌≡◌ {A = Option (ℕ × ℕ)} o (Some (from, n)))
 leads_to_is None n = ((λ h. absurd (false≢true h)), (λ g. absurd (cc (g.1))))
 leads_to_is (Some ends) n = (
   (λ h. let e : ends.1 ≡ n = (equal ends.1 n).0 h in (ends.0, λ i. Some (ends.0, e i))),
   (λ g. (equal ends.1 n).1 (ap (λ (o : Option (ℕ × ℕ)). (unwrap_or o (0, 0)).1) g.1)),
 )
 
-leads_from_is : (o : Option (ℕ × ℕ)) (n : ℕ) → IsTrue (leads_from o n) ↔ ((to : ℕ) × ◌≡◌ {A = Option (ℕ × ℕ)} o (Some (n, to)))
+leads_from_is : (o : Option (ℕ × ℕ)) (n : ℕ) → IsTrue (leads_from n o) ↔ ((to : ℕ) × ◌≡◌ {A = Option (ℕ × ℕ)} o (Some (n, to)))
 leads_from_is None n = ((λ h. absurd (false≢true h)), (λ g. absurd (cc (g.1))))
 leads_from_is (Some ends) n = (
   (λ h. let e : ends.0 ≡ n = (equal ends.0 n).0 h in (ends.1, λ i. Some (e i, ends.1))),

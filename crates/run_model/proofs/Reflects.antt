@@ -4,7 +4,7 @@ use Rattle.std.specs.Prelude.{◌==◌, ◌↔◌, ◌⊎◌}
 use Rattle.std.specs.List.{list_any, list_all, AllByRecursion}
 use Rattle.std.proofs.lemmas.Bool.{ltb-true, leb-true, lt-ltb, le-leb, eqb-true, eq-eqb, false≢true, cases_eq}
 use Rattle.run_model.specs.Fronts.{AnyByRecursion}
-use Rattle.run_model.specs.Tests.{each_below, some_below}
+use Rattle.run_model.specs.Tests.{all_below, some_below}
 
 pub and_both : (a b : Bool) → IsTrue a → IsTrue b → IsTrue (a && b)
 and_both true b h g = g
@@ -75,16 +75,16 @@ all_gives P test f (x ∷ xs) h = and_both (test x) (list_all test xs) (f x h.0)
 pub all : {X : Type 0} (P : X → Type 0) (test : X → Bool) → ((x : X) → IsTrue (test x) ↔ P x) → (xs : List X) → IsTrue (list_all test xs) ↔ AllByRecursion P xs
 all P test f xs = (all_found P test (λ x. (f x).0) xs, all_gives P test (λ x. (f x).1) xs)
 
-pub each_found : (test : ℕ → Bool) (n : ℕ) → IsTrue (each_below test n) → (k : ℕ) → k < n → IsTrue (test k)
+pub each_found : (test : ℕ → Bool) (n : ℕ) → IsTrue (all_below test n) → (k : ℕ) → k < n → IsTrue (test k)
 each_found test zero h k l = absurd (omega arith)
 each_found test (suc n) h k l = ⊎_elim
-    (λ (e : k ≡ n). rw e (and_right (each_below test n) (test n) h))
-    (λ (ne : k ≡ n → ⊥). each_found test n (and_left (each_below test n) (test n) h) k (omega arith))
+    (λ (e : k ≡ n). rw e (and_right (all_below test n) (test n) h))
+    (λ (ne : k ≡ n → ⊥). each_found test n (and_left (all_below test n) (test n) h) k (omega arith))
     (cases_eq k n)
 
-pub each_gives : (test : ℕ → Bool) (n : ℕ) → ((k : ℕ) → k < n → IsTrue (test k)) → IsTrue (each_below test n)
+pub each_gives : (test : ℕ → Bool) (n : ℕ) → ((k : ℕ) → k < n → IsTrue (test k)) → IsTrue (all_below test n)
 each_gives test zero h = refl
-each_gives test (suc n) h = and_both (each_below test n) (test n) (each_gives test n (λ k l. h k (omega arith))) (h n (omega arith))
+each_gives test (suc n) h = and_both (all_below test n) (test n) (each_gives test n (λ k l. h k (omega arith))) (h n (omega arith))
 
 pub some_gives : (test : ℕ → Bool) (n k : ℕ) → k < n → IsTrue (test k) → IsTrue (some_below test n)
 some_gives test zero k l h = absurd (omega arith)

@@ -14,7 +14,7 @@ use Rattle.node_kit.specs.declared.journal.Entry.{Entry}
 use Rattle.node_kit.specs.Life.{death_of, lifetime_of}
 use Rattle.run_facts.specs.Timed.{IsRead, IsNotBelow, AreRising, is_died, death_within, EndsInDeath, IsDeathOf, IsTimed, AreTimed, DieApart}
 use Rattle.run_model.specs.Runs.{IsTimedRun}
-use Rattle.run_model.specs.Tests.{is_timed_run, each_from, each_below, is_read, rises_from, is_before_death, ends_in_death, dies_as, is_timed, timed_in, one_lives}
+use Rattle.run_model.specs.Tests.{is_timed_run, each_from, all_below, is_read, rises_from, is_before_death, ends_in_death, dies_as, is_timed, timed_in, one_lives}
 use Rattle.run_model.proofs.Reflects.{and_both, and_left, and_right, both, negated, equal, less, at_most, all, each_found, each_gives}
 
 reads : (p : Params) (e : Entry) → IsTrue (is_read p e) ↔ IsRead p e
@@ -185,7 +185,7 @@ none_or None b = ((λ h. inl refl), (λ g. refl))
 none_or (Some x) None = ((λ h. inr refl), (λ g. refl))
 none_or (Some x) (Some y) = ((λ h. absurd (false≢true h)), (λ g. ⊎_elim (λ (e : Some x ≡ None). absurd (cc)) (λ (e : Some y ≡ None). absurd (cc)) g))
 
-all_apart : (c : Course) → IsTrue (each_below (one_lives c) c.plan.params.cubs) ↔ DieApart c.plan.params (lifetime_of c)
+all_apart : (c : Course) → IsTrue (all_below (one_lives c) c.plan.params.cubs) ↔ DieApart c.plan.params (lifetime_of c)
 all_apart c = (
   (λ h. λ n l. (none_or (death_of c n) (death_of c ((n + 1) % c.plan.params.cubs))).0 (each_found (one_lives c) c.plan.params.cubs h n l)),
   (λ g. each_gives (one_lives c) c.plan.params.cubs (λ n l. (none_or (death_of c n) (death_of c ((n + 1) % c.plan.params.cubs))).1 (g n l))),
@@ -195,7 +195,7 @@ all_apart c = (
 pub timed : (k : Kept) → IsTrue (is_timed_run k) ↔ IsTimedRun k
 timed k =
     let a = each_from (timed_in k.course) 0 k.journals in
-    let b = each_below (one_lives k.course) k.course.plan.params.cubs in (
+    let b = all_below (one_lives k.course) k.course.plan.params.cubs in (
       (λ h. record { timed = (all_times k.course k.journals).0 (and_left a b h); apart = (all_apart k.course).0 (and_right a b h) }),
       (λ g. and_both a b ((all_times k.course k.journals).1 g.timed) ((all_apart k.course).1 g.apart)),
     )

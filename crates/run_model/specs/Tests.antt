@@ -21,16 +21,16 @@ use Rattle.run_facts.specs.Timed.{is_died, death_within}
 use Rattle.node_kit.specs.declared.course.Course.{Course}
 use Rattle.node_kit.specs.declared.course.Kept.{Kept}
 use Rattle.node_kit.specs.Life.{death_of}
-use Rattle.node_kit.specs.Links.{Links, ends_of}
+use Rattle.node_kit.specs.Links.{Links, ends_of, leads_to, leads_from}
 use Rattle.run_model.specs.declared.parcels.Parcel.{Parcel}
 use Rattle.run_model.specs.declared.parcels.Form.{Form}
 use Rattle.run_model.specs.declared.parcels.Form.TheVariants.{Whole, Piece, AnyPiece}
 use Rattle.run_model.specs.Served.{journal_at, whole_in, piece_in, wholes_got, pieces_got, pieces_numbered, want_of_visit}
 
 -- whether a test holds of each number below a bound, and of one of them
-abbrev pub each_below : (ℕ → Bool) → ℕ → Bool
-each_below test zero = true
-each_below test (suc n) = each_below test n && test n
+abbrev pub all_below : (ℕ → Bool) → ℕ → Bool
+all_below test zero = true
+all_below test (suc n) = all_below test n && test n
 
 abbrev pub some_below : (ℕ → Bool) → ℕ → Bool
 some_below test zero = false
@@ -119,7 +119,7 @@ piece_came p journals t visit block k =
     piece_fits p journals t visit block k (only (pieces_numbered k (pieces_got p journals t.instance.0 visit)))
 
 abbrev pub all_pieces_came : Params → List (List Entry) → Tenancy → ℕ → Span → Bool
-all_pieces_came p journals t visit block = each_below (λ before. piece_came p journals t visit block (before + 1)) p.pieces
+all_pieces_came p journals t visit block = all_below (λ before. piece_came p journals t visit block (before + 1)) p.pieces
 
 abbrev pub pieces_fit : Params → List (List Entry) → Tenancy → ℕ → Option Place → Bool
 pieces_fit p journals t visit None = false
@@ -218,19 +218,10 @@ is_timed p beats death journal =
     && (rises_from (record { beat = 0; reading = 0 }) journal
     && (list_all (λ e. nat_lt e.stamp.beat beats) journal && dies_as (death_within beats death) journal))
 
--- whether a link leads to a node, and from it
-abbrev pub leads_to : Option (ℕ × ℕ) → ℕ → Bool
-leads_to None n = false
-leads_to (Some ends) n = ends.1 == n
-
-abbrev pub leads_from : Option (ℕ × ℕ) → ℕ → Bool
-leads_from None n = false
-leads_from (Some ends) n = ends.0 == n
-
 -- whether an entry stands at the right end of its link
 abbrev pub at_its_end : Links → ℕ → What → Bool
-at_its_end t n (what.Got link message) = leads_to (ends_of t link.0) n
-at_its_end t n (what.Sent link message) = leads_from (ends_of t link.0) n
+at_its_end t n (what.Got link message) = leads_to n (ends_of t link.0)
+at_its_end t n (what.Sent link message) = leads_from n (ends_of t link.0)
 at_its_end t n other = true
 
 -- whether all entries of a node's journal do
@@ -247,4 +238,4 @@ one_lives c n = not (is_some (death_of c n) && is_some (death_of c ((n + 1) % c.
 
 -- whether all entries of a run are timed, and no two cubs side by side die
 abbrev pub is_timed_run : Kept → Bool
-is_timed_run k = each_from (timed_in k.course) 0 k.journals && each_below (one_lives k.course) k.course.plan.params.cubs
+is_timed_run k = each_from (timed_in k.course) 0 k.journals && all_below (one_lives k.course) k.course.plan.params.cubs

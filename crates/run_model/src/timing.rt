@@ -4,7 +4,7 @@ ghost use Rattle.std.specs.List.{list_all};
 ghost use Rattle.node_kit.specs.Life.{death_of};
 ghost use Rattle.run_facts.specs.Timed.{death_within};
 ghost use Rattle.run_model.specs.Runs.{IsTimedRun};
-ghost use Rattle.run_model.specs.Tests.{is_timed_run, each_from, each_below, timed_in, one_lives, is_read, rises_from, never_dies, dies_as, ends_in_death};
+ghost use Rattle.run_model.specs.Tests.{is_timed_run, each_from, all_below, timed_in, one_lives, is_read, rises_from, never_dies, dies_as, ends_in_death};
 
 use crate::missing::is_died;
 use crate::times::time_of;
@@ -145,7 +145,7 @@ fn ends_in_death(death: Beat, journal: &[Entry]) -> bool
 
 /// Whether of two cubs that stand side by side at most one has a death.
 fn die_apart(course: &Course) -> bool
-    ensures { result ≡ each_below (one_lives course.now) course.now.plan.params.cubs }
+    ensures { result ≡ all_below (one_lives course.now) course.now.plan.params.cubs }
 {
     let cubs = course.plan.params.cubs;
     for n in 0..cubs {

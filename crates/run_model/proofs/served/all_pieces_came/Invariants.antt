@@ -1,7 +1,7 @@
 use Rattle.std.proofs.Common.{◌≡◌, ◌+◌, true}
-use Rattle.run_model.specs.Tests.{each_below, piece_came}
+use Rattle.run_model.specs.Tests.{all_below, piece_came}
 use Rattle.run_model.proofs.served.all_pieces_came.Given as goal
 
 -- the pieces so far came
 abbrev pub invariant-loop-before : goal.invariant-loop-before
-invariant-loop-before l = each_below (λ before. piece_came l.k.course.plan.params l.k.journals l.t l.n l.block (before + 1)) l.before ≡ true
+invariant-loop-before l = all_below (λ before. piece_came l.k.course.plan.params l.k.journals l.t l.n l.block (before + 1)) l.before ≡ true
