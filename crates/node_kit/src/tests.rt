@@ -6,7 +6,7 @@ ghost use Rattle.node_kit.specs.declared.outbox.Out.TheVariants.{Act};
 
 use super::*;
 use link_timing::Delay;
-use slot_plan::{Params, Plan};
+use slot_plan::small_plan;
 use std::alloc::Global;
 use std::test::Fail;
 use tiger_base::{
@@ -14,34 +14,9 @@ use tiger_base::{
     Note, PieceState, Sequence, SlotNo, Stamp, State, Tag, Tenancy, Visit, Want,
 };
 
-fn plan() -> Plan {
-    Plan {
-        params: Params {
-            cubs: 8,
-            disks: 1,
-            slots: 16,
-            play: 1000000,
-            pieces: 2,
-            block: 4,
-            beat: 10000,
-            delay: 2,
-            skew: 4000,
-            window_a: 800000,
-            window_b: 200000,
-            read_lead: 100000,
-            min_lead: 3000000,
-            max_lead: 4000000,
-            batch: 20,
-            heart: 50,
-            deadman: 1000000,
-            hold: 3000000,
-        },
-    }
-}
-
 #[test]
 fn nodes_and_links_have_their_numbers(rt: HostRuntime) {
-    let links = LinkTable::new(&plan());
+    let links = LinkTable::new(&small_plan());
     assert_eq!(rt; links.count(), 56);
     assert_eq!(rt; links.nodes(), 18);
     assert_eq!(rt; links.controller(), NodeNo(16));
@@ -59,7 +34,7 @@ fn nodes_and_links_have_their_numbers(rt: HostRuntime) {
 
 #[test]
 fn each_link_leads_between_its_ends(rt: HostRuntime) {
-    let links = LinkTable::new(&plan());
+    let links = LinkTable::new(&small_plan());
     for number in 0..links.count() {
         let link = LinkNo(number);
         let found = match links.ends(link) {
@@ -94,7 +69,7 @@ fn course(alloc: Global) -> Result<Course, NoMemory> {
         deaths.push(death)?;
     }
     Ok(Course {
-        plan: plan(),
+        plan: small_plan(),
         beats: 10,
         offsets: Sequence::new(Vec::new(alloc)),
         deaths,
@@ -212,7 +187,7 @@ fn messages_are_in_form_up_to_their_bounds(rt: HostRuntime) {
         (Note::ReadAsk(want(16, high)), false),
         (Note::Heartbeat, true),
     ];
-    let plan = plan();
+    let plan = small_plan();
     for (note, expected) in rows {
         assert_eq!(rt; in_form(&plan, &note), expected);
     }
@@ -286,7 +261,7 @@ fn a_journal_keeps_what_is_written(rt: HostRuntime) -> Result<(), Fail> {
     journal.write(entry)?;
     assert_eq!(rt; journal.as_slice().len(), 1);
     OpenGate.before_read(DiskNo(0));
-    let links = LinkTable::new(&plan());
+    let links = LinkTable::new(&small_plan());
     assert_eq!(rt; links.cub(CubNo(2)), NodeNo(2));
     assert_eq!(rt; links.disk(DiskNo(2)), NodeNo(10));
     Ok(())
