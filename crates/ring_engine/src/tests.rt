@@ -14,8 +14,8 @@ ghost use Rattle.ring_engine.specs.declared.tests.Toy.{Toy};
 
 use super::*;
 use link_timing::Delay;
-use node_kit::{Course, Entry, LinkTable, Node, Out, Outbox, What};
-use slot_plan::{Params, Plan};
+use node_kit::{Course, Entry, LinkTable, Node, Out, Outbox, Ran, What};
+use slot_plan::{Plan, small_plan};
 use std::alloc::Global;
 use std::test::Fail;
 use tiger_base::{Beat, LinkNo, Msg, NoMemory, NodeNo, Note, Sequence, Stamp};
@@ -76,28 +76,7 @@ fn plan() -> Plan
     ensures skew { result.params.skew ≡ 4000 }
     ensures delay { result.params.delay ≡ 2 }
 {
-    Plan {
-        params: Params {
-            cubs: 8,
-            disks: 1,
-            slots: 16,
-            play: 1000000,
-            pieces: 2,
-            block: 4,
-            beat: 10000,
-            delay: 2,
-            skew: 4000,
-            window_a: 800000,
-            window_b: 200000,
-            read_lead: 100000,
-            min_lead: 3000000,
-            max_lead: 4000000,
-            batch: 20,
-            heart: 50,
-            deadman: 1000000,
-            hold: 3000000,
-        },
-    }
+    small_plan()
 }
 
 /// The clock of cub 1 is 300 ahead; cub 2 dies in this beat, if in any.
