@@ -36,12 +36,17 @@ pub fn run_plain<M: Message, T: Node<M>>(
     requires stand { AllStand T.stands_at course.now.plan.params nodes.items }
     ensures journals { IfOk result (λ r. length r.journals ≡ vec_len nodes) }
     ensures nodes { IfOk result (λ r. vec_len r.nodes ≡ vec_len nodes) }
-    ensures runs { IfOk result (λ r. EachHasEnded M.note_of T.step course.now nodes.items r.nodes.items r.journals) }
-    ensures kept { IfOk result (λ r. HaveKept M.note_of T.step course.now nodes.items r.nodes.items r.journals) }
-    ensures carried { IfOk result (λ r. AreCarried course.now.plan.params course.now.beats (lifetime_of course.now) r.journals) }
+    ensures runs { IfOk result (λ r.
+        EachHasEnded M.note_of T.step course.now nodes.items r.nodes.items r.journals) }
+    ensures kept { IfOk result (λ r.
+        HaveKept M.note_of T.step course.now nodes.items r.nodes.items r.journals) }
+    ensures carried { IfOk result (λ r.
+        AreCarried course.now.plan.params course.now.beats (lifetime_of course.now) r.journals) }
     ensures paced { IfOk result (λ r. ArePaced course.now r.journals) }
-    ensures timed { IfOk result (λ r. AreTimed course.now.plan.params course.now.beats (lifetime_of course.now) r.journals) }
-    ensures whole { IfOk result (λ r. IsWholeRun M.note_of T.step course.now nodes.items r.nodes.items r.journals) }
+    ensures timed { IfOk result (λ r.
+        AreTimed course.now.plan.params course.now.beats (lifetime_of course.now) r.journals) }
+    ensures whole { IfOk result (λ r.
+        IsWholeRun M.note_of T.step course.now nodes.items r.nodes.items r.journals) }
 {
     let in_links = all_in_links(alloc, links)?;
     let mut lives = all_lives(alloc, course, links)?;
@@ -80,15 +85,45 @@ fn run_beat<M: Message, T: Node<M>>(
     requires few { vec_len nodes.old ≤ 1000 }
     requires in_links { AreInLinks course.now.plan.params (vec_len nodes.old) in_links.now }
     requires sound { IsSound T.stands_at course.now.plan.params (vec_len nodes.old) beat
-        (record { nodes = nodes.old.items; lives = lives.old.items; journals = journals.old.items; channels = channels.old.items }) }
+        (record {
+          nodes = nodes.old.items;
+          lives = lives.old.items;
+          journals = journals.old.items;
+          channels = channels.old.items;
+        }) }
     ensures sound { OnOk result (IsSound T.stands_at course.now.plan.params (vec_len nodes.old) beat
-        (record { nodes = nodes.new.items; lives = lives.new.items; journals = journals.new.items; channels = channels.new.items })) }
+        (record {
+          nodes = nodes.new.items;
+          lives = lives.new.items;
+          journals = journals.new.items;
+          channels = channels.new.items;
+        })) }
     ensures turns { OnOk result (HaveTurns M.note_of T.step course.now beat (vec_len nodes.old)
-        (record { nodes = nodes.old.items; lives = lives.old.items; journals = journals.old.items; channels = channels.old.items })
-        (record { nodes = nodes.new.items; lives = lives.new.items; journals = journals.new.items; channels = channels.new.items })) }
+        (record {
+          nodes = nodes.old.items;
+          lives = lives.old.items;
+          journals = journals.old.items;
+          channels = channels.old.items;
+        })
+        (record {
+          nodes = nodes.new.items;
+          lives = lives.new.items;
+          journals = journals.new.items;
+          channels = channels.new.items;
+        })) }
     ensures lived { OnOk result (AllHaveLived M.note_of T.step course.now beat
-        (record { nodes = nodes.old.items; lives = lives.old.items; journals = journals.old.items; channels = channels.old.items })
-        (record { nodes = nodes.new.items; lives = lives.new.items; journals = journals.new.items; channels = channels.new.items })) }
+        (record {
+          nodes = nodes.old.items;
+          lives = lives.old.items;
+          journals = journals.old.items;
+          channels = channels.old.items;
+        })
+        (record {
+          nodes = nodes.new.items;
+          lives = lives.new.items;
+          journals = journals.new.items;
+          channels = channels.new.items;
+        })) }
 {
     for n in 0..nodes.len() {
         let stamp = course.stamp(NodeNo(n as u32), beat);
