@@ -4,7 +4,7 @@ ghost use Rattle.tiger_base.specs.Limits.{most_beats, most_reading};
 
 use crate::Cub;
 use node_kit::{LinkTable, Node, Out, Outbox, Site, What};
-use slot_plan::{Params, Plan};
+use slot_plan::small_plan;
 use std::alloc::Global;
 use std::marker::Model;
 use std::process::Abort;
@@ -14,38 +14,12 @@ use tiger_base::{
     NoMemory, Note, Part, Rec, SlotNo, Span, Stamp, State, Tag, Tenancy, Visit, Want,
 };
 
-fn plan() -> Plan
-    ensures { result.params.cubs ≡ 8 }
-{
-    Plan {
-        params: Params {
-            cubs: 8,
-            disks: 1,
-            slots: 16,
-            play: 1000000,
-            pieces: 2,
-            block: 4,
-            beat: 10000,
-            delay: 2,
-            skew: 4000,
-            window_a: 800000,
-            window_b: 200000,
-            read_lead: 100000,
-            min_lead: 3000000,
-            max_lead: 4000000,
-            batch: 20,
-            heart: 50,
-            deadman: 1000000,
-            hold: 3000000,
-        },
-    }
-}
-
+/// A cub of the small plan.
 fn site(number: u32) -> Site
     requires { number < 8 }
 {
     Site {
-        plan: plan(),
+        plan: small_plan(),
         cub: CubNo(number),
     }
 }
@@ -137,6 +111,41 @@ impl<'a> Fed<'a> {
     }
 }
 
+/// Fails unless a cub puts these out, in this order, on a message of a link that leads to it.
+fn assert_on<'a>(
+    rt: &impl Abort,
+    cub: Fed<'a>,
+    beat: Beat,
+    link: LinkNo,
+    msg: Msg<'a>,
+    wanted: &[What],
+) -> Result<Fed<'a>, NoMemory>
+    requires { beat ≤ 100000 }
+{
+    let (cub, list) = cub.on(beat, link, msg)?;
+    assert_eq!(rt; list.as_slice(), wanted, "in beat {beat}");
+    Ok(cub)
+}
+
+/// Fails unless a cub puts these out, in this order, at the end of a beat.
+fn assert_end<'a>(
+    rt: &impl Abort,
+    cub: Fed<'a>,
+    beat: Beat,
+    wanted: &[What],
+) -> Result<Fed<'a>, NoMemory>
+    requires { beat ≤ 100000 }
+{
+    let (cub, list) = cub.at_end(beat)?;
+    assert_eq!(rt; list.as_slice(), wanted, "at the end of beat {beat}");
+    Ok(cub)
+}
+
+/// Fails unless this is the first record of the instance.
+fn assert_first(rt: &impl Abort, cub: &Fed, wanted: Option<Rec>) {
+    assert_eq!(rt; cub.cub.view().first_of(Instance(0)), wanted);
+}
+
 /// A file of 64 blocks, the first of which is on disk 0.
 fn ask() -> Ask {
     Ask {
@@ -183,42 +192,31 @@ fn deschedule(visit: Visit) -> Note {
     }
 }
 
+/// What the first cub puts out when it puts a start into slot 1.
+fn put() -> [What; 6] {
+    [
+        What::Put(tenancy(63)),
+        What::Took(rec(0, Kind::Own)),
+        What::Sent(LinkNo(24), Note::ViewerState(state(0))),
+        What::Sent(LinkNo(8), Note::Placed(tenancy(63))),
+        What::Sent(LinkNo(24), Note::ViewerState(state(1))),
+        What::Sent(LinkNo(25), Note::ViewerState(state(1))),
+    ]
+}
+
 /// The first cub puts the start that it got, and sends the states of the first two visits on.
 #[test]
 fn a_start_is_put_into_slot_one(rt: HostRuntime) -> Result<(), Fail> {
-    let alloc = rt.alloc();
-    let cub = cub_at(alloc, 0, 0);
     let start = Msg::Start {
         ask: ask(),
         redundant: false,
     };
-    let (cub, first) = cub.at_end(0)?;
-    assert_eq!(rt;
-        first.as_slice(),
-        [What::Sent(LinkNo(24), Note::Heartbeat)].as_slice()
-    );
-    let (cub, start) = cub.on(1, LinkNo(0), start)?;
-    assert_eq!(rt;
-        start.as_slice(),
-        [What::Queued(Instance(0), DiskNo(0))].as_slice()
-    );
-    let (cub, put) = cub.at_end(1)?;
-    assert_eq!(rt;
-        put.as_slice(),
-        [
-            What::Put(tenancy(63)),
-            What::Took(rec(0, Kind::Own)),
-            What::Sent(LinkNo(24), Note::ViewerState(state(0))),
-            What::Sent(LinkNo(8), Note::Placed(tenancy(63))),
-            What::Sent(LinkNo(24), Note::ViewerState(state(1))),
-            What::Sent(LinkNo(25), Note::ViewerState(state(1))),
-        ]
-        .as_slice()
-    );
-    assert_eq!(rt;
-        cub.cub.view().first_of(Instance(0)),
-        Some(rec(0, Kind::Own))
-    );
+    let heartbeat = What::Sent(LinkNo(24), Note::Heartbeat);
+    let queued = What::Queued(Instance(0), DiskNo(0));
+    let cub = assert_end(&rt, cub_at(rt.alloc(), 0, 0), 0, &[heartbeat])?;
+    let cub = assert_on(&rt, cub, 1, LinkNo(0), start, &[queued])?;
+    let cub = assert_end(&rt, cub, 1, &put())?;
+    assert_first(&rt, &cub, Some(rec(0, Kind::Own)));
     Ok(())
 }
 
@@ -226,8 +224,6 @@ fn a_start_is_put_into_slot_one(rt: HostRuntime) -> Result<(), Fail> {
 /// discards the state, and passes the deschedule on, once.
 #[test]
 fn a_state_behind_its_deschedule_passes_it_on(rt: HostRuntime) -> Result<(), Fail> {
-    let alloc = rt.alloc();
-    let cub = cub_at(alloc, 1, 0);
     let start = Msg::Start {
         ask: ask(),
         redundant: true,
@@ -236,36 +232,27 @@ fn a_state_behind_its_deschedule_passes_it_on(rt: HostRuntime) -> Result<(), Fai
         instance: Instance(0),
         tag: None,
     };
-    let (cub, first) = cub.on(1, LinkNo(1), start)?;
-    assert_eq!(rt; first.len(), 0);
-    let (cub, first) = cub.at_end(1)?;
-    assert_eq!(rt; first.len(), 0);
-    let (cub, second) = cub.on(2, LinkNo(1), stop)?;
-    assert_eq!(rt; second.len(), 0);
-    let (cub, second) = cub.at_end(2)?;
-    assert_eq!(rt; second.len(), 0);
-    let (cub, third) = cub.on(3, LinkNo(24), Msg::ViewerState(state(0)))?;
-    assert_eq!(rt;
-        third.as_slice(),
-        [
-            What::Sent(LinkNo(26), deschedule(2)),
-            What::Sent(LinkNo(27), deschedule(2))
-        ]
-        .as_slice()
-    );
-    let (cub, next) = cub.on(3, LinkNo(24), Msg::ViewerState(state(1)))?;
-    assert_eq!(rt; next.len(), 0);
-    let (cub, third) = cub.at_end(3)?;
-    assert_eq!(rt; third.len(), 0);
-    assert_eq!(rt; cub.cub.view().first_of(Instance(0)), None);
+    let passed = [
+        What::Sent(LinkNo(26), deschedule(2)),
+        What::Sent(LinkNo(27), deschedule(2)),
+    ];
+    let first = Msg::ViewerState(state(0));
+    let second = Msg::ViewerState(state(1));
+    let cub = cub_at(rt.alloc(), 1, 0);
+    let cub = assert_on(&rt, cub, 1, LinkNo(1), start, &[])?;
+    let cub = assert_end(&rt, cub, 1, &[])?;
+    let cub = assert_on(&rt, cub, 2, LinkNo(1), stop, &[])?;
+    let cub = assert_end(&rt, cub, 2, &[])?;
+    let cub = assert_on(&rt, cub, 3, LinkNo(24), first, &passed)?;
+    let cub = assert_on(&rt, cub, 3, LinkNo(24), second, &[])?;
+    let cub = assert_end(&rt, cub, 3, &[])?;
+    assert_first(&rt, &cub, None);
     Ok(())
 }
 
 /// The third cub took the second visit's state, and drops both records when the deschedule overtakes it.
 #[test]
 fn a_deschedule_with_a_tag_drops_both_records(rt: HostRuntime) -> Result<(), Fail> {
-    let alloc = rt.alloc();
-    let cub = cub_at(alloc, 2, 0);
     let stop = Msg::Deschedule {
         instance: Instance(0),
         tag: Some(Tag {
@@ -273,33 +260,24 @@ fn a_deschedule_with_a_tag_drops_both_records(rt: HostRuntime) -> Result<(), Fai
             visit: 2,
         }),
     };
-    let (cub, second) = cub.on(2, LinkNo(25), Msg::ViewerState(state(1)))?;
-    assert_eq!(rt;
-        second.as_slice(),
-        [
-            What::Took(rec(1, Kind::Backup)),
-            What::Took(rec(2, Kind::Own))
-        ]
-        .as_slice()
-    );
-    let (cub, second) = cub.at_end(2)?;
-    assert_eq!(rt; second.len(), 0);
-    let (cub, third) = cub.at_end(3)?;
-    assert_eq!(rt; third.len(), 0);
-    let (cub, fourth) = cub.on(4, LinkNo(26), stop)?;
-    assert_eq!(rt;
-        fourth.as_slice(),
-        [
-            What::Sent(LinkNo(28), deschedule(3)),
-            What::Sent(LinkNo(29), deschedule(3)),
-            What::Dropped(rec(1, Kind::Backup)),
-            What::Dropped(rec(2, Kind::Own)),
-        ]
-        .as_slice()
-    );
-    let (cub, fourth) = cub.at_end(4)?;
-    assert_eq!(rt; fourth.len(), 0);
-    assert_eq!(rt; cub.cub.view().first_of(Instance(0)), None);
+    let took = [
+        What::Took(rec(1, Kind::Backup)),
+        What::Took(rec(2, Kind::Own)),
+    ];
+    let dropped = [
+        What::Sent(LinkNo(28), deschedule(3)),
+        What::Sent(LinkNo(29), deschedule(3)),
+        What::Dropped(rec(1, Kind::Backup)),
+        What::Dropped(rec(2, Kind::Own)),
+    ];
+    let second = Msg::ViewerState(state(1));
+    let cub = cub_at(rt.alloc(), 2, 0);
+    let cub = assert_on(&rt, cub, 2, LinkNo(25), second, &took)?;
+    let cub = assert_end(&rt, cub, 2, &[])?;
+    let cub = assert_end(&rt, cub, 3, &[])?;
+    let cub = assert_on(&rt, cub, 4, LinkNo(26), stop, &dropped)?;
+    let cub = assert_end(&rt, cub, 4, &[])?;
+    assert_first(&rt, &cub, None);
     Ok(())
 }
 
@@ -363,33 +341,21 @@ fn send_a_block<'a>(rt: &impl Abort, alloc: Global, library: &'a Library) -> Res
         want: want(),
         part: Part::of(library, span(), b"aaaa"),
     };
-    let (cub, took) = cub.on(301, LinkNo(28), told)?;
-    assert_eq!(rt; took.as_slice(), [What::Took(own_record())].as_slice());
-    let (cub, before) = cub.at_end(339)?;
-    assert_eq!(rt; before.len(), 0);
-    let (cub, asked) = cub.at_end(340)?;
-    assert_eq!(rt;
-        asked.as_slice(),
-        [What::Sent(LinkNo(43), Note::ReadAsk(want()))].as_slice()
-    );
-    let (cub, again) = cub.at_end(341)?;
-    assert_eq!(rt; again.len(), 0);
-    let (cub, read) = cub.on(342, LinkNo(51), answer)?;
-    assert_eq!(rt; read.len(), 0);
-    let (cub, early) = cub.at_end(349)?;
-    assert_eq!(rt; early.len(), 0);
-    let (cub, due) = cub.at_end(350)?;
-    assert_eq!(rt;
-        due.as_slice(),
-        [
-            What::Sent(LinkNo(19), whole_note()),
-            What::Dropped(own_record()),
-            What::Sent(LinkNo(30), Note::Heartbeat),
-        ]
-        .as_slice()
-    );
-    let (cub, late) = cub.at_end(351)?;
-    assert_eq!(rt; late.len(), 0);
+    let took = What::Took(own_record());
+    let asked = What::Sent(LinkNo(43), Note::ReadAsk(want()));
+    let due = [
+        What::Sent(LinkNo(19), whole_note()),
+        What::Dropped(own_record()),
+        What::Sent(LinkNo(30), Note::Heartbeat),
+    ];
+    let cub = assert_on(rt, cub, 301, LinkNo(28), told, &[took])?;
+    let cub = assert_end(rt, cub, 339, &[])?;
+    let cub = assert_end(rt, cub, 340, &[asked])?;
+    let cub = assert_end(rt, cub, 341, &[])?;
+    let cub = assert_on(rt, cub, 342, LinkNo(51), answer, &[])?;
+    let cub = assert_end(rt, cub, 349, &[])?;
+    let cub = assert_end(rt, cub, 350, &due)?;
+    assert_end(rt, cub, 351, &[])?;
     Ok(())
 }
 

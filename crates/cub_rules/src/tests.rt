@@ -81,8 +81,8 @@ fn part_of<'a>(library: &'a Library, instance: u32) -> Result<StoredPart<'a>, Fa
     Ok(StoredPart { want, part })
 }
 
-/// How many parts are kept behind a reading, where a part of visit 0 of slot 1 comes under a plan, what is stale is forgotten
-/// under another, and the parts were begun with a first one.
+/// How many parts are kept behind a reading, if the parts are begun with a first plan, a part of visit 0 of slot 1 comes
+/// under a second, and what is stale is forgotten under a third.
 fn kept<'a>(
     alloc: Global,
     library: &'a Library,
@@ -142,8 +142,8 @@ fn stale_parts_are_forgotten_under_another_plan(rt: HostRuntime) -> Result<(), F
     Ok(())
 }
 
-/// How many of three parts are kept, of instances 7, 8 and 7, where those of an instance are dropped, and then one more
-/// instance's that are pieces of visit 0.
+/// How many of three parts are kept, of instances 7, 8 and 7, once those of an instance are dropped, and then those of
+/// another that are pieces of visit 0.
 fn dropped<'a>(
     alloc: Global,
     library: &'a Library,
