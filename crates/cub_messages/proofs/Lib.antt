@@ -4,3 +4,4 @@ pub mod Kept
 pub mod Killed
 pub mod PieceWalk
 pub mod Standing
+pub mod Visits

@@ -13,10 +13,11 @@ use crate::records::{drop_start, take_record};
 use cub_rules::Store;
 use node_kit::{Outbox, Site};
 use tiger_base::{Msg, NoMemory, Rec, SlotNo, Stamp, State, Visit};
+use viewer_state::state_for;
 
 /// A state of a visit of its tenancy lets the visit's cub, and the next one, take their records; if its instance is held
 /// it is discarded, and the deschedule passed on.
-#[tactic(auto, unfolding(cub_rules::specs::Messages::meeting_state))]
+#[tactic(auto, using(crate::proofs::Visits::has_state, crate::proofs::Visits::has_no_state), unfolding(cub_rules::specs::Messages::meeting_state))]
 pub fn take_state<'a>(
     site: &Site,
     stamp: Stamp,
@@ -31,9 +32,9 @@ pub fn take_state<'a>(
         (meeting_state site.now.plan.params site.now.cub.0 stamp state store.old)
         out.old out.new store.new) }
 {
-    if state.visit < state.tenancy.first || state.tenancy.last < state.visit {
+    let Some(_) = state_for(state.tenancy, state.visit) else {
         return Ok(());
-    }
+    };
     let Some(place) = position_at(site, state.tenancy.slot, state.visit) else {
         return Ok(());
     };

@@ -6,34 +6,13 @@ ghost use Rattle.cub_rules.specs.State.{IsPieceAt, IsRecordOf, IsStoreOf};
 use super::*;
 use cub_rules::Store;
 use node_kit::{Out, Outbox, Site, What, in_form};
-use slot_plan::{Params, Plan};
+use slot_plan::small_plan;
 use std::alloc::Global;
 use std::process::Abort;
 use std::test::Fail;
 use tiger_base::{
     Ask, CubNo, DiskNo, FileNo, Instance, Kind, Library, LinkNo, Message, Msg, NoMemory, Note,
     Part, PieceState, Rec, SlotNo, Span, Stamp, State, Tag, Tenancy, Visit, Want,
-};
-
-const PLAN: Params = Params {
-    cubs: 8,
-    disks: 1,
-    slots: 16,
-    play: 1000000,
-    pieces: 2,
-    block: 4,
-    beat: 10000,
-    delay: 2,
-    skew: 4000,
-    window_a: 800000,
-    window_b: 200000,
-    read_lead: 100000,
-    min_lead: 3000000,
-    max_lead: 4000000,
-    batch: 20,
-    heart: 50,
-    deadman: 1000000,
-    hold: 3000000,
 };
 
 const NOW: Stamp = Stamp {
@@ -120,12 +99,14 @@ fn dropped(rec: Rec) -> Said {
 
 /// The cub of a number.
 fn site_of(rt: &impl Abort, number: u32) -> Site {
-    match Plan::new(PLAN) {
-        Ok(plan) if u64::from(number) < plan.params.cubs => Site {
+    let plan = small_plan();
+    if u64::from(number) < plan.params.cubs {
+        Site {
             plan,
             cub: CubNo(number),
-        },
-        _ => panic!(rt; "no cub of a plan"),
+        }
+    } else {
+        panic!(rt; "no cub of the plan")
     }
 }
 
@@ -252,6 +233,42 @@ fn written(alloc: Global, out: &mut Outbox<Msg>) -> Result<Vec<Said>, NoMemory> 
     Ok(said)
 }
 
+/// Fails unless these are the outputs, in this order.
+fn assert_said(rt: &impl Abort, said: &[Said], wanted: &[Said]) {
+    assert_eq!(rt; said, wanted);
+}
+
+/// Fails unless a cub puts these out, in this order, on a message.
+fn assert_heard<'a>(
+    rt: &impl Abort,
+    alloc: Global,
+    site: &Site,
+    msg: Msg<'a>,
+    store: &mut Store<'a>,
+    wanted: &[Said],
+) -> Result<(), NoMemory>
+    requires { IsStoreOf site.now.plan.params site.now.cub.0 store.old }
+{
+    let said = heard(alloc, site, msg, store)?;
+    assert_said(rt, &said, wanted);
+    Ok(())
+}
+
+/// Fails unless so many redundant starts are there.
+fn assert_apart(rt: &impl Abort, store: &Store, count: usize) {
+    assert_eq!(rt; store.starts.redundant().len(), count);
+}
+
+/// Fails unless this is the viewer's earliest record.
+fn assert_first(rt: &impl Abort, store: &Store, viewer: Instance, wanted: Option<Rec>) {
+    assert_eq!(rt; store.view.view().first_of(viewer), wanted);
+}
+
+/// Fails unless this is the first piece record.
+fn assert_piece(rt: &impl Abort, piece: Option<PieceState>, wanted: Option<PieceState>) {
+    assert_eq!(rt; piece, wanted);
+}
+
 fn deschedule<'a>(tag: Option<Tag>) -> Msg<'a> {
     Msg::Deschedule {
         instance: VIEWER,
@@ -271,107 +288,139 @@ fn deschedule_that_is_held_goes_on_with_the_state(rt: HostRuntime) -> Result<(),
     let site = site_of(&rt, 1);
     let mut store = opened(rt.alloc(), &site);
     hold(&site, &mut store)?;
-    let said = heard(rt.alloc(), &site, state(0), &mut store)?;
-    assert!(rt; said.as_slice() == [passed(26, 2), passed(27, 2)].as_slice());
+    let wanted = [passed(26, 2), passed(27, 2)];
+    assert_heard(&rt, rt.alloc(), &site, state(0), &mut store, &wanted)?;
     assert!(rt; store.held.is_held(VIEWER) && !store.held.must_pass(VIEWER));
-    assert_eq!(rt; store.view.view().first_of(VIEWER), None);
+    assert_first(&rt, &store, VIEWER, None);
     Ok(())
+}
+
+/// A cub that has both records of the viewer's.
+fn knowing_both<'a>(rt: &impl Abort, alloc: Global, site: &Site) -> Result<Store<'a>, NoMemory>
+    ensures { IfOk result (IsStoreOf site.now.plan.params site.now.cub.0) }
+{
+    let mut store = knowing(rt, alloc, site, Some(own(2)))?;
+    know(rt, site, backup(1), &mut store)?;
+    Ok(store)
 }
 
 #[test]
 fn deschedule_drops_the_records(rt: HostRuntime) -> Result<(), Fail> {
+    let alloc = rt.alloc();
     let site = site_of(&rt, 2);
-    let mut store = opened(rt.alloc(), &site);
-    know(&rt, &site, own(2), &mut store)?;
-    know(&rt, &site, backup(1), &mut store)?;
-    let said = heard(rt.alloc(), &site, deschedule(tag(2)), &mut store)?;
     let wanted = [
         passed(28, 3),
         passed(29, 3),
         dropped(backup(1)),
         dropped(own(2)),
     ];
-    assert!(rt; said.as_slice() == wanted.as_slice());
+    let mut store = knowing_both(&rt, alloc, &site)?;
+    assert_heard(&rt, alloc, &site, deschedule(tag(2)), &mut store, &wanted)?;
     assert!(rt; store.held.is_held(VIEWER));
-    assert_eq!(rt; store.view.view().first_of(VIEWER), None);
+    assert_first(&rt, &store, VIEWER, None);
     Ok(())
 }
 
-/// What cub 2 puts out on a deschedule where it has one record at most.
-fn passed_by(
+/// Fails unless cub 2, which has one record at most, puts these out on a deschedule.
+fn assert_passed(
     rt: &impl Abort,
     alloc: Global,
     rec: Option<Rec>,
     tag: Option<Tag>,
-) -> Result<Vec<Said>, NoMemory> {
+    wanted: &[Said],
+) -> Result<(), NoMemory> {
     let site = site_of(rt, 2);
-    let mut store = opened(alloc, &site);
-    if let Some(rec) = rec {
-        know(rt, &site, rec, &mut store)?;
-        return heard(alloc, &site, deschedule(tag), &mut store);
+    let mut store = knowing(rt, alloc, &site, rec)?;
+    assert_heard(rt, alloc, &site, deschedule(tag), &mut store, wanted)
+}
+
+/// A cub that has one record at most.
+fn knowing<'a>(
+    rt: &impl Abort,
+    alloc: Global,
+    site: &Site,
+    rec: Option<Rec>,
+) -> Result<Store<'a>, NoMemory>
+    ensures { IfOk result (IsStoreOf site.now.plan.params site.now.cub.0) }
+{
+    let mut store = opened(alloc, site);
+    match rec {
+        Some(rec) => {
+            know(rt, site, rec, &mut store)?;
+            Ok(store)
+        }
+        None => Ok(store),
     }
-    heard(alloc, &site, deschedule(tag), &mut store)
 }
 
 #[test]
 fn deschedule_stands_by_its_tag_or_by_the_earliest_record(rt: HostRuntime) -> Result<(), Fail> {
     let alloc = rt.alloc();
     let (first, second) = (passed(28, 3), passed(29, 3));
-    let own_stands = passed_by(&rt, alloc, Some(own(2)), None)?;
-    assert!(rt; own_stands.as_slice() == [first, second, dropped(own(2))].as_slice());
-    let backup_stands = passed_by(&rt, alloc, Some(backup(1)), None)?;
-    assert!(rt; backup_stands.as_slice() == [first, second, dropped(backup(1))].as_slice());
-    assert!(rt; passed_by(&rt, alloc, None, None)?.is_empty());
-    assert!(rt; passed_by(&rt, alloc, None, tag(1))?.as_slice() == [first, second].as_slice());
-    assert!(rt; passed_by(&rt, alloc, None, tag(2))?.as_slice() == [first, second].as_slice());
-    assert!(rt; passed_by(&rt, alloc, None, tag(3))?.is_empty());
+    let (by_own, by_backup) = (dropped(own(2)), dropped(backup(1)));
+    assert_passed(&rt, alloc, Some(own(2)), None, &[first, second, by_own])?;
+    assert_passed(
+        &rt,
+        alloc,
+        Some(backup(1)),
+        None,
+        &[first, second, by_backup],
+    )?;
+    assert_passed(&rt, alloc, None, None, &[])?;
+    assert_passed(&rt, alloc, None, tag(1), &[first, second])?;
+    assert_passed(&rt, alloc, None, tag(2), &[first, second])?;
+    assert_passed(&rt, alloc, None, tag(3), &[])?;
     // Visit 11 is due at 11500000, later than a state of it goes out.
-    assert!(rt; passed_by(&rt, alloc, None, tag(10))?.is_empty());
+    assert_passed(&rt, alloc, None, tag(10), &[])?;
     Ok(())
 }
 
-/// What a cub that has nothing yet puts out on the state of a visit.
-fn told(rt: &impl Abort, alloc: Global, cub: u32, visit: Visit) -> Result<Vec<Said>, NoMemory> {
+/// Fails unless a cub that has nothing yet puts these out on the state of a visit.
+fn assert_told(
+    rt: &impl Abort,
+    alloc: Global,
+    cub: u32,
+    visit: Visit,
+    wanted: &[Said],
+) -> Result<(), NoMemory> {
     let site = site_of(rt, cub);
     let mut store = opened(alloc, &site);
-    heard(alloc, &site, state(visit), &mut store)
+    assert_heard(rt, alloc, &site, state(visit), &mut store, wanted)
 }
 
 #[test]
 fn state_tells_its_cub_and_the_next_one(rt: HostRuntime) -> Result<(), Fail> {
     let alloc = rt.alloc();
-    assert!(rt; told(&rt, alloc, 3, 3)?.as_slice() == [took(own(3))].as_slice());
-    assert!(rt; told(&rt, alloc, 4, 3)?.as_slice() == [took(backup(3)), took(own(4))].as_slice());
-    assert!(rt; told(&rt, alloc, 0, 63)?.as_slice() == [took(backup(63))].as_slice());
-    assert!(rt; told(&rt, alloc, 5, 3)?.is_empty());
-    assert!(rt; told(&rt, alloc, 0, 64)?.is_empty());
+    assert_told(&rt, alloc, 3, 3, &[took(own(3))])?;
+    assert_told(&rt, alloc, 4, 3, &[took(backup(3)), took(own(4))])?;
+    assert_told(&rt, alloc, 0, 63, &[took(backup(63))])?;
+    assert_told(&rt, alloc, 5, 3, &[])?;
+    assert_told(&rt, alloc, 0, 64, &[])?;
     Ok(())
 }
 
 #[test]
 fn record_that_is_there_stays(rt: HostRuntime) -> Result<(), Fail> {
     let site = site_of(&rt, 4);
-    let mut store = opened(rt.alloc(), &site);
     let tenancy = Tenancy {
         instance: Instance(1),
         ..OURS
     };
     let other = Rec { tenancy, ..own(4) };
-    know(&rt, &site, other, &mut store)?;
-    let said = heard(rt.alloc(), &site, state(3), &mut store)?;
-    assert!(rt; said.as_slice() == [took(backup(3))].as_slice());
-    assert_eq!(rt; store.view.view().first_of(Instance(1)), Some(other));
+    let wanted = [took(backup(3))];
+    let mut store = knowing(&rt, rt.alloc(), &site, Some(other))?;
+    assert_heard(&rt, rt.alloc(), &site, state(3), &mut store, &wanted)?;
+    assert_first(&rt, &store, Instance(1), Some(other));
     Ok(())
 }
 
 #[test]
 fn start_that_waits_is_dropped_where_the_state_comes(rt: HostRuntime) -> Result<(), Fail> {
     let site = site_of(&rt, 3);
+    let wanted = [Said::Wrote(What::Unqueued(VIEWER)), took(own(3))];
     let mut store = opened(rt.alloc(), &site);
     wait(&site, &mut store)?;
-    let said = heard(rt.alloc(), &site, state(3), &mut store)?;
-    let wanted = [Said::Wrote(What::Unqueued(VIEWER)), took(own(3))];
-    assert!(rt; said.as_slice() == wanted.as_slice());
+    assert_heard(&rt, rt.alloc(), &site, state(3), &mut store, &wanted)?;
     assert!(rt; !store.starts.is_asked(VIEWER));
     Ok(())
 }
@@ -403,79 +452,51 @@ fn prepared<'a>(
 {
     let mut store = opened(alloc, site);
     match before {
-        Before::Nothing => Ok(store),
-        Before::Held => {
-            hold(site, &mut store)?;
-            Ok(store)
-        }
-        Before::Shown => {
-            know(rt, site, own(0), &mut store)?;
-            Ok(store)
-        }
-        Before::Waiting => {
-            wait(site, &mut store)?;
-            Ok(store)
-        }
-        Before::Believing => {
-            store.believes = true;
-            Ok(store)
-        }
+        Before::Nothing => {}
+        Before::Held => hold(site, &mut store)?,
+        Before::Shown => know(rt, site, own(0), &mut store)?,
+        Before::Waiting => wait(site, &mut store)?,
+        Before::Believing => store.believes = true,
     }
+    Ok(store)
 }
 
-/// What cub 0 puts out on a start, and how many redundant starts it then has.
-fn started(
+/// Fails unless cub 0 puts these out on a start, and then has so many redundant starts.
+fn assert_started(
     rt: &impl Abort,
     alloc: Global,
-    kept: Before,
-    count: u64,
-    redundant: bool,
-) -> Result<(Vec<Said>, usize), NoMemory> {
+    before: Before,
+    start: Msg,
+    wanted: &[Said],
+    apart: usize,
+) -> Result<(), NoMemory> {
     let site = site_of(rt, 0);
-    let mut store = prepared(rt, alloc, &site, kept)?;
-    let said = heard(alloc, &site, start(count, redundant), &mut store)?;
-    Ok((said, store.starts.redundant().len()))
-}
-
-/// Whether a start is queued, and nothing else said; and how many redundant ones there are.
-fn queued(
-    rt: &impl Abort,
-    alloc: Global,
-    kept: Before,
-    redundant: bool,
-) -> Result<(bool, usize), NoMemory> {
-    let (said, apart) = started(rt, alloc, kept, 64, redundant)?;
-    let queued = Said::Wrote(What::Queued(VIEWER, DiskNo(0)));
-    Ok((said.as_slice() == [queued].as_slice(), apart))
+    let mut store = prepared(rt, alloc, &site, before)?;
+    assert_heard(rt, alloc, &site, start, &mut store, wanted)?;
+    assert_apart(rt, &store, apart);
+    Ok(())
 }
 
 #[test]
 fn start_waits_once(rt: HostRuntime) -> Result<(), Fail> {
     let alloc = rt.alloc();
-    assert_eq!(rt; queued(&rt, alloc, Before::Nothing, false)?, (true, 0));
-    assert_eq!(rt; queued(&rt, alloc, Before::Nothing, true)?, (false, 1));
-    assert_eq!(rt; queued(&rt, alloc, Before::Believing, true)?, (true, 0));
-    assert!(rt;
-        started(&rt, alloc, Before::Waiting, 64, false)?
-            .0
-            .is_empty()
-    );
+    let queued = Said::Wrote(What::Queued(VIEWER, DiskNo(0)));
+    assert_started(&rt, alloc, Before::Nothing, start(64, false), &[queued], 0)?;
+    assert_started(&rt, alloc, Before::Nothing, start(64, true), &[], 1)?;
+    assert_started(&rt, alloc, Before::Believing, start(64, true), &[queued], 0)?;
+    assert_started(&rt, alloc, Before::Waiting, start(64, false), &[], 0)?;
     Ok(())
 }
 
 #[test]
 fn start_is_discarded_where_it_can_not_wait(rt: HostRuntime) -> Result<(), Fail> {
     let alloc = rt.alloc();
-    assert_eq!(rt; queued(&rt, alloc, Before::Held, true)?, (false, 0));
-    assert_eq!(rt; queued(&rt, alloc, Before::Shown, true)?, (false, 0));
-    assert!(rt; started(&rt, alloc, Before::Held, 64, false)?.0.is_empty());
-    assert!(rt; started(&rt, alloc, Before::Shown, 64, false)?.0.is_empty());
-    assert!(rt; started(&rt, alloc, Before::Nothing, 0, false)?.0.is_empty());
-    assert!(rt;
-        started(&rt, alloc, Before::Nothing, 16777217, false)?
-            .0
-            .is_empty()
-    );
+    assert_started(&rt, alloc, Before::Held, start(64, true), &[], 0)?;
+    assert_started(&rt, alloc, Before::Shown, start(64, true), &[], 0)?;
+    assert_started(&rt, alloc, Before::Held, start(64, false), &[], 0)?;
+    assert_started(&rt, alloc, Before::Shown, start(64, false), &[], 0)?;
+    assert_started(&rt, alloc, Before::Nothing, start(0, false), &[], 0)?;
+    assert_started(&rt, alloc, Before::Nothing, start(16777217, false), &[], 0)?;
     Ok(())
 }
 
@@ -489,17 +510,17 @@ fn piece_at(rt: &impl Abort, alloc: Global, cub: u32) -> Result<Option<PieceStat
 
 #[test]
 fn piece_is_for_one_cub(rt: HostRuntime) -> Result<(), Fail> {
-    assert_eq!(rt; piece_at(&rt, rt.alloc(), 5)?, Some(PIECE));
-    assert_eq!(rt; piece_at(&rt, rt.alloc(), 4)?, None);
+    assert_piece(&rt, piece_at(&rt, rt.alloc(), 5)?, Some(PIECE));
+    assert_piece(&rt, piece_at(&rt, rt.alloc(), 4)?, None);
     let site = site_of(&rt, 5);
     let mut store = opened(rt.alloc(), &site);
     hold(&site, &mut store)?;
     heard(rt.alloc(), &site, Msg::MirrorState(PIECE), &mut store)?;
-    assert_eq!(rt; store.pieces.after(None), None);
+    assert_piece(&rt, store.pieces.after(None), None);
     Ok(())
 }
 
-/// The first piece record that is left where one of visit 3 was there, once the pieces of a visit are killed.
+/// The first piece record that is left of one of visit 3, once the pieces of a visit are killed.
 fn left_by_kill(
     rt: &impl Abort,
     alloc: Global,
@@ -519,8 +540,8 @@ fn left_by_kill(
 
 #[test]
 fn kill_drops_the_pieces_of_its_visit(rt: HostRuntime) -> Result<(), Fail> {
-    assert_eq!(rt; left_by_kill(&rt, rt.alloc(), 3)?, None);
-    assert_eq!(rt; left_by_kill(&rt, rt.alloc(), 4)?, Some(PIECE));
+    assert_piece(&rt, left_by_kill(&rt, rt.alloc(), 3)?, None);
+    assert_piece(&rt, left_by_kill(&rt, rt.alloc(), 4)?, Some(PIECE));
     Ok(())
 }
 
@@ -536,15 +557,24 @@ fn killed(visit: Visit) -> Said {
     )
 }
 
+/// A cub that split two visits of the viewer's.
+fn with_splits<'a>(rt: &impl Abort, alloc: Global, site: &Site) -> Result<Store<'a>, NoMemory>
+    ensures { IfOk result (IsStoreOf site.now.plan.params site.now.cub.0) }
+{
+    let mut store = opened(alloc, site);
+    remember(rt, site, 11, &mut store)?;
+    remember(rt, site, 3, &mut store)?;
+    Ok(store)
+}
+
 #[test]
 fn deschedule_kills_the_pieces_of_split_visits(rt: HostRuntime) -> Result<(), Fail> {
+    let alloc = rt.alloc();
     let site = site_of(&rt, 4);
-    let mut store = opened(rt.alloc(), &site);
-    remember(&rt, &site, 11, &mut store)?;
-    remember(&rt, &site, 3, &mut store)?;
-    let said = heard(rt.alloc(), &site, deschedule(None), &mut store)?;
-    assert!(rt; said.as_slice() == [killed(3), killed(11)].as_slice());
-    assert_eq!(rt; store.splits.take_of(VIEWER), None);
+    let wanted = [killed(3), killed(11)];
+    let mut store = with_splits(&rt, alloc, &site)?;
+    assert_heard(&rt, alloc, &site, deschedule(None), &mut store, &wanted)?;
+    assert!(rt; store.splits.take_of(VIEWER).is_none());
     Ok(())
 }
 
@@ -560,24 +590,29 @@ fn want(piece: u32) -> Want {
     }
 }
 
-/// What cub 3, which has the own record of visit 3, puts out on an answer without a part.
-fn failed(rt: &impl Abort, alloc: Global, want: Want) -> Result<Vec<Said>, NoMemory> {
+/// Fails unless cub 3, which has the own record of visit 3, puts these out on an answer without a part.
+fn assert_failed(
+    rt: &impl Abort,
+    alloc: Global,
+    want: Want,
+    wanted: &[Said],
+) -> Result<(), NoMemory> {
     let site = site_of(rt, 3);
-    let mut store = opened(alloc, &site);
-    know(rt, &site, own(3), &mut store)?;
-    heard(alloc, &site, Msg::ReadDone { want, part: None }, &mut store)
+    let mut store = knowing(rt, alloc, &site, Some(own(3)))?;
+    let answer = Msg::ReadDone { want, part: None };
+    assert_heard(rt, alloc, &site, answer, &mut store, wanted)
 }
 
 #[test]
 fn failure_is_written_down_where_the_record_is_there(rt: HostRuntime) -> Result<(), Fail> {
-    let wanted = [Said::Wrote(What::ReadFailed(want(0)))];
-    assert!(rt; failed(&rt, rt.alloc(), want(0))?.as_slice() == wanted.as_slice());
-    assert!(rt; failed(&rt, rt.alloc(), want(1))?.is_empty());
     let gone = Want {
         visit: 4,
         ..want(0)
     };
-    assert!(rt; failed(&rt, rt.alloc(), gone)?.is_empty());
+    let failed = Said::Wrote(What::ReadFailed(want(0)));
+    assert_failed(&rt, rt.alloc(), want(0), &[failed])?;
+    assert_failed(&rt, rt.alloc(), want(1), &[])?;
+    assert_failed(&rt, rt.alloc(), gone, &[])?;
     Ok(())
 }
 
@@ -650,9 +685,9 @@ fn message_out_of_form_is_ignored(rt: HostRuntime) -> Result<(), Fail> {
         slot: SlotNo(16),
         visit: 2,
     });
-    assert!(rt; heard(rt.alloc(), &site, deschedule(far), &mut store)?.is_empty());
+    assert_heard(&rt, rt.alloc(), &site, deschedule(far), &mut store, &[])?;
     assert!(rt; !store.held.is_held(VIEWER));
     let mut other = opened(rt.alloc(), &site);
-    assert!(rt; heard(rt.alloc(), &site, Msg::Placed(OURS), &mut other)?.is_empty());
+    assert_heard(&rt, rt.alloc(), &site, Msg::Placed(OURS), &mut other, &[])?;
     Ok(())
 }
