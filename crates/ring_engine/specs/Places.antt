@@ -11,6 +11,8 @@ use Rattle.node_kit.specs.Steps.{Input, Deed}
 use Rattle.run_facts.specs.declared.mail.Letter.{Letter}
 use Rattle.ring_engine.specs.Traffic.{AreOpen}
 use Rattle.run_facts.specs.Rings.{Traffic, Ring, IsAt}
+use Rattle.node_kit.specs.declared.journal.Entry.{Entry}
+use Rattle.node_kit.specs.Life.{Lifetime}
 use Rattle.run_facts.specs.Events.{Past}
 use Rattle.run_facts.specs.Beats.{after_beat}
 use Rattle.node_kit.specs.Courses.{stamp_in}
@@ -18,6 +20,10 @@ use Rattle.node_kit.specs.Courses.{stamp_in}
 -- the link of a number before the first beat
 abbrev pub new_channel : {M : Type 0} → Course → ℕ → Traffic M
 new_channel c link = record { clock = new_clock link c.delay c.plan.params.delay; flights = [] }
+
+-- the ring of these rows
+abbrev pub ring : {M S : Type 0} → List S → List Lifetime → List (List Entry) → List (Traffic M) → Ring M S
+ring nodes lives journals channels = record { nodes = nodes; lives = lives; journals = journals; channels = channels }
 
 -- the nodes stand at their numbers, there is a life and a journal for each, and a channel for each link, on which
 -- nothing was sent after the beat

@@ -10,7 +10,7 @@ ghost use Rattle.run_facts.specs.Paced.{ArePaced};
 ghost use Rattle.run_facts.specs.Timed.{AreTimed};
 ghost use Rattle.ring_engine.specs.Runs.{EachHasEnded};
 ghost use Rattle.ring_engine.specs.Whole.{IsWholeRun, HaveTurns};
-ghost use Rattle.ring_engine.specs.Places.{AreInLinks, IsSound, AllHaveLived};
+ghost use Rattle.ring_engine.specs.Places.{ring, AreInLinks, IsSound, AllHaveLived};
 ghost use Rattle.node_kit.specs.Rows.{AllStand};
 
 use crate::events::live;
@@ -85,45 +85,15 @@ fn run_beat<M: Message, T: Node<M>>(
     requires few { vec_len nodes.old ≤ 1000 }
     requires in_links { AreInLinks course.now.plan.params (vec_len nodes.old) in_links.now }
     requires sound { IsSound T.stands_at course.now.plan.params (vec_len nodes.old) beat
-        (record {
-          nodes = nodes.old.items;
-          lives = lives.old.items;
-          journals = journals.old.items;
-          channels = channels.old.items;
-        }) }
+        (ring nodes.old.items lives.old.items journals.old.items channels.old.items) }
     ensures sound { OnOk result (IsSound T.stands_at course.now.plan.params (vec_len nodes.old) beat
-        (record {
-          nodes = nodes.new.items;
-          lives = lives.new.items;
-          journals = journals.new.items;
-          channels = channels.new.items;
-        })) }
+        (ring nodes.new.items lives.new.items journals.new.items channels.new.items)) }
     ensures turns { OnOk result (HaveTurns M.note_of T.step course.now beat (vec_len nodes.old)
-        (record {
-          nodes = nodes.old.items;
-          lives = lives.old.items;
-          journals = journals.old.items;
-          channels = channels.old.items;
-        })
-        (record {
-          nodes = nodes.new.items;
-          lives = lives.new.items;
-          journals = journals.new.items;
-          channels = channels.new.items;
-        })) }
+        (ring nodes.old.items lives.old.items journals.old.items channels.old.items)
+        (ring nodes.new.items lives.new.items journals.new.items channels.new.items)) }
     ensures lived { OnOk result (AllHaveLived M.note_of T.step course.now beat
-        (record {
-          nodes = nodes.old.items;
-          lives = lives.old.items;
-          journals = journals.old.items;
-          channels = channels.old.items;
-        })
-        (record {
-          nodes = nodes.new.items;
-          lives = lives.new.items;
-          journals = journals.new.items;
-          channels = channels.new.items;
-        })) }
+        (ring nodes.old.items lives.old.items journals.old.items channels.old.items)
+        (ring nodes.new.items lives.new.items journals.new.items channels.new.items)) }
 {
     for n in 0..nodes.len() {
         let stamp = course.stamp(NodeNo(n as u32), beat);
