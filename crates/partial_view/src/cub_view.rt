@@ -15,8 +15,8 @@ use std::alloc::Global;
 use std::marker::Model;
 use tiger_base::{Instance, Micros, NoMemory, Rec, SlotNo, Visit};
 
-/// A view of a plan, seen as that view is, a time up to which its states are known to be forwarded,
-/// and a time from which on its visits are known to be split.
+/// A view that keeps, beside its lines, a time up to which its states are known to be forwarded and
+/// a time from which on its visits are known to be split. It is seen as the view is.
 #[derive(Drop)]
 pub struct CubView {
     view: View,
