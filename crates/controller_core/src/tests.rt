@@ -7,41 +7,13 @@ ghost use Rattle.node_kit.specs.declared.course.OrderKind.TheVariants.{Begin, Fi
 
 use crate::Controller;
 use node_kit::{Node, Order, OrderKind, Out, Outbox, What};
-use slot_plan::{Params, Plan};
+use slot_plan::small_plan;
 use std::alloc::Global;
 use std::test::Fail;
 use tiger_base::{
     Ask, Beat, DiskNo, FileNo, Instance, LinkNo, Message, Msg, NoMemory, Sequence, SlotNo, Stamp,
     Tag, Tenancy, Visit,
 };
-
-fn plan() -> Plan
-    ensures cubs { result.params.cubs ≡ 8 }
-    ensures disks { result.params.disks ≡ 1 }
-{
-    Plan {
-        params: Params {
-            cubs: 8,
-            disks: 1,
-            slots: 16,
-            play: 1000000,
-            pieces: 2,
-            block: 4,
-            beat: 10000,
-            delay: 2,
-            skew: 4000,
-            window_a: 800000,
-            window_b: 200000,
-            read_lead: 100000,
-            min_lead: 3000000,
-            max_lead: 4000000,
-            batch: 20,
-            heart: 50,
-            deadman: 1000000,
-            hold: 3000000,
-        },
-    }
-}
 
 fn ask() -> Ask
     ensures instance { result.instance.0 ≡ 0 }
@@ -90,7 +62,7 @@ fn controller(alloc: Global, first: Beat, second: Beat) -> Result<Controller, No
     ensures { IfOk result (λ c. (c.params.cubs ≡ 8) × (c.params.disks ≡ 1)) }
 {
     let orders = start_and_stops(alloc, ask(), first, second)?;
-    Ok(Controller::new(alloc, &plan(), orders))
+    Ok(Controller::new(alloc, &small_plan(), orders))
 }
 
 /// Where the start was put: in slot 1, from visit 7 on.
@@ -265,7 +237,7 @@ fn told<M: Message, T: Node<M>>(
 #[test]
 fn a_controller_acts_through_the_trait(rt: HostRuntime) -> Result<(), Fail> {
     let alloc = rt.alloc();
-    let plan = plan();
+    let plan = small_plan();
     let orders = start_and_stops(alloc, ask(), 2, 3)?;
     let mut controller = Controller::new(alloc, &plan, orders);
     let mut out = Outbox::new(alloc);

@@ -7,7 +7,7 @@ ghost use Rattle.node_kit.specs.Links.{IsInLink};
 use crate::DiskNode;
 use disk_image::DiskImage;
 use node_kit::{Gate, Node, OpenGate, Out, Outbox, ReadFault};
-use slot_plan::{Params, Plan};
+use slot_plan::small_plan;
 use std::alloc::{AllocError, Global};
 use std::cell::Cell;
 use std::fmt::Write;
@@ -17,35 +17,6 @@ use tiger_base::{
     DiskNo, FileNo, Instance, Library, LinkNo, Message, Msg, NoMemory, Part, Sequence, SlotNo,
     Stamp, Want,
 };
-
-fn plan() -> Plan
-    ensures cubs { result.params.cubs ≡ 8 }
-    ensures disks { result.params.disks ≡ 1 }
-    ensures pieces { result.params.pieces ≡ 2 }
-{
-    Plan {
-        params: Params {
-            cubs: 8,
-            disks: 1,
-            slots: 16,
-            play: 1000000,
-            pieces: 2,
-            block: 4,
-            beat: 10000,
-            delay: 2,
-            skew: 4000,
-            window_a: 800000,
-            window_b: 200000,
-            read_lead: 100000,
-            min_lead: 3000000,
-            max_lead: 4000000,
-            batch: 20,
-            heart: 50,
-            deadman: 1000000,
-            hold: 3000000,
-        },
-    }
-}
 
 /// A library of the file `1234567890`.
 fn digits(alloc: Global) -> Result<Library, NoMemory>
@@ -175,7 +146,7 @@ fn image<'a>(alloc: Global, library: &'a Library, disk: DiskNo) -> Result<DiskIm
 fn answers(alloc: Global, reads: &[(u32, Want)]) -> Result<String, NoMemory> {
     let library = digits(alloc)?;
     let image = image(alloc, &library, DiskNo(1))?;
-    let mut disk = DiskNode::new(&plan(), DiskNo(1), &image, faults(alloc)?, &OpenGate);
+    let mut disk = DiskNode::new(&small_plan(), DiskNo(1), &image, faults(alloc)?, &OpenGate);
     let mut text = String::new(alloc);
     for (beat, want) in reads {
         feed(&mut disk, *beat, Msg::ReadAsk(*want), alloc, &mut text)?;
@@ -245,7 +216,7 @@ fn counted<'a>(
 ) -> Result<String, NoMemory> {
     let near = Msg::ReadAsk(want(0, 0, 0));
     let far = Msg::ReadAsk(want(2147483649, 0, 0));
-    let mut disk = DiskNode::new(&plan(), DiskNo(0), image, faults(alloc)?, gate);
+    let mut disk = DiskNode::new(&small_plan(), DiskNo(0), image, faults(alloc)?, gate);
     let mut text = String::new(alloc);
     feed_counted(&mut disk, gate, 41, near, alloc, &mut text)?;
     feed_counted(&mut disk, gate, 42, far, alloc, &mut text)?;
@@ -289,7 +260,7 @@ fn a_disk_acts_through_the_trait(rt: HostRuntime) -> Result<(), Fail> {
     let alloc = rt.alloc();
     let library = digits(alloc)?;
     let image = image(alloc, &library, DiskNo(0))?;
-    let plan = plan();
+    let plan = small_plan();
     let mut disk = DiskNode::new(&plan, DiskNo(0), &image, faults(alloc)?, &OpenGate);
     let mut out = Outbox::new(alloc);
     let stamp = Stamp {
