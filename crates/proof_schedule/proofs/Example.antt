@@ -15,9 +15,8 @@ use Rattle.proof_schedule.specs.LinkLaws.{LinkLaws}
 use Rattle.proof_schedule.specs.StateLaws.{StateLaws, Inserts, IsShown}
 use Rattle.proof_schedule.specs.StartLaws.{StartLaws, Comes}
 use Rattle.proof_schedule.specs.WatchLaws.{WatchLaws}
-use Rattle.proof_schedule.specs.StopLaws.{StopLaws}
-use Rattle.proof_schedule.specs.HoldLaws.{HoldLaws}
 use Rattle.proof_schedule.specs.Logs.{Fact, facts_in, Came, Ticked, Put, Inserted, Took, Shows, Sent, Got, Begun, Asked, AskedApart, Gone, StoppedAt, StoppedWaiting, Told, Reached, GotTag, GotBare, Passed, Died, Beat, Heard, Believed}
+use Rattle.proof_schedule.proofs.Unstopped.{IsWithoutStops, no_stops, no_holds}
 
 -- Each fact of the run is one of these: of a kind that is not listed there is none.
 abbrev IsIts : Fact → Type 0
@@ -358,40 +357,23 @@ watch = record {
   silent = λ {c} {b} h. absurd (its (Believed c b) h);
 }
 
--- Nothing is stopped,
-stops : StopLaws small r
-stops = record {
-  how = λ {v} {z} h. absurd (its (Gone v z) h);
-  gone_at = λ {v} {s} {n} {z} h. absurd (its (StoppedAt v s n z) h);
-  gone_waiting = λ {v} {d} {z} h. absurd (its (StoppedWaiting v d z) h);
-  gone_once = λ {v} {y} {z} h k. absurd (its (Gone v y) h);
-  one_place = λ {v} {s} {n} {y} {u} {m} {z} h k. absurd (its (StoppedAt v s n y) h);
-  one_way = λ {v} {s} {n} {y} {d} {z} h k. its (StoppedAt v s n y) h;
-  place = λ {v} {s} {n} {z} h. absurd (its (StoppedAt v s n z) h);
-  waiting = λ {v} {d} {z} h. absurd (its (StoppedWaiting v d z) h);
-  unplaced = λ {c} {v} {d} {x} {z} {t} h i same. absurd (its (StoppedWaiting v d z) h);
-}
-
--- and no deschedule comes.
-holds : HoldLaws small r
-holds = record {
-  reached = λ {c} {v} {y} h. absurd (its (Reached c v y) h);
-  reached_tag = λ {c} {v} {s} {q} {y} h. absurd (its (GotTag c v s q y) h);
-  reached_bare = λ {c} {v} {y} h. absurd (its (GotBare c v y) h);
-  pass = λ {c} {v} {s} {q} {y} h. absurd (its (Passed c v s q y) h);
-  passes = λ {c} {v} {s} {q} {y} {b} h w le soon. absurd (its (Passed c v s q y) h);
-  told = λ {a} {k} {v} {s} {q} {x} h. absurd (its (Told a k v s q x) h);
-  told_next = λ {a} {k} {v} {s} {q} {x} h. absurd (its (Told a k v s q x) h);
-  tag_passes = λ {c} {v} {s} {q} {y} h to. absurd (its (GotTag c v s q y) h);
-  record_passes = λ {c} {n} {x} {y} {t} h e undue. absurd (its (GotBare c t.instance.0 y) h);
-  pass_once = λ {c} {v} {s} {q} {y} {u} {m} {z} h k le. absurd (its (Passed c v s q y) h);
-  took = λ {c} {n} {x} {b} {t} h k l. absurd (its (Took c t n x) h);
+-- Nothing is stopped.
+none : IsWithoutStops r
+none = record {
+  gone = λ v z h. its (Gone v z) h;
+  at = λ v s n z h. its (StoppedAt v s n z) h;
+  waiting = λ v d z h. its (StoppedWaiting v d z) h;
+  told = λ a k v s q x h. its (Told a k v s q x) h;
+  reached = λ c v y h. its (Reached c v y) h;
+  tag = λ c v s q y h. its (GotTag c v s q y) h;
+  bare = λ c v y h. its (GotBare c v y) h;
+  passed = λ c v s q y h. its (Passed c v s q y) h;
 }
 
 -- So the laws can be met.
 pub laws_met : LawsCanBeMet
 laws_met = (
   plan,
-  record { run = runs; links = links; states = states; starts = starts; watch = watch; stops = stops; holds = holds },
+  record { run = runs; links = links; states = states; starts = starts; watch = watch; stops = no_stops small r none; holds = no_holds small r none },
   put_in.there,
 )

@@ -20,4 +20,5 @@ pub mod Silence
 pub mod Soon
 pub mod Starts
 pub mod Timely
+pub mod Unstopped
 pub mod Waves

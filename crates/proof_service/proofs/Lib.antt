@@ -1,0 +1,13 @@
+pub mod Example
+pub mod ExamplePieces
+pub mod ExampleSchedule
+pub mod ExampleLog
+pub mod Follows
+pub mod Leads
+pub mod Mirrors
+pub mod Sent
+pub mod Served
+pub mod Service
+pub mod Serving
+pub mod Takeover
+pub mod Ticks

@@ -1,0 +1,117 @@
+-- Each piece of a visit that is split leaves in time, or its read fails, or its cub dies.
+use Rattle.std.proofs.Common.{◌≡◌, ℕ, zero, suc, ◌+◌, ◌<◌, ◌≤◌, refl, sym, ap, subst, ◌∙◌, arith, ⊎_elim, inl, inr, eq-or-lt_of_le}
+use Rattle.std.specs.Prelude.{◌⊎◌}
+use Rattle.tiger_base.specs.declared.tenancy.Tenancy.{Tenancy}
+use Rattle.slot_plan.specs.declared.params.Params.{Params}
+use Rattle.slot_plan.specs.Times.{time_of, due, cub_of}
+use Rattle.slot_plan.proofs.Times.{time_below, time_mono, cub_below, cub_ahead}
+use Rattle.proof_schedule.specs.Facts.{Facts, Ended}
+use Rattle.proof_schedule.proofs.Room.{way, soon_after}
+use Rattle.proof_pieces.specs.PieceFacts.{PieceFacts, leave}
+use Rattle.proof_pieces.proofs.Leaving.{leave_after, leave_until}
+use Rattle.proof_service.specs.Blocks.{LeftInTime, DiedBeforeLeaving, PieceIsLost}
+use Rattle.proof_service.specs.ServiceFacts.{ServiceFacts, ArisesBy}
+use Rattle.proof_service.proofs.Service.{Service}
+use Rattle.proof_service.proofs.Serving.{Awaited, LeftOrFailed, in_run, not_reached, there_left}
+use Rattle.proof_service.proofs.Takeover.{goes_on}
+use Rattle.proof_service.proofs.Ticks.{turn, ended_by}
+
+module _ (p : Params) (r : Facts) (q : PieceFacts) (w : ServiceFacts) (end : ℕ) (s : Service p r q w end) where
+  -- A visit is split so early that its pieces can still be sent ahead and read.
+  pub split_soon : {c n b : ℕ} {t : Tenancy} → q.Split c t n b
+      → time_of p b + p.read_lead + p.skew + way p + p.beat ≤ due p t.slot.0 n
+  split_soon k = let o = s.pieces.splits k in let soon = o.soon in let low = o.tick.low in omega arith
+
+-- Of an awaited visit n of t, which the next cub split in beat b since the visit's own died in beat
+-- e.
+module _ (p : Params) (r : Facts) (q : PieceFacts) (w : ServiceFacts) (end : ℕ) (s : Service p r q w end)
+    (t : Tenancy) (n : ℕ) (v : Awaited p r end t n) (e : ℕ) (died : r.Died (cub_of p n) e)
+    (b : ℕ) (split : q.Split (cub_of p (n + 1)) t n b) where
+  -- The record of another piece than the first comes with its mirror state.
+  mirror_comes : {f : ℕ} (k : ℕ) → 1 ≤ k → k < p.pieces → Ended r (cub_of p (n + (k + 1))) f
+      → due p t.slot.0 n ≤ time_of p f
+      → ArisesBy r q (cub_of p (n + (k + 1))) t n (k + 1) f
+  mirror_comes {f} k some few ended late =
+      let early = split_soon p r q w end s split in
+      let room = s.setting.room in
+      let far = in_run p r q w end s t n v b (omega (arith, room)) in
+      let here = goes_on p r q w end s b n died (omega arith) in
+      let sent = s.laws.mirrors_due k split here.ticked some few in
+      let sum : n + 1 + k ≡ n + (k + 1) = omega arith in
+      let to : cub_of p (n + (k + 1)) ≡ cub_of p (cub_of p (n + 1) + k) = sym (cub_ahead p (n + 1) k ∙ ap (λ m. cub_of p m) sum) in
+      let soon = soon_after p b (b + p.delay) (omega arith) in
+      let before = time_below p (b + p.delay) f (omega (arith, room)) in
+      let there = ended_by p r s.setting {e = f} (n + (k + 1)) (b + p.delay) ended (omega arith) in
+      ⊎_elim
+      (λ h. let by = h.by in record { beat = h.beat; arises = h.arises; by = omega arith })
+      (λ h. absurd (not_reached p r q w end s t n v h (omega (arith, room))))
+      (s.laws.mirror_arrives (cub_of p (n + (k + 1))) (b + p.delay) sent to refl (s.setting.law.run.came there.ticked) (omega arith))
+
+  -- So the record of each piece is there in time, if its cub goes on.
+  piece_comes : {f : ℕ} (j : ℕ) → 1 ≤ j → j ≤ p.pieces → Ended r (cub_of p (n + j)) f
+      → due p t.slot.0 n ≤ time_of p f
+      → ArisesBy r q (cub_of p (n + j)) t n j f
+  piece_comes zero some few ended late = absurd (omega arith)
+  piece_comes {f} (suc zero) some few ended late =
+      let early = split_soon p r q w end s split in
+      let before = time_below p b f (omega (arith, s.setting.room)) in
+      record { beat = b; arises = inr (inl (refl, split)); by = omega arith }
+  piece_comes {f} (suc (suc k)) some few ended late =
+      let sum : k + 1 + 1 ≡ suc (suc k) = omega arith in
+      subst
+      (λ i. Ended r (cub_of p (n + i)) f → ArisesBy r q (cub_of p (n + i)) t n i f)
+      sum
+      (λ h. mirror_comes (k + 1) (omega arith) (omega arith) h late)
+      ended
+
+  -- So each piece leaves or its read fails, or its cub died.
+  piece_left : (j : ℕ) → 1 ≤ j → j ≤ p.pieces
+      → LeftOrFailed p q w end (cub_of p (n + j)) t n j ⊎ DiedBeforeLeaving p r end (cub_of p (n + j)) t n j
+  piece_left j some few =
+      let after = leave_after p t n j in
+      let until = leave_until p s.setting.ok t n j few in
+      let early = split_soon p r q w end s split in
+      let beat = s.setting.room.beat in
+      let o = turn p beat (leave p t n j) (omega arith) in
+      let f : ℕ = o.0 in
+      let meets = o.1.meets in
+      let only_now = o.1.only_now in
+      let far = in_run p r q w end s t n v f (omega arith) in
+      ⊎_elim
+      (λ h.
+      let k = piece_comes j some few h (omega arith) in
+      inl (there_left p r q w end s t n v {j = j} {f = f} k.beat few k.arises h meets))
+      (λ h.
+      let by = h.by in
+      let m = time_mono p h.beat f by in
+      inr (record { beat = h.beat; died = h.died; before = omega arith; early = omega arith }))
+      (s.laws.ends (omega arith) (cub_below p (n + j) s.setting.ok.ranges))
+
+  -- One of the first so many pieces was lost.
+  pub record OneLost (most : ℕ) : Type 0 where
+    pub piece : ℕ
+    pub low : 1 ≤ piece
+    pub high : piece ≤ most
+    pub lost : PieceIsLost p r w end t n piece
+
+  -- All of them left in time.
+  abbrev pub AllLeft : ℕ → Type 0
+  AllLeft most = (j : ℕ) → 1 ≤ j → j ≤ most → LeftInTime p q end (cub_of p (n + j)) t n j
+
+  -- So all pieces leave in time, or one is lost.
+  pub all_or_one : (most : ℕ) → most ≤ p.pieces → AllLeft most ⊎ OneLost most
+  all_or_one zero few = inl (λ j low high. absurd (omega arith))
+  all_or_one (suc m) few = ⊎_elim
+      (λ (all : AllLeft m). ⊎_elim
+      (λ k. ⊎_elim
+      (λ (left : LeftInTime p q end (cub_of p (n + suc m)) t n (suc m)).
+      inl (λ j low high. ⊎_elim
+      (λ (same : j ≡ suc m). subst (λ i. LeftInTime p q end (cub_of p (n + i)) t n i) (sym same) left)
+      (λ (l : j < suc m). all j low (omega arith))
+      (eq-or-lt_of_le high)))
+      (λ failed. inr (record { piece = suc m; low = omega arith; high = omega arith; lost = inl failed }))
+      k)
+      (λ gone. inr (record { piece = suc m; low = omega arith; high = omega arith; lost = inr gone }))
+      (piece_left (suc m) (omega arith) few))
+      (λ (one : OneLost m). let high = one.high in inr (record { piece = one.piece; low = one.low; high = omega arith; lost = one.lost }))
+      (all_or_one m (omega arith))
