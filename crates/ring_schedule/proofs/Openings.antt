@@ -1,6 +1,6 @@
--- From the record of a run of a ring's nodes to a calm ring's history.
+-- From the record of a run of a ring's nodes to the history of a ring in which nobody dies.
 use Rattle.std.proofs.Common.{◌≡◌, ℕ, zero, suc, ◌+◌, ◌*◌, ◌-◌, ◌<◌, ◌≤◌, List, [], ◌∷◌, ◌++◌, length, length-append, true, false, Some, None, refl, sym, ap, subst, ◌∙◌, arith, ⊎_elim}
-use Rattle.std.specs.Prelude.{slice_get, slice_set}
+use Rattle.std.specs.Prelude.{slice_get}
 use Rattle.std.proofs.lemmas.Bool.{cases_lt}
 use Rattle.std.proofs.lemmas.Option.{none-some}
 use Rattle.std.proofs.Math.Nat.{mul-le-mul}
@@ -27,11 +27,8 @@ use Rattle.ring_nodes.specs.declared.nodes.AnyNode.{AnyNode}
 use Rattle.ring_nodes.specs.declared.nodes.AnyNode.TheVariants as node
 use Rattle.ring_nodes.specs.AllNodes.{any_step, node_count, numbered, each_numbered, opening_cub, opening_disk, opening_controller, opening_nodes, faults_of, image_at, images_of}
 use Rattle.ring_nodes.proofs.Numbered.{length-numbered, length-each_numbered, opening_count}
-use Rattle.run_facts.specs.Rings.{Ring}
-use Rattle.node_kit.specs.Rows.{each_below}
-use Rattle.ring_engine.specs.Whole.{HaveTurns, HavePassed, IsWholeRun}
 use Rattle.ring_facts.specs.Steps.{ring_of}
-use Rattle.ring_schedule.specs.Rings.{IsCalmRing}
+use Rattle.ring_schedule.specs.Rings.{IsLivingRing}
 
 -- places of two lists, one behind the other
 get_front : {X : Type 0} (xs ys : List X) (k : ℕ) (x : X) → slice_get xs k ≡ Some x → slice_get (xs ++ ys) k ≡ Some x
@@ -106,7 +103,7 @@ life_kept : {S : Type 0} (step : S → Input Msg → Deed Msg S) (h : History Ms
 life_kept step h n zero = refl
 life_kept step h n (suc i) = life-at noted step (h.event n i) (past noted step h n i) ∙ life_kept step h n i
 
-alive_at : {S : Type 0} (step : S → Input Msg → Deed Msg S) (nodes beats : ℕ) (h : History Msg S) → IsComplete noted step nodes beats h → (n i : ℕ) → n < nodes → i < h.count n → (h.life n).death ≡ None
+pub alive_at : {S : Type 0} (step : S → Input Msg → Deed Msg S) (nodes beats : ℕ) (h : History Msg S) → IsComplete noted step nodes beats h → (n i : ℕ) → n < nodes → i < h.count n → (h.life n).death ≡ None
     → is_death (h.event n i) ≡ false
 alive_at step nodes beats h complete n i inside low none = go (h.event n i) refl
   where
@@ -129,10 +126,10 @@ read_low c b r course early high =
     let skew = ranges.skew in
     omega (arith, product, skew, high)
 
-pub calm_ring : (G : Type 0) (c : Course) (catalogue : Catalogue) (library : List (List ℕ)) (orders : List Order) (nodes : List (AnyNode G)) (journals : List (List Entry))
+pub living_ring : (G : Type 0) (c : Course) (catalogue : Catalogue) (library : List (List ℕ)) (orders : List Order) (nodes : List (AnyNode G)) (journals : List (List Entry))
     → IsCourse c → ((n : ℕ) → (lifetime_of c n).death ≡ None)
-    → (have : HaveHistory {M = Msg} noted (any_step {G = G}) c.plan.params (lifetime_of c) c.beats (ring_of G c catalogue library orders) nodes journals) → IsCalmRing c.plan.params orders have.history
-calm_ring G c catalogue library orders nodes journals course deathless have =
+    → (have : HaveHistory {M = Msg} noted (any_step {G = G}) c.plan.params (lifetime_of c) c.beats (ring_of G c catalogue library orders) nodes journals) → IsLivingRing c.plan.params orders have.history
+living_ring G c catalogue library orders nodes journals course deathless have =
     let p : Params = c.plan.params in
     let h = have.history in
     let theirs = have.theirs in
@@ -157,26 +154,3 @@ calm_ring G c catalogue library orders nodes journals course deathless have =
           let within : n < length given = omega (arith, size, inside) in
           read_low c (beat h n i) (reading h n i) course (have.complete.early n i within low) (have.run.reads n i within low).1;
     }
-
--- there is a journal for each node
-set_count : {X : Type 0} (xs : List X) (n : ℕ) (x : X) → length (slice_set xs n x) ≡ length xs
-set_count [] n x = refl
-set_count (y ∷ ys) zero x = refl
-set_count (y ∷ ys) (suc n) x = ap suc (set_count ys n x)
-
-below_count : {X : Type 0} (f : ℕ → X) (n : ℕ) → length (each_below f n) ≡ n
-below_count f zero = refl
-below_count f (suc n) = length-append (each_below f n) (f n ∷ []) ∙ omega (arith, below_count f n)
-
-turns_count : {S : Type 0} (step : S → Input Msg → Deed Msg S) (c : Course) (b n : ℕ) (old new : Ring Msg S) → HaveTurns noted step c b n old new → length new.journals ≡ length old.journals
-turns_count {S} step c b zero old new e = ap (λ (r : Ring Msg S). length r.journals) e
-turns_count {S} step c b (suc n) old new t =
-    ap (λ (r : Ring Msg S). length r.journals) t.2.after ∙ set_count t.0.journals n t.2.scene.past.journal ∙ turns_count step c b n old t.0 t.1
-
-passed_count : {S : Type 0} (step : S → Input Msg → Deed Msg S) (c : Course) (count b : ℕ) (old new : Ring Msg S) → HavePassed noted step c count b old new → length new.journals ≡ length old.journals
-passed_count {S} step c count zero old new e = ap (λ (r : Ring Msg S). length r.journals) e
-passed_count step c count (suc b) old new t = turns_count step c b count t.0 new t.2 ∙ passed_count step c count b old t.0 t.1
-
-pub journal_count : {S : Type 0} (step : S → Input Msg → Deed Msg S) (c : Course) (given nodes : List S) (journals : List (List Entry)) → IsWholeRun noted step c given nodes journals → length journals ≡ length given
-journal_count step c given nodes journals whole =
-    ap length whole.same_journals ∙ passed_count step c (length given) c.beats _ whole.last whole.passed ∙ below_count (λ _. []) (length given)

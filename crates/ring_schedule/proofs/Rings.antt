@@ -1,4 +1,4 @@
--- A calm ring's history is a calm history with orderly starts.
+-- With calm orders the history of a ring in which nobody dies is a calm history with orderly starts.
 use Rattle.std.proofs.Common.{◌≡◌, ℕ, zero, suc, ◌+◌, ◌<◌, ◌≤◌, ◌==◌, List, [], length, filter, Bool, true, false, Option, Some, None, refl, sym, ap, subst, ◌∙◌, arith, ⊎_elim, inl, inr, eq-or-lt_of_le}
 use Rattle.std.specs.Prelude.{◌⊎◌, slice_get}
 use Rattle.std.specs.List.{flat_map}
@@ -50,7 +50,7 @@ use Rattle.schedule_laws.proofs.Wrapped.{after_state, event_outs, cub_puts_out}
 use Rattle.schedule_laws.proofs.Rings as laws
 use Rattle.schedule_moments.specs.Calm.{AreCalmJournals}
 use Rattle.ring_schedule.specs.Orders.{AreCalmOrders}
-use Rattle.ring_schedule.specs.Rings.{IsCalmRing, RingHasOneSchedule}
+use Rattle.ring_schedule.specs.Rings.{IsLivingRing, RingHasOneSchedule}
 use Rattle.ring_schedule.proofs.Once.{StartAt, IsOnce, once_nothing, once_both}
 use Rattle.ring_schedule.proofs.Controllers.{in_place, order_made, starts_at, begun, order_outs, commanding_outs, IsStartOf, command_out, start_sent, same_start, beat_once}
 use Rattle.ring_schedule.proofs.Controllers as commands
@@ -125,7 +125,7 @@ second_same a b c d e = ap (λ (o : Option (ℕ × ℕ)). (elim o as (λ _. ℕ)
 tick_event : (e : NodeEvent Msg) (stamp : Stamp) → is_death e ≡ false → input_of e ≡ Tick stamp → is_tick e ≡ true
 tick_event e stamp d t = tick_same e d ∙ ap is_tick_input t
 
-module _ {G : Type 0} (p : Params) (plan : IsPlan p) (orders : List Order) (fine : AreCalmOrders p orders) (h : History Msg (AnyNode G)) (ring : IsCalmRing p orders h) where
+module _ {G : Type 0} (p : Params) (plan : IsPlan p) (orders : List Order) (fine : AreCalmOrders p orders) (h : History Msg (AnyNode G)) (ring : IsLivingRing p orders h) where
   kept : (P : AnyNode G → Type 0) → ((s : AnyNode G) (k : Input Msg) → P s → P (any_step s k).state) → (n i : ℕ) → n < node_count p → i ≤ h.count n → P (h.first n) → P (past noted any_step h n i).state
   kept P step n zero inside low first = first
   kept P step n (suc i) inside low first =

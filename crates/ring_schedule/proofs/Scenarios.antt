@@ -9,14 +9,8 @@ use Rattle.std.proofs.lemmas.Grind.{div_ceil_times}
 use Rattle.std.proofs.lemmas.Option.{none-some, slice_get-map, slice_get_within, get_or_from_slice_get}
 use Rattle.std.proofs.Math.Nat.{mul-le-mul, mul-le-mul_right, add-mul}
 use Rattle.tiger_base.specs.declared.tenancy.Ask.{Ask}
-use Rattle.tiger_base.specs.declared.message.Msg.{Msg}
-use Rattle.tiger_base.specs.Notes.{noted}
 use Rattle.tiger_base.specs.Limits.{most_blocks, most_file}
-use Rattle.node_kit.specs.declared.journal.Entry.{Entry}
-use Rattle.run_facts.specs.Histories.{HaveHistory}
-use Rattle.run_facts.specs.Order.{order_of}
-use Rattle.run_model.specs.Orders.{IsNotPassedOver, end_of_tick}
-use Rattle.ring_schedule.proofs.Readings.{readings_whole, ticked}
+use Rattle.ring_schedule.proofs.Readings.{ticked}
 use Rattle.stripe_layout.specs.declared.catalogue.FileInfo.{FileInfo}
 use Rattle.stripe_layout.specs.declared.catalogue.Catalogue.{Catalogue}
 use Rattle.stripe_layout.specs.Places.{block_count}
@@ -49,11 +43,11 @@ use Rattle.schedule_moments.proofs.Passing as passing
 use Rattle.schedule_views.proofs.Parts as views
 use Rattle.schedule_views.proofs.Local as local
 use Rattle.ring_schedule.specs.Orders.{AreCalmOrders}
-use Rattle.ring_schedule.specs.Rings.{IsCalmRing}
+use Rattle.ring_schedule.specs.Rings.{IsLivingRing}
 use Rattle.ring_schedule.specs.Scenarios.{IsCalmScenario, HasOneSchedule, AreShort, CalmRunsPutFairly, CalmRunsHaveOneSchedule, CalmRunsPassNobodyOver, CalmRunsKeepViews, CalmRunsAreLocal}
 use Rattle.ring_schedule.proofs.Controllers.{begun}
 use Rattle.ring_schedule.proofs.Stopless.{none_stopped}
-use Rattle.ring_schedule.proofs.Openings.{get_some, calm_ring, journal_count}
+use Rattle.ring_schedule.proofs.Openings.{get_some, living_ring}
 use Rattle.ring_schedule.proofs.Rings.{calm_journals, ring_one_schedule}
 
 -- what holds of all elements of a list holds of the one at a place
@@ -160,28 +154,26 @@ module _ (G : Type 0) (s : Scenario) (library : List (List ℕ)) (k : Kept) (sce
       let all = length-numbered (image_at k.course.plan.params k.catalogue library) (k.course.plan.params.cubs * k.course.plan.params.disks) in
       opening_count k.course.plan.params k.course.faults images k.orders given all refl
 
-  module _ (nodes : List (AnyNode G)) (js : List (List Entry)) (same : k.journals ≡ js)
-      (have : HaveHistory {M = Msg} noted (any_step {G = G}) k.course.plan.params (lifetime_of k.course) k.course.beats given nodes js) where
-    ring : IsCalmRing k.course.plan.params k.orders have.history
-    ring = calm_ring G k.course k.catalogue library k.orders nodes js course
-        (λ n. deathless k.course n (subst (λ (c : Course). All (λ death. death ≡ None) c.deaths) (sym run.course) calm.alive)) have
+  ring : IsLivingRing k.course.plan.params k.orders run.steps.kept.lived.history
+  ring = living_ring G k.course k.catalogue library k.orders run.steps.nodes k.journals course
+      (λ n. deathless k.course n (subst (λ (c : Course). All (λ death. death ≡ None) c.deaths) (sym run.course) calm.alive)) run.steps.kept.lived
 
-    journals : AreCalmJournals any_step k.course.plan.params (node_count k.course.plan.params) have.history k.orders js
-    journals =
-        let whole = size in
-        calm_journals k.course.plan.params k.course.plan.sound k.orders orders have.history ring js
-        (ap length (sym same) ∙ journal_count any_step k.course given run.steps.nodes k.journals run.steps.whole ∙ size)
-        (λ n low. have.theirs.writes n (omega (arith, whole, low)))
+  journals : AreCalmJournals any_step k.course.plan.params (node_count k.course.plan.params) run.steps.kept.lived.history k.orders k.journals
+  journals =
+      let whole = size in
+      calm_journals k.course.plan.params k.course.plan.sound k.orders orders run.steps.kept.lived.history ring k.journals
+      (run.steps.kept.each_has_journal ∙ size)
+      (λ n low. run.steps.kept.lived.theirs.writes n (omega (arith, whole, low)))
 
 pub calm_runs_put_fairly : (G : Type 0) → CalmRunsPutFairly G
 calm_runs_put_fairly G s library k scenario calm short run =
-    fair.calm_puts_are_fair (AnyNode G) any_step k.course.plan.params (node_count k.course.plan.params) run.steps.history.history k.orders k.journals k.course.beats k.course.plan.sound
-    (journals G s library k scenario calm short run run.steps.nodes k.journals refl run.steps.history)
+    fair.calm_puts_are_fair (AnyNode G) any_step k.course.plan.params (node_count k.course.plan.params) run.steps.kept.lived.history k.orders k.journals k.course.beats k.course.plan.sound
+    (journals G s library k scenario calm short run)
 
 pub calm_runs_have_one_schedule : (G : Type 0) → CalmRunsHaveOneSchedule G
 calm_runs_have_one_schedule G s library k scenario calm short run =
-    ring_one_schedule G k.course.plan.params k.orders run.steps.history.history k.course.plan.sound (orders G s library k scenario calm short run)
-    (ring G s library k scenario calm short run run.steps.nodes k.journals refl run.steps.history)
+    ring_one_schedule G k.course.plan.params k.orders run.steps.kept.lived.history k.course.plan.sound (orders G s library k scenario calm short run)
+    (ring G s library k scenario calm short run)
 
 -- no journal of it says that an instance was stopped
 nothing_stopped : (G : Type 0) (s : Scenario) (library : List (List ℕ)) (k : Kept) → IsScenario s → IsCalmScenario s → AreShort library → IsRingRun G s library k
@@ -192,26 +184,23 @@ nothing_stopped G s library k scenario calm short run =
 
 pub calm_runs_keep_views : (G : Type 0) → CalmRunsKeepViews G
 calm_runs_keep_views G s library k scenario calm short run =
-    views.calm_views_are_part (AnyNode G) any_step k.course.plan.params (node_count k.course.plan.params) run.steps.history.history k.orders k.journals k.course.beats k.course.plan.sound
-    (journals G s library k scenario calm short run run.steps.nodes k.journals refl run.steps.history) (nothing_stopped G s library k scenario calm short run)
+    views.calm_views_are_part (AnyNode G) any_step k.course.plan.params (node_count k.course.plan.params) run.steps.kept.lived.history k.orders k.journals k.course.beats k.course.plan.sound
+    (journals G s library k scenario calm short run) (nothing_stopped G s library k scenario calm short run)
 
 pub calm_runs_are_local : (G : Type 0) → CalmRunsAreLocal G
 calm_runs_are_local G s library k scenario calm short run =
-    local.calm_entries_are_local (AnyNode G) any_step k.course.plan.params (node_count k.course.plan.params) run.steps.history.history k.orders k.journals k.course.beats k.course.plan.sound
-    (journals G s library k scenario calm short run run.steps.nodes k.journals refl run.steps.history)
+    local.calm_entries_are_local (AnyNode G) any_step k.course.plan.params (node_count k.course.plan.params) run.steps.kept.lived.history k.orders k.journals k.course.beats k.course.plan.sound
+    (journals G s library k scenario calm short run)
 
 pub calm_runs_pass_nobody_over : (G : Type 0) → CalmRunsPassNobodyOver G
 calm_runs_pass_nobody_over G s library k scenario calm short run c beat small low acting =
     let none = nothing_stopped G s library k scenario calm short run in
     let count = size G s library k scenario calm short run in
-    let whole = run.steps.whole in
-    let r = readings_whole any_step k.course (ring_of G k.course k.catalogue library k.orders) run.steps.nodes k.journals (course G s library k scenario calm short run) (omega (arith, count)) run.steps.whole in
-    let quiet = ring G s library k scenario calm short run whole.last.nodes whole.last.journals whole.same_journals r.have in
-    let tick = ticked any_step k.course (ring_of G k.course k.catalogue library k.orders) whole.last.nodes whole.last.journals r c beat small (omega (arith, count, small)) low
+    let quiet = ring G s library k scenario calm short run in
+    let tick = ticked any_step k.course (ring_of G k.course k.catalogue library k.orders) run.steps.nodes k.journals run.steps.kept c beat small (omega (arith, count, small)) low
     (λ i inside. quiet.alive c i (omega (arith, small)) inside) in
-    subst (λ (js : List (List Entry)). IsNotPassedOver k.course.plan.params k.orders (end_of_tick beat c (order_of k.course.beats js)) c (reading_of k.course c beat)) (sym whole.same_journals)
-    (passing.calm_starts_are_not_passed_over (AnyNode G) any_step k.course.plan.params (node_count k.course.plan.params) r.have.history k.orders whole.last.journals k.course.beats k.course.plan.sound
-    (journals G s library k scenario calm short run whole.last.nodes whole.last.journals whole.same_journals r.have) (subst StopNothing whole.same_journals none) c beat (reading_of k.course c beat) low tick)
+    passing.calm_starts_are_not_passed_over (AnyNode G) any_step k.course.plan.params (node_count k.course.plan.params) run.steps.kept.lived.history k.orders k.journals k.course.beats k.course.plan.sound
+    (journals G s library k scenario calm short run) none c beat (reading_of k.course c beat) low tick
 
 -- so there is one schedule in such a run
 pub has_one_schedule : (G : Type 0) (s : Scenario) (library : List (List ℕ)) (k : Kept) → IsScenario s → IsCalmScenario s → AreShort library → IsRingRun G s library k

@@ -1,4 +1,4 @@
--- A ring of cubs, disks, a controller and viewers, in a history without stops and deaths.
+-- A ring of cubs, disks, a controller and viewers, in a history in which nobody dies.
 use Rattle.std.specs.Prelude.{◌≡◌, ℕ, ◌+◌, ◌<◌, ◌≤◌, false, List, []}
 use Rattle.tiger_base.specs.declared.message.Msg.{Msg}
 use Rattle.tiger_base.specs.Notes.{noted}
@@ -27,7 +27,7 @@ pub record Opens {G : Type 0} (p : Params) (orders : List Order) (h : History Ms
   pub viewers : h.first (p.cubs + disk_count p + 1) ≡ node.Viewers []
 
 -- a history of a ring from its opening on, in which nobody dies and time is not too long
-pub record IsCalmRing {G : Type 0} (p : Params) (orders : List Order) (h : History Msg (AnyNode G)) : Type 0 where
+pub record IsLivingRing {G : Type 0} (p : Params) (orders : List Order) (h : History Msg (AnyNode G)) : Type 0 where
   pub run : IsRun noted any_step p (node_count p) h
   pub opens : Opens p orders h
   pub alive : (n i : ℕ) → n < node_count p → i < h.count n → is_death (h.event n i) ≡ false
@@ -35,5 +35,5 @@ pub record IsCalmRing {G : Type 0} (p : Params) (orders : List Order) (h : Histo
 
 -- it has one schedule
 abbrev pub RingHasOneSchedule : (G : Type 0) → Type 0
-RingHasOneSchedule G = (p : Params) (orders : List Order) (h : History Msg (AnyNode G)) → IsPlan p → AreCalmOrders p orders → IsCalmRing p orders h
+RingHasOneSchedule G = (p : Params) (orders : List Order) (h : History Msg (AnyNode G)) → IsPlan p → AreCalmOrders p orders → IsLivingRing p orders h
     → IsOneSchedule p (facts_of p (lives_of h) (calm orders))

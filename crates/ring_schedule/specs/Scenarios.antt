@@ -44,7 +44,7 @@ CalmRunsPutFairly G = (s : Scenario) (library : List (List ℕ)) (k : Kept) → 
 -- and what its cubs did is one schedule
 abbrev pub CalmRunsHaveOneSchedule : (G : Type 0) → Type 0
 CalmRunsHaveOneSchedule G = (s : Scenario) (library : List (List ℕ)) (k : Kept) → IsScenario s → IsCalmScenario s → AreShort library
-    → (run : IsRingRun G s library k) → IsOneSchedule k.course.plan.params (facts_of k.course.plan.params (lives_of run.steps.history.history) (calm k.orders))
+    → (run : IsRingRun G s library k) → IsOneSchedule k.course.plan.params (facts_of k.course.plan.params (lives_of run.steps.kept.lived.history) (calm k.orders))
 
 -- and at the end of each tick of a cub no start is passed over
 abbrev pub CalmRunsPassNobodyOver : (G : Type 0) → Type 0

@@ -44,7 +44,7 @@ use Rattle.schedule_laws.specs.Rings.{calm}
 use Rattle.schedule_laws.proofs.Members.{chosen, from_filter}
 use Rattle.schedule_laws.proofs.Carrying.{stamp_same, tick_same, sends_in, count_rises, start_sender}
 use Rattle.schedule_laws.proofs.Wrapped.{after_state, event_outs, cub_puts_out}
-use Rattle.ring_schedule.specs.Rings.{IsCalmRing}
+use Rattle.ring_schedule.specs.Rings.{IsLivingRing}
 use Rattle.ring_schedule.proofs.Once.{StartAt, IsOnce, once_nothing, once_both}
 use Rattle.ring_schedule.proofs.Controllers.{in_place, order_made, start_sent}
 use Rattle.stops_ways.specs.Controllers as control
@@ -109,7 +109,7 @@ tick_event e stamp d t = tick_same e d ∙ ap is_tick_input t
 same_beat : (o q : Order) (b c : ℕ) → o ≡ q → o.beat ≡ b → q.beat ≡ c → b ≡ c
 same_beat o q b c e f g = sym f ∙ ap (λ (x : Order). x.beat) e ∙ g
 
-module _ {G : Type 0} (p : Params) (plan : IsPlan p) (orders : List Order) (fine : AreCountedOrders p orders) (h : History Msg (AnyNode G)) (ring : IsCalmRing p orders h) where
+module _ {G : Type 0} (p : Params) (plan : IsPlan p) (orders : List Order) (fine : AreCountedOrders p orders) (h : History Msg (AnyNode G)) (ring : IsLivingRing p orders h) where
   kept : (P : AnyNode G → Type 0) → ((s : AnyNode G) (k : Input Msg) → P s → P (any_step s k).state) → (n i : ℕ) → n < node_count p → i ≤ h.count n → P (h.first n) → P (past noted any_step h n i).state
   kept P step n zero inside low first = first
   kept P step n (suc i) inside low first =

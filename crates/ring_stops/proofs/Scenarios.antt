@@ -35,9 +35,9 @@ use Rattle.ring_facts.specs.Rings.{IsRingRun}
 use Rattle.ring_facts.specs.Steps.{ring_of}
 use Rattle.stops_moments.specs.Living.{AreLivingJournals}
 use Rattle.stops_moments.proofs.Fair as fair
-use Rattle.ring_schedule.specs.Rings.{IsCalmRing}
+use Rattle.ring_schedule.specs.Rings.{IsLivingRing}
 use Rattle.ring_schedule.specs.Scenarios.{AreShort}
-use Rattle.ring_schedule.proofs.Openings.{get_some, calm_ring, journal_count}
+use Rattle.ring_schedule.proofs.Openings.{get_some, living_ring}
 use Rattle.ring_stops.specs.Rings.{AreCountedOrders}
 use Rattle.ring_stops.specs.Scenarios.{IsLivingScenario, LivingRunsHaveOneSchedule, LivingRunsPutFairly}
 use Rattle.ring_stops.proofs.Rings.{living_journals, ring_one_schedule}
@@ -138,23 +138,23 @@ module _ (G : Type 0) (s : Scenario) (library : List (List ℕ)) (k : Kept) (sce
       let all = length-numbered (image_at k.course.plan.params k.catalogue library) (k.course.plan.params.cubs * k.course.plan.params.disks) in
       opening_count k.course.plan.params k.course.faults images k.orders given all refl
 
-  ring : IsCalmRing k.course.plan.params k.orders run.steps.history.history
-  ring = calm_ring G k.course k.catalogue library k.orders run.steps.nodes k.journals (subst IsCourse (sym run.course) scenario.course)
-      (λ n. deathless k.course n (subst (λ (c : Course). All (λ death. death ≡ None) c.deaths) (sym run.course) living)) run.steps.history
+  ring : IsLivingRing k.course.plan.params k.orders run.steps.kept.lived.history
+  ring = living_ring G k.course k.catalogue library k.orders run.steps.nodes k.journals (subst IsCourse (sym run.course) scenario.course)
+      (λ n. deathless k.course n (subst (λ (c : Course). All (λ death. death ≡ None) c.deaths) (sym run.course) living)) run.steps.kept.lived
 
-  journals : AreLivingJournals any_step k.course.plan.params (node_count k.course.plan.params) run.steps.history.history k.orders k.journals
+  journals : AreLivingJournals any_step k.course.plan.params (node_count k.course.plan.params) run.steps.kept.lived.history k.orders k.journals
   journals =
       let whole = size in
-      living_journals k.course.plan.params k.course.plan.sound k.orders orders run.steps.history.history ring k.journals
-      (journal_count any_step k.course given run.steps.nodes k.journals run.steps.whole ∙ size)
-      (λ n low. run.steps.history.theirs.writes n (omega (arith, whole, low)))
+      living_journals k.course.plan.params k.course.plan.sound k.orders orders run.steps.kept.lived.history ring k.journals
+      (run.steps.kept.each_has_journal ∙ size)
+      (λ n low. run.steps.kept.lived.theirs.writes n (omega (arith, whole, low)))
 
 pub living_runs_have_one_schedule : (G : Type 0) → LivingRunsHaveOneSchedule G
 living_runs_have_one_schedule G s library k scenario living short run =
-    ring_one_schedule G k.course.plan.params k.orders run.steps.history.history k.course.plan.sound (orders G s library k scenario living short run)
+    ring_one_schedule G k.course.plan.params k.orders run.steps.kept.lived.history k.course.plan.sound (orders G s library k scenario living short run)
     (ring G s library k scenario living short run)
 
 pub living_runs_put_fairly : (G : Type 0) → LivingRunsPutFairly G
 living_runs_put_fairly G s library k scenario living short run =
-    fair.living_puts_are_fair (AnyNode G) any_step k.course.plan.params (node_count k.course.plan.params) run.steps.history.history k.orders k.journals k.course.beats k.course.plan.sound
+    fair.living_puts_are_fair (AnyNode G) any_step k.course.plan.params (node_count k.course.plan.params) run.steps.kept.lived.history k.orders k.journals k.course.beats k.course.plan.sound
     (journals G s library k scenario living short run)

@@ -19,7 +19,7 @@ IsLivingScenario s = All (λ death. death ≡ None) s.course.deaths
 abbrev pub LivingRunsHaveOneSchedule : (G : Type 0) → Type 0
 LivingRunsHaveOneSchedule G = (s : Scenario) (library : List (List ℕ)) (k : Kept) → IsScenario s → IsLivingScenario s → AreShort library
     → (run : IsRingRun G s library k)
-    → IsStoppedSchedule k.course.plan.params (facts_of k.course.plan.params (lives_of run.steps.history.history) (commanded k.course.plan.params k.orders (lives_of run.steps.history.history)))
+    → IsStoppedSchedule k.course.plan.params (facts_of k.course.plan.params (lives_of run.steps.kept.lived.history) (commanded k.course.plan.params k.orders (lives_of run.steps.kept.lived.history)))
 
 -- And over the order of all entries each Put finds its slot free, and is rightly put.
 abbrev pub LivingRunsPutFairly : (G : Type 0) → Type 0

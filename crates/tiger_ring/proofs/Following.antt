@@ -1,5 +1,5 @@
--- In a whole run of a ring the controller follows its orders, and no other node writes Gone.
-use Rattle.std.proofs.Common.{◌≡◌, ◌≢◌, ℕ, ◌+◌, ◌<◌, ◌≤◌, List, [], ◌∷◌, ◌++◌, map, length, false, Option, Some, None, refl, ap, sym, ◌∙◌, subst, arith, get_or, length-append}
+-- In a kept run of a ring the controller follows its orders, and no other node writes Gone.
+use Rattle.std.proofs.Common.{◌≡◌, ◌≢◌, ℕ, zero, suc, ◌+◌, ◌<◌, ◌≤◌, List, [], ◌∷◌, ◌++◌, map, length, false, Option, Some, None, refl, ap, sym, ◌∙◌, subst, arith, get_or, length-append}
 use Rattle.std.specs.Prelude.{slice_get, nat_lt}
 use Rattle.std.specs.List.{AllByRecursion}
 use Rattle.std.proofs.lemmas.Bool.Decides.{nat_tests}
@@ -17,24 +17,18 @@ use Rattle.node_kit.specs.declared.journal.What.TheVariants as what
 use Rattle.node_kit.specs.declared.journal.What.{What}
 use Rattle.node_kit.specs.declared.outbox.Out.{Out}
 use Rattle.node_kit.specs.declared.outbox.Out.TheVariants as out
-use Rattle.node_kit.specs.Courses.{IsCourse, reading_of, stamp_in}
-use Rattle.node_kit.specs.Life.{lifetime_of, trimmed}
+use Rattle.node_kit.specs.Courses.{reading_of}
+use Rattle.node_kit.specs.Life.{Lifetime, lifetime_of, trimmed}
 use Rattle.node_kit.specs.Links.{links_of, controller_of}
-use Rattle.node_kit.specs.Steps.{Input, entries_of, entry_of}
+use Rattle.node_kit.specs.Steps.{Deed, Input, entries_of, entry_of}
 use Rattle.node_kit.specs.Steps.Input.{Take, Tick}
-use Rattle.run_facts.specs.Events.{NodeEvent, Past, after, after_all, after_input, kept_outs, stamp_at, is_tick, is_death}
+use Rattle.run_facts.specs.Events.{NodeEvent, Past, after, after_input, kept_outs, is_death}
 use Rattle.run_facts.specs.Events.NodeEvent.{Does, Dies}
-use Rattle.run_facts.specs.Histories.{last_of}
+use Rattle.run_facts.specs.Histories.{History, past, last_of}
+use Rattle.run_facts.specs.Kept.{HaveKept}
 use Rattle.run_facts.specs.Commanded.{is_gone, StopsNone, IsCommanded, AreCommanded}
-use Rattle.run_facts.specs.Timed.{death_within}
-use Rattle.run_facts.specs.Accounts.{EndAt, IsTimeline, history_of}
-use Rattle.run_facts.proofs.Indexed.{last-all, count-front, count-all, passing-ticks, counted-at, all-at}
-use Rattle.run_facts.specs.Beats.{opening_of}
-use Rattle.ring_engine.specs.Whole.{IsWholeRun}
 use Rattle.node_kit.proofs.Rows.{get-below}
 use Rattle.run_facts.proofs.Rows.{same-element}
-use Rattle.ring_engine.proofs.Progressing.{progress-ends}
-use Rattle.run_facts.proofs.Progress.{next-none}
 use Rattle.disk_image.specs.Image.{Image}
 use Rattle.controller_core.specs.Orders.{AreOrders}
 use Rattle.controller_core.specs.State.{fresh_controller}
@@ -44,6 +38,7 @@ use Rattle.ring_nodes.specs.declared.nodes.AnyNode.{AnyNode}
 use Rattle.ring_nodes.specs.declared.nodes.AnyNode.TheVariants as node
 use Rattle.ring_nodes.specs.AllNodes.{any_step, StandsAny, AllStand, numbered, each_numbered, opening_cub, opening_disk, opening_nodes}
 use Rattle.ring_nodes.proofs.Numbered.{length-numbered, length-each_numbered}
+use Rattle.ring_schedule.proofs.Openings.{alive_at}
 use Rattle.tiger_ring.proofs.Stopless.{IsNotGone, AreStopless, cub_stops_none, disk_stops_none, viewers_stop_none}
 
 -- ---- the nodes but the controller
@@ -99,10 +94,6 @@ free-after (Does i) past h = record {
 }
 free-after (Dies stamp) past h = record { other = h.other; none = none-append past.journal (record { stamp = stamp; what = what.Died } ∷ []) h.none (refl, tt) }
 
-free-all : {G : Type 0} (es : List (NodeEvent Msg)) (past : Past (AnyNode G)) → IsFree past → IsFree (after_all noted (any_step {G = G}) es past)
-free-all [] past h = h
-free-all {G} (e ∷ es) past h = free-all es (after noted (any_step {G = G}) e past) (free-after e past h)
-
 none-stops : (journal : List Entry) → HasNone journal → StopsNone journal
 none-stops [] h = refl
 none-stops (e ∷ es) h = rw h.0 (none-stops es h.1)
@@ -110,27 +101,21 @@ none-stops (e ∷ es) h = rw h.0 (none-stops es h.1)
 -- ---- the controller
 
 -- its life has no end
-alive-within : (beats : ℕ) (o : Option ℕ) → o ≡ None → death_within beats o ≡ None
-alive-within beats o e = rw e refl
-
 no-death : (c : Course) (n : ℕ) → c.plan.params.cubs ≤ n → (lifetime_of c n).death ≡ None
 no-death c n h = let e : nat_lt n c.plan.params.cubs ≡ false = grind (arith, nat_tests, h) in rw e refl
 
-controllers-run : {S : Type 0} (c : Course) (n beats : ℕ) (first : ℕ → S) (events : ℕ → List (NodeEvent Msg)) → c.plan.params.cubs ≤ n
-    → IsTimeline (stamp_in c n) c.plan.params n (lifetime_of c n) beats (events n)
-    → IsControllersRun beats (reading_of c n) (history_of first (lifetime_of c) events) n
-controllers-run {S} c n beats first events high timeline =
-    let es = events n in
-    let end : EndAt (stamp_in c n) beats None es =
-    subst (λ o. EndAt (stamp_in c n) beats o es) (alive-within beats (lifetime_of c n).death (no-death c n high)) timeline.ends in
+controllers-run : {S : Type 0} (step : S → Input Msg → Deed Msg S) (c : Course) (given nodes : List S) (journals : List (List Entry))
+    (kept : HaveKept {M = Msg} noted step c given nodes journals) (n : ℕ) → n < length given → c.plan.params.cubs ≤ n
+    → (kept.lived.history.life n).death ≡ None → IsControllersRun c.beats (reading_of c n) kept.lived.history n
+controllers-run step c given nodes journals kept n low high none =
+    let h = kept.lived.history in
+    let lives : (i : ℕ) → i < h.count n → is_death (h.event n i) ≡ false =
+    λ i inside. alive_at step (length given) c.beats h kept.lived.complete n i low inside none in
     record {
-      lives = λ i low. all-at (λ e. is_death e ≡ false) es i low end.0;
-      in_beat = λ i low.
-          let at = counted-at 0 es i low timeline.counted in
-          let count = count-front is_tick first (lifetime_of c) events n i (omega (arith, low)) in
-          omega (arith, at, count);
-      all_beats = count-all is_tick first (lifetime_of c) events n ∙ passing-ticks es ∙ end.1;
-      reads = λ i low ticks. ap (λ (s : Stamp). s.reading) (all-at (λ e. stamp_at e ≡ stamp_in c n (stamp_at e).beat) es i low timeline.stamped);
+      lives = lives;
+      in_beat = λ i inside. kept.lived.run.in_beat n i low inside;
+      all_beats = kept.lived.complete.until_end n low lives;
+      reads = λ i inside ticks. kept.keeps.stamped n i low inside;
     }
 
 -- ---- all nodes
@@ -142,38 +127,39 @@ other-stands (node.Disk s) p n other h = tt
 other-stands (node.Controller s) p n other h = other (sym (ap (λ (q : Params). q.cubs + disk_count q) (sym h.params) ∙ h.number))
 other-stands (node.Viewers s) p n other h = tt
 
-pub follow-whole : (G : Type 0) (c : Course) (given nodes : List (AnyNode G)) (os : List Order) (journals : List (List Entry)) → IsCourse c → AreOrders c.plan.params os
+-- in a history such a node stays so, and never writes Gone
+free-past : {G : Type 0} (h : History Msg (AnyNode G)) (n : ℕ) → IsOther (h.first n) → (i : ℕ) → IsFree (past noted (any_step {G = G}) h n i)
+free-past h n other zero = record { other = other; none = tt }
+free-past {G} h n other (suc i) = free-after (h.event n i) (past noted (any_step {G = G}) h n i) (free-past h n other i)
+
+pub follow-kept : (G : Type 0) (c : Course) (given nodes : List (AnyNode G)) (os : List Order) (journals : List (List Entry)) → AreOrders c.plan.params os
     → AllStand c.plan.params given → slice_get given (controller_of (links_of c.plan.params)) ≡ Some (node.Controller (fresh_controller c.plan.params os))
-    → IsWholeRun {M = Msg} noted (any_step {G = G}) c given nodes journals
+    → HaveKept {M = Msg} noted (any_step {G = G}) c given nodes journals
     → AreCommanded c.plan.params c.beats (reading_of c (controller_of (links_of c.plan.params))) os journals
-follow-whole G c given nodes os journals course orders stand at whole =
+follow-kept G c given nodes os journals orders stand at kept =
     let p = c.plan.params in
     let k = controller_of (links_of p) in
+    let h = kept.lived.history in
+    let theirs = kept.lived.theirs in
     let opened : AnyNode G = node.Controller (fresh_controller p os) in
-    let first : ℕ → AnyNode G = λ n. get_or given n opened in
-    let all : (n : ℕ) → n < length given → slice_get given n ≡ Some (first n) = λ n low. slice_get-get_or given n opened low in
-    let st = progress-ends {M = Msg} noted (any_step {G = G}) c given nodes journals first course all whole in
     let low_k : k < length given = get-below given k opened at in
+    let opens = theirs.opens k opened at in
+    let none : (h.life k).death ≡ None = ap (λ (l : Lifetime). l.death) opens.1 ∙ no-death c k (omega arith) in
     record {
       controller = λ journal e.
-          let here = (st.here k low_k).journal in
-          let ours = ap (λ js. slice_get js k) (sym whole.same_journals) ∙ e in
-          let same : journal ≡ (last_of noted (any_step {G = G}) (history_of first (lifetime_of c) st.events) k).journal =
-          same-element whole.last.journals k journal _ ours here ∙ sym (ap (λ (s : Past (AnyNode G)). s.journal) (last-all noted (any_step {G = G}) first (lifetime_of c) st.events k)) in
+          let same : journal ≡ (last_of noted (any_step {G = G}) h k).journal = same-element journals k journal _ e (theirs.writes k low_k) in
           subst (λ j. IsCommanded p c.beats (reading_of c k) os j) (sym same)
-          (wrapped_follow (any_step {G = G}) (λ s. node.Controller s) (λ s i. refl) p os c.beats (reading_of c k) (history_of first (lifetime_of c) st.events) k
-          c.plan.sound orders (same-element given k (first k) opened (all k low_k) at)
-          (controllers-run c k c.beats first st.events (omega arith)
-          (subst (λ b. IsTimeline (stamp_in c k) p k (lifetime_of c k) b (st.events k)) (next-none c.beats k) (st.timeline k low_k))));
+          (wrapped_follow (any_step {G = G}) (λ s. node.Controller s) (λ s i. refl) p os c.beats (reading_of c k) h k c.plan.sound orders opens.0
+          (controllers-run (any_step {G = G}) c given nodes journals kept k low_k (omega arith) none));
       others = λ n journal other e.
-          let ours = ap (λ js. slice_get js n) (sym whole.same_journals) ∙ e in
-          let low_j : n < length whole.last.journals = get-below whole.last.journals n journal ours in
-          let size = st.size in
+          let low_j : n < length journals = get-below journals n journal e in
+          let size = kept.each_has_journal in
           let low : n < length given = omega (arith, low_j, size) in
-          let free = free-all (st.events n) (opening_of c n (first n))
-          (record { other = other-stands (first n) p n other (stand n (first n) (all n low)); none = tt }) in
-          let same : journal ≡ _ = same-element whole.last.journals n journal _ ours (st.here n low).journal in
-          subst StopsNone (sym same) (none-stops _ free.none);
+          let first : AnyNode G = get_or given n opened in
+          let there : slice_get given n ≡ Some first = slice_get-get_or given n opened low in
+          let is_other : IsOther (h.first n) = subst IsOther (sym (theirs.opens n first there).0) (other-stands first p n other (stand n first there)) in
+          let same : journal ≡ (last_of noted (any_step {G = G}) h n).journal = same-element journals n journal _ e (theirs.writes n low) in
+          subst StopsNone (sym same) (none-stops _ (free-past h n is_other (h.count n)).none);
     }
 
 -- ---- the nodes as they open

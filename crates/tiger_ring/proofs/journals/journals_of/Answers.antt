@@ -5,7 +5,7 @@ use Rattle.node_kit.specs.Links.{links_of, controller_of}
 use Rattle.ring_nodes.specs.AllNodes.{image_at, images_of}
 use Rattle.ring_nodes.proofs.Numbered.{length-numbered}
 use Rattle.ring_facts.specs.Steps.{ring_of}
-use Rattle.tiger_ring.proofs.Following.{follow-whole, controller-opens}
+use Rattle.tiger_ring.proofs.Following.{follow-kept, controller-opens}
 use Rattle.tiger_ring.proofs.journals.journals_of.Goals as goal
 
 pub make_nodes-requires-clause-images : goal.make_nodes-requires-clause-images
@@ -23,8 +23,7 @@ returns-clause-steps g c =
     c.in_ok-nodes.ensures.nodes ∙ rw (images, c.in_ok-given.ensures) refl in
     record {
       nodes = c.in_ok-ran.ran.nodes.items;
-      history = rw (← opened) c.in_ok-ran.ensures.kept.lived;
-      whole = rw (← opened) c.in_ok-ran.ensures.whole;
+      kept = rw (← opened) c.in_ok-ran.ensures.kept;
     }
 
 pub returns-clause-commanded : goal.returns-clause-commanded
@@ -38,5 +37,5 @@ returns-clause-commanded g c =
     let at = ap (λ nodes. slice_get nodes (controller_of (links_of p))) opened
     ∙ controller-opens _ p a.course.now.faults (images_of p a.catalogue.now a.library.now) a.orders.now count
     in
-    follow-whole _ a.course.now c.in_ok-nodes.nodes.items c.in_ok-ran.ran.nodes.items a.orders.now c.in_ok-ran.ran.journals c.requires.course c.requires.orders
-    c.in_ok-nodes.ensures.stand at c.in_ok-ran.ensures.whole
+    follow-kept _ a.course.now c.in_ok-nodes.nodes.items c.in_ok-ran.ran.nodes.items a.orders.now c.in_ok-ran.ran.journals c.requires.orders
+    c.in_ok-nodes.ensures.stand at c.in_ok-ran.ensures.kept
