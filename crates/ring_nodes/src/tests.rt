@@ -8,7 +8,7 @@ ghost use Rattle.node_kit.specs.declared.course.OrderKind.TheVariants.{Begin};
 use crate::{AnyNode, make_images, make_nodes};
 use link_timing::Delay;
 use node_kit::{Course, Node, OpenGate, Order, OrderKind, Out, Outbox, ReadFault};
-use slot_plan::{Params, Plan};
+use slot_plan::small_plan;
 use std::alloc::Global;
 use std::test::Fail;
 use stripe_layout::{Catalogue, FileInfo};
@@ -16,34 +16,6 @@ use tiger_base::{
     Ask, DiskNo, FileNo, Instance, Library, LinkNo, Message, Msg, NoMemory, Sequence, Stamp,
 };
 use viewer_core::Viewers;
-
-fn plan() -> Plan
-    ensures cubs { result.params.cubs ≡ 8 }
-    ensures disks { result.params.disks ≡ 1 }
-{
-    Plan {
-        params: Params {
-            cubs: 8,
-            disks: 1,
-            slots: 16,
-            play: 1000000,
-            pieces: 2,
-            block: 4,
-            beat: 10000,
-            delay: 2,
-            skew: 4000,
-            window_a: 800000,
-            window_b: 200000,
-            read_lead: 100000,
-            min_lead: 3000000,
-            max_lead: 4000000,
-            batch: 20,
-            heart: 50,
-            deadman: 1000000,
-            hold: 3000000,
-        },
-    }
-}
 
 fn ask() -> Ask
     ensures { result.disk.0 ≡ 0 }
@@ -79,7 +51,7 @@ fn course(alloc: Global) -> Result<Course, NoMemory>
         until: 6,
     })?;
     Ok(Course {
-        plan: plan(),
+        plan: small_plan(),
         beats: 300,
         offsets: Sequence::new(Vec::new(alloc)),
         deaths: Sequence::new(Vec::new(alloc)),
