@@ -2,7 +2,8 @@
 ghost use Rattle.std.specs.Prelude.{◌≡◌, ◌≤◌, length, All, IfOk};
 ghost use Rattle.tiger_base.specs.Limits.{most_file};
 ghost use Rattle.scenario_read.specs.Sound.{IsScenario};
-ghost use Rattle.ring_schedule.specs.Scenarios.{HasOneSchedule, HasFairPuts};
+ghost use Rattle.run_claims.specs.Accounts.{account_of};
+ghost use Rattle.run_claims.specs.Claims.{FreePuts, HasFirstClaims};
 
 use node_kit::{Entry, Journal, Kept, OpenGate, What};
 use ring_schedule::is_calm;
@@ -374,7 +375,7 @@ fn calm_run_of(
     requires count { length library.now ≡ count }
     requires filled { All (λ bytes. 1 ≤ length bytes) library.now }
     requires short { All (λ bytes. length bytes ≤ most_file) library.now }
-    ensures one_schedule { IfOk result HasOneSchedule }
+    ensures one_schedule { IfOk result (λ k. HasFirstClaims (account_of k)) }
 {
     let scenario = scenario_of(alloc, files, rest, count)?;
     if !is_calm(&scenario) {
@@ -394,7 +395,7 @@ fn living_run_of(
     requires count { length library.now ≡ count }
     requires filled { All (λ bytes. 1 ≤ length bytes) library.now }
     requires short { All (λ bytes. length bytes ≤ most_file) library.now }
-    ensures fair { IfOk result HasFairPuts }
+    ensures fair { IfOk result (λ k. FreePuts (account_of k)) }
 {
     let scenario = scenario_of(alloc, files, rest, count)?;
     if !is_living(&scenario) {

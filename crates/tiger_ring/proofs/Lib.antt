@@ -1,2 +1,3 @@
 mod Stopless
 mod Following
+mod Claims

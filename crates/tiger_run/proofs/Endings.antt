@@ -33,10 +33,10 @@ words-run words name workers old new status run ends =
     (λ is. absurd (subst (λ (s : Status). EndsInputs name old new s) is ends), λ none. absurd (none.no_run name workers run))
 
 -- the text of words that name a scenario, and of words that make one
-text_for-run : (words : List (List ℕ)) (name : List ℕ) (workers : ℕ) → IsRun words name workers → text_for words ≡ report_text
+pub text_for-run : (words : List (List ℕ)) (name : List ℕ) (workers : ℕ) → IsRun words name workers → text_for words ≡ report_text
 text_for-run words name workers run = rw run.form refl
 
-text_for-make : (words : List (List ℕ)) (number : ℕ) → IsMake words number → text_for words ≡ summary_text
+pub text_for-make : (words : List (List ℕ)) (number : ℕ) → IsMake words number → text_for words ≡ summary_text
 text_for-make words number make = rw make.form refl
 
 pub EndsSink-run : (words : List (List ℕ)) (name : List ℕ) (workers : ℕ) (old new : SinkState) (kept : Option Kept) (status : Status)

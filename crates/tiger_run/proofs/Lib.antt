@@ -5,3 +5,4 @@ pub mod Puts
 pub mod Readings
 pub mod Endings
 pub mod Completeness
+pub mod Answering

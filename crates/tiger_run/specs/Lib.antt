@@ -3,3 +3,4 @@ pub mod Statuses
 pub mod Inputs
 pub mod Runnable
 pub mod Ending
+pub mod Answers

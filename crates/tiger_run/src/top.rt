@@ -8,6 +8,7 @@ ghost use Rattle.tiger_run.specs.Runnable.{IsRunnableCommand, NoReadFailed, NoPu
 ghost use Rattle.tiger_run.specs.Ending.{IsNamedRun, IsMadeRun, IsAskedRun, IsRefusal};
 ghost use Rattle.tiger_run.specs.Ending.{text_for, IsWritten, Wrote, EndsSink};
 ghost use Rattle.tiger_run.specs.Ending.{EndsInputs, InputCause};
+ghost use Rattle.tiger_run.specs.Answers.{TellsAll, IsTheAnswer};
 
 use crate::inputs::{Inputs, read_inputs};
 use crate::status::Status;
@@ -133,6 +134,12 @@ pub fn tiger<F: Files, K: Sink, G: Gate>(
     // then each of its files, with one call for each.
     ensures ran { let old = F.state files.old in
         IfSome result.kept (IsAskedRun G old (F.state files.new) (texts_of words.now.items)) }
+
+    // There is one answer: whatever else is kept of a run that the same is asked of, with whatever
+    // number of workers, over files of which the same is told, is the same, and so is its text.
+    ensures one_answer { let old = F.state files.old in
+        TellsAll old.told →
+        IfSome result.kept (IsTheAnswer G old.told (texts_of words.now.items)) }
 
     // Why an input was refused: it is the first, in the order of work, that is not as it should be.
     ensures input { let old = F.state files.old in

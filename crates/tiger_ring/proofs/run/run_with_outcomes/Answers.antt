@@ -1,6 +1,8 @@
 use Rattle.std.proofs.Common.{refl, ◌∙◌}
+use Rattle.ring_answer.proofs.Kepts.{kept_runs_are_one}
 use Rattle.ring_schedule.proofs.Scenarios.{has_one_schedule}
 use Rattle.ring_stops.proofs.Scenarios.{living_runs_put_fairly}
+use Rattle.tiger_ring.proofs.Claims.{first_claims}
 use Rattle.tiger_ring.proofs.run.run_with_outcomes.Goals as goal
 
 pub returns-clause-ran : goal.returns-clause-ran
@@ -20,9 +22,15 @@ returns-clause-ran g c = record {
 pub returns-clause-told : goal.returns-clause-told
 returns-clause-told g c = rw (c.in_ok-outcomes.ensures, c.as_slice-2.ensures, c.as_slice-3.ensures) refl
 
+pub returns-clause-only : goal.returns-clause-only
+returns-clause-only g c =
+    λ other again. kept_runs_are_one g.row.G.Denot c.args.scenario c.args.library.now other _ c.requires.scenario again (returns-clause-ran g c)
+
 pub returns-clause-one_schedule : goal.returns-clause-one_schedule
 returns-clause-one_schedule g c =
-    λ calm. has_one_schedule g.row.G.Denot c.args.scenario c.args.library.now _ c.requires.scenario calm c.requires.short (returns-clause-ran g c)
+    λ calm.
+    let ran = returns-clause-ran g c in
+    first_claims _ (has_one_schedule g.row.G.Denot c.args.scenario c.args.library.now _ c.requires.scenario calm c.requires.short ran) ran.commanded
 
 pub returns-clause-fair : goal.returns-clause-fair
 returns-clause-fair g c =

@@ -13,6 +13,7 @@ pub returns-clause-ran : goal.returns-clause-ran
 returns-clause-ran g c =
     let made = c.in-Ok.field-0 in
     let run : IsRunOf g.row.G.Denot made.scenario made.library c.in-Ok-run_with_outcomes.run'.kept = record {
+      sound = c.in-Ok.ensures.sound;
       ran = c.in-Ok-run_with_outcomes.ensures.ran;
       one_schedule = c.in-Ok-run_with_outcomes.ensures.one_schedule;
       fair = c.in-Ok-run_with_outcomes.ensures.fair;

@@ -14,6 +14,7 @@ returns-clause-ran g c = record {
   read = c.in-Ok.ensures.read;
   calls = c.in-Ok.ensures.counted;
   run = record {
+    sound = c.in-Ok.ensures.sound;
     ran = c.in-Ok-run_with_outcomes.ensures.ran;
     one_schedule = c.in-Ok-run_with_outcomes.ensures.one_schedule;
     fair = c.in-Ok-run_with_outcomes.ensures.fair;

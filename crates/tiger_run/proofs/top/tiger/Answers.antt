@@ -5,6 +5,7 @@ use Rattle.tiger_run.specs.Ending.{EndsInputs}
 use Rattle.tiger_run.proofs.WordLists.{IsRun-name}
 use Rattle.tiger_run.proofs.Endings.{EndsSink-run, EndsSink-make, words-run}
 use Rattle.tiger_run.proofs.Completeness.{run_completes}
+use Rattle.tiger_run.proofs.Answering.{one_answer, asked_by_name, asked_by_number}
 use Rattle.tiger_run.proofs.top.tiger.Goals as goal
 
 pub returns-in-Some-Run-clause-sink : goal.returns-in-Some-Run-clause-sink
@@ -35,3 +36,20 @@ returns-in-Some-Run-clause-words g c =
     let words = texts_of c.args.words.now.items in
     let run : IsRun words c.in-Some-Run.name.now c.in-Some-Run.field-0-1 = rw (c.as_slice.ensures.value, c.in-Some-Run.field-0-is) at c.in-Some-Run.ensures in
     words-run words c.in-Some-Run.name.now c.in-Some-Run.field-0-1 (g.F.Files.state c.args.files.now) (g.F.Files.state c.run_named.new.files) c.run_named.result.status run c.run_named.ensures.input
+
+pub returns-in-Some-Run-clause-one_answer : goal.returns-in-Some-Run-clause-one_answer
+returns-in-Some-Run-clause-one_answer g c = λ all.
+    let words = texts_of c.args.words.now.items in
+    let run : IsRun words c.in-Some-Run.name.now c.in-Some-Run.field-0-1 = rw (c.as_slice.ensures.value, c.in-Some-Run.field-0-is) at c.in-Some-Run.ensures in
+    let old = g.F.Files.state c.args.files.now in
+    let new = g.F.Files.state c.run_named.new.files in
+    one_answer g.row.G.Denot old new words c.run_named.result.kept all
+    (asked_by_name g.row.G.Denot old new words c.in-Some-Run.name.now c.in-Some-Run.field-0-1 c.run_named.result.kept run c.run_named.ensures.ran)
+
+pub returns-in-Some-Make-clause-one_answer : goal.returns-in-Some-Make-clause-one_answer
+returns-in-Some-Make-clause-one_answer g c = λ all.
+    let words = texts_of c.args.words.now.items in
+    let make : IsMake words c.in-Some-Make.number = rw (c.as_slice.ensures.value, c.in-Some-Make.field-0-is) at c.in-Some-Make.ensures in
+    let old = g.F.Files.state c.args.files.now in
+    one_answer g.row.G.Denot old old words c.run_made.result.kept all
+    (asked_by_number g.row.G.Denot old old words c.in-Some-Make.number c.run_made.result.kept make c.run_made.ensures.ran)
