@@ -1,0 +1,5 @@
+pub mod Orders
+pub mod Steps
+pub mod Words
+pub mod Kept
+pub mod Tried

@@ -1,0 +1,5 @@
+pub mod Parcels
+pub mod Linked
+pub mod Marked
+pub mod Ends
+pub mod Passages

@@ -1,0 +1,178 @@
+//! The two ends of a link.
+ghost use Rattle.std.specs.Prelude.{◌≡◌, ◌<◌, ◌≤◌, ◌^◌, ◌⊎◌, [], ◌∷◌, ◌++◌, IfSome, IfNone, IfErr, OnOk, OnErr};
+ghost use Rattle.ring_links.specs.Parcels.{IsOrdered};
+ghost use Rattle.ring_links.specs.Marked.{given_by, below_of};
+
+use crate::board::{Looks, Marks, SPAN, Stand};
+use crate::line::{Line, Pass, Sends, Takes};
+use crate::parcel::Parcel;
+use std::alloc::Global;
+use std::marker::Model;
+use std::sync::{Arc, Wait};
+use tiger_base::Beat;
+
+const MOST: u64 = 1 << 43;
+
+/// Want of memory, or too many messages. The message was not sent.
+#[derive(Drop)]
+pub struct Refused<M> {
+    pub parcel: Parcel<M>,
+}
+
+/// The end that sends. Contracts see it as the link's name, the list of what it sent, and the beat below which
+/// nothing is sent any more.
+#[derive(Drop)]
+pub struct OutEnd<M: Drop> {
+    pub(crate) line: Arc<Line<M>, Global>,
+    pub(crate) pass: Pass<M>,
+    pub(crate) seat: Stand,
+    pub(crate) sent: u64,
+    pub(crate) closed: Beat,
+}
+
+impl<M: Drop> Model for OutEnd<M> {
+    ghost use Rattle.std.specs.Prelude.{◌≡◌, true, []};
+    ghost use Rattle.crossbeam_queue.specs.SegTies.{IsSegPassOf};
+    ghost use Rattle.std.specs.Arc.{arc_value};
+    ghost use Rattle.ring_links.specs.Ends.{End, end_coded, IsSender};
+
+    ghost Value = { End M };
+
+    ghost view = { λ o. record {
+      line = (o.pass.web, o.seat.table_id);
+      parcels = o.pass.me.view.client.sent;
+      closed = o.closed;
+    } };
+
+    ghost invariant = { λ o.
+        IsSegPassOf (arc_value o.line).queue o.pass
+        × (o.seat.table_id ≡ (arc_value o.line).board.shared.table_id)
+        × (o.seat.table_id.words ≡ 1)
+        × IsSender o.pass.me.view.client o.seat.me.0 o.sent o.closed };
+}
+
+/// The end that receives. Contracts see it as the link's name, the list of what it received, and the beat below
+/// which nothing comes any more. It is spoilt once a message of such a beat came, which `close` shows not to happen.
+#[derive(Drop)]
+pub struct InEnd<M: Drop> {
+    pub(crate) line: Arc<Line<M>, Global>,
+    pub(crate) pass: Pass<M>,
+    pub(crate) seat: Stand,
+    pub(crate) received: u64,
+    pub(crate) closed: Beat,
+    pub(crate) spoilt: bool,
+}
+
+impl<M: Drop> Model for InEnd<M> {
+    ghost use Rattle.std.specs.Prelude.{◌≡◌, [], take};
+    ghost use Rattle.crossbeam_queue.specs.SegTies.{IsSegPassOf};
+    ghost use Rattle.std.specs.Arc.{arc_value};
+    ghost use Rattle.ring_links.specs.Ends.{End, end_coded, IsReceiver};
+
+    ghost Value = { End M };
+
+    ghost view = { λ o. record {
+      line = (o.pass.web, o.seat.table_id);
+      parcels = take o.received o.pass.me.view.client.got;
+      closed = o.closed;
+    } };
+
+    ghost invariant = { λ o.
+        IsSegPassOf (arc_value o.line).queue o.pass
+        × (o.seat.table_id ≡ (arc_value o.line).board.shared.table_id)
+        × (o.seat.table_id.words ≡ 1)
+        × (o.seat.me.1 ≡ [])
+        × IsReceiver o.pass.me.view.client o.seat.me.0 o.received o.closed o.spoilt };
+}
+
+impl<M: Drop> OutEnd<M> {
+    /// Sends a message. For want of memory it comes back.
+    pub fn send<R: Wait>(&mut self, rt: &R, parcel: Parcel<M>) -> Result<(), Refused<M>>
+        requires order { IsOrdered (self.old.parcels ++ parcel ∷ []) }
+        requires open { self.old.closed ≤ parcel.sent }
+        ensures line { self.new.line ≡ self.old.line }
+        ensures closed { self.new.closed ≡ self.old.closed }
+        ensures sent { OnOk result (self.new.parcels ≡ self.old.parcels ++ parcel ∷ []) }
+        ensures handed_back { IfErr result (λ r. r.parcel ≡ parcel) }
+        ensures unsent { OnErr result (self.new.parcels ≡ self.old.parcels) }
+    {
+        if self.sent >= MOST {
+            return Err(Refused { parcel });
+        }
+        match self
+            .line
+            .queue
+            .push_as::<Sends, R>(rt, &mut self.pass, parcel)
+        {
+            Ok(()) => {
+                self.sent += 1;
+                Ok(())
+            }
+            Err(parcel) => Err(Refused { parcel }),
+        }
+    }
+
+    /// Closes all beats below this one: nothing is sent in them any more.
+    pub fn mark(&mut self, below: Beat)
+        requires rising { self.old.closed ≤ below }
+        requires range { below < 2 ^ 20 }
+        ensures line { self.new.line ≡ self.old.line }
+        ensures parcels { self.new.parcels ≡ self.old.parcels }
+        ensures closed { self.new.closed ≡ below }
+    {
+        let word = self.sent * SPAN + below;
+        self.line
+            .board
+            .shared
+            .store::<Marks>(&mut self.seat, 0, word);
+        self.closed = below;
+    }
+}
+
+impl<M: Drop> InEnd<M> {
+    /// The next message that was sent and not yet received. None only if the queue was empty at a step of the call.
+    pub fn try_next<R: Wait>(&mut self, rt: &R) -> Option<Parcel<M>>
+        ensures line { self.new.line ≡ self.old.line }
+        ensures closed { self.new.closed ≡ self.old.closed }
+        ensures next { IfSome result (λ p. self.new.parcels ≡ self.old.parcels ++ p ∷ []) }
+        ensures none { IfNone result (self.new.parcels ≡ self.old.parcels) }
+        ensures open { IfSome result (λ p. self.old.closed ≤ p.sent) }
+        ensures ordered { IsOrdered self.new.parcels }
+    {
+        if self.spoilt {
+            return None;
+        }
+        let parcel = self.line.queue.pop_as::<Takes, R>(rt, &mut self.pass)?;
+        if parcel.sent < self.closed {
+            self.spoilt = true;
+            return None;
+        }
+        self.received += 1;
+        Some(parcel)
+    }
+
+    /// The beat below which nothing comes any more, as far as it is known once what was received is taken into account.
+    pub fn look(&mut self) -> Beat
+        ensures line { self.new.line ≡ self.old.line }
+        ensures parcels { self.new.parcels ≡ self.old.parcels }
+        ensures closed { result ≡ self.new.closed }
+        ensures rises { self.old.closed ≤ self.new.closed }
+    {
+        let word = self.line.board.shared.load::<Looks>(&mut self.seat, 0);
+        self.closed = closed_by(word, self.received, self.closed);
+        self.closed
+    }
+}
+
+// The beat below which all are closed by a word, if all messages that it counts were received; else the one known before.
+fn closed_by(word: u64, received: u64, known: Beat) -> Beat
+    ensures by_word { (result ≡ known) ⊎ ((given_by word ≤ received) × (result ≡ below_of word)) }
+    ensures rises { known ≤ result }
+{
+    let below = word % SPAN;
+    if word / SPAN <= received && known < below {
+        below
+    } else {
+        known
+    }
+}

@@ -1,0 +1,89 @@
+//! How a link begins and ends.
+ghost use Rattle.std.specs.Prelude.{◌≡◌, ◌+◌, ◌≤◌, [], length, IfOk};
+ghost use Rattle.ring_links.specs.Parcels.{IsOrdered, IsFront, AreGiven};
+
+use crate::board::{Agrees, Board, Shown};
+use crate::ends::{InEnd, OutEnd};
+use crate::line::{Line, Queue, Roles, Total};
+use std::alloc::Global;
+use std::sync::{Arc, Wait};
+use tiger_base::NoMemory;
+
+/// How many messages were sent and received on a link, and how many are left inside.
+#[derive(Clone, Copy)]
+pub struct Both {
+    pub sent: u64,
+    pub received: u64,
+    pub inside: u64,
+}
+
+/// A new link, on which nothing was sent and no beat is closed.
+pub fn open_link<M: Drop, R: Wait>(
+    _rt: &R,
+    alloc: Global,
+) -> Result<(OutEnd<M>, InEnd<M>), NoMemory>
+    ensures line { IfOk result (λ e. e.0.line ≡ e.1.line) }
+    ensures parcels { IfOk result (λ e. (e.0.parcels ≡ []) × (e.1.parcels ≡ [])) }
+    ensures closed { IfOk result (λ e. (e.0.closed ≡ 0) × (e.1.closed ≡ 0)) }
+{
+    let (board, mut seat) = Board::of_words(alloc, &[0], &()).map_err(|_| NoMemory)?;
+    let other_seat = board.shared.split_seat::<Shown>(&mut seat);
+    let (queue, mut pass) = Queue::with_rule(alloc).map_err(|_| NoMemory)?;
+    let other_pass = queue.another::<Roles>(&mut pass);
+    let line = Arc::new(alloc, Line { queue, board }).map_err(|_| NoMemory)?;
+    let theirs = Arc::try_clone(&line).map_err(|_| NoMemory)?;
+    let out = OutEnd {
+        line,
+        pass,
+        seat,
+        sent: 0,
+        closed: 0,
+    };
+    let into = InEnd {
+        line: theirs,
+        pass: other_pass,
+        seat: other_seat,
+        received: 0,
+        closed: 0,
+        spoilt: false,
+    };
+    Ok((out, into))
+}
+
+/// Ends a link, and says what went over it: what was received is a front of what was sent, and the rest was sent in
+/// beats that the receiver did not know to be closed.
+pub fn close<M: Drop, R: Wait>(rt: &R, out: OutEnd<M>, into: InEnd<M>) -> Both
+    requires { out.line ≡ into.line }
+    ensures sent { result.sent ≡ length out.parcels }
+    ensures received { result.received ≡ length into.parcels }
+    ensures front { IsFront into.closed into.parcels out.parcels }
+    ensures given { AreGiven into.closed into.parcels out.parcels }
+    ensures counted { result.sent ≡ result.received + result.inside }
+    ensures ordered { IsOrdered out.parcels }
+    ensures closed { into.closed ≤ out.closed }
+{
+    let OutEnd {
+        line,
+        mut pass,
+        mut seat,
+        sent,
+        closed: _,
+    } = out;
+    let InEnd {
+        line: _theirs,
+        pass: other_pass,
+        seat: other_seat,
+        received,
+        closed: _,
+        spoilt: _,
+    } = into;
+    line.queue.absorb::<Roles>(&mut pass, other_pass);
+    line.board.shared.join_seat::<Shown>(&mut seat, other_seat);
+    line.board.shared.load::<Agrees>(&mut seat, 0);
+    let inside = line.queue.len_as::<Total, R>(rt, &mut pass);
+    Both {
+        sent,
+        received,
+        inside: inside as u64,
+    }
+}
