@@ -11,7 +11,6 @@ use Rattle.node_kit.specs.Courses.{IsCourse}
 use Rattle.scenario_read.specs.Orders.{orders_from}
 use Rattle.ring_nodes.specs.declared.nodes.AnyNode.{AnyNode}
 use Rattle.ring_nodes.specs.AllNodes.{any_step}
-use Rattle.ring_facts.specs.Rings.{IsRingRun}
 use Rattle.ring_facts.specs.Steps.{HasRun, ring_of}
 use Rattle.one_answer.proofs.Catalogues.{catalogues-are-one}
 use Rattle.one_answer.proofs.One.{runs-are-one}

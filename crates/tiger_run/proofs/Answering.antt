@@ -5,14 +5,13 @@ use Rattle.std.specs.Fmt.{decimal}
 use Rattle.std.proofs.lemmas.Fmt.{decimal_injective}
 use Rattle.node_kit.specs.declared.course.Kept.{Kept}
 use Rattle.outside.specs.Told.{Told, FilesState, AreTold, bytes, absent, untold}
-use Rattle.scenario_read.specs.declared.scenario.FileLine.{FileLine}
 use Rattle.scenario_read.specs.declared.scenario.Scenario.{Scenario}
 use Rattle.scenario_read.specs.declared.stop.ScenarioFault.{ScenarioFault}
-use Rattle.scenario_read.specs.Meaning.{Said, said_by, meaning}
+use Rattle.scenario_read.specs.Meaning.{Said, meaning}
 use Rattle.ring_facts.specs.Rings.{IsRingRun}
 use Rattle.ring_answer.proofs.Kepts.{kept_runs_are_one}
 use Rattle.ring_answer.proofs.Scenarios.{scenarios_are_what_they_say}
-use Rattle.scenario_make.specs.Made.{made_scenario, made_library}
+use Rattle.scenario_make.specs.Made.{made_library}
 use Rattle.tiger_run.specs.declared.inputs.Inputs.{Inputs}
 use Rattle.tiger_run.specs.Words.{IsRun, IsMake}
 use Rattle.tiger_run.specs.Inputs.{AreFirst, AreInputs, names_of}
