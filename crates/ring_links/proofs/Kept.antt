@@ -2,13 +2,13 @@
 use Rattle.std.proofs.Common.{◌≡◌, ℕ, ◌+◌, ◌*◌, ◌/◌, ◌%◌, ◌<◌, ◌≤◌, Bool, true, false, true≢false, ◌⊎◌, inl, inr, List, [], ◌∷◌, ◌++◌, length, take, drop, sym, refl, ap, ◌∙◌, subst, append_assoc, length-append, div-add-mod', mod-lt, not-le_of_lt, arith}
 use mathlib.Core.List.{IsPrefix}
 use Rattle.std.specs.List.{AllByRecursion}
-use Rattle.ring_links.specs.declared.parcel.Parcel.{Parcel}
+use Rattle.run_facts.specs.declared.mail.Flight.{Flight}
 use Rattle.ring_links.specs.declared.line.Side.{Side}
 use Rattle.ring_links.specs.declared.board.Knows.{Knows}
-use Rattle.ring_links.specs.Parcels.{IsOrdered, AllFrom, IsFront}
+use Rattle.ring_links.specs.Flights.{IsOrdered, AllFrom, IsFront}
 use Rattle.ring_links.specs.Linked.{side, most, Takes}
 use Rattle.ring_links.specs.Marked.{knows, given_by, below_of, IsLast}
-use Rattle.ring_links.specs.Ends.{IsTrue_of, IsSender, IsReceiver}
+use Rattle.ring_links.specs.Ends.{IsTrueOf, IsSender, IsReceiver}
 use Rattle.ring_links.proofs.Orders.{from_drop, from_next, from_lower, from_front, from_last, take_rest}
 
 given_is : (k r n : ℕ) (x : ℕ) → x < 1048576 → k * 1048576 + r ≡ n * 1048576 + x → r < 1048576 → k ≡ n
@@ -73,7 +73,7 @@ module _ {M : Type 0} where
         lost = λ e _. true≢false (sym e);
       })
 
-  pub sender-sends : (v w : Side M) (k : Knows) (count closed : ℕ) (p : Parcel M) → IsSender v k count closed → w ≡ side v.sends v.takes (v.sent ++ p ∷ []) v.got
+  pub sender-sends : (v w : Side M) (k : Knows) (count closed : ℕ) (p : Flight M) → IsSender v k count closed → w ≡ side v.sends v.takes (v.sent ++ p ∷ []) v.got
       → count < most → closed ≤ p.sent → IsOrdered (v.sent ++ p ∷ []) → IsSender w k (count + 1) closed
   sender-sends v w k count closed p h is room from ordered =
       subst (λ (x : Side M). IsSender x k (count + 1) closed) (sym is) record {
@@ -84,13 +84,13 @@ module _ {M : Type 0} where
         within = omega (arith, room);
         ordered = ordered;
         writes = h.writes;
-        honest = all_weaker (IsTrue_of v.sent closed) (IsTrue_of (v.sent ++ p ∷ []) closed)
-            (λ (w : ℕ) (t : IsTrue_of v.sent closed w).
+        honest = all_weaker (IsTrueOf v.sent closed) (IsTrueOf (v.sent ++ p ∷ []) closed)
+            (λ (w : ℕ) (t : IsTrueOf v.sent closed w).
             (omega (arith, t.0, length-append v.sent (p ∷ [])), t.1, from_next (below_of w) (given_by w) v.sent p (omega (arith, t.1, from)) t.2 t.0))
             k.marks h.honest;
       }
 
-  nothing_behind : (beat : ℕ) (xs : List (Parcel M)) → AllFrom beat (drop (length xs) xs)
+  nothing_behind : (beat : ℕ) (xs : List (Flight M)) → AllFrom beat (drop (length xs) xs)
   nothing_behind beat [] = tt
   nothing_behind beat (x ∷ xs) = nothing_behind beat xs
 
@@ -100,7 +100,7 @@ module _ {M : Type 0} where
       let word : ℕ = count * 1048576 + below in
       let given : given_by word ≡ length v.sent = word_given count below small ∙ h.count_is in
       let under : below_of word ≡ below = word_below count below small in
-      let mine : IsTrue_of v.sent below word =
+      let mine : IsTrueOf v.sent below word =
       (omega (arith, given), omega (arith, under), subst (λ n. AllFrom (below_of word) (drop n v.sent)) (sym given) (nothing_behind (below_of word) v.sent)) in
       subst (λ (x : Knows). IsSender v x count below) (sym is) record {
         sends = h.sends;
@@ -110,8 +110,8 @@ module _ {M : Type 0} where
         within = h.within;
         ordered = h.ordered;
         writes = h.writes;
-        honest = all_next (IsTrue_of v.sent below) k.marks word
-            (all_weaker (IsTrue_of v.sent closed) (IsTrue_of v.sent below) (λ (w : ℕ) (t : IsTrue_of v.sent closed w). (t.0, omega (arith, t.1, rises), t.2)) k.marks h.honest) mine;
+        honest = all_next (IsTrueOf v.sent below) k.marks word
+            (all_weaker (IsTrueOf v.sent closed) (IsTrueOf v.sent below) (λ (w : ℕ) (t : IsTrueOf v.sent closed w). (t.0, omega (arith, t.1, rises), t.2)) k.marks h.honest) mine;
       }
 
   pub receiver-looks : (v : Side M) (k l : Knows) (count closed after word : ℕ) (spoilt : Bool) → IsReceiver v k count closed spoilt
@@ -155,7 +155,7 @@ module _ {M : Type 0} where
       }
 
   -- a message was received, and given out
-  pub receiver-takes : (v w : Side M) (k : Knows) (count closed : ℕ) (p : Parcel M) → IsReceiver v k count closed false → Takes v p w → IsReceiver w k (count + 1) closed false
+  pub receiver-takes : (v w : Side M) (k : Knows) (count closed : ℕ) (p : Flight M) → IsReceiver v k count closed false → Takes v p w → IsReceiver w k (count + 1) closed false
   receiver-takes v w k count closed p h t =
       let got : w.got ≡ v.got ++ p ∷ [] = ap (λ (x : Side M). x.got) t.0 in
       let long : length w.got ≡ length v.got + 1 = ap length got ∙ length-append v.got (p ∷ []) in
@@ -178,7 +178,7 @@ module _ {M : Type 0} where
       }
 
   -- a message was received, and not given out
-  pub receiver-spoils : (v w : Side M) (k : Knows) (count closed : ℕ) (p : Parcel M) → IsReceiver v k count closed false → Takes v p w → p.sent < closed → IsReceiver w k count closed true
+  pub receiver-spoils : (v w : Side M) (k : Knows) (count closed : ℕ) (p : Flight M) → IsReceiver v k count closed false → Takes v p w → p.sent < closed → IsReceiver w k count closed true
   receiver-spoils v w k count closed p h t low =
       let got : w.got ≡ v.got ++ p ∷ [] = ap (λ (x : Side M). x.got) t.0 in
       let long : length w.got ≡ length v.got + 1 = ap length got ∙ length-append v.got (p ∷ []) in
@@ -200,12 +200,12 @@ module _ {M : Type 0} where
         lost = λ _ all. not-le_of_lt low (from_last closed count v.got p (h.all refl) (subst (λ xs. AllFrom closed (drop count xs)) got all));
       }
 
-  not_spoilt : (spoilt : Bool) (count : ℕ) (got : List (Parcel M)) → (spoilt ≡ false → count ≡ length got) → (spoilt ≡ true → ⊥) → count ≡ length got
+  not_spoilt : (spoilt : Bool) (count : ℕ) (got : List (Flight M)) → (spoilt ≡ false → count ≡ length got) → (spoilt ≡ true → ⊥) → count ≡ length got
   not_spoilt false count got all never = all refl
   not_spoilt true count got all never = absurd (never refl)
 
   -- at the end: the queue holds what was not received, and no message of a beat that is known to be closed is in it
-  pub ends-meet : (v w both : Side M) (k l told : Knows) (sent received closed known : ℕ) (spoilt : Bool) (items : List (Parcel M))
+  pub ends-meet : (v w both : Side M) (k l told : Knows) (sent received closed known : ℕ) (spoilt : Bool) (items : List (Flight M))
       → IsSender v k sent closed → IsReceiver w l received known spoilt → both ≡ side true true v.sent w.got → both.sent ≡ both.got ++ items
       → told ≡ knows k.writes k.marks l.marks → IsPrefix told.told told.marks
       → IsFront known (take received w.got) v.sent × (known ≤ closed) × (sent ≡ received + length items)
@@ -213,7 +213,7 @@ module _ {M : Type 0} where
       let is : v.sent ≡ w.got ++ items = ap (λ (x : Side M). x.sent) (sym joined) ∙ total ∙ ap (λ (x : Side M). x.got ++ items) joined in
       let front : IsPrefix l.marks k.marks = subst (λ (x : Knows). IsPrefix x.told x.marks) learned agrees in
       let marks : k.marks ≡ r.front ++ r.word ∷ (r.back ++ front.0) = sym front.1 ∙ ap (λ xs. xs ++ front.0) r.known ∙ append_assoc r.front (r.word ∷ r.back) front.0 in
-      let true_of : IsTrue_of v.sent closed r.word = all_at (IsTrue_of v.sent closed) r.front r.word (r.back ++ front.0) (subst (λ xs. AllByRecursion (IsTrue_of v.sent closed) xs) marks s.honest) in
+      let true_of : IsTrueOf v.sent closed r.word = all_at (IsTrueOf v.sent closed) r.front r.word (r.back ++ front.0) (subst (λ xs. AllByRecursion (IsTrueOf v.sent closed) xs) marks s.honest) in
       let later : AllFrom (below_of r.word) (drop received v.sent) = from_drop (below_of r.word) (given_by r.word) received v.sent r.reached true_of.2 in
       let whole : v.sent ≡ take received w.got ++ drop received v.sent = is ∙ take_rest received w.got items r.within ∙ ap (λ xs. take received w.got ++ drop received xs) (sym is) in
       let all : AllFrom known (drop received v.sent) = subst (λ b. AllFrom b (drop received v.sent)) (sym r.closed_is) later in

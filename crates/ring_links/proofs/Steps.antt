@@ -4,9 +4,9 @@ use mathlib.Core.Option.{some, some-ne-none}
 use lib.ListN.{get_elem?}
 use Rattle.crossbeam_queue.specs.Fifo.{Pushes, Pops, Forks, Merges, Learns}
 use Rattle.crossbeam_queue.proofs.Lists.{at_set, at_snoc}
-use Rattle.ring_links.specs.declared.parcel.Parcel.{Parcel}
+use Rattle.run_facts.specs.declared.mail.Flight.{Flight}
 use Rattle.ring_links.specs.declared.line.Side.{Side}
-use Rattle.ring_links.specs.Parcels.{IsOrdered}
+use Rattle.ring_links.specs.Flights.{IsOrdered}
 use Rattle.ring_links.specs.Linked.{side, Fits, most, Linked, Takes, Covers}
 use Rattle.ring_links.proofs.Orders.{ordered_along}
 
@@ -27,7 +27,7 @@ module _ {M : Type 0} where
   pub begins : Linked {M = M} [] (side true true [] [] ∷ [])
   begins = (0, 0, [], [], refl, tt, omega arith, all_set (Fits 0 0 [] []) (side true true [] [] ∷ []) 0 (side true true [] []) ((λ _. (refl, refl)), λ _. (refl, refl)) (λ j u other e. absurd (other (at_end [] _ u j (λ x. some-ne-none u (sym x)) e))))
 
-  pub sends : (n port : ℕ) (v : Side M) (x : Parcel M) → v.sends ≡ true → IsOrdered (v.sent ++ x ∷ []) → length v.sent < most → Pushes Linked n port v x (λ w. w ≡ side v.sends v.takes (v.sent ++ x ∷ []) v.got)
+  pub sends : (n port : ℕ) (v : Side M) (x : Flight M) → v.sends ≡ true → IsOrdered (v.sent ++ x ∷ []) → length v.sent < most → Pushes Linked n port v x (λ w. w ≡ side v.sends v.takes (v.sent ++ x ∷ []) v.got)
   sends n port v x may ordered short items views _ h at = let w : Side M = side v.sends v.takes (v.sent ++ x ∷ []) v.got in let mine = h.7 port v at in let sent = h.2 ++ x ∷ [] in
       let is : v.sent ≡ h.2 = (mine.0 may).1 in (
         w,

@@ -3,10 +3,10 @@ use base.Stored.{Coded, coded×, coded_ℕ, coded_list, coded_via}
 use Rattle.std.specs.Prelude.{◌≡◌, ℕ, ◌≤◌, Bool, true, false, List, [], ◌∷◌, ◌++◌, length, drop}
 use Rattle.std.specs.List.{AllByRecursion}
 use Rattle.atomic_table.specs.Seated.{TableId, table_id_coded}
-use Rattle.ring_links.specs.declared.parcel.Parcel.{Parcel}
+use Rattle.run_facts.specs.declared.mail.Flight.{Flight}
 use Rattle.ring_links.specs.declared.line.Side.{Side}
 use Rattle.ring_links.specs.declared.board.Knows.{Knows}
-use Rattle.ring_links.specs.Parcels.{IsOrdered, AllFrom}
+use Rattle.ring_links.specs.Flights.{IsOrdered, AllFrom}
 use Rattle.ring_links.specs.Linked.{most}
 use Rattle.ring_links.specs.Marked.{given_by, below_of}
 
@@ -16,19 +16,19 @@ LineId = (ℕ × ℕ) × TableId
 
 pub record End (M : Type 0) : Type 0 where
   pub line : LineId
-  pub parcels : List (Parcel M)
+  pub flights : List (Flight M)
   pub closed : ℕ
 
-abbrev pub end_coded : {M : Type 0} → Coded (Parcel M) → Coded (End M)
+abbrev pub end_coded : {M : Type 0} → Coded (Flight M) → Coded (End M)
 end_coded {M} c =
     coded_via (coded× (coded× (coded× coded_ℕ coded_ℕ) table_id_coded) (coded× (coded_list c) coded_ℕ))
-    (λ (e : End M). (e.line, (e.parcels, e.closed)))
-    (λ x y e i. record { line = (e i).0; parcels = (e i).1.0; closed = (e i).1.1 })
+    (λ (e : End M). (e.line, (e.flights, e.closed)))
+    (λ x y e i. record { line = (e i).0; flights = (e i).1.0; closed = (e i).1.1 })
 
 module _ {M : Type 0} where
   -- a word of the link is true of what was sent: the messages behind those that it counts were sent in no beat that it closes
-  abbrev pub IsTrue_of : List (Parcel M) → ℕ → ℕ → Type 0
-  IsTrue_of sent closed word =
+  abbrev pub IsTrueOf : List (Flight M) → ℕ → ℕ → Type 0
+  IsTrueOf sent closed word =
       (given_by word ≤ length sent) × (below_of word ≤ closed) × AllFrom (below_of word) (drop (given_by word) sent)
 
   pub record IsSender (v : Side M) (k : Knows) (count closed : ℕ) : Type 0 where
@@ -39,7 +39,7 @@ module _ {M : Type 0} where
     pub within : count ≤ most
     pub ordered : IsOrdered v.sent
     pub writes : k.writes ≡ true
-    pub honest : AllByRecursion (IsTrue_of v.sent closed) k.marks
+    pub honest : AllByRecursion (IsTrueOf v.sent closed) k.marks
 
   pub record IsReceiver (v : Side M) (k : Knows) (count closed : ℕ) (spoilt : Bool) : Type 0 where
     pub sends : v.sends ≡ false

@@ -1,4 +1,4 @@
-pub mod Parcels
+pub mod Flights
 pub mod Linked
 pub mod Marked
 pub mod Ends

@@ -1,11 +1,11 @@
 //! The two ends of a link.
 ghost use Rattle.std.specs.Prelude.{◌≡◌, ◌<◌, ◌≤◌, ◌^◌, ◌⊎◌, [], ◌∷◌, ◌++◌, IfSome, IfNone, IfErr, OnOk, OnErr};
-ghost use Rattle.ring_links.specs.Parcels.{IsOrdered};
+ghost use Rattle.ring_links.specs.Flights.{IsOrdered};
 ghost use Rattle.ring_links.specs.Marked.{given_by, below_of};
 
 use crate::board::{Looks, Marks, SPAN, Stand};
 use crate::line::{Line, Pass, Sends, Takes};
-use crate::parcel::Parcel;
+use run_facts::Flight;
 use std::alloc::Global;
 use std::marker::Model;
 use std::sync::{Arc, Wait};
@@ -16,7 +16,7 @@ const MOST: u64 = 1 << 43;
 /// Want of memory, or too many messages. The message was not sent.
 #[derive(Drop)]
 pub struct Refused<M> {
-    pub parcel: Parcel<M>,
+    pub flight: Flight<M>,
 }
 
 /// The end that sends. Contracts see it as the link's name, the list of what it sent, and the beat below which
@@ -40,7 +40,7 @@ impl<M: Drop> Model for OutEnd<M> {
 
     ghost view = { λ o. record {
       line = (o.pass.web, o.seat.table_id);
-      parcels = o.pass.me.view.client.sent;
+      flights = o.pass.me.view.client.sent;
       closed = o.closed;
     } };
 
@@ -73,7 +73,7 @@ impl<M: Drop> Model for InEnd<M> {
 
     ghost view = { λ o. record {
       line = (o.pass.web, o.seat.table_id);
-      parcels = take o.received o.pass.me.view.client.got;
+      flights = take o.received o.pass.me.view.client.got;
       closed = o.closed;
     } };
 
@@ -87,28 +87,28 @@ impl<M: Drop> Model for InEnd<M> {
 
 impl<M: Drop> OutEnd<M> {
     /// Sends a message. For want of memory it comes back.
-    pub fn send<R: Wait>(&mut self, rt: &R, parcel: Parcel<M>) -> Result<(), Refused<M>>
-        requires order { IsOrdered (self.old.parcels ++ parcel ∷ []) }
-        requires open { self.old.closed ≤ parcel.sent }
+    pub fn send<R: Wait>(&mut self, rt: &R, flight: Flight<M>) -> Result<(), Refused<M>>
+        requires order { IsOrdered (self.old.flights ++ flight ∷ []) }
+        requires open { self.old.closed ≤ flight.sent }
         ensures line { self.new.line ≡ self.old.line }
         ensures closed { self.new.closed ≡ self.old.closed }
-        ensures sent { OnOk result (self.new.parcels ≡ self.old.parcels ++ parcel ∷ []) }
-        ensures handed_back { IfErr result (λ r. r.parcel ≡ parcel) }
-        ensures unsent { OnErr result (self.new.parcels ≡ self.old.parcels) }
+        ensures sent { OnOk result (self.new.flights ≡ self.old.flights ++ flight ∷ []) }
+        ensures handed_back { IfErr result (λ r. r.flight ≡ flight) }
+        ensures unsent { OnErr result (self.new.flights ≡ self.old.flights) }
     {
         if self.sent >= MOST {
-            return Err(Refused { parcel });
+            return Err(Refused { flight });
         }
         match self
             .line
             .queue
-            .push_as::<Sends, R>(rt, &mut self.pass, parcel)
+            .push_as::<Sends, R>(rt, &mut self.pass, flight)
         {
             Ok(()) => {
                 self.sent += 1;
                 Ok(())
             }
-            Err(parcel) => Err(Refused { parcel }),
+            Err(flight) => Err(Refused { flight }),
         }
     }
 
@@ -117,7 +117,7 @@ impl<M: Drop> OutEnd<M> {
         requires rising { self.old.closed ≤ below }
         requires range { below < 2 ^ 20 }
         ensures line { self.new.line ≡ self.old.line }
-        ensures parcels { self.new.parcels ≡ self.old.parcels }
+        ensures flights { self.new.flights ≡ self.old.flights }
         ensures closed { self.new.closed ≡ below }
     {
         let word = self.sent * SPAN + below;
@@ -131,30 +131,30 @@ impl<M: Drop> OutEnd<M> {
 
 impl<M: Drop> InEnd<M> {
     /// The next message that was sent and not yet received. None only if the queue was empty at a step of the call.
-    pub fn try_next<R: Wait>(&mut self, rt: &R) -> Option<Parcel<M>>
+    pub fn try_next<R: Wait>(&mut self, rt: &R) -> Option<Flight<M>>
         ensures line { self.new.line ≡ self.old.line }
         ensures closed { self.new.closed ≡ self.old.closed }
-        ensures next { IfSome result (λ p. self.new.parcels ≡ self.old.parcels ++ p ∷ []) }
-        ensures none { IfNone result (self.new.parcels ≡ self.old.parcels) }
+        ensures next { IfSome result (λ p. self.new.flights ≡ self.old.flights ++ p ∷ []) }
+        ensures none { IfNone result (self.new.flights ≡ self.old.flights) }
         ensures open { IfSome result (λ p. self.old.closed ≤ p.sent) }
-        ensures ordered { IsOrdered self.new.parcels }
+        ensures ordered { IsOrdered self.new.flights }
     {
         if self.spoilt {
             return None;
         }
-        let parcel = self.line.queue.pop_as::<Takes, R>(rt, &mut self.pass)?;
-        if parcel.sent < self.closed {
+        let flight = self.line.queue.pop_as::<Takes, R>(rt, &mut self.pass)?;
+        if flight.sent < self.closed {
             self.spoilt = true;
             return None;
         }
         self.received += 1;
-        Some(parcel)
+        Some(flight)
     }
 
     /// The beat below which nothing comes any more, as far as it is known once what was received is taken into account.
     pub fn look(&mut self) -> Beat
         ensures line { self.new.line ≡ self.old.line }
-        ensures parcels { self.new.parcels ≡ self.old.parcels }
+        ensures flights { self.new.flights ≡ self.old.flights }
         ensures closed { result ≡ self.new.closed }
         ensures rises { self.old.closed ≤ self.new.closed }
     {

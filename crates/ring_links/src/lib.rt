@@ -5,10 +5,8 @@ mod board;
 mod ends;
 mod line;
 mod opening;
-mod parcel;
 #[cfg(test)]
 mod tests;
 
 pub use ends::{InEnd, OutEnd, Refused};
 pub use opening::{Both, close, open_link};
-pub use parcel::Parcel;

@@ -1,22 +1,22 @@
 //! What both ends of a link share, and the rule of its queue: what was sent is what was received and then what is
 //! inside, in order.
 use crate::board::Board;
-use crate::parcel::Parcel;
 use crossbeam_queue::protocol::{Join, Lesson, Outcome, Protocol, Split};
 use crossbeam_queue::{RuledSegQueue, SegPass};
+use run_facts::Flight;
 use std::collections::LinkedList;
 
 // What a pass may do, what was sent with it and what was received. No value of it is made.
 pub struct Side<M> {
     pub sends: bool,
     pub takes: bool,
-    pub sent: LinkedList<Parcel<M>>,
-    pub got: LinkedList<Parcel<M>>,
+    pub sent: LinkedList<Flight<M>>,
+    pub got: LinkedList<Flight<M>>,
 }
 
 pub struct InOrder;
 
-impl<M> Protocol<Parcel<M>, Side<M>> for InOrder {
+impl<M> Protocol<Flight<M>, Side<M>> for InOrder {
     ghost use Rattle.std.specs.Prelude.{true, []};
     ghost use Rattle.ring_links.specs.Linked.{side, Linked};
 
@@ -47,7 +47,7 @@ impl<M> Join<Side<M>> for Roles {
 
 pub struct Sends;
 
-impl<M> Outcome<Parcel<M>, Side<M>> for Sends {
+impl<M> Outcome<Flight<M>, Side<M>> for Sends {
     ghost use Rattle.std.specs.Prelude.{◌≡◌, [], ◌∷◌, ◌++◌};
     ghost use Rattle.ring_links.specs.Linked.{side};
 
@@ -56,13 +56,13 @@ impl<M> Outcome<Parcel<M>, Side<M>> for Sends {
 
 pub struct Takes;
 
-impl<M> Outcome<Parcel<M>, Side<M>> for Takes {
+impl<M> Outcome<Flight<M>, Side<M>> for Takes {
     ghost use Rattle.ring_links.specs.Linked.{Takes};
 
     ghost then = { Takes };
 }
 
-impl<M> Lesson<Parcel<M>, Side<M>> for Takes {
+impl<M> Lesson<Flight<M>, Side<M>> for Takes {
     ghost use Rattle.ring_links.specs.Linked.{Covers};
 
     ghost fact = { Covers };
@@ -70,15 +70,15 @@ impl<M> Lesson<Parcel<M>, Side<M>> for Takes {
 
 pub struct Total;
 
-impl<M> Lesson<Parcel<M>, Side<M>> for Total {
+impl<M> Lesson<Flight<M>, Side<M>> for Total {
     ghost use Rattle.std.specs.Prelude.{◌≡◌, ◌++◌};
 
     ghost fact = { λ v items. v.sent ≡ v.got ++ items };
 }
 
-pub type Queue<M> = RuledSegQueue<Parcel<M>, Side<M>, InOrder>;
+pub type Queue<M> = RuledSegQueue<Flight<M>, Side<M>, InOrder>;
 
-pub type Pass<M> = SegPass<Parcel<M>, Side<M>>;
+pub type Pass<M> = SegPass<Flight<M>, Side<M>>;
 
 /// The queue of a link, and its word.
 pub struct Line<M> {

@@ -1,6 +1,6 @@
 //! How a link begins and ends.
 ghost use Rattle.std.specs.Prelude.{◌≡◌, ◌+◌, ◌≤◌, [], length, IfOk};
-ghost use Rattle.ring_links.specs.Parcels.{IsOrdered, IsFront, AreGiven};
+ghost use Rattle.ring_links.specs.Flights.{IsOrdered, IsFront, AreGiven};
 
 use crate::board::{Agrees, Board, Shown};
 use crate::ends::{InEnd, OutEnd};
@@ -23,7 +23,7 @@ pub fn open_link<M: Drop, R: Wait>(
     alloc: Global,
 ) -> Result<(OutEnd<M>, InEnd<M>), NoMemory>
     ensures line { IfOk result (λ e. e.0.line ≡ e.1.line) }
-    ensures parcels { IfOk result (λ e. (e.0.parcels ≡ []) × (e.1.parcels ≡ [])) }
+    ensures flights { IfOk result (λ e. (e.0.flights ≡ []) × (e.1.flights ≡ [])) }
     ensures closed { IfOk result (λ e. (e.0.closed ≡ 0) × (e.1.closed ≡ 0)) }
 {
     let (board, mut seat) = Board::of_words(alloc, &[0], &()).map_err(|_| NoMemory)?;
@@ -54,12 +54,12 @@ pub fn open_link<M: Drop, R: Wait>(
 /// beats that the receiver did not know to be closed.
 pub fn close<M: Drop, R: Wait>(rt: &R, out: OutEnd<M>, into: InEnd<M>) -> Both
     requires { out.line ≡ into.line }
-    ensures sent { result.sent ≡ length out.parcels }
-    ensures received { result.received ≡ length into.parcels }
-    ensures front { IsFront into.closed into.parcels out.parcels }
-    ensures given { AreGiven into.closed into.parcels out.parcels }
+    ensures sent { result.sent ≡ length out.flights }
+    ensures received { result.received ≡ length into.flights }
+    ensures front { IsFront into.closed into.flights out.flights }
+    ensures given { AreGiven into.closed into.flights out.flights }
     ensures counted { result.sent ≡ result.received + result.inside }
-    ensures ordered { IsOrdered out.parcels }
+    ensures ordered { IsOrdered out.flights }
     ensures closed { into.closed ≤ out.closed }
 {
     let OutEnd {

@@ -2,6 +2,7 @@
 ghost use Rattle.std.specs.Prelude.{◌≡◌, []};
 
 use super::*;
+use run_facts::Flight;
 use std::marker::Model;
 use std::sync::Wait;
 use std::test::Fail;
@@ -22,19 +23,19 @@ struct Sender {
 
 impl Model for Sender {
     ghost use Rattle.std.specs.Prelude.{ℕ, ◌+◌, ◌≤◌};
-    ghost use Rattle.ring_links.specs.Parcels.{IsOrdered, AllBy};
+    ghost use Rattle.ring_links.specs.Flights.{IsOrdered, AllBy};
     ghost use Rattle.ring_links.specs.Ends.{End, end_coded};
 
     ghost Value = { End ℕ };
 
     ghost view = { λ s. s.out };
 
-    ghost invariant = { λ s. IsOrdered s.out.parcels × AllBy s.beat (s.beat + 1) s.out.parcels × (s.out.closed ≤ s.beat) × (s.beat ≤ 100000) };
+    ghost invariant = { λ s. IsOrdered s.out.flights × AllBy s.beat (s.beat + 1) s.out.flights × (s.out.closed ≤ s.beat) × (s.beat ≤ 100000) };
 }
 
 impl Sender {
     fn new(out: OutEnd<u64>) -> Sender
-        requires parcels { out.parcels ≡ [] }
+        requires flights { out.flights ≡ [] }
         requires closed { out.closed ≡ 0 }
         ensures { result.line ≡ out.line }
     {
@@ -44,12 +45,12 @@ impl Sender {
     fn send<R: Wait>(&mut self, rt: &R, msg: u64) -> Result<(), NoMemory>
         ensures { self.new.line ≡ self.old.line }
     {
-        let parcel = Parcel {
+        let flight = Flight {
             sent: self.beat,
             arrival: self.beat + 1,
             msg,
         };
-        match self.out.send(rt, parcel) {
+        match self.out.send(rt, flight) {
             Ok(()) => Ok(()),
             Err(_) => Err(NoMemory),
         }
@@ -69,7 +70,7 @@ fn next<R: Wait>(rt: &R, into: &mut InEnd<u64>) -> Option<(Beat, Beat, u64)>
     ensures { into.new.line ≡ into.old.line }
 {
     match into.try_next(rt) {
-        Some(parcel) => Some((parcel.sent, parcel.arrival, parcel.msg)),
+        Some(flight) => Some((flight.sent, flight.arrival, flight.msg)),
         None => None,
     }
 }

@@ -11,6 +11,6 @@ invariant_of-self g c = (
   search rules,
   c.self.invariant.1,
   c.self.invariant.2,
-  sender-sends c.self.inside.pass.me.view.client c.push_as.new.pass.me.view.client c.self.inside.seat.me.0 c.self.inside.sent c.self.inside.closed c.args.parcel c.self.invariant.3
+  sender-sends c.self.inside.pass.me.view.client c.push_as.new.pass.me.view.client c.self.inside.seat.me.0 c.self.inside.sent c.self.inside.closed c.args.flight c.self.invariant.3
       (search rules) (omega arith) (search rules) (search rules),
 )
