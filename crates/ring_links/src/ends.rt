@@ -130,7 +130,8 @@ impl<M: Drop> OutEnd<M> {
 }
 
 impl<M: Drop> InEnd<M> {
-    /// The next message that was sent and not yet received. None only if the queue was empty at a step of the call.
+    /// The next message that was sent and not yet received. `None` means that the queue was empty at a step of the
+    /// call: no clause says so, and tests do.
     pub fn try_next<R: Wait>(&mut self, rt: &R) -> Option<Flight<M>>
         ensures line { self.new.line ≡ self.old.line }
         ensures closed { self.new.closed ≡ self.old.closed }
