@@ -1,0 +1,12 @@
+pub mod Beliefs
+pub mod Causing
+pub mod Closed
+pub mod Fits
+pub mod Listing
+pub mod Members
+pub mod Messages
+pub mod Outputs
+pub mod Puts
+pub mod Putting
+pub mod Stopping
+pub mod Ticks

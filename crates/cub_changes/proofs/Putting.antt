@@ -1,0 +1,126 @@
+-- Each Put is of a start that waited.
+use Rattle.std.proofs.Common.{◌≡◌, ℕ, ◌&&◌, true, false, not, refl, sym, ap, subst, ◌∙◌, ⊎_elim, inl, inr}
+use Rattle.std.specs.Prelude.{◌⊎◌}
+use Rattle.std.proofs.lemmas.Bool.{and_parts, cond_both}
+use Rattle.tiger_base.specs.declared.number.LinkNo.{LinkNo}
+use Rattle.tiger_base.specs.declared.number.Stamp.{Stamp}
+use Rattle.tiger_base.specs.declared.tenancy.Ask.{Ask}
+use Rattle.tiger_base.specs.declared.tenancy.Tenancy.{Tenancy}
+use Rattle.tiger_base.specs.declared.message.Msg.{Msg}
+use Rattle.slot_plan.specs.declared.params.Params.{Params}
+use Rattle.node_kit.specs.declared.journal.What.TheVariants as what
+use Rattle.node_kit.specs.declared.outbox.Out.{Out}
+use Rattle.node_kit.specs.declared.outbox.Out.TheVariants as out
+use Rattle.node_kit.specs.Steps.{Deed}
+use Rattle.node_kit.specs.Steps.Input.{Take, Tick}
+use Rattle.node_kit.specs.Deeds.{nothing, then_do}
+use Rattle.deadman.specs.Silence.{is_silent}
+use Rattle.cub_rules.specs.declared.store.Store.{Store}
+use Rattle.cub_rules.specs.Messages.{taking}
+use Rattle.cub_rules.specs.Ticks.{releasing, believing, inserting, ticking}
+use Rattle.cub_changes.specs.Changes.{Change}
+use Rattle.cub_changes.specs.Changes.Change.{PutStart}
+use Rattle.cub_changes.specs.Causes.{In, Stage, WasPut, Cause}
+use Rattle.cub_changes.specs.Causes.Stage.{OnMessage, OnRelease, OnDeadman, OnInsertion, OnService}
+use Rattle.cub_changes.specs.Outputs.{Output, output, ComesOf}
+use Rattle.cub_changes.specs.Outputs.Output.{Put}
+use Rattle.cub_changes.specs.Laws.{IsPutOfStart, CubsPutStarts}
+use Rattle.cub_changes.proofs.Closed.{OfEach, then_by}
+use Rattle.cub_changes.proofs.Members.{all_in, in_cases}
+use Rattle.cub_changes.proofs.Messages.{taking_by}
+use Rattle.cub_changes.proofs.Puts.{inserting_by}
+use Rattle.cub_changes.proofs.Ticks.{service_steps, late_steps, releasing_by, believing_by, service_by, late_by}
+use Rattle.cub_changes.proofs.Outputs.{forms_of, Puts, puts_closed}
+use Rattle.cub_changes.proofs.Beliefs.{Minds, not_true, minds_closed, minds_each}
+
+module _ (p : Params) (c : ℕ) (stamp : Stamp) where
+  put_form : (x : Change) (h : Store) (t : Tenancy) (o : Output) → ComesOf p c stamp x h o
+      → out.Act (what.Put t) ≡ output p c stamp o → x ≡ PutStart t
+  put_form x h t (Put u) comes e = let same : t ≡ u = cc in comes ∙ sym (ap PutStart same)
+  put_form x h t other comes e = absurd (cc)
+
+  -- if an output is a Put, this holds of its tenancy
+  abbrev OfPut : (Tenancy → Type 0) → Out Msg → Type 0
+  OfPut X o = (t : Tenancy) → out.Act (what.Put t) ≡ o → X t
+
+  of_cause : (X : Tenancy → Type 0) (g : Stage) (from : Store)
+      → ((t : Tenancy) (h : Store) → Cause p c stamp g from (PutStart t) h → X t)
+      → OfEach (Puts p c stamp (OfPut X)) p c stamp g from
+  of_cause X g from gives x h cause =
+      forms_of p c stamp (OfPut X) x h
+      (λ o comes t e. gives t h (subst (λ y. Cause p c stamp g from y h) (put_form x h t o comes e) cause))
+
+  taking_puts : (link : LinkNo) (m : Msg) (h : Store) → Puts p c stamp (OfPut (λ t. ⊥)) h (taking p c stamp link m h)
+  taking_puts link m h =
+      taking_by (Puts p c stamp (OfPut (λ t. ⊥))) (puts_closed p c stamp (OfPut (λ t. ⊥))) p c stamp link m h
+      (of_cause (λ t. ⊥) (OnMessage link m) h (λ t q k. k.0))
+
+  -- what the cub keeps when insertion begins
+  abbrev began : Store → Store
+  began h = (believing p c stamp (releasing p stamp h).state).state
+
+  ticking_puts : (h : Store) → Puts p c stamp (OfPut (WasPut p c stamp (began h))) h (ticking p c stamp h)
+  unfolding ticking
+  ticking_puts h =
+      let X : Tenancy → Type 0 = WasPut p c stamp (began h) in
+      let P : Store → Deed Msg Store → Type 0 = Puts p c stamp (OfPut X) in
+      let closed = puts_closed p c stamp (OfPut X) in
+      let h1 : Store = (releasing p stamp h).state in
+      let h2 : Store = (inserting p c stamp (began h)).state in
+      then_by P closed (releasing p stamp) (then_do (believing p c stamp) (late_steps p c stamp)) h
+      (releasing_by P closed p c stamp h (of_cause X OnRelease h (λ t q k. absurd (k.0))))
+      (then_by P closed (believing p c stamp) (late_steps p c stamp) h1
+      (believing_by P closed p c stamp h1 (of_cause X OnDeadman h1 (λ t q k. absurd (k.0))))
+      (then_by P closed (inserting p c stamp) (service_steps p c stamp) (began h)
+      (inserting_by P closed p c stamp (began h) (of_cause X OnInsertion (began h) (λ t q k. (q, k.1))))
+      (service_by P closed p c stamp h2 (λ from. of_cause X OnService from (λ t q k. absurd (k.0))))))
+
+  -- a start that waits then waited before, or was redundant and the cub came to believe its predecessor dead
+  abbrev WaitedBefore : Store → Store → Ask → Type 0
+  WaitedBefore h new a = In a h.starts.waiting ⊎ (In a h.starts.redundant × (h.believes ≡ false) × (new.believes ≡ true))
+
+  waited : (h : Store) (a : Ask) → In a (began h).starts.waiting → WaitedBefore h (began h) a
+  unfolding releasing believing
+  waited h a i =
+      let g : Store = (releasing p stamp h).state in
+      let then_waits : Deed Msg Store → Type 0 = λ d. In a d.state.starts.waiting → WaitedBefore h d.state a in
+      cond_both (not g.believes && is_silent g.watch stamp.reading) _ (nothing g) then_waits
+      (λ e k.
+      let unbelieved = not_true h.believes (and_parts (not h.believes) (is_silent h.watch stamp.reading) e).0 in
+      ⊎_elim (λ q. inl q) (λ q. inr (q, unbelieved, refl)) (in_cases a h.starts.waiting h.starts.redundant k))
+      (λ e k. inl k)
+      i
+
+  -- a belief that the cub has then it has after the tick
+  believes_on : (h : Store) → (began h).believes ≡ true → (ticking p c stamp h).state.believes ≡ true
+  unfolding ticking
+  believes_on h b =
+      (late_by (Minds p c stamp) (minds_closed p c stamp) p c stamp (began h)
+      (λ from. minds_each p c stamp OnInsertion from tt)
+      (λ from. minds_each p c stamp OnService from tt)).stays b
+
+  put_of_start : (h : Store) (t : Tenancy) → WasPut p c stamp (began h) t
+      → IsPutOfStart p c (Tick stamp) h (ticking p c stamp h).state t
+  put_of_start h t was =
+      let f = was.1 in record {
+        tick = tt;
+        ask = f.ask;
+        key = f.key;
+        disk = f.disk;
+        is = f.is;
+        on = f.on;
+        waits = ⊎_elim (λ w. inl w) (λ w. inr (w.0, w.1, believes_on h w.2)) (waited h f.ask f.waits);
+        here = ⊎_elim (λ w. inl w) (λ w. inr (w.0, believes_on h w.1)) f.here;
+      }
+
+pub put_starts : CubsPutStarts
+put_starts s (Take stamp link m) t i =
+    let none = taking_puts s.params s.cub stamp link m s.store in
+    absurd
+    (all_in (OfPut s.params s.cub stamp (λ u. ⊥)) (out.Act (what.Put t)) (taking s.params s.cub stamp link m s.store).outs
+    none i t refl)
+put_starts s (Tick stamp) t i =
+    let Q : Out Msg → Type 0 = OfPut s.params s.cub stamp (WasPut s.params s.cub stamp (began s.params s.cub stamp s.store)) in
+    let puts = ticking_puts s.params s.cub stamp s.store in
+    put_of_start s.params s.cub stamp s.store t
+    (all_in Q (out.Act (what.Put t)) (ticking s.params s.cub stamp s.store).outs puts i t refl)

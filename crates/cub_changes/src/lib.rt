@@ -1,0 +1,31 @@
+//! What a cub's rules are made of: single changes, each made for a cause; and laws that follow from all of them.
+#![tactic(auto)]
+
+ghost use Rattle.cub_changes.specs.Laws.{CubsKeepBelief, CubsKeepStarts, CubsPutStarts, CubsStopNothing, OutputsHaveCauses};
+
+/// No cub says that an instance is stopped: none of its outputs is Gone.
+pub fn cubs_stop_nothing()
+    ensures { CubsStopNothing }
+{}
+
+/// Each output of a cub is of a form, and comes of a change that the cub makes for a cause.
+pub fn outputs_have_causes()
+    ensures { OutputsHaveCauses }
+{}
+
+/// A cub that believes its predecessor dead wrote it down in a tick, after too long a silence; it believes it for ever, and
+/// keeps no redundant start.
+pub fn cubs_keep_belief()
+    ensures { CubsKeepBelief }
+{}
+
+/// Each Put of a cub is of a start that waited for one of its disks, or for one of its predecessor's if it believes that one
+/// dead.
+pub fn cubs_put_starts()
+    ensures { CubsPutStarts }
+{}
+
+/// A start stands in a cub's lists until its instance is put there, or a state or a deschedule tells of it.
+pub fn cubs_keep_starts()
+    ensures { CubsKeepStarts }
+{}
