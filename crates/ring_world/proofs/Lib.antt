@@ -1,0 +1,10 @@
+pub mod Accepting
+pub mod Faults
+pub mod Lists
+pub mod Merging
+pub mod Moving
+pub mod Neighbours
+pub mod Places
+pub mod Runs
+pub mod Steps
+pub mod Telling
