@@ -1,0 +1,13 @@
+pub mod Lists
+pub mod Sorted
+pub mod Orders
+pub mod Records
+pub mod Holders
+pub mod Bridge
+pub mod Free
+pub mod Truths
+pub mod Ticks
+pub mod Parts
+pub mod Passing
+pub mod Local
+pub mod Example

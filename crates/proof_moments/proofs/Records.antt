@@ -1,0 +1,45 @@
+-- A record that a journal tells of was told of by a front of it, or was taken behind that front.
+use Rattle.std.proofs.Common.{◌≡◌, List, [], ◌∷◌, ◌++◌, Bool, false, refl, sym, ap, ◌∙◌, ⊎_elim, inl, inr}
+use Rattle.std.specs.Prelude.{◌⊎◌}
+use Rattle.std.specs.List.{list_any}
+use Rattle.std.proofs.lemmas.Bool.{or_left, true≢false, false_from_ne_true}
+use Rattle.std.proofs.lemmas.List.Folds.{list_any-append}
+use Rattle.tiger_base.specs.declared.tenancy.Rec.{Rec}
+use Rattle.node_kit.specs.declared.journal.What.{What}
+use Rattle.node_kit.specs.declared.journal.What.TheVariants as what
+use Rattle.node_kit.specs.declared.journal.Entry.{Entry}
+use Rattle.run_model.specs.Views.{records_of, taken_by, drops}
+use Rattle.proof_moments.specs.Members.{In}
+use Rattle.proof_moments.proofs.Lists.{either_way, in_left, in_right, in_cases}
+
+taken_is : (w : What) (es : List Entry) (q : Rec) → In q (taken_by w es) → w ≡ what.Took q
+taken_is (what.Took r) es q i = either_way (λ (rs : List Rec). In q rs → what.Took r ≡ what.Took q) (list_any (λ (e : Entry). drops r e.what) es) [] (r ∷ [])
+    (λ _ k. absurd k)
+    (λ _ k. ⊎_elim (λ e. ap (λ (x : Rec). what.Took x) (sym e)) (λ n. absurd n) k)
+    i
+taken_is other es q i = absurd i
+
+-- what no entry of a list drops, none of its front drops
+taken_before : (w : What) (es fs : List Entry) (q : Rec) → In q (taken_by w (es ++ fs)) → In q (taken_by w es)
+taken_before (what.Took r) es fs q i = either_way (λ (rs : List Rec). In q rs → In q (taken_by (what.Took r) es)) (list_any (λ (e : Entry). drops r e.what) (es ++ fs)) [] (r ∷ [])
+    (λ _ k. absurd k)
+    (λ none k.
+    let test : Entry → Bool = λ e. drops r e.what in
+    let fresh : list_any test es ≡ false = false_from_ne_true (list_any test es) (λ t. true≢false (sym (list_any-append test es fs ∙ or_left (list_any test es) (list_any test fs) t) ∙ none)) in
+    either_way (λ (rs : List Rec). In q rs) (list_any test es) [] (r ∷ []) (λ t. absurd (true≢false (sym t ∙ fresh))) (λ _. k))
+    i
+taken_before other es fs q i = absurd i
+
+pub was_taken : (es : List Entry) (q : Rec) → In q (records_of es) → (e : Entry) × In e es × (e.what ≡ what.Took q)
+was_taken [] q i = absurd i
+was_taken (x ∷ xs) q i = ⊎_elim
+    (λ k. (x, inl refl, taken_is x.what xs q k))
+    (λ k. let r = was_taken xs q k in (r.0, inr r.1, r.2))
+    (in_cases q (taken_by x.what xs) (records_of xs) i)
+
+pub records_cut : (xs ys : List Entry) (q : Rec) → In q (records_of (xs ++ ys)) → In q (records_of xs) ⊎ ((e : Entry) × In e ys × (e.what ≡ what.Took q))
+records_cut [] ys q i = inr (was_taken ys q i)
+records_cut (x ∷ xs) ys q i = ⊎_elim
+    (λ k. inl (in_left q (taken_by x.what xs) (records_of xs) (taken_before x.what xs ys q k)))
+    (λ k. ⊎_elim (λ l. inl (in_right q (taken_by x.what xs) (records_of xs) l)) (λ l. inr l) (records_cut xs ys q k))
+    (in_cases q (taken_by x.what (xs ++ ys)) (records_of (xs ++ ys)) i)

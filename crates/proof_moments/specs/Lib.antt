@@ -1,0 +1,5 @@
+pub mod Example
+pub mod Members
+pub mod Moments
+pub mod Recorded
+pub mod Ties
