@@ -1,0 +1,63 @@
+"""What each exit status means, and what each rule of a scenario asks for, for tools/explain.
+
+The texts are those of the tables in docs/formats.md, and tools/check-program compares the two.
+"""
+
+STATUSES = {  # what happened
+    0: "all was read, run and written",
+    2: "the words are neither `run SCENARIO WORKERS` nor `make NUMBER`, or a number has a leading zero or is out of "
+       "its range",
+    3: "a file is not there",
+    4: "a file cannot be read, for any other cause",
+    5: "the scenario breaks a rule",
+    6: "a write failed",
+    7: "there was no memory",
+    8: "a file is longer than may be",
+    70: "`./tiger` could not build the program",
+    71: "`./tiger --unproved` has no answer",
+}
+
+RULES = {  # what is wrong, and how to mend it
+    1: ("`serde_json` refuses the bytes: they are no JSON, or no UTF-8, or something stands behind the value",
+        "write one JSON value: look for a bracket or quotation mark that is missing, a comma too many, a byte order "
+        "mark at the beginning"),
+    2: ("the value is no object, a needed key is missing, or another key stands there",
+        "write the five needed keys, and no others than these eight"),
+    3: ("`plan` is no object, or one of its keys is missing, out of its range or no number, or it has another key",
+        "put the number with that item into its range; take another key out"),
+    4: ("a condition of the plan is false", "see the next table"),
+    5: ("`beats` is out of its range, or `beats` \u00b7 `cubs` is above 2000000",
+        "run fewer beats, or take fewer cubs"),
+    6: ("`links` is not of its form", 'write `{"fixed":1}`; a fixed delay is at most `delay`'),
+    7: ("`offsets` is not of its form",
+        "write one number for each cub and one more, each at most `skew`; or leave the key out"),
+    8: ("`files` is not of its form",
+        "give each file a name of 1 to 200 bytes (a letter may have several) and a disk that is there"),
+    9: ("`events` is not of its form",
+        "see that its beat is below `beats` and not below the one before, that its file is there or its instance was "
+        "started before, and that it is not the 2001st start"),
+    10: ("the number of starts, times floor(`beats` \u00b7 `beat` / `play`) + 1, is above 400000: this is how many "
+         "blocks might be due", "start fewer viewers, or run fewer beats"),
+    11: ("`deaths` is not of its form",
+         "let each cub die once, within the run, and no two neighbours: the pieces of a dead cub's blocks lie with the "
+         "cubs behind it"),
+    12: ("`read_faults` is not of its form",
+         "see that the disk is there, that `from` is below `until`, and that `until` is at most `beats`"),
+    13: ("a file has no bytes", "name a file that is not empty"),
+}
+
+CONDITIONS = {  # rule 4 by its item: what may be at most what, and how to mend it
+    1: ("`window_b`", "`window_a`, which must be above it", "a larger `window_a`"),
+    2: ("`window_a` + `skew` + `beat`", "`play`", "a smaller `window_a` or a larger `play`"),
+    3: ("`beat` + 2 \u00b7 longest way + `skew`", "`read_lead`", "a larger `read_lead`"),
+    4: ("`read_lead` + `skew` + longest way + `beat`", "`window_b`", "a larger `window_b`"),
+    5: ("`window_a` + 2 \u00b7 `play` + `skew`", "`min_lead`", "a larger `min_lead`"),
+    6: ("`min_lead` + `batch` \u00b7 `beat`", "`max_lead`", "a larger `max_lead` or a smaller `batch`"),
+    7: ("`max_lead` + 4 \u00b7 `play`", "`cubs` \u00b7 `play`", "a smaller `max_lead` or more `cubs`"),
+    8: ("(`cubs` + 4) \u00b7 longest way", "`play`", "a smaller `delay` or `beat`, or a larger `play`"),
+    9: ("`pieces` \u00b7 (`beat` + longest way + `skew`)", "`play`", "fewer `pieces` or a larger `play`"),
+    10: ("`pieces` + 2", "`cubs`", "fewer `pieces` or more `cubs`"),
+    11: ("`heart` \u00b7 `beat` + longest way + `skew`", "`deadman`", "a smaller `heart` or a larger `deadman`"),
+    12: ("2 \u00b7 `play` + `skew`", "`hold`", "a larger `hold`"),
+}
+
