@@ -8,7 +8,7 @@ use Rattle.scenario_read.specs.Events.{is_start}
 use Rattle.run_model.proofs.Reflects.{and_both, and_left, and_right}
 use Rattle.ring_schedule.specs.Scenarios.{IsCalmScenario}
 
-no_some : {X : Type 0} (o : Option X) → not (is_some o) ≡ true → o ≡ None
+pub no_some : {X : Type 0} (o : Option X) → not (is_some o) ≡ true → o ≡ None
 no_some None e = refl
 no_some (Some x) e = absurd (cc)
 

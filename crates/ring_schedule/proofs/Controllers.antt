@@ -65,7 +65,7 @@ begun p os calm o i = go o.what refl
     go (Begin ask) e = (ask, e)
     go (Finish v) e = let k = in_place o os i in absurd (calm.unstopped k.0 v (o.beat, k.1 ∙ ap (λ (x : Order). Some x) (order_made o (Finish v) e)))
 
-distinct_from : (os : List Order) → ((j k : ℕ) (a b : Ask) → Starts os j a → Starts os k b → a.instance.0 ≡ b.instance.0 → j ≡ k) → AreDistinct os
+pub distinct_from : (os : List Order) → ((j k : ℕ) (a b : Ask) → Starts os j a → Starts os k b → a.instance.0 ≡ b.instance.0 → j ≡ k) → AreDistinct os
 distinct_from [] once = tt
 distinct_from (o ∷ os) once = (
   (λ q a b i e f same.
@@ -75,7 +75,7 @@ distinct_from (o ∷ os) once = (
   distinct_from os (λ j k a b s t same. let z = once (suc j) (suc k) a b (s.0, s.1) (t.0, t.1) same in omega arith),
 )
 
-distinct_filter : (test : Order → Bool) (os : List Order) → AreDistinct os → AreDistinct (filter test os)
+pub distinct_filter : (test : Order → Bool) (os : List Order) → AreDistinct os → AreDistinct (filter test os)
 distinct_filter test [] d = tt
 distinct_filter test (o ∷ os) d =
     chosen AreDistinct (test o) (o ∷ filter test os) (filter test os)
@@ -86,11 +86,11 @@ abbrev pub order_outs : Params → OrderKind → List (Out Msg)
 order_outs p (Begin ask) = starts p ask
 order_outs p (Finish v) = []
 
-carrying_begun : (p : Params) (all : List Order) (r : ℕ) (o : Order) (known : Known) → IsBegun o → ((carrying p all r o known).outs ≡ order_outs p o.what) × ((carrying p all r o known).state ≡ known)
+pub carrying_begun : (p : Params) (all : List Order) (r : ℕ) (o : Order) (known : Known) → IsBegun o → ((carrying p all r o known).outs ≡ order_outs p o.what) × ((carrying p all r o known).state ≡ known)
 unfolding carrying
 carrying_begun p all r o known b = rw (b.1) (refl, refl)
 
-each_begun : (p : Params) (all : List Order) (r : ℕ) (os : List Order) (known : Known) → AreBegun os → (each_in_turn (carrying p all r) os known).outs ≡ flat_map (λ o. order_outs p o.what) os
+pub each_begun : (p : Params) (all : List Order) (r : ℕ) (os : List Order) (known : Known) → AreBegun os → (each_in_turn (carrying p all r) os known).outs ≡ flat_map (λ o. order_outs p o.what) os
 each_begun p all r [] known b = refl
 each_begun p all r (o ∷ os) known b =
     let c = carrying_begun p all r o known (b o (inl refl)) in
@@ -98,7 +98,7 @@ each_begun p all r (o ∷ os) known b =
     ∙ ap (λ (xs : List (Out Msg)). xs ++ (each_in_turn (carrying p all r) os known).outs) c.0
     ∙ ap (λ (xs : List (Out Msg)). order_outs p o.what ++ xs) (each_begun p all r os known (λ q i. b q (inr i)))
 
-filtered_begun : (b : ℕ) (os : List Order) → AreBegun os → AreBegun (filter (λ o. o.beat == b) os)
+pub filtered_begun : (b : ℕ) (os : List Order) → AreBegun os → AreBegun (filter (λ o. o.beat == b) os)
 filtered_begun b os begun o i = begun o (from_filter (λ q. q.beat == b) o os i).0
 
 pub commanding_outs : (p : Params) (os : List Order) (stamp : Stamp) (known : Known) → AreBegun os
@@ -118,11 +118,11 @@ pub record IsStartOf (p : Params) (os : List Order) (b : ℕ) (o : Out Msg) : Ty
   pub is : o ≡ out.Send link (msg.Start ask redundant)
   pub low : link.0 < p.cubs
 
-way_low : (p : Params) (n : ℕ) → IsPlan p → (way_to_cub p (n % p.cubs)).0 < p.cubs
+pub way_low : (p : Params) (n : ℕ) → IsPlan p → (way_to_cub p (n % p.cubs)).0 < p.cubs
 unfolding way_to_cub
 way_low p n plan = mod_below n p.cubs (omega (arith, plan.ranges.cubs))
 
-starts_out : (p : Params) (ask : Ask) (o : Out Msg) → IsPlan p → In o (starts p ask) → (link : LinkNo) × (redundant : Bool) × (o ≡ out.Send link (msg.Start ask redundant)) × (link.0 < p.cubs)
+pub starts_out : (p : Params) (ask : Ask) (o : Out Msg) → IsPlan p → In o (starts p ask) → (link : LinkNo) × (redundant : Bool) × (o ≡ out.Send link (msg.Start ask redundant)) × (link.0 < p.cubs)
 unfolding starts
 starts_out p ask o plan i = ⊎_elim
     (λ e. (way_to_cub p (ask.disk.0 % p.cubs), false, e, way_low p ask.disk.0 plan))
@@ -138,7 +138,7 @@ command_out p os b o plan begun i =
     record { order = r.0; there = f.0; beat = eqb-true _ _ f.1; ask = k.0; what = k.1; link = s.0; redundant = s.1; is = s.2; low = s.3 }
 
 -- on one link a start goes out once
-sends_both : (l b : ℕ) (xs ys : List (Out Msg)) → sends_of l b (xs ++ ys) ≡ sends_of l b xs ++ sends_of l b ys
+pub sends_both : (l b : ℕ) (xs ys : List (Out Msg)) → sends_of l b (xs ++ ys) ≡ sends_of l b xs ++ sends_of l b ys
 sends_both l b [] ys = refl
 sends_both l b (out.Act w ∷ xs) ys = sends_both l b xs ys
 sends_both l b (out.Send link m ∷ xs) ys = ⊎_elim
@@ -146,18 +146,18 @@ sends_both l b (out.Send link m ∷ xs) ys = ⊎_elim
     (λ (t : (link.0 == l) ≡ false). rw t (sends_both l b xs ys))
     (cases_Bool (link.0 == l))
 
-once_single : (d : Dated Msg) → IsOnce (d ∷ [])
+pub once_single : (d : Dated Msg) → IsOnce (d ∷ [])
 once_single d v j k s t = let a = zero_only d j v s in let b = zero_only d k v t in omega arith
   where
     zero_only : (d : Dated Msg) (j v : ℕ) → StartAt (d ∷ []) j v → j ≡ 0
     zero_only d zero v s = refl
     zero_only d (suc j) v s = absurd (none-some (record { beat = s.beat; item = msg.Start s.ask s.redundant }) s.at)
 
-ways_apart : (p : Params) (n : ℕ) → IsPlan p → n % p.cubs ≡ (n + 1) % p.cubs → ⊥
+pub ways_apart : (p : Params) (n : ℕ) → IsPlan p → n % p.cubs ≡ (n + 1) % p.cubs → ⊥
 unfolding cub_of
 ways_apart p n plan e = let seven = seven_cubs p plan in cub_apart p n 1 (omega arith) (omega arith) e
 
-starts_once : (p : Params) (ask : Ask) (l b : ℕ) → IsPlan p → IsOnce (sends_of l b (starts p ask))
+pub starts_once : (p : Params) (ask : Ask) (l b : ℕ) → IsPlan p → IsOnce (sends_of l b (starts p ask))
 unfolding starts way_to_cub
 starts_once p ask l b plan = ⊎_elim
     (λ (t : (ask.disk.0 % p.cubs == l) ≡ true). ⊎_elim

@@ -18,18 +18,18 @@ pub record StartAt (ds : List (Dated Msg)) (k v : ℕ) : Type 0 where
 abbrev pub IsOnce : List (Dated Msg) → Type 0
 IsOnce ds = (v j k : ℕ) → StartAt ds j v → StartAt ds k v → j ≡ k
 
-none_in_nothing : (k v : ℕ) → StartAt [] k v → ⊥
+pub none_in_nothing : (k v : ℕ) → StartAt [] k v → ⊥
 none_in_nothing k v s = none-some (record { beat = s.beat; item = msg.Start s.ask s.redundant }) s.at
 
 pub once_nothing : IsOnce []
 once_nothing v j k s t = absurd (none_in_nothing j v s)
 
-get_parts : {X : Type 0} (xs ys : List X) (k : ℕ) (x : X) → slice_get (xs ++ ys) k ≡ Some x → (slice_get xs k ≡ Some x) ⊎ ((m : ℕ) × (k ≡ length xs + m) × (slice_get ys m ≡ Some x))
+pub get_parts : {X : Type 0} (xs ys : List X) (k : ℕ) (x : X) → slice_get (xs ++ ys) k ≡ Some x → (slice_get xs k ≡ Some x) ⊎ ((m : ℕ) × (k ≡ length xs + m) × (slice_get ys m ≡ Some x))
 get_parts [] ys k x h = inr (k, omega arith, h)
 get_parts (z ∷ zs) ys zero x h = inl h
 get_parts (z ∷ zs) ys (suc k) x h = ⊎_elim (λ old. inl old) (λ new. let q = new.1 in inr (new.0, omega (arith, q), new.2)) (get_parts zs ys k x h)
 
-start_parts : (xs ys : List (Dated Msg)) (k v : ℕ) → StartAt (xs ++ ys) k v → StartAt xs k v ⊎ ((m : ℕ) × (k ≡ length xs + m) × StartAt ys m v)
+pub start_parts : (xs ys : List (Dated Msg)) (k v : ℕ) → StartAt (xs ++ ys) k v → StartAt xs k v ⊎ ((m : ℕ) × (k ≡ length xs + m) × StartAt ys m v)
 start_parts xs ys k v s = ⊎_elim
     (λ q. inl (record { beat = s.beat; ask = s.ask; redundant = s.redundant; at = q; same = s.same }))
     (λ q. inr (q.0, q.1, record { beat = s.beat; ask = s.ask; redundant = s.redundant; at = q.2; same = s.same }))

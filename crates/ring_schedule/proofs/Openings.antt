@@ -31,12 +31,12 @@ use Rattle.ring_facts.specs.Steps.{ring_of}
 use Rattle.ring_schedule.specs.Rings.{IsLivingRing}
 
 -- places of two lists, one behind the other
-get_front : {X : Type 0} (xs ys : List X) (k : ℕ) (x : X) → slice_get xs k ≡ Some x → slice_get (xs ++ ys) k ≡ Some x
+pub get_front : {X : Type 0} (xs ys : List X) (k : ℕ) (x : X) → slice_get xs k ≡ Some x → slice_get (xs ++ ys) k ≡ Some x
 get_front [] ys k x e = absurd (none-some x e)
 get_front (z ∷ zs) ys zero x e = e
 get_front (z ∷ zs) ys (suc k) x e = get_front zs ys k x e
 
-get_back : {X : Type 0} (xs ys : List X) (k j : ℕ) → j ≡ length xs + k → slice_get (xs ++ ys) j ≡ slice_get ys k
+pub get_back : {X : Type 0} (xs ys : List X) (k j : ℕ) → j ≡ length xs + k → slice_get (xs ++ ys) j ≡ slice_get ys k
 get_back [] ys k j e = let q : j ≡ k = omega (arith, e) in ap (λ n. slice_get ys n) q
 get_back (z ∷ zs) ys k zero e = absurd (omega (arith, e))
 get_back (z ∷ zs) ys k (suc j) e = get_back zs ys k j (omega (arith, e))
@@ -46,7 +46,7 @@ get_some [] k low = absurd (omega (arith, low))
 get_some (x ∷ xs) zero low = (x, refl)
 get_some (x ∷ xs) (suc k) low = get_some xs k (omega (arith, low))
 
-numbered_at : {X : Type 0} (f : ℕ → X) (n k : ℕ) → k < n → slice_get (numbered f n) k ≡ Some (f k)
+pub numbered_at : {X : Type 0} (f : ℕ → X) (n k : ℕ) → k < n → slice_get (numbered f n) k ≡ Some (f k)
 numbered_at f zero k low = absurd (omega (arith, low))
 numbered_at f (suc n) k low = ⊎_elim
     (λ (less : k < n). get_front (numbered f n) (f n ∷ []) k (f k) (numbered_at f n k less))
@@ -57,23 +57,23 @@ numbered_at f (suc n) k low = ⊎_elim
     (cases_lt k n)
 
 -- the nodes as they open, by number
-disk_at : (G : Type 0) (p : Params) (faults : List ReadFault) (first : ℕ) (images : List Image) (k : ℕ) → k < length images
+pub disk_at : (G : Type 0) (p : Params) (faults : List ReadFault) (first : ℕ) (images : List Image) (k : ℕ) → k < length images
     → (d : DiskState) × (slice_get (each_numbered (opening_disk {G = G} p faults) first images) k ≡ Some (node.Disk d))
 disk_at G p faults first [] k low = absurd (omega (arith, low))
 disk_at G p faults first (m ∷ ms) zero low = (record { params = p; disk = first; image = m; faults = faults_of first faults }, refl)
 disk_at G p faults first (m ∷ ms) (suc k) low = disk_at G p faults (first + 1) ms k (omega (arith, low))
 
 module _ (G : Type 0) (p : Params) (faults : List ReadFault) (images : List Image) (os : List Order) (all : length images ≡ disk_count p) where
-  abbrev cubs : List (AnyNode G)
+  abbrev pub cubs : List (AnyNode G)
   cubs = numbered (opening_cub p) p.cubs
 
-  abbrev disks : List (AnyNode G)
+  abbrev pub disks : List (AnyNode G)
   disks = each_numbered (opening_disk p faults) 0 images
 
-  abbrev others : List (AnyNode G)
+  abbrev pub others : List (AnyNode G)
   others = opening_controller p os ∷ node.Viewers [] ∷ []
 
-  before : length (cubs ++ disks) ≡ p.cubs + disk_count p
+  pub before : length (cubs ++ disks) ≡ p.cubs + disk_count p
   before =
       let one = length-numbered (opening_cub {G = G} p) p.cubs in
       let two = length-each_numbered (opening_disk {G = G} p faults) 0 images in
@@ -95,11 +95,11 @@ module _ (G : Type 0) (p : Params) (faults : List ReadFault) (images : List Imag
   viewers_open = get_back (cubs ++ disks) others 1 (p.cubs + disk_count p + 1) (omega (arith, before))
 
 -- a life without a death goes on
-acts_always : (life : Lifetime) (b : ℕ) → life.death ≡ None → acts life b ≡ true
+pub acts_always : (life : Lifetime) (b : ℕ) → life.death ≡ None → acts life b ≡ true
 unfolding acts
 acts_always life b e = rw e refl
 
-life_kept : {S : Type 0} (step : S → Input Msg → Deed Msg S) (h : History Msg S) (n i : ℕ) → (past noted step h n i).life ≡ h.life n
+pub life_kept : {S : Type 0} (step : S → Input Msg → Deed Msg S) (h : History Msg S) (n i : ℕ) → (past noted step h n i).life ≡ h.life n
 life_kept step h n zero = refl
 life_kept step h n (suc i) = life-at noted step (h.event n i) (past noted step h n i) ∙ life_kept step h n i
 
@@ -116,7 +116,7 @@ alive_at step nodes beats h complete n i inside low none = go (h.event n i) refl
         absurd (cc)
 
 -- the readings of a run are not too large
-read_low : (c : Course) (b r : ℕ) → IsCourse c → b < c.beats → r ≤ time_of c.plan.params b + c.plan.params.skew → r ≤ most_reading
+pub read_low : (c : Course) (b r : ℕ) → IsCourse c → b < c.beats → r ≤ time_of c.plan.params b + c.plan.params.skew → r ≤ most_reading
 unfolding time_of
 read_low c b r course early high =
     let ranges = c.plan.sound.ranges in

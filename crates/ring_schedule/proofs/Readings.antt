@@ -16,16 +16,16 @@ use Rattle.run_facts.proofs.Counts.{count-numbered}
 use Rattle.schedule_laws.specs.Facts.{TickedAt}
 use Rattle.schedule_laws.specs.Histories.{input_of, lives_of}
 
-tick_made : (e : NodeEvent Msg) → is_tick e ≡ true → input_of e ≡ Tick (stamp_at e)
+pub tick_made : (e : NodeEvent Msg) → is_tick e ≡ true → input_of e ≡ Tick (stamp_at e)
 tick_made (Does (Take stamp link m)) t = absurd (cc)
 tick_made (Does (Tick stamp)) t = refl
 tick_made (Dies stamp) t = absurd (cc)
 
 -- a tick at a stamp, by the stamp's beat and its reading
-abbrev tick : Stamp → Input Msg
+abbrev pub tick : Stamp → Input Msg
 tick s = Tick s
 
-stamped : (s : Stamp) (b l : ℕ) → s.beat ≡ b → s.reading ≡ l → tick s ≡ tick (record { beat = b; reading = l })
+pub stamped : (s : Stamp) (b l : ℕ) → s.beat ≡ b → s.reading ≡ l → tick s ≡ tick (record { beat = b; reading = l })
 stamped s b l e f =
     ap (λ (x : ℕ). tick (record { beat = x; reading = s.reading })) e ∙ ap (λ (x : ℕ). tick (record { beat = b; reading = x })) f
 

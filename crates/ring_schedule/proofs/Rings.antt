@@ -56,10 +56,10 @@ use Rattle.ring_schedule.proofs.Controllers.{in_place, order_made, starts_at, be
 use Rattle.ring_schedule.proofs.Controllers as commands
 
 -- a disk sends parts only
-abbrev IsAnswer : Msg → Type 0
+abbrev pub IsAnswer : Msg → Type 0
 IsAnswer m = (want : Want) × (part : Option LibraryPart) × (m ≡ msg.ReadDone want part)
 
-answered : (stamp : Stamp) (n : Msg) (d : DiskState) (link : LinkNo) (m : Msg) → In (out.Send link m) (answers stamp n d).outs → IsAnswer m
+pub answered : (stamp : Stamp) (n : Msg) (d : DiskState) (link : LinkNo) (m : Msg) → In (out.Send link m) (answers stamp n d).outs → IsAnswer m
 answered stamp (msg.ReadAsk want) d link m i = ⊎_elim (λ (e : out.Send link m ≡ out.Send (way_from_disk d.params d.disk) (msg.ReadDone want (read_part d stamp.beat want))).
     let z : m ≡ msg.ReadDone want (read_part d stamp.beat want) = cc in (want, read_part d stamp.beat want, z)) (λ e. absurd e) i
 answered stamp (msg.ViewerState s) d link m i = absurd i
@@ -73,7 +73,7 @@ answered stamp (msg.Placed t) d link m i = absurd i
 answered stamp (msg.Whole want at part) d link m i = absurd i
 answered stamp (msg.Piece want at part) d link m i = absurd i
 
-disk_out : (d : DiskState) (k : Input Msg) (link : LinkNo) (m : Msg) → In (out.Send link m) (disk_step d k).outs → IsAnswer m
+pub disk_out : (d : DiskState) (k : Input Msg) (link : LinkNo) (m : Msg) → In (out.Send link m) (disk_step d k).outs → IsAnswer m
 unfolding asked
 disk_out d (Tick stamp) link m i = absurd i
 disk_out d (Take stamp way n) link m i =
@@ -81,7 +81,7 @@ disk_out d (Take stamp way n) link m i =
     (λ _ k. answered stamp n d link m k) (λ _ k. absurd k) i
 
 -- and it writes nothing
-answered_act : (stamp : Stamp) (n : Msg) (d : DiskState) (w : What) → In (out.Act w) (answers stamp n d).outs → ⊥
+pub answered_act : (stamp : Stamp) (n : Msg) (d : DiskState) (w : What) → In (out.Act w) (answers stamp n d).outs → ⊥
 answered_act stamp (msg.ReadAsk want) d w i = ⊎_elim (λ (e : out.Act w ≡ out.Send (way_from_disk d.params d.disk) (msg.ReadDone want (read_part d stamp.beat want))). absurd (cc)) (λ e. e) i
 answered_act stamp (msg.ViewerState s) d w i = i
 answered_act stamp (msg.Start a redundant) d w i = i
@@ -94,60 +94,60 @@ answered_act stamp (msg.Placed t) d w i = i
 answered_act stamp (msg.Whole want at part) d w i = i
 answered_act stamp (msg.Piece want at part) d w i = i
 
-disk_act : (d : DiskState) (k : Input Msg) (w : What) → In (out.Act w) (disk_step d k).outs → ⊥
+pub disk_act : (d : DiskState) (k : Input Msg) (w : What) → In (out.Act w) (disk_step d k).outs → ⊥
 unfolding asked
 disk_act d (Tick stamp) w i = i
 disk_act d (Take stamp way n) w i =
     chosen (λ (x : Deed Msg DiskState). In (out.Act w) x.outs → ⊥) (is_in_form d.params (noted n)) (answers stamp n d) (nothing d)
     (λ _ k. answered_act stamp n d w k) (λ _ k. k) i
 
-viewers_out : (v : KeptParts) (k : Input Msg) (o : Out Msg) → In o (viewers_step v k).outs → ⊥
+pub viewers_out : (v : KeptParts) (k : Input Msg) (o : Out Msg) → In o (viewers_step v k).outs → ⊥
 viewers_out v (Take stamp link m) o i = i
 viewers_out v (Tick stamp) o i = i
 
 -- a controller with these orders
-abbrev with_known : Params → List Order → Known → ControllerState
+abbrev pub with_known : Params → List Order → Known → ControllerState
 with_known p orders known = record { params = p; orders = orders; known = known }
 
-abbrev IsControllerOf : {G : Type 0} → Params → List Order → AnyNode G → Type 0
+abbrev pub IsControllerOf : {G : Type 0} → Params → List Order → AnyNode G → Type 0
 IsControllerOf {G} p orders s = (known : Known) × (s ≡ node.Controller (with_known p orders known))
 
-controller_next : {G : Type 0} (p : Params) (orders : List Order) (known : Known) (k : Input Msg) → IsControllerOf {G = G} p orders (any_step (node.Controller (with_known p orders known)) k).state
+pub controller_next : {G : Type 0} (p : Params) (orders : List Order) (known : Known) (k : Input Msg) → IsControllerOf {G = G} p orders (any_step (node.Controller (with_known p orders known)) k).state
 controller_next p orders known (Take stamp link m) = (taking p m known, refl)
 controller_next p orders known (Tick stamp) = ((commanding p orders stamp known).state, refl)
 
-ends_low : (p : Params) (l : ℕ) → l < p.cubs → ends_of (links_of p) l ≡ Some (controller_of (links_of p), l)
+pub ends_low : (p : Params) (l : ℕ) → l < p.cubs → ends_of (links_of p) l ≡ Some (controller_of (links_of p), l)
 ends_low p l low = rw (lt-ltb l p.cubs low) refl
 
-second_same : (a b c d : ℕ) → ◌≡◌ {A = Option (ℕ × ℕ)} (Some (a, b)) (Some (c, d)) → b ≡ d
+pub second_same : (a b c d : ℕ) → ◌≡◌ {A = Option (ℕ × ℕ)} (Some (a, b)) (Some (c, d)) → b ≡ d
 second_same a b c d e = ap (λ (o : Option (ℕ × ℕ)). (elim o as (λ _. ℕ) [ Some q ↦ q.1 | None ↦ 0 ])) e
 
-tick_event : (e : NodeEvent Msg) (stamp : Stamp) → is_death e ≡ false → input_of e ≡ Tick stamp → is_tick e ≡ true
+pub tick_event : (e : NodeEvent Msg) (stamp : Stamp) → is_death e ≡ false → input_of e ≡ Tick stamp → is_tick e ≡ true
 tick_event e stamp d t = tick_same e d ∙ ap is_tick_input t
 
 module _ {G : Type 0} (p : Params) (plan : IsPlan p) (orders : List Order) (fine : AreCalmOrders p orders) (h : History Msg (AnyNode G)) (ring : IsLivingRing p orders h) where
-  kept : (P : AnyNode G → Type 0) → ((s : AnyNode G) (k : Input Msg) → P s → P (any_step s k).state) → (n i : ℕ) → n < node_count p → i ≤ h.count n → P (h.first n) → P (past noted any_step h n i).state
+  pub kept : (P : AnyNode G → Type 0) → ((s : AnyNode G) (k : Input Msg) → P s → P (any_step s k).state) → (n i : ℕ) → n < node_count p → i ≤ h.count n → P (h.first n) → P (past noted any_step h n i).state
   kept P step n zero inside low first = first
   kept P step n (suc i) inside low first =
       subst P (sym (after_state any_step (h.event n i) (past noted any_step h n i) (ring.alive n i inside (omega arith))))
       (step (past noted any_step h n i).state (input_of (h.event n i)) (kept P step n i inside (omega arith) first))
 
-  outs_are : (n i : ℕ) → n < node_count p → i < h.count n → outs noted any_step h n i ≡ (any_step (past noted any_step h n i).state (input_of (h.event n i))).outs
+  pub outs_are : (n i : ℕ) → n < node_count p → i < h.count n → outs noted any_step h n i ≡ (any_step (past noted any_step h n i).state (input_of (h.event n i))).outs
   outs_are n i inside low = event_outs any_step (h.event n i) (past noted any_step h n i) (ring.alive n i inside low)
 
-  disk_writes : (n i : ℕ) (w : What) → n < node_count p → p.cubs ≤ n → n < p.cubs + disk_count p → i < h.count n → In (out.Act w) (outs noted any_step h n i) → ⊥
+  pub disk_writes : (n i : ℕ) (w : What) → n < node_count p → p.cubs ≤ n → n < p.cubs + disk_count p → i < h.count n → In (out.Act w) (outs noted any_step h n i) → ⊥
   disk_writes n i w inside from to low k =
       let d = kept (λ s. (d : DiskState) × (s ≡ node.Disk d)) (λ s j w. ((disk_step w.0 j).state, ap (λ (x : AnyNode G). (any_step x j).state) w.1)) n i inside (omega arith) (ring.opens.disks n from to) in
       let e = outs_are n i inside low ∙ ap (λ (x : AnyNode G). (any_step x (input_of (h.event n i))).outs) d.1 in
       disk_act d.0 (input_of (h.event n i)) w (subst (λ (os : List (Out Msg)). In (out.Act w) os) e k)
 
-  disk_sends : (n i : ℕ) (link : LinkNo) (m : Msg) → n < node_count p → p.cubs ≤ n → n < p.cubs + disk_count p → i < h.count n → In (out.Send link m) (outs noted any_step h n i) → IsAnswer m
+  pub disk_sends : (n i : ℕ) (link : LinkNo) (m : Msg) → n < node_count p → p.cubs ≤ n → n < p.cubs + disk_count p → i < h.count n → In (out.Send link m) (outs noted any_step h n i) → IsAnswer m
   disk_sends n i link m inside from to low k =
       let d = kept (λ s. (d : DiskState) × (s ≡ node.Disk d)) (λ s j w. ((disk_step w.0 j).state, ap (λ (x : AnyNode G). (any_step x j).state) w.1)) n i inside (omega arith) (ring.opens.disks n from to) in
       let e = outs_are n i inside low ∙ ap (λ (x : AnyNode G). (any_step x (input_of (h.event n i))).outs) d.1 in
       disk_out d.0 (input_of (h.event n i)) link m (subst (λ (os : List (Out Msg)). In (out.Send link m) os) e k)
 
-  viewers_put_out : (i : ℕ) (o : Out Msg) → i < h.count (p.cubs + disk_count p + 1) → In o (outs noted any_step h (p.cubs + disk_count p + 1) i) → ⊥
+  pub viewers_put_out : (i : ℕ) (o : Out Msg) → i < h.count (p.cubs + disk_count p + 1) → In o (outs noted any_step h (p.cubs + disk_count p + 1) i) → ⊥
   viewers_put_out i o low k =
       let n : ℕ = p.cubs + disk_count p + 1 in
       let inside : n < node_count p = omega arith in
@@ -156,17 +156,17 @@ module _ {G : Type 0} (p : Params) (plan : IsPlan p) (orders : List Order) (fine
       viewers_out d.0 (input_of (h.event n i)) o (subst (λ (os : List (Out Msg)). In o os) e k)
 
   -- the controller's outputs at an event: none at a message, and at a tick those of the beat's orders
-  abbrev ctrl : ℕ
+  abbrev pub ctrl : ℕ
   ctrl = p.cubs + disk_count p
 
-  abbrev Commands : ℕ → Type 0
+  abbrev pub Commands : ℕ → Type 0
   Commands i = (outs noted any_step h ctrl i ≡ []) ⊎ ((stamp : Stamp) × (input_of (h.event ctrl i) ≡ Tick stamp) × (outs noted any_step h ctrl i ≡ flat_map (λ o. order_outs p o.what) (filter (λ o. o.beat == stamp.beat) orders)))
 
-  command_at : (known : Known) (k : Input Msg) → ((any_step {G = G} (node.Controller (with_known p orders known)) k).outs ≡ []) ⊎ ((stamp : Stamp) × (k ≡ Tick stamp) × ((any_step {G = G} (node.Controller (with_known p orders known)) k).outs ≡ flat_map (λ o. order_outs p o.what) (filter (λ o. o.beat == stamp.beat) orders)))
+  pub command_at : (known : Known) (k : Input Msg) → ((any_step {G = G} (node.Controller (with_known p orders known)) k).outs ≡ []) ⊎ ((stamp : Stamp) × (k ≡ Tick stamp) × ((any_step {G = G} (node.Controller (with_known p orders known)) k).outs ≡ flat_map (λ o. order_outs p o.what) (filter (λ o. o.beat == stamp.beat) orders)))
   command_at known (Take stamp link m) = inl refl
   command_at known (Tick stamp) = inr (stamp, refl, commanding_outs p orders stamp known (begun p orders fine))
 
-  commands_at : (i : ℕ) → i < h.count ctrl → Commands i
+  pub commands_at : (i : ℕ) → i < h.count ctrl → Commands i
   commands_at i low =
       let inside : ctrl < node_count p = omega arith in
       let d = kept (IsControllerOf p orders) (λ s j w. subst (λ (x : AnyNode G). IsControllerOf p orders (any_step x j).state) (sym w.1) (controller_next p orders w.0 j)) ctrl i inside (omega arith) (_, ring.opens.controller) in
@@ -174,11 +174,11 @@ module _ {G : Type 0} (p : Params) (plan : IsPlan p) (orders : List Order) (fine
       ⊎_elim (λ q. inl (e ∙ q)) (λ q. inr (q.0, q.1, e ∙ q.2)) (command_at d.0 (input_of (h.event ctrl i)))
 
   -- what the controller puts out at an event is a start of an order of the beat, at a tick
-  record Commanded (i : ℕ) (o : Out Msg) : Type 0 where
+  pub record Commanded (i : ℕ) (o : Out Msg) : Type 0 where
     start : IsStartOf p orders (beat h ctrl i) o
     tick : is_tick (h.event ctrl i) ≡ true
 
-  commanded : (i : ℕ) (o : Out Msg) → i < h.count ctrl → In o (outs noted any_step h ctrl i) → Commanded i o
+  pub commanded : (i : ℕ) (o : Out Msg) → i < h.count ctrl → In o (outs noted any_step h ctrl i) → Commanded i o
   commanded i o low k = ⊎_elim
       (λ q. absurd (subst (λ (os : List (Out Msg)). In o os) q k))
       (λ q.
@@ -191,7 +191,7 @@ module _ {G : Type 0} (p : Params) (plan : IsPlan p) (orders : List Order) (fine
       (commands_at i low)
 
   -- what another node than a cub sends
-  other_out : (n i : ℕ) (link : LinkNo) (m : Msg) → n < node_count p → p.cubs ≤ n → i < h.count n → In (out.Send link m) (outs noted any_step h n i)
+  pub other_out : (n i : ℕ) (link : LinkNo) (m : Msg) → n < node_count p → p.cubs ≤ n → i < h.count n → In (out.Send link m) (outs noted any_step h n i)
       → IsAnswer m ⊎ ((n ≡ ctrl) × (ask : Ask) × (redundant : Bool) × (m ≡ msg.Start ask redundant))
   other_out n i link m inside from low k = ⊎_elim
       (λ (disk : n < ctrl). inl (disk_sends n i link m inside from disk low k))
@@ -208,7 +208,7 @@ module _ {G : Type 0} (p : Params) (plan : IsPlan p) (orders : List Order) (fine
       (cases_lt n ctrl)
 
   -- another node than a cub writes nothing
-  others_write : (n i : ℕ) (w : What) → n < node_count p → p.cubs ≤ n → i < h.count n → In (out.Act w) (outs noted any_step h n i) → ⊥
+  pub others_write : (n i : ℕ) (w : What) → n < node_count p → p.cubs ≤ n → i < h.count n → In (out.Act w) (outs noted any_step h n i) → ⊥
   others_write n i w inside from low k = ⊎_elim
       (λ (disk : n < ctrl). disk_writes n i w inside from disk low k)
       (λ (past : ctrl ≤ n). ⊎_elim
@@ -245,7 +245,7 @@ module _ {G : Type 0} (p : Params) (plan : IsPlan p) (orders : List Order) (fine
   }
 
   -- starts
-  ordered_at : (i : ℕ) (link : LinkNo) (ask : Ask) (redundant : Bool) → i < h.count ctrl → In (out.Send link (msg.Start ask redundant)) (outs noted any_step h ctrl i)
+  pub ordered_at : (i : ℕ) (link : LinkNo) (ask : Ask) (redundant : Bool) → i < h.count ctrl → In (out.Send link (msg.Start ask redundant)) (outs noted any_step h ctrl i)
       → (o : Order) × In o orders × (o.what ≡ Begin ask) × (o.beat ≡ beat h ctrl i) × (link.0 < p.cubs)
   ordered_at i link ask redundant low k =
       let c = (commanded i (out.Send link (msg.Start ask redundant)) low k).start in
@@ -254,11 +254,11 @@ module _ {G : Type 0} (p : Params) (plan : IsPlan p) (orders : List Order) (fine
       let links : link ≡ c.link = cc in
       (c.order, c.there, c.what ∙ ap (λ (a : Ask). Begin a) (sym same), c.beat, subst (λ (x : LinkNo). x.0 < p.cubs) (sym links) c.low)
 
-  from_controller : (n i : ℕ) (link : LinkNo) (ask : Ask) (redundant : Bool) → n < node_count p → p.cubs ≤ n → i < h.count n → In (out.Send link (msg.Start ask redundant)) (outs noted any_step h n i) → n ≡ ctrl
+  pub from_controller : (n i : ℕ) (link : LinkNo) (ask : Ask) (redundant : Bool) → n < node_count p → p.cubs ≤ n → i < h.count n → In (out.Send link (msg.Start ask redundant)) (outs noted any_step h n i) → n ≡ ctrl
   from_controller n i link ask redundant inside from low k = ⊎_elim (λ q. let e = q.2 in absurd (cc)) (λ q. q.0) (other_out n i link (msg.Start ask redundant) inside from low k)
 
   -- on each link a start of an instance stands once
-  apart : (l i v j k : ℕ) → i < h.count ctrl → StartAt (sent noted any_step l h ctrl i) j v → StartAt (sends_of l (beat h ctrl i) (outs noted any_step h ctrl i)) k v → ⊥
+  pub apart : (l i v j k : ℕ) → i < h.count ctrl → StartAt (sent noted any_step l h ctrl i) j v → StartAt (sends_of l (beat h ctrl i) (outs noted any_step h ctrl i)) k v → ⊥
   apart l i v j k low s t =
       let inside : ctrl < node_count p = omega arith in
       let a = sent-numbered noted any_step l h ctrl i j (record { beat = s.beat; item = msg.Start s.ask s.redundant }) s.at in
@@ -276,7 +276,7 @@ module _ {G : Type 0} (p : Params) (plan : IsPlan p) (orders : List Order) (fine
       let more : ticks h ctrl (suc a.at) ≡ ticks h ctrl a.at + 1 = rw tick (omega arith) in
       omega arith
 
-  once_sent : (l i : ℕ) → i ≤ h.count ctrl → IsOnce (sent noted any_step l h ctrl i)
+  pub once_sent : (l i : ℕ) → i ≤ h.count ctrl → IsOnce (sent noted any_step l h ctrl i)
   once_sent l zero low = once_nothing
   once_sent l (suc i) low =
       let done : i < h.count ctrl = omega arith in
@@ -288,7 +288,7 @@ module _ {G : Type 0} (p : Params) (plan : IsPlan p) (orders : List Order) (fine
       (λ v j k s t. apart l i v j k done s t)
 
   -- a start that was sent to a cub was sent by the controller on the cub's link
-  start_link : (n c l k : ℕ) (a : Ask) → n < node_count p → c < p.cubs → IsStartSent any_step p h n c l k a → (n ≡ ctrl) × (l ≡ c)
+  pub start_link : (n c l k : ℕ) (a : Ask) → n < node_count p → c < p.cubs → IsStartSent any_step p h n c l k a → (n ≡ ctrl) × (l ≡ c)
   start_link n c l k a inside small s =
       let x = sent-numbered noted any_step l h n (h.count n) k (record { beat = s.beat; item = msg.Start a s.redundant }) s.sent in
       let r = sends_in l (beat h n x.at) (outs noted any_step h n x.at) (record { beat = s.beat; item = msg.Start a s.redundant }) x.place x.sends in

@@ -51,20 +51,20 @@ use Rattle.ring_schedule.proofs.Openings.{get_some, living_ring}
 use Rattle.ring_schedule.proofs.Rings.{calm_journals, ring_one_schedule}
 
 -- what holds of all elements of a list holds of the one at a place
-all_at : {X : Type 0} (P : X → Type 0) (xs : List X) (k : ℕ) (x : X) → All P xs → slice_get xs k ≡ Some x → P x
+pub all_at : {X : Type 0} (P : X → Type 0) (xs : List X) (k : ℕ) (x : X) → All P xs → slice_get xs k ≡ Some x → P x
 all_at P xs k x all at = subst P (get_or_from_slice_get xs k x x at) (all k x (slice_get_within xs k x at))
 
 -- nobody has a death
-no_death : (b : Bool) (o : Option (Option ℕ)) → ((d : Option ℕ) → o ≡ Some d → d ≡ None) → cond b (option_and_then (λ d. d) o) None ≡ None
+pub no_death : (b : Bool) (o : Option (Option ℕ)) → ((d : Option ℕ) → o ≡ Some d → d ≡ None) → cond b (option_and_then (λ d. d) o) None ≡ None
 no_death false o h = refl
 no_death true None h = refl
 no_death true (Some d) h = h d refl
 
-deathless : (c : Course) (n : ℕ) → All (λ death. death ≡ None) c.deaths → (lifetime_of c n).death ≡ None
+pub deathless : (c : Course) (n : ℕ) → All (λ death. death ≡ None) c.deaths → (lifetime_of c n).death ≡ None
 deathless c n all = no_death (nat_lt n c.plan.params.cubs) (slice_get c.deaths n) (λ d e. all_at (λ death. death ≡ None) c.deaths n d all e)
 
 -- a file has no more blocks than bytes
-few_blocks : (len size : ℕ) → 1 ≤ size → div_ceil len size ≤ len
+pub few_blocks : (len size : ℕ) → 1 ≤ size → div_ceil len size ≤ len
 few_blocks len size sized =
     let bounds = div_ceil_times len size sized in ⊎_elim
     (λ (many : len < div_ceil len size).
@@ -76,12 +76,12 @@ few_blocks len size sized =
     (λ (few : div_ceil len size ≤ len). few)
     (cases_lt len (div_ceil len size))
 
-both_true : (a b : Bool) → a ≡ true → b ≡ true → (a && b) ≡ true
+pub both_true : (a b : Bool) → a ≡ true → b ≡ true → (a && b) ≡ true
 both_true true true e f = refl
 both_true true false e f = f
 both_true false b e f = e
 
-count_fits : (s : Scenario) (library : List (List ℕ)) (c : Catalogue) (file : ℕ) → AreShort library → IsCatalogueOf s library c → file < length s.files
+pub count_fits : (s : Scenario) (library : List (List ℕ)) (c : Catalogue) (file : ℕ) → AreShort library → IsCatalogueOf s library c → file < length s.files
     → (1 ≤ block_count c file) × (block_count c file ≤ most_blocks)
 count_fits s library c file short is low =
     let disks = is.first_disks in
@@ -102,12 +102,12 @@ count_fits s library c file short is low =
     (omega (arith, count, some), omega (arith, count, few, most, len))
 
 -- each order is a start, which has blocks
-record IsFitStart (o : Order) : Type 0 where
+pub record IsFitStart (o : Order) : Type 0 where
   ask : Ask
   what : o.what ≡ kinds.Begin ask
   fits : (1 ≤ ask.count) × (ask.count ≤ most_blocks)
 
-fit_starts : (c : Catalogue) (files n : ℕ) (es : List ScEvent) → ((file : ℕ) → file < files → (1 ≤ block_count c file) × (block_count c file ≤ most_blocks))
+pub fit_starts : (c : Catalogue) (files n : ℕ) (es : List ScEvent) → ((file : ℕ) → file < files → (1 ≤ block_count c file) × (block_count c file ≤ most_blocks))
     → ((j : ℕ) (e : ScEvent) → slice_get es j ≡ Some e → (is_start e ≡ true) × StartsWithin files e) → (k : ℕ) (o : Order) → slice_get (orders_from c n es) k ≡ Some o → IsFitStart o
 fit_starts c files n [] fit given k o e = absurd (none-some o e)
 fit_starts c files n (Begin beat file ∷ es) fit given zero o e =
@@ -116,7 +116,7 @@ fit_starts c files n (Begin beat file ∷ es) fit given zero o e =
 fit_starts c files n (Begin beat file ∷ es) fit given (suc k) o e = fit_starts c files (n + 1) es fit (λ j x q. given (suc j) x q) k o e
 fit_starts c files n (Finish beat v ∷ es) fit given k o e = let no : false ≡ true = (given 0 (Finish beat v) refl).0 in absurd (cc)
 
-calm_orders : (s : Scenario) (library : List (List ℕ)) (c : Catalogue) → IsScenario s → IsCalmScenario s → AreShort library → IsCatalogueOf s library c
+pub calm_orders : (s : Scenario) (library : List (List ℕ)) (c : Catalogue) → IsScenario s → IsCalmScenario s → AreShort library → IsCatalogueOf s library c
     → AreCalmOrders s.course.plan.params (orders_from c 0 s.events)
 calm_orders s library c scenario calm short is =
     let each : (k : ℕ) (o : Order) → slice_get (orders_from c 0 s.events) k ≡ Some o → IsFitStart o =
@@ -138,27 +138,27 @@ calm_orders s library c scenario calm short is =
 
 -- the ring of a run of a calm scenario
 module _ (G : Type 0) (s : Scenario) (library : List (List ℕ)) (k : Kept) (scenario : IsScenario s) (calm : IsCalmScenario s) (short : AreShort library) (run : IsRingRun G s library k) where
-  orders : AreCalmOrders k.course.plan.params k.orders
+  pub orders : AreCalmOrders k.course.plan.params k.orders
   orders = subst (λ (c : Course). AreCalmOrders c.plan.params k.orders) (sym run.course)
       (subst (λ (os : List Order). AreCalmOrders s.course.plan.params os) (sym run.orders) (calm_orders s library k.catalogue scenario calm short run.catalogue))
 
-  course : IsCourse k.course
+  pub course : IsCourse k.course
   course = subst IsCourse (sym run.course) scenario.course
 
-  abbrev given : List (AnyNode G)
+  abbrev pub given : List (AnyNode G)
   given = ring_of G k.course k.catalogue library k.orders
 
-  size : length given ≡ node_count k.course.plan.params
+  pub size : length given ≡ node_count k.course.plan.params
   size =
       let images = images_of k.course.plan.params k.catalogue library in
       let all = length-numbered (image_at k.course.plan.params k.catalogue library) (k.course.plan.params.cubs * k.course.plan.params.disks) in
       opening_count k.course.plan.params k.course.faults images k.orders given all refl
 
-  ring : IsLivingRing k.course.plan.params k.orders run.steps.kept.lived.history
+  pub ring : IsLivingRing k.course.plan.params k.orders run.steps.kept.lived.history
   ring = living_ring G k.course k.catalogue library k.orders run.steps.nodes k.journals course
       (λ n. deathless k.course n (subst (λ (c : Course). All (λ death. death ≡ None) c.deaths) (sym run.course) calm.alive)) run.steps.kept.lived
 
-  journals : AreCalmJournals any_step k.course.plan.params (node_count k.course.plan.params) run.steps.kept.lived.history k.orders k.journals
+  pub journals : AreCalmJournals any_step k.course.plan.params (node_count k.course.plan.params) run.steps.kept.lived.history k.orders k.journals
   journals =
       let whole = size in
       calm_journals k.course.plan.params k.course.plan.sound k.orders orders run.steps.kept.lived.history ring k.journals
@@ -176,7 +176,7 @@ calm_runs_have_one_schedule G s library k scenario calm short run =
     (ring G s library k scenario calm short run)
 
 -- no journal of it says that an instance was stopped
-nothing_stopped : (G : Type 0) (s : Scenario) (library : List (List ℕ)) (k : Kept) → IsScenario s → IsCalmScenario s → AreShort library → IsRingRun G s library k
+pub nothing_stopped : (G : Type 0) (s : Scenario) (library : List (List ℕ)) (k : Kept) → IsScenario s → IsCalmScenario s → AreShort library → IsRingRun G s library k
     → StopNothing k.journals
 nothing_stopped G s library k scenario calm short run =
     none_stopped k.course.plan.params k.course.beats (reading_of k.course (controller_of (links_of k.course.plan.params))) k.orders k.journals

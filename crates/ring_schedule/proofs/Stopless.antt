@@ -13,36 +13,36 @@ use Rattle.node_kit.specs.Links.{links_of, controller_of}
 use Rattle.run_facts.specs.Commanded.{is_gone, is_gone_of, gone_in, gone_before, is_finish_of, stop_ordered, place_known, is_over, StopsNone, AreCommanded}
 use Rattle.ring_schedule.proofs.Controllers.{AreBegun}
 
-both_no : (a b : Bool) → b ≡ false → (a && b) ≡ false
+pub both_no : (a b : Bool) → b ≡ false → (a && b) ≡ false
 both_no true b e = e
 both_no false b e = refl
 
-first_no : (a b : Bool) → a ≡ false → (a && b) ≡ false
+pub first_no : (a b : Bool) → a ≡ false → (a && b) ≡ false
 first_no true b e = absurd (cc)
 first_no false b e = refl
 
-both_yes : (a b : Bool) → a ≡ true → b ≡ true → (a && b) ≡ true
+pub both_yes : (a b : Bool) → a ≡ true → b ≡ true → (a && b) ≡ true
 both_yes true b e f = f
 both_yes false b e f = e
 
-neither : (a b : Bool) → a ≡ false → b ≡ false → (a || b) ≡ false
+pub neither : (a b : Bool) → a ≡ false → b ≡ false → (a || b) ≡ false
 neither true b e f = e
 neither false b e f = f
 
-not_first : (a b : Bool) → a ≡ true → (a || b) ≡ false → ⊥
+pub not_first : (a b : Bool) → a ≡ true → (a || b) ≡ false → ⊥
 not_first true b e f = absurd (cc)
 not_first false b e f = absurd (cc)
 
-not_second : (a b : Bool) → (a || b) ≡ false → b ≡ false
+pub not_second : (a b : Bool) → (a || b) ≡ false → b ≡ false
 not_second true b e = absurd (cc)
 not_second false b e = e
 
-gone_or_not : (w : What) → ((v : Instance) × (w ≡ what.Gone v)) ⊎ (is_gone w ≡ false)
+pub gone_or_not : (w : What) → ((v : Instance) × (w ≡ what.Gone v)) ⊎ (is_gone w ≡ false)
 gone_or_not (what.Gone v) = inl (v, refl)
 gone_or_not other = inr refl
 
 -- a journal in which no instance is Gone in any beat
-none_gone : (journal : List Entry) → ((v b : ℕ) → gone_in journal v b ≡ false) → StopsNone journal
+pub none_gone : (journal : List Entry) → ((v b : ℕ) → gone_in journal v b ≡ false) → StopsNone journal
 unfolding gone_in
 none_gone [] h = refl
 none_gone (e ∷ es) h =
@@ -55,7 +55,7 @@ none_gone (e ∷ es) h =
     (gone_or_not e.what)
 
 -- orders of starts alone order no stop
-none_ordered : (os : List Order) (v b : ℕ) → AreBegun os → stop_ordered os v b ≡ false
+pub none_ordered : (os : List Order) (v b : ℕ) → AreBegun os → stop_ordered os v b ≡ false
 unfolding stop_ordered
 none_ordered [] v b begun = refl
 none_ordered (o ∷ os) v b begun =

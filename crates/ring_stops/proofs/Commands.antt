@@ -54,11 +54,11 @@ abbrev pub IsCommand : Params → List Order → LinkNo → Msg → Type 0
 IsCommand p os link m = IsStartOut p os link m ⊎ IsDeschedule m
 
 -- what goes out with a start
-way_low : (p : Params) (n : ℕ) → IsPlan p → (way_to_cub p (n % p.cubs)).0 < p.cubs
+pub way_low : (p : Params) (n : ℕ) → IsPlan p → (way_to_cub p (n % p.cubs)).0 < p.cubs
 unfolding way_to_cub
 way_low p n plan = mod_below n p.cubs (omega (arith, plan.ranges.cubs))
 
-starts_out : (p : Params) (ask : Ask) (link : LinkNo) (m : Msg) → IsPlan p → In (out.Send link m) (starts p ask) → (redundant : Bool) × (m ≡ msg.Start ask redundant) × (link.0 < p.cubs)
+pub starts_out : (p : Params) (ask : Ask) (link : LinkNo) (m : Msg) → IsPlan p → In (out.Send link m) (starts p ask) → (redundant : Bool) × (m ≡ msg.Start ask redundant) × (link.0 < p.cubs)
 unfolding starts
 starts_out p ask link m plan i = ⊎_elim
     (λ (e : out.Send link m ≡ out.Send (way_to_cub p (ask.disk.0 % p.cubs)) (msg.Start ask false)).
@@ -73,7 +73,7 @@ starts_out p ask link m plan i = ⊎_elim
     i
 
 -- with a stop only deschedules go out
-gone_out : (p : Params) (v : Instance) (tag : Option Tag) (n : ℕ) (known : Known) (link : LinkNo) (m : Msg) → In (out.Send link m) (gone_from p v tag n known).outs → IsDeschedule m
+pub gone_out : (p : Params) (v : Instance) (tag : Option Tag) (n : ℕ) (known : Known) (link : LinkNo) (m : Msg) → In (out.Send link m) (gone_from p v tag n known).outs → IsDeschedule m
 unfolding gone_from
 gone_out p v tag n known link m i = ⊎_elim
     (λ (e : out.Send link m ≡ out.Act (what.Gone v)). absurd (cc))
@@ -86,7 +86,7 @@ gone_out p v tag n known link m i = ⊎_elim
     i)
     i
 
-stops_out : (p : Params) (all : List Order) (r : ℕ) (v : Instance) (t : Option Tenancy) (known : Known) (link : LinkNo) (m : Msg) → In (out.Send link m) (stops p all r v t known).outs → IsDeschedule m
+pub stops_out : (p : Params) (all : List Order) (r : ℕ) (v : Instance) (t : Option Tenancy) (known : Known) (link : LinkNo) (m : Msg) → In (out.Send link m) (stops p all r v t known).outs → IsDeschedule m
 stops_out p all r v (Some t) known link m i =
     let n : ℕ = visit_due p t r in
     let tag : Option Tag = Some (record { slot = t.slot; visit = n }) in
@@ -98,25 +98,25 @@ stops_out p all r v None known link m i = by_start (start_of all v) i
     by_start None k = absurd k
     by_start (Some ask) k = gone_out p v None ask.disk.0 known link m k
 
-stopping_out : (p : Params) (all : List Order) (r : ℕ) (v : Instance) (known : Known) (link : LinkNo) (m : Msg) → In (out.Send link m) (stopping p all r v known).outs → IsDeschedule m
+pub stopping_out : (p : Params) (all : List Order) (r : ℕ) (v : Instance) (known : Known) (link : LinkNo) (m : Msg) → In (out.Send link m) (stopping p all r v known).outs → IsDeschedule m
 unfolding stopping
 stopping_out p all r v known link m i =
     chosen (λ (d : Deed Msg Known). In (out.Send link m) d.outs → IsDeschedule m) (is_gone known.gone v) (nothing known) (stops p all r v (tenancy_of known.placed v) known)
     (λ _ k. absurd k) (λ _ k. stops_out p all r v (tenancy_of known.placed v) known link m k) i
 
 -- what goes out with an order, and with orders one after another
-carries_out : (p : Params) (all os : List Order) (r : ℕ) (o : Order) (w : OrderKind) (known : Known) (link : LinkNo) (m : Msg) → IsPlan p → In o os → o.what ≡ w → In (out.Send link m) (carries p all r w known).outs
+pub carries_out : (p : Params) (all os : List Order) (r : ℕ) (o : Order) (w : OrderKind) (known : Known) (link : LinkNo) (m : Msg) → IsPlan p → In o os → o.what ≡ w → In (out.Send link m) (carries p all r w known).outs
     → IsCommand p os link m
 carries_out p all os r o (Begin ask) known link m plan there e i =
     let s = starts_out p ask link m plan i in
     inl (record { order = o; there = there; ask = ask; what = e; redundant = s.0; is = s.1; low = s.2 })
 carries_out p all os r o (Finish v) known link m plan there e i = inr (stopping_out p all r v known link m i)
 
-carrying_out : (p : Params) (all os : List Order) (r : ℕ) (o : Order) (known : Known) (link : LinkNo) (m : Msg) → IsPlan p → In o os → In (out.Send link m) (carrying p all r o known).outs → IsCommand p os link m
+pub carrying_out : (p : Params) (all os : List Order) (r : ℕ) (o : Order) (known : Known) (link : LinkNo) (m : Msg) → IsPlan p → In o os → In (out.Send link m) (carrying p all r o known).outs → IsCommand p os link m
 unfolding carrying
 carrying_out p all os r o known link m plan there i = carries_out p all os r o o.what known link m plan there refl i
 
-each_out : (p : Params) (all os : List Order) (r : ℕ) (rest : List Order) (known : Known) (link : LinkNo) (m : Msg) → IsPlan p → ((o : Order) → In o rest → In o os)
+pub each_out : (p : Params) (all os : List Order) (r : ℕ) (rest : List Order) (known : Known) (link : LinkNo) (m : Msg) → IsPlan p → ((o : Order) → In o rest → In o os)
     → In (out.Send link m) (each_in_turn (carrying p all r) rest known).outs → IsCommand p os link m
 each_out p all os r [] known link m plan wide i = absurd i
 each_out p all os r (o ∷ rest) known link m plan wide i =
@@ -139,7 +139,7 @@ start_out p os link a x c = ⊎_elim
     c
 
 -- no two starts are of one instance
-distinct_from : (os : List Order) → ((j k : ℕ) (a b : Ask) → Starts os j a → Starts os k b → a.instance.0 ≡ b.instance.0 → j ≡ k) → AreDistinct os
+pub distinct_from : (os : List Order) → ((j k : ℕ) (a b : Ask) → Starts os j a → Starts os k b → a.instance.0 ≡ b.instance.0 → j ≡ k) → AreDistinct os
 distinct_from [] once = tt
 distinct_from (o ∷ os) once = (
   (λ q a b i e f same.
@@ -149,7 +149,7 @@ distinct_from (o ∷ os) once = (
   distinct_from os (λ j k a b s t same. let z = once (suc j) (suc k) a b (s.0, s.1) (t.0, t.1) same in omega arith),
 )
 
-distinct_filter : (test : Order → Bool) (os : List Order) → AreDistinct os → AreDistinct (filter test os)
+pub distinct_filter : (test : Order → Bool) (os : List Order) → AreDistinct os → AreDistinct (filter test os)
 distinct_filter test [] d = tt
 distinct_filter test (o ∷ os) d =
     chosen AreDistinct (test o) (o ∷ filter test os) (filter test os)
@@ -163,7 +163,7 @@ one_order p os o q a b fine i j e f same =
     let z : Some o ≡ Some q = sym x.1 ∙ ap (λ n. slice_get os n) k ∙ y.1 in cc
 
 -- on one link a start goes out once
-sends_both : (l b : ℕ) (xs ys : List (Out Msg)) → sends_of l b (xs ++ ys) ≡ sends_of l b xs ++ sends_of l b ys
+pub sends_both : (l b : ℕ) (xs ys : List (Out Msg)) → sends_of l b (xs ++ ys) ≡ sends_of l b xs ++ sends_of l b ys
 sends_both l b [] ys = refl
 sends_both l b (out.Act w ∷ xs) ys = sends_both l b xs ys
 sends_both l b (out.Send link m ∷ xs) ys = ⊎_elim
@@ -171,18 +171,18 @@ sends_both l b (out.Send link m ∷ xs) ys = ⊎_elim
     (λ (t : (link.0 == l) ≡ false). rw t (sends_both l b xs ys))
     (cases_Bool (link.0 == l))
 
-once_single : (d : Dated Msg) → IsOnce (d ∷ [])
+pub once_single : (d : Dated Msg) → IsOnce (d ∷ [])
 once_single d v j k s t = let a = zero_only d j v s in let b = zero_only d k v t in omega arith
   where
     zero_only : (d : Dated Msg) (j v : ℕ) → StartAt (d ∷ []) j v → j ≡ 0
     zero_only d zero v s = refl
     zero_only d (suc j) v s = absurd (none-some (record { beat = s.beat; item = msg.Start s.ask s.redundant }) s.at)
 
-ways_apart : (p : Params) (n : ℕ) → IsPlan p → n % p.cubs ≡ (n + 1) % p.cubs → ⊥
+pub ways_apart : (p : Params) (n : ℕ) → IsPlan p → n % p.cubs ≡ (n + 1) % p.cubs → ⊥
 unfolding cub_of
 ways_apart p n plan e = let seven = seven_cubs p plan in cub_apart p n 1 (omega arith) (omega arith) e
 
-starts_once : (p : Params) (ask : Ask) (l b : ℕ) → IsPlan p → IsOnce (sends_of l b (starts p ask))
+pub starts_once : (p : Params) (ask : Ask) (l b : ℕ) → IsPlan p → IsOnce (sends_of l b (starts p ask))
 unfolding starts way_to_cub
 starts_once p ask l b plan = ⊎_elim
     (λ (t : (ask.disk.0 % p.cubs == l) ≡ true). ⊎_elim
@@ -195,18 +195,18 @@ starts_once p ask l b plan = ⊎_elim
     (cases_Bool ((ask.disk.0 + 1) % p.cubs == l)))
     (cases_Bool (ask.disk.0 % p.cubs == l))
 
-carries_once : (p : Params) (all : List Order) (r : ℕ) (w : OrderKind) (known : Known) (l b : ℕ) → IsPlan p → IsOnce (sends_of l b (carries p all r w known).outs)
+pub carries_once : (p : Params) (all : List Order) (r : ℕ) (w : OrderKind) (known : Known) (l b : ℕ) → IsPlan p → IsOnce (sends_of l b (carries p all r w known).outs)
 carries_once p all r (Begin ask) known l b plan = starts_once p ask l b plan
 carries_once p all r (Finish v) known l b plan = λ w j k s t.
     let x = start_sent l b (stopping p all r v known).outs j w s in
     let d = stopping_out p all r v known x.0 (msg.Start x.1 x.2) x.3 in
     let e = d.2 in absurd (cc)
 
-carrying_once : (p : Params) (all : List Order) (r : ℕ) (o : Order) (known : Known) (l b : ℕ) → IsPlan p → IsOnce (sends_of l b (carrying p all r o known).outs)
+pub carrying_once : (p : Params) (all : List Order) (r : ℕ) (o : Order) (known : Known) (l b : ℕ) → IsPlan p → IsOnce (sends_of l b (carrying p all r o known).outs)
 unfolding carrying
 carrying_once p all r o known l b plan = carries_once p all r o.what known l b plan
 
-each_once : (p : Params) (all : List Order) (r : ℕ) (os : List Order) (known : Known) (l b : ℕ) → IsPlan p → AreDistinct os → IsOnce (sends_of l b (each_in_turn (carrying p all r) os known).outs)
+pub each_once : (p : Params) (all : List Order) (r : ℕ) (os : List Order) (known : Known) (l b : ℕ) → IsPlan p → AreDistinct os → IsOnce (sends_of l b (each_in_turn (carrying p all r) os known).outs)
 each_once p all r [] known l b plan distinct = once_nothing
 each_once p all r (o ∷ os) known l b plan distinct =
     let first : List (Out Msg) = (carrying p all r o known).outs in

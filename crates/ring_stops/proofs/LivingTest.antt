@@ -6,7 +6,7 @@ use Rattle.std.proofs.lemmas.List.Sums.{AllPass-from_list_all, list_all-from_All
 use Rattle.scenario_read.specs.declared.scenario.Scenario.{Scenario}
 use Rattle.ring_stops.specs.Scenarios.{IsLivingScenario}
 
-no_some : {X : Type 0} (o : Option X) → not (is_some o) ≡ true → o ≡ None
+pub no_some : {X : Type 0} (o : Option X) → not (is_some o) ≡ true → o ≡ None
 no_some None e = refl
 no_some (Some x) e = absurd (cc)
 

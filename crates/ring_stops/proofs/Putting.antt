@@ -30,11 +30,11 @@ use Rattle.schedule_laws.proofs.Members.{chosen, in_cases}
 use Rattle.stops_ways.specs.Controllers.{command}
 
 -- a deed puts somebody in a slot
-abbrev Puts : {S : Type 0} → Tenancy → Deed Msg S → Type 0
+abbrev pub Puts : {S : Type 0} → Tenancy → Deed Msg S → Type 0
 Puts t d = In (out.Act (what.Put t)) d.outs
 
 -- a disk answers only
-answered_put : (stamp : Stamp) (n : Msg) (d : DiskState) (t : Tenancy) → Puts t (answers stamp n d) → ⊥
+pub answered_put : (stamp : Stamp) (n : Msg) (d : DiskState) (t : Tenancy) → Puts t (answers stamp n d) → ⊥
 answered_put stamp (msg.ReadAsk want) d t i =
     ⊎_elim (λ (e : out.Act (what.Put t) ≡ out.Send (way_from_disk d.params d.disk) (msg.ReadDone want (read_part d stamp.beat want))). absurd (cc)) (λ e. e) i
 answered_put stamp (msg.ViewerState s) d t i = i
@@ -56,7 +56,7 @@ disk_put d (Take stamp way n) t i =
     (λ _ k. answered_put stamp n d t k) (λ _ k. k) i
 
 -- a controller sends starts
-starts_put : (p : Params) (ask : Ask) (t : Tenancy) → In (out.Act (what.Put t)) (starts p ask) → ⊥
+pub starts_put : (p : Params) (ask : Ask) (t : Tenancy) → In (out.Act (what.Put t)) (starts p ask) → ⊥
 unfolding starts
 starts_put p ask t i = ⊎_elim
     (λ (e : out.Act (what.Put t) ≡ out.Send (way_to_cub p (ask.disk.0 % p.cubs)) (msg.Start ask false)). absurd (cc))
@@ -67,7 +67,7 @@ starts_put p ask t i = ⊎_elim
     i
 
 -- and writes that instances are gone
-gone_put : (p : Params) (v : Instance) (tag : Option Tag) (n : ℕ) (known : Known) (t : Tenancy) → Puts t (gone_from p v tag n known) → ⊥
+pub gone_put : (p : Params) (v : Instance) (tag : Option Tag) (n : ℕ) (known : Known) (t : Tenancy) → Puts t (gone_from p v tag n known) → ⊥
 unfolding gone_from
 gone_put p v tag n known t i = ⊎_elim
     (λ (e : out.Act (what.Put t) ≡ out.Act (what.Gone v)). absurd (cc))
@@ -80,7 +80,7 @@ gone_put p v tag n known t i = ⊎_elim
     i)
     i
 
-stops_put : (p : Params) (all : List Order) (r : ℕ) (v : Instance) (had : Option Tenancy) (known : Known) (t : Tenancy) → Puts t (stops p all r v had known) → ⊥
+pub stops_put : (p : Params) (all : List Order) (r : ℕ) (v : Instance) (had : Option Tenancy) (known : Known) (t : Tenancy) → Puts t (stops p all r v had known) → ⊥
 stops_put p all r v (Some u) known t i =
     let n : ℕ = visit_due p u r in
     let tag : Option Tag = Some (record { slot = u.slot; visit = n }) in
@@ -92,22 +92,22 @@ stops_put p all r v None known t i = by_start (start_of all v) i
     by_start None k = k
     by_start (Some ask) k = gone_put p v None ask.disk.0 known t k
 
-stopping_put : (p : Params) (all : List Order) (r : ℕ) (v : Instance) (known : Known) (t : Tenancy) → Puts t (stopping p all r v known) → ⊥
+pub stopping_put : (p : Params) (all : List Order) (r : ℕ) (v : Instance) (known : Known) (t : Tenancy) → Puts t (stopping p all r v known) → ⊥
 unfolding stopping
 stopping_put p all r v known t i =
     chosen (λ (d : Deed Msg Known). Puts t d → ⊥) (is_gone known.gone v) (nothing known) (stops p all r v (tenancy_of known.placed v) known)
     (λ _ k. k) (λ _ k. stops_put p all r v (tenancy_of known.placed v) known t k) i
 
 -- with an order, with orders one after another, and at any input
-carries_put : (p : Params) (all : List Order) (r : ℕ) (w : OrderKind) (known : Known) (t : Tenancy) → Puts t (carries p all r w known) → ⊥
+pub carries_put : (p : Params) (all : List Order) (r : ℕ) (w : OrderKind) (known : Known) (t : Tenancy) → Puts t (carries p all r w known) → ⊥
 carries_put p all r (Begin ask) known t i = starts_put p ask t i
 carries_put p all r (Finish v) known t i = stopping_put p all r v known t i
 
-carrying_put : (p : Params) (all : List Order) (r : ℕ) (o : Order) (known : Known) (t : Tenancy) → Puts t (carrying p all r o known) → ⊥
+pub carrying_put : (p : Params) (all : List Order) (r : ℕ) (o : Order) (known : Known) (t : Tenancy) → Puts t (carrying p all r o known) → ⊥
 unfolding carrying
 carrying_put p all r o known t i = carries_put p all r o.what known t i
 
-each_put : (p : Params) (all : List Order) (r : ℕ) (rest : List Order) (known : Known) (t : Tenancy) → Puts t (each_in_turn (carrying p all r) rest known) → ⊥
+pub each_put : (p : Params) (all : List Order) (r : ℕ) (rest : List Order) (known : Known) (t : Tenancy) → Puts t (each_in_turn (carrying p all r) rest known) → ⊥
 each_put p all r [] known t i = i
 each_put p all r (o ∷ rest) known t i =
     ⊎_elim
@@ -115,7 +115,7 @@ each_put p all r (o ∷ rest) known t i =
     (λ k. each_put p all r rest (carrying p all r o known).state t k)
     (in_cases (out.Act (what.Put t)) (carrying p all r o known).outs (each_in_turn (carrying p all r) rest (carrying p all r o known).state).outs i)
 
-commanding_put : (p : Params) (os : List Order) (stamp : Stamp) (known : Known) (t : Tenancy) → Puts t (commanding p os stamp known) → ⊥
+pub commanding_put : (p : Params) (os : List Order) (stamp : Stamp) (known : Known) (t : Tenancy) → Puts t (commanding p os stamp known) → ⊥
 unfolding commanding
 commanding_put p os stamp known t i = each_put p os stamp.reading (orders_in stamp.beat os) known t i
 

@@ -56,10 +56,10 @@ use Rattle.ring_stops.proofs.Commands.{IsCommand, commanding_out, start_out, one
 use Rattle.ring_stops.proofs.Putting.{disk_put, command_put}
 
 -- a disk sends parts only
-abbrev IsAnswer : Msg → Type 0
+abbrev pub IsAnswer : Msg → Type 0
 IsAnswer m = (want : Want) × (part : Option LibraryPart) × (m ≡ msg.ReadDone want part)
 
-answered : (stamp : Stamp) (n : Msg) (d : DiskState) (link : LinkNo) (m : Msg) → In (out.Send link m) (answers stamp n d).outs → IsAnswer m
+pub answered : (stamp : Stamp) (n : Msg) (d : DiskState) (link : LinkNo) (m : Msg) → In (out.Send link m) (answers stamp n d).outs → IsAnswer m
 answered stamp (msg.ReadAsk want) d link m i = ⊎_elim (λ (e : out.Send link m ≡ out.Send (way_from_disk d.params d.disk) (msg.ReadDone want (read_part d stamp.beat want))).
     let z : m ≡ msg.ReadDone want (read_part d stamp.beat want) = cc in (want, read_part d stamp.beat want, z)) (λ e. absurd e) i
 answered stamp (msg.ViewerState s) d link m i = absurd i
@@ -73,59 +73,59 @@ answered stamp (msg.Placed t) d link m i = absurd i
 answered stamp (msg.Whole want at part) d link m i = absurd i
 answered stamp (msg.Piece want at part) d link m i = absurd i
 
-disk_out : (d : DiskState) (k : Input Msg) (link : LinkNo) (m : Msg) → In (out.Send link m) (disk_step d k).outs → IsAnswer m
+pub disk_out : (d : DiskState) (k : Input Msg) (link : LinkNo) (m : Msg) → In (out.Send link m) (disk_step d k).outs → IsAnswer m
 unfolding asked
 disk_out d (Tick stamp) link m i = absurd i
 disk_out d (Take stamp way n) link m i =
     chosen (λ (x : Deed Msg DiskState). In (out.Send link m) x.outs → IsAnswer m) (is_in_form d.params (noted n)) (answers stamp n d) (nothing d)
     (λ _ k. answered stamp n d link m k) (λ _ k. absurd k) i
 
-viewers_out : (v : KeptParts) (k : Input Msg) (o : Out Msg) → In o (viewers_step v k).outs → ⊥
+pub viewers_out : (v : KeptParts) (k : Input Msg) (o : Out Msg) → In o (viewers_step v k).outs → ⊥
 viewers_out v (Take stamp link m) o i = i
 viewers_out v (Tick stamp) o i = i
 
 -- a controller with these orders does what the life of a controller says
-abbrev with_known : Params → List Order → Known → ControllerState
+abbrev pub with_known : Params → List Order → Known → ControllerState
 with_known p orders known = record { params = p; orders = orders; known = known }
 
-controller_next : {G : Type 0} (p : Params) (orders : List Order) (known : Known) (k : Input Msg)
+pub controller_next : {G : Type 0} (p : Params) (orders : List Order) (known : Known) (k : Input Msg)
     → (any_step {G = G} (node.Controller (with_known p orders known)) k).state ≡ node.Controller (with_known p orders (control.command p orders k known).state)
 controller_next p orders known (Take stamp link m) = refl
 controller_next p orders known (Tick stamp) = refl
 
-controller_outs : (G : Type 0) (p : Params) (orders : List Order) (known : Known) (k : Input Msg) → (any_step {G = G} (node.Controller (with_known p orders known)) k).outs ≡ (control.command p orders k known).outs
+pub controller_outs : (G : Type 0) (p : Params) (orders : List Order) (known : Known) (k : Input Msg) → (any_step {G = G} (node.Controller (with_known p orders known)) k).outs ≡ (control.command p orders k known).outs
 controller_outs G p orders known (Take stamp link m) = refl
 controller_outs G p orders known (Tick stamp) = refl
 
-ends_low : (p : Params) (l : ℕ) → l < p.cubs → ends_of (links_of p) l ≡ Some (controller_of (links_of p), l)
+pub ends_low : (p : Params) (l : ℕ) → l < p.cubs → ends_of (links_of p) l ≡ Some (controller_of (links_of p), l)
 ends_low p l low = rw (lt-ltb l p.cubs low) refl
 
-second_same : (a b c d : ℕ) → ◌≡◌ {A = Option (ℕ × ℕ)} (Some (a, b)) (Some (c, d)) → b ≡ d
+pub second_same : (a b c d : ℕ) → ◌≡◌ {A = Option (ℕ × ℕ)} (Some (a, b)) (Some (c, d)) → b ≡ d
 second_same a b c d e = ap (λ (o : Option (ℕ × ℕ)). (elim o as (λ _. ℕ) [ Some q ↦ q.1 | None ↦ 0 ])) e
 
-tick_event : (e : NodeEvent Msg) (stamp : Stamp) → is_death e ≡ false → input_of e ≡ Tick stamp → is_tick e ≡ true
+pub tick_event : (e : NodeEvent Msg) (stamp : Stamp) → is_death e ≡ false → input_of e ≡ Tick stamp → is_tick e ≡ true
 tick_event e stamp d t = tick_same e d ∙ ap is_tick_input t
 
-same_beat : (o q : Order) (b c : ℕ) → o ≡ q → o.beat ≡ b → q.beat ≡ c → b ≡ c
+pub same_beat : (o q : Order) (b c : ℕ) → o ≡ q → o.beat ≡ b → q.beat ≡ c → b ≡ c
 same_beat o q b c e f g = sym f ∙ ap (λ (x : Order). x.beat) e ∙ g
 
 module _ {G : Type 0} (p : Params) (plan : IsPlan p) (orders : List Order) (fine : AreCountedOrders p orders) (h : History Msg (AnyNode G)) (ring : IsLivingRing p orders h) where
-  kept : (P : AnyNode G → Type 0) → ((s : AnyNode G) (k : Input Msg) → P s → P (any_step s k).state) → (n i : ℕ) → n < node_count p → i ≤ h.count n → P (h.first n) → P (past noted any_step h n i).state
+  pub kept : (P : AnyNode G → Type 0) → ((s : AnyNode G) (k : Input Msg) → P s → P (any_step s k).state) → (n i : ℕ) → n < node_count p → i ≤ h.count n → P (h.first n) → P (past noted any_step h n i).state
   kept P step n zero inside low first = first
   kept P step n (suc i) inside low first =
       subst P (sym (after_state any_step (h.event n i) (past noted any_step h n i) (ring.alive n i inside (omega arith))))
       (step (past noted any_step h n i).state (input_of (h.event n i)) (kept P step n i inside (omega arith) first))
 
-  outs_are : (n i : ℕ) → n < node_count p → i < h.count n → outs noted any_step h n i ≡ (any_step (past noted any_step h n i).state (input_of (h.event n i))).outs
+  pub outs_are : (n i : ℕ) → n < node_count p → i < h.count n → outs noted any_step h n i ≡ (any_step (past noted any_step h n i).state (input_of (h.event n i))).outs
   outs_are n i inside low = event_outs any_step (h.event n i) (past noted any_step h n i) (ring.alive n i inside low)
 
-  disk_sends : (n i : ℕ) (link : LinkNo) (m : Msg) → n < node_count p → p.cubs ≤ n → n < p.cubs + disk_count p → i < h.count n → In (out.Send link m) (outs noted any_step h n i) → IsAnswer m
+  pub disk_sends : (n i : ℕ) (link : LinkNo) (m : Msg) → n < node_count p → p.cubs ≤ n → n < p.cubs + disk_count p → i < h.count n → In (out.Send link m) (outs noted any_step h n i) → IsAnswer m
   disk_sends n i link m inside from to low k =
       let d = kept (λ s. (d : DiskState) × (s ≡ node.Disk d)) (λ s j w. ((disk_step w.0 j).state, ap (λ (x : AnyNode G). (any_step x j).state) w.1)) n i inside (omega arith) (ring.opens.disks n from to) in
       let e = outs_are n i inside low ∙ ap (λ (x : AnyNode G). (any_step x (input_of (h.event n i))).outs) d.1 in
       disk_out d.0 (input_of (h.event n i)) link m (subst (λ (os : List (Out Msg)). In (out.Send link m) os) e k)
 
-  viewers_put_out : (i : ℕ) (o : Out Msg) → i < h.count (p.cubs + disk_count p + 1) → In o (outs noted any_step h (p.cubs + disk_count p + 1) i) → ⊥
+  pub viewers_put_out : (i : ℕ) (o : Out Msg) → i < h.count (p.cubs + disk_count p + 1) → In o (outs noted any_step h (p.cubs + disk_count p + 1) i) → ⊥
   viewers_put_out i o low k =
       let n : ℕ = p.cubs + disk_count p + 1 in
       let inside : n < node_count p = omega arith in
@@ -134,13 +134,13 @@ module _ {G : Type 0} (p : Params) (plan : IsPlan p) (orders : List Order) (fine
       viewers_out d.0 (input_of (h.event n i)) o (subst (λ (os : List (Out Msg)). In o os) e k)
 
   -- the controller knows and puts out what its life says
-  abbrev ctrl : ℕ
+  abbrev pub ctrl : ℕ
   ctrl = p.cubs + disk_count p
 
-  abbrev inputs : ℕ → Input Msg
+  abbrev pub inputs : ℕ → Input Msg
   inputs = (lives_of h).input (p.cubs + disk_count p)
 
-  known_there : (i : ℕ) → i ≤ h.count ctrl → (past noted any_step h ctrl i).state ≡ node.Controller (with_known p orders (control.known_at p orders inputs i))
+  pub known_there : (i : ℕ) → i ≤ h.count ctrl → (past noted any_step h ctrl i).state ≡ node.Controller (with_known p orders (control.known_at p orders inputs i))
   known_there zero low = ring.opens.controller
   known_there (suc i) low =
       let inside : ctrl < node_count p = omega arith in
@@ -148,7 +148,7 @@ module _ {G : Type 0} (p : Params) (plan : IsPlan p) (orders : List Order) (fine
       ∙ ap (λ (s : AnyNode G). (any_step s (inputs i)).state) (known_there i (omega arith))
       ∙ controller_next p orders (control.known_at p orders inputs i) (inputs i)
 
-  commands : (i : ℕ) → i < h.count ctrl → outs noted any_step h ctrl i ≡ control.commands_at p orders inputs i
+  pub commands : (i : ℕ) → i < h.count ctrl → outs noted any_step h ctrl i ≡ control.commands_at p orders inputs i
   commands i low =
       let inside : ctrl < node_count p = omega arith in
       outs_are ctrl i inside low
@@ -156,16 +156,16 @@ module _ {G : Type 0} (p : Params) (plan : IsPlan p) (orders : List Order) (fine
       ∙ controller_outs G p orders (control.known_at p orders inputs i) (inputs i)
 
   -- what it sends at an event is a start of an order of the beat, or a deschedule, and the event is a tick
-  record Commanded (i : ℕ) (link : LinkNo) (m : Msg) : Type 0 where
+  pub record Commanded (i : ℕ) (link : LinkNo) (m : Msg) : Type 0 where
     is : IsCommand p (filter (λ o. o.beat == beat h ctrl i) orders) link m
     tick : is_tick (h.event ctrl i) ≡ true
 
-  command_sent : (k : Input Msg) (known : Known) (link : LinkNo) (m : Msg) → In (out.Send link m) (control.command p orders k known).outs
+  pub command_sent : (k : Input Msg) (known : Known) (link : LinkNo) (m : Msg) → In (out.Send link m) (control.command p orders k known).outs
       → (stamp : Stamp) × (k ≡ Tick stamp) × IsCommand p (filter (λ o. o.beat == stamp.beat) orders) link m
   command_sent (Take stamp way n) known link m i = absurd i
   command_sent (Tick stamp) known link m i = (stamp, refl, commanding_out p orders stamp known link m plan i)
 
-  commanded : (i : ℕ) (link : LinkNo) (m : Msg) → i < h.count ctrl → In (out.Send link m) (outs noted any_step h ctrl i) → Commanded i link m
+  pub commanded : (i : ℕ) (link : LinkNo) (m : Msg) → i < h.count ctrl → In (out.Send link m) (outs noted any_step h ctrl i) → Commanded i link m
   commanded i link m low k =
       let inside : ctrl < node_count p = omega arith in
       let q = command_sent (inputs i) (control.known_at p orders inputs i) link m (subst (λ (os : List (Out Msg)). In (out.Send link m) os) (commands i low) k) in
@@ -176,7 +176,7 @@ module _ {G : Type 0} (p : Params) (plan : IsPlan p) (orders : List Order) (fine
       }
 
   -- what another node than a cub sends: the controller its commands, and any other parts
-  other_out : (n i : ℕ) (link : LinkNo) (m : Msg) → n < node_count p → p.cubs ≤ n → i < h.count n → In (out.Send link m) (outs noted any_step h n i)
+  pub other_out : (n i : ℕ) (link : LinkNo) (m : Msg) → n < node_count p → p.cubs ≤ n → i < h.count n → In (out.Send link m) (outs noted any_step h n i)
       → IsAnswer m ⊎ ((n ≡ ctrl) × IsCommand p (filter (λ o. o.beat == beat h ctrl i) orders) link m)
   other_out n i link m inside from low k = ⊎_elim
       (λ (disk : n < ctrl). inl (disk_sends n i link m inside from disk low k))
@@ -190,7 +190,7 @@ module _ {G : Type 0} (p : Params) (plan : IsPlan p) (orders : List Order) (fine
       (cases_lt n ctrl)
 
   -- another node than a cub puts nothing
-  others_put : (n i : ℕ) (t : Tenancy) → n < node_count p → p.cubs ≤ n → i < h.count n → In (out.Act (what.Put t)) (outs noted any_step h n i) → ⊥
+  pub others_put : (n i : ℕ) (t : Tenancy) → n < node_count p → p.cubs ≤ n → i < h.count n → In (out.Act (what.Put t)) (outs noted any_step h n i) → ⊥
   others_put n i t inside from low k = ⊎_elim
       (λ (disk : n < ctrl).
       let d = kept (λ s. (d : DiskState) × (s ≡ node.Disk d)) (λ s j w. ((disk_step w.0 j).state, ap (λ (x : AnyNode G). (any_step x j).state) w.1)) n i inside (omega arith) (ring.opens.disks n from disk) in
@@ -207,7 +207,7 @@ module _ {G : Type 0} (p : Params) (plan : IsPlan p) (orders : List Order) (fine
       (eq-or-lt_of_le past))
       (cases_lt n ctrl)
 
-  living_history : IsLivingHistory any_step p (node_count p) h
+  pub living_history : IsLivingHistory any_step p (node_count p) h
   living_history = record {
     run = ring.run;
     all_cubs = omega arith;
@@ -220,7 +220,7 @@ module _ {G : Type 0} (p : Params) (plan : IsPlan p) (orders : List Order) (fine
         (other_out n i link (msg.ViewerState s) inside from low k);
   }
 
-  commanded_history : IsCommandedHistory any_step p (node_count p) h orders
+  pub commanded_history : IsCommandedHistory any_step p (node_count p) h orders
   commanded_history = record {
     living = living_history;
     given = fine.given;
@@ -233,18 +233,18 @@ module _ {G : Type 0} (p : Params) (plan : IsPlan p) (orders : List Order) (fine
   }
 
   -- starts
-  ordered_at : (i : ℕ) (link : LinkNo) (ask : Ask) (redundant : Bool) → i < h.count ctrl → In (out.Send link (msg.Start ask redundant)) (outs noted any_step h ctrl i)
+  pub ordered_at : (i : ℕ) (link : LinkNo) (ask : Ask) (redundant : Bool) → i < h.count ctrl → In (out.Send link (msg.Start ask redundant)) (outs noted any_step h ctrl i)
       → (o : Order) × In o orders × (o.what ≡ Begin ask) × (o.beat ≡ beat h ctrl i) × (link.0 < p.cubs)
   ordered_at i link ask redundant low k =
       let c = start_out p (filter (λ o. o.beat == beat h ctrl i) orders) link ask redundant (commanded i link (msg.Start ask redundant) low k).is in
       let f = from_filter (λ (o : Order). o.beat == beat h ctrl i) c.0 orders c.1 in
       (c.0, f.0, c.2, eqb-true _ _ f.1, c.3)
 
-  from_controller : (n i : ℕ) (link : LinkNo) (ask : Ask) (redundant : Bool) → n < node_count p → p.cubs ≤ n → i < h.count n → In (out.Send link (msg.Start ask redundant)) (outs noted any_step h n i) → n ≡ ctrl
+  pub from_controller : (n i : ℕ) (link : LinkNo) (ask : Ask) (redundant : Bool) → n < node_count p → p.cubs ≤ n → i < h.count n → In (out.Send link (msg.Start ask redundant)) (outs noted any_step h n i) → n ≡ ctrl
   from_controller n i link ask redundant inside from low k = ⊎_elim (λ q. let e = q.2 in absurd (cc)) (λ q. q.0) (other_out n i link (msg.Start ask redundant) inside from low k)
 
   -- on each link a start of an instance stands once
-  apart : (l i v j k : ℕ) → i < h.count ctrl → StartAt (sent noted any_step l h ctrl i) j v → StartAt (sends_of l (beat h ctrl i) (outs noted any_step h ctrl i)) k v → ⊥
+  pub apart : (l i v j k : ℕ) → i < h.count ctrl → StartAt (sent noted any_step l h ctrl i) j v → StartAt (sends_of l (beat h ctrl i) (outs noted any_step h ctrl i)) k v → ⊥
   apart l i v j k low s t =
       let inside : ctrl < node_count p = omega arith in
       let a = sent-numbered noted any_step l h ctrl i j (record { beat = s.beat; item = msg.Start s.ask s.redundant }) s.at in
@@ -262,11 +262,11 @@ module _ {G : Type 0} (p : Params) (plan : IsPlan p) (orders : List Order) (fine
       let more : ticks h ctrl (suc a.at) ≡ ticks h ctrl a.at + 1 = rw tick (omega arith) in
       omega arith
 
-  command_once : (k : Input Msg) (known : Known) (l b : ℕ) → IsOnce (sends_of l b (control.command p orders k known).outs)
+  pub command_once : (k : Input Msg) (known : Known) (l b : ℕ) → IsOnce (sends_of l b (control.command p orders k known).outs)
   command_once (Take stamp link m) known l b = once_nothing
   command_once (Tick stamp) known l b = commanding_once p orders stamp known l b plan fine
 
-  once_sent : (l i : ℕ) → i ≤ h.count ctrl → IsOnce (sent noted any_step l h ctrl i)
+  pub once_sent : (l i : ℕ) → i ≤ h.count ctrl → IsOnce (sent noted any_step l h ctrl i)
   once_sent l zero low = once_nothing
   once_sent l (suc i) low =
       let done : i < h.count ctrl = omega arith in
@@ -275,7 +275,7 @@ module _ {G : Type 0} (p : Params) (plan : IsPlan p) (orders : List Order) (fine
       (λ v j k s t. apart l i v j k done s t)
 
   -- a start that was sent to a cub was sent by the controller on the cub's link
-  start_link : (n c l k : ℕ) (a : Ask) → n < node_count p → c < p.cubs → IsStartSent any_step p h n c l k a → (n ≡ ctrl) × (l ≡ c)
+  pub start_link : (n c l k : ℕ) (a : Ask) → n < node_count p → c < p.cubs → IsStartSent any_step p h n c l k a → (n ≡ ctrl) × (l ≡ c)
   start_link n c l k a inside small s =
       let x = sent-numbered noted any_step l h n (h.count n) k (record { beat = s.beat; item = msg.Start a s.redundant }) s.sent in
       let r = sends_in l (beat h n x.at) (outs noted any_step h n x.at) (record { beat = s.beat; item = msg.Start a s.redundant }) x.place x.sends in
@@ -285,7 +285,7 @@ module _ {G : Type 0} (p : Params) (plan : IsPlan p) (orders : List Order) (fine
       let small_link : l < p.cubs = subst (λ y. y < p.cubs) r.1 low in
       (e, second_same (controller_of (links_of p)) l n c (sym (ends_low p l small_link) ∙ s.ends))
 
-  orderly : AreOrderly any_step p (node_count p) h orders
+  pub orderly : AreOrderly any_step p (node_count p) h orders
   orderly = record {
     ordered = λ n i link ask redundant inside from low k.
         let e = from_controller n i link ask redundant inside from low k in

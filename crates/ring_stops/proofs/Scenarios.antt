@@ -43,20 +43,20 @@ use Rattle.ring_stops.specs.Scenarios.{IsLivingScenario, LivingRunsHaveOneSchedu
 use Rattle.ring_stops.proofs.Rings.{living_journals, ring_one_schedule}
 
 -- what holds of all elements of a list holds of the one at a place
-all_at : {X : Type 0} (P : X → Type 0) (xs : List X) (k : ℕ) (x : X) → All P xs → slice_get xs k ≡ Some x → P x
+pub all_at : {X : Type 0} (P : X → Type 0) (xs : List X) (k : ℕ) (x : X) → All P xs → slice_get xs k ≡ Some x → P x
 all_at P xs k x all at = subst P (get_or_from_slice_get xs k x x at) (all k x (slice_get_within xs k x at))
 
 -- nobody has a death
-no_death : (b : Bool) (o : Option (Option ℕ)) → ((d : Option ℕ) → o ≡ Some d → d ≡ None) → cond b (option_and_then (λ d. d) o) None ≡ None
+pub no_death : (b : Bool) (o : Option (Option ℕ)) → ((d : Option ℕ) → o ≡ Some d → d ≡ None) → cond b (option_and_then (λ d. d) o) None ≡ None
 no_death false o h = refl
 no_death true None h = refl
 no_death true (Some d) h = h d refl
 
-deathless : (c : Course) (n : ℕ) → All (λ death. death ≡ None) c.deaths → (lifetime_of c n).death ≡ None
+pub deathless : (c : Course) (n : ℕ) → All (λ death. death ≡ None) c.deaths → (lifetime_of c n).death ≡ None
 deathless c n all = no_death (nat_lt n c.plan.params.cubs) (slice_get c.deaths n) (λ d e. all_at (λ death. death ≡ None) c.deaths n d all e)
 
 -- a file has no more blocks than bytes
-few_blocks : (len size : ℕ) → 1 ≤ size → div_ceil len size ≤ len
+pub few_blocks : (len size : ℕ) → 1 ≤ size → div_ceil len size ≤ len
 few_blocks len size sized =
     let bounds = div_ceil_times len size sized in ⊎_elim
     (λ (many : len < div_ceil len size).
@@ -68,13 +68,13 @@ few_blocks len size sized =
     (λ (few : div_ceil len size ≤ len). few)
     (cases_lt len (div_ceil len size))
 
-both_true : (a b : Bool) → a ≡ true → b ≡ true → (a && b) ≡ true
+pub both_true : (a b : Bool) → a ≡ true → b ≡ true → (a && b) ≡ true
 both_true true true e f = refl
 both_true true false e f = f
 both_true false b e f = e
 
 -- each file of the scenario has blocks
-count_fits : (s : Scenario) (library : List (List ℕ)) (c : Catalogue) (file : ℕ) → AreShort library → IsCatalogueOf s library c → file < length s.files
+pub count_fits : (s : Scenario) (library : List (List ℕ)) (c : Catalogue) (file : ℕ) → AreShort library → IsCatalogueOf s library c → file < length s.files
     → (1 ≤ block_count c file) × (block_count c file ≤ most_blocks)
 count_fits s library c file short is low =
     let disks = is.first_disks in
@@ -95,11 +95,11 @@ count_fits s library c file short is low =
     (omega (arith, count, some), omega (arith, count, few, most, len))
 
 -- equal orders are of one kind
-same_kind : (a b : Order) → Some a ≡ Some b → a.what ≡ b.what
+pub same_kind : (a b : Order) → Some a ≡ Some b → a.what ≡ b.what
 same_kind a b e = let z : a ≡ b = cc in ap (λ (x : Order). x.what) z
 
 -- what a start among the orders asks for has blocks
-fit_ask : (c : Catalogue) (files n : ℕ) (es : List ScEvent) → ((file : ℕ) → file < files → (1 ≤ block_count c file) × (block_count c file ≤ most_blocks))
+pub fit_ask : (c : Catalogue) (files n : ℕ) (es : List ScEvent) → ((file : ℕ) → file < files → (1 ≤ block_count c file) × (block_count c file ≤ most_blocks))
     → ((j : ℕ) (e : ScEvent) → slice_get es j ≡ Some e → StartsWithin files e)
     → (k beat : ℕ) (ask : Ask) → slice_get (orders_from c n es) k ≡ Some (record { beat = beat; what = kinds.Begin ask })
     → (1 ≤ ask.count) × (ask.count ≤ most_blocks)
@@ -113,7 +113,7 @@ fit_ask c files n (Finish beat v ∷ es) fit given zero at ask e =
     let w : kinds.Finish v ≡ kinds.Begin ask = same_kind (record { beat = beat; what = kinds.Finish v }) (record { beat = at; what = kinds.Begin ask }) e in absurd (cc)
 fit_ask c files n (Finish beat v ∷ es) fit given (suc k) at ask e = fit_ask c files n es fit (λ j x q. given (suc j) x q) k at ask e
 
-counted_orders : (s : Scenario) (library : List (List ℕ)) (c : Catalogue) → IsScenario s → AreShort library → IsCatalogueOf s library c
+pub counted_orders : (s : Scenario) (library : List (List ℕ)) (c : Catalogue) → IsScenario s → AreShort library → IsCatalogueOf s library c
     → AreCountedOrders s.course.plan.params (orders_from c 0 s.events)
 counted_orders s library c scenario short is = record {
   given = orders-given s c scenario is.first_disks;
@@ -125,24 +125,24 @@ counted_orders s library c scenario short is = record {
 
 -- the ring of a run of a scenario without deaths
 module _ (G : Type 0) (s : Scenario) (library : List (List ℕ)) (k : Kept) (scenario : IsScenario s) (living : IsLivingScenario s) (short : AreShort library) (run : IsRingRun G s library k) where
-  orders : AreCountedOrders k.course.plan.params k.orders
+  pub orders : AreCountedOrders k.course.plan.params k.orders
   orders = subst (λ (c : Course). AreCountedOrders c.plan.params k.orders) (sym run.course)
       (subst (λ (os : List Order). AreCountedOrders s.course.plan.params os) (sym run.orders) (counted_orders s library k.catalogue scenario short run.catalogue))
 
-  abbrev given : List (AnyNode G)
+  abbrev pub given : List (AnyNode G)
   given = ring_of G k.course k.catalogue library k.orders
 
-  size : length given ≡ node_count k.course.plan.params
+  pub size : length given ≡ node_count k.course.plan.params
   size =
       let images = images_of k.course.plan.params k.catalogue library in
       let all = length-numbered (image_at k.course.plan.params k.catalogue library) (k.course.plan.params.cubs * k.course.plan.params.disks) in
       opening_count k.course.plan.params k.course.faults images k.orders given all refl
 
-  ring : IsLivingRing k.course.plan.params k.orders run.steps.kept.lived.history
+  pub ring : IsLivingRing k.course.plan.params k.orders run.steps.kept.lived.history
   ring = living_ring G k.course k.catalogue library k.orders run.steps.nodes k.journals (subst IsCourse (sym run.course) scenario.course)
       (λ n. deathless k.course n (subst (λ (c : Course). All (λ death. death ≡ None) c.deaths) (sym run.course) living)) run.steps.kept.lived
 
-  journals : AreLivingJournals any_step k.course.plan.params (node_count k.course.plan.params) run.steps.kept.lived.history k.orders k.journals
+  pub journals : AreLivingJournals any_step k.course.plan.params (node_count k.course.plan.params) run.steps.kept.lived.history k.orders k.journals
   journals =
       let whole = size in
       living_journals k.course.plan.params k.course.plan.sound k.orders orders run.steps.kept.lived.history ring k.journals

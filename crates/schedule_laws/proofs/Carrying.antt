@@ -61,10 +61,10 @@ does_it (Dies stamp) d = absurd (cc)
 abbrev pub IsSending : ℕ → ℕ → List (Out Msg) → Dated Msg → Type 0
 IsSending l b os d = (way : LinkNo) × (way.0 ≡ l) × In (out.Send way d.item) os × (d.beat ≡ b)
 
-sending_later : (l b : ℕ) (o : Out Msg) (os : List (Out Msg)) (d : Dated Msg) → IsSending l b os d → IsSending l b (o ∷ os) d
+pub sending_later : (l b : ℕ) (o : Out Msg) (os : List (Out Msg)) (d : Dated Msg) → IsSending l b os d → IsSending l b (o ∷ os) d
 sending_later l b o os d r = (r.0, r.1, inr r.2, r.3)
 
-sends_first : (l b : ℕ) (link : LinkNo) (m : Msg) (os : List (Out Msg)) (d : Dated Msg) → link.0 ≡ l → ((j : ℕ) → slice_get (sends_of l b os) j ≡ Some d → IsSending l b os d)
+pub sends_first : (l b : ℕ) (link : LinkNo) (m : Msg) (os : List (Out Msg)) (d : Dated Msg) → link.0 ≡ l → ((j : ℕ) → slice_get (sends_of l b os) j ≡ Some d → IsSending l b os d)
     → (j : ℕ) → slice_get ((record { beat = b; item = m }) ∷ sends_of l b os) j ≡ Some d → IsSending l b (out.Send link m ∷ os) d
 sends_first l b link m os d t more zero q =
     let z : record { beat = b; item = m } ≡ d = cc in
@@ -107,13 +107,13 @@ get_behind [] ys k x e = let z : 0 + k ≡ k = omega arith in subst (λ n. slice
 get_behind (z ∷ zs) ys k x e = let w : suc (length zs + k) ≡ suc (length zs) + k = omega arith in subst (λ n. slice_get (z ∷ zs ++ ys) n ≡ Some x) w (get_behind zs ys k x e)
 
 -- the links from a cub to those ahead
-once_round : (x n : ℕ) → n ≤ x → x < n + n → x % n ≡ x - n
+pub once_round : (x n : ℕ) → n ≤ x → x < n + n → x % n ≡ x - n
 once_round x n low high =
     let e : x ≡ n + (x - n) = omega arith in
     let rest : x - n < n = omega arith in
     ap (λ y. y % n) e ∙ (add-mod_left n (x - n) ∙ mod-eq_of_lt rest)
 
-steps_made : (a k n : ℕ) → a < n → k < n → ((a + k) % n + n - a) % n ≡ k
+pub steps_made : (a k n : ℕ) → a < n → k < n → ((a + k) % n + n - a) % n ≡ k
 steps_made a k n a_in k_in =
     ⊎_elim
     (λ (low : a + k < n).
@@ -135,7 +135,7 @@ way_ends p c k plan here low high =
     rw made at e
 
 -- the cub before the next one
-before_next : (p : Params) (a c : ℕ) → a < p.cubs → c ≡ cub_of p (a + 1) → predecessor p c ≡ a
+pub before_next : (p : Params) (a c : ℕ) → a < p.cubs → c ≡ cub_of p (a + 1) → predecessor p c ≡ a
 unfolding predecessor cub_of
 before_next p a c small e =
     let round : a + 1 + (p.cubs - 1) ≡ a + p.cubs = omega arith in
@@ -292,7 +292,7 @@ module _ {S : Type 0} (step : S → Input Msg → Deed Msg S) (p : Params) (plan
       let f = came c i stamp link (msg.ViewerState s) small low e in
       formed_at f.from f.at f.way (msg.ViewerState s) f.known f.done f.sent
 
-  carried : {c : ℕ} {t : Tenancy} {m y : ℕ} → TookMessage p (lives_of h) c (msg.ViewerState (record { tenancy = t; visit = m })) y → WasSent p (facts_of p (lives_of h) outside) c t m y
+  pub carried : {c : ℕ} {t : Tenancy} {m y : ℕ} → TookMessage p (lives_of h) c (msg.ViewerState (record { tenancy = t; visit = m })) y → WasSent p (facts_of p (lives_of h) outside) c t m y
   carried {c} {t} {m} {y} g =
       let s : State = record { tenancy = t; visit = m } in
       let stamp : Stamp = record { beat = y; reading = g.reading } in
@@ -354,7 +354,7 @@ module _ {S : Type 0} (step : S → Input Msg → Deed Msg S) (p : Params) (plan
       record { at = r.at; done = r.done; stamp = r.stamp; link = r.link; is = ap input_of r.is; same = r.same; later = omega arith; soon = omega arith }
 
   -- the laws of the run
-  arrives : {a k : ℕ} {t : Tenancy} {m x : ℕ} (c b : ℕ) {l : ℕ} → SentAt p (lives_of h) a k t m x → c ≡ cub_of p (a + k) → TickedAt p (lives_of h) c b l → x + p.delay ≤ b
+  pub arrives : {a k : ℕ} {t : Tenancy} {m x : ℕ} (c b : ℕ) {l : ℕ} → SentAt p (lives_of h) a k t m x → c ≡ cub_of p (a + k) → TickedAt p (lives_of h) c b l → x + p.delay ≤ b
       → GotBy (facts_of p (lives_of h) outside) c t m (x + p.delay)
   arrives {a} {k} {t} {m} {x} c b {l} s to w late =
       let ahead : (1 ≤ k) × (k ≤ 2) = ⊎_elim (λ (e : k ≡ 1). let z : (1 ≤ k) × (k ≤ 2) = omega arith in z) (λ (e : k ≡ 2). let z : (1 ≤ k) × (k ≤ 2) = omega arith in z) s.ahead in
@@ -385,7 +385,7 @@ module _ {S : Type 0} (step : S → Input Msg → Deed Msg S) (p : Params) (plan
       let sb : s.0.beat ≡ a = sym (ap (λ (i : Input Msg). (stamp_of i).beat) s.1) ∙ eb in
       record { reading = s.0.reading; ticked = record { small = small; at = t.at; done = t.before; is = s.1 ∙ ap (λ (q : Stamp). Tick q) (stamp_made s.0 a sb) } }
 
-  up : {c b l d a : ℕ} → TickedAt p (lives_of h) c b l → a < b → d < p.cubs → Ended (facts_of p (lives_of h) outside) d a
+  pub up : {c b l d a : ℕ} → TickedAt p (lives_of h) c b l → a < b → d < p.cubs → Ended (facts_of p (lives_of h) outside) d a
   up {c} {b} {l} {d} {a} w low small =
       let wide = living.all_cubs in
       let wd = w.done in
@@ -397,7 +397,7 @@ module _ {S : Type 0} (step : S → Input Msg → Deed Msg S) (p : Params) (plan
       let t = together noted step p nodes h living.run c d (suc w.at) (omega arith) (omega arith) wd (λ j l. living.alive d j (omega arith) l) in
       ended d a small (omega arith)
 
-  reads : {c b l : ℕ} → TickedAt p (lives_of h) c b l → (time_of p b ≤ l) × (l ≤ time_of p b + p.skew)
+  pub reads : {c b l : ℕ} → TickedAt p (lives_of h) c b l → (time_of p b ≤ l) × (l ≤ time_of p b + p.skew)
   reads {c} {b} {l} w =
       let r = (lived c w.small).reads w.at w.done in
       let wb : time_of p (beat_at ((lives_of h).input c) w.at) ≡ time_of p b = ap (λ (i : Input Msg). time_of p (stamp_of i).beat) w.is in
@@ -425,7 +425,7 @@ module _ {S : Type 0} (step : S → Input Msg → Deed Msg S) (p : Params) (plan
       (cases_lt n p.cubs)
 
   -- a start comes from another node
-  start_from : (c i : ℕ) (stamp : Stamp) (link : LinkNo) (a : Ask) (x : Bool) → (f : CameFrom step p nodes h living.run c i stamp.beat link (msg.Start a x)) → p.cubs ≤ f.from
+  pub start_from : (c i : ℕ) (stamp : Stamp) (link : LinkNo) (a : Ask) (x : Bool) → (f : CameFrom step p nodes h living.run c i stamp.beat link (msg.Start a x)) → p.cubs ≤ f.from
   start_from c i stamp link a x f = ⊎_elim
       (λ (small : f.from < p.cubs).
       absurd (start_none p f.from plan small ((lives_of h).input f.from f.at) (store_at p f.from ((lives_of h).input f.from) f.at) f.way a x
@@ -434,7 +434,7 @@ module _ {S : Type 0} (step : S → Input Msg → Deed Msg S) (p : Params) (plan
       (cases_lt f.from p.cubs)
 
   -- the note that a cub took as a start
-  start_note : (c i : ℕ) (stamp : Stamp) (link : LinkNo) (a : Ask) (x : Bool) → c < p.cubs → i < h.count c → (lives_of h).input c i ≡ Take stamp link (msg.Start a x)
+  pub start_note : (c i : ℕ) (stamp : Stamp) (link : LinkNo) (a : Ask) (x : Bool) → c < p.cubs → i < h.count c → (lives_of h).input c i ≡ Take stamp link (msg.Start a x)
       → (n : ℕ) × (n < nodes) × IsStartSent step p h n c link.0 (takes link.0 h c i) a
   start_note c i stamp link a x small low e =
       let wide = living.all_cubs in
@@ -442,12 +442,12 @@ module _ {S : Type 0} (step : S → Input Msg → Deed Msg S) (p : Params) (plan
       (k.from, k.known, record { ends = k.ends; beat = k.when; redundant = x; sent = k.was_sent })
 
   -- an event that takes on a link counts
-  counts : (c i l : ℕ) (stamp : Stamp) (link : LinkNo) (m : Msg) → c < p.cubs → i < h.count c → (lives_of h).input c i ≡ Take stamp link m → link.0 ≡ l → takes l h c (suc i) ≡ takes l h c i + 1
+  pub counts : (c i l : ℕ) (stamp : Stamp) (link : LinkNo) (m : Msg) → c < p.cubs → i < h.count c → (lives_of h).input c i ≡ Take stamp link m → link.0 ≡ l → takes l h c (suc i) ≡ takes l h c i + 1
   counts c i l stamp link m small low e same =
       let t : is_take_on l (h.event c i) ≡ true = ap (is_take_on l) (event_is c i small low ∙ ap (λ (q : Input Msg). Does q) e) ∙ eq-eqb _ _ same in
       rw t (omega arith)
 
-  same_take : (c i j l : ℕ) (s t : Stamp) (w v : LinkNo) (m n : Msg) → c < p.cubs → i < h.count c → j < h.count c → (lives_of h).input c i ≡ Take s w m → (lives_of h).input c j ≡ Take t v n
+  pub same_take : (c i j l : ℕ) (s t : Stamp) (w v : LinkNo) (m n : Msg) → c < p.cubs → i < h.count c → j < h.count c → (lives_of h).input c i ≡ Take s w m → (lives_of h).input c j ≡ Take t v n
       → w.0 ≡ l → v.0 ≡ l → takes l h c i ≡ takes l h c j → i ≡ j
   same_take c i j l s t w v m n small low high e f wl vl same =
       let one = counts c i l s w m small low e wl in
@@ -462,10 +462,10 @@ module _ {S : Type 0} (step : S → Input Msg → Deed Msg S) (p : Params) (plan
 -- in a calm history
 module _ {S : Type 0} (step : S → Input Msg → Deed Msg S) (p : Params) (plan : IsPlan p) (nodes : ℕ) (h : History Msg S) (quiet : IsCalmHistory step p nodes h) (outside : Outside) where
   -- nobody is reached by a deschedule: it would have come from a cub that was reached in a lower beat
-  abbrev NoneReached : ℕ → Type 0
+  abbrev pub NoneReached : ℕ → Type 0
   NoneReached y = (c v : ℕ) → ReachedAt p (lives_of h) c v y → ⊥
 
-  none_step : (y : ℕ) → ((x : ℕ) → x < y → NoneReached x) → NoneReached y
+  pub none_step : (y : ℕ) → ((x : ℕ) → x < y → NoneReached x) → NoneReached y
   none_step y below c v g =
       let t = g.took in
       let f = came step p plan nodes h quiet.living outside c t.at (record { beat = y; reading = t.reading }) t.link (msg.Deschedule g.instance g.tag) t.small t.done t.is in

@@ -29,21 +29,21 @@ use Rattle.schedule_laws.proofs.TakingOver.{inserting_for_dead_puts}
 use Rattle.schedule_laws.proofs.Seating.{PutOf, PutsOne, putting_on_seats, own_one, IsFull, full_where, full_on}
 
 module _ (p : Params) (c now : ℕ) (plan : IsPlan p) (put : Tenancy → Store → Deed Msg Store) (one : PutsOne put) (moving : (t : Tenancy) (h : Store) → Moves p c Never h.view.lines (put t h)) where
-  put_or_wait_moves : (rest : Store → Deed Msg Store) (a : Ask) (o : Option Key) (h : Store) → ((g : Store) → Moves p c Never g.view.lines (rest g)) → Moves p c Never h.view.lines (put_or_wait put rest a o h)
+  pub put_or_wait_moves : (rest : Store → Deed Msg Store) (a : Ask) (o : Option Key) (h : Store) → ((g : Store) → Moves p c Never g.view.lines (rest g)) → Moves p c Never h.view.lines (put_or_wait put rest a o h)
   put_or_wait_moves rest a None h after = still p c Never h.view.lines (nothing h) refl tt
   put_or_wait_moves rest a (Some k) h after = moves_both p c Never (put (tenancy_from a k)) rest h (moving (tenancy_from a k) h) (after (put (tenancy_from a k) h).state)
 
-  putting_each_moves : (disk : ℕ) (asks : List Ask) (h : Store) → Moves p c Never h.view.lines (putting_each put p now disk asks h)
+  pub putting_each_moves : (disk : ℕ) (asks : List Ask) (h : Store) → Moves p c Never h.view.lines (putting_each put p now disk asks h)
   unfolding putting_each
   putting_each_moves disk [] h = still p c Never h.view.lines (nothing h) refl tt
   putting_each_moves disk (a ∷ rest) h = put_or_wait_moves (putting_each put p now disk rest) a (free_on p now disk h) h (putting_each_moves disk rest)
 
-  putting_on_moves : (disk : ℕ) (h : Store) → Moves p c Never h.view.lines (putting_on put p now disk h)
+  pub putting_on_moves : (disk : ℕ) (h : Store) → Moves p c Never h.view.lines (putting_on put p now disk h)
   unfolding putting_on
   putting_on_moves disk h = putting_each_moves disk (filter (is_for disk) h.starts.waiting) h
 
   -- one start of several is put, or no visit of the disk is free any more
-  put_or_wait_full : (disk : ℕ) (rest : List Ask) (after : Store → Deed Msg Store) (b a : Ask) (o : Option Key) (h : Store) → free_on p now disk h ≡ o → In a (b ∷ rest)
+  pub put_or_wait_full : (disk : ℕ) (rest : List Ask) (after : Store → Deed Msg Store) (b a : Ask) (o : Option Key) (h : Store) → free_on p now disk h ≡ o → In a (b ∷ rest)
       → ((g : Store) → In a rest → PutOf a (after g).outs ⊎ IsFull p now disk (after g).state.view.lines)
       → PutOf a (put_or_wait put after b o h).outs ⊎ IsFull p now disk (put_or_wait put after b o h).state.view.lines
   put_or_wait_full disk rest after b a None h e i more = inr (full_where p now disk h plan e)
@@ -55,13 +55,13 @@ module _ (p : Params) (c now : ℕ) (plan : IsPlan p) (put : Tenancy → Store �
       (λ q. ⊎_elim (λ w. inl (w.0, in_right (put_out w.0) (put t h).outs (after g).outs w.1, w.2)) (λ w. inr w) (more g q))
       i
 
-  putting_each_full : (disk : ℕ) (asks : List Ask) (a : Ask) (h : Store) → In a asks → PutOf a (putting_each put p now disk asks h).outs ⊎ IsFull p now disk (putting_each put p now disk asks h).state.view.lines
+  pub putting_each_full : (disk : ℕ) (asks : List Ask) (a : Ask) (h : Store) → In a asks → PutOf a (putting_each put p now disk asks h).outs ⊎ IsFull p now disk (putting_each put p now disk asks h).state.view.lines
   unfolding putting_each
   putting_each_full disk [] a h i = absurd i
   putting_each_full disk (b ∷ rest) a h i =
       put_or_wait_full disk rest (putting_each put p now disk rest) b a (free_on p now disk h) h refl i (λ g k. putting_each_full disk rest a g k)
 
-  putting_on_full : (disk : ℕ) (a : Ask) (h : Store) → In a h.starts.waiting → a.disk.0 ≡ disk → PutOf a (putting_on put p now disk h).outs ⊎ IsFull p now disk (putting_on put p now disk h).state.view.lines
+  pub putting_on_full : (disk : ℕ) (a : Ask) (h : Store) → In a h.starts.waiting → a.disk.0 ≡ disk → PutOf a (putting_on put p now disk h).outs ⊎ IsFull p now disk (putting_on put p now disk h).state.view.lines
   unfolding putting_on
   putting_on_full disk a h i e = putting_each_full disk (filter (is_for disk) h.starts.waiting) a h (in_filter (is_for disk) a h.starts.waiting i (eq-eqb _ _ e))
 
@@ -88,11 +88,11 @@ module _ (p : Params) (c now : ℕ) (plan : IsPlan p) (put : Tenancy → Store �
       there
 
 -- the disk of a visit of the cub's own is one of its disks
-in_range : (low count k : ℕ) → low ≤ k → k < low + count → In k (range_with_len low count)
+pub in_range : (low count k : ℕ) → low ≤ k → k < low + count → In k (range_with_len low count)
 in_range low zero k h l = absurd (omega arith)
 in_range low (suc n) k h l = ⊎_elim (λ (e : low ≡ k). inl (sym e)) (λ (g : low < k). inr (in_range (low + 1) n k (omega arith) (omega arith))) (eq-or-lt_of_le h)
 
-disk_there : (p : Params) (c n : ℕ) → IsPlan p → c ≡ cub_of p n → In (disk_of p n) (disks_at p c)
+pub disk_there : (p : Params) (c n : ℕ) → IsPlan p → c ≡ cub_of p n → In (disk_of p n) (disks_at p c)
 disk_there p c n plan here =
     let own = disk_own p c n plan (sym here) in
     let own0 = own.0 in

@@ -103,7 +103,7 @@ pub record Puts (p : Params) (c reading : ℕ) (waiting : List Ask) (h : Store) 
   pub tells : (t : Tenancy) → In (put_out t) d.outs → In (told_placed p c t) d.outs
   pub placed : (link : LinkNo) (t : Tenancy) → In (out.Send link (msg.Placed t)) d.outs → In (put_out t) d.outs
 
-well_wider : (p : Params) (c reading : ℕ) (waiting : List Ask) (b b' : Bool) (t : Tenancy) (outs more : List (Out Msg)) → ((o : Out Msg) → In o outs → In o more) → b ≡ b'
+pub well_wider : (p : Params) (c reading : ℕ) (waiting : List Ask) (b b' : Bool) (t : Tenancy) (outs more : List (Out Msg)) → ((o : Out Msg) → In o outs → In o more) → b ≡ b'
     → PutWell p c reading waiting b t outs → PutWell p c reading waiting b' t more
 well_wider p c reading waiting b b' t outs more wide same w = record {
   slot = w.slot;
@@ -141,10 +141,10 @@ puts_nothing p c reading waiting h = record {
 -- one deed, and then another
 module _ (p : Params) (c reading : ℕ) (waiting : List Ask) (h : Store) (d e : Deed Msg Store) (first : Puts p c reading waiting h d) (second : Puts p c reading waiting d.state e) where
   -- who stood there before the first stands there before the second
-  stood : (P : Rec → Type 0) (x : Line) → In x h.view.lines → P x.rec → ((y : Line) → In y d.state.view.lines → P y.rec → ⊥) → ⊥
+  pub stood : (P : Rec → Type 0) (x : Line) → In x h.view.lines → P x.rec → ((y : Line) → In y d.state.view.lines → P y.rec → ⊥) → ⊥
   stood P x k at none = ⊎_elim (λ s. none s.line s.there (subst P (sym s.same) at)) (λ m. m) (first.moves.forth x k)
 
-  taken_first : (P : Rec → Type 0) (r : Rec) → In (taken_out r) d.outs → P r → ((y : Line) → In y d.state.view.lines → P y.rec → ⊥) → ⊥
+  pub taken_first : (P : Rec → Type 0) (r : Rec) → In (taken_out r) d.outs → P r → ((y : Line) → In y d.state.view.lines → P y.rec → ⊥) → ⊥
   taken_first P r k at none = ⊎_elim (λ s. none s.line s.there (subst P (sym s.same) at)) (λ m. m) (first.moves.took r k)
 
   pub puts_then : Puts p c reading waiting h (record { outs = d.outs ++ e.outs; state = e.state })
@@ -204,7 +204,7 @@ pub record IsOpening (p : Params) (reading disk : ℕ) (h : Store) (k : Key) : T
   pub below : due p k.0.0 k.1 ≤ reading + p.window_a
   pub free : is_some (line_at k h.view.lines) ≡ false
 
-not_true : (b : Bool) → IsTrue (not b) → b ≡ false
+pub not_true : (b : Bool) → IsTrue (not b) → b ≡ false
 not_true true t = let q : false ≡ true = t in absurd (cc)
 not_true false t = refl
 

@@ -47,111 +47,111 @@ use Rattle.schedule_laws.proofs.Moves.{is_taken, taken_out}
 abbrev pub Keeps : Store → Deed Msg Store → Type 0
 Keeps h d = (d.state.believes ≡ h.believes) × ((v : Instance) → is_held d.state.held v ≡ true → is_held h.held v ≡ true)
 
-keeps_both : (f g : Store → Deed Msg Store) (h : Store) → Keeps h (f h) → Keeps (f h).state (g (f h).state) → Keeps h (then_do f g h)
+pub keeps_both : (f g : Store → Deed Msg Store) (h : Store) → Keeps h (f h) → Keeps (f h).state (g (f h).state) → Keeps h (then_do f g h)
 keeps_both f g h one two = (two.0 ∙ one.0, λ v e. one.1 v (two.1 v e))
 
-keeps_if : (b : Bool) (h : Store) (d e : Deed Msg Store) → Keeps h d → Keeps h e → Keeps h (cond b d e)
+pub keeps_if : (b : Bool) (h : Store) (d e : Deed Msg Store) → Keeps h d → Keeps h e → Keeps h (cond b d e)
 keeps_if b h d e one two = chosen (λ (x : Deed Msg Store). Keeps h x) b d e (λ _. one) (λ _. two)
 
-keeps_nothing : (h : Store) → Keeps h (nothing h)
+pub keeps_nothing : (h : Store) → Keeps h (nothing h)
 keeps_nothing h = (refl, λ v e. e)
 
-keeps_each : {A : Type 0} (f : A → Store → Deed Msg Store) → ((a : A) (h : Store) → Keeps h (f a h)) → (xs : List A) (h : Store) → Keeps h (each_in_turn f xs h)
+pub keeps_each : {A : Type 0} (f : A → Store → Deed Msg Store) → ((a : A) (h : Store) → Keeps h (f a h)) → (xs : List A) (h : Store) → Keeps h (each_in_turn f xs h)
 keeps_each f each [] h = keeps_nothing h
 keeps_each f each (x ∷ xs) h = keeps_both (f x) (each_in_turn f xs) h (each x h) (keeps_each f each xs (f x h).state)
 
 -- messages
-with_pass_held : (v w : Instance) (holds : List Holding) → is_held (with_pass holds v) w ≡ is_held holds w
+pub with_pass_held : (v w : Instance) (holds : List Holding) → is_held (with_pass holds v) w ≡ is_held holds w
 with_pass_held v w [] = refl
 with_pass_held v w (x ∷ xs) =
     chosen (λ (y : Holding). (is_of w y || is_held (with_pass xs v) w) ≡ (is_of w x || is_held xs w)) (is_of v x) (record x { passed = true }) x
     (λ _. ap (λ b. is_of w x || b) (with_pass_held v w xs)) (λ _. ap (λ b. is_of w x || b) (with_pass_held v w xs))
 
-passing_on_keeps : (p : Params) (c : ℕ) (stamp : Stamp) (v : Instance) (k : Key) (h : Store) → Keeps h (passing_on p c stamp v k h)
+pub passing_on_keeps : (p : Params) (c : ℕ) (stamp : Stamp) (v : Instance) (k : Key) (h : Store) → Keeps h (passing_on p c stamp v k h)
 unfolding passing_on
 passing_on_keeps p c stamp v k h = (refl, λ w e. sym (with_pass_held v w h.held) ∙ e)
 
-passing_from_keeps : (p : Params) (c : ℕ) (stamp : Stamp) (v : Instance) (o : Option Key) (h : Store) → Keeps h (passing_from p c stamp v o h)
+pub passing_from_keeps : (p : Params) (c : ℕ) (stamp : Stamp) (v : Instance) (o : Option Key) (h : Store) → Keeps h (passing_from p c stamp v o h)
 passing_from_keeps p c stamp v None h = keeps_nothing h
 passing_from_keeps p c stamp v (Some k) h = keeps_if (must_pass h.held v) h (passing_on p c stamp v k h) (nothing h) (passing_on_keeps p c stamp v k h) (keeps_nothing h)
 
-dropping_start_keeps : (v : Instance) (h : Store) → Keeps h (dropping_start v h)
+pub dropping_start_keeps : (v : Instance) (h : Store) → Keeps h (dropping_start v h)
 unfolding dropping_start
 dropping_start_keeps v h = (refl, λ w e. e)
 
-took_keeps : (r : Rec) (h : Store) → Keeps h (took r h)
+pub took_keeps : (r : Rec) (h : Store) → Keeps h (took r h)
 unfolding took
 took_keeps r h = keeps_if (is_taken r h) h (nothing h) (record { outs = taken_out r ∷ []; state = record h { view = view_with r h.view } }) (keeps_nothing h) (refl, λ w e. e)
 
-met_keeps : (p : Params) (c : ℕ) (stamp : Stamp) (s : State) (o : Option Key) (h : Store) → Keeps h (met p c stamp s o h)
+pub met_keeps : (p : Params) (c : ℕ) (stamp : Stamp) (s : State) (o : Option Key) (h : Store) → Keeps h (met p c stamp s o h)
 met_keeps p c stamp s None h = keeps_nothing h
 met_keeps p c stamp s (Some k) h =
     keeps_if (is_held h.held s.tenancy.instance) h (passing_from p c stamp s.tenancy.instance (Some k) h) (told s k h) (passing_from_keeps p c stamp s.tenancy.instance (Some k) h)
     (keeps_both (dropping_start s.tenancy.instance) (each_in_turn took (records_told s k)) h (dropping_start_keeps s.tenancy.instance h)
     (keeps_each took took_keeps (records_told s k) (dropping_start s.tenancy.instance h).state))
 
-meeting_state_keeps : (p : Params) (c : ℕ) (stamp : Stamp) (s : State) (h : Store) → Keeps h (meeting_state p c stamp s h)
+pub meeting_state_keeps : (p : Params) (c : ℕ) (stamp : Stamp) (s : State) (h : Store) → Keeps h (meeting_state p c stamp s h)
 unfolding meeting_state
 meeting_state_keeps p c stamp s h =
     keeps_if (is_visit_of s.tenancy s.visit) h (met p c stamp s (position_at p c s.tenancy.slot s.visit) h) (nothing h)
     (met_keeps p c stamp s (position_at p c s.tenancy.slot s.visit) h) (keeps_nothing h)
 
-meeting_start_keeps : (a : Ask) (redundant : Bool) (h : Store) → Keeps h (meeting_start a redundant h)
+pub meeting_start_keeps : (a : Ask) (redundant : Bool) (h : Store) → Keeps h (meeting_start a redundant h)
 unfolding meeting_start
 meeting_start_keeps a redundant h =
     keeps_if (not (is_ask a) || is_held h.held a.instance || shows h.view.lines a.instance) h (nothing h)
     (cond (redundant && not h.believes) (queueing_redundant a h) (queueing a h)) (keeps_nothing h)
     (keeps_if (redundant && not h.believes) h (queueing_redundant a h) (queueing a h) (refl, λ w e. e) (refl, λ w e. e))
 
-with_piece_keeps : (x : PieceState) (h : Store) → ((with_piece_record x h).believes ≡ h.believes) × ((with_piece_record x h).held ≡ h.held)
+pub with_piece_keeps : (x : PieceState) (h : Store) → ((with_piece_record x h).believes ≡ h.believes) × ((with_piece_record x h).held ≡ h.held)
 unfolding with_piece_record
 with_piece_keeps x h = chosen (λ (s : Store). (s.believes ≡ h.believes) × (s.held ≡ h.held)) (pieces.is_in x h.pieces.items) h _ (λ _. (refl, refl)) (λ _. (refl, refl))
 
-meeting_piece_keeps : (p : Params) (c : ℕ) (x : PieceState) (h : Store) → Keeps h (meeting_piece p c x h)
+pub meeting_piece_keeps : (p : Params) (c : ℕ) (x : PieceState) (h : Store) → Keeps h (meeting_piece p c x h)
 unfolding meeting_piece
 meeting_piece_keeps p c x h =
     let k = with_piece_keeps x h in
     keeps_if (is_held h.held x.tenancy.instance || not (cub_of p (x.visit + x.piece) == c)) h (nothing h) (record { outs = []; state = with_piece_record x h }) (keeps_nothing h)
     (k.0, λ v e. ap (λ (held : List Holding). is_held held v) (sym k.1) ∙ e)
 
-meeting_kill_keeps : (v : Instance) (visit : ℕ) (h : Store) → Keeps h (meeting_kill v visit h)
+pub meeting_kill_keeps : (v : Instance) (visit : ℕ) (h : Store) → Keeps h (meeting_kill v visit h)
 unfolding meeting_kill
 meeting_kill_keeps v visit h = (refl, λ w e. e)
 
-storing_keeps : (want : Want) (part : Option LibraryPart) (h : Store) → Keeps h (storing want part h)
+pub storing_keeps : (want : Want) (part : Option LibraryPart) (h : Store) → Keeps h (storing want part h)
 storing_keeps want (Some part) h = (refl, λ w e. e)
 storing_keeps want None h = (refl, λ w e. e)
 
-meeting_answer_keeps : (want : Want) (part : Option LibraryPart) (h : Store) → Keeps h (meeting_answer want part h)
+pub meeting_answer_keeps : (want : Want) (part : Option LibraryPart) (h : Store) → Keeps h (meeting_answer want part h)
 unfolding meeting_answer
 meeting_answer_keeps want part h = keeps_if (is_wanted want h) h (storing want part h) (nothing h) (storing_keeps want part h) (keeps_nothing h)
 
-hearing_beat_keeps : (p : Params) (c : ℕ) (stamp : Stamp) (link : LinkNo) (h : Store) → Keeps h (hearing_beat p c stamp link h)
+pub hearing_beat_keeps : (p : Params) (c : ℕ) (stamp : Stamp) (link : LinkNo) (h : Store) → Keeps h (hearing_beat p c stamp link h)
 unfolding hearing_beat
 hearing_beat_keeps p c stamp link h =
     keeps_if (link.0 == (way_ahead p (predecessor p c) 1).0) h (record { outs = []; state = record h { watch = record h.watch { heard = stamp.reading } } }) (nothing h) (refl, λ w e. e) (keeps_nothing h)
 
-dropping_lines_keeps : (v : Instance) (h : Store) → Keeps h (dropping_lines v h)
+pub dropping_lines_keeps : (v : Instance) (h : Store) → Keeps h (dropping_lines v h)
 unfolding dropping_lines
 dropping_lines_keeps v h = (refl, λ w e. e)
 
-dropping_pieces_keeps : (v : Instance) (h : Store) → Keeps h (dropping_pieces v h)
+pub dropping_pieces_keeps : (v : Instance) (h : Store) → Keeps h (dropping_pieces v h)
 unfolding dropping_pieces
 dropping_pieces_keeps v h = (refl, λ w e. e)
 
-killing_splits_keeps : (p : Params) (c : ℕ) (v : Instance) (h : Store) → Keeps h (killing_splits p c v h)
+pub killing_splits_keeps : (p : Params) (c : ℕ) (v : Instance) (h : Store) → Keeps h (killing_splits p c v h)
 unfolding killing_splits
 killing_splits_keeps p c v h = (refl, λ w e. e)
 
 -- a deschedule is held
-any_append : (w : Instance) (xs ys : List Holding) → is_held (xs ++ ys) w ≡ true → (is_held xs w ≡ true) ⊎ (is_held ys w ≡ true)
+pub any_append : (w : Instance) (xs ys : List Holding) → is_held (xs ++ ys) w ≡ true → (is_held xs w ≡ true) ⊎ (is_held ys w ≡ true)
 any_append w [] ys e = inr e
 any_append w (x ∷ xs) ys e = ⊎_elim
     (λ (t : is_of w x ≡ true). inl (or_left (is_of w x) (is_held xs w) t))
     (λ (t : is_of w x ≡ false). ⊎_elim (λ q. inl (or_right (is_of w x) (is_held xs w) q)) (λ q. inr q) (any_append w xs ys (subst (λ b. (b || is_held (xs ++ ys) w) ≡ true) t e)))
     (cases_Bool (is_of w x))
 
-with_hold_held : (holds : List Holding) (v w : Instance) (until : ℕ) → is_held (with_hold holds v until) w ≡ true → (is_held holds w ≡ true) ⊎ (v.0 ≡ w.0)
+pub with_hold_held : (holds : List Holding) (v w : Instance) (until : ℕ) → is_held (with_hold holds v until) w ≡ true → (is_held holds w ≡ true) ⊎ (v.0 ≡ w.0)
 with_hold_held holds v w until =
     chosen (λ (hs : List Holding). is_held hs w ≡ true → (is_held holds w ≡ true) ⊎ (v.0 ≡ w.0)) (is_held holds v) holds (holds ++ record { instance = v; until = until; passed = false } ∷ [])
     (λ _ e. inl e)
@@ -161,7 +161,7 @@ with_hold_held holds v w until =
     or_false true e = refl
     or_false false e = e
 
-descheduling_keeps : (p : Params) (c : ℕ) (stamp : Stamp) (v : Instance) (tag : Option Tag) (h : Store)
+pub descheduling_keeps : (p : Params) (c : ℕ) (stamp : Stamp) (v : Instance) (tag : Option Tag) (h : Store)
     → ((descheduling p c stamp v tag h).state.believes ≡ h.believes) × ((w : Instance) → is_held (descheduling p c stamp v tag h).state.held w ≡ true → (is_held h.held w ≡ true) ⊎ (v.0 ≡ w.0))
 unfolding descheduling
 descheduling_keeps p c stamp v tag h =
@@ -185,10 +185,10 @@ IsStopOf other w = ⊥
 abbrev pub KeepsBut : Msg → Store → Deed Msg Store → Type 0
 KeepsBut m h d = (d.state.believes ≡ h.believes) × ((w : Instance) → is_held d.state.held w ≡ true → (is_held h.held w ≡ true) ⊎ IsStopOf m w)
 
-keeps_but : (m : Msg) (h : Store) (d : Deed Msg Store) → Keeps h d → KeepsBut m h d
+pub keeps_but : (m : Msg) (h : Store) (d : Deed Msg Store) → Keeps h d → KeepsBut m h d
 keeps_but m h d k = (k.0, λ w e. inl (k.1 w e))
 
-hearing_keeps : (p : Params) (c : ℕ) (stamp : Stamp) (link : LinkNo) (m : Msg) (h : Store) → KeepsBut m h (hearing p c stamp link m h)
+pub hearing_keeps : (p : Params) (c : ℕ) (stamp : Stamp) (link : LinkNo) (m : Msg) (h : Store) → KeepsBut m h (hearing p c stamp link m h)
 unfolding hearing
 hearing_keeps p c stamp link (msg.ViewerState s) h = keeps_but (msg.ViewerState s) h (meeting_state p c stamp s h) (meeting_state_keeps p c stamp s h)
 hearing_keeps p c stamp link (msg.Start a redundant) h = keeps_but (msg.Start a redundant) h (meeting_start a redundant h) (meeting_start_keeps a redundant h)
@@ -202,13 +202,13 @@ hearing_keeps p c stamp link (msg.ReadAsk want) h = keeps_but (msg.ReadAsk want)
 hearing_keeps p c stamp link (msg.Whole want sent part) h = keeps_but (msg.Whole want sent part) h (nothing h) (keeps_nothing h)
 hearing_keeps p c stamp link (msg.Piece want sent part) h = keeps_but (msg.Piece want sent part) h (nothing h) (keeps_nothing h)
 
-taking_keeps : (p : Params) (c : ℕ) (stamp : Stamp) (link : LinkNo) (m : Msg) (h : Store) → KeepsBut m h (taking p c stamp link m h)
+pub taking_keeps : (p : Params) (c : ℕ) (stamp : Stamp) (link : LinkNo) (m : Msg) (h : Store) → KeepsBut m h (taking p c stamp link m h)
 unfolding taking
 taking_keeps p c stamp link m h =
     chosen (λ (d : Deed Msg Store). KeepsBut m h d) (is_in_form p (noted m)) (hearing p c stamp link m h) (nothing h) (λ _. hearing_keeps p c stamp link m h) (λ _. keeps_but m h (nothing h) (keeps_nothing h))
 
 -- the tick: release lets go, and the deadman rule writes down what it believes
-filter_held : (now : ℕ) (w : Instance) (holds : List Holding) → is_held (holds_at holds now) w ≡ true → is_held holds w ≡ true
+pub filter_held : (now : ℕ) (w : Instance) (holds : List Holding) → is_held (holds_at holds now) w ≡ true → is_held holds w ≡ true
 filter_held now w [] e = e
 filter_held now w (x ∷ xs) e =
     chosen (λ (hs : List Holding). is_held hs w ≡ true → (is_of w x || is_held xs w) ≡ true) (is_kept now x) (x ∷ holds_at xs now) (holds_at xs now)
@@ -219,11 +219,11 @@ filter_held now w (x ∷ xs) e =
     (λ _ e. or_right (is_of w x) (is_held xs w) (filter_held now w xs e))
     e
 
-releasing_keeps : (p : Params) (stamp : Stamp) (h : Store) → Keeps h (releasing p stamp h)
+pub releasing_keeps : (p : Params) (stamp : Stamp) (h : Store) → Keeps h (releasing p stamp h)
 unfolding releasing
 releasing_keeps p stamp h = (refl, λ w e. filter_held stamp.reading w h.held e)
 
-believing_keeps : (p : Params) (c : ℕ) (stamp : Stamp) (h : Store)
+pub believing_keeps : (p : Params) (c : ℕ) (stamp : Stamp) (h : Store)
     → ((believing p c stamp h).state.believes ≡ true → (h.believes ≡ true) ⊎ (is_silent h.watch stamp.reading ≡ true)) × ((believing p c stamp h).state.held ≡ h.held)
 unfolding believing
 believing_keeps p c stamp h =
@@ -235,15 +235,15 @@ believing_keeps p c stamp h =
     (λ e. (λ _. inr (and_parts (not h.believes) (is_silent h.watch stamp.reading) e).1, refl)) (λ _. (λ e. inl e, refl))
 
 -- insertion
-putting_own_keeps : (p : Params) (c : ℕ) (t : Tenancy) (h : Store) → Keeps h (putting_own p c t h)
+pub putting_own_keeps : (p : Params) (c : ℕ) (t : Tenancy) (h : Store) → Keeps h (putting_own p c t h)
 unfolding putting_own
 putting_own_keeps p c t h = let k = took_keeps (own_of t t.first) (putting t h).state in (k.0, k.1)
 
-second_keeps : (t : Tenancy) (h : Store) → Keeps h (cond (nat_lt t.first t.last) (took (own_of t (t.first + 1))) nothing h)
+pub second_keeps : (t : Tenancy) (h : Store) → Keeps h (cond (nat_lt t.first t.last) (took (own_of t (t.first + 1))) nothing h)
 second_keeps t h =
     chosen (λ (f : Store → Deed Msg Store). Keeps h (f h)) (nat_lt t.first t.last) (took (own_of t (t.first + 1))) nothing (λ _. took_keeps (own_of t (t.first + 1)) h) (λ _. keeps_nothing h)
 
-putting_for_dead_keeps : (p : Params) (c : ℕ) (t : Tenancy) (h : Store) → Keeps h (putting_for_dead p c t h)
+pub putting_for_dead_keeps : (p : Params) (c : ℕ) (t : Tenancy) (h : Store) → Keeps h (putting_for_dead p c t h)
 unfolding putting_for_dead
 putting_for_dead_keeps p c t h =
     let h1 : Store = (putting t h).state in
@@ -252,24 +252,24 @@ putting_for_dead_keeps p c t h =
     let two = second_keeps t h2 in
     (two.0 ∙ one.0, λ v e. one.1 v (two.1 v e))
 
-put_or_wait_keeps : (put : Tenancy → Store → Deed Msg Store) (rest : Store → Deed Msg Store) (a : Ask) (o : Option Key) (h : Store) → ((t : Tenancy) (g : Store) → Keeps g (put t g))
+pub put_or_wait_keeps : (put : Tenancy → Store → Deed Msg Store) (rest : Store → Deed Msg Store) (a : Ask) (o : Option Key) (h : Store) → ((t : Tenancy) (g : Store) → Keeps g (put t g))
     → ((g : Store) → Keeps g (rest g)) → Keeps h (put_or_wait put rest a o h)
 put_or_wait_keeps put rest a None h one two = keeps_nothing h
 put_or_wait_keeps put rest a (Some k) h one two = keeps_both (put (tenancy_from a k)) rest h (one (tenancy_from a k) h) (two (put (tenancy_from a k) h).state)
 
-putting_each_keeps : (p : Params) (reading disk : ℕ) (put : Tenancy → Store → Deed Msg Store) → ((t : Tenancy) (g : Store) → Keeps g (put t g)) → (asks : List Ask) (h : Store)
+pub putting_each_keeps : (p : Params) (reading disk : ℕ) (put : Tenancy → Store → Deed Msg Store) → ((t : Tenancy) (g : Store) → Keeps g (put t g)) → (asks : List Ask) (h : Store)
     → Keeps h (putting_each put p reading disk asks h)
 unfolding putting_each
 putting_each_keeps p reading disk put one [] h = keeps_nothing h
 putting_each_keeps p reading disk put one (a ∷ rest) h =
     put_or_wait_keeps put (putting_each put p reading disk rest) a (free_on p reading disk h) h one (λ g. putting_each_keeps p reading disk put one rest g)
 
-putting_on_keeps : (p : Params) (reading : ℕ) (put : Tenancy → Store → Deed Msg Store) → ((t : Tenancy) (g : Store) → Keeps g (put t g)) → (disk : ℕ) (h : Store)
+pub putting_on_keeps : (p : Params) (reading : ℕ) (put : Tenancy → Store → Deed Msg Store) → ((t : Tenancy) (g : Store) → Keeps g (put t g)) → (disk : ℕ) (h : Store)
     → Keeps h (putting_on put p reading disk h)
 unfolding putting_on
 putting_on_keeps p reading put one disk h = putting_each_keeps p reading disk put one (filter (is_for disk) h.starts.waiting) h
 
-inserting_keeps : (p : Params) (c : ℕ) (stamp : Stamp) (h : Store) → Keeps h (inserting p c stamp h)
+pub inserting_keeps : (p : Params) (c : ℕ) (stamp : Stamp) (h : Store) → Keeps h (inserting p c stamp h)
 unfolding inserting
 inserting_keeps p c stamp h =
     let g : Store = (inserting_own p c stamp h).state in
@@ -279,11 +279,11 @@ inserting_keeps p c stamp h =
     (keeps_each (putting_on (putting_for_dead p c) p stamp.reading) (putting_on_keeps p stamp.reading (putting_for_dead p c) (putting_for_dead_keeps p c)) (disks_at p (predecessor p c)) g)
     (keeps_nothing g))
 
-with_pieces_keep : (xs : List PieceState) (h : Store) → ((with_each with_piece_record xs h).believes ≡ h.believes) × ((with_each with_piece_record xs h).held ≡ h.held)
+pub with_pieces_keep : (xs : List PieceState) (h : Store) → ((with_each with_piece_record xs h).believes ≡ h.believes) × ((with_each with_piece_record xs h).held ≡ h.held)
 with_pieces_keep [] h = (refl, refl)
 with_pieces_keep (x ∷ xs) h = let one = with_piece_keeps x h in let two = with_pieces_keep xs (with_piece_record x h) in (two.0 ∙ one.0, two.1 ∙ one.1)
 
-splitting_keeps : (p : Params) (c : ℕ) (stamp : Stamp) (h : Store) → Keeps h (splitting p c stamp h)
+pub splitting_keeps : (p : Params) (c : ℕ) (stamp : Stamp) (h : Store) → Keeps h (splitting p c stamp h)
 unfolding splitting
 splitting_keeps p c stamp h =
     let done : Deed Msg Store = record {
@@ -294,28 +294,28 @@ splitting_keeps p c stamp h =
     keeps_if h.believes h done (nothing h) (k.0, λ v e. ap (λ (held : List Holding). is_held held v) (sym k.1) ∙ e) (keeps_nothing h)
 
 -- the last four steps
-forwarding_keeps : (p : Params) (c : ℕ) (stamp : Stamp) (h : Store) → Keeps h (forwarding p c stamp h)
+pub forwarding_keeps : (p : Params) (c : ℕ) (stamp : Stamp) (h : Store) → Keeps h (forwarding p c stamp h)
 unfolding forwarding
 forwarding_keeps p c stamp h = (refl, λ v e. e)
 
-reading_keeps : (p : Params) (stamp : Stamp) (h : Store) → Keeps h (reading p stamp h)
+pub reading_keeps : (p : Params) (stamp : Stamp) (h : Store) → Keeps h (reading p stamp h)
 unfolding reading reading_blocks reading_pieces
 reading_keeps p stamp h = (refl, λ v e. e)
 
-serving_keeps : (p : Params) (c : ℕ) (stamp : Stamp) (h : Store) → Keeps h (serving p c stamp h)
+pub serving_keeps : (p : Params) (c : ℕ) (stamp : Stamp) (h : Store) → Keeps h (serving p c stamp h)
 unfolding serving serving_blocks dropping_backups serving_pieces
 serving_keeps p c stamp h = (refl, λ v e. e)
 
-beating_keeps : (p : Params) (c : ℕ) (stamp : Stamp) (h : Store) → Keeps h (beating p c stamp h)
+pub beating_keeps : (p : Params) (c : ℕ) (stamp : Stamp) (h : Store) → Keeps h (beating p c stamp h)
 unfolding beating
 beating_keeps p c stamp h = keeps_if _ h _ (nothing h) (refl, λ v e. e) (keeps_nothing h)
 
 -- the whole tick
-abbrev after_belief : Params → ℕ → Stamp → Store → Deed Msg Store
+abbrev pub after_belief : Params → ℕ → Stamp → Store → Deed Msg Store
 after_belief p c stamp =
     then_do (inserting p c stamp) (then_do (splitting p c stamp) (then_do (forwarding p c stamp) (then_do (reading p stamp) (then_do (serving p c stamp) (beating p c stamp)))))
 
-after_belief_keeps : (p : Params) (c : ℕ) (stamp : Stamp) (h : Store) → Keeps h (after_belief p c stamp h)
+pub after_belief_keeps : (p : Params) (c : ℕ) (stamp : Stamp) (h : Store) → Keeps h (after_belief p c stamp h)
 after_belief_keeps p c stamp h =
     let h1 : Store = (inserting p c stamp h).state in
     let h2 : Store = (splitting p c stamp h1).state in
@@ -327,7 +327,7 @@ after_belief_keeps p c stamp h =
     (keeps_both (reading p stamp) (then_do (serving p c stamp) (beating p c stamp)) h3 (reading_keeps p stamp h3)
     (keeps_both (serving p c stamp) (beating p c stamp) h4 (serving_keeps p c stamp h4) (beating_keeps p c stamp (serving p c stamp h4).state)))))
 
-same_watch : (p : Params) (stamp : Stamp) (h : Store) → (releasing p stamp h).state.watch ≡ h.watch
+pub same_watch : (p : Params) (stamp : Stamp) (h : Store) → (releasing p stamp h).state.watch ≡ h.watch
 unfolding releasing
 same_watch p stamp h = refl
 
@@ -341,13 +341,13 @@ believed_when p c stamp h e =
     (λ i. inr (subst (λ (w : Silence). is_silent w stamp.reading ≡ true) (same_watch p stamp h) i))
     ((believing_keeps p c stamp g).0 e)
 
-ticking_believes : (p : Params) (c : ℕ) (stamp : Stamp) (h : Store) → (ticking p c stamp h).state.believes ≡ true → (h.believes ≡ true) ⊎ (is_silent h.watch stamp.reading ≡ true)
+pub ticking_believes : (p : Params) (c : ℕ) (stamp : Stamp) (h : Store) → (ticking p c stamp h).state.believes ≡ true → (h.believes ≡ true) ⊎ (is_silent h.watch stamp.reading ≡ true)
 unfolding ticking
 ticking_believes p c stamp h e =
     let g : Store = (believing p c stamp (releasing p stamp h).state).state in
     believed_when p c stamp h (sym (after_belief_keeps p c stamp g).0 ∙ e)
 
-ticking_held : (p : Params) (c : ℕ) (stamp : Stamp) (h : Store) (v : Instance) → is_held (ticking p c stamp h).state.held v ≡ true → is_held h.held v ≡ true
+pub ticking_held : (p : Params) (c : ℕ) (stamp : Stamp) (h : Store) (v : Instance) → is_held (ticking p c stamp h).state.held v ≡ true → is_held h.held v ≡ true
 unfolding ticking
 ticking_held p c stamp h v e =
     let g : Store = (releasing p stamp h).state in
@@ -372,7 +372,7 @@ pub record StoppedBefore (inputs : ℕ → Input Msg) (v : Instance) (i : ℕ) :
   pub is : inputs at ≡ Take stamp link (msg.Deschedule instance tag)
   pub same : instance.0 ≡ v.0
 
-believed_step : (p : Params) (c : ℕ) (inputs : ℕ → Input Msg) (i : ℕ) (k : Input Msg) → inputs i ≡ k → (deed_of p c k (store_at p c inputs i)).state.believes ≡ true
+pub believed_step : (p : Params) (c : ℕ) (inputs : ℕ → Input Msg) (i : ℕ) (k : Input Msg) → inputs i ≡ k → (deed_of p c k (store_at p c inputs i)).state.believes ≡ true
     → ((store_at p c inputs i).believes ≡ true) ⊎ BelievedBefore p c inputs (suc i)
 believed_step p c inputs i (Take stamp link m) is e = inl (sym (taking_keeps p c stamp link m (store_at p c inputs i)).0 ∙ e)
 believed_step p c inputs i (Tick stamp) is e = ⊎_elim
@@ -388,7 +388,7 @@ believed_before p c inputs (suc i) e = ⊎_elim
     (believed_step p c inputs i (inputs i) refl e)
 
 -- a message that holds an instance is its deschedule
-stop_is : (inputs : ℕ → Input Msg) (i : ℕ) (v : Instance) (stamp : Stamp) (link : LinkNo) (m : Msg) → inputs i ≡ Take stamp link m → IsStopOf m v → StoppedBefore inputs v (suc i)
+pub stop_is : (inputs : ℕ → Input Msg) (i : ℕ) (v : Instance) (stamp : Stamp) (link : LinkNo) (m : Msg) → inputs i ≡ Take stamp link m → IsStopOf m v → StoppedBefore inputs v (suc i)
 stop_is inputs i v stamp link (msg.Deschedule w tag) e k = record { at = i; before = omega arith; stamp = stamp; link = link; instance = w; tag = tag; is = e; same = k }
 stop_is inputs i v stamp link (msg.ViewerState s) e k = absurd k
 stop_is inputs i v stamp link (msg.Start a redundant) e k = absurd k
@@ -401,7 +401,7 @@ stop_is inputs i v stamp link (msg.ReadAsk want) e k = absurd k
 stop_is inputs i v stamp link (msg.Whole want sent part) e k = absurd k
 stop_is inputs i v stamp link (msg.Piece want sent part) e k = absurd k
 
-held_step : (p : Params) (c : ℕ) (inputs : ℕ → Input Msg) (i : ℕ) (v : Instance) (k : Input Msg) → inputs i ≡ k → is_held (deed_of p c k (store_at p c inputs i)).state.held v ≡ true
+pub held_step : (p : Params) (c : ℕ) (inputs : ℕ → Input Msg) (i : ℕ) (v : Instance) (k : Input Msg) → inputs i ≡ k → is_held (deed_of p c k (store_at p c inputs i)).state.held v ≡ true
     → (is_held (store_at p c inputs i).held v ≡ true) ⊎ StoppedBefore inputs v (suc i)
 held_step p c inputs i v (Take stamp link m) e h = ⊎_elim (λ q. inl q) (λ q. inr (stop_is inputs i v stamp link m e q)) ((taking_keeps p c stamp link m (store_at p c inputs i)).1 v h)
 held_step p c inputs i v (Tick stamp) e h = inl (ticking_held p c stamp (store_at p c inputs i) v h)

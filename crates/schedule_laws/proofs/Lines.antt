@@ -57,7 +57,7 @@ pub record Idle (p : Params) (c : ℕ) (inputs : ℕ → Input Msg) (r : Rec) (i
   pub early : (k : ℕ) (stamp : Stamp) → at ≤ k → k < i → inputs k ≡ Tick stamp → must_forward p stamp r ≡ false
 
 module _ (p : Params) (c : ℕ) (plan : IsPlan p) (here : c < p.cubs) (inputs : ℕ → Input Msg) where
-  moves : (i : ℕ) → Moves p c (MayAt p (inputs i)) (store_at p c inputs i).view.lines (deed_of p c (inputs i) (store_at p c inputs i))
+  pub moves : (i : ℕ) → Moves p c (MayAt p (inputs i)) (store_at p c inputs i).view.lines (deed_of p c (inputs i) (store_at p c inputs i))
   moves i = deed_moves p c plan here (inputs i) (store_at p c inputs i)
 
   pub line_taken : (i : ℕ) (y : Line) → In y (store_at p c inputs i).view.lines → TakenBefore p c inputs y.rec i
@@ -107,7 +107,7 @@ module _ (p : Params) (c : ℕ) (plan : IsPlan p) (here : c < p.cubs) (inputs : 
   settled i stamp y e h =
       ticking_settles p c stamp (store_at p c inputs i) y (subst (λ (k : Input Msg). In y (deed_of p c k (store_at p c inputs i)).state.view.lines) e h)
 
-  idle_now : (i : ℕ) (stamp : Stamp) (y : Line) → inputs i ≡ Tick stamp → In y (store_at p c inputs (suc i)).view.lines → y.forwarded ≡ false → must_forward p stamp y.rec ≡ false
+  pub idle_now : (i : ℕ) (stamp : Stamp) (y : Line) → inputs i ≡ Tick stamp → In y (store_at p c inputs (suc i)).view.lines → y.forwarded ≡ false → must_forward p stamp y.rec ≡ false
   idle_now i stamp y e h mark = ⊎_elim (λ f. let z : true ≡ false = sym f ∙ mark in absurd (cc)) (λ f. f) (settled i stamp y e h)
 
   pub unmarked_idle : (i : ℕ) (y : Line) → In y (store_at p c inputs i).view.lines → y.forwarded ≡ false → Idle p c inputs y.rec i
@@ -137,7 +137,7 @@ module _ (p : Params) (c : ℕ) (plan : IsPlan p) (here : c < p.cubs) (inputs : 
       ((moves i).back y h)
 
   -- what a cub keeps is always what this cub may keep
-  opening_kept : IsStoreOf p c (opening_store p 0)
+  pub opening_kept : IsStoreOf p c (opening_store p 0)
   opening_kept = record {
     view_plan = refl;
     pieces_plan = refl;
@@ -151,7 +151,7 @@ module _ (p : Params) (c : ℕ) (plan : IsPlan p) (here : c < p.cubs) (inputs : 
     parts = tt;
   }
 
-  deed_kept : (i : Input Msg) (h : Store) → (stamp_of i).reading ≤ most_reading → IsStoreOf p c h → IsStoreOf p c (deed_of p c i h).state
+  pub deed_kept : (i : Input Msg) (h : Store) → (stamp_of i).reading ≤ most_reading → IsStoreOf p c h → IsStoreOf p c (deed_of p c i h).state
   deed_kept (Take stamp link m) h short kept = (taking_right p c stamp link m plan here short h kept).keeps
   deed_kept (Tick stamp) h short kept = (ticking_right p c stamp plan here short h kept).keeps
 

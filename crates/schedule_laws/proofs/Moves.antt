@@ -99,17 +99,17 @@ pub quiet_flat_map : {X : Type 0} (f : X → List (Out Msg)) → ((x : X) → Ar
 quiet_flat_map f q [] = tt
 quiet_flat_map f q (x ∷ xs) = quiet_append (f x) (flat_map f xs) (q x) (quiet_flat_map f q xs)
 
-next_left : (p : Params) (c : ℕ) (r : Rec) (xs ys : List (Out Msg)) → NextSent p c r xs → NextSent p c r (xs ++ ys)
+pub next_left : (p : Params) (c : ℕ) (r : Rec) (xs ys : List (Out Msg)) → NextSent p c r xs → NextSent p c r (xs ++ ys)
 next_left p c r xs ys s = (in_left _ xs ys s.0, in_left _ xs ys s.1)
 
-next_right : (p : Params) (c : ℕ) (r : Rec) (xs ys : List (Out Msg)) → NextSent p c r ys → NextSent p c r (xs ++ ys)
+pub next_right : (p : Params) (c : ℕ) (r : Rec) (xs ys : List (Out Msg)) → NextSent p c r ys → NextSent p c r (xs ++ ys)
 next_right p c r xs ys s = (in_right _ xs ys s.0, in_right _ xs ys s.1)
 
 -- a mark that was there before another deed
-marked_before : (p : Params) (c : ℕ) (xs ys : List (Out Msg)) (y z : Line) → y.rec ≡ z.rec → y.forwarded ≡ z.forwarded → IsMarked p c xs z → IsMarked p c (xs ++ ys) y
+pub marked_before : (p : Params) (c : ℕ) (xs ys : List (Out Msg)) (y z : Line) → y.rec ≡ z.rec → y.forwarded ≡ z.forwarded → IsMarked p c xs z → IsMarked p c (xs ++ ys) y
 marked_before p c xs ys y z e f m = (f ∙ m.0, subst (λ (r : Rec). NextSent p c r (xs ++ ys)) (sym e) (next_left p c z.rec xs ys m.1))
 
-marked_after : (p : Params) (c : ℕ) (xs ys : List (Out Msg)) (y : Line) → IsMarked p c ys y → IsMarked p c (xs ++ ys) y
+pub marked_after : (p : Params) (c : ℕ) (xs ys : List (Out Msg)) (y : Line) → IsMarked p c ys y → IsMarked p c (xs ++ ys) y
 marked_after p c xs ys y m = (m.0, next_right p c y.rec xs ys m.1)
 
 -- nothing moves
@@ -126,7 +126,7 @@ still p c May lines d e q = untaken p c May lines d e (λ r h. quiet_took r d.ou
 
 -- one deed, and then another
 module _ (p : Params) (c : ℕ) (May : Rec → Type 0) (lines : List Line) (d e : Deed Msg Store) (one : Moves p c May lines d) (two : Moves p c May d.state.view.lines e) where
-  back_was : (y z : Line) → y.rec ≡ z.rec → (y.forwarded ≡ z.forwarded) ⊎ IsMarked p c e.outs y → WasThere p c lines d.outs z → WasThere p c lines (d.outs ++ e.outs) y
+  pub back_was : (y z : Line) → y.rec ≡ z.rec → (y.forwarded ≡ z.forwarded) ⊎ IsMarked p c e.outs y → WasThere p c lines d.outs z → WasThere p c lines (d.outs ++ e.outs) y
   back_was y z same mark w = record {
     line = w.line;
     there = w.there;
@@ -137,7 +137,7 @@ module _ (p : Params) (c : ℕ) (May : Rec → Type 0) (lines : List Line) (d e 
         mark;
   }
 
-  back_new : (y z : Line) → y.rec ≡ z.rec → (y.forwarded ≡ z.forwarded) ⊎ IsMarked p c e.outs y → IsNew p c d.outs z → IsNew p c (d.outs ++ e.outs) y
+  pub back_new : (y z : Line) → y.rec ≡ z.rec → (y.forwarded ≡ z.forwarded) ⊎ IsMarked p c e.outs y → IsNew p c d.outs z → IsNew p c (d.outs ++ e.outs) y
   back_new y z same mark w = record {
     taken = in_left (taken_out y.rec) d.outs e.outs (subst (λ (r : Rec). In (taken_out r) d.outs) (sym same) w.taken);
     mark = ⊎_elim
@@ -146,7 +146,7 @@ module _ (p : Params) (c : ℕ) (May : Rec → Type 0) (lines : List Line) (d e 
         mark;
   }
 
-  then_back : (y : Line) → In y e.state.view.lines → WasThere p c lines (d.outs ++ e.outs) y ⊎ IsNew p c (d.outs ++ e.outs) y
+  pub then_back : (y : Line) → In y e.state.view.lines → WasThere p c lines (d.outs ++ e.outs) y ⊎ IsNew p c (d.outs ++ e.outs) y
   then_back y h = ⊎_elim
       (λ w. ⊎_elim (λ v. inl (back_was y w.line w.same w.mark v)) (λ v. inr (back_new y w.line w.same w.mark v)) (one.back w.line w.there))
       (λ w. inr (record {
@@ -155,7 +155,7 @@ module _ (p : Params) (c : ℕ) (May : Rec → Type 0) (lines : List Line) (d e 
       }))
       (two.back y h)
 
-  stays_on : (r : Rec) → Stays r d.state.view.lines ⊎ May r → Stays r e.state.view.lines ⊎ May r
+  pub stays_on : (r : Rec) → Stays r d.state.view.lines ⊎ May r → Stays r e.state.view.lines ⊎ May r
   stays_on r s = ⊎_elim
       (λ w. ⊎_elim
       (λ v. inl (record { line = v.line; there = v.there; same = v.same ∙ w.same }))
@@ -236,7 +236,7 @@ stays_with_line p x y (z ∷ zs) h =
 abbrev pub is_taken : Rec → Store → Bool
 is_taken r h = is_some (line_at (visit_of r) h.view.lines)
 
-with_record_new : (p : Params) (r : Rec) (ys : List Line) → is_some (line_at (visit_of r) ys) ≡ false → with_record p r ys ≡ with_line p (unmarked r) ys
+pub with_record_new : (p : Params) (r : Rec) (ys : List Line) → is_some (line_at (visit_of r) ys) ≡ false → with_record p r ys ≡ with_line p (unmarked r) ys
 unfolding with_record
 with_record_new p r ys e = rw e refl
 

@@ -8,13 +8,13 @@ use Rattle.node_kit.specs.Steps.{Input}
 use Rattle.node_kit.specs.Steps.Input.{Take, Tick}
 use Rattle.schedule_laws.specs.Lives.{is_tick_input, ticks_at, beat_at, IsLife}
 
-ticks_step : (inputs : ℕ → Input Msg) (i : ℕ) → (ticks_at inputs i ≤ ticks_at inputs (suc i)) × (ticks_at inputs (suc i) ≤ ticks_at inputs i + 1)
+pub ticks_step : (inputs : ℕ → Input Msg) (i : ℕ) → (ticks_at inputs i ≤ ticks_at inputs (suc i)) × (ticks_at inputs (suc i) ≤ ticks_at inputs i + 1)
 ticks_step inputs i = ⊎_elim
     (λ (e : is_tick_input (inputs i) ≡ true). rw e (omega arith, omega arith))
     (λ (e : is_tick_input (inputs i) ≡ false). rw e (omega arith, omega arith))
     (cases_Bool (is_tick_input (inputs i)))
 
-ticks_rise : (inputs : ℕ → Input Msg) (i j : ℕ) → i ≤ j → ticks_at inputs i ≤ ticks_at inputs j
+pub ticks_rise : (inputs : ℕ → Input Msg) (i j : ℕ) → i ≤ j → ticks_at inputs i ≤ ticks_at inputs j
 ticks_rise inputs i zero h = let e : i ≡ 0 = omega arith in subst (λ k. ticks_at inputs k ≤ 0) (sym e) (omega arith)
 ticks_rise inputs i (suc j) h = ⊎_elim
     (λ (e : i ≡ suc j). subst (λ k. ticks_at inputs k ≤ ticks_at inputs (suc j)) (sym e) (omega arith))

@@ -32,7 +32,7 @@ use Rattle.schedule_laws.proofs.Moves.{AreMeek, Moves, taken_out, untaken, moves
 use Rattle.schedule_laws.proofs.Inserting.{Nobody, Never, put_out, state_out, none_at, PutWell, Puts, puts_nothing, puts_then, opening, IsSeated, fewer_starts}
 
 -- a Put writes and sends this, where its place was free
-own_outs : (p : Params) (c : ℕ) (t : Tenancy) (h : Store) → is_taken (own_of t t.first) h ≡ false
+pub own_outs : (p : Params) (c : ℕ) (t : Tenancy) (h : Store) → is_taken (own_of t t.first) h ≡ false
     → (putting_own p c t h).outs ≡ put_out t ∷ taken_out (own_of t t.first) ∷ state_out p c t ∷ told_placed p c t ∷ []
 unfolding putting_own
 own_outs p c t h e = rw (took_new (own_of t t.first) (putting t h).state e).0 refl
@@ -51,7 +51,7 @@ own_moves p c t h =
     (untaken p c Never h2.view.lines (sending told h2) refl
     (λ r k. ⊎_elim (λ (q : taken_out r ≡ state_out p c t). absurd (cc)) (λ k. ⊎_elim (λ (q : taken_out r ≡ told_placed p c t). absurd (cc)) (λ q. absurd q) k) k)))
 
-took_same : (r : Rec) (h : Store) → is_taken r h ≡ false → ((took r h).state.believes ≡ h.believes) × ((took r h).state.starts ≡ h.starts)
+pub took_same : (r : Rec) (h : Store) → is_taken r h ≡ false → ((took r h).state.believes ≡ h.believes) × ((took r h).state.starts ≡ h.starts)
 unfolding took
 took_same r h e = (rw e refl, rw e refl)
 
@@ -66,7 +66,7 @@ unfolding putting_own
 own_kept p c t h = took_kept (own_of t t.first) (putting t h).state
 
 -- what stands in the four outputs of a Put
-own_took : (p : Params) (c : ℕ) (t : Tenancy) (r : Rec) → In (taken_out r) (put_out t ∷ taken_out (own_of t t.first) ∷ state_out p c t ∷ told_placed p c t ∷ []) → r ≡ own_of t t.first
+pub own_took : (p : Params) (c : ℕ) (t : Tenancy) (r : Rec) → In (taken_out r) (put_out t ∷ taken_out (own_of t t.first) ∷ state_out p c t ∷ told_placed p c t ∷ []) → r ≡ own_of t t.first
 own_took p c t r k = ⊎_elim
     (λ (q : taken_out r ≡ put_out t). absurd (cc))
     (λ k. ⊎_elim
@@ -78,7 +78,7 @@ own_took p c t r k = ⊎_elim
     k)
     k
 
-own_put : (p : Params) (c : ℕ) (t u : Tenancy) → In (put_out u) (put_out t ∷ taken_out (own_of t t.first) ∷ state_out p c t ∷ told_placed p c t ∷ []) → u ≡ t
+pub own_put : (p : Params) (c : ℕ) (t u : Tenancy) → In (put_out u) (put_out t ∷ taken_out (own_of t t.first) ∷ state_out p c t ∷ told_placed p c t ∷ []) → u ≡ t
 own_put p c t u k = ⊎_elim
     (λ (q : put_out u ≡ put_out t). let z : u ≡ t = cc in z)
     (λ k. ⊎_elim
@@ -90,7 +90,7 @@ own_put p c t u k = ⊎_elim
     k)
     k
 
-own_sent : (p : Params) (c : ℕ) (t : Tenancy) (link : LinkNo) (s : State) → In (out.Send link (msg.ViewerState s)) (put_out t ∷ taken_out (own_of t t.first) ∷ state_out p c t ∷ told_placed p c t ∷ [])
+pub own_sent : (p : Params) (c : ℕ) (t : Tenancy) (link : LinkNo) (s : State) → In (out.Send link (msg.ViewerState s)) (put_out t ∷ taken_out (own_of t t.first) ∷ state_out p c t ∷ told_placed p c t ∷ [])
     → (s ≡ record { tenancy = t; visit = t.first }) × (link ≡ way_ahead p c 1)
 own_sent p c t link s k = ⊎_elim
     (λ (q : out.Send link (msg.ViewerState s) ≡ put_out t). absurd (cc))
@@ -110,7 +110,7 @@ own_sent p c t link s k = ⊎_elim
     k)
     k
 
-own_placed : (p : Params) (c : ℕ) (t : Tenancy) (link : LinkNo) (u : Tenancy) → In (out.Send link (msg.Placed u)) (put_out t ∷ taken_out (own_of t t.first) ∷ state_out p c t ∷ told_placed p c t ∷ []) → u ≡ t
+pub own_placed : (p : Params) (c : ℕ) (t : Tenancy) (link : LinkNo) (u : Tenancy) → In (out.Send link (msg.Placed u)) (put_out t ∷ taken_out (own_of t t.first) ∷ state_out p c t ∷ told_placed p c t ∷ []) → u ≡ t
 own_placed p c t link u k = ⊎_elim
     (λ (q : out.Send link (msg.Placed u) ≡ put_out t). absurd (cc))
     (λ k. ⊎_elim
@@ -123,7 +123,7 @@ own_placed p c t link u k = ⊎_elim
     k
 
 -- a Put on a disk of the cub's own
-own_puts : (p : Params) (c reading disk : ℕ) (waiting : List Ask) (h : Store) (a : Ask) (k : Key) → disk % p.cubs ≡ c → IsSeated p reading disk waiting h a k
+pub own_puts : (p : Params) (c reading disk : ℕ) (waiting : List Ask) (h : Store) (a : Ask) (k : Key) → disk % p.cubs ≡ c → IsSeated p reading disk waiting h a k
     → Puts p c reading waiting h (putting_own p c (tenancy_from a k) h)
 own_puts p c reading disk waiting h a k own seat =
     let t : Tenancy = tenancy_from a k in
@@ -188,7 +188,7 @@ PutsWell p c reading waiting b disk put = (h : Store) (a : Ask) (k : Key) → h.
 
 -- Puts one after another, each where a visit is free when its turn comes
 module _ (p : Params) (c reading : ℕ) (waiting : List Ask) (b : Bool) (put : Tenancy → Store → Deed Msg Store) (plan : IsPlan p) where
-  put_or_wait_puts : (rest : Store → Deed Msg Store) (a : Ask) (o : Option Key) (h : Store) → h.believes ≡ b
+  pub put_or_wait_puts : (rest : Store → Deed Msg Store) (a : Ask) (o : Option Key) (h : Store) → h.believes ≡ b
       → ((k : Key) → o ≡ Some k → Puts p c reading waiting h (put (tenancy_from a k) h)) → ((g : Store) → g.believes ≡ b → Puts p c reading waiting g (rest g))
       → Puts p c reading waiting h (put_or_wait put rest a o h)
   put_or_wait_puts rest a None h same good after = puts_nothing p c reading waiting h
@@ -196,7 +196,7 @@ module _ (p : Params) (c reading : ℕ) (waiting : List Ask) (b : Bool) (put : T
       let one = good k refl in
       puts_then p c reading waiting h (put (tenancy_from a k) h) (rest (put (tenancy_from a k) h).state) one (after (put (tenancy_from a k) h).state (one.beliefs ∙ same))
 
-  putting_each_puts : (disk : ℕ) → PutsWell p c reading waiting b disk put → (asks : List Ask) → ((a : Ask) → In a asks → In a waiting × (a.disk.0 ≡ disk))
+  pub putting_each_puts : (disk : ℕ) → PutsWell p c reading waiting b disk put → (asks : List Ask) → ((a : Ask) → In a asks → In a waiting × (a.disk.0 ≡ disk))
       → (h : Store) → h.believes ≡ b → Puts p c reading waiting h (putting_each put p reading disk asks h)
   unfolding putting_each
   putting_each_puts disk good [] wait h same = puts_nothing p c reading waiting h
@@ -205,7 +205,7 @@ module _ (p : Params) (c reading : ℕ) (waiting : List Ask) (b : Bool) (put : T
       (λ k e. let w = wait a (inl refl) in good h a k same (record { waits = w.0; for_disk = w.1; opening = opening p reading disk h k plan e }))
       (λ g same. putting_each_puts disk good rest (λ b i. wait b (inr i)) g same)
 
-  putting_on_puts : (disk : ℕ) → PutsWell p c reading waiting b disk put → (h : Store) → h.believes ≡ b → ((a : Ask) → In a h.starts.waiting → In a waiting)
+  pub putting_on_puts : (disk : ℕ) → PutsWell p c reading waiting b disk put → (h : Store) → h.believes ≡ b → ((a : Ask) → In a h.starts.waiting → In a waiting)
       → Puts p c reading waiting h (putting_on put p reading disk h)
   unfolding putting_on
   putting_on_puts disk good h same wait =

@@ -45,21 +45,21 @@ use Rattle.schedule_laws.proofs.Moves.{is_taken, taken_out}
 abbrev pub Steady : Store → Deed Msg Store → Type 0
 Steady h d = (d.state.starts ≡ h.starts) × (d.state.watch ≡ h.watch)
 
-steady_both : (f g : Store → Deed Msg Store) (h : Store) → Steady h (f h) → Steady (f h).state (g (f h).state) → Steady h (then_do f g h)
+pub steady_both : (f g : Store → Deed Msg Store) (h : Store) → Steady h (f h) → Steady (f h).state (g (f h).state) → Steady h (then_do f g h)
 steady_both f g h one two = (two.0 ∙ one.0, two.1 ∙ one.1)
 
-steady_if : (b : Bool) (h : Store) (d e : Deed Msg Store) → Steady h d → Steady h e → Steady h (cond b d e)
+pub steady_if : (b : Bool) (h : Store) (d e : Deed Msg Store) → Steady h d → Steady h e → Steady h (cond b d e)
 steady_if b h d e one two = chosen (λ (x : Deed Msg Store). Steady h x) b d e (λ _. one) (λ _. two)
 
-steady_each : {A : Type 0} (f : A → Store → Deed Msg Store) → ((a : A) (h : Store) → Steady h (f a h)) → (xs : List A) (h : Store) → Steady h (each_in_turn f xs h)
+pub steady_each : {A : Type 0} (f : A → Store → Deed Msg Store) → ((a : A) (h : Store) → Steady h (f a h)) → (xs : List A) (h : Store) → Steady h (each_in_turn f xs h)
 steady_each f each [] h = (refl, refl)
 steady_each f each (x ∷ xs) h = steady_both (f x) (each_in_turn f xs) h (each x h) (steady_each f each xs (f x h).state)
 
-passing_on_steady : (p : Params) (c : ℕ) (stamp : Stamp) (v : Instance) (k : Key) (h : Store) → Steady h (passing_on p c stamp v k h)
+pub passing_on_steady : (p : Params) (c : ℕ) (stamp : Stamp) (v : Instance) (k : Key) (h : Store) → Steady h (passing_on p c stamp v k h)
 unfolding passing_on
 passing_on_steady p c stamp v k h = (refl, refl)
 
-passing_from_steady : (p : Params) (c : ℕ) (stamp : Stamp) (v : Instance) (o : Option Key) (h : Store) → Steady h (passing_from p c stamp v o h)
+pub passing_from_steady : (p : Params) (c : ℕ) (stamp : Stamp) (v : Instance) (o : Option Key) (h : Store) → Steady h (passing_from p c stamp v o h)
 passing_from_steady p c stamp v None h = (refl, refl)
 passing_from_steady p c stamp v (Some k) h = steady_if (must_pass h.held v) h (passing_on p c stamp v k h) (nothing h) (passing_on_steady p c stamp v k h) (refl, refl)
 
@@ -67,29 +67,29 @@ pub took_steady : (r : Rec) (h : Store) → Steady h (took r h)
 unfolding took
 took_steady r h = steady_if (is_taken r h) h (nothing h) (record { outs = taken_out r ∷ []; state = record h { view = view_with r h.view } }) (refl, refl) (refl, refl)
 
-with_piece_steady : (x : PieceState) (h : Store) → ((with_piece_record x h).starts ≡ h.starts) × ((with_piece_record x h).watch ≡ h.watch)
+pub with_piece_steady : (x : PieceState) (h : Store) → ((with_piece_record x h).starts ≡ h.starts) × ((with_piece_record x h).watch ≡ h.watch)
 unfolding with_piece_record
 with_piece_steady x h = chosen (λ (s : Store). (s.starts ≡ h.starts) × (s.watch ≡ h.watch)) (pieces.is_in x h.pieces.items) h _ (λ _. (refl, refl)) (λ _. (refl, refl))
 
-meeting_piece_steady : (p : Params) (c : ℕ) (x : PieceState) (h : Store) → Steady h (meeting_piece p c x h)
+pub meeting_piece_steady : (p : Params) (c : ℕ) (x : PieceState) (h : Store) → Steady h (meeting_piece p c x h)
 unfolding meeting_piece
 meeting_piece_steady p c x h =
     steady_if (is_held h.held x.tenancy.instance || not (cub_of p (x.visit + x.piece) == c)) h (nothing h) (record { outs = []; state = with_piece_record x h }) (refl, refl) (with_piece_steady x h)
 
-meeting_kill_steady : (v : Instance) (visit : ℕ) (h : Store) → Steady h (meeting_kill v visit h)
+pub meeting_kill_steady : (v : Instance) (visit : ℕ) (h : Store) → Steady h (meeting_kill v visit h)
 unfolding meeting_kill
 meeting_kill_steady v visit h = (refl, refl)
 
-storing_steady : (want : Want) (part : Option LibraryPart) (h : Store) → Steady h (storing want part h)
+pub storing_steady : (want : Want) (part : Option LibraryPart) (h : Store) → Steady h (storing want part h)
 storing_steady want (Some part) h = (refl, refl)
 storing_steady want None h = (refl, refl)
 
-meeting_answer_steady : (want : Want) (part : Option LibraryPart) (h : Store) → Steady h (meeting_answer want part h)
+pub meeting_answer_steady : (want : Want) (part : Option LibraryPart) (h : Store) → Steady h (meeting_answer want part h)
 unfolding meeting_answer
 meeting_answer_steady want part h = steady_if (is_wanted want h) h (storing want part h) (nothing h) (storing_steady want part h) (refl, refl)
 
 -- a start of an instance is dropped by its states and its deschedules
-dropping_start_after : (v : Instance) (h : Store) → ((dropping_start v h).state.starts ≡ without_start h.starts v) × ((dropping_start v h).state.watch ≡ h.watch)
+pub dropping_start_after : (v : Instance) (h : Store) → ((dropping_start v h).state.starts ≡ without_start h.starts v) × ((dropping_start v h).state.watch ≡ h.watch)
 unfolding dropping_start
 dropping_start_after v h = (refl, refl)
 
@@ -119,7 +119,7 @@ met_after p c stamp s (Some k) h =
     chosen (λ (d : Deed Msg Store). ((d.state.starts ≡ h.starts) ⊎ (d.state.starts ≡ without_start h.starts s.tenancy.instance)) × (d.state.watch ≡ h.watch))
     (is_held h.held s.tenancy.instance) (passing_from p c stamp s.tenancy.instance (Some k) h) (told s k h) (λ _. (inl one.0, one.1)) (λ _. (inr (three.0 ∙ two.0), three.1 ∙ two.1))
 
-meeting_state_after : (p : Params) (c : ℕ) (stamp : Stamp) (s : State) (h : Store)
+pub meeting_state_after : (p : Params) (c : ℕ) (stamp : Stamp) (s : State) (h : Store)
     → StartsAfter (msg.ViewerState s) h.starts (meeting_state p c stamp s h).state.starts × ((meeting_state p c stamp s h).state.watch ≡ h.watch)
 unfolding meeting_state
 meeting_state_after p c stamp s h =
@@ -140,18 +140,18 @@ pub start_joins : (a : Ask) (h : Store) → is_ask a ≡ true → is_held h.held
 unfolding meeting_start
 start_joins a h ask held shown = rw (ask, held, shown) refl
 
-holding_after : (p : Params) (stamp : Stamp) (v : Instance) (h : Store) → Steady h (holding p stamp v h)
+pub holding_after : (p : Params) (stamp : Stamp) (v : Instance) (h : Store) → Steady h (holding p stamp v h)
 holding_after p stamp v h = (refl, refl)
 
-dropping_lines_steady : (v : Instance) (h : Store) → Steady h (dropping_lines v h)
+pub dropping_lines_steady : (v : Instance) (h : Store) → Steady h (dropping_lines v h)
 unfolding dropping_lines
 dropping_lines_steady v h = (refl, refl)
 
-dropping_pieces_steady : (v : Instance) (h : Store) → Steady h (dropping_pieces v h)
+pub dropping_pieces_steady : (v : Instance) (h : Store) → Steady h (dropping_pieces v h)
 unfolding dropping_pieces
 dropping_pieces_steady v h = (refl, refl)
 
-killing_splits_steady : (p : Params) (c : ℕ) (v : Instance) (h : Store) → Steady h (killing_splits p c v h)
+pub killing_splits_steady : (p : Params) (c : ℕ) (v : Instance) (h : Store) → Steady h (killing_splits p c v h)
 unfolding killing_splits
 killing_splits_steady p c v h = (refl, refl)
 
@@ -178,10 +178,10 @@ IsHeard p c stamp link m old new = (m ≡ msg.Heartbeat) × (link.0 ≡ (way_ahe
 abbrev pub After : Params → ℕ → Stamp → LinkNo → Msg → Store → Store → Type 0
 After p c stamp link m h g = StartsAfter m h.starts g.starts × ((g.watch ≡ h.watch) ⊎ IsHeard p c stamp link m h.watch g.watch)
 
-steady_after : (p : Params) (c : ℕ) (stamp : Stamp) (link : LinkNo) (m : Msg) (h : Store) (d : Deed Msg Store) → Steady h d → After p c stamp link m h d.state
+pub steady_after : (p : Params) (c : ℕ) (stamp : Stamp) (link : LinkNo) (m : Msg) (h : Store) (d : Deed Msg Store) → Steady h d → After p c stamp link m h d.state
 steady_after p c stamp link m h d s = (inl s.0, inl s.1)
 
-hearing_beat_after : (p : Params) (c : ℕ) (stamp : Stamp) (link : LinkNo) (h : Store) → After p c stamp link msg.Heartbeat h (hearing_beat p c stamp link h).state
+pub hearing_beat_after : (p : Params) (c : ℕ) (stamp : Stamp) (link : LinkNo) (h : Store) → After p c stamp link msg.Heartbeat h (hearing_beat p c stamp link h).state
 unfolding hearing_beat
 hearing_beat_after p c stamp link h =
     chosen (λ (d : Deed Msg Store). After p c stamp link msg.Heartbeat h d.state) (link.0 == (way_ahead p (predecessor p c) 1).0)
@@ -192,7 +192,7 @@ pub beat_heard : (p : Params) (c : ℕ) (stamp : Stamp) (link : LinkNo) (h : Sto
 unfolding hearing_beat
 beat_heard p c stamp link h e = rw (eq-eqb _ _ e) refl
 
-hearing_after : (p : Params) (c : ℕ) (stamp : Stamp) (link : LinkNo) (m : Msg) (h : Store) → After p c stamp link m h (hearing p c stamp link m h).state
+pub hearing_after : (p : Params) (c : ℕ) (stamp : Stamp) (link : LinkNo) (m : Msg) (h : Store) → After p c stamp link m h (hearing p c stamp link m h).state
 unfolding hearing
 hearing_after p c stamp link (msg.ViewerState s) h = let a = meeting_state_after p c stamp s h in (a.0, inl a.1)
 hearing_after p c stamp link (msg.Start a redundant) h = let b = meeting_start_after a redundant h in (b.0, inl b.1)
@@ -236,11 +236,11 @@ believing_after p c stamp h =
     chosen (λ (d : Deed Msg Store). ((d.state.starts ≡ h.starts) ⊎ (d.state.starts ≡ after_take_over h.starts)) × (d.state.watch ≡ h.watch)) (not h.believes && is_silent h.watch stamp.reading) done (nothing h)
     (λ _. (inr refl, refl)) (λ _. (inl refl, refl))
 
-with_pieces_steady : (xs : List PieceState) (h : Store) → ((with_each with_piece_record xs h).starts ≡ h.starts) × ((with_each with_piece_record xs h).watch ≡ h.watch)
+pub with_pieces_steady : (xs : List PieceState) (h : Store) → ((with_each with_piece_record xs h).starts ≡ h.starts) × ((with_each with_piece_record xs h).watch ≡ h.watch)
 with_pieces_steady [] h = (refl, refl)
 with_pieces_steady (x ∷ xs) h = let one = with_piece_steady x h in let two = with_pieces_steady xs (with_piece_record x h) in (two.0 ∙ one.0, two.1 ∙ one.1)
 
-splitting_steady : (p : Params) (c : ℕ) (stamp : Stamp) (h : Store) → Steady h (splitting p c stamp h)
+pub splitting_steady : (p : Params) (c : ℕ) (stamp : Stamp) (h : Store) → Steady h (splitting p c stamp h)
 unfolding splitting
 splitting_steady p c stamp h =
     let done : Deed Msg Store = record {
@@ -249,19 +249,19 @@ splitting_steady p c stamp h =
     } in
     steady_if h.believes h done (nothing h) (with_pieces_steady (flat_map (first_pieces p stamp) h.view.lines) (with_split_lines p stamp h)) (refl, refl)
 
-forwarding_steady : (p : Params) (c : ℕ) (stamp : Stamp) (h : Store) → Steady h (forwarding p c stamp h)
+pub forwarding_steady : (p : Params) (c : ℕ) (stamp : Stamp) (h : Store) → Steady h (forwarding p c stamp h)
 unfolding forwarding
 forwarding_steady p c stamp h = (refl, refl)
 
-reading_steady : (p : Params) (stamp : Stamp) (h : Store) → Steady h (reading p stamp h)
+pub reading_steady : (p : Params) (stamp : Stamp) (h : Store) → Steady h (reading p stamp h)
 unfolding reading reading_blocks reading_pieces
 reading_steady p stamp h = (refl, refl)
 
-serving_steady : (p : Params) (c : ℕ) (stamp : Stamp) (h : Store) → Steady h (serving p c stamp h)
+pub serving_steady : (p : Params) (c : ℕ) (stamp : Stamp) (h : Store) → Steady h (serving p c stamp h)
 unfolding serving serving_blocks dropping_backups serving_pieces
 serving_steady p c stamp h = (refl, refl)
 
-beating_steady : (p : Params) (c : ℕ) (stamp : Stamp) (h : Store) → Steady h (beating p c stamp h)
+pub beating_steady : (p : Params) (c : ℕ) (stamp : Stamp) (h : Store) → Steady h (beating p c stamp h)
 unfolding beating
 beating_steady p c stamp h = chosen (λ (d : Deed Msg Store). Steady h d) (stamp.beat % p.heart == 0) (record { outs = out.Send (way_ahead p c 1) msg.Heartbeat ∷ []; state = h }) (nothing h) (λ _. (refl, refl)) (λ _. (refl, refl))
 
@@ -269,7 +269,7 @@ abbrev pub after_insertion : Params → ℕ → Stamp → Store → Deed Msg Sto
 after_insertion p c stamp =
     then_do (splitting p c stamp) (then_do (forwarding p c stamp) (then_do (reading p stamp) (then_do (serving p c stamp) (beating p c stamp))))
 
-after_insertion_steady : (p : Params) (c : ℕ) (stamp : Stamp) (h : Store) → Steady h (after_insertion p c stamp h)
+pub after_insertion_steady : (p : Params) (c : ℕ) (stamp : Stamp) (h : Store) → Steady h (after_insertion p c stamp h)
 after_insertion_steady p c stamp h1 =
     let h2 : Store = (splitting p c stamp h1).state in
     let h3 : Store = (forwarding p c stamp h2).state in
@@ -280,44 +280,44 @@ after_insertion_steady p c stamp h1 =
     (steady_both (serving p c stamp) (beating p c stamp) h4 (serving_steady p c stamp h4) (beating_steady p c stamp (serving p c stamp h4).state))))
 
 -- insertion leaves the watch
-abbrev WatchesOn : (Store → Deed Msg Store) → Type 0
+abbrev pub WatchesOn : (Store → Deed Msg Store) → Type 0
 WatchesOn f = (h : Store) → (f h).state.watch ≡ h.watch
 
-putting_own_watch : (p : Params) (c : ℕ) (t : Tenancy) → WatchesOn (putting_own p c t)
+pub putting_own_watch : (p : Params) (c : ℕ) (t : Tenancy) → WatchesOn (putting_own p c t)
 unfolding putting_own
 putting_own_watch p c t h = (took_steady (own_of t t.first) (putting t h).state).1
 
-second_watch : (t : Tenancy) → WatchesOn (cond (nat_lt t.first t.last) (took (own_of t (t.first + 1))) nothing)
+pub second_watch : (t : Tenancy) → WatchesOn (cond (nat_lt t.first t.last) (took (own_of t (t.first + 1))) nothing)
 second_watch t h =
     chosen (λ (f : Store → Deed Msg Store). (f h).state.watch ≡ h.watch) (nat_lt t.first t.last) (took (own_of t (t.first + 1))) nothing (λ _. (took_steady (own_of t (t.first + 1)) h).1) (λ _. refl)
 
-putting_for_dead_watch : (p : Params) (c : ℕ) (t : Tenancy) → WatchesOn (putting_for_dead p c t)
+pub putting_for_dead_watch : (p : Params) (c : ℕ) (t : Tenancy) → WatchesOn (putting_for_dead p c t)
 unfolding putting_for_dead
 putting_for_dead_watch p c t h =
     let h1 : Store = (putting t h).state in
     let h2 : Store = (took (backup_of t t.first) h1).state in
     second_watch t h2 ∙ (took_steady (backup_of t t.first) h1).1
 
-put_or_wait_watch : (put : Tenancy → Store → Deed Msg Store) (rest : Store → Deed Msg Store) (a : Ask) (o : Option Key) → ((t : Tenancy) → WatchesOn (put t)) → WatchesOn rest
+pub put_or_wait_watch : (put : Tenancy → Store → Deed Msg Store) (rest : Store → Deed Msg Store) (a : Ask) (o : Option Key) → ((t : Tenancy) → WatchesOn (put t)) → WatchesOn rest
     → WatchesOn (put_or_wait put rest a o)
 put_or_wait_watch put rest a None one two h = refl
 put_or_wait_watch put rest a (Some k) one two h = two (put (tenancy_from a k) h).state ∙ one (tenancy_from a k) h
 
-putting_each_watch : (p : Params) (now disk : ℕ) (put : Tenancy → Store → Deed Msg Store) → ((t : Tenancy) → WatchesOn (put t)) → (asks : List Ask) → WatchesOn (putting_each put p now disk asks)
+pub putting_each_watch : (p : Params) (now disk : ℕ) (put : Tenancy → Store → Deed Msg Store) → ((t : Tenancy) → WatchesOn (put t)) → (asks : List Ask) → WatchesOn (putting_each put p now disk asks)
 unfolding putting_each
 putting_each_watch p now disk put one [] h = refl
 putting_each_watch p now disk put one (a ∷ rest) h =
     put_or_wait_watch put (putting_each put p now disk rest) a (free_on p now disk h) one (putting_each_watch p now disk put one rest) h
 
-putting_on_watch : (p : Params) (now : ℕ) (put : Tenancy → Store → Deed Msg Store) → ((t : Tenancy) → WatchesOn (put t)) → (disk : ℕ) → WatchesOn (putting_on put p now disk)
+pub putting_on_watch : (p : Params) (now : ℕ) (put : Tenancy → Store → Deed Msg Store) → ((t : Tenancy) → WatchesOn (put t)) → (disk : ℕ) → WatchesOn (putting_on put p now disk)
 unfolding putting_on
 putting_on_watch p now put one disk h = putting_each_watch p now disk put one (filter (is_for disk) h.starts.waiting) h
 
-each_watch : (f : ℕ → Store → Deed Msg Store) → ((n : ℕ) → WatchesOn (f n)) → (ns : List ℕ) → WatchesOn (each_in_turn f ns)
+pub each_watch : (f : ℕ → Store → Deed Msg Store) → ((n : ℕ) → WatchesOn (f n)) → (ns : List ℕ) → WatchesOn (each_in_turn f ns)
 each_watch f one [] h = refl
 each_watch f one (n ∷ ns) h = each_watch f one ns (f n h).state ∙ one n h
 
-inserting_watch : (p : Params) (c : ℕ) (stamp : Stamp) → WatchesOn (inserting p c stamp)
+pub inserting_watch : (p : Params) (c : ℕ) (stamp : Stamp) → WatchesOn (inserting p c stamp)
 unfolding inserting
 inserting_watch p c stamp h =
     let g : Store = (inserting_own p c stamp h).state in

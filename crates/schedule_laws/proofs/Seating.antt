@@ -70,7 +70,7 @@ seats_nothing asks h = record {
   single = λ t u k. absurd k;
 }
 
-seats_then : (asks more : List Ask) (h : Store) (d e : Deed Msg Store) → Seats asks h d → Seats more d.state e → ((a : Ask) → In a more → In a asks)
+pub seats_then : (asks more : List Ask) (h : Store) (d e : Deed Msg Store) → Seats asks h d → Seats more d.state e → ((a : Ask) → In a more → In a asks)
     → ((t u : Tenancy) → In (put_out t) d.outs → In (put_out u) e.outs → t.instance.0 ≡ u.instance.0 → ⊥) → Seats asks h (record { outs = d.outs ++ e.outs; state = e.state })
 seats_then asks more h d e one two wide apart = record {
   from = λ t k. ⊎_elim (λ q. one.from t q) (λ q. let w = two.from t q in (w.0, wide w.0 w.1, w.2)) (in_cases (put_out t) d.outs e.outs k);
@@ -89,7 +89,7 @@ seats_then asks more h d e one two wide apart = record {
       (in_cases (put_out t) d.outs e.outs k);
 }
 
-seats_wider : (asks more : List Ask) (h : Store) (d : Deed Msg Store) → ((a : Ask) → In a asks → In a more) → Seats asks h d → Seats more h d
+pub seats_wider : (asks more : List Ask) (h : Store) (d : Deed Msg Store) → ((a : Ask) → In a asks → In a more) → Seats asks h d → Seats more h d
 seats_wider asks more h d wide s = record {
   from = λ t k. let w = s.from t k in (w.0, wide w.0 w.1, w.2);
   forth = s.forth;
@@ -107,10 +107,10 @@ pub record PutsOne (put : Tenancy → Store → Deed Msg Store) : Type 0 where
   pub puts : (t : Tenancy) (h : Store) → In (put_out t) (put t h).outs
   pub only : (t u : Tenancy) (h : Store) → In (put_out u) (put t h).outs → u ≡ t
 
-gone_from : (asks : List Ask) (v : Instance) (a : Ask) → In a (without asks v) → a.instance.0 ≡ v.0 → ⊥
+pub gone_from : (asks : List Ask) (v : Instance) (a : Ask) → In a (without asks v) → a.instance.0 ≡ v.0 → ⊥
 gone_from asks v a k e = let z : true ≡ false = sym (in_start (without asks v) a v k e) ∙ has_start-gone asks v in absurd (cc)
 
-seat_one : (put : Tenancy → Store → Deed Msg Store) → PutsOne put → (asks : List Ask) (a : Ask) (t : Tenancy) (h : Store) → In a asks → a.instance.0 ≡ t.instance.0 → Seats asks h (put t h)
+pub seat_one : (put : Tenancy → Store → Deed Msg Store) → PutsOne put → (asks : List Ask) (a : Ask) (t : Tenancy) (h : Store) → In a asks → a.instance.0 ≡ t.instance.0 → Seats asks h (put t h)
 seat_one put one asks a t h there same =
     let starts = one.starts t h in
     let waiting : (put t h).state.starts.waiting ≡ without h.starts.waiting t.instance = ap (λ (q : Queues). q.waiting) starts in
@@ -130,7 +130,7 @@ seat_one put one asks a t h there same =
     }
 
 -- no two starts of a filtered list are of one instance where none of the list's are
-has_filter : (test : Ask → Bool) (asks : List Ask) (v : Instance) → has_start asks v ≡ false → has_start (filter test asks) v ≡ false
+pub has_filter : (test : Ask → Bool) (asks : List Ask) (v : Instance) → has_start asks v ≡ false → has_start (filter test asks) v ≡ false
 has_filter test [] v e = refl
 has_filter test (a ∷ rest) v e =
     ⊎_elim
@@ -141,12 +141,12 @@ has_filter test (a ∷ rest) v e =
     (λ _. subst (λ b. (b || has_start (filter test rest) v) ≡ false) (sym t) (has_filter test rest v r)) (λ _. has_filter test rest v r))
     (cases_Bool (is_of v a))
 
-once_filter : (test : Ask → Bool) (asks : List Ask) → IsOnce asks → IsOnce (filter test asks)
+pub once_filter : (test : Ask → Bool) (asks : List Ask) → IsOnce asks → IsOnce (filter test asks)
 once_filter test [] o = tt
 once_filter test (a ∷ rest) o =
     chosen (λ (bs : List Ask). IsOnce bs) (test a) (a ∷ filter test rest) (filter test rest) (λ _. (has_filter test rest a.instance o.0, once_filter test rest o.1)) (λ _. once_filter test rest o.1)
 
-has_front : (xs ys : List Ask) (v : Instance) → has_start (xs ++ ys) v ≡ false → has_start xs v ≡ false
+pub has_front : (xs ys : List Ask) (v : Instance) → has_start (xs ++ ys) v ≡ false → has_start xs v ≡ false
 has_front [] ys v e = refl
 has_front (x ∷ xs) ys v e = ⊎_elim
     (λ (t : is_of v x ≡ true). let z : true ≡ false = sym (or_left (is_of v x) (has_start (xs ++ ys) v) t) ∙ e in absurd (cc))
@@ -155,13 +155,13 @@ has_front (x ∷ xs) ys v e = ⊎_elim
     subst (λ b. (b || has_start xs v) ≡ false) (sym t) (has_front xs ys v r))
     (cases_Bool (is_of v x))
 
-once_front : (front back : List Ask) → IsOnce (front ++ back) → IsOnce front
+pub once_front : (front back : List Ask) → IsOnce (front ++ back) → IsOnce front
 once_front [] back o = tt
 once_front (a ∷ rest) back o = (has_front rest back a.instance o.0, once_front rest back o.1)
 
 -- starts that are put one after another
 module _ (p : Params) (now : ℕ) (put : Tenancy → Store → Deed Msg Store) (one : PutsOne put) where
-  put_or_wait_seats : (rest : List Ask) (a : Ask) (o : Option Key) (h : Store) (after : Store → Deed Msg Store) → has_start rest a.instance ≡ false → ((g : Store) → Seats rest g (after g))
+  pub put_or_wait_seats : (rest : List Ask) (a : Ask) (o : Option Key) (h : Store) (after : Store → Deed Msg Store) → has_start rest a.instance ≡ false → ((g : Store) → Seats rest g (after g))
       → Seats (a ∷ rest) h (put_or_wait put after a o h)
   put_or_wait_seats rest a None h after fresh more = seats_nothing (a ∷ rest) h
   put_or_wait_seats rest a (Some k) h after fresh more =
@@ -173,7 +173,7 @@ module _ (p : Params) (now : ℕ) (put : Tenancy → Store → Deed Msg Store) (
       let f = (more g).from w i in
       let z : true ≡ false = sym (in_start rest f.0 a.instance f.1 (f.2 ∙ sym s ∙ ap (λ (x : Tenancy). x.instance.0) e)) ∙ fresh in absurd (cc))
 
-  putting_each_seats : (disk : ℕ) (asks : List Ask) → IsOnce asks → (h : Store) → Seats asks h (putting_each put p now disk asks h)
+  pub putting_each_seats : (disk : ℕ) (asks : List Ask) → IsOnce asks → (h : Store) → Seats asks h (putting_each put p now disk asks h)
   unfolding putting_each
   putting_each_seats disk [] o h = seats_nothing [] h
   putting_each_seats disk (a ∷ rest) o h = put_or_wait_seats rest a (free_on p now disk h) h (putting_each put p now disk rest) o.0 (putting_each_seats disk rest o.1)
@@ -195,14 +195,14 @@ module _ (p : Params) (now : ℕ) (put : Tenancy → Store → Deed Msg Store) (
       (λ t u k i s. let f = second.from u i in first.removed t f.0 k f.1 (f.2 ∙ sym s))
 
 -- the two rules
-own_there : (p : Params) (c : ℕ) (t : Tenancy) (h : Store) → In (put_out t) (putting_own p c t h).outs
+pub own_there : (p : Params) (c : ℕ) (t : Tenancy) (h : Store) → In (put_out t) (putting_own p c t h).outs
 unfolding putting_own
 own_there p c t h = inl refl
 
-no_put : (u : Tenancy) (outs : List (Out Msg)) → AreNoPuts outs → In (put_out u) outs → ⊥
+pub no_put : (u : Tenancy) (outs : List (Out Msg)) → AreNoPuts outs → In (put_out u) outs → ⊥
 no_put u outs q k = all_in IsNoPut (put_out u) outs q k
 
-own_only : (p : Params) (c : ℕ) (t u : Tenancy) (h : Store) → In (put_out u) (putting_own p c t h).outs → u ≡ t
+pub own_only : (p : Params) (c : ℕ) (t u : Tenancy) (h : Store) → In (put_out u) (putting_own p c t h).outs → u ≡ t
 unfolding putting_own
 own_only p c t u h k =
     let g : Store = (putting t h).state in
@@ -217,15 +217,15 @@ own_only p c t u h k =
     (in_cases (put_out u) (took (own_of t t.first) g).outs (state_out p c t ∷ told_placed p c t ∷ []) k))
     k
 
-dead_there : (p : Params) (c : ℕ) (t : Tenancy) (h : Store) → In (put_out t) (putting_for_dead p c t h).outs
+pub dead_there : (p : Params) (c : ℕ) (t : Tenancy) (h : Store) → In (put_out t) (putting_for_dead p c t h).outs
 unfolding putting_for_dead
 dead_there p c t h = inl refl
 
-second_no_puts : (p : Params) (c : ℕ) (t : Tenancy) (h : Store) → AreNoPuts (cond (nat_lt t.first t.last) (took (own_of t (t.first + 1))) nothing h).outs
+pub second_no_puts : (p : Params) (c : ℕ) (t : Tenancy) (h : Store) → AreNoPuts (cond (nat_lt t.first t.last) (took (own_of t (t.first + 1))) nothing h).outs
 second_no_puts p c t h =
     chosen (λ (f : Store → Deed Msg Store). AreNoPuts (f h).outs) (nat_lt t.first t.last) (took (own_of t (t.first + 1))) nothing (λ _. took_no_puts p c Never (own_of t (t.first + 1)) h) (λ _. tt)
 
-dead_only : (p : Params) (c : ℕ) (t u : Tenancy) (h : Store) → In (put_out u) (putting_for_dead p c t h).outs → u ≡ t
+pub dead_only : (p : Params) (c : ℕ) (t u : Tenancy) (h : Store) → In (put_out u) (putting_for_dead p c t h).outs → u ≡ t
 unfolding putting_for_dead
 dead_only p c t u h k =
     let g : Store = (putting t h).state in
@@ -245,7 +245,7 @@ dead_only p c t u h k =
 pub own_one : (p : Params) (c : ℕ) → PutsOne (putting_own p c)
 own_one p c = record { starts = λ t h. (own_kept p c t h).1; puts = own_there p c; only = own_only p c }
 
-dead_one : (p : Params) (c : ℕ) → PutsOne (putting_for_dead p c)
+pub dead_one : (p : Params) (c : ℕ) → PutsOne (putting_for_dead p c)
 dead_one p c = record { starts = λ t h. (dead_kept p c t h).1; puts = dead_there p c; only = dead_only p c }
 
 -- insertion as a whole
@@ -265,7 +265,7 @@ inserting_seats p c stamp h o =
 abbrev pub IsFull : Params → ℕ → ℕ → List Line → Type 0
 IsFull p now disk lines = (s n : ℕ) → s < p.slots → disk_of p n ≡ disk → due p s n ≤ now + p.window_a → now + p.window_b < due p s n → (x : Line) × In x lines × IsAt s n x
 
-window_from : (p : Params) (now s n : ℕ) → due p s n ≤ now + p.window_a → now + p.window_b < due p s n → IsTrue (in_window p now s n)
+pub window_from : (p : Params) (now s n : ℕ) → due p s n ≤ now + p.window_a → now + p.window_b < due p s n → IsTrue (in_window p now s n)
 unfolding in_window
 window_from p now s n below above = and_from _ _ (le-leb _ _ below) (lt-ltb _ _ above)
 

@@ -47,7 +47,7 @@ use Rattle.schedule_laws.proofs.Filling.{inserting_full}
 use Rattle.schedule_laws.proofs.Waiting.{IsQueued, starts_forth, before_once, before_back, before_forth, tick_seats, tick_gone, Started, once_at, queued_since, queued_came, shown_line}
 
 -- of what starts stand, one is asked for where the test says so
-asked_there : (asks : List Ask) (v : Instance) → has_start asks v ≡ true → (a : Ask) × In a asks × (a.instance.0 ≡ v.0)
+pub asked_there : (asks : List Ask) (v : Instance) → has_start asks v ≡ true → (a : Ask) × In a asks × (a.instance.0 ≡ v.0)
 asked_there [] v e = absurd (cc)
 asked_there (a ∷ rest) v e = ⊎_elim
     (λ (t : queues.is_of v a ≡ true). (a, inl refl, eqb-true _ _ t))
@@ -55,7 +55,7 @@ asked_there (a ∷ rest) v e = ⊎_elim
     (cases_Bool (queues.is_of v a))
 
 -- which messages tell of an instance
-told_by : (m : Msg) (v : Instance) → Tells m v → ((s : State) × (m ≡ msg.ViewerState s) × (s.tenancy.instance ≡ v)) ⊎ ((w : Instance) × (tag : Option Tag) × (m ≡ msg.Deschedule w tag) × (w ≡ v))
+pub told_by : (m : Msg) (v : Instance) → Tells m v → ((s : State) × (m ≡ msg.ViewerState s) × (s.tenancy.instance ≡ v)) ⊎ ((w : Instance) × (tag : Option Tag) × (m ≡ msg.Deschedule w tag) × (w ≡ v))
 told_by (msg.ViewerState s) v k = inl (s, refl, k)
 told_by (msg.Deschedule w tag) v k = inr (w, tag, refl, k)
 told_by (msg.Start a redundant) v k = absurd k
@@ -81,14 +81,14 @@ after_insertion_moves p c stamp h x i =
 
 module _ (p : Params) (plan : IsPlan p) (lives : Lives) (are : AreLives p lives) (formed : AreFormed p lives) (outside : Outside) (starts : AreStarts p lives outside) where
   -- a Put, at its tick
-  record PutThere (c i : ℕ) (t : Tenancy) : Type 0 where
-    stamp : Stamp
-    is : lives.input c i ≡ Tick stamp
-    put : In (put_out t) (inserting p c stamp (before_inserting p c stamp (store_at p c (lives.input c) i))).outs
-    well : PutWell p c stamp.reading (before_inserting p c stamp (store_at p c (lives.input c) i)).starts.waiting (before_inserting p c stamp (store_at p c (lives.input c) i)).believes t
+  pub record PutThere (c i : ℕ) (t : Tenancy) : Type 0 where
+    pub stamp : Stamp
+    pub is : lives.input c i ≡ Tick stamp
+    pub put : In (put_out t) (inserting p c stamp (before_inserting p c stamp (store_at p c (lives.input c) i))).outs
+    pub well : PutWell p c stamp.reading (before_inserting p c stamp (store_at p c (lives.input c) i)).starts.waiting (before_inserting p c stamp (store_at p c (lives.input c) i)).believes t
         (inserting p c stamp (before_inserting p c stamp (store_at p c (lives.input c) i))).outs
 
-  put_there : {c x : ℕ} {t : Tenancy} (d : DidAt p lives c (put_out t) x) → PutThere c d.at t
+  pub put_there : {c x : ℕ} {t : Tenancy} (d : DidAt p lives c (put_out t) x) → PutThere c d.at t
   put_there {c} {x} {t} d =
       let inputs : ℕ → Input Msg = lives.input c in
       let h : Store = store_at p c inputs d.at in
@@ -97,13 +97,13 @@ module _ (p : Params) (plan : IsPlan p) (lives : Lives) (are : AreLives p lives)
       record { stamp = a.stamp; is = a.is; put = k; well = (inserting_puts p c a.stamp plan d.small (before_inserting p c a.stamp h)).put t k }
 
   -- its start stood in the lists, and came before
-  put_queued : (c i : ℕ) (t : Tenancy) (w : PutThere c i t) → IsQueued w.well.ask (store_at p c (lives.input c) i).starts
+  pub put_queued : (c i : ℕ) (t : Tenancy) (w : PutThere c i t) → IsQueued w.well.ask (store_at p c (lives.input c) i).starts
   put_queued c i t w = before_back p c w.stamp (store_at p c (lives.input c) i) w.well.ask (inl w.well.waits)
 
-  put_came : (c i : ℕ) (t : Tenancy) (w : PutThere c i t) → Started (lives.input c) w.well.ask 0 i
+  pub put_came : (c i : ℕ) (t : Tenancy) (w : PutThere c i t) → Started (lives.input c) w.well.ask 0 i
   put_came c i t w = queued_came p c (lives.input c) i w.well.ask (put_queued c i t w)
 
-  ordered : {c x : ℕ} {t : Tenancy} → DidAt p lives c (put_out t) x → IsOrdered p (facts_of p lives outside) t
+  pub ordered : {c x : ℕ} {t : Tenancy} → DidAt p lives c (put_out t) x → IsOrdered p (facts_of p lives outside) t
   ordered {c} {x} {t} d =
       let w = put_there d in
       let s = put_came c d.at t w in
@@ -115,7 +115,7 @@ module _ (p : Params) (plan : IsPlan p) (lives : Lives) (are : AreLives p lives)
       record { ask = w.well.ask; ordered = o; asked = record { instance = w.well.instance; file = w.well.file; count = omega arith; disk = w.well.disk } }
 
   -- an instance is not put again later
-  not_later : (c i j : ℕ) (t u : Tenancy) → c < p.cubs → i < j → j < lives.count c → PutThere c i t → PutThere c j u → u.instance.0 ≡ t.instance.0 → ⊥
+  pub not_later : (c i j : ℕ) (t u : Tenancy) → c < p.cubs → i < j → j < lives.count c → PutThere c i t → PutThere c j u → u.instance.0 ≡ t.instance.0 → ⊥
   not_later c i j t u small before low w v same =
       let inputs : ℕ → Input Msg = lives.input c in
       let a : Ask = v.well.ask in
@@ -132,7 +132,7 @@ module _ (p : Params) (plan : IsPlan p) (lives : Lives) (are : AreLives p lives)
       let z : ⊥ = absurd (omega arith) in z)
       (queued_since p c inputs j (suc i) a (omega arith) (put_queued c j u v))
 
-  once : {c x y : ℕ} {t u : Tenancy} → DidAt p lives c (put_out t) x → DidAt p lives c (put_out u) y → u.instance.0 ≡ t.instance.0 → (u ≡ t) × (y ≡ x)
+  pub once : {c x y : ℕ} {t u : Tenancy} → DidAt p lives c (put_out t) x → DidAt p lives c (put_out u) y → u.instance.0 ≡ t.instance.0 → (u ≡ t) × (y ≡ x)
   once {c} {x} {y} {t} {u} d e same =
       let w = put_there d in
       let v = put_there e in
@@ -156,7 +156,7 @@ module _ (p : Params) (plan : IsPlan p) (lives : Lives) (are : AreLives p lives)
   abbrev pub IsOut : ℕ → ℕ → ℕ → Type 0
   IsOut c v b = IsPlacedBy (facts_of p lives outside) c v b ⊎ ReachedBy (facts_of p lives outside) c v b
 
-  told_out : (c i b : ℕ) (stamp : Stamp) (link : LinkNo) (m : Msg) (v : Instance) (n : ℕ) → c < p.cubs → i < lives.count c → beat_at (lives.input c) i ≤ b → lives.input c i ≡ Take stamp link m → Tells m v → n ≡ v.0
+  pub told_out : (c i b : ℕ) (stamp : Stamp) (link : LinkNo) (m : Msg) (v : Instance) (n : ℕ) → c < p.cubs → i < lives.count c → beat_at (lives.input c) i ≤ b → lives.input c i ≡ Take stamp link m → Tells m v → n ≡ v.0
       → IsOut c n b
   told_out c i b stamp link m v n small low h e k same = ⊎_elim
       (λ s. inl (record {
@@ -194,7 +194,7 @@ module _ (p : Params) (plan : IsPlan p) (lives : Lives) (are : AreLives p lives)
     by = h;
   }
 
-  wait_step : (c i b : ℕ) (a : Ask) (k : Input Msg) → c < p.cubs → i < lives.count c → beat_at (lives.input c) i ≤ b → lives.input c i ≡ k → In a (store_at p c (lives.input c) i).starts.waiting
+  pub wait_step : (c i b : ℕ) (a : Ask) (k : Input Msg) → c < p.cubs → i < lives.count c → beat_at (lives.input c) i ≤ b → lives.input c i ≡ k → In a (store_at p c (lives.input c) i).starts.waiting
       → In a (deed_of p c k (store_at p c (lives.input c) i)).state.starts.waiting ⊎ IsOut c a.instance.0 b
   wait_step c i b a (Take stamp link m) small low h e w =
       let s : Store = store_at p c (lives.input c) i in
@@ -221,7 +221,7 @@ module _ (p : Params) (plan : IsPlan p) (lives : Lives) (are : AreLives p lives)
       (eq-or-lt_of_le l)
 
   -- a line's tenancy was put, as far as the cub can tell
-  line_placed : (c i b : ℕ) (x : Line) (v : ℕ) → c < p.cubs → i < lives.count c → beat_at (lives.input c) i ≤ b → In x (store_at p c (lives.input c) i).view.lines → x.rec.tenancy.instance.0 ≡ v
+  pub line_placed : (c i b : ℕ) (x : Line) (v : ℕ) → c < p.cubs → i < lives.count c → beat_at (lives.input c) i ≤ b → In x (store_at p c (lives.input c) i).view.lines → x.rec.tenancy.instance.0 ≡ v
       → IsPlacedBy (facts_of p lives outside) c v b
   line_placed c i b x v small low h k same =
       let inputs : ℕ → Input Msg = lives.input c in
@@ -234,7 +234,7 @@ module _ (p : Params) (plan : IsPlan p) (lives : Lives) (are : AreLives p lives)
       (entered_at p plan lives are formed outside c t.at x.rec.tenancy x.rec.visit x.rec.kind small (omega arith) t.taken)
 
   -- a start that comes stands in no list yet, and so it joins
-  joined : (c i : ℕ) (a : Ask) (stamp : Stamp) (link : LinkNo) → c < p.cubs → i < lives.count c → lives.input c i ≡ Take stamp link (msg.Start a false)
+  pub joined : (c i : ℕ) (a : Ask) (stamp : Stamp) (link : LinkNo) → c < p.cubs → i < lives.count c → lives.input c i ≡ Take stamp link (msg.Start a false)
       → In a (with_waiting (store_at p c (lives.input c) i).starts a).waiting
   joined c i a stamp link small low e =
       let q : Queues = (store_at p c (lives.input c) i).starts in
@@ -277,7 +277,7 @@ module _ (p : Params) (plan : IsPlan p) (lives : Lives) (are : AreLives p lives)
       (cases_Bool (is_held s.held a.instance))
 
   -- while a start waits no visit of its disk in the window is free
-  stands : (c b l s n : ℕ) (w : TickedAt p lives c b l) → s < p.slots → IsInWindow p l s n → IsFull p l (disk_of p n) (inserting p c (record { beat = b; reading = l }) (before_inserting p c (record { beat = b; reading = l }) (store_at p c (lives.input c) w.at))).state.view.lines
+  pub stands : (c b l s n : ℕ) (w : TickedAt p lives c b l) → s < p.slots → IsInWindow p l s n → IsFull p l (disk_of p n) (inserting p c (record { beat = b; reading = l }) (before_inserting p c (record { beat = b; reading = l }) (store_at p c (lives.input c) w.at))).state.view.lines
       → Stands (facts_of p lives outside) c s n b
   stands c b l s n w slot window full =
       let inputs : ℕ → Input Msg = lives.input c in
@@ -305,7 +305,7 @@ module _ (p : Params) (plan : IsPlan p) (lives : Lives) (are : AreLives p lives)
       (λ d. absurd (omega arith))
       (after_insertion_moves p c stamp h x.0 x.1)
 
-  waits : {c : ℕ} {ask : Ask} {y b l : ℕ} (s n : ℕ) → TookMessage p lives c (msg.Start ask false) y → y ≤ b → TickedAt p lives c b l → s < p.slots → ask.disk.0 ≡ disk_of p n → c ≡ cub_of p n
+  pub waits : {c : ℕ} {ask : Ask} {y b l : ℕ} (s n : ℕ) → TookMessage p lives c (msg.Start ask false) y → y ≤ b → TickedAt p lives c b l → s < p.slots → ask.disk.0 ≡ disk_of p n → c ≡ cub_of p n
       → IsInWindow p l s n → Stands (facts_of p lives outside) c s n b ⊎ IsOut c ask.instance.0 b
   waits {c} {ask} {y} {b} {l} s n g h w slot disk here window =
       let inputs : ℕ → Input Msg = lives.input c in

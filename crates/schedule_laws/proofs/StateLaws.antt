@@ -47,16 +47,16 @@ use Rattle.schedule_laws.proofs.Order.{tick_of, beats_rise, not_behind, behind, 
 use Rattle.schedule_laws.proofs.States.{stamp_made, put_at_tick, state_at_tick, put_inserted, took_inserted, at_tick, at_tick_same, from_tick, tick_true, forward_parts, forward_must, forward_early, own_kind, own_visit}
 
 -- a record by its parts
-rec_made : (q : Rec) (t : Tenancy) (n : ℕ) → q.tenancy ≡ t → q.visit ≡ n → q ≡ record { tenancy = t; visit = n; kind = q.kind }
+pub rec_made : (q : Rec) (t : Tenancy) (n : ℕ) → q.tenancy ≡ t → q.visit ≡ n → q ≡ record { tenancy = t; visit = n; kind = q.kind }
 rec_made q t n e f = ap (λ (u : Tenancy). record { tenancy = u; visit = q.visit; kind = q.kind }) e ∙ ap (λ (m : ℕ). record { tenancy = t; visit = m; kind = q.kind }) f
 
 -- a message by its parts
-take_of : (i : Input Msg) → is_tick_input i ≡ false → (stamp : Stamp) × (link : LinkNo) × (m : Msg) × (i ≡ Take stamp link m)
+pub take_of : (i : Input Msg) → is_tick_input i ≡ false → (stamp : Stamp) × (link : LinkNo) × (m : Msg) × (i ≡ Take stamp link m)
 take_of (Take stamp link m) e = (stamp, link, m, refl)
 take_of (Tick stamp) e = absurd (cc)
 
 -- what lets a record leave is its deschedule
-stop_of : (m : Msg) (q : Rec) → MayLeave m q → (v : Instance) × (tag : Option Tag) × (m ≡ msg.Deschedule v tag) × (q.tenancy.instance.0 ≡ v.0)
+pub stop_of : (m : Msg) (q : Rec) → MayLeave m q → (v : Instance) × (tag : Option Tag) × (m ≡ msg.Deschedule v tag) × (q.tenancy.instance.0 ≡ v.0)
 stop_of (msg.Deschedule v tag) q k = (v, tag, refl, k)
 stop_of (msg.ViewerState s) q k = absurd k
 stop_of (msg.Start a redundant) q k = absurd k
@@ -71,13 +71,13 @@ stop_of (msg.Piece want sent part) q k = absurd k
 
 module _ (p : Params) (plan : IsPlan p) (lives : Lives) (are : AreLives p lives) (formed : AreFormed p lives) (outside : Outside) where
   -- an input's stamp is of its beat
-  at_beat : (c i b : ℕ) (stamp : Stamp) (k : Input Msg) → stamp_of k ≡ stamp → lives.input c i ≡ k → beat_at (lives.input c) i ≡ b → stamp ≡ record { beat = b; reading = stamp.reading }
+  pub at_beat : (c i b : ℕ) (stamp : Stamp) (k : Input Msg) → stamp_of k ≡ stamp → lives.input c i ≡ k → beat_at (lives.input c) i ≡ b → stamp ≡ record { beat = b; reading = stamp.reading }
   at_beat c i b stamp k of e eb = stamp_made stamp b (sym (ap (λ (q : Input Msg). (stamp_of q).beat) e ∙ ap (λ (s : Stamp). s.beat) of) ∙ eb)
 
   pub ticked : (c i b : ℕ) (stamp : Stamp) → c < p.cubs → i < lives.count c → lives.input c i ≡ Tick stamp → beat_at (lives.input c) i ≡ b → TickedAt p lives c b stamp.reading
   ticked c i b stamp small low e eb = record { small = small; at = i; done = low; is = e ∙ ap (λ (s : Stamp). Tick s) (at_beat c i b stamp (Tick stamp) refl e eb) }
 
-  believed_at : (c i b : ℕ) (stamp : Stamp) → c < p.cubs → i < lives.count c → lives.input c i ≡ Tick stamp → beat_at (lives.input c) i ≡ b
+  pub believed_at : (c i b : ℕ) (stamp : Stamp) → c < p.cubs → i < lives.count c → lives.input c i ≡ Tick stamp → beat_at (lives.input c) i ≡ b
       → is_silent (store_at p c (lives.input c) i).watch stamp.reading ≡ true → BelievedAt p lives c b
   unfolding ticked
   believed_at c i b stamp small low e eb s = record { reading = stamp.reading; ticked = ticked c i b stamp small low e eb; silent = s }
@@ -122,7 +122,7 @@ module _ (p : Params) (plan : IsPlan p) (lives : Lives) (are : AreLives p lives)
       }
 
   -- a record that might leave was descheduled, or was due
-  left_at : (c i : ℕ) (q : Rec) (k : Input Msg) → c < p.cubs → i < lives.count c → lives.input c i ≡ k → MayAt p k q
+  pub left_at : (c i : ℕ) (q : Rec) (k : Input Msg) → c < p.cubs → i < lives.count c → lives.input c i ≡ k → MayAt p k q
       → ReachedBy (facts_of p lives outside) c q.tenancy.instance.0 (beat_at (lives.input c) i) ⊎ IsDueAt p (reading_at (lives.input c) i) q
   left_at c i q (Take stamp link m) small low e may =
       let s = stop_of m q may in
@@ -138,7 +138,7 @@ module _ (p : Params) (plan : IsPlan p) (lives : Lives) (are : AreLives p lives)
       })
   left_at c i q (Tick stamp) small low e may = inr (subst (λ (n : ℕ). IsDueAt p n q) (sym (ap (λ (x : Input Msg). (stamp_of x).reading) e)) may)
 
-  left : (c j i b : ℕ) (q : Rec) → c < p.cubs → i < lives.count c → beat_at (lives.input c) i ≤ b → reading_at (lives.input c) i < due p q.tenancy.slot.0 q.visit
+  pub left : (c j i b : ℕ) (q : Rec) → c < p.cubs → i < lives.count c → beat_at (lives.input c) i ≤ b → reading_at (lives.input c) i < due p q.tenancy.slot.0 q.visit
       → MightLeave p (lives.input c) q j (suc i) → ReachedBy (facts_of p lives outside) c q.tenancy.instance.0 b
   left c j i b q small low h late m =
       let before = m.before in
@@ -194,7 +194,7 @@ module _ (p : Params) (plan : IsPlan p) (lives : Lives) (are : AreLives p lives)
       let told = (inserting_puts p c a.stamp plan d.small (before_inserting p c a.stamp h)).told q k in
       (record { small = d.small; at = d.at; done = d.done; in_beat = d.in_beat; did = from_tick p c inputs d.at a.stamp (put_out t) a.is (inserted_out p c a.stamp h (put_out t) told.0) }, told.1)
 
-  free : {c : ℕ} {t u : Tenancy} {x y : ℕ} → DidAt p lives c (put_out t) x → Entered (facts_of p lives outside) c u t.first y → y ≤ x → u.slot.0 ≡ t.slot.0
+  pub free : {c : ℕ} {t u : Tenancy} {x y : ℕ} → DidAt p lives c (put_out t) x → Entered (facts_of p lives outside) c u t.first y → y ≤ x → u.slot.0 ≡ t.slot.0
       → (u.instance.0 ≡ t.instance.0) ⊎ ReachedBy (facts_of p lives outside) c u.instance.0 x
   free {c} {t} {u} {x} {y} d entered h slot =
       let inputs : ℕ → Input Msg = lives.input c in
@@ -243,7 +243,7 @@ module _ (p : Params) (plan : IsPlan p) (lives : Lives) (are : AreLives p lives)
       }
 
   -- who stands at a place: a record that was taken before
-  occupied : (c i y n s : ℕ) (x : Line) → c < p.cubs → i < lives.count c → is_tick_input (lives.input c i) ≡ false → beat_at (lives.input c) i ≡ y → In x (store_at p c (lives.input c) i).view.lines
+  pub occupied : (c i y n s : ℕ) (x : Line) → c < p.cubs → i < lives.count c → is_tick_input (lives.input c i) ≡ false → beat_at (lives.input c) i ≡ y → In x (store_at p c (lives.input c) i).view.lines
       → x.rec.tenancy.slot.0 ≡ s → x.rec.visit ≡ n → Occupied (facts_of p lives outside) c s n y
   occupied c i y n s x small low message eb k slot visit =
       let inputs : ℕ → Input Msg = lives.input c in
@@ -269,7 +269,7 @@ module _ (p : Params) (plan : IsPlan p) (lives : Lives) (are : AreLives p lives)
             (cases_Bool (is_tick_input (inputs t.at)));
       }
 
-  keyed : {c : ℕ} {t : Tenancy} {m y : ℕ} (n : ℕ) → TookMessage p lives c (msg.ViewerState (record { tenancy = t; visit = m })) y → t.first ≤ m → m ≤ t.last → IsGiven p c t m n
+  pub keyed : {c : ℕ} {t : Tenancy} {m y : ℕ} (n : ℕ) → TookMessage p lives c (msg.ViewerState (record { tenancy = t; visit = m })) y → t.first ≤ m → m ≤ t.last → IsGiven p c t m n
       → Occupied (facts_of p lives outside) c t.slot.0 n y ⊎ ReachedBy (facts_of p lives outside) c t.instance.0 y
   keyed {c} {t} {m} {y} n g low high given =
       let inputs : ℕ → Input Msg = lives.input c in
@@ -303,11 +303,11 @@ module _ (p : Params) (plan : IsPlan p) (lives : Lives) (are : AreLives p lives)
       f.how))
       (cases_Bool (is_held h.held t.instance))
 
-  short : (c i : ℕ) → c < p.cubs → i < lives.count c → (k : ℕ) → k < suc i → (stamp_of (lives.input c k)).reading ≤ most_reading
+  pub short : (c i : ℕ) → c < p.cubs → i < lives.count c → (k : ℕ) → k < suc i → (stamp_of (lives.input c k)).reading ≤ most_reading
   short c i small low k l = (are c small).short k (omega arith)
 
   -- a record that was idle till now was too early at the tick of the beat before
-  early : (c i : ℕ) (z : Rec) → (small : c < p.cubs) → i < lives.count c → is_tick_input (lives.input c i) ≡ true → is_own z.kind ≡ true → z.visit < z.tenancy.last → (idle : Idle p c (lives.input c) z i)
+  pub early : (c i : ℕ) (z : Rec) → (small : c < p.cubs) → i < lives.count c → is_tick_input (lives.input c i) ≡ true → is_own z.kind ≡ true → z.visit < z.tenancy.last → (idle : Idle p c (lives.input c) z i)
       → beat_at (lives.input c) idle.at < beat_at (lives.input c) i → WasEarly p (facts_of p lives outside) c z.tenancy (z.visit + 1) (beat_at (lives.input c) i)
   early c i z small low tick own more idle less =
       let inputs : ℕ → Input Msg = lives.input c in
@@ -330,7 +330,7 @@ module _ (p : Params) (plan : IsPlan p) (lives : Lives) (are : AreLives p lives)
       }
 
   -- a record that goes out in a tick came to its cub before, or now
-  came : (c i : ℕ) (z : Rec) (stamp : Stamp) → (small : c < p.cubs) → (low : i < lives.count c) → (tick : lives.input c i ≡ Tick stamp) → is_own z.kind ≡ true → z.visit < z.tenancy.last
+  pub came : (c i : ℕ) (z : Rec) (stamp : Stamp) → (small : c < p.cubs) → (low : i < lives.count c) → (tick : lives.input c i ≡ Tick stamp) → is_own z.kind ≡ true → z.visit < z.tenancy.last
       → ((x : Line) × In x (store_at p c (lives.input c) i).view.lines × (x.rec ≡ z) × (x.forwarded ≡ false)) ⊎ In (taken_out z) (ticking p c stamp (store_at p c (lives.input c) i)).outs
       → (b : ℕ) × Entered (facts_of p lives outside) c z.tenancy z.visit b × (b ≤ beat_at (lives.input c) i)
       × ((b ≡ beat_at (lives.input c) i) ⊎ WasEarly p (facts_of p lives outside) c z.tenancy (z.visit + 1) (beat_at (lives.input c) i))
@@ -350,7 +350,7 @@ module _ (p : Params) (plan : IsPlan p) (lives : Lives) (are : AreLives p lives)
       how
 
   -- insertion and forwarding: who sends a state
-  sends : {a : ℕ} {link : LinkNo} {t : Tenancy} {m x : ℕ} → DidAt p lives a (out.Send link (msg.ViewerState (record { tenancy = t; visit = m }))) x
+  pub sends : {a : ℕ} {link : LinkNo} {t : Tenancy} {m x : ℕ} → DidAt p lives a (out.Send link (msg.ViewerState (record { tenancy = t; visit = m }))) x
       → (DidAt p lives a (put_out t) x × (m ≡ t.first)) ⊎ Forwards p (facts_of p lives outside) a t m x
   sends {a} {link} {t} {m} {x} d =
       let inputs : ℕ → Input Msg = lives.input a in
@@ -389,7 +389,7 @@ module _ (p : Params) (plan : IsPlan p) (lives : Lives) (are : AreLives p lives)
       (loud p a w.stamp h o (λ q. q) w.did)
 
   -- forwarding: what is there and soon has gone out
-  forwards : {a : ℕ} {t : Tenancy} {n y b l : ℕ} → Entered (facts_of p lives outside) a t n y → y ≤ b → TickedAt p lives a b l → a ≡ cub_of p n → n < t.last → l < due p t.slot.0 n
+  pub forwards : {a : ℕ} {t : Tenancy} {n y b l : ℕ} → Entered (facts_of p lives outside) a t n y → y ≤ b → TickedAt p lives a b l → a ≡ cub_of p n → n < t.last → l < due p t.slot.0 n
       → due p t.slot.0 (n + 1) ≤ l + p.min_lead → Sends (facts_of p lives outside) a t (n + 1) b ⊎ ReachedBy (facts_of p lives outside) a t.instance.0 b
   forwards {a} {t} {n} {y} {b} {l} entered h w here more late soon =
       let inputs : ℕ → Input Msg = lives.input a in

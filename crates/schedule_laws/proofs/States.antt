@@ -108,7 +108,7 @@ start_none p c plan here (Take stamp way m) h link a x k = all_in (IsMeek (HeldB
 start_none p c plan here (Tick stamp) h link a x k = tick_meek p c plan here stamp h link (msg.Start a x) (λ q. q) (λ q. q) (λ s e. absurd (cc)) k
 
 -- and a deschedule only of an instance that it holds, or as it comes
-held_by : (m : Msg) (h : Store) (v : Instance) → HeldBy m h v → (is_held h.held v ≡ true) ⊎ ((tag : Option Tag) × (m ≡ msg.Deschedule v tag))
+pub held_by : (m : Msg) (h : Store) (v : Instance) → HeldBy m h v → (is_held h.held v ≡ true) ⊎ ((tag : Option Tag) × (m ≡ msg.Deschedule v tag))
 held_by (msg.Deschedule w tag) h v k = inr (tag, ap (λ (x : Instance). msg.Deschedule x tag) (sym k))
 held_by (msg.ViewerState s) h v k = inl k
 held_by (msg.Start a redundant) h v k = inl k
@@ -121,7 +121,7 @@ held_by (msg.ReadAsk want) h v k = inl k
 held_by (msg.Whole want sent part) h v k = inl k
 held_by (msg.Piece want sent part) h v k = inl k
 
-stop_step : (p : Params) (c : ℕ) → IsPlan p → c < p.cubs → (inputs : ℕ → Input Msg) (i : ℕ) (k : Input Msg) (link : LinkNo) (v : Instance) (tag : Option Tag) → inputs i ≡ k
+pub stop_step : (p : Params) (c : ℕ) → IsPlan p → c < p.cubs → (inputs : ℕ → Input Msg) (i : ℕ) (k : Input Msg) (link : LinkNo) (v : Instance) (tag : Option Tag) → inputs i ≡ k
     → In (out.Send link (msg.Deschedule v tag)) (deed_of p c k (store_at p c inputs i)).outs → StoppedBefore inputs v (suc i)
 stop_step p c plan here inputs i (Take stamp way m) link v tag e k =
     let h : Store = store_at p c inputs i in

@@ -65,15 +65,15 @@ unfolding believing
 believing_lines p c stamp h = chosen (λ (d : Deed Msg Store). d.state.view.lines ≡ h.view.lines) _ _ (nothing h) (λ _. refl) (λ _. refl)
 
 -- splitting marks lines, and sends mirror states
-same_with_piece : (x : PieceState) (h : Store) → (with_piece_record x h).view.lines ≡ h.view.lines
+pub same_with_piece : (x : PieceState) (h : Store) → (with_piece_record x h).view.lines ≡ h.view.lines
 unfolding with_piece_record
 same_with_piece x h = chosen (λ (s : Store). s.view.lines ≡ h.view.lines) (pieces.is_in x h.pieces.items) h _ (λ _. refl) (λ _. refl)
 
-same_with_pieces : (xs : List PieceState) (h : Store) → (with_each with_piece_record xs h).view.lines ≡ h.view.lines
+pub same_with_pieces : (xs : List PieceState) (h : Store) → (with_each with_piece_record xs h).view.lines ≡ h.view.lines
 same_with_pieces [] h = refl
 same_with_pieces (x ∷ xs) h = same_with_pieces xs (with_piece_record x h) ∙ same_with_piece x h
 
-split_quiet : (p : Params) (c : ℕ) (stamp : Stamp) (x : Line) → AreQuiet (split_outs p c stamp x)
+pub split_quiet : (p : Params) (c : ℕ) (stamp : Stamp) (x : Line) → AreQuiet (split_outs p c stamp x)
 split_quiet p c stamp x =
     chosen AreQuiet (must_split p stamp x) (map (sent_ahead p c) (drop 1 (pieces_of p x.rec))) []
     (λ _. quiet_map (sent_ahead p c) (λ y. tt) (drop 1 (pieces_of p x.rec))) (λ _. tt)
@@ -84,7 +84,7 @@ splitting_quiet p c stamp h =
     chosen (λ (d : Deed Msg Store). AreQuiet d.outs) h.believes _ (nothing h)
     (λ _. quiet_flat_map (split_outs p c stamp) (split_quiet p c stamp) h.view.lines) (λ _. tt)
 
-split_same : (p : Params) (stamp : Stamp) (x : Line) → ((split_line p stamp x).rec ≡ x.rec) × ((split_line p stamp x).forwarded ≡ x.forwarded)
+pub split_same : (p : Params) (stamp : Stamp) (x : Line) → ((split_line p stamp x).rec ≡ x.rec) × ((split_line p stamp x).forwarded ≡ x.forwarded)
 split_same p stamp x =
     chosen (λ (y : Line). (y.rec ≡ x.rec) × (y.forwarded ≡ x.forwarded)) (must_split p stamp x) (marked flag.Split x) x (λ _. (refl, refl)) (λ _. (refl, refl))
 
@@ -102,13 +102,13 @@ splitting_moves p c May stamp h =
     (λ _. still p c May h.view.lines (nothing h) refl tt)
 
 -- forwarding marks the lines whose next state goes out
-forward_same : (p : Params) (stamp : Stamp) (x : Line) → (forward_line p stamp x).rec ≡ x.rec
+pub forward_same : (p : Params) (stamp : Stamp) (x : Line) → (forward_line p stamp x).rec ≡ x.rec
 forward_same p stamp x = chosen (λ (y : Line). y.rec ≡ x.rec) (is_to_forward p stamp x) (marked flag.Forwarded x) x (λ _. refl) (λ _. refl)
 
-forward_sent : (p : Params) (c : ℕ) (stamp : Stamp) (x : Line) → is_to_forward p stamp x ≡ true → NextSent p c x.rec (forward_outs p c stamp x)
+pub forward_sent : (p : Params) (c : ℕ) (stamp : Stamp) (x : Line) → is_to_forward p stamp x ≡ true → NextSent p c x.rec (forward_outs p c stamp x)
 forward_sent p c stamp x e = rw e (inl refl, inr (inl refl))
 
-forward_mark : (p : Params) (c : ℕ) (stamp : Stamp) (x : Line) (lines : List Line) → In x lines
+pub forward_mark : (p : Params) (c : ℕ) (stamp : Stamp) (x : Line) (lines : List Line) → In x lines
     → ((forward_line p stamp x).forwarded ≡ x.forwarded) ⊎ IsMarked p c (flat_map (forward_outs p c stamp) lines) (forward_line p stamp x)
 forward_mark p c stamp x lines i = ⊎_elim
     (λ (e : is_to_forward p stamp x ≡ true).
@@ -128,7 +128,7 @@ pub record IsForward (p : Params) (c : ℕ) (stamp : Stamp) (lines : List Line) 
   pub ready : is_to_forward p stamp line ≡ true
   pub is : (o ≡ out.Send (way_ahead p c 1) (next_state line.rec)) ⊎ (o ≡ out.Send (way_ahead p c 2) (next_state line.rec))
 
-forward_out : (p : Params) (c : ℕ) (stamp : Stamp) (x : Line) (o : Out Msg) → In o (forward_outs p c stamp x)
+pub forward_out : (p : Params) (c : ℕ) (stamp : Stamp) (x : Line) (o : Out Msg) → In o (forward_outs p c stamp x)
     → (is_to_forward p stamp x ≡ true) × ((o ≡ out.Send (way_ahead p c 1) (next_state x.rec)) ⊎ (o ≡ out.Send (way_ahead p c 2) (next_state x.rec)))
 forward_out p c stamp x o =
     chosen (λ (os : List (Out Msg)). In o os → (is_to_forward p stamp x ≡ true) × ((o ≡ out.Send (way_ahead p c 1) (next_state x.rec)) ⊎ (o ≡ out.Send (way_ahead p c 2) (next_state x.rec))))
@@ -160,15 +160,15 @@ forwarding_moves p c May stamp h =
 abbrev pub IsSettled : Params → Stamp → Line → Type 0
 IsSettled p stamp y = (y.forwarded ≡ true) ⊎ (must_forward p stamp y.rec ≡ false)
 
-and_false : (a b : Bool) → a && b ≡ false → (a ≡ false) ⊎ (b ≡ false)
+pub and_false : (a b : Bool) → a && b ≡ false → (a ≡ false) ⊎ (b ≡ false)
 and_false true b e = inr e
 and_false false b e = inl refl
 
-not_false : (b : Bool) → not b ≡ false → b ≡ true
+pub not_false : (b : Bool) → not b ≡ false → b ≡ true
 not_false true e = refl
 not_false false e = absurd (cc)
 
-settled_line : (p : Params) (stamp : Stamp) (x : Line) → IsSettled p stamp (forward_line p stamp x)
+pub settled_line : (p : Params) (stamp : Stamp) (x : Line) → IsSettled p stamp (forward_line p stamp x)
 unfolding is_to_forward
 settled_line p stamp x =
     chosen (λ (y : Line). IsSettled p stamp y) (is_to_forward p stamp x) (marked flag.Forwarded x) x (λ _. inl refl)
@@ -181,28 +181,28 @@ forwarding_settles p c stamp h y i =
     subst (λ (z : Line). IsSettled p stamp z) (sym r.2) (settled_line p stamp r.0)
 
 -- reading marks lines, and asks disks
-ask_quiet : (p : Params) (stamp : Stamp) (x : Line) → AreQuiet (ask_outs p stamp x)
+pub ask_quiet : (p : Params) (stamp : Stamp) (x : Line) → AreQuiet (ask_outs p stamp x)
 ask_quiet p stamp x = chosen AreQuiet (must_read p stamp x) _ [] (λ _. (tt, tt)) (λ _. tt)
 
-ask_same : (p : Params) (stamp : Stamp) (x : Line) → ((ask_line p stamp x).rec ≡ x.rec) × ((ask_line p stamp x).forwarded ≡ x.forwarded)
+pub ask_same : (p : Params) (stamp : Stamp) (x : Line) → ((ask_line p stamp x).rec ≡ x.rec) × ((ask_line p stamp x).forwarded ≡ x.forwarded)
 ask_same p stamp x =
     chosen (λ (y : Line). (y.rec ≡ x.rec) × (y.forwarded ≡ x.forwarded)) (must_read p stamp x) (marked flag.Asked x) x (λ _. (refl, refl)) (λ _. (refl, refl))
 
-reading_blocks_quiet : (p : Params) (stamp : Stamp) (h : Store) → AreQuiet (reading_blocks p stamp h).outs
+pub reading_blocks_quiet : (p : Params) (stamp : Stamp) (h : Store) → AreQuiet (reading_blocks p stamp h).outs
 unfolding reading_blocks
 reading_blocks_quiet p stamp h = quiet_flat_map (ask_outs p stamp) (ask_quiet p stamp) h.view.lines
 
-reading_pieces_quiet : (p : Params) (stamp : Stamp) (h : Store) → AreQuiet (reading_pieces p stamp h).outs
+pub reading_pieces_quiet : (p : Params) (stamp : Stamp) (h : Store) → AreQuiet (reading_pieces p stamp h).outs
 unfolding reading_pieces
 reading_pieces_quiet p stamp h = quiet_map (asked_of_disk p) (λ x. tt) (filter (leaves_by p (stamp.reading + p.read_lead)) h.unasked.items)
 
-reading_blocks_moves : (p : Params) (c : ℕ) (May : Rec → Type 0) (stamp : Stamp) (h : Store) → Moves p c May h.view.lines (reading_blocks p stamp h)
+pub reading_blocks_moves : (p : Params) (c : ℕ) (May : Rec → Type 0) (stamp : Stamp) (h : Store) → Moves p c May h.view.lines (reading_blocks p stamp h)
 unfolding reading_blocks
 reading_blocks_moves p c May stamp h =
     mapped p c May (ask_line p stamp) h.view.lines (reading_blocks p stamp h) refl (λ x. (ask_same p stamp x).0) (λ x i. inl (ask_same p stamp x).1)
     (λ r i. quiet_took r (reading_blocks p stamp h).outs (reading_blocks_quiet p stamp h) i)
 
-reading_pieces_moves : (p : Params) (c : ℕ) (May : Rec → Type 0) (stamp : Stamp) (h : Store) → Moves p c May h.view.lines (reading_pieces p stamp h)
+pub reading_pieces_moves : (p : Params) (c : ℕ) (May : Rec → Type 0) (stamp : Stamp) (h : Store) → Moves p c May h.view.lines (reading_pieces p stamp h)
 unfolding reading_pieces
 reading_pieces_moves p c May stamp h = still p c May h.view.lines (reading_pieces p stamp h) refl (reading_pieces_quiet p stamp h)
 
@@ -218,54 +218,54 @@ reading_moves p c May stamp h =
     moves_both p c May (reading_blocks p stamp) (reading_pieces p stamp) h (reading_blocks_moves p c May stamp h) (reading_pieces_moves p c May stamp (reading_blocks p stamp h).state)
 
 -- serving drops what is due
-whole_quiet : (p : Params) (c : ℕ) (stamp : Stamp) (want : Want) (part : Option LibraryPart) → AreQuiet (sent_whole p c stamp want part)
+pub whole_quiet : (p : Params) (c : ℕ) (stamp : Stamp) (want : Want) (part : Option LibraryPart) → AreQuiet (sent_whole p c stamp want part)
 whole_quiet p c stamp want None = tt
 whole_quiet p c stamp want (Some part) = (tt, tt)
 
-serve_quiet : (p : Params) (c : ℕ) (stamp : Stamp) (parts : List StoredPart) (x : Line) → AreQuiet (serve_outs p c stamp parts x)
+pub serve_quiet : (p : Params) (c : ℕ) (stamp : Stamp) (parts : List StoredPart) (x : Line) → AreQuiet (serve_outs p c stamp parts x)
 serve_quiet p c stamp parts x =
     chosen AreQuiet (is_served p stamp x) (sent_whole p c stamp (want_of x.rec) (stored_for (want_of x.rec) parts) ++ dropped x ∷ []) []
     (λ _. quiet_append (sent_whole p c stamp (want_of x.rec) (stored_for (want_of x.rec) parts)) (dropped x ∷ []) (whole_quiet p c stamp (want_of x.rec) (stored_for (want_of x.rec) parts)) (tt, tt))
     (λ _. tt)
 
-serving_blocks_quiet : (p : Params) (c : ℕ) (stamp : Stamp) (h : Store) → AreQuiet (serving_blocks p c stamp h).outs
+pub serving_blocks_quiet : (p : Params) (c : ℕ) (stamp : Stamp) (h : Store) → AreQuiet (serving_blocks p c stamp h).outs
 unfolding serving_blocks
 serving_blocks_quiet p c stamp h = quiet_flat_map (serve_outs p c stamp h.parts) (serve_quiet p c stamp h.parts) h.view.lines
 
-served_due : (p : Params) (stamp : Stamp) (x : Line) → is_served p stamp x ≡ true → IsDueAt p stamp.reading x.rec
+pub served_due : (p : Params) (stamp : Stamp) (x : Line) → is_served p stamp x ≡ true → IsDueAt p stamp.reading x.rec
 unfolding is_served
 served_due p stamp x e = leb-true _ _ (and_parts (is_own x.rec.kind) (nat_le (due_of p (key_of x)) stamp.reading) e).1
 
-past_due : (p : Params) (stamp : Stamp) (x : Line) → is_past p stamp x ≡ true → IsDueAt p stamp.reading x.rec
+pub past_due : (p : Params) (stamp : Stamp) (x : Line) → is_past p stamp x ≡ true → IsDueAt p stamp.reading x.rec
 unfolding is_past
 past_due p stamp x e = leb-true _ _ (and_parts (not (is_own x.rec.kind)) (nat_le (due_of p (key_of x)) stamp.reading) e).1
 
-serving_blocks_moves : (p : Params) (c : ℕ) (stamp : Stamp) (h : Store) → Moves p c (IsDueAt p stamp.reading) h.view.lines (serving_blocks p c stamp h)
+pub serving_blocks_moves : (p : Params) (c : ℕ) (stamp : Stamp) (h : Store) → Moves p c (IsDueAt p stamp.reading) h.view.lines (serving_blocks p c stamp h)
 unfolding serving_blocks
 serving_blocks_moves p c stamp h =
     filtered p c (IsDueAt p stamp.reading) (λ x. not (is_served p stamp x)) h.view.lines (serving_blocks p c stamp h) refl
     (λ x e. served_due p stamp x (not_false (is_served p stamp x) e)) (serving_blocks_quiet p c stamp h)
 
-dropping_backups_quiet : (p : Params) (stamp : Stamp) (h : Store) → AreQuiet (dropping_backups p stamp h).outs
+pub dropping_backups_quiet : (p : Params) (stamp : Stamp) (h : Store) → AreQuiet (dropping_backups p stamp h).outs
 unfolding dropping_backups
 dropping_backups_quiet p stamp h = quiet_map dropped (λ x. tt) (filter (is_past p stamp) h.view.lines)
 
-dropping_backups_moves : (p : Params) (c : ℕ) (stamp : Stamp) (h : Store) → Moves p c (IsDueAt p stamp.reading) h.view.lines (dropping_backups p stamp h)
+pub dropping_backups_moves : (p : Params) (c : ℕ) (stamp : Stamp) (h : Store) → Moves p c (IsDueAt p stamp.reading) h.view.lines (dropping_backups p stamp h)
 unfolding dropping_backups
 dropping_backups_moves p c stamp h =
     filtered p c (IsDueAt p stamp.reading) (λ x. not (is_past p stamp x)) h.view.lines (dropping_backups p stamp h) refl
     (λ x e. past_due p stamp x (not_false (is_past p stamp x) e)) (dropping_backups_quiet p stamp h)
 
-piece_quiet : (p : Params) (c : ℕ) (stamp : Stamp) (want : Want) (part : Option LibraryPart) → AreQuiet (sent_piece p c stamp want part)
+pub piece_quiet : (p : Params) (c : ℕ) (stamp : Stamp) (want : Want) (part : Option LibraryPart) → AreQuiet (sent_piece p c stamp want part)
 piece_quiet p c stamp want None = tt
 piece_quiet p c stamp want (Some part) = (tt, tt)
 
-serving_pieces_quiet : (p : Params) (c : ℕ) (stamp : Stamp) (h : Store) → AreQuiet (serving_pieces p c stamp h).outs
+pub serving_pieces_quiet : (p : Params) (c : ℕ) (stamp : Stamp) (h : Store) → AreQuiet (serving_pieces p c stamp h).outs
 unfolding serving_pieces
 serving_pieces_quiet p c stamp h =
     quiet_flat_map (piece_outs p c stamp h.parts) (λ x. piece_quiet p c stamp (want_of_piece x) (stored_for (want_of_piece x) h.parts)) (filter (leaves_by p stamp.reading) h.pieces.items)
 
-serving_pieces_moves : (p : Params) (c : ℕ) (May : Rec → Type 0) (stamp : Stamp) (h : Store) → Moves p c May h.view.lines (serving_pieces p c stamp h)
+pub serving_pieces_moves : (p : Params) (c : ℕ) (May : Rec → Type 0) (stamp : Stamp) (h : Store) → Moves p c May h.view.lines (serving_pieces p c stamp h)
 unfolding serving_pieces
 serving_pieces_moves p c May stamp h = still p c May h.view.lines (serving_pieces p c stamp h) refl (serving_pieces_quiet p c stamp h)
 

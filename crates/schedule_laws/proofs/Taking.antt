@@ -72,7 +72,7 @@ IsHushed Held other = Unit {0}
 abbrev pub AreHushed : (Instance → Type 0) → List (Out Msg) → Type 0
 AreHushed Held outs = AllByRecursion (IsHushed Held) outs
 
-quiet_hushed : (Held : Instance → Type 0) (o : Out Msg) → IsQuiet o → IsHushed Held o
+pub quiet_hushed : (Held : Instance → Type 0) (o : Out Msg) → IsQuiet o → IsHushed Held o
 quiet_hushed Held (out.Act (what.Took r)) q = q
 quiet_hushed Held (out.Act (what.Put t)) q = q
 quiet_hushed Held (out.Act other) q = tt
@@ -82,7 +82,7 @@ quiet_hushed Held (out.Send link (msg.Deschedule v tag)) q = absurd q
 quiet_hushed Held (out.Send link (msg.Placed t)) q = q
 quiet_hushed Held (out.Send link other) q = tt
 
-hushed_no_put : (Held : Instance → Type 0) (o : Out Msg) → IsHushed Held o → IsNoPut o
+pub hushed_no_put : (Held : Instance → Type 0) (o : Out Msg) → IsHushed Held o → IsNoPut o
 hushed_no_put Held (out.Act (what.Took r)) q = tt
 hushed_no_put Held (out.Act (what.Put t)) q = q
 hushed_no_put Held (out.Act other) q = tt
@@ -90,17 +90,17 @@ hushed_no_put Held (out.Send link (msg.ViewerState s)) q = q
 hushed_no_put Held (out.Send link (msg.Placed t)) q = q
 hushed_no_put Held (out.Send link other) q = tt
 
-hushed_meek_one : (Held : Instance → Type 0) (o : Out Msg) → IsHushed Held o → IsMeek Held o
+pub hushed_meek_one : (Held : Instance → Type 0) (o : Out Msg) → IsHushed Held o → IsMeek Held o
 hushed_meek_one Held (out.Act other) q = tt
 hushed_meek_one Held (out.Send link (msg.Start a redundant)) q = q
 hushed_meek_one Held (out.Send link (msg.Deschedule v tag)) q = q
 hushed_meek_one Held (out.Send link other) q = tt
 
-all_quiet_hushed : (Held : Instance → Type 0) (outs : List (Out Msg)) → AreQuiet outs → AreHushed Held outs
+pub all_quiet_hushed : (Held : Instance → Type 0) (outs : List (Out Msg)) → AreQuiet outs → AreHushed Held outs
 all_quiet_hushed Held [] q = tt
 all_quiet_hushed Held (o ∷ os) q = (quiet_hushed Held o q.0, all_quiet_hushed Held os q.1)
 
-hushed_no_puts : (Held : Instance → Type 0) (outs : List (Out Msg)) → AreHushed Held outs → AreNoPuts outs
+pub hushed_no_puts : (Held : Instance → Type 0) (outs : List (Out Msg)) → AreHushed Held outs → AreNoPuts outs
 hushed_no_puts Held [] q = tt
 hushed_no_puts Held (o ∷ os) q = (hushed_no_put Held o q.0, hushed_no_puts Held os q.1)
 
@@ -168,7 +168,7 @@ module _ (p : Params) (c : ℕ) (May : Rec → Type 0) (Held : Instance → Type
   dropping_start_silent v h =
       hush h.view.lines (dropping_start v h) refl (chosen AreQuiet (has_start h.starts.waiting v) (out.Act (what.Unqueued v) ∷ []) [] (λ _. (tt, tt)) (λ _. tt))
 
-  queueing_silent : (a : Ask) (h : Store) → Silent p c May Held h.view.lines (queueing a h)
+  pub queueing_silent : (a : Ask) (h : Store) → Silent p c May Held h.view.lines (queueing a h)
   queueing_silent a h =
       hush h.view.lines (queueing a h) refl (chosen AreQuiet (is_asked h.starts a.instance) [] (out.Act (what.Queued a.instance a.disk) ∷ []) (λ _. tt) (λ _. (tt, tt)))
 
@@ -179,7 +179,7 @@ module _ (p : Params) (c : ℕ) (May : Rec → Type 0) (Held : Instance → Type
       (cond (redundant && not h.believes) (queueing_redundant a h) (queueing a h)) h.view.lines (nothing_silent h)
       (if_silent (redundant && not h.believes) (queueing_redundant a h) (queueing a h) h.view.lines (hush h.view.lines (queueing_redundant a h) refl tt) (queueing_silent a h))
 
-  same_with_piece : (x : PieceState) (h : Store) → (with_piece_record x h).view.lines ≡ h.view.lines
+  pub same_with_piece : (x : PieceState) (h : Store) → (with_piece_record x h).view.lines ≡ h.view.lines
   unfolding with_piece_record
   same_with_piece x h = chosen (λ (s : Store). s.view.lines ≡ h.view.lines) (pieces.is_in x h.pieces.items) h _ (λ _. refl) (λ _. refl)
 
@@ -193,7 +193,7 @@ module _ (p : Params) (c : ℕ) (May : Rec → Type 0) (Held : Instance → Type
   unfolding meeting_kill
   meeting_kill_silent v visit h = hush h.view.lines (meeting_kill v visit h) refl tt
 
-  storing_silent : (want : Want) (part : Option LibraryPart) (h : Store) → Silent p c May Held h.view.lines (storing want part h)
+  pub storing_silent : (want : Want) (part : Option LibraryPart) (h : Store) → Silent p c May Held h.view.lines (storing want part h)
   storing_silent want (Some part) h = hush h.view.lines (storing want (Some part) h) refl tt
   storing_silent want None h = hush h.view.lines (storing want None h) refl (tt, tt)
 
@@ -227,13 +227,13 @@ module _ (p : Params) (c : ℕ) (May : Rec → Type 0) where
       moves_both p c May (dropping_start s.tenancy.instance) (each_in_turn took (records_told s k)) h (dropping_start_silent p c May (HeldIn h) s.tenancy.instance h).moves
       (moves_each p c May took (took_moves p c May) (records_told s k) (dropping_start s.tenancy.instance h).state)
 
-  met_moves : (stamp : Stamp) (s : State) (o : Option Key) (h : Store) → Moves p c May h.view.lines (met p c stamp s o h)
+  pub met_moves : (stamp : Stamp) (s : State) (o : Option Key) (h : Store) → Moves p c May h.view.lines (met p c stamp s o h)
   met_moves stamp s None h = (nothing_silent p c May (HeldIn h) h).moves
   met_moves stamp s (Some k) h =
       chosen (λ (x : Deed Msg Store). Moves p c May h.view.lines x) (is_held h.held s.tenancy.instance) (passing_from p c stamp s.tenancy.instance (Some k) h) (told s k h)
       (λ _. (passing_from_silent p c May (HeldIn h) stamp s.tenancy.instance (Some k) h (λ e. e)).moves) (λ _. told_moves s k h)
 
-  meeting_state_moves : (stamp : Stamp) (s : State) (h : Store) → Moves p c May h.view.lines (meeting_state p c stamp s h)
+  pub meeting_state_moves : (stamp : Stamp) (s : State) (h : Store) → Moves p c May h.view.lines (meeting_state p c stamp s h)
   unfolding meeting_state
   meeting_state_moves stamp s h =
       chosen (λ (x : Deed Msg Store). Moves p c May h.view.lines x) (is_visit_of s.tenancy s.visit) (met p c stamp s (position_at p c s.tenancy.slot s.visit) h) (nothing h)
@@ -243,7 +243,7 @@ module _ (p : Params) (c : ℕ) (May : Rec → Type 0) where
   unfolding took
   took_no_puts r h = chosen (λ (d : Deed Msg Store). AreNoPuts d.outs) (is_taken r h) (nothing h) (record { outs = taken_out r ∷ []; state = record h { view = view_with r h.view } }) (λ _. tt) (λ _. (tt, tt))
 
-  each_no_puts : (rs : List Rec) (h : Store) → AreNoPuts (each_in_turn took rs h).outs
+  pub each_no_puts : (rs : List Rec) (h : Store) → AreNoPuts (each_in_turn took rs h).outs
   each_no_puts [] h = tt
   each_no_puts (r ∷ rs) h = no_puts_append (took r h).outs (each_in_turn took rs (took r h).state).outs (took_no_puts r h) (each_no_puts rs (took r h).state)
 
@@ -252,10 +252,10 @@ module _ (p : Params) (c : ℕ) (May : Rec → Type 0) where
   each_meek Held (r ∷ rs) h = meek_append Held (took r h).outs (each_in_turn took rs (took r h).state).outs (took_meek Held r h) (each_meek Held rs (took r h).state)
 
   -- a state's rule puts nothing, and sends a deschedule only of what is held
-  abbrev IsMild : Store → Deed Msg Store → Type 0
+  abbrev pub IsMild : Store → Deed Msg Store → Type 0
   IsMild h d = AreNoPuts d.outs × AreMeek (HeldIn h) d.outs
 
-  met_mild : (stamp : Stamp) (s : State) (o : Option Key) (h : Store) → IsMild h (met p c stamp s o h)
+  pub met_mild : (stamp : Stamp) (s : State) (o : Option Key) (h : Store) → IsMild h (met p c stamp s o h)
   met_mild stamp s None h = (tt, tt)
   met_mild stamp s (Some k) h =
       let g : Store = (dropping_start s.tenancy.instance h).state in
@@ -267,7 +267,7 @@ module _ (p : Params) (c : ℕ) (May : Rec → Type 0) where
       (λ _. (hushed_no_puts (HeldIn h) _ pass.quiet, hushed_meek (HeldIn h) _ pass.quiet))
       (λ _. (no_puts_append first second (hushed_no_puts (HeldIn h) first drop1.quiet) (each_no_puts (records_told s k) g), meek_append (HeldIn h) first second (hushed_meek (HeldIn h) first drop1.quiet) (each_meek (HeldIn h) (records_told s k) g)))
 
-  meeting_state_mild : (stamp : Stamp) (s : State) (h : Store) → IsMild h (meeting_state p c stamp s h)
+  pub meeting_state_mild : (stamp : Stamp) (s : State) (h : Store) → IsMild h (meeting_state p c stamp s h)
   unfolding meeting_state
   meeting_state_mild stamp s h =
       chosen (λ (x : Deed Msg Store). IsMild h x) (is_visit_of s.tenancy s.visit) (met p c stamp s (position_at p c s.tenancy.slot s.visit) h) (nothing h)
@@ -287,7 +287,7 @@ dropping_lines_silent p c Held v h =
     not_false true e = refl
     not_false false e = absurd (cc)
 
-descheduling_silent : (p : Params) (c : ℕ) (stamp : Stamp) (v : Instance) (tag : Option Tag) (h : Store)
+pub descheduling_silent : (p : Params) (c : ℕ) (stamp : Stamp) (v : Instance) (tag : Option Tag) (h : Store)
     → Silent p c (λ r. r.tenancy.instance.0 ≡ v.0) (λ w. w ≡ v) h.view.lines (descheduling p c stamp v tag h)
 unfolding descheduling
 descheduling_silent p c stamp v tag h =
@@ -315,7 +315,7 @@ pub record Hears (p : Params) (c : ℕ) (m : Msg) (h : Store) (d : Deed Msg Stor
   pub meek : AreMeek (HeldBy m h) d.outs
   pub only_states : (r : Rec) → In (taken_out r) d.outs → (s : State) × (m ≡ msg.ViewerState s)
 
-silent_hears : (p : Params) (c : ℕ) (m : Msg) (h : Store) (d : Deed Msg Store) → Silent p c (MayLeave m) (HeldBy m h) h.view.lines d → Hears p c m h d
+pub silent_hears : (p : Params) (c : ℕ) (m : Msg) (h : Store) (d : Deed Msg Store) → Silent p c (MayLeave m) (HeldBy m h) h.view.lines d → Hears p c m h d
 silent_hears p c m h d s = record {
   moves = s.moves;
   no_puts = hushed_no_puts (HeldBy m h) d.outs s.quiet;
@@ -323,7 +323,7 @@ silent_hears p c m h d s = record {
   only_states = λ r i. absurd (hushed_took (HeldBy m h) r d.outs s.quiet i);
 }
 
-hearing_hears : (p : Params) (c : ℕ) (stamp : Stamp) (link : LinkNo) (m : Msg) (h : Store) → Hears p c m h (hearing p c stamp link m h)
+pub hearing_hears : (p : Params) (c : ℕ) (stamp : Stamp) (link : LinkNo) (m : Msg) (h : Store) → Hears p c m h (hearing p c stamp link m h)
 unfolding hearing
 hearing_hears p c stamp link (msg.ViewerState s) h = record {
   moves = meeting_state_moves p c (λ r. ⊥) stamp s h;

@@ -35,16 +35,16 @@ use Rattle.schedule_laws.proofs.Inserting.{Nobody, Never, put_out, IsAt, none_at
 use Rattle.schedule_laws.proofs.Putting.{putting_moves, took_kept, each_puts, inserting_own_puts}
 
 -- the own record of the visit behind the first one, where there is one
-abbrev second : Tenancy → Store → Deed Msg Store
+abbrev pub second : Tenancy → Store → Deed Msg Store
 second t = cond (nat_lt t.first t.last) (took (own_of t (t.first + 1))) nothing
 
 -- what it puts out: that record, at a place that was free
-record IsSecond (t : Tenancy) (h : Store) (o : Out Msg) : Type 0 where
-  is : o ≡ taken_out (own_of t (t.first + 1))
-  more : t.first < t.last
-  free : is_taken (own_of t (t.first + 1)) h ≡ false
+pub record IsSecond (t : Tenancy) (h : Store) (o : Out Msg) : Type 0 where
+  pub is : o ≡ taken_out (own_of t (t.first + 1))
+  pub more : t.first < t.last
+  pub free : is_taken (own_of t (t.first + 1)) h ≡ false
 
-second_out : (t : Tenancy) (h : Store) (o : Out Msg) → In o (second t h).outs → IsSecond t h o
+pub second_out : (t : Tenancy) (h : Store) (o : Out Msg) → In o (second t h).outs → IsSecond t h o
 second_out t h o i =
     chosen (λ (f : Store → Deed Msg Store). In o (f h).outs → IsSecond t h o) (nat_lt t.first t.last) (took (own_of t (t.first + 1))) nothing
     (λ more i. ⊎_elim
@@ -55,32 +55,32 @@ second_out t h o i =
     (cases_Bool (is_taken (own_of t (t.first + 1)) h)))
     (λ _ i. absurd i) i
 
-second_meek : (t : Tenancy) (h : Store) → AreMeek Nobody (second t h).outs
+pub second_meek : (t : Tenancy) (h : Store) → AreMeek Nobody (second t h).outs
 second_meek t h =
     chosen (λ (f : Store → Deed Msg Store). AreMeek Nobody (f h).outs) (nat_lt t.first t.last) (took (own_of t (t.first + 1))) nothing (λ _. took_meek Nobody (own_of t (t.first + 1)) h) (λ _. tt)
 
-second_moves : (p : Params) (c : ℕ) (t : Tenancy) (h : Store) → Moves p c Never h.view.lines (second t h)
+pub second_moves : (p : Params) (c : ℕ) (t : Tenancy) (h : Store) → Moves p c Never h.view.lines (second t h)
 second_moves p c t h =
     chosen (λ (f : Store → Deed Msg Store). Moves p c Never h.view.lines (f h)) (nat_lt t.first t.last) (took (own_of t (t.first + 1))) nothing
     (λ _. took_moves p c Never (own_of t (t.first + 1)) h) (λ _. still p c Never h.view.lines (nothing h) refl tt)
 
-second_kept : (t : Tenancy) (h : Store) → ((second t h).state.believes ≡ h.believes) × ((second t h).state.starts ≡ h.starts)
+pub second_kept : (t : Tenancy) (h : Store) → ((second t h).state.believes ≡ h.believes) × ((second t h).state.starts ≡ h.starts)
 second_kept t h =
     chosen (λ (f : Store → Deed Msg Store). ((f h).state.believes ≡ h.believes) × ((f h).state.starts ≡ h.starts)) (nat_lt t.first t.last) (took (own_of t (t.first + 1))) nothing
     (λ _. took_kept (own_of t (t.first + 1)) h) (λ _. (refl, refl))
 
 -- what the cub keeps between the steps of such a Put
-abbrev first_done : Tenancy → Store → Store
+abbrev pub first_done : Tenancy → Store → Store
 first_done t h = (took (backup_of t t.first) (putting t h).state).state
 
-abbrev dead_list : Params → ℕ → Tenancy → Store → List (Out Msg)
+abbrev pub dead_list : Params → ℕ → Tenancy → Store → List (Out Msg)
 dead_list p c t h = put_out t ∷ taken_out (backup_of t t.first) ∷ ((second t (first_done t h)).outs ++ told_placed p c t ∷ [])
 
-dead_outs : (p : Params) (c : ℕ) (t : Tenancy) (h : Store) → is_taken (backup_of t t.first) h ≡ false → (putting_for_dead p c t h).outs ≡ dead_list p c t h
+pub dead_outs : (p : Params) (c : ℕ) (t : Tenancy) (h : Store) → is_taken (backup_of t t.first) h ≡ false → (putting_for_dead p c t h).outs ≡ dead_list p c t h
 unfolding putting_for_dead
 dead_outs p c t h e = rw (took_new (backup_of t t.first) (putting t h).state e).0 refl
 
-dead_moves : (p : Params) (c : ℕ) (t : Tenancy) (h : Store) → Moves p c Never h.view.lines (putting_for_dead p c t h)
+pub dead_moves : (p : Params) (c : ℕ) (t : Tenancy) (h : Store) → Moves p c Never h.view.lines (putting_for_dead p c t h)
 unfolding putting_for_dead
 dead_moves p c t h =
     let h1 : Store = (putting t h).state in
@@ -100,7 +100,7 @@ dead_kept p c t h =
     (two.0 ∙ one.0, two.1 ∙ one.1)
 
 -- what stands in its outputs
-dead_took : (p : Params) (c : ℕ) (t : Tenancy) (h : Store) (r : Rec) → In (taken_out r) (dead_list p c t h)
+pub dead_took : (p : Params) (c : ℕ) (t : Tenancy) (h : Store) (r : Rec) → In (taken_out r) (dead_list p c t h)
     → (r ≡ backup_of t t.first) ⊎ ((r ≡ own_of t (t.first + 1)) × IsSecond t (first_done t h) (taken_out r))
 dead_took p c t h r k = ⊎_elim
     (λ (q : taken_out r ≡ put_out t). absurd (cc))
@@ -113,7 +113,7 @@ dead_took p c t h r k = ⊎_elim
     k)
     k
 
-dead_put : (p : Params) (c : ℕ) (t : Tenancy) (h : Store) (u : Tenancy) → In (put_out u) (dead_list p c t h) → u ≡ t
+pub dead_put : (p : Params) (c : ℕ) (t : Tenancy) (h : Store) (u : Tenancy) → In (put_out u) (dead_list p c t h) → u ≡ t
 dead_put p c t h u k = ⊎_elim
     (λ (q : put_out u ≡ put_out t). let z : u ≡ t = cc in z)
     (λ k. ⊎_elim
@@ -125,7 +125,7 @@ dead_put p c t h u k = ⊎_elim
     k)
     k
 
-dead_sent : (p : Params) (c : ℕ) (t : Tenancy) (h : Store) (link : LinkNo) (s : State) → In (out.Send link (msg.ViewerState s)) (dead_list p c t h) → ⊥
+pub dead_sent : (p : Params) (c : ℕ) (t : Tenancy) (h : Store) (link : LinkNo) (s : State) → In (out.Send link (msg.ViewerState s)) (dead_list p c t h) → ⊥
 dead_sent p c t h link s k = ⊎_elim
     (λ (q : out.Send link (msg.ViewerState s) ≡ put_out t). let z : ⊥ = absurd (cc) in z)
     (λ k. ⊎_elim
@@ -137,7 +137,7 @@ dead_sent p c t h link s k = ⊎_elim
     k)
     k
 
-dead_placed : (p : Params) (c : ℕ) (t : Tenancy) (h : Store) (link : LinkNo) (u : Tenancy) → In (out.Send link (msg.Placed u)) (dead_list p c t h) → u ≡ t
+pub dead_placed : (p : Params) (c : ℕ) (t : Tenancy) (h : Store) (link : LinkNo) (u : Tenancy) → In (out.Send link (msg.Placed u)) (dead_list p c t h) → u ≡ t
 dead_placed p c t h link u k = ⊎_elim
     (λ (q : out.Send link (msg.Placed u) ≡ put_out t). absurd (cc))
     (λ k. ⊎_elim
@@ -150,7 +150,7 @@ dead_placed p c t h link u k = ⊎_elim
     k
 
 -- at the second place no line stood before either
-second_fresh : (p : Params) (c : ℕ) (t : Tenancy) (h : Store) (x : Line) → is_taken (own_of t (t.first + 1)) (first_done t h) ≡ false → In x h.view.lines → IsAt t.slot.0 (t.first + 1) x → ⊥
+pub second_fresh : (p : Params) (c : ℕ) (t : Tenancy) (h : Store) (x : Line) → is_taken (own_of t (t.first + 1)) (first_done t h) ≡ false → In x h.view.lines → IsAt t.slot.0 (t.first + 1) x → ⊥
 second_fresh p c t h x free i at =
     ⊎_elim
     (λ s. none_at (t.slot, t.first + 1) s.line (first_done t h).view.lines free s.there (ap (λ (r : Rec). r.tenancy.slot.0) s.same ∙ at.0, ap (λ (r : Rec). r.visit) s.same ∙ at.1))
@@ -158,7 +158,7 @@ second_fresh p c t h x free i at =
     ((took_moves p c Never (backup_of t t.first) (putting t h).state).forth x i)
 
 -- a Put on a disk of the predecessor
-dead_puts : (p : Params) (c reading disk : ℕ) (waiting : List Ask) (h : Store) (a : Ask) (k : Key) → IsPlan p → c < p.cubs → disk % p.cubs ≡ predecessor p c → h.believes ≡ true
+pub dead_puts : (p : Params) (c reading disk : ℕ) (waiting : List Ask) (h : Store) (a : Ask) (k : Key) → IsPlan p → c < p.cubs → disk % p.cubs ≡ predecessor p c → h.believes ≡ true
     → IsSeated p reading disk waiting h a k → Puts p c reading waiting h (putting_for_dead p c (tenancy_from a k) h)
 dead_puts p c reading disk waiting h a k plan small owner believes seat =
     let t : Tenancy = tenancy_from a k in

@@ -50,14 +50,14 @@ found_in k (z ∷ zs) e =
 abbrev pub FindsPlace : Rec → List Line → List (Out Msg) → Type 0
 FindsPlace r lines outs = ((x : Line) × In x lines × IsAt r.tenancy.slot.0 r.visit x) ⊎ In (taken_out r) outs
 
-one_place : (r : Rec) (h : Store) → FindsPlace r h.view.lines (took r h).outs
+pub one_place : (r : Rec) (h : Store) → FindsPlace r h.view.lines (took r h).outs
 one_place r h = ⊎_elim
     (λ (e : is_taken r h ≡ true). inl (found_in (visit_of r) h.view.lines e))
     (λ (e : is_taken r h ≡ false). inr (subst (λ (os : List (Out Msg)). In (taken_out r) os) (sym (took_new r h e).0) (inl refl)))
     (cases_Bool (is_taken r h))
 
 -- a line that was not there before a record was taken is the record's
-new_line : (r : Rec) (h : Store) (x : Line) → In x (took r h).state.view.lines → In x h.view.lines ⊎ ((x.rec ≡ r) × In (taken_out r) (took r h).outs)
+pub new_line : (r : Rec) (h : Store) (x : Line) → In x (took r h).state.view.lines → In x h.view.lines ⊎ ((x.rec ≡ r) × In (taken_out r) (took r h).outs)
 new_line r h x i = ⊎_elim
     (λ (e : is_taken r h ≡ true). inl (subst (λ (d : Deed Msg Store). In x d.state.view.lines) (took_none r h e) i))
     (λ (e : is_taken r h ≡ false).
@@ -74,7 +74,7 @@ FindsPlaceAmong rs r lines outs =
     ((x : Line) × In x lines × IsAt r.tenancy.slot.0 r.visit x)
     ⊎ ((q : Rec) × In q rs × In (taken_out q) outs × (q.tenancy.slot.0 ≡ r.tenancy.slot.0) × (q.visit ≡ r.visit))
 
-each_place : (rs : List Rec) (r : Rec) (h : Store) → In r rs → FindsPlaceAmong rs r h.view.lines (each_in_turn took rs h).outs
+pub each_place : (rs : List Rec) (r : Rec) (h : Store) → In r rs → FindsPlaceAmong rs r h.view.lines (each_in_turn took rs h).outs
 each_place [] r h i = absurd i
 each_place (s ∷ rs) r h i =
     let rest : List (Out Msg) = (each_in_turn took rs (took s h).state).outs in
@@ -93,7 +93,7 @@ each_place (s ∷ rs) r h i =
     i
 
 -- what is taken is one of the several
-each_taken : (rs : List Rec) (r : Rec) (h : Store) → In (taken_out r) (each_in_turn took rs h).outs → In r rs
+pub each_taken : (rs : List Rec) (r : Rec) (h : Store) → In (taken_out r) (each_in_turn took rs h).outs → In r rs
 each_taken [] r h i = absurd i
 each_taken (s ∷ rs) r h i = ⊎_elim
     (λ k. inl (one_taken s r h k))
@@ -113,13 +113,13 @@ pub record IsTold (p : Params) (c : ℕ) (s : State) (r : Rec) : Type 0 where
   pub given : IsGiven p c s.tenancy s.visit r.visit
 
 -- a cub stands at the state's visit or at the next one
-told_here : (p : Params) (c : ℕ) (s : State) (k : Key) (r : Rec) → k.1 ≡ s.visit → c ≡ cub_of p s.visit → In r (records_told s k) → IsTold p c s r
+pub told_here : (p : Params) (c : ℕ) (s : State) (k : Key) (r : Rec) → k.1 ≡ s.visit → c ≡ cub_of p s.visit → In r (records_told s k) → IsTold p c s r
 told_here p c s k r e here =
     chosen (λ (rs : List Rec). In r rs → IsTold p c s r) (k.1 == s.visit) (record { tenancy = s.tenancy; visit = s.visit; kind = Own } ∷ []) _
     (λ _ i. ⊎_elim (λ q. record { tenancy = ap (λ (x : Rec). x.tenancy) q; given = inl (ap (λ (x : Rec). x.visit) q, inl here) }) (λ q. absurd q) i)
     (λ f i. let z : true ≡ false = sym (eq-eqb k.1 s.visit e) ∙ f in absurd (cc))
 
-told_next : (p : Params) (c : ℕ) (s : State) (k : Key) (r : Rec) → k.1 ≡ s.visit + 1 → c ≡ cub_of p (s.visit + 1) → In r (records_told s k) → IsTold p c s r
+pub told_next : (p : Params) (c : ℕ) (s : State) (k : Key) (r : Rec) → k.1 ≡ s.visit + 1 → c ≡ cub_of p (s.visit + 1) → In r (records_told s k) → IsTold p c s r
 told_next p c s k r e next =
     chosen (λ (rs : List Rec). In r rs → IsTold p c s r) (k.1 == s.visit) (record { tenancy = s.tenancy; visit = s.visit; kind = Own } ∷ []) _
     (λ t i. let z : k.1 ≡ s.visit = eqb-true _ _ t in absurd (omega arith))
@@ -136,7 +136,7 @@ told_next p c s k r e next =
     i)
     i)
 
-position_told : (p : Params) (c : ℕ) (s : State) (k : Key) (r : Rec) → position_at p c s.tenancy.slot s.visit ≡ Some k → In r (records_told s k) → IsTold p c s r
+pub position_told : (p : Params) (c : ℕ) (s : State) (k : Key) (r : Rec) → position_at p c s.tenancy.slot s.visit ≡ Some k → In r (records_told s k) → IsTold p c s r
 unfolding position_at
 position_told p c s k r =
     let rest : Option Key = cond (cub_of p (s.visit + 1) == c) (Some (s.tenancy.slot, s.visit + 1)) None in
@@ -150,7 +150,7 @@ position_told p c s k r =
     some_is a b e = cc
 
 -- what is taken at a viewer state is what it tells
-met_told : (p : Params) (c : ℕ) (stamp : Stamp) (s : State) (r : Rec) (o : Option Key) (h : Store) → ((k : Key) → o ≡ Some k → In r (records_told s k) → IsTold p c s r)
+pub met_told : (p : Params) (c : ℕ) (stamp : Stamp) (s : State) (r : Rec) (o : Option Key) (h : Store) → ((k : Key) → o ≡ Some k → In r (records_told s k) → IsTold p c s r)
     → In (taken_out r) (met p c stamp s o h).outs → IsTold p c s r
 met_told p c stamp s r None h all i = absurd i
 met_told p c stamp s r (Some k) h all i =
@@ -163,13 +163,13 @@ met_told p c stamp s r (Some k) h all i =
     (in_cases (taken_out r) (dropping_start s.tenancy.instance h).outs (each_in_turn took (records_told s k) g).outs i))
     i
 
-meeting_told : (p : Params) (c : ℕ) (stamp : Stamp) (s : State) (r : Rec) (h : Store) → In (taken_out r) (meeting_state p c stamp s h).outs → IsTold p c s r
+pub meeting_told : (p : Params) (c : ℕ) (stamp : Stamp) (s : State) (r : Rec) (h : Store) → In (taken_out r) (meeting_state p c stamp s h).outs → IsTold p c s r
 unfolding meeting_state
 meeting_told p c stamp s r h =
     chosen (λ (d : Deed Msg Store). In (taken_out r) d.outs → IsTold p c s r) (is_visit_of s.tenancy s.visit) (met p c stamp s (position_at p c s.tenancy.slot s.visit) h) (nothing h)
     (λ _ i. met_told p c stamp s r (position_at p c s.tenancy.slot s.visit) h (λ k e j. position_told p c s k r e j) i) (λ _ i. absurd i)
 
-hearing_told : (p : Params) (c : ℕ) (stamp : Stamp) (link : LinkNo) (s : State) (r : Rec) (h : Store) → In (taken_out r) (hearing p c stamp link (msg.ViewerState s) h).outs → IsTold p c s r
+pub hearing_told : (p : Params) (c : ℕ) (stamp : Stamp) (link : LinkNo) (s : State) (r : Rec) (h : Store) → In (taken_out r) (hearing p c stamp link (msg.ViewerState s) h).outs → IsTold p c s r
 unfolding hearing
 hearing_told p c stamp link s r h i = meeting_told p c stamp s r h i
 
@@ -187,7 +187,7 @@ unfolding taking hearing meeting_state
 takes_told p c stamp link s k h form visit position free = rw (form, visit, position, free) refl
 
 -- where it stands, and the record of a visit that it is given
-record Position (p : Params) (c : ℕ) (s : State) (n : ℕ) : Type 0 where
+pub record Position (p : Params) (c : ℕ) (s : State) (n : ℕ) : Type 0 where
   key : Key
   at : position_at p c s.tenancy.slot s.visit ≡ Some key
   rec : Rec
@@ -195,24 +195,24 @@ record Position (p : Params) (c : ℕ) (s : State) (n : ℕ) : Type 0 where
   tenancy : rec.tenancy ≡ s.tenancy
   visit : rec.visit ≡ n
 
-position_here : (p : Params) (c : ℕ) (s : State) → c ≡ cub_of p s.visit → position_at p c s.tenancy.slot s.visit ≡ Some (s.tenancy.slot, s.visit)
+pub position_here : (p : Params) (c : ℕ) (s : State) → c ≡ cub_of p s.visit → position_at p c s.tenancy.slot s.visit ≡ Some (s.tenancy.slot, s.visit)
 unfolding position_at
 position_here p c s here = rw (eq-eqb _ _ (sym here)) refl
 
-position_next : (p : Params) (c : ℕ) (s : State) → (cub_of p s.visit ≡ c → ⊥) → c ≡ cub_of p (s.visit + 1) → position_at p c s.tenancy.slot s.visit ≡ Some (s.tenancy.slot, s.visit + 1)
+pub position_next : (p : Params) (c : ℕ) (s : State) → (cub_of p s.visit ≡ c → ⊥) → c ≡ cub_of p (s.visit + 1) → position_at p c s.tenancy.slot s.visit ≡ Some (s.tenancy.slot, s.visit + 1)
 unfolding position_at
 position_next p c s other next = rw (ne_eqb _ _ other, eq-eqb _ _ (sym next)) refl
 
-told_own : (s : State) → In (record { tenancy = s.tenancy; visit = s.visit; kind = Own }) (records_told s (s.tenancy.slot, s.visit))
+pub told_own : (s : State) → In (record { tenancy = s.tenancy; visit = s.visit; kind = Own }) (records_told s (s.tenancy.slot, s.visit))
 told_own s = rw (eq-eqb s.visit s.visit refl) (inl refl)
 
-told_backup : (s : State) → In (record { tenancy = s.tenancy; visit = s.visit; kind = Backup }) (records_told s (s.tenancy.slot, s.visit + 1))
+pub told_backup : (s : State) → In (record { tenancy = s.tenancy; visit = s.visit; kind = Backup }) (records_told s (s.tenancy.slot, s.visit + 1))
 told_backup s = rw (ne_eqb (s.visit + 1) s.visit (λ e. omega arith)) (inl refl)
 
-told_second : (s : State) → s.visit < s.tenancy.last → In (record { tenancy = s.tenancy; visit = s.visit + 1; kind = Own }) (records_told s (s.tenancy.slot, s.visit + 1))
+pub told_second : (s : State) → s.visit < s.tenancy.last → In (record { tenancy = s.tenancy; visit = s.visit + 1; kind = Own }) (records_told s (s.tenancy.slot, s.visit + 1))
 told_second s more = rw (ne_eqb (s.visit + 1) s.visit (λ e. omega arith), lt-ltb s.visit s.tenancy.last more) (inr (inl refl))
 
-position_of : (p : Params) (c : ℕ) (s : State) (n : ℕ) → IsPlan p → IsGiven p c s.tenancy s.visit n → Position p c s n
+pub position_of : (p : Params) (c : ℕ) (s : State) (n : ℕ) → IsPlan p → IsGiven p c s.tenancy s.visit n → Position p c s n
 position_of p c s n plan given =
     let seven = seven_cubs p plan in
     let apart : c ≡ cub_of p (s.visit + 1) → cub_of p s.visit ≡ c → ⊥ = λ e f. cub_apart p s.visit 1 (omega arith) (omega arith) (f ∙ e) in
@@ -232,11 +232,11 @@ position_of p c s n plan given =
 pub record FindsIts (s : State) (n : ℕ) (lines : List Line) (outs : List (Out Msg)) : Type 0 where
   pub how : ((x : Line) × In x lines × IsAt s.tenancy.slot.0 n x) ⊎ ((q : Rec) × In (taken_out q) outs × (q.tenancy ≡ s.tenancy) × (q.visit ≡ n))
 
-same_start : (v : Instance) (h : Store) → (dropping_start v h).state.view.lines ≡ h.view.lines
+pub same_start : (v : Instance) (h : Store) → (dropping_start v h).state.view.lines ≡ h.view.lines
 unfolding dropping_start
 same_start v h = refl
 
-told_places : (p : Params) (c : ℕ) (s : State) (n : ℕ) (o : Position p c s n) (h : Store) → FindsIts s n h.view.lines (told s o.key h).outs
+pub told_places : (p : Params) (c : ℕ) (s : State) (n : ℕ) (o : Position p c s n) (h : Store) → FindsIts s n h.view.lines (told s o.key h).outs
 told_places p c s n o h =
     let g : Store = (dropping_start s.tenancy.instance h).state in
     let rs : List Rec = records_told s o.key in

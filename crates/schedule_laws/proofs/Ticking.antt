@@ -39,13 +39,13 @@ abbrev pub before_forwarding : Params → ℕ → Stamp → Store → Store
 before_forwarding p c stamp h = (splitting p c stamp (inserting p c stamp (before_inserting p c stamp h)).state).state
 
 -- the first four steps, and the last three
-abbrev early : Params → ℕ → Stamp → Store → Deed Msg Store
+abbrev pub early : Params → ℕ → Stamp → Store → Deed Msg Store
 early p c stamp = then_do (releasing p stamp) (then_do (believing p c stamp) (then_do (inserting p c stamp) (splitting p c stamp)))
 
-abbrev late : Params → ℕ → Stamp → Store → Deed Msg Store
+abbrev pub late : Params → ℕ → Stamp → Store → Deed Msg Store
 late p c stamp = then_do (reading p stamp) (then_do (serving p c stamp) (beating p c stamp))
 
-moves_wider : (p : Params) (c : ℕ) (May : Rec → Type 0) (lines : List Line) (d : Deed Msg Store) → Moves p c Never lines d → Moves p c May lines d
+pub moves_wider : (p : Params) (c : ℕ) (May : Rec → Type 0) (lines : List Line) (d : Deed Msg Store) → Moves p c Never lines d → Moves p c May lines d
 moves_wider p c May lines d m = record {
   back = m.back;
   forth = λ x i. ⊎_elim (λ s. inl s) (λ s. absurd s) (m.forth x i);
@@ -56,7 +56,7 @@ pub same_before : (p : Params) (c : ℕ) (stamp : Stamp) (h : Store) → (before
 same_before p c stamp h = believing_lines p c stamp (releasing p stamp h).state ∙ releasing_lines p stamp h
 
 -- the lines of the steps before forwarding
-early_moves : (p : Params) (c : ℕ) (stamp : Stamp) → IsPlan p → c < p.cubs → (h : Store) → Moves p c Never h.view.lines (early p c stamp h)
+pub early_moves : (p : Params) (c : ℕ) (stamp : Stamp) → IsPlan p → c < p.cubs → (h : Store) → Moves p c Never h.view.lines (early p c stamp h)
 early_moves p c stamp plan here h =
     let h1 : Store = (releasing p stamp h).state in
     let h2 : Store = before_inserting p c stamp h in
@@ -76,7 +76,7 @@ late_moves p c stamp h =
     (moves_both p c May (serving p c stamp) (beating p c stamp) h1 (serving_moves p c stamp h1)
     (still p c May h2.view.lines (beating p c stamp h2) (beating_lines p c stamp h2) (beating_quiet p c stamp h2)))
 
-late_quiet : (p : Params) (c : ℕ) (stamp : Stamp) (h : Store) → AreQuiet (late p c stamp h).outs
+pub late_quiet : (p : Params) (c : ℕ) (stamp : Stamp) (h : Store) → AreQuiet (late p c stamp h).outs
 late_quiet p c stamp h =
     let h1 : Store = (reading p stamp h).state in
     let h2 : Store = (serving p c stamp h1).state in
@@ -155,7 +155,7 @@ ticking_settles p c stamp h y i =
     (m.back y i)
 
 -- what the early steps put out of these is insertion's
-early_out : (p : Params) (c : ℕ) (stamp : Stamp) (h : Store) (o : Out Msg) → In o (early p c stamp h).outs → (IsQuiet o → ⊥) → In o (inserting p c stamp (before_inserting p c stamp h)).outs
+pub early_out : (p : Params) (c : ℕ) (stamp : Stamp) (h : Store) (o : Out Msg) → In o (early p c stamp h).outs → (IsQuiet o → ⊥) → In o (inserting p c stamp (before_inserting p c stamp h)).outs
 early_out p c stamp h o i not_quiet =
     let h1 : Store = (releasing p stamp h).state in
     let h2 : Store = before_inserting p c stamp h in
@@ -169,11 +169,11 @@ early_out p c stamp h o i not_quiet =
     (in_cases o (believing p c stamp h1).outs ((inserting p c stamp h2).outs ++ (splitting p c stamp h3).outs) k))
     (in_cases o (releasing p stamp h).outs ((believing p c stamp h1).outs ++ ((inserting p c stamp h2).outs ++ (splitting p c stamp h3).outs)) i)
 
-not_true : (b : Bool) → not b ≡ true → b ≡ false
+pub not_true : (b : Bool) → not b ≡ true → b ≡ false
 not_true true e = absurd (cc)
 not_true false e = refl
 
-ready_unmarked : (p : Params) (stamp : Stamp) (x : Line) → is_to_forward p stamp x ≡ true → (x.forwarded ≡ false) × (must_forward p stamp x.rec ≡ true)
+pub ready_unmarked : (p : Params) (stamp : Stamp) (x : Line) → is_to_forward p stamp x ≡ true → (x.forwarded ≡ false) × (must_forward p stamp x.rec ≡ true)
 unfolding is_to_forward
 ready_unmarked p stamp x e = let both = and_parts (not x.forwarded) (must_forward p stamp x.rec) e in (not_true x.forwarded both.0, both.1)
 
@@ -188,7 +188,7 @@ pub record Forwarded (p : Params) (c : ℕ) (stamp : Stamp) (h : Store) (s : Sta
   pub own : IsStoreOf p c h → stamp.reading ≤ most_reading → IsRecordOf p c rec
 
 -- what a cub keeps when forwarding begins is what this cub may keep
-kept_before : (p : Params) (c : ℕ) (stamp : Stamp) → IsPlan p → c < p.cubs → (h : Store) → IsStoreOf p c h → stamp.reading ≤ most_reading → IsStoreOf p c (before_forwarding p c stamp h)
+pub kept_before : (p : Params) (c : ℕ) (stamp : Stamp) → IsPlan p → c < p.cubs → (h : Store) → IsStoreOf p c h → stamp.reading ≤ most_reading → IsStoreOf p c (before_forwarding p c stamp h)
 kept_before p c stamp plan here h kept short =
     let h1 : Store = (releasing p stamp h).state in
     let h2 : Store = before_inserting p c stamp h in
@@ -198,7 +198,7 @@ kept_before p c stamp plan here h kept short =
     let k3 : IsStoreOf p c h3 = (inserting_right p c stamp plan here short h2 k2).keeps in
     (splitting_right p c stamp plan here h3 k3).keeps
 
-forwarded_from : (p : Params) (c : ℕ) (stamp : Stamp) → IsPlan p → c < p.cubs → (h : Store) (z : Line) → In z (before_forwarding p c stamp h).view.lines → z.forwarded ≡ false
+pub forwarded_from : (p : Params) (c : ℕ) (stamp : Stamp) → IsPlan p → c < p.cubs → (h : Store) (z : Line) → In z (before_forwarding p c stamp h).view.lines → z.forwarded ≡ false
     → ((x : Line) × In x h.view.lines × (x.rec ≡ z.rec) × (x.forwarded ≡ false)) ⊎ In (taken_out z.rec) (ticking p c stamp h).outs
 forwarded_from p c stamp plan here h z i unmarked = ⊎_elim
     (λ w. ⊎_elim

@@ -35,25 +35,25 @@ abbrev pub AreOnce : Queues → Type 0
 AreOnce q = IsOnce (q.waiting ++ q.redundant)
 
 -- messages
-waiting_back : (old : Queues) (a b : Ask) → IsQueued a (with_waiting old b) → IsQueued a old ⊎ (a ≡ b)
+pub waiting_back : (old : Queues) (a b : Ask) → IsQueued a (with_waiting old b) → IsQueued a old ⊎ (a ≡ b)
 waiting_back old a b =
     chosen (λ (q : Queues). IsQueued a q → IsQueued a old ⊎ (a ≡ b)) (is_asked old b.instance) old (record old { waiting = old.waiting ++ b ∷ [] })
     (λ _ k. inl k)
     (λ _ k. ⊎_elim (λ w. ⊎_elim (λ v. inl (inl v)) (λ v. ⊎_elim (λ e. inr e) (λ e. absurd e) v) (in_cases a old.waiting (b ∷ []) w)) (λ w. inl (inr w)) k)
 
-redundant_back : (old : Queues) (a b : Ask) → IsQueued a (with_redundant old b) → IsQueued a old ⊎ (a ≡ b)
+pub redundant_back : (old : Queues) (a b : Ask) → IsQueued a (with_redundant old b) → IsQueued a old ⊎ (a ≡ b)
 redundant_back old a b =
     chosen (λ (q : Queues). IsQueued a q → IsQueued a old ⊎ (a ≡ b)) (is_asked old b.instance) old (record old { redundant = old.redundant ++ b ∷ [] })
     (λ _ k. inl k)
     (λ _ k. ⊎_elim (λ w. inl (inl w)) (λ w. ⊎_elim (λ v. inl (inr v)) (λ v. ⊎_elim (λ e. inr e) (λ e. absurd e) v) (in_cases a old.redundant (b ∷ []) w)) k)
 
-without_back : (old : Queues) (v : Instance) (a : Ask) → IsQueued a (without_start old v) → IsQueued a old
+pub without_back : (old : Queues) (v : Instance) (a : Ask) → IsQueued a (without_start old v) → IsQueued a old
 without_back old v a k = ⊎_elim
     (λ w. inl (from_filter (λ b. not (is_of v b)) a old.waiting w).0)
     (λ w. inr (from_filter (λ b. not (is_of v b)) a old.redundant w).0)
     k
 
-starts_back : (m : Msg) (old new : Queues) (a : Ask) → StartsAfter m old new → IsQueued a new → IsQueued a old ⊎ ((redundant : Bool) × (m ≡ msg.Start a redundant))
+pub starts_back : (m : Msg) (old new : Queues) (a : Ask) → StartsAfter m old new → IsQueued a new → IsQueued a old ⊎ ((redundant : Bool) × (m ≡ msg.Start a redundant))
 starts_back m old new a after k = ⊎_elim
     (λ e. inl (subst (λ (q : Queues). IsQueued a q) e k))
     (λ w. ⊎_elim
@@ -63,7 +63,7 @@ starts_back m old new a after k = ⊎_elim
     w)
     after
 
-starts_once : (m : Msg) (old new : Queues) → StartsAfter m old new → AreOnce old → AreOnce new
+pub starts_once : (m : Msg) (old new : Queues) → StartsAfter m old new → AreOnce old → AreOnce new
 starts_once m old new after o = ⊎_elim
     (λ e. subst AreOnce (sym e) o)
     (λ w. ⊎_elim
@@ -119,7 +119,7 @@ pub tick_seats : (p : Params) (c : ℕ) (stamp : Stamp) (h : Store) → AreOnce 
     → Seats (before_inserting p c stamp h).starts.waiting (before_inserting p c stamp h) (inserting p c stamp (before_inserting p c stamp h))
 tick_seats p c stamp h o = inserting_seats p c stamp (before_inserting p c stamp h) (before_once p c stamp h o)
 
-tick_once : (p : Params) (c : ℕ) (stamp : Stamp) (h : Store) → AreOnce h.starts → AreOnce (ticking p c stamp h).state.starts
+pub tick_once : (p : Params) (c : ℕ) (stamp : Stamp) (h : Store) → AreOnce h.starts → AreOnce (ticking p c stamp h).state.starts
 tick_once p c stamp h o = subst AreOnce (sym (ticking_starts p c stamp h)) ((tick_seats p c stamp h o).once (before_once p c stamp h o))
 
 pub tick_back : (p : Params) (c : ℕ) (stamp : Stamp) (h : Store) (a : Ask) → AreOnce h.starts → IsQueued a (ticking p c stamp h).state.starts → IsQueued a h.starts
@@ -144,7 +144,7 @@ pub record Started (inputs : ℕ → Input Msg) (a : Ask) (j i : ℕ) : Type 0 w
   pub redundant : Bool
   pub is : inputs at ≡ Take stamp link (msg.Start a redundant)
 
-deed_once : (p : Params) (c : ℕ) (i : Input Msg) (h : Store) → AreOnce h.starts → AreOnce (deed_of p c i h).state.starts
+pub deed_once : (p : Params) (c : ℕ) (i : Input Msg) (h : Store) → AreOnce h.starts → AreOnce (deed_of p c i h).state.starts
 deed_once p c (Take stamp link m) h o = starts_once m h.starts (taking p c stamp link m h).state.starts (taking_after p c stamp link m h).0 o
 deed_once p c (Tick stamp) h o = tick_once p c stamp h o
 
@@ -153,7 +153,7 @@ pub once_at : (p : Params) (c : ℕ) (inputs : ℕ → Input Msg) (i : ℕ) → 
 once_at p c inputs zero = tt
 once_at p c inputs (suc i) = deed_once p c (inputs i) (store_at p c inputs i) (once_at p c inputs i)
 
-queue_step : (p : Params) (c : ℕ) (inputs : ℕ → Input Msg) (i : ℕ) (a : Ask) (k : Input Msg) → inputs i ≡ k → IsQueued a (deed_of p c k (store_at p c inputs i)).state.starts
+pub queue_step : (p : Params) (c : ℕ) (inputs : ℕ → Input Msg) (i : ℕ) (a : Ask) (k : Input Msg) → inputs i ≡ k → IsQueued a (deed_of p c k (store_at p c inputs i)).state.starts
     → IsQueued a (store_at p c inputs i).starts ⊎ Started inputs a i (suc i)
 queue_step p c inputs i a (Take stamp link m) e q =
     let h : Store = store_at p c inputs i in

@@ -25,7 +25,7 @@ use Rattle.schedule_laws.proofs.Order.{not_behind}
 use Rattle.schedule_laws.proofs.States.{from_tick, tick_true}
 
 -- the watch after an input
-watch_after : (p : Params) (c : ℕ) (i : Input Msg) (h : Store) → ((deed_of p c i h).state.watch ≡ h.watch) ⊎ ((deed_of p c i h).state.watch ≡ record h.watch { heard = (stamp_of i).reading })
+pub watch_after : (p : Params) (c : ℕ) (i : Input Msg) (h : Store) → ((deed_of p c i h).state.watch ≡ h.watch) ⊎ ((deed_of p c i h).state.watch ≡ record h.watch { heard = (stamp_of i).reading })
 watch_after p c (Take stamp link m) h = ⊎_elim (λ e. inl e) (λ e. inr e.2) (taking_after p c stamp link m h).1
 watch_after p c (Tick stamp) h = inl (ticking_watch p c stamp h)
 
@@ -42,7 +42,7 @@ pub record IsBeat (p : Params) (c : ℕ) (inputs : ℕ → Input Msg) (j : ℕ) 
   pub is : inputs j ≡ Take stamp link msg.Heartbeat
   pub from : link.0 ≡ (way_ahead p (predecessor p c) 1).0
 
-heard_now : (p : Params) (c : ℕ) (inputs : ℕ → Input Msg) (j : ℕ) → IsBeat p c inputs j → (store_at p c inputs (suc j)).watch.heard ≡ reading_at inputs j
+pub heard_now : (p : Params) (c : ℕ) (inputs : ℕ → Input Msg) (j : ℕ) → IsBeat p c inputs j → (store_at p c inputs (suc j)).watch.heard ≡ reading_at inputs j
 heard_now p c inputs j b =
     let h : Store = store_at p c inputs j in
     let e : (deed_of p c (inputs j) h).state.watch ≡ record h.watch { heard = b.stamp.reading } =
@@ -64,11 +64,11 @@ heard_by p c count inputs life (suc i) j low h b = ⊎_elim
     (eq-or-lt_of_le (let z : j ≤ i = omega arith in z))
 
 -- a heartbeat goes out in each beat of its number
-beating_out : (p : Params) (c : ℕ) (stamp : Stamp) (h : Store) → stamp.beat % p.heart ≡ 0 → In (out.Send (way_ahead p c 1) msg.Heartbeat) (beating p c stamp h).outs
+pub beating_out : (p : Params) (c : ℕ) (stamp : Stamp) (h : Store) → stamp.beat % p.heart ≡ 0 → In (out.Send (way_ahead p c 1) msg.Heartbeat) (beating p c stamp h).outs
 unfolding beating
 beating_out p c stamp h e = rw (eq-eqb _ _ e) (inl refl)
 
-ticking_out : (p : Params) (c : ℕ) (stamp : Stamp) (h : Store) → stamp.beat % p.heart ≡ 0 → In (out.Send (way_ahead p c 1) msg.Heartbeat) (ticking p c stamp h).outs
+pub ticking_out : (p : Params) (c : ℕ) (stamp : Stamp) (h : Store) → stamp.beat % p.heart ≡ 0 → In (out.Send (way_ahead p c 1) msg.Heartbeat) (ticking p c stamp h).outs
 unfolding ticking
 ticking_out p c stamp h e =
     let o : Out Msg = out.Send (way_ahead p c 1) msg.Heartbeat in
@@ -95,7 +95,7 @@ module _ (p : Params) (lives : Lives) (are : AreLives p lives) (outside : Outsid
         did = from_tick p c inputs w.at stamp (out.Send (way_ahead p c 1) msg.Heartbeat) w.is (ticking_out p c stamp (store_at p c inputs w.at) e);
       }
 
-  since : (c b l y : ℕ) (w : TickedAt p lives c b l) → is_silent (store_at p c (lives.input c) w.at).watch l ≡ true → HeardAt p lives c y → y ≤ b → time_of p y + p.deadman < l
+  pub since : (c b l y : ℕ) (w : TickedAt p lives c b l) → is_silent (store_at p c (lives.input c) w.at).watch l ≡ true → HeardAt p lives c y → y ≤ b → time_of p y + p.deadman < l
   since c b l y w silent heard h =
       let inputs : ℕ → Input Msg = lives.input c in
       let life = are c w.small in

@@ -20,11 +20,11 @@ use Rattle.schedule_laws.specs.Histories.{input_of, lives_of}
 abbrev pub cub_with : Params → ℕ → Store → CubState
 cub_with p c h = record { params = p; cub = c; store = h }
 
-cub_state : (p : Params) (c : ℕ) (h : Store) (k : Input Msg) → (cub_step (cub_with p c h) k).state ≡ cub_with p c (deed_of p c k h).state
+pub cub_state : (p : Params) (c : ℕ) (h : Store) (k : Input Msg) → (cub_step (cub_with p c h) k).state ≡ cub_with p c (deed_of p c k h).state
 cub_state p c h (Take stamp link m) = refl
 cub_state p c h (Tick stamp) = refl
 
-cub_outs : (p : Params) (c : ℕ) (h : Store) (k : Input Msg) → (cub_step (cub_with p c h) k).outs ≡ (deed_of p c k h).outs
+pub cub_outs : (p : Params) (c : ℕ) (h : Store) (k : Input Msg) → (cub_step (cub_with p c h) k).outs ≡ (deed_of p c k h).outs
 cub_outs p c h (Take stamp link m) = refl
 cub_outs p c h (Tick stamp) = refl
 
@@ -42,7 +42,7 @@ event_outs step (Dies stamp) x d = absurd (cc)
 module _ {S : Type 0} (step : S → Input Msg → Deed Msg S) (wrap : CubState → S) (same : (s : CubState) (k : Input Msg) → step (wrap s) k ≡ wrapped wrap (cub_step s k)) (p : Params) (h : History Msg S) (c : ℕ)
     (alive : (i : ℕ) → i < h.count c → is_death (h.event c i) ≡ false) (first : h.first c ≡ wrap (cub_with p c (opening_store p 0))) where
   -- what the cub keeps before an event
-  kept : (i : ℕ) → i ≤ h.count c → (past noted step h c i).state ≡ wrap (cub_with p c (store_at p c ((lives_of h).input c) i))
+  pub kept : (i : ℕ) → i ≤ h.count c → (past noted step h c i).state ≡ wrap (cub_with p c (store_at p c ((lives_of h).input c) i))
   kept zero low = first
   kept (suc i) low =
       let k : Input Msg = (lives_of h).input c i in

@@ -38,19 +38,19 @@ use Rattle.schedule_moments.specs.Calm.{AreCalmJournals}
 use Rattle.schedule_moments.proofs.Fair as fair
 use Rattle.schedule_moments.proofs.Plain.{IsPlain, taking_plain, told_by_deadman}
 
-believing_silent : (p : Params) (c : ℕ) (stamp : Stamp) (h : Store) (d : CubNo) → In (out.Act (what.Believed d)) (believing p c stamp h).outs → is_silent h.watch stamp.reading ≡ true
+pub believing_silent : (p : Params) (c : ℕ) (stamp : Stamp) (h : Store) (d : CubNo) → In (out.Act (what.Believed d)) (believing p c stamp h).outs → is_silent h.watch stamp.reading ≡ true
 unfolding believing
 believing_silent p c stamp h d i =
     chosen (λ (x : Deed Msg Store). In (out.Act (what.Believed d)) x.outs → is_silent h.watch stamp.reading ≡ true)
     (not h.believes && is_silent h.watch stamp.reading) _ (nothing h)
     (λ t _. (and_parts (not h.believes) (is_silent h.watch stamp.reading) t).1) (λ _ k. absurd k) i
 
-same_watch : (p : Params) (stamp : Stamp) (h : Store) → (releasing p stamp h).state.watch ≡ h.watch
+pub same_watch : (p : Params) (stamp : Stamp) (h : Store) → (releasing p stamp h).state.watch ≡ h.watch
 unfolding releasing
 same_watch p stamp h = refl
 
 -- behind its predecessor stands the cub
-behind_it : (p : Params) (c : ℕ) → IsPlan p → c < p.cubs → cub_of p (predecessor p c + 1) ≡ c
+pub behind_it : (p : Params) (c : ℕ) → IsPlan p → c < p.cubs → cub_of p (predecessor p c + 1) ≡ c
 unfolding cub_of
 behind_it p c plan small = next_own p c (predecessor p c) plan small (mod-eq_of_lt (predecessor_below p c plan))
 
@@ -67,11 +67,11 @@ module _ {S : Type 0} (step : S → Input Msg → Deed Msg S) (p : Params) (plan
         watch = record { told = ring.told; beats = cubs.beats; heard = ring.heard; silent = cubs.silent };
       }
 
-  none_silent : (c b : ℕ) → c < p.cubs → BelievedAt p (lives_of h) c b → ⊥
+  pub none_silent : (c b : ℕ) → c < p.cubs → BelievedAt p (lives_of h) c b → ⊥
   none_silent c b small w =
       (believed_died p plan (room_of p plan) (facts_of p (lives_of h) (calm orders)) laws (predecessor p c) (predecessor_below p c plan) (sym (behind_it p c plan small)) w).died.died
 
-  told_so : (c i : ℕ) (d : CubNo) (q : Input Msg) → c < p.cubs → i < h.count c → (lives_of h).input c i ≡ q
+  pub told_so : (c i : ℕ) (d : CubNo) (q : Input Msg) → c < p.cubs → i < h.count c → (lives_of h).input c i ≡ q
       → In (out.Act (what.Believed d)) (deed_of p c q (store_at p c ((lives_of h).input c) i)).outs → ⊥
   told_so c i d (Take stamp link m) small low is k =
       all_in IsPlain (out.Act (what.Believed d)) (taking p c stamp link m (store_at p c ((lives_of h).input c) i)).outs

@@ -20,12 +20,12 @@ pub record WasPut (log : List Noted) (s : ℕ) (t : Tenancy) : Type 0 where
   pub is : entry.entry.what ≡ what.Put t
   pub slot : t.slot.0 ≡ s
 
-still_there : (v : ℕ) (o : Option Tenancy) (t : Tenancy) → unless_of v o ≡ Some t → o ≡ Some t
+pub still_there : (v : ℕ) (o : Option Tenancy) (t : Tenancy) → unless_of v o ≡ Some t → o ≡ Some t
 still_there v None t e = e
 still_there v (Some u) t e = chosen (λ (o : Option Tenancy). o ≡ Some t → Some u ≡ Some t) (u.instance.0 == v) None (Some u) (λ _ q. absurd (cc)) (λ _ q. q) e
 
 -- one more entry: a slot that it gives has its tenancy, and the others are as before or free
-holds_by : (log : List Noted) (sch : Schedule) (x : Noted) (w : What) → x.entry.what ≡ w → In x log → ((s : ℕ) (t : Tenancy) → sch.holder s ≡ Some t → WasPut log s t)
+pub holds_by : (log : List Noted) (sch : Schedule) (x : Noted) (w : What) → x.entry.what ≡ w → In x log → ((s : ℕ) (t : Tenancy) → sch.holder s ≡ Some t → WasPut log s t)
     → (s : ℕ) (t : Tenancy) → (changed sch (beat_of x) w).holder s ≡ Some t → WasPut log s t
 holds_by log sch x (what.Put u) is i had s t e =
     chosen (λ (q : Schedule). q.holder s ≡ Some t → WasPut log s t) (is_stopped u.instance.0 sch.stops) sch
@@ -39,7 +39,7 @@ holds_by log sch x (what.Put u) is i had s t e =
 holds_by log sch x (what.Gone v) is i had s t e = had s t (still_there v.0 (sch.holder s) t e)
 holds_by log sch x other is i had s t e = had s t e
 
-holds_on : (log rest : List Noted) (sch : Schedule) → ((x : Noted) → In x rest → In x log) → ((s : ℕ) (t : Tenancy) → sch.holder s ≡ Some t → WasPut log s t)
+pub holds_on : (log rest : List Noted) (sch : Schedule) → ((x : Noted) → In x rest → In x log) → ((s : ℕ) (t : Tenancy) → sch.holder s ≡ Some t → WasPut log s t)
     → (s : ℕ) (t : Tenancy) → (fold after_entry sch rest).holder s ≡ Some t → WasPut log s t
 unfolding after_entry
 holds_on log [] sch within had s t e = had s t e
@@ -61,18 +61,18 @@ pub record Since (log : List Noted) (s b : ℕ) (sch : Schedule) : Type 0 where
   pub later : b ≤ beat_of entry
 
 -- nothing is stopped
-abbrev NoneGone : List Noted → Type 0
+abbrev pub NoneGone : List Noted → Type 0
 NoneGone xs = (x : Noted) → In x xs → is_gone x.entry.what ≡ false
 
-abbrev given_slot : (sch : Schedule) (u : Tenancy) → Schedule
+abbrev pub given_slot : (sch : Schedule) (u : Tenancy) → Schedule
 given_slot sch u = record { holder = λ slot. cond (u.slot.0 == slot) (Some u) (sch.holder slot); stops = sch.stops }
 
-stops_by : (sch : Schedule) (beat : ℕ) (w : What) → is_gone w ≡ false → sch.stops ≡ [] → (changed sch beat w).stops ≡ []
+pub stops_by : (sch : Schedule) (beat : ℕ) (w : What) → is_gone w ≡ false → sch.stops ≡ [] → (changed sch beat w).stops ≡ []
 stops_by sch beat (what.Put u) kept none = chosen (λ (q : Schedule). q.stops ≡ []) (is_stopped u.instance.0 sch.stops) sch (given_slot sch u) (λ _. none) (λ _. none)
 stops_by sch beat (what.Gone v) kept none = absurd (cc)
 stops_by sch beat other kept none = none
 
-since_given : (log : List Noted) (s b : ℕ) (sch : Schedule) (x : Noted) (u : Tenancy) → x.entry.what ≡ what.Put u → In x log → b ≤ beat_of x → u.slot.0 ≡ s → Since log s b (given_slot sch u)
+pub since_given : (log : List Noted) (s b : ℕ) (sch : Schedule) (x : Noted) (u : Tenancy) → x.entry.what ≡ what.Put u → In x log → b ≤ beat_of x → u.slot.0 ≡ s → Since log s b (given_slot sch u)
 since_given log s b sch x u is i low same = record {
   tenancy = u;
   holds = ap (λ (t : Bool). cond t (Some u) (sch.holder s)) (eq-eqb _ _ same);
@@ -83,7 +83,7 @@ since_given log s b sch x u is i low same = record {
   later = low;
 }
 
-since_by : (log : List Noted) (s b : ℕ) (sch : Schedule) (x : Noted) (w : What) → x.entry.what ≡ w → In x log → b ≤ beat_of x → is_gone w ≡ false → Since log s b sch
+pub since_by : (log : List Noted) (s b : ℕ) (sch : Schedule) (x : Noted) (w : What) → x.entry.what ≡ w → In x log → b ≤ beat_of x → is_gone w ≡ false → Since log s b sch
     → Since log s b (changed sch (beat_of x) w)
 since_by log s b sch x (what.Put u) is i low kept had =
     chosen (λ (q : Schedule). Since log s b q) (is_stopped u.instance.0 sch.stops) sch (given_slot sch u) (λ _. had)
@@ -102,7 +102,7 @@ since_by log s b sch x (what.Put u) is i low kept had =
 since_by log s b sch x (what.Gone v) is i low kept had = absurd (cc)
 since_by log s b sch x other is i low kept had = had
 
-since_on : (log rest : List Noted) (s b : ℕ) (sch : Schedule) → ((x : Noted) → In x rest → In x log) → ((x : Noted) → In x rest → b ≤ beat_of x) → NoneGone rest
+pub since_on : (log rest : List Noted) (s b : ℕ) (sch : Schedule) → ((x : Noted) → In x rest → In x log) → ((x : Noted) → In x rest → b ≤ beat_of x) → NoneGone rest
     → Since log s b sch → Since log s b (fold after_entry sch rest)
 unfolding after_entry
 since_on log [] s b sch within later kept had = had
@@ -110,14 +110,14 @@ since_on log (x ∷ xs) s b sch within later kept had =
     since_on log xs s b (after_entry sch x) (λ y i. within y (inr i)) (λ y i. later y (inr i)) (λ y i. kept y (inr i))
     (since_by log s b sch x x.entry.what refl (within x (inl refl)) (later x (inl refl)) (kept x (inl refl)) had)
 
-given_free : (log : List Noted) (s b : ℕ) (sch : Schedule) (x : Noted) (t : Tenancy) → x.entry.what ≡ what.Put t → In x log → b ≤ beat_of x → t.slot.0 ≡ s → sch.stops ≡ []
+pub given_free : (log : List Noted) (s b : ℕ) (sch : Schedule) (x : Noted) (t : Tenancy) → x.entry.what ≡ what.Put t → In x log → b ≤ beat_of x → t.slot.0 ≡ s → sch.stops ≡ []
     → (w : What) → w ≡ what.Put t → Since log s b (changed sch (beat_of x) w)
 given_free log s b sch x t is i low same none w e =
     subst (λ (v : What). Since log s b (changed sch (beat_of x) v)) (sym e)
     (subst (λ (stops : List Stop). Since log s b (cond (is_stopped t.instance.0 stops) sch (given_slot sch t))) (sym none) (since_given log s b sch x t is i low same))
 
 -- where a tenancy was put and nothing is stopped, its slot has it, or one that was put in its beat or later
-since_at : (log rest : List Noted) (s b : ℕ) (sch : Schedule) (y : Noted) (t : Tenancy) → ((x : Noted) → In x rest → In x log) → Rising beat_of rest → NoneGone rest → sch.stops ≡ []
+pub since_at : (log rest : List Noted) (s b : ℕ) (sch : Schedule) (y : Noted) (t : Tenancy) → ((x : Noted) → In x rest → In x log) → Rising beat_of rest → NoneGone rest → sch.stops ≡ []
     → In y rest → y.entry.what ≡ what.Put t → t.slot.0 ≡ s → b ≤ beat_of y → Since log s b (fold after_entry sch rest)
 unfolding after_entry
 since_at log [] s b sch y t within rising kept none i is same low = absurd i

@@ -1,9 +1,9 @@
-mod Ones
+pub mod Ones
 pub mod Ordered
 pub mod Written
-mod Singles
+pub mod Singles
 pub mod Holders
 pub mod Fair
-mod Plain
+pub mod Plain
 pub mod Beliefs
 pub mod Passing

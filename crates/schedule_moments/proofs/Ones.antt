@@ -43,7 +43,7 @@ one_map f test (x ∷ xs) one = (
   one_map f test xs one.1,
 )
 
-none_length : {X : Type 0} (test : X → Bool) (xs : List X) → IsNone test xs → length (filter test xs) ≡ 0
+pub none_length : {X : Type 0} (test : X → Bool) (xs : List X) → IsNone test xs → length (filter test xs) ≡ 0
 none_length test [] n = refl
 none_length {X} test (x ∷ xs) n = chosen (λ (ys : List X). length ys ≡ 0) (test x) (x ∷ filter test xs) (filter test xs)
     (λ t. absurd (n x (inl refl) t))

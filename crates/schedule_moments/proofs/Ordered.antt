@@ -22,14 +22,14 @@ pub record StandsIn (js : List (List Entry)) (x : Noted) : Type 0 where
   pub there : In x.entry journal
 
 -- where the first journal is that of node n
-record StandsFrom (n : ℕ) (js : List (List Entry)) (x : Noted) : Type 0 where
+pub record StandsFrom (n : ℕ) (js : List (List Entry)) (x : Noted) : Type 0 where
   place : ℕ
   node : x.node ≡ n + place
   journal : List Entry
   at : slice_get js place ≡ Some journal
   there : In x.entry journal
 
-in_beat_where : (b n : ℕ) (js : List (List Entry)) (x : Noted) → In x (in_beat b n js) → (beat_of x ≡ b) × StandsFrom n js x
+pub in_beat_where : (b n : ℕ) (js : List (List Entry)) (x : Noted) → In x (in_beat b n js) → (beat_of x ≡ b) × StandsFrom n js x
 in_beat_where b n [] x i = absurd i
 in_beat_where b n (j ∷ js) x i = ⊎_elim
     (λ k.
@@ -83,7 +83,7 @@ rising_before f (z ∷ zs) x back y r i = ⊎_elim
     i
 
 -- at most one entry of the order passes a test, where that is so in each journal, and two that pass are of one node and beat
-one_beat : (test : Noted → Bool) (b n : ℕ) (js : List (List Entry)) → ((k : ℕ) (j : List Entry) → slice_get js k ≡ Some j → IsOne (λ e. test (note_of (n + k) e)) j)
+pub one_beat : (test : Noted → Bool) (b n : ℕ) (js : List (List Entry)) → ((k : ℕ) (j : List Entry) → slice_get js k ≡ Some j → IsOne (λ e. test (note_of (n + k) e)) j)
     → ((x y : Noted) → In x (in_beat b n js) → In y (in_beat b n js) → test x ≡ true → test y ≡ true → x.node ≡ y.node) → IsOne test (in_beat b n js)
 one_beat test b n [] each same = tt
 one_beat test b n (j ∷ js) each same =
@@ -127,7 +127,7 @@ numbered_below (y ∷ ys) zero x e = omega arith
 numbered_below (y ∷ ys) (suc n) x e = let l = numbered_below ys n x e in omega arith
 
 -- and an entry of a journal stands in the order, where its beat is one of the order's
-in_beat_in : (b m : ℕ) (js : List (List Entry)) (n : ℕ) (j : List Entry) (e : Entry) → slice_get js n ≡ Some j → In e j → e.stamp.beat ≡ b → In (note_of (m + n) e) (in_beat b m js)
+pub in_beat_in : (b m : ℕ) (js : List (List Entry)) (n : ℕ) (j : List Entry) (e : Entry) → slice_get js n ≡ Some j → In e j → e.stamp.beat ≡ b → In (note_of (m + n) e) (in_beat b m js)
 in_beat_in b m [] n j e at i is = absurd (none-some j at)
 in_beat_in b m (g ∷ gs) zero j e at i is =
     let same : g ≡ j = ap (λ (o : Option (List Entry)). unwrap_or o g) at in

@@ -48,7 +48,7 @@ use Rattle.schedule_moments.proofs.Beliefs as beliefs
 use Rattle.schedule_moments.proofs.Fair as fair
 
 -- what some element is, and that one is
-any_by : {X : Type 0} (P : X → Type 0) (xs : List X) → AnyByRecursion P xs → (x : X) × In x xs × P x
+pub any_by : {X : Type 0} (P : X → Type 0) (xs : List X) → AnyByRecursion P xs → (x : X) × In x xs × P x
 any_by P [] h = absurd h
 any_by P (x ∷ xs) h = ⊎_elim (λ q. (x, inl refl, q)) (λ k. let r = any_by P xs k in (r.0, inr r.1, r.2)) h
 
@@ -59,7 +59,7 @@ any_found {X} test (x ∷ xs) e = ⊎_elim
     (λ (f : test x ≡ false). let r = any_found test xs (subst (λ b. (b || list_any test xs) ≡ true) f e) in (r.0, inr r.1, r.2))
     (cases_Bool (test x))
 
-any_true : {X : Type 0} (test : X → Bool) (xs : List X) (x : X) → In x xs → test x ≡ true → list_any test xs ≡ true
+pub any_true : {X : Type 0} (test : X → Bool) (xs : List X) (x : X) → In x xs → test x ≡ true → list_any test xs ≡ true
 any_true test [] x i t = absurd i
 any_true test (y ∷ ys) x i t = ⊎_elim
     (λ q. or_left (test y) (list_any test ys) (ap test (sym q) ∙ t))
@@ -67,7 +67,7 @@ any_true test (y ∷ ys) x i t = ⊎_elim
     i
 
 -- which entries stand up to the end of a tick
-up_to_low : (beat n : ℕ) (x : Noted) → is_up_to beat n x ≡ true → beat_of x ≤ beat
+pub up_to_low : (beat n : ℕ) (x : Noted) → is_up_to beat n x ≡ true → beat_of x ≤ beat
 up_to_low beat n x e = ⊎_elim
     (λ (t : nat_lt (beat_of x) beat ≡ true). let l = ltb-true _ _ t in omega arith)
     (λ (f : nat_lt (beat_of x) beat ≡ false).
@@ -76,14 +76,14 @@ up_to_low beat n x e = ⊎_elim
     omega arith)
     (cases_Bool (nat_lt (beat_of x) beat))
 
-up_to_by : (beat n : ℕ) (x : Noted) → (beat_of x < beat) ⊎ ((beat_of x ≡ beat) × (x.node ≤ n)) → is_up_to beat n x ≡ true
+pub up_to_by : (beat n : ℕ) (x : Noted) → (beat_of x < beat) ⊎ ((beat_of x ≡ beat) × (x.node ≤ n)) → is_up_to beat n x ≡ true
 up_to_by beat n x h = ⊎_elim
     (λ l. or_left (nat_lt (beat_of x) beat) ((beat_of x == beat) && nat_le x.node n) (lt-ltb _ _ l))
     (λ q. or_right (nat_lt (beat_of x) beat) ((beat_of x == beat) && nat_le x.node n) (and_from _ _ (eq-eqb _ _ q.0) (le-leb _ _ q.1)))
     h
 
 -- an order is there with its beat
-order_there : (orders : List Order) (ask : Ask) → IsOrdered orders ask → (beat : ℕ) × In (record { beat = beat; what = kind.Begin ask }) orders
+pub order_there : (orders : List Order) (ask : Ask) → IsOrdered orders ask → (beat : ℕ) × In (record { beat = beat; what = kind.Begin ask }) orders
 order_there orders ask h =
     let r = any_by (λ (o : Order). o.what ≡ kind.Begin ask) orders h in
     let o : Order = r.0 in
@@ -91,17 +91,17 @@ order_there orders ask h =
     (o.beat, subst (λ (x : Order). In x orders) same r.1)
 
 -- what a start's entry is, and a start's message
-start_is : (v : ℕ) (how : Bool) (w : What) → IsStartOf v how w → (link : LinkNo) × (a : Ask) × (w ≡ what.Got link (note.Start a how)) × (a.instance.0 ≡ v)
+pub start_is : (v : ℕ) (how : Bool) (w : What) → IsStartOf v how w → (link : LinkNo) × (a : Ask) × (w ≡ what.Got link (note.Start a how)) × (a.instance.0 ≡ v)
 start_is v how (what.Got link (note.Start a r)) h = (link, a, ap (λ (b : Bool). what.Got link (note.Start a b)) h.1, h.0)
 start_is v how (what.Got link other) h = absurd h
 start_is v how other h = absurd h
 
-start_back : (m : Msg) (a : Ask) (r : Bool) → noted m ≡ note.Start a r → m ≡ msg.Start a r
+pub start_back : (m : Msg) (a : Ask) (r : Bool) → noted m ≡ note.Start a r → m ≡ msg.Start a r
 start_back (msg.Start b s) a r e = let x : b ≡ a = cc in let y : s ≡ r = cc in ap (λ (z : Ask). msg.Start z s) x ∙ ap (λ (z : Bool). msg.Start a z) y
 start_back other a r e = absurd (cc)
 
 -- a belief
-belief_is : (d : ℕ) (w : What) → is_belief_of d w ≡ true → (cub : CubNo) × (w ≡ what.Believed cub)
+pub belief_is : (d : ℕ) (w : What) → is_belief_of d w ≡ true → (cub : CubNo) × (w ≡ what.Believed cub)
 belief_is d (what.Believed cub) e = (cub, refl)
 belief_is d other e = absurd (cc)
 
@@ -118,20 +118,20 @@ nothing_gone journals unstopped beats x i =
 module _ {S : Type 0} (step : S → Input Msg → Deed Msg S) (p : Params) (plan : IsPlan p) (nodes : ℕ) (h : History Msg S) (orders : List Order)
     (journals : List (List Entry)) (are : AreCalmJournals step p nodes h orders journals) (unstopped : StopNothing journals)
     (beats c beat reading : ℕ) (known : beat < beats) (ticked : TickedAt p (lives_of h) c beat reading) where
-  abbrev log : List Noted
+  abbrev pub log : List Noted
   log = order_of beats journals
 
-  abbrev front : List Noted
+  abbrev pub front : List Noted
   front = filter (is_up_to beat c) log
 
-  small : c < p.cubs
+  pub small : c < p.cubs
   small = ticked.small
 
-  inside : c < nodes
+  pub inside : c < nodes
   inside = let wide = are.history.living.all_cubs in let s = ticked.small in omega arith
 
   -- an entry of the cub in the front stands in its journal
-  mine : (e : Entry) → In e (journal_of c front) → In e (past noted step h c (h.count c)).journal × (e.stamp.beat ≤ beat)
+  pub mine : (e : Entry) → In e (journal_of c front) → In e (past noted step h c (h.count c)).journal × (e.stamp.beat ≤ beat)
   mine e i =
       let m = from_map (λ (x : Noted). x.entry) e (filter (λ (x : Noted). x.node == c) front) i in
       let x : Noted = m.0 in
@@ -147,7 +147,7 @@ module _ {S : Type 0} (step : S → Input Msg → Deed Msg S) (p : Params) (plan
       (subst (λ (y : Entry). In y (past noted step h c (h.count c)).journal) (sym m.2) moved, omega arith)
 
   -- nobody is believed dead
-  none_believed : (d : ℕ) → list_any (λ (e : Entry). is_belief_of d e.what) (journal_of c front) ≡ true → ⊥
+  pub none_believed : (d : ℕ) → list_any (λ (e : Entry). is_belief_of d e.what) (journal_of c front) ≡ true → ⊥
   none_believed d t =
       let e = any_found (λ (x : Entry). is_belief_of d x.what) (journal_of c front) t in
       let b = belief_is d e.0.what e.2 in
@@ -156,11 +156,11 @@ module _ {S : Type 0} (step : S → Input Msg → Deed Msg S) (p : Params) (plan
       beliefs.unbelieved step p plan nodes h orders journals are c w.at b.0 small w.before r.0
 
   -- nothing is stopped
-  none_gone : (x : Noted) → In x front → is_gone x.entry.what ≡ false
+  pub none_gone : (x : Noted) → In x front → is_gone x.entry.what ≡ false
   none_gone x i = nothing_gone journals unstopped beats x (from_filter (is_up_to beat c) x log i).0
 
   -- a start that the journal says was got came in a message, and is the one that was ordered
-  got_start : (ask : Ask) (e : Entry) → IsOrdered orders ask → In e (journal_of c front) → IsStartOf ask.instance.0 false e.what
+  pub got_start : (ask : Ask) (e : Entry) → IsOrdered orders ask → In e (journal_of c front) → IsStartOf ask.instance.0 false e.what
       → (y : ℕ) × (y ≤ beat) × TookMessage p (lives_of h) c (msg.Start ask false) y
   got_start ask e ordered i start =
       let s = start_is ask.instance.0 false e.what start in
@@ -186,7 +186,7 @@ module _ {S : Type 0} (step : S → Input Msg → Deed Msg S) (p : Params) (plan
       )
 
   -- a cub's Put has an entry, in the front where it comes early enough
-  put_there : (d x : ℕ) (t : Tenancy) → DidAt p (lives_of h) d (put_out t) x → (x < beat) ⊎ ((x ≡ beat) × (d ≤ c)) → (y : Noted) × In y front × (y.entry.what ≡ what.Put t) × (beat_of y ≡ x)
+  pub put_there : (d x : ℕ) (t : Tenancy) → DidAt p (lives_of h) d (put_out t) x → (x < beat) ⊎ ((x ≡ beat) × (d ≤ c)) → (y : Noted) × In y front × (y.entry.what ≡ what.Put t) × (beat_of y ≡ x)
   put_there d x t did early =
       let low : x < beats = ⊎_elim (λ l. let z : x < beats = omega arith in z) (λ q. let q0 = q.0 in let z : x < beats = omega arith in z) early in
       let r = fair.put_logged step p plan nodes h orders journals are beats d x t did low in
@@ -200,11 +200,11 @@ module _ {S : Type 0} (step : S → Input Msg → Deed Msg S) (p : Params) (plan
       (y, in_filter (is_up_to beat c) y log r.1 up, r.2, y_beat)
 
   -- the window in which a Put's first visit stands
-  record Opening (x : ℕ) (t : Tenancy) : Type 0 where
+  pub record Opening (x : ℕ) (t : Tenancy) : Type 0 where
     above : time_of p x + p.window_b < due p t.slot.0 t.first
     below : due p t.slot.0 t.first ≤ time_of p x + p.skew + p.window_a
 
-  opening : (d x : ℕ) (t : Tenancy) → DidAt p (lives_of h) d (put_out t) x → Opening x t
+  pub opening : (d x : ℕ) (t : Tenancy) → DidAt p (lives_of h) d (put_out t) x → Opening x t
   opening d x t did =
       let inputs : ℕ → Input Msg = (lives_of h).input d in
       let stamp : Stamp = stamp_of (inputs did.at) in
@@ -218,7 +218,7 @@ module _ {S : Type 0} (step : S → Input Msg → Deed Msg S) (p : Params) (plan
       record { above = omega arith; below = omega arith }
 
   -- the reading of the tick
-  tick_reads : (time_of p beat ≤ reading) × (reading ≤ time_of p beat + p.skew)
+  pub tick_reads : (time_of p beat ≤ reading) × (reading ≤ time_of p beat + p.skew)
   tick_reads =
       let inputs : ℕ → Input Msg = (lives_of h).input c in
       let reads = (lived step p plan nodes h are.history.living (calm orders) c small).reads ticked.at ticked.done in
@@ -229,7 +229,7 @@ module _ {S : Type 0} (step : S → Input Msg → Deed Msg S) (p : Params) (plan
       (omega arith, omega arith)
 
   -- a start's instance is put by the cub of its disk
-  put_here : (ask : Ask) (d x : ℕ) (t : Tenancy) → IsOrdered orders ask → ask.disk.0 % p.cubs ≡ c → DidAt p (lives_of h) d (put_out t) x → t.instance.0 ≡ ask.instance.0 → d ≡ c
+  pub put_here : (ask : Ask) (d x : ℕ) (t : Tenancy) → IsOrdered orders ask → ask.disk.0 % p.cubs ≡ c → DidAt p (lives_of h) d (put_out t) x → t.instance.0 ≡ ask.instance.0 → d ≡ c
   put_here ask d x t ordered disk did same =
       let one = fair.schedule step p plan nodes h orders journals are in
       let o = one.ordered d x t did in
@@ -238,7 +238,7 @@ module _ {S : Type 0} (step : S → Input Msg → Deed Msg S) (p : Params) (plan
       one.own d x t did ∙ visit_own p c ask.disk.0 t.first on disk
 
   -- who was put at a visit in the window has the slot at the end of the tick
-  seated : (slot visit : ℕ) → c ≡ cub_of p visit → due p slot visit ≤ reading + p.window_a → reading + p.window_b < due p slot visit
+  pub seated : (slot visit : ℕ) → c ≡ cub_of p visit → due p slot visit ≤ reading + p.window_a → reading + p.window_b < due p slot visit
       → (t : Tenancy) → t.slot.0 ≡ slot → schedule.IsHeld (fair.told step p plan nodes h orders journals are) t visit beat → (schedule_of front).holder slot ≡ Some t
   seated slot visit here below above t same held =
       let one = fair.schedule step p plan nodes h orders journals are in
@@ -291,7 +291,7 @@ module _ {S : Type 0} (step : S → Input Msg → Deed Msg S) (p : Params) (plan
       absurd (omega arith))
       (cases_eq s.tenancy.instance.0 t.instance.0)
 
-  start_taken : (ask : Ask) (slot visit : ℕ) → IsOrdered orders ask → ask.disk.0 % p.cubs ≡ c → AnyByRecursion (λ (e : Entry). IsStartOf ask.instance.0 false e.what) (journal_of c front)
+  pub start_taken : (ask : Ask) (slot visit : ℕ) → IsOrdered orders ask → ask.disk.0 % p.cubs ≡ c → AnyByRecursion (λ (e : Entry). IsStartOf ask.instance.0 false e.what) (journal_of c front)
       → list_any (λ (x : Noted). is_put_of ask.instance.0 x.entry.what) front ≡ false → slot < p.slots → disk_of p visit ≡ ask.disk.0 → IsTrue (in_window p reading slot visit)
       → (t : Tenancy) × ((schedule_of front).holder slot ≡ Some t) × (t.first ≤ visit) × (visit ≤ t.last)
   start_taken ask slot visit ordered disk started unput in_plan on window =
@@ -316,7 +316,7 @@ module _ {S : Type 0} (step : S → Input Msg → Deed Msg S) (p : Params) (plan
       absurd (true≢false (sym there ∙ unput)))
       (one.waits c got.0 beat reading slot visit ask got.2 got.1 ticked in_plan (sym on) here (parts.0, parts.1))
 
-  taken_by_then : (ask : Ask) (slot visit : ℕ) → IsOrdered orders ask → HasStart p (end_of_tick beat c log) c ask → (end_of_tick beat c log).put ask.instance.0 ≡ false
+  pub taken_by_then : (ask : Ask) (slot visit : ℕ) → IsOrdered orders ask → HasStart p (end_of_tick beat c log) c ask → (end_of_tick beat c log).put ask.instance.0 ≡ false
       → slot < p.slots → disk_of p visit ≡ ask.disk.0 → IsTrue (in_window p reading slot visit) → IsTaken p (end_of_tick beat c log) c slot visit
   unfolding moment_at
   taken_by_then ask slot visit ordered has unput in_plan on window = ⊎_elim

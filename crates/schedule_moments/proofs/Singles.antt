@@ -45,30 +45,30 @@ put_found v (out.Send link m) e = absurd (cc)
 put_found v (out.Act (what.Put t)) e = (t, refl, eqb-true _ _ e)
 put_found v (out.Act other) e = absurd (cc)
 
-no_puts_none : (v : ℕ) (outs : List (Out Msg)) → AreNoPuts outs → IsNone (puts v) outs
+pub no_puts_none : (v : ℕ) (outs : List (Out Msg)) → AreNoPuts outs → IsNone (puts v) outs
 no_puts_none v outs silent o i e =
     let f = put_found v o e in
     all_in IsNoPut (put_out f.0) outs silent (subst (λ (x : Out Msg). In x outs) f.1 i)
 
-quiet_none : (v : ℕ) (outs : List (Out Msg)) → AreQuiet outs → IsNone (puts v) outs
+pub quiet_none : (v : ℕ) (outs : List (Out Msg)) → AreQuiet outs → IsNone (puts v) outs
 quiet_none v outs quiet o i e =
     let f = put_found v o e in
     all_in IsQuiet (put_out f.0) outs quiet (subst (λ (x : Out Msg). In x outs) f.1 i)
 
-send_none : (v : ℕ) (link : LinkNo) (m : Msg) → IsNone (puts v) (out.Send link m ∷ [])
+pub send_none : (v : ℕ) (link : LinkNo) (m : Msg) → IsNone (puts v) (out.Send link m ∷ [])
 send_none v link m o i e = ⊎_elim (λ q. true≢false (sym e ∙ ap (puts v) q)) (λ q. absurd q) i
 
-none_before : (v : ℕ) (xs ys : List (Out Msg)) → IsNone (puts v) xs → IsOne (puts v) ys → IsOne (puts v) (xs ++ ys)
+pub none_before : (v : ℕ) (xs ys : List (Out Msg)) → IsNone (puts v) xs → IsOne (puts v) ys → IsOne (puts v) (xs ++ ys)
 none_before v xs ys none one = one_append (puts v) xs ys (none_one (puts v) xs none) one (λ x y i l t s. none x i t)
 
-none_behind : (v : ℕ) (xs ys : List (Out Msg)) → IsOne (puts v) xs → IsNone (puts v) ys → IsOne (puts v) (xs ++ ys)
+pub none_behind : (v : ℕ) (xs ys : List (Out Msg)) → IsOne (puts v) xs → IsNone (puts v) ys → IsOne (puts v) (xs ++ ys)
 none_behind v xs ys one none = one_append (puts v) xs ys one (none_one (puts v) ys none) (λ x y i l t s. none y l s)
 
 -- whether a start is an instance's; of starts of which each instance has one, at most one is
-abbrev asks_for : ℕ → Ask → Bool
+abbrev pub asks_for : ℕ → Ask → Bool
 asks_for v a = a.instance.0 == v
 
-once_one : (v : ℕ) (asks : List Ask) → IsOnce asks → IsOne (asks_for v) asks
+pub once_one : (v : ℕ) (asks : List Ask) → IsOnce asks → IsOne (asks_for v) asks
 once_one v [] o = tt
 once_one v (a ∷ rest) o = (
   (λ t. λ b i s. true≢false (sym (in_start rest b a.instance i (eqb-true _ _ s ∙ sym (eqb-true _ _ t))) ∙ o.0)),
@@ -76,7 +76,7 @@ once_one v (a ∷ rest) o = (
 )
 
 -- what is put is not put again where its start has left
-seats_apart : (v : ℕ) (asks more : List Ask) (h : Store) (d e : Deed Msg Store) → Seats asks h d → Seats more d.state e → ((a : Ask) → In a more → In a d.state.starts.waiting)
+pub seats_apart : (v : ℕ) (asks more : List Ask) (h : Store) (d e : Deed Msg Store) → Seats asks h d → Seats more d.state e → ((a : Ask) → In a more → In a d.state.starts.waiting)
     → (x y : Out Msg) → In x d.outs → In y e.outs → puts v x ≡ true → puts v y ≡ true → ⊥
 seats_apart v asks more h d e one two wide x y i l t s =
     let first = put_found v x t in
@@ -85,7 +85,7 @@ seats_apart v asks more h d e one two wide x y i l t s =
     one.removed first.0 from.0 (subst (λ (z : Out Msg). In z d.outs) first.1 i) (wide from.0 from.1) (from.2 ∙ second.2 ∙ sym first.2)
 
 -- the two rules put once
-own_single : (p : Params) (c v : ℕ) (t : Tenancy) (h : Store) → IsOne (puts v) (putting_own p c t h).outs
+pub own_single : (p : Params) (c v : ℕ) (t : Tenancy) (h : Store) → IsOne (puts v) (putting_own p c t h).outs
 unfolding putting_own
 own_single p c v t h =
     let g : Store = (putting t h).state in
@@ -95,12 +95,12 @@ own_single p c v t h =
     (none_append (puts v) (state_out p c t ∷ []) (told_placed p c t ∷ []) (send_none v _ _) (send_none v _ _)) in
     ((λ _. rest), none_one (puts v) (told ++ state_out p c t ∷ told_placed p c t ∷ []) rest)
 
-second_none : (p : Params) (c v : ℕ) (t : Tenancy) (h : Store) → IsNone (puts v) (cond (nat_lt t.first t.last) (took (own_of t (t.first + 1))) nothing h).outs
+pub second_none : (p : Params) (c v : ℕ) (t : Tenancy) (h : Store) → IsNone (puts v) (cond (nat_lt t.first t.last) (took (own_of t (t.first + 1))) nothing h).outs
 second_none p c v t h =
     chosen (λ (f : Store → Deed Msg Store). IsNone (puts v) (f h).outs) (nat_lt t.first t.last) (took (own_of t (t.first + 1))) nothing
     (λ _. no_puts_none v (took (own_of t (t.first + 1)) h).outs (took_no_puts p c Never (own_of t (t.first + 1)) h)) (λ _. λ o i e. absurd i)
 
-dead_rest : (p : Params) (c v : ℕ) (t : Tenancy) (h : Store)
+pub dead_rest : (p : Params) (c v : ℕ) (t : Tenancy) (h : Store)
     → IsNone (puts v)
     ((took (backup_of t t.first) h).outs
     ++ ((cond (nat_lt t.first t.last) (took (own_of t (t.first + 1))) nothing (took (backup_of t t.first) h).state).outs ++ told_placed p c t ∷ []))
@@ -110,29 +110,29 @@ dead_rest p c v t h =
     none_append (puts v) told (more ++ told_placed p c t ∷ []) (no_puts_none v told (took_no_puts p c Never (backup_of t t.first) h))
     (none_append (puts v) more (told_placed p c t ∷ []) (second_none p c v t (took (backup_of t t.first) h).state) (send_none v _ _))
 
-dead_single : (p : Params) (c v : ℕ) (t : Tenancy) (h : Store) → IsOne (puts v) (putting_for_dead p c t h).outs
+pub dead_single : (p : Params) (c v : ℕ) (t : Tenancy) (h : Store) → IsOne (puts v) (putting_for_dead p c t h).outs
 unfolding putting_for_dead
 dead_single p c v t h =
     let rest = dead_rest p c v t (putting t h).state in
     ((λ _. rest), none_one (puts v) _ rest)
 
-dead_there : (p : Params) (c : ℕ) (t : Tenancy) (h : Store) → In (put_out t) (putting_for_dead p c t h).outs
+pub dead_there : (p : Params) (c : ℕ) (t : Tenancy) (h : Store) → In (put_out t) (putting_for_dead p c t h).outs
 unfolding putting_for_dead
 dead_there p c t h = inl refl
 
-dead_only : (p : Params) (c : ℕ) (t u : Tenancy) (h : Store) → In (put_out u) (putting_for_dead p c t h).outs → u ≡ t
+pub dead_only : (p : Params) (c : ℕ) (t u : Tenancy) (h : Store) → In (put_out u) (putting_for_dead p c t h).outs → u ≡ t
 unfolding putting_for_dead
 dead_only p c t u h k = ⊎_elim
     (λ (q : put_out u ≡ put_out t). let z : u ≡ t = cc in z)
     (λ i. absurd (dead_rest p c u.instance.0 t (putting t h).state (put_out u) i (eq-eqb _ _ refl)))
     k
 
-dead_one : (p : Params) (c : ℕ) → PutsOne (putting_for_dead p c)
+pub dead_one : (p : Params) (c : ℕ) → PutsOne (putting_for_dead p c)
 dead_one p c = record { starts = λ t h. (dead_kept p c t h).1; puts = dead_there p c; only = dead_only p c }
 
 -- starts that are put one after another
 module _ (p : Params) (now v : ℕ) (put : Tenancy → Store → Deed Msg Store) (one : PutsOne put) (single : (t : Tenancy) (h : Store) → IsOne (puts v) (put t h).outs) where
-  put_or_wait_from : (rest : List Ask) (after : Store → Deed Msg Store) (a : Ask) (o : Option Key) (h : Store) (t : Tenancy)
+  pub put_or_wait_from : (rest : List Ask) (after : Store → Deed Msg Store) (a : Ask) (o : Option Key) (h : Store) (t : Tenancy)
       → ((g : Store) → In (put_out t) (after g).outs → (b : Ask) × In b rest × (b.instance.0 ≡ t.instance.0))
       → In (put_out t) (put_or_wait put after a o h).outs → (b : Ask) × In b (a ∷ rest) × (b.instance.0 ≡ t.instance.0)
   put_or_wait_from rest after a None h t more i = absurd i
@@ -143,12 +143,12 @@ module _ (p : Params) (now v : ℕ) (put : Tenancy → Store → Deed Msg Store)
       (λ q. let r = more g q in (r.0, inr r.1, r.2))
       (in_cases (put_out t) (put (tenancy_from a k) h).outs (after g).outs i)
 
-  each_from : (disk : ℕ) (asks : List Ask) (h : Store) (t : Tenancy) → In (put_out t) (putting_each put p now disk asks h).outs → (a : Ask) × In a asks × (a.instance.0 ≡ t.instance.0)
+  pub each_from : (disk : ℕ) (asks : List Ask) (h : Store) (t : Tenancy) → In (put_out t) (putting_each put p now disk asks h).outs → (a : Ask) × In a asks × (a.instance.0 ≡ t.instance.0)
   unfolding putting_each
   each_from disk [] h t i = absurd i
   each_from disk (a ∷ rest) h t i = put_or_wait_from rest (putting_each put p now disk rest) a (free_on p now disk h) h t (λ g k. each_from disk rest g t k) i
 
-  put_or_wait_single : (rest : List Ask) (after : Store → Deed Msg Store) (a : Ask) (o : Option Key) (h : Store) → IsOne (asks_for v) (a ∷ rest)
+  pub put_or_wait_single : (rest : List Ask) (after : Store → Deed Msg Store) (a : Ask) (o : Option Key) (h : Store) → IsOne (asks_for v) (a ∷ rest)
       → ((g : Store) (t : Tenancy) → In (put_out t) (after g).outs → (b : Ask) × In b rest × (b.instance.0 ≡ t.instance.0))
       → ((g : Store) → IsOne (puts v) (after g).outs) → IsOne (puts v) (put_or_wait put after a o h).outs
   put_or_wait_single rest after a None h fresh from more = tt
@@ -163,19 +163,19 @@ module _ (p : Params) (now v : ℕ) (put : Tenancy → Store → Deed Msg Store)
       let b = from g second.0 (subst (λ (z : Out Msg). In z (after g).outs) second.1 l) in
       fresh.0 (eq-eqb _ _ (ap (λ (w : Tenancy). w.instance.0) (sym same) ∙ first.2)) b.0 b.1 (eq-eqb _ _ (b.2 ∙ second.2)))
 
-  putting_each_single : (disk : ℕ) (asks : List Ask) → IsOne (asks_for v) asks → (h : Store) → IsOne (puts v) (putting_each put p now disk asks h).outs
+  pub putting_each_single : (disk : ℕ) (asks : List Ask) → IsOne (asks_for v) asks → (h : Store) → IsOne (puts v) (putting_each put p now disk asks h).outs
   unfolding putting_each
   putting_each_single disk [] o h = tt
   putting_each_single disk (a ∷ rest) o h =
       put_or_wait_single rest (putting_each put p now disk rest) a (free_on p now disk h) h o (λ g t k. each_from disk rest g t k) (putting_each_single disk rest o.1)
 
-  putting_on_single : (disk : ℕ) (h : Store) → AreOnce h.starts → IsOne (puts v) (putting_on put p now disk h).outs
+  pub putting_on_single : (disk : ℕ) (h : Store) → AreOnce h.starts → IsOne (puts v) (putting_on put p now disk h).outs
   unfolding putting_on
   putting_on_single disk h o =
       putting_each_single disk (filter (is_for disk) h.starts.waiting)
       (one_filter (asks_for v) (is_for disk) h.starts.waiting (one_front (asks_for v) h.starts.waiting h.starts.redundant (once_one v (h.starts.waiting ++ h.starts.redundant) o))) h
 
-  each_single : (disks : List ℕ) (h : Store) → AreOnce h.starts → IsOne (puts v) (each_in_turn (putting_on put p now) disks h).outs
+  pub each_single : (disks : List ℕ) (h : Store) → AreOnce h.starts → IsOne (puts v) (each_in_turn (putting_on put p now) disks h).outs
   each_single [] h o = tt
   each_single (disk ∷ disks) h o =
       let first = putting_on_seats p now put one disk h o in
@@ -185,7 +185,7 @@ module _ (p : Params) (now v : ℕ) (put : Tenancy → Store → Deed Msg Store)
       (seats_apart v h.starts.waiting g.starts.waiting h (putting_on put p now disk h) (each_in_turn (putting_on put p now) disks g) first second (λ a i. i))
 
 -- insertion
-inserting_single : (p : Params) (c v : ℕ) (stamp : Stamp) (h : Store) → AreOnce h.starts → IsOne (puts v) (inserting p c stamp h).outs
+pub inserting_single : (p : Params) (c v : ℕ) (stamp : Stamp) (h : Store) → AreOnce h.starts → IsOne (puts v) (inserting p c stamp h).outs
 unfolding inserting
 inserting_single p c v stamp h o =
     let disks : List ℕ = disks_at p (predecessor p c) in
@@ -203,12 +203,12 @@ inserting_single p c v stamp h o =
     (seats_apart v h.starts.waiting g.starts.waiting h (inserting_own p c stamp h) (inserting_for_dead p c stamp g) one two (λ a i. i))
 
 -- forwarding puts nothing
-forwarding_none : (p : Params) (c v : ℕ) (stamp : Stamp) (h : Store) → IsNone (puts v) (forwarding p c stamp h).outs
+pub forwarding_none : (p : Params) (c v : ℕ) (stamp : Stamp) (h : Store) → IsNone (puts v) (forwarding p c stamp h).outs
 forwarding_none p c v stamp h o i e =
     let f = forwarding_out p c stamp h o i in
     ⊎_elim (λ q. true≢false (sym e ∙ ap (puts v) q)) (λ q. true≢false (sym e ∙ ap (puts v) q)) f.is
 
-ticking_single : (p : Params) (c v : ℕ) (stamp : Stamp) (h : Store) → AreOnce h.starts → IsOne (puts v) (ticking p c stamp h).outs
+pub ticking_single : (p : Params) (c v : ℕ) (stamp : Stamp) (h : Store) → AreOnce h.starts → IsOne (puts v) (ticking p c stamp h).outs
 unfolding ticking
 ticking_single p c v stamp h o =
     let h1 : Store = (releasing p stamp h).state in

@@ -27,7 +27,7 @@ pub acted : (o : Out Msg) (w : What) → IsOwnEntry w → what_of noted o ≡ w 
 acted (out.Send link m) w own q = absurd (subst IsOwnEntry (sym q) own)
 acted (out.Act v) w own q = ap (λ (x : What). out.Act x) q
 
-outs_written : (stamp : Stamp) (os : List (Out Msg)) (e : Entry) (w : What) → IsOwnEntry w → In e (map (entry_of noted stamp) os) → e.what ≡ w
+pub outs_written : (stamp : Stamp) (os : List (Out Msg)) (e : Entry) (w : What) → IsOwnEntry w → In e (map (entry_of noted stamp) os) → e.what ≡ w
     → In (out.Act w) os × (e.stamp ≡ stamp)
 outs_written stamp os e w own i is =
     let r = from_map (entry_of noted stamp) e os i in
@@ -35,11 +35,11 @@ outs_written stamp os e w own i is =
     (subst (λ (x : Out Msg). In x os) o r.1, ap (λ (x : Entry). x.stamp) r.2)
 
 -- no output is written as a message that was got
-no_got : (p : Params) (c : ℕ) (o : Out Msg) (link : LinkNo) (n : Note) → IsAllowed noted p c o → what_of noted o ≡ what.Got link n → ⊥
+pub no_got : (p : Params) (c : ℕ) (o : Out Msg) (link : LinkNo) (n : Note) → IsAllowed noted p c o → what_of noted o ≡ what.Got link n → ⊥
 no_got p c (out.Send way m) link n fair q = absurd (cc)
 no_got p c (out.Act w) link n fair q = subst IsOwnEntry q fair
 
-none_got : (p : Params) (c : ℕ) (stamp : Stamp) (os : List (Out Msg)) (e : Entry) (link : LinkNo) (n : Note) → AllByRecursion (IsAllowed noted p c) os → In e (map (entry_of noted stamp) os)
+pub none_got : (p : Params) (c : ℕ) (stamp : Stamp) (os : List (Out Msg)) (e : Entry) (link : LinkNo) (n : Note) → AllByRecursion (IsAllowed noted p c) os → In e (map (entry_of noted stamp) os)
     → e.what ≡ what.Got link n → ⊥
 none_got p c stamp os e link n fair i is =
     let r = from_map (entry_of noted stamp) e os i in
@@ -78,12 +78,12 @@ module _ {S : Type 0} (step : S → Input Msg → Deed Msg S) where
       (in_cases e (past noted step h n i).journal (entries_at noted step (h.event n i) (past noted step h n i)) (subst (λ (es : List Entry). In e es) (one_event_more h n i) k))
 
   -- and each output of an event is written
-  event_writes : (ev : NodeEvent Msg) (before : Past S) (w : What) → In (out.Act w) (outs_of step ev before) → In (record { stamp = stamp_at ev; what = w }) (entries_at noted step ev before)
+  pub event_writes : (ev : NodeEvent Msg) (before : Past S) (w : What) → In (out.Act w) (outs_of step ev before) → In (record { stamp = stamp_at ev; what = w }) (entries_at noted step ev before)
   event_writes (Does (Take stamp link m)) before w k = inr (in_map (entry_of noted stamp) (out.Act w) (kept_outs step (Take stamp link m) before) k)
   event_writes (Does (Tick stamp)) before w k = in_map (entry_of noted stamp) (out.Act w) (kept_outs step (Tick stamp) before) k
   event_writes (Dies stamp) before w k = absurd k
 
-  journal_keeps : (h : History Msg S) (n i j : ℕ) (e : Entry) → i < j → In e (entries_at noted step (h.event n i) (past noted step h n i)) → In e (past noted step h n j).journal
+  pub journal_keeps : (h : History Msg S) (n i j : ℕ) (e : Entry) → i < j → In e (entries_at noted step (h.event n i) (past noted step h n i)) → In e (past noted step h n j).journal
   journal_keeps h n i zero e l k = absurd (omega arith)
   journal_keeps h n i (suc j) e l k =
       let old : List Entry = (past noted step h n j).journal in

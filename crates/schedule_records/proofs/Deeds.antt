@@ -117,11 +117,11 @@ pub record Drops (test : Line → Bool) (lines : List Line) (d : Deed Msg Store)
   pub unsent : (link : LinkNo) (s : State) → In (state_sent link s) d.outs → ⊥
 
 module _ (p : Params) (c : ℕ) (test : Line → Bool) (lines : List Line) (d : Deed Msg Store) (h : Drops test lines d) where
-  same_test : (x y : Line) → x.rec ≡ y.rec → test x ≡ test y
+  pub same_test : (x y : Line) → x.rec ≡ y.rec → test x ≡ test y
   same_test x y e = h.by_record x ∙ (ap (λ (r : Rec). test (unmarked r)) e ∙ sym (h.by_record y))
 
   -- no record that is dropped is one of a line that stays
-  apart : (y : Line) → test y ≡ false → (r : Rec) → In (dropped_out r) d.outs → same_record r y.rec ≡ false
+  pub apart : (y : Line) → test y ≡ false → (r : Rec) → In (dropped_out r) d.outs → same_record r y.rec ≡ false
   apart y stays r i = ⊎_elim
       (λ (e : same_record r y.rec ≡ true).
       let x = h.only r i in
@@ -130,7 +130,7 @@ module _ (p : Params) (c : ℕ) (test : Line → Bool) (lines : List Line) (d : 
       (λ (e : same_record r y.rec ≡ false). e)
       (cases_Bool (same_record r y.rec))
 
-  dropped_records : (rs : List Rec) → AreRecordsOf lines rs → AreRecordsOf (filter (λ x. not (test x)) lines) (recorded_by d.outs rs)
+  pub dropped_records : (rs : List Rec) → AreRecordsOf lines rs → AreRecordsOf (filter (λ x. not (test x)) lines) (recorded_by d.outs rs)
   dropped_records rs a = record {
     seen = λ q i.
         let was = was_told q d.outs rs i h.untaken in

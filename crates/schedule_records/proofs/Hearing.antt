@@ -45,16 +45,16 @@ use Rattle.schedule_records.proofs.Told.{dropped_out, state_sent, AreMute, mute_
 use Rattle.schedule_records.proofs.Deeds.{Tells, Drops, tells_both, silent, tells_nothing, tells_if, tells_each, took_tells, tells_drops}
 
 -- a state tells a cub records that are for it
-for_cub_is : (p : Params) (c : ℕ) (r q : Rec) → r ≡ q → IsForCub p c q.kind q.visit → IsForCub p c r.kind r.visit
+pub for_cub_is : (p : Params) (c : ℕ) (r q : Rec) → r ≡ q → IsForCub p c q.kind q.visit → IsForCub p c r.kind r.visit
 for_cub_is p c r q e mine = subst (λ (s : Rec). IsForCub p c s.kind s.visit) (sym e) mine
 
-told_here : (p : Params) (c : ℕ) (s : State) (k : Key) (r : Rec) → k.1 ≡ s.visit → cub_of p s.visit ≡ c → In r (records_told s k) → IsForCub p c r.kind r.visit
+pub told_here : (p : Params) (c : ℕ) (s : State) (k : Key) (r : Rec) → k.1 ≡ s.visit → cub_of p s.visit ≡ c → In r (records_told s k) → IsForCub p c r.kind r.visit
 told_here p c s k r e here =
     chosen (λ (rs : List Rec). In r rs → IsForCub p c r.kind r.visit) (k.1 == s.visit) (record { tenancy = s.tenancy; visit = s.visit; kind = Own } ∷ []) _
     (λ _ i. ⊎_elim (λ q. for_cub_is p c r (record { tenancy = s.tenancy; visit = s.visit; kind = Own }) q here) (λ q. absurd q) i)
     (λ f i. let z : true ≡ false = sym (eq-eqb k.1 s.visit e) ∙ f in absurd (cc))
 
-told_next : (p : Params) (c : ℕ) (s : State) (k : Key) (r : Rec) → k.1 ≡ s.visit + 1 → cub_of p (s.visit + 1) ≡ c → In r (records_told s k) → IsForCub p c r.kind r.visit
+pub told_next : (p : Params) (c : ℕ) (s : State) (k : Key) (r : Rec) → k.1 ≡ s.visit + 1 → cub_of p (s.visit + 1) ≡ c → In r (records_told s k) → IsForCub p c r.kind r.visit
 told_next p c s k r e next =
     chosen (λ (rs : List Rec). In r rs → IsForCub p c r.kind r.visit) (k.1 == s.visit) (record { tenancy = s.tenancy; visit = s.visit; kind = Own } ∷ []) _
     (λ t i. let z : k.1 ≡ s.visit = eqb-true _ _ t in absurd (omega arith))
@@ -66,10 +66,10 @@ told_next p c s k r e next =
     i)
     i)
 
-some_is : (a b : Key) → Some a ≡ Some b → a ≡ b
+pub some_is : (a b : Key) → Some a ≡ Some b → a ≡ b
 some_is a b e = cc
 
-told_for : (p : Params) (c : ℕ) (s : State) (k : Key) (r : Rec) → position_at p c s.tenancy.slot s.visit ≡ Some k → In r (records_told s k) → IsForCub p c r.kind r.visit
+pub told_for : (p : Params) (c : ℕ) (s : State) (k : Key) (r : Rec) → position_at p c s.tenancy.slot s.visit ≡ Some k → In r (records_told s k) → IsForCub p c r.kind r.visit
 unfolding position_at
 told_for p c s k r =
     let rest : Option Key = cond (cub_of p (s.visit + 1) == c) (Some (s.tenancy.slot, s.visit + 1)) None in
@@ -80,7 +80,7 @@ told_for p c s k r =
     (λ _ e i. absurd (cc)))
 
 -- a deschedule drops exactly the records of its instance
-lines_drop : (v : Instance) (h : Store) → Drops (is_of v) h.view.lines (dropping_lines v h)
+pub lines_drop : (v : Instance) (h : Store) → Drops (is_of v) h.view.lines (dropping_lines v h)
 unfolding dropping_lines without_instance
 lines_drop v h = record {
   stay = refl;
@@ -102,64 +102,64 @@ unfolding with_piece_record
 same_with_piece x h = chosen (λ (s : Store). s.view.lines ≡ h.view.lines) (pieces.is_in x h.pieces.items) h _ (λ _. refl) (λ _. refl)
 
 module _ (p : Params) (c : ℕ) where
-  dropping_lines_tells : (v : Instance) (h : Store) → Tells p c h.view.lines (dropping_lines v h)
+  pub dropping_lines_tells : (v : Instance) (h : Store) → Tells p c h.view.lines (dropping_lines v h)
   dropping_lines_tells v h = tells_drops p c (is_of v) h.view.lines (dropping_lines v h) (lines_drop v h)
 
-  dropping_start_tells : (v : Instance) (h : Store) → Tells p c h.view.lines (dropping_start v h)
+  pub dropping_start_tells : (v : Instance) (h : Store) → Tells p c h.view.lines (dropping_start v h)
   unfolding dropping_start
   dropping_start_tells v h = silent p c h.view.lines (dropping_start v h) refl (mute_if (has_start h.starts.waiting v) (out.Act (what.Unqueued v) ∷ []) (tt, tt))
 
-  dropping_pieces_tells : (v : Instance) (h : Store) → Tells p c h.view.lines (dropping_pieces v h)
+  pub dropping_pieces_tells : (v : Instance) (h : Store) → Tells p c h.view.lines (dropping_pieces v h)
   unfolding dropping_pieces
   dropping_pieces_tells v h = silent p c h.view.lines (dropping_pieces v h) refl tt
 
-  killing_splits_tells : (v : Instance) (h : Store) → Tells p c h.view.lines (killing_splits p c v h)
+  pub killing_splits_tells : (v : Instance) (h : Store) → Tells p c h.view.lines (killing_splits p c v h)
   unfolding killing_splits
   killing_splits_tells v h =
       silent p c h.view.lines (killing_splits p c v h) refl
       (mute_flat (kills p c) (λ x. mute_map (λ (steps : ℕ). out.Send (way_ahead p c steps) (msg.Kill x.0 x.1 x.2)) (λ steps. tt) (range_with_len 1 (p.pieces - 1))) (filter (splits.is_of v) h.splits))
 
-  passing_on_tells : (stamp : Stamp) (v : Instance) (k : Key) (h : Store) → Tells p c h.view.lines (passing_on p c stamp v k h)
+  pub passing_on_tells : (stamp : Stamp) (v : Instance) (k : Key) (h : Store) → Tells p c h.view.lines (passing_on p c stamp v k h)
   unfolding passing_on
   passing_on_tells stamp v k h =
       silent p c h.view.lines (passing_on p c stamp v k h) refl
       (mute_if (is_reached p stamp k.0 (k.1 + 1)) (passed_on p c v (record { slot = k.0; visit = k.1 + 1 })) (tt, (tt, tt)))
 
-  passing_from_tells : (stamp : Stamp) (v : Instance) (o : Option Key) (h : Store) → Tells p c h.view.lines (passing_from p c stamp v o h)
+  pub passing_from_tells : (stamp : Stamp) (v : Instance) (o : Option Key) (h : Store) → Tells p c h.view.lines (passing_from p c stamp v o h)
   passing_from_tells stamp v None h = tells_nothing p c h
   passing_from_tells stamp v (Some k) h =
       tells_if p c (must_pass h.held v) h.view.lines (passing_on p c stamp v k h) (nothing h) (passing_on_tells stamp v k h) (tells_nothing p c h)
 
-  told_tells : (s : State) (k : Key) (h : Store) → position_at p c s.tenancy.slot s.visit ≡ Some k → Tells p c h.view.lines (told s k h)
+  pub told_tells : (s : State) (k : Key) (h : Store) → position_at p c s.tenancy.slot s.visit ≡ Some k → Tells p c h.view.lines (told s k h)
   told_tells s k h e =
       tells_both p c (dropping_start s.tenancy.instance) (each_in_turn took (records_told s k)) h (dropping_start_tells s.tenancy.instance h)
       (tells_each p c took (records_told s k) (λ r i g. took_tells p c r (told_for p c s k r e i) g) (dropping_start s.tenancy.instance h).state)
 
-  met_tells : (stamp : Stamp) (s : State) (o : Option Key) (h : Store) → position_at p c s.tenancy.slot s.visit ≡ o → Tells p c h.view.lines (met p c stamp s o h)
+  pub met_tells : (stamp : Stamp) (s : State) (o : Option Key) (h : Store) → position_at p c s.tenancy.slot s.visit ≡ o → Tells p c h.view.lines (met p c stamp s o h)
   met_tells stamp s None h e = tells_nothing p c h
   met_tells stamp s (Some k) h e =
       tells_if p c (is_held h.held s.tenancy.instance) h.view.lines (passing_from p c stamp s.tenancy.instance (Some k) h) (told s k h)
       (passing_from_tells stamp s.tenancy.instance (Some k) h) (told_tells s k h e)
 
-  meeting_state_tells : (stamp : Stamp) (s : State) (h : Store) → Tells p c h.view.lines (meeting_state p c stamp s h)
+  pub meeting_state_tells : (stamp : Stamp) (s : State) (h : Store) → Tells p c h.view.lines (meeting_state p c stamp s h)
   unfolding meeting_state
   meeting_state_tells stamp s h =
       tells_if p c (is_visit_of s.tenancy s.visit) h.view.lines (met p c stamp s (position_at p c s.tenancy.slot s.visit) h) (nothing h)
       (met_tells stamp s (position_at p c s.tenancy.slot s.visit) h refl) (tells_nothing p c h)
 
-  queueing_tells : (a : Ask) (h : Store) → Tells p c h.view.lines (queueing a h)
+  pub queueing_tells : (a : Ask) (h : Store) → Tells p c h.view.lines (queueing a h)
   queueing_tells a h =
       silent p c h.view.lines (queueing a h) refl
       (chosen AreMute (is_asked h.starts a.instance) [] (out.Act (what.Queued a.instance a.disk) ∷ []) (λ _. tt) (λ _. (tt, tt)))
 
-  meeting_start_tells : (a : Ask) (redundant : Bool) (h : Store) → Tells p c h.view.lines (meeting_start a redundant h)
+  pub meeting_start_tells : (a : Ask) (redundant : Bool) (h : Store) → Tells p c h.view.lines (meeting_start a redundant h)
   unfolding meeting_start
   meeting_start_tells a redundant h =
       tells_if p c (not (is_ask a) || is_held h.held a.instance || shows h.view.lines a.instance) h.view.lines (nothing h)
       (cond (redundant && not h.believes) (queueing_redundant a h) (queueing a h)) (tells_nothing p c h)
       (tells_if p c (redundant && not h.believes) h.view.lines (queueing_redundant a h) (queueing a h) (silent p c h.view.lines (queueing_redundant a h) refl tt) (queueing_tells a h))
 
-  descheduling_tells : (stamp : Stamp) (v : Instance) (tag : Option Tag) (h : Store) → Tells p c h.view.lines (descheduling p c stamp v tag h)
+  pub descheduling_tells : (stamp : Stamp) (v : Instance) (tag : Option Tag) (h : Store) → Tells p c h.view.lines (descheduling p c stamp v tag h)
   unfolding descheduling
   descheduling_tells stamp v tag h =
       let h1 : Store = (holding p stamp v h).state in
@@ -172,32 +172,32 @@ module _ (p : Params) (c : ℕ) where
       (tells_both p c (dropping_start v) (then_do (dropping_pieces v) (killing_splits p c v)) h3 (dropping_start_tells v h3)
       (tells_both p c (dropping_pieces v) (killing_splits p c v) h4 (dropping_pieces_tells v h4) (killing_splits_tells v (dropping_pieces v h4).state)))))
 
-  meeting_piece_tells : (x : PieceState) (h : Store) → Tells p c h.view.lines (meeting_piece p c x h)
+  pub meeting_piece_tells : (x : PieceState) (h : Store) → Tells p c h.view.lines (meeting_piece p c x h)
   unfolding meeting_piece
   meeting_piece_tells x h =
       let done : Deed Msg Store = record { outs = []; state = with_piece_record x h } in
       tells_if p c (is_held h.held x.tenancy.instance || not (cub_of p (x.visit + x.piece) == c)) h.view.lines (nothing h) done (tells_nothing p c h)
       (silent p c h.view.lines done (same_with_piece x h) tt)
 
-  meeting_kill_tells : (v : Instance) (visit : ℕ) (h : Store) → Tells p c h.view.lines (meeting_kill v visit h)
+  pub meeting_kill_tells : (v : Instance) (visit : ℕ) (h : Store) → Tells p c h.view.lines (meeting_kill v visit h)
   unfolding meeting_kill
   meeting_kill_tells v visit h = silent p c h.view.lines (meeting_kill v visit h) refl tt
 
-  storing_tells : (want : Want) (part : Option LibraryPart) (h : Store) → Tells p c h.view.lines (storing want part h)
+  pub storing_tells : (want : Want) (part : Option LibraryPart) (h : Store) → Tells p c h.view.lines (storing want part h)
   storing_tells want (Some part) h = silent p c h.view.lines (storing want (Some part) h) refl tt
   storing_tells want None h = silent p c h.view.lines (storing want None h) refl (tt, tt)
 
-  meeting_answer_tells : (want : Want) (part : Option LibraryPart) (h : Store) → Tells p c h.view.lines (meeting_answer want part h)
+  pub meeting_answer_tells : (want : Want) (part : Option LibraryPart) (h : Store) → Tells p c h.view.lines (meeting_answer want part h)
   unfolding meeting_answer
   meeting_answer_tells want part h = tells_if p c (is_wanted want h) h.view.lines (storing want part h) (nothing h) (storing_tells want part h) (tells_nothing p c h)
 
-  hearing_beat_tells : (stamp : Stamp) (link : LinkNo) (h : Store) → Tells p c h.view.lines (hearing_beat p c stamp link h)
+  pub hearing_beat_tells : (stamp : Stamp) (link : LinkNo) (h : Store) → Tells p c h.view.lines (hearing_beat p c stamp link h)
   unfolding hearing_beat
   hearing_beat_tells stamp link h =
       let done : Deed Msg Store = record { outs = []; state = record h { watch = record h.watch { heard = stamp.reading } } } in
       tells_if p c (link.0 == (way_ahead p (predecessor p c) 1).0) h.view.lines done (nothing h) (silent p c h.view.lines done refl tt) (tells_nothing p c h)
 
-  hearing_tells : (stamp : Stamp) (link : LinkNo) (m : Msg) (h : Store) → Tells p c h.view.lines (hearing p c stamp link m h)
+  pub hearing_tells : (stamp : Stamp) (link : LinkNo) (m : Msg) (h : Store) → Tells p c h.view.lines (hearing p c stamp link m h)
   unfolding hearing
   hearing_tells stamp link (msg.ViewerState s) h = meeting_state_tells stamp s h
   hearing_tells stamp link (msg.Start a redundant) h = meeting_start_tells a redundant h

@@ -30,29 +30,29 @@ use Rattle.schedule_records.proofs.Hearing.{taking_tells}
 use Rattle.schedule_records.proofs.Seats.{AreSeated, seated_at}
 use Rattle.schedule_records.proofs.Ticking.{ticking_leaves, ticking_seats}
 
-deed_tells : (p : Params) (c : ℕ) → IsPlan p → c < p.cubs → (i : Input Msg) (h : Store) → Tells p c h.view.lines (deed_of p c i h)
+pub deed_tells : (p : Params) (c : ℕ) → IsPlan p → c < p.cubs → (i : Input Msg) (h : Store) → Tells p c h.view.lines (deed_of p c i h)
 deed_tells p c plan here (Take stamp link m) h = taking_tells p c stamp link m h
 deed_tells p c plan here (Tick stamp) h = (ticking_seats p c stamp plan here h).tells
 
 -- a viewer state tells records of its visit and of the next one
-given_at : (p : Params) (c : ℕ) (t : Tenancy) (m n : ℕ) → IsGiven p c t m n → IsAtOrBefore m n
+pub given_at : (p : Params) (c : ℕ) (t : Tenancy) (m n : ℕ) → IsGiven p c t m n → IsAtOrBefore m n
 given_at p c t m n given = ⊎_elim (λ e. inl (sym e.0)) (λ e. inr (sym e.0)) given
 
 -- the state that tells a record
-abbrev IsStateFor : Msg → Rec → Type 0
+abbrev pub IsStateFor : Msg → Rec → Type 0
 IsStateFor m r = (s : State) × (m ≡ msg.ViewerState s) × (s.tenancy ≡ r.tenancy) × IsAtOrBefore s.visit r.visit
 
-taking_for : (p : Params) (c : ℕ) (stamp : Stamp) (link : LinkNo) (m : Msg) (r : Rec) (h : Store) → In (taken_out r) (taking p c stamp link m h).outs → IsStateFor m r
+pub taking_for : (p : Params) (c : ℕ) (stamp : Stamp) (link : LinkNo) (m : Msg) (r : Rec) (h : Store) → In (taken_out r) (taking p c stamp link m h).outs → IsStateFor m r
 taking_for p c stamp link m r h i =
     let s = (taking_hears p c stamp link m h).only_states r i in
     let t = taking_told p c stamp link s.0 r h (subst (λ (k : Msg). In (taken_out r) (taking p c stamp link k h).outs) s.1 i) in
     (s.0, s.1, sym t.tenancy, given_at p c s.0.tenancy s.0.visit r.visit t.given)
 
 -- before the first output there is none
-put_before : (xs ys : List (Out Msg)) (r : Rec) → AreSeated [] (xs ++ taken_out r ∷ ys) → In (put_out r.tenancy) xs × IsAtOrBefore r.tenancy.first r.visit
+pub put_before : (xs ys : List (Out Msg)) (r : Rec) → AreSeated [] (xs ++ taken_out r ∷ ys) → In (put_out r.tenancy) xs × IsAtOrBefore r.tenancy.first r.visit
 put_before xs ys r s = let w = seated_at [] xs ys r s in (⊎_elim (λ i. absurd i) (λ i. i) w.0, w.1)
 
-way_is : (p : Params) (c : ℕ) (link : LinkNo) → (link ≡ way_ahead p c 1) ⊎ (link ≡ way_ahead p c 2) → (k : ℕ) × ((k ≡ 1) ⊎ (k ≡ 2)) × (link ≡ way_ahead p c k)
+pub way_is : (p : Params) (c : ℕ) (link : LinkNo) → (link ≡ way_ahead p c 1) ⊎ (link ≡ way_ahead p c 2) → (k : ℕ) × ((k ≡ 1) ⊎ (k ≡ 2)) × (link ≡ way_ahead p c k)
 way_is p c link h = ⊎_elim (λ e. (1, inl refl, e)) (λ e. (2, inr refl, e)) h
 
 pub keeps_records : CubsKeepTheirRecords

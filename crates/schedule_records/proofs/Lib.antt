@@ -1,6 +1,6 @@
 pub mod Told
-mod Deeds
-mod Hearing
-mod Seats
-mod Ticking
+pub mod Deeds
+pub mod Hearing
+pub mod Seats
+pub mod Ticking
 pub mod Keeping

@@ -41,12 +41,12 @@ abbrev pub AreSeated : List (Out Msg) → List (Out Msg) → Type 0
 AreSeated before [] = Unit {0}
 AreSeated before (o ∷ os) = IsSeated before o × AreSeated (o ∷ before) os
 
-wider_one : (before more : List (Out Msg)) (o : Out Msg) → ((q : Out Msg) → In q before → In q more) → IsSeated before o → IsSeated more o
+pub wider_one : (before more : List (Out Msg)) (o : Out Msg) → ((q : Out Msg) → In q before → In q more) → IsSeated before o → IsSeated more o
 wider_one before more (out.Act (what.Took r)) wide s = (wide (put_out r.tenancy) s.0, s.1)
 wider_one before more (out.Act other) wide s = tt
 wider_one before more (out.Send link m) wide s = tt
 
-wider : (before more outs : List (Out Msg)) → ((q : Out Msg) → In q before → In q more) → AreSeated before outs → AreSeated more outs
+pub wider : (before more outs : List (Out Msg)) → ((q : Out Msg) → In q before → In q more) → AreSeated before outs → AreSeated more outs
 wider before more [] wide s = tt
 wider before more (o ∷ os) wide s =
     (wider_one before more o wide s.0, wider (o ∷ before) (o ∷ more) os (λ q i. ⊎_elim (λ e. inl e) (λ k. inr (wide q k)) i) s.1)
@@ -56,7 +56,7 @@ seated_append before [] ys one two = two
 seated_append before (o ∷ os) ys one two = (one.0, seated_append (o ∷ before) os ys one.1 (wider before (o ∷ before) ys (λ q i. inr i) two))
 
 -- outputs that take nothing
-untaken_one : (before : List (Out Msg)) (o : Out Msg) → ((r : Rec) → taken_out r ≡ o → ⊥) → IsSeated before o
+pub untaken_one : (before : List (Out Msg)) (o : Out Msg) → ((r : Rec) → taken_out r ≡ o → ⊥) → IsSeated before o
 untaken_one before (out.Act (what.Took r)) none = absurd (none r refl)
 untaken_one before (out.Act other) none = tt
 untaken_one before (out.Send link m) none = tt
@@ -82,25 +82,25 @@ module _ (p : Params) (c : ℕ) where
   pub seats_both : (f g : Store → Deed Msg Store) (h : Store) → Seats p c h.view.lines (f h) → Seats p c (f h).state.view.lines (g (f h).state) → Seats p c h.view.lines (then_do f g h)
   seats_both f g h one two = record { tells = tells_both p c f g h one.tells two.tells; seated = seated_append [] (f h).outs (g (f h).state).outs one.seated two.seated }
 
-  seats_nothing : (h : Store) → Seats p c h.view.lines (nothing h)
+  pub seats_nothing : (h : Store) → Seats p c h.view.lines (nothing h)
   seats_nothing h = record { tells = tells_nothing p c h; seated = tt }
 
-  seats_each : {A : Type 0} (f : A → Store → Deed Msg Store) (xs : List A) → ((x : A) → In x xs → (h : Store) → Seats p c h.view.lines (f x h)) → (h : Store)
+  pub seats_each : {A : Type 0} (f : A → Store → Deed Msg Store) (xs : List A) → ((x : A) → In x xs → (h : Store) → Seats p c h.view.lines (f x h)) → (h : Store)
       → Seats p c h.view.lines (each_in_turn f xs h)
   seats_each f [] each h = seats_nothing h
   seats_each f (x ∷ xs) each h = seats_both (f x) (each_in_turn f xs) h (each x (inl refl) h) (seats_each f xs (λ y i. each y (inr i)) (f x h).state)
 
-  putting_tells : (t : Tenancy) (h : Store) → Tells p c h.view.lines (putting t h)
+  pub putting_tells : (t : Tenancy) (h : Store) → Tells p c h.view.lines (putting t h)
   putting_tells t h = silent p c h.view.lines (putting t h) refl (tt, tt)
 
   -- a Put and the records that are taken for it
-  took_seated : (r : Rec) (h : Store) (before : List (Out Msg)) → In (put_out r.tenancy) before → IsAtOrBefore r.tenancy.first r.visit → AreSeated before (took r h).outs
+  pub took_seated : (r : Rec) (h : Store) (before : List (Out Msg)) → In (put_out r.tenancy) before → IsAtOrBefore r.tenancy.first r.visit → AreSeated before (took r h).outs
   unfolding took
   took_seated r h before put at =
       chosen (λ (d : Deed Msg Store). AreSeated before d.outs) (is_taken r h) (nothing h) _ (λ _. tt) (λ _. ((put, at), tt))
 
   -- on a disk of the cub's own, where the place is free
-  sent_tells : (t : Tenancy) (h : Store) → is_taken (own_of t t.first) h ≡ false
+  pub sent_tells : (t : Tenancy) (h : Store) → is_taken (own_of t t.first) h ≡ false
       → Tells p c (took (own_of t t.first) h).state.view.lines (sending (state_out p c t ∷ told_placed p c t ∷ []) (took (own_of t t.first) h).state)
   sent_tells t h free =
       let r : Rec = own_of t t.first in
@@ -112,7 +112,7 @@ module _ (p : Params) (c : ℕ) where
         for_cub = λ q i. ⊎_elim (λ (e : taken_out q ≡ state_out p c t). absurd (cc)) (λ k. ⊎_elim (λ (e : taken_out q ≡ told_placed p c t). absurd (cc)) (λ e. absurd e) k) i;
       }
 
-  own_seats : (t : Tenancy) (h : Store) → cub_of p t.first ≡ c → is_taken (own_of t t.first) h ≡ false → Seats p c h.view.lines (putting_own p c t h)
+  pub own_seats : (t : Tenancy) (h : Store) → cub_of p t.first ≡ c → is_taken (own_of t t.first) h ≡ false → Seats p c h.view.lines (putting_own p c t h)
   unfolding putting_own
   own_seats t h mine free =
       let r : Rec = own_of t t.first in
@@ -126,20 +126,20 @@ module _ (p : Params) (c : ℕ) where
       }
 
   -- on a disk of its predecessor
-  abbrev second : Tenancy → Store → Deed Msg Store
+  abbrev pub second : Tenancy → Store → Deed Msg Store
   second t = cond (nat_lt t.first t.last) (took (own_of t (t.first + 1))) nothing
 
-  second_tells : (t : Tenancy) (h : Store) → cub_of p (t.first + 1) ≡ c → Tells p c h.view.lines (second t h)
+  pub second_tells : (t : Tenancy) (h : Store) → cub_of p (t.first + 1) ≡ c → Tells p c h.view.lines (second t h)
   second_tells t h next =
       chosen (λ (f : Store → Deed Msg Store). Tells p c h.view.lines (f h)) (nat_lt t.first t.last) (took (own_of t (t.first + 1))) nothing
       (λ _. took_tells p c (own_of t (t.first + 1)) next h) (λ _. tells_nothing p c h)
 
-  second_seated : (t : Tenancy) (h : Store) (before : List (Out Msg)) → In (put_out t) before → AreSeated before (second t h).outs
+  pub second_seated : (t : Tenancy) (h : Store) (before : List (Out Msg)) → In (put_out t) before → AreSeated before (second t h).outs
   second_seated t h before put =
       chosen (λ (f : Store → Deed Msg Store). AreSeated before (f h).outs) (nat_lt t.first t.last) (took (own_of t (t.first + 1))) nothing
       (λ _. took_seated (own_of t (t.first + 1)) h before put (inr refl)) (λ _. tt)
 
-  dead_seats : (t : Tenancy) (h : Store) → cub_of p (t.first + 1) ≡ c → Seats p c h.view.lines (putting_for_dead p c t h)
+  pub dead_seats : (t : Tenancy) (h : Store) → cub_of p (t.first + 1) ≡ c → Seats p c h.view.lines (putting_for_dead p c t h)
   unfolding putting_for_dead
   dead_seats t h next =
       let r : Rec = backup_of t t.first in
@@ -160,27 +160,27 @@ module _ (p : Params) (c : ℕ) where
       }
 
   -- Puts one after another, each where a visit is free when its turn comes
-  abbrev PutsWell : ℕ → ℕ → (Tenancy → Store → Deed Msg Store) → Type 0
+  abbrev pub PutsWell : ℕ → ℕ → (Tenancy → Store → Deed Msg Store) → Type 0
   PutsWell now disk put = (h : Store) (a : Ask) (k : Key) → free_on p now disk h ≡ Some k → Seats p c h.view.lines (put (tenancy_from a k) h)
 
-  put_or_wait_seats : (put : Tenancy → Store → Deed Msg Store) (rest : Store → Deed Msg Store) (a : Ask) (o : Option Key) (h : Store)
+  pub put_or_wait_seats : (put : Tenancy → Store → Deed Msg Store) (rest : Store → Deed Msg Store) (a : Ask) (o : Option Key) (h : Store)
       → ((k : Key) → o ≡ Some k → Seats p c h.view.lines (put (tenancy_from a k) h)) → ((g : Store) → Seats p c g.view.lines (rest g))
       → Seats p c h.view.lines (put_or_wait put rest a o h)
   put_or_wait_seats put rest a None h well more = seats_nothing h
   put_or_wait_seats put rest a (Some k) h well more = seats_both (put (tenancy_from a k)) rest h (well k refl) (more (put (tenancy_from a k) h).state)
 
-  putting_each_seats : (now disk : ℕ) (put : Tenancy → Store → Deed Msg Store) → PutsWell now disk put → (asks : List Ask) (h : Store)
+  pub putting_each_seats : (now disk : ℕ) (put : Tenancy → Store → Deed Msg Store) → PutsWell now disk put → (asks : List Ask) (h : Store)
       → Seats p c h.view.lines (putting_each put p now disk asks h)
   unfolding putting_each
   putting_each_seats now disk put well [] h = seats_nothing h
   putting_each_seats now disk put well (a ∷ rest) h =
       put_or_wait_seats put (putting_each put p now disk rest) a (free_on p now disk h) h (λ k e. well h a k e) (λ g. putting_each_seats now disk put well rest g)
 
-  putting_on_seats : (now disk : ℕ) (put : Tenancy → Store → Deed Msg Store) → PutsWell now disk put → (h : Store) → Seats p c h.view.lines (putting_on put p now disk h)
+  pub putting_on_seats : (now disk : ℕ) (put : Tenancy → Store → Deed Msg Store) → PutsWell now disk put → (h : Store) → Seats p c h.view.lines (putting_on put p now disk h)
   unfolding putting_on
   putting_on_seats now disk put well h = putting_each_seats now disk put well (filter (is_for disk) h.starts.waiting) h
 
-  inserting_own_seats : (stamp : Stamp) → IsPlan p → c < p.cubs → (h : Store) → Seats p c h.view.lines (inserting_own p c stamp h)
+  pub inserting_own_seats : (stamp : Stamp) → IsPlan p → c < p.cubs → (h : Store) → Seats p c h.view.lines (inserting_own p c stamp h)
   inserting_own_seats stamp plan here h =
       seats_each (putting_on (putting_own p c) p stamp.reading) (disks_at p c)
       (λ disk i g. putting_on_seats stamp.reading disk (putting_own p c)
@@ -190,7 +190,7 @@ module _ (p : Params) (c : ℕ) where
       g)
       h
 
-  inserting_for_dead_seats : (stamp : Stamp) → IsPlan p → c < p.cubs → (h : Store) → Seats p c h.view.lines (inserting_for_dead p c stamp h)
+  pub inserting_for_dead_seats : (stamp : Stamp) → IsPlan p → c < p.cubs → (h : Store) → Seats p c h.view.lines (inserting_for_dead p c stamp h)
   inserting_for_dead_seats stamp plan here h =
       let before : ℕ = predecessor p c in
       chosen (λ (d : Deed Msg Store). Seats p c h.view.lines d) h.believes (each_in_turn (putting_on (putting_for_dead p c) p stamp.reading) (disks_at p before) h) (nothing h)

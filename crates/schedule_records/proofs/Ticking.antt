@@ -49,11 +49,11 @@ use Rattle.schedule_records.proofs.Hearing.{same_with_piece}
 use Rattle.schedule_records.proofs.Seats.{Seats, seats_both, untaken_seated, inserting_seats}
 
 -- a step that takes nothing
-step_seats : (p : Params) (c : ℕ) (lines : List Line) (d : Deed Msg Store) → Tells p c lines d → ((r : Rec) → In (taken_out r) d.outs → ⊥) → Seats p c lines d
+pub step_seats : (p : Params) (c : ℕ) (lines : List Line) (d : Deed Msg Store) → Tells p c lines d → ((r : Rec) → In (taken_out r) d.outs → ⊥) → Seats p c lines d
 step_seats p c lines d tells none = record { tells = tells; seated = untaken_seated [] d.outs none }
 
 -- the state of the next visit follows from a record
-next_from : (x : Line) (rs : List Rec) → is_own x.rec.kind ≡ true → In x.rec rs → (link : LinkNo) (os : List (Out Msg)) → AreFromRecords os rs → AreFromRecords (out.Send link (next_state x.rec) ∷ os) rs
+pub next_from : (x : Line) (rs : List Rec) → is_own x.rec.kind ≡ true → In x.rec rs → (link : LinkNo) (os : List (Out Msg)) → AreFromRecords os rs → AreFromRecords (out.Send link (next_state x.rec) ∷ os) rs
 next_from x rs own i link os rest =
     (any_in (IsOwnRecordFor (record { tenancy = x.rec.tenancy; visit = x.rec.visit + 1 })) x.rec rs i (refl, kind_own x.rec.kind own, inr refl), rest)
   where
@@ -61,22 +61,22 @@ next_from x rs own i link os rest =
     kind_own Own e = refl
     kind_own Backup e = absurd (cc)
 
-own_record : (p : Params) (stamp : Stamp) (x : Line) → is_to_forward p stamp x ≡ true → is_own x.rec.kind ≡ true
+pub own_record : (p : Params) (stamp : Stamp) (x : Line) → is_to_forward p stamp x ≡ true → is_own x.rec.kind ≡ true
 unfolding is_to_forward must_forward
 own_record p stamp x e = (and_parts _ _ (and_parts _ _ (and_parts _ _ e).1).0).0
 
-forward_recorded : (p : Params) (c : ℕ) (stamp : Stamp) (x : Line) (rs : List Rec) → recorded_by (forward_outs p c stamp x) rs ≡ rs
+pub forward_recorded : (p : Params) (c : ℕ) (stamp : Stamp) (x : Line) (rs : List Rec) → recorded_by (forward_outs p c stamp x) rs ≡ rs
 forward_recorded p c stamp x rs =
     chosen (λ (os : List (Out Msg)). recorded_by os rs ≡ rs) (is_to_forward p stamp x)
     (out.Send (way_ahead p c 1) (next_state x.rec) ∷ out.Send (way_ahead p c 2) (next_state x.rec) ∷ []) [] (λ _. refl) (λ _. refl)
 
-all_recorded : (p : Params) (c : ℕ) (stamp : Stamp) (lines : List Line) (rs : List Rec) → recorded_by (flat_map (forward_outs p c stamp) lines) rs ≡ rs
+pub all_recorded : (p : Params) (c : ℕ) (stamp : Stamp) (lines : List Line) (rs : List Rec) → recorded_by (flat_map (forward_outs p c stamp) lines) rs ≡ rs
 all_recorded p c stamp [] rs = refl
 all_recorded p c stamp (x ∷ xs) rs =
     recorded_append (forward_outs p c stamp x) (flat_map (forward_outs p c stamp) xs) rs
     ∙ (ap (λ (qs : List Rec). recorded_by (flat_map (forward_outs p c stamp) xs) qs) (forward_recorded p c stamp x rs) ∙ all_recorded p c stamp xs rs)
 
-forward_from : (p : Params) (c : ℕ) (stamp : Stamp) (x : Line) (rs : List Rec) → In x.rec rs → AreFromRecords (forward_outs p c stamp x) rs
+pub forward_from : (p : Params) (c : ℕ) (stamp : Stamp) (x : Line) (rs : List Rec) → In x.rec rs → AreFromRecords (forward_outs p c stamp x) rs
 forward_from p c stamp x rs i =
     chosen (λ (os : List (Out Msg)). AreFromRecords os rs) (is_to_forward p stamp x)
     (out.Send (way_ahead p c 1) (next_state x.rec) ∷ out.Send (way_ahead p c 2) (next_state x.rec) ∷ []) []
@@ -85,17 +85,17 @@ forward_from p c stamp x rs i =
     next_from x rs own i (way_ahead p c 1) (out.Send (way_ahead p c 2) (next_state x.rec) ∷ []) (next_from x rs own i (way_ahead p c 2) [] tt))
     (λ _. tt)
 
-all_from : (p : Params) (c : ℕ) (stamp : Stamp) (lines : List Line) (rs : List Rec) → ((x : Line) → In x lines → In x.rec rs) → AreFromRecords (flat_map (forward_outs p c stamp) lines) rs
+pub all_from : (p : Params) (c : ℕ) (stamp : Stamp) (lines : List Line) (rs : List Rec) → ((x : Line) → In x lines → In x.rec rs) → AreFromRecords (flat_map (forward_outs p c stamp) lines) rs
 all_from p c stamp [] rs told = tt
 all_from p c stamp (x ∷ xs) rs told =
     let rest : List (Out Msg) = flat_map (forward_outs p c stamp) xs in
     from_append (forward_outs p c stamp x) rest rs (forward_from p c stamp x rs (told x (inl refl)))
     (subst (λ (qs : List Rec). AreFromRecords rest qs) (sym (forward_recorded p c stamp x rs)) (all_from p c stamp xs rs (λ y i. told y (inr i))))
 
-forward_same : (p : Params) (stamp : Stamp) (x : Line) → (forward_line p stamp x).rec ≡ x.rec
+pub forward_same : (p : Params) (stamp : Stamp) (x : Line) → (forward_line p stamp x).rec ≡ x.rec
 forward_same p stamp x = chosen (λ (y : Line). y.rec ≡ x.rec) (is_to_forward p stamp x) (marked flag.Forwarded x) x (λ _. refl) (λ _. refl)
 
-forwarding_tells : (p : Params) (c : ℕ) (stamp : Stamp) (h : Store) → Tells p c h.view.lines (forwarding p c stamp h)
+pub forwarding_tells : (p : Params) (c : ℕ) (stamp : Stamp) (h : Store) → Tells p c h.view.lines (forwarding p c stamp h)
 unfolding forwarding
 forwarding_tells p c stamp h = record {
   records = λ rs a.
@@ -106,17 +106,17 @@ forwarding_tells p c stamp h = record {
 }
 
 -- serving drops exactly the own records that are due
-whole_mute : (p : Params) (c : ℕ) (stamp : Stamp) (want : Want) (part : Option LibraryPart) → AreMute (sent_whole p c stamp want part)
+pub whole_mute : (p : Params) (c : ℕ) (stamp : Stamp) (want : Want) (part : Option LibraryPart) → AreMute (sent_whole p c stamp want part)
 whole_mute p c stamp want None = tt
 whole_mute p c stamp want (Some part) = (tt, tt)
 
-served_out : (p : Params) (c : ℕ) (stamp : Stamp) (parts : List StoredPart) (x : Line) → is_served p stamp x ≡ true → In (dropped x) (serve_outs p c stamp parts x)
+pub served_out : (p : Params) (c : ℕ) (stamp : Stamp) (parts : List StoredPart) (x : Line) → is_served p stamp x ≡ true → In (dropped x) (serve_outs p c stamp parts x)
 served_out p c stamp parts x e =
     let sent : List (Out Msg) = sent_whole p c stamp (want_of x.rec) (stored_for (want_of x.rec) parts) in
     rw e (in_right (dropped x) sent (dropped x ∷ []) (inl refl))
 
 -- what serving a line puts out of records and states is that the line was dropped
-served_is : (p : Params) (c : ℕ) (stamp : Stamp) (parts : List StoredPart) (x : Line) (o : Out Msg) → (IsMute o → ⊥) → In o (serve_outs p c stamp parts x)
+pub served_is : (p : Params) (c : ℕ) (stamp : Stamp) (parts : List StoredPart) (x : Line) (o : Out Msg) → (IsMute o → ⊥) → In o (serve_outs p c stamp parts x)
     → (is_served p stamp x ≡ true) × (o ≡ dropped x)
 served_is p c stamp parts x o loud =
     let sent : List (Out Msg) = sent_whole p c stamp (want_of x.rec) (stored_for (want_of x.rec) parts) in
@@ -127,15 +127,15 @@ served_is p c stamp parts x o loud =
     (in_cases o sent (dropped x ∷ []) i))
     (λ e i. absurd i)
 
-served_by_record : (p : Params) (stamp : Stamp) (x : Line) → is_served p stamp x ≡ is_served p stamp (unmarked x.rec)
+pub served_by_record : (p : Params) (stamp : Stamp) (x : Line) → is_served p stamp x ≡ is_served p stamp (unmarked x.rec)
 unfolding is_served
 served_by_record p stamp x = refl
 
-past_by_record : (p : Params) (stamp : Stamp) (x : Line) → is_past p stamp x ≡ is_past p stamp (unmarked x.rec)
+pub past_by_record : (p : Params) (stamp : Stamp) (x : Line) → is_past p stamp x ≡ is_past p stamp (unmarked x.rec)
 unfolding is_past
 past_by_record p stamp x = refl
 
-blocks_drop : (p : Params) (c : ℕ) (stamp : Stamp) (h : Store) → Drops (is_served p stamp) h.view.lines (serving_blocks p c stamp h)
+pub blocks_drop : (p : Params) (c : ℕ) (stamp : Stamp) (h : Store) → Drops (is_served p stamp) h.view.lines (serving_blocks p c stamp h)
 unfolding serving_blocks
 blocks_drop p c stamp h =
     let lines : List Line = h.view.lines in
@@ -161,7 +161,7 @@ blocks_drop p c stamp h =
     }
 
 -- and then exactly the backup records that are due
-backups_drop : (p : Params) (stamp : Stamp) (h : Store) → Drops (is_past p stamp) h.view.lines (dropping_backups p stamp h)
+pub backups_drop : (p : Params) (stamp : Stamp) (h : Store) → Drops (is_past p stamp) h.view.lines (dropping_backups p stamp h)
 unfolding dropping_backups
 backups_drop p stamp h =
     let past : List Line = filter (is_past p stamp) h.view.lines in
@@ -179,17 +179,17 @@ backups_drop p stamp h =
       unsent = λ link s i. let k = from_map dropped (state_sent link s) past i in let e = k.2 in absurd (cc);
     }
 
-piece_mute : (p : Params) (c : ℕ) (stamp : Stamp) (want : Want) (part : Option LibraryPart) → AreMute (sent_piece p c stamp want part)
+pub piece_mute : (p : Params) (c : ℕ) (stamp : Stamp) (want : Want) (part : Option LibraryPart) → AreMute (sent_piece p c stamp want part)
 piece_mute p c stamp want None = tt
 piece_mute p c stamp want (Some part) = (tt, tt)
 
-pieces_tell : (p : Params) (c : ℕ) (stamp : Stamp) (h : Store) → Tells p c h.view.lines (serving_pieces p c stamp h)
+pub pieces_tell : (p : Params) (c : ℕ) (stamp : Stamp) (h : Store) → Tells p c h.view.lines (serving_pieces p c stamp h)
 unfolding serving_pieces
 pieces_tell p c stamp h =
     silent p c h.view.lines (serving_pieces p c stamp h) refl
     (mute_flat (piece_outs p c stamp h.parts) (λ x. piece_mute p c stamp (want_of_piece x) (stored_for (want_of_piece x) h.parts)) (filter (leaves_by p stamp.reading) h.pieces.items))
 
-serving_tells : (p : Params) (c : ℕ) (stamp : Stamp) (h : Store) → Tells p c h.view.lines (serving p c stamp h)
+pub serving_tells : (p : Params) (c : ℕ) (stamp : Stamp) (h : Store) → Tells p c h.view.lines (serving p c stamp h)
 unfolding serving
 serving_tells p c stamp h =
     let h1 : Store = (serving_blocks p c stamp h).state in
@@ -200,7 +200,7 @@ serving_tells p c stamp h =
     (tells_drops p c (is_past p stamp) h1.view.lines (dropping_backups p stamp h1) (backups_drop p stamp h1)) (pieces_tell p c stamp h2))
 
 -- what is left is not due
-not_due : (p : Params) (stamp : Stamp) (x : Line) → is_served p stamp x ≡ false → is_past p stamp x ≡ false → stamp.reading < due p x.rec.tenancy.slot.0 x.rec.visit
+pub not_due : (p : Params) (stamp : Stamp) (x : Line) → is_served p stamp x ≡ false → is_past p stamp x ≡ false → stamp.reading < due p x.rec.tenancy.slot.0 x.rec.visit
 unfolding is_served is_past
 not_due p stamp x served past = leb-false _ _ (neither (is_own x.rec.kind) (nat_le (due_of p (key_of x)) stamp.reading) served past)
   where
@@ -208,7 +208,7 @@ not_due p stamp x served past = leb-false _ _ (neither (is_own x.rec.kind) (nat_
     neither true late one two = one
     neither false late one two = two
 
-serving_leaves : (p : Params) (c : ℕ) (stamp : Stamp) (h : Store) (x : Line) → In x (serving p c stamp h).state.view.lines → stamp.reading < due p x.rec.tenancy.slot.0 x.rec.visit
+pub serving_leaves : (p : Params) (c : ℕ) (stamp : Stamp) (h : Store) (x : Line) → In x (serving p c stamp h).state.view.lines → stamp.reading < due p x.rec.tenancy.slot.0 x.rec.visit
 unfolding serving serving_blocks dropping_backups serving_pieces
 serving_leaves p c stamp h x i =
     let past = from_filter (λ y. not (is_past p stamp y)) x (filter (λ y. not (is_served p stamp y)) h.view.lines) i in
@@ -223,14 +223,14 @@ ticking_leaves p c stamp h x i =
     serving_leaves p c stamp h6 x (subst (λ (ls : List Line). In x ls) (beating_lines p c stamp (serving p c stamp h6).state) i)
 
 -- the other steps tell nothing of records, though some mark lines
-mute_seats : (p : Params) (c : ℕ) (lines : List Line) (d : Deed Msg Store) → Tells p c lines d → AreMute d.outs → Seats p c lines d
+pub mute_seats : (p : Params) (c : ℕ) (lines : List Line) (d : Deed Msg Store) → Tells p c lines d → AreMute d.outs → Seats p c lines d
 mute_seats p c lines d tells mute = step_seats p c lines d tells (λ r i. mute_took r d.outs mute i)
 
-releasing_seats : (p : Params) (c : ℕ) (stamp : Stamp) (h : Store) → Seats p c h.view.lines (releasing p stamp h)
+pub releasing_seats : (p : Params) (c : ℕ) (stamp : Stamp) (h : Store) → Seats p c h.view.lines (releasing p stamp h)
 unfolding releasing
 releasing_seats p c stamp h = mute_seats p c h.view.lines (releasing p stamp h) (silent p c h.view.lines (releasing p stamp h) refl tt) tt
 
-believing_mute : (p : Params) (c : ℕ) (stamp : Stamp) (h : Store) → AreMute (believing p c stamp h).outs
+pub believing_mute : (p : Params) (c : ℕ) (stamp : Stamp) (h : Store) → AreMute (believing p c stamp h).outs
 unfolding believing
 believing_mute p c stamp h =
     let done : Deed Msg Store = record {
@@ -240,23 +240,23 @@ believing_mute p c stamp h =
     let mute : AreMute done.outs = (tt, mute_map queued (λ a. tt) h.starts.redundant) in
     chosen (λ (d : Deed Msg Store). AreMute d.outs) (not h.believes && is_silent h.watch stamp.reading) done (nothing h) (λ _. mute) (λ _. tt)
 
-believing_seats : (p : Params) (c : ℕ) (stamp : Stamp) (h : Store) → Seats p c h.view.lines (believing p c stamp h)
+pub believing_seats : (p : Params) (c : ℕ) (stamp : Stamp) (h : Store) → Seats p c h.view.lines (believing p c stamp h)
 believing_seats p c stamp h =
     let d : Deed Msg Store = believing p c stamp h in
     mute_seats p c h.view.lines d (silent p c h.view.lines d (believing_lines p c stamp h) (believing_mute p c stamp h)) (believing_mute p c stamp h)
 
 -- splitting marks lines, and sends mirror states
-same_with_pieces : (xs : List PieceState) (h : Store) → (with_each with_piece_record xs h).view.lines ≡ h.view.lines
+pub same_with_pieces : (xs : List PieceState) (h : Store) → (with_each with_piece_record xs h).view.lines ≡ h.view.lines
 same_with_pieces [] h = refl
 same_with_pieces (x ∷ xs) h = same_with_pieces xs (with_piece_record x h) ∙ same_with_piece x h
 
-split_mute : (p : Params) (c : ℕ) (stamp : Stamp) (x : Line) → AreMute (split_outs p c stamp x)
+pub split_mute : (p : Params) (c : ℕ) (stamp : Stamp) (x : Line) → AreMute (split_outs p c stamp x)
 split_mute p c stamp x = mute_if (must_split p stamp x) (map (sent_ahead p c) (drop 1 (pieces_of p x.rec))) (mute_map (sent_ahead p c) (λ y. tt) (drop 1 (pieces_of p x.rec)))
 
-split_same : (p : Params) (stamp : Stamp) (x : Line) → (split_line p stamp x).rec ≡ x.rec
+pub split_same : (p : Params) (stamp : Stamp) (x : Line) → (split_line p stamp x).rec ≡ x.rec
 split_same p stamp x = chosen (λ (y : Line). y.rec ≡ x.rec) (must_split p stamp x) (marked flag.Split x) x (λ _. refl) (λ _. refl)
 
-splitting_seats : (p : Params) (c : ℕ) (stamp : Stamp) (h : Store) → Seats p c h.view.lines (splitting p c stamp h)
+pub splitting_seats : (p : Params) (c : ℕ) (stamp : Stamp) (h : Store) → Seats p c h.view.lines (splitting p c stamp h)
 unfolding splitting
 splitting_seats p c stamp h =
     let done : Deed Msg Store = record {
@@ -270,32 +270,32 @@ splitting_seats p c stamp h =
     (λ _. mute_seats p c h.view.lines (nothing h) (tells_nothing p c h) tt)
 
 -- reading marks lines, and asks disks
-ask_mute : (p : Params) (stamp : Stamp) (x : Line) → AreMute (ask_outs p stamp x)
+pub ask_mute : (p : Params) (stamp : Stamp) (x : Line) → AreMute (ask_outs p stamp x)
 ask_mute p stamp x = mute_if (must_read p stamp x) (out.Send (way_to_disk p (disk_of p x.rec.visit)) (msg.ReadAsk (want_of x.rec)) ∷ []) (tt, tt)
 
-ask_same : (p : Params) (stamp : Stamp) (x : Line) → (ask_line p stamp x).rec ≡ x.rec
+pub ask_same : (p : Params) (stamp : Stamp) (x : Line) → (ask_line p stamp x).rec ≡ x.rec
 ask_same p stamp x = chosen (λ (y : Line). y.rec ≡ x.rec) (must_read p stamp x) (marked flag.Asked x) x (λ _. refl) (λ _. refl)
 
-reading_blocks_seats : (p : Params) (c : ℕ) (stamp : Stamp) (h : Store) → Seats p c h.view.lines (reading_blocks p stamp h)
+pub reading_blocks_seats : (p : Params) (c : ℕ) (stamp : Stamp) (h : Store) → Seats p c h.view.lines (reading_blocks p stamp h)
 unfolding reading_blocks
 reading_blocks_seats p c stamp h =
     let d : Deed Msg Store = reading_blocks p stamp h in
     let mute : AreMute d.outs = mute_flat (ask_outs p stamp) (ask_mute p stamp) h.view.lines in
     mute_seats p c h.view.lines d (tells_mapped p c (ask_line p stamp) h.view.lines d refl (ask_same p stamp) mute) mute
 
-reading_pieces_seats : (p : Params) (c : ℕ) (stamp : Stamp) (h : Store) → Seats p c h.view.lines (reading_pieces p stamp h)
+pub reading_pieces_seats : (p : Params) (c : ℕ) (stamp : Stamp) (h : Store) → Seats p c h.view.lines (reading_pieces p stamp h)
 unfolding reading_pieces
 reading_pieces_seats p c stamp h =
     let d : Deed Msg Store = reading_pieces p stamp h in
     let mute : AreMute d.outs = mute_map (asked_of_disk p) (λ x. tt) (filter (leaves_by p (stamp.reading + p.read_lead)) h.unasked.items) in
     mute_seats p c h.view.lines d (silent p c h.view.lines d refl mute) mute
 
-reading_seats : (p : Params) (c : ℕ) (stamp : Stamp) (h : Store) → Seats p c h.view.lines (reading p stamp h)
+pub reading_seats : (p : Params) (c : ℕ) (stamp : Stamp) (h : Store) → Seats p c h.view.lines (reading p stamp h)
 unfolding reading
 reading_seats p c stamp h =
     seats_both p c (reading_blocks p stamp) (reading_pieces p stamp) h (reading_blocks_seats p c stamp h) (reading_pieces_seats p c stamp (reading_blocks p stamp h).state)
 
-beating_seats : (p : Params) (c : ℕ) (stamp : Stamp) (h : Store) → Seats p c h.view.lines (beating p c stamp h)
+pub beating_seats : (p : Params) (c : ℕ) (stamp : Stamp) (h : Store) → Seats p c h.view.lines (beating p c stamp h)
 unfolding beating
 beating_seats p c stamp h =
     let done : Deed Msg Store = record { outs = out.Send (way_ahead p c 1) msg.Heartbeat ∷ []; state = h } in

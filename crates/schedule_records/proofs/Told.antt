@@ -32,20 +32,20 @@ abbrev pub state_sent : LinkNo → State → Out Msg
 state_sent link s = out.Send link (msg.ViewerState s)
 
 -- records are the same where the test of the journal finds them so
-kind_is : (a b : Kind) → same_kind a b ≡ true → a ≡ b
+pub kind_is : (a b : Kind) → same_kind a b ≡ true → a ≡ b
 kind_is Own Own e = refl
 kind_is Backup Backup e = refl
 kind_is Own Backup e = absurd (cc)
 kind_is Backup Own e = absurd (cc)
 
-kind_same : (k : Kind) → same_kind k k ≡ true
+pub kind_same : (k : Kind) → same_kind k k ≡ true
 kind_same Own = refl
 kind_same Backup = refl
 
-abbrev tenancy_by : ℕ → ℕ → ℕ → ℕ → ℕ → Tenancy
+abbrev pub tenancy_by : ℕ → ℕ → ℕ → ℕ → ℕ → Tenancy
 tenancy_by v f s n l = record { instance = record { 0 = v }; file = record { 0 = f }; slot = record { 0 = s }; first = n; last = l }
 
-tenancy_is : (t u : Tenancy) → same_tenancy t u ≡ true → t ≡ u
+pub tenancy_is : (t u : Tenancy) → same_tenancy t u ≡ true → t ≡ u
 tenancy_is t u e =
     let last = and_parts _ _ e in
     let first = and_parts _ _ last.0 in
@@ -59,7 +59,7 @@ tenancy_is t u e =
     let z : tenancy_by t.instance.0 t.file.0 t.slot.0 t.first t.last ≡ tenancy_by u.instance.0 u.file.0 u.slot.0 u.first u.last = cc in
     z
 
-abbrev record_by : Tenancy → ℕ → Kind → Rec
+abbrev pub record_by : Tenancy → ℕ → Kind → Rec
 record_by t n k = record { tenancy = t; visit = n; kind = k }
 
 pub record_is : (r q : Rec) → same_record r q ≡ true → r ≡ q
@@ -110,7 +110,7 @@ none_sent (out.Send link (msg.ViewerState s) ∷ os) rs none = absurd (none link
 none_sent (out.Send link other ∷ os) rs none = none_sent os rs (λ link s i. none link s (inr i))
 
 -- a record that none of the outputs drops is told of after them
-one_kept : (q : Rec) (w : What) (rs : List Rec) → In q rs → ((r : Rec) → w ≡ what.Dropped r → same_record r q ≡ false) → In q (recorded rs w)
+pub one_kept : (q : Rec) (w : What) (rs : List Rec) → In q rs → ((r : Rec) → w ≡ what.Dropped r → same_record r q ≡ false) → In q (recorded rs w)
 one_kept q (what.Took r) rs i none = in_left q rs (r ∷ []) i
 one_kept q (what.Dropped r) rs i none = in_filter (λ x. not (same_record r x)) q rs i (ap not (none r refl))
 one_kept q other rs i none = i
@@ -125,7 +125,7 @@ pub record WasTold (q : Rec) (outs : List (Out Msg)) (rs : List Rec) : Type 0 wh
   pub before : In q rs
   pub stays : (r : Rec) → In (dropped_out r) outs → same_record r q ≡ false
 
-one_was : (q : Rec) (w : What) (rs : List Rec) → In q (recorded rs w) → ((r : Rec) → what.Took r ≡ w → ⊥) → In q rs × ((r : Rec) → what.Dropped r ≡ w → same_record r q ≡ false)
+pub one_was : (q : Rec) (w : What) (rs : List Rec) → In q (recorded rs w) → ((r : Rec) → what.Took r ≡ w → ⊥) → In q rs × ((r : Rec) → what.Dropped r ≡ w → same_record r q ≡ false)
 one_was q (what.Took r) rs i none = absurd (none r refl)
 one_was q (what.Dropped r) rs i none =
     let f = from_filter (λ x. not (same_record r x)) q rs i in
@@ -170,7 +170,7 @@ pub mute_if : (b : Bool) (xs : List (Out Msg)) → AreMute xs → AreMute (cond 
 mute_if true xs h = h
 mute_if false xs h = tt
 
-one_mute : (w : What) (rs : List Rec) → IsMute (out.Act w) → recorded rs w ≡ rs
+pub one_mute : (w : What) (rs : List Rec) → IsMute (out.Act w) → recorded rs w ≡ rs
 one_mute (what.Took r) rs h = absurd h
 one_mute (what.Dropped r) rs h = absurd h
 one_mute other rs h = refl

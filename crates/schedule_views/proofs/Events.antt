@@ -39,7 +39,7 @@ use Rattle.schedule_views.proofs.Order.{journal_joined, front_of_journal}
 use Rattle.schedule_views.proofs.Journals.{inputs_of, got_at, put_out, so_far, wrote, written, rising_so_far}
 
 -- a viewer state that a journal says was sent went out
-state_back : (m : Msg) (s : State) → noted m ≡ note.ViewerState s → m ≡ msg.ViewerState s
+pub state_back : (m : Msg) (s : State) → noted m ≡ note.ViewerState s → m ≡ msg.ViewerState s
 state_back (msg.ViewerState q) s e = let z : q ≡ s = cc in ap (λ (x : State). msg.ViewerState x) z
 state_back other s e = absurd (cc)
 
@@ -51,18 +51,18 @@ state_sent p c (out.Send way m) link s fair e =
 state_sent p c (out.Act w) link s fair e = absurd (subst IsOwnEntry e fair)
 
 -- an event that is no death writes none
-output_lives : (p : Params) (c : ℕ) (o : Out Msg) → IsAllowed noted p c o → is_died (what_of noted o) ≡ true → ⊥
+pub output_lives : (p : Params) (c : ℕ) (o : Out Msg) → IsAllowed noted p c o → is_died (what_of noted o) ≡ true → ⊥
 output_lives p c (out.Send link m) fair d = absurd (cc)
 output_lives p c (out.Act what.Died) fair d = fair
 output_lives p c (out.Act other) fair d = absurd (cc)
 
-outputs_live : (p : Params) (c : ℕ) (stamp : Stamp) (os : List (Out Msg)) (e : Entry) → AllByRecursion (IsAllowed noted p c) os → In e (map (entry_of noted stamp) os)
+pub outputs_live : (p : Params) (c : ℕ) (stamp : Stamp) (os : List (Out Msg)) (e : Entry) → AllByRecursion (IsAllowed noted p c) os → In e (map (entry_of noted stamp) os)
     → is_died e.what ≡ true → ⊥
 outputs_live p c stamp os e fair i d =
     let r = from_map (entry_of noted stamp) e os i in
     output_lives p c r.0 (all_in (IsAllowed noted p c) r.0 os fair r.1) (ap (λ (x : Entry). is_died x.what) (sym r.2) ∙ d)
 
-event_lives : {S : Type 0} (step : S → Input Msg → Deed Msg S) (p : Params) (c : ℕ) (ev : NodeEvent Msg) (before : Past S) (e : Entry) → is_death ev ≡ false
+pub event_lives : {S : Type 0} (step : S → Input Msg → Deed Msg S) (p : Params) (c : ℕ) (ev : NodeEvent Msg) (before : Past S) (e : Entry) → is_death ev ≡ false
     → AllByRecursion (IsAllowed noted p c) (outs_of step ev before) → In e (entries_at noted step ev before) → is_died e.what ≡ true → ⊥
 event_lives step p c (Does (Take stamp link m)) before e lives fair i d = ⊎_elim
     (λ q. true≢false (sym d ∙ ap (λ (x : Entry). is_died x.what) q))
@@ -79,7 +79,7 @@ noted_there n front e i =
     (m.0, f.0, eqb-true _ _ f.1, sym m.2)
 
 -- a node's entry is the first of its journal where it is the first of all
-own_first : (x : Noted) (back : List Noted) → journal_of x.node (x ∷ back) ≡ x.entry ∷ journal_of x.node back
+pub own_first : (x : Noted) (back : List Noted) → journal_of x.node (x ∷ back) ≡ x.entry ∷ journal_of x.node back
 own_first x back = let t : (x.node == x.node) ≡ true = eq-eqb x.node x.node refl in rw t refl
 
 module _ {S : Type 0} (step : S → Input Msg → Deed Msg S) (p : Params) (plan : IsPlan p) (nodes : ℕ) (h : History Msg S) (orders : List Order)

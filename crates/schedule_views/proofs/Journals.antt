@@ -35,7 +35,7 @@ pub record IsMapped {X Y : Type 0} (f : X → Y) (xs : List X) (front : List Y) 
   pub front_is : front ≡ map f before
   pub is : y ≡ f at
 
-mapped_cut : {X Y : Type 0} (f : X → Y) (xs : List X) (front : List Y) (y : Y) (back : List Y) → front ++ y ∷ back ≡ map f xs → IsMapped f xs front y
+pub mapped_cut : {X Y : Type 0} (f : X → Y) (xs : List X) (front : List Y) (y : Y) (back : List Y) → front ++ y ∷ back ≡ map f xs → IsMapped f xs front y
 mapped_cut f [] front y back e = absurd (subst (λ l. In y l) e (in_right y front (y ∷ back) (inl refl)))
 mapped_cut f (x ∷ xs) [] y back e = let head : y ≡ f x = cc in record { before = []; at = x; behind = xs; whole = refl; front_is = refl; is = head }
 mapped_cut f (x ∷ xs) (z ∷ zs) y back e =
@@ -68,7 +68,7 @@ pub record IsPutOut {S : Type 0} (step : S → Input Msg → Deed Msg S) (ev : N
   pub part_is : part ≡ got_in ev ++ map (entry_of noted (stamp_at ev)) earlier
   pub is : e ≡ entry_of noted (stamp_at ev) output
 
-put_out_behind : {S : Type 0} (step : S → Input Msg → Deed Msg S) (stamp : Stamp) (link : LinkNo) (m : Msg) (before : Past S) (part : List Entry) (e : Entry) (rest : List Entry)
+pub put_out_behind : {S : Type 0} (step : S → Input Msg → Deed Msg S) (stamp : Stamp) (link : LinkNo) (m : Msg) (before : Past S) (part : List Entry) (e : Entry) (rest : List Entry)
     → is_got e.what ≡ false → part ++ e ∷ rest ≡ entries_at noted step (Does (Take stamp link m)) before → IsPutOut step (Does (Take stamp link m)) before part e
 put_out_behind step stamp link m before [] e rest sent is =
     let head : e ≡ record { stamp = stamp; what = what.Got link (noted m) } = cc in
@@ -121,7 +121,7 @@ module _ {S : Type 0} (step : S → Input Msg → Deed Msg S) (h : History Msg S
     pub front_is : front ≡ so_far at ++ part
     pub event_is : part ++ e ∷ rest ≡ wrote at
 
-  written_before : (i : ℕ) (front : List Entry) (e : Entry) (back between : List Entry) → front ++ between ≡ so_far i → between ++ wrote i ≡ e ∷ back
+  pub written_before : (i : ℕ) (front : List Entry) (e : Entry) (back between : List Entry) → front ++ between ≡ so_far i → between ++ wrote i ≡ e ∷ back
       → ((bs : List Entry) → front ++ e ∷ bs ≡ so_far i → IsWritten i front e) → IsWritten (suc i) front e
   written_before i front e back [] old new more =
       record { at = i; before = omega arith; part = []; rest = back; front_is = sym (append-nil front) ∙ old ∙ sym (append-nil (so_far i)); event_is = sym new }
@@ -151,7 +151,7 @@ module _ {S : Type 0} (step : S → Input Msg → Deed Msg S) (h : History Msg S
   beat_is i e k = ap (λ (s : Stamp). s.beat) (stamped i e k ∙ stamp_same (h.event n i))
 
   -- entries of one beat have beats that never fall
-  level : (b : ℕ) (es : List Entry) → ((e : Entry) → In e es → e.stamp.beat ≡ b) → Rising (λ (e : Entry). e.stamp.beat) es
+  pub level : (b : ℕ) (es : List Entry) → ((e : Entry) → In e es → e.stamp.beat ≡ b) → Rising (λ (e : Entry). e.stamp.beat) es
   level b es same = subst (Rising (λ (e : Entry). e.stamp.beat)) (append-nil es)
       (rising-append (λ (e : Entry). e.stamp.beat) b es [] (all_from (λ (e : Entry). e.stamp.beat ≡ b) es same) tt tt)
 

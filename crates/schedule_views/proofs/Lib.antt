@@ -1,7 +1,7 @@
-mod Cuts
-mod Order
-mod Journals
-mod Telling
-mod Events
+pub mod Cuts
+pub mod Order
+pub mod Journals
+pub mod Telling
+pub mod Events
 pub mod Local
 pub mod Parts

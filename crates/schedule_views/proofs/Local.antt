@@ -47,7 +47,7 @@ use Rattle.schedule_views.proofs.Telling as telling
 use Rattle.schedule_views.proofs.Events as events
 
 -- the cub to which a state goes stands one or two behind its sender
-from_before : (p : Params) (c from k : ℕ) → from < p.cubs → (k ≡ 1) ⊎ (k ≡ 2) → cub_of p (from + k) ≡ c → IsTrue (is_from_before p c (Some (from, c)))
+pub from_before : (p : Params) (c from k : ℕ) → from < p.cubs → (k ≡ 1) ⊎ (k ≡ 2) → cub_of p (from + k) ≡ c → IsTrue (is_from_before p c (Some (from, c)))
 unfolding cub_of
 from_before p c from k small ahead to = and_from (nat_lt from p.cubs) _ (lt-ltb _ _ small) (⊎_elim
     (λ (e : k ≡ 1). or_left _ _ (eq-eqb _ _ (subst (λ n. (from + n) % p.cubs ≡ c) e to)))
@@ -55,7 +55,7 @@ from_before p c from k small ahead to = and_from (nat_lt from p.cubs) _ (lt-ltb 
     ahead)
 
 -- a state that goes out follows from a record that is told of then
-state_record : (earlier : List (Out Msg)) (link : LinkNo) (s : State) (later : List (Out Msg)) (rs : List Rec) → AreFromRecords (earlier ++ out.Send link (msg.ViewerState s) ∷ later) rs
+pub state_record : (earlier : List (Out Msg)) (link : LinkNo) (s : State) (later : List (Out Msg)) (rs : List Rec) → AreFromRecords (earlier ++ out.Send link (msg.ViewerState s) ∷ later) rs
     → AnyByRecursion (IsOwnRecordFor s) (recorded_by earlier rs)
 state_record [] link s later rs f = f.0
 state_record (out.Act w ∷ os) link s later rs f = state_record os link s later (recorded rs w) f
@@ -64,15 +64,15 @@ state_record (out.Send way other ∷ os) link s later rs f = state_record os lin
 
 module _ {S : Type 0} (step : S → Input Msg → Deed Msg S) (p : Params) (plan : IsPlan p) (nodes : ℕ) (h : History Msg S) (orders : List Order)
     (journals : List (List Entry)) (are : AreCalmJournals step p nodes h orders journals) (beats : ℕ) where
-  abbrev log : List Noted
+  abbrev pub log : List Noted
   log = order_of beats journals
 
   -- what stands before an entry in its event stands before it in the journal
-  abbrev before_it : (c at : ℕ) → List (Out Msg) → List Entry
+  abbrev pub before_it : (c at : ℕ) → List (Out Msg) → List Entry
   before_it c at earlier = so_far step h c at ++ (got_at (inputs_of h c at) ++ map (entry_of noted (stamp_of (inputs_of h c at))) earlier)
 
   -- a state that a cub took came from one of the two cubs before it
-  state_came : (c at : ℕ) (stamp : Stamp) (link : LinkNo) (s : State) → c < p.cubs → at < h.count c → inputs_of h c at ≡ Take stamp link (msg.ViewerState s)
+  pub state_came : (c at : ℕ) (stamp : Stamp) (link : LinkNo) (s : State) → c < p.cubs → at < h.count c → inputs_of h c at ≡ Take stamp link (msg.ViewerState s)
       → IsTrue (is_from_before p c (ends_of (links_of p) link.0))
   state_came c at stamp link s small done is =
       let f = came step p plan nodes h are.history.living (calm orders) c at stamp link (msg.ViewerState s) small done is in
@@ -84,7 +84,7 @@ module _ {S : Type 0} (step : S → Input Msg → Deed Msg S) (p : Params) (plan
       (from_before p c f.from k w.0 w.1.3 (same_ends f.from (cub_of p (f.from + k)) f.from c ends).1)
 
   -- how a record came that is taken in an event
-  came_by : (c at : ℕ) (r : Rec) (earlier later : List (Out Msg)) (q : Input Msg) → c < p.cubs → at < h.count c → inputs_of h c at ≡ q
+  pub came_by : (c at : ℕ) (r : Rec) (earlier later : List (Out Msg)) (q : Input Msg) → c < p.cubs → at < h.count c → inputs_of h c at ≡ q
       → outs_at p c (inputs_of h c) at ≡ earlier ++ out.Act (what.Took r) ∷ later → AnyByRecursion (λ (e : Entry). Brings p c r.tenancy r.visit e.what) (before_it c at earlier)
   came_by c at r earlier later (Take stamp link m) small done is outs_are =
       let there : In (out.Act (what.Took r)) (outs_at p c (inputs_of h c) at) =
@@ -107,7 +107,7 @@ module _ {S : Type 0} (step : S → Input Msg → Deed Msg S) (p : Params) (plan
       (refl, put.1)
 
   -- a record that is taken is local
-  record_local : (front : List Noted) (x : Noted) (back : List Noted) (r : Rec) → x.node < p.cubs → front ++ x ∷ back ≡ log → x.entry.what ≡ what.Took r
+  pub record_local : (front : List Noted) (x : Noted) (back : List Noted) (r : Rec) → x.node < p.cubs → front ++ x ∷ back ≡ log → x.entry.what ≡ what.Took r
       → IsLocalRecord p (moment_at front) x.node x.entry.stamp.reading r
   unfolding moment_at
   record_local front x back r small is took =
@@ -130,7 +130,7 @@ module _ {S : Type 0} (step : S → Input Msg → Deed Msg S) (p : Params) (plan
       }
 
   -- and a viewer state that is sent
-  state_local : (front : List Noted) (x : Noted) (back : List Noted) (link : LinkNo) (s : State) → x.node < p.cubs → front ++ x ∷ back ≡ log
+  pub state_local : (front : List Noted) (x : Noted) (back : List Noted) (link : LinkNo) (s : State) → x.node < p.cubs → front ++ x ∷ back ≡ log
       → x.entry.what ≡ what.Sent link (note.ViewerState s) → AnyByRecursion (IsOwnRecordFor s) (records_of (journal_of x.node front))
   state_local front x back link s small is sent =
       let c : ℕ = x.node in
@@ -145,7 +145,7 @@ module _ {S : Type 0} (step : S → Input Msg → Deed Msg S) (p : Params) (plan
       (sym (ap records_of o.front_is ∙ telling.records_after (so_far step h c o.at) _ ∙ telling.input_recorded (inputs o.at) o.earlier old)) record_then
 
   -- what the journal tells is the view, for the cub has not died
-  in_view : (front back : List Noted) (c : ℕ) (s : State) → c < p.cubs → front ++ back ≡ log → AnyByRecursion (IsOwnRecordFor s) (records_of (journal_of c front))
+  pub in_view : (front back : List Noted) (c : ℕ) (s : State) → c < p.cubs → front ++ back ≡ log → AnyByRecursion (IsOwnRecordFor s) (records_of (journal_of c front))
       → AnyByRecursion (IsOwnRecordFor s) (view_of (moment_at front) c)
   unfolding moment_at
   in_view front back c s small is has = chosen (λ (rs : List Rec). AnyByRecursion (IsOwnRecordFor s) rs) (list_any (λ (e : Entry). is_died e.what) (journal_of c front)) []
@@ -153,7 +153,7 @@ module _ {S : Type 0} (step : S → Input Msg → Deed Msg S) (p : Params) (plan
       (λ t. absurd (events.none_died step p plan nodes h orders journals are beats front back c small is t))
       (λ _. has)
 
-  entry_local : (front : List Noted) (x : Noted) (back : List Noted) (w : What) → x.node < p.cubs → front ++ x ∷ back ≡ log → x.entry.what ≡ w
+  pub entry_local : (front : List Noted) (x : Noted) (back : List Noted) (w : What) → x.node < p.cubs → front ++ x ∷ back ≡ log → x.entry.what ≡ w
       → IsLocalEntry p (moment_at front) x.node x.entry.stamp.reading w
   entry_local front x back (what.Took r) small is e = record_local front x back r small is e
   entry_local front x back (what.Sent link (note.ViewerState s)) small is e = in_view front (x ∷ back) x.node s small is (state_local front x back link s small is e)

@@ -19,18 +19,18 @@ journal_joined n xs ys =
     ∙ map-append (λ x. x.entry) (filter (λ x. x.node == n) xs) (filter (λ x. x.node == n) ys)
 
 -- the entries of a node are its own, and no other's
-own_noted : (n : ℕ) (es : List Entry) → journal_of n (map (note_of n) es) ≡ es
+pub own_noted : (n : ℕ) (es : List Entry) → journal_of n (map (note_of n) es) ≡ es
 own_noted n [] = refl
 own_noted n (e ∷ es) = let t : (n == n) ≡ true = eq-eqb n n refl in rw t (ap (λ l. e ∷ l) (own_noted n es))
 
-other_noted : (n m : ℕ) (es : List Entry) → (m ≡ n → ⊥) → journal_of n (map (note_of m) es) ≡ []
+pub other_noted : (n m : ℕ) (es : List Entry) → (m ≡ n → ⊥) → journal_of n (map (note_of m) es) ≡ []
 other_noted n m [] ne = refl
 other_noted n m (e ∷ es) ne = let t : (m == n) ≡ false = ne_eqb m n ne in rw t (other_noted n m es ne)
 
-abbrev of_beat : ℕ → List Entry → List Entry
+abbrev pub of_beat : ℕ → List Entry → List Entry
 of_beat b es = filter (λ e. e.stamp.beat == b) es
 
-none_behind : (b n m : ℕ) (js : List (List Entry)) → n < m → journal_of n (in_beat b m js) ≡ []
+pub none_behind : (b n m : ℕ) (js : List (List Entry)) → n < m → journal_of n (in_beat b m js) ≡ []
 none_behind b n m [] l = refl
 none_behind b n m (j ∷ js) l =
     let first = other_noted n m (of_beat b j) (λ e. absurd (omega arith)) in
@@ -39,7 +39,7 @@ none_behind b n m (j ∷ js) l =
     ∙ none_behind b n (m + 1) js (omega arith)
 
 -- of a beat the order has of each node what its journal has
-beat_journal : (b m n : ℕ) (js : List (List Entry)) (k : ℕ) (j : List Entry) → slice_get js k ≡ Some j → n ≡ m + k → journal_of n (in_beat b m js) ≡ of_beat b j
+pub beat_journal : (b m n : ℕ) (js : List (List Entry)) (k : ℕ) (j : List Entry) → slice_get js k ≡ Some j → n ≡ m + k → journal_of n (in_beat b m js) ≡ of_beat b j
 beat_journal b m n [] k j at e = absurd (none-some j at)
 beat_journal b m n (g ∷ gs) zero j at e =
     let same : g ≡ j = ap (λ (o : Option (List Entry)). unwrap_or o g) at in
@@ -61,7 +61,7 @@ pub record IsFrontOf (b : ℕ) (part journal : List Entry) : Type 0 where
   pub is : part ++ rest ≡ journal
   pub late : (e : Entry) → In e rest → b ≤ e.stamp.beat
 
-front_from : (b k : ℕ) (js : List (List Entry)) (n : ℕ) (j low high : List Entry) → slice_get js n ≡ Some j → low ++ high ≡ j → ((e : Entry) → In e low → e.stamp.beat < b)
+pub front_from : (b k : ℕ) (js : List (List Entry)) (n : ℕ) (j low high : List Entry) → slice_get js n ≡ Some j → low ++ high ≡ j → ((e : Entry) → In e low → e.stamp.beat < b)
     → ((e : Entry) → In e high → b ≤ e.stamp.beat) → Rising (λ (e : Entry). e.stamp.beat) high → IsFrontOf (b + k) (journal_of n (order_from b k js)) high
 front_from b zero js n j low high at is below above rising =
     record { rest = high; is = refl; late = λ e i. let l = above e i in omega arith }

@@ -50,27 +50,27 @@ use Rattle.schedule_views.proofs.Events as events
 module _ {S : Type 0} (step : S → Input Msg → Deed Msg S) (p : Params) (plan : IsPlan p) (nodes : ℕ) (h : History Msg S) (orders : List Order)
     (journals : List (List Entry)) (are : AreCalmJournals step p nodes h orders journals) (unstopped : StopNothing journals) (beats : ℕ)
     (front back : List Noted) (is_log : front ++ back ≡ order_of beats journals) where
-  abbrev log : List Noted
+  abbrev pub log : List Noted
   log = order_of beats journals
 
-  abbrev facts : Facts
+  abbrev pub facts : Facts
   facts = facts_of p (lives_of h) (calm orders)
 
-  in_log : (x : Noted) → In x front → In x log
+  pub in_log : (x : Noted) → In x front → In x log
   in_log x i = subst (λ (l : List Noted). In x l) is_log (in_left x front back i)
 
-  rises : Rising beat_of (front ++ back)
+  pub rises : Rising beat_of (front ++ back)
   rises = subst (λ (l : List Noted). Rising beat_of l) (sym is_log) (rising_order 0 beats journals)
 
   -- a cub's taking of a record stands in the front, and what the cub's journal has before it
-  record IsTakenHere (c : ℕ) (r : Rec) : Type 0 where
+  pub record IsTakenHere (c : ℕ) (r : Rec) : Type 0 where
     entry : Noted
     there : In entry front
     before : List Entry
     within : (e : Entry) → In e before → In e (journal_of c front)
     output : events.IsOutputOf step p plan nodes h orders journals are beats c before entry.entry (out.Act (what.Took r))
 
-  taken_here : (c : ℕ) → c < p.cubs → (r : Rec) → In r (records_of (journal_of c front)) → IsTakenHere c r
+  pub taken_here : (c : ℕ) → c < p.cubs → (r : Rec) → In r (records_of (journal_of c front)) → IsTakenHere c r
   taken_here c small r i =
       let mine : List Entry = journal_of c front in
       let t = telling.was_taken mine r i in
@@ -89,13 +89,13 @@ module _ {S : Type 0} (step : S → Input Msg → Deed Msg S) (p : Params) (plan
       }
 
   -- the tenancy of a record that stands in the front was put there
-  record IsPutHere (t : Tenancy) : Type 0 where
+  pub record IsPutHere (t : Tenancy) : Type 0 where
     entry : Noted
     there : In entry front
     is : entry.entry.what ≡ what.Put t
 
   -- a record that is taken at a tick was put before it in the same event
-  put_at_tick : (c : ℕ) → c < p.cubs → (r : Rec) → (taken : IsTakenHere c r) → is_tick_input (inputs_of h c taken.output.at) ≡ true → IsPutHere r.tenancy
+  pub put_at_tick : (c : ℕ) → c < p.cubs → (r : Rec) → (taken : IsTakenHere c r) → is_tick_input (inputs_of h c taken.output.at) ≡ true → IsPutHere r.tenancy
   put_at_tick c small r taken tick =
       let o = taken.output in
       let input : Input Msg = inputs_of h c o.at in
@@ -108,7 +108,7 @@ module _ {S : Type 0} (step : S → Input Msg → Deed Msg S) (p : Params) (plan
       record { entry = n.0; there = n.1; is = ap (λ (x : Entry). x.what) n.3 }
 
   -- one that is taken at a message was put in a lower beat
-  put_at_message : (c : ℕ) → c < p.cubs → (r : Rec) → (taken : IsTakenHere c r) → is_tick_input (inputs_of h c taken.output.at) ≡ false → IsPutHere r.tenancy
+  pub put_at_message : (c : ℕ) → c < p.cubs → (r : Rec) → (taken : IsTakenHere c r) → is_tick_input (inputs_of h c taken.output.at) ≡ false → IsPutHere r.tenancy
   put_at_message c small r taken message =
       let o = taken.output in
       let there = events.did step p plan nodes h orders journals are beats c taken.before taken.entry.entry (out.Act (what.Took r)) o in
@@ -125,14 +125,14 @@ module _ {S : Type 0} (step : S → Input Msg → Deed Msg S) (p : Params) (plan
       (in_cases y.0 front back (subst (λ (l : List Noted). In y.0 l) (sym is_log) y.1))
 
   -- in both cases the Put stands in the front
-  put_here : (c : ℕ) → c < p.cubs → (r : Rec) → IsTakenHere c r → IsPutHere r.tenancy
+  pub put_here : (c : ℕ) → c < p.cubs → (r : Rec) → IsTakenHere c r → IsPutHere r.tenancy
   put_here c small r taken = ⊎_elim
       (λ (t : is_tick_input (inputs_of h c taken.output.at) ≡ true). put_at_tick c small r taken t)
       (λ (f : is_tick_input (inputs_of h c taken.output.at) ≡ false). put_at_message c small r taken f)
       (cases_Bool (is_tick_input (inputs_of h c taken.output.at)))
 
   -- after the tick of a beat no record is told of that is due by its true time
-  told_later : (c b l : ℕ) (r : Rec) → (w : TickedAt p (lives_of h) c b l) → In r (records_of (so_far step h c (suc w.at))) → time_of p b < due p r.tenancy.slot.0 r.visit
+  pub told_later : (c b l : ℕ) (r : Rec) → (w : TickedAt p (lives_of h) c b l) → In r (records_of (so_far step h c (suc w.at))) → time_of p b < due p r.tenancy.slot.0 r.visit
   told_later c b l r w i =
       let ring = fair.in_ring step p plan nodes h orders journals are in
       let low = (ring.run.reads w).0 in
@@ -144,7 +144,7 @@ module _ {S : Type 0} (step : S → Input Msg → Deed Msg S) (p : Params) (plan
 
   -- a front that has an entry of a later beat has all that a cub wrote up to an event: if its part of the journal ended before,
   -- nothing would stand between
-  front_short : (c at : ℕ) (r : Rec) (y : Noted) → c < p.cubs → at < h.count c → In y front → beat_at (inputs_of h c) at < beat_of y
+  pub front_short : (c at : ℕ) (r : Rec) (y : Noted) → c < p.cubs → at < h.count c → In y front → beat_at (inputs_of h c) at < beat_of y
       → (f : events.IsFrontAt step p plan nodes h orders journals are beats c front back) → (between rest : List Entry) → journal_of c front ++ between ≡ so_far step h c (suc at)
       → between ++ rest ≡ journal_of c back ++ f.rest → In r (records_of (journal_of c front)) → In r (records_of (so_far step h c (suc at)))
   front_short c at r y small done i above f [] rest is over told = subst (λ (es : List Entry). In r (records_of es)) (sym (append-nil (journal_of c front)) ∙ is) told
@@ -167,7 +167,7 @@ module _ {S : Type 0} (step : S → Input Msg → Deed Msg S) (p : Params) (plan
 
   -- a record that is told of in a front, which has an entry of a later beat than a tick's, was told of at the end of that tick,
   -- where it was not taken later
-  told_then : (c b l : ℕ) (r : Rec) (y : Noted) → (w : TickedAt p (lives_of h) c b l) → In y front → b < beat_of y → In r (records_of (journal_of c front))
+  pub told_then : (c b l : ℕ) (r : Rec) (y : Noted) → (w : TickedAt p (lives_of h) c b l) → In y front → b < beat_of y → In r (records_of (journal_of c front))
       → ((at : ℕ) → Entered facts c r.tenancy r.visit (beat_at (inputs_of h c) at) → b < beat_at (inputs_of h c) at → ⊥)
       → In r (records_of (so_far step h c (suc w.at)))
   told_then c b l r y w i above told none =
@@ -195,7 +195,7 @@ module _ {S : Type 0} (step : S → Input Msg → Deed Msg S) (p : Params) (plan
       (two_cuts mine tail then on.rest (f.is ∙ sym on.is))
 
   -- a record of the front is of a tenancy that has its slot
-  slot_held : (c : ℕ) → c < p.cubs → (r : Rec) → In r (records_of (journal_of c front)) → (schedule_of front).holder r.tenancy.slot.0 ≡ Some r.tenancy
+  pub slot_held : (c : ℕ) → c < p.cubs → (r : Rec) → In r (records_of (journal_of c front)) → (schedule_of front).holder r.tenancy.slot.0 ≡ Some r.tenancy
   slot_held c small r i =
       let one = fair.schedule step p plan nodes h orders journals are in
       let ring = fair.in_ring step p plan nodes h orders journals are in
@@ -238,7 +238,7 @@ module _ {S : Type 0} (step : S → Input Msg → Deed Msg S) (p : Params) (plan
       (cases_eq u.instance.0 t.instance.0)
 
   -- and its visit is one of the tenancy's
-  record_part : (c : ℕ) → c < p.cubs → (r : Rec) → In r (records_of (journal_of c front)) → HasVisit (schedule_of front) r.tenancy r.visit
+  pub record_part : (c : ℕ) → c < p.cubs → (r : Rec) → In r (records_of (journal_of c front)) → HasVisit (schedule_of front) r.tenancy r.visit
   record_part c small r i =
       let one = fair.schedule step p plan nodes h orders journals are in
       let taken = taken_here c small r i in
@@ -248,7 +248,7 @@ module _ {S : Type 0} (step : S → Input Msg → Deed Msg S) (p : Params) (plan
       let held = one.held c r.visit (beat_at (inputs_of h c) o.at) r.tenancy enters in
       record { holder = slot_held c small r i; first = held.low; last = held.high }
 
-  views_part : ViewsArePart p (moment_at front)
+  pub views_part : ViewsArePart p (moment_at front)
   unfolding moment_at
   views_part c small = chosen (λ (rs : List Rec). AllByRecursion (λ r. IsPart p (moment_at front) r.tenancy r.visit) rs)
       (list_any (λ (e : Entry). is_died e.what) (journal_of c front)) [] (records_of (journal_of c front))

@@ -57,7 +57,7 @@ input_recorded (Take stamp link m) os rs = outs_recorded stamp os rs
 input_recorded (Tick stamp) os rs = outs_recorded stamp os rs
 
 -- a record that is told of was there before or was taken
-one_recorded : (rs : List Rec) (w : What) (r : Rec) → In r (recorded rs w) → In r rs ⊎ (w ≡ what.Took r)
+pub one_recorded : (rs : List Rec) (w : What) (r : Rec) → In r (recorded rs w) → In r rs ⊎ (w ≡ what.Took r)
 one_recorded rs (what.Took q) r i = ⊎_elim
     (λ k. inl k)
     (λ k. inr (⊎_elim (λ e. ap (λ (x : Rec). what.Took x) (sym e)) (λ n. absurd n) k))
@@ -76,7 +76,7 @@ pub was_taken : (es : List Entry) (r : Rec) → In r (records_of es) → (e : En
 was_taken es r i = ⊎_elim (λ n. absurd n) (λ k. k) (recorded_from es [] r (subst (λ (l : List Rec). In r l) (records_after [] es) i))
 
 module _ {S : Type 0} (step : S → Input Msg → Deed Msg S) (p : Params) (plan : IsPlan p) (nodes : ℕ) (h : History Msg S) (quiet : IsCalmHistory step p nodes h) (c : ℕ) (small : c < p.cubs) where
-  records_next : (i : ℕ) → i < h.count c → records_of (so_far step h c (suc i)) ≡ recorded_by (outs_at p c (inputs_of h c) i) (records_of (so_far step h c i))
+  pub records_next : (i : ℕ) → i < h.count c → records_of (so_far step h c (suc i)) ≡ recorded_by (outs_at p c (inputs_of h c) i) (records_of (so_far step h c i))
   records_next i low =
       let old : List Entry = so_far step h c i in
       ap records_of (one_event_more step h c i)

@@ -46,24 +46,24 @@ get_below (z ∷ zs) zero x e = omega arith
 get_below (z ∷ zs) (suc k) x e = let r = get_below zs k x e in omega arith
 
 -- a message by its event
-take_item : (e : NodeEvent Msg) (stamp : Stamp) (link : LinkNo) (m n : Msg) → e ≡ Does (Take stamp link n) → m ≡ n → input_of e ≡ Take stamp link m
+pub take_item : (e : NodeEvent Msg) (stamp : Stamp) (link : LinkNo) (m n : Msg) → e ≡ Does (Take stamp link n) → m ≡ n → input_of e ≡ Take stamp link m
 take_item e stamp link m n is same = ap input_of is ∙ ap (λ (q : Msg). Take stamp link q) (sym same)
 
 -- a tick sends no deschedule
-no_tick_stop : (p : Params) (c : ℕ) → IsPlan p → c < p.cubs → (stamp : Stamp) (h : Store) (link : LinkNo) (v : Instance) (tag : Option Tag)
+pub no_tick_stop : (p : Params) (c : ℕ) → IsPlan p → c < p.cubs → (stamp : Stamp) (h : Store) (link : LinkNo) (v : Instance) (tag : Option Tag)
     → In (out.Send link (msg.Deschedule v tag)) (ticking p c stamp h).outs → ⊥
 no_tick_stop p c plan here stamp h link v tag k = tick_meek p c plan here stamp h link (msg.Deschedule v tag) (λ q. q) (λ q. q) (λ s e. absurd (cc)) k
 
-no_input_stop : (p : Params) (c : ℕ) → IsPlan p → c < p.cubs → (i : Input Msg) (h : Store) (link : LinkNo) (v : Instance) (tag : Option Tag) → is_tick_input i ≡ true
+pub no_input_stop : (p : Params) (c : ℕ) → IsPlan p → c < p.cubs → (i : Input Msg) (h : Store) (link : LinkNo) (v : Instance) (tag : Option Tag) → is_tick_input i ≡ true
     → In (out.Send link (msg.Deschedule v tag)) (deed_of p c i h).outs → ⊥
 no_input_stop p c plan here (Take stamp way m) h link v tag t k = absurd (cc)
 no_input_stop p c plan here (Tick stamp) h link v tag t k = no_tick_stop p c plan here stamp h link v tag k
 
 module _ {S : Type 0} (step : S → Input Msg → Deed Msg S) (p : Params) (plan : IsPlan p) (nodes : ℕ) (h : History Msg S) (of : IsHistoryOfCubs step p nodes h) where
-  event_is : (c i : ℕ) → c < p.cubs → i < h.count c → h.event c i ≡ Does ((lives_of h).input c i)
+  pub event_is : (c i : ℕ) → c < p.cubs → i < h.count c → h.event c i ≡ Does ((lives_of h).input c i)
   event_is c i small low = does_it (h.event c i) (of.alive c i small low)
 
-  beat_same : (c i : ℕ) → beat h c i ≡ beat_at ((lives_of h).input c) i
+  pub beat_same : (c i : ℕ) → beat h c i ≡ beat_at ((lives_of h).input c) i
   beat_same c i = ap (λ (x : Stamp). x.beat) (stamp_same (h.event c i))
 
   -- what a cub takes was sent, and is in form
@@ -82,14 +82,14 @@ module _ {S : Type 0} (step : S → Input Msg → Deed Msg S) (p : Params) (plan
       (all_in (IsAllowed noted p n.0) (out.Send r.0 m) (outs noted step h n.0 s.at) (of.run.fair n.0 s.at n.1 s.before) r.2).1
 
   -- a note of a lower number on the same link was taken before
-  record TakenBefore (c i l : ℕ) (m : Msg) : Type 0 where
+  pub record TakenBefore (c i l : ℕ) (m : Msg) : Type 0 where
     at : ℕ
     before : at < i
     stamp : Stamp
     link : LinkNo
     is : (lives_of h).input c at ≡ Take stamp link m
 
-  note_same : (a c l w k i when now : ℕ) (m n : Msg) → CameOn noted step p nodes h c w (takes w h c i) now n → w ≡ l → takes l h c i ≡ k → ends_of (links_of p) l ≡ Some (a, c)
+  pub note_same : (a c l w k i when now : ℕ) (m n : Msg) → CameOn noted step p nodes h c w (takes w h c i) now n → w ≡ l → takes l h c i ≡ k → ends_of (links_of p) l ≡ Some (a, c)
       → slice_get (sent noted step l h a (h.count a)) k ≡ Some (record { beat = when; item = m }) → m ≡ n
   note_same a c l w k i when now m n came link number ends there =
       let from_same : came.from ≡ a = (same_ends came.from c a c (sym came.ends ∙ ap (λ x. ends_of (links_of p) x) link ∙ ends)).0 in
@@ -99,7 +99,7 @@ module _ {S : Type 0} (step : S → Input Msg → Deed Msg S) (p : Params) (plan
       (subst (λ x. slice_get (sent noted step x h came.from (h.count came.from)) (takes x h c i) ≡ Some (record { beat = came.when; item = n })) link came.was_sent)) in
       ap (λ (q : Dated Msg). q.item) (same_dated (record { beat = when; item = m }) (record { beat = came.when; item = n }) (sym there ∙ slot))
 
-  taken_before : (a c i l k when : ℕ) (m : Msg) → c < p.cubs → i ≤ h.count c → ends_of (links_of p) l ≡ Some (a, c)
+  pub taken_before : (a c i l k when : ℕ) (m : Msg) → c < p.cubs → i ≤ h.count c → ends_of (links_of p) l ≡ Some (a, c)
       → slice_get (sent noted step l h a (h.count a)) k ≡ Some (record { beat = when; item = m }) → k < takes l h c i → TakenBefore c i l m
   taken_before a c i l k when m small low ends there below =
       let wide = of.all_cubs in
@@ -116,7 +116,7 @@ module _ {S : Type 0} (step : S → Input Msg → Deed Msg S) (p : Params) (plan
       }
 
   -- what a cub sent before an input, on a link of which all that was sent till then was taken, was taken
-  sent_before : (a c i l at j : ℕ) (m : Msg) (way : LinkNo) → c < p.cubs → i ≤ h.count c → ends_of (links_of p) l ≡ Some (a, c) → at < h.count a
+  pub sent_before : (a c i l at j : ℕ) (m : Msg) (way : LinkNo) → c < p.cubs → i ≤ h.count c → ends_of (links_of p) l ≡ Some (a, c) → at < h.count a
       → length (sent noted step l h a at) ≤ takes l h c i → j < at → way.0 ≡ l → In (out.Send way m) (outs noted step h a j) → TakenBefore c i l m
   sent_before a c i l at j m way there low ends done long before same did =
       let note : Dated Msg = record { beat = beat h a j; item = m } in
@@ -127,7 +127,7 @@ module _ {S : Type 0} (step : S → Input Msg → Deed Msg S) (p : Params) (plan
       taken_before a c i l number (beat h a j) m there low ends (sent-stays noted step l h a (suc j) (h.count a) number note (omega arith) one) (omega arith)
 
   -- a cub sends a state at a tick, to one of the next two cubs
-  record StateSent (a at c l : ℕ) (s : State) : Type 0 where
+  pub record StateSent (a at c l : ℕ) (s : State) : Type 0 where
     ahead : ℕ
     next : (ahead ≡ 1) ⊎ (ahead ≡ 2)
     way : (way_ahead p a ahead).0 ≡ l
@@ -135,7 +135,7 @@ module _ {S : Type 0} (step : S → Input Msg → Deed Msg S) (p : Params) (plan
     tick : is_tick_input ((lives_of h).input a at) ≡ true
     did : In (out.Send (way_ahead p a ahead) (msg.ViewerState s)) (outs_at p a ((lives_of h).input a) at)
 
-  state_sent : (a at c l : ℕ) (way : LinkNo) (s : State) → a < p.cubs → at < h.count a → way.0 ≡ l → ends_of (links_of p) l ≡ Some (a, c)
+  pub state_sent : (a at c l : ℕ) (way : LinkNo) (s : State) → a < p.cubs → at < h.count a → way.0 ≡ l → ends_of (links_of p) l ≡ Some (a, c)
       → In (out.Send way (msg.ViewerState s)) (outs noted step h a at) → StateSent a at c l s
   state_sent a at c l way s own done same ends there =
       let inputs : ℕ → Input Msg = (lives_of h).input a in
@@ -152,7 +152,7 @@ module _ {S : Type 0} (step : S → Input Msg → Deed Msg S) (p : Params) (plan
       }
 
   -- a deschedule that it sent on the same link by that tick's beat was taken before
-  told_before : (lived : AreLives p (lives_of h)) (a c i l at k v s q x : ℕ) → a < p.cubs → c < p.cubs → i ≤ h.count c → ends_of (links_of p) l ≡ Some (a, c) → at < h.count a
+  pub told_before : (lived : AreLives p (lives_of h)) (a c i l at k v s q x : ℕ) → a < p.cubs → c < p.cubs → i ≤ h.count c → ends_of (links_of p) l ≡ Some (a, c) → at < h.count a
       → length (sent noted step l h a at) ≤ takes l h c i → is_tick_input ((lives_of h).input a at) ≡ true → (way_ahead p a k).0 ≡ l → ToldAt p (lives_of h) a k v s q x
       → x ≤ beat_at ((lives_of h).input a) at → GotTagBefore (lives_of h) c i v s q
   told_before lived a c i l at k v s q x own small low ends done long tick way told le =
@@ -171,7 +171,7 @@ module _ {S : Type 0} (step : S → Input Msg → Deed Msg S) (p : Params) (plan
       let g = sent_before a c i l at d.at m (way_ahead p a k) small low ends done long before way there in
       record { at = g.at; before = g.before; stamp = g.stamp; link = g.link; instance = told.instance; same = told.same; tag = told.tag; slot = told.slot; visit = told.visit; is = g.is }
 
-  state_in_order : (lived : AreLives p (lives_of h)) (a c i l at y when : ℕ) (t : Tenancy) (m : ℕ) → a < p.cubs → c < p.cubs → i ≤ h.count c → ends_of (links_of p) l ≡ Some (a, c) → at < h.count a
+  pub state_in_order : (lived : AreLives p (lives_of h)) (a c i l at y when : ℕ) (t : Tenancy) (m : ℕ) → a < p.cubs → c < p.cubs → i ≤ h.count c → ends_of (links_of p) l ≡ Some (a, c) → at < h.count a
       → length (sent noted step l h a at) ≤ takes l h c i → when ≡ beat h a at → when < y → y ≤ when + p.delay → StateSent a at c l (record { tenancy = t; visit = m })
       → CameInOrder p (lives_of h) c i t m y
   state_in_order lived a c i l at y when t m own small low ends done long same later soon w =
@@ -204,7 +204,7 @@ module _ {S : Type 0} (step : S → Input Msg → Deed Msg S) (p : Params) (plan
       (cases_lt k.from p.cubs)
 
   -- a deschedule without a tag comes behind the start of its instance
-  starts : AreSentBehind step p nodes h → (c j k : ℕ) (s t : Stamp) (l m : LinkNo) (v : Instance) (a : Ask) (x : Bool) → c < p.cubs → j < h.count c → k < h.count c
+  pub starts : AreSentBehind step p nodes h → (c j k : ℕ) (s t : Stamp) (l m : LinkNo) (v : Instance) (a : Ask) (x : Bool) → c < p.cubs → j < h.count c → k < h.count c
       → (lives_of h).input c j ≡ Take s l (msg.Deschedule v None) → (lives_of h).input c k ≡ Take t m (msg.Start a x) → a.instance.0 ≡ v.0 → k < j
   starts ordered c j k s t l m v a x small low high e f same =
       let d = note_taken c j s l (msg.Deschedule v None) small low e in

@@ -43,7 +43,7 @@ use Rattle.stops_held.proofs.Standing.{standing}
 use Rattle.stops_held.proofs.Reaching.{states_formed, stop_by_tick, let_go}
 
 -- the links to the next two cubs are two
-one_way : (p : Params) (a k : ℕ) → IsPlan p → a < p.cubs → (k ≡ 1) ⊎ (k ≡ 2) → way_ahead p a k ≡ way_ahead p a 1 → k ≡ 1
+pub one_way : (p : Params) (a k : ℕ) → IsPlan p → a < p.cubs → (k ≡ 1) ⊎ (k ≡ 2) → way_ahead p a k ≡ way_ahead p a 1 → k ≡ 1
 one_way p a k plan small ahead same = ⊎_elim
     (λ e. e)
     (λ e.
@@ -57,7 +57,7 @@ one_way p a k plan small ahead same = ⊎_elim
 
 module _ (p : Params) (plan : IsPlan p) (lives : Lives) (outside : Outside) (order : AreInOrder p lives outside) where
   -- a record that goes out in a tick: it was taken, behind each deschedule of its instance, and till now it was too early for it, or it came now
-  record Came (c i : ℕ) (z : Rec) : Type 0 where
+  pub record Came (c i : ℕ) (z : Rec) : Type 0 where
     at : ℕ
     by : at ≤ i
     taken : In (taken_out z) (outs_at p c (lives.input c) at)
@@ -65,10 +65,10 @@ module _ (p : Params) (plan : IsPlan p) (lives : Lives) (outside : Outside) (ord
     fresh : (beat_at (lives.input c) at ≡ beat_at (lives.input c) i) ⊎ WasEarly p (facts_of p lives outside) c z.tenancy (z.visit + 1) (beat_at (lives.input c) i)
 
   -- at no tick since was it to be forwarded
-  abbrev IsIdle : ℕ → ℕ → ℕ → Rec → Type 0
+  abbrev pub IsIdle : ℕ → ℕ → ℕ → Rec → Type 0
   IsIdle c at i z = (k : ℕ) (stamp : Stamp) → at ≤ k → k < i → lives.input c k ≡ Tick stamp → must_forward p stamp z ≡ false
 
-  early : (c i at : ℕ) (z : Rec) → c < p.cubs → i < lives.count c → at < i → is_own z.kind ≡ true → z.visit < z.tenancy.last → IsIdle c at i z
+  pub early : (c i at : ℕ) (z : Rec) → c < p.cubs → i < lives.count c → at < i → is_own z.kind ≡ true → z.visit < z.tenancy.last → IsIdle c at i z
       → beat_at (lives.input c) at < beat_at (lives.input c) i → WasEarly p (facts_of p lives outside) c z.tenancy (z.visit + 1) (beat_at (lives.input c) i)
   early c i at z small low before own more idle less =
       let inputs : ℕ → Input Msg = lives.input c in
@@ -89,7 +89,7 @@ module _ (p : Params) (plan : IsPlan p) (lives : Lives) (outside : Outside) (ord
         early = forward_early p s.0 z own more (idle t.at s.0 from tb s.1);
       }
 
-  came : (c i : ℕ) (z : Rec) (stamp : Stamp) → (small : c < p.cubs) → (low : i < lives.count c) → lives.input c i ≡ Tick stamp → is_own z.kind ≡ true → z.visit < z.tenancy.last
+  pub came : (c i : ℕ) (z : Rec) (stamp : Stamp) → (small : c < p.cubs) → (low : i < lives.count c) → lives.input c i ≡ Tick stamp → is_own z.kind ≡ true → z.visit < z.tenancy.last
       → ((x : Line) × In x (store_at p c (lives.input c) i).view.lines × (x.rec ≡ z) × (x.forwarded ≡ false)) ⊎ In (taken_out z) (ticking p c stamp (store_at p c (lives.input c) i)).outs
       → Came c i z
   came c i z stamp small low tick own more how =
@@ -111,7 +111,7 @@ module _ (p : Params) (plan : IsPlan p) (lives : Lives) (outside : Outside) (ord
       how
 
   -- a forwarded state, of the record's own next visit
-  goes_on : (a i : ℕ) (z : Rec) (stamp : Stamp) → (small : a < p.cubs) → (low : i < lives.count a) → lives.input a i ≡ Tick stamp → must_forward p stamp z ≡ true → a ≡ cub_of p z.visit
+  pub goes_on : (a i : ℕ) (z : Rec) (stamp : Stamp) → (small : a < p.cubs) → (low : i < lives.count a) → lives.input a i ≡ Tick stamp → must_forward p stamp z ≡ true → a ≡ cub_of p z.visit
       → ((x : Line) × In x (store_at p a (lives.input a) i).view.lines × (x.rec ≡ z) × (x.forwarded ≡ false)) ⊎ In (taken_out z) (ticking p a stamp (store_at p a (lives.input a) i)).outs
       → Goes p (facts_of p lives outside) a z.tenancy (z.visit + 1) (beat_at (lives.input a) i)
   goes_on a i z stamp small low tick must own how =

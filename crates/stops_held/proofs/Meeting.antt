@@ -36,15 +36,15 @@ use Rattle.stops_held.proofs.Standing.{standing}
 use Rattle.stops_held.proofs.Reaching.{states_formed, stop_below, let_go}
 
 -- who is given a record stands beside the state's visit
-given_beside : (p : Params) (c : ℕ) (t : Tenancy) (m n : ℕ) → IsGiven p c t m n → IsBeside p c m
+pub given_beside : (p : Params) (c : ℕ) (t : Tenancy) (m n : ℕ) → IsGiven p c t m n → IsBeside p c m
 given_beside p c t m n given = ⊎_elim (λ g. g.1) (λ g. inr (g.2 ∙ ap (λ k. cub_of p k) g.0)) given
 
-rec_made : (q : Rec) (n : ℕ) → q.visit ≡ n → q ≡ record { tenancy = q.tenancy; visit = n; kind = q.kind }
+pub rec_made : (q : Rec) (n : ℕ) → q.visit ≡ n → q ≡ record { tenancy = q.tenancy; visit = n; kind = q.kind }
 rec_made q n e = ap (λ (m : ℕ). record { tenancy = q.tenancy; visit = m; kind = q.kind }) e
 
 module _ (p : Params) (plan : IsPlan p) (lives : Lives) (outside : Outside) (controller : Controller) (order : AreInOrder p lives outside) where
   -- who has a place where a record of a state goes: one that was taken, behind each deschedule of its instance that came before
-  found_at : (c i at y s n : ℕ) (t : Tenancy) (m : ℕ) (q : Rec) → (came : CameInOrder p lives c i t m y) → c < p.cubs → i < lives.count c → is_tick_input (lives.input c i) ≡ false
+  pub found_at : (c i at y s n : ℕ) (t : Tenancy) (m : ℕ) (q : Rec) → (came : CameInOrder p lives c i t m y) → c < p.cubs → i < lives.count c → is_tick_input (lives.input c i) ≡ false
       → beat_at (lives.input c) i ≡ y → at ≤ i → In (taken_out q) (outs_at p c (lives.input c) at) → q.tenancy.slot.0 ≡ s → q.visit ≡ n
       → ((j : ℕ) → j < i → IsStop p c (lives.input c) j q.tenancy.instance.0 → j < at)
       → Found p (facts_of p lives outside) (stop_facts_of p lives controller) c s n y came.from came.ahead came.beat
@@ -85,7 +85,7 @@ module _ (p : Params) (plan : IsPlan p) (lives : Lives) (outside : Outside) (con
       }
 
   -- a state of an instance that is held passes it on, or it was passed on in this hold
-  held_passing : (c i : ℕ) (stamp : Stamp) (link : LinkNo) (s : State) (k : Key) → (small : c < p.cubs) → i < lives.count c → lives.input c i ≡ Take stamp link (msg.ViewerState s)
+  pub held_passing : (c i : ℕ) (stamp : Stamp) (link : LinkNo) (s : State) (k : Key) → (small : c < p.cubs) → i < lives.count c → lives.input c i ≡ Take stamp link (msg.ViewerState s)
       → is_visit_of s.tenancy s.visit ≡ true → position_at p c s.tenancy.slot s.visit ≡ Some k → is_held (store_at p c (lives.input c) i).held s.tenancy.instance ≡ true
       → PassingBy p c (lives.count c) (lives.input c) (order.formed c small) i s.tenancy.instance.0
   held_passing c i stamp link s k small low is visit at held =

@@ -29,7 +29,7 @@ module _ (p : Params) (plan : IsPlan p) (lives : Lives) (outside : Outside) (ord
   pub states_formed : AreFormed p lives
   states_formed c i stamp link s small low is = order.formed c small i stamp link (msg.ViewerState s) low is
 
-  stop_in : (c v b : ℕ) → (g : ReachedAt p lives c v b) → IsStop p c (lives.input c) g.took.at v
+  pub stop_in : (c v b : ℕ) → (g : ReachedAt p lives c v b) → IsStop p c (lives.input c) g.took.at v
   stop_in c v b g =
       let t = g.took in
       record { stamp = record { beat = b; reading = t.reading }; link = t.link; instance = g.instance; tag = g.tag; is = t.is; same = g.same }

@@ -39,23 +39,23 @@ use Rattle.stops_laws.proofs.Persist.{IsReleased, held_since}
 use Rattle.stops_laws.proofs.Starts.{queued_released}
 
 -- a deschedule leaves no line of its instance
-start_lines : (v : Instance) (h : Store) → (dropping_start v h).state.view.lines ≡ h.view.lines
+pub start_lines : (v : Instance) (h : Store) → (dropping_start v h).state.view.lines ≡ h.view.lines
 unfolding dropping_start
 start_lines v h = refl
 
-pieces_lines : (v : Instance) (h : Store) → (dropping_pieces v h).state.view.lines ≡ h.view.lines
+pub pieces_lines : (v : Instance) (h : Store) → (dropping_pieces v h).state.view.lines ≡ h.view.lines
 unfolding dropping_pieces
 pieces_lines v h = refl
 
-splits_lines : (p : Params) (c : ℕ) (v : Instance) (h : Store) → (killing_splits p c v h).state.view.lines ≡ h.view.lines
+pub splits_lines : (p : Params) (c : ℕ) (v : Instance) (h : Store) → (killing_splits p c v h).state.view.lines ≡ h.view.lines
 unfolding killing_splits
 splits_lines p c v h = refl
 
-lines_dropped : (v : Instance) (h : Store) (y : Line) → In y (dropping_lines v h).state.view.lines → y.rec.tenancy.instance.0 ≡ v.0 → ⊥
+pub lines_dropped : (v : Instance) (h : Store) (y : Line) → In y (dropping_lines v h).state.view.lines → y.rec.tenancy.instance.0 ≡ v.0 → ⊥
 unfolding dropping_lines without_instance
 lines_dropped v h y i e = no_both (from_filter (λ x. not (lines.is_of v x)) y h.view.lines i).1 (ap not (eq-eqb y.rec.tenancy.instance.0 v.0 e))
 
-descheduling_leaves : (p : Params) (c : ℕ) (stamp : Stamp) (v : Instance) (tag : Option Tag) (h : Store) (y : Line) → In y (descheduling p c stamp v tag h).state.view.lines
+pub descheduling_leaves : (p : Params) (c : ℕ) (stamp : Stamp) (v : Instance) (tag : Option Tag) (h : Store) (y : Line) → In y (descheduling p c stamp v tag h).state.view.lines
     → y.rec.tenancy.instance.0 ≡ v.0 → ⊥
 unfolding descheduling
 descheduling_leaves p c stamp v tag h y i e =
@@ -68,7 +68,7 @@ descheduling_leaves p c stamp v tag h y i e =
 -- of one cub's life
 module _ (p : Params) (c : ℕ) (plan : IsPlan p) (here : c < p.cubs) (count : ℕ) (inputs : ℕ → Input Msg) (formed : IsFormed p count inputs) where
   -- who is put waited
-  waited : (i : ℕ) (stamp : Stamp) (t : Tenancy) → In (put_out t) (inserting p c stamp (before_inserting p c stamp (store_at p c inputs i))).outs
+  pub waited : (i : ℕ) (stamp : Stamp) (t : Tenancy) → In (put_out t) (inserting p c stamp (before_inserting p c stamp (store_at p c inputs i))).outs
       → (a : Ask) × IsQueued a (store_at p c inputs i).starts × (a.instance ≡ t.instance)
   waited i stamp t k =
       let h : Store = store_at p c inputs i in
@@ -107,10 +107,10 @@ module _ (p : Params) (c : ℕ) (plan : IsPlan p) (here : c < p.cubs) (count : �
     pub since : (j : ℕ) → j < i → IsStop p c inputs j y.rec.tenancy.instance.0 → j < at
     pub early : y.forwarded ≡ false → (k : ℕ) (stamp : Stamp) → at ≤ k → k < i → inputs k ≡ Tick stamp → must_forward p stamp y.rec ≡ false
 
-  idle_now : (i : ℕ) (stamp : Stamp) (y : Line) → inputs i ≡ Tick stamp → In y (store_at p c inputs (suc i)).view.lines → y.forwarded ≡ false → must_forward p stamp y.rec ≡ false
+  pub idle_now : (i : ℕ) (stamp : Stamp) (y : Line) → inputs i ≡ Tick stamp → In y (store_at p c inputs (suc i)).view.lines → y.forwarded ≡ false → must_forward p stamp y.rec ≡ false
   idle_now i stamp y e h mark = ⊎_elim (λ f. absurd (no_both f mark)) (λ f. f) (settled p c plan here inputs i stamp y e h)
 
-  gone : (i j : ℕ) (y : Line) → i < count → j ≡ i → In y (store_at p c inputs (suc i)).view.lines → IsStop p c inputs j y.rec.tenancy.instance.0 → ⊥
+  pub gone : (i j : ℕ) (y : Line) → i < count → j ≡ i → In y (store_at p c inputs (suc i)).view.lines → IsStop p c inputs j y.rec.tenancy.instance.0 → ⊥
   gone i j y low e k stop =
       let h : Store = store_at p c inputs i in
       let s : IsStop p c inputs i y.rec.tenancy.instance.0 = subst (λ (n : ℕ). IsStop p c inputs n y.rec.tenancy.instance.0) e stop in

@@ -37,20 +37,20 @@ use Rattle.stops_held.proofs.Standing.{put_waited, standing}
 use Rattle.stops_held.proofs.Reaching.{states_formed, stop_by_tick, let_go}
 
 -- a message of a tick's beat or a lower one comes before the tick
-message_first : (j i : ℕ) (inputs : ℕ → Input Msg) → is_tick_input (inputs i) ≡ true → is_tick_input (inputs j) ≡ false → j ≤ i → j < i
+pub message_first : (j i : ℕ) (inputs : ℕ → Input Msg) → is_tick_input (inputs i) ≡ true → is_tick_input (inputs j) ≡ false → j ≤ i → j < i
 message_first j i inputs tick message by = ⊎_elim
     (λ (e : j ≡ i). let z : true ≡ false = sym tick ∙ ap (λ k. is_tick_input (inputs k)) (sym e) ∙ message in absurd (cc))
     (λ (l : j < i). l)
     (eq-or-lt_of_le by)
 
 -- a record that is another's stands where that does
-same_slot : (q r : Rec) (s : ℕ) → q ≡ r → r.tenancy.slot.0 ≡ s → q.tenancy.slot.0 ≡ s
+pub same_slot : (q r : Rec) (s : ℕ) → q ≡ r → r.tenancy.slot.0 ≡ s → q.tenancy.slot.0 ≡ s
 same_slot q r s e f = ap (λ (z : Rec). z.tenancy.slot.0) e ∙ f
 
-same_visit : (q r : Rec) (n : ℕ) → q ≡ r → r.visit ≡ n → q.visit ≡ n
+pub same_visit : (q r : Rec) (n : ℕ) → q ≡ r → r.visit ≡ n → q.visit ≡ n
 same_visit q r n e f = ap (λ (z : Rec). z.visit) e ∙ f
 
-same_due : (p : Params) (q : Rec) (s n : ℕ) → q.tenancy.slot.0 ≡ s → q.visit ≡ n → due p q.tenancy.slot.0 q.visit ≡ due p s n
+pub same_due : (p : Params) (q : Rec) (s n : ℕ) → q.tenancy.slot.0 ≡ s → q.visit ≡ n → due p q.tenancy.slot.0 q.visit ≡ due p s n
 same_due p q s n e f = ap (λ k. due p k q.visit) e ∙ ap (λ k. due p s k) f
 
 module _ (p : Params) (plan : IsPlan p) (lives : Lives) (outside : Outside) (order : AreInOrder p lives outside) where
@@ -85,11 +85,11 @@ module _ (p : Params) (plan : IsPlan p) (lives : Lives) (outside : Outside) (ord
       (queued_since p c inputs d.at (suc w.at) q.0 before q.1))
       (cases_lt x y)
 
-  at_visit : {c b : ℕ} (t : Tenancy) (k n : ℕ) → k ≡ n → Entered (facts_of p lives outside) c t k b → Entered (facts_of p lives outside) c t n b
+  pub at_visit : {c b : ℕ} (t : Tenancy) (k n : ℕ) → k ≡ n → Entered (facts_of p lives outside) c t k b → Entered (facts_of p lives outside) c t n b
   at_visit {c} {b} t k n e w = subst (λ m. Entered (facts_of p lives outside) c t m b) e w
 
   -- while a start waits no visit of its disk in the window is free
-  stands : (c b l s n : ℕ) (w : TickedAt p lives c b l) → s < p.slots → IsInWindow p l s n → IsFull p l (disk_of p n) (inserting p c (record { beat = b; reading = l }) (before_inserting p c (record { beat = b; reading = l }) (store_at p c (lives.input c) w.at))).state.view.lines
+  pub stands : (c b l s n : ℕ) (w : TickedAt p lives c b l) → s < p.slots → IsInWindow p l s n → IsFull p l (disk_of p n) (inserting p c (record { beat = b; reading = l }) (before_inserting p c (record { beat = b; reading = l }) (store_at p c (lives.input c) w.at))).state.view.lines
       → StandsYet p (facts_of p lives outside) c s n b
   stands c b l s n w slot window full =
       let inputs : ℕ → Input Msg = lives.input c in

@@ -68,11 +68,11 @@ module _ (p : Params) (c : ℕ) (inputs : ℕ → Input Msg) where
     pub passed : x.passed ≡ true → PassedIn at i x.instance.0
     pub unpassed : x.passed ≡ false → (k : ℕ) → at ≤ k → k < i → IsPassing k x.instance.0 → ⊥
 
-  later_passed : {j i v : ℕ} → PassedIn j i v → PassedIn j (suc i) v
+  pub later_passed : {j i v : ℕ} → PassedIn j i v → PassedIn j (suc i) v
   later_passed k = let b = k.before in record { at = k.at; from = k.from; before = omega arith; passing = k.passing }
 
   -- at an input that does not pass it on, and at one that does
-  begun_more : {i : ℕ} {x : Holding} → Begun i x → (IsPassing i x.instance.0 → ⊥) → Begun (suc i) x
+  pub begun_more : {i : ℕ} {x : Holding} → Begun i x → (IsPassing i x.instance.0 → ⊥) → Begun (suc i) x
   begun_more {i} {x} b none =
       let before = b.before in
       record {
@@ -85,7 +85,7 @@ module _ (p : Params) (c : ℕ) (inputs : ℕ → Input Msg) where
         unpassed = λ e k from low q. ⊎_elim (λ (same : k ≡ i). none (subst (λ (w : ℕ). IsPassing w x.instance.0) same q)) (λ (l : k < i). b.unpassed e k from l q) (eq-or-lt_of_le (let le : k ≤ i = omega arith in le));
       }
 
-  begun_marked : {i : ℕ} {x : Holding} → Begun i x → IsPassing i x.instance.0 → Begun (suc i) (record x { passed = true })
+  pub begun_marked : {i : ℕ} {x : Holding} → Begun i x → IsPassing i x.instance.0 → Begun (suc i) (record x { passed = true })
   begun_marked {i} {x} b now =
       let before = b.before in
       record {
@@ -99,7 +99,7 @@ module _ (p : Params) (c : ℕ) (inputs : ℕ → Input Msg) where
       }
 
   -- a holding that begins
-  begun_new : {i : ℕ} {stamp : Stamp} {link : LinkNo} {v : Instance} {tag : Option Tag} → inputs i ≡ Take stamp link (msg.Deschedule v tag) → is_held (store_at p c inputs i).held v ≡ false
+  pub begun_new : {i : ℕ} {stamp : Stamp} {link : LinkNo} {v : Instance} {tag : Option Tag} → inputs i ≡ Take stamp link (msg.Deschedule v tag) → is_held (store_at p c inputs i).held v ≡ false
       → (IsPassing i v.0 → ⊥) → Begun (suc i) (record { instance = v; until = stamp.reading + p.hold; passed = false })
   begun_new {i} {stamp} {link} {v} {tag} is unheld none = record {
     at = i;
@@ -111,7 +111,7 @@ module _ (p : Params) (c : ℕ) (inputs : ℕ → Input Msg) where
     unpassed = λ e k from low q. none (subst (λ (w : ℕ). IsPassing w v.0) (let le : k ≡ i = omega arith in le) q);
   }
 
-  begun_new_marked : {i : ℕ} {stamp : Stamp} {link : LinkNo} {v : Instance} {tag : Option Tag} → inputs i ≡ Take stamp link (msg.Deschedule v tag) → is_held (store_at p c inputs i).held v ≡ false
+  pub begun_new_marked : {i : ℕ} {stamp : Stamp} {link : LinkNo} {v : Instance} {tag : Option Tag} → inputs i ≡ Take stamp link (msg.Deschedule v tag) → is_held (store_at p c inputs i).held v ≡ false
       → IsPassing i v.0 → Begun (suc i) (record { instance = v; until = stamp.reading + p.hold; passed = true })
   begun_new_marked {i} {stamp} {link} {v} {tag} is unheld now = record {
     at = i;
@@ -124,7 +124,7 @@ module _ (p : Params) (c : ℕ) (inputs : ℕ → Input Msg) where
   }
 
   -- an input passes on for one instance
-  passing_is : {i v : ℕ} {stamp : Stamp} {link : LinkNo} {m : Msg} (w : Instance) (k : Key) → inputs i ≡ Take stamp link m → PassesOn p c stamp m (store_at p c inputs i) w k
+  pub passing_is : {i v : ℕ} {stamp : Stamp} {link : LinkNo} {m : Msg} (w : Instance) (k : Key) → inputs i ≡ Take stamp link m → PassesOn p c stamp m (store_at p c inputs i) w k
       → IsPassing i v → w.0 ≡ v
   passing_is {i} {v} {stamp} {link} {m} w k is a q =
       let e : Take stamp link m ≡ Take q.stamp q.link q.message = sym is ∙ q.is in
@@ -134,7 +134,7 @@ module _ (p : Params) (c : ℕ) (inputs : ℕ → Input Msg) where
       (subst (λ (n : Msg). PassesOn p c q.stamp n (store_at p c inputs i) q.instance q.key) (sym messages) q.passes) in
       ap (λ (u : Instance). u.0) (one_pass p c stamp m (store_at p c inputs i) w q.instance k q.key a b) ∙ q.same
 
-  no_passing : {i v : ℕ} {stamp : Stamp} {link : LinkNo} {m : Msg} → inputs i ≡ Take stamp link m → ((w : Instance) (k : Key) → PassesOn p c stamp m (store_at p c inputs i) w k → ⊥) → IsPassing i v → ⊥
+  pub no_passing : {i v : ℕ} {stamp : Stamp} {link : LinkNo} {m : Msg} → inputs i ≡ Take stamp link m → ((w : Instance) (k : Key) → PassesOn p c stamp m (store_at p c inputs i) w k → ⊥) → IsPassing i v → ⊥
   no_passing {i} {v} {stamp} {link} {m} is none q =
       let e : Take stamp link m ≡ Take q.stamp q.link q.message = sym is ∙ q.is in
       let stamps : stamp ≡ q.stamp = cc in
@@ -142,11 +142,11 @@ module _ (p : Params) (c : ℕ) (inputs : ℕ → Input Msg) where
       none q.instance q.key (subst (λ (s : Stamp). PassesOn p c s m (store_at p c inputs i) q.instance q.key) (sym stamps)
       (subst (λ (n : Msg). PassesOn p c q.stamp n (store_at p c inputs i) q.instance q.key) (sym messages) q.passes))
 
-  no_tick_passing : {i v : ℕ} {stamp : Stamp} → inputs i ≡ Tick stamp → IsPassing i v → ⊥
+  pub no_tick_passing : {i v : ℕ} {stamp : Stamp} → inputs i ≡ Tick stamp → IsPassing i v → ⊥
   no_tick_passing {i} {v} {stamp} is q = let e : Tick stamp ≡ Take q.stamp q.link q.message = sym is ∙ q.is in absurd (cc)
 
   -- what a message leaves held was begun
-  marked_begun : {i : ℕ} {stamp : Stamp} {link : LinkNo} {m : Msg} {y : Holding} (v : Instance) (k : Key) → inputs i ≡ Take stamp link m → PassesOn p c stamp m (store_at p c inputs i) v k
+  pub marked_begun : {i : ℕ} {stamp : Stamp} {link : LinkNo} {m : Msg} {y : Holding} (v : Instance) (k : Key) → inputs i ≡ Take stamp link m → PassesOn p c stamp m (store_at p c inputs i) v k
       → Begun i y ⊎ IsNewHold p stamp m (store_at p c inputs i) y → Begun (suc i) (once_passed v y)
   marked_begun {i} {stamp} {link} {m} {y} v k is a from =
       let now : (u : ℕ) → v.0 ≡ u → IsPassing i u = λ u e. record { stamp = stamp; link = link; message = m; is = is; instance = v; same = e; key = k; passes = a } in
@@ -164,7 +164,7 @@ module _ (p : Params) (c : ℕ) (inputs : ℕ → Input Msg) where
       (begun_new (is ∙ ap (λ (n : Msg). Take stamp link n) b.is) b.unheld (other b.instance.0 (sym (ap (λ (z : Holding). z.instance.0) b.hold)))))
       from)
 
-  message_begun : (i : ℕ) (stamp : Stamp) (link : LinkNo) (m : Msg) → inputs i ≡ Take stamp link m → is_in_form p (noted m) ≡ true
+  pub message_begun : (i : ℕ) (stamp : Stamp) (link : LinkNo) (m : Msg) → inputs i ≡ Take stamp link m → is_in_form p (noted m) ≡ true
       → ((y : Holding) → In y (store_at p c inputs i).held → Begun i y) → (x : Holding) → In x (taking p c stamp link m (store_at p c inputs i)).state.held → Begun (suc i) x
   message_begun i stamp link m is formed before x k =
       let h : Store = store_at p c inputs i in
@@ -179,14 +179,14 @@ module _ (p : Params) (c : ℕ) (inputs : ℕ → Input Msg) where
       (held_back p stamp m h x (subst (λ (xs : List Holding). In x xs) d.held k)))
       (taking_held p c stamp link m h formed)
 
-  tick_begun : (i : ℕ) (stamp : Stamp) → inputs i ≡ Tick stamp → ((y : Holding) → In y (store_at p c inputs i).held → Begun i y) → (x : Holding)
+  pub tick_begun : (i : ℕ) (stamp : Stamp) → inputs i ≡ Tick stamp → ((y : Holding) → In y (store_at p c inputs i).held → Begun i y) → (x : Holding)
       → In x (ticking p c stamp (store_at p c inputs i)).state.held → Begun (suc i) x
   tick_begun i stamp is before x k =
       let h : Store = store_at p c inputs i in
       let from = from_filter (is_kept stamp.reading) x h.held (subst (λ (xs : List Holding). In x xs) (ticking_held p c stamp h) k) in
       begun_more (before x from.0) (λ q. no_tick_passing is q)
 
-  begun_step : (i : ℕ) (k : Input Msg) → inputs i ≡ k → ((stamp : Stamp) (link : LinkNo) (m : Msg) → k ≡ Take stamp link m → is_in_form p (noted m) ≡ true)
+  pub begun_step : (i : ℕ) (k : Input Msg) → inputs i ≡ k → ((stamp : Stamp) (link : LinkNo) (m : Msg) → k ≡ Take stamp link m → is_in_form p (noted m) ≡ true)
       → ((y : Holding) → In y (store_at p c inputs i).held → Begun i y) → (x : Holding) → In x (deed_of p c k (store_at p c inputs i)).state.held → Begun (suc i) x
   begun_step i (Take stamp link m) is formed before x q = message_begun i stamp link m is (formed stamp link m refl) before x q
   begun_step i (Tick stamp) is formed before x q = tick_begun i stamp is before x q

@@ -20,7 +20,7 @@ use Rattle.stops_laws.proofs.Starts.{inserted}
 
 module _ (p : Params) (plan : IsPlan p) (lives : Lives) (are : AreLives p lives) (formed : AreAllFormed p lives) (outside : Outside) (controller : Controller) where
   -- a deschedule has a tag or none
-  reached_with : (c v y : ℕ) (w : Instance) → w.0 ≡ v → (tag : Option Tag) → TookMessage p lives c (msg.Deschedule w tag) y → ((s q : ℕ) × GotTagAt p lives c v s q y) ⊎ GotBareAt p lives c v y
+  pub reached_with : (c v y : ℕ) (w : Instance) → w.0 ≡ v → (tag : Option Tag) → TookMessage p lives c (msg.Deschedule w tag) y → ((s q : ℕ) × GotTagAt p lives c v s q y) ⊎ GotBareAt p lives c v y
   reached_with c v y w same None took = inr (record { instance = w; same = same; took = took })
   reached_with c v y w same (Some tag) took = inl (tag.slot.0, tag.visit, record { instance = w; same = same; tag = tag; slot = refl; visit = refl; took = took })
 

@@ -46,10 +46,10 @@ use Rattle.stops_laws.proofs.Passing.{held_on}
 use Rattle.stops_laws.proofs.Persist.{IsReleased, held_since, stop_holds}
 
 -- from one position
-same_key : (o : Option Key) (j k : Key) → o ≡ Some j → o ≡ Some k → j ≡ k
+pub same_key : (o : Option Key) (j k : Key) → o ≡ Some j → o ≡ Some k → j ≡ k
 same_key o j k a b = let z : Some j ≡ Some k = sym a ∙ b in cc
 
-one_key : (p : Params) (c : ℕ) (stamp : Stamp) (m : Msg) (h : Store) (v : Instance) (j k : Key) → PassesOn p c stamp m h v j → PassesOn p c stamp m h v k → j ≡ k
+pub one_key : (p : Params) (c : ℕ) (stamp : Stamp) (m : Msg) (h : Store) (v : Instance) (j k : Key) → PassesOn p c stamp m h v j → PassesOn p c stamp m h v k → j ≡ k
 one_key p c stamp (msg.ViewerState s) h v j k a b = same_key _ j k a.1 b.1
 one_key p c stamp (msg.Deschedule u tag) h v j k a b = same_key _ j k a.1 b.1
 one_key p c stamp (msg.Start a redundant) h v j k q b = absurd q
@@ -63,7 +63,7 @@ one_key p c stamp (msg.Whole want sent part) h v j k q b = absurd q
 one_key p c stamp (msg.Piece want sent part) h v j k q b = absurd q
 
 -- what is passed on must be
-must_on : (p : Params) (c : ℕ) (stamp : Stamp) (m : Msg) (h : Store) (v : Instance) (k : Key) → PassesOn p c stamp m h v k → must_pass (held_on p stamp m h) v ≡ true
+pub must_on : (p : Params) (c : ℕ) (stamp : Stamp) (m : Msg) (h : Store) (v : Instance) (k : Key) → PassesOn p c stamp m h v k → must_pass (held_on p stamp m h) v ≡ true
 must_on p c stamp (msg.ViewerState s) h v k a = a.4
 must_on p c stamp (msg.Deschedule u tag) h v k a = subst (λ (w : Instance). must_pass (with_hold h.held w (stamp.reading + p.hold)) v ≡ true) (sym a.0) a.2
 must_on p c stamp (msg.Start a redundant) h v k q = absurd q
@@ -90,7 +90,7 @@ beside_position p c s m to =
     (λ g. absurd (⊎_elim (λ e. no_both (eq-eqb _ _ (sym e)) f) (λ e. no_both (eq-eqb _ _ (sym e)) g) to)))
 
 -- at a message no record is taken of an instance that is held
-state_unheld : (p : Params) (c : ℕ) (stamp : Stamp) (link : LinkNo) (s : State) (h : Store) (r : Rec) → is_held h.held s.tenancy.instance ≡ true
+pub state_unheld : (p : Params) (c : ℕ) (stamp : Stamp) (link : LinkNo) (s : State) (h : Store) (r : Rec) → is_held h.held s.tenancy.instance ≡ true
     → In (taken_out r) (taking p c stamp link (msg.ViewerState s) h).outs → ⊥
 unfolding taking hearing meeting_state
 state_unheld p c stamp link s h r held =
@@ -107,7 +107,7 @@ state_unheld p c stamp link s h r held =
         (λ f _. no_both held f)
         i
 
-message_unheld : (p : Params) (c : ℕ) (stamp : Stamp) (link : LinkNo) (m : Msg) (h : Store) (r : Rec) → In (taken_out r) (taking p c stamp link m h).outs → is_held h.held r.tenancy.instance ≡ true → ⊥
+pub message_unheld : (p : Params) (c : ℕ) (stamp : Stamp) (link : LinkNo) (m : Msg) (h : Store) (r : Rec) → In (taken_out r) (taking p c stamp link m h).outs → is_held h.held r.tenancy.instance ≡ true → ⊥
 message_unheld p c stamp link m h r i held =
     let s = (taking_hears p c stamp link m h).only_states r i in
     let j : In (taken_out r) (taking p c stamp link (msg.ViewerState s.0) h).outs = subst (λ (n : Msg). In (taken_out r) (taking p c stamp link n h).outs) s.1 i in
@@ -119,7 +119,7 @@ input_unheld p c (Take stamp link m) h r e i held = message_unheld p c stamp lin
 input_unheld p c (Tick stamp) h r e i held = absurd (cc)
 
 -- one input passes on from one position
-keys_same : (p : Params) (c : ℕ) (inputs : ℕ → Input Msg) (i j v : ℕ) → i ≡ j → (a : IsPassing p c inputs i v) (b : IsPassing p c inputs j v) → a.key ≡ b.key
+pub keys_same : (p : Params) (c : ℕ) (inputs : ℕ → Input Msg) (i j v : ℕ) → i ≡ j → (a : IsPassing p c inputs i v) (b : IsPassing p c inputs j v) → a.key ≡ b.key
 keys_same p c inputs i j v e a b = subst (λ (n : ℕ). (b : IsPassing p c inputs n v) → a.key ≡ b.key) e (λ b. same_input a b) b
   where
     same_input : (a b : IsPassing p c inputs i v) → a.key ≡ b.key
@@ -155,7 +155,7 @@ module _ (p : Params) (c count : ℕ) (inputs : ℕ → Input Msg) (formed : IsF
       (held_back p q.stamp q.message h x.0 x.1)
 
   -- where an instance was not held any more it was released
-  unheld_released : (i j v : ℕ) → j < i → i ≤ count → IsStop p c inputs j v → (w : Instance) → w.0 ≡ v → is_held (store_at p c inputs i).held w ≡ false → IsReleased p c inputs j i v
+  pub unheld_released : (i j v : ℕ) → j < i → i ≤ count → IsStop p c inputs j v → (w : Instance) → w.0 ≡ v → is_held (store_at p c inputs i).held w ≡ false → IsReleased p c inputs j i v
   unheld_released i j v low high s w same free = ⊎_elim
       (λ k. absurd (no_both (in_held w k.holding (store_at p c inputs i).held k.member (k.same ∙ sym same)) free))
       (λ k. k)
@@ -247,7 +247,7 @@ module _ (p : Params) (plan : IsPlan p) (lives : Lives) (are : AreLives p lives)
   beat_of a = ap (λ (k : Input Msg). (stamp_of k).beat) a.is
 
   -- once while the instance is held
-  passes_apart : {c v s q y u m z : ℕ} (a : PassedAt p lives c v s q y) (b : PassedAt p lives c v u m z) → a.at < b.at → IsReleasedBy p (facts_of p lives outside) c v z
+  pub passes_apart : {c v s q y u m z : ℕ} (a : PassedAt p lives c v s q y) (b : PassedAt p lives c v u m z) → a.at < b.at → IsReleasedBy p (facts_of p lives outside) c v z
   passes_apart {c} {v} a b l =
       let r = twice_released p c (lives.count c) (lives.input c) (formed c a.small) b.at a.at v l b.done (passing_at a) (passing_at b) in
       let e = beat_of b in

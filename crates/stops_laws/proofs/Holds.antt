@@ -25,7 +25,7 @@ held_in v (x ∷ xs) e = ⊎_elim
     (λ (t : is_of v x ≡ false). let r = held_in v xs (subst (λ b. (b || is_held xs v) ≡ true) t e) in (r.0, inr r.1, r.2))
     (cases_Bool (is_of v x))
 
-or_true : (b : Bool) → (b || true) ≡ true
+pub or_true : (b : Bool) → (b || true) ≡ true
 or_true true = refl
 or_true false = refl
 

@@ -38,13 +38,13 @@ use Rattle.schedule_laws.proofs.Moves.{is_taken, taken_out}
 abbrev pub Same : Store → Deed Msg Store → Type 0
 Same h d = d.state.held ≡ h.held
 
-same_both : (f g : Store → Deed Msg Store) (h : Store) → Same h (f h) → Same (f h).state (g (f h).state) → Same h (then_do f g h)
+pub same_both : (f g : Store → Deed Msg Store) (h : Store) → Same h (f h) → Same (f h).state (g (f h).state) → Same h (then_do f g h)
 same_both f g h one two = two ∙ one
 
-same_if : (b : Bool) (h : Store) (d e : Deed Msg Store) → Same h d → Same h e → Same h (cond b d e)
+pub same_if : (b : Bool) (h : Store) (d e : Deed Msg Store) → Same h d → Same h e → Same h (cond b d e)
 same_if b h d e one two = chosen (λ (x : Deed Msg Store). Same h x) b d e (λ _. one) (λ _. two)
 
-same_each : {A : Type 0} (f : A → Store → Deed Msg Store) → ((a : A) (h : Store) → Same h (f a h)) → (xs : List A) (h : Store) → Same h (each_in_turn f xs h)
+pub same_each : {A : Type 0} (f : A → Store → Deed Msg Store) → ((a : A) (h : Store) → Same h (f a h)) → (xs : List A) (h : Store) → Same h (each_in_turn f xs h)
 same_each f each [] h = refl
 same_each f each (x ∷ xs) h = same_both (f x) (each_in_turn f xs) h (each x h) (same_each f each xs (f x h).state)
 
@@ -69,7 +69,7 @@ meeting_start_same a redundant h =
     (cond (redundant && not h.believes) (queueing_redundant a h) (queueing a h)) refl
     (same_if (redundant && not h.believes) h (queueing_redundant a h) (queueing a h) refl refl)
 
-with_piece_same : (x : PieceState) (h : Store) → (with_piece_record x h).held ≡ h.held
+pub with_piece_same : (x : PieceState) (h : Store) → (with_piece_record x h).held ≡ h.held
 unfolding with_piece_record
 with_piece_same x h = chosen (λ (s : Store). s.held ≡ h.held) (pieces.is_in x h.pieces.items) h _ (λ _. refl) (λ _. refl)
 
@@ -82,7 +82,7 @@ pub meeting_kill_same : (v : Instance) (visit : ℕ) (h : Store) → Same h (mee
 unfolding meeting_kill
 meeting_kill_same v visit h = refl
 
-storing_same : (want : Want) (part : Option LibraryPart) (h : Store) → Same h (storing want part h)
+pub storing_same : (want : Want) (part : Option LibraryPart) (h : Store) → Same h (storing want part h)
 storing_same want (Some part) h = refl
 storing_same want None h = refl
 
@@ -95,15 +95,15 @@ unfolding hearing_beat
 hearing_beat_same p c stamp link h =
     same_if (link.0 == (way_ahead p (predecessor p c) 1).0) h (record { outs = []; state = record h { watch = record h.watch { heard = stamp.reading } } }) (nothing h) refl refl
 
-dropping_lines_same : (v : Instance) (h : Store) → Same h (dropping_lines v h)
+pub dropping_lines_same : (v : Instance) (h : Store) → Same h (dropping_lines v h)
 unfolding dropping_lines
 dropping_lines_same v h = refl
 
-dropping_pieces_same : (v : Instance) (h : Store) → Same h (dropping_pieces v h)
+pub dropping_pieces_same : (v : Instance) (h : Store) → Same h (dropping_pieces v h)
 unfolding dropping_pieces
 dropping_pieces_same v h = refl
 
-killing_splits_same : (p : Params) (c : ℕ) (v : Instance) (h : Store) → Same h (killing_splits p c v h)
+pub killing_splits_same : (p : Params) (c : ℕ) (v : Instance) (h : Store) → Same h (killing_splits p c v h)
 unfolding killing_splits
 killing_splits_same p c v h = refl
 
@@ -116,7 +116,7 @@ dropping_all_same p c v h =
     (same_both (dropping_pieces v) (killing_splits p c v) h4 (dropping_pieces_same v h4) (killing_splits_same p c v (dropping_pieces v h4).state)))
 
 -- the steps of a tick
-believing_same : (p : Params) (c : ℕ) (stamp : Stamp) (h : Store) → Same h (believing p c stamp h)
+pub believing_same : (p : Params) (c : ℕ) (stamp : Stamp) (h : Store) → Same h (believing p c stamp h)
 unfolding believing
 believing_same p c stamp h =
     let done : Deed Msg Store = record {
@@ -125,39 +125,39 @@ believing_same p c stamp h =
     } in
     same_if (not h.believes && is_silent h.watch stamp.reading) h done (nothing h) refl refl
 
-putting_own_same : (p : Params) (c : ℕ) (t : Tenancy) (h : Store) → Same h (putting_own p c t h)
+pub putting_own_same : (p : Params) (c : ℕ) (t : Tenancy) (h : Store) → Same h (putting_own p c t h)
 unfolding putting_own
 putting_own_same p c t h = took_same (own_of t t.first) (putting t h).state
 
-second_same : (t : Tenancy) (h : Store) → Same h (cond (nat_lt t.first t.last) (took (own_of t (t.first + 1))) nothing h)
+pub second_same : (t : Tenancy) (h : Store) → Same h (cond (nat_lt t.first t.last) (took (own_of t (t.first + 1))) nothing h)
 second_same t h =
     chosen (λ (f : Store → Deed Msg Store). Same h (f h)) (nat_lt t.first t.last) (took (own_of t (t.first + 1))) nothing (λ _. took_same (own_of t (t.first + 1)) h) (λ _. refl)
 
-putting_for_dead_same : (p : Params) (c : ℕ) (t : Tenancy) (h : Store) → Same h (putting_for_dead p c t h)
+pub putting_for_dead_same : (p : Params) (c : ℕ) (t : Tenancy) (h : Store) → Same h (putting_for_dead p c t h)
 unfolding putting_for_dead
 putting_for_dead_same p c t h =
     let h1 : Store = (putting t h).state in
     let h2 : Store = (took (backup_of t t.first) h1).state in
     second_same t h2 ∙ took_same (backup_of t t.first) h1
 
-put_or_wait_same : (put : Tenancy → Store → Deed Msg Store) (rest : Store → Deed Msg Store) (a : Ask) (o : Option Key) (h : Store) → ((t : Tenancy) (g : Store) → Same g (put t g))
+pub put_or_wait_same : (put : Tenancy → Store → Deed Msg Store) (rest : Store → Deed Msg Store) (a : Ask) (o : Option Key) (h : Store) → ((t : Tenancy) (g : Store) → Same g (put t g))
     → ((g : Store) → Same g (rest g)) → Same h (put_or_wait put rest a o h)
 put_or_wait_same put rest a None h one two = refl
 put_or_wait_same put rest a (Some k) h one two = same_both (put (tenancy_from a k)) rest h (one (tenancy_from a k) h) (two (put (tenancy_from a k) h).state)
 
-putting_each_same : (p : Params) (reading disk : ℕ) (put : Tenancy → Store → Deed Msg Store) → ((t : Tenancy) (g : Store) → Same g (put t g)) → (asks : List Ask) (h : Store)
+pub putting_each_same : (p : Params) (reading disk : ℕ) (put : Tenancy → Store → Deed Msg Store) → ((t : Tenancy) (g : Store) → Same g (put t g)) → (asks : List Ask) (h : Store)
     → Same h (putting_each put p reading disk asks h)
 unfolding putting_each
 putting_each_same p reading disk put one [] h = refl
 putting_each_same p reading disk put one (a ∷ rest) h =
     put_or_wait_same put (putting_each put p reading disk rest) a (free_on p reading disk h) h one (λ g. putting_each_same p reading disk put one rest g)
 
-putting_on_same : (p : Params) (reading : ℕ) (put : Tenancy → Store → Deed Msg Store) → ((t : Tenancy) (g : Store) → Same g (put t g)) → (disk : ℕ) (h : Store)
+pub putting_on_same : (p : Params) (reading : ℕ) (put : Tenancy → Store → Deed Msg Store) → ((t : Tenancy) (g : Store) → Same g (put t g)) → (disk : ℕ) (h : Store)
     → Same h (putting_on put p reading disk h)
 unfolding putting_on
 putting_on_same p reading put one disk h = putting_each_same p reading disk put one (filter (is_for disk) h.starts.waiting) h
 
-inserting_same : (p : Params) (c : ℕ) (stamp : Stamp) (h : Store) → Same h (inserting p c stamp h)
+pub inserting_same : (p : Params) (c : ℕ) (stamp : Stamp) (h : Store) → Same h (inserting p c stamp h)
 unfolding inserting
 inserting_same p c stamp h =
     let g : Store = (inserting_own p c stamp h).state in
@@ -167,11 +167,11 @@ inserting_same p c stamp h =
     (same_each (putting_on (putting_for_dead p c) p stamp.reading) (putting_on_same p stamp.reading (putting_for_dead p c) (putting_for_dead_same p c)) (disks_at p (predecessor p c)) g)
     refl)
 
-with_pieces_same : (xs : List PieceState) (h : Store) → (with_each with_piece_record xs h).held ≡ h.held
+pub with_pieces_same : (xs : List PieceState) (h : Store) → (with_each with_piece_record xs h).held ≡ h.held
 with_pieces_same [] h = refl
 with_pieces_same (x ∷ xs) h = with_pieces_same xs (with_piece_record x h) ∙ with_piece_same x h
 
-splitting_same : (p : Params) (c : ℕ) (stamp : Stamp) (h : Store) → Same h (splitting p c stamp h)
+pub splitting_same : (p : Params) (c : ℕ) (stamp : Stamp) (h : Store) → Same h (splitting p c stamp h)
 unfolding splitting
 splitting_same p c stamp h =
     let done : Deed Msg Store = record {
@@ -180,23 +180,23 @@ splitting_same p c stamp h =
     } in
     same_if h.believes h done (nothing h) (with_pieces_same (flat_map (first_pieces p stamp) h.view.lines) (with_split_lines p stamp h)) refl
 
-forwarding_same : (p : Params) (c : ℕ) (stamp : Stamp) (h : Store) → Same h (forwarding p c stamp h)
+pub forwarding_same : (p : Params) (c : ℕ) (stamp : Stamp) (h : Store) → Same h (forwarding p c stamp h)
 unfolding forwarding
 forwarding_same p c stamp h = refl
 
-reading_same : (p : Params) (stamp : Stamp) (h : Store) → Same h (reading p stamp h)
+pub reading_same : (p : Params) (stamp : Stamp) (h : Store) → Same h (reading p stamp h)
 unfolding reading reading_blocks reading_pieces
 reading_same p stamp h = refl
 
-serving_same : (p : Params) (c : ℕ) (stamp : Stamp) (h : Store) → Same h (serving p c stamp h)
+pub serving_same : (p : Params) (c : ℕ) (stamp : Stamp) (h : Store) → Same h (serving p c stamp h)
 unfolding serving serving_blocks dropping_backups serving_pieces
 serving_same p c stamp h = refl
 
-beating_same : (p : Params) (c : ℕ) (stamp : Stamp) (h : Store) → Same h (beating p c stamp h)
+pub beating_same : (p : Params) (c : ℕ) (stamp : Stamp) (h : Store) → Same h (beating p c stamp h)
 unfolding beating
 beating_same p c stamp h = same_if _ h _ (nothing h) refl refl
 
-releasing_held : (p : Params) (stamp : Stamp) (h : Store) → (releasing p stamp h).state.held ≡ holds_at h.held stamp.reading
+pub releasing_held : (p : Params) (stamp : Stamp) (h : Store) → (releasing p stamp h).state.held ≡ holds_at h.held stamp.reading
 unfolding releasing
 releasing_held p stamp h = refl
 

@@ -39,25 +39,25 @@ use Rattle.stops_laws.proofs.HoldLaws.{beside_position, no_both}
 use Rattle.stops_laws.proofs.PassLaws.{position_parts, FirstLine, first_line, here_visit, must_added, pass_reached}
 
 -- a hold that begins must be passed on
-must_begin : (xs : List Holding) (v : Instance) (until : ℕ) → is_held xs v ≡ false → must_pass (with_hold xs v until) v ≡ true
+pub must_begin : (xs : List Holding) (v : Instance) (until : ℕ) → is_held xs v ≡ false → must_pass (with_hold xs v until) v ≡ true
 must_begin xs v until free =
     chosen (λ (ys : List Holding). must_pass ys v ≡ true) (is_held xs v) xs (xs ++ record { instance = v; until = until; passed = false } ∷ []) (λ t. absurd (no_both t free)) (λ _. must_added v xs until)
 
 -- a cub stands beside a visit or does not
-beside_or : (p : Params) (c m : ℕ) → IsBeside p c m ⊎ (IsBeside p c m → ⊥)
+pub beside_or : (p : Params) (c m : ℕ) → IsBeside p c m ⊎ (IsBeside p c m → ⊥)
 beside_or p c m = ⊎_elim
     (λ e. inl (inl e))
     (λ n. ⊎_elim (λ e. inl (inr e)) (λ k. inr (λ to. ⊎_elim (λ e. n e) (λ e. k e) to)) (cases_eq c (cub_of p (m + 1))))
     (cases_eq c (cub_of p m))
 
 module _ (p : Params) (plan : IsPlan p) (lives : Lives) (are : AreLives p lives) (formed : (c : ℕ) → c < p.cubs → IsFormed p (lives.count c) (lives.input c)) (outside : Outside) (controller : Controller) where
-  abbrev R : Facts
+  abbrev pub R : Facts
   R = facts_of p lives outside
 
-  abbrev F : StopFacts
+  abbrev pub F : StopFacts
   F = stop_facts_of p lives controller
 
-  abbrev How : ℕ → ℕ → ℕ → ℕ → ℕ → Type 0
+  abbrev pub How : ℕ → ℕ → ℕ → ℕ → ℕ → Type 0
   How c v s q y = (c ≡ cub_of p q) × (ForTag F c v s q y ⊎ (ForRecord R F c v s q y ⊎ ForState p R F c v s q y))
 
   -- a record that was taken has entered
@@ -68,7 +68,7 @@ module _ (p : Params) (plan : IsPlan p) (lives : Lives) (are : AreLives p lives)
       (cases_Bool (is_tick_input (lives.input c i)))
 
   -- from a tag
-  by_tag : (c i s q y l : ℕ) (small : c < p.cubs) (low : i < lives.count c) (link : LinkNo) (w : Instance) (tag : Tag) (k : Key) → lives.input c i ≡ Take (record { beat = y; reading = l }) link (msg.Deschedule w (Some tag))
+  pub by_tag : (c i s q y l : ℕ) (small : c < p.cubs) (low : i < lives.count c) (link : LinkNo) (w : Instance) (tag : Tag) (k : Key) → lives.input c i ≡ Take (record { beat = y; reading = l }) link (msg.Deschedule w (Some tag))
       → k.0.0 ≡ s → k.1 ≡ q → position_at p c tag.slot tag.visit ≡ Some k → How c w.0 s q y
   by_tag c i s q y l small low link w tag k is slot visit at =
       let parts = position_parts p c tag.slot tag.visit k at in (
@@ -81,7 +81,7 @@ module _ (p : Params) (plan : IsPlan p) (lives : Lives) (are : AreLives p lives)
       )
 
   -- from the earliest record
-  by_record : (c i s q y l : ℕ) (small : c < p.cubs) (low : i < lives.count c) (link : LinkNo) (w : Instance) (k : Key) → lives.input c i ≡ Take (record { beat = y; reading = l }) link (msg.Deschedule w None)
+  pub by_record : (c i s q y l : ℕ) (small : c < p.cubs) (low : i < lives.count c) (link : LinkNo) (w : Instance) (k : Key) → lives.input c i ≡ Take (record { beat = y; reading = l }) link (msg.Deschedule w None)
       → k.0.0 ≡ s → k.1 ≡ q → FirstLine w (store_at p c (lives.input c) i).view.lines k → How c w.0 s q y
   by_record c i s q y l small low link w k is slot visit f =
       let inputs : ℕ → Input Msg = lives.input c in
@@ -108,7 +108,7 @@ module _ (p : Params) (plan : IsPlan p) (lives : Lives) (are : AreLives p lives)
       )
 
   -- the hold of a state that is passed on began with a deschedule that gave no position
-  no_position : (c i v y : ℕ) (small : c < p.cubs) → i < lives.count c → beat_at (lives.input c) i ≡ y → (x : Holding) → x.instance.0 ≡ v → x.passed ≡ false → Begun p c (lives.input c) i x
+  pub no_position : (c i v y : ℕ) (small : c < p.cubs) → i < lives.count c → beat_at (lives.input c) i ≡ y → (x : Holding) → x.instance.0 ≡ v → x.passed ≡ false → Begun p c (lives.input c) i x
       → GotBareBy F c v y ⊎ IsStray p F c v y
   no_position c i v y small low eb x same unpassed b =
       let inputs : ℕ → Input Msg = lives.input c in
@@ -158,7 +158,7 @@ module _ (p : Params) (plan : IsPlan p) (lives : Lives) (are : AreLives p lives)
           (beside_or p c tag.visit)
 
   -- from a state that comes later
-  by_state : (c i s q y l : ℕ) (small : c < p.cubs) (low : i < lives.count c) (link : LinkNo) (st : State) (k : Key) → lives.input c i ≡ Take (record { beat = y; reading = l }) link (msg.ViewerState st)
+  pub by_state : (c i s q y l : ℕ) (small : c < p.cubs) (low : i < lives.count c) (link : LinkNo) (st : State) (k : Key) → lives.input c i ≡ Take (record { beat = y; reading = l }) link (msg.ViewerState st)
       → k.0.0 ≡ s → k.1 ≡ q → position_at p c st.tenancy.slot st.visit ≡ Some k → must_pass (store_at p c (lives.input c) i).held st.tenancy.instance ≡ true → How c st.tenancy.instance.0 s q y
   by_state c i s q y l small low link st k is slot visit at must =
       let inputs : ℕ → Input Msg = lives.input c in
@@ -177,7 +177,7 @@ module _ (p : Params) (plan : IsPlan p) (lives : Lives) (are : AreLives p lives)
         })),
       )
 
-  how_of : (c i s q y l : ℕ) (small : c < p.cubs) (low : i < lives.count c) (link : LinkNo) (m : Msg) (w : Instance) (k : Key) → lives.input c i ≡ Take (record { beat = y; reading = l }) link m
+  pub how_of : (c i s q y l : ℕ) (small : c < p.cubs) (low : i < lives.count c) (link : LinkNo) (m : Msg) (w : Instance) (k : Key) → lives.input c i ≡ Take (record { beat = y; reading = l }) link m
       → k.0.0 ≡ s → k.1 ≡ q → PassesOn p c (record { beat = y; reading = l }) m (store_at p c (lives.input c) i) w k → How c w.0 s q y
   how_of c i s q y l small low link (msg.ViewerState st) w k is slot visit a =
       subst (λ (u : Instance). How c u.0 s q y) a.2

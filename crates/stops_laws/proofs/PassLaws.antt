@@ -47,19 +47,19 @@ use Rattle.stops_laws.proofs.HoldLaws.{no_both, stop_of_passing, reached_at, pas
 use Rattle.stops_laws.proofs.Tags.{tag_behind, pass_sends, sent_passes}
 
 -- where a pass is, what it puts out is put out
-state_pass : (p : Params) (c : ℕ) (stamp : Stamp) (link : LinkNo) (s : State) (k : Key) (h : Store) → is_in_form p (noted (msg.ViewerState s)) ≡ true → is_visit_of s.tenancy s.visit ≡ true
+pub state_pass : (p : Params) (c : ℕ) (stamp : Stamp) (link : LinkNo) (s : State) (k : Key) (h : Store) → is_in_form p (noted (msg.ViewerState s)) ≡ true → is_visit_of s.tenancy s.visit ≡ true
     → position_at p c s.tenancy.slot s.visit ≡ Some k → is_held h.held s.tenancy.instance ≡ true → must_pass h.held s.tenancy.instance ≡ true
     → taking p c stamp link (msg.ViewerState s) h ≡ passing_on p c stamp s.tenancy.instance k h
 unfolding taking hearing meeting_state
 state_pass p c stamp link s k h form visit at held must = rw (form, visit, at, held, must) refl
 
-stop_pass : (p : Params) (c : ℕ) (stamp : Stamp) (v : Instance) (tag : Option Tag) (k : Key) (h : Store) → position p c v tag (holding p stamp v h).state.view.lines ≡ Some k
+pub stop_pass : (p : Params) (c : ℕ) (stamp : Stamp) (v : Instance) (tag : Option Tag) (k : Key) (h : Store) → position p c v tag (holding p stamp v h).state.view.lines ≡ Some k
     → must_pass (holding p stamp v h).state.held v ≡ true → passing p c stamp v tag (holding p stamp v h).state ≡ passing_on p c stamp v k (holding p stamp v h).state
 stop_pass p c stamp v tag k h at must =
     ap (λ (o : Option Key). passing_from p c stamp v o (holding p stamp v h).state) at
     ∙ chosen (λ (d : Deed Msg Store). d ≡ passing_on p c stamp v k (holding p stamp v h).state) (must_pass (holding p stamp v h).state.held v) _ (nothing (holding p stamp v h).state) (λ _. refl) (λ f. absurd (no_both must f))
 
-stop_outs : (p : Params) (c : ℕ) (stamp : Stamp) (v : Instance) (tag : Option Tag) (h : Store) (o : Out Msg) → In o (passing p c stamp v tag (holding p stamp v h).state).outs
+pub stop_outs : (p : Params) (c : ℕ) (stamp : Stamp) (v : Instance) (tag : Option Tag) (h : Store) (o : Out Msg) → In o (passing p c stamp v tag (holding p stamp v h).state).outs
     → In o (descheduling p c stamp v tag h).outs
 unfolding descheduling
 stop_outs p c stamp v tag h o i =
@@ -70,7 +70,7 @@ pub stop_taking : (p : Params) (c : ℕ) (stamp : Stamp) (link : LinkNo) (v : In
 unfolding taking hearing
 stop_taking p c stamp link v tag h form = rw form refl
 
-pass_outs : (p : Params) (c : ℕ) (stamp : Stamp) (link : LinkNo) (m : Msg) (h : Store) (v : Instance) (k : Key) → is_in_form p (noted m) ≡ true → PassesOn p c stamp m h v k
+pub pass_outs : (p : Params) (c : ℕ) (stamp : Stamp) (link : LinkNo) (m : Msg) (h : Store) (v : Instance) (k : Key) → is_in_form p (noted m) ≡ true → PassesOn p c stamp m h v k
     → (g : Store) × ((o : Out Msg) → In o (passing_on p c stamp v k g).outs → In o (taking p c stamp link m h).outs)
 pass_outs p c stamp link (msg.ViewerState s) h v k form a =
     let held : is_held h.held s.tenancy.instance ≡ true = subst (λ (w : Instance). is_held h.held w ≡ true) (sym a.2) a.3 in
@@ -93,11 +93,11 @@ pass_outs p c stamp link (msg.ReadAsk want) h v k form a = absurd a
 pass_outs p c stamp link (msg.Whole want sent part) h v k form a = absurd a
 pass_outs p c stamp link (msg.Piece want sent part) h v k form a = absurd a
 
-reached_true : (p : Params) (stamp : Stamp) (s : SlotNo) (n : ℕ) → due p s.0 n ≤ stamp.reading + p.max_lead + 2 * p.play + p.skew → is_reached p stamp s n ≡ true
+pub reached_true : (p : Params) (stamp : Stamp) (s : SlotNo) (n : ℕ) → due p s.0 n ≤ stamp.reading + p.max_lead + 2 * p.play + p.skew → is_reached p stamp s n ≡ true
 unfolding is_reached
 reached_true p stamp s n h = le-leb _ _ h
 
-reached_due : (p : Params) (stamp : Stamp) (s : SlotNo) (n : ℕ) → is_reached p stamp s n ≡ true → due p s.0 n ≤ stamp.reading + p.max_lead + 2 * p.play + p.skew
+pub reached_due : (p : Params) (stamp : Stamp) (s : SlotNo) (n : ℕ) → is_reached p stamp s n ≡ true → due p s.0 n ≤ stamp.reading + p.max_lead + 2 * p.play + p.skew
 unfolding is_reached
 reached_due p stamp s n e = leb-true _ _ e
 
@@ -115,7 +115,7 @@ position_parts p c s m k =
     some_is a b e = cc
 
 -- the first line of an instance is one of its lines
-first_in : (v : Instance) (ls : List Line) (x : Line) → first_of v ls ≡ Some x → In x ls × (x.rec.tenancy.instance.0 ≡ v.0)
+pub first_in : (v : Instance) (ls : List Line) (x : Line) → first_of v ls ≡ Some x → In x ls × (x.rec.tenancy.instance.0 ≡ v.0)
 unfolding first_of
 first_in v [] x e = absurd (cc)
 first_in v (z ∷ zs) x e =
@@ -158,14 +158,14 @@ must_added v (x ∷ xs) until = subst (λ b. ((v_of x && not x.passed) || b) ≡
     or_true false = refl
 
 module _ (p : Params) (plan : IsPlan p) (lives : Lives) (are : AreLives p lives) (formed : (c : ℕ) → c < p.cubs → IsFormed p (lives.count c) (lives.input c)) (outside : Outside) (controller : Controller) where
-  abbrev R : Facts
+  abbrev pub R : Facts
   R = facts_of p lives outside
 
-  abbrev F : StopFacts
+  abbrev pub F : StopFacts
   F = stop_facts_of p lives controller
 
   -- a pass tells the next two cubs, where the states of the next visit may be on their way
-  told_one : {c v s q y : ℕ} (k : ℕ) → (k ≡ 1) ⊎ (k ≡ 2) → (a : PassedAt p lives c v s q y) → In (out.Send (way_ahead p c k) (msg.Deschedule a.instance (Some (tag_behind a.key)))) (outs_at p c (lives.input c) a.at)
+  pub told_one : {c v s q y : ℕ} (k : ℕ) → (k ≡ 1) ⊎ (k ≡ 2) → (a : PassedAt p lives c v s q y) → In (out.Send (way_ahead p c k) (msg.Deschedule a.instance (Some (tag_behind a.key)))) (outs_at p c (lives.input c) a.at)
       → ToldAt p lives c k v s (q + 1) y
   told_one {c} {v} {s} {q} {y} k which a i = record {
     ahead = which;
@@ -194,7 +194,7 @@ module _ (p : Params) (plan : IsPlan p) (lives : Lives) (are : AreLives p lives)
       (told_one 1 (inl refl) a (done _ both.0), told_one 2 (inr refl) a (done _ both.1))
 
   -- and a cub tells of a stop only so
-  told_by : (c i k v s q x : ℕ) (small : c < p.cubs) (low : i < lives.count c) → (k ≡ 1) ⊎ (k ≡ 2) → (w : Instance) → w.0 ≡ v → (tag : Tag) → tag.slot.0 ≡ s → tag.visit ≡ q → (link : LinkNo) (input : Input Msg)
+  pub told_by : (c i k v s q x : ℕ) (small : c < p.cubs) (low : i < lives.count c) → (k ≡ 1) ⊎ (k ≡ 2) → (w : Instance) → w.0 ≡ v → (tag : Tag) → tag.slot.0 ≡ s → tag.visit ≡ q → (link : LinkNo) (input : Input Msg)
       → lives.input c i ≡ input → beat_at (lives.input c) i ≡ x → In (out.Send link (msg.Deschedule w (Some tag))) (deed_of p c input (store_at p c (lives.input c) i)).outs → IsTold p F c k v s q x
   told_by c i k v s q x small low which w same tag slot visit link (Take stamp way m) is eb d =
       let inputs : ℕ → Input Msg = lives.input c in

@@ -42,16 +42,16 @@ pub record PassedNone (p : Params) (c : ℕ) (stamp : Stamp) (m : Msg) (h : Stor
 abbrev pub Held : Params → ℕ → Stamp → Msg → Store → Deed Msg Store → Type 0
 Held p c stamp m h d = PassedOn p c stamp m h d ⊎ PassedNone p c stamp m h d
 
-no_true : {b : Bool} → b ≡ false → b ≡ true → ⊥
+pub no_true : {b : Bool} → b ≡ false → b ≡ true → ⊥
 no_true e f = let z : true ≡ false = sym f ∙ e in absurd (cc)
 
-passing_on_held : (p : Params) (c : ℕ) (stamp : Stamp) (v : Instance) (k : Key) (h : Store) → (passing_on p c stamp v k h).state.held ≡ with_pass h.held v
+pub passing_on_held : (p : Params) (c : ℕ) (stamp : Stamp) (v : Instance) (k : Key) (h : Store) → (passing_on p c stamp v k h).state.held ≡ with_pass h.held v
 unfolding passing_on
 passing_on_held p c stamp v k h = refl
 
 module _ (p : Params) (c : ℕ) (stamp : Stamp) where
   -- viewer state
-  at_position : (s : State) (k : Key) (h : Store) → is_visit_of s.tenancy s.visit ≡ true → position_at p c s.tenancy.slot s.visit ≡ Some k
+  pub at_position : (s : State) (k : Key) (h : Store) → is_visit_of s.tenancy s.visit ≡ true → position_at p c s.tenancy.slot s.visit ≡ Some k
       → Held p c stamp (msg.ViewerState s) h (met p c stamp s (Some k) h)
   at_position s k h visit at =
       chosen (λ (d : Deed Msg Store). Held p c stamp (msg.ViewerState s) h d) (is_held h.held s.tenancy.instance) (passing_from p c stamp s.tenancy.instance (Some k) h) (told s k h)
@@ -60,12 +60,12 @@ module _ (p : Params) (c : ℕ) (stamp : Stamp) where
       (λ not. inr (record { none = λ v j q. no_true (ap (λ (w : Instance). must_pass h.held w) (sym q.2) ∙ not) q.4; held = refl })))
       (λ not. inr (record { none = λ v j q. no_true (ap (λ (w : Instance). is_held h.held w) (sym q.2) ∙ not) q.3; held = told_same s k h }))
 
-  with_position : (s : State) (o : Option Key) (h : Store) → is_visit_of s.tenancy s.visit ≡ true → position_at p c s.tenancy.slot s.visit ≡ o
+  pub with_position : (s : State) (o : Option Key) (h : Store) → is_visit_of s.tenancy s.visit ≡ true → position_at p c s.tenancy.slot s.visit ≡ o
       → Held p c stamp (msg.ViewerState s) h (met p c stamp s o h)
   with_position s None h visit at = inr (record { none = λ v j q. (let z : None ≡ Some j = sym at ∙ q.1 in absurd (cc)); held = refl })
   with_position s (Some k) h visit at = at_position s k h visit at
 
-  meeting_state_held : (s : State) (h : Store) → Held p c stamp (msg.ViewerState s) h (meeting_state p c stamp s h)
+  pub meeting_state_held : (s : State) (h : Store) → Held p c stamp (msg.ViewerState s) h (meeting_state p c stamp s h)
   unfolding meeting_state
   meeting_state_held s h =
       chosen (λ (d : Deed Msg Store). Held p c stamp (msg.ViewerState s) h d) (is_visit_of s.tenancy s.visit) (met p c stamp s (position_at p c s.tenancy.slot s.visit) h) (nothing h)
@@ -73,7 +73,7 @@ module _ (p : Params) (c : ℕ) (stamp : Stamp) where
       (λ not. inr (record { none = λ v j q. no_true not q.0; held = refl }))
 
   -- deschedule
-  descheduling_from : (v : Instance) (tag : Option Tag) (h : Store) (o : Option Key) → position p c v tag (holding p stamp v h).state.view.lines ≡ o
+  pub descheduling_from : (v : Instance) (tag : Option Tag) (h : Store) (o : Option Key) → position p c v tag (holding p stamp v h).state.view.lines ≡ o
       → Held p c stamp (msg.Deschedule v tag) h (then_do (passing_from p c stamp v o) (dropping_all p c v) (holding p stamp v h).state)
   descheduling_from v tag h None at =
       let h1 : Store = (holding p stamp v h).state in
@@ -84,15 +84,15 @@ module _ (p : Params) (c : ℕ) (stamp : Stamp) where
       (λ must. inl (record { instance = v; key = k; passes = (refl, at, must); held = dropping_all_same p c v (passing_on p c stamp v k h1).state ∙ passing_on_held p c stamp v k h1 }))
       (λ not. inr (record { none = λ w j q. no_true (ap (λ (u : Instance). must_pass (holding p stamp u h).state.held u) (sym q.0) ∙ not) q.2; held = dropping_all_same p c v h1 }))
 
-  descheduling_held : (v : Instance) (tag : Option Tag) (h : Store) → Held p c stamp (msg.Deschedule v tag) h (descheduling p c stamp v tag h)
+  pub descheduling_held : (v : Instance) (tag : Option Tag) (h : Store) → Held p c stamp (msg.Deschedule v tag) h (descheduling p c stamp v tag h)
   unfolding descheduling
   descheduling_held v tag h = descheduling_from v tag h (position p c v tag (holding p stamp v h).state.view.lines) refl
 
   -- all others
-  other_held : (m : Msg) (h : Store) (d : Deed Msg Store) → held_on p stamp m h ≡ h.held → ((v : Instance) (k : Key) → PassesOn p c stamp m h v k → ⊥) → Same h d → Held p c stamp m h d
+  pub other_held : (m : Msg) (h : Store) (d : Deed Msg Store) → held_on p stamp m h ≡ h.held → ((v : Instance) (k : Key) → PassesOn p c stamp m h v k → ⊥) → Same h d → Held p c stamp m h d
   other_held m h d e none same = inr (record { none = none; held = same ∙ sym e })
 
-  hearing_held : (link : LinkNo) (m : Msg) (h : Store) → Held p c stamp m h (hearing p c stamp link m h)
+  pub hearing_held : (link : LinkNo) (m : Msg) (h : Store) → Held p c stamp m h (hearing p c stamp link m h)
   unfolding hearing
   hearing_held link (msg.ViewerState s) h = meeting_state_held s h
   hearing_held link (msg.Start a redundant) h = other_held (msg.Start a redundant) h _ refl (λ v k q. q) (meeting_start_same a redundant h)

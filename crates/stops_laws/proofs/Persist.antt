@@ -50,7 +50,7 @@ module _ (p : Params) (c : ℕ) (inputs : ℕ → Input Msg) where
     pub over : stop.stamp.reading + p.hold ≤ stamp.reading
 
   -- a mark leaves it held
-  held_marked : {j v : ℕ} (w : Instance) (xs ys : List Holding) → ys ≡ with_pass xs w → IsHeldFrom xs j v → IsHeldFrom ys j v
+  pub held_marked : {j v : ℕ} (w : Instance) (xs ys : List Holding) → ys ≡ with_pass xs w → IsHeldFrom xs j v → IsHeldFrom ys j v
   held_marked {j} {v} w xs ys e k =
       let same = marked_same w k.holding in
       record {
@@ -63,7 +63,7 @@ module _ (p : Params) (c : ℕ) (inputs : ℕ → Input Msg) where
         until = same.1 ∙ k.until;
       }
 
-  message_holds : (i : ℕ) (stamp : Stamp) (link : LinkNo) (m : Msg) → is_in_form p (noted m) ≡ true → {j v : ℕ} → IsHeldFrom (held_on p stamp m (store_at p c inputs i)) j v
+  pub message_holds : (i : ℕ) (stamp : Stamp) (link : LinkNo) (m : Msg) → is_in_form p (noted m) ≡ true → {j v : ℕ} → IsHeldFrom (held_on p stamp m (store_at p c inputs i)) j v
       → IsHeldFrom (taking p c stamp link m (store_at p c inputs i)).state.held j v
   message_holds i stamp link m formed {j} {v} k =
       let h : Store = store_at p c inputs i in
@@ -73,7 +73,7 @@ module _ (p : Params) (c : ℕ) (inputs : ℕ → Input Msg) where
       (taking_held p c stamp link m h formed)
 
   -- what was held before a message is held when it may be passed on
-  held_yet : (i : ℕ) (stamp : Stamp) (m : Msg) → {j v : ℕ} → IsHeldFrom (store_at p c inputs i).held j v → IsHeldFrom (held_on p stamp m (store_at p c inputs i)) j v
+  pub held_yet : (i : ℕ) (stamp : Stamp) (m : Msg) → {j v : ℕ} → IsHeldFrom (store_at p c inputs i).held j v → IsHeldFrom (held_on p stamp m (store_at p c inputs i)) j v
   held_yet i stamp m k = record { holding = k.holding; member = held_forth p stamp m (store_at p c inputs i) k.holding k.member; same = k.same; at = k.at; by = k.by; stop = k.stop; until = k.until }
 
   -- a deschedule is held
@@ -99,7 +99,7 @@ module _ (p : Params) (c : ℕ) (inputs : ℕ → Input Msg) where
       })
 
   -- a tick lets it go only when its time is over
-  tick_holds : (i : ℕ) (stamp : Stamp) → inputs i ≡ Tick stamp → {j v : ℕ} → j < i → IsHeldFrom (store_at p c inputs i).held j v
+  pub tick_holds : (i : ℕ) (stamp : Stamp) → inputs i ≡ Tick stamp → {j v : ℕ} → j < i → IsHeldFrom (store_at p c inputs i).held j v
       → IsHeldFrom (ticking p c stamp (store_at p c inputs i)).state.held j v ⊎ IsReleased j (suc i) v
   tick_holds i stamp is {j} {v} low k =
       let h : Store = store_at p c inputs i in
@@ -117,7 +117,7 @@ module _ (p : Params) (c : ℕ) (inputs : ℕ → Input Msg) where
       (λ (g : k.holding.until ≤ stamp.reading). inr (record { tick = i; after = low; before = omega arith; stamp = stamp; is = is; at = k.at; by = k.by; stop = k.stop; over = omega arith }))
       (cases_lt stamp.reading k.holding.until)
 
-  hold_step : (i : ℕ) (k : Input Msg) → inputs i ≡ k → ((stamp : Stamp) (link : LinkNo) (m : Msg) → k ≡ Take stamp link m → is_in_form p (noted m) ≡ true) → {j v : ℕ} → j < i
+  pub hold_step : (i : ℕ) (k : Input Msg) → inputs i ≡ k → ((stamp : Stamp) (link : LinkNo) (m : Msg) → k ≡ Take stamp link m → is_in_form p (noted m) ≡ true) → {j v : ℕ} → j < i
       → IsHeldFrom (store_at p c inputs i).held j v → IsHeldFrom (deed_of p c k (store_at p c inputs i)).state.held j v ⊎ IsReleased j (suc i) v
   hold_step i (Take stamp link m) is formed low k = inl (message_holds i stamp link m (formed stamp link m refl) (held_yet i stamp m k))
   hold_step i (Tick stamp) is formed low k = tick_holds i stamp is low k

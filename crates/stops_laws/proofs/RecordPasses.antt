@@ -37,7 +37,7 @@ use Rattle.stops_laws.proofs.HoldLaws.{stop_passing, passed_by, input_unheld}
 use Rattle.stops_laws.proofs.Persist.{held_since}
 
 -- an instance that has a line has a first one
-first_some : (v : Instance) (ls : List Line) (x : Line) → In x ls → x.rec.tenancy.instance.0 ≡ v.0 → (z : Line) × (first_of v ls ≡ Some z)
+pub first_some : (v : Instance) (ls : List Line) (x : Line) → In x ls → x.rec.tenancy.instance.0 ≡ v.0 → (z : Line) × (first_of v ls ≡ Some z)
 unfolding first_of
 first_some v [] x i e = absurd i
 first_some v (z ∷ zs) x i e =
@@ -49,7 +49,7 @@ first_some v (z ∷ zs) x i e =
     i)
 
 -- what may let a record leave at a message is a deschedule of its instance
-stop_of : (m : Msg) (q : Rec) → MayLeave m q → (v : Instance) × (tag : Option Tag) × (m ≡ msg.Deschedule v tag) × (q.tenancy.instance.0 ≡ v.0)
+pub stop_of : (m : Msg) (q : Rec) → MayLeave m q → (v : Instance) × (tag : Option Tag) × (m ≡ msg.Deschedule v tag) × (q.tenancy.instance.0 ≡ v.0)
 stop_of (msg.Deschedule v tag) q k = (v, tag, refl, k)
 stop_of (msg.ViewerState s) q k = absurd k
 stop_of (msg.Start a redundant) q k = absurd k
@@ -63,14 +63,14 @@ stop_of (msg.Whole want sent part) q k = absurd k
 stop_of (msg.Piece want sent part) q k = absurd k
 
 module _ (p : Params) (plan : IsPlan p) (lives : Lives) (are : AreLives p lives) (formed : (c : ℕ) → c < p.cubs → IsFormed p (lives.count c) (lives.input c)) (outside : Outside) (controller : Controller) where
-  abbrev F : StopFacts
+  abbrev pub F : StopFacts
   F = stop_facts_of p lives controller
 
   -- passed on, or got with a tag
-  abbrev Told : ℕ → ℕ → ℕ → Type 0
+  abbrev pub Told : ℕ → ℕ → ℕ → Type 0
   Told c v y = PassedBy F c v y ⊎ ((s q : ℕ) × GotTagBy F c v s q y)
 
-  told_later : {c v : ℕ} (y z : ℕ) → y ≤ z → Told c v y → Told c v z
+  pub told_later : {c v : ℕ} (y z : ℕ) → y ≤ z → Told c v y → Told c v z
   told_later y z le k = ⊎_elim
       (λ a. let by = a.by in inl (record { slot = a.slot; visit = a.visit; beat = a.beat; passed = a.passed; by = omega arith }))
       (λ a. let by = a.2.by in inr (a.0, a.1, record { beat = a.2.beat; got = a.2.got; by = omega arith }))

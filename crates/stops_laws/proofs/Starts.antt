@@ -41,21 +41,21 @@ use Rattle.stops_laws.proofs.PassLaws.{stop_taking}
 use Rattle.stops_laws.proofs.Persist.{IsReleased, held_since}
 
 -- a start of an instance that is held is discarded
-start_refused : (a : Ask) (redundant : Bool) (h : Store) → is_held h.held a.instance ≡ true → (meeting_start a redundant h).state.starts ≡ h.starts
+pub start_refused : (a : Ask) (redundant : Bool) (h : Store) → is_held h.held a.instance ≡ true → (meeting_start a redundant h).state.starts ≡ h.starts
 unfolding meeting_start
 start_refused a redundant h held =
     chosen (λ (d : Deed Msg Store). d.state.starts ≡ h.starts) (not (is_ask a) || is_held h.held a.instance || shows h.view.lines a.instance) (nothing h)
     (cond (redundant && not h.believes) (queueing_redundant a h) (queueing a h)) (λ _. refl)
     (λ f. absurd (no_both (or_left (not (is_ask a) || is_held h.held a.instance) (shows h.view.lines a.instance) (or_right (not (is_ask a)) (is_held h.held a.instance) held)) f))
 
-start_taken : (p : Params) (c : ℕ) (stamp : Stamp) (link : LinkNo) (a : Ask) (redundant : Bool) (h : Store) → is_held h.held a.instance ≡ true
+pub start_taken : (p : Params) (c : ℕ) (stamp : Stamp) (link : LinkNo) (a : Ask) (redundant : Bool) (h : Store) → is_held h.held a.instance ≡ true
     → (taking p c stamp link (msg.Start a redundant) h).state.starts ≡ h.starts
 unfolding taking hearing
 start_taken p c stamp link a redundant h held =
     chosen (λ (d : Deed Msg Store). d.state.starts ≡ h.starts) (is_in_form p (noted (msg.Start a redundant))) (meeting_start a redundant h) (nothing h) (λ _. start_refused a redundant h held) (λ _. refl)
 
 -- a deschedule drops the starts of its instance
-without_none : (old : Queues) (v : Instance) (a : Ask) → a.instance.0 ≡ v.0 → IsQueued a (without_start old v) → ⊥
+pub without_none : (old : Queues) (v : Instance) (a : Ask) → a.instance.0 ≡ v.0 → IsQueued a (without_start old v) → ⊥
 without_none old v a same k =
     let t : is_of v a ≡ true = eq-eqb a.instance.0 v.0 same in
     ⊎_elim
@@ -65,13 +65,13 @@ without_none old v a same k =
 
 module _ (p : Params) (c : ℕ) (inputs : ℕ → Input Msg) where
   -- a start joined the lists when its instance was not held
-  record HasJoined (a : Ask) (j i : ℕ) : Type 0 where
+  pub record HasJoined (a : Ask) (j i : ℕ) : Type 0 where
     at : ℕ
     from : j ≤ at
     before : at < i
     free : is_held (store_at p c inputs at).held a.instance ≡ false
 
-  joined_now : (i : ℕ) (a : Ask) → IsQueued a (store_at p c inputs (suc i)).starts → IsQueued a (store_at p c inputs i).starts ⊎ HasJoined a i (suc i)
+  pub joined_now : (i : ℕ) (a : Ask) → IsQueued a (store_at p c inputs (suc i)).starts → IsQueued a (store_at p c inputs i).starts ⊎ HasJoined a i (suc i)
   joined_now i a q = ⊎_elim
       (λ k. inl k)
       (λ s.
@@ -88,7 +88,7 @@ module _ (p : Params) (c : ℕ) (inputs : ℕ → Input Msg) where
       (cases_Bool (is_held (store_at p c inputs i).held a.instance)))
       (queued_since p c inputs (suc i) i a (omega arith) q)
 
-  joined_since : (i j : ℕ) (a : Ask) → j ≤ i → IsQueued a (store_at p c inputs i).starts → IsQueued a (store_at p c inputs j).starts ⊎ HasJoined a j i
+  pub joined_since : (i j : ℕ) (a : Ask) → j ≤ i → IsQueued a (store_at p c inputs i).starts → IsQueued a (store_at p c inputs j).starts ⊎ HasJoined a j i
   joined_since zero j a h q = let e : j ≡ 0 = omega arith in inl (subst (λ n. IsQueued a (store_at p c inputs n).starts) (sym e) q)
   joined_since (suc i) j a h q = ⊎_elim
       (λ (e : j ≡ suc i). inl (subst (λ n. IsQueued a (store_at p c inputs n).starts) (sym e) q))
@@ -102,7 +102,7 @@ module _ (p : Params) (c : ℕ) (inputs : ℕ → Input Msg) where
       (eq-or-lt_of_le h)
 
   -- behind a deschedule no start of its instance stands
-  stop_drops : (j : ℕ) (a : Ask) (s : IsStop p c inputs j a.instance.0) → is_in_form p (noted (msg.Deschedule s.instance s.tag)) ≡ true → IsQueued a (store_at p c inputs (suc j)).starts → ⊥
+  pub stop_drops : (j : ℕ) (a : Ask) (s : IsStop p c inputs j a.instance.0) → is_in_form p (noted (msg.Deschedule s.instance s.tag)) ≡ true → IsQueued a (store_at p c inputs (suc j)).starts → ⊥
   stop_drops j a s form q =
       let h : Store = store_at p c inputs j in
       let now : IsQueued a (taking p c s.stamp s.link (msg.Deschedule s.instance s.tag) h).state.starts = subst (λ (x : Input Msg). IsQueued a (deed_of p c x h).state.starts) s.is q in

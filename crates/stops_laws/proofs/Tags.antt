@@ -30,7 +30,7 @@ use Rattle.schedule_laws.proofs.Moves.{IsMeek, AreMeek}
 use Rattle.schedule_laws.proofs.Taking.{IsHushed, AreHushed, hushed_append, dropping_start_silent, dropping_lines_silent, dropping_pieces_silent, killing_splits_silent, each_meek, meeting_start_silent, meeting_piece_silent, meeting_kill_silent, meeting_answer_silent, hearing_beat_silent}
 use Rattle.stops_laws.specs.StopFactsOf.{PassesOn}
 
-abbrev Nobody : Instance → Type 0
+abbrev pub Nobody : Instance → Type 0
 Nobody v = ⊥
 
 -- each deschedule among outputs is of a kind
@@ -41,12 +41,12 @@ IsTagged T other = Unit {0}
 abbrev pub AreTagged : (LinkNo → Instance → Option Tag → Type 0) → List (Out Msg) → Type 0
 AreTagged T outs = AllByRecursion (IsTagged T) outs
 
-tagged_append : (T : LinkNo → Instance → Option Tag → Type 0) (xs ys : List (Out Msg)) → AreTagged T xs → AreTagged T ys → AreTagged T (xs ++ ys)
+pub tagged_append : (T : LinkNo → Instance → Option Tag → Type 0) (xs ys : List (Out Msg)) → AreTagged T xs → AreTagged T ys → AreTagged T (xs ++ ys)
 tagged_append T [] ys q w = w
 tagged_append T (x ∷ xs) ys q w = (q.0, tagged_append T xs ys q.1 w)
 
 -- outputs without deschedules
-hushed_one : (T : LinkNo → Instance → Option Tag → Type 0) (o : Out Msg) → IsHushed Nobody o → IsTagged T o
+pub hushed_one : (T : LinkNo → Instance → Option Tag → Type 0) (o : Out Msg) → IsHushed Nobody o → IsTagged T o
 hushed_one T (out.Act other) q = tt
 hushed_one T (out.Send link (msg.Deschedule v tag)) q = absurd q
 hushed_one T (out.Send link (msg.ViewerState s)) q = tt
@@ -60,11 +60,11 @@ hushed_one T (out.Send link (msg.ReadAsk want)) q = tt
 hushed_one T (out.Send link (msg.Whole want sent part)) q = tt
 hushed_one T (out.Send link (msg.Piece want sent part)) q = tt
 
-hushed_tagged : (T : LinkNo → Instance → Option Tag → Type 0) (outs : List (Out Msg)) → AreHushed Nobody outs → AreTagged T outs
+pub hushed_tagged : (T : LinkNo → Instance → Option Tag → Type 0) (outs : List (Out Msg)) → AreHushed Nobody outs → AreTagged T outs
 hushed_tagged T [] q = tt
 hushed_tagged T (o ∷ os) q = (hushed_one T o q.0, hushed_tagged T os q.1)
 
-meek_one : (T : LinkNo → Instance → Option Tag → Type 0) (o : Out Msg) → IsMeek Nobody o → IsTagged T o
+pub meek_one : (T : LinkNo → Instance → Option Tag → Type 0) (o : Out Msg) → IsMeek Nobody o → IsTagged T o
 meek_one T (out.Act other) q = tt
 meek_one T (out.Send link (msg.Deschedule v tag)) q = absurd q
 meek_one T (out.Send link (msg.ViewerState s)) q = tt
@@ -78,7 +78,7 @@ meek_one T (out.Send link (msg.ReadAsk want)) q = tt
 meek_one T (out.Send link (msg.Whole want sent part)) q = tt
 meek_one T (out.Send link (msg.Piece want sent part)) q = tt
 
-meek_tagged : (T : LinkNo → Instance → Option Tag → Type 0) (outs : List (Out Msg)) → AreMeek Nobody outs → AreTagged T outs
+pub meek_tagged : (T : LinkNo → Instance → Option Tag → Type 0) (outs : List (Out Msg)) → AreMeek Nobody outs → AreTagged T outs
 meek_tagged T [] q = tt
 meek_tagged T (o ∷ os) q = (meek_one T o q.0, meek_tagged T os q.1)
 
@@ -96,7 +96,7 @@ pub record GoesOut (p : Params) (c : ℕ) (stamp : Stamp) (m : Msg) (h : Store) 
 
 module _ (p : Params) (c : ℕ) (stamp : Stamp) where
   -- a pass sends no other, and sends both where the states may be on their way
-  pass_tagged : (m : Msg) (h : Store) (v : Instance) (k : Key) (g : Store) → PassesOn p c stamp m h v k → AreTagged (GoesOut p c stamp m h) (passing_on p c stamp v k g).outs
+  pub pass_tagged : (m : Msg) (h : Store) (v : Instance) (k : Key) (g : Store) → PassesOn p c stamp m h v k → AreTagged (GoesOut p c stamp m h) (passing_on p c stamp v k g).outs
   unfolding passing_on
   pass_tagged m h v k g a =
       chosen (λ (os : List (Out Msg)). AreTagged (GoesOut p c stamp m h) os) (is_reached p stamp k.0 (k.1 + 1)) (passed_on p c v (tag_behind k)) []
@@ -110,14 +110,14 @@ module _ (p : Params) (c : ℕ) (stamp : Stamp) where
   pass_sends v k g e = rw e (inl refl, inr (inl refl))
 
   -- viewer state
-  told_tagged : (T : LinkNo → Instance → Option Tag → Type 0) (s : State) (k : Key) (h : Store) → AreTagged T (told s k h).outs
+  pub told_tagged : (T : LinkNo → Instance → Option Tag → Type 0) (s : State) (k : Key) (h : Store) → AreTagged T (told s k h).outs
   told_tagged T s k h =
       let g : Store = (dropping_start s.tenancy.instance h).state in
       tagged_append T (dropping_start s.tenancy.instance h).outs (each_in_turn took (records_told s k) g).outs
       (hushed_tagged T _ (dropping_start_silent p c Never Nobody s.tenancy.instance h).quiet)
       (meek_tagged T _ (each_meek p c Never Nobody (records_told s k) g))
 
-  met_tagged : (s : State) (o : Option Key) (h : Store) → is_visit_of s.tenancy s.visit ≡ true → position_at p c s.tenancy.slot s.visit ≡ o
+  pub met_tagged : (s : State) (o : Option Key) (h : Store) → is_visit_of s.tenancy s.visit ≡ true → position_at p c s.tenancy.slot s.visit ≡ o
       → AreTagged (GoesOut p c stamp (msg.ViewerState s) h) (met p c stamp s o h).outs
   met_tagged s None h visit at = tt
   met_tagged s (Some k) h visit at =
@@ -127,14 +127,14 @@ module _ (p : Params) (c : ℕ) (stamp : Stamp) where
       (λ must. pass_tagged (msg.ViewerState s) h s.tenancy.instance k h (visit, at, refl, held, must)) (λ _. tt))
       (λ _. told_tagged T s k h)
 
-  meeting_state_tagged : (s : State) (h : Store) → AreTagged (GoesOut p c stamp (msg.ViewerState s) h) (meeting_state p c stamp s h).outs
+  pub meeting_state_tagged : (s : State) (h : Store) → AreTagged (GoesOut p c stamp (msg.ViewerState s) h) (meeting_state p c stamp s h).outs
   unfolding meeting_state
   meeting_state_tagged s h =
       chosen (λ (d : Deed Msg Store). AreTagged (GoesOut p c stamp (msg.ViewerState s) h) d.outs) (is_visit_of s.tenancy s.visit) (met p c stamp s (position_at p c s.tenancy.slot s.visit) h) (nothing h)
       (λ visit. met_tagged s (position_at p c s.tenancy.slot s.visit) h visit refl) (λ _. tt)
 
   -- deschedule
-  dropping_all_tagged : (T : LinkNo → Instance → Option Tag → Type 0) (v : Instance) (h : Store) → AreTagged T (dropping_all p c v h).outs
+  pub dropping_all_tagged : (T : LinkNo → Instance → Option Tag → Type 0) (v : Instance) (h : Store) → AreTagged T (dropping_all p c v h).outs
   dropping_all_tagged T v h =
       let h3 : Store = (dropping_lines v h).state in
       let h4 : Store = (dropping_start v h3).state in
@@ -144,7 +144,7 @@ module _ (p : Params) (c : ℕ) (stamp : Stamp) where
       (hushed_append Nobody (dropping_start v h3).outs (then_do (dropping_pieces v) (killing_splits p c v) h4).outs (dropping_start_silent p c Never Nobody v h3).quiet
       (hushed_append Nobody (dropping_pieces v h4).outs (killing_splits p c v h5).outs (dropping_pieces_silent p c Never Nobody v h4).quiet (killing_splits_silent p c Never Nobody v h5).quiet)))
 
-  passing_tagged : (v : Instance) (tag : Option Tag) (h : Store) (o : Option Key) → position p c v tag (holding p stamp v h).state.view.lines ≡ o
+  pub passing_tagged : (v : Instance) (tag : Option Tag) (h : Store) (o : Option Key) → position p c v tag (holding p stamp v h).state.view.lines ≡ o
       → AreTagged (GoesOut p c stamp (msg.Deschedule v tag) h) (passing_from p c stamp v o (holding p stamp v h).state).outs
   passing_tagged v tag h None at = tt
   passing_tagged v tag h (Some k) at =
@@ -152,7 +152,7 @@ module _ (p : Params) (c : ℕ) (stamp : Stamp) where
       chosen (λ (d : Deed Msg Store). AreTagged (GoesOut p c stamp (msg.Deschedule v tag) h) d.outs) (must_pass h1.held v) (passing_on p c stamp v k h1) (nothing h1)
       (λ must. pass_tagged (msg.Deschedule v tag) h v k h1 (refl, at, must)) (λ _. tt)
 
-  descheduling_tagged : (v : Instance) (tag : Option Tag) (h : Store) → AreTagged (GoesOut p c stamp (msg.Deschedule v tag) h) (descheduling p c stamp v tag h).outs
+  pub descheduling_tagged : (v : Instance) (tag : Option Tag) (h : Store) → AreTagged (GoesOut p c stamp (msg.Deschedule v tag) h) (descheduling p c stamp v tag h).outs
   unfolding descheduling
   descheduling_tagged v tag h =
       let h1 : Store = (holding p stamp v h).state in
@@ -160,7 +160,7 @@ module _ (p : Params) (c : ℕ) (stamp : Stamp) where
       let T : LinkNo → Instance → Option Tag → Type 0 = GoesOut p c stamp (msg.Deschedule v tag) h in
       tagged_append T (passing p c stamp v tag h1).outs (dropping_all p c v h2).outs (passing_tagged v tag h (position p c v tag h1.view.lines) refl) (dropping_all_tagged T v h2)
 
-  hearing_tagged : (link : LinkNo) (m : Msg) (h : Store) → AreTagged (GoesOut p c stamp m h) (hearing p c stamp link m h).outs
+  pub hearing_tagged : (link : LinkNo) (m : Msg) (h : Store) → AreTagged (GoesOut p c stamp m h) (hearing p c stamp link m h).outs
   unfolding hearing
   hearing_tagged link (msg.ViewerState s) h = meeting_state_tagged s h
   hearing_tagged link (msg.Start a redundant) h = hushed_tagged _ _ (meeting_start_silent p c Never Nobody a redundant h).quiet

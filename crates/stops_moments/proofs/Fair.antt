@@ -54,20 +54,20 @@ use Rattle.stops_moments.proofs.Orders.{one_order}
 use Rattle.stops_moments.proofs.Gone.{holder_stays, lower_before}
 
 -- an ordered start is one of the orders
-ordered_in : (orders : List Order) (beat : ℕ) (ask : Ask) → In (record { beat = beat; what = kind.Begin ask }) orders → IsOrdered orders ask
+pub ordered_in : (orders : List Order) (beat : ℕ) (ask : Ask) → In (record { beat = beat; what = kind.Begin ask }) orders → IsOrdered orders ask
 ordered_in [] beat ask i = absurd i
 ordered_in (o ∷ os) beat ask i = ⊎_elim (λ q. inl (ap (λ (x : Order). x.what) (sym q))) (λ k. inr (ordered_in os beat ask k)) i
 
-window_at : (p : Params) (now s n : ℕ) → due p s n ≤ now + p.window_a → now + p.window_b < due p s n → IsTrue (in_window p now s n)
+pub window_at : (p : Params) (now s n : ℕ) → due p s n ≤ now + p.window_a → now + p.window_b < due p s n → IsTrue (in_window p now s n)
 unfolding in_window
 window_at p now s n below above = and_from _ _ (le-leb _ _ below) (lt-ltb _ _ above)
 
-put_is : (v : ℕ) (w : What) → is_put_of v w ≡ true → (t : Tenancy) × (w ≡ what.Put t) × (t.instance.0 ≡ v)
+pub put_is : (v : ℕ) (w : What) → is_put_of v w ≡ true → (t : Tenancy) × (w ≡ what.Put t) × (t.instance.0 ≡ v)
 put_is v (what.Put t) e = (t, refl, eqb-true _ _ e)
 put_is v other e = absurd (cc)
 
 -- what an event writes has at most one Put of an instance where its outputs have
-entries_one : {S : Type 0} (step : S → Input Msg → Deed Msg S) (v : ℕ) (ev : NodeEvent Msg) (before : Past S) → IsOne (puts v) (outs_of step ev before)
+pub entries_one : {S : Type 0} (step : S → Input Msg → Deed Msg S) (v : ℕ) (ev : NodeEvent Msg) (before : Past S) → IsOne (puts v) (outs_of step ev before)
     → IsOne (λ (e : Entry). is_put_of v e.what) (entries_at noted step ev before)
 entries_one step v (Does (Take stamp link m)) before one =
     ((λ t. absurd (cc)), one_map (entry_of noted stamp) (λ (e : Entry). is_put_of v e.what) (kept_outs step (Take stamp link m) before) one)
@@ -77,24 +77,24 @@ entries_one step v (Dies stamp) before one = ((λ t. absurd (cc)), tt)
 module _ {S : Type 0} (step : S → Input Msg → Deed Msg S) (p : Params) (plan : IsPlan p) (nodes : ℕ) (h : History Msg S) (orders : List Order)
     (journals : List (List Entry)) (are : AreLivingJournals step p nodes h orders journals) where
   -- the facts of the cubs
-  abbrev told : Facts
+  abbrev pub told : Facts
   told = facts_of p (lives_of h) (commanded p orders (lives_of h))
 
-  schedule : IsStoppedSchedule p told
+  pub schedule : IsStoppedSchedule p told
   schedule = living_schedule S step p nodes h orders plan are.history are.orderly
 
   -- a cub's Put, in its event of a number
-  record PutBy (c at : ℕ) (stamp : Stamp) (t : Tenancy) : Type 0 where
+  pub record PutBy (c at : ℕ) (stamp : Stamp) (t : Tenancy) : Type 0 where
     small : c < p.cubs
     done : at < h.count c
     did : In (put_out t) (outs_at p c ((lives_of h).input c) at)
     stamp_is : stamp_of ((lives_of h).input c at) ≡ stamp
 
-  did_at : (c at : ℕ) (stamp : Stamp) (t : Tenancy) → PutBy c at stamp t → DidAt p (lives_of h) c (put_out t) stamp.beat
+  pub did_at : (c at : ℕ) (stamp : Stamp) (t : Tenancy) → PutBy c at stamp t → DidAt p (lives_of h) c (put_out t) stamp.beat
   did_at c at stamp t q = record { small = q.small; at = at; done = q.done; in_beat = ap (λ (s : Stamp). s.beat) q.stamp_is; did = q.did }
 
   -- an entry of a node's journal that puts is such a Put of a cub
-  event_put : (n i : ℕ) (e : Entry) (t : Tenancy) → n < nodes → i ≤ h.count n → (w : WrittenAt step h n i e) → e.what ≡ what.Put t → PutBy n w.at e.stamp t
+  pub event_put : (n i : ℕ) (e : Entry) (t : Tenancy) → n < nodes → i ≤ h.count n → (w : WrittenAt step h n i e) → e.what ≡ what.Put t → PutBy n w.at e.stamp t
   event_put n i e t known low w is =
       let before = w.before in
       let r = event_wrote step (h.event n w.at) (past noted step h n w.at) e (what.Put t) tt w.there is in
@@ -109,15 +109,15 @@ module _ {S : Type 0} (step : S → Input Msg → Deed Msg S) (p : Params) (plan
       (cases_lt n p.cubs)
 
   -- it puts at its tick, into a slot of the plan and at a visit in the window
-  put_tick : (c at : ℕ) (stamp : Stamp) (t : Tenancy) → PutBy c at stamp t → is_tick_input ((lives_of h).input c at) ≡ true
+  pub put_tick : (c at : ℕ) (stamp : Stamp) (t : Tenancy) → PutBy c at stamp t → is_tick_input ((lives_of h).input c at) ≡ true
   put_tick c at stamp t q = put_at_tick p c plan q.small ((lives_of h).input c at) (store_at p c ((lives_of h).input c) at) t q.did
 
-  record IsSeat (stamp : Stamp) (t : Tenancy) : Type 0 where
+  pub record IsSeat (stamp : Stamp) (t : Tenancy) : Type 0 where
     slot : t.slot.0 < p.slots
     above : stamp.reading + p.window_b < due p t.slot.0 t.first
     below : due p t.slot.0 t.first ≤ stamp.reading + p.window_a
 
-  put_seat : (c at : ℕ) (stamp : Stamp) (t : Tenancy) → PutBy c at stamp t → IsSeat stamp t
+  pub put_seat : (c at : ℕ) (stamp : Stamp) (t : Tenancy) → PutBy c at stamp t → IsSeat stamp t
   put_seat c at stamp t q =
       let inputs : ℕ → Input Msg = (lives_of h).input c in
       let store : Store = store_at p c inputs at in
@@ -130,7 +130,7 @@ module _ {S : Type 0} (step : S → Input Msg → Deed Msg S) (p : Params) (plan
       record { slot = well.slot; above = omega arith; below = omega arith }
 
   -- what a node puts out in an event has at most one Put of an instance, and so has what it writes then
-  outs_one : (v n i : ℕ) → n < nodes → i < h.count n → IsOne (puts v) (outs noted step h n i)
+  pub outs_one : (v n i : ℕ) → n < nodes → i < h.count n → IsOne (puts v) (outs noted step h n i)
   outs_one v n i known low = ⊎_elim
       (λ (small : n < p.cubs).
       let inputs : ℕ → Input Msg = (lives_of h).input n in
@@ -140,7 +140,7 @@ module _ {S : Type 0} (step : S → Input Msg → Deed Msg S) (p : Params) (plan
       (cases_lt n p.cubs)
 
   -- at most one entry of a node's first events puts an instance: two would be of one beat, and each stands in its tick
-  events_one : (v n i : ℕ) → n < nodes → i ≤ h.count n → IsOne (λ (e : Entry). is_put_of v e.what) (past noted step h n i).journal
+  pub events_one : (v n i : ℕ) → n < nodes → i ≤ h.count n → IsOne (λ (e : Entry). is_put_of v e.what) (past noted step h n i).journal
   events_one v n zero known low = tt
   events_one v n (suc i) known low =
       let old : List Entry = (past noted step h n i).journal in
@@ -163,7 +163,7 @@ module _ {S : Type 0} (step : S → Input Msg → Deed Msg S) (p : Params) (plan
       let z : ⊥ = absurd (omega arith) in z))
 
   -- a journal is what its node's events write
-  journal_is : (n : ℕ) (j : List Entry) → slice_get journals n ≡ Some j → (n < nodes) × (j ≡ (last_of noted step h n).journal)
+  pub journal_is : (n : ℕ) (j : List Entry) → slice_get journals n ≡ Some j → (n < nodes) × (j ≡ (last_of noted step h n).journal)
   journal_is n j at =
       let below = numbered_below journals n j at in
       let count = are.count in
@@ -172,7 +172,7 @@ module _ {S : Type 0} (step : S → Input Msg → Deed Msg S) (p : Params) (plan
       (known, ap (λ (o : Option (List Entry)). unwrap_or o j) both)
 
   -- an entry of the order that puts is a cub's Put
-  log_put : (beats : ℕ) (x : Noted) (t : Tenancy) → In x (order_of beats journals) → x.entry.what ≡ what.Put t → (at : ℕ) × PutBy x.node at x.entry.stamp t
+  pub log_put : (beats : ℕ) (x : Noted) (t : Tenancy) → In x (order_of beats journals) → x.entry.what ≡ what.Put t → (at : ℕ) × PutBy x.node at x.entry.stamp t
   log_put beats x t i is =
       let s = (order_where 0 beats journals x i).1 in
       let j = journal_is x.node s.journal s.at in
@@ -180,7 +180,7 @@ module _ {S : Type 0} (step : S → Input Msg → Deed Msg S) (p : Params) (plan
       (w.at, event_put x.node (h.count x.node) x.entry t j.0 (omega arith) w is)
 
   -- and the controller's stop has an entry in the order, where its beat is one of the order's
-  gone_logged : (beats v b : ℕ) (g : GoneAt p orders (lives_of h) v b) → b < beats → (y : Noted) × In y (order_of beats journals) × (y.entry.what ≡ what.Gone g.instance) × (beat_of y ≡ b)
+  pub gone_logged : (beats v b : ℕ) (g : GoneAt p orders (lives_of h) v b) → b < beats → (y : Noted) × In y (order_of beats journals) × (y.entry.what ≡ what.Gone g.instance) × (beat_of y ≡ b)
   gone_logged beats v b g early =
       let n : ℕ = controller p in
       let stamp : Stamp = stamp_at (h.event n g.at) in
@@ -193,7 +193,7 @@ module _ {S : Type 0} (step : S → Input Msg → Deed Msg S) (p : Params) (plan
       (note_of n e, in_order 0 beats journals n (past noted step h n (h.count n)).journal e (are.writes n are.history.inside) there zero_low high, refl, is_beat)
 
   -- at most one entry of the order puts an instance
-  log_one : (v beats : ℕ) → IsOne (λ (x : Noted). is_put_of v x.entry.what) (order_of beats journals)
+  pub log_one : (v beats : ℕ) → IsOne (λ (x : Noted). is_put_of v x.entry.what) (order_of beats journals)
   log_one v beats = one_order (λ (x : Noted). is_put_of v x.entry.what) 0 beats journals
       (λ n j at.
       let w = journal_is n j at in
@@ -207,7 +207,7 @@ module _ {S : Type 0} (step : S → Input Msg → Deed Msg S) (p : Params) (plan
       (sym same.0, sym same.2))
 
   -- who was stopped in a lower beat than that of an entry has no slot at the moment before it
-  stopped_out : (beats : ℕ) (front : List Noted) (x : Noted) (back : List Noted) (s : ℕ) (u : Tenancy) → front ++ x ∷ back ≡ order_of beats journals
+  pub stopped_out : (beats : ℕ) (front : List Noted) (x : Noted) (back : List Noted) (s : ℕ) (u : Tenancy) → front ++ x ∷ back ≡ order_of beats journals
       → (schedule_of front).holder s ≡ Some u → GoneBefore told u.instance.0 (beat_of x) → ⊥
   stopped_out beats front x back s u is_log holds gone =
       let x_in : In x (order_of beats journals) = subst (λ (l : List Noted). In x l) is_log (in_right x front (x ∷ back) (inl refl)) in
@@ -220,7 +220,7 @@ module _ {S : Type 0} (step : S → Input Msg → Deed Msg S) (p : Params) (plan
       holder_stays front s u g.0 gone.gone.instance holds before g.2 (sym gone.gone.same)
 
   -- where a Put stands, its slot is free: who has it was put before, in this beat or a lower one, and was not stopped before
-  slot_free : (beats : ℕ) (front : List Noted) (x : Noted) (back : List Noted) (t : Tenancy) → front ++ x ∷ back ≡ order_of beats journals → x.entry.what ≡ what.Put t
+  pub slot_free : (beats : ℕ) (front : List Noted) (x : Noted) (back : List Noted) (t : Tenancy) → front ++ x ∷ back ≡ order_of beats journals → x.entry.what ≡ what.Put t
       → IsFreeFrom (schedule_of front) t.slot.0 t.first
   slot_free beats front x back t is_log is u holds =
       let v : ℕ = t.instance.0 in
@@ -242,7 +242,7 @@ module _ {S : Type 0} (step : S → Input Msg → Deed Msg S) (p : Params) (plan
       (schedule.free x.node y.node (beat_of x) (beat_of y) t u (did_at x.node one.0 x.entry.stamp t one.1) (did_at y.node two.0 y.entry.stamp u two.1) low was.slot other))
       (cases_eq u.instance.0 v)
 
-  put_fair : (beats : ℕ) (front : List Noted) (x : Noted) (back : List Noted) (t : Tenancy) → front ++ x ∷ back ≡ order_of beats journals → x.entry.what ≡ what.Put t
+  pub put_fair : (beats : ℕ) (front : List Noted) (x : Noted) (back : List Noted) (t : Tenancy) → front ++ x ∷ back ≡ order_of beats journals → x.entry.what ≡ what.Put t
       → PutIsFair p orders (order_of beats journals) (moment_at front) x.node x.entry.stamp.reading t
   unfolding moment_at
   put_fair beats front x back t is_log is =
@@ -264,7 +264,7 @@ module _ {S : Type 0} (step : S → Input Msg → Deed Msg S) (p : Params) (plan
         };
       }
 
-  entry_fair : (beats : ℕ) (front : List Noted) (x : Noted) (back : List Noted) (w : What) → front ++ x ∷ back ≡ order_of beats journals → x.entry.what ≡ w
+  pub entry_fair : (beats : ℕ) (front : List Noted) (x : Noted) (back : List Noted) (w : What) → front ++ x ∷ back ≡ order_of beats journals → x.entry.what ≡ w
       → EntryIsFair p orders (order_of beats journals) (moment_at front) x.node x.entry.stamp.reading w
   entry_fair beats front x back (what.Put t) is_log is = put_fair beats front x back t is_log is
   entry_fair beats front x back other is_log is = tt

@@ -15,24 +15,24 @@ use Rattle.schedule_laws.specs.Lives.{In}
 use Rattle.schedule_laws.proofs.Members.{chosen, all_in}
 
 -- an instance was stopped, and has no slot
-record IsOut (v : ℕ) (sch : Schedule) : Type 0 where
+pub record IsOut (v : ℕ) (sch : Schedule) : Type 0 where
   stopped : is_stopped v sch.stops ≡ true
   free : (s : ℕ) (t : Tenancy) → sch.holder s ≡ Some t → t.instance.0 ≡ v → ⊥
 
-abbrev stop_of : ℕ → ℕ → Stop
+abbrev pub stop_of : ℕ → ℕ → Stop
 stop_of v beat = record { instance = v; beat = beat }
 
-still_there : (v : ℕ) (o : Option Tenancy) (t : Tenancy) → unless_of v o ≡ Some t → o ≡ Some t
+pub still_there : (v : ℕ) (o : Option Tenancy) (t : Tenancy) → unless_of v o ≡ Some t → o ≡ Some t
 still_there v None t e = e
 still_there v (Some u) t e = chosen (λ (o : Option Tenancy). o ≡ Some t → Some u ≡ Some t) (u.instance.0 == v) None (Some u) (λ _ q. absurd (cc)) (λ _ q. q) e
 
-not_there : (v : ℕ) (o : Option Tenancy) (t : Tenancy) → unless_of v o ≡ Some t → t.instance.0 ≡ v → ⊥
+pub not_there : (v : ℕ) (o : Option Tenancy) (t : Tenancy) → unless_of v o ≡ Some t → t.instance.0 ≡ v → ⊥
 not_there v None t e same = absurd (cc)
 not_there v (Some u) t e same = chosen (λ (o : Option Tenancy). o ≡ Some t → ⊥) (u.instance.0 == v) None (Some u) (λ _ q. absurd (cc))
     (λ f q. let z : u ≡ t = cc in true≢false (sym (eq-eqb u.instance.0 v (ap (λ (x : Tenancy). x.instance.0) z ∙ same)) ∙ f)) e
 
 -- it stays so, for a Put of a stopped instance changes nothing
-out_by : (v : ℕ) (sch : Schedule) (beat : ℕ) (w : What) → IsOut v sch → IsOut v (changed sch beat w)
+pub out_by : (v : ℕ) (sch : Schedule) (beat : ℕ) (w : What) → IsOut v sch → IsOut v (changed sch beat w)
 out_by v sch beat (what.Put u) had =
     chosen (IsOut v) (is_stopped u.instance.0 sch.stops) sch
     (record { holder = λ slot. cond (u.slot.0 == slot) (Some u) (sch.holder slot); stops = sch.stops })
@@ -53,7 +53,7 @@ out_by v sch beat (what.Gone w) had = record {
 out_by v sch beat other had = had
 
 -- it is so where it was stopped
-out_here : (v : Instance) (sch : Schedule) (beat : ℕ) (w : What) → w ≡ what.Gone v → IsOut v.0 (changed sch beat w)
+pub out_here : (v : Instance) (sch : Schedule) (beat : ℕ) (w : What) → w ≡ what.Gone v → IsOut v.0 (changed sch beat w)
 out_here v sch beat w is = subst (λ (x : What). IsOut v.0 (changed sch beat x)) (sym is) (record {
   stopped =
       list_any-append (λ (stop : Stop). stop.instance == v.0) sch.stops (stop_of v.0 beat ∷ [])
@@ -61,12 +61,12 @@ out_here v sch beat w is = subst (λ (x : What). IsOut v.0 (changed sch beat x))
   free = λ s t e same. not_there v.0 (sch.holder s) t e same;
 })
 
-out_on : (v : ℕ) (rest : List Noted) (sch : Schedule) → IsOut v sch → IsOut v (fold after_entry sch rest)
+pub out_on : (v : ℕ) (rest : List Noted) (sch : Schedule) → IsOut v sch → IsOut v (fold after_entry sch rest)
 unfolding after_entry
 out_on v [] sch had = had
 out_on v (x ∷ xs) sch had = out_on v xs (after_entry sch x) (out_by v sch (beat_of x) x.entry.what had)
 
-out_at : (v : Instance) (rest : List Noted) (sch : Schedule) (y : Noted) → In y rest → y.entry.what ≡ what.Gone v → IsOut v.0 (fold after_entry sch rest)
+pub out_at : (v : Instance) (rest : List Noted) (sch : Schedule) (y : Noted) → In y rest → y.entry.what ≡ what.Gone v → IsOut v.0 (fold after_entry sch rest)
 unfolding after_entry
 out_at v [] sch y i is = absurd i
 out_at v (x ∷ xs) sch y i is = ⊎_elim

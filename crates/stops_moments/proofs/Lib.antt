@@ -1,5 +1,5 @@
-mod Ones
-mod Singles
-mod Orders
-mod Gone
+pub mod Ones
+pub mod Singles
+pub mod Orders
+pub mod Gone
 pub mod Fair

@@ -10,7 +10,7 @@ use Rattle.schedule_moments.proofs.Ordered.{note_of, order_where}
 use Rattle.stops_moments.proofs.Ones.{IsOne, one_append, one_filter, one_map}
 
 -- an entry of a beat's is of that beat, and of a node from the first one on
-in_beat_where : (b n : ℕ) (js : List (List Entry)) (x : Noted) → In x (in_beat b n js) → (beat_of x ≡ b) × (n ≤ x.node)
+pub in_beat_where : (b n : ℕ) (js : List (List Entry)) (x : Noted) → In x (in_beat b n js) → (beat_of x ≡ b) × (n ≤ x.node)
 in_beat_where b n [] x i = absurd i
 in_beat_where b n (j ∷ js) x i = ⊎_elim
     (λ k.
@@ -22,7 +22,7 @@ in_beat_where b n (j ∷ js) x i = ⊎_elim
     (in_cases x (map (note_of n) (filter (λ e. e.stamp.beat == b) j)) (in_beat b (n + 1) js) i)
 
 -- at most one entry of the order passes a test, where that is so in each journal, and two that pass are of one node and beat
-one_beat : (test : Noted → Bool) (b n : ℕ) (js : List (List Entry)) → ((k : ℕ) (j : List Entry) → slice_get js k ≡ Some j → IsOne (λ e. test (note_of (n + k) e)) j)
+pub one_beat : (test : Noted → Bool) (b n : ℕ) (js : List (List Entry)) → ((k : ℕ) (j : List Entry) → slice_get js k ≡ Some j → IsOne (λ e. test (note_of (n + k) e)) j)
     → ((x y : Noted) → In x (in_beat b n js) → In y (in_beat b n js) → test x ≡ true → test y ≡ true → x.node ≡ y.node) → IsOne test (in_beat b n js)
 one_beat test b n [] each same = tt
 one_beat test b n (j ∷ js) each same =

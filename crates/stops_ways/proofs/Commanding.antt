@@ -24,7 +24,7 @@ use Rattle.schedule_laws.specs.Lives.{In}
 use Rattle.stops_ways.specs.Controllers.{command, known_at, commands_at}
 use Rattle.stops_ways.proofs.Stopping.{tag_at, IsStopOf, Speaks, Stopped, AreStops, each_stops}
 
-commanding_stops : (p : Params) (orders : List Order) (stamp : Stamp) (known : Known) → AreStops p orders stamp.reading known (commanding p orders stamp known)
+pub commanding_stops : (p : Params) (orders : List Order) (stamp : Stamp) (known : Known) → AreStops p orders stamp.reading known (commanding p orders stamp known)
 unfolding commanding
 commanding_stops p orders stamp known = each_stops p orders stamp.reading (orders_in stamp.beat orders) known
 
@@ -34,16 +34,16 @@ pub record StoppedIn (p : Params) (orders : List Order) (input : Input Msg) (kno
   pub tick : input ≡ Tick stamp
   pub stopped : Stopped p orders stamp.reading known (command p orders input known).outs v o
 
-stopped_in : (p : Params) (orders : List Order) (input : Input Msg) (known : Known) (v : Instance) (o : Out Msg) → Speaks v o → In o (command p orders input known).outs → StoppedIn p orders input known v o
+pub stopped_in : (p : Params) (orders : List Order) (input : Input Msg) (known : Known) (v : Instance) (o : Out Msg) → Speaks v o → In o (command p orders input known).outs → StoppedIn p orders input known v o
 stopped_in p orders (Take stamp link m) known v o s i = absurd i
 stopped_in p orders (Tick stamp) known v o s i = record { stamp = stamp; tick = refl; stopped = (commanding_stops p orders stamp known).stopped v o s i }
 
 -- who is gone stays gone
-still_gone : (p : Params) (orders : List Order) (input : Input Msg) (known : Known) (v : Instance) → is_gone known.gone v ≡ true → is_gone (command p orders input known).state.gone v ≡ true
+pub still_gone : (p : Params) (orders : List Order) (input : Input Msg) (known : Known) (v : Instance) → is_gone known.gone v ≡ true → is_gone (command p orders input known).state.gone v ≡ true
 still_gone p orders (Take stamp link m) known v e = ap (λ (gone : List Instance). is_gone gone v) (taking_gone p m known) ∙ e
 still_gone p orders (Tick stamp) known v e = (commanding_stops p orders stamp known).grows.gone v e
 
-gone_after : (p : Params) (orders : List Order) (input : Input Msg) (known : Known) (v : Instance) → In (out.Act (what.Gone v)) (command p orders input known).outs
+pub gone_after : (p : Params) (orders : List Order) (input : Input Msg) (known : Known) (v : Instance) → In (out.Act (what.Gone v)) (command p orders input known).outs
     → is_gone (command p orders input known).state.gone v ≡ true
 gone_after p orders (Take stamp link m) known v i = absurd i
 gone_after p orders (Tick stamp) known v i = (commanding_stops p orders stamp known).after v i
@@ -53,7 +53,7 @@ pub same_places : (p : Params) (orders : List Order) (stamp : Stamp) (known : Kn
 same_places p orders stamp known = (commanding_stops p orders stamp known).grows.placed
 
 module _ (p : Params) (orders : List Order) (inputs : ℕ → Input Msg) where
-  gone_later : (i j : ℕ) (v : Instance) → i ≤ j → is_gone (known_at p orders inputs i).gone v ≡ true → is_gone (known_at p orders inputs j).gone v ≡ true
+  pub gone_later : (i j : ℕ) (v : Instance) → i ≤ j → is_gone (known_at p orders inputs i).gone v ≡ true → is_gone (known_at p orders inputs j).gone v ≡ true
   gone_later i zero v low e = let z : i ≡ 0 = omega arith in subst (λ n. is_gone (known_at p orders inputs n).gone v ≡ true) z e
   gone_later i (suc j) v low e = ⊎_elim
       (λ (same : i ≡ suc j). subst (λ n. is_gone (known_at p orders inputs n).gone v ≡ true) same e)
@@ -64,7 +64,7 @@ module _ (p : Params) (orders : List Order) (inputs : ℕ → Input Msg) where
   pub stopped_there : (i : ℕ) (v : Instance) (o : Out Msg) → Speaks v o → In o (commands_at p orders inputs i) → StoppedIn p orders (inputs i) (known_at p orders inputs i) v o
   stopped_there i v o s k = stopped_in p orders (inputs i) (known_at p orders inputs i) v o s k
 
-  not_after : (i j : ℕ) (v : Instance) (o q : Out Msg) → i < j → StoppedIn p orders (inputs i) (known_at p orders inputs i) v o → StoppedIn p orders (inputs j) (known_at p orders inputs j) v q → ⊥
+  pub not_after : (i j : ℕ) (v : Instance) (o q : Out Msg) → i < j → StoppedIn p orders (inputs i) (known_at p orders inputs i) v o → StoppedIn p orders (inputs j) (known_at p orders inputs j) v q → ⊥
   not_after i j v o q less s t =
       let said = s.stopped.all (out.Act (what.Gone v)) (inl refl) in
       let gone = gone_later (suc i) j v less (gone_after p orders (inputs i) (known_at p orders inputs i) v said) in

@@ -68,7 +68,7 @@ tag_sent p link v w a b n i = ⊎_elim
     i)
     i
 
-same_visit : (a b : SlotNo) (n m : ℕ) → Some (tag_at a n) ≡ Some (tag_at b m) → (a ≡ b) × (n ≡ m)
+pub same_visit : (a b : SlotNo) (n m : ℕ) → Some (tag_at a n) ≡ Some (tag_at b m) → (a ≡ b) × (n ≡ m)
 same_visit a b n m e =
     let z : tag_at a n ≡ tag_at b m = some_same (tag_at a n) (tag_at b m) e in
     (ap (λ (t : Tag). t.slot) z, ap (λ (t : Tag). t.visit) z)
@@ -93,17 +93,17 @@ module _ {S : Type 0} (step : S → Input Msg → Deed Msg S) (p : Params) (plan
   pub event_is : (i : ℕ) (k : Input Msg) → i < h.count ctrl → inputs i ≡ k → h.event ctrl i ≡ Does k
   event_is i k low e = does_it (h.event ctrl i) (ring.living.alive ctrl i ring.inside low) ∙ ap (λ (x : Input Msg). Does x) e
 
-  beat_is : (i : ℕ) → beat h ctrl i ≡ beat_at inputs i
+  pub beat_is : (i : ℕ) → beat h ctrl i ≡ beat_at inputs i
   beat_is i = ap (λ (s : Stamp). s.beat) (stamp_same (h.event ctrl i))
 
   -- a tick ends its beat, and what is of the beat or a lower one stands before it
-  after_tick : (i : ℕ) (stamp : Stamp) → i < h.count ctrl → inputs i ≡ Tick stamp → ticks h ctrl (suc i) ≡ beat h ctrl i + 1
+  pub after_tick : (i : ℕ) (stamp : Stamp) → i < h.count ctrl → inputs i ≡ Tick stamp → ticks h ctrl (suc i) ≡ beat h ctrl i + 1
   after_tick i stamp low e =
       let t : is_tick (h.event ctrl i) ≡ true = ap is_tick (event_is i (Tick stamp) low e) in
       let b = ring.living.run.in_beat ctrl i ring.inside low in
       rw t (omega arith)
 
-  before_tick : (i j : ℕ) (stamp other : Stamp) (link : LinkNo) (m : Msg) → i < h.count ctrl → j < h.count ctrl → inputs i ≡ Tick stamp → inputs j ≡ Take other link m → beat h ctrl j ≤ beat h ctrl i → j < i
+  pub before_tick : (i j : ℕ) (stamp other : Stamp) (link : LinkNo) (m : Msg) → i < h.count ctrl → j < h.count ctrl → inputs i ≡ Tick stamp → inputs j ≡ Take other link m → beat h ctrl j ≤ beat h ctrl i → j < i
   before_tick i j stamp other link m low high e f by = ⊎_elim
       (λ (l : j < i). l)
       (λ (g : i ≤ j). ⊎_elim
@@ -121,7 +121,7 @@ module _ {S : Type 0} (step : S → Input Msg → Deed Msg S) (p : Params) (plan
   stop_in v tag n b s = stopped_there p orders inputs s.at v (out.Send (way_to_cub p (cub_of p n)) (msg.Deschedule v tag)) refl s.near
 
   -- with its tag
-  stop_is : (v : Instance) (tag : Option Tag) (n b : ℕ) (s : Stops p orders lives v tag n b)
+  pub stop_is : (v : Instance) (tag : Option Tag) (n b : ℕ) (s : Stops p orders lives v tag n b)
       → (m : ℕ) × IsStopOf p orders (stop_in v tag n b s).stamp.reading (known_at p orders inputs s.at).placed v tag m
   stop_is v tag n b s =
       let i = stop_in v tag n b s in
@@ -160,7 +160,7 @@ module _ {S : Type 0} (step : S → Input Msg → Deed Msg S) (p : Params) (plan
         stops = subst (λ (x : Option Tag). Stops p orders lives ask.instance x n b) f (subst (λ (x : Instance). Stops p orders lives x tag n b) (sym (same_instance ask.instance w from.1)) s);
       }
 
-  how : {v z : ℕ} → GoneAt p orders lives v z → ((s n : ℕ) × StoppedAt p orders lives v s n z) ⊎ ((d : ℕ) × StoppedWaiting p orders lives v d z)
+  pub how : {v z : ℕ} → GoneAt p orders lives v z → ((s n : ℕ) × StoppedAt p orders lives v s n z) ⊎ ((d : ℕ) × StoppedWaiting p orders lives v d z)
   how {v} {z} g =
       let i = stopped_there p orders inputs g.at g.instance (out.Act (what.Gone g.instance)) refl g.gone in
       let s = stops_here g.at g.instance (out.Act (what.Gone g.instance)) z g.done g.in_beat i in
@@ -177,10 +177,10 @@ module _ {S : Type 0} (step : S → Input Msg → Deed Msg S) (p : Params) (plan
       same_event p orders inputs s.at t.at w (out.Send (way_to_cub p (cub_of p n)) (msg.Deschedule v a)) (out.Send (way_to_cub p (cub_of p m)) (msg.Deschedule w b))
       (subst (λ (x : Instance). StoppedIn p orders (inputs s.at) (known_at p orders inputs s.at) x (out.Send (way_to_cub p (cub_of p n)) (msg.Deschedule v a))) e one) two
 
-  one_beat : (i j b c : ℕ) → i ≡ j → beat_at inputs i ≡ b → beat_at inputs j ≡ c → c ≡ b
+  pub one_beat : (i j b c : ℕ) → i ≡ j → beat_at inputs i ≡ b → beat_at inputs j ≡ c → c ≡ b
   one_beat i j b c e f g = sym g ∙ (ap (λ n. beat_at inputs n) (sym e) ∙ f)
 
-  gone_once : {v y z : ℕ} → GoneAt p orders lives v y → GoneAt p orders lives v z → z ≡ y
+  pub gone_once : {v y z : ℕ} → GoneAt p orders lives v y → GoneAt p orders lives v z → z ≡ y
   gone_once {v} {y} {z} g k =
       let one = stopped_there p orders inputs g.at g.instance (out.Act (what.Gone g.instance)) refl g.gone in
       let two = stopped_there p orders inputs k.at k.instance (out.Act (what.Gone k.instance)) refl k.gone in
@@ -191,7 +191,7 @@ module _ {S : Type 0} (step : S → Input Msg → Deed Msg S) (p : Params) (plan
       g.in_beat k.in_beat
 
   -- and with one tag
-  one_tag : (v w : Instance) (a b : Option Tag) (n m y z : ℕ) → v ≡ w → (s : Stops p orders lives v a n y) (t : Stops p orders lives w b m z) → a ≡ b
+  pub one_tag : (v w : Instance) (a b : Option Tag) (n m y z : ℕ) → v ≡ w → (s : Stops p orders lives v a n y) (t : Stops p orders lives w b m z) → a ≡ b
   one_tag v w a b n m y z e s t =
       let one = stop_is v a n y s in
       let two = stop_is w b m z t in
@@ -203,21 +203,21 @@ module _ {S : Type 0} (step : S → Input Msg → Deed Msg S) (p : Params) (plan
       (subst (λ (x : Instance). IsStopOf p orders (stop_in v a n y s).stamp.reading (known_at p orders inputs s.at).placed x a one.0) e one.1)) in
       (one_stop p orders (stop_in w b m z t).stamp.reading (known_at p orders inputs t.at).placed w a b one.0 two.0 moved two.1).0
 
-  one_place : {v s n y u m z : ℕ} → StoppedAt p orders lives v s n y → StoppedAt p orders lives v u m z → (u ≡ s) × (m ≡ n)
+  pub one_place : {v s n y u m z : ℕ} → StoppedAt p orders lives v s n y → StoppedAt p orders lives v u m z → (u ≡ s) × (m ≡ n)
   one_place {v} {s} {n} {y} {u} {m} {z} a b =
       let e = same_instance a.instance b.instance (a.same ∙ sym b.same) in
       let t = one_tag a.instance b.instance (Some (tag_at a.slot n)) (Some (tag_at b.slot m)) n m y z e a.stops b.stops in
       let q = same_visit a.slot b.slot n m t in
       (sym b.number ∙ (ap (λ (x : SlotNo). x.0) (sym q.0) ∙ a.number), sym q.1)
 
-  one_way : {v s n y d z : ℕ} → StoppedAt p orders lives v s n y → StoppedWaiting p orders lives v d z → ⊥
+  pub one_way : {v s n y d z : ℕ} → StoppedAt p orders lives v s n y → StoppedWaiting p orders lives v d z → ⊥
   one_way {v} {s} {n} {y} {d} {z} a b =
       let e = same_instance a.instance b.ask.instance (a.same ∙ sym b.same) in
       let t = one_tag a.instance b.ask.instance (Some (tag_at a.slot n)) None n d y z e a.stops b.stops in
       absurd (cc)
 
   -- the reading of a stop is that of its beat
-  read_at : (i b : ℕ) (stamp : Stamp) → i < h.count ctrl → inputs i ≡ Tick stamp → beat_at inputs i ≡ b → (time_of p b ≤ stamp.reading) × (stamp.reading ≤ time_of p b + p.skew)
+  pub read_at : (i b : ℕ) (stamp : Stamp) → i < h.count ctrl → inputs i ≡ Tick stamp → beat_at inputs i ≡ b → (time_of p b ≤ stamp.reading) × (stamp.reading ≤ time_of p b + p.skew)
   read_at i b stamp low e f =
       let r = ring.living.run.reads ctrl i ring.inside low in
       let same : stamp_at (h.event ctrl i) ≡ stamp = stamp_same (h.event ctrl i) ∙ ap stamp_of e in
@@ -228,13 +228,13 @@ module _ {S : Type 0} (step : S → Input Msg → Deed Msg S) (p : Params) (plan
       (omega arith, omega arith)
 
   -- a tenancy that the controller knows was put in a lower beat
-  record PutBefore (t : Tenancy) (z : ℕ) : Type 0 where
+  pub record PutBefore (t : Tenancy) (z : ℕ) : Type 0 where
     cub : ℕ
     beat : ℕ
     put : DidAt p lives cub (put_out t) beat
     before : beat < z
 
-  put_before : (i : ℕ) (v : Instance) (t : Tenancy) → i < h.count ctrl → tenancy_of (known_at p orders inputs i).placed v ≡ Some t → PutBefore t (beat h ctrl i)
+  pub put_before : (i : ℕ) (v : Instance) (t : Tenancy) → i < h.count ctrl → tenancy_of (known_at p orders inputs i).placed v ≡ Some t → PutBefore t (beat h ctrl i)
   put_before i v t low e =
       let told = told_before p orders inputs i v t e in
       let before = told.before in
@@ -256,7 +256,7 @@ module _ {S : Type 0} (step : S → Input Msg → Deed Msg S) (p : Params) (plan
         before = omega arith;
       }
 
-  place : {v s n z : ℕ} → StoppedAt p orders lives v s n z → IsStopAt p facts v s n z
+  pub place : {v s n z : ℕ} → StoppedAt p orders lives v s n z → IsStopAt p facts v s n z
   place {v} {s} {n} {z} a =
       let tag : Option Tag = Some (tag_at a.slot n) in
       let i = stop_in a.instance tag n z a.stops in
@@ -295,7 +295,7 @@ module _ {S : Type 0} (step : S → Input Msg → Deed Msg S) (p : Params) (plan
       is.1
 
   -- a Put is told to the controller
-  unplaced : {c v d x z : ℕ} {t : Tenancy} → StoppedWaiting p orders lives v d z → DidAt p lives c (put_out t) x → t.instance.0 ≡ v → z < x + p.delay
+  pub unplaced : {c v d x z : ℕ} {t : Tenancy} → StoppedWaiting p orders lives v d z → DidAt p lives c (put_out t) x → t.instance.0 ≡ v → z < x + p.delay
   unplaced {c} {v} {d} {x} {z} {t} w put same = ⊎_elim
       (λ (l : z < x + p.delay). l)
       (λ (g : x + p.delay ≤ z).

@@ -23,21 +23,21 @@ use Rattle.stops_ways.proofs.Controllers.{facts, stops_here, gone_of}
 use Rattle.stops_ways.proofs.Ways.{FromCub, FromController, stop_from}
 
 module _ {S : Type 0} (step : S → Input Msg → Deed Msg S) (p : Params) (plan : IsPlan p) (nodes : ℕ) (h : History Msg S) (orders : List Order) (ring : IsCommandedHistory step p nodes h orders) where
-  abbrev lives : Lives
+  abbrev pub lives : Lives
   lives = lives_of h
 
-  abbrev outside : Outside
+  abbrev pub outside : Outside
   outside = commanded p orders (lives_of h)
 
   -- a stop of a lower beat
-  by_controller : (c v y : ℕ) (g : ReachedAt p lives c v y) → FromController step p plan nodes h orders ring c y g.instance g.tag → IsTold (facts step p plan nodes h orders ring) v y
+  pub by_controller : (c v y : ℕ) (g : ReachedAt p lives c v y) → FromController step p plan nodes h orders ring c y g.instance g.tag → IsTold (facts step p plan nodes h orders ring) v y
   by_controller c v y g f =
       let b : ℕ = beat_at (lives.input (controller p)) f.at in
       let stops = stops_here step p plan nodes h orders ring f.at g.instance f.output b f.done refl f.stops in
       inl (record { beat = b; gone = gone_of step p plan nodes h orders ring g.instance f.stops.stopped.tag f.stops.stopped.number b v g.same stops; before = f.later })
 
   -- or a deschedule that came to a cub in a lower beat
-  by_cub : (c v y : ℕ) (g : ReachedAt p lives c v y) → FromCub step p plan nodes h orders ring c y g.instance g.tag → IsTold (facts step p plan nodes h orders ring) v y
+  pub by_cub : (c v y : ℕ) (g : ReachedAt p lives c v y) → FromCub step p plan nodes h orders ring c y g.instance g.tag → IsTold (facts step p plan nodes h orders ring) v y
   by_cub c v y g f =
       let d = f.did in
       let s = stop_came p f.from plan d.small (lives.input f.from) d.at (way_ahead p f.from f.ahead) g.instance g.tag d.did in
@@ -60,7 +60,7 @@ module _ {S : Type 0} (step : S → Input Msg → Deed Msg S) (p : Params) (plan
         omega arith,
       )
 
-  told : {c v y : ℕ} → ReachedAt p lives c v y → IsTold (facts step p plan nodes h orders ring) v y
+  pub told : {c v y : ℕ} → ReachedAt p lives c v y → IsTold (facts step p plan nodes h orders ring) v y
   told {c} {v} {y} g = ⊎_elim (λ f. by_controller c v y g f) (λ f. by_cub c v y g f) (stop_from step p plan nodes h orders ring c y g.instance g.tag g.took)
 
 pub in_ring : (S : Type 0) → CommandedCubsAreInARing S

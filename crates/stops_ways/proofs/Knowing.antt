@@ -32,7 +32,7 @@ use Rattle.stops_ways.proofs.Commanding.{same_places}
 pub some_same : {X : Type 0} (a b : X) → Some a ≡ Some b → a ≡ b
 some_same a b e = cc
 
-abbrev at_beat : ℕ → OrderKind → Order
+abbrev pub at_beat : ℕ → OrderKind → Order
 at_beat b w = record { beat = b; what = w }
 
 -- the start of an instance is ordered
@@ -56,7 +56,7 @@ start_from (o ∷ rest) v ask e = go o.what refl (λ q. later (start_from rest v
     go (Finish w) s more e = more e
 
 -- a message tells of one tenancy at most
-place_from : (p : Params) (link : LinkNo) (m : Msg) (v : Instance) (t : Tenancy) → found v (place_of p (what.Got link (noted m))) ≡ Some t → (m ≡ msg.Placed t) × (t.instance.0 ≡ v.0)
+pub place_from : (p : Params) (link : LinkNo) (m : Msg) (v : Instance) (t : Tenancy) → found v (place_of p (what.Got link (noted m))) ≡ Some t → (m ≡ msg.Placed t) × (t.instance.0 ≡ v.0)
 place_from p link (msg.Placed u) v t e =
     chosen (λ (ts : List Tenancy). found v ts ≡ Some t → (msg.Placed u ≡ msg.Placed t) × (t.instance.0 ≡ v.0)) (is_in_form p (noted (msg.Placed u))) (u ∷ []) []
     (λ _ e.
@@ -69,11 +69,11 @@ place_from p link (msg.Placed u) v t e =
 place_from p link other v t e = absurd (cc)
 
 -- how a tenancy comes to be known in an event
-abbrev IsTold : Params → List Order → Input Msg → Known → Instance → Tenancy → Type 0
+abbrev pub IsTold : Params → List Order → Input Msg → Known → Instance → Tenancy → Type 0
 IsTold p orders input known v t =
     (tenancy_of known.placed v ≡ Some t) ⊎ ((stamp : Stamp) × (link : LinkNo) × (input ≡ Take stamp link (msg.Placed t)) × (t.instance.0 ≡ v.0))
 
-known_from : (p : Params) (orders : List Order) (input : Input Msg) (known : Known) (v : Instance) (t : Tenancy) → tenancy_of (command p orders input known).state.placed v ≡ Some t
+pub known_from : (p : Params) (orders : List Order) (input : Input Msg) (known : Known) (v : Instance) (t : Tenancy) → tenancy_of (command p orders input known).state.placed v ≡ Some t
     → IsTold p orders input known v t
 known_from p orders (Take stamp link m) known v t e = go (tenancy_of known.placed v) refl (taking_tells p link m known v ∙ e)
   where
@@ -82,14 +82,14 @@ known_from p orders (Take stamp link m) known v t e = go (tenancy_of known.place
     go None s e = let r = place_from p link m v t e in inr (stamp, link, ap (λ (x : Msg). Take stamp link x) r.0, r.1)
 known_from p orders (Tick stamp) known v t e = inl (ap (λ (ts : List Tenancy). tenancy_of ts v) (sym (same_places p orders stamp known)) ∙ e)
 
-known_stays : (p : Params) (orders : List Order) (input : Input Msg) (known : Known) (v : Instance) (t : Tenancy) → tenancy_of known.placed v ≡ Some t
+pub known_stays : (p : Params) (orders : List Order) (input : Input Msg) (known : Known) (v : Instance) (t : Tenancy) → tenancy_of known.placed v ≡ Some t
     → tenancy_of (command p orders input known).state.placed v ≡ Some t
 known_stays p orders (Take stamp link m) known v t e =
     sym (taking_tells p link m known v) ∙ ap (λ (o : Option Tenancy). option_or o (found v (place_of p (what.Got link (noted m))))) e
 known_stays p orders (Tick stamp) known v t e = ap (λ (ts : List Tenancy). tenancy_of ts v) (same_places p orders stamp known) ∙ e
 
 -- of whom it is told in form, of him it knows a place
-known_after : (p : Params) (t : Tenancy) (known : Known) → is_in_form p (noted (msg.Placed t)) ≡ true → (u : Tenancy) × (tenancy_of (taking p (msg.Placed t) known).placed t.instance ≡ Some u)
+pub known_after : (p : Params) (t : Tenancy) (known : Known) → is_in_form p (noted (msg.Placed t)) ≡ true → (u : Tenancy) × (tenancy_of (taking p (msg.Placed t) known).placed t.instance ≡ Some u)
 known_after p t known form = go (tenancy_of known.placed t.instance) refl
   where
     link : LinkNo

@@ -57,7 +57,7 @@ pub record Stopped (p : Params) (orders : List Order) (r : ℕ) (known : Known) 
   pub all : (x : Out Msg) → In x (stop_outs p v tag number) → In x outs
   pub which : In o (stop_outs p v tag number)
 
-wider : (p : Params) (orders : List Order) (r : ℕ) (before known : Known) (outs more : List (Out Msg)) (v : Instance) (o : Out Msg) → known.placed ≡ before.placed
+pub wider : (p : Params) (orders : List Order) (r : ℕ) (before known : Known) (outs more : List (Out Msg)) (v : Instance) (o : Out Msg) → known.placed ≡ before.placed
     → (is_gone before.gone v ≡ true → is_gone known.gone v ≡ true) → ((x : Out Msg) → In x outs → In x more) → Stopped p orders r known outs v o → Stopped p orders r before more v o
 wider p orders r before known outs more v o same grows wide s = record {
   tag = s.tag;
@@ -83,10 +83,10 @@ pub record AreStops (p : Params) (orders : List Order) (r : ℕ) (known : Known)
   pub stopped : (v : Instance) (o : Out Msg) → Speaks v o → In o d.outs → Stopped p orders r known d.outs v o
   pub after : (v : Instance) → In (out.Act (what.Gone v)) d.outs → is_gone d.state.gone v ≡ true
 
-gone_more : (v w : Instance) (gone : List Instance) → is_gone gone v ≡ true → is_gone (gone ++ w ∷ []) v ≡ true
+pub gone_more : (v w : Instance) (gone : List Instance) → is_gone gone v ≡ true → is_gone (gone ++ w ∷ []) v ≡ true
 gone_more v w gone e = list_any-append (λ (x : Instance). x.0 == v.0) gone (w ∷ []) ∙ or_left (is_gone gone v) (is_gone (w ∷ []) v) e
 
-gone_last : (v : Instance) (gone : List Instance) → is_gone (gone ++ v ∷ []) v ≡ true
+pub gone_last : (v : Instance) (gone : List Instance) → is_gone (gone ++ v ∷ []) v ≡ true
 gone_last v gone =
     list_any-append (λ (x : Instance). x.0 == v.0) gone (v ∷ [])
     ∙ or_right (is_gone gone v) (is_gone (v ∷ []) v) (or_left (v.0 == v.0) false (eq-eqb v.0 v.0 refl))
@@ -99,11 +99,11 @@ spoken p v w tag n o s i = ⊎_elim
     i
 
 module _ (p : Params) (orders : List Order) (r : ℕ) where
-  nothing_stops : (known : Known) → AreStops p orders r known (nothing known)
+  pub nothing_stops : (known : Known) → AreStops p orders r known (nothing known)
   nothing_stops known = record { grows = record { placed = refl; gone = λ v e. e }; stopped = λ v o s i. absurd i; after = λ v i. absurd i }
 
   -- one stop
-  gone_stops : (w : Instance) (tag : Option Tag) (n : ℕ) (known : Known) → IsStopOf p orders r known.placed w tag n → is_gone known.gone w ≡ false
+  pub gone_stops : (w : Instance) (tag : Option Tag) (n : ℕ) (known : Known) → IsStopOf p orders r known.placed w tag n → is_gone known.gone w ≡ false
       → AreStops p orders r known (gone_from p w tag n known)
   unfolding gone_from
   gone_stops w tag n known is fresh = record {
@@ -114,7 +114,7 @@ module _ (p : Params) (orders : List Order) (r : ℕ) where
     after = λ v i. subst (λ (u : Instance). is_gone (known.gone ++ w ∷ []) u ≡ true) (spoken p v w tag n (out.Act (what.Gone v)) refl i) (gone_last w known.gone);
   }
 
-  stops_stops : (w : Instance) (o : Option Tenancy) (known : Known) → tenancy_of known.placed w ≡ o → is_gone known.gone w ≡ false → AreStops p orders r known (stops p orders r w o known)
+  pub stops_stops : (w : Instance) (o : Option Tenancy) (known : Known) → tenancy_of known.placed w ≡ o → is_gone known.gone w ≡ false → AreStops p orders r known (stops p orders r w o known)
   stops_stops w (Some t) known e fresh =
       let n : ℕ = visit_due p t r in
       let tag : Option Tag = Some (tag_at t.slot n) in
@@ -127,7 +127,7 @@ module _ (p : Params) (orders : List Order) (r : ℕ) where
       by_start None f = nothing_stops known
       by_start (Some ask) f = gone_stops w None ask.disk.0 known (inr (ask, e, f, refl, refl)) fresh
 
-  stopping_stops : (w : Instance) (known : Known) → AreStops p orders r known (stopping p orders r w known)
+  pub stopping_stops : (w : Instance) (known : Known) → AreStops p orders r known (stopping p orders r w known)
   unfolding stopping
   stopping_stops w known =
       chosen (AreStops p orders r known) (is_gone known.gone w) (nothing known) (stops p orders r w (tenancy_of known.placed w) known)
@@ -139,7 +139,7 @@ module _ (p : Params) (orders : List Order) (r : ℕ) where
   unfolding starts
   starts_speak ask v o s i = ⊎_elim (λ e. subst (Speaks v) e s) (λ i. ⊎_elim (λ e. subst (Speaks v) e s) (λ i. i) i) i
 
-  carries_stops : (kind : OrderKind) (known : Known) → AreStops p orders r known (carries p orders r kind known)
+  pub carries_stops : (kind : OrderKind) (known : Known) → AreStops p orders r known (carries p orders r kind known)
   carries_stops (Begin ask) known = record {
     grows = record { placed = refl; gone = λ v e. e };
     stopped = λ v o s i. absurd (starts_speak ask v o s i);
@@ -147,7 +147,7 @@ module _ (p : Params) (orders : List Order) (r : ℕ) where
   }
   carries_stops (Finish w) known = stopping_stops w known
 
-  carrying_stops : (o : Order) (known : Known) → AreStops p orders r known (carrying p orders r o known)
+  pub carrying_stops : (o : Order) (known : Known) → AreStops p orders r known (carrying p orders r o known)
   unfolding carrying
   carrying_stops o known = carries_stops o.what known
 

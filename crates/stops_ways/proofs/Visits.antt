@@ -14,7 +14,7 @@ pub record IsLastDue (p : Params) (t : Tenancy) (time reading n : ℕ) : Type 0 
   pub low : t.first ≤ n
   pub last : ((due p t.slot.0 n ≤ reading) × (time < due p t.slot.0 (n + 1))) ⊎ ((n ≡ t.first) × (time < due p t.slot.0 n))
 
-due_from : (p : Params) (t : Tenancy) (time reading : ℕ) (o : Option ℕ) → time ≤ reading → MatchOption o (reading < due p t.slot.0 0) (λ n. IsLatest p t.slot.0 reading n)
+pub due_from : (p : Params) (t : Tenancy) (time reading : ℕ) (o : Option ℕ) → time ≤ reading → MatchOption o (reading < due p t.slot.0 0) (λ n. IsLatest p t.slot.0 reading n)
     → IsLastDue p t time reading (due_last t.first o)
 due_from p t time reading None early h =
     let up = due_mono p t.slot.0 0 t.first (omega arith) in

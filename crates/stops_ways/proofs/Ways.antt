@@ -39,34 +39,34 @@ use Rattle.stops_ways.proofs.Deschedules.{deschedule_out}
 use Rattle.stops_ways.proofs.Ends.{ends_cub}
 
 -- the cub to which a link of the controller leads
-led : (p : Params) (n c from : ℕ) (way : LinkNo) → IsPlan p → way ≡ way_to_cub p (n % p.cubs) → ends_of (links_of p) way.0 ≡ Some (from, c) → c ≡ cub_of p n
+pub led : (p : Params) (n c from : ℕ) (way : LinkNo) → IsPlan p → way ≡ way_to_cub p (n % p.cubs) → ends_of (links_of p) way.0 ≡ Some (from, c) → c ≡ cub_of p n
 unfolding cub_of
 led p n c from way plan e ends =
     let low : n % p.cubs < p.cubs = mod_below n p.cubs (omega (arith, plan.ranges.cubs)) in
     (same_ends from c (controller p) (n % p.cubs) (sym ends ∙ ap (λ (x : LinkNo). ends_of (links_of p) x.0) e ∙ ends_cub p (n % p.cubs) low)).1
 
 module _ {S : Type 0} (step : S → Input Msg → Deed Msg S) (p : Params) (plan : IsPlan p) (nodes : ℕ) (h : History Msg S) (orders : List Order) (ring : IsCommandedHistory step p nodes h orders) where
-  abbrev lives : Lives
+  abbrev pub lives : Lives
   lives = lives_of h
 
-  abbrev ctrl : ℕ
+  abbrev pub ctrl : ℕ
   ctrl = controller p
 
-  abbrev inputs : ℕ → Input Msg
+  abbrev pub inputs : ℕ → Input Msg
   inputs = (lives_of h).input (controller p)
 
-  abbrev outside : Outside
+  abbrev pub outside : Outside
   outside = commanded p orders (lives_of h)
 
-  abbrev run_facts : Facts
+  abbrev pub run_facts : Facts
   run_facts = facts step p plan nodes h orders ring
 
   -- an event of a cub in which a message came
-  took_by : (c from until l : ℕ) (m : Msg) → c < p.cubs → (r : Delivered step p nodes h ring.living.run c from until l m) → TookMessage p lives c m r.stamp.beat
+  pub took_by : (c from until l : ℕ) (m : Msg) → c < p.cubs → (r : Delivered step p nodes h ring.living.run c from until l m) → TookMessage p lives c m r.stamp.beat
   took_by c from until l m small r = record { small = small; at = r.at; done = r.done; reading = r.stamp.reading; link = r.link; is = ap input_of r.is }
 
   -- what a cub tells another arrives there
-  told_arrives : {a k v s q x : ℕ} (c b : ℕ) {l : ℕ} → ToldAt p lives a k v s q x → c ≡ cub_of p (a + k) → TickedAt p lives c b l → x + p.delay ≤ b
+  pub told_arrives : {a k v s q x : ℕ} (c b : ℕ) {l : ℕ} → ToldAt p lives a k v s q x → c ≡ cub_of p (a + k) → TickedAt p lives c b l → x + p.delay ≤ b
       → GotTagBy (stop_facts step p plan nodes h orders ring) c v s q (x + p.delay)
   told_arrives {a} {k} {v} {s} {q} {x} c b {l} t to w late =
       let ahead : (1 ≤ k) × (k ≤ 2) = ⊎_elim (λ (e : k ≡ 1). let z : (1 ≤ k) × (k ≤ 2) = omega arith in z) (λ (e : k ≡ 2). let z : (1 ≤ k) × (k ≤ 2) = omega arith in z) t.ahead in
@@ -85,7 +85,7 @@ module _ {S : Type 0} (step : S → Input Msg → Deed Msg S) (p : Params) (plan
       }
 
   -- and so does what the controller tells the two cubs
-  sent_beside : (v : Instance) (tag : Option Tag) (n x c : ℕ) (s : Stops p orders lives v tag n x) → IsBeside p c n → In (out.Send (way_to_cub p c) (msg.Deschedule v tag)) (outs noted step h ctrl s.at)
+  pub sent_beside : (v : Instance) (tag : Option Tag) (n x c : ℕ) (s : Stops p orders lives v tag n x) → IsBeside p c n → In (out.Send (way_to_cub p c) (msg.Deschedule v tag)) (outs noted step h ctrl s.at)
   sent_beside v tag n x c s beside =
       let there : In (out.Send (way_to_cub p c) (msg.Deschedule v tag)) (commands_at p orders inputs s.at) = ⊎_elim
       (λ e. subst (λ m. In (out.Send (way_to_cub p m) (msg.Deschedule v tag)) (commands_at p orders inputs s.at)) (sym e) s.near)
@@ -93,10 +93,10 @@ module _ {S : Type 0} (step : S → Input Msg → Deed Msg S) (p : Params) (plan
       beside in
       subst (λ (os : List (Out Msg)). In (out.Send (way_to_cub p c) (msg.Deschedule v tag)) os) (sym (ring.commands s.at s.done)) there
 
-  sent_beat : (v : Instance) (tag : Option Tag) (n x : ℕ) (s : Stops p orders lives v tag n x) → beat h ctrl s.at ≡ x
+  pub sent_beat : (v : Instance) (tag : Option Tag) (n x : ℕ) (s : Stops p orders lives v tag n x) → beat h ctrl s.at ≡ x
   sent_beat v tag n x s = ap (λ (k : Stamp). k.beat) (stamp_same (h.event ctrl s.at)) ∙ s.in_beat
 
-  stop_arrives : (v : Instance) (tag : Option Tag) (n x c b l : ℕ) (s : Stops p orders lives v tag n x) → IsBeside p c n → TickedAt p lives c b l → x + p.delay ≤ b
+  pub stop_arrives : (v : Instance) (tag : Option Tag) (n x c b l : ℕ) (s : Stops p orders lives v tag n x) → IsBeside p c n → TickedAt p lives c b l → x + p.delay ≤ b
       → Delivered step p nodes h ring.living.run c (beat h ctrl s.at) (beat h ctrl s.at + p.delay) (way_to_cub p c).0 (msg.Deschedule v tag)
   stop_arrives v tag n x c b l s beside w late =
       let wide = ring.living.all_cubs in
@@ -106,7 +106,7 @@ module _ {S : Type 0} (step : S → Input Msg → Deed Msg S) (p : Params) (plan
       delivered step p nodes h ring.living.run (way_to_cub p c).0 ctrl c s.at (way_to_cub p c) (msg.Deschedule v tag) ring.inside (omega arith) (ends_cub p c w.small) s.done refl
       (sent_beside v tag n x c s beside) (omega arith)
 
-  tag_arrives : {v s n x : ℕ} (c b : ℕ) {l : ℕ} → StoppedAt p orders lives v s n x → IsBeside p c n → TickedAt p lives c b l → x + p.delay ≤ b
+  pub tag_arrives : {v s n x : ℕ} (c b : ℕ) {l : ℕ} → StoppedAt p orders lives v s n x → IsBeside p c n → TickedAt p lives c b l → x + p.delay ≤ b
       → GotTagBy (stop_facts step p plan nodes h orders ring) c v s n (x + p.delay)
   tag_arrives {v} {s} {n} {x} c b {l} a beside w late =
       let tag : Tag = record { slot = a.slot; visit = n } in
@@ -119,7 +119,7 @@ module _ {S : Type 0} (step : S → Input Msg → Deed Msg S) (p : Params) (plan
         by = omega arith;
       }
 
-  bare_arrives : {v d x : ℕ} (c b : ℕ) {l : ℕ} → StoppedWaiting p orders lives v d x → IsBeside p c d → TickedAt p lives c b l → x + p.delay ≤ b
+  pub bare_arrives : {v d x : ℕ} (c b : ℕ) {l : ℕ} → StoppedWaiting p orders lives v d x → IsBeside p c d → TickedAt p lives c b l → x + p.delay ≤ b
       → GotBareBy (stop_facts step p plan nodes h orders ring) c v (x + p.delay)
   bare_arrives {v} {d} {x} c b {l} a beside w late =
       let r = stop_arrives a.ask.instance None d x c b l a.stops beside w late in
@@ -132,7 +132,7 @@ module _ {S : Type 0} (step : S → Input Msg → Deed Msg S) (p : Params) (plan
       }
 
   -- who takes a message has ended each lower beat
-  ended_before : {c b y : ℕ} {m : Msg} → TookMessage p lives c m y → b < y → Ended run_facts c b
+  pub ended_before : {c b y : ℕ} {m : Msg} → TookMessage p lives c m y → b < y → Ended run_facts c b
   ended_before {c} {b} {y} {m} g low =
       let done = g.done in
       let yb : beat_at (lives.input c) g.at ≡ y = ap (λ (k : Input Msg). (stamp_of k).beat) g.is in
@@ -142,7 +142,7 @@ module _ {S : Type 0} (step : S → Input Msg → Deed Msg S) (p : Params) (plan
       ended step p plan nodes h ring.living outside c b g.small (omega arith)
 
   -- from where a deschedule came
-  abbrev From : ℕ → ℕ → ℕ → LinkNo → Msg → Type 0
+  abbrev pub From : ℕ → ℕ → ℕ → LinkNo → Msg → Type 0
   From c i b link m = CameFrom step p nodes h ring.living.run c i b link m
 
   -- from a cub
@@ -168,7 +168,7 @@ module _ {S : Type 0} (step : S → Input Msg → Deed Msg S) (p : Params) (plan
     pub later : beat_at inputs at < y
     pub soon : y ≤ beat_at inputs at + p.delay
 
-  by_cub : (c i y : ℕ) (link : LinkNo) (v : Instance) (tag : Option Tag) (f : From c i y link (msg.Deschedule v tag)) → f.from < p.cubs → FromCub c y v tag
+  pub by_cub : (c i y : ℕ) (link : LinkNo) (v : Instance) (tag : Option Tag) (f : From c i y link (msg.Deschedule v tag)) → f.from < p.cubs → FromCub c y v tag
   by_cub c i y link v tag f small =
       let k = subst (λ (os : List (Out Msg)). In (out.Send f.way (msg.Deschedule v tag)) os) (ring.living.cubs f.from f.at small f.done) f.sent in
       let pass = deschedule_out p f.from plan small (lives.input f.from f.at) (store_at p f.from (lives.input f.from) f.at) f.way v tag k in
@@ -190,7 +190,7 @@ module _ {S : Type 0} (step : S → Input Msg → Deed Msg S) (p : Params) (plan
         soon = omega arith;
       }
 
-  by_controller : (c i y : ℕ) (link : LinkNo) (v : Instance) (tag : Option Tag) (f : From c i y link (msg.Deschedule v tag)) → f.from ≡ ctrl → FromController c y v tag
+  pub by_controller : (c i y : ℕ) (link : LinkNo) (v : Instance) (tag : Option Tag) (f : From c i y link (msg.Deschedule v tag)) → f.from ≡ ctrl → FromController c y v tag
   by_controller c i y link v tag f e =
       let done : f.at < h.count ctrl = subst (λ n. f.at < h.count n) e f.done in
       let sent : In (out.Send f.way (msg.Deschedule v tag)) (outs noted step h ctrl f.at) = subst (λ n. In (out.Send f.way (msg.Deschedule v tag)) (outs noted step h n f.at)) e f.sent in
@@ -225,7 +225,7 @@ module _ {S : Type 0} (step : S → Input Msg → Deed Msg S) (p : Params) (plan
       (cases_lt f.from p.cubs)
 
   -- with a tag
-  tag_controller : {c v s q y : ℕ} (g : GotTagAt p lives c v s q y) → FromController c y g.instance (Some g.tag) → TagFromController p (stop_facts step p plan nodes h orders ring) c v s q y
+  pub tag_controller : {c v s q y : ℕ} (g : GotTagAt p lives c v s q y) → FromController c y g.instance (Some g.tag) → TagFromController p (stop_facts step p plan nodes h orders ring) c v s q y
   tag_controller {c} {v} {s} {q} {y} g f =
       let b : ℕ = beat_at inputs f.at in
       let stops = stops_here step p plan nodes h orders ring f.at g.instance f.output b f.done refl f.stops in
@@ -247,7 +247,7 @@ module _ {S : Type 0} (step : S → Input Msg → Deed Msg S) (p : Params) (plan
         soon = f.soon;
       }
 
-  tag_from : {c v s q y : ℕ} → GotTagAt p lives c v s q y → TagFromController p (stop_facts step p plan nodes h orders ring) c v s q y ⊎ TagFromCub p (stop_facts step p plan nodes h orders ring) c v s q y
+  pub tag_from : {c v s q y : ℕ} → GotTagAt p lives c v s q y → TagFromController p (stop_facts step p plan nodes h orders ring) c v s q y ⊎ TagFromCub p (stop_facts step p plan nodes h orders ring) c v s q y
   tag_from {c} {v} {s} {q} {y} g = ⊎_elim
       (λ f. inl (tag_controller g f))
       (λ f. inr (record {
@@ -262,7 +262,7 @@ module _ {S : Type 0} (step : S → Input Msg → Deed Msg S) (p : Params) (plan
       (stop_from c y g.instance (Some g.tag) g.took)
 
   -- without a tag
-  bare_from : {c v y : ℕ} → GotBareAt p lives c v y → BareFrom p (stop_facts step p plan nodes h orders ring) c v y
+  pub bare_from : {c v y : ℕ} → GotBareAt p lives c v y → BareFrom p (stop_facts step p plan nodes h orders ring) c v y
   bare_from {c} {v} {y} g = ⊎_elim
       (λ f.
       let b : ℕ = beat_at inputs f.at in
