@@ -1,0 +1,7 @@
+pub mod Blocks
+pub mod Carried
+pub mod Facts
+pub mod Laws
+pub mod Lives
+pub mod Pieces
+pub mod Rings

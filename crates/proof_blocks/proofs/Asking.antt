@@ -1,0 +1,173 @@
+-- The laws of asking for whole blocks: what is asked for is due within the read lead, and what is due so is asked for.
+use Rattle.std.proofs.Common.{◌≡◌, ℕ, suc, ◌+◌, ◌<◌, ◌≤◌, [], true, false, refl, sym, ap, subst, ◌∙◌, ⊎_elim, inl, inr, arith}
+use Rattle.std.specs.Prelude.{◌⊎◌, ◌&&◌, not, nat_le}
+use Rattle.std.proofs.lemmas.Bool.{cases_Bool, and_parts, leb-true}
+use Rattle.tiger_base.specs.Kinds.{is_own}
+use Rattle.tiger_base.specs.Records.{own_of}
+use Rattle.tiger_base.specs.declared.number.Stamp.{Stamp}
+use Rattle.tiger_base.specs.declared.tenancy.Kind.{Kind}
+use Rattle.tiger_base.specs.declared.tenancy.Kind.TheVariants.{Own, Backup}
+use Rattle.tiger_base.specs.declared.tenancy.Rec.{Rec}
+use Rattle.tiger_base.specs.declared.tenancy.Tenancy.{Tenancy}
+use Rattle.slot_plan.specs.declared.params.Params.{Params}
+use Rattle.slot_plan.specs.Times.{due, cub_of}
+use Rattle.node_kit.specs.Steps.Input.{Tick}
+use Rattle.partial_view.specs.declared.line.Line.{Line}
+use Rattle.partial_view.specs.Lines.{key_of}
+use Rattle.slot_plan.specs.Keys.{due_of}
+use Rattle.disk_core.specs.State.{DiskState}
+use Rattle.cub_rules.specs.State.{IsRecordOf, IsLineOf}
+use Rattle.cub_rules.specs.Ticks.{must_read}
+use Rattle.schedule_laws.specs.Lives.{Lives, is_tick_input}
+use Rattle.schedule_laws.specs.Facts.{TickedAt}
+use Rattle.cub_changes.proofs.Beliefs.{not_true}
+use Rattle.cub_laws.proofs.Numbers.{piece_parts}
+use Rattle.schedule_laws.specs.Rings.{calm}
+use Rattle.schedule_laws.proofs.Lines.{stays}
+use Rattle.schedule_laws.proofs.Members.{all_in}
+use Rattle.schedule_laws.proofs.Moves.{Stays}
+use Rattle.schedule_laws.proofs.Order.{beats_rise, not_behind}
+use Rattle.schedule_laws.proofs.StateLaws.{entered_did, left}
+use Rattle.schedule_laws.proofs.States.{own_kind}
+use Rattle.proof_schedule.specs.Facts.{Facts, Entered}
+use Rattle.proof_pieces.specs.PieceFacts.{PieceFacts, AsksBy}
+use Rattle.proof_pieces.specs.PieceLaws.{IsThere}
+use Rattle.proof_service.specs.ServiceFacts.{ServiceFacts, ArisesBy, IsCutOff}
+use Rattle.cub_facts.specs.Facts.{Beyond, facts_by}
+use Rattle.cub_facts.specs.Pieces.{piece, AsksAt, pieces_by}
+use Rattle.cub_facts.specs.Pieces as facts
+use Rattle.cub_facts.specs.Blocks.{blocks_by}
+use Rattle.proof_blocks.proofs.Tracing.{trail, trail_unread, marked}
+use Rattle.proof_blocks.proofs.Living.{AreCubs, store_of, states_formed, beat_is, reading_is, kept_here, there_at}
+
+-- what is to be read is an own record's, has no mark, and is due within the read lead
+pub read_parts : (p : Params) (stamp : Stamp) (x : Line) → must_read p stamp x ≡ true
+    → (is_own x.rec.kind ≡ true)
+    × (x.asked ≡ false)
+    × (due p x.rec.tenancy.slot.0 x.rec.visit ≤ stamp.reading + p.read_lead)
+unfolding must_read
+read_parts p stamp x e =
+    let both = and_parts (is_own x.rec.kind && not x.asked)
+    (nat_le (due_of p (key_of x)) (stamp.reading + p.read_lead)) e in
+    let first = and_parts (is_own x.rec.kind) (not x.asked) both.0 in
+    (first.0, not_true x.asked first.1, leb-true _ _ both.1)
+
+-- an own record, by its parts
+pub own_record : (t : Tenancy) (n : ℕ) (kind : Kind) → is_own kind ≡ true
+    → record { tenancy = t; visit = n; kind = kind } ≡ own_of t n
+own_record t n Own e = refl
+own_record t n Backup e = absurd (cc)
+
+module _ (p : Params) (lives : Lives) (cubs : AreCubs p lives) (disk_at : ℕ → DiskState) (beyond : Beyond)
+    (came : (c b l : ℕ) → TickedAt p lives c b l → beyond.Came c b) where
+  abbrev r : Facts
+  r = facts_by p lives beyond
+
+  abbrev q : PieceFacts
+  q = pieces_by p lives
+
+  abbrev w : ServiceFacts
+  w = blocks_by p lives disk_at
+
+  -- what is asked for is there
+  pub asks : {c : ℕ} {t : Tenancy} {n b : ℕ} → AsksAt p lives c t n 0 b → IsThere p r q c t n 0 b p.read_lead
+  asks {c} {t} {n} {b} a = ⊎_elim
+      (λ k.
+      let i : ℕ = a.tick.at in
+      let x : Line = k.1 in
+      let same : x.rec ≡ own_of t n = k.2.1 in
+      let e = read_parts p (facts.stamp_of b a.reading) x k.3 in
+      let due_is : due p x.rec.tenancy.slot.0 x.rec.visit ≡ due p t.slot.0 n =
+      ap (λ (z : Rec). due p z.tenancy.slot.0 z.visit) same in
+      let soon = e.2 in
+      there_at p lives cubs c a.tick.small beyond (came c) p.read_lead a.tick x k.2.0 same
+      (λ d j stamp is from low.
+      let early = trail_unread p c (lives.input c) (suc i) i x d e.0 e.1 j stamp is from low in
+      omega arith)
+      (omega arith))
+      (λ k. let some = k.0 in absurd (omega arith))
+      a.asks
+
+  -- a line that is there after a tick, due within the read lead, was asked for
+  asked_by_tick : (c b l : ℕ) (t : Tenancy) (n : ℕ) (tick : TickedAt p lives c b l)
+      → Stays (own_of t n) (store_of p lives c (suc tick.at)).view.lines
+      → due p t.slot.0 n ≤ l + p.read_lead → AsksBy q c t n 0 b
+  asked_by_tick c b l t n tick s soon =
+      let i : ℕ = tick.at in
+      let low = tick.done in
+      let stamp : Stamp = facts.stamp_of b l in
+      let y : Line = s.line in
+      let own : is_own y.rec.kind ≡ true = subst (λ (r : Rec). is_own r.kind ≡ true) (sym s.same) refl in
+      let d = ap (λ (r : Rec). due p r.tenancy.slot.0 r.visit) s.same in
+      ⊎_elim
+      (λ (mark : y.asked ≡ true).
+      let m = marked p c (lives.input c) (suc i) y s.there mark in
+      let before = m.before in
+      let eb = beat_is p lives cubs c tick.small m.at (Tick m.stamp) m.is in
+      let ei = beat_is p lives cubs c tick.small i (Tick stamp) tick.is in
+      let rise = beats_rise p (lives.count c) (lives.input c) (cubs.lived c tick.small) m.at i (omega arith) low in
+      record {
+        beat = m.stamp.beat;
+        asks = record {
+          reading = m.stamp.reading;
+          tick = record { small = tick.small; at = m.at; done = omega arith; is = m.is };
+          asks = inl (refl, m.line, (m.there, sym m.same ∙ s.same), m.must);
+        };
+        by = omega arith;
+      })
+      (λ (mark : y.asked ≡ false).
+      let t = trail p c (lives.input c) (suc i) y s.there in
+      let from = t.before in
+      let early = trail_unread p c (lives.input c) (suc i) (suc i) y t own mark i stamp tick.is (omega arith)
+      (omega arith) in
+      absurd (omega arith))
+      (cases_Bool y.asked)
+
+  -- a record of a visit of the cub that is there is the visit's own record
+  own_stays : (c i : ℕ) (t : Tenancy) (n : ℕ) (kind : Kind) → c < p.cubs → i ≤ lives.count c → c ≡ cub_of p (n + 0)
+      → Stays (record { tenancy = t; visit = n; kind = kind }) (store_of p lives c i).view.lines
+      → Stays (own_of t n) (store_of p lives c i).view.lines
+  own_stays c i t n kind small low here s =
+      let r : Rec = record { tenancy = t; visit = n; kind = kind } in
+      let of : IsRecordOf p c r = subst (λ (z : Rec). IsRecordOf p c z) s.same
+      (all_in (IsLineOf p c) s.line (store_of p lives c i).view.lines
+      (kept_here p lives cubs c small i low).lines s.there) in
+      let visit : c ≡ cub_of p n = subst (λ (m : ℕ). c ≡ cub_of p m) (let z : n + 0 ≡ n = omega arith in z) here in
+      let own : r ≡ own_of t n = own_record t n kind (own_kind p c r cubs.plan of visit) in
+      record { line = s.line; there = s.there; same = subst (λ (z : Rec). s.line.rec ≡ z) own s.same }
+
+  -- what is due within the read lead is asked for
+  entered_asked : (c b l : ℕ) (t : Tenancy) (n e : ℕ) → Entered r c t n e → e ≤ b → c ≡ cub_of p (n + 0)
+      → TickedAt p lives c b l → l < due p t.slot.0 n → due p t.slot.0 n ≤ l + p.read_lead
+      → AsksBy q c t n 0 b ⊎ IsCutOff r w c t.instance.0 n b
+  entered_asked c b l t n e entered by here tick undue soon =
+      let small = tick.small in
+      let formed = states_formed p lives cubs c small in
+      let k = entered_did p cubs.plan lives cubs.lived formed (calm []) entered in
+      let z : Rec = record { tenancy = t; visit = n; kind = k.0 } in
+      let j : ℕ = k.1.at in
+      let i : ℕ = tick.at in
+      let low = tick.done in
+      let life = cubs.lived c small in
+      let ei = beat_is p lives cubs c small i (Tick (facts.stamp_of b l)) tick.is in
+      let el = reading_is p lives cubs c small i (Tick (facts.stamp_of b l)) tick.is in
+      let ej = k.1.in_beat in
+      let first : j ≤ i =
+      not_behind p (lives.count c) (lives.input c) life j i low k.1.done (ap is_tick_input tick.is) (omega arith) in
+      ⊎_elim
+      (λ s. inl (asked_by_tick c b l t n tick (own_stays c (suc i) t n k.0 small (omega arith) here s) soon))
+      (λ m.
+      let g = left p cubs.plan lives cubs.lived formed (calm []) c j i b z small low (omega arith) (omega arith) m in
+      inr (inl (record { beat = g.beat; reached = g.reached; by = g.by })))
+      (stays p c cubs.plan small (lives.input c) (suc i) j z (omega arith) k.1.did)
+
+  pub asks_due : {c : ℕ} {t : Tenancy} {n b l : ℕ} → ArisesBy r q c t n 0 b → c ≡ cub_of p (n + 0)
+      → TickedAt p lives c b l → l < due p t.slot.0 n → due p t.slot.0 n ≤ l + p.read_lead
+      → AsksBy q c t n 0 b ⊎ IsCutOff r w c t.instance.0 n b
+  asks_due {c} {t} {n} {b} {l} a here tick undue soon = ⊎_elim
+      (λ k. entered_asked c b l t n a.beat k.1 a.by here tick undue soon)
+      (λ k. ⊎_elim
+      (λ s. let e = s.0 in absurd (omega arith))
+      (λ s. let some = (piece_parts p (piece t n 0) s.formed).low in absurd (omega arith))
+      k)
+      a.arises

@@ -1,0 +1,9 @@
+pub mod Answered
+pub mod Asking
+pub mod Laws
+pub mod Leaving
+pub mod Living
+pub mod Marks
+pub mod Serving
+pub mod Single
+pub mod Tracing

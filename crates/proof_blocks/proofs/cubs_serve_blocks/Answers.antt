@@ -1,0 +1,8 @@
+use Rattle.cub_facts.specs.Facts.{cubs_alone}
+use Rattle.proof_blocks.proofs.Laws.{read_laws}
+use Rattle.proof_blocks.proofs.cubs_serve_blocks.Goals as goal
+
+pub returns : goal.returns
+returns c = λ p catalogue lives disk_at plan are formed disks.
+    read_laws p catalogue lives disk_at plan are formed (cubs_alone p lives)
+    (λ c b l tick. record { reading = l; ticked = tick }) disks

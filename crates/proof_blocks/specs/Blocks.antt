@@ -1,0 +1,26 @@
+-- What it means that cubs ask for whole blocks and serve them.
+use Rattle.std.specs.Prelude.{◌≡◌, ℕ}
+use Rattle.slot_plan.specs.declared.params.Params.{Params}
+use Rattle.slot_plan.specs.Conditions.{IsPlan}
+use Rattle.stripe_layout.specs.declared.catalogue.Catalogue.{Catalogue}
+use Rattle.disk_core.specs.State.{DiskState}
+use Rattle.schedule_laws.specs.Lives.{Lives, AreLives}
+use Rattle.stops_laws.specs.HoldsHere.{AreAllFormed}
+use Rattle.cub_facts.specs.Blocks.{blocks_by}
+use Rattle.cub_facts.specs.Facts.{HasTicked, cubs_alone, facts_by}
+use Rattle.cub_facts.specs.Laws.{ReadLaws}
+use Rattle.cub_facts.specs.Pieces.{pieces_by}
+use Rattle.proof_parts.specs.Asks.{HaveDisks}
+
+-- It is the number of the whole block.
+abbrev pub IsWhole : ℕ → Type 0
+IsWhole j = j ≡ 0
+
+-- Whatever befalls cubs whose messages are in form, if their disks have the images of a catalogue
+-- and answer what they are asked, they meet the laws of asking and serving of whole blocks.
+abbrev pub CubsServeBlocks : Type 0
+CubsServeBlocks = (p : Params) (catalogue : Catalogue) (lives : Lives) (disk_at : ℕ → DiskState)
+    → IsPlan p → AreLives p lives → AreAllFormed p lives
+    → HaveDisks p catalogue lives disk_at (HasTicked p lives)
+    → ReadLaws p catalogue (facts_by p lives (cubs_alone p lives)) (pieces_by p lives)
+    (blocks_by p lives disk_at) IsWhole

@@ -1,0 +1,166 @@
+-- The starts that a cub lets in: their instance is then neither held nor shown, and while a start waits no state of its
+-- instance is taken and no deschedule comes.
+use Rattle.std.proofs.Common.{◌≡◌, ℕ, zero, suc, ◌<◌, List, [], ◌∷◌, Bool, true, false, cond, not, Option, Some, None, refl, sym, ap, subst, ◌∙◌, arith, ⊎_elim, inl, inr, eq-or-lt_of_le}
+use Rattle.std.specs.Prelude.{◌⊎◌, ◌||◌}
+use Rattle.std.proofs.lemmas.Bool.{cases_Bool}
+use Rattle.tiger_base.specs.declared.number.Instance.{Instance}
+use Rattle.tiger_base.specs.declared.number.LinkNo.{LinkNo}
+use Rattle.tiger_base.specs.declared.number.Stamp.{Stamp}
+use Rattle.tiger_base.specs.declared.tenancy.Ask.{Ask}
+use Rattle.tiger_base.specs.declared.tenancy.Rec.{Rec}
+use Rattle.tiger_base.specs.declared.tenancy.State.{State}
+use Rattle.tiger_base.specs.declared.tenancy.Tenancy.{Tenancy}
+use Rattle.tiger_base.specs.declared.message.Msg.{Msg}
+use Rattle.tiger_base.specs.declared.message.Msg.TheVariants as msg
+use Rattle.tiger_base.specs.Notes.{noted}
+use Rattle.slot_plan.specs.declared.params.Params.{Params}
+use Rattle.slot_plan.specs.Keys.{Key}
+use Rattle.node_kit.specs.Form.{is_in_form}
+use Rattle.node_kit.specs.Steps.{Deed, Input}
+use Rattle.node_kit.specs.Steps.Input.{Take, Tick}
+use Rattle.viewer_state.specs.States.{is_visit_of}
+use Rattle.insert_queue.specs.Queues.{Queues, without_start}
+use Rattle.deschedule.specs.Holds.{is_held}
+use Rattle.node_kit.specs.Deeds.{nothing, each_in_turn}
+use Rattle.cub_rules.specs.declared.store.Store.{Store}
+use Rattle.cub_rules.specs.State.{is_ask}
+use Rattle.cub_rules.specs.Records.{took, dropping_start}
+use Rattle.cub_rules.specs.Messages.{position_at, passing_from, records_told, told, met, meeting_state, shows, meeting_start, hearing, taking}
+use Rattle.proof_cubs.specs.Grounds.{IsLetIn}
+use Rattle.schedule_laws.specs.Lives.{In, store_at, deed_of, is_tick_input}
+use Rattle.schedule_laws.proofs.Members.{chosen}
+use Rattle.schedule_laws.proofs.Moves.{taken_out}
+use Rattle.schedule_laws.proofs.Queuing.{took_steady, takes_start}
+use Rattle.schedule_laws.proofs.Steps.{not_false}
+use Rattle.schedule_laws.proofs.Taking.{HeldIn, hushed_took, passing_from_silent, taking_hears}
+use Rattle.schedule_laws.proofs.Telling.{taking_told}
+use Rattle.schedule_laws.proofs.Waiting.{IsQueued, queued_since}
+
+no_either : (a b : Bool) → (a || b) ≡ false → (a ≡ false) × (b ≡ false)
+no_either true b e = absurd (cc)
+no_either false b e = (refl, e)
+
+-- A start is discarded if it has no blocks or too many, or its instance is held or shown.
+abbrev pub is_refused : Ask → Store → Bool
+is_refused a h = not (is_ask a) || is_held h.held a.instance || shows h.view.lines a.instance
+
+-- A start that is discarded leaves the lists as they are.
+start_refused : (p : Params) (c : ℕ) (stamp : Stamp) (link : LinkNo) (a : Ask) (redundant : Bool) (h : Store)
+    → is_refused a h ≡ true → (taking p c stamp link (msg.Start a redundant) h).state.starts ≡ h.starts
+unfolding meeting_start
+start_refused p c stamp link a redundant h e =
+    ap (λ (d : Deed Msg Store). d.state.starts) (takes_start p c stamp link a redundant h) ∙ rw e refl
+
+-- ---- a state of which a record is taken drops the starts of its instance
+took_each : (rs : List Rec) (h : Store) → (each_in_turn took rs h).state.starts ≡ h.starts
+took_each [] h = refl
+took_each (r ∷ rs) h = took_each rs (took r h).state ∙ (took_steady r h).0
+
+drops : (v : Instance) (h : Store) → (dropping_start v h).state.starts ≡ without_start h.starts v
+unfolding dropping_start
+drops v h = refl
+
+told_drops : (s : State) (k : Key) (h : Store) → (told s k h).state.starts ≡ without_start h.starts s.tenancy.instance
+told_drops s k h =
+    took_each (records_told s k) (dropping_start s.tenancy.instance h).state ∙ drops s.tenancy.instance h
+
+met_drops : (p : Params) (c : ℕ) (stamp : Stamp) (s : State) (o : Option Key) (r : Rec) (h : Store)
+    → In (taken_out r) (met p c stamp s o h).outs
+    → (met p c stamp s o h).state.starts ≡ without_start h.starts s.tenancy.instance
+met_drops p c stamp s None r h i = absurd i
+met_drops p c stamp s (Some k) r h i =
+    let v : Instance = s.tenancy.instance in
+    let passed : Deed Msg Store = passing_from p c stamp v (Some k) h in
+    let silent = passing_from_silent p c (λ r. ⊥) (HeldIn h) stamp v (Some k) h (λ e. e) in
+    chosen (λ (d : Deed Msg Store). In (taken_out r) d.outs → d.state.starts ≡ without_start h.starts v)
+    (is_held h.held v) passed (told s k h)
+    (λ _ i. absurd (hushed_took (HeldIn h) r passed.outs silent.quiet i))
+    (λ _ i. told_drops s k h)
+    i
+
+state_drops : (p : Params) (c : ℕ) (stamp : Stamp) (link : LinkNo) (s : State) (r : Rec) (h : Store)
+    → In (taken_out r) (taking p c stamp link (msg.ViewerState s) h).outs
+    → (taking p c stamp link (msg.ViewerState s) h).state.starts ≡ without_start h.starts s.tenancy.instance
+unfolding taking hearing meeting_state
+state_drops p c stamp link s r h =
+    let v : Instance = s.tenancy.instance in
+    let P : Deed Msg Store → Type 0 = λ d. In (taken_out r) d.outs → d.state.starts ≡ without_start h.starts v in
+    let o : Option Key = position_at p c s.tenancy.slot s.visit in
+    let meets : Deed Msg Store = cond (is_visit_of s.tenancy s.visit) (met p c stamp s o h) (nothing h) in
+    chosen P (is_in_form p (noted (msg.ViewerState s))) meets (nothing h)
+    (λ _. chosen P (is_visit_of s.tenancy s.visit) (met p c stamp s o h) (nothing h)
+    (λ _ i. met_drops p c stamp s o r h i)
+    (λ _ i. absurd i))
+    (λ _ i. absurd i)
+
+-- A message of which a record is taken is such a state.
+pub took_drops : (p : Params) (c : ℕ) (k : Input Msg) (r : Rec) (h : Store) → is_tick_input k ≡ false
+    → In (taken_out r) (deed_of p c k h).outs
+    → (deed_of p c k h).state.starts ≡ without_start h.starts r.tenancy.instance
+took_drops p c (Take stamp link m) r h e i =
+    let s = (taking_hears p c stamp link m h).only_states r i in
+    let j = subst (λ (n : Msg). In (taken_out r) (taking p c stamp link n h).outs) s.1 i in
+    let same : r.tenancy ≡ s.0.tenancy = (taking_told p c stamp link s.0 r h j).tenancy in
+    subst (λ (n : Msg). (taking p c stamp link n h).state.starts ≡ without_start h.starts r.tenancy.instance) (sym s.1)
+    (state_drops p c stamp link s.0 r h j ∙ ap (λ (t : Tenancy). without_start h.starts t.instance) (sym same))
+took_drops p c (Tick stamp) r h e i = absurd (cc)
+
+module _ (p : Params) (c : ℕ) (inputs : ℕ → Input Msg) where
+  -- A start that stands in the lists after an input stood there before it, or was let in by it.
+  let_now : (i : ℕ) (a : Ask) → IsQueued a (store_at p c inputs (suc i)).starts
+      → IsQueued a (store_at p c inputs i).starts ⊎ IsLetIn p c inputs a (suc i)
+  let_now i a q = ⊎_elim
+      (λ k. inl k)
+      (λ s.
+      let from = s.from in
+      let before = s.before in
+      let at : s.at ≡ i = omega arith in
+      let h : Store = store_at p c inputs i in
+      let is : inputs i ≡ Take s.stamp s.link (msg.Start a s.redundant) = ap inputs (sym at) ∙ s.is in
+      ⊎_elim
+      (λ (t : is_refused a h ≡ true).
+      let now = subst (λ (x : Input Msg). IsQueued a (deed_of p c x h).state.starts) is q in
+      inl (subst (λ (w : Queues). IsQueued a w) (start_refused p c s.stamp s.link a s.redundant h t) now))
+      (λ (t : is_refused a h ≡ false).
+      let one = no_either (not (is_ask a) || is_held h.held a.instance) (shows h.view.lines a.instance) t in
+      let two = no_either (not (is_ask a)) (is_held h.held a.instance) one.0 in
+      inr (record {
+        at = i;
+        before = omega arith;
+        stamp = s.stamp;
+        link = s.link;
+        redundant = s.redundant;
+        is = is;
+        counted = not_false (is_ask a) two.0;
+        free = two.1;
+        unshown = one.1;
+        waits = λ k l m.
+            let e : suc i ≡ k = omega arith in subst (λ n. IsQueued a (store_at p c inputs n).starts) e q;
+      }))
+      (cases_Bool (is_refused a h)))
+      (queued_since p c inputs (suc i) i a (omega arith) q)
+
+  -- Each start in the lists was let in, and has waited since.
+  pub let_in : (i : ℕ) (a : Ask) → IsQueued a (store_at p c inputs i).starts → IsLetIn p c inputs a i
+  let_in zero a q = ⊎_elim (λ v. absurd v) (λ v. absurd v) q
+  let_in (suc i) a q = ⊎_elim
+      (λ w.
+      let s = let_in i a w in
+      let before = s.before in
+      record {
+        at = s.at;
+        before = omega arith;
+        stamp = s.stamp;
+        link = s.link;
+        redundant = s.redundant;
+        is = s.is;
+        counted = s.counted;
+        free = s.free;
+        unshown = s.unshown;
+        waits = λ k l m. ⊎_elim
+            (λ (e : k ≡ suc i). subst (λ n. IsQueued a (store_at p c inputs n).starts) (sym e) q)
+            (λ (b : k < suc i). s.waits k l (omega arith))
+            (eq-or-lt_of_le m);
+      })
+      (λ w. w)
+      (let_now i a q)

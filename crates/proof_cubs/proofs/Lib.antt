@@ -1,0 +1,15 @@
+pub mod Believing
+pub mod Coming
+pub mod Filling
+pub mod Holding
+pub mod Inserting
+pub mod Laws
+pub mod Letting
+pub mod Listing
+pub mod Members
+pub mod Second
+pub mod Sending
+pub mod Showing
+pub mod Standing
+pub mod Waiting
+pub mod Watching

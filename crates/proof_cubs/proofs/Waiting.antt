@@ -1,0 +1,221 @@
+-- While a start waits, a line stands at each visit of its disk in the window when insertion ends, and is shown after
+-- the tick.
+use Rattle.std.proofs.Common.{◌≡◌, ℕ, suc, ◌<◌, ◌≤◌, List, true, false, refl, sym, ap, subst, ◌∙◌, arith, ⊎_elim, inl, inr}
+use Rattle.std.specs.Prelude.{◌⊎◌}
+use Rattle.tiger_base.specs.declared.number.Stamp.{Stamp}
+use Rattle.tiger_base.specs.declared.tenancy.Ask.{Ask}
+use Rattle.tiger_base.specs.declared.tenancy.Rec.{Rec}
+use Rattle.tiger_base.specs.declared.message.Msg.{Msg}
+use Rattle.tiger_base.specs.declared.message.Msg.TheVariants as msg
+use Rattle.slot_plan.specs.declared.params.Params.{Params}
+use Rattle.slot_plan.specs.Times.{due, disk_of}
+use Rattle.node_kit.specs.Steps.{Input, stamp_of}
+use Rattle.insert_queue.specs.Queues.{Queues}
+use Rattle.partial_view.specs.declared.line.Line.{Line}
+use Rattle.cub_rules.specs.declared.store.Store.{Store}
+use Rattle.cub_rules.specs.Ticks.{inserting}
+use Rattle.proof_schedule.specs.Facts.{Facts, BelievedBy}
+use Rattle.proof_schedule.specs.StateLaws.{Stands}
+use Rattle.proof_schedule.specs.StartLaws.{IsInWindow, Waits}
+use Rattle.schedule_laws.specs.Facts as calm
+use Rattle.schedule_laws.specs.Facts.{TickedAt, TookMessage}
+use Rattle.schedule_laws.specs.Lives.{In, Lives, deed_of, store_at, is_tick_input, beat_at}
+use Rattle.schedule_laws.proofs.Members.{in_left, in_right}
+use Rattle.schedule_laws.proofs.Inserting.{put_out, IsAt}
+use Rattle.schedule_laws.proofs.Ticking.{before_inserting, inserted_out}
+use Rattle.schedule_laws.proofs.Order.{not_behind}
+use Rattle.schedule_laws.proofs.States.{tick_true, from_tick}
+use Rattle.schedule_laws.proofs.Seating.{PutOf, IsFull}
+use Rattle.schedule_laws.proofs.Filling.{inserting_full}
+use Rattle.schedule_laws.proofs.StartLaws.{after_insertion_moves, waits_on, joins}
+use Rattle.schedule_laws.proofs.Waiting.{IsQueued, before_once, before_forth, before_starts, once_at}
+use Rattle.stops_held.specs.InOrder.{AreInOrder}
+use Rattle.stops_held.proofs.Reaching.{states_formed}
+use Rattle.cub_facts.specs.Facts.{Beyond, facts_by}
+use Rattle.cub_facts.specs.Laws.{ShowsSlot}
+use Rattle.proof_cubs.specs.Setting.{Setting}
+use Rattle.proof_cubs.proofs.Believing.{none_apart, apart_at, believes_after, believes_when}
+use Rattle.proof_cubs.proofs.Filling.{inserting_full_apart}
+use Rattle.proof_cubs.proofs.Inserting.{line_stands}
+use Rattle.proof_cubs.proofs.Listing.{IsOut, out_of, put_out_by, queued_on, start_joins}
+use Rattle.proof_cubs.proofs.Standing.{message_before}
+
+-- A start that stands in a list when a tick begins stands in one when insertion begins.
+before_queued : (p : Params) (c : ℕ) (stamp : Stamp) (h : Store) (a : Ask) → IsQueued a h.starts
+    → IsQueued a (before_inserting p c stamp h).starts
+before_queued p c stamp h a k = ⊎_elim
+    (λ e. subst (λ (q : Queues). IsQueued a q) (sym e) k)
+    (λ e. subst (λ (q : Queues). IsQueued a q) (sym e) (inl (⊎_elim
+    (λ w. in_left a h.starts.waiting h.starts.redundant w)
+    (λ w. in_right a h.starts.waiting h.starts.redundant w)
+    k)))
+    (before_starts p c stamp h)
+
+module _ (p : Params) (lives : Lives) (beyond : Beyond) (set : Setting p lives beyond)
+    (outside : calm.Outside) (order : AreInOrder p lives outside) where
+  abbrev R : Facts
+  R = facts_by p lives beyond
+
+  abbrev Out : ℕ → ℕ → ℕ → Type 0
+  Out c v b = IsOut p lives beyond set outside order c v b
+
+  -- What the cub keeps when insertion begins at a tick.
+  abbrev ready : {c b l : ℕ} → TickedAt p lives c b l → Store
+  ready {c} {b} {l} w = before_inserting p c (record { beat = b; reading = l }) (store_at p c (lives.input c) w.at)
+
+  -- The lines when insertion ends.
+  abbrev filled : {c b l : ℕ} → TickedAt p lives c b l → List Line
+  filled {c} {b} {l} w = (inserting p c (record { beat = b; reading = l }) (ready w)).state.view.lines
+
+  in_beat : {c b l : ℕ} (w : TickedAt p lives c b l) → beat_at (lives.input c) w.at ≡ b
+  in_beat w = ap (λ (i : Input Msg). (stamp_of i).beat) w.is
+
+  -- A message came before each tick of its beat, or of a higher one.
+  start_before : {c b l y : ℕ} {m : Msg} (w : TickedAt p lives c b l) (g : TookMessage p lives c m y) → y ≤ b
+      → g.at < w.at
+  start_before {c} {b} {l} {y} w g le =
+      let wb = in_beat w in
+      let gb : beat_at (lives.input c) g.at ≡ y = ap (λ (i : Input Msg). (stamp_of i).beat) g.is in
+      let tick = tick_true (lives.input c) w.at (record { beat = b; reading = l }) w.is in
+      message_before p lives beyond set c w.at g.at w.small w.done g.done tick (ap is_tick_input g.is) (omega arith)
+
+  -- A plain start waits when insertion begins, or its instance is out.
+  plain_waits : {c b l y : ℕ} {ask : Ask} (w : TickedAt p lives c b l) → TookMessage p lives c (msg.Start ask false) y
+      → y ≤ b → In ask (ready w).starts.waiting ⊎ Out c ask.instance.0 b
+  plain_waits {c} {b} {l} {y} {ask} w g le =
+      let stamp : Stamp = record { beat = b; reading = l } in
+      let wb = in_beat w in
+      let gb : beat_at (lives.input c) g.at ≡ y = ap (λ (i : Input Msg). (stamp_of i).beat) g.is in
+      let formed = states_formed p set.plan lives outside order in
+      let before = start_before w g le in
+      ⊎_elim
+      (λ q. ⊎_elim
+      (λ k. inl (before_forth p c stamp (store_at p c (lives.input c) w.at) ask k))
+      (λ k. inr (out_of p lives beyond set outside order k))
+      (waits_on p set.plan lives set.lived formed outside order.started c b w.at ask w.small w.done (omega arith) w.at
+      (suc g.at) (omega arith) (omega arith) q))
+      (λ q. inr (out_of p lives beyond set outside order q))
+      (joins p set.plan lives set.lived formed outside order.started c g.at b ask
+      (record { beat = y; reading = g.reading }) g.link w.small g.done (omega arith) g.is)
+
+  -- Belief that was written by a tick is there when insertion begins.
+  believes_at : {c b l : ℕ} (w : TickedAt p lives c b l) → BelievedBy R c b → (ready w).believes ≡ true
+  believes_at {c} {b} {l} w k =
+      let inputs : ℕ → Input Msg = lives.input c in
+      let stamp : Stamp = record { beat = b; reading = l } in
+      let d = k.believed.did in
+      let by = k.by in
+      let db = d.in_beat in
+      let wb = in_beat w in
+      let tick = tick_true inputs w.at stamp w.is in
+      let low = not_behind p (lives.count c) inputs (set.lived c w.small) d.at w.at w.done d.done tick (omega arith) in
+      believes_when p c inputs w.at stamp w.is
+      (believes_after p c inputs (suc w.at) d.at k.believed.cub (omega arith) d.did)
+
+  -- A redundant start waits then too if the cub believes its predecessor dead, or its instance is out.
+  redundant_waits : {c b l y : ℕ} {ask : Ask} (w : TickedAt p lives c b l)
+      → TookMessage p lives c (msg.Start ask true) y → y ≤ b → (ready w).believes ≡ true
+      → In ask (ready w).starts.waiting ⊎ Out c ask.instance.0 b
+  redundant_waits {c} {b} {l} {y} {ask} w g le believes =
+      let inputs : ℕ → Input Msg = lives.input c in
+      let stamp : Stamp = record { beat = b; reading = l } in
+      let store : Store = store_at p c inputs w.at in
+      let wb = in_beat w in
+      let gb : beat_at (lives.input c) g.at ≡ y = ap (λ (i : Input Msg). (stamp_of i).beat) g.is in
+      let before = start_before w g le in
+      let none = none_apart p c stamp store (apart_at p c inputs w.at) believes in
+      ⊎_elim
+      (λ q. ⊎_elim
+      (λ k. inl (⊎_elim
+      (λ v. v)
+      (λ v. absurd (subst (λ (xs : List Ask). In ask xs) none v))
+      (before_queued p c stamp store ask k)))
+      (λ k. inr k)
+      (queued_on p lives beyond set outside order c b w.at ask w.small w.done (omega arith) w.at (suc g.at)
+      (omega arith) (omega arith) q))
+      (λ q. inr q)
+      (start_joins p lives beyond set outside order c g.at b ask (record { beat = y; reading = g.reading }) g.link
+      true w.small g.done (omega arith) g.is)
+
+  -- A line stands at visit n of slot s when insertion ends.
+  abbrev HasLine : {c b l : ℕ} → TickedAt p lives c b l → ℕ → ℕ → Type 0
+  HasLine w s n = (x : Line) × In x (filled w) × IsAt s n x
+
+  -- Of a visit in the window that is so if its disk is full, and else the start was put.
+  line_or_out : {c b l : ℕ} (ask : Ask) (s n : ℕ) (w : TickedAt p lives c b l) → s < p.slots → IsInWindow p l s n
+      → PutOf ask (inserting p c (record { beat = b; reading = l }) (ready w)).outs
+      ⊎ IsFull p l (disk_of p n) (filled w)
+      → HasLine w s n ⊎ Out c ask.instance.0 b
+  line_or_out {c} {b} {l} ask s n w slot window k = ⊎_elim
+      (λ v.
+      let stamp : Stamp = record { beat = b; reading = l } in
+      let wb = in_beat w in
+      let o = inserted_out p c stamp (store_at p c (lives.input c) w.at) (put_out v.0) v.1 in
+      inr (put_out_by p lives beyond set outside order c w.at b ask w.small w.done (omega arith)
+      (v.0, from_tick p c (lives.input c) w.at stamp (put_out v.0) w.is o, v.2)))
+      (λ v. inl (v s n slot refl window.0 window.1))
+      k
+
+  -- While a start waits a line stands at each visit of its disk in the window, or the instance is out.
+  has_line : {c : ℕ} {ask : Ask} {y b l : ℕ} (s n : ℕ) (w : TickedAt p lives c b l) → Waits p R c ask n y b → y ≤ b
+      → s < p.slots → IsInWindow p l s n → HasLine w s n ⊎ Out c ask.instance.0 b
+  has_line {c} {ask} {y} {b} {l} s n w k le slot window =
+      let stamp : Stamp = record { beat = b; reading = l } in
+      let once = before_once p c stamp (store_at p c (lives.input c) w.at) (once_at p c (lives.input c) w.at) in
+      ⊎_elim
+      (λ q. ⊎_elim
+      (λ v. line_or_out ask s n w slot window
+      (inserting_full p c stamp set.plan w.small n ask (ready w) q.1 v k.disk once))
+      (λ v. inr v)
+      (plain_waits w q.0 le))
+      (λ q.
+      let believes = believes_at w q.2 in
+      ⊎_elim
+      (λ v. line_or_out ask s n w slot window
+      (inserting_full_apart p c stamp set.plan w.small n ask (ready w) q.1 believes v k.disk once))
+      (λ v. inr v)
+      (redundant_waits w q.0 le believes))
+      k.how
+
+  -- The record of that line stands there, as the laws have it.
+  pub waits : {c : ℕ} {ask : Ask} {y b l : ℕ} (s n : ℕ) → Waits p R c ask n y b → y ≤ b → TickedAt p lives c b l
+      → s < p.slots → IsInWindow p l s n → Stands p R c s n b ⊎ Out c ask.instance.0 b
+  waits {c} {ask} {y} {b} {l} s n k le w slot window = ⊎_elim
+      (λ x. inl (line_stands p lives beyond set c w.at b s n (record { beat = b; reading = l }) x.0 w.small w.done w.is
+      (in_beat w) x.1 x.2))
+      (λ o. inr o)
+      (has_line s n w k le slot window)
+
+  -- Since a visit in the window is not due yet, its line is shown after the tick.
+  line_shown : {c b l : ℕ} (s n : ℕ) (w : TickedAt p lives c b l) → IsInWindow p l s n → HasLine w s n
+      → ShowsSlot R c s n b
+  line_shown {c} {b} {l} s n w window x =
+      let inputs : ℕ → Input Msg = lives.input c in
+      let stamp : Stamp = record { beat = b; reading = l } in
+      let h : Store = store_at p c inputs w.at in
+      let late = window.1 in
+      let same : due p x.0.rec.tenancy.slot.0 x.0.rec.visit ≡ due p s n =
+      ap (λ k. due p k x.0.rec.visit) x.2.0 ∙ ap (λ k. due p s k) x.2.1 in
+      ⊎_elim
+      (λ v. record {
+        holder = v.line.rec.tenancy;
+        slot = ap (λ (r : Rec). r.tenancy.slot.0) v.same ∙ x.2.0;
+        shows = record {
+          reading = l;
+          ticked = w;
+          line = v.line;
+          there = subst (λ (k : Input Msg). In v.line (deed_of p c k h).state.view.lines) (sym w.is) v.there;
+          tenancy = refl;
+          visit = ap (λ (r : Rec). r.visit) v.same ∙ x.2.1;
+        };
+      })
+      (λ d. absurd (omega arith))
+      (after_insertion_moves p c stamp h x.0 x.1)
+
+  -- So the cub's view shows such a record.
+  pub waits_shown : {c : ℕ} {ask : Ask} {y b l : ℕ} (s n : ℕ) → Waits p R c ask n y b → y ≤ b
+      → TickedAt p lives c b l → s < p.slots → IsInWindow p l s n → ShowsSlot R c s n b ⊎ Out c ask.instance.0 b
+  waits_shown s n k le w slot window = ⊎_elim
+      (λ x. inl (line_shown s n w window x))
+      (λ o. inr o)
+      (has_line s n w k le slot window)

@@ -1,0 +1,430 @@
+-- The controller meets the laws of stops: whom it stops, how and where, and that it knows of a Put in time.
+use Rattle.std.proofs.Common.{◌≡◌, ℕ, suc, ◌+◌, ◌%◌, ◌<◌, ◌≤◌, List, true, false, Option, Some, None, refl, sym, ap, subst, ◌∙◌, arith, ⊎_elim, inl, inr, eq-or-lt_of_le}
+use Rattle.std.specs.Prelude.{◌⊎◌}
+use Rattle.std.proofs.lemmas.Bool.{cases_lt}
+use Rattle.tiger_base.specs.declared.number.Instance.{Instance}
+use Rattle.tiger_base.specs.declared.number.LinkNo.{LinkNo}
+use Rattle.tiger_base.specs.declared.number.SlotNo.{SlotNo}
+use Rattle.tiger_base.specs.declared.number.Stamp.{Stamp}
+use Rattle.tiger_base.specs.declared.tenancy.Ask.{Ask}
+use Rattle.tiger_base.specs.declared.tenancy.Tag.{Tag}
+use Rattle.tiger_base.specs.declared.tenancy.Tenancy.{Tenancy}
+use Rattle.tiger_base.specs.declared.message.Msg.{Msg}
+use Rattle.tiger_base.specs.declared.message.Msg.TheVariants as msg
+use Rattle.slot_plan.specs.declared.params.Params.{Params}
+use Rattle.slot_plan.specs.Conditions.{IsPlan}
+use Rattle.slot_plan.specs.Times.{time_of, due, cub_of}
+use Rattle.node_kit.specs.declared.course.Order.{Order}
+use Rattle.node_kit.specs.declared.course.OrderKind.TheVariants.{Begin}
+use Rattle.node_kit.specs.declared.journal.What.TheVariants as what
+use Rattle.node_kit.specs.declared.outbox.Out.{Out}
+use Rattle.node_kit.specs.declared.outbox.Out.TheVariants as out
+use Rattle.node_kit.specs.Steps.{Deed, Input, stamp_of}
+use Rattle.node_kit.specs.Steps.Input.{Take, Tick}
+use Rattle.node_kit.specs.Ways.{way_to_cub, way_to_controller}
+use Rattle.run_facts.specs.Events.{stamp_at, is_tick}
+use Rattle.run_facts.specs.Events.NodeEvent.{Does}
+use Rattle.run_facts.specs.Histories.{History, beat, reading, ticks, living}
+use Rattle.run_facts.proofs.Counts.{count-numbered}
+use Rattle.cub_rules.specs.Ticks.{told_placed}
+use Rattle.disk_core.specs.State.{DiskState}
+use Rattle.controller_core.specs.Orders.{start_of}
+use Rattle.controller_core.specs.State.{tenancy_of}
+use Rattle.controller_core.specs.Rules.{starts, visit_due}
+use Rattle.schedule_laws.specs.Lives.{In, Lives, store_at, beat_at}
+use Rattle.schedule_laws.specs.Facts.{DidAt}
+use Rattle.schedule_laws.specs.Histories.{input_of}
+use Rattle.schedule_laws.proofs.Carrying.{stamp_same, count_rises, tick_same}
+use Rattle.schedule_laws.proofs.Inserting.{put_out}
+use Rattle.schedule_laws.proofs.Order.{tick_of}
+use Rattle.stops_ways.specs.Controllers.{controller, command, commands_at, known_at, GoneAt, Stops, StoppedAt, StoppedWaiting}
+use Rattle.stops_ways.proofs.Stopping.{tag_at, IsStopOf}
+use Rattle.stops_ways.proofs.Commanding.{StoppedIn, stopped_there, same_event, one_stop}
+use Rattle.stops_ways.proofs.Controllers.{same_instance, same_visit, tag_sent}
+use Rattle.stops_ways.proofs.Knowing.{start_from, told_before, known_told}
+use Rattle.stops_ways.proofs.Placings.{put_tells, told_put}
+use Rattle.stops_ways.proofs.Visits.{IsLastDue, last_due}
+use Rattle.stops_ways.proofs.Ends.{ends_controller}
+use Rattle.proof_schedule.specs.Facts.{Facts}
+use Rattle.proof_schedule.specs.StopLaws.{IsStopAt, IsStopWaiting, StopLaws}
+use Rattle.cub_facts.specs.Facts.{BegunAt, facts_of}
+use Rattle.cub_facts.specs.Lives.{lives_of}
+use Rattle.cub_facts.specs.Rings.{IsRingHistory, node_count}
+use Rattle.proof_links.proofs.Carrying.{came_from, delivered, did_as, did_before, from_cub}
+use Rattle.proof_links.proofs.Nodes.{after_tick, beat_same, before, controller_inside, cub_inside, did_in, did_it, event_is, formed_at, lives_on, rises}
+use Rattle.proof_links.proofs.Ordering.{both_start, finished_by, ordered_before}
+
+module _ {S : Type 0} {step : S → Input Msg → Deed Msg S} {p : Params} {orders : List Order} {disk_at : ℕ → DiskState}
+    {h : History Msg S} (plan : IsPlan p) (ring : IsRingHistory step p orders disk_at h) where
+  -- the lives, the controller's number and its inputs, and the facts
+  abbrev pub lives : Lives
+  lives = lives_of h
+
+  abbrev pub ctrl : ℕ
+  ctrl = controller p
+
+  abbrev pub inputs : ℕ → Input Msg
+  inputs = lives.input (controller p)
+
+  abbrev pub facts : Facts
+  facts = facts_of p orders h
+
+  -- ---- the controller's events
+
+  abbrev inside : controller p < node_count p
+  inside = controller_inside plan ring
+
+  -- The controller does not die.
+  pub whole : living h (controller p) ≡ h.count (controller p)
+  whole = lives_on plan ring (controller p) (controller_inside plan ring) (omega arith)
+
+  pub done_of : (i : ℕ) → i < living h (controller p) → i < h.count (controller p)
+  done_of i low = let w = whole in omega arith
+
+  pub alive_of : (i : ℕ) → i < h.count (controller p) → i < living h (controller p)
+  alive_of i low = let w = whole in omega arith
+
+  event_of : (i : ℕ) (k : Input Msg) → i < living h ctrl → inputs i ≡ k → h.event ctrl i ≡ Does k
+  event_of i k low e = event_is plan ring ctrl i (controller_inside plan ring) low ∙ ap (λ (x : Input Msg). Does x) e
+
+  beat_of : (i : ℕ) → beat h ctrl i ≡ beat_at inputs i
+  beat_of i = beat_same plan ring ctrl i
+
+  -- A tick ends its beat: a message that is taken in that beat or a lower one is taken before the tick.
+  tick_ends : (i : ℕ) (stamp : Stamp) → i < living h ctrl → inputs i ≡ Tick stamp
+      → ticks h ctrl (suc i) ≡ beat h ctrl i + 1
+  tick_ends i stamp low e = after_tick plan ring ctrl i (controller_inside plan ring) (done_of i low)
+      (ap is_tick (event_of i (Tick stamp) low e))
+
+  before_tick : (i j : ℕ) (stamp other : Stamp) (link : LinkNo) (m : Msg) → i < living h ctrl → j < living h ctrl
+      → inputs i ≡ Tick stamp → inputs j ≡ Take other link m
+      → beat h ctrl j ≤ beat h ctrl i → j < i
+  before_tick i j stamp other link m low upper e f by = ⊎_elim
+      (λ (l : j < i). l)
+      (λ (g : i ≤ j). ⊎_elim
+      (λ (same : i ≡ j). let z : ◌≡◌ {A = Input Msg} (Tick stamp) (Take other link m) = sym e
+      ∙ (ap inputs same ∙ f) in absurd (cc))
+      (λ (less : i < j).
+      let t = tick_ends i stamp low e in
+      let r = count_rises is_tick h ctrl (suc i) j less in
+      let b = ring.run.in_beat ctrl j (controller_inside plan ring) (done_of j upper) in
+      absurd (omega arith))
+      (eq-or-lt_of_le g))
+      (cases_lt j i)
+
+  -- A stop among the facts is a stop in the event.
+  pub stop_in : (v : Instance) (tag : Option Tag) (n b : ℕ) (s : Stops p orders lives v tag n b)
+      → StoppedIn p orders (inputs s.at) (known_at p orders inputs s.at) v
+      (out.Send (way_to_cub p (cub_of p n)) (msg.Deschedule v tag))
+  stop_in v tag n b s =
+      stopped_there p orders inputs s.at v (out.Send (way_to_cub p (cub_of p n)) (msg.Deschedule v tag)) refl s.near
+
+  -- It has the tag of its place.
+  stop_is : (v : Instance) (tag : Option Tag) (n b : ℕ) (s : Stops p orders lives v tag n b)
+      → (m : ℕ) × IsStopOf p orders (stop_in v tag n b s).stamp.reading (known_at p orders inputs s.at).placed v tag m
+  stop_is v tag n b s =
+      let i = stop_in v tag n b s in
+      let t = (tag_sent p (way_to_cub p (cub_of p n)) v v tag i.stopped.tag i.stopped.number i.stopped.which).0 in (
+        i.stopped.number,
+        subst (λ (x : Option Tag). IsStopOf p orders i.stamp.reading
+            (known_at p orders inputs s.at).placed v x i.stopped.number) (sym t) i.stopped.is,
+      )
+
+  -- What is stopped is gone.
+  pub gone_of : (v : Instance) (tag : Option Tag) (n b w : ℕ) → v.0 ≡ w → Stops p orders lives v tag n b
+      → GoneAt p orders lives w b
+  gone_of v tag n b w same s =
+      record { at = s.at; done = s.done; in_beat = s.in_beat; instance = v; same = same; gone = s.gone }
+
+  -- An output that speaks of a stop is one of the facts.
+  pub stops_here : (i : ℕ) (v : Instance) (o : Out Msg) (b : ℕ) → i < living h ctrl → beat_at inputs i ≡ b
+      → (s : StoppedIn p orders (inputs i) (known_at p orders inputs i) v o)
+      → Stops p orders lives v s.stopped.tag s.stopped.number b
+  unfolding cub_of
+  stops_here i v o b low at s = record {
+    at = i;
+    done = low;
+    in_beat = at;
+    gone = s.stopped.all (out.Act (what.Gone v)) (inl refl);
+    near = s.stopped.all (out.Send (way_to_cub p (s.stopped.number % p.cubs)) (msg.Deschedule v s.stopped.tag))
+        (inr (inl refl));
+    far = s.stopped.all (out.Send (way_to_cub p ((s.stopped.number + 1) % p.cubs)) (msg.Deschedule v s.stopped.tag))
+        (inr (inr (inl refl)));
+  }
+
+  -- A stop with the tag of a visit is a stop at it.
+  pub stopped_at : (v b n : ℕ) (w : Instance) (tag : Option Tag) (t : Tenancy) → w.0 ≡ v
+      → tag ≡ Some (tag_at t.slot n) → Stops p orders lives w tag n b → StoppedAt p orders lives v t.slot.0 n b
+  stopped_at v b n w tag t same e s =
+      record {
+        instance = w;
+        same = same;
+        slot = t.slot;
+        number = refl;
+        stops = subst (λ (x : Option Tag). Stops p orders lives w x n b) e s;
+      }
+
+  -- A stop without a tag is a stop at the disk of the start.
+  pub stopped_waiting : (v b n : ℕ) (w : Instance) (tag : Option Tag) (ask : Ask) → w.0 ≡ v
+      → start_of orders w ≡ Some ask → n ≡ ask.disk.0 → tag ≡ None → Stops p orders lives w tag n b
+      → StoppedWaiting p orders lives v n b
+  stopped_waiting v b n w tag ask same start e f s =
+      let from = start_from orders w ask start in
+      record {
+        ask = ask;
+        ordered = from.0;
+        same = from.1 ∙ same;
+        disk = sym e;
+        stops = subst (λ (x : Option Tag). Stops p orders lives ask.instance x n b) f
+            (subst (λ (x : Instance). Stops p orders lives x tag n b) (sym (same_instance ask.instance w from.1)) s);
+      }
+
+  how : {v z : ℕ} → GoneAt p orders lives v z
+      → ((s n : ℕ) × StoppedAt p orders lives v s n z) ⊎ ((d : ℕ) × StoppedWaiting p orders lives v d z)
+  how {v} {z} g =
+      let i = stopped_there p orders inputs g.at g.instance (out.Act (what.Gone g.instance)) refl g.gone in
+      let s = stops_here g.at g.instance (out.Act (what.Gone g.instance)) z g.done g.in_beat i in
+      let n : ℕ = i.stopped.number in
+      ⊎_elim
+      (λ q. let at = stopped_at v z n g.instance i.stopped.tag q.0 g.same q.4 s in inl (q.0.slot.0, n, at))
+      (λ q. inr (n, stopped_waiting v z n g.instance i.stopped.tag q.0 g.same q.2 q.3 q.4 s))
+      i.stopped.is
+
+  -- An instance is stopped in one event, and so in one beat.
+  pub one_event : (v w : Instance) (a b : Option Tag) (n m y z : ℕ) → v ≡ w
+      → (s : Stops p orders lives v a n y) (t : Stops p orders lives w b m z) → s.at ≡ t.at
+  one_event v w a b n m y z e s t =
+      let one = stop_in v a n y s in
+      let two = stop_in w b m z t in
+      same_event p orders inputs s.at t.at w (out.Send (way_to_cub p (cub_of p n)) (msg.Deschedule v a))
+      (out.Send (way_to_cub p (cub_of p m)) (msg.Deschedule w b))
+      (subst (λ (x : Instance). StoppedIn p orders (inputs s.at) (known_at p orders inputs s.at) x
+      (out.Send (way_to_cub p (cub_of p n)) (msg.Deschedule v a))) e one) two
+
+  one_beat : (i j b c : ℕ) → i ≡ j → beat_at inputs i ≡ b → beat_at inputs j ≡ c → c ≡ b
+  one_beat i j b c e f g = sym g ∙ (ap (λ n. beat_at inputs n) (sym e) ∙ f)
+
+  gone_once : {v y z : ℕ} → GoneAt p orders lives v y → GoneAt p orders lives v z → z ≡ y
+  gone_once {v} {y} {z} g k =
+      let one = stopped_there p orders inputs g.at g.instance (out.Act (what.Gone g.instance)) refl g.gone in
+      let two = stopped_there p orders inputs k.at k.instance (out.Act (what.Gone k.instance)) refl k.gone in
+      let e = same_instance g.instance k.instance (g.same ∙ sym k.same) in
+      one_beat g.at k.at y z
+      (same_event p orders inputs g.at k.at k.instance (out.Act (what.Gone g.instance)) (out.Act (what.Gone k.instance))
+      (subst (λ (x : Instance). StoppedIn p orders (inputs g.at) (known_at p orders inputs g.at) x
+      (out.Act (what.Gone g.instance))) e one) two)
+      g.in_beat k.in_beat
+
+  -- It is stopped with one tag.
+  one_tag : (v w : Instance) (a b : Option Tag) (n m y z : ℕ) → v ≡ w
+      → (s : Stops p orders lives v a n y) (t : Stops p orders lives w b m z) → a ≡ b
+  one_tag v w a b n m y z e s t =
+      let one = stop_is v a n y s in
+      let two = stop_is w b m z t in
+      let at = one_event v w a b n m y z e s t in
+      let stamps : (stop_in v a n y s).stamp ≡ (stop_in w b m z t).stamp =
+      ap stamp_of (sym (stop_in v a n y s).tick ∙ (ap inputs at ∙ (stop_in w b m z t).tick)) in
+      let moved =
+      subst (λ (x : Stamp). IsStopOf p orders x.reading (known_at p orders inputs t.at).placed w a one.0) stamps
+      (subst (λ (i : ℕ). IsStopOf p orders (stop_in v a n y s).stamp.reading
+      (known_at p orders inputs i).placed w a one.0) at
+      (subst (λ (x : Instance). IsStopOf p orders (stop_in v a n y s).stamp.reading
+      (known_at p orders inputs s.at).placed x a one.0) e one.1)) in
+      (one_stop p orders (stop_in w b m z t).stamp.reading
+      (known_at p orders inputs t.at).placed w a b one.0 two.0 moved two.1).0
+
+  one_place : {v s n y u m z : ℕ} → StoppedAt p orders lives v s n y → StoppedAt p orders lives v u m z
+      → (u ≡ s) × (m ≡ n)
+  one_place {v} {s} {n} {y} {u} {m} {z} a b =
+      let e = same_instance a.instance b.instance (a.same ∙ sym b.same) in
+      let t =
+      one_tag a.instance b.instance (Some (tag_at a.slot n)) (Some (tag_at b.slot m)) n m y z e a.stops b.stops in
+      let q = same_visit a.slot b.slot n m t in
+      (sym b.number ∙ (ap (λ (x : SlotNo). x.0) (sym q.0) ∙ a.number), sym q.1)
+
+  one_way : {v s n y d z : ℕ} → StoppedAt p orders lives v s n y → StoppedWaiting p orders lives v d z → ⊥
+  one_way {v} {s} {n} {y} {d} {z} a b =
+      let e = same_instance a.instance b.ask.instance (a.same ∙ sym b.same) in
+      let t = one_tag a.instance b.ask.instance (Some (tag_at a.slot n)) None n d y z e a.stops b.stops in
+      absurd (cc)
+
+  -- The reading of a stop is that of its beat.
+  read_at : (i b : ℕ) (stamp : Stamp) → i < living h ctrl → inputs i ≡ Tick stamp → beat_at inputs i ≡ b
+      → (time_of p b ≤ stamp.reading) × (stamp.reading ≤ time_of p b + p.skew)
+  read_at i b stamp low e f =
+      let r = ring.run.reads ctrl i (controller_inside plan ring) (done_of i low) in
+      let same : stamp_at (h.event ctrl i) ≡ stamp = stamp_same (h.event ctrl i) ∙ ap stamp_of e in
+      let reads : reading h ctrl i ≡ stamp.reading = ap (λ (s : Stamp). s.reading) same in
+      let beats : time_of p (beat h ctrl i) ≡ time_of p b = ap (λ n. time_of p n) (beat_of i ∙ f) in
+      let r0 = r.0 in
+      let r1 = r.1 in
+      (omega arith, omega arith)
+
+  -- A tenancy that the controller knows was put in a lower beat.
+  record PutBefore (t : Tenancy) (z : ℕ) : Type 0 where
+    cub : ℕ
+    beat : ℕ
+    put : DidAt p lives cub (put_out t) beat
+    before : beat < z
+
+  put_before : (i : ℕ) (v : Instance) (t : Tenancy) → i < living h ctrl
+      → tenancy_of (known_at p orders inputs i).placed v ≡ Some t → PutBefore t (beat h ctrl i)
+  put_before i v t low e =
+      let told = told_before p orders inputs i v t e in
+      let before = told.before in
+      let done : told.at < living h ctrl = omega arith in
+      let f = came_from plan ring ctrl told.at told.stamp told.link (msg.Placed t)
+      (controller_inside plan ring) done told.is in
+      let small = from_cub plan ring f (λ q. q) (λ q. q) in
+      let d = did_before plan ring f small in
+      let did = d.did in
+      let put = told_put p f.from plan small (lives.input f.from did.at)
+      (store_at p f.from (lives.input f.from) did.at) told.link t did.did in
+      let taken : beat h ctrl told.at ≡ told.stamp.beat =
+      beat_of told.at ∙ ap (λ (k : Input Msg). (stamp_of k).beat) told.is in
+      let rise = rises plan ring ctrl told.at i (controller_inside plan ring) (omega arith) (done_of i low) in
+      let later = d.later in
+      record {
+        cub = f.from;
+        beat = d.beat;
+        put = record { small = small; at = did.at; done = did.done; in_beat = did.in_beat; did = put };
+        before = omega arith;
+      }
+
+  place : {v s n z : ℕ} → StoppedAt p orders lives v s n z → IsStopAt p facts v s n z
+  place {v} {s} {n} {z} a =
+      let tag : Option Tag = Some (tag_at a.slot n) in
+      let i = stop_in a.instance tag n z a.stops in
+      let is = stop_is a.instance tag n z a.stops in
+      let reads = read_at a.stops.at z i.stamp a.stops.done i.tick a.stops.in_beat in
+      let reads0 = reads.0 in
+      let reads1 = reads.1 in
+      ⊎_elim
+      (λ q.
+      let t : Tenancy = q.0 in
+      let same = same_visit a.slot t.slot n is.0 q.4 in
+      let at : n ≡ visit_due p t i.stamp.reading = same.1 ∙ q.2 in
+      let slot : t.slot.0 ≡ s = ap (λ (x : SlotNo). x.0) (sym same.0) ∙ a.number in
+      let by = last_due p t (time_of p z) i.stamp.reading plan.ranges reads0 in
+      let by2 = subst (λ m. IsLastDue p t (time_of p z) i.stamp.reading m) (sym at) by in
+      let put = put_before a.stops.at a.instance t a.stops.done q.1 in
+      let told = told_before p orders inputs a.stops.at a.instance t q.1 in
+      let zb : beat h ctrl a.stops.at ≡ z = beat_of a.stops.at ∙ a.stops.in_beat in
+      let before = put.before in
+      let high = q.3 in
+      let number = same.1 in
+      record {
+        cub = put.cub;
+        tenancy = t;
+        beat = put.beat;
+        put = put.put;
+        before = omega arith;
+        same = told.same ∙ a.same;
+        slot = slot;
+        low = by2.low;
+        high = omega arith;
+        last = subst (λ x. ((due p x n ≤ time_of p z + p.skew) × (time_of p z < due p x (n + 1))) ⊎
+            ((n ≡ t.first) × (time_of p z < due p x n))) slot
+            (⊎_elim (λ w. let w0 = w.0 in inl (omega arith, w.1)) (λ w. inr w) by2.last);
+      })
+      (λ q. let e = q.4 in absurd (cc))
+      is.1
+
+  -- The controller is told of each Put, so it stops no instance at a disk a greatest delay after the Put.
+  unplaced : {c v d x z : ℕ} {t : Tenancy} → StoppedWaiting p orders lives v d z → DidAt p lives c (put_out t) x
+      → t.instance.0 ≡ v → z < x + p.delay
+  unplaced {c} {v} {d} {x} {z} {t} w put same = ⊎_elim
+      (λ (l : z < x + p.delay). l)
+      (λ (g : x + p.delay ≤ z).
+      let told : DidAt p lives c (told_placed p c t) x = record {
+        small = put.small;
+        at = put.at;
+        done = put.done;
+        in_beat = put.in_beat;
+        did = put_tells p c plan put.small (lives.input c put.at) (store_at p c (lives.input c) put.at) t put.did;
+      } in
+      let inside = cub_inside plan ring c put.small in
+      let way : LinkNo = way_to_controller p c in
+      let at = did_in plan ring told in
+      let xb = at.1 in
+      let i = stop_in w.ask.instance None d z w.stops in
+      let is = stop_is w.ask.instance None d z w.stops in
+      let zb : beat h ctrl w.stops.at ≡ z = beat_of w.stops.at ∙ w.stops.in_beat in
+      let next = tick_ends w.stops.at i.stamp w.stops.done i.tick in
+      let rise = count_rises is_tick h ctrl (suc w.stops.at) (h.count ctrl) (done_of w.stops.at w.stops.done) in
+      let r = delivered plan ring ctrl (did_as plan ring told).1 inside (controller_inside plan ring)
+      (ends_controller p c put.small) (omega arith) in
+      let took : inputs r.when ≡ Take r.stamp way (msg.Placed t) = ap input_of r.is in
+      let rb : beat h ctrl r.when ≡ r.stamp.beat = beat_of r.when ∙ ap (λ (k : Input Msg). (stamp_of k).beat) took in
+      let soon = r.soon in
+      let earlier = before_tick w.stops.at r.when i.stamp r.stamp way (msg.Placed t) w.stops.done
+      (alive_of r.when r.before) i.tick took (omega arith) in
+      let form = formed_at plan ring c told.at way (msg.Placed t) inside at.0 (did_it plan ring told) in
+      let known = known_told p orders inputs r.when w.stops.at r.stamp way t earlier took form in
+      let one : t.instance ≡ w.ask.instance = same_instance t.instance w.ask.instance (same ∙ sym w.same) in
+      let known2 : tenancy_of (known_at p orders inputs w.stops.at).placed w.ask.instance ≡ Some known.0 =
+      ap (λ (k : Instance). tenancy_of (known_at p orders inputs w.stops.at).placed k) (sym one) ∙ known.1 in
+      ⊎_elim
+      (λ q. let e = q.4 in absurd (cc))
+      (λ q. let e : None ≡ Some known.0 = sym q.1 ∙ known2 in absurd (cc))
+      is.1)
+      (cases_lt z (x + p.delay))
+
+  -- An order of a beat that the controller has ended was begun in it.
+  pub begun_by : (ask : Ask) (o i : ℕ) (stamp : Stamp) → In (record { beat = o; what = Begin ask }) orders
+      → i < living h ctrl → inputs i ≡ Tick stamp → o ≤ stamp.beat → BegunAt p orders lives ask o
+  unfolding cub_of starts
+  begun_by ask o i stamp ordered low e le =
+      let after = tick_ends i stamp low e in
+      let bi : beat h ctrl i ≡ stamp.beat = beat_of i ∙ ap (λ (k : Input Msg). (stamp_of k).beat) e in
+      let t = count-numbered is_tick h ctrl (suc i) o (omega arith) in
+      let tb = t.before in
+      let lt : t.at < living h ctrl = omega arith in
+      let b = ring.run.in_beat ctrl t.at (controller_inside plan ring) (done_of t.at lt) ∙ t.number in
+      let alive = (before plan ring ctrl t.at (controller_inside plan ring) lt).alive in
+      let s = tick_of (inputs t.at) (sym (tick_same (h.event ctrl t.at) alive) ∙ t.passes) in
+      let ib : beat_at inputs t.at ≡ o = sym (beat_of t.at) ∙ b in
+      let sb : o ≡ s.0.beat = sym ib ∙ ap (λ (k : Input Msg). (stamp_of k).beat) s.1 in
+      let now : In (record { beat = s.0.beat; what = Begin ask }) orders =
+      subst (λ n. In (record { beat = n; what = Begin ask }) orders) sb ordered in
+      let put : (q : Out Msg) → In q (starts p ask) → In q (commands_at p orders inputs t.at) = λ q k.
+      subst (λ (x : Input Msg). In q (command p orders x (known_at p orders inputs t.at)).outs) (sym s.1)
+      (both_start p orders s.0 (known_at p orders inputs t.at) ask q now k) in
+      record {
+        at = t.at;
+        done = lt;
+        in_beat = ib;
+        near = put
+            (out.Send (way_to_cub p (cub_of p ask.disk.0)) (msg.Start ask false)) (inl refl);
+        far =
+            put (out.Send (way_to_cub p (cub_of p (ask.disk.0 + 1))) (msg.Start ask true)) (inr (inl refl));
+      }
+
+  -- An instance that is stopped was begun before or in the same beat.
+  waiting : {v d z : ℕ} → StoppedWaiting p orders lives v d z → IsStopWaiting facts v d
+  waiting {v} {d} {z} s =
+      let f =
+      finished_by p orders (inputs s.stops.at) (known_at p orders inputs s.stops.at) s.ask.instance s.stops.gone in
+      let le = ordered_before ring.counted s.ask s.ask.instance s.ordered.0 f.stamp.beat s.ordered.1 f.ordered refl in
+      record {
+        ask = s.ask;
+        beat = s.ordered.0;
+        begun = begun_by s.ask s.ordered.0 s.stops.at f.stamp s.ordered.1 s.stops.done f.tick le;
+        same = s.same;
+        disk = s.disk;
+      }
+
+  -- The laws of stops.
+  pub stop_laws : StopLaws p facts
+  stop_laws = record {
+    how = how;
+    gone_at = λ s. gone_of s.instance _ _ _ _ s.same s.stops;
+    gone_waiting = λ s. gone_of s.ask.instance _ _ _ _ s.same s.stops;
+    gone_once = gone_once;
+    one_place = one_place;
+    one_way = one_way;
+    place = place;
+    waiting = λ s. waiting s;
+    unplaced =
+        λ {c} {v} {d} {x} {z} {t} w put same. let u = unplaced w put same in let d = plan.ranges.delay in omega arith;
+  }

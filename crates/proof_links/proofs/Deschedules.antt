@@ -1,0 +1,253 @@
+-- Deschedules on their links: who sent one that comes, and that each that is sent comes in time.
+use Rattle.std.proofs.Common.{◌≡◌, ℕ, ◌+◌, ◌<◌, ◌≤◌, List, Option, Some, None, refl, sym, ap, subst, ◌∙◌, ⊎_elim, inl, inr}
+use Rattle.std.specs.Prelude.{◌⊎◌}
+use Rattle.tiger_base.specs.declared.number.Instance.{Instance}
+use Rattle.tiger_base.specs.declared.number.LinkNo.{LinkNo}
+use Rattle.tiger_base.specs.declared.tenancy.Tag.{Tag}
+use Rattle.tiger_base.specs.declared.message.Msg.{Msg}
+use Rattle.tiger_base.specs.declared.message.Msg.TheVariants as msg
+use Rattle.slot_plan.specs.declared.params.Params.{Params}
+use Rattle.slot_plan.specs.Conditions.{IsPlan}
+use Rattle.slot_plan.specs.Times.{cub_of}
+use Rattle.node_kit.specs.declared.course.Order.{Order}
+use Rattle.node_kit.specs.declared.outbox.Out.{Out}
+use Rattle.node_kit.specs.declared.outbox.Out.TheVariants as out
+use Rattle.node_kit.specs.Steps.{Deed, Input}
+use Rattle.node_kit.specs.Ways.{way_ahead, way_to_cub}
+use Rattle.run_facts.specs.Histories.{History, living}
+use Rattle.disk_core.specs.State.{DiskState}
+use Rattle.schedule_laws.specs.Lives.{In, Lives, store_at, beat_at}
+use Rattle.schedule_laws.specs.Facts.{DidAt, TookMessage}
+use Rattle.stops_laws.specs.StopFactsOf.{ToldAt, GotTagAt, GotBareAt}
+use Rattle.stops_ways.specs.Controllers.{controller, known_at, commands_at, Stops, StoppedAt, StoppedWaiting}
+use Rattle.stops_ways.proofs.Stopping.{tag_at}
+use Rattle.stops_ways.proofs.Commanding.{StoppedIn, stopped_there}
+use Rattle.stops_ways.proofs.Controllers.{tag_sent}
+use Rattle.stops_ways.proofs.Deschedules.{deschedule_out}
+use Rattle.stops_ways.proofs.Ends.{ends_cub}
+use Rattle.stops_ways.proofs.Knowing.{some_same}
+use Rattle.stops_ways.proofs.Ways.{led}
+use Rattle.proof_schedule.specs.Facts.{Facts, IsBeside, GotTagBy, GotBareBy}
+use Rattle.proof_schedule.specs.LinkLaws.{TagFromController, TagFromCub, BareFrom}
+use Rattle.cub_facts.specs.Facts.{facts_of}
+use Rattle.cub_facts.specs.Lives.{lives_of, CameAt}
+use Rattle.cub_facts.specs.Rings.{IsRingHistory}
+use Rattle.proof_links.proofs.Carrying.{Came, TakenThere, commanded_before, did_before, from_either, reaches_near, sent_as, sent_there, took_from}
+use Rattle.proof_links.proofs.Nodes.{beat_same, controller_inside}
+use Rattle.proof_links.proofs.Controllers.{done_of, stops_here, stopped_waiting}
+use Rattle.proof_links.proofs.States.{sent_near}
+
+module _ {S : Type 0} {step : S → Input Msg → Deed Msg S} {p : Params} {orders : List Order} {disk_at : ℕ → DiskState}
+    {h : History Msg S} (plan : IsPlan p) (ring : IsRingHistory step p orders disk_at h) where
+  abbrev lives : Lives
+  lives = lives_of h
+
+  abbrev ctrl : ℕ
+  ctrl = controller p
+
+  abbrev inputs : ℕ → Input Msg
+  inputs = lives.input (controller p)
+
+  abbrev ring_facts : Facts
+  ring_facts = facts_of p orders h
+
+  -- ---- what is sent comes in time
+
+  -- A deschedule that a cub sends another.
+  pub told_arrives : {a k v s q x : ℕ} (c b : ℕ) → ToldAt p lives a k v s q x → c ≡ cub_of p (a + k) → CameAt p h c b
+      → x + p.delay ≤ b
+      → GotTagBy ring_facts c v s q (x + p.delay)
+  told_arrives {a} {k} {v} {s} {q} {x} c b t to w late =
+      let r = reaches_near plan ring c b t.did t.ahead to w late in
+      record {
+        beat = r.beat;
+        got = record {
+          instance = t.instance;
+          same = t.same;
+          tag = t.tag;
+          slot = t.slot;
+          visit = t.visit;
+          took =
+              r.took;
+        };
+        by = r.soon;
+      }
+
+  -- A deschedule that the controller sends to one of two cubs.
+  stop_arrives : (v : Instance) (tag : Option Tag) (n x c b : ℕ) (s : Stops p orders lives v tag n x) → IsBeside p c n
+      → CameAt p h c b → x + p.delay ≤ b
+      → (place : ℕ) × TakenThere plan ring ctrl s.at place c x (way_to_cub p c) (msg.Deschedule v tag)
+  stop_arrives v tag n x c b s beside w late =
+      let o : ℕ → Out Msg = λ k. out.Send (way_to_cub p k) (msg.Deschedule v tag) in
+      let said : In (o c) (commands_at p orders inputs s.at) = ⊎_elim
+      (λ e. subst (λ k. In (o k) (commands_at p orders inputs s.at)) (sym e) s.near)
+      (λ e. subst (λ k. In (o k) (commands_at p orders inputs s.at)) (sym e) s.far)
+      beside in
+      let done = done_of plan ring s.at s.done in
+      let there = subst (λ (os : List (Out Msg)). In (o c) os) (sym (ring.rules.controls s.at done)) said in
+      let note = sent_as plan ring ctrl s.at (way_to_cub p c) (msg.Deschedule v tag) done there in (
+        note.0,
+        sent_there plan ring c x b note.1 (controller_inside plan ring)
+            (beat_same plan ring ctrl s.at ∙ s.in_beat) (ends_cub p c w.small) w late,
+      )
+
+  -- With a tag it comes to the cub of its visit and to the next one.
+  pub tag_arrives : {v s n x : ℕ} (c b : ℕ) → StoppedAt p orders lives v s n x → IsBeside p c n → CameAt p h c b
+      → x + p.delay ≤ b
+      → GotTagBy ring_facts c v s n (x + p.delay)
+  tag_arrives {v} {s} {n} {x} c b a beside w late =
+      let tag : Tag = record { slot = a.slot; visit = n } in
+      let r = (stop_arrives a.instance (Some tag) n x c b a.stops beside w late).1 in
+      record {
+        beat = r.beat;
+        got = record { instance = a.instance; same = a.same; tag = tag; slot = a.number; visit = refl; took = r.took };
+        by = r.soon;
+      }
+
+  -- Without a tag it comes to the cub of the disk and to the next one.
+  pub bare_arrives : {v d x : ℕ} (c b : ℕ) → StoppedWaiting p orders lives v d x → IsBeside p c d → CameAt p h c b
+      → x + p.delay ≤ b
+      → GotBareBy ring_facts c v (x + p.delay)
+  bare_arrives {v} {d} {x} c b a beside w late =
+      let r = (stop_arrives a.ask.instance None d x c b a.stops beside w late).1 in
+      record { beat = r.beat; got = record { instance = a.ask.instance; same = a.same; took = r.took }; by = r.soon }
+
+  -- ---- what came was sent
+
+  -- A deschedule came from a cub, and it has a tag.
+  pub record FromCub (c y : ℕ) (v : Instance) (tag : Option Tag) : Type 0 where
+    pub from : ℕ
+    pub ahead : ℕ
+    pub near : (ahead ≡ 1) ⊎ (ahead ≡ 2)
+    pub tagged : (t : Tag) × (tag ≡ Some t)
+    pub beat : ℕ
+    pub did : DidAt p lives from (out.Send (way_ahead p from ahead) (msg.Deschedule v tag)) beat
+    pub to : c ≡ cub_of p (from + ahead)
+    pub later : beat < y
+    pub soon : y ≤ beat + p.delay
+
+  -- A deschedule came from the controller, which stopped the instance in its event of number at.
+  pub record FromController (c y : ℕ) (v : Instance) (tag : Option Tag) : Type 0 where
+    pub at : ℕ
+    pub done : at < living h ctrl
+    pub output : Out Msg
+    pub stops : StoppedIn p orders (inputs at) (known_at p orders inputs at) v output
+    pub tagged : tag ≡ stops.stopped.tag
+    pub to : IsBeside p c stops.stopped.number
+    pub later : beat_at inputs at < y
+    pub soon : y ≤ beat_at inputs at + p.delay
+
+  pub by_cub : {c i y : ℕ} {link : LinkNo} {v : Instance} {tag : Option Tag}
+      (f : Came plan ring c i y link (msg.Deschedule v tag)) → f.from < p.cubs → FromCub c y v tag
+  by_cub {c} {i} {y} {link} {v} {tag} f small =
+      let d = did_before plan ring f small in
+      let pass = deschedule_out p f.from plan small (lives.input f.from d.did.at)
+      (store_at p f.from (lives.input f.from) d.did.at) link v tag d.did.did in
+      let n = sent_near plan ring f.from c link small f.ends pass.0 in
+      record {
+        from = f.from;
+        ahead = n.steps;
+        near = n.near;
+        tagged = (pass.1, pass.2);
+        beat = d.beat;
+        did = subst (λ (x : LinkNo). DidAt p lives f.from (out.Send x (msg.Deschedule v tag)) d.beat) n.way d.did;
+        to = n.to;
+        later = d.later;
+        soon = d.soon;
+      }
+
+  by_controller : {c i y : ℕ} {link : LinkNo} {v : Instance} {tag : Option Tag}
+      (f : Came plan ring c i y link (msg.Deschedule v tag)) → f.from ≡ ctrl → FromController c y v tag
+  by_controller {c} {i} {y} {link} {v} {tag} f e =
+      let d = commanded_before plan ring f e in
+      let o : Out Msg = out.Send link (msg.Deschedule v tag) in
+      let s = stopped_there p orders inputs f.at v o refl d.did in
+      let t = tag_sent p link v v tag s.stopped.tag s.stopped.number s.stopped.which in
+      record {
+        at = f.at;
+        done = d.done;
+        output = o;
+        stops = s;
+        tagged = t.0;
+        to = ⊎_elim (λ q. inl (led p s.stopped.number c f.from link plan q f.ends))
+            (λ q. inr (led p (s.stopped.number + 1) c f.from link plan q f.ends)) t.1;
+        later = d.later;
+        soon = d.soon;
+      }
+
+  -- Each deschedule that a cub took came from the controller or from a cub.
+  pub stop_from : {c y : ℕ} {v : Instance} {tag : Option Tag} → TookMessage p lives c (msg.Deschedule v tag) y
+      → FromController c y v tag ⊎ FromCub c y v tag
+  stop_from g =
+      let f = took_from plan ring g in
+      ⊎_elim (λ q. inr (by_cub f q.0)) (λ q. inl (by_controller f q.0)) (from_either plan ring f (λ q. q))
+
+  tag_controller : {c v s q y : ℕ} (g : GotTagAt p lives c v s q y) → FromController c y g.instance (Some g.tag)
+      → TagFromController p ring_facts c v s q y
+  tag_controller {c} {v} {s} {q} {y} g f =
+      let b : ℕ = beat_at inputs f.at in
+      let stops = stops_here plan ring f.at g.instance f.output b f.done refl f.stops in
+      let number : f.stops.stopped.number ≡ q = ⊎_elim
+      (λ w.
+      let z : g.tag ≡ tag_at w.0.slot f.stops.stopped.number =
+      some_same g.tag (tag_at w.0.slot f.stops.stopped.number) (f.tagged ∙ w.4) in
+      sym (ap (λ (x : Tag). x.visit) z) ∙ g.visit)
+      (λ w. let e : Some g.tag ≡ None = f.tagged ∙ w.4 in absurd (cc))
+      f.stops.stopped.is in
+      let tag : Some g.tag ≡ Some (tag_at g.tag.slot q) = ap (λ (n : ℕ). Some (tag_at g.tag.slot n)) g.visit in
+      let moved =
+      subst (λ (x : Option Tag). Stops p orders lives g.instance x q b) (sym f.tagged ∙ tag)
+      (subst (λ n. Stops p orders lives g.instance f.stops.stopped.tag n b) number stops) in
+      record {
+        beat = b;
+        stopped = record { instance = g.instance; same = g.same; slot = g.tag.slot; number = g.slot; stops = moved };
+        to = subst (λ n. IsBeside p c n) number f.to;
+        later = f.later;
+        soon = f.soon;
+      }
+
+  -- So did each one with a tag.
+  pub tag_from : {c v s q y : ℕ} → GotTagAt p lives c v s q y
+      → TagFromController p ring_facts c v s q y ⊎ TagFromCub p ring_facts c v s q y
+  tag_from {c} {v} {s} {q} {y} g = ⊎_elim
+      (λ f. inl (tag_controller g f))
+      (λ f. inr (record {
+        from = f.from;
+        ahead = f.ahead;
+        beat = f.beat;
+        told = record {
+          ahead = f.near;
+          instance = g.instance;
+          same = g.same;
+          tag = g.tag;
+          slot = g.slot;
+          visit =
+              g.visit;
+          did = f.did;
+        };
+        to = f.to;
+        later = f.later;
+        soon = f.soon;
+      }))
+      (stop_from g.took)
+
+  -- Each one without a tag came from the controller.
+  pub bare_from : {c v y : ℕ} → GotBareAt p lives c v y → BareFrom p ring_facts c v y
+  bare_from {c} {v} {y} g = ⊎_elim
+      (λ f.
+      let b : ℕ = beat_at inputs f.at in
+      let stops = stops_here plan ring f.at g.instance f.output b f.done refl f.stops in
+      ⊎_elim
+      (λ w. let e : None ≡ Some (tag_at w.0.slot f.stops.stopped.number) = f.tagged ∙ w.4 in absurd (cc))
+      (λ w. record {
+        disk = f.stops.stopped.number;
+        beat = b;
+        stopped = stopped_waiting plan ring v b f.stops.stopped.number g.instance f.stops.stopped.tag w.0 g.same w.2
+            w.3 w.4 stops;
+        to = f.to;
+        later = f.later;
+        soon = f.soon;
+      })
+      f.stops.stopped.is)
+      (λ f. let e = f.tagged.1 in absurd (cc))
+      (stop_from g.took)

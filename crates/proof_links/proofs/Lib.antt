@@ -1,0 +1,16 @@
+pub mod Asking
+pub mod Carrying
+pub mod Controllers
+pub mod Deschedules
+pub mod InOrder
+pub mod Laws
+pub mod Lives
+pub mod Nodes
+pub mod Once
+pub mod Ordering
+pub mod Running
+pub mod Sending
+pub mod Starts
+pub mod States
+pub mod Telling
+pub mod Ways

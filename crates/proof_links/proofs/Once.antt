@@ -1,0 +1,398 @@
+-- A cub gets one start of an instance, and a deschedule without a tag behind it, as the controller sends them.
+use Rattle.std.proofs.Common.{◌≡◌, ℕ, suc, ◌+◌, ◌%◌, ◌<◌, ◌≤◌, ◌==◌, List, Bool, true, false, Some, None, refl, sym, ap, subst, ◌∙◌, arith, ⊎_elim, inl, inr}
+use Rattle.std.specs.Prelude.{◌⊎◌, slice_get}
+use Rattle.std.proofs.lemmas.Bool.{cases_lt, cases_order, eq-eqb, lt-ltb}
+use Rattle.tiger_base.specs.declared.number.Instance.{Instance}
+use Rattle.tiger_base.specs.declared.number.LinkNo.{LinkNo}
+use Rattle.tiger_base.specs.declared.number.Stamp.{Stamp}
+use Rattle.tiger_base.specs.declared.tenancy.Ask.{Ask}
+use Rattle.tiger_base.specs.declared.message.Msg.{Msg}
+use Rattle.tiger_base.specs.declared.message.Msg.TheVariants as msg
+use Rattle.tiger_base.specs.Notes.{noted}
+use Rattle.slot_plan.specs.declared.params.Params.{Params}
+use Rattle.slot_plan.specs.Conditions.{IsPlan}
+use Rattle.node_kit.specs.declared.course.Order.{Order}
+use Rattle.node_kit.specs.declared.course.OrderKind.TheVariants.{Begin, Finish}
+use Rattle.node_kit.specs.declared.journal.What.TheVariants as what
+use Rattle.node_kit.specs.declared.outbox.Out.{Out}
+use Rattle.node_kit.specs.declared.outbox.Out.TheVariants as out
+use Rattle.node_kit.specs.Links.{links_of, ends_of}
+use Rattle.node_kit.specs.Steps.{Deed, Input, stamp_of}
+use Rattle.node_kit.specs.Steps.Input.{Take, Tick}
+use Rattle.node_kit.specs.Ways.{way_to_cub}
+use Rattle.run_facts.specs.Events.{is_take_on, is_tick, sends_of}
+use Rattle.run_facts.specs.Events.NodeEvent.{Does}
+use Rattle.run_facts.specs.Histories.{History, beat, living, outs, takes}
+use Rattle.disk_core.specs.State.{DiskState}
+use Rattle.controller_core.specs.declared.known.Known.{Known}
+use Rattle.controller_core.specs.Orders.{orders_in}
+use Rattle.controller_core.specs.Rules.{starts, commanding}
+use Rattle.schedule_laws.specs.Lives.{In, Lives}
+use Rattle.schedule_laws.specs.Facts.{AreStarts}
+use Rattle.schedule_laws.specs.Rings.{calm}
+use Rattle.schedule_laws.proofs.Carrying.{count_rises, same_ends}
+use Rattle.stops_ways.specs.Controllers.{controller, command, known_at, IsOrdered}
+use Rattle.stops_ways.proofs.Stopping.{tag_at}
+use Rattle.stops_ways.proofs.Commanding.{stopped_there}
+use Rattle.stops_ways.proofs.Controllers.{tag_sent}
+use Rattle.stops_ways.proofs.Knowing.{start_from}
+use Rattle.stops_schedule.proofs.Behind.{each_behind, kept}
+use Rattle.ring_schedule.proofs.Controllers.{place_in}
+use Rattle.ring_schedule.proofs.Once.{IsOnce, StartAt, once_nothing}
+use Rattle.ring_stops.proofs.Commands.{commanding_once, way_low}
+use Rattle.cub_facts.specs.Lives.{lives_of}
+use Rattle.cub_facts.specs.Rings.{AreCounted, IsRingHistory}
+use Rattle.proof_links.proofs.Carrying.{Came, SentAs, came_from, commanded_before, from_controller, from_either, number_of, numbers_rise, dated}
+use Rattle.proof_links.proofs.Deschedules.{by_cub}
+use Rattle.proof_links.proofs.Nodes.{after_tick, beat_same, before, controller_inside, cub_inside, event_is}
+use Rattle.proof_links.proofs.Ordering.{FinishedBy, StartedBy, at_beat, counted_orders, finished_by, ordered_before, ordered_once, place_of, started_by}
+
+-- In an event the controller sends on a link each start once.
+command_once : {p : Params} {orders : List Order} (plan : IsPlan p) (counted : AreCounted p orders) (i : Input Msg)
+    (known : Known) (l b : ℕ) → IsOnce (sends_of l b (command p orders i known).outs)
+command_once {p} {orders} plan counted (Take stamp link m) known l b = once_nothing
+command_once {p} {orders} plan counted (Tick stamp) known l b =
+    commanding_once p orders stamp known l b plan (counted_orders counted)
+
+-- The link from the controller to a cub has the cub's number.
+low_link : (p : Params) (l from c : ℕ) → l < p.cubs → ends_of (links_of p) l ≡ Some (from, c) → l ≡ c
+low_link p l from c low ends =
+    let here : ends_of (links_of p) l ≡ Some (controller p, l) = rw (lt-ltb l p.cubs low) refl in
+    (same_ends (controller p) l from c (sym here ∙ ends)).1
+
+-- A stop at the disk of an ask goes to cubs to which its starts go.
+start_near : (p : Params) (ask : Ask) (way : LinkNo) (n : ℕ) → n ≡ ask.disk.0
+    → (way ≡ way_to_cub p (n % p.cubs)) ⊎ (way ≡ way_to_cub p ((n + 1) % p.cubs))
+    → (x : Bool) × In (out.Send way (msg.Start ask x)) (starts p ask)
+unfolding starts
+start_near p ask way n same w = ⊎_elim
+    (λ e. (
+      false,
+      inl (ap (λ (l : LinkNo). out.Send l (msg.Start ask false))
+          (e ∙ ap (λ k. way_to_cub p (k % p.cubs)) same)),
+    ))
+    (λ e. (
+      true,
+      inr (inl (ap (λ (l : LinkNo). out.Send l (msg.Start ask true))
+          (e ∙ ap (λ k. way_to_cub p ((k + 1) % p.cubs)) same))),
+    ))
+    w
+
+-- A deschedule among what a tick puts out on a link stands behind the start of its instance, if that is ordered in
+-- the same
+-- beat.
+start_ahead : (p : Params) (orders : List Order) (stamp : Stamp) (known : Known) (way : LinkNo) (b place : ℕ)
+    (v : Instance) (a : Ask) (x : Bool) → AreCounted p orders
+    → slice_get (sends_of way.0 b (command p orders (Tick stamp) known).outs) place
+    ≡ Some (dated b (msg.Deschedule v None))
+    → In (at_beat stamp.beat (Begin a)) orders → a.instance.0 ≡ v.0 → In (out.Send way (msg.Start a x)) (starts p a)
+    → (k : ℕ) × (k < place)
+    × (slice_get (sends_of way.0 b (command p orders (Tick stamp) known).outs) k ≡ Some (dated b (msg.Start a x)))
+unfolding commanding orders_in
+start_ahead p orders stamp known way b place v a x counted seen ordered same start =
+    let test : Order → Bool = λ o. o.beat == stamp.beat in
+    let g = each_behind p orders stamp.reading (orders_in stamp.beat orders) known way.0 b place v None seen in
+    let k = kept test orders g.at g.order g.is in
+    let order_is : g.order ≡ at_beat g.order.beat (Finish v) = ap (λ w. at_beat g.order.beat w) g.what in
+    let s = counted.given.after_start k.at v (g.order.beat, k.is ∙ ap (λ (o : Order). Some o) order_is) in
+    let first = s.3 in
+    let one = ordered_once counted a s.1 stamp.beat first.0 ordered
+    (place_in (at_beat first.0 (Begin s.1)) orders s.0 first.1) (same ∙ sym s.4) in
+    let begins : slice_get orders s.0 ≡ Some (at_beat stamp.beat (Begin a)) = first.1
+    ∙ ap (λ (q : Ask). Some (at_beat first.0 (Begin q))) one.0 ∙ ap (λ n. Some (at_beat n (Begin a))) one.1 in
+    let q = k.before s.0 (at_beat stamp.beat (Begin a)) s.2 begins (eq-eqb _ _ refl) in
+    g.ahead q.0 (at_beat stamp.beat (Begin a)) a way x q.1 q.2 refl start refl
+
+module _ {S : Type 0} {step : S → Input Msg → Deed Msg S} {p : Params} {orders : List Order} {disk_at : ℕ → DiskState}
+    {h : History Msg S} (plan : IsPlan p) (ring : IsRingHistory step p orders disk_at h) where
+  abbrev lives : Lives
+  lives = lives_of h
+
+  abbrev ctrl : ℕ
+  ctrl = controller p
+
+  abbrev inputs : ℕ → Input Msg
+  inputs = lives.input (controller p)
+
+  abbrev known : ℕ → Known
+  known i = known_at p orders inputs i
+
+  -- the link from the controller to a cub
+  abbrev way : ℕ → LinkNo
+  way c = record { 0 = c }
+
+  -- What cub c took in its event of number i the controller sent it in one of its own, at a place on that link.
+  record IsFrom (c i : ℕ) (m : Msg) (at place : ℕ) : Type 0 where
+    note : SentAs plan ring ctrl at place (way c) m
+    number : takes c h c i ≡ number_of plan ring ctrl at place (way c)
+    alive : at < living h ctrl
+
+  is_from : {c i b : ℕ} {link : LinkNo} {m : Msg} (f : Came plan ring c i b link m) → f.from ≡ ctrl → link.0 < p.cubs
+      → IsFrom c i m f.at f.place
+  is_from {c} {i} {b} {link} {m} f e low =
+      let d = commanded_before plan ring f e in
+      let link_is : link ≡ way c = ap way (low_link p link.0 f.from c low f.ends) in
+      record {
+        note = subst (λ (w : LinkNo). SentAs plan ring ctrl f.at f.place w m) link_is
+            (subst (λ n. SentAs plan ring n f.at f.place link m) e f.note);
+        number = subst (λ (w : LinkNo). takes w.0 h c i ≡ number_of plan ring ctrl f.at f.place w) link_is
+            (subst (λ n. takes link.0 h c i ≡ number_of plan ring n f.at f.place link) e f.number);
+        alive = d.done;
+      }
+
+  -- A start that a cub took came on the link from the controller.
+  record StartCame (c i : ℕ) (link : LinkNo) (ask : Ask) (redundant : Bool) : Type 0 where
+    at : ℕ
+    place : ℕ
+    own : link.0 ≡ c
+    sent : IsFrom c i (msg.Start ask redundant) at place
+    started : StartedBy p orders (inputs at) (way c) ask
+
+  start_came : (c i : ℕ) (stamp : Stamp) (link : LinkNo) (ask : Ask) (x : Bool) → c < p.cubs → i < living h c
+      → lives.input c i ≡ Take stamp link (msg.Start ask x) → StartCame c i link ask x
+  start_came c i stamp link ask x small low e =
+      let f = came_from plan ring c i stamp link (msg.Start ask x) (cub_inside plan ring c small) low e in
+      let k = from_controller plan ring f (λ q. q) (λ q. q) in
+      let d = commanded_before plan ring f k in
+      let s = started_by p orders (inputs f.at) (known f.at) link ask x plan d.did in
+      let own = low_link p link.0 f.from c s.low f.ends in
+      record {
+        at = f.at;
+        place = f.place;
+        own = own;
+        sent = is_from f k s.low;
+        started = subst (λ (w : LinkNo). StartedBy p orders (inputs f.at) w ask) (ap way own) s;
+      }
+
+  -- A deschedule without a tag that a cub took stops an instance one of whose starts goes out on the same link.
+  record StopCame (c i : ℕ) (v : Instance) : Type 0 where
+    at : ℕ
+    place : ℕ
+    sent : IsFrom c i (msg.Deschedule v None) at place
+    finished : FinishedBy orders (inputs at) v
+    ask : Ask
+    ordered : IsOrdered orders ask
+    same : ask.instance.0 ≡ v.0
+    redundant : Bool
+    start : In (out.Send (way c) (msg.Start ask redundant)) (starts p ask)
+
+  stop_came : (c i : ℕ) (stamp : Stamp) (link : LinkNo) (v : Instance) → c < p.cubs → i < living h c
+      → lives.input c i ≡ Take stamp link (msg.Deschedule v None) → StopCame c i v
+  stop_came c i stamp link v small low e =
+      let f = came_from plan ring c i stamp link (msg.Deschedule v None) (cub_inside plan ring c small) low e in
+      ⊎_elim
+      (λ q. let b = by_cub plan ring f q.0 in let t = b.tagged.1 in absurd (cc))
+      (λ q. by_controller f q.0)
+      (from_either plan ring f (λ q. q))
+    where
+      by_controller : (f : Came plan ring c i stamp.beat link (msg.Deschedule v None)) → f.from ≡ ctrl → StopCame c i v
+      by_controller f k =
+          let d = commanded_before plan ring f k in
+          let s = stopped_there p orders inputs f.at v (out.Send link (msg.Deschedule v None)) refl d.did in
+          let t = tag_sent p link v v None s.stopped.tag s.stopped.number s.stopped.which in
+          let link_low : link.0 < p.cubs = ⊎_elim
+          (λ q. subst (λ (w : LinkNo). w.0 < p.cubs) (sym q) (way_low p s.stopped.number plan))
+          (λ q. subst (λ (w : LinkNo). w.0 < p.cubs) (sym q) (way_low p (s.stopped.number + 1) plan))
+          t.1 in
+          let link_is : link ≡ way c = ap way (low_link p link.0 f.from c link_low f.ends) in
+          ⊎_elim
+          (λ w. let z : None ≡ Some (tag_at w.0.slot s.stopped.number) = t.0 ∙ w.4 in absurd (cc))
+          (λ w.
+          let from = start_from orders v w.0 w.2 in
+          let near = start_near p w.0 link s.stopped.number w.3 t.1 in
+          record {
+            at = f.at;
+            place = f.place;
+            sent = is_from f k link_low;
+            finished =
+                finished_by p orders (inputs f.at) (known f.at) v (s.stopped.all (out.Act (what.Gone v)) (inl refl));
+            ask = w.0;
+            ordered = from.0;
+            same = from.1;
+            redundant = near.0;
+            start = subst (λ (x : LinkNo). In (out.Send x (msg.Start w.0 near.0)) (starts p w.0)) link_is near.1;
+          })
+          s.stopped.is
+
+  -- ---- events of the controller
+
+  -- The controller's event of number i is a tick.
+  record TicksAt (i : ℕ) (stamp : Stamp) : Type 0 where
+    alive : i < living h ctrl
+    is : inputs i ≡ Tick stamp
+
+  tick_of_start : {c i : ℕ} {link : LinkNo} {ask : Ask} {x : Bool} (s : StartCame c i link ask x)
+      → TicksAt s.at s.started.stamp
+  tick_of_start s = record { alive = s.sent.alive; is = s.started.tick }
+
+  tick_of_stop : {c i : ℕ} {v : Instance} (s : StopCame c i v) → TicksAt s.at s.finished.stamp
+  tick_of_stop s = record { alive = s.sent.alive; is = s.finished.tick }
+
+  -- Of two ticks the earlier one has the lower beat, and the one with the lower beat is earlier.
+  ticks_apart : {i j : ℕ} {a b : Stamp} → TicksAt i a → TicksAt j b → i < j → a.beat < b.beat
+  ticks_apart {i} {j} {a} {b} s t less =
+      let inside = controller_inside plan ring in
+      let tick = ap is_tick (event_is plan ring ctrl i inside s.alive ∙ ap (λ (x : Input Msg). Does x) s.is) in
+      let bi : beat h ctrl i ≡ a.beat = beat_same plan ring ctrl i ∙ ap (λ (x : Input Msg). (stamp_of x).beat) s.is in
+      let bj : beat h ctrl j ≡ b.beat = beat_same plan ring ctrl j ∙ ap (λ (x : Input Msg). (stamp_of x).beat) t.is in
+      let next = after_tick plan ring ctrl i inside (before plan ring ctrl i inside s.alive).done tick in
+      let rise = count_rises is_tick h ctrl (suc i) j less in
+      let now = ring.run.in_beat ctrl j inside (before plan ring ctrl j inside t.alive).done in
+      omega arith
+
+  same_tick : {i j : ℕ} {a b : Stamp} → TicksAt i a → TicksAt j b → a.beat ≡ b.beat → i ≡ j
+  same_tick {i} {j} s t same = ⊎_elim
+      (λ (q : i ≡ j). q)
+      (⊎_elim
+      (λ (q : i < j). let r = ticks_apart s t q in absurd (omega arith))
+      (λ (q : j < i). let r = ticks_apart t s q in absurd (omega arith)))
+      (cases_order i j)
+
+  sooner_tick : {i j : ℕ} {a b : Stamp} → TicksAt i a → TicksAt j b → a.beat < b.beat → i < j
+  sooner_tick {i} {j} {a} {b} s t less = ⊎_elim
+      (λ (q : i ≡ j).
+      let same : a.beat ≡ b.beat = ap (λ (x : Input Msg). (stamp_of x).beat) (sym s.is ∙ (ap inputs q ∙ t.is)) in
+      absurd (omega arith))
+      (⊎_elim (λ (q : i < j). q) (λ (q : j < i). let r = ticks_apart t s q in absurd (omega arith)))
+      (cases_order i j)
+
+  -- what the controller puts out at a tick
+  outs_at_tick : (i : ℕ) (stamp : Stamp) → i < living h ctrl → inputs i ≡ Tick stamp
+      → outs noted step h ctrl i ≡ (command p orders (Tick stamp) (known i)).outs
+  outs_at_tick i stamp low e =
+      ring.rules.controls i (before plan ring ctrl i (controller_inside plan ring) low).done
+      ∙ ap (λ (x : Input Msg). (command p orders x (known i)).outs) e
+
+  -- On a link a start of an instance goes out once in an event.
+  one_place : (at l v j k : ℕ) → at < h.count ctrl
+      → StartAt (sends_of l (beat h ctrl at) (outs noted step h ctrl at)) j v
+      → StartAt (sends_of l (beat h ctrl at) (outs noted step h ctrl at)) k v → j ≡ k
+  one_place at l v j k done s t =
+      subst (λ (os : List (Out Msg)). IsOnce (sends_of l (beat h ctrl at) os)) (sym (ring.rules.controls at done))
+      (command_once plan ring.counted (inputs at) (known at) l (beat h ctrl at)) v j k s t
+
+  start_at : {c i at place : ℕ} {ask : Ask} {x : Bool} → IsFrom c i (msg.Start ask x) at place
+      → StartAt (sends_of c (beat h ctrl at) (outs noted step h ctrl at)) place ask.instance.0
+  start_at {c} {i} {at} {place} {ask} {x} s =
+      record { beat = beat h ctrl at; ask = ask; redundant = x; at = s.note.sends; same = refl }
+
+  -- ---- starts and deschedules of one instance
+
+  -- An event in which a cub takes a message on a link counts as one more.
+  pub counts : (c i l : ℕ) (stamp : Stamp) (link : LinkNo) (m : Msg) → c < p.cubs → i < living h c
+      → lives.input c i ≡ Take stamp link m → link.0 ≡ l → takes l h c (suc i) ≡ takes l h c i + 1
+  counts c i l stamp link m small low e same =
+      let t : is_take_on l (h.event c i) ≡ true = ap (is_take_on l)
+      (event_is plan ring c i (cub_inside plan ring c small) low ∙ ap (λ (q : Input Msg). Does q) e)
+      ∙ eq-eqb _ _ same in
+      rw t (omega arith)
+
+  by_number : (c j k l : ℕ) → takes l h c j < takes l h c k → j < k
+  by_number c j k l less = ⊎_elim
+      (λ (q : j < k). q)
+      (λ (q : k ≤ j). let r = count_rises (is_take_on l) h c k j q in absurd (omega arith))
+      (cases_lt j k)
+
+  same_number : (c j k l : ℕ) (s t : Stamp) (w v : LinkNo) (m n : Msg) → c < p.cubs → j < living h c → k < living h c
+      → lives.input c j ≡ Take s w m → lives.input c k ≡ Take t v n
+      → w.0 ≡ l → v.0 ≡ l → takes l h c j ≡ takes l h c k → j ≡ k
+  same_number c j k l s t w v m n small low high e f wl vl same =
+      let one = counts c j l s w m small low e wl in
+      let two = counts c k l t v n small high f vl in
+      ⊎_elim
+      (λ (q : j ≡ k). q)
+      (⊎_elim
+      (λ (q : j < k). let r = count_rises (is_take_on l) h c (suc j) k q in absurd (omega arith))
+      (λ (q : k < j). let r = count_rises (is_take_on l) h c (suc k) j q in absurd (omega arith)))
+      (cases_order j k)
+
+  -- A cub gets one start of an instance.
+  pub one_start : (c j k : ℕ) (s t : Stamp) (l m : LinkNo) (a b : Ask) (x y : Bool) → c < p.cubs → j < living h c
+      → k < living h c
+      → lives.input c j ≡ Take s l (msg.Start a x) → lives.input c k ≡ Take t m (msg.Start b y)
+      → a.instance.0 ≡ b.instance.0 → j ≡ k
+  one_start c j k s t l m a b x y small low high e f same =
+      let one = start_came c j s l a x small low e in
+      let two = start_came c k t m b y small high f in
+      let order = ordered_once ring.counted a b one.started.stamp.beat two.started.stamp.beat one.started.ordered
+      two.started.ordered same in
+      let event : two.at ≡ one.at = same_tick (tick_of_start two) (tick_of_start one) order.1 in
+      let there : IsFrom c k (msg.Start b y) one.at two.place =
+      subst (λ n. IsFrom c k (msg.Start b y) n two.place) event two.sent in
+      let starts : StartAt (sends_of c (beat h ctrl one.at) (outs noted step h ctrl one.at)) two.place a.instance.0 =
+      subst (λ v. StartAt (sends_of c (beat h ctrl one.at) (outs noted step h ctrl one.at)) two.place v) (sym same)
+      (start_at there) in
+      let places = one_place one.at c a.instance.0 one.place two.place one.sent.note.done (start_at one.sent) starts in
+      let numbers : takes c h c j ≡ takes c h c k =
+      one.sent.number ∙ ap (λ n. number_of plan ring ctrl one.at n (way c)) places ∙ sym there.number in
+      same_number c j k c s t l m (msg.Start a x) (msg.Start b y) small low high e f one.own two.own numbers
+
+  -- The starts that cubs get are those of the orders.
+  pub are_starts : AreStarts p lives (calm orders)
+  are_starts = record {
+    one_start = one_start;
+    ordered = λ c i s l a x small low e.
+        let r = start_came c i s l a x small low e in
+        (r.started.stamp.beat, r.started.ordered);
+    one_order = λ a b i j same. sym (ordered_once ring.counted a b i.0 j.0 i.1 j.1 same).0;
+    counted = λ a i. let k = place_of ring.counted a i.0 i.1 in ring.counted.counted k.0 a k.1;
+  }
+
+  -- A deschedule without a tag comes behind the start of its instance.
+  pub start_behind : (c j k : ℕ) (s t : Stamp) (l m : LinkNo) (v : Instance) (a : Ask) (x : Bool) → c < p.cubs
+      → j < living h c → k < living h c
+      → lives.input c j ≡ Take s l (msg.Deschedule v None) → lives.input c k ≡ Take t m (msg.Start a x)
+      → a.instance.0 ≡ v.0 → k < j
+  start_behind c j k s t l m v a x small low high e f same =
+      let stop = stop_came c j s l v small low e in
+      let start = start_came c k t m a x small high f in
+      let z : ℕ = stop.finished.stamp.beat in
+      let o : ℕ = start.started.stamp.beat in
+      let le = ordered_before ring.counted a v o z start.started.ordered stop.finished.ordered same in
+      let later = stop.sent.number in
+      let sooner = start.sent.number in
+      ⊎_elim
+      (λ (less : o < z).
+      let event = sooner_tick (tick_of_start start) (tick_of_stop stop) less in
+      let numbers = numbers_rise plan ring stop.at stop.place start.sent.note event in
+      by_number c k j c (omega arith))
+      (λ (more : z ≤ o).
+      let beats : o ≡ z = omega arith in
+      let event : start.at ≡ stop.at = same_tick (tick_of_start start) (tick_of_stop stop) beats in
+      let there : IsFrom c k (msg.Start a x) stop.at start.place =
+      subst (λ n. IsFrom c k (msg.Start a x) n start.place) event start.sent in
+      let places = in_one_event c j k v a x stop there
+      (subst (λ n. In (at_beat n (Begin a)) orders) beats start.started.ordered) same in
+      let number = there.number in
+      by_number c k j c (omega arith))
+      (cases_lt o z)
+    where
+      in_one_event : (c j k : ℕ) (v : Instance) (a : Ask) (x : Bool) (stop : StopCame c j v) {place : ℕ}
+          → IsFrom c k (msg.Start a x) stop.at place
+          → In (at_beat stop.finished.stamp.beat (Begin a)) orders → a.instance.0 ≡ v.0 → place < stop.place
+      in_one_event c j k v a x stop {place} there ordered same =
+          let b : ℕ = beat h ctrl stop.at in
+          let os : List (Out Msg) = outs noted step h ctrl stop.at in
+          let stamp : Stamp = stop.finished.stamp in
+          let ticked = outs_at_tick stop.at stamp stop.sent.alive stop.finished.tick in
+          let seen = subst (λ (ys : List (Out Msg)). slice_get
+          (sends_of c b ys) stop.place ≡ Some (dated b (msg.Deschedule v None))) ticked stop.sent.note.sends in
+          let ask : a ≡ stop.ask =
+          (ordered_once ring.counted stop.ask a stop.ordered.0 stamp.beat stop.ordered.1 ordered
+          (stop.same ∙ sym same)).0 in
+          let start : In (out.Send (way c) (msg.Start a stop.redundant))
+          (starts p a) = subst (λ (q : Ask). In (out.Send (way c) (msg.Start q stop.redundant)) (starts p q))
+          (sym ask) stop.start in
+          let r = start_ahead p orders stamp (known stop.at)
+          (way c) b stop.place v a stop.redundant ring.counted seen ordered same start in
+          let first : StartAt (sends_of c b os) r.0 a.instance.0 = record {
+            beat = b;
+            ask = a;
+            redundant = stop.redundant;
+            at = subst (λ (ys : List (Out Msg)). slice_get
+                (sends_of c b ys) r.0 ≡ Some (dated b (msg.Start a stop.redundant))) (sym ticked) r.2;
+            same = refl;
+          } in
+          let one = one_place stop.at c a.instance.0 place r.0 stop.sent.note.done (start_at there) first in
+          let less = r.1 in
+          omega arith

@@ -1,0 +1,197 @@
+-- The laws of the run: how far cubs are apart, and what a death ends.
+use Rattle.std.proofs.Common.{◌≡◌, ℕ, suc, ◌+◌, ◌<◌, ◌≤◌, List, true, false, refl, sym, ap, ◌∙◌, arith, ⊎_elim, inl, inr, eq-or-lt_of_le}
+use Rattle.std.specs.Prelude.{◌⊎◌}
+use Rattle.std.proofs.lemmas.Bool.{cases_lt}
+use Rattle.tiger_base.specs.declared.number.Stamp.{Stamp}
+use Rattle.tiger_base.specs.declared.message.Msg.{Msg}
+use Rattle.slot_plan.specs.declared.params.Params.{Params}
+use Rattle.slot_plan.specs.Conditions.{IsPlan}
+use Rattle.slot_plan.specs.Times.{time_of}
+use Rattle.node_kit.specs.declared.course.Order.{Order}
+use Rattle.node_kit.specs.declared.outbox.Out.{Out}
+use Rattle.node_kit.specs.Steps.{Deed, Input, stamp_of}
+use Rattle.node_kit.specs.Steps.Input.{Tick}
+use Rattle.run_facts.specs.Events.{NodeEvent, stamp_at, is_tick, is_death}
+use Rattle.run_facts.specs.Events.NodeEvent.{Does}
+use Rattle.run_facts.specs.Histories.{History, beat, ticks, living}
+use Rattle.disk_core.specs.State.{DiskState}
+use Rattle.schedule_laws.specs.Lives.{Lives, beat_at, reading_at, is_tick_input}
+use Rattle.schedule_laws.specs.Facts.{TickedAt, DidAt, TookMessage}
+use Rattle.schedule_laws.proofs.Carrying.{count_rises}
+use Rattle.schedule_laws.proofs.Order as order
+use Rattle.schedule_laws.proofs.Order.{tick_of, ticked_before}
+use Rattle.schedule_laws.proofs.States.{stamp_made}
+use Rattle.proof_schedule.specs.Facts.{Ended, DiedBy}
+use Rattle.proof_schedule.specs.RunLaws.{RunLaws}
+use Rattle.cub_facts.specs.Facts.{facts_of}
+use Rattle.cub_facts.specs.Lives.{lives_of, CameAt, DiedAt}
+use Rattle.cub_facts.specs.Rings.{IsRingHistory, IsUpTo}
+use Rattle.proof_links.proofs.Lives.{EndsInDeath, LivesOn}
+use Rattle.proof_links.proofs.Carrying.{not_behind}
+use Rattle.proof_links.proofs.Nodes.{after_tick, before, cub_inside, did_in, event_is, how, lived, rises, tick_is_no_death, ticks_same}
+
+module _ {S : Type 0} {step : S → Input Msg → Deed Msg S} {p : Params} {orders : List Order} {disk_at : ℕ → DiskState}
+    {h : History Msg S} (plan : IsPlan p) (ring : IsRingHistory step p orders disk_at h) where
+  abbrev lives : Lives
+  lives = lives_of h
+
+  -- A cub that ended a beat came to its tick.
+  pub came : {c b l : ℕ} → TickedAt p lives c b l → CameAt p h c b
+  came {c} {b} {l} w =
+      let inside = cub_inside plan ring c w.small in
+      let e = event_is plan ring c w.at inside w.done ∙ ap (λ (x : Input Msg). Does x) w.is in
+      record {
+        small = w.small;
+        at = w.at;
+        done = (before plan ring c w.at inside w.done).done;
+        tick = ap is_tick e;
+        in_beat = ap (λ (x : NodeEvent Msg). (stamp_at x).beat) e;
+      }
+
+  -- An event of a cub is in the beat of its death or before that.
+  death_last : (c i a : ℕ) → i < h.count c → DiedAt p h c a → beat h c i ≤ a
+  death_last c i a low d =
+      let inside = cub_inside plan ring c d.small in
+      let end = ring.run.ended c d.at inside d.done d.death in
+      let db = d.in_beat in
+      let r = rises plan ring c i d.at inside (omega arith) d.done in
+      omega arith
+
+  -- A cub comes to no tick after the beat of its death.
+  pub last : {c b a : ℕ} → CameAt p h c b → DiedAt p h c a → b ≤ a
+  last {c} {b} {a} w d = let r = death_last c w.at a w.done d in let at = w.in_beat in omega arith
+
+  -- What a cub did it did by the beat of its death.
+  pub did_last : {c b a : ℕ} {o : Out Msg} → DidAt p lives c o b → DiedAt p h c a → b ≤ a
+  did_last {c} {b} {a} d e =
+      let at = did_in plan ring d in let r = death_last c d.at a at.0 e in let b1 = at.1 in omega arith
+
+  -- A beat that a cub ended is below the beat of its death.
+  pub ticked_before_death : {c b l a : ℕ} → TickedAt p lives c b l → DiedAt p h c a → b < a
+  ticked_before_death {c} {b} {l} {a} w d =
+      let inside = cub_inside plan ring c d.small in
+      let t = came w in
+      let end = ring.run.ended c d.at inside d.done d.death in
+      let wb = t.in_beat in
+      let db = d.in_beat in
+      let done = t.done in
+      let one = after_tick plan ring c t.at inside t.done t.tick in
+      let less : t.at < d.at = ⊎_elim
+      (λ (q : t.at ≡ d.at). absurd (dead_tick c t.at d.at q t.tick d.death))
+      (λ (q : t.at < d.at). q)
+      (eq-or-lt_of_le (let z : t.at ≤ d.at = omega arith in z)) in
+      let rise = count_rises is_tick h c (suc t.at) d.at less in
+      let low = ring.run.in_beat c d.at inside d.done in
+      omega arith
+    where
+      dead_tick : (c i j : ℕ) → i ≡ j → is_tick (h.event c i) ≡ true → is_death (h.event c j) ≡ true → ⊥
+      dead_tick c i j e t d =
+          let z : true ≡ false =
+          sym d ∙ (ap (λ n. is_death (h.event c n)) (sym e) ∙ tick_is_no_death (h.event c i) t) in
+          absurd (cc)
+
+  -- A cub's readings never fall.
+  pub readings_rise : {c a b l m : ℕ} → TickedAt p lives c a l → TickedAt p lives c b m → a ≤ b → l ≤ m
+  readings_rise {c} {a} {b} {l} {m} v w le =
+      let inputs : ℕ → Input Msg = lives.input c in
+      let life = lived plan ring c v.small in
+      let va : beat_at inputs v.at ≡ a = ap (λ (i : Input Msg). (stamp_of i).beat) v.is in
+      let wb : beat_at inputs w.at ≡ b = ap (λ (i : Input Msg). (stamp_of i).beat) w.is in
+      let rv : reading_at inputs v.at ≡ l = ap (λ (i : Input Msg). (stamp_of i).reading) v.is in
+      let wr : reading_at inputs w.at ≡ m = ap (λ (i : Input Msg). (stamp_of i).reading) w.is in
+      let tick : is_tick_input (inputs w.at) ≡ true = ap is_tick_input w.is in
+      let before_it = order.not_behind p (living h c) inputs life v.at w.at w.done v.done tick (omega arith) in
+      let rise = life.rising v.at w.at before_it w.done in
+      omega arith
+
+  -- A cub ended the beats of the ticks among its first events.
+  pub ended_in : (d a i : ℕ) → d < p.cubs → i ≤ living h d → a < ticks h d i → Ended (facts_of p orders h) d a
+  ended_in d a i small low less =
+      let inputs : ℕ → Input Msg = lives.input d in
+      let same = ticks_same plan ring d i (cub_inside plan ring d small) low in
+      let t = ticked_before inputs i a (omega arith) in
+      let tb = t.before in
+      let s = tick_of (inputs t.at) t.tick in
+      let eb = (lived plan ring d small).in_beat t.at (omega arith) ∙ t.number in
+      let sb : s.0.beat ≡ a = sym (ap (λ (i : Input Msg). (stamp_of i).beat) s.1) ∙ eb in
+      record {
+        reading = s.0.reading;
+        ticked = record {
+          small = small;
+          at = t.at;
+          done = omega arith;
+          is = s.1 ∙ ap (λ (q : Stamp). Tick q)
+              (stamp_made s.0 a sb);
+        };
+      }
+
+  -- If a cub is not behind beat b unless it dies, it has ended each lower beat, or died by then.
+  ended_or_died : (d a b : ℕ) → d < p.cubs → a < b
+      → (((i : ℕ) → i < h.count d → is_death (h.event d i) ≡ false) → b ≤ ticks h d (h.count d))
+      → Ended (facts_of p orders h) d a ⊎ DiedBy (facts_of p orders h) d a
+  ended_or_died d a b small low up =
+      let inside = cub_inside plan ring d small in
+      ⊎_elim
+      (λ (l : LivesOn h d).
+      let r = up l.none in
+      let all : ticks h d (h.count d) ≡ ticks h d (living h d) = ap (λ n. ticks h d n) (sym l.all) in
+      inl (ended_in d a (living h d) small (omega arith) (omega arith)))
+      (λ (e : EndsInDeath h d).
+      let end = e.last in
+      let n : ℕ = living h d in
+      let db = ring.run.in_beat d n inside (omega arith) in
+      ⊎_elim
+      (λ (less : a < ticks h d n). inl (ended_in d a n small (omega arith) less))
+      (λ (more : ticks h d n ≤ a).
+      inr (record {
+        beat = beat h d n;
+        died = record { small = small; at = n; done = omega arith; death = e.death; in_beat = refl };
+        by = omega arith;
+      }))
+      (cases_lt a (ticks h d n)))
+      (how plan ring d inside)
+
+  -- Before a cub comes to the tick of a beat, each cub has ended each lower beat, or died.
+  pub up : {c b d a : ℕ} → CameAt p h c b → a < b → d < p.cubs
+      → Ended (facts_of p orders h) d a ⊎ DiedBy (facts_of p orders h) d a
+  up {c} {b} {d} {a} w low small =
+      ended_or_died d a b small low (λ lives. not_behind plan ring c b d w (cub_inside plan ring d small) lives)
+
+  -- If each node has ended each beat below end, or died, each cub has ended beat b below it, or died by then.
+  pub ends : {end c b : ℕ} → IsUpTo p end h → b < end → c < p.cubs
+      → Ended (facts_of p orders h) c b ⊎ DiedBy (facts_of p orders h) c b
+  ends {end} {c} {b} whole low small =
+      ended_or_died c b end small low (λ lives. whole.until c (cub_inside plan ring c small) lives)
+
+  -- A cub that takes a message has ended each lower beat.
+  pub ended_before : {c b y : ℕ} {m : Msg} → TookMessage p lives c m y → b < y → Ended (facts_of p orders h) c b
+  ended_before {c} {b} {y} {m} g low =
+      let done = g.done in
+      let inside = cub_inside plan ring c g.small in
+      let e = event_is plan ring c g.at inside g.done ∙ ap (λ (x : Input Msg). Does x) g.is in
+      let yb : beat h c g.at ≡ y = ap (λ (x : NodeEvent Msg). (stamp_at x).beat) e in
+      let b0 = ring.run.in_beat c g.at inside (before plan ring c g.at inside g.done).done in
+      ended_in c b g.at g.small (omega arith) (omega arith)
+
+  -- A reading is the true time of its beat, or at most the skew above it.
+  pub reads : {c b l : ℕ} → TickedAt p lives c b l → (time_of p b ≤ l) × (l ≤ time_of p b + p.skew)
+  reads {c} {b} {l} w =
+      let r = (lived plan ring c w.small).reads w.at w.done in
+      let wb : time_of p (beat_at (lives.input c) w.at) ≡ time_of p b =
+      ap (λ (i : Input Msg). time_of p (stamp_of i).beat) w.is in
+      let wr : reading_at (lives.input c) w.at ≡ l = ap (λ (i : Input Msg). (stamp_of i).reading) w.is in
+      let r0 = r.0 in
+      let r1 = r.1 in
+      (omega arith, omega arith)
+
+  -- The laws of the run.
+  pub run_laws : RunLaws p (facts_of p orders h)
+  run_laws = record {
+    came = came;
+    up = λ w low small. up w low small;
+    last = λ w d. last w d;
+    apart = λ d e to. ring.deaths.apart _ _ d.at e.at d.small e.small d.done e.done d.death e.death to;
+    got_ended = λ g low. ended_before g low;
+    reached_ended = λ g low. ended_before g.took low;
+    reads = reads;
+  }

@@ -1,0 +1,140 @@
+-- Which messages each kind of node sends: cubs, disks and the controller.
+use Rattle.std.proofs.Common.{◌≡◌, ℕ, List, true, refl, sym, subst, ⊎_elim}
+use Rattle.tiger_base.specs.declared.number.LinkNo.{LinkNo}
+use Rattle.tiger_base.specs.declared.number.Stamp.{Stamp}
+use Rattle.tiger_base.specs.declared.tenancy.Want.{Want}
+use Rattle.tiger_base.specs.declared.message.Msg.{Msg}
+use Rattle.tiger_base.specs.declared.message.Msg.TheVariants as msg
+use Rattle.tiger_base.specs.Notes.{noted}
+use Rattle.slot_plan.specs.declared.params.Params.{Params}
+use Rattle.slot_plan.specs.Conditions.{IsPlan}
+use Rattle.node_kit.specs.declared.course.Order.{Order}
+use Rattle.node_kit.specs.declared.outbox.Out.{Out}
+use Rattle.node_kit.specs.declared.outbox.Out.TheVariants as out
+use Rattle.node_kit.specs.Form.{is_in_form}
+use Rattle.node_kit.specs.Steps.{Deed, Input, stamp_of}
+use Rattle.node_kit.specs.Steps.Input.{Take, Tick}
+use Rattle.node_kit.specs.Ways.{way_from_disk}
+use Rattle.node_kit.specs.Deeds.{nothing}
+use Rattle.cub_rules.specs.declared.store.Store.{Store}
+use Rattle.cub_rules.specs.Cubs.{cub_step}
+use Rattle.cub_changes.specs.Causes.{Cause, IsService}
+use Rattle.cub_changes.specs.Changes.{Change}
+use Rattle.cub_changes.specs.Outputs.{Output, output, ComesOf}
+use Rattle.cub_changes.specs.Outputs.Output.{Took, HeartbeatSent}
+use Rattle.cub_changes.specs.Laws.{HasCause}
+use Rattle.cub_changes.proofs.Causing.{have_causes}
+use Rattle.disk_core.specs.State.{DiskState}
+use Rattle.disk_core.specs.Rules.{disk_step, asked, answers, read_part}
+use Rattle.controller_core.specs.declared.known.Known.{Known}
+use Rattle.schedule_laws.specs.Lives.{In, deed_of, is_tick_input}
+use Rattle.schedule_laws.proofs.Members.{chosen, all_in}
+use Rattle.schedule_laws.proofs.Wrapped.{cub_with, cub_outs}
+use Rattle.stops_ways.specs.Controllers.{command}
+use Rattle.ring_stops.proofs.Commands.{IsCommand, commanding_out}
+
+-- messages that a cub, a disk and the controller may send
+abbrev pub IsOfCub : Msg → Type 0
+IsOfCub (msg.Start ask redundant) = ⊥
+IsOfCub (msg.ReadDone want part) = ⊥
+IsOfCub other = Unit {0}
+
+abbrev pub IsOfDisk : Msg → Type 0
+IsOfDisk (msg.ReadDone want part) = Unit {0}
+IsOfDisk other = ⊥
+
+abbrev pub IsOfController : Msg → Type 0
+IsOfController (msg.Start ask redundant) = Unit {0}
+IsOfController (msg.Deschedule v tag) = Unit {0}
+IsOfController other = ⊥
+
+-- ---- cubs
+
+abbrev IsOutOfCub : Out Msg → Type 0
+IsOutOfCub (out.Send link m) = IsOfCub m
+IsOutOfCub other = Unit {0}
+
+form_of_cub : (p : Params) (c : ℕ) (stamp : Stamp) (f : Output) → IsOutOfCub (output p c stamp f)
+form_of_cub p c stamp (Took r) = tt
+form_of_cub p c stamp other = tt
+
+-- Whatever a cub puts out has a cause.
+cause_of : (p : Params) (c : ℕ) (i : Input Msg) (h : Store) (o : Out Msg) → In o (deed_of p c i h).outs
+    → HasCause p c i h o
+cause_of p c i h o k =
+    all_in (HasCause p c i h) o (cub_step (cub_with p c h) i).outs (have_causes (cub_with p c h) i)
+    (subst (λ (os : List (Out Msg)). In o os) (sym (cub_outs p c h i)) k)
+
+-- Whatever a cub sends is such a message.
+pub cub_sends : (p : Params) (c : ℕ) (i : Input Msg) (h : Store) (link : LinkNo) (m : Msg)
+    → In (out.Send link m) (deed_of p c i h).outs → IsOfCub m
+cub_sends p c i h link m k =
+    let why = cause_of p c i h (out.Send link m) k in
+    subst IsOutOfCub (sym why.is) (form_of_cub p c (stamp_of i) why.form)
+
+beat_form : (p : Params) (c : ℕ) (stamp : Stamp) (f : Output) (link : LinkNo)
+    → out.Send link msg.Heartbeat ≡ output p c stamp f → f ≡ HeartbeatSent
+beat_form p c stamp HeartbeatSent link e = refl
+beat_form p c stamp other link e = absurd (cc)
+
+-- A cub sends a heartbeat at a tick.
+pub beat_at_tick : (p : Params) (c : ℕ) (i : Input Msg) (h : Store) (link : LinkNo)
+    → In (out.Send link msg.Heartbeat) (deed_of p c i h).outs → is_tick_input i ≡ true
+beat_at_tick p c (Tick stamp) h link k = refl
+beat_at_tick p c (Take stamp way m) h link k =
+    let why = cause_of p c (Take stamp way m) h (out.Send link msg.Heartbeat) k in
+    let comes = subst (λ (f : Output). ComesOf p c stamp why.change why.before f)
+    (beat_form p c stamp why.form link why.is) why.comes in
+    let cause = subst (λ (x : Change). Cause p c stamp why.stage why.from x why.before) comes why.cause in
+    absurd (subst IsService why.of_event.0 cause.0)
+
+-- ---- disks
+
+-- What a disk sends at an input is its answer to an ask.
+pub record IsAnswer (s : DiskState) (i : Input Msg) (way : LinkNo) (m : Msg) : Type 0 where
+  pub stamp : Stamp
+  pub link : LinkNo
+  pub want : Want
+  pub ask : i ≡ Take stamp link (msg.ReadAsk want)
+  pub way_is : way ≡ way_from_disk s.params s.disk
+  pub is : m ≡ msg.ReadDone want (read_part s stamp.beat want)
+
+answer_of : (s : DiskState) (stamp : Stamp) (link : LinkNo) (n : Msg) (way : LinkNo) (m : Msg)
+    → In (out.Send way m) (answers stamp n s).outs → IsAnswer s (Take stamp link n) way m
+answer_of s stamp link (msg.ReadAsk want) way m k = ⊎_elim
+    (λ (e : out.Send way m ≡ out.Send (way_from_disk s.params s.disk)
+    (msg.ReadDone want (read_part s stamp.beat want))).
+    let way_is : way ≡ way_from_disk s.params s.disk = cc in
+    let is : m ≡ msg.ReadDone want (read_part s stamp.beat want) = cc in
+    record { stamp = stamp; link = link; want = want; ask = refl; way_is = way_is; is = is })
+    (λ i. absurd i)
+    k
+answer_of s stamp link other way m k = absurd k
+
+pub disk_sends : (s : DiskState) (i : Input Msg) (way : LinkNo) (m : Msg) → In (out.Send way m) (disk_step s i).outs
+    → IsAnswer s i way m
+unfolding asked
+disk_sends s (Take stamp link n) way m k =
+    chosen (λ (d : Deed Msg DiskState). In (out.Send way m) d.outs → IsAnswer s (Take stamp link n) way m)
+    (is_in_form s.params (noted n)) (answers stamp n s) (nothing s)
+    (λ _ i. answer_of s stamp link n way m i) (λ _ i. absurd i) k
+disk_sends s (Tick stamp) way m k = absurd k
+
+-- Such an answer is a message that a disk may send.
+pub of_answer : (s : DiskState) (i : Input Msg) (way : LinkNo) (m : Msg) → IsAnswer s i way m → IsOfDisk m
+of_answer s i way m a = subst IsOfDisk (sym a.is) tt
+
+-- ---- the controller
+
+-- A command of the controller is a message that it may send.
+pub of_command : (p : Params) (orders : List Order) (link : LinkNo) (m : Msg) → IsCommand p orders link m
+    → IsOfController m
+of_command p orders link m k =
+    ⊎_elim (λ s. subst IsOfController (sym s.is) tt) (λ d. subst IsOfController (sym d.2) tt) k
+
+-- Whatever it sends is such a message.
+pub command_sends : (p : Params) (orders : List Order) (i : Input Msg) (known : Known) (link : LinkNo) (m : Msg)
+    → IsPlan p → In (out.Send link m) (command p orders i known).outs → IsOfController m
+command_sends p orders (Take stamp way n) known link m plan k = absurd k
+command_sends p orders (Tick stamp) known link m plan k =
+    of_command p _ link m (commanding_out p orders stamp known link m plan k)

@@ -1,0 +1,24 @@
+//! What the links, the clocks, the runner, the controller and the disks give of every history of a ring in which cubs may die.
+#![tactic(auto)]
+
+ghost use Rattle.proof_links.specs.Statements.{CubsAreToldInOrder, DisksAnswerAsks, LinksMeetTheLaws, MessagesComeInOrder};
+
+/// Every history of a ring meets the laws of the run, of the links and of the controller.
+pub fn links_meet_the_laws<S>()
+    ensures { LinksMeetTheLaws S }
+{}
+
+/// What cubs take in such a history is in form and in order, and its starts are as the orders have it.
+pub fn messages_come_in_order<S>()
+    ensures { MessagesComeInOrder S }
+{}
+
+/// What cubs send one another comes in time and in order, and what they take was sent.
+pub fn cubs_are_told_in_order<S>()
+    ensures { CubsAreToldInOrder S }
+{}
+
+/// Each ask of a disk is answered in time, and each answer is to an ask.
+pub fn disks_answer_asks<S>()
+    ensures { DisksAnswerAsks S }
+{}

@@ -1,0 +1,90 @@
+-- A cub that asks a disk takes the answer two ways later at the latest; and what it keeps was read by a disk it asked.
+use Rattle.std.proofs.Common.{◌≡◌, ℕ, ◌+◌, ◌*◌, ◌<◌, ◌≤◌, [], ◌∷◌, true, Option, Some, None, refl, sym, subst, arith, inl}
+use Rattle.tiger_base.specs.Span.{LibraryPart}
+use Rattle.tiger_base.specs.declared.number.Stamp.{Stamp}
+use Rattle.tiger_base.specs.declared.tenancy.Want.{Want}
+use Rattle.tiger_base.specs.declared.message.Msg.{Msg}
+use Rattle.tiger_base.specs.declared.message.Msg.TheVariants as msg
+use Rattle.slot_plan.specs.declared.params.Params.{Params}
+use Rattle.node_kit.specs.declared.journal.What.TheVariants as what
+use Rattle.node_kit.specs.declared.outbox.Out.TheVariants as out
+use Rattle.node_kit.specs.Steps.{Deed, Input}
+use Rattle.cub_rules.specs.declared.store.Store.{Store}
+use Rattle.cub_rules.specs.declared.store.StoredPart.{StoredPart}
+use Rattle.cub_rules.specs.Messages.{is_wanted, storing}
+use Rattle.disk_core.specs.State.{DiskState}
+use Rattle.disk_core.specs.Rules.{read_part}
+use Rattle.schedule_laws.specs.Lives.{In, Lives, store_at, deed_of}
+use Rattle.schedule_laws.specs.Facts.{TookMessage}
+use Rattle.schedule_laws.proofs.Members.{in_right}
+use Rattle.stops_laws.specs.HoldsHere.{AreAllFormed}
+use Rattle.cub_facts.specs.Carried.{AskedDisk, DisksAnswer}
+use Rattle.proof_parts.specs.Parts.{CameFromDisk, IsKept, IsTakenBack}
+use Rattle.proof_parts.proofs.PartLives.{came_by_answer}
+use Rattle.proof_parts.proofs.Storing.{answer_kept}
+
+-- what is stored, or written down, for a record that is there
+stored_now : (p : Params) (c : ℕ) (inputs : ℕ → Input Msg) (i : ℕ) (want : Want) (part : Option LibraryPart)
+    → deed_of p c (inputs i) (store_at p c inputs i) ≡ storing want part (store_at p c inputs i)
+    → IsKept p c inputs i want part
+stored_now p c inputs i want (Some part) e =
+    let x : StoredPart = record { want = want; part = part } in
+    let h : Store = store_at p c inputs i in
+    subst (λ (d : Deed Msg Store). In x d.state.parts) (sym e) (in_right x h.parts (x ∷ []) (inl refl))
+stored_now p c inputs i want None e =
+    subst (λ (d : Deed Msg Store). In (out.Act (what.ReadFailed want)) d.outs) (sym e) (inl refl)
+
+module _ (p : Params) (lives : Lives) (formed : AreAllFormed p lives) where
+  -- an answer that is taken while its record is there is kept
+  pub kept : (c y : ℕ) (want : Want) (part : Option LibraryPart)
+      → (took : TookMessage p lives c (msg.ReadDone want part) y)
+      → is_wanted want (store_at p c (lives.input c) took.at) ≡ true
+      → IsKept p c (lives.input c) took.at want part
+  kept c y want part took wanted =
+      let inputs : ℕ → Input Msg = lives.input c in
+      let stamp : Stamp = record { beat = y; reading = took.reading } in
+      let h : Store = store_at p c inputs took.at in
+      let form = formed c took.small took.at stamp took.link (msg.ReadDone want part) took.done took.is in
+      stored_now p c inputs took.at want part
+      (subst (λ (i : Input Msg). deed_of p c i h ≡ storing want part h) (sym took.is)
+      (answer_kept p c stamp took.link want part h form wanted))
+
+  module _ (disk_at : ℕ → DiskState) (Came : ℕ → ℕ → Type 0) (disks : DisksAnswer p lives disk_at Came) where
+    -- who asks a disk takes the answer, and keeps it if it has a record for it then
+    pub taken_back : (c disk x b : ℕ) (want : Want) → AskedDisk p lives c disk want x → Came c b → x + 2 * p.delay ≤ b
+        → IsTakenBack p lives (disk_at disk) c want x
+    taken_back c disk x b want ask came late =
+        let a = disks.answered c disk x b want ask came late in
+        let after = a.after in
+        let in_time = a.in_time in
+        let later = a.later in
+        let soon = a.soon in
+        record {
+          taken = a.taken;
+          beat = a.beat;
+          took = a.answer;
+          read = omega arith;
+          before = later;
+          soon = omega arith;
+          kept = λ w. kept c a.beat want (read_part (disk_at disk) a.taken want) a.answer w;
+        }
+
+    -- what is stored came by an answer, and is what a disk read that the cub had asked for it
+    pub came_from_disk : (c i : ℕ) (x : StoredPart) → In x (store_at p c (lives.input c) i).parts → c < p.cubs
+        → i ≤ lives.count c
+        → CameFromDisk p lives disk_at c i x
+    came_from_disk c i x k small low =
+        let a = came_by_answer p c (lives.input c) i x k in
+        let before = a.before in
+        record {
+          came = a;
+          read = disks.of_asks c a.stamp.beat x.want (Some x.part)
+              (record {
+                small = small;
+                at = a.at;
+                done = omega arith;
+                reading = a.stamp.reading;
+                link = a.link;
+                is = a.is;
+              });
+        }

@@ -1,0 +1,13 @@
+pub mod Answering
+pub mod AskLives
+pub mod AskOutputs
+pub mod Asking
+pub mod CutOff
+pub mod Due
+pub mod Found
+pub mod Origins
+pub mod PartLives
+pub mod PieceForms
+pub mod PieceReads
+pub mod Storing
+pub mod TrueReads

@@ -1,0 +1,22 @@
+-- Cubs and their disks meet the laws of asking and serving of mirror pieces.
+use Rattle.std.specs.Prelude.{ℕ, ◌≤◌}
+use Rattle.slot_plan.specs.declared.params.Params.{Params}
+use Rattle.slot_plan.specs.Conditions.{IsPlan}
+use Rattle.stripe_layout.specs.declared.catalogue.Catalogue.{Catalogue}
+use Rattle.disk_core.specs.State.{DiskState}
+use Rattle.schedule_laws.specs.Lives.{Lives, AreLives}
+use Rattle.stops_laws.specs.HoldsHere.{AreAllFormed}
+use Rattle.cub_facts.specs.Blocks.{blocks_by}
+use Rattle.cub_facts.specs.Facts.{facts_by, cubs_alone, HasTicked}
+use Rattle.cub_facts.specs.Laws.{ReadLaws}
+use Rattle.cub_facts.specs.Pieces.{pieces_by}
+use Rattle.proof_parts.specs.Asks.{HaveDisks}
+
+-- Whatever befalls cubs whose messages are in form, if their disks have the images of a catalogue
+-- and answer what they are asked, they meet the laws of asking and serving of pieces.
+abbrev pub CubsServePieces : Type 0
+CubsServePieces = (p : Params) (catalogue : Catalogue) (lives : Lives) (disk_at : ℕ → DiskState)
+    → IsPlan p → AreLives p lives → AreAllFormed p lives
+    → HaveDisks p catalogue lives disk_at (HasTicked p lives)
+    → ReadLaws p catalogue (facts_by p lives (cubs_alone p lives)) (pieces_by p lives)
+    (blocks_by p lives disk_at) (λ j. 1 ≤ j)

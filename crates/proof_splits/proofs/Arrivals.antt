@@ -1,0 +1,417 @@
+-- Mirror states and kills on their way: whence they come, that they arrive, and that none overtakes another on a link.
+use Rattle.std.proofs.Common.{◌≡◌, ℕ, ◌+◌, ◌-◌, ◌%◌, ◌<◌, ◌≤◌, max, true, false, Option, refl, sym, ap, subst, ◌∙◌, arith, ⊎_elim, inl, inr}
+use Rattle.std.specs.Prelude.{◌⊎◌}
+use Rattle.std.proofs.lemmas.Nat.{mod_below}
+use Rattle.std.proofs.lemmas.Bool.{cases_Bool, cases_lt}
+use Rattle.tiger_base.specs.declared.number.Instance.{Instance}
+use Rattle.tiger_base.specs.declared.number.LinkNo.{LinkNo}
+use Rattle.tiger_base.specs.declared.number.SlotNo.{SlotNo}
+use Rattle.tiger_base.specs.declared.number.Stamp.{Stamp}
+use Rattle.tiger_base.specs.declared.tenancy.PieceState.{PieceState}
+use Rattle.tiger_base.specs.declared.tenancy.Tag.{Tag}
+use Rattle.tiger_base.specs.declared.tenancy.Tenancy.{Tenancy}
+use Rattle.tiger_base.specs.declared.message.Msg.{Msg}
+use Rattle.tiger_base.specs.declared.message.Msg.TheVariants as msg
+use Rattle.slot_plan.specs.declared.params.Params.{Params}
+use Rattle.slot_plan.specs.Conditions.{IsPlan}
+use Rattle.slot_plan.specs.Times.{cub_of}
+use Rattle.slot_plan.proofs.Times.{cub_below, same_cub}
+use Rattle.deschedule.specs.Holds.{is_held}
+use Rattle.mirror_schedule.specs.Pieces.{is_in}
+use Rattle.node_kit.specs.declared.outbox.Out.TheVariants as out
+use Rattle.node_kit.specs.Links.{links_of}
+use Rattle.node_kit.specs.Steps.{Input, stamp_of}
+use Rattle.node_kit.specs.Steps.Input.{Take, Tick}
+use Rattle.node_kit.specs.Ways.{way_ahead}
+use Rattle.node_kit.proofs.Ring.{ends_between}
+use Rattle.node_kit.proofs.Ways.{links_sound}
+use Rattle.cub_rules.specs.declared.store.Store.{Store}
+use Rattle.cub_changes.specs.Changes.{Change}
+use Rattle.cub_changes.specs.Changes.Change.{KillSplits}
+use Rattle.cub_changes.specs.Causes.{Stage, IsStageOf, IsDeschedule, Cause}
+use Rattle.cub_changes.specs.Causes.Stage.{OnMessage}
+use Rattle.cub_changes.specs.Laws.{HasCause}
+use Rattle.cub_changes.specs.Outputs.{Output, output, ComesOf}
+use Rattle.cub_changes.specs.Outputs.Output.{KillSent}
+use Rattle.cub_changes.proofs.Causing.{have_causes}
+use Rattle.schedule_laws.specs.Lives.{In, Lives, AreLives, store_at, deed_of, is_tick_input, beat_at}
+use Rattle.schedule_laws.specs.Facts.{TickedAt, DidAt, ReachedAt}
+use Rattle.schedule_laws.proofs.Carrying.{steps_made}
+use Rattle.schedule_laws.proofs.Keeping.{held_stopped}
+use Rattle.schedule_laws.proofs.Members.{all_in}
+use Rattle.schedule_laws.proofs.Order.{beats_rise}
+use Rattle.stops_laws.specs.HoldsHere.{AreAllFormed}
+use Rattle.stops_laws.proofs.HoldLaws.{reached_at}
+use Rattle.stops_laws.proofs.Begun.{IsStop}
+use Rattle.proof_schedule.specs.Facts.{ReachedBy}
+use Rattle.proof_pieces.specs.PieceFacts.{Arises, Uses}
+use Rattle.proof_pieces.specs.PieceLaws.{IsMirror, WasMirrored, MirrorSince}
+use Rattle.proof_service.specs.ServiceFacts.{ArisesBy}
+use Rattle.proof_service.specs.ServiceLaws.{WasReached}
+use Rattle.cub_facts.specs.Blocks.{KilledAt}
+use Rattle.cub_facts.specs.Carried.{Leads, CubsAreTold, TookInOrder}
+use Rattle.cub_facts.specs.Facts.{Beyond, facts_by}
+use Rattle.cub_facts.specs.Pieces.{piece, stamp_of as made_stamp, MirrorSentAt, MirroredAt, KillSentAt, AsksAt, ServesAt, pieces_by}
+use Rattle.proof_splits.specs.PieceRecords.{IsSplitOff, Enters, CutsOff, StandsSince, KeepsPieces}
+use Rattle.proof_splits.proofs.PieceSets.{there_is_in}
+use Rattle.proof_splits.proofs.Standing.{keeps_pieces}
+use Rattle.proof_splits.proofs.MirrorStates.{of_split, one_way}
+use Rattle.proof_splits.proofs.Backups.{before_tick, nowhere}
+
+-- ---- the links between cubs
+
+-- the link so many steps ahead leads to the cub that stands there
+pub ahead_ends : (p : Params) (c k : ℕ) → IsPlan p → c < p.cubs → 1 ≤ k → k ≤ max 2 p.pieces
+    → Leads p (way_ahead p c k) c (cub_of p (c + k))
+unfolding way_ahead cub_of
+ahead_ends p c k plan here low high =
+    let links = links_sound p plan in
+    let made : ((c + k) % p.cubs + p.cubs - c) % p.cubs ≡ k = steps_made c k p.cubs here
+    (omega (arith, plan.c10, plan.ranges.cubs, plan.ranges.pieces)) in
+    let to : (c + k) % p.cubs < p.cubs = mod_below (c + k) p.cubs (omega (arith, plan.ranges.cubs)) in
+    let e = ends_between (links_of p) c ((c + k) % p.cubs) links here to (rw made low) (rw made (omega arith)) in
+    rw made at e
+
+-- of two cubs that stand as many steps before a cub there is one
+pub one_before : (p : Params) (a b k : ℕ) → a < p.cubs → b < p.cubs → cub_of p (a + k) ≡ cub_of p (b + k) → a ≡ b
+one_before p a b k low high e = ⊎_elim
+    (λ (l : a < b). let z = same_cub p (a + k) (b + k) e (omega arith) (omega arith) in omega arith)
+    (λ (g : b ≤ a). let z = same_cub p (b + k) (a + k) (sym e) (omega arith) (omega arith) in omega arith)
+    (cases_lt a b)
+
+-- ---- a kill goes out at a deschedule
+
+kill_form : (p : Params) (c : ℕ) (stamp : Stamp) (x : Change) (h : Store) (link : LinkNo) (v : Instance) (s : SlotNo)
+    (n : ℕ) (o : Output)
+    → ComesOf p c stamp x h o → out.Send link (msg.Kill v s n) ≡ output p c stamp o → x ≡ KillSplits v
+kill_form p c stamp x h link v s n (KillSent steps y) comes e =
+    let same : v ≡ y.0 = cc in
+    comes.0 ∙ ap (λ (w : Instance). KillSplits w) (sym same)
+kill_form p c stamp x h link v s n other comes e = absurd (cc)
+
+-- An input is a deschedule of an instance.
+record IsStopInput (k : Input Msg) (v : Instance) : Type 0 where
+  stamp : Stamp
+  link : LinkNo
+  tag : Option Tag
+  is : k ≡ Take stamp link (msg.Deschedule v tag)
+
+stop_stage : (stamp : Stamp) (link : LinkNo) (m : Msg) (v : Instance) → IsDeschedule (OnMessage link m) v
+    → IsStopInput (Take stamp link m) v
+stop_stage stamp link (msg.Deschedule w tag) v d =
+    record {
+      stamp = stamp;
+      link = link;
+      tag = tag;
+      is = ap (λ (x : Instance). Take stamp link (msg.Deschedule x tag))
+          (sym d);
+    }
+stop_stage stamp link other v d = absurd d
+
+stop_input : (k : Input Msg) (old : Store) (g : Stage) (from : Store) (v : Instance) → IsStageOf k old g from
+    → IsDeschedule g v → IsStopInput k v
+stop_input (Take stamp link m) old g from v of d = stop_stage stamp link m v
+    (subst (λ (x : Stage). IsDeschedule x v) of.0 d)
+stop_input (Tick stamp) old (OnMessage link m) from v of d = absurd of
+stop_input (Tick stamp) old other from v of d = absurd d
+
+kill_cause : (p : Params) (c : ℕ) (k : Input Msg) (h : Store) (link : LinkNo) (v : Instance) (s : SlotNo) (n : ℕ)
+    → HasCause p c k h (out.Send link (msg.Kill v s n)) → IsStopInput k v
+kill_cause p c k h link v s n w =
+    let x = kill_form p c (stamp_of k) w.change w.before link v s n w.form w.comes w.is in
+    stop_input k h w.stage w.from v w.of_event
+    (subst (λ (y : Change). Cause p c (stamp_of k) w.stage w.from y w.before) x w.cause)
+
+kill_stops : (p : Params) (c : ℕ) (k : Input Msg) (h : Store) (link : LinkNo) (v : Instance) (s : SlotNo) (n : ℕ)
+    → In (out.Send link (msg.Kill v s n)) (deed_of p c k h).outs → IsStopInput k v
+kill_stops p c (Take stamp way m) h link v s n i =
+    kill_cause p c (Take stamp way m) h link v s n
+    (all_in (HasCause p c (Take stamp way m) h) (out.Send link (msg.Kill v s n)) (deed_of p c (Take stamp way m) h).outs
+    (have_causes (record { params = p; cub = c; store = h }) (Take stamp way m)) i)
+kill_stops p c (Tick stamp) h link v s n i =
+    kill_cause p c (Tick stamp) h link v s n
+    (all_in (HasCause p c (Tick stamp) h) (out.Send link (msg.Kill v s n)) (deed_of p c (Tick stamp) h).outs
+    (have_causes (record { params = p; cub = c; store = h }) (Tick stamp)) i)
+
+module _ (p : Params) (plan : IsPlan p) (lives : Lives) (are : AreLives p lives) (formed : AreAllFormed p lives)
+    (beyond : Beyond)
+    (came : (c b l : ℕ) → TickedAt p lives c b l → beyond.Came c b) (told : CubsAreTold p lives beyond.Came) where
+  life : (c : ℕ) → c < p.cubs → KeepsPieces p c (lives.count c) (lives.input c)
+  life c small = keeps_pieces p c plan.ranges.pieces.0 (lives.count c) (lives.input c) (formed c small)
+
+  -- a mirror state is of a split of its beat
+  pub mirrors : {a k : ℕ} {t : Tenancy} {n j b : ℕ} → MirrorSentAt p lives a k t n j b
+      → IsMirror p (pieces_by p lives) a k t n j b
+  mirrors {a} {k} {t} {n} {j} {b} w =
+      let s = of_split p lives a w.did in
+      let low = s.low in
+      let some = w.some in
+      let steps = one_way p a k (j - 1) w.some (omega arith) s.way in
+      record { split = s.split; piece = omega arith; some = w.some }
+
+  -- one that was got was sent
+  pub mirrored : {c : ℕ} {t : Tenancy} {n j y : ℕ} → MirroredAt p lives c t n j y
+      → WasMirrored p (pieces_by p lives) c t n j y
+  mirrored {c} {t} {n} {j} {y} w =
+      let a = told.mirrors c w.at (made_stamp y w.reading) w.link (piece t n j) w.small w.done w.is in
+      record {
+        from = a.from;
+        ahead = a.ahead;
+        beat = a.sent.beat;
+        sent = record {
+          some = a.some;
+          did = subst
+              (λ (l : LinkNo). DidAt p lives a.from (out.Send l (msg.MirrorState (piece t n j))) a.sent.beat) a.way
+              a.sent.sent;
+        };
+        to = a.to;
+        later = a.sent.later;
+        soon = a.sent.soon;
+      }
+
+  -- who tells a cub to drop pieces was reached by a deschedule before
+  pub dropped : {c v n y : ℕ} → KilledAt p lives c v n y → WasReached (facts_by p lives beyond) v y
+  dropped {c} {v} {n} {y} w =
+      let t = w.took in
+      let a = told.kills c t.at (made_stamp y t.reading) t.link w.instance w.slot n t.small t.done t.is in
+      let d = a.sent.sent in
+      let s = kill_stops p a.from (lives.input a.from d.at)
+      (store_at p a.from (lives.input a.from) d.at) t.link w.instance w.slot n d.did in
+      let stop : IsStop p a.from (lives.input a.from) d.at v =
+      record { stamp = s.stamp; link = s.link; instance = w.instance; tag = s.tag; is = s.is; same = w.same } in
+      record {
+        cub = a.from;
+        beat = a.sent.beat;
+        reached = subst (λ (b : ℕ). ReachedAt p lives a.from v b) d.in_beat
+            (reached_at p plan lives are formed nowhere a.from d.at v d.small d.done stop);
+        earlier = a.sent.later;
+      }
+
+  -- a piece record entered as the facts say
+  arises : (c i : ℕ) (k : Input Msg) (x : PieceState) → (small : c < p.cubs) → i < lives.count c → lives.input c i ≡ k
+      → Enters p c k (store_at p c (lives.input c) i) x → is_in x (store_at p c (lives.input c) i).pieces.items ≡ false
+      → Arises (facts_by p lives beyond) (pieces_by p lives) c x.tenancy x.visit x.piece (stamp_of k).beat
+  arises c i (Take stamp link m) x small low e w new = inr (inr (record {
+    small = small;
+    at = i;
+    done = low;
+    reading = stamp.reading;
+    link = link;
+    is = e ∙ ap (λ (o : Msg). Take stamp link o) w.is;
+    formed = formed c small i stamp link (msg.MirrorState x) low (e ∙ ap (λ (o : Msg). Take stamp link o) w.is);
+    free = w.free;
+    here = w.here;
+    new = new;
+  }))
+  arises c i (Tick stamp) x small low e w new = inr (inl (
+    w.first,
+    record {
+      reading = stamp.reading;
+      tick = record { small = small; at = i; done = low; is = e };
+      believes = w.believes;
+      line = w.line;
+      there = w.there;
+      must = w.must;
+    },
+  ))
+
+  -- a mirror state arrives, and its record enters then, or stands already, unless the instance is held there
+  pub mirror_arrives : {a k : ℕ} {t : Tenancy} {n j x : ℕ} (c b : ℕ) → MirrorSentAt p lives a k t n j x
+      → c ≡ cub_of p (a + k) → c ≡ cub_of p (n + j)
+      → beyond.Came c b → x + p.delay ≤ b
+      → ArisesBy (facts_by p lives beyond) (pieces_by p lives) c t n j (x + p.delay)
+      ⊎ ReachedBy (facts_by p lives beyond) c t.instance.0 (x + p.delay)
+  mirror_arrives {a} {k} {t} {n} {j} {x} c b w to here up late =
+      let s = of_split p lives a w.did in
+      let m = mirrors w in
+      let number = m.piece in
+      let few = s.high in
+      let small : c < p.cubs = subst (λ (d : ℕ). d < p.cubs) (sym to) (cub_below p (a + k) plan.ranges) in
+      let leads : Leads p (way_ahead p a k) a c = subst (λ (d : ℕ). Leads p (way_ahead p a k) a d) (sym to)
+      (ahead_ends p a k plan w.did.small w.some (omega arith)) in
+      let g = told.to a c x b (way_ahead p a k) (msg.MirrorState (piece t n j)) w.did leads small up late in
+      of_taken g small
+    where
+      of_taken : TookInOrder p lives a c (way_ahead p a k) (msg.MirrorState (piece t n j)) x → c < p.cubs
+          → ArisesBy (facts_by p lives beyond) (pieces_by p lives) c t n j (x + p.delay)
+          ⊎ ReachedBy (facts_by p lives beyond) c t.instance.0 (x + p.delay)
+      of_taken g small =
+          let inputs : ℕ → Input Msg = lives.input c in
+          let h : Store = store_at p c inputs g.at in
+          let y : PieceState = piece t n j in
+          let stamp : Stamp = made_stamp g.beat g.reading in
+          let soon = g.soon in
+          let eb : beat_at inputs g.at ≡ g.beat = ap (λ (q : Input Msg). (stamp_of q).beat) g.is in
+          let held_or : ReachedBy (facts_by p lives beyond) c t.instance.0 (x + p.delay)
+          ⊎ (is_held h.held t.instance ≡ false) = ⊎_elim
+          (λ (e : is_held h.held t.instance ≡ true).
+          let z = held_stopped p c inputs g.at t.instance e in
+          let before = z.before in
+          let low = g.done in
+          let rise = beats_rise p (lives.count c) inputs (are c small) z.at g.at (omega arith) g.done in
+          inl (record {
+            beat = beat_at inputs z.at;
+            reached = reached_at p plan lives are formed nowhere c z.at t.instance.0 small (omega arith)
+                (record {
+                  stamp = z.stamp;
+                  link = z.link;
+                  instance = z.instance;
+                  tag = z.tag;
+                  is = z.is;
+                  same =
+                      z.same;
+                });
+            by = omega arith;
+          }))
+          (λ (e : is_held h.held t.instance ≡ false). inr e)
+          (cases_Bool (is_held h.held t.instance)) in
+          ⊎_elim
+          (λ q. inr q)
+          (λ (free : is_held h.held t.instance ≡ false). inl (⊎_elim
+          (λ (e : is_in y h.pieces.items ≡ true).
+          let d = (life c small).entered g.at y (let low = g.done in omega arith) (there_is_in y h.pieces.items e) in
+          let before = d.before in
+          let low : d.at < lives.count c = (let q = g.done in omega arith) in
+          let rise = beats_rise p (lives.count c) inputs (are c small) d.at g.at (omega arith) g.done in
+          record {
+            beat = beat_at inputs d.at;
+            arises = arises c d.at
+                (inputs d.at) y small low refl d.enters d.new;
+            by = omega arith;
+          })
+          (λ (e : is_in y h.pieces.items ≡ false).
+          record {
+            beat = g.beat;
+            arises = inr (inr (record {
+              small = small;
+              at = g.at;
+              done = g.done;
+              reading = g.reading;
+              link = way_ahead p a k;
+              is = g.is;
+              formed = formed c small g.at stamp (way_ahead p a k) (msg.MirrorState y) g.done g.is;
+              free = free;
+              here = sym here;
+              new = e;
+            }));
+            by = soon;
+          })
+          (cases_Bool (is_in y h.pieces.items))))
+          held_or
+
+  -- ---- a kill
+
+  -- a kill that was taken by the beat of a tick cuts off what stands at the tick: so that entered behind it
+  cut_before : (a c y i : ℕ) (stamp : Stamp) (link : LinkNo) (v : Instance) (s : SlotNo) (n : ℕ) (x : PieceState)
+      → (g : TookInOrder p lives a c link (msg.Kill v s n) y) → (d : StandsSince p c (lives.input c) x i)
+      → c < p.cubs → i < lives.count c → lives.input c i ≡ Tick stamp → g.beat ≤ stamp.beat
+      → v.0 ≡ x.tenancy.instance.0 → n ≡ x.visit → g.at < d.at
+  cut_before a c y i stamp link v s n x g d small low tick le same visit =
+      let gb : beat_at (lives.input c) g.at ≡ g.beat = ap (λ (k : Input Msg). (stamp_of k).beat) g.is in
+      let ib : beat_at (lives.input c) i ≡ stamp.beat = ap (λ (k : Input Msg). (stamp_of k).beat) tick in
+      let first = before_tick p lives are c g.at i stamp small low g.done tick (ap is_tick_input g.is) (omega arith) in
+      d.behind g.at first (subst (λ (k : Input Msg). CutsOff k x) (sym g.is) (same, visit))
+
+  -- a mirror state that came on whatever link was sent by the cub as many steps before as its piece says
+  record CameFrom (c i : ℕ) (x : PieceState) (link : LinkNo) : Type 0 where
+    from : ℕ
+    small : from < p.cubs
+    low : 2 ≤ x.piece
+    high : x.piece ≤ p.pieces
+    way : link ≡ way_ahead p from (x.piece - 1)
+    to : c ≡ cub_of p (from + (x.piece - 1))
+
+  came_from : (c i : ℕ) (stamp : Stamp) (link : LinkNo) (x : PieceState) → c < p.cubs → i < lives.count c
+      → lives.input c i ≡ Take stamp link (msg.MirrorState x)
+      → CameFrom c i x link
+  came_from c i stamp link x small low e =
+      let a = told.mirrors c i stamp link x small low e in
+      let some = a.some in
+      let s = of_split p lives a.from a.sent.sent in
+      let least = s.low in
+      let steps = one_way p a.from a.ahead (x.piece - 1) a.some (omega arith) (sym a.way ∙ s.way) in
+      record {
+        from = a.from;
+        small = a.small;
+        low = s.low;
+        high = s.high;
+        way = s.way;
+        to = a.to ∙ ap (λ (k : ℕ). cub_of p (a.from + k)) steps;
+      }
+
+  -- what stands at a tick that a kill must have come before entered by a mirror state that was sent behind it
+  behind_kill : (a k c : ℕ) (t : Tenancy) (n j y b i : ℕ) (stamp : Stamp)
+      → KillSentAt p lives a k t.instance.0 t.slot.0 n y → c ≡ cub_of p (a + k) → j ≡ k + 1
+      → y + p.delay ≤ b → c < p.cubs → i < lives.count c → lives.input c i ≡ Tick stamp → stamp.beat ≡ b
+      → beyond.Came c b
+      → In (piece t n j) (store_at p c (lives.input c) i).pieces.items → MirrorSince (pieces_by p lives) a k t n j y
+  behind_kill a k c t n j y b i stamp kill to number late small low tick eb up there =
+      let d = (life c small).entered i (piece t n j) (omega arith) there in
+      of_entry d (lives.input c d.at) refl d.enters
+    where
+      inputs : ℕ → Input Msg
+      inputs = lives.input c
+
+      of_entry : (d : StandsSince p c (lives.input c) (piece t n j) i) → (q : Input Msg) → lives.input c d.at ≡ q
+          → Enters p c q (store_at p c (lives.input c) d.at) (piece t n j)
+          → MirrorSince (pieces_by p lives) a k t n j y
+      of_entry d (Tick at) e w = let first = w.first in let some = kill.some in absurd (omega arith)
+      of_entry d (Take at link m) e w =
+          let before = d.before in
+          let done : d.at < lives.count c = omega arith in
+          let is : lives.input c d.at ≡ Take at link (msg.MirrorState (piece t n j)) = e
+          ∙ ap (λ (o : Msg). Take at link o) w.is in
+          let f = came_from c d.at at link (piece t n j) small done is in
+          let least = f.low in
+          let most = f.high in
+          let steps : j - 1 ≡ k = omega arith in
+          let from : f.from ≡ a = one_before p f.from a k f.small kill.did.small
+          (ap (λ (s : ℕ). cub_of p (f.from + s)) (sym steps) ∙ sym f.to ∙ to) in
+          let way : link ≡ way_ahead p a k = f.way ∙ ap (λ (s : ℕ). way_ahead p f.from s) steps
+          ∙ ap (λ (s : ℕ). way_ahead p s k) from in
+          let leads : Leads p (way_ahead p a k) a c = subst (λ (s : ℕ). Leads p (way_ahead p a k) a s) (sym to)
+          (ahead_ends p a k plan kill.did.small kill.some (omega arith)) in
+          let g = told.to a c y b (way_ahead p a k)
+          (msg.Kill (record { 0 = t.instance.0 }) (record { 0 = t.slot.0 }) n) kill.did leads small up late in
+          let soon = g.soon in
+          let later = cut_before a c y i stamp (way_ahead p a k) (record { 0 = t.instance.0 })
+          (record { 0 = t.slot.0 }) n
+          (piece t n j) g d small low tick (omega arith) refl refl in
+          let s = g.behind d.at at (msg.MirrorState (piece t n j)) later done
+          (is ∙ ap (λ (l : LinkNo). Take at l (msg.MirrorState (piece t n j))) way) in
+          record { beat = s.beat; sent = record { some = kill.some; did = s.sent }; after = s.since }
+
+  -- what is used when a kill must have come was sent behind it, on the same link
+  pub killed : {a k c : ℕ} {t : Tenancy} {n j y b : ℕ} → KillSentAt p lives a k t.instance.0 t.slot.0 n y
+      → c ≡ cub_of p (a + k) → j ≡ k + 1
+      → Uses (pieces_by p lives) c t n j b → y + p.delay ≤ b → MirrorSince (pieces_by p lives) a k t n j y
+  killed {a} {k} {c} {t} {n} {j} {y} {b} kill to number uses late =
+      let some = kill.some in
+      ⊎_elim
+      (λ (w : AsksAt p lives c t n j b).
+      let tick = w.tick in
+      let stamp : Stamp = made_stamp b w.reading in
+      let inner = (life c tick.small).in_tick tick.at stamp (piece t n j) in
+      of_use tick (⊎_elim
+      (λ q. let zero = q.0 in absurd (omega arith))
+      (λ q. ⊎_elim (λ u. inl ((life c tick.small).within tick.at (piece t n j) u)) (λ u. inr u) (inner.unasked q.1))
+      w.asks))
+      (λ (w : ServesAt p lives c t n j b).
+      let tick = w.sends.tick in
+      let stamp : Stamp = made_stamp b w.sends.reading in
+      let inner = (life c tick.small).in_tick tick.at stamp (piece t n j) in
+      of_use tick (⊎_elim
+      (λ q. let zero = q.0 in absurd (omega arith))
+      (λ q. inner.at_serving q.1)
+      w.sends.serves))
+      uses
+    where
+      of_use : {l : ℕ} → (tick : TickedAt p lives c b l)
+          → In (piece t n j) (store_at p c (lives.input c) tick.at).pieces.items
+          ⊎ IsSplitOff p c (made_stamp b l) (store_at p c (lives.input c) tick.at) (piece t n j)
+          → MirrorSince (pieces_by p lives) a k t n j y
+      of_use {l} tick how = ⊎_elim
+          (λ u. behind_kill a k c t n j y b tick.at
+          (made_stamp b l) kill to number late tick.small tick.done tick.is refl (came c b l tick) u)
+          (λ u. let first = u.first in let some = kill.some in absurd (omega arith))
+          how

@@ -1,0 +1,10 @@
+pub mod Arrivals
+pub mod Backups
+pub mod Beliefs
+pub mod MirrorStates
+pub mod PieceMoves
+pub mod PieceSets
+pub mod Remembered
+pub mod Splitting
+pub mod Standing
+pub mod Unsplit

@@ -1,0 +1,357 @@
+-- Mirror states go out at a split alone, one for each piece behind the first, to as many cubs ahead.
+use Rattle.std.proofs.Common.{◌≡◌, ℕ, zero, suc, ◌+◌, ◌-◌, ◌*◌, ◌<◌, ◌≤◌, max, List, [], ◌++◌, map, drop, true, refl, sym, ap, subst, ◌∙◌, arith, ⊎_elim, inl, inr, eq-or-lt_of_le}
+use Rattle.std.specs.Prelude.{◌==◌, ◌%◌}
+use Rattle.std.specs.List.{flat_map, range_with_len, AllByRecursion}
+use Rattle.tiger_base.specs.declared.number.LinkNo.{LinkNo}
+use Rattle.tiger_base.specs.declared.number.Stamp.{Stamp}
+use Rattle.tiger_base.specs.declared.tenancy.PieceState.{PieceState}
+use Rattle.tiger_base.specs.declared.tenancy.Rec.{Rec}
+use Rattle.tiger_base.specs.declared.tenancy.Tenancy.{Tenancy}
+use Rattle.tiger_base.specs.declared.message.Msg.{Msg}
+use Rattle.tiger_base.specs.declared.message.Msg.TheVariants as msg
+use Rattle.tiger_base.specs.Records.{backup_of}
+use Rattle.slot_plan.specs.declared.params.Params.{Params}
+use Rattle.partial_view.specs.declared.line.Line.{Line}
+use Rattle.mirror_schedule.specs.Pieces.{pieces_of}
+use Rattle.node_kit.specs.declared.outbox.Out.{Out}
+use Rattle.node_kit.specs.declared.outbox.Out.TheVariants as out
+use Rattle.node_kit.specs.Deeds.{nothing}
+use Rattle.node_kit.specs.Steps.{Deed, Input, stamp_of}
+use Rattle.node_kit.specs.Steps.Input.{Take, Tick}
+use Rattle.node_kit.specs.Ways.{way_ahead}
+use Rattle.cub_rules.specs.declared.store.Store.{Store}
+use Rattle.cub_rules.specs.Records.{with_piece_record}
+use Rattle.cub_rules.specs.Messages.{taking}
+use Rattle.cub_rules.specs.Ticks.{releasing, believing, inserting, must_split, sent_ahead, split_outs, first_pieces, with_each, with_split_lines, splitting, forwarding, reading_blocks, reading_pieces, reading, serving_blocks, dropping_backups, serving_pieces, serving, beating, ticking}
+use Rattle.cub_changes.specs.Changes.{Change, did}
+use Rattle.cub_changes.specs.Changes.Change.{SplitVisits, Forward, AskBlocks, AskPieces, ServeBlocks, DropBackups, ServePieces}
+use Rattle.cub_changes.specs.Causes.{Cause}
+use Rattle.cub_changes.specs.Causes.Stage.{OnMessage, OnDeadman, OnInsertion}
+use Rattle.cub_changes.specs.Outputs.{Output, output, ComesOf}
+use Rattle.cub_changes.specs.Outputs.Output.{MirrorStateSent}
+use Rattle.cub_changes.proofs.Fits.{IsOfInsertion, IsOfDeadman, fits}
+use Rattle.cub_changes.proofs.Members.{all_append}
+use Rattle.cub_changes.proofs.Messages.{taking_by}
+use Rattle.cub_changes.proofs.Outputs.{forms_of, Puts, puts_closed}
+use Rattle.cub_changes.proofs.Puts.{inserting_by}
+use Rattle.cub_changes.proofs.Ticks.{believing_by}
+use Rattle.schedule_laws.specs.Lives.{In, Lives, store_at, deed_of}
+use Rattle.schedule_laws.specs.Facts.{DidAt}
+use Rattle.schedule_laws.proofs.Members.{chosen, in_left, in_right, in_cases, in_map, from_map, in_flat_map, from_flat_map, all_in}
+use Rattle.cub_facts.specs.Pieces.{before_splitting, piece, stamp_of as made_stamp, SplitAt, MirrorSentAt}
+use Rattle.stops_laws.proofs.HoldLaws.{no_both}
+use Rattle.proof_splits.proofs.PieceMoves.{backup_line}
+
+-- no mirror state
+abbrev IsNoMirror : Out Msg → Type 0
+IsNoMirror (out.Send link (msg.MirrorState x)) = ⊥
+IsNoMirror other = Unit {0}
+
+no_mirror : (link : LinkNo) (x : PieceState) (outs : List (Out Msg)) → AllByRecursion IsNoMirror outs
+    → In (out.Send link (msg.MirrorState x)) outs → ⊥
+no_mirror link x outs all i = all_in IsNoMirror (out.Send link (msg.MirrorState x)) outs all i
+
+-- ---- the pieces of a record behind the first
+
+from_range : (k a n : ℕ) → In k (range_with_len a n) → (a ≤ k) × (k < a + n)
+from_range k a zero i = absurd i
+from_range k a (suc n) i =
+    ⊎_elim (λ (e : k ≡ a). (omega arith, omega arith))
+    (λ e. let r = from_range k (a + 1) n e in let r0 = r.0 in let r1 = r.1 in (omega arith, omega arith)) i
+
+-- a number between the ends of a range is in it
+pub in_range : (k a n : ℕ) → a ≤ k → k < a + n → In k (range_with_len a n)
+in_range k a zero low high = absurd (omega arith)
+in_range k a (suc n) low high =
+    ⊎_elim (λ (e : a ≡ k). inl (sym e)) (λ (l : a < k). inr (in_range k (a + 1) n (omega arith) (omega arith)))
+    (eq-or-lt_of_le low)
+
+record IsLater (p : Params) (r : Rec) (x : PieceState) : Type 0 where
+  number : ℕ
+  low : 2 ≤ number
+  high : number ≤ p.pieces
+  is : x ≡ piece r.tenancy r.visit number
+
+later_piece : (p : Params) (r : Rec) (x : PieceState) → In x (drop 1 (pieces_of p r)) → IsLater p r x
+unfolding pieces_of
+later_piece p r x i = rest_of p.pieces refl i
+  where
+    rest_of : (n : ℕ) → p.pieces ≡ n → In x (drop 1 (map (λ (k : ℕ). piece r.tenancy r.visit k) (range_with_len 1 n)))
+        → IsLater p r x
+    rest_of zero e i = absurd i
+    rest_of (suc n) e i =
+        let o = from_map (λ (k : ℕ). piece r.tenancy r.visit k) x (range_with_len (1 + 1) n) i in
+        let f = from_range o.0 (1 + 1) n o.1 in
+        let low = f.0 in
+        let high = f.1 in
+        record { number = o.0; low = omega arith; high = omega arith; is = o.2 }
+
+later_there : (p : Params) (r : Rec) (k : ℕ) → 2 ≤ k → k ≤ p.pieces
+    → In (piece r.tenancy r.visit k) (drop 1 (pieces_of p r))
+unfolding pieces_of
+later_there p r k low high = rest_of p.pieces high
+  where
+    rest_of : (n : ℕ) → k ≤ n → In (piece r.tenancy r.visit k)
+        (drop 1 (map (λ (j : ℕ). piece r.tenancy r.visit j) (range_with_len 1 n)))
+    rest_of zero l = absurd (omega arith)
+    rest_of (suc n) l = in_map (λ (j : ℕ). piece r.tenancy r.visit j) k (range_with_len (1 + 1) n)
+        (in_range k (1 + 1) n (omega arith) (omega arith))
+
+-- steps from one on have each their own link
+pub one_way : (p : Params) (c k l : ℕ) → 1 ≤ k → 1 ≤ l → way_ahead p c k ≡ way_ahead p c l → k ≡ l
+unfolding way_ahead
+one_way p c k l low least e =
+    let n : 3 * p.cubs + c * max 2 p.pieces + (k - 1) ≡ 3 * p.cubs + c * max 2 p.pieces + (l - 1) = ap
+    (λ (w : LinkNo). w.0) e in
+    omega arith
+
+-- ---- what a tick sends
+
+-- A mirror state that goes out when a cub splits what it keeps.
+record IsSentAhead (p : Params) (c : ℕ) (stamp : Stamp) (link : LinkNo) (x : PieceState) (h : Store) : Type 0 where
+  believes : h.believes ≡ true
+  line : Line
+  there : In line h.view.lines
+  must : must_split p stamp line ≡ true
+  number : ℕ
+  low : 2 ≤ number
+  high : number ≤ p.pieces
+  is : x ≡ piece line.rec.tenancy line.rec.visit number
+  way : link ≡ way_ahead p c (number - 1)
+
+splitting_sends : (p : Params) (c : ℕ) (stamp : Stamp) (h : Store) (link : LinkNo) (x : PieceState)
+    → In (out.Send link (msg.MirrorState x)) (splitting p c stamp h).outs → IsSentAhead p c stamp link x h
+unfolding splitting
+splitting_sends p c stamp h link x i =
+    let o : Out Msg = out.Send link (msg.MirrorState x) in
+    chosen (λ (d : Deed Msg Store). In o d.outs → IsSentAhead p c stamp link x h) h.believes
+    (record {
+      outs = flat_map (split_outs p c stamp) h.view.lines;
+      state = with_each with_piece_record
+          (flat_map (first_pieces p stamp) h.view.lines) (with_split_lines p stamp h);
+    })
+    (nothing h)
+    (λ b j. let f = from_flat_map (split_outs p c stamp) o h.view.lines j in of_line b f.0 f.1 f.2)
+    (λ _ j. absurd j)
+    i
+  where
+    of_line : h.believes ≡ true → (y : Line) → In y h.view.lines
+        → In (out.Send link (msg.MirrorState x)) (split_outs p c stamp y) → IsSentAhead p c stamp link x h
+    of_line b y there j =
+        chosen (λ (ls : List (Out Msg)). In (out.Send link (msg.MirrorState x)) ls → IsSentAhead p c stamp link x h)
+        (must_split p stamp y)
+        (map (sent_ahead p c) (drop 1 (pieces_of p y.rec))) []
+        (λ must q.
+        let f = from_map (sent_ahead p c) (out.Send link (msg.MirrorState x)) (drop 1 (pieces_of p y.rec)) q in
+        let e : out.Send link (msg.MirrorState x) ≡ out.Send (way_ahead p c (f.0.piece - 1))
+        (msg.MirrorState f.0) = f.2 in
+        let way : link ≡ way_ahead p c (f.0.piece - 1) = cc in
+        let same : x ≡ f.0 = cc in
+        let l = later_piece p y.rec f.0 f.1 in
+        record {
+          believes = b;
+          line = y;
+          there = there;
+          must = must;
+          number = l.number;
+          low = l.low;
+          high = l.high;
+          is = same ∙ l.is;
+          way = way ∙ ap (λ (z : PieceState). way_ahead p c (z.piece - 1)) l.is;
+        })
+        (λ _ q. absurd q)
+        j
+
+splitting_sends_all : (p : Params) (c : ℕ) (stamp : Stamp) (h : Store) (y : Line) (k : ℕ) → h.believes ≡ true
+    → In y h.view.lines
+    → must_split p stamp y ≡ true → 2 ≤ k → k ≤ p.pieces
+    → In (sent_ahead p c (piece y.rec.tenancy y.rec.visit k)) (splitting p c stamp h).outs
+unfolding splitting
+splitting_sends_all p c stamp h y k b there must low high =
+    let x : PieceState = piece y.rec.tenancy y.rec.visit k in
+    let here : In (sent_ahead p c x) (split_outs p c stamp y) =
+    chosen (λ (ls : List (Out Msg)). In (sent_ahead p c x) ls) (must_split p stamp y)
+    (map (sent_ahead p c) (drop 1 (pieces_of p y.rec))) []
+    (λ _. in_map (sent_ahead p c) x (drop 1 (pieces_of p y.rec)) (later_there p y.rec k low high))
+    (λ f. absurd (no_both must f)) in
+    chosen (λ (d : Deed Msg Store). In (sent_ahead p c x) d.outs) h.believes
+    (record {
+      outs = flat_map (split_outs p c stamp) h.view.lines;
+      state = with_each with_piece_record
+          (flat_map (first_pieces p stamp) h.view.lines) (with_split_lines p stamp h);
+    })
+    (nothing h)
+    (λ _. in_flat_map (split_outs p c stamp) (sent_ahead p c x) y h.view.lines there here) (λ f. absurd (no_both b f))
+
+module _ (p : Params) (c : ℕ) (stamp : Stamp) where
+  form : (x : Change) (h : Store) (o : Output) → (x ≡ SplitVisits → ⊥) → ComesOf p c stamp x h o
+      → IsNoMirror (output p c stamp o)
+  form x h (MirrorStateSent y) apart comes = apart comes.1
+  form x h other apart comes = tt
+
+  none : (x : Change) (h : Store) → (x ≡ SplitVisits → ⊥) → AllByRecursion IsNoMirror (did p c stamp x h).outs
+  none x h apart = forms_of p c stamp IsNoMirror x h (λ o comes. form x h o apart comes)
+
+  abbrev Quiet : Store → Deed Msg Store → Type 0
+  Quiet = Puts p c stamp IsNoMirror
+
+  taking_none : (link : LinkNo) (m : Msg) (h : Store) → Quiet h (taking p c stamp link m h)
+  taking_none link m h =
+      taking_by Quiet (puts_closed p c stamp IsNoMirror) p c stamp link m h
+      (λ x q cause. none x q (λ e. (subst (λ y. Cause p c stamp (OnMessage link m) h y q) e cause).0))
+
+  releasing_none : (h : Store) → Quiet h (releasing p stamp h)
+  unfolding releasing
+  releasing_none h = tt
+
+  believing_none : (h : Store) → Quiet h (believing p c stamp h)
+  believing_none h =
+      believing_by Quiet (puts_closed p c stamp IsNoMirror) p c stamp h
+      (λ x q cause. none x q (λ e. subst IsOfDeadman e (fits p c stamp h OnDeadman x q cause)))
+
+  inserting_none : (h : Store) → Quiet h (inserting p c stamp h)
+  inserting_none h =
+      inserting_by Quiet (puts_closed p c stamp IsNoMirror) p c stamp h
+      (λ x q cause. none x q (λ e. subst IsOfInsertion e (fits p c stamp h OnInsertion x q cause)))
+
+  forwarding_none : (h : Store) → Quiet h (forwarding p c stamp h)
+  unfolding forwarding
+  forwarding_none h = none Forward h (λ e. absurd (cc))
+
+  reading_none : (h : Store) → Quiet h (reading p stamp h)
+  unfolding reading reading_blocks reading_pieces
+  reading_none h =
+      all_append IsNoMirror (reading_blocks p stamp h).outs
+      (reading_pieces p stamp (reading_blocks p stamp h).state).outs (none AskBlocks h (λ e. absurd (cc)))
+      (none AskPieces (reading_blocks p stamp h).state (λ e. absurd (cc)))
+
+  serving_none : (h : Store) → Quiet h (serving p c stamp h)
+  unfolding serving serving_blocks dropping_backups serving_pieces
+  serving_none h =
+      let h1 : Store = (serving_blocks p c stamp h).state in
+      let h2 : Store = (dropping_backups p stamp h1).state in
+      all_append IsNoMirror (serving_blocks p c stamp h).outs
+      ((dropping_backups p stamp h1).outs ++ (serving_pieces p c stamp h2).outs)
+      (none ServeBlocks h (λ e. absurd (cc)))
+      (all_append IsNoMirror (dropping_backups p stamp h1).outs (serving_pieces p c stamp h2).outs
+      (none DropBackups h1 (λ e. absurd (cc)))
+      (none ServePieces h2 (λ e. absurd (cc))))
+
+  beating_none : (h : Store) → Quiet h (beating p c stamp h)
+  unfolding beating
+  beating_none h = chosen (λ (d : Deed Msg Store). Quiet h d) (stamp.beat % p.heart == 0) _ (nothing h) (λ _. (tt, tt))
+      (λ _. tt)
+
+  -- of all that a tick puts out mirror states come of the splitting
+  tick_sends : (h : Store) (link : LinkNo) (x : PieceState)
+      → In (out.Send link (msg.MirrorState x)) (ticking p c stamp h).outs
+      → IsSentAhead p c stamp link x (before_splitting p c stamp h)
+  unfolding ticking
+  tick_sends h link x i =
+      let o : Out Msg = out.Send link (msg.MirrorState x) in
+      let h1 : Store = (releasing p stamp h).state in
+      let h2 : Store = (believing p c stamp h1).state in
+      let h3 : Store = before_splitting p c stamp h in
+      let h4 : Store = (splitting p c stamp h3).state in
+      let h5 : Store = (forwarding p c stamp h4).state in
+      let h6 : Store = (reading p stamp h5).state in
+      let h7 : Store = (serving p c stamp h6).state in
+      ⊎_elim (λ q. absurd (no_mirror link x _ (releasing_none h) q))
+      (λ q. ⊎_elim (λ q. absurd (no_mirror link x _ (believing_none h1) q))
+      (λ q. ⊎_elim (λ q. absurd (no_mirror link x _ (inserting_none h2) q))
+      (λ q. ⊎_elim (λ q. splitting_sends p c stamp h3 link x q)
+      (λ q. ⊎_elim (λ q. absurd (no_mirror link x _ (forwarding_none h4) q))
+      (λ q. ⊎_elim (λ q. absurd (no_mirror link x _ (reading_none h5) q))
+      (λ q. ⊎_elim (λ q. absurd (no_mirror link x _ (serving_none h6) q))
+      (λ q. absurd (no_mirror link x _ (beating_none h7) q))
+      (in_cases o (serving p c stamp h6).outs (beating p c stamp h7).outs q))
+      (in_cases o (reading p stamp h5).outs _ q))
+      (in_cases o (forwarding p c stamp h4).outs _ q))
+      (in_cases o (splitting p c stamp h3).outs _ q))
+      (in_cases o (inserting p c stamp h2).outs _ q))
+      (in_cases o (believing p c stamp h1).outs _ q))
+      (in_cases o (releasing p stamp h).outs _ i)
+
+  from_splitting : (h : Store) (o : Out Msg) → In o (splitting p c stamp (before_splitting p c stamp h)).outs
+      → In o (ticking p c stamp h).outs
+  unfolding ticking
+  from_splitting h o i =
+      let h1 : Store = (releasing p stamp h).state in
+      let h2 : Store = (believing p c stamp h1).state in
+      let h3 : Store = before_splitting p c stamp h in
+      in_right o (releasing p stamp h).outs _
+      (in_right o (believing p c stamp h1).outs _
+      (in_right o (inserting p c stamp h2).outs _ (in_left o (splitting p c stamp h3).outs _ i)))
+
+-- ---- of lives
+
+-- A mirror state is of a split of its beat, of one of the plan's pieces behind the first, and goes as many steps ahead.
+pub record IsOfSplit (p : Params) (lives : Lives) (a : ℕ) (link : LinkNo) (x : PieceState) (b : ℕ) : Type 0 where
+  pub split : SplitAt p lives a x.tenancy x.visit b
+  pub low : 2 ≤ x.piece
+  pub high : x.piece ≤ p.pieces
+  pub way : link ≡ way_ahead p a (x.piece - 1)
+
+module _ (p : Params) (lives : Lives) (a : ℕ) where
+  of_input : (i : ℕ) → i < lives.count a → a < p.cubs → (k : Input Msg) → lives.input a i ≡ k
+      → (link : LinkNo) (x : PieceState)
+      → In (out.Send link (msg.MirrorState x)) (deed_of p a k (store_at p a (lives.input a) i)).outs
+      → IsOfSplit p lives a link x (stamp_of k).beat
+  of_input i low small (Take stamp way m) e link x w = absurd
+      (no_mirror link x _ (taking_none p a stamp way m (store_at p a (lives.input a) i)) w)
+  of_input i low small (Tick stamp) e link x w =
+      let s = tick_sends p a stamp (store_at p a (lives.input a) i) link x w in
+      let number : x.piece ≡ s.number = ap (λ (z : PieceState). z.piece) s.is in
+      let least = s.low in
+      let most = s.high in
+      record {
+        split = record {
+          reading = stamp.reading;
+          tick = record { small = small; at = i; done = low; is = e };
+          believes = s.believes;
+          line = s.line;
+          there = (
+            s.there,
+            backup_line p stamp s.line s.must
+                ∙ ap (λ (z : PieceState). backup_of z.tenancy z.visit) (sym s.is),
+          );
+          must = s.must;
+        };
+        low = omega arith;
+        high = omega arith;
+        way = s.way ∙ ap (λ (n : ℕ). way_ahead p a (n - 1)) (sym number);
+      }
+
+  -- each mirror state that goes out is of a split
+  pub of_split : {link : LinkNo} {x : PieceState} {b : ℕ} → DidAt p lives a (out.Send link (msg.MirrorState x)) b
+      → IsOfSplit p lives a link x b
+  of_split {link} {x} {b} d =
+      subst (λ (n : ℕ). IsOfSplit p lives a link x n) d.in_beat
+      (of_input d.at d.done d.small (lives.input a d.at) refl link x d.did)
+
+  -- who splits a visit sends all pieces behind the first
+  pub sends_all : {t : Tenancy} {n b : ℕ} (k : ℕ) → SplitAt p lives a t n b → 1 ≤ k → k < p.pieces
+      → MirrorSentAt p lives a k t n (k + 1) b
+  sends_all {t} {n} {b} k s low high =
+      let i : ℕ = s.tick.at in
+      let h : Store = store_at p a (lives.input a) i in
+      let stamp : Stamp = made_stamp b s.reading in
+      let sent = splitting_sends_all p a stamp (before_splitting p a stamp h) s.line (k + 1) s.believes s.there.0 s.must
+      (omega arith) (omega arith) in
+      let of_t = subst (λ (r : Rec). In (sent_ahead p a (piece r.tenancy r.visit (k + 1)))
+      (splitting p a stamp (before_splitting p a stamp h)).outs) s.there.1 sent in
+      let ahead = subst (λ (j : ℕ). In (out.Send (way_ahead p a j) (msg.MirrorState (piece t n (k + 1))))
+      (splitting p a stamp (before_splitting p a stamp h)).outs)
+      (let e : k + 1 - 1 ≡ k = omega arith in e) of_t in
+      record {
+        some = low;
+        did = record {
+          small = s.tick.small;
+          at = i;
+          done = s.tick.done;
+          in_beat = ap (λ (q : Input Msg). (stamp_of q).beat) s.tick.is;
+          did = subst (λ (q : Input Msg). In (out.Send (way_ahead p a k) (msg.MirrorState (piece t n (k + 1))))
+              (deed_of p a q h).outs) (sym s.tick.is)
+              (from_splitting p a stamp h (out.Send (way_ahead p a k) (msg.MirrorState (piece t n (k + 1)))) ahead);
+        };
+      }

@@ -1,0 +1,291 @@
+-- A cub's piece records along its life: how each entered, how long it stands, and until when it is to be asked for.
+use Rattle.std.proofs.Common.{◌≡◌, ℕ, zero, suc, ◌+◌, ◌<◌, ◌≤◌, Bool, true, false, cond, not, Option, refl, sym, ap, subst, arith, ⊎_elim, inl, inr, eq-or-lt_of_le}
+use Rattle.std.specs.Prelude.{◌⊎◌}
+use Rattle.std.proofs.lemmas.Bool.{cases_Bool, cases_lt, eq-eqb, and_from}
+use Rattle.tiger_base.specs.declared.number.Instance.{Instance}
+use Rattle.tiger_base.specs.declared.number.LinkNo.{LinkNo}
+use Rattle.tiger_base.specs.declared.number.Stamp.{Stamp}
+use Rattle.tiger_base.specs.declared.tenancy.PieceState.{PieceState}
+use Rattle.tiger_base.specs.declared.tenancy.Tag.{Tag}
+use Rattle.tiger_base.specs.declared.message.Msg.{Msg}
+use Rattle.tiger_base.specs.declared.message.Msg.TheVariants as msg
+use Rattle.tiger_base.specs.Notes.{noted}
+use Rattle.slot_plan.specs.declared.params.Params.{Params}
+use Rattle.slot_plan.specs.Times.{cub_of}
+use Rattle.deschedule.specs.Holds.{is_held}
+use Rattle.mirror_schedule.specs.Pieces as pieces
+use Rattle.mirror_schedule.specs.Pieces.{is_in}
+use Rattle.node_kit.specs.Form.{is_in_form}
+use Rattle.node_kit.specs.Deeds.{nothing}
+use Rattle.node_kit.specs.Steps.{Input}
+use Rattle.node_kit.specs.Steps.Input.{Take, Tick}
+use Rattle.cub_rules.specs.declared.store.Store.{Store}
+use Rattle.cub_rules.specs.Records.{dropping_lines, dropping_start, dropping_pieces}
+use Rattle.cub_rules.specs.Messages.{holding, passing, killing_splits, descheduling, meeting_piece, meeting_kill, hearing, taking}
+use Rattle.cub_rules.specs.Ticks.{leaves_by, ticking}
+use Rattle.schedule_laws.specs.Lives.{In, deed_of, store_at}
+use Rattle.schedule_laws.proofs.Members.{from_filter}
+use Rattle.stops_laws.specs.HoldsHere.{IsFormed}
+use Rattle.cub_facts.specs.Pieces.{before_reading}
+use Rattle.proof_splits.specs.PieceRecords.{IsMirrored, IsSplitOff, Enters, CutsOff, MayGo, StandsSince, MightGo, WasAskedFor, KeepsInTick, KeepsPieces}
+use Rattle.stops_laws.proofs.HoldLaws.{no_both}
+use Rattle.proof_splits.proofs.PieceSets.{Moves, there_is_in, with_there}
+use Rattle.proof_splits.proofs.PieceMoves.{to_reading, to_serving, split_there, ticking_leaves, ticking_asks, rest_moves, deed_moves}
+
+-- ---- what a deschedule, a kill and a mirror state leave
+
+dropping_leaves : (v : Instance) (h : Store) (x : PieceState) → In x (dropping_pieces v h).state.pieces.items
+    → v.0 ≡ x.tenancy.instance.0 → ⊥
+unfolding dropping_pieces
+dropping_leaves v h x i e = no_both (from_filter (λ y. not (pieces.is_of v y)) x h.pieces.items i).1
+    (ap not (eq-eqb x.tenancy.instance.0 v.0 (sym e)))
+
+splits_pieces : (p : Params) (c : ℕ) (v : Instance) (h : Store) → (killing_splits p c v h).state.pieces ≡ h.pieces
+unfolding killing_splits
+splits_pieces p c v h = refl
+
+descheduling_leaves : (p : Params) (c : ℕ) (stamp : Stamp) (v : Instance) (tag : Option Tag) (h : Store)
+    (x : PieceState)
+    → In x (descheduling p c stamp v tag h).state.pieces.items → v.0 ≡ x.tenancy.instance.0 → ⊥
+unfolding descheduling
+descheduling_leaves p c stamp v tag h x i e =
+    let h2 : Store = (passing p c stamp v tag (holding p stamp v h).state).state in
+    let h4 : Store = (dropping_start v (dropping_lines v h2).state).state in
+    dropping_leaves v h4 x (subst (λ (s : pieces.Pieces). In x s.items)
+    (splits_pieces p c v (dropping_pieces v h4).state) i) e
+
+kill_leaves : (v : Instance) (n : ℕ) (h : Store) (x : PieceState) → In x (meeting_kill v n h).state.pieces.items
+    → v.0 ≡ x.tenancy.instance.0 → n ≡ x.visit
+    → ⊥
+unfolding meeting_kill
+kill_leaves v n h x i e q =
+    no_both (from_filter (λ y. not (pieces.is_of_visit v n y)) x h.pieces.items i).1
+    (ap not (and_from _ _ (eq-eqb x.tenancy.instance.0 v.0 (sym e)) (eq-eqb x.visit n (sym q))))
+
+taking_cut : (p : Params) (c : ℕ) (stamp : Stamp) (link : LinkNo) (m : Msg) (h : Store) (x : PieceState)
+    → is_in_form p (noted m) ≡ true
+    → CutsOff (Take stamp link m) x → In x (taking p c stamp link m h).state.pieces.items → ⊥
+unfolding taking hearing
+taking_cut p c stamp link (msg.Deschedule v tag) h x form cut i =
+    descheduling_leaves p c stamp v tag h x
+    (subst (λ (b : Bool). In x (cond b (descheduling p c stamp v tag h) (nothing h)).state.pieces.items) form i) cut
+taking_cut p c stamp link (msg.Kill v slot n) h x form cut i =
+    kill_leaves v n h x (subst (λ (b : Bool). In x (cond b (meeting_kill v n h) (nothing h)).state.pieces.items) form i)
+    cut.0 cut.1
+taking_cut p c stamp link other h x form cut i = absurd cut
+
+meeting_there : (p : Params) (c : ℕ) (x : PieceState) (h : Store) → is_held h.held x.tenancy.instance ≡ false
+    → cub_of p (x.visit + x.piece) ≡ c
+    → In x (meeting_piece p c x h).state.pieces.items
+unfolding meeting_piece
+meeting_there p c x h free here = rw (free, eq-eqb (cub_of p (x.visit + x.piece)) c here) (with_there x h)
+
+taking_there : (p : Params) (c : ℕ) (stamp : Stamp) (link : LinkNo) (m : Msg) (h : Store) (x : PieceState)
+    → is_in_form p (noted m) ≡ true → IsMirrored p c m h x
+    → In x (taking p c stamp link m h).state.pieces.items
+unfolding taking hearing
+taking_there p c stamp link m h x form w =
+    let f : is_in_form p (noted (msg.MirrorState x)) ≡ true = subst
+    (λ (o : Msg). is_in_form p (noted o) ≡ true) w.is form in
+    subst (λ (o : Msg). In x (taking p c stamp link o h).state.pieces.items) (sym w.is)
+    (subst (λ (b : Bool). In x (cond b (meeting_piece p c x h) (nothing h)).state.pieces.items) (sym f)
+    (meeting_there p c x h w.free w.here))
+
+-- ---- a life
+
+module _ (p : Params) (c : ℕ) (some : 1 ≤ p.pieces) (count : ℕ) (inputs : ℕ → Input Msg)
+    (formed : IsFormed p count inputs) where
+  abbrev kept : ℕ → Store
+  kept i = store_at p c inputs i
+
+  abbrev Asked : ℕ → PieceState → Type 0
+  Asked i x = WasAskedFor p c inputs x i
+
+  -- what an input makes of both sets
+  moves : (i : ℕ) → Moves (Enters p c (inputs i) (kept i)) (MayGo p (inputs i)) (Asked (suc i)) (kept i) (kept (suc i))
+  moves i = deed_moves (Asked (suc i)) p c (inputs i) (kept i)
+      (λ stamp e x a. record { at = i; before = omega arith; stamp = stamp; is = e; asked = a })
+
+  -- what is cut off stands no more
+  cut_goes : (i : ℕ) (x : PieceState) (k : Input Msg) → i < count → inputs i ≡ k → CutsOff k x
+      → In x (deed_of p c k (kept i)).state.pieces.items → ⊥
+  cut_goes i x (Take stamp link m) low e cut there = taking_cut p c stamp link m (kept i) x
+      (formed i stamp link m low e) cut there
+  cut_goes i x (Tick stamp) low e cut there = absurd cut
+
+  -- what stands after an input stood before it, or there was none of that piece, and it enters
+  came : (i : ℕ) (x : PieceState) → In x (kept (suc i)).pieces.items
+      → In x (kept i).pieces.items ⊎ (Enters p c (inputs i) (kept i) x × (is_in x (kept i).pieces.items ≡ false))
+  came i x there = ⊎_elim
+      (λ (t : is_in x (kept i).pieces.items ≡ true). inl (there_is_in x (kept i).pieces.items t))
+      (λ (f : is_in x (kept i).pieces.items ≡ false). ⊎_elim (λ k. inl k) (λ w. inr (w, f)) ((moves i).back x there))
+      (cases_Bool (is_in x (kept i).pieces.items))
+
+  -- how what stands entered
+  pub entered : (i : ℕ) (x : PieceState) → i ≤ count → In x (kept i).pieces.items → StandsSince p c inputs x i
+  entered zero x low there = absurd there
+  entered (suc i) x low there = ⊎_elim
+      (λ w.
+      let d = entered i x (omega arith) w in
+      let b = d.before in
+      record {
+        at = d.at;
+        before = omega arith;
+        enters = d.enters;
+        new = d.new;
+        behind = λ j l cut. ⊎_elim
+            (λ (e : j ≡ i). absurd (cut_goes i x (inputs i) (omega arith) refl
+            (subst (λ (n : ℕ). CutsOff (inputs n) x) e cut) there))
+            (λ (q : j < i). d.behind j q cut)
+            (eq-or-lt_of_le (let z : j ≤ i = omega arith in z));
+        stands = λ k l le. ⊎_elim
+            (λ (e : k ≡ suc i). subst (λ (n : ℕ). In x (kept n).pieces.items) (sym e) there)
+            (λ (q : k < suc i). d.stands k l (omega arith))
+            (eq-or-lt_of_le le);
+      })
+      (λ w. record {
+        at = i;
+        before = omega arith;
+        enters = w.0;
+        new = w.1;
+        behind = λ j l cut. ⊎_elim
+            (λ (e : j ≡ i). absurd (cut_goes i x (inputs i) (omega arith) refl
+            (subst (λ (n : ℕ). CutsOff (inputs n) x) e cut) there))
+            (λ (q : j < i). q)
+            (eq-or-lt_of_le (let z : j ≤ i = omega arith in z));
+        stands = λ k l le. subst (λ (n : ℕ). In x (kept n).pieces.items) (let z : suc i ≡ k = omega arith in z) there;
+      })
+      (came i x there)
+
+  -- a record that stands, and did not stand before an earlier input, entered between
+  pub entered_between : (j i : ℕ) (x : PieceState) → j ≤ i → i ≤ count → (In x (kept j).pieces.items → ⊥)
+      → In x (kept i).pieces.items
+      → (s : StandsSince p c inputs x i) × (j ≤ s.at)
+  entered_between j i x le low none there =
+      let s = entered i x low there in
+      (s, ⊎_elim (λ (l : s.at < j). absurd (none (s.stands j l le))) (λ (g : j ≤ s.at). g) (cases_lt s.at j))
+
+  enters_at : (i : ℕ) (x : PieceState) (k : Input Msg) → i < count → inputs i ≡ k → Enters p c k (kept i) x
+      → In x (deed_of p c k (kept i)).state.pieces.items ⊎ MayGo p k x
+  enters_at i x (Take stamp link m) low e w = inl
+      (taking_there p c stamp link m (kept i) x (formed i stamp link m low e) w)
+  enters_at i x (Tick stamp) low e w = after_reading stamp (kept i) x (split_there p c stamp (kept i) x some w)
+    where
+      after_reading : (stamp : Stamp) (h : Store) (x : PieceState) → In x (before_reading p c stamp h).pieces.items
+          → In x (ticking p c stamp h).state.pieces.items ⊎ (leaves_by p stamp.reading x ≡ true)
+      after_reading stamp h x i = (rest_moves (λ y. ⊥) (λ y. leaves_by p stamp.reading y ≡ true)
+          (λ y. Unit {0}) p c stamp h (λ y t. t) (λ y t. tt)).stays x i
+
+  -- what enters stands afterwards, unless it leaves at that very tick
+  enters : (i : ℕ) (x : PieceState) → i < count → Enters p c (inputs i) (kept i) x
+      → In x (kept (suc i)).pieces.items ⊎ MayGo p (inputs i) x
+  enters i x low w = enters_at i x (inputs i) low refl w
+
+  -- a record stays until it may go
+  stays : (j i : ℕ) (x : PieceState) → j ≤ i → In x (kept j).pieces.items → In x (kept i).pieces.items
+      ⊎ MightGo p inputs x j i
+  stays j zero x le there = inl (subst (λ (n : ℕ). In x (kept n).pieces.items) (let z : j ≡ 0 = omega arith in z) there)
+  stays j (suc i) x le there = ⊎_elim
+      (λ (e : j ≡ suc i). inl (subst (λ (n : ℕ). In x (kept n).pieces.items) e there))
+      (λ (l : j < suc i). ⊎_elim
+      (λ k. ⊎_elim (λ s. inl s) (λ m. inr (record { at = i; from = omega arith; before = omega arith; may = m }))
+      ((moves i).stays x k))
+      (λ w. let b = w.before in inr (record { at = w.at; from = w.from; before = omega arith; may = w.may }))
+      (stays j i x (omega arith) there))
+      (eq-or-lt_of_le le)
+
+  -- after a tick no record stands of a piece that leaves by then
+  left : (i : ℕ) (stamp : Stamp) (x : PieceState) → inputs i ≡ Tick stamp → In x (kept (suc i)).pieces.items
+      → leaves_by p stamp.reading x ≡ false
+  left i stamp x e there = ticking_leaves p c stamp (kept i) x
+      (subst (λ (k : Input Msg). In x (deed_of p c k (kept i)).state.pieces.items) e there)
+
+  -- what is to be asked for stands
+  within : (i : ℕ) (x : PieceState) → In x (kept i).unasked.items → In x (kept i).pieces.items
+  within zero x there = absurd there
+  within (suc i) x there = (moves i).within (within i) x there
+
+  later : (i : ℕ) (x : PieceState) → Asked i x → Asked (suc i) x
+  later i x a = let b = a.before in
+      record { at = a.at; before = omega arith; stamp = a.stamp; is = a.is; asked = a.asked }
+
+  -- what stands is to be asked for until it has been asked for
+  unasked : (i : ℕ) (x : PieceState) → In x (kept i).pieces.items → In x (kept i).unasked.items ⊎ Asked i x
+  unasked zero x there = absurd there
+  unasked (suc i) x there = (moves i).unasked
+      (λ y k. ⊎_elim (λ q. inl q) (λ q. inr (later i y q)) (unasked i y k)) x there
+
+  -- what stands after an input did not go at it
+  not_gone : (i : ℕ) (x : PieceState) (k : Input Msg) → i < count → inputs i ≡ k
+      → In x (deed_of p c k (kept i)).state.pieces.items → MayGo p k x → ⊥
+  not_gone i x (Take stamp link m) low e there may = cut_goes i x (Take stamp link m) low e may there
+  not_gone i x (Tick stamp) low e there may = no_both may (ticking_leaves p c stamp (kept i) x there)
+
+  -- what is to be asked for was so since it entered
+  unasked_since : (i : ℕ) (x : PieceState) → i ≤ count → In x (kept i).unasked.items
+      → (s : StandsSince p c inputs x i) → (k : ℕ) → s.at < k → k ≤ i
+      → In x (kept k).unasked.items
+  unasked_since zero x low there s k after by = absurd there
+  unasked_since (suc i) x low there s k after by = ⊎_elim
+      (λ (e : k ≡ suc i). subst (λ (n : ℕ). In x (kept n).unasked.items) (sym e) there)
+      (λ (l : k < suc i).
+      let stood = s.stands i (omega arith) (omega arith) in
+      let b = s.before in
+      let before = ⊎_elim
+      (λ q. q)
+      (λ q. absurd (not_gone i x (inputs i) (omega arith) refl (s.stands (suc i) (omega arith) (omega arith))
+      (q stood)))
+      ((moves i).unasked_back x there) in
+      unasked_since i x (omega arith) before
+      (record {
+        at = s.at;
+        before = omega arith;
+        enters = s.enters;
+        new = s.new;
+        behind = λ j q cut. s.behind j
+            (omega arith) cut;
+        stands = λ n a q. s.stands n a (omega arith);
+      })
+      k after (omega arith))
+      (eq-or-lt_of_le by)
+
+  -- after a tick nothing is to be asked for that leaves within the read lead
+  asked : (i : ℕ) (stamp : Stamp) (x : PieceState) → inputs i ≡ Tick stamp → In x (kept (suc i)).unasked.items
+      → leaves_by p (stamp.reading + p.read_lead) x ≡ false
+  asked i stamp x e there = ticking_asks p c stamp (kept i) x
+      (subst (λ (k : Input Msg). In x (deed_of p c k (kept i)).state.unasked.items) e there)
+
+  in_tick : (stamp : Stamp) (h : Store) (x : PieceState) → KeepsInTick p c stamp h x
+  in_tick stamp h x =
+      let Split : PieceState → Type 0 = IsSplitOff p c stamp h in
+      let reading = to_reading Split (λ y. ⊥) (λ y. Unit {0}) p c stamp h (λ y w. w) in
+      let serving = to_serving Split (λ y. ⊥) (λ y. Unit {0}) p c stamp h (λ y w. w) (λ y w. tt) in
+      record {
+        to_reading = λ i. ⊎_elim (λ k. k) (λ k. absurd k) (reading.stays x i);
+        to_serving = λ i. ⊎_elim (λ k. k) (λ k. absurd k) (serving.stays x i);
+        at_reading = λ i. reading.back x i;
+        at_serving = λ i. serving.back x i;
+        split_off = λ w. split_there p c stamp h x some w;
+        unasked = λ i. reading.unasked_why x i;
+      }
+
+  -- before the reading what stands is to be asked for, or was asked for at an earlier tick
+  at_reading : (i : ℕ) (stamp : Stamp) (x : PieceState) → In x (before_reading p c stamp (kept i)).pieces.items
+      → In x (before_reading p c stamp (kept i)).unasked.items ⊎ Asked i x
+  at_reading i stamp x there = (to_reading (λ y. Unit {0}) (λ y. ⊥) (Asked i) p c stamp (kept i) (λ y w. tt)).unasked
+      (unasked i) x there
+
+  -- what holds of the cub's life
+  pub keeps_pieces : KeepsPieces p c count inputs
+  keeps_pieces = record {
+    entered = entered;
+    enters = enters;
+    stays = stays;
+    left = left;
+    within = within;
+    unasked = unasked;
+    unasked_since = unasked_since;
+    asked = asked;
+    in_tick = λ i stamp x. in_tick stamp (kept i) x;
+    at_reading = at_reading;
+  }

@@ -1,0 +1,2 @@
+pub mod PieceRecords
+pub mod Splitting
