@@ -1,0 +1,10 @@
+pub mod Lists
+pub mod Notes
+pub mod Sends
+pub mod Visits
+pub mod Failures
+pub mod Turns
+pub mod Parcels
+pub mod Excuses
+pub mod Served
+pub mod Example

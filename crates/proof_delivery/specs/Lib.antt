@@ -1,0 +1,4 @@
+pub mod Delivered
+pub mod Example
+pub mod Recorded
+pub mod Ties

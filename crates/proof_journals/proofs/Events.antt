@@ -1,0 +1,202 @@
+-- In which event of its node each entry of a ring's journals was written, and what its node put out then.
+use Rattle.std.proofs.Common.{◌≡◌, ℕ, ◌+◌, ◌*◌, ◌-◌, ◌<◌, ◌≤◌, List, [], true, false, Some, sym, ap, subst, ◌∙◌, arith, ⊎_elim, inl, inr}
+use Rattle.std.specs.Prelude.{◌⊎◌, Option, unwrap_or, slice_get}
+use Rattle.std.proofs.lemmas.Bool.{cases_Bool, cases_lt, cases_eq}
+use Rattle.tiger_base.specs.declared.number.Instance.{Instance}
+use Rattle.tiger_base.specs.declared.number.LinkNo.{LinkNo}
+use Rattle.tiger_base.specs.declared.number.Stamp.{Stamp}
+use Rattle.tiger_base.specs.declared.tenancy.State.{State}
+use Rattle.tiger_base.specs.declared.message.Msg.{Msg}
+use Rattle.tiger_base.specs.declared.message.Msg.TheVariants as msg
+use Rattle.tiger_base.specs.Notes.{noted}
+use Rattle.slot_plan.specs.declared.params.Params.{Params}
+use Rattle.slot_plan.specs.Conditions.{IsPlan}
+use Rattle.slot_plan.specs.Times.{time_of}
+use Rattle.node_kit.specs.declared.course.Order.{Order}
+use Rattle.node_kit.specs.declared.journal.Entry.{Entry}
+use Rattle.node_kit.specs.declared.journal.What.{What}
+use Rattle.node_kit.specs.declared.journal.What.TheVariants as what
+use Rattle.node_kit.specs.declared.outbox.Out.{Out}
+use Rattle.node_kit.specs.declared.outbox.Out.TheVariants as out
+use Rattle.node_kit.specs.Steps.{Deed, Input, IsOwnEntry, stamp_of}
+use Rattle.run_facts.specs.Events.{NodeEvent, is_death, outs_of, stamp_at}
+use Rattle.run_facts.specs.Histories.{History, living, outs, past, last_of}
+use Rattle.disk_core.specs.State.{DiskState}
+use Rattle.disk_core.specs.Rules.{disk_step}
+use Rattle.schedule_laws.specs.Lives.{In, IsLife, outs_at}
+use Rattle.schedule_laws.proofs.Carrying.{stamp_same}
+use Rattle.schedule_moments.proofs.Ordered.{numbered_below}
+use Rattle.schedule_moments.proofs.Written.{WrittenAt, event_wrote, written_at, act_written}
+use Rattle.schedule_views.proofs.Journals.{inputs_of}
+use Rattle.stops_ways.specs.Controllers.{controller, commands_at}
+use Rattle.proof_moments.specs.Members as members
+use Rattle.proof_moments.specs.Ties.{StandsIn}
+use Rattle.cub_facts.specs.Rings.{IsRingHistory, node_count, node_of_disk, viewers}
+use Rattle.proof_journals.specs.Journals.{AreJournalsOf}
+use Rattle.proof_journals.proofs.Living.{alive, before_death, ticks_same, death_is, beat_same, reading_same}
+use Rattle.proof_journals.proofs.Others.{act_gone, disk_no_act, disk_no_state}
+use Rattle.proof_journals.proofs.Lists.{moved, in_laws, in_moments}
+
+-- A plan, a history of its ring, and the ring's journals: the setting of all that follows.
+pub record AreKept {S : Type 0} (step : S → Input Msg → Deed Msg S) (p : Params) (orders : List Order)
+    (disk_at : ℕ → DiskState) (h : History Msg S) (journals : List (List Entry)) : Type 0 where
+  pub plan : IsPlan p
+  pub ring : IsRingHistory step p orders disk_at h
+  pub are : AreJournalsOf step p h journals
+
+module _ {S : Type 0} {step : S → Input Msg → Deed Msg S} {p : Params} {orders : List Order}
+    {disk_at : ℕ → DiskState} {h : History Msg S} {journals : List (List Entry)}
+    (kept : AreKept step p orders disk_at h journals) where
+  -- A cub is one of the nodes.
+  pub cub_inside : (c : ℕ) → c < p.cubs → c < node_count p
+  cub_inside c small = omega arith
+
+  -- ---- before its death
+
+  -- The events of a node's life are those that are no death.
+  pub is_alive : (n i : ℕ) → n < node_count p → i < living h n → (i < h.count n) × (is_death (h.event n i) ≡ false)
+  is_alive n i known low = let a = alive h n (λ k. kept.ring.run.ended n k known) i low in (a.done, a.lives)
+
+  pub is_before : (n i : ℕ) → n < node_count p → i < h.count n → is_death (h.event n i) ≡ false → i < living h n
+  is_before n i known low lives = before_death h n (λ k. kept.ring.run.ended n k known) i low lives
+
+  -- Who puts something out is alive.
+  pub alive_if_out : (n i : ℕ) (o : Out Msg) → n < node_count p → i < h.count n → In o (outs noted step h n i)
+      → i < living h n
+  alive_if_out n i o known low k = ⊎_elim
+      (λ (t : is_death (h.event n i) ≡ true).
+      let none = subst (λ (e : NodeEvent Msg). In o (outs_of step e (past noted step h n i))) (death_is (h.event n i) t) k in
+      absurd none)
+      (λ (f : is_death (h.event n i) ≡ false). is_before n i known low f)
+      (cases_Bool (is_death (h.event n i)))
+
+  -- Each node has a life of inputs, among which its death counts as a tick.
+  pub life_of : (n : ℕ) → n < node_count p → IsLife p (h.count n) (inputs_of h n)
+  life_of n known = record {
+    in_beat = λ i low. sym (beat_same h n i) ∙ kept.ring.run.in_beat n i known low
+        ∙ ticks_same h n (λ k. kept.ring.run.ended n k known) i low;
+    reads = λ i low.
+        let r = kept.ring.run.reads n i known low in
+        let t = ap (λ (b : ℕ). time_of p b) (beat_same h n i) in
+        let l = reading_same h n i in
+        let r0 = r.0 in
+        let r1 = r.1 in
+        (omega arith, omega arith);
+    rising = λ j i le low.
+        let r = kept.ring.run.rising n j i known le low in
+        let a = reading_same h n j in
+        let b = reading_same h n i in
+        omega arith;
+    short = λ i low. let r = kept.ring.short n i known low in let b = reading_same h n i in omega arith;
+  }
+
+  -- ---- entries of a node's own
+
+  -- Each journal is its node's.
+  pub journal_is : (n : ℕ) (j : List Entry) → slice_get journals n ≡ Some j
+      → (n < node_count p) × (j ≡ (last_of noted step h n).journal)
+  journal_is n j at =
+      let low = numbered_below journals n j at in
+      let count = kept.are.count in
+      let known : n < node_count p = omega arith in
+      let both : Some j ≡ Some (last_of noted step h n).journal = sym at ∙ kept.are.writes n known in
+      (known, ap (λ (o : Option (List Entry)). unwrap_or o j) both)
+
+  -- An entry was written in an event of its node.
+  pub written_in : (n : ℕ) (e : Entry) → StandsIn journals n e → (n < node_count p) × WrittenAt step h n (h.count n) e
+  written_in n e s =
+      let j = journal_is n s.journal s.at in
+      (j.0, written_at step h n (h.count n) e (in_laws e _ (subst (λ (es : List Entry). members.In e es) j.1 s.there)))
+
+  -- A node put an entry of its own out, in an event before its death.
+  pub record DidOwn (n : ℕ) (w : What) (stamp : Stamp) : Type 0 where
+    pub known : n < node_count p
+    pub at : ℕ
+    pub done : at < living h n
+    pub did : In (out.Act w) (outs noted step h n at)
+    pub when : stamp ≡ stamp_of (inputs_of h n at)
+
+  -- An entry of a node's own tells what the node put out.
+  pub own_entry : (n : ℕ) (e : Entry) (w : What) → StandsIn journals n e → IsOwnEntry w → e.what ≡ w
+      → DidOwn n w e.stamp
+  own_entry n e w s own is =
+      let x = written_in n e s in
+      let i : ℕ = x.1.at in
+      let r = event_wrote step (h.event n i) (past noted step h n i) e w own x.1.there is in
+      record {
+        known = x.0;
+        at = i;
+        done = alive_if_out n i (out.Act w) x.0 x.1.before r.0;
+        did = r.0;
+        when = r.1 ∙ stamp_same (h.event n i);
+      }
+
+  -- And what a node put out has its entry.
+  pub deed_logged : (n i : ℕ) (w : What) → n < node_count p → i < living h n → In (out.Act w) (outs noted step h n i)
+      → StandsIn journals n (record { stamp = stamp_at (h.event n i); what = w })
+  deed_logged n i w known low k =
+      let e : Entry = record { stamp = stamp_at (h.event n i); what = w } in
+      record {
+        journal = (last_of noted step h n).journal;
+        at = kept.are.writes n known;
+        there = in_moments e _ (act_written step h n i w (is_alive n i known low).0 k);
+      }
+
+  -- ---- which node puts out what
+
+  -- A node that is no cub is the controller, or it tells nothing and sends no state.
+  pub record IsOther (n i : ℕ) : Type 0 where
+    pub no_act : (w : What) → In (out.Act w) (outs noted step h n i) → ⊥
+    pub no_state : (link : LinkNo) (s : State) → In (out.Send link (msg.ViewerState s)) (outs noted step h n i) → ⊥
+
+  pub other_node : (n i : ℕ) → n < node_count p → p.cubs ≤ n → i < h.count n → (n ≡ controller p) ⊎ IsOther n i
+  other_node n i known high low = ⊎_elim
+      (λ (disk : n < p.cubs + p.cubs * p.disks).
+      let d : ℕ = n - p.cubs in
+      let small : d < p.cubs * p.disks = omega arith in
+      let place : n ≡ node_of_disk p d = omega arith in
+      let rule = kept.ring.rules.disks d i small (subst (λ m. i < h.count m) place low) in
+      let same : outs noted step h n i ≡ (disk_step (disk_at d) (inputs_of h (node_of_disk p d) i)).outs =
+      ap (λ m. outs noted step h m i) place ∙ rule in
+      inr (record {
+        no_act = λ w k. disk_no_act (disk_at d) (inputs_of h (node_of_disk p d) i) w (moved (out.Act w) same k);
+        no_state = λ link s k. disk_no_state (disk_at d) (inputs_of h (node_of_disk p d) i) link s
+            (moved (out.Send link (msg.ViewerState s)) same k);
+      }))
+      (λ (more : p.cubs + p.cubs * p.disks ≤ n). ⊎_elim
+      (λ (e : n ≡ p.cubs + p.cubs * p.disks). inl e)
+      (λ (ne : n ≡ p.cubs + p.cubs * p.disks → ⊥).
+      let last : n ≡ viewers p = omega (arith, ne) in
+      let same : outs noted step h n i ≡ [] =
+      ap (λ m. outs noted step h m i) last ∙ kept.ring.rules.views i (subst (λ m. i < h.count m) last low) in
+      inr (record {
+        no_act = λ w k. moved (out.Act w) same k;
+        no_state = λ link s k. moved (out.Send link (msg.ViewerState s)) same k;
+      }))
+      (cases_eq n (p.cubs + p.cubs * p.disks)))
+      (cases_lt n (p.cubs + p.cubs * p.disks))
+
+  -- An entry of its own is a cub's, or it is the controller's and tells of a stop.
+  pub who_acts : (n i : ℕ) (w : What) → n < node_count p → i < living h n → In (out.Act w) (outs noted step h n i)
+      → ((n < p.cubs) × In (out.Act w) (outs_at p n (inputs_of h n) i))
+      ⊎ ((n ≡ controller p) × In (out.Act w) (commands_at p orders (inputs_of h (controller p)) i)
+      × (v : Instance) × (w ≡ what.Gone v))
+  who_acts n i w known low k = ⊎_elim
+      (λ (small : n < p.cubs). inl (small, moved (out.Act w) (kept.ring.rules.cubs n i small low) k))
+      (λ (high : p.cubs ≤ n).
+      let done = (is_alive n i known low).0 in
+      ⊎_elim
+      (λ (e : n ≡ controller p).
+      let there = subst (λ m. In (out.Act w) (outs noted step h m i)) e k in
+      let command = moved (out.Act w) (kept.ring.rules.controls i (subst (λ m. i < h.count m) e done)) there in
+      let gone = act_gone p orders (inputs_of h (controller p)) i w command in
+      inr (e, command, gone.0, gone.1))
+      (λ o. absurd (o.no_act w k))
+      (other_node n i known high done))
+      (cases_lt n p.cubs)
+
+  -- So what is no stop is a cub's.
+  pub cub_acts : (n : ℕ) (w : What) (stamp : Stamp) → ((v : Instance) → w ≡ what.Gone v → ⊥) → (d : DidOwn n w stamp)
+      → (n < p.cubs) × In (out.Act w) (outs_at p n (inputs_of h n) d.at)
+  cub_acts n w stamp no_stop d = ⊎_elim (λ c. c) (λ o. absurd (no_stop o.2 o.3))
+      (who_acts n d.at w d.known d.done d.did)

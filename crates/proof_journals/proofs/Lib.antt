@@ -1,0 +1,14 @@
+pub mod Besides
+pub mod Cutting
+pub mod Ending
+pub mod Events
+pub mod Keeping
+pub mod Lists
+pub mod Living
+pub mod Local
+pub mod Logging
+pub mod Others
+pub mod Outputs
+pub mod Recorded
+pub mod Telling
+pub mod Views

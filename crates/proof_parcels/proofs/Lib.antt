@@ -1,0 +1,12 @@
+pub mod Apart
+pub mod TickParts
+pub mod AskOuts
+pub mod ServeOuts
+pub mod Failing
+pub mod Cubs
+pub mod Entries
+pub mod Telling
+pub mod Keeping
+pub mod Disks
+pub mod Viewing
+pub mod Tied
