@@ -1,0 +1,5 @@
+pub mod Nodes
+pub mod Living
+pub mod Openings
+pub mod Orders
+pub mod Runs

@@ -1,0 +1,154 @@
+-- What is kept of the run of a scenario is of a ring, to the end of its beats.
+use Rattle.std.proofs.Common.{◌≡◌, ℕ, ◌+◌, ◌<◌, ◌≤◌, ◌%◌, List, [], length, Bool, true, false, cond, Option, Some, None, refl, sym, ap, subst, ◌∙◌, arith, ⊎_elim}
+use Rattle.std.specs.Prelude.{slice_get, option_and_then}
+use Rattle.std.proofs.lemmas.Bool.{eqb-true, le-ltb, cases_Bool}
+use Rattle.tiger_base.specs.declared.message.Msg.{Msg}
+use Rattle.tiger_base.specs.Notes.{noted}
+use Rattle.slot_plan.specs.declared.params.Params.{Params}
+use Rattle.slot_plan.specs.Times.{cub_of, disk_count}
+use Rattle.node_kit.specs.declared.course.Course.{Course}
+use Rattle.node_kit.specs.declared.course.Kept.{Kept}
+use Rattle.node_kit.specs.declared.course.Order.{Order}
+use Rattle.node_kit.specs.Courses.{IsCourse}
+use Rattle.node_kit.specs.Life.{Lifetime, dies, lifetime_of}
+use Rattle.run_facts.specs.Events.{NodeEvent, is_death, stamp_at}
+use Rattle.run_facts.specs.Events.NodeEvent.{Does, Dies}
+use Rattle.run_facts.specs.Histories.{History, past, beat, reading, IsRun}
+use Rattle.scenario_read.specs.declared.scenario.Scenario.{Scenario}
+use Rattle.scenario_read.specs.Sound.{IsScenario}
+use Rattle.ring_nodes.specs.declared.nodes.AnyNode.{AnyNode}
+use Rattle.ring_nodes.specs.declared.nodes.AnyNode.TheVariants as node
+use Rattle.ring_nodes.specs.AllNodes.{any_step, opening_cub, opening_controller, image_at, images_of}
+use Rattle.ring_nodes.proofs.Numbered.{length-numbered, opening_count}
+use Rattle.ring_facts.specs.Rings.{IsRingRun}
+use Rattle.ring_facts.specs.Steps.{ring_of}
+use Rattle.ring_schedule.proofs.Openings.{get_some, cubs_open, controller_opens, viewers_open, life_kept, read_low}
+use Rattle.stops_ways.specs.Controllers.{controller}
+use Rattle.cub_facts.specs.Rings.{node_count, node_of_disk, viewers, DieAlone, AreCounted, IsUpTo, AreOfCatalogue}
+use Rattle.proof_journals.specs.Journals.{AreJournalsOf}
+use Rattle.proof_ring.specs.Rings.{OpensAs, IsRing}
+use Rattle.proof_ring.specs.Runs.{disks_of, AreShort, IsKeptRing, KeptRunsAreRings}
+use Rattle.proof_ring.proofs.Openings.{disk_opens}
+use Rattle.proof_ring.proofs.Orders.{of_catalogue, counted}
+
+-- A life that ends in a beat has its death there.
+pub dies_in : (d : Option ℕ) (b : ℕ) → dies (record { death = d }) b ≡ true → d ≡ Some b
+unfolding dies
+dies_in None b t = absurd (cc)
+dies_in (Some x) b t = ap (λ n. Some n) (sym (eqb-true _ _ t))
+
+-- In a course only cubs die.
+pub only_cubs : (c : Course) (n : ℕ) → c.plan.params.cubs ≤ n → (lifetime_of c n).death ≡ None
+only_cubs c n high = ap (λ (b : Bool). cond b (option_and_then (λ d. d) (slice_get c.deaths n)) None) (le-ltb n c.plan.params.cubs high)
+
+-- The ring of a kept run.
+module _ (G : Type 0) (s : Scenario) (library : List (List ℕ)) (k : Kept) (scenario : IsScenario s) (short : AreShort library) (run : IsRingRun G s library k) where
+  abbrev pub p : Params
+  p = k.course.plan.params
+
+  abbrev pub h : History Msg (AnyNode G)
+  h = run.steps.kept.lived.history
+
+  abbrev pub given : List (AnyNode G)
+  given = ring_of G k.course k.catalogue library k.orders
+
+  pub course : IsCourse k.course
+  course = subst IsCourse (sym run.course) scenario.course
+
+  pub all : length (images_of p k.catalogue library) ≡ disk_count p
+  all = length-numbered (image_at p k.catalogue library) (disk_count p)
+
+  pub size : length given ≡ node_count p
+  size = opening_count p k.course.faults (images_of p k.catalogue library) k.orders given all refl
+
+  -- A death stands in the beat that the course has for it.
+  pub death_is : (n i : ℕ) → n < node_count p → i < h.count n → is_death (h.event n i) ≡ true → (lifetime_of k.course n).death ≡ Some (beat h n i)
+  death_is n i inside low t = by (h.event n i) refl t
+    where
+      by : (e : NodeEvent Msg) → h.event n i ≡ e → is_death e ≡ true → (lifetime_of k.course n).death ≡ Some (beat h n i)
+      by (Does x) q t = absurd (cc)
+      by (Dies stamp) q t =
+          let within : n < length given = omega (arith, size, inside) in
+          let d = (run.steps.kept.lived.complete.dying n i stamp within low q).1 in
+          let g = get_some given n within in
+          let same : (past noted any_step h n i).life ≡ lifetime_of k.course n = life_kept any_step h n i ∙ (run.steps.kept.lived.theirs.opens n g.0 g.1).1 in
+          let at : beat h n i ≡ stamp.beat = ap (λ (e : NodeEvent Msg). (stamp_at e).beat) q in
+          ap (λ (l : Lifetime). l.death) (sym same) ∙ dies_in (past noted any_step h n i).life.death stamp.beat d ∙ ap (λ b. Some b) (sym at)
+
+  pub deaths : DieAlone p h
+  unfolding cub_of
+  deaths = record {
+    mortal = λ n i inside other low. ⊎_elim
+        (λ (t : is_death (h.event n i) ≡ true).
+        let d = death_is n i inside low t in
+        let z : None ≡ Some (beat h n i) = sym (only_cubs k.course n other) ∙ d in absurd (cc))
+        (λ (f : is_death (h.event n i) ≡ false). f)
+        (cases_Bool (is_death (h.event n i)));
+    apart = λ c d i j small there low high one two next.
+        let first = death_is c i (omega (arith, small)) low one in
+        let second = death_is d j (omega (arith, there)) high two in
+        ⊎_elim
+        (λ (q : (lifetime_of k.course c).death ≡ None). let z : None ≡ Some (beat h c i) = sym q ∙ first in absurd (cc))
+        (λ (q : (lifetime_of k.course ((c + 1) % p.cubs)).death ≡ None).
+        let z : None ≡ Some (beat h d j) = sym q ∙ (ap (λ n. (lifetime_of k.course n).death) (sym next) ∙ second) in absurd (cc))
+        (run.apart c small);
+  }
+
+  pub opens : OpensAs p k.orders (disks_of k library) h
+  opens =
+      let theirs = run.steps.kept.lived.theirs in
+      record {
+        cubs = λ c low. (theirs.opens c (opening_cub p c) (cubs_open G p k.course.faults (images_of p k.catalogue library) k.orders all c low)).0;
+        disks = λ d low. (theirs.opens (node_of_disk p d) (node.Disk (disks_of k library d)) (disk_opens G p k.course.faults k.catalogue library k.orders d low)).0;
+        numbered = λ d low. record { params = refl; number = refl };
+        commands = (theirs.opens (controller p) (opening_controller p k.orders) (controller_opens G p k.course.faults (images_of p k.catalogue library) k.orders all)).0;
+        views = (theirs.opens (viewers p) (node.Viewers []) (viewers_open G p k.course.faults (images_of p k.catalogue library) k.orders all)).0;
+      }
+
+  pub orders_counted : AreCounted p k.orders
+  orders_counted =
+      subst (λ (c : Course). AreCounted c.plan.params k.orders) (sym run.course)
+      (subst (λ (os : List Order). AreCounted s.course.plan.params os) (sym run.orders) (counted s library k.catalogue scenario run.catalogue short))
+
+  pub files : AreOfCatalogue p k.catalogue k.orders
+  files =
+      subst (λ (c : Course). AreOfCatalogue c.plan.params k.catalogue k.orders) (sym run.course)
+      (subst (λ (os : List Order). AreOfCatalogue s.course.plan.params k.catalogue os) (sym run.orders) (of_catalogue s library k.catalogue scenario run.catalogue))
+
+  pub is_ring : IsRing p k.orders (disks_of k library) h
+  is_ring = record {
+    run = subst (λ n. IsRun noted any_step p n h) size run.steps.kept.lived.run;
+    opens = opens;
+    deaths = deaths;
+    counted = orders_counted;
+    short = λ n i inside low.
+        let within : n < length given = omega (arith, size, inside) in
+        read_low k.course (beat h n i) (reading h n i) course (run.steps.kept.lived.complete.early n i within low) (run.steps.kept.lived.run.reads n i within low).1;
+  }
+
+  pub up_to : IsUpTo p k.course.beats h
+  up_to = record {
+    until = λ n inside alive.
+        let all = run.steps.kept.lived.complete.until_end n (omega (arith, size, inside)) alive in
+        omega (arith, all);
+  }
+
+  pub written : AreJournalsOf any_step p h k.journals
+  written =
+      let whole = size in
+      record {
+        count = run.steps.kept.each_has_journal ∙ size;
+        writes = λ n low. run.steps.kept.lived.theirs.writes n (omega (arith, whole, low));
+      }
+
+  pub kept_ring : IsKeptRing library k h
+  kept_ring = record {
+    ring = is_ring;
+    up_to = up_to;
+    written = written;
+    files = files;
+    images = record { files = λ d low. refl; pieces = λ d low. refl; disk = λ d low. refl };
+  }
+
+pub kept_runs_are_rings : (G : Type 0) → KeptRunsAreRings G
+kept_runs_are_rings G s library k scenario short run = kept_ring G s library k scenario short run

@@ -1,0 +1,5 @@
+use Rattle.proof_ring.proofs.Nodes.{rings_are_histories}
+use Rattle.proof_ring.proofs.rings_are_histories.Goals as goal
+
+pub returns : goal.returns
+returns g c = rings_are_histories _

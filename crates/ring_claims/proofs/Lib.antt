@@ -1,0 +1,5 @@
+pub mod Faults
+pub mod Kept
+pub mod Recorded
+pub mod Served
+pub mod Ticks
