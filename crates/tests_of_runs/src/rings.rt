@@ -3,11 +3,9 @@ ghost use Rattle.std.specs.Prelude.{◌≡◌, ◌≤◌, length, All, IfOk};
 ghost use Rattle.tiger_base.specs.Limits.{most_file};
 ghost use Rattle.scenario_read.specs.Sound.{IsScenario};
 ghost use Rattle.run_claims.specs.Accounts.{account_of};
-ghost use Rattle.run_claims.specs.Claims.{FreePuts, HasFirstClaims};
+ghost use Rattle.run_claims.specs.Claims.{MeetsClaims};
 
 use node_kit::{Entry, Journal, Kept, OpenGate, What};
-use ring_schedule::is_calm;
-use ring_stops::is_living;
 use run_model::{carried, delivered, excused, schedule_at, timed};
 use scenario_read::{Scenario, read_scenario};
 use std::alloc::{AllocError, Global};
@@ -91,7 +89,7 @@ fn scenario_of(alloc: Global, files: &str, rest: &str, count: usize) -> Result<S
     Ok(scenario)
 }
 
-/// The run of a scenario over a library.
+/// The run of a scenario over a library. Whatever the scenario holds, it meets all claims.
 fn run_of(
     alloc: Global,
     files: &str,
@@ -102,6 +100,7 @@ fn run_of(
     requires count { length library.now ≡ count }
     requires filled { All (λ bytes. 1 ≤ length bytes) library.now }
     requires short { All (λ bytes. length bytes ≤ most_file) library.now }
+    ensures claims { IfOk result (λ k. MeetsClaims (account_of k)) }
 {
     let scenario = scenario_of(alloc, files, rest, count)?;
     Ok(run_ring(alloc, scenario, library, &OpenGate)?)
@@ -364,46 +363,6 @@ fn seventeen(alloc: Global, beats: &str) -> Result<String, AllocError> {
     Ok(text)
 }
 
-/// The run of a scenario that is found to have no stops and no deaths: there is one schedule.
-fn calm_run_of(
-    alloc: Global,
-    files: &str,
-    rest: &str,
-    library: &Library,
-    count: usize,
-) -> Result<Kept, Fail>
-    requires count { length library.now ≡ count }
-    requires filled { All (λ bytes. 1 ≤ length bytes) library.now }
-    requires short { All (λ bytes. length bytes ≤ most_file) library.now }
-    ensures one_schedule { IfOk result (λ k. HasFirstClaims (account_of k)) }
-{
-    let scenario = scenario_of(alloc, files, rest, count)?;
-    if !is_calm(&scenario) {
-        return Err(Fail::new("a stop or a death"));
-    }
-    Ok(run_ring(alloc, scenario, library, &OpenGate)?)
-}
-
-/// The run of a scenario that is found to have no deaths: its Puts are fair.
-fn living_run_of(
-    alloc: Global,
-    files: &str,
-    rest: &str,
-    library: &Library,
-    count: usize,
-) -> Result<Kept, Fail>
-    requires count { length library.now ≡ count }
-    requires filled { All (λ bytes. 1 ≤ length bytes) library.now }
-    requires short { All (λ bytes. length bytes ≤ most_file) library.now }
-    ensures fair { IfOk result (λ k. FreePuts (account_of k)) }
-{
-    let scenario = scenario_of(alloc, files, rest, count)?;
-    if !is_living(&scenario) {
-        return Err(Fail::new("a death"));
-    }
-    Ok(run_ring(alloc, scenario, library, &OpenGate)?)
-}
-
 /// Adds what was put in a journal, each as its instance, slot, first and last visit.
 fn push_puts(journal: &[Entry], text: &mut String) -> Result<(), AllocError> {
     for e in journal {
@@ -429,7 +388,7 @@ fn put_after_a_stop(alloc: Global) -> Result<String, Fail> {
     let library = both(alloc)?;
     let rest =
         r#""beats":1000,"events":[{"beat":0,"start":0},{"beat":400,"stop":0},{"beat":400,"start":1}]"#;
-    let k = living_run_of(alloc, BOTH, rest, &library, 2)?;
+    let k = run_of(alloc, BOTH, rest, &library, 2)?;
     Ok(puts(alloc, &k)?)
 }
 
@@ -445,7 +404,7 @@ fn a_slot_is_put_again_after_a_stop(rt: HostRuntime) -> Result<(), Fail> {
 fn put_of_seventeen(alloc: Global, beats: &str) -> Result<String, Fail> {
     let library = one(alloc, sixteen_blocks(alloc)?)?;
     let rest = seventeen(alloc, beats)?;
-    let k = calm_run_of(alloc, TEN, rest.as_str(), &library, 1)?;
+    let k = run_of(alloc, TEN, rest.as_str(), &library, 1)?;
     Ok(puts(alloc, &k)?)
 }
 

@@ -1,3 +1,2 @@
 mod Stopless
 mod Following
-mod Claims

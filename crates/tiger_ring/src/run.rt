@@ -4,11 +4,9 @@ ghost use Rattle.tiger_base.specs.Limits.{most_file};
 ghost use Rattle.scenario_read.specs.Sound.{IsScenario};
 ghost use Rattle.run_report.specs.Text.{kept_outcomes};
 ghost use Rattle.ring_facts.specs.Rings.{IsRingRun};
-ghost use Rattle.ring_schedule.specs.Scenarios.{IsCalmScenario};
-ghost use Rattle.ring_stops.specs.Scenarios.{IsLivingScenario};
 ghost use Rattle.ring_answer.specs.Answers.{IsOnlyRun};
 ghost use Rattle.run_claims.specs.Accounts.{account_of};
-ghost use Rattle.run_claims.specs.Claims.{FreePuts, HasFirstClaims};
+ghost use Rattle.run_claims.specs.Claims.{MeetsClaims};
 
 use crate::journals::journals_of;
 use node_kit::{Gate, Kept};
@@ -25,8 +23,8 @@ pub struct RingRun {
 }
 
 /// Runs a scenario over its library, and keeps what is told of the run. Each read of a disk passes
-/// the gate. Whatever runs the ring for it, the same is kept. If the scenario has no stops and no
-/// deaths there is one schedule, and if nobody dies in it each Put finds its slot free.
+/// the gate. Whatever runs the ring for it, the same is kept. Whatever the scenario starts, stops,
+/// lets die and fails to read, there is one schedule, and each settled block came or is excused.
 ///
 /// `NoMemory` is the only error; it gives nothing back.
 pub fn run_ring<G: Gate>(
@@ -41,8 +39,7 @@ pub fn run_ring<G: Gate>(
     requires short { All (λ bytes. length bytes ≤ most_file) library.now }
     ensures ran { IfOk result (IsRingRun G scenario library.now) }
     ensures only { IfOk result (IsOnlyRun G scenario library.now) }
-    ensures one_schedule { IfOk result (λ k. IsCalmScenario scenario → HasFirstClaims (account_of k)) }
-    ensures fair { IfOk result (λ k. IsLivingScenario scenario → FreePuts (account_of k)) }
+    ensures claims { IfOk result (λ k. MeetsClaims (account_of k)) }
 {
     let RingRun { kept, .. } = run_with_outcomes(alloc, scenario, library, gate)?;
     Ok(kept)
@@ -63,9 +60,7 @@ pub fn run_with_outcomes<G: Gate>(
     ensures ran { IfOk result (λ run. IsRingRun G scenario library.now run.kept) }
     ensures told { IfOk result (λ run. run.outcomes.items ≡ kept_outcomes run.kept) }
     ensures only { IfOk result (λ run. IsOnlyRun G scenario library.now run.kept) }
-    ensures one_schedule { IfOk result (λ run.
-        IsCalmScenario scenario → HasFirstClaims (account_of run.kept)) }
-    ensures fair { IfOk result (λ run. IsLivingScenario scenario → FreePuts (account_of run.kept)) }
+    ensures claims { IfOk result (λ run. MeetsClaims (account_of run.kept)) }
 {
     let catalogue = catalogue_of(alloc, &scenario, library)?;
     let orders = orders_of(alloc, &scenario, &catalogue)?;

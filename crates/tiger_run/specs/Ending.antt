@@ -10,11 +10,9 @@ use Rattle.scenario_read.specs.declared.scenario.Scenario.{Scenario}
 use Rattle.scenario_read.specs.Meaning.{said_by}
 use Rattle.scenario_make.specs.Made.{made_scenario, made_library}
 use Rattle.run_report.specs.Text.{report_text, summary_text}
-use Rattle.ring_schedule.specs.Scenarios.{IsCalmScenario}
-use Rattle.ring_stops.specs.Scenarios.{IsLivingScenario}
 use Rattle.ring_facts.specs.Rings.{IsRingRun}
 use Rattle.run_claims.specs.Accounts.{account_of}
-use Rattle.run_claims.specs.Claims.{FreePuts, HasFirstClaims}
+use Rattle.run_claims.specs.Claims.{MeetsClaims}
 use Rattle.scenario_read.specs.Sound.{IsScenario}
 use Rattle.tiger_run.specs.declared.inputs.Inputs.{Inputs}
 use Rattle.tiger_run.specs.declared.status.Status.{Status}
@@ -24,14 +22,12 @@ use Rattle.tiger_run.specs.Inputs.{InputsCause, AreInputs, MadeCalls}
 
 -- ---- what is kept
 
--- The ring ran for a scenario, which breaks no rule, and its files, and this is kept of it. If the
--- scenario has no stops and no deaths there is one schedule; if nobody dies in it each Put finds its
--- slot free, and is rightly put.
+-- The ring ran for a scenario, which breaks no rule, and its files, and this is kept of it. Whatever
+-- the scenario starts, stops, lets die and fails to read, it meets all claims.
 pub record IsRunOf (G : Type 0) (s : Scenario) (library : List (List ℕ)) (k : Kept) : Type 0 where
   pub sound : IsScenario s
   pub ran : IsRingRun G s library k
-  pub one_schedule : IsCalmScenario s → HasFirstClaims (account_of k)
-  pub fair : IsLivingScenario s → FreePuts (account_of k)
+  pub claims : MeetsClaims (account_of k)
 
 -- the scenario of this name was read, and then its files, with one call for each, and the ring ran
 -- for them

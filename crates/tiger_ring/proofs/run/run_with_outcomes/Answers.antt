@@ -1,8 +1,6 @@
 use Rattle.std.proofs.Common.{refl, ◌∙◌}
 use Rattle.ring_answer.proofs.Kepts.{kept_runs_are_one}
-use Rattle.ring_schedule.proofs.Scenarios.{has_one_schedule}
-use Rattle.ring_stops.proofs.Scenarios.{living_runs_put_fairly}
-use Rattle.tiger_ring.proofs.Claims.{first_claims}
+use Rattle.ring_claims.proofs.Kept.{kept_runs_meet_the_claims}
 use Rattle.tiger_ring.proofs.run.run_with_outcomes.Goals as goal
 
 pub returns-clause-ran : goal.returns-clause-ran
@@ -26,12 +24,6 @@ pub returns-clause-only : goal.returns-clause-only
 returns-clause-only g c =
     λ other again. kept_runs_are_one g.row.G.Denot c.args.scenario c.args.library.now other _ c.requires.scenario again (returns-clause-ran g c)
 
-pub returns-clause-one_schedule : goal.returns-clause-one_schedule
-returns-clause-one_schedule g c =
-    λ calm.
-    let ran = returns-clause-ran g c in
-    first_claims _ (has_one_schedule g.row.G.Denot c.args.scenario c.args.library.now _ c.requires.scenario calm c.requires.short ran) ran.commanded
-
-pub returns-clause-fair : goal.returns-clause-fair
-returns-clause-fair g c =
-    λ living. living_runs_put_fairly g.row.G.Denot c.args.scenario c.args.library.now _ c.requires.scenario living c.requires.short (returns-clause-ran g c)
+pub returns-clause-claims : goal.returns-clause-claims
+returns-clause-claims g c =
+    kept_runs_meet_the_claims g.row.G.Denot c.args.scenario c.args.library.now _ c.requires.scenario c.requires.short (returns-clause-ran g c)

@@ -15,8 +15,7 @@ returns-clause-ran g c =
     let run : IsRunOf g.row.G.Denot made.scenario made.library c.in-Ok-run_with_outcomes.run'.kept = record {
       sound = c.in-Ok.ensures.sound;
       ran = c.in-Ok-run_with_outcomes.ensures.ran;
-      one_schedule = c.in-Ok-run_with_outcomes.ensures.one_schedule;
-      fair = c.in-Ok-run_with_outcomes.ensures.fair;
+      claims = c.in-Ok-run_with_outcomes.ensures.claims;
     } in
     record {
       scenario = made.scenario;

@@ -16,8 +16,7 @@ returns-clause-ran g c = record {
   run = record {
     sound = c.in-Ok.ensures.sound;
     ran = c.in-Ok-run_with_outcomes.ensures.ran;
-    one_schedule = c.in-Ok-run_with_outcomes.ensures.one_schedule;
-    fair = c.in-Ok-run_with_outcomes.ensures.fair;
+    claims = c.in-Ok-run_with_outcomes.ensures.claims;
   };
 }
 
