@@ -1,0 +1,5 @@
+pub mod Claims
+pub mod Events
+pub mod Lawful
+pub mod Openings
+pub mod Rings
