@@ -3,6 +3,8 @@
 
 ghost use Rattle.world_claims.specs.Accepted.{AcceptedListsAreNeverWronglyServed, AcceptedListsAreRightlyServed, AcceptedListsAreRings, AcceptedListsHaveOneSchedule, NodesAreLawful};
 
+pub mod rows;
+
 /// Any node of a ring stays where it stands, and puts out only what it may put out there.
 pub fn nodes_are_lawful<G>()
     ensures { NodesAreLawful G }
