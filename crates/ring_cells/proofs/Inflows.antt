@@ -1,0 +1,111 @@
+-- An in-link in a beat: messages are received, and what arrives is taken out.
+use Rattle.std.proofs.Common.{◌≡◌, ℕ, ◌+◌, ◌<◌, ◌≤◌, List, [], ◌∷◌, ◌++◌, map, filter, true, false, refl, ap, sym, ◌∙◌, subst, arith, ⊎_elim, append_assoc}
+use Rattle.std.specs.Prelude.{nat_le}
+use Rattle.std.proofs.lemmas.Bool.{cases_Bool}
+use Rattle.std.proofs.lemmas.Bool.Decides.{nat_tests}
+use Rattle.std.proofs.lemmas.List.{map-append}
+use Rattle.std.proofs.lemmas.List.Elements.{filter-append}
+use Rattle.std.specs.List.{AllByRecursion}
+use Rattle.node_kit.specs.Life.{Lifetime}
+use Rattle.run_facts.specs.declared.mail.Flight.{Flight}
+use Rattle.run_facts.specs.Accounts.{Rising, is_caught, arriving, waiting}
+use Rattle.run_facts.specs.Beats.{pass}
+use Rattle.run_facts.specs.Events.{NodeEvent, takes_along}
+use Rattle.run_facts.specs.Paced.{Passage, brought}
+use Rattle.run_facts.proofs.Along.{takes-append}
+use Rattle.run_facts.proofs.Beats.{under_way-waiting}
+use Rattle.run_facts.proofs.Rows.{all-append, all-weaker, rising-right}
+use Rattle.ring_links.specs.Ends.{LineId}
+use Rattle.ring_links.specs.Flights.{AllFollow, IsOrdered, AllFrom}
+use Rattle.ring_cells.specs.Flows.{Inflow, HasReceived, IsClosedTo, emptied}
+use Rattle.ring_cells.specs.Kept.{IsInflow}
+
+module _ {M : Type 0} where
+  ordered-right : (xs ys : List (Flight M)) → IsOrdered (xs ++ ys) → IsOrdered ys
+  ordered-right [] ys h = h
+  ordered-right (x ∷ xs) ys h = ordered-right xs ys h.2
+
+  later-arrivals : (p : Flight M) (ps : List (Flight M)) → AllFollow p ps → AllByRecursion (λ (f : Passage M). p.arrival ≤ f.arrival) (map pass ps)
+  later-arrivals p [] h = tt
+  later-arrivals p (q ∷ qs) h = (h.0.1, later-arrivals p qs h.1)
+
+  -- arrivals rise
+  pub arrivals-rise : (ps : List (Flight M)) → IsOrdered ps → Rising (λ (f : Passage M). f.arrival) (map pass ps)
+  arrivals-rise [] h = tt
+  arrivals-rise (p ∷ ps) h = (later-arrivals p ps h.1, arrivals-rise ps h.2)
+
+  -- what was sent in an open beat arrives past it
+  pub arrive-late : (closed next : ℕ) (ps : List (Flight M)) → next ≤ closed + 1 → AllFrom closed ps → IsOrdered ps → AllByRecursion (λ (f : Passage M). next ≤ f.arrival) (map pass ps)
+  arrive-late closed next [] far from ordered = tt
+  arrive-late closed next (p ∷ ps) far from ordered =
+      let low = from.0 in
+      let ahead = ordered.0 in
+      (omega (arith, far, low, ahead), arrive-late closed next ps far from.1 ordered.2)
+
+  pub behind-late : (closed next : ℕ) (xs ys : List (Flight M)) → next ≤ closed + 1 → AllFrom closed ys → IsOrdered (xs ++ ys) → AllByRecursion (λ (f : Passage M). next ≤ f.arrival) (map pass ys)
+  behind-late closed next xs ys far from ordered = arrive-late closed next ys far from (ordered-right xs ys ordered)
+
+-- what is under way is what arrives by a beat and what waits then
+arriving-waiting : {X : Type 0} (beat : ℕ) (fs : List (Passage X)) → fs ≡ arriving beat fs ++ waiting beat fs
+arriving-waiting beat [] = refl
+arriving-waiting beat (f ∷ fs) = ⊎_elim
+    (λ (e : nat_le f.arrival beat ≡ true). rw e (ap (λ ps. f ∷ ps) (arriving-waiting beat fs)))
+    (λ (e : nat_le f.arrival beat ≡ false). rw e refl)
+    (cases_Bool (nat_le f.arrival beat))
+
+arriving-low : {X : Type 0} (beat : ℕ) (fs : List (Passage X)) → AllByRecursion (λ (f : Passage X). f.arrival < beat + 1) (arriving beat fs)
+arriving-low beat [] = tt
+arriving-low beat (f ∷ fs) = ⊎_elim
+    (λ (e : nat_le f.arrival beat ≡ true). rw e (grind (arith, nat_tests, e), arriving-low beat fs))
+    (λ (e : nat_le f.arrival beat ≡ false). rw e tt)
+    (cases_Bool (nat_le f.arrival beat))
+
+waiting-high : {X : Type 0} (beat : ℕ) (fs : List (Passage X)) → Rising (λ (f : Passage X). f.arrival) fs → AllByRecursion (λ (f : Passage X). beat + 1 ≤ f.arrival) (waiting beat fs)
+waiting-high beat [] r = tt
+waiting-high {X} beat (f ∷ fs) r = ⊎_elim
+    (λ (e : nat_le f.arrival beat ≡ true). rw e (waiting-high beat fs r.1))
+    (λ (e : nat_le f.arrival beat ≡ false).
+    let high : beat + 1 ≤ f.arrival = grind (arith, nat_tests, e) in
+    rw e (high, all-weaker (λ (g : Passage X). f.arrival ≤ g.arrival) (λ (g : Passage X). beat + 1 ≤ g.arrival) fs (λ g l. omega (arith, l, high)) r.0))
+    (cases_Bool (nat_le f.arrival beat))
+
+module _ {M : Type 0} (line_of : ℕ → LineId) (life : Lifetime) where
+  pub inflow-waits : (next : ℕ) (events : List (NodeEvent M)) (i j : Inflow M) → IsInflow line_of life next events i → HasReceived i j → IsInflow line_of life next events j
+  inflow-waits next events i j h r =
+      let more : List (Flight M) = r.more in
+      let ordered : IsOrdered j.flights = r.in_order h.ordered in
+      let whole : IsOrdered (i.flights ++ more) = subst IsOrdered r.all ordered in
+      let far = h.far in
+      let rises = r.rises in
+      let waits : map pass j.waiting ≡ map pass i.waiting ++ map pass more = ap (map pass) r.waits ∙ map-append pass i.waiting more in
+      record {
+        its_line = r.same_line ∙ h.its_line ∙ ap (λ (l : _). line_of l.0) (sym r.same_link);
+        ordered = ordered;
+        gone = h.gone;
+        split = ap (map pass) r.all ∙ map-append pass i.flights more ∙ ap (λ l. l ++ map pass more) h.split ∙ append_assoc h.gone (map pass i.waiting) (map pass more) ∙ ap (λ l. h.gone ++ l) (sym waits);
+        got_is = ap (λ (l : _). takes_along l.0 events) r.same_link ∙ h.got_is;
+        behind = h.behind;
+        ahead = subst (AllByRecursion (λ (f : Passage M). next ≤ f.arrival)) (sym waits)
+            (all-append (λ (f : Passage M). next ≤ f.arrival) (map pass i.waiting) (map pass more) h.ahead (behind-late i.closed next i.flights more far r.of_open whole));
+        far = omega (arith, far, rises);
+      }
+
+  pub inflow-passes : (next : ℕ) (events es : List (NodeEvent M)) (i : Inflow M) → IsInflow line_of life next events i → IsClosedTo next i
+      → takes_along i.link.0 es ≡ map brought (filter (is_caught life) (arriving next (map pass i.waiting))) → IsInflow line_of life (next + 1) (events ++ es) (emptied next i)
+  inflow-passes next events es i h closed got =
+      let fs : List (Passage M) = map pass i.waiting in
+      let parts = arriving-waiting next fs in
+      record {
+        its_line = h.its_line;
+        ordered = h.ordered;
+        gone = h.gone ++ arriving next fs;
+        split = h.split ∙ ap (λ ps. h.gone ++ ps) parts ∙ sym (append_assoc h.gone (arriving next fs) (waiting next fs)) ∙ ap (λ ps. (h.gone ++ arriving next fs) ++ ps) (sym (under_way-waiting next i.waiting));
+        got_is = takes-append i.link.0 events es ∙ ap (λ ds. ds ++ takes_along i.link.0 es) h.got_is ∙ ap (λ ds. map brought (filter (is_caught life) h.gone) ++ ds) got
+            ∙ sym (map-append brought (filter (is_caught life) h.gone) (filter (is_caught life) (arriving next fs)))
+            ∙ ap (map brought) (sym (filter-append (is_caught life) h.gone (arriving next fs)));
+        behind = all-append (λ (f : Passage M). f.arrival < next + 1) h.gone (arriving next fs)
+            (all-weaker (λ (f : Passage M). f.arrival < next) (λ (f : Passage M). f.arrival < next + 1) h.gone (λ f l. omega (arith, l)) h.behind) (arriving-low next fs);
+        ahead = subst (AllByRecursion (λ (f : Passage M). next + 1 ≤ f.arrival)) (sym (under_way-waiting next i.waiting))
+            (waiting-high next fs (rising-right (λ (f : Passage M). f.arrival) h.gone fs (subst (Rising (λ (f : Passage M). f.arrival)) h.split (arrivals-rise i.flights h.ordered))));
+        far = omega (arith, closed);
+      }

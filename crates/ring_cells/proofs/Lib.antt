@@ -1,0 +1,14 @@
+pub mod Receiving
+pub mod InRows
+pub mod Posting
+pub mod Acting
+pub mod Passing
+pub mod Distinct
+pub mod Inflows
+pub mod Outflows
+pub mod Keeping
+pub mod Moving
+pub mod OfCells
+pub mod Openings
+pub mod Tried
+pub mod Disks

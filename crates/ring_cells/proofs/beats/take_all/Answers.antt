@@ -1,0 +1,21 @@
+use Rattle.std.proofs.Common.{refl, sym, ◌∙◌}
+use Rattle.ring_cells.proofs.Acting.{takes-on, none-left, none-keeps, set-first, set-rest, keeps-letter}
+use Rattle.ring_cells.proofs.beats.take_all.Goals as goal
+
+pub loop-letter-init : goal.loop-letter-init
+loop-letter-init g c = record { taken = refl; set = c.requires.set; keeps = λ last k. k }
+
+pub take_heard-requires-clause-set : goal.take_heard-requires-clause-set
+take_heard-requires-clause-set g c =
+    set-first _ _ c.in-Some.letter _ c.loop-letter.letters.items _ c.in-Some.ensures.items c.loop-letter.invariant.set
+
+pub loop-letter-preserved : goal.loop-letter-preserved
+loop-letter-preserved g c = record {
+  taken = takes-on _ _ _ c.in-Some.letter _ c.loop-letter.letters.items _ _ _ c.in-Some.ensures.items c.in_ok-take_heard.ensures.takes c.loop-letter.invariant.taken;
+  set = set-rest _ _ _ _ _ c.in-Some.letter _ c.loop-letter.letters.items _ _ c.in-Some.ensures.items c.in_ok-take_heard.ensures.keeps c.loop-letter.invariant.set;
+  keeps = λ last k. c.loop-letter.invariant.keeps last (keeps-letter _ _ _ _ c.in-Some.letter _ c.loop-letter.letters.items _ _ _ c.in-Some.ensures.items c.in_ok-take_heard.ensures.takes c.in_ok-take_heard.ensures.keeps k);
+}
+
+pub returns-clause-keeps : goal.returns-clause-keeps
+returns-clause-keeps g c =
+    c.loop-letter.invariant.keeps _ (none-keeps g.M.Message.note_of g.T.Node.step _ c.args.stamp c.loop-letter.letters.items _ (none-left _ (sym c.loop-letter.letters.ok.0 ∙ c.in_default.ensures.cases.0)))

@@ -1,0 +1,25 @@
+use Rattle.std.proofs.Common.{◌≡◌, length}
+use Rattle.run_facts.specs.Beats.{letter_events}
+use Rattle.ring_cells.specs.Stages.{Stage, stage, happen, links_of_letters, IsSetFor, KeepsSet}
+use Rattle.ring_cells.proofs.beats.take_all.Given as goal
+
+-- what is taken and what is still to be taken make all of it
+abbrev pub invariant-loop-letter : goal.invariant-loop-letter
+invariant-loop-letter g l = record {
+  taken : happen g.M.Message.note_of g.T.Node.step
+      (letter_events g.M.Message.note_of g.T.Node.step l.stamp l.letters.items (record { state = l.node; life = l.life; journal = l.journal }))
+      (stage l.node l.life l.journal l.outs.items)
+      ≡ happen g.M.Message.note_of g.T.Node.step
+      (letter_events g.M.Message.note_of g.T.Node.step l.stamp l.fn.letters.items (record { state = l.fn.node; life = l.fn.life; journal = l.fn.journal }))
+      (stage l.fn.node l.fn.life l.fn.journal l.fn.outs.items);
+  set : IsSetFor g.T.Node.stands_at l.stamp.beat (links_of_letters l.letters.items) (stage l.node l.life l.journal l.outs.items);
+  keeps : (last : Stage _ _) → KeepsSet g.M.Message.note_of g.T.Node.step g.T.Node.stands_at l.stamp.beat
+      (letter_events g.M.Message.note_of g.T.Node.step l.stamp l.letters.items (record { state = l.node; life = l.life; journal = l.journal }))
+      (stage l.node l.life l.journal l.outs.items) last
+      → KeepsSet g.M.Message.note_of g.T.Node.step g.T.Node.stands_at l.stamp.beat
+      (letter_events g.M.Message.note_of g.T.Node.step l.stamp l.fn.letters.items (record { state = l.fn.node; life = l.fn.life; journal = l.fn.journal }))
+      (stage l.fn.node l.fn.life l.fn.journal l.fn.outs.items) last;
+}
+
+abbrev pub decreases-loop-letter : goal.decreases-loop-letter
+decreases-loop-letter g l = length l.letters.items

@@ -1,0 +1,12 @@
+use Rattle.std.proofs.Common.{◌≡◌, ◌≤◌, false}
+use Rattle.ring_cells.specs.Moves.{DidBeats, IsSameCell}
+use Rattle.ring_cells.proofs.cell.Cell.go_on.Given as goal
+
+abbrev pub invariant-each : goal.invariant-each
+invariant-each g l =
+    (goal.iterator-each g).can_next l.iterator' ×
+    (goal.iterator-each g).is_finite l.iterator' ×
+    (l.self.spoilt ≡ false) ×
+    IsSameCell l.fn.self l.self ×
+    (l.count ≤ l.self.next) ×
+    DidBeats g.M.Message.note_of g.T.Node.step l.count l.fn.self l.self

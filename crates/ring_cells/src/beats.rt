@@ -1,0 +1,226 @@
+//! The events of a node in its beat: it takes messages, it ticks, it dies.
+ghost use Rattle.std.specs.Prelude.{◌≡◌, ◌≤◌, ◌∷◌, [], OnOk};
+ghost use Rattle.tiger_base.specs.Limits.{most_beats, most_reading};
+ghost use Rattle.node_kit.specs.Steps.Input.{Take, Tick};
+ghost use Rattle.run_facts.specs.Beats.{letter_events, end_events, beat_events};
+ghost use Rattle.run_facts.specs.Events.NodeEvent.{Does};
+ghost use Rattle.ring_cells.specs.Flows.{links_of_ins};
+ghost use Rattle.ring_cells.specs.Stages.{stage, IsSetFor, KeepsSet, HasPassed, happens, happen, links_of_letters};
+
+use crate::delivery::deliver;
+use crate::inlet::Inlet;
+use crate::outlet::Outlet;
+use crate::rows::{collect, end_all};
+use node_kit::{Entry, Journal, Life, Node, Outbox, What};
+use run_facts::Letter;
+use std::alloc::Global;
+use std::collections::VecDeque;
+use std::sync::Wait;
+use tiger_base::{Message, NoMemory, Stamp};
+
+/// A whole beat, if the in-links have received all that arrives in it.
+pub(crate) fn pass_beat<M: Message, T: Node<M>, R: Wait>(
+    rt: &R,
+    alloc: Global,
+    stamp: Stamp,
+    node: &mut T,
+    life: &mut Life,
+    journal: &mut Journal,
+    ins: &mut Vec<Inlet<M>>,
+    outs: &mut Vec<Outlet<M>>,
+) -> Result<(), NoMemory>
+    requires early { stamp.beat ≤ most_beats }
+    requires reading { stamp.reading ≤ most_reading }
+    requires set { IsSetFor T.stands_at stamp.beat (links_of_ins ins.old.items)
+        (stage node.old life.old journal.old outs.old.items) }
+    ensures { OnOk result (HasPassed M.note_of T.step T.stands_at stamp
+        (stage node.old life.old journal.old outs.old.items)
+        (stage node.new life.new journal.new outs.new.items) ins.old.items ins.new.items) }
+{
+    let letters = collect(alloc, stamp.beat, ins)?;
+    live(rt, alloc, stamp, letters, node, life, journal, outs)?;
+    end_all(stamp.beat, outs);
+    Ok(())
+}
+
+/// A node's beat: it takes the letters that it hears, in their order, and then ticks. What it does not hear is lost, and
+/// if it does not act all of it is; if it dies, that is written.
+fn live<M: Message, T: Node<M>, R: Wait>(
+    rt: &R,
+    alloc: Global,
+    stamp: Stamp,
+    letters: VecDeque<Letter<M>>,
+    node: &mut T,
+    life: &mut Life,
+    journal: &mut Journal,
+    outs: &mut Vec<Outlet<M>>,
+) -> Result<(), NoMemory>
+    requires early { stamp.beat ≤ most_beats }
+    requires reading { stamp.reading ≤ most_reading }
+    requires set { IsSetFor T.stands_at stamp.beat (links_of_letters letters.items)
+        (stage node.old life.old journal.old outs.old.items) }
+    ensures turn { OnOk result ((stage node.new life.new journal.new outs.new.items)
+        ≡ happen M.note_of T.step
+        (beat_events M.note_of T.step stamp letters.items (record { state = node.old; life = life.old; journal = journal.old }))
+        (stage node.old life.old journal.old outs.old.items)) }
+    ensures keeps { OnOk result (KeepsSet M.note_of T.step T.stands_at stamp.beat
+        (beat_events M.note_of T.step stamp letters.items (record { state = node.old; life = life.old; journal = journal.old }))
+        (stage node.old life.old journal.old outs.old.items)
+        (stage node.new life.new journal.new outs.new.items)) }
+{
+    take_all(rt, alloc, stamp, letters, node, life, journal, outs)?;
+    end_beat(rt, alloc, stamp, node, life, journal, outs)
+}
+
+fn take_all<M: Message, T: Node<M>, R: Wait>(
+    rt: &R,
+    alloc: Global,
+    stamp: Stamp,
+    mut letters: VecDeque<Letter<M>>,
+    node: &mut T,
+    life: &mut Life,
+    journal: &mut Journal,
+    outs: &mut Vec<Outlet<M>>,
+) -> Result<(), NoMemory>
+    requires early { stamp.beat ≤ most_beats }
+    requires reading { stamp.reading ≤ most_reading }
+    requires set { IsSetFor T.stands_at stamp.beat (links_of_letters letters.items)
+        (stage node.old life.old journal.old outs.old.items) }
+    ensures takes { OnOk result ((stage node.new life.new journal.new outs.new.items)
+        ≡ happen M.note_of T.step
+        (letter_events M.note_of T.step stamp letters.items (record { state = node.old; life = life.old; journal = journal.old }))
+        (stage node.old life.old journal.old outs.old.items)) }
+    ensures keeps { OnOk result (KeepsSet M.note_of T.step T.stands_at stamp.beat
+        (letter_events M.note_of T.step stamp letters.items (record { state = node.old; life = life.old; journal = journal.old }))
+        (stage node.old life.old journal.old outs.old.items)
+        (stage node.new life.new journal.new outs.new.items)) }
+{
+    while let Some(letter) = letters.pop_front() {
+        take_heard(rt, alloc, stamp, letter, node, life, journal, outs)?;
+    }
+    Ok(())
+}
+
+/// Takes a letter if the node acts and hears it; else it is lost.
+fn take_heard<M: Message, T: Node<M>, R: Wait>(
+    rt: &R,
+    alloc: Global,
+    stamp: Stamp,
+    letter: Letter<M>,
+    node: &mut T,
+    life: &mut Life,
+    journal: &mut Journal,
+    outs: &mut Vec<Outlet<M>>,
+) -> Result<(), NoMemory>
+    requires early { stamp.beat ≤ most_beats }
+    requires reading { stamp.reading ≤ most_reading }
+    requires set { IsSetFor T.stands_at stamp.beat (letter.link ∷ [])
+        (stage node.old life.old journal.old outs.old.items) }
+    ensures takes { OnOk result ((stage node.new life.new journal.new outs.new.items)
+        ≡ happen M.note_of T.step
+        (letter_events M.note_of T.step stamp (letter ∷ []) (record { state = node.old; life = life.old; journal = journal.old }))
+        (stage node.old life.old journal.old outs.old.items)) }
+    ensures keeps { OnOk result (KeepsSet M.note_of T.step T.stands_at stamp.beat
+        (letter_events M.note_of T.step stamp (letter ∷ []) (record { state = node.old; life = life.old; journal = journal.old }))
+        (stage node.old life.old journal.old outs.old.items)
+        (stage node.new life.new journal.new outs.new.items)) }
+{
+    let taken = life.acts(stamp.beat) && life.hears(letter.sent, stamp.beat);
+    if taken {
+        return take_one(rt, alloc, stamp, letter, node, life, journal, outs);
+    }
+    Ok(())
+}
+
+fn take_one<M: Message, T: Node<M>, R: Wait>(
+    rt: &R,
+    alloc: Global,
+    stamp: Stamp,
+    letter: Letter<M>,
+    node: &mut T,
+    life: &mut Life,
+    journal: &mut Journal,
+    outs: &mut Vec<Outlet<M>>,
+) -> Result<(), NoMemory>
+    requires early { stamp.beat ≤ most_beats }
+    requires reading { stamp.reading ≤ most_reading }
+    requires set { IsSetFor T.stands_at stamp.beat (letter.link ∷ [])
+        (stage node.old life.old journal.old outs.old.items) }
+    ensures event { OnOk result ((stage node.new life.new journal.new outs.new.items)
+        ≡ happens M.note_of T.step (Does (Take stamp letter.link letter.msg))
+        (stage node.old life.old journal.old outs.old.items)) }
+    ensures keeps { OnOk result (KeepsSet M.note_of T.step T.stands_at stamp.beat
+        (Does (Take stamp letter.link letter.msg) ∷ [])
+        (stage node.old life.old journal.old outs.old.items)
+        (stage node.new life.new journal.new outs.new.items)) }
+{
+    let Letter { link, msg, .. } = letter;
+    let note = msg.note();
+    let mut outputs = Outbox::new(alloc);
+    node.take(stamp, link, msg, &mut outputs)?;
+    life.trim(stamp, false, &mut outputs);
+    journal.write(Entry {
+        stamp,
+        what: What::Got(link, note),
+    })?;
+    deliver(rt, stamp, &mut outputs, journal, outs)
+}
+
+/// The end of a node's beat: it ticks if it acts, and if it dies it writes that it does.
+fn end_beat<M: Message, T: Node<M>, R: Wait>(
+    rt: &R,
+    alloc: Global,
+    stamp: Stamp,
+    node: &mut T,
+    life: &mut Life,
+    journal: &mut Journal,
+    outs: &mut Vec<Outlet<M>>,
+) -> Result<(), NoMemory>
+    requires early { stamp.beat ≤ most_beats }
+    requires reading { stamp.reading ≤ most_reading }
+    requires set { IsSetFor T.stands_at stamp.beat []
+        (stage node.old life.old journal.old outs.old.items) }
+    ensures ends { OnOk result ((stage node.new life.new journal.new outs.new.items)
+        ≡ happen M.note_of T.step (end_events stamp life.old)
+        (stage node.old life.old journal.old outs.old.items)) }
+    ensures keeps { OnOk result (KeepsSet M.note_of T.step T.stands_at stamp.beat (end_events stamp life.old)
+        (stage node.old life.old journal.old outs.old.items)
+        (stage node.new life.new journal.new outs.new.items)) }
+{
+    if life.acts(stamp.beat) {
+        return tick(rt, alloc, stamp, node, life, journal, outs);
+    }
+    if life.dies(stamp.beat) {
+        return journal.write(Entry {
+            stamp,
+            what: What::Died,
+        });
+    }
+    Ok(())
+}
+
+fn tick<M: Message, T: Node<M>, R: Wait>(
+    rt: &R,
+    alloc: Global,
+    stamp: Stamp,
+    node: &mut T,
+    life: &mut Life,
+    journal: &mut Journal,
+    outs: &mut Vec<Outlet<M>>,
+) -> Result<(), NoMemory>
+    requires early { stamp.beat ≤ most_beats }
+    requires reading { stamp.reading ≤ most_reading }
+    requires set { IsSetFor T.stands_at stamp.beat []
+        (stage node.old life.old journal.old outs.old.items) }
+    ensures event { OnOk result ((stage node.new life.new journal.new outs.new.items)
+        ≡ happens M.note_of T.step (Does (Tick stamp))
+        (stage node.old life.old journal.old outs.old.items)) }
+    ensures keeps { OnOk result (KeepsSet M.note_of T.step T.stands_at stamp.beat (Does (Tick stamp) ∷ [])
+        (stage node.old life.old journal.old outs.old.items)
+        (stage node.new life.new journal.new outs.new.items)) }
+{
+    let mut outputs = Outbox::new(alloc);
+    node.tick(stamp, &mut outputs)?;
+    life.trim(stamp, true, &mut outputs);
+    deliver(rt, stamp, &mut outputs, journal, outs)
+}

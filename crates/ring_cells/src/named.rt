@@ -1,0 +1,28 @@
+//! The names of a run.
+
+use std::marker::Brand;
+
+/// Names a run by its course, the openings of its nodes, and the line of each link. The course is in a list of one,
+/// since there is no course to be the name's without a run.
+pub trait Named<T> {
+    ghost use Rattle.std.specs.Prelude.{ℕ, List};
+    ghost use Rattle.node_kit.specs.declared.course.Course.{Course};
+    ghost use Rattle.ring_links.specs.Ends.{LineId};
+
+    ghost course: { List Course };
+
+    ghost opening: { List T };
+
+    ghost line: { ℕ → LineId };
+}
+
+impl<T> Named<T> for Brand {
+    ghost use Rattle.std.specs.Prelude.{[]};
+    ghost use Rattle.ring_cells.specs.Opens.{no_line};
+
+    ghost course = { [] };
+
+    ghost opening = { [] };
+
+    ghost line = { λ l. no_line };
+}
