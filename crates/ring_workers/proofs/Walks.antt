@@ -1,0 +1,33 @@
+-- Lists that are walked through, one element after another.
+use Rattle.std.proofs.Common.{◌≡◌, ℕ, List, [], ◌∷◌, ◌++◌, length, map, Some, refl, ap, sym, ◌∙◌, subst, arith, append-nil, append_assoc}
+use Rattle.std.specs.Prelude.{slice_get}
+use Rattle.std.proofs.lemmas.List.{map-append}
+
+-- the next element is behind those that are done
+next-here : {A : Type 0} (done : List A) (x : A) (rest : List A) → slice_get (done ++ x ∷ rest) (length done) ≡ Some x
+next-here [] x rest = refl
+next-here (y ∷ done) x rest = next-here done x rest
+
+pub next-at : {A : Type 0} (all done : List A) (x : A) (rest rest' : List A) (n : ℕ) → done ++ rest ≡ all → rest ≡ x ∷ rest' → n ≡ length done → slice_get all n ≡ Some x
+next-at {A} all done x rest rest' n whole next number =
+    subst (λ (l : List A). slice_get l n ≡ Some x) (ap (λ l. done ++ l) (sym next) ∙ whole)
+    (subst (λ m. slice_get (done ++ x ∷ rest') m ≡ Some x) (sym number) (next-here done x rest'))
+
+pub goes-on : {A : Type 0} (all done : List A) (x : A) (rest rest' : List A) → done ++ rest ≡ all → rest ≡ x ∷ rest' → (done ++ x ∷ []) ++ rest' ≡ all
+goes-on all done x rest rest' whole next = append_assoc done (x ∷ []) rest' ∙ ap (λ l. done ++ l) (sym next) ∙ whole
+
+none-left : {A : Type 0} (xs : List A) → length xs ≡ 0 → xs ≡ []
+none-left [] e = refl
+none-left (x ∷ xs) e = absurd (omega (arith, e))
+
+-- all are done if none is left
+pub all-done : {A : Type 0} (all done rest : List A) → done ++ rest ≡ all → length rest ≡ 0 → done ≡ all
+all-done all done rest whole none = sym (append-nil done) ∙ ap (λ l. done ++ l) (sym (none-left rest none)) ∙ whole
+
+-- what is made of each
+pub mapped-on : {A B : Type 0} (f : A → B) (done : List A) (x : A) (ys ys' : List B) → ys ≡ map f done → ys' ≡ ys ++ f x ∷ [] → ys' ≡ map f (done ++ x ∷ [])
+mapped-on f done x ys ys' h e = e ∙ ap (λ l. l ++ f x ∷ []) h ∙ sym (map-append f done (x ∷ []))
+
+-- and what each was made of
+pub made-on : {A B : Type 0} (f : A → B) (xs xs' : List A) (x : A) (done : List B) (y : B) → map f xs ≡ done → xs' ≡ xs ++ x ∷ [] → f x ≡ y → map f xs' ≡ done ++ y ∷ []
+made-on f xs xs' x done y h e same = ap (map f) e ∙ map-append f xs (x ∷ []) ∙ ap (λ l. l ++ f x ∷ []) h ∙ ap (λ z. done ++ z ∷ []) same

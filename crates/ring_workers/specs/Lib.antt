@@ -1,0 +1,4 @@
+pub mod Ends
+pub mod Rows
+pub mod Parts
+pub mod Runs
