@@ -1,0 +1,23 @@
+-- Small histories in which nodes die, of which the worked rows speak.
+use Rattle.std.specs.Prelude.{ℕ, zero, suc, ◌==◌, ◌||◌, if◌then◌else◌}
+use Rattle.run_facts.specs.Events.{NodeEvent}
+use Rattle.run_facts.specs.Events.NodeEvent.{Dies}
+use Rattle.run_facts.specs.Histories.{History}
+use Rattle.run_facts.specs.Samples.{with_events, take}
+
+-- a death in a beat
+abbrev pub death : ℕ → NodeEvent ℕ
+death beat = Dies (record { beat = beat; reading = 0 })
+
+-- these two nodes die in beat 0, and nothing else happens
+abbrev pub two_die : ℕ → ℕ → History ℕ ℕ
+two_die a b = with_events (λ n. if n == a || n == b then 1 else 0) (λ n i. death 0)
+
+-- the second event of a node is its death in this beat, and the first is a take in beat 1
+abbrev take_then : ℕ → ℕ → NodeEvent ℕ
+take_then beat zero = take 0
+take_then beat (suc i) = death beat
+
+-- node 3 takes a message in beat 1, and dies in this beat
+abbrev pub takes_and_dies : ℕ → History ℕ ℕ
+takes_and_dies beat = with_events (λ n. if n == 3 then 2 else 0) (λ n i. take_then beat i)
