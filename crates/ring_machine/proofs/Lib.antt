@@ -1,0 +1,10 @@
+mod Asking
+mod Deeds
+mod Kept
+mod Late
+mod Lists
+mod Lives
+mod Moves
+mod Openings
+mod Posts
+mod Sound

@@ -1,0 +1,5 @@
+pub mod Living
+pub mod Moving
+pub mod Posting
+pub mod Running
+pub mod Samples

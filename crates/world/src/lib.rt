@@ -1,0 +1,11 @@
+//! The world: a ring's nodes from their opening on, to which events happen one at a time.
+#![tactic(auto)]
+
+mod world;
+
+pub use world::World;
+
+#[cfg(test)]
+mod script_tests;
+#[cfg(test)]
+mod tests;

@@ -1,0 +1,38 @@
+//! The claims of a run hold of every world, whatever happens to it.
+#![tactic(auto)]
+
+ghost use Rattle.controller_facts.specs.Orders.{AreCounted};
+ghost use Rattle.cub_facts.specs.Rings.{AreOfCatalogue};
+ghost use Rattle.world_theorem.specs.Claims.{HasOneScheduleThroughout, IsNeverWronglyServedThroughout, IsRightlyServedThroughout};
+
+use node_kit::Gate;
+use world::World;
+use world_claims::{
+    accepted_lists_are_never_wrongly_served, accepted_lists_are_rightly_served,
+    accepted_lists_have_one_schedule,
+};
+
+/// At each moment of a world's events there is one schedule: each Put finds its slot free, every view is part of the
+/// schedule, beliefs are true and nobody is passed over.
+pub fn has_one_schedule<'a, G: Gate>(world: &World<'a, G>)
+    requires { AreCounted world.now.opening.params world.now.opening.orders }
+    ensures { HasOneScheduleThroughout world.now }
+{
+    world.is_what_its_events_make();
+    accepted_lists_have_one_schedule::<G>();
+}
+
+/// In a world whose orders are for files of its catalogue nobody comes back, nobody is served twice or out of order, and
+/// a read fails only in a read fault; and each settled block of each viewer that was put came, or is excused, and nothing
+/// else came.
+pub fn is_rightly_served<'a, G: Gate>(world: &World<'a, G>)
+    requires counted { AreCounted world.now.opening.params world.now.opening.orders }
+    requires files { AreOfCatalogue world.now.opening.params world.now.opening.catalogue
+        world.now.opening.orders }
+    ensures never_wrongly { IsNeverWronglyServedThroughout world.now }
+    ensures rightly { IsRightlyServedThroughout world.now }
+{
+    world.is_what_its_events_make();
+    accepted_lists_are_never_wrongly_served::<G>();
+    accepted_lists_are_rightly_served::<G>();
+}
