@@ -16,7 +16,7 @@ use Rattle.run_facts.specs.Histories.{History}
 use Rattle.schedule_laws.specs.Lives.{In, Lives, store_at, beat_at}
 use Rattle.schedule_laws.specs.Facts.{TickedAt, DidAt, TookAt, InsertedAt, SentAt, TookMessage, ReachedAt, HeardAt}
 use Rattle.stops_laws.specs.StopFactsOf.{PassedAt, ToldAt, GotTagAt, GotBareAt}
-use Rattle.stops_ways.specs.Controllers.{controller, commands_at, GoneAt, StoppedAt, StoppedWaiting}
+use Rattle.controller_facts.specs.Controllers.{controller, commands_at, GoneAt, StoppedAt, StoppedWaiting}
 use Rattle.proof_schedule.specs.Facts.{Facts}
 use Rattle.cub_facts.specs.Lives.{lives_of, CameAt, DiedAt}
 

@@ -12,12 +12,12 @@ use Rattle.node_kit.specs.Links.{links_of, viewers_of}
 use Rattle.node_kit.specs.Steps.{Deed, Input}
 use Rattle.run_facts.specs.Events.{is_death}
 use Rattle.run_facts.specs.Histories.{History, IsRun, outs, reading, ticks, living}
-use Rattle.cub_rules.specs.State.{IsAsk}
 use Rattle.disk_core.specs.State.{DiskState}
 use Rattle.disk_core.specs.Rules.{disk_step}
-use Rattle.controller_core.specs.Orders.{AreOrders, Starts}
+use Rattle.controller_core.specs.Orders.{Starts}
 use Rattle.schedule_laws.specs.Lives.{outs_at}
-use Rattle.stops_ways.specs.Controllers.{controller, commands_at}
+use Rattle.controller_facts.specs.Controllers.{controller, commands_at}
+use Rattle.controller_facts.specs.Orders.{AreCounted}
 use Rattle.proof_places.specs.Files.{IsOfFile}
 use Rattle.cub_facts.specs.Lives.{lives_of}
 
@@ -63,11 +63,6 @@ pub record PutsOutByRules {S : Type 0} (step : S → Input Msg → Deed Msg S) (
       → outs noted step h (controller p) i
       ≡ commands_at p orders ((lives_of h).input (controller p)) i
   pub views : (i : ℕ) → i < h.count (viewers p) → outs noted step h (viewers p) i ≡ []
-
--- Orders that can be given, each start of which has blocks.
-pub record AreCounted (p : Params) (orders : List Order) : Type 0 where
-  pub given : AreOrders p orders
-  pub counted : (k : ℕ) (ask : Ask) → Starts orders k ask → IsAsk ask
 
 -- A history of which the record of a run holds, whose nodes put out what their rules say and of
 -- which no two neighbours die. Time is not too long.

@@ -14,8 +14,8 @@ use Rattle.node_kit.specs.Ways.{way_ahead}
 use Rattle.cub_rules.specs.declared.store.Store.{Store}
 use Rattle.proof_schedule.specs.Facts.{Facts, PassedBy, GotTagBy, GotBareBy, IsReleasedBy}
 use Rattle.proof_schedule.specs.HoldLaws.{ForTag, ForRecord, ForState, IsPass, IsTold, HoldLaws}
-use Rattle.stops_proof.specs.StopFacts as stops
-use Rattle.stops_proof.specs.StopLaws as stop_laws
+use Rattle.stops_laws.specs.StopFacts as stops
+use Rattle.stops_laws.specs.StopLaws as stop_laws
 use Rattle.schedule_laws.specs.Facts as calm
 use Rattle.schedule_laws.specs.Lives.{In, Lives, store_at, deed_of}
 use Rattle.schedule_laws.proofs.StateLaws.{inserted}

@@ -5,9 +5,9 @@ use Rattle.slot_plan.specs.declared.params.Params.{Params}
 use Rattle.slot_plan.specs.Conditions.{IsPlan}
 use Rattle.proof_schedule.specs.Facts.{Facts, ReachedBy, IsReleasedBy}
 use Rattle.proof_schedule.specs.StateLaws.{Found, Meeting, StateLaws}
-use Rattle.stops_proof.specs.StopFacts as stops
-use Rattle.stops_proof.specs.StopLaws as stop_laws
-use Rattle.schedule_proof.specs.Facts as calm_facts
+use Rattle.stops_laws.specs.StopFacts as stops
+use Rattle.stops_laws.specs.StopLaws as stop_laws
+use Rattle.schedule_laws.specs.Abstract as calm_facts
 use Rattle.schedule_laws.specs.Facts as calm
 use Rattle.schedule_laws.specs.Facts.{TickedAt}
 use Rattle.schedule_laws.specs.Lives.{Lives}

@@ -18,8 +18,8 @@ use Rattle.cub_changes.specs.Laws.{IsListed, TellsOf, KeepsStart}
 use Rattle.cub_changes.proofs.Listing.{keep_starts}
 use Rattle.proof_schedule.specs.Facts.{Facts, ReachedBy}
 use Rattle.proof_schedule.specs.StartLaws.{IsPlacedBy}
-use Rattle.schedule_proof.specs.Facts as calm_facts
-use Rattle.schedule_proof.specs.Laws as calm_laws
+use Rattle.schedule_laws.specs.Abstract as calm_facts
+use Rattle.schedule_laws.specs.Laws as calm_laws
 use Rattle.schedule_laws.specs.Facts as calm
 use Rattle.schedule_laws.specs.Lives.{Lives, deed_of, store_at, outs_at, beat_at}
 use Rattle.schedule_laws.proofs.Members.{chosen, in_right}

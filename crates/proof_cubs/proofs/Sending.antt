@@ -27,7 +27,7 @@ use Rattle.cub_changes.proofs.Outputs.{Puts, forms_of, puts_closed}
 use Rattle.cub_changes.proofs.Puts.{inserting_by}
 use Rattle.proof_schedule.specs.Facts.{Facts}
 use Rattle.proof_schedule.specs.StateLaws.{SendsFirst, Forwards}
-use Rattle.stops_proof.specs.StopLaws.{Goes}
+use Rattle.stops_laws.specs.StopLaws.{Goes}
 use Rattle.schedule_laws.specs.Lives.{In, Lives, store_at, beat_at}
 use Rattle.schedule_laws.specs.Facts.{Outside, SentAt, facts_of}
 use Rattle.schedule_laws.proofs.Members.{all_in}

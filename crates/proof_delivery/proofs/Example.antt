@@ -55,15 +55,21 @@ Says n b (what.Put t) = (n ≡ 0) × (t ≡ viewer) × (b ≡ 1)
 Says n b what.Died = (n ≡ 1) × (b ≡ 20)
 Says n b (what.Believed d) = (n ≡ 2) × (d ≡ record { 0 = 1 }) × (b ≡ 121)
 Says n b (what.Sent link (note.Whole want sent part)) =
-    (n ≡ 0) × (link ≡ record { 0 = 16 }) × (want ≡ want_of_visit viewer 0 0) × (sent ≡ 50) × (part ≡ bytes 0 4) × (b ≡ 50)
+    (n ≡ 0) × (link ≡ record { 0 = 16 }) × (want ≡ want_of_visit viewer 0 0) × (sent ≡ 50) × (part ≡ bytes 0 4)
+    × (b ≡ 50)
 Says n b (what.Sent link (note.Piece want sent part)) =
-    ((n ≡ 2) × (link ≡ record { 0 = 18 }) × (want ≡ want_of_visit viewer 1 1) × (sent ≡ 150) × (part ≡ bytes 4 2) × (b ≡ 150))
-    ⊎ ((n ≡ 3) × (link ≡ record { 0 = 19 }) × (want ≡ want_of_visit viewer 1 2) × (sent ≡ 200) × (part ≡ bytes 6 2) × (b ≡ 200))
+    ((n ≡ 2) × (link ≡ record { 0 = 18 }) × (want ≡ want_of_visit viewer 1 1) × (sent ≡ 150) × (part ≡ bytes 4 2)
+    × (b ≡ 150))
+    ⊎ ((n ≡ 3) × (link ≡ record { 0 = 19 }) × (want ≡ want_of_visit viewer 1 2) × (sent ≡ 200) × (part ≡ bytes 6 2)
+    × (b ≡ 200))
 Says n b (what.Got link (note.Whole want sent part)) =
-    (n ≡ 17) × (link ≡ record { 0 = 16 }) × (want ≡ want_of_visit viewer 0 0) × (sent ≡ 50) × (part ≡ bytes 0 4) × (b ≡ 51)
+    (n ≡ 17) × (link ≡ record { 0 = 16 }) × (want ≡ want_of_visit viewer 0 0) × (sent ≡ 50) × (part ≡ bytes 0 4)
+    × (b ≡ 51)
 Says n b (what.Got link (note.Piece want sent part)) =
-    ((n ≡ 17) × (link ≡ record { 0 = 18 }) × (want ≡ want_of_visit viewer 1 1) × (sent ≡ 150) × (part ≡ bytes 4 2) × (b ≡ 151))
-    ⊎ ((n ≡ 17) × (link ≡ record { 0 = 19 }) × (want ≡ want_of_visit viewer 1 2) × (sent ≡ 200) × (part ≡ bytes 6 2) × (b ≡ 201))
+    ((n ≡ 17) × (link ≡ record { 0 = 18 }) × (want ≡ want_of_visit viewer 1 1) × (sent ≡ 150) × (part ≡ bytes 4 2)
+    × (b ≡ 151))
+    ⊎ ((n ≡ 17) × (link ≡ record { 0 = 19 }) × (want ≡ want_of_visit viewer 1 2) × (sent ≡ 200) × (part ≡ bytes 6 2)
+    × (b ≡ 201))
 Says n b other = ⊥
 
 -- each journal of a list of them, by its number from one on
@@ -71,7 +77,8 @@ abbrev EachFrom : (ℕ → List Entry → Type 0) → ℕ → List (List Entry) 
 EachFrom P n [] = Unit {0}
 EachFrom P n (j ∷ js) = P n j × EachFrom P (suc n) js
 
-each_at : (P : ℕ → List Entry → Type 0) (k : ℕ) (js : List (List Entry)) → EachFrom P k js → (n : ℕ) (j : List Entry) → slice_get js n ≡ Some j → P (k + n) j
+each_at : (P : ℕ → List Entry → Type 0) (k : ℕ) (js : List (List Entry)) → EachFrom P k js
+    → (n : ℕ) (j : List Entry) → slice_get js n ≡ Some j → P (k + n) j
 each_at P k [] all n j at = absurd (none-some j at)
 each_at P k (x ∷ xs) all zero j at =
     let same : x ≡ j = ap (λ (o : Option (List Entry)). unwrap_or o x) at in
@@ -81,8 +88,10 @@ each_at P k (x ∷ xs) all (suc n) j at =
     let place : suc k + n ≡ k + suc n = omega arith in
     subst (λ (m : ℕ). P m j) place (each_at P (suc k) xs all.1 n j at)
 
-each : (P : ℕ → List Entry → Type 0) → EachFrom P 0 journals → (n : ℕ) (j : List Entry) → slice_get journals n ≡ Some j → P n j
-each P all n j at = let place : 0 + n ≡ n = omega arith in subst (λ (m : ℕ). P m j) place (each_at P 0 journals all n j at)
+each : (P : ℕ → List Entry → Type 0) → EachFrom P 0 journals → (n : ℕ) (j : List Entry)
+    → slice_get journals n ≡ Some j → P n j
+each P all n j at = let place : 0 + n ≡ n = omega arith in subst (λ (m : ℕ). P m j) place
+    (each_at P 0 journals all n j at)
 
 -- a journal's entries say so, and each is of a later beat than those before it, up to beat 201
 record IsPlain (n : ℕ) (j : List Entry) : Type 0 where
@@ -109,7 +118,12 @@ plain = (
         low = ((omega arith, refl), ((omega arith, refl), tt));
       },
       (
-        record { says = (inr (refl, refl, refl, refl, refl, refl), tt); apart = (tt, tt); low = ((omega arith, refl), tt) },
+        record {
+          says = (inr (refl, refl, refl, refl, refl, refl), tt);
+          apart = (tt, tt);
+          low =
+              ((omega arith, refl), tt);
+        },
         (
           empty 4,
           (
@@ -138,7 +152,13 @@ plain = (
                                   empty 16,
                                   (
                                     record {
-                                      says = ((refl, refl, refl, refl, refl, refl), (inl (refl, refl, refl, refl, refl, refl), (inr (refl, refl, refl, refl, refl, refl), tt)));
+                                      says = (
+                                        (refl, refl, refl, refl, refl, refl),
+                                        (
+                                          inl (refl, refl, refl, refl, refl, refl),
+                                          (inr (refl, refl, refl, refl, refl, refl), tt),
+                                        ),
+                                      );
                                       apart = ((omega arith, (omega arith, tt)), ((omega arith, tt), (tt, tt)));
                                       low = ((omega arith, refl), ((omega arith, refl), ((omega arith, refl), tt)));
                                     },
@@ -172,16 +192,23 @@ says n e s = all_in (λ (x : Entry). Says n x.stamp.beat x.what) e s.journal (pl
 said : (n : ℕ) (e : Entry) (v : What) → StandsIn journals n e → e.what ≡ v → Says n e.stamp.beat v
 said n e v s is = subst (λ (x : What). Says n e.stamp.beat x) is (says n e s)
 
-behind : (xs ys : List Entry) (e f : Entry) → Sorted (λ (x y : Entry). x.stamp.beat < y.stamp.beat) (xs ++ e ∷ ys) → In f ys → e.stamp.beat < f.stamp.beat
+behind : (xs ys : List Entry) (e f : Entry) → Sorted (λ (x y : Entry). x.stamp.beat < y.stamp.beat) (xs ++ e ∷ ys)
+    → In f ys → e.stamp.beat < f.stamp.beat
 behind [] ys e f s i = all_in (λ (y : Entry). e.stamp.beat < y.stamp.beat) f ys s.0 i
 behind (x ∷ xs) ys e f s i = behind xs ys e f s.1 i
 
-later : (n : ℕ) (xs ys : List Entry) (e f : Entry) → slice_get journals n ≡ Some (xs ++ e ∷ ys) → In f ys → e.stamp.beat < f.stamp.beat
+later : (n : ℕ) (xs ys : List Entry) (e f : Entry) → slice_get journals n ≡ Some (xs ++ e ∷ ys) → In f ys
+    → e.stamp.beat < f.stamp.beat
 later n xs ys e f at i = behind xs ys e f (plain_at n (xs ++ e ∷ ys) at).apart i
 
-rises : (j : List Entry) → Sorted (λ (x y : Entry). x.stamp.beat < y.stamp.beat) j → Rising (λ (e : Entry). e.stamp.beat) j
+rises : (j : List Entry) → Sorted (λ (x y : Entry). x.stamp.beat < y.stamp.beat) j
+    → Rising (λ (e : Entry). e.stamp.beat) j
 rises [] s = tt
-rises (x ∷ xs) s = (all_by (λ (y : Entry). x.stamp.beat ≤ y.stamp.beat) xs (λ y i. let l = all_in (λ (z : Entry). x.stamp.beat < z.stamp.beat) y xs s.0 i in omega arith), rises xs s.1)
+rises (x ∷ xs) s = (
+  all_by (λ (y : Entry). x.stamp.beat ≤ y.stamp.beat) xs
+      (λ y i. let l = all_in (λ (z : Entry). x.stamp.beat < z.stamp.beat) y xs s.0 i in omega arith),
+  rises xs s.1,
+)
 
 -- the entries, one by one
 stands : (n : ℕ) (j : List Entry) (e : Entry) → slice_get journals n ≡ Some j → In e j → StandsIn journals n e
@@ -210,7 +237,8 @@ is_put_at stamp one read =
     }
 
 low : (n : ℕ) (e : Entry) → StandsIn journals n e → (e.stamp.beat ≤ 201) × (e.stamp.reading ≡ e.stamp.beat * 10000)
-low n e s = all_in (λ (x : Entry). (x.stamp.beat ≤ 201) × (x.stamp.reading ≡ x.stamp.beat * 10000)) e s.journal (plain_at n s.journal s.at).low s.there
+low n e s = all_in (λ (x : Entry). (x.stamp.beat ≤ 201) × (x.stamp.reading ≡ x.stamp.beat * 10000)) e s.journal
+    (plain_at n s.journal s.at).low s.there
 
 died_in : r.Died 1 20
 died_in = log.few (Died 1 20) (14, omega arith, refl)
@@ -222,7 +250,8 @@ tells : Tells plan r orders journals
 tells = record {
   put = λ n e t s is.
       let k = said n e (what.Put t) s is in
-      subst (λ (m : ℕ). IsPutAt plan r m e.stamp t) (sym k.0) (subst (λ (u : Tenancy). IsPutAt plan r 0 e.stamp u) (sym k.1) (is_put_at e.stamp k.2 (low n e s).1));
+      subst (λ (m : ℕ). IsPutAt plan r m e.stamp t) (sym k.0) (subst (λ (u : Tenancy). IsPutAt plan r 0 e.stamp u)
+      (sym k.1) (is_put_at e.stamp k.2 (low n e s).1));
   took = λ n e q s is. absurd (said n e (what.Took q) s is);
   gone = λ n e v s is. absurd (said n e (what.Gone v) s is);
   believed = λ n e d s is.
@@ -230,7 +259,8 @@ tells = record {
       let one : d.0 ≡ 1 = ap (λ (c : CubNo). c.0) k.1 in
       let next : cub_of plan (d.0 + 1) ≡ 2 = ap (λ (m : ℕ). cub_of plan (m + 1)) one ∙ schedule.cub_2 in
       record {
-        believed = subst (λ (m : ℕ). r.Believed m e.stamp.beat) (sym k.0) (subst (λ (b : ℕ). r.Believed 2 b) (sym k.2) believed_in);
+        believed = subst (λ (m : ℕ). r.Believed m e.stamp.beat) (sym k.0) (subst (λ (b : ℕ). r.Believed 2 b)
+            (sym k.2) believed_in);
         known = omega arith;
         behind = k.0 ∙ sym next;
       };
@@ -263,7 +293,12 @@ logged = record {
       let k = log.its (Put c t b) h in
       record {
         entry = put;
-        stands = record { journal = put ∷ sent_whole ∷ []; at = ap (λ (m : ℕ). slice_get journals m) k.0 ∙ at_0; there = inl refl };
+        stands = record {
+          journal = put ∷ sent_whole ∷ [];
+          at = ap (λ (m : ℕ). slice_get journals m) k.0
+              ∙ at_0;
+          there = inl refl;
+        };
         beat = sym k.2;
         is = ap (λ (u : Tenancy). what.Put u) (sym k.1);
       };
@@ -281,7 +316,12 @@ logged = record {
       let same : d ≡ 1 = schedule.one_before d 1 small (omega arith) (sym next ∙ k.0 ∙ sym schedule.cub_2) in
       record {
         entry = believed;
-        stands = record { journal = believed ∷ sent_first ∷ []; at = ap (λ (m : ℕ). slice_get journals m) k.0 ∙ at_2; there = inl refl };
+        stands = record {
+          journal = believed ∷ sent_first ∷ [];
+          at = ap (λ (m : ℕ). slice_get journals m) k.0
+              ∙ at_2;
+          there = inl refl;
+        };
         beat = sym k.1;
         is = (record { 0 = 1 }, refl, sym same);
       };
@@ -293,7 +333,8 @@ keeps = record {
   rising = λ n j at. rises j (plain_at n j at).apart;
   one_put = λ n xs ys e f t u at is i f_is same. later n xs ys e f at i;
   belief_first = λ n xs ys e f t d at is i f_is. later n xs ys e f at i;
-  put_first = λ n xs ys e q at is. absurd (said n e (what.Took q) (stands n (xs ++ e ∷ ys) e at (in_right e xs (e ∷ ys) (inl refl))) is);
+  put_first = λ n xs ys e q at is. absurd (said n e (what.Took q) (stands n (xs ++ e ∷ ys) e at
+      (in_right e xs (e ∷ ys) (inl refl))) is);
   ended = λ n c b e s less small. let l = (low n e s).0 in schedule.goes_on c b small (omega arith);
   shows = λ c b l upper lower q cut ticked i.
       let k = was_taken upper q i in
@@ -320,26 +361,62 @@ besides = record {
       (λ a. let k = log.its (AskedApart c ask y) a.0 in (k.1, k.2))
       w.how in
       let beat = one.1 in
-      inr (inl (record { cub = 0; tenancy = viewer; same = ap (λ (v : Ask). v.instance.0) (sym one.0); beat = 1; put = schedule.put_in; by = omega arith }));
+      inr (inl (record {
+        cub = 0;
+        tenancy = viewer;
+        same = ap (λ (v : Ask). v.instance.0) (sym one.0);
+        beat = 1;
+        put = schedule.put_in;
+        by = omega arith;
+      }));
 }
 
 recorded : IsRecorded plan r orders journals
-recorded = record { plan = schedule.plan_is; one = runs plan r schedule.plan_is schedule.laws; more = besides; tells = tells; logged = logged; keeps = keeps }
+recorded = record {
+  plan = schedule.plan_is;
+  one = runs plan r schedule.plan_is schedule.laws;
+  more = besides;
+  tells = tells;
+  logged = logged;
+  keeps = keeps;
+}
 
 -- ---- blocks and pieces
 
 -- each part that is sent is served
 serving_whole : IsServing plan pieces.q blocks.w 0 (record { 0 = 16 }) (want_of_visit viewer 0 0) 50 (bytes 0 4) 50
 serving_whole =
-    record { tenancy = viewer; wanted = refl; serves = pieces.serves_in (inl (refl, refl, refl, refl)); sends = (1, omega arith, refl); named = refl; way = refl }
+    record {
+      tenancy = viewer;
+      wanted = refl;
+      serves = pieces.serves_in (inl (refl, refl, refl, refl));
+      sends =
+          (1, omega arith, refl);
+      named = refl;
+      way = refl;
+    }
 
 serving_first : IsServing plan pieces.q blocks.w 2 (record { 0 = 18 }) (want_of_visit viewer 1 1) 150 (bytes 4 2) 150
 serving_first =
-    record { tenancy = viewer; wanted = refl; serves = pieces.serves_in (inr (inl (refl, refl, refl, refl))); sends = (3, omega arith, refl); named = refl; way = refl }
+    record {
+      tenancy = viewer;
+      wanted = refl;
+      serves = pieces.serves_in (inr (inl (refl, refl, refl, refl)));
+      sends = (3, omega arith, refl);
+      named = refl;
+      way = refl;
+    }
 
 serving_second : IsServing plan pieces.q blocks.w 3 (record { 0 = 19 }) (want_of_visit viewer 1 2) 200 (bytes 6 2) 200
 serving_second =
-    record { tenancy = viewer; wanted = refl; serves = pieces.serves_in (inr (inr (refl, refl, refl, refl))); sends = (5, omega arith, refl); named = refl; way = refl }
+    record {
+      tenancy = viewer;
+      wanted = refl;
+      serves = pieces.serves_in (inr (inr (refl, refl, refl, refl)));
+      sends = (5, omega arith, refl);
+      named = refl;
+      way = refl;
+    }
 
 tells_parcels : TellsParcels plan pieces.q blocks.w journals
 tells_parcels = record {
@@ -384,7 +461,8 @@ logs_parcels = record {
 }
 
 -- what the viewers got was sent a beat before
-came : (n : ℕ) (e : Entry) (link : LinkNo) (m : Note) → StandsIn journals n e → e.what ≡ what.Got link m → WasSentOn plan journals link m e.stamp.beat
+came : (n : ℕ) (e : Entry) (link : LinkNo) (m : Note) → StandsIn journals n e → e.what ≡ what.Got link m
+    → WasSentOn plan journals link m e.stamp.beat
 came n e link (note.Whole want sent part) s is =
     let k = said n e (what.Got link (note.Whole want sent part)) s is in
     rw (k.1, k.2, k.3, k.4, k.5) (record {
@@ -415,20 +493,38 @@ came n e link (note.Piece want sent part) s is = ⊎_elim
     (said n e (what.Got link (note.Piece want sent part)) s is)
 came n e link other s is = absurd (said n e (what.Got link other) s is)
 
-comes : (n : ℕ) (e : Entry) (link : LinkNo) (m : Note) → StandsIn journals n e → e.what ≡ what.Sent link m → IsGotOn journals 17 link m
+comes : (n : ℕ) (e : Entry) (link : LinkNo) (m : Note) → StandsIn journals n e → e.what ≡ what.Sent link m
+    → IsGotOn journals 17 link m
 comes n e link (note.Whole want sent part) s is =
     let k = said n e (what.Sent link (note.Whole want sent part)) s is in
-    rw (k.1, k.2, k.3, k.4) (record { entry = got_whole; stands = stands 17 (got_whole ∷ got_first ∷ got_second ∷ []) got_whole at_viewers (inl refl); is = refl })
+    rw (k.1, k.2, k.3, k.4) (record {
+      entry = got_whole;
+      stands = stands 17 (got_whole ∷ got_first ∷ got_second ∷
+          []) got_whole at_viewers (inl refl);
+      is = refl;
+    })
 comes n e link (note.Piece want sent part) s is = ⊎_elim
-    (λ k. rw (k.1, k.2, k.3, k.4) (record { entry = got_first; stands = stands 17 (got_whole ∷ got_first ∷ got_second ∷ []) got_first at_viewers (inr (inl refl)); is = refl }))
-    (λ k. rw (k.1, k.2, k.3, k.4) (record { entry = got_second; stands = stands 17 (got_whole ∷ got_first ∷ got_second ∷ []) got_second at_viewers (inr (inr (inl refl))); is = refl }))
+    (λ k. rw (k.1, k.2, k.3, k.4) (record {
+      entry = got_first;
+      stands = stands 17
+          (got_whole ∷ got_first ∷ got_second ∷ []) got_first at_viewers (inr (inl refl));
+      is = refl;
+    }))
+    (λ k. rw (k.1, k.2, k.3, k.4) (record {
+      entry = got_second;
+      stands = stands 17
+          (got_whole ∷ got_first ∷ got_second ∷ []) got_second at_viewers (inr (inr (inl refl)));
+      is = refl;
+    }))
     (said n e (what.Sent link (note.Piece want sent part)) s is)
 comes n e link other s is = absurd (said n e (what.Sent link other) s is)
 
 -- nothing is got twice: what is got says in which beat
-got_beat : (n k : ℕ) (e f : Entry) (link : LinkNo) (m : Note) → StandsIn journals n e → StandsIn journals k f → e.what ≡ what.Got link m → f.what ≡ what.Got link m → e.stamp.beat ≡ f.stamp.beat
+got_beat : (n k : ℕ) (e f : Entry) (link : LinkNo) (m : Note) → StandsIn journals n e → StandsIn journals k f
+    → e.what ≡ what.Got link m → f.what ≡ what.Got link m → e.stamp.beat ≡ f.stamp.beat
 got_beat n k e f link (note.Whole want sent part) s t e_is f_is =
-    (said n e (what.Got link (note.Whole want sent part)) s e_is).5 ∙ sym (said k f (what.Got link (note.Whole want sent part)) t f_is).5
+    (said n e (what.Got link (note.Whole want sent part)) s e_is).5
+    ∙ sym (said k f (what.Got link (note.Whole want sent part)) t f_is).5
 got_beat n k e f link (note.Piece want sent part) s t e_is f_is = ⊎_elim
     (λ a. ⊎_elim
     (λ b. a.5 ∙ sym b.5)
@@ -460,16 +556,21 @@ ties_met = record {
   recorded = record {
     schedule = recorded;
     pieces = right plan r pieces.q schedule.plan_is schedule.laws pieces.pieces;
-    blocks = runs_serve plan r pieces.q blocks.w 349 schedule.plan_is schedule.laws pieces.pieces blocks.laws_met.blocks;
-    reads = true_reads plan places.laws_met.catalogue r pieces.q blocks.w schedule.plan_is schedule.laws pieces.pieces places.laws_met.laws;
+    blocks = runs_serve plan r pieces.q blocks.w 349 schedule.plan_is schedule.laws pieces.pieces
+        blocks.laws_met.blocks;
+    reads = true_reads plan places.laws_met.catalogue r pieces.q blocks.w schedule.plan_is schedule.laws
+        pieces.pieces places.laws_met.laws;
     ties = record {
       tells = tells_parcels;
       logs = logs_parcels;
       keeps = record {
-        one_parcel = λ want n xs ys e f at i one two. later n xs ys e f at i;
-        one_ask = λ want n xs ys e f at i one two. later n xs ys e f at i;
+        one_parcel = λ want n xs ys e f at i one two. let l = later n xs ys e f at i in omega arith;
+        one_ask = λ want n xs ys e f at i one two. let l = later n xs ys e f at i in omega arith;
       };
-      disks = record { refused = λ k n j y t h. absurd (blocks.is_block (Failed k t n j y) h); struck = λ disk b small h. absurd (blocks.is_block (Struck disk b) h) };
+      disks = record {
+        refused = λ k n j y t h. absurd (blocks.is_block (Failed k t n j y) h);
+        struck = λ disk b small h. absurd (blocks.is_block (Struck disk b) h);
+      };
       viewers = get;
     };
   };

@@ -33,14 +33,19 @@ in_all (x ∷ xs) zero j at = inl (sym (ap (λ (o : Option (List Entry)). unwrap
 in_all (x ∷ xs) (suc n) j at = inr (in_all xs n j at)
 
 -- an entry of some journal
-pub some_journal : (js : List (List Entry)) (n : ℕ) (e : Entry) (P : Entry → Type 0) → StandsIn js n e → P e → AnyByRecursion (λ journal. AnyByRecursion P journal) js
-some_journal js n e P s h = any_with (λ (journal : List Entry). AnyByRecursion P journal) js s.journal (in_all js n s.journal s.at) (any_with P s.journal e s.there h)
+pub some_journal : (js : List (List Entry)) (n : ℕ) (e : Entry) (P : Entry → Type 0) → StandsIn js n e → P e
+    → AnyByRecursion (λ journal. AnyByRecursion P journal) js
+some_journal js n e P s h = any_with (λ (journal : List Entry). AnyByRecursion P journal) js s.journal
+    (in_all js n s.journal s.at) (any_with P s.journal e s.there h)
 
 -- an entry of the journal of a node
-pub own_journal : (js : List (List Entry)) (n : ℕ) (e : Entry) (P : Entry → Type 0) → StandsIn js n e → P e → AnyByRecursion P (journal_at js n)
-own_journal js n e P s h = any_with P (journal_at js n) e (subst (λ (j : List Entry). In e j) (sym (journal_is js n s.journal s.at)) s.there) h
+pub own_journal : (js : List (List Entry)) (n : ℕ) (e : Entry) (P : Entry → Type 0) → StandsIn js n e → P e
+    → AnyByRecursion P (journal_at js n)
+own_journal js n e P s h = any_with P (journal_at js n) e (subst (λ (j : List Entry). In e j)
+    (sym (journal_is js n s.journal s.at)) s.there) h
 
-module _ (p : Params) (a : Evidence) (r : Facts) (q : PieceFacts) (w : ServiceFacts) (end : ℕ) (g : AreParcelsRecorded p a r q w end) (t : Tenancy) (n : ℕ) where
+module _ (p : Params) (a : Evidence) (r : Facts) (q : PieceFacts) (w : ServiceFacts) (end : ℕ)
+    (g : AreParcelsRecorded p a r q w end) (t : Tenancy) (n : ℕ) where
   -- a death
   died : (c b : ℕ) (When : ℕ → Type 0) → r.Died c b → When (time_of p b) → at_journals.DiedAt p a.journals c When
   died c b When d h =
@@ -49,29 +54,40 @@ module _ (p : Params) (a : Evidence) (r : Facts) (q : PieceFacts) (w : ServiceFa
       (subst (λ (v : What). at_journals.IsDeath v) (sym k.is) tt, subst (λ (x : ℕ). When (time_of p x)) (sym k.beat) h)
 
   -- a read that failed
-  failed_entry : (c j b : ℕ) → w.Failed c t n j b → IsLogged a.journals c b (λ e. at_journals.IsFailedRead t.instance.0 n j e.what)
+  failed_entry : (c j b : ℕ) → w.Failed c t n j b → IsLogged a.journals c b
+      (λ e. at_journals.IsFailedRead t.instance.0 n j e.what)
   failed_entry c j b f =
       let k = g.ties.logs.failed c n j b t f in
-      record { entry = k.entry; stands = k.stands; beat = k.beat; is = subst (λ (v : What). at_journals.IsFailedRead t.instance.0 n j v) (sym k.is) (refl, refl, refl) }
+      record {
+        entry = k.entry;
+        stands = k.stands;
+        beat = k.beat;
+        is = subst (λ (v : What). at_journals.IsFailedRead
+            t.instance.0 n j v) (sym k.is) (refl, refl, refl);
+      }
 
   lost : (j : ℕ) → 1 ≤ j → at_facts.PieceIsLost p r w end t n j → at_journals.PieceIsLost p a.journals t n j
   lost zero some h = absurd (omega arith)
   lost (suc k) some h = ⊎_elim
       (λ (f : at_facts.ReadFailed w end (cub_of p (n + suc k)) t n (suc k)).
       let l = failed_entry (cub_of p (n + suc k)) (suc k) f.beat f.failed in
-      inl (some_journal a.journals (cub_of p (n + suc k)) l.entry (λ e. at_journals.IsFailedRead t.instance.0 n (suc k) e.what) l.stands l.is))
+      inl (some_journal a.journals (cub_of p (n + suc k)) l.entry (λ e. at_journals.IsFailedRead t.instance.0 n
+      (suc k) e.what) l.stands l.is))
       (λ (d : at_facts.DiedBeforeLeaving p r end (cub_of p (n + suc k)) t n (suc k)).
-      inr (died (cub_of p (n + suc k)) d.beat (λ death. death < leaving (due p t.slot.0 n) (suc k) p.play p.pieces + p.beat) d.died d.early))
+      inr (died (cub_of p (n + suc k)) d.beat (λ death. death < leaving (due p t.slot.0 n) (suc k) p.play p.pieces +
+      p.beat) d.died d.early))
       h
 
   -- each excuse by facts
   excuse : at_facts.IsExcused p r w end t n
       → at_journals.ReadFailed a.journals (cub_of p n) t.instance.0 n 0
-      ⊎ (at_journals.LostInPieces p a.journals t n ⊎ (at_journals.LostInDeath p a.journals t n ⊎ at_journals.WasStopped p a.journals t n))
+      ⊎ (at_journals.LostInPieces p a.journals t n ⊎ (at_journals.LostInDeath p a.journals t n
+      ⊎ at_journals.WasStopped p a.journals t n))
   excuse h = ⊎_elim
       (λ (f : at_facts.ReadFailed w end (cub_of p n) t n 0).
       let l = failed_entry (cub_of p n) 0 f.beat f.failed in
-      inl (own_journal a.journals (cub_of p n) l.entry (λ e. at_journals.IsFailedRead t.instance.0 n 0 e.what) l.stands l.is))
+      inl (own_journal a.journals (cub_of p n) l.entry (λ e. at_journals.IsFailedRead t.instance.0 n 0 e.what)
+      l.stands l.is))
       (λ more. ⊎_elim
       (λ (l : at_facts.LostInPieces p r w end t n). inr (inl (record {
         died = died (cub_of p n) l.beat (λ death. death + takeover p ≤ due p t.slot.0 n) l.died l.long;
@@ -81,14 +97,17 @@ module _ (p : Params) (a : Evidence) (r : Facts) (q : PieceFacts) (w : ServiceFa
         lost = lost l.piece l.low l.lost;
       })))
       (λ (d : at_facts.LostInDeath p r end t n).
-      inr (inr (inl (died (cub_of p n) d.beat (λ death. (death < due p t.slot.0 n + p.beat) × (due p t.slot.0 n < death + takeover p)) d.died (d.early, d.late)))))
+      inr (inr (inl (died (cub_of p n) d.beat (λ death. (death < due p t.slot.0 n + p.beat)
+      × (due p t.slot.0 n < death + takeover p)) d.died (d.early, d.late)))))
       more)
       h
 
-  pub is_excused : IsVisitOf a.journals t.instance.0 n t → at_facts.IsExcused p r w end t n → at_journals.IsExcused p a.journals t.instance.0 n
+  pub is_excused : IsVisitOf a.journals t.instance.0 n t → at_facts.IsExcused p r w end t n
+      → at_journals.IsExcused p a.journals t.instance.0 n
   is_excused v h = record { tenancy = t; visited = v; excuse = excuse h }
 
-  pub stop_excuses : IsVisitOf a.journals t.instance.0 n t → at_journals.WasStopped p a.journals t n → at_journals.IsExcused p a.journals t.instance.0 n
+  pub stop_excuses : IsVisitOf a.journals t.instance.0 n t → at_journals.WasStopped p a.journals t n
+      → at_journals.IsExcused p a.journals t.instance.0 n
   stop_excuses v h = record { tenancy = t; visited = v; excuse = inr (inr (inr h)) }
 
   -- ---- stops
@@ -106,26 +125,34 @@ module _ (p : Params) (a : Evidence) (r : Facts) (q : PieceFacts) (w : ServiceFa
   stops_is : (e : Entry) → stops e ≡ true → at_journals.IsStopOf t.instance.0 e.what × (time_of p e.stamp.beat < bound)
   stops_is e h = (
     stop_is e.what (and_left (is_gone_of t.instance.0 e.what) (nat_lt (time_of p e.stamp.beat) bound) h),
-    (less (time_of p e.stamp.beat) bound).0 (and_right (is_gone_of t.instance.0 e.what) (nat_lt (time_of p e.stamp.beat) bound) h),
+    (less (time_of p e.stamp.beat) bound).0 (and_right (is_gone_of t.instance.0 e.what)
+        (nat_lt (time_of p e.stamp.beat) bound) h),
   )
 
   -- the instance was stopped less than a block play time after the visit was due, or not
   pub stopped_or_not : at_journals.WasStopped p a.journals t n ⊎ at_facts.IsUnstopped p r t n
   stopped_or_not = ⊎_elim
       (λ (some : list_any (λ journal. list_any stops journal) a.journals ≡ true).
-      inl (any_found (λ journal. AnyByRecursion (λ e. at_journals.IsStopOf t.instance.0 e.what × (time_of p e.stamp.beat < bound)) journal) (λ journal. list_any stops journal)
-      (λ journal h. any_found (λ e. at_journals.IsStopOf t.instance.0 e.what × (time_of p e.stamp.beat < bound)) stops stops_is journal h)
+      inl (any_found (λ journal. AnyByRecursion (λ e. at_journals.IsStopOf t.instance.0 e.what
+      × (time_of p e.stamp.beat < bound)) journal) (λ journal. list_any stops journal)
+      (λ journal h. any_found (λ e. at_journals.IsStopOf t.instance.0 e.what × (time_of p e.stamp.beat < bound))
+      stops stops_is journal h)
       a.journals some))
       (λ (none : list_any (λ journal. list_any stops journal) a.journals ≡ false).
       inr (λ z gone. ⊎_elim
       (λ (early : time_of p z < bound).
       let k = g.schedule.logged.gone t.instance.0 z gone in
       let e : Entry = k.1.entry in
-      let at : is_gone_of t.instance.0 e.what ≡ true = ap (is_gone_of t.instance.0) k.1.is.is ∙ eq-eqb _ _ k.1.is.same in
-      let soon : nat_lt (time_of p e.stamp.beat) bound ≡ true = (less (time_of p e.stamp.beat) bound).1 (subst (λ (b : ℕ). time_of p b < bound) (sym k.1.beat) early) in
-      let stop : stops e ≡ true = and_both (is_gone_of t.instance.0 e.what) (nat_lt (time_of p e.stamp.beat) bound) at soon in
-      let there : list_any stops k.1.stands.journal ≡ true = any_passes stops k.1.stands.journal e k.1.stands.there stop in
-      absurd (true≢false (sym (any_passes (λ journal. list_any stops journal) a.journals k.1.stands.journal (in_all a.journals k.0 k.1.stands.journal k.1.stands.at) there) ∙ none)))
+      let at : is_gone_of t.instance.0 e.what ≡ true = ap (is_gone_of t.instance.0) k.1.is.is
+      ∙ eq-eqb _ _ k.1.is.same in
+      let soon : nat_lt (time_of p e.stamp.beat) bound ≡ true = (less (time_of p e.stamp.beat) bound).1
+      (subst (λ (b : ℕ). time_of p b < bound) (sym k.1.beat) early) in
+      let stop : stops e ≡ true = and_both (is_gone_of t.instance.0 e.what) (nat_lt (time_of p e.stamp.beat) bound)
+      at soon in
+      let there : list_any stops k.1.stands.journal ≡ true = any_passes stops k.1.stands.journal e k.1.stands.there
+      stop in
+      absurd (true≢false (sym (any_passes (λ journal. list_any stops journal) a.journals k.1.stands.journal
+      (in_all a.journals k.0 k.1.stands.journal k.1.stands.at) there) ∙ none)))
       (λ late. late)
       (cases_lt (time_of p z) bound)))
       (cases_Bool (list_any (λ journal. list_any stops journal) a.journals))

@@ -18,7 +18,8 @@ behind_more : {X : Type 0} (z x y : X) (xs : List X) → IsBehind x y xs → IsB
 behind_more z x y xs b = record { front = z ∷ b.front; back = b.back; is = ap (λ l. z ∷ l) b.is; there = b.there }
 
 -- of two elements one stands behind the other, or they are the same
-pub which_first : {X : Type 0} (x y : X) (xs : List X) → In x xs → In y xs → (x ≡ y) ⊎ (IsBehind x y xs ⊎ IsBehind y x xs)
+pub which_first : {X : Type 0} (x y : X) (xs : List X) → In x xs → In y xs → (x ≡ y)
+    ⊎ (IsBehind x y xs ⊎ IsBehind y x xs)
 which_first x y [] i k = absurd i
 which_first x y (z ∷ zs) i k = ⊎_elim
     (λ (e : x ≡ z). ⊎_elim
@@ -36,7 +37,8 @@ which_first x y (z ∷ zs) i k = ⊎_elim
 
 -- ---- what the elements give
 
-pub found_in : {X Y : Type 0} (f : X → List Y) (y : Y) (xs : List X) → In y (flat_map f xs) → (x : X) × In x xs × In y (f x)
+pub found_in : {X Y : Type 0} (f : X → List Y) (y : Y) (xs : List X) → In y (flat_map f xs) → (x : X) × In x xs
+    × In y (f x)
 found_in f y [] i = absurd i
 found_in f y (x ∷ xs) i = ⊎_elim
     (λ k. (x, inl refl, k))
@@ -47,7 +49,8 @@ pub none_in : {X : Type 0} (xs : List X) → ((x : X) → In x xs → ⊥) → x
 none_in [] h = refl
 none_in (x ∷ xs) h = absurd (h x (inl refl))
 
-pub none_given : {X Y : Type 0} (f : X → List Y) (xs : List X) → ((x : X) (y : Y) → In x xs → In y (f x) → ⊥) → flat_map f xs ≡ []
+pub none_given : {X Y : Type 0} (f : X → List Y) (xs : List X) → ((x : X) (y : Y) → In x xs → In y (f x) → ⊥)
+    → flat_map f xs ≡ []
 none_given f xs h = none_in (flat_map f xs) (λ y i. let r = found_in f y xs i in h r.0 y r.1 r.2)
 
 -- before an element, and behind it
@@ -67,14 +70,18 @@ pub only_given : {X Y : Type 0} (f : X → List Y) (xs : List X) (x : X) (y : Y)
     → flat_map f xs ≡ y ∷ []
 only_given {X} {Y} f xs x y i one others =
     let c = cut_by x xs i in
-    let before : flat_map f c.front ≡ [] = none_given f c.front (λ z v k l. others z v (inl (before_it x z c.front c.back xs c.is k)) l) in
-    let behind : flat_map f c.back ≡ [] = none_given f c.back (λ z v k l. others z v (inr (record { front = c.front; back = c.back; is = c.is; there = k })) l) in
+    let before : flat_map f c.front ≡ [] = none_given f c.front
+    (λ z v k l. others z v (inl (before_it x z c.front c.back xs c.is k)) l) in
+    let behind : flat_map f c.back ≡ [] = none_given f c.back
+    (λ z v k l. others z v (inr (record { front = c.front; back = c.back; is = c.is; there = k })) l) in
     ap (λ (l : List X). flat_map f l) (sym c.is)
     ∙ flat_map-append f c.front (x ∷ c.back)
     ∙ ap (λ (l : List Y). l ++ flat_map f (x ∷ c.back)) before
     ∙ ap (λ (l : List Y). l ++ flat_map f c.back) one
     ∙ ap (λ (l : List Y). y ∷ l) behind
 
-pub filter_given : {X Y : Type 0} (test : Y → Bool) (f : X → List Y) (xs : List X) → filter test (flat_map f xs) ≡ flat_map (λ x. filter test (f x)) xs
+pub filter_given : {X Y : Type 0} (test : Y → Bool) (f : X → List Y) (xs : List X)
+    → filter test (flat_map f xs) ≡ flat_map (λ x. filter test (f x)) xs
 filter_given test f [] = refl
-filter_given {X} {Y} test f (x ∷ xs) = filter-append test (f x) (flat_map f xs) ∙ ap (λ (l : List Y). filter test (f x) ++ l) (filter_given test f xs)
+filter_given {X} {Y} test f (x ∷ xs) = filter-append test (f x) (flat_map f xs)
+    ∙ ap (λ (l : List Y). filter test (f x) ++ l) (filter_given test f xs)

@@ -22,13 +22,16 @@ pub record IsPart (m : Note) (want : Want) : Type 0 where
   pub part : Span
   pub is : (m ≡ note.Whole want sent part) ⊎ (m ≡ note.Piece want sent part)
 
-pub whole_parcel : (want : Want) (sent : ℕ) (part : Span) → want.piece ≡ 0 → parcel want sent part ≡ note.Whole want sent part
+pub whole_parcel : (want : Want) (sent : ℕ) (part : Span) → want.piece ≡ 0 → parcel want sent part ≡ note.Whole want
+    sent part
 whole_parcel want sent part e = let t : (want.piece == 0) ≡ true = eq-eqb _ _ e in rw t refl
 
-pub piece_parcel : (want : Want) (sent : ℕ) (part : Span) → 1 ≤ want.piece → parcel want sent part ≡ note.Piece want sent part
+pub piece_parcel : (want : Want) (sent : ℕ) (part : Span) → 1 ≤ want.piece → parcel want sent part ≡ note.Piece want
+    sent part
 piece_parcel want sent part l = let f : (want.piece == 0) ≡ false = ne_eqb _ _ (λ e. absurd (omega arith)) in rw f refl
 
-pub numbered_parcel : (want : Want) (sent : ℕ) (part : Span) → (want.piece == 0) ≡ false → parcel want sent part ≡ note.Piece want sent part
+pub numbered_parcel : (want : Want) (sent : ℕ) (part : Span) → (want.piece == 0) ≡ false
+    → parcel want sent part ≡ note.Piece want sent part
 numbered_parcel want sent part f = rw f refl
 
 -- a parcel is such a note
@@ -45,11 +48,27 @@ parcel_is want sent part = record {
 -- what a note carries, with its beat
 carried_is : (b : ℕ) (m : Note) (x : Dated Want) → In x (carried_by b m) → (x.beat ≡ b) × IsPart m x.item
 carried_is b (note.Whole want sent part) x i = ⊎_elim
-    (λ e. (ap (λ (d : Dated Want). d.beat) e, record { sent = sent; part = part; is = inl (ap (λ (d : Dated Want). note.Whole d.item sent part) (sym e)) }))
+    (λ e. (
+      ap (λ (d : Dated Want). d.beat) e,
+      record {
+        sent = sent;
+        part = part;
+        is = inl
+            (ap (λ (d : Dated Want). note.Whole d.item sent part) (sym e));
+      },
+    ))
     (λ k. absurd k)
     i
 carried_is b (note.Piece want sent part) x i = ⊎_elim
-    (λ e. (ap (λ (d : Dated Want). d.beat) e, record { sent = sent; part = part; is = inr (ap (λ (d : Dated Want). note.Piece d.item sent part) (sym e)) }))
+    (λ e. (
+      ap (λ (d : Dated Want). d.beat) e,
+      record {
+        sent = sent;
+        part = part;
+        is = inr
+            (ap (λ (d : Dated Want). note.Piece d.item sent part) (sym e));
+      },
+    ))
     (λ k. absurd k)
     i
 carried_is b other x i = absurd i
@@ -61,12 +80,16 @@ pub record IsPassage (Says : LinkNo → Note → Type 0) (want : Want) : Type 0 
   pub says : Says link note
   pub carries : IsPart note want
 
-pub sent_is : (b : ℕ) (v : What) (x : Dated Want) → In x (sent_by b v) → (x.beat ≡ b) × IsPassage (λ link m. v ≡ what.Sent link m) x.item
-sent_is b (what.Sent link m) x i = let k = carried_is b m x i in (k.0, record { link = link; note = m; says = refl; carries = k.1 })
+pub sent_is : (b : ℕ) (v : What) (x : Dated Want) → In x (sent_by b v) → (x.beat ≡ b)
+    × IsPassage (λ link m. v ≡ what.Sent link m) x.item
+sent_is b (what.Sent link m) x i = let k = carried_is b m x i in
+    (k.0, record { link = link; note = m; says = refl; carries = k.1 })
 sent_is b other x i = absurd i
 
-pub got_is : (b : ℕ) (v : What) (x : Dated Want) → In x (got_by b v) → (x.beat ≡ b) × IsPassage (λ link m. v ≡ what.Got link m) x.item
-got_is b (what.Got link m) x i = let k = carried_is b m x i in (k.0, record { link = link; note = m; says = refl; carries = k.1 })
+pub got_is : (b : ℕ) (v : What) (x : Dated Want) → In x (got_by b v) → (x.beat ≡ b)
+    × IsPassage (λ link m. v ≡ what.Got link m) x.item
+got_is b (what.Got link m) x i = let k = carried_is b m x i in
+    (k.0, record { link = link; note = m; says = refl; carries = k.1 })
 got_is b other x i = absurd i
 
 -- an entry that asks for the same piece of a visit of a slot

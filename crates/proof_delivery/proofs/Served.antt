@@ -38,7 +38,8 @@ use Rattle.proof_delivery.proofs.Parcels as parcels
 use Rattle.proof_delivery.proofs.Excuses.{some_journal, is_excused, stop_excuses, stopped_or_not}
 
 -- the bytes of a part, by the piece's number
-span_is : (p : Params) (block : Span) (j : ℕ) → span_at p block j ≡ (if j == 0 then block else piece_of block p.pieces j)
+span_is : (p : Params) (block : Span) (j : ℕ) → span_at p block j ≡ (if j == 0 then block else piece_of block
+    p.pieces j)
 span_is p block zero = refl
 span_is p block (suc k) = let f : (suc k == 0) ≡ false = ne_eqb _ _ (λ e. absurd (omega arith)) in rw f refl
 
@@ -46,14 +47,17 @@ span_piece : (p : Params) (block : Span) (k : ℕ) → 1 ≤ k → span_at p blo
 span_piece p block zero some = absurd (omega arith)
 span_piece p block (suc k) some = refl
 
-module _ (p : Params) (a : Evidence) (r : Facts) (q : PieceFacts) (w : ServiceFacts) (end : ℕ) (g : AreParcelsRecorded p a r q w end) where
+module _ (p : Params) (a : Evidence) (r : Facts) (q : PieceFacts) (w : ServiceFacts) (end : ℕ)
+    (g : AreParcelsRecorded p a r q w end) where
   sent_piece : (k : ℕ) (t : Tenancy) (n : ℕ) (x : Parcel) → x.want ≡ want_of_visit t n k → 1 ≤ k
       → WasSent p a.journals (cub_of p (n + k)) x.link (parcel x.want x.sent x.span) x.sent (leave p t n k)
-      → WasSent p a.journals (cub_of p (n + k)) x.link (note.Piece x.want x.sent x.span) x.sent (leaving (due p t.slot.0 n) k p.play p.pieces)
+      → WasSent p a.journals (cub_of p (n + k)) x.link (note.Piece x.want x.sent x.span) x.sent
+      (leaving (due p t.slot.0 n) k p.play p.pieces)
   sent_piece zero t n x wanted some s = absurd (omega arith)
   sent_piece (suc k) t n x wanted some s =
       let piece : x.want.piece ≡ suc k = ap (λ (z : Want). z.piece) wanted in
-      subst (λ (m : Note). WasSent p a.journals (cub_of p (n + suc k)) x.link m x.sent (leaving (due p t.slot.0 n) (suc k) p.play p.pieces))
+      subst (λ (m : Note). WasSent p a.journals (cub_of p (n + suc k)) x.link m x.sent (leaving (due p t.slot.0 n)
+      (suc k) p.play p.pieces))
       (piece_parcel x.want x.sent x.span (omega arith)) s
 
   -- a Put has its entry
@@ -80,12 +84,15 @@ module _ (p : Params) (a : Evidence) (r : Facts) (q : PieceFacts) (w : ServiceFa
             alone = parcels.no_pieces p a r q w end g (cub_of p n) n l.beat t h.stands.journal h.stands.at l.serves;
             want = h.wanted;
             span = h.right;
-            sent = subst (λ (m : Note). WasSent p a.journals (cub_of p n) h.brought.link m h.brought.sent (due p t.slot.0 n))
-                (whole_parcel h.brought.want h.brought.sent h.brought.span (ap (λ (z : Want). z.piece) h.wanted)) h.sent;
+            sent = subst (λ (m : Note). WasSent p a.journals (cub_of p n) h.brought.link m h.brought.sent
+                (due p t.slot.0 n))
+                (whole_parcel h.brought.want h.brought.sent h.brought.span (ap (λ (z : Want). z.piece) h.wanted))
+                h.sent;
           });
         }
 
-    came_in_pieces : ((j : ℕ) → 1 ≤ j → j ≤ p.pieces → at_facts.LeftInTime p q end (cub_of p (n + j)) t n j) → IsDelivered p a.catalogue a.journals t.instance.0 n
+    came_in_pieces : ((j : ℕ) → 1 ≤ j → j ≤ p.pieces → at_facts.LeftInTime p q end (cub_of p (n + j)) t n j)
+        → IsDelivered p a.catalogue a.journals t.instance.0 n
     came_in_pieces each =
         let some : 1 ≤ p.pieces = g.schedule.plan.ranges.pieces.0 in
         let l = each 1 (omega arith) some in
@@ -96,7 +103,8 @@ module _ (p : Params) (a : Evidence) (r : Facts) (q : PieceFacts) (w : ServiceFa
           came = inr (record {
             block = h.stored.block;
             place = h.stored.place;
-            none = parcels.no_whole p a r q w end g (cub_of p (n + 1)) n 1 l.beat t h.stands.journal h.stands.at l.serves (omega arith);
+            none = parcels.no_whole p a r q w end g (cub_of p (n + 1)) n 1 l.beat t h.stands.journal h.stands.at
+                l.serves (omega arith);
             pieces = λ k low high.
                 let m = parcels.arrived p a r q w end g (cub_of p (n + k)) n k t (each k low high) in
                 let both = sym m.stored.place ∙ h.stored.place in
@@ -105,13 +113,15 @@ module _ (p : Params) (a : Evidence) (r : Facts) (q : PieceFacts) (w : ServiceFa
                   parcel = m.brought;
                   once = parcels.piece_once p a r q w end g (cub_of p (n + k)) n k t m low;
                   want = m.wanted;
-                  span = m.right ∙ span_piece p m.stored.block.span k low ∙ ap (λ (b : Place). piece_of b.span p.pieces k) same;
+                  span = m.right ∙ span_piece p m.stored.block.span k low
+                      ∙ ap (λ (b : Place). piece_of b.span p.pieces k) same;
                   sent = sent_piece k t n m.brought m.wanted low m.sent;
                 };
           });
         }
 
-    served : (beats : ℕ) → beats ≤ end + 1 → due p t.slot.0 n + 2 * p.play ≤ time_of p beats → IsDelivered p a.catalogue a.journals t.instance.0 n ⊎ IsExcused p a.journals t.instance.0 n
+    served : (beats : ℕ) → beats ≤ end + 1 → due p t.slot.0 n + 2 * p.play ≤ time_of p beats
+        → IsDelivered p a.catalogue a.journals t.instance.0 n ⊎ IsExcused p a.journals t.instance.0 n
     served beats low settled = ⊎_elim
         (λ stopped. inr (stop_excuses p a r q w end g t n visited stopped))
         (λ on.
@@ -123,7 +133,8 @@ module _ (p : Params) (a : Evidence) (r : Facts) (q : PieceFacts) (w : ServiceFa
         (stopped_or_not p a r q w end g t n)
 
   -- what the viewers got is of a visit of what was put
-  of_visit : (e : Entry) (link : LinkNo) (m : Note) (want : Want) → StandsIn a.journals (viewers p) e → e.what ≡ what.Got link m → (k : IsPart m want)
+  of_visit : (e : Entry) (link : LinkNo) (m : Note) (want : Want) → StandsIn a.journals (viewers p) e
+      → e.what ≡ what.Got link m → (k : IsPart m want)
       → (want.piece ≤ p.pieces) × IsOfVisit p a.catalogue a.journals want k.part
   of_visit e link m want s is k =
       let c = g.ties.viewers.came e link m s is in
@@ -134,7 +145,13 @@ module _ (p : Params) (a : Evidence) (r : Facts) (q : PieceFacts) (w : ServiceFa
         (g.blocks.who c.node want.visit want.piece c.entry.stamp.beat t o.serves).1,
         record {
           tenancy = t;
-          visited = record { put = put_there held.cub held.beat t held.put; instance = ap (λ (z : Want). z.instance.0) (sym o.wanted); first = held.low; last = held.high };
+          visited = record {
+            put = put_there held.cub held.beat t held.put;
+            instance = ap
+                (λ (z : Want). z.instance.0) (sym o.wanted);
+            first = held.low;
+            last = held.high;
+          };
           wanted = o.wanted;
           block = part.stored.block;
           place = part.stored.place;
@@ -146,21 +163,25 @@ module _ (p : Params) (a : Evidence) (r : Facts) (q : PieceFacts) (w : ServiceFa
     stands : (x : Noted) → In x (order_of beats a.journals) → StandsIn a.journals x.node x.entry
     stands x i = bridge.stands p r a.orders a.journals g.schedule beats x i
 
-    if_put : beats ≤ end + 1 → (x : Noted) → In x (order_of beats a.journals) → (v : What) → x.entry.what ≡ v → IsServedIfPut p a.catalogue a.journals (time_of p beats) v
+    if_put : beats ≤ end + 1 → (x : Noted) → In x (order_of beats a.journals) → (v : What) → x.entry.what ≡ v
+        → IsServedIfPut p a.catalogue a.journals (time_of p beats) v
     if_put low x i (what.Put t) is =
         let k = g.schedule.tells.put x.node x.entry t (stands x i) is in
         λ n first last settled. served x.node x.entry.stamp.beat n t k.put first last beats low settled
     if_put low x i other is = tt
 
-    if_got : (x : Noted) → In x (order_of beats a.journals) → x.node ≡ viewers p → (v : What) → x.entry.what ≡ v → IsOfPutTenancy p a.catalogue a.journals v
+    if_got : (x : Noted) → In x (order_of beats a.journals) → x.node ≡ viewers p → (v : What) → x.entry.what ≡ v
+        → IsOfPutTenancy p a.catalogue a.journals v
     if_got x i node (what.Got link (note.Whole want sent part)) is =
         let s = subst (λ (n : ℕ). StandsIn a.journals n x.entry) node (stands x i) in
-        let o = of_visit x.entry link (note.Whole want sent part) want s is (record { sent = sent; part = part; is = inl refl }) in
+        let o = of_visit x.entry link (note.Whole want sent part) want s is
+        (record { sent = sent; part = part; is = inl refl }) in
         let c = g.ties.viewers.came x.entry link (note.Whole want sent part) s is in
         ((g.ties.tells.whole c.node c.entry link want sent part c.stands c.is).0, o.1)
     if_got x i node (what.Got link (note.Piece want sent part)) is =
         let s = subst (λ (n : ℕ). StandsIn a.journals n x.entry) node (stands x i) in
-        let o = of_visit x.entry link (note.Piece want sent part) want s is (record { sent = sent; part = part; is = inr refl }) in
+        let o = of_visit x.entry link (note.Piece want sent part) want s is
+        (record { sent = sent; part = part; is = inr refl }) in
         let c = g.ties.viewers.came x.entry link (note.Piece want sent part) s is in
         ((g.ties.tells.piece c.node c.entry link want sent part c.stands c.is).0, (o.0, o.1))
     if_got x i node (what.Got link other) is = tt
@@ -168,6 +189,8 @@ module _ (p : Params) (a : Evidence) (r : Facts) (q : PieceFacts) (w : ServiceFa
 
     pub are_served : beats ≤ end + 1 → AreServed p a.catalogue a.journals (time_of p beats) (order_of beats a.journals)
     are_served low = record {
-      settled = all_by (λ (x : Noted). IsServedIfPut p a.catalogue a.journals (time_of p beats) x.entry.what) (order_of beats a.journals) (λ x i. if_put low x i x.entry.what refl);
-      got = all_by (IsOfPutIfViewers p a.catalogue a.journals) (order_of beats a.journals) (λ x i node. if_got x i node x.entry.what refl);
+      settled = all_by (λ (x : Noted). IsServedIfPut p a.catalogue a.journals (time_of p beats) x.entry.what)
+          (order_of beats a.journals) (λ x i. if_put low x i x.entry.what refl);
+      got = all_by (IsOfPutIfViewers p a.catalogue a.journals) (order_of beats a.journals)
+          (λ x i node. if_got x i node x.entry.what refl);
     }

@@ -58,13 +58,15 @@ pub record IsServing (p : Params) (q : PieceFacts) (w : ServiceFacts) (n : ℕ) 
   pub named : sent ≡ b
   pub way : ends_of (links_of p) link.0 ≡ Some (n, viewers p)
 
--- What a node wanted of a disk in beat b is what it asked for then, as a cub, of a visit.
+-- What a node asked a disk for in beat b is a piece of a visit, or its whole block, which the node
+-- asked for then as a cub.
 pub record IsAsking (q : PieceFacts) (n : ℕ) (want : Want) (b : ℕ) : Type 0 where
   pub tenancy : Tenancy
   pub wanted : want ≡ want_of_visit tenancy want.visit want.piece
   pub asks : q.Asks n tenancy want.visit want.piece b
 
--- What a node wrote in beat b that it failed to read is what it was told so, as a cub, of a visit.
+-- A read that a node wrote down as failed in beat b is that of a piece of a visit, or of its whole
+-- block, and a disk told the node then, as a cub, that it failed.
 pub record IsFailure (w : ServiceFacts) (n : ℕ) (want : Want) (b : ℕ) : Type 0 where
   pub tenancy : Tenancy
   pub wanted : want ≡ want_of_visit tenancy want.visit want.piece
@@ -81,10 +83,10 @@ pub record TellsParcels (p : Params) (q : PieceFacts) (w : ServiceFacts)
   pub piece : (n : ℕ) (e : Entry) (link : LinkNo) (want : Want) (sent : ℕ) (part : Span)
       → StandsIn journals n e → e.what ≡ what.Sent link (note.Piece want sent part)
       → (1 ≤ want.piece) × IsServing p q w n link want sent part e.stamp.beat
-  -- A read that is asked for is asked for a visit.
+  -- A disk is asked only for what a cub asks for.
   pub asks : (n : ℕ) (e : Entry) (want : Want)
       → StandsIn journals n e → AsksDisk want e → IsAsking q n want e.stamp.beat
-  -- A read that failed is one of which a disk said so.
+  -- A read is written down as failed only if a disk said that it failed.
   pub failed : (n : ℕ) (e : Entry) (want : Want)
       → StandsIn journals n e → e.what ≡ what.ReadFailed want → IsFailure w n want e.stamp.beat
 

@@ -14,6 +14,7 @@ use Rattle.proof_service.specs.ServiceFacts.{ServiceFacts, ArisesBy, IsCutOff}
 use Rattle.proof_service.specs.ServiceLaws.{ServiceLaws, IsAnswered}
 use Rattle.proof_places.specs.Files.{AreOfFiles}
 use Rattle.proof_places.specs.Disks.{DiskLaws, FailedThere, IsRefused, IsRead}
+use Rattle.proof_blocks.specs.Blocks.{IsWhole}
 use Rattle.cub_facts.specs.Laws.{CubLaws, RingLaws, SplitLaws, ReadLaws}
 
 -- The laws of the schedule are those of cubs, and those of the runner, the links and the
@@ -35,10 +36,7 @@ laws_of p r ring cubs = record {
   holds = cubs.holds;
 }
 
--- A number is 0, that of whole blocks, or one of pieces.
-abbrev pub IsWhole : ℕ → Type 0
-IsWhole j = j ≡ 0
-
+-- The number is of a mirror piece, and not of the whole block.
 abbrev pub IsPiece : ℕ → Type 0
 IsPiece j = 1 ≤ j
 

@@ -38,9 +38,10 @@ use Rattle.proof_links.proofs.Starts.{begun_place}
 use Rattle.proof_splits.proofs.Splitting.{split_laws}
 use Rattle.proof_parts.specs.Asks.{HaveDisks}
 use Rattle.proof_parts.proofs.PieceReads as parts
+use Rattle.proof_blocks.specs.Blocks.{IsWhole}
 use Rattle.proof_blocks.proofs.Laws as blocks
 use Rattle.proof_histories.specs.Histories.{pieces_of, blocks_of, IsFiledHistory, HistoriesMeetTheLaws, HistoriesHaveOneSchedule, HistoriesAreRightlyRead, HistoriesServeTheirBlocks}
-use Rattle.proof_histories.proofs.Gathering.{IsWhole, IsPiece, laws_of, piece_laws_of, service_laws_of, disk_laws_of}
+use Rattle.proof_histories.proofs.Gathering.{IsPiece, laws_of, piece_laws_of, service_laws_of, disk_laws_of}
 
 module _ {S : Type 0} (step : S → Input Msg → Deed Msg S) (p : Params) (orders : List Order) (disk_at : ℕ → DiskState) (h : History Msg S)
     (plan : IsPlan p) (ring : IsRingHistory step p orders disk_at h) where

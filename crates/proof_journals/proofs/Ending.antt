@@ -16,7 +16,7 @@ use Rattle.schedule_laws.specs.Lives.{is_tick_input}
 use Rattle.schedule_laws.specs.Facts.{TickedAt}
 use Rattle.schedule_laws.proofs.Order.{after_tick, ticks_rise}
 use Rattle.schedule_laws.proofs.States.{stamp_made}
-use Rattle.schedule_views.proofs.Journals.{inputs_of}
+use Rattle.proof_journals.proofs.Journals.{inputs_of}
 use Rattle.proof_schedule.specs.Facts.{Ended, DiedBy}
 use Rattle.cub_facts.specs.Facts.{facts_of}
 use Rattle.cub_facts.specs.Lives.{lives_of, DiedAt}

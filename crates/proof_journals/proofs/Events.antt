@@ -25,10 +25,10 @@ use Rattle.disk_core.specs.State.{DiskState}
 use Rattle.disk_core.specs.Rules.{disk_step}
 use Rattle.schedule_laws.specs.Lives.{In, IsLife, outs_at}
 use Rattle.schedule_laws.proofs.Carrying.{stamp_same}
-use Rattle.schedule_moments.proofs.Ordered.{numbered_below}
-use Rattle.schedule_moments.proofs.Written.{WrittenAt, event_wrote, written_at, act_written}
-use Rattle.schedule_views.proofs.Journals.{inputs_of}
-use Rattle.stops_ways.specs.Controllers.{controller, commands_at}
+use Rattle.proof_journals.proofs.Cuts.{numbered_below}
+use Rattle.proof_journals.proofs.Written.{WrittenAt, event_wrote, written_at, act_written}
+use Rattle.proof_journals.proofs.Journals.{inputs_of}
+use Rattle.controller_facts.specs.Controllers.{controller, commands_at}
 use Rattle.proof_moments.specs.Members as members
 use Rattle.proof_moments.specs.Ties.{StandsIn}
 use Rattle.cub_facts.specs.Rings.{IsRingHistory, node_count, node_of_disk, viewers}

@@ -39,12 +39,12 @@ use Rattle.schedule_laws.proofs.Order.{behind, tick_of}
 use Rattle.schedule_laws.proofs.States.{put_at_tick}
 use Rattle.schedule_laws.proofs.Waiting.{once_at}
 use Rattle.schedule_records.proofs.Keeping.{keeps_records}
-use Rattle.schedule_moments.proofs.Fair.{entries_one}
-use Rattle.schedule_moments.proofs.Ones.{IsOne}
-use Rattle.schedule_moments.proofs.Plain.{IsPlain}
-use Rattle.schedule_moments.proofs.Singles.{puts, deed_single}
-use Rattle.schedule_moments.proofs.Written.{acted, event_wrote}
-use Rattle.schedule_views.proofs.Journals.{inputs_of, got_at, so_far, wrote, beat_is, rising_so_far}
+use Rattle.proof_journals.proofs.Singles.{entries_one}
+use Rattle.proof_journals.proofs.Ones.{IsOne}
+use Rattle.proof_journals.proofs.Plain.{IsPlain}
+use Rattle.proof_journals.proofs.Singles.{puts, deed_single}
+use Rattle.proof_journals.proofs.Written.{acted, event_wrote}
+use Rattle.proof_journals.proofs.Journals.{inputs_of, got_at, so_far, wrote, beat_is, rising_so_far}
 use Rattle.proof_schedule.specs.Facts.{Ended, DiedBy}
 use Rattle.proof_schedule.specs.Laws.{Laws}
 use Rattle.proof_schedule.proofs.Origins.{took_held}

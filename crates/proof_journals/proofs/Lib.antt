@@ -12,3 +12,11 @@ pub mod Outputs
 pub mod Recorded
 pub mod Telling
 pub mod Views
+pub mod Cuts
+pub mod Journals
+pub mod Notes
+pub mod Ones
+pub mod Plain
+pub mod Records
+pub mod Singles
+pub mod Written

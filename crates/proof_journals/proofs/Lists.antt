@@ -2,8 +2,8 @@
 use Rattle.std.proofs.Common.{◌≡◌, List, [], ◌∷◌, ◌++◌, Bool, true, refl, sym, subst, ◌∙◌, ⊎_elim, inl, inr, append-nil}
 use Rattle.schedule_laws.specs.Lives.{In}
 use Rattle.schedule_laws.proofs.Members.{in_right}
-use Rattle.schedule_moments.proofs.Ones.{IsOne}
-use Rattle.schedule_views.proofs.Cuts.{IsAhead, two_cuts}
+use Rattle.proof_journals.proofs.Ones.{IsOne}
+use Rattle.proof_journals.proofs.Cuts.{IsAhead, two_cuts}
 use Rattle.proof_moments.specs.Members as members
 
 -- An element of a list is one of any list that is the same.

@@ -32,14 +32,14 @@ use Rattle.disk_core.specs.State.{DiskState}
 use Rattle.schedule_laws.specs.Lives.{In, outs_at, beat_at, reading_at}
 use Rattle.schedule_laws.proofs.Members.{in_left, in_right, in_map}
 use Rattle.schedule_laws.proofs.Carrying.{came_to, does_it, same_ends, stamp_same, way_ends}
-use Rattle.stops_ways.specs.Controllers.{controller}
+use Rattle.controller_facts.specs.Controllers.{controller}
 use Rattle.schedule_records.specs.Records.{AreFromRecords}
 use Rattle.schedule_records.proofs.Keeping.{keeps_records}
 use Rattle.schedule_records.proofs.Told.{any_in}
-use Rattle.schedule_views.proofs.Events.{event_lives}
-use Rattle.schedule_views.proofs.Journals.{inputs_of, got_at, so_far, wrote, stamped}
-use Rattle.schedule_views.proofs.Local.{from_before, state_record}
-use Rattle.schedule_views.proofs.Telling.{records_after, input_recorded}
+use Rattle.proof_journals.proofs.Notes.{event_lives}
+use Rattle.proof_journals.proofs.Journals.{inputs_of, got_at, so_far, wrote, stamped}
+use Rattle.proof_journals.proofs.Records.{from_before, state_record}
+use Rattle.proof_journals.proofs.Records.{records_after, input_recorded}
 use Rattle.proof_moments.specs.Members as members
 use Rattle.proof_moments.specs.Ties.{StandsIn, Locals}
 use Rattle.proof_moments.proofs.Lists.{cut_by}

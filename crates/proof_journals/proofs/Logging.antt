@@ -19,9 +19,9 @@ use Rattle.disk_core.specs.State.{DiskState}
 use Rattle.schedule_laws.specs.Lives.{In, beat_at}
 use Rattle.schedule_laws.specs.Facts.{DidAt}
 use Rattle.schedule_laws.proofs.Carrying.{before_next}
-use Rattle.schedule_moments.proofs.Written.{journal_keeps}
-use Rattle.schedule_views.proofs.Journals.{inputs_of}
-use Rattle.stops_ways.specs.Controllers.{controller, GoneAt}
+use Rattle.proof_journals.proofs.Written.{journal_keeps}
+use Rattle.proof_journals.proofs.Journals.{inputs_of}
+use Rattle.controller_facts.specs.Controllers.{controller, GoneAt}
 use Rattle.proof_moments.specs.Ties.{IsLogged, IsGoneOf, Logged}
 use Rattle.cub_facts.specs.Facts.{facts_of, BegunAt, WroteBelief}
 use Rattle.cub_facts.specs.Lives.{lives_of, DiedAt}

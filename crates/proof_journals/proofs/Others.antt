@@ -30,7 +30,7 @@ use Rattle.disk_core.specs.State.{DiskState}
 use Rattle.disk_core.specs.Rules.{answers, asked, disk_step}
 use Rattle.schedule_laws.specs.Lives.{In}
 use Rattle.schedule_laws.proofs.Members.{chosen, in_cases, from_filter, all_in}
-use Rattle.stops_ways.specs.Controllers.{command, known_at, commands_at, IsOrdered}
+use Rattle.controller_facts.specs.Controllers.{command, known_at, commands_at, IsOrdered}
 
 -- The controller tells only of stops, and sends starts as it carries out their orders and no viewer state.
 abbrev pub Follows : OrderKind → Out Msg → Type 0

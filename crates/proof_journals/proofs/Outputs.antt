@@ -31,7 +31,7 @@ use Rattle.schedule_laws.proofs.Steps.{believing_quiet}
 use Rattle.schedule_laws.proofs.TakingOver.{inserting_puts}
 use Rattle.schedule_laws.proofs.Ticking.{before_inserting}
 use Rattle.schedule_laws.proofs.States.{put_at_tick, put_inserted, at_tick}
-use Rattle.schedule_moments.proofs.Plain.{IsPlain, ArePlain, both, taking_plain, told_by_deadman, inserting_plain, splitting_plain, forwarding_plain, reading_plain, serving_plain, beating_plain}
+use Rattle.proof_journals.proofs.Plain.{IsPlain, ArePlain, both, taking_plain, told_by_deadman, inserting_plain, splitting_plain, forwarding_plain, reading_plain, serving_plain, beating_plain}
 
 -- ---- beliefs and stops
 

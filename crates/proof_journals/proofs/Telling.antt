@@ -34,11 +34,10 @@ use Rattle.schedule_laws.specs.Lives.{In, is_tick_input, outs_at, beat_at, readi
 use Rattle.schedule_laws.specs.Facts.{DidAt, TookMessage}
 use Rattle.schedule_laws.specs.Histories.{input_of}
 use Rattle.schedule_records.proofs.Told.{any_in}
-use Rattle.schedule_moments.proofs.Beliefs.{behind_it}
-use Rattle.schedule_moments.proofs.Written.{event_took}
-use Rattle.schedule_views.proofs.Events.{event_lives}
-use Rattle.schedule_views.proofs.Journals.{inputs_of, beat_is}
-use Rattle.stops_ways.specs.Controllers.{GoneAt, IsOrdered}
+use Rattle.proof_journals.proofs.Written.{event_took}
+use Rattle.proof_journals.proofs.Notes.{event_lives}
+use Rattle.proof_journals.proofs.Journals.{inputs_of, beat_is}
+use Rattle.controller_facts.specs.Controllers.{GoneAt, IsOrdered}
 use Rattle.proof_schedule.specs.Facts.{Entered}
 use Rattle.proof_moments.specs.Ties.{StandsIn, IsPutAt, IsBeliefAt, Tells}
 use Rattle.cub_facts.specs.Facts.{facts_of}
@@ -47,6 +46,16 @@ use Rattle.proof_journals.specs.Journals.{AreStartsOrdered, JournalsTell}
 use Rattle.proof_journals.proofs.Living.{beat_same}
 use Rattle.proof_journals.proofs.Outputs.{put_seat, believes_predecessor, tells_no_stop}
 use Rattle.proof_journals.proofs.Events.{AreKept, DidOwn, own_entry, who_acts, cub_acts, written_in, life_of, is_alive, is_before}
+use Rattle.std.proofs.Common.{◌≡◌, ℕ, ◌+◌, ◌<◌}
+use Rattle.std.proofs.Math.Nat.{mod-eq_of_lt}
+use Rattle.slot_plan.specs.Conditions.{IsPlan}
+use Rattle.slot_plan.specs.Times.{cub_of}
+use Rattle.cub_laws.proofs.Numbers.{predecessor_below, next_own}
+
+-- behind its predecessor stands the cub
+pub behind_it : (p : Params) (c : ℕ) → IsPlan p → c < p.cubs → cub_of p (predecessor p c + 1) ≡ c
+unfolding cub_of
+behind_it p c plan small = next_own p c (predecessor p c) plan small (mod-eq_of_lt (predecessor_below p c plan))
 
 -- A start that was ordered is one of the orders.
 pub ordered_among : (all : List Order) (ask : Ask) → IsOrdered all ask → ordering.IsOrdered all ask

@@ -17,9 +17,9 @@ use Rattle.schedule_laws.specs.Facts.{TickedAt}
 use Rattle.schedule_laws.proofs.Order.{beats_rise, behind}
 use Rattle.schedule_records.specs.Records.{recorded_by, AreRecordsOf}
 use Rattle.schedule_records.proofs.Keeping.{keeps_records}
-use Rattle.schedule_moments.proofs.Written.{written_at, one_event_more}
-use Rattle.schedule_views.proofs.Journals.{inputs_of, so_far, wrote, beat_is, so_far_on}
-use Rattle.schedule_views.proofs.Telling.{records_after, event_recorded}
+use Rattle.proof_journals.proofs.Written.{written_at, one_event_more}
+use Rattle.proof_journals.proofs.Journals.{inputs_of, so_far, wrote, beat_is, so_far_on}
+use Rattle.proof_journals.proofs.Records.{records_after, event_recorded}
 use Rattle.proof_moments.specs.Members as members
 use Rattle.proof_moments.specs.Ties.{IsCutAt}
 use Rattle.cub_facts.specs.Facts.{ShowsAt}

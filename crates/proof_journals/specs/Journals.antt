@@ -15,7 +15,7 @@ use Rattle.node_kit.specs.Steps.Input.{Take}
 use Rattle.run_facts.specs.Histories.{History, last_of}
 use Rattle.disk_core.specs.State.{DiskState}
 use Rattle.schedule_laws.specs.Lives.{Lives}
-use Rattle.stops_ways.specs.Controllers.{IsOrdered}
+use Rattle.controller_facts.specs.Controllers.{IsOrdered}
 use Rattle.proof_schedule.specs.Laws.{Laws}
 use Rattle.proof_moments.specs.Recorded.{IsRecorded}
 use Rattle.proof_moments.specs.Ties.{Besides, Keeps, Locals, Logged, Tells}

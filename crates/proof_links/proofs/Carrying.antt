@@ -24,8 +24,8 @@ use Rattle.schedule_laws.specs.Lives.{In, beat_at, Lives}
 use Rattle.schedule_laws.specs.Facts.{DidAt, TookMessage}
 use Rattle.schedule_laws.specs.Histories.{input_of}
 use Rattle.schedule_laws.proofs.Carrying.{count_rises, get_behind, is_take, same_dated, same_ends, sends_in, sends_place}
-use Rattle.stops_held.proofs.Carrying.{get_below}
-use Rattle.stops_ways.specs.Controllers.{controller, commands_at}
+use Rattle.controller_facts.proofs.Places.{get_below}
+use Rattle.controller_facts.specs.Controllers.{controller, commands_at}
 use Rattle.cub_facts.specs.Lives.{lives_of, CameAt}
 use Rattle.cub_facts.specs.Rings.{IsRingHistory, node_count}
 use Rattle.proof_links.proofs.Nodes.{after_tick, beat_same, before, by_rules, controller_inside, cub_inside, did_in, did_it, event_is, lives_on, sender, within}

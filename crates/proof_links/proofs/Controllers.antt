@@ -37,14 +37,14 @@ use Rattle.schedule_laws.specs.Histories.{input_of}
 use Rattle.schedule_laws.proofs.Carrying.{stamp_same, count_rises, tick_same}
 use Rattle.schedule_laws.proofs.Inserting.{put_out}
 use Rattle.schedule_laws.proofs.Order.{tick_of}
-use Rattle.stops_ways.specs.Controllers.{controller, command, commands_at, known_at, GoneAt, Stops, StoppedAt, StoppedWaiting}
-use Rattle.stops_ways.proofs.Stopping.{tag_at, IsStopOf}
-use Rattle.stops_ways.proofs.Commanding.{StoppedIn, stopped_there, same_event, one_stop}
-use Rattle.stops_ways.proofs.Controllers.{same_instance, same_visit, tag_sent}
-use Rattle.stops_ways.proofs.Knowing.{start_from, told_before, known_told}
-use Rattle.stops_ways.proofs.Placings.{put_tells, told_put}
-use Rattle.stops_ways.proofs.Visits.{IsLastDue, last_due}
-use Rattle.stops_ways.proofs.Ends.{ends_controller}
+use Rattle.controller_facts.specs.Controllers.{controller, command, commands_at, known_at, GoneAt, Stops, StoppedAt, StoppedWaiting}
+use Rattle.controller_facts.specs.Stops.{tag_at, IsStopOf}
+use Rattle.controller_facts.proofs.Commanding.{StoppedIn, stopped_there, same_event, one_stop}
+use Rattle.controller_facts.proofs.Controllers.{same_instance, same_visit, tag_sent}
+use Rattle.controller_facts.proofs.Knowing.{start_from, told_before, known_told}
+use Rattle.controller_facts.proofs.Placings.{put_tells, told_put}
+use Rattle.controller_facts.proofs.Visits.{IsLastDue, last_due}
+use Rattle.controller_facts.proofs.Ends.{ends_controller}
 use Rattle.proof_schedule.specs.Facts.{Facts}
 use Rattle.proof_schedule.specs.StopLaws.{IsStopAt, IsStopWaiting, StopLaws}
 use Rattle.cub_facts.specs.Facts.{BegunAt, facts_of}

@@ -19,14 +19,14 @@ use Rattle.disk_core.specs.State.{DiskState}
 use Rattle.schedule_laws.specs.Lives.{In, Lives, store_at, beat_at}
 use Rattle.schedule_laws.specs.Facts.{DidAt, TookMessage}
 use Rattle.stops_laws.specs.StopFactsOf.{ToldAt, GotTagAt, GotBareAt}
-use Rattle.stops_ways.specs.Controllers.{controller, known_at, commands_at, Stops, StoppedAt, StoppedWaiting}
-use Rattle.stops_ways.proofs.Stopping.{tag_at}
-use Rattle.stops_ways.proofs.Commanding.{StoppedIn, stopped_there}
-use Rattle.stops_ways.proofs.Controllers.{tag_sent}
-use Rattle.stops_ways.proofs.Deschedules.{deschedule_out}
-use Rattle.stops_ways.proofs.Ends.{ends_cub}
-use Rattle.stops_ways.proofs.Knowing.{some_same}
-use Rattle.stops_ways.proofs.Ways.{led}
+use Rattle.controller_facts.specs.Controllers.{controller, known_at, commands_at, Stops, StoppedAt, StoppedWaiting}
+use Rattle.controller_facts.specs.Stops.{tag_at}
+use Rattle.controller_facts.proofs.Commanding.{StoppedIn, stopped_there}
+use Rattle.controller_facts.proofs.Controllers.{tag_sent}
+use Rattle.controller_facts.proofs.Deschedules.{deschedule_out}
+use Rattle.controller_facts.proofs.Ends.{ends_cub}
+use Rattle.controller_facts.proofs.Knowing.{some_same}
+use Rattle.controller_facts.proofs.Ways.{led}
 use Rattle.proof_schedule.specs.Facts.{Facts, IsBeside, GotTagBy, GotBareBy}
 use Rattle.proof_schedule.specs.LinkLaws.{TagFromController, TagFromCub, BareFrom}
 use Rattle.cub_facts.specs.Facts.{facts_of}

@@ -25,7 +25,7 @@ use Rattle.schedule_laws.proofs.States.{state_at_tick, state_way}
 use Rattle.stops_laws.specs.HoldsHere.{AreAllFormed}
 use Rattle.stops_laws.specs.StopFactsOf.{ToldAt}
 use Rattle.stops_held.specs.InOrder.{AreInOrder, CameInOrder, GotTagBefore}
-use Rattle.stops_held.proofs.Carrying.{no_input_stop}
+use Rattle.stops_held.proofs.NoStops.{no_input_stop}
 use Rattle.cub_facts.specs.Lives.{lives_of}
 use Rattle.cub_facts.specs.Rings.{IsRingHistory}
 use Rattle.proof_links.proofs.Carrying.{Came, came_from, did_as, from_cub, number_of, numbers_rise, taken_as}

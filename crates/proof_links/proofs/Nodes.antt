@@ -22,7 +22,7 @@ use Rattle.schedule_laws.specs.Lives.{Lives, In, AreLives, store_at, outs_at, is
 use Rattle.schedule_laws.specs.Facts.{DidAt}
 use Rattle.schedule_laws.proofs.Carrying.{stamp_same, tick_same, does_it, count_rises}
 use Rattle.schedule_laws.proofs.Members.{all_in}
-use Rattle.stops_ways.specs.Controllers.{controller, known_at}
+use Rattle.controller_facts.specs.Controllers.{controller, known_at}
 use Rattle.cub_facts.specs.Lives.{lives_of}
 use Rattle.cub_facts.specs.Rings.{IsRingHistory, node_count, node_of_disk, viewers}
 use Rattle.proof_links.proofs.Lives.{EndsInDeath, LivesOn, lives_or_dies, counts_all}

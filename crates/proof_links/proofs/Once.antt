@@ -31,28 +31,30 @@ use Rattle.schedule_laws.specs.Lives.{In, Lives}
 use Rattle.schedule_laws.specs.Facts.{AreStarts}
 use Rattle.schedule_laws.specs.Rings.{calm}
 use Rattle.schedule_laws.proofs.Carrying.{count_rises, same_ends}
-use Rattle.stops_ways.specs.Controllers.{controller, command, known_at, IsOrdered}
-use Rattle.stops_ways.proofs.Stopping.{tag_at}
-use Rattle.stops_ways.proofs.Commanding.{stopped_there}
-use Rattle.stops_ways.proofs.Controllers.{tag_sent}
-use Rattle.stops_ways.proofs.Knowing.{start_from}
-use Rattle.stops_schedule.proofs.Behind.{each_behind, kept}
-use Rattle.ring_schedule.proofs.Controllers.{place_in}
-use Rattle.ring_schedule.proofs.Once.{IsOnce, StartAt, once_nothing}
-use Rattle.ring_stops.proofs.Commands.{commanding_once, way_low}
+use Rattle.controller_facts.specs.Controllers.{controller, command, known_at, IsOrdered}
+use Rattle.controller_facts.specs.Stops.{tag_at}
+use Rattle.controller_facts.proofs.Commanding.{stopped_there}
+use Rattle.controller_facts.proofs.Controllers.{tag_sent}
+use Rattle.controller_facts.proofs.Knowing.{start_from}
+use Rattle.controller_facts.proofs.Behind.{each_behind, kept}
+use Rattle.controller_facts.proofs.Places.{place_in}
+use Rattle.controller_facts.proofs.StartsOnce.{once_nothing}
+use Rattle.controller_facts.specs.Orders.{IsOnce, StartAt}
+use Rattle.controller_facts.proofs.Commands.{commanding_once, way_low}
 use Rattle.cub_facts.specs.Lives.{lives_of}
-use Rattle.cub_facts.specs.Rings.{AreCounted, IsRingHistory}
+use Rattle.controller_facts.specs.Orders.{AreCounted}
+use Rattle.cub_facts.specs.Rings.{IsRingHistory}
 use Rattle.proof_links.proofs.Carrying.{Came, SentAs, came_from, commanded_before, from_controller, from_either, number_of, numbers_rise, dated}
 use Rattle.proof_links.proofs.Deschedules.{by_cub}
 use Rattle.proof_links.proofs.Nodes.{after_tick, beat_same, before, controller_inside, cub_inside, event_is}
-use Rattle.proof_links.proofs.Ordering.{FinishedBy, StartedBy, at_beat, counted_orders, finished_by, ordered_before, ordered_once, place_of, started_by}
+use Rattle.proof_links.proofs.Ordering.{FinishedBy, StartedBy, at_beat, finished_by, ordered_before, ordered_once, place_of, started_by}
 
 -- In an event the controller sends on a link each start once.
 command_once : {p : Params} {orders : List Order} (plan : IsPlan p) (counted : AreCounted p orders) (i : Input Msg)
     (known : Known) (l b : ℕ) → IsOnce (sends_of l b (command p orders i known).outs)
 command_once {p} {orders} plan counted (Take stamp link m) known l b = once_nothing
 command_once {p} {orders} plan counted (Tick stamp) known l b =
-    commanding_once p orders stamp known l b plan (counted_orders counted)
+    commanding_once p orders stamp known l b plan counted
 
 -- The link from the controller to a cub has the cub's number.
 low_link : (p : Params) (l from c : ℕ) → l < p.cubs → ends_of (links_of p) l ≡ Some (from, c) → l ≡ c

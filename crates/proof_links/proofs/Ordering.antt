@@ -26,14 +26,12 @@ use Rattle.controller_core.specs.Rules.{starts, commanding}
 use Rattle.schedule_laws.specs.Lives.{In}
 use Rattle.schedule_laws.proofs.Carrying.{sends_place}
 use Rattle.schedule_laws.proofs.Members.{in_filter, from_filter}
-use Rattle.stops_held.proofs.Carrying.{get_below}
-use Rattle.stops_ways.specs.Controllers.{command}
-use Rattle.stops_ways.proofs.Commanding.{stopped_in}
-use Rattle.stops_schedule.proofs.Behind.{each_behind, each_starts}
-use Rattle.ring_schedule.proofs.Controllers.{in_place, place_in}
-use Rattle.ring_stops.specs.Rings.{AreCountedOrders}
-use Rattle.ring_stops.proofs.Commands.{commanding_out, one_order, start_out}
-use Rattle.cub_facts.specs.Rings.{AreCounted}
+use Rattle.controller_facts.specs.Controllers.{command}
+use Rattle.controller_facts.proofs.Commanding.{stopped_in}
+use Rattle.controller_facts.proofs.Behind.{each_behind, each_starts}
+use Rattle.controller_facts.proofs.Places.{in_place, place_in, get_below}
+use Rattle.controller_facts.specs.Orders.{AreCounted}
+use Rattle.controller_facts.proofs.Commands.{commanding_out, one_order, start_out}
 
 -- an order of a beat
 abbrev pub at_beat : ℕ → OrderKind → Order
@@ -103,10 +101,6 @@ index_is (y ∷ ys) zero x d e = cc
 index_is (y ∷ ys) (suc k) x d e = index_is ys k x d e
 
 module _ {p : Params} {orders : List Order} (counted : AreCounted p orders) where
-  -- the orders, as the lemmas of rings in which nobody dies have them
-  pub counted_orders : AreCountedOrders p orders
-  counted_orders = record { given = counted.given; counted = counted.counted }
-
   -- An order has a place.
   pub place_of : (a : Ask) (b : ℕ) → In (at_beat b (Begin a)) orders → (k : ℕ) × Starts orders k a
   place_of a b i = let k = in_place (at_beat b (Begin a)) orders i in (k.0, (b, k.1))
@@ -115,7 +109,7 @@ module _ {p : Params} {orders : List Order} (counted : AreCounted p orders) wher
   pub ordered_once : (a b : Ask) (x y : ℕ) → In (at_beat x (Begin a)) orders → In (at_beat y (Begin b)) orders
       → a.instance.0 ≡ b.instance.0 → (b ≡ a) × (y ≡ x)
   ordered_once a b x y i j same =
-      let e = one_order p orders (at_beat x (Begin a)) (at_beat y (Begin b)) a b counted_orders i j refl refl same in
+      let e = one_order p orders (at_beat x (Begin a)) (at_beat y (Begin b)) a b counted i j refl refl same in
       let w : Begin a ≡ Begin b = ap (λ (o : Order). o.what) e in
       let t : a ≡ b = cc in
       (sym t, sym (ap (λ (o : Order). o.beat) e))

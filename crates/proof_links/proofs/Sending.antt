@@ -30,8 +30,8 @@ use Rattle.controller_core.specs.declared.known.Known.{Known}
 use Rattle.schedule_laws.specs.Lives.{In, deed_of, is_tick_input}
 use Rattle.schedule_laws.proofs.Members.{chosen, all_in}
 use Rattle.schedule_laws.proofs.Wrapped.{cub_with, cub_outs}
-use Rattle.stops_ways.specs.Controllers.{command}
-use Rattle.ring_stops.proofs.Commands.{IsCommand, commanding_out}
+use Rattle.controller_facts.specs.Controllers.{command}
+use Rattle.controller_facts.proofs.Commands.{IsCommand, commanding_out}
 
 -- messages that a cub, a disk and the controller may send
 abbrev pub IsOfCub : Msg → Type 0

@@ -15,7 +15,7 @@ use Rattle.disk_core.specs.State.{DiskState}
 use Rattle.controller_core.specs.Orders.{Starts}
 use Rattle.schedule_laws.specs.Lives.{In, Lives}
 use Rattle.schedule_laws.specs.Facts.{TookMessage}
-use Rattle.stops_ways.specs.Controllers.{controller, known_at, GoneAt}
+use Rattle.controller_facts.specs.Controllers.{controller, known_at, GoneAt}
 use Rattle.proof_schedule.specs.LinkLaws.{WasBegun}
 use Rattle.cub_facts.specs.Facts.{BegunAt, facts_of}
 use Rattle.cub_facts.specs.Lives.{lives_of}

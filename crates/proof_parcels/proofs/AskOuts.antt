@@ -1,22 +1,16 @@
 -- The reads that a cub asks for in a tick: each is for a record of its own, and each such record is asked for once.
 use Rattle.std.proofs.Common.{◌≡◌, ℕ, ◌+◌, ◌≤◌, List, [], ◌∷◌, map, filter, Bool, true, false, cond, refl, sym, ap, subst, ◌∙◌, arith, ⊎_elim, inl, inr}
-use Rattle.std.specs.Prelude.{◌&&◌}
 use Rattle.std.specs.List.{flat_map}
 use Rattle.tiger_base.specs.declared.number.LinkNo.{LinkNo}
 use Rattle.tiger_base.specs.declared.number.Stamp.{Stamp}
-use Rattle.tiger_base.specs.declared.tenancy.Kind.{Kind}
-use Rattle.tiger_base.specs.declared.tenancy.Kind.TheVariants.{Own, Backup}
 use Rattle.tiger_base.specs.declared.tenancy.PieceState.{PieceState}
-use Rattle.tiger_base.specs.declared.tenancy.Rec.{Rec}
 use Rattle.tiger_base.specs.declared.tenancy.Tenancy.{Tenancy}
 use Rattle.tiger_base.specs.declared.tenancy.Want.{Want}
 use Rattle.tiger_base.specs.declared.message.Msg.{Msg}
 use Rattle.tiger_base.specs.declared.message.Msg.TheVariants as msg
-use Rattle.tiger_base.specs.Kinds.{is_own}
-use Rattle.tiger_base.specs.Records.{own_of, want_of, want_of_piece}
+use Rattle.tiger_base.specs.Records.{want_of, want_of_piece}
 use Rattle.slot_plan.specs.declared.params.Params.{Params}
-use Rattle.slot_plan.specs.Times.{disk_of, disk_count}
-use Rattle.mirror_pieces.specs.Pieces.{piece_disk}
+use Rattle.slot_plan.specs.Times.{disk_of}
 use Rattle.node_kit.specs.declared.outbox.Out.{Out}
 use Rattle.node_kit.specs.declared.outbox.Out.TheVariants as out
 use Rattle.node_kit.specs.Ways.{way_to_disk}
@@ -25,19 +19,19 @@ use Rattle.cub_rules.specs.declared.store.Store.{Store}
 use Rattle.cub_rules.specs.Records.{same_want}
 use Rattle.cub_rules.specs.Ticks.{must_read, ask_outs, asked_of_disk, leaves_by, reading_blocks, reading_pieces, reading}
 use Rattle.schedule_laws.specs.Lives.{In}
-use Rattle.schedule_laws.proofs.Members.{chosen, in_cases, from_map, from_filter, from_flat_map}
-use Rattle.schedule_moments.proofs.Ones.{IsOne, one_append}
-use Rattle.proof_places.specs.Disks.{disk_at}
-use Rattle.proof_places.proofs.TrueReads.{own_disk}
+use Rattle.schedule_laws.proofs.Members.{chosen, from_map, from_filter, from_flat_map}
+use Rattle.proof_journals.proofs.Ones.{IsOne, one_append}
 use Rattle.proof_parts.proofs.Found.{one_want}
-use Rattle.cub_facts.specs.Pieces.{piece, want, AsksFor}
+use Rattle.cub_facts.specs.Pieces.{piece, AsksFor}
 use Rattle.proof_parcels.proofs.Apart.{AreApart, OtherKey, Differ, IsOnce, apart_filter}
 
 -- ---- lists
 
 -- what elements that are apart give passes a test once, if what two of them give does not pass it both
-pub one_flat : {X Y : Type 0} (R : X → X → Type 0) (test : Y → Bool) (f : X → List Y) (xs : List X) → AreApart R xs → ((x : X) → IsOne test (f x))
-    → ((x y : X) (a b : Y) → In x xs → In y xs → R x y → In a (f x) → In b (f y) → test a ≡ true → test b ≡ true → ⊥) → IsOne test (flat_map f xs)
+pub one_flat : {X Y : Type 0} (R : X → X → Type 0) (test : Y → Bool) (f : X → List Y) (xs : List X) → AreApart R xs
+    → ((x : X) → IsOne test (f x))
+    → ((x y : X) (a b : Y) → In x xs → In y xs → R x y → In a (f x) → In b (f y) → test a ≡ true → test b ≡ true
+    → ⊥) → IsOne test (flat_map f xs)
 one_flat R test f [] apart each other = tt
 one_flat {X} {Y} R test f (x ∷ xs) apart each other = one_append test (f x) (flat_map f xs) (each x)
     (one_flat R test f xs apart.1 each (λ y z a b i j. other y z a b (inr i) (inr j)))
@@ -54,30 +48,7 @@ one_if {X} test b xs one = chosen (λ (l : List X). IsOne test l) b xs [] (λ _.
 pub in_if : {X : Type 0} (x : X) (b : Bool) (xs : List X) → In x (cond b xs []) → (b ≡ true) × In x xs
 in_if {X} x b xs i = chosen (λ (l : List X). In x l → (b ≡ true) × In x xs) b xs [] (λ t k. (t, k)) (λ _ k. absurd k) i
 
--- ---- records
-
--- an own record by its kind
-pub own_rec : (r : Rec) → is_own r.kind ≡ true → r ≡ own_of r.tenancy r.visit
-own_rec r e = by_kind r.kind refl e
-  where
-    by_kind : (k : Kind) → r.kind ≡ k → is_own k ≡ true → r ≡ own_of r.tenancy r.visit
-    by_kind Own q f = ap (λ (k : Kind). record { tenancy = r.tenancy; visit = r.visit; kind = k }) q
-    by_kind Backup q f = absurd (cc)
-
-own_if_read : (p : Params) (stamp : Stamp) (x : Line) → must_read p stamp x ≡ true → is_own x.rec.kind ≡ true
-unfolding must_read
-own_if_read p stamp x e = by_own (is_own x.rec.kind) _ _ e
-  where
-    by_own : (a b d : Bool) → (a && b && d) ≡ true → a ≡ true
-    by_own true b d f = refl
-    by_own false b d f = absurd (cc)
-
--- a read that goes out on a link is asked for a record
-pub record IsAskFor (p : Params) (stamp : Stamp) (h : Store) (link : LinkNo) (w : Want) : Type 0 where
-  pub tenancy : Tenancy
-  pub asks : AsksFor p stamp h tenancy w.visit w.piece
-  pub same : w ≡ want tenancy w.visit w.piece
-  pub way : link ≡ way_to_disk p (disk_at p w.visit w.piece)
+-- ---- reads
 
 -- an output asks for this want
 abbrev pub asks : Want → Out Msg → Bool
@@ -85,72 +56,51 @@ asks w (out.Send link (msg.ReadAsk v)) = same_want w v
 asks w other = false
 
 pub asks_is : (w : Want) (o : Out Msg) → asks w o ≡ true → (link : LinkNo) × (o ≡ out.Send link (msg.ReadAsk w))
-asks_is w (out.Send link (msg.ReadAsk v)) e = (link, ap (λ (z : Want). out.Send link (msg.ReadAsk z)) (sym (one_want w v e)))
+asks_is w (out.Send link (msg.ReadAsk v)) e = (
+  link,
+  ap (λ (z : Want). out.Send link (msg.ReadAsk z))
+      (sym (one_want w v e)),
+)
 asks_is w (out.Send link other) e = absurd (cc)
 asks_is w (out.Act v) e = absurd (cc)
 
 module _ (p : Params) (stamp : Stamp) (h : Store) where
-  soon : PieceState → Bool
-  soon x = leaves_by p (stamp.reading + p.read_lead) x
-
-  -- a read of a line, and of a piece record
-  line_ask : (x : Line) (link : LinkNo) (w : Want) → In x h.view.lines → In (out.Send link (msg.ReadAsk w)) (ask_outs p stamp x) → IsAskFor p stamp h link w × (w ≡ want_of x.rec)
-  line_ask x link w i k =
-      let q = in_if (out.Send link (msg.ReadAsk w)) (must_read p stamp x) (out.Send (way_to_disk p (disk_of p x.rec.visit)) (msg.ReadAsk (want_of x.rec)) ∷ []) k in
+  -- a read of a line
+  line_ask : (x : Line) (link : LinkNo) (w : Want) → In (out.Send link (msg.ReadAsk w)) (ask_outs p stamp x)
+      → w ≡ want_of x.rec
+  line_ask x link w k =
+      let q = in_if (out.Send link (msg.ReadAsk w)) (must_read p stamp x)
+      (out.Send (way_to_disk p (disk_of p x.rec.visit)) (msg.ReadAsk (want_of x.rec)) ∷ []) k in
       ⊎_elim
-      (λ (e : out.Send link (msg.ReadAsk w) ≡ out.Send (way_to_disk p (disk_of p x.rec.visit)) (msg.ReadAsk (want_of x.rec))).
-      let road : link ≡ way_to_disk p (disk_of p x.rec.visit) = cc in
-      let is : w ≡ want_of x.rec = cc in
-      let own = own_rec x.rec (own_if_read p stamp x q.0) in (
-        subst (λ (z : Want). IsAskFor p stamp h link z) (sym is) (record {
-          tenancy = x.rec.tenancy;
-          asks = inl (refl, x, (i, own), q.0);
-          same = refl;
-          way = road ∙ ap (way_to_disk p) (sym (own_disk p x.rec.visit));
-        }),
-        is,
-      ))
+      (λ (e : out.Send link (msg.ReadAsk w) ≡ out.Send (way_to_disk p (disk_of p x.rec.visit))
+      (msg.ReadAsk (want_of x.rec))). let is : w ≡ want_of x.rec = cc in is)
       (λ n. absurd n)
       q.1
 
-  piece_ask : (x : PieceState) (link : LinkNo) (w : Want) → 1 ≤ x.piece → In x h.unasked.items → leaves_by p (stamp.reading + p.read_lead) x ≡ true
-      → out.Send link (msg.ReadAsk w) ≡ asked_of_disk p x → IsAskFor p stamp h link w × (w ≡ want_of_piece x)
-  piece_ask x link w low i t e =
-      let road : link ≡ way_to_disk p (piece_disk (disk_of p x.visit) x.piece (disk_count p)) = cc in
-      let is : w ≡ want_of_piece x = cc in
-      (subst (λ (z : Want). IsAskFor p stamp h link z) (sym is) (record { tenancy = x.tenancy; asks = inr (low, i, t); same = refl; way = road }), is)
-
-  -- each read is for a record, if no piece that is still to be asked for has the number 0
-  pub ask_for : (low : (x : PieceState) → In x h.unasked.items → 1 ≤ x.piece) (link : LinkNo) (w : Want) → In (out.Send link (msg.ReadAsk w)) (reading p stamp h).outs → IsAskFor p stamp h link w
-  unfolding reading reading_blocks reading_pieces
-  ask_for low link w k = ⊎_elim
-      (λ i. let r = from_flat_map (ask_outs p stamp) (out.Send link (msg.ReadAsk w)) h.view.lines i in (line_ask r.0 link w r.1 r.2).0)
-      (λ i.
-      let r = from_map (asked_of_disk p) (out.Send link (msg.ReadAsk w)) (filter (leaves_by p (stamp.reading + p.read_lead)) h.unasked.items) i in
-      let f = from_filter (leaves_by p (stamp.reading + p.read_lead)) r.0 h.unasked.items r.1 in
-      (piece_ask r.0 link w (low r.0 f.0) f.0 f.1 r.2).0)
-      (in_cases (out.Send link (msg.ReadAsk w)) (flat_map (ask_outs p stamp) h.view.lines) (map (asked_of_disk p) (filter (leaves_by p (stamp.reading + p.read_lead)) h.unasked.items)) k)
-
-  -- and one thing is asked for once, if for one piece of a visit there is one record
+  -- one thing is asked for once, if for one piece of a visit there is one record
   pub ask_once : (w : Want) → IsOnce h → ((x : PieceState) → In x h.unasked.items → 1 ≤ x.piece)
       → ((t u : Tenancy) (n j : ℕ) → AsksFor p stamp h t n j → AsksFor p stamp h u n j → u.slot.0 ≡ t.slot.0 → u ≡ t)
       → IsOne (asks w) (reading p stamp h).outs
   unfolding reading reading_blocks reading_pieces
   ask_once w once low one_record =
       let late : List PieceState = filter (leaves_by p (stamp.reading + p.read_lead)) h.unasked.items in
-      let of_line : (x : Line) (o : Out Msg) → In x h.view.lines → In o (ask_outs p stamp x) → asks w o ≡ true → w ≡ want_of x.rec =
-      λ x o i k t. let q = asks_is w o t in (line_ask x q.0 w i (subst (λ (z : Out Msg). In z (ask_outs p stamp x)) q.1 k)).1 in
+      let of_line : (x : Line) (o : Out Msg) → In x h.view.lines → In o (ask_outs p stamp x) → asks w o ≡ true
+      → w ≡ want_of x.rec =
+      λ x o i k t. let q = asks_is w o t in (line_ask x q.0 w (subst (λ (z : Out Msg). In z (ask_outs p stamp x))
+      q.1 k)) in
       let of_piece : (x : PieceState) → asks w (asked_of_disk p x) ≡ true → w ≡ want_of_piece x =
       λ x t. one_want w (want_of_piece x) t in
       one_append (asks w) (flat_map (ask_outs p stamp) h.view.lines) (map (asked_of_disk p) late)
       (one_flat OtherKey (asks w) (ask_outs p stamp) h.view.lines once.lines_apart
-      (λ x. one_if (asks w) (must_read p stamp x) _ (one_alone (asks w) (out.Send (way_to_disk p (disk_of p x.rec.visit)) (msg.ReadAsk (want_of x.rec)))))
+      (λ x. one_if (asks w) (must_read p stamp x) _
+      (one_alone (asks w) (out.Send (way_to_disk p (disk_of p x.rec.visit)) (msg.ReadAsk (want_of x.rec)))))
       (λ x y a b i j apart k l t s.
       let one = of_line x a i k t in
       let two = of_line y b j l s in
       let both : want_of x.rec ≡ want_of y.rec = sym one ∙ two in
       apart (ap (λ (z : Want). (z.slot, z.visit)) both)))
-      (one_mapped w late (apart_filter Differ (leaves_by p (stamp.reading + p.read_lead)) h.unasked.items once.unasked_apart)
+      (one_mapped w late (apart_filter Differ (leaves_by p (stamp.reading + p.read_lead)) h.unasked.items
+      once.unasked_apart)
       (λ x y i j differ t s.
       let f = from_filter (leaves_by p (stamp.reading + p.read_lead)) x h.unasked.items i in
       let g = from_filter (leaves_by p (stamp.reading + p.read_lead)) y h.unasked.items j in
@@ -161,9 +111,11 @@ module _ (p : Params) (stamp : Stamp) (h : Store) where
       let numbers : y.piece ≡ x.piece = ap (λ (z : Want). z.piece) both in
       let same : y.tenancy ≡ x.tenancy = one_record x.tenancy y.tenancy x.visit x.piece
       (inr (low x f.0, f.0, f.1))
-      (subst (λ (n : ℕ). AsksFor p stamp h y.tenancy n x.piece) visits (subst (λ (m : ℕ). AsksFor p stamp h y.tenancy y.visit m) numbers (inr (low y g.0, g.0, g.1))))
+      (subst (λ (n : ℕ). AsksFor p stamp h y.tenancy n x.piece) visits
+      (subst (λ (m : ℕ). AsksFor p stamp h y.tenancy y.visit m) numbers (inr (low y g.0, g.0, g.1))))
       (ap (λ (z : Want). z.slot.0) both) in
-      differ (sym (ap (λ (z : Tenancy). piece z y.visit y.piece) same ∙ ap (λ (m : ℕ). piece x.tenancy m y.piece) visits ∙ ap (λ (m : ℕ). piece x.tenancy x.visit m) numbers))))
+      differ (sym (ap (λ (z : Tenancy). piece z y.visit y.piece) same ∙ ap (λ (m : ℕ). piece x.tenancy m y.piece)
+      visits ∙ ap (λ (m : ℕ). piece x.tenancy x.visit m) numbers))))
       (λ a b i j t s.
       let r = from_flat_map (ask_outs p stamp) a h.view.lines i in
       let one = of_line r.0 a r.1 r.2 t in
@@ -176,9 +128,11 @@ module _ (p : Params) (stamp : Stamp) (h : Store) where
       absurd (omega arith))
     where
       one_mapped : (w : Want) (xs : List PieceState) → AreApart Differ xs
-          → ((x y : PieceState) → In x xs → In y xs → Differ x y → asks w (asked_of_disk p x) ≡ true → asks w (asked_of_disk p y) ≡ true → ⊥) → IsOne (asks w) (map (asked_of_disk p) xs)
+          → ((x y : PieceState) → In x xs → In y xs → Differ x y → asks w (asked_of_disk p x) ≡ true
+          → asks w (asked_of_disk p y) ≡ true → ⊥) → IsOne (asks w) (map (asked_of_disk p) xs)
       one_mapped w [] apart other = tt
       one_mapped w (x ∷ xs) apart other = (
-        (λ t o i s. let m = from_map (asked_of_disk p) o xs i in other x m.0 (inl refl) (inr m.1) (apart.0 m.0 m.1) t (subst (λ (z : Out Msg). asks w z ≡ true) m.2 s)),
+        (λ t o i s. let m = from_map (asked_of_disk p) o xs i in other x m.0 (inl refl) (inr m.1) (apart.0 m.0 m.1)
+            t (subst (λ (z : Out Msg). asks w z ≡ true) m.2 s)),
         one_mapped w xs apart.1 (λ y z i j. other y z (inr i) (inr j)),
       )

@@ -30,20 +30,23 @@ use Rattle.schedule_laws.specs.Facts.{TickedAt}
 use Rattle.schedule_laws.proofs.Lines.{kept_at}
 use Rattle.schedule_laws.proofs.Members.{all_in}
 use Rattle.schedule_laws.proofs.Ticking.{kept_before}
-use Rattle.schedule_moments.proofs.Ones.{IsOne, none_one}
+use Rattle.proof_journals.proofs.Ones.{IsOne, none_one}
 use Rattle.proof_schedule.specs.Facts.{Facts}
 use Rattle.proof_pieces.specs.Pieces.{ArePiecesRight}
 use Rattle.cub_facts.specs.Pieces.{want, before_reading, before_serving, stamp_of, AsksFor, IsToServe, AsksAt, SendsPart, ServesAt, pieces_by}
 use Rattle.proof_parcels.proofs.Apart.{always_once, once_reading, once_serving}
 use Rattle.proof_parcels.proofs.TickParts.{is_ask, is_parcel, asks_in_reading, parcels_in_serving, no_ask_taken, no_parcel_taken, in_part, of_part, one_of_part}
-use Rattle.proof_parcels.proofs.AskOuts.{IsAskFor, asks, ask_for, ask_once}
+use Rattle.proof_parcels.proofs.AskOuts.{asks, ask_once}
 use Rattle.proof_parcels.proofs.ServeOuts.{IsServeOf, sends, sends_as, whole_for, piece_for, serves_out, serve_once}
 
 -- a piece record in form has a number from 1 to the plan's
 pub numbered : (p : Params) (c : ℕ) (x : PieceState) → IsPieceAt p c x → (1 ≤ x.piece) × (x.piece ≤ p.pieces)
 numbered p c x h =
-    let last = and_right (is_tenancy p x.tenancy && (nat_le x.tenancy.first x.visit && nat_le x.visit x.tenancy.last)) (nat_le 1 x.piece && nat_le x.piece p.pieces) h.in_form in
-    ((at_most 1 x.piece).0 (and_left (nat_le 1 x.piece) (nat_le x.piece p.pieces) last), (at_most x.piece p.pieces).0 (and_right (nat_le 1 x.piece) (nat_le x.piece p.pieces) last))
+    let last = and_right (is_tenancy p x.tenancy && (nat_le x.tenancy.first x.visit && nat_le x.visit
+    x.tenancy.last)) (nat_le 1 x.piece && nat_le x.piece p.pieces) h.in_form in (
+      (at_most 1 x.piece).0 (and_left (nat_le 1 x.piece) (nat_le x.piece p.pieces) last),
+      (at_most x.piece p.pieces).0 (and_right (nat_le 1 x.piece) (nat_le x.piece p.pieces) last),
+    )
 
 ask_is_ask : (w : Want) (o : Out Msg) → asks w o ≡ true → is_ask o ≡ true
 ask_is_ask w (out.Send link (msg.ReadAsk v)) t = refl
@@ -74,45 +77,44 @@ module _ {p : Params} {lives : Lives} (plan : IsPlan p) (lived : AreLives p live
     short = subst (λ (k : Input Msg). (steps.stamp_of k).reading ≤ most_reading) tick ((lived c small).short i low)
 
     pub at_reading : IsStoreOf p c (before_reading p c stamp old)
-    at_reading = (forwarding_right p c stamp plan small _ (kept_before p c stamp plan small old (kept i low) short)).keeps
+    at_reading = (forwarding_right p c stamp plan small _ (kept_before p c stamp plan small old (kept i low)
+        short)).keeps
 
     pub at_serving : IsStoreOf p c (before_serving p c stamp old)
     at_serving = (reading_right p c stamp plan _ at_reading).keeps
 
     pub low_unasked : (x : PieceState) → In x (before_reading p c stamp old).unasked.items → 1 ≤ x.piece
-    low_unasked x k = (numbered p c x (all_in (IsPieceAt p c) x (before_reading p c stamp old).unasked.items at_reading.unasked k)).0
+    low_unasked x k = (numbered p c x (all_in (IsPieceAt p c) x (before_reading p c stamp old).unasked.items
+        at_reading.unasked k)).0
 
     pub low_pieces : (x : PieceState) → In x (before_serving p c stamp old).pieces.items → 1 ≤ x.piece
-    low_pieces x k = (numbered p c x (all_in (IsPieceAt p c) x (before_serving p c stamp old).pieces.items at_serving.pieces k)).0
+    low_pieces x k = (numbered p c x (all_in (IsPieceAt p c) x (before_serving p c stamp old).pieces.items
+        at_serving.pieces k)).0
 
     -- the tick, as a fact
     abbrev pub ticked : TickedAt p lives c stamp.beat stamp.reading
     ticked = record { small = small; at = i; done = low; is = tick }
 
   -- what goes out at an input, by what that is
-  out_at : (i : ℕ) (k : Input Msg) (o : Out Msg) → lives.input c i ≡ k → In o (outs_at p c (lives.input c) i) → In o (deed_of p c k (store_at p c (lives.input c) i)).outs
+  out_at : (i : ℕ) (k : Input Msg) (o : Out Msg) → lives.input c i ≡ k → In o (outs_at p c (lives.input c) i)
+      → In o (deed_of p c k (store_at p c (lives.input c) i)).outs
   out_at i k o e h = subst (λ (q : Input Msg). In o (deed_of p c q (store_at p c (lives.input c) i)).outs) e h
 
   -- ---- reads
 
-  -- a read goes out at a tick, for a record
-  pub record IsAskAt (i : ℕ) (link : LinkNo) (w : Want) : Type 0 where
+  -- a read goes out at a tick
+  pub record IsAtTick (i : ℕ) : Type 0 where
     pub stamp : Stamp
     pub tick : lives.input c i ≡ Tick stamp
-    pub ask : IsAskFor p stamp (before_reading p c stamp (store_at p c (lives.input c) i)) link w
 
-  pub ask_at : (i : ℕ) (link : LinkNo) (w : Want) → i < lives.count c → In (out.Send link (msg.ReadAsk w)) (outs_at p c (lives.input c) i) → IsAskAt i link w
-  ask_at i link w low h = by_input (lives.input c i) refl
+  pub ask_tick : (i : ℕ) (link : LinkNo) (w : Want) → In (out.Send link (msg.ReadAsk w))
+      (outs_at p c (lives.input c) i) → IsAtTick i
+  ask_tick i link w h = by_input (lives.input c i) refl
     where
-      by_input : (k : Input Msg) → lives.input c i ≡ k → IsAskAt i link w
-      by_input (Take stamp way m) e = absurd (no_ask_taken p c stamp way m (store_at p c (lives.input c) i) (out.Send link (msg.ReadAsk w)) (out_at i (Take stamp way m) (out.Send link (msg.ReadAsk w)) e h) refl)
-      by_input (Tick stamp) e =
-          let g : Store = store_at p c (lives.input c) i in
-          let there = in_part is_ask _ _ (asks_in_reading p c stamp g) (out.Send link (msg.ReadAsk w)) (out_at i (Tick stamp) (out.Send link (msg.ReadAsk w)) e h) refl in
-          record { stamp = stamp; tick = e; ask = ask_for p stamp (before_reading p c stamp g) (low_unasked i low stamp e) link w there }
-
-  pub asks_fact : (i : ℕ) (link : LinkNo) (w : Want) → i < lives.count c → (a : IsAskAt i link w) → AsksAt p lives c a.ask.tenancy w.visit w.piece a.stamp.beat
-  asks_fact i link w low a = record { reading = a.stamp.reading; tick = ticked i low a.stamp a.tick; asks = a.ask.asks }
+      by_input : (k : Input Msg) → lives.input c i ≡ k → IsAtTick i
+      by_input (Take stamp way m) e = absurd (no_ask_taken p c stamp way m (store_at p c (lives.input c) i)
+          (out.Send link (msg.ReadAsk w)) (out_at i (Take stamp way m) (out.Send link (msg.ReadAsk w)) e h) refl)
+      by_input (Tick stamp) e = record { stamp = stamp; tick = e }
 
   -- ---- parts
 
@@ -121,37 +123,47 @@ module _ {p : Params} {lives : Lives} (plan : IsPlan p) (lived : AreLives p live
     pub tick : lives.input c i ≡ Tick stamp
     pub serve : IsServeOf p c stamp (before_serving p c stamp (store_at p c (lives.input c) i)) link w sent part
 
-  pub whole_at : (i : ℕ) (link : LinkNo) (w : Want) (sent : ℕ) (part : LibraryPart) → i < lives.count c → In (out.Send link (msg.Whole w sent part)) (outs_at p c (lives.input c) i)
+  pub whole_at : (i : ℕ) (link : LinkNo) (w : Want) (sent : ℕ) (part : LibraryPart) → i < lives.count c
+      → In (out.Send link (msg.Whole w sent part)) (outs_at p c (lives.input c) i)
       → (w.piece ≡ 0) × IsServeAt i link w sent part
   whole_at i link w sent part low h = by_input (lives.input c i) refl
     where
       by_input : (k : Input Msg) → lives.input c i ≡ k → (w.piece ≡ 0) × IsServeAt i link w sent part
-      by_input (Take stamp way m) e = absurd (no_parcel_taken p c stamp way m (store_at p c (lives.input c) i) (out.Send link (msg.Whole w sent part)) (out_at i (Take stamp way m) (out.Send link (msg.Whole w sent part)) e h) refl)
+      by_input (Take stamp way m) e = absurd (no_parcel_taken p c stamp way m (store_at p c (lives.input c) i)
+          (out.Send link (msg.Whole w sent part)) (out_at i (Take stamp way m)
+          (out.Send link (msg.Whole w sent part)) e h) refl)
       by_input (Tick stamp) e =
           let g : Store = store_at p c (lives.input c) i in
-          let there = in_part is_parcel _ _ (parcels_in_serving p c stamp g) (out.Send link (msg.Whole w sent part)) (out_at i (Tick stamp) (out.Send link (msg.Whole w sent part)) e h) refl in
+          let there = in_part is_parcel _ _ (parcels_in_serving p c stamp g) (out.Send link (msg.Whole w sent part))
+          (out_at i (Tick stamp) (out.Send link (msg.Whole w sent part)) e h) refl in
           let r = whole_for p c stamp (before_serving p c stamp g) link w sent part there in
           (r.0, record { stamp = stamp; tick = e; serve = r.1 })
 
-  pub piece_at : (i : ℕ) (link : LinkNo) (w : Want) (sent : ℕ) (part : LibraryPart) → i < lives.count c → In (out.Send link (msg.Piece w sent part)) (outs_at p c (lives.input c) i)
+  pub piece_at : (i : ℕ) (link : LinkNo) (w : Want) (sent : ℕ) (part : LibraryPart) → i < lives.count c
+      → In (out.Send link (msg.Piece w sent part)) (outs_at p c (lives.input c) i)
       → (1 ≤ w.piece) × IsServeAt i link w sent part
   piece_at i link w sent part low h = by_input (lives.input c i) refl
     where
       by_input : (k : Input Msg) → lives.input c i ≡ k → (1 ≤ w.piece) × IsServeAt i link w sent part
-      by_input (Take stamp way m) e = absurd (no_parcel_taken p c stamp way m (store_at p c (lives.input c) i) (out.Send link (msg.Piece w sent part)) (out_at i (Take stamp way m) (out.Send link (msg.Piece w sent part)) e h) refl)
+      by_input (Take stamp way m) e = absurd (no_parcel_taken p c stamp way m (store_at p c (lives.input c) i)
+          (out.Send link (msg.Piece w sent part)) (out_at i (Take stamp way m)
+          (out.Send link (msg.Piece w sent part)) e h) refl)
       by_input (Tick stamp) e =
           let g : Store = store_at p c (lives.input c) i in
-          let there = in_part is_parcel _ _ (parcels_in_serving p c stamp g) (out.Send link (msg.Piece w sent part)) (out_at i (Tick stamp) (out.Send link (msg.Piece w sent part)) e h) refl in
+          let there = in_part is_parcel _ _ (parcels_in_serving p c stamp g) (out.Send link (msg.Piece w sent part))
+          (out_at i (Tick stamp) (out.Send link (msg.Piece w sent part)) e h) refl in
           let r = piece_for p c stamp (before_serving p c stamp g) (low_pieces i low stamp e) link w sent part there in
           (r.0, record { stamp = stamp; tick = e; serve = r.1 })
 
-  pub serves_fact : (i : ℕ) (link : LinkNo) (w : Want) (sent : ℕ) (part : LibraryPart) → i < lives.count c → (a : IsServeAt i link w sent part)
+  pub serves_fact : (i : ℕ) (link : LinkNo) (w : Want) (sent : ℕ) (part : LibraryPart) → i < lives.count c
+      → (a : IsServeAt i link w sent part)
       → SendsPart p lives c a.serve.tenancy w.visit w.piece a.stamp.beat part
   serves_fact i link w sent part low a = record {
     reading = a.stamp.reading;
     tick = ticked i low a.stamp a.tick;
     serves = a.serve.serves;
-    stored = subst (λ (z : Want). stored_for z (before_serving p c a.stamp (store_at p c (lives.input c) i)).parts ≡ Some part) a.serve.same a.serve.stored;
+    stored = subst (λ (z : Want). stored_for z (before_serving p c a.stamp (store_at p c (lives.input c) i)).parts ≡
+        Some part) a.serve.same a.serve.stored;
   }
 
   -- and what was sent as a fact goes out
@@ -161,8 +173,10 @@ module _ {p : Params} {lives : Lives} (plan : IsPlan p) (lived : AreLives p live
       let stamp : Stamp = stamp_of b s.reading in
       let g : Store = store_at p c (lives.input c) s.tick.at in
       let goes = serves_out p c stamp (before_serving p c stamp g) t n j part s.serves s.stored in
-      let there : In (out.Send (way_to_viewers p c) (sends_as (want t n j) b part)) (ticking p c stamp g).outs = of_part is_parcel _ _ (parcels_in_serving p c stamp g) _ goes in
-      subst (λ (k : Input Msg). In (out.Send (way_to_viewers p c) (sends_as (want t n j) b part)) (deed_of p c k g).outs) (sym s.tick.is) there
+      let there : In (out.Send (way_to_viewers p c) (sends_as (want t n j) b part)) (ticking p c stamp g).outs =
+      of_part is_parcel _ _ (parcels_in_serving p c stamp g) _ goes in
+      subst (λ (k : Input Msg). In (out.Send (way_to_viewers p c) (sends_as (want t n j) b part))
+      (deed_of p c k g).outs) (sym s.tick.is) there
 
   -- ---- once
 
@@ -182,8 +196,10 @@ module _ {p : Params} {lives : Lives} (plan : IsPlan p) (lived : AreLives p live
             λ t n j a. record { reading = stamp.reading; tick = ticked i low stamp e; asks = a } in
             subst (λ (k : Input Msg). IsOne (asks w) (deed_of p c k g).outs) (sym e)
             (one_of_part is_ask (asks w) (ask_is_ask w) _ _ (asks_in_reading p c stamp g)
-            (ask_once p stamp h w (once_reading p c stamp g (always_once p c (lives.input c) i)) (low_unasked i low stamp e)
-            (λ t u n j a b slots. (right.one_ask c c n j stamp.beat stamp.beat t u (fact t n j a) (fact u n j b) slots).1)))
+            (ask_once p stamp h w (once_reading p c stamp g (always_once p c (lives.input c) i))
+            (low_unasked i low stamp e)
+            (λ t u n j a b slots. (right.one_ask c c n j stamp.beat stamp.beat t u (fact t n j a) (fact u n j b)
+            slots).1)))
 
     pub sends_one : (i : ℕ) (w : Want) → i < lives.count c → IsOne (sends w) (outs_at p c (lives.input c) i)
     sends_one i w low = by_input (lives.input c i) refl
@@ -196,9 +212,21 @@ module _ {p : Params} {lives : Lives} (plan : IsPlan p) (lived : AreLives p live
         by_input (Tick stamp) e =
             let g : Store = store_at p c (lives.input c) i in
             let h : Store = before_serving p c stamp g in
-            let fact : (t : Tenancy) (n j : ℕ) (a : LibraryPart) → IsToServe p stamp h t n j → stored_for (want t n j) h.parts ≡ Some a → ServesAt p lives c t n j stamp.beat =
-            λ t n j a s stored. record { part = a; sends = record { reading = stamp.reading; tick = ticked i low stamp e; serves = s; stored = stored } } in
+            let fact : (t : Tenancy) (n j : ℕ) (a : LibraryPart) → IsToServe p stamp h t n j
+            → stored_for (want t n j) h.parts ≡ Some a → ServesAt p lives c t n j stamp.beat =
+            λ t n j a s stored. record {
+              part = a;
+              sends = record {
+                reading = stamp.reading;
+                tick = ticked i low
+                    stamp e;
+                serves = s;
+                stored = stored;
+              };
+            } in
             subst (λ (k : Input Msg). IsOne (sends w) (deed_of p c k g).outs) (sym e)
             (one_of_part is_parcel (sends w) (send_is_parcel w) _ _ (parcels_in_serving p c stamp g)
-            (serve_once p c stamp h w (once_serving p c stamp g (always_once p c (lives.input c) i)) (low_pieces i low stamp e)
-            (λ t u n j a b one two first second slots. (right.one_sent c c n j stamp.beat stamp.beat t u (fact t n j a one first) (fact u n j b two second) slots).1)))
+            (serve_once p c stamp h w (once_serving p c stamp g (always_once p c (lives.input c) i))
+            (low_pieces i low stamp e)
+            (λ t u n j a b one two first second slots. (right.one_sent c c n j stamp.beat stamp.beat t u
+            (fact t n j a one first) (fact u n j b two second) slots).1)))

@@ -1,6 +1,7 @@
 -- Why a read failed, by the journal of the disk that has what was wanted.
 use Rattle.std.proofs.Common.{◌≡◌, ℕ, zero, suc, ◌+◌, ◌<◌, ◌≤◌, List, true, false, cond, None, Some, Option, refl, sym, ap, subst, ◌∙◌, arith, ⊎_elim, inl, inr}
 use Rattle.std.specs.Prelude.{◌⊎◌, ◌==◌, ◌*◌, ◌&&◌, ◌-◌, max, nat_le, nat_lt}
+use Rattle.std.specs.List.{list_any}
 use Rattle.std.proofs.lemmas.Bool.{cases_Bool, ne_eqb}
 use Rattle.tiger_base.specs.declared.number.LinkNo.{LinkNo}
 use Rattle.tiger_base.specs.declared.number.Stamp.{Stamp}
@@ -31,10 +32,10 @@ use Rattle.run_claims.specs.Truths.{Lasts}
 use Rattle.cub_rules.specs.State.{IsPieceAt}
 use Rattle.disk_core.specs.State.{DiskState}
 use Rattle.disk_core.specs.Rules.{strikes, is_faulty, part_for, read_part}
-use Rattle.schedule_laws.specs.Lives.{store_at}
+use Rattle.schedule_laws.specs.Lives.{store_at, beat_at}
 use Rattle.schedule_laws.specs.Facts.{TookMessage}
 use Rattle.schedule_laws.proofs.Members.{all_in}
-use Rattle.schedule_views.proofs.Journals.{inputs_of}
+use Rattle.proof_journals.proofs.Journals.{inputs_of}
 use Rattle.proof_moments.specs.Ties.{StandsIn}
 use Rattle.proof_places.specs.Disks.{disk_at, part_at}
 use Rattle.cub_facts.specs.Blocks.{AnsweredAt, blocks_by}
@@ -44,6 +45,7 @@ use Rattle.cub_facts.specs.Rings.{HaveImages, node_of_disk}
 use Rattle.proof_links.proofs.Carrying.{Came, came_from, took_from, from_cub}
 use Rattle.proof_links.proofs.Nodes.{lived, sender, by_rules, event_is, lives_on, beat_same, SentByDisk}
 use Rattle.proof_links.proofs.Ways.{is_to_disk}
+use Rattle.proof_parts.proofs.AskLives.{read_for}
 use Rattle.proof_journals.proofs.Events.{AreKept}
 use Rattle.proof_delivery.specs.Ties.{IsRefusedAt, DisksTell}
 use Rattle.proof_parcels.specs.Parcels.{HaveFaults}
@@ -56,11 +58,13 @@ unfolding part_for
 lacks m t n zero e = e
 lacks m t n (suc k) e =
     let f : (suc k == 0) ≡ false = ne_eqb _ _ (λ q. absurd (omega arith)) in
-    let chosen_is : (cond (suc k == 0) (block_part m t.file (n - t.first)) (piece_part m t.file (n - t.first) (suc k))) ≡ piece_part m t.file (n - t.first) (suc k) = rw f refl in
+    let chosen_is : (cond (suc k == 0) (block_part m t.file (n - t.first)) (piece_part m t.file (n - t.first)
+    (suc k))) ≡ piece_part m t.file (n - t.first) (suc k) = rw f refl in
     sym chosen_is ∙ e
 
 -- a disk that gives nothing has a fault, or lacks the part
-refuses : (s : DiskState) (b : ℕ) (w : Want) → None ≡ read_part s b w → (is_faulty s.faults s.disk b ≡ true) ⊎ (part_for s.image w ≡ None)
+refuses : (s : DiskState) (b : ℕ) (w : Want) → None ≡ read_part s b w → (is_faulty s.faults s.disk b ≡ true)
+    ⊎ (part_for s.image w ≡ None)
 unfolding read_part
 refuses s b w e = ⊎_elim
     (λ (t : is_faulty s.faults s.disk b ≡ true). inl t)
@@ -79,9 +83,11 @@ strikes_last disk b x t =
 -- the ways to two disks are one only if the disks are
 same_disk : (p : Params) (d e : ℕ) → way_to_disk p d ≡ way_to_disk p e → d ≡ e
 unfolding way_to_disk
-same_disk p d e q = let n : 3 * p.cubs + p.cubs * max 2 p.pieces + d ≡ 3 * p.cubs + p.cubs * max 2 p.pieces + e = ap (λ (l : LinkNo). l.0) q in omega arith
+same_disk p d e q = let n : 3 * p.cubs + p.cubs * max 2 p.pieces + d ≡ 3 * p.cubs + p.cubs * max 2 p.pieces + e = ap
+    (λ (l : LinkNo). l.0) q in omega arith
 
-module _ {S : Type 0} {step : S → Input Msg → Deed Msg S} {p : Params} {orders : List Order} {disks : ℕ → DiskState} {h : History Msg S} {journals : List (List Entry)}
+module _ {S : Type 0} {step : S → Input Msg → Deed Msg S} {p : Params} {orders : List Order} {disks : ℕ → DiskState}
+    {h : History Msg S} {journals : List (List Entry)}
     (kept : AreKept step p orders disks h journals) where
   -- what a disk answered it was asked for by a cub, on the way of what was wanted
   pub record IsRead (w : Want) (part : Option LibraryPart) (y : ℕ) : Type 0 where
@@ -90,11 +96,13 @@ module _ {S : Type 0} {step : S → Input Msg → Deed Msg S} {p : Params} {orde
     pub is : disk ≡ disk_at p w.visit w.piece
     pub stamp : Stamp
     pub link : LinkNo
-    pub stands : StandsIn journals (node_of_disk p disk) (record { stamp = stamp; what = what.Got link (note.ReadAsk w) })
+    pub stands : StandsIn journals (node_of_disk p disk)
+        (record { stamp = stamp; what = what.Got link (note.ReadAsk w) })
     pub before : stamp.beat < y
     pub gives : part ≡ read_part (disks disk) stamp.beat w
 
-  pub is_read : {c y : ℕ} {w : Want} {part : Option LibraryPart} → TookMessage p (lives_of h) c (msg.ReadDone w part) y → IsRead w part y
+  pub is_read : {c y : ℕ} {w : Want} {part : Option LibraryPart} → TookMessage p (lives_of h) c
+      (msg.ReadDone w part) y → IsRead w part y
   is_read {c} {y} {w} {part} g =
       let f = took_from kept.plan kept.ring g in
       ⊎_elim
@@ -102,7 +110,8 @@ module _ {S : Type 0} {step : S → Input Msg → Deed Msg S} {p : Params} {orde
       (λ q. ⊎_elim (λ said. by_disk f said) (λ k. absurd k.1) q)
       (sender kept.plan kept.ring f.from f.at g.link (msg.ReadDone w part) f.known f.note.done f.sent)
     where
-      by_disk : (f : Came kept.plan kept.ring c g.at y g.link (msg.ReadDone w part)) → SentByDisk kept.plan kept.ring f.from f.at g.link (msg.ReadDone w part) → IsRead w part y
+      by_disk : (f : Came kept.plan kept.ring c g.at y g.link (msg.ReadDone w part))
+          → SentByDisk kept.plan kept.ring f.from f.at g.link (msg.ReadDone w part) → IsRead w part y
       by_disk f said =
           let d : ℕ = said.disk in
           let a = said.answer in
@@ -113,55 +122,85 @@ module _ {S : Type 0} {step : S → Input Msg → Deed Msg S} {p : Params} {orde
           let all = lives_on kept.plan kept.ring f.from f.known other in
           let done = f.note.done in
           let alive : f.at < living h f.from = omega arith in
-          let asked = came_from kept.plan kept.ring f.from f.at a.stamp a.link (msg.ReadAsk a.want) f.known alive a.ask in
+          let asked = came_from kept.plan kept.ring f.from f.at a.stamp a.link (msg.ReadAsk a.want) f.known alive
+          a.ask in
           let own = from_cub kept.plan kept.ring asked (λ q. q) (λ q. q) in
-          let to = is_to_disk p asked.from d a.link kept.plan said.low (asked.ends ∙ ap (λ k. Some (asked.from, k)) said.node) in
-          let rule = by_rules kept.plan kept.ring asked.from asked.at (out.Send a.link (msg.ReadAsk a.want)) own asked.note.done asked.sent in
-          let ask = cubs.ask_at kept.plan (lived kept.plan kept.ring) asked.from own asked.at a.link a.want rule.0 rule.1 in
-          let event : h.event f.from f.at ≡ Does (Take a.stamp a.link (msg.ReadAsk a.want)) = event_is kept.plan kept.ring f.from f.at f.known alive ∙ ap (λ (x : Input Msg). Does x) a.ask in
-          let stands : StandsIn journals f.from (record { stamp = a.stamp; what = what.Got a.link (note.ReadAsk a.want) }) =
-          stands_written kept f.from f.at _ f.known f.note.done (event_writes_got step (h.event f.from f.at) (past noted step h f.from f.at) a.stamp a.link (msg.ReadAsk a.want) event) in
-          let when : beat h f.from f.at ≡ a.stamp.beat = beat_same kept.plan kept.ring f.from f.at ∙ ap (λ (k : Input Msg). (stamp_of k).beat) a.ask in
+          let to = is_to_disk p asked.from d a.link kept.plan said.low (asked.ends
+          ∙ ap (λ k. Some (asked.from, k)) said.node) in
+          let rule = by_rules kept.plan kept.ring asked.from asked.at (out.Send a.link (msg.ReadAsk a.want)) own
+          asked.note.done asked.sent in
+          let ask = read_for p kept.plan (lives_of h) (lived kept.plan kept.ring) asked.from
+          (beat_at (inputs_of h asked.from) asked.at) a.link a.want
+          (record { small = own; at = asked.at; done = rule.0; in_beat = refl; did = rule.1 }) in
+          let event : h.event f.from f.at ≡ Does (Take a.stamp a.link (msg.ReadAsk a.want)) = event_is kept.plan
+          kept.ring f.from f.at f.known alive ∙ ap (λ (x : Input Msg). Does x) a.ask in
+          let stands : StandsIn journals f.from (record {
+            stamp = a.stamp;
+            what = what.Got a.link
+                (note.ReadAsk a.want);
+          }) =
+          stands_written kept f.from f.at _ f.known f.note.done (event_writes_got step (h.event f.from f.at)
+          (past noted step h f.from f.at) a.stamp a.link (msg.ReadAsk a.want) event) in
+          let when : beat h f.from f.at ≡ a.stamp.beat = beat_same kept.plan kept.ring f.from f.at
+          ∙ ap (λ (k : Input Msg). (stamp_of k).beat) a.ask in
           let later = f.later in
           subst (λ (z : Want). IsRead z part y) (sym wants) (record {
             disk = d;
             low = said.low;
-            is = same_disk p d (disk_at p a.want.visit a.want.piece) (sym to.0 ∙ ask.ask.way);
+            is = same_disk p d (disk_at p a.want.visit a.want.piece) (sym to.0 ∙ ask.way);
             stamp = a.stamp;
             link = a.link;
-            stands = subst (λ (k : ℕ). StandsIn journals k (record { stamp = a.stamp; what = what.Got a.link (note.ReadAsk a.want) })) said.node stands;
+            stands = subst (λ (k : ℕ). StandsIn journals k (record {
+              stamp = a.stamp;
+              what = what.Got a.link
+                  (note.ReadAsk a.want);
+            })) said.node stands;
             before = omega arith;
             gives = parts;
           })
 
   module _ (c : Catalogue) (faults : List ReadFault) (images : HaveImages p c disks) (fault : HaveFaults p faults disks) where
-    refused : (k n j y : ℕ) (t : Tenancy) → AnsweredAt p (lives_of h) k t n j y None → IsRefusedAt p c (blocks_by p (lives_of h) disks) journals t n j y
+    refused : (k n j y : ℕ) (t : Tenancy) → AnsweredAt p (lives_of h) k t n j y None
+        → IsRefusedAt p c (blocks_by p (lives_of h) disks) journals t n j y
     refused k n j y t a =
         let w : Want = want t n j in
-        let r = is_read {c = k} {y = y} {w = w} {part = None} (record { small = a.small; at = a.at; done = a.done; reading = a.reading; link = a.link; is = a.is }) in
+        let r = is_read {c = k} {y = y} {w = w} {part = None}
+        (record { small = a.small; at = a.at; done = a.done; reading = a.reading; link = a.link; is = a.is }) in
         let g = store_at p k (inputs_of h k) a.at in
         let few : j ≤ p.pieces = ⊎_elim
         (λ o. let z = o.0 in omega arith)
-        (λ q. (cubs.numbered p k _ (all_in (IsPieceAt p k) _ g.pieces.items (cubs.kept kept.plan (lived kept.plan kept.ring) k a.small a.at a.done).pieces q.1)).1)
+        (λ q. (cubs.numbered p k _ (all_in (IsPieceAt p k) _ g.pieces.items
+        (cubs.kept kept.plan (lived kept.plan kept.ring) k a.small a.at a.done).pieces q.1)).1)
         a.there in
         let d : ℕ = disk_at p n j in
         let low : d < disk_count p = subst (λ (x : ℕ). x < disk_count p) r.is r.low in
         let number = (kept.ring.rules.are_disks d low).number in
-        let gives : None ≡ read_part (disks d) r.stamp.beat w = r.gives ∙ ap (λ (x : ℕ). read_part (disks x) r.stamp.beat w) r.is in
+        let gives : None ≡ read_part (disks d) r.stamp.beat w = r.gives
+        ∙ ap (λ (x : ℕ). read_part (disks x) r.stamp.beat w) r.is in
         record {
           few = few;
           entry = record { stamp = r.stamp; what = what.Got r.link (note.ReadAsk w) };
-          stands = subst (λ (x : ℕ). StandsIn journals (node_of_disk p x) (record { stamp = r.stamp; what = what.Got r.link (note.ReadAsk w) })) r.is r.stands;
+          stands = subst (λ (x : ℕ). StandsIn journals (node_of_disk p x)
+              (record { stamp = r.stamp; what = what.Got r.link (note.ReadAsk w) })) r.is r.stands;
           link = r.link;
           got = refl;
           before = r.before;
           why = ⊎_elim
               (λ s. inl (subst (λ (x : ℕ). is_faulty (disks d).faults x r.stamp.beat ≡ true) number s))
-              (λ s. inr ((disks d).image, record { catalogue = images.files d low; pieces = images.pieces d low; disk = images.disk d low }, lacks (disks d).image t n j s))
+              (λ s. inr (
+                (disks d).image,
+                record {
+                  catalogue = images.files d low;
+                  pieces = images.pieces d low;
+                  disk = images.disk d low;
+                },
+                lacks (disks d).image t n j s,
+              ))
               (refuses (disks d) r.stamp.beat w gives);
         }
 
-    struck : (disk b : ℕ) → disk < disk_count p → is_faulty (disks disk).faults disk b ≡ true → AnyByRecursion (Lasts disk b) faults
+    struck : (disk b : ℕ) → disk < disk_count p → is_faulty (disks disk).faults disk b ≡ true
+        → AnyByRecursion (Lasts disk b) faults
     unfolding is_faulty
     struck disk b low t =
         any_found (Lasts disk b) (strikes disk b) (strikes_last disk b) faults (fault disk b low t)

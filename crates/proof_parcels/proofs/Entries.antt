@@ -1,4 +1,5 @@
--- Which output an entry of a sent message tells of, and which entry an output has; and where the entries of later events stand.
+-- Which output an entry of a sent message tells of, and which entry an output has; and where the entries of later
+-- events stand.
 use Rattle.std.proofs.Common.{◌≡◌, ℕ, zero, suc, ◌<◌, ◌≤◌, List, [], ◌∷◌, ◌++◌, map, refl, sym, ap, subst, ◌∙◌, arith, ⊎_elim, inl, inr, append_assoc, eq-or-lt_of_le}
 use Rattle.std.specs.List.{AllByRecursion}
 use Rattle.tiger_base.specs.declared.number.LinkNo.{LinkNo}
@@ -25,8 +26,8 @@ use Rattle.disk_core.specs.State.{DiskState}
 use Rattle.node_kit.specs.declared.course.Order.{Order}
 use Rattle.schedule_laws.specs.Lives.{In}
 use Rattle.schedule_laws.proofs.Members.{in_left, in_right, in_map, from_map, all_in}
-use Rattle.schedule_moments.proofs.Written.{journal_keeps, one_event_more}
-use Rattle.schedule_views.proofs.Journals.{so_far, wrote}
+use Rattle.proof_journals.proofs.Written.{journal_keeps, one_event_more}
+use Rattle.proof_journals.proofs.Journals.{so_far, wrote}
 use Rattle.proof_moments.specs.Members as members
 use Rattle.proof_moments.specs.Ties.{StandsIn}
 use Rattle.cub_facts.specs.Rings.{node_count}
@@ -39,7 +40,8 @@ pub ask_back : (m : Msg) (w : Want) → noted m ≡ note.ReadAsk w → m ≡ msg
 ask_back (msg.ReadAsk v) w e = let q : v ≡ w = cc in ap (λ (z : Want). msg.ReadAsk z) q
 ask_back other w e = absurd (cc)
 
-pub whole_back : (m : Msg) (w : Want) (sent : ℕ) (span : Span) → noted m ≡ note.Whole w sent span → (part : LibraryPart) × (m ≡ msg.Whole w sent part) × (part.span ≡ span)
+pub whole_back : (m : Msg) (w : Want) (sent : ℕ) (span : Span) → noted m ≡ note.Whole w sent span
+    → (part : LibraryPart) × (m ≡ msg.Whole w sent part) × (part.span ≡ span)
 whole_back (msg.Whole v s part) w sent span e =
     let q : v ≡ w = cc in
     let r : s ≡ sent = cc in
@@ -47,7 +49,8 @@ whole_back (msg.Whole v s part) w sent span e =
     (part, ap (λ (y : Want). msg.Whole y s part) q ∙ ap (λ (y : ℕ). msg.Whole w y part) r, z)
 whole_back other w sent span e = absurd (cc)
 
-pub piece_back : (m : Msg) (w : Want) (sent : ℕ) (span : Span) → noted m ≡ note.Piece w sent span → (part : LibraryPart) × (m ≡ msg.Piece w sent part) × (part.span ≡ span)
+pub piece_back : (m : Msg) (w : Want) (sent : ℕ) (span : Span) → noted m ≡ note.Piece w sent span
+    → (part : LibraryPart) × (m ≡ msg.Piece w sent part) × (part.span ≡ span)
 piece_back (msg.Piece v s part) w sent span e =
     let q : v ≡ w = cc in
     let r : s ≡ sent = cc in
@@ -58,7 +61,8 @@ piece_back other w sent span e = absurd (cc)
 -- ---- one event
 
 -- an output that is written as a message that was sent is that message
-send_is : (p : Params) (n : ℕ) (o : Out Msg) (link : LinkNo) (m : Note) → IsAllowed noted p n o → what_of noted o ≡ what.Sent link m
+send_is : (p : Params) (n : ℕ) (o : Out Msg) (link : LinkNo) (m : Note) → IsAllowed noted p n o
+    → what_of noted o ≡ what.Sent link m
     → (x : Msg) × (noted x ≡ m) × (o ≡ out.Send link x)
 send_is p n (out.Send way x) link m fair e =
     let ways : way ≡ link = cc in
@@ -72,11 +76,13 @@ pub record IsSend (outs : List (Out Msg)) (link : LinkNo) (m : Note) : Type 0 wh
   pub same : noted message ≡ m
   pub sent : In (out.Send link message) outs
 
-outs_sent : (p : Params) (n : ℕ) (stamp : Stamp) (os : List (Out Msg)) (e : Entry) (link : LinkNo) (m : Note) → AllByRecursion (IsAllowed noted p n) os
+outs_sent : (p : Params) (n : ℕ) (stamp : Stamp) (os : List (Out Msg)) (e : Entry) (link : LinkNo) (m : Note)
+    → AllByRecursion (IsAllowed noted p n) os
     → In e (map (entry_of noted stamp) os) → e.what ≡ what.Sent link m → IsSend os link m
 outs_sent p n stamp os e link m fair i is =
     let r = from_map (entry_of noted stamp) e os i in
-    let k = send_is p n r.0 link m (all_in (IsAllowed noted p n) r.0 os fair r.1) (ap (λ (x : Entry). x.what) (sym r.2) ∙ is) in
+    let k = send_is p n r.0 link m (all_in (IsAllowed noted p n) r.0 os fair r.1) (ap (λ (x : Entry). x.what)
+    (sym r.2) ∙ is) in
     record { message = k.0; same = k.1; sent = subst (λ (x : Out Msg). In x os) k.2 r.1 }
 
 -- ---- later events
@@ -114,43 +120,57 @@ behind_here j more e f i k =
     }
 
 module _ {S : Type 0} (step : S → Input Msg → Deed Msg S) where
-  pub event_sent : (p : Params) (n : ℕ) (ev : NodeEvent Msg) (before : Past S) (e : Entry) (link : LinkNo) (m : Note) → AllByRecursion (IsAllowed noted p n) (outs_of step ev before)
+  pub event_sent : (p : Params) (n : ℕ) (ev : NodeEvent Msg) (before : Past S) (e : Entry) (link : LinkNo)
+      (m : Note) → AllByRecursion (IsAllowed noted p n) (outs_of step ev before)
       → In e (entries_at noted step ev before) → e.what ≡ what.Sent link m → IsSend (outs_of step ev before) link m
   event_sent p n (Does (Take stamp way x)) before e link m fair i is = ⊎_elim
-      (λ q. let both : what.Got way (noted x) ≡ what.Sent link m = ap (λ (z : Entry). z.what) (sym q) ∙ is in absurd (cc))
+      (λ q. let both : what.Got way (noted x) ≡ what.Sent link m = ap (λ (z : Entry). z.what) (sym q)
+      ∙ is in absurd (cc))
       (λ k. outs_sent p n stamp (kept_outs step (Take stamp way x) before) e link m fair k is)
       i
-  event_sent p n (Does (Tick stamp)) before e link m fair i is = outs_sent p n stamp (kept_outs step (Tick stamp) before) e link m fair i is
+  event_sent p n (Does (Tick stamp)) before e link m fair i is = outs_sent p n stamp
+      (kept_outs step (Tick stamp) before) e link m fair i is
   event_sent p n (Dies stamp) before e link m fair i is = ⊎_elim
       (λ q. let both : what.Died ≡ what.Sent link m = ap (λ (z : Entry). z.what) (sym q) ∙ is in absurd (cc))
       (λ k. absurd k)
       i
 
-  pub event_writes_out : (ev : NodeEvent Msg) (before : Past S) (o : Out Msg) → In o (outs_of step ev before) → In (entry_of noted (stamp_at ev) o) (entries_at noted step ev before)
-  event_writes_out (Does (Take stamp link m)) before o k = inr (in_map (entry_of noted stamp) o (kept_outs step (Take stamp link m) before) k)
-  event_writes_out (Does (Tick stamp)) before o k = in_map (entry_of noted stamp) o (kept_outs step (Tick stamp) before) k
+  pub event_writes_out : (ev : NodeEvent Msg) (before : Past S) (o : Out Msg) → In o (outs_of step ev before)
+      → In (entry_of noted (stamp_at ev) o) (entries_at noted step ev before)
+  event_writes_out (Does (Take stamp link m)) before o k = inr (in_map (entry_of noted stamp) o
+      (kept_outs step (Take stamp link m) before) k)
+  event_writes_out (Does (Tick stamp)) before o k = in_map (entry_of noted stamp) o
+      (kept_outs step (Tick stamp) before) k
   event_writes_out (Dies stamp) before o k = absurd k
 
   -- what a node took it wrote
-  pub event_writes_got : (ev : NodeEvent Msg) (before : Past S) (stamp : Stamp) (link : LinkNo) (m : Msg) → ev ≡ Does (Take stamp link m)
+  pub event_writes_got : (ev : NodeEvent Msg) (before : Past S) (stamp : Stamp) (link : LinkNo) (m : Msg)
+      → ev ≡ Does (Take stamp link m)
       → In (record { stamp = stamp; what = what.Got link (noted m) }) (entries_at noted step ev before)
   event_writes_got ev before stamp link m e =
-      subst (λ (v : NodeEvent Msg). In (record { stamp = stamp; what = what.Got link (noted m) }) (entries_at noted step v before)) (sym e) (inl refl)
+      subst (λ (v : NodeEvent Msg). In (record { stamp = stamp; what = what.Got link (noted m) })
+      (entries_at noted step v before)) (sym e) (inl refl)
 
   module _ (h : History Msg S) (n : ℕ) where
     -- what a later event wrote stands behind
-    pub later_behind : (i k j : ℕ) (e f : Entry) → i < k → k < j → In e (wrote step h n i) → In f (wrote step h n k) → StandsBehind (so_far step h n j) e f
+    pub later_behind : (i k j : ℕ) (e f : Entry) → i < k → k < j → In e (wrote step h n i) → In f (wrote step h n k)
+        → StandsBehind (so_far step h n j) e f
     later_behind i k zero e f first second x y = absurd (omega arith)
-    later_behind i k (suc j) e f first second x y = subst (λ (l : List Entry). StandsBehind l e f) (sym (one_event_more step h n j)) (⊎_elim
-        (λ (q : k ≡ j). behind_here (so_far step h n j) (wrote step h n j) e f (journal_keeps step h n i j e (omega arith) x) (subst (λ (m : ℕ). In f (wrote step h n m)) q y))
+    later_behind i k (suc j) e f first second x y = subst (λ (l : List Entry). StandsBehind l e f)
+        (sym (one_event_more step h n j)) (⊎_elim
+        (λ (q : k ≡ j). behind_here (so_far step h n j) (wrote step h n j) e f (journal_keeps step h n i j e
+        (omega arith) x) (subst (λ (m : ℕ). In f (wrote step h n m)) q y))
         (λ (l : k < j). behind_more (so_far step h n j) (wrote step h n j) e f (later_behind i k j e f first l x y))
         (eq-or-lt_of_le (let z : k ≤ j = omega arith in z)))
 
     -- and so does what the same event wrote behind
-    pub same_behind : (i j : ℕ) (e f : Entry) → i < j → StandsBehind (wrote step h n i) e f → StandsBehind (so_far step h n j) e f
+    pub same_behind : (i j : ℕ) (e f : Entry) → i < j → StandsBehind (wrote step h n i) e f
+        → StandsBehind (so_far step h n j) e f
     same_behind i zero e f low b = absurd (omega arith)
-    same_behind i (suc j) e f low b = subst (λ (l : List Entry). StandsBehind l e f) (sym (one_event_more step h n j)) (⊎_elim
-        (λ (q : i ≡ j). behind_front (so_far step h n j) (wrote step h n j) (subst (λ (m : ℕ). StandsBehind (wrote step h n m) e f) q b))
+    same_behind i (suc j) e f low b = subst (λ (l : List Entry). StandsBehind l e f)
+        (sym (one_event_more step h n j)) (⊎_elim
+        (λ (q : i ≡ j). behind_front (so_far step h n j) (wrote step h n j)
+        (subst (λ (m : ℕ). StandsBehind (wrote step h n m) e f) q b))
         (λ (l : i < j). behind_more (so_far step h n j) (wrote step h n j) e f (same_behind i j e f l b))
         (eq-or-lt_of_le (let z : i ≤ j = omega arith in z)))
       where
@@ -164,7 +184,8 @@ module _ {S : Type 0} (step : S → Input Msg → Deed Msg S) where
 
 -- ---- a ring
 
-module _ {S : Type 0} {step : S → Input Msg → Deed Msg S} {p : Params} {orders : List Order} {disk_at : ℕ → DiskState} {h : History Msg S} {journals : List (List Entry)}
+module _ {S : Type 0} {step : S → Input Msg → Deed Msg S} {p : Params} {orders : List Order} {disk_at : ℕ
+    → DiskState} {h : History Msg S} {journals : List (List Entry)}
     (kept : AreKept step p orders disk_at h journals) where
   -- a message that an entry says was sent was put out in an event of its node
   pub record SentIn (n : ℕ) (e : Entry) (link : LinkNo) (m : Note) : Type 0 where
@@ -174,7 +195,8 @@ module _ {S : Type 0} {step : S → Input Msg → Deed Msg S} {p : Params} {orde
     pub there : In e (wrote step h n at)
     pub send : IsSend (outs noted step h n at) link m
 
-  pub sent_in : (n : ℕ) (e : Entry) (link : LinkNo) (m : Note) → StandsIn journals n e → e.what ≡ what.Sent link m → SentIn n e link m
+  pub sent_in : (n : ℕ) (e : Entry) (link : LinkNo) (m : Note) → StandsIn journals n e → e.what ≡ what.Sent link m
+      → SentIn n e link m
   sent_in n e link m s is =
       let w = written_in kept n e s in
       record {
@@ -182,16 +204,20 @@ module _ {S : Type 0} {step : S → Input Msg → Deed Msg S} {p : Params} {orde
         at = w.1.at;
         done = w.1.before;
         there = w.1.there;
-        send = event_sent step p n (h.event n w.1.at) (past noted step h n w.1.at) e link m (kept.ring.run.fair n w.1.at w.0 w.1.before) w.1.there is;
+        send = event_sent step p n (h.event n w.1.at) (past noted step h n w.1.at) e link m
+            (kept.ring.run.fair n w.1.at w.0 w.1.before) w.1.there is;
       }
 
   -- what an event wrote stands in the journal
-  pub stands_written : (n i : ℕ) (e : Entry) → n < node_count p → i < h.count n → In e (wrote step h n i) → StandsIn journals n e
+  pub stands_written : (n i : ℕ) (e : Entry) → n < node_count p → i < h.count n → In e (wrote step h n i)
+      → StandsIn journals n e
   stands_written n i e known low k = record {
     journal = (last_of noted step h n).journal;
     at = kept.are.writes n known;
     there = in_moments e _ (journal_keeps step h n i (h.count n) e low k);
   }
 
-  pub stands_out : (n i : ℕ) (o : Out Msg) → n < node_count p → i < h.count n → In o (outs noted step h n i) → StandsIn journals n (entry_of noted (stamp_at (h.event n i)) o)
-  stands_out n i o known low k = stands_written n i (entry_of noted (stamp_at (h.event n i)) o) known low (event_writes_out step (h.event n i) (past noted step h n i) o k)
+  pub stands_out : (n i : ℕ) (o : Out Msg) → n < node_count p → i < h.count n → In o (outs noted step h n i)
+      → StandsIn journals n (entry_of noted (stamp_at (h.event n i)) o)
+  stands_out n i o known low k = stands_written n i (entry_of noted (stamp_at (h.event n i)) o) known low
+      (event_writes_out step (h.event n i) (past noted step h n i) o k)

@@ -1,4 +1,5 @@
--- A read that a cub writes down as failed is one of which a disk told it so, for a record that it had; and each such one is written down.
+-- A read that a cub writes down as failed is one of which a disk told it so, for a record that it had; and each such
+-- one is written down.
 use Rattle.std.proofs.Common.{◌≡◌, ℕ, ◌≤◌, List, [], ◌∷◌, Bool, true, false, Option, Some, None, refl, sym, ap, subst, ◌∙◌, ⊎_elim, inl, inr}
 use Rattle.std.specs.Prelude.{◌&&◌}
 use Rattle.std.specs.List.{list_any}
@@ -48,11 +49,12 @@ use Rattle.proof_parts.proofs.Storing.{answer_kept}
 use Rattle.cub_facts.specs.Pieces.{piece, want, HasOwn}
 use Rattle.cub_facts.specs.Blocks.{HasRecord}
 use Rattle.proof_parcels.proofs.Apart.{AreApart, OtherKey, IsOnce}
-use Rattle.proof_parcels.proofs.AskOuts.{own_rec}
+use Rattle.proof_parcels.proofs.ServeOuts.{own_rec}
 
 -- ---- which event writes that a read failed
 
-failed_form : (p : Params) (c : ℕ) (stamp : Stamp) (f : Output) (w : Want) → out.Act (what.ReadFailed w) ≡ output p c stamp f → f ≡ ReadFailed w
+failed_form : (p : Params) (c : ℕ) (stamp : Stamp) (f : Output) (w : Want) → out.Act (what.ReadFailed w) ≡ output p
+    c stamp f → f ≡ ReadFailed w
 failed_form p c stamp (ReadFailed v) w e = let q : w ≡ v = cc in ap (λ (z : Want). ReadFailed z) (sym q)
 failed_form p c stamp other w e = absurd (cc)
 
@@ -71,13 +73,22 @@ no_part_is (msg.ReadDone v None) w e = ap (λ (z : Want). msg.ReadDone z None) (
 no_part_is (msg.ReadDone v (Some part)) w e = absurd e
 no_part_is other w e = absurd e
 
-cause : (p : Params) (c : ℕ) (i : Input Msg) (h : Store) (w : Want) → In (out.Act (what.ReadFailed w)) (deed_of p c i h).outs
+cause : (p : Params) (c : ℕ) (i : Input Msg) (h : Store) (w : Want) → In (out.Act (what.ReadFailed w))
+    (deed_of p c i h).outs
     → (g : Stage) × (from : Store) × (before : Store) × IsStageOf i h g from × IsAnswer g w None before
 cause p c i h w k =
     let o : Out Msg = out.Act (what.ReadFailed w) in
-    let why = all_in (HasCause p c i h) o (cub_step (cub_with p c h) i).outs (have_causes (cub_with p c h) i) (subst (λ (os : List (Out Msg)). In o os) (sym (cub_outs p c h i)) k) in
-    let comes = subst (λ (f : Output). ComesOf p c (stamp_of i) why.change why.before f) (failed_form p c (stamp_of i) why.form w why.is) why.comes in
-    (why.stage, why.from, why.before, why.of_event, subst (λ (x : Change). Cause p c (stamp_of i) why.stage why.from x why.before) comes why.cause)
+    let why = all_in (HasCause p c i h) o (cub_step (cub_with p c h) i).outs (have_causes (cub_with p c h) i)
+    (subst (λ (os : List (Out Msg)). In o os) (sym (cub_outs p c h i)) k) in
+    let comes = subst (λ (f : Output). ComesOf p c (stamp_of i) why.change why.before f)
+    (failed_form p c (stamp_of i) why.form w why.is) why.comes in (
+      why.stage,
+      why.from,
+      why.before,
+      why.of_event,
+      subst (λ (x : Change). Cause p c (stamp_of i) why.stage why.from
+          x why.before) comes why.cause,
+    )
 
 -- it is one that takes an answer without a part, in form, to a want that is still there
 pub record IsFailedRead (p : Params) (i : Input Msg) (h : Store) (w : Want) : Type 0 where
@@ -87,26 +98,34 @@ pub record IsFailedRead (p : Params) (i : Input Msg) (h : Store) (w : Want) : Ty
   pub formed : is_in_form p (noted (msg.ReadDone w None)) ≡ true
   pub wanted : is_wanted w h ≡ true
 
-answered : (p : Params) (c : ℕ) (stamp : Stamp) (link : LinkNo) (w : Want) (h : Store) → In (out.Act (what.ReadFailed w)) (taking p c stamp link (msg.ReadDone w None) h).outs
+answered : (p : Params) (c : ℕ) (stamp : Stamp) (link : LinkNo) (w : Want) (h : Store)
+    → In (out.Act (what.ReadFailed w)) (taking p c stamp link (msg.ReadDone w None) h).outs
     → (is_in_form p (noted (msg.ReadDone w None)) ≡ true) × (is_wanted w h ≡ true)
 unfolding taking hearing meeting_answer
 answered p c stamp link w h k =
     let o : Out Msg = out.Act (what.ReadFailed w) in
     let Both : Type 0 = (is_in_form p (noted (msg.ReadDone w None)) ≡ true) × (is_wanted w h ≡ true) in
-    chosen (λ (d : Deed Msg Store). In o d.outs → Both) (is_in_form p (noted (msg.ReadDone w None))) (hearing p c stamp link (msg.ReadDone w None) h) (nothing h)
-    (λ t. chosen (λ (d : Deed Msg Store). In o d.outs → Both) (is_wanted w h) (storing w None h) (nothing h) (λ s _. (t, s)) (λ _ i. absurd i))
+    chosen (λ (d : Deed Msg Store). In o d.outs → Both) (is_in_form p (noted (msg.ReadDone w None)))
+    (hearing p c stamp link (msg.ReadDone w None) h) (nothing h)
+    (λ t. chosen (λ (d : Deed Msg Store). In o d.outs → Both) (is_wanted w h) (storing w None h) (nothing h)
+    (λ s _. (t, s)) (λ _ i. absurd i))
     (λ _ i. absurd i)
     k
 
-pub failed_read : (p : Params) (c : ℕ) (i : Input Msg) (h : Store) (w : Want) → In (out.Act (what.ReadFailed w)) (deed_of p c i h).outs → IsFailedRead p i h w
+pub failed_read : (p : Params) (c : ℕ) (i : Input Msg) (h : Store) (w : Want) → In (out.Act (what.ReadFailed w))
+    (deed_of p c i h).outs → IsFailedRead p i h w
 failed_read p c (Take stamp link m) h w k =
     let why = cause p c (Take stamp link m) h w k in
-    let is : m ≡ msg.ReadDone w None = no_part_is m w (no_part link m w why.2 (subst (λ (g : Stage). IsAnswer g w None why.2) why.3.0 why.4)) in
-    let both = answered p c stamp link w h (subst (λ (n : Msg). In (out.Act (what.ReadFailed w)) (taking p c stamp link n h).outs) is k) in
+    let is : m ≡ msg.ReadDone w None = no_part_is m w
+    (no_part link m w why.2 (subst (λ (g : Stage). IsAnswer g w None why.2) why.3.0 why.4)) in
+    let both = answered p c stamp link w h (subst (λ (n : Msg). In (out.Act (what.ReadFailed w))
+    (taking p c stamp link n h).outs) is k) in
     record { stamp = stamp; link = link; is = ap (λ (n : Msg). Take stamp link n) is; formed = both.0; wanted = both.1 }
-failed_read p c (Tick stamp) h w k = let why = cause p c (Tick stamp) h w k in absurd (never stamp why.0 why.1 why.2 h w why.3 why.4)
+failed_read p c (Tick stamp) h w k = let why = cause p c (Tick stamp) h w k in absurd
+    (never stamp why.0 why.1 why.2 h w why.3 why.4)
   where
-    never : (stamp : Stamp) (g : Stage) (from before h : Store) (w : Want) → IsStageOf (Tick stamp) h g from → IsAnswer g w None before → ⊥
+    never : (stamp : Stamp) (g : Stage) (from before h : Store) (w : Want) → IsStageOf (Tick stamp) h g from
+        → IsAnswer g w None before → ⊥
     never stamp (OnMessage link m) from before h w s a = s
     never stamp OnRelease from before h w s a = a
     never stamp OnDeadman from before h w s a = a
@@ -114,10 +133,12 @@ failed_read p c (Tick stamp) h w k = let why = cause p c (Tick stamp) h w k in a
     never stamp OnService from before h w s a = a
 
 -- and such an event writes so
-pub writes_failure : (p : Params) (c : ℕ) (stamp : Stamp) (link : LinkNo) (w : Want) (h : Store) → is_in_form p (noted (msg.ReadDone w None)) ≡ true → is_wanted w h ≡ true
+pub writes_failure : (p : Params) (c : ℕ) (stamp : Stamp) (link : LinkNo) (w : Want) (h : Store)
+    → is_in_form p (noted (msg.ReadDone w None)) ≡ true → is_wanted w h ≡ true
     → In (out.Act (what.ReadFailed w)) (taking p c stamp link (msg.ReadDone w None) h).outs
 writes_failure p c stamp link w h formed wanted =
-    subst (λ (d : Deed Msg Store). In (out.Act (what.ReadFailed w)) d.outs) (sym (answer_kept p c stamp link w None h formed wanted)) (inl refl)
+    subst (λ (d : Deed Msg Store). In (out.Act (what.ReadFailed w)) d.outs)
+    (sym (answer_kept p c stamp link w None h formed wanted)) (inl refl)
 
 -- ---- records and wants
 
@@ -126,9 +147,11 @@ found_line : (k : Key) (lines : List Line) (x : Line) → line_at k lines ≡ So
 unfolding line_at
 found_line k [] x e = absurd (cc)
 found_line k (z ∷ zs) x e = ⊎_elim
-    (λ (t : is_at k z ≡ true). let first : line_at k (z ∷ zs) ≡ Some z = rw t refl in let q : Some z ≡ Some x = sym first ∙ e in let same : z ≡ x = cc in
+    (λ (t : is_at k z ≡ true). let first : line_at k (z ∷ zs) ≡ Some z = rw t refl in let q : Some z ≡ Some x = sym
+    first ∙ e in let same : z ≡ x = cc in
     (inl (sym same), same_is k (key_of z) t ∙ ap key_of same))
-    (λ (f : is_at k z ≡ false). let later : line_at k (z ∷ zs) ≡ line_at k zs = rw f refl in let r = found_line k zs x (sym later ∙ e) in (inr r.0, r.1))
+    (λ (f : is_at k z ≡ false). let later : line_at k (z ∷ zs) ≡ line_at k zs = rw f refl in let r = found_line k zs
+    x (sym later ∙ e) in (inr r.0, r.1))
     (cases_Bool (is_at k z))
 
 -- of lines that are apart each is found
@@ -136,11 +159,13 @@ line_found : (lines : List Line) (x : Line) → AreApart OtherKey lines → In x
 unfolding line_at
 line_found [] x apart i = absurd i
 line_found (z ∷ zs) x apart i = ⊎_elim
-    (λ (q : x ≡ z). let t : is_at (key_of x) z ≡ true = subst (λ (j : Key). is_at j z ≡ true) (ap key_of (sym q)) (same_itself (key_of z)) in
+    (λ (q : x ≡ z). let t : is_at (key_of x) z ≡ true = subst (λ (j : Key). is_at j z ≡ true) (ap key_of (sym q))
+    (same_itself (key_of z)) in
     let first : line_at (key_of x) (z ∷ zs) ≡ Some z = rw t refl in first ∙ ap Some (sym q))
     (λ j. ⊎_elim
     (λ (t : is_at (key_of x) z ≡ true). absurd (apart.0 x j (sym (same_is (key_of x) (key_of z) t))))
-    (λ (f : is_at (key_of x) z ≡ false). let later : line_at (key_of x) (z ∷ zs) ≡ line_at (key_of x) zs = rw f refl in later ∙ line_found zs x apart.1 j)
+    (λ (f : is_at (key_of x) z ≡ false). let later : line_at (key_of x) (z ∷ zs) ≡ line_at (key_of x) zs = rw f
+    refl in later ∙ line_found zs x apart.1 j)
     (cases_Bool (is_at (key_of x) z)))
     i
 
@@ -150,50 +175,67 @@ pub record IsOfRecord (h : Store) (w : Want) : Type 0 where
   pub there : HasRecord h tenancy w.visit w.piece
   pub same : w ≡ want tenancy w.visit w.piece
 
-of_block : (h : Store) (w : Want) (o : Option Line) → line_at (w.slot, w.visit) h.view.lines ≡ o → is_block_of w o ≡ true → IsOfRecord h w
+of_block : (h : Store) (w : Want) (o : Option Line) → line_at (w.slot, w.visit) h.view.lines ≡ o
+    → is_block_of w o ≡ true → IsOfRecord h w
 of_block h w None e t = absurd (cc)
 of_block h w (Some x) e t =
     let found = found_line (w.slot, w.visit) h.view.lines x e in
     let kinds = both_of (is_own x.rec.kind) (same_want w (want_of x.rec)) t in
     let is : w ≡ want_of x.rec = one_want w (want_of x.rec) kinds.1 in
     let own = own_rec x.rec kinds.0 in
-    subst (λ (z : Want). IsOfRecord h z) (sym is) (record { tenancy = x.rec.tenancy; there = inl (refl, x, (found.0, own)); same = refl })
+    subst (λ (z : Want). IsOfRecord h z) (sym is)
+    (record { tenancy = x.rec.tenancy; there = inl (refl, x, (found.0, own)); same = refl })
   where
     both_of : (a b : Bool) → (a && b) ≡ true → (a ≡ true) × (b ≡ true)
     both_of true true q = (refl, refl)
     both_of true false q = absurd (cc)
     both_of false b q = absurd (cc)
 
-of_piece : (h : Store) (w : Want) (items : List PieceState) → list_any (λ x. same_want w (want_of_piece x)) items ≡ true → (x : PieceState) × In x items × (w ≡ want_of_piece x)
+of_piece : (h : Store) (w : Want) (items : List PieceState) → list_any (λ x. same_want w (want_of_piece x)) items ≡
+    true → (x : PieceState) × In x items × (w ≡ want_of_piece x)
 of_piece h w [] t = absurd (cc)
 of_piece h w (z ∷ zs) t = ⊎_elim
     (λ (q : same_want w (want_of_piece z) ≡ true). (z, inl refl, one_want w (want_of_piece z) q))
     (λ (f : same_want w (want_of_piece z) ≡ false).
-    let rest : list_any (λ x. same_want w (want_of_piece x)) zs ≡ true = (let q : list_any (λ x. same_want w (want_of_piece x)) (z ∷ zs) ≡ list_any (λ x. same_want w (want_of_piece x)) zs = rw f refl in sym q ∙ t) in
+    let rest : list_any (λ x. same_want w (want_of_piece x)) zs ≡ true =
+    (let q : list_any (λ x. same_want w (want_of_piece x)) (z ∷ zs) ≡ list_any
+    (λ x. same_want w (want_of_piece x)) zs = rw f refl in sym q ∙ t) in
     let r = of_piece h w zs rest in (r.0, inr r.1, r.2))
     (cases_Bool (same_want w (want_of_piece z)))
 
-pub of_record : (h : Store) (w : Want) → ((x : PieceState) → In x h.pieces.items → 1 ≤ x.piece) → is_wanted w h ≡ true → IsOfRecord h w
+pub of_record : (h : Store) (w : Want) → ((x : PieceState) → In x h.pieces.items → 1 ≤ x.piece)
+    → is_wanted w h ≡ true → IsOfRecord h w
 unfolding is_wanted
 of_record h w low t = ⊎_elim
-    (λ (b : is_block_of w (line_at (w.slot, w.visit) h.view.lines) ≡ true). of_block h w (line_at (w.slot, w.visit) h.view.lines) refl b)
+    (λ (b : is_block_of w (line_at (w.slot, w.visit) h.view.lines) ≡ true). of_block h w
+    (line_at (w.slot, w.visit) h.view.lines) refl b)
     (λ (rest : list_any (λ x. same_want w (want_of_piece x)) h.pieces.items ≡ true).
     let r = of_piece h w h.pieces.items rest in
-    subst (λ (z : Want). IsOfRecord h z) (sym r.2) (record { tenancy = r.0.tenancy; there = inr (low r.0 r.1, r.1); same = refl }))
-    (or_either (is_block_of w (line_at (w.slot, w.visit) h.view.lines)) (list_any (λ x. same_want w (want_of_piece x)) h.pieces.items) t)
+    subst (λ (z : Want). IsOfRecord h z) (sym r.2) (record {
+      tenancy = r.0.tenancy;
+      there = inr (low r.0 r.1, r.1);
+      same = refl;
+    }))
+    (or_either (is_block_of w (line_at (w.slot, w.visit) h.view.lines))
+    (list_any (λ x. same_want w (want_of_piece x)) h.pieces.items) t)
 
 -- and for each record its want is
-block_wanted : (h : Store) → IsOnce h → (t : Tenancy) (n j : ℕ) → j ≡ 0 → (x : Line) → HasOwn h t n x → is_wanted (want t n j) h ≡ true
+block_wanted : (h : Store) → IsOnce h → (t : Tenancy) (n j : ℕ) → j ≡ 0 → (x : Line) → HasOwn h t n x
+    → is_wanted (want t n j) h ≡ true
 unfolding is_wanted
 block_wanted h once t n j none x own =
     let key : key_of x ≡ (t.slot, n) = ap (λ (q : Rec). (q.tenancy.slot, q.visit)) own.1 in
-    let found : line_at (t.slot, n) h.view.lines ≡ Some x = subst (λ (k : Key). line_at k h.view.lines ≡ Some x) key (line_found h.view.lines x once.lines_apart own.0) in
+    let found : line_at (t.slot, n) h.view.lines ≡ Some x = subst (λ (k : Key). line_at k h.view.lines ≡ Some x) key
+    (line_found h.view.lines x once.lines_apart own.0) in
     let is : want_of x.rec ≡ want t n 0 = ap want_of own.1 in
     let kind : is_own x.rec.kind ≡ true = ap (λ (q : Rec). is_own q.kind) own.1 in
-    let same : same_want (want t n 0) (want_of x.rec) ≡ true = subst (λ (z : Want). same_want (want t n 0) z ≡ true) (sym is) (same_self (want t n 0)) in
+    let same : same_want (want t n 0) (want_of x.rec) ≡ true = subst (λ (z : Want). same_want (want t n 0) z ≡ true)
+    (sym is) (same_self (want t n 0)) in
     let this : is_block_of (want t n 0) (Some x) ≡ true = rw (kind, same) refl in
     let there : is_wanted (want t n 0) h ≡ true = or_left _ _ (ap (is_block_of (want t n 0)) found ∙ this) in
     subst (λ (i : ℕ). is_wanted (want t n i) h ≡ true) (sym none) there
 
-pub record_wanted : (h : Store) → IsOnce h → (t : Tenancy) (n j : ℕ) → HasRecord h t n j → is_wanted (want t n j) h ≡ true
-record_wanted h once t n j r = ⊎_elim (λ o. block_wanted h once t n j o.0 o.1 o.2) (λ q. wanted_piece (piece t n j) h q.1) r
+pub record_wanted : (h : Store) → IsOnce h → (t : Tenancy) (n j : ℕ) → HasRecord h t n j
+    → is_wanted (want t n j) h ≡ true
+record_wanted h once t n j r = ⊎_elim (λ o. block_wanted h once t n j o.0 o.1 o.2)
+    (λ q. wanted_piece (piece t n j) h q.1) r

@@ -1,5 +1,5 @@
 -- In one beat a cub sends a parcel once, and asks a disk for one thing once.
-use Rattle.std.proofs.Common.{◌≡◌, ℕ, suc, ◌<◌, List, [], ◌∷◌, ◌++◌, map, Bool, true, false, refl, sym, ap, subst, ◌∙◌, arith, ⊎_elim, inl, inr}
+use Rattle.std.proofs.Common.{◌≡◌, ℕ, suc, ◌<◌, List, [], ◌∷◌, map, Bool, true, false, refl, sym, ap, subst, ◌∙◌, arith, ⊎_elim, inl, inr}
 use Rattle.std.specs.Prelude.{◌==◌}
 use Rattle.std.proofs.lemmas.Bool.{cases_Bool}
 use Rattle.tiger_base.specs.declared.number.Stamp.{Stamp}
@@ -25,8 +25,8 @@ use Rattle.disk_core.specs.State.{DiskState}
 use Rattle.schedule_laws.specs.Lives.{In, outs_at}
 use Rattle.schedule_laws.proofs.Carrying.{count_rises}
 use Rattle.schedule_laws.proofs.Members.{in_right, all_in}
-use Rattle.schedule_moments.proofs.Ones.{IsOne, one_map}
-use Rattle.schedule_views.proofs.Journals.{inputs_of, wrote, stamped}
+use Rattle.proof_journals.proofs.Ones.{IsOne, one_map}
+use Rattle.proof_journals.proofs.Journals.{inputs_of, wrote, stamped}
 use Rattle.proof_pieces.specs.Pieces.{ArePiecesRight}
 use Rattle.proof_schedule.specs.Facts.{Facts}
 use Rattle.cub_facts.specs.Lives.{lives_of}
@@ -35,7 +35,7 @@ use Rattle.cub_facts.specs.Rings.{node_count}
 use Rattle.proof_parts.proofs.Found.{same_self}
 use Rattle.proof_links.proofs.Nodes.{lived, after_tick, event_is}
 use Rattle.proof_journals.proofs.Events.{AreKept}
-use Rattle.proof_journals.proofs.Lists.{in_laws}
+use Rattle.proof_journals.proofs.Lists.{in_laws, one_behind}
 use Rattle.proof_journals.proofs.Cutting.{cut_in}
 use Rattle.proof_delivery.specs.Ties.{SendsParcel, AsksDisk, AreOfBeats, KeepsParcels}
 use Rattle.proof_parcels.proofs.AskOuts.{asks}
@@ -47,17 +47,13 @@ use Rattle.proof_parcels.proofs.Telling.{of_cub}
 -- ---- lists
 
 -- what passes a narrower test stands once too
-one_less : {X : Type 0} (test narrow : X → Bool) (xs : List X) → ((x : X) → In x xs → narrow x ≡ true → test x ≡ true) → IsOne test xs → IsOne narrow xs
+one_less : {X : Type 0} (test narrow : X → Bool) (xs : List X) → ((x : X) → In x xs → narrow x ≡ true
+    → test x ≡ true) → IsOne test xs → IsOne narrow xs
 one_less test narrow [] less one = tt
 one_less test narrow (x ∷ xs) less one = (
   (λ t y i s. one.0 (less x (inl refl) t) y i (less y (inr i) s)),
   one_less test narrow xs (λ y i. less y (inr i)) one.1,
 )
-
--- behind the one that passes none does
-one_behind : {X : Type 0} (test : X → Bool) (front : List X) (x : X) (back : List X) (y : X) → IsOne test (front ++ x ∷ back) → test x ≡ true → In y back → test y ≡ true → ⊥
-one_behind test [] x back y one t i s = one.0 t y i s
-one_behind test (z ∷ zs) x back y one t i s = one_behind test zs x back y one.1 t i s
 
 -- ---- entries
 
@@ -71,13 +67,15 @@ says_send w (what.Sent link (note.Whole v sent part)) = same_want w v
 says_send w (what.Sent link (note.Piece v sent part)) = same_want w v
 says_send w other = false
 
-asks_agree : (p : Params) (n : ℕ) (w : Want) (o : Out Msg) → IsAllowed noted p n o → says_ask w (what_of noted o) ≡ true → asks w o ≡ true
+asks_agree : (p : Params) (n : ℕ) (w : Want) (o : Out Msg) → IsAllowed noted p n o
+    → says_ask w (what_of noted o) ≡ true → asks w o ≡ true
 asks_agree p n w (out.Send link (msg.ReadAsk v)) fair t = t
 asks_agree p n w (out.Send link other) fair t = absurd (cc)
 asks_agree p n w (out.Act (what.Sent link m)) fair t = absurd fair
 asks_agree p n w (out.Act other) fair t = absurd (cc)
 
-sends_agree : (p : Params) (n : ℕ) (w : Want) (o : Out Msg) → IsAllowed noted p n o → says_send w (what_of noted o) ≡ true → sends w o ≡ true
+sends_agree : (p : Params) (n : ℕ) (w : Want) (o : Out Msg) → IsAllowed noted p n o
+    → says_send w (what_of noted o) ≡ true → sends w o ≡ true
 sends_agree p n w (out.Send link (msg.Whole v sent part)) fair t = t
 sends_agree p n w (out.Send link (msg.Piece v sent part)) fair t = t
 sends_agree p n w (out.Send link other) fair t = absurd (cc)
@@ -94,16 +92,19 @@ parcel_said w e a = ap (says_send w) a.is ∙ ⊎_elim
     (cases_Bool (w.piece == 0))
 
 -- a tick writes its outputs
-tick_wrote : {S : Type 0} (step : S → Input Msg → Deed Msg S) (ev : NodeEvent Msg) (before : Past S) (stamp : Stamp) → ev ≡ Does (Tick stamp)
+tick_wrote : {S : Type 0} (step : S → Input Msg → Deed Msg S) (ev : NodeEvent Msg) (before : Past S) (stamp : Stamp)
+    → ev ≡ Does (Tick stamp)
     → entries_at noted step ev before ≡ map (entry_of noted stamp) (outs_of step ev before)
-tick_wrote step (Does (Tick now)) before stamp e = let same : now ≡ stamp = cc in ap (λ (s : Stamp). map (entry_of noted s) (outs_of step (Does (Tick now)) before)) same
+tick_wrote step (Does (Tick now)) before stamp e = let same : now ≡ stamp = cc in ap
+    (λ (s : Stamp). map (entry_of noted s) (outs_of step (Does (Tick now)) before)) same
 tick_wrote step (Does (Take now link m)) before stamp e = absurd (cc)
 tick_wrote step (Dies now) before stamp e = absurd (cc)
 
 tick_is : (ev : NodeEvent Msg) (stamp : Stamp) → ev ≡ Does (Tick stamp) → is_tick ev ≡ true
 tick_is ev stamp e = ap is_tick e
 
-module _ {S : Type 0} {step : S → Input Msg → Deed Msg S} {p : Params} {orders : List Order} {disk_at : ℕ → DiskState} {h : History Msg S} {journals : List (List Entry)}
+module _ {S : Type 0} {step : S → Input Msg → Deed Msg S} {p : Params} {orders : List Order} {disk_at : ℕ
+    → DiskState} {h : History Msg S} {journals : List (List Entry)}
     (kept : AreKept step p orders disk_at h journals) where
   -- an entry was written at a tick of a cub
   pub record IsOfTick (n i : ℕ) : Type 0 where
@@ -112,7 +113,8 @@ module _ {S : Type 0} {step : S → Input Msg → Deed Msg S} {p : Params} {orde
     pub stamp : Stamp
     pub tick : inputs_of h n i ≡ Tick stamp
 
-  -- If an output at a tick is written once, and at most one passes a test, an entry that says so is of a later beat than one before it.
+  -- If an output at a tick is written once, and at most one passes a test, an entry that says so is of a later beat
+  -- than one before it.
   of_beats : (Is : Entry → Type 0) (says : What → Bool) (test : Out Msg → Bool)
       → ((e : Entry) → Is e → says e.what ≡ true)
       → ((n : ℕ) (o : Out Msg) → IsAllowed noted p n o → says (what_of noted o) ≡ true → test o ≡ true)
@@ -121,18 +123,26 @@ module _ {S : Type 0} {step : S → Input Msg → Deed Msg S} {p : Params} {orde
       → AreOfBeats journals Is
   of_beats Is says test said agrees at_tick one n xs ys e f at i is_e is_f =
       let c = cut_in kept n xs e ys at in
-      let here : In e (wrote step h n c.at) = subst (λ (l : List Entry). In e l) c.event_is (in_right e c.part (e ∷ c.rest) (inl refl)) in
+      let here : In e (wrote step h n c.at) = subst (λ (l : List Entry). In e l) c.event_is
+      (in_right e c.part (e ∷ c.rest) (inl refl)) in
       let t = at_tick n c.at e c.known c.done here is_e in
-      let event : h.event n c.at ≡ Does (Tick t.stamp) = event_is kept.plan kept.ring n c.at c.known t.lives ∙ ap (λ (x : Input Msg). Does x) t.tick in
+      let event : h.event n c.at ≡ Does (Tick t.stamp) = event_is kept.plan kept.ring n c.at c.known t.lives
+      ∙ ap (λ (x : Input Msg). Does x) t.tick in
       ⊎_elim
       (λ k.
       let os : List (Out Msg) = outs noted step h n c.at in
-      let rule : IsOne test os = subst (λ (l : List (Out Msg)). IsOne test l) (sym (kept.ring.rules.cubs n c.at t.small t.lives)) (one n c.at t.small t.lives) in
-      let narrow : IsOne (λ (o : Out Msg). says (what_of noted o)) os = one_less test (λ (o : Out Msg). says (what_of noted o)) os
+      let rule : IsOne test os = subst (λ (l : List (Out Msg)). IsOne test l)
+      (sym (kept.ring.rules.cubs n c.at t.small t.lives)) (one n c.at t.small t.lives) in
+      let narrow : IsOne (λ (o : Out Msg). says (what_of noted o)) os = one_less test
+      (λ (o : Out Msg). says (what_of noted o)) os
       (λ o j s. agrees n o (all_in (IsAllowed noted p n) o os (kept.ring.run.fair n c.at c.known c.done) j) s) rule in
-      let whole : IsOne (λ (x : Entry). says x.what) (wrote step h n c.at) = subst (λ (l : List Entry). IsOne (λ (x : Entry). says x.what) l)
-      (sym (tick_wrote step (h.event n c.at) (past noted step h n c.at) t.stamp event)) (one_map (entry_of noted t.stamp) (λ (x : Entry). says x.what) os narrow) in
-      absurd (one_behind (λ (x : Entry). says x.what) c.part e c.rest f (subst (λ (l : List Entry). IsOne (λ (x : Entry). says x.what) l) (sym c.event_is) whole) (said e is_e) k (said f is_f)))
+      let whole : IsOne (λ (x : Entry). says x.what) (wrote step h n c.at) = subst (λ (l : List Entry). IsOne
+      (λ (x : Entry). says x.what) l)
+      (sym (tick_wrote step (h.event n c.at) (past noted step h n c.at) t.stamp event))
+      (one_map (entry_of noted t.stamp) (λ (x : Entry). says x.what) os narrow) in
+      absurd (one_behind (λ (x : Entry). says x.what) c.part e c.rest f
+      (subst (λ (l : List Entry). IsOne (λ (x : Entry). says x.what) l) (sym c.event_is) whole) (said e is_e) k
+      (said f is_f)))
       (λ k.
       let later : c.at < k.0 = k.1 in
       let low : k.0 < h.count n = k.2 in
@@ -145,20 +155,24 @@ module _ {S : Type 0} {step : S → Input Msg → Deed Msg S} {p : Params} {orde
       (c.behind f (in_laws f ys i))
 
   -- the tick of an ask, and of a parcel
-  ask_tick : (w : Want) (n i : ℕ) (e : Entry) → n < node_count p → i < h.count n → In e (wrote step h n i) → AsksDisk w e → IsOfTick n i
+  ask_tick : (w : Want) (n i : ℕ) (e : Entry) → n < node_count p → i < h.count n → In e (wrote step h n i)
+      → AsksDisk w e → IsOfTick n i
   ask_tick w n i e known low k a =
-      let x = event_sent step p n (h.event n i) (past noted step h n i) e a.link (note.ReadAsk w) (kept.ring.run.fair n i known low) k a.is in
+      let x = event_sent step p n (h.event n i) (past noted step h n i) e a.link (note.ReadAsk w)
+      (kept.ring.run.fair n i known low) k a.is in
       let m : x.message ≡ msg.ReadAsk w = ask_back x.message w x.same in
       let sent = subst (λ (y : Msg). In (out.Send a.link y) (outs noted step h n i)) m x.sent in
       let c = of_cub kept n i a.link (msg.ReadAsk w) (λ q. q) (λ q. q) known low sent in
-      let at = cubs.ask_at kept.plan (lived kept.plan kept.ring) n c.small i a.link w c.lives c.did in
+      let at = cubs.ask_tick kept.plan (lived kept.plan kept.ring) n c.small i a.link w c.did in
       record { small = c.small; lives = c.lives; stamp = at.stamp; tick = at.tick }
 
-  parcel_tick : (w : Want) (n i : ℕ) (e : Entry) → n < node_count p → i < h.count n → In e (wrote step h n i) → SendsParcel w e → IsOfTick n i
+  parcel_tick : (w : Want) (n i : ℕ) (e : Entry) → n < node_count p → i < h.count n → In e (wrote step h n i)
+      → SendsParcel w e → IsOfTick n i
   parcel_tick w n i e known low k a = ⊎_elim
       (λ (t : (w.piece == 0) ≡ true).
       let is : e.what ≡ what.Sent a.link (note.Whole w a.sent a.part) = a.is ∙ (rw t refl) in
-      let x = event_sent step p n (h.event n i) (past noted step h n i) e a.link (note.Whole w a.sent a.part) (kept.ring.run.fair n i known low) k is in
+      let x = event_sent step p n (h.event n i) (past noted step h n i) e a.link (note.Whole w a.sent a.part)
+      (kept.ring.run.fair n i known low) k is in
       let m = whole_back x.message w a.sent a.part x.same in
       let sent = subst (λ (y : Msg). In (out.Send a.link y) (outs noted step h n i)) m.1 x.sent in
       let c = of_cub kept n i a.link (msg.Whole w a.sent m.0) (λ q. q) (λ q. q) known low sent in
@@ -166,7 +180,8 @@ module _ {S : Type 0} {step : S → Input Msg → Deed Msg S} {p : Params} {orde
       record { small = c.small; lives = c.lives; stamp = at.stamp; tick = at.tick })
       (λ (f : (w.piece == 0) ≡ false).
       let is : e.what ≡ what.Sent a.link (note.Piece w a.sent a.part) = a.is ∙ (rw f refl) in
-      let x = event_sent step p n (h.event n i) (past noted step h n i) e a.link (note.Piece w a.sent a.part) (kept.ring.run.fair n i known low) k is in
+      let x = event_sent step p n (h.event n i) (past noted step h n i) e a.link (note.Piece w a.sent a.part)
+      (kept.ring.run.fair n i known low) k is in
       let m = piece_back x.message w a.sent a.part x.same in
       let sent = subst (λ (y : Msg). In (out.Send a.link y) (outs noted step h n i)) m.1 x.sent in
       let c = of_cub kept n i a.link (msg.Piece w a.sent m.0) (λ q. q) (λ q. q) known low sent in
@@ -176,8 +191,10 @@ module _ {S : Type 0} {step : S → Input Msg → Deed Msg S} {p : Params} {orde
 
   pub keeps : {r : Facts} → ArePiecesRight p r (pieces_by p (lives_of h)) → KeepsParcels journals
   keeps right = record {
-    one_parcel = λ w. of_beats (SendsParcel w) (says_send w) (sends w) (parcel_said w) (λ n o fair t. sends_agree p n w o fair t) (parcel_tick w)
+    one_parcel = λ w. of_beats (SendsParcel w) (says_send w) (sends w) (parcel_said w)
+        (λ n o fair t. sends_agree p n w o fair t) (parcel_tick w)
         (λ n i small low. cubs.sends_one kept.plan (lived kept.plan kept.ring) n small right i w low);
-    one_ask = λ w. of_beats (AsksDisk w) (says_ask w) (asks w) (ask_said w) (λ n o fair t. asks_agree p n w o fair t) (ask_tick w)
+    one_ask = λ w. of_beats (AsksDisk w) (says_ask w) (asks w) (ask_said w) (λ n o fair t. asks_agree p n w o fair
+        t) (ask_tick w)
         (λ n i small low. cubs.asks_one kept.plan (lived kept.plan kept.ring) n small right i w low);
   }

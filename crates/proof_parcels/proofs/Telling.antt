@@ -32,14 +32,15 @@ use Rattle.disk_core.specs.State.{DiskState}
 use Rattle.schedule_laws.specs.Lives.{In, deed_of, store_at, outs_at}
 use Rattle.schedule_laws.proofs.Carrying.{stamp_same}
 use Rattle.schedule_laws.proofs.Members.{all_in}
-use Rattle.schedule_views.proofs.Journals.{inputs_of, wrote, stamped}
+use Rattle.proof_journals.proofs.Journals.{inputs_of, wrote, stamped, beat_is}
 use Rattle.proof_moments.specs.Ties.{StandsIn, IsLogged}
 use Rattle.cub_facts.specs.Blocks.{AnsweredAt, blocks_by}
 use Rattle.cub_facts.specs.Lives.{lives_of}
-use Rattle.cub_facts.specs.Pieces.{want, AsksAt, SendsPart, ServesAt, pieces_by}
+use Rattle.cub_facts.specs.Pieces.{want, SendsPart, ServesAt, pieces_by}
 use Rattle.cub_facts.specs.Rings.{node_count}
 use Rattle.proof_links.proofs.Nodes.{lived, sender, by_rules, cub_inside, before}
 use Rattle.proof_links.proofs.Sending.{IsOfDisk, IsOfController, of_answer}
+use Rattle.proof_parts.proofs.AskLives.{read_for}
 use Rattle.proof_journals.proofs.Events.{AreKept, own_entry, cub_acts, deed_logged}
 use Rattle.proof_delivery.specs.Ties.{viewers, parcel, SendsParcel, AsksDisk, IsServing, IsAsking, IsFailure, TellsParcels, LogsParcels}
 use Rattle.proof_parcels.proofs.Apart.{always_once}
@@ -65,7 +66,8 @@ noted_parcel w sent part = ⊎_elim
     (λ (f : (w.piece == 0) ≡ false). rw f refl)
     (cases_Bool (w.piece == 0))
 
-module _ {S : Type 0} {step : S → Input Msg → Deed Msg S} {p : Params} {orders : List Order} {disk_at : ℕ → DiskState} {h : History Msg S} {journals : List (List Entry)}
+module _ {S : Type 0} {step : S → Input Msg → Deed Msg S} {p : Params} {orders : List Order} {disk_at : ℕ
+    → DiskState} {h : History Msg S} {journals : List (List Entry)}
     (kept : AreKept step p orders disk_at h journals) where
   -- a message that neither disks nor the controller send is a cub's
   pub record OfCub (n i : ℕ) (o : Out Msg) : Type 0 where
@@ -73,9 +75,11 @@ module _ {S : Type 0} {step : S → Input Msg → Deed Msg S} {p : Params} {orde
     pub lives : i < living h n
     pub did : In o (outs_at p n (inputs_of h n) i)
 
-  pub of_cub : (n i : ℕ) (link : LinkNo) (m : Msg) → (IsOfDisk m → ⊥) → (IsOfController m → ⊥) → n < node_count p → i < h.count n → In (out.Send link m) (outs noted step h n i) → OfCub n i (out.Send link m)
+  pub of_cub : (n i : ℕ) (link : LinkNo) (m : Msg) → (IsOfDisk m → ⊥) → (IsOfController m → ⊥) → n < node_count p
+      → i < h.count n → In (out.Send link m) (outs noted step h n i) → OfCub n i (out.Send link m)
   of_cub n i link m no_disk no_controller known low k = ⊎_elim
-      (λ c. let b = by_rules kept.plan kept.ring n i (out.Send link m) c.0 low k in record { small = c.0; lives = b.0; did = b.1 })
+      (λ c. let b = by_rules kept.plan kept.ring n i (out.Send link m) c.0 low k in record
+      { small = c.0; lives = b.0; did = b.1 })
       (λ o. ⊎_elim
       (λ d. absurd (no_disk (of_answer (disk_at d.disk) (inputs_of h n i) link m d.answer)))
       (λ q. absurd (no_controller q.1))
@@ -83,32 +87,38 @@ module _ {S : Type 0} {step : S → Input Msg → Deed Msg S} {p : Params} {orde
       (sender kept.plan kept.ring n i link m known low k)
 
   -- the stamp of an entry that was written at a tick
-  pub tick_stamp : (n i : ℕ) (e : Entry) (stamp : Stamp) → In e (wrote step h n i) → inputs_of h n i ≡ Tick stamp → e.stamp ≡ stamp
-  tick_stamp n i e stamp k tick = stamped step h n i e k ∙ stamp_same (h.event n i) ∙ ap (λ (x : Input Msg). stamp_of x) tick
+  pub tick_stamp : (n i : ℕ) (e : Entry) (stamp : Stamp) → In e (wrote step h n i) → inputs_of h n i ≡ Tick stamp
+      → e.stamp ≡ stamp
+  tick_stamp n i e stamp k tick = stamped step h n i e k ∙ stamp_same (h.event n i)
+      ∙ ap (λ (x : Input Msg). stamp_of x) tick
 
   -- ---- what entries tell
 
-  asks_told : (n : ℕ) (e : Entry) (w : Want) → StandsIn journals n e → AsksDisk w e → IsAsking (pieces_by p (lives_of h)) n w e.stamp.beat
+  asks_told : (n : ℕ) (e : Entry) (w : Want) → StandsIn journals n e → AsksDisk w e
+      → IsAsking (pieces_by p (lives_of h)) n w e.stamp.beat
   asks_told n e w s a =
       let x = sent_in kept n e a.link (note.ReadAsk w) s a.is in
       let m : x.send.message ≡ msg.ReadAsk w = ask_back x.send.message w x.send.same in
       let sent = subst (λ (y : Msg). In (out.Send a.link y) (outs noted step h n x.at)) m x.send.sent in
       let c = of_cub n x.at a.link (msg.ReadAsk w) (λ q. q) (λ q. q) x.known x.done sent in
-      let at = cubs.ask_at kept.plan (lived kept.plan kept.ring) n c.small x.at a.link w c.lives c.did in
-      let when : at.stamp.beat ≡ e.stamp.beat = ap (λ (y : Stamp). y.beat) (sym (tick_stamp n x.at e at.stamp x.there at.tick)) in
-      record {
-        tenancy = at.ask.tenancy;
-        wanted = at.ask.same;
-        asks = subst (λ (b : ℕ). AsksAt p (lives_of h) n at.ask.tenancy w.visit w.piece b) when (cubs.asks_fact kept.plan (lived kept.plan kept.ring) n c.small x.at a.link w c.lives at);
-      }
+      let asked = read_for p kept.plan (lives_of h) (lived kept.plan kept.ring) n e.stamp.beat a.link w (record {
+        small = c.small;
+        at = x.at;
+        done = c.lives;
+        in_beat = sym (beat_is step h n x.at e x.there);
+        did = c.did;
+      }) in
+      record { tenancy = asked.tenancy; wanted = sym asked.same; asks = asked.asks }
 
-  serving_told : (n i : ℕ) (e : Entry) (link : LinkNo) (w : Want) (sent : ℕ) (part : LibraryPart) (span : Span) → (small : n < p.cubs) → (low : i < living h n) → In e (wrote step h n i)
+  serving_told : (n i : ℕ) (e : Entry) (link : LinkNo) (w : Want) (sent : ℕ) (part : LibraryPart) (span : Span)
+      → (small : n < p.cubs) → (low : i < living h n) → In e (wrote step h n i)
       → cubs.IsServeAt kept.plan (lived kept.plan kept.ring) n small i link w sent part → part.span ≡ span
       → IsServing p (pieces_by p (lives_of h)) (blocks_by p (lives_of h) disk_at) n link w sent span e.stamp.beat
   serving_told n i e link w sent part span small low there at is =
       let same = tick_stamp n i e at.stamp there at.tick in
       let when : at.stamp.beat ≡ e.stamp.beat = ap (λ (y : Stamp). y.beat) (sym same) in
-      let fact = subst (λ (b : ℕ). SendsPart p (lives_of h) n at.serve.tenancy w.visit w.piece b part) when (cubs.serves_fact kept.plan (lived kept.plan kept.ring) n small i link w sent part low at) in
+      let fact = subst (λ (b : ℕ). SendsPart p (lives_of h) n at.serve.tenancy w.visit w.piece b part) when
+      (cubs.serves_fact kept.plan (lived kept.plan kept.ring) n small i link w sent part low at) in
       record {
         tenancy = at.serve.tenancy;
         wanted = at.serve.same;
@@ -118,8 +128,10 @@ module _ {S : Type 0} {step : S → Input Msg → Deed Msg S} {p : Params} {orde
         way = ap (λ (l : LinkNo). ends_of (links_of p) l.0) at.serve.way ∙ to_viewers p n small;
       }
 
-  whole_told : (n : ℕ) (e : Entry) (link : LinkNo) (w : Want) (sent : ℕ) (span : Span) → StandsIn journals n e → e.what ≡ what.Sent link (note.Whole w sent span)
-      → (w.piece ≡ 0) × IsServing p (pieces_by p (lives_of h)) (blocks_by p (lives_of h) disk_at) n link w sent span e.stamp.beat
+  whole_told : (n : ℕ) (e : Entry) (link : LinkNo) (w : Want) (sent : ℕ) (span : Span) → StandsIn journals n e
+      → e.what ≡ what.Sent link (note.Whole w sent span)
+      → (w.piece ≡ 0) × IsServing p (pieces_by p (lives_of h)) (blocks_by p (lives_of h) disk_at) n link w sent span
+      e.stamp.beat
   whole_told n e link w sent span s is =
       let x = sent_in kept n e link (note.Whole w sent span) s is in
       let m = whole_back x.send.message w sent span x.send.same in
@@ -128,8 +140,10 @@ module _ {S : Type 0} {step : S → Input Msg → Deed Msg S} {p : Params} {orde
       let at = cubs.whole_at kept.plan (lived kept.plan kept.ring) n c.small x.at link w sent m.0 c.lives c.did in
       (at.0, serving_told n x.at e link w sent m.0 span c.small c.lives x.there at.1 m.2)
 
-  piece_told : (n : ℕ) (e : Entry) (link : LinkNo) (w : Want) (sent : ℕ) (span : Span) → StandsIn journals n e → e.what ≡ what.Sent link (note.Piece w sent span)
-      → (1 ≤ w.piece) × IsServing p (pieces_by p (lives_of h)) (blocks_by p (lives_of h) disk_at) n link w sent span e.stamp.beat
+  piece_told : (n : ℕ) (e : Entry) (link : LinkNo) (w : Want) (sent : ℕ) (span : Span) → StandsIn journals n e
+      → e.what ≡ what.Sent link (note.Piece w sent span)
+      → (1 ≤ w.piece) × IsServing p (pieces_by p (lives_of h)) (blocks_by p (lives_of h) disk_at) n link w sent span
+      e.stamp.beat
   piece_told n e link w sent span s is =
       let x = sent_in kept n e link (note.Piece w sent span) s is in
       let m = piece_back x.send.message w sent span x.send.same in
@@ -138,14 +152,17 @@ module _ {S : Type 0} {step : S → Input Msg → Deed Msg S} {p : Params} {orde
       let at = cubs.piece_at kept.plan (lived kept.plan kept.ring) n c.small x.at link w sent m.0 c.lives c.did in
       (at.0, serving_told n x.at e link w sent m.0 span c.small c.lives x.there at.1 m.2)
 
-  failed_told : (n : ℕ) (e : Entry) (w : Want) → StandsIn journals n e → e.what ≡ what.ReadFailed w → IsFailure (blocks_by p (lives_of h) disk_at) n w e.stamp.beat
+  failed_told : (n : ℕ) (e : Entry) (w : Want) → StandsIn journals n e → e.what ≡ what.ReadFailed w
+      → IsFailure (blocks_by p (lives_of h) disk_at) n w e.stamp.beat
   failed_told n e w s is =
       let d = own_entry kept n e (what.ReadFailed w) s tt is in
       let c = cub_acts kept n (what.ReadFailed w) e.stamp (λ v q. absurd (cc)) d in
       let g = store_at p n (inputs_of h n) d.at in
       let f = failed_read p n (inputs_of h n d.at) g w c.1 in
-      let k = of_record g w (λ x i. (cubs.numbered p n x (all_in (IsPieceAt p n) x g.pieces.items (cubs.kept kept.plan (lived kept.plan kept.ring) n c.0 d.at d.done).pieces i)).0) f.wanted in
-      let when : f.stamp.beat ≡ e.stamp.beat = ap (λ (y : Stamp). y.beat) (sym (d.when ∙ ap (λ (x : Input Msg). stamp_of x) f.is)) in
+      let k = of_record g w (λ x i. (cubs.numbered p n x (all_in (IsPieceAt p n) x g.pieces.items
+      (cubs.kept kept.plan (lived kept.plan kept.ring) n c.0 d.at d.done).pieces i)).0) f.wanted in
+      let when : f.stamp.beat ≡ e.stamp.beat = ap (λ (y : Stamp). y.beat)
+      (sym (d.when ∙ ap (λ (x : Input Msg). stamp_of x) f.is)) in
       record {
         tenancy = k.tenancy;
         wanted = k.same;
@@ -166,7 +183,8 @@ module _ {S : Type 0} {step : S → Input Msg → Deed Msg S} {p : Params} {orde
 
   -- ---- which facts have entries
 
-  served_logged : (c n j b : ℕ) (t : Tenancy) → ServesAt p (lives_of h) c t n j b → IsLogged journals c b (SendsParcel (want_of_visit t n j))
+  served_logged : (c n j b : ℕ) (t : Tenancy) → ServesAt p (lives_of h) c t n j b
+      → IsLogged journals c b (SendsParcel (want_of_visit t n j))
   served_logged c n j b t s =
       let k = s.sends in
       let small = k.tick.small in
@@ -174,11 +192,13 @@ module _ {S : Type 0} {step : S → Input Msg → Deed Msg S} {p : Params} {orde
       let done = (before kept.plan kept.ring c k.tick.at known k.tick.done).done in
       let goes = cubs.serves_go kept.plan (lived kept.plan kept.ring) c small k in
       let o : Out Msg = out.Send (way_to_viewers p c) (sends_as (want t n j) b s.part) in
-      let there : In o (outs noted step h c k.tick.at) = subst (λ (os : List (Out Msg)). In o os) (sym (kept.ring.rules.cubs c k.tick.at small k.tick.done)) goes in
+      let there : In o (outs noted step h c k.tick.at) = subst (λ (os : List (Out Msg)). In o os)
+      (sym (kept.ring.rules.cubs c k.tick.at small k.tick.done)) goes in
       record {
         entry = entry_of noted (stamp_at (h.event c k.tick.at)) o;
         stands = stands_out kept c k.tick.at o known done there;
-        beat = ap (λ (x : Stamp). x.beat) (stamp_same (h.event c k.tick.at)) ∙ ap (λ (x : Input Msg). (stamp_of x).beat) k.tick.is;
+        beat = ap (λ (x : Stamp). x.beat) (stamp_same (h.event c k.tick.at))
+            ∙ ap (λ (x : Input Msg). (stamp_of x).beat) k.tick.is;
         is = record {
           link = way_to_viewers p c;
           sent = b;
@@ -187,7 +207,8 @@ module _ {S : Type 0} {step : S → Input Msg → Deed Msg S} {p : Params} {orde
         };
       }
 
-  failed_logged : (c n j b : ℕ) (t : Tenancy) → AnsweredAt p (lives_of h) c t n j b None → IsLogged journals c b (λ e. e.what ≡ what.ReadFailed (want_of_visit t n j))
+  failed_logged : (c n j b : ℕ) (t : Tenancy) → AnsweredAt p (lives_of h) c t n j b None
+      → IsLogged journals c b (λ e. e.what ≡ what.ReadFailed (want_of_visit t n j))
   failed_logged c n j b t a =
       let known = cub_inside kept.plan kept.ring c a.small in
       let g = store_at p c (inputs_of h c) a.at in
@@ -195,12 +216,15 @@ module _ {S : Type 0} {step : S → Input Msg → Deed Msg S} {p : Params} {orde
       let wanted = record_wanted g (always_once p c (inputs_of h c) a.at) t n j a.there in
       let o : Out Msg = out.Act (what.ReadFailed (want t n j)) in
       let out_taking = writes_failure p c stamp a.link (want t n j) g a.formed wanted in
-      let goes : In o (outs_at p c (inputs_of h c) a.at) = subst (λ (k : Input Msg). In o (deed_of p c k g).outs) (sym a.is) out_taking in
-      let there : In o (outs noted step h c a.at) = subst (λ (os : List (Out Msg)). In o os) (sym (kept.ring.rules.cubs c a.at a.small a.done)) goes in
+      let goes : In o (outs_at p c (inputs_of h c) a.at) = subst (λ (k : Input Msg). In o (deed_of p c k g).outs)
+      (sym a.is) out_taking in
+      let there : In o (outs noted step h c a.at) = subst (λ (os : List (Out Msg)). In o os)
+      (sym (kept.ring.rules.cubs c a.at a.small a.done)) goes in
       record {
         entry = record { stamp = stamp_at (h.event c a.at); what = what.ReadFailed (want t n j) };
         stands = deed_logged kept c a.at (what.ReadFailed (want t n j)) known a.done there;
-        beat = ap (λ (x : Stamp). x.beat) (stamp_same (h.event c a.at)) ∙ ap (λ (x : Input Msg). (stamp_of x).beat) a.is;
+        beat = ap (λ (x : Stamp). x.beat) (stamp_same (h.event c a.at)) ∙ ap (λ (x : Input Msg). (stamp_of x).beat)
+            a.is;
         is = refl;
       }
 

@@ -27,7 +27,7 @@ use Rattle.cub_changes.proofs.Puts.{inserting_by}
 use Rattle.cub_changes.proofs.Ticks.{releasing_by, believing_by}
 use Rattle.schedule_laws.specs.Lives.{In}
 use Rattle.schedule_laws.proofs.Members.{chosen, in_left, in_right, in_cases, all_in}
-use Rattle.schedule_moments.proofs.Ones.{IsNone, IsOne, none_one, none_append, one_append}
+use Rattle.proof_journals.proofs.Ones.{IsNone, IsOne, none_one, none_append, one_append}
 use Rattle.cub_facts.specs.Pieces.{before_reading, before_serving}
 
 -- ---- a part of a list that alone has what passes a test
@@ -39,10 +39,18 @@ pub record IsOnlyIn {X : Type 0} (test : X → Bool) (part all : List X) : Type 
   pub none_before : IsNone test before
   pub none_behind : IsNone test behind
 
-pub only_first : {X : Type 0} (test : X → Bool) (part behind : List X) → IsNone test behind → IsOnlyIn test part (part ++ behind)
-only_first test part behind none = record { before = []; behind = behind; is = refl; none_before = λ x i t. i; none_behind = none }
+pub only_first : {X : Type 0} (test : X → Bool) (part behind : List X) → IsNone test behind
+    → IsOnlyIn test part (part ++ behind)
+only_first test part behind none = record {
+  before = [];
+  behind = behind;
+  is = refl;
+  none_before = λ x i t. i;
+  none_behind = none;
+}
 
-pub only_later : {X : Type 0} (test : X → Bool) (xs part ys : List X) → IsNone test xs → IsOnlyIn test part ys → IsOnlyIn test part (xs ++ ys)
+pub only_later : {X : Type 0} (test : X → Bool) (xs part ys : List X) → IsNone test xs → IsOnlyIn test part ys
+    → IsOnlyIn test part (xs ++ ys)
 only_later {X} test xs part ys none o = record {
   before = xs ++ o.before;
   behind = o.behind;
@@ -51,17 +59,21 @@ only_later {X} test xs part ys none o = record {
   none_behind = o.none_behind;
 }
 
-pub in_part : {X : Type 0} (test : X → Bool) (part all : List X) → IsOnlyIn test part all → (x : X) → In x all → test x ≡ true → In x part
+pub in_part : {X : Type 0} (test : X → Bool) (part all : List X) → IsOnlyIn test part all → (x : X) → In x all
+    → test x ≡ true → In x part
 in_part {X} test part all o x i t = ⊎_elim
     (λ k. absurd (o.none_before x k t))
     (λ k. ⊎_elim (λ j. j) (λ j. absurd (o.none_behind x j t)) (in_cases x part o.behind k))
     (in_cases x o.before (part ++ o.behind) (subst (λ (l : List X). In x l) (sym o.is) i))
 
-pub of_part : {X : Type 0} (test : X → Bool) (part all : List X) → IsOnlyIn test part all → (x : X) → In x part → In x all
-of_part {X} test part all o x i = subst (λ (l : List X). In x l) o.is (in_right x o.before (part ++ o.behind) (in_left x part o.behind i))
+pub of_part : {X : Type 0} (test : X → Bool) (part all : List X) → IsOnlyIn test part all → (x : X) → In x part
+    → In x all
+of_part {X} test part all o x i = subst (λ (l : List X). In x l) o.is (in_right x o.before (part ++ o.behind)
+    (in_left x part o.behind i))
 
 -- if what passes a narrower test stands once in the part, it does in the whole
-pub one_of_part : {X : Type 0} (test narrow : X → Bool) → ((x : X) → narrow x ≡ true → test x ≡ true) → (part all : List X) → IsOnlyIn test part all → IsOne narrow part → IsOne narrow all
+pub one_of_part : {X : Type 0} (test narrow : X → Bool) → ((x : X) → narrow x ≡ true → test x ≡ true)
+    → (part all : List X) → IsOnlyIn test part all → IsOne narrow part → IsOne narrow all
 one_of_part {X} test narrow less part all o one = subst (λ (l : List X). IsOne narrow l) o.is
     (one_append narrow o.before (part ++ o.behind) (none_one narrow o.before (λ x i t. o.none_before x i (less x t)))
     (one_append narrow part o.behind one (none_one narrow o.behind (λ x i t. o.none_behind x i (less x t)))
@@ -126,20 +138,25 @@ of_insertion ServePieces f = absurd f
 of_insertion other f = (tt, tt)
 
 module _ (p : Params) (c : ℕ) (stamp : Stamp) where
-  no_ask : (x : Change) (h : Store) → AsksNone x → (o : Output) → ComesOf p c stamp x h o → is_ask (output p c stamp o) ≡ false
-  no_ask x h none (AskSent disk w) comes = absurd (⊎_elim (λ a. subst AsksNone a.1 none) (λ a. subst AsksNone a.1 none) comes)
+  no_ask : (x : Change) (h : Store) → AsksNone x → (o : Output) → ComesOf p c stamp x h o
+      → is_ask (output p c stamp o) ≡ false
+  no_ask x h none (AskSent disk w) comes = absurd (⊎_elim (λ a. subst AsksNone a.1 none)
+      (λ a. subst AsksNone a.1 none) comes)
   no_ask x h none other comes = refl
 
-  no_parcel : (x : Change) (h : Store) → ServesNone x → (o : Output) → ComesOf p c stamp x h o → is_parcel (output p c stamp o) ≡ false
+  no_parcel : (x : Change) (h : Store) → ServesNone x → (o : Output) → ComesOf p c stamp x h o
+      → is_parcel (output p c stamp o) ≡ false
   no_parcel x h none (BlockSent w part) comes = absurd (subst ServesNone comes.1 none)
   no_parcel x h none (PieceSent w part) comes = absurd (subst ServesNone comes.1 none)
   no_parcel x h none other comes = refl
 
   asks_none : (x : Change) (h : Store) → AsksNone x → IsNone is_ask (did p c stamp x h).outs
-  asks_none x h none = none_by is_ask (did p c stamp x h).outs (forms_of p c stamp (λ o. is_ask o ≡ false) x h (no_ask x h none))
+  asks_none x h none = none_by is_ask (did p c stamp x h).outs (forms_of p c stamp (λ o. is_ask o ≡ false) x h
+      (no_ask x h none))
 
   serves_none : (x : Change) (h : Store) → ServesNone x → IsNone is_parcel (did p c stamp x h).outs
-  serves_none x h none = none_by is_parcel (did p c stamp x h).outs (forms_of p c stamp (λ o. is_parcel o ≡ false) x h (no_parcel x h none))
+  serves_none x h none = none_by is_parcel (did p c stamp x h).outs (forms_of p c stamp (λ o. is_parcel o ≡ false) x
+      h (no_parcel x h none))
 
   quiet : (x : Change) (h : Store) → AsksNone x → ServesNone x → AllByRecursion IsQuiet (did p c stamp x h).outs
   quiet x h a s = forms_of p c stamp IsQuiet x h (λ o comes. (no_ask x h a o comes, no_parcel x h s o comes))
@@ -164,7 +181,8 @@ module _ (p : Params) (c : ℕ) (stamp : Stamp) where
         outs = flat_map (split_outs p c stamp) h.view.lines;
         state = with_each with_piece_record (flat_map (first_pieces p stamp) h.view.lines) (with_split_lines p stamp h);
       } in
-      chosen (λ (d : Deed Msg Store). AllByRecursion IsQuiet d.outs) h.believes done (nothing h) (λ _. quiet SplitVisits h tt tt) (λ _. tt)
+      chosen (λ (d : Deed Msg Store). AllByRecursion IsQuiet d.outs) h.believes done (nothing h)
+      (λ _. quiet SplitVisits h tt tt) (λ _. tt)
 
   forwards : (h : Store) → AllByRecursion IsQuiet (forwarding p c stamp h).outs
   unfolding forwarding
@@ -172,12 +190,14 @@ module _ (p : Params) (c : ℕ) (stamp : Stamp) where
 
   beats : (h : Store) → AllByRecursion IsQuiet (beating p c stamp h).outs
   unfolding beating
-  beats h = chosen (λ (d : Deed Msg Store). AllByRecursion IsQuiet d.outs) (stamp.beat % p.heart == 0) (did p c stamp Beat h) (nothing h) (λ _. quiet Beat h tt tt) (λ _. tt)
+  beats h = chosen (λ (d : Deed Msg Store). AllByRecursion IsQuiet d.outs) (stamp.beat % p.heart == 0)
+      (did p c stamp Beat h) (nothing h) (λ _. quiet Beat h tt tt) (λ _. tt)
 
   -- the reading serves nothing, and the serving asks nothing
   reads : (h : Store) → IsNone is_parcel (reading p stamp h).outs
   unfolding reading reading_blocks reading_pieces
-  reads h = none_append is_parcel (reading_blocks p stamp h).outs (reading_pieces p stamp (reading_blocks p stamp h).state).outs
+  reads h = none_append is_parcel (reading_blocks p stamp h).outs
+      (reading_pieces p stamp (reading_blocks p stamp h).state).outs
       (serves_none AskBlocks h tt) (serves_none AskPieces (reading_blocks p stamp h).state tt)
 
   serves : (h : Store) → IsNone is_ask (serving p c stamp h).outs
@@ -185,9 +205,11 @@ module _ (p : Params) (c : ℕ) (stamp : Stamp) where
   serves h =
       let h1 : Store = (serving_blocks p c stamp h).state in
       let h2 : Store = (dropping_backups p stamp h1).state in
-      none_append is_ask (serving_blocks p c stamp h).outs (then_do (dropping_backups p stamp) (serving_pieces p c stamp) h1).outs
+      none_append is_ask (serving_blocks p c stamp h).outs (then_do (dropping_backups p stamp)
+      (serving_pieces p c stamp) h1).outs
       (asks_none ServeBlocks h tt)
-      (none_append is_ask (dropping_backups p stamp h1).outs (serving_pieces p c stamp h2).outs (asks_none DropBackups h1 tt) (asks_none ServePieces h2 tt))
+      (none_append is_ask (dropping_backups p stamp h1).outs (serving_pieces p c stamp h2).outs
+      (asks_none DropBackups h1 tt) (asks_none ServePieces h2 tt))
 
   no_asks : (xs : List (Out Msg)) → AllByRecursion IsQuiet xs → IsNone is_ask xs
   no_asks xs all o i t = true≢false (sym t ∙ (all_in IsQuiet o xs all i).0)
@@ -197,7 +219,8 @@ module _ (p : Params) (c : ℕ) (stamp : Stamp) where
 
   -- ---- a tick
 
-  pub asks_in_reading : (h : Store) → IsOnlyIn is_ask (reading p stamp (before_reading p c stamp h)).outs (ticking p c stamp h).outs
+  pub asks_in_reading : (h : Store) → IsOnlyIn is_ask (reading p stamp (before_reading p c stamp h)).outs
+      (ticking p c stamp h).outs
   unfolding ticking
   asks_in_reading h =
       let h1 : Store = (releasing p stamp h).state in
@@ -214,9 +237,11 @@ module _ (p : Params) (c : ℕ) (stamp : Stamp) where
       (only_later is_ask (splitting p c stamp h3).outs part _ (no_asks _ (splits h3))
       (only_later is_ask (forwarding p c stamp h4).outs part _ (no_asks _ (forwards h4))
       (only_first is_ask part late
-      (none_append is_ask (serving p c stamp h6).outs (beating p c stamp (serving p c stamp h6).state).outs (serves h6) (no_asks _ (beats (serving p c stamp h6).state))))))))
+      (none_append is_ask (serving p c stamp h6).outs (beating p c stamp (serving p c stamp h6).state).outs
+      (serves h6) (no_asks _ (beats (serving p c stamp h6).state))))))))
 
-  pub parcels_in_serving : (h : Store) → IsOnlyIn is_parcel (serving p c stamp (before_serving p c stamp h)).outs (ticking p c stamp h).outs
+  pub parcels_in_serving : (h : Store) → IsOnlyIn is_parcel (serving p c stamp (before_serving p c stamp h)).outs
+      (ticking p c stamp h).outs
   unfolding ticking
   parcels_in_serving h =
       let h1 : Store = (releasing p stamp h).state in
@@ -232,7 +257,8 @@ module _ (p : Params) (c : ℕ) (stamp : Stamp) where
       (only_later is_parcel (splitting p c stamp h3).outs part _ (no_parcels _ (splits h3))
       (only_later is_parcel (forwarding p c stamp h4).outs part _ (no_parcels _ (forwards h4))
       (only_later is_parcel (reading p stamp h5).outs part _ (reads h5)
-      (only_first is_parcel part (beating p c stamp (serving p c stamp h6).state).outs (no_parcels _ (beats (serving p c stamp h6).state))))))))
+      (only_first is_parcel part (beating p c stamp (serving p c stamp h6).state).outs
+      (no_parcels _ (beats (serving p c stamp h6).state))))))))
 
   -- and at a message neither goes out
   takes : (link : LinkNo) (m : Msg) (h : Store) → AllByRecursion IsQuiet (taking p c stamp link m h).outs

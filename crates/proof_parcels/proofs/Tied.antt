@@ -19,10 +19,17 @@ use Rattle.proof_parcels.proofs.Telling as telling
 use Rattle.proof_parcels.proofs.Viewing as viewing
 
 -- Whatever else is known of the ring, if its pieces are right.
-pub ties : {S : Type 0} (step : S → Input Msg → Deed Msg S) (p : Params) (a : Evidence) (disk_at : ℕ → DiskState) (h : History Msg S) (end : ℕ) → IsRingOf step p a disk_at h end
-    → {r : Facts} → ArePiecesRight p r (pieces_by p (lives_of h)) → TiesParcels p a (pieces_by p (lives_of h)) (blocks_by p (lives_of h) disk_at) end
+pub ties : {S : Type 0} (step : S → Input Msg → Deed Msg S) (p : Params) (a : Evidence) (disk_at : ℕ → DiskState)
+    (h : History Msg S) (end : ℕ) → IsRingOf step p a disk_at h end
+    → {r : Facts} → ArePiecesRight p r (pieces_by p (lives_of h)) → TiesParcels p a (pieces_by p (lives_of h))
+    (blocks_by p (lives_of h) disk_at) end
 ties step p a disk_at h end ring right =
-    let kept : AreKept step p a.orders disk_at h a.journals = record { plan = ring.plan; ring = ring.ring; are = ring.journals } in
+    let kept : AreKept step p a.orders disk_at h a.journals = record {
+      plan = ring.plan;
+      ring = ring.ring;
+      are =
+          ring.journals;
+    } in
     record {
       tells = telling.tells kept;
       logs = telling.logs kept;

@@ -1,5 +1,6 @@
--- What the links bring to the viewers: what came was sent, what was sent in time came, and what came twice was sent twice.
-use Rattle.std.proofs.Common.{◌≡◌, ℕ, zero, suc, ◌+◌, ◌<◌, ◌≤◌, List, [], ◌∷◌, ◌++◌, map, Bool, true, cond, Some, refl, sym, ap, subst, ◌∙◌, arith, ⊎_elim, inl, inr, eq-or-lt_of_le}
+-- What the links bring to the viewers: what came was sent, what was sent in time came, and what came twice was sent
+-- twice.
+use Rattle.std.proofs.Common.{◌≡◌, ℕ, zero, suc, ◌+◌, ◌<◌, ◌≤◌, List, [], ◌∷◌, ◌++◌, map, Bool, true, cond, Some, refl, sym, ap, subst, ◌∙◌, arith, ⊎_elim, inl, eq-or-lt_of_le}
 use Rattle.std.specs.Prelude.{◌==◌, slice_get}
 use Rattle.std.proofs.lemmas.Bool.{cases_lt, eqb-true, eq-eqb}
 use Rattle.std.proofs.lemmas.List.{map-append}
@@ -26,15 +27,15 @@ use Rattle.schedule_laws.specs.Lives.{In}
 use Rattle.schedule_laws.specs.Histories.{input_of}
 use Rattle.schedule_laws.proofs.Carrying.{count_rises, same_dated, same_ends, sends_in}
 use Rattle.schedule_laws.proofs.Members.{chosen, in_map, in_right}
-use Rattle.schedule_moments.proofs.Written.{event_took}
-use Rattle.schedule_views.proofs.Journals.{so_far, wrote, stamped}
+use Rattle.proof_journals.proofs.Written.{event_took}
+use Rattle.proof_journals.proofs.Journals.{so_far, wrote, stamped}
 use Rattle.proof_moments.specs.Members as members
 use Rattle.proof_moments.specs.Ties.{StandsIn}
 use Rattle.cub_facts.specs.Rings.{IsUpTo, node_count}
 use Rattle.proof_links.proofs.Carrying.{Came, came_from, SentAs, sent_as, number_of, numbers_rise, delivered}
 use Rattle.proof_links.proofs.Nodes.{lives_on}
 use Rattle.proof_journals.proofs.Events.{AreKept, written_in}
-use Rattle.proof_journals.proofs.Lists.{in_laws, in_moments}
+use Rattle.proof_journals.proofs.Lists.{in_laws, in_moments, none_more}
 use Rattle.proof_journals.proofs.Cutting.{cut_in}
 use Rattle.proof_delivery.specs.Ties.{viewers, WasSentOn, IsGotOn, IsSentTwice, ViewersGet}
 use Rattle.proof_parcels.proofs.Entries.{sent_in, stands_out, stands_written, event_writes_got, event_writes_out, StandsBehind, later_behind, same_behind}
@@ -46,51 +47,70 @@ pub record SentBehind (outs : List (Out Msg)) (link : LinkNo) (m o : Msg) : Type
   pub is : outs ≡ front ++ out.Send link m ∷ back
   pub there : In (out.Send link o) back
 
-one_before : (x : Out Msg) (outs : List (Out Msg)) (link : LinkNo) (m o : Msg) → SentBehind outs link m o → SentBehind (x ∷ outs) link m o
-one_before x outs link m o s = record { front = x ∷ s.front; back = s.back; is = ap (λ (l : List (Out Msg)). x ∷ l) s.is; there = s.there }
+one_before : (x : Out Msg) (outs : List (Out Msg)) (link : LinkNo) (m o : Msg) → SentBehind outs link m o
+    → SentBehind (x ∷ outs) link m o
+one_before x outs link m o s = record {
+  front = x ∷ s.front;
+  back = s.back;
+  is = ap (λ (l : List (Out Msg)). x ∷ l)
+      s.is;
+  there = s.there;
+}
 
 link_same : (a b : LinkNo) → a.0 ≡ b.0 → a ≡ b
 link_same a b e = ap (λ (n : ℕ). record { 0 = n }) e
 
 -- the first of two places is that of the first message, or both are behind it
 pair_here : (b : ℕ) (way : LinkNo) (n : Msg) (os : List (Out Msg)) (link : LinkNo) (m o : Msg) → way.0 ≡ link.0
-    → ((i k : ℕ) → i < k → slice_get (sends_of link.0 b os) i ≡ Some (record { beat = b; item = m }) → slice_get (sends_of link.0 b os) k ≡ Some (record { beat = b; item = o }) → SentBehind os link m o)
-    → (i k : ℕ) → i < k → slice_get (record { beat = b; item = n } ∷ sends_of link.0 b os) i ≡ Some (record { beat = b; item = m })
-    → slice_get (record { beat = b; item = n } ∷ sends_of link.0 b os) k ≡ Some (record { beat = b; item = o }) → SentBehind (out.Send way n ∷ os) link m o
+    → ((i k : ℕ) → i < k → slice_get (sends_of link.0 b os) i ≡ Some (record { beat = b; item = m })
+    → slice_get (sends_of link.0 b os) k ≡ Some (record { beat = b; item = o }) → SentBehind os link m o)
+    → (i k : ℕ) → i < k → slice_get (record { beat = b; item = n } ∷ sends_of link.0 b os) i ≡ Some
+    (record { beat = b; item = m })
+    → slice_get (record { beat = b; item = n } ∷ sends_of link.0 b os) k ≡ Some (record { beat = b; item = o })
+    → SentBehind (out.Send way n ∷ os) link m o
 pair_here b way n os link m o same more zero zero low x y = absurd (omega arith)
 pair_here b way n os link m o same more zero (suc k) low x y =
-    let first : record { beat = b; item = n } ≡ record { beat = b; item = m } = same_dated (record { beat = b; item = n }) (record { beat = b; item = m }) x in
+    let first : record { beat = b; item = n } ≡ record { beat = b; item = m } = same_dated
+    (record { beat = b; item = n }) (record { beat = b; item = m }) x in
     let message : n ≡ m = ap (λ (d : Dated Msg). d.item) first in
     let r = sends_in link.0 b os (record { beat = b; item = o }) k y in
     record {
       front = [];
       back = os;
-      is = ap (λ (l : LinkNo). out.Send l n ∷ os) (link_same way link same) ∙ ap (λ (z : Msg). out.Send link z ∷ os) message;
+      is = ap (λ (l : LinkNo). out.Send l n ∷ os) (link_same way link same) ∙ ap (λ (z : Msg). out.Send link z ∷ os)
+          message;
       there = subst (λ (l : LinkNo). In (out.Send l o) os) (link_same r.0 link r.1) r.2;
     }
 pair_here b way n os link m o same more (suc i) zero low x y = absurd (omega arith)
-pair_here b way n os link m o same more (suc i) (suc k) low x y = one_before (out.Send way n) os link m o (more i k (omega arith) x y)
+pair_here b way n os link m o same more (suc i) (suc k) low x y = one_before (out.Send way n) os link m o
+    (more i k (omega arith) x y)
 
-pair_sent : (b : ℕ) (os : List (Out Msg)) (link : LinkNo) (m o : Msg) (i k : ℕ) → i < k → slice_get (sends_of link.0 b os) i ≡ Some (record { beat = b; item = m })
+pair_sent : (b : ℕ) (os : List (Out Msg)) (link : LinkNo) (m o : Msg) (i k : ℕ) → i < k
+    → slice_get (sends_of link.0 b os) i ≡ Some (record { beat = b; item = m })
     → slice_get (sends_of link.0 b os) k ≡ Some (record { beat = b; item = o }) → SentBehind os link m o
 pair_sent b [] link m o i k low x y = absurd (none-some _ x)
-pair_sent b (out.Act w ∷ os) link m o i k low x y = one_before (out.Act w) os link m o (pair_sent b os link m o i k low x y)
+pair_sent b (out.Act w ∷ os) link m o i k low x y = one_before (out.Act w) os link m o
+    (pair_sent b os link m o i k low x y)
 pair_sent b (out.Send way n ∷ os) link m o i k low x y =
-    chosen (λ (ds : List (Dated Msg)). slice_get ds i ≡ Some (record { beat = b; item = m }) → slice_get ds k ≡ Some (record { beat = b; item = o }) → SentBehind (out.Send way n ∷ os) link m o)
+    chosen (λ (ds : List (Dated Msg)). slice_get ds i ≡ Some (record { beat = b; item = m })
+    → slice_get ds k ≡ Some (record { beat = b; item = o }) → SentBehind (out.Send way n ∷ os) link m o)
     (way.0 == link.0) (record { beat = b; item = n } ∷ sends_of link.0 b os) (sends_of link.0 b os)
-    (λ t first second. pair_here b way n os link m o (eqb-true _ _ t) (λ j l less p q. pair_sent b os link m o j l less p q) i k low first second)
+    (λ t first second. pair_here b way n os link m o (eqb-true _ _ t) (λ j l less p q. pair_sent b os link m o j l
+    less p q) i k low first second)
     (λ _ first second. one_before (out.Send way n) os link m o (pair_sent b os link m o i k low first second))
     x y
 
 -- ---- what an event writes
 
 mapped_behind : (stamp : Stamp) (outs : List (Out Msg)) (link : LinkNo) (m o : Msg) → SentBehind outs link m o
-    → StandsBehind (map (entry_of noted stamp) outs) (entry_of noted stamp (out.Send link m)) (entry_of noted stamp (out.Send link o))
+    → StandsBehind (map (entry_of noted stamp) outs) (entry_of noted stamp (out.Send link m))
+    (entry_of noted stamp (out.Send link o))
 mapped_behind stamp outs link m o s = record {
   before = map (entry_of noted stamp) s.front;
   behind = map (entry_of noted stamp) s.back;
   is = ap (map (entry_of noted stamp)) s.is ∙ map-append (entry_of noted stamp) s.front (out.Send link m ∷ s.back);
-  there = in_moments _ (map (entry_of noted stamp) s.back) (in_map (entry_of noted stamp) (out.Send link o) s.back s.there);
+  there = in_moments _ (map (entry_of noted stamp) s.back) (in_map (entry_of noted stamp) (out.Send link o) s.back
+      s.there);
 }
 
 nothing_cut : (outs front back : List (Out Msg)) (x : Out Msg) → outs ≡ [] → outs ≡ front ++ x ∷ back → ⊥
@@ -98,26 +118,29 @@ nothing_cut outs [] back x e f = let q : [] ≡ x ∷ back = sym e ∙ f in absu
 nothing_cut outs (y ∷ ys) back x e f = let q : [] ≡ y ∷ (ys ++ x ∷ back) = sym e ∙ f in absurd (cc)
 
 module _ {S : Type 0} (step : S → Input Msg → Deed Msg S) where
-  event_behind : (ev : NodeEvent Msg) (before : Past S) (link : LinkNo) (m o : Msg) → SentBehind (outs_of step ev before) link m o
-      → StandsBehind (entries_at noted step ev before) (entry_of noted (stamp_at ev) (out.Send link m)) (entry_of noted (stamp_at ev) (out.Send link o))
+  event_behind : (ev : NodeEvent Msg) (before : Past S) (link : LinkNo) (m o : Msg)
+      → SentBehind (outs_of step ev before) link m o
+      → StandsBehind (entries_at noted step ev before) (entry_of noted (stamp_at ev) (out.Send link m))
+      (entry_of noted (stamp_at ev) (out.Send link o))
   event_behind (Does (Take stamp way n)) before link m o s =
       let b = mapped_behind stamp (kept_outs step (Take stamp way n) before) link m o s in
       let got : Entry = record { stamp = stamp; what = what.Got way (noted n) } in
       record { before = got ∷ b.before; behind = b.behind; is = ap (λ (l : List Entry). got ∷ l) b.is; there = b.there }
-  event_behind (Does (Tick stamp)) before link m o s = mapped_behind stamp (kept_outs step (Tick stamp) before) link m o s
+  event_behind (Does (Tick stamp)) before link m o s = mapped_behind stamp (kept_outs step (Tick stamp) before) link
+      m o s
   event_behind (Dies stamp) before link m o s = absurd (nothing_cut [] s.front s.back (out.Send link m) refl s.is)
 
   -- a message that is taken is written first, and then the outputs
-  take_wrote : (ev : NodeEvent Msg) (before : Past S) (stamp : Stamp) (link : LinkNo) (m : Msg) → ev ≡ Does (Take stamp link m)
-      → entries_at noted step ev before ≡ record { stamp = stamp; what = what.Got link (noted m) } ∷ map (entry_of noted stamp) (outs_of step ev before)
-  take_wrote ev before stamp link m e = subst (λ (v : NodeEvent Msg). entries_at noted step v before ≡ record { stamp = stamp; what = what.Got link (noted m) } ∷ map (entry_of noted stamp) (outs_of step v before)) (sym e) refl
+  take_wrote : (ev : NodeEvent Msg) (before : Past S) (stamp : Stamp) (link : LinkNo) (m : Msg)
+      → ev ≡ Does (Take stamp link m)
+      → entries_at noted step ev before ≡ record { stamp = stamp; what = what.Got link (noted m) } ∷ map
+      (entry_of noted stamp) (outs_of step ev before)
+  take_wrote ev before stamp link m e = subst (λ (v : NodeEvent Msg). entries_at noted step v before ≡ record
+      { stamp = stamp; what = what.Got link (noted m) } ∷ map (entry_of noted stamp) (outs_of step v before))
+      (sym e) refl
 
--- behind the one element of a list none stands
-alone : (part rest : List Entry) (e x f : Entry) → part ++ e ∷ rest ≡ x ∷ [] → In f rest → ⊥
-alone [] rest e x f q i = let none : rest ≡ [] = cc in subst (λ (l : List Entry). In f l) none i
-alone (z ∷ zs) rest e x f q i = let none : zs ++ e ∷ rest ≡ [] = cc in subst (λ (l : List Entry). In f l) none (in_right f zs (e ∷ rest) (inr i))
-
-module _ {S : Type 0} {step : S → Input Msg → Deed Msg S} {p : Params} {orders : List Order} {disk_at : ℕ → DiskState} {h : History Msg S} {journals : List (List Entry)}
+module _ {S : Type 0} {step : S → Input Msg → Deed Msg S} {p : Params} {orders : List Order} {disk_at : ℕ
+    → DiskState} {h : History Msg S} {journals : List (List Entry)}
     (kept : AreKept step p orders disk_at h journals) where
   known : viewers p < node_count p
   known = omega arith
@@ -134,18 +157,22 @@ module _ {S : Type 0} {step : S → Input Msg → Deed Msg S} {p : Params} {orde
     pub same : noted message ≡ m
     pub came : Came kept.plan kept.ring (viewers p) i e.stamp.beat link message
 
-  taken_in : (i : ℕ) (e : Entry) (link : LinkNo) (m : Note) → i < h.count (viewers p) → In e (wrote step h (viewers p) i) → e.what ≡ what.Got link m → IsTakenIn i e link m
+  taken_in : (i : ℕ) (e : Entry) (link : LinkNo) (m : Note) → i < h.count (viewers p)
+      → In e (wrote step h (viewers p) i) → e.what ≡ what.Got link m → IsTakenIn i e link m
   taken_in i e link m low k is =
-      let t = event_took step p (viewers p) (h.event (viewers p) i) (past noted step h (viewers p) i) e link m (kept.ring.run.fair (viewers p) i known low) k is in
+      let t = event_took step p (viewers p) (h.event (viewers p) i) (past noted step h (viewers p) i) e link m
+      (kept.ring.run.fair (viewers p) i known low) k is in
       let all = lives_all in
       record {
         message = t.message;
         event = t.is;
         same = t.same;
-        came = came_from kept.plan kept.ring (viewers p) i e.stamp link t.message known (omega arith) (ap input_of t.is);
+        came = came_from kept.plan kept.ring (viewers p) i e.stamp link t.message known (omega arith)
+            (ap input_of t.is);
       }
 
-  came : (e : Entry) (link : LinkNo) (m : Note) → StandsIn journals (viewers p) e → e.what ≡ what.Got link m → WasSentOn p journals link m e.stamp.beat
+  came : (e : Entry) (link : LinkNo) (m : Note) → StandsIn journals (viewers p) e → e.what ≡ what.Got link m
+      → WasSentOn p journals link m e.stamp.beat
   came e link m s is =
       let w = written_in kept (viewers p) e s in
       let t = taken_in w.1.at e link m w.1.before w.1.there is in
@@ -162,25 +189,31 @@ module _ {S : Type 0} {step : S → Input Msg → Deed Msg S} {p : Params} {orde
   -- ---- what was sent in time came
 
   module _ (end : ℕ) (until : IsUpTo p end h) where
-    comes : (n : ℕ) (e : Entry) (link : LinkNo) (m : Note) → StandsIn journals n e → e.what ≡ what.Sent link m → ends_of (links_of p) link.0 ≡ Some (n, viewers p) → e.stamp.beat + p.delay < end
+    comes : (n : ℕ) (e : Entry) (link : LinkNo) (m : Note) → StandsIn journals n e → e.what ≡ what.Sent link m
+        → ends_of (links_of p) link.0 ≡ Some (n, viewers p) → e.stamp.beat + p.delay < end
         → IsGotOn journals (viewers p) link m
     comes n e link m s is ends late =
         let x = sent_in kept n e link m s is in
         let place = sent_as kept.plan kept.ring n x.at link x.send.message x.done x.send.sent in
         let when : e.stamp.beat ≡ beat h n x.at = ap (λ (z : Stamp). z.beat) (stamped step h n x.at e x.there) in
-        let all = until.until (viewers p) known (λ i low. kept.ring.deaths.mortal (viewers p) i known (omega arith) low) in
+        let all = until.until (viewers p) known (λ i low. kept.ring.deaths.mortal (viewers p) i known (omega arith)
+        low) in
         let t = delivered kept.plan kept.ring (viewers p) place.1 x.known known ends (omega arith) in
         record {
           entry = record { stamp = t.stamp; what = what.Got link (noted x.send.message) };
-          stands = stands_written kept (viewers p) t.when _ known t.before (event_writes_got step (h.event (viewers p) t.when) (past noted step h (viewers p) t.when) t.stamp link x.send.message t.is);
+          stands = stands_written kept (viewers p) t.when _ known t.before
+              (event_writes_got step (h.event (viewers p) t.when) (past noted step h (viewers p) t.when) t.stamp
+              link x.send.message t.is);
           is = ap (λ (z : Note). what.Got link z) x.send.same;
         }
 
   -- ---- what came twice was sent twice
 
   -- two messages of one node on a link, of which the first has the lower number
-  sent_pair : (n i k a b : ℕ) (link : LinkNo) (m : Note) (x y : Msg) → n < node_count p → SentAs kept.plan kept.ring n i a link x → SentAs kept.plan kept.ring n k b link y
-      → In (out.Send link x) (outs noted step h n i) → In (out.Send link y) (outs noted step h n k) → number_of kept.plan kept.ring n i a link < number_of kept.plan kept.ring n k b link
+  sent_pair : (n i k a b : ℕ) (link : LinkNo) (m : Note) (x y : Msg) → n < node_count p
+      → SentAs kept.plan kept.ring n i a link x → SentAs kept.plan kept.ring n k b link y
+      → In (out.Send link x) (outs noted step h n i) → In (out.Send link y) (outs noted step h n k)
+      → number_of kept.plan kept.ring n i a link < number_of kept.plan kept.ring n k b link
       → noted x ≡ m → noted y ≡ m → IsSentTwice journals link m
   sent_pair n i k a b link m x y inside one two first second less same_x same_y =
       let e : Entry = entry_of noted (stamp_at (h.event n i)) (out.Send link x) in
@@ -193,13 +226,19 @@ module _ {S : Type 0} {step : S → Input Msg → Deed Msg S} {p : Params} {orde
       (λ (l : i < k). later_behind step h n i k (h.count n) e f l done_k there_e there_f)
       (λ (g : k ≤ i). ⊎_elim
       (λ (q : k ≡ i).
-      let places : a < b = (let z : number_of kept.plan kept.ring n i b link ≡ number_of kept.plan kept.ring n k b link = ap (λ (j : ℕ). number_of kept.plan kept.ring n j b link) (sym q) in omega arith) in
-      let other : slice_get (sends_of link.0 (beat h n i) (outs noted step h n i)) b ≡ Some (record { beat = beat h n i; item = y }) =
-      subst (λ (j : ℕ). slice_get (sends_of link.0 (beat h n j) (outs noted step h n j)) b ≡ Some (record { beat = beat h n j; item = y })) q two.sends in
+      let places : a < b = (let z : number_of kept.plan kept.ring n i b link ≡ number_of kept.plan kept.ring n k b
+      link = ap (λ (j : ℕ). number_of kept.plan kept.ring n j b link) (sym q) in omega arith) in
+      let other : slice_get (sends_of link.0 (beat h n i) (outs noted step h n i)) b ≡ Some
+      (record { beat = beat h n i; item = y }) =
+      subst (λ (j : ℕ). slice_get (sends_of link.0 (beat h n j) (outs noted step h n j)) b ≡ Some
+      (record { beat = beat h n j; item = y })) q two.sends in
       let s = pair_sent (beat h n i) (outs noted step h n i) link x y a b places one.sends other in
-      let here = same_behind step h n i (h.count n) e (entry_of noted (stamp_at (h.event n i)) (out.Send link y)) done_i (event_behind step (h.event n i) (past noted step h n i) link x y s) in
-      subst (λ (j : ℕ). StandsBehind (so_far step h n (h.count n)) e (entry_of noted (stamp_at (h.event n j)) (out.Send link y))) (sym q) here)
-      (λ (l : k < i). let r = numbers_rise kept.plan kept.ring {n = n} {at = k} {place = b} {link = link} {m = y} i a two l in absurd (omega arith))
+      let here = same_behind step h n i (h.count n) e (entry_of noted (stamp_at (h.event n i)) (out.Send link y))
+      done_i (event_behind step (h.event n i) (past noted step h n i) link x y s) in
+      subst (λ (j : ℕ). StandsBehind (so_far step h n (h.count n)) e (entry_of noted (stamp_at (h.event n j))
+      (out.Send link y))) (sym q) here)
+      (λ (l : k < i). let r = numbers_rise kept.plan kept.ring {n = n} {at = k} {place = b} {link = link} {m = y} i
+      a two l in absurd (omega arith))
       (eq-or-lt_of_le g))
       (cases_lt i k) in
       record {
@@ -214,32 +253,40 @@ module _ {S : Type 0} {step : S → Input Msg → Deed Msg S} {p : Params} {orde
         second_is = ap (λ (z : Note). what.Sent link z) same_y;
       }
 
-  twice : (xs ys : List Entry) (e f : Entry) (link : LinkNo) (m : Note) → slice_get journals (viewers p) ≡ Some (xs ++ e ∷ ys) → members.In f ys
+  twice : (xs ys : List Entry) (e f : Entry) (link : LinkNo) (m : Note) → slice_get journals (viewers p) ≡ Some
+      (xs ++ e ∷ ys) → members.In f ys
       → e.what ≡ what.Got link m → f.what ≡ what.Got link m → IsSentTwice journals link m
   twice xs ys e f link m at i e_is f_is =
       let v : ℕ = viewers p in
       let c = cut_in kept v xs e ys at in
-      let here : In e (wrote step h v c.at) = subst (λ (l : List Entry). In e l) c.event_is (in_right e c.part (e ∷ c.rest) (inl refl)) in
+      let here : In e (wrote step h v c.at) = subst (λ (l : List Entry). In e l) c.event_is
+      (in_right e c.part (e ∷ c.rest) (inl refl)) in
       let one = taken_in c.at e link m c.done here e_is in
       ⊎_elim
       (λ k.
       let whole : wrote step h v c.at ≡ record { stamp = e.stamp; what = what.Got link (noted one.message) } ∷ [] =
       take_wrote step (h.event v c.at) (past noted step h v c.at) e.stamp link one.message one.event
-      ∙ ap (λ (os : List (Out Msg)). record { stamp = e.stamp; what = what.Got link (noted one.message) } ∷ map (entry_of noted e.stamp) os) (kept.ring.rules.views c.at c.done) in
-      absurd (alone c.part c.rest e _ f (c.event_is ∙ whole) k))
+      ∙ ap (λ (os : List (Out Msg)). record { stamp = e.stamp; what = what.Got link (noted one.message) } ∷ map
+      (entry_of noted e.stamp) os) (kept.ring.rules.views c.at c.done) in
+      absurd (none_more c.part e c.rest _ f (c.event_is ∙ whole) k))
       (λ k.
       let later : c.at < k.0 = k.1 in
       let two = taken_in k.0 f link m k.2 k.3 f_is in
       let a = one.came in
       let b = two.came in
       let from : b.from ≡ a.from = (same_ends b.from v a.from v (sym b.ends ∙ a.ends)).0 in
-      let moved = subst (λ (n : ℕ). SentAs kept.plan kept.ring n b.at b.place link two.message × In (out.Send link two.message) (outs noted step h n b.at) × (takes link.0 h v k.0 ≡ number_of kept.plan kept.ring n b.at b.place link)) from (b.note, b.sent, b.number) in
+      let moved = subst (λ (n : ℕ). SentAs kept.plan kept.ring n b.at b.place link two.message
+      × In (out.Send link two.message) (outs noted step h n b.at)
+      × (takes link.0 h v k.0 ≡ number_of kept.plan kept.ring n b.at b.place link)) from
+      (b.note, b.sent, b.number) in
       let takes_it : is_take_on link.0 (h.event v c.at) ≡ true = ap (is_take_on link.0) one.event ∙ eq-eqb _ _ refl in
-      let next : takes link.0 h v (suc c.at) ≡ suc (takes link.0 h v c.at) = ap (λ (t : Bool). cond t (suc (takes link.0 h v c.at)) (takes link.0 h v c.at)) takes_it in
+      let next : takes link.0 h v (suc c.at) ≡ suc (takes link.0 h v c.at) = ap
+      (λ (t : Bool). cond t (suc (takes link.0 h v c.at)) (takes link.0 h v c.at)) takes_it in
       let rise = count_rises (is_take_on link.0) h v (suc c.at) k.0 (omega arith) in
       let first = a.number in
       let second = moved.2 in
-      sent_pair a.from a.at b.at a.place b.place link m one.message two.message a.known a.note moved.0 a.sent moved.1 (omega arith) one.same two.same)
+      sent_pair a.from a.at b.at a.place b.place link m one.message two.message a.known a.note moved.0 a.sent
+      moved.1 (omega arith) one.same two.same)
       (c.behind f (in_laws f ys i))
 
   pub get : (end : ℕ) → IsUpTo p end h → ViewersGet p journals end

@@ -36,7 +36,8 @@ pub record IsRingOf {S : Type 0} (step : S → Input Msg → Deed Msg S) (p : Pa
 
 -- If the pieces of such a ring are right, its journals tell of its blocks and pieces: each entry
 -- tells a fact, each fact has one entry, the disks' journals tell why reads failed, and the viewers
--- got what was sent to them.
+-- got what was sent to them. That pieces are right is used where a want is to be asked for, or sent,
+-- once: it does not name its tenancy's last visit, so two tenancies could have the same want.
 abbrev pub ParcelsAreTied : (S : Type 0) → Type 0
 ParcelsAreTied S =
     (step : S → Input Msg → Deed Msg S) (p : Params) (a : Evidence) (disk_at : ℕ → DiskState)

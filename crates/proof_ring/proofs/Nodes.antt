@@ -25,7 +25,7 @@ use Rattle.schedule_laws.specs.Lives.{store_at, outs_at}
 use Rattle.schedule_laws.specs.Histories.{input_of}
 use Rattle.schedule_laws.proofs.Members.{chosen}
 use Rattle.schedule_laws.proofs.Wrapped.{cub_with, cub_state, cub_outs, after_state, event_outs}
-use Rattle.stops_ways.specs.Controllers.{controller, command, known_at, commands_at}
+use Rattle.controller_facts.specs.Controllers.{controller, command, known_at, commands_at}
 use Rattle.cub_facts.specs.Rings.{node_of_disk, viewers}
 use Rattle.proof_ring.specs.Rings.{RingsAreHistories}
 use Rattle.proof_ring.proofs.Living.{alive_below}

@@ -14,11 +14,10 @@ use Rattle.scenario_read.specs.declared.scenario.ScEvent.TheVariants.{Begin, Fin
 use Rattle.scenario_read.specs.declared.scenario.Scenario.{Scenario}
 use Rattle.scenario_read.specs.Sound.{StartsWithin, IsScenario}
 use Rattle.scenario_read.specs.Orders.{IsCatalogueOf, orders_from, start_order, first_disk, disk_in}
-use Rattle.ring_schedule.proofs.Openings.{get_some}
-use Rattle.ring_stops.proofs.Scenarios.{all_at, same_kind, counted_orders}
+use Rattle.proof_ring.proofs.Opened.{get_some}
+use Rattle.proof_ring.proofs.Counted.{all_at, same_kind}
 use Rattle.proof_places.specs.Files.{IsOfFile}
-use Rattle.cub_facts.specs.Rings.{AreCounted, AreOfCatalogue}
-use Rattle.proof_ring.specs.Runs.{AreShort}
+use Rattle.cub_facts.specs.Rings.{AreOfCatalogue}
 
 -- The first disk of a file that is there.
 pub disk_there : (c : Catalogue) (file : ℕ) (info : FileInfo) → slice_get c.files file ≡ Some info → first_disk c file ≡ info.disk
@@ -56,8 +55,3 @@ module _ (s : Scenario) (library : List (List ℕ)) (c : Catalogue) (scenario : 
         of_file c (length s.files) 0 s.events has_file (λ j e q. all_at (StartsWithin (length s.files)) s.events j e scenario.events.within q)
         k starts.0 ask starts.1;
   }
-
-  pub counted : AreShort library → AreCounted s.course.plan.params (orders_from c 0 s.events)
-  counted short =
-      let fine = counted_orders s library c scenario short is in
-      record { given = fine.given; counted = fine.counted }

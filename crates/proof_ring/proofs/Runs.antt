@@ -22,14 +22,16 @@ use Rattle.ring_nodes.specs.AllNodes.{any_step, opening_cub, opening_controller,
 use Rattle.ring_nodes.proofs.Numbered.{length-numbered, opening_count}
 use Rattle.ring_facts.specs.Rings.{IsRingRun}
 use Rattle.ring_facts.specs.Steps.{ring_of}
-use Rattle.ring_schedule.proofs.Openings.{get_some, cubs_open, controller_opens, viewers_open, life_kept, read_low}
-use Rattle.stops_ways.specs.Controllers.{controller}
-use Rattle.cub_facts.specs.Rings.{node_count, node_of_disk, viewers, DieAlone, AreCounted, IsUpTo, AreOfCatalogue}
+use Rattle.proof_ring.proofs.Opened.{get_some, cubs_open, controller_opens, viewers_open, life_kept, read_low}
+use Rattle.controller_facts.specs.Controllers.{controller}
+use Rattle.controller_facts.specs.Orders.{AreCounted}
+use Rattle.cub_facts.specs.Rings.{node_count, node_of_disk, viewers, DieAlone, IsUpTo, AreOfCatalogue}
 use Rattle.proof_journals.specs.Journals.{AreJournalsOf}
 use Rattle.proof_ring.specs.Rings.{OpensAs, IsRing}
 use Rattle.proof_ring.specs.Runs.{disks_of, AreShort, IsKeptRing, KeptRunsAreRings}
 use Rattle.proof_ring.proofs.Openings.{disk_opens}
-use Rattle.proof_ring.proofs.Orders.{of_catalogue, counted}
+use Rattle.proof_ring.proofs.Orders.{of_catalogue}
+use Rattle.proof_ring.proofs.Counted.{counted_orders}
 
 -- A life that ends in a beat has its death there.
 pub dies_in : (d : Option ℕ) (b : ℕ) → dies (record { death = d }) b ≡ true → d ≡ Some b
@@ -108,7 +110,7 @@ module _ (G : Type 0) (s : Scenario) (library : List (List ℕ)) (k : Kept) (sce
   pub orders_counted : AreCounted p k.orders
   orders_counted =
       subst (λ (c : Course). AreCounted c.plan.params k.orders) (sym run.course)
-      (subst (λ (os : List Order). AreCounted s.course.plan.params os) (sym run.orders) (counted s library k.catalogue scenario run.catalogue short))
+      (subst (λ (os : List Order). AreCounted s.course.plan.params os) (sym run.orders) (counted_orders s library k.catalogue scenario short run.catalogue))
 
   pub files : AreOfCatalogue p k.catalogue k.orders
   files =

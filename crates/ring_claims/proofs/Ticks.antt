@@ -14,13 +14,33 @@ use Rattle.scenario_read.specs.Sound.{IsScenario}
 use Rattle.ring_nodes.specs.declared.nodes.AnyNode.{AnyNode}
 use Rattle.ring_facts.specs.Rings.{IsRingRun}
 use Rattle.schedule_laws.specs.Facts.{TickedAt}
-use Rattle.ring_schedule.proofs.Readings.{tick_made, stamped}
 use Rattle.cub_facts.specs.Lives.{lives_of}
 use Rattle.cub_facts.specs.Rings.{node_count}
 use Rattle.proof_links.proofs.Lives.{LivesOn, EndsInDeath, lives_or_dies}
 use Rattle.proof_ring.specs.Runs.{AreShort}
 use Rattle.proof_ring.proofs.Living.{counts_few}
 use Rattle.proof_ring.proofs.Runs.{death_is, size}
+use Rattle.std.proofs.Common.{◌≡◌, ℕ, true, refl, ap, ◌∙◌}
+use Rattle.tiger_base.specs.declared.number.Stamp.{Stamp}
+use Rattle.node_kit.specs.Steps.{Input}
+use Rattle.node_kit.specs.Steps.Input.{Take, Tick}
+use Rattle.run_facts.specs.Events.{NodeEvent, is_tick, stamp_at}
+use Rattle.run_facts.specs.Events.NodeEvent.{Does, Dies}
+use Rattle.run_facts.specs.Histories.{beat, reading}
+use Rattle.schedule_laws.specs.Histories.{input_of}
+
+pub tick_made : (e : NodeEvent Msg) → is_tick e ≡ true → input_of e ≡ Tick (stamp_at e)
+tick_made (Does (Take stamp link m)) t = absurd (cc)
+tick_made (Does (Tick stamp)) t = refl
+tick_made (Dies stamp) t = absurd (cc)
+
+-- a tick at a stamp, by the stamp's beat and its reading
+abbrev pub tick : Stamp → Input Msg
+tick s = Tick s
+
+pub stamped : (s : Stamp) (b l : ℕ) → s.beat ≡ b → s.reading ≡ l → tick s ≡ tick (record { beat = b; reading = l })
+stamped s b l e f =
+    ap (λ (x : ℕ). tick (record { beat = x; reading = s.reading })) e ∙ ap (λ (x : ℕ). tick (record { beat = b; reading = x })) f
 
 -- A node acts below the beat of its death alone.
 pub acts_below : (d b : ℕ) (life : Lifetime) → life.death ≡ Some d → acts life b ≡ true → b < d

@@ -25,13 +25,12 @@ use Rattle.partial_view.specs.declared.line.Line.{Line}
 use Rattle.partial_view.specs.Lines.{is_at}
 use Rattle.partial_view.specs.Views.{line_at}
 use Rattle.slot_owner.specs.Free.{is_free}
-use Rattle.insert_queue.specs.Queues.{without}
 use Rattle.insert_queue.specs.Queues as queues
 use Rattle.node_kit.specs.Ways.{way_ahead}
 use Rattle.node_kit.specs.Deeds.{nothing}
 use Rattle.cub_rules.specs.declared.store.Store.{Store}
 use Rattle.cub_rules.specs.Ticks.{putting, told_placed, free_on}
-use Rattle.schedule_proof.specs.Facts.{IsGiven}
+use Rattle.schedule_laws.specs.Abstract.{IsGiven}
 use Rattle.schedule_laws.specs.Lives.{In}
 use Rattle.schedule_laws.proofs.Members.{chosen, in_left, in_right, in_cases, from_filter}
 use Rattle.schedule_laws.proofs.Moves.{AreMeek, meek_append, Moves, taken_out, still, moves_then}

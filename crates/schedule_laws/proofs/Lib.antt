@@ -21,3 +21,4 @@ pub mod StartLaws
 pub mod Rings
 pub mod Carrying
 pub mod Wrapped
+pub mod Beats

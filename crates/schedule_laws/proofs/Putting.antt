@@ -24,7 +24,7 @@ use Rattle.node_kit.specs.Deeds.{then_do, each_in_turn}
 use Rattle.cub_rules.specs.declared.store.Store.{Store}
 use Rattle.cub_rules.specs.Records.{took}
 use Rattle.cub_rules.specs.Ticks.{tenancy_from, sending, putting, told_placed, putting_own, put_or_wait, free_on, putting_each, is_for, putting_on, inserting_own, disks_at}
-use Rattle.schedule_proof.specs.Facts.{IsGiven}
+use Rattle.schedule_laws.specs.Abstract.{IsGiven}
 use Rattle.cub_laws.proofs.Numbers.{visit_own, disks_own}
 use Rattle.schedule_laws.specs.Lives.{In}
 use Rattle.schedule_laws.proofs.Members.{from_filter, all_in}

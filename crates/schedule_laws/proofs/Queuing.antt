@@ -140,9 +140,6 @@ pub start_joins : (a : Ask) (h : Store) → is_ask a ≡ true → is_held h.held
 unfolding meeting_start
 start_joins a h ask held shown = rw (ask, held, shown) refl
 
-pub holding_after : (p : Params) (stamp : Stamp) (v : Instance) (h : Store) → Steady h (holding p stamp v h)
-holding_after p stamp v h = (refl, refl)
-
 pub dropping_lines_steady : (v : Instance) (h : Store) → Steady h (dropping_lines v h)
 unfolding dropping_lines
 dropping_lines_steady v h = (refl, refl)

@@ -26,8 +26,8 @@ use Rattle.node_kit.specs.Deeds.{then_do}
 use Rattle.cub_rules.specs.declared.store.Store.{Store}
 use Rattle.cub_rules.specs.Messages.{taking, shows}
 use Rattle.cub_rules.specs.Ticks.{inserting, splitting, forwarding, reading, serving, beating, ticking}
-use Rattle.schedule_proof.specs.Facts.{Entered, ReachedBy}
-use Rattle.schedule_proof.specs.Laws.{IsOrdered, IsInWindow, Stands, IsPlacedBy, StartLaws}
+use Rattle.schedule_laws.specs.Abstract.{Entered, ReachedBy}
+use Rattle.schedule_laws.specs.Laws.{IsOrdered, IsInWindow, Stands, IsPlacedBy, StartLaws}
 use Rattle.schedule_laws.specs.Lives.{In, Lives, AreLives, AreFormed, deed_of, store_at, is_tick_input, beat_at}
 use Rattle.schedule_laws.specs.Facts.{TickedAt, DidAt, TookMessage, Outside, AreStarts, facts_of}
 use Rattle.schedule_laws.proofs.Members.{chosen, in_right}

@@ -29,8 +29,8 @@ use Rattle.cub_rules.specs.declared.store.Store.{Store}
 use Rattle.cub_rules.specs.State.{IsRecordOf, IsLineOf}
 use Rattle.cub_rules.specs.Ticks.{ticking}
 use Rattle.cub_rules.specs.Messages.{taking}
-use Rattle.schedule_proof.specs.Facts.{Entered, ReachedBy, IsGiven}
-use Rattle.schedule_proof.specs.Laws.{Inserts, Taken, Forwards, WasEarly, Sends, Occupied, StateLaws}
+use Rattle.schedule_laws.specs.Abstract.{Entered, ReachedBy, IsGiven}
+use Rattle.schedule_laws.specs.Laws.{Inserts, Taken, Forwards, WasEarly, Sends, Occupied, StateLaws}
 use Rattle.schedule_laws.specs.Lives.{In, Lives, AreLives, AreFormed, deed_of, store_at, outs_at, is_tick_input, beat_at, reading_at}
 use Rattle.schedule_laws.specs.Facts.{TickedAt, DidAt, TookAt, InsertedAt, TookMessage, BelievedAt, Outside, facts_of}
 use Rattle.schedule_laws.proofs.Members.{all_in}

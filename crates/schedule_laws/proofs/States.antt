@@ -1,5 +1,5 @@
 -- The laws of viewer states, insertion and forwarding, of one cub's life.
-use Rattle.std.proofs.Common.{Bool, Option, suc, ◌≡◌, ℕ, ◌+◌, ◌<◌, ◌≤◌, nat_lt, true, false, refl, sym, ap, subst, ◌∙◌, arith, ⊎_elim, inl, inr}
+use Rattle.std.proofs.Common.{◌≡◌, ℕ, ◌+◌, ◌<◌, ◌≤◌, nat_lt, true, false, refl, sym, ap, subst, ◌∙◌, arith, ⊎_elim, inl}
 use Rattle.std.specs.Prelude.{◌⊎◌, ◌&&◌, ◌||◌}
 use Rattle.std.proofs.lemmas.Bool.{cases_Bool, cases_lt, and_parts, and_from, ltb-true, leb-true, lt-ltb, le-leb, or_left}
 use Rattle.tiger_base.specs.declared.number.LinkNo.{LinkNo}
@@ -32,14 +32,8 @@ use Rattle.schedule_laws.proofs.Inserting.{put_out}
 use Rattle.schedule_laws.proofs.Steps.{forwarding_out}
 use Rattle.schedule_laws.proofs.Taking.{IsNoPut, taking_hears}
 use Rattle.schedule_laws.proofs.TakingOver.{inserting_puts}
-use Rattle.schedule_laws.proofs.Keeping.{StoppedBefore, held_stopped}
 use Rattle.schedule_laws.proofs.Inserting.{Nobody}
 use Rattle.schedule_laws.proofs.Moves.{IsQuiet, IsMeek}
-use Rattle.schedule_laws.proofs.Taking.{HeldBy}
-use Rattle.deschedule.specs.Holds.{is_held}
-use Rattle.tiger_base.specs.declared.number.Instance.{Instance}
-use Rattle.tiger_base.specs.declared.tenancy.Ask.{Ask}
-use Rattle.tiger_base.specs.declared.tenancy.Tag.{Tag}
 use Rattle.tiger_base.specs.Kinds.{is_own}
 use Rattle.schedule_laws.proofs.Ticking.{forwarded, before_inserting, before_forwarding, loud}
 use Rattle.schedule_laws.proofs.Order.{tick_of}
@@ -101,40 +95,6 @@ tick_meek p c plan here stamp h link m loud_one meek_one other k = ⊎_elim
     (λ q. let z : m ≡ next_state f.line.rec = cc in other _ (sym z))
     f.is)
     (loud p c stamp h (out.Send link m) loud_one k)
-
--- a cub sends no start
-pub start_none : (p : Params) (c : ℕ) → IsPlan p → c < p.cubs → (i : Input Msg) (h : Store) (link : LinkNo) (a : Ask) (x : Bool) → In (out.Send link (msg.Start a x)) (deed_of p c i h).outs → ⊥
-start_none p c plan here (Take stamp way m) h link a x k = all_in (IsMeek (HeldBy m h)) (out.Send link (msg.Start a x)) (taking p c stamp way m h).outs (taking_hears p c stamp way m h).meek k
-start_none p c plan here (Tick stamp) h link a x k = tick_meek p c plan here stamp h link (msg.Start a x) (λ q. q) (λ q. q) (λ s e. absurd (cc)) k
-
--- and a deschedule only of an instance that it holds, or as it comes
-pub held_by : (m : Msg) (h : Store) (v : Instance) → HeldBy m h v → (is_held h.held v ≡ true) ⊎ ((tag : Option Tag) × (m ≡ msg.Deschedule v tag))
-held_by (msg.Deschedule w tag) h v k = inr (tag, ap (λ (x : Instance). msg.Deschedule x tag) (sym k))
-held_by (msg.ViewerState s) h v k = inl k
-held_by (msg.Start a redundant) h v k = inl k
-held_by (msg.MirrorState x) h v k = inl k
-held_by (msg.Kill w slot visit) h v k = inl k
-held_by (msg.ReadDone want part) h v k = inl k
-held_by msg.Heartbeat h v k = inl k
-held_by (msg.Placed t) h v k = inl k
-held_by (msg.ReadAsk want) h v k = inl k
-held_by (msg.Whole want sent part) h v k = inl k
-held_by (msg.Piece want sent part) h v k = inl k
-
-pub stop_step : (p : Params) (c : ℕ) → IsPlan p → c < p.cubs → (inputs : ℕ → Input Msg) (i : ℕ) (k : Input Msg) (link : LinkNo) (v : Instance) (tag : Option Tag) → inputs i ≡ k
-    → In (out.Send link (msg.Deschedule v tag)) (deed_of p c k (store_at p c inputs i)).outs → StoppedBefore inputs v (suc i)
-stop_step p c plan here inputs i (Take stamp way m) link v tag e k =
-    let h : Store = store_at p c inputs i in
-    ⊎_elim
-    (λ q. let s = held_stopped p c inputs i v q in let b = s.before in record { at = s.at; before = omega arith; stamp = s.stamp; link = s.link; instance = s.instance; tag = s.tag; is = s.is; same = s.same })
-    (λ q. record { at = i; before = omega arith; stamp = stamp; link = way; instance = v; tag = q.0; is = e ∙ ap (λ (x : Msg). Take stamp way x) q.1; same = refl })
-    (held_by m h v (all_in (IsMeek (HeldBy m h)) (out.Send link (msg.Deschedule v tag)) (taking p c stamp way m h).outs (taking_hears p c stamp way m h).meek k))
-stop_step p c plan here inputs i (Tick stamp) link v tag e k =
-    absurd (tick_meek p c plan here stamp (store_at p c inputs i) link (msg.Deschedule v tag) (λ q. q) (λ q. q) (λ s e. absurd (cc)) k)
-
-pub stop_came : (p : Params) (c : ℕ) → IsPlan p → c < p.cubs → (inputs : ℕ → Input Msg) (i : ℕ) (link : LinkNo) (v : Instance) (tag : Option Tag)
-    → In (out.Send link (msg.Deschedule v tag)) (outs_at p c inputs i) → StoppedBefore inputs v (suc i)
-stop_came p c plan here inputs i link v tag k = stop_step p c plan here inputs i (inputs i) link v tag refl k
 
 -- a tick in a life
 pub record AtTick (p : Params) (c : ℕ) (inputs : ℕ → Input Msg) (i : ℕ) (o : Out Msg) : Type 0 where

@@ -26,7 +26,7 @@ use Rattle.node_kit.specs.Ways.{predecessor}
 use Rattle.cub_rules.specs.declared.store.Store.{Store}
 use Rattle.cub_rules.specs.Records.{took}
 use Rattle.cub_rules.specs.Ticks.{tenancy_from, sending, putting, told_placed, putting_for_dead, putting_on, inserting_own, inserting_for_dead, inserting, disks_at}
-use Rattle.schedule_proof.specs.Facts.{IsGiven}
+use Rattle.schedule_laws.specs.Abstract.{IsGiven}
 use Rattle.cub_laws.proofs.Numbers.{visit_own, next_own, disks_own, predecessor_below}
 use Rattle.schedule_laws.specs.Lives.{In}
 use Rattle.schedule_laws.proofs.Members.{chosen, in_right, in_cases, all_in}

@@ -29,7 +29,7 @@ use Rattle.node_kit.specs.Deeds.{nothing, each_in_turn}
 use Rattle.cub_rules.specs.declared.store.Store.{Store}
 use Rattle.cub_rules.specs.Records.{took, dropping_start}
 use Rattle.cub_rules.specs.Messages.{position_at, records_told, told, met, meeting_state, passing_from, hearing, taking}
-use Rattle.schedule_proof.specs.Facts.{IsGiven}
+use Rattle.schedule_laws.specs.Abstract.{IsGiven}
 use Rattle.schedule_laws.specs.Lives.{In}
 use Rattle.schedule_laws.proofs.Members.{chosen, in_left, in_right, in_cases}
 use Rattle.schedule_laws.proofs.Moves.{taken_out, is_taken, took_new, took_none, from_with_line}

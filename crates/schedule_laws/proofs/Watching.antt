@@ -16,7 +16,7 @@ use Rattle.deadman.specs.Silence.{Silence, is_silent}
 use Rattle.node_kit.specs.Ways.{way_ahead, predecessor}
 use Rattle.cub_rules.specs.declared.store.Store.{Store}
 use Rattle.cub_rules.specs.Ticks.{releasing, believing, inserting, splitting, forwarding, reading, serving, beating, ticking}
-use Rattle.schedule_proof.specs.Laws.{IsSilence}
+use Rattle.schedule_laws.specs.Laws.{IsSilence}
 use Rattle.schedule_laws.specs.Lives.{In, Lives, IsLife, AreLives, deed_of, store_at, is_tick_input, beat_at, reading_at}
 use Rattle.schedule_laws.specs.Facts.{TickedAt, DidAt, HeardAt, BelievedAt, Outside, facts_of}
 use Rattle.schedule_laws.proofs.Members.{in_right}

@@ -17,7 +17,7 @@ use Rattle.node_kit.specs.Steps.Input.{Take, Tick}
 use Rattle.deadman.specs.Silence.{is_silent}
 use Rattle.node_kit.specs.Ways.{way_ahead, predecessor}
 use Rattle.cub_rules.specs.State.{IsAsk}
-use Rattle.schedule_proof.specs.Facts.{Facts}
+use Rattle.schedule_laws.specs.Abstract.{Facts}
 use Rattle.schedule_laws.specs.Lives.{In, Lives, store_at, outs_at, is_tick_input, beat_at}
 
 -- a cub ticked in a beat at a reading

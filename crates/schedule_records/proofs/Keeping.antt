@@ -17,7 +17,7 @@ use Rattle.node_kit.specs.Ways.{way_ahead}
 use Rattle.cub_rules.specs.declared.store.Store.{Store}
 use Rattle.cub_rules.specs.Messages.{taking}
 use Rattle.run_model.specs.Parts.{IsAtOrBefore}
-use Rattle.schedule_proof.specs.Facts.{IsGiven}
+use Rattle.schedule_laws.specs.Abstract.{IsGiven}
 use Rattle.schedule_laws.specs.Lives.{In, deed_of, store_at}
 use Rattle.schedule_laws.proofs.Moves.{taken_out}
 use Rattle.schedule_laws.proofs.Inserting.{put_out}

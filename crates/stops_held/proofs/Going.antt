@@ -24,7 +24,7 @@ use Rattle.state_forward.specs.Forwards.{must_forward}
 use Rattle.node_kit.specs.Ways.{way_ahead}
 use Rattle.cub_rules.specs.declared.store.Store.{Store}
 use Rattle.cub_rules.specs.Ticks.{ticking}
-use Rattle.schedule_proof.specs.Laws.{WasEarly}
+use Rattle.schedule_laws.specs.Laws.{WasEarly}
 use Rattle.schedule_laws.specs.Lives.{In, Lives, store_at, outs_at, beat_at}
 use Rattle.schedule_laws.specs.Facts.{SentAt, DidAt, Outside, facts_of}
 use Rattle.schedule_laws.proofs.Carrying.{way_ends, same_ends}
@@ -36,7 +36,7 @@ use Rattle.schedule_laws.proofs.Lines.{kept_at}
 use Rattle.schedule_laws.proofs.Order.{tick_of, beats_rise, not_behind, tick_before}
 use Rattle.schedule_laws.proofs.States.{state_at_tick, at_tick, from_tick, forward_parts, forward_early, own_visit}
 use Rattle.schedule_laws.proofs.StateLaws.{ticked, entered_at}
-use Rattle.stops_proof.specs.StopLaws.{Goes}
+use Rattle.stops_laws.specs.StopLaws.{Goes}
 use Rattle.stops_laws.proofs.Begun.{IsStop}
 use Rattle.stops_held.specs.InOrder.{AreInOrder}
 use Rattle.stops_held.proofs.Standing.{standing}

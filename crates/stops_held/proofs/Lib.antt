@@ -4,4 +4,4 @@ pub mod Meeting
 pub mod Going
 pub mod Starting
 pub mod Held
-pub mod Carrying
+pub mod NoStops

@@ -19,14 +19,14 @@ use Rattle.viewer_state.specs.States.{is_visit_of}
 use Rattle.deschedule.specs.Holds.{is_held, must_pass}
 use Rattle.cub_rules.specs.declared.store.Store.{Store}
 use Rattle.cub_rules.specs.Messages.{position_at}
-use Rattle.schedule_proof.specs.Facts.{IsBeside, IsGiven}
+use Rattle.schedule_laws.specs.Abstract.{IsBeside, IsGiven}
 use Rattle.schedule_laws.specs.Lives.{In, Lives, store_at, outs_at, deed_of, is_tick_input, beat_at}
 use Rattle.schedule_laws.specs.Facts.{DidAt, TookMessage, Outside, facts_of}
 use Rattle.schedule_laws.proofs.Moves.{taken_out}
 use Rattle.schedule_laws.proofs.Order.{beats_rise, behind}
 use Rattle.schedule_laws.proofs.StateLaws.{took}
 use Rattle.schedule_laws.proofs.Telling.{taking_places}
-use Rattle.stops_proof.specs.StopLaws.{Found, Meeting}
+use Rattle.stops_laws.specs.StopLaws.{Found, Meeting}
 use Rattle.stops_laws.specs.StopFactsOf.{Controller, stop_facts_of}
 use Rattle.stops_laws.proofs.Begun.{IsStop, IsPassing, begun}
 use Rattle.stops_laws.proofs.Holds.{held_in, all_passed}

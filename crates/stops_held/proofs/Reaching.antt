@@ -13,7 +13,7 @@ use Rattle.schedule_laws.specs.Lives.{In, Lives, AreFormed, outs_at, is_tick_inp
 use Rattle.schedule_laws.specs.Facts.{ReachedAt, Outside, facts_of}
 use Rattle.schedule_laws.proofs.Moves.{taken_out}
 use Rattle.schedule_laws.proofs.Order.{beats_rise, not_behind}
-use Rattle.stops_proof.specs.StopFacts.{IsReleasedBy}
+use Rattle.stops_laws.specs.StopFacts.{IsReleasedBy}
 use Rattle.stops_laws.proofs.Begun.{IsStop}
 use Rattle.stops_laws.proofs.HoldLaws.{released_by}
 use Rattle.stops_held.specs.InOrder.{AreInOrder}

@@ -15,8 +15,8 @@ use Rattle.slot_plan.specs.Times.{due, cub_of, disk_of}
 use Rattle.node_kit.specs.Steps.{Input, stamp_of}
 use Rattle.cub_rules.specs.declared.store.Store.{Store}
 use Rattle.cub_rules.specs.Ticks.{inserting}
-use Rattle.schedule_proof.specs.Facts.{Entered}
-use Rattle.schedule_proof.specs.Laws.{IsInWindow}
+use Rattle.schedule_laws.specs.Abstract.{Entered}
+use Rattle.schedule_laws.specs.Laws.{IsInWindow}
 use Rattle.schedule_laws.specs.Lives.{In, Lives, store_at, deed_of, is_tick_input, beat_at}
 use Rattle.schedule_laws.specs.Facts.{TickedAt, DidAt, TookMessage, Outside, facts_of}
 use Rattle.schedule_laws.proofs.Inserting.{put_out}
@@ -28,7 +28,7 @@ use Rattle.schedule_laws.proofs.StartLaws.{IsOut, after_insertion_moves, put_pla
 use Rattle.schedule_laws.proofs.Seating.{IsFull}
 use Rattle.schedule_laws.proofs.Filling.{inserting_full}
 use Rattle.schedule_laws.proofs.Waiting.{before_once, before_forth, once_at, queued_since}
-use Rattle.stops_proof.specs.StopLaws.{StandsYet}
+use Rattle.stops_laws.specs.StopLaws.{StandsYet}
 use Rattle.stops_laws.specs.StopFactsOf.{GotBareAt}
 use Rattle.stops_laws.proofs.Begun.{IsStop}
 use Rattle.stops_laws.proofs.Starts.{queued_released}

@@ -15,7 +15,7 @@ use Rattle.node_kit.specs.Steps.Input.{Take}
 use Rattle.schedule_laws.specs.Lives.{Lives, AreLives}
 use Rattle.schedule_laws.specs.Facts.{SentAt, Outside, AreStarts, facts_of}
 use Rattle.schedule_laws.specs.Rings.{calm}
-use Rattle.stops_proof.specs.StopLaws.{HeldLaws}
+use Rattle.stops_laws.specs.StopLaws.{HeldLaws}
 use Rattle.stops_laws.specs.HoldsHere.{AreAllFormed, any_controller}
 use Rattle.stops_laws.specs.StopFactsOf.{ToldAt, Controller, stop_facts_of}
 

@@ -1,15 +1,9 @@
 //! That the cubs' own rules meet the laws of states, starts and forwarding where instances are held.
 #![tactic(auto)]
 
-ghost use Rattle.stops_held.specs.Histories.{CarryInOrder};
 ghost use Rattle.stops_held.specs.InOrder.{CubsMeetTheHeldLaws};
 
 /// Whatever befalls cubs whose messages are in form and in order, they meet the laws of held instances.
 pub fn cubs_meet_the_held_laws()
     ensures { CubsMeetTheHeldLaws }
-{}
-
-/// In every history in which the cubs put out what their rules say, what they take is in form and in order.
-pub fn histories_carry_in_order<S>()
-    ensures { CarryInOrder S }
 {}

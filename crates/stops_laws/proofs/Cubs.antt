@@ -9,7 +9,7 @@ use Rattle.slot_plan.specs.Conditions.{IsPlan}
 use Rattle.schedule_laws.specs.Facts.{TookMessage, Outside, facts_of}
 use Rattle.schedule_laws.specs.Lives.{Lives, AreLives}
 use Rattle.schedule_laws.specs.Rings.{calm}
-use Rattle.stops_proof.specs.StopLaws.{HoldLaws}
+use Rattle.stops_laws.specs.StopLaws.{HoldLaws}
 use Rattle.stops_laws.specs.HoldsHere.{AreAllFormed, any_controller, CubsHold}
 use Rattle.stops_laws.specs.StopFactsOf.{GotTagAt, GotBareAt, Controller, stop_facts_of}
 use Rattle.stops_laws.proofs.HoldLaws.{pass_once, tag_passes, took}

@@ -31,13 +31,13 @@ use Rattle.deschedule.specs.declared.held.Holding.{Holding}
 use Rattle.deschedule.specs.Holds.{is_held, must_pass, with_hold}
 use Rattle.cub_rules.specs.declared.store.Store.{Store}
 use Rattle.cub_rules.specs.Messages.{position_at, position, passing_from, told, met, meeting_state, hearing, taking}
-use Rattle.schedule_proof.specs.Facts.{IsBeside}
+use Rattle.schedule_laws.specs.Abstract.{IsBeside}
 use Rattle.schedule_laws.specs.Lives.{In, Lives, AreLives, store_at, deed_of, is_tick_input, beat_at, reading_at}
 use Rattle.schedule_laws.specs.Facts.{TookAt, ReachedAt, Outside, facts_of}
 use Rattle.schedule_laws.proofs.Members.{chosen}
 use Rattle.schedule_laws.proofs.Order.{beats_rise}
 use Rattle.schedule_laws.proofs.States.{stamp_made}
-use Rattle.stops_proof.specs.StopFacts.{PassedBy, IsReleasedBy}
+use Rattle.stops_laws.specs.StopFacts.{PassedBy, IsReleasedBy}
 use Rattle.stops_laws.specs.StopFactsOf.{PassesOn, PassedAt, GotTagAt, Controller, stop_facts_of}
 use Rattle.stops_laws.specs.HoldsHere.{IsFormed}
 use Rattle.stops_laws.proofs.Begun.{IsStop, IsPassing, begun}

@@ -1,5 +1,5 @@
 -- From which position a cub passes a deschedule on, as a law: a tag's, a record's, or a state's that comes later.
-use Rattle.std.proofs.Common.{◌≡◌, ℕ, ◌+◌, ◌<◌, List, ◌∷◌, [], ◌++◌, true, false, Option, Some, None, refl, sym, ap, subst, ◌∙◌, arith, ⊎_elim, inl, inr}
+use Rattle.std.proofs.Common.{◌≡◌, ℕ, ◌+◌, ◌<◌, List, [], ◌∷◌, ◌++◌, true, false, Option, Some, None, refl, sym, ap, subst, ◌∙◌, arith, ⊎_elim, inl, inr}
 use Rattle.std.specs.Prelude.{◌⊎◌}
 use Rattle.std.proofs.lemmas.Bool.{cases_Bool, cases_eq}
 use Rattle.tiger_base.specs.declared.number.Instance.{Instance}
@@ -21,7 +21,7 @@ use Rattle.deschedule.specs.Holds.{is_held, must_pass, with_hold}
 use Rattle.cub_rules.specs.declared.store.Store.{Store}
 use Rattle.cub_rules.specs.State.{IsRecordOf, IsLineOf, visit_here}
 use Rattle.cub_rules.specs.Messages.{position_at}
-use Rattle.schedule_proof.specs.Facts.{Facts, Entered, IsBeside}
+use Rattle.schedule_laws.specs.Abstract.{Facts, Entered, IsBeside}
 use Rattle.schedule_laws.specs.Lives.{In, Lives, AreLives, store_at, outs_at, is_tick_input, beat_at}
 use Rattle.schedule_laws.specs.Facts.{TookMessage, Outside, facts_of}
 use Rattle.schedule_laws.proofs.Members.{chosen, all_in}
@@ -29,8 +29,8 @@ use Rattle.schedule_laws.proofs.Lines.{line_taken, kept_at}
 use Rattle.schedule_laws.proofs.Moves.{taken_out}
 use Rattle.schedule_laws.proofs.Order.{beats_rise}
 use Rattle.schedule_laws.proofs.States.{stamp_made}
-use Rattle.stops_proof.specs.StopFacts.{StopFacts, GotBareBy}
-use Rattle.stops_proof.specs.StopLaws.{ForTag, ForRecord, ForState, IsStray, IsPass}
+use Rattle.stops_laws.specs.StopFacts.{StopFacts, GotBareBy}
+use Rattle.stops_laws.specs.StopLaws.{ForTag, ForRecord, ForState, IsStray, IsPass}
 use Rattle.stops_laws.specs.StopFactsOf.{PassesOn, PassedAt, Controller, stop_facts_of}
 use Rattle.stops_laws.specs.HoldsHere.{IsFormed}
 use Rattle.stops_laws.proofs.Begun.{IsPassing, Begun, begun}

@@ -33,14 +33,14 @@ use Rattle.node_kit.specs.Deeds.{nothing}
 use Rattle.cub_rules.specs.declared.store.Store.{Store}
 use Rattle.cub_rules.specs.State.{visit_here}
 use Rattle.cub_rules.specs.Messages.{position_at, position_by, position_of, position, is_reached, passing_on, passing_from, passing, holding, dropping_all, descheduling, meeting_state, hearing, taking}
-use Rattle.schedule_proof.specs.Facts.{Facts, ReachedBy}
+use Rattle.schedule_laws.specs.Abstract.{Facts, ReachedBy}
 use Rattle.schedule_laws.specs.Lives.{In, Lives, AreLives, store_at, deed_of, outs_at, beat_at, reading_at}
 use Rattle.schedule_laws.specs.Facts.{Outside, facts_of}
 use Rattle.schedule_laws.proofs.Members.{chosen, in_left}
 use Rattle.schedule_laws.proofs.Order.{beats_rise}
 use Rattle.schedule_laws.proofs.States.{stamp_made, tick_meek}
-use Rattle.stops_proof.specs.StopFacts.{StopFacts}
-use Rattle.stops_proof.specs.StopLaws.{IsTold}
+use Rattle.stops_laws.specs.StopFacts.{StopFacts}
+use Rattle.stops_laws.specs.StopLaws.{IsTold}
 use Rattle.stops_laws.specs.StopFactsOf.{PassesOn, PassedAt, ToldAt, Controller, stop_facts_of}
 use Rattle.stops_laws.specs.HoldsHere.{IsFormed}
 use Rattle.stops_laws.proofs.HoldLaws.{no_both, stop_of_passing, reached_at, passing_at, beat_of}

@@ -19,7 +19,7 @@ use Rattle.partial_view.specs.declared.line.Line.{Line}
 use Rattle.partial_view.specs.Lines as lines
 use Rattle.partial_view.specs.Views.{first_of}
 use Rattle.cub_rules.specs.Messages.{position_by, position_of, taking}
-use Rattle.schedule_proof.proofs.Beats.{by_beats}
+use Rattle.schedule_laws.proofs.Beats.{by_beats}
 use Rattle.schedule_laws.specs.Lives.{In, Lives, AreLives, store_at, deed_of, outs_at, is_tick_input, beat_at, reading_at}
 use Rattle.schedule_laws.specs.Facts.{TookAt, InsertedAt, Outside}
 use Rattle.schedule_laws.proofs.Lines.{MayAt, stays}
@@ -28,7 +28,7 @@ use Rattle.schedule_laws.proofs.Moves.{taken_out}
 use Rattle.schedule_laws.proofs.Order.{beats_rise, behind}
 use Rattle.schedule_laws.proofs.States.{stamp_made}
 use Rattle.schedule_laws.proofs.Taking.{MayLeave, taking_hears}
-use Rattle.stops_proof.specs.StopFacts.{StopFacts, PassedBy, GotTagBy}
+use Rattle.stops_laws.specs.StopFacts.{StopFacts, PassedBy, GotTagBy}
 use Rattle.stops_laws.specs.StopFactsOf.{GotBareAt, Controller, stop_facts_of}
 use Rattle.stops_laws.specs.HoldsHere.{IsFormed}
 use Rattle.stops_laws.proofs.Begun.{IsStop}

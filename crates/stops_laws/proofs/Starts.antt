@@ -32,7 +32,7 @@ use Rattle.schedule_laws.proofs.States.{at_tick, took_inserted}
 use Rattle.schedule_laws.proofs.TakingOver.{inserting_puts}
 use Rattle.schedule_laws.proofs.Ticking.{before_inserting}
 use Rattle.schedule_laws.proofs.Waiting.{IsQueued, queued_since, before_back, tick_seats, once_at}
-use Rattle.stops_proof.specs.StopFacts.{IsReleasedBy}
+use Rattle.stops_laws.specs.StopFacts.{IsReleasedBy}
 use Rattle.stops_laws.specs.HoldsHere.{IsFormed}
 use Rattle.stops_laws.proofs.Begun.{IsStop}
 use Rattle.stops_laws.proofs.Holds.{in_held}

@@ -13,7 +13,7 @@ use Rattle.node_kit.specs.Steps.Input.{Take}
 use Rattle.schedule_laws.specs.Facts.{facts_of}
 use Rattle.schedule_laws.specs.Lives.{Lives, AreLives}
 use Rattle.schedule_laws.specs.Rings.{calm}
-use Rattle.stops_proof.specs.StopLaws.{HoldLaws}
+use Rattle.stops_laws.specs.StopLaws.{HoldLaws}
 use Rattle.stops_laws.specs.StopFactsOf.{Controller, stop_facts_of}
 
 -- the messages that a cub takes are in form

@@ -1,2 +1,4 @@
 pub mod HoldsHere
 pub mod StopFactsOf
+pub mod StopFacts
+pub mod StopLaws

@@ -19,7 +19,7 @@ use Rattle.cub_rules.specs.declared.store.Store.{Store}
 use Rattle.cub_rules.specs.Messages.{position_at, position, holding}
 use Rattle.schedule_laws.specs.Lives.{Lives, store_at}
 use Rattle.schedule_laws.specs.Facts.{DidAt, TookMessage}
-use Rattle.stops_proof.specs.StopFacts.{StopFacts}
+use Rattle.stops_laws.specs.StopFacts.{StopFacts}
 
 -- A message makes a cub pass the deschedule of an instance on from a position: a state of an instance that is held, or the
 -- deschedule itself, where the instance was not passed on since it is held.

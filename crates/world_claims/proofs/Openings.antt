@@ -15,9 +15,9 @@ use Rattle.ring_nodes.specs.declared.nodes.AnyNode.{AnyNode}
 use Rattle.ring_nodes.specs.declared.nodes.AnyNode.TheVariants as node
 use Rattle.ring_nodes.specs.AllNodes.{StandsAny, numbered, opening_cub, opening_controller, opening_nodes}
 use Rattle.ring_nodes.proofs.Numbered.{length-numbered, opening_stand}
-use Rattle.ring_schedule.proofs.Openings.{get_front, get_back, numbered_at}
-use Rattle.ring_schedule.proofs.Openings as kept
-use Rattle.stops_ways.specs.Controllers.{controller}
+use Rattle.proof_ring.proofs.Opened.{get_front, get_back, numbered_at}
+use Rattle.proof_ring.proofs.Opened as kept
+use Rattle.controller_facts.specs.Controllers.{controller}
 use Rattle.cub_facts.specs.Rings.{node_count, node_of_disk, viewers, IsDiskOf}
 use Rattle.world_claims.specs.Accepted.{opening_ring}
 

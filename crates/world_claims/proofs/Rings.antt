@@ -15,8 +15,8 @@ use Rattle.disk_core.specs.State.{DiskState}
 use Rattle.ring_nodes.specs.declared.nodes.AnyNode.{AnyNode}
 use Rattle.ring_nodes.specs.declared.nodes.AnyNode.TheVariants as node
 use Rattle.ring_nodes.specs.AllNodes.{any_step, StandsAny, opening_cub, opening_controller}
-use Rattle.ring_schedule.proofs.Openings.{get_some}
-use Rattle.stops_ways.specs.Controllers.{controller}
+use Rattle.proof_ring.proofs.Opened.{get_some}
+use Rattle.controller_facts.specs.Controllers.{controller}
 use Rattle.cub_facts.specs.Rings.{node_count, node_of_disk, viewers, DieAlone, IsUpTo}
 use Rattle.proof_journals.specs.Journals.{AreJournalsOf}
 use Rattle.proof_ring.specs.Rings.{OpensAs, IsRing}

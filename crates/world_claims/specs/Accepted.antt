@@ -16,7 +16,8 @@ use Rattle.ring_nodes.specs.declared.nodes.AnyNode.{AnyNode}
 use Rattle.ring_nodes.specs.declared.nodes.AnyNode.TheVariants as node
 use Rattle.ring_nodes.specs.AllNodes.{any_step, StandsAny, numbered}
 use Rattle.ring_nodes.specs.AllNodes.{opening_cub, opening_controller}
-use Rattle.cub_facts.specs.Rings.{node_count, IsDiskOf, AreCounted, IsUpTo}
+use Rattle.controller_facts.specs.Orders.{AreCounted}
+use Rattle.cub_facts.specs.Rings.{node_count, IsDiskOf, IsUpTo}
 use Rattle.cub_facts.specs.Rings.{AreOfCatalogue, HaveImages}
 use Rattle.proof_journals.specs.Journals.{AreJournalsOf}
 use Rattle.proof_parcels.specs.Parcels.{HaveFaults}

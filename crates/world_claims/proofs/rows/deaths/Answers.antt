@@ -5,7 +5,8 @@ use Rattle.tiger_base.specs.declared.message.Msg.{Msg}
 use Rattle.slot_plan.specs.Samples.{small}
 use Rattle.slot_plan.specs.Times.{time_of}
 use Rattle.disk_image.specs.Image.{Image}
-use Rattle.cub_facts.specs.Rings.{node_count, AreCounted}
+use Rattle.controller_facts.specs.Orders.{AreCounted}
+use Rattle.cub_facts.specs.Rings.{node_count}
 use Rattle.proof_schedule.proofs.Example.{laws_met}
 use Rattle.ring_nodes.specs.declared.nodes.AnyNode.{AnyNode}
 use Rattle.ring_nodes.specs.AllNodes.{any_step}

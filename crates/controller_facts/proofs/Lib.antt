@@ -1,0 +1,13 @@
+pub mod Commanding
+pub mod Controllers
+pub mod Deschedules
+pub mod Ends
+pub mod Knowing
+pub mod Placings
+pub mod Stopping
+pub mod Visits
+pub mod Ways
+pub mod Places
+pub mod StartsOnce
+pub mod Commands
+pub mod Behind

@@ -1,0 +1,3 @@
+pub mod Controllers
+pub mod Orders
+pub mod Stops

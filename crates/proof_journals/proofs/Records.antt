@@ -1,0 +1,74 @@
+-- That the journal of a cub tells the records of its view, and that each state it sends follows from one of them.
+use Rattle.std.proofs.Common.{◌≡◌, List, [], ◌∷◌, ◌++◌, map, refl, sym, ap, ◌∙◌, append_assoc, append-nil}
+use Rattle.tiger_base.specs.declared.number.Stamp.{Stamp}
+use Rattle.tiger_base.specs.declared.tenancy.Rec.{Rec}
+use Rattle.tiger_base.specs.declared.message.Msg.{Msg}
+use Rattle.tiger_base.specs.Notes.{noted}
+use Rattle.node_kit.specs.declared.journal.Entry.{Entry}
+use Rattle.node_kit.specs.declared.outbox.Out.{Out}
+use Rattle.node_kit.specs.declared.outbox.Out.TheVariants as out
+use Rattle.node_kit.specs.Steps.{Deed, Input, entry_of, stamp_of}
+use Rattle.node_kit.specs.Steps.Input.{Take, Tick}
+use Rattle.run_facts.specs.Events.{NodeEvent, Past, kept_outs, outs_of, entries_at}
+use Rattle.run_facts.specs.Events.NodeEvent.{Does, Dies}
+use Rattle.run_model.specs.Views.{records_of, recorded}
+use Rattle.run_model.proofs.Moments.{records_more}
+use Rattle.schedule_records.specs.Records.{recorded_by}
+use Rattle.proof_journals.proofs.Journals.{got_at}
+use Rattle.std.proofs.Common.{◌≡◌, ℕ, ◌+◌, ◌<◌, ◌%◌, List, ◌∷◌, ◌++◌, Some, IsTrue, subst, ⊎_elim}
+use Rattle.std.specs.Prelude.{◌⊎◌, nat_lt}
+use Rattle.std.proofs.lemmas.Bool.{and_from, or_left, or_right, lt-ltb, eq-eqb}
+use Rattle.tiger_base.specs.declared.number.LinkNo.{LinkNo}
+use Rattle.tiger_base.specs.declared.tenancy.State.{State}
+use Rattle.tiger_base.specs.declared.message.Msg.TheVariants as msg
+use Rattle.slot_plan.specs.declared.params.Params.{Params}
+use Rattle.slot_plan.specs.Times.{cub_of}
+use Rattle.run_model.specs.Fronts.{AnyByRecursion}
+use Rattle.run_model.specs.Views.{recorded}
+use Rattle.run_model.specs.Parts.{is_from_before, IsOwnRecordFor}
+use Rattle.schedule_records.specs.Records.{recorded_by, AreFromRecords}
+
+-- what entries make of the records
+abbrev pub recorded_in : List Entry → List Rec → List Rec
+recorded_in [] rs = rs
+recorded_in (e ∷ es) rs = recorded_in es (recorded rs e.what)
+
+pub records_after : (es fs : List Entry) → records_of (es ++ fs) ≡ recorded_in fs (records_of es)
+records_after es [] = ap records_of (append-nil es)
+records_after es (f ∷ fs) =
+    ap records_of (sym (append_assoc es (f ∷ []) fs))
+    ∙ records_after (es ++ f ∷ []) fs
+    ∙ ap (recorded_in fs) (records_more f es)
+
+-- what a node puts out makes of them what it writes
+pub outs_recorded : (stamp : Stamp) (os : List (Out Msg)) (rs : List Rec) → recorded_in (map (entry_of noted stamp) os) rs ≡ recorded_by os rs
+outs_recorded stamp [] rs = refl
+outs_recorded stamp (out.Act w ∷ os) rs = outs_recorded stamp os (recorded rs w)
+outs_recorded stamp (out.Send link m ∷ os) rs = outs_recorded stamp os rs
+
+pub event_recorded : {S : Type 0} (step : S → Input Msg → Deed Msg S) (ev : NodeEvent Msg) (before : Past S) (rs : List Rec)
+    → recorded_in (entries_at noted step ev before) rs ≡ recorded_by (outs_of step ev before) rs
+event_recorded step (Does (Take stamp link m)) before rs = outs_recorded stamp (kept_outs step (Take stamp link m) before) rs
+event_recorded step (Does (Tick stamp)) before rs = outs_recorded stamp (kept_outs step (Tick stamp) before) rs
+event_recorded step (Dies stamp) before rs = refl
+
+-- and so what stands before an output in its event
+pub input_recorded : (i : Input Msg) (os : List (Out Msg)) (rs : List Rec) → recorded_in (got_at i ++ map (entry_of noted (stamp_of i)) os) rs ≡ recorded_by os rs
+input_recorded (Take stamp link m) os rs = outs_recorded stamp os rs
+input_recorded (Tick stamp) os rs = outs_recorded stamp os rs
+
+-- the cub to which a state goes stands one or two behind its sender
+pub from_before : (p : Params) (c from k : ℕ) → from < p.cubs → (k ≡ 1) ⊎ (k ≡ 2) → cub_of p (from + k) ≡ c → IsTrue (is_from_before p c (Some (from, c)))
+unfolding cub_of
+from_before p c from k small ahead to = and_from (nat_lt from p.cubs) _ (lt-ltb _ _ small) (⊎_elim
+    (λ (e : k ≡ 1). or_left _ _ (eq-eqb _ _ (subst (λ n. (from + n) % p.cubs ≡ c) e to)))
+    (λ (e : k ≡ 2). or_right _ _ (eq-eqb _ _ (subst (λ n. (from + n) % p.cubs ≡ c) e to)))
+    ahead)
+
+-- a state that goes out follows from a record that is told of then
+pub state_record : (earlier : List (Out Msg)) (link : LinkNo) (s : State) (later : List (Out Msg)) (rs : List Rec) → AreFromRecords (earlier ++ out.Send link (msg.ViewerState s) ∷ later) rs
+    → AnyByRecursion (IsOwnRecordFor s) (recorded_by earlier rs)
+state_record [] link s later rs f = f.0
+state_record (out.Act w ∷ os) link s later rs f = state_record os link s later (recorded rs w) f
+state_record (out.Send way (msg.ViewerState q) ∷ os) link s later rs f = state_record os link s later rs f.1
+state_record (out.Send way other ∷ os) link s later rs f = state_record os link s later rs f

@@ -1,5 +1,0 @@
-use Rattle.ring_schedule.proofs.Scenarios as scenarios
-use Rattle.ring_schedule.proofs.calm_runs_keep_views.Goals as goal
-
-pub returns : goal.returns
-returns g c = scenarios.calm_runs_keep_views _

@@ -1,9 +1,0 @@
-pub mod Ones
-pub mod Ordered
-pub mod Written
-pub mod Singles
-pub mod Holders
-pub mod Fair
-pub mod Plain
-pub mod Beliefs
-pub mod Passing

@@ -1,4 +1,0 @@
-pub mod StopFacts
-pub mod StopLaws
-pub mod StopLogs
-pub mod StoppedSchedule

@@ -1,3 +1,0 @@
-pub mod Assembled
-pub mod Behind
-pub mod Sending
