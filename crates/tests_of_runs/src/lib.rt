@@ -3,6 +3,10 @@
 #![tactic(auto)]
 
 #[cfg(test)]
+mod claims;
+#[cfg(test)]
+mod gates;
+#[cfg(test)]
 mod journals;
 #[cfg(test)]
 mod made;

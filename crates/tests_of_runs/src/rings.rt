@@ -5,12 +5,14 @@ ghost use Rattle.scenario_read.specs.Sound.{IsScenario};
 ghost use Rattle.run_claims.specs.Accounts.{account_of};
 ghost use Rattle.run_claims.specs.Claims.{MeetsClaims};
 
-use node_kit::{Entry, Journal, Kept, OpenGate, What};
+use node_kit::{Entry, Gate, Journal, Kept, OpenGate, What};
 use run_model::{carried, delivered, excused, schedule_at, timed};
 use scenario_read::{Scenario, read_scenario};
 use std::alloc::{AllocError, Global};
 use std::fmt::Write;
+use std::sync::Wait;
 use std::test::Fail;
+use std::thread::Threads;
 use tiger_base::{
     Instance, Library, Micros, NoMemory, Note, Sequence, Span, Stamp, Tenancy, Visit,
 };
@@ -22,7 +24,8 @@ const PLAN: &str =
 
 const TEN: &str = "\"files\":[{\"name\":\"ten\",\"disk\":0}],";
 
-const LONG: &str = "\"files\":[{\"name\":\"long\",\"disk\":0}],";
+/// The long file alone.
+pub const LONG: &str = "\"files\":[{\"name\":\"long\",\"disk\":0}],";
 
 const BOTH: &str = "\"files\":[{\"name\":\"long\",\"disk\":0},{\"name\":\"ten\",\"disk\":4}],";
 
@@ -36,14 +39,14 @@ fn ten(alloc: Global) -> Result<Vec<u8>, NoMemory>
 }
 
 /// 256 bytes.
-fn long(alloc: Global) -> Result<Vec<u8>, NoMemory>
+pub fn long(alloc: Global) -> Result<Vec<u8>, NoMemory>
     ensures { IfOk result (λ v. length v.items ≡ 256) }
 {
     Ok(vec![in alloc; b'a'; 256]?)
 }
 
 /// A library of one file.
-fn one(alloc: Global, file: Vec<u8>) -> Result<Library, NoMemory>
+pub fn one(alloc: Global, file: Vec<u8>) -> Result<Library, NoMemory>
     requires some { 1 ≤ length file.items }
     requires few { length file.items ≤ most_file }
     ensures count { IfOk result (λ l. length l ≡ 1) }
@@ -77,11 +80,10 @@ fn text_of(alloc: Global, files: &str, rest: &str) -> Result<String, AllocError>
 }
 
 /// The scenario that a text says, if it has so many files.
-fn scenario_of(alloc: Global, files: &str, rest: &str, count: usize) -> Result<Scenario, Fail>
+fn scenario_of(alloc: Global, text: &str, count: usize) -> Result<Scenario, Fail>
     ensures sound { IfOk result IsScenario }
     ensures count { IfOk result (λ s. length s.files ≡ count) }
 {
-    let text = text_of(alloc, files, rest)?;
     let scenario = read_scenario(alloc, text.as_bytes())?;
     if scenario.files.len() != count {
         return Err(Fail::new("another number of files"));
@@ -89,8 +91,48 @@ fn scenario_of(alloc: Global, files: &str, rest: &str, count: usize) -> Result<S
     Ok(scenario)
 }
 
-/// The run of a scenario over a library. Whatever the scenario holds, it meets all claims.
-fn run_of(
+/// The run of a scenario's text over a library, each read of which passes the gate. Whatever the scenario holds, it
+/// meets all claims.
+pub fn run_gated<R: Threads + Wait + Sync, G: Gate + Sync>(
+    rt: &R,
+    alloc: Global,
+    text: &str,
+    library: &Library,
+    count: usize,
+    gate: &G,
+    workers: u32,
+) -> Result<Kept, Fail>
+    requires count { length library.now ≡ count }
+    requires filled { All (λ bytes. 1 ≤ length bytes) library.now }
+    requires short { All (λ bytes. length bytes ≤ most_file) library.now }
+    requires workers { (1 ≤ workers) × (workers ≤ 64) }
+    ensures claims { IfOk result (λ k. MeetsClaims (account_of k)) }
+{
+    let scenario = scenario_of(alloc, text, count)?;
+    Ok(run_ring(rt, alloc, scenario, library, gate, workers)?)
+}
+
+/// The same, with no gate.
+pub fn run_text<R: Threads + Wait + Sync>(
+    rt: &R,
+    alloc: Global,
+    text: &str,
+    library: &Library,
+    count: usize,
+    workers: u32,
+) -> Result<Kept, Fail>
+    requires count { length library.now ≡ count }
+    requires filled { All (λ bytes. 1 ≤ length bytes) library.now }
+    requires short { All (λ bytes. length bytes ≤ most_file) library.now }
+    requires workers { (1 ≤ workers) × (workers ≤ 64) }
+    ensures claims { IfOk result (λ k. MeetsClaims (account_of k)) }
+{
+    run_gated(rt, alloc, text, library, count, &OpenGate, workers)
+}
+
+/// The same of the scenario that begins as all here do.
+fn run_of<R: Threads + Wait + Sync>(
+    rt: &R,
     alloc: Global,
     files: &str,
     rest: &str,
@@ -102,8 +144,8 @@ fn run_of(
     requires short { All (λ bytes. length bytes ≤ most_file) library.now }
     ensures claims { IfOk result (λ k. MeetsClaims (account_of k)) }
 {
-    let scenario = scenario_of(alloc, files, rest, count)?;
-    Ok(run_ring(alloc, scenario, library, &OpenGate)?)
+    let text = text_of(alloc, files, rest)?;
+    run_text(rt, alloc, text.as_str(), library, count, 1)
 }
 
 /// Whether a visit was served (`d`, or `D` where it need not have been), or need not have been (`e`), or neither.
@@ -116,7 +158,13 @@ fn letter(k: &Kept, v: Instance, n: Visit) -> &'static str {
     }
 }
 
-fn push_fates(k: &Kept, v: Instance, visits: Visit, text: &mut String) -> Result<(), AllocError> {
+/// Adds the letters of the first visits of an instance, and a space.
+pub fn push_fates(
+    k: &Kept,
+    v: Instance,
+    visits: Visit,
+    text: &mut String,
+) -> Result<(), AllocError> {
     for n in 0..visits {
         text.push_str(letter(k, v, n))?;
     }
@@ -134,61 +182,86 @@ fn push_slots(k: &Kept, entries: u64, alloc: Global, text: &mut String) -> Resul
     Ok(())
 }
 
-/// The fates of the first visits of the first instances, whether the run is carried and timed, and its schedule
-/// before the first entry and after the last.
+/// Adds what was put in a journal, each as its instance, slot, first and last visit.
+fn push_puts(journal: &[Entry], text: &mut String) -> Result<(), AllocError> {
+    for e in journal {
+        if let What::Put(t) = e.what {
+            write!(text, "{:?}", (t.instance.0, t.slot.0, t.first, t.last))?;
+        }
+    }
+    Ok(())
+}
+
+/// What was put, in the order of the journals.
+pub fn puts(alloc: Global, k: &Kept) -> Result<String, AllocError> {
+    let mut text = String::new(alloc);
+    for journal in k.journals.as_slice() {
+        push_puts(journal.as_slice(), &mut text)?;
+    }
+    Ok(text)
+}
+
+/// The fates of the first visits of the first instances, what was put, whether the run is carried and timed, and
+/// its schedule before the first entry and after the last.
 fn told(alloc: Global, k: &Kept, instances: u32, visits: Visit) -> Result<String, NoMemory> {
     let mut text = String::new(alloc);
     for v in 0..instances {
         push_fates(k, Instance(v), visits, &mut text)?;
     }
-    text.push_str(if carried(k) { "carried " } else { "" })?;
-    text.push_str(if timed(k) { "timed " } else { "" })?;
+    text.push_str(puts(alloc, k)?.as_str())?;
+    text.push_str(if carried(k) { " carried" } else { "" })?;
+    text.push_str(if timed(k) { " timed" } else { "" })?;
+    text.push_str(" ")?;
     push_slots(k, 0, alloc, &mut text)?;
     push_slots(k, u64::MAX, alloc, &mut text)?;
     Ok(text)
 }
 
 /// What is told of a run with the file of ten bytes.
-fn of_ten(alloc: Global, rest: &str) -> Result<String, Fail> {
+fn of_ten<R: Threads + Wait + Sync>(rt: &R, alloc: Global, rest: &str) -> Result<String, Fail> {
     let library = one(alloc, ten(alloc)?)?;
-    let k = run_of(alloc, TEN, rest, &library, 1)?;
+    let k = run_of(rt, alloc, TEN, rest, &library, 1)?;
     Ok(told(alloc, &k, 1, 4)?)
 }
 
 /// What is told of a run with the long file.
-fn of_long(alloc: Global, rest: &str, visits: Visit) -> Result<String, Fail> {
+fn of_long<R: Threads + Wait + Sync>(
+    rt: &R,
+    alloc: Global,
+    rest: &str,
+    visits: Visit,
+) -> Result<String, Fail> {
     let library = one(alloc, long(alloc)?)?;
-    let k = run_of(alloc, LONG, rest, &library, 1)?;
+    let k = run_of(rt, alloc, LONG, rest, &library, 1)?;
     Ok(told(alloc, &k, 1, visits)?)
 }
 
 /// What is told of a run with both files.
-fn of_both(alloc: Global, rest: &str) -> Result<String, Fail> {
+fn of_both<R: Threads + Wait + Sync>(rt: &R, alloc: Global, rest: &str) -> Result<String, Fail> {
     let library = both(alloc)?;
-    let k = run_of(alloc, BOTH, rest, &library, 2)?;
+    let k = run_of(rt, alloc, BOTH, rest, &library, 2)?;
     Ok(told(alloc, &k, 2, 8)?)
 }
 
 #[test]
 fn visits_are_served_or_excused(rt: HostRuntime) -> Result<(), Fail> {
-    let alloc = rt.alloc();
     let cases = [
-        (START, "ddd. carried timed [][(0, 1, 0, 2)]"),
+        (START, "ddd. (0, 1, 0, 2) carried timed [][(0, 1, 0, 2)]"),
         (
             r#""beats":600,"events":[{"beat":0,"start":0},{"beat":100,"stop":0}]"#,
-            "Dee. carried timed [][]",
+            "Dee. (0, 1, 0, 2) carried timed [][]",
         ),
         (
             r#""beats":600,"events":[{"beat":0,"start":0}],"read_faults":[{"disk":1,"from":130,"until":160}]"#,
-            "ded. carried timed [][(0, 1, 0, 2)]",
+            "ded. (0, 1, 0, 2) carried timed [][(0, 1, 0, 2)]",
         ),
         (
             r#""beats":600,"events":[{"beat":0,"start":0}],"deaths":[{"cub":0,"beat":0}]"#,
-            "ddd. carried timed [][(0, 3, 0, 2)]",
+            "ddd. (0, 3, 0, 2) carried timed [][(0, 3, 0, 2)]",
         ),
     ];
     for (rest, want) in cases {
-        let told = of_ten(alloc, rest)?;
+        let told = of_ten(&rt, rt.alloc(), rest)?;
         assert_eq!(rt; told.as_str(), want);
     }
     Ok(())
@@ -196,21 +269,20 @@ fn visits_are_served_or_excused(rt: HostRuntime) -> Result<(), Fail> {
 
 #[test]
 fn a_death_costs_what_comes_too_soon_after_it(rt: HostRuntime) -> Result<(), Fail> {
-    let alloc = rt.alloc();
     let cases = [
         (
             r#""beats":600,"events":[{"beat":0,"start":0}],"deaths":[{"cub":3,"beat":200}]"#,
             7,
-            "dddddd. carried timed [][(0, 1, 0, 63)]",
+            "dddddd. (0, 1, 0, 63) carried timed [][(0, 1, 0, 63)]",
         ),
         (
             r#""beats":700,"events":[{"beat":0,"start":0}],"deaths":[{"cub":3,"beat":300}]"#,
             8,
-            "dddeddd. carried timed [][(0, 1, 0, 63)]",
+            "dddeddd. (0, 1, 0, 63) carried timed [][(0, 1, 0, 63)]",
         ),
     ];
     for (rest, visits, want) in cases {
-        let told = of_long(alloc, rest, visits)?;
+        let told = of_long(&rt, rt.alloc(), rest, visits)?;
         assert_eq!(rt; told.as_str(), want);
     }
     Ok(())
@@ -219,12 +291,13 @@ fn a_death_costs_what_comes_too_soon_after_it(rt: HostRuntime) -> Result<(), Fai
 #[test]
 fn another_file_gets_the_slot_of_a_stopped_one(rt: HostRuntime) -> Result<(), Fail> {
     let told = of_both(
+        &rt,
         rt.alloc(),
         r#""beats":1000,"events":[{"beat":0,"start":0},{"beat":400,"stop":0},{"beat":400,"start":1}]"#,
     )?;
     assert_eq!(rt;
         told.as_str(),
-        "dddDeeee ....ddd. carried timed [][(1, 1, 4, 6)]"
+        "dddDeeee ....ddd. (0, 1, 0, 63)(1, 1, 4, 6) carried timed [][(1, 1, 4, 6)]"
     );
     Ok(())
 }
@@ -315,9 +388,13 @@ fn changed_journal(alloc: Global, change: Change, journal: &[Entry]) -> Result<J
 }
 
 /// What is told of the run with ten bytes, once its journals are changed.
-fn of_changed(alloc: Global, change: Change) -> Result<String, Fail> {
+fn of_changed<R: Threads + Wait + Sync>(
+    rt: &R,
+    alloc: Global,
+    change: Change,
+) -> Result<String, Fail> {
     let library = one(alloc, ten(alloc)?)?;
-    let mut k = run_of(alloc, TEN, START, &library, 1)?;
+    let mut k = run_of(rt, alloc, TEN, START, &library, 1)?;
     let mut journals = Vec::new(alloc);
     for journal in k.journals.as_slice() {
         journals.push(changed_journal(alloc, change, journal.as_slice())?)?;
@@ -328,17 +405,25 @@ fn of_changed(alloc: Global, change: Change) -> Result<String, Fail> {
 
 #[test]
 fn changed_journals_tell_it(rt: HostRuntime) -> Result<(), Fail> {
-    let alloc = rt.alloc();
     let cases = [
-        (Change::Lost, ".... timed [][(0, 1, 0, 2)]"),
-        (Change::Late(4000), "ddd. carried timed [][(0, 1, 0, 2)]"),
-        (Change::Late(4001), "ddd. carried [][(0, 1, 0, 2)]"),
-        (Change::Twice, "ddd. carried timed [][(1, 1, 0, 2)]"),
-        (Change::Span, ".... timed [][(0, 1, 0, 2)]"),
-        (Change::Beat, ".... timed [][(0, 1, 0, 2)]"),
+        (Change::Lost, ".... (0, 1, 0, 2) timed [][(0, 1, 0, 2)]"),
+        (
+            Change::Late(4000),
+            "ddd. (0, 1, 0, 2) carried timed [][(0, 1, 0, 2)]",
+        ),
+        (
+            Change::Late(4001),
+            "ddd. (0, 1, 0, 2) carried [][(0, 1, 0, 2)]",
+        ),
+        (
+            Change::Twice,
+            "ddd. (0, 1, 0, 2)(1, 1, 0, 2) carried timed [][(1, 1, 0, 2)]",
+        ),
+        (Change::Span, ".... (0, 1, 0, 2) timed [][(0, 1, 0, 2)]"),
+        (Change::Beat, ".... (0, 1, 0, 2) timed [][(0, 1, 0, 2)]"),
     ];
     for (change, want) in cases {
-        let told = of_changed(alloc, change)?;
+        let told = of_changed(&rt, rt.alloc(), change)?;
         assert_eq!(rt; told.as_str(), want);
     }
     Ok(())
@@ -363,48 +448,15 @@ fn seventeen(alloc: Global, beats: &str) -> Result<String, AllocError> {
     Ok(text)
 }
 
-/// Adds what was put in a journal, each as its instance, slot, first and last visit.
-fn push_puts(journal: &[Entry], text: &mut String) -> Result<(), AllocError> {
-    for e in journal {
-        if let What::Put(t) = e.what {
-            write!(text, "{:?}", (t.instance.0, t.slot.0, t.first, t.last))?;
-        }
-    }
-    Ok(())
-}
-
-/// What was put, in the order of the journals.
-fn puts(alloc: Global, k: &Kept) -> Result<String, AllocError> {
-    let mut text = String::new(alloc);
-    for journal in k.journals.as_slice() {
-        push_puts(journal.as_slice(), &mut text)?;
-    }
-    Ok(text)
-}
-
-/// What was put in a run of two starts, of which the first is stopped when the second comes, and in
-/// which each Put is fair.
-fn put_after_a_stop(alloc: Global) -> Result<String, Fail> {
-    let library = both(alloc)?;
-    let rest =
-        r#""beats":1000,"events":[{"beat":0,"start":0},{"beat":400,"stop":0},{"beat":400,"start":1}]"#;
-    let k = run_of(alloc, BOTH, rest, &library, 2)?;
-    Ok(puts(alloc, &k)?)
-}
-
-#[test]
-fn a_slot_is_put_again_after_a_stop(rt: HostRuntime) -> Result<(), Fail> {
-    let alloc = rt.alloc();
-    let text = put_after_a_stop(alloc)?;
-    assert_eq!(rt; text.as_str(), "(0, 1, 0, 63)(1, 1, 4, 6)");
-    Ok(())
-}
-
 /// What was put in so many beats for seventeen starts of a file of sixteen blocks, in a run that has one schedule.
-fn put_of_seventeen(alloc: Global, beats: &str) -> Result<String, Fail> {
+fn put_of_seventeen<R: Threads + Wait + Sync>(
+    rt: &R,
+    alloc: Global,
+    beats: &str,
+) -> Result<String, Fail> {
     let library = one(alloc, sixteen_blocks(alloc)?)?;
     let rest = seventeen(alloc, beats)?;
-    let k = run_of(alloc, TEN, rest.as_str(), &library, 1)?;
+    let k = run_of(rt, alloc, TEN, rest.as_str(), &library, 1)?;
     Ok(puts(alloc, &k)?)
 }
 
@@ -414,10 +466,9 @@ const SIXTEEN: &str =
 
 #[test]
 fn the_seventeenth_start_waits_until_a_slot_is_free(rt: HostRuntime) -> Result<(), Fail> {
-    let alloc = rt.alloc();
-    let before = put_of_seventeen(alloc, "1500")?;
+    let before = put_of_seventeen(&rt, rt.alloc(), "1500")?;
     assert_eq!(rt; before.as_str(), SIXTEEN);
-    let behind = put_of_seventeen(alloc, "1700")?;
+    let behind = put_of_seventeen(&rt, rt.alloc(), "1700")?;
     assert_eq!(rt;
         behind.as_str().strip_prefix(SIXTEEN),
         Some("(16, 1, 16, 31)")

@@ -38,7 +38,7 @@ use Rattle.ring_nodes.specs.declared.nodes.AnyNode.{AnyNode}
 use Rattle.ring_nodes.specs.declared.nodes.AnyNode.TheVariants as node
 use Rattle.ring_nodes.specs.AllNodes.{any_step, StandsAny, AllStand, numbered, each_numbered, opening_cub, opening_disk, opening_nodes}
 use Rattle.ring_nodes.proofs.Numbered.{length-numbered, length-each_numbered}
-use Rattle.ring_schedule.proofs.Openings.{alive_at}
+use Rattle.proof_ring.proofs.Opened.{alive_at}
 use Rattle.tiger_ring.proofs.Stopless.{IsNotGone, AreStopless, cub_stops_none, disk_stops_none, viewers_stop_none}
 
 -- ---- the nodes but the controller

@@ -1,5 +1,5 @@
 //! The run of the nodes.
-ghost use Rattle.std.specs.Prelude.{◌≡◌, IfOk};
+ghost use Rattle.std.specs.Prelude.{◌≡◌, ◌≤◌, IfOk};
 ghost use Rattle.controller_core.specs.Orders.{AreOrders};
 ghost use Rattle.disk_image.specs.Image.{HasLengths};
 ghost use Rattle.node_kit.specs.Courses.{IsCourse};
@@ -10,21 +10,26 @@ ghost use Rattle.run_facts.specs.Timed.{AreTimed};
 ghost use Rattle.ring_facts.specs.Steps.{HasRun, FollowOrders};
 
 use node_kit::{Course, Gate, Journal, LinkTable, Order};
-use ring_engine::run_plain;
 use ring_nodes::{AnyNode, make_images, make_nodes};
+use ring_workers::run_workers;
 use std::alloc::Global;
+use std::sync::Wait;
+use std::thread::Threads;
 use stripe_layout::Catalogue;
 use tiger_base::{Library, Msg, NoMemory, Sequence};
 
-/// The journals of the nodes of a course, after they ran to the end of its beats.
-pub fn journals_of<G: Gate>(
+/// The journals of the nodes of a course, after so many workers ran them to the end of its beats.
+pub fn journals_of<R: Threads + Wait + Sync, G: Gate + Sync>(
+    rt: &R,
     alloc: Global,
     course: &Course,
     catalogue: &Catalogue,
     library: &Library,
     orders: &[Order],
     gate: &G,
+    workers: u32,
 ) -> Result<Sequence<Journal>, NoMemory>
+    requires workers { (1 ≤ workers) × (workers ≤ 64) }
     requires course { IsCourse course.now }
     requires lengths { HasLengths library.now catalogue.now }
     requires orders { AreOrders course.now.plan.params orders.now }
@@ -40,7 +45,7 @@ pub fn journals_of<G: Gate>(
     let given = copied(alloc, orders)?;
     let nodes = make_nodes(alloc, course, images.as_slice(), given, gate)?;
     let links = LinkTable::new(&course.plan);
-    let ran = run_plain::<Msg<'_>, AnyNode<'_, G>>(alloc, nodes, &links, course)?;
+    let ran = run_workers::<Msg<'_>, AnyNode<'_, G>, R>(rt, alloc, nodes, &links, course, workers)?;
     Ok(ran.journals)
 }
 

@@ -5,6 +5,7 @@ ghost use Rattle.scenario_read.specs.Sound.{IsScenario};
 ghost use Rattle.run_report.specs.Text.{kept_outcomes};
 ghost use Rattle.ring_facts.specs.Rings.{IsRingRun};
 ghost use Rattle.ring_answer.specs.Answers.{IsOnlyRun};
+ghost use Rattle.kept_worlds.specs.Worlds.{IsWorld};
 ghost use Rattle.run_claims.specs.Accounts.{account_of};
 ghost use Rattle.run_claims.specs.Claims.{MeetsClaims};
 
@@ -13,6 +14,8 @@ use node_kit::{Gate, Kept};
 use run_report::{Outcome, digests_of, outcomes};
 use scenario_read::{Scenario, catalogue_of, orders_of};
 use std::alloc::Global;
+use std::sync::Wait;
+use std::thread::Threads;
 use tiger_base::{Library, NoMemory, Sequence};
 
 /// What is kept of a run, and what became of each of its starts.
@@ -22,37 +25,45 @@ pub struct RingRun {
     pub outcomes: Vec<Outcome>,
 }
 
-/// Runs a scenario over its library, and keeps what is told of the run. Each read of a disk passes
-/// the gate. Whatever runs the ring for it, the same is kept. Whatever the scenario starts, stops,
-/// lets die and fails to read, there is one schedule, and each settled block came or is excused.
+/// Runs a scenario over its library by so many workers, and keeps what is told of the run. Each read of a
+/// disk passes the gate. Whatever the number of workers is, the same is kept, and it is a list of events
+/// that the machine of the ring's nodes accepts. Whatever the scenario starts, stops, lets die and fails to
+/// read, there is one schedule, and each settled block came or is excused.
 ///
-/// `NoMemory` is the only error; it gives nothing back.
-pub fn run_ring<G: Gate>(
+/// The call may wait for a thread. `NoMemory` is the only error; it gives nothing back.
+pub fn run_ring<R: Threads + Wait + Sync, G: Gate + Sync>(
+    rt: &R,
     alloc: Global,
     scenario: Scenario,
     library: &Library,
     gate: &G,
+    workers: u32,
 ) -> Result<Kept, NoMemory>
+    requires workers { (1 ≤ workers) × (workers ≤ 64) }
     requires scenario { IsScenario scenario }
     requires files { length library.now ≡ length scenario.files }
     requires filled { All (λ bytes. 1 ≤ length bytes) library.now }
     requires short { All (λ bytes. length bytes ≤ most_file) library.now }
     ensures ran { IfOk result (IsRingRun G scenario library.now) }
     ensures only { IfOk result (IsOnlyRun G scenario library.now) }
+    ensures world { IfOk result (IsWorld G library.now) }
     ensures claims { IfOk result (λ k. MeetsClaims (account_of k)) }
 {
-    let RingRun { kept, .. } = run_with_outcomes(alloc, scenario, library, gate)?;
+    let RingRun { kept, .. } = run_with_outcomes(rt, alloc, scenario, library, gate, workers)?;
     Ok(kept)
 }
 
-/// The same run, with what became of each start: it is found once, for the digests, and a report needs
-/// it too.
-pub fn run_with_outcomes<G: Gate>(
+/// The same run, with what became of each start: it is found once, for the digests, and a report
+/// needs it too.
+pub fn run_with_outcomes<R: Threads + Wait + Sync, G: Gate + Sync>(
+    rt: &R,
     alloc: Global,
     scenario: Scenario,
     library: &Library,
     gate: &G,
+    workers: u32,
 ) -> Result<RingRun, NoMemory>
+    requires workers { (1 ≤ workers) × (workers ≤ 64) }
     requires scenario { IsScenario scenario }
     requires files { length library.now ≡ length scenario.files }
     requires filled { All (λ bytes. 1 ≤ length bytes) library.now }
@@ -60,12 +71,22 @@ pub fn run_with_outcomes<G: Gate>(
     ensures ran { IfOk result (λ run. IsRingRun G scenario library.now run.kept) }
     ensures told { IfOk result (λ run. run.outcomes.items ≡ kept_outcomes run.kept) }
     ensures only { IfOk result (λ run. IsOnlyRun G scenario library.now run.kept) }
+    ensures world { IfOk result (λ run. IsWorld G library.now run.kept) }
     ensures claims { IfOk result (λ run. MeetsClaims (account_of run.kept)) }
 {
     let catalogue = catalogue_of(alloc, &scenario, library)?;
     let orders = orders_of(alloc, &scenario, &catalogue)?;
     let course = scenario.course;
-    let journals = journals_of(alloc, &course, &catalogue, library, orders.as_slice(), gate)?;
+    let journals = journals_of(
+        rt,
+        alloc,
+        &course,
+        &catalogue,
+        library,
+        orders.as_slice(),
+        gate,
+        workers,
+    )?;
     let outcomes = outcomes(
         alloc,
         &course,

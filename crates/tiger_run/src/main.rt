@@ -12,6 +12,8 @@ use outside::{DirFiles, StdSink};
 use status::{Status, exit_of, line_of};
 use std::alloc::{AllocError, Global};
 use std::process::ExitCode;
+use std::sync::Wait;
+use std::thread::Threads;
 use std::{env, io};
 use top::tiger;
 
@@ -56,8 +58,8 @@ fn asked_text(words: &[String]) -> Option<&'static str> {
     }
 }
 
-/// Does what the words say, and answers how that ended.
-fn status_of(rt: &HostRuntime, alloc: Global) -> Status {
+/// Does what the words say, and answers how that ended. Workers are threads of `threads`.
+fn status_of<R: Threads + Wait + Sync>(rt: &HostRuntime, threads: &R, alloc: Global) -> Status {
     let words = match words_of(rt, alloc) {
         Ok(words) => words,
         Err(status) => return status,
@@ -70,7 +72,7 @@ fn status_of(rt: &HostRuntime, alloc: Global) -> Status {
     }
     let mut files = DirFiles::new(rt);
     let mut out = StdSink::new(rt);
-    tiger(alloc, &words, &mut files, &mut out, &OpenGate).status
+    tiger(threads, alloc, &words, &mut files, &mut out, &OpenGate).status
 }
 
 /// Says on standard error how a run ended.
@@ -82,7 +84,7 @@ fn say(rt: &HostRuntime, alloc: Global, status: &Status) -> Result<(), AllocErro
 
 fn main(rt: HostRuntime) -> ExitCode {
     let alloc = rt.alloc();
-    let status = status_of(&rt, alloc);
+    let status = status_of(&rt, &rt, alloc);
     let _ = say(&rt, alloc, &status);
     ExitCode::from(exit_of(&status))
 }

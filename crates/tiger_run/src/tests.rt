@@ -6,7 +6,9 @@ use crate::top::{Ended, tiger};
 use node_kit::OpenGate;
 use outside::{MemFiles, MemSink};
 use std::alloc::Global;
+use std::sync::Wait;
 use std::test::Fail;
+use std::thread::Threads;
 
 /// The scenario of one viewer of the file `ten`.
 const ONE: &str =
@@ -125,7 +127,12 @@ fn told(alloc: Global, ended: &Ended, written: &[u8]) -> Result<Vec<u8>, Fail> {
 }
 
 /// What is told of the call that these words and files make.
-fn ran(alloc: Global, words: &str, given: Given) -> Result<Vec<u8>, Fail> {
+fn ran<R: Threads + Wait + Sync>(
+    rt: &R,
+    alloc: Global,
+    words: &str,
+    given: Given,
+) -> Result<Vec<u8>, Fail> {
     let Given {
         scenario,
         ten,
@@ -135,38 +142,52 @@ fn ran(alloc: Global, words: &str, given: Given) -> Result<Vec<u8>, Fail> {
     let mut files = files_of(alloc, scenario, ten, failing_read)?;
     let mut out = sink_of(alloc, failing_put)?;
     let words = words_of(alloc, words)?;
-    let ended = tiger(alloc, &words, &mut files, &mut out, &OpenGate);
+    let ended = tiger(rt, alloc, &words, &mut files, &mut out, &OpenGate);
     told(alloc, &ended, out.bytes())
 }
 
 /// What is told of a call on the scenario of one viewer, once what it is given is changed.
-fn ran_one(alloc: Global, words: &str, changes: &str) -> Result<Vec<u8>, Fail> {
+fn ran_one<R: Threads + Wait + Sync>(
+    rt: &R,
+    alloc: Global,
+    words: &str,
+    changes: &str,
+) -> Result<Vec<u8>, Fail> {
     let mut given = given_one(alloc)?;
     for part in changes.split("; ") {
         if !part.is_empty() {
             change(alloc, &mut given, part)?;
         }
     }
-    ran(alloc, words, given)
+    ran(rt, alloc, words, given)
 }
 
 #[test]
 fn one_viewer_gets_its_three_blocks(rt: HostRuntime) -> Result<(), Fail> {
-    let told = ran_one(rt.alloc(), "run one.json 1", "")?;
+    let told = ran_one(&rt, rt.alloc(), "run one.json 1", "")?;
     assert!(rt; told.as_slice().strip_prefix(b"0 kept ") == Some(SIX_LINES.as_bytes()));
     Ok(())
 }
 
 #[test]
 fn a_made_scenario_is_summed_up(rt: HostRuntime) -> Result<(), Fail> {
-    let told = ran_one(rt.alloc(), "make 0", "scenario: none; ten: none")?;
+    let told = ran_one(&rt, rt.alloc(), "make 0", "scenario: none; ten: none")?;
     assert!(rt; told.as_slice().strip_prefix(b"0 kept ") == Some(TWO_LINES.as_bytes()));
     Ok(())
 }
 
-/// Whether a call wrote so many bytes of the report, and then a put failed.
-fn is_cut(alloc: Global, put: &str, len: usize) -> Result<bool, Fail> {
-    let told = ran_one(alloc, "run one.json 1", put)?;
+/// Whether a put that fails once it kept so many bytes ends the run with so many bytes of the report written.
+fn is_cut<R: Threads + Wait + Sync>(
+    rt: &R,
+    alloc: Global,
+    workers: u32,
+    put: usize,
+    kept: usize,
+    len: usize,
+) -> Result<bool, Fail> {
+    let words = format!(in alloc; "run one.json {workers}")?;
+    let change = format!(in alloc; "put: {put} {kept}")?;
+    let told = ran_one(rt, alloc, words.as_str(), change.as_str())?;
     let text = told.as_slice();
     let written = text
         .strip_prefix(b"6 kept tiger: write fault\n")
@@ -174,40 +195,67 @@ fn is_cut(alloc: Global, put: &str, len: usize) -> Result<bool, Fail> {
     Ok(written.len() == len && SIX_LINES.as_bytes().starts_with(written))
 }
 
+/// Whether that is so of the put of one line, whatever it keeps of it; so many bytes stand before the line.
+fn line_is_cut<R: Threads + Wait + Sync>(
+    rt: &R,
+    alloc: Global,
+    workers: u32,
+    put: usize,
+    line: &str,
+    before: usize,
+) -> Result<bool, Fail> {
+    for kept in 0..line.len().saturating_add(2) {
+        if !is_cut(rt, alloc, workers, put, kept, before.saturating_add(kept))? {
+            return Ok(false);
+        }
+    }
+    Ok(true)
+}
+
+/// Whether that is so of each line.
+fn each_line_is_cut<R: Threads + Wait + Sync>(
+    rt: &R,
+    alloc: Global,
+    workers: u32,
+) -> Result<bool, Fail> {
+    let mut before = 0usize;
+    for (put, line) in SIX_LINES.lines().enumerate() {
+        if !line_is_cut(rt, alloc, workers, put, line, before)? {
+            return Ok(false);
+        }
+        before = before.saturating_add(line.len()).saturating_add(1);
+    }
+    Ok(true)
+}
+
 #[test]
 fn each_put_that_fails_ends_the_run_behind_a_front_of_its_line(
     rt: HostRuntime,
 ) -> Result<(), Fail> {
-    let alloc = rt.alloc();
-    for (put, len) in [
-        ("put: 0 3", 3),
-        ("put: 1 3", 33),
-        ("put: 2 3", 68),
-        ("put: 3 3", 105),
-        ("put: 4 3", 142),
-        ("put: 5 3", 256),
-        ("put: 1 5", 35),
-    ] {
-        assert!(rt; is_cut(alloc, put, len)?, "{put}");
+    for workers in [1, 2, 8] {
+        assert!(rt; each_line_is_cut(&rt, rt.alloc(), workers)?, "{workers}");
     }
     Ok(())
 }
 
 /// Whether a front of the scenario breaks the first rule.
-fn is_no_scenario(alloc: Global, front: &[u8]) -> Result<bool, Fail> {
+fn is_no_scenario<R: Threads + Wait + Sync>(
+    rt: &R,
+    alloc: Global,
+    front: &[u8],
+) -> Result<bool, Fail> {
     let mut given = given_one(alloc)?;
     given.scenario = Some(front.to_vec(alloc)?);
-    let told = ran(alloc, "run one.json 1", given)?;
+    let told = ran(rt, alloc, "run one.json 1", given)?;
     let wanted = "5 none tiger: scenario rule 1 item 0 left 0 right 0\n";
     Ok(told.as_slice() == wanted.as_bytes())
 }
 
 #[test]
 fn a_scenario_that_is_cut_breaks_the_first_rule(rt: HostRuntime) -> Result<(), Fail> {
-    let alloc = rt.alloc();
     let one = ONE.as_bytes();
     for len in 0..one.len() {
-        assert!(rt; is_no_scenario(alloc, &one[..len])?);
+        assert!(rt; is_no_scenario(&rt, rt.alloc(), &one[..len])?);
     }
     Ok(())
 }
@@ -235,18 +283,32 @@ run one.json 1 | letters: 4194305 | 8 none tiger: too long scenario given 419430
 run one.json 1 | ten: 16777217 | 8 none tiger: too long file 0 given 16777217 most 16777216"#;
 
 /// Whether a row's call ends as the row says.
-fn is_refused(alloc: Global, row: &str) -> Result<bool, Fail> {
+fn is_refused<R: Threads + Wait + Sync>(rt: &R, alloc: Global, row: &str) -> Result<bool, Fail> {
     let (words, rest) = row.split_once(" |").ok_or("no changes")?;
     let (changes, wanted) = rest.split_once(" | ").ok_or("no end")?;
-    let told = ran_one(alloc, words, changes.trim_ascii())?;
+    let told = ran_one(rt, alloc, words, changes.trim_ascii())?;
     Ok(told.as_slice().trim_ascii_end() == wanted.as_bytes())
+}
+
+/// Whether it does with one, two and eight workers, if the row's words name one.
+fn is_refused_by_each<R: Threads + Wait + Sync>(
+    rt: &R,
+    alloc: Global,
+    row: &str,
+) -> Result<bool, Fail> {
+    for workers in ["one.json 1 ", "one.json 2 ", "one.json 8 "] {
+        let row = row.replacen(alloc, "one.json 1 ", workers, 1)?;
+        if !is_refused(rt, alloc, row.as_str())? {
+            return Ok(false);
+        }
+    }
+    Ok(true)
 }
 
 #[test]
 fn what_is_not_as_it_should_be_is_refused(rt: HostRuntime) -> Result<(), Fail> {
-    let alloc = rt.alloc();
     for row in REFUSALS.lines() {
-        assert!(rt; is_refused(alloc, row)?, "{row}");
+        assert!(rt; is_refused_by_each(&rt, rt.alloc(), row)?, "{row}");
     }
     Ok(())
 }

@@ -20,6 +20,8 @@ use run_report::{report_of, summary_of};
 use scenario_make::{Made, make};
 use scenario_read::Scenario;
 use std::alloc::Global;
+use std::sync::Wait;
+use std::thread::Threads;
 use tiger_base::Library;
 use tiger_ring::run_with_outcomes;
 
@@ -49,14 +51,17 @@ fn written<K: Sink>(out: &mut K, text: &[u8]) -> Status
     }
 }
 
-/// Runs the scenario of a name, and writes its report.
-fn run_named<F: Files, K: Sink, G: Gate>(
+/// Runs the scenario of a name by so many workers, and writes its report.
+fn run_named<R: Threads + Wait + Sync, F: Files, K: Sink, G: Gate + Sync>(
+    rt: &R,
     alloc: Global,
     name: &str,
+    workers: u32,
     files: &mut F,
     out: &mut K,
     gate: &G,
 ) -> Ended
+    requires workers { (1 ≤ workers) × (workers ≤ 64) }
     requires calls { (F.state files.old).counts.calls ≤ most_earlier }
     requires faults { (K.state out.old).faults ≤ most_faults }
     ensures ran { let old = F.state files.old in
@@ -74,7 +79,7 @@ fn run_named<F: Files, K: Sink, G: Gate>(
         Ok(inputs) => inputs,
         Err(status) => return refused(status),
     };
-    let Ok(run) = run_with_outcomes(alloc, scenario, &library, gate) else {
+    let Ok(run) = run_with_outcomes(rt, alloc, scenario, &library, gate, workers) else {
         return refused(Status::NoMemory);
     };
     let Ok(text) = report_of(alloc, &run.kept, run.outcomes.as_slice()) else {
@@ -86,8 +91,14 @@ fn run_named<F: Files, K: Sink, G: Gate>(
     }
 }
 
-/// Makes the scenario of a number, runs it, and writes the summary of its report.
-fn run_made<K: Sink, G: Gate>(alloc: Global, number: u64, out: &mut K, gate: &G) -> Ended
+/// Makes the scenario of a number, runs it by one worker, and writes the summary of its report.
+fn run_made<R: Threads + Wait + Sync, K: Sink, G: Gate + Sync>(
+    rt: &R,
+    alloc: Global,
+    number: u64,
+    out: &mut K,
+    gate: &G,
+) -> Ended
     requires { (K.state out.old).faults ≤ most_faults }
     ensures ran { IfSome result.kept (IsMadeRun G number) }
     ensures sink { let old = K.state out.old in
@@ -98,7 +109,7 @@ fn run_made<K: Sink, G: Gate>(alloc: Global, number: u64, out: &mut K, gate: &G)
     let Ok(Made { scenario, library }) = make(alloc, number) else {
         return refused(Status::NoMemory);
     };
-    let Ok(run) = run_with_outcomes(alloc, scenario, &library, gate) else {
+    let Ok(run) = run_with_outcomes(rt, alloc, scenario, &library, gate, 1) else {
         return refused(Status::NoMemory);
     };
     let Ok(text) = summary_of(alloc, &run.kept, run.outcomes.as_slice()) else {
@@ -111,8 +122,9 @@ fn run_made<K: Sink, G: Gate>(alloc: Global, number: u64, out: &mut K, gate: &G)
 }
 
 /// Does what the words say: reads the scenario that they name and its files, or makes those of a
-/// number, runs them, and writes the report or its summary.
-pub fn tiger<F: Files, K: Sink, G: Gate>(
+/// number, runs them, and writes the report or its summary. The call may wait for a thread.
+pub fn tiger<R: Threads + Wait + Sync, F: Files, K: Sink, G: Gate + Sync>(
+    rt: &R,
     alloc: Global,
     words: &Vec<String>,
     files: &mut F,
@@ -173,8 +185,10 @@ pub fn tiger<F: Files, K: Sink, G: Gate>(
         IsMake (texts_of words.now.items) number → ¬ IsRefusal result.status }
 {
     match command_in(words.as_slice()) {
-        Some(Command::Run { name, .. }) => run_named(alloc, name, files, out, gate),
-        Some(Command::Make { number }) => run_made(alloc, number, out, gate),
+        Some(Command::Run { name, workers }) => {
+            run_named(rt, alloc, name, workers, files, out, gate)
+        }
+        Some(Command::Make { number }) => run_made(rt, alloc, number, out, gate),
         None => refused(Status::Words),
     }
 }

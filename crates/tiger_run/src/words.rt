@@ -8,7 +8,7 @@ ghost use Rattle.tiger_run.specs.Words.{IsMake, IsNoRun, IsNoMake, IsNoCommand, 
 #[derive(Clone, Copy, Debug)]
 pub enum Command<'a> {
     /// To run the scenario of the file `name`, with 1 to 64 workers.
-    Run { name: &'a str, workers: u64 },
+    Run { name: &'a str, workers: u32 },
     /// To make the scenario of a number, and to run it.
     Make { number: u64 },
 }
@@ -42,12 +42,12 @@ fn number_of(word: &str) -> Option<u64>
 }
 
 /// The number of workers that the word is in decimal, from 1 to 64.
-fn workers_of(word: &str) -> Option<u64>
+fn workers_of(word: &str) -> Option<u32>
     ensures { MatchOption result (AreNoWorkers word.now) (AreWorkers word.now) }
 {
     let number = number_of(word)?;
     if 1 <= number && number <= 64 {
-        Some(number)
+        Some(number as u32)
     } else {
         None
     }

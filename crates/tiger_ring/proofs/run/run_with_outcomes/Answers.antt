@@ -1,5 +1,6 @@
 use Rattle.std.proofs.Common.{refl, ◌∙◌}
 use Rattle.ring_answer.proofs.Kepts.{kept_runs_are_one}
+use Rattle.kept_worlds.proofs.Worlds.{kept-worlds}
 use Rattle.ring_claims.proofs.Kept.{kept_runs_meet_the_claims}
 use Rattle.tiger_ring.proofs.run.run_with_outcomes.Goals as goal
 
@@ -23,6 +24,10 @@ returns-clause-told g c = rw (c.in_ok-outcomes.ensures, c.as_slice-2.ensures, c.
 pub returns-clause-only : goal.returns-clause-only
 returns-clause-only g c =
     λ other again. kept_runs_are_one g.row.G.Denot c.args.scenario c.args.library.now other _ c.requires.scenario again (returns-clause-ran g c)
+
+pub returns-clause-world : goal.returns-clause-world
+returns-clause-world g c =
+    kept-worlds g.row.G.Denot c.args.scenario c.args.library.now _ c.requires.scenario (returns-clause-ran g c)
 
 pub returns-clause-claims : goal.returns-clause-claims
 returns-clause-claims g c =

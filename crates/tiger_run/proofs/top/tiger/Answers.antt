@@ -11,14 +11,14 @@ use Rattle.tiger_run.proofs.top.tiger.Goals as goal
 pub returns-in-Some-Run-clause-sink : goal.returns-in-Some-Run-clause-sink
 returns-in-Some-Run-clause-sink g c =
     let words = texts_of c.args.words.now.items in
-    let run : IsRun words c.in-Some-Run.name.now c.in-Some-Run.field-0-1 = rw (c.as_slice.ensures.value, c.in-Some-Run.field-0-is) at c.in-Some-Run.ensures in
-    EndsSink-run words c.in-Some-Run.name.now c.in-Some-Run.field-0-1 (g.K.Sink.state c.args.out.now) (g.K.Sink.state c.run_named.new.out) c.run_named.result.kept c.run_named.result.status run c.run_named.ensures.sink
+    let run : IsRun words c.in-Some-Run.name.now c.in-Some-Run.workers = rw (c.as_slice.ensures.value, c.in-Some-Run.field-0-is) at c.in-Some-Run.ensures in
+    EndsSink-run words c.in-Some-Run.name.now c.in-Some-Run.workers (g.K.Sink.state c.args.out.now) (g.K.Sink.state c.run_named.new.out) c.run_named.result.kept c.run_named.result.status run c.run_named.ensures.sink
 
 pub returns-in-Some-Run-clause-complete : goal.returns-in-Some-Run-clause-complete
 returns-in-Some-Run-clause-complete g c = λ command none_failed put_all.
     let words = texts_of c.args.words.now.items in
-    let run : IsRun words c.in-Some-Run.name.now c.in-Some-Run.field-0-1 = rw (c.as_slice.ensures.value, c.in-Some-Run.field-0-is) at c.in-Some-Run.ensures in
-    let same = IsRun-name words c.in-Some-Run.name.now command.name c.in-Some-Run.field-0-1 command.workers run command.asked in
+    let run : IsRun words c.in-Some-Run.name.now c.in-Some-Run.workers = rw (c.as_slice.ensures.value, c.in-Some-Run.field-0-is) at c.in-Some-Run.ensures in
+    let same = IsRun-name words c.in-Some-Run.name.now command.name c.in-Some-Run.workers command.workers run command.asked in
     let old = g.F.Files.state c.args.files.now in
     let new = g.F.Files.state c.run_named.new.files in
     let status = c.run_named.result.status in
@@ -34,17 +34,17 @@ returns-in-Some-Make-clause-sink g c =
 pub returns-in-Some-Run-clause-words : goal.returns-in-Some-Run-clause-words
 returns-in-Some-Run-clause-words g c =
     let words = texts_of c.args.words.now.items in
-    let run : IsRun words c.in-Some-Run.name.now c.in-Some-Run.field-0-1 = rw (c.as_slice.ensures.value, c.in-Some-Run.field-0-is) at c.in-Some-Run.ensures in
-    words-run words c.in-Some-Run.name.now c.in-Some-Run.field-0-1 (g.F.Files.state c.args.files.now) (g.F.Files.state c.run_named.new.files) c.run_named.result.status run c.run_named.ensures.input
+    let run : IsRun words c.in-Some-Run.name.now c.in-Some-Run.workers = rw (c.as_slice.ensures.value, c.in-Some-Run.field-0-is) at c.in-Some-Run.ensures in
+    words-run words c.in-Some-Run.name.now c.in-Some-Run.workers (g.F.Files.state c.args.files.now) (g.F.Files.state c.run_named.new.files) c.run_named.result.status run c.run_named.ensures.input
 
 pub returns-in-Some-Run-clause-one_answer : goal.returns-in-Some-Run-clause-one_answer
 returns-in-Some-Run-clause-one_answer g c = λ all.
     let words = texts_of c.args.words.now.items in
-    let run : IsRun words c.in-Some-Run.name.now c.in-Some-Run.field-0-1 = rw (c.as_slice.ensures.value, c.in-Some-Run.field-0-is) at c.in-Some-Run.ensures in
+    let run : IsRun words c.in-Some-Run.name.now c.in-Some-Run.workers = rw (c.as_slice.ensures.value, c.in-Some-Run.field-0-is) at c.in-Some-Run.ensures in
     let old = g.F.Files.state c.args.files.now in
     let new = g.F.Files.state c.run_named.new.files in
     one_answer g.row.G.Denot old new words c.run_named.result.kept all
-    (asked_by_name g.row.G.Denot old new words c.in-Some-Run.name.now c.in-Some-Run.field-0-1 c.run_named.result.kept run c.run_named.ensures.ran)
+    (asked_by_name g.row.G.Denot old new words c.in-Some-Run.name.now c.in-Some-Run.workers c.run_named.result.kept run c.run_named.ensures.ran)
 
 pub returns-in-Some-Make-clause-one_answer : goal.returns-in-Some-Make-clause-one_answer
 returns-in-Some-Make-clause-one_answer g c = λ all.

@@ -1,0 +1,114 @@
+//! Runs in which reads of disks wait for each other, so that only workers that move at the same time end the waiting.
+ghost use Rattle.std.specs.Prelude.{◌≤◌};
+
+use crate::claims::{FINE, SMALL, text_of};
+use crate::rings::{long, one, run_gated};
+use node_kit::Gate;
+use std::alloc::Global;
+use std::sync::Wait;
+use std::sync::atomic::{AtomicU64, Ordering};
+use std::test::Fail;
+use std::thread::Threads;
+use std::{hint, thread};
+use tiger_base::DiskNo;
+
+/// How often a hold looks whether it may end.
+const TURNS: u64 = 10000000;
+
+/// Holds one read of disk 0 until disk 1 is read; if `both`, it holds that first read of disk 1 too, until disk 0 has
+/// come to its own. It keeps which holds ended well, and not by their last turn.
+#[derive(Drop)]
+struct Crossing {
+    /// How many reads of disk 0 come before the one that is held.
+    earlier: u64,
+    both: bool,
+    reads_of_0: AtomicU64,
+    reads_of_1: AtomicU64,
+    first_came: AtomicU64,
+    second_came: AtomicU64,
+    first_met: AtomicU64,
+    second_met: AtomicU64,
+}
+
+fn hold(came: &AtomicU64, met: &AtomicU64) {
+    for turn in 0..TURNS {
+        if came.load(Ordering::SeqCst) == 1 {
+            met.store(1, Ordering::SeqCst);
+            return;
+        }
+        if turn % 1000 == 999 {
+            thread::yield_now();
+        } else {
+            hint::spin_loop();
+        }
+    }
+}
+
+impl Gate for Crossing {
+    fn before_read(&self, disk: DiskNo) {
+        if disk.0 == 1 && self.reads_of_1.fetch_add(1, Ordering::SeqCst) == 0 {
+            self.second_came.store(1, Ordering::SeqCst);
+            if self.both {
+                hold(&self.first_came, &self.second_met);
+            }
+        }
+        if disk.0 == 0 && self.reads_of_0.fetch_add(1, Ordering::SeqCst) == self.earlier {
+            self.first_came.store(1, Ordering::SeqCst);
+            hold(&self.second_came, &self.first_met);
+        }
+    }
+}
+
+/// Whether the reads met in a run of a scenario with the long file.
+fn meet<R: Threads + Wait + Sync>(
+    rt: &R,
+    alloc: Global,
+    plan: &str,
+    rest: &str,
+    earlier: u64,
+    both: bool,
+    workers: u32,
+) -> Result<bool, Fail>
+    requires { (1 ≤ workers) × (workers ≤ 64) }
+{
+    let gate = Crossing {
+        earlier,
+        both,
+        reads_of_0: AtomicU64::new(0),
+        reads_of_1: AtomicU64::new(0),
+        first_came: AtomicU64::new(0),
+        second_came: AtomicU64::new(0),
+        first_met: AtomicU64::new(0),
+        second_met: AtomicU64::new(0),
+    };
+    let text = text_of(alloc, plan, rest)?;
+    let library = one(alloc, long(alloc)?)?;
+    run_gated(rt, alloc, text.as_str(), &library, 1, &gate, workers)?;
+    let first = gate.first_met.load(Ordering::SeqCst) == 1;
+    let second = gate.second_met.load(Ordering::SeqCst) == 1;
+    Ok(first && (second || !both))
+}
+
+/// Three viewers in slots 1, 2 and 3: in beat 141 disk 0 is read for the third time, and disk 1 for the first.
+const THREE: &str =
+    r#""links":{"fixed":1},"beats":200,"events":[{"beat":0,"start":0},{"beat":0,"start":0},{"beat":0,"start":0}]"#;
+
+/// Two viewers in slots 22 and 121: disk 0 is read for the second time in beat 112, and disk 1 for the first in 113.
+const TWO: &str =
+    r#""links":{"fixed":1},"beats":200,"events":[{"beat":0,"start":0},{"beat":99,"start":0}]"#;
+
+/// Two reads of one beat that wait for each other end only if two workers are at them at the same time.
+#[test]
+fn two_workers_read_at_the_same_time(rt: HostRuntime) -> Result<(), Fail> {
+    assert!(rt; meet(&rt, rt.alloc(), SMALL, THREE, 2, true, 2)?);
+    assert!(rt; !meet(&rt, rt.alloc(), SMALL, THREE, 2, true, 1)?);
+    Ok(())
+}
+
+/// While disk 0 is held in a beat, disk 1 comes to its read of the next one: no beat ends for all nodes at once.
+#[test]
+fn the_ring_goes_on_around_a_held_read(rt: HostRuntime) -> Result<(), Fail> {
+    assert!(rt; meet(&rt, rt.alloc(), FINE, TWO, 1, false, 2)?);
+    assert!(rt; !meet(&rt, rt.alloc(), FINE, TWO, 1, false, 1)?);
+    Ok(())
+}
