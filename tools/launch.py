@@ -64,14 +64,15 @@ def needs_rt():
 
 
 class Command:
-    """A command with no input, in a process group of its own; what it writes is read here."""
+    """A command with no input, in a process group of its own, and with these variables; what it writes is read here."""
 
     running = None
 
-    def __init__(self, words, folder, errors=subprocess.STDOUT):
+    def __init__(self, words, folder, errors=subprocess.STDOUT, **variables):
         # What the environment may ask of rt, as another compiler, is not for this build.
         environment = {key: value for key, value in os.environ.items() if not key.startswith("RT_")}
-        how = {"env": {**environment, "PYTHONUNBUFFERED": "1"}, "stdin": subprocess.DEVNULL, "stdout": subprocess.PIPE}
+        environment.update(variables, PYTHONUNBUFFERED="1")
+        how = {"env": environment, "stdin": subprocess.DEVNULL, "stdout": subprocess.PIPE}
         signal.pthread_sigmask(signal.SIG_BLOCK, ENDING)
         try:
             self.process = subprocess.Popen(words, cwd=folder, stderr=errors, preexec_fn=own_group, **how)

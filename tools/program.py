@@ -13,6 +13,7 @@ PROGRAM = os.path.join(TOP, "crates", "tiger_run", "out", "tiger_run")
 CASES = os.path.join(TOP, "conformance")
 WAIT = 300  # seconds after which a run counts as hung
 
+NOBODY = 65534
 NO_PROGRAM = 70
 NO_REFERENCE = 69
 
@@ -33,6 +34,18 @@ class Ended:
         if self.out != other.out:
             found.append(where_differ(self.out, other.out))
         return ", ".join(found)
+
+
+def becomes_nobody():
+    """Makes the superuser's process one of nobody, for whom permissions count."""
+    if os.geteuid() == 0:
+        os.setgroups([])
+        os.setuid(NOBODY)
+
+
+def refused(status, line):
+    """A run that writes nothing but one line on standard error."""
+    return Ended(status, b"", f"tiger: {line}\n".encode())
 
 
 def first_line(text):

@@ -4,6 +4,8 @@ A scenario is a dict as json.dumps takes it; a Raw in it stands in the text as i
 may stand twice.
 """
 import json
+import os
+import os
 
 KEYS = ("cubs", "disks", "slots", "play", "pieces", "block", "beat", "delay", "skew", "window_a", "window_b",
         "read_lead", "min_lead", "max_lead", "batch", "heart", "deadman", "hold")
@@ -262,3 +264,15 @@ def draw_faults(rng, disks, beats, number):
         faults.append({"disk": rng.randrange(disks), "from": start,
                        "until": some(rng, start + 1, beats, rng.randint(start + 1, beats))})
     return faults
+
+
+def draw_media(rng, folder, count):
+    """Files of one byte to some thousand, with lengths at and beside whole blocks; their names and lengths, by length."""
+    names = []
+    for number in range(count):
+        block = rng.choice((1, 2, 3, 4, 7, 16, 64, 100))
+        length = max(1, block * rng.randint(1, rng.choice((3, 16, 40))) + rng.choice((-1, 0, 0, 1)))
+        names.append((f"file{number}", length))
+        with open(os.path.join(folder, f"file{number}"), "wb") as file:
+            file.write(bytes(rng.getrandbits(8) for _ in range(length)))
+    return sorted(names, key=lambda entry: entry[1])

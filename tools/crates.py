@@ -1,0 +1,54 @@
+"""Which crates of the repository the program reaches, and copies of them.
+
+Python 3.8 or later, and nothing but its standard library.
+"""
+import os
+import shutil
+
+from launch import CRATE, TOP
+
+TOP_CRATE = os.path.basename(CRATE)
+PARTS = ("src", "specs", "proofs")
+
+
+def used_by():
+    """Each crate's name, and the names of the libraries that it uses."""
+    with open(os.path.join(TOP, "crates.txt")) as file:
+        rows = [line.partition("#")[0].partition(":") for line in file]
+    return {name.split()[0]: uses.split() for name, colon, uses in rows if colon}
+
+
+def below_program():
+    """The program's crate and each one that it stands on, with those of them that it uses itself."""
+    used = used_by()
+    found, left = set(), [TOP_CRATE]
+    while left:
+        name = left.pop()
+        if name in used and name not in found:
+            found.add(name)
+            left += used[name]
+    return {name: [it for it in used[name] if it in found] for name in found}
+
+
+def copy(names, top, parts=PARTS):
+    """Copies these parts of these crates to the top of a repository of their own, with their lines of crates.txt and
+    HANDLES."""
+    for name in sorted(names):
+        for part in parts:
+            source = os.path.join(TOP, "crates", name, part)
+            if os.path.isdir(source):
+                shutil.copytree(source, os.path.join(top, "crates", name, part))
+    shutil.copy(os.path.join(TOP, "HANDLES"), top)
+    with open(os.path.join(TOP, "crates.txt")) as listed, open(os.path.join(top, "crates.txt"), "w") as file:
+        file.writelines(line for line in listed if set(names).intersection(line.partition(":")[0].split()[:1]))
+
+
+def lines_of(name, ending):
+    """How many lines the files of a crate with this ending have."""
+    number = 0
+    for part in PARTS:
+        for folder, _, names in os.walk(os.path.join(TOP, "crates", name, part)):
+            for file in (os.path.join(folder, it) for it in names if it.endswith(ending)):
+                with open(file, "rb") as content:
+                    number += content.read().count(b"\n")
+    return number
