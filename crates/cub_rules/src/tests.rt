@@ -2,12 +2,12 @@
 ghost use Rattle.std.specs.Prelude.{◌≡◌, ◌≤◌, ◌<◌, IfOk};
 
 use crate::{Store, StoredPart, StoredParts};
-use slot_plan::{Params, Plan};
+use slot_plan::{Params, Plan, small_plan};
 use std::alloc::Global;
 use std::test::Fail;
 use tiger_base::{DiskNo, FileNo, Instance, Library, Micros, NoMemory, Part, SlotNo, Span, Want};
 
-/// A plan of eight disks with a number of slots: slot 1 is first due at eight seconds over this number.
+/// The small plan with a number of slots: slot 1 is first due at eight seconds over this number.
 fn plan(slots: u64) -> Plan
     requires some { 1 < slots }
     requires few { slots ≤ 4096 }
@@ -15,24 +15,8 @@ fn plan(slots: u64) -> Plan
 {
     Plan {
         params: Params {
-            cubs: 8,
-            disks: 1,
             slots,
-            play: 1000000,
-            pieces: 2,
-            block: 4,
-            beat: 10000,
-            delay: 2,
-            skew: 4000,
-            window_a: 800000,
-            window_b: 200000,
-            read_lead: 100000,
-            min_lead: 3000000,
-            max_lead: 4000000,
-            batch: 20,
-            heart: 50,
-            deadman: 1000000,
-            hold: 3000000,
+            ..small_plan().params
         },
     }
 }
