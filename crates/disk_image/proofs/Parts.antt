@@ -8,7 +8,7 @@ use Rattle.stripe_layout.specs.Places.{place_of}
 use Rattle.stripe_layout.specs.declared.place.Place.{Place}
 use Rattle.mirror_pieces.specs.Pieces.{piece_of, piece_disk}
 use Rattle.disk_image.specs.Image.{Image, block_part, piece_part, is_piece}
-use Rattle.disk_image.specs.Copies.{held_part, piece_span}
+use Rattle.disk_image.specs.Parts.{held_part, piece_span}
 use Rattle.disk_image.proofs.Places.{place_disk}
 use Rattle.disk_image.proofs.Spans.{piece_span-whole, piece_span-piece}
 

@@ -3,16 +3,13 @@ use Rattle.std.proofs.Common.{◌≡◌, ◌≢◌, ℕ, ◌+◌, ◌-◌, ◌�
 use Rattle.std.proofs.lemmas.Bool.{cases_lt}
 use Rattle.std.proofs.lemmas.Bool.Decides.{nat_tests}
 use Rattle.tiger_base.specs.declared.number.FileNo.{FileNo}
+use Rattle.tiger_base.specs.Span.{IsCut}
 use Rattle.tiger_base.specs.declared.part.Span.{Span}
 use Rattle.mirror_pieces.specs.Pieces.{piece_of, piece_start, piece_end}
 use Rattle.mirror_pieces.proofs.Cuts.{IsCutUp-holds}
 use Rattle.stripe_layout.specs.declared.place.Place.{Place}
-use Rattle.disk_image.specs.Copies.{piece_span, IsExtract}
-use Rattle.disk_image.specs.declared.copies.Extract.{Extract}
-use Rattle.disk_image.proofs.Places.{IsFitting, place_fits}
-use Rattle.disk_image.specs.Image.{HasLengths}
-use Rattle.stripe_layout.specs.Places.{place_of}
-use Rattle.stripe_layout.specs.declared.catalogue.Catalogue.{Catalogue}
+use Rattle.disk_image.specs.Parts.{piece_span}
+use Rattle.disk_image.proofs.Places.{IsFitting}
 
 -- piece 0 is the whole block
 pub piece_span-whole : (block : Span) (pieces k : ℕ) → k ≡ 0 → block ≡ piece_span block pieces k
@@ -36,52 +33,34 @@ pub record IsInside (file : FileNo) (end : ℕ) (span : Span) : Type 0 where
   pub inside : span.from + span.len ≤ end
 
 -- a piece is inside its block
-pub piece_span-inside : (block : Span) (pieces k : ℕ) → 1 ≤ pieces → k ≤ pieces → IsInside block.file (block.from + block.len) (piece_span block pieces k)
-piece_span-inside block pieces k some last =
+pub piece_span-inside : (block : Span) (pieces k : ℕ) → k ≤ pieces
+    → IsInside block.file (block.from + block.len) (piece_span block pieces k)
+piece_span-inside block pieces k last =
     let Here : Span → Type 0 = λ s. IsInside block.file (block.from + block.len) s in
     elim (cases_lt 0 k) [
       | inl piece ↦
-          let law = IsCutUp-holds block pieces some in
+          let law = IsCutUp-holds block pieces (omega arith) in
           subst Here (sym (piece_span-piece block pieces k (λ e. omega arith)))
           (record { same = law.file k; inside = law.inside k piece last })
       | inr whole ↦ subst Here (piece_span-whole block pieces k (omega arith)) (record { same = refl; inside = omega arith })
     ]
 
 -- a piece of a block that is in its file is in the file
-pub piece_span-fits : (file : FileNo) (bytes : List ℕ) (p : Place) (pieces k : ℕ) (span : Span) → 1 ≤ pieces → k ≤ pieces → IsFitting file bytes p
-    → span ≡ piece_span p.span pieces k → IsInside file (length bytes) span
-piece_span-fits file bytes p pieces k span some last fits e =
-    let at = piece_span-inside p.span pieces k some last in
+pub piece_span-fits : (file : FileNo) (bytes : List ℕ) (p : Place) (pieces k : ℕ) (span : Span)
+    → k ≤ pieces → IsFitting file bytes p → span ≡ piece_span p.span pieces k → IsInside file (length bytes) span
+piece_span-fits file bytes p pieces k span last fits e =
+    let at = piece_span-inside p.span pieces k last in
     let Here : Span → Type 0 = λ s. IsInside file (length bytes) s in
     subst Here (sym e) (record { same = at.same ∙ fits.same; inside = omega (arith, at.inside, fits.inside) })
 
--- the bytes of a span in its file are a copy of it
-pub IsExtract-of : (library : List (List ℕ)) (file : FileNo) (bytes : List ℕ) (span part : Span) (x : Extract)
-    → slice_get library file.0 ≡ Some bytes → IsInside file (length bytes) span → span ≡ part
-    → (x.span ≡ span) × (x.bytes ≡ take span.len (drop span.from bytes))
-    → IsExtract library part x
-IsExtract-of library file bytes span part x e at same is =
-    let Here : Span → Type 0 = λ s. IsExtract library s x in
-    let name : span.file.0 ≡ file.0 = ap (λ (f : FileNo). f.0) at.same in
-    subst Here same
-    (record {
-      same = is.0;
-      cut = record {
-        file = bytes;
-        there = ap (λ (n : ℕ). slice_get library n) name ∙ e;
-        inside = at.inside;
-        cut = is.1;
-      };
-    })
-
--- and so those of a piece of a block
-pub IsExtract-at : (library : List (List ℕ)) (c : Catalogue) (file : FileNo) (block : ℕ) (p q : Place) (bytes : List ℕ) (pieces k : ℕ) (span : Span) (x : Extract)
-    → HasLengths library c → place_of c file block ≡ Some p → place_of c file block ≡ Some q → slice_get library file.0 ≡ Some bytes
-    → 1 ≤ pieces → k ≤ pieces → span ≡ piece_span p.span pieces k
-    → (x.span ≡ span) × (x.bytes ≡ take span.len (drop span.from bytes))
-    → IsExtract library (piece_span q.span pieces k) x
-IsExtract-at library c file block p q bytes pieces k span x lengths at again there some last e is =
-    let same : Some p ≡ Some q = sym at ∙ again in
-    let place : p ≡ q = cc in
-    let fits = piece_span-fits file bytes p pieces k span some last (place_fits library c file block p bytes lengths at there) e in
-    IsExtract-of library file bytes span _ x there fits (e ∙ ap (λ (r : Place). piece_span r.span pieces k) place) is
+-- the bytes of a span in its file are cut out of the library
+pub IsCut-of : (library : List (List ℕ)) (file : FileNo) (bytes cut : List ℕ) (span : Span)
+    → slice_get library file.0 ≡ Some bytes → IsInside file (length bytes) span
+    → cut ≡ take span.len (drop span.from bytes) → IsCut library span cut
+IsCut-of library file bytes cut span there at e =
+    record {
+      file = bytes;
+      there = ap (λ (f : FileNo). slice_get library f.0) at.same ∙ there;
+      inside = at.inside;
+      cut = e;
+    }

@@ -1,4 +1,3 @@
-pub mod Copies
 pub mod Image
-pub mod Origin
+pub mod Parts
 pub mod Seen

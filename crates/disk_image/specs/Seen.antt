@@ -1,11 +1,11 @@
--- What a disk's image is seen as, and that it has its copies.
-use Rattle.disk_image.specs.Image.{Image}
-use Rattle.disk_image.specs.Copies.{IsCopied}
+-- What a disk's image is seen as, and what always holds of it.
+use Rattle.disk_image.specs.Image.{Image, HasLengths}
 use Rattle.disk_image.specs.declared.image.DiskImage.TheInside.{Inside}
 
 abbrev pub seen : Inside → Image
 seen i =
     record { library = i.library.now; catalogue = i.catalogue; pieces = i.pieces; disk = i.disk.0 }
 
-abbrev pub HasCopies : Inside → Type 0
-HasCopies i = IsCopied (seen i) i.copies
+-- its layout is one of its library
+abbrev pub IsLaidOut : Inside → Type 0
+IsLaidOut i = HasLengths i.library.now i.catalogue

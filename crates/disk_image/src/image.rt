@@ -1,26 +1,24 @@
 //! The image of a disk.
 ghost use Rattle.std.specs.Prelude.{◌≡◌, ◌≤◌, IfOk};
 ghost use Rattle.disk_image.specs.Image.{HasLengths, block_part, piece_part};
-ghost use Rattle.disk_image.specs.Copies.{held_part, stored};
-ghost use Rattle.std.specs.Option.{option_copied};
+ghost use Rattle.disk_image.specs.Parts.{held_part};
 
-use crate::copies::{Extract, Row};
-use crate::source::Source;
+use crate::span::{cut_out, piece_span};
 use mirror_pieces::piece_disk;
 use std::alloc::Global;
 use std::marker::Model;
 use stripe_layout::Catalogue;
 use tiger_base::{DiskNo, FileNo, Library, NoMemory, Part, Sequence};
 
-/// Copies of the blocks of one disk, and of the pieces that it keeps of other disks' blocks. It is
-/// seen as the library, the layout, the number of pieces of a block, and the disk.
+/// The blocks of one disk, and the pieces that it keeps of other disks' blocks. They are lent from
+/// the library, and the layout tells at each read which bytes they are: so an image has no bytes of
+/// its own. It is seen as the library, the layout, the number of pieces of a block, and the disk.
 #[derive(Drop)]
 pub struct DiskImage<'a> {
     library: &'a Library,
     catalogue: Catalogue,
     pieces: u32,
     disk: DiskNo,
-    copies: Sequence<Sequence<Row>>,
 }
 
 impl<'a> Model for DiskImage<'a> {
@@ -28,16 +26,15 @@ impl<'a> Model for DiskImage<'a> {
 
     ghost Value = { Image };
 
-    ghost use Rattle.disk_image.specs.Seen.{seen, HasCopies};
+    ghost use Rattle.disk_image.specs.Seen.{seen, IsLaidOut};
 
     ghost view = { seen };
 
-    ghost invariant = { HasCopies };
+    ghost invariant = { IsLaidOut };
 }
 
 impl<'a> DiskImage<'a> {
-    /// Copies what the disk has of a library with this layout, each block being cut into `pieces`
-    /// pieces.
+    /// What the disk has of a library with this layout, each block being cut into `pieces` pieces.
     pub fn build(
         alloc: Global,
         library: &'a Library,
@@ -55,20 +52,11 @@ impl<'a> DiskImage<'a> {
           disk = disk.0;
         }) }
     {
-        let catalogue = again(alloc, catalogue)?;
-        let copies = Source {
-            library,
-            catalogue: &catalogue,
-            pieces,
-            disk,
-        }
-        .copies(alloc)?;
         Ok(DiskImage {
             library,
-            catalogue,
+            catalogue: again(alloc, catalogue)?,
             pieces,
             disk,
-            copies,
         })
     }
 
@@ -95,23 +83,15 @@ impl<'a> DiskImage<'a> {
         requires { k ≤ self.now.pieces }
         ensures { result ≡ held_part self.now file block k }
     {
-        let disks = self.catalogue.disks;
         let place = self.catalogue.place(file, block)?;
-        if piece_disk(place.disk, k, disks) != self.disk {
+        if piece_disk(place.disk, k, self.catalogue.disks) != self.disk {
             return None;
         }
-        let extract = stored(&self.copies, file, k, block / u64::from(disks))?;
-        Part::of(self.library, extract.span, extract.bytes.as_slice())
+        // The library has each file of the catalogue.
+        let bytes = self.library.file(file).unwrap();
+        let span = piece_span(place.span, self.pieces, k);
+        Part::of(self.library, span, cut_out(bytes, span))
     }
-}
-
-/// The copy that stands for a file and a piece number at the number of a round of the disks.
-fn stored(copies: &Sequence<Sequence<Row>>, file: FileNo, k: u32, round: u64) -> Option<&Extract>
-    ensures { option_copied result ≡ stored copies.now file.0 k round }
-{
-    let rows = copies.get(file.0 as usize)?;
-    let row = rows.get(k as usize)?;
-    row.get(round as usize)
 }
 
 /// The same catalogue once more.

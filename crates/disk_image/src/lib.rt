@@ -1,9 +1,7 @@
-//! What one disk holds: copies of its blocks, and of its pieces of other disks' blocks.
+//! What one disk holds: its blocks, and its pieces of other disks' blocks.
 #![tactic(auto)]
 
-mod copies;
 mod image;
-mod source;
 mod span;
 
 pub use image::DiskImage;
