@@ -1,4 +1,4 @@
-//! Runs in which a stop, a start and a death cross on their links, and which excuse a missing block has.
+//! Runs in which a stop, a start, a viewer state and a death cross on their links, and which excuse a missing block has.
 
 use crate::rings::{LONG, long, one, push_fates, puts, run_text};
 use node_kit::{Entry, Journal, Kept, What};
@@ -16,6 +16,10 @@ pub const SMALL: &str =
 /// The same cubs with 800 slots, one in each beat, and with better clocks.
 pub const FINE: &str =
     "{\"plan\":{\"cubs\":8,\"disks\":1,\"slots\":800,\"play\":1000000,\"pieces\":2,\"block\":4,\"beat\":10000,\"delay\":2,\"skew\":1000,\"window_a\":800000,\"window_b\":200000,\"read_lead\":100000,\"min_lead\":3000000,\"max_lead\":4000000,\"batch\":20,\"heart\":50,\"deadman\":1000000,\"hold\":3000000},";
+
+/// The small plan with links of up to four beats, and with the least timeout that it then allows.
+const SLOW: &str =
+    "{\"plan\":{\"cubs\":8,\"disks\":1,\"slots\":16,\"play\":1000000,\"pieces\":2,\"block\":4,\"beat\":10000,\"delay\":4,\"skew\":4000,\"window_a\":800000,\"window_b\":200000,\"read_lead\":100000,\"min_lead\":3000000,\"max_lead\":4000000,\"batch\":20,\"heart\":50,\"deadman\":544000,\"hold\":3000000},";
 
 /// The text of a scenario with the long file.
 pub fn text_of(alloc: Global, plan: &str, rest: &str) -> Result<String, AllocError> {
@@ -38,7 +42,7 @@ fn run_of<R: Threads + Wait + Sync>(
     run_text(rt, alloc, text.as_str(), &library, 1, 2)
 }
 
-/// The name of what an entry tells of a start and a stop, if it does.
+/// The name of what an entry tells of a start, a stop or a death, if it does.
 fn name(what: &What) -> Option<&'static str> {
     match what {
         What::Got(_, Note::Start { .. }) => Some("start"),
@@ -48,6 +52,7 @@ fn name(what: &What) -> Option<&'static str> {
         What::Put(_) => Some("put"),
         What::Took(_) => Some("took"),
         What::Dropped(_) => Some("dropped"),
+        What::Believed(_) => Some("believed"),
         What::Died => Some("died"),
         _ => None,
     }
@@ -61,31 +66,32 @@ fn push_name(e: &Entry, text: &mut String) -> Result<(), AllocError> {
     }
 }
 
-/// Adds what a journal tells of starts and stops in its first ten beats, each with its beat.
-fn push_names(journal: &[Entry], text: &mut String) -> Result<(), AllocError> {
+/// Adds what a journal tells of starts, stops and deaths from a beat on, for ten beats.
+fn push_names(journal: &[Entry], from: Beat, text: &mut String) -> Result<(), AllocError> {
     for e in journal {
-        if e.stamp.beat < 10 {
+        if e.stamp.beat >= from && e.stamp.beat < from.saturating_add(10) {
             push_name(e, text)?;
         }
     }
     Ok(())
 }
 
-fn push_cub(k: &Kept, cub: usize, text: &mut String) -> Result<(), AllocError> {
+fn push_cub(k: &Kept, cub: usize, from: Beat, text: &mut String) -> Result<(), AllocError> {
     text.push_str("|")?;
     match k.journals.as_slice().get(cub) {
-        Some(journal) => push_names(journal.as_slice(), text),
+        Some(journal) => push_names(journal.as_slice(), from, text),
         None => Ok(()),
     }
 }
 
-/// What was put and the fates of the first four visits, and what the first three cubs tell of starts and stops.
-fn told_of(alloc: Global, k: &Kept) -> Result<String, AllocError> {
+/// What was put and the fates of the first four visits, and what the first three cubs tell of
+/// starts, stops and deaths from a beat on, for ten beats.
+fn told_of(alloc: Global, k: &Kept, from: Beat) -> Result<String, AllocError> {
     let mut text = puts(alloc, k)?;
     text.push_str(" ")?;
     push_fates(k, Instance(0), 4, &mut text)?;
     for cub in 0..3 {
-        push_cub(k, cub, &mut text)?;
+        push_cub(k, cub, from, &mut text)?;
     }
     Ok(text)
 }
@@ -95,9 +101,10 @@ fn told<R: Threads + Wait + Sync>(
     alloc: Global,
     plan: &str,
     rest: &str,
+    from: Beat,
 ) -> Result<String, Fail> {
     let k = run_of(rt, alloc, plan, rest)?;
-    Ok(told_of(alloc, &k)?)
+    Ok(told_of(alloc, &k, from)?)
 }
 
 #[test]
@@ -109,11 +116,50 @@ fn a_start_and_a_stop_go_past_the_dead_cub_that_put(rt: HostRuntime) -> Result<(
         rt.alloc(),
         SMALL,
         r#""links":{"drawn":15},"beats":600,"events":[{"beat":0,"start":0},{"beat":1,"stop":0}],"deaths":[{"cub":0,"beat":2}]"#,
+        0,
     )?;
     assert_eq!(rt;
         told.as_str(),
         "(0, 1, 0, 63) eeee | start@1 put@1 took@1 died@2| start@2 stop@2 state@3 passed@3 passed@3 state@3| state@2 took@2 took@2 stop@4 passed@4 passed@4 dropped@4 dropped@4"
     );
+    Ok(())
+}
+
+/// The start is ordered in beat 48, and goes to cub 0 in one beat and to cub 1 as the redundant one in four. Cub 0 puts
+/// the viewer in beat 49 and dies in the next.
+const STATE_FIRST: &str =
+    r#""links":{"drawn":29},"beats":600,"events":[{"beat":48,"start":0}],"deaths":[{"cub":0,"beat":50}]"#;
+
+/// The same, but cub 0 dies a beat earlier, before it has the start.
+const NO_STATE: &str =
+    r#""links":{"drawn":29},"beats":600,"events":[{"beat":48,"start":0}],"deaths":[{"cub":0,"beat":49}]"#;
+
+/// The first one with other delays: cub 0 puts the viewer in beat 49 too, but its state takes four beats to cub 1.
+const START_FIRST: &str =
+    r#""links":{"drawn":51},"beats":600,"events":[{"beat":48,"start":0}],"deaths":[{"cub":0,"beat":50}]"#;
+
+// Cub 1 comes to believe in beat 56 that cub 0 is dead. If it then has a redundant start, it puts the viewer, as in the
+// second run. A state of the viewer before that beat, which came before that start or after it, makes the start void.
+#[test]
+fn a_redundant_start_is_used_only_if_no_state_came(rt: HostRuntime) -> Result<(), Fail> {
+    let cases = [
+        (
+            STATE_FIRST,
+            "(0, 2, 0, 63) Dddd | start@49 put@49 took@49 died@50| state@50 took@50 took@50 start@52 state@53 believed@56| state@51 took@51 took@51 state@54",
+        ),
+        (
+            NO_STATE,
+            "(0, 2, 0, 63) Dddd | died@49| start@52 believed@56 put@56 took@56 took@56| state@57 took@57",
+        ),
+        (
+            START_FIRST,
+            "(0, 2, 0, 63) Dddd | start@49 put@49 took@49 died@50| start@52 state@53 took@53 took@53 state@53 believed@56| state@52 took@52 took@52 state@56",
+        ),
+    ];
+    for (rest, want) in cases {
+        let told = told(&rt, rt.alloc(), SLOW, rest, 48)?;
+        assert_eq!(rt; told.as_str(), want);
+    }
     Ok(())
 }
 
