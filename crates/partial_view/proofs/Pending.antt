@@ -1,12 +1,15 @@
--- What is still to be forwarded or to be split where a view changes.
-use Rattle.std.proofs.Common.{◌≡◌, ℕ, ◌+◌, ◌*◌, ◌<◌, ◌≤◌, ◌&&◌, nat_lt, Bool, true, false, cond, not, List, [], ◌∷◌, Option, Some, None, is_some, refl, subst, ◌∙◌, sym, ap, arith}
+-- What is still to be forwarded, to be asked for or to be split where a view changes, and where the
+-- first line stands for which it may be.
+use Rattle.std.proofs.Common.{◌≡◌, ℕ, ◌+◌, ◌*◌, ◌<◌, ◌≤◌, ◌&&◌, ◌-◌, nat_lt, nat_le, Bool, true, false, cond, not, List, [], ◌∷◌, Option, Some, None, is_some, refl, subst, ◌∙◌, sym, ap, arith}
 use Rattle.std.specs.List.{AllByRecursion}
-use Rattle.std.proofs.lemmas.Bool.{both_ways}
+use Rattle.std.proofs.lemmas.Bool.{and_parts, both_ways, leb-true, leb-false}
 use Rattle.std.proofs.Math.Nat.{mul-le-mul}
 use Rattle.slot_plan.specs.declared.params.Params.{Params}
 use Rattle.slot_plan.specs.Conditions.{IsPlan}
 use Rattle.slot_plan.specs.Keys.{Key, due_of, is_earlier}
 use Rattle.slot_plan.specs.Times.{due}
+use Rattle.slot_plan.proofs.Keys.{earlier_due}
+use Rattle.slot_plan.proofs.Times.{due_next}
 use Rattle.tiger_base.specs.declared.number.Instance.{Instance}
 use Rattle.tiger_base.specs.declared.tenancy.Rec.{Rec}
 use Rattle.tiger_base.specs.Kinds.{is_own}
@@ -17,11 +20,13 @@ use Rattle.partial_view.specs.declared.line.Flag.TheVariants.{Forwarded, Asked, 
 use Rattle.partial_view.specs.declared.view.Added.{Added}
 use Rattle.partial_view.specs.declared.view.Added.TheVariants.{New}
 use Rattle.partial_view.specs.Lines.{key_of, visit_of, marked, unmarked, is_at, is_of}
-use Rattle.partial_view.specs.Views.{line_at, with_mark, without, without_instance, with_line, with_record, Seen}
+use Rattle.partial_view.specs.Views.{line_at, with_mark, without, without_instance, with_line, with_record, first_from, IsWalk, Seen}
+use Rattle.partial_view.specs.Walks.{IsFirstFor}
 use Rattle.partial_view.specs.Adding.{answer_to, answer_at}
 use Rattle.partial_view.proofs.Order.{all_filter, all_implies}
+use Rattle.partial_view.proofs.Begins.{first_due, first_for}
 use Rattle.partial_view.proofs.Calls.{with_record-known}
-use Rattle.partial_view.specs.Pending.{is_pending, IsForwardedTo, is_unsplit, IsSplitFrom}
+use Rattle.partial_view.specs.Pending.{is_pending, IsForwardedTo, is_unasked, IsAskedBefore, is_unsplit, IsSplitFrom, IsSplitBetween, is_unsplit_from}
 
 -- the next visit is due later than at the beginning
 pub next_due_pos : (p : Params) → IsPlan p → (slot visit : ℕ) → 1 ≤ due p slot (visit + 1)
@@ -38,6 +43,19 @@ forwarded_earlier p low high lines e h =
 pub split_later : (p : Params) (low high : ℕ) (lines : List Line) → low ≤ high → IsSplitFrom p low lines → IsSplitFrom p high lines
 split_later p low high lines e h =
     all_implies (λ x. is_unsplit x ≡ true → due_of p (key_of x) < low) (λ x. is_unsplit x ≡ true → due_of p (key_of x) < high) (λ x f unsplit. omega (arith, f unsplit)) lines h
+
+pub asked_earlier : (p : Params) (low high : ℕ) (lines : List Line) → low ≤ high → IsAskedBefore p high lines → IsAskedBefore p low lines
+asked_earlier p low high lines e h =
+    all_implies (λ x. is_unasked x ≡ true → high ≤ due_of p (key_of x)) (λ x. is_unasked x ≡ true → low ≤ due_of p (key_of x)) (λ x f unasked. omega (arith, f unasked)) lines h
+
+pub between_earlier : (p : Params) (from low high : ℕ) (lines : List Line) → low ≤ high → IsSplitBetween p from high lines → IsSplitBetween p from low lines
+between_earlier p from low high lines e h =
+    all_implies (λ x. is_unsplit x ≡ true → from ≤ due_of p (key_of x) → high ≤ due_of p (key_of x)) (λ x. is_unsplit x ≡ true → from ≤ due_of p (key_of x) → low ≤ due_of p (key_of x)) (λ x f unsplit late. omega (arith, f unsplit late)) lines h
+
+-- what is split from a time on is split between that time and any other
+pub between_from : (p : Params) (from to : ℕ) (lines : List Line) → IsSplitFrom p from lines → IsSplitBetween p from to lines
+between_from p from to lines h =
+    all_implies (λ x. is_unsplit x ≡ true → due_of p (key_of x) < from) (λ x. is_unsplit x ≡ true → from ≤ due_of p (key_of x) → to ≤ due_of p (key_of x)) (λ x f unsplit late. absurd (omega (arith, f unsplit, late))) lines h
 
 rec_marked : (flag : Flag) (x : Line) → (marked flag x).rec ≡ x.rec
 rec_marked Forwarded x = refl
@@ -57,6 +75,15 @@ pending_marked Forwarded x h = absurd (both_ways (is_pending (marked Forwarded x
         by_bits false b = refl
 pending_marked Asked x h = h
 pending_marked Split x h = h
+
+unasked_marked : (flag : Flag) (x : Line) → is_unasked (marked flag x) ≡ true → is_unasked x ≡ true
+unasked_marked Forwarded x h = h
+unasked_marked Asked x h = absurd (both_ways (is_unasked (marked Asked x)) (never (is_own x.rec.kind)) h)
+  where
+    never : (a : Bool) → (a && not true) ≡ false
+    never true = refl
+    never false = refl
+unasked_marked Split x h = h
 
 unsplit_marked : (flag : Flag) (x : Line) → is_unsplit (marked flag x) ≡ true → is_unsplit x ≡ true
 unsplit_marked Forwarded x h = h
@@ -85,6 +112,16 @@ pub split_mark : (p : Params) (limit : ℕ) (k : Key) (flag : Flag) (lines : Lis
 split_mark p limit k flag lines h =
     all_marked (λ x. is_unsplit x ≡ true → due_of p (key_of x) < limit) k flag
     (λ x f unsplit. subst (λ (r : Rec). due_of p (visit_of r) < limit) (sym (rec_marked flag x)) (f (unsplit_marked flag x unsplit))) lines h
+
+pub asked_mark : (p : Params) (limit : ℕ) (k : Key) (flag : Flag) (lines : List Line) → IsAskedBefore p limit lines → IsAskedBefore p limit (with_mark k flag lines)
+asked_mark p limit k flag lines h =
+    all_marked (λ x. is_unasked x ≡ true → limit ≤ due_of p (key_of x)) k flag
+    (λ x f unasked. subst (λ (r : Rec). limit ≤ due_of p (visit_of r)) (sym (rec_marked flag x)) (f (unasked_marked flag x unasked))) lines h
+
+pub between_mark : (p : Params) (from to : ℕ) (k : Key) (flag : Flag) (lines : List Line) → IsSplitBetween p from to lines → IsSplitBetween p from to (with_mark k flag lines)
+between_mark p from to k flag lines h =
+    all_marked (λ x. is_unsplit x ≡ true → from ≤ due_of p (key_of x) → to ≤ due_of p (key_of x)) k flag
+    (λ x f unsplit. subst (λ (r : Rec). from ≤ due_of p (visit_of r) → to ≤ due_of p (visit_of r)) (sym (rec_marked flag x)) (f (unsplit_marked flag x unsplit))) lines h
 
 -- where lines are removed
 pub all_without : (P : Line → Type 0) (k : Key) (lines : List Line) → AllByRecursion P lines → AllByRecursion P (without k lines)
@@ -122,10 +159,93 @@ known p r lines added e old = cases (line_at (visit_of r) lines) refl
     cases (Some x) is = with_record-known p r lines x is
 
 -- a view of the same plan whose lines have become others
-pub kept_by : (q : Params) (low high : ℕ) (s now : Seen) (lines : List Line) → s.params ≡ q → now ≡ record s { lines = lines } → IsForwardedTo q low lines → IsSplitFrom q high lines
-    → (now.params ≡ q) × IsForwardedTo q low now.lines × IsSplitFrom q high now.lines
-kept_by q low high s now lines same is f g = (
+pub kept_by : (q : Params) (forwarded split asked from to : ℕ) (s now : Seen) (lines : List Line) → s.params ≡ q → now ≡ record s { lines = lines }
+    → IsForwardedTo q forwarded lines → IsSplitFrom q split lines → IsAskedBefore q asked lines → IsSplitBetween q from to lines
+    → (now.params ≡ q) × IsForwardedTo q forwarded now.lines × IsSplitFrom q split now.lines × IsAskedBefore q asked now.lines × IsSplitBetween q from to now.lines
+kept_by q forwarded split asked from to s now lines same is f g h i = (
   ap (λ (r : Seen). r.params) is ∙ same,
-  subst (λ (r : Seen). IsForwardedTo q low r.lines) (sym is) f,
-  subst (λ (r : Seen). IsSplitFrom q high r.lines) (sym is) g,
+  subst (λ (r : Seen). IsForwardedTo q forwarded r.lines) (sym is) f,
+  subst (λ (r : Seen). IsSplitFrom q split r.lines) (sym is) g,
+  subst (λ (r : Seen). IsAskedBefore q asked r.lines) (sym is) h,
+  subst (λ (r : Seen). IsSplitBetween q from to r.lines) (sym is) i,
 )
+
+-- no line is due at a time or later, and before the first that is
+pub late_from : (p : Params) (time : ℕ) (lines : List Line) (y : Line) → IsWalk p lines → first_from p time lines ≡ Some y → AllByRecursion (λ x. time ≤ due_of p (key_of x) → due_of p (key_of y) ≤ due_of p (key_of x)) lines
+unfolding first_from
+late_from p time [] y w e = tt
+late_from p time (z ∷ zs) y w e = by_test (nat_le time (due_of p (key_of z))) refl e (late_from p time zs y w.2)
+  where
+    by_test : (t : Bool) → nat_le time (due_of p (key_of z)) ≡ t → cond t (Some z) (first_from p time zs) ≡ Some y
+        → (first_from p time zs ≡ Some y → AllByRecursion (λ x. time ≤ due_of p (key_of x) → due_of p (key_of y) ≤ due_of p (key_of x)) zs)
+        → AllByRecursion (λ x. time ≤ due_of p (key_of x) → due_of p (key_of y) ≤ due_of p (key_of x)) (z ∷ zs)
+    by_test true is e rest =
+        let same : z ≡ y = cc in
+        subst (λ (u : Line). AllByRecursion (λ x. time ≤ due_of p (key_of x) → due_of p (key_of u) ≤ due_of p (key_of x)) (z ∷ zs)) same
+        (λ late. omega arith, all_implies (λ x. is_earlier p (key_of z) (key_of x) ≡ true) (λ x. time ≤ due_of p (key_of x) → due_of p (key_of z) ≤ due_of p (key_of x)) (λ x h late. earlier_due p (key_of z) (key_of x) h) zs w.1)
+    by_test false is e rest = (λ late. absurd (omega (arith, late, leb-false _ _ is)), rest e)
+
+pub late_along : (p : Params) (time : ℕ) (s : Seen) (y : Line) {next : Option Line} {due : ℕ} → s.params ≡ p → IsWalk s.params s.lines → next ≡ first_from s.params time s.lines → next ≡ Some y → due ≡ due_of p (key_of y)
+    → AllByRecursion (λ x. time ≤ due_of p (key_of x) → due ≤ due_of p (key_of x)) s.lines
+late_along p time s y same w is found due_is =
+    subst (λ (n : ℕ). AllByRecursion (λ x. time ≤ due_of p (key_of x) → n ≤ due_of p (key_of x)) s.lines) (sym due_is)
+    (late_from p time s.lines y (subst (λ (q : Params). IsWalk q s.lines) same w) (sym (is ∙ ap (λ (q : Params). first_from q time s.lines) same) ∙ found))
+
+pub none_between : (p : Params) (time : ℕ) (lines : List Line) → AllByRecursion (λ x. time ≤ due_of p (key_of x) → time ≤ due_of p (key_of x)) lines
+none_between p time [] = tt
+none_between p time (x ∷ xs) = (λ late. late, none_between p time xs)
+
+-- so what is asked before the one time is asked before the other
+pub asked_on : (p : Params) (time due : ℕ) (lines : List Line) → AllByRecursion (λ x. time ≤ due_of p (key_of x) → due ≤ due_of p (key_of x)) lines → IsAskedBefore p time lines → IsAskedBefore p due lines
+asked_on p time due [] h g = tt
+asked_on p time due (x ∷ xs) h g = (λ unasked. h.0 (g.0 unasked), asked_on p time due xs h.1 g.1)
+
+-- the first line that is due at a time or later is the first for a test that no line passes which
+-- is due before
+from_time : (p : Params) (time : ℕ) (test : Line → Bool) (lines : List Line) → AllByRecursion (λ x. nat_le time (due_of p (key_of x)) ≡ false → test x ≡ false) lines → IsFirstFor test lines (first_from p time lines)
+from_time p time test lines h =
+    first_for (λ x. nat_le time (due_of p (key_of x))) test lines (first_from p time lines) h (first_due p time lines)
+
+-- what would be late is not to be done of a line that is due early
+not_early : (test : Bool) (time due : ℕ) → (test ≡ true → time ≤ due) → nat_le time due ≡ false → test ≡ false
+not_early false time due h early = refl
+not_early true time due h early =
+    let low = h refl in
+    absurd (omega (arith, low, leb-false time due early))
+
+-- a state that is still to be forwarded is of a visit that is due a block play time later
+pub pending_from : (p : Params) (to time : ℕ) (lines : List Line) → time ≤ to + 1 - p.play → IsForwardedTo p to lines → IsFirstFor is_pending lines (first_from p time lines)
+pending_from p to time lines e h =
+    from_time p time is_pending lines
+    (all_implies (λ x. is_pending x ≡ true → to < next_due p x.rec) (λ x. nat_le time (due_of p (key_of x)) ≡ false → is_pending x ≡ false)
+    (λ x f early. not_early (is_pending x) time (due_of p (key_of x)) (λ pending. omega (arith, e, f pending, due_next p x.rec.tenancy.slot.0 x.rec.visit)) early) lines h)
+
+pub unasked_from : (p : Params) (time : ℕ) (lines : List Line) → IsAskedBefore p time lines → IsFirstFor is_unasked lines (first_from p time lines)
+unasked_from p time lines h =
+    from_time p time is_unasked lines
+    (all_implies (λ x. is_unasked x ≡ true → time ≤ due_of p (key_of x)) (λ x. nat_le time (due_of p (key_of x)) ≡ false → is_unasked x ≡ false)
+    (λ x f early. not_early (is_unasked x) time (due_of p (key_of x)) f early) lines h)
+
+-- a visit is split that is due at the limit or later, and is not due when all are split
+unsplit_parts : (p : Params) (limit : ℕ) (x : Line) → is_unsplit_from p limit x ≡ true → (is_unsplit x ≡ true) × (limit ≤ due_of p (key_of x))
+unsplit_parts p limit x h =
+    let both = and_parts (is_unsplit x) (nat_le limit (due_of p (key_of x))) h in
+    (both.0, leb-true limit (due_of p (key_of x)) both.1)
+
+pub unsplit_limit : (p : Params) (limit : ℕ) (lines : List Line) → IsFirstFor (is_unsplit_from p limit) lines (first_from p limit lines)
+unsplit_limit p limit lines = from_time p limit (is_unsplit_from p limit) lines (each lines)
+  where
+    each : (ys : List Line) → AllByRecursion (λ x. nat_le limit (due_of p (key_of x)) ≡ false → is_unsplit_from p limit x ≡ false) ys
+    each [] = tt
+    each (y ∷ ys) = (not_early (is_unsplit_from p limit y) limit (due_of p (key_of y)) (λ unsplit. (unsplit_parts p limit y unsplit).1), each ys)
+
+pub unsplit_between : (p : Params) (from to limit : ℕ) (lines : List Line) → from ≤ limit → IsSplitBetween p from to lines → IsFirstFor (is_unsplit_from p limit) lines (first_from p to lines)
+unsplit_between p from to limit lines e h =
+    from_time p to (is_unsplit_from p limit) lines
+    (all_implies (λ x. is_unsplit x ≡ true → from ≤ due_of p (key_of x) → to ≤ due_of p (key_of x)) (λ x. nat_le to (due_of p (key_of x)) ≡ false → is_unsplit_from p limit x ≡ false)
+    (λ x f early. not_early (is_unsplit_from p limit x) to (due_of p (key_of x)) (λ unsplit. let both = unsplit_parts p limit x unsplit in f both.0 (omega (arith, e, both.1))) early) lines h)
+
+-- the same of a view of the plan
+pub first_along : (p : Params) (time : ℕ) (test : Line → Bool) (s : Seen) (next : Option Line) → s.params ≡ p → next ≡ first_from s.params time s.lines → IsFirstFor test s.lines (first_from p time s.lines) → IsFirstFor test s.lines next
+first_along p time test s next same is h =
+    subst (λ (o : Option Line). IsFirstFor test s.lines o) (sym (is ∙ ap (λ (q : Params). first_from q time s.lines) same)) h

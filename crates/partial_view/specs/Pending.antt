@@ -1,5 +1,6 @@
--- Up to which time the states of a view are forwarded, and from which time on its visits are split.
-use Rattle.std.specs.Prelude.{◌≡◌, ℕ, ◌+◌, ◌<◌, Bool, true, ◌&&◌, not, nat_lt, List}
+-- Up to which time the states of a view are forwarded, before which time its blocks are asked for,
+-- and from which time on its visits are split.
+use Rattle.std.specs.Prelude.{◌≡◌, ℕ, ◌<◌, ◌≤◌, Bool, true, ◌&&◌, not, nat_lt, nat_le, List}
 use Rattle.std.specs.List.{AllByRecursion}
 use Rattle.tiger_base.specs.Kinds.{is_own}
 use Rattle.slot_plan.specs.declared.params.Params.{Params}
@@ -18,6 +19,16 @@ abbrev pub IsForwardedTo : Params → ℕ → List Line → Type 0
 IsForwardedTo p limit lines =
     AllByRecursion (λ x. is_pending x ≡ true → limit < next_due p x.rec) lines
 
+-- whether the block of a line is still to be asked for, once it is late enough: of an own record
+-- that was not asked for
+abbrev pub is_unasked : Line → Bool
+is_unasked x = is_own x.rec.kind && not x.asked
+
+-- no visit whose block is still to be asked for is due before the limit
+abbrev pub IsAskedBefore : Params → ℕ → List Line → Type 0
+IsAskedBefore p limit lines =
+    AllByRecursion (λ x. is_unasked x ≡ true → limit ≤ due_of p (key_of x)) lines
+
 -- whether the visit of a line is still to be split, once it is late enough: of a backup record that
 -- was not split
 abbrev pub is_unsplit : Line → Bool
@@ -27,3 +38,13 @@ is_unsplit x = not (is_own x.rec.kind) && not x.split
 abbrev pub IsSplitFrom : Params → ℕ → List Line → Type 0
 IsSplitFrom p limit lines =
     AllByRecursion (λ x. is_unsplit x ≡ true → due_of p (key_of x) < limit) lines
+
+-- no visit that is still to be split is due at one time or later, and before another
+abbrev pub IsSplitBetween : Params → ℕ → ℕ → List Line → Type 0
+IsSplitBetween p from to lines =
+    AllByRecursion
+    (λ x. is_unsplit x ≡ true → from ≤ due_of p (key_of x) → to ≤ due_of p (key_of x)) lines
+
+-- whether the visit of a line is still to be split and is due at the limit or later
+abbrev pub is_unsplit_from : Params → ℕ → Line → Bool
+is_unsplit_from p limit x = is_unsplit x && nat_le limit (due_of p (key_of x))

@@ -1,5 +1,5 @@
 -- What a view is seen as, and what its calls answer and change.
-use Rattle.std.specs.Prelude.{◌≡◌, ℕ, zero, suc, List, [], ◌∷◌, ◌++◌, length, true, not, nat_le, Option, find, filter, map, is_some, if◌then◌else◌}
+use Rattle.std.specs.Prelude.{◌≡◌, ℕ, zero, suc, List, [], ◌∷◌, ◌++◌, length, true, not, nat_le, nat_lt, Option, find, filter, map, is_some, if◌then◌else◌}
 use Rattle.std.specs.List.{AllByRecursion}
 use Rattle.tiger_base.specs.declared.number.Instance.{Instance}
 use Rattle.tiger_base.specs.declared.tenancy.Rec.{Rec}
@@ -39,6 +39,16 @@ next_behind p given lines = find (λ x. is_behind p given (key_of x)) lines
 -- the first line that is due at a reading
 unfoldable pub line_due : Params → ℕ → List Line → Option Line
 line_due p reading lines = find (λ x. nat_le (due_of p (key_of x)) reading) lines
+
+-- the first line that is due at a time or later
+unfoldable pub first_from : Params → ℕ → List Line → Option Line
+first_from p time lines = find (λ x. nat_le time (due_of p (key_of x))) lines
+
+-- how many lines are due before a time
+unfoldable pub place_from : Params → ℕ → List Line → ℕ
+place_from p time [] = zero
+place_from p time (x ∷ xs) =
+    if nat_lt (due_of p (key_of x)) time then suc (place_from p time xs) else zero
 
 -- the lines, with a flag set at a visit
 unfoldable pub with_mark : Key → Flag → List Line → List Line

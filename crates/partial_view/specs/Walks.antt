@@ -1,6 +1,6 @@
 -- Walks over the lines of a view, in which each line gives something out and becomes some lines of
 -- its visit.
-use Rattle.std.specs.Prelude.{◌≡◌, ℕ, List, [], ◌∷◌, ◌++◌, length, not, Option, Some, None, filter, slice_get, if◌then◌else◌}
+use Rattle.std.specs.Prelude.{◌≡◌, ℕ, Bool, false, List, [], ◌∷◌, ◌++◌, length, not, Option, Some, None, filter, slice_get, if◌then◌else◌}
 use Rattle.std.specs.List.{AllByRecursion, flat_map}
 use Rattle.slot_plan.specs.Keys.{Key, is_earlier}
 use Rattle.partial_view.specs.declared.line.Line.{Line}
@@ -29,6 +29,14 @@ pub record Underway {X : Type 0} (outs_of : Line → List X) (lines_of : Line �
   pub walk : IsWalk before.params before.lines
   pub walk_now : IsWalk now.params now.lines
   pub keeps : KeepsVisits lines_of
+
+-- a walk may begin at a line, or need not begin if none is given: no line before it passes a test
+pub record IsFirstFor (test : Line → Bool) (lines : List Line) (next : Option Line) : Type 0 where
+  pub done : List Line
+  pub ahead : List Line
+  pub parts : lines ≡ done ++ ahead
+  pub first : next ≡ slice_get ahead 0
+  pub none : AllByRecursion (λ x. test x ≡ false) done
 
 -- how many lines a walk has yet to see, if this one is the next
 unfoldable pub left : Option Line → Seen → ℕ

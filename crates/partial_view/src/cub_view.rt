@@ -1,34 +1,45 @@
-//! A view that knows up to which time its states are forwarded, and from which on its visits are
-//! split, so that a tick need not walk it if nothing is to forward or to split.
-ghost use Rattle.std.specs.Prelude.{◌≡◌, ℕ, ◌^◌, ◌≤◌, ◌<◌, true, [], IfOk, OnOk, OnErr, option_map, is_some, count_by};
+//! A view that knows up to which time its states are forwarded, before which its blocks are asked
+//! for, and from which on its visits are split, so that the walks of a tick begin where something
+//! may be to do.
+ghost use Rattle.std.specs.Prelude.{◌≡◌, ℕ, ◌^◌, ◌≤◌, ◌<◌, true, [], IfOk, OnOk, OnErr, IfSome, option_map, is_some, count_by, slice_get};
+ghost use Rattle.std.specs.List.{AllByRecursion};
 ghost use Rattle.slot_plan.specs.Keys.{IsKey, due_of};
-ghost use Rattle.partial_view.specs.Lines.{visit_of, unmarked, is_of};
-ghost use Rattle.partial_view.specs.Views.{Seen, line_at, with_mark, without, without_instance, with_record};
+ghost use Rattle.partial_view.specs.Lines.{key_of, visit_of, unmarked, is_of};
+ghost use Rattle.partial_view.specs.Views.{Seen, IsWalk, line_at, with_mark, without, without_instance, with_record};
+ghost use Rattle.partial_view.specs.Walks.{IsFirstFor};
 ghost use Rattle.partial_view.specs.Adding.{answer_to};
 ghost use Rattle.state_forward.specs.Forwards.{next_due};
-ghost use Rattle.partial_view.specs.Pending.{IsForwardedTo, is_pending, IsSplitFrom, is_unsplit};
+ghost use Rattle.partial_view.specs.Pending.{IsForwardedTo, is_pending, IsAskedBefore, is_unasked};
+ghost use Rattle.partial_view.specs.Pending.{IsSplitFrom, IsSplitBetween};
+ghost use Rattle.partial_view.specs.Pending.{is_unsplit, is_unsplit_from};
 
-use crate::{Added, Flag, View};
+use crate::{Added, Flag, Line, View};
 use slot_plan::Plan;
 use state_forward::next_due;
 use std::alloc::Global;
 use std::marker::Model;
 use tiger_base::{Instance, Micros, NoMemory, Rec, SlotNo, Visit};
 
-/// A view that keeps, beside its lines, a time up to which its states are known to be forwarded and
-/// a time from which on its visits are known to be split. It is seen as the view is.
+/// A view that keeps, beside its lines, what is known to be done: up to which time its states are
+/// forwarded, before which time its blocks are asked for, and at which times its visits are split.
+/// It is seen as the view is.
 #[derive(Drop)]
 pub struct CubView {
     view: View,
     plan: Plan,
     forwarded_to: Micros,
+    asked_before: Micros,
     split_from: Micros,
+    // No visit that is still to be split is due at the first of these times or later, and before
+    // the second.
+    split_between: (Micros, Micros),
 }
 
 impl Model for CubView {
     ghost use Rattle.std.specs.Prelude.{◌≡◌};
     ghost use Rattle.partial_view.specs.Views.{Seen};
-    ghost use Rattle.partial_view.specs.Pending.{IsForwardedTo, IsSplitFrom};
+    ghost use Rattle.partial_view.specs.Pending.{IsForwardedTo, IsAskedBefore};
+    ghost use Rattle.partial_view.specs.Pending.{IsSplitFrom, IsSplitBetween};
 
     ghost Value = { Seen };
 
@@ -36,7 +47,9 @@ impl Model for CubView {
 
     ghost invariant = { λ v. (v.view.params ≡ v.plan.params)
         × IsForwardedTo v.plan.params v.forwarded_to v.view.lines
-        × IsSplitFrom v.plan.params v.split_from v.view.lines };
+        × IsSplitFrom v.plan.params v.split_from v.view.lines
+        × IsAskedBefore v.plan.params v.asked_before v.view.lines
+        × IsSplitBetween v.plan.params v.split_between.0 v.split_between.1 v.view.lines };
 }
 
 impl CubView {
@@ -48,7 +61,9 @@ impl CubView {
             view: View::new(alloc, plan),
             plan: *plan,
             forwarded_to: 0,
+            asked_before: 0,
             split_from: 0,
+            split_between: (0, 0),
         }
     }
 
@@ -73,7 +88,9 @@ impl CubView {
         let added = self.view.add(rec)?;
         if let Added::New = added {
             self.forwarded_to = forwarded_before(&self.plan, self.forwarded_to, rec);
+            self.asked_before = asked_until(&self.plan, self.asked_before, rec);
             self.split_from = split_after(&self.plan, self.split_from, rec);
+            self.split_between.1 = split_until(&self.plan, self.split_between, rec);
         }
         Ok(added)
     }
@@ -129,6 +146,53 @@ impl CubView {
         }
     }
 
+    /// The first line whose next state may still be to be forwarded, behind the place at which it
+    /// stands; `None` says that no state is.
+    pub fn first_pending(&self) -> (usize, Option<Line>)
+        ensures begins { IsFirstFor is_pending self.now.lines result.1 }
+        ensures place { slice_get self.now.lines result.0 ≡ result.1 }
+        ensures key { IfSome result.1 (λ line. IsKey self.now.params (key_of line)) }
+        ensures walk { IsWalk self.now.params self.now.lines }
+    {
+        // The state is of the next visit, which is due a block play time after the line's own.
+        let next = self.forwarded_to.saturating_add(1);
+        self.view
+            .first_from(next.saturating_sub(self.plan.params.play))
+    }
+
+    /// Whether it is known that no visit whose block is still to be asked for is due before the
+    /// limit. It is known for each limit up to the one that was set last, and from there up to when
+    /// the next line was due, unless an own record was added since that is due before; `false` says
+    /// only that the lines have to be walked.
+    pub fn is_asked_before(&self, limit: Micros) -> bool
+        ensures { result ≡ true → IsAskedBefore self.now.params limit self.now.lines }
+    {
+        limit <= self.asked_before
+    }
+
+    /// The first line whose block may still be to be asked for, behind the place at which it
+    /// stands; `None` says that no block is.
+    pub fn first_unasked(&self) -> (usize, Option<Line>)
+        ensures begins { IsFirstFor is_unasked self.now.lines result.1 }
+        ensures place { slice_get self.now.lines result.0 ≡ result.1 }
+        ensures key { IfSome result.1 (λ line. IsKey self.now.params (key_of line)) }
+        ensures walk { IsWalk self.now.params self.now.lines }
+    {
+        self.view.first_from(self.asked_before)
+    }
+
+    /// Keeps in mind that the blocks of all visits that are due before a limit are asked for, or
+    /// before a later one that is known.
+    pub fn set_asked_before(&mut self, limit: Micros)
+        requires { IsAskedBefore self.old.params limit self.old.lines }
+        ensures { self.new ≡ self.old }
+    {
+        if limit <= self.asked_before {
+            return;
+        }
+        self.asked_before = due_from(&self.plan, &self.view, limit);
+    }
+
     /// Whether it is known that no visit of a backup record that is due at the limit or later is
     /// still to be split. It is known for each limit from the one that was set last on, if no
     /// backup record was added since that is due at it or later; `false` says only that the lines
@@ -147,7 +211,25 @@ impl CubView {
     {
         if limit < self.split_from {
             self.split_from = limit;
+            self.split_between = (limit, u64::MAX);
         }
+    }
+
+    /// The first line that is due at a limit or later and whose visit may still be to be split,
+    /// behind the place at which it stands; `None` says that no such visit is.
+    pub fn first_unsplit(&self, limit: Micros) -> (usize, Option<Line>)
+        ensures begins { IsFirstFor (is_unsplit_from self.now.params limit)
+            self.now.lines result.1 }
+        ensures place { slice_get self.now.lines result.0 ≡ result.1 }
+        ensures key { IfSome result.1 (λ line. IsKey self.now.params (key_of line)) }
+        ensures walk { IsWalk self.now.params self.now.lines }
+    {
+        // What is due between the two times is split already.
+        let (from, to) = self.split_between;
+        if from <= limit && limit < to {
+            return self.view.first_from(to);
+        }
+        self.view.first_from(limit)
     }
 }
 
@@ -179,4 +261,52 @@ fn split_after(plan: &Plan, time: Micros, rec: Rec) -> Micros
     }
     let due = plan.due(rec.tenancy.slot, rec.visit);
     if due < time { time } else { due + 1 }
+}
+
+/// When the first line is due that is due at a time or later, or that time if none is: no line is
+/// due in between.
+fn due_from(plan: &Plan, view: &View, time: Micros) -> Micros
+    requires { view.now.params ≡ plan.now.params }
+    ensures { AllByRecursion (λ x. time ≤ due_of plan.now.params (key_of x) →
+        result ≤ due_of plan.now.params (key_of x)) view.now.lines }
+{
+    match view.first_from(time).1 {
+        Some(line) => plan.due(line.rec.tenancy.slot, line.rec.visit),
+        None => time,
+    }
+}
+
+/// The given time, or that at which the record is due, if its block is to be asked for and this is
+/// earlier.
+fn asked_until(plan: &Plan, time: Micros, rec: Rec) -> Micros
+    requires key { IsKey plan.now.params (visit_of rec) }
+    ensures earlier { result ≤ time }
+    ensures until { is_unasked (unmarked rec) ≡ true →
+        result ≤ due_of plan.now.params (visit_of rec) }
+{
+    if !rec.kind.is_own() {
+        return time;
+    }
+    let due = plan.due(rec.tenancy.slot, rec.visit);
+    if due < time { due } else { time }
+}
+
+/// The second of two times, or that at which the record is due, if its visit is to be split and
+/// this is not before the first.
+fn split_until(plan: &Plan, times: (Micros, Micros), rec: Rec) -> Micros
+    requires key { IsKey plan.now.params (visit_of rec) }
+    ensures earlier { result ≤ times.1 }
+    ensures until { is_unsplit (unmarked rec) ≡ true →
+        times.0 ≤ due_of plan.now.params (visit_of rec) →
+        result ≤ due_of plan.now.params (visit_of rec) }
+{
+    if rec.kind.is_own() {
+        return times.1;
+    }
+    let due = plan.due(rec.tenancy.slot, rec.visit);
+    if times.0 <= due && due < times.1 {
+        due
+    } else {
+        times.1
+    }
 }

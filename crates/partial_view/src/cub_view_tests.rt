@@ -1,10 +1,10 @@
-//! What is forwarded and what is split in views of a small plan, beside times that were worked out
-//! by hand.
+//! What is forwarded, asked for and split in views of a small plan, and where walks over them
+//! begin, beside times that were worked out by hand.
 
-use crate::{Added, CubView, Flag};
+use crate::{Added, CubView, Flag, Line};
 use slot_plan::small_plan;
 use std::test::Fail;
-use tiger_base::{FileNo, Instance, Kind, Rec, SlotNo, Tenancy};
+use tiger_base::{FileNo, Instance, Kind, Rec, SlotNo, Tenancy, Visit};
 
 // Visit 3 of slot 1, which is due at 3500000; the next visit is due at 4500000.
 const RECORD: Rec = Rec {
@@ -102,5 +102,54 @@ fn records_are_removed(rt: HostRuntime) -> Result<(), Fail> {
     assert_eq!(rt; view.add(RECORD)?, Added::New);
     assert_eq!(rt; view.remove_instance(Instance(0)), 1);
     assert_eq!(rt; view.view().after(None), None);
+    Ok(())
+}
+
+/// The place of a line, and its visit.
+fn place_and_visit(found: (usize, Option<Line>)) -> (usize, Option<Visit>) {
+    (found.0, found.1.map(|line| line.rec.visit))
+}
+
+#[test]
+fn walks_begin_at_the_first_line_that_may_be_left(rt: HostRuntime) -> Result<(), Fail> {
+    let plan = small_plan();
+    let mut view = CubView::new(rt.alloc(), &plan);
+    view.set_forwarded_to(4499999);
+    view.set_asked_before(3500000);
+    let backup = Rec {
+        visit: 2,
+        kind: Kind::Backup,
+        ..RECORD
+    };
+    assert_eq!(rt; view.add(backup)?, Added::New);
+    assert_eq!(rt; place_and_visit(view.first_pending()), (1, None));
+    assert_eq!(rt; place_and_visit(view.first_unasked()), (1, None));
+    assert_eq!(rt; view.add(RECORD)?, Added::New);
+    assert_eq!(rt; place_and_visit(view.first_pending()), (1, Some(3)));
+    assert_eq!(rt; place_and_visit(view.first_unasked()), (1, Some(3)));
+    let earlier = Rec { visit: 1, ..RECORD };
+    assert_eq!(rt; view.add(earlier)?, Added::New);
+    assert_eq!(rt; place_and_visit(view.first_pending()), (0, Some(1)));
+    assert_eq!(rt; place_and_visit(view.first_unasked()), (0, Some(1)));
+    Ok(())
+}
+
+#[test]
+fn walk_that_splits_begins_at_the_first_visit_from_its_limit_on(
+    rt: HostRuntime,
+) -> Result<(), Fail> {
+    let plan = small_plan();
+    let mut view = CubView::new(rt.alloc(), &plan);
+    let backup = Rec {
+        kind: Kind::Backup,
+        ..RECORD
+    };
+    let later = Rec { visit: 4, ..backup };
+    assert_eq!(rt; view.add(backup)?, Added::New);
+    assert_eq!(rt; view.add(later)?, Added::New);
+    assert_eq!(rt; place_and_visit(view.first_unsplit(0)), (0, Some(3)));
+    assert_eq!(rt; place_and_visit(view.first_unsplit(3500000)), (0, Some(3)));
+    assert_eq!(rt; place_and_visit(view.first_unsplit(3500001)), (1, Some(4)));
+    assert_eq!(rt; place_and_visit(view.first_unsplit(4500001)), (2, None));
     Ok(())
 }

@@ -1,5 +1,6 @@
 //! A cub's view of the schedule: its records, in the order of their due times, how far its states
-//! are known to be forwarded, and from when on its visits are known to be split.
+//! are known to be forwarded and its blocks asked for, and from when on its visits are known to be
+//! split.
 #![tactic(auto)]
 
 mod cub_view;

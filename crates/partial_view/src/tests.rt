@@ -72,6 +72,22 @@ fn lines_are_walked_by_due_time(rt: HostRuntime) -> Result<(), Fail> {
 }
 
 #[test]
+fn first_line_from_a_time_on_comes_with_its_place(rt: HostRuntime) -> Result<(), Fail> {
+    let view = three_lines(rt.alloc(), &small_plan())?;
+    for (time, place, want) in [
+        (0, 0, Some((SlotNo(1), 0))),
+        (500000, 0, Some((SlotNo(1), 0))),
+        (500001, 1, Some((SlotNo(1), 1))),
+        (1500000, 1, Some((SlotNo(1), 1))),
+        (1500001, 3, None),
+    ] {
+        let (at, line) = view.first_from(time);
+        assert_eq!(rt; (at, line.map(|line| line.key())), (place, want));
+    }
+    Ok(())
+}
+
+#[test]
 fn lines_are_marked_and_removed(rt: HostRuntime) -> Result<(), Fail> {
     let mut view = three_lines(rt.alloc(), &small_plan())?;
     assert!(rt; view.mark(SlotNo(1), 1, Flag::Asked));

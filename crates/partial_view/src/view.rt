@@ -4,7 +4,7 @@ ghost use Rattle.std.specs.Option.{ForSome};
 ghost use Rattle.tiger_base.specs.Limits.{most_reading};
 ghost use Rattle.slot_plan.specs.Keys.{IsKey, due_of, is_earlier};
 ghost use Rattle.partial_view.specs.Lines.{key_of, visit_of, instance_of, is_of};
-ghost use Rattle.partial_view.specs.Views.{Seen, IsWalk, line_at, first_of, next_behind, line_due, with_mark, without, without_instance, with_record, place_of, IsFoundAt, IsGapAt};
+ghost use Rattle.partial_view.specs.Views.{Seen, IsWalk, line_at, first_of, next_behind, line_due, first_from, place_from, with_mark, without, without_instance, with_record, place_of, IsFoundAt, IsGapAt};
 ghost use Rattle.partial_view.specs.Adding.{answer_to, answer_by};
 
 use crate::line::{Flag, Line};
@@ -124,6 +124,18 @@ impl View {
     {
         let behind = place_near(&self.plan, &self.lines, place, key);
         line_from(&self.lines, behind)
+    }
+
+    /// The first line that is due at a time or later, behind the place at which it stands; `None`
+    /// exactly if there is none.
+    pub fn first_from(&self, time: Micros) -> (usize, Option<Line>)
+        ensures next { result.1 ≡ first_from self.now.params time self.now.lines }
+        ensures place { slice_get self.now.lines result.0 ≡ result.1 }
+        ensures key { IfSome result.1 (λ line. IsKey self.now.params (key_of line)) }
+        ensures walk { IsWalk self.now.params self.now.lines }
+    {
+        let place = place_from(&self.plan, &self.lines, time);
+        (place, line_from(&self.lines, place))
     }
 
     /// The first record that is due at a reading; `None` exactly if none is.
@@ -273,6 +285,25 @@ fn first_not_before(plan: &Plan, lines: &VecDeque<Line>, key: (SlotNo, Visit)) -
     while low < high {
         let middle = low + (high - low) / 2;
         if is_before(plan, lines[middle].key(), due, key) {
+            low = middle + 1;
+        } else {
+            high = middle;
+        }
+    }
+    low
+}
+
+/// How many lines are due before a time, found by halving.
+fn place_from(plan: &Plan, lines: &VecDeque<Line>, time: Micros) -> usize
+    requires walk { IsWalk plan.now.params lines.now.items }
+    ensures { result ≡ place_from plan.now.params time lines.now.items }
+{
+    let mut low = 0;
+    let mut high = lines.len();
+    while low < high {
+        let middle = low + (high - low) / 2;
+        let (slot, visit) = lines[middle].key();
+        if plan.due(slot, visit) < time {
             low = middle + 1;
         } else {
             high = middle;
