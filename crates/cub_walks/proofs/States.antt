@@ -13,6 +13,8 @@ use Rattle.cub_rules.specs.declared.store.Store.{Store}
 use Rattle.std.proofs.lemmas.List.{append-nil}
 use Rattle.slot_plan.specs.declared.params.Params.{Params}
 use Rattle.slot_plan.specs.Conditions.{IsPlan}
+use Rattle.slot_plan.proofs.Times.{due_next}
+use Rattle.slot_plan.specs.Keys.{due_of}
 use Rattle.partial_view.specs.declared.line.Line.{Line}
 use Rattle.partial_view.specs.declared.line.Flag.TheVariants.{Forwarded}
 use Rattle.partial_view.specs.Lines.{key_of, marked}
@@ -21,6 +23,7 @@ use Rattle.state_forward.specs.Forwards.{is_batch_beat, is_next_due, must_forwar
 use Rattle.partial_view.specs.Pending.{is_pending, IsForwardedTo}
 use Rattle.cub_rules.specs.Ticks.{is_to_forward, forward_line, forward_outs, forwarding}
 use Rattle.cub_walks.specs.Limits.{forward_limit}
+use Rattle.cub_walks.proofs.Stops.{Rests}
 
 -- whether the next visit is due within the lead of the beat
 abbrev pub is_soon : Params → Stamp → Line → Bool
@@ -87,6 +90,31 @@ stays_here p plan stamp x h = by_test (is_to_forward p stamp x) refl
     by_test true e =
         let both = to_forward_soon p stamp x e in
         absurd (omega (arith, soon_by p plan stamp x both.1, h both.0))
+
+-- a line that is not pending gives nothing out, and stays
+not_pending : (p : Params) (stamp : Stamp) (x : Line) → is_pending x ≡ false → is_to_forward p stamp x ≡ false
+not_pending p stamp x none = by_test (is_to_forward p stamp x) refl
+  where
+    by_test : (t : Bool) → is_to_forward p stamp x ≡ t → is_to_forward p stamp x ≡ false
+    by_test false e = e
+    by_test true e = absurd (both_ways (is_pending x) none (to_forward_soon p stamp x e).0)
+
+pub silent_past : (p : Params) (cub : ℕ) (stamp : Stamp) (x : Line) → is_pending x ≡ false → forward_outs p cub stamp x ≡ []
+silent_past p cub stamp x none = rw (not_pending p stamp x none) refl
+
+pub stays_past : (p : Params) (stamp : Stamp) (x : Line) → is_pending x ≡ false → forward_line p stamp x ∷ [] ≡ x ∷ []
+stays_past p stamp x none = rw (not_pending p stamp x none) refl
+
+-- nor does one whose next visit is due past the limit
+next_late : (p : Params) → IsPlan p → (stamp : Stamp) (time : ℕ) → forward_limit p stamp ≤ time + p.play → (x : Line) → time < due_of p (key_of x) → is_to_forward p stamp x ≡ false
+next_late p plan stamp time end x h = stays_here p plan stamp x (λ pending. omega (arith, end, h, due_next p x.rec.tenancy.slot.0 x.rec.visit))
+
+pub forward_rests : (p : Params) (cub : ℕ) → IsPlan p → (stamp : Stamp) (time : ℕ) → forward_limit p stamp ≤ time + p.play → Rests p time (forward_outs p cub stamp) (λ x. forward_line p stamp x ∷ [])
+forward_rests p cub plan stamp time end =
+    record {
+      silent = λ x h. rw (next_late p plan stamp time end x h) refl;
+      stays = λ x h. rw (next_late p plan stamp time end x h) refl;
+    }
 
 -- where all is forwarded up to the limit nothing goes out
 pub nothing_out : (p : Params) (cub : ℕ) → IsPlan p → (stamp : Stamp) (lines : List Line) → IsForwardedTo p (forward_limit p stamp) lines → flat_map (forward_outs p cub stamp) lines ≡ []

@@ -10,7 +10,8 @@ use Rattle.slot_plan.proofs.Keys.{earlier_due}
 use Rattle.partial_view.specs.declared.line.Line.{Line}
 use Rattle.partial_view.specs.Lines.{key_of}
 use Rattle.partial_view.specs.Views.{Seen, IsWalk, next_behind}
-use Rattle.partial_view.specs.Walks.{replaced, KeepsVisits, left}
+use Rattle.partial_view.specs.Walks.{replaced, KeepsVisits, IsFirstFor, left}
+use Rattle.partial_view.proofs.Begins.{begun_at}
 use Rattle.partial_view.proofs.Calls.{record_of}
 use Rattle.partial_view.proofs.Order.{all_implies, walk_back}
 use Rattle.partial_view.proofs.Walks.{begun, on, fewer}
@@ -65,6 +66,12 @@ module _ {X : Type 0} {p : Params} {time : ℕ} {outs_of : Line → List X} {lin
     pub begun_to : {next : Option Line} → KeepsVisits lines_of → IsWalk before.params before.lines → before.params ≡ p → next ≡ due_by p time (next_behind before.params None before.lines)
         → UnderwayTo p time outs_of lines_of before outs_before before outs_before next
     begun_to keeps w plan e = record { ahead = next_behind before.params None before.lines; walk = begun keeps w refl; plan = plan; bound = e }
+
+    -- or at the first line for which something may be to do
+    pub begun_from : (test : Line → Bool) {first next : Option Line} → KeepsVisits lines_of → IsWalk before.params before.lines → before.params ≡ p → IsFirstFor test before.lines first
+        → ((x : Line) → test x ≡ false → outs_of x ≡ []) → ((x : Line) → test x ≡ false → lines_of x ≡ x ∷ []) → next ≡ due_by p time first
+        → UnderwayTo p time outs_of lines_of before outs_before before outs_before next
+    begun_from test {first} keeps w plan b silent stays e = record { ahead = first; walk = begun_at test keeps w b silent stays; plan = plan; bound = e }
 
     module _ {now : Seen} {outs_now : List X} {next : Option Line} (u : UnderwayTo p time outs_of lines_of before outs_before now outs_now next) where
       pub ahead_is : {x : Line} → next ≡ Some x → u.ahead ≡ Some x

@@ -11,7 +11,7 @@ ghost use Rattle.cub_rules.specs.State.{IsStoreOf, IsLineOf};
 ghost use Rattle.cub_rules.specs.Ticks.{forwarding, forward_line, forward_outs, is_to_forward};
 ghost use Rattle.cub_walks.specs.Limits.{forward_limit, sent_on};
 
-use crate::walking::{after, after_near};
+use crate::walking::{after_near_by, due_by};
 use cub_rules::Store;
 use node_kit::{Out, Outbox, Site};
 use partial_view::{CubView, Flag, Line};
@@ -19,8 +19,9 @@ use slot_plan::Plan;
 use state_forward::{lead_in, must_forward};
 use tiger_base::{Micros, Msg, NoMemory, Stamp, State};
 
-/// Sends the state of the next visit to the next two cubs for each own record whose next visit is due within the lead of
-/// this beat, unless it was sent before. The lines are walked only if some may be left to forward.
+/// Sends the state of the next visit to the next two cubs for each own record whose next visit is
+/// due within the lead of this beat, unless it was sent before. Only those lines are walked whose
+/// state may be left to forward.
 pub fn forward<'a>(
     site: &Site,
     stamp: Stamp,
@@ -52,7 +53,8 @@ fn forward_limit(plan: &Plan, stamp: Stamp) -> Micros
     stamp.reading + lead_in(plan, stamp.beat)
 }
 
-/// Forwards the states of all lines.
+/// Forwards the states of all lines: the walk begins at the first line whose state may be left to
+/// forward, and ends at the first one whose next visit is due too late.
 fn forward_lines<'a>(
     site: &Site,
     stamp: Stamp,
@@ -68,12 +70,14 @@ fn forward_lines<'a>(
     ensures outs { OnOk result (out.new ≡ out.old
         ++ flat_map (forward_outs site.now.plan.params site.now.cub.0 stamp) view.old.lines) }
 {
-    let mut next = after(view, None);
-    // The walk takes no line out: the line that it stands at is the one of this number.
-    let mut place: usize = 0;
+    // If a line is due later, its next visit is due past the limit.
+    let time = forward_limit(&site.plan, stamp).saturating_sub(site.plan.params.play);
+    // The walk takes no line out: the line that it stands at stays at its place.
+    let (mut place, first) = view.first_pending();
+    let mut next = due_by(&site.plan, first, time);
     while let Some(line) = next {
         forward_line(site, stamp, view, line, out)?;
-        next = after_near(view, place, line.key());
+        next = after_near_by(&site.plan, view, place, line.key(), time);
         place = place.saturating_add(1);
     }
     Ok(())

@@ -31,6 +31,20 @@ pub(crate) fn after_near(view: &CubView, place: usize, key: (SlotNo, Visit)) -> 
     view.view().after_near(place, key)
 }
 
+/// A line of the view, if it is due at a time or before it.
+pub(crate) fn due_by(plan: &Plan, line: Option<Line>, time: Micros) -> Option<Line>
+    requires { IfSome line (λ x. IsKey plan.now.params (key_of x)) }
+    ensures next { result ≡ due_by plan.now.params time line }
+    ensures key { IfSome result (λ x. IsKey plan.now.params (key_of x)) }
+{
+    let line = line?;
+    if plan.due(line.rec.tenancy.slot, line.rec.visit) <= time {
+        Some(line)
+    } else {
+        None
+    }
+}
+
 /// The next line as `after` gives it, if it is due at a time or before it.
 pub(crate) fn after_by(
     plan: &Plan,
@@ -45,12 +59,7 @@ pub(crate) fn after_by(
     ensures key { IfSome result (λ line. IsKey view.now.params (key_of line)) }
     ensures walk { IsWalk view.now.params view.now.lines }
 {
-    let line = after(view, key)?;
-    if plan.due(line.rec.tenancy.slot, line.rec.visit) <= time {
-        Some(line)
-    } else {
-        None
-    }
+    due_by(plan, after(view, key), time)
 }
 
 /// The next line as `after_near` gives it, if it is due at a time or before it.
@@ -68,10 +77,5 @@ pub(crate) fn after_near_by(
     ensures key { IfSome result (λ line. IsKey view.now.params (key_of line)) }
     ensures walk { IsWalk view.now.params view.now.lines }
 {
-    let line = after_near(view, place, key)?;
-    if plan.due(line.rec.tenancy.slot, line.rec.visit) <= time {
-        Some(line)
-    } else {
-        None
-    }
+    due_by(plan, after_near(view, place, key), time)
 }

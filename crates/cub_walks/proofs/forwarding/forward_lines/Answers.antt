@@ -1,37 +1,45 @@
-use Rattle.std.proofs.Common.{refl}
+use Rattle.std.proofs.Common.{refl, arith}
 use Rattle.cub_rules.specs.State.{IsLineOf}
 use Rattle.cub_rules.specs.Ticks.{forward_line}
-use Rattle.partial_view.proofs.Walks.{begun, there, next_key, given_key, on, fewer, ended_view, ended_outs}
-use Rattle.cub_walks.proofs.States.{forward_keeps}
+use Rattle.partial_view.specs.Pending.{is_pending}
+use Rattle.partial_view.proofs.Walks.{there, next_key, given_key}
+use Rattle.cub_walks.proofs.States.{forward_keeps, silent_past, stays_past, forward_rests}
 use Rattle.cub_walks.proofs.Steps.{of_next, one_each}
+use Rattle.cub_walks.proofs.Stops.{begun_from, ahead_is, on_to, fewer_to, stopped_view, stopped_outs}
 use Rattle.cub_walks.proofs.forwarding.forward_lines.Goals as goal
 
 pub loop-next-init : goal.loop-next-init
-loop-next-init c = begun (forward_keeps c.args.site.now.plan.params c.args.stamp) c.after-next.ensures.walk c.after-next.ensures.next
+loop-next-init c =
+    begun_from is_pending (forward_keeps c.args.site.now.plan.params c.args.stamp) c.first_pending-place.ensures.walk c.requires.plan c.first_pending-place.ensures.begins
+    (λ x none. silent_past c.args.site.now.plan.params c.args.site.now.cub.0 c.args.stamp x none) (λ x none. stays_past c.args.site.now.plan.params c.args.stamp x none) c.due_by-next.ensures.next
 
 pub forward_line-requires-clause-line : goal.forward_line-requires-clause-line
 forward_line-requires-clause-line c =
-    of_next (IsLineOf c.args.site.now.plan.params c.args.site.now.cub.0) c.requires.lines c.loop-next.invariant c.in-Some.is
+    of_next (IsLineOf c.args.site.now.plan.params c.args.site.now.cub.0) c.requires.lines c.loop-next.invariant.walk (ahead_is c.loop-next.invariant c.in-Some.is)
 
 pub forward_line-requires-clause-key : goal.forward_line-requires-clause-key
-forward_line-requires-clause-key c = next_key c.loop-next.invariant c.in-Some.is
+forward_line-requires-clause-key c = next_key c.loop-next.invariant.walk (ahead_is c.loop-next.invariant c.in-Some.is)
 
 pub forward_line-requires-clause-there : goal.forward_line-requires-clause-there
-forward_line-requires-clause-there c = there c.loop-next.invariant c.in-Some.is
+forward_line-requires-clause-there c = there c.loop-next.invariant.walk (ahead_is c.loop-next.invariant c.in-Some.is)
 
-pub after_near-next-requires : goal.after_near-next-requires
-after_near-next-requires c = given_key c.loop-next.invariant c.in-Some.is c.in_ok-forward_line.ensures.view c.key.ensures c.key.result refl
+pub after_near_by-next-requires-clause-key : goal.after_near_by-next-requires-clause-key
+after_near_by-next-requires-clause-key c =
+    given_key c.loop-next.invariant.walk (ahead_is c.loop-next.invariant c.in-Some.is) c.in_ok-forward_line.ensures.view c.key.ensures c.key.result refl
 
 pub loop-next-smaller : goal.loop-next-smaller
 loop-next-smaller c =
-    fewer c.loop-next.invariant c.in-Some.is c.in_ok-forward_line.ensures.view c.in_ok-forward_line.ensures.outs c.key.ensures c.after_near-next.ensures.next c.after_near-next.ensures.walk
+    fewer_to c.loop-next.invariant c.in-Some.is c.in_ok-forward_line.ensures.view c.in_ok-forward_line.ensures.outs c.key.ensures c.after_near_by-next.ensures.next c.after_near_by-next.ensures.walk
 
 pub loop-next-preserved : goal.loop-next-preserved
 loop-next-preserved c =
-    on c.loop-next.invariant c.in-Some.is c.in_ok-forward_line.ensures.view c.in_ok-forward_line.ensures.outs c.key.ensures c.after_near-next.ensures.next c.after_near-next.ensures.walk
+    on_to c.loop-next.invariant c.in-Some.is c.in_ok-forward_line.ensures.view c.in_ok-forward_line.ensures.outs c.key.ensures c.after_near_by-next.ensures.next c.after_near_by-next.ensures.walk
 
 pub returns-clause-view : goal.returns-clause-view
-returns-clause-view c = one_each (forward_line c.args.site.now.plan.params c.args.stamp) c.args.view.now c.loop-next.view (ended_view c.loop-next.invariant c.in_default.is)
+returns-clause-view c =
+    one_each (forward_line c.args.site.now.plan.params c.args.stamp) c.args.view.now c.loop-next.view
+    (stopped_view c.loop-next.invariant (forward_rests c.args.site.now.plan.params c.args.site.now.cub.0 c.args.site.now.plan.sound c.args.stamp c.saturating_sub-time.result (omega (arith, c.forward_limit.ensures))) c.in_default.is)
 
 pub returns-clause-outs : goal.returns-clause-outs
-returns-clause-outs c = ended_outs c.loop-next.invariant c.in_default.is
+returns-clause-outs c =
+    stopped_outs c.loop-next.invariant (forward_rests c.args.site.now.plan.params c.args.site.now.cub.0 c.args.site.now.plan.sound c.args.stamp c.saturating_sub-time.result (omega (arith, c.forward_limit.ensures))) c.in_default.is
