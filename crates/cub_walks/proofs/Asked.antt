@@ -1,7 +1,8 @@
--- Which lines' blocks are asked for.
-use Rattle.std.proofs.Common.{◌≡◌, ℕ, ◌+◌, ◌*◌, ◌<◌, arith, Bool, true, false, cond, not, ◌&&◌, List, [], ◌∷◌, ◌++◌, map, append_assoc, refl, ap, ◌∙◌}
-use Rattle.std.specs.List.{flat_map, filter}
-use Rattle.std.proofs.lemmas.Bool.{lt-leb}
+-- Which lines' blocks are asked for, beside the time before which they are.
+use Rattle.std.proofs.Common.{◌≡◌, ℕ, ◌+◌, ◌*◌, ◌<◌, ◌≤◌, arith, Bool, true, false, cond, not, ◌&&◌, List, [], ◌∷◌, ◌++◌, map, append_assoc, refl, sym, ap, subst, ◌∙◌}
+use Rattle.std.specs.List.{AllByRecursion, flat_map, filter}
+use Rattle.std.proofs.lemmas.Bool.{lt-leb, both_ways, leb-true, leb-false}
+use Rattle.std.proofs.lemmas.List.{append-nil}
 use Rattle.tiger_base.specs.declared.number.Stamp.{Stamp}
 use Rattle.tiger_base.specs.declared.message.Msg.{Msg}
 use Rattle.tiger_base.specs.Kinds.{is_own}
@@ -17,11 +18,15 @@ use Rattle.partial_view.specs.declared.line.Flag.TheVariants.{Asked}
 use Rattle.partial_view.specs.Lines.{key_of, marked}
 use Rattle.partial_view.specs.Views.{Seen}
 use Rattle.partial_view.specs.Walks.{KeepsVisits}
+use Rattle.partial_view.specs.Pending.{is_unasked, IsAskedBefore}
+use Rattle.partial_view.proofs.Calls.{record_of}
+use Rattle.partial_view.proofs.Order.{all_implies}
 use Rattle.mirror_schedule.specs.Pieces.{Pieces}
 use Rattle.node_kit.specs.Deeds.{Did}
 use Rattle.cub_rules.specs.declared.store.Store.{Store}
 use Rattle.cub_rules.specs.Records.{pieces_but}
 use Rattle.cub_rules.specs.Ticks.{must_read, ask_line, ask_outs, reading, reading_blocks, reading_pieces, asked_of_disk, leaves_by}
+use Rattle.cub_walks.proofs.Steps.{none_given, none_changed}
 use Rattle.cub_walks.proofs.Stops.{Rests}
 
 -- a line that is asked for stays at its visit
@@ -45,6 +50,79 @@ ask_rests p stamp =
       silent = λ x h. rw (not_read p stamp x h) refl;
       stays = λ x h. rw (not_read p stamp x h) refl;
     }
+
+-- a block that is asked for was still to be asked for, and is due by the end of the read lead
+read_soon : (p : Params) (stamp : Stamp) (x : Line) → must_read p stamp x ≡ true → (is_unasked x ≡ true) × (due_of p (key_of x) ≤ stamp.reading + p.read_lead)
+unfolding must_read
+read_soon p stamp x h =
+    let parts = bits (is_own x.rec.kind) (not x.asked) _ h in
+    (parts.0, leb-true _ _ parts.1)
+  where
+    bits : (a b c : Bool) → (a && b && c) ≡ true → ((a && b) ≡ true) × (c ≡ true)
+    bits true true c e = (refl, e)
+    bits true false c e = absurd (cc)
+    bits false b c e = absurd (cc)
+
+-- one that is still to be asked for and is not asked for now is due later
+left_late : (p : Params) (stamp : Stamp) (x : Line) → must_read p stamp x ≡ false → is_unasked x ≡ true → stamp.reading + p.read_lead + 1 ≤ due_of p (key_of x)
+unfolding must_read
+left_late p stamp x h unasked =
+    let late : stamp.reading + p.read_lead < due_of p (key_of x) = leb-false _ _ (bits (is_own x.rec.kind) (not x.asked) _ h unasked) in
+    omega (arith, late)
+  where
+    bits : (a b c : Bool) → (a && b && c) ≡ false → (a && b) ≡ true → c ≡ false
+    bits true true c e g = e
+    bits true false c e g = absurd (cc)
+    bits false b c e g = absurd (cc)
+
+-- where none is still to be asked for that is due so early, none is asked for
+stays_here : (p : Params) (stamp : Stamp) (x : Line) → (is_unasked x ≡ true → stamp.reading + p.read_lead + 1 ≤ due_of p (key_of x)) → must_read p stamp x ≡ false
+stays_here p stamp x h = by_test (must_read p stamp x) refl
+  where
+    by_test : (t : Bool) → must_read p stamp x ≡ t → must_read p stamp x ≡ false
+    by_test false e = e
+    by_test true e =
+        let soon = read_soon p stamp x e in
+        absurd (omega (arith, soon.1, h soon.0))
+
+pub silent_past : (p : Params) (stamp : Stamp) (x : Line) → is_unasked x ≡ false → ask_outs p stamp x ≡ []
+silent_past p stamp x none = rw (stays_here p stamp x (λ unasked. absurd (both_ways (is_unasked x) none unasked))) refl
+
+pub stays_past : (p : Params) (stamp : Stamp) (x : Line) → is_unasked x ≡ false → ask_line p stamp x ∷ [] ≡ x ∷ []
+stays_past p stamp x none = rw (stays_here p stamp x (λ unasked. absurd (both_ways (is_unasked x) none unasked))) refl
+
+all_stay : (p : Params) (stamp : Stamp) (view : Seen) → view.params ≡ p → IsAskedBefore view.params (stamp.reading + p.read_lead + 1) view.lines → AllByRecursion (λ x. must_read p stamp x ≡ false) view.lines
+all_stay p stamp view plan h =
+    all_implies (λ x. is_unasked x ≡ true → stamp.reading + p.read_lead + 1 ≤ due_of p (key_of x)) (λ x. must_read p stamp x ≡ false) (λ x f. stays_here p stamp x f) view.lines
+    (subst (λ (q : Params). IsAskedBefore q (stamp.reading + p.read_lead + 1) view.lines) plan h)
+
+pub asked_view : (p : Params) (stamp : Stamp) (view : Seen) → view.params ≡ p → IsAskedBefore view.params (stamp.reading + p.read_lead + 1) view.lines → view ≡ record view { lines = map (ask_line p stamp) view.lines }
+asked_view p stamp view plan h =
+    let lines : map (ask_line p stamp) view.lines ≡ view.lines = none_changed (must_read p stamp) (marked Asked) view.lines (all_stay p stamp view plan h) in
+    ap (λ (ys : List Line). record_of view.params ys) (sym lines)
+
+pub asked_outs : (p : Params) (stamp : Stamp) (view : Seen) (outs : List (Out Msg)) → view.params ≡ p → IsAskedBefore view.params (stamp.reading + p.read_lead + 1) view.lines → outs ≡ outs ++ flat_map (ask_outs p stamp) view.lines
+asked_outs p stamp view outs plan h =
+    let none : flat_map (ask_outs p stamp) view.lines ≡ [] = none_given (must_read p stamp) _ view.lines (all_stay p stamp view plan h) in
+    sym (ap (λ (zs : List (Out Msg)). outs ++ zs) none ∙ append-nil outs)
+
+-- after the walk all are asked for that are due so early
+asked_here : (p : Params) (stamp : Stamp) (x : Line) (t : Bool) → must_read p stamp x ≡ t → is_unasked (cond t (marked Asked x) x) ≡ true → stamp.reading + p.read_lead + 1 ≤ due_of p (key_of (cond t (marked Asked x) x))
+asked_here p stamp x true e unasked = absurd (both_ways (is_unasked (marked Asked x)) (never (is_own x.rec.kind)) unasked)
+  where
+    never : (a : Bool) → (a && not true) ≡ false
+    never true = refl
+    never false = refl
+asked_here p stamp x false e unasked = left_late p stamp x e unasked
+
+all_asked : (p : Params) (stamp : Stamp) (lines : List Line) → IsAskedBefore p (stamp.reading + p.read_lead + 1) (map (ask_line p stamp) lines)
+all_asked p stamp [] = tt
+all_asked p stamp (x ∷ xs) = (asked_here p stamp x (must_read p stamp x) refl, all_asked p stamp xs)
+
+pub asked_then : (p : Params) (stamp : Stamp) (old view : Seen) → old.params ≡ p → view ≡ record old { lines = map (ask_line p stamp) old.lines } → IsAskedBefore view.params (stamp.reading + p.read_lead + 1) view.lines
+asked_then p stamp old view plan e =
+    subst (λ (v : Seen). IsAskedBefore v.params (stamp.reading + p.read_lead + 1) v.lines) (sym e)
+    (subst (λ (q : Params). IsAskedBefore q (stamp.reading + p.read_lead + 1) (map (ask_line p stamp) old.lines)) (sym plan) (all_asked p stamp old.lines))
 
 -- the reading of blocks, and then of pieces
 pub read_all : (p : Params) (stamp : Stamp) (old now : Store) (outs outs_then outs_now : List (Out Msg)) (view : Seen) (unasked : Pieces)

@@ -1,5 +1,5 @@
 -- What one step of a walk does to the lines and to the outputs, by the test that it makes of its line.
-use Rattle.std.proofs.Common.{◌≡◌, Bool, true, false, cond, List, [], ◌∷◌, ◌++◌, map, Option, Some, sym, ap, subst, ◌∙◌}
+use Rattle.std.proofs.Common.{◌≡◌, Bool, true, false, cond, refl, List, [], ◌∷◌, ◌++◌, map, Option, Some, sym, ap, subst, ◌∙◌}
 use Rattle.std.specs.List.{AllByRecursion, slice_get, flat_map}
 use Rattle.std.proofs.lemmas.List.Concat.{flat_map_single}
 use Rattle.std.proofs.lemmas.List.{append-nil}
@@ -61,3 +61,12 @@ of_next {before = before} {x = x} P all u is = at_ahead u.ahead (sym is ∙ u.fi
 -- each line becomes one line
 pub one_each : (f : Line → Line) (s now : Seen) → now ≡ record s { lines = flat_map (λ x. f x ∷ []) s.lines } → now ≡ record s { lines = map f s.lines }
 one_each f s now e = e ∙ ap (λ (ys : List Line). record_of s.params ys) (flat_map_single f s.lines)
+
+-- lines of which none passes a test give nothing, and become nothing else
+pub none_given : {X : Type 0} (test : Line → Bool) (f : Line → List X) (lines : List Line) → AllByRecursion (λ x. test x ≡ false) lines → flat_map (λ x. cond (test x) (f x) []) lines ≡ []
+none_given test f [] h = refl
+none_given test f (x ∷ xs) h = rw (h.0) (none_given test f xs h.1)
+
+pub none_changed : (test : Line → Bool) (f : Line → Line) (lines : List Line) → AllByRecursion (λ x. test x ≡ false) lines → map (λ x. cond (test x) (f x) x) lines ≡ lines
+none_changed test f [] h = refl
+none_changed test f (x ∷ xs) h = rw (h.0) (ap (λ zs. x ∷ zs) (none_changed test f xs h.1))

@@ -24,6 +24,7 @@ use Rattle.cub_rules.specs.Records.{with_piece_record}
 use Rattle.cub_rules.specs.Ticks.{must_split, split_line, split_outs, split_visits, first_pieces, with_each, splitting}
 use Rattle.cub_walks.specs.Limits.{split_limit}
 use Rattle.cub_walks.specs.Splitting.{with_split_of}
+use Rattle.cub_walks.proofs.Steps.{none_given, none_changed}
 use Rattle.cub_walks.proofs.Splits.{split_all, view_then}
 
 -- a visit that is split was still to be split, and is due at the limit or later
@@ -61,15 +62,6 @@ stays_here p stamp x h = by_test (must_split p stamp x) refl
 all_stay : (p : Params) (stamp : Stamp) (lines : List Line) → IsSplitFrom p (split_limit p stamp) lines → AllByRecursion (λ x. must_split p stamp x ≡ false) lines
 all_stay p stamp lines h =
     all_implies (λ x. is_unsplit x ≡ true → due_of p (key_of x) < split_limit p stamp) (λ x. must_split p stamp x ≡ false) (λ x f. stays_here p stamp x f) lines h
-
--- lines of which none passes a test give nothing, and become nothing else
-none_given : {X : Type 0} (test : Line → Bool) (f : Line → List X) (lines : List Line) → AllByRecursion (λ x. test x ≡ false) lines → flat_map (λ x. cond (test x) (f x) []) lines ≡ []
-none_given test f [] h = refl
-none_given test f (x ∷ xs) h = rw (h.0) (none_given test f xs h.1)
-
-none_changed : (test : Line → Bool) (f : Line → Line) (lines : List Line) → AllByRecursion (λ x. test x ≡ false) lines → map (λ x. cond (test x) (f x) x) lines ≡ lines
-none_changed test f [] h = refl
-none_changed test f (x ∷ xs) h = rw (h.0) (ap (λ zs. x ∷ zs) (none_changed test f xs h.1))
 
 -- a cub did its splitting: by a walk, or without one where all is split from the limit on
 pub split_by_walk : (p : Params) (cub : ℕ) (stamp : Stamp) (old now : Store) (outs outs_now : List (Out Msg)) (view : Seen) → old.believes ≡ true

@@ -13,7 +13,7 @@ ghost use Rattle.cub_rules.specs.Ticks.{reading, must_read, ask_line, ask_outs, 
 ghost use Rattle.cub_walks.specs.Limits.{asks};
 
 use crate::leaving::take_leaving;
-use crate::walking::{after_by, after_near_by};
+use crate::walking::{after_near_by, due_by};
 use cub_rules::Store;
 use mirror_pieces::piece_disk;
 use mirror_schedule::PieceView;
@@ -22,8 +22,10 @@ use partial_view::{CubView, Flag, Line};
 use slot_plan::Plan;
 use tiger_base::{DiskNo, Msg, NoMemory, PieceState, Stamp, Want};
 
-/// Asks the disks for the block of each own record, and then for each piece, that leaves within the read lead and was not
-/// asked for yet. Each walk stops at the first that leaves later, since lines and pieces stand in the order of their times.
+/// Asks the disks for the block of each own record, and then for each piece, that leaves within the
+/// read lead and was not asked for yet. Each walk stops at the first that leaves later, since lines
+/// and pieces stand in the order of their times. Only those lines are walked whose block may be
+/// left to ask for.
 pub fn read<'a>(
     site: &Site,
     stamp: Stamp,
@@ -41,7 +43,7 @@ pub fn read<'a>(
     Ok(())
 }
 
-/// Asks for blocks.
+/// Asks for blocks, if some may be left to ask for.
 fn read_blocks<'a>(
     site: &Site,
     stamp: Stamp,
@@ -57,10 +59,37 @@ fn read_blocks<'a>(
     ensures outs { OnOk result (out.new ≡ out.old
         ++ flat_map (ask_outs site.now.plan.params stamp) view.old.lines) }
 {
+    let limit = stamp.reading + site.plan.params.read_lead + 1;
+    if view.is_asked_before(limit) {
+        return Ok(());
+    }
+    read_lines(site, stamp, view, out)?;
+    // All that is due before the limit is asked for: later beats begin their walks there.
+    view.set_asked_before(limit);
+    Ok(())
+}
+
+/// Asks for the blocks of all lines: the walk begins at the first line whose block may be left to
+/// ask for, and ends at the first one that is due too late.
+fn read_lines<'a>(
+    site: &Site,
+    stamp: Stamp,
+    view: &mut CubView,
+    out: &mut Outbox<Msg<'a>>,
+) -> Result<(), NoMemory>
+    requires reading { stamp.reading ≤ most_reading }
+    requires plan { view.old.params ≡ site.now.plan.params }
+    requires lines { AllByRecursion (IsLineOf site.now.plan.params site.now.cub.0) view.old.lines }
+    ensures view { OnOk result (view.new ≡ record view.old {
+      lines = map (ask_line site.now.plan.params stamp) view.old.lines;
+    }) }
+    ensures outs { OnOk result (out.new ≡ out.old
+        ++ flat_map (ask_outs site.now.plan.params stamp) view.old.lines) }
+{
     let time = stamp.reading + site.plan.params.read_lead;
-    let mut next = after_by(&site.plan, view, None, time);
-    // The walk takes no line out: the line that it stands at is the one of this number.
-    let mut place: usize = 0;
+    // The walk takes no line out: the line that it stands at stays at its place.
+    let (mut place, first) = view.first_unasked();
+    let mut next = due_by(&site.plan, first, time);
     while let Some(line) = next {
         read_block(site, stamp, view, line, out)?;
         next = after_near_by(&site.plan, view, place, line.key(), time);

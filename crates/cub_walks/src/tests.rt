@@ -34,6 +34,19 @@ const OWN: Rec = Rec {
     kind: Kind::Own,
 };
 
+/// The visit of cub 3 in slot 2, which is due at 4000000.
+const LATER: Rec = Rec {
+    tenancy: Tenancy {
+        instance: Instance(1),
+        file: FileNo(0),
+        slot: SlotNo(2),
+        first: 1,
+        last: 4,
+    },
+    visit: 3,
+    kind: Kind::Own,
+};
+
 /// The visit of the cub before.
 const BACKUP: Rec = Rec {
     tenancy: TENANCY,
@@ -265,6 +278,36 @@ fn disk_is_asked_for_blocks_and_then_pieces(rt: HostRuntime) -> Result<(), Fail>
     assert_asked(&rt, rt.alloc(), 2400000, &[piece])?;
     assert_asked(&rt, rt.alloc(), 3399999, &[piece])?;
     assert_asked(&rt, rt.alloc(), 3400000, &[block, piece])?;
+    Ok(())
+}
+
+/// Fails unless it is known, once the blocks are asked for at a reading, that none is left to ask
+/// for that is due before a time, and unless that is not known of a later time.
+fn assert_asked_before(
+    rt: &impl Abort,
+    alloc: Global,
+    reading: u64,
+    time: u64,
+) -> Result<(), NoMemory>
+    requires reading { reading ≤ most_reading }
+    requires time { time ≤ most_reading }
+{
+    let site = site();
+    let mut out = Outbox::new(alloc);
+    let mut store = empty(alloc, &site);
+    take(rt, &site, OWN, &mut store)?;
+    take(rt, &site, LATER, &mut store)?;
+    let stamp = Stamp { beat: 0, reading };
+    read(&site, stamp, &mut store, &mut out)?;
+    assert!(rt; store.view.is_asked_before(time));
+    assert!(rt; !store.view.is_asked_before(time + 1));
+    Ok(())
+}
+
+#[test]
+fn walk_that_asks_leaves_what_is_asked_for_behind(rt: HostRuntime) -> Result<(), Fail> {
+    assert_asked_before(&rt, rt.alloc(), 3399999, 3500000)?;
+    assert_asked_before(&rt, rt.alloc(), 3400000, 4000000)?;
     Ok(())
 }
 

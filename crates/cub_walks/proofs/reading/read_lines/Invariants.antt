@@ -2,7 +2,7 @@ use Rattle.std.proofs.Common.{◌+◌, [], ◌∷◌}
 use Rattle.partial_view.specs.Walks.{left}
 use Rattle.cub_rules.specs.Ticks.{ask_line, ask_outs}
 use Rattle.cub_walks.specs.Stopping.{UnderwayTo}
-use Rattle.cub_walks.proofs.reading.read_blocks.Given as goal
+use Rattle.cub_walks.proofs.reading.read_lines.Given as goal
 
 abbrev pub invariant-loop-next : goal.invariant-loop-next
 invariant-loop-next l =
