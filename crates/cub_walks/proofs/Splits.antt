@@ -1,6 +1,6 @@
 -- What the splitting of visits makes of what a cub keeps.
 use Rattle.std.proofs.Common.{◌≡◌, ℕ, ◌+◌, ◌-◌, ◌<◌, ◌≤◌, zero, suc, add-zero, Bool, true, false, cond, not, List, [], ◌∷◌, ◌++◌, map, take, drop, Option, Some, None, refl, sym, ap, ◌∙◌, arith, append_assoc}
-use Rattle.std.specs.List.{flat_map, range_with_len}
+use Rattle.std.specs.List.{AllByRecursion, flat_map, range_with_len}
 use Rattle.std.proofs.lemmas.List.{append-nil}
 use Rattle.std.proofs.lemmas.Grind.{flat_map-append}
 use Rattle.std.proofs.lemmas.Bool.{both_ways}
@@ -14,9 +14,12 @@ use Rattle.node_kit.specs.declared.outbox.Out.{Out}
 use Rattle.partial_view.specs.declared.line.Line.{Line}
 use Rattle.partial_view.specs.declared.line.Flag.TheVariants as flag
 use Rattle.partial_view.specs.Lines.{key_of, marked}
+use Rattle.partial_view.proofs.Calls.{record_of}
+use Rattle.partial_view.proofs.Order.{all_implies}
 use Rattle.partial_view.specs.Views.{Seen, IsWalk, line_at, next_behind, with_mark}
-use Rattle.partial_view.specs.Walks.{replaced, KeepsVisits, left}
-use Rattle.partial_view.proofs.Walks.{begun, on, fewer, ended_view, ended_outs}
+use Rattle.partial_view.specs.Walks.{replaced, KeepsVisits, IsFirstFor, left}
+use Rattle.partial_view.proofs.Begins.{flat_map-same}
+use Rattle.partial_view.proofs.Walks.{on, fewer, ended_view, ended_outs}
 use Rattle.mirror_schedule.specs.Sorted.{gap_from}
 use Rattle.mirror_schedule.specs.Pieces.{Pieces, IsPieces, pieces_of, is_in, with_piece, comes_before}
 use Rattle.mirror_schedule.specs.Splits.{Split, with_split}
@@ -28,7 +31,7 @@ use Rattle.cub_rules.specs.declared.store.Store.{Store}
 use Rattle.cub_rules.specs.Records.{with_piece_record, pieces_with}
 use Rattle.cub_rules.specs.Ticks.{must_split, split_line, split_outs, split_visits, first_pieces, with_each, sent_ahead, splitting}
 use Rattle.cub_walks.specs.Splitting.{with_split_of, sent_pieces, with_new, SplitTo}
-use Rattle.cub_walks.proofs.Steps.{line_marked, line_unmarked, one_each}
+use Rattle.cub_walks.proofs.Steps.{line_marked, line_unmarked, one_each, none_given}
 
 pub not_false : (t : Bool) → not t ≡ false → t ≡ true
 not_false true e = refl
@@ -222,11 +225,46 @@ singles (x ∷ xs) = ap (λ (ys : List Line). x ∷ ys) (singles xs)
 outs_more : {X : Type 0} (f : Line → List X) (xs : List Line) (x : Line) → flat_map f (xs ++ x ∷ []) ≡ flat_map f xs ++ f x
 outs_more f xs x = flat_map-append f xs (x ∷ []) ∙ ap (λ zs. flat_map f xs ++ zs) (append-nil (f x))
 
+-- lines that are not split leave the store and the outputs as they are
+store_still : (p : Params) (stamp : Stamp) (before : Store) (xs : List Line) → AllByRecursion (λ x. must_split p stamp x ≡ false) xs → before ≡ with_split_of p stamp xs before.view before
+store_still p stamp before xs h =
+    let firsts : flat_map (first_pieces p stamp) xs ≡ [] = none_given (must_split p stamp) _ xs h in
+    let visits : flat_map (split_visits p stamp) xs ≡ [] = none_given (must_split p stamp) _ xs h in
+    sym (ap (λ (ps : List PieceState). with_each with_piece_record ps (changed before before.view (with_each with_split (flat_map (split_visits p stamp) xs) before.splits))) firsts
+    ∙ ap (λ (ss : List Split). changed before before.view (with_each with_split ss before.splits)) visits)
+
+outs_still : (p : Params) (cub : ℕ) (stamp : Stamp) (outs : List (Out Msg)) (xs : List Line) → AllByRecursion (λ x. must_split p stamp x ≡ false) xs → outs ≡ outs ++ flat_map (split_outs p cub stamp) xs
+outs_still p cub stamp outs xs h =
+    let sent : flat_map (split_outs p cub stamp) xs ≡ [] = none_given (must_split p stamp) _ xs h in
+    sym (ap (λ (zs : List (Out Msg)). outs ++ zs) sent ∙ append-nil outs)
+
+line_still : (p : Params) (stamp : Stamp) (x : Line) → must_split p stamp x ≡ false → split_line p stamp x ∷ [] ≡ x ∷ []
+line_still p stamp x is = rw is refl
+
 module _ {p : Params} {cub : ℕ} {stamp : Stamp} {before : Store} {outs_before : List (Out Msg)} where
-  -- a walk that splits begins, goes on and ends
-  pub split_begun : {next : Option Line} → IsWalk before.view.params before.view.lines → next ≡ next_behind before.view.params None before.view.lines
-      → SplitTo p cub stamp before outs_before before outs_before next
-  split_begun w e = record { done = []; walk = begun (split_keeps p stamp) w e; store = refl; outs = sym (append-nil outs_before) }
+  -- a walk that splits begins at the first line for which that may be to do, goes on and ends
+  pub split_begun : (test : Line → Bool) {next : Option Line} → IsWalk before.view.params before.view.lines → IsFirstFor test before.view.lines next
+      → ((x : Line) → test x ≡ false → must_split p stamp x ≡ false) → SplitTo p cub stamp before outs_before before outs_before next
+  split_begun test w b still =
+      let none : AllByRecursion (λ x. must_split p stamp x ≡ false) b.done = all_implies (λ x. test x ≡ false) (λ x. must_split p stamp x ≡ false) still b.done b.none in
+      let same : flat_map (λ x. split_line p stamp x ∷ []) b.done ≡ b.done =
+      flat_map-same (λ x. split_line p stamp x ∷ []) b.done (all_implies (λ x. must_split p stamp x ≡ false) (λ x. split_line p stamp x ∷ [] ≡ x ∷ []) (line_still p stamp) b.done none) in
+      record {
+        done = b.done;
+        walk = record {
+          done = b.done;
+          ahead = b.ahead;
+          parts = b.parts;
+          view = ap (λ (ys : List Line). record_of before.view.params ys) (b.parts ∙ sym (ap (λ (ys : List Line). ys ++ b.ahead) same));
+          outs = sym (singles b.done);
+          first = b.first;
+          walk = w;
+          walk_now = w;
+          keeps = split_keeps p stamp;
+        };
+        store = store_still p stamp before b.done none;
+        outs = outs_still p cub stamp outs_before b.done none;
+      }
 
   module _ {now : Store} {outs_now : List (Out Msg)} {next : Option Line} (t : SplitTo p cub stamp before outs_before now outs_now next) where
     pub split_plan : (now.pieces.params ≡ before.pieces.params) × (now.unasked.params ≡ before.unasked.params)

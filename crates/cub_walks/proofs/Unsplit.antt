@@ -1,7 +1,7 @@
 -- Which visits are split in a beat, beside the time from which on they are.
 use Rattle.std.proofs.Common.{◌≡◌, ℕ, ◌<◌, ◌≤◌, Bool, true, false, cond, not, ◌&&◌, List, [], ◌∷◌, ◌++◌, map, refl, sym, ap, subst, ◌∙◌, arith}
 use Rattle.std.specs.List.{AllByRecursion, flat_map}
-use Rattle.std.proofs.lemmas.Bool.{both_ways, leb-true, leb-false}
+use Rattle.std.proofs.lemmas.Bool.{both_ways, and_from, leb-true, leb-false, le-leb}
 use Rattle.std.proofs.lemmas.List.{append-nil}
 use Rattle.tiger_base.specs.declared.number.Stamp.{Stamp}
 use Rattle.tiger_base.specs.declared.message.Msg.{Msg}
@@ -18,7 +18,7 @@ use Rattle.partial_view.proofs.Calls.{record_of}
 use Rattle.partial_view.proofs.Order.{all_implies}
 use Rattle.mirror_schedule.specs.Splits.{Split, with_split}
 use Rattle.node_kit.specs.Deeds.{Did}
-use Rattle.partial_view.specs.Pending.{is_unsplit, IsSplitFrom}
+use Rattle.partial_view.specs.Pending.{is_unsplit, IsSplitFrom, is_unsplit_from}
 use Rattle.cub_rules.specs.declared.store.Store.{Store}
 use Rattle.cub_rules.specs.Records.{with_piece_record}
 use Rattle.cub_rules.specs.Ticks.{must_split, split_line, split_outs, split_visits, first_pieces, with_each, splitting}
@@ -48,6 +48,20 @@ left_early p stamp x h unsplit = leb-false _ _ (bits (not (is_own x.rec.kind)) (
     bits true true c e g = e
     bits true false c e g = absurd (cc)
     bits false b c e g = absurd (cc)
+
+-- one that is not still to be split, or is due earlier, is not split
+pub not_unsplit : (p : Params) (stamp : Stamp) (x : Line) → is_unsplit_from p (split_limit p stamp) x ≡ false → must_split p stamp x ≡ false
+not_unsplit p stamp x none = by_test (must_split p stamp x) refl
+  where
+    by_test : (t : Bool) → must_split p stamp x ≡ t → must_split p stamp x ≡ false
+    by_test false e = e
+    by_test true e =
+        let late = split_late p stamp x e in
+        absurd (both_ways (is_unsplit_from p (split_limit p stamp) x) none (and_from (is_unsplit x) _ late.0 (le-leb _ _ late.1)))
+
+pub unsplit_along : (p : Params) (stamp : Stamp) (view : Seen) (limit : ℕ) → view.params ≡ p → limit ≡ split_limit p stamp → (x : Line) → is_unsplit_from view.params limit x ≡ false → must_split p stamp x ≡ false
+unsplit_along p stamp view limit plan is x none =
+    not_unsplit p stamp x (subst (λ (n : ℕ). is_unsplit_from p n x ≡ false) is (subst (λ (q : Params). is_unsplit_from q limit x ≡ false) plan none))
 
 -- where all is split from the limit on no visit is split
 stays_here : (p : Params) (stamp : Stamp) (x : Line) → (is_unsplit x ≡ true → due_of p (key_of x) < split_limit p stamp) → must_split p stamp x ≡ false

@@ -13,7 +13,7 @@ ghost use Rattle.cub_rules.specs.Ticks.{splitting, must_split, split_line, split
 ghost use Rattle.cub_walks.specs.Limits.{split_limit};
 ghost use Rattle.cub_walks.specs.Splitting.{with_split_of, sent_pieces, with_new};
 
-use crate::walking::{after, after_near};
+use crate::walking::after_near;
 use cub_rules::Store;
 use mirror_schedule::PieceView;
 use node_kit::{Out, Outbox, Site};
@@ -21,9 +21,10 @@ use partial_view::{Flag, Line};
 use slot_plan::Plan;
 use tiger_base::{Micros, Msg, NoMemory, PieceState, Rec, Stamp};
 
-/// If the predecessor is believed dead, splits the visit of each backup record that is due late enough and was not split
-/// yet: the first piece becomes the cub's own piece record, and the mirror states of the others go to the next cubs. The
-/// lines are walked only if some visit may be left to split.
+/// If the predecessor is believed dead, splits the visit of each backup record that is due late
+/// enough and was not split yet: the first piece becomes the cub's own piece record, and the mirror
+/// states of the others go to the next cubs. Only those lines are walked whose visit may be left to
+/// split.
 pub fn split<'a>(
     site: &Site,
     stamp: Stamp,
@@ -60,7 +61,8 @@ fn split_limit(plan: &Plan, stamp: Stamp) -> Micros
     stamp.reading + params.read_lead + params.skew + way + params.beat
 }
 
-/// Splits the visits of all lines.
+/// Splits the visits of all lines: the walk begins at the first line whose visit may be left to
+/// split.
 fn split_lines<'a>(
     site: &Site,
     stamp: Stamp,
@@ -75,9 +77,9 @@ fn split_lines<'a>(
     ensures outs { OnOk result (out.new ≡ out.old
         ++ flat_map (split_outs site.now.plan.params site.now.cub.0 stamp) store.old.view.lines) }
 {
-    let mut next = after(&store.view, None);
-    // The walk takes no line out: the line that it stands at is the one of this number.
-    let mut place: usize = 0;
+    let limit = split_limit(&site.plan, stamp);
+    // The walk takes no line out: the line that it stands at stays at its place.
+    let (mut place, mut next) = store.view.first_unsplit(limit);
     while let Some(line) = next {
         split_line(site, stamp, store, line, out)?;
         next = after_near(&store.view, place, line.key());

@@ -1,12 +1,16 @@
 use Rattle.std.proofs.Common.{refl, ◌∙◌}
+use Rattle.partial_view.specs.Pending.{is_unsplit_from}
 use Rattle.partial_view.proofs.Walks.{there, next_key, given_key}
 use Rattle.cub_rules.specs.State.{IsLineOf}
 use Rattle.cub_walks.proofs.Steps.{of_next}
 use Rattle.cub_walks.proofs.Splits.{split_begun, split_plan, split_view, split_fewer, split_on, split_store, split_sent}
+use Rattle.cub_walks.proofs.Unsplit.{unsplit_along}
 use Rattle.cub_walks.proofs.splitting.split_lines.Goals as goal
 
 pub loop-next-init : goal.loop-next-init
-loop-next-init c = split_begun c.after-next.ensures.walk c.after-next.ensures.next
+loop-next-init c =
+    split_begun (is_unsplit_from c.args.store.now.view.params c.split_limit-limit.result) c.first_unsplit-place.ensures.walk c.first_unsplit-place.ensures.begins
+    (unsplit_along c.args.site.now.plan.params c.args.stamp c.args.store.now.view c.split_limit-limit.result c.requires.stored.view_plan c.split_limit-limit.ensures)
 
 pub split_line-requires-clause-pieces : goal.split_line-requires-clause-pieces
 split_line-requires-clause-pieces c =
