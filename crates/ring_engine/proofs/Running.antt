@@ -16,8 +16,8 @@ use Rattle.node_kit.specs.Steps.{Input, Deed}
 use Rattle.run_facts.specs.declared.mail.Letter.{Letter}
 use Rattle.ring_engine.specs.Traffic.{collected, after_collecting, AreOpen}
 use Rattle.run_facts.specs.Rings.{Traffic, Ring, IsAt}
-use Rattle.run_facts.specs.Events.{NodeEvent, Past, after_all, AreFair, written}
-use Rattle.ring_engine.specs.Turns.{Scene, scene, happens, happen, turn, IsReady, IsReadyFor, KeepsReady}
+use Rattle.run_facts.specs.Events.{NodeEvent, Past, AreFair, written}
+use Rattle.ring_engine.specs.Turns.{Scene, scene, turn, IsReady, IsReadyFor, KeepsReady}
 use Rattle.run_facts.specs.Beats.{beat_events, opening_of, after_beat, after_beats}
 use Rattle.ring_engine.specs.Runs.{HasRun, HasEnded}
 use Rattle.node_kit.specs.Courses.{stamp_in}

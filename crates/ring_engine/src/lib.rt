@@ -5,10 +5,14 @@ mod delivery;
 mod events;
 mod gathering;
 mod mail;
+mod meeting;
 mod opening;
 mod run;
+mod samples;
 
+pub use meeting::Party;
 pub use run::run_plain;
+pub use samples::{Toy, toy_course, toys};
 
 #[cfg(test)]
 mod tests;

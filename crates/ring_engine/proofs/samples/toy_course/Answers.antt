@@ -2,7 +2,8 @@ use Rattle.std.proofs.Common.{◌≡◌, ℕ, ◌≤◌, List, [], ◌∷◌, le
 use Rattle.std.specs.Prelude.{All}
 use Rattle.std.specs.List.{AllByRecursion}
 use Rattle.std.proofs.lemmas.List.Elements.{All-nil, All-cons}
-use Rattle.ring_engine.proofs.tests.course.Goals as goal
+use Rattle.link_timing.specs.Clock.{FixedIsWithin}
+use Rattle.ring_engine.proofs.samples.toy_course.Goals as goal
 
 offsets : List ℕ
 offsets = 0 ∷ 300 ∷ 0 ∷ 0 ∷ 0 ∷ 0 ∷ 0 ∷ 0 ∷ 7 ∷ []
@@ -24,5 +25,5 @@ returns c =
       offsets = ap length given ∙ (let e = c.plan.ensures.cubs in omega (arith, e));
       skewed = subst (All (λ o. o ≤ c.plan.result.params.skew)) (sym given) (are_skewed c.plan.result.params.skew c.plan.ensures.skew);
       deaths = ap length (c.new-2.ensures ∙ c.in_ok-deaths.ensures.items) ∙ (let e = c.plan.ensures.cubs in omega (arith, e));
-      delay = (c.requires.low, (let e = c.plan.ensures.delay in let h = c.requires.high in omega (arith, e, h)));
+      delay = subst (FixedIsWithin c.args.delay) (sym c.plan.ensures.delay) c.requires.delay;
     }
