@@ -132,8 +132,9 @@ disk_is = refl
 abbrev r : Facts
 r = facts_in one_put
 
-plan : IsPlan small
-plan = record {
+-- With a heartbeat in each beat of a number up to 50 the small plan meets all conditions.
+pub beating_plan : (heart : ℕ) → 1 ≤ heart → heart ≤ 50 → IsPlan (record small { heart = heart })
+beating_plan heart some few = record {
   ranges = record {
     cubs = omega arith;
     disks = omega arith;
@@ -150,7 +151,7 @@ plan = record {
     min_lead = omega arith;
     max_lead = omega arith;
     batch = omega arith;
-    heart = omega arith;
+    heart = (some, omega (arith, few));
     deadman = omega arith;
     hold = omega arith;
   };
@@ -164,9 +165,12 @@ plan = record {
   c8 = omega arith;
   c9 = omega arith;
   c10 = omega arith;
-  c11 = omega arith;
+  c11 = omega (arith, few);
   c12 = omega arith;
 }
+
+plan : IsPlan small
+plan = beating_plan 50 (omega arith) (omega arith)
 
 -- What is in the run, one by one.
 came_in : IsIn (Came 0 1) one_put

@@ -14,46 +14,14 @@ use Rattle.proof_schedule.specs.StartLaws.{StartLaws, Comes}
 use Rattle.proof_schedule.specs.WatchLaws.{WatchLaws, IsSilence}
 use Rattle.proof_schedule.specs.Laws.{Laws}
 use Rattle.proof_schedule.specs.Logs.{Came, Ticked, Put, Inserted, Took, Shows, Sent, Got, Begun, Asked, AskedApart, Gone, StoppedAt, StoppedWaiting, Told, Reached, GotTag, GotBare, Passed, Died, Beat, Heard, Believed}
+use Rattle.proof_schedule.proofs.Example.{beating_plan}
 use Rattle.proof_schedule.proofs.Unstopped.{IsWithoutStops, no_stops, no_holds}
 use Rattle.proof_service.specs.Example.{plan, order, viewer, beats_of, heard_of, one_run}
 use Rattle.proof_service.proofs.ExampleLog.{IsState, IsUp, its, r, up, hears, few, beats_at, heard_at}
 
 -- The plan meets all conditions.
 pub plan_is : IsPlan plan
-plan_is = record {
-  ranges = record {
-    cubs = omega arith;
-    disks = omega arith;
-    slots = omega arith;
-    play = omega arith;
-    pieces = omega arith;
-    block = omega arith;
-    beat = omega arith;
-    delay = omega arith;
-    skew = omega arith;
-    window_a = omega arith;
-    window_b = omega arith;
-    read_lead = omega arith;
-    min_lead = omega arith;
-    max_lead = omega arith;
-    batch = omega arith;
-    heart = omega arith;
-    deadman = omega arith;
-    hold = omega arith;
-  };
-  c1 = omega arith;
-  c2 = omega arith;
-  c3 = omega arith;
-  c4 = omega arith;
-  c5 = omega arith;
-  c6 = omega arith;
-  c7 = omega arith;
-  c8 = omega arith;
-  c9 = omega arith;
-  c10 = omega arith;
-  c11 = omega arith;
-  c12 = omega arith;
-}
+plan_is = beating_plan 1 (omega arith) (omega arith)
 
 -- Times, due times, disks and cubs of the plan.
 pub time_is : (b : ℕ) → time_of plan b ≡ b * 10000
