@@ -22,7 +22,7 @@ use Rattle.schedule_laws.specs.Lives.{Lives, is_tick_input}
 use Rattle.schedule_laws.specs.Facts.{TickedAt}
 use Rattle.cub_changes.proofs.Beliefs.{not_true}
 use Rattle.cub_laws.proofs.Numbers.{piece_parts}
-use Rattle.schedule_laws.specs.Rings.{calm}
+use Rattle.schedule_laws.specs.Rings.{orders_alone}
 use Rattle.schedule_laws.proofs.Lines.{stays}
 use Rattle.schedule_laws.proofs.Members.{all_in}
 use Rattle.schedule_laws.proofs.Moves.{Stays}
@@ -143,7 +143,7 @@ module _ (p : Params) (lives : Lives) (cubs : AreCubs p lives) (disk_at : ℕ �
   entered_asked c b l t n e entered by here tick undue soon =
       let small = tick.small in
       let formed = states_formed p lives cubs c small in
-      let k = entered_did p cubs.plan lives cubs.lived formed (calm []) entered in
+      let k = entered_did p cubs.plan lives cubs.lived formed (orders_alone []) entered in
       let z : Rec = record { tenancy = t; visit = n; kind = k.0 } in
       let j : ℕ = k.1.at in
       let i : ℕ = tick.at in
@@ -157,7 +157,7 @@ module _ (p : Params) (lives : Lives) (cubs : AreCubs p lives) (disk_at : ℕ �
       ⊎_elim
       (λ s. inl (asked_by_tick c b l t n tick (own_stays c (suc i) t n k.0 small (omega arith) here s) soon))
       (λ m.
-      let g = left p cubs.plan lives cubs.lived formed (calm []) c j i b z small low (omega arith) (omega arith) m in
+      let g = left p cubs.plan lives cubs.lived formed (orders_alone []) c j i b z small low (omega arith) (omega arith) m in
       inr (inl (record { beat = g.beat; reached = g.reached; by = g.by })))
       (stays p c cubs.plan small (lives.input c) (suc i) j z (omega arith) k.1.did)
 

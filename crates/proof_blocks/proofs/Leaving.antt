@@ -13,7 +13,7 @@ use Rattle.node_kit.specs.Steps.Input.{Take, Tick}
 use Rattle.partial_view.specs.declared.line.Line.{Line}
 use Rattle.schedule_laws.specs.Lives.{In, Lives, outs_at, beat_at}
 use Rattle.schedule_laws.specs.Facts.{ReachedAt}
-use Rattle.schedule_laws.specs.Rings.{calm}
+use Rattle.schedule_laws.specs.Rings.{orders_alone}
 use Rattle.schedule_laws.proofs.Lines.{MayAt, stays}
 use Rattle.schedule_laws.proofs.Moves.{Stays, taken_out}
 use Rattle.schedule_laws.proofs.Order.{beats_rise}
@@ -84,7 +84,7 @@ module _ (p : Params) (lives : Lives) (cubs : AreCubs p lives) where
         beat = beat_at (lives.input c) d.at;
         arises = inl (
           refl,
-          entered_at p cubs.plan lives cubs.lived (states_formed p lives cubs c small) (calm []) c d.at t n Own small
+          entered_at p cubs.plan lives cubs.lived (states_formed p lives cubs c small) (orders_alone []) c d.at t n Own small
               (omega arith) taken,
         );
         by = omega arith;

@@ -20,7 +20,7 @@ use Rattle.cub_rules.specs.State.{IsStoreOf, IsLineOf, IsRecordOf}
 use Rattle.cub_laws.proofs.Walks.{forwarding_right}
 use Rattle.schedule_laws.specs.Lives.{In, Lives, IsLife, AreLives, AreFormed, store_at, outs_at, beat_at, reading_at}
 use Rattle.schedule_laws.specs.Facts.{TickedAt}
-use Rattle.schedule_laws.specs.Rings.{calm}
+use Rattle.schedule_laws.specs.Rings.{orders_alone}
 use Rattle.schedule_laws.proofs.Lines.{kept_at}
 use Rattle.schedule_laws.proofs.Members.{all_in}
 use Rattle.schedule_laws.proofs.Moves.{taken_out}
@@ -111,7 +111,7 @@ module _ (p : Params) (lives : Lives) (cubs : AreCubs p lives) (c : ℕ) (small 
       (cases_lt j at) in
       let k = taken_released p c cubs.plan small (lives.count c) (lives.input c) (cubs.formed c small) at j x.rec
       (omega arith) first d.taken s.stop in
-      let q = released_by p cubs.plan lives cubs.lived cubs.formed (calm []) c at j v
+      let q = released_by p cubs.plan lives cubs.lived cubs.formed (orders_alone []) c at j v
       (beat_at (lives.input c) at) small (omega arith) (omega arith) k in
       record { beat = q.beat; reached = q.reached; over = q.over }
 
@@ -136,7 +136,7 @@ module _ (p : Params) (lives : Lives) (cubs : AreCubs p lives) (c : ℕ) (small 
       record {
         beat = b - 1;
         reading = s.0.reading;
-        ticked = ticked p cubs.plan lives cubs.lived states_formed (calm []) c k (b - 1) s.0 small
+        ticked = ticked p cubs.plan lives cubs.lived states_formed (orders_alone []) c k (b - 1) s.0 small
             (omega arith) s.1 beat;
         next = omega arith;
         undue = early k s.0 s.1 from before;
@@ -175,7 +175,7 @@ module _ (p : Params) (lives : Lives) (cubs : AreCubs p lives) (c : ℕ) (small 
         beat = beat_at (lives.input c) d.at;
         arises = inl (
           refl,
-          entered_at p cubs.plan lives cubs.lived states_formed (calm []) c d.at t n Own small (omega arith)
+          entered_at p cubs.plan lives cubs.lived states_formed (orders_alone []) c d.at t n Own small (omega arith)
               (subst (λ (r : Rec). In (taken_out r) (outs_at p c (lives.input c) d.at)) same d.taken),
         );
         by = omega arith;

@@ -1,4 +1,4 @@
--- The laws of deschedules, from those for a ring in which nobody dies: a cub's own rules are the same.
+-- The laws of deschedules, from those over the facts of the cubs alone: a cub's own rules are the same.
 use Rattle.std.proofs.Common.{◌≡◌, ℕ, ◌<◌, List, Some, refl, sym, subst, ⊎_elim, inl, inr}
 use Rattle.tiger_base.specs.declared.number.Instance.{Instance}
 use Rattle.tiger_base.specs.declared.number.LinkNo.{LinkNo}
@@ -16,7 +16,7 @@ use Rattle.proof_schedule.specs.Facts.{Facts, PassedBy, GotTagBy, GotBareBy, IsR
 use Rattle.proof_schedule.specs.HoldLaws.{ForTag, ForRecord, ForState, IsPass, IsTold, HoldLaws}
 use Rattle.stops_laws.specs.StopFacts as stops
 use Rattle.stops_laws.specs.StopLaws as stop_laws
-use Rattle.schedule_laws.specs.Facts as calm
+use Rattle.schedule_laws.specs.Facts as own_facts
 use Rattle.schedule_laws.specs.Lives.{In, Lives, store_at, deed_of}
 use Rattle.schedule_laws.proofs.StateLaws.{inserted}
 use Rattle.schedule_laws.proofs.States.{tick_meek}
@@ -31,7 +31,7 @@ use Rattle.stops_held.proofs.Starting.{bare_ends}
 use Rattle.cub_facts.specs.Facts.{Beyond, facts_by}
 use Rattle.proof_cubs.specs.Setting.{Setting}
 
-module _ (p : Params) (lives : Lives) (beyond : Beyond) (set : Setting p lives beyond) (outside : calm.Outside)
+module _ (p : Params) (lives : Lives) (beyond : Beyond) (set : Setting p lives beyond) (outside : own_facts.Outside)
     (order : AreInOrder p lives outside) where
   abbrev R : Facts
   R = facts_by p lives beyond
@@ -39,8 +39,8 @@ module _ (p : Params) (lives : Lives) (beyond : Beyond) (set : Setting p lives b
   abbrev F : stops.StopFacts
   F = stop_facts_of p lives any_controller
 
-  -- ---- the same words over the facts of a ring in which nobody dies
-  released : {c v b : ℕ} → stops.IsReleasedBy p (calm.facts_of p lives outside) c v b → IsReleasedBy p R c v b
+  -- ---- the same words over the facts of the cubs alone
+  released : {c v b : ℕ} → stops.IsReleasedBy p (own_facts.facts_of p lives outside) c v b → IsReleasedBy p R c v b
   released k = record { beat = k.beat; reached = k.reached; over = k.over }
 
   passed : {c v b : ℕ} → stops.PassedBy F c v b → PassedBy R c v b
@@ -57,7 +57,7 @@ module _ (p : Params) (lives : Lives) (beyond : Beyond) (set : Setting p lives b
 
   -- A record by which a deschedule without a tag is passed on entered among the messages before it: one that was
   -- inserted was put before, since a start of its instance cannot come any more.
-  for_record : {c v s q y : ℕ} → stop_laws.ForRecord (calm.facts_of p lives outside) F c v s q y → ForRecord R c v s q y
+  for_record : {c v s q y : ℕ} → stop_laws.ForRecord (own_facts.facts_of p lives outside) F c v s q y → ForRecord R c v s q y
   for_record k = record {
     got = k.got;
     tenancy = k.tenancy;
@@ -75,7 +75,7 @@ module _ (p : Params) (lives : Lives) (beyond : Beyond) (set : Setting p lives b
     which = k.which;
   }
 
-  for_state : {c v s q y : ℕ} → stop_laws.ForState p (calm.facts_of p lives outside) F c v s q y
+  for_state : {c v s q y : ℕ} → stop_laws.ForState p (own_facts.facts_of p lives outside) F c v s q y
       → ForState p R c v s q y
   for_state k = record {
     tenancy = k.tenancy;
@@ -90,7 +90,7 @@ module _ (p : Params) (lives : Lives) (beyond : Beyond) (set : Setting p lives b
         k.unplaced;
   }
 
-  pass : {c v s q y : ℕ} → stop_laws.IsPass p (calm.facts_of p lives outside) F c v s q y → IsPass p R c v s q y
+  pass : {c v s q y : ℕ} → stop_laws.IsPass p (own_facts.facts_of p lives outside) F c v s q y → IsPass p R c v s q y
   pass k = record {
     at = k.at;
     reached = record { beat = k.reached.beat; reached = k.reached.reached; by = k.reached.by };

@@ -7,8 +7,8 @@ use Rattle.proof_schedule.specs.Facts.{Facts, ReachedBy, IsReleasedBy}
 use Rattle.proof_schedule.specs.StateLaws.{Found, Meeting, StateLaws}
 use Rattle.stops_laws.specs.StopFacts as stops
 use Rattle.stops_laws.specs.StopLaws as stop_laws
-use Rattle.schedule_laws.specs.Abstract as calm_facts
-use Rattle.schedule_laws.specs.Facts as calm
+use Rattle.schedule_laws.specs.Abstract as own_words
+use Rattle.schedule_laws.specs.Facts as own_facts
 use Rattle.schedule_laws.specs.Facts.{TickedAt}
 use Rattle.schedule_laws.specs.Lives.{Lives}
 use Rattle.schedule_laws.specs.Rings as rings
@@ -31,20 +31,20 @@ use Rattle.proof_cubs.proofs.Showing.{shows}
 use Rattle.proof_cubs.proofs.Waiting.{waits, waits_shown}
 use Rattle.proof_cubs.proofs.Watching.{watch_laws, watches}
 
-module _ (p : Params) (lives : Lives) (beyond : Beyond) (set : Setting p lives beyond) (outside : calm.Outside)
+module _ (p : Params) (lives : Lives) (beyond : Beyond) (set : Setting p lives beyond) (outside : own_facts.Outside)
     (order : AreInOrder p lives outside) where
   abbrev R : Facts
   R = facts_by p lives beyond
 
-  -- ---- the same words over the facts of a ring in which nobody dies
-  released : {c v b : ℕ} → stops.IsReleasedBy p (calm.facts_of p lives outside) c v b → IsReleasedBy p R c v b
+  -- ---- the same words over the facts of the cubs alone
+  released : {c v b : ℕ} → stops.IsReleasedBy p (own_facts.facts_of p lives outside) c v b → IsReleasedBy p R c v b
   released k = record { beat = k.beat; reached = k.reached; over = k.over }
 
-  reached : {c v b : ℕ} → calm_facts.ReachedBy (calm.facts_of p lives outside) c v b → ReachedBy R c v b
+  reached : {c v b : ℕ} → own_words.ReachedBy (own_facts.facts_of p lives outside) c v b → ReachedBy R c v b
   reached k = record { beat = k.beat; reached = k.reached; by = k.by }
 
   found : {c s n y from ahead sent : ℕ}
-      → stop_laws.Found p (calm.facts_of p lives outside) (stop_facts_of p lives any_controller) c s n y from ahead sent
+      → stop_laws.Found p (own_facts.facts_of p lives outside) (stop_facts_of p lives any_controller) c s n y from ahead sent
       → Found p R c s n y from ahead sent
   found k = record {
     holder = k.holder;
@@ -108,7 +108,7 @@ module _ (p : Params) (lives : Lives) (beyond : Beyond) (set : Setting p lives b
       }
 
 -- Whatever is known beyond the lives of cubs whose messages are in order, if it agrees with them, they meet the laws.
-pub cub_laws : (p : Params) (lives : Lives) (beyond : Beyond) (outside : calm.Outside) → IsPlan p
+pub cub_laws : (p : Params) (lives : Lives) (beyond : Beyond) (outside : own_facts.Outside) → IsPlan p
     → AreInOrder p lives outside → ((c b l : ℕ) → TickedAt p lives c b l → beyond.Came c b)
     → CubLaws p (facts_by p lives beyond)
 cub_laws p lives beyond outside plan order came =
@@ -118,5 +118,5 @@ cub_laws p lives beyond outside plan order came =
 
 pub cubs_meet : CubsMeetTheLaws
 cubs_meet p lives orders plan order =
-    cub_laws p lives (cubs_alone p lives) (rings.calm orders) plan order
+    cub_laws p lives (cubs_alone p lives) (rings.orders_alone orders) plan order
     (λ c b l w. record { reading = l; ticked = w })

@@ -18,9 +18,9 @@ use Rattle.cub_changes.specs.Laws.{IsListed, TellsOf, KeepsStart}
 use Rattle.cub_changes.proofs.Listing.{keep_starts}
 use Rattle.proof_schedule.specs.Facts.{Facts, ReachedBy}
 use Rattle.proof_schedule.specs.StartLaws.{IsPlacedBy}
-use Rattle.schedule_laws.specs.Abstract as calm_facts
-use Rattle.schedule_laws.specs.Laws as calm_laws
-use Rattle.schedule_laws.specs.Facts as calm
+use Rattle.schedule_laws.specs.Abstract as own_words
+use Rattle.schedule_laws.specs.Laws as own_laws
+use Rattle.schedule_laws.specs.Facts as own_facts
 use Rattle.schedule_laws.specs.Lives.{Lives, deed_of, store_at, outs_at, beat_at}
 use Rattle.schedule_laws.proofs.Members.{chosen, in_right}
 use Rattle.schedule_laws.proofs.Inserting.{put_out}
@@ -72,7 +72,7 @@ start_queued p c stamp link a redundant h e none =
     (λ t. absurd (no_both t none)) (λ _. inl (in_right a h.starts.waiting (a ∷ []) (inl refl))))))
 
 module _ (p : Params) (lives : Lives) (beyond : Beyond) (set : Setting p lives beyond)
-    (outside : calm.Outside) (order : AreInOrder p lives outside) where
+    (outside : own_facts.Outside) (order : AreInOrder p lives outside) where
   abbrev R : Facts
   R = facts_by p lives beyond
 
@@ -80,11 +80,11 @@ module _ (p : Params) (lives : Lives) (beyond : Beyond) (set : Setting p lives b
   abbrev pub IsOut : ℕ → ℕ → ℕ → Type 0
   IsOut c v b = IsPlacedBy R c v b ⊎ ReachedBy R c v b
 
-  -- The same in the facts of a calm ring.
+  -- The same in the facts of the cubs alone.
   abbrev pub WasOut : ℕ → ℕ → ℕ → Type 0
   WasOut c v b =
-      calm_laws.IsPlacedBy (calm.facts_of p lives outside) c v b
-      ⊎ calm_facts.ReachedBy (calm.facts_of p lives outside) c v b
+      own_laws.IsPlacedBy (own_facts.facts_of p lives outside) c v b
+      ⊎ own_words.ReachedBy (own_facts.facts_of p lives outside) c v b
 
   -- And it is the same.
   pub out_of : {c v b : ℕ} → WasOut c v b → IsOut c v b

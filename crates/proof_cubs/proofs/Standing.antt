@@ -13,7 +13,7 @@ use Rattle.partial_view.specs.declared.line.Line.{Line}
 use Rattle.proof_schedule.specs.Facts.{Facts, IsReleasedBy, Entered}
 use Rattle.proof_schedule.specs.RunLaws.{IsTick}
 use Rattle.proof_schedule.specs.StateLaws.{Stands}
-use Rattle.schedule_laws.specs.Facts as calm
+use Rattle.schedule_laws.specs.Facts as own_facts
 use Rattle.schedule_laws.specs.Facts.{TickedAt, DidAt, TookAt, InsertedAt, TookMessage, ReachedAt}
 use Rattle.schedule_laws.specs.Lives.{In, Lives, store_at, outs_at, is_tick_input, beat_at}
 use Rattle.schedule_laws.proofs.Moves.{taken_out}
@@ -26,8 +26,8 @@ use Rattle.stops_held.proofs.Standing.{taken_released, standing}
 use Rattle.cub_facts.specs.Facts.{Beyond, facts_by}
 use Rattle.proof_cubs.specs.Setting.{Setting}
 
--- Nothing is known outside the cubs: laws of a calm ring are cited that ask for nothing there.
-abbrev pub nothing_outside : calm.Outside
+-- Nothing is known outside the cubs: laws are cited that ask for nothing there.
+abbrev pub nothing_outside : own_facts.Outside
 nothing_outside = record { Ordered = λ ask. ⊥; Gone = λ v b. ⊥; Died = λ c b. ⊥ }
 
 module _ (p : Params) (lives : Lives) (beyond : Beyond) (set : Setting p lives beyond) where

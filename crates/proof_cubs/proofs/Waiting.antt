@@ -17,7 +17,7 @@ use Rattle.cub_rules.specs.Ticks.{inserting}
 use Rattle.proof_schedule.specs.Facts.{Facts, BelievedBy}
 use Rattle.proof_schedule.specs.StateLaws.{Stands}
 use Rattle.proof_schedule.specs.StartLaws.{IsInWindow, Waits}
-use Rattle.schedule_laws.specs.Facts as calm
+use Rattle.schedule_laws.specs.Facts as own_facts
 use Rattle.schedule_laws.specs.Facts.{TickedAt, TookMessage}
 use Rattle.schedule_laws.specs.Lives.{In, Lives, deed_of, store_at, is_tick_input, beat_at}
 use Rattle.schedule_laws.proofs.Members.{in_left, in_right}
@@ -52,7 +52,7 @@ before_queued p c stamp h a k = ⊎_elim
     (before_starts p c stamp h)
 
 module _ (p : Params) (lives : Lives) (beyond : Beyond) (set : Setting p lives beyond)
-    (outside : calm.Outside) (order : AreInOrder p lives outside) where
+    (outside : own_facts.Outside) (order : AreInOrder p lives outside) where
   abbrev R : Facts
   R = facts_by p lives beyond
 

@@ -25,7 +25,7 @@ use Rattle.cub_changes.proofs.Messages.{taking_by}
 use Rattle.proof_schedule.specs.Facts.{Facts, BelievedBy}
 use Rattle.proof_schedule.specs.WatchLaws.{IsSilence, WatchLaws}
 use Rattle.proof_service.specs.ServiceLaws.{HeardTill}
-use Rattle.schedule_laws.specs.Facts as calm
+use Rattle.schedule_laws.specs.Facts as own_facts
 use Rattle.schedule_laws.specs.Facts.{TickedAt}
 use Rattle.schedule_laws.specs.Lives.{In, Lives, deed_of, store_at, beat_at}
 use Rattle.schedule_laws.proofs.Order.{beats_rise}
@@ -129,12 +129,12 @@ module _ (p : Params) (lives : Lives) (beyond : Beyond) (set : Setting p lives b
   R = facts_by p lives beyond
 
   -- A cub that wrote its belief found its predecessor silent.
-  believed_there : {c b : ℕ} → WroteBelief p lives c b → calm.BelievedAt p lives c b
+  believed_there : {c b : ℕ} → WroteBelief p lives c b → own_facts.BelievedAt p lives c b
   believed_there {c} {b} w =
       let d = w.did in
       let k = written_at p c (store_at p c (lives.input c) d.at) (lives.input c d.at) w.cub d.did in
       let ticked = ticked_there p lives beyond set c d.at k.stamp d.small d.done k.is in
-      subst (λ n. calm.BelievedAt p lives c n) d.in_beat
+      subst (λ n. own_facts.BelievedAt p lives c n) d.in_beat
       (record { reading = k.stamp.reading; ticked = ticked; silent = k.silent })
 
   silent : {c b : ℕ} → WroteBelief p lives c b → IsSilence p R c b

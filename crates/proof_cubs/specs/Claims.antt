@@ -4,7 +4,7 @@ use Rattle.slot_plan.specs.declared.params.Params.{Params}
 use Rattle.slot_plan.specs.Conditions.{IsPlan}
 use Rattle.node_kit.specs.declared.course.Order.{Order}
 use Rattle.schedule_laws.specs.Lives.{Lives}
-use Rattle.schedule_laws.specs.Rings.{calm}
+use Rattle.schedule_laws.specs.Rings.{orders_alone}
 use Rattle.stops_held.specs.InOrder.{AreInOrder}
 use Rattle.cub_facts.specs.Facts.{facts_by, cubs_alone}
 use Rattle.cub_facts.specs.Laws.{CubLaws}
@@ -13,5 +13,5 @@ use Rattle.cub_facts.specs.Laws.{CubLaws}
 -- starts, heartbeats and deschedules.
 abbrev pub CubsMeetTheLaws : Type 0
 CubsMeetTheLaws = (p : Params) (lives : Lives) (orders : List Order)
-    → IsPlan p → AreInOrder p lives (calm orders)
+    → IsPlan p → AreInOrder p lives (orders_alone orders)
     → CubLaws p (facts_by p lives (cubs_alone p lives))

@@ -10,7 +10,7 @@ use Rattle.run_facts.specs.Histories.{History}
 use Rattle.disk_core.specs.State.{DiskState}
 use Rattle.schedule_laws.specs.Facts.{TickedAt}
 use Rattle.schedule_laws.specs.Lives.{AreLives}
-use Rattle.schedule_laws.specs.Rings.{calm}
+use Rattle.schedule_laws.specs.Rings.{orders_alone}
 use Rattle.stops_laws.specs.HoldsHere.{AreAllFormed}
 use Rattle.stops_held.specs.InOrder.{AreInOrder}
 use Rattle.proof_schedule.specs.Facts.{Facts}
@@ -45,14 +45,14 @@ use Rattle.proof_histories.proofs.Gathering.{IsPiece, laws_of, piece_laws_of, se
 
 module _ {S : Type 0} (step : S → Input Msg → Deed Msg S) (p : Params) (orders : List Order) (disk_at : ℕ → DiskState) (h : History Msg S)
     (plan : IsPlan p) (ring : IsRingHistory step p orders disk_at h) where
-  pub in_order : AreInOrder p (lives_of h) (calm orders)
+  pub in_order : AreInOrder p (lives_of h) (orders_alone orders)
   in_order = messages_come_in_order S step p orders disk_at h plan ring
 
   pub ring_laws : RingLaws p (facts_of p orders h)
   ring_laws = links_meet_the_laws S step p orders disk_at h plan ring
 
   pub cubs_laws : CubLaws p (facts_of p orders h)
-  cubs_laws = cub_laws p (lives_of h) (beyond_of p orders h) (calm orders) plan in_order (λ c b l w. came plan ring w)
+  cubs_laws = cub_laws p (lives_of h) (beyond_of p orders h) (orders_alone orders) plan in_order (λ c b l w. came plan ring w)
 
   pub laws : Laws p (facts_of p orders h)
   laws = laws_of p (facts_of p orders h) ring_laws cubs_laws

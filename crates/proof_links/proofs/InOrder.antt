@@ -19,7 +19,7 @@ use Rattle.run_facts.specs.Histories.{History, living, takes}
 use Rattle.disk_core.specs.State.{DiskState}
 use Rattle.schedule_laws.specs.Lives.{In, is_tick_input, store_at, outs_at, beat_at, Lives}
 use Rattle.schedule_laws.specs.Histories.{input_of}
-use Rattle.schedule_laws.specs.Rings.{calm}
+use Rattle.schedule_laws.specs.Rings.{orders_alone}
 use Rattle.schedule_laws.proofs.Order as order
 use Rattle.schedule_laws.proofs.States.{state_at_tick, state_way}
 use Rattle.stops_laws.specs.HoldsHere.{AreAllFormed}
@@ -118,7 +118,7 @@ module _ {S : Type 0} {step : S → Input Msg → Deed Msg S} {p : Params} {orde
       }
 
   -- What cubs take is in form and in order.
-  pub in_order : AreInOrder p lives (calm orders)
+  pub in_order : AreInOrder p lives (orders_alone orders)
   in_order = record {
     lived = lived plan ring;
     started = are_starts plan ring;

@@ -29,7 +29,7 @@ use Rattle.controller_core.specs.Orders.{orders_in}
 use Rattle.controller_core.specs.Rules.{starts, commanding}
 use Rattle.schedule_laws.specs.Lives.{In, Lives}
 use Rattle.schedule_laws.specs.Facts.{AreStarts}
-use Rattle.schedule_laws.specs.Rings.{calm}
+use Rattle.schedule_laws.specs.Rings.{orders_alone}
 use Rattle.schedule_laws.proofs.Carrying.{count_rises, same_ends}
 use Rattle.controller_facts.specs.Controllers.{controller, command, known_at, IsOrdered}
 use Rattle.controller_facts.specs.Stops.{tag_at}
@@ -330,7 +330,7 @@ module _ {S : Type 0} {step : S → Input Msg → Deed Msg S} {p : Params} {orde
       same_number c j k c s t l m (msg.Start a x) (msg.Start b y) small low high e f one.own two.own numbers
 
   -- The starts that cubs get are those of the orders.
-  pub are_starts : AreStarts p lives (calm orders)
+  pub are_starts : AreStarts p lives (orders_alone orders)
   are_starts = record {
     one_start = one_start;
     ordered = λ c i s l a x small low e.

@@ -7,7 +7,7 @@ use Rattle.node_kit.specs.declared.course.Order.{Order}
 use Rattle.node_kit.specs.Steps.{Deed, Input}
 use Rattle.run_facts.specs.Histories.{History}
 use Rattle.disk_core.specs.State.{DiskState}
-use Rattle.schedule_laws.specs.Rings.{calm}
+use Rattle.schedule_laws.specs.Rings.{orders_alone}
 use Rattle.stops_held.specs.InOrder.{AreInOrder}
 use Rattle.cub_facts.specs.Carried.{CubsAreTold, DisksAnswer}
 use Rattle.cub_facts.specs.Facts.{facts_of}
@@ -29,7 +29,7 @@ abbrev pub MessagesComeInOrder : (S : Type 0) → Type 0
 MessagesComeInOrder S = (step : S → Input Msg → Deed Msg S) (p : Params) (orders : List Order)
     (disk_at : ℕ → DiskState) (h : History Msg S)
     → IsPlan p → IsRingHistory step p orders disk_at h
-    → AreInOrder p (lives_of h) (calm orders)
+    → AreInOrder p (lives_of h) (orders_alone orders)
 
 -- What a cub sends another comes in time, and in the order in which it was sent; what comes from a
 -- cub was sent by it.

@@ -8,16 +8,14 @@ use Rattle.std.proofs.Math.Nat.{mod-eq_of_lt, add-mod_left, add-mod_right, mod-a
 use Rattle.tiger_base.specs.declared.number.LinkNo.{LinkNo}
 use Rattle.tiger_base.specs.declared.number.Stamp.{Stamp}
 use Rattle.tiger_base.specs.declared.message.Msg.{Msg}
-use Rattle.tiger_base.specs.declared.message.Msg.TheVariants as msg
 use Rattle.tiger_base.specs.Notes.{noted}
 use Rattle.slot_plan.specs.declared.params.Params.{Params}
 use Rattle.slot_plan.specs.Conditions.{IsPlan}
 use Rattle.slot_plan.specs.Times.{cub_of}
 use Rattle.node_kit.specs.declared.outbox.Out.{Out}
 use Rattle.node_kit.specs.declared.outbox.Out.TheVariants as out
-use Rattle.node_kit.specs.Form.{is_in_form}
 use Rattle.node_kit.specs.Links.{links_of, ends_of}
-use Rattle.node_kit.specs.Steps.{Deed, Input, IsAllowed, stamp_of}
+use Rattle.node_kit.specs.Steps.{Deed, Input, stamp_of}
 use Rattle.node_kit.specs.Steps.Input.{Take, Tick}
 use Rattle.node_kit.proofs.Ring.{ends_between}
 use Rattle.node_kit.specs.Ways.{way_ahead, predecessor}
@@ -26,10 +24,9 @@ use Rattle.run_facts.specs.Events.{NodeEvent, Dated, stamp_at, is_tick, is_death
 use Rattle.run_facts.specs.Events.NodeEvent.{Does, Dies}
 use Rattle.run_facts.specs.Histories.{History, IsRun, outs, beat, takes, count_of}
 use Rattle.run_facts.proofs.Counts.{sent-numbered}
-use Rattle.schedule_laws.specs.Lives.{In, AreFormed, is_tick_input}
-use Rattle.schedule_laws.specs.Facts.{Outside}
-use Rattle.schedule_laws.specs.Histories.{input_of, lives_of, IsLivingHistory}
-use Rattle.schedule_laws.proofs.Members.{chosen, all_in}
+use Rattle.schedule_laws.specs.Lives.{In, is_tick_input}
+use Rattle.schedule_laws.specs.Histories.{input_of}
+use Rattle.schedule_laws.proofs.Members.{chosen}
 
 -- an event and what befell the node in it
 pub stamp_same : (e : NodeEvent Msg) → stamp_at e ≡ stamp_of (input_of e)
@@ -180,21 +177,3 @@ module _ {S : Type 0} (step : S → Input Msg → Deed Msg S) (p : Params) (node
       let later = k.later in
       let soon = k.soon in
       record { from = k.from; known = k.known; at = s.at; done = s.before; way = r.0; same = r.1; sent = r.2; ends = k.ends; later = omega arith; soon = omega arith }
-
-module _ {S : Type 0} (step : S → Input Msg → Deed Msg S) (p : Params) (plan : IsPlan p) (nodes : ℕ) (h : History Msg S) (living : IsLivingHistory step p nodes h) (outside : Outside) where
-  pub event_is : (c i : ℕ) → c < p.cubs → i < h.count c → h.event c i ≡ Does ((lives_of h).input c i)
-  event_is c i small low = let wide = living.all_cubs in does_it (h.event c i) (living.alive c i (omega arith) low)
-
-  -- who sent what a cub took
-  pub came : (c i : ℕ) (stamp : Stamp) (link : LinkNo) (m : Msg) → c < p.cubs → i < h.count c → (lives_of h).input c i ≡ Take stamp link m → CameFrom step p nodes h living.run c i stamp.beat link m
-  came c i stamp link m small low e =
-      let wide = living.all_cubs in
-      came_to step p nodes h living.run c i stamp link m (omega arith) low (event_is c i small low ∙ ap (λ (x : Input Msg). Does x) e)
-
-  pub formed_at : (n i : ℕ) (link : LinkNo) (m : Msg) → n < nodes → i < h.count n → In (out.Send link m) (outs noted step h n i) → is_in_form p (noted m) ≡ true
-  formed_at n i link m known low k = (all_in (IsAllowed noted p n) (out.Send link m) (outs noted step h n i) (living.run.fair n i known low) k).1
-
-  pub formed : AreFormed p (lives_of h)
-  formed c i stamp link s small low e =
-      let f = came c i stamp link (msg.ViewerState s) small low e in
-      formed_at f.from f.at f.way (msg.ViewerState s) f.known f.done f.sent

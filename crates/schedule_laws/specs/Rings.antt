@@ -1,4 +1,4 @@
--- Cubs in a ring without stops and deaths: what the links and the orders give them, and that there is one schedule then.
+-- What a cub's own rules give of records, starts and silence, whatever befalls it.
 use Rattle.std.specs.Prelude.{◌≡◌, ℕ, ◌%◌, List}
 use Rattle.slot_plan.specs.declared.params.Params.{Params}
 use Rattle.slot_plan.specs.Conditions.{IsPlan}
@@ -9,9 +9,9 @@ use Rattle.schedule_laws.specs.Laws.{StateLaws, StartLaws, IsSilence}
 use Rattle.schedule_laws.specs.Lives.{In, Lives, AreLives, AreFormed}
 use Rattle.schedule_laws.specs.Facts.{Outside, AreStarts, facts_of}
 
--- outside the cubs there are these orders, and no stops and no deaths
-abbrev pub calm : List Order → Outside
-calm orders = record {
+-- outside the cubs nothing is known but these orders: no stop and no death
+abbrev pub orders_alone : List Order → Outside
+orders_alone orders = record {
   Ordered = λ ask. (beat : ℕ) × In (record { beat = beat; what = kind.Begin ask }) orders;
   Gone = λ v b. ⊥;
   Died = λ c b. ⊥;
@@ -27,5 +27,5 @@ pub record MeetTheLaws (p : Params) (r : Facts) : Type 0 where
 
 -- whatever befalls cubs that have lives, and whose states and starts are as those of a ring, they meet the laws
 abbrev pub CubsMeetTheLaws : Type 0
-CubsMeetTheLaws = (p : Params) (lives : Lives) (orders : List Order) → IsPlan p → AreLives p lives → AreFormed p lives → AreStarts p lives (calm orders)
-    → MeetTheLaws p (facts_of p lives (calm orders))
+CubsMeetTheLaws = (p : Params) (lives : Lives) (orders : List Order) → IsPlan p → AreLives p lives → AreFormed p lives → AreStarts p lives (orders_alone orders)
+    → MeetTheLaws p (facts_of p lives (orders_alone orders))

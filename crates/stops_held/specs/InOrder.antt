@@ -14,7 +14,7 @@ use Rattle.node_kit.specs.declared.course.Order.{Order}
 use Rattle.node_kit.specs.Steps.Input.{Take}
 use Rattle.schedule_laws.specs.Lives.{Lives, AreLives}
 use Rattle.schedule_laws.specs.Facts.{SentAt, Outside, AreStarts, facts_of}
-use Rattle.schedule_laws.specs.Rings.{calm}
+use Rattle.schedule_laws.specs.Rings.{orders_alone}
 use Rattle.stops_laws.specs.StopLaws.{HeldLaws}
 use Rattle.stops_laws.specs.HoldsHere.{AreAllFormed, any_controller}
 use Rattle.stops_laws.specs.StopFactsOf.{ToldAt, Controller, stop_facts_of}
@@ -62,4 +62,4 @@ MeetTheHeldLaws p lives outside controller = IsPlan p → AreInOrder p lives out
 
 -- whatever befalls cubs whose messages are in order
 abbrev pub CubsMeetTheHeldLaws : Type 0
-CubsMeetTheHeldLaws = (p : Params) (lives : Lives) (orders : List Order) → MeetTheHeldLaws p lives (calm orders) any_controller
+CubsMeetTheHeldLaws = (p : Params) (lives : Lives) (orders : List Order) → MeetTheHeldLaws p lives (orders_alone orders) any_controller

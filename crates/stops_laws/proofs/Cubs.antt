@@ -8,7 +8,7 @@ use Rattle.slot_plan.specs.declared.params.Params.{Params}
 use Rattle.slot_plan.specs.Conditions.{IsPlan}
 use Rattle.schedule_laws.specs.Facts.{TookMessage, Outside, facts_of}
 use Rattle.schedule_laws.specs.Lives.{Lives, AreLives}
-use Rattle.schedule_laws.specs.Rings.{calm}
+use Rattle.schedule_laws.specs.Rings.{orders_alone}
 use Rattle.stops_laws.specs.StopLaws.{HoldLaws}
 use Rattle.stops_laws.specs.HoldsHere.{AreAllFormed, any_controller, CubsHold}
 use Rattle.stops_laws.specs.StopFactsOf.{GotTagAt, GotBareAt, Controller, stop_facts_of}
@@ -40,4 +40,4 @@ module _ (p : Params) (plan : IsPlan p) (lives : Lives) (are : AreLives p lives)
   }
 
 pub cubs_hold : CubsHold
-cubs_hold p lives orders plan are formed = hold_laws p plan lives are formed (calm orders) any_controller
+cubs_hold p lives orders plan are formed = hold_laws p plan lives are formed (orders_alone orders) any_controller

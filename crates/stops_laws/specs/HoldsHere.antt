@@ -12,7 +12,7 @@ use Rattle.node_kit.specs.Steps.{Input}
 use Rattle.node_kit.specs.Steps.Input.{Take}
 use Rattle.schedule_laws.specs.Facts.{facts_of}
 use Rattle.schedule_laws.specs.Lives.{Lives, AreLives}
-use Rattle.schedule_laws.specs.Rings.{calm}
+use Rattle.schedule_laws.specs.Rings.{orders_alone}
 use Rattle.stops_laws.specs.StopLaws.{HoldLaws}
 use Rattle.stops_laws.specs.StopFactsOf.{Controller, stop_facts_of}
 
@@ -30,4 +30,4 @@ any_controller = record { StoppedAt = λ v s n b. ⊥; StoppedWaiting = λ v d b
 -- whatever befalls cubs whose messages are in form, they meet the laws of holding
 abbrev pub CubsHold : Type 0
 CubsHold = (p : Params) (lives : Lives) (orders : List Order) → IsPlan p → AreLives p lives → AreAllFormed p lives
-    → HoldLaws p (facts_of p lives (calm orders)) (stop_facts_of p lives any_controller)
+    → HoldLaws p (facts_of p lives (orders_alone orders)) (stop_facts_of p lives any_controller)
