@@ -1,0 +1,161 @@
+//! What a world answers to an event, and what can be seen of it, as text.
+
+use node_kit::{Gate, LinkTable, What};
+use ring_machine::{Channel, StepError};
+use ring_world::{Act, Event, StepFault};
+use slot_plan::Plan;
+use std::alloc::{AllocError, Global};
+use tiger_base::{LinkNo, Msg, NodeNo};
+use world::World;
+
+/// Answers an event: `done`, the world's mark, and the links on which the node sent; `refused`, the
+/// mark, and the cause; or `not asked`, if the world has no such beat, link, node or cub.
+pub fn answer<'a, G: Gate>(
+    alloc: Global,
+    plan: &Plan,
+    world: &mut World<'a, G>,
+    event: Event,
+    answers: &mut String,
+) -> Result<(), AllocError> {
+    if !world.may_be_asked(event) {
+        return answers.push_str("not asked\n");
+    }
+    let node = receiver(plan, event.act);
+    let written = entry_count(world, node);
+    let stepped = world.step(alloc, event);
+    let mark = mark_of(plan, world);
+    match stepped {
+        Ok(()) => {
+            write!(answers, "done {mark}")?;
+            push_sent(world, node, written, answers)?;
+        }
+        Err(error) => {
+            write!(answers, "refused {mark} ")?;
+            push_cause(error, answers)?;
+        }
+    }
+    answers.push_str("\n")
+}
+
+/// The node to which a link leads, that ticks, or that dies.
+fn receiver(plan: &Plan, act: Act) -> NodeNo {
+    match act {
+        Act::Get { link, .. } => match LinkTable::new(plan).ends(link) {
+            Some((_, to)) => to,
+            None => NodeNo(0),
+        },
+        Act::Tick(node) => node,
+        Act::Die(cub) => NodeNo(cub.0),
+    }
+}
+
+/// How many entries the journal of a node has.
+fn entry_count<'a, G: Gate>(world: &World<'a, G>, node: NodeNo) -> usize {
+    match world.journal(node) {
+        Some(journal) => journal.as_slice().len(),
+        None => 0,
+    }
+}
+
+/// Adds the link of each message that a node sent behind so many entries of its journal.
+fn push_sent<'a, G: Gate>(
+    world: &World<'a, G>,
+    node: NodeNo,
+    written: usize,
+    answers: &mut String,
+) -> Result<(), AllocError> {
+    let Some(journal) = world.journal(node) else {
+        return Ok(());
+    };
+    for entry in journal.as_slice().iter().skip(written) {
+        if let What::Sent(link, _) = entry.what {
+            write!(answers, " {}", link.0)?;
+        }
+    }
+    Ok(())
+}
+
+/// Adds why no step was made: the name and the numbers of the fault.
+fn push_cause(error: StepError, answers: &mut String) -> Result<(), AllocError> {
+    match error {
+        StepError::Spoilt => answers.push_str("Spoilt"),
+        StepError::NoMemory => answers.push_str("NoMemory"),
+        StepError::Fault(fault) => push_fault(fault, answers),
+    }
+}
+
+fn push_fault(fault: StepFault, answers: &mut String) -> Result<(), AllocError> {
+    match fault {
+        StepFault::WrongBeat { now } => write!(answers, "WrongBeat {now}"),
+        StepFault::TickMissed { node } => write!(answers, "TickMissed {}", node.0),
+        StepFault::Dead { cub } => write!(answers, "Dead {}", cub.0),
+        StepFault::Ticked { node } => write!(answers, "Ticked {}", node.0),
+        StepFault::ReadingOff { reading } => write!(answers, "ReadingOff {reading}"),
+        StepFault::NotNext { link } => write!(answers, "NotNext {}", link.0),
+        StepFault::TooEarly { sent } => write!(answers, "TooEarly {sent}"),
+        StepFault::TooLate { link, sent } => write!(answers, "TooLate {} {sent}", link.0),
+        StepFault::NeighbourDead { cub } => write!(answers, "NeighbourDead {}", cub.0),
+    }
+}
+
+/// A checksum of what can be seen of a world: its beat, how many events happened, how long each journal
+/// is, how many messages were taken from each link, and when the oldest there was sent. If one of these
+/// numbers changes, so does the checksum.
+pub fn mark_of<'a, G: Gate>(plan: &Plan, world: &World<'a, G>) -> u64 {
+    let links = LinkTable::new(plan);
+    let mut mark = mixed(world.beat(), world.events().len() as u64);
+    for node in 0..links.nodes() {
+        mark = mixed(mark, entry_count(world, NodeNo(node)) as u64);
+    }
+    for link in 0..links.count() {
+        if let Some(channel) = world.channel(LinkNo(link)) {
+            mark = mixed(mixed(mark, channel.taken()), oldest_in(channel));
+        }
+    }
+    mark
+}
+
+/// One more than the beat in which the oldest message under way was sent; 0 if none is.
+fn oldest_in<'a>(channel: &Channel<Msg<'a>>) -> u64 {
+    match channel.oldest() {
+        Some(posted) => posted.sent().saturating_add(1),
+        None => 0,
+    }
+}
+
+/// A mark with one number more.
+fn mixed(mark: u64, number: u64) -> u64 {
+    (mark ^ number)
+        .wrapping_mul(0x9e3779b97f4a7c15)
+        .rotate_left(29)
+}
+
+/// Adds the world's events as the lines that ask for them, and then each link: how many messages were
+/// taken from it, and one more than the beat in which the oldest under way was sent, or 0.
+pub fn show<'a, G: Gate>(
+    plan: &Plan,
+    world: &World<'a, G>,
+    answers: &mut String,
+) -> Result<(), AllocError> {
+    for event in world.events() {
+        push_event(*event, answers)?;
+    }
+    for link in 0..LinkTable::new(plan).count() {
+        if let Some(channel) = world.channel(LinkNo(link)) {
+            writeln!(answers, "link {} {}", channel.taken(), oldest_in(channel))?;
+        }
+    }
+    Ok(())
+}
+
+fn push_event(event: Event, answers: &mut String) -> Result<(), AllocError> {
+    let beat = event.stamp.beat;
+    let reading = event.stamp.reading;
+    match event.act {
+        Act::Get { link, number } => {
+            writeln!(answers, "get {beat} {reading} {} {number}", link.0)
+        }
+        Act::Tick(node) => writeln!(answers, "tick {beat} {reading} {}", node.0),
+        Act::Die(cub) => writeln!(answers, "die {beat} {reading} {}", cub.0),
+    }
+}
