@@ -1,4 +1,5 @@
-"""What a step of a world costs, beside an event of the program's run, for runs of one length, of twice and of four times it.
+"""What a step of a world costs beside an event of the program's run, for runs of one length, of
+twice and of four times it.
 
 Python 3.8 or later, and nothing but its standard library.
 """
@@ -10,9 +11,10 @@ import tempfile
 
 ROUNDS = 3
 # The small plan of docs/formats.md, and one for a ring of 64 cubs.
-SMALL = {"cubs": 8, "disks": 1, "slots": 16, "play": 1000000, "pieces": 2, "block": 4, "beat": 10000, "delay": 2,
-         "skew": 4000, "window_a": 800000, "window_b": 200000, "read_lead": 100000, "min_lead": 3000000,
-         "max_lead": 4000000, "batch": 20, "heart": 50, "deadman": 1000000, "hold": 3000000}
+SMALL = {"cubs": 8, "disks": 1, "slots": 16, "play": 1000000, "pieces": 2, "block": 4,
+         "beat": 10000, "delay": 2, "skew": 4000, "window_a": 800000, "window_b": 200000,
+         "read_lead": 100000, "min_lead": 3000000, "max_lead": 4000000, "batch": 20, "heart": 50,
+         "deadman": 1000000, "hold": 3000000}
 LARGE = dict(SMALL, cubs=64, disks=2, slots=256, delay=1)
 LOADS = ((SMALL, 8000), (LARGE, 500))
 
@@ -20,8 +22,9 @@ LOADS = ((SMALL, 8000), (LARGE, 500))
 def scenario_of(plan, beats):
     """A viewer for each cub, and as many beats; each message takes one."""
     starts = [{"beat": beat, "start": 0} for beat in range(plan["cubs"])]
-    return json.dumps({"plan": plan, "beats": beats, "links": {"fixed": 1}, "files": [{"name": "file", "disk": 0}],
-                       "events": starts}, separators=(",", ":"))
+    return json.dumps({"plan": plan, "beats": beats, "links": {"fixed": 1},
+                       "files": [{"name": "file", "disk": 0}], "events": starts},
+                      separators=(",", ":"))
 
 
 def used_by(command, text, folder):
@@ -29,13 +32,15 @@ def used_by(command, text, folder):
     least = float("inf")
     for _ in range(ROUNDS):
         before = resource.getrusage(resource.RUSAGE_CHILDREN).ru_utime
-        ran = subprocess.run(command, cwd=folder, input=text.encode(), stdout=subprocess.PIPE, check=True)
+        ran = subprocess.run(command, cwd=folder, input=text.encode(), stdout=subprocess.PIPE,
+                             check=True)
         least = min(least, resource.getrusage(resource.RUSAGE_CHILDREN).ru_utime - before)
     return least, ran.stdout.decode()
 
 
 def measure(stepper, tiger, plan, beats, folder):
-    """The events of so many beats, and the user time in microseconds of a step of a world and of an event of a run."""
+    """The events of so many beats, and the user time in microseconds of a step of a world and of an
+    event of a run."""
     scenario = scenario_of(plan, beats)
     with open(os.path.join(folder, "scenario"), "w", encoding="utf-8") as file:
         file.write(scenario)
@@ -56,7 +61,7 @@ def tell(stepper, tiger):
             for times in (1, 2, 4):
                 events, step, of_run = measure(stepper, tiger, plan, beats * times, folder)
                 beside = f", of a run {of_run:.2f} us, {step / of_run:.1f} times" if of_run else ""
-                print(f"{nodes} nodes, {beats * times} beats, {events} events: a step of a world {step:.2f} us{beside}",
-                      flush=True)
+                print(f"{nodes} nodes, {beats * times} beats, {events} events: "
+                      f"a step of a world {step:.2f} us{beside}", flush=True)
     if tiger is None:
         print("hostile: the program `tiger` is not there, so a step of a world is measured alone")

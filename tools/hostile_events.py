@@ -1,7 +1,8 @@
-"""Draws what happens to a ring of nodes in a beat: events that may happen, at the bounds wherever one is near, and among
-them events that may not.
+"""Draws what happens to a ring of nodes in a beat: events that may happen, at the bounds wherever one
+is near, and among them events that may not.
 
-What is drawn is a guess, since it is not known what a node sends in the beat: ring_model.py judges each event.
+What is drawn is a guess, since it is not known what a node sends in the beat: ring_model.py judges
+each event.
 
 Python 3.8 or later, and nothing but its standard library.
 """
@@ -22,7 +23,8 @@ class Beat:
     def draw(self):
         """The events of the beat, in their order."""
         dying = self.draw_dying()
-        acts = {node: self.acts_of(node, node in dying) for node in range(self.ring.nodes) if not self.ring.dead[node]}
+        acts = {node: self.acts_of(node, node in dying)
+                for node in range(self.ring.nodes) if not self.ring.dead[node]}
         order = list(acts)
         self.rng.shuffle(order)
         if self.rng.random() < 0.5:  # else one node after another
@@ -43,7 +45,8 @@ class Beat:
         ring, rng, dying = self.ring, self.rng, set()
         if rng.random() > 3 / ring.beats:
             return dying
-        near = [other for cub in range(ring.cubs) if ring.dead[cub] for other in ring.beside(cub, 2)]
+        dead = [cub for cub in range(ring.cubs) if ring.dead[cub]]
+        near = [other for cub in dead for other in ring.beside(cub, 2)]
         late = [cub for cub in range(ring.cubs) if ring.may_not_tick(self.beat, cub)]
         ends = [0, 1, ring.cubs - 2, ring.cubs - 1]
         cubs = rng.choice((near, late, ends, range(ring.cubs)))
@@ -53,7 +56,8 @@ class Beat:
         return dying
 
     def acts_of(self, node, dies):
-        """What a node does in the beat: it takes all that would be too late, and more or less of the rest, and ticks."""
+        """What a node does in the beat: it takes all that would be too late, more or less of the
+        rest, and ticks."""
         if dies:
             return [("die", node)]
         ring, rng = self.ring, self.rng
@@ -80,8 +84,9 @@ class Beat:
     def event(self, act, reading):
         """The event of an act: a message has the number of the next one on its link."""
         kind, number = act
-        behind = (self.taken[number],) if kind == "get" and number < len(self.taken) else (0,) if kind == "get" else ()
-        return (kind, self.beat, reading, number, *behind)
+        if kind != "get":
+            return (kind, self.beat, reading, number)
+        return (kind, self.beat, reading, number, self.taken[number] if number < len(self.taken) else 0)
 
     def add(self, node, act):
         """Adds an event that may happen."""
@@ -96,8 +101,8 @@ class Beat:
             self.ticked.add(node)
 
     def draw_foe(self, node, act):
-        """Adds an event that may not happen, beside the one that comes next: one number moved over a bound, or another
-        act. Now and then its reading is off too, so that two faults hold of it."""
+        """Adds an event that may not happen, beside the one that comes next: one number moved over a
+        bound, or another act. Now and then its reading is off too, so that two faults hold of it."""
         foe = self.rng.choice(FOES)(self, node, act)
         if foe is None:
             return
@@ -125,12 +130,14 @@ class Beat:
 def beat_off(draws, node, act):
     """One beat below the ring's, or one too far."""
     event = draws.event(act, draws.draw_reading(node))
-    beat = draws.rng.choice((draws.beat - 1, draws.beat + 2, draws.beat + 1 + draws.rng.randint(1, 9)))
+    far = draws.beat + 1 + draws.rng.randint(1, 9)
+    beat = draws.rng.choice((draws.beat - 1, draws.beat + 2, far))
     return draws.at_beat(event, max(0, beat))
 
 
 def beat_soon(draws, node, act):
-    """In the next beat, while this one is not over: the event that comes next, or one of a node that has ticked."""
+    """In the next beat, while this one is not over: the event that comes next, or one of a node that
+    has ticked."""
     ticked = draws.some_node(draws.ticked)
     if ticked is not None and draws.rng.random() < 0.7:
         node, act = ticked, ("tick", ticked)
@@ -145,31 +152,39 @@ def of_the_dead(draws, _node, _act):
 
 def behind_tick(draws, _node, _act):
     """An event of a node behind its tick, or the death of a cub behind another event."""
-    acted = draws.some_node({cub for cub in draws.acted if cub < draws.ring.cubs and cub not in draws.ticked})
+    acted = draws.some_node({cub for cub in draws.acted - draws.ticked if cub < draws.ring.cubs})
     if acted is not None and draws.rng.random() < 0.7:
         return draws.event(("die", acted), draws.draw_reading(acted))
     ticked = draws.some_node(draws.ticked)
-    return None if ticked is None else draws.event(draws.some_act(ticked), draws.draw_reading(ticked))
+    if ticked is None:
+        return None
+    return draws.event(draws.some_act(ticked), draws.draw_reading(ticked))
 
 
 def reading_off(draws, node, act):
     """One microsecond over a bound of its reading."""
+    least = (draws.time, draws.reading[node])
     readings = [draws.high + 1]
-    readings += [reading - 1 for reading in (draws.time, draws.reading[node]) if reading >= max(1, draws.time)]
+    readings += [reading - 1 for reading in least if reading >= max(1, draws.time)]
     return draws.event(act, draws.rng.choice(readings))
 
 
 def number_off(draws, node, _act):
-    """The message in front of the next one on a link, the one behind it, or one where none is under way."""
+    """The message in front of the next one on a link, the one behind it, or one where none is under
+    way."""
     link = draws.rng.choice(draws.ring.into[node] or [0])
     number = max(0, draws.taken[link] + draws.rng.choice((-1, 1, 1)))
     return ("get", draws.beat, draws.draw_reading(draws.ring.links[link][1]), link, number)
 
 
 def too_early(draws, node, _act):
-    """The next message of a link on which all was taken that was sent in beats below, from a node that has ticked."""
-    links = [link for link in draws.ring.into[node] if not draws.left[link] and draws.ring.links[link][0] in draws.ticked]
-    return draws.event(("get", draws.rng.choice(links)), draws.draw_reading(node)) if links else None
+    """The next message of a link on which all was taken that was sent in beats below, from a node
+    that has ticked."""
+    links = [link for link in draws.ring.into[node]
+             if not draws.left[link] and draws.ring.links[link][0] in draws.ticked]
+    if not links:
+        return None
+    return draws.event(("get", draws.rng.choice(links)), draws.draw_reading(node))
 
 
 def too_late(draws, node, _act):
@@ -178,7 +193,8 @@ def too_late(draws, node, _act):
 
 
 def beside_the_dead(draws, _node, _act):
-    """The death of a neighbour of a dead cub, one that has had no event in the beat if there is one."""
+    """The death of a neighbour of a dead cub, one that has had no event in the beat if there is
+    one."""
     ring = draws.ring
     cubs = {other for cub in range(ring.cubs) if ring.dead[cub] for other in ring.beside(cub, 1)}
     cub = draws.some_node(cubs - draws.acted or cubs)
@@ -189,10 +205,11 @@ def none_of_the_ring(draws, node, act):
     """One over the highest link, node, cub or beat."""
     ring = draws.ring
     reading = draws.draw_reading(node)
-    return draws.rng.choice((draws.event(("get", len(ring.links)), reading), draws.event(("tick", ring.nodes), reading),
+    return draws.rng.choice((draws.event(("get", len(ring.links)), reading),
+                             draws.event(("tick", ring.nodes), reading),
                              draws.event(("die", ring.cubs), reading),
                              draws.at_beat(draws.event(act, reading), ring.beats)))
 
 
-FOES = (beat_off, beat_soon, of_the_dead, behind_tick, reading_off, number_off, too_early, too_late, beside_the_dead,
-        none_of_the_ring)
+FOES = (beat_off, beat_soon, of_the_dead, behind_tick, reading_off, number_off, too_early, too_late,
+        beside_the_dead, none_of_the_ring)

@@ -1,16 +1,19 @@
 """Which events may happen to a ring of nodes, and why one may not.
 
-This is docs/definitions.md, "A ring as a machine", and docs/formats.md, "Nodes and links", once more: it shares nothing
-with the program that it judges. It does not know what a node does. So what an event sent is told to it.
+This is docs/definitions.md, "A ring as a machine", and docs/formats.md, "Nodes and links", once
+more: it shares nothing with the program that it judges. It does not know what a node does, so it is
+told on which links an event sent.
 
 Python 3.8 or later, and nothing but its standard library.
 """
 from collections import deque
 
-FAULTS = ("WrongBeat", "TickMissed", "Dead", "Ticked", "ReadingOff", "NotNext", "TooEarly", "TooLate", "NeighbourDead")
+FAULTS = ("WrongBeat", "TickMissed", "Dead", "Ticked", "ReadingOff", "NotNext", "TooEarly", "TooLate",
+          "NeighbourDead")
 NOT_ASKED = "not asked"
 
-# What an accepted event meets exactly: one step further, and there would be a fault, or no such event.
+# What an accepted event meets exactly: one step further, and there would be a fault, or no such
+# event.
 NEXT_BEAT = "in the next beat, in which no node has had an event"
 LAST_TICK = "the last tick that a beat waits for"
 LAST_BEAT = "in the last beat of the world"
@@ -33,8 +36,8 @@ DIES_LATE = "a death with a message that would be too late for a tick"
 DIES_BESIDE = "a death two cubs from a dead one"
 DIES_ROUND = "a death two cubs from a dead one, across the end of the ring"
 BOUNDS = (NEXT_BEAT, LAST_TICK, LAST_BEAT, LAST_NODE, LAST_CUB, TRUE_TIME, MOST_SKEW, SAME_READING,
-          FIRST_NUMBER, SECOND_IN_BEAT, EARLIEST, LATEST, NOT_YET_LATE, LINKS_UP, LINKS_DOWN, OF_THE_DEAD, DIES_AT_ONCE,
-          DIES_FIRST, DIES_LATE, DIES_BESIDE, DIES_ROUND)
+          FIRST_NUMBER, SECOND_IN_BEAT, EARLIEST, LATEST, NOT_YET_LATE, LINKS_UP, LINKS_DOWN,
+          OF_THE_DEAD, DIES_AT_ONCE, DIES_FIRST, DIES_LATE, DIES_BESIDE, DIES_ROUND)
 
 
 def links_of(cubs, disks, reach):
@@ -50,12 +53,12 @@ def links_of(cubs, disks, reach):
 
 
 class Ring:
-    """A ring to which events happen: an event is ("get", beat, reading, link, number), ("tick", beat, reading, node) or
-    ("die", beat, reading, cub)."""
+    """A ring to which events happen: an event is ("get", beat, reading, link, number),
+    ("tick", beat, reading, node) or ("die", beat, reading, cub)."""
 
     def __init__(self, plan, beats):
-        self.beats, self.length, self.delay, self.skew = beats, plan["beat"], plan["delay"], plan["skew"]
-        self.cubs = plan["cubs"]
+        self.beats, self.cubs = beats, plan["cubs"]
+        self.length, self.delay, self.skew = plan["beat"], plan["delay"], plan["skew"]
         self.links = links_of(self.cubs, self.cubs * plan["disks"], max(2, plan["pieces"]))
         self.nodes = self.cubs * (1 + plan["disks"]) + 2
         self.into = [[] for _ in range(self.nodes)]
@@ -69,7 +72,7 @@ class Ring:
         self.took_on = [None] * self.nodes           # and the link of the last message that it took
         self.dead = [False] * self.nodes
         self.taken = [0] * len(self.links)           # how many messages were taken from each link
-        self.under_way = [deque() for _ in self.links]  # the beats in which those were sent that were not
+        self.under_way = [deque() for _ in self.links]  # when those were sent that were not taken
 
     def node_of(self, event):
         """The node to which an event happens; None if there is no such node, link or cub."""
@@ -79,7 +82,8 @@ class Ring:
         return number if number < (self.nodes if kind == "tick" else self.cubs) else None
 
     def cause(self, event):
-        """Why an event may not happen: the first fault with its numbers, or that it is none of the ring; else None."""
+        """Why an event may not happen: the first fault with its numbers, or that it is none of the
+        ring; else None."""
         kind, beat, reading = event[:3]
         node = self.node_of(event)
         if node is None or beat >= self.beats:
@@ -87,7 +91,8 @@ class Ring:
         if beat != self.beat and beat != self.beat + 1:
             return f"WrongBeat {self.beat}"
         if beat == self.beat + 1 and self.waits_for:
-            missing = next(n for n in range(self.nodes) if not self.dead[n] and self.ticked[n] != self.beat)
+            missing = next(other for other in range(self.nodes)
+                           if not self.dead[other] and self.ticked[other] != self.beat)
             return f"TickMissed {missing}"
         if self.dead[node]:
             return f"Dead {node}"
@@ -179,7 +184,8 @@ class Ring:
         """The bounds of a tick."""
         if beat == self.beat and self.waits_for == 1:
             yield LAST_TICK
-        if any(queue and queue[0] + self.delay == beat + 1 for queue in map(self.under_way.__getitem__, self.into[node])):
+        oldest = [self.under_way[link][0] for link in self.into[node] if self.under_way[link]]
+        if any(sent + self.delay == beat + 1 for sent in oldest):
             yield NOT_YET_LATE
 
     def met_by_die(self, beat, cub, _number):

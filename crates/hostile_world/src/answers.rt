@@ -98,9 +98,9 @@ fn push_fault(fault: StepFault, answers: &mut String) -> Result<(), AllocError> 
     }
 }
 
-/// A checksum of what can be seen of a world: its beat, how many events happened, how long each journal
-/// is, how many messages were taken from each link, and when the oldest there was sent. If one of these
-/// numbers changes, so does the checksum.
+/// A world's mark, a checksum of what can be seen of it: its beat, how many events happened, how long
+/// each journal is, how many messages were taken from each link, and when the oldest there was sent.
+/// If one of these numbers changes, so does the mark.
 pub fn mark_of<'a, G: Gate>(plan: &Plan, world: &World<'a, G>) -> u64 {
     let links = LinkTable::new(plan);
     let mut mark = mixed(world.beat(), world.events().len() as u64);
@@ -130,8 +130,8 @@ fn mixed(mark: u64, number: u64) -> u64 {
         .rotate_left(29)
 }
 
-/// Adds the world's events as the lines that ask for them, and then each link: how many messages were
-/// taken from it, and one more than the beat in which the oldest under way was sent, or 0.
+/// Adds the world's events as the lines that ask for them, and then each link: how many messages
+/// were taken from it, and one more than the beat in which the oldest under way was sent, or 0.
 pub fn show<'a, G: Gate>(
     plan: &Plan,
     world: &World<'a, G>,

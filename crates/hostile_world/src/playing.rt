@@ -7,7 +7,8 @@ use std::alloc::{AllocError, Global};
 use tiger_base::{Beat, LinkNo, NodeNo, Stamp};
 use world::World;
 
-/// Plays from the world's beat on to a beat, without that, and answers with the number of all events.
+/// Plays from the world's beat up to another one, without that, and answers with the number of all
+/// events.
 pub fn play<'a, G: Gate>(
     alloc: Global,
     plan: &Plan,

@@ -14,8 +14,8 @@ use slot_plan::Plan;
 use std::alloc::Global;
 use world::World;
 
-/// Reads on to the next line that asks for a world; false if the input ended before. Other commands have
-/// no answer there.
+/// Reads on to the next line that asks for a world; false if the input ended before. To other commands
+/// it answers that there is none.
 pub fn wait_for_world<'r, R: Input + Print>(console: &mut Console<'r, R>) -> Result<bool, Stop> {
     for _ in 0..u64::MAX {
         if !console.next_line()? {
@@ -30,8 +30,8 @@ pub fn wait_for_world<'r, R: Input + Print>(console: &mut Console<'r, R>) -> Res
     Ok(false)
 }
 
-/// Serves the world of the line that was read last. Ends at the next line that asks for one; false if the
-/// input ended before.
+/// Serves the world of the line that was read last. Ends at the next line that asks for one; false if
+/// the input ended before.
 pub fn serve_world<'r, R: Input + Print>(
     alloc: Global,
     console: &mut Console<'r, R>,
@@ -78,8 +78,8 @@ fn live<'r, R: Input + Print>(
     converse(alloc, &course.plan, &mut world, console)
 }
 
-/// Answers what is asked of a world. Ends at a line that asks for the next one; false if the input ended
-/// before.
+/// Answers what is asked of a world. Ends at a line that asks for the next one; false if the input
+/// ended before.
 fn converse<'r, 'a, R: Input + Print, G: Gate>(
     alloc: Global,
     plan: &Plan,
