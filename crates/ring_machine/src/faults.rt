@@ -87,8 +87,10 @@ fn late_on<M>(
     ensures { result ≡ (if leads_to node.0 (ends_of links.now link.0)
         then late_in link.0 plan.now.params.delay beat channel.now.under_way else None) }
 {
+    // Few links have a message that is late for any tick, so that is asked first.
+    let late = channel.late_fault(link, plan.params.delay, beat)?;
     match links.ends(link) {
-        Some((_, to)) if to == node => channel.late_fault(link, plan.params.delay, beat),
+        Some((_, to)) if to == node => Some(late),
         _ => None,
     }
 }
