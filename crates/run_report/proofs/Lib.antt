@@ -5,3 +5,4 @@ pub mod Forms
 pub mod Settled
 pub mod Came
 pub mod Counts
+pub mod Known

@@ -1,9 +1,11 @@
 -- The digests of what the viewers got.
-use Rattle.std.specs.Prelude.{ℕ, Bool, true, false, List, [], take, drop, map, slice_get, unwrap_or, if◌then◌else◌}
+use Rattle.std.specs.Prelude.{◌≡◌, ◌&&◌, ℕ, Bool, true, false, List, [], length, take, drop, map, slice_get, unwrap_or, if◌then◌else◌}
+use Rattle.std.specs.Bool.{beq}
 use Rattle.std.specs.List.{flat_map}
 use Rattle.sha2.specs.Sha256.{sha256}
 use Rattle.tiger_base.specs.declared.part.Span.{Span}
 use Rattle.node_kit.specs.declared.course.Digest32.{Digest32}
+use Rattle.run_model.specs.Tests.{same_span}
 use Rattle.run_report.specs.declared.outcome.BlockKind.{BlockKind}
 use Rattle.run_report.specs.declared.outcome.BlockKind.TheVariants as kind
 use Rattle.run_report.specs.declared.outcome.BlockOut.{BlockOut}
@@ -34,3 +36,21 @@ digest_of library o = record { 0 = sha256 (got_bytes library o.blocks) }
 -- the digests of all starts
 unfoldable pub digests_of : List (List ℕ) → List Outcome → List Digest32
 digests_of library outcomes = map (digest_of library) outcomes
+
+-- whether two blocks were got and have the same span, or neither was got
+abbrev pub is_same_block : BlockOut → BlockOut → Bool
+is_same_block a b = beq (is_got a.kind) (is_got b.kind) && same_span a.span b.span
+
+-- the same bytes were got of these blocks, whatever the library is
+abbrev pub AreSameBytes : List BlockOut → List BlockOut → Type 0
+AreSameBytes xs ys = (library : List (List ℕ)) → got_bytes library xs ≡ got_bytes library ys
+
+-- these are the digests of the first starts
+abbrev pub AreDigests : List (List ℕ) → List Outcome → List Digest32 → Type 0
+AreDigests library outcomes digests =
+    digests ≡ map (digest_of library) (take (length digests) outcomes)
+
+-- a digest is that of a start, whatever library the digests of the first starts are of
+abbrev pub IsKnownDigest : List Outcome → List Digest32 → Outcome → Digest32 → Type 0
+IsKnownDigest outcomes digests o digest =
+    (library : List (List ℕ)) → AreDigests library outcomes digests → digest ≡ digest_of library o

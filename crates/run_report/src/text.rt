@@ -1,8 +1,9 @@
 //! The lines of a report.
-ghost use Rattle.std.specs.Prelude.{◌≡◌, ◌++◌, ◌<◌, ◌^◌, OnOk, IfOk, string_bytes, length, slice_get};
+ghost use Rattle.std.specs.Prelude.{◌≡◌, ◌++◌, ◌<◌, ◌^◌, OnOk, IfOk, string_bytes, length};
 ghost use Rattle.std.specs.List.{flat_map};
 ghost use Rattle.run_report.specs.Text.{spaced, reason_text, kind_text, block_line, start_line, stop_line, counts_text, digest_text, end_line, ending_lines, outcome_lines, total_line, outcomes_text, size_line, tally_of, bytes_of, total_tally, all_placed, Fits, BytesFit};
 
+use crate::digest::digest_at;
 use crate::outcome::{BlockKind, BlockOut, Outcome, Reason};
 use crate::tally::{Tally, bytes_of};
 use node_kit::Digest32;
@@ -118,13 +119,6 @@ fn push_end(
     text.push_str("\n")
 }
 
-/// The digest of an instance, where there is one.
-fn digest_at(digests: &[Digest32], v: Instance) -> Option<Digest32>
-    ensures { result ≡ slice_get digests.now v.0 }
-{
-    digests.get(v.0 as usize).copied()
-}
-
 /// The last lines of a start: its stop, if there was one, and its counts.
 fn push_ending(
     alloc: Global,
@@ -139,7 +133,7 @@ fn push_ending(
 {
     let v = out.ask.instance;
     push_stop(text, v, out.stop)?;
-    let digest = digest_at(digests, v);
+    let digest = digest_at(digests, v.0 as usize);
     push_end(alloc, text, v, out.blocks.as_slice(), &digest)
 }
 
