@@ -1,153 +1,18 @@
 //! Runs of toy nodes by workers: they write what one thread writes, and two workers do work at the same time.
-ghost use Rattle.std.specs.Prelude.{◌≡◌, ℕ, ◌+◌, ◌≤◌, ◌∷◌, [], ◌++◌, ⊤, IfOk, OnOk, Some, vec_len, slice_get};
-ghost use Rattle.std.specs.Bool.{OnTrue};
-ghost use Rattle.std.specs.Option.{ForSome, option_map_or};
-ghost use Rattle.tiger_base.specs.Limits.{most_beats};
-ghost use Rattle.tiger_base.specs.declared.message.Msg.{Msg};
-ghost use Rattle.tiger_base.specs.declared.message.Msg.TheVariants.{Heartbeat};
-ghost use Rattle.link_timing.specs.Clock.{FixedIsWithin};
-ghost use Rattle.node_kit.specs.declared.outbox.Out.TheVariants.{Send};
-ghost use Rattle.node_kit.specs.Links.{IsOutLink, ends_of, viewers_of};
-ghost use Rattle.node_kit.specs.Steps.{Deed, Input, Rests};
-ghost use Rattle.node_kit.specs.Steps.Input.{Take, Tick};
+ghost use Rattle.std.specs.Prelude.{◌≡◌, ◌+◌, ◌≤◌, [], ⊤, IfOk, vec_len};
+ghost use Rattle.node_kit.specs.Links.{viewers_of};
 ghost use Rattle.node_kit.specs.Courses.{IsCourse};
-ghost use Rattle.ring_workers.specs.declared.tests.Toy.{Toy};
 
 use super::*;
 use crate::working::order_of_visits;
 use link_timing::Delay;
-use node_kit::{Course, Journal, LinkTable, Node, Out, Outbox, Ran};
-use ring_engine::run_plain;
-use slot_plan::{Plan, small_plan};
+use node_kit::{Course, Journal, LinkTable, Node, Outbox};
+use ring_engine::{Party, Toy, run_plain, toy_course, toys};
 use std::alloc::Global;
 use std::sync::Wait;
-use std::sync::atomic::{AtomicU64, Ordering};
 use std::test::Fail;
 use std::thread::Threads;
-use std::{hint, thread};
-use tiger_base::{Beat, LinkNo, Msg, NoMemory, NodeNo, Sequence, Stamp};
-
-/// A node that sends a heartbeat at each tick, and one at each message that it takes, if it has links for them.
-#[derive(Drop)]
-struct Toy {
-    out: Option<LinkNo>,
-    relay: Option<LinkNo>,
-}
-
-fn beat_on<'a>(link: Option<LinkNo>, out: &mut Outbox<Msg<'a>>) -> Result<(), NoMemory>
-    ensures { OnOk result (out.new ≡ out.old ++ option_map_or (λ l. Send l Heartbeat ∷ []) link []) }
-{
-    match link {
-        Some(link) => out.push(Out::Send(link, Msg::Heartbeat)),
-        None => Ok(()),
-    }
-}
-
-impl<'a> Node<Msg<'a>> for Toy {
-    ghost step = { λ s i. elim i as (λ _. Deed Msg Toy) [
-      | Take stamp link msg ↦ record { outs = option_map_or (λ l. Send l Heartbeat ∷ []) s.relay []; state = s }
-      | Tick stamp ↦ record { outs = option_map_or (λ l. Send l Heartbeat ∷ []) s.out []; state = s }
-    ] };
-
-    ghost stands_at = { λ s p n. ForSome s.out (λ l. IsOutLink p n l.0) × ForSome s.relay (λ l. IsOutLink p n l.0) };
-
-    fn rests(&self, _stamp: Stamp) -> bool
-        ensures { OnTrue result (Rests (λ (s : Toy) (i : Input Msg). elim i as (λ _. Deed Msg Toy) [
-          | Take stamp link msg ↦ record { outs = option_map_or (λ l. Send l Heartbeat ∷ []) s.relay []; state = s }
-          | Tick stamp ↦ record { outs = option_map_or (λ l. Send l Heartbeat ∷ []) s.out []; state = s }
-        ]) _stamp self.now) }
-    {
-        false
-    }
-
-    fn take(
-        &mut self,
-        _stamp: Stamp,
-        _link: LinkNo,
-        _msg: Msg<'a>,
-        out: &mut Outbox<Msg<'a>>,
-    ) -> Result<(), NoMemory> {
-        beat_on(self.relay, out)
-    }
-
-    fn tick(&mut self, _stamp: Stamp, out: &mut Outbox<Msg<'a>>) -> Result<(), NoMemory> {
-        beat_on(self.out, out)
-    }
-}
-
-fn plan() -> Plan
-    ensures cubs { result.params.cubs ≡ 8 }
-    ensures skew { result.params.skew ≡ 4000 }
-    ensures delay { result.params.delay ≡ 2 }
-{
-    small_plan()
-}
-
-/// The clock of cub 1 is 300 ahead; cub 2 dies in this beat, if in any.
-fn course(alloc: Global, beats: u64, delay: Delay, death: Option<Beat>) -> Result<Course, NoMemory>
-    requires beats { beats ≤ most_beats }
-    requires delay { FixedIsWithin delay 2 }
-    ensures { IfOk result IsCourse }
-{
-    let offsets: Vec<u64> = vec![in alloc; 0, 300, 0, 0, 0, 0, 0, 0, 7]?;
-    let deaths: Vec<Option<Beat>> = vec![in alloc;
-        None, None, death, None, None, None, None, None,
-    ]?;
-    Ok(Course {
-        plan: plan(),
-        beats,
-        offsets: Sequence::new(offsets),
-        deaths: Sequence::new(deaths),
-        faults: Sequence::new(Vec::new(alloc)),
-        delay,
-    })
-}
-
-/// Cub 0 and the controller are to send to cub 1, and cub 1 to cub 2; what cub 1 takes it passes on to cub 2, and cub 2
-/// to cub 3.
-fn toy_at(links: &LinkTable, node: NodeNo) -> Toy
-    ensures out { ForSome result.out (λ l. (to : ℕ) × (ends_of links.now l.0 ≡ Some (node.0, to))) }
-    ensures relay { ForSome result.relay (λ l. (to : ℕ) × (ends_of links.now l.0 ≡ Some (node.0, to))) }
-{
-    Toy {
-        out: out_of(links, node),
-        relay: relay_of(links, node),
-    }
-}
-
-fn out_of(links: &LinkTable, node: NodeNo) -> Option<LinkNo>
-    ensures { ForSome result (λ l. (to : ℕ) × (ends_of links.now l.0 ≡ Some (node.0, to))) }
-{
-    match node.0 {
-        0 => links.link(node, NodeNo(1)),
-        1 => links.link(node, NodeNo(2)),
-        16 => links.link(node, NodeNo(1)),
-        _ => None,
-    }
-}
-
-fn relay_of(links: &LinkTable, node: NodeNo) -> Option<LinkNo>
-    ensures { ForSome result (λ l. (to : ℕ) × (ends_of links.now l.0 ≡ Some (node.0, to))) }
-{
-    match node.0 {
-        1 => links.link(node, NodeNo(2)),
-        2 => links.link(node, NodeNo(3)),
-        _ => None,
-    }
-}
-
-fn toys(alloc: Global, links: &LinkTable) -> Result<Vec<Toy>, NoMemory>
-    ensures count { IfOk result (λ r. vec_len r ≡ viewers_of links.now + 1) }
-    ensures stand { IfOk result (λ r. (n : ℕ) (s : Toy) → slice_get r.items n ≡ Some s
-        → ForSome s.out (λ l. (to : ℕ) × (ends_of links.now l.0 ≡ Some (n, to)))
-        × ForSome s.relay (λ l. (to : ℕ) × (ends_of links.now l.0 ≡ Some (n, to)))) }
-{
-    let mut toys = Vec::new(alloc);
-    for node in 0..links.nodes() {
-        toys.push(toy_at(links, NodeNo(node)))?;
-    }
-    Ok(toys)
-}
+use tiger_base::{Beat, LinkNo, Msg, NoMemory, Sequence, Stamp};
 
 /// What the toys write on one thread.
 fn plain_journals(alloc: Global, course: &Course) -> Result<Sequence<Journal>, NoMemory>
@@ -231,7 +96,7 @@ fn all_agree<R: Threads + Wait + Sync>(
 #[test]
 fn workers_write_what_one_thread_writes(rt: HostRuntime) -> Result<(), Fail> {
     let alloc = rt.alloc();
-    let course = course(alloc, 20, Delay::Fixed(1), Some(12))?;
+    let course = toy_course(alloc, 20, Delay::Fixed(1), Some(12))?;
     assert!(rt; all_agree(&rt, alloc, &course)?);
     Ok(())
 }
@@ -240,7 +105,7 @@ fn workers_write_what_one_thread_writes(rt: HostRuntime) -> Result<(), Fail> {
 #[test]
 fn so_they_do_with_a_longer_delay(rt: HostRuntime) -> Result<(), Fail> {
     let alloc = rt.alloc();
-    let course = course(alloc, 9, Delay::Fixed(2), Some(4))?;
+    let course = toy_course(alloc, 9, Delay::Fixed(2), Some(4))?;
     assert!(rt; all_agree(&rt, alloc, &course)?);
     Ok(())
 }
@@ -249,7 +114,7 @@ fn so_they_do_with_a_longer_delay(rt: HostRuntime) -> Result<(), Fail> {
 #[test]
 fn so_they_do_with_drawn_delays(rt: HostRuntime) -> Result<(), Fail> {
     let alloc = rt.alloc();
-    let course = course(alloc, 60, Delay::Drawn(7), None)?;
+    let course = toy_course(alloc, 60, Delay::Drawn(7), None)?;
     assert!(rt; all_agree(&rt, alloc, &course)?);
     Ok(())
 }
@@ -331,45 +196,29 @@ fn run_told<G: Watch + Sync, R: Threads + Wait + Sync>(
 }
 
 /// How often a hold looks whether it may end.
-const TURNS: u64 = 2000000;
+const LOOKS: u64 = 2000000;
 
 /// Holds the tick of disk 0 in beat 5 until disk 1 has ticked in beat `other`; if `both`, it holds that tick of disk 1
-/// too, until disk 0 has come to its own. It counts the holds that ended well, and not by their last turn.
+/// too, until disk 0 has come to its own.
 #[derive(Drop)]
 struct Meeting {
     other: Beat,
     both: bool,
-    first_came: AtomicU64,
-    second_came: AtomicU64,
-    first_met: AtomicU64,
-    second_met: AtomicU64,
-}
-
-fn hold(came: &AtomicU64, met: &AtomicU64) {
-    for turn in 0..TURNS {
-        if came.load(Ordering::SeqCst) == 1 {
-            met.store(1, Ordering::SeqCst);
-            return;
-        }
-        if turn % 1000 == 999 {
-            thread::yield_now();
-        } else {
-            hint::spin_loop();
-        }
-    }
+    first: Party,
+    second: Party,
 }
 
 impl Watch for Meeting {
     fn ticked(&self, node: u32, beat: Beat) {
         if node == 9 && beat == self.other {
-            self.second_came.store(1, Ordering::SeqCst);
+            self.second.come();
             if self.both {
-                hold(&self.first_came, &self.second_met);
+                self.second.wait_for(&self.first, LOOKS);
             }
         }
         if node == 8 && beat == 5 {
-            self.first_came.store(1, Ordering::SeqCst);
-            hold(&self.second_came, &self.first_met);
+            self.first.come();
+            self.first.wait_for(&self.second, LOOKS);
         }
     }
 }
@@ -384,19 +233,15 @@ fn meet<R: Threads + Wait + Sync>(
 ) -> Result<bool, NoMemory>
     requires { (1 ≤ workers) × (workers ≤ 64) }
 {
-    let course = course(alloc, 20, Delay::Fixed(1), None)?;
+    let course = toy_course(alloc, 20, Delay::Fixed(1), None)?;
     let meeting = Meeting {
         other,
         both,
-        first_came: AtomicU64::new(0),
-        second_came: AtomicU64::new(0),
-        first_met: AtomicU64::new(0),
-        second_met: AtomicU64::new(0),
+        first: Party::new(),
+        second: Party::new(),
     };
     run_told(rt, alloc, &meeting, &course, workers)?;
-    let first = meeting.first_met.load(Ordering::SeqCst) == 1;
-    let second = meeting.second_met.load(Ordering::SeqCst) == 1;
-    Ok(first && (second || !both))
+    Ok(meeting.first.has_met() && (meeting.second.has_met() || !both))
 }
 
 /// Two ticks that wait for each other end only if two workers are at them at the same time.

@@ -1,10 +1,6 @@
-use Rattle.std.proofs.Common.{◌≡◌, ℕ, Some, subst}
-use Rattle.node_kit.specs.Links.{ends_of}
+use Rattle.std.proofs.Common.{subst}
+use Rattle.ring_engine.specs.Samples.{HasLinksOf}
 use Rattle.ring_workers.proofs.tests.plain_journals.Goals as goal
 
 pub run_plain-requires-clause-stand : goal.run_plain-requires-clause-stand
-run_plain-requires-clause-stand c n s e =
-    let both = c.in_ok-nodes.ensures.stand n s e in (
-      (λ l out. subst (λ t. (to : ℕ) × (ends_of t l.0 ≡ Some (n, to))) c.new-links.ensures (both.0 l out)),
-      (λ l out. subst (λ t. (to : ℕ) × (ends_of t l.0 ≡ Some (n, to))) c.new-links.ensures (both.1 l out)),
-    )
+run_plain-requires-clause-stand c n s e = subst (λ t. HasLinksOf t n s) c.new-links.ensures (c.in_ok-nodes.ensures.stand n s e)
