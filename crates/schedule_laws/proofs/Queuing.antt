@@ -21,16 +21,15 @@ use Rattle.tiger_base.specs.Records.{own_of, backup_of}
 use Rattle.slot_plan.specs.declared.params.Params.{Params}
 use Rattle.slot_plan.specs.Times.{cub_of}
 use Rattle.slot_plan.specs.Keys.{Key}
+use Rattle.viewer_state.specs.States.{is_visit_of}
+use Rattle.insert_queue.specs.Queues.{Queues, with_waiting, with_redundant, without_start, after_take_over}
+use Rattle.deschedule.specs.Holds.{is_held, must_pass}
+use Rattle.deadman.specs.Silence.{Silence, is_silent}
+use Rattle.mirror_schedule.specs.Pieces as pieces
 use Rattle.node_kit.specs.declared.journal.What.TheVariants as what
 use Rattle.node_kit.specs.declared.outbox.Out.TheVariants as out
 use Rattle.node_kit.specs.Form.{is_in_form}
 use Rattle.node_kit.specs.Steps.{Deed}
-use Rattle.viewer_state.specs.States.{is_visit_of}
-use Rattle.insert_queue.specs.Queues.{Queues, with_waiting, with_redundant, without_start, after_take_over}
-use Rattle.deadman.specs.Silence.{Silence}
-use Rattle.deschedule.specs.Holds.{is_held, must_pass}
-use Rattle.deadman.specs.Silence.{is_silent}
-use Rattle.mirror_schedule.specs.Pieces as pieces
 use Rattle.node_kit.specs.Ways.{way_ahead, predecessor}
 use Rattle.node_kit.specs.Deeds.{nothing, then_do, each_in_turn}
 use Rattle.cub_rules.specs.declared.store.Store.{Store}
