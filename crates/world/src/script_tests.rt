@@ -6,14 +6,14 @@ ghost use Rattle.node_kit.specs.declared.course.OrderKind.TheVariants.{Begin, Fi
 ghost use Rattle.ring_nodes.specs.AllNodes.{images_of};
 
 use crate::World;
-use crate::tests::{Answer, asked, course, event};
+use crate::tests::{Answer, asked, catalogue, course, event, library};
 use disk_image::DiskImage;
 use node_kit::{Course, Entry, Gate, OpenGate, Order, OrderKind, What};
 use ring_nodes::make_images;
 use ring_world::Act;
 use std::alloc::Global;
 use std::test::Fail;
-use stripe_layout::{Catalogue, FileInfo};
+use stripe_layout::Catalogue;
 use tiger_base::{
     Ask, Beat, CubNo, DiskNo, FileNo, Instance, Library, LinkNo, NoMemory, NodeNo, Note, Rec,
     Sequence, SlotNo, Stamp, Tag, Tenancy,
@@ -51,31 +51,6 @@ fn orders(alloc: Global, ask: Ask) -> Result<Sequence<Order>, NoMemory>
         what: OrderKind::Finish(Instance(0)),
     })?;
     Ok(Sequence::new(orders))
-}
-
-/// One file of 256 bytes, the first block of which is on disk 0.
-fn catalogue(alloc: Global) -> Result<Catalogue, NoMemory>
-    ensures { IfOk result (λ c. map (λ info. info.len) c.files ≡ 256 ∷ []) }
-{
-    let mut files = Vec::new(alloc);
-    files.push(FileInfo {
-        len: 256,
-        disk: DiskNo(0),
-    })?;
-    Ok(Catalogue {
-        files: Sequence::new(files),
-        block: 4,
-        disks: 8,
-    })
-}
-
-fn library(alloc: Global) -> Result<Library, NoMemory>
-    ensures { IfOk result (λ library. map (λ bytes. length bytes) library ≡ 256 ∷ []) }
-{
-    let file = vec![in alloc; b'a'; 256]?;
-    let mut files = Vec::new(alloc);
-    files.push(file)?;
-    Ok(Library::new(files))
 }
 
 fn stamp(beat: Beat) -> Stamp
@@ -243,8 +218,8 @@ fn read_back<'a>(
 #[test]
 fn a_stop_overtakes_what_a_dead_cub_sent(rt: HostRuntime) -> Result<(), Fail> {
     let alloc = rt.alloc();
-    let catalogue = catalogue(alloc)?;
-    let library = library(alloc)?;
+    let catalogue = catalogue(alloc, 256)?;
+    let library = library(alloc, 256)?;
     let course = course(alloc)?;
     let orders = orders(alloc, ask())?;
     let images = make_images(alloc, &course.plan, &catalogue, &library)?;

@@ -59,13 +59,13 @@ pub fn course(alloc: Global) -> Result<Course, NoMemory>
     })
 }
 
-/// One file of ten bytes, the first block of which is on disk 0.
-fn catalogue(alloc: Global) -> Result<Catalogue, NoMemory>
-    ensures { IfOk result (λ c. map (λ info. info.len) c.files ≡ 10 ∷ []) }
+/// One file of so many bytes, the first block of which is on disk 0.
+pub fn catalogue(alloc: Global, len: u64) -> Result<Catalogue, NoMemory>
+    ensures { IfOk result (λ c. map (λ info. info.len) c.files ≡ len ∷ []) }
 {
     let mut files = Vec::new(alloc);
     files.push(FileInfo {
-        len: 10,
+        len,
         disk: DiskNo(0),
     })?;
     Ok(Catalogue {
@@ -75,12 +75,12 @@ fn catalogue(alloc: Global) -> Result<Catalogue, NoMemory>
     })
 }
 
-fn library(alloc: Global) -> Result<Library, NoMemory>
-    ensures { IfOk result (λ library. map (λ bytes. length bytes) library ≡ 10 ∷ []) }
+/// That file.
+pub fn library(alloc: Global, len: usize) -> Result<Library, NoMemory>
+    ensures { IfOk result (λ library. map (λ bytes. length bytes) library ≡ len ∷ []) }
 {
-    let file = vec![in alloc; b'0', b'1', b'2', b'3', b'4', b'5', b'6', b'7', b'8', b'9']?;
     let mut files = Vec::new(alloc);
-    files.push(file)?;
+    files.push(vec![in alloc; b'a'; len]?)?;
     Ok(Library::new(files))
 }
 
@@ -135,10 +135,10 @@ fn played<'a>(
     play(alloc, &mut world, script)
 }
 
-/// The answers of the world of row 1.
+/// The answers of a world in which one viewer starts in beat 0.
 fn answers(alloc: Global, script: &[Event]) -> Result<Vec<Answer>, NoMemory> {
-    let catalogue = catalogue(alloc)?;
-    let library = library(alloc)?;
+    let catalogue = catalogue(alloc, 10)?;
+    let library = library(alloc, 10)?;
     let course = course(alloc)?;
     let orders = orders(alloc, ask())?;
     let images = make_images(alloc, &course.plan, &catalogue, &library)?;
