@@ -4,19 +4,19 @@ ghost use Rattle.std.specs.Prelude.{◌≤◌};
 use crate::claims::{FINE, SMALL, text_of};
 use crate::rings::{long, one, run_gated};
 use node_kit::Gate;
+use ring_engine::Party;
 use std::alloc::Global;
 use std::sync::Wait;
 use std::sync::atomic::{AtomicU64, Ordering};
 use std::test::Fail;
 use std::thread::Threads;
-use std::{hint, thread};
 use tiger_base::DiskNo;
 
 /// How often a hold looks whether it may end.
-const TURNS: u64 = 10000000;
+const LOOKS: u64 = 10000000;
 
 /// Holds one read of disk 0 until disk 1 is read; if `both`, it holds that first read of disk 1 too, until disk 0 has
-/// come to its own. It keeps which holds ended well, and not by their last turn.
+/// come to its own.
 #[derive(Drop)]
 struct Crossing {
     /// How many reads of disk 0 come before the one that is held.
@@ -24,37 +24,21 @@ struct Crossing {
     both: bool,
     reads_of_0: AtomicU64,
     reads_of_1: AtomicU64,
-    first_came: AtomicU64,
-    second_came: AtomicU64,
-    first_met: AtomicU64,
-    second_met: AtomicU64,
-}
-
-fn hold(came: &AtomicU64, met: &AtomicU64) {
-    for turn in 0..TURNS {
-        if came.load(Ordering::SeqCst) == 1 {
-            met.store(1, Ordering::SeqCst);
-            return;
-        }
-        if turn % 1000 == 999 {
-            thread::yield_now();
-        } else {
-            hint::spin_loop();
-        }
-    }
+    first: Party,
+    second: Party,
 }
 
 impl Gate for Crossing {
     fn before_read(&self, disk: DiskNo) {
         if disk.0 == 1 && self.reads_of_1.fetch_add(1, Ordering::SeqCst) == 0 {
-            self.second_came.store(1, Ordering::SeqCst);
+            self.second.come();
             if self.both {
-                hold(&self.first_came, &self.second_met);
+                self.second.wait_for(&self.first, LOOKS);
             }
         }
         if disk.0 == 0 && self.reads_of_0.fetch_add(1, Ordering::SeqCst) == self.earlier {
-            self.first_came.store(1, Ordering::SeqCst);
-            hold(&self.second_came, &self.first_met);
+            self.first.come();
+            self.first.wait_for(&self.second, LOOKS);
         }
     }
 }
@@ -76,17 +60,13 @@ fn meet<R: Threads + Wait + Sync>(
         both,
         reads_of_0: AtomicU64::new(0),
         reads_of_1: AtomicU64::new(0),
-        first_came: AtomicU64::new(0),
-        second_came: AtomicU64::new(0),
-        first_met: AtomicU64::new(0),
-        second_met: AtomicU64::new(0),
+        first: Party::new(),
+        second: Party::new(),
     };
     let text = text_of(alloc, plan, rest)?;
     let library = one(alloc, long(alloc)?)?;
     run_gated(rt, alloc, text.as_str(), &library, 1, &gate, workers)?;
-    let first = gate.first_met.load(Ordering::SeqCst) == 1;
-    let second = gate.second_met.load(Ordering::SeqCst) == 1;
-    Ok(first && (second || !both))
+    Ok(gate.first.has_met() && (gate.second.has_met() || !both))
 }
 
 /// Three viewers in slots 1, 2 and 3: in beat 141 disk 0 is read for the third time, and disk 1 for the first.
