@@ -1,5 +1,7 @@
 pub mod Ranges
 pub mod Lookups
+pub mod Rows
+pub mod Rowed
 pub mod Gathering
 pub mod Forms
 pub mod Settled

@@ -1,4 +1,5 @@
 pub mod Outcomes
+pub mod Rows
 pub mod Tables
 pub mod Digests
 pub mod Text

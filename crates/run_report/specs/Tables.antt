@@ -1,7 +1,7 @@
 -- Tables of what the journals tell, by instance and visit.
-use Rattle.std.specs.Prelude.{◌≡◌, ℕ, Bool, ◌&&◌, ◌==◌, nat_lt, List, [], ◌∷◌, Option, Some, None, is_some, map, if◌then◌else◌}
-use Rattle.std.specs.declared.cmp.Ordering.{Ordering}
-use Rattle.std.specs.Ordering.{is_eq, nat_cmp, ordering_then}
+use Rattle.std.specs.Prelude.{◌≡◌, ℕ, Bool, ◌&&◌, ◌==◌, nat_lt, List, [], ◌∷◌, Option, Some, None, is_some, map, slice_get, unwrap_or, if◌then◌else◌}
+use Rattle.std.specs.Ordering.{is_eq, nat_cmp}
+use Rattle.std.specs.Option.{option_or}
 use Rattle.std.specs.List.{flat_map, list_any, range_with_len}
 use Rattle.std.specs.Map.{lookup}
 use Rattle.slot_plan.specs.declared.params.Params.{Params}
@@ -12,18 +12,15 @@ use Rattle.run_model.specs.Served.{journal_at}
 use Rattle.run_model.specs.Tests.{read_failed}
 use Rattle.run_report.specs.declared.firsts.Key.{Key}
 use Rattle.run_report.specs.declared.placed.Placed.{Placed}
+use Rattle.run_report.specs.Rows.{Position, RowBeats, is_position, beat_at}
 use Rattle.run_report.specs.Outcomes.{puts_of, earliest, stop_of, whole_sent, piece_sent}
 
--- beats by key, and Puts by instance, each in the order of its keys
+-- the row of each instance, and Puts in the order of their instances
 abbrev pub Beats : Type 0
-Beats = List (Key × ℕ)
+Beats = List RowBeats
 
 abbrev pub Placings : Type 0
 Placings = List (ℕ × Placed)
-
--- keys are ordered by instance, then visit, then piece
-abbrev pub key_order : Key → Key → Ordering
-key_order a b = ordering_then (nat_cmp a.instance.0 b.instance.0) (ordering_then (nat_cmp a.visit b.visit) (nat_cmp a.piece b.piece))
 
 abbrev pub is_same : Key → Key → Bool
 is_same a b = a.instance.0 == b.instance.0 && a.visit == b.visit && a.piece == b.piece
@@ -31,9 +28,19 @@ is_same a b = a.instance.0 == b.instance.0 && a.visit == b.visit && a.piece == b
 abbrev pub key_at : ℕ → ℕ → ℕ → Key
 key_at v visit piece = record { instance = record { 0 = v }; visit = visit; piece = piece }
 
+-- the row of an instance: that of one that has none is empty
+abbrev pub row_of : Beats → ℕ → RowBeats
+row_of rows v = unwrap_or (slice_get rows v) []
+
 -- what stands under a key
 abbrev pub beat_under : Key → Beats → Option ℕ
-beat_under k beats = lookup (λ q. is_eq (key_order k q)) beats
+beat_under k rows = beat_at (k.visit, k.piece) (row_of rows k.instance.0)
+
+-- once a beat is kept at a position of a row: what stands there stays, and so does all else
+abbrev pub HasKeptAt : ℕ → Position → ℕ → Beats → Beats → Type 0
+HasKeptAt place p beat old new =
+    (v : ℕ) (q : Position) → beat_at q (row_of new v)
+    ≡ option_or (beat_at q (row_of old v)) (if (place == v) && is_position p q then Some beat else None)
 
 abbrev pub put_under : ℕ → Placings → Option Placed
 put_under v puts = lookup (λ q. is_eq (nat_cmp v q)) puts

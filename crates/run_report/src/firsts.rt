@@ -1,27 +1,29 @@
 //! Tables that keep the first beat under each key, and the earliest Put of each instance.
-ghost use Rattle.std.specs.Prelude.{◌≡◌, [], ◌==◌, Some, None, OnOk, if◌then◌else◌};
+ghost use Rattle.std.specs.Prelude.{◌≡◌, ◌<◌, ℕ, [], ◌==◌, vec_len, Some, None, OnOk, if◌then◌else◌};
 ghost use Rattle.std.specs.Option.{option_or};
-ghost use Rattle.run_report.specs.Tables.{beat_under, is_same, put_under, both};
-ghost use Rattle.run_report.specs.declared.firsts.Key.{Key};
+ghost use Rattle.run_report.specs.Tables.{row_of, key_at, beat_under, is_same, put_under, both};
+ghost use Rattle.run_report.specs.Tables.{HasKeptAt};
 
 use crate::placed::Placed;
+use crate::row::Row;
 use std::alloc::Global;
 use std::collections::BTreeMap;
 use std::marker::Model;
 use tiger_base::{Beat, Instance, NoMemory, Visit};
 
 /// An instance, one of its visits, and a piece of the visit's block: 0 for the whole block.
-#[derive(Clone, Copy, Debug, PartialEq, Eq, PartialOrd, Ord)]
+#[derive(Clone, Copy, Debug, PartialEq, Eq)]
 pub struct Key {
     pub instance: Instance,
     pub visit: Visit,
     pub piece: u32,
 }
 
-/// The first beat under each key, seen as the list of both, by key.
+/// The first beat under each key, seen as the row of each instance, up to the last that has one.
 #[derive(Drop)]
 pub struct Firsts {
-    map: BTreeMap<Key, Beat>,
+    alloc: Global,
+    rows: Vec<Row>,
 }
 
 impl Model for Firsts {
@@ -29,7 +31,7 @@ impl Model for Firsts {
 
     ghost Value = { Beats };
 
-    ghost view = { λ f. f.map.entries };
+    ghost view = { λ f. f.rows.items };
 }
 
 impl Firsts {
@@ -38,7 +40,8 @@ impl Firsts {
         ensures { result ≡ [] }
     {
         Firsts {
-            map: BTreeMap::new(alloc),
+            alloc,
+            rows: Vec::new(alloc),
         }
     }
 
@@ -46,20 +49,47 @@ impl Firsts {
     pub fn get(&self, key: Key) -> Option<Beat>
         ensures { result ≡ beat_under key self.now }
     {
-        self.map.get(&key).copied()
+        match self.rows.get(key.instance.0 as usize) {
+            Some(row) => row.get((key.visit, key.piece)),
+            None => None,
+        }
     }
 
     /// Keeps a beat under a key, unless one stands there.
     pub fn keep(&mut self, key: Key, beat: Beat) -> Result<(), NoMemory>
-        ensures { OnOk result ((q : Key) → beat_under q self.new
-            ≡ option_or (beat_under q self.old) (if is_same key q then Some beat else None)) }
+        ensures { OnOk result ((v visit k : ℕ) → beat_under (key_at v visit k) self.new
+            ≡ option_or (beat_under (key_at v visit k) self.old)
+            (if is_same key (key_at v visit k) then Some beat else None)) }
     {
-        if self.map.contains_key(&key) {
-            return Ok(());
-        }
-        self.map.insert(key, beat)?;
-        Ok(())
+        let place = key.instance.0 as usize;
+        reach(self.alloc, &mut self.rows, place)?;
+        keep_at(&mut self.rows, place, (key.visit, key.piece), beat)
     }
+}
+
+/// Adds empty rows until there is one at this place.
+fn reach(alloc: Global, rows: &mut Vec<Row>, place: usize) -> Result<(), NoMemory>
+    ensures reached { OnOk result (place < vec_len rows.new) }
+    ensures same { OnOk result ((v : ℕ) → row_of rows.new.items v ≡ row_of rows.old.items v) }
+{
+    while rows.len() <= place {
+        rows.push(Row::new(alloc))?;
+    }
+    Ok(())
+}
+
+/// Keeps a beat in the row at this place.
+fn keep_at(
+    rows: &mut Vec<Row>,
+    place: usize,
+    position: (Visit, u32),
+    beat: Beat,
+) -> Result<(), NoMemory>
+    requires { place < vec_len rows.old }
+    ensures { OnOk result (HasKeptAt place position beat rows.old.items rows.new.items) }
+{
+    let row = &mut rows[place];
+    row.keep(position, beat)
 }
 
 /// The earliest Put of each instance, seen as the list of both, by instance.
@@ -77,8 +107,6 @@ impl Model for Puts {
 }
 
 impl Puts {
-    ghost use Rattle.std.specs.Prelude.{ℕ};
-
     /// A table with nothing in it.
     pub fn new(alloc: Global) -> Puts
         ensures { result ≡ [] }

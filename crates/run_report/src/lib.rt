@@ -12,6 +12,7 @@ mod gather;
 mod index;
 mod outcome;
 mod placed;
+mod row;
 mod tally;
 mod text;
 mod times;
