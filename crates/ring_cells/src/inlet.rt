@@ -66,9 +66,20 @@ impl<M: Drop> Inlet<M> {
         self.end
     }
 
-    /// Receives until all beats below this one are closed, or nothing more is there. The answer is whether they are
+    /// Receives until all beats below this one are closed, or nothing more is counted. The answer is whether they are
     /// closed.
     pub fn await_beat<R: Wait>(&mut self, rt: &R, beat: Beat) -> Result<bool, NoMemory>
+        ensures received { OnOk result (HasReceived self.old self.new) }
+        ensures closed { IfOk result (λ b. b ≡ nat_le beat self.new.closed) }
+    {
+        // The word of the link is not looked at for a beat that an earlier look found closed.
+        if beat <= self.end.closed() {
+            return Ok(true);
+        }
+        self.receive_to(rt, beat)
+    }
+
+    fn receive_to<R: Wait>(&mut self, rt: &R, beat: Beat) -> Result<bool, NoMemory>
         ensures received { OnOk result (HasReceived self.old self.new) }
         ensures closed { IfOk result (λ b. b ≡ nat_le beat self.new.closed) }
     {
@@ -78,8 +89,7 @@ impl<M: Drop> Inlet<M> {
             }
             let more = self.receive(rt)?;
             if !more {
-                // What was not closed before may have been closed since.
-                return Ok(self.is_closed_to(beat));
+                return Ok(beat <= self.end.closed());
             }
         }
         unreachable!()

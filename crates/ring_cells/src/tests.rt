@@ -180,6 +180,7 @@ fn push_arrivals<R: Wait>(
     back: &mut InEnd<Ping>,
     text: &mut String,
 ) -> Result<(), AllocError> {
+    back.look();
     for _ in 0..9 {
         if let Some(flight) = back.try_next(rt) {
             write!(text, "{} to {}; ", flight.sent, flight.arrival)?;

@@ -29,7 +29,7 @@ all_weaker : (P Q : ℕ → Type 0) → ((n : ℕ) → P n → Q n) → (ns : Li
 all_weaker P Q f [] h = tt
 all_weaker P Q f (n ∷ ns) h = (f n h.0, all_weaker P Q f ns h.1)
 
-all_next : (P : ℕ → Type 0) (ns : List ℕ) (n : ℕ) → AllByRecursion P ns → P n → AllByRecursion P (ns ++ n ∷ [])
+pub all_next : {A : Type 0} (P : A → Type 0) (ns : List A) (n : A) → AllByRecursion P ns → P n → AllByRecursion P (ns ++ n ∷ [])
 all_next P [] n h p = (p, tt)
 all_next P (m ∷ ns) n h p = (h.0, all_next P ns n h.1 p)
 

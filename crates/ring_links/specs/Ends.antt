@@ -26,6 +26,17 @@ end_coded {M} c =
     (λ x y e i. record { line = (e i).0; flights = (e i).1.0; closed = (e i).1.1 })
 
 module _ {M : Type 0} where
+  -- both ends are of one link, on which nothing was sent and no beat is closed
+  pub record AreOfNewLink (out into : End M) : Type 0 where
+    pub line : out.line ≡ into.line
+    pub sent : out.flights ≡ []
+    pub received : into.flights ≡ []
+    pub out_closed : out.closed ≡ 0
+    pub in_closed : into.closed ≡ 0
+
+  abbrev pub AreNewLinks : List (End M × End M) → Type 0
+  AreNewLinks links = AllByRecursion (λ (e : End M × End M). AreOfNewLink e.0 e.1) links
+
   -- a word of the link is true of what was sent: the messages behind those that it counts were sent in no beat that it closes
   abbrev pub IsTrueOf : List (Flight M) → ℕ → ℕ → Type 0
   IsTrueOf sent closed word =

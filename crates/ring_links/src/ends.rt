@@ -52,13 +52,15 @@ impl<M: Drop> Model for OutEnd<M> {
 }
 
 /// The end that receives. Contracts see it as the link's name, the list of what it received, and the beat below
-/// which nothing comes any more. It is spoilt once a message of such a beat came, which `close` shows not to happen.
+/// which nothing comes any more. It receives what the word counted when it last looked. It is spoilt once a message of
+/// a closed beat came, which `close` shows not to happen.
 #[derive(Drop)]
 pub struct InEnd<M: Drop> {
     pub(crate) line: Arc<Line<M>, Global>,
     pub(crate) pass: Pass<M>,
     pub(crate) seat: Stand,
     pub(crate) received: u64,
+    pub(crate) counted: u64,
     pub(crate) closed: Beat,
     pub(crate) spoilt: bool,
 }
@@ -130,8 +132,8 @@ impl<M: Drop> OutEnd<M> {
 }
 
 impl<M: Drop> InEnd<M> {
-    /// The next message that was sent and not yet received. `None` means that the queue was empty at a step of the
-    /// call: no clause says so, and tests do.
+    /// The next of the messages that were counted at the last look. `None` means that all of them were received: no
+    /// clause says so, and tests do.
     pub fn try_next<R: Wait>(&mut self, rt: &R) -> Option<Flight<M>>
         ensures line { self.new.line ≡ self.old.line }
         ensures closed { self.new.closed ≡ self.old.closed }
@@ -140,7 +142,8 @@ impl<M: Drop> InEnd<M> {
         ensures open { IfSome result (λ p. self.old.closed ≤ p.sent) }
         ensures ordered { IsOrdered self.new.flights }
     {
-        if self.spoilt {
+        // An empty queue takes as long to ask as a message to receive, and most links are idle.
+        if self.spoilt || self.received >= self.counted {
             return None;
         }
         let flight = self.line.queue.pop_as::<Takes, R>(rt, &mut self.pass)?;
@@ -152,7 +155,15 @@ impl<M: Drop> InEnd<M> {
         Some(flight)
     }
 
-    /// The beat below which nothing comes any more, as far as it is known once what was received is taken into account.
+    /// The beat below which nothing comes any more, as far as it was known at the last look.
+    pub fn closed(&self) -> Beat
+        ensures { result ≡ self.now.closed }
+    {
+        self.closed
+    }
+
+    /// Looks at the word: how many messages were sent, and which beats are closed. The answer is the beat below which
+    /// nothing comes any more, as far as it is known once what was received is taken into account.
     pub fn look(&mut self) -> Beat
         ensures line { self.new.line ≡ self.old.line }
         ensures flights { self.new.flights ≡ self.old.flights }
@@ -160,6 +171,7 @@ impl<M: Drop> InEnd<M> {
         ensures rises { self.old.closed ≤ self.new.closed }
     {
         let word = self.line.board.shared.load::<Looks>(&mut self.seat, 0);
+        self.counted = word / SPAN;
         self.closed = closed_by(word, self.received, self.closed);
         self.closed
     }

@@ -9,4 +9,4 @@ mod opening;
 mod tests;
 
 pub use ends::{InEnd, OutEnd, Refused};
-pub use opening::{Both, close, open_link};
+pub use opening::{Both, close, open_link, open_links};

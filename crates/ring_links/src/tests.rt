@@ -83,6 +83,8 @@ fn what_is_sent_is_received_in_order(rt: HostRuntime) -> Result<(), Fail> {
     sender.send(&rt, 8)?;
     sender.end_beat();
     sender.send(&rt, 9)?;
+    sender.end_beat();
+    into.look();
     let first = next(&rt, &mut into);
     let second = next(&rt, &mut into);
     let third = next(&rt, &mut into);
@@ -91,16 +93,20 @@ fn what_is_sent_is_received_in_order(rt: HostRuntime) -> Result<(), Fail> {
 }
 
 #[test]
-fn a_drained_link_has_nothing(rt: HostRuntime) -> Result<(), Fail> {
+fn what_was_counted_is_received_and_no_more(rt: HostRuntime) -> Result<(), Fail> {
     let (out, mut into) = open_link::<u64, HostRuntime>(&rt, rt.alloc())?;
     let mut sender = Sender::new(out);
+    into.look();
     assert!(rt; next(&rt, &mut into).is_none());
     sender.send(&rt, 7)?;
+    sender.end_beat();
+    assert!(rt; next(&rt, &mut into).is_none());
+    into.look();
+    sender.send(&rt, 8)?;
     assert!(rt; next(&rt, &mut into) == Some((0, 1, 7)));
     assert!(rt; next(&rt, &mut into).is_none());
     sender.end_beat();
-    assert!(rt; next(&rt, &mut into).is_none());
-    sender.send(&rt, 8)?;
+    into.look();
     assert!(rt; next(&rt, &mut into) == Some((1, 2, 8)));
     Ok(())
 }
@@ -142,6 +148,8 @@ fn what_was_not_received_is_left_inside(rt: HostRuntime) -> Result<(), Fail> {
     sender.send(&rt, 7)?;
     sender.send(&rt, 8)?;
     sender.send(&rt, 9)?;
+    sender.end_beat();
+    into.look();
     let first = next(&rt, &mut into);
     let Sender { out, beat: _ } = sender;
     let both = close(&rt, out, into);
@@ -177,6 +185,7 @@ fn receive_many<R: Wait>(rt: &R, mut into: InEnd<u64>, count: u64) -> u64 {
             }
             came += 1;
         } else {
+            into.look();
             thread::yield_now();
         }
     }

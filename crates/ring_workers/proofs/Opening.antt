@@ -1,8 +1,8 @@
 -- Links that are opened one after another, and the names of their ends.
 use Rattle.std.proofs.Common.{◌≡◌, ℕ, zero, suc, List, [], ◌∷◌, ◌++◌, Option, Some, None, refl, sym, subst}
 use Rattle.std.proofs.lemmas.Option.{none-some}
-use Rattle.ring_links.specs.Ends.{End, LineId}
-use Rattle.ring_workers.specs.Ends.{AreLeft, AreOfNewLink, AreOpened, IsNew, AreNamed, line_at}
+use Rattle.ring_links.specs.Ends.{End, LineId, AreOfNewLink, AreNewLinks}
+use Rattle.ring_workers.specs.Ends.{AreLeft, AreOpened, IsNew, AreNamed, line_at}
 
 module _ {M : Type 0} where
   opened-last : (outs ins : List (Option (End M))) (out into : End M) → AreOpened outs ins → AreOfNewLink out into → AreOpened (outs ++ Some out ∷ []) (ins ++ Some into ∷ [])
@@ -13,12 +13,16 @@ module _ {M : Type 0} where
   opened-last (Some x ∷ outs) (None ∷ ins) out into h new = absurd h
   opened-last (Some x ∷ outs) (Some y ∷ ins) out into h new = (h.0, opened-last outs ins out into h.1 new)
 
-  -- one link more is opened
-  pub opened-more : (outs outs' ins ins' : List (Option (End M))) (out into : End M) → outs' ≡ outs ++ Some out ∷ [] → ins' ≡ ins ++ Some into ∷ []
-      → AreOpened outs ins → out.line ≡ into.line → (out.flights ≡ []) × (into.flights ≡ []) → (out.closed ≡ 0) × (into.closed ≡ 0) → AreOpened outs' ins'
-  opened-more outs outs' ins ins' out into eo ei h line flights closed =
-      subst (λ q. AreOpened q ins') (sym eo) (subst (λ q. AreOpened (outs ++ Some out ∷ []) q) (sym ei)
-      (opened-last outs ins out into h (record { line = line; sent = flights.0; received = flights.1; out_closed = closed.0; in_closed = closed.1 })))
+  pub opened-none : (outs ins : List (Option (End M))) → outs ≡ [] → ins ≡ [] → AreOpened outs ins
+  opened-none outs ins eo ei = subst (λ q. AreOpened q ins) (sym eo) (subst (λ q. AreOpened [] q) (sym ei) tt)
+
+  -- the ends of one link more are put into the rows, and those of the links behind it are still to be
+  pub opened-more : (outs outs' ins ins' : List (Option (End M))) (links links' : List (End M × End M)) (out into : End M)
+      → outs' ≡ outs ++ Some out ∷ [] → ins' ≡ ins ++ Some into ∷ [] → links ≡ (out, into) ∷ links'
+      → AreOpened outs ins → AreNewLinks links → AreOpened outs' ins' × AreNewLinks links'
+  opened-more outs outs' ins ins' links links' out into eo ei el h new =
+      let each : AreNewLinks ((out, into) ∷ links') = subst (λ (l : List (End M × End M)). AreNewLinks l) el new in
+      (subst (λ q. AreOpened q ins') (sym eo) (subst (λ q. AreOpened (outs ++ Some out ∷ []) q) (sym ei) (opened-last outs ins out into h each.0)), each.1)
 
   -- the ends of open links have the names of the ends that send
   pub outs-named : (outs ins : List (Option (End M))) → AreOpened outs ins → AreNamed (line_at outs) outs

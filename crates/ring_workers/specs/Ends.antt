@@ -1,6 +1,6 @@
 -- The ends of links by link number, of which some may have been taken out.
 use Rattle.std.specs.Prelude.{◌≡◌, ℕ, zero, suc, List, [], ◌∷◌, Option, Some, None, slice_get, ⊤}
-use Rattle.ring_links.specs.Ends.{End, LineId}
+use Rattle.ring_links.specs.Ends.{End, LineId, AreOfNewLink}
 use Rattle.ring_links.specs.Flights.{IsOrdered, IsFront}
 use Rattle.ring_cells.specs.Opens.{no_line}
 
@@ -13,14 +13,6 @@ abbrev pub AreLeft : {A : Type 0} → List (Option A) → List (Option A) → Ty
 AreLeft {A} old new = (l : ℕ) (e : A) → HasEnd new l e → HasEnd old l e
 
 module _ {M : Type 0} where
-  -- both ends are of one link, on which nothing was sent and no beat is closed
-  pub record AreOfNewLink (out into : End M) : Type 0 where
-    pub line : out.line ≡ into.line
-    pub sent : out.flights ≡ []
-    pub received : into.flights ≡ []
-    pub out_closed : out.closed ≡ 0
-    pub in_closed : into.closed ≡ 0
-
   -- number for number the rows have both ends of a new link
   abbrev pub AreOpened : List (Option (End M)) → List (Option (End M)) → Type 0
   AreOpened [] [] = ⊤

@@ -1,8 +1,9 @@
 //! The ends of all links by link number, of which some may have been taken out.
 ghost use Rattle.std.specs.Prelude.{◌≡◌, ◌⊎◌, IfOk, OnOk};
+ghost use Rattle.ring_links.specs.Ends.{AreNewLinks};
 ghost use Rattle.ring_workers.specs.Ends.{HasEnd, AreLeft, AreOpened};
 
-use ring_links::{InEnd, OutEnd, open_link};
+use ring_links::{InEnd, OutEnd, open_links};
 use std::alloc::Global;
 use std::sync::Wait;
 use tiger_base::{LinkNo, NoMemory};
@@ -21,10 +22,21 @@ pub(crate) fn open_all<M: Drop, R: Wait>(
 ) -> Result<(Outs<M>, Ins<M>), NoMemory>
     ensures { IfOk result (λ e. AreOpened e.0.items e.1.items) }
 {
+    let links = open_links(rt, alloc, count)?;
+    in_rows(alloc, links)
+}
+
+fn in_rows<M: Drop>(
+    alloc: Global,
+    links: Vec<(OutEnd<M>, InEnd<M>)>,
+) -> Result<(Outs<M>, Ins<M>), NoMemory>
+    requires { AreNewLinks links.items }
+    ensures { IfOk result (λ e. AreOpened e.0.items e.1.items) }
+{
     let mut outs = Vec::new(alloc);
     let mut ins = Vec::new(alloc);
-    for _link in 0..count {
-        let (out, into) = open_link(rt, alloc)?;
+    for link in links {
+        let (out, into) = link;
         outs.push(Some(out))?;
         ins.push(Some(into))?;
     }

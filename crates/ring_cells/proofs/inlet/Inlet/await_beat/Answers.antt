@@ -1,17 +1,5 @@
-use Rattle.ring_cells.proofs.Receiving.{received-none, received-more}
+use Rattle.ring_cells.proofs.Receiving.{received-none}
 use Rattle.ring_cells.proofs.inlet.Inlet.await_beat.Goals as goal
 
-pub flights-init : goal.flights-init
-flights-init g c = (tt, tt, received-none c.args.self.now)
-
-pub returns-then-is_closed_to-clause-received : goal.returns-then-is_closed_to-clause-received
-returns-then-is_closed_to-clause-received g c = received-more _ c.flights.self _ c.flights.invariant.2 c.is_closed_to.ensures.received
-
--- what came since the call, with one message more, and with one look more
-pub returns-then-not-more-clause-received : goal.returns-then-not-more-clause-received
-returns-then-not-more-clause-received g c =
-    received-more _ _ _ (received-more _ _ _ (received-more _ c.flights.self _ c.flights.invariant.2 c.is_closed_to.ensures.received) c.in_ok-more.ensures) c.is_closed_to-then-not-more.ensures.received
-
-pub flights-preserved : goal.flights-preserved
-flights-preserved g c =
-    (tt, tt, received-more _ _ _ (received-more _ c.flights.self _ c.flights.invariant.2 c.is_closed_to.ensures.received) c.in_ok-more.ensures)
+pub returns-then-beat-closed-clause-received : goal.returns-then-beat-closed-clause-received
+returns-then-beat-closed-clause-received g c = received-none c.args.self.now

@@ -1,5 +1,5 @@
 use Rattle.ring_cells.specs.Flows.{HasReceived}
-use Rattle.ring_cells.proofs.inlet.Inlet.await_beat.Given as goal
+use Rattle.ring_cells.proofs.inlet.Inlet.receive_to.Given as goal
 
 abbrev pub invariant-flights : goal.invariant-flights
 invariant-flights g l =

@@ -1,20 +1,13 @@
 use Rattle.std.proofs.Common.{rules}
-use Rattle.ring_links.proofs.Words as words
-use Rattle.ring_links.proofs.Steps.{begins, forks}
+use Rattle.ring_links.proofs.Words.{begins, splits}
 use Rattle.ring_links.proofs.Kept.{sender-opens, receiver-opens}
-use Rattle.ring_links.proofs.opening.open_link.Goals as goal
+use Rattle.ring_links.proofs.opening.Way.open.Goals as goal
 
 pub of_words-requires : goal.of_words-requires
-of_words-requires g c = words.begins
+of_words-requires g c = begins
 
 pub split_seat-other_seat-requires : goal.split_seat-other_seat-requires
-split_seat-other_seat-requires g c = (search rules, search rules, words.splits _ _)
-
-pub with_rule-requires : goal.with_rule-requires
-with_rule-requires g c = begins
-
-pub another-other_pass-requires-clause-rule : goal.another-other_pass-requires-clause-rule
-another-other_pass-requires-clause-rule g c = forks _ _ (search rules) (search rules)
+split_seat-other_seat-requires g c = (search rules, search rules, splits _ _)
 
 pub invariant_of-out : goal.invariant_of-out
 invariant_of-out g c = (search rules, search rules, search rules, sender-opens _ _ (search rules) (search rules))
