@@ -261,3 +261,54 @@ fn the_ring_goes_on_around_a_held_disk(rt: HostRuntime) -> Result<(), Fail> {
     assert!(rt; !meet(&rt, alloc, 6, false, 1)?);
     Ok(())
 }
+
+/// Holds the ticks of disk 0 in beats 5 and 6: in beat 5 until cub 1 has come to beat 6, and in beat 6 until cub 0 has.
+/// Once cub 1 is in beat 6, cub 0 has ended beat 5, so that disk 0 does both beats in one call. It counts the holds that
+/// ended well.
+#[derive(Drop)]
+struct LongCall {
+    next_cub: Party,
+    own_cub: Party,
+    first: Party,
+    second: Party,
+}
+
+impl Watch for LongCall {
+    fn ticked(&self, node: u32, beat: Beat) {
+        match (node, beat) {
+            (1, 6) => self.next_cub.come(),
+            (0, 6) => self.own_cub.come(),
+            (8, 5) => self.first.wait_for(&self.next_cub, LOOKS),
+            (8, 6) => self.second.wait_for(&self.own_cub, LOOKS),
+            _ => {}
+        }
+    }
+}
+
+/// Whether cub 0 came to beat 6 while disk 0 was in a call in which it had ended beat 5.
+fn comes_during_call<R: Threads + Wait + Sync>(
+    rt: &R,
+    alloc: Global,
+    workers: u32,
+) -> Result<bool, NoMemory>
+    requires { (1 ≤ workers) × (workers ≤ 64) }
+{
+    let course = toy_course(alloc, 20, Delay::Fixed(1), None)?;
+    let call = LongCall {
+        next_cub: Party::new(),
+        own_cub: Party::new(),
+        first: Party::new(),
+        second: Party::new(),
+    };
+    run_told(rt, alloc, &call, &course, workers)?;
+    Ok(call.first.has_met() && call.second.has_met())
+}
+
+/// A beat is closed when it is done, and not only when the call that does it ends.
+#[test]
+fn a_beat_is_closed_during_a_call(rt: HostRuntime) -> Result<(), Fail> {
+    let alloc = rt.alloc();
+    assert!(rt; comes_during_call(&rt, alloc, 2)?);
+    assert!(rt; !comes_during_call(&rt, alloc, 1)?);
+    Ok(())
+}
