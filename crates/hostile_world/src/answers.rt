@@ -10,7 +10,7 @@ use world::World;
 
 /// Answers an event: `done`, the world's mark, and the links on which the node sent; `refused`, the
 /// mark, and the cause; or `not asked`, if the world has no such beat, link, node or cub.
-pub fn answer<'a, G: Gate>(
+pub(crate) fn answer<'a, G: Gate>(
     alloc: Global,
     plan: &Plan,
     world: &mut World<'a, G>,
@@ -101,7 +101,7 @@ fn push_fault(fault: StepFault, answers: &mut String) -> Result<(), AllocError> 
 /// A world's mark, a checksum of what can be seen of it: its beat, how many events happened, how long
 /// each journal is, how many messages were taken from each link, and when the oldest there was sent.
 /// If one of these numbers changes, so does the mark.
-pub fn mark_of<'a, G: Gate>(plan: &Plan, world: &World<'a, G>) -> u64 {
+pub(crate) fn mark_of<'a, G: Gate>(plan: &Plan, world: &World<'a, G>) -> u64 {
     let links = LinkTable::new(plan);
     let mut mark = mixed(world.beat(), world.events().len() as u64);
     for node in 0..links.nodes() {
@@ -132,7 +132,7 @@ fn mixed(mark: u64, number: u64) -> u64 {
 
 /// Adds the world's events as the lines that ask for them, and then each link: how many messages
 /// were taken from it, and one more than the beat in which the oldest under way was sent, or 0.
-pub fn show<'a, G: Gate>(
+pub(crate) fn show<'a, G: Gate>(
     plan: &Plan,
     world: &World<'a, G>,
     answers: &mut String,

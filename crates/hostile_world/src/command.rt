@@ -22,12 +22,12 @@ pub enum Command {
 const WORLD: &str = "world ";
 
 /// The scenario of a line that asks for a new world.
-pub fn scenario_in(line: &str) -> Option<&str> {
+pub(crate) fn scenario_in(line: &str) -> Option<&str> {
     line.strip_prefix(WORLD)
 }
 
 /// What a line asks for; `None` if it is no command.
-pub fn command_in(line: &str) -> Option<Command> {
+pub(crate) fn command_in(line: &str) -> Option<Command> {
     match line {
         "" => return Some(Command::WriteOut),
         "show" => return Some(Command::Show),

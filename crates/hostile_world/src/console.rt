@@ -15,7 +15,7 @@ pub struct Console<'r, R: Input + Print> {
 
 impl<'r, R: Input + Print> Console<'r, R> {
     /// The console before the first line.
-    pub fn new(rt: &'r R, alloc: Global) -> Result<Console<'r, R>, Stop> {
+    pub(crate) fn new(rt: &'r R, alloc: Global) -> Result<Console<'r, R>, Stop> {
         Ok(Console {
             rt,
             reader: BufReader::new(alloc, rt.reader())?,
@@ -25,14 +25,14 @@ impl<'r, R: Input + Print> Console<'r, R> {
     }
 
     /// Reads the next line; false at the end of the input.
-    pub fn next_line(&mut self) -> Result<bool, Stop> {
+    pub(crate) fn next_line(&mut self) -> Result<bool, Stop> {
         self.line.clear();
         let read = self.reader.read_line(&mut self.line)?;
         Ok(read > 0)
     }
 
     /// The line that was read last, without its line feed.
-    pub fn line(&self) -> &str {
+    pub(crate) fn line(&self) -> &str {
         let line = self.line.as_str();
         match line.strip_suffix('\n') {
             Some(front) => front,
@@ -41,12 +41,12 @@ impl<'r, R: Input + Print> Console<'r, R> {
     }
 
     /// The answers so far, for what is to be added.
-    pub fn answers(&mut self) -> &mut String {
+    pub(crate) fn answers(&mut self) -> &mut String {
         &mut self.answers
     }
 
     /// Writes the answers out.
-    pub fn write_out(&mut self) -> Result<(), Stop> {
+    pub(crate) fn write_out(&mut self) -> Result<(), Stop> {
         self.rt.print(self.answers.as_str())?;
         self.answers.clear();
         Ok(())

@@ -9,7 +9,7 @@ use world::World;
 
 /// Plays from the world's beat up to another one, without that, and answers with the number of all
 /// events.
-pub fn play<'a, G: Gate>(
+pub(crate) fn play<'a, G: Gate>(
     alloc: Global,
     plan: &Plan,
     world: &mut World<'a, G>,

@@ -16,7 +16,9 @@ use world::World;
 
 /// Reads on to the next line that asks for a world; false if the input ended before. To other commands
 /// it answers that there is none.
-pub fn wait_for_world<'r, R: Input + Print>(console: &mut Console<'r, R>) -> Result<bool, Stop> {
+pub(crate) fn wait_for_world<'r, R: Input + Print>(
+    console: &mut Console<'r, R>,
+) -> Result<bool, Stop> {
     for _ in 0..u64::MAX {
         if !console.next_line()? {
             return Ok(false);
@@ -32,7 +34,7 @@ pub fn wait_for_world<'r, R: Input + Print>(console: &mut Console<'r, R>) -> Res
 
 /// Serves the world of the line that was read last. Ends at the next line that asks for one; false if
 /// the input ended before.
-pub fn serve_world<'r, R: Input + Print>(
+pub(crate) fn serve_world<'r, R: Input + Print>(
     alloc: Global,
     console: &mut Console<'r, R>,
 ) -> Result<bool, Stop> {

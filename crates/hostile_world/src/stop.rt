@@ -15,7 +15,7 @@ pub enum Stop {
 
 impl Stop {
     /// What is said of it on standard error.
-    pub fn line(self) -> &'static str {
+    pub(crate) fn line(self) -> &'static str {
         match self {
             Stop::NoMemory => "hostile_world: no memory\n",
             Stop::Broken => "hostile_world: input or output broke\n",
@@ -23,7 +23,7 @@ impl Stop {
     }
 
     /// The status with which the program ends.
-    pub fn exit(self) -> u8 {
+    pub(crate) fn exit(self) -> u8 {
         match self {
             Stop::NoMemory => 7,
             Stop::Broken => 6,

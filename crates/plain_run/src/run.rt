@@ -37,7 +37,7 @@ fn journals_of(
 
 /// The report of the run of a scenario over its library. No clause says what it is: the program is
 /// measured, and what it prints is compared with what `tiger` prints, of which it is proved.
-pub fn report_of_run(
+pub(crate) fn report_of_run(
     alloc: Global,
     scenario: Scenario,
     library: &Library,

@@ -3,14 +3,14 @@
 
 mod delivery;
 mod events;
+mod for_tests;
 mod gathering;
 mod mail;
-mod meeting;
 mod opening;
 mod run;
 mod samples;
 
-pub use meeting::Party;
+pub use for_tests::Party;
 pub use run::run_plain;
 pub use samples::{Toy, toy_course, toys};
 
