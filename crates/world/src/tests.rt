@@ -61,6 +61,7 @@ pub fn course(alloc: Global) -> Result<Course, NoMemory>
 
 /// One file of so many bytes, the first block of which is on disk 0.
 pub fn catalogue(alloc: Global, len: u64) -> Result<Catalogue, NoMemory>
+    requires { 1 ≤ len }
     ensures { IfOk result (λ c. map (λ info. info.len) c.files ≡ len ∷ []) }
 {
     let mut files = Vec::new(alloc);
