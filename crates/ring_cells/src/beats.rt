@@ -13,32 +13,37 @@ use crate::outlet::Outlet;
 use crate::rows::{collect, end_all};
 use node_kit::{Entry, Journal, Life, Node, Outbox, What};
 use run_facts::Letter;
-use std::alloc::Global;
 use std::collections::VecDeque;
 use std::sync::Wait;
 use tiger_base::{Message, NoMemory, Stamp};
 
-/// A whole beat, if the in-links have received all that arrives in it.
+/// A whole beat, if the in-links have received all that arrives in it. Letters and outputs are room for what its events
+/// take and put out.
 pub(crate) fn pass_beat<M: Message, T: Node<M>, R: Wait>(
     rt: &R,
-    alloc: Global,
     stamp: Stamp,
     node: &mut T,
     life: &mut Life,
     journal: &mut Journal,
     ins: &mut Vec<Inlet<M>>,
     outs: &mut Vec<Outlet<M>>,
+    letters: &mut VecDeque<Letter<M>>,
+    outputs: &mut Outbox<M>,
 ) -> Result<(), NoMemory>
     requires early { stamp.beat ≤ most_beats }
     requires reading { stamp.reading ≤ most_reading }
+    requires letters { letters.old.items ≡ [] }
+    requires outputs { outputs.old ≡ [] }
     requires set { IsSetFor T.stands_at stamp.beat (links_of_ins ins.old.items)
         (stage node.old life.old journal.old outs.old.items) }
-    ensures { OnOk result (HasPassed M.note_of T.step T.stands_at stamp
+    ensures passed { OnOk result (HasPassed M.note_of T.step T.stands_at stamp
         (stage node.old life.old journal.old outs.old.items)
         (stage node.new life.new journal.new outs.new.items) ins.old.items ins.new.items) }
+    ensures letters { OnOk result (letters.new.items ≡ []) }
+    ensures outputs { OnOk result (outputs.new ≡ []) }
 {
-    let letters = collect(alloc, stamp.beat, ins)?;
-    live(rt, alloc, stamp, letters, node, life, journal, outs)?;
+    collect(stamp.beat, ins, letters)?;
+    live(rt, stamp, letters, node, life, journal, outs, outputs)?;
     end_all(stamp.beat, outs);
     Ok(())
 }
@@ -47,56 +52,62 @@ pub(crate) fn pass_beat<M: Message, T: Node<M>, R: Wait>(
 /// if it does not act all of it is; if it dies, that is written.
 fn live<M: Message, T: Node<M>, R: Wait>(
     rt: &R,
-    alloc: Global,
     stamp: Stamp,
-    letters: VecDeque<Letter<M>>,
+    letters: &mut VecDeque<Letter<M>>,
     node: &mut T,
     life: &mut Life,
     journal: &mut Journal,
     outs: &mut Vec<Outlet<M>>,
+    outputs: &mut Outbox<M>,
 ) -> Result<(), NoMemory>
     requires early { stamp.beat ≤ most_beats }
     requires reading { stamp.reading ≤ most_reading }
-    requires set { IsSetFor T.stands_at stamp.beat (links_of_letters letters.items)
+    requires outputs { outputs.old ≡ [] }
+    requires set { IsSetFor T.stands_at stamp.beat (links_of_letters letters.old.items)
         (stage node.old life.old journal.old outs.old.items) }
     ensures turn { OnOk result ((stage node.new life.new journal.new outs.new.items)
         ≡ happen M.note_of T.step
-        (beat_events M.note_of T.step stamp letters.items (record { state = node.old; life = life.old; journal = journal.old }))
+        (beat_events M.note_of T.step stamp letters.old.items (record { state = node.old; life = life.old; journal = journal.old }))
         (stage node.old life.old journal.old outs.old.items)) }
     ensures keeps { OnOk result (KeepsSet M.note_of T.step T.stands_at stamp.beat
-        (beat_events M.note_of T.step stamp letters.items (record { state = node.old; life = life.old; journal = journal.old }))
+        (beat_events M.note_of T.step stamp letters.old.items (record { state = node.old; life = life.old; journal = journal.old }))
         (stage node.old life.old journal.old outs.old.items)
         (stage node.new life.new journal.new outs.new.items)) }
+    ensures letters { OnOk result (letters.new.items ≡ []) }
+    ensures outputs { OnOk result (outputs.new ≡ []) }
 {
-    take_all(rt, alloc, stamp, letters, node, life, journal, outs)?;
-    end_beat(rt, alloc, stamp, node, life, journal, outs)
+    take_all(rt, stamp, letters, node, life, journal, outs, outputs)?;
+    end_beat(rt, stamp, node, life, journal, outs, outputs)
 }
 
 fn take_all<M: Message, T: Node<M>, R: Wait>(
     rt: &R,
-    alloc: Global,
     stamp: Stamp,
-    mut letters: VecDeque<Letter<M>>,
+    letters: &mut VecDeque<Letter<M>>,
     node: &mut T,
     life: &mut Life,
     journal: &mut Journal,
     outs: &mut Vec<Outlet<M>>,
+    outputs: &mut Outbox<M>,
 ) -> Result<(), NoMemory>
     requires early { stamp.beat ≤ most_beats }
     requires reading { stamp.reading ≤ most_reading }
-    requires set { IsSetFor T.stands_at stamp.beat (links_of_letters letters.items)
+    requires outputs { outputs.old ≡ [] }
+    requires set { IsSetFor T.stands_at stamp.beat (links_of_letters letters.old.items)
         (stage node.old life.old journal.old outs.old.items) }
     ensures takes { OnOk result ((stage node.new life.new journal.new outs.new.items)
         ≡ happen M.note_of T.step
-        (letter_events M.note_of T.step stamp letters.items (record { state = node.old; life = life.old; journal = journal.old }))
+        (letter_events M.note_of T.step stamp letters.old.items (record { state = node.old; life = life.old; journal = journal.old }))
         (stage node.old life.old journal.old outs.old.items)) }
     ensures keeps { OnOk result (KeepsSet M.note_of T.step T.stands_at stamp.beat
-        (letter_events M.note_of T.step stamp letters.items (record { state = node.old; life = life.old; journal = journal.old }))
+        (letter_events M.note_of T.step stamp letters.old.items (record { state = node.old; life = life.old; journal = journal.old }))
         (stage node.old life.old journal.old outs.old.items)
         (stage node.new life.new journal.new outs.new.items)) }
+    ensures letters { OnOk result (letters.new.items ≡ []) }
+    ensures outputs { OnOk result (outputs.new ≡ []) }
 {
     while let Some(letter) = letters.pop_front() {
-        take_heard(rt, alloc, stamp, letter, node, life, journal, outs)?;
+        take_heard(rt, stamp, letter, node, life, journal, outs, outputs)?;
     }
     Ok(())
 }
@@ -104,16 +115,17 @@ fn take_all<M: Message, T: Node<M>, R: Wait>(
 /// Takes a letter if the node acts and hears it; else it is lost.
 fn take_heard<M: Message, T: Node<M>, R: Wait>(
     rt: &R,
-    alloc: Global,
     stamp: Stamp,
     letter: Letter<M>,
     node: &mut T,
     life: &mut Life,
     journal: &mut Journal,
     outs: &mut Vec<Outlet<M>>,
+    outputs: &mut Outbox<M>,
 ) -> Result<(), NoMemory>
     requires early { stamp.beat ≤ most_beats }
     requires reading { stamp.reading ≤ most_reading }
+    requires outputs { outputs.old ≡ [] }
     requires set { IsSetFor T.stands_at stamp.beat (letter.link ∷ [])
         (stage node.old life.old journal.old outs.old.items) }
     ensures takes { OnOk result ((stage node.new life.new journal.new outs.new.items)
@@ -124,26 +136,28 @@ fn take_heard<M: Message, T: Node<M>, R: Wait>(
         (letter_events M.note_of T.step stamp (letter ∷ []) (record { state = node.old; life = life.old; journal = journal.old }))
         (stage node.old life.old journal.old outs.old.items)
         (stage node.new life.new journal.new outs.new.items)) }
+    ensures outputs { OnOk result (outputs.new ≡ []) }
 {
     let taken = life.acts(stamp.beat) && life.hears(letter.sent, stamp.beat);
     if taken {
-        return take_one(rt, alloc, stamp, letter, node, life, journal, outs);
+        return take_one(rt, stamp, letter, node, life, journal, outs, outputs);
     }
     Ok(())
 }
 
 fn take_one<M: Message, T: Node<M>, R: Wait>(
     rt: &R,
-    alloc: Global,
     stamp: Stamp,
     letter: Letter<M>,
     node: &mut T,
     life: &mut Life,
     journal: &mut Journal,
     outs: &mut Vec<Outlet<M>>,
+    outputs: &mut Outbox<M>,
 ) -> Result<(), NoMemory>
     requires early { stamp.beat ≤ most_beats }
     requires reading { stamp.reading ≤ most_reading }
+    requires outputs { outputs.old ≡ [] }
     requires set { IsSetFor T.stands_at stamp.beat (letter.link ∷ [])
         (stage node.old life.old journal.old outs.old.items) }
     ensures event { OnOk result ((stage node.new life.new journal.new outs.new.items)
@@ -153,31 +167,32 @@ fn take_one<M: Message, T: Node<M>, R: Wait>(
         (Does (Take stamp letter.link letter.msg) ∷ [])
         (stage node.old life.old journal.old outs.old.items)
         (stage node.new life.new journal.new outs.new.items)) }
+    ensures outputs { OnOk result (outputs.new ≡ []) }
 {
     let Letter { link, msg, .. } = letter;
     let note = msg.note();
-    let mut outputs = Outbox::new(alloc);
-    node.take(stamp, link, msg, &mut outputs)?;
-    life.trim(stamp, false, &mut outputs);
+    node.take(stamp, link, msg, outputs)?;
+    life.trim(stamp, false, outputs);
     journal.write(Entry {
         stamp,
         what: What::Got(link, note),
     })?;
-    deliver(rt, stamp, &mut outputs, journal, outs)
+    deliver(rt, stamp, outputs, journal, outs)
 }
 
 /// The end of a node's beat: it ticks if it acts, and if it dies it writes that it does.
 fn end_beat<M: Message, T: Node<M>, R: Wait>(
     rt: &R,
-    alloc: Global,
     stamp: Stamp,
     node: &mut T,
     life: &mut Life,
     journal: &mut Journal,
     outs: &mut Vec<Outlet<M>>,
+    outputs: &mut Outbox<M>,
 ) -> Result<(), NoMemory>
     requires early { stamp.beat ≤ most_beats }
     requires reading { stamp.reading ≤ most_reading }
+    requires outputs { outputs.old ≡ [] }
     requires set { IsSetFor T.stands_at stamp.beat []
         (stage node.old life.old journal.old outs.old.items) }
     ensures ends { OnOk result ((stage node.new life.new journal.new outs.new.items)
@@ -186,9 +201,10 @@ fn end_beat<M: Message, T: Node<M>, R: Wait>(
     ensures keeps { OnOk result (KeepsSet M.note_of T.step T.stands_at stamp.beat (end_events stamp life.old)
         (stage node.old life.old journal.old outs.old.items)
         (stage node.new life.new journal.new outs.new.items)) }
+    ensures outputs { OnOk result (outputs.new ≡ []) }
 {
     if life.acts(stamp.beat) {
-        return tick(rt, alloc, stamp, node, life, journal, outs);
+        return tick(rt, stamp, node, life, journal, outs, outputs);
     }
     if life.dies(stamp.beat) {
         return journal.write(Entry {
@@ -201,15 +217,16 @@ fn end_beat<M: Message, T: Node<M>, R: Wait>(
 
 fn tick<M: Message, T: Node<M>, R: Wait>(
     rt: &R,
-    alloc: Global,
     stamp: Stamp,
     node: &mut T,
     life: &mut Life,
     journal: &mut Journal,
     outs: &mut Vec<Outlet<M>>,
+    outputs: &mut Outbox<M>,
 ) -> Result<(), NoMemory>
     requires early { stamp.beat ≤ most_beats }
     requires reading { stamp.reading ≤ most_reading }
+    requires outputs { outputs.old ≡ [] }
     requires set { IsSetFor T.stands_at stamp.beat []
         (stage node.old life.old journal.old outs.old.items) }
     ensures event { OnOk result ((stage node.new life.new journal.new outs.new.items)
@@ -218,9 +235,9 @@ fn tick<M: Message, T: Node<M>, R: Wait>(
     ensures keeps { OnOk result (KeepsSet M.note_of T.step T.stands_at stamp.beat (Does (Tick stamp) ∷ [])
         (stage node.old life.old journal.old outs.old.items)
         (stage node.new life.new journal.new outs.new.items)) }
+    ensures outputs { OnOk result (outputs.new ≡ []) }
 {
-    let mut outputs = Outbox::new(alloc);
-    node.tick(stamp, &mut outputs)?;
-    life.trim(stamp, true, &mut outputs);
-    deliver(rt, stamp, &mut outputs, journal, outs)
+    node.tick(stamp, outputs)?;
+    life.trim(stamp, true, outputs);
+    deliver(rt, stamp, outputs, journal, outs)
 }

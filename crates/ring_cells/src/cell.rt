@@ -13,8 +13,10 @@ use crate::moved::Moved;
 use crate::named::Named;
 use crate::outlet::Outlet;
 use crate::rows::await_all;
-use node_kit::{Course, Dial, Journal, Life, Node};
+use node_kit::{Course, Dial, Journal, Life, Node, Outbox};
+use run_facts::Letter;
 use std::alloc::Global;
+use std::collections::VecDeque;
 use std::marker::{Model, PhantomData};
 use std::sync::Wait;
 use tiger_base::{Beat, LinkNo, Message, NoMemory, NodeNo};
@@ -25,7 +27,6 @@ use tiger_base::{Beat, LinkNo, Message, NoMemory, NodeNo};
 /// allows (`IsCellOf`).
 #[derive(Drop)]
 pub struct Cell<M: Message, T: Node<M>, W: Named<T>> {
-    alloc: Global,
     number: NodeNo,
     dial: Dial,
     beats: u64,
@@ -36,11 +37,14 @@ pub struct Cell<M: Message, T: Node<M>, W: Named<T>> {
     journal: Journal,
     ins: Vec<Inlet<M>>,
     outs: Vec<Outlet<M>>,
+    // Room for what a beat's events take and put out, empty between beats: it is asked for once, and not in each event.
+    letters: VecDeque<Letter<M>>,
+    outputs: Outbox<M>,
     of: PhantomData<W>,
 }
 
 impl<M: Message, T: Node<M>, W: Named<T>> Model for Cell<M, T, W> {
-    ghost use Rattle.std.specs.Prelude.{◌≡◌, ◌≤◌, false};
+    ghost use Rattle.std.specs.Prelude.{◌≡◌, ◌≤◌, false, []};
     ghost use Rattle.tiger_base.specs.Limits.{most_beats};
     ghost use Rattle.ring_cells.specs.Cells.{Seen, IsCellOf};
 
@@ -68,7 +72,9 @@ impl<M: Message, T: Node<M>, W: Named<T>> Model for Cell<M, T, W> {
           past = record { state = c.node; life = c.life; journal = c.journal };
           ins = c.ins.items;
           outs = c.outs.items;
-        })) };
+        }))
+        × (c.spoilt ≡ false → c.letters.items ≡ [])
+        × (c.spoilt ≡ false → c.outputs ≡ []) };
 }
 
 /// What a cell holds, taken apart.
@@ -104,7 +110,6 @@ impl<M: Message, T: Node<M>, W: Named<T>> Cell<M, T, W> {
         ensures sound { result.spoilt ≡ false }
     {
         Cell {
-            alloc,
             number,
             dial: course.dial(number),
             beats: course.beats,
@@ -115,6 +120,8 @@ impl<M: Message, T: Node<M>, W: Named<T>> Cell<M, T, W> {
             journal: Journal::new(alloc),
             ins,
             outs,
+            letters: VecDeque::new(alloc),
+            outputs: Outbox::new(alloc),
             of: PhantomData,
         }
     }
@@ -202,13 +209,14 @@ impl<M: Message, T: Node<M>, W: Named<T>> Cell<M, T, W> {
         }
         let Ok(()) = pass_beat(
             rt,
-            self.alloc,
             stamp,
             &mut self.node,
             &mut self.life,
             &mut self.journal,
             &mut self.ins,
             &mut self.outs,
+            &mut self.letters,
+            &mut self.outputs,
         ) else {
             return Err(NoMemory);
         };
@@ -225,7 +233,6 @@ impl<M: Message, T: Node<M>, W: Named<T>> Cell<M, T, W> {
         ensures kept { self.spoilt ≡ false → IsCellOf M.note_of T.step T.stands_at W.course W.opening W.line self }
     {
         let Cell {
-            alloc: _,
             number: _,
             dial: _,
             beats: _,
@@ -236,6 +243,8 @@ impl<M: Message, T: Node<M>, W: Named<T>> Cell<M, T, W> {
             journal,
             ins,
             outs,
+            letters: _letters,
+            outputs: _outputs,
             of: _,
         } = self;
         CellParts {

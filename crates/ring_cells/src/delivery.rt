@@ -22,6 +22,7 @@ pub(crate) fn deliver<M: Message, R: Wait>(
     requires open { AreOpen stamp.beat outs.old.items }
     ensures journal { OnOk result (journal.new ≡ journal.old ++ map (entry_of M.note_of stamp) outputs.old) }
     ensures outs { OnOk result (outs.new.items ≡ posted stamp.beat outputs.old outs.old.items) }
+    ensures done { OnOk result (outputs.new ≡ []) }
 {
     while let Some(output) = outputs.take_first() {
         deliver_one(rt, stamp, output, journal, outs)?;

@@ -1,5 +1,5 @@
 //! The rows of in-links and of out-links of one node.
-ghost use Rattle.std.specs.Prelude.{◌≡◌, ◌<◌, ◌≤◌, ◌++◌, map, vec_len, IfOk, OnOk, MatchOption};
+ghost use Rattle.std.specs.Prelude.{◌≡◌, ◌<◌, ◌≤◌, ◌++◌, [], map, vec_len, IfOk, OnOk, MatchOption};
 ghost use Rattle.std.specs.List.{AllByRecursion};
 ghost use Rattle.tiger_base.specs.Limits.{most_beats};
 ghost use Rattle.ring_cells.specs.Lists.{Pairwise, IsFirst, changed_at, changed_first};
@@ -8,7 +8,6 @@ ghost use Rattle.ring_cells.specs.Flows.{HasReceived, IsClosedTo, FirstShort, Aw
 use crate::inlet::Inlet;
 use crate::outlet::Outlet;
 use run_facts::Letter;
-use std::alloc::Global;
 use std::collections::VecDeque;
 use std::sync::Wait;
 use tiger_base::{Beat, LinkNo, NoMemory};
@@ -51,20 +50,20 @@ fn await_at<M: Drop, R: Wait>(
     }
 }
 
-/// Takes out what has arrived by a beat: in-link for in-link, and the oldest first.
+/// Takes out what has arrived by a beat, as letters: in-link for in-link, and the oldest first.
 pub(crate) fn collect<M: Drop>(
-    alloc: Global,
     beat: Beat,
     ins: &mut Vec<Inlet<M>>,
-) -> Result<VecDeque<Letter<M>>, NoMemory>
-    ensures letters { IfOk result (λ r. r.items ≡ letters_of beat ins.old.items) }
+    letters: &mut VecDeque<Letter<M>>,
+) -> Result<(), NoMemory>
+    requires { letters.old.items ≡ [] }
+    ensures letters { OnOk result (letters.new.items ≡ letters_of beat ins.old.items) }
     ensures rest { OnOk result (ins.new.items ≡ map (emptied beat) ins.old.items) }
 {
-    let mut letters = VecDeque::new(alloc);
     for n in 0..ins.len() {
-        empty_at(beat, n, ins, &mut letters)?;
+        empty_at(beat, n, ins, letters)?;
     }
-    Ok(letters)
+    Ok(())
 }
 
 fn empty_at<M: Drop>(

@@ -3,7 +3,7 @@ use Rattle.ring_cells.proofs.Acting.{takes-on, none-left, none-keeps, set-first,
 use Rattle.ring_cells.proofs.beats.take_all.Goals as goal
 
 pub loop-letter-init : goal.loop-letter-init
-loop-letter-init g c = record { taken = refl; set = c.requires.set; keeps = λ last k. k }
+loop-letter-init g c = record { taken = refl; set = c.requires.set; keeps = λ last k. k; room = c.requires.outputs }
 
 pub take_heard-requires-clause-set : goal.take_heard-requires-clause-set
 take_heard-requires-clause-set g c =
@@ -14,6 +14,7 @@ loop-letter-preserved g c = record {
   taken = takes-on _ _ _ c.in-Some.letter _ c.loop-letter.letters.items _ _ _ c.in-Some.ensures.items c.in_ok-take_heard.ensures.takes c.loop-letter.invariant.taken;
   set = set-rest _ _ _ _ _ c.in-Some.letter _ c.loop-letter.letters.items _ _ c.in-Some.ensures.items c.in_ok-take_heard.ensures.keeps c.loop-letter.invariant.set;
   keeps = λ last k. c.loop-letter.invariant.keeps last (keeps-letter _ _ _ _ c.in-Some.letter _ c.loop-letter.letters.items _ _ _ c.in-Some.ensures.items c.in_ok-take_heard.ensures.takes c.in_ok-take_heard.ensures.keeps k);
+  room = c.in_ok-take_heard.ensures.outputs;
 }
 
 pub returns-clause-keeps : goal.returns-clause-keeps

@@ -1,4 +1,4 @@
-use Rattle.std.proofs.Common.{◌≡◌, length}
+use Rattle.std.proofs.Common.{◌≡◌, [], length}
 use Rattle.run_facts.specs.Beats.{letter_events}
 use Rattle.ring_cells.specs.Stages.{Stage, stage, happen, links_of_letters, IsSetFor, KeepsSet}
 use Rattle.ring_cells.proofs.beats.take_all.Given as goal
@@ -19,6 +19,7 @@ invariant-loop-letter g l = record {
       → KeepsSet g.M.Message.note_of g.T.Node.step g.T.Node.stands_at l.stamp.beat
       (letter_events g.M.Message.note_of g.T.Node.step l.stamp l.fn.letters.items (record { state = l.fn.node; life = l.fn.life; journal = l.fn.journal }))
       (stage l.fn.node l.fn.life l.fn.journal l.fn.outs.items) last;
+  room : l.outputs ≡ [];
 }
 
 abbrev pub decreases-loop-letter : goal.decreases-loop-letter

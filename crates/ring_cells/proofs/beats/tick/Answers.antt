@@ -5,7 +5,7 @@ use Rattle.ring_cells.proofs.beats.tick.Goals as goal
 pub returns-clause-event : goal.returns-clause-event
 returns-clause-event g c =
     on_ok_weaker c.deliver.result
-    (λ d. ticked _ _ _ _ _ _ _ _ _ _ _ _ _ _ _ c.in_ok-tick.ensures c.new-outputs.ensures c.trim.ensures.life c.trim.ensures.outs d.0 d.1)
+    (λ d. ticked _ _ _ _ _ _ _ _ _ _ _ _ _ _ _ c.in_ok-tick.ensures c.requires.outputs c.trim.ensures.life c.trim.ensures.outs d.0 d.1)
     (both-ok _ _ c.deliver.result c.deliver.ensures.journal c.deliver.ensures.outs)
 
 pub returns-clause-keeps : goal.returns-clause-keeps

@@ -15,4 +15,6 @@ invariant_of-result g c =
         within = omega arith;
         kept = keeps_open g.M.Message.note_of g.T.Node.step g.T.Node.stands_at c.args.course.now W.opening W.line c.args.number.0 c.args.node c.new.result c.new-2.result c.args.ins.items c.args.outs.items r.course r.opens r.stands c.new.ensures c.new-2.ensures r.ins r.outs;
       },
+      λ _. c.new-3.ensures.items,
+      λ _. c.new-4.ensures,
     )
