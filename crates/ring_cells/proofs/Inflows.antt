@@ -1,8 +1,5 @@
 -- An in-link in a beat: messages are received, and what arrives is taken out.
-use Rattle.std.proofs.Common.{◌≡◌, ℕ, ◌+◌, ◌<◌, ◌≤◌, List, [], ◌∷◌, ◌++◌, map, filter, true, false, refl, ap, sym, ◌∙◌, subst, arith, ⊎_elim, append_assoc}
-use Rattle.std.specs.Prelude.{nat_le}
-use Rattle.std.proofs.lemmas.Bool.{cases_Bool}
-use Rattle.std.proofs.lemmas.Bool.Decides.{nat_tests}
+use Rattle.std.proofs.Common.{◌≡◌, ℕ, ◌+◌, ◌<◌, ◌≤◌, List, [], ◌∷◌, ◌++◌, map, filter, ap, sym, ◌∙◌, subst, arith, append_assoc}
 use Rattle.std.proofs.lemmas.List.{map-append}
 use Rattle.std.proofs.lemmas.List.Elements.{filter-append}
 use Rattle.std.specs.List.{AllByRecursion}
@@ -14,6 +11,7 @@ use Rattle.run_facts.specs.Events.{NodeEvent, takes_along}
 use Rattle.run_facts.specs.Paced.{Passage, brought}
 use Rattle.run_facts.proofs.Along.{takes-append}
 use Rattle.run_facts.proofs.Beats.{under_way-waiting}
+use Rattle.run_facts.proofs.Links.{arriving-waiting, arriving-low, waiting-high}
 use Rattle.run_facts.proofs.Rows.{all-append, all-weaker, rising-right}
 use Rattle.ring_links.specs.Ends.{LineId}
 use Rattle.ring_links.specs.Flights.{AllFollow, IsOrdered, AllFrom}
@@ -44,30 +42,6 @@ module _ {M : Type 0} where
 
   pub behind-late : (closed next : ℕ) (xs ys : List (Flight M)) → next ≤ closed + 1 → AllFrom closed ys → IsOrdered (xs ++ ys) → AllByRecursion (λ (f : Passage M). next ≤ f.arrival) (map pass ys)
   behind-late closed next xs ys far from ordered = arrive-late closed next ys far from (ordered-right xs ys ordered)
-
--- what is under way is what arrives by a beat and what waits then
-arriving-waiting : {X : Type 0} (beat : ℕ) (fs : List (Passage X)) → fs ≡ arriving beat fs ++ waiting beat fs
-arriving-waiting beat [] = refl
-arriving-waiting beat (f ∷ fs) = ⊎_elim
-    (λ (e : nat_le f.arrival beat ≡ true). rw e (ap (λ ps. f ∷ ps) (arriving-waiting beat fs)))
-    (λ (e : nat_le f.arrival beat ≡ false). rw e refl)
-    (cases_Bool (nat_le f.arrival beat))
-
-arriving-low : {X : Type 0} (beat : ℕ) (fs : List (Passage X)) → AllByRecursion (λ (f : Passage X). f.arrival < beat + 1) (arriving beat fs)
-arriving-low beat [] = tt
-arriving-low beat (f ∷ fs) = ⊎_elim
-    (λ (e : nat_le f.arrival beat ≡ true). rw e (grind (arith, nat_tests, e), arriving-low beat fs))
-    (λ (e : nat_le f.arrival beat ≡ false). rw e tt)
-    (cases_Bool (nat_le f.arrival beat))
-
-waiting-high : {X : Type 0} (beat : ℕ) (fs : List (Passage X)) → Rising (λ (f : Passage X). f.arrival) fs → AllByRecursion (λ (f : Passage X). beat + 1 ≤ f.arrival) (waiting beat fs)
-waiting-high beat [] r = tt
-waiting-high {X} beat (f ∷ fs) r = ⊎_elim
-    (λ (e : nat_le f.arrival beat ≡ true). rw e (waiting-high beat fs r.1))
-    (λ (e : nat_le f.arrival beat ≡ false).
-    let high : beat + 1 ≤ f.arrival = grind (arith, nat_tests, e) in
-    rw e (high, all-weaker (λ (g : Passage X). f.arrival ≤ g.arrival) (λ (g : Passage X). beat + 1 ≤ g.arrival) fs (λ g l. omega (arith, l, high)) r.0))
-    (cases_Bool (nat_le f.arrival beat))
 
 module _ {M : Type 0} (line_of : ℕ → LineId) (life : Lifetime) where
   pub inflow-waits : (next : ℕ) (events : List (NodeEvent M)) (i j : Inflow M) → IsInflow line_of life next events i → HasReceived i j → IsInflow line_of life next events j
