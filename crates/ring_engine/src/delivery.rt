@@ -21,6 +21,7 @@ pub fn deliver<M: Message>(
     requires links { AllByRecursion (IsPostable (vec_len channels.old)) outputs.old }
     ensures journal { OnOk result (journal.new ≡ journal.old ++ map (entry_of M.note_of stamp) outputs.old) }
     ensures channels { OnOk result (channels.new.items ≡ posted stamp.beat outputs.old channels.old.items) }
+    ensures done { OnOk result (outputs.new ≡ []) }
 {
     while let Some(output) = outputs.take_first() {
         deliver_one(stamp, output, journal, channels)?;

@@ -12,24 +12,27 @@ use crate::gathering::gather;
 use crate::mail::Channel;
 use node_kit::{Entry, Journal, Life, Node, Outbox, What};
 use run_facts::Letter;
-use std::alloc::Global;
 use std::collections::VecDeque;
 use tiger_base::{LinkNo, Message, NoMemory, Stamp};
 
 /// A node's beat: it takes what has arrived on its in-links, by link number and then in the link's
 /// order, and then ticks. What it does not hear is lost, and where it does not act all of it is;
-/// where it dies, that is written.
+/// where it dies, that is written. Letters and outputs are room for what its events take and put
+/// out.
 pub fn live<M: Message, T: Node<M>>(
-    alloc: Global,
     stamp: Stamp,
     links: &[LinkNo],
     node: &mut T,
     life: &mut Life,
     journal: &mut Journal,
     channels: &mut Vec<Channel<M>>,
+    letters: &mut VecDeque<Letter<M>>,
+    outputs: &mut Outbox<M>,
 ) -> Result<(), NoMemory>
     requires early { stamp.beat ≤ most_beats }
     requires reading { stamp.reading ≤ most_reading }
+    requires letters { letters.old.items ≡ [] }
+    requires outputs { outputs.old ≡ [] }
     requires ready { IsReadyFor T.stands_at stamp.beat links.now
         (scene node.old life.old journal.old channels.old.items) }
     ensures turn { OnOk result ((scene node.new life.new journal.new channels.new.items)
@@ -40,52 +43,58 @@ pub fn live<M: Message, T: Node<M>>(
         (record { state = node.old; life = life.old; journal = journal.old }))
         (scene node.old life.old journal.old channels.old.items)
         (scene node.new life.new journal.new channels.new.items)) }
+    ensures letters { OnOk result (letters.new.items ≡ []) }
+    ensures outputs { OnOk result (outputs.new ≡ []) }
 {
-    let letters = gather(alloc, stamp.beat, links, channels)?;
-    take_all(alloc, stamp, letters, node, life, journal, channels)?;
-    end_beat(alloc, stamp, node, life, journal, channels)
+    gather(stamp.beat, links, channels, letters)?;
+    take_all(stamp, letters, node, life, journal, channels, outputs)?;
+    end_beat(stamp, node, life, journal, channels, outputs)
 }
 
 fn take_all<M: Message, T: Node<M>>(
-    alloc: Global,
     stamp: Stamp,
-    mut letters: VecDeque<Letter<M>>,
+    letters: &mut VecDeque<Letter<M>>,
     node: &mut T,
     life: &mut Life,
     journal: &mut Journal,
     channels: &mut Vec<Channel<M>>,
+    outputs: &mut Outbox<M>,
 ) -> Result<(), NoMemory>
     requires early { stamp.beat ≤ most_beats }
     requires reading { stamp.reading ≤ most_reading }
-    requires ready { IsReadyFor T.stands_at stamp.beat (links_of_letters letters.items)
+    requires outputs { outputs.old ≡ [] }
+    requires ready { IsReadyFor T.stands_at stamp.beat (links_of_letters letters.old.items)
         (scene node.old life.old journal.old channels.old.items) }
     ensures takes { OnOk result ((scene node.new life.new journal.new channels.new.items)
         ≡ happen M.note_of T.step
-        (letter_events M.note_of T.step stamp letters.items (record { state = node.old; life = life.old; journal = journal.old }))
+        (letter_events M.note_of T.step stamp letters.old.items (record { state = node.old; life = life.old; journal = journal.old }))
         (scene node.old life.old journal.old channels.old.items)) }
     ensures keeps { OnOk result (KeepsReady M.note_of T.step T.stands_at stamp.beat
-        (letter_events M.note_of T.step stamp letters.items (record { state = node.old; life = life.old; journal = journal.old }))
+        (letter_events M.note_of T.step stamp letters.old.items (record { state = node.old; life = life.old; journal = journal.old }))
         (scene node.old life.old journal.old channels.old.items)
         (scene node.new life.new journal.new channels.new.items)) }
+    ensures letters { OnOk result (letters.new.items ≡ []) }
+    ensures outputs { OnOk result (outputs.new ≡ []) }
 {
     while let Some(letter) = letters.pop_front() {
-        take_heard(alloc, stamp, letter, node, life, journal, channels)?;
+        take_heard(stamp, letter, node, life, journal, channels, outputs)?;
     }
     Ok(())
 }
 
 /// Takes a letter where the node acts and hears it; else it is lost.
 fn take_heard<M: Message, T: Node<M>>(
-    alloc: Global,
     stamp: Stamp,
     letter: Letter<M>,
     node: &mut T,
     life: &mut Life,
     journal: &mut Journal,
     channels: &mut Vec<Channel<M>>,
+    outputs: &mut Outbox<M>,
 ) -> Result<(), NoMemory>
     requires early { stamp.beat ≤ most_beats }
     requires reading { stamp.reading ≤ most_reading }
+    requires outputs { outputs.old ≡ [] }
     requires ready { IsReadyFor T.stands_at stamp.beat (letter.link ∷ [])
         (scene node.old life.old journal.old channels.old.items) }
     ensures takes { OnOk result ((scene node.new life.new journal.new channels.new.items)
@@ -96,25 +105,27 @@ fn take_heard<M: Message, T: Node<M>>(
         (letter_events M.note_of T.step stamp (letter ∷ []) (record { state = node.old; life = life.old; journal = journal.old }))
         (scene node.old life.old journal.old channels.old.items)
         (scene node.new life.new journal.new channels.new.items)) }
+    ensures outputs { OnOk result (outputs.new ≡ []) }
 {
     let taken = life.acts(stamp.beat) && life.hears(letter.sent, stamp.beat);
     if taken {
-        return take_one(alloc, stamp, letter, node, life, journal, channels);
+        return take_one(stamp, letter, node, life, journal, channels, outputs);
     }
     Ok(())
 }
 
 fn take_one<M: Message, T: Node<M>>(
-    alloc: Global,
     stamp: Stamp,
     letter: Letter<M>,
     node: &mut T,
     life: &mut Life,
     journal: &mut Journal,
     channels: &mut Vec<Channel<M>>,
+    outputs: &mut Outbox<M>,
 ) -> Result<(), NoMemory>
     requires early { stamp.beat ≤ most_beats }
     requires reading { stamp.reading ≤ most_reading }
+    requires outputs { outputs.old ≡ [] }
     requires ready { IsReadyFor T.stands_at stamp.beat (letter.link ∷ [])
         (scene node.old life.old journal.old channels.old.items) }
     ensures event { OnOk result ((scene node.new life.new journal.new channels.new.items)
@@ -124,30 +135,31 @@ fn take_one<M: Message, T: Node<M>>(
         (Does (Take stamp letter.link letter.msg) ∷ [])
         (scene node.old life.old journal.old channels.old.items)
         (scene node.new life.new journal.new channels.new.items)) }
+    ensures outputs { OnOk result (outputs.new ≡ []) }
 {
     let Letter { link, msg, .. } = letter;
     let note = msg.note();
-    let mut outputs = Outbox::new(alloc);
-    node.take(stamp, link, msg, &mut outputs)?;
-    life.trim(stamp, false, &mut outputs);
+    node.take(stamp, link, msg, outputs)?;
+    life.trim(stamp, false, outputs);
     journal.write(Entry {
         stamp,
         what: What::Got(link, note),
     })?;
-    deliver(stamp, &mut outputs, journal, channels)
+    deliver(stamp, outputs, journal, channels)
 }
 
 /// The end of a node's beat: it ticks where it acts, and where it dies it writes that it does.
 fn end_beat<M: Message, T: Node<M>>(
-    alloc: Global,
     stamp: Stamp,
     node: &mut T,
     life: &mut Life,
     journal: &mut Journal,
     channels: &mut Vec<Channel<M>>,
+    outputs: &mut Outbox<M>,
 ) -> Result<(), NoMemory>
     requires early { stamp.beat ≤ most_beats }
     requires reading { stamp.reading ≤ most_reading }
+    requires outputs { outputs.old ≡ [] }
     requires ready { IsReadyFor T.stands_at stamp.beat []
         (scene node.old life.old journal.old channels.old.items) }
     ensures ends { OnOk result ((scene node.new life.new journal.new channels.new.items)
@@ -156,9 +168,10 @@ fn end_beat<M: Message, T: Node<M>>(
     ensures keeps { OnOk result (KeepsReady M.note_of T.step T.stands_at stamp.beat (end_events stamp life.old)
         (scene node.old life.old journal.old channels.old.items)
         (scene node.new life.new journal.new channels.new.items)) }
+    ensures outputs { OnOk result (outputs.new ≡ []) }
 {
     if life.acts(stamp.beat) {
-        return tick(alloc, stamp, node, life, journal, channels);
+        return tick(stamp, node, life, journal, channels, outputs);
     }
     if life.dies(stamp.beat) {
         return journal.write(Entry {
@@ -170,15 +183,16 @@ fn end_beat<M: Message, T: Node<M>>(
 }
 
 fn tick<M: Message, T: Node<M>>(
-    alloc: Global,
     stamp: Stamp,
     node: &mut T,
     life: &mut Life,
     journal: &mut Journal,
     channels: &mut Vec<Channel<M>>,
+    outputs: &mut Outbox<M>,
 ) -> Result<(), NoMemory>
     requires early { stamp.beat ≤ most_beats }
     requires reading { stamp.reading ≤ most_reading }
+    requires outputs { outputs.old ≡ [] }
     requires ready { IsReadyFor T.stands_at stamp.beat []
         (scene node.old life.old journal.old channels.old.items) }
     ensures event { OnOk result ((scene node.new life.new journal.new channels.new.items)
@@ -187,9 +201,9 @@ fn tick<M: Message, T: Node<M>>(
     ensures keeps { OnOk result (KeepsReady M.note_of T.step T.stands_at stamp.beat (Does (Tick stamp) ∷ [])
         (scene node.old life.old journal.old channels.old.items)
         (scene node.new life.new journal.new channels.new.items)) }
+    ensures outputs { OnOk result (outputs.new ≡ []) }
 {
-    let mut outputs = Outbox::new(alloc);
-    node.tick(stamp, &mut outputs)?;
-    life.trim(stamp, true, &mut outputs);
-    deliver(stamp, &mut outputs, journal, channels)
+    node.tick(stamp, outputs)?;
+    life.trim(stamp, true, outputs);
+    deliver(stamp, outputs, journal, channels)
 }

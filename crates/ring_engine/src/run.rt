@@ -1,5 +1,5 @@
 //! A run of any nodes on one thread.
-ghost use Rattle.std.specs.Prelude.{◌≡◌, ◌+◌, ◌<◌, ◌≤◌, length, IfOk, OnOk, vec_len};
+ghost use Rattle.std.specs.Prelude.{◌≡◌, ◌+◌, ◌<◌, ◌≤◌, [], length, IfOk, OnOk, vec_len};
 ghost use Rattle.tiger_base.specs.Limits.{most_beats};
 ghost use Rattle.node_kit.specs.Courses.{IsCourse};
 ghost use Rattle.node_kit.specs.Links.{links_of, viewers_of};
@@ -16,8 +16,10 @@ ghost use Rattle.node_kit.specs.Rows.{AllStand};
 use crate::events::live;
 use crate::mail::Channel;
 use crate::opening::{all_in_links, all_lives, new_channels, new_journals};
-use node_kit::{Course, Journal, Life, LinkTable, Node, Ran};
+use node_kit::{Course, Journal, Life, LinkTable, Node, Outbox, Ran};
+use run_facts::Letter;
 use std::alloc::Global;
+use std::collections::VecDeque;
 use tiger_base::{Beat, LinkNo, Message, NoMemory, NodeNo, Sequence};
 
 /// Runs the nodes of a course. In each beat each node, by number, takes what arrives in the beat, by
@@ -52,9 +54,11 @@ pub fn run_plain<M: Message, T: Node<M>>(
     let mut lives = all_lives(alloc, course, links)?;
     let mut journals = new_journals(alloc, links)?;
     let mut channels = new_channels(alloc, course, links)?;
+    // One room for letters and one for outputs serve all events of the run.
+    let mut letters = VecDeque::new(alloc);
+    let mut outputs = Outbox::new(alloc);
     for beat in 0..course.beats {
         run_beat(
-            alloc,
             course,
             beat,
             in_links.as_slice(),
@@ -62,6 +66,8 @@ pub fn run_plain<M: Message, T: Node<M>>(
             &mut lives,
             &mut journals,
             &mut channels,
+            &mut letters,
+            &mut outputs,
         )?;
     }
     Ok(Ran {
@@ -71,7 +77,6 @@ pub fn run_plain<M: Message, T: Node<M>>(
 }
 
 fn run_beat<M: Message, T: Node<M>>(
-    alloc: Global,
     course: &Course,
     beat: Beat,
     in_links: &[Sequence<LinkNo>],
@@ -79,9 +84,13 @@ fn run_beat<M: Message, T: Node<M>>(
     lives: &mut Vec<Life>,
     journals: &mut Vec<Journal>,
     channels: &mut Vec<Channel<M>>,
+    letters: &mut VecDeque<Letter<M>>,
+    outputs: &mut Outbox<M>,
 ) -> Result<(), NoMemory>
     requires course { IsCourse course.now }
     requires early { beat ≤ most_beats }
+    requires letters { letters.old.items ≡ [] }
+    requires outputs { outputs.old ≡ [] }
     requires few { vec_len nodes.old ≤ 1000 }
     requires in_links { AreInLinks course.now.plan.params (vec_len nodes.old) in_links.now }
     requires sound { IsSound T.stands_at course.now.plan.params (vec_len nodes.old) beat
@@ -94,18 +103,21 @@ fn run_beat<M: Message, T: Node<M>>(
     ensures lived { OnOk result (AllHaveLived M.note_of T.step course.now beat
         (ring nodes.old.items lives.old.items journals.old.items channels.old.items)
         (ring nodes.new.items lives.new.items journals.new.items channels.new.items)) }
+    ensures letters { OnOk result (letters.new.items ≡ []) }
+    ensures outputs { OnOk result (outputs.new ≡ []) }
 {
     for n in 0..nodes.len() {
         let stamp = course.stamp(NodeNo(n as u32), beat);
         let links = in_links[n].as_slice();
         live(
-            alloc,
             stamp,
             links,
             &mut nodes[n],
             &mut lives[n],
             &mut journals[n],
             channels,
+            letters,
+            outputs,
         )?;
     }
     Ok(())

@@ -1,4 +1,4 @@
-use Rattle.std.proofs.Common.{◌≡◌, length}
+use Rattle.std.proofs.Common.{◌≡◌, [], length}
 use Rattle.ring_engine.specs.Turns.{Scene, scene, happen, links_of_letters, IsReadyFor, KeepsReady}
 use Rattle.run_facts.specs.Beats.{letter_events}
 use Rattle.ring_engine.proofs.events.take_all.Given as goal
@@ -19,6 +19,7 @@ invariant-loop-letter g l = record {
       → KeepsReady g.M.Message.note_of g.T.Node.step g.T.Node.stands_at l.stamp.beat
       (letter_events g.M.Message.note_of g.T.Node.step l.stamp l.fn.letters.items (record { state = l.fn.node; life = l.fn.life; journal = l.fn.journal }))
       (scene l.fn.node l.fn.life l.fn.journal l.fn.channels.items) last;
+  room : l.outputs ≡ [];
 }
 
 abbrev pub decreases-loop-letter : goal.decreases-loop-letter

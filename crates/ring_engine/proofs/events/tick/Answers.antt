@@ -6,12 +6,12 @@ use Rattle.ring_engine.proofs.events.tick.Goals as goal
 pub deliver-requires-clause-links : goal.deliver-requires-clause-links
 deliver-requires-clause-links g c =
     let r = c.requires.ready in
-    postable-event _ _ _ _ _ _ _ _ _ _ _ _ r.params r.number _ c.in_ok-tick.ensures c.new-outputs.ensures c.trim.ensures.outs r.ready.stands_here (r.ready.count ∙ sym c.args.channels.now.ok.0)
+    postable-event _ _ _ _ _ _ _ _ _ _ _ _ r.params r.number _ c.in_ok-tick.ensures c.requires.outputs c.trim.ensures.outs r.ready.stands_here (r.ready.count ∙ sym c.args.channels.now.ok.0)
 
 pub returns-clause-event : goal.returns-clause-event
 returns-clause-event g c =
     on_ok_weaker c.deliver.result
-    (λ d. ticked _ _ _ _ _ _ _ _ _ _ _ _ _ _ _ c.in_ok-tick.ensures c.new-outputs.ensures c.trim.ensures.life c.trim.ensures.outs d.0 d.1)
+    (λ d. ticked _ _ _ _ _ _ _ _ _ _ _ _ _ _ _ c.in_ok-tick.ensures c.requires.outputs c.trim.ensures.life c.trim.ensures.outs d.0 d.1)
     (both-ok _ _ c.deliver.result c.deliver.ensures.journal c.deliver.ensures.channels)
 
 pub returns-clause-keeps : goal.returns-clause-keeps

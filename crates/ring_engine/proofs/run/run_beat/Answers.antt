@@ -32,6 +32,8 @@ loop-n-preserved g c =
       midway = midway-on _ _ _ c.args.course.now _ c.args.beat c.loop-n.n _ _ _ _ _ _ _ _ _ _ _ _ c.stamp-stamp.ensures.stamp node life journal c.in_ok-live.ensures.turn c.in_ok-live.ensures.keeps c.loop-n.invariant.midway;
       turns = turns-on _ _ _ c.args.course.now (vec_len c.args.nodes.now) c.args.beat c.loop-n.n _ _ _ c.args.in_links.now _ _ _ _ _ _ _ _ c.stamp-stamp.ensures.stamp low c.requires.in_links (links ∙ ap Some (sym c.as_slice-links.ensures)) node life journal c.in_ok-live.ensures.turn sound c.in_ok-live.ensures.keeps c.loop-n.invariant.turns;
       end = c.loop-n.invariant.end;
+      letters = c.in_ok-live.ensures.letters;
+      outputs = c.in_ok-live.ensures.outputs;
     }
 
 pub returns-clause-lived : goal.returns-clause-lived

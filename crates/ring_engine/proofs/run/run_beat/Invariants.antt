@@ -1,4 +1,4 @@
-use Rattle.std.proofs.Common.{◌≡◌, vec_len}
+use Rattle.std.proofs.Common.{◌≡◌, [], vec_len}
 use Rattle.ring_engine.specs.Whole.{HaveTurns}
 use Rattle.ring_engine.proofs.Running.{Midway}
 use Rattle.ring_engine.proofs.run.run_beat.Given as goal
@@ -13,4 +13,6 @@ invariant-loop-n g l = record {
       (record { nodes = l.fn.nodes.items; lives = l.fn.lives.items; journals = l.fn.journals.items; channels = l.fn.channels.items })
       (record { nodes = l.nodes.items; lives = l.lives.items; journals = l.journals.items; channels = l.channels.items });
   end : l.n-end ≡ vec_len l.fn.nodes;
+  letters : l.letters.items ≡ [];
+  outputs : l.outputs ≡ [];
 }

@@ -17,6 +17,8 @@ loop-beat-init g c =
       sound = sound-open _ c.args.course.now _ _ _ _ _ c.requires.stand c.args.nodes.ok.0 lives journals channels;
       passed = ring-opens c.args.course.now _ _ _ _ _ c.args.nodes.ok.0 lives journals channels;
       come = come-open _ _ c.args.course.now _ _ _ _ _ c.args.nodes.ok.0 lives journals;
+      letters = c.new-letters.ensures.items;
+      outputs = c.new-outputs.ensures;
     }
 
 pub loop-beat-preserved : goal.loop-beat-preserved
@@ -24,6 +26,8 @@ loop-beat-preserved g c = record {
   sound = sound-later _ _ _ _ _ _ (c.loop-beat.nodes.ok.0 ∙ c.loop-beat.invariant.sound.nodes) c.in_ok-run_beat.ensures.sound;
   passed = passed-on _ _ _ _ _ _ _ _ _ (c.loop-beat.nodes.ok.0 ∙ c.loop-beat.invariant.sound.nodes) c.in_ok-run_beat.ensures.turns c.loop-beat.invariant.passed;
   come = come-more _ _ _ _ _ _ _ c.in_ok-run_beat.ensures.lived c.loop-beat.invariant.come;
+  letters = c.in_ok-run_beat.ensures.letters;
+  outputs = c.in_ok-run_beat.ensures.outputs;
 }
 
 pub returns-clause-runs : goal.returns-clause-runs

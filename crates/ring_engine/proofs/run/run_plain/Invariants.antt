@@ -1,4 +1,4 @@
-use Rattle.std.proofs.Common.{vec_len}
+use Rattle.std.proofs.Common.{◌≡◌, [], vec_len}
 use Rattle.ring_engine.specs.Places.{IsSound}
 use Rattle.ring_engine.specs.Whole.{HavePassed, opening_ring}
 use Rattle.ring_engine.proofs.Running.{AllHaveCome}
@@ -13,4 +13,6 @@ invariant-loop-beat g l = record {
       (record { nodes = l.nodes.items; lives = l.lives.items; journals = l.journals.items; channels = l.channels.items });
   come : AllHaveCome g.M.Message.note_of g.T.Node.step l.course l.beat l.fn.nodes.items
       (record { nodes = l.nodes.items; lives = l.lives.items; journals = l.journals.items; channels = l.channels.items });
+  letters : l.letters.items ≡ [];
+  outputs : l.outputs ≡ [];
 }
