@@ -11,12 +11,13 @@ use Rattle.node_kit.specs.declared.journal.Entry.{Entry}
 use Rattle.node_kit.specs.declared.outbox.Out.{Out}
 use Rattle.node_kit.specs.Life.{Lifetime, trimmed}
 use Rattle.node_kit.specs.Links.{IsInLink}
-use Rattle.node_kit.specs.Steps.{Input, Deed, Acts, IsAllowed, entry_of}
+use Rattle.node_kit.specs.Steps.{Input, Deed, Acts, Rests, IsAllowed, entry_of}
 use Rattle.node_kit.specs.Steps.Input.{Take, Tick}
 use Rattle.run_facts.specs.declared.mail.Letter.{Letter}
 use Rattle.run_facts.specs.Beats.{is_taken, letter_events}
 use Rattle.run_facts.specs.Events.{NodeEvent, Past, after, after_all, after_input, kept_outs, AreFair}
 use Rattle.run_facts.specs.Events.NodeEvent.{Does, Dies}
+use Rattle.run_facts.proofs.Beats.{rests-past, rests-outs}
 use Rattle.ring_cells.specs.Flows.{Outflow, posted, AreOpen}
 use Rattle.ring_cells.specs.Stages.{Stage, stage, happens, happen, links_of_letters, IsSetFor, KeepsSet}
 use Rattle.ring_cells.proofs.Posting.{AreOpen-posted}
@@ -55,6 +56,14 @@ module _ {M S : Type 0} (note : M → Note) (step : S → Input M → Deed M S) 
   ticked stands stamp s s' before after kept life life' j j2 os os' acted none lived trim wrote sent =
       let whole : after ≡ (step s (Tick stamp)).outs = acted.appended ∙ ap (λ ps. ps ++ (step s (Tick stamp)).outs) none in
       rw (acted.moved, lived, wrote, sent) (rw trim (rw whole refl))
+
+  -- the tick of a node that rests leaves no trace
+  pub rested : (stamp : Stamp) (old : Stage M S) → Rests step stamp old.past.state → old ≡ happens note step (Does (Tick stamp)) old
+  rested stamp old quiet = rw (rests-past note step stamp old.past quiet, rests-outs step stamp old.past quiet) refl
+
+  pub rested-keeps : (stands : S → Params → ℕ → Type 0) (stamp : Stamp) (old : Stage M S) → Rests step stamp old.past.state
+      → KeepsSet note step stands stamp.beat (Does (Tick stamp) ∷ []) old old
+  rested-keeps stands stamp old quiet p n r = (r, (subst (AllByRecursion (IsAllowed note p n)) (sym (rests-outs step stamp old.past quiet)) tt, tt))
 
   -- trimming leaves what may be put out
   fair-event : (P : Out M → Type 0) (i : Input M) (past : Past S) → AllByRecursion P (step past.state i).outs → AllByRecursion P (kept_outs step i past)

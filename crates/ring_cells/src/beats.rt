@@ -237,6 +237,10 @@ fn tick<M: Message, T: Node<M>, R: Wait>(
         (stage node.new life.new journal.new outs.new.items)) }
     ensures outputs { OnOk result (outputs.new ≡ []) }
 {
+    // The tick of a node that rests would put nothing out and change nothing.
+    if node.rests(stamp) {
+        return Ok(());
+    }
     node.tick(stamp, outputs)?;
     life.trim(stamp, true, outputs);
     deliver(rt, stamp, outputs, journal, outs)

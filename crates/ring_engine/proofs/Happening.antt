@@ -11,7 +11,7 @@ use Rattle.node_kit.specs.declared.journal.Entry.{Entry}
 use Rattle.node_kit.specs.declared.outbox.Out.{Out}
 use Rattle.node_kit.specs.Life.{Lifetime, trimmed}
 use Rattle.node_kit.specs.Links.{links_of, link_count, IsInLink}
-use Rattle.node_kit.specs.Steps.{Input, Deed, Acts, IsAllowed, entry_of}
+use Rattle.node_kit.specs.Steps.{Input, Deed, Acts, Rests, IsAllowed, entry_of}
 use Rattle.node_kit.specs.Steps.Input.{Take, Tick}
 use Rattle.node_kit.proofs.Ring.{ends_counted}
 use Rattle.run_facts.specs.declared.mail.Flight.{Flight}
@@ -22,6 +22,7 @@ use Rattle.run_facts.specs.Beats.{arrived, is_taken, letter_events, end_events, 
 use Rattle.run_facts.specs.Events.{NodeEvent, Past, after, after_all, after_input, kept_outs, AreFair}
 use Rattle.run_facts.specs.Events.NodeEvent.{Does, Dies}
 use Rattle.run_facts.proofs.Along.{fair-append}
+use Rattle.run_facts.proofs.Beats.{rests-past, rests-outs}
 use Rattle.ring_engine.specs.Turns.{Scene, scene, turn, happens, happen, links_of_letters, IsReady, IsReadyFor, KeepsReady}
 use Rattle.ring_engine.proofs.Arriving.{length-posted, length-after_collecting, AreOpen-posted, AreOpen-after_collecting}
 use Rattle.ring_engine.proofs.Delivering.{postable-allowed}
@@ -71,6 +72,15 @@ unfolding after_input kept_outs
 ticked note step stands stamp s s' before after kept life life' j j2 ts ts' acted none lived trim wrote sent =
     let whole : after ≡ (step s (Tick stamp)).outs = acted.appended ∙ ap (λ os. os ++ (step s (Tick stamp)).outs) none in
     rw (acted.moved, lived, wrote, sent) (rw trim (rw whole refl))
+
+-- the tick of a node that rests leaves no trace
+pub rested : {M S : Type 0} (note : M → Note) (step : S → Input M → Deed M S) (stamp : Stamp) (old : Scene M S) → Rests step stamp old.past.state
+    → old ≡ happens note step (Does (Tick stamp)) old
+rested note step stamp old quiet = rw (rests-past note step stamp old.past quiet, rests-outs step stamp old.past quiet) refl
+
+pub rested-keeps : {M S : Type 0} (note : M → Note) (step : S → Input M → Deed M S) (stands : S → Params → ℕ → Type 0) (stamp : Stamp) (old : Scene M S)
+    → Rests step stamp old.past.state → KeepsReady note step stands stamp.beat (Does (Tick stamp) ∷ []) old old
+rested-keeps note step stands stamp old quiet p n r = (r, (subst (AllByRecursion (IsAllowed note p n)) (sym (rests-outs step stamp old.past quiet)) tt, tt))
 
 -- trimming leaves what may be put out
 fair-event : {M S : Type 0} (step : S → Input M → Deed M S) (P : Out M → Type 0) (i : Input M) (past : Past S) → AllByRecursion P (step past.state i).outs

@@ -203,6 +203,10 @@ fn tick<M: Message, T: Node<M>>(
         (scene node.new life.new journal.new channels.new.items)) }
     ensures outputs { OnOk result (outputs.new ≡ []) }
 {
+    // The tick of a node that rests would put nothing out and change nothing.
+    if node.rests(stamp) {
+        return Ok(());
+    }
     node.tick(stamp, outputs)?;
     life.trim(stamp, true, outputs);
     deliver(stamp, outputs, journal, channels)

@@ -6,14 +6,14 @@ use Rattle.tiger_base.specs.declared.number.Stamp.{Stamp}
 use Rattle.tiger_base.specs.declared.number.LinkNo.{LinkNo}
 use Rattle.tiger_base.specs.declared.message.Note.{Note}
 use Rattle.slot_plan.specs.declared.params.Params.{Params}
-use Rattle.node_kit.specs.Life.{Lifetime, acts, dies, hears, lifetime_of}
+use Rattle.node_kit.specs.Life.{Lifetime, acts, dies, hears, lifetime_of, trimmed}
 use Rattle.node_kit.specs.Links.{IsInLink}
-use Rattle.node_kit.specs.Steps.{Input, Deed}
+use Rattle.node_kit.specs.Steps.{Input, Deed, Rests}
 use Rattle.node_kit.specs.Steps.Input.{Take, Tick}
 use Rattle.run_facts.specs.declared.mail.Flight.{Flight}
 use Rattle.run_facts.specs.declared.mail.Letter.{Letter}
 use Rattle.run_facts.specs.Beats.{arrived, is_taken, letter_events, end_events, beat_events, under_way, pass, bring, on_link}
-use Rattle.run_facts.specs.Events.{NodeEvent, Past, after, after_all, stamp_at, takes_along}
+use Rattle.run_facts.specs.Events.{NodeEvent, Past, after, after_all, after_input, kept_outs, outs_of, stamp_at, takes_along}
 use Rattle.run_facts.specs.Events.NodeEvent.{Does, Dies}
 use Rattle.std.proofs.lemmas.Bool.{cases_Bool}
 use Rattle.std.proofs.lemmas.Bool.Decides.{nat_tests}
@@ -37,6 +37,16 @@ end-dying stamp life idle dead = rw (idle, dead) refl
 pub end-idle : {M : Type 0} (stamp : Stamp) (life : Lifetime) → acts life stamp.beat ≡ false → dies life stamp.beat ≡ false → end_events {M = M} stamp life ≡ []
 unfolding end_events
 end-idle stamp life idle undead = rw (idle, undead) refl
+
+-- the tick of a node that rests leaves no trace
+pub rests-past : {M S : Type 0} (note : M → Note) (step : S → Input M → Deed M S) (stamp : Stamp) (past : Past S) → Rests step stamp past.state
+    → after note step (Does (Tick stamp)) past ≡ past
+unfolding after_input kept_outs trimmed
+rests-past note step stamp past quiet = rw quiet (rw (append-nil past.journal) refl)
+
+pub rests-outs : {M S : Type 0} (step : S → Input M → Deed M S) (stamp : Stamp) (past : Past S) → Rests step stamp past.state → outs_of step (Does (Tick stamp)) past ≡ []
+unfolding kept_outs trimmed
+rests-outs step stamp past quiet = rw quiet refl
 
 pub under_way-waiting : {M : Type 0} (beat : ℕ) (fs : List (Flight M)) → map pass (under_way beat fs) ≡ waiting beat (map pass fs)
 under_way-waiting beat [] = refl
