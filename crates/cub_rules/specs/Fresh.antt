@@ -25,6 +25,15 @@ IsFresh p x = x.1 ≤ end_of p x.0
 abbrev pub AreFresh : Params → List Timed → Type 0
 AreFresh p xs = AllByRecursion (IsFresh p) xs
 
+-- no part's time comes before a given one
+abbrev pub AreFrom : ℕ → List Timed → Type 0
+AreFrom time xs = AllByRecursion (λ x. time ≤ x.1) xs
+
+-- each part is fresh, and no part's time comes before a given one: until then none is stale
+pub record AreFreshFrom (p : Params) (time : ℕ) (xs : List Timed) : Type 0 where
+  pub fresh : AreFresh p xs
+  pub from : AreFrom time xs
+
 -- whether two plans are the same in the numbers that the times of visits come of
 abbrev pub has_same_times : Params → Params → Bool
 has_same_times p q = p.cubs == q.cubs && p.disks == q.disks && p.slots == q.slots && p.play == q.play

@@ -1,7 +1,7 @@
 //! The parts that a cub has stored, each with a time before which it is fresh: until then a tick works out no due time.
 ghost use Rattle.std.specs.Prelude.{◌≡◌, ◌≤◌, ◌==◌, ◌++◌, ◌∷◌, [], true, OnOk, OnErr, filter, length, not};
 ghost use Rattle.std.specs.List.{AllByRecursion};
-ghost use Rattle.cub_rules.specs.Fresh.{stored_of, end_of, IsFresh, has_same_times};
+ghost use Rattle.cub_rules.specs.Fresh.{stored_of, end_of, IsFresh, AreFrom, has_same_times};
 ghost use Rattle.cub_rules.specs.Messages.{is_piece_part};
 ghost use Rattle.cub_rules.specs.Records.{is_part_of, stored_for};
 ghost use Rattle.cub_rules.specs.State.{IsPartHere};
@@ -19,18 +19,20 @@ use tiger_base::{Instance, Micros, NoMemory, Part, Visit, Want};
 pub struct StoredParts<'a> {
     items: Vec<(StoredPart<'a>, Micros)>,
     params: Params,
+    // All parts are fresh before it: until then a tick walks over none.
+    fresh_before: Micros,
 }
 
 impl<'a> Model for StoredParts<'a> {
     ghost use Rattle.std.specs.Prelude.{List};
     ghost use Rattle.cub_rules.specs.declared.store.StoredPart.{StoredPart};
-    ghost use Rattle.cub_rules.specs.Fresh.{stored_of, AreFresh};
+    ghost use Rattle.cub_rules.specs.Fresh.{stored_of, AreFreshFrom};
 
     ghost Value = { List StoredPart };
 
     ghost view = { λ s. stored_of s.items.items };
 
-    ghost invariant = { λ s. AreFresh s.params s.items.items };
+    ghost invariant = { λ s. AreFreshFrom s.params s.fresh_before s.items.items };
 }
 
 impl<'a> StoredParts<'a> {
@@ -41,6 +43,7 @@ impl<'a> StoredParts<'a> {
         StoredParts {
             items: Vec::new(alloc),
             params: plan.params,
+            fresh_before: u64::MAX,
         }
     }
 
@@ -73,6 +76,9 @@ impl<'a> StoredParts<'a> {
     {
         let time = fresh_until(&self.params, plan, &stored);
         self.items.push((stored, time))?;
+        if time < self.fresh_before {
+            self.fresh_before = time;
+        }
         Ok(())
     }
 
@@ -82,7 +88,11 @@ impl<'a> StoredParts<'a> {
         ensures { self.new ≡ filter (λ x. not (is_stale plan.now.params reading x)) self.old }
     {
         let timed = has_same_times(&self.params, &plan.params);
+        if timed && reading < self.fresh_before {
+            return;
+        }
         forget_stale(&mut self.items, timed, plan, reading);
+        self.fresh_before = least_time(self.items.as_slice());
     }
 
     /// Drops all parts of an instance.
@@ -158,6 +168,19 @@ fn forget_stale<'a>(
             items.remove(i);
         }
     }
+}
+
+/// The least of the times beside the parts, or the greatest time if there is no part.
+fn least_time<'a>(items: &[(StoredPart<'a>, Micros)]) -> Micros
+    ensures { AreFrom result items.now }
+{
+    let mut least = u64::MAX;
+    for x in items {
+        if x.1 < least {
+            least = x.1;
+        }
+    }
+    least
 }
 
 /// Whether the play time of a part's visit is over, which it is not before the part's time, if that is the plan's.

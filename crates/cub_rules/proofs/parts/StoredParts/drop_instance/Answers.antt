@@ -1,11 +1,11 @@
 use Rattle.std.proofs.Common.{not}
 use Rattle.cub_rules.specs.Records.{is_part_of}
-use Rattle.cub_rules.proofs.Timed.{left, left_fresh}
+use Rattle.cub_rules.proofs.Timed.{left, left_from}
 use Rattle.cub_rules.proofs.parts.StoredParts.drop_instance.Goals as goal
 
 pub invariant_of-self : goal.invariant_of-self
 invariant_of-self c =
-    left_fresh c.self.inside.params (λ x. not (is_part_of c.args.instance x)) c.self.inside.items.items c.drop_instance.new.items.items c.self.invariant c.drop_instance.ensures
+    left_from c.self.inside.params c.self.inside.fresh_before (λ x. not (is_part_of c.args.instance x)) c.self.inside.items.items c.drop_instance.new.items.items c.self.invariant c.drop_instance.ensures
 
 pub returns : goal.returns
 returns c =
