@@ -1,13 +1,15 @@
 //! The parts that a cub has stored, each with a time before which it is fresh: until then a tick works out no due time.
 ghost use Rattle.std.specs.Prelude.{◌≡◌, ◌≤◌, ◌==◌, ◌++◌, ◌∷◌, [], true, OnOk, OnErr, filter, length, not};
 ghost use Rattle.std.specs.List.{AllByRecursion};
-ghost use Rattle.cub_rules.specs.Fresh.{stored_of, end_of, IsFresh, AreFrom, has_same_times};
+ghost use Rattle.mirror_schedule.specs.Timed.{untimed};
+ghost use Rattle.cub_rules.specs.Fresh.{end_of, IsFresh};
 ghost use Rattle.cub_rules.specs.Messages.{is_piece_part};
 ghost use Rattle.cub_rules.specs.Records.{is_part_of, stored_for};
 ghost use Rattle.cub_rules.specs.State.{IsPartHere};
 ghost use Rattle.cub_rules.specs.Ticks.{is_stale};
 
 use crate::store::StoredPart;
+use mirror_schedule::{has_same_times, least_time};
 use slot_plan::{Params, Plan};
 use std::alloc::Global;
 use std::marker::Model;
@@ -26,11 +28,12 @@ pub struct StoredParts<'a> {
 impl<'a> Model for StoredParts<'a> {
     ghost use Rattle.std.specs.Prelude.{List};
     ghost use Rattle.cub_rules.specs.declared.store.StoredPart.{StoredPart};
-    ghost use Rattle.cub_rules.specs.Fresh.{stored_of, AreFreshFrom};
+    ghost use Rattle.mirror_schedule.specs.Timed.{untimed};
+    ghost use Rattle.cub_rules.specs.Fresh.{AreFreshFrom};
 
     ghost Value = { List StoredPart };
 
-    ghost view = { λ s. stored_of s.items.items };
+    ghost view = { λ s. untimed s.items.items };
 
     ghost invariant = { λ s. AreFreshFrom s.params s.fresh_before s.items.items };
 }
@@ -113,7 +116,7 @@ impl<'a> StoredParts<'a> {
 /// The first part that is for a want.
 #[tactic(auto, unfolding(crate::specs::Records::stored_for))]
 fn find_part<'a>(want: Want, items: &[(StoredPart<'a>, Micros)]) -> Option<Part<'a>>
-    ensures { result ≡ stored_for want (stored_of items.now) }
+    ensures { result ≡ stored_for want (untimed items.now) }
 {
     for x in items {
         if x.0.want == want {
@@ -143,13 +146,6 @@ fn end_of<'a>(x: &StoredPart<'a>, plan: &Plan) -> Micros
     plan.due(x.want.slot, x.want.visit) + plan.params.play
 }
 
-/// Whether two plans are the same in the numbers that the times of visits come of.
-fn has_same_times(p: &Params, q: &Params) -> bool
-    ensures { result ≡ has_same_times p.now q.now }
-{
-    p.cubs == q.cubs && p.disks == q.disks && p.slots == q.slots && p.play == q.play
-}
-
 /// Forgets the parts whose play time is over; `timed` says that their times are the plan's.
 fn forget_stale<'a>(
     items: &mut Vec<(StoredPart<'a>, Micros)>,
@@ -168,19 +164,6 @@ fn forget_stale<'a>(
             items.remove(i);
         }
     }
-}
-
-/// The least of the times beside the parts, or the greatest time if there is no part.
-fn least_time<'a>(items: &[(StoredPart<'a>, Micros)]) -> Micros
-    ensures { AreFrom result items.now }
-{
-    let mut least = u64::MAX;
-    for x in items {
-        if x.1 < least {
-            least = x.1;
-        }
-    }
-    least
 }
 
 /// Whether the play time of a part's visit is over, which it is not before the part's time, if that is the plan's.

@@ -57,7 +57,7 @@ impl<'a> Store<'a> {
             believes: false,
             pieces: PieceView::new(alloc, plan),
             unasked: PieceView::new(alloc, plan),
-            splits: Splits::new(alloc),
+            splits: Splits::new(alloc, plan),
             parts: StoredParts::new(alloc, plan),
         }
     }

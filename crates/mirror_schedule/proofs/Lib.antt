@@ -1,3 +1,4 @@
+pub mod KeptSplits
 pub mod Members
 pub mod Numbers
 pub mod Orders
@@ -6,3 +7,4 @@ pub mod PlaceRemovals
 pub mod Places
 pub mod Ranks
 pub mod Removals
+pub mod Timed

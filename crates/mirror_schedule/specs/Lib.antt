@@ -2,3 +2,4 @@ pub mod Choices
 pub mod Pieces
 pub mod Sorted
 pub mod Splits
+pub mod Timed

@@ -1,15 +1,17 @@
 //! What a cub keeps of mirror pieces: the pieces that it is to send, and the visits that it has
-//! split.
+//! split; and the times that stand beside what it keeps.
 #![tactic(auto)]
 
 mod order;
 mod pieces;
 mod splits;
 mod splitting;
+mod times;
 
 pub use pieces::PieceView;
 pub use splits::Splits;
 pub use splitting::split;
+pub use times::{has_same_times, least_time};
 
 #[cfg(test)]
 mod tests;

@@ -85,7 +85,7 @@ fn a_piece_behind_the_first_is_removed(rt: HostRuntime) -> Result<(), Fail> {
 
 #[test]
 fn split_visits_are_given_back_by_slot(rt: HostRuntime) -> Result<(), Fail> {
-    let mut splits = Splits::new(rt.alloc());
+    let mut splits = Splits::new(rt.alloc(), &small_plan());
     splits.remember(Instance(0), SlotNo(1), 3)?;
     assert!(rt; splits.take_of(Instance(0)) == Some((SlotNo(1), 3)));
     assert!(rt; splits.take_of(Instance(0)).is_none());
@@ -104,7 +104,7 @@ fn split_visits_are_given_back_by_slot(rt: HostRuntime) -> Result<(), Fail> {
 fn remembered(alloc: Global) -> Result<Splits, NoMemory>
     ensures { IfOk result (λ splits. splits ≡ (record { 0 = 0 }, record { 0 = 1 }, 3) ∷ []) }
 {
-    let mut splits = Splits::new(alloc);
+    let mut splits = Splits::new(alloc, &small_plan());
     splits.remember(Instance(0), SlotNo(1), 3)?;
     Ok(splits)
 }

@@ -1,6 +1,7 @@
 use Rattle.std.proofs.Common.{not}
 use Rattle.cub_rules.specs.Messages.{is_piece_part}
-use Rattle.cub_rules.proofs.Timed.{left, left_from}
+use Rattle.mirror_schedule.proofs.Timed.{untimed_left}
+use Rattle.cub_rules.proofs.Timed.{left_from}
 use Rattle.cub_rules.proofs.parts.StoredParts.drop_pieces.Goals as goal
 
 pub invariant_of-self : goal.invariant_of-self
@@ -9,4 +10,4 @@ invariant_of-self c =
 
 pub returns : goal.returns
 returns c =
-    left (λ x. not (is_piece_part c.args.instance c.args.visit x)) c.self.inside.items.items c.drop_pieces.new.items.items c.args.self.now c.self.view_is c.drop_pieces.ensures
+    untimed_left (λ x. not (is_piece_part c.args.instance c.args.visit x)) c.self.inside.items.items c.drop_pieces.new.items.items c.args.self.now c.self.view_is c.drop_pieces.ensures

@@ -1,8 +1,10 @@
 use Rattle.std.proofs.Common.{not, List, sym, subst, ◌∙◌}
-use Rattle.cub_rules.specs.Fresh.{Timed, AreFrom}
+use Rattle.mirror_schedule.specs.Timed.{AreFrom}
+use Rattle.cub_rules.specs.Fresh.{Timed}
 use Rattle.cub_rules.specs.State.{IsPartHere}
 use Rattle.cub_rules.specs.Ticks.{is_stale}
-use Rattle.cub_rules.proofs.Timed.{left, left_fresh, each_stored, fresh_alike, none_stale}
+use Rattle.mirror_schedule.proofs.Timed.{ends_under, untimed_left}
+use Rattle.cub_rules.proofs.Timed.{each_stored, key_of, left_fresh, none_stale}
 use Rattle.cub_rules.proofs.parts.StoredParts.forget_stale.Goals as goal
 
 pub forget_stale-requires-clause-here : goal.forget_stale-requires-clause-here
@@ -10,7 +12,7 @@ forget_stale-requires-clause-here c = each_stored (IsPartHere c.args.plan.now.pa
 
 pub forget_stale-requires-clause-times : goal.forget_stale-requires-clause-times
 forget_stale-requires-clause-times c =
-    fresh_alike c.self.inside.params c.args.plan.now.params c.has_same_times-timed.result c.self.inside.items.items c.has_same_times-timed.ensures c.self.invariant.fresh
+    ends_under key_of c.self.inside.params c.args.plan.now.params c.has_same_times-timed.result c.self.inside.items.items c.has_same_times-timed.ensures c.self.invariant.fresh
 
 -- nothing is stale yet
 pub returns-then-reading-self : goal.returns-then-reading-self
@@ -25,4 +27,4 @@ invariant_of-self c =
 
 pub returns : goal.returns
 returns c =
-    left (λ x. not (is_stale c.args.plan.now.params c.args.reading x)) c.self.inside.items.items c.forget_stale.new.items.items c.args.self.now c.self.view_is c.forget_stale.ensures
+    untimed_left (λ x. not (is_stale c.args.plan.now.params c.args.reading x)) c.self.inside.items.items c.forget_stale.new.items.items c.args.self.now c.self.view_is c.forget_stale.ensures

@@ -1,48 +1,25 @@
-use Rattle.std.proofs.Common.{◌≡◌, List, Some, None, find, option_map, sym, ap, subst, ◌∙◌}
-use Rattle.std.specs.List.{position}
-use Rattle.mirror_schedule.specs.Sorted.{without_first}
-use Rattle.mirror_schedule.specs.Splits.{Split, IsSplits, is_of, key_of, split_before}
-use Rattle.mirror_schedule.proofs.Orders.{sorted_without_first}
-use Rattle.mirror_schedule.proofs.PieceLists.{none_first, some_found, some_left}
+use Rattle.std.proofs.Common.{option_map, sym, ap, ◌∙◌}
+use Rattle.mirror_schedule.specs.Splits.{is_of, key_of}
+use Rattle.mirror_schedule.proofs.KeptSplits.{first_at, first_is, kept_fewer, none_placed, placed_in, without_it}
+use Rattle.mirror_schedule.proofs.PieceLists.{none_first}
 use Rattle.mirror_schedule.proofs.splits.Splits.take_of.Goals as goal
 
 pub returns-in_err-place-clause-first : goal.returns-in_err-place-clause-first
 returns-in_err-place-clause-first c =
-    let test = is_of c.args.instance in
-    let none : position test c.args.self.now ≡ None = sym (c.in_err-place.ensures ∙ ap (λ (ys : List Split). position test ys) (c.deref.ensures.value ∙ c.self.view_is)) in
-    c.from_residual.ensures ∙ sym (ap (λ o. option_map key_of o) (none_first test c.args.self.now none).found)
+    c.from_residual.ensures ∙ sym (ap (λ o. option_map key_of o) (none_first (is_of c.args.instance) c.args.self.now (none_placed (is_of c.args.instance) c.deref.result.now c.self.inside.items.items c.args.self.now c.deref.ensures.value c.self.view_is c.in_err-place.ensures)).found)
 
 pub returns-in_err-place-clause-left : goal.returns-in_err-place-clause-left
-returns-in_err-place-clause-left c =
-    let test = is_of c.args.instance in
-    let none : position test c.args.self.now ≡ None = sym (c.in_err-place.ensures ∙ ap (λ (ys : List Split). position test ys) (c.deref.ensures.value ∙ c.self.view_is)) in
-    sym (none_first test c.args.self.now none).left
+returns-in_err-place-clause-left c = sym (none_first (is_of c.args.instance) c.args.self.now (none_placed (is_of c.args.instance) c.deref.result.now c.self.inside.items.items c.args.self.now c.deref.ensures.value c.self.view_is c.in_err-place.ensures)).left
 
 pub invariant_of-self : goal.invariant_of-self
 invariant_of-self c =
-    let test = is_of c.args.instance in
-    let some : position test c.self.inside.items.items ≡ Some c.in_ok-place.place =
-    sym (c.in_ok-place.ensures ∙ ap (λ (ys : List Split). position test ys) c.deref.ensures.value) in
-    subst (λ (ys : List Split). IsSplits ys)
-    (sym (c.remove-visit.ensures.items ∙ sym (some_left test c.in_ok-place.place c.self.inside.items.items c.remove-visit.result some)))
-    (sorted_without_first split_before test c.self.inside.items.items c.self.invariant)
+    kept_fewer c.self.inside.plan.params c.self.inside.none_over_before (is_of c.args.instance) c.self.inside.items.items _ c.in_ok-place.place c.remove-visit.result.0 c.self.invariant
+    (first_at (is_of c.args.instance) c.self.inside.items.items c.args.self.now c.self.view_is c.in_ok-place.place (c.in_ok-place.ensures ∙ placed_in (is_of c.args.instance) c.deref.result.now c.self.inside.items.items c.deref.ensures.value)) c.remove-visit.ensures.items
 
 pub returns-clause-first : goal.returns-clause-first
 returns-clause-first c =
-    let test = is_of c.args.instance in
-    let some : position test c.self.inside.items.items ≡ Some c.in_ok-place.place =
-    sym (c.in_ok-place.ensures ∙ ap (λ (ys : List Split). position test ys) c.deref.ensures.value) in
-    let found : find test c.args.self.now ≡ Some c.remove-visit.result =
-    sym (ap (λ (ys : List Split). find test ys) c.self.view_is)
-    ∙ some_found test c.in_ok-place.place c.self.inside.items.items c.remove-visit.result some
-    ∙ ap (λ (x : Split). Some x) (sym c.remove-visit.ensures.value) in
-    sym (ap (λ o. option_map key_of o) found)
+    sym (ap (λ o. option_map key_of o) (first_is (is_of c.args.instance) c.self.inside.items.items c.args.self.now c.self.view_is c.in_ok-place.place (c.in_ok-place.ensures ∙ placed_in (is_of c.args.instance) c.deref.result.now c.self.inside.items.items c.deref.ensures.value) c.remove-visit.result c.remove-visit.ensures.value))
 
 pub returns-clause-left : goal.returns-clause-left
 returns-clause-left c =
-    let test = is_of c.args.instance in
-    let some : position test c.self.inside.items.items ≡ Some c.in_ok-place.place =
-    sym (c.in_ok-place.ensures ∙ ap (λ (ys : List Split). position test ys) c.deref.ensures.value) in
-    c.remove-visit.ensures.items
-    ∙ sym (some_left test c.in_ok-place.place c.self.inside.items.items c.remove-visit.result some)
-    ∙ ap (λ (ys : List Split). without_first test ys) c.self.view_is
+    without_it (is_of c.args.instance) c.self.inside.items.items c.args.self.now c.self.view_is c.in_ok-place.place (c.in_ok-place.ensures ∙ placed_in (is_of c.args.instance) c.deref.result.now c.self.inside.items.items c.deref.ensures.value) _ c.remove-visit.result.0 c.remove-visit.ensures.items
