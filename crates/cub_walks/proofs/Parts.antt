@@ -1,15 +1,15 @@
 -- Pieces that are taken out in the order of their leaving times.
-use Rattle.std.proofs.Common.{◌≡◌, ◌==◌, ℕ, ◌<◌, ◌≤◌, Bool, true, false, cond, not, ◌&&◌, nat_lt, List, [], ◌∷◌, ◌++◌, length, find, Option, Some, None, is_some, refl, sym, ap, subst, ◌∙◌, ⊎_elim, arith, append_assoc}
+use Rattle.std.proofs.Common.{◌≡◌, ◌==◌, ℕ, ◌<◌, ◌≤◌, Bool, true, false, cond, not, ◌&&◌, nat_lt, List, [], ◌∷◌, ◌++◌, length, Option, Some, None, is_some, refl, sym, ap, subst, ◌∙◌, ⊎_elim, arith, append_assoc}
 use Rattle.std.specs.List.{AllByRecursion, filter, flat_map}
 use Rattle.std.proofs.lemmas.List.{append-nil}
 use Rattle.std.proofs.lemmas.Grind.{flat_map-append}
 use Rattle.std.proofs.lemmas.Bool.{and_parts, or_cases, ltb-true, leb-false, lt-leb, eqb-true}
 use Rattle.tiger_base.specs.declared.tenancy.PieceState.{PieceState}
 use Rattle.slot_plan.specs.declared.params.Params.{Params}
-use Rattle.mirror_schedule.specs.Sorted.{is_less}
-use Rattle.mirror_schedule.specs.Pieces.{Pieces, IsPieces, comes_before, is_same, is_behind, numbers_of, leaving_of}
+use Rattle.mirror_schedule.specs.Sorted.{is_less, first_if, but_first_if}
+use Rattle.mirror_schedule.specs.Pieces as pieces
+use Rattle.mirror_schedule.specs.Pieces.{Pieces, IsPieces, comes_before, numbers_of, leaving_of}
 use Rattle.mirror_schedule.proofs.Orders.{all_more}
-use Rattle.mirror_schedule.proofs.Ranks.{pieces_order, pieces_same}
 use Rattle.cub_rules.specs.Records.{pieces_but}
 use Rattle.cub_rules.specs.Ticks.{leaves_by}
 use Rattle.cub_walks.specs.Leavings.{first_leaving, but_first_leaving, TakenOut}
@@ -18,30 +18,15 @@ use Rattle.cub_walks.specs.Leavings.{first_leaving, but_first_leaving, TakenOut}
 abbrev pub seen : Params → List PieceState → Pieces
 seen p items = record { params = p; items = items }
 
--- the first piece, removed
-itself : (p : Params) (x : PieceState) → is_same x x ≡ true
-itself p x =
-    let order = pieces_order p in
-    let law = pieces_same p in
-    law.neither x x (order.irreflexive x) (order.irreflexive x)
+-- the first piece that leaves by a time, of a set of the plan, and what is left
+pub first_taken : (p : Params) (time : ℕ) (before : Pieces) → before.params ≡ p → (o : Option PieceState) → o ≡ first_if (pieces.leaves_by before.params time) before.items → o ≡ first_leaving p time before.items
+unfolding leaves_by
+first_taken p time before plan o e = e ∙ ap (λ (q : Params). first_if (pieces.leaves_by q time) before.items) plan
 
-others_stay : (p : Params) (x : PieceState) (xs : List PieceState) → AllByRecursion (λ y. comes_before p x y ≡ true) xs → filter (λ y. not (is_same x y)) xs ≡ xs
-others_stay p x [] h = refl
-others_stay p x (y ∷ ys) h =
-    let law = pieces_same p in
-    rw (law.ahead x y h.0) (ap (λ zs. y ∷ zs) (others_stay p x ys h.1))
-
-pub first_removed : (p q : Params) (time : ℕ) (items : List PieceState) (x : PieceState) → IsPieces q items → Some x ≡ find (is_behind q None) items → leaves_by p time x ≡ true
-    → filter (λ y. not (is_same x y)) items ≡ but_first_leaving p time items
-first_removed p q time [] x w e h = absurd (cc)
-first_removed p q time (y ∷ ys) x w e h =
-    let same : y ≡ x = cc in
-    at_first y same w.order.0
-  where
-    at_first : (z : PieceState) → z ≡ x → AllByRecursion (λ u. comes_before q z u ≡ true) ys → filter (λ u. not (is_same x u)) (z ∷ ys) ≡ but_first_leaving p time (z ∷ ys)
-    at_first z same later =
-        subst (λ (v : PieceState). AllByRecursion (λ u. comes_before q v u ≡ true) ys → filter (λ u. not (is_same x u)) (v ∷ ys) ≡ but_first_leaving p time (v ∷ ys)) (sym same)
-        (λ later_x. rw (itself q x, h) (others_stay q x ys later_x)) later
+pub first_left : (p : Params) (time : ℕ) (before after : Pieces) → before.params ≡ p → after ≡ record before { items = but_first_if (pieces.leaves_by before.params time) before.items }
+    → after ≡ record before { items = but_first_leaving p time before.items }
+unfolding leaves_by
+first_left p time before after plan e = e ∙ ap (λ (q : Params). seen before.params (but_first_if (pieces.leaves_by q time) before.items)) plan
 
 -- a piece that comes behind another leaves no earlier
 leaves_later : (p : Params) (x y : PieceState) → comes_before p x y ≡ true → leaving_of p x ≤ leaving_of p y

@@ -5,7 +5,6 @@ ghost use Rattle.cub_rules.specs.Ticks.{leaves_by};
 ghost use Rattle.cub_rules.specs.Records.{pieces_but};
 ghost use Rattle.cub_walks.specs.Leavings.{first_leaving, but_first_leaving};
 
-use mirror_pieces::piece_due;
 use mirror_schedule::PieceView;
 use slot_plan::Plan;
 use tiger_base::{Micros, PieceState};
@@ -20,24 +19,7 @@ pub(crate) fn take_leaving(plan: &Plan, pieces: &mut PieceView, time: Micros) ->
     ensures order { IsPieces plan.now.params pieces.old.items }
     ensures piece { IfSome result (IsPieceOf plan.now.params) }
 {
-    let piece = pieces.after(None)?;
-    if leaves_by(plan, time, &piece) {
-        pieces.remove(piece);
-        Some(piece)
-    } else {
-        None
-    }
-}
-
-/// Whether a piece leaves by a time.
-#[tactic(auto, unfolding(cub_rules::specs::Ticks::leaves_by, mirror_schedule::specs::Pieces::leaving_of))]
-fn leaves_by(plan: &Plan, time: Micros, x: &PieceState) -> bool
-    requires { IsPieceOf plan.now.params x.now }
-    ensures { result ≡ leaves_by plan.now.params time x.now }
-{
-    let params = plan.params();
-    let due = plan.due(x.tenancy.slot, x.visit);
-    piece_due(due, x.piece, params.play, params.pieces as u32) <= time
+    pieces.take_by(time)
 }
 
 /// Takes out all pieces that leave by a time.

@@ -8,3 +8,4 @@ pub mod Places
 pub mod Ranks
 pub mod Removals
 pub mod Timed
+pub mod TimedPieces

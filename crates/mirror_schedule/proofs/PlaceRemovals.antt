@@ -7,9 +7,13 @@ use Rattle.std.proofs.lemmas.Iterator.Adapters.{position_from-zero}
 use Rattle.tiger_base.specs.declared.tenancy.PieceState.{PieceState}
 use Rattle.slot_plan.specs.declared.params.Params.{Params}
 use Rattle.mirror_schedule.specs.Sorted.{IsSorted, are_same, without_first}
-use Rattle.mirror_schedule.specs.Pieces.{IsPieces, Pieces, comes_before, is_same, is_in, numbers_of}
+use Rattle.mirror_schedule.specs.Timed.{untimed}
+use Rattle.mirror_schedule.specs.TimedPieces.{AreTimed}
+use Rattle.mirror_schedule.specs.Pieces.{Pieces, comes_before, is_same, is_in, numbers_of}
 use Rattle.mirror_schedule.proofs.PieceLists.{none_first, some_left, some_inside, seen}
 use Rattle.mirror_schedule.proofs.Ranks.{pieces_same}
+use Rattle.mirror_schedule.proofs.Timed.{untimed-position, untimed-without_first}
+use Rattle.mirror_schedule.proofs.TimedPieces.{pieces_seen}
 
 -- numbers that are the same are one list
 same_numbers : (ms ns : List ℕ) → are_same ms ns ≡ true → ms ≡ ns
@@ -61,29 +65,35 @@ unfolding is_in
 placed_in x items = any_placed (is_same x) 0 items ∙ ap is_some (sym (position_from-zero (is_same x) items))
 
 -- taking out at a place of the list cannot fail
-taken : (o : Option PieceState) (n place : ℕ) (items : List PieceState) (d : PieceState) → n ≡ length items → IsSome o ↔ (place < n) → place < length items → is_some o ≡ true
-taken None n place items d long there inside = absurd (cc (there.1 (omega (arith, long, inside))))
-taken (Some x) n place items d long there inside = refl
+taken : {X Y : Type 0} (o : Option Y) (n place : ℕ) (items : List X) → n ≡ length items → IsSome o ↔ (place < n) → place < length items → is_some o ≡ true
+taken None n place items long there inside = absurd (cc (there.1 (omega (arith, long, inside))))
+taken (Some y) n place items long there inside = refl
 
-module _ (x : PieceState) (items : List PieceState) where
-  pub found_placed : (place : ℕ) → Some place ≡ position (is_same x) items → (o : Option PieceState) (n : ℕ) → n ≡ length items → IsSome o ↔ (place < n) → is_some o ≡ is_in x items
+-- a piece among some that stand beside their times
+module _ (x : PieceState) (items : List (PieceState × ℕ)) where
+  abbrev told : PieceState × ℕ → Bool
+  told z = is_same x z.0
+
+  pub found_placed : (place : ℕ) → Some place ≡ position told items → (o : Option (PieceState × ℕ)) (n : ℕ) → n ≡ length items → IsSome o ↔ (place < n) → is_some o ≡ is_in x (untimed items)
   found_placed place e o n long there =
-      taken o n place items x long there (some_inside (is_same x) place items x (sym e)) ∙ sym (placed_in x items ∙ ap is_some (sym e))
+      taken o n place items long there (some_inside told place items (x, 0) (sym e)) ∙ sym (placed_in x (untimed items) ∙ ap is_some (sym (e ∙ untimed-position (is_same x) items)))
 
-  pub found_none : None ≡ position (is_same x) items → false ≡ is_in x items
-  found_none e = sym (placed_in x items ∙ ap is_some (sym e))
+  pub found_none : None ≡ position told items → false ≡ is_in x (untimed items)
+  found_none e = sym (placed_in x (untimed items) ∙ ap is_some (sym (e ∙ untimed-position (is_same x) items)))
 
-module _ (p : Params) (x : PieceState) (items : List PieceState) (h : IsPieces p items) where
   -- what is left
-  pub left_placed : (place : ℕ) → Some place ≡ position (is_same x) items → (o : Option PieceState) (n : ℕ) (ys : List PieceState) → n ≡ length items → IsSome o ↔ (place < n)
-      → OnSome o (ys ≡ remove items place) → ys ≡ filter (λ z. not (is_same x z)) items
-  left_placed place e None n ys long there at = absurd (cc (there.1 (omega (arith, long, some_inside (is_same x) place items x (sym e)))))
-  left_placed place e (Some y) n ys long there at = at ∙ sym (once p x items h.order ∙ some_left (is_same x) place items x (sym e))
+  pub left_placed : (place : ℕ) → Some place ≡ position told items → (o : Option (PieceState × ℕ)) (n : ℕ) (ys : List (PieceState × ℕ)) → n ≡ length items → IsSome o ↔ (place < n)
+      → OnSome o (ys ≡ remove items place) → ys ≡ without_first told items
+  left_placed place e None n ys long there at = absurd (cc (there.1 (omega (arith, long, some_inside told place items (x, 0) (sym e)))))
+  left_placed place e (Some y) n ys long there at = at ∙ sym (some_left told place items (x, 0) (sym e))
 
-  pub left_whole : None ≡ position (is_same x) items → items ≡ filter (λ z. not (is_same x z)) items
-  left_whole e = sym (once p x items h.order ∙ (none_first (is_same x) items (sym e)).left)
+  pub left_whole : None ≡ position told items → items ≡ without_first told items
+  left_whole e = sym (none_first told items (sym e)).left
 
--- what is seen of them without it
-pub seen_without : (p : Params) (x : PieceState) (items ys : List PieceState) (m : Pieces) → seen p items ≡ m → ys ≡ filter (λ z. not (is_same x z)) items
-    → seen p ys ≡ seen m.params (filter (λ z. not (is_same x z)) m.items)
-seen_without p x items ys m v e = ap (λ (zs : List PieceState). seen p zs) e ∙ ap (λ (r : Pieces). seen r.params (filter (λ z. not (is_same x z)) r.items)) v
+  -- what is seen of them without it
+  pub seen_without : (p : Params) (ys : List (PieceState × ℕ)) (m : Pieces) → seen p (untimed items) ≡ m → AreTimed p items → ys ≡ without_first told items
+      → seen p (untimed ys) ≡ seen m.params (filter (λ z. not (is_same x z)) m.items)
+  seen_without p ys m v h e =
+      ap (λ (zs : List (PieceState × ℕ)). seen p (untimed zs)) e
+      ∙ (ap (λ (zs : List PieceState). seen p zs) (untimed-without_first (is_same x) items ∙ sym (once p x (untimed items) (pieces_seen p items h).order))
+      ∙ ap (λ (r : Pieces). seen r.params (filter (λ z. not (is_same x z)) r.items)) v)

@@ -8,6 +8,7 @@ use Rattle.std.proofs.lemmas.List.Folds.{fold-map}
 use Rattle.slot_plan.specs.declared.params.Params.{Params}
 use Rattle.slot_plan.specs.Times.{due, first_due}
 use Rattle.slot_plan.specs.Keys.{Key}
+use Rattle.mirror_schedule.specs.Sorted.{without_first}
 use Rattle.mirror_schedule.specs.Timed.{untimed, AreFrom, end_of, has_same_times}
 use Rattle.mirror_schedule.proofs.Orders.{all_more}
 
@@ -23,6 +24,14 @@ module _ {X : Type 0} where
       elim (test x.0) as (λ t. untimed (cond t (x ∷ filter (λ x. test x.0) xs) (filter (λ x. test x.0) xs)) ≡ cond t (x.0 ∷ filter test (untimed xs)) (filter test (untimed xs))) [
         | true ↦ ap (λ ys. x.0 ∷ ys) (untimed-filter test xs)
         | false ↦ untimed-filter test xs
+      ]
+
+  pub untimed-without_first : (test : X → Bool) (xs : List (X × ℕ)) → untimed (without_first (λ x. test x.0) xs) ≡ without_first test (untimed xs)
+  untimed-without_first test [] = refl
+  untimed-without_first test (x ∷ xs) =
+      elim (test x.0) as (λ t. untimed (cond t xs (x ∷ without_first (λ x. test x.0) xs)) ≡ cond t (untimed xs) (x.0 ∷ without_first test (untimed xs))) [
+        | true ↦ refl
+        | false ↦ ap (λ ys. x.0 ∷ ys) (untimed-without_first test xs)
       ]
 
   pub untimed-count : (test : X → Bool) (xs : List (X × ℕ)) → count_by (λ x. test x.0) xs ≡ count_by test (untimed xs)

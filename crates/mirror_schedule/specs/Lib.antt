@@ -3,3 +3,4 @@ pub mod Pieces
 pub mod Sorted
 pub mod Splits
 pub mod Timed
+pub mod TimedPieces

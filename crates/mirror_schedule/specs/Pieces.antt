@@ -1,5 +1,5 @@
 -- The pieces of a visit, their order, and what a set of them is seen as.
-use Rattle.std.specs.Prelude.{◌≡◌, ℕ, ◌+◌, ◌≤◌, ◌<◌, ◌^◌, ◌&&◌, ◌==◌, Bool, true, List, [], ◌∷◌, map, Option, Some, None}
+use Rattle.std.specs.Prelude.{◌≡◌, ℕ, ◌+◌, ◌≤◌, ◌<◌, ◌^◌, ◌&&◌, ◌==◌, nat_le, Bool, true, List, [], ◌∷◌, map, Option, Some, None}
 use Rattle.std.specs.List.{AllByRecursion, range_with_len, list_any}
 use Rattle.tiger_base.specs.declared.number.Instance.{Instance}
 use Rattle.tiger_base.specs.declared.tenancy.Rec.{Rec}
@@ -26,6 +26,10 @@ pub record IsPieceOf (p : Params) (x : PieceState) : Type 0 where
 -- when a piece leaves
 unfoldable pub leaving_of : Params → PieceState → ℕ
 leaving_of p x = leaving (due p x.tenancy.slot.0 x.visit) x.piece p.play p.pieces
+
+-- whether it leaves by a time
+abbrev pub leaves_by : Params → ℕ → PieceState → Bool
+leaves_by p time x = nat_le (leaving_of p x) time
 
 -- the numbers of a piece: slot, visit and piece, and then the rest of its tenancy
 abbrev pub numbers_of : PieceState → List ℕ

@@ -43,3 +43,12 @@ place_of before x (y ∷ ys) = if before y x then suc (place_of before x ys) els
 abbrev pub without_first : {X : Type 0} → (X → Bool) → List X → List X
 without_first test [] = []
 without_first test (x ∷ xs) = if test x then xs else x ∷ without_first test xs
+
+-- the first element, if it passes a test, and the list without it
+abbrev pub first_if : {X : Type 0} → (X → Bool) → List X → Option X
+first_if test [] = None
+first_if test (x ∷ xs) = if test x then Some x else None
+
+abbrev pub but_first_if : {X : Type 0} → (X → Bool) → List X → List X
+but_first_if test [] = []
+but_first_if test (x ∷ xs) = if test x then xs else x ∷ xs

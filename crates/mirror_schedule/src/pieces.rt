@@ -1,34 +1,38 @@
 //! The pieces that a cub is to send.
-ghost use Rattle.std.specs.Prelude.{◌≡◌, ◌≤◌, [], length, not, filter, drop, count_by, find, position, IfOk, OnOk, OnErr, IfSome};
+ghost use Rattle.std.specs.Prelude.{◌≡◌, ◌≤◌, [], length, nat_le, not, filter, drop, count_by, find, position, option_map, IfOk, OnOk, OnErr, IfSome};
 ghost use Rattle.std.specs.Option.{ForSome};
-ghost use Rattle.std.specs.List.{AllByRecursion};
-ghost use Rattle.mirror_schedule.specs.Pieces.{IsPieceOf, IsPieces, is_same, is_in, is_behind, with_piece, is_of_visit, is_of};
+ghost use Rattle.mirror_schedule.specs.Pieces.{IsPieceOf, IsPieces, is_same, is_in, is_behind, with_piece, is_of_visit, is_of, leaves_by};
 ghost use Rattle.mirror_schedule.specs.Choices.{covers};
+ghost use Rattle.mirror_schedule.specs.Sorted.{IsSorted, first_if, but_first_if};
+ghost use Rattle.mirror_schedule.specs.TimedPieces.{timed, timed_before, timed_behind};
 
-use crate::order::{first_not_before, gap_for, is_behind};
+use crate::order::{TimedPiece, first_not_before, gap_for, is_behind, leaving};
 use slot_plan::Plan;
 use std::alloc::Global;
 use std::collections::VecDeque;
 use std::marker::Model;
-use tiger_base::{Instance, NoMemory, PieceState, Visit};
+use tiger_base::{Instance, Micros, NoMemory, PieceState, Visit};
 
 /// A set of pieces, walked by the time of leaving, then slot, visit and piece. It is seen as the
-/// plan's numbers and the list of the pieces in this order.
+/// plan's numbers and the list of the pieces in this order. Each stands beside the time at which it
+/// leaves, so that no walk works it out.
 #[derive(Drop)]
 pub struct PieceView {
     plan: Plan,
     // The first piece leaves again and again, and its removal here moves no other.
-    items: VecDeque<PieceState>,
+    items: VecDeque<TimedPiece>,
 }
 
 impl Model for PieceView {
-    ghost use Rattle.mirror_schedule.specs.Pieces.{Pieces, IsPieces};
+    ghost use Rattle.mirror_schedule.specs.Pieces.{Pieces};
+    ghost use Rattle.mirror_schedule.specs.Timed.{untimed};
+    ghost use Rattle.mirror_schedule.specs.TimedPieces.{AreTimed};
 
     ghost Value = { Pieces };
 
-    ghost view = { λ v. record { params = v.plan.params; items = v.items.items } };
+    ghost view = { λ v. record { params = v.plan.params; items = untimed v.items.items } };
 
-    ghost invariant = { λ v. IsPieces v.plan.params v.items.items };
+    ghost invariant = { λ v. AreTimed v.plan.params v.items.items };
 }
 
 impl PieceView {
@@ -51,9 +55,10 @@ impl PieceView {
         }) }
         ensures err { OnErr result (self.new ≡ self.old) }
     {
-        match gap_for(&self.plan, &self.items, &piece) {
+        let timed = (piece, leaving(&self.plan, &piece));
+        match gap_for(&self.items, &timed) {
             Some(place) => {
-                self.items.insert(place, piece)?;
+                self.items.insert(place, timed)?;
                 Ok(true)
             }
             None => Ok(false),
@@ -68,7 +73,21 @@ impl PieceView {
         ensures piece { IfSome result (IsPieceOf self.now.params) }
         ensures order { IsPieces self.now.params self.now.items }
     {
-        next_behind(&self.plan, &self.items, given)
+        let (piece, _) = next_behind(&self.items, timed(&self.plan, given))?;
+        Some(piece)
+    }
+
+    /// Takes out the first piece if it leaves by a time; `None` exactly if there is none that does.
+    pub fn take_by(&mut self, time: Micros) -> Option<PieceState>
+        ensures first { result ≡ first_if (leaves_by self.old.params time) self.old.items }
+        ensures left { self.new ≡ record self.old {
+          items = but_first_if (leaves_by self.old.params time) self.old.items;
+        } }
+        ensures piece { IfSome result (IsPieceOf self.old.params) }
+        ensures order { IsPieces self.old.params self.old.items }
+    {
+        let (piece, _) = take_first(&mut self.items, time)?;
+        Some(piece)
     }
 
     /// Removes a piece; `false` exactly if it is not there.
@@ -137,20 +156,44 @@ impl Wanted {
 }
 
 /// The place of a piece among some, looked for from the first on.
-fn position_of(items: &VecDeque<PieceState>, piece: PieceState) -> Option<usize>
-    ensures { result ≡ position (is_same piece) items.now.items }
+fn position_of(items: &VecDeque<TimedPiece>, piece: PieceState) -> Option<usize>
+    ensures { result ≡ position (λ x. is_same piece x.0) items.now.items }
 {
-    items.iter().position(|x| piece == *x)
+    items.iter().position(|x| piece == x.0)
+}
+
+/// The piece beside the time at which it leaves, if one is given.
+fn timed(plan: &Plan, given: Option<PieceState>) -> Option<TimedPiece>
+    requires { ForSome given (IsPieceOf plan.now.params) }
+    ensures { result ≡ option_map (timed plan.now.params) given }
+{
+    match given {
+        None => None,
+        Some(piece) => Some((piece, leaving(plan, &piece))),
+    }
+}
+
+/// Takes out the first piece if it leaves by a time.
+fn take_first(items: &mut VecDeque<TimedPiece>, time: Micros) -> Option<TimedPiece>
+    ensures first { result ≡ first_if (λ x. nat_le x.1 time) items.old.items }
+    ensures left { items.new.items ≡ but_first_if (λ x. nat_le x.1 time) items.old.items }
+{
+    let first = items.front()?;
+    if first.1 <= time {
+        items.pop_front()
+    } else {
+        None
+    }
 }
 
 /// Removes what is wanted from some pieces, and answers how many that are.
-fn leave_out(items: &mut VecDeque<PieceState>, wanted: &Wanted) -> u64
-    ensures count { result ≡ count_by (covers wanted.now) items.old.items }
-    ensures left { items.new.items ≡ filter (λ x. not (covers wanted.now x)) items.old.items }
+fn leave_out(items: &mut VecDeque<TimedPiece>, wanted: &Wanted) -> u64
+    ensures count { result ≡ count_by (λ x. covers wanted.now x.0) items.old.items }
+    ensures left { items.new.items ≡ filter (λ x. not (covers wanted.now x.0)) items.old.items }
 {
     let mut count = 0;
     for i in (0..items.len()).rev() {
-        if wanted.covers(&items[i]) {
+        if wanted.covers(&items[i].0) {
             items.remove(i);
             count += 1;
         }
@@ -159,41 +202,31 @@ fn leave_out(items: &mut VecDeque<PieceState>, wanted: &Wanted) -> u64
 }
 
 /// The first piece behind the given one, or of all if none is given, of some in their order.
-fn next_behind(
-    plan: &Plan,
-    items: &VecDeque<PieceState>,
-    given: Option<PieceState>,
-) -> Option<PieceState>
-    requires items { IsPieces plan.now.params items.now.items }
-    requires given { ForSome given (IsPieceOf plan.now.params) }
-    ensures next { result ≡ find (is_behind plan.now.params given) items.now.items }
-    ensures piece { IfSome result (IsPieceOf plan.now.params) }
+fn next_behind(items: &VecDeque<TimedPiece>, given: Option<TimedPiece>) -> Option<TimedPiece>
+    requires { IsSorted timed_before items.now.items }
+    ensures { result ≡ find (timed_behind given) items.now.items }
 {
     match given {
-        None => first_behind(plan, items, 0, given),
+        None => first_behind(items, 0, given),
         Some(piece) => {
-            let place = first_not_before(plan, items, &piece);
-            first_behind(plan, items, place, given)
+            let place = first_not_before(items, &piece);
+            first_behind(items, place, given)
         }
     }
 }
 
 /// The same of any pieces, seen one after another from a place on.
 fn first_behind(
-    plan: &Plan,
-    items: &VecDeque<PieceState>,
+    items: &VecDeque<TimedPiece>,
     start: usize,
-    given: Option<PieceState>,
-) -> Option<PieceState>
-    requires items { AllByRecursion (IsPieceOf plan.now.params) items.now.items }
-    requires given { ForSome given (IsPieceOf plan.now.params) }
-    requires start { start ≤ length items.now.items }
-    ensures next { result ≡ find (is_behind plan.now.params given) (drop start items.now.items) }
-    ensures piece { IfSome result (IsPieceOf plan.now.params) }
+    given: Option<TimedPiece>,
+) -> Option<TimedPiece>
+    requires { start ≤ length items.now.items }
+    ensures { result ≡ find (timed_behind given) (drop start items.now.items) }
 {
     for i in start..items.len() {
         let x = items[i];
-        if is_behind(plan, &given, &x) {
+        if is_behind(&given, &x) {
             return Some(x);
         }
     }

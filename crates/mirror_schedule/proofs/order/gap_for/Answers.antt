@@ -1,20 +1,18 @@
-use Rattle.std.proofs.Common.{ap, sym, ◌∙◌, arith}
+use Rattle.std.proofs.Common.{ℕ, ap, sym, ◌∙◌, arith}
 use Rattle.tiger_base.specs.declared.tenancy.PieceState.{PieceState}
-use Rattle.mirror_schedule.specs.Pieces.{comes_before}
-use Rattle.mirror_schedule.proofs.Ranks.{pieces_order}
+use Rattle.mirror_schedule.specs.TimedPieces.{timed_before}
+use Rattle.mirror_schedule.proofs.TimedPieces.{timed_order}
 use Rattle.mirror_schedule.proofs.Places.{gap_first, gap_there}
 use Rattle.mirror_schedule.proofs.order.gap_for.Goals as goal
 use Rattle.mirror_schedule.proofs.order.gap_for.Goals.{else-place-len-via-then-place-len+else-not-comes_before, else-place-len-via-else-place-len}
 
 pub returns-then-not-comes_before : goal.returns-then-not-comes_before
 returns-then-not-comes_before c =
-    let p = c.args.plan.now.params in
-    sym (gap_there (comes_before p) (pieces_order p) c.args.x.now c.args.items.now.items 0 _ _ c.first_not_before-place.ensures.place (omega arith) (ap (λ (y : PieceState). comes_before p c.args.x.now y) (sym c.index.ensures) ∙ (sym c.comes_before.ensures ∙ search)))
+    sym (gap_there timed_before timed_order c.args.x.now c.args.items.now.items 0 _ _ c.first_not_before-place.ensures.place (omega arith) (ap (λ (y : PieceState × ℕ). timed_before c.args.x.now y) (sym c.index.ensures) ∙ (sym c.comes_before.ensures ∙ search)))
 
 pub returns-else-place-len : goal.returns-else-place-len
 returns-else-place-len c =
-    let p = c.args.plan.now.params in
     elim c.else-place-len.branch [
-      | else-place-len-via-then-place-len+else-not-comes_before w ↦ sym (gap_first (comes_before p) (pieces_order p) c.args.x.now c.args.items.now.items _ _ c.first_not_before-place.ensures.place (λ l. ap (λ (y : PieceState). comes_before p c.args.x.now y) (sym w.index.ensures) ∙ (sym w.comes_before.ensures ∙ search)))
-      | else-place-len-via-else-place-len w ↦ sym (gap_first (comes_before p) (pieces_order p) c.args.x.now c.args.items.now.items _ c.args.x.now c.first_not_before-place.ensures.place (λ l. absurd (omega (arith, l, w.if-place-len.false, c.len.ensures, c.args.items.now.ok.0))))
+      | else-place-len-via-then-place-len+else-not-comes_before w ↦ sym (gap_first timed_before timed_order c.args.x.now c.args.items.now.items _ _ c.first_not_before-place.ensures.place (λ l. ap (λ (y : PieceState × ℕ). timed_before c.args.x.now y) (sym w.index.ensures) ∙ (sym w.comes_before.ensures ∙ search)))
+      | else-place-len-via-else-place-len w ↦ sym (gap_first timed_before timed_order c.args.x.now c.args.items.now.items _ c.args.x.now c.first_not_before-place.ensures.place (λ l. absurd (omega (arith, l, w.if-place-len.false, c.len.ensures, c.args.items.now.ok.0))))
     ]

@@ -6,6 +6,6 @@ use Rattle.mirror_schedule.proofs.pieces.leave_out.Given as goal
 abbrev pub invariant-loop-i : goal.invariant-loop-i
 invariant-loop-i l = record {
   bound : l.i ≤ length l.fn.items.items;
-  rest : l.items.items ≡ take l.i l.fn.items.items ++ filter (λ x. not (covers l.wanted x)) (drop l.i l.fn.items.items);
-  count : l.count ≡ count_by (covers l.wanted) (drop l.i l.fn.items.items);
+  rest : l.items.items ≡ take l.i l.fn.items.items ++ filter (λ x. not (covers l.wanted x.0)) (drop l.i l.fn.items.items);
+  count : l.count ≡ count_by (λ x. covers l.wanted x.0) (drop l.i l.fn.items.items);
 }

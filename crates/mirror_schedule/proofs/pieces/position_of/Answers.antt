@@ -7,5 +7,5 @@ use Rattle.mirror_schedule.proofs.pieces.position_of.Goals as goal
 pub returns : goal.returns
 unfolding is_same
 returns c =
-    position_from_yields_List (is_same c.args.piece) _ _ c.position.result c.position.ensures.ran (YieldsList-from_deque c.args.items.now.items c.iter.ensures.rest)
+    position_from_yields_List (λ x. is_same c.args.piece x.0) _ _ c.position.result c.position.ensures.ran (YieldsList-from_deque c.args.items.now.items c.iter.ensures.rest)
     (λ x b q k. search rules)

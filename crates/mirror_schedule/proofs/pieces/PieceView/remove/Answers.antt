@@ -1,7 +1,8 @@
-use Rattle.std.proofs.Common.{◌∙◌, ap, subst, sym, not, List}
+use Rattle.std.proofs.Common.{ℕ, ◌∙◌, ap, subst, sym, List}
 use Rattle.tiger_base.specs.declared.tenancy.PieceState.{PieceState}
-use Rattle.mirror_schedule.specs.Pieces.{Pieces, IsPieces, is_in, is_same}
-use Rattle.mirror_schedule.proofs.PieceLists.{pieces_filter}
+use Rattle.mirror_schedule.specs.Pieces.{Pieces, is_in, is_same}
+use Rattle.mirror_schedule.specs.TimedPieces.{AreTimed}
+use Rattle.mirror_schedule.proofs.TimedPieces.{timed_without}
 use Rattle.mirror_schedule.proofs.PlaceRemovals.{left_placed, left_whole, found_placed, found_none, seen_without}
 use Rattle.mirror_schedule.proofs.pieces.PieceView.remove.Goals as goal
 
@@ -9,9 +10,9 @@ pub invariant_of-self : goal.invariant_of-self
 invariant_of-self c =
     let p = c.self.inside.plan.params in
     let items = c.self.inside.items.items in
-    subst (λ (ys : List PieceState). IsPieces p ys)
-    (sym (left_placed p c.args.piece items c.self.invariant c.in-Some.place c.in-Some.ensures c.remove.result c.self.inside.items.len _ c.self.inside.items.ok.0 c.remove.ensures.variant c.remove.ensures.items))
-    (pieces_filter p (λ z. not (is_same c.args.piece z)) items c.self.invariant)
+    subst (λ (ys : List (PieceState × ℕ)). AreTimed p ys)
+    (sym (left_placed c.args.piece items c.in-Some.place c.in-Some.ensures c.remove.result c.self.inside.items.len _ c.self.inside.items.ok.0 c.remove.ensures.variant c.remove.ensures.items))
+    (timed_without p (λ z. is_same c.args.piece z.0) items c.self.invariant)
 
 pub returns-in-Some-clause-found : goal.returns-in-Some-clause-found
 returns-in-Some-clause-found c =
@@ -21,9 +22,9 @@ returns-in-Some-clause-found c =
 
 pub returns-in-Some-clause-left : goal.returns-in-Some-clause-left
 returns-in-Some-clause-left c =
-    let p = c.self.inside.plan.params in
-    seen_without p c.args.piece c.self.inside.items.items _ c.args.self.now c.self.view_is
-    (left_placed p c.args.piece c.self.inside.items.items c.self.invariant c.in-Some.place c.in-Some.ensures c.remove.result c.self.inside.items.len _ c.self.inside.items.ok.0 c.remove.ensures.variant c.remove.ensures.items)
+    let items = c.self.inside.items.items in
+    seen_without c.args.piece items c.self.inside.plan.params _ c.args.self.now c.self.view_is c.self.invariant
+    (left_placed c.args.piece items c.in-Some.place c.in-Some.ensures c.remove.result c.self.inside.items.len _ c.self.inside.items.ok.0 c.remove.ensures.variant c.remove.ensures.items)
 
 pub returns-in-None-clause-found : goal.returns-in-None-clause-found
 returns-in-None-clause-found c =
@@ -31,6 +32,5 @@ returns-in-None-clause-found c =
 
 pub returns-in-None-clause-left : goal.returns-in-None-clause-left
 returns-in-None-clause-left c =
-    let p = c.self.inside.plan.params in
     let items = c.self.inside.items.items in
-    sym c.self.view_is ∙ seen_without p c.args.piece items items c.args.self.now c.self.view_is (left_whole p c.args.piece items c.self.invariant c.in-None.ensures)
+    sym c.self.view_is ∙ seen_without c.args.piece items c.self.inside.plan.params items c.args.self.now c.self.view_is c.self.invariant (left_whole c.args.piece items c.in-None.ensures)
