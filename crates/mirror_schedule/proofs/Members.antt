@@ -1,5 +1,5 @@
 -- What a list in order has.
-use Rattle.std.proofs.Common.{◌≡◌, ℕ, ◌+◌, ◌<◌, Bool, true, false, cond, ◌||◌, nat_lt, not, List, [], ◌∷◌, count_by, Some, None, refl, arith}
+use Rattle.std.proofs.Common.{◌≡◌, ℕ, ◌+◌, Bool, true, false, cond, ◌||◌, List, [], ◌∷◌, Some, None, refl}
 use Rattle.std.specs.List.{AllByRecursion, list_any}
 use Rattle.mirror_schedule.specs.Sorted.{IsSorted, gap_from}
 use Rattle.mirror_schedule.proofs.Orders.{IsOrder, all_more}

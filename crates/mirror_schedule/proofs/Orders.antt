@@ -1,6 +1,6 @@
 -- Lists in an order, and what is put into them.
-use Rattle.std.proofs.Common.{◌≡◌, ℕ, ◌+◌, ◌-◌, ◌<◌, ◌≤◌, Bool, true, false, not, cond, List, [], ◌∷◌, ◌++◌, length, take, drop, suc, zero, Option, Some, None, refl, ap, sym, subst, ◌∙◌, arith, add-one}
-use Rattle.std.specs.List.{AllByRecursion, filter, insert, list_any}
+use Rattle.std.proofs.Common.{◌≡◌, ℕ, ◌+◌, ◌-◌, ◌≤◌, Bool, true, false, cond, List, [], ◌∷◌, length, suc, Some, None, refl, ap, sym, ◌∙◌, arith}
+use Rattle.std.specs.List.{AllByRecursion, filter, insert}
 use Rattle.mirror_schedule.specs.Sorted.{IsSorted, with_one, gap_from, without_first}
 
 -- what a comparison is to do: nothing comes before itself, and what comes before a second that comes before a third comes before that

@@ -7,22 +7,9 @@ use Rattle.tiger_base.specs.declared.tenancy.Tenancy.{Tenancy}
 use Rattle.tiger_base.specs.declared.tenancy.PieceState.{PieceState}
 use Rattle.slot_plan.specs.declared.params.Params.{Params}
 use Rattle.mirror_schedule.specs.Sorted.{with_one, gap_from, without_first}
-use Rattle.mirror_schedule.specs.Pieces.{IsPieces, IsPieceOf, Pieces, comes_before, is_same, is_in, with_piece, pieces_of}
-use Rattle.mirror_schedule.proofs.Orders.{all_filter, all_with_one, sorted_filter, sorted_with_one}
+use Rattle.mirror_schedule.specs.Pieces.{IsPieces, Pieces, comes_before, is_same, is_in, with_piece, pieces_of}
 use Rattle.mirror_schedule.proofs.Members.{is_there, is_new}
 use Rattle.mirror_schedule.proofs.Ranks.{pieces_order, pieces_same}
-
--- pieces in order stay so
-pub pieces_filter : (p : Params) (test : PieceState → Bool) (items : List PieceState) → IsPieces p items → IsPieces p (filter test items)
-pieces_filter p test items h =
-    record { order = sorted_filter (comes_before p) test items h.order; each = all_filter (IsPieceOf p) test items h.each }
-
-pub pieces_put : (p : Params) (x : PieceState) (items : List PieceState) → IsPieces p items → IsPieceOf p x → IsPieces p (with_one (comes_before p) x items)
-pieces_put p x items h own =
-    record {
-      order = sorted_with_one (comes_before p) (pieces_order p) x items h.order;
-      each = all_with_one (comes_before p) (IsPieceOf p) x items h.each own;
-    }
 
 -- whether a piece is among them
 pub is_in-there : (p : Params) (x : PieceState) (items : List PieceState) → gap_from (comes_before p) x 0 items ≡ None → is_in x items ≡ true

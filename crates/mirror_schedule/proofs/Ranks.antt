@@ -1,11 +1,11 @@
 -- The order of pieces and of split visits.
-use Rattle.std.proofs.Common.{◌≡◌, ℕ, Bool, true, false, ◌∷◌, [], ◌||◌, ◌&&◌, ◌==◌, nat_lt, refl, eq-eqb}
+use Rattle.std.proofs.Common.{◌≡◌, Bool, true, false, ◌∷◌, [], ◌==◌, refl, eq-eqb}
 use Rattle.std.proofs.lemmas.Bool.{and_parts, and_from, eqb-true, both_ways}
 use Rattle.tiger_base.specs.declared.tenancy.PieceState.{PieceState}
 use Rattle.slot_plan.specs.declared.params.Params.{Params}
-use Rattle.mirror_schedule.specs.Sorted.{is_less, are_same}
+use Rattle.mirror_schedule.specs.Sorted.{are_same}
 use Rattle.mirror_schedule.specs.Pieces.{comes_before, is_same, numbers_of, rank_of, leaving_of}
-use Rattle.mirror_schedule.specs.Splits.{Split, split_before}
+use Rattle.mirror_schedule.specs.Splits.{split_before}
 use Rattle.mirror_schedule.proofs.Numbers.{is_less-irreflexive, is_less-transitive, is_less-apart, is_less-behind, is_less-neither}
 use Rattle.mirror_schedule.proofs.Orders.{IsOrder}
 use Rattle.mirror_schedule.proofs.Members.{IsSame}

@@ -1,5 +1,5 @@
 -- Lists from which elements are removed, from the last to the first.
-use Rattle.std.proofs.Common.{◌≡◌, ℕ, ◌+◌, ◌-◌, ◌<◌, ◌≤◌, Bool, true, false, cond, not, List, [], ◌∷◌, ◌++◌, length, get_or, take, drop, count_by, refl, ap, sym, ◌∙◌, arith, add-one, drop-cons, append_assoc, length-take-le}
+use Rattle.std.proofs.Common.{◌≡◌, ℕ, ◌+◌, ◌-◌, ◌<◌, ◌≤◌, Bool, false, cond, not, List, [], ◌∷◌, ◌++◌, length, get_or, take, drop, count_by, ap, sym, ◌∙◌, arith, add-one, drop-cons, append_assoc, length-take-le}
 use Rattle.std.specs.List.{filter, fold}
 use Rattle.std.proofs.Math.ListN.{get_or-append}
 use Rattle.std.proofs.Math.Seq.{take-suc}

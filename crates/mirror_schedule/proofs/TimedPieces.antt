@@ -4,11 +4,11 @@ use Rattle.std.specs.List.{AllByRecursion, insert}
 use Rattle.tiger_base.specs.declared.tenancy.PieceState.{PieceState}
 use Rattle.slot_plan.specs.declared.params.Params.{Params}
 use Rattle.mirror_schedule.specs.Sorted.{is_less, IsSorted, with_one, gap_from, without_first}
-use Rattle.mirror_schedule.specs.Pieces.{IsPieces, IsPieceOf, Pieces, comes_before, is_behind, is_same, leaving_of, numbers_of}
+use Rattle.mirror_schedule.specs.Pieces.{IsPieces, IsPieceOf, Pieces, comes_before, is_behind, leaving_of, numbers_of}
 use Rattle.mirror_schedule.specs.Timed.{untimed}
 use Rattle.mirror_schedule.specs.TimedPieces.{timed, timed_rank, timed_before, timed_behind, IsTimed, AreTimed}
 use Rattle.mirror_schedule.proofs.Numbers.{is_less-irreflexive, is_less-transitive}
-use Rattle.mirror_schedule.proofs.Orders.{IsOrder, all_filter, all_more, all_with_one, all_without_first, put_at, sorted_filter, sorted_with_one, sorted_without_first}
+use Rattle.mirror_schedule.proofs.Orders.{IsOrder, all_filter, all_with_one, all_without_first, put_at, sorted_filter, sorted_with_one, sorted_without_first}
 use Rattle.mirror_schedule.proofs.PieceLists.{seen}
 use Rattle.mirror_schedule.proofs.Timed.{untimed-filter}
 

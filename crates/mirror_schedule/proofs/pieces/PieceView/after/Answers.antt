@@ -1,4 +1,4 @@
-use Rattle.std.proofs.Common.{◌∙◌, sym}
+use Rattle.std.proofs.Common.{◌∙◌}
 use Rattle.mirror_schedule.specs.TimedPieces.{timed_behind}
 use Rattle.mirror_schedule.proofs.TimedPieces.{after_seen, found_seen, order_seen}
 use Rattle.mirror_schedule.proofs.pieces.PieceView.after.Goals as goal

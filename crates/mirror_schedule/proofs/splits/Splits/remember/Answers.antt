@@ -1,4 +1,4 @@
-use Rattle.std.proofs.Common.{◌≡◌, ℕ, ap, ◌∙◌, List, arith}
+use Rattle.std.proofs.Common.{ℕ, ap, ◌∙◌, List, arith}
 use Rattle.mirror_schedule.specs.Splits.{Split, split_before, with_split}
 use Rattle.mirror_schedule.specs.Timed.{untimed}
 use Rattle.mirror_schedule.proofs.Orders.{put_none}
