@@ -1,8 +1,8 @@
 -- What the calls of a view do at the place that was found.
-use Rattle.std.proofs.Common.{◌≡◌, ℕ, ◌+◌, ◌<◌, ◌≤◌, zero, suc, List, [], ◌∷◌, ◌++◌, length, get_or, Option, Some, None, IfSome, IsSome, OnSome, ◌↔◌, refl, sym, ap, subst, ◌∙◌, arith}
+use Rattle.std.proofs.Common.{◌≡◌, ℕ, ◌+◌, zero, suc, Bool, true, false, cond, nat_le, List, [], ◌∷◌, ◌++◌, length, get_or, Option, Some, None, IfSome, refl, sym, ap, subst, ◌∙◌, arith}
 use Rattle.std.specs.List.{insert, remove, slice_get}
 use Rattle.std.proofs.lemmas.List.{get_or_at, set_at, take_at, drop_at}
-use Rattle.std.proofs.lemmas.Bool.{le-leb, lt-leb}
+use Rattle.std.proofs.lemmas.Bool.{leb-false}
 use Rattle.std.proofs.Math.ListN.{set}
 use Rattle.tiger_base.specs.declared.tenancy.Rec.{Rec}
 use Rattle.slot_plan.specs.declared.params.Params.{Params}
@@ -10,9 +10,8 @@ use Rattle.slot_plan.specs.Keys.{Key, IsKey, due_of}
 use Rattle.partial_view.specs.declared.line.Line.{Line}
 use Rattle.partial_view.specs.declared.line.Flag.{Flag}
 use Rattle.partial_view.specs.Lines.{key_of, visit_of, marked, unmarked}
-use Rattle.partial_view.specs.Views.{Seen, IsWalk, IsFoundAt, IsGapAt, line_at, line_due, next_behind, with_mark, without, with_line, with_record}
+use Rattle.partial_view.specs.Views.{Seen, IsWalk, IsFoundAt, IsGapAt, line_at, line_due, due_by, next_behind, with_mark, without, with_line, with_record}
 use Rattle.partial_view.proofs.Order.{walk_later, walk_earlier, walk_put}
-use Rattle.partial_view.proofs.Places.{found_inside}
 use Rattle.partial_view.proofs.Laws.{line_at-front, line_at-back, line_at-here, with_mark-front, with_mark-back, with_mark-here, without-front, without-back, without-here, with_line-front, with_line-back, next-front, next-back, next-here, line_due-none}
 
 -- what is seen of a view
@@ -63,23 +62,32 @@ insert_at front x back i h = rw (take_at front back i h, drop_at front back i h)
 
 module _ (p : Params) (k : Key) (lines : List Line) (i : ℕ) (w : IsWalk p lines) where
   -- the line that was found is the line of the visit
-  pub line-found : (d : Line) → IsFoundAt k lines i → Some (get_or lines i d) ≡ line_at k lines
-  line-found d f =
+  found-at : (f : IsFoundAt k lines i) → slice_get lines i ≡ Some f.line
+  found-at f = ap (λ (ys : List Line). slice_get ys i) f.parts ∙ get-from f.front (f.line ∷ f.back) i f.long
+
+  pub found-line : (f : IsFoundAt k lines i) → Some f.line ≡ line_at k lines
+  found-line f =
       let walk : IsWalk p (f.front ++ f.line ∷ f.back) = subst (λ (ys : List Line). IsWalk p ys) f.parts w in
-      let here : get_or lines i d ≡ f.line = ap (λ ys. get_or ys i d) f.parts ∙ get_or_at f.front f.line f.back d i f.long in
-      ap (λ (y : Line). Some y) here ∙ sym (ap (λ (ys : List Line). line_at k ys) f.parts ∙ (ap (λ (x : Key). line_at x (f.front ++ f.line ∷ f.back)) (sym f.key) ∙ line_at-parts p f.front f.line f.back walk))
+      sym (ap (λ (ys : List Line). line_at k ys) f.parts ∙ (ap (λ (x : Key). line_at x (f.front ++ f.line ∷ f.back)) (sym f.key) ∙ line_at-parts p f.front f.line f.back walk))
+
+  pub line-found : IsFoundAt k lines i → slice_get lines i ≡ line_at k lines
+  line-found f = found-at f ∙ found-line f
 
   pub line-gap : IsGapAt p k lines i → line_at k lines ≡ None
   line-gap g = ap (λ (ys : List Line). line_at k ys) g.parts ∙ (line_at-front p k g.front g.back g.earlier ∙ line_at-back p k g.back g.later)
 
   -- a flag that is set there
-  pub mark-found : (flag : Flag) (d : Line) → IsFoundAt k lines i → set lines i (marked flag (get_or lines i d)) ≡ with_mark k flag lines
-  mark-found flag d f =
+  mark-found : (flag : Flag) (f : IsFoundAt k lines i) → set lines i (marked flag f.line) ≡ with_mark k flag lines
+  mark-found flag f =
       let walk : IsWalk p (f.front ++ f.line ∷ f.back) = subst (λ (ys : List Line). IsWalk p ys) f.parts w in
-      let here : get_or lines i d ≡ f.line = ap (λ ys. get_or ys i d) f.parts ∙ get_or_at f.front f.line f.back d i f.long in
-      let was : set lines i (marked flag (get_or lines i d)) ≡ f.front ++ marked flag f.line ∷ f.back =
-      ap (λ (y : Line). set lines i (marked flag y)) here ∙ (ap (λ (ys : List Line). set ys i (marked flag f.line)) f.parts ∙ set_at f.front f.line f.back (marked flag f.line) i f.long) in
+      let was : set lines i (marked flag f.line) ≡ f.front ++ marked flag f.line ∷ f.back =
+      ap (λ (ys : List Line). set ys i (marked flag f.line)) f.parts ∙ set_at f.front f.line f.back (marked flag f.line) i f.long in
       was ∙ sym (ap (λ (ys : List Line). with_mark k flag ys) f.parts ∙ (ap (λ (x : Key). with_mark x flag (f.front ++ f.line ∷ f.back)) (sym f.key) ∙ with_mark-parts p flag f.front f.line f.back walk))
+
+  pub mark-by : (flag : Flag) {now : Seen} → IfSome (slice_get lines i) (λ x. now ≡ record_of p (set lines i (marked flag x))) → IsFoundAt k lines i → now ≡ record_of p (with_mark k flag lines)
+  mark-by flag {now} e f =
+      subst (λ (o : Option Line). IfSome o (λ x. now ≡ record_of p (set lines i (marked flag x)))) (found-at f) e
+      ∙ ap (λ (ys : List Line). record_of p ys) (mark-found flag f)
 
   pub mark-gap : (flag : Flag) → IsGapAt p k lines i → lines ≡ with_mark k flag lines
   mark-gap flag g =
@@ -93,11 +101,6 @@ module _ (p : Params) (k : Key) (lines : List Line) (i : ℕ) (w : IsWalk p line
       let walk : IsWalk p (f.front ++ f.line ∷ f.back) = subst (λ (ys : List Line). IsWalk p ys) f.parts w in
       let was : remove lines i ≡ f.front ++ f.back = ap (λ (ys : List Line). remove ys i) f.parts ∙ remove_at f.front f.line f.back i f.long in
       was ∙ sym (ap (λ (ys : List Line). without k ys) f.parts ∙ (ap (λ (x : Key). without x (f.front ++ f.line ∷ f.back)) (sym f.key) ∙ without-parts p f.front f.line f.back walk))
-
-  -- what is left where a line is taken out there, which cannot fail
-  pub left-found : (o : Option Line) (n : ℕ) (ys : List Line) → n ≡ length lines → IsSome o ↔ (i < n) → OnSome o (ys ≡ remove lines i) → IsFoundAt k lines i → ys ≡ without k lines
-  left-found None n ys long there e f = let inside = found_inside k lines i f in absurd (cc (there.1 (omega arith)))
-  left-found (Some x) n ys long there e f = e ∙ remove-found f
 
   pub remove-gap : IsGapAt p k lines i → lines ≡ without k lines
   remove-gap g =
@@ -119,13 +122,9 @@ module _ (p : Params) (k : Key) (lines : List Line) (i : ℕ) (w : IsWalk p line
 
   -- a line of the visit, read there
   pub line-by : (x : Line) → x ≡ get_or lines i x → IsFoundAt k lines i → Some x ≡ line_at k lines
-  line-by x e f = ap (λ (y : Line). Some y) e ∙ line-found x f
-
-  -- a flag set on the line that was read there
-  pub mark-by : (flag : Flag) (x y : Line) → y ≡ marked flag x → x ≡ get_or lines i x → IsFoundAt k lines i → set lines i y ≡ with_mark k flag lines
-  mark-by flag x y e here f =
-      let now : y ≡ marked flag (get_or lines i x) = e ∙ ap (λ (z : Line). marked flag z) here in
-      ap (λ (z : Line). set lines i z) now ∙ mark-found flag x f
+  line-by x e f =
+      let here : get_or lines i x ≡ f.line = ap (λ ys. get_or ys i x) f.parts ∙ get_or_at f.front f.line f.back x i f.long in
+      ap (λ (y : Line). Some y) (e ∙ here) ∙ found-line f
 
 -- a line of the visit, put in at its gap
 pub insert-gap : (p : Params) (x : Line) (lines : List Line) (i : ℕ) → IsGapAt p (key_of x) lines i → insert lines i x ≡ with_line p x lines
@@ -158,26 +157,14 @@ unfolding with_record
 with_record-new p r lines e = rw e refl
 
 -- the first line that is due is the first of all, or none is
-pub due-first : (p : Params) (reading : ℕ) (lines : List Line) (x : Line) → Some x ≡ slice_get lines 0 → due_of p (key_of x) ≤ reading → line_due p reading lines ≡ Some x
+pub due-there : (p : Params) (reading : ℕ) (lines : List Line) → IsWalk p lines → due_by p reading (slice_get lines 0) ≡ line_due p reading lines
 unfolding line_due
-due-first p reading [] x e h = cc
-due-first p reading (y ∷ ys) x e h =
-    let is : x ≡ y = cc in
-    let due : due_of p (key_of y) ≤ reading = subst (λ (z : Line). due_of p (key_of z) ≤ reading) is h in
-    rw (le-leb (due_of p (key_of y)) reading due) (sym e)
-
-pub due-late : (p : Params) (reading : ℕ) (lines : List Line) (x : Line) → IsWalk p lines → Some x ≡ slice_get lines 0 → reading < due_of p (key_of x) → line_due p reading lines ≡ None
-unfolding line_due
-due-late p reading [] x w e h = refl
-due-late p reading (y ∷ ys) x w e h =
-    let is : x ≡ y = cc in
-    let late : reading < due_of p (key_of y) = subst (λ (z : Line). reading < due_of p (key_of z)) is h in
-    rw (lt-leb (due_of p (key_of y)) reading late) (line_due-none p reading (key_of y) ys w.1 late)
-
-pub due-none : (p : Params) (reading : ℕ) (lines : List Line) → None ≡ slice_get lines 0 → line_due p reading lines ≡ None
-unfolding line_due
-due-none p reading [] e = refl
-due-none p reading (y ∷ ys) e = cc
+due-there p reading [] w = refl
+due-there p reading (x ∷ xs) w = by_test (nat_le (due_of p (key_of x)) reading) refl
+  where
+    by_test : (t : Bool) → nat_le (due_of p (key_of x)) reading ≡ t → cond t (Some x) None ≡ cond t (Some x) (line_due p reading xs)
+    by_test true is = refl
+    by_test false is = sym (line_due-none p reading (key_of x) xs w.1 (leb-false _ _ is))
 
 -- the plan of what is seen is the view's own
 pub key-along : (p : Params) (lines : List Line) {s : Seen} (k : Key) → record_of p lines ≡ s → IsKey s.params k → IsKey p k
@@ -187,3 +174,7 @@ pub key-found-at : (p : Params) (lines : List Line) (i : ℕ) {s : Seen} {o : Op
 key-found-at p lines i {s} {o} v w e =
     subst (λ (q : Seen). IfSome o (λ line. IsKey q.params (key_of line))) v
     (subst (λ (r : Option Line). IfSome r (λ line. IsKey p (key_of line))) (sym e) (key-get p lines i w))
+
+-- a view that has become another keeps its order
+pub walk-along : (p : Params) (ys : List Line) {now : Seen} → now ≡ record_of p ys → IsWalk p ys → IsWalk now.params now.lines
+walk-along p ys {now} e w = subst (λ (s : Seen). IsWalk s.params s.lines) (sym e) w

@@ -1,5 +1,6 @@
 pub mod Begins
 pub mod Calls
+pub mod Dues
 pub mod Laws
 pub mod Order
 pub mod Places

@@ -81,11 +81,6 @@ all_there P [] x back h = h.0
 all_there P (y ∷ ys) x back h = all_there P ys x back h.1
 
 -- the parts of a walk
-pub walk_key : (p : Params) (lines : List Line) (i : ℕ) (d : Line) → IsWalk p lines → i < length lines → IsKey p (key_of (get_or lines i d))
-walk_key p [] i d w l = absurd (omega arith)
-walk_key p (x ∷ xs) zero d w l = w.0
-walk_key p (x ∷ xs) (suc i) d w l = walk_key p xs i d w.2 (omega arith)
-
 pub walk_back : (p : Params) (front back : List Line) → IsWalk p (front ++ back) → IsWalk p back
 walk_back p [] back w = w
 walk_back p (y ∷ ys) back w = walk_back p ys back w.2

@@ -1,7 +1,7 @@
 -- What is still to be forwarded, to be asked for or to be split where a view changes, and where the
 -- first line stands for which it may be.
-use Rattle.std.proofs.Common.{◌≡◌, ℕ, ◌+◌, ◌*◌, ◌<◌, ◌≤◌, ◌&&◌, ◌-◌, nat_lt, nat_le, Bool, true, false, cond, not, List, [], ◌∷◌, Option, Some, None, is_some, refl, subst, ◌∙◌, sym, ap, arith}
-use Rattle.std.specs.List.{AllByRecursion}
+use Rattle.std.proofs.Common.{◌≡◌, ℕ, ◌+◌, ◌*◌, ◌<◌, ◌≤◌, ◌&&◌, ◌-◌, nat_lt, nat_le, Bool, true, false, cond, not, List, [], ◌∷◌, length, get_or, Option, Some, None, is_some, refl, subst, ◌∙◌, sym, ap, arith}
+use Rattle.std.specs.List.{AllByRecursion, slice_get}
 use Rattle.std.proofs.lemmas.Bool.{and_parts, both_ways, leb-true, leb-false}
 use Rattle.std.proofs.Math.Nat.{mul-le-mul}
 use Rattle.slot_plan.specs.declared.params.Params.{Params}
@@ -20,12 +20,13 @@ use Rattle.partial_view.specs.declared.line.Flag.TheVariants.{Forwarded, Asked, 
 use Rattle.partial_view.specs.declared.view.Added.{Added}
 use Rattle.partial_view.specs.declared.view.Added.TheVariants.{New}
 use Rattle.partial_view.specs.Lines.{key_of, visit_of, marked, unmarked, is_at, is_of}
-use Rattle.partial_view.specs.Views.{line_at, with_mark, without, without_instance, with_line, with_record, first_from, IsWalk, Seen}
+use Rattle.partial_view.specs.Views.{line_at, with_mark, without, without_instance, with_line, with_record, first_from, place_from, IsWalk, Seen}
 use Rattle.partial_view.specs.Walks.{IsFirstFor}
 use Rattle.partial_view.specs.Adding.{answer_to, answer_at}
 use Rattle.partial_view.proofs.Order.{all_filter, all_implies}
-use Rattle.partial_view.proofs.Begins.{first_due, first_for}
-use Rattle.partial_view.proofs.Calls.{with_record-known}
+use Rattle.partial_view.proofs.Begins.{first_due, first_for, from_at}
+use Rattle.partial_view.proofs.Calls.{record_of, with_record-known}
+use Rattle.partial_view.proofs.Dues.{stands_at}
 use Rattle.partial_view.specs.Pending.{is_pending, IsForwardedTo, is_unasked, IsAskedBefore, is_unsplit, IsSplitFrom, IsSplitBetween, is_unsplit_from}
 
 -- the next visit is due later than at the beginning
@@ -185,11 +186,12 @@ late_from p time (z ∷ zs) y w e = by_test (nat_le time (due_of p (key_of z))) 
         (λ late. omega arith, all_implies (λ x. is_earlier p (key_of z) (key_of x) ≡ true) (λ x. time ≤ due_of p (key_of x) → due_of p (key_of z) ≤ due_of p (key_of x)) (λ x h late. earlier_due p (key_of z) (key_of x) h) zs w.1)
     by_test false is e rest = (λ late. absurd (omega (arith, late, leb-false _ _ is)), rest e)
 
-pub late_along : (p : Params) (time : ℕ) (s : Seen) (y : Line) {next : Option Line} {due : ℕ} → s.params ≡ p → IsWalk s.params s.lines → next ≡ first_from s.params time s.lines → next ≡ Some y → due ≡ due_of p (key_of y)
-    → AllByRecursion (λ x. time ≤ due_of p (key_of x) → due ≤ due_of p (key_of x)) s.lines
-late_along p time s y same w is found due_is =
-    subst (λ (n : ℕ). AllByRecursion (λ x. time ≤ due_of p (key_of x) → n ≤ due_of p (key_of x)) s.lines) (sym due_is)
-    (late_from p time s.lines y (subst (λ (q : Params). IsWalk q s.lines) same w) (sym (is ∙ ap (λ (q : Params). first_from q time s.lines) same) ∙ found))
+pub late_along : (p : Params) (time i : ℕ) (lines : List Line) (y : Line) {due : ℕ} {s : Seen} → record_of p lines ≡ s → IsWalk p lines → i ≡ place_from p time lines → y ≡ get_or lines i y → i < length lines → due ≡ due_of p (key_of y)
+    → AllByRecursion (λ x. time ≤ due_of s.params (key_of x) → due ≤ due_of s.params (key_of x)) s.lines
+late_along p time i lines y {due} {s} v w is here l due_is =
+    let found : first_from p time lines ≡ Some y = sym (from_at p time lines) ∙ (ap (λ n. slice_get lines n) (sym is) ∙ stands_at lines i y here l) in
+    subst (λ (r : Seen). AllByRecursion (λ x. time ≤ due_of r.params (key_of x) → due ≤ due_of r.params (key_of x)) r.lines) v
+    (subst (λ (n : ℕ). AllByRecursion (λ x. time ≤ due_of p (key_of x) → n ≤ due_of p (key_of x)) lines) (sym due_is) (late_from p time lines y w found))
 
 pub none_between : (p : Params) (time : ℕ) (lines : List Line) → AllByRecursion (λ x. time ≤ due_of p (key_of x) → time ≤ due_of p (key_of x)) lines
 none_between p time [] = tt

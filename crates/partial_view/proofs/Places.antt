@@ -3,12 +3,12 @@ use Rattle.std.proofs.Common.{◌≡◌, ℕ, ◌+◌, ◌<◌, ◌≤◌, zero,
 use Rattle.std.specs.List.{AllByRecursion}
 use Rattle.std.proofs.lemmas.List.{get_or_at}
 use Rattle.slot_plan.specs.declared.params.Params.{Params}
-use Rattle.slot_plan.specs.Keys.{Key, IsKey, is_earlier}
+use Rattle.slot_plan.specs.Keys.{Key, is_earlier}
 use Rattle.slot_plan.proofs.Keys.{is_earlier-transitive}
 use Rattle.partial_view.specs.declared.line.Line.{Line}
 use Rattle.partial_view.specs.Lines.{key_of, same}
 use Rattle.partial_view.specs.Views.{IsBefore, IsWalk, place_of, IsFoundAt, IsGapAt}
-use Rattle.partial_view.proofs.Order.{same_is, behind_not, other_earlier, all_implies, all_at, walk_key, walk_later}
+use Rattle.partial_view.proofs.Order.{same_is, behind_not, other_earlier, all_implies, all_at, walk_later}
 
 -- the line in the middle comes before the visit, and so do those before it; or it does not, and nor do those behind it
 pub place_above : (p : Params) (k : Key) (lines : List Line) (i : ℕ) (d : Line) → IsWalk p lines → i < length lines
@@ -122,17 +122,7 @@ found_line k (x ∷ xs) (suc i) d h l =
 pub found_there : (k : Key) (lines : List Line) (i : ℕ) (d : Line) (j : Key) {t : Bool} → j ≡ key_of (get_or lines i d) → t ≡ same j k → t ≡ true → i < length lines → IsFoundAt k lines i
 found_there k lines i d j e b h l = found_line k lines i d (subst (λ (x : Key). same x k ≡ true) e (sym b ∙ h)) l
 
--- where a found line and a gap can stand
-pub found_inside : (k : Key) (lines : List Line) (i : ℕ) → IsFoundAt k lines i → i < length lines
-found_inside k lines i f = omega (arith, f.long, ap length f.parts, length-append f.front (f.line ∷ f.back))
-
-pub gap_inside : (p : Params) (k : Key) (lines : List Line) (i : ℕ) → IsGapAt p k lines i → i ≤ length lines
-gap_inside p k lines i g = omega (arith, g.long, ap length g.parts, length-append g.front g.back)
-
 -- the same, of a visit that was read from the middle line
-pub key_by : (p : Params) (lines : List Line) (i : ℕ) (d : Line) (j : Key) → j ≡ key_of (get_or lines i d) → IsWalk p lines → i < length lines → IsKey p j
-key_by p lines i d j e w l = subst (λ (x : Key). IsKey p x) (sym e) (walk_key p lines i d w l)
-
 pub above_by : (p : Params) (k : Key) (lines : List Line) (i : ℕ) (d : Line) (j : Key) {t : Bool} → j ≡ key_of (get_or lines i d) → IsWalk p lines → i < length lines
     → t ≡ is_earlier p j k → t ≡ true → i + 1 ≤ place_of p k lines
 above_by p k lines i d j e w l is h =

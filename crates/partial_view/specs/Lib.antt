@@ -1,4 +1,5 @@
 pub mod Adding
+pub mod Dues
 pub mod Lines
 pub mod Pending
 pub mod Takes

@@ -1,5 +1,5 @@
 -- What a view is seen as, and what its calls answer and change.
-use Rattle.std.specs.Prelude.{◌≡◌, ℕ, zero, suc, List, [], ◌∷◌, ◌++◌, length, true, not, nat_le, nat_lt, Option, find, filter, map, is_some, if◌then◌else◌}
+use Rattle.std.specs.Prelude.{◌≡◌, ℕ, zero, suc, List, [], ◌∷◌, ◌++◌, length, true, not, nat_le, nat_lt, Option, Some, None, find, filter, map, is_some, if◌then◌else◌}
 use Rattle.std.specs.List.{AllByRecursion}
 use Rattle.tiger_base.specs.declared.number.Instance.{Instance}
 use Rattle.tiger_base.specs.declared.tenancy.Rec.{Rec}
@@ -43,6 +43,11 @@ line_due p reading lines = find (λ x. nat_le (due_of p (key_of x)) reading) lin
 -- the first line that is due at a time or later
 unfoldable pub first_from : Params → ℕ → List Line → Option Line
 first_from p time lines = find (λ x. nat_le time (due_of p (key_of x))) lines
+
+-- a line, if it is due at a time or before it
+abbrev pub due_by : Params → ℕ → Option Line → Option Line
+due_by p time None = None
+due_by p time (Some x) = if nat_le (due_of p (key_of x)) time then Some x else None
 
 -- how many lines are due before a time
 unfoldable pub place_from : Params → ℕ → List Line → ℕ

@@ -2,7 +2,6 @@
 //! for, and from which on its visits are split, so that the walks of a tick begin where something
 //! may be to do.
 ghost use Rattle.std.specs.Prelude.{◌≡◌, ℕ, ◌^◌, ◌≤◌, ◌<◌, true, [], IfOk, OnOk, OnErr, IfSome, option_map, is_some, count_by, slice_get};
-ghost use Rattle.std.specs.List.{AllByRecursion};
 ghost use Rattle.slot_plan.specs.Keys.{IsKey, due_of};
 ghost use Rattle.partial_view.specs.Lines.{key_of, visit_of, unmarked, is_of};
 ghost use Rattle.partial_view.specs.Views.{Seen, IsWalk, line_at, with_mark, without, without_instance, with_record};
@@ -190,7 +189,7 @@ impl CubView {
         if limit <= self.asked_before {
             return;
         }
-        self.asked_before = due_from(&self.plan, &self.view, limit);
+        self.asked_before = self.view.due_from(limit);
     }
 
     /// Whether it is known that no visit of a backup record that is due at the limit or later is
@@ -261,19 +260,6 @@ fn split_after(plan: &Plan, time: Micros, rec: Rec) -> Micros
     }
     let due = plan.due(rec.tenancy.slot, rec.visit);
     if due < time { time } else { due + 1 }
-}
-
-/// When the first line is due that is due at a time or later, or that time if none is: no line is
-/// due in between.
-fn due_from(plan: &Plan, view: &View, time: Micros) -> Micros
-    requires { view.now.params ≡ plan.now.params }
-    ensures { AllByRecursion (λ x. time ≤ due_of plan.now.params (key_of x) →
-        result ≤ due_of plan.now.params (key_of x)) view.now.lines }
-{
-    match view.first_from(time).1 {
-        Some(line) => plan.due(line.rec.tenancy.slot, line.rec.visit),
-        None => time,
-    }
 }
 
 /// The given time, or that at which the record is due, if its block is to be asked for and this is

@@ -5,6 +5,7 @@
 
 mod cub_view;
 mod line;
+mod timed;
 mod view;
 
 pub use cub_view::CubView;

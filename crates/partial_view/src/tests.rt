@@ -88,6 +88,26 @@ fn first_line_from_a_time_on_comes_with_its_place(rt: HostRuntime) -> Result<(),
 }
 
 #[test]
+fn walks_stop_at_a_time(rt: HostRuntime) -> Result<(), Fail> {
+    let view = three_lines(rt.alloc(), &small_plan())?;
+    let first = (SlotNo(1), 0);
+    for (time, want) in [(1499999, None), (1500000, Some((SlotNo(1), 1)))] {
+        let next = view.after_by(Some(first), time);
+        assert_eq!(rt; next.map(|line| line.key()), want);
+        let near = view.after_near_by(0, first, time);
+        assert_eq!(rt; near.map(|line| line.key()), want);
+        let there = view.at_by(1, time);
+        assert_eq!(rt; there.map(|line| line.key()), want);
+    }
+    assert!(rt; view.after_by(None, 499999).is_none());
+    assert_eq!(rt;
+        (view.due_from(500001), view.due_from(1500001)),
+        (1500000, 1500001)
+    );
+    Ok(())
+}
+
+#[test]
 fn lines_are_marked_and_removed(rt: HostRuntime) -> Result<(), Fail> {
     let mut view = three_lines(rt.alloc(), &small_plan())?;
     assert!(rt; view.mark(SlotNo(1), 1, Flag::Asked));

@@ -1,16 +1,17 @@
 //! A cub's records by slot and visit, kept as one list in the order of their due times.
-ghost use Rattle.std.specs.Prelude.{◌≡◌, ℕ, ◌^◌, ◌≤◌, ◌<◌, [], IfOk, OnOk, OnErr, IfErr, IfSome, Some, MatchResult, option_map, is_some, count_by, length, slice_get};
+ghost use Rattle.std.specs.Prelude.{◌≡◌, ℕ, ◌^◌, ◌≤◌, ◌<◌, [], IfOk, OnOk, OnErr, IfErr, IfSome, Some, MatchResult, option_map, is_some, count_by, slice_get};
+ghost use Rattle.std.specs.List.{AllByRecursion};
 ghost use Rattle.std.specs.Option.{ForSome};
 ghost use Rattle.tiger_base.specs.Limits.{most_reading};
-ghost use Rattle.slot_plan.specs.Keys.{IsKey, due_of, is_earlier};
+ghost use Rattle.slot_plan.specs.Keys.{IsKey, due_of};
 ghost use Rattle.partial_view.specs.Lines.{key_of, visit_of, instance_of, is_of};
-ghost use Rattle.partial_view.specs.Views.{Seen, IsWalk, line_at, first_of, next_behind, line_due, first_from, place_from, with_mark, without, without_instance, with_record, place_of, IsFoundAt, IsGapAt};
+ghost use Rattle.partial_view.specs.Views.{Seen, IsWalk, line_at, first_of, next_behind, line_due, due_by, first_from, place_from, with_mark, without, without_instance, with_record, place_of, IsFoundAt, IsGapAt};
 ghost use Rattle.partial_view.specs.Adding.{answer_to, answer_by};
 
 use crate::line::{Flag, Line};
+use crate::timed::{TimedLines, is_before};
 use slot_plan::Plan;
 use std::alloc::Global;
-use std::collections::VecDeque;
 use std::marker::Model;
 use tiger_base::{Instance, Micros, NoMemory, Rec, SlotNo, Visit};
 
@@ -28,9 +29,7 @@ pub enum Added {
 /// The records that a cub knows of, by slot and visit, walked by due time, then slot, then visit.
 #[derive(Drop)]
 pub struct View {
-    plan: Plan,
-    // The first lines leave at each tick, and a removal here moves only those on the shorter side.
-    lines: VecDeque<Line>,
+    lines: TimedLines,
 }
 
 impl Model for View {
@@ -38,9 +37,9 @@ impl Model for View {
 
     ghost Value = { Seen };
 
-    ghost view = { λ v. record { params = v.plan.params; lines = v.lines.items } };
+    ghost view = { λ v. v.lines };
 
-    ghost invariant = { λ v. IsWalk v.plan.params v.lines.items };
+    ghost invariant = { λ v. IsWalk v.lines.params v.lines.lines };
 }
 
 impl View {
@@ -49,8 +48,7 @@ impl View {
         ensures { result ≡ record { params = plan.now.params; lines = [] } }
     {
         View {
-            plan: *plan,
-            lines: VecDeque::new(alloc),
+            lines: TimedLines::new(alloc, plan),
         }
     }
 
@@ -64,10 +62,15 @@ impl View {
         }) }
         ensures err { OnErr result (self.new ≡ self.old) }
     {
-        match place_of(&self.plan, &self.lines, (rec.tenancy.slot, rec.visit)) {
-            Ok(place) => Ok(known(rec.tenancy.instance, self.lines[place].rec.tenancy.instance)),
+        let key = (rec.tenancy.slot, rec.visit);
+        let due = self.lines.due(key);
+        match place_of(&self.lines, key, due) {
+            Ok(place) => {
+                let there = self.lines.at(place).line.rec.tenancy.instance;
+                Ok(known(rec.tenancy.instance, there))
+            }
             Err(place) => {
-                self.lines.insert(place, Line::unmarked(rec))?;
+                self.lines.insert(place, rec, due)?;
                 Ok(Added::New)
             }
         }
@@ -78,8 +81,8 @@ impl View {
         requires { IsKey self.now.params (slot, visit) }
         ensures { result ≡ line_at (slot, visit) self.now.lines }
     {
-        match place_of(&self.plan, &self.lines, (slot, visit)) {
-            Ok(place) => Some(self.lines[place]),
+        match find(&self.lines, (slot, visit)) {
+            Ok(place) => self.lines.get(place),
             Err(_) => None,
         }
     }
@@ -99,7 +102,7 @@ impl View {
     pub fn first_of(&self, instance: Instance) -> Option<Rec>
         ensures { result ≡ option_map (λ x. x.rec) (first_of instance self.now.lines) }
     {
-        first_of(&self.lines, instance)
+        self.lines.first_of(instance)
     }
 
     /// The next line behind a slot and visit, or the first if none is given; `None` exactly if
@@ -110,8 +113,8 @@ impl View {
         ensures key { IfSome result (λ line. IsKey self.now.params (key_of line)) }
         ensures walk { IsWalk self.now.params self.now.lines }
     {
-        let place = place_behind(&self.plan, &self.lines, key);
-        line_from(&self.lines, place)
+        let place = place_behind(&self.lines, key);
+        self.lines.get(place)
     }
 
     /// The next line behind a slot and visit, as `after` gives it. Their line is looked for at a
@@ -122,8 +125,37 @@ impl View {
         ensures key { IfSome result (λ line. IsKey self.now.params (key_of line)) }
         ensures walk { IsWalk self.now.params self.now.lines }
     {
-        let behind = place_near(&self.plan, &self.lines, place, key);
-        line_from(&self.lines, behind)
+        let behind = place_near(&self.lines, place, key);
+        self.lines.get(behind)
+    }
+
+    /// The next line as `after` gives it, if it is due at a time or before it.
+    pub fn after_by(&self, key: Option<(SlotNo, Visit)>, time: Micros) -> Option<Line>
+        requires { ForSome key (IsKey self.now.params) }
+        ensures next { result ≡ due_by self.now.params time
+            (next_behind self.now.params key self.now.lines) }
+        ensures walk { IsWalk self.now.params self.now.lines }
+    {
+        let place = place_behind(&self.lines, key);
+        self.lines.get_by(place, time)
+    }
+
+    /// The next line as `after_near` gives it, if it is due at a time or before it.
+    pub fn after_near_by(&self, place: usize, key: (SlotNo, Visit), time: Micros) -> Option<Line>
+        requires { IsKey self.now.params key }
+        ensures next { result ≡ due_by self.now.params time
+            (next_behind self.now.params (Some key) self.now.lines) }
+        ensures walk { IsWalk self.now.params self.now.lines }
+    {
+        let behind = place_near(&self.lines, place, key);
+        self.lines.get_by(behind, time)
+    }
+
+    /// The line at a place, if it is due at a time or before it.
+    pub fn at_by(&self, place: usize, time: Micros) -> Option<Line>
+        ensures { result ≡ due_by self.now.params time (slice_get self.now.lines place) }
+    {
+        self.lines.get_by(place, time)
     }
 
     /// The first line that is due at a time or later, behind the place at which it stands; `None`
@@ -134,8 +166,22 @@ impl View {
         ensures key { IfSome result.1 (λ line. IsKey self.now.params (key_of line)) }
         ensures walk { IsWalk self.now.params self.now.lines }
     {
-        let place = place_from(&self.plan, &self.lines, time);
-        (place, line_from(&self.lines, place))
+        let place = place_from(&self.lines, time);
+        (place, self.lines.get(place))
+    }
+
+    /// When the first line is due that is due at a time or later, or that time if none is: no line
+    /// is due in between.
+    pub(crate) fn due_from(&self, time: Micros) -> Micros
+        ensures { AllByRecursion (λ x. time ≤ due_of self.now.params (key_of x) →
+            result ≤ due_of self.now.params (key_of x)) self.now.lines }
+    {
+        let place = place_from(&self.lines, time);
+        if place < self.lines.len() {
+            self.lines.at(place).due
+        } else {
+            time
+        }
     }
 
     /// The first record that is due at a reading; `None` exactly if none is.
@@ -144,12 +190,7 @@ impl View {
         ensures { result ≡
             option_map (λ x. x.rec) (line_due self.now.params reading self.now.lines) }
     {
-        let line = line_from(&self.lines, 0)?;
-        if self.plan.due(line.rec.tenancy.slot, line.rec.visit) <= reading {
-            Some(line.rec)
-        } else {
-            None
-        }
+        Some(self.lines.get_by(0, reading)?.rec)
     }
 
     /// Sets a flag at a slot and visit; `false` exactly if there is no line.
@@ -160,9 +201,9 @@ impl View {
           lines = with_mark (slot, visit) flag self.old.lines;
         } }
     {
-        match place_of(&self.plan, &self.lines, (slot, visit)) {
+        match find(&self.lines, (slot, visit)) {
             Ok(place) => {
-                self.lines[place] = self.lines[place].marked(flag);
+                self.lines.mark(place, flag);
                 true
             }
             Err(_) => false,
@@ -175,8 +216,8 @@ impl View {
         ensures record { result ≡ option_map (λ x. x.rec) (line_at (slot, visit) self.old.lines) }
         ensures left { self.new ≡ record self.old { lines = without (slot, visit) self.old.lines } }
     {
-        match place_of(&self.plan, &self.lines, (slot, visit)) {
-            Ok(place) => Some(self.lines.remove(place)?.rec),
+        match find(&self.lines, (slot, visit)) {
+            Ok(place) => self.lines.remove(place),
             Err(_) => None,
         }
     }
@@ -188,11 +229,7 @@ impl View {
           lines = without_instance instance self.old.lines;
         } }
     {
-        let number = instance.0;
-        let before = self.lines.len();
-        self.lines
-            .retain(|line| line.rec.tenancy.instance.0 != number);
-        (before - self.lines.len()) as u64
+        self.lines.remove_instance(instance)
     }
 }
 
@@ -207,36 +244,15 @@ fn known(wanted: Instance, there: Instance) -> Added
     }
 }
 
-/// The first record of an instance among some lines.
-#[tactic(auto, unfolding(crate::specs::Views::first_of))]
-fn first_of(lines: &VecDeque<Line>, instance: Instance) -> Option<Rec>
-    ensures { result ≡ option_map (λ x. x.rec) (first_of instance lines.now.items) }
-{
-    for line in lines {
-        if line.rec.tenancy.instance.0 == instance.0 {
-            return Some(line.rec);
-        }
-    }
-    None
-}
-
-/// The line at a place.
-fn line_from(lines: &VecDeque<Line>, place: usize) -> Option<Line>
-    ensures { result ≡ slice_get lines.now.items place }
-{
-    lines.get(place).copied()
-}
-
 /// Where the first line behind a visit stands, or the first of all if none is given.
-fn place_behind(plan: &Plan, lines: &VecDeque<Line>, given: Option<(SlotNo, Visit)>) -> usize
-    requires given { ForSome given (IsKey plan.now.params) }
-    requires walk { IsWalk plan.now.params lines.now.items }
-    requires fits { length lines.now.items < 2 ^ 63 }
-    ensures { slice_get lines.now.items result ≡ next_behind plan.now.params given lines.now.items }
+fn place_behind(lines: &TimedLines, given: Option<(SlotNo, Visit)>) -> usize
+    requires given { ForSome given (IsKey lines.now.params) }
+    requires walk { IsWalk lines.now.params lines.now.lines }
+    ensures { slice_get lines.now.lines result ≡ next_behind lines.now.params given lines.now.lines }
 {
     match given {
         None => 0,
-        Some(key) => match place_of(plan, lines, key) {
+        Some(key) => match find(lines, key) {
             Ok(place) => place + 1,
             Err(place) => place,
         },
@@ -244,47 +260,59 @@ fn place_behind(plan: &Plan, lines: &VecDeque<Line>, given: Option<(SlotNo, Visi
 }
 
 /// Where the first line behind a visit stands, whose own line is looked for at a place first.
-fn place_near(plan: &Plan, lines: &VecDeque<Line>, place: usize, key: (SlotNo, Visit)) -> usize
-    requires key { IsKey plan.now.params key }
-    requires walk { IsWalk plan.now.params lines.now.items }
-    requires fits { length lines.now.items < 2 ^ 63 }
-    ensures { slice_get lines.now.items result ≡
-        next_behind plan.now.params (Some key) lines.now.items }
+fn place_near(lines: &TimedLines, place: usize, key: (SlotNo, Visit)) -> usize
+    requires key { IsKey lines.now.params key }
+    requires walk { IsWalk lines.now.params lines.now.lines }
+    ensures { slice_get lines.now.lines result ≡
+        next_behind lines.now.params (Some key) lines.now.lines }
 {
-    if place < lines.len() && lines[place].key() == key {
+    if place < lines.len() && lines.at(place).line.key() == key {
         place + 1
     } else {
-        place_behind(plan, lines, Some(key))
+        place_behind(lines, Some(key))
     }
 }
 
-/// Where the line of a visit stands, or as an `Err` where it would stand, found by halving.
-fn place_of(plan: &Plan, lines: &VecDeque<Line>, key: (SlotNo, Visit)) -> Result<usize, usize>
-    requires key { IsKey plan.now.params key }
-    requires walk { IsWalk plan.now.params lines.now.items }
-    ensures { MatchResult result (λ place. IsFoundAt key lines.now.items place)
-        (λ place. IsGapAt plan.now.params key lines.now.items place) }
+/// Where the line of a visit stands, or as an `Err` where it would stand.
+fn find(lines: &TimedLines, key: (SlotNo, Visit)) -> Result<usize, usize>
+    requires key { IsKey lines.now.params key }
+    requires walk { IsWalk lines.now.params lines.now.lines }
+    ensures found { MatchResult result (λ place. IsFoundAt key lines.now.lines place)
+        (λ place. IsGapAt lines.now.params key lines.now.lines place) }
+    ensures fits { IfOk result (λ place. place < 2 ^ 63) }
 {
-    let place = first_not_before(plan, lines, key);
-    if place < lines.len() && lines[place].key() == key {
+    place_of(lines, key, lines.due(key))
+}
+
+/// Where the line of a visit stands whose due time is at hand, or as an `Err` where it would stand,
+/// found by halving.
+fn place_of(lines: &TimedLines, key: (SlotNo, Visit), due: Micros) -> Result<usize, usize>
+    requires due { due ≡ due_of lines.now.params key }
+    requires walk { IsWalk lines.now.params lines.now.lines }
+    ensures found { MatchResult result (λ place. IsFoundAt key lines.now.lines place)
+        (λ place. IsGapAt lines.now.params key lines.now.lines place) }
+    ensures fits { IfOk result (λ place. place < 2 ^ 63) }
+{
+    let place = first_not_before(lines, key, due);
+    if place < lines.len() && lines.at(place).line.key() == key {
         Ok(place)
     } else {
         Err(place)
     }
 }
 
-/// How many lines come before a visit.
-fn first_not_before(plan: &Plan, lines: &VecDeque<Line>, key: (SlotNo, Visit)) -> usize
-    requires key { IsKey plan.now.params key }
-    requires walk { IsWalk plan.now.params lines.now.items }
-    ensures { result ≡ place_of plan.now.params key lines.now.items }
+/// How many lines come before a visit whose due time is at hand.
+fn first_not_before(lines: &TimedLines, key: (SlotNo, Visit), due: Micros) -> usize
+    requires due { due ≡ due_of lines.now.params key }
+    requires walk { IsWalk lines.now.params lines.now.lines }
+    ensures { result ≡ place_of lines.now.params key lines.now.lines }
 {
-    let due = plan.due(key.0, key.1);
     let mut low = 0;
     let mut high = lines.len();
     while low < high {
         let middle = low + (high - low) / 2;
-        if is_before(plan, lines[middle].key(), due, key) {
+        let there = lines.at(middle);
+        if is_before(there.due, there.line.key(), due, key) {
             low = middle + 1;
         } else {
             high = middle;
@@ -294,31 +322,19 @@ fn first_not_before(plan: &Plan, lines: &VecDeque<Line>, key: (SlotNo, Visit)) -
 }
 
 /// How many lines are due before a time, found by halving.
-fn place_from(plan: &Plan, lines: &VecDeque<Line>, time: Micros) -> usize
-    requires walk { IsWalk plan.now.params lines.now.items }
-    ensures { result ≡ place_from plan.now.params time lines.now.items }
+fn place_from(lines: &TimedLines, time: Micros) -> usize
+    requires walk { IsWalk lines.now.params lines.now.lines }
+    ensures { result ≡ place_from lines.now.params time lines.now.lines }
 {
     let mut low = 0;
     let mut high = lines.len();
     while low < high {
         let middle = low + (high - low) / 2;
-        let (slot, visit) = lines[middle].key();
-        if plan.due(slot, visit) < time {
+        if lines.at(middle).due < time {
             low = middle + 1;
         } else {
             high = middle;
         }
     }
     low
-}
-
-/// Whether one visit comes before another whose due time is at hand.
-#[tactic(auto, unfolding(slot_plan::specs::Keys::is_earlier))]
-fn is_before(plan: &Plan, a: (SlotNo, Visit), due: Micros, b: (SlotNo, Visit)) -> bool
-    requires first { IsKey plan.now.params a }
-    requires due { due ≡ due_of plan.now.params b }
-    ensures { result ≡ is_earlier plan.now.params a b }
-{
-    let due_a = plan.due(a.0, a.1);
-    due_a < due || (due_a == due && (a.0.0 < b.0.0 || (a.0.0 == b.0.0 && a.1 < b.1)))
 }

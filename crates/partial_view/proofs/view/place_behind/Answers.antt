@@ -7,12 +7,12 @@ use Rattle.partial_view.proofs.view.place_behind.Goals as goal
 
 pub returns-in-None : goal.returns-in-None
 returns-in-None c =
-    sym (ap (λ (o : Option Key). next_behind c.args.plan.now.params o c.args.lines.now.items) c.in-None.is ∙ next-first c.args.plan.now.params c.args.lines.now.items)
+    sym (ap (λ (o : Option Key). next_behind c.args.lines.now.params o c.args.lines.now.lines) c.in-None.is ∙ next-first c.args.lines.now.params c.args.lines.now.lines)
 
 pub returns-in-Ok : goal.returns-in-Ok
 returns-in-Ok c =
-    next-found c.args.plan.now.params c.in-Some.key c.args.lines.now.items c.in-Ok.place c.requires.walk c.in-Ok.ensures ∙ sym (ap (λ (o : Option Key). next_behind c.args.plan.now.params o c.args.lines.now.items) c.in-Some.is)
+    next-found c.args.lines.now.params c.in-Some.key c.args.lines.now.lines c.in-Ok.place c.requires.walk c.in-Ok.ensures.found ∙ sym (ap (λ (o : Option Key). next_behind c.args.lines.now.params o c.args.lines.now.lines) c.in-Some.is)
 
 pub returns-in-Err : goal.returns-in-Err
 returns-in-Err c =
-    next-gap c.args.plan.now.params c.in-Some.key c.args.lines.now.items c.in-Err.place c.requires.walk c.in-Err.ensures ∙ sym (ap (λ (o : Option Key). next_behind c.args.plan.now.params o c.args.lines.now.items) c.in-Some.is)
+    next-gap c.args.lines.now.params c.in-Some.key c.args.lines.now.lines c.in-Err.place c.requires.walk c.in-Err.ensures.found ∙ sym (ap (λ (o : Option Key). next_behind c.args.lines.now.params o c.args.lines.now.lines) c.in-Some.is)

@@ -6,4 +6,4 @@ use Rattle.partial_view.proofs.view.place_near.Goals as goal
 
 pub returns-then-eq : goal.returns-then-eq
 returns-then-eq c =
-    next-found c.args.plan.now.params c.args.key c.args.lines.now.items c.args.place c.requires.walk (found_there c.args.key c.args.lines.now.items c.args.place _ c.key.result (c.key.ensures ∙ ap key_of c.index.ensures) c.eq.ensures c.if-eq.true (omega arith))
+    next-found c.args.lines.now.params c.args.key c.args.lines.now.lines c.args.place c.requires.walk (found_there c.args.key c.args.lines.now.lines c.args.place _ c.key.result (c.key.ensures ∙ ap key_of c.at.ensures.line) c.eq.ensures c.if-eq.true (omega arith))

@@ -4,13 +4,13 @@ use Rattle.partial_view.proofs.Places.{found_by, gap_by, gap_past}
 use Rattle.partial_view.proofs.view.place_of.Goals as goal
 use Rattle.partial_view.proofs.view.place_of.Goals.{else-place-len-via-then-place-len+else-eq, else-place-len-via-else-place-len}
 
-pub returns-then-eq : goal.returns-then-eq
-returns-then-eq c =
-    found_by c.args.plan.now.params c.args.key c.args.lines.now.items _ c.requires.walk c.first_not_before-place.ensures _ c.key.result (c.key.ensures ∙ ap key_of c.index.ensures) c.eq.ensures c.if-eq.true (omega arith)
+pub returns-then-eq-clause-found : goal.returns-then-eq-clause-found
+returns-then-eq-clause-found c =
+    found_by c.args.lines.now.params c.args.key c.args.lines.now.lines _ c.requires.walk c.first_not_before-place.ensures _ c.key.result (c.key.ensures ∙ ap key_of c.at.ensures.line) c.eq.ensures c.if-eq.true (omega arith)
 
-pub returns-else-place-len : goal.returns-else-place-len
-returns-else-place-len c =
+pub returns-else-place-len-clause-found : goal.returns-else-place-len-clause-found
+returns-else-place-len-clause-found c =
     elim c.else-place-len.branch [
-      | else-place-len-via-then-place-len+else-eq w ↦ gap_by c.args.plan.now.params c.args.key c.args.lines.now.items _ c.requires.walk c.first_not_before-place.ensures _ w.key.result (w.key.ensures ∙ ap key_of w.index.ensures) w.eq.ensures w.if-eq.false
-      | else-place-len-via-else-place-len w ↦ gap_past c.args.plan.now.params c.args.key c.args.lines.now.items _ c.requires.walk c.first_not_before-place.ensures (omega (arith, w.if-place-len.false, c.len.ensures, c.args.lines.now.ok.0))
+      | else-place-len-via-then-place-len+else-eq w ↦ gap_by c.args.lines.now.params c.args.key c.args.lines.now.lines _ c.requires.walk c.first_not_before-place.ensures _ w.key.result (w.key.ensures ∙ ap key_of w.at.ensures.line) w.eq.ensures w.if-eq.false
+      | else-place-len-via-else-place-len w ↦ gap_past c.args.lines.now.params c.args.key c.args.lines.now.lines _ c.requires.walk c.first_not_before-place.ensures (omega (arith, w.if-place-len.false, c.len.ensures.len))
     ]

@@ -3,4 +3,4 @@ use Rattle.partial_view.proofs.view.View.after_near.Goals as goal
 
 pub returns-clause-key : goal.returns-clause-key
 returns-clause-key c =
-    key-found-at c.self.inside.plan.params c.self.inside.lines.items c.place_near-behind.result c.self.view_is c.self.invariant c.line_from.ensures
+    key-found-at c.self.inside.lines.params c.self.inside.lines.lines c.place_near-behind.result c.self.view_is c.self.invariant c.get.ensures

@@ -1,0 +1,173 @@
+//! Lines beside their due times, so that no search and no walk works out the due time of a line.
+ghost use Rattle.std.specs.Prelude.{◌≡◌, ℕ, ◌^◌, ◌<◌, ◌≤◌, [], OnOk, OnErr, IfSome, length, map, option_map, count_by, insert, remove, slice_get, slice_index_or, slice_set};
+ghost use Rattle.slot_plan.specs.declared.params.Params.{Params};
+ghost use Rattle.slot_plan.specs.Keys.{IsKey, due_of, is_earlier};
+ghost use Rattle.partial_view.specs.Lines.{key_of, visit_of, unmarked, marked, is_of};
+ghost use Rattle.partial_view.specs.Views.{Seen, first_of, without_instance, due_by};
+
+use crate::line::{Flag, Line};
+use slot_plan::Plan;
+use std::alloc::Global;
+use std::collections::VecDeque;
+use std::marker::Model;
+use tiger_base::{Instance, Micros, NoMemory, Rec, SlotNo, Visit};
+
+/// A line, and when its visit is due.
+#[derive(Clone, Copy, Debug, PartialEq, Eq)]
+pub(crate) struct Timed {
+    pub(crate) due: Micros,
+    pub(crate) line: Line,
+}
+
+/// Lines of a plan's visits, each with its due time, in the order in which they are put. They are
+/// seen as the lines alone.
+#[derive(Drop)]
+pub(crate) struct TimedLines {
+    plan: Plan,
+    // The first lines leave at each tick, and a removal here moves only those on the shorter side.
+    items: VecDeque<Timed>,
+}
+
+impl Model for TimedLines {
+    ghost use Rattle.std.specs.Prelude.{map};
+    ghost use Rattle.std.specs.List.{AllByRecursion};
+    ghost use Rattle.partial_view.specs.Views.{Seen};
+    ghost use Rattle.partial_view.specs.Dues.{line_of, IsTimed};
+
+    ghost Value = { Seen };
+
+    ghost view = { λ v. record { params = v.plan.params; lines = map line_of v.items.items } };
+
+    ghost invariant = { λ v. AllByRecursion (IsTimed v.plan.params) v.items.items };
+}
+
+impl TimedLines {
+    /// No lines yet. It takes no memory.
+    pub(crate) fn new(alloc: Global, plan: &Plan) -> TimedLines
+        ensures { result ≡ record { params = plan.now.params; lines = [] } }
+    {
+        TimedLines {
+            plan: *plan,
+            items: VecDeque::new(alloc),
+        }
+    }
+
+    /// When a visit is due.
+    pub(crate) fn due(&self, key: (SlotNo, Visit)) -> Micros
+        requires { IsKey self.now.params key }
+        ensures { result ≡ due_of self.now.params key }
+    {
+        self.plan.due(key.0, key.1)
+    }
+
+    /// How many lines there are.
+    pub(crate) fn len(&self) -> usize
+        ensures len { result ≡ length self.now.lines }
+        ensures fits { result < 2 ^ 63 }
+    {
+        self.items.len()
+    }
+
+    /// The line at a place, and when it is due.
+    pub(crate) fn at(&self, place: usize) -> &Timed
+        requires { place < length self.now.lines }
+        ensures line { result.now.line ≡ slice_index_or self.now.lines place result.now.line }
+        ensures due { result.now.due ≡ due_of self.now.params (key_of result.now.line) }
+    {
+        &self.items[place]
+    }
+
+    /// The line at a place; `None` exactly if there is none.
+    pub(crate) fn get(&self, place: usize) -> Option<Line>
+        ensures { result ≡ slice_get self.now.lines place }
+    {
+        Some(self.items.get(place)?.line)
+    }
+
+    /// The line at a place, if it is due at a time or before it.
+    pub(crate) fn get_by(&self, place: usize, time: Micros) -> Option<Line>
+        ensures { result ≡ due_by self.now.params time (slice_get self.now.lines place) }
+    {
+        let there = self.items.get(place)?;
+        if there.due <= time {
+            Some(there.line)
+        } else {
+            None
+        }
+    }
+
+    /// The first record of an instance; `None` exactly if it has none.
+    #[tactic(auto, unfolding(crate::specs::Views::first_of))]
+    pub(crate) fn first_of(&self, instance: Instance) -> Option<Rec>
+        ensures { result ≡ option_map (λ x. x.rec) (first_of instance self.now.lines) }
+    {
+        for there in &self.items {
+            if there.line.rec.tenancy.instance.0 == instance.0 {
+                return Some(there.line.rec);
+            }
+        }
+        None
+    }
+
+    /// Puts the line of a record at a place, with no flag set, whose due time is at hand; without
+    /// memory for it nothing changes.
+    pub(crate) fn insert(&mut self, place: usize, rec: Rec, due: Micros) -> Result<(), NoMemory>
+        requires place { place ≤ length self.old.lines }
+        requires due { due ≡ due_of self.old.params (visit_of rec) }
+        ensures ok { OnOk result (self.new ≡ record self.old {
+          lines = insert self.old.lines place (unmarked rec);
+        }) }
+        ensures err { OnErr result (self.new ≡ self.old) }
+    {
+        let line = Line::unmarked(rec);
+        self.items.insert(place, Timed { due, line })?;
+        Ok(())
+    }
+
+    /// Sets a flag of the line at a place.
+    pub(crate) fn mark(&mut self, place: usize, flag: Flag)
+        requires { place < length self.old.lines }
+        ensures { IfSome (slice_get self.old.lines place) (λ x. self.new ≡ record self.old {
+          lines = slice_set self.old.lines place (marked flag x);
+        }) }
+    {
+        let line = self.items[place].line.marked(flag);
+        self.items[place].line = line;
+    }
+
+    /// Takes the line at a place out, and gives its record; `None` exactly if there is none.
+    pub(crate) fn remove(&mut self, place: usize) -> Option<Rec>
+        ensures record { result ≡ option_map (λ x. x.rec) (slice_get self.old.lines place) }
+        ensures left { self.new ≡ record self.old { lines = remove self.old.lines place } }
+    {
+        Some(self.items.remove(place)?.line.rec)
+    }
+
+    /// Takes all lines of an instance out, and says how many there were.
+    pub(crate) fn remove_instance(&mut self, instance: Instance) -> u64
+        ensures count { result ≡ count_by (is_of instance) self.old.lines }
+        ensures left { self.new ≡ record self.old {
+          lines = without_instance instance self.old.lines;
+        } }
+    {
+        let number = instance.0;
+        let before = self.items.len();
+        self.items
+            .retain(|there| there.line.rec.tenancy.instance.0 != number);
+        (before - self.items.len()) as u64
+    }
+}
+
+/// Whether one visit comes before another; the due times of both are at hand.
+#[tactic(auto, unfolding(slot_plan::specs::Keys::is_earlier))]
+pub(crate) fn is_before(
+    due_a: Micros,
+    a: (SlotNo, Visit),
+    due_b: Micros,
+    b: (SlotNo, Visit),
+) -> bool
+    ensures { (p : Params) → due_a ≡ due_of p a → due_b ≡ due_of p b
+        → result ≡ is_earlier p a b }
+{
+    due_a < due_b || (due_a == due_b && (a.0.0 < b.0.0 || (a.0.0 == b.0.0 && a.1 < b.1)))
+}
