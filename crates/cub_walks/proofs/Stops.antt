@@ -9,13 +9,17 @@ use Rattle.slot_plan.specs.Keys.{Key, due_of, is_earlier}
 use Rattle.slot_plan.proofs.Keys.{earlier_due}
 use Rattle.partial_view.specs.declared.line.Line.{Line}
 use Rattle.partial_view.specs.Lines.{key_of}
-use Rattle.partial_view.specs.Views.{Seen, IsWalk, next_behind}
+use Rattle.partial_view.specs.Views.{Seen, IsWalk, next_behind, due_by}
 use Rattle.partial_view.specs.Walks.{replaced, KeepsVisits, IsFirstFor, left}
 use Rattle.partial_view.proofs.Begins.{begun_at}
 use Rattle.partial_view.proofs.Calls.{record_of}
 use Rattle.partial_view.proofs.Order.{all_implies, walk_back}
 use Rattle.partial_view.proofs.Walks.{begun, on, fewer}
-use Rattle.cub_walks.specs.Stopping.{due_by, UnderwayTo}
+use Rattle.cub_walks.specs.Stopping.{UnderwayTo}
+
+-- a line counts by one plan as by another that is the same
+by_plan : {q p : Params} → q ≡ p → (time : ℕ) (ahead : Option Line) → due_by q time ahead ≡ due_by p time ahead
+by_plan same time ahead = ap (λ (r : Params). due_by r time ahead) same
 
 -- a line that counts is the one that is ahead
 counted : (p : Params) (time : ℕ) (ahead : Option Line) {x : Line} → due_by p time ahead ≡ Some x → ahead ≡ Some x
@@ -63,15 +67,15 @@ module _ {X : Type 0} {p : Params} {time : ℕ} {outs_of : Line → List X} {lin
 
   module _ {before : Seen} {outs_before : List X} where
     -- it begins at the first line
-    pub begun_to : {next : Option Line} → KeepsVisits lines_of → IsWalk before.params before.lines → before.params ≡ p → next ≡ due_by p time (next_behind before.params None before.lines)
+    pub begun_to : {next : Option Line} → KeepsVisits lines_of → IsWalk before.params before.lines → before.params ≡ p → next ≡ due_by before.params time (next_behind before.params None before.lines)
         → UnderwayTo p time outs_of lines_of before outs_before before outs_before next
-    begun_to keeps w plan e = record { ahead = next_behind before.params None before.lines; walk = begun keeps w refl; plan = plan; bound = e }
+    begun_to keeps w plan e = record { ahead = next_behind before.params None before.lines; walk = begun keeps w refl; plan = plan; bound = e ∙ by_plan plan time (next_behind before.params None before.lines) }
 
     -- or at the first line for which something may be to do
-    pub begun_from : (test : Line → Bool) {first next : Option Line} → KeepsVisits lines_of → IsWalk before.params before.lines → before.params ≡ p → IsFirstFor test before.lines first
-        → ((x : Line) → test x ≡ false → outs_of x ≡ []) → ((x : Line) → test x ≡ false → lines_of x ≡ x ∷ []) → next ≡ due_by p time first
+    pub begun_from : (test : Line → Bool) {first next : Option Line} (i : ℕ) → KeepsVisits lines_of → IsWalk before.params before.lines → before.params ≡ p → IsFirstFor test before.lines first → slice_get before.lines i ≡ first
+        → ((x : Line) → test x ≡ false → outs_of x ≡ []) → ((x : Line) → test x ≡ false → lines_of x ≡ x ∷ []) → next ≡ due_by before.params time (slice_get before.lines i)
         → UnderwayTo p time outs_of lines_of before outs_before before outs_before next
-    begun_from test {first} keeps w plan b silent stays e = record { ahead = first; walk = begun_at test keeps w b silent stays; plan = plan; bound = e }
+    begun_from test {first} i keeps w plan b there silent stays e = record { ahead = first; walk = begun_at test keeps w b silent stays; plan = plan; bound = e ∙ (by_plan plan time (slice_get before.lines i) ∙ ap (λ (o : Option Line). due_by p time o) there) }
 
     module _ {now : Seen} {outs_now : List X} {next : Option Line} (u : UnderwayTo p time outs_of lines_of before outs_before now outs_now next) where
       pub ahead_is : {x : Line} → next ≡ Some x → u.ahead ≡ Some x
@@ -83,13 +87,17 @@ module _ {X : Type 0} {p : Params} {time : ℕ} {outs_of : Line → List X} {lin
       -- it goes on
       module _ {x : Line} (is : next ≡ Some x) {after : Seen} {outs_after : List X} {then : Option Line} {k : Key}
           (step : after ≡ record now { lines = replaced (key_of x) (lines_of x) now.lines }) (outs : outs_after ≡ outs_now ++ outs_of x)
-          (key_is : k ≡ key_of x) (is_then : then ≡ due_by p time (next_behind after.params (Some k) after.lines)) (walk_after : IsWalk after.params after.lines) where
+          (key_is : k ≡ key_of x) (is_then : then ≡ due_by after.params time (next_behind after.params (Some k) after.lines)) (walk_after : IsWalk after.params after.lines) where
+        -- the plan stays
+        bound_on : then ≡ due_by p time (next_behind after.params (Some k) after.lines)
+        bound_on = is_then ∙ by_plan (ap (λ (s : Seen). s.params) step ∙ params_are) time (next_behind after.params (Some k) after.lines)
+
         pub on_to : UnderwayTo p time outs_of lines_of before outs_before after outs_after then
         on_to = record {
           ahead = next_behind after.params (Some k) after.lines;
           walk = on u.walk (ahead_is is) step outs key_is refl walk_after;
           plan = u.plan;
-          bound = is_then;
+          bound = bound_on;
         }
 
         pub fewer_to : left then after < left next now
@@ -97,7 +105,7 @@ module _ {X : Type 0} {p : Params} {time : ℕ} {outs_of : Line → List X} {lin
             let more : left (next_behind after.params (Some k) after.lines) after < left u.ahead now = fewer u.walk (ahead_is is) step outs key_is refl walk_after in
             let same : left next now ≡ left u.ahead now = ap (λ (o : Option Line). left o now) (is ∙ sym (ahead_is is)) in
             let less : left (due_by p time (next_behind after.params (Some k) after.lines)) after ≤ left (next_behind after.params (Some k) after.lines) after = less_left p time (next_behind after.params (Some k) after.lines) after in
-            let that : left then after ≡ left (due_by p time (next_behind after.params (Some k) after.lines)) after = ap (λ (o : Option Line). left o after) is_then in
+            let that : left then after ≡ left (due_by p time (next_behind after.params (Some k) after.lines)) after = ap (λ (o : Option Line). left o after) bound_on in
             omega (arith, more, same, less, that)
 
       -- it stops

@@ -1,21 +1,14 @@
 -- Walks over the lines of a view that stop at the first line that is due after a time.
-use Rattle.std.specs.Prelude.{◌≡◌, ℕ, List, [], ◌∷◌, Option, Some, None, nat_le, if◌then◌else◌}
+use Rattle.std.specs.Prelude.{◌≡◌, ℕ, List, [], ◌∷◌, Option, if◌then◌else◌}
 use Rattle.slot_plan.specs.declared.params.Params.{Params}
-use Rattle.slot_plan.specs.Keys.{due_of}
 use Rattle.partial_view.specs.declared.line.Line.{Line}
-use Rattle.partial_view.specs.Lines.{key_of}
-use Rattle.partial_view.specs.Views.{Seen}
+use Rattle.partial_view.specs.Views.{Seen, due_by}
 use Rattle.partial_view.specs.Walks.{Underway}
 use Rattle.tiger_base.specs.declared.number.Stamp.{Stamp}
 use Rattle.tiger_base.specs.declared.message.Msg.{Msg}
 use Rattle.node_kit.specs.declared.outbox.Out.{Out}
 use Rattle.cub_rules.specs.Records.{dropped}
 use Rattle.cub_rules.specs.Ticks.{is_served, is_past}
-
--- a line, if it is due at a time or before it
-abbrev pub due_by : Params → ℕ → Option Line → Option Line
-due_by p time None = None
-due_by p time (Some x) = if nat_le (due_of p (key_of x)) time then Some x else None
 
 -- a walk is under way, and its next line counts only if it is due at a time or before it
 pub record UnderwayTo {X : Type 0} (p : Params) (time : ℕ) (outs_of : Line → List X) (lines_of : Line → List Line) (before : Seen) (outs_before : List X) (now : Seen) (outs_now : List X) (next : Option Line) : Type 0 where

@@ -13,7 +13,7 @@ ghost use Rattle.cub_rules.specs.Ticks.{reading, must_read, ask_line, ask_outs, 
 ghost use Rattle.cub_walks.specs.Limits.{asks};
 
 use crate::leaving::take_leaving;
-use crate::walking::{after_near_by, due_by};
+use crate::walking::{after_near_by, at_by};
 use cub_rules::Store;
 use mirror_pieces::piece_disk;
 use mirror_schedule::PieceView;
@@ -88,11 +88,11 @@ fn read_lines<'a>(
 {
     let time = stamp.reading + site.plan.params.read_lead;
     // The walk takes no line out: the line that it stands at stays at its place.
-    let (mut place, first) = view.first_unasked();
-    let mut next = due_by(&site.plan, first, time);
+    let (mut place, _) = view.first_unasked();
+    let mut next = at_by(view, place, time);
     while let Some(line) = next {
         read_block(site, stamp, view, line, out)?;
-        next = after_near_by(&site.plan, view, place, line.key(), time);
+        next = after_near_by(view, place, line.key(), time);
         place = place.saturating_add(1);
     }
     Ok(())

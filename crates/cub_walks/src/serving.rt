@@ -60,10 +60,10 @@ fn serve_blocks<'a>(
     ensures outs { OnOk result (out.new ≡ out.old ++ flat_map
         (serve_outs site.now.plan.params site.now.cub.0 stamp parts.now) view.old.lines) }
 {
-    let mut next = after_by(&site.plan, view, None, stamp.reading);
+    let mut next = after_by(view, None, stamp.reading);
     while let Some(line) = next {
         serve_block(site, stamp, view, parts, line, out)?;
-        next = after_by(&site.plan, view, Some(line.key()), stamp.reading);
+        next = after_by(view, Some(line.key()), stamp.reading);
     }
     Ok(())
 }
@@ -139,10 +139,10 @@ fn drop_backups<'a>(
     ensures outs { OnOk result (out.new ≡ out.old
         ++ map dropped (filter (is_past site.now.plan.params stamp) view.old.lines)) }
 {
-    let mut next = after_by(&site.plan, view, None, stamp.reading);
+    let mut next = after_by(view, None, stamp.reading);
     while let Some(line) = next {
         drop_backup(&site.plan, stamp, view, line, out)?;
-        next = after_by(&site.plan, view, Some(line.key()), stamp.reading);
+        next = after_by(view, Some(line.key()), stamp.reading);
     }
     Ok(())
 }

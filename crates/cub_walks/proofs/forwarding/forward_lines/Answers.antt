@@ -10,8 +10,8 @@ use Rattle.cub_walks.proofs.forwarding.forward_lines.Goals as goal
 
 pub loop-next-init : goal.loop-next-init
 loop-next-init c =
-    begun_from is_pending (forward_keeps c.args.site.now.plan.params c.args.stamp) c.first_pending-place.ensures.walk c.requires.plan c.first_pending-place.ensures.begins
-    (λ x none. silent_past c.args.site.now.plan.params c.args.site.now.cub.0 c.args.stamp x none) (λ x none. stays_past c.args.site.now.plan.params c.args.stamp x none) c.due_by-next.ensures.next
+    begun_from is_pending c.first_pending-place.result.0 (forward_keeps c.args.site.now.plan.params c.args.stamp) c.first_pending-place.ensures.walk c.requires.plan c.first_pending-place.ensures.begins c.first_pending-place.ensures.place
+    (λ x none. silent_past c.args.site.now.plan.params c.args.site.now.cub.0 c.args.stamp x none) (λ x none. stays_past c.args.site.now.plan.params c.args.stamp x none) c.at_by-next.ensures
 
 pub forward_line-requires-clause-line : goal.forward_line-requires-clause-line
 forward_line-requires-clause-line c =
@@ -23,8 +23,8 @@ forward_line-requires-clause-key c = next_key c.loop-next.invariant.walk (ahead_
 pub forward_line-requires-clause-there : goal.forward_line-requires-clause-there
 forward_line-requires-clause-there c = there c.loop-next.invariant.walk (ahead_is c.loop-next.invariant c.in-Some.is)
 
-pub after_near_by-next-requires-clause-key : goal.after_near_by-next-requires-clause-key
-after_near_by-next-requires-clause-key c =
+pub after_near_by-next-requires : goal.after_near_by-next-requires
+after_near_by-next-requires c =
     given_key c.loop-next.invariant.walk (ahead_is c.loop-next.invariant c.in-Some.is) c.in_ok-forward_line.ensures.view c.key.ensures c.key.result refl
 
 pub loop-next-smaller : goal.loop-next-smaller

@@ -10,8 +10,8 @@ use Rattle.cub_walks.proofs.reading.read_lines.Goals as goal
 
 pub loop-next-init : goal.loop-next-init
 loop-next-init c =
-    begun_from is_unasked (ask_keeps c.args.site.now.plan.params c.args.stamp) c.first_unasked-place.ensures.walk c.requires.plan c.first_unasked-place.ensures.begins
-    (λ x none. silent_past c.args.site.now.plan.params c.args.stamp x none) (λ x none. stays_past c.args.site.now.plan.params c.args.stamp x none) c.due_by-next.ensures.next
+    begun_from is_unasked c.first_unasked-place.result.0 (ask_keeps c.args.site.now.plan.params c.args.stamp) c.first_unasked-place.ensures.walk c.requires.plan c.first_unasked-place.ensures.begins c.first_unasked-place.ensures.place
+    (λ x none. silent_past c.args.site.now.plan.params c.args.stamp x none) (λ x none. stays_past c.args.site.now.plan.params c.args.stamp x none) c.at_by-next.ensures
 
 pub read_block-requires-clause-line : goal.read_block-requires-clause-line
 read_block-requires-clause-line c =
@@ -23,8 +23,8 @@ read_block-requires-clause-key c = next_key c.loop-next.invariant.walk (ahead_is
 pub read_block-requires-clause-there : goal.read_block-requires-clause-there
 read_block-requires-clause-there c = there c.loop-next.invariant.walk (ahead_is c.loop-next.invariant c.in-Some.is)
 
-pub after_near_by-next-requires-clause-key : goal.after_near_by-next-requires-clause-key
-after_near_by-next-requires-clause-key c =
+pub after_near_by-next-requires : goal.after_near_by-next-requires
+after_near_by-next-requires c =
     given_key c.loop-next.invariant.walk (ahead_is c.loop-next.invariant c.in-Some.is) c.in_ok-read_block.ensures.view c.key.ensures c.key.result refl
 
 pub loop-next-smaller : goal.loop-next-smaller

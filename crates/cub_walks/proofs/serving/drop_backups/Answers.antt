@@ -16,8 +16,8 @@ drop_backup-requires-clause-key c = next_key c.loop-next.invariant.walk (ahead_i
 pub drop_backup-requires-clause-there : goal.drop_backup-requires-clause-there
 drop_backup-requires-clause-there c = there c.loop-next.invariant.walk (ahead_is c.loop-next.invariant c.in-Some.is)
 
-pub after_by-next-requires-in-Some-clause-key : goal.after_by-next-requires-in-Some-clause-key
-after_by-next-requires-in-Some-clause-key c =
+pub after_by-next-requires-in-Some : goal.after_by-next-requires-in-Some
+after_by-next-requires-in-Some c =
     given_key c.loop-next.invariant.walk (ahead_is c.loop-next.invariant c.in-Some.is) c.in_ok-drop_backup.ensures.view c.key.ensures
 
 pub loop-next-smaller : goal.loop-next-smaller

@@ -19,8 +19,8 @@ serve_block-requires-clause-key c = next_key c.loop-next.invariant.walk (ahead_i
 pub serve_block-requires-clause-there : goal.serve_block-requires-clause-there
 serve_block-requires-clause-there c = there c.loop-next.invariant.walk (ahead_is c.loop-next.invariant c.in-Some.is)
 
-pub after_by-next-requires-in-Some-clause-key : goal.after_by-next-requires-in-Some-clause-key
-after_by-next-requires-in-Some-clause-key c =
+pub after_by-next-requires-in-Some : goal.after_by-next-requires-in-Some
+after_by-next-requires-in-Some c =
     given_key c.loop-next.invariant.walk (ahead_is c.loop-next.invariant c.in-Some.is) c.in_ok-serve_block.ensures.view c.key.ensures
 
 pub loop-next-smaller : goal.loop-next-smaller
