@@ -1,21 +1,18 @@
 -- Where the records that a cub keeps let it stand.
-use Rattle.std.proofs.Common.{◌≡◌, ◌≤◌, ◌<◌, ◌&&◌, nat_lt, nat_le, ℕ, Bool, true, false, cond, List, [], ◌∷◌, Option, Some, None, option_map, find, IsTrue, refl, sym, ap, ◌==◌, ◌∙◌, subst, arith}
+use Rattle.std.proofs.Common.{◌≡◌, ◌≤◌, ◌<◌, ◌&&◌, nat_lt, nat_le, ℕ, Bool, true, false, cond, List, [], ◌∷◌, Option, Some, None, option_map, find, IsTrue, refl, sym, ap, subst, arith}
 use Rattle.std.specs.List.{AllByRecursion}
 use Rattle.std.proofs.lemmas.Bool.{and_parts, ltb-true, leb-true}
 use Rattle.tiger_base.specs.declared.number.Instance.{Instance}
 use Rattle.tiger_base.specs.declared.tenancy.Kind.{Kind}
 use Rattle.tiger_base.specs.declared.tenancy.Kind.TheVariants.{Own, Backup}
-use Rattle.tiger_base.specs.declared.tenancy.PieceState.{PieceState}
 use Rattle.tiger_base.specs.declared.tenancy.Rec.{Rec}
 use Rattle.tiger_base.specs.declared.tenancy.Tenancy.{Tenancy}
-use Rattle.tiger_base.specs.declared.tenancy.Want.{Want}
 use Rattle.tiger_base.specs.Limits.{most_visit}
 use Rattle.slot_plan.specs.declared.params.Params.{Params}
 use Rattle.slot_plan.specs.Keys.{Key}
-use Rattle.node_kit.specs.Form.{is_tenancy, is_piece}
+use Rattle.node_kit.specs.Form.{is_tenancy}
 use Rattle.partial_view.specs.declared.line.Line.{Line}
 use Rattle.partial_view.specs.Views.{line_at, first_of}
-use Rattle.cub_rules.specs.Records.{same_want}
 use Rattle.cub_rules.specs.State.{IsRecordOf, IsLineOf, visit_here}
 use Rattle.cub_rules.specs.Messages.{position_of}
 use Rattle.cub_messages.specs.Rules.{IsNear}
@@ -61,13 +58,6 @@ fit p t h =
     let first = and_parts (nat_lt t.slot.0 p.slots) (nat_le t.first t.last) both.0 in
     record { slot = ltb-true _ _ first.0; ordered = leb-true _ _ first.1; last = leb-true _ _ both.1 }
 
--- a piece state in form is of a visit of its tenancy
-pub piece_begun : (p : Params) (x : PieceState) → IsTrue (is_piece p x) → x.tenancy.first ≤ x.visit
-piece_begun p x h =
-    let both = and_parts (is_tenancy p x.tenancy && (nat_le x.tenancy.first x.visit && nat_le x.visit x.tenancy.last)) (nat_le 1 x.piece && nat_le x.piece p.pieces) h in
-    let visit = and_parts (is_tenancy p x.tenancy) (nat_le x.tenancy.first x.visit && nat_le x.visit x.tenancy.last) both.0 in
-    leb-true _ _ (and_parts (nat_le x.tenancy.first x.visit) (nat_le x.visit x.tenancy.last) visit.1).0
-
 pub record_small : (p : Params) (cub : ℕ) (r : Rec) → IsRecordOf p cub r → r.visit ≤ most_visit
 record_small p cub r h = omega (arith, h.not_over, (fit p r.tenancy h.in_form).last)
 
@@ -77,18 +67,3 @@ record_near p cub r h = ((fit p r.tenancy h.in_form).slot, by_kind r.kind)
     by_kind : (k : Kind) → visit_here k r.visit ≤ 2147483649
     by_kind Own = omega (arith, record_small p cub r h)
     by_kind Backup = omega (arith, record_small p cub r h)
-
--- six tests, one after another
-all_six : (a b c d e f : Bool) → (a && (b && (c && (d && (e && f))))) ≡ (a && b && c && d && e && f)
-all_six true true true true e f = refl
-all_six true true true false e f = refl
-all_six true true false d e f = refl
-all_six true false c d e f = refl
-all_six false b c d e f = refl
-
--- two wants are compared number by number
-pub wants_compared : (a b c : Want) (t : Bool)
-    → t ≡ (a.instance.0 == b.instance.0 && (a.slot.0 == b.slot.0 && (a.visit == b.visit && (a.file.0 == b.file.0 && (a.block == b.block && a.piece == b.piece))))) → b ≡ c
-    → same_want a c ≡ t
-wants_compared a b c t e same =
-    sym (ap (λ (w : Want). same_want a w) same) ∙ sym (e ∙ all_six (a.instance.0 == b.instance.0) (a.slot.0 == b.slot.0) (a.visit == b.visit) (a.file.0 == b.file.0) (a.block == b.block) (a.piece == b.piece))

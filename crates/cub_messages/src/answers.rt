@@ -1,17 +1,14 @@
 //! What a cub does with a disk's answer.
 ghost use Rattle.std.specs.Prelude.{◌≡◌, ◌≤◌, IsTrue, OnOk};
-ghost use Rattle.std.specs.List.{AllByRecursion, list_any};
-ghost use Rattle.tiger_base.specs.Records.{want_of_piece};
+ghost use Rattle.std.specs.List.{AllByRecursion};
 ghost use Rattle.slot_plan.specs.Keys.{IsKey};
 ghost use Rattle.node_kit.specs.Form.{is_place};
 ghost use Rattle.partial_view.specs.Views.{line_at};
 ghost use Rattle.node_kit.specs.Deeds.{Did};
-ghost use Rattle.cub_rules.specs.Records.{same_want};
-ghost use Rattle.cub_rules.specs.State.{IsStoreOf, IsLineOf, IsPieceAt};
+ghost use Rattle.cub_rules.specs.State.{IsStoreOf, IsLineOf};
 ghost use Rattle.cub_rules.specs.Messages.{is_block_of, is_wanted, storing, meeting_answer};
 
 use cub_rules::{Store, StoredPart};
-use mirror_schedule::PieceView;
 use node_kit::{Out, Outbox, Site, What};
 use partial_view::View;
 use tiger_base::{Msg, NoMemory, Part, Want};
@@ -47,7 +44,7 @@ fn is_wanted(site: &Site, want: &Want, store: &Store) -> bool
     requires stored { IsStoreOf site.now.plan.params site.now.cub.0 store.now }
     ensures { result ≡ is_wanted want.now store.now }
 {
-    has_block(site, want, store.view.view()) || has_piece(site, want, &store.pieces)
+    has_block(site, want, store.view.view()) || store.pieces.has_for(want)
 }
 
 /// Whether a view has the own record of the block that is wanted.
@@ -61,19 +58,4 @@ fn has_block(site: &Site, want: &Want, view: &View) -> bool
         Some(line) => line.rec.kind.is_own() && *want == Want::of_block(&line.rec),
         None => false,
     }
-}
-
-/// Whether a set of piece records has the piece that is wanted.
-fn has_piece(site: &Site, want: &Want, pieces: &PieceView) -> bool
-    requires { AllByRecursion (IsPieceAt site.now.plan.params site.now.cub.0) pieces.now.items }
-    ensures { result ≡ list_any (λ x. same_want want.now (want_of_piece x)) pieces.now.items }
-{
-    let mut next = pieces.after(None);
-    while let Some(piece) = next {
-        if *want == Want::of_piece(&piece) {
-            return true;
-        }
-        next = pieces.after(Some(piece));
-    }
-    false
 }

@@ -17,7 +17,7 @@ use Rattle.tiger_base.specs.declared.message.Msg.{Msg}
 use Rattle.tiger_base.specs.declared.message.Msg.TheVariants as msg
 use Rattle.tiger_base.specs.Notes.{noted}
 use Rattle.tiger_base.specs.Kinds.{is_own}
-use Rattle.tiger_base.specs.Records.{want_of, want_of_piece}
+use Rattle.tiger_base.specs.Records.{want_of, want_of_piece, same_want}
 use Rattle.slot_plan.specs.declared.params.Params.{Params}
 use Rattle.slot_plan.specs.Times.{due, cub_of}
 use Rattle.slot_plan.specs.Keys.{Key}
@@ -38,7 +38,7 @@ use Rattle.node_kit.specs.Deeds.{nothing, then_do, each_in_turn}
 use Rattle.cub_rules.specs.declared.store.Store.{Store}
 use Rattle.cub_rules.specs.declared.store.StoredPart.{StoredPart}
 use Rattle.cub_rules.specs.State.{visit_here, is_ask}
-use Rattle.cub_rules.specs.Records.{took, dropping_lines, dropping_start, dropping_pieces, same_want, pieces_but, with_piece_record}
+use Rattle.cub_rules.specs.Records.{took, dropping_lines, dropping_start, dropping_pieces, pieces_but, with_piece_record}
 
 -- Where a cub stands to a visit of a slot that a state or a tag names: at that visit if it is the visit's cub, at the
 -- next one if it is the next one's cub, and else nowhere.

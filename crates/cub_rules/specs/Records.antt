@@ -1,9 +1,10 @@
 -- What enters and leaves what a cub keeps: records, starts, piece records.
-use Rattle.std.specs.Prelude.{◌==◌, ◌&&◌, List, [], ◌∷◌, Bool, not, is_some, filter, map, Option, find, option_map, if◌then◌else◌}
+use Rattle.std.specs.Prelude.{◌==◌, List, [], ◌∷◌, Bool, not, is_some, filter, map, Option, find, option_map, if◌then◌else◌}
 use Rattle.tiger_base.specs.declared.number.Instance.{Instance}
 use Rattle.tiger_base.specs.declared.tenancy.PieceState.{PieceState}
 use Rattle.tiger_base.specs.declared.tenancy.Rec.{Rec}
 use Rattle.tiger_base.specs.declared.tenancy.Want.{Want}
+use Rattle.tiger_base.specs.Records.{same_want}
 use Rattle.tiger_base.specs.Span.{LibraryPart}
 use Rattle.tiger_base.specs.declared.message.Msg.{Msg}
 use Rattle.node_kit.specs.declared.journal.What.TheVariants as what
@@ -45,11 +46,6 @@ dropping_start v h = record {
   outs = if has_start h.starts.waiting v then out.Act (what.Unqueued v) ∷ [] else [];
   state = record h { starts = without_start h.starts v };
 }
-
--- whether two wants are of the same block or piece
-abbrev pub same_want : Want → Want → Bool
-same_want a b =
-    a.instance.0 == b.instance.0 && a.slot.0 == b.slot.0 && a.visit == b.visit && a.file.0 == b.file.0 && a.block == b.block && a.piece == b.piece
 
 -- the part that is stored for a want
 unfoldable pub stored_for : Want → List StoredPart → Option LibraryPart

@@ -1,6 +1,6 @@
 -- Things beside their times: what is put in, taken out and left, and what the times say.
-use Rattle.std.proofs.Common.{◌≡◌, ℕ, ◌+◌, ◌*◌, ◌/◌, ◌<◌, ◌≤◌, ◌==◌, ◌&&◌, nat_le, Bool, true, false, cond, not, List, [], ◌∷◌, ◌++◌, suc, zero, length, get_or, take, drop, count_by, Option, Some, refl, ap, subst, sym, ◌∙◌, arith}
-use Rattle.std.specs.List.{AllByRecursion, filter, fold, insert, remove, position, position_from}
+use Rattle.std.proofs.Common.{◌≡◌, ℕ, ◌+◌, ◌*◌, ◌/◌, ◌<◌, ◌≤◌, ◌==◌, ◌&&◌, ◌||◌, nat_le, Bool, true, false, cond, not, List, [], ◌∷◌, ◌++◌, suc, zero, length, get_or, take, drop, count_by, find, Option, Some, is_some, refl, ap, subst, sym, ◌∙◌, arith}
+use Rattle.std.specs.List.{AllByRecursion, list_any, filter, fold, insert, remove, position, position_from}
 use Rattle.std.proofs.lemmas.Bool.{and_parts, eqb-true, lt-leb}
 use Rattle.std.proofs.lemmas.Iterator.Adapters.{position_from-zero}
 use Rattle.std.proofs.lemmas.List.{map-append, take-map, drop-map, get_or-map}
@@ -32,6 +32,14 @@ module _ {X : Type 0} where
       elim (test x.0) as (λ t. untimed (cond t xs (x ∷ without_first (λ x. test x.0) xs)) ≡ cond t (untimed xs) (x.0 ∷ without_first test (untimed xs))) [
         | true ↦ refl
         | false ↦ ap (λ ys. x.0 ∷ ys) (untimed-without_first test xs)
+      ]
+
+  pub untimed-any : (test : X → Bool) (xs : List (X × ℕ)) → is_some (find (λ x. test x.0) xs) ≡ list_any test (untimed xs)
+  untimed-any test [] = refl
+  untimed-any test (x ∷ xs) =
+      elim (test x.0) as (λ t. is_some (cond t (Some x) (find (λ x. test x.0) xs)) ≡ (t || list_any test (untimed xs))) [
+        | true ↦ refl
+        | false ↦ untimed-any test xs
       ]
 
   pub untimed-count : (test : X → Bool) (xs : List (X × ℕ)) → count_by (λ x. test x.0) xs ≡ count_by test (untimed xs)

@@ -1,9 +1,12 @@
 //! The pieces that a cub is to send.
 ghost use Rattle.std.specs.Prelude.{◌≡◌, ◌≤◌, [], length, nat_le, not, filter, drop, count_by, find, position, option_map, IfOk, OnOk, OnErr, IfSome};
 ghost use Rattle.std.specs.Option.{ForSome};
+ghost use Rattle.std.specs.List.{list_any};
+ghost use Rattle.tiger_base.specs.Records.{same_want, want_of_piece};
 ghost use Rattle.mirror_schedule.specs.Pieces.{IsPieceOf, IsPieces, is_same, is_in, is_behind, with_piece, is_of_visit, is_of, leaves_by};
 ghost use Rattle.mirror_schedule.specs.Choices.{covers};
 ghost use Rattle.mirror_schedule.specs.Sorted.{IsSorted, first_if, but_first_if};
+ghost use Rattle.mirror_schedule.specs.Timed.{untimed};
 ghost use Rattle.mirror_schedule.specs.TimedPieces.{timed, timed_before, timed_behind};
 
 use crate::order::{TimedPiece, first_not_before, gap_for, is_behind, leaving};
@@ -11,7 +14,7 @@ use slot_plan::Plan;
 use std::alloc::Global;
 use std::collections::VecDeque;
 use std::marker::Model;
-use tiger_base::{Instance, Micros, NoMemory, PieceState, Visit};
+use tiger_base::{Instance, Micros, NoMemory, PieceState, Visit, Want};
 
 /// A set of pieces, walked by the time of leaving, then slot, visit and piece. It is seen as the
 /// plan's numbers and the list of the pieces in this order. Each stands beside the time at which it
@@ -90,6 +93,13 @@ impl PieceView {
         Some(piece)
     }
 
+    /// Whether a want asks for one of the pieces.
+    pub fn has_for(&self, want: &Want) -> bool
+        ensures { result ≡ list_any (λ x. same_want want.now (want_of_piece x)) self.now.items }
+    {
+        has_for(&self.items, want)
+    }
+
     /// Removes a piece; `false` exactly if it is not there.
     pub fn remove(&mut self, piece: PieceState) -> bool
         ensures found { result ≡ is_in piece self.old.items }
@@ -153,6 +163,33 @@ impl Wanted {
             Wanted::Of(instance) => x.tenancy.instance == *instance,
         }
     }
+}
+
+/// Whether a want asks for one of some pieces.
+fn has_for(items: &VecDeque<TimedPiece>, want: &Want) -> bool
+    ensures { result
+        ≡ list_any (λ x. same_want want.now (want_of_piece x)) (untimed items.now.items) }
+{
+    for i in 0..items.len() {
+        let x = items[i];
+        if asks_for(want, &x.0) {
+            return true;
+        }
+    }
+    false
+}
+
+/// Whether a want asks for a piece.
+fn asks_for(want: &Want, x: &PieceState) -> bool
+    ensures { result ≡ same_want want.now (want_of_piece x.now) }
+{
+    let t = &x.tenancy;
+    want.instance == t.instance
+        && want.slot == t.slot
+        && want.visit == x.visit
+        && want.file == t.file
+        && want.block == x.visit.saturating_sub(t.first)
+        && want.piece == x.piece
 }
 
 /// The place of a piece among some, looked for from the first on.

@@ -4,7 +4,7 @@ use Rattle.std.specs.Prelude.{◌⊎◌}
 use Rattle.std.proofs.lemmas.Bool.{and_from, le-leb, leb-true, or_left}
 use Rattle.tiger_base.specs.Span.{LibraryPart}
 use Rattle.tiger_base.specs.Kinds.{is_own}
-use Rattle.tiger_base.specs.Records.{own_of, want_of}
+use Rattle.tiger_base.specs.Records.{own_of, want_of, same_want}
 use Rattle.tiger_base.specs.declared.number.Stamp.{Stamp}
 use Rattle.tiger_base.specs.declared.tenancy.Rec.{Rec}
 use Rattle.tiger_base.specs.declared.tenancy.Tenancy.{Tenancy}
@@ -23,7 +23,6 @@ use Rattle.partial_view.specs.Views.{line_at}
 use Rattle.cub_rules.specs.declared.store.Store.{Store}
 use Rattle.cub_rules.specs.declared.store.StoredPart.{StoredPart}
 use Rattle.cub_rules.specs.Messages.{is_block_of, is_wanted}
-use Rattle.cub_rules.specs.Records.{same_want}
 use Rattle.cub_rules.specs.Ticks.{forwarding, is_served, is_stale, reading}
 use Rattle.disk_core.specs.State.{DiskState}
 use Rattle.schedule_laws.specs.Lives.{In, Lives, outs_at, is_tick_input, beat_at}

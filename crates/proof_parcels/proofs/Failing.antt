@@ -14,7 +14,7 @@ use Rattle.tiger_base.specs.declared.message.Msg.{Msg}
 use Rattle.tiger_base.specs.declared.message.Msg.TheVariants as msg
 use Rattle.tiger_base.specs.Kinds.{is_own}
 use Rattle.tiger_base.specs.Notes.{noted}
-use Rattle.tiger_base.specs.Records.{want_of, want_of_piece}
+use Rattle.tiger_base.specs.Records.{want_of, want_of_piece, same_want}
 use Rattle.slot_plan.specs.declared.params.Params.{Params}
 use Rattle.slot_plan.specs.Keys.{Key}
 use Rattle.node_kit.specs.declared.journal.What.TheVariants as what
@@ -31,7 +31,6 @@ use Rattle.partial_view.proofs.Order.{same_is, same_itself}
 use Rattle.cub_rules.specs.declared.store.Store.{Store}
 use Rattle.cub_rules.specs.Cubs.{cub_step}
 use Rattle.cub_rules.specs.Messages.{is_block_of, is_wanted, storing, meeting_answer, hearing, taking}
-use Rattle.cub_rules.specs.Records.{same_want}
 use Rattle.cub_changes.specs.Causes.{Stage, IsStageOf, IsAnswer}
 use Rattle.cub_changes.specs.Causes.Stage.{OnMessage, OnRelease, OnDeadman, OnInsertion, OnService}
 use Rattle.cub_changes.specs.Changes.{Change}

@@ -8,6 +8,7 @@ use Rattle.tiger_base.specs.declared.message.Msg.{Msg}
 use Rattle.tiger_base.specs.declared.message.Msg.TheVariants as msg
 use Rattle.tiger_base.specs.declared.message.Note.TheVariants as note
 use Rattle.tiger_base.specs.Notes.{noted}
+use Rattle.tiger_base.specs.Records.{same_want}
 use Rattle.slot_plan.specs.declared.params.Params.{Params}
 use Rattle.node_kit.specs.declared.course.Order.{Order}
 use Rattle.node_kit.specs.declared.journal.Entry.{Entry}
@@ -20,7 +21,6 @@ use Rattle.node_kit.specs.Steps.Input.{Take, Tick}
 use Rattle.run_facts.specs.Events.{NodeEvent, Past, entries_at, outs_of, is_tick}
 use Rattle.run_facts.specs.Events.NodeEvent.{Does, Dies}
 use Rattle.run_facts.specs.Histories.{History, living, outs, past, beat}
-use Rattle.cub_rules.specs.Records.{same_want}
 use Rattle.disk_core.specs.State.{DiskState}
 use Rattle.schedule_laws.specs.Lives.{In, outs_at}
 use Rattle.schedule_laws.proofs.Carrying.{count_rises}

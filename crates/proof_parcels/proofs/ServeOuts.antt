@@ -16,14 +16,14 @@ use Rattle.tiger_base.specs.Span.{LibraryPart}
 use Rattle.tiger_base.specs.declared.message.Msg.{Msg}
 use Rattle.tiger_base.specs.declared.message.Msg.TheVariants as msg
 use Rattle.tiger_base.specs.Kinds.{is_own}
-use Rattle.tiger_base.specs.Records.{own_of, want_of, want_of_piece}
+use Rattle.tiger_base.specs.Records.{own_of, want_of, want_of_piece, same_want}
 use Rattle.slot_plan.specs.declared.params.Params.{Params}
 use Rattle.node_kit.specs.declared.outbox.Out.{Out}
 use Rattle.node_kit.specs.declared.outbox.Out.TheVariants as out
 use Rattle.node_kit.specs.Ways.{way_to_viewers}
 use Rattle.partial_view.specs.declared.line.Line.{Line}
 use Rattle.cub_rules.specs.declared.store.Store.{Store}
-use Rattle.cub_rules.specs.Records.{same_want, stored_for, dropped}
+use Rattle.cub_rules.specs.Records.{stored_for, dropped}
 use Rattle.cub_rules.specs.Ticks.{is_served, is_past, leaves_by, sent_whole, serve_outs, sent_piece, piece_outs, serving_blocks, dropping_backups, serving_pieces, serving}
 use Rattle.schedule_laws.specs.Lives.{In}
 use Rattle.schedule_laws.proofs.Members.{in_left, in_right, in_cases, in_filter, from_map, from_filter, from_flat_map, in_flat_map}

@@ -5,10 +5,10 @@ use Rattle.std.proofs.lemmas.Bool.{cases_Bool, eqb-true, eq-eqb, and_parts, or_l
 use Rattle.tiger_base.specs.Span.{LibraryPart}
 use Rattle.tiger_base.specs.declared.tenancy.PieceState.{PieceState}
 use Rattle.tiger_base.specs.declared.tenancy.Want.{Want}
-use Rattle.tiger_base.specs.Records.{want_of_piece}
+use Rattle.tiger_base.specs.Records.{want_of_piece, same_want}
 use Rattle.cub_rules.specs.declared.store.Store.{Store}
 use Rattle.cub_rules.specs.declared.store.StoredPart.{StoredPart}
-use Rattle.cub_rules.specs.Records.{same_want, stored_for}
+use Rattle.cub_rules.specs.Records.{stored_for}
 use Rattle.cub_rules.specs.Messages.{is_wanted}
 use Rattle.schedule_laws.specs.Lives.{In}
 use Rattle.proof_parts.specs.Parts.{IsFound}

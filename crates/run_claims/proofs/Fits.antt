@@ -4,6 +4,7 @@ use Rattle.std.specs.Prelude.{◌==◌, ◌-◌, List}
 use Rattle.tiger_base.specs.declared.tenancy.Tenancy.{Tenancy}
 use Rattle.tiger_base.specs.declared.tenancy.Want.{Want}
 use Rattle.tiger_base.specs.declared.part.Span.{Span}
+use Rattle.tiger_base.specs.Records.{same_want}
 use Rattle.slot_plan.specs.declared.params.Params.{Params}
 use Rattle.stripe_layout.specs.Places.{place_of}
 use Rattle.stripe_layout.specs.declared.catalogue.Catalogue.{Catalogue}
@@ -11,7 +12,7 @@ use Rattle.stripe_layout.specs.declared.place.Place.{Place}
 use Rattle.mirror_pieces.specs.Pieces.{piece_of}
 use Rattle.node_kit.specs.declared.journal.Entry.{Entry}
 use Rattle.run_model.specs.Served.{want_of_visit}
-use Rattle.run_model.specs.Tests.{same_want, same_span, some_tenancy}
+use Rattle.run_model.specs.Tests.{same_span, some_tenancy}
 use Rattle.run_model.proofs.Deliveries.{want_same, span_same, tenancy_gives}
 use Rattle.run_model.proofs.Reflects.{and_both}
 use Rattle.run_claims.specs.Served.{IsOfVisit}

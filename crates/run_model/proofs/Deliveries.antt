@@ -5,6 +5,7 @@ use Rattle.std.specs.List.{list_any}
 use Rattle.std.proofs.lemmas.Bool.{false≢true}
 use Rattle.tiger_base.specs.declared.tenancy.Tenancy.{Tenancy}
 use Rattle.tiger_base.specs.declared.tenancy.Want.{Want}
+use Rattle.tiger_base.specs.Records.{same_want}
 use Rattle.tiger_base.specs.declared.part.Span.{Span}
 use Rattle.tiger_base.specs.declared.number.LinkNo.{LinkNo}
 use Rattle.tiger_base.specs.declared.message.Note.{Note}
@@ -21,7 +22,7 @@ use Rattle.node_kit.specs.declared.journal.Entry.{Entry}
 use Rattle.run_model.specs.declared.parcels.Parcel.{Parcel}
 use Rattle.run_model.specs.Fronts.{AnyByRecursion}
 use Rattle.run_model.specs.Served.{journal_at, IsPut, IsVisitOf, wholes_got, pieces_got, pieces_numbered, want_of_visit, WasSent, CameWhole, PieceCame, CameInPieces, IsDelivered}
-use Rattle.run_model.specs.Tests.{all_below, only, is_empty, same_want, same_span, same_parcel, says, says_in, is_about, was_sent, whole_fits, came_whole, piece_fits, piece_came, pieces_fit, came_in_pieces, visited, some_tenancy, came}
+use Rattle.run_model.specs.Tests.{all_below, only, is_empty, same_span, same_parcel, says, says_in, is_about, was_sent, whole_fits, came_whole, piece_fits, piece_came, pieces_fit, came_in_pieces, visited, some_tenancy, came}
 use Rattle.run_model.proofs.Reflects.{and_both, and_left, and_right, or_either, both, either, equal, less, at_most, any_gives, any, each_found, each_gives}
 
 -- lists of one element and of none

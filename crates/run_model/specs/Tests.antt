@@ -5,6 +5,7 @@ use Rattle.tiger_base.specs.declared.number.Stamp.{Stamp}
 use Rattle.tiger_base.specs.declared.number.LinkNo.{LinkNo}
 use Rattle.tiger_base.specs.declared.tenancy.Tenancy.{Tenancy}
 use Rattle.tiger_base.specs.declared.tenancy.Want.{Want}
+use Rattle.tiger_base.specs.Records.{same_want}
 use Rattle.tiger_base.specs.declared.part.Span.{Span}
 use Rattle.tiger_base.specs.declared.message.Note.TheVariants as note
 use Rattle.slot_plan.specs.declared.params.Params.{Params}
@@ -50,11 +51,6 @@ only (x ∷ y ∷ ys) = None
 abbrev pub is_empty : {X : Type 0} → List X → Bool
 is_empty [] = true
 is_empty (x ∷ xs) = false
-
-abbrev pub same_want : Want → Want → Bool
-same_want a b =
-    (a.instance.0 == b.instance.0) && (a.slot.0 == b.slot.0) && (a.visit == b.visit)
-    && (a.file.0 == b.file.0) && (a.block == b.block) && (a.piece == b.piece)
 
 abbrev pub same_span : Span → Span → Bool
 same_span a b = (a.file.0 == b.file.0) && (a.from == b.from) && (a.len == b.len)

@@ -1,5 +1,5 @@
 -- The records of a tenancy, and what is asked of a disk for them.
-use Rattle.std.specs.Prelude.{ℕ, ◌-◌}
+use Rattle.std.specs.Prelude.{ℕ, ◌-◌, ◌==◌, ◌&&◌, Bool}
 use Rattle.tiger_base.specs.declared.tenancy.Kind.TheVariants.{Own, Backup}
 use Rattle.tiger_base.specs.declared.tenancy.PieceState.{PieceState}
 use Rattle.tiger_base.specs.declared.tenancy.Rec.{Rec}
@@ -34,3 +34,8 @@ want_of_piece x = record {
   block = x.visit - x.tenancy.first;
   piece = x.piece;
 }
+
+-- whether two wants are of the same block or piece
+abbrev pub same_want : Want → Want → Bool
+same_want a b =
+    a.instance.0 == b.instance.0 && a.slot.0 == b.slot.0 && a.visit == b.visit && a.file.0 == b.file.0 && a.block == b.block && a.piece == b.piece
