@@ -3,20 +3,50 @@ use Rattle.std.proofs.Common.{◌≡◌, ℕ, ◌<◌, ◌≤◌, Bool, true, fa
 use Rattle.std.specs.List.{AllByRecursion, filter, insert, remove, position}
 use Rattle.std.proofs.lemmas.List.{length-map}
 use Rattle.slot_plan.specs.declared.params.Params.{Params}
-use Rattle.mirror_schedule.specs.Sorted.{with_one, gap_from, without_first}
+use Rattle.mirror_schedule.specs.Sorted.{with_one, gap_from, place_of, without_first}
 use Rattle.mirror_schedule.specs.Splits.{Split, IsSplits, IsKept, AreKept, key_of, is_over, split_before}
 use Rattle.mirror_schedule.specs.Timed.{untimed, AreFrom, has_same_times}
 use Rattle.mirror_schedule.proofs.Orders.{all_filter, all_more, put_high, put_at, sorted_filter, sorted_with_one, sorted_without_first}
 use Rattle.mirror_schedule.proofs.PieceLists.{some_found, some_inside, some_left}
+use Rattle.mirror_schedule.proofs.Places.{gap_first, gap_there, place_above, place_below, place_most}
 use Rattle.mirror_schedule.proofs.Ranks.{splits_order}
 use Rattle.mirror_schedule.proofs.Timed.{all_insert, all_remove, all_stay, none_counted, none_over, untimed-filter, untimed-at, untimed-insert, untimed-position, untimed-remove}
+
+-- one that is read at a place, among the visits alone
+split_at : (items : List (Split × ℕ)) (i : ℕ) (y : Split × ℕ) → i < length items → y ≡ get_or items i y → get_or (untimed items) i y.0 ≡ y.0
+split_at items i y l at = untimed-at items i y l ∙ ap (λ (z : Split × ℕ). z.0) (sym at)
+
+-- what one that is read at a place says of the place of a given one
+module _ (x : Split) (items : List (Split × ℕ)) where
+  abbrev long : length (untimed items) ≡ length items
+  long = length-map items (λ (y : Split × ℕ). y.0)
+
+  pub split_most : place_of split_before x (untimed items) ≤ length items
+  split_most = omega (arith, place_most split_before x (untimed items), long)
+
+  module _ (i : ℕ) (y : Split × ℕ) (l : i < length items) (at : y ≡ get_or items i y) where
+    pub split_above : IsSplits (untimed items) → split_before y.0 x ≡ true → i < place_of split_before x (untimed items)
+    split_above h e =
+        place_above split_before splits_order x (untimed items) i y.0 h (omega (arith, l, long)) (ap (λ (z : Split). split_before z x) (split_at items i y l at) ∙ e)
+
+    pub split_below : split_before y.0 x ≡ false → place_of split_before x (untimed items) ≤ i
+    split_below e =
+        place_below split_before x (untimed items) i y.0 (omega (arith, l, long)) (ap (λ (z : Split). split_before z x) (split_at items i y l at) ∙ e)
+
+    pub split_there : i ≡ place_of split_before x (untimed items) → split_before x y.0 ≡ false → None ≡ gap_from split_before x 0 (untimed items)
+    split_there is e =
+        sym (gap_there split_before splits_order x (untimed items) 0 i y.0 is (omega (arith, l, long)) (ap (λ (z : Split). split_before x z) (split_at items i y l at) ∙ e))
+
+    pub split_new : i ≡ place_of split_before x (untimed items) → split_before x y.0 ≡ true → Some i ≡ gap_from split_before x 0 (untimed items)
+    split_new is e =
+        sym (gap_first split_before splits_order x (untimed items) i y.0 is (λ m. ap (λ (z : Split). split_before x z) (split_at items i y l at) ∙ e))
+
+  pub split_last : (i : ℕ) → i ≡ place_of split_before x (untimed items) → length items ≤ i → Some i ≡ gap_from split_before x 0 (untimed items)
+  split_last i is past = sym (gap_first split_before splits_order x (untimed items) i x is (λ m. absurd (omega (arith, m, past, long))))
 
 -- the place of a new one is one of theirs, or behind them
 pub split_high : (x : Split) (items : List (Split × ℕ)) (place : ℕ) → Some place ≡ gap_from split_before x 0 (untimed items) → place ≤ length items
 split_high x items place e = omega (arith, put_high split_before x (untimed items) place e, length-map items (λ (y : Split × ℕ). y.0))
-
-pub gap_in : (x : Split) (ys items : List (Split × ℕ)) (place : ℕ) → Some place ≡ gap_from split_before x 0 (untimed ys) → ys ≡ items → Some place ≡ gap_from split_before x 0 (untimed items)
-gap_in x ys items place e same = e ∙ ap (λ (xs : List (Split × ℕ)). gap_from split_before x 0 (untimed xs)) same
 
 module _ (x : Split × ℕ) (old now : List (Split × ℕ)) (place : ℕ) (gap : Some place ≡ gap_from split_before x.0 0 (untimed old)) (put : now ≡ insert old place x) where
   -- one more

@@ -1,8 +1,8 @@
 //! The visits that a cub has split and still remembers.
-ghost use Rattle.std.specs.Prelude.{◌≡◌, ◌≤◌, [], true, not, filter, count_by, find, position, option_map, OnOk, OnErr};
+ghost use Rattle.std.specs.Prelude.{◌≡◌, ◌≤◌, [], true, length, not, filter, count_by, find, position, option_map, OnOk, OnErr};
 ghost use Rattle.std.specs.List.{AllByRecursion};
-ghost use Rattle.mirror_schedule.specs.Splits.{IsSplitOf, IsKept, key_of, is_of, is_over, with_split, split_before};
-ghost use Rattle.mirror_schedule.specs.Sorted.{gap_from, without_first};
+ghost use Rattle.mirror_schedule.specs.Splits.{IsSplitOf, IsSplits, IsKept, key_of, is_of, is_over, with_split, split_before};
+ghost use Rattle.mirror_schedule.specs.Sorted.{gap_from, place_of, without_first};
 ghost use Rattle.mirror_schedule.specs.Timed.{untimed, end_of};
 
 use crate::times::{has_same_times, least_time};
@@ -108,21 +108,36 @@ fn comes_before(a: &Split, b: &Split) -> bool
     (a.1.0, a.2, a.0.0) < (b.1.0, b.2, b.0.0)
 }
 
-/// The place of a new one among some in their order; `None` if it is there.
-fn gap_for(items: &[(Split, Micros)], x: &Split) -> Option<usize>
-    ensures { result ≡ gap_from split_before x.now 0 (untimed items.now) }
+/// The place of a new one among some in their order, found by halving; `None` if it is there.
+fn gap_for(items: &Vec<(Split, Micros)>, x: &Split) -> Option<usize>
+    requires { IsSplits (untimed items.now.items) }
+    ensures { result ≡ gap_from split_before x.now 0 (untimed items.now.items) }
 {
-    let mut place = 0;
-    for y in items {
-        if comes_before(x, &y.0) {
-            return Some(place);
-        }
-        if !comes_before(&y.0, x) {
-            return None;
-        }
-        place += 1;
+    let place = first_not_before(items, x);
+    if place < items.len() && !comes_before(x, &items[place].0) {
+        None
+    } else {
+        Some(place)
     }
-    Some(place)
+}
+
+/// How many come before the given one, of some in their order.
+fn first_not_before(items: &Vec<(Split, Micros)>, x: &Split) -> usize
+    requires { IsSplits (untimed items.now.items) }
+    ensures place { result ≡ place_of split_before x.now (untimed items.now.items) }
+    ensures inside { result ≤ length items.now.items }
+{
+    let mut low = 0;
+    let mut high = items.len();
+    while low < high {
+        let middle = low + (high - low) / 2;
+        if comes_before(&items[middle].0, x) {
+            low = middle + 1;
+        } else {
+            high = middle;
+        }
+    }
+    low
 }
 
 /// The index of the first of an instance's visits.
