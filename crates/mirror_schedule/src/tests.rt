@@ -84,6 +84,21 @@ fn a_piece_behind_the_first_is_removed(rt: HostRuntime) -> Result<(), Fail> {
 }
 
 #[test]
+fn the_first_piece_leaves_at_its_time(rt: HostRuntime) -> Result<(), Fail> {
+    let plan = small_plan();
+    let mut view = PieceView::new(rt.alloc(), &plan);
+    assert!(rt; view.take_by(9000000).is_none());
+    assert!(rt; view.add(piece(2))?);
+    assert!(rt; view.add(piece(1))?);
+    assert!(rt; view.take_by(3499999).is_none());
+    assert!(rt; view.take_by(3500000) == Some(piece(1)));
+    assert!(rt; view.take_by(3999999).is_none());
+    assert!(rt; view.take_by(4000000) == Some(piece(2)));
+    assert!(rt; view.take_by(9000000).is_none());
+    Ok(())
+}
+
+#[test]
 fn split_visits_are_given_back_by_slot(rt: HostRuntime) -> Result<(), Fail> {
     let mut splits = Splits::new(rt.alloc(), &small_plan());
     splits.remember(Instance(0), SlotNo(1), 3)?;
@@ -118,5 +133,28 @@ fn split_visits_are_forgotten_after_their_play_time(rt: HostRuntime) -> Result<(
     let mut late = remembered(rt.alloc())?;
     assert_eq!(rt; late.expire(&plan, 4500000), 1);
     assert!(rt; late.take_of(Instance(0)).is_none());
+    Ok(())
+}
+
+/// That visit, and then an earlier one.
+#[tactic(auto, unfolding(crate::specs::Splits::with_split, crate::specs::Splits::split_before))]
+fn earlier_remembered(alloc: Global) -> Result<Splits, NoMemory>
+    ensures { IfOk result (λ splits. splits
+        ≡ (record { 0 = 0 }, record { 0 = 1 }, 0) ∷ (record { 0 = 0 }, record { 0 = 1 }, 3) ∷ []) }
+{
+    let mut splits = remembered(alloc)?;
+    splits.remember(Instance(0), SlotNo(1), 0)?;
+    Ok(splits)
+}
+
+#[test]
+fn an_earlier_split_visit_is_forgotten_first(rt: HostRuntime) -> Result<(), Fail> {
+    let plan = small_plan();
+    let mut early = earlier_remembered(rt.alloc())?;
+    assert_eq!(rt; early.expire(&plan, 1499999), 0);
+    assert!(rt; early.take_of(Instance(0)) == Some((SlotNo(1), 0)));
+    let mut late = earlier_remembered(rt.alloc())?;
+    assert_eq!(rt; late.expire(&plan, 1500000), 1);
+    assert!(rt; late.take_of(Instance(0)) == Some((SlotNo(1), 3)));
     Ok(())
 }
