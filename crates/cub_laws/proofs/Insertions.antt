@@ -21,7 +21,7 @@ use Rattle.node_kit.specs.declared.outbox.Out.TheVariants as out
 use Rattle.node_kit.specs.Form.{is_tenancy}
 use Rattle.node_kit.specs.Steps.{Deed, IsAllowed}
 use Rattle.partial_view.proofs.Order.{all_filter}
-use Rattle.slot_owner.specs.Free.{is_free}
+use Rattle.partial_view.specs.Free.{is_free}
 use Rattle.node_kit.specs.Deeds.{nothing, then_do, each_in_turn}
 use Rattle.node_kit.specs.Ways.{way_ahead, predecessor}
 use Rattle.node_kit.proofs.Places.{nothing_right, chosen_right}

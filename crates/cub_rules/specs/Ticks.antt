@@ -26,7 +26,7 @@ use Rattle.partial_view.specs.declared.line.Line.{Line}
 use Rattle.partial_view.specs.declared.line.Flag.TheVariants as flag
 use Rattle.partial_view.specs.Lines.{key_of, marked}
 use Rattle.state_forward.specs.Forwards.{must_forward}
-use Rattle.slot_owner.specs.Free.{is_free}
+use Rattle.partial_view.specs.Free.{is_free}
 use Rattle.insert_queue.specs.Queues.{without_start, after_take_over}
 use Rattle.deschedule.specs.Holds.{holds_at}
 use Rattle.deadman.specs.Silence.{is_silent}

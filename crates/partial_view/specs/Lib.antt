@@ -1,5 +1,6 @@
 pub mod Adding
 pub mod Dues
+pub mod Free
 pub mod Lines
 pub mod Pending
 pub mod Takes

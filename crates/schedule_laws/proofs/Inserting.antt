@@ -24,7 +24,7 @@ use Rattle.node_kit.specs.Steps.{Deed}
 use Rattle.partial_view.specs.declared.line.Line.{Line}
 use Rattle.partial_view.specs.Lines.{is_at}
 use Rattle.partial_view.specs.Views.{line_at}
-use Rattle.slot_owner.specs.Free.{is_free}
+use Rattle.partial_view.specs.Free.{is_free}
 use Rattle.insert_queue.specs.Queues as queues
 use Rattle.node_kit.specs.Ways.{way_ahead}
 use Rattle.node_kit.specs.Deeds.{nothing}

@@ -18,7 +18,7 @@ use Rattle.node_kit.specs.declared.outbox.Out.{Out}
 use Rattle.node_kit.specs.Steps.{Deed}
 use Rattle.partial_view.specs.declared.line.Line.{Line}
 use Rattle.partial_view.specs.Views.{line_at}
-use Rattle.slot_owner.specs.Free.{is_free}
+use Rattle.partial_view.specs.Free.{is_free}
 use Rattle.insert_queue.specs.Queues.{Queues, is_of, has_start, without, without_start, IsOnce}
 use Rattle.insert_queue.proofs.Once.{IsOnce-without, has_start-gone}
 use Rattle.node_kit.specs.Deeds.{nothing, each_in_turn}

@@ -10,7 +10,7 @@ use Rattle.slot_plan.specs.Windows.{IsOpen, IsLeastOpen}
 use Rattle.partial_view.specs.declared.line.Line.{Line}
 use Rattle.partial_view.specs.Lines.{instance_of}
 use Rattle.partial_view.specs.Views.{line_at}
-use Rattle.slot_owner.specs.Free.{is_free}
+use Rattle.partial_view.specs.Free.{is_free}
 use Rattle.slot_plan.proofs.Times.{window_parts}
 use Rattle.slot_plan.proofs.Keys.{key_same, earlier_due, is_earlier-irreflexive, is_earlier-total}
 use Rattle.slot_plan.proofs.Turns.{one_due}

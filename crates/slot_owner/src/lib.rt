@@ -5,7 +5,7 @@ ghost use Rattle.std.specs.Prelude.{◌≡◌, ◌≤◌, MatchOption};
 ghost use Rattle.tiger_base.specs.Limits.{most_reading};
 ghost use Rattle.slot_plan.specs.Keys.{Key};
 ghost use Rattle.slot_plan.specs.Windows.{least_visit, IsOpen, IsLeastOpen};
-ghost use Rattle.slot_owner.specs.Free.{is_free};
+ghost use Rattle.partial_view.specs.Free.{is_free};
 
 use partial_view::View;
 use slot_plan::Plan;

@@ -3,7 +3,7 @@ use Rattle.slot_plan.specs.Keys.{Key}
 use Rattle.slot_plan.specs.Windows.{IsOpen, IsLeastOpen}
 use Rattle.slot_plan.proofs.Windows.{least_visit_is_none}
 use Rattle.slot_plan.proofs.Next.{found_is_least}
-use Rattle.slot_owner.specs.Free.{is_free}
+use Rattle.partial_view.specs.Free.{is_free}
 use Rattle.slot_owner.proofs.Search.{IsSearched, begins, goes_on, time_passes, ends_at, free_where_none, time_left}
 use Rattle.slot_owner.proofs.free_visit.Goals as goal
 

@@ -1,4 +1,4 @@
-use Rattle.slot_owner.specs.Free.{is_free}
+use Rattle.partial_view.specs.Free.{is_free}
 use Rattle.slot_owner.proofs.Search.{IsSearched, time_left}
 use Rattle.slot_owner.proofs.free_visit.Given as goal
 

@@ -1,4 +1,4 @@
-use Rattle.slot_owner.specs.Free.{is_free}
+use Rattle.partial_view.specs.Free.{is_free}
 use Rattle.cub_steps.proofs.Visits.{found_slot, found_small}
 use Rattle.cub_steps.proofs.insertion.free_on.Goals as goal
 

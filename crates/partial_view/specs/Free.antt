@@ -1,4 +1,4 @@
--- Which visits are free, and how far a search for one has come.
+-- Which visits are free.
 use Rattle.std.specs.Prelude.{List, Bool, not, is_some}
 use Rattle.slot_plan.specs.Keys.{Key}
 use Rattle.partial_view.specs.declared.line.Line.{Line}
