@@ -59,6 +59,10 @@ pub all_implies : {X : Type 0} (P Q : X → Type 0) → ((x : X) → P x → Q x
 all_implies P Q f [] h = tt
 all_implies P Q f (x ∷ xs) h = (f x h.0, all_implies P Q f xs h.1)
 
+pub all_append : {X : Type 0} (P : X → Type 0) (xs ys : List X) → AllByRecursion P xs → AllByRecursion P ys → AllByRecursion P (xs ++ ys)
+all_append P [] ys h g = g
+all_append P (x ∷ xs) ys h g = (h.0, all_append P xs ys h.1 g)
+
 pub all_at : {X : Type 0} (P : X → Type 0) (xs : List X) (i : ℕ) (d : X) → AllByRecursion P xs → i < length xs → P (get_or xs i d)
 all_at P [] i d h l = absurd (omega arith)
 all_at P (x ∷ xs) zero d h l = h.0

@@ -17,6 +17,7 @@ use Rattle.state_forward.specs.Forwards.{next_due}
 use Rattle.partial_view.specs.declared.line.Line.{Line}
 use Rattle.partial_view.specs.declared.line.Flag.{Flag}
 use Rattle.partial_view.specs.declared.line.Flag.TheVariants.{Forwarded, Asked, Split}
+use Rattle.partial_view.specs.declared.full_disks.FullDisks.{FullDisks}
 use Rattle.partial_view.specs.declared.view.Added.{Added}
 use Rattle.partial_view.specs.declared.view.Added.TheVariants.{New}
 use Rattle.partial_view.specs.Lines.{key_of, visit_of, marked, unmarked, is_at, is_of}
@@ -27,6 +28,7 @@ use Rattle.partial_view.proofs.Order.{all_filter, all_implies}
 use Rattle.partial_view.proofs.Begins.{first_due, first_for, from_at}
 use Rattle.partial_view.proofs.Calls.{record_of, with_record-known}
 use Rattle.partial_view.proofs.Dues.{stands_at}
+use Rattle.partial_view.specs.Free.{AreFull}
 use Rattle.partial_view.specs.Pending.{is_pending, IsForwardedTo, is_unasked, IsAskedBefore, is_unsplit, IsSplitFrom, IsSplitBetween, is_unsplit_from}
 
 -- the next visit is due later than at the beginning
@@ -160,15 +162,16 @@ known p r lines added e old = cases (line_at (visit_of r) lines) refl
     cases (Some x) is = with_record-known p r lines x is
 
 -- a view of the same plan whose lines have become others
-pub kept_by : (q : Params) (forwarded split asked from to : ℕ) (s now : Seen) (lines : List Line) → s.params ≡ q → now ≡ record s { lines = lines }
-    → IsForwardedTo q forwarded lines → IsSplitFrom q split lines → IsAskedBefore q asked lines → IsSplitBetween q from to lines
-    → (now.params ≡ q) × IsForwardedTo q forwarded now.lines × IsSplitFrom q split now.lines × IsAskedBefore q asked now.lines × IsSplitBetween q from to now.lines
-kept_by q forwarded split asked from to s now lines same is f g h i = (
+pub kept_by : (q : Params) (forwarded split asked from to : ℕ) (full : FullDisks) (s now : Seen) (lines : List Line) → s.params ≡ q → now ≡ record s { lines = lines }
+    → IsForwardedTo q forwarded lines → IsSplitFrom q split lines → IsAskedBefore q asked lines → IsSplitBetween q from to lines → AreFull q full lines
+    → (now.params ≡ q) × IsForwardedTo q forwarded now.lines × IsSplitFrom q split now.lines × IsAskedBefore q asked now.lines × IsSplitBetween q from to now.lines × AreFull q full now.lines
+kept_by q forwarded split asked from to full s now lines same is f g h i j = (
   ap (λ (r : Seen). r.params) is ∙ same,
   subst (λ (r : Seen). IsForwardedTo q forwarded r.lines) (sym is) f,
   subst (λ (r : Seen). IsSplitFrom q split r.lines) (sym is) g,
   subst (λ (r : Seen). IsAskedBefore q asked r.lines) (sym is) h,
   subst (λ (r : Seen). IsSplitBetween q from to r.lines) (sym is) i,
+  subst (λ (r : Seen). AreFull q full r.lines) (sym is) j,
 )
 
 -- no line is due at a time or later, and before the first that is

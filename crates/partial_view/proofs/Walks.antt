@@ -11,7 +11,7 @@ use Rattle.partial_view.specs.declared.line.Flag.{Flag}
 use Rattle.partial_view.specs.Lines.{key_of, is_at, marked}
 use Rattle.partial_view.specs.Views.{Seen, IsBefore, IsWalk, line_at, next_behind, with_mark, without}
 use Rattle.partial_view.specs.Walks.{replaced, KeepsVisits, Underway, left}
-use Rattle.partial_view.proofs.Order.{same_itself, earlier_apart, later_apart, all_implies, walk_back, walk_later, walk_earlier}
+use Rattle.partial_view.proofs.Order.{same_itself, earlier_apart, later_apart, all_append, all_implies, walk_back, walk_later, walk_earlier}
 use Rattle.partial_view.proofs.Laws.{IsBehind, line_at-front, line_at-here, next-back, next-first}
 use Rattle.partial_view.proofs.Calls.{record_of, with_mark-parts}
 
@@ -84,10 +84,6 @@ flat_map-filter test (x ∷ xs) =
       | true ↦ flat_map-filter test xs
       | false ↦ ap (λ zs. x ∷ zs) (flat_map-filter test xs)
     ]
-
-all_append : {X : Type 0} (P : X → Type 0) (xs ys : List X) → AllByRecursion P xs → AllByRecursion P ys → AllByRecursion P (xs ++ ys)
-all_append P [] ys h g = g
-all_append P (x ∷ xs) ys h g = (h.0, all_append P xs ys h.1 g)
 
 -- what becomes of lines that come before a visit comes before it too
 become_behind : (p : Params) (lines_of : Line → List Line) → KeepsVisits lines_of → (k : Key) (xs : List Line) → IsBehind p k xs → IsBehind p k (flat_map lines_of xs)

@@ -1,8 +1,11 @@
 //! A view that knows up to which time its states are forwarded, before which its blocks are asked
-//! for, and from which on its visits are split, so that the walks of a tick begin where something
-//! may be to do.
-ghost use Rattle.std.specs.Prelude.{◌≡◌, ℕ, ◌^◌, ◌≤◌, ◌<◌, true, [], IfOk, OnOk, OnErr, IfSome, option_map, is_some, count_by, slice_get};
+//! for, from which on its visits are split, and which disks are full, so that a tick begins where
+//! something may be to do.
+ghost use Rattle.std.specs.Prelude.{◌≡◌, ℕ, ◌+◌, ◌^◌, ◌≤◌, ◌<◌, true, [], IfOk, OnOk, OnErr, IfSome, option_map, is_some, count_by, slice_get};
+ghost use Rattle.tiger_base.specs.Limits.{most_reading};
 ghost use Rattle.slot_plan.specs.Keys.{IsKey, due_of};
+ghost use Rattle.slot_plan.specs.Times.{disk_count};
+ghost use Rattle.partial_view.specs.Free.{IsFullAt};
 ghost use Rattle.partial_view.specs.Lines.{key_of, visit_of, unmarked, is_of};
 ghost use Rattle.partial_view.specs.Views.{Seen, IsWalk, line_at, with_mark, without, without_instance, with_record};
 ghost use Rattle.partial_view.specs.Walks.{IsFirstFor};
@@ -12,16 +15,18 @@ ghost use Rattle.partial_view.specs.Pending.{IsForwardedTo, is_pending, IsAskedB
 ghost use Rattle.partial_view.specs.Pending.{IsSplitFrom, IsSplitBetween};
 ghost use Rattle.partial_view.specs.Pending.{is_unsplit, is_unsplit_from};
 
+use crate::full_disks::FullDisks;
 use crate::{Added, Flag, Line, View};
 use slot_plan::Plan;
 use state_forward::next_due;
 use std::alloc::Global;
 use std::marker::Model;
-use tiger_base::{Instance, Micros, NoMemory, Rec, SlotNo, Visit};
+use tiger_base::{DiskNo, Instance, Micros, NoMemory, Rec, SlotNo, Visit};
 
 /// A view that keeps, beside its lines, what is known to be done: up to which time its states are
-/// forwarded, before which time its blocks are asked for, and at which times its visits are split.
-/// It is seen as the view is.
+/// forwarded, before which time its blocks are asked for, and at which times its visits are split;
+/// and at which readings its disks are full, so that no start can be put on them. It is seen as the
+/// view is.
 #[derive(Drop)]
 pub struct CubView {
     view: View,
@@ -32,11 +37,13 @@ pub struct CubView {
     // No visit that is still to be split is due at the first of these times or later, and before
     // the second.
     split_between: (Micros, Micros),
+    full: FullDisks,
 }
 
 impl Model for CubView {
     ghost use Rattle.std.specs.Prelude.{◌≡◌};
     ghost use Rattle.partial_view.specs.Views.{Seen};
+    ghost use Rattle.partial_view.specs.Free.{AreFull};
     ghost use Rattle.partial_view.specs.Pending.{IsForwardedTo, IsAskedBefore};
     ghost use Rattle.partial_view.specs.Pending.{IsSplitFrom, IsSplitBetween};
 
@@ -48,7 +55,8 @@ impl Model for CubView {
         × IsForwardedTo v.plan.params v.forwarded_to v.view.lines
         × IsSplitFrom v.plan.params v.split_from v.view.lines
         × IsAskedBefore v.plan.params v.asked_before v.view.lines
-        × IsSplitBetween v.plan.params v.split_between.0 v.split_between.1 v.view.lines };
+        × IsSplitBetween v.plan.params v.split_between.0 v.split_between.1 v.view.lines
+        × AreFull v.plan.params v.full v.view.lines };
 }
 
 impl CubView {
@@ -63,6 +71,7 @@ impl CubView {
             asked_before: 0,
             split_from: 0,
             split_between: (0, 0),
+            full: FullDisks::new(alloc),
         }
     }
 
@@ -111,6 +120,9 @@ impl CubView {
         ensures record { result ≡ option_map (λ x. x.rec) (line_at (slot, visit) self.old.lines) }
         ensures left { self.new ≡ record self.old { lines = without (slot, visit) self.old.lines } }
     {
+        // No disk is full any more while the visit, which is free now, is in the window.
+        let gone = gone_from(&self.plan, self.full.from, slot, visit);
+        self.full.from = gone;
         self.view.remove(slot, visit)
     }
 
@@ -121,6 +133,7 @@ impl CubView {
           lines = without_instance instance self.old.lines;
         } }
     {
+        self.full.clear();
         self.view.remove_instance(instance)
     }
 
@@ -230,6 +243,39 @@ impl CubView {
         }
         self.view.first_from(limit)
     }
+
+    /// Whether it is known that no visit of a disk that is in the window at a reading is free. It
+    /// is known from the last reading on at which one was found full, and until the next visit of
+    /// the disk comes into the window, but not while a visit is in it whose record was removed;
+    /// `false` says only that the visits have to be looked at.
+    pub fn is_full(&self, disk: DiskNo, reading: Micros) -> bool
+        ensures { result ≡ true → IsFullAt self.now.params disk.0 reading self.now.lines }
+    {
+        self.full.is_full(disk, reading)
+    }
+
+    /// Keeps in mind that no visit of a disk that is in the window at a reading is free. Without
+    /// memory for it, it does not.
+    pub fn set_full(&mut self, disk: DiskNo, reading: Micros)
+        requires reading { reading ≤ most_reading }
+        requires disk { disk.0 < disk_count self.old.params }
+        requires full { IsFullAt self.old.params disk.0 reading self.old.lines }
+        ensures { self.new ≡ self.old }
+    {
+        let until = self.plan.next_entry(reading, disk);
+        self.full.take_in(disk, reading, until);
+    }
+}
+
+/// The given time, or the first reading at which a visit is no more in the window, if that is
+/// later.
+fn gone_from(plan: &Plan, time: Micros, slot: SlotNo, visit: Visit) -> Micros
+    requires { IsKey plan.now.params (slot, visit) }
+    ensures later { time ≤ result }
+    ensures gone { due_of plan.now.params (slot, visit) ≤ result + plan.now.params.window_b }
+{
+    let gone = plan.due(slot, visit).saturating_sub(plan.params.window_b);
+    if time < gone { gone } else { time }
 }
 
 /// The given time, or the last one before the record's next visit is due, if the state of that

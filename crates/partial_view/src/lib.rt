@@ -1,9 +1,10 @@
 //! A cub's view of the schedule: its records, in the order of their due times, how far its states
-//! are known to be forwarded and its blocks asked for, and from when on its visits are known to be
-//! split.
+//! are known to be forwarded and its blocks asked for, from when on its visits are known to be
+//! split, and which disks are known to be full.
 #![tactic(auto)]
 
 mod cub_view;
+mod full_disks;
 mod line;
 mod timed;
 mod view;
@@ -14,6 +15,8 @@ pub use view::{Added, View};
 
 #[cfg(test)]
 mod cub_view_tests;
+#[cfg(test)]
+mod full_disks_tests;
 #[cfg(test)]
 mod sample_walks;
 #[cfg(test)]

@@ -14,4 +14,5 @@ invariant_of-self c = (
       (asked_on c.self.inside.view.params c.args.limit c.due_from-self-inside.result c.self.inside.view.lines c.due_from-self-inside.ensures
       (subst (λ (s : Seen). IsAskedBefore s.params c.args.limit s.lines) (sym c.self.view_is) c.requires)),
   c.self.invariant.4,
+  c.self.invariant.5,
 )
