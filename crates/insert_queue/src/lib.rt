@@ -24,7 +24,9 @@ mod tests {
     fn redundant_start_waits_once_it_is_taken_over(rt: HostRuntime) -> Result<(), Fail> {
         let mut starts = Starts::new(rt.alloc());
         let (one, other) = (start(0, 0), start(1, 7));
-        assert!(rt; starts.ask(one)?);
+        assert!(rt; starts.ask_redundant(start(2, 0))? && !starts.waits());
+        starts.drop_instance(Instance(2));
+        assert!(rt; starts.ask(one)? && starts.waits());
         assert!(rt; !starts.ask(one)?);
         assert!(rt; starts.ask_redundant(other)?);
         assert!(rt; !starts.ask(other)? && !starts.ask_redundant(one)?);

@@ -1,5 +1,5 @@
 //! The starts that wait for a free visit, and those that wait for the predecessor's death.
-ghost use Rattle.std.specs.Prelude.{◌≡◌, [], ◌++◌, IfOk, OnOk, OnErr, length, not, false};
+ghost use Rattle.std.specs.Prelude.{◌≡◌, ◌==◌, [], ◌++◌, IfOk, OnOk, OnErr, length, not, false};
 ghost use Rattle.insert_queue.specs.Queues.{has_start, is_asked, with_waiting, with_redundant, without, without_start, after_take_over, oldest_for, IsOnce};
 
 use std::alloc::Global;
@@ -114,6 +114,13 @@ impl Starts {
         self.waiting.extend_from_slice(&self.redundant)?;
         self.redundant.clear();
         Ok(moved)
+    }
+
+    /// Whether some start waits.
+    pub fn waits(&self) -> bool
+        ensures { result ≡ not (length self.now.waiting == 0) }
+    {
+        !self.waiting.is_empty()
     }
 
     /// The oldest start that waits for the disk; `None` exactly if none waits for it.
