@@ -1,3 +1,4 @@
+pub mod FullDisks
 pub mod Waiting
 pub mod Going
 pub mod Putting

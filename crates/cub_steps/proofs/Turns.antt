@@ -1,6 +1,7 @@
 -- One turn of putting the starts that wait for a disk, and the turn of one disk.
-use Rattle.std.proofs.Common.{◌≡◌, ℕ, ◌+◌, ◌*◌, ◌<◌, List, ◌∷◌, ◌++◌, length, Some, None, sym, ap, subst, ◌∙◌, arith}
+use Rattle.std.proofs.Common.{◌≡◌, ℕ, ◌+◌, ◌*◌, ◌<◌, ◌==◌, List, [], ◌∷◌, ◌++◌, length, Bool, true, false, not, Some, None, refl, sym, ap, subst, ◌∙◌, append-nil, arith}
 use Rattle.std.specs.List.{AllByRecursion, filter}
+use Rattle.std.proofs.lemmas.Bool.{eqb-true}
 use Rattle.tiger_base.specs.declared.message.Msg.{Msg}
 use Rattle.tiger_base.specs.declared.number.DiskNo.{DiskNo}
 use Rattle.tiger_base.specs.declared.tenancy.Ask.{Ask}
@@ -10,10 +11,10 @@ use Rattle.slot_plan.specs.Keys.{Key}
 use Rattle.node_kit.specs.declared.outbox.Out.{Out}
 use Rattle.node_kit.specs.Steps.{Deed}
 use Rattle.insert_queue.specs.Queues.{Queues, without_start, oldest_for, IsOnce}
-use Rattle.node_kit.specs.Deeds.{Did, each_in_turn}
+use Rattle.node_kit.specs.Deeds.{Did, nothing, each_in_turn}
 use Rattle.cub_rules.specs.declared.store.Store.{Store}
 use Rattle.cub_rules.specs.State.{IsAsk}
-use Rattle.cub_rules.specs.Ticks.{is_for, free_on, putting_on, tenancy_from, disks_at}
+use Rattle.cub_rules.specs.Ticks.{is_for, free_on, putting_each, putting_on, tenancy_from, disks_at}
 use Rattle.cub_steps.specs.Placing.{putting_by}
 use Rattle.cub_steps.proofs.Waiting.{oldest_first, once_front}
 use Rattle.cub_steps.proofs.Going.{ComesTo, comes_on, comes_done, disks_from, disks_next}
@@ -63,10 +64,34 @@ module _ (kind : Kind) (p : Params) (cub reading : ℕ) (disk : DiskNo) where
       → None ≡ free_on p reading disk.0 h → Did (rule first) before out h
   all_taken first before h out comes e = comes_done (rule first) before (rule h) out h comes (none_free (putting_by kind p cub) p reading disk h (sym e))
 
+not_so : (b : Bool) → not b ≡ false → b ≡ true
+not_so true e = refl
+not_so false e = sym e
+
+-- no start waits at all
+none_in : (asks : List Ask) → not (length asks == 0) ≡ false → asks ≡ []
+none_in [] e = refl
+none_in (a ∷ rest) e =
+    let none : length (a ∷ rest) ≡ 0 = eqb-true _ _ (not_so (length (a ∷ rest) == 0) e) in
+    absurd (omega (arith, none))
+
 module _ (kind : Kind) (p : Params) (cub reading at : ℕ) where
   -- the starts that wait for the disks of a cub are put
   abbrev disk_rule : List ℕ → Store → Deed Msg Store
   disk_rule = each_in_turn (putting_on (putting_by kind p cub) p reading)
+
+  none_on : (disks : List ℕ) (h : Store) → h.starts.waiting ≡ [] → disk_rule disks h ≡ nothing h
+  unfolding putting_on putting_each
+  none_on [] h e = refl
+  none_on (d ∷ disks) h e =
+      let here : putting_on (putting_by kind p cub) p reading d h ≡ nothing h = ap (λ (asks : List Ask). putting_each (putting_by kind p cub) p reading d (filter (is_for d) asks) h) e in
+      ap (λ (x : Deed Msg Store). record { outs = x.outs ++ (disk_rule disks x.state).outs; state = (disk_rule disks x.state).state }) here ∙ none_on disks h e
+
+  -- if none waits, nothing is done
+  pub none_waits_at : (h : Store) (out : List (Out Msg)) (waits : Bool) → waits ≡ not (length h.starts.waiting == 0) → waits ≡ false → Did (disk_rule (disks_at p at) h) out out h
+  none_waits_at h out waits is none =
+      let all : disk_rule (disks_at p at) h ≡ nothing h = none_on (disks_at p at) h (none_in h.starts.waiting (sym is ∙ none)) in
+      (sym (ap (λ (d : Deed Msg Store). out ++ d.outs) all ∙ append-nil out), sym (ap (λ (d : Deed Msg Store). d.state) all))
 
   -- one disk more
   pub disk_done : (first : Store) (before : List (Out Msg)) (row : ℕ) (disk : DiskNo) (h : Store) (out : List (Out Msg)) (now : Store) (after : List (Out Msg))

@@ -5,6 +5,7 @@ ghost use Rattle.tiger_base.specs.Limits.{most_reading};
 ghost use Rattle.node_kit.specs.Deeds.{Did, each_in_turn};
 ghost use Rattle.partial_view.specs.Lines.{visit_of};
 ghost use Rattle.slot_plan.specs.Keys.{IsKey};
+ghost use Rattle.slot_plan.specs.Times.{disk_count};
 ghost use Rattle.cub_rules.specs.State.{IsStoreOf, IsAsk};
 ghost use Rattle.cub_rules.specs.Records.{took};
 ghost use Rattle.cub_rules.specs.Ticks.{inserting, free_on, putting_on, disks_at, putting, putting_own, putting_for_dead, tenancy_from, told_placed};
@@ -68,6 +69,9 @@ fn put_at<'a>(
     ensures plan { OnOk result (store.new.view.params ≡ site.now.plan.params) }
     ensures asks { OnOk result (AllByRecursion IsAsk store.new.starts.waiting) }
 {
+    if !store.starts.waits() {
+        return Ok(());
+    }
     let p = &site.plan.params;
     for row in 0..p.disks {
         let disk = DiskNo((u64::from(cub.0) + row * p.cubs) as u32);
@@ -76,7 +80,8 @@ fn put_at<'a>(
     Ok(())
 }
 
-/// Puts the starts that wait for a disk, as long as a visit of it is free.
+/// Puts the starts that wait for a disk, as long as a visit of it is free. Once none is, the visits
+/// are not looked at again until one may be.
 fn put_on<'a>(
     site: &Site,
     reading: Micros,
@@ -86,6 +91,7 @@ fn put_on<'a>(
     out: &mut Outbox<Msg<'a>>,
 ) -> Result<(), NoMemory>
     requires reading { reading ≤ most_reading }
+    requires disk { disk.0 < disk_count site.now.plan.params }
     requires plan { store.old.view.params ≡ site.now.plan.params }
     requires asks { AllByRecursion IsAsk store.old.starts.waiting }
     ensures did { let p = site.now.plan.params in
@@ -94,8 +100,12 @@ fn put_on<'a>(
     ensures plan { OnOk result (store.new.view.params ≡ site.now.plan.params) }
     ensures asks { OnOk result (AllByRecursion IsAsk store.new.starts.waiting) }
 {
+    if store.view.is_full(disk, reading) {
+        return Ok(());
+    }
     while let Some(ask) = store.starts.next(disk) {
         let Some((slot, visit)) = free_on(site, reading, disk, store) else {
+            store.view.set_full(disk, reading);
             break;
         };
         // The call tells that the instance has no other start.

@@ -70,8 +70,9 @@ fn a_start_is_put_into_the_first_free_visit(rt: HostRuntime) -> Result<(), Fail>
     Ok(())
 }
 
-/// Beside a taken slot a start waits; then what its cub inserts first in a beat, and whether the start still waits.
-fn insert_beside(alloc: Global, beat: u64) -> Result<(Option<What>, bool), NoMemory>
+/// Beside a taken slot a start waits; then what its cub inserts first in a beat, whether the start still waits, and
+/// whether the disk is known to be full then and until beat 20.
+fn insert_beside(alloc: Global, beat: u64) -> Result<(Option<What>, bool, bool), NoMemory>
     requires { beat ≤ 1000 }
 {
     let site = site(0);
@@ -81,16 +82,19 @@ fn insert_beside(alloc: Global, beat: u64) -> Result<(Option<What>, bool), NoMem
     Ok((
         outs.first().copied(),
         store.starts.next(DiskNo(0)).is_some(),
+        store.view.is_full(DiskNo(0), beat * 10000)
+            && store.view.is_full(DiskNo(0), 199999)
+            && !store.view.is_full(DiskNo(0), 200000),
     ))
 }
 
 #[test]
 fn a_taken_slot_is_passed_over(rt: HostRuntime) -> Result<(), Fail> {
-    let (early, waits) = insert_beside(rt.alloc(), 19)?;
-    assert!(rt; early.is_none() && waits);
-    let (put, waits) = insert_beside(rt.alloc(), 20)?;
+    let (early, waits, full) = insert_beside(rt.alloc(), 19)?;
+    assert!(rt; early.is_none() && waits && full);
+    let (put, waits, full) = insert_beside(rt.alloc(), 20)?;
     assert_put(&rt, put, tenancy(1, 2, 1));
-    assert!(rt; !waits);
+    assert!(rt; !waits && !full);
     Ok(())
 }
 

@@ -1,7 +1,12 @@
-use Rattle.std.proofs.Common.{◌∙◌, sym}
+use Rattle.std.proofs.Common.{◌∙◌, refl, sym, subst}
 use Rattle.std.proofs.lemmas.Bool.{both_ways}
 use Rattle.slot_plan.specs.Keys.{Key}
+use Rattle.node_kit.specs.Deeds.{Did}
+use Rattle.partial_view.specs.Views.{Seen}
 use Rattle.cub_rules.specs.State.{IsAsk}
+use Rattle.cub_rules.specs.Ticks.{putting_on}
+use Rattle.cub_steps.specs.Placing.{putting_by}
+use Rattle.cub_steps.proofs.FullDisks.{full_where_none, none_where_full}
 use Rattle.cub_steps.proofs.Waiting.{is_asked_oldest, oldest_all}
 use Rattle.cub_steps.proofs.Turns.{IsTurned, turned, all_put, all_taken}
 use Rattle.cub_steps.proofs.insertion.put_on.Goals as goal
@@ -33,11 +38,22 @@ loop-ask-preserved c =
 pub loop-ask-smaller : goal.loop-ask-smaller
 loop-ask-smaller c = (after_put c).fewer
 
+pub returns-then-is_full-clause-did : goal.returns-then-is_full-clause-did
+returns-then-is_full-clause-did c =
+    let p = c.args.site.now.plan.params in
+    all_taken c.args.kind p c.args.site.now.cub.0 c.args.reading c.args.disk c.args.store.now c.args.out.now c.args.store.now c.args.out.now (record { outs = refl; state = refl })
+    (none_where_full p c.args.reading c.args.disk.0 c.args.store.now c.args.site.now.plan.sound c.requires.plan (c.is_full.ensures c.if-is_full.true))
+
+pub set_full-requires-clause-full : goal.set_full-requires-clause-full
+set_full-requires-clause-full c =
+    full_where_none c.args.site.now.plan.params c.args.reading c.args.disk.0 c.loop-ask.store c.args.site.now.plan.sound c.loop-ask.invariant.plan c.in_default-free_on.ensures.free
+
 pub returns-in_default-free_on-clause-did : goal.returns-in_default-free_on-clause-did
 returns-in_default-free_on-clause-did c =
     let p = c.args.site.now.plan.params in
-    all_taken c.args.kind p c.args.site.now.cub.0 c.args.reading c.args.disk c.args.store.now c.args.out.now c.loop-ask.store c.loop-ask.out c.loop-ask.invariant.comes
-    c.in_default-free_on.ensures.free
+    subst (λ (v : Seen). Did (putting_on (putting_by c.args.kind p c.args.site.now.cub.0) p c.args.reading c.args.disk.0 c.args.store.now) c.args.out.now c.loop-ask.out (record c.loop-ask.store { view = v })) (sym c.set_full.ensures)
+    (all_taken c.args.kind p c.args.site.now.cub.0 c.args.reading c.args.disk c.args.store.now c.args.out.now c.loop-ask.store c.loop-ask.out c.loop-ask.invariant.comes
+    c.in_default-free_on.ensures.free)
 
 pub returns-in_default-clause-did : goal.returns-in_default-clause-did
 returns-in_default-clause-did c =
