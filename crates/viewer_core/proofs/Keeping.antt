@@ -1,11 +1,12 @@
 -- The first part under each key is kept.
-use Rattle.std.proofs.Common.{◌≡◌, ℕ, List, [], ◌∷◌, Less, Equal, Greater, Bool, true, false, cond, ◌==◌, ◌&&◌, nat_lt, Option, Some, None, arith, refl, sym, ap, ◌∙◌}
+use Rattle.std.proofs.Common.{◌≡◌, ℕ, List, [], ◌∷◌, Less, Equal, Greater, Bool, true, false, cond, ◌==◌, ◌&&◌, Option, Some, None, suc, ◌+◌, length, is_some, if◌then◌else◌, arith, refl, sym, ap, ◌∙◌}
 use Rattle.std.specs.declared.cmp.Ordering.{Ordering}
-use Rattle.std.specs.Ordering.{is_eq, nat_cmp, ordering_then, match_ordering}
-use Rattle.std.specs.Option.{option_or}
+use Rattle.std.specs.Cmp.{both_tied, unsigned_ties}
+use Rattle.std.specs.Ordering.{is_eq, nat_cmp, match_ordering}
+use Rattle.std.specs.Option.{option_or, unwrap_or}
 use Rattle.std.specs.List.{fold}
 use Rattle.std.specs.BTreeMap.{insert_entry}
-use Rattle.std.proofs.lemmas.Bool.Decides.{nat_tests}
+use Rattle.std.proofs.lemmas.Bool.{and_parts, eqb-true}
 use Rattle.tiger_base.specs.Span.{LibraryPart}
 use Rattle.tiger_base.specs.declared.message.Msg.{Msg}
 use Rattle.tiger_base.specs.declared.message.Msg.TheVariants as msg
@@ -14,23 +15,6 @@ use Rattle.viewer_core.specs.Parts.{KeptParts, key_order, key_of, part_under, un
 use Rattle.viewer_core.specs.Rules.{keeping}
 use Rattle.viewer_core.specs.Taken.{is_same, part_in, first_part, FirstPartsAreKept}
 
-then_eq : (a b : Ordering) → is_eq (ordering_then a b) ≡ (is_eq a && is_eq b)
-then_eq Less b = refl
-then_eq Equal b = refl
-then_eq Greater b = refl
-
-cmp_eq : (a b : ℕ) → is_eq (nat_cmp a b) ≡ (a == b)
-cmp_eq a b = by_tests (nat_lt a b) (a == b) (not_both a b)
-  where
-    not_both : (a b : ℕ) → (nat_lt a b && (a == b)) ≡ false
-    not_both a b = grind (arith, nat_tests)
-
-    by_tests : (x y : Bool) → (x && y) ≡ false → is_eq (cond x Less (cond y Equal Greater)) ≡ y
-    by_tests true true e = sym e
-    by_tests true false e = refl
-    by_tests false true e = refl
-    by_tests false false e = refl
-
 and_assoc : (a b c : Bool) → (a && (b && c)) ≡ (a && b && c)
 and_assoc true b c = refl
 and_assoc false b c = refl
@@ -38,26 +22,19 @@ and_assoc false b c = refl
 -- keys that compare equal are the same
 order_eq : (a b : Key) → is_eq (key_order a b) ≡ is_same a b
 order_eq a b =
-    then_eq (nat_cmp a.instance.0 b.instance.0) (ordering_then (nat_cmp a.visit b.visit) (nat_cmp a.piece b.piece))
-    ∙ (ap (λ x. is_eq (nat_cmp a.instance.0 b.instance.0) && x) (then_eq (nat_cmp a.visit b.visit) (nat_cmp a.piece b.piece))
-    ∙ rw (cmp_eq a.instance.0 b.instance.0, cmp_eq a.visit b.visit, cmp_eq a.piece b.piece)
-    (and_assoc (a.instance.0 == b.instance.0) (a.visit == b.visit) (a.piece == b.piece)))
-
-equal : (a b : ℕ) → (a == b) ≡ true → a ≡ b
-equal a b e = grind (arith, nat_tests)
-
-all_three : (a b c : Bool) → (a && b && c) ≡ true → (a ≡ true) × (b ≡ true) × (c ≡ true)
-all_three true true true e = (refl, refl, refl)
-all_three true true false e = absurd (cc)
-all_three true false c e = absurd (cc)
-all_three false b c e = absurd (cc)
+    sym (both_tied (a.instance.0 == b.instance.0) (a.visit == b.visit && a.piece == b.piece) (nat_cmp a.instance.0 b.instance.0) _
+    (unsigned_ties a.instance.0 b.instance.0)
+    (both_tied (a.visit == b.visit) (a.piece == b.piece) (nat_cmp a.visit b.visit) (nat_cmp a.piece b.piece)
+    (unsigned_ties a.visit b.visit) (unsigned_ties a.piece b.piece)))
+    ∙ and_assoc (a.instance.0 == b.instance.0) (a.visit == b.visit) (a.piece == b.piece)
 
 same_key : (a b : Key) → is_same a b ≡ true → a ≡ b
 same_key a b e =
-    let h = all_three (a.instance.0 == b.instance.0) (a.visit == b.visit) (a.piece == b.piece) e in
-    let i : a.instance.0 ≡ b.instance.0 = equal _ _ h.0 in
-    let v : a.visit ≡ b.visit = equal _ _ h.1 in
-    let k : a.piece ≡ b.piece = equal _ _ h.2 in
+    let h = and_parts (a.instance.0 == b.instance.0 && a.visit == b.visit) (a.piece == b.piece) e in
+    let f = and_parts (a.instance.0 == b.instance.0) (a.visit == b.visit) h.0 in
+    let i : a.instance.0 ≡ b.instance.0 = eqb-true _ _ f.0 in
+    let v : a.visit ≡ b.visit = eqb-true _ _ f.1 in
+    let k : a.piece ≡ b.piece = eqb-true _ _ h.1 in
     ap (λ (x : ℕ). record { instance = record { 0 = x }; visit = a.visit; piece = a.piece }) i
     ∙ (ap (λ (x : ℕ). record { instance = b.instance; visit = x; piece = a.piece }) v
     ∙ ap (λ (x : ℕ). record { instance = b.instance; visit = b.visit; piece = x }) k)
@@ -106,6 +83,36 @@ inserted q k part [] none = in_front q k part [] none
 inserted q k part (e ∷ es) none =
     let h = head_none (is_eq (key_order k e.0)) e.1 (part_under k es) none in
     at_entry q k part e es (key_order k e.0) refl h.0 none (inserted q k part es h.1)
+
+-- what is put under its key once more changes nothing
+pub put_again : (k : Key) (part : LibraryPart) (es : KeptParts) → part_under k es ≡ Some part
+    → length (insert_entry key_order es k part) ≡ length es → insert_entry key_order es k part ≡ es
+put_again k part [] there same = absurd (cc)
+put_again k part (e ∷ es) there same = at_head (key_order k e.0) there same (put_again k part es)
+  where
+    at_head : (o : Ordering) → cond (is_eq o) (Some e.1) (part_under k es) ≡ Some part
+        → length (match_ordering o ((k, part) ∷ e ∷ es) ((e.0, part) ∷ es) (e ∷ insert_entry key_order es k part)) ≡ suc (length es)
+        → (part_under k es ≡ Some part → length (insert_entry key_order es k part) ≡ length es → insert_entry key_order es k part ≡ es)
+        → match_ordering o ((k, part) ∷ e ∷ es) ((e.0, part) ∷ es) (e ∷ insert_entry key_order es k part) ≡ e ∷ es
+    at_head Less there same rest = absurd (omega (arith, same))
+    at_head Equal there same rest = let one : e.1 ≡ part = cc in ap (λ (x : LibraryPart). (e.0, x) ∷ es) (sym one)
+    at_head Greater there same rest = ap (λ (xs : KeptParts). e ∷ xs) (rest there (omega (arith, same)))
+
+-- an entry that is made if there is none keeps the first part under each key
+pub kept_once : (k : Key) (part put : LibraryPart) (old new : KeptParts) (o : Option LibraryPart) → o ≡ part_under k old → put ≡ unwrap_or o part
+    → new ≡ insert_entry key_order old k put → length new ≡ length old + (if is_some o then 0 else 1)
+    → new ≡ with_part k part old
+unfolding with_part
+kept_once k part put old new o is gives made long = ends o is gives long ∙ ap (unless_kept k part old) is
+  where
+    again : (first : LibraryPart) → put ≡ first → Some first ≡ part_under k old → length new ≡ length old → new ≡ old
+    again first one there same =
+        let whole = made ∙ ap (insert_entry key_order old k) one in
+        whole ∙ put_again k first old (sym there) (ap length (sym whole) ∙ same)
+
+    ends : (q : Option LibraryPart) → q ≡ part_under k old → put ≡ unwrap_or q part → length new ≡ length old + (if is_some q then 0 else 1) → new ≡ unless_kept k part old q
+    ends None there one long = made ∙ ap (insert_entry key_order old k) one
+    ends (Some first) there one long = again first one there (omega (arith, long))
 
 unless_kept_gives : (q k : Key) (part : LibraryPart) (kept : KeptParts) (o : Option LibraryPart) → part_under k kept ≡ o
     → part_under q (unless_kept k part kept o) ≡ option_or (part_under q kept) (brought q k part)

@@ -63,10 +63,7 @@ impl<'a> Viewers<'a> {
     fn keep(&mut self, key: Key, part: Part<'a>) -> Result<(), NoMemory>
         ensures { OnOk result (self.new ≡ with_part key part.entry self.old) }
     {
-        if self.parts.contains_key(&key) {
-            return Ok(());
-        }
-        self.parts.insert(key, part)?;
+        self.parts.entry(key)?.or_insert(part);
         Ok(())
     }
 
