@@ -1,9 +1,9 @@
 -- The first part under each key is kept.
-use Rattle.std.proofs.Common.{◌≡◌, ℕ, List, [], ◌∷◌, Less, Equal, Greater, Bool, true, false, cond, ◌==◌, ◌&&◌, Option, Some, None, suc, ◌+◌, length, is_some, if◌then◌else◌, arith, refl, sym, ap, ◌∙◌}
+use Rattle.std.proofs.Common.{◌≡◌, ℕ, List, [], ◌∷◌, Less, Equal, Greater, Bool, true, false, cond, ◌==◌, ◌&&◌, Option, Some, None, refl, sym, ap, ◌∙◌}
 use Rattle.std.specs.declared.cmp.Ordering.{Ordering}
 use Rattle.std.specs.Cmp.{both_tied, unsigned_ties}
 use Rattle.std.specs.Ordering.{is_eq, nat_cmp, match_ordering}
-use Rattle.std.specs.Option.{option_or, unwrap_or}
+use Rattle.std.specs.Option.{option_or}
 use Rattle.std.specs.List.{fold}
 use Rattle.std.specs.BTreeMap.{insert_entry}
 use Rattle.std.proofs.lemmas.Bool.{and_parts, eqb-true}
@@ -83,36 +83,6 @@ inserted q k part [] none = in_front q k part [] none
 inserted q k part (e ∷ es) none =
     let h = head_none (is_eq (key_order k e.0)) e.1 (part_under k es) none in
     at_entry q k part e es (key_order k e.0) refl h.0 none (inserted q k part es h.1)
-
--- what is put under its key once more changes nothing
-pub put_again : (k : Key) (part : LibraryPart) (es : KeptParts) → part_under k es ≡ Some part
-    → length (insert_entry key_order es k part) ≡ length es → insert_entry key_order es k part ≡ es
-put_again k part [] there same = absurd (cc)
-put_again k part (e ∷ es) there same = at_head (key_order k e.0) there same (put_again k part es)
-  where
-    at_head : (o : Ordering) → cond (is_eq o) (Some e.1) (part_under k es) ≡ Some part
-        → length (match_ordering o ((k, part) ∷ e ∷ es) ((e.0, part) ∷ es) (e ∷ insert_entry key_order es k part)) ≡ suc (length es)
-        → (part_under k es ≡ Some part → length (insert_entry key_order es k part) ≡ length es → insert_entry key_order es k part ≡ es)
-        → match_ordering o ((k, part) ∷ e ∷ es) ((e.0, part) ∷ es) (e ∷ insert_entry key_order es k part) ≡ e ∷ es
-    at_head Less there same rest = absurd (omega (arith, same))
-    at_head Equal there same rest = let one : e.1 ≡ part = cc in ap (λ (x : LibraryPart). (e.0, x) ∷ es) (sym one)
-    at_head Greater there same rest = ap (λ (xs : KeptParts). e ∷ xs) (rest there (omega (arith, same)))
-
--- an entry that is made if there is none keeps the first part under each key
-pub kept_once : (k : Key) (part put : LibraryPart) (old new : KeptParts) (o : Option LibraryPart) → o ≡ part_under k old → put ≡ unwrap_or o part
-    → new ≡ insert_entry key_order old k put → length new ≡ length old + (if is_some o then 0 else 1)
-    → new ≡ with_part k part old
-unfolding with_part
-kept_once k part put old new o is gives made long = ends o is gives long ∙ ap (unless_kept k part old) is
-  where
-    again : (first : LibraryPart) → put ≡ first → Some first ≡ part_under k old → length new ≡ length old → new ≡ old
-    again first one there same =
-        let whole = made ∙ ap (insert_entry key_order old k) one in
-        whole ∙ put_again k first old (sym there) (ap length (sym whole) ∙ same)
-
-    ends : (q : Option LibraryPart) → q ≡ part_under k old → put ≡ unwrap_or q part → length new ≡ length old + (if is_some q then 0 else 1) → new ≡ unless_kept k part old q
-    ends None there one long = made ∙ ap (insert_entry key_order old k) one
-    ends (Some first) there one long = again first one there (omega (arith, long))
 
 unless_kept_gives : (q k : Key) (part : LibraryPart) (kept : KeptParts) (o : Option LibraryPart) → part_under k kept ≡ o
     → part_under q (unless_kept k part kept o) ≡ option_or (part_under q kept) (brought q k part)

@@ -2,6 +2,7 @@
 #![tactic(auto)]
 
 mod laws;
+mod row;
 mod viewers;
 
 pub use laws::first_parts_are_kept;

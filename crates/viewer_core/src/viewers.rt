@@ -3,6 +3,7 @@ ghost use Rattle.std.specs.Prelude.{◌≡◌, [], OnOk};
 ghost use Rattle.viewer_core.specs.Parts.{part_under, with_part};
 ghost use Rattle.viewer_core.specs.Rules.{keeping};
 
+use crate::row::Row;
 use node_kit::{Node, Outbox};
 use std::alloc::Global;
 use std::collections::BTreeMap;
@@ -20,15 +21,20 @@ pub struct Key {
 /// The viewers, seen as the parts that they keep, in the order of their keys.
 #[derive(Drop)]
 pub struct Viewers<'a> {
-    parts: BTreeMap<Key, Part<'a>>,
+    alloc: Global,
+    // A tree of all parts is a hundred times as large, and most steps of a search miss the cache.
+    rows: BTreeMap<Instance, Row<'a>>,
 }
 
 impl<'a> Model for Viewers<'a> {
     ghost use Rattle.viewer_core.specs.Parts.{KeptParts};
+    ghost use Rattle.viewer_core.specs.Rows.{AreRows, joined};
 
     ghost Value = { KeptParts };
 
-    ghost view = { λ v. v.parts.entries };
+    ghost view = { λ v. joined v.rows.entries };
+
+    ghost invariant = { λ v. AreRows v.rows.entries };
 }
 
 impl<'a> Viewers<'a> {
@@ -37,7 +43,8 @@ impl<'a> Viewers<'a> {
         ensures { result ≡ [] }
     {
         Viewers {
-            parts: BTreeMap::new(alloc),
+            alloc,
+            rows: BTreeMap::new(alloc),
         }
     }
 
@@ -47,13 +54,8 @@ impl<'a> Viewers<'a> {
         ensures { result ≡
             part_under (record { instance = instance; visit = visit; piece = piece }) self.now }
     {
-        let key = Key {
-            instance,
-            visit,
-            piece,
-        };
-        match self.parts.get(&key) {
-            Some(part) => Some(part.again()),
+        match self.rows.get(&instance) {
+            Some(row) => row.part_at((visit, piece)),
             None => None,
         }
     }
@@ -63,8 +65,9 @@ impl<'a> Viewers<'a> {
     fn keep(&mut self, key: Key, part: Part<'a>) -> Result<(), NoMemory>
         ensures { OnOk result (self.new ≡ with_part key part.entry self.old) }
     {
-        self.parts.entry(key)?.or_insert(part);
-        Ok(())
+        let none_yet = Row::new(self.alloc);
+        let row = self.rows.entry(key.instance)?.or_insert(none_yet);
+        row.keep((key.visit, key.piece), part)
     }
 
     /// Takes a message.
