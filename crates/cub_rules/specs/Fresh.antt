@@ -1,28 +1,34 @@
--- The parts that a cub has stored, each beside a time up to which it is fresh.
-use Rattle.std.specs.Prelude.{ℕ, ◌+◌, ◌≤◌, List}
+-- The ends of the play times of parts that a cub has stored, in a list beside them.
+use Rattle.std.specs.Prelude.{◌≡◌, ℕ, ◌+◌, ◌≤◌, Bool, true, List, length, map}
 use Rattle.std.specs.List.{AllByRecursion}
+use Rattle.tiger_base.specs.declared.tenancy.Want.{Want}
 use Rattle.slot_plan.specs.declared.params.Params.{Params}
 use Rattle.slot_plan.specs.Times.{due}
-use Rattle.mirror_schedule.specs.Timed.{AreFrom}
 use Rattle.cub_rules.specs.declared.store.StoredPart.{StoredPart}
 
--- a part, and a time
-abbrev pub Timed : Type 0
-Timed = StoredPart × ℕ
+-- the end of the play time of a want's visit
+abbrev pub end_of : Params → Want → ℕ
+end_of p want = due p want.slot.0 want.visit + p.play
 
--- the end of the play time of a part's visit
-abbrev pub end_of : Params → StoredPart → ℕ
-end_of p x = due p x.want.slot.0 x.want.visit + p.play
+-- the ends of the visits of some parts
+abbrev pub ends_of : Params → List StoredPart → List ℕ
+ends_of p parts = map (λ x. end_of p x.want) parts
 
--- the play time of a part's visit is not over before the part's time
-abbrev pub IsFresh : Params → Timed → Type 0
-IsFresh p x = x.1 ≤ end_of p x.0
+-- no end comes before a time
+abbrev pub NoneBefore : ℕ → List ℕ → Type 0
+NoneBefore time ends = AllByRecursion (λ x. time ≤ x) ends
 
--- each part is fresh
-abbrev pub AreFresh : Params → List Timed → Type 0
-AreFresh p xs = AllByRecursion (IsFresh p) xs
+-- There are as many ends as parts. If they are timed, they are those of the parts under a plan's numbers.
+pub record AreEnds (p : Params) (timed : Bool) (parts : List StoredPart) (ends : List ℕ) : Type 0 where
+  pub count : length ends ≡ length parts
+  pub exact : timed ≡ true → ends ≡ ends_of p parts
 
--- each part is fresh, and no part's time comes before a given one: until then none is stale
-pub record AreFreshFrom (p : Params) (time : ℕ) (xs : List Timed) : Type 0 where
-  pub fresh : AreFresh p xs
-  pub from : AreFrom time xs
+-- they are ends of the parts, none before a time: if they are timed, all parts are fresh until then
+pub record AreKept (p : Params) (timed : Bool) (time : ℕ) (parts : List StoredPart) (ends : List ℕ) : Type 0 where
+  pub beside : AreEnds p timed parts ends
+  pub from : NoneBefore time ends
+
+-- Some parts are left, and some ends: those of the parts that are left.
+pub record EndsStay (parts : List StoredPart) (ends : List ℕ) (left : List StoredPart) (less : List ℕ) : Type 0 where
+  pub beside : (p : Params) (timed : Bool) → AreEnds p timed parts ends → AreEnds p timed left less
+  pub from : (time : ℕ) → NoneBefore time ends → NoneBefore time less

@@ -1,41 +1,45 @@
-//! The parts that a cub has stored, each with a time before which it is fresh: until then a tick works out no due time.
-ghost use Rattle.std.specs.Prelude.{◌≡◌, ◌≤◌, ◌==◌, ◌++◌, ◌∷◌, [], true, OnOk, OnErr, filter, length, not};
-ghost use Rattle.std.specs.List.{AllByRecursion};
-ghost use Rattle.mirror_schedule.specs.Timed.{untimed};
-ghost use Rattle.cub_rules.specs.Fresh.{end_of, IsFresh};
+//! The parts that a cub has stored, and the ends of their play times, by which they are found and forgotten.
+ghost use Rattle.std.specs.Prelude.{◌≡◌, ◌<◌, ◌==◌, ◌&&◌, ◌++◌, ◌∷◌, [], true, IsTrue, OnOk, OnErr, length, not};
+ghost use Rattle.std.specs.List.{AllByRecursion, filter, remove};
+ghost use Rattle.mirror_schedule.specs.Timed.{has_same_times};
+ghost use Rattle.node_kit.specs.Form.{is_place};
+ghost use Rattle.cub_rules.specs.Fresh.{end_of, ends_of, AreEnds, EndsStay, NoneBefore};
 ghost use Rattle.cub_rules.specs.Messages.{is_piece_part};
 ghost use Rattle.cub_rules.specs.Records.{is_part_of, stored_for};
 ghost use Rattle.cub_rules.specs.State.{IsPartHere};
 ghost use Rattle.cub_rules.specs.Ticks.{is_stale};
 
 use crate::store::StoredPart;
-use mirror_schedule::{has_same_times, least_time};
-use slot_plan::{Params, Plan};
+use mirror_schedule::has_same_times;
+use slot_plan::Plan;
 use std::alloc::Global;
 use std::marker::Model;
-use tiger_base::{Instance, Micros, NoMemory, Part, Visit, Want};
+use tiger_base::{Instance, MOST_VISIT, Micros, NoMemory, Part, Visit, Want};
 
-/// The parts that are stored, in the order in which they came, seen as this list. Each stands beside a time before which it
-/// is fresh under a plan's numbers.
+/// The parts that are stored, in the order in which they came, seen as this list.
 #[derive(Drop)]
 pub struct StoredParts<'a> {
-    items: Vec<(StoredPart<'a>, Micros)>,
-    params: Params,
-    // All parts are fresh before it: until then a tick walks over none.
+    items: Vec<StoredPart<'a>>,
+    // For each part the end of its visit's play time: a walk over these numbers reads far less than one over the parts.
+    ends: Vec<Micros>,
+    plan: Plan,
+    // The ends are those under the plan: no part came under one with other times.
+    timed: bool,
+    // No end comes before it: until then a tick walks over none.
     fresh_before: Micros,
 }
 
 impl<'a> Model for StoredParts<'a> {
     ghost use Rattle.std.specs.Prelude.{List};
     ghost use Rattle.cub_rules.specs.declared.store.StoredPart.{StoredPart};
-    ghost use Rattle.mirror_schedule.specs.Timed.{untimed};
-    ghost use Rattle.cub_rules.specs.Fresh.{AreFreshFrom};
+    ghost use Rattle.cub_rules.specs.Fresh.{AreKept};
 
     ghost Value = { List StoredPart };
 
-    ghost view = { λ s. untimed s.items.items };
+    ghost view = { λ s. s.items.items };
 
-    ghost invariant = { λ s. AreFreshFrom s.params s.fresh_before s.items.items };
+    ghost invariant = { λ s.
+        AreKept s.plan.params s.timed s.fresh_before s.items.items s.ends.items };
 }
 
 impl<'a> StoredParts<'a> {
@@ -45,7 +49,9 @@ impl<'a> StoredParts<'a> {
     {
         StoredParts {
             items: Vec::new(alloc),
-            params: plan.params,
+            ends: Vec::new(alloc),
+            plan: *plan,
+            timed: true,
             fresh_before: u64::MAX,
         }
     }
@@ -68,7 +74,16 @@ impl<'a> StoredParts<'a> {
     pub fn part_for(&self, want: Want) -> Option<Part<'a>>
         ensures { result ≡ stored_for want self.now }
     {
-        find_part(want, self.items.as_slice())
+        if self.timed && is_here(want, &self.plan) {
+            find_by_end(
+                want,
+                &self.plan,
+                self.items.as_slice(),
+                self.ends.as_slice(),
+            )
+        } else {
+            find_part(want, self.items.as_slice())
+        }
     }
 
     /// Stores a part of a visit of the plan behind the others; without memory for it, nothing changes.
@@ -77,10 +92,11 @@ impl<'a> StoredParts<'a> {
         ensures ok { OnOk result (self.new ≡ self.old ++ stored.entry ∷ []) }
         ensures err { OnErr result (self.new ≡ self.old) }
     {
-        let time = fresh_until(&self.params, plan, &stored);
-        self.items.push((stored, time))?;
-        if time < self.fresh_before {
-            self.fresh_before = time;
+        let end = end_of(stored.want, plan);
+        push(&mut self.items, &mut self.ends, stored, end)?;
+        self.timed = are_timed(self.timed, &self.plan, plan);
+        if end < self.fresh_before {
+            self.fresh_before = end;
         }
         Ok(())
     }
@@ -90,108 +106,188 @@ impl<'a> StoredParts<'a> {
         requires { AllByRecursion (IsPartHere plan.now.params) self.old }
         ensures { self.new ≡ filter (λ x. not (is_stale plan.now.params reading x)) self.old }
     {
-        let timed = has_same_times(&self.params, &plan.params);
+        let timed = are_timed(self.timed, &self.plan, plan);
         if timed && reading < self.fresh_before {
             return;
         }
-        forget_stale(&mut self.items, timed, plan, reading);
-        self.fresh_before = least_time(self.items.as_slice());
+        forget_stale(&mut self.items, &mut self.ends, timed, plan, reading);
+        self.fresh_before = least_end(self.ends.as_slice());
     }
 
     /// Drops all parts of an instance.
     pub fn drop_instance(&mut self, instance: Instance)
         ensures { self.new ≡ filter (λ x. not (is_part_of instance x)) self.old }
     {
-        drop_instance(instance, &mut self.items);
+        drop_instance(instance, &mut self.items, &mut self.ends);
     }
 
     /// Drops the parts of the pieces of a visit.
     pub fn drop_pieces(&mut self, instance: Instance, visit: Visit)
         ensures { self.new ≡ filter (λ x. not (is_piece_part instance visit x)) self.old }
     {
-        drop_pieces(instance, visit, &mut self.items);
+        drop_pieces(instance, visit, &mut self.items, &mut self.ends);
     }
 }
 
-/// The first part that is for a want.
-#[tactic(auto, unfolding(crate::specs::Records::stored_for))]
-fn find_part<'a>(want: Want, items: &[(StoredPart<'a>, Micros)]) -> Option<Part<'a>>
-    ensures { result ≡ stored_for want (untimed items.now) }
+/// Whether a want is of a slot of the plan, and its visit is not too large: then the visit has a due time.
+fn is_here(want: Want, plan: &Plan) -> bool
+    ensures { result ≡ is_place plan.now.params want.slot.0 want.visit }
 {
-    for x in items {
-        if x.0.want == want {
-            return Some(x.0.part.again());
+    u64::from(want.slot.0) < plan.params.slots && want.visit <= MOST_VISIT
+}
+
+/// The end of the play time of a want's visit.
+fn end_of(want: Want, plan: &Plan) -> Micros
+    requires { IsTrue (is_place plan.now.params want.slot.0 want.visit) }
+    ensures { result ≡ end_of plan.now.params want }
+{
+    plan.due(want.slot, want.visit) + plan.params.play
+}
+
+/// The first part that is for a want, by the ends under a plan: only a part with the end of the want's visit can be for
+/// it, so the wants of the others are not compared.
+#[tactic(auto, unfolding(crate::specs::Records::stored_for))]
+fn find_by_end<'a>(
+    want: Want,
+    plan: &Plan,
+    items: &[StoredPart<'a>],
+    ends: &[Micros],
+) -> Option<Part<'a>>
+    requires here { IsTrue (is_place plan.now.params want.slot.0 want.visit) }
+    requires ends { ends.now ≡ ends_of plan.now.params items.now }
+    ensures { result ≡ stored_for want items.now }
+{
+    let end = end_of(want, plan);
+    for (i, x) in items.iter().enumerate() {
+        if ends[i] == end && x.want == want {
+            return Some(x.part.again());
         }
     }
     None
 }
 
-/// A time before which a part is fresh under some numbers: the end of its visit's play time if they are the plan's.
-fn fresh_until<'a>(params: &Params, plan: &Plan, x: &StoredPart<'a>) -> Micros
-    requires { IsPartHere plan.now.params x.now }
-    ensures { result ≤ end_of params.now x.now }
+/// The first part that is for a want.
+#[tactic(auto, unfolding(crate::specs::Records::stored_for))]
+fn find_part<'a>(want: Want, items: &[StoredPart<'a>]) -> Option<Part<'a>>
+    ensures { result ≡ stored_for want items.now }
 {
-    if has_same_times(params, &plan.params) {
-        end_of(x, plan)
-    } else {
-        0
+    for x in items {
+        if x.want == want {
+            return Some(x.part.again());
+        }
     }
+    None
 }
 
-/// The end of the play time of a part's visit.
-fn end_of<'a>(x: &StoredPart<'a>, plan: &Plan) -> Micros
-    requires { IsPartHere plan.now.params x.now }
-    ensures { result ≡ end_of plan.now.params x.now }
+/// Puts a part and its end behind the others; without memory for both, nothing changes.
+fn push<'a>(
+    items: &mut Vec<StoredPart<'a>>,
+    ends: &mut Vec<Micros>,
+    stored: StoredPart<'a>,
+    end: Micros,
+) -> Result<(), NoMemory>
+    ensures part { OnOk result (items.new.items ≡ items.old.items ++ stored.entry ∷ []) }
+    ensures end { OnOk result (ends.new.items ≡ ends.old.items ++ end ∷ []) }
+    ensures no_part { OnErr result (items.new.items ≡ items.old.items) }
+    ensures no_end { OnErr result (ends.new.items ≡ ends.old.items) }
 {
-    plan.due(x.want.slot, x.want.visit) + plan.params.play
+    ends.push(end)?;
+    if items.push(stored).is_err() {
+        ends.pop();
+        return Err(NoMemory);
+    }
+    Ok(())
 }
 
-/// Forgets the parts whose play time is over; `timed` says that their times are the plan's.
+/// Whether ends are those under a plan: if they are those under their own plan, and its times are the same.
+fn are_timed(timed: bool, own: &Plan, plan: &Plan) -> bool
+    ensures { result ≡ (timed && has_same_times own.now.params plan.now.params) }
+{
+    timed && has_same_times(&own.params, &plan.params)
+}
+
+/// Forgets the parts whose play time is over; `timed` says that the ends are those under the plan.
 fn forget_stale<'a>(
-    items: &mut Vec<(StoredPart<'a>, Micros)>,
+    items: &mut Vec<StoredPart<'a>>,
+    ends: &mut Vec<Micros>,
     timed: bool,
     plan: &Plan,
     reading: Micros,
 )
-    requires here { AllByRecursion (λ x. IsPartHere plan.now.params x.0) items.old.items }
-    requires times { AllByRecursion
-        (λ x. timed ≡ true → IsFresh plan.now.params x) items.old.items }
-    ensures { items.new.items
-        ≡ filter (λ x. not (is_stale plan.now.params reading x.0)) items.old.items }
+    requires here { AllByRecursion (IsPartHere plan.now.params) items.old.items }
+    requires ends { AreEnds plan.now.params timed items.old.items ends.old.items }
+    ensures left { items.new.items
+        ≡ filter (λ x. not (is_stale plan.now.params reading x)) items.old.items }
+    ensures ends { EndsStay items.old.items ends.old.items items.new.items ends.new.items }
 {
     for i in (0..items.len()).rev() {
-        if is_stale(&items[i], timed, plan, reading) {
-            items.remove(i);
+        if is_stale(&items[i], ends[i], timed, plan, reading) {
+            take_out(items, ends, i);
         }
     }
 }
 
-/// Whether the play time of a part's visit is over, which it is not before the part's time, if that is the plan's.
-fn is_stale<'a>(x: &(StoredPart<'a>, Micros), timed: bool, plan: &Plan, reading: Micros) -> bool
-    requires here { IsPartHere plan.now.params x.now.0 }
-    requires time { timed ≡ true → IsFresh plan.now.params x.now }
-    ensures { result ≡ is_stale plan.now.params reading x.now.0 }
+/// Whether the play time of a part's visit is over; `timed` says that the end is its end under the plan.
+fn is_stale<'a>(x: &StoredPart<'a>, end: Micros, timed: bool, plan: &Plan, reading: Micros) -> bool
+    requires here { IsPartHere plan.now.params x.now }
+    requires end { timed ≡ true → end ≡ end_of plan.now.params x.now.want }
+    ensures { result ≡ is_stale plan.now.params reading x.now }
 {
-    if timed && reading < x.1 {
-        return false;
+    if timed {
+        end <= reading
+    } else {
+        end_of(x.want, plan) <= reading
     }
-    end_of(&x.0, plan) <= reading
+}
+
+/// A time before which no end comes: the least of them, or the greatest that there is if there is no end.
+fn least_end(ends: &[Micros]) -> Micros
+    ensures { NoneBefore result ends.now }
+{
+    let mut least = u64::MAX;
+    for x in ends {
+        least = least.min(*x);
+    }
+    least
 }
 
 /// Drops all parts of an instance.
-fn drop_instance<'a>(instance: Instance, items: &mut Vec<(StoredPart<'a>, Micros)>)
-    ensures { items.new.items ≡ filter (λ x. not (is_part_of instance x.0)) items.old.items }
+fn drop_instance<'a>(instance: Instance, items: &mut Vec<StoredPart<'a>>, ends: &mut Vec<Micros>)
+    requires { length ends.old.items ≡ length items.old.items }
+    ensures left { items.new.items ≡ filter (λ x. not (is_part_of instance x)) items.old.items }
+    ensures ends { EndsStay items.old.items ends.old.items items.new.items ends.new.items }
 {
-    let number = instance.0;
-    items.retain(|x| x.0.want.instance.0 != number);
+    for i in (0..items.len()).rev() {
+        if is_part_of(instance, &items[i]) {
+            take_out(items, ends, i);
+        }
+    }
+}
+
+/// Whether a part is of an instance.
+fn is_part_of<'a>(instance: Instance, x: &StoredPart<'a>) -> bool
+    ensures { result ≡ is_part_of instance x.now }
+{
+    x.want.instance.0 == instance.0
 }
 
 /// Drops the parts of the pieces of a visit.
-fn drop_pieces<'a>(instance: Instance, visit: Visit, items: &mut Vec<(StoredPart<'a>, Micros)>)
-    ensures { items.new.items
-        ≡ filter (λ x. not (is_piece_part instance visit x.0)) items.old.items }
+fn drop_pieces<'a>(
+    instance: Instance,
+    visit: Visit,
+    items: &mut Vec<StoredPart<'a>>,
+    ends: &mut Vec<Micros>,
+)
+    requires { length ends.old.items ≡ length items.old.items }
+    ensures left { items.new.items
+        ≡ filter (λ x. not (is_piece_part instance visit x)) items.old.items }
+    ensures ends { EndsStay items.old.items ends.old.items items.new.items ends.new.items }
 {
-    items.retain(|x| !is_piece_part(instance, visit, &x.0));
+    for i in (0..items.len()).rev() {
+        if is_piece_part(instance, visit, &items[i]) {
+            take_out(items, ends, i);
+        }
+    }
 }
 
 /// Whether a part is of a piece of a visit.
@@ -199,4 +295,15 @@ fn is_piece_part<'a>(instance: Instance, visit: Visit, x: &StoredPart<'a>) -> bo
     ensures { result ≡ is_piece_part instance visit x.now }
 {
     x.want.instance.0 == instance.0 && x.want.visit == visit && 0 < x.want.piece
+}
+
+/// Takes out the part at a place, with its end.
+fn take_out<'a>(items: &mut Vec<StoredPart<'a>>, ends: &mut Vec<Micros>, i: usize)
+    requires part { i < length items.old.items }
+    requires end { i < length ends.old.items }
+    ensures parts { items.new.items ≡ remove items.old.items i }
+    ensures ends { ends.new.items ≡ remove ends.old.items i }
+{
+    items.remove(i);
+    ends.remove(i);
 }

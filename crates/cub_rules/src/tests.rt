@@ -1,4 +1,4 @@
-//! What a cub keeps at first, and which of its stored parts it forgets.
+//! What a cub keeps at first, and which of its stored parts it finds and forgets.
 ghost use Rattle.std.specs.Prelude.{◌≡◌, ◌≤◌, ◌<◌, IfOk};
 
 use crate::{Store, StoredPart, StoredParts};
@@ -43,6 +43,21 @@ fn library(alloc: Global) -> Result<Library, NoMemory> {
     Ok(Library::new(files))
 }
 
+/// A piece of visit 0 of a slot for an instance.
+fn want_of(instance: u32, slot: u32) -> Want
+    ensures slot { result.slot.0 ≡ slot }
+    ensures visit { result.visit ≡ 0 }
+{
+    Want {
+        instance: Instance(instance),
+        slot: SlotNo(slot),
+        visit: 0,
+        file: FileNo(0),
+        block: 0,
+        piece: 1,
+    }
+}
+
 /// A part of visit 0 of slot 1 for an instance.
 fn part_of<'a>(library: &'a Library, instance: u32) -> Result<StoredPart<'a>, Fail>
     ensures slot { IfOk result (λ x. x.want.slot.0 ≡ 1) }
@@ -53,14 +68,7 @@ fn part_of<'a>(library: &'a Library, instance: u32) -> Result<StoredPart<'a>, Fa
         from: 0,
         len: 0,
     };
-    let want = Want {
-        instance: Instance(instance),
-        slot: SlotNo(1),
-        visit: 0,
-        file: FileNo(0),
-        block: 0,
-        piece: 1,
-    };
+    let want = want_of(instance, 1);
     let part = Part::of(library, span, b"").ok_or("no part")?;
     Ok(StoredPart { want, part })
 }
@@ -149,6 +157,48 @@ fn parts_are_dropped_by_instance(rt: HostRuntime) -> Result<(), Fail> {
     let library = library(rt.alloc())?;
     for (instance, other, left) in [(6, 6, 3), (7, 6, 1), (8, 6, 2), (6, 7, 1), (7, 8, 0)] {
         assert_eq!(rt; dropped(rt.alloc(), &library, instance, other)?, left);
+    }
+    Ok(())
+}
+
+/// Whether a part is found for an instance and a slot, if the parts are begun with a first plan, and two parts of visit
+/// 0 of slot 1 come under a second, for instances 7 and 8.
+fn found<'a>(
+    alloc: Global,
+    library: &'a Library,
+    first: &Plan,
+    came: &Plan,
+    instance: u32,
+    slot: u32,
+) -> Result<bool, Fail>
+    requires { 1 < came.now.params.slots }
+{
+    let mut parts = StoredParts::new(alloc, first);
+    parts.push(came, part_of(library, 7)?)?;
+    parts.push(came, part_of(library, 8)?)?;
+    Ok(parts.part_for(want_of(instance, slot)).is_some())
+}
+
+#[test]
+fn parts_are_found_by_all_of_what_was_asked(rt: HostRuntime) -> Result<(), Fail> {
+    let library = library(rt.alloc())?;
+    let half = plan(16);
+    let quarter = plan(32);
+    for (instance, slot, is_there) in [
+        (7, 1, true),
+        (8, 1, true),
+        (9, 1, false),
+        (8, 2, false),
+        (8, 16, false),
+    ] {
+        assert_eq!(rt;
+            found(rt.alloc(), &library, &half, &half, instance, slot)?,
+            is_there
+        );
+        assert_eq!(rt;
+            found(rt.alloc(), &library, &half, &quarter, instance, slot)?,
+            is_there
+        );
     }
     Ok(())
 }

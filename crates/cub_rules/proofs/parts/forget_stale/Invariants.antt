@@ -1,10 +1,6 @@
-use Rattle.std.proofs.Common.{◌≡◌, ◌≤◌, ◌++◌, length, take, drop, not}
-use Rattle.std.specs.List.{filter}
 use Rattle.cub_rules.specs.Ticks.{is_stale}
+use Rattle.cub_rules.proofs.TakingOut.{IsLeft}
 use Rattle.cub_rules.proofs.parts.forget_stale.Given as goal
 
 abbrev pub invariant-loop-i : goal.invariant-loop-i
-invariant-loop-i l = record {
-  bound : l.i ≤ length l.fn.items.items;
-  rest : l.items.items ≡ take l.i l.fn.items.items ++ filter (λ x. not (is_stale l.plan.params l.reading x.0)) (drop l.i l.fn.items.items);
-}
+invariant-loop-i l = IsLeft (is_stale l.plan.params l.reading) l.fn.items.items l.fn.ends.items l.items.items l.ends.items l.i
