@@ -13,13 +13,14 @@ use crate::store::StoredPart;
 use mirror_schedule::has_same_times;
 use slot_plan::Plan;
 use std::alloc::Global;
+use std::collections::VecDeque;
 use std::marker::Model;
 use tiger_base::{Instance, MOST_VISIT, Micros, NoMemory, Part, Visit, Want};
 
 /// The parts that are stored, in the order in which they came, seen as this list.
 #[derive(Drop)]
 pub struct StoredParts<'a> {
-    items: Vec<StoredPart<'a>>,
+    items: VecDeque<StoredPart<'a>>,
     // For each part the end of its visit's play time: a walk over these numbers reads far less than one over the parts.
     ends: Vec<Micros>,
     plan: Plan,
@@ -48,7 +49,7 @@ impl<'a> StoredParts<'a> {
         ensures { result ≡ [] }
     {
         StoredParts {
-            items: Vec::new(alloc),
+            items: VecDeque::new(alloc),
             ends: Vec::new(alloc),
             plan: *plan,
             timed: true,
@@ -75,14 +76,9 @@ impl<'a> StoredParts<'a> {
         ensures { result ≡ stored_for want self.now }
     {
         if self.timed && is_here(want, &self.plan) {
-            find_by_end(
-                want,
-                &self.plan,
-                self.items.as_slice(),
-                self.ends.as_slice(),
-            )
+            find_by_end(want, &self.plan, &self.items, self.ends.as_slice())
         } else {
-            find_part(want, self.items.as_slice())
+            find_part(want, &self.items)
         }
     }
 
@@ -150,15 +146,16 @@ fn end_of(want: Want, plan: &Plan) -> Micros
 fn find_by_end<'a>(
     want: Want,
     plan: &Plan,
-    items: &[StoredPart<'a>],
+    items: &VecDeque<StoredPart<'a>>,
     ends: &[Micros],
 ) -> Option<Part<'a>>
     requires here { IsTrue (is_place plan.now.params want.slot.0 want.visit) }
-    requires ends { ends.now ≡ ends_of plan.now.params items.now }
-    ensures { result ≡ stored_for want items.now }
+    requires ends { ends.now ≡ ends_of plan.now.params items.now.items }
+    ensures { result ≡ stored_for want items.now.items }
 {
     let end = end_of(want, plan);
-    for (i, x) in items.iter().enumerate() {
+    for i in 0..items.len() {
+        let x = &items[i];
         if ends[i] == end && x.want == want {
             return Some(x.part.again());
         }
@@ -168,10 +165,11 @@ fn find_by_end<'a>(
 
 /// The first part that is for a want.
 #[tactic(auto, unfolding(crate::specs::Records::stored_for))]
-fn find_part<'a>(want: Want, items: &[StoredPart<'a>]) -> Option<Part<'a>>
-    ensures { result ≡ stored_for want items.now }
+fn find_part<'a>(want: Want, items: &VecDeque<StoredPart<'a>>) -> Option<Part<'a>>
+    ensures { result ≡ stored_for want items.now.items }
 {
-    for x in items {
+    for i in 0..items.len() {
+        let x = &items[i];
         if x.want == want {
             return Some(x.part.again());
         }
@@ -181,7 +179,7 @@ fn find_part<'a>(want: Want, items: &[StoredPart<'a>]) -> Option<Part<'a>>
 
 /// Puts a part and its end behind the others; without memory for both, nothing changes.
 fn push<'a>(
-    items: &mut Vec<StoredPart<'a>>,
+    items: &mut VecDeque<StoredPart<'a>>,
     ends: &mut Vec<Micros>,
     stored: StoredPart<'a>,
     end: Micros,
@@ -192,7 +190,7 @@ fn push<'a>(
     ensures no_end { OnErr result (ends.new.items ≡ ends.old.items) }
 {
     ends.push(end)?;
-    if items.push(stored).is_err() {
+    if items.push_back(stored).is_err() {
         ends.pop();
         return Err(NoMemory);
     }
@@ -208,7 +206,7 @@ fn are_timed(timed: bool, own: &Plan, plan: &Plan) -> bool
 
 /// Forgets the parts whose play time is over; `timed` says that the ends are those under the plan.
 fn forget_stale<'a>(
-    items: &mut Vec<StoredPart<'a>>,
+    items: &mut VecDeque<StoredPart<'a>>,
     ends: &mut Vec<Micros>,
     timed: bool,
     plan: &Plan,
@@ -252,7 +250,11 @@ fn least_end(ends: &[Micros]) -> Micros
 }
 
 /// Drops all parts of an instance.
-fn drop_instance<'a>(instance: Instance, items: &mut Vec<StoredPart<'a>>, ends: &mut Vec<Micros>)
+fn drop_instance<'a>(
+    instance: Instance,
+    items: &mut VecDeque<StoredPart<'a>>,
+    ends: &mut Vec<Micros>,
+)
     requires { length ends.old.items ≡ length items.old.items }
     ensures left { items.new.items ≡ filter (λ x. not (is_part_of instance x)) items.old.items }
     ensures ends { EndsStay items.old.items ends.old.items items.new.items ends.new.items }
@@ -275,7 +277,7 @@ fn is_part_of<'a>(instance: Instance, x: &StoredPart<'a>) -> bool
 fn drop_pieces<'a>(
     instance: Instance,
     visit: Visit,
-    items: &mut Vec<StoredPart<'a>>,
+    items: &mut VecDeque<StoredPart<'a>>,
     ends: &mut Vec<Micros>,
 )
     requires { length ends.old.items ≡ length items.old.items }
@@ -298,7 +300,7 @@ fn is_piece_part<'a>(instance: Instance, visit: Visit, x: &StoredPart<'a>) -> bo
 }
 
 /// Takes out the part at a place, with its end.
-fn take_out<'a>(items: &mut Vec<StoredPart<'a>>, ends: &mut Vec<Micros>, i: usize)
+fn take_out<'a>(items: &mut VecDeque<StoredPart<'a>>, ends: &mut Vec<Micros>, i: usize)
     requires part { i < length items.old.items }
     requires end { i < length ends.old.items }
     ensures parts { items.new.items ≡ remove items.old.items i }
