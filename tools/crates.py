@@ -3,12 +3,16 @@
 Python 3.8 or later, and nothing but its standard library.
 """
 import os
+import re
 import shutil
 
 from launch import CRATE, TOP
 
 TOP_CRATE = os.path.basename(CRATE)
 PARTS = ("src", "specs", "proofs")
+
+# A module that is compiled for tests alone, as a crate declares it at its top: in files of its own, or in braces.
+OF_TESTS = re.compile(r"^#\[cfg\(test\)\]\nmod (\w+)(?:;\n| \{\n(?:(?!\}).*\n)*\}\n)", re.M)
 
 
 def used_by():
@@ -41,6 +45,29 @@ def copy(names, top, parts=PARTS):
     shutil.copy(os.path.join(TOP, "HANDLES"), top)
     with open(os.path.join(TOP, "crates.txt")) as listed, open(os.path.join(top, "crates.txt"), "w") as file:
         file.writelines(line for line in listed if set(names).intersection(line.partition(":")[0].split()[:1]))
+
+
+def leave_out_tests(names, top):
+    """Takes the modules that are compiled for tests alone out of a copy of these crates."""
+    for name in names:
+        crate = os.path.join(top, "crates", name)
+        for source in (os.path.join(crate, "src", it) for it in ("lib.rt", "main.rt")):
+            if os.path.isfile(source):
+                with open(source, encoding="utf-8") as file:
+                    text = file.read()
+                with open(source, "w", encoding="utf-8") as file:
+                    file.write(OF_TESTS.sub("", text).rstrip("\n") + "\n")
+                for module in OF_TESTS.findall(text):
+                    remove_module(module, crate)
+
+
+def remove_module(module, crate):
+    """Removes the files of a module, and the proofs of its functions."""
+    file = os.path.join(crate, "src", module + ".rt")
+    if os.path.isfile(file):
+        os.remove(file)
+    for part in ("src", "proofs"):
+        shutil.rmtree(os.path.join(crate, part, module), ignore_errors=True)
 
 
 def lines_of(name, ending):
