@@ -1,6 +1,7 @@
 -- What halving finds: the place of a visit's line, and what the calls of a view make of it.
-use Rattle.std.proofs.Common.{◌≡◌, ℕ, ◌+◌, ◌<◌, ◌≤◌, zero, suc, Bool, true, false, cond, List, [], ◌∷◌, ◌++◌, length, get_or, refl, sym, ap, subst, ◌∙◌, arith, length-append}
+use Rattle.std.proofs.Common.{◌≡◌, ℕ, ◌+◌, ◌==◌, ◌<◌, ◌≤◌, zero, suc, Bool, true, false, not, cond, List, [], ◌∷◌, ◌++◌, length, get_or, refl, sym, ap, subst, ◌∙◌, arith, length-append}
 use Rattle.std.specs.List.{AllByRecursion}
+use Rattle.std.proofs.lemmas.Bool.Decides.{nat_tests}
 use Rattle.std.proofs.lemmas.List.{get_or_at}
 use Rattle.slot_plan.specs.declared.params.Params.{Params}
 use Rattle.slot_plan.specs.Keys.{Key, is_earlier}
@@ -132,6 +133,22 @@ above_by p k lines i d j e w l is h =
 pub below_by : (p : Params) (k : Key) (lines : List Line) (i : ℕ) (d : Line) (j : Key) {t : Bool} → j ≡ key_of (get_or lines i d) → IsWalk p lines → i < length lines
     → t ≡ is_earlier p j k → t ≡ false → place_of p k lines ≤ i
 below_by p k lines i d j e w l is h = place_below p k lines i d w l (subst (λ (x : Key). is_earlier p x k ≡ false) e (sym is ∙ h))
+
+-- no line comes before a visit exactly if there is none, or the first does not
+pub none_there : (p : Params) (k : Key) (lines : List Line) → length lines ≡ 0 → true ≡ (place_of p k lines == 0)
+unfolding place_of
+none_there p k [] none = refl
+none_there p k (x ∷ xs) none = absurd (omega (arith, none))
+
+zero_if_not : (b : Bool) (n : ℕ) → not b ≡ (cond b (suc n) zero == 0)
+zero_if_not true n = grind (arith, nat_tests)
+zero_if_not false n = refl
+
+pub first_tells : (p : Params) (k : Key) (lines : List Line) (d : Line) (j : Key) {t : Bool} → j ≡ key_of (get_or lines 0 d) → 0 < length lines → t ≡ is_earlier p j k → not t ≡ (place_of p k lines == 0)
+unfolding place_of
+first_tells p k [] d j e some is = absurd (omega (arith, some))
+first_tells p k (x ∷ xs) d j e some is =
+    ap not (is ∙ ap (λ (y : Key). is_earlier p y k) e) ∙ zero_if_not (is_earlier p (key_of x) k) (place_of p k xs)
 
 -- what a comparison with the line at the place says
 module _ (p : Params) (k : Key) (lines : List Line) (i : ℕ) (w : IsWalk p lines) (is : i ≡ place_of p k lines) where

@@ -1,5 +1,5 @@
 //! A cub's records by slot and visit, kept as one list in the order of their due times.
-ghost use Rattle.std.specs.Prelude.{◌≡◌, ℕ, ◌^◌, ◌≤◌, ◌<◌, [], IfOk, OnOk, OnErr, IfErr, IfSome, Some, MatchResult, option_map, is_some, count_by, slice_get};
+ghost use Rattle.std.specs.Prelude.{◌≡◌, ◌==◌, ℕ, ◌^◌, ◌≤◌, ◌<◌, [], IfOk, OnOk, OnErr, IfErr, IfSome, Some, MatchResult, option_map, is_some, count_by, slice_get};
 ghost use Rattle.std.specs.List.{AllByRecursion};
 ghost use Rattle.std.specs.Option.{ForSome};
 ghost use Rattle.tiger_base.specs.Limits.{most_reading};
@@ -307,6 +307,10 @@ fn first_not_before(lines: &TimedLines, key: (SlotNo, Visit), due: Micros) -> us
     requires walk { IsWalk lines.now.params lines.now.lines }
     ensures { result ≡ place_of lines.now.params key lines.now.lines }
 {
+    // The visit that is served next stands first.
+    if comes_first(lines, key, due) {
+        return 0;
+    }
     let mut low = 0;
     let mut high = lines.len();
     while low < high {
@@ -319,6 +323,19 @@ fn first_not_before(lines: &TimedLines, key: (SlotNo, Visit), due: Micros) -> us
         }
     }
     low
+}
+
+/// Whether no line comes before a visit whose due time is at hand.
+fn comes_first(lines: &TimedLines, key: (SlotNo, Visit), due: Micros) -> bool
+    requires due { due ≡ due_of lines.now.params key }
+    requires walk { IsWalk lines.now.params lines.now.lines }
+    ensures { result ≡ (place_of lines.now.params key lines.now.lines == 0) }
+{
+    if lines.len() == 0 {
+        return true;
+    }
+    let there = lines.at(0);
+    !is_before(there.due, there.line.key(), due, key)
 }
 
 /// How many lines are due before a time, found by halving.
