@@ -1,13 +1,17 @@
 -- What the ends of play times say of the parts beside them.
-use Rattle.std.proofs.Common.{◌≡◌, ℕ, ◌+◌, ◌<◌, ◌≤◌, ◌&&◌, Bool, true, false, not, List, [], ◌∷◌, ◌++◌, length, get_or, take, refl, ap, ap₂, subst, sym, ◌∙◌, arith}
+use Rattle.std.proofs.Common.{◌≡◌, ℕ, ◌+◌, ◌<◌, ◌≤◌, ◌&&◌, Bool, true, false, not, List, [], ◌∷◌, ◌++◌, length, get_or, take, drop, refl, ap, ap₂, subst, sym, ◌∙◌, arith}
 use Rattle.std.specs.List.{AllByRecursion, filter}
-use Rattle.std.proofs.lemmas.Bool.{and_parts, lt-leb}
-use Rattle.std.proofs.lemmas.List.{get_or-map, length_push, map_push, take_more}
+use Rattle.std.proofs.lemmas.Bool.{and_parts, eqb-true, lt-leb}
+use Rattle.std.proofs.lemmas.List.{drop_more, get_or-map, length-map, length_push, map_push, take_more}
+use Rattle.tiger_base.specs.declared.tenancy.Want.{Want}
+use Rattle.tiger_base.specs.Records.{same_want}
 use Rattle.slot_plan.specs.declared.params.Params.{Params}
+use Rattle.slot_plan.specs.Times.{due}
 use Rattle.mirror_schedule.specs.Timed.{has_same_times}
 use Rattle.mirror_schedule.proofs.Timed.{all_stay, ends_alike}
 use Rattle.cub_rules.specs.declared.store.StoredPart.{StoredPart}
 use Rattle.cub_rules.specs.Fresh.{end_of, ends_of, NoneBefore, AreEnds, AreKept}
+use Rattle.cub_rules.specs.Records.{stored_for}
 use Rattle.cub_rules.specs.Ticks.{is_stale}
 
 -- the end at a place is that of the part there
@@ -16,6 +20,40 @@ end_at p xs es i x e is l part end =
     end
     ∙ (ap (λ (ns : List ℕ). get_or ns i e) is
     ∙ (get_or-map (λ (y : StoredPart). end_of p y.want) xs i x e l ∙ ap (λ (y : StoredPart). end_of p y.want) (sym part)))
+
+-- there are as many ends as parts
+pub as_many : (p : Params) (xs : List StoredPart) (es : List ℕ) → es ≡ ends_of p xs → length es ≡ length xs
+as_many p xs es is = ap (λ (ns : List ℕ). length ns) is ∙ length-map xs (λ (x : StoredPart). end_of p x.want)
+
+false_unless : (b : Bool) → ¬ (b ≡ true) → b ≡ false
+false_unless true never = absurd (never refl)
+false_unless false never = refl
+
+-- a part that is for another want is passed over
+passed : (want : Want) (x : StoredPart) (xs : List StoredPart) → same_want want x.want ≡ false → stored_for want xs ≡ stored_for want (x ∷ xs)
+unfolding stored_for
+passed want x xs other = rw other refl
+
+pub other_want : (want : Want) (xs : List StoredPart) (i : ℕ) (d : StoredPart) → i < length xs → same_want want (get_or xs i d).want ≡ false → stored_for want (drop (i + 1) xs) ≡ stored_for want (drop i xs)
+other_want want xs i d l other = passed want (get_or xs i d) (drop (i + 1) xs) other ∙ ap (λ (ys : List StoredPart). stored_for want ys) (sym (drop_more xs i d l))
+
+same_ends : (p : Params) (a b : Want) → same_want a b ≡ true → end_of p a ≡ end_of p b
+same_ends p a b same =
+    let piece = and_parts _ _ same in
+    let block = and_parts _ _ piece.0 in
+    let file = and_parts _ _ block.0 in
+    let visit = and_parts _ _ file.0 in
+    let slot = and_parts _ _ visit.0 in
+    ap₂ (λ (s v : ℕ). due p s v + p.play) (eqb-true _ _ slot.1) (eqb-true _ _ visit.1)
+
+-- and so is one whose visit has another end
+pub other_end : (p : Params) (want : Want) (end : ℕ) (xs : List StoredPart) (es : List ℕ) (i e : ℕ) → end ≡ end_of p want → es ≡ ends_of p xs → i < length es → ¬ (get_or es i e ≡ end)
+    → stored_for want (drop (i + 1) xs) ≡ stored_for want (drop i xs)
+other_end p want end [] es i e at is l differs = absurd (omega (arith, l, ap (λ (ns : List ℕ). length ns) is))
+other_end p want end (x ∷ xs) es i e at is l differs =
+    let here : i < length (x ∷ xs) = omega (arith, l, as_many p (x ∷ xs) es is) in
+    let there : get_or es i e ≡ end_of p (get_or (x ∷ xs) i x).want = ap (λ (ns : List ℕ). get_or ns i e) is ∙ get_or-map (λ (y : StoredPart). end_of p y.want) (x ∷ xs) i x e here in
+    other_want want (x ∷ xs) i x here (false_unless (same_want want (get_or (x ∷ xs) i x).want) (λ same. differs (there ∙ sym (at ∙ same_ends p want (get_or (x ∷ xs) i x).want same))))
 
 -- if the plans are the same in the numbers that times come of, the ends are those under the other one
 all_alike : (p q : Params) (xs : List StoredPart) → has_same_times p q ≡ true → ends_of p xs ≡ ends_of q xs

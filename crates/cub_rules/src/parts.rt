@@ -1,6 +1,7 @@
 //! The parts that a cub has stored, and the ends of their play times, by which they are found and forgotten.
 ghost use Rattle.std.specs.Prelude.{◌≡◌, ◌<◌, ◌==◌, ◌&&◌, ◌++◌, ◌∷◌, [], true, IsTrue, OnOk, OnErr, length, not};
 ghost use Rattle.std.specs.List.{AllByRecursion, filter, remove};
+ghost use Rattle.tiger_base.specs.Records.{same_want};
 ghost use Rattle.mirror_schedule.specs.Timed.{has_same_times};
 ghost use Rattle.node_kit.specs.Form.{is_place};
 ghost use Rattle.cub_rules.specs.Fresh.{end_of, ends_of, AreEnds, EndsStay, NoneBefore};
@@ -141,7 +142,7 @@ fn end_of(want: Want, plan: &Plan) -> Micros
 }
 
 /// The first part that is for a want, by the ends under a plan: only a part with the end of the want's visit can be for
-/// it, so the wants of the others are not compared.
+/// it, so the others are not looked at.
 #[tactic(auto, unfolding(crate::specs::Records::stored_for))]
 fn find_by_end<'a>(
     want: Want,
@@ -154,10 +155,9 @@ fn find_by_end<'a>(
     ensures { result ≡ stored_for want items.now.items }
 {
     let end = end_of(want, plan);
-    for i in 0..items.len() {
-        let x = &items[i];
-        if ends[i] == end && x.want == want {
-            return Some(x.part.again());
+    for (i, x) in ends.iter().enumerate() {
+        if *x == end && is_for(want, &items[i]) {
+            return Some(items[i].part.again());
         }
     }
     None
@@ -170,11 +170,18 @@ fn find_part<'a>(want: Want, items: &VecDeque<StoredPart<'a>>) -> Option<Part<'a
 {
     for i in 0..items.len() {
         let x = &items[i];
-        if x.want == want {
+        if is_for(want, x) {
             return Some(x.part.again());
         }
     }
     None
+}
+
+/// Whether a part is for a want.
+fn is_for<'a>(want: Want, x: &StoredPart<'a>) -> bool
+    ensures { result ≡ same_want want x.now.want }
+{
+    x.want == want
 }
 
 /// Puts a part and its end behind the others; without memory for both, nothing changes.
