@@ -81,7 +81,8 @@ fn put_at<'a>(
 }
 
 /// Puts the starts that wait for a disk, as long as a visit of it is free. Once none is, the visits
-/// are not looked at again until one may be.
+/// are not looked at again until one may be; once no start waits for the disk, the starts are not,
+/// until one does.
 fn put_on<'a>(
     site: &Site,
     reading: Micros,
@@ -106,13 +107,14 @@ fn put_on<'a>(
     while let Some(ask) = store.starts.next(disk) {
         let Some((slot, visit)) = free_on(site, reading, disk, store) else {
             store.view.set_full(disk, reading);
-            break;
+            return Ok(());
         };
         // The call tells that the instance has no other start.
         prove!(store.starts.is_asked(ask.instance));
         let tenancy = tenancy_from(ask, slot, visit);
         put(site, tenancy, kind, store, out)?;
     }
+    store.starts.note_none(disk);
     Ok(())
 }
 

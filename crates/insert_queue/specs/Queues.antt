@@ -1,6 +1,6 @@
 -- The starts that a cub keeps, as two lists, and what happens to them.
-use Rattle.std.specs.Prelude.{◌≡◌, Bool, false, ◌==◌, ◌||◌, not, List, [], ◌∷◌, ◌++◌, Option, find, filter, if◌then◌else◌}
-use Rattle.std.specs.List.{list_any}
+use Rattle.std.specs.Prelude.{◌≡◌, Bool, true, false, ◌==◌, ◌||◌, not, List, [], ◌∷◌, ◌++◌, Option, find, filter, if◌then◌else◌}
+use Rattle.std.specs.List.{list_any, AllByRecursion}
 use Rattle.tiger_base.specs.declared.number.Instance.{Instance}
 use Rattle.tiger_base.specs.declared.number.DiskNo.{DiskNo}
 use Rattle.tiger_base.specs.declared.tenancy.Ask.{Ask}
@@ -52,3 +52,18 @@ IsOnce (a ∷ rest) = (has_start rest a.instance ≡ false) × IsOnce rest
 -- the oldest start that waits for a disk
 abbrev pub oldest_for : List Ask → DiskNo → Option Ask
 oldest_for asks disk = find (λ a. a.disk.0 == disk.0) asks
+
+abbrev pub is_disk : DiskNo → DiskNo → Bool
+is_disk disk d = d.0 == disk.0
+
+-- whether a disk stands in a list
+abbrev pub has_disk : List DiskNo → DiskNo → Bool
+has_disk disks disk = list_any (is_disk disk) disks
+
+-- each disk of a list stands in another one
+abbrev pub AllStay : List DiskNo → List DiskNo → Type 0
+AllStay old new = (disk : DiskNo) → has_disk old disk ≡ true → has_disk new disk ≡ true
+
+-- each start is for one of the disks
+abbrev pub AreFor : List DiskNo → List Ask → Type 0
+AreFor disks asks = AllByRecursion (λ a. has_disk disks a.disk ≡ true) asks

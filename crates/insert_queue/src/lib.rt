@@ -1,6 +1,7 @@
 //! The starts that a cub keeps until it puts them into the schedule.
 #![tactic(auto)]
 
+mod disks;
 mod starts;
 
 pub use starts::{Gave, Starts};
@@ -54,6 +55,33 @@ mod tests {
         }
         assert!(rt; !starts.is_asked(Instance(4)) && starts.is_asked(Instance(3)));
         assert_eq!(rt; starts.next(DiskNo(2)), Some(new));
+        Ok(())
+    }
+
+    /// The next start of a disk; if there is none, that is kept in mind.
+    fn next(starts: &mut Starts, disk: DiskNo) -> Option<Ask> {
+        let Some(ask) = starts.next(disk) else {
+            starts.note_none(disk);
+            return None;
+        };
+        Some(ask)
+    }
+
+    #[test]
+    fn next_start_of_a_disk_is_found_after_none_was(rt: HostRuntime) -> Result<(), Fail> {
+        let mut starts = Starts::new(rt.alloc());
+        let (one, other, late) = (start(0, 3), start(1, 5), start(2, 3));
+        assert_eq!(rt; next(&mut starts, DiskNo(3)), None);
+        assert!(rt; starts.ask(one)? && starts.ask_redundant(other)?);
+        assert_eq!(rt; next(&mut starts, DiskNo(3)), Some(one));
+        assert_eq!(rt; next(&mut starts, DiskNo(5)), None);
+        starts.drop_instance(Instance(0));
+        assert_eq!(rt; next(&mut starts, DiskNo(3)), None);
+        assert_eq!(rt; starts.take_over()?, 1);
+        assert_eq!(rt; next(&mut starts, DiskNo(5)), Some(other));
+        assert_eq!(rt; next(&mut starts, DiskNo(3)), None);
+        assert!(rt; starts.ask(late)?);
+        assert_eq!(rt; next(&mut starts, DiskNo(3)), Some(late));
         Ok(())
     }
 }

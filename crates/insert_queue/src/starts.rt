@@ -1,7 +1,8 @@
 //! The starts that wait for a free visit, and those that wait for the predecessor's death.
-ghost use Rattle.std.specs.Prelude.{◌≡◌, ◌==◌, [], ◌++◌, IfOk, OnOk, OnErr, length, not, false};
+ghost use Rattle.std.specs.Prelude.{◌≡◌, ◌==◌, [], ◌++◌, IfOk, OnOk, OnErr, None, length, not, false};
 ghost use Rattle.insert_queue.specs.Queues.{has_start, is_asked, with_waiting, with_redundant, without, without_start, after_take_over, oldest_for, IsOnce};
 
+use crate::disks::{has_disk, put_all_in, put_in, take_out};
 use std::alloc::Global;
 use std::marker::Model;
 use tiger_base::{Ask, DiskNo, Instance, NoMemory};
@@ -20,17 +21,20 @@ pub struct Gave {
 pub struct Starts {
     waiting: Vec<Ask>,
     redundant: Vec<Ask>,
+    // Each waiting start is for one of these disks, so that `next` of another one walks over no start.
+    disks: Vec<DiskNo>,
 }
 
 impl Model for Starts {
     ghost use Rattle.std.specs.Prelude.{◌++◌};
-    ghost use Rattle.insert_queue.specs.Queues.{Queues, IsOnce};
+    ghost use Rattle.insert_queue.specs.Queues.{Queues, IsOnce, AreFor};
 
     ghost Value = { Queues };
 
     ghost view = { λ s. record { waiting = s.waiting.items; redundant = s.redundant.items } };
 
-    ghost invariant = { λ s. IsOnce (s.waiting.items ++ s.redundant.items) };
+    ghost invariant = { λ s. IsOnce (s.waiting.items ++ s.redundant.items)
+        × AreFor s.disks.items s.waiting.items };
 }
 
 impl Starts {
@@ -41,6 +45,7 @@ impl Starts {
         Starts {
             waiting: Vec::new(alloc),
             redundant: Vec::new(alloc),
+            disks: Vec::new(alloc),
         }
     }
 
@@ -54,6 +59,7 @@ impl Starts {
         if self.is_asked(ask.instance) {
             return Ok(false);
         }
+        put_in(&mut self.disks, ask.disk)?;
         self.waiting.push(ask)?;
         Ok(true)
     }
@@ -111,6 +117,7 @@ impl Starts {
         ensures err { OnErr result (self.new ≡ self.old) }
     {
         let moved = self.redundant.len() as u64;
+        put_all_in(&mut self.disks, &self.redundant)?;
         self.waiting.extend_from_slice(&self.redundant)?;
         self.redundant.clear();
         Ok(moved)
@@ -127,7 +134,18 @@ impl Starts {
     pub fn next(&self, disk: DiskNo) -> Option<Ask>
         ensures { result ≡ oldest_for self.now.waiting disk }
     {
+        if !has_disk(&self.disks, disk) {
+            return None;
+        }
         oldest_for(&self.waiting, disk)
+    }
+
+    /// Keeps in mind that no start waits for a disk: until one does, `next` of it walks over none.
+    pub fn note_none(&mut self, disk: DiskNo)
+        requires none { oldest_for self.old.waiting disk ≡ None }
+        ensures { self.new ≡ self.old }
+    {
+        take_out(&mut self.disks, disk);
     }
 }
 

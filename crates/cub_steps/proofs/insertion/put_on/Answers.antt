@@ -3,6 +3,7 @@ use Rattle.std.proofs.lemmas.Bool.{both_ways}
 use Rattle.slot_plan.specs.Keys.{Key}
 use Rattle.node_kit.specs.Deeds.{Did}
 use Rattle.partial_view.specs.Views.{Seen}
+use Rattle.insert_queue.specs.Queues.{Queues}
 use Rattle.cub_rules.specs.State.{IsAsk}
 use Rattle.cub_rules.specs.Ticks.{putting_on}
 use Rattle.cub_steps.specs.Placing.{putting_by}
@@ -55,7 +56,9 @@ returns-in_default-free_on-clause-did c =
     (all_taken c.args.kind p c.args.site.now.cub.0 c.args.reading c.args.disk c.args.store.now c.args.out.now c.loop-ask.store c.loop-ask.out c.loop-ask.invariant.comes
     c.in_default-free_on.ensures.free)
 
-pub returns-in_default-clause-did : goal.returns-in_default-clause-did
-returns-in_default-clause-did c =
-    all_put c.args.kind c.args.site.now.plan.params c.args.site.now.cub.0 c.args.reading c.args.disk c.args.store.now c.args.out.now c.loop-ask.store c.loop-ask.out c.loop-ask.invariant.comes
-    (sym c.in_default.ensures)
+pub returns-clause-did : goal.returns-clause-did
+returns-clause-did c =
+    let p = c.args.site.now.plan.params in
+    subst (λ (q : Queues). Did (putting_on (putting_by c.args.kind p c.args.site.now.cub.0) p c.args.reading c.args.disk.0 c.args.store.now) c.args.out.now c.loop-ask.out (record c.loop-ask.store { starts = q })) (sym c.note_none.ensures)
+    (all_put c.args.kind p c.args.site.now.cub.0 c.args.reading c.args.disk c.args.store.now c.args.out.now c.loop-ask.store c.loop-ask.out c.loop-ask.invariant.comes
+    (sym c.in_default.ensures))

@@ -5,5 +5,7 @@ use Rattle.insert_queue.proofs.starts.Starts.ask_redundant.Goals as goal
 
 pub invariant_of-self-2 : goal.invariant_of-self-2
 invariant_of-self-2 c =
-    let e : is_asked c.args.self.now c.args.ask.instance ≡ false = cc in
-    rw c.in_ok-push.ensures.items (IsOnce-end c.self.inside.waiting.items c.self.inside.redundant.items c.args.ask c.self.invariant (subst (λ (q : Queues). is_asked q c.args.ask.instance ≡ false) (sym c.self.view_is) e))
+    let e : is_asked c.args.self.now c.args.ask.instance ≡ false = cc in (
+      rw c.in_ok-push.ensures.items (IsOnce-end c.self.inside.waiting.items c.self.inside.redundant.items c.args.ask c.self.invariant.0 (subst (λ (q : Queues). is_asked q c.args.ask.instance ≡ false) (sym c.self.view_is) e)),
+      c.self.invariant.1,
+    )
