@@ -11,6 +11,10 @@ use tiger_base::{Message, NoMemory};
 /// After this many rounds in which nothing moved, a worker yields its processor instead of spinning.
 const MOST_SPINS: u32 = 64;
 
+/// After this many rounds in which nothing of its own share moved, a worker looks at the cells of the others too. Before
+/// that they are most likely about to move by themselves, and a look would only take them out of their worker's cache.
+const OWN_ROUNDS: u32 = 16;
+
 /// The order in which the cells of so many nodes are visited: each cub with its disks, and the controller and the
 /// viewers last. A cub and its disks wait for each other in every beat, so one worker had better move all of them.
 pub(crate) fn order_of_visits(
@@ -64,9 +68,9 @@ pub(crate) fn work<M: Message, T: Node<M>, W: Named<T>, R: Wait>(
     last: usize,
 ) {
     let mut done = 0;
-    let mut idle = 0;
+    let mut idle = 0u32;
     for _ in rt.forever() {
-        match round(rt, cells, order, first, last, &mut done) {
+        match round(rt, cells, order, first, last, idle, &mut done) {
             Ok(true) => idle = 0,
             Ok(false) if done >= order.len() => return,
             Ok(false) => idle = pause(idle),
@@ -75,17 +79,21 @@ pub(crate) fn work<M: Message, T: Node<M>, W: Named<T>, R: Wait>(
     }
 }
 
-// Visits the worker's own share, and all cells if none of the share moved. The answer is whether a cell moved.
+// Visits the worker's own share, and all cells if none of the share moved for a while. The answer is whether a cell moved.
 fn round<M: Message, T: Node<M>, W: Named<T>, R: Wait>(
     rt: &R,
     cells: &Locks<M, T, W>,
     order: &[usize],
     first: usize,
     last: usize,
+    idle: u32,
     done: &mut usize,
 ) -> Result<bool, NoMemory> {
     if visit_all(rt, cells, order, first, last, done)? {
         return Ok(true);
+    }
+    if idle < OWN_ROUNDS {
+        return Ok(false);
     }
     visit_all(rt, cells, order, 0, order.len(), done)
 }
