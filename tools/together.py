@@ -1,0 +1,151 @@
+"""Edits of the bodies of different functions of a crate, tried in one check for tools/wrong-bodies.
+
+A function is proved from its own body and the contracts of what it calls. So a wrong body is refused in its own
+function and in no other one, and what a check says of a function tells of the one edit that changes its body.
+"""
+import contextlib
+import os
+import re
+import subprocess
+
+HEAD = re.compile(r"( *)(?:pub(?:\(crate\))? )?fn (\w+)")
+IN_SOURCE = re.compile(r"(?:note: )?(src/\S+?):(\d+):\d+: .*")
+IN_PROOFS = re.compile(r"(?:note: )?(?:\./)?proofs/(\S+)/\w+\.antt:\d+:\d+: error.*")
+# A proof that cites a name which an edit took away: that says little of the contract.
+OF_NAMES = re.compile(r"has no field|is not in scope|has no `|was not admitted")
+
+
+class Edit:
+    """An edit of wrong-bodies/ or must-fail/, as its file says: the texts of one file of the crate that it replaces."""
+
+    def __init__(self, path):
+        self.name = os.path.basename(path)
+        self.file, self.pairs, old = "", [], None
+        with open(path, encoding="utf-8") as lines:
+            for line in lines:
+                key, _, text = line.rstrip("\n").partition(":")
+                if key == "file":
+                    self.file = text.strip()
+                elif key == "old":
+                    old = text[1:]
+                elif key == "new":
+                    self.pairs.append((old, text[1:]))
+
+    def applied(self, text):
+        """The text of the file with the edit, or None if a text to be replaced does not stand in it once."""
+        for old, new in self.pairs:
+            if not old or text.count(old) != 1:
+                return None
+            text = text.replace(old, new)
+        return text
+
+
+class Function:
+    """A function of a source file: its name, the line of its head, and the first and the last line of its body."""
+
+    def __init__(self, name, head, first, last):
+        self.name, self.head, self.first, self.last = name, head, first, last
+
+
+def functions_in(lines):
+    """The functions of a source file as `rt fmt` writes it, each at the lines that it has there, from 1 on."""
+    for number, line in enumerate(lines, 1):
+        head = HEAD.match(line)
+        if head:
+            opens = re.compile(head[1] + r"(?! ).*\{$")
+            first = next((n for n in range(number, len(lines) + 1) if opens.match(lines[n - 1])), len(lines))
+            last = next((n for n in range(first, len(lines) + 1) if lines[n - 1] == head[1] + "}"), len(lines))
+            yield Function(head[2], number, first, last)
+
+
+def changed_body(edit, text):
+    """The one function of a source file whose body an edit changes, if it changes nothing else."""
+    found = set()
+    for old, _ in edit.pairs:
+        line = text[:text.find(old)].count("\n") + 1
+        inside = [it for it in functions_in(text.split("\n")) if it.first < line < it.last]
+        found.update([(it.name, it.head, it.first, it.last) for it in inside[-1:]] or [None])
+    return Function(*found.pop()) if len(found) == 1 and None not in found else None
+
+
+def bodies(folder, edits):
+    """Those of a crate's edits that change the body of one function and nothing else, each with that function."""
+    for edit in edits:
+        path = os.path.join(folder, edit.file)
+        if edit.file.startswith("src/") and os.path.isfile(path):
+            text = text_of(path)
+            function = changed_body(edit, text) if edit.applied(text) is not None else None
+            if function:
+                yield edit, function
+
+
+def groups(found):
+    """The edits in groups, so that no two of a group change functions of one name in one file."""
+    made = []
+    for edit, function in found:
+        key = edit.file, function.name
+        group = next((it for it in made if key not in it), None)
+        if group is None:
+            group = {}
+            made.append(group)
+        group[key] = edit, function
+    return [list(it.values()) for it in made]
+
+
+def text_of(path):
+    """The text of a file."""
+    with open(path, encoding="utf-8") as file:
+        return file.read()
+
+
+@contextlib.contextmanager
+def edited(folder, edits):
+    """Applies some edits in a crate's folder, and takes them back at the end."""
+    before = {edit.file: text_of(os.path.join(folder, edit.file)) for edit in edits}
+    after = dict(before)
+    for edit in edits:
+        after[edit.file] = edit.applied(after[edit.file]) or after[edit.file]
+    try:
+        put(folder, after)
+        yield
+    finally:
+        put(folder, before)
+
+
+def put(folder, texts):
+    """Writes these texts of a crate's files."""
+    for name, text in texts.items():
+        with open(os.path.join(folder, name), "w", encoding="utf-8") as file:
+            file.write(text)
+
+
+def is_of(line, edit, function):
+    """Whether a line of a check refuses a function: it names a place in it, or in the proofs of its goals."""
+    source, proofs = IN_SOURCE.match(line), IN_PROOFS.match(line)
+    if source:
+        return source[1] == edit.file and function.head <= int(source[2]) <= function.last
+    if proofs and not OF_NAMES.search(line):
+        module = edit.file[len("src/"):-len(".rt")]
+        return re.fullmatch(rf"(?:{module}/)?(?:\w+/)?{function.name}", proofs[1]) is not None
+    return False
+
+
+def refused(folder, group, room):
+    """What a check of a crate with all edits of a group says of each that it refuses, by name."""
+    with edited(folder, [edit for edit, _ in group]):
+        ran = subprocess.run(["rt", "check"], cwd=folder, env={**os.environ, "TMPDIR": room}, encoding="utf-8",
+                             errors="replace", stdin=subprocess.DEVNULL, stdout=subprocess.PIPE, stderr=subprocess.STDOUT)
+    lines = ran.stdout.rstrip("\n").split("\n")
+    if ran.returncode != 1 or not any(line.startswith("logic=not-proved") for line in lines):
+        return {}
+    told = {edit.name: next((it for it in lines if is_of(it, edit, function)), None) for edit, function in group}
+    return {name: said for name, said in told.items() if said}
+
+
+def refused_together(folder, paths, room):
+    """What is said of each of a crate's edits that is refused in a check with others, by name."""
+    told = {}
+    for group in groups(bodies(folder, map(Edit, paths))):
+        if len(group) > 1:
+            told.update(refused(folder, group, room))
+    return told
