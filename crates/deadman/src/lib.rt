@@ -51,24 +51,3 @@ impl Watch {
         reading.saturating_sub(self.heard) > self.timeout
     }
 }
-
-#[cfg(test)]
-mod tests {
-    use super::*;
-
-    #[test]
-    fn silence_begins_above_the_timeout(rt: HostRuntime) {
-        let mut watch = Watch::new(0, 1000000);
-        assert!(rt; !watch.check(1000000));
-        assert!(rt; watch.check(1000001));
-        watch.heard(1510000);
-        for (reading, silent) in [
-            (0, false),
-            (2510000, false),
-            (2510001, true),
-            (2520000, true),
-        ] {
-            assert_eq!(rt; watch.check(reading), silent, "at {reading}");
-        }
-    }
-}

@@ -54,6 +54,3 @@ pub fn pieces_make_block()
 pub fn pieces_on_other_cubs()
     ensures { PiecesOnOtherCubs }
 {}
-
-#[cfg(test)]
-mod tests;

@@ -12,6 +12,3 @@ pub use pieces::PieceView;
 pub use splits::Splits;
 pub use splitting::split;
 pub use times::{has_same_times, least_time};
-
-#[cfg(test)]
-mod tests;

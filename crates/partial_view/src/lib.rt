@@ -12,12 +12,3 @@ mod view;
 pub use cub_view::CubView;
 pub use line::{Flag, Line};
 pub use view::{Added, View};
-
-#[cfg(test)]
-mod cub_view_tests;
-#[cfg(test)]
-mod full_disks_tests;
-#[cfg(test)]
-mod sample_walks;
-#[cfg(test)]
-mod tests;

@@ -36,6 +36,3 @@ pub fn free_visit(
     }
     None
 }
-
-#[cfg(test)]
-mod tests;

@@ -6,7 +6,7 @@ use Rattle.partial_view.specs.Takes.{left_if_asked}
 use Rattle.partial_view.specs.Walks.{KeepsVisits}
 use Rattle.partial_view.proofs.Calls.{record_of}
 use Rattle.partial_view.proofs.Walks.{begun, there, next_key, given_key, on, fewer, ended_view, ended_outs, flat_map-filter}
-use Rattle.partial_view.proofs.sample_walks.take_asked.Goals as goal
+use Rattle.tests_of_views.proofs.sample_walks.take_asked.Goals as goal
 
 keeps : KeepsVisits left_if_asked
 keeps x = elim x.asked as (λ t. AllByRecursion (λ y. key_of y ≡ key_of x) (cond t [] (x ∷ []))) [ true ↦ tt | false ↦ (refl, tt) ]

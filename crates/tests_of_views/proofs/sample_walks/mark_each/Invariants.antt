@@ -1,7 +1,7 @@
 use Rattle.std.proofs.Common.{ℕ, List, [], ◌∷◌}
 use Rattle.partial_view.specs.Lines.{marked}
 use Rattle.partial_view.specs.Walks.{Underway, left}
-use Rattle.partial_view.proofs.sample_walks.mark_each.Given as goal
+use Rattle.tests_of_views.proofs.sample_walks.mark_each.Given as goal
 
 -- this walk gives nothing out
 abbrev pub nothing : List ℕ

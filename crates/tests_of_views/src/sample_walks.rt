@@ -7,7 +7,7 @@ ghost use Rattle.partial_view.specs.Takes.{rec_if_asked, left_if_asked};
 ghost use Rattle.partial_view.specs.Views.{IsWalk, line_at};
 ghost use Rattle.partial_view.specs.Walks.{replaced};
 
-use crate::{Flag, Line, View};
+use partial_view::{Flag, Line, View};
 use tiger_base::{NoMemory, Rec};
 
 /// Sets a flag at every line: a walk that changes each line and gives nothing out.

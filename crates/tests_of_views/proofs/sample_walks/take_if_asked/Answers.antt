@@ -4,7 +4,7 @@ use Rattle.partial_view.specs.Lines.{key_of}
 use Rattle.partial_view.specs.Walks.{replaced}
 use Rattle.partial_view.proofs.Calls.{record_of}
 use Rattle.partial_view.proofs.Walks.{replaced-same, replaced-without}
-use Rattle.partial_view.proofs.sample_walks.take_if_asked.Goals as goal
+use Rattle.tests_of_views.proofs.sample_walks.take_if_asked.Goals as goal
 
 pub returns-in_ok-push-clause-lines : goal.returns-in_ok-push-clause-lines
 returns-in_ok-push-clause-lines c =

@@ -7,7 +7,7 @@ use Rattle.partial_view.specs.Walks.{KeepsVisits}
 use Rattle.partial_view.proofs.Order.{key_of-marked}
 use Rattle.partial_view.proofs.Calls.{record_of}
 use Rattle.partial_view.proofs.Walks.{begun, there, next_key, given_key, on, fewer, ended_view, replaced-mark}
-use Rattle.partial_view.proofs.sample_walks.mark_each.Goals as goal
+use Rattle.tests_of_views.proofs.sample_walks.mark_each.Goals as goal
 
 keeps : (flag : Flag) → KeepsVisits (λ x. marked flag x ∷ [])
 keeps flag x = (key_of-marked flag x, tt)

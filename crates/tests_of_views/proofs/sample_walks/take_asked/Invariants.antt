@@ -1,6 +1,6 @@
 use Rattle.partial_view.specs.Takes.{rec_if_asked, left_if_asked}
 use Rattle.partial_view.specs.Walks.{Underway, left}
-use Rattle.partial_view.proofs.sample_walks.take_asked.Given as goal
+use Rattle.tests_of_views.proofs.sample_walks.take_asked.Given as goal
 
 abbrev pub invariant-loop-next : goal.invariant-loop-next
 invariant-loop-next l = Underway rec_if_asked left_if_asked l.fn.view l.fn.taken.items l.view l.taken.items l.next
