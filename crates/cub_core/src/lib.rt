@@ -5,6 +5,3 @@ mod cub;
 mod ticking;
 
 pub use cub::Cub;
-
-#[cfg(test)]
-mod tests;

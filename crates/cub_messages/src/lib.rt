@@ -18,6 +18,3 @@ pub use pieces::{take_kill, take_piece};
 pub use records::take_record;
 pub use starts::take_start;
 pub use states::take_state;
-
-#[cfg(test)]
-mod tests;

@@ -6,8 +6,3 @@ mod insertion;
 
 pub use clocked::{beat, release, watch};
 pub use insertion::insert;
-
-#[cfg(test)]
-mod sample_stores;
-#[cfg(test)]
-mod tests;

@@ -1,6 +1,5 @@
 pub mod Asked
 pub mod Parts
-pub mod Samples
 pub mod Served
 pub mod Splits
 pub mod States

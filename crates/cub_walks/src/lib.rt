@@ -12,6 +12,3 @@ pub use forwarding::forward;
 pub use reading::read;
 pub use serving::serve;
 pub use splitting::split;
-
-#[cfg(test)]
-mod tests;
