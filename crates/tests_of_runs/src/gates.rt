@@ -1,8 +1,8 @@
 //! Runs in which reads of disks wait for each other, so that only workers that move at the same time end the waiting.
-ghost use Rattle.std.specs.Prelude.{◌≤◌};
 
-use crate::claims::{FINE, SMALL, text_of};
-use crate::rings::{long, one, run_gated};
+use crate::changes::Change;
+use crate::runs::{FINE, LONG, ONE, SMALL, Setting, run};
+use crate::told::More;
 use node_kit::Gate;
 use ring_engine::Party;
 use std::alloc::Global;
@@ -52,9 +52,17 @@ fn meet<R: Threads + Wait + Sync>(
     earlier: u64,
     both: bool,
     workers: u32,
-) -> Result<bool, Fail>
-    requires { (1 ≤ workers) × (workers ≤ 64) }
-{
+) -> Result<bool, Fail> {
+    let setting = Setting {
+        plan,
+        files: ONE,
+        first: LONG,
+        second: b"",
+        workers,
+        instances: 0,
+        visits: 0,
+        more: More::Nothing,
+    };
     let gate = Crossing {
         earlier,
         both,
@@ -63,9 +71,8 @@ fn meet<R: Threads + Wait + Sync>(
         first: Party::new(),
         second: Party::new(),
     };
-    let text = text_of(alloc, plan, rest)?;
-    let library = one(alloc, long(alloc)?)?;
-    run_gated(rt, alloc, text.as_str(), &library, 1, &gate, workers)?;
+    let mut told = String::new(alloc);
+    run(rt, alloc, &setting, rest, &gate, Change::Same, &mut told)?;
     Ok(gate.first.has_met() && (gate.second.has_met() || !both))
 }
 

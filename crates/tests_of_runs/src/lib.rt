@@ -3,6 +3,10 @@
 #![tactic(auto)]
 
 #[cfg(test)]
+mod by_hand;
+#[cfg(test)]
+mod changes;
+#[cfg(test)]
 mod claims;
 #[cfg(test)]
 mod gates;
@@ -15,4 +19,8 @@ mod reports;
 #[cfg(test)]
 mod rings;
 #[cfg(test)]
+mod runs;
+#[cfg(test)]
 mod scenarios;
+#[cfg(test)]
+mod told;

@@ -1,140 +1,26 @@
 //! The report of a small run that goes through every kind of line.
-ghost use Rattle.std.specs.Prelude.{◌≡◌, IfOk};
 
-use link_timing::Delay;
-use node_kit::{Course, Entry, Journal, Kept, Order, OrderKind, What};
+use crate::by_hand::{catalogue, kept, sample_of};
+use node_kit::{Kept, Order, OrderKind};
 use run_report::{ORDERS_LIMIT, digests_of, outcomes, report, summary};
-use slot_plan::small_plan;
 use std::alloc::Global;
 use std::test::Fail;
-use stripe_layout::{Catalogue, FileInfo};
-use tiger_base::{
-    Ask, Beat, DiskNo, FileNo, Instance, Library, LinkNo, NoMemory, Note, Sequence, SlotNo, Span,
-    Stamp, Tenancy, Visit, Want,
-};
+use tiger_base::{Ask, DiskNo, FileNo, Instance, Library, MOST_BEATS, NoMemory};
 
-fn at(beat: Beat, what: What) -> Entry {
-    Entry {
-        stamp: Stamp { beat, reading: 0 },
-        what,
-    }
+/// Two cubs put instance 0, and the second one in the lower beat. No clock shows the true time.
+const LINES: &str =
+    "0@2/0 put 0 3 0 5, 1@1/0 put 0 1 0 5, 1@1/0 put 2 2 0 5, 2@248/0 failed 0 2 0, 3@300/0 died, 16@5/0 gone 1, 16@250/0 gone 2, 17@51/0 got-whole 16 0 0 50 4, 17@100/0 got-piece 16 2 0 1 100 0 4, 17@201/0 got-piece 16 0 1 2 200 0 4, 17@202/0 got-piece 16 0 1 1 150 0 4, 17@301/0 got-whole 16 2 2 300 4";
+
+fn letters(alloc: Global) -> Result<Library, NoMemory> {
+    let mut files = Vec::new(alloc);
+    files.push(b"abcdefghijklmnopqrstuvwx".to_vec(alloc)?)?;
+    Ok(Library::new(files))
 }
 
-fn put(instance: u32, slot: u32) -> What {
-    What::Put(Tenancy {
-        instance: Instance(instance),
-        file: FileNo(0),
-        slot: SlotNo(slot),
-        first: 0,
-        last: 5,
-    })
-}
-
-fn want(instance: u32, visit: Visit, piece: u32) -> Want {
-    Want {
-        instance: Instance(instance),
-        slot: SlotNo(1),
-        visit,
-        file: FileNo(0),
-        block: visit,
-        piece,
-    }
-}
-
-const PART: Span = Span {
-    file: FileNo(0),
-    from: 0,
-    len: 4,
-};
-
-fn whole(instance: u32, visit: Visit, sent: Beat) -> What {
-    What::Got(
-        LinkNo(16),
-        Note::Whole {
-            want: want(instance, visit, 0),
-            sent,
-            part: PART,
-        },
-    )
-}
-
-fn piece(instance: u32, visit: Visit, piece: u32, sent: Beat) -> What {
-    What::Got(
-        LinkNo(16),
-        Note::Piece {
-            want: want(instance, visit, piece),
-            sent,
-            part: PART,
-        },
-    )
-}
-
-/// Two cubs put instance 0, and the second one in the lower beat.
-fn first_cub(alloc: Global) -> Result<Journal, NoMemory> {
-    let mut journal = Journal::new(alloc);
-    journal.write(at(2, put(0, 3)))?;
-    Ok(journal)
-}
-
-fn second_cub(alloc: Global) -> Result<Journal, NoMemory> {
-    let mut journal = Journal::new(alloc);
-    journal.write(at(1, put(0, 1)))?;
-    journal.write(at(1, put(2, 2)))?;
-    Ok(journal)
-}
-
-fn third_cub(alloc: Global) -> Result<Journal, NoMemory> {
-    let mut journal = Journal::new(alloc);
-    journal.write(at(248, What::ReadFailed(want(0, 2, 0))))?;
-    Ok(journal)
-}
-
-fn fourth_cub(alloc: Global) -> Result<Journal, NoMemory> {
-    let mut journal = Journal::new(alloc);
-    journal.write(at(300, What::Died))?;
-    Ok(journal)
-}
-
-fn controller(alloc: Global) -> Result<Journal, NoMemory> {
-    let mut journal = Journal::new(alloc);
-    journal.write(at(5, What::Gone(Instance(1))))?;
-    journal.write(at(250, What::Gone(Instance(2))))?;
-    Ok(journal)
-}
-
-fn viewers(alloc: Global) -> Result<Journal, NoMemory> {
-    let mut journal = Journal::new(alloc);
-    journal.write(at(51, whole(0, 0, 50)))?;
-    journal.write(at(100, piece(2, 0, 1, 100)))?;
-    journal.write(at(201, piece(0, 1, 2, 200)))?;
-    journal.write(at(202, piece(0, 1, 1, 150)))?;
-    journal.write(at(301, whole(2, 2, 300)))?;
-    Ok(journal)
-}
-
-fn cubs(alloc: Global) -> Result<Vec<Journal>, NoMemory> {
-    let mut journals = Vec::new(alloc);
-    journals.push(first_cub(alloc)?)?;
-    journals.push(second_cub(alloc)?)?;
-    journals.push(third_cub(alloc)?)?;
-    journals.push(fourth_cub(alloc)?)?;
-    Ok(journals)
-}
-
-fn journals(alloc: Global) -> Result<Vec<Journal>, NoMemory> {
-    let mut journals = cubs(alloc)?;
-    for _ in 4..16 {
-        journals.push(Journal::new(alloc))?;
-    }
-    journals.push(controller(alloc)?)?;
-    journals.push(viewers(alloc)?)?;
-    Ok(journals)
-}
-
-fn orders(alloc: Global) -> Result<Vec<Order>, NoMemory> {
-    let mut orders = Vec::new(alloc);
+/// Adds three starts of the file.
+fn add_orders(k: &mut Kept) -> Result<(), NoMemory> {
     for instance in 0..3 {
-        orders.push(Order {
+        k.orders.push(Order {
             beat: 0,
             what: OrderKind::Begin(Ask {
                 instance: Instance(instance),
@@ -144,13 +30,23 @@ fn orders(alloc: Global) -> Result<Vec<Order>, NoMemory> {
             }),
         })?;
     }
-    Ok(orders)
+    Ok(())
 }
 
-fn letters(alloc: Global) -> Result<Library, NoMemory> {
-    let mut files = Vec::new(alloc);
-    files.push(b"abcdefghijklmnopqrstuvwx".to_vec(alloc)?)?;
-    Ok(Library::new(files))
+/// Adds the digests of what the viewers got.
+fn add_digests(alloc: Global, k: &mut Kept) -> Result<(), Fail> {
+    if k.course.beats > MOST_BEATS {
+        return Err(Fail::new("too many beats"));
+    }
+    let told = outcomes(
+        alloc,
+        &k.course,
+        &k.catalogue,
+        k.orders.as_slice(),
+        k.journals.as_slice(),
+    )?;
+    k.digests.items = digests_of(alloc, &letters(alloc)?, told.as_slice())?;
+    Ok(())
 }
 
 /// The report, and behind it the summary.
@@ -173,72 +69,33 @@ total starts 3 placed 2 whole 2 pieces 1 missing 3
 report bytes 714 sha256 d83c9cf3a7e73f8731cee966c7675dbf26b2acb6acd20c7dd9d20bdea0339dbc
 ";
 
-fn course(alloc: Global) -> Course
-    ensures { result.beats ≡ 600 }
-{
-    Course {
-        plan: small_plan(),
-        beats: 600,
-        offsets: Sequence::new(Vec::new(alloc)),
-        deaths: Sequence::new(Vec::new(alloc)),
-        faults: Sequence::new(Vec::new(alloc)),
-        delay: Delay::Fixed(1),
-    }
-}
-
-fn catalogue(alloc: Global) -> Result<Catalogue, NoMemory> {
-    let mut files = Vec::new(alloc);
-    files.push(FileInfo {
-        len: 24,
-        disk: DiskNo(0),
-    })?;
-    Ok(Catalogue {
-        files: Sequence::new(files),
-        block: 4,
-        disks: 8,
-    })
-}
-
-fn kept(alloc: Global) -> Result<Kept, Fail>
-    ensures { IfOk result (λ k. k.course.beats ≡ 600) }
-{
-    let course = course(alloc);
-    let catalogue = catalogue(alloc)?;
-    let orders = orders(alloc)?;
-    let journals = journals(alloc)?;
-    let told = outcomes(
-        alloc,
-        &course,
-        &catalogue,
-        orders.as_slice(),
-        journals.as_slice(),
-    )?;
-    let digests = digests_of(alloc, &letters(alloc)?, told.as_slice())?;
-    Ok(Kept {
-        course,
-        catalogue,
-        orders: Sequence::new(orders),
-        journals: Sequence::new(journals),
-        digests: Sequence::new(digests),
-    })
-}
-
 /// The report of what is kept, and behind it the summary.
-fn told(alloc: Global, kept: &Kept) -> Result<Vec<u8>, Fail>
-    requires { kept.now.course.beats ≡ 600 }
-{
-    if kept.orders.len() >= ORDERS_LIMIT {
-        return Err(Fail::new("too many orders"));
+fn report_and_summary(alloc: Global, k: &Kept) -> Result<Vec<u8>, Fail> {
+    if k.course.beats > MOST_BEATS || k.orders.len() >= ORDERS_LIMIT {
+        return Err(Fail::new("too long"));
     }
-    let mut text = report(alloc, kept)?;
-    text.extend_from_slice(summary(alloc, kept)?.as_slice())?;
+    let mut text = report(alloc, k)?;
+    text.extend_from_slice(summary(alloc, k)?.as_slice())?;
     Ok(text)
+}
+
+/// Adds the orders and the digests to what is kept, and reports it.
+fn told(alloc: Global, k: &mut Kept) -> Result<Vec<u8>, Fail> {
+    add_orders(k)?;
+    add_digests(alloc, k)?;
+    report_and_summary(alloc, k)
+}
+
+fn told_of_lines(alloc: Global) -> Result<Vec<u8>, Fail> {
+    let catalogue = catalogue(alloc, 24)?;
+    let sample = sample_of(alloc, LINES).ok_or("not the lines of a run")?;
+    let mut k = kept(alloc, 600, catalogue, sample);
+    told(alloc, &mut k)
 }
 
 #[test]
 fn each_kind_of_line_is_told(rt: HostRuntime) -> Result<(), Fail> {
-    let alloc = rt.alloc();
-    let text = told(alloc, &kept(alloc)?)?;
+    let text = told_of_lines(rt.alloc())?;
     assert_eq!(rt; text.as_slice(), TEXT.as_bytes());
     Ok(())
 }
