@@ -2,6 +2,7 @@ pub mod Begins
 pub mod Calls
 pub mod Dues
 pub mod Frees
+pub mod Gone
 pub mod Laws
 pub mod Order
 pub mod Places

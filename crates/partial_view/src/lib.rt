@@ -6,6 +6,7 @@
 mod cub_view;
 mod full_disks;
 mod line;
+mod row;
 mod timed;
 mod view;
 

@@ -6,9 +6,9 @@ ghost use Rattle.partial_view.specs.Lines.{key_of, visit_of, unmarked, marked, i
 ghost use Rattle.partial_view.specs.Views.{Seen, first_of, without_instance, due_by};
 
 use crate::line::{Flag, Line};
+use crate::row::TimedRow;
 use slot_plan::Plan;
 use std::alloc::Global;
-use std::collections::VecDeque;
 use std::marker::Model;
 use tiger_base::{Instance, Micros, NoMemory, Rec, SlotNo, Visit};
 
@@ -24,8 +24,7 @@ pub(crate) struct Timed {
 #[derive(Drop)]
 pub(crate) struct TimedLines {
     plan: Plan,
-    // The first lines leave at each tick, and a removal here moves only those on the shorter side.
-    items: VecDeque<Timed>,
+    items: TimedRow,
 }
 
 impl Model for TimedLines {
@@ -36,9 +35,9 @@ impl Model for TimedLines {
 
     ghost Value = { Seen };
 
-    ghost view = { λ v. record { params = v.plan.params; lines = map line_of v.items.items } };
+    ghost view = { λ v. record { params = v.plan.params; lines = map line_of v.items } };
 
-    ghost invariant = { λ v. AllByRecursion (IsTimed v.plan.params) v.items.items };
+    ghost invariant = { λ v. AllByRecursion (IsTimed v.plan.params) v.items };
 }
 
 impl TimedLines {
@@ -48,7 +47,7 @@ impl TimedLines {
     {
         TimedLines {
             plan: *plan,
-            items: VecDeque::new(alloc),
+            items: TimedRow::new(alloc),
         }
     }
 
@@ -74,21 +73,21 @@ impl TimedLines {
         ensures line { result.now.line ≡ slice_index_or self.now.lines place result.now.line }
         ensures due { result.now.due ≡ due_of self.now.params (key_of result.now.line) }
     {
-        &self.items[place]
+        self.items.at(place)
     }
 
     /// The line at a place; `None` exactly if there is none.
     pub(crate) fn get(&self, place: usize) -> Option<Line>
         ensures { result ≡ slice_get self.now.lines place }
     {
-        Some(self.items.get(place)?.line)
+        Some(self.items.as_slice().get(place)?.line)
     }
 
     /// The line at a place, if it is due at a time or before it.
     pub(crate) fn get_by(&self, place: usize, time: Micros) -> Option<Line>
         ensures { result ≡ due_by self.now.params time (slice_get self.now.lines place) }
     {
-        let there = self.items.get(place)?;
+        let there = self.items.as_slice().get(place)?;
         if there.due <= time {
             Some(there.line)
         } else {
@@ -101,7 +100,7 @@ impl TimedLines {
     pub(crate) fn first_of(&self, instance: Instance) -> Option<Rec>
         ensures { result ≡ option_map (λ x. x.rec) (first_of instance self.now.lines) }
     {
-        for there in &self.items {
+        for there in self.items.as_slice() {
             if there.line.rec.tenancy.instance.0 == instance.0 {
                 return Some(there.line.rec);
             }
@@ -131,8 +130,10 @@ impl TimedLines {
           lines = slice_set self.old.lines place (marked flag x);
         }) }
     {
-        let line = self.items[place].line.marked(flag);
-        self.items[place].line = line;
+        let there = self.items.at(place);
+        let due = there.due;
+        let line = there.line.marked(flag);
+        self.items.set(place, Timed { due, line });
     }
 
     /// Takes the line at a place out, and gives its record; `None` exactly if there is none.
@@ -150,10 +151,8 @@ impl TimedLines {
           lines = without_instance instance self.old.lines;
         } }
     {
-        let number = instance.0;
         let before = self.items.len();
-        self.items
-            .retain(|there| there.line.rec.tenancy.instance.0 != number);
+        self.items.remove_instance(instance);
         (before - self.items.len()) as u64
     }
 }

@@ -1,0 +1,129 @@
+//! Timed lines in a row, of which the first can be taken out while the others stay where they are.
+ghost use Rattle.std.specs.Prelude.{◌≡◌, ◌^◌, ◌<◌, ◌≤◌, [], OnOk, OnErr, length, not, filter, drop, insert, remove, slice_get, slice_index_or, slice_set};
+ghost use Rattle.partial_view.specs.Dues.{line_of};
+ghost use Rattle.partial_view.specs.Lines.{is_of};
+
+use crate::timed::Timed;
+use std::alloc::Global;
+use std::marker::Model;
+use tiger_base::{Instance, NoMemory};
+
+/// How many lines must be gone, and no fewer than are left, before those that are left are moved.
+const ENOUGH_GONE: usize = 32;
+
+/// Timed lines, one behind another.
+#[derive(Drop)]
+pub(crate) struct TimedRow {
+    items: Vec<Timed>,
+    // So many of them, from the first on, are taken out already: the first lines leave at each
+    // tick, and the others need not be moved each time.
+    gone: usize,
+}
+
+impl Model for TimedRow {
+    ghost use Rattle.std.specs.Prelude.{List, length, drop, ◌≤◌};
+    ghost use Rattle.partial_view.specs.declared.timed.Timed.{Timed};
+
+    ghost Value = { List Timed };
+
+    ghost view = { λ v. drop v.gone v.items.items };
+
+    ghost invariant = { λ v. v.gone ≤ length v.items.items };
+}
+
+impl TimedRow {
+    /// No lines yet. It takes no memory.
+    pub(crate) fn new(alloc: Global) -> TimedRow
+        ensures { result ≡ [] }
+    {
+        TimedRow {
+            items: Vec::new(alloc),
+            gone: 0,
+        }
+    }
+
+    /// The lines, to be read.
+    pub(crate) fn as_slice(&self) -> &[Timed]
+        ensures { result.now ≡ self.now }
+    {
+        &self.items.as_slice()[self.gone..]
+    }
+
+    /// The line at a place.
+    pub(crate) fn at(&self, place: usize) -> &Timed
+        requires { place < length self.now }
+        ensures { result.now ≡ slice_index_or self.now place result.now }
+    {
+        &self.items[self.gone + place]
+    }
+
+    /// How many lines there are.
+    pub(crate) fn len(&self) -> usize
+        ensures len { result ≡ length self.now }
+        ensures fits { result < 2 ^ 63 }
+    {
+        self.items.len() - self.gone
+    }
+
+    /// Puts a line at a place; without memory for it nothing changes.
+    pub(crate) fn insert(&mut self, place: usize, timed: Timed) -> Result<(), NoMemory>
+        requires { place ≤ length self.old }
+        ensures ok { OnOk result (self.new ≡ insert self.old place timed) }
+        ensures err { OnErr result (self.new ≡ self.old) }
+    {
+        self.items.insert(self.gone + place, timed)?;
+        Ok(())
+    }
+
+    /// Puts a line in place of another.
+    pub(crate) fn set(&mut self, place: usize, timed: Timed)
+        requires { place < length self.old }
+        ensures { self.new ≡ slice_set self.old place timed }
+    {
+        self.items[self.gone + place] = timed;
+    }
+
+    /// Takes the line at a place out; `None` exactly if there is none.
+    pub(crate) fn remove(&mut self, place: usize) -> Option<Timed>
+        ensures taken { result ≡ slice_get self.old place }
+        ensures left { self.new ≡ remove self.old place }
+    {
+        let taken = *self.as_slice().get(place)?;
+        if place == 0 {
+            self.gone += 1;
+            self.sweep();
+        } else {
+            self.items.remove(self.gone + place);
+        }
+        Some(taken)
+    }
+
+    /// Takes all lines of an instance out.
+    pub(crate) fn remove_instance(&mut self, instance: Instance)
+        ensures { self.new ≡ filter (λ t. not (is_of instance (line_of t))) self.old }
+    {
+        let number = instance.0;
+        drop_first(&mut self.items, self.gone);
+        self.gone = 0;
+        self.items
+            .retain(|there| there.line.rec.tenancy.instance.0 != number);
+    }
+
+    /// Moves the lines that are left to the front, once enough are gone.
+    fn sweep(&mut self)
+        ensures { self.new ≡ self.old }
+    {
+        if ENOUGH_GONE <= self.gone && self.items.len() - self.gone <= self.gone {
+            drop_first(&mut self.items, self.gone);
+            self.gone = 0;
+        }
+    }
+}
+
+/// Drops as many lines from the front as a count says.
+fn drop_first(items: &mut Vec<Timed>, count: usize)
+    requires { count ≤ length items.old.items }
+    ensures { items.new.items ≡ drop count items.old.items }
+{
+    items.drain(..count);
+}
