@@ -1,6 +1,7 @@
 -- What halving finds: the place of a visit's line, and what the calls of a view make of it.
 use Rattle.std.proofs.Common.{◌≡◌, ℕ, ◌+◌, ◌==◌, ◌<◌, ◌≤◌, zero, suc, Bool, true, false, not, cond, List, [], ◌∷◌, ◌++◌, length, get_or, refl, sym, ap, subst, ◌∙◌, arith, length-append}
 use Rattle.std.specs.List.{AllByRecursion}
+use Rattle.std.proofs.lemmas.Bool.{eq-eqb, ne_eqb}
 use Rattle.std.proofs.lemmas.Bool.Decides.{nat_tests}
 use Rattle.std.proofs.lemmas.List.{get_or_at}
 use Rattle.slot_plan.specs.declared.params.Params.{Params}
@@ -149,6 +150,21 @@ unfolding place_of
 first_tells p k [] d j e some is = absurd (omega (arith, some))
 first_tells p k (x ∷ xs) d j e some is =
     ap not (is ∙ ap (λ (y : Key). is_earlier p y k) e) ∙ zero_if_not (is_earlier p (key_of x) k) (place_of p k xs)
+
+-- all lines come before a visit exactly if there is none, or the last does
+pub all_of_none : (p : Params) (k : Key) (lines : List Line) → length lines ≡ 0 → true ≡ (place_of p k lines == length lines)
+unfolding place_of
+all_of_none p k [] none = refl
+all_of_none p k (x ∷ xs) none = absurd (omega (arith, none))
+
+pub last_tells : (p : Params) (k : Key) (lines : List Line) (i : ℕ) (d : Line) (j : Key) {t : Bool} → j ≡ key_of (get_or lines i d) → IsWalk p lines → i + 1 ≡ length lines → t ≡ is_earlier p j k
+    → t ≡ (place_of p k lines == length lines)
+last_tells p k lines i d j {t = true} e w last is =
+    let above = above_by p k lines i d j e w (omega (arith, last)) is refl in
+    sym (eq-eqb _ _ (omega (arith, above, last, place_most p k lines)))
+last_tells p k lines i d j {t = false} e w last is =
+    let below = below_by p k lines i d j e w (omega (arith, last)) is refl in
+    sym (ne_eqb _ _ (λ same. omega (arith, below, last, same)))
 
 -- what a comparison with the line at the place says
 module _ (p : Params) (k : Key) (lines : List Line) (i : ℕ) (w : IsWalk p lines) (is : i ≡ place_of p k lines) where

@@ -111,7 +111,19 @@ impl CubView {
           lines = with_mark (slot, visit) flag self.old.lines;
         } }
     {
-        self.view.mark(slot, visit, flag)
+        self.mark_near(0, slot, visit, flag)
+    }
+
+    /// Sets a flag at a slot and visit, as `mark` does. Their line is looked for at a place first,
+    /// which is where a walk stands; any place serves.
+    pub fn mark_near(&mut self, place: usize, slot: SlotNo, visit: Visit, flag: Flag) -> bool
+        requires { IsKey self.old.params (slot, visit) }
+        ensures found { result ≡ is_some (line_at (slot, visit) self.old.lines) }
+        ensures marked { self.new ≡ record self.old {
+          lines = with_mark (slot, visit) flag self.old.lines;
+        } }
+    {
+        self.view.mark_near(place, slot, visit, flag)
     }
 
     /// Removes the record of a slot and visit, and gives it; `None` exactly if there was none.

@@ -1,5 +1,5 @@
 //! A cub's records by slot and visit, kept as one list in the order of their due times.
-ghost use Rattle.std.specs.Prelude.{◌≡◌, ◌==◌, ℕ, ◌^◌, ◌≤◌, ◌<◌, [], IfOk, OnOk, OnErr, IfErr, IfSome, Some, MatchResult, option_map, is_some, count_by, slice_get};
+ghost use Rattle.std.specs.Prelude.{◌≡◌, ◌==◌, ℕ, ◌^◌, ◌≤◌, ◌<◌, [], IfOk, OnOk, OnErr, IfErr, IfSome, Some, MatchResult, option_map, is_some, count_by, length, slice_get};
 ghost use Rattle.std.specs.List.{AllByRecursion};
 ghost use Rattle.std.specs.Option.{ForSome};
 ghost use Rattle.tiger_base.specs.Limits.{most_reading};
@@ -201,7 +201,19 @@ impl View {
           lines = with_mark (slot, visit) flag self.old.lines;
         } }
     {
-        match find(&self.lines, (slot, visit)) {
+        self.mark_near(0, slot, visit, flag)
+    }
+
+    /// Sets a flag at a slot and visit, as `mark` does. Their line is looked for at a place first,
+    /// which is where a walk stands; any place serves.
+    pub fn mark_near(&mut self, place: usize, slot: SlotNo, visit: Visit, flag: Flag) -> bool
+        requires { IsKey self.old.params (slot, visit) }
+        ensures found { result ≡ is_some (line_at (slot, visit) self.old.lines) }
+        ensures marked { self.new ≡ record self.old {
+          lines = with_mark (slot, visit) flag self.old.lines;
+        } }
+    {
+        match find_near(&self.lines, place, (slot, visit)) {
             Ok(place) => {
                 self.lines.mark(place, flag);
                 true
@@ -266,10 +278,25 @@ fn place_near(lines: &TimedLines, place: usize, key: (SlotNo, Visit)) -> usize
     ensures { slice_get lines.now.lines result ≡
         next_behind lines.now.params (Some key) lines.now.lines }
 {
+    match find_near(lines, place, key) {
+        Ok(place) => place + 1,
+        Err(place) => place,
+    }
+}
+
+/// Where the line of a visit stands, or as an `Err` where it would stand. It is looked for at a
+/// place first.
+fn find_near(lines: &TimedLines, place: usize, key: (SlotNo, Visit)) -> Result<usize, usize>
+    requires key { IsKey lines.now.params key }
+    requires walk { IsWalk lines.now.params lines.now.lines }
+    ensures found { MatchResult result (λ place. IsFoundAt key lines.now.lines place)
+        (λ place. IsGapAt lines.now.params key lines.now.lines place) }
+    ensures fits { IfOk result (λ place. place < 2 ^ 63) }
+{
     if place < lines.len() && lines.at(place).line.key() == key {
-        place + 1
+        Ok(place)
     } else {
-        place_behind(lines, Some(key))
+        find(lines, key)
     }
 }
 
@@ -307,9 +334,12 @@ fn first_not_before(lines: &TimedLines, key: (SlotNo, Visit), due: Micros) -> us
     requires walk { IsWalk lines.now.params lines.now.lines }
     ensures { result ≡ place_of lines.now.params key lines.now.lines }
 {
-    // The visit that is served next stands first.
+    // The visit that is served next stands first, and a new one mostly comes behind all lines.
     if comes_first(lines, key, due) {
         return 0;
+    }
+    if comes_last(lines, key, due) {
+        return lines.len();
     }
     let mut low = 0;
     let mut high = lines.len();
@@ -336,6 +366,19 @@ fn comes_first(lines: &TimedLines, key: (SlotNo, Visit), due: Micros) -> bool
     }
     let there = lines.at(0);
     !is_before(there.due, there.line.key(), due, key)
+}
+
+/// Whether all lines come before a visit whose due time is at hand.
+fn comes_last(lines: &TimedLines, key: (SlotNo, Visit), due: Micros) -> bool
+    requires due { due ≡ due_of lines.now.params key }
+    requires walk { IsWalk lines.now.params lines.now.lines }
+    ensures { result ≡ (place_of lines.now.params key lines.now.lines == length lines.now.lines) }
+{
+    if lines.len() == 0 {
+        return true;
+    }
+    let there = lines.at(lines.len() - 1);
+    is_before(there.due, there.line.key(), due, key)
 }
 
 /// How many lines are due before a time, found by halving.

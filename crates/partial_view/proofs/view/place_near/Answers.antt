@@ -1,9 +1,8 @@
-use Rattle.std.proofs.Common.{◌∙◌, ap, arith}
-use Rattle.partial_view.specs.Lines.{key_of}
-use Rattle.partial_view.proofs.Places.{found_there}
-use Rattle.partial_view.proofs.Calls.{next-found}
+use Rattle.partial_view.proofs.Calls.{next-found, next-gap}
 use Rattle.partial_view.proofs.view.place_near.Goals as goal
 
-pub returns-then-eq : goal.returns-then-eq
-returns-then-eq c =
-    next-found c.args.lines.now.params c.args.key c.args.lines.now.lines c.args.place c.requires.walk (found_there c.args.key c.args.lines.now.lines c.args.place _ c.key.result (c.key.ensures ∙ ap key_of c.at.ensures.line) c.eq.ensures c.if-eq.true (omega arith))
+pub returns-in-Ok : goal.returns-in-Ok
+returns-in-Ok c = next-found c.args.lines.now.params c.args.key c.args.lines.now.lines c.in-Ok.place c.requires.walk c.in-Ok.ensures.found
+
+pub returns-in-Err : goal.returns-in-Err
+returns-in-Err c = next-gap c.args.lines.now.params c.args.key c.args.lines.now.lines c.in-Err.place c.requires.walk c.in-Err.ensures.found

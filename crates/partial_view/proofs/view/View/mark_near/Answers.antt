@@ -3,7 +3,7 @@ use Rattle.std.specs.Option.{is_some}
 use Rattle.partial_view.specs.Views.{Seen, line_at, with_mark}
 use Rattle.partial_view.proofs.Order.{walk_mark}
 use Rattle.partial_view.proofs.Calls.{found-line, line-gap, mark-by, mark-gap, seen-with, walk-along}
-use Rattle.partial_view.proofs.view.View.mark.Goals as goal
+use Rattle.partial_view.proofs.view.View.mark_near.Goals as goal
 
 pub invariant_of-self : goal.invariant_of-self
 invariant_of-self c =
