@@ -1,6 +1,7 @@
 -- What the ends of play times say of the parts beside them.
 use Rattle.std.proofs.Common.{◌≡◌, ℕ, ◌+◌, ◌<◌, ◌≤◌, ◌&&◌, Bool, true, false, not, List, [], ◌∷◌, ◌++◌, length, get_or, take, drop, refl, ap, ap₂, subst, sym, ◌∙◌, arith}
 use Rattle.std.specs.List.{AllByRecursion, filter}
+use Rattle.std.specs.List.Sorted.{IsNonDecreasing}
 use Rattle.std.proofs.lemmas.Bool.{and_parts, eqb-true, lt-leb}
 use Rattle.std.proofs.lemmas.List.{drop_more, get_or-map, length-map, length_push, map_push, take_more}
 use Rattle.tiger_base.specs.declared.tenancy.Want.{Want}
@@ -91,10 +92,11 @@ module _ (p q : Params) (own t : Bool) (x : StoredPart) (xs ys : List StoredPart
         ∙ (sym (map_push (λ (y : StoredPart). end_of p y.want) xs x) ∙ ap (λ (zs : List StoredPart). ends_of p zs) (sym part)));
   }
 
-  pub kept_more : (time least : ℕ) → least ≤ time → least ≤ e → AreKept p own time xs es → AreKept p t least ys fs
-  kept_more time least l m h = record {
+  pub kept_more : (was sorted : Bool) (time least : ℕ) → least ≤ time → least ≤ e → (sorted ≡ true → IsNonDecreasing (es ++ e ∷ [])) → AreKept p own was time xs es → AreKept p t sorted least ys fs
+  kept_more was sorted time least l m order h = record {
     beside = ends_more h.beside;
     from = subst (λ (ns : List ℕ). NoneBefore least ns) (sym more) (none_more time least e es l m h.from);
+    order = λ so. subst (λ (ns : List ℕ). IsNonDecreasing ns) (sym more) (order so);
   }
 
 -- before a time that comes before no end, no part is stale
@@ -103,8 +105,8 @@ none_over p q time reading [] from alike early = tt
 none_over p q time reading (x ∷ xs) from alike early =
     (lt-leb (end_of q x.want) reading (omega (arith, early, from.0, ends_alike p q (x.want.slot, x.want.visit) alike)), none_over p q time reading xs from.1 alike early)
 
-pub none_stale : (p q : Params) (own t : Bool) (time reading : ℕ) (xs : List StoredPart) (es : List ℕ) → AreKept p own time xs es → t ≡ (own && has_same_times p q) → t ≡ true → reading < time
+pub none_stale : (p q : Params) (own t sorted : Bool) (time reading : ℕ) (xs : List StoredPart) (es : List ℕ) → AreKept p own sorted time xs es → t ≡ (own && has_same_times p q) → t ≡ true → reading < time
     → xs ≡ filter (λ x. not (is_stale q reading x)) xs
-none_stale p q own t time reading xs es h is so early =
+none_stale p q own t sorted time reading xs es h is so early =
     let both = and_parts own (has_same_times p q) (sym is ∙ so) in
     sym (all_stay (is_stale q reading) xs (none_over p q time reading xs (subst (λ (ns : List ℕ). NoneBefore time ns) (h.beside.exact both.0) h.from) both.1 early))

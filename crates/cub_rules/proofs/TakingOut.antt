@@ -8,6 +8,7 @@ use Rattle.mirror_schedule.proofs.Removals.{left_from, left_stays, left_at}
 use Rattle.mirror_schedule.proofs.Timed.{all_remove}
 use Rattle.cub_rules.specs.declared.store.StoredPart.{StoredPart}
 use Rattle.cub_rules.specs.Fresh.{end_of, ends_of, EndsStay}
+use Rattle.cub_rules.proofs.InOrder.{order_without}
 
 -- the ends without the one at a place
 remove-ends : (p : Params) (xs : List StoredPart) (i : ℕ) → ends_of p (remove xs i) ≡ remove (ends_of p xs) i
@@ -23,12 +24,14 @@ stay_without xs es i l m = record {
     exact = λ so. ap (λ (ns : List ℕ). remove ns i) (h.exact so) ∙ sym (remove-ends p xs i);
   };
   from = λ time h. all_remove (λ (n : ℕ). time ≤ n) es i h;
+  order = λ h. order_without es i m h;
 }
 
 stay_along : (xs : List StoredPart) (es : List ℕ) (ys : List StoredPart) (fs : List ℕ) (zs : List StoredPart) (gs : List ℕ) → EndsStay xs es ys fs → EndsStay ys fs zs gs → EndsStay xs es zs gs
 stay_along xs es ys fs zs gs h g = record {
   beside = λ p timed a. g.beside p timed (h.beside p timed a);
   from = λ time a. g.from time (h.from time a);
+  order = λ a. g.order (h.order a);
 }
 
 holds_at : (P : StoredPart → Type 0) (xs : List StoredPart) (i : ℕ) (d : StoredPart) → i < length xs → AllByRecursion P xs → P (get_or xs i d)
@@ -72,7 +75,7 @@ module _ (test : StoredPart → Bool) where
       bound = omega (arith, e);
       rest = rw (take_all n xs (omega (arith, e)), drop_all n xs (omega (arith, e))) (sym (append-nil xs));
       count = count;
-      stay = record { beside = λ p timed h. h; from = λ time h. h };
+      stay = record { beside = λ p timed h. h; from = λ time h. h; order = λ h. h };
     }
 
     -- and at last those that do not pass

@@ -1,6 +1,7 @@
 //! The parts that a cub has stored, and the ends of their play times, by which they are found and forgotten.
-ghost use Rattle.std.specs.Prelude.{◌≡◌, ◌<◌, ◌==◌, ◌&&◌, ◌++◌, ◌∷◌, [], true, IsTrue, OnOk, OnErr, length, not};
+ghost use Rattle.std.specs.Prelude.{◌≡◌, ◌<◌, ◌≤◌, ◌==◌, ◌&&◌, ◌++◌, ◌∷◌, [], true, IsTrue, OnOk, OnErr, length, drop, not};
 ghost use Rattle.std.specs.List.{AllByRecursion, filter, remove};
+ghost use Rattle.std.specs.List.Sorted.{IsNonDecreasing};
 ghost use Rattle.tiger_base.specs.Records.{same_want};
 ghost use Rattle.mirror_schedule.specs.Timed.{has_same_times};
 ghost use Rattle.node_kit.specs.Form.{is_place};
@@ -23,10 +24,12 @@ use tiger_base::{Instance, MOST_VISIT, Micros, NoMemory, Part, Visit, Want};
 pub struct StoredParts<'a> {
     items: VecDeque<StoredPart<'a>>,
     // For each part the end of its visit's play time: a walk over these numbers reads far less than one over the parts.
-    ends: Vec<Micros>,
+    ends: VecDeque<Micros>,
     plan: Plan,
     // The ends are those under the plan: no part came under one with other times.
     timed: bool,
+    // The ends do not fall: none came before the one that was there last.
+    sorted: bool,
     // No end comes before it: until then a tick walks over none.
     fresh_before: Micros,
 }
@@ -41,7 +44,7 @@ impl<'a> Model for StoredParts<'a> {
     ghost view = { λ s. s.items.items };
 
     ghost invariant = { λ s.
-        AreKept s.plan.params s.timed s.fresh_before s.items.items s.ends.items };
+        AreKept s.plan.params s.timed s.sorted s.fresh_before s.items.items s.ends.items };
 }
 
 impl<'a> StoredParts<'a> {
@@ -51,9 +54,10 @@ impl<'a> StoredParts<'a> {
     {
         StoredParts {
             items: VecDeque::new(alloc),
-            ends: Vec::new(alloc),
+            ends: VecDeque::new(alloc),
             plan: *plan,
             timed: true,
+            sorted: true,
             fresh_before: u64::MAX,
         }
     }
@@ -77,7 +81,7 @@ impl<'a> StoredParts<'a> {
         ensures { result ≡ stored_for want self.now }
     {
         if self.timed && is_here(want, &self.plan) {
-            find_by_end(want, &self.plan, &self.items, self.ends.as_slice())
+            find_by_end(want, &self.plan, &self.items, &self.ends, self.sorted)
         } else {
             find_part(want, &self.items)
         }
@@ -90,7 +94,9 @@ impl<'a> StoredParts<'a> {
         ensures err { OnErr result (self.new ≡ self.old) }
     {
         let end = end_of(stored.want, plan);
+        let sorted = stay_sorted(self.sorted, &self.ends, end);
         push(&mut self.items, &mut self.ends, stored, end)?;
+        self.sorted = sorted;
         self.timed = are_timed(self.timed, &self.plan, plan);
         if end < self.fresh_before {
             self.fresh_before = end;
@@ -107,8 +113,15 @@ impl<'a> StoredParts<'a> {
         if timed && reading < self.fresh_before {
             return;
         }
-        forget_stale(&mut self.items, &mut self.ends, timed, plan, reading);
-        self.fresh_before = least_end(self.ends.as_slice());
+        forget(
+            &mut self.items,
+            &mut self.ends,
+            timed,
+            self.sorted,
+            plan,
+            reading,
+        );
+        self.fresh_before = least_end(&self.ends, self.sorted);
     }
 
     /// Drops all parts of an instance.
@@ -142,21 +155,52 @@ fn end_of(want: Want, plan: &Plan) -> Micros
 }
 
 /// The first part that is for a want, by the ends under a plan: only a part with the end of the want's visit can be for
-/// it, so the others are not looked at.
+/// it, so the others are not looked at. If the ends do not fall, those parts stand one behind another.
 #[tactic(auto, unfolding(crate::specs::Records::stored_for))]
 fn find_by_end<'a>(
     want: Want,
     plan: &Plan,
     items: &VecDeque<StoredPart<'a>>,
-    ends: &[Micros],
+    ends: &VecDeque<Micros>,
+    sorted: bool,
 ) -> Option<Part<'a>>
     requires here { IsTrue (is_place plan.now.params want.slot.0 want.visit) }
-    requires ends { ends.now ≡ ends_of plan.now.params items.now.items }
+    requires ends { ends.now.items ≡ ends_of plan.now.params items.now.items }
+    requires sorted { sorted ≡ true → IsNonDecreasing ends.now.items }
+    ensures { result ≡ stored_for want items.now.items }
+{
+    if sorted {
+        return find_in_order(want, plan, items, ends);
+    }
+    let end = end_of(want, plan);
+    for i in 0..ends.len() {
+        if ends[i] == end && is_for(want, &items[i]) {
+            return Some(items[i].part.again());
+        }
+    }
+    None
+}
+
+/// The first part that is for a want, by ends under a plan that do not fall.
+#[tactic(auto, unfolding(crate::specs::Records::stored_for))]
+fn find_in_order<'a>(
+    want: Want,
+    plan: &Plan,
+    items: &VecDeque<StoredPart<'a>>,
+    ends: &VecDeque<Micros>,
+) -> Option<Part<'a>>
+    requires here { IsTrue (is_place plan.now.params want.slot.0 want.visit) }
+    requires ends { ends.now.items ≡ ends_of plan.now.params items.now.items }
+    requires sorted { IsNonDecreasing ends.now.items }
     ensures { result ≡ stored_for want items.now.items }
 {
     let end = end_of(want, plan);
-    for (i, x) in ends.iter().enumerate() {
-        if *x == end && is_for(want, &items[i]) {
+    let first = ends.partition_point(|x| *x < end);
+    for i in first..ends.len() {
+        if end < ends[i] {
+            return None;
+        }
+        if is_for(want, &items[i]) {
             return Some(items[i].part.again());
         }
     }
@@ -187,7 +231,7 @@ fn is_for<'a>(want: Want, x: &StoredPart<'a>) -> bool
 /// Puts a part and its end behind the others; without memory for both, nothing changes.
 fn push<'a>(
     items: &mut VecDeque<StoredPart<'a>>,
-    ends: &mut Vec<Micros>,
+    ends: &mut VecDeque<Micros>,
     stored: StoredPart<'a>,
     end: Micros,
 ) -> Result<(), NoMemory>
@@ -196,9 +240,9 @@ fn push<'a>(
     ensures no_part { OnErr result (items.new.items ≡ items.old.items) }
     ensures no_end { OnErr result (ends.new.items ≡ ends.old.items) }
 {
-    ends.push(end)?;
+    ends.push_back(end)?;
     if items.push_back(stored).is_err() {
-        ends.pop();
+        ends.pop_back();
         return Err(NoMemory);
     }
     Ok(())
@@ -211,10 +255,72 @@ fn are_timed(timed: bool, own: &Plan, plan: &Plan) -> bool
     timed && has_same_times(&own.params, &plan.params)
 }
 
+/// Whether the ends do not fall with one more behind them; `sorted` says that they do not without it.
+fn stay_sorted(sorted: bool, ends: &VecDeque<Micros>, end: Micros) -> bool
+    requires { sorted ≡ true → IsNonDecreasing ends.now.items }
+    ensures { result ≡ true → IsNonDecreasing (ends.now.items ++ end ∷ []) }
+{
+    match ends.back() {
+        Some(last) => sorted && *last <= end,
+        None => true,
+    }
+}
+
+/// Forgets the parts whose play time is over; `timed` says that the ends are those under the plan, and `sorted` that they
+/// do not fall.
+fn forget<'a>(
+    items: &mut VecDeque<StoredPart<'a>>,
+    ends: &mut VecDeque<Micros>,
+    timed: bool,
+    sorted: bool,
+    plan: &Plan,
+    reading: Micros,
+)
+    requires here { AllByRecursion (IsPartHere plan.now.params) items.old.items }
+    requires ends { AreEnds plan.now.params timed items.old.items ends.old.items }
+    requires sorted { sorted ≡ true → IsNonDecreasing ends.old.items }
+    ensures left { items.new.items
+        ≡ filter (λ x. not (is_stale plan.now.params reading x)) items.old.items }
+    ensures ends { EndsStay items.old.items ends.old.items items.new.items ends.new.items }
+{
+    if timed && sorted {
+        forget_first(items, ends, plan, reading);
+    } else {
+        forget_stale(items, ends, timed, plan, reading);
+    }
+}
+
+/// Forgets the parts whose play time is over, of parts whose ends are those under the plan and do not fall: they are
+/// the first.
+fn forget_first<'a>(
+    items: &mut VecDeque<StoredPart<'a>>,
+    ends: &mut VecDeque<Micros>,
+    plan: &Plan,
+    reading: Micros,
+)
+    requires ends { ends.old.items ≡ ends_of plan.now.params items.old.items }
+    requires sorted { IsNonDecreasing ends.old.items }
+    ensures left { items.new.items
+        ≡ filter (λ x. not (is_stale plan.now.params reading x)) items.old.items }
+    ensures ends { EndsStay items.old.items ends.old.items items.new.items ends.new.items }
+{
+    let count = ends.partition_point(|x| *x <= reading);
+    drop_first(items, count);
+    drop_first(ends, count);
+}
+
+/// Drops as many things from the front as a count says.
+fn drop_first<T: Drop>(items: &mut VecDeque<T>, count: usize)
+    requires { count ≤ length items.old.items }
+    ensures { items.new.items ≡ drop count items.old.items }
+{
+    items.drain(..count);
+}
+
 /// Forgets the parts whose play time is over; `timed` says that the ends are those under the plan.
 fn forget_stale<'a>(
     items: &mut VecDeque<StoredPart<'a>>,
-    ends: &mut Vec<Micros>,
+    ends: &mut VecDeque<Micros>,
     timed: bool,
     plan: &Plan,
     reading: Micros,
@@ -245,22 +351,38 @@ fn is_stale<'a>(x: &StoredPart<'a>, end: Micros, timed: bool, plan: &Plan, readi
     }
 }
 
-/// A time before which no end comes: the least of them, or the greatest that there is if there is no end.
-fn least_end(ends: &[Micros]) -> Micros
-    ensures { NoneBefore result ends.now }
+/// A time before which no end comes: the least of them, or the greatest that there is if there is no end. The least is
+/// the first if the ends do not fall.
+fn least_end(ends: &VecDeque<Micros>, sorted: bool) -> Micros
+    requires { sorted ≡ true → IsNonDecreasing ends.now.items }
+    ensures { NoneBefore result ends.now.items }
 {
+    if sorted {
+        return first_end(ends);
+    }
     let mut least = u64::MAX;
-    for x in ends {
-        least = least.min(*x);
+    for i in 0..ends.len() {
+        least = least.min(ends[i]);
     }
     least
+}
+
+/// The first end, of some that do not fall, or the greatest that there is if there is none.
+fn first_end(ends: &VecDeque<Micros>) -> Micros
+    requires { IsNonDecreasing ends.now.items }
+    ensures { NoneBefore result ends.now.items }
+{
+    match ends.front() {
+        Some(first) => *first,
+        None => u64::MAX,
+    }
 }
 
 /// Drops all parts of an instance.
 fn drop_instance<'a>(
     instance: Instance,
     items: &mut VecDeque<StoredPart<'a>>,
-    ends: &mut Vec<Micros>,
+    ends: &mut VecDeque<Micros>,
 )
     requires { length ends.old.items ≡ length items.old.items }
     ensures left { items.new.items ≡ filter (λ x. not (is_part_of instance x)) items.old.items }
@@ -285,7 +407,7 @@ fn drop_pieces<'a>(
     instance: Instance,
     visit: Visit,
     items: &mut VecDeque<StoredPart<'a>>,
-    ends: &mut Vec<Micros>,
+    ends: &mut VecDeque<Micros>,
 )
     requires { length ends.old.items ≡ length items.old.items }
     ensures left { items.new.items
@@ -307,7 +429,7 @@ fn is_piece_part<'a>(instance: Instance, visit: Visit, x: &StoredPart<'a>) -> bo
 }
 
 /// Takes out the part at a place, with its end.
-fn take_out<'a>(items: &mut VecDeque<StoredPart<'a>>, ends: &mut Vec<Micros>, i: usize)
+fn take_out<'a>(items: &mut VecDeque<StoredPart<'a>>, ends: &mut VecDeque<Micros>, i: usize)
     requires part { i < length items.old.items }
     requires end { i < length ends.old.items }
     ensures parts { items.new.items ≡ remove items.old.items i }

@@ -7,6 +7,7 @@ pub invariant_of-self : goal.invariant_of-self
 invariant_of-self c = record {
   beside = c.drop_instance.ensures.ends.beside c.self.inside.plan.params c.self.inside.timed c.self.invariant.beside;
   from = c.drop_instance.ensures.ends.from c.self.inside.fresh_before c.self.invariant.from;
+  order = λ so. c.drop_instance.ensures.ends.order (c.self.invariant.order so);
 }
 
 pub returns : goal.returns
