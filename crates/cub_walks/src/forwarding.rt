@@ -76,18 +76,19 @@ fn forward_lines<'a>(
     let (mut place, _) = view.first_pending();
     let mut next = at_by(view, place, time);
     while let Some(line) = next {
-        forward_line(site, stamp, view, line, out)?;
+        forward_line(site, stamp, view, place, line, out)?;
         next = after_near_by(view, place, line.key(), time);
         place = place.saturating_add(1);
     }
     Ok(())
 }
 
-/// Forwards the state of one line.
+/// Forwards the state of one line, which is looked for at a place first.
 fn forward_line<'a>(
     site: &Site,
     stamp: Stamp,
     view: &mut CubView,
+    place: usize,
     line: Line,
     out: &mut Outbox<Msg<'a>>,
 ) -> Result<(), NoMemory>
@@ -109,7 +110,12 @@ fn forward_line<'a>(
             visit: line.rec.visit + 1,
         };
         send_state(site, state, out)?;
-        view.mark(line.rec.tenancy.slot, line.rec.visit, Flag::Forwarded);
+        view.mark_near(
+            place,
+            line.rec.tenancy.slot,
+            line.rec.visit,
+            Flag::Forwarded,
+        );
     }
     Ok(())
 }

@@ -91,18 +91,19 @@ fn read_lines<'a>(
     let (mut place, _) = view.first_unasked();
     let mut next = at_by(view, place, time);
     while let Some(line) = next {
-        read_block(site, stamp, view, line, out)?;
+        read_block(site, stamp, view, place, line, out)?;
         next = after_near_by(view, place, line.key(), time);
         place = place.saturating_add(1);
     }
     Ok(())
 }
 
-/// Asks for the block of one line.
+/// Asks for the block of one line, which is looked for at a place first.
 fn read_block<'a>(
     site: &Site,
     stamp: Stamp,
     view: &mut CubView,
+    place: usize,
     line: Line,
     out: &mut Outbox<Msg<'a>>,
 ) -> Result<(), NoMemory>
@@ -120,7 +121,7 @@ fn read_block<'a>(
     if must_read(&site.plan, stamp, &line) {
         let disk = site.plan.disk_of(line.rec.visit);
         ask(site, disk, Want::of_block(&line.rec), out)?;
-        view.mark(line.rec.tenancy.slot, line.rec.visit, Flag::Asked);
+        view.mark_near(place, line.rec.tenancy.slot, line.rec.visit, Flag::Asked);
     }
     Ok(())
 }

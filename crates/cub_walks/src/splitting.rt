@@ -81,18 +81,19 @@ fn split_lines<'a>(
     // The walk takes no line out: the line that it stands at stays at its place.
     let (mut place, mut next) = store.view.first_unsplit(limit);
     while let Some(line) = next {
-        split_line(site, stamp, store, line, out)?;
+        split_line(site, stamp, store, place, line, out)?;
         next = after_near(&store.view, place, line.key());
         place = place.saturating_add(1);
     }
     Ok(())
 }
 
-/// Splits the visit of one line.
+/// Splits the visit of one line, which is looked for at a place first.
 fn split_line<'a>(
     site: &Site,
     stamp: Stamp,
     store: &mut Store<'a>,
+    place: usize,
     line: Line,
     out: &mut Outbox<Msg<'a>>,
 ) -> Result<(), NoMemory>
@@ -122,7 +123,9 @@ fn split_line<'a>(
         store
             .splits
             .remember(tenancy.instance, tenancy.slot, line.rec.visit)?;
-        store.view.mark(tenancy.slot, line.rec.visit, Flag::Split);
+        store
+            .view
+            .mark_near(place, tenancy.slot, line.rec.visit, Flag::Split);
     }
     Ok(())
 }

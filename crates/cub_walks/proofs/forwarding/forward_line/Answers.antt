@@ -6,7 +6,7 @@ use Rattle.cub_walks.proofs.forwarding.forward_line.Goals as goal
 
 pub returns-in_ok-send_state-clause-view : goal.returns-in_ok-send_state-clause-view
 returns-in_ok-send_state-clause-view c =
-    line_marked c.args.view.now c.args.line (is_to_forward c.args.site.now.plan.params c.args.stamp c.args.line) Forwarded (sym c.is_to_forward.ensures ∙ c.if-is_to_forward.true) c.requires.walk c.requires.there c.mark.ensures.marked
+    line_marked c.args.view.now c.args.line (is_to_forward c.args.site.now.plan.params c.args.stamp c.args.line) Forwarded (sym c.is_to_forward.ensures ∙ c.if-is_to_forward.true) c.requires.walk c.requires.there c.mark_near.ensures.marked
 
 pub returns-in_ok-send_state-clause-outs : goal.returns-in_ok-send_state-clause-outs
 returns-in_ok-send_state-clause-outs c =

@@ -11,7 +11,7 @@ ask-requires c = subst (λ (n : ℕ). n < c.args.site.now.plan.params.cubs * c.a
 
 pub returns-in_ok-ask-clause-view : goal.returns-in_ok-ask-clause-view
 returns-in_ok-ask-clause-view c =
-    line_marked c.args.view.now c.args.line (must_read c.args.site.now.plan.params c.args.stamp c.args.line) Asked (sym c.must_read.ensures ∙ c.if-must_read.true) c.requires.walk c.requires.there c.mark.ensures.marked
+    line_marked c.args.view.now c.args.line (must_read c.args.site.now.plan.params c.args.stamp c.args.line) Asked (sym c.must_read.ensures ∙ c.if-must_read.true) c.requires.walk c.requires.there c.mark_near.ensures.marked
 
 pub returns-else-must_read-clause-view : goal.returns-else-must_read-clause-view
 returns-else-must_read-clause-view c =
