@@ -3,6 +3,5 @@ pub mod Dues
 pub mod Free
 pub mod Lines
 pub mod Pending
-pub mod Takes
 pub mod Views
 pub mod Walks

@@ -3,7 +3,7 @@ ghost use Rattle.std.specs.Prelude.{◌≡◌, ◌++◌, ◌^◌, ◌<◌, ◌�
 ghost use Rattle.std.specs.List.{flat_map};
 ghost use Rattle.slot_plan.specs.Keys.{IsKey};
 ghost use Rattle.partial_view.specs.Lines.{key_of, marked};
-ghost use Rattle.partial_view.specs.Takes.{rec_if_asked, left_if_asked};
+ghost use Rattle.tests_of_views.specs.Takes.{rec_if_asked, left_if_asked};
 ghost use Rattle.partial_view.specs.Views.{IsWalk, line_at};
 ghost use Rattle.partial_view.specs.Walks.{replaced};
 

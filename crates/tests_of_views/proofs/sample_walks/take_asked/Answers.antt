@@ -2,7 +2,7 @@ use Rattle.std.proofs.Common.{◌≡◌, ◌∙◌, ap, refl, true, false, cond,
 use Rattle.std.specs.List.{AllByRecursion}
 use Rattle.partial_view.specs.declared.line.Line.{Line}
 use Rattle.partial_view.specs.Lines.{key_of}
-use Rattle.partial_view.specs.Takes.{left_if_asked}
+use Rattle.tests_of_views.specs.Takes.{left_if_asked}
 use Rattle.partial_view.specs.Walks.{KeepsVisits}
 use Rattle.partial_view.proofs.Calls.{record_of}
 use Rattle.partial_view.proofs.Walks.{begun, there, next_key, given_key, on, fewer, ended_view, ended_outs, flat_map-filter}

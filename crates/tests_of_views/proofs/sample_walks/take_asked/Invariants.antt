@@ -1,4 +1,4 @@
-use Rattle.partial_view.specs.Takes.{rec_if_asked, left_if_asked}
+use Rattle.tests_of_views.specs.Takes.{rec_if_asked, left_if_asked}
 use Rattle.partial_view.specs.Walks.{Underway, left}
 use Rattle.tests_of_views.proofs.sample_walks.take_asked.Given as goal
 
