@@ -1,5 +1,5 @@
 //! Timed lines in a row, of which the first can be taken out while the others stay where they are.
-ghost use Rattle.std.specs.Prelude.{◌≡◌, ◌^◌, ◌<◌, ◌≤◌, [], OnOk, OnErr, length, not, filter, drop, insert, remove, slice_get, slice_index_or, slice_set};
+ghost use Rattle.std.specs.Prelude.{◌≡◌, ◌+◌, ◌^◌, ◌<◌, ◌≤◌, [], OnOk, OnErr, length, not, filter, drop, insert, remove, slice_get, slice_index_or, slice_set};
 ghost use Rattle.partial_view.specs.Dues.{line_of};
 ghost use Rattle.partial_view.specs.Lines.{is_of};
 
@@ -89,7 +89,9 @@ impl TimedRow {
         ensures left { self.new ≡ remove self.old place }
     {
         let taken = *self.as_slice().get(place)?;
-        if place == 0 {
+        // The lines of a tick leave near the front: those before them are few, and those behind many.
+        if place < self.len() - place {
+            move_up(self.items.as_mut_slice(), self.gone, place);
             self.gone += 1;
             self.sweep();
         } else {
@@ -126,4 +128,13 @@ fn drop_first(items: &mut Vec<Timed>, count: usize)
     ensures { items.new.items ≡ drop count items.old.items }
 {
     items.drain(..count);
+}
+
+/// Moves some lines, from a place on, up by one, over the line behind them, which then stands there.
+fn move_up(items: &mut [Timed], from: usize, count: usize)
+    requires { from + count < length items.old }
+    ensures left { drop (from + 1) items.new ≡ remove (drop from items.old) count }
+    ensures len { length items.new ≡ length items.old }
+{
+    items[from..from + count + 1].rotate_right(1);
 }
