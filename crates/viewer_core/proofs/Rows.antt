@@ -1,5 +1,5 @@
 -- What a search finds in a row, and what one more part makes of it.
-use Rattle.std.proofs.Common.{◌≡◌, ℕ, zero, suc, ◌+◌, ◌-◌, ◌<◌, List, [], ◌∷◌, Less, Equal, Greater, Some, None, Result, Ok, Err, IfOk, IfErr, length, get_or, slice_get, arith, refl, sym, ap, subst, ◌∙◌, ◌⊎◌, inl, inr}
+use Rattle.std.proofs.Common.{◌≡◌, ℕ, zero, suc, ◌+◌, ◌<◌, List, [], ◌∷◌, Less, Equal, Greater, Some, None, Result, Ok, Err, IfOk, IfErr, length, get_or, slice_get, arith, refl, sym, ap, subst, ◌∙◌}
 use Rattle.std.specs.declared.cmp.Ordering.{Ordering}
 use Rattle.std.specs.Cmp.{IsTotalOrder}
 use Rattle.std.specs.Ordering.{is_lt, nat_cmp, ordering_index, ordering_reverse, match_ordering}
@@ -7,7 +7,6 @@ use Rattle.std.specs.List.{AllByRecursion, insert}
 use Rattle.std.specs.List.Sorted.{IsStrictlySortedBy, IsSearchInRange, IsBinarySearchResult, IsNonDecreasingBy}
 use Rattle.std.specs.Map.{keys_of}
 use Rattle.std.specs.BTreeMap.{insert_entry}
-use Rattle.std.proofs.lemmas.Bool.{cases_eq}
 use Rattle.std.proofs.lemmas.Cmp.{then_total, on_total, nat_cmp_total, eq_by_cmp_equiv}
 use Rattle.std.proofs.lemmas.List.{get_or-map}
 use Rattle.std.proofs.lemmas.List.Elements.{All-from_recursion, recursion_from_All}
@@ -18,7 +17,7 @@ use Rattle.std.proofs.lemmas.Map.Lookups.{exact_pairs, exact_unsigned}
 use Rattle.std.proofs.lemmas.Map.Views.{All-keys-insert_entry}
 use Rattle.std.proofs.lemmas.Option.{slice_get-get_or, slice_get_within, get_or_from_slice_get}
 use Rattle.tiger_base.specs.Span.{LibraryPart}
-use Rattle.viewer_core.specs.Rows.{Position, position_order, RowParts, IsRow, part_at, unless_there, row_with, IsFoundAt, IsGapFor}
+use Rattle.viewer_core.specs.Rows.{Position, position_order, RowParts, IsRow, part_at, unless_there, row_with, IsFoundAt, IsGapFor, IsUpTo, NoneBehind}
 
 abbrev Entry : Type 0
 Entry = Position × LibraryPart
@@ -35,6 +34,19 @@ below_it a b h = position_total.antisymm b a ∙ ap ordering_reverse h
 
 same_position : (a b : Position) → position_order a b ≡ Equal → a ≡ b
 same_position a b h = exact_pairs nat_cmp nat_cmp exact_unsigned exact_unsigned a b h
+
+-- what comes up to a position comes before what is behind that
+up_to_before : (top a p : Position) → IsUpTo top a → position_order top p ≡ Less → position_order a p ≡ Less
+up_to_before top a p up less = cases (position_order top a) refl
+  where
+    cases : (o : Ordering) → position_order top a ≡ o → position_order a p ≡ Less
+    cases Less e = absurd (up e)
+    cases Equal e = subst (λ (q : Position). position_order q p ≡ Less) (same_position top a e) less
+    cases Greater e = position_total.trans a top p (below_it top a e) less
+
+-- what comes up to a position comes up to a later one
+up_to_later : (old new a : Position) → IsUpTo new old → IsUpTo old a → IsUpTo new a
+up_to_later old new a later up less = up (up_to_before new old a later less)
 
 -- ---- what a search finds
 
@@ -71,27 +83,18 @@ module _ (row : RowParts) (sorted : IsRow row) where
         };
       }
 
-  -- a position behind the last one of the row
-  pub behind : (p : Position) (e : Entry) → slice_get row (length row - 1) ≡ Some e
-      → position_order e.0 p ≡ Less → IsGapFor p row (length row)
-  behind p e last less = record {
+  -- a position behind one behind which no part stands
+  pub behind : (top p : Position) → NoneBehind top row → position_order top p ≡ Less → IsGapFor p row (length row)
+  behind top p none less = record {
     inside = omega arith;
-    before = λ j d lt. above_it (get_or row j d).0 p (lower j d lt (cases_eq j (length row - 1)));
+    before = λ j d lt. above_it (get_or row j d).0 p (up_to_before top (get_or row j d).0 p (here j d lt) less);
     after = λ j d le within. absurd (omega (arith, le, within));
   }
     where
-      is_last : (d : Entry) → get_or row (length row - 1) d ≡ e
-      is_last d = get_or_from_slice_get row (length row - 1) e d last
-
-      lower : (j : ℕ) (d : Entry) → j < length row → (j ≡ length row - 1) ⊎ (j ≡ length row - 1 → ⊥)
-          → position_order (get_or row j d).0 p ≡ Less
-      lower j d lt (inl same) =
-          ap (λ (x : Entry). position_order x.0 p) (ap (λ k. get_or row k d) same ∙ is_last d) ∙ less
-      lower j d lt (inr apart) =
-          let within : j < length row - 1 = omega (arith, lt, apart) in
-          let below = rising j (length row - 1) d within (omega (arith, lt)) in
-          position_total.trans (get_or row j d).0 e.0 p
-          (ap (λ (x : Entry). position_order (get_or row j d).0 x.0) (sym (is_last d)) ∙ below) less
+      here : (j : ℕ) (d : Entry) → j < length row → IsUpTo top (get_or row j d).0
+      here j d lt =
+          subst (IsUpTo top) (get_or-map (λ (e : Entry). e.0) row j d d.0 lt)
+          (All-from_recursion (IsUpTo top) (keys_of row) none j d.0 (omega (arith, length-keys_of row, lt)))
 
   pub hit : (p : Position) (i : ℕ) (d : Entry) → IsFoundAt p row i → part_at p row ≡ Some (get_or row i d).1
   hit p i d at =
@@ -168,6 +171,18 @@ module _ (p : Position) (part : LibraryPart) where
 
   pub kept-found : (row : RowParts) (i : ℕ) (d : Entry) → IsRow row → IsFoundAt p row i → row ≡ row_with p part row
   kept-found row i d sorted at = ap (unless_there p part row) (sym (hit row sorted p i d at))
+
+  -- no part stands behind a position up to which the further one comes, and behind which none stood
+  pub none-insert : (old top : Position) (row : RowParts) (i : ℕ) → IsGapFor p row i → IsUpTo top old → IsUpTo top p
+      → NoneBehind old row → NoneBehind top (insert row i (p, part))
+  none-insert old top row i gap later here none =
+      let all = All-from_recursion (IsUpTo top) (keys_of row) (all_later (keys_of row) none) in
+      subst (NoneBehind top) (sym (inserted row i gap))
+      (recursion_from_All (IsUpTo top) _ (All-keys-insert_entry position_order p part (IsUpTo top) row all here))
+    where
+      all_later : (ps : List Position) → AllByRecursion (IsUpTo old) ps → AllByRecursion (IsUpTo top) ps
+      all_later [] h = tt
+      all_later (y ∷ ps) h = (up_to_later old top y later h.0, all_later ps h.1)
 
 pub row-none : IsRow []
 unfolding IsStrictlySortedBy

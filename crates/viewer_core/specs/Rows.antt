@@ -1,8 +1,9 @@
 -- What is kept of one instance, and the rows of all instances as one list.
-use Rattle.std.specs.Prelude.{◌≡◌, ℕ, ◌<◌, ◌≤◌, List, [], ◌∷◌, ◌++◌, length, map, slice_index_or, Option, Some, None}
+use Rattle.std.specs.Prelude.{◌≡◌, ◌≢◌, ℕ, ◌<◌, ◌≤◌, List, [], ◌∷◌, ◌++◌, length, map, slice_index_or, Option, Some, None}
 use Rattle.std.specs.declared.cmp.Ordering.{Ordering}
 use Rattle.std.specs.declared.cmp.Ordering.TheVariants.{Less, Greater}
 use Rattle.std.specs.Ordering.{is_eq, nat_cmp, ordering_then}
+use Rattle.std.specs.List.{AllByRecursion}
 use Rattle.std.specs.List.Sorted.{IsStrictlySortedBy}
 use Rattle.std.specs.Map.{lookup, keys_of}
 use Rattle.std.specs.BTreeMap.{insert_entry}
@@ -26,6 +27,14 @@ RowParts = List (Position × LibraryPart)
 -- its positions rise
 abbrev pub IsRow : RowParts → Type 0
 IsRow row = IsStrictlySortedBy position_order (keys_of row)
+
+-- a position comes at another one or before it
+abbrev pub IsUpTo : Position → Position → Type 0
+IsUpTo top p = position_order top p ≢ Less
+
+-- no part stands behind a position
+abbrev pub NoneBehind : Position → RowParts → Type 0
+NoneBehind top row = AllByRecursion (IsUpTo top) (keys_of row)
 
 -- the part at a position, if there is one
 abbrev pub part_at : Position → RowParts → Option LibraryPart

@@ -1,6 +1,6 @@
 //! The parts of one instance, by visit and piece.
 ghost use Rattle.std.specs.Prelude.{◌≡◌, [], true, IfOk, IfErr, OnOk, length};
-ghost use Rattle.viewer_core.specs.Rows.{part_at, row_with, IsFoundAt, IsGapFor};
+ghost use Rattle.viewer_core.specs.Rows.{part_at, row_with, IsFoundAt, IsGapFor, IsUpTo};
 
 use std::alloc::Global;
 use std::marker::Model;
@@ -10,16 +10,19 @@ use tiger_base::{NoMemory, Part, Visit};
 #[derive(Drop)]
 pub(crate) struct Row<'a> {
     parts: Vec<((Visit, u32), Part<'a>)>,
+    // No part stands behind it. The end of a row was last read a block play time ago, and is not in
+    // the cache any more: this is.
+    top: (Visit, u32),
 }
 
 impl<'a> Model for Row<'a> {
-    ghost use Rattle.viewer_core.specs.Rows.{RowParts, IsRow};
+    ghost use Rattle.viewer_core.specs.Rows.{RowParts, IsRow, NoneBehind};
 
     ghost Value = { RowParts };
 
     ghost view = { λ r. r.parts.items };
 
-    ghost invariant = { λ r. IsRow r.parts.items };
+    ghost invariant = { λ r. IsRow r.parts.items × NoneBehind r.top r.parts.items };
 }
 
 impl<'a> Row<'a> {
@@ -29,6 +32,7 @@ impl<'a> Row<'a> {
     {
         Row {
             parts: Vec::new(alloc),
+            top: (0, 0),
         }
     }
 
@@ -49,7 +53,11 @@ impl<'a> Row<'a> {
     {
         match self.search(position) {
             Ok(_) => Ok(()),
-            Err(place) => Ok(self.parts.insert(place, (position, part))?),
+            Err(place) => {
+                self.parts.insert(place, (position, part))?;
+                self.top = later(self.top, position);
+                Ok(())
+            }
         }
     }
 
@@ -69,9 +77,14 @@ impl<'a> Row<'a> {
     fn is_behind(&self, position: (Visit, u32)) -> bool
         ensures { result ≡ true → IsGapFor position self.now (length self.now) }
     {
-        match self.parts.last() {
-            Some(last) => last.0 < position,
-            None => true,
-        }
+        self.parts.is_empty() || self.top < position
     }
+}
+
+/// The later of two visits and pieces.
+fn later(a: (Visit, u32), b: (Visit, u32)) -> (Visit, u32)
+    ensures first { IsUpTo result a }
+    ensures second { IsUpTo result b }
+{
+    if a < b { b } else { a }
 }

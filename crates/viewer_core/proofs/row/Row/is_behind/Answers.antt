@@ -1,12 +1,11 @@
-use Rattle.std.proofs.Common.{◌≡◌, ◌-◌, Less, arith, length, slice_get, sym, ap, subst, ◌∙◌}
+use Rattle.std.proofs.Common.{◌≡◌, Less, arith, length, subst}
 use Rattle.std.proofs.lemmas.Bool.Decides.{nat_tests}
 use Rattle.viewer_core.specs.Rows.{position_order, RowParts, IsGapFor}
 use Rattle.viewer_core.proofs.Rows.{behind}
 use Rattle.viewer_core.proofs.row.Row.is_behind.Goals as goal
 
-pub returns-in-Some : goal.returns-in-Some
-returns-in-Some c lower =
-    let last = sym (c.in-Some.ensures.value ∙ ap (λ (row : RowParts). slice_get row (length row - 1)) c.deref.ensures.value) in
-    let less : position_order c.in-Some.last.now.0 c.args.position ≡ Less = grind (arith, nat_tests, lower) in
+pub returns-else-is_empty : goal.returns-else-is_empty
+returns-else-is_empty c lower =
+    let less : position_order c.self.inside.top c.args.position ≡ Less = grind (arith, nat_tests, lower) in
     subst (λ (row : RowParts). IsGapFor c.args.position row (length row)) c.self.view_is
-    (behind c.self.inside.parts.items c.self.invariant c.args.position c.in-Some.last.now last less)
+    (behind c.self.inside.parts.items c.self.invariant.0 c.self.inside.top c.args.position c.self.invariant.1 less)

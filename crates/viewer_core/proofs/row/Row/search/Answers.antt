@@ -9,4 +9,4 @@ returns c =
     let facts = c.binary_search_by_key.ensures in
     let by_key = facts.position (λ e. e.0) (answers_always _ _ _ (λ f a r g called. search rules)) in
     rw (← c.self.view_is, ← c.deref.ensures.value)
-    (searched c.deref.result.now (rw c.deref.ensures.value c.self.invariant) c.args.position _ facts.bound by_key)
+    (searched c.deref.result.now (rw c.deref.ensures.value c.self.invariant.0) c.args.position _ facts.bound by_key)
