@@ -1,5 +1,5 @@
 -- What keeps each instance in the lists at most once.
-use Rattle.std.proofs.Common.{◌≡◌, List, [], ◌∷◌, ◌++◌, Bool, true, false, not, refl, arith, ◌∙◌, cond, ◌||◌}
+use Rattle.std.proofs.Common.{◌≡◌, List, [], ◌∷◌, ◌++◌, Bool, true, false, not, refl, ap, arith, ◌∙◌, cond, ◌||◌}
 use Rattle.std.proofs.lemmas.List.{append-nil, append_assoc}
 use Rattle.std.proofs.lemmas.List.Elements.{filter-append}
 use Rattle.std.proofs.lemmas.List.Folds.{list_any-append}
@@ -59,3 +59,10 @@ pub has_start-gone : (asks : List Ask) (v : Instance) → has_start (without ask
 has_start-gone [] v = refl
 has_start-gone (a ∷ rest) v =
     elim (is_of v a) as (λ b. is_of v a ≡ b → has_start (cond (not b) (a ∷ without rest v) (without rest v)) v ≡ false) [ true ↦ (λ e. has_start-gone rest v) | false ↦ (λ e. rw e (has_start-gone rest v)) ] refl
+
+-- nothing goes where no start of the instance stands
+pub without-none : (asks : List Ask) (v : Instance) → has_start asks v ≡ false → without asks v ≡ asks
+without-none [] v e = refl
+without-none (a ∷ rest) v e =
+    let both = none_of (is_of v a) (has_start rest v) e in
+    rw (both.0) (ap (λ (xs : List Ask). a ∷ xs) (without-none rest v both.1))

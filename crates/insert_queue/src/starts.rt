@@ -97,8 +97,8 @@ impl Starts {
             waiting: has_start(&self.waiting, instance),
             redundant: has_start(&self.redundant, instance),
         };
-        remove(&mut self.waiting, instance);
-        remove(&mut self.redundant, instance);
+        remove(&mut self.waiting, instance, gave.waiting);
+        remove(&mut self.redundant, instance, gave.redundant);
         gave
     }
 
@@ -161,8 +161,13 @@ fn oldest_for(asks: &[Ask], disk: DiskNo) -> Option<Ask>
     asks.iter().find(|ask| ask.disk.0 == disk.0).copied()
 }
 
-fn remove(asks: &mut Vec<Ask>, instance: Instance)
+/// Takes the starts of an instance out; `there` says whether there are any. Mostly there are none,
+/// since each viewer state that comes drops the start of its instance.
+fn remove(asks: &mut Vec<Ask>, instance: Instance, there: bool)
+    requires { there ≡ has_start asks.old.items instance }
     ensures { asks.new.items ≡ without asks.old.items instance }
 {
-    asks.retain(|ask| ask.instance.0 != instance.0);
+    if there {
+        asks.retain(|ask| ask.instance.0 != instance.0);
+    }
 }
