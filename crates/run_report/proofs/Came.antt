@@ -1,5 +1,5 @@
 -- The pieces of a block, looked for one after another; and the deaths of a cub.
-use Rattle.std.proofs.Common.{◌≡◌, ℕ, zero, suc, ◌+◌, ◌-◌, ◌≤◌, ◌<◌, Bool, true, false, ◌&&◌, ◌||◌, nat_lt, List, [], ◌∷◌, ◌++◌, map, Option, Some, None, option_map, slice_get, if◌then◌else◌, arith, refl, sym, ap, ◌∙◌}
+use Rattle.std.proofs.Common.{◌≡◌, ℕ, zero, suc, ◌+◌, ◌<◌, Bool, true, false, ◌&&◌, ◌||◌, nat_lt, List, [], ◌∷◌, ◌++◌, map, Option, Some, None, option_map, slice_get, if◌then◌else◌, arith, refl, sym, ap, ◌∙◌}
 use Rattle.std.specs.List.{flat_map, list_any, range_with_len}
 use Rattle.slot_plan.specs.declared.params.Params.{Params}
 use Rattle.slot_plan.specs.Times.{time_of}

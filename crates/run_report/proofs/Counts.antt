@@ -1,5 +1,5 @@
 -- How far the counts of a report go.
-use Rattle.std.proofs.Common.{◌≡◌, ℕ, ◌+◌, ◌-◌, ◌*◌, ◌≤◌, ◌<◌, ◌^◌, zero, suc, Bool, true, false, ◌&&◌, nat_lt, nat_le, if◌then◌else◌, List, [], ◌∷◌, ◌++◌, length, Option, Some, None, IfSome, IsTrue, option_map, option_to_list, option_and_then, slice_get, min, refl, arith}
+use Rattle.std.proofs.Common.{ℕ, ◌+◌, ◌-◌, ◌*◌, ◌≤◌, ◌<◌, ◌^◌, zero, suc, Bool, true, false, ◌&&◌, nat_lt, nat_le, if◌then◌else◌, List, [], ◌∷◌, ◌++◌, length, Option, Some, None, IfSome, IsTrue, option_map, option_to_list, option_and_then, slice_get, min, arith}
 use Rattle.std.specs.Option.{option_or}
 use Rattle.std.specs.List.{flat_map}
 use Rattle.std.specs.Int.{div_ceil}
@@ -13,7 +13,6 @@ use Rattle.stripe_layout.specs.Layout.{block_span}
 use Rattle.stripe_layout.specs.Places.{place_of, place_in}
 use Rattle.stripe_layout.specs.declared.catalogue.Catalogue.{Catalogue}
 use Rattle.stripe_layout.specs.declared.catalogue.FileInfo.{FileInfo}
-use Rattle.stripe_layout.specs.declared.place.Place.{Place}
 use Rattle.node_kit.specs.Form.{is_tenancy}
 use Rattle.node_kit.specs.declared.course.Course.{Course}
 use Rattle.node_kit.specs.declared.course.Kept.{Kept}
@@ -26,7 +25,7 @@ use Rattle.run_report.specs.declared.outcome.BlockKind.TheVariants as kind
 use Rattle.run_report.specs.declared.outcome.Outcome.{Outcome}
 use Rattle.run_report.specs.declared.outcome.Reason.{Reason}
 use Rattle.run_report.specs.declared.tally.Tally.{Tally}
-use Rattle.run_report.specs.Outcomes.{placed_of, whole_sent, pieces_sent, span_in, span_at, reason_of, missing_of, kind_of, block_at, is_settled, settled_block, visits_of, blocks_of, outcome_of, order_outcomes, outcomes_of, is_stopped_below, stop_of}
+use Rattle.run_report.specs.Outcomes.{placed_of, whole_sent, pieces_sent, span_in, span_at, reason_of, missing_of, kind_of, block_at, is_settled, settled_block, visits_of, blocks_of, outcome_of, order_outcomes, outcomes_of}
 use Rattle.run_report.specs.Text.{plus, kind_tally, tally_of, kind_bytes, bytes_of, total_tally, kept_outcomes, Fits, BytesFit}
 use Rattle.run_report.proofs.Forms.{placed_form, and_right}
 
