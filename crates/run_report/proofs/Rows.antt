@@ -1,5 +1,5 @@
 -- What stands at each position of a row, before and after one is added.
-use Rattle.std.proofs.Common.{◌≡◌, ℕ, zero, suc, ◌+◌, ◌<◌, ◌≤◌, List, [], ◌∷◌, ◌++◌, Less, Equal, Greater, Bool, true, false, cond, ◌==◌, ◌&&◌, Option, Some, None, Result, Ok, Err, IfOk, IfErr, length, take, drop, get_or, if◌then◌else◌, arith, refl, sym, ap, subst, ◌∙◌}
+use Rattle.std.proofs.Common.{◌≡◌, ℕ, zero, suc, ◌+◌, ◌-◌, ◌<◌, ◌≤◌, [], ◌∷◌, ◌++◌, Less, Equal, Greater, Bool, true, false, cond, ◌==◌, ◌&&◌, Some, None, Result, Ok, Err, IfOk, IfErr, length, take, drop, get_or, slice_get, if◌then◌else◌, arith, refl, sym, ap, subst, ◌∙◌}
 use Rattle.std.specs.declared.cmp.Ordering.{Ordering}
 use Rattle.std.specs.Cmp.{IsTotalOrder, Equal-is, tied_then, unsigned_tied}
 use Rattle.std.specs.Ordering.{is_eq, nat_cmp, ordering_index, ordering_reverse, eq_by_cmp}
@@ -8,12 +8,12 @@ use Rattle.std.specs.List.{AllByRecursion, AllWithin, insert}
 use Rattle.std.specs.List.Sorted.{IsStrictlySortedBy, IsSearchInRange, IsBinarySearchResult, IsNonDecreasingBy}
 use Rattle.std.specs.Map.{keys_of}
 use Rattle.std.proofs.lemmas.Cmp.{then_total, on_total, nat_cmp_total, alike_right, eq_by_cmp_equiv}
-use Rattle.std.proofs.lemmas.List.{take-append-drop}
+use Rattle.std.proofs.lemmas.List.{take_all, drop_all, take-append-drop}
 use Rattle.std.proofs.lemmas.Map.{NonePasses, lookup-none, lookup-insert}
 use Rattle.std.proofs.lemmas.Map.Entries.{lookup_from_place}
 use Rattle.std.proofs.lemmas.Map.Keys.{sorted_head, sorted_tail, IsDistinct-from_sorted}
 use Rattle.std.proofs.lemmas.Map.Lookups.{exact_pairs, exact_unsigned}
-use Rattle.std.proofs.lemmas.Option.{slice_get-get_or}
+use Rattle.std.proofs.lemmas.Option.{slice_get-get_or, slice_get_within}
 use Rattle.run_report.specs.Rows.{Position, position_order, is_position, RowBeats, IsRow, beat_at, IsFoundAt, IsGapFor}
 use Rattle.run_report.proofs.Lookups.{or_none}
 
@@ -115,6 +115,31 @@ searched row p (Err i) sorted inside parted =
         before = within-take (λ e. position_order e.0 p ≡ Less) row i inside split.0;
         after = within-drop (λ e. position_order e.0 p ≡ Greater) row i split.1;
       };
+    }
+
+-- a position behind the last one of the row
+all_lower : (row : RowBeats) (p : Position) (last : Position × ℕ) (j : ℕ) → IsRow row → j + 1 ≡ length row
+    → slice_get row j ≡ Some last → position_order last.0 p ≡ Less → AllByRecursion (λ e. position_order e.0 p ≡ Less) row
+unfolding IsStrictlySortedBy
+all_lower [] p last j sorted count at less = tt
+all_lower (e ∷ []) p last zero sorted count at less =
+    let same : e ≡ last = cc in
+    (ap (λ (x : Position × ℕ). position_order x.0 p) same ∙ less, tt)
+all_lower (e ∷ []) p last (suc j) sorted count at less = absurd (omega (arith, count))
+all_lower (e ∷ f ∷ es) p last zero sorted count at less = absurd (omega (arith, count))
+all_lower (e ∷ f ∷ es) p last (suc j) sorted count at less =
+    let rest = all_lower (f ∷ es) p last j sorted.1 (omega (arith, count)) at less in
+    (position_total.trans e.0 f.0 p sorted.0.0 rest.0, rest)
+
+pub behind : (row : RowBeats) (p : Position) (last : Position × ℕ) → IsRow row → slice_get row (length row - 1) ≡ Some last
+    → position_order last.0 p ≡ Less → IsGapFor p row (length row)
+behind row p last sorted at less =
+    let within = slice_get_within row (length row - 1) last at in
+    record {
+      inside = omega arith;
+      before = rw (take_all (length row) row (omega arith))
+          (all_lower row p last (length row - 1) sorted (omega (arith, within)) at less);
+      after = rw (drop_all (length row) row (omega arith)) tt;
     }
 
 -- ---- what is found

@@ -1,5 +1,5 @@
 //! A row of beats by visit and piece, which keeps the first one at each.
-ghost use Rattle.std.specs.Prelude.{◌≡◌, ℕ, [], IfOk, IfErr, OnOk, Some, None, if◌then◌else◌};
+ghost use Rattle.std.specs.Prelude.{◌≡◌, ℕ, [], true, IfOk, IfErr, OnOk, Some, None, length, if◌then◌else◌};
 ghost use Rattle.std.specs.Option.{option_or};
 ghost use Rattle.run_report.specs.Rows.{beat_at, is_position, IsFoundAt, IsGapFor};
 
@@ -60,7 +60,21 @@ impl Row {
         ensures found { IfOk result (IsFoundAt position self.now) }
         ensures absent { IfErr result (IsGapFor position self.now) }
     {
+        // Most beats come in order, and a search by halving would read far from the end of the row.
+        if self.is_behind(position) {
+            return Err(self.beats.len());
+        }
         self.beats
             .binary_search_by_key(&position, |&(position, _)| position)
+    }
+
+    /// Whether a visit and a piece come behind all that stand in the row.
+    fn is_behind(&self, position: (Visit, u32)) -> bool
+        ensures { result ≡ true → IsGapFor position self.now (length self.now) }
+    {
+        match self.beats.last() {
+            Some(last) => last.0 < position,
+            None => true,
+        }
     }
 }
