@@ -1,20 +1,23 @@
--- What is told by a list of entries is told by its front and the rest.
-use Rattle.std.proofs.Common.{◌≡◌, ℕ, List, [], ◌∷◌, ◌++◌, Bool, true, false, ◌&&◌, ◌||◌, nat_lt, Option, Some, None, is_some, ◌+◌, ◌<◌, length, take, get_or, find, option_map, if◌then◌else◌, arith, refl, sym, ap, ◌∙◌}
+-- What is told by a list of entries, and what is told once there is one more.
+use Rattle.std.proofs.Common.{◌≡◌, ℕ, List, [], ◌∷◌, ◌++◌, Bool, true, false, ◌||◌, nat_lt, ◌==◌, Option, Some, None, find, option_map, if◌then◌else◌, arith, refl, sym, ap, ◌∙◌}
 use Rattle.std.specs.Option.{option_or}
-use Rattle.std.specs.List.{flat_map}
-use Rattle.std.proofs.lemmas.List.{take_more, append-nil}
+use Rattle.std.specs.List.{flat_map, list_any}
+use Rattle.std.proofs.lemmas.List.{append-nil}
 use Rattle.std.proofs.lemmas.List.Concat.{flat_map-append}
-use Rattle.std.proofs.lemmas.List.Folds.{find-append}
+use Rattle.std.proofs.lemmas.List.Elements.{filter-append}
+use Rattle.std.proofs.lemmas.List.Folds.{find-append, list_any-append}
 use Rattle.std.proofs.lemmas.Bool.Decides.{nat_tests}
 use Rattle.slot_plan.specs.declared.params.Params.{Params}
 use Rattle.node_kit.specs.declared.journal.Entry.{Entry}
 use Rattle.run_facts.specs.Commanded.{is_gone_of}
 use Rattle.run_model.specs.declared.parcels.Parcel.{Parcel}
+use Rattle.run_model.specs.Served.{whole_in, piece_in, pieces_numbered}
+use Rattle.run_model.specs.Tests.{is_failed_read, read_failed}
 use Rattle.run_report.specs.declared.placed.Placed.{Placed}
 use Rattle.run_report.specs.Outcomes.{first_sent, put_by, sooner, earliest}
 use Rattle.run_report.specs.Tables.{both}
 
-pub first_sent-append : (xs ys : List Parcel) → first_sent (xs ++ ys) ≡ option_or (first_sent xs) (first_sent ys)
+first_sent-append : (xs ys : List Parcel) → first_sent (xs ++ ys) ≡ option_or (first_sent xs) (first_sent ys)
 first_sent-append [] ys = refl
 first_sent-append (x ∷ xs) ys = refl
 
@@ -35,47 +38,14 @@ sooner_of x None b = refl
 sooner_of x (Some a) None = refl
 sooner_of x (Some a) (Some b) = sooner_both x a b
 
-pub earliest-append : (xs ys : List Placed) → earliest (xs ++ ys) ≡ both (earliest xs) (earliest ys)
+earliest-append : (xs ys : List Placed) → earliest (xs ++ ys) ≡ both (earliest xs) (earliest ys)
 earliest-append [] ys = refl
 earliest-append (x ∷ xs) ys =
     ap (λ o. Some (sooner x o)) (earliest-append xs ys)
     ∙ (ap (λ y. Some y) (sooner_of x (earliest xs) (earliest ys)) ∙ sym (both_sooner (sooner x (earliest xs)) (earliest ys)))
 
-pub both_assoc : (a b c : Option Placed) → both (both a b) c ≡ both a (both b c)
-both_assoc None b c = refl
-both_assoc (Some x) b c =
-    ap (λ o. both o c) (both_sooner x b)
-    ∙ (both_sooner (sooner x b) c ∙ (ap (λ y. Some y) (sym (sooner_of x b c)) ∙ sym (both_sooner x (both b c))))
-
--- one more element of a list
-earliest_more : {X : Type 0} (f : X → List Placed) (xs : List X) (i : ℕ) (d : X) → i < length xs
-    → earliest (flat_map f (take (i + 1) xs)) ≡ both (earliest (flat_map f (take i xs))) (earliest (f (get_or xs i d)))
-earliest_more f xs i d lt =
-    ap (λ ys. earliest (flat_map f ys)) (take_more xs i d lt)
-    ∙ (ap earliest (flat_map-append f (take i xs) (get_or xs i d ∷ []))
-    ∙ (ap (λ zs. earliest (flat_map f (take i xs) ++ zs)) (append-nil (f (get_or xs i d)))
-    ∙ earliest-append (flat_map f (take i xs)) (f (get_or xs i d))))
-
--- and of the Puts of a journal, behind those of others
-pub puts_more : (p : Params) (v : ℕ) (es : List Entry) (i : ℕ) (d : Entry) (new old first : Option Placed) → i < length es
-    → new ≡ both old (earliest (put_by p v (get_or es i d).stamp.beat (get_or es i d).what))
-    → old ≡ both first (earliest (flat_map (λ e. put_by p v e.stamp.beat e.what) (take i es)))
-    → new ≡ both first (earliest (flat_map (λ e. put_by p v e.stamp.beat e.what) (take (i + 1) es)))
-puts_more p v es i d new old first lt step before =
-    let f = λ (e : Entry). put_by p v e.stamp.beat e.what in
-    step ∙ (ap (λ o. both o (earliest (f (get_or es i d)))) before
-    ∙ (both_assoc first (earliest (flat_map f (take i es))) (earliest (f (get_or es i d)))
-    ∙ ap (both first) (sym (earliest_more f es i d lt))))
-
-pub journals_more : (p : Params) (v : ℕ) (js : List (List Entry)) (i : ℕ) (j : List Entry) (new old : Option Placed) → i < length js
-    → j ≡ get_or js i j → new ≡ both old (earliest (flat_map (λ e. put_by p v e.stamp.beat e.what) j))
-    → old ≡ earliest (flat_map (λ journal. flat_map (λ e. put_by p v e.stamp.beat e.what) journal) (take i js))
-    → new ≡ earliest (flat_map (λ journal. flat_map (λ e. put_by p v e.stamp.beat e.what) journal) (take (i + 1) js))
-journals_more p v js i j new old lt is step before =
-    let f = λ (journal : List Entry). flat_map (λ e. put_by p v e.stamp.beat e.what) journal in
-    step ∙ (ap (λ o. both o (earliest (f j))) before
-    ∙ (ap (λ (x : List Entry). both (earliest (flat_map f (take i js))) (earliest (f x))) is
-    ∙ sym (earliest_more f js i j lt)))
+flat_map-push : {A : Type 0} (f : Entry → List A) (es : List Entry) (e : Entry) → flat_map f (es ++ e ∷ []) ≡ flat_map f es ++ f e
+flat_map-push f es e = flat_map-append f es (e ∷ []) ∙ ap (λ ys. flat_map f es ++ ys) (append-nil (f e))
 
 find_one : (v : ℕ) (e : Entry) → option_map (λ e. e.stamp.beat) (find (λ e. is_gone_of v e.what) (e ∷ []))
     ≡ (if is_gone_of v e.what then Some e.stamp.beat else None)
@@ -90,16 +60,54 @@ map_or : (a b : Option Entry) → option_map (λ e. e.stamp.beat) (option_or a b
 map_or None b = refl
 map_or (Some x) b = refl
 
--- one more entry, looked at for a stop
-pub stops_more : (v : ℕ) (es : List Entry) (i : ℕ) (d : Entry) (new old : Option ℕ) → i < length es
-    → new ≡ option_or old (if is_gone_of v (get_or es i d).what then Some (get_or es i d).stamp.beat else None)
-    → old ≡ option_map (λ e. e.stamp.beat) (find (λ e. is_gone_of v e.what) (take i es))
-    → new ≡ option_map (λ e. e.stamp.beat) (find (λ e. is_gone_of v e.what) (take (i + 1) es))
-stops_more v es i d new old lt step before =
-    let gone = λ (e : Entry). is_gone_of v e.what in
-    let beat = λ (e : Entry). e.stamp.beat in
-    step ∙ (ap (λ o. option_or o (if gone (get_or es i d) then Some (get_or es i d).stamp.beat else None)) before
-    ∙ sym (ap (λ ys. option_map beat (find gone ys)) (take_more es i d lt)
-    ∙ (ap (option_map beat) (find-append gone (take i es) (get_or es i d ∷ []))
-    ∙ (map_or (find gone (take i es)) (find gone (get_or es i d ∷ []))
-    ∙ ap (option_or (option_map beat (find gone (take i es)))) (find_one v (get_or es i d))))))
+-- one more entry, looked at for a Put, a stop, a whole block, a piece and a failed read
+module _ (es : List Entry) (e : Entry) where
+  pub put_more : (p : Params) (v : ℕ) (old new : Option Placed) → new ≡ both old (earliest (put_by p v e.stamp.beat e.what))
+      → old ≡ earliest (flat_map (λ e. put_by p v e.stamp.beat e.what) es)
+      → new ≡ earliest (flat_map (λ e. put_by p v e.stamp.beat e.what) (es ++ e ∷ []))
+  put_more p v old new step before =
+      let f = λ (e : Entry). put_by p v e.stamp.beat e.what in
+      step ∙ (ap (λ o. both o (earliest (f e))) before
+      ∙ sym (ap earliest (flat_map-push f es e) ∙ earliest-append (flat_map f es) (f e)))
+
+  pub stop_more : (v : ℕ) (old new : Option ℕ)
+      → new ≡ option_or old (if is_gone_of v e.what then Some e.stamp.beat else None)
+      → old ≡ option_map (λ e. e.stamp.beat) (find (λ e. is_gone_of v e.what) es)
+      → new ≡ option_map (λ e. e.stamp.beat) (find (λ e. is_gone_of v e.what) (es ++ e ∷ []))
+  stop_more v old new step before =
+      let gone = λ (e : Entry). is_gone_of v e.what in
+      let beat = λ (e : Entry). e.stamp.beat in
+      step ∙ (ap (λ o. option_or o (if gone e then Some e.stamp.beat else None)) before
+      ∙ sym (ap (option_map beat) (find-append gone es (e ∷ []))
+      ∙ (map_or (find gone es) (find gone (e ∷ []))
+      ∙ ap (option_or (option_map beat (find gone es))) (find_one v e))))
+
+  pub whole_more : (v visit : ℕ) (old new : Option ℕ) → new ≡ option_or old (first_sent (whole_in v visit e.what))
+      → old ≡ first_sent (flat_map (λ e. whole_in v visit e.what) es)
+      → new ≡ first_sent (flat_map (λ e. whole_in v visit e.what) (es ++ e ∷ []))
+  whole_more v visit old new step before =
+      let f = λ (e : Entry). whole_in v visit e.what in
+      step ∙ (ap (λ o. option_or o (first_sent (f e))) before
+      ∙ sym (ap first_sent (flat_map-push f es e) ∙ first_sent-append (flat_map f es) (f e)))
+
+  pub piece_more : (v visit k : ℕ) (old new : Option ℕ)
+      → new ≡ option_or old (first_sent (pieces_numbered k (piece_in v visit e.what)))
+      → old ≡ first_sent (pieces_numbered k (flat_map (λ e. piece_in v visit e.what) es))
+      → new ≡ first_sent (pieces_numbered k (flat_map (λ e. piece_in v visit e.what) (es ++ e ∷ [])))
+  piece_more v visit k old new step before =
+      let f = λ (e : Entry). piece_in v visit e.what in
+      step ∙ (ap (λ o. option_or o (first_sent (pieces_numbered k (f e)))) before
+      ∙ sym (ap (λ xs. first_sent (pieces_numbered k xs)) (flat_map-push f es e)
+      ∙ (ap first_sent (filter-append (λ x. x.want.piece == k) (flat_map f es) (f e))
+      ∙ first_sent-append (pieces_numbered k (flat_map f es)) (pieces_numbered k (f e)))))
+
+  pub failed_more : (v visit : ℕ) (old new : Bool) → new ≡ (old || is_failed_read v visit 0 e.what)
+      → old ≡ read_failed v visit 0 es → new ≡ read_failed v visit 0 (es ++ e ∷ [])
+  failed_more v visit old new step before =
+      let f = λ (e : Entry). is_failed_read v visit 0 e.what in
+      step ∙ (ap (λ b. b || f e) before
+      ∙ sym (list_any-append f es (e ∷ []) ∙ ap (λ b. list_any f es || b) (or_false (f e))))
+    where
+      or_false : (b : Bool) → (b || false) ≡ b
+      or_false true = refl
+      or_false false = refl

@@ -3,6 +3,7 @@ pub mod Lookups
 pub mod Rows
 pub mod Rowed
 pub mod Gathering
+pub mod Fronts
 pub mod Forms
 pub mod Settled
 pub mod Came

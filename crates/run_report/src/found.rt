@@ -239,8 +239,8 @@ fn push_outcome(
     Ok(())
 }
 
-/// What became of each start, in the order of the orders. Each journal is read three times at most,
-/// and each settled visit then asks a table.
+/// What became of each start, in the order of the orders. Each journal is read once, and each settled
+/// visit then asks the tables.
 #[tactic(auto, unfolding(crate::specs::Outcomes::outcomes_of))]
 pub fn outcomes(
     alloc: Global,

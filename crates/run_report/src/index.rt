@@ -5,26 +5,20 @@ ghost use Rattle.run_model.specs.Tests.{read_failed, died_between};
 ghost use Rattle.run_model.specs.Served.{journal_at};
 ghost use Rattle.run_report.specs.Outcomes.{placed_of, stop_of, whole_sent, piece_sent};
 
-use crate::firsts::{Firsts, Puts};
-use crate::gather::{
-    all_deaths, all_puts, failed_reads, first_pieces, first_stops, first_wholes, journal_at, key_at,
-};
+use crate::gather::key_at;
 use crate::times::some_between;
-use node_kit::{Course, Journal, LinkTable};
+use crate::told::Told;
+use node_kit::{Course, Journal};
 use std::alloc::Global;
 use std::marker::Model;
 use tiger_base::{Beat, CubNo, Instance, NoMemory, Sequence, Tenancy, Visit};
 
-/// The journals of a run and its course, seen as these, with a table for each question that a report asks.
+/// The journals of a run and its course, seen as these, with what the journals tell.
 #[derive(Drop)]
 pub struct Index<'a> {
     course: &'a Course,
     journals: &'a [Journal],
-    puts: Puts,
-    stops: Firsts,
-    wholes: Firsts,
-    pieces: Firsts,
-    failed: Firsts,
+    told: Told,
     deaths: Sequence<Sequence<Beat>>,
 }
 
@@ -36,12 +30,11 @@ impl<'a> Model for Index<'a> {
     ghost view = { λ i. record { course = i.course.now; journals = i.journals.now } };
 
     ghost invariant = { λ i. AreTables i.course.now.plan.params i.journals.now
-        i.puts i.stops i.wholes i.pieces i.failed i.deaths };
+        i.told.puts i.told.stops i.told.wholes i.told.pieces i.told.failed i.deaths };
 }
 
 impl<'a> Index<'a> {
-    /// The tables of a run. Each journal is read from its first entry to its last three times at most.
-    #[tactic(auto, unfolding(crate::specs::Outcomes::stop_of, crate::specs::Outcomes::whole_sent, crate::specs::Outcomes::piece_sent, run_model::specs::Served::wholes_got, run_model::specs::Served::pieces_got))]
+    /// The tables of a run. Each journal is read from its first entry to its last once.
     pub fn of(
         alloc: Global,
         course: &'a Course,
@@ -51,17 +44,14 @@ impl<'a> Index<'a> {
             ≡ record { course = course.now; journals = journals.now }) }
     {
         let plan = &course.plan;
-        let links = LinkTable::new(plan);
-        let viewers = journal_at(journals, links.viewers().0);
+        let mut told = Told::new(alloc);
+        let deaths = told.read_cubs(alloc, plan, journals)?;
+        told.read_others(alloc, plan, journals)?;
         Ok(Index {
             course,
             journals,
-            puts: all_puts(alloc, plan, journals)?,
-            stops: first_stops(alloc, journal_at(journals, links.controller().0))?,
-            wholes: first_wholes(alloc, viewers)?,
-            pieces: first_pieces(alloc, viewers)?,
-            failed: failed_reads(alloc, journals)?,
-            deaths: all_deaths(alloc, plan.params.cubs as u32, journals)?,
+            told,
+            deaths,
         })
     }
 
@@ -77,7 +67,7 @@ impl<'a> Index<'a> {
     pub fn placed(&self, v: Instance) -> Option<Tenancy>
         ensures { result ≡ placed_of self.now.course.plan.params self.now.journals v.0 }
     {
-        match self.puts.get(v) {
+        match self.told.puts.get(v) {
             Some(put) => Some(put.tenancy),
             None => None,
         }
@@ -87,14 +77,14 @@ impl<'a> Index<'a> {
     pub fn stop(&self, v: Instance) -> Option<Beat>
         ensures { result ≡ stop_of self.now.course.plan.params self.now.journals v.0 }
     {
-        self.stops.get(key_at(v, 0, 0))
+        self.told.stops.get(key_at(v, 0, 0))
     }
 
     /// When the whole block of a visit was sent that the viewers got first.
     pub fn whole_sent(&self, v: Instance, visit: Visit) -> Option<Beat>
         ensures { result ≡ whole_sent self.now.course.plan.params self.now.journals v.0 visit }
     {
-        self.wholes.get(key_at(v, visit, 0))
+        self.told.wholes.get(key_at(v, visit, 0))
     }
 
     /// When the piece of a number was sent that they got first.
@@ -102,14 +92,14 @@ impl<'a> Index<'a> {
         ensures { result
             ≡ piece_sent self.now.course.plan.params self.now.journals v.0 visit piece }
     {
-        self.pieces.get(key_at(v, visit, piece))
+        self.told.pieces.get(key_at(v, visit, piece))
     }
 
     /// Whether the read of the whole block of a visit failed.
     pub fn read_failed(&self, v: Instance, visit: Visit) -> bool
         ensures { result ≡ list_any (read_failed v.0 visit 0) self.now.journals }
     {
-        self.failed.get(key_at(v, visit, 0)).is_some()
+        self.told.failed.get(key_at(v, visit, 0)).is_some()
     }
 
     /// Whether a cub died less than a span before a time, and below another one.

@@ -16,6 +16,7 @@ mod row;
 mod tally;
 mod text;
 mod times;
+mod told;
 
 use crate::text::{outcomes_text, push_size, push_total};
 pub use digest::digests_of;
