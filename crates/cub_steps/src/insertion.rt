@@ -1,8 +1,11 @@
 //! Insertion: starts that wait are put into free visits.
-ghost use Rattle.std.specs.Prelude.{◌≡◌, ◌≤◌, ◌<◌, [], ◌∷◌, ◌++◌, OnOk, IfSome};
+ghost use Rattle.std.specs.Prelude.{◌≡◌, ◌≤◌, ◌<◌, [], ◌∷◌, ◌++◌, OnOk, IfOk, IfErr};
 ghost use Rattle.std.specs.List.{AllByRecursion};
+ghost use Rattle.std.specs.Option.{ForSome};
+ghost use Rattle.std.specs.Result.{result_ok};
 ghost use Rattle.tiger_base.specs.Limits.{most_reading};
 ghost use Rattle.node_kit.specs.Deeds.{Did, each_in_turn};
+ghost use Rattle.partial_view.specs.Free.{HasEntered};
 ghost use Rattle.partial_view.specs.Lines.{visit_of};
 ghost use Rattle.slot_plan.specs.Keys.{IsKey};
 ghost use Rattle.slot_plan.specs.Times.{disk_count};
@@ -81,8 +84,8 @@ fn put_at<'a>(
 }
 
 /// Puts the starts that wait for a disk, as long as a visit of it is free. Once none is, the visits
-/// are not looked at again until one may be; once no start waits for the disk, the starts are not,
-/// until one does.
+/// are not looked at again until one may be, and then from behind those that are known to be taken;
+/// once no start waits for the disk, the starts are not, until one does.
 fn put_on<'a>(
     site: &Site,
     reading: Micros,
@@ -105,9 +108,12 @@ fn put_on<'a>(
         return Ok(());
     }
     while let Some(ask) = store.starts.next(disk) {
-        let Some((slot, visit)) = free_on(site, reading, disk, store) else {
-            store.view.set_full(disk, reading);
-            return Ok(());
+        let (slot, visit) = match free_on(site, reading, disk, store) {
+            Ok(free) => free,
+            Err(last) => {
+                store.view.set_full(disk, reading, last);
+                return Ok(());
+            }
         };
         // The call tells that the instance has no other start.
         prove!(store.starts.is_asked(ask.instance));
@@ -118,21 +124,24 @@ fn put_on<'a>(
     Ok(())
 }
 
-/// The first visit of a disk that is free.
+/// The first visit of a disk that is free. An `Err` says that none is, and gives the last one of
+/// those that are taken.
 #[tactic(auto, unfolding(cub_rules::specs::Ticks::free_on))]
 fn free_on<'a>(
     site: &Site,
     reading: Micros,
     disk: DiskNo,
     store: &Store<'a>,
-) -> Option<(SlotNo, Visit)>
+) -> Result<(SlotNo, Visit), Option<(SlotNo, Visit)>>
     requires reading { reading ≤ most_reading }
     requires plan { store.now.view.params ≡ site.now.plan.params }
-    ensures free { result ≡ free_on site.now.plan.params reading disk.0 store.now }
-    ensures slot { IfSome result (λ k. k.0.0 < site.now.plan.params.slots) }
-    ensures small { IfSome result (λ k. k.1 ≤ 2000000000) }
+    ensures free { result_ok result ≡ free_on site.now.plan.params reading disk.0 store.now }
+    ensures slot { IfOk result (λ k. k.0.0 < site.now.plan.params.slots) }
+    ensures small { IfOk result (λ k. k.1 ≤ 2000000000) }
+    ensures last { IfErr result (λ last. ForSome last (HasEntered site.now.plan.params reading)) }
 {
-    free_visit(&site.plan, store.view.view(), reading, disk)
+    let taken_to = store.view.taken_to(disk, reading);
+    free_visit(&site.plan, store.view.view(), reading, disk, taken_to)
 }
 
 /// The tenancy of a start from a visit on.

@@ -1,18 +1,22 @@
 -- Disks stay full where a view changes, as long as no visit in the window becomes free.
-use Rattle.std.proofs.Common.{◌≡◌, ℕ, ◌+◌, ◌<◌, ◌≤◌, ◌||◌, ◌==◌, Bool, true, false, cond, not, nat_lt, IsTrue, List, [], ◌∷◌, ◌++◌, Option, Some, Result, Ok, Err, OnOk, OnErr, is_some, refl, sym, ap, subst, ⊎_elim, arith}
-use Rattle.std.specs.List.{AllByRecursion, filter, find, list_any}
-use Rattle.std.proofs.lemmas.Bool.{and_parts, and_from, both_ways, eqb-true, ltb-true, le-leb, lt-ltb, cases_lt}
+use Rattle.std.proofs.Common.{◌≡◌, ℕ, ◌+◌, ◌<◌, ◌≤◌, Bool, true, false, cond, not, IsTrue, List, [], ◌∷◌, ◌++◌, Option, Some, None, Result, Ok, Err, OnOk, OnErr, is_some, refl, sym, ap, subst, ⊎_elim, arith}
+use Rattle.std.specs.List.{AllByRecursion, filter, find}
+use Rattle.std.specs.Option.{ForSome}
+use Rattle.std.proofs.lemmas.Bool.{and_from, both_ways, eqb-true, le-leb, lt-ltb, cases_lt}
+use Rattle.std.proofs.lemmas.Option.{same_Some}
 use Rattle.tiger_base.specs.declared.tenancy.Rec.{Rec}
 use Rattle.slot_plan.specs.declared.params.Params.{Params}
-use Rattle.slot_plan.specs.Keys.{Key, due_of, is_earlier}
+use Rattle.slot_plan.specs.Keys.{Key, due_of, is_earlier, is_behind}
 use Rattle.slot_plan.specs.Searches.{EntersFrom}
 use Rattle.slot_plan.specs.Times.{in_window}
+use Rattle.slot_plan.specs.Windows.{IsOpen}
+use Rattle.slot_plan.proofs.Keys.{due_earlier}
 use Rattle.slot_plan.proofs.Times.{window_parts}
 use Rattle.partial_view.specs.declared.full_disks.FullDisk.{FullDisk}
 use Rattle.partial_view.specs.declared.full_disks.FullDisks.{FullDisks}
 use Rattle.partial_view.specs.declared.line.Line.{Line}
 use Rattle.partial_view.specs.declared.line.Flag.{Flag}
-use Rattle.partial_view.specs.Free.{is_free, IsFullAt, IsFull, AreFull, is_known, others}
+use Rattle.partial_view.specs.Free.{is_free, IsFullAt, IsTakenTo, HasEntered, IsFull, IsKnown, AreFull, is_disk, others}
 use Rattle.partial_view.specs.Lines.{key_of, visit_of, marked, unmarked, same, is_at}
 use Rattle.partial_view.specs.Views.{line_at, with_mark, without, with_line, with_record}
 use Rattle.partial_view.proofs.Order.{same_is, key_of-marked, all_append, all_filter, all_implies}
@@ -85,14 +89,20 @@ apart_due p j k reading gone inside = cases (same k j) refl
         let later : reading + p.window_b < due_of p k = (window_parts p reading k.0.0 k.1 inside).1 in
         absurd (omega (arith, one, gone, later))
 
+-- what has entered at a reading has at a later one
+entered_later : (p : Params) (low high : ℕ) (k : Key) → low ≤ high → HasEntered p low k → HasEntered p high k
+entered_later p low high k later h = (h.0, omega (arith, h.1, later))
+
 -- the disks stay full from a time on if no visit that is in the window then becomes free
 full_by : (p : Params) (low high : ℕ) (before now : List Line) (disks : List FullDisk) → low ≤ high
     → ((reading : ℕ) (k : Key) → high ≤ reading → IsTrue (in_window p reading k.0.0 k.1) → is_free now k ≡ true → is_free before k ≡ true)
-    → AllByRecursion (λ x. IsFull p x.disk.0 low x.until before) disks → AllByRecursion (λ x. IsFull p x.disk.0 high x.until now) disks
+    → AllByRecursion (IsFull p low before) disks → AllByRecursion (IsFull p high now) disks
 full_by p low high before now disks later frees h =
-    all_implies (λ x. IsFull p x.disk.0 low x.until before) (λ x. IsFull p x.disk.0 high x.until now)
-    (λ x f reading late early k o.
-    f reading (omega (arith, later, late)) early k (record { in_plan = o.in_plan; on_disk = o.on_disk; window = o.window; passes = frees reading k late o.window o.passes }))
+    all_implies (IsFull p low before) (IsFull p high now)
+    (λ x f. record {
+      frees = λ reading late k o. f.frees reading (omega (arith, later, late)) k (record { in_plan = o.in_plan; on_disk = o.on_disk; window = o.window; passes = frees reading k late o.window o.passes });
+      entered = λ k e. entered_later p low high k later (f.entered k e);
+    })
     disks h
 
 pub full_record : (p q : Params) (full : FullDisks) (r : Rec) (lines : List Line) → AreFull p full lines → AreFull p full (with_record q r lines)
@@ -113,40 +123,64 @@ pub full_later : (p : Params) (high : ℕ) (full : FullDisks) (lines : List Line
 full_later p high full lines later h = full_by p full.from high lines lines full.disks.items later (λ reading k late inside free. free) h
 
 pub full_none : (p : Params) (full : FullDisks) (lines : List Line) → full.disks.items ≡ [] → AreFull p full lines
-full_none p full lines e = subst (λ (xs : List FullDisk). AllByRecursion (λ x. IsFull p x.disk.0 full.from x.until lines) xs) (sym e) tt
+full_none p full lines e = subst (λ (xs : List FullDisk). AllByRecursion (IsFull p full.from lines) xs) (sym e) tt
 
--- a disk is full from a reading on at which it is, until the next visit of it comes into the window
-pub full_until : (p : Params) (disk reading until : ℕ) (lines : List Line) → EntersFrom p disk reading until → IsFullAt p disk reading lines → IsFull p disk reading until lines
+-- a visit that is free comes into the window after a reading at which the disk is full
+enters_after : (p : Params) (disk reading r : ℕ) (lines : List Line) (k : Key) → IsFullAt p disk reading lines → reading ≤ r → IsOpen p r disk (is_free lines) k → reading + p.window_a < due_of p k
 unfolding in_window
-full_until p disk reading until lines enters full = λ r late early k o.
-    let w = window_parts p r k.0.0 k.1 o.window in
-    let low : due_of p k ≤ reading + p.window_a = ⊎_elim (λ l. let far = enters k o.in_plan o.on_disk l in absurd (omega (arith, w.0, far, early))) (λ g. g) (cases_lt (reading + p.window_a) (due_of p k)) in
-    let high : reading + p.window_b < due_of p k = omega (arith, w.1, late) in
-    full k (record { in_plan = o.in_plan; on_disk = o.on_disk; passes = o.passes; window = and_from _ _ (le-leb _ _ low) (lt-ltb _ _ high) })
+enters_after p disk reading r lines k full late o =
+    let high : reading + p.window_b < due_of p k = omega (arith, (window_parts p r k.0.0 k.1 o.window).1, late) in
+    ⊎_elim (λ l. l)
+    (λ low. absurd (full k (record { in_plan = o.in_plan; on_disk = o.on_disk; passes = o.passes; window = and_from _ _ (le-leb _ _ low) (lt-ltb _ _ high) })))
+    (cases_lt (reading + p.window_a) (due_of p k))
 
--- what is known of one of the disks
-known_head : (p : Params) (lines : List Line) (from disk reading : ℕ) (x : FullDisk) (rest b : Bool) → is_known disk reading x ≡ b → from ≤ reading → (b || rest) ≡ true
-    → IsFull p x.disk.0 from x.until lines → (rest ≡ true → IsFullAt p disk reading lines) → IsFullAt p disk reading lines
-known_head p lines from disk reading x rest true is late e full more =
-    let both = and_parts (x.disk.0 == disk) (nat_lt reading x.until) is in
-    subst (λ (d : ℕ). IsFullAt p d reading lines) (eqb-true _ _ both.0) (full reading late (ltb-true _ _ both.1))
-known_head p lines from disk reading x rest false is late e full more = more e
+-- what comes into the window after a reading comes behind what entered before
+behind_entered : (p : Params) (reading : ℕ) (last : Option Key) (k : Key) → ForSome last (HasEntered p reading) → reading + p.window_a < due_of p k → is_behind p last k ≡ true
+unfolding is_behind
+behind_entered p reading None k entered later = refl
+behind_entered p reading (Some a) k entered later = due_earlier p a k (omega (arith, (entered a refl).1, later))
 
-pub full_known : (p : Params) (lines : List Line) (from disk reading : ℕ) (disks : List FullDisk) → from ≤ reading → list_any (is_known disk reading) disks ≡ true
-    → AllByRecursion (λ x. IsFull p x.disk.0 from x.until lines) disks → IsFullAt p disk reading lines
-full_known p lines from disk reading [] late e h = absurd (both_ways false refl e)
-full_known p lines from disk reading (x ∷ xs) late e h =
-    known_head p lines from disk reading x (list_any (is_known disk reading) xs) (is_known disk reading x) refl late e h.0 (λ more. full_known p lines from disk reading xs late more h.1)
+-- a disk is full from a reading on at which it is
+pub full_from : (p : Params) (reading : ℕ) (lines : List Line) (x : FullDisk) → EntersFrom p x.disk.0 reading x.until → IsFullAt p x.disk.0 reading lines → ForSome x.last (HasEntered p reading)
+    → IsFull p reading lines x
+full_from p reading lines x enters full entered = record {
+  frees = λ r late k o.
+      let after = enters_after p x.disk.0 reading r lines k full late o in
+      (omega (arith, enters k o.in_plan o.on_disk after, (window_parts p r k.0.0 k.1 o.window).0), behind_entered p reading x.last k entered after);
+  entered = entered;
+}
+
+-- what is known of the first of the disks that is the one
+known_head : (p : Params) (lines : List Line) (disk reading : ℕ) (x : FullDisk) (rest : Option FullDisk) (b : Bool) → is_disk disk x ≡ b → IsFull p reading lines x
+    → ForSome rest (IsKnown p disk reading lines) → ForSome (cond b (Some x) rest) (IsKnown p disk reading lines)
+known_head p lines disk reading x rest true is full more y e =
+    subst (λ (z : FullDisk). IsKnown p disk reading lines z) (same_Some x y e) (eqb-true _ _ is, full)
+known_head p lines disk reading x rest false is full more y e = more y e
+
+pub known_of : (p : Params) (lines : List Line) (disk reading : ℕ) (disks : List FullDisk) → AllByRecursion (IsFull p reading lines) disks
+    → ForSome (find (is_disk disk) disks) (IsKnown p disk reading lines)
+known_of p lines disk reading [] h y e = absurd (cc)
+known_of p lines disk reading (x ∷ xs) h y e = known_head p lines disk reading x (find (is_disk disk) xs) (is_disk disk x) refl h.0 (known_of p lines disk reading xs h.1) y e
+
+-- so no visit is free before its time, and one that is comes behind its last visit
+pub full_before : (p : Params) (lines : List Line) (disk reading : ℕ) (x : FullDisk) → IsKnown p disk reading lines x → reading < x.until → IsFullAt p disk reading lines
+full_before p lines disk reading x known early =
+    subst (λ (d : ℕ). IsFullAt p d reading lines) known.0 (λ k o. absurd (omega (arith, early, (known.1.frees reading (omega arith) k o).0)))
+
+pub taken_to : (p : Params) (lines : List Line) (disk reading : ℕ) (x : FullDisk) → IsKnown p disk reading lines x → IsTakenTo p disk reading x.last lines
+taken_to p lines disk reading x known =
+    subst (λ (d : ℕ). IsTakenTo p d reading x.last lines) known.0 (λ k o. (known.1.frees reading (omega arith) k o).1)
+
+pub taken_none : (p : Params) (lines : List Line) (disk reading : ℕ) → IsTakenTo p disk reading None lines
+unfolding is_behind
+taken_none p lines disk reading k o = refl
 
 -- one disk more, whether there was memory for it or not
-abbrev FullFrom : Params → ℕ → List Line → FullDisk → Type 0
-FullFrom p from lines x = IsFull p x.disk.0 from x.until lines
-
 pub full_put : {T E : Type 0} (p : Params) (lines : List Line) (from : ℕ) (x : FullDisk) (old new : List FullDisk) (r : Result T E)
     → OnOk r (new ≡ others x.disk.0 old ++ x ∷ []) → OnErr r (new ≡ others x.disk.0 old)
-    → AllByRecursion (FullFrom p from lines) old → IsFull p x.disk.0 from x.until lines → AllByRecursion (FullFrom p from lines) new
+    → AllByRecursion (IsFull p from lines) old → IsFull p from lines x → AllByRecursion (IsFull p from lines) new
 full_put p lines from x old new (Ok t) ok err h here =
-    let left = all_filter (FullFrom p from lines) (λ y. not (y.disk.0 == x.disk.0)) old h in
-    subst (λ (ys : List FullDisk). AllByRecursion (FullFrom p from lines) ys) (sym ok) (all_append (FullFrom p from lines) (others x.disk.0 old) (x ∷ []) left (here, tt))
+    let left = all_filter (IsFull p from lines) (λ y. not (is_disk x.disk.0 y)) old h in
+    subst (λ (ys : List FullDisk). AllByRecursion (IsFull p from lines) ys) (sym ok) (all_append (IsFull p from lines) (others x.disk.0 old) (x ∷ []) left (here, tt))
 full_put p lines from x old new (Err t) ok err h here =
-    subst (λ (ys : List FullDisk). AllByRecursion (FullFrom p from lines) ys) (sym err) (all_filter (FullFrom p from lines) (λ y. not (y.disk.0 == x.disk.0)) old h)
+    subst (λ (ys : List FullDisk). AllByRecursion (IsFull p from lines) ys) (sym err) (all_filter (IsFull p from lines) (λ y. not (is_disk x.disk.0 y)) old h)

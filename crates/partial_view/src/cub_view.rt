@@ -5,7 +5,8 @@ ghost use Rattle.std.specs.Prelude.{◌≡◌, ℕ, ◌+◌, ◌^◌, ◌≤◌,
 ghost use Rattle.tiger_base.specs.Limits.{most_reading};
 ghost use Rattle.slot_plan.specs.Keys.{IsKey, due_of};
 ghost use Rattle.slot_plan.specs.Times.{disk_count};
-ghost use Rattle.partial_view.specs.Free.{IsFullAt};
+ghost use Rattle.std.specs.Option.{ForSome};
+ghost use Rattle.partial_view.specs.Free.{IsFullAt, IsTakenTo, HasEntered};
 ghost use Rattle.partial_view.specs.Lines.{key_of, visit_of, unmarked, is_of};
 ghost use Rattle.partial_view.specs.Views.{Seen, IsWalk, line_at, with_mark, without, without_instance, with_record};
 ghost use Rattle.partial_view.specs.Walks.{IsFirstFor};
@@ -15,7 +16,7 @@ ghost use Rattle.partial_view.specs.Pending.{IsForwardedTo, is_pending, IsAskedB
 ghost use Rattle.partial_view.specs.Pending.{IsSplitFrom, IsSplitBetween};
 ghost use Rattle.partial_view.specs.Pending.{is_unsplit, is_unsplit_from};
 
-use crate::full_disks::FullDisks;
+use crate::full_disks::{FullDisk, FullDisks};
 use crate::{Added, Flag, Line, View};
 use slot_plan::Plan;
 use state_forward::next_due;
@@ -266,16 +267,28 @@ impl CubView {
         self.full.is_full(disk, reading)
     }
 
-    /// Keeps in mind that no visit of a disk that is in the window at a reading is free. Without
-    /// memory for it, it does not.
-    pub fn set_full(&mut self, disk: DiskNo, reading: Micros)
+    /// A visit behind which each visit of a disk comes that is in the window at a reading and free:
+    /// the last one that was in the window when the disk was found full. It is known from the same
+    /// reading on as that the disk is full, and stays known when the next visit comes into the
+    /// window; `None` says only that the visits have to be looked at from the first one on.
+    pub fn taken_to(&self, disk: DiskNo, reading: Micros) -> Option<(SlotNo, Visit)>
+        ensures taken { IsTakenTo self.now.params disk.0 reading result self.now.lines }
+        ensures entered { ForSome result (HasEntered self.now.params reading) }
+    {
+        self.full.taken_to(disk, reading)
+    }
+
+    /// Keeps in mind that no visit of a disk that is in the window at a reading is free, and which
+    /// is the last one of them. Without memory for it, it does not.
+    pub fn set_full(&mut self, disk: DiskNo, reading: Micros, last: Option<(SlotNo, Visit)>)
         requires reading { reading ≤ most_reading }
         requires disk { disk.0 < disk_count self.old.params }
         requires full { IsFullAt self.old.params disk.0 reading self.old.lines }
+        requires last { ForSome last (HasEntered self.old.params reading) }
         ensures { self.new ≡ self.old }
     {
         let until = self.plan.next_entry(reading, disk);
-        self.full.take_in(disk, reading, until);
+        self.full.take_in(reading, FullDisk { disk, until, last });
     }
 }
 

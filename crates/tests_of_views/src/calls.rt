@@ -22,7 +22,8 @@ pub enum Call {
     Remove(u32, u32),
     /// Removes all records of an instance.
     RemoveInstance(u32),
-    /// Looks for a free visit of a disk, and lets the view keep in mind if none is.
+    /// Looks for a free visit of a disk behind those that are known to be taken, and lets the view
+    /// keep in mind if none is.
     Look(u32, u32),
     /// Sets a limit up to which the states are known to be forwarded.
     SetForwarded(Micros),
@@ -44,6 +45,8 @@ pub enum Ask {
     Done(Micros),
     /// Whether a disk is known to be full at a reading.
     Full(u32, u32),
+    /// Up to which visit those of a disk are known to be taken at a reading.
+    TakenTo(u32, u32),
     /// Where the walk that forwards begins, and where the one that asks for blocks does.
     Begins,
     /// Where the walk that splits from a limit on begins.
@@ -120,20 +123,21 @@ fn make(view: &mut CubView, call: Call, text: &mut String) -> Result<(), NoMemor
     Ok(())
 }
 
-/// Looks for a free visit of a disk, and lets the view keep in mind if none is. The plan's eight
-/// disks are counted round.
+/// Looks for a free visit of a disk behind those that are known to be taken, and lets the view keep
+/// in mind if none is. The plan's eight disks are counted round.
 fn look(view: &mut CubView, disk: u32, reading: u32) -> Option<(SlotNo, Visit)>
     requires { view.old.params ≡ small }
     ensures { view.new ≡ view.old }
 {
     let disk = DiskNo(disk % 8);
     let reading = u64::from(reading);
-    match free_visit(&small_plan(), view.view(), reading, disk) {
-        None => {
-            view.set_full(disk, reading);
+    let taken_to = view.taken_to(disk, reading);
+    match free_visit(&small_plan(), view.view(), reading, disk, taken_to) {
+        Ok(found) => Some(found),
+        Err(last) => {
+            view.set_full(disk, reading, last);
             None
         }
-        Some(found) => Some(found),
     }
 }
 
@@ -166,6 +170,10 @@ fn push_asked(view: &CubView, ask: Ask, text: &mut String) -> Result<(), AllocEr
         Ask::Full(disk, reading) => {
             let full = view.is_full(DiskNo(disk), u64::from(reading));
             write!(text, "{full}; ")
+        }
+        Ask::TakenTo(disk, reading) => {
+            let last = view.taken_to(DiskNo(disk), u64::from(reading));
+            write!(text, "{last:?}; ")
         }
         Ask::Begins => {
             push_begin(view.first_pending(), text)?;

@@ -1,6 +1,7 @@
-//! Free visits of a small plan, and at which readings its disks are full, beside values that were
-//! worked out by hand: a visit is in the window from 800000 before it is due up to 200001 before.
-//! Visit n of slot s is on disk n, for n up to 7, and due at 500000 s + 1000000 n.
+//! Free visits of a small plan, at which readings its disks are full, and up to which visit they are
+//! taken, beside values that were worked out by hand: a visit is in the window from 800000 before it
+//! is due up to 200001 before. Visit n of slot s is on disk n, for n up to 7, and due at
+//! 500000 s + 1000000 n.
 
 use crate::calls::{Ask, Call, answers_after};
 use crate::records::assert_told;
@@ -15,6 +16,11 @@ const fn add(slot: u32, visit: u32) -> Call {
 /// Asks whether a disk is known to be full at a reading.
 const fn is_full(disk: u32, reading: u32) -> Call {
     Call::Ask(Ask::Full(disk, reading))
+}
+
+/// Asks up to which visit those of a disk are known to be taken at a reading.
+const fn taken_to(disk: u32, reading: u32) -> Call {
+    Call::Ask(Ask::TakenTo(disk, reading))
 }
 
 #[test]
@@ -89,6 +95,33 @@ fn disk_is_full_until_the_next_visit_comes(rt: HostRuntime) -> Result<(), Fail> 
 }
 
 #[test]
+fn search_goes_on_behind_the_last_visit_that_was_taken(rt: HostRuntime) -> Result<(), Fail> {
+    let calls = [
+        add(1, 0),
+        taken_to(0, 10000),
+        Call::Look(0, 10000),
+        taken_to(0, 10000),
+        taken_to(0, 9999),
+        taken_to(1, 10000),
+        is_full(0, 200000),
+        taken_to(0, 200000),
+        add(2, 0),
+        Call::Look(0, 200000),
+        taken_to(0, 200000),
+        Call::Look(0, 700000),
+        add(3, 0),
+        Call::Look(0, 700000),
+        taken_to(0, 700000),
+    ];
+    assert_told(
+        &rt,
+        answers_after(rt.alloc(), 0, 0, &calls),
+        "New; None; None; Some((SlotNo(1), 0)); None; None; false; Some((SlotNo(1), 0)); \
+         New; None; Some((SlotNo(2), 0)); Some((SlotNo(3), 0)); New; None; Some((SlotNo(3), 0)); ",
+    )
+}
+
+#[test]
 fn disk_is_not_full_while_a_removed_visit_is_in_the_window(rt: HostRuntime) -> Result<(), Fail> {
     let calls = [
         add(0, 0),
@@ -97,17 +130,23 @@ fn disk_is_not_full_while_a_removed_visit_is_in_the_window(rt: HostRuntime) -> R
         add(0, 8),
         Call::Remove(0, 0),
         is_full(0, 10000),
+        taken_to(0, 10000),
         Call::Remove(1, 0),
         is_full(0, 10000),
         is_full(0, 199999),
+        taken_to(0, 299999),
+        taken_to(0, 300000),
+        Call::RemoveInstance(0),
+        taken_to(0, 300000),
     ];
     assert_told(
         &rt,
         answers_after(rt.alloc(), 0, 0, &calls),
         "New; New; None; New; \
          Some(Rec { tenancy: Tenancy { instance: Instance(0), file: FileNo(0), slot: SlotNo(0), \
-         first: 0, last: 9 }, visit: 0, kind: Own }); true; \
+         first: 0, last: 9 }, visit: 0, kind: Own }); true; Some((SlotNo(1), 0)); \
          Some(Rec { tenancy: Tenancy { instance: Instance(0), file: FileNo(0), slot: SlotNo(1), \
-         first: 0, last: 9 }, visit: 0, kind: Own }); false; false; ",
+         first: 0, last: 9 }, visit: 0, kind: Own }); false; false; \
+         None; Some((SlotNo(1), 0)); 1; None; ",
     )
 }

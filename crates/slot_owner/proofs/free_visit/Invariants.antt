@@ -1,9 +1,13 @@
-use Rattle.partial_view.specs.Free.{is_free}
-use Rattle.slot_owner.proofs.Search.{IsSearched, time_left}
+use Rattle.std.specs.Option.{ForSome}
+use Rattle.partial_view.specs.Free.{IsTakenTo, HasEntered}
+use Rattle.slot_owner.proofs.Search.{time_left}
 use Rattle.slot_owner.proofs.free_visit.Given as goal
 
-abbrev pub invariant-loop-next : goal.invariant-loop-next
-invariant-loop-next l = IsSearched l.plan.params l.reading l.disk.0 (is_free l.view.lines) l.next
+abbrev pub invariant-loop-slot : goal.invariant-loop-slot
+invariant-loop-slot l = record {
+  taken : IsTakenTo l.plan.params l.disk.0 l.reading l.last l.view.lines;
+  entered : ForSome l.last (HasEntered l.plan.params l.reading);
+}
 
-abbrev pub decreases-loop-next : goal.decreases-loop-next
-decreases-loop-next l = time_left l.plan.params l.reading l.next
+abbrev pub decreases-loop-slot : goal.decreases-loop-slot
+decreases-loop-slot l = time_left l.plan.params l.reading l.disk.0 l.last

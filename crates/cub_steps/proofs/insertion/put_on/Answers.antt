@@ -1,7 +1,10 @@
 use Rattle.std.proofs.Common.{◌∙◌, refl, sym, subst}
 use Rattle.std.proofs.lemmas.Bool.{both_ways}
+use Rattle.std.specs.Option.{ForSome}
+use Rattle.slot_plan.specs.declared.params.Params.{Params}
 use Rattle.slot_plan.specs.Keys.{Key}
 use Rattle.node_kit.specs.Deeds.{Did}
+use Rattle.partial_view.specs.Free.{HasEntered}
 use Rattle.partial_view.specs.Views.{Seen}
 use Rattle.insert_queue.specs.Queues.{Queues}
 use Rattle.cub_rules.specs.State.{IsAsk}
@@ -25,10 +28,10 @@ after_put : (c : goal.In_ok-put)
     → IsTurned c.args.kind c.args.site.now.plan.params c.args.site.now.cub.0 c.args.reading c.args.disk c.args.store.now c.args.out.now c.loop-ask.store c.put.new.store c.put.new.out
 after_put c =
     let p = c.args.site.now.plan.params in
-    let k : Key = (c.in-Some-free_on.slot, c.in-Some-free_on.visit) in
+    let k : Key = c.in-Ok.free in
     turned c.args.kind p c.args.site.now.cub.0 c.args.reading c.args.disk c.args.store.now c.args.out.now c.loop-ask.store c.loop-ask.out c.in-Some.ask k c.put.new.store c.put.new.out
     c.loop-ask.invariant.plan c.loop-ask.invariant.asks c.loop-ask.invariant.comes c.is_asked.ensures.once (sym c.in-Some.ensures)
-    c.in-Some-free_on.ensures.free
+    c.in-Ok.ensures.free
     (rw c.tenancy_from-tenancy.ensures at c.in_ok-put.ensures)
 
 pub loop-ask-preserved : goal.loop-ask-preserved
@@ -47,14 +50,18 @@ returns-then-is_full-clause-did c =
 
 pub set_full-requires-clause-full : goal.set_full-requires-clause-full
 set_full-requires-clause-full c =
-    full_where_none c.args.site.now.plan.params c.args.reading c.args.disk.0 c.loop-ask.store c.args.site.now.plan.sound c.loop-ask.invariant.plan c.in_default-free_on.ensures.free
+    full_where_none c.args.site.now.plan.params c.args.reading c.args.disk.0 c.loop-ask.store c.args.site.now.plan.sound c.loop-ask.invariant.plan c.in-Err.ensures.free
 
-pub returns-in_default-free_on-clause-did : goal.returns-in_default-free_on-clause-did
-returns-in_default-free_on-clause-did c =
+pub set_full-requires-clause-last : goal.set_full-requires-clause-last
+set_full-requires-clause-last c =
+    subst (λ (q : Params). ForSome c.in-Err.last (HasEntered q c.args.reading)) (sym c.loop-ask.invariant.plan) c.in-Err.ensures.last
+
+pub returns-in-Err-clause-did : goal.returns-in-Err-clause-did
+returns-in-Err-clause-did c =
     let p = c.args.site.now.plan.params in
     subst (λ (v : Seen). Did (putting_on (putting_by c.args.kind p c.args.site.now.cub.0) p c.args.reading c.args.disk.0 c.args.store.now) c.args.out.now c.loop-ask.out (record c.loop-ask.store { view = v })) (sym c.set_full.ensures)
     (all_taken c.args.kind p c.args.site.now.cub.0 c.args.reading c.args.disk c.args.store.now c.args.out.now c.loop-ask.store c.loop-ask.out c.loop-ask.invariant.comes
-    c.in_default-free_on.ensures.free)
+    c.in-Err.ensures.free)
 
 pub returns-clause-did : goal.returns-clause-did
 returns-clause-did c =
