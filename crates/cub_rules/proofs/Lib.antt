@@ -1,3 +1,3 @@
-pub mod Ends
-pub mod InOrder
-pub mod TakingOut
+pub mod Filters
+pub mod Finding
+pub mod Fresh

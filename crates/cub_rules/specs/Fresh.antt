@@ -1,38 +1,41 @@
--- The ends of the play times of parts that a cub has stored, in a list beside them.
-use Rattle.std.specs.Prelude.{◌≡◌, ℕ, ◌+◌, ◌≤◌, Bool, true, List, length, map}
-use Rattle.std.specs.List.{AllByRecursion}
-use Rattle.std.specs.List.Sorted.{IsNonDecreasing}
+-- Parts that a cub has stored, beside the ends of their visits' play times, and which of them are not forgotten.
+use Rattle.std.specs.Prelude.{◌≡◌, ℕ, ◌+◌, ◌≤◌, Bool, true, ◌&&◌, List, Option, nat_le, nat_lt, filter, map, find, option_map}
+use Rattle.std.specs.List.{All}
+use Rattle.std.specs.List.Sorted.{IsNonDecreasingBy}
 use Rattle.tiger_base.specs.declared.tenancy.Want.{Want}
+use Rattle.tiger_base.specs.Span.{LibraryPart}
 use Rattle.slot_plan.specs.declared.params.Params.{Params}
 use Rattle.slot_plan.specs.Times.{due}
+use Rattle.node_kit.specs.Form.{is_place}
+use Rattle.cub_rules.specs.declared.parts.KeptPart.{KeptPart}
 use Rattle.cub_rules.specs.declared.store.StoredPart.{StoredPart}
 
 -- the end of the play time of a want's visit
 abbrev pub end_of : Params → Want → ℕ
 end_of p want = due p want.slot.0 want.visit + p.play
 
--- the ends of the visits of some parts
-abbrev pub ends_of : Params → List StoredPart → List ℕ
-ends_of p parts = map (λ x. end_of p x.want) parts
+-- whether the end beside a part comes after a time
+abbrev pub is_fresh : ℕ → KeptPart → Bool
+is_fresh time k = nat_lt time k.end
 
--- no end comes before a time
-abbrev pub NoneBefore : ℕ → List ℕ → Type 0
-NoneBefore time ends = AllByRecursion (λ x. time ≤ x) ends
+-- the parts whose ends do
+abbrev pub fresh_parts : ℕ → List KeptPart → List StoredPart
+fresh_parts time ks = map (λ k. k.stored) (filter (is_fresh time) ks)
 
--- There are as many ends as parts. If they are timed, they are those of the parts under a plan's numbers.
-pub record AreEnds (p : Params) (timed : Bool) (parts : List StoredPart) (ends : List ℕ) : Type 0 where
-  pub count : length ends ≡ length parts
-  pub exact : timed ≡ true → ends ≡ ends_of p parts
+-- the end beside a part is that of its visit under a plan's numbers
+abbrev pub IsTimed : Params → KeptPart → Type 0
+IsTimed p k = k.end ≡ end_of p k.stored.want
 
--- they are ends of the parts, none before a time: if they are timed, all parts are fresh until then. If they are sorted
--- they do not fall.
-pub record AreKept (p : Params) (timed sorted : Bool) (time : ℕ) (parts : List StoredPart) (ends : List ℕ) : Type 0 where
-  pub beside : AreEnds p timed parts ends
-  pub from : NoneBefore time ends
-  pub order : sorted ≡ true → IsNonDecreasing ends
+-- If they are timed, their ends are those under a plan's numbers. No top falls, and none comes before the end beside it.
+pub record AreKept (p : Params) (timed : Bool) (ks : List KeptPart) : Type 0 where
+  pub exact : timed ≡ true → All (IsTimed p) ks
+  pub order : IsNonDecreasingBy (λ k. k.top) ks
+  pub above : All (λ k. k.end ≤ k.top) ks
 
--- Some parts are left, and some ends: those of the parts that are left, in their order.
-pub record EndsStay (parts : List StoredPart) (ends : List ℕ) (left : List StoredPart) (less : List ℕ) : Type 0 where
-  pub beside : (p : Params) (timed : Bool) → AreEnds p timed parts ends → AreEnds p timed left less
-  pub from : (time : ℕ) → NoneBefore time ends → NoneBefore time less
-  pub order : IsNonDecreasing ends → IsNonDecreasing less
+-- the first part that passes a test, beside its end
+abbrev pub first_part : (KeptPart → Bool) → List KeptPart → Option LibraryPart
+first_part test ks = option_map (λ k. k.stored.part) (find test ks)
+
+-- whether a part is of a visit of a plan, and the play time of this visit is over
+abbrev pub is_stale_here : Params → ℕ → StoredPart → Bool
+is_stale_here p reading x = is_place p x.want.slot.0 x.want.visit && nat_le (end_of p x.want) reading

@@ -1,11 +1,11 @@
 //! The parts that a cub has stored, and the ends of their play times, by which they are found and forgotten.
-ghost use Rattle.std.specs.Prelude.{◌≡◌, ◌<◌, ◌≤◌, ◌==◌, ◌&&◌, ◌++◌, ◌∷◌, [], true, IsTrue, OnOk, OnErr, length, drop, not};
-ghost use Rattle.std.specs.List.{AllByRecursion, filter, remove};
-ghost use Rattle.std.specs.List.Sorted.{IsNonDecreasing};
+ghost use Rattle.std.specs.Prelude.{◌≡◌, ◌<◌, ◌≤◌, ◌==◌, ◌&&◌, ◌++◌, ◌∷◌, [], IsTrue, OnOk, OnErr, nat_lt, not};
+ghost use Rattle.std.specs.List.{All, AllByRecursion, filter};
+ghost use Rattle.std.specs.List.Sorted.{IsNonDecreasingBy};
 ghost use Rattle.tiger_base.specs.Records.{same_want};
 ghost use Rattle.mirror_schedule.specs.Timed.{has_same_times};
 ghost use Rattle.node_kit.specs.Form.{is_place};
-ghost use Rattle.cub_rules.specs.Fresh.{end_of, ends_of, AreEnds, EndsStay, NoneBefore};
+ghost use Rattle.cub_rules.specs.Fresh.{end_of, is_fresh, first_part, is_stale_here};
 ghost use Rattle.cub_rules.specs.Messages.{is_piece_part};
 ghost use Rattle.cub_rules.specs.Records.{is_part_of, stored_for};
 ghost use Rattle.cub_rules.specs.State.{IsPartHere};
@@ -15,36 +15,45 @@ use crate::store::StoredPart;
 use mirror_schedule::has_same_times;
 use slot_plan::Plan;
 use std::alloc::Global;
-use std::collections::VecDeque;
 use std::marker::Model;
 use tiger_base::{Instance, MOST_VISIT, Micros, NoMemory, Part, Visit, Want};
+
+/// So many parts are added at least from one sweep to the next.
+const LEAST_ADDED: usize = 32;
+
+/// A part, the end of its visit's play time, and the latest end up to it when it came.
+#[derive(Drop)]
+pub(crate) struct KeptPart<'a> {
+    end: Micros,
+    // Ends may fall and tops do not, so a search halves by tops.
+    top: Micros,
+    stored: StoredPart<'a>,
+}
 
 /// The parts that are stored, in the order in which they came, seen as this list.
 #[derive(Drop)]
 pub struct StoredParts<'a> {
-    items: VecDeque<StoredPart<'a>>,
-    // For each part the end of its visit's play time: a walk over these numbers reads far less than one over the parts.
-    ends: VecDeque<Micros>,
+    items: Vec<KeptPart<'a>>,
     plan: Plan,
     // The ends are those under the plan: no part came under one with other times.
     timed: bool,
-    // The ends do not fall: none came before the one that was there last.
-    sorted: bool,
-    // No end comes before it: until then a tick walks over none.
-    fresh_before: Micros,
+    // A part whose end is at it or before it is forgotten: it stands there until it is swept out.
+    forgotten_to: Micros,
+    // So many items must be there before those that are forgotten are swept out: about twice as many as the last sweep
+    // left, so that each part that came bears a small share of its cost.
+    sweep_at: usize,
 }
 
 impl<'a> Model for StoredParts<'a> {
     ghost use Rattle.std.specs.Prelude.{List};
     ghost use Rattle.cub_rules.specs.declared.store.StoredPart.{StoredPart};
-    ghost use Rattle.cub_rules.specs.Fresh.{AreKept};
+    ghost use Rattle.cub_rules.specs.Fresh.{AreKept, fresh_parts};
 
     ghost Value = { List StoredPart };
 
-    ghost view = { λ s. s.items.items };
+    ghost view = { λ s. fresh_parts s.forgotten_to s.items.items };
 
-    ghost invariant = { λ s.
-        AreKept s.plan.params s.timed s.sorted s.fresh_before s.items.items s.ends.items };
+    ghost invariant = { λ s. AreKept s.plan.params s.timed s.items.items };
 }
 
 impl<'a> StoredParts<'a> {
@@ -53,37 +62,26 @@ impl<'a> StoredParts<'a> {
         ensures { result ≡ [] }
     {
         StoredParts {
-            items: VecDeque::new(alloc),
-            ends: VecDeque::new(alloc),
+            items: Vec::new(alloc),
             plan: *plan,
             timed: true,
-            sorted: true,
-            fresh_before: u64::MAX,
+            forgotten_to: 0,
+            sweep_at: LEAST_ADDED,
         }
-    }
-
-    /// The number of parts.
-    pub fn len(&self) -> usize
-        ensures { result ≡ length self.now }
-    {
-        self.items.len()
-    }
-
-    /// Whether there is no part.
-    pub fn is_empty(&self) -> bool
-        ensures { result ≡ (length self.now == 0) }
-    {
-        self.items.is_empty()
     }
 
     /// The first part that is stored for a want.
     pub fn part_for(&self, want: Want) -> Option<Part<'a>>
         ensures { result ≡ stored_for want self.now }
     {
-        if self.timed && is_here(want, &self.plan) {
-            find_by_end(want, &self.plan, &self.items, &self.ends, self.sorted)
+        if !self.timed || !is_here(want, &self.plan) {
+            return find_fresh(want, self.forgotten_to, &self.items);
+        }
+        let end = end_of(want, &self.plan);
+        if self.forgotten_to < end {
+            find_by_end(want, end, &self.items)
         } else {
-            find_part(want, &self.items)
+            None
         }
     }
 
@@ -94,13 +92,12 @@ impl<'a> StoredParts<'a> {
         ensures err { OnErr result (self.new ≡ self.old) }
     {
         let end = end_of(stored.want, plan);
-        let sorted = stay_sorted(self.sorted, &self.ends, end);
-        push(&mut self.items, &mut self.ends, stored, end)?;
-        self.sorted = sorted;
-        self.timed = are_timed(self.timed, &self.plan, plan);
-        if end < self.fresh_before {
-            self.fresh_before = end;
+        if end <= self.forgotten_to {
+            sweep(&mut self.items, &mut self.forgotten_to);
         }
+        let top = top_with(&self.items, end);
+        self.items.push(KeptPart { end, top, stored })?;
+        self.timed = are_timed(self.timed, &self.plan, plan);
         Ok(())
     }
 
@@ -109,33 +106,30 @@ impl<'a> StoredParts<'a> {
         requires { AllByRecursion (IsPartHere plan.now.params) self.old }
         ensures { self.new ≡ filter (λ x. not (is_stale plan.now.params reading x)) self.old }
     {
-        let timed = are_timed(self.timed, &self.plan, plan);
-        if timed && reading < self.fresh_before {
+        if !are_timed(self.timed, &self.plan, plan) {
+            sweep(&mut self.items, &mut self.forgotten_to);
+            forget_stale(&mut self.items, plan, reading);
             return;
         }
-        forget(
-            &mut self.items,
-            &mut self.ends,
-            timed,
-            self.sorted,
-            plan,
-            reading,
-        );
-        self.fresh_before = least_end(&self.ends, self.sorted);
+        self.forgotten_to = self.forgotten_to.max(reading);
+        if self.sweep_at <= self.items.len() {
+            sweep(&mut self.items, &mut self.forgotten_to);
+            self.sweep_at = self.items.len() + self.items.len().max(LEAST_ADDED);
+        }
     }
 
     /// Drops all parts of an instance.
     pub fn drop_instance(&mut self, instance: Instance)
         ensures { self.new ≡ filter (λ x. not (is_part_of instance x)) self.old }
     {
-        drop_instance(instance, &mut self.items, &mut self.ends);
+        drop_instance(instance, &mut self.items);
     }
 
     /// Drops the parts of the pieces of a visit.
     pub fn drop_pieces(&mut self, instance: Instance, visit: Visit)
         ensures { self.new ≡ filter (λ x. not (is_piece_part instance visit x)) self.old }
     {
-        drop_pieces(instance, visit, &mut self.items, &mut self.ends);
+        drop_pieces(instance, visit, &mut self.items);
     }
 }
 
@@ -146,76 +140,39 @@ fn is_here(want: Want, plan: &Plan) -> bool
     u64::from(want.slot.0) < plan.params.slots && want.visit <= MOST_VISIT
 }
 
-/// The end of the play time of a want's visit.
+/// The end of the play time of a want's visit, in microseconds, which is never 0.
 fn end_of(want: Want, plan: &Plan) -> Micros
     requires { IsTrue (is_place plan.now.params want.slot.0 want.visit) }
-    ensures { result ≡ end_of plan.now.params want }
+    ensures end { result ≡ end_of plan.now.params want }
+    ensures some { 0 < result }
 {
     plan.due(want.slot, want.visit) + plan.params.play
 }
 
-/// The first part that is for a want, by the ends under a plan: only a part with the end of the want's visit can be for
-/// it, so the others are not looked at. If the ends do not fall, those parts stand one behind another.
-#[tactic(auto, unfolding(crate::specs::Records::stored_for))]
-fn find_by_end<'a>(
-    want: Want,
-    plan: &Plan,
-    items: &VecDeque<StoredPart<'a>>,
-    ends: &VecDeque<Micros>,
-    sorted: bool,
-) -> Option<Part<'a>>
-    requires here { IsTrue (is_place plan.now.params want.slot.0 want.visit) }
-    requires ends { ends.now.items ≡ ends_of plan.now.params items.now.items }
-    requires sorted { sorted ≡ true → IsNonDecreasing ends.now.items }
-    ensures { result ≡ stored_for want items.now.items }
+/// The first part that is for a want and has this end: ends are earlier as long as tops are.
+fn find_by_end<'a>(want: Want, end: Micros, items: &[KeptPart<'a>]) -> Option<Part<'a>>
+    requires order { IsNonDecreasingBy (λ k. k.top) items.now }
+    requires above { All (λ k. k.end ≤ k.top) items.now }
+    ensures { result ≡ first_part (λ k. k.end == end && same_want want k.stored.want) items.now }
 {
-    if sorted {
-        return find_in_order(want, plan, items, ends);
-    }
-    let end = end_of(want, plan);
-    for i in 0..ends.len() {
-        if ends[i] == end && is_for(want, &items[i]) {
-            return Some(items[i].part.again());
+    let first = items.partition_point(|kept| kept.top < end);
+    for i in first..items.len() {
+        let kept = &items[i];
+        if kept.end == end && is_for(want, &kept.stored) {
+            return Some(kept.stored.part.again());
         }
     }
     None
 }
 
-/// The first part that is for a want, by ends under a plan that do not fall.
-#[tactic(auto, unfolding(crate::specs::Records::stored_for))]
-fn find_in_order<'a>(
-    want: Want,
-    plan: &Plan,
-    items: &VecDeque<StoredPart<'a>>,
-    ends: &VecDeque<Micros>,
-) -> Option<Part<'a>>
-    requires here { IsTrue (is_place plan.now.params want.slot.0 want.visit) }
-    requires ends { ends.now.items ≡ ends_of plan.now.params items.now.items }
-    requires sorted { IsNonDecreasing ends.now.items }
-    ensures { result ≡ stored_for want items.now.items }
-{
-    let end = end_of(want, plan);
-    let first = ends.partition_point(|x| *x < end);
-    for i in first..ends.len() {
-        if end < ends[i] {
-            return None;
-        }
-        if is_for(want, &items[i]) {
-            return Some(items[i].part.again());
-        }
-    }
-    None
-}
-
-/// The first part that is for a want.
-#[tactic(auto, unfolding(crate::specs::Records::stored_for))]
-fn find_part<'a>(want: Want, items: &VecDeque<StoredPart<'a>>) -> Option<Part<'a>>
-    ensures { result ≡ stored_for want items.now.items }
+/// The first part that is for a want and has an end after a time.
+fn find_fresh<'a>(want: Want, time: Micros, items: &[KeptPart<'a>]) -> Option<Part<'a>>
+    ensures { result ≡ first_part (λ k. is_fresh time k && same_want want k.stored.want) items.now }
 {
     for i in 0..items.len() {
-        let x = &items[i];
-        if is_for(want, x) {
-            return Some(x.part.again());
+        let kept = &items[i];
+        if time < kept.end && is_for(want, &kept.stored) {
+            return Some(kept.stored.part.again());
         }
     }
     None
@@ -228,24 +185,16 @@ fn is_for<'a>(want: Want, x: &StoredPart<'a>) -> bool
     x.want == want
 }
 
-/// Puts a part and its end behind the others; without memory for both, nothing changes.
-fn push<'a>(
-    items: &mut VecDeque<StoredPart<'a>>,
-    ends: &mut VecDeque<Micros>,
-    stored: StoredPart<'a>,
-    end: Micros,
-) -> Result<(), NoMemory>
-    ensures part { OnOk result (items.new.items ≡ items.old.items ++ stored.entry ∷ []) }
-    ensures end { OnOk result (ends.new.items ≡ ends.old.items ++ end ∷ []) }
-    ensures no_part { OnErr result (items.new.items ≡ items.old.items) }
-    ensures no_end { OnErr result (ends.new.items ≡ ends.old.items) }
+/// The latest end up to a part with this end, if it comes behind some others.
+fn top_with<'a>(items: &[KeptPart<'a>], end: Micros) -> Micros
+    requires { IsNonDecreasingBy (λ k. k.top) items.now }
+    ensures end { end ≤ result }
+    ensures tops { All (λ k. k.top ≤ result) items.now }
 {
-    ends.push_back(end)?;
-    if items.push_back(stored).is_err() {
-        ends.pop_back();
-        return Err(NoMemory);
+    match items.last() {
+        Some(last) => last.top.max(end),
+        None => end,
     }
-    Ok(())
 }
 
 /// Whether ends are those under a plan: if they are those under their own plan, and its times are the same.
@@ -255,144 +204,36 @@ fn are_timed(timed: bool, own: &Plan, plan: &Plan) -> bool
     timed && has_same_times(&own.params, &plan.params)
 }
 
-/// Whether the ends do not fall with one more behind them; `sorted` says that they do not without it.
-fn stay_sorted(sorted: bool, ends: &VecDeque<Micros>, end: Micros) -> bool
-    requires { sorted ≡ true → IsNonDecreasing ends.now.items }
-    ensures { result ≡ true → IsNonDecreasing (ends.now.items ++ end ∷ []) }
+/// Sweeps out the forgotten parts, whose end is at a time or before it. Then the time is 0, up to which no part ends.
+fn sweep<'a>(items: &mut Vec<KeptPart<'a>>, forgotten_to: &mut Micros)
+    ensures left { items.new.items ≡ filter (is_fresh forgotten_to.old) items.old.items }
+    ensures time { forgotten_to.new ≡ 0 }
 {
-    match ends.back() {
-        Some(last) => sorted && *last <= end,
-        None => true,
-    }
+    let time = *forgotten_to;
+    items.retain(|kept| time < kept.end);
+    *forgotten_to = 0;
 }
 
-/// Forgets the parts whose play time is over; `timed` says that the ends are those under the plan, and `sorted` that they
-/// do not fall.
-fn forget<'a>(
-    items: &mut VecDeque<StoredPart<'a>>,
-    ends: &mut VecDeque<Micros>,
-    timed: bool,
-    sorted: bool,
-    plan: &Plan,
-    reading: Micros,
-)
-    requires here { AllByRecursion (IsPartHere plan.now.params) items.old.items }
-    requires ends { AreEnds plan.now.params timed items.old.items ends.old.items }
-    requires sorted { sorted ≡ true → IsNonDecreasing ends.old.items }
-    ensures left { items.new.items
-        ≡ filter (λ x. not (is_stale plan.now.params reading x)) items.old.items }
-    ensures ends { EndsStay items.old.items ends.old.items items.new.items ends.new.items }
+/// Takes the parts out that are of a visit of the plan whose play time is over.
+fn forget_stale<'a>(items: &mut Vec<KeptPart<'a>>, plan: &Plan, reading: Micros)
+    ensures { items.new.items
+        ≡ filter (λ k. not (is_stale_here plan.now.params reading k.stored)) items.old.items }
 {
-    if timed && sorted {
-        forget_first(items, ends, plan, reading);
-    } else {
-        forget_stale(items, ends, timed, plan, reading);
-    }
+    items.retain(|kept| !is_stale(&kept.stored, plan, reading));
 }
 
-/// Forgets the parts whose play time is over, of parts whose ends are those under the plan and do not fall: they are
-/// the first.
-fn forget_first<'a>(
-    items: &mut VecDeque<StoredPart<'a>>,
-    ends: &mut VecDeque<Micros>,
-    plan: &Plan,
-    reading: Micros,
-)
-    requires ends { ends.old.items ≡ ends_of plan.now.params items.old.items }
-    requires sorted { IsNonDecreasing ends.old.items }
-    ensures left { items.new.items
-        ≡ filter (λ x. not (is_stale plan.now.params reading x)) items.old.items }
-    ensures ends { EndsStay items.old.items ends.old.items items.new.items ends.new.items }
+/// Whether a part is of a visit of the plan, and the play time of this visit is over.
+fn is_stale<'a>(x: &StoredPart<'a>, plan: &Plan, reading: Micros) -> bool
+    ensures { result ≡ is_stale_here plan.now.params reading x.now }
 {
-    let count = ends.partition_point(|x| *x <= reading);
-    drop_first(items, count);
-    drop_first(ends, count);
-}
-
-/// Drops as many things from the front as a count says.
-fn drop_first<T: Drop>(items: &mut VecDeque<T>, count: usize)
-    requires { count ≤ length items.old.items }
-    ensures { items.new.items ≡ drop count items.old.items }
-{
-    items.drain(..count);
-}
-
-/// Forgets the parts whose play time is over; `timed` says that the ends are those under the plan.
-fn forget_stale<'a>(
-    items: &mut VecDeque<StoredPart<'a>>,
-    ends: &mut VecDeque<Micros>,
-    timed: bool,
-    plan: &Plan,
-    reading: Micros,
-)
-    requires here { AllByRecursion (IsPartHere plan.now.params) items.old.items }
-    requires ends { AreEnds plan.now.params timed items.old.items ends.old.items }
-    ensures left { items.new.items
-        ≡ filter (λ x. not (is_stale plan.now.params reading x)) items.old.items }
-    ensures ends { EndsStay items.old.items ends.old.items items.new.items ends.new.items }
-{
-    for i in (0..items.len()).rev() {
-        if is_stale(&items[i], ends[i], timed, plan, reading) {
-            take_out(items, ends, i);
-        }
-    }
-}
-
-/// Whether the play time of a part's visit is over; `timed` says that the end is its end under the plan.
-fn is_stale<'a>(x: &StoredPart<'a>, end: Micros, timed: bool, plan: &Plan, reading: Micros) -> bool
-    requires here { IsPartHere plan.now.params x.now }
-    requires end { timed ≡ true → end ≡ end_of plan.now.params x.now.want }
-    ensures { result ≡ is_stale plan.now.params reading x.now }
-{
-    if timed {
-        end <= reading
-    } else {
-        end_of(x.want, plan) <= reading
-    }
-}
-
-/// A time before which no end comes: the least of them, or the greatest that there is if there is no end. The least is
-/// the first if the ends do not fall.
-fn least_end(ends: &VecDeque<Micros>, sorted: bool) -> Micros
-    requires { sorted ≡ true → IsNonDecreasing ends.now.items }
-    ensures { NoneBefore result ends.now.items }
-{
-    if sorted {
-        return first_end(ends);
-    }
-    let mut least = u64::MAX;
-    for i in 0..ends.len() {
-        least = least.min(ends[i]);
-    }
-    least
-}
-
-/// The first end, of some that do not fall, or the greatest that there is if there is none.
-fn first_end(ends: &VecDeque<Micros>) -> Micros
-    requires { IsNonDecreasing ends.now.items }
-    ensures { NoneBefore result ends.now.items }
-{
-    match ends.front() {
-        Some(first) => *first,
-        None => u64::MAX,
-    }
+    is_here(x.want, plan) && end_of(x.want, plan) <= reading
 }
 
 /// Drops all parts of an instance.
-fn drop_instance<'a>(
-    instance: Instance,
-    items: &mut VecDeque<StoredPart<'a>>,
-    ends: &mut VecDeque<Micros>,
-)
-    requires { length ends.old.items ≡ length items.old.items }
-    ensures left { items.new.items ≡ filter (λ x. not (is_part_of instance x)) items.old.items }
-    ensures ends { EndsStay items.old.items ends.old.items items.new.items ends.new.items }
+fn drop_instance<'a>(instance: Instance, items: &mut Vec<KeptPart<'a>>)
+    ensures { items.new.items ≡ filter (λ k. not (is_part_of instance k.stored)) items.old.items }
 {
-    for i in (0..items.len()).rev() {
-        if is_part_of(instance, &items[i]) {
-            take_out(items, ends, i);
-        }
-    }
+    items.retain(|kept| !is_part_of(instance, &kept.stored));
 }
 
 /// Whether a part is of an instance.
@@ -403,22 +244,11 @@ fn is_part_of<'a>(instance: Instance, x: &StoredPart<'a>) -> bool
 }
 
 /// Drops the parts of the pieces of a visit.
-fn drop_pieces<'a>(
-    instance: Instance,
-    visit: Visit,
-    items: &mut VecDeque<StoredPart<'a>>,
-    ends: &mut VecDeque<Micros>,
-)
-    requires { length ends.old.items ≡ length items.old.items }
-    ensures left { items.new.items
-        ≡ filter (λ x. not (is_piece_part instance visit x)) items.old.items }
-    ensures ends { EndsStay items.old.items ends.old.items items.new.items ends.new.items }
+fn drop_pieces<'a>(instance: Instance, visit: Visit, items: &mut Vec<KeptPart<'a>>)
+    ensures { items.new.items
+        ≡ filter (λ k. not (is_piece_part instance visit k.stored)) items.old.items }
 {
-    for i in (0..items.len()).rev() {
-        if is_piece_part(instance, visit, &items[i]) {
-            take_out(items, ends, i);
-        }
-    }
+    items.retain(|kept| !is_piece_part(instance, visit, &kept.stored));
 }
 
 /// Whether a part is of a piece of a visit.
@@ -426,15 +256,4 @@ fn is_piece_part<'a>(instance: Instance, visit: Visit, x: &StoredPart<'a>) -> bo
     ensures { result ≡ is_piece_part instance visit x.now }
 {
     x.want.instance.0 == instance.0 && x.want.visit == visit && 0 < x.want.piece
-}
-
-/// Takes out the part at a place, with its end.
-fn take_out<'a>(items: &mut VecDeque<StoredPart<'a>>, ends: &mut VecDeque<Micros>, i: usize)
-    requires part { i < length items.old.items }
-    requires end { i < length ends.old.items }
-    ensures parts { items.new.items ≡ remove items.old.items i }
-    ensures ends { ends.new.items ≡ remove ends.old.items i }
-{
-    items.remove(i);
-    ends.remove(i);
 }

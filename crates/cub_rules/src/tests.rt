@@ -1,5 +1,7 @@
 //! What a cub keeps at first, and which of its stored parts it finds and forgets.
-ghost use Rattle.std.specs.Prelude.{◌≡◌, ◌≤◌, ◌<◌, IfOk};
+ghost use Rattle.std.specs.Prelude.{◌≡◌, ◌≤◌, ◌<◌, IfOk, OnOk};
+ghost use Rattle.std.specs.List.{AllByRecursion};
+ghost use Rattle.cub_rules.specs.State.{IsPartHere};
 
 use crate::{Store, StoredPart, StoredParts};
 use slot_plan::{Params, Plan, small_plan};
@@ -32,7 +34,7 @@ fn a_cub_keeps_nothing_at_first(rt: HostRuntime) -> Result<(), Fail> {
     assert!(rt; !store.believes);
     assert!(rt; store.pieces.after(None).is_none());
     assert!(rt; store.unasked.after(None).is_none());
-    assert!(rt; store.parts.is_empty());
+    assert!(rt; store.parts.part_for(want_of(7, 1)).is_none());
     Ok(())
 }
 
@@ -58,9 +60,9 @@ fn want_of(instance: u32, slot: u32) -> Want
     }
 }
 
-/// A part of visit 0 of slot 1 for an instance.
-fn part_of<'a>(library: &'a Library, instance: u32) -> Result<StoredPart<'a>, Fail>
-    ensures slot { IfOk result (λ x. x.want.slot.0 ≡ 1) }
+/// A part of visit 0 of a slot for an instance.
+fn part_of<'a>(library: &'a Library, instance: u32, slot: u32) -> Result<StoredPart<'a>, Fail>
+    ensures slot { IfOk result (λ x. x.want.slot.0 ≡ slot) }
     ensures visit { IfOk result (λ x. x.want.visit ≡ 0) }
 {
     let span = Span {
@@ -68,13 +70,13 @@ fn part_of<'a>(library: &'a Library, instance: u32) -> Result<StoredPart<'a>, Fa
         from: 0,
         len: 0,
     };
-    let want = want_of(instance, 1);
+    let want = want_of(instance, slot);
     let part = Part::of(library, span, b"").ok_or("no part")?;
     Ok(StoredPart { want, part })
 }
 
-/// How many parts are kept behind a reading, if the parts are begun with a first plan, a part of visit 0 of slot 1 comes
-/// under a second, and what is stale is forgotten under a third.
+/// Whether a part is found behind a reading, if the parts are begun with a first plan, this part of visit 0 of slot 1
+/// comes under a second, and what is stale is forgotten under a third.
 fn kept<'a>(
     alloc: Global,
     library: &'a Library,
@@ -82,22 +84,27 @@ fn kept<'a>(
     came: &Plan,
     forgets: &Plan,
     reading: Micros,
-) -> Result<usize, Fail>
+) -> Result<bool, Fail>
     requires first { 1 < first.now.params.slots }
     requires came { 1 < came.now.params.slots }
     requires forgets { 1 < forgets.now.params.slots }
 {
     let mut parts = StoredParts::new(alloc, first);
-    parts.push(came, part_of(library, 7)?)?;
+    parts.push(came, part_of(library, 7, 1)?)?;
     parts.forget_stale(forgets, reading);
-    Ok(parts.len())
+    Ok(parts.part_for(want_of(7, 1)).is_some())
 }
 
 #[test]
 fn stale_parts_are_forgotten_under_the_plan_they_came_under(rt: HostRuntime) -> Result<(), Fail> {
     let library = library(rt.alloc())?;
     let half = plan(16);
-    for (reading, left) in [(0, 1), (1499999, 1), (1500000, 0), (9000000, 0)] {
+    for (reading, left) in [
+        (0, true),
+        (1499999, true),
+        (1500000, false),
+        (9000000, false),
+    ] {
         assert_eq!(rt;
             kept(rt.alloc(), &library, &half, &half, &half, reading)?,
             left
@@ -111,7 +118,7 @@ fn stale_parts_are_forgotten_under_another_plan(rt: HostRuntime) -> Result<(), F
     let library = library(rt.alloc())?;
     let half = plan(16);
     let quarter = plan(32);
-    for (reading, left) in [(1249999, 1), (1250000, 0)] {
+    for (reading, left) in [(1249999, true), (1250000, false)] {
         assert_eq!(rt;
             kept(rt.alloc(), &library, &half, &half, &quarter, reading)?,
             left
@@ -121,7 +128,7 @@ fn stale_parts_are_forgotten_under_another_plan(rt: HostRuntime) -> Result<(), F
             left
         );
     }
-    for (reading, left) in [(1499999, 1), (1500000, 0)] {
+    for (reading, left) in [(1499999, true), (1500000, false)] {
         assert_eq!(rt;
             kept(rt.alloc(), &library, &half, &quarter, &half, reading)?,
             left
@@ -134,28 +141,42 @@ fn stale_parts_are_forgotten_under_another_plan(rt: HostRuntime) -> Result<(), F
     Ok(())
 }
 
-/// How many of three parts are kept, of instances 7, 8 and 7, once those of an instance are dropped, and then those of
-/// another that are pieces of visit 0.
+/// Whether a part is found of each of two instances and slots.
+fn found_of(parts: &StoredParts, one: (u32, u32), other: (u32, u32)) -> (bool, bool) {
+    (
+        parts.part_for(want_of(one.0, one.1)).is_some(),
+        parts.part_for(want_of(other.0, other.1)).is_some(),
+    )
+}
+
+/// Whether parts of instances 7 and 8 are found behind three, of instances 7, 8 and 7, once those of an instance are
+/// dropped, and then those of another that are pieces of visit 0.
 fn dropped<'a>(
     alloc: Global,
     library: &'a Library,
     instance: u32,
     other: u32,
-) -> Result<usize, Fail> {
+) -> Result<(bool, bool), Fail> {
     let plan = plan(16);
     let mut parts = StoredParts::new(alloc, &plan);
-    parts.push(&plan, part_of(library, 7)?)?;
-    parts.push(&plan, part_of(library, 8)?)?;
-    parts.push(&plan, part_of(library, 7)?)?;
+    parts.push(&plan, part_of(library, 7, 1)?)?;
+    parts.push(&plan, part_of(library, 8, 1)?)?;
+    parts.push(&plan, part_of(library, 7, 1)?)?;
     parts.drop_instance(Instance(instance));
     parts.drop_pieces(Instance(other), 0);
-    Ok(parts.len())
+    Ok(found_of(&parts, (7, 1), (8, 1)))
 }
 
 #[test]
 fn parts_are_dropped_by_instance(rt: HostRuntime) -> Result<(), Fail> {
     let library = library(rt.alloc())?;
-    for (instance, other, left) in [(6, 6, 3), (7, 6, 1), (8, 6, 2), (6, 7, 1), (7, 8, 0)] {
+    for (instance, other, left) in [
+        (6, 6, (true, true)),
+        (7, 6, (false, true)),
+        (8, 6, (true, false)),
+        (6, 7, (false, true)),
+        (7, 8, (false, false)),
+    ] {
         assert_eq!(rt; dropped(rt.alloc(), &library, instance, other)?, left);
     }
     Ok(())
@@ -174,8 +195,8 @@ fn found<'a>(
     requires { 1 < came.now.params.slots }
 {
     let mut parts = StoredParts::new(alloc, first);
-    parts.push(came, part_of(library, 7)?)?;
-    parts.push(came, part_of(library, 8)?)?;
+    parts.push(came, part_of(library, 7, 1)?)?;
+    parts.push(came, part_of(library, 8, 1)?)?;
     Ok(parts.part_for(want_of(instance, slot)).is_some())
 }
 
@@ -198,6 +219,155 @@ fn parts_are_found_by_all_of_what_was_asked(rt: HostRuntime) -> Result<(), Fail>
         assert_eq!(rt;
             found(rt.alloc(), &library, &half, &quarter, instance, slot)?,
             is_there
+        );
+    }
+    Ok(())
+}
+
+/// Whether a part is found for an instance and a slot, if parts of visit 0 of slots 2, 1 and 3 come, for instances 7, 8
+/// and 9.
+fn found_out_of_order<'a>(
+    alloc: Global,
+    library: &'a Library,
+    instance: u32,
+    slot: u32,
+) -> Result<bool, Fail> {
+    let plan = plan(16);
+    let mut parts = StoredParts::new(alloc, &plan);
+    parts.push(&plan, part_of(library, 7, 2)?)?;
+    parts.push(&plan, part_of(library, 8, 1)?)?;
+    parts.push(&plan, part_of(library, 9, 3)?)?;
+    Ok(parts.part_for(want_of(instance, slot)).is_some())
+}
+
+#[test]
+fn parts_are_found_if_their_ends_fall(rt: HostRuntime) -> Result<(), Fail> {
+    let library = library(rt.alloc())?;
+    for (instance, slot, is_there) in [
+        (7, 2, true),
+        (8, 1, true),
+        (9, 3, true),
+        (7, 1, false),
+        (9, 2, false),
+        (9, 4, false),
+    ] {
+        assert_eq!(rt;
+            found_out_of_order(rt.alloc(), &library, instance, slot)?,
+            is_there
+        );
+    }
+    Ok(())
+}
+
+/// Whether parts of slots 2 and 1 are found, for instances 7 and 8, if what is stale was forgotten at two readings.
+fn kept_of_two<'a>(
+    alloc: Global,
+    library: &'a Library,
+    first: Micros,
+    second: Micros,
+) -> Result<(bool, bool), Fail> {
+    let plan = plan(16);
+    let mut parts = StoredParts::new(alloc, &plan);
+    parts.push(&plan, part_of(library, 7, 2)?)?;
+    parts.push(&plan, part_of(library, 8, 1)?)?;
+    parts.forget_stale(&plan, first);
+    parts.forget_stale(&plan, second);
+    Ok(found_of(&parts, (7, 2), (8, 1)))
+}
+
+#[test]
+fn what_is_forgotten_stays_so_at_an_earlier_reading(rt: HostRuntime) -> Result<(), Fail> {
+    let library = library(rt.alloc())?;
+    for (first, second, left) in [
+        (0, 0, (true, true)),
+        (1500000, 0, (true, false)),
+        (0, 1500000, (true, false)),
+        (1999999, 1500000, (true, false)),
+        (2000000, 0, (false, false)),
+    ] {
+        assert_eq!(rt; kept_of_two(rt.alloc(), &library, first, second)?, left);
+    }
+    Ok(())
+}
+
+/// Whether parts of instances 7 and 8 are found, if one of slot 1 came for each, and what was stale at a reading was
+/// forgotten between them.
+fn pushed_late<'a>(
+    alloc: Global,
+    library: &'a Library,
+    reading: Micros,
+) -> Result<(bool, bool), Fail> {
+    let plan = plan(16);
+    let mut parts = StoredParts::new(alloc, &plan);
+    parts.push(&plan, part_of(library, 7, 1)?)?;
+    parts.forget_stale(&plan, reading);
+    parts.push(&plan, part_of(library, 8, 1)?)?;
+    Ok(found_of(&parts, (7, 1), (8, 1)))
+}
+
+#[test]
+fn part_that_comes_when_its_play_time_is_over_is_found(rt: HostRuntime) -> Result<(), Fail> {
+    let library = library(rt.alloc())?;
+    for (reading, left) in [
+        (1499999, (true, true)),
+        (1500000, (false, true)),
+        (1500001, (false, true)),
+        (9000000, (false, true)),
+    ] {
+        assert_eq!(rt; pushed_late(rt.alloc(), &library, reading)?, left);
+    }
+    Ok(())
+}
+
+/// Puts parts of visit 0 of slot 1 behind the others, for instances 0 and on.
+fn push_many<'a>(
+    parts: &mut StoredParts<'a>,
+    plan: &Plan,
+    library: &'a Library,
+    count: u32,
+) -> Result<(), Fail>
+    requires slots { 1 < plan.now.params.slots }
+    requires here { AllByRecursion (IsPartHere plan.now.params) parts.old }
+    ensures { OnOk result (AllByRecursion (IsPartHere plan.now.params) parts.new) }
+{
+    for instance in 0..count {
+        parts.push(plan, part_of(library, instance, 1)?)?;
+    }
+    Ok(())
+}
+
+/// Whether parts are found of slot 2 for instance 99 and of slot 1 for instance 0, if the first came and then a number of
+/// slot 1, what was stale at a reading was forgotten, and another number of slot 1 came.
+fn found_of_many<'a>(
+    alloc: Global,
+    library: &'a Library,
+    count: u32,
+    reading: Micros,
+    again: u32,
+) -> Result<(bool, bool), Fail> {
+    let plan = plan(16);
+    let mut parts = StoredParts::new(alloc, &plan);
+    parts.push(&plan, part_of(library, 99, 2)?)?;
+    push_many(&mut parts, &plan, library, count)?;
+    parts.forget_stale(&plan, reading);
+    push_many(&mut parts, &plan, library, again)?;
+    Ok(found_of(&parts, (99, 2), (0, 1)))
+}
+
+#[test]
+fn many_parts_are_swept_out(rt: HostRuntime) -> Result<(), Fail> {
+    let library = library(rt.alloc())?;
+    for (count, reading, again, left) in [
+        (30, 1500000, 0, (true, false)),
+        (31, 1500000, 0, (true, false)),
+        (64, 1499999, 0, (true, true)),
+        (64, 1500000, 0, (true, false)),
+        (64, 1500000, 40, (true, true)),
+        (64, 2000000, 40, (false, true)),
+    ] {
+        assert_eq!(rt;
+            found_of_many(rt.alloc(), &library, count, reading, again)?,
+            left
         );
     }
     Ok(())

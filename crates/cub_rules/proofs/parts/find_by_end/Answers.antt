@@ -1,16 +1,12 @@
-use Rattle.std.proofs.Common.{◌∙◌, sym, ap, arith}
-use Rattle.tiger_base.specs.Records.{same_want}
-use Rattle.cub_rules.specs.declared.store.StoredPart.{StoredPart}
-use Rattle.cub_rules.proofs.Ends.{as_many, other_end, other_want}
-use Rattle.cub_rules.proofs.parts.find_by_end.Goals.{else-index-end-via-then-index-end+else-is_for, else-index-end-via-else-index-end}
+use Rattle.std.proofs.Common.{nat_lt, rules}
+use Rattle.std.proofs.lemmas.List.Sorted.{IsPartitionPoint-from_clause, IsPartitionedBy-ltb}
+use Rattle.cub_rules.specs.declared.parts.KeptPart.{KeptPart}
+use Rattle.cub_rules.proofs.Finding.{passed_by_top}
 use Rattle.cub_rules.proofs.parts.find_by_end.Goals as goal
 
-pub loop-i-preserved : goal.loop-i-preserved
-loop-i-preserved c =
-    elim c.else-index-end.branch [
-      | else-index-end-via-then-index-end+else-is_for w ↦
-          other_want c.args.want c.args.items.now.items c.loop-i.i w.index-then-index-end.result.now (omega (arith, c.loop-i-test.true, c.len-i-end.ensures, as_many c.args.plan.now.params c.args.items.now.items c.args.ends.now.items c.requires.ends))
-          (ap (λ (x : StoredPart). same_want c.args.want x.want) (sym w.index-then-index-end.ensures) ∙ (sym w.is_for.ensures ∙ w.if-is_for.false)) ∙ c.loop-i.invariant
-      | else-index-end-via-else-index-end w ↦
-          other_end c.args.plan.now.params c.args.want c.end_of-end.result c.args.items.now.items c.args.ends.now.items c.loop-i.i c.index.result.now c.end_of-end.ensures c.requires.ends (omega (arith, c.loop-i-test.true, c.len-i-end.ensures)) (λ same. w.if-index-end.false (c.index.ensures ∙ same)) ∙ c.loop-i.invariant
-    ]
+-- the walk begins behind those whose tops are earlier
+pub loop-i-init : goal.loop-i-init
+loop-i-init c =
+    let point =
+    IsPartitionPoint-from_clause (λ (k : KeptPart). nat_lt k.top c.args.end) c.args.items.now c.partition_point-first.result c.partition_point-first.ensures.partitioned (IsPartitionedBy-ltb (λ (k : KeptPart). k.top) c.args.items.now c.args.end c.requires.order) (λ a r q k. search rules) in
+    passed_by_top c.args.want c.args.end c.partition_point-first.result c.args.items.now c.requires.above point.0 c.partition_point-first.ensures.bound

@@ -1,6 +1,8 @@
-use Rattle.std.proofs.Common.{◌≡◌, drop}
-use Rattle.cub_rules.specs.Records.{stored_for}
+use Rattle.std.proofs.Common.{◌≡◌, ◌==◌, ◌&&◌, drop}
+use Rattle.tiger_base.specs.Records.{same_want}
+use Rattle.cub_rules.specs.Fresh.{first_part}
 use Rattle.cub_rules.proofs.parts.find_by_end.Given as goal
 
 abbrev pub invariant-loop-i : goal.invariant-loop-i
-invariant-loop-i l = stored_for l.want (drop l.i l.items.items) ≡ stored_for l.want l.items.items
+invariant-loop-i l =
+    first_part (λ k. k.end == l.end && same_want l.want k.stored.want) (drop l.i l.items) ≡ first_part (λ k. k.end == l.end && same_want l.want k.stored.want) l.items

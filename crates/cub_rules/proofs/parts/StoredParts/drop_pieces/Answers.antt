@@ -1,14 +1,18 @@
-use Rattle.std.proofs.Common.{List, filter, not, ap, ◌∙◌}
+use Rattle.std.proofs.Common.{List, filter, not, ap, subst, sym, ◌∙◌}
+use Rattle.cub_rules.specs.declared.parts.KeptPart.{KeptPart}
 use Rattle.cub_rules.specs.declared.store.StoredPart.{StoredPart}
+use Rattle.cub_rules.specs.Fresh.{AreKept, fresh_parts}
 use Rattle.cub_rules.specs.Messages.{is_piece_part}
+use Rattle.cub_rules.proofs.Fresh.{fresh-filter, kept-filter}
 use Rattle.cub_rules.proofs.parts.StoredParts.drop_pieces.Goals as goal
 
 pub invariant_of-self : goal.invariant_of-self
-invariant_of-self c = record {
-  beside = c.drop_pieces.ensures.ends.beside c.self.inside.plan.params c.self.inside.timed c.self.invariant.beside;
-  from = c.drop_pieces.ensures.ends.from c.self.inside.fresh_before c.self.invariant.from;
-  order = λ so. c.drop_pieces.ensures.ends.order (c.self.invariant.order so);
-}
+invariant_of-self c =
+    subst (λ (ks : List KeptPart). AreKept c.self.inside.plan.params c.self.inside.timed ks) (sym c.drop_pieces.ensures)
+    (kept-filter c.self.inside.plan.params c.self.inside.timed (λ k. not (is_piece_part c.args.instance c.args.visit k.stored)) c.self.inside.items.items c.self.invariant)
 
 pub returns : goal.returns
-returns c = c.drop_pieces.ensures.left ∙ ap (λ (xs : List StoredPart). filter (λ x. not (is_piece_part c.args.instance c.args.visit x)) xs) c.self.view_is
+returns c =
+    ap (λ (ks : List KeptPart). fresh_parts c.self.inside.forgotten_to ks) c.drop_pieces.ensures
+    ∙ (fresh-filter (λ x. not (is_piece_part c.args.instance c.args.visit x)) c.self.inside.forgotten_to c.self.inside.items.items
+    ∙ ap (λ (xs : List StoredPart). filter (λ x. not (is_piece_part c.args.instance c.args.visit x)) xs) c.self.view_is)

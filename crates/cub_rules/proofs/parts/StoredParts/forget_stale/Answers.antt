@@ -1,36 +1,45 @@
-use Rattle.std.proofs.Common.{◌≡◌, List, filter, not, ap, subst, sym, ◌∙◌}
-use Rattle.std.specs.List.{AllByRecursion}
+use Rattle.std.proofs.Common.{◌≡◌, List, filter, not, ap, sym, ◌∙◌, arith}
+use Rattle.std.proofs.lemmas.Bool.{and_parts}
+use Rattle.mirror_schedule.specs.Timed.{has_same_times}
+use Rattle.cub_rules.specs.declared.parts.KeptPart.{KeptPart}
 use Rattle.cub_rules.specs.declared.store.StoredPart.{StoredPart}
-use Rattle.cub_rules.specs.State.{IsPartHere}
+use Rattle.cub_rules.specs.Fresh.{fresh_parts, is_fresh, is_stale_here}
 use Rattle.cub_rules.specs.Ticks.{is_stale}
-use Rattle.cub_rules.proofs.Ends.{ends_under, none_stale}
+use Rattle.cub_rules.proofs.Fresh.{fresh-filter, fresh-later, fresh-swept, kept-filter, stale_here}
+use Rattle.cub_rules.proofs.parts.StoredParts.forget_stale.Goals.{After-max-self-inside}
 use Rattle.cub_rules.proofs.parts.StoredParts.forget_stale.Goals as goal
 
--- nothing is stale yet
-pub returns-then-reading-self : goal.returns-then-reading-self
-returns-then-reading-self c =
-    subst (λ (xs : List StoredPart). xs ≡ filter (λ x. not (is_stale c.args.plan.now.params c.args.reading x)) xs) c.self.view_is
-    (none_stale c.self.inside.plan.params c.args.plan.now.params c.self.inside.timed c.are_timed-timed.result c.self.inside.sorted c.self.inside.fresh_before c.args.reading c.self.inside.items.items c.self.inside.ends.items
-    c.self.invariant c.are_timed-timed.ensures c.if-timed.true c.if-reading-self.true)
-
-pub forget-requires-clause-here : goal.forget-requires-clause-here
-forget-requires-clause-here c =
-    subst (λ (xs : List StoredPart). AllByRecursion (IsPartHere c.args.plan.now.params) xs) (sym c.self.view_is) c.requires
-
-pub forget-requires-clause-ends : goal.forget-requires-clause-ends
-forget-requires-clause-ends c =
-    ends_under c.self.inside.plan.params c.args.plan.now.params c.self.inside.timed c.are_timed-timed.result c.self.inside.items.items c.self.inside.ends.items c.are_timed-timed.ensures c.self.invariant.beside
-
-pub least_end-self-inside-requires : goal.least_end-self-inside-requires
-least_end-self-inside-requires c = λ so. c.forget.ensures.ends.order (c.self.invariant.order so)
-
+-- under a plan with other times each stale part is taken out
 pub invariant_of-self : goal.invariant_of-self
-invariant_of-self c = record {
-  beside = c.forget.ensures.ends.beside c.self.inside.plan.params c.self.inside.timed c.self.invariant.beside;
-  from = c.least_end-self-inside.ensures;
-  order = λ so. c.forget.ensures.ends.order (c.self.invariant.order so);
-}
+invariant_of-self c =
+    rw (c.forget_stale.ensures, c.sweep.ensures.left)
+    (kept-filter c.self.inside.plan.params c.self.inside.timed (λ k. not (is_stale_here c.args.plan.now.params c.args.reading k.stored)) _
+    (kept-filter c.self.inside.plan.params c.self.inside.timed (is_fresh c.self.inside.forgotten_to) c.self.inside.items.items c.self.invariant))
 
-pub returns : goal.returns
-returns c =
-    c.forget.ensures.left ∙ ap (λ (xs : List StoredPart). filter (λ x. not (is_stale c.args.plan.now.params c.args.reading x)) xs) c.self.view_is
+pub returns-then-not-are_timed : goal.returns-then-not-are_timed
+returns-then-not-are_timed c =
+    let swept : fresh_parts c.sweep.new.forgotten_to c.sweep.new.items.items ≡ c.args.self.now =
+    rw (c.sweep.ensures.left, c.sweep.ensures.time) (fresh-swept c.self.inside.forgotten_to 0 c.self.inside.items.items (omega arith) ∙ c.self.view_is) in
+    ap (λ (ks : List KeptPart). fresh_parts c.sweep.new.forgotten_to ks) c.forget_stale.ensures
+    ∙ (fresh-filter (λ x. not (is_stale_here c.args.plan.now.params c.args.reading x)) c.sweep.new.forgotten_to c.sweep.new.items.items
+    ∙ (ap (λ (xs : List StoredPart). filter (λ x. not (is_stale_here c.args.plan.now.params c.args.reading x)) xs) swept ∙ stale_here c.args.plan.now.params c.args.reading c.args.self.now c.requires))
+
+-- under one with the same times they are forgotten at once
+later : (c : After-max-self-inside) → fresh_parts c.max-self-inside.result c.self.inside.items.items ≡ filter (λ x. not (is_stale c.args.plan.now.params c.args.reading x)) c.args.self.now
+later c =
+    let both = and_parts c.self.inside.timed (has_same_times c.self.inside.plan.params c.args.plan.now.params) (sym c.are_timed.ensures ∙ c.if-not-are_timed.false) in
+    fresh-later c.self.inside.plan.params c.args.plan.now.params c.self.inside.forgotten_to c.args.reading c.max-self-inside.result c.self.inside.items.items both.1 (c.self.invariant.exact both.0) c.max-self-inside.ensures
+    ∙ ap (λ (xs : List StoredPart). filter (λ x. not (is_stale c.args.plan.now.params c.args.reading x)) xs) c.self.view_is
+
+pub returns-else-self-len : goal.returns-else-self-len
+returns-else-self-len c = later (goal.at.returns-else-self-len c).After-max-self-inside
+
+-- and swept out from time to time
+pub invariant_of-self-then-self-len : goal.invariant_of-self-then-self-len
+invariant_of-self-then-self-len c =
+    rw c.sweep-then-self-len.ensures.left (kept-filter c.self.inside.plan.params c.self.inside.timed (is_fresh c.max-self-inside.result) c.self.inside.items.items c.self.invariant)
+
+pub returns-then-self-len : goal.returns-then-self-len
+returns-then-self-len c =
+    rw (c.sweep-then-self-len.ensures.left, c.sweep-then-self-len.ensures.time)
+    (fresh-swept c.max-self-inside.result 0 c.self.inside.items.items (omega arith) ∙ later (goal.at.returns-then-self-len c).After-max-self-inside)
