@@ -15,9 +15,10 @@ use Rattle.std.proofs.lemmas.Map.Keys.{sorted_head, sorted_tail}
 use Rattle.std.proofs.lemmas.Map.Lookups.{exact_unsigned}
 use Rattle.tiger_base.specs.Span.{LibraryPart}
 use Rattle.tiger_base.specs.declared.number.Instance.{Instance}
+use Rattle.visit_rows.specs.Rows.{Position, position_order, thing_at, unless_there, row_with}
 use Rattle.viewer_core.specs.declared.viewers.Key.{Key}
 use Rattle.viewer_core.specs.Parts.{KeptParts, key_order, part_under, unless_kept, with_part}
-use Rattle.viewer_core.specs.Rows.{Position, position_order, RowParts, part_at, unless_there, row_with, instance_order, InstanceRows, AreRows, key_at, keyed, joined}
+use Rattle.viewer_core.specs.Rows.{RowParts, instance_order, InstanceRows, AreRows, key_at, keyed, joined}
 
 instance_total : IsTotalOrder instance_order
 instance_total = on_total (λ (i : Instance). i.0) nat_cmp_total
@@ -154,7 +155,7 @@ module _ (i : Instance) (p : Position) where
       ap (λ o. cond (is_eq (by_instance e.0 o)) (Some e.1) (under high)) h.0 ∙ under-high high h.1
 
   under-row : (row : RowParts) (high : KeptParts) → Compare i Less high
-      → under (keyed i row ++ high) ≡ part_at p row
+      → under (keyed i row ++ high) ≡ thing_at p row
   under-row [] high h = under-high high h
   under-row (e ∷ row) high h =
       ap (λ o. cond (is_eq (by_instance (key_at i e.0) o)) (Some e.1) (under (keyed i row ++ high))) tied
@@ -212,12 +213,19 @@ module _ (i : Instance) (p : Position) (part : LibraryPart)
 
 module _ (rows : InstanceRows) (sorted : AreRows rows) (i : Instance) (p : Position) where
   -- the part under a key stands in the row of its instance
-  pub under_key : part_under (key_at i p) (joined rows) ≡ part_at p (row_of i rows)
+  under_key : part_under (key_at i p) (joined rows) ≡ thing_at p (row_of i rows)
   under_key =
       let a = around i rows sorted in
       ap (part_under (key_at i p)) a.whole
       ∙ (under-low i p a.low (keyed i (row_of i rows) ++ a.high) a.below
       ∙ under-row i p (row_of i rows) a.high a.above)
+
+  -- it is what a look-up of the row finds there, and nothing if there is no row
+  pub under_found : (kept : KeptParts) → joined rows ≡ kept → (found : Option RowParts)
+      → found ≡ lookup (λ j. is_eq (instance_order i j)) rows → thing_at p (unwrap_or found []) ≡ part_under (key_at i p) kept
+  under_found kept whole found at =
+      ap (λ (o : Option RowParts). thing_at p (unwrap_or o [])) at
+      ∙ (sym under_key ∙ ap (part_under (key_at i p)) whole)
 
   -- a part that is kept in the row of its instance is kept in all rows
   pub row_kept : (part : LibraryPart)
@@ -225,5 +233,5 @@ module _ (rows : InstanceRows) (sorted : AreRows rows) (i : Instance) (p : Posit
       ≡ with_part (key_at i p) part (joined rows)
   unfolding with_part
   row_kept part =
-      around-unless i p part (around i rows sorted) (part_at p (row_of i rows))
+      around-unless i p part (around i rows sorted) (thing_at p (row_of i rows))
       ∙ ap (unless_kept (key_at i p) part (joined rows)) (sym under_key)

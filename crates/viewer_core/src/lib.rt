@@ -2,7 +2,6 @@
 #![tactic(auto)]
 
 mod laws;
-mod row;
 mod viewers;
 
 pub use laws::first_parts_are_kept;

@@ -3,12 +3,12 @@ ghost use Rattle.std.specs.Prelude.{◌≡◌, [], OnOk};
 ghost use Rattle.viewer_core.specs.Parts.{part_under, with_part};
 ghost use Rattle.viewer_core.specs.Rules.{keeping};
 
-use crate::row::Row;
 use node_kit::{Node, Outbox};
 use std::alloc::Global;
 use std::collections::BTreeMap;
 use std::marker::Model;
 use tiger_base::{Instance, LinkNo, Msg, NoMemory, Part, Stamp, Visit, Want};
+use visit_rows::VisitRow;
 
 /// What a part was asked for: an instance, a visit, and a piece, which is 0 for a whole block.
 #[derive(Clone, Copy, Debug, PartialEq, Eq, PartialOrd, Ord)]
@@ -23,7 +23,7 @@ pub struct Key {
 pub struct Viewers<'a> {
     alloc: Global,
     // A tree of all parts is a hundred times as large, and most steps of a search miss the cache.
-    rows: BTreeMap<Instance, Row<'a>>,
+    rows: BTreeMap<Instance, VisitRow<Part<'a>>>,
 }
 
 impl<'a> Model for Viewers<'a> {
@@ -54,10 +54,9 @@ impl<'a> Viewers<'a> {
         ensures { result ≡
             part_under (record { instance = instance; visit = visit; piece = piece }) self.now }
     {
-        match self.rows.get(&instance) {
-            Some(row) => row.part_at((visit, piece)),
-            None => None,
-        }
+        let row = self.rows.get(&instance)?;
+        let part = row.get((visit, piece))?;
+        Some(part.again())
     }
 
     /// Keeps a part, unless one is kept under its key.
@@ -65,7 +64,7 @@ impl<'a> Viewers<'a> {
     fn keep(&mut self, key: Key, part: Part<'a>) -> Result<(), NoMemory>
         ensures { OnOk result (self.new ≡ with_part key part.entry self.old) }
     {
-        let none_yet = Row::new(self.alloc);
+        let none_yet = VisitRow::new(self.alloc);
         let row = self.rows.entry(key.instance)?.or_insert(none_yet);
         row.keep((key.visit, key.piece), part)
     }

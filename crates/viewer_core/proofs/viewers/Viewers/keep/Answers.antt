@@ -4,7 +4,8 @@ use Rattle.std.specs.Map.{lookup}
 use Rattle.std.specs.BTreeMap.{insert_entry}
 use Rattle.std.proofs.lemmas.Result.{on_ok_weaker}
 use Rattle.viewer_core.specs.Parts.{with_part}
-use Rattle.viewer_core.specs.Rows.{Position, RowParts, row_with, instance_order, InstanceRows, joined}
+use Rattle.visit_rows.specs.Rows.{Position, row_with}
+use Rattle.viewer_core.specs.Rows.{RowParts, instance_order, InstanceRows, joined}
 use Rattle.viewer_core.proofs.Joined.{row_of, row_kept}
 use Rattle.viewer_core.proofs.viewers.Viewers.keep.Goals as goal
 

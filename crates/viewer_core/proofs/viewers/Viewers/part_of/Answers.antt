@@ -1,21 +1,20 @@
-use Rattle.std.proofs.Common.{[], sym, ap, ◌∙◌}
-use Rattle.std.specs.Option.{unwrap_or}
-use Rattle.viewer_core.specs.Parts.{KeptParts, part_under}
-use Rattle.viewer_core.specs.Rows.{Position, key_at, part_at}
-use Rattle.viewer_core.proofs.Joined.{under_key}
+use Rattle.std.proofs.Common.{Some, None, ap, ◌∙◌}
+use Rattle.viewer_core.proofs.Joined.{under_found}
 use Rattle.viewer_core.proofs.viewers.Viewers.part_of.Goals as goal
 
-pub returns-in-Some : goal.returns-in-Some
-returns-in-Some c =
-    let p : Position = (c.args.visit, c.args.piece) in
-    c.part_at.ensures
-    ∙ (ap (part_at p) (ap (λ o. unwrap_or o []) c.in-Some.ensures.value)
-    ∙ (sym (under_key c.self.inside.rows.entries c.self.invariant c.args.instance p)
-    ∙ ap (λ (kept : KeptParts). part_under (key_at c.args.instance p) kept) c.self.view_is))
+pub returns-in_err-row : goal.returns-in_err-row
+returns-in_err-row c =
+    c.from_residual.ensures
+    ∙ under_found _ c.self.invariant c.args.instance (c.args.visit, c.args.piece) _ c.self.view_is None c.in_err-row.ensures.value
 
-pub returns-in-None : goal.returns-in-None
-returns-in-None c =
-    let p : Position = (c.args.visit, c.args.piece) in
-    ap (λ o. part_at p (unwrap_or o [])) c.in-None.ensures.value
-    ∙ (sym (under_key c.self.inside.rows.entries c.self.invariant c.args.instance p)
-    ∙ ap (λ (kept : KeptParts). part_under (key_at c.args.instance p) kept) c.self.view_is)
+pub returns-in_err-part : goal.returns-in_err-part
+returns-in_err-part c =
+    c.from_residual-in_err-part.ensures
+    ∙ (c.in_err-part.ensures
+    ∙ under_found _ c.self.invariant c.args.instance (c.args.visit, c.args.piece) _ c.self.view_is (Some c.in_ok-row.row.now) c.in_ok-row.ensures.value)
+
+pub returns : goal.returns
+returns c =
+    ap (λ part. Some part) c.again.ensures
+    ∙ (c.in_ok-part.ensures
+    ∙ under_found _ c.self.invariant c.args.instance (c.args.visit, c.args.piece) _ c.self.view_is (Some c.in_ok-row.row.now) c.in_ok-row.ensures.value)
