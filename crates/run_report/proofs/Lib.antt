@@ -1,6 +1,5 @@
 pub mod Ranges
 pub mod Lookups
-pub mod Rows
 pub mod Rowed
 pub mod Gathering
 pub mod Fronts

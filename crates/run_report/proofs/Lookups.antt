@@ -2,14 +2,9 @@
 use Rattle.std.proofs.Common.{◌≡◌, ℕ, Bool, true, false, cond, ◌==◌, Option, Some, None, if◌then◌else◌, refl, sym, ap, ◌∙◌}
 use Rattle.std.specs.Cmp.{unsigned_tied}
 use Rattle.std.specs.Ordering.{is_eq, nat_cmp}
-use Rattle.std.specs.Option.{option_or}
 use Rattle.std.proofs.lemmas.Bool.{eqb-true}
 use Rattle.run_report.specs.declared.placed.Placed.{Placed}
 use Rattle.run_report.specs.Tables.{Placings, put_under, both}
-
-pub or_none : (o : Option ℕ) → option_or o None ≡ o
-or_none None = refl
-or_none (Some x) = refl
 
 pub both_none : (o : Option Placed) → both o None ≡ o
 both_none None = refl

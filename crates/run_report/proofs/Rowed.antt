@@ -4,11 +4,11 @@ use Rattle.std.specs.Prelude.{slice_get, slice_set, unwrap_or}
 use Rattle.std.specs.Option.{option_or}
 use Rattle.std.proofs.lemmas.Bool.{eqb-true, eq-eqb, false≢true}
 use Rattle.std.proofs.lemmas.Option.{none-some}
+use Rattle.visit_rows.specs.Rows.{Position, is_position, thing_at, row_with}
+use Rattle.visit_rows.proofs.Under.{or_none}
+use Rattle.visit_rows.proofs.Rows.{first_stays}
 use Rattle.run_report.specs.declared.firsts.Key.{Key}
-use Rattle.run_report.specs.Rows.{Position, RowBeats, is_position, beat_at}
-use Rattle.run_report.specs.Tables.{Beats, row_of, beat_under, is_same, HasKeptAt}
-use Rattle.run_report.proofs.Lookups.{or_none}
-use Rattle.run_report.proofs.Rows.{HasKept}
+use Rattle.run_report.specs.Tables.{RowBeats, Beats, row_of, beat_under, is_same, HasKeptAt}
 
 -- an empty row more
 row-pushed : (rows : Beats) (v : ℕ) → row_of (rows ++ [] ∷ []) v ≡ row_of rows v
@@ -37,22 +37,24 @@ row-other (r ∷ rs) (suc n) zero new other = refl
 row-other (r ∷ rs) (suc n) (suc v) new other = row-other rs n v new (λ e. other (ap suc e))
 
 pub kept-row : (rows : Beats) (n : ℕ) (p : Position) (beat : ℕ) (old new : RowBeats)
-    → slice_get rows n ≡ Some old → HasKept p beat old new → HasKeptAt n p beat rows (slice_set rows n new)
+    → slice_get rows n ≡ Some old → new ≡ row_with p beat old → HasKeptAt n p beat rows (slice_set rows n new)
 kept-row rows n p beat old new at kept v q = by_test (n == v) refl
   where
-    by_test : (b : Bool) → (n == v) ≡ b → beat_at q (row_of (slice_set rows n new) v)
-        ≡ option_or (beat_at q (row_of rows v)) (if b && is_position p q then Some beat else None)
+    by_test : (b : Bool) → (n == v) ≡ b → thing_at q (row_of (slice_set rows n new) v)
+        ≡ option_or (thing_at q (row_of rows v)) (if b && is_position p q then Some beat else None)
     by_test true f =
         let here : v ≡ n = sym (eqb-true n v f) in
-        subst (λ (x : ℕ). beat_at q (row_of (slice_set rows n new) x)
-        ≡ option_or (beat_at q (row_of rows x)) (if is_position p q then Some beat else None))
+        subst (λ (x : ℕ). thing_at q (row_of (slice_set rows n new) x)
+        ≡ option_or (thing_at q (row_of rows x)) (if is_position p q then Some beat else None))
         (sym here)
-        (ap (beat_at q) (row-set rows n old new at)
-        ∙ (kept q ∙ ap (λ (row : RowBeats). option_or (beat_at q row) (if is_position p q then Some beat else None))
-        (sym (ap (λ (o : Option RowBeats). unwrap_or o []) at))))
+        (ap (thing_at q) (row-set rows n old new at)
+        ∙ (ap (thing_at q) kept
+        ∙ (first_stays p q beat old
+        ∙ ap (λ (row : RowBeats). option_or (thing_at q row) (if is_position p q then Some beat else None))
+        (sym (ap (λ (o : Option RowBeats). unwrap_or o []) at)))))
     by_test false f =
-        ap (beat_at q) (row-other rows n v new (λ e. false≢true (sym f ∙ eq-eqb n v e)))
-        ∙ sym (or_none (beat_at q (row_of rows v)))
+        ap (thing_at q) (row-other rows n v new (λ e. false≢true (sym f ∙ eq-eqb n v e)))
+        ∙ sym (or_none (thing_at q (row_of rows v)))
 
 -- the same by keys, of rows that are those of a table but for empty ones
 pub kept-key : (k q : Key) (beat : ℕ) (old mid new : Beats) → ((v : ℕ) → row_of mid v ≡ row_of old v)
@@ -60,7 +62,7 @@ pub kept-key : (k q : Key) (beat : ℕ) (old mid new : Beats) → ((v : ℕ) →
     → beat_under q new ≡ option_or (beat_under q old) (if is_same k q then Some beat else None)
 kept-key k q beat old mid new same kept =
     kept q.instance.0 (q.visit, q.piece)
-    ∙ (ap (λ (row : RowBeats). option_or (beat_at (q.visit, q.piece) row) (if here && there then Some beat else None))
+    ∙ (ap (λ (row : RowBeats). option_or (thing_at (q.visit, q.piece) row) (if here && there then Some beat else None))
     (same q.instance.0)
     ∙ ap (λ (b : Bool). option_or (beat_under q old) (if b then Some beat else None))
     (and_assoc here (k.visit == q.visit) (k.piece == q.piece)))

@@ -1,5 +1,4 @@
 pub mod Outcomes
-pub mod Rows
 pub mod Tables
 pub mod Told
 pub mod Digests

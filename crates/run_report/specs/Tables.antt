@@ -10,10 +10,14 @@ use Rattle.node_kit.specs.declared.journal.Entry.{Entry}
 use Rattle.run_facts.specs.Timed.{is_died}
 use Rattle.run_model.specs.Served.{journal_at}
 use Rattle.run_model.specs.Tests.{read_failed}
+use Rattle.visit_rows.specs.Rows.{Position, is_position, RowOf, thing_at}
 use Rattle.run_report.specs.declared.firsts.Key.{Key}
 use Rattle.run_report.specs.declared.placed.Placed.{Placed}
-use Rattle.run_report.specs.Rows.{Position, RowBeats, is_position, beat_at}
 use Rattle.run_report.specs.Outcomes.{puts_of, earliest, stop_of, whole_sent, piece_sent}
+
+-- beats, each at a visit and a piece
+abbrev pub RowBeats : Type 0
+RowBeats = RowOf ℕ
 
 -- the row of each instance, and Puts in the order of their instances
 abbrev pub Beats : Type 0
@@ -34,13 +38,13 @@ row_of rows v = unwrap_or (slice_get rows v) []
 
 -- what stands under a key
 abbrev pub beat_under : Key → Beats → Option ℕ
-beat_under k rows = beat_at (k.visit, k.piece) (row_of rows k.instance.0)
+beat_under k rows = thing_at (k.visit, k.piece) (row_of rows k.instance.0)
 
 -- once a beat is kept at a position of a row: what stands there stays, and so does all else
 abbrev pub HasKeptAt : ℕ → Position → ℕ → Beats → Beats → Type 0
 HasKeptAt place p beat old new =
-    (v : ℕ) (q : Position) → beat_at q (row_of new v)
-    ≡ option_or (beat_at q (row_of old v)) (if (place == v) && is_position p q then Some beat else None)
+    (v : ℕ) (q : Position) → thing_at q (row_of new v)
+    ≡ option_or (thing_at q (row_of old v)) (if (place == v) && is_position p q then Some beat else None)
 
 abbrev pub put_under : ℕ → Placings → Option Placed
 put_under v puts = lookup (λ q. is_eq (nat_cmp v q)) puts

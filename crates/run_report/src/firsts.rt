@@ -5,11 +5,11 @@ ghost use Rattle.run_report.specs.Tables.{row_of, key_at, beat_under, is_same, p
 ghost use Rattle.run_report.specs.Tables.{HasKeptAt};
 
 use crate::placed::Placed;
-use crate::row::Row;
 use std::alloc::Global;
 use std::collections::BTreeMap;
 use std::marker::Model;
 use tiger_base::{Beat, Instance, NoMemory, Visit};
+use visit_rows::VisitRow;
 
 /// An instance, one of its visits, and a piece of the visit's block: 0 for the whole block.
 #[derive(Clone, Copy, Debug, PartialEq, Eq)]
@@ -23,7 +23,7 @@ pub struct Key {
 #[derive(Drop)]
 pub struct Firsts {
     alloc: Global,
-    rows: Vec<Row>,
+    rows: Vec<VisitRow<Beat>>,
 }
 
 impl Model for Firsts {
@@ -50,7 +50,7 @@ impl Firsts {
         ensures { result ≡ beat_under key self.now }
     {
         match self.rows.get(key.instance.0 as usize) {
-            Some(row) => row.get((key.visit, key.piece)),
+            Some(row) => row.get((key.visit, key.piece)).copied(),
             None => None,
         }
     }
@@ -68,19 +68,19 @@ impl Firsts {
 }
 
 /// Adds empty rows until there is one at this place.
-fn reach(alloc: Global, rows: &mut Vec<Row>, place: usize) -> Result<(), NoMemory>
+fn reach(alloc: Global, rows: &mut Vec<VisitRow<Beat>>, place: usize) -> Result<(), NoMemory>
     ensures reached { OnOk result (place < vec_len rows.new) }
     ensures same { OnOk result ((v : ℕ) → row_of rows.new.items v ≡ row_of rows.old.items v) }
 {
     while rows.len() <= place {
-        rows.push(Row::new(alloc))?;
+        rows.push(VisitRow::new(alloc))?;
     }
     Ok(())
 }
 
 /// Keeps a beat in the row at this place.
 fn keep_at(
-    rows: &mut Vec<Row>,
+    rows: &mut Vec<VisitRow<Beat>>,
     place: usize,
     position: (Visit, u32),
     beat: Beat,

@@ -12,7 +12,6 @@ mod gather;
 mod index;
 mod outcome;
 mod placed;
-mod row;
 mod tally;
 mod text;
 mod times;
