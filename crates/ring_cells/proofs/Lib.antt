@@ -11,4 +11,3 @@ pub mod Moving
 pub mod OfCells
 pub mod Openings
 pub mod Tried
-pub mod Disks

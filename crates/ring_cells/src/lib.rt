@@ -17,6 +17,3 @@ pub use inlet::Inlet;
 pub use moved::Moved;
 pub use named::Named;
 pub use outlet::Outlet;
-
-#[cfg(test)]
-mod tests;

@@ -8,11 +8,6 @@ mod gathering;
 mod mail;
 mod opening;
 mod run;
-mod samples;
 
 pub use for_tests::Party;
 pub use run::run_plain;
-pub use samples::{Toy, toy_course, toys};
-
-#[cfg(test)]
-mod tests;

@@ -6,6 +6,3 @@ mod nodes;
 
 pub use making::{make_images, make_nodes};
 pub use nodes::AnyNode;
-
-#[cfg(test)]
-mod tests;

@@ -10,6 +10,3 @@ mod run;
 mod working;
 
 pub use run::run_workers;
-
-#[cfg(test)]
-mod tests;

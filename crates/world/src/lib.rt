@@ -4,8 +4,3 @@
 mod world;
 
 pub use world::World;
-
-#[cfg(test)]
-mod script_tests;
-#[cfg(test)]
-mod tests;

@@ -1,0 +1,26 @@
+-- What a toy node does and where it stands, by the links that it may have: one for what its ticks send, and one for what
+-- it passes on.
+use Rattle.std.specs.Prelude.{◌≡◌, ℕ, List, [], ◌∷◌, Option, Some}
+use Rattle.std.specs.Option.{ForSome, option_map_or}
+use Rattle.tiger_base.specs.declared.number.LinkNo.{LinkNo}
+use Rattle.tiger_base.specs.declared.message.Msg.{Msg}
+use Rattle.tiger_base.specs.declared.message.Msg.TheVariants.{Heartbeat}
+use Rattle.node_kit.specs.declared.outbox.Out.{Out}
+use Rattle.node_kit.specs.declared.outbox.Out.TheVariants.{Send}
+use Rattle.node_kit.specs.Links.{Links, ends_of}
+use Rattle.node_kit.specs.Steps.{Deed, Input}
+use Rattle.node_kit.specs.Steps.Input.{Take, Tick}
+
+-- a heartbeat on a link, if there is one
+abbrev pub beat_on : Option LinkNo → List (Out Msg)
+beat_on link = option_map_or (λ l. Send l Heartbeat ∷ []) link []
+
+-- a message is passed on, and a tick sends, each if there is a link for that
+abbrev pub toy_step : {S : Type 0} → (S → Option LinkNo) → (S → Option LinkNo) → S → Input Msg → Deed Msg S
+toy_step out relay s (Take stamp link msg) = record { outs = beat_on (relay s); state = s }
+toy_step out relay s (Tick stamp) = record { outs = beat_on (out s); state = s }
+
+-- the links lead from node n
+abbrev pub LeadFrom : Links → ℕ → Option LinkNo → Option LinkNo → Type 0
+LeadFrom links n out relay = ForSome out (λ l. (to : ℕ) × (ends_of links l.0 ≡ Some (n, to)))
+    × ForSome relay (λ l. (to : ℕ) × (ends_of links l.0 ≡ Some (n, to)))
