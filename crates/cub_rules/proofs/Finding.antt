@@ -7,7 +7,6 @@ use Rattle.tiger_base.specs.Records.{same_want}
 use Rattle.slot_plan.specs.declared.params.Params.{Params}
 use Rattle.slot_plan.specs.Times.{due}
 use Rattle.cub_rules.specs.declared.parts.KeptPart.{KeptPart}
-use Rattle.cub_rules.specs.declared.store.StoredPart.{StoredPart}
 use Rattle.cub_rules.specs.Fresh.{end_of, is_fresh, fresh_parts, IsTimed, first_part}
 use Rattle.cub_rules.specs.Records.{stored_for}
 use Rattle.cub_rules.proofs.Filters.{find-passed}
@@ -20,27 +19,19 @@ passed_by_top want end n ks above early inside =
     (λ i d b l. and_left _ _ (ne_eqb (get_or ks i d).end end (λ same. omega (arith, same, above i d l, ltb-true (get_or ks i d).top end (early i d (omega arith) b))))))
 
 module _ (want : Want) (time : ℕ) where
-  next : (test : KeptPart → Bool) (k : KeptPart) (ks : List KeptPart) (xs : List StoredPart) (b s t : Bool) → b ≡ (s && t) → same_want want k.stored.want ≡ t → first_part test ks ≡ stored_for want xs
-      → option_map (λ (l : KeptPart). l.stored.part) (cond b (Some k) (find test ks)) ≡ stored_for want (cond s (k.stored ∷ xs) xs)
+  next : (test : KeptPart → Bool) (k : KeptPart) (ks left : List KeptPart) (b s t : Bool) → b ≡ (s && t) → same_want want k.stored.want ≡ t → first_part test ks ≡ stored_for want (map (λ (l : KeptPart). l.stored) left)
+      → option_map (λ (l : KeptPart). l.stored.part) (cond b (Some k) (find test ks)) ≡ stored_for want (map (λ (l : KeptPart). l.stored) (cond s (k ∷ left) left))
   unfolding stored_for
-  next test k ks xs b true true e d rest = rw (e, d) refl
-  next test k ks xs b true false e d rest = rw (e, d) rest
-  next test k ks xs b false t e d rest = rw e rest
-
-  shown : (k : KeptPart) (ks : List KeptPart) (s : Bool) → cond s (k.stored ∷ map (λ (l : KeptPart). l.stored) ks) (map (λ (l : KeptPart). l.stored) ks) ≡ map (λ (l : KeptPart). l.stored) (cond s (k ∷ ks) ks)
-  shown k ks true = refl
-  shown k ks false = refl
-
-  none_stored : None ≡ stored_for want []
-  unfolding stored_for
-  none_stored = refl
+  next test k ks left b true true e d rest = rw (e, d) refl
+  next test k ks left b true false e d rest = rw (e, d) rest
+  next test k ks left b false t e d rest = rw e rest
 
   -- a test that tells which parts are for a want and are not forgotten
   pub found_fresh : (test : KeptPart → Bool) (ks : List KeptPart) → All (λ (k : KeptPart). test k ≡ (is_fresh time k && same_want want k.stored.want)) ks → first_part test ks ≡ stored_for want (fresh_parts time ks)
-  found_fresh test [] h = none_stored
+  unfolding stored_for
+  found_fresh test [] h = refl
   found_fresh test (k ∷ ks) h =
-      next test k ks (fresh_parts time ks) (test k) (is_fresh time k) (same_want want k.stored.want) (h 0 k (omega arith)) refl (found_fresh test ks (λ i d l. h (suc i) d (omega (arith, l))))
-      ∙ ap (λ (xs : List StoredPart). stored_for want xs) (shown k (filter (is_fresh time) ks) (is_fresh time k))
+      next test k ks (filter (is_fresh time) ks) (test k) (is_fresh time k) (same_want want k.stored.want) (h 0 k (omega arith)) refl (found_fresh test ks (λ i d l. h (suc i) d (omega (arith, l))))
 
   -- if none is, none is found
   pub none_fresh : (ks : List KeptPart) → All (λ (k : KeptPart). false ≡ (is_fresh time k && same_want want k.stored.want)) ks → None ≡ stored_for want (fresh_parts time ks)

@@ -59,7 +59,7 @@ fresh-later p q time reading later ks alike timed is =
         later_too time reading later k.end is
         ∙ ap (λ (n : ℕ). is_fresh time k && not (nat_le n reading)) (end ∙ ends_alike p q (k.stored.want.slot, k.stored.want.visit) alike)
 
--- if all parts are of visits of a plan, those of them that are stale are stale
+-- if all parts are of visits of a plan, a test of that changes nothing
 pub stale_here : (p : Params) (reading : ℕ) (xs : List StoredPart) → AllByRecursion (IsPartHere p) xs → filter (λ x. not (is_stale_here p reading x)) xs ≡ filter (λ x. not (is_stale p reading x)) xs
 stale_here p reading [] h = refl
 stale_here p reading (x ∷ xs) h = rw (h.0, stale_here p reading xs h.1) refl

@@ -340,7 +340,10 @@ fn answered(alloc: Global, library: &Library, piece: u32) -> Result<String, Fail
 fn part_is_stored_for_a_piece_that_is_there(rt: HostRuntime) -> Result<(), Fail> {
     let library = library(rt.alloc(), b"aaaa")?;
     let cases = [
-        (2, "| piece 3.2 of (0, 0, 1, 0, 63); 1 stored; "),
+        (
+            2,
+            "| piece 3.2 of (0, 0, 1, 0, 63); stored (0, 1, 3, 0, 3, 2); ",
+        ),
         (1, "| piece 3.2 of (0, 0, 1, 0, 63); "),
     ];
     for (piece, want) in cases {

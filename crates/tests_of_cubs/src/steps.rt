@@ -265,7 +265,10 @@ fn released(alloc: Global, library: &Library, reading: Micros) -> Result<String,
 fn what_is_over_is_released(rt: HostRuntime) -> Result<(), Fail> {
     let library = library(rt.alloc(), b"")?;
     let cases = [
-        (1499999, "| held; to pass on; split 1/0; 1 stored; "),
+        (
+            1499999,
+            "| held; to pass on; split 1/0; stored (0, 1, 0, 0, 0, 1); ",
+        ),
         (1500000, "| held; to pass on; "),
         (2999999, "| held; to pass on; "),
         (3000000, "| "),

@@ -1,6 +1,7 @@
 //! What a cub puts out and what it keeps, as texts: each output and each thing that is kept ends in a semicolon.
 
-use cub_rules::Store;
+use crate::samples::want;
+use cub_rules::{Store, StoredParts};
 use node_kit::{Out, Outbox, What};
 use std::alloc::AllocError;
 use std::fmt::Write;
@@ -136,14 +137,25 @@ pub fn push_kept(store: &mut Store, text: &mut String) -> Result<(), AllocError>
 }
 
 /// Adds the first piece record and the first that is not asked for yet, the first visit of instance 0 that was split,
-/// and how many parts are stored.
+/// and what parts are stored for.
 fn push_pieces(store: &mut Store, text: &mut String) -> Result<(), AllocError> {
     push_first_piece("piece ", store.pieces.after(None), text)?;
     push_first_piece("unasked ", store.unasked.after(None), text)?;
     if let Some((slot, visit)) = store.splits.take_of(Instance(0)) {
         write!(text, "split {}/{visit}; ", slot.0)?;
     }
-    push_count(store.parts.len(), "stored", text)
+    push_stored(&store.parts, text)
+}
+
+/// Adds each want of these tests for which a part is stored.
+fn push_stored(parts: &StoredParts, text: &mut String) -> Result<(), AllocError> {
+    for (visit, block, piece) in [(0, 0, 1), (2, 1, 1), (3, 2, 0), (3, 3, 1), (3, 3, 2)] {
+        let want = want(visit, block, piece);
+        if parts.part_for(want).is_some() {
+            push_want("stored", &want, text)?;
+        }
+    }
+    Ok(())
 }
 
 fn push_if(is_so: bool, words: &str, text: &mut String) -> Result<(), AllocError> {

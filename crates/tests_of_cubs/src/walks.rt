@@ -145,14 +145,16 @@ fn served(alloc: Global, library: &Library, reading: Micros) -> Result<String, F
 fn what_is_due_goes_to_the_viewers(rt: HostRuntime) -> Result<(), Fail> {
     let library = library(rt.alloc(), b"1234567890")?;
     let nothing = "| Backup 2 of (0, 0, 1, 1, 4); piece 2.1 of (0, 0, 1, 1, 4); \
-                   unasked 2.1 of (0, 0, 1, 1, 4); 2 stored; ";
+                   unasked 2.1 of (0, 0, 1, 1, 4); \
+                   stored (0, 1, 2, 0, 1, 1); stored (0, 1, 3, 0, 2, 0); ";
     let piece = "dropped Backup 2 of (0, 0, 1, 1, 4); \
                  19: piece (0, 4, 2) sent in 350 for (0, 1, 2, 0, 1, 1); \
-                 | Own 3 of (0, 0, 1, 1, 4); 2 stored; ";
+                 | Own 3 of (0, 0, 1, 1, 4); \
+                 stored (0, 1, 2, 0, 1, 1); stored (0, 1, 3, 0, 2, 0); ";
     let both = "19: whole (0, 8, 2) sent in 350 for (0, 1, 3, 0, 2, 0); \
                 dropped Own 3 of (0, 0, 1, 1, 4); dropped Backup 2 of (0, 0, 1, 1, 4); \
                 19: piece (0, 4, 2) sent in 350 for (0, 1, 2, 0, 1, 1); \
-                | 2 stored; ";
+                | stored (0, 1, 2, 0, 1, 1); stored (0, 1, 3, 0, 2, 0); ";
     for (reading, want) in [
         (2499999, nothing),
         (2500000, piece),
