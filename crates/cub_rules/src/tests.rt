@@ -224,42 +224,8 @@ fn parts_are_found_by_all_of_what_was_asked(rt: HostRuntime) -> Result<(), Fail>
     Ok(())
 }
 
-/// Whether a part is found for an instance and a slot, if parts of visit 0 of slots 2, 1 and 3 come, for instances 7, 8
-/// and 9.
-fn found_out_of_order<'a>(
-    alloc: Global,
-    library: &'a Library,
-    instance: u32,
-    slot: u32,
-) -> Result<bool, Fail> {
-    let plan = plan(16);
-    let mut parts = StoredParts::new(alloc, &plan);
-    parts.push(&plan, part_of(library, 7, 2)?)?;
-    parts.push(&plan, part_of(library, 8, 1)?)?;
-    parts.push(&plan, part_of(library, 9, 3)?)?;
-    Ok(parts.part_for(want_of(instance, slot)).is_some())
-}
-
-#[test]
-fn parts_are_found_if_their_ends_fall(rt: HostRuntime) -> Result<(), Fail> {
-    let library = library(rt.alloc())?;
-    for (instance, slot, is_there) in [
-        (7, 2, true),
-        (8, 1, true),
-        (9, 3, true),
-        (7, 1, false),
-        (9, 2, false),
-        (9, 4, false),
-    ] {
-        assert_eq!(rt;
-            found_out_of_order(rt.alloc(), &library, instance, slot)?,
-            is_there
-        );
-    }
-    Ok(())
-}
-
-/// Whether parts of slots 2 and 1 are found, for instances 7 and 8, if what is stale was forgotten at two readings.
+/// Whether parts of slots 2 and 1 are found, for instances 7 and 8, if they come in this order, in which their ends fall,
+/// and what is stale is forgotten at two readings.
 fn kept_of_two<'a>(
     alloc: Global,
     library: &'a Library,
@@ -276,7 +242,7 @@ fn kept_of_two<'a>(
 }
 
 #[test]
-fn what_is_forgotten_stays_so_at_an_earlier_reading(rt: HostRuntime) -> Result<(), Fail> {
+fn parts_whose_ends_fall_are_found_until_they_are_forgotten(rt: HostRuntime) -> Result<(), Fail> {
     let library = library(rt.alloc())?;
     for (first, second, left) in [
         (0, 0, (true, true)),

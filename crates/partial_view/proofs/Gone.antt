@@ -35,7 +35,7 @@ module _ {X : Type 0} where
       let one : length (drop count (take k zs)) ≡ 1 = length-drop count (take k zs) ∙ omega (arith, mid, is) in
       let first : take count (take k zs) ≡ take count zs = take-take count k zs (omega (arith, is)) in
       let parts : ys ≡ drop count (take k zs) ++ take count zs =
-          turned ∙ ap (λ n. drop n (take k zs) ++ take n (take k zs)) last ∙ ap (λ l. drop count (take k zs) ++ l) first in
+      turned ∙ ap (λ n. drop n (take k zs) ++ take n (take k zs)) last ∙ ap (λ l. drop count (take k zs) ++ l) first in
       let behind : drop k zs ≡ drop (suc count) zs = let on : k ≡ suc count = omega (arith, is) in ap (λ n. drop n zs) on in
       sym (drop-drop 1 from (put_mid from k xs ys))
       ∙ ap (drop 1) (drop_at (take from xs) (ys ++ drop k zs) from (length-take-le from xs (omega (arith, inside))))
