@@ -5,7 +5,7 @@ ghost use Rattle.tiger_base.specs.Limits.{most_beats};
 ghost use Rattle.node_kit.specs.Steps.{entry_of};
 ghost use Rattle.ring_engine.specs.Traffic.{sent_on, posted_one, posted, AreOpen, IsPostable};
 
-use crate::mail::Channel;
+use crate::channel::Channel;
 use node_kit::{Entry, Journal, Out, Outbox, What};
 use tiger_base::{Beat, LinkNo, Message, NoMemory, Stamp};
 

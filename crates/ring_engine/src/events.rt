@@ -9,7 +9,7 @@ ghost use Rattle.run_facts.specs.Beats.{letter_events, end_events, beat_events};
 
 use crate::delivery::deliver;
 use crate::gathering::gather;
-use crate::mail::Channel;
+use crate::channel::Channel;
 use node_kit::{Entry, Journal, Life, Node, Outbox, What};
 use run_facts::Letter;
 use std::collections::VecDeque;

@@ -3,7 +3,7 @@ ghost use Rattle.std.specs.Prelude.{◌≡◌, ◌<◌, [], ◌∷◌, ◌++◌,
 ghost use Rattle.std.specs.List.{AllByRecursion};
 ghost use Rattle.ring_engine.specs.Traffic.{letters_on, emptied, collected, after_collecting, IsLink};
 
-use crate::mail::Channel;
+use crate::channel::Channel;
 use run_facts::Letter;
 use std::collections::VecDeque;
 use tiger_base::{Beat, LinkNo, NoMemory};

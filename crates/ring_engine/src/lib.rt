@@ -1,11 +1,11 @@
 //! A run of any nodes on one thread: beat for beat, each node takes what arrives and then ticks.
 #![tactic(auto)]
 
+mod channel;
 mod delivery;
 mod events;
 mod for_tests;
 mod gathering;
-mod mail;
 mod opening;
 mod run;
 

@@ -7,7 +7,7 @@ ghost use Rattle.node_kit.specs.Links.{link_count, viewers_of, in_links_of};
 ghost use Rattle.ring_engine.specs.Places.{new_channel};
 ghost use Rattle.node_kit.specs.Rows.{each_below};
 
-use crate::mail::Channel;
+use crate::channel::Channel;
 use node_kit::{Course, Journal, Life, LinkTable};
 use std::alloc::Global;
 use tiger_base::{LinkNo, NoMemory, NodeNo, Sequence};

@@ -14,7 +14,7 @@ ghost use Rattle.ring_engine.specs.Places.{ring, AreInLinks, IsSound, AllHaveLiv
 ghost use Rattle.node_kit.specs.Rows.{AllStand};
 
 use crate::events::live;
-use crate::mail::Channel;
+use crate::channel::Channel;
 use crate::opening::{all_in_links, all_lives, new_channels, new_journals};
 use node_kit::{Course, Journal, Life, LinkTable, Node, Outbox, Ran};
 use run_facts::Letter;

@@ -1,7 +1,7 @@
 use Rattle.std.proofs.Common.{◌≡◌, ◌++◌, length}
 use Rattle.ring_engine.specs.Traffic.{after_arrivals}
 use Rattle.run_facts.specs.Beats.{arrived}
-use Rattle.ring_engine.proofs.mail.Channel.empty.Given as goal
+use Rattle.ring_engine.proofs.channel.Channel.empty.Given as goal
 
 -- what is taken out and what has arrived besides make all that had arrived
 abbrev pub invariant-loop-flight : goal.invariant-loop-flight
