@@ -61,7 +61,7 @@ sent_on-other : {M : Type 0} (beat : ℕ) (link : LinkNo) (msg : M) (ts : List (
 unfolding sent_on
 sent_on-other beat link msg ts l other = get-changed_other (after_sending beat msg) ts link.0 l other
 
-not-eqb : (a b : ℕ) → (a == b) ≡ false → a ≢ b
+pub not-eqb : (a b : ℕ) → (a == b) ≡ false → a ≢ b
 not-eqb a b h e = let t : (a == b) ≡ true = eq-eqb a b e in let q : true ≡ false = sym t ∙ h in absurd (cc)
 
 pub posted-at : {M : Type 0} (beat l : ℕ) (os : List (Out M)) (ts : List (Traffic M)) (t : Traffic M) → slice_get ts l ≡ Some t
@@ -104,7 +104,7 @@ emptied-same beat link ts t l same h =
     subst (λ k. slice_get ts k ≡ Some t → slice_get (changed_at (after_arrivals beat) ts link.0) k ≡ Some (after_arrivals beat t)) same
     (get-changed_same (after_arrivals beat) ts link.0 t) h
 
-emptied-other : {M : Type 0} (beat : ℕ) (link : LinkNo) (ts : List (Traffic M)) (l : ℕ) → link.0 ≢ l → slice_get (emptied beat link ts) l ≡ slice_get ts l
+pub emptied-other : {M : Type 0} (beat : ℕ) (link : LinkNo) (ts : List (Traffic M)) (l : ℕ) → link.0 ≢ l → slice_get (emptied beat link ts) l ≡ slice_get ts l
 unfolding emptied
 emptied-other beat link ts l other = get-changed_other (after_arrivals beat) ts link.0 l other
 

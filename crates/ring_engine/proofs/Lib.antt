@@ -1,7 +1,9 @@
 pub mod Arriving
+pub mod Awaiting
 pub mod Channels
 pub mod Delivering
 pub mod Happening
+pub mod Looking
 pub mod Progressing
 pub mod Running
 pub mod Wholes

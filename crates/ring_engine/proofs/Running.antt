@@ -21,7 +21,7 @@ use Rattle.ring_engine.specs.Turns.{Scene, scene, turn, IsReady, IsReadyFor, Kee
 use Rattle.run_facts.specs.Beats.{beat_events, opening_of, after_beat, after_beats}
 use Rattle.ring_engine.specs.Runs.{HasRun, HasEnded}
 use Rattle.node_kit.specs.Courses.{stamp_in}
-use Rattle.ring_engine.specs.Places.{new_channel, IsSound, HasLived, AllHaveLived, AreInLinks}
+use Rattle.ring_engine.specs.Places.{new_channel, IsSound, HasLived, AllHaveLived}
 use Rattle.node_kit.specs.Rows.{each_below, AllStand}
 use Rattle.ring_engine.specs.Whole.{opening_ring, with_node, brought_to, HaveTurns, HavePassed, IsWholeRun}
 use Rattle.ring_engine.proofs.Happening.{happen-past}
@@ -33,7 +33,7 @@ get-set_same [] n x y e = absurd (none-some y e)
 get-set_same (z ∷ zs) zero x y e = refl
 get-set_same (z ∷ zs) (suc n) x y e = get-set_same zs n x y e
 
-get-set_other : {A : Type 0} (xs : List A) (n k : ℕ) (x : A) → k ≢ n → slice_get (slice_set xs n x) k ≡ slice_get xs k
+pub get-set_other : {A : Type 0} (xs : List A) (n k : ℕ) (x : A) → k ≢ n → slice_get (slice_set xs n x) k ≡ slice_get xs k
 get-set_other [] n k x ne = refl
 get-set_other (z ∷ zs) zero zero x ne = absurd (ne refl)
 get-set_other (z ∷ zs) zero (suc k) x ne = refl
@@ -68,22 +68,17 @@ elsewhere r n k s life j ts past ne h = record {
   journal = get-set_other r.journals n k j ne ∙ h.journal;
 }
 
-pub ready-node : {M S : Type 0} (stands : S → Params → ℕ → Type 0) (c : Course) (count beat n : ℕ) (r : Ring M S) (rows : List (List LinkNo)) (links : List LinkNo) (stamp : Stamp) (s : S)
-    (life : Lifetime) (j : List Entry) → stamp ≡ stamp_in c n beat → IsSound stands c.plan.params count beat r → AreInLinks c.plan.params count rows → slice_get rows n ≡ Some links
+pub ready-node : {M S : Type 0} (stands : S → Params → ℕ → Type 0) (c : Course) (count beat n : ℕ) (r : Ring M S) (links : List LinkNo) (stamp : Stamp) (s : S)
+    (life : Lifetime) (j : List Entry) → stamp ≡ stamp_in c n beat → IsSound stands c.plan.params count beat r → links ≡ in_links_of (links_of c.plan.params) n
     → slice_get r.nodes n ≡ Some s → IsReadyFor stands stamp.beat links (scene s life j r.channels)
-ready-node {M} {S} stands c count beat n r rows links stamp s life j dated sound all here_links here =
+ready-node {M} {S} stands c count beat n r links stamp s life j dated sound row here =
     let p = c.plan.params in
-    let below : n < count = let h = get-below r.nodes n s here in omega (arith, h, sound.nodes) in
-    let e : in_links_of (links_of p) n ≡ links = same-element rows n (in_links_of (links_of p) n) links (ap (λ q. slice_get q n) all ∙ get-each_below (in_links_of (links_of p)) count n below) here_links in
     subst (λ (q : Stamp). IsReadyFor {M = M} {S = S} stands q.beat links (scene s life j r.channels)) (sym dated) (record {
       params = p;
       number = n;
       ready = record { stands_here = sound.stand n s here; count = sound.channels; unsent = sound.unsent };
-      lead = subst (AllByRecursion (λ k. IsInLink p n k.0)) e (links_into-lead p n (link_count (links_of p)));
+      lead = subst (AllByRecursion (λ k. IsInLink p n k.0)) (sym row) (links_into-lead p n (link_count (links_of p)));
     })
-
-pub length-rows : (p : Params) (count : ℕ) (rows : List (List LinkNo)) → AreInLinks p count rows → length rows ≡ count
-length-rows p count rows all = ap length all ∙ length-each_below (in_links_of (links_of p)) count
 
 stand-on : {S : Type 0} (stands : S → Params → ℕ → Type 0) (p : Params) (n : ℕ) (nodes : List S) (s s' : S) → slice_get nodes n ≡ Some s → AllStand stands p nodes
     → stands s' p n → AllStand stands p (slice_set nodes n s')
@@ -202,11 +197,14 @@ come-open note step c count given lives journals channels len living written n f
       };
     }
 
-unsent-open : {M : Type 0} (c : Course) (k : ℕ) (ts : List (Traffic M)) → ts ≡ each_below (new_channel c) k → AreOpen 0 ts
-unsent-open c k ts new l t e =
+pub opening-channel : {M : Type 0} (c : Course) (k : ℕ) (ts : List (Traffic M)) → ts ≡ each_below (new_channel c) k → (l : ℕ) (t : Traffic M) → slice_get ts l ≡ Some t
+    → new_channel c l ≡ t
+opening-channel c k ts new l t e =
     let below : l < k = let h = get-below ts l t e in let g = ap length new ∙ length-each_below (new_channel c) k in omega (arith, h, g) in
-    let same : new_channel c l ≡ t = same-element ts l (new_channel c l) t (ap (λ q. slice_get q l) new ∙ get-each_below (new_channel c) k l below) e in
-    subst (λ q. q.clock.last_send ≤ 0) same (omega arith)
+    same-element ts l (new_channel c l) t (ap (λ q. slice_get q l) new ∙ get-each_below (new_channel c) k l below) e
+
+unsent-open : {M : Type 0} (c : Course) (k : ℕ) (ts : List (Traffic M)) → ts ≡ each_below (new_channel c) k → AreOpen 0 ts
+unsent-open c k ts new l t e = subst (λ q. q.clock.last_send ≤ 0) (opening-channel c k ts new l t e) (omega arith)
 
 pub sound-open : {M S : Type 0} (stands : S → Params → ℕ → Type 0) (c : Course) (count : ℕ) (given : List S) (lives : List Lifetime) (journals : List (List Entry))
     (channels : List (Traffic M)) → AllStand stands c.plan.params given → count ≡ length given → lives ≡ each_below (lifetime_of c) count
@@ -263,18 +261,15 @@ fair-turn {M} {S} note step stands c count beat n now stamp links s s' life life
 
 -- one turn more, and one beat more
 pub turns-on : {M S : Type 0} (note : M → Note) (step : S → Input M → Deed M S) (stands : S → Params → ℕ → Type 0) (c : Course) (count beat n : ℕ) (old now : Ring M S) (stamp : Stamp)
-    (rows : List (List LinkNo)) (links : List LinkNo) (s s' : S) (life life' : Lifetime) (j j' : List Entry) (ts' : List (Traffic M))
-    → stamp ≡ stamp_in c n beat → n < count → AreInLinks c.plan.params count rows → slice_get rows n ≡ Some links
+    (links : List LinkNo) (s s' : S) (life life' : Lifetime) (j j' : List Entry) (ts' : List (Traffic M))
+    → stamp ≡ stamp_in c n beat → links ≡ in_links_of (links_of c.plan.params) n
     → slice_get now.nodes n ≡ Some s → slice_get now.lives n ≡ Some life → slice_get now.journals n ≡ Some j
     → ◌≡◌ {A = Scene M S} (scene s' life' j' ts') (turn note step stamp links (scene s life j now.channels))
     → IsSound stands c.plan.params count beat now
     → KeepsReady note step stands stamp.beat (beat_events note step stamp (collected stamp.beat links now.channels) (record { state = s; life = life; journal = j }))
     (scene s life j now.channels) (scene s' life' j' ts')
     → HaveTurns note step c beat n old now → HaveTurns note step c beat (n + 1) old (with_node now n s' life' j' ts')
-turns-on {M} {S} note step stands c count beat n old now stamp rows links s s' life life' j j' ts' dated below all here_links hs hl hj turned sound keeps turns =
-    let p = c.plan.params in
-    let row : links ≡ in_links_of (links_of p) n = same-element rows n links (in_links_of (links_of p) n) here_links
-    (ap (λ q. slice_get q n) all ∙ get-each_below (in_links_of (links_of p)) count n below) in
+turns-on {M} {S} note step stands c count beat n old now stamp links s s' life life' j j' ts' dated row hs hl hj turned sound keeps turns =
     subst (λ k. HaveTurns note step c beat k old (with_node now n s' life' j' ts')) (sym (add-one n)) (
       now,
       turns,

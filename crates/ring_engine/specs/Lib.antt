@@ -1,4 +1,6 @@
+pub mod Awaited
 pub mod Places
+pub mod Quiet
 pub mod Runs
 pub mod Traffic
 pub mod Turns

@@ -1,12 +1,11 @@
 -- The rows of a run, by node and by link: nodes, lives, journals and channels.
 use Rattle.std.specs.Prelude.{◌≡◌, ℕ, List, [], length}
-use Rattle.tiger_base.specs.declared.number.LinkNo.{LinkNo}
 use Rattle.tiger_base.specs.declared.message.Note.{Note}
 use Rattle.slot_plan.specs.declared.params.Params.{Params}
 use Rattle.link_timing.specs.Clock.{new_clock}
 use Rattle.node_kit.specs.declared.course.Course.{Course}
-use Rattle.node_kit.specs.Links.{links_of, link_count, in_links_of}
-use Rattle.node_kit.specs.Rows.{each_below, AllStand}
+use Rattle.node_kit.specs.Links.{links_of, link_count}
+use Rattle.node_kit.specs.Rows.{AllStand}
 use Rattle.node_kit.specs.Steps.{Input, Deed}
 use Rattle.run_facts.specs.declared.mail.Letter.{Letter}
 use Rattle.ring_engine.specs.Traffic.{AreOpen}
@@ -43,7 +42,3 @@ pub record HasLived {M S : Type 0} (note : M → Note) (step : S → Input M →
 -- each node has
 abbrev pub AllHaveLived : {M S : Type 0} → (M → Note) → (S → Input M → Deed M S) → Course → ℕ → Ring M S → Ring M S → Type 0
 AllHaveLived {M} {S} note step c beat old new = (n : ℕ) (past : Past S) → IsAt old n past → HasLived note step c beat n past new
-
--- the in-links of every node
-abbrev pub AreInLinks : Params → ℕ → List (List LinkNo) → Type 0
-AreInLinks p count rows = rows ≡ each_below (in_links_of (links_of p)) count

@@ -26,6 +26,7 @@ impl<M> Model for Channel<M> {
 }
 
 impl<M> Channel<M> {
+    ghost use Rattle.ring_engine.specs.Quiet.{IsQuietUntil};
     ghost use Rattle.ring_engine.specs.Traffic.{first_arrived, after_arrival};
 
     /// A link with nothing under way.
@@ -38,6 +39,17 @@ impl<M> Channel<M> {
         Channel {
             clock: LinkClock::new(link, delay, most),
             flights: VecDeque::new(alloc),
+        }
+    }
+
+    /// The beat in which the first message under way arrives, or one that no run comes to if there
+    /// is none.
+    pub fn first_arrival(&self) -> Beat
+        ensures { IsQuietUntil result self.now.flights }
+    {
+        match self.flights.front() {
+            Some(flight) => flight.arrival,
+            None => Beat::MAX,
         }
     }
 

@@ -1,6 +1,7 @@
 //! The events of a node in a run: it takes messages, it ticks, it dies.
-ghost use Rattle.std.specs.Prelude.{◌≡◌, ◌≤◌, ◌∷◌, [], OnOk};
+ghost use Rattle.std.specs.Prelude.{◌≡◌, ◌+◌, ◌<◌, ◌≤◌, ◌∷◌, [], OnOk};
 ghost use Rattle.tiger_base.specs.Limits.{most_beats, most_reading};
+ghost use Rattle.node_kit.specs.Links.{in_links_of, viewers_of};
 ghost use Rattle.node_kit.specs.Steps.Input.{Take, Tick};
 ghost use Rattle.run_facts.specs.Events.NodeEvent.{Does};
 ghost use Rattle.ring_engine.specs.Traffic.{collected};
@@ -8,12 +9,11 @@ ghost use Rattle.ring_engine.specs.Turns.{scene, IsReadyFor, KeepsReady, happens
 ghost use Rattle.run_facts.specs.Beats.{letter_events, end_events, beat_events};
 
 use crate::delivery::deliver;
-use crate::gathering::gather;
-use crate::channel::Channel;
+use crate::mail::Mail;
 use node_kit::{Entry, Journal, Life, Node, Outbox, What};
 use run_facts::Letter;
 use std::collections::VecDeque;
-use tiger_base::{LinkNo, Message, NoMemory, Stamp};
+use tiger_base::{Message, NoMemory, NodeNo, Stamp};
 
 /// A node's beat: it takes what has arrived on its in-links, by link number and then in the link's
 /// order, and then ticks. What it does not hear is lost, and where it does not act all of it is;
@@ -21,34 +21,37 @@ use tiger_base::{LinkNo, Message, NoMemory, Stamp};
 /// out.
 pub fn live<M: Message, T: Node<M>>(
     stamp: Stamp,
-    links: &[LinkNo],
+    number: NodeNo,
     node: &mut T,
     life: &mut Life,
     journal: &mut Journal,
-    channels: &mut Vec<Channel<M>>,
+    mail: &mut Mail<M>,
     letters: &mut VecDeque<Letter<M>>,
     outputs: &mut Outbox<M>,
 ) -> Result<(), NoMemory>
     requires early { stamp.beat ≤ most_beats }
     requires reading { stamp.reading ≤ most_reading }
+    requires number { number.0 < viewers_of mail.old.links + 1 }
     requires letters { letters.old.items ≡ [] }
     requires outputs { outputs.old ≡ [] }
-    requires ready { IsReadyFor T.stands_at stamp.beat links.now
-        (scene node.old life.old journal.old channels.old.items) }
-    ensures turn { OnOk result ((scene node.new life.new journal.new channels.new.items)
-        ≡ turn M.note_of T.step stamp links.now
-        (scene node.old life.old journal.old channels.old.items)) }
+    requires ready { IsReadyFor T.stands_at stamp.beat (in_links_of mail.old.links number.0)
+        (scene node.old life.old journal.old mail.old.channels) }
+    ensures turn { OnOk result ((scene node.new life.new journal.new mail.new.channels)
+        ≡ turn M.note_of T.step stamp (in_links_of mail.old.links number.0)
+        (scene node.old life.old journal.old mail.old.channels)) }
     ensures keeps { OnOk result (KeepsReady M.note_of T.step T.stands_at stamp.beat
-        (beat_events M.note_of T.step stamp (collected stamp.beat links.now channels.old.items)
+        (beat_events M.note_of T.step stamp
+        (collected stamp.beat (in_links_of mail.old.links number.0) mail.old.channels)
         (record { state = node.old; life = life.old; journal = journal.old }))
-        (scene node.old life.old journal.old channels.old.items)
-        (scene node.new life.new journal.new channels.new.items)) }
+        (scene node.old life.old journal.old mail.old.channels)
+        (scene node.new life.new journal.new mail.new.channels)) }
     ensures letters { OnOk result (letters.new.items ≡ []) }
+    ensures links { OnOk result (mail.new.links ≡ mail.old.links) }
     ensures outputs { OnOk result (outputs.new ≡ []) }
 {
-    gather(stamp.beat, links, channels, letters)?;
-    take_all(stamp, letters, node, life, journal, channels, outputs)?;
-    end_beat(stamp, node, life, journal, channels, outputs)
+    mail.gather(stamp.beat, number, letters)?;
+    take_all(stamp, letters, node, life, journal, mail, outputs)?;
+    end_beat(stamp, node, life, journal, mail, outputs)
 }
 
 fn take_all<M: Message, T: Node<M>>(
@@ -57,27 +60,28 @@ fn take_all<M: Message, T: Node<M>>(
     node: &mut T,
     life: &mut Life,
     journal: &mut Journal,
-    channels: &mut Vec<Channel<M>>,
+    mail: &mut Mail<M>,
     outputs: &mut Outbox<M>,
 ) -> Result<(), NoMemory>
     requires early { stamp.beat ≤ most_beats }
     requires reading { stamp.reading ≤ most_reading }
     requires outputs { outputs.old ≡ [] }
     requires ready { IsReadyFor T.stands_at stamp.beat (links_of_letters letters.old.items)
-        (scene node.old life.old journal.old channels.old.items) }
-    ensures takes { OnOk result ((scene node.new life.new journal.new channels.new.items)
+        (scene node.old life.old journal.old mail.old.channels) }
+    ensures takes { OnOk result ((scene node.new life.new journal.new mail.new.channels)
         ≡ happen M.note_of T.step
         (letter_events M.note_of T.step stamp letters.old.items (record { state = node.old; life = life.old; journal = journal.old }))
-        (scene node.old life.old journal.old channels.old.items)) }
+        (scene node.old life.old journal.old mail.old.channels)) }
     ensures keeps { OnOk result (KeepsReady M.note_of T.step T.stands_at stamp.beat
         (letter_events M.note_of T.step stamp letters.old.items (record { state = node.old; life = life.old; journal = journal.old }))
-        (scene node.old life.old journal.old channels.old.items)
-        (scene node.new life.new journal.new channels.new.items)) }
+        (scene node.old life.old journal.old mail.old.channels)
+        (scene node.new life.new journal.new mail.new.channels)) }
     ensures letters { OnOk result (letters.new.items ≡ []) }
+    ensures links { OnOk result (mail.new.links ≡ mail.old.links) }
     ensures outputs { OnOk result (outputs.new ≡ []) }
 {
     while let Some(letter) = letters.pop_front() {
-        take_heard(stamp, letter, node, life, journal, channels, outputs)?;
+        take_heard(stamp, letter, node, life, journal, mail, outputs)?;
     }
     Ok(())
 }
@@ -89,27 +93,28 @@ fn take_heard<M: Message, T: Node<M>>(
     node: &mut T,
     life: &mut Life,
     journal: &mut Journal,
-    channels: &mut Vec<Channel<M>>,
+    mail: &mut Mail<M>,
     outputs: &mut Outbox<M>,
 ) -> Result<(), NoMemory>
     requires early { stamp.beat ≤ most_beats }
     requires reading { stamp.reading ≤ most_reading }
     requires outputs { outputs.old ≡ [] }
     requires ready { IsReadyFor T.stands_at stamp.beat (letter.link ∷ [])
-        (scene node.old life.old journal.old channels.old.items) }
-    ensures takes { OnOk result ((scene node.new life.new journal.new channels.new.items)
+        (scene node.old life.old journal.old mail.old.channels) }
+    ensures takes { OnOk result ((scene node.new life.new journal.new mail.new.channels)
         ≡ happen M.note_of T.step
         (letter_events M.note_of T.step stamp (letter ∷ []) (record { state = node.old; life = life.old; journal = journal.old }))
-        (scene node.old life.old journal.old channels.old.items)) }
+        (scene node.old life.old journal.old mail.old.channels)) }
     ensures keeps { OnOk result (KeepsReady M.note_of T.step T.stands_at stamp.beat
         (letter_events M.note_of T.step stamp (letter ∷ []) (record { state = node.old; life = life.old; journal = journal.old }))
-        (scene node.old life.old journal.old channels.old.items)
-        (scene node.new life.new journal.new channels.new.items)) }
+        (scene node.old life.old journal.old mail.old.channels)
+        (scene node.new life.new journal.new mail.new.channels)) }
+    ensures links { OnOk result (mail.new.links ≡ mail.old.links) }
     ensures outputs { OnOk result (outputs.new ≡ []) }
 {
     let taken = life.acts(stamp.beat) && life.hears(letter.sent, stamp.beat);
     if taken {
-        return take_one(stamp, letter, node, life, journal, channels, outputs);
+        return take_one(stamp, letter, node, life, journal, mail, outputs);
     }
     Ok(())
 }
@@ -120,21 +125,22 @@ fn take_one<M: Message, T: Node<M>>(
     node: &mut T,
     life: &mut Life,
     journal: &mut Journal,
-    channels: &mut Vec<Channel<M>>,
+    mail: &mut Mail<M>,
     outputs: &mut Outbox<M>,
 ) -> Result<(), NoMemory>
     requires early { stamp.beat ≤ most_beats }
     requires reading { stamp.reading ≤ most_reading }
     requires outputs { outputs.old ≡ [] }
     requires ready { IsReadyFor T.stands_at stamp.beat (letter.link ∷ [])
-        (scene node.old life.old journal.old channels.old.items) }
-    ensures event { OnOk result ((scene node.new life.new journal.new channels.new.items)
+        (scene node.old life.old journal.old mail.old.channels) }
+    ensures event { OnOk result ((scene node.new life.new journal.new mail.new.channels)
         ≡ happens M.note_of T.step (Does (Take stamp letter.link letter.msg))
-        (scene node.old life.old journal.old channels.old.items)) }
+        (scene node.old life.old journal.old mail.old.channels)) }
     ensures keeps { OnOk result (KeepsReady M.note_of T.step T.stands_at stamp.beat
         (Does (Take stamp letter.link letter.msg) ∷ [])
-        (scene node.old life.old journal.old channels.old.items)
-        (scene node.new life.new journal.new channels.new.items)) }
+        (scene node.old life.old journal.old mail.old.channels)
+        (scene node.new life.new journal.new mail.new.channels)) }
+    ensures links { OnOk result (mail.new.links ≡ mail.old.links) }
     ensures outputs { OnOk result (outputs.new ≡ []) }
 {
     let Letter { link, msg, .. } = letter;
@@ -145,7 +151,7 @@ fn take_one<M: Message, T: Node<M>>(
         stamp,
         what: What::Got(link, note),
     })?;
-    deliver(stamp, outputs, journal, channels)
+    deliver(stamp, outputs, journal, mail)
 }
 
 /// The end of a node's beat: it ticks where it acts, and where it dies it writes that it does.
@@ -154,24 +160,25 @@ fn end_beat<M: Message, T: Node<M>>(
     node: &mut T,
     life: &mut Life,
     journal: &mut Journal,
-    channels: &mut Vec<Channel<M>>,
+    mail: &mut Mail<M>,
     outputs: &mut Outbox<M>,
 ) -> Result<(), NoMemory>
     requires early { stamp.beat ≤ most_beats }
     requires reading { stamp.reading ≤ most_reading }
     requires outputs { outputs.old ≡ [] }
     requires ready { IsReadyFor T.stands_at stamp.beat []
-        (scene node.old life.old journal.old channels.old.items) }
-    ensures ends { OnOk result ((scene node.new life.new journal.new channels.new.items)
+        (scene node.old life.old journal.old mail.old.channels) }
+    ensures ends { OnOk result ((scene node.new life.new journal.new mail.new.channels)
         ≡ happen M.note_of T.step (end_events stamp life.old)
-        (scene node.old life.old journal.old channels.old.items)) }
+        (scene node.old life.old journal.old mail.old.channels)) }
     ensures keeps { OnOk result (KeepsReady M.note_of T.step T.stands_at stamp.beat (end_events stamp life.old)
-        (scene node.old life.old journal.old channels.old.items)
-        (scene node.new life.new journal.new channels.new.items)) }
+        (scene node.old life.old journal.old mail.old.channels)
+        (scene node.new life.new journal.new mail.new.channels)) }
+    ensures links { OnOk result (mail.new.links ≡ mail.old.links) }
     ensures outputs { OnOk result (outputs.new ≡ []) }
 {
     if life.acts(stamp.beat) {
-        return tick(stamp, node, life, journal, channels, outputs);
+        return tick(stamp, node, life, journal, mail, outputs);
     }
     if life.dies(stamp.beat) {
         return journal.write(Entry {
@@ -187,20 +194,21 @@ fn tick<M: Message, T: Node<M>>(
     node: &mut T,
     life: &mut Life,
     journal: &mut Journal,
-    channels: &mut Vec<Channel<M>>,
+    mail: &mut Mail<M>,
     outputs: &mut Outbox<M>,
 ) -> Result<(), NoMemory>
     requires early { stamp.beat ≤ most_beats }
     requires reading { stamp.reading ≤ most_reading }
     requires outputs { outputs.old ≡ [] }
     requires ready { IsReadyFor T.stands_at stamp.beat []
-        (scene node.old life.old journal.old channels.old.items) }
-    ensures event { OnOk result ((scene node.new life.new journal.new channels.new.items)
+        (scene node.old life.old journal.old mail.old.channels) }
+    ensures event { OnOk result ((scene node.new life.new journal.new mail.new.channels)
         ≡ happens M.note_of T.step (Does (Tick stamp))
-        (scene node.old life.old journal.old channels.old.items)) }
+        (scene node.old life.old journal.old mail.old.channels)) }
     ensures keeps { OnOk result (KeepsReady M.note_of T.step T.stands_at stamp.beat (Does (Tick stamp) ∷ [])
-        (scene node.old life.old journal.old channels.old.items)
-        (scene node.new life.new journal.new channels.new.items)) }
+        (scene node.old life.old journal.old mail.old.channels)
+        (scene node.new life.new journal.new mail.new.channels)) }
+    ensures links { OnOk result (mail.new.links ≡ mail.old.links) }
     ensures outputs { OnOk result (outputs.new ≡ []) }
 {
     // The tick of a node that rests would put nothing out and change nothing.
@@ -209,5 +217,5 @@ fn tick<M: Message, T: Node<M>>(
     }
     node.tick(stamp, outputs)?;
     life.trim(stamp, true, outputs);
-    deliver(stamp, outputs, journal, channels)
+    deliver(stamp, outputs, journal, mail)
 }

@@ -6,8 +6,10 @@ mod delivery;
 mod events;
 mod for_tests;
 mod gathering;
+mod mail;
 mod opening;
 mod run;
+pub mod worked;
 
 pub use for_tests::Party;
 pub use run::run_plain;

@@ -1,4 +1,5 @@
-//! What a run begins with: the in-links, lives and journals of the nodes, and the channels.
+//! What a run begins with: the in-links, lives and journals of the nodes, and the channels with
+//! their receivers.
 ghost use Rattle.std.specs.Prelude.{◌≡◌, ◌+◌, [], IfOk};
 ghost use Rattle.link_timing.specs.Clock.{FixedIsWithin};
 ghost use Rattle.node_kit.specs.Courses.{IsCourse};
@@ -6,6 +7,7 @@ ghost use Rattle.node_kit.specs.Life.{lifetime_of};
 ghost use Rattle.node_kit.specs.Links.{link_count, viewers_of, in_links_of};
 ghost use Rattle.ring_engine.specs.Places.{new_channel};
 ghost use Rattle.node_kit.specs.Rows.{each_below};
+ghost use Rattle.ring_engine.specs.Quiet.{receiver_of};
 
 use crate::channel::Channel;
 use node_kit::{Course, Journal, Life, LinkTable};
@@ -52,6 +54,28 @@ pub fn new_journals(alloc: Global, links: &LinkTable) -> Result<Vec<Journal>, No
         journals.push(Journal::new(alloc))?;
     }
     Ok(journals)
+}
+
+/// The node that each link leads to.
+#[tactic(auto, using(node_kit::proofs::Rows::each_below_more))]
+pub fn all_receivers(alloc: Global, links: &LinkTable) -> Result<Vec<NodeNo>, NoMemory>
+    ensures { IfOk result (λ r.
+        r.items ≡ each_below (receiver_of links.now) (link_count links.now)) }
+{
+    let mut receivers = Vec::new(alloc);
+    for link in 0..links.count() {
+        receivers.push(receiver(links, LinkNo(link)))?;
+    }
+    Ok(receivers)
+}
+
+fn receiver(links: &LinkTable, link: LinkNo) -> NodeNo
+    ensures { result ≡ receiver_of links.now link.0 }
+{
+    match links.ends(link) {
+        Some((_, to)) => to,
+        None => NodeNo(0),
+    }
 }
 
 /// The in-links of each node, by link number.

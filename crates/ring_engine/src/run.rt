@@ -10,17 +10,17 @@ ghost use Rattle.run_facts.specs.Paced.{ArePaced};
 ghost use Rattle.run_facts.specs.Timed.{AreTimed};
 ghost use Rattle.ring_engine.specs.Runs.{EachHasEnded};
 ghost use Rattle.ring_engine.specs.Whole.{IsWholeRun, HaveTurns};
-ghost use Rattle.ring_engine.specs.Places.{ring, AreInLinks, IsSound, AllHaveLived};
+ghost use Rattle.ring_engine.specs.Places.{ring, IsSound, AllHaveLived};
 ghost use Rattle.node_kit.specs.Rows.{AllStand};
 
 use crate::events::live;
-use crate::channel::Channel;
-use crate::opening::{all_in_links, all_lives, new_channels, new_journals};
+use crate::mail::Mail;
+use crate::opening::{all_lives, new_journals};
 use node_kit::{Course, Journal, Life, LinkTable, Node, Outbox, Ran};
 use run_facts::Letter;
 use std::alloc::Global;
 use std::collections::VecDeque;
-use tiger_base::{Beat, LinkNo, Message, NoMemory, NodeNo, Sequence};
+use tiger_base::{Beat, Message, NoMemory, NodeNo, Sequence};
 
 /// Runs the nodes of a course. In each beat each node, by number, takes what arrives in the beat, by
 /// link number and then in the link's order, and then ticks.
@@ -50,10 +50,9 @@ pub fn run_plain<M: Message, T: Node<M>>(
     ensures whole { IfOk result (λ r.
         IsWholeRun M.note_of T.step course.now nodes.items r.nodes.items r.journals) }
 {
-    let in_links = all_in_links(alloc, links)?;
     let mut lives = all_lives(alloc, course, links)?;
     let mut journals = new_journals(alloc, links)?;
-    let mut channels = new_channels(alloc, course, links)?;
+    let mut mail = Mail::new(alloc, course, links)?;
     // One room for letters and one for outputs serve all events of the run.
     let mut letters = VecDeque::new(alloc);
     let mut outputs = Outbox::new(alloc);
@@ -61,11 +60,10 @@ pub fn run_plain<M: Message, T: Node<M>>(
         run_beat(
             course,
             beat,
-            in_links.as_slice(),
             &mut nodes,
             &mut lives,
             &mut journals,
-            &mut channels,
+            &mut mail,
             &mut letters,
             &mut outputs,
         )?;
@@ -79,11 +77,10 @@ pub fn run_plain<M: Message, T: Node<M>>(
 fn run_beat<M: Message, T: Node<M>>(
     course: &Course,
     beat: Beat,
-    in_links: &[Sequence<LinkNo>],
     nodes: &mut Vec<T>,
     lives: &mut Vec<Life>,
     journals: &mut Vec<Journal>,
-    channels: &mut Vec<Channel<M>>,
+    mail: &mut Mail<M>,
     letters: &mut VecDeque<Letter<M>>,
     outputs: &mut Outbox<M>,
 ) -> Result<(), NoMemory>
@@ -92,30 +89,32 @@ fn run_beat<M: Message, T: Node<M>>(
     requires letters { letters.old.items ≡ [] }
     requires outputs { outputs.old ≡ [] }
     requires few { vec_len nodes.old ≤ 1000 }
-    requires in_links { AreInLinks course.now.plan.params (vec_len nodes.old) in_links.now }
+    requires links { mail.old.links ≡ links_of course.now.plan.params }
+    requires count { vec_len nodes.old ≡ viewers_of mail.old.links + 1 }
     requires sound { IsSound T.stands_at course.now.plan.params (vec_len nodes.old) beat
-        (ring nodes.old.items lives.old.items journals.old.items channels.old.items) }
+        (ring nodes.old.items lives.old.items journals.old.items mail.old.channels) }
     ensures sound { OnOk result (IsSound T.stands_at course.now.plan.params (vec_len nodes.old) beat
-        (ring nodes.new.items lives.new.items journals.new.items channels.new.items)) }
+        (ring nodes.new.items lives.new.items journals.new.items mail.new.channels)) }
     ensures turns { OnOk result (HaveTurns M.note_of T.step course.now beat (vec_len nodes.old)
-        (ring nodes.old.items lives.old.items journals.old.items channels.old.items)
-        (ring nodes.new.items lives.new.items journals.new.items channels.new.items)) }
+        (ring nodes.old.items lives.old.items journals.old.items mail.old.channels)
+        (ring nodes.new.items lives.new.items journals.new.items mail.new.channels)) }
     ensures lived { OnOk result (AllHaveLived M.note_of T.step course.now beat
-        (ring nodes.old.items lives.old.items journals.old.items channels.old.items)
-        (ring nodes.new.items lives.new.items journals.new.items channels.new.items)) }
+        (ring nodes.old.items lives.old.items journals.old.items mail.old.channels)
+        (ring nodes.new.items lives.new.items journals.new.items mail.new.channels)) }
+    ensures links { OnOk result (mail.new.links ≡ mail.old.links) }
     ensures letters { OnOk result (letters.new.items ≡ []) }
     ensures outputs { OnOk result (outputs.new ≡ []) }
 {
     for n in 0..nodes.len() {
-        let stamp = course.stamp(NodeNo(n as u32), beat);
-        let links = in_links[n].as_slice();
+        let number = NodeNo(n as u32);
+        let stamp = course.stamp(number, beat);
         live(
             stamp,
-            links,
+            number,
             &mut nodes[n],
             &mut lives[n],
             &mut journals[n],
-            channels,
+            mail,
             letters,
             outputs,
         )?;

@@ -1,13 +1,14 @@
 use Rattle.ring_engine.proofs.Arriving.{AreOpen-posted_one}
 use Rattle.ring_engine.proofs.Delivering.{written-on, sent-on, postable-on}
-use Rattle.std.proofs.Common.{sym, subst}
+use Rattle.std.proofs.Common.{◌∙◌, sym, subst}
 use Rattle.ring_engine.specs.Traffic.{AreOpen}
 use Rattle.ring_engine.proofs.delivery.deliver.Goals as goal
 
 pub loop-output-preserved : goal.loop-output-preserved
 loop-output-preserved g c = record {
   written = written-on _ c.loop-output.journal _ _ c.in-Some.output _ c.loop-output.outputs c.in_ok-deliver_one.ensures.journal c.in-Some.ensures c.loop-output.invariant.written;
-  sent = sent-on _ c.loop-output.channels.items _ _ c.in-Some.output _ c.loop-output.outputs c.in_ok-deliver_one.ensures.channels c.in-Some.ensures c.loop-output.invariant.sent;
-  links = postable-on _ _ _ c.loop-output.channels.items c.deliver_one.new.channels.items c.in-Some.output _ c.loop-output.outputs c.loop-output.channels.ok.0 c.deliver_one.new.channels.ok.0 c.in_ok-deliver_one.ensures.channels c.in-Some.ensures c.loop-output.invariant.links;
-  unsent = subst (AreOpen c.args.stamp.beat) (sym c.in_ok-deliver_one.ensures.channels) (AreOpen-posted_one c.args.stamp.beat c.in-Some.output c.loop-output.channels.items c.loop-output.invariant.unsent);
+  sent = sent-on _ c.loop-output.mail.channels _ _ c.in-Some.output _ c.loop-output.outputs c.in_ok-deliver_one.ensures.channels c.in-Some.ensures c.loop-output.invariant.sent;
+  links = postable-on _ c.loop-output.mail.channels c.deliver_one.new.mail.channels c.in-Some.output _ c.loop-output.outputs c.in_ok-deliver_one.ensures.channels c.in-Some.ensures c.loop-output.invariant.links;
+  same = c.in_ok-deliver_one.ensures.links ∙ c.loop-output.invariant.same;
+  unsent = subst (AreOpen c.args.stamp.beat) (sym c.in_ok-deliver_one.ensures.channels) (AreOpen-posted_one c.args.stamp.beat c.in-Some.output c.loop-output.mail.channels c.loop-output.invariant.unsent);
 }

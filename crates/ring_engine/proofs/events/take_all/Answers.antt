@@ -3,7 +3,7 @@ use Rattle.ring_engine.proofs.Happening.{takes-on, none-left, none-keeps, ready-
 use Rattle.ring_engine.proofs.events.take_all.Goals as goal
 
 pub loop-letter-init : goal.loop-letter-init
-loop-letter-init g c = record { taken = refl; ready = c.requires.ready; keeps = λ last k. k; room = c.requires.outputs }
+loop-letter-init g c = record { taken = refl; ready = c.requires.ready; keeps = λ last k. k; links = refl; room = c.requires.outputs }
 
 pub take_heard-requires-clause-ready : goal.take_heard-requires-clause-ready
 take_heard-requires-clause-ready g c =
@@ -14,6 +14,7 @@ loop-letter-preserved g c = record {
   taken = takes-on _ _ _ c.in-Some.letter _ c.loop-letter.letters.items _ _ _ c.in-Some.ensures.items c.in_ok-take_heard.ensures.takes c.loop-letter.invariant.taken;
   ready = ready-rest _ _ _ _ _ c.in-Some.letter _ c.loop-letter.letters.items _ _ c.in-Some.ensures.items c.in_ok-take_heard.ensures.keeps c.loop-letter.invariant.ready;
   keeps = λ last k. c.loop-letter.invariant.keeps last (keeps-letter _ _ _ _ c.in-Some.letter _ c.loop-letter.letters.items _ _ _ c.in-Some.ensures.items c.in_ok-take_heard.ensures.takes c.in_ok-take_heard.ensures.keeps k);
+  links = c.in_ok-take_heard.ensures.links ∙ c.loop-letter.invariant.links;
   room = c.in_ok-take_heard.ensures.outputs;
 }
 

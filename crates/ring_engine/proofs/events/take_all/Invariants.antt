@@ -8,17 +8,18 @@ abbrev pub invariant-loop-letter : goal.invariant-loop-letter
 invariant-loop-letter g l = record {
   taken : happen g.M.Message.note_of g.T.Node.step
       (letter_events g.M.Message.note_of g.T.Node.step l.stamp l.letters.items (record { state = l.node; life = l.life; journal = l.journal }))
-      (scene l.node l.life l.journal l.channels.items)
+      (scene l.node l.life l.journal l.mail.channels)
       ≡ happen g.M.Message.note_of g.T.Node.step
       (letter_events g.M.Message.note_of g.T.Node.step l.stamp l.fn.letters.items (record { state = l.fn.node; life = l.fn.life; journal = l.fn.journal }))
-      (scene l.fn.node l.fn.life l.fn.journal l.fn.channels.items);
-  ready : IsReadyFor g.T.Node.stands_at l.stamp.beat (links_of_letters l.letters.items) (scene l.node l.life l.journal l.channels.items);
+      (scene l.fn.node l.fn.life l.fn.journal l.fn.mail.channels);
+  ready : IsReadyFor g.T.Node.stands_at l.stamp.beat (links_of_letters l.letters.items) (scene l.node l.life l.journal l.mail.channels);
   keeps : (last : Scene _ _) → KeepsReady g.M.Message.note_of g.T.Node.step g.T.Node.stands_at l.stamp.beat
       (letter_events g.M.Message.note_of g.T.Node.step l.stamp l.letters.items (record { state = l.node; life = l.life; journal = l.journal }))
-      (scene l.node l.life l.journal l.channels.items) last
+      (scene l.node l.life l.journal l.mail.channels) last
       → KeepsReady g.M.Message.note_of g.T.Node.step g.T.Node.stands_at l.stamp.beat
       (letter_events g.M.Message.note_of g.T.Node.step l.stamp l.fn.letters.items (record { state = l.fn.node; life = l.fn.life; journal = l.fn.journal }))
-      (scene l.fn.node l.fn.life l.fn.journal l.fn.channels.items) last;
+      (scene l.fn.node l.fn.life l.fn.journal l.fn.mail.channels) last;
+  links : l.mail.links ≡ l.fn.mail.links;
   room : l.outputs ≡ [];
 }
 

@@ -1,13 +1,12 @@
 use Rattle.std.proofs.lemmas.Bool.{OnTrue_at}
 use Rattle.std.proofs.lemmas.Result.{on_ok_weaker}
-use Rattle.std.proofs.Common.{◌∙◌, sym}
 use Rattle.ring_engine.proofs.Happening.{both-ok, postable-event, rested, rested-keeps, ticked, ready-event}
 use Rattle.ring_engine.proofs.events.tick.Goals as goal
 
 pub deliver-requires-clause-links : goal.deliver-requires-clause-links
 deliver-requires-clause-links g c =
     let r = c.requires.ready in
-    postable-event _ _ _ _ _ _ _ _ _ _ _ _ r.params r.number _ c.in_ok-tick.ensures c.requires.outputs c.trim.ensures.outs r.ready.stands_here (r.ready.count ∙ sym c.args.channels.now.ok.0)
+    postable-event _ _ _ _ _ _ _ _ _ _ _ _ r.params r.number _ c.in_ok-tick.ensures c.requires.outputs c.trim.ensures.outs r.ready.stands_here r.ready.count
 
 pub returns-then-rests-clause-event : goal.returns-then-rests-clause-event
 returns-then-rests-clause-event g c = rested g.M.Message.note_of g.T.Node.step c.args.stamp _ (OnTrue_at c.if-rests.true c.rests.ensures)

@@ -7,12 +7,13 @@ use Rattle.ring_engine.proofs.run.run_beat.Given as goal
 abbrev pub invariant-loop-n : goal.invariant-loop-n
 invariant-loop-n g l = record {
   midway : Midway g.M.Message.note_of g.T.Node.step g.T.Node.stands_at l.course (vec_len l.fn.nodes) l.beat l.n
-      (record { nodes = l.fn.nodes.items; lives = l.fn.lives.items; journals = l.fn.journals.items; channels = l.fn.channels.items })
-      (record { nodes = l.nodes.items; lives = l.lives.items; journals = l.journals.items; channels = l.channels.items });
+      (record { nodes = l.fn.nodes.items; lives = l.fn.lives.items; journals = l.fn.journals.items; channels = l.fn.mail.channels })
+      (record { nodes = l.nodes.items; lives = l.lives.items; journals = l.journals.items; channels = l.mail.channels });
   turns : HaveTurns g.M.Message.note_of g.T.Node.step l.course l.beat l.n
-      (record { nodes = l.fn.nodes.items; lives = l.fn.lives.items; journals = l.fn.journals.items; channels = l.fn.channels.items })
-      (record { nodes = l.nodes.items; lives = l.lives.items; journals = l.journals.items; channels = l.channels.items });
+      (record { nodes = l.fn.nodes.items; lives = l.fn.lives.items; journals = l.fn.journals.items; channels = l.fn.mail.channels })
+      (record { nodes = l.nodes.items; lives = l.lives.items; journals = l.journals.items; channels = l.mail.channels });
   end : l.n-end ≡ vec_len l.fn.nodes;
+  links : l.mail.links ≡ l.fn.mail.links;
   letters : l.letters.items ≡ [];
   outputs : l.outputs ≡ [];
 }

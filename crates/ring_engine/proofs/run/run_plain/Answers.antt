@@ -12,33 +12,42 @@ pub loop-beat-init : goal.loop-beat-init
 loop-beat-init g c =
     let lives = c.in_ok-lives.ensures ∙ ap (each_below (lifetime_of c.args.course.now)) (sym c.requires.count) in
     let journals = c.in_ok-journals.ensures ∙ ap (each_below (λ _. _)) (sym c.requires.count) in
-    let channels = c.in_ok-channels.ensures ∙ ap (λ t. each_below (new_channel c.args.course.now) (link_count t)) c.requires.links in
+    let channels = c.in_ok-mail.ensures.channels ∙ ap (λ t. each_below (new_channel c.args.course.now) (link_count t)) c.requires.links in
     record {
       sound = sound-open _ c.args.course.now _ _ _ _ _ c.requires.stand c.args.nodes.ok.0 lives journals channels;
       passed = ring-opens c.args.course.now _ _ _ _ _ c.args.nodes.ok.0 lives journals channels;
       come = come-open _ _ c.args.course.now _ _ _ _ _ c.args.nodes.ok.0 lives journals;
+      links = c.in_ok-mail.ensures.links;
       letters = c.new-letters.ensures.items;
       outputs = c.new-outputs.ensures;
     }
+
+pub run_beat-requires-clause-links : goal.run_beat-requires-clause-links
+run_beat-requires-clause-links g c = c.loop-beat.invariant.links ∙ c.requires.links
+
+pub run_beat-requires-clause-count : goal.run_beat-requires-clause-count
+run_beat-requires-clause-count g c =
+    c.loop-beat.nodes.ok.0 ∙ c.loop-beat.invariant.sound.nodes ∙ c.requires.count ∙ ap (λ t. viewers_of t + 1) (sym c.loop-beat.invariant.links)
 
 pub loop-beat-preserved : goal.loop-beat-preserved
 loop-beat-preserved g c = record {
   sound = sound-later _ _ _ _ _ _ (c.loop-beat.nodes.ok.0 ∙ c.loop-beat.invariant.sound.nodes) c.in_ok-run_beat.ensures.sound;
   passed = passed-on _ _ _ _ _ _ _ _ _ (c.loop-beat.nodes.ok.0 ∙ c.loop-beat.invariant.sound.nodes) c.in_ok-run_beat.ensures.turns c.loop-beat.invariant.passed;
   come = come-more _ _ _ _ _ _ _ c.in_ok-run_beat.ensures.lived c.loop-beat.invariant.come;
+  links = c.in_ok-run_beat.ensures.links ∙ c.loop-beat.invariant.links;
   letters = c.in_ok-run_beat.ensures.letters;
   outputs = c.in_ok-run_beat.ensures.outputs;
 }
 
 pub returns-clause-runs : goal.returns-clause-runs
 returns-clause-runs g c =
-    let r : Ring _ _ = record { nodes = c.loop-beat.nodes.items; lives = c.loop-beat.lives.items; journals = c.loop-beat.journals.items; channels = c.loop-beat.channels.items } in
-    ended-at _ _ _ c.loop-beat.beat _ r _ (omega (arith, c.loop-beat.auto.beat-end, c.loop-beat-test.false)) c.new.ensures c.loop-beat.invariant.come
+    let r : Ring _ _ = record { nodes = c.loop-beat.nodes.items; lives = c.loop-beat.lives.items; journals = c.loop-beat.journals.items; channels = c.loop-beat.mail.channels } in
+    ended-at _ _ _ c.loop-beat.beat _ r _ (omega (arith, c.loop-beat.auto.beat-end, c.loop-beat-test.false)) c.new-2.ensures c.loop-beat.invariant.come
 
 pub returns-clause-whole : goal.returns-clause-whole
 returns-clause-whole g c =
-    let r : Ring _ _ = record { nodes = c.loop-beat.nodes.items; lives = c.loop-beat.lives.items; journals = c.loop-beat.journals.items; channels = c.loop-beat.channels.items } in
-    whole-run _ _ _ _ c.loop-beat.beat _ r _ c.args.nodes.ok.0 (omega (arith, c.loop-beat.auto.beat-end, c.loop-beat-test.false)) c.new.ensures c.loop-beat.invariant.passed
+    let r : Ring _ _ = record { nodes = c.loop-beat.nodes.items; lives = c.loop-beat.lives.items; journals = c.loop-beat.journals.items; channels = c.loop-beat.mail.channels } in
+    whole-run _ _ _ _ c.loop-beat.beat _ r _ c.args.nodes.ok.0 (omega (arith, c.loop-beat.auto.beat-end, c.loop-beat-test.false)) c.new-2.ensures c.loop-beat.invariant.passed
 
 pub returns-clause-kept : goal.returns-clause-kept
 returns-clause-kept g c =
