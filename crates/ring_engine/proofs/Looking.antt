@@ -138,10 +138,10 @@ quiet-further beat q q' first x [] ts ts' left least here h =
     (quiet-on q' first x.0 ts' (subst (λ k. k ≤ first) (sym least) (min-le_right q first)) here, tt)
 quiet-further {M} beat q q' first x (l ∷ ls) ts ts' left least here h = (
   ⊎_elim
-  (λ (same : l.0 ≡ x.0). quiet-on q' first l.0 ts' (subst (λ k. k ≤ first) (sym least) (min-le_right q first)) (subst (λ j. IsQuietOn {M = M} first ts' j) (sym same) here))
-  (λ (other : l.0 ≢ x.0). quiet-on q' q l.0 ts' (subst (λ k. k ≤ q) (sym least) (min-le_left q first))
-  (λ t e. h.0 t (sym (emptied-other beat x ts l.0 (λ same. other (sym same))) ∙ ap (λ ws. slice_get ws l.0) (sym left) ∙ e)))
-  (cases_eq l.0 x.0),
+      (λ (same : l.0 ≡ x.0). quiet-on q' first l.0 ts' (subst (λ k. k ≤ first) (sym least) (min-le_right q first)) (subst (λ j. IsQuietOn {M = M} first ts' j) (sym same) here))
+      (λ (other : l.0 ≢ x.0). quiet-on q' q l.0 ts' (subst (λ k. k ≤ q) (sym least) (min-le_left q first))
+      (λ t e. h.0 t (sym (emptied-other beat x ts l.0 (λ same. other (sym same))) ∙ ap (λ ws. slice_get ws l.0) (sym left) ∙ e)))
+      (cases_eq l.0 x.0),
   quiet-further beat q q' first x ls ts ts' left least here h.1,
 )
 
