@@ -5,7 +5,6 @@ may stand twice.
 """
 import json
 import os
-import os
 
 KEYS = ("cubs", "disks", "slots", "play", "pieces", "block", "beat", "delay", "skew", "window_a", "window_b",
         "read_lead", "min_lead", "max_lead", "batch", "heart", "deadman", "hold")
