@@ -1,6 +1,6 @@
 -- The deschedules that are held, as a map from instances.
-use Rattle.std.specs.Prelude.{◌≡◌, ℕ, Bool, true, false, ◌==◌, ◌&&◌, not, nat_lt, List, [], ◌∷◌, ◌++◌, map, filter, if◌then◌else◌}
-use Rattle.std.specs.List.{list_any}
+use Rattle.std.specs.Prelude.{◌≡◌, ℕ, ◌≤◌, Bool, true, false, ◌==◌, ◌&&◌, not, nat_lt, List, [], ◌∷◌, ◌++◌, map, filter, if◌then◌else◌}
+use Rattle.std.specs.List.{AllByRecursion, list_any}
 use Rattle.tiger_base.specs.declared.number.Instance.{Instance}
 use Rattle.deschedule.specs.declared.held.Holding.{Holding}
 
@@ -15,6 +15,16 @@ is_held holds v = list_any (is_of v) holds
 abbrev pub IsOnce : List Holding → Type 0
 IsOnce [] = Unit {0}
 IsOnce (h ∷ hs) = (is_held hs h.instance ≡ false) × IsOnce hs
+
+-- none ends before a given time
+abbrev pub AreFrom : ℕ → List Holding → Type 0
+AreFrom time holds = AllByRecursion (λ h. time ≤ h.until) holds
+
+-- at most one deschedule of an instance is held, and none ends before a given time: until then all
+-- are held still
+pub record AreHeld (time : ℕ) (holds : List Holding) : Type 0 where
+  pub once : IsOnce holds
+  pub from : AreFrom time holds
 
 -- all that is held, with a further instance until a reading, unless it is held already
 abbrev pub with_hold : List Holding → Instance → ℕ → List Holding

@@ -1,6 +1,6 @@
 //! The instances that are held, with the reading until which each is held.
 ghost use Rattle.std.specs.Prelude.{◌≡◌, ◌+◌, [], IfOk, OnOk, OnErr, length, not};
-ghost use Rattle.deschedule.specs.Holds.{IsOnce, is_held, with_hold, must_pass, once_passed, with_pass, holds_at};
+ghost use Rattle.deschedule.specs.Holds.{IsOnce, AreFrom, is_held, with_hold, must_pass, once_passed, with_pass, holds_at};
 
 use std::alloc::Global;
 use std::marker::Model;
@@ -19,18 +19,20 @@ pub struct Holding {
 #[derive(Drop)]
 pub struct Held {
     holds: Vec<Holding>,
+    // None ends before it: until then a tick goes through none.
+    none_ends_before: Micros,
 }
 
 impl Model for Held {
     ghost use Rattle.std.specs.Prelude.{List};
     ghost use Rattle.deschedule.specs.declared.held.Holding.{Holding};
-    ghost use Rattle.deschedule.specs.Holds.{IsOnce};
+    ghost use Rattle.deschedule.specs.Holds.{AreHeld};
 
     ghost Value = { List Holding };
 
     ghost view = { λ h. h.holds.items };
 
-    ghost invariant = { λ h. IsOnce h.holds.items };
+    ghost invariant = { λ h. AreHeld h.none_ends_before h.holds.items };
 }
 
 impl Held {
@@ -40,6 +42,7 @@ impl Held {
     {
         Held {
             holds: Vec::new(alloc),
+            none_ends_before: u64::MAX,
         }
     }
 
@@ -58,6 +61,9 @@ impl Held {
             until,
             passed: false,
         })?;
+        if until < self.none_ends_before {
+            self.none_ends_before = until;
+        }
         Ok(true)
     }
 
@@ -92,8 +98,12 @@ impl Held {
         ensures after { self.new ≡ holds_at self.old reading }
         ensures count { result + length self.new ≡ length self.old }
     {
+        if reading < self.none_ends_before {
+            return 0;
+        }
         let before = self.holds.len();
         release(&mut self.holds, reading);
+        self.none_ends_before = first_end(&self.holds);
         (before - self.holds.len()) as u64
     }
 }
@@ -135,4 +145,18 @@ fn release(holds: &mut Vec<Holding>, reading: Micros)
     ensures { holds.new.items ≡ holds_at holds.old.items reading }
 {
     holds.retain(|h| h.until > reading);
+}
+
+// A time before which none ends: the least until which one is held, or the greatest that there is
+// if none is held.
+fn first_end(holds: &[Holding]) -> Micros
+    ensures { AreFrom result holds.now }
+{
+    let mut first = u64::MAX;
+    for hold in holds {
+        if hold.until < first {
+            first = hold.until;
+        }
+    }
+    first
 }

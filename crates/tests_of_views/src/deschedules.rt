@@ -72,3 +72,29 @@ fn an_instance_is_held_once_and_until_its_time(rt: HostRuntime) -> Result<(), Fa
         "true; false; true; true; false; true; true; false; true; false; 0; 1; false; true; false; ",
     )
 }
+
+#[test]
+fn each_is_released_at_its_own_time(rt: HostRuntime) -> Result<(), Fail> {
+    let calls = [
+        Call::Hold(0, 9000000),
+        Call::Expire(2999999),
+        Call::Hold(7, 3000000),
+        Call::Hold(8, 5000000),
+        Call::Expire(2999999),
+        Call::Expire(3000000),
+        Call::IsHeld(7),
+        Call::Expire(4999999),
+        Call::Expire(5000000),
+        Call::IsHeld(8),
+        Call::Expire(9000000),
+        Call::IsHeld(0),
+        Call::Hold(7, 4000000),
+        Call::Expire(4000000),
+        Call::IsHeld(7),
+    ];
+    assert_told(
+        &rt,
+        answers(rt.alloc(), &calls),
+        "true; 0; true; true; 0; 1; false; 0; 1; false; 1; false; true; 1; false; ",
+    )
+}
