@@ -1,6 +1,5 @@
 //! What enters and leaves what a cub keeps, for the rules on messages.
-ghost use Rattle.std.specs.Prelude.{◌≡◌, ◌^◌, ◌<◌, ◌++◌, List, [], ◌∷◌, filter, map, not, OnOk, Some};
-ghost use Rattle.std.specs.Option.{ForSome};
+ghost use Rattle.std.specs.Prelude.{◌≡◌, ◌^◌, ◌<◌, ◌++◌, List, [], ◌∷◌, filter, map, not, OnOk, Some, None};
 ghost use Rattle.slot_plan.specs.Keys.{IsKey};
 ghost use Rattle.partial_view.specs.Lines.{key_of, visit_of, is_of};
 ghost use Rattle.partial_view.specs.Views.{IsWalk, line_at, next_behind, without_instance};
@@ -56,30 +55,43 @@ fn drop_each<'a>(
     ensures outs { OnOk result (out.new ≡ out.old
         ++ map dropped (filter (is_of instance) view.old.lines)) }
 {
-    let mut next = line_after(view, None);
+    let mut place = 0;
+    let mut next = first_line(view);
     while let Some(line) = next {
-        drop_if_of(instance, &line, view, out)?;
-        next = line_after(view, Some(line.key()));
+        let took = drop_if_of(instance, &line, view, out)?;
+        next = after_near(view, place, line.key());
+        // If the line was taken out, the next one stands in its place.
+        if !took {
+            place = place.saturating_add(1);
+        }
     }
     Ok(())
 }
 
-/// The next line behind a slot and visit, or the first if none is given.
-fn line_after(view: &CubView, key: Option<(SlotNo, Visit)>) -> Option<Line>
-    requires { ForSome key (IsKey view.now.params) }
-    ensures next { result ≡ next_behind view.now.params key view.now.lines }
+/// The first line.
+fn first_line(view: &CubView) -> Option<Line>
+    ensures next { result ≡ next_behind view.now.params None view.now.lines }
     ensures walk { IsWalk view.now.params view.now.lines }
 {
-    view.view().after(key)
+    view.view().after(None)
 }
 
-/// Takes a line out, and writes that down, if it is of an instance.
+/// The next line behind a slot and visit, whose own line is looked for at a place first.
+fn after_near(view: &CubView, place: usize, key: (SlotNo, Visit)) -> Option<Line>
+    requires { IsKey view.now.params key }
+    ensures next { result ≡ next_behind view.now.params (Some key) view.now.lines }
+    ensures walk { IsWalk view.now.params view.now.lines }
+{
+    view.view().after_near(place, key)
+}
+
+/// Takes a line out, and writes that down, if it is of an instance; answers whether it did.
 fn drop_if_of<'a>(
     instance: Instance,
     line: &Line,
     view: &mut CubView,
     out: &mut Outbox<Msg<'a>>,
-) -> Result<(), NoMemory>
+) -> Result<bool, NoMemory>
     requires key { IsKey view.old.params (key_of line.now) }
     requires there { line_at (key_of line.now) view.old.lines ≡ Some line.now }
     requires walk { IsWalk view.old.params view.old.lines }
@@ -91,8 +103,9 @@ fn drop_if_of<'a>(
     if line.rec.tenancy.instance.0 == instance.0 {
         out.push(Out::Act(What::Dropped(line.rec)))?;
         view.remove(line.rec.tenancy.slot, line.rec.visit);
+        return Ok(true);
     }
-    Ok(())
+    Ok(false)
 }
 
 /// A start of an instance is dropped; one that waited is written down.
