@@ -103,11 +103,12 @@ pub struct Tag {
 /// What is asked of a disk, and for whom: piece 0 is the whole block.
 #[derive(Clone, Copy, Debug, PartialEq, Eq)]
 pub struct Want {
+    // The two long fields stand first, since a gap on either side of them would be kept in each entry of a journal.
+    pub visit: Visit,
+    pub block: u64,
     pub instance: Instance,
     pub slot: SlotNo,
-    pub visit: Visit,
     pub file: FileNo,
-    pub block: u64,
     pub piece: u32,
 }
 
@@ -118,11 +119,11 @@ impl Want {
         ensures { result ≡ want_of rec.now }
     {
         Want {
+            visit: rec.visit,
+            block: rec.visit - rec.tenancy.first,
             instance: rec.tenancy.instance,
             slot: rec.tenancy.slot,
-            visit: rec.visit,
             file: rec.tenancy.file,
-            block: rec.visit - rec.tenancy.first,
             piece: 0,
         }
     }
@@ -133,11 +134,11 @@ impl Want {
         ensures { result ≡ want_of_piece piece.now }
     {
         Want {
+            visit: piece.visit,
+            block: piece.visit - piece.tenancy.first,
             instance: piece.tenancy.instance,
             slot: piece.tenancy.slot,
-            visit: piece.visit,
             file: piece.tenancy.file,
-            block: piece.visit - piece.tenancy.first,
             piece: piece.piece,
         }
     }
