@@ -2,9 +2,11 @@ pub mod Begins
 pub mod Calls
 pub mod Dues
 pub mod Frees
+pub mod Gap
 pub mod Gone
 pub mod Laws
 pub mod Order
+pub mod Parts
 pub mod Places
 pub mod Retained
 pub mod Walks

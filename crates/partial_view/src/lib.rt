@@ -5,6 +5,7 @@
 
 mod cub_view;
 mod full_disks;
+mod gap_row;
 mod line;
 mod row;
 mod timed;

@@ -1,5 +1,5 @@
 //! Timed lines in a row, of which the first can be taken out while the others stay where they are.
-ghost use Rattle.std.specs.Prelude.{◌≡◌, ◌+◌, ◌^◌, ◌<◌, ◌≤◌, [], OnOk, OnErr, length, not, filter, drop, insert, remove, slice_get, slice_index_or, slice_set};
+ghost use Rattle.std.specs.Prelude.{◌≡◌, ◌+◌, ◌^◌, ◌<◌, ◌≤◌, ◌++◌, [], OnOk, OnErr, length, not, filter, drop, insert, remove, slice_get, slice_index_or, slice_set};
 ghost use Rattle.partial_view.specs.Dues.{line_of};
 ghost use Rattle.partial_view.specs.Lines.{is_of};
 
@@ -71,8 +71,32 @@ impl TimedRow {
         ensures ok { OnOk result (self.new ≡ insert self.old place timed) }
         ensures err { OnErr result (self.new ≡ self.old) }
     {
+        // A line that is put in near the front takes the place of one that is gone.
+        if 0 < self.gone && place < self.len() - place {
+            self.gone -= 1;
+            put_down(self.items.as_mut_slice(), self.gone, place, timed);
+            return Ok(());
+        }
         self.items.insert(self.gone + place, timed)?;
         Ok(())
+    }
+
+    /// Puts lines behind all others; without memory for them nothing changes.
+    pub(crate) fn push_all(&mut self, more: &[Timed]) -> Result<(), NoMemory>
+        ensures ok { OnOk result (self.new ≡ self.old ++ more.now) }
+        ensures err { OnErr result (self.new ≡ self.old) }
+    {
+        self.items.extend_from_slice(more)?;
+        Ok(())
+    }
+
+    /// Drops as many of the first lines as a count says.
+    pub(crate) fn drop_front(&mut self, count: usize)
+        requires { count ≤ length self.old }
+        ensures { self.new ≡ drop count self.old }
+    {
+        self.gone += count;
+        self.sweep();
     }
 
     /// Puts a line in place of another.
@@ -137,4 +161,15 @@ fn move_up(items: &mut [Timed], from: usize, count: usize)
     ensures len { length items.new ≡ length items.old }
 {
     items[from..from + count + 1].rotate_right(1);
+}
+
+/// Moves some lines, from behind a place on, down by one, over the line at the place, and puts a
+/// line behind them.
+fn put_down(items: &mut [Timed], from: usize, count: usize, timed: Timed)
+    requires { from + count < length items.old }
+    ensures put { drop from items.new ≡ insert (drop (from + 1) items.old) count timed }
+    ensures len { length items.new ≡ length items.old }
+{
+    items[from] = timed;
+    items[from..from + count + 1].rotate_left(1);
 }

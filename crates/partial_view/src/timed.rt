@@ -1,12 +1,13 @@
 //! Lines beside their due times, so that no search and no walk works out the due time of a line.
-ghost use Rattle.std.specs.Prelude.{◌≡◌, ℕ, ◌^◌, ◌<◌, ◌≤◌, [], OnOk, OnErr, IfSome, length, map, option_map, count_by, insert, remove, slice_get, slice_index_or, slice_set};
+ghost use Rattle.std.specs.Prelude.{◌≡◌, ℕ, ◌+◌, ◌^◌, ◌<◌, ◌≤◌, [], OnOk, OnErr, IfSome, length, map, option_map, count_by, insert, remove, slice_get, slice_index_or, slice_set};
 ghost use Rattle.slot_plan.specs.declared.params.Params.{Params};
 ghost use Rattle.slot_plan.specs.Keys.{IsKey, due_of, is_earlier};
+ghost use Rattle.partial_view.specs.Dues.{line_of};
 ghost use Rattle.partial_view.specs.Lines.{key_of, visit_of, unmarked, marked, is_of};
 ghost use Rattle.partial_view.specs.Views.{Seen, first_of, without_instance, due_by};
 
+use crate::gap_row::GapRow;
 use crate::line::{Flag, Line};
-use crate::row::TimedRow;
 use slot_plan::Plan;
 use std::alloc::Global;
 use std::marker::Model;
@@ -24,7 +25,7 @@ pub(crate) struct Timed {
 #[derive(Drop)]
 pub(crate) struct TimedLines {
     plan: Plan,
-    items: TimedRow,
+    items: GapRow,
 }
 
 impl Model for TimedLines {
@@ -47,7 +48,7 @@ impl TimedLines {
     {
         TimedLines {
             plan: *plan,
-            items: TimedRow::new(alloc),
+            items: GapRow::new(alloc),
         }
     }
 
@@ -62,7 +63,7 @@ impl TimedLines {
     /// How many lines there are.
     pub(crate) fn len(&self) -> usize
         ensures len { result ≡ length self.now.lines }
-        ensures fits { result < 2 ^ 63 }
+        ensures fits { result + 1 < 2 ^ 64 }
     {
         self.items.len()
     }
@@ -80,14 +81,14 @@ impl TimedLines {
     pub(crate) fn get(&self, place: usize) -> Option<Line>
         ensures { result ≡ slice_get self.now.lines place }
     {
-        Some(self.items.as_slice().get(place)?.line)
+        Some(self.items.get(place)?.line)
     }
 
     /// The line at a place, if it is due at a time or before it.
     pub(crate) fn get_by(&self, place: usize, time: Micros) -> Option<Line>
         ensures { result ≡ due_by self.now.params time (slice_get self.now.lines place) }
     {
-        let there = self.items.as_slice().get(place)?;
+        let there = self.items.get(place)?;
         if there.due <= time {
             Some(there.line)
         } else {
@@ -96,16 +97,14 @@ impl TimedLines {
     }
 
     /// The first record of an instance; `None` exactly if it has none.
-    #[tactic(auto, unfolding(crate::specs::Views::first_of))]
     pub(crate) fn first_of(&self, instance: Instance) -> Option<Rec>
         ensures { result ≡ option_map (λ x. x.rec) (first_of instance self.now.lines) }
     {
-        for there in self.items.as_slice() {
-            if there.line.rec.tenancy.instance.0 == instance.0 {
-                return Some(there.line.rec);
-            }
+        let (front, back) = self.items.parts();
+        match first_in(front, instance) {
+            Some(rec) => Some(rec),
+            None => first_in(back, instance),
         }
-        None
     }
 
     /// Puts the line of a record at a place, with no flag set, whose due time is at hand; without
@@ -155,6 +154,19 @@ impl TimedLines {
         self.items.remove_instance(instance);
         (before - self.items.len()) as u64
     }
+}
+
+/// The first record of an instance in a part of a row; `None` exactly if it has none there.
+#[tactic(auto, unfolding(crate::specs::Views::first_of))]
+fn first_in(part: &[Timed], instance: Instance) -> Option<Rec>
+    ensures { result ≡ option_map (λ x. x.rec) (first_of instance (map line_of part.now)) }
+{
+    for there in part {
+        if there.line.rec.tenancy.instance.0 == instance.0 {
+            return Some(there.line.rec);
+        }
+    }
+    None
 }
 
 /// Whether one visit comes before another; the due times of both are at hand.

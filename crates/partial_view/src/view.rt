@@ -1,5 +1,5 @@
 //! A cub's records by slot and visit, kept as one list in the order of their due times.
-ghost use Rattle.std.specs.Prelude.{◌≡◌, ◌==◌, ℕ, ◌^◌, ◌≤◌, ◌<◌, [], IfOk, OnOk, OnErr, IfErr, IfSome, Some, MatchResult, option_map, is_some, count_by, length, slice_get};
+ghost use Rattle.std.specs.Prelude.{◌≡◌, ◌==◌, ℕ, ◌+◌, ◌^◌, ◌≤◌, ◌<◌, [], IfOk, OnOk, OnErr, IfErr, IfSome, Some, MatchResult, option_map, is_some, count_by, length, slice_get};
 ghost use Rattle.std.specs.List.{AllByRecursion};
 ghost use Rattle.std.specs.Option.{ForSome};
 ghost use Rattle.tiger_base.specs.Limits.{most_reading};
@@ -291,7 +291,7 @@ fn find_near(lines: &TimedLines, place: usize, key: (SlotNo, Visit)) -> Result<u
     requires walk { IsWalk lines.now.params lines.now.lines }
     ensures found { MatchResult result (λ place. IsFoundAt key lines.now.lines place)
         (λ place. IsGapAt lines.now.params key lines.now.lines place) }
-    ensures fits { IfOk result (λ place. place < 2 ^ 63) }
+    ensures fits { IfOk result (λ place. place + 1 < 2 ^ 64) }
 {
     if place < lines.len() && lines.at(place).line.key() == key {
         Ok(place)
@@ -306,7 +306,7 @@ fn find(lines: &TimedLines, key: (SlotNo, Visit)) -> Result<usize, usize>
     requires walk { IsWalk lines.now.params lines.now.lines }
     ensures found { MatchResult result (λ place. IsFoundAt key lines.now.lines place)
         (λ place. IsGapAt lines.now.params key lines.now.lines place) }
-    ensures fits { IfOk result (λ place. place < 2 ^ 63) }
+    ensures fits { IfOk result (λ place. place + 1 < 2 ^ 64) }
 {
     place_of(lines, key, lines.due(key))
 }
@@ -318,7 +318,7 @@ fn place_of(lines: &TimedLines, key: (SlotNo, Visit), due: Micros) -> Result<usi
     requires walk { IsWalk lines.now.params lines.now.lines }
     ensures found { MatchResult result (λ place. IsFoundAt key lines.now.lines place)
         (λ place. IsGapAt lines.now.params key lines.now.lines place) }
-    ensures fits { IfOk result (λ place. place < 2 ^ 63) }
+    ensures fits { IfOk result (λ place. place + 1 < 2 ^ 64) }
 {
     let place = first_not_before(lines, key, due);
     if place < lines.len() && lines.at(place).line.key() == key {
