@@ -4,6 +4,7 @@ pub mod Dues
 pub mod Frees
 pub mod Gap
 pub mod Gone
+pub mod Halving
 pub mod Laws
 pub mod Order
 pub mod Parts

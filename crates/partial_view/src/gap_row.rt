@@ -1,5 +1,5 @@
 //! Timed lines in a row with a gap, at which a line is put in while those behind it stay in place.
-ghost use Rattle.std.specs.Prelude.{◌≡◌, ◌+◌, ◌^◌, ◌<◌, ◌≤◌, ◌++◌, [], OnOk, OnErr, length, not, filter, take, drop, insert, remove, slice_get, slice_index_or, slice_set, option_copied};
+ghost use Rattle.std.specs.Prelude.{◌≡◌, ℕ, ◌+◌, ◌^◌, ◌<◌, ◌≤◌, ◌++◌, [], OnOk, OnErr, length, not, filter, take, drop, insert, remove, slice_get, slice_index_or, slice_set, option_copied};
 ghost use Rattle.partial_view.specs.Dues.{line_of};
 ghost use Rattle.partial_view.specs.Lines.{is_of};
 
@@ -41,9 +41,23 @@ impl GapRow {
 
     /// The lines before the gap, and those behind it, to be read.
     pub(crate) fn parts(&self) -> (&[Timed], &[Timed])
-        ensures { result.0.now ++ result.1.now ≡ self.now }
+        ensures lines { result.0.now ++ result.1.now ≡ self.now }
+        ensures fits { length result.0.now + length result.1.now < 2 ^ 64 }
     {
         (self.front.as_slice(), self.back.as_slice())
+    }
+
+    /// The lines from a place on, up to the gap or to the end, to be read.
+    pub(crate) fn run_from(&self, place: usize) -> &[Timed]
+        ensures { (i : ℕ) → i < length result.now
+            → slice_get self.now (place + i) ≡ slice_get result.now i }
+    {
+        let before = self.front.len();
+        if place < before {
+            self.front.from(place)
+        } else {
+            self.back.from(place - before)
+        }
     }
 
     /// The line at a place.

@@ -8,6 +8,7 @@ mod full_disks;
 mod gap_row;
 mod line;
 mod row;
+mod search;
 mod timed;
 mod view;
 

@@ -44,9 +44,18 @@ impl TimedRow {
 
     /// The lines, to be read.
     pub(crate) fn as_slice(&self) -> &[Timed]
-        ensures { result.now ≡ self.now }
+        ensures lines { result.now ≡ self.now }
+        ensures fits { length result.now < 2 ^ 63 }
     {
         &self.items.as_slice()[self.gone..]
+    }
+
+    /// The lines from a place on, to be read; none if it lies behind all lines.
+    pub(crate) fn from(&self, place: usize) -> &[Timed]
+        ensures { result.now ≡ drop place self.now }
+    {
+        let lines = self.as_slice();
+        &lines[place.min(lines.len())..]
     }
 
     /// The line at a place.

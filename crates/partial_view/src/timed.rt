@@ -1,13 +1,14 @@
 //! Lines beside their due times, so that no search and no walk works out the due time of a line.
-ghost use Rattle.std.specs.Prelude.{◌≡◌, ℕ, ◌+◌, ◌^◌, ◌<◌, ◌≤◌, [], OnOk, OnErr, IfSome, length, map, option_map, count_by, insert, remove, slice_get, slice_index_or, slice_set};
+ghost use Rattle.std.specs.Prelude.{◌≡◌, ℕ, ◌+◌, ◌^◌, ◌<◌, ◌≤◌, [], OnOk, OnErr, IfSome, Some, length, map, option_map, count_by, insert, remove, slice_get, slice_index_or, slice_set};
 ghost use Rattle.slot_plan.specs.declared.params.Params.{Params};
 ghost use Rattle.slot_plan.specs.Keys.{IsKey, due_of, is_earlier};
 ghost use Rattle.partial_view.specs.Dues.{line_of};
 ghost use Rattle.partial_view.specs.Lines.{key_of, visit_of, unmarked, marked, is_of};
-ghost use Rattle.partial_view.specs.Views.{Seen, first_of, without_instance, due_by};
+ghost use Rattle.partial_view.specs.Views.{Seen, IsWalk, IsFoundAt, place_of, place_from, first_of, without_instance, due_by};
 
 use crate::gap_row::GapRow;
 use crate::line::{Flag, Line};
+use crate::search::{from_in, place_in};
 use slot_plan::Plan;
 use std::alloc::Global;
 use std::marker::Model;
@@ -93,6 +94,56 @@ impl TimedLines {
             Some(there.line)
         } else {
             None
+        }
+    }
+
+    /// The line behind that of a visit, and when it is due, if the line of the visit stands at a
+    /// place and no gap lies between the two; `None` says nothing.
+    pub(crate) fn behind(&self, place: usize, key: (SlotNo, Visit)) -> Option<&Timed>
+        ensures found { IfSome result (λ _. IsFoundAt key self.now.lines place) }
+        ensures next { IfSome result (λ x.
+            slice_get self.now.lines (place + 1) ≡ Some x.now.line) }
+        ensures due { IfSome result (λ x.
+            x.now.due ≡ due_of self.now.params (key_of x.now.line)) }
+    {
+        let run = self.items.run_from(place);
+        if run.len() < 2 {
+            return None;
+        }
+        let there = &run[0];
+        if there.line.key() == key {
+            Some(&run[1])
+        } else {
+            None
+        }
+    }
+
+    /// How many lines come before a visit whose due time is at hand.
+    pub(crate) fn place_of(&self, key: (SlotNo, Visit), due: Micros) -> usize
+        requires due { due ≡ due_of self.now.params key }
+        requires walk { IsWalk self.now.params self.now.lines }
+        ensures { result ≡ place_of self.now.params key self.now.lines }
+    {
+        let (front, back) = self.items.parts();
+        let behind = place_in(back, key, due);
+        if behind == 0 {
+            place_in(front, key, due)
+        } else {
+            front.len() + behind
+        }
+    }
+
+    /// How many lines are due before a time.
+    pub(crate) fn place_from(&self, time: Micros) -> usize
+        requires walk { IsWalk self.now.params self.now.lines }
+        ensures { result ≡ place_from self.now.params time self.now.lines }
+    {
+        let (front, back) = self.items.parts();
+        let behind = from_in(back, time);
+        if behind == 0 {
+            from_in(front, time)
+        } else {
+            front.len() + behind
         }
     }
 

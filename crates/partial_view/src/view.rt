@@ -9,7 +9,7 @@ ghost use Rattle.partial_view.specs.Views.{Seen, IsWalk, line_at, first_of, next
 ghost use Rattle.partial_view.specs.Adding.{answer_to, answer_by};
 
 use crate::line::{Flag, Line};
-use crate::timed::{TimedLines, is_before};
+use crate::timed::TimedLines;
 use slot_plan::Plan;
 use std::alloc::Global;
 use std::marker::Model;
@@ -125,6 +125,9 @@ impl View {
         ensures key { IfSome result (λ line. IsKey self.now.params (key_of line)) }
         ensures walk { IsWalk self.now.params self.now.lines }
     {
+        if let Some(next) = self.lines.behind(place, key) {
+            return Some(next.line);
+        }
         let behind = place_near(&self.lines, place, key);
         self.lines.get(behind)
     }
@@ -147,6 +150,13 @@ impl View {
             (next_behind self.now.params (Some key) self.now.lines) }
         ensures walk { IsWalk self.now.params self.now.lines }
     {
+        if let Some(next) = self.lines.behind(place, key) {
+            return if next.due <= time {
+                Some(next.line)
+            } else {
+                None
+            };
+        }
         let behind = place_near(&self.lines, place, key);
         self.lines.get_by(behind, time)
     }
@@ -166,7 +176,7 @@ impl View {
         ensures key { IfSome result.1 (λ line. IsKey self.now.params (key_of line)) }
         ensures walk { IsWalk self.now.params self.now.lines }
     {
-        let place = place_from(&self.lines, time);
+        let place = self.lines.place_from(time);
         (place, self.lines.get(place))
     }
 
@@ -176,7 +186,7 @@ impl View {
         ensures { AllByRecursion (λ x. time ≤ due_of self.now.params (key_of x) →
             result ≤ due_of self.now.params (key_of x)) self.now.lines }
     {
-        let place = place_from(&self.lines, time);
+        let place = self.lines.place_from(time);
         if place < self.lines.len() {
             self.lines.at(place).due
         } else {
@@ -311,8 +321,7 @@ fn find(lines: &TimedLines, key: (SlotNo, Visit)) -> Result<usize, usize>
     place_of(lines, key, lines.due(key))
 }
 
-/// Where the line of a visit stands whose due time is at hand, or as an `Err` where it would stand,
-/// found by halving.
+/// Where the line of a visit stands whose due time is at hand, or as an `Err` where it would stand.
 fn place_of(lines: &TimedLines, key: (SlotNo, Visit), due: Micros) -> Result<usize, usize>
     requires due { due ≡ due_of lines.now.params key }
     requires walk { IsWalk lines.now.params lines.now.lines }
@@ -320,81 +329,10 @@ fn place_of(lines: &TimedLines, key: (SlotNo, Visit), due: Micros) -> Result<usi
         (λ place. IsGapAt lines.now.params key lines.now.lines place) }
     ensures fits { IfOk result (λ place. place + 1 < 2 ^ 64) }
 {
-    let place = first_not_before(lines, key, due);
+    let place = lines.place_of(key, due);
     if place < lines.len() && lines.at(place).line.key() == key {
         Ok(place)
     } else {
         Err(place)
     }
-}
-
-/// How many lines come before a visit whose due time is at hand.
-fn first_not_before(lines: &TimedLines, key: (SlotNo, Visit), due: Micros) -> usize
-    requires due { due ≡ due_of lines.now.params key }
-    requires walk { IsWalk lines.now.params lines.now.lines }
-    ensures { result ≡ place_of lines.now.params key lines.now.lines }
-{
-    // The visit that is served next stands first, and a new one mostly comes behind all lines.
-    if comes_first(lines, key, due) {
-        return 0;
-    }
-    if comes_last(lines, key, due) {
-        return lines.len();
-    }
-    let mut low = 0;
-    let mut high = lines.len();
-    while low < high {
-        let middle = low + (high - low) / 2;
-        let there = lines.at(middle);
-        if is_before(there.due, there.line.key(), due, key) {
-            low = middle + 1;
-        } else {
-            high = middle;
-        }
-    }
-    low
-}
-
-/// Whether no line comes before a visit whose due time is at hand.
-fn comes_first(lines: &TimedLines, key: (SlotNo, Visit), due: Micros) -> bool
-    requires due { due ≡ due_of lines.now.params key }
-    requires walk { IsWalk lines.now.params lines.now.lines }
-    ensures { result ≡ (place_of lines.now.params key lines.now.lines == 0) }
-{
-    if lines.len() == 0 {
-        return true;
-    }
-    let there = lines.at(0);
-    !is_before(there.due, there.line.key(), due, key)
-}
-
-/// Whether all lines come before a visit whose due time is at hand.
-fn comes_last(lines: &TimedLines, key: (SlotNo, Visit), due: Micros) -> bool
-    requires due { due ≡ due_of lines.now.params key }
-    requires walk { IsWalk lines.now.params lines.now.lines }
-    ensures { result ≡ (place_of lines.now.params key lines.now.lines == length lines.now.lines) }
-{
-    if lines.len() == 0 {
-        return true;
-    }
-    let there = lines.at(lines.len() - 1);
-    is_before(there.due, there.line.key(), due, key)
-}
-
-/// How many lines are due before a time, found by halving.
-fn place_from(lines: &TimedLines, time: Micros) -> usize
-    requires walk { IsWalk lines.now.params lines.now.lines }
-    ensures { result ≡ place_from lines.now.params time lines.now.lines }
-{
-    let mut low = 0;
-    let mut high = lines.len();
-    while low < high {
-        let middle = low + (high - low) / 2;
-        if lines.at(middle).due < time {
-            low = middle + 1;
-        } else {
-            high = middle;
-        }
-    }
-    low
 }
