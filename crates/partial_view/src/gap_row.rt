@@ -105,11 +105,8 @@ impl GapRow {
         }
         // The next line is mostly put in a little behind this one. No line crosses the gap back, so
         // that all lines together cross it no more often than they are put in.
-        bring_over(
-            &mut self.front,
-            &mut self.back,
-            place.saturating_sub(before),
-        )?;
+        let crossing = place.saturating_sub(before);
+        bring_over(&mut self.front, &mut self.back, crossing)?;
         self.front.insert(place, timed)
     }
 

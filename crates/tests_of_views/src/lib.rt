@@ -13,6 +13,8 @@ mod deschedules;
 #[cfg(test)]
 mod full_disks;
 #[cfg(test)]
+mod gaps;
+#[cfg(test)]
 mod pieces;
 #[cfg(test)]
 mod records;

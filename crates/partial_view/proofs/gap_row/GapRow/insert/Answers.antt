@@ -18,9 +18,9 @@ returns-clause-ok c =
     let front = c.self.inside.front in
     let back = c.self.inside.back in
     let total : length front + length back ≡ length c.args.self.now = sym (length-append front back) ∙ ap (λ (ts : List Timed). length ts) c.self.view_is in
-    let enough : c.saturating_sub.result ≤ length back = omega (arith, c.saturating_sub.ensures, c.len-before.ensures.len, total, c.requires) in
+    let enough : c.saturating_sub-crossing.result ≤ length back = omega (arith, c.saturating_sub-crossing.ensures, c.len-before.ensures.len, total, c.requires) in
     let inside : c.args.place ≤ length c.bring_over.new.front =
-    omega (arith, ap (λ (ts : List Timed). length ts) c.in_ok-bring_over.ensures.front, length-append front (take c.saturating_sub.result back), length-take-le c.saturating_sub.result back enough, c.saturating_sub.ensures, c.len-before.ensures.len) in
+    omega (arith, ap (λ (ts : List Timed). length ts) c.in_ok-bring_over.ensures.front, length-append front (take c.saturating_sub-crossing.result back), length-take-le c.saturating_sub-crossing.result back enough, c.saturating_sub-crossing.ensures, c.len-before.ensures.len) in
     let whole = crossed _ c.self.inside.front c.self.inside.back _ _ c.in_ok-bring_over.ensures.front c.in_ok-bring_over.ensures.back in
     on_ok_weaker c.insert-2.result
     (λ e. ap (λ l. l ++ c.bring_over.new.back) e ∙ (sym (insert-append_left c.bring_over.new.front c.bring_over.new.back c.args.place c.args.timed inside) ∙ ap (λ xs. insert xs c.args.place c.args.timed) (whole ∙ c.self.view_is)))
