@@ -94,12 +94,13 @@ impl CubView {
         }) }
         ensures err { OnErr result (self.new ≡ self.old) }
     {
-        let added = self.view.add(rec)?;
+        let due = self.plan.due(rec.tenancy.slot, rec.visit);
+        let added = self.view.add_due(rec, due)?;
         if let Added::New = added {
             self.forwarded_to = forwarded_before(&self.plan, self.forwarded_to, rec);
-            self.asked_before = asked_until(&self.plan, self.asked_before, rec);
-            self.split_from = split_after(&self.plan, self.split_from, rec);
-            self.split_between.1 = split_until(&self.plan, self.split_between, rec);
+            self.asked_before = asked_until(self.asked_before, rec, due);
+            self.split_from = split_after(self.split_from, rec, due);
+            self.split_between.1 = split_until(self.split_between, rec, due);
         }
         Ok(added)
     }
@@ -320,47 +321,38 @@ fn forwarded_before(plan: &Plan, time: Micros, rec: Rec) -> Micros
 
 /// The given time, or the next one after the record is due, if its visit is to be split and this
 /// is later.
-fn split_after(plan: &Plan, time: Micros, rec: Rec) -> Micros
-    requires key { IsKey plan.now.params (visit_of rec) }
+fn split_after(time: Micros, rec: Rec, due: Micros) -> Micros
+    requires { due ≤ 2 ^ 63 }
     ensures later { time ≤ result }
-    ensures after { is_unsplit (unmarked rec) ≡ true →
-        due_of plan.now.params (visit_of rec) < result }
+    ensures after { is_unsplit (unmarked rec) ≡ true → due < result }
 {
     if rec.kind.is_own() {
         return time;
     }
-    let due = plan.due(rec.tenancy.slot, rec.visit);
     if due < time { time } else { due + 1 }
 }
 
 /// The given time, or that at which the record is due, if its block is to be asked for and this is
 /// earlier.
-fn asked_until(plan: &Plan, time: Micros, rec: Rec) -> Micros
-    requires key { IsKey plan.now.params (visit_of rec) }
+fn asked_until(time: Micros, rec: Rec, due: Micros) -> Micros
     ensures earlier { result ≤ time }
-    ensures until { is_unasked (unmarked rec) ≡ true →
-        result ≤ due_of plan.now.params (visit_of rec) }
+    ensures until { is_unasked (unmarked rec) ≡ true → result ≤ due }
 {
     if !rec.kind.is_own() {
         return time;
     }
-    let due = plan.due(rec.tenancy.slot, rec.visit);
     if due < time { due } else { time }
 }
 
 /// The second of two times, or that at which the record is due, if its visit is to be split and
 /// this is not before the first.
-fn split_until(plan: &Plan, times: (Micros, Micros), rec: Rec) -> Micros
-    requires key { IsKey plan.now.params (visit_of rec) }
+fn split_until(times: (Micros, Micros), rec: Rec, due: Micros) -> Micros
     ensures earlier { result ≤ times.1 }
-    ensures until { is_unsplit (unmarked rec) ≡ true →
-        times.0 ≤ due_of plan.now.params (visit_of rec) →
-        result ≤ due_of plan.now.params (visit_of rec) }
+    ensures until { is_unsplit (unmarked rec) ≡ true → times.0 ≤ due → result ≤ due }
 {
     if rec.kind.is_own() {
         return times.1;
     }
-    let due = plan.due(rec.tenancy.slot, rec.visit);
     if times.0 <= due && due < times.1 {
         due
     } else {

@@ -62,8 +62,21 @@ impl View {
         }) }
         ensures err { OnErr result (self.new ≡ self.old) }
     {
+        let due = self.lines.due((rec.tenancy.slot, rec.visit));
+        self.add_due(rec, due)
+    }
+
+    /// Adds a record, as `add` does, whose due time is at hand.
+    pub(crate) fn add_due(&mut self, rec: Rec, due: Micros) -> Result<Added, NoMemory>
+        requires key { IsKey self.old.params (visit_of rec) }
+        requires due { due ≡ due_of self.old.params (visit_of rec) }
+        ensures answer { IfOk result (λ added. added ≡ answer_to rec self.old.lines) }
+        ensures ok { OnOk result (self.new ≡ record self.old {
+          lines = with_record self.old.params rec self.old.lines;
+        }) }
+        ensures err { OnErr result (self.new ≡ self.old) }
+    {
         let key = (rec.tenancy.slot, rec.visit);
-        let due = self.lines.due(key);
         match place_of(&self.lines, key, due) {
             Ok(place) => {
                 let there = self.lines.at(place).line.rec.tenancy.instance;

@@ -1,4 +1,4 @@
-use Rattle.std.proofs.Common.{◌∙◌, ap, List}
+use Rattle.std.proofs.Common.{◌∙◌, ap, List, arith}
 use Rattle.partial_view.specs.declared.line.Line.{Line}
 use Rattle.partial_view.proofs.Calls.{record_of}
 use Rattle.partial_view.proofs.Frees.{full_record}
@@ -8,24 +8,24 @@ use Rattle.partial_view.proofs.cub_view.CubView.add.Goals as goal
 pub invariant_of-self-in-New : goal.invariant_of-self-in-New
 invariant_of-self-in-New c =
     kept_by c.self.inside.plan.params c.forwarded_before-self-inside.result c.split_after-self-inside.result c.asked_until-self-inside.result c.self.inside.split_between.0 c.split_until-self-inside.result
-    c.self.inside.full c.self.inside.view c.add.new.self _ c.self.invariant.0 c.in_ok-added.ensures.ok
+    c.self.inside.full c.self.inside.view c.add_due.new.self _ c.self.invariant.0 c.in_ok-added.ensures.ok
     (all_with_record _ c.self.inside.view.params c.args.rec c.self.inside.view.lines
     (forwarded_earlier c.self.inside.plan.params c.forwarded_before-self-inside.result c.self.inside.forwarded_to c.self.inside.view.lines c.forwarded_before-self-inside.ensures.earlier c.self.invariant.1)
     c.forwarded_before-self-inside.ensures.before)
     (all_with_record _ c.self.inside.view.params c.args.rec c.self.inside.view.lines
     (split_later c.self.inside.plan.params c.self.inside.split_from c.split_after-self-inside.result c.self.inside.view.lines c.split_after-self-inside.ensures.later c.self.invariant.2)
-    c.split_after-self-inside.ensures.after)
+    (λ h. omega (arith, c.split_after-self-inside.ensures.after h, c.due-due.ensures.due)))
     (all_with_record _ c.self.inside.view.params c.args.rec c.self.inside.view.lines
     (asked_earlier c.self.inside.plan.params c.asked_until-self-inside.result c.self.inside.asked_before c.self.inside.view.lines c.asked_until-self-inside.ensures.earlier c.self.invariant.3)
-    c.asked_until-self-inside.ensures.until)
+    (λ h. omega (arith, c.asked_until-self-inside.ensures.until h, c.due-due.ensures.due)))
     (all_with_record _ c.self.inside.view.params c.args.rec c.self.inside.view.lines
     (between_earlier c.self.inside.plan.params c.self.inside.split_between.0 c.split_until-self-inside.result c.self.inside.split_between.1 c.self.inside.view.lines c.split_until-self-inside.ensures.earlier c.self.invariant.4)
-    c.split_until-self-inside.ensures.until)
+    (λ h later. omega (arith, c.split_until-self-inside.ensures.until h (omega (arith, later, c.due-due.ensures.due)), c.due-due.ensures.due)))
     (full_record c.self.inside.plan.params c.self.inside.view.params c.self.inside.full c.args.rec c.self.inside.view.lines c.self.invariant.5)
 
 pub invariant_of-self-in_default : goal.invariant_of-self-in_default
 invariant_of-self-in_default c =
-    kept_by c.self.inside.plan.params c.self.inside.forwarded_to c.self.inside.split_from c.self.inside.asked_before c.self.inside.split_between.0 c.self.inside.split_between.1 c.self.inside.full c.self.inside.view c.add.new.self c.self.inside.view.lines c.self.invariant.0
+    kept_by c.self.inside.plan.params c.self.inside.forwarded_to c.self.inside.split_from c.self.inside.asked_before c.self.inside.split_between.0 c.self.inside.split_between.1 c.self.inside.full c.self.inside.view c.add_due.new.self c.self.inside.view.lines c.self.invariant.0
     (c.in_ok-added.ensures.ok
     ∙ ap (λ (ys : List Line). record_of c.self.inside.view.params ys) (known c.self.inside.view.params c.args.rec c.self.inside.view.lines c.in_ok-added.added c.in_ok-added.ensures.answer c.in_default.not-New))
     c.self.invariant.1 c.self.invariant.2 c.self.invariant.3 c.self.invariant.4 c.self.invariant.5

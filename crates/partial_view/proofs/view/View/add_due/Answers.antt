@@ -4,12 +4,12 @@ use Rattle.partial_view.specs.Adding.{answer_at}
 use Rattle.partial_view.specs.Lines.{unmarked, visit_of}
 use Rattle.partial_view.specs.Views.{Seen, line_at, with_record}
 use Rattle.partial_view.proofs.Calls.{record_of, line-by, line-gap, insert-gap, walk-insert, seen-with, key-along, walk-along, with_record-known, with_record-new}
-use Rattle.partial_view.proofs.view.View.add.Goals as goal
+use Rattle.partial_view.proofs.view.View.add_due.Goals as goal
 
 pub invariant_of-self-in-Err : goal.invariant_of-self-in-Err
 invariant_of-self-in-Err c =
     walk-along c.self.inside.lines.params _ c.in_ok-insert-in-Err.ensures.ok
-    (walk-insert c.self.inside.lines.params (unmarked c.args.rec) c.self.inside.lines.lines c.in-Err.place c.self.invariant (key-along c.self.inside.lines.params c.self.inside.lines.lines (visit_of c.args.rec) c.self.view_is c.requires) c.in-Err.ensures.found)
+    (walk-insert c.self.inside.lines.params (unmarked c.args.rec) c.self.inside.lines.lines c.in-Err.place c.self.invariant (key-along c.self.inside.lines.params c.self.inside.lines.lines (visit_of c.args.rec) c.self.view_is c.requires.key) c.in-Err.ensures.found)
 
 pub returns-in-Ok-clause-answer : goal.returns-in-Ok-clause-answer
 returns-in-Ok-clause-answer c =
