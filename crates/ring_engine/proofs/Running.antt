@@ -1,8 +1,8 @@
 -- A run: from event to event, and from beat to beat.
-use Rattle.std.proofs.Common.{add-one, ◌≡◌, ◌≢◌, ℕ, zero, suc, ◌+◌, ◌<◌, ◌≤◌, List, [], ◌∷◌, ◌++◌, length, Some, refl, ap, sym, ◌∙◌, subst, arith, ⊎_elim, length-append}
+use Rattle.std.proofs.Common.{add-one, ◌≡◌, ◌≢◌, ℕ, zero, suc, ◌+◌, ◌<◌, ◌≤◌, List, [], ◌∷◌, ◌++◌, length, get_or, Some, refl, ap, sym, ◌∙◌, subst, arith, ⊎_elim, length-append}
 use Rattle.std.specs.Prelude.{slice_get, slice_set}
 use Rattle.std.specs.List.{AllByRecursion}
-use Rattle.std.proofs.lemmas.Option.{none-some}
+use Rattle.std.proofs.lemmas.Option.{none-some, slice_get_read}
 use Rattle.std.proofs.lemmas.Bool.{cases_eq}
 use Rattle.tiger_base.specs.declared.number.Stamp.{Stamp}
 use Rattle.tiger_base.specs.declared.number.LinkNo.{LinkNo}
@@ -20,7 +20,7 @@ use Rattle.run_facts.specs.Events.{NodeEvent, Past, AreFair, written}
 use Rattle.ring_engine.specs.Turns.{Scene, scene, turn, IsReady, IsReadyFor, KeepsReady}
 use Rattle.run_facts.specs.Beats.{beat_events, opening_of, after_beat, after_beats}
 use Rattle.ring_engine.specs.Runs.{HasRun, HasEnded}
-use Rattle.node_kit.specs.Courses.{stamp_in}
+use Rattle.node_kit.specs.Courses.{Setting, setting_of, stamp_by, stamp_in}
 use Rattle.ring_engine.specs.Places.{new_channel, IsSound, HasLived, AllHaveLived}
 use Rattle.node_kit.specs.Rows.{each_below, AllStand}
 use Rattle.ring_engine.specs.Whole.{opening_ring, with_node, brought_to, HaveTurns, HavePassed, IsWholeRun}
@@ -44,6 +44,14 @@ pub length-set_at : {A : Type 0} (xs : List A) (n : ℕ) (x : A) → length (sli
 length-set_at [] n x = refl
 length-set_at (z ∷ zs) zero x = refl
 length-set_at (z ∷ zs) (suc n) x = ap suc (length-set_at zs n x)
+
+-- what a clock among those of all nodes shows
+pub stamp-read : (c : Course) (dials : List Setting) (count beat n : ℕ) (d : Setting) (stamp : Stamp) → dials ≡ each_below (setting_of c) count → n < count → d ≡ get_or dials n d
+    → stamp ≡ stamp_by d beat → stamp ≡ stamp_in c n beat
+stamp-read c dials count beat n d stamp all low at shown =
+    let size : length dials ≡ count = ap length all ∙ length-each_below (setting_of c) count in
+    let there : slice_get dials n ≡ Some d = slice_get_read dials (length dials) n d refl (omega (arith, size, low)) at in
+    shown ∙ ap (λ s. stamp_by s beat) (same-element dials n d (setting_of c n) there (ap (λ xs. slice_get xs n) all ∙ get-each_below (setting_of c) count n low))
 
 -- what a turn makes of the node alone
 pub turn-past : {M S : Type 0} (note : M → Note) (step : S → Input M → Deed M S) (stamp : Stamp) (links : List LinkNo) (s : Scene M S)

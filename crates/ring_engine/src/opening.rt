@@ -1,8 +1,8 @@
-//! What a run begins with: the in-links, lives and journals of the nodes, and the channels with
-//! their receivers.
+//! What a run begins with: the in-links, clocks, lives and journals of the nodes, and the channels
+//! with their receivers.
 ghost use Rattle.std.specs.Prelude.{◌≡◌, ◌+◌, [], IfOk};
 ghost use Rattle.link_timing.specs.Clock.{FixedIsWithin};
-ghost use Rattle.node_kit.specs.Courses.{IsCourse};
+ghost use Rattle.node_kit.specs.Courses.{IsCourse, setting_of};
 ghost use Rattle.node_kit.specs.Life.{lifetime_of};
 ghost use Rattle.node_kit.specs.Links.{link_count, viewers_of, in_links_of};
 ghost use Rattle.ring_engine.specs.Places.{new_channel};
@@ -10,7 +10,7 @@ ghost use Rattle.node_kit.specs.Rows.{each_below};
 ghost use Rattle.ring_engine.specs.Quiet.{receiver_of};
 
 use crate::channel::Channel;
-use node_kit::{Course, Journal, Life, LinkTable};
+use node_kit::{Course, Dial, Journal, Life, LinkTable};
 use std::alloc::Global;
 use tiger_base::{LinkNo, NoMemory, NodeNo, Sequence};
 
@@ -30,6 +30,20 @@ pub fn new_channels<M: Drop>(
         channels.push(Channel::new(alloc, LinkNo(link), course.delay, most))?;
     }
     Ok(channels)
+}
+
+/// The clocks of the nodes of a course.
+#[tactic(auto, using(node_kit::proofs::Rows::each_below_more))]
+pub fn all_dials(alloc: Global, course: &Course, links: &LinkTable) -> Result<Vec<Dial>, NoMemory>
+    requires { IsCourse course.now }
+    ensures { IfOk result (λ r.
+        r.items ≡ each_below (setting_of course.now) (viewers_of links.now + 1)) }
+{
+    let mut dials = Vec::new(alloc);
+    for node in 0..links.nodes() {
+        dials.push(course.dial(NodeNo(node)))?;
+    }
+    Ok(dials)
 }
 
 /// The lives of the nodes of a course.

@@ -1,7 +1,7 @@
 //! A run of any nodes on one thread.
 ghost use Rattle.std.specs.Prelude.{◌≡◌, ◌+◌, ◌<◌, ◌≤◌, [], length, IfOk, OnOk, vec_len};
 ghost use Rattle.tiger_base.specs.Limits.{most_beats};
-ghost use Rattle.node_kit.specs.Courses.{IsCourse};
+ghost use Rattle.node_kit.specs.Courses.{IsCourse, setting_of};
 ghost use Rattle.node_kit.specs.Links.{links_of, viewers_of};
 ghost use Rattle.node_kit.specs.Life.{lifetime_of};
 ghost use Rattle.run_facts.specs.Carried.{AreCarried};
@@ -11,12 +11,12 @@ ghost use Rattle.run_facts.specs.Timed.{AreTimed};
 ghost use Rattle.ring_engine.specs.Runs.{EachHasEnded};
 ghost use Rattle.ring_engine.specs.Whole.{IsWholeRun, HaveTurns};
 ghost use Rattle.ring_engine.specs.Places.{ring, IsSound, AllHaveLived};
-ghost use Rattle.node_kit.specs.Rows.{AllStand};
+ghost use Rattle.node_kit.specs.Rows.{AllStand, each_below};
 
 use crate::events::live;
 use crate::mail::Mail;
-use crate::opening::{all_lives, new_journals};
-use node_kit::{Course, Journal, Life, LinkTable, Node, Outbox, Ran};
+use crate::opening::{all_dials, all_lives, new_journals};
+use node_kit::{Course, Dial, Journal, Life, LinkTable, Node, Outbox, Ran};
 use run_facts::Letter;
 use std::alloc::Global;
 use std::collections::VecDeque;
@@ -50,6 +50,8 @@ pub fn run_plain<M: Message, T: Node<M>>(
     ensures whole { IfOk result (λ r.
         IsWholeRun M.note_of T.step course.now nodes.items r.nodes.items r.journals) }
 {
+    // A node's clock is set once: to find its offset in each beat would cost a division.
+    let dials = all_dials(alloc, course, links)?;
     let mut lives = all_lives(alloc, course, links)?;
     let mut journals = new_journals(alloc, links)?;
     let mut mail = Mail::new(alloc, course, links)?;
@@ -60,6 +62,7 @@ pub fn run_plain<M: Message, T: Node<M>>(
         run_beat(
             course,
             beat,
+            dials.as_slice(),
             &mut nodes,
             &mut lives,
             &mut journals,
@@ -77,6 +80,7 @@ pub fn run_plain<M: Message, T: Node<M>>(
 fn run_beat<M: Message, T: Node<M>>(
     course: &Course,
     beat: Beat,
+    dials: &[Dial],
     nodes: &mut Vec<T>,
     lives: &mut Vec<Life>,
     journals: &mut Vec<Journal>,
@@ -91,6 +95,7 @@ fn run_beat<M: Message, T: Node<M>>(
     requires few { vec_len nodes.old ≤ 1000 }
     requires links { mail.old.links ≡ links_of course.now.plan.params }
     requires count { vec_len nodes.old ≡ viewers_of mail.old.links + 1 }
+    requires dials { dials.now ≡ each_below (setting_of course.now) (vec_len nodes.old) }
     requires sound { IsSound T.stands_at course.now.plan.params (vec_len nodes.old) beat
         (ring nodes.old.items lives.old.items journals.old.items mail.old.channels) }
     ensures sound { OnOk result (IsSound T.stands_at course.now.plan.params (vec_len nodes.old) beat
@@ -106,11 +111,10 @@ fn run_beat<M: Message, T: Node<M>>(
     ensures outputs { OnOk result (outputs.new ≡ []) }
 {
     for n in 0..nodes.len() {
-        let number = NodeNo(n as u32);
-        let stamp = course.stamp(number, beat);
+        let stamp = dials[n].stamp(beat);
         live(
             stamp,
-            number,
+            NodeNo(n as u32),
             &mut nodes[n],
             &mut lives[n],
             &mut journals[n],
