@@ -9,7 +9,7 @@ use Rattle.slot_plan.specs.declared.params.Params.{Params}
 use Rattle.node_kit.specs.declared.journal.What.TheVariants.{Got, Died}
 use Rattle.node_kit.specs.declared.journal.Entry.{Entry}
 use Rattle.node_kit.specs.declared.outbox.Out.{Out}
-use Rattle.node_kit.specs.Life.{Lifetime, trimmed}
+use Rattle.node_kit.specs.Life.{Lifetime, acts, trimmed}
 use Rattle.node_kit.specs.Links.{links_of, link_count, IsInLink}
 use Rattle.node_kit.specs.Steps.{Input, Deed, Acts, Rests, IsAllowed, entry_of}
 use Rattle.node_kit.specs.Steps.Input.{Take, Tick}
@@ -22,7 +22,7 @@ use Rattle.run_facts.specs.Beats.{arrived, is_taken, letter_events, end_events, 
 use Rattle.run_facts.specs.Events.{NodeEvent, Past, after, after_all, after_input, kept_outs, AreFair}
 use Rattle.run_facts.specs.Events.NodeEvent.{Does, Dies}
 use Rattle.run_facts.proofs.Along.{fair-append}
-use Rattle.run_facts.proofs.Beats.{rests-past, rests-outs}
+use Rattle.run_facts.proofs.Beats.{end-acting, rests-past, rests-outs}
 use Rattle.ring_engine.specs.Turns.{Scene, scene, turn, happens, happen, links_of_letters, IsReady, IsReadyFor, KeepsReady}
 use Rattle.ring_engine.proofs.Arriving.{length-posted, length-after_collecting, AreOpen-posted, AreOpen-after_collecting}
 use Rattle.ring_engine.proofs.Delivering.{postable-allowed}
@@ -306,3 +306,18 @@ turned-keeps {M} {S} note step stands stamp links past ts ts' letters mid new fo
       subst (λ ls. AreFair note step p n (beat_events note step stamp ls past) past) found
           (fair-append note step p n all (end_events stamp (after_all note step all past).life) past first.1 tail),
     )
+
+-- the turn of a node at which nothing arrives, and whose tick would leave no trace
+pub idle-turned : {M S : Type 0} (note : M → Note) (step : S → Input M → Deed M S) (stamp : Stamp) (links : List LinkNo) (s : Scene M S)
+    → collected stamp.beat links s.channels ≡ [] → after_collecting stamp.beat links s.channels ≡ s.channels → acts s.past.life stamp.beat ≡ true → Rests step stamp s.past.state
+    → s ≡ turn note step stamp links s
+idle-turned note step stamp links s none left live quiet =
+    turned note step stamp links s.past s.channels s.channels [] s s (sym none) (sym left) refl
+    (ended note step (end_events stamp s.past.life) (Does (Tick stamp) ∷ []) s s (end-acting stamp s.past.life live) (rested note step stamp s quiet))
+
+pub idle-turned-keeps : {M S : Type 0} (note : M → Note) (step : S → Input M → Deed M S) (stands : S → Params → ℕ → Type 0) (stamp : Stamp) (links : List LinkNo) (s : Scene M S)
+    → collected stamp.beat links s.channels ≡ [] → after_collecting stamp.beat links s.channels ≡ s.channels → acts s.past.life stamp.beat ≡ true → Rests step stamp s.past.state
+    → KeepsReady note step stands stamp.beat (beat_events note step stamp (collected stamp.beat links s.channels) s.past) s s
+idle-turned-keeps note step stands stamp links s none left live quiet =
+    turned-keeps note step stands stamp links s.past s.channels s.channels [] s s (sym none) (sym left) refl (idle-keeps note step stands stamp.beat s)
+    (ended-keeps note step stands stamp.beat (end_events stamp s.past.life) (Does (Tick stamp) ∷ []) s s (end-acting stamp s.past.life live) (rested-keeps note step stands stamp s quiet))

@@ -1,10 +1,13 @@
 //! The events of a node in a run: it takes messages, it ticks, it dies.
-ghost use Rattle.std.specs.Prelude.{◌≡◌, ◌+◌, ◌<◌, ◌≤◌, ◌∷◌, [], OnOk};
+ghost use Rattle.std.specs.Prelude.{◌≡◌, ◌+◌, ◌<◌, ◌≤◌, ◌∷◌, [], OnOk, true};
+ghost use Rattle.std.specs.Bool.{OnTrue};
 ghost use Rattle.tiger_base.specs.Limits.{most_beats, most_reading};
 ghost use Rattle.node_kit.specs.Links.{in_links_of, viewers_of};
+ghost use Rattle.node_kit.specs.Life.{acts};
+ghost use Rattle.node_kit.specs.Steps.{Rests};
 ghost use Rattle.node_kit.specs.Steps.Input.{Take, Tick};
 ghost use Rattle.run_facts.specs.Events.NodeEvent.{Does};
-ghost use Rattle.ring_engine.specs.Traffic.{collected};
+ghost use Rattle.ring_engine.specs.Traffic.{collected, after_collecting};
 ghost use Rattle.ring_engine.specs.Turns.{scene, IsReadyFor, KeepsReady, happens, happen, turn, links_of_letters};
 ghost use Rattle.run_facts.specs.Beats.{letter_events, end_events, beat_events};
 
@@ -14,6 +17,26 @@ use node_kit::{Entry, Journal, Life, Node, Outbox, What};
 use run_facts::Letter;
 use std::collections::VecDeque;
 use tiger_base::{Message, NoMemory, NodeNo, Stamp};
+
+/// Whether a node's beat is idle: nothing arrives at it, and its tick would put nothing out and
+/// change nothing. It may say no if it is.
+fn is_idle<M: Message, T: Node<M>>(
+    stamp: Stamp,
+    number: NodeNo,
+    node: &T,
+    life: &Life,
+    mail: &Mail<M>,
+) -> bool
+    ensures none { OnTrue result
+        (collected stamp.beat (in_links_of mail.now.links number.0) mail.now.channels ≡ []) }
+    ensures left { OnTrue result
+        (after_collecting stamp.beat (in_links_of mail.now.links number.0) mail.now.channels
+        ≡ mail.now.channels) }
+    ensures acts { OnTrue result (acts life.now stamp.beat ≡ true) }
+    ensures rests { OnTrue result (Rests T.step stamp node.now) }
+{
+    mail.is_quiet(stamp.beat, number) && life.acts(stamp.beat) && node.rests(stamp)
+}
 
 /// A node's beat: it takes what has arrived on its in-links, by link number and then in the link's
 /// order, and then ticks. What it does not hear is lost, and where it does not act all of it is;
@@ -49,6 +72,10 @@ pub fn live<M: Message, T: Node<M>>(
     ensures links { OnOk result (mail.new.links ≡ mail.old.links) }
     ensures outputs { OnOk result (outputs.new ≡ []) }
 {
+    // Most nodes are idle in most beats.
+    if is_idle(stamp, number, node, life, mail) {
+        return Ok(());
+    }
     mail.gather(stamp.beat, number, letters)?;
     take_all(stamp, letters, node, life, journal, mail, outputs)?;
     end_beat(stamp, node, life, journal, mail, outputs)

@@ -1,5 +1,6 @@
 //! The links of a run, and when something may next arrive at each node.
 ghost use Rattle.std.specs.Prelude.{◌≡◌, ◌+◌, ◌<◌, ◌≤◌, [], length, get_or, IfOk, OnOk, slice_set};
+ghost use Rattle.std.specs.Bool.{OnTrue};
 ghost use Rattle.std.specs.List.{AllByRecursion};
 ghost use Rattle.tiger_base.specs.Limits.{most_beats};
 ghost use Rattle.node_kit.specs.Courses.{IsCourse};
@@ -82,6 +83,17 @@ impl<M: Drop> Mail<M> {
         sent
     }
 
+    /// Whether nothing has arrived at a node by a beat. It may say no if nothing has.
+    pub fn is_quiet(&self, beat: Beat, node: NodeNo) -> bool
+        ensures none { OnTrue result
+            (collected beat (in_links_of self.now.links node.0) self.now.channels ≡ []) }
+        ensures left { OnTrue result
+            (after_collecting beat (in_links_of self.now.links node.0) self.now.channels
+            ≡ self.now.channels) }
+    {
+        beat < beat_of(node, &self.quiet_until)
+    }
+
     /// Takes out what has arrived at a node by a beat, as letters: link for link, and the oldest
     /// first.
     pub fn gather(
@@ -100,7 +112,7 @@ impl<M: Drop> Mail<M> {
             ≡ after_collecting beat (in_links_of self.old.links node.0) self.old.channels) }
         ensures links { OnOk result (self.new.links ≡ self.old.links) }
     {
-        if beat < beat_of(node, &self.quiet_until) {
+        if self.is_quiet(beat, node) {
             return Ok(());
         }
         let in_links = self.in_links[node.0 as usize].as_slice();

@@ -1,6 +1,16 @@
 use Rattle.std.proofs.lemmas.Result.{on_ok_weaker}
-use Rattle.ring_engine.proofs.Happening.{links-lead, ready-letters, ready-kept, turned, turned-keeps}
+use Rattle.ring_engine.proofs.Happening.{links-lead, ready-letters, ready-kept, turned, turned-keeps, idle-turned, idle-turned-keeps}
 use Rattle.ring_engine.proofs.events.live.Goals as goal
+
+pub returns-then-is_idle-clause-turn : goal.returns-then-is_idle-clause-turn
+returns-then-is_idle-clause-turn g c =
+    let idle = c.if-is_idle.ensures in
+    idle-turned g.M.Message.note_of g.T.Node.step c.args.stamp _ _ idle.none idle.left idle.acts idle.rests
+
+pub returns-then-is_idle-clause-keeps : goal.returns-then-is_idle-clause-keeps
+returns-then-is_idle-clause-keeps g c =
+    let idle = c.if-is_idle.ensures in
+    idle-turned-keeps g.M.Message.note_of g.T.Node.step g.T.Node.stands_at c.args.stamp _ _ idle.none idle.left idle.acts idle.rests
 
 pub gather-requires-clause-in_links : goal.gather-requires-clause-in_links
 gather-requires-clause-in_links g c =

@@ -2,20 +2,16 @@ use Rattle.std.proofs.Common.{◌+◌, ◌<◌, ◌∙◌, length, ap, subst, sy
 use Rattle.std.specs.List.{AllByRecursion}
 use Rattle.node_kit.specs.Links.{in_links_of, viewers_of}
 use Rattle.node_kit.proofs.Rows.{length-each_below}
-use Rattle.ring_engine.specs.Quiet.{Network, AreQuiet}
+use Rattle.ring_engine.specs.Quiet.{Network}
 use Rattle.ring_engine.specs.Traffic.{IsLink}
-use Rattle.ring_engine.proofs.Looking.{quiet-node, gathered, row-seen, letters-seen, channels-seen}
+use Rattle.ring_engine.proofs.Looking.{gathered, row-seen, letters-seen, channels-seen}
 use Rattle.ring_engine.proofs.mail.Mail.gather.Goals as goal
 
-pub returns-then-beat-beat_of-clause-letters : goal.returns-then-beat-beat_of-clause-letters
-returns-then-beat-beat_of-clause-letters g c =
-    let quiet = subst (λ (s : Network _). AreQuiet s.links c.self.inside.quiet_until.items s.channels) c.self.view_is c.self.invariant.quiet in
-    c.requires.letters ∙ sym (quiet-node c.args.self.now _ c.args.node.0 c.args.beat (omega (arith, c.if-beat-beat_of.true, c.beat_of.ensures)) quiet).0
+pub returns-then-is_quiet-clause-letters : goal.returns-then-is_quiet-clause-letters
+returns-then-is_quiet-clause-letters g c = c.requires.letters ∙ sym c.if-is_quiet.ensures.none
 
-pub returns-then-beat-beat_of-clause-channels : goal.returns-then-beat-beat_of-clause-channels
-returns-then-beat-beat_of-clause-channels g c =
-    let quiet = subst (λ (s : Network _). AreQuiet s.links c.self.inside.quiet_until.items s.channels) c.self.view_is c.self.invariant.quiet in
-    sym (quiet-node c.args.self.now _ c.args.node.0 c.args.beat (omega (arith, c.if-beat-beat_of.true, c.beat_of.ensures)) quiet).1
+pub returns-then-is_quiet-clause-channels : goal.returns-then-is_quiet-clause-channels
+returns-then-is_quiet-clause-channels g c = sym c.if-is_quiet.ensures.left
 
 pub index-requires : goal.index-requires
 index-requires g c =
