@@ -85,7 +85,8 @@ impl<M: Drop> Channel<M> {
     {
         while let Some(flight) = self.next_arrived(beat) {
             let Flight { sent, msg, .. } = flight;
-            letters.push_back(Letter { link, sent, msg })?;
+            letters.reserve(1)?;
+            letters.push_back_reserved(Letter { link, sent, msg });
         }
         Ok(())
     }
@@ -97,11 +98,13 @@ impl<M: Drop> Channel<M> {
         ensures { OnOk result (self.new ≡ after_sending beat msg self.old) }
     {
         let arrival = self.clock.arrival(beat);
-        self.flights.push_back(Flight {
+        // Room is asked for first, since a push that may fail would move the message once more.
+        self.flights.reserve(1)?;
+        self.flights.push_back_reserved(Flight {
             sent: beat,
             arrival,
             msg,
-        })?;
+        });
         Ok(())
     }
 }

@@ -96,6 +96,8 @@ impl<M: Drop> Mail<M> {
 
     /// Takes out what has arrived at a node by a beat, as letters: link for link, and the oldest
     /// first.
+    // It stands apart, as what is done for few nodes in a beat.
+    #[inline(never)]
     pub fn gather(
         &mut self,
         beat: Beat,

@@ -77,6 +77,8 @@ pub fn run_plain<M: Message, T: Node<M>>(
     })
 }
 
+// In a function of its own the loop over all nodes keeps its numbers in registers.
+#[inline(never)]
 fn run_beat<M: Message, T: Node<M>>(
     course: &Course,
     beat: Beat,
