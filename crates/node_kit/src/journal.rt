@@ -76,7 +76,9 @@ impl Journal {
         ensures ok { OnOk result (self.new ≡ self.old ++ entry ∷ []) }
         ensures err { OnErr result (self.new ≡ self.old) }
     {
-        self.entries.push(entry)?;
+        // Room is asked for first, since a push that may fail would move the entry once more.
+        self.entries.reserve(1)?;
+        self.entries.push_reserved(entry);
         Ok(())
     }
 }

@@ -93,11 +93,13 @@ impl<M: Drop> Outbox<M> {
         ensures ok { OnOk result (self.new ≡ self.old ++ output ∷ []) }
         ensures err { OnErr result (self.new ≡ self.old) }
     {
+        // Room is asked for first, since a push that may fail would move the output once more.
+        self.outs.reserve(2)?;
         if self.died {
-            self.outs.push_back(Out::Act(What::Died))?;
+            self.outs.push_back_reserved(Out::Act(What::Died));
             self.died = false;
         }
-        self.outs.push_back(output)?;
+        self.outs.push_back_reserved(output);
         Ok(())
     }
 }
