@@ -76,9 +76,22 @@ impl Journal {
         ensures ok { OnOk result (self.new ≡ self.old ++ entry ∷ []) }
         ensures err { OnErr result (self.new ≡ self.old) }
     {
-        // Room is asked for first, since a push that may fail would move the entry once more.
-        self.entries.reserve(1)?;
+        if self.entries.capacity() == self.entries.len() {
+            return write_in_more(entry, &mut self.entries);
+        }
+        // A push that may fail would move the entry once more.
         self.entries.push_reserved(entry);
         Ok(())
     }
+}
+
+/// Makes room, and writes an entry; without memory for it, nothing changes.
+#[cold]
+#[inline(never)]
+fn write_in_more(entry: Entry, entries: &mut Vec<Entry>) -> Result<(), NoMemory>
+    ensures ok { OnOk result (entries.new.items ≡ entries.old.items ++ entry ∷ []) }
+    ensures err { OnErr result (entries.new.items ≡ entries.old.items) }
+{
+    entries.push(entry)?;
+    Ok(())
 }

@@ -1,6 +1,7 @@
 //! What an event of a node puts out.
-ghost use Rattle.std.specs.Prelude.{◌≡◌, [], ◌∷◌, ◌++◌, OnOk, OnErr, MatchOption};
-ghost use Rattle.node_kit.specs.Outputs.{with_death, ends_in_death, is_death};
+ghost use Rattle.std.specs.Prelude.{◌≡◌, ◌+◌, ◌≤◌, [], ◌∷◌, ◌++◌, OnOk, OnErr, MatchOption};
+ghost use Rattle.std.specs.VecDeque.{deque_len, deque_capacity};
+ghost use Rattle.node_kit.specs.Outputs.{with_death, ends_in_death, is_death, outputs};
 
 use crate::journal::What;
 use std::alloc::Global;
@@ -93,13 +94,43 @@ impl<M: Drop> Outbox<M> {
         ensures ok { OnOk result (self.new ≡ self.old ++ output ∷ []) }
         ensures err { OnErr result (self.new ≡ self.old) }
     {
-        // Room is asked for first, since a push that may fail would move the output once more.
-        self.outs.reserve(2)?;
-        if self.died {
-            self.outs.push_back_reserved(Out::Act(What::Died));
-            self.died = false;
+        if self.outs.capacity() - self.outs.len() < MOST_PUT {
+            return put_in_more(output, &mut self.outs, &mut self.died);
         }
-        self.outs.push_back_reserved(output);
+        put(output, &mut self.outs, &mut self.died);
         Ok(())
     }
+}
+
+/// How many outputs one push puts at the end: `Died`, if its place is taken, and the output.
+const MOST_PUT: usize = 2;
+
+/// Puts an output behind others, where there is room for it: so it is moved but once.
+fn put<M>(output: Out<M>, outs: &mut VecDeque<Out<M>>, died: &mut bool)
+    requires { deque_len outs.old + 2 ≤ deque_capacity outs.old }
+    ensures { outputs outs.new.items died.new ≡ outputs outs.old.items died.old ++ output ∷ [] }
+{
+    if *died {
+        outs.push_back_reserved(Out::Act(What::Died));
+        *died = false;
+    }
+    outs.push_back_reserved(output);
+}
+
+/// Makes room, and puts an output behind others; without memory for it, nothing changes.
+#[cold]
+#[inline(never)]
+fn put_in_more<M: Drop>(
+    output: Out<M>,
+    outs: &mut VecDeque<Out<M>>,
+    died: &mut bool,
+) -> Result<(), NoMemory>
+    ensures ok { OnOk result
+        (outputs outs.new.items died.new ≡ outputs outs.old.items died.old ++ output ∷ []) }
+    ensures err { OnErr result
+        (outputs outs.new.items died.new ≡ outputs outs.old.items died.old) }
+{
+    outs.reserve(MOST_PUT)?;
+    put(output, outs, died);
+    Ok(())
 }

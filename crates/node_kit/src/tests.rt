@@ -8,6 +8,7 @@ use super::*;
 use link_timing::Delay;
 use slot_plan::small_plan;
 use std::alloc::Global;
+use std::mem::size_of;
 use std::test::Fail;
 use tiger_base::{
     Beat, CubNo, DiskNo, FileNo, Instance, LinkNo, MOST_VISIT, Message, Msg, NoMemory, NodeNo,
@@ -44,6 +45,15 @@ fn each_link_leads_between_its_ends(rt: HostRuntime) {
         assert_eq!(rt; found, Some(link));
     }
     assert_eq!(rt; links.ends(LinkNo(56)), None);
+}
+
+/// How many bytes an entry takes.
+const ENTRY_BYTES: usize = size_of::<Entry>();
+
+/// A run keeps millions of entries: what is added to one shows in the memory of a long run.
+#[test]
+fn an_entry_takes_96_bytes(rt: HostRuntime) {
+    assert_eq!(rt; ENTRY_BYTES, 96);
 }
 
 #[test]
