@@ -1,5 +1,5 @@
 //! What a node writes down.
-ghost use Rattle.std.specs.Prelude.{◌≡◌, [], ◌∷◌, ◌++◌, length, OnOk, OnErr};
+ghost use Rattle.std.specs.Prelude.{◌≡◌, ◌+◌, ◌≤◌, [], ◌∷◌, ◌++◌, length, OnOk, OnErr, vec_len, vec_capacity};
 
 use std::alloc::Global;
 use std::marker::Model;
@@ -77,7 +77,7 @@ impl Journal {
         ensures err { OnErr result (self.new ≡ self.old) }
     {
         if self.entries.capacity() == self.entries.len() {
-            return write_in_more(entry, &mut self.entries);
+            make_room(&mut self.entries)?;
         }
         // A push that may fail would move the entry once more.
         self.entries.push_reserved(entry);
@@ -85,13 +85,13 @@ impl Journal {
     }
 }
 
-/// Makes room, and writes an entry; without memory for it, nothing changes.
+/// Makes room for one entry more.
 #[cold]
 #[inline(never)]
-fn write_in_more(entry: Entry, entries: &mut Vec<Entry>) -> Result<(), NoMemory>
-    ensures ok { OnOk result (entries.new.items ≡ entries.old.items ++ entry ∷ []) }
-    ensures err { OnErr result (entries.new.items ≡ entries.old.items) }
+fn make_room(entries: &mut Vec<Entry>) -> Result<(), NoMemory>
+    ensures room { OnOk result (vec_len entries.new + 1 ≤ vec_capacity entries.new) }
+    ensures same { entries.new.items ≡ entries.old.items }
 {
-    entries.push(entry)?;
+    entries.reserve(1)?;
     Ok(())
 }

@@ -1,7 +1,7 @@
 //! What an event of a node puts out.
 ghost use Rattle.std.specs.Prelude.{◌≡◌, ◌+◌, ◌≤◌, [], ◌∷◌, ◌++◌, OnOk, OnErr, MatchOption};
 ghost use Rattle.std.specs.VecDeque.{deque_len, deque_capacity};
-ghost use Rattle.node_kit.specs.Outputs.{with_death, ends_in_death, is_death, outputs};
+ghost use Rattle.node_kit.specs.Outputs.{with_death, ends_in_death, is_death};
 
 use crate::journal::What;
 use std::alloc::Global;
@@ -95,9 +95,14 @@ impl<M: Drop> Outbox<M> {
         ensures err { OnErr result (self.new ≡ self.old) }
     {
         if self.outs.capacity() - self.outs.len() < MOST_PUT {
-            return put_in_more(output, &mut self.outs, &mut self.died);
+            make_room(&mut self.outs)?;
         }
-        put(output, &mut self.outs, &mut self.died);
+        // A push that may fail would move the output once more.
+        if self.died {
+            self.outs.push_back_reserved(Out::Act(What::Died));
+            self.died = false;
+        }
+        self.outs.push_back_reserved(output);
         Ok(())
     }
 }
@@ -105,32 +110,13 @@ impl<M: Drop> Outbox<M> {
 /// How many outputs one push puts at the end: `Died`, if its place is taken, and the output.
 const MOST_PUT: usize = 2;
 
-/// Puts an output behind others, where there is room for it: so it is moved but once.
-fn put<M>(output: Out<M>, outs: &mut VecDeque<Out<M>>, died: &mut bool)
-    requires { deque_len outs.old + 2 ≤ deque_capacity outs.old }
-    ensures { outputs outs.new.items died.new ≡ outputs outs.old.items died.old ++ output ∷ [] }
-{
-    if *died {
-        outs.push_back_reserved(Out::Act(What::Died));
-        *died = false;
-    }
-    outs.push_back_reserved(output);
-}
-
-/// Makes room, and puts an output behind others; without memory for it, nothing changes.
+/// Makes room for what one push puts at the end.
 #[cold]
 #[inline(never)]
-fn put_in_more<M: Drop>(
-    output: Out<M>,
-    outs: &mut VecDeque<Out<M>>,
-    died: &mut bool,
-) -> Result<(), NoMemory>
-    ensures ok { OnOk result
-        (outputs outs.new.items died.new ≡ outputs outs.old.items died.old ++ output ∷ []) }
-    ensures err { OnErr result
-        (outputs outs.new.items died.new ≡ outputs outs.old.items died.old) }
+fn make_room<M: Drop>(outs: &mut VecDeque<Out<M>>) -> Result<(), NoMemory>
+    ensures room { OnOk result (deque_len outs.new + 2 ≤ deque_capacity outs.new) }
+    ensures same { outs.new.items ≡ outs.old.items }
 {
     outs.reserve(MOST_PUT)?;
-    put(output, outs, died);
     Ok(())
 }
