@@ -1,5 +1,6 @@
 //! The links, and the messages under way on them.
-ghost use Rattle.std.specs.Prelude.{◌≡◌, ◌≤◌, [], ◌++◌, OnOk};
+ghost use Rattle.std.specs.Prelude.{◌≡◌, ◌+◌, ◌≤◌, [], ◌++◌, OnOk};
+ghost use Rattle.std.specs.VecDeque.{deque_len, deque_capacity};
 ghost use Rattle.tiger_base.specs.Limits.{most_beats};
 ghost use Rattle.link_timing.specs.Clock.{new_clock, FixedIsWithin};
 
@@ -85,7 +86,9 @@ impl<M: Drop> Channel<M> {
     {
         while let Some(flight) = self.next_arrived(beat) {
             let Flight { sent, msg, .. } = flight;
-            letters.reserve(1)?;
+            if letters.capacity() == letters.len() {
+                make_room(letters)?;
+            }
             letters.push_back_reserved(Letter { link, sent, msg });
         }
         Ok(())
@@ -98,8 +101,10 @@ impl<M: Drop> Channel<M> {
         ensures { OnOk result (self.new ≡ after_sending beat msg self.old) }
     {
         let arrival = self.clock.arrival(beat);
-        // Room is asked for first, since a push that may fail would move the message once more.
-        self.flights.reserve(1)?;
+        if self.flights.capacity() == self.flights.len() {
+            make_room(&mut self.flights)?;
+        }
+        // A push that may fail would move the message once more.
         self.flights.push_back_reserved(Flight {
             sent: beat,
             arrival,
@@ -107,4 +112,15 @@ impl<M: Drop> Channel<M> {
         });
         Ok(())
     }
+}
+
+/// Makes room for one more at the end.
+#[cold]
+#[inline(never)]
+fn make_room<T: Drop>(list: &mut VecDeque<T>) -> Result<(), NoMemory>
+    ensures room { OnOk result (deque_len list.new + 1 ≤ deque_capacity list.new) }
+    ensures same { list.new.items ≡ list.old.items }
+{
+    list.reserve(1)?;
+    Ok(())
 }
