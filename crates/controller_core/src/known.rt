@@ -9,12 +9,10 @@ ghost use Rattle.controller_core.specs.State.{AreInForm, tenancy_of, is_gone};
 ghost use Rattle.controller_core.specs.Rules.{to_both, starts, gone_from, visit_due, stopping, carrying, commanding, placing, taking};
 
 use crate::orders::{orders_in, start_of};
-use node_kit::{Order, OrderKind, Out, Outbox, What, cub_link, in_form};
+use node_kit::{Order, OrderKind, Out, Outbox, What, cub_link, msg_in_form};
 use slot_plan::Plan;
 use std::alloc::Global;
-use tiger_base::{
-    Ask, Instance, Message, Micros, Msg, NoMemory, Sequence, Stamp, Tag, Tenancy, Visit,
-};
+use tiger_base::{Ask, Instance, Micros, Msg, NoMemory, Sequence, Stamp, Tag, Tenancy, Visit};
 
 /// The first tenancy that was told of each instance, and the instances that were stopped.
 #[derive(Drop)]
@@ -48,7 +46,7 @@ impl Known {
         ensures taken { OnOk result (self.new ≡ taking plan.now.params msg.now self.old) }
         ensures in_form { AreInForm plan.now.params self.new }
     {
-        if !in_form(plan, &msg.note()) {
+        if !msg_in_form(plan, msg) {
             return Ok(());
         }
         match msg {

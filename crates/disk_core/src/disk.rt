@@ -4,10 +4,10 @@ ghost use Rattle.node_kit.specs.Deeds.{Did};
 ghost use Rattle.disk_core.specs.Rules.{is_faulty, part_for, read_part, asked};
 
 use disk_image::DiskImage;
-use node_kit::{Gate, Node, Out, Outbox, ReadFault, disk_answer_link, in_form};
+use node_kit::{Gate, Node, Out, Outbox, ReadFault, disk_answer_link, msg_in_form};
 use slot_plan::Plan;
 use std::marker::Model;
-use tiger_base::{Beat, DiskNo, LinkNo, Message, Msg, NoMemory, Part, Sequence, Stamp, Want};
+use tiger_base::{Beat, DiskNo, LinkNo, Msg, NoMemory, Part, Sequence, Stamp, Want};
 
 /// A disk, whose reads go through a gate. It is seen as its plan's numbers, its number, its image and
 /// the read faults that it was given.
@@ -84,7 +84,7 @@ impl<'a, G: Gate> DiskNode<'a, G> {
     ) -> Result<(), NoMemory>
         ensures { OnOk result (Did (asked stamp msg.entry self.old) out.old out.new self.new) }
     {
-        if !in_form(&self.plan, &msg.note()) {
+        if !msg_in_form(&self.plan, &msg) {
             return Ok(());
         }
         match msg {
