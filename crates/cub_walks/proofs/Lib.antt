@@ -1,5 +1,6 @@
 pub mod Asked
 pub mod Parts
+pub mod Placed
 pub mod Served
 pub mod Splits
 pub mod States

@@ -22,7 +22,7 @@ by_plan : {q p : Params} → q ≡ p → (time : ℕ) (ahead : Option Line) → 
 by_plan same time ahead = ap (λ (r : Params). due_by r time ahead) same
 
 -- a line that counts is the one that is ahead
-counted : (p : Params) (time : ℕ) (ahead : Option Line) {x : Line} → due_by p time ahead ≡ Some x → ahead ≡ Some x
+pub counted : (p : Params) (time : ℕ) (ahead : Option Line) {x : Line} → due_by p time ahead ≡ Some x → ahead ≡ Some x
 counted p time None e = cc
 counted p time (Some y) {x} e = by_test (nat_le (due_of p (key_of y)) time) e
   where

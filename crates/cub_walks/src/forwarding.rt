@@ -11,7 +11,7 @@ ghost use Rattle.cub_rules.specs.State.{IsStoreOf, IsLineOf};
 ghost use Rattle.cub_rules.specs.Ticks.{forwarding, forward_line, forward_outs, is_to_forward};
 ghost use Rattle.cub_walks.specs.Limits.{forward_limit, sent_on};
 
-use crate::walking::{after_near_by, at_by};
+use crate::walking::{are_in_order, at_by, behind};
 use cub_rules::Store;
 use node_kit::{Out, Outbox, Site};
 use partial_view::{CubView, Flag, Line};
@@ -72,13 +72,12 @@ fn forward_lines<'a>(
 {
     // If a line is due later, its next visit is due past the limit.
     let time = forward_limit(&site.plan, stamp).saturating_sub(site.plan.params.play);
-    // The walk takes no line out: the line that it stands at stays at its place.
     let (mut place, _) = view.first_pending();
-    let mut next = at_by(view, place, time);
-    while let Some(line) = next {
+    while let Some(line) = at_by(view, place, time) {
         forward_line(site, stamp, view, place, line, out)?;
-        next = after_near_by(view, place, line.key(), time);
-        place = place.saturating_add(1);
+        // The walk takes no line out: the next one stands behind the place of this one.
+        are_in_order(view);
+        place = behind(place)?;
     }
     Ok(())
 }

@@ -13,7 +13,7 @@ ghost use Rattle.cub_rules.specs.Ticks.{reading, must_read, ask_line, ask_outs, 
 ghost use Rattle.cub_walks.specs.Limits.{asks};
 
 use crate::leaving::take_leaving;
-use crate::walking::{after_near_by, at_by};
+use crate::walking::{are_in_order, at_by, behind};
 use cub_rules::Store;
 use mirror_pieces::piece_disk;
 use mirror_schedule::PieceView;
@@ -87,13 +87,12 @@ fn read_lines<'a>(
         ++ flat_map (ask_outs site.now.plan.params stamp) view.old.lines) }
 {
     let time = stamp.reading + site.plan.params.read_lead;
-    // The walk takes no line out: the line that it stands at stays at its place.
     let (mut place, _) = view.first_unasked();
-    let mut next = at_by(view, place, time);
-    while let Some(line) = next {
+    while let Some(line) = at_by(view, place, time) {
         read_block(site, stamp, view, place, line, out)?;
-        next = after_near_by(view, place, line.key(), time);
-        place = place.saturating_add(1);
+        // The walk takes no line out: the next one stands behind the place of this one.
+        are_in_order(view);
+        place = behind(place)?;
     }
     Ok(())
 }

@@ -1,5 +1,5 @@
 //! Serving: blocks and pieces go to the viewers when they are due, and their records are dropped.
-ghost use Rattle.std.specs.Prelude.{◌≡◌, ◌≤◌, ◌++◌, ◌∷◌, [], OnOk, Some, map, filter, not};
+ghost use Rattle.std.specs.Prelude.{◌≡◌, ◌≤◌, ◌+◌, ◌++◌, ◌∷◌, [], IfOk, OnOk, Some, length, map, filter, not};
 ghost use Rattle.std.specs.List.{AllByRecursion, flat_map};
 ghost use Rattle.tiger_base.specs.Limits.{most_reading};
 ghost use Rattle.slot_plan.specs.Keys.{IsKey};
@@ -13,7 +13,7 @@ ghost use Rattle.cub_rules.specs.Ticks.{serving, is_served, is_past, serve_outs,
 ghost use Rattle.cub_walks.specs.Stopping.{served_line, past_line, past_outs};
 
 use crate::leaving::{drop_leaving, take_leaving};
-use crate::walking::after_by;
+use crate::walking::{are_in_order, at_by, behind};
 use cub_rules::{Store, StoredParts};
 use mirror_schedule::PieceView;
 use node_kit::{Out, Outbox, Site, What};
@@ -60,23 +60,25 @@ fn serve_blocks<'a>(
     ensures outs { OnOk result (out.new ≡ out.old ++ flat_map
         (serve_outs site.now.plan.params site.now.cub.0 stamp parts.now) view.old.lines) }
 {
-    let mut next = after_by(view, None, stamp.reading);
-    while let Some(line) = next {
-        serve_block(site, stamp, view, parts, line, out)?;
-        next = after_by(view, Some(line.key()), stamp.reading);
+    are_in_order(view);
+    let mut place = 0;
+    while let Some(line) = at_by(view, place, stamp.reading) {
+        place = serve_block(site, stamp, view, parts, place, line, out)?;
+        are_in_order(view);
     }
     Ok(())
 }
 
-/// Serves one line, if it is an own record's that is due.
+/// Serves one line, if it is an own record's that is due, and gives the place at which the next one stands then.
 fn serve_block<'a>(
     site: &Site,
     stamp: Stamp,
     view: &mut CubView,
     parts: &StoredParts<'a>,
+    place: usize,
     line: Line,
     out: &mut Outbox<Msg<'a>>,
-) -> Result<(), NoMemory>
+) -> Result<usize, NoMemory>
     requires line { IsLineOf site.now.plan.params site.now.cub.0 line }
     requires key { IsKey view.old.params (key_of line) }
     requires there { line_at (key_of line) view.old.lines ≡ Some line }
@@ -87,13 +89,17 @@ fn serve_block<'a>(
     }) }
     ensures outs { OnOk result (out.new ≡ out.old
         ++ serve_outs site.now.plan.params site.now.cub.0 stamp parts.now line) }
+    ensures next { IfOk result
+        (λ next. next ≡ place + length (served_line site.now.plan.params stamp line)) }
 {
     if is_served(&site.plan, stamp, &line) {
         send_whole(site, stamp, Want::of_block(&line.rec), parts, out)?;
         out.push(Out::Act(What::Dropped(line.rec)))?;
         view.remove(line.rec.tenancy.slot, line.rec.visit);
+        Ok(place)
+    } else {
+        behind(place)
     }
-    Ok(())
 }
 
 /// Whether a line is an own record's that is due.
@@ -139,22 +145,24 @@ fn drop_backups<'a>(
     ensures outs { OnOk result (out.new ≡ out.old
         ++ map dropped (filter (is_past site.now.plan.params stamp) view.old.lines)) }
 {
-    let mut next = after_by(view, None, stamp.reading);
-    while let Some(line) = next {
-        drop_backup(&site.plan, stamp, view, line, out)?;
-        next = after_by(view, Some(line.key()), stamp.reading);
+    are_in_order(view);
+    let mut place = 0;
+    while let Some(line) = at_by(view, place, stamp.reading) {
+        place = drop_backup(&site.plan, stamp, view, place, line, out)?;
+        are_in_order(view);
     }
     Ok(())
 }
 
-/// Drops one line, if it is a backup record's that is due.
+/// Drops one line, if it is a backup record's that is due, and gives the place at which the next one stands then.
 fn drop_backup<'a>(
     plan: &Plan,
     stamp: Stamp,
     view: &mut CubView,
+    place: usize,
     line: Line,
     out: &mut Outbox<Msg<'a>>,
-) -> Result<(), NoMemory>
+) -> Result<usize, NoMemory>
     requires plan { view.old.params ≡ plan.now.params }
     requires key { IsKey view.old.params (key_of line) }
     requires there { line_at (key_of line) view.old.lines ≡ Some line }
@@ -163,12 +171,16 @@ fn drop_backup<'a>(
       lines = replaced (key_of line) (past_line plan.now.params stamp line) view.old.lines;
     }) }
     ensures outs { OnOk result (out.new ≡ out.old ++ past_outs plan.now.params stamp line) }
+    ensures next { IfOk result
+        (λ next. next ≡ place + length (past_line plan.now.params stamp line)) }
 {
     if is_past(plan, stamp, &line) {
         out.push(Out::Act(What::Dropped(line.rec)))?;
         view.remove(line.rec.tenancy.slot, line.rec.visit);
+        Ok(place)
+    } else {
+        behind(place)
     }
-    Ok(())
 }
 
 /// Whether a line is a backup record's that is due.

@@ -1,11 +1,13 @@
+use Rattle.std.specs.List.{slice_get}
+use Rattle.partial_view.specs.Views.{due_by}
 use Rattle.partial_view.specs.Walks.{left}
 use Rattle.cub_walks.specs.Stopping.{past_line, past_outs}
 use Rattle.cub_walks.specs.Stopping.{UnderwayTo}
 use Rattle.cub_walks.proofs.serving.drop_backups.Given as goal
 
-abbrev pub invariant-loop-next : goal.invariant-loop-next
-invariant-loop-next l =
-    UnderwayTo l.fn.site.plan.params l.fn.stamp.reading (past_outs l.fn.site.plan.params l.fn.stamp) (past_line l.fn.site.plan.params l.fn.stamp) l.fn.view l.fn.out l.view l.out l.next
+abbrev pub invariant-loop-line : goal.invariant-loop-line
+invariant-loop-line l =
+    UnderwayTo l.fn.site.plan.params l.fn.stamp.reading (past_outs l.fn.site.plan.params l.fn.stamp) (past_line l.fn.site.plan.params l.fn.stamp) l.fn.view l.fn.out l.view l.out (due_by l.view.params l.fn.stamp.reading (slice_get l.view.lines l.place))
 
-abbrev pub decreases-loop-next : goal.decreases-loop-next
-decreases-loop-next l = left l.next l.view
+abbrev pub decreases-loop-line : goal.decreases-loop-line
+decreases-loop-line l = left (due_by l.view.params l.fn.stamp.reading (slice_get l.view.lines l.place)) l.view
