@@ -1,7 +1,7 @@
 -- Which lines' blocks are asked for, beside the time before which they are.
 use Rattle.std.proofs.Common.{◌≡◌, ℕ, ◌+◌, ◌*◌, ◌<◌, ◌≤◌, arith, Bool, true, false, cond, not, ◌&&◌, List, [], ◌∷◌, ◌++◌, map, append_assoc, refl, sym, ap, subst, ◌∙◌}
 use Rattle.std.specs.List.{AllByRecursion, flat_map, filter}
-use Rattle.std.proofs.lemmas.Bool.{lt-leb, both_ways, leb-true, leb-false}
+use Rattle.std.proofs.lemmas.Bool.{lt-leb, le-leb, both_ways, leb-true, leb-false}
 use Rattle.std.proofs.lemmas.List.{append-nil}
 use Rattle.tiger_base.specs.declared.number.Stamp.{Stamp}
 use Rattle.tiger_base.specs.declared.message.Msg.{Msg}
@@ -50,6 +50,16 @@ ask_rests p stamp =
       silent = λ x h. rw (not_read p stamp x h) refl;
       stays = λ x h. rw (not_read p stamp x h) refl;
     }
+
+-- one that is due by then is asked for if it is still to be
+pub read_if_unasked : (p : Params) (stamp : Stamp) (x : Line) → due_of p (key_of x) ≤ stamp.reading + p.read_lead → must_read p stamp x ≡ is_unasked x
+unfolding must_read
+read_if_unasked p stamp x h = rw (le-leb (due_of p (key_of x)) (stamp.reading + p.read_lead) h) (bits (is_own x.rec.kind) x.asked)
+  where
+    bits : (o a : Bool) → (o && not a && true) ≡ (o && not a)
+    bits true true = refl
+    bits true false = refl
+    bits false a = refl
 
 -- a block that is asked for was still to be asked for, and is due by the end of the read lead
 read_soon : (p : Params) (stamp : Stamp) (x : Line) → must_read p stamp x ≡ true → (is_unasked x ≡ true) × (due_of p (key_of x) ≤ stamp.reading + p.read_lead)

@@ -1,5 +1,5 @@
 -- Walks by places: where the next line stands once a step has put others in place of a line.
-use Rattle.std.proofs.Common.{◌≡◌, ℕ, zero, suc, ◌+◌, ◌<◌, arith, Bool, false, true, cond, List, [], ◌∷◌, ◌++◌, length, Option, Some, refl, sym, ap, subst, ◌∙◌}
+use Rattle.std.proofs.Common.{◌≡◌, ℕ, zero, suc, ◌+◌, ◌<◌, ◌≤◌, arith, Bool, false, true, cond, List, [], ◌∷◌, ◌++◌, length, map, Option, Some, refl, sym, ap, subst, ◌∙◌}
 use Rattle.std.specs.Prelude.{IfOk, OnOk, Result, Ok, Err}
 use Rattle.tiger_base.specs.declared.number.NoMemory.{NoMemory}
 use Rattle.std.specs.List.{AllByRecursion, slice_get}
@@ -7,11 +7,12 @@ use Rattle.slot_plan.specs.declared.params.Params.{Params}
 use Rattle.slot_plan.specs.Keys.{Key, is_earlier, is_behind}
 use Rattle.slot_plan.proofs.Keys.{is_earlier-irreflexive}
 use Rattle.partial_view.specs.declared.line.Line.{Line}
-use Rattle.partial_view.specs.Lines.{key_of}
+use Rattle.partial_view.specs.Lines.{key_of, is_at}
 use Rattle.partial_view.specs.Views.{Seen, IsBefore, IsWalk, next_behind, due_by}
 use Rattle.partial_view.specs.Walks.{replaced, KeepsVisits, left}
 use Rattle.partial_view.proofs.Laws.{next-back, next-first, next-front}
-use Rattle.partial_view.proofs.Order.{same_itself, earlier_apart, later_apart}
+use Rattle.partial_view.proofs.Order.{same_is, same_itself, earlier_apart, later_apart, walk_map, walk_without}
+use Rattle.partial_view.proofs.Walks.{replaced-without}
 use Rattle.cub_walks.specs.Stopping.{UnderwayTo}
 use Rattle.cub_walks.proofs.Stops.{begun_to, counted, on_to, fewer_to}
 
@@ -49,6 +50,29 @@ next-first-place p x others ys later h =
     let same : replaced (key_of x) others (x ∷ ys) ≡ others ++ ys = replaced-here x others ys ∙ ap (λ zs. others ++ zs) (replaced-rest p (key_of x) others ys later) in
     ap (λ (zs : List Line). slice_get zs (length others)) same ∙ (next-others p (key_of x) others ys h later ∙ sym (ap (λ (zs : List Line). next_behind p (Some (key_of x)) zs) same))
 
+-- lines in their order stay so if at most one of its visit stands in place of a line
+one-replaced : (k : Key) (z : Line) (lines : List Line) → map (λ y. cond (is_at k y) z y) lines ≡ replaced k (z ∷ []) lines
+unfolding replaced
+one-replaced k z [] = refl
+one-replaced k z (y ∷ ys) =
+    elim (is_at k y) as (λ t. cond t z y ∷ map (λ y. cond (is_at k y) z y) ys ≡ cond t (z ∷ []) (y ∷ []) ++ replaced k (z ∷ []) ys) [
+      | true ↦ ap (λ zs. z ∷ zs) (one-replaced k z ys)
+      | false ↦ ap (λ zs. y ∷ zs) (one-replaced k z ys)
+    ]
+
+keeps-key : (k : Key) (z y : Line) → key_of z ≡ k → key_of (cond (is_at k y) z y) ≡ key_of y
+keeps-key k z y here = by_test (is_at k y) refl
+  where
+    by_test : (t : Bool) → is_at k y ≡ t → key_of (cond t z y) ≡ key_of y
+    by_test true is = here ∙ same_is k (key_of y) is
+    by_test false is = refl
+
+walk-replaced : (p : Params) (k : Key) (others lines : List Line) → IsWalk p lines → AllByRecursion (λ y. key_of y ≡ k) others → length others ≤ 1 → IsWalk p (replaced k others lines)
+walk-replaced p k [] lines w h few = subst (λ (ys : List Line). IsWalk p ys) (replaced-without k lines) (walk_without p k lines w)
+walk-replaced p k (z ∷ []) lines w h few =
+    subst (λ (ys : List Line). IsWalk p ys) (one-replaced k z lines) (walk_map p (λ y. cond (is_at k y) z y) (λ y. keeps-key k z y h.0) lines w)
+walk-replaced p k (z ∷ y ∷ zs) lines w h few = absurd (omega (arith, few))
+
 -- places of sums
 first_of : (n : ℕ) → 0 + n ≡ n
 first_of n = omega arith
@@ -81,7 +105,12 @@ module _ {X : Type 0} {p : Params} {time : ℕ} {outs_of : Line → List X} {lin
   module _ {now : Seen} {outs_now : List X} (i : ℕ) (u : UnderwayTo p time outs_of lines_of before outs_before now outs_now (due_by now.params time (slice_get now.lines i)))
       {x : Line} (is : Some x ≡ due_by now.params time (slice_get now.lines i)) {after : Seen} {outs_after : List X} {j : ℕ}
       (step : after ≡ record now { lines = replaced (key_of x) (lines_of x) now.lines }) (outs : outs_after ≡ outs_now ++ outs_of x)
-      (place : j ≡ i + length (lines_of x)) (walk_after : IsWalk after.params after.lines) where
+      (place : j ≡ i + length (lines_of x)) (few : length (lines_of x) ≤ 1) where
+    walk_after : IsWalk after.params after.lines
+    walk_after =
+        subst (λ (s : Seen). IsWalk s.params s.lines) (sym step)
+        (walk-replaced now.params (key_of x) (lines_of x) now.lines u.walk.walk_now (u.walk.keeps x) few)
+
     is_there : slice_get now.lines i ≡ Some x
     is_there = counted now.params time (slice_get now.lines i) (sym is)
 
@@ -97,6 +126,14 @@ module _ {X : Type 0} {p : Params} {time : ℕ} {outs_of : Line → List X} {lin
 
     pub placed_fewer : left (due_by after.params time (slice_get after.lines j)) after < left (due_by now.params time (slice_get now.lines i)) now
     placed_fewer = fewer_to u (sym is) step outs refl next_is walk_after
+
+-- at most one line is left of each
+pub one_left : (x : Line) → length (x ∷ []) ≤ 1
+one_left x = omega arith
+
+pub few_left : (test : Bool) (x : Line) → length (cond test [] (x ∷ [])) ≤ 1
+few_left true x = omega arith
+few_left false x = omega arith
 
 -- the place of the next line, where a line is taken out if it passes a test
 pub stays_at : (place : ℕ) (test : Bool) (x : Line) → test ≡ true → place ≡ place + length (cond test [] (x ∷ []))

@@ -1,7 +1,7 @@
 -- Which lines are served, and which are dropped.
-use Rattle.std.proofs.Common.{◌≡◌, ℕ, ◌<◌, Bool, true, false, cond, not, ◌&&◌, List, [], ◌∷◌, ◌++◌, map, append_assoc, refl, ap, ◌∙◌}
+use Rattle.std.proofs.Common.{◌≡◌, ℕ, ◌<◌, ◌≤◌, Bool, true, false, cond, not, ◌&&◌, List, [], ◌∷◌, ◌++◌, map, append_assoc, refl, ap, ◌∙◌}
 use Rattle.std.specs.List.{AllByRecursion, flat_map, filter}
-use Rattle.std.proofs.lemmas.Bool.{lt-leb}
+use Rattle.std.proofs.lemmas.Bool.{lt-leb, le-leb}
 use Rattle.tiger_base.specs.declared.number.Stamp.{Stamp}
 use Rattle.tiger_base.specs.declared.message.Msg.{Msg}
 use Rattle.tiger_base.specs.Kinds.{is_own}
@@ -49,6 +49,23 @@ not_past p stamp x h = rw (lt-leb (due_of p (key_of x)) stamp.reading h) (never 
     never : (o : Bool) → (not o && false) ≡ false
     never true = refl
     never false = refl
+
+-- one that is due is served if it is an own record's, and else dropped
+pub served_if_own : (p : Params) (stamp : Stamp) (x : Line) → due_of p (key_of x) ≤ stamp.reading → is_served p stamp x ≡ is_own x.rec.kind
+unfolding is_served
+served_if_own p stamp x h = rw (le-leb (due_of p (key_of x)) stamp.reading h) (both (is_own x.rec.kind))
+  where
+    both : (o : Bool) → (o && true) ≡ o
+    both true = refl
+    both false = refl
+
+pub past_if_backup : (p : Params) (stamp : Stamp) (x : Line) → due_of p (key_of x) ≤ stamp.reading → is_past p stamp x ≡ not (is_own x.rec.kind)
+unfolding is_past
+past_if_backup p stamp x h = rw (le-leb (due_of p (key_of x)) stamp.reading h) (both (is_own x.rec.kind))
+  where
+    both : (o : Bool) → (not o && true) ≡ not o
+    both true = refl
+    both false = refl
 
 pub served_rests : (p : Params) (cub : ℕ) (stamp : Stamp) (parts : List StoredPart) → Rests p stamp.reading (serve_outs p cub stamp parts) (served_line p stamp)
 served_rests p cub stamp parts =

@@ -1,5 +1,5 @@
 -- Which states go out in a beat, beside the time up to which they are forwarded.
-use Rattle.std.proofs.Common.{◌≡◌, ℕ, ◌+◌, ◌<◌, ◌≤◌, Bool, true, false, cond, not, ◌&&◌, ◌||◌, nat_lt, List, [], ◌∷◌, ◌++◌, map, refl, sym, ap, subst, ◌∙◌, ⊎_elim, arith}
+use Rattle.std.proofs.Common.{◌≡◌, ℕ, ◌+◌, ◌-◌, ◌<◌, ◌≤◌, Bool, true, false, cond, not, ◌&&◌, ◌||◌, nat_lt, List, [], ◌∷◌, ◌++◌, map, refl, sym, ap, subst, ◌∙◌, ⊎_elim, arith}
 use Rattle.std.specs.List.{flat_map}
 use Rattle.std.proofs.lemmas.Bool.{and_parts, or_cases, or_parts, both_ways, leb-true, leb-false}
 use Rattle.tiger_base.specs.declared.number.Stamp.{Stamp}
@@ -90,6 +90,32 @@ stays_here p plan stamp x h = by_test (is_to_forward p stamp x) refl
     by_test true e =
         let both = to_forward_soon p stamp x e in
         absurd (omega (arith, soon_by p plan stamp x both.1, h both.0))
+
+-- a state whose visit is due by the limit goes out if it is pending
+pub forwarded_if_pending : (p : Params) (stamp : Stamp) (x : Line) → next_due p x.rec ≤ forward_limit p stamp → is_to_forward p stamp x ≡ is_pending x
+unfolding is_to_forward must_forward
+forwarded_if_pending p stamp x h = by_test (is_soon p stamp x) refl
+  where
+    bits : (f o l : Bool) → (not f && (o && l && true)) ≡ (o && l && not f)
+    bits false true true = refl
+    bits false true false = refl
+    bits false false l = refl
+    bits true true true = refl
+    bits true true false = refl
+    bits true false l = refl
+
+    by_test : (t : Bool) → is_soon p stamp x ≡ t → is_to_forward p stamp x ≡ is_pending x
+    by_test true e = rw e (bits x.forwarded (is_own x.rec.kind) (nat_lt x.rec.visit x.rec.tenancy.last))
+    by_test false e = absurd (omega (arith, late_after p stamp x e, h))
+
+-- the next visit of a line that is due by a time is due by the limit, if that is a block play time behind the time
+pub next_by : (p : Params) → IsPlan p → (stamp : Stamp) (limit time : ℕ) (x : Line) → limit ≡ forward_limit p stamp → time ≡ limit - p.play → due_of p (key_of x) ≤ time → next_due p x.rec ≤ forward_limit p stamp
+unfolding forward_limit
+next_by p plan stamp limit time x is_limit is_time h = by_beat (is_batch_beat p stamp.beat) is_limit
+  where
+    by_beat : (b : Bool) → limit ≡ stamp.reading + cond b p.max_lead p.min_lead → next_due p x.rec ≤ stamp.reading + cond b p.max_lead p.min_lead
+    by_beat true e = omega (arith, e, is_time, h, due_next p x.rec.tenancy.slot.0 x.rec.visit, plan.c5, plan.c6)
+    by_beat false e = omega (arith, e, is_time, h, due_next p x.rec.tenancy.slot.0 x.rec.visit, plan.c5)
 
 -- a line that is not pending gives nothing out, and stays
 not_pending : (p : Params) (stamp : Stamp) (x : Line) → is_pending x ≡ false → is_to_forward p stamp x ≡ false

@@ -3,7 +3,7 @@ use Rattle.std.proofs.Common.{◌≡◌, ℕ, ◌<◌, ◌≤◌, Bool, true, fa
 use Rattle.std.specs.List.{AllByRecursion, flat_map, slice_get}
 use Rattle.std.proofs.lemmas.List.{append-nil}
 use Rattle.std.proofs.lemmas.Grind.{flat_map-append}
-use Rattle.std.proofs.lemmas.Bool.{leb-false}
+use Rattle.std.proofs.lemmas.Bool.{leb-true, leb-false}
 use Rattle.slot_plan.specs.declared.params.Params.{Params}
 use Rattle.slot_plan.specs.Keys.{Key, due_of, is_earlier}
 use Rattle.slot_plan.proofs.Keys.{earlier_due}
@@ -29,6 +29,15 @@ counted p time (Some y) {x} e = by_test (nat_le (due_of p (key_of y)) time) e
     by_test : (t : Bool) → cond t (Some y) None ≡ Some x → Some y ≡ Some x
     by_test true e = e
     by_test false e = cc
+
+-- and it is due by the time
+pub due_in_time : (p : Params) (time : ℕ) (ahead : Option Line) {x : Line} → Some x ≡ due_by p time ahead → due_of p (key_of x) ≤ time
+due_in_time p time None e = absurd (cc)
+due_in_time p time (Some y) {x} e = by_test (nat_le (due_of p (key_of y)) time) refl e
+  where
+    by_test : (t : Bool) → nat_le (due_of p (key_of y)) time ≡ t → Some x ≡ cond t (Some y) None → due_of p (key_of x) ≤ time
+    by_test true is e = let same : y ≡ x = cc in subst (λ (z : Line). due_of p (key_of z) ≤ time) same (leb-true _ _ is)
+    by_test false is e = absurd (cc)
 
 -- no more is left where a line does not count
 less_left : (p : Params) (time : ℕ) (ahead : Option Line) (s : Seen) → left (due_by p time ahead) s ≤ left ahead s
@@ -83,6 +92,10 @@ module _ {X : Type 0} {p : Params} {time : ℕ} {outs_of : Line → List X} {lin
 
       pub params_are : now.params ≡ p
       params_are = ap (λ (s : Seen). s.params) u.walk.view ∙ u.plan
+
+      -- and its line is due by the time
+      pub in_time : (o : Option Line) {x : Line} → Some x ≡ due_by now.params time o → due_of p (key_of x) ≤ time
+      in_time o e = due_in_time p time o (e ∙ by_plan params_are time o)
 
       -- it goes on
       module _ {x : Line} (is : next ≡ Some x) {after : Seen} {outs_after : List X} {then : Option Line} {k : Key}

@@ -5,18 +5,20 @@ ghost use Rattle.tiger_base.specs.Limits.{most_reading};
 ghost use Rattle.slot_plan.specs.Keys.{IsKey};
 ghost use Rattle.partial_view.specs.Lines.{key_of};
 ghost use Rattle.partial_view.specs.Views.{IsWalk, line_at};
+ghost use Rattle.partial_view.specs.Pending.{is_pending};
 ghost use Rattle.partial_view.specs.Walks.{replaced};
+ghost use Rattle.state_forward.specs.Forwards.{next_due};
 ghost use Rattle.node_kit.specs.Deeds.{Did};
 ghost use Rattle.cub_rules.specs.State.{IsStoreOf, IsLineOf};
-ghost use Rattle.cub_rules.specs.Ticks.{forwarding, forward_line, forward_outs, is_to_forward};
+ghost use Rattle.cub_rules.specs.Ticks.{forwarding, forward_line, forward_outs};
 ghost use Rattle.cub_walks.specs.Limits.{forward_limit, sent_on};
 
-use crate::walking::{are_in_order, at_by, behind};
+use crate::walking::{at_by, behind};
 use cub_rules::Store;
 use node_kit::{Out, Outbox, Site};
 use partial_view::{CubView, Flag, Line};
 use slot_plan::Plan;
-use state_forward::{lead_in, must_forward};
+use state_forward::lead_in;
 use tiger_base::{Micros, Msg, NoMemory, Stamp, State};
 
 /// Sends the state of the next visit to the next two cubs for each own record whose next visit is
@@ -76,13 +78,13 @@ fn forward_lines<'a>(
     while let Some(line) = at_by(view, place, time) {
         forward_line(site, stamp, view, place, line, out)?;
         // The walk takes no line out: the next one stands behind the place of this one.
-        are_in_order(view);
         place = behind(place)?;
     }
     Ok(())
 }
 
-/// Forwards the state of one line, which is looked for at a place first.
+/// Forwards the state of one line whose next visit is due soon enough, unless it was forwarded. The
+/// line is looked for at a place first.
 fn forward_line<'a>(
     site: &Site,
     stamp: Stamp,
@@ -94,6 +96,7 @@ fn forward_line<'a>(
     requires reading { stamp.reading ≤ most_reading }
     requires line { IsLineOf site.now.plan.params site.now.cub.0 line }
     requires key { IsKey view.old.params (key_of line) }
+    requires due { let p = site.now.plan.params in next_due p line.rec ≤ forward_limit p stamp }
     requires there { line_at (key_of line) view.old.lines ≡ Some line }
     requires walk { IsWalk view.old.params view.old.lines }
     ensures view { OnOk result (view.new ≡ record view.old {
@@ -103,7 +106,7 @@ fn forward_line<'a>(
     ensures outs { OnOk result (out.new ≡ out.old
         ++ forward_outs site.now.plan.params site.now.cub.0 stamp line) }
 {
-    if is_to_forward(&site.plan, stamp, &line) {
+    if is_pending(&line) {
         let state = State {
             tenancy: line.rec.tenancy,
             visit: line.rec.visit + 1,
@@ -119,15 +122,11 @@ fn forward_line<'a>(
     Ok(())
 }
 
-/// Whether a line's next state goes out.
-#[tactic(auto, unfolding(cub_rules::specs::Ticks::is_to_forward))]
-fn is_to_forward(plan: &Plan, stamp: Stamp, line: &Line) -> bool
-    requires reading { stamp.reading ≤ most_reading }
-    requires slot { line.now.rec.tenancy.slot.0 < plan.now.params.slots }
-    requires visit { line.now.rec.visit < 2 ^ 32 }
-    ensures { result ≡ is_to_forward plan.now.params stamp line.now }
+/// Whether a line's next state is still to be forwarded.
+fn is_pending(line: &Line) -> bool
+    ensures { result ≡ is_pending line.now }
 {
-    !line.forwarded && must_forward(plan, stamp, &line.rec)
+    line.rec.kind.is_own() && line.rec.visit < line.rec.tenancy.last && !line.forwarded
 }
 
 /// Sends a viewer state to the next two cubs.

@@ -2,24 +2,24 @@
 ghost use Rattle.std.specs.Prelude.{◌≡◌, ◌+◌, ◌*◌, ◌<◌, ◌≤◌, ◌++◌, ◌∷◌, [], OnOk, Some, map, filter};
 ghost use Rattle.std.specs.List.{AllByRecursion, flat_map};
 ghost use Rattle.tiger_base.specs.Limits.{most_reading};
-ghost use Rattle.slot_plan.specs.Keys.{IsKey};
+ghost use Rattle.slot_plan.specs.Keys.{IsKey, due_of};
 ghost use Rattle.partial_view.specs.Lines.{key_of};
 ghost use Rattle.partial_view.specs.Views.{IsWalk, line_at};
+ghost use Rattle.partial_view.specs.Pending.{is_unasked};
 ghost use Rattle.partial_view.specs.Walks.{replaced};
 ghost use Rattle.node_kit.specs.Deeds.{Did};
 ghost use Rattle.cub_rules.specs.State.{IsStoreOf, IsLineOf, IsPieceAt};
 ghost use Rattle.cub_rules.specs.Records.{pieces_but};
-ghost use Rattle.cub_rules.specs.Ticks.{reading, must_read, ask_line, ask_outs, asked_of_disk, leaves_by};
+ghost use Rattle.cub_rules.specs.Ticks.{reading, ask_line, ask_outs, asked_of_disk, leaves_by};
 ghost use Rattle.cub_walks.specs.Limits.{asks};
 
 use crate::leaving::take_leaving;
-use crate::walking::{are_in_order, at_by, behind};
+use crate::walking::{at_by, behind};
 use cub_rules::Store;
 use mirror_pieces::piece_disk;
 use mirror_schedule::PieceView;
 use node_kit::{Out, Outbox, Site};
 use partial_view::{CubView, Flag, Line};
-use slot_plan::Plan;
 use tiger_base::{DiskNo, Msg, NoMemory, PieceState, Stamp, Want};
 
 /// Asks the disks for the block of each own record, and then for each piece, that leaves within the
@@ -91,13 +91,13 @@ fn read_lines<'a>(
     while let Some(line) = at_by(view, place, time) {
         read_block(site, stamp, view, place, line, out)?;
         // The walk takes no line out: the next one stands behind the place of this one.
-        are_in_order(view);
         place = behind(place)?;
     }
     Ok(())
 }
 
-/// Asks for the block of one line, which is looked for at a place first.
+/// Asks for the block of one line that is due within the read lead, unless it was asked for. The
+/// line is looked for at a place first.
 fn read_block<'a>(
     site: &Site,
     stamp: Stamp,
@@ -109,6 +109,8 @@ fn read_block<'a>(
     requires reading { stamp.reading ≤ most_reading }
     requires line { IsLineOf site.now.plan.params site.now.cub.0 line }
     requires key { IsKey view.old.params (key_of line) }
+    requires due { let p = site.now.plan.params in
+        due_of p (key_of line) ≤ stamp.reading + p.read_lead }
     requires there { line_at (key_of line) view.old.lines ≡ Some line }
     requires walk { IsWalk view.old.params view.old.lines }
     ensures view { OnOk result (view.new ≡ record view.old {
@@ -117,7 +119,7 @@ fn read_block<'a>(
     }) }
     ensures outs { OnOk result (out.new ≡ out.old ++ ask_outs site.now.plan.params stamp line) }
 {
-    if must_read(&site.plan, stamp, &line) {
+    if is_unasked(&line) {
         let disk = site.plan.disk_of(line.rec.visit);
         ask(site, disk, Want::of_block(&line.rec), out)?;
         view.mark_near(place, line.rec.tenancy.slot, line.rec.visit, Flag::Asked);
@@ -125,15 +127,11 @@ fn read_block<'a>(
     Ok(())
 }
 
-/// Whether a line's block is asked for.
-#[tactic(auto, unfolding(cub_rules::specs::Ticks::must_read))]
-fn must_read(plan: &Plan, stamp: Stamp, line: &Line) -> bool
-    requires reading { stamp.reading ≤ most_reading }
-    requires key { IsKey plan.now.params (key_of line.now) }
-    ensures { result ≡ must_read plan.now.params stamp line.now }
+/// Whether a line's block is still to be asked for.
+fn is_unasked(line: &Line) -> bool
+    ensures { result ≡ is_unasked line.now }
 {
-    let due = plan.due(line.rec.tenancy.slot, line.rec.visit);
-    line.rec.kind.is_own() && !line.asked && due <= stamp.reading + plan.params.read_lead
+    line.rec.kind.is_own() && !line.asked
 }
 
 /// Asks a disk.

@@ -2,7 +2,7 @@
 ghost use Rattle.std.specs.Prelude.{◌≡◌, ◌≤◌, ◌+◌, ◌++◌, ◌∷◌, [], IfOk, OnOk, Some, length, map, filter, not};
 ghost use Rattle.std.specs.List.{AllByRecursion, flat_map};
 ghost use Rattle.tiger_base.specs.Limits.{most_reading};
-ghost use Rattle.slot_plan.specs.Keys.{IsKey};
+ghost use Rattle.slot_plan.specs.Keys.{IsKey, due_of};
 ghost use Rattle.partial_view.specs.Lines.{key_of};
 ghost use Rattle.partial_view.specs.Views.{IsWalk, line_at};
 ghost use Rattle.partial_view.specs.Walks.{replaced};
@@ -36,6 +36,7 @@ pub fn serve<'a>(
         (serving site.now.plan.params site.now.cub.0 stamp store.old)
         out.old out.new store.new) }
 {
+    are_in_order(&store.view);
     serve_blocks(site, stamp, &mut store.view, &store.parts, out)?;
     drop_backups(site, stamp, &mut store.view, out)?;
     serve_pieces(site, stamp, &mut store.pieces, &store.parts, out)?;
@@ -53,6 +54,7 @@ fn serve_blocks<'a>(
 ) -> Result<(), NoMemory>
     requires reading { stamp.reading ≤ most_reading }
     requires plan { view.old.params ≡ site.now.plan.params }
+    requires walk { IsWalk view.old.params view.old.lines }
     requires lines { AllByRecursion (IsLineOf site.now.plan.params site.now.cub.0) view.old.lines }
     ensures view { OnOk result (view.new ≡ record view.old {
       lines = filter (λ x. not (is_served site.now.plan.params stamp x)) view.old.lines;
@@ -60,16 +62,14 @@ fn serve_blocks<'a>(
     ensures outs { OnOk result (out.new ≡ out.old ++ flat_map
         (serve_outs site.now.plan.params site.now.cub.0 stamp parts.now) view.old.lines) }
 {
-    are_in_order(view);
     let mut place = 0;
     while let Some(line) = at_by(view, place, stamp.reading) {
         place = serve_block(site, stamp, view, parts, place, line, out)?;
-        are_in_order(view);
     }
     Ok(())
 }
 
-/// Serves one line, if it is an own record's that is due, and gives the place at which the next one stands then.
+/// Serves one line that is due, if it is an own record's, and gives the place at which the next one stands then.
 fn serve_block<'a>(
     site: &Site,
     stamp: Stamp,
@@ -81,6 +81,7 @@ fn serve_block<'a>(
 ) -> Result<usize, NoMemory>
     requires line { IsLineOf site.now.plan.params site.now.cub.0 line }
     requires key { IsKey view.old.params (key_of line) }
+    requires due { due_of site.now.plan.params (key_of line) ≤ stamp.reading }
     requires there { line_at (key_of line) view.old.lines ≡ Some line }
     requires walk { IsWalk view.old.params view.old.lines }
     ensures view { OnOk result (view.new ≡ record view.old {
@@ -92,7 +93,7 @@ fn serve_block<'a>(
     ensures next { IfOk result
         (λ next. next ≡ place + length (served_line site.now.plan.params stamp line)) }
 {
-    if is_served(&site.plan, stamp, &line) {
+    if line.rec.kind.is_own() {
         send_whole(site, stamp, Want::of_block(&line.rec), parts, out)?;
         out.push(Out::Act(What::Dropped(line.rec)))?;
         view.remove(line.rec.tenancy.slot, line.rec.visit);
@@ -100,16 +101,6 @@ fn serve_block<'a>(
     } else {
         behind(place)
     }
-}
-
-/// Whether a line is an own record's that is due.
-#[tactic(auto, unfolding(cub_rules::specs::Ticks::is_served))]
-fn is_served(plan: &Plan, stamp: Stamp, line: &Line) -> bool
-    requires { IsKey plan.now.params (key_of line.now) }
-    ensures { result ≡ is_served plan.now.params stamp line.now }
-{
-    let due = plan.due(line.rec.tenancy.slot, line.rec.visit);
-    line.rec.kind.is_own() && due <= stamp.reading
 }
 
 /// Sends a block to the viewers, if its part is stored.
@@ -139,22 +130,21 @@ fn drop_backups<'a>(
 ) -> Result<(), NoMemory>
     requires reading { stamp.reading ≤ most_reading }
     requires plan { view.old.params ≡ site.now.plan.params }
+    requires walk { IsWalk view.old.params view.old.lines }
     ensures view { OnOk result (view.new ≡ record view.old {
       lines = filter (λ x. not (is_past site.now.plan.params stamp x)) view.old.lines;
     }) }
     ensures outs { OnOk result (out.new ≡ out.old
         ++ map dropped (filter (is_past site.now.plan.params stamp) view.old.lines)) }
 {
-    are_in_order(view);
     let mut place = 0;
     while let Some(line) = at_by(view, place, stamp.reading) {
         place = drop_backup(&site.plan, stamp, view, place, line, out)?;
-        are_in_order(view);
     }
     Ok(())
 }
 
-/// Drops one line, if it is a backup record's that is due, and gives the place at which the next one stands then.
+/// Drops one line that is due, if it is a backup record's, and gives the place at which the next one stands then.
 fn drop_backup<'a>(
     plan: &Plan,
     stamp: Stamp,
@@ -165,6 +155,7 @@ fn drop_backup<'a>(
 ) -> Result<usize, NoMemory>
     requires plan { view.old.params ≡ plan.now.params }
     requires key { IsKey view.old.params (key_of line) }
+    requires due { due_of plan.now.params (key_of line) ≤ stamp.reading }
     requires there { line_at (key_of line) view.old.lines ≡ Some line }
     requires walk { IsWalk view.old.params view.old.lines }
     ensures view { OnOk result (view.new ≡ record view.old {
@@ -174,23 +165,13 @@ fn drop_backup<'a>(
     ensures next { IfOk result
         (λ next. next ≡ place + length (past_line plan.now.params stamp line)) }
 {
-    if is_past(plan, stamp, &line) {
+    if !line.rec.kind.is_own() {
         out.push(Out::Act(What::Dropped(line.rec)))?;
         view.remove(line.rec.tenancy.slot, line.rec.visit);
         Ok(place)
     } else {
         behind(place)
     }
-}
-
-/// Whether a line is a backup record's that is due.
-#[tactic(auto, unfolding(cub_rules::specs::Ticks::is_past))]
-fn is_past(plan: &Plan, stamp: Stamp, line: &Line) -> bool
-    requires { IsKey plan.now.params (key_of line.now) }
-    ensures { result ≡ is_past plan.now.params stamp line.now }
-{
-    let due = plan.due(line.rec.tenancy.slot, line.rec.visit);
-    !line.rec.kind.is_own() && due <= stamp.reading
 }
 
 /// Serves the piece records that leave.

@@ -34,5 +34,5 @@ pub(crate) fn behind(place: usize) -> Result<usize, NoMemory>
 pub(crate) fn are_in_order(view: &CubView)
     ensures { IsWalk view.now.params view.now.lines }
 {
-    view.view().after(None);
+    view.view().after_by(None, 0);
 }

@@ -1,12 +1,13 @@
 use Rattle.std.proofs.Common.{refl, sym}
+use Rattle.std.specs.List.{slice_get}
 use Rattle.cub_rules.specs.State.{IsLineOf}
 use Rattle.cub_rules.specs.Ticks.{ask_line}
 use Rattle.partial_view.specs.Pending.{is_unasked}
 use Rattle.cub_walks.proofs.Asked.{ask_keeps, ask_rests, silent_past, stays_past}
 use Rattle.partial_view.proofs.Walks.{there, next_key}
 use Rattle.cub_walks.proofs.Steps.{of_next, one_each}
-use Rattle.cub_walks.proofs.Placed.{placed_on, placed_fewer}
-use Rattle.cub_walks.proofs.Stops.{begun_from, ahead_is, stopped_view, stopped_outs}
+use Rattle.cub_walks.proofs.Placed.{placed_on, placed_fewer, one_left}
+use Rattle.cub_walks.proofs.Stops.{begun_from, ahead_is, in_time, stopped_view, stopped_outs}
 use Rattle.cub_walks.proofs.reading.read_lines.Goals as goal
 
 pub loop-line-init : goal.loop-line-init
@@ -24,13 +25,16 @@ read_block-requires-clause-key c = next_key c.loop-line.invariant.walk (ahead_is
 pub read_block-requires-clause-there : goal.read_block-requires-clause-there
 read_block-requires-clause-there c = there c.loop-line.invariant.walk (ahead_is c.loop-line.invariant (sym c.in-Some.ensures))
 
+pub read_block-requires-clause-due : goal.read_block-requires-clause-due
+read_block-requires-clause-due c = in_time c.loop-line.invariant (slice_get c.loop-line.view.lines c.loop-line.place) c.in-Some.ensures
+
 pub loop-line-smaller : goal.loop-line-smaller
 loop-line-smaller c =
-    placed_fewer c.loop-line.place c.loop-line.invariant c.in-Some.ensures c.in_ok-read_block.ensures.view c.in_ok-read_block.ensures.outs c.in_ok-place.ensures c.are_in_order.ensures
+    placed_fewer c.loop-line.place c.loop-line.invariant c.in-Some.ensures c.in_ok-read_block.ensures.view c.in_ok-read_block.ensures.outs c.in_ok-place.ensures (one_left (ask_line c.args.site.now.plan.params c.args.stamp c.in-Some.line))
 
 pub loop-line-preserved : goal.loop-line-preserved
 loop-line-preserved c =
-    placed_on c.loop-line.place c.loop-line.invariant c.in-Some.ensures c.in_ok-read_block.ensures.view c.in_ok-read_block.ensures.outs c.in_ok-place.ensures c.are_in_order.ensures
+    placed_on c.loop-line.place c.loop-line.invariant c.in-Some.ensures c.in_ok-read_block.ensures.view c.in_ok-read_block.ensures.outs c.in_ok-place.ensures (one_left (ask_line c.args.site.now.plan.params c.args.stamp c.in-Some.line))
 
 pub returns-clause-view : goal.returns-clause-view
 returns-clause-view c =
