@@ -1,6 +1,8 @@
 -- How a part is found by the end of its want's visit.
 use Rattle.std.proofs.Common.{◌≡◌, ℕ, ◌+◌, ◌<◌, ◌≤◌, ◌==◌, ◌&&◌, suc, Bool, true, false, cond, nat_lt, List, [], ◌∷◌, length, get_or, map, drop, find, Option, Some, None, option_map, refl, sym, ap, ap₂, ◌∙◌, ⊎_elim, arith}
 use Rattle.std.specs.List.{All, filter}
+use Rattle.std.specs.List.Sorted.{IsNonDecreasingBy}
+use Rattle.std.proofs.lemmas.List.{get_or_default}
 use Rattle.std.proofs.lemmas.Bool.{and_left, and_parts, and_right, cases_Bool, eqb-true, eq-eqb, le-ltb, lt-ltb, ltb-true, ne_eqb}
 use Rattle.tiger_base.specs.declared.tenancy.Want.{Want}
 use Rattle.tiger_base.specs.Records.{same_want}
@@ -17,6 +19,17 @@ pub passed_by_top : (want : Want) (end n : ℕ) (ks : List KeptPart) → All (λ
 passed_by_top want end n ks above early inside =
     ap (λ (o : Option KeptPart). option_map (λ k. k.stored.part) o) (find-passed (λ k. k.end == end && same_want want k.stored.want) n ks
     (λ i d b l. and_left _ _ (ne_eqb (get_or ks i d).end end (λ same. omega (arith, same, above i d l, ltb-true (get_or ks i d).top end (early i d (omega arith) b))))))
+
+-- so do the parts before one whose top is earlier
+pub passed_before : (want : Want) (end far : ℕ) (x : KeptPart) (ks : List KeptPart) → IsNonDecreasingBy (λ (k : KeptPart). k.top) ks → All (λ (k : KeptPart). k.end ≤ k.top) ks → far < length ks → (get_or ks far x).top < end
+    → first_part (λ k. k.end == end && same_want want k.stored.want) (drop far ks) ≡ first_part (λ k. k.end == end && same_want want k.stored.want) ks
+passed_before want end far x ks order above inside early =
+    passed_by_top want end far ks above
+    (λ i d b l. lt-ltb (get_or ks i d).top end (omega (arith, order i far d (omega (arith, l)) inside, top_is d, early)))
+    (omega (arith, inside))
+  where
+    top_is : (d : KeptPart) → (get_or ks far d).top ≡ (get_or ks far x).top
+    top_is d = ap (λ (k : KeptPart). k.top) (get_or_default ks far d x inside)
 
 module _ (want : Want) (time : ℕ) where
   next : (test : KeptPart → Bool) (k : KeptPart) (ks left : List KeptPart) (b s t : Bool) → b ≡ (s && t) → same_want want k.stored.want ≡ t → first_part test ks ≡ stored_for want (map (λ (l : KeptPart). l.stored) left)

@@ -21,6 +21,9 @@ use tiger_base::{Instance, MOST_VISIT, Micros, NoMemory, Part, Visit, Want};
 /// So many parts are added at least from one sweep to the next.
 const LEAST_ADDED: usize = 32;
 
+/// Among so many of the last parts a part is looked for first.
+const LAST_PARTS: usize = 32;
+
 /// A part, the end of its visit's play time, and the latest end up to it when it came.
 #[derive(Drop)]
 pub(crate) struct KeptPart<'a> {
@@ -149,8 +152,23 @@ fn end_of(want: Want, plan: &Plan) -> Micros
     plan.due(want.slot, want.visit) + plan.params.play
 }
 
-/// The first part that is for a want and has this end: ends are earlier as long as tops are.
+/// The first part that is for a want and has this end. It came a short time ago in most cases, and then it is among the
+/// last parts: those before them have earlier tops.
 fn find_by_end<'a>(want: Want, end: Micros, items: &[KeptPart<'a>]) -> Option<Part<'a>>
+    requires order { IsNonDecreasingBy (λ k. k.top) items.now }
+    requires above { All (λ k. k.end ≤ k.top) items.now }
+    ensures { result ≡ first_part (λ k. k.end == end && same_want want k.stored.want) items.now }
+{
+    let far = items.len().saturating_sub(LAST_PARTS);
+    if far < items.len() && items[far].top < end {
+        find_in_order(want, end, &items[far..])
+    } else {
+        find_in_order(want, end, items)
+    }
+}
+
+/// The first part that is for a want and has this end: ends are earlier as long as tops are.
+fn find_in_order<'a>(want: Want, end: Micros, items: &[KeptPart<'a>]) -> Option<Part<'a>>
     requires order { IsNonDecreasingBy (λ k. k.top) items.now }
     requires above { All (λ k. k.end ≤ k.top) items.now }
     ensures { result ≡ first_part (λ k. k.end == end && same_want want k.stored.want) items.now }

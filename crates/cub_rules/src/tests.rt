@@ -338,3 +338,28 @@ fn many_parts_are_swept_out(rt: HostRuntime) -> Result<(), Fail> {
     }
     Ok(())
 }
+
+/// Whether parts are found of slot 1 for instance 0 and of slot 2 for instance 99, if a number of slot 1 came before.
+fn found_behind_many<'a>(
+    alloc: Global,
+    library: &'a Library,
+    count: u32,
+) -> Result<(bool, bool), Fail> {
+    let plan = plan(16);
+    let mut parts = StoredParts::new(alloc, &plan);
+    push_many(&mut parts, &plan, library, count)?;
+    parts.push(&plan, part_of(library, 99, 2)?)?;
+    Ok(found_of(&parts, (0, 1), (99, 2)))
+}
+
+#[test]
+fn part_is_found_behind_many(rt: HostRuntime) -> Result<(), Fail> {
+    let library = library(rt.alloc())?;
+    for count in [1, 31, 32, 33, 64] {
+        assert_eq!(rt;
+            found_behind_many(rt.alloc(), &library, count)?,
+            (true, true)
+        );
+    }
+    Ok(())
+}

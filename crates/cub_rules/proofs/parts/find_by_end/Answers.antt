@@ -1,12 +1,13 @@
-use Rattle.std.proofs.Common.{nat_lt, rules}
-use Rattle.std.proofs.lemmas.List.Sorted.{IsPartitionPoint-from_clause, IsPartitionedBy-ltb}
+use Rattle.std.proofs.Common.{List, ◌==◌, ◌&&◌, ap, ◌∙◌}
+use Rattle.std.proofs.lemmas.List.{take_rest}
+use Rattle.tiger_base.specs.Records.{same_want}
 use Rattle.cub_rules.specs.declared.parts.KeptPart.{KeptPart}
-use Rattle.cub_rules.proofs.Finding.{passed_by_top}
+use Rattle.cub_rules.specs.Fresh.{first_part}
+use Rattle.cub_rules.proofs.Finding.{passed_before}
 use Rattle.cub_rules.proofs.parts.find_by_end.Goals as goal
 
--- the walk begins behind those whose tops are earlier
-pub loop-i-init : goal.loop-i-init
-loop-i-init c =
-    let point =
-    IsPartitionPoint-from_clause (λ (k : KeptPart). nat_lt k.top c.args.end) c.args.items.now c.partition_point-first.result c.partition_point-first.ensures.partitioned (IsPartitionedBy-ltb (λ (k : KeptPart). k.top) c.args.items.now c.args.end c.requires.order) (λ a r q k. search rules) in
-    passed_by_top c.args.want c.args.end c.partition_point-first.result c.args.items.now c.requires.above point.0 c.partition_point-first.ensures.bound
+pub returns-then-items-far : goal.returns-then-items-far
+returns-then-items-far c =
+    c.find_in_order.ensures
+    ∙ (ap (λ (ks : List KeptPart). first_part (λ k. k.end == c.args.end && same_want c.args.want k.stored.want) ks) (take_rest c.args.items.now c.saturating_sub-far.result)
+    ∙ passed_before c.args.want c.args.end c.saturating_sub-far.result c.index-items-far.result c.args.items.now c.requires.order c.requires.above c.if-far-items.true c.if-items-far.true)

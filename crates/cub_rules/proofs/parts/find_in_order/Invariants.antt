@@ -1,7 +1,7 @@
 use Rattle.std.proofs.Common.{◌≡◌, ◌==◌, ◌&&◌, drop}
 use Rattle.tiger_base.specs.Records.{same_want}
 use Rattle.cub_rules.specs.Fresh.{first_part}
-use Rattle.cub_rules.proofs.parts.find_by_end.Given as goal
+use Rattle.cub_rules.proofs.parts.find_in_order.Given as goal
 
 abbrev pub invariant-loop-i : goal.invariant-loop-i
 invariant-loop-i l =
