@@ -1,5 +1,5 @@
 -- Where the records that a cub keeps let it stand.
-use Rattle.std.proofs.Common.{◌≡◌, ◌≤◌, ◌<◌, ◌&&◌, nat_lt, nat_le, ℕ, Bool, true, false, cond, List, [], ◌∷◌, Option, Some, None, option_map, find, IsTrue, refl, sym, ap, subst, arith}
+use Rattle.std.proofs.Common.{◌≡◌, ◌≤◌, ◌<◌, ◌&&◌, nat_lt, nat_le, ℕ, Bool, true, false, cond, List, [], ◌∷◌, Option, Some, None, option_map, find, IsTrue, refl, sym, subst, arith}
 use Rattle.std.specs.List.{AllByRecursion}
 use Rattle.std.proofs.lemmas.Bool.{and_parts, ltb-true, leb-true}
 use Rattle.tiger_base.specs.declared.number.Instance.{Instance}
@@ -23,7 +23,7 @@ found_at : {X : Type 0} (P : X → Type 0) (test : X → Bool) (y : X) (ys : Lis
 found_at P test y ys x true here rest e = let same : y ≡ x = cc in subst P same here
 found_at P test y ys x false here rest e = rest e
 
-found_has : {X : Type 0} (P : X → Type 0) (test : X → Bool) (xs : List X) (x : X) → AllByRecursion P xs → find test xs ≡ Some x → P x
+pub found_has : {X : Type 0} (P : X → Type 0) (test : X → Bool) (xs : List X) (x : X) → AllByRecursion P xs → find test xs ≡ Some x → P x
 found_has P test [] x all e = absurd (cc)
 found_has P test (y ∷ ys) x all e = found_at P test y ys x (test y) all.0 (found_has P test ys x all.1) e
 

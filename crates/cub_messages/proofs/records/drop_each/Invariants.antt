@@ -1,9 +1,9 @@
-use Rattle.partial_view.specs.Walks.{Underway, left}
-use Rattle.cub_messages.specs.Rules.{outs_if_of, left_if_of}
+use Rattle.std.proofs.Common.{length}
+use Rattle.cub_messages.proofs.Dropping.{Dropping}
 use Rattle.cub_messages.proofs.records.drop_each.Given as goal
 
-abbrev pub invariant-loop-next : goal.invariant-loop-next
-invariant-loop-next l = Underway (outs_if_of l.instance) (left_if_of l.instance) l.fn.view l.fn.out l.view l.out l.next
+abbrev pub invariant-loop-rec : goal.invariant-loop-rec
+invariant-loop-rec l = Dropping l.instance l.fn.view l.fn.out l.view l.out
 
-abbrev pub decreases-loop-next : goal.decreases-loop-next
-decreases-loop-next l = left l.next l.view
+abbrev pub decreases-loop-rec : goal.decreases-loop-rec
+decreases-loop-rec l = length l.view.lines
