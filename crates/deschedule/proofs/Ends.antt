@@ -1,10 +1,12 @@
 -- What keeps that none ends before a time, and that all are held still until then.
-use Rattle.std.proofs.Common.{◌≡◌, ℕ, ◌<◌, ◌≤◌, true, false, cond, List, [], ◌∷◌, ◌++◌, refl, ap, sym, subst, arith}
+use Rattle.std.proofs.Common.{◌≡◌, ◌∙◌, ℕ, ◌<◌, ◌≤◌, Bool, true, false, cond, not, ◌&&◌, List, [], ◌∷◌, ◌++◌, length, get_or, refl, ap, sym, subst, arith}
+use Rattle.std.specs.Prelude.{slice_set}
 use Rattle.std.proofs.lemmas.Bool.Decides.{nat_tests}
 use Rattle.tiger_base.specs.declared.number.Instance.{Instance}
 use Rattle.deschedule.specs.declared.held.Holding.{Holding}
-use Rattle.deschedule.specs.Holds.{AreFrom, AreHeld, IsOnce, is_held, is_kept, is_of, holds_at, with_pass}
-use Rattle.deschedule.proofs.Once.{IsOnce-holds_at, IsOnce-more, IsOnce-with_pass}
+use Rattle.deschedule.specs.Holds.{AreFrom, AreHeld, is_held, is_kept, is_of, has_ended, holds_at, most_marked, must_pass, with_pass}
+use Rattle.deschedule.proofs.Marked.{held_left_marks, held_with, marked_left, marked_less, marked_more, unpassed_left, unpassed_pass, unpassed_with}
+use Rattle.deschedule.proofs.Once.{IsOnce-holds_at, IsOnce-more, IsOnce-with_pass, with_pass-held}
 
 from_more : (time least : ℕ) (holds : List Holding) (new : Holding) → AreFrom time holds → least ≤ time → least ≤ new.until → AreFrom least (holds ++ new ∷ [])
 from_more time least [] new h below here = (here, tt)
@@ -22,16 +24,45 @@ all_stay time reading (x ∷ xs) h early =
     let kept : is_kept reading x ≡ true = grind (arith, nat_tests) in
     rw kept (ap (λ ys. x ∷ ys) (all_stay time reading xs h.1 early))
 
--- with a further one, under a time that it does not end before
-pub held_more : (time least : ℕ) (holds now : List Holding) (new : Holding) → AreHeld time holds → is_held holds new.instance ≡ false → now ≡ holds ++ new ∷ [] → least ≤ time → least ≤ new.until → AreHeld least now
-held_more time least holds now new h e is below here =
-    rw is record { once = IsOnce-more holds new h.once e; from = from_more time least holds new h.from below here }
+module _ (time : ℕ) (held_marks unpassed_marks : List Bool) (holds : List Holding) (h : AreHeld time held_marks unpassed_marks holds) where
+  -- the marks tell the same with places for more
+  pub held_places : (held_now unpassed_now : List Bool) → ((n : ℕ) → get_or held_now n false ≡ get_or held_marks n false) → ((n : ℕ) → get_or unpassed_now n false ≡ get_or unpassed_marks n false)
+      → AreHeld time held_now unpassed_now holds
+  held_places held_now unpassed_now held_same unpassed_same =
+      record { once = h.once; from = h.from; held = λ v small. held_same v.0 ∙ h.held v small; unpassed = λ v small. unpassed_same v.0 ∙ h.unpassed v small }
 
--- with one passed on
-pub held_passed : (time : ℕ) (holds : List Holding) (v : Instance) → AreHeld time holds → AreHeld time (with_pass holds v)
-held_passed time holds v h = record { once = IsOnce-with_pass holds v h.once; from = from_pass time holds v h.from }
+  -- with a further one, under a time that it does not end before
+  pub held_more : (least : ℕ) (held_grown unpassed_grown held_now unpassed_now : List Bool) (now : List Holding) (v : Instance) (until : ℕ) → is_held holds v ≡ false
+      → ((n : ℕ) → get_or held_grown n false ≡ get_or held_marks n false) → (v.0 < most_marked → v.0 < length held_grown) → held_now ≡ slice_set held_grown v.0 true
+      → ((n : ℕ) → get_or unpassed_grown n false ≡ get_or unpassed_marks n false) → (v.0 < most_marked → v.0 < length unpassed_grown) → unpassed_now ≡ slice_set unpassed_grown v.0 true
+      → now ≡ holds ++ record { instance = v; until = until; passed = false } ∷ [] → least ≤ time → least ≤ until → AreHeld least held_now unpassed_now now
+  held_more least held_grown unpassed_grown held_now unpassed_now now v until e held_same held_place held_is unpassed_same unpassed_place unpassed_is is below here =
+      let new : Holding = record { instance = v; until = until; passed = false } in
+      rw is record {
+        once = IsOnce-more holds new h.once e;
+        from = from_more time least holds new h.from below here;
+        held = marked_more held_marks held_grown held_now (is_held holds) (is_held (holds ++ new ∷ [])) v h.held held_same held_place held_is (held_with holds new);
+        unpassed = marked_more unpassed_marks unpassed_grown unpassed_now (must_pass holds) (must_pass (holds ++ new ∷ [])) v h.unpassed unpassed_same unpassed_place unpassed_is (λ w. unpassed_with holds new w refl);
+      }
 
--- what is left at a reading, under a time of its own
-pub held_left : (time least reading : ℕ) (holds now : List Holding) → AreHeld time holds → now ≡ holds_at holds reading → AreFrom least now → AreHeld least now
-held_left time least reading holds now h is from =
-    record { once = subst IsOnce (sym is) (IsOnce-holds_at holds reading h.once); from = from }
+  -- with one passed on
+  pub held_passed : (unpassed_now : List Bool) (v : Instance) → unpassed_now ≡ slice_set unpassed_marks v.0 false → AreHeld time held_marks unpassed_now (with_pass holds v)
+  held_passed unpassed_now v is = record {
+    once = IsOnce-with_pass holds v h.once;
+    from = from_pass time holds v h.from;
+    held = λ w small. h.held w small ∙ sym (with_pass-held holds v w);
+    unpassed = marked_less unpassed_marks unpassed_now (must_pass holds) (must_pass (with_pass holds v)) v h.unpassed is (unpassed_pass holds v);
+  }
+
+  -- what is left at a reading, under a time of its own
+  pub held_left : (least reading : ℕ) (held_now unpassed_now : List Bool) (now : List Holding)
+      → ((v : Instance) → get_or held_now v.0 false ≡ (get_or held_marks v.0 false && not (has_ended holds reading v)))
+      → ((v : Instance) → get_or unpassed_now v.0 false ≡ (get_or unpassed_marks v.0 false && not (has_ended holds reading v))) → now ≡ holds_at holds reading → AreFrom least now → AreHeld least held_now unpassed_now now
+  held_left least reading held_now unpassed_now now held_is unpassed_is is from =
+      let from_left : AreFrom least (holds_at holds reading) = subst (λ (hs : List Holding). AreFrom least hs) is from in
+      rw is record {
+        once = IsOnce-holds_at holds reading h.once;
+        from = from_left;
+        held = marked_left held_marks held_now (is_held holds) (is_held (holds_at holds reading)) holds reading h.held held_is (λ w. held_left_marks holds reading w h.once);
+        unpassed = marked_left unpassed_marks unpassed_now (must_pass holds) (must_pass (holds_at holds reading)) holds reading h.unpassed unpassed_is (λ w. unpassed_left holds reading w h.once);
+      }

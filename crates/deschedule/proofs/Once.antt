@@ -11,7 +11,7 @@ use Rattle.deschedule.specs.Holds.{is_of, is_held, IsOnce, once_passed, with_pas
 once_passed-instance : (v : Instance) (h : Holding) → (once_passed v h).instance ≡ h.instance
 once_passed-instance v h = elim (is_of v h) as (λ b. (cond b (record h { passed = true }) h).instance ≡ h.instance) [ true ↦ refl | false ↦ refl ]
 
-with_pass-held : (holds : List Holding) (v w : Instance) → is_held (with_pass holds v) w ≡ is_held holds w
+pub with_pass-held : (holds : List Holding) (v w : Instance) → is_held (with_pass holds v) w ≡ is_held holds w
 with_pass-held [] v w = refl
 with_pass-held (h ∷ hs) v w =
     ap (λ (x : Instance). eqb x.0 w.0 || is_held (with_pass hs v) w) (once_passed-instance v h) ∙ ap (λ b. eqb h.instance.0 w.0 || b) (with_pass-held hs v w)
@@ -22,7 +22,7 @@ IsOnce-with_pass (h ∷ hs) v o =
     (ap (λ x. is_held (with_pass hs v) x) (once_passed-instance v h) ∙ (with_pass-held hs v h.instance ∙ o.0), IsOnce-with_pass hs v o.1)
 
 -- neither of two tests holds where one or the other does not
-none_of : (a b : Bool) → (a || b) ≡ false → (a ≡ false) × (b ≡ false)
+pub none_of : (a b : Bool) → (a || b) ≡ false → (a ≡ false) × (b ≡ false)
 none_of true b e = (e, cc)
 none_of false b e = (refl, e)
 
@@ -38,7 +38,7 @@ IsOnce-more (h ∷ hs) new o e =
     let both = none_of (is_of new.instance h) (is_held hs new.instance) e in
     (still_apart hs h new o.0 both.0, IsOnce-more hs new o.1 both.1)
 
-holds_at-held : (holds : List Holding) (reading : ℕ) (v : Instance) → is_held holds v ≡ false → is_held (holds_at holds reading) v ≡ false
+pub holds_at-held : (holds : List Holding) (reading : ℕ) (v : Instance) → is_held holds v ≡ false → is_held (holds_at holds reading) v ≡ false
 holds_at-held [] reading v e = refl
 holds_at-held (h ∷ hs) reading v e =
     let both = none_of (is_of v h) (is_held hs v) e in

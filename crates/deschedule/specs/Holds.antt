@@ -1,5 +1,5 @@
 -- The deschedules that are held, as a map from instances.
-use Rattle.std.specs.Prelude.{◌≡◌, ℕ, ◌≤◌, Bool, true, false, ◌==◌, ◌&&◌, not, nat_lt, List, [], ◌∷◌, ◌++◌, map, filter, if◌then◌else◌}
+use Rattle.std.specs.Prelude.{◌≡◌, ℕ, ◌≤◌, ◌<◌, Bool, true, false, ◌==◌, ◌&&◌, not, nat_lt, List, [], ◌∷◌, ◌++◌, map, filter, get_or, if◌then◌else◌}
 use Rattle.std.specs.List.{AllByRecursion, list_any}
 use Rattle.tiger_base.specs.declared.number.Instance.{Instance}
 use Rattle.deschedule.specs.declared.held.Holding.{Holding}
@@ -20,21 +20,31 @@ IsOnce (h ∷ hs) = (is_held hs h.instance ≡ false) × IsOnce hs
 abbrev pub AreFrom : ℕ → List Holding → Type 0
 AreFrom time holds = AllByRecursion (λ h. time ≤ h.until) holds
 
--- at most one deschedule of an instance is held, and none ends before a given time: until then all
--- are held still
-pub record AreHeld (time : ℕ) (holds : List Holding) : Type 0 where
-  pub once : IsOnce holds
-  pub from : AreFrom time holds
-
 -- all that is held, with a further instance until a reading, unless it is held already
 abbrev pub with_hold : List Holding → Instance → ℕ → List Holding
 with_hold holds v until =
     if is_held holds v then holds
     else holds ++ record { instance = v; until = until; passed = false } ∷ []
 
+-- only instances with lower numbers have marks
+abbrev pub most_marked : ℕ
+most_marked = 4096
+
+-- the mark of each instance that has one is what a test of it gives
+abbrev pub AreMarked : List Bool → (Instance → Bool) → Type 0
+AreMarked marks test = (v : Instance) → v.0 < most_marked → get_or marks v.0 false ≡ test v
+
 -- whether the instance is held, and was not passed on
 abbrev pub must_pass : List Holding → Instance → Bool
 must_pass holds v = list_any (λ h. is_of v h && not h.passed) holds
+
+-- at most one deschedule of an instance is held, none ends before a given time, and two rows of
+-- marks tell which instances are held and which are to be passed on
+pub record AreHeld (time : ℕ) (held_marks unpassed_marks : List Bool) (holds : List Holding) : Type 0 where
+  pub once : IsOnce holds
+  pub from : AreFrom time holds
+  pub held : AreMarked held_marks (is_held holds)
+  pub unpassed : AreMarked unpassed_marks (must_pass holds)
 
 -- what is held, passed on if it is of the instance
 abbrev pub once_passed : Instance → Holding → Holding
@@ -47,6 +57,10 @@ with_pass holds v = map (once_passed v) holds
 -- whether it is held still at a reading
 abbrev pub is_kept : ℕ → Holding → Bool
 is_kept reading h = nat_lt reading h.until
+
+-- whether a deschedule of the instance ends by a reading
+abbrev pub has_ended : List Holding → ℕ → Instance → Bool
+has_ended holds reading v = list_any (λ h. is_of v h && not (is_kept reading h)) holds
 
 -- what is held still at a reading
 abbrev pub holds_at : List Holding → ℕ → List Holding

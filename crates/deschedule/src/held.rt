@@ -2,6 +2,7 @@
 ghost use Rattle.std.specs.Prelude.{◌≡◌, ◌+◌, [], IfOk, OnOk, OnErr, length, not};
 ghost use Rattle.deschedule.specs.Holds.{IsOnce, AreFrom, is_held, with_hold, must_pass, once_passed, with_pass, holds_at};
 
+use crate::marks::{MOST_MARKED, is_marked, make_place, set_mark, unmark_ended};
 use std::alloc::Global;
 use std::marker::Model;
 use tiger_base::{Instance, Micros, NoMemory};
@@ -21,6 +22,10 @@ pub struct Held {
     holds: Vec<Holding>,
     // None ends before it: until then a tick goes through none.
     none_ends_before: Micros,
+    // Which instances are held, and which are to be passed on, of those that have marks: the list
+    // is long, and each message asks.
+    held: Vec<bool>,
+    unpassed: Vec<bool>,
 }
 
 impl Model for Held {
@@ -32,7 +37,8 @@ impl Model for Held {
 
     ghost view = { λ h. h.holds.items };
 
-    ghost invariant = { λ h. AreHeld h.none_ends_before h.holds.items };
+    ghost invariant = { λ h. AreHeld h.none_ends_before
+        h.held.items h.unpassed.items h.holds.items };
 }
 
 impl Held {
@@ -43,6 +49,8 @@ impl Held {
         Held {
             holds: Vec::new(alloc),
             none_ends_before: u64::MAX,
+            held: Vec::new(alloc),
+            unpassed: Vec::new(alloc),
         }
     }
 
@@ -53,14 +61,18 @@ impl Held {
         ensures after { OnOk result (self.new ≡ with_hold self.old instance until) }
         ensures err { OnErr result (self.new ≡ self.old) }
     {
-        if contains(&self.holds, instance) {
+        if self.is_held(instance) {
             return Ok(false);
         }
+        make_place(&mut self.held, instance)?;
+        make_place(&mut self.unpassed, instance)?;
         self.holds.push(Holding {
             instance,
             until,
             passed: false,
         })?;
+        set_mark(&mut self.held, instance, true);
+        set_mark(&mut self.unpassed, instance, true);
         if until < self.none_ends_before {
             self.none_ends_before = until;
         }
@@ -72,14 +84,22 @@ impl Held {
         ensures held { result ≡ is_held self.now instance }
         ensures once { IsOnce self.now }
     {
-        contains(&self.holds, instance)
+        if instance.0 < MOST_MARKED {
+            is_marked(&self.held, instance)
+        } else {
+            contains(&self.holds, instance)
+        }
     }
 
     /// Whether the instance is held, and its deschedule was not passed on.
     pub fn must_pass(&self, instance: Instance) -> bool
         ensures { result ≡ must_pass self.now instance }
     {
-        must_pass(&self.holds, instance)
+        if instance.0 < MOST_MARKED {
+            is_marked(&self.unpassed, instance)
+        } else {
+            must_pass(&self.holds, instance)
+        }
     }
 
     /// Notes that the instance's deschedule was passed on. False, and nothing changes, exactly if
@@ -88,7 +108,8 @@ impl Held {
         ensures there { result ≡ is_held self.old instance }
         ensures after { self.new ≡ with_pass self.old instance }
     {
-        let found = contains(&self.holds, instance);
+        let found = self.is_held(instance);
+        set_mark(&mut self.unpassed, instance, false);
         pass_on(&mut self.holds, instance);
         found
     }
@@ -102,6 +123,8 @@ impl Held {
             return 0;
         }
         let before = self.holds.len();
+        unmark_ended(&mut self.held, &self.holds, reading);
+        unmark_ended(&mut self.unpassed, &self.holds, reading);
         release(&mut self.holds, reading);
         self.none_ends_before = first_end(&self.holds);
         (before - self.holds.len()) as u64

@@ -3,5 +3,6 @@
 #![tactic(auto)]
 
 mod held;
+mod marks;
 
 pub use held::{Held, Holding};

@@ -98,3 +98,34 @@ fn each_is_released_at_its_own_time(rt: HostRuntime) -> Result<(), Fail> {
         "true; 0; true; true; 0; 1; false; 0; 1; false; 1; false; true; 1; false; ",
     )
 }
+
+#[test]
+fn instances_with_high_numbers_are_held_too(rt: HostRuntime) -> Result<(), Fail> {
+    let calls = [
+        Call::Hold(4095, 3000000),
+        Call::Hold(4096, 5000000),
+        Call::Hold(4294967295, 9000000),
+        Call::Hold(4095, 9000000),
+        Call::Hold(4096, 9000000),
+        Call::IsHeld(4094),
+        Call::IsHeld(4097),
+        Call::SetPassed(4095),
+        Call::SetPassed(4096),
+        Call::MustPass(4095),
+        Call::MustPass(4096),
+        Call::MustPass(4294967295),
+        Call::Expire(3000000),
+        Call::IsHeld(4095),
+        Call::IsHeld(4096),
+        Call::Hold(4095, 9000000),
+        Call::MustPass(4095),
+        Call::Expire(5000000),
+        Call::IsHeld(4096),
+        Call::IsHeld(4095),
+    ];
+    assert_told(
+        &rt,
+        answers(rt.alloc(), &calls),
+        "true; true; true; false; false; false; false; true; true; false; false; true; 1; false; true; true; true; 1; false; true; ",
+    )
+}

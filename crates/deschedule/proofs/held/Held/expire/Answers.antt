@@ -1,8 +1,9 @@
-use Rattle.std.proofs.Common.{◌≡◌, List, arith, subst, sym}
+use Rattle.std.proofs.Common.{◌≡◌, ◌∙◌, ◌&&◌, Bool, false, not, List, ap, arith, get_or, subst, sym}
 use Rattle.std.proofs.lemmas.Grind.{common_steps}
 use Rattle.std.proofs.lemmas.List.Sums.{length-filter, count_by-le-length}
+use Rattle.tiger_base.specs.declared.number.Instance.{Instance}
 use Rattle.deschedule.specs.declared.held.Holding.{Holding}
-use Rattle.deschedule.specs.Holds.{AreFrom, holds_at, is_kept}
+use Rattle.deschedule.specs.Holds.{AreFrom, has_ended, holds_at, is_kept}
 use Rattle.deschedule.proofs.Ends.{all_stay, held_left}
 use Rattle.deschedule.proofs.held.Held.expire.Goals as goal
 
@@ -20,8 +21,14 @@ overflow_sub-result c =
 
 pub invariant_of-self : goal.invariant_of-self
 invariant_of-self c =
-    held_left c.self.inside.none_ends_before c.first_end-self-inside.result c.args.reading c.self.inside.holds.items c.release.new.holds.items c.self.invariant c.release.ensures
-    (subst (λ (hs : List Holding). AreFrom c.first_end-self-inside.result hs) c.deref.ensures.value c.first_end-self-inside.ensures)
+    held_left c.self.inside.none_ends_before c.self.inside.held.items c.self.inside.unpassed.items c.self.inside.holds.items c.self.invariant c.first_end-self-inside.result c.args.reading _ _ c.release.new.holds.items
+    (λ v. c.unmark_ended.ensures v ∙ ended (get_or c.self.inside.held.items v.0 false) v c.deref.ensures.value)
+    (λ v. c.unmark_ended-2.ensures v ∙ ended (get_or c.self.inside.unpassed.items v.0 false) v c.deref-2.ensures.value)
+    c.release.ensures
+    (subst (λ (hs : List Holding). AreFrom c.first_end-self-inside.result hs) c.deref-3.ensures.value c.first_end-self-inside.ensures)
+  where
+    ended : (old : Bool) (v : Instance) {xs ys : List Holding} → xs ≡ ys → (old && not (has_ended xs c.args.reading v)) ≡ (old && not (has_ended ys c.args.reading v))
+    ended old v e = ap (λ (hs : List Holding). old && not (has_ended hs c.args.reading v)) e
 
 pub returns-clause-count : goal.returns-clause-count
 returns-clause-count c =

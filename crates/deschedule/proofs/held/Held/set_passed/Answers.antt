@@ -2,4 +2,5 @@ use Rattle.deschedule.proofs.Ends.{held_passed}
 use Rattle.deschedule.proofs.held.Held.set_passed.Goals as goal
 
 pub invariant_of-self : goal.invariant_of-self
-invariant_of-self c = rw c.pass_on.ensures (held_passed c.self.inside.none_ends_before c.self.inside.holds.items c.args.instance c.self.invariant)
+invariant_of-self c =
+    rw c.pass_on.ensures (held_passed c.self.inside.none_ends_before c.self.inside.held.items c.self.inside.unpassed.items c.self.inside.holds.items c.self.invariant c.set_mark.new.marks.items c.args.instance c.set_mark.ensures)
