@@ -1,5 +1,5 @@
 -- One turn of putting the starts that wait for a disk, and the turn of one disk.
-use Rattle.std.proofs.Common.{◌≡◌, ℕ, ◌+◌, ◌*◌, ◌<◌, ◌==◌, List, [], ◌∷◌, ◌++◌, length, Bool, true, false, not, Some, None, refl, sym, ap, subst, ◌∙◌, append-nil, arith}
+use Rattle.std.proofs.Common.{◌≡◌, ℕ, ◌+◌, ◌*◌, ◌<◌, ◌==◌, List, [], ◌∷◌, ◌++◌, length, Bool, true, false, not, Option, Some, None, refl, sym, ap, subst, ◌∙◌, append-nil, arith}
 use Rattle.std.specs.List.{AllByRecursion, filter}
 use Rattle.std.proofs.lemmas.Bool.{eqb-true}
 use Rattle.tiger_base.specs.declared.message.Msg.{Msg}
@@ -7,15 +7,19 @@ use Rattle.tiger_base.specs.declared.number.DiskNo.{DiskNo}
 use Rattle.tiger_base.specs.declared.tenancy.Ask.{Ask}
 use Rattle.tiger_base.specs.declared.tenancy.Kind.{Kind}
 use Rattle.slot_plan.specs.declared.params.Params.{Params}
+use Rattle.slot_plan.specs.Conditions.{IsPlan}
 use Rattle.slot_plan.specs.Keys.{Key}
+use Rattle.partial_view.specs.Free.{IsFullAt}
+use Rattle.partial_view.proofs.Order.{all_implies}
 use Rattle.node_kit.specs.declared.outbox.Out.{Out}
 use Rattle.node_kit.specs.Steps.{Deed}
 use Rattle.insert_queue.specs.Queues.{Queues, without_start, oldest_for, IsOnce}
 use Rattle.node_kit.specs.Deeds.{Did, nothing, each_in_turn}
 use Rattle.cub_rules.specs.declared.store.Store.{Store}
 use Rattle.cub_rules.specs.State.{IsAsk}
-use Rattle.cub_rules.specs.Ticks.{is_for, free_on, putting_each, putting_on, tenancy_from, disks_at}
-use Rattle.cub_steps.specs.Placing.{putting_by}
+use Rattle.cub_rules.specs.Ticks.{is_for, free_on, put_or_wait, putting_each, putting_on, tenancy_from, disks_at}
+use Rattle.cub_steps.specs.Placing.{putting_by, WaitForFull}
+use Rattle.cub_steps.proofs.FullDisks.{none_where_full}
 use Rattle.cub_steps.proofs.Waiting.{oldest_first, once_front}
 use Rattle.cub_steps.proofs.Going.{ComesTo, comes_on, comes_done, disks_from, disks_next}
 use Rattle.cub_steps.proofs.Putting.{IsPlaced, put_placed, asks_left, put_follows, none_waits, none_free}
@@ -91,6 +95,35 @@ module _ (kind : Kind) (p : Params) (cub reading at : ℕ) where
   pub none_waits_at : (h : Store) (out : List (Out Msg)) (waits : Bool) → waits ≡ not (length h.starts.waiting == 0) → waits ≡ false → Did (disk_rule (disks_at p at) h) out out h
   none_waits_at h out waits is none =
       let all : disk_rule (disks_at p at) h ≡ nothing h = none_on (disks_at p at) h (none_in h.starts.waiting (sym is ∙ none)) in
+      (sym (ap (λ (d : Deed Msg Store). out ++ d.outs) all ∙ append-nil out), sym (ap (λ (d : Deed Msg Store). d.state) all))
+
+  -- a start that waits for a full disk is not put
+  none_put_on : (d : ℕ) (h : Store) (asks : List Ask) → AllByRecursion (λ a. None ≡ free_on p reading a.disk.0 h) asks → putting_each (putting_by kind p cub) p reading d (filter (is_for d) asks) h ≡ nothing h
+  unfolding putting_each
+  none_put_on d h [] full = refl
+  none_put_on d h (a ∷ rest) full = cases (is_for d a) refl (none_put_on d h rest full.1)
+    where
+      wait : List Ask → Option Key → Deed Msg Store
+      wait others free = put_or_wait (putting_by kind p cub) (putting_each (putting_by kind p cub) p reading d others) a free h
+
+      cases : (t : Bool) → is_for d a ≡ t → putting_each (putting_by kind p cub) p reading d (filter (is_for d) rest) h ≡ nothing h → putting_each (putting_by kind p cub) p reading d (filter (is_for d) (a ∷ rest)) h ≡ nothing h
+      cases true t ih =
+          let none : free_on p reading d h ≡ None = sym (subst (λ (n : ℕ). None ≡ free_on p reading n h) (eqb-true _ _ t) full.0) in
+          rw t (ap (λ free. wait (filter (is_for d) rest) free) none)
+      cases false t ih = rw t ih
+
+  full_on : (disks : List ℕ) (h : Store) → AllByRecursion (λ a. None ≡ free_on p reading a.disk.0 h) h.starts.waiting → disk_rule disks h ≡ nothing h
+  unfolding putting_on
+  full_on [] h full = refl
+  full_on (d ∷ disks) h full =
+      ap (λ (x : Deed Msg Store). record { outs = x.outs ++ (disk_rule disks x.state).outs; state = (disk_rule disks x.state).state }) (none_put_on d h h.starts.waiting full) ∙ full_on disks h full
+
+  -- if all that wait do so for full disks, nothing is done
+  pub full_waits_at : (h : Store) (out : List (Out Msg)) → IsPlan p → h.view.params ≡ p → WaitForFull reading h → Did (disk_rule (disks_at p at) h) out out h
+  full_waits_at h out ok plan full =
+      let none : AllByRecursion (λ a. None ≡ free_on p reading a.disk.0 h) h.starts.waiting =
+      all_implies (λ (a : Ask). IsFullAt h.view.params a.disk.0 reading h.view.lines) (λ a. None ≡ free_on p reading a.disk.0 h) (λ a f. none_where_full p reading a.disk.0 h ok plan f) h.starts.waiting full in
+      let all : disk_rule (disks_at p at) h ≡ nothing h = full_on (disks_at p at) h none in
       (sym (ap (λ (d : Deed Msg Store). out ++ d.outs) all ∙ append-nil out), sym (ap (λ (d : Deed Msg Store). d.state) all))
 
   -- one disk more

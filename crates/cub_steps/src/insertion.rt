@@ -1,5 +1,5 @@
 //! Insertion: starts that wait are put into free visits.
-ghost use Rattle.std.specs.Prelude.{◌≡◌, ◌≤◌, ◌<◌, [], ◌∷◌, ◌++◌, OnOk, IfOk, IfErr};
+ghost use Rattle.std.specs.Prelude.{◌≡◌, ◌≤◌, ◌<◌, [], ◌∷◌, ◌++◌, true, OnOk, IfOk, IfErr};
 ghost use Rattle.std.specs.List.{AllByRecursion};
 ghost use Rattle.std.specs.Option.{ForSome};
 ghost use Rattle.std.specs.Result.{result_ok};
@@ -12,7 +12,7 @@ ghost use Rattle.slot_plan.specs.Times.{disk_count};
 ghost use Rattle.cub_rules.specs.State.{IsStoreOf, IsAsk};
 ghost use Rattle.cub_rules.specs.Records.{took};
 ghost use Rattle.cub_rules.specs.Ticks.{inserting, free_on, putting_on, disks_at, putting, putting_own, putting_for_dead, tenancy_from, told_placed};
-ghost use Rattle.cub_steps.specs.Placing.{putting_by};
+ghost use Rattle.cub_steps.specs.Placing.{putting_by, WaitForFull};
 
 use cub_rules::Store;
 use node_kit::{Out, Outbox, Site, What};
@@ -75,12 +75,28 @@ fn put_at<'a>(
     if !store.starts.waits() {
         return Ok(());
     }
+    // While starts wait for full disks, most ticks end here.
+    if all_full(store, reading) {
+        return Ok(());
+    }
     let p = &site.plan.params;
     for row in 0..p.disks {
         let disk = DiskNo((u64::from(cub.0) + row * p.cubs) as u32);
         put_on(site, reading, disk, kind, store, out)?;
     }
     Ok(())
+}
+
+/// Whether it is known of each disk for which a start waits that no visit of it is free.
+fn all_full(store: &Store, reading: Micros) -> bool
+    ensures { result ≡ true → WaitForFull reading store.now }
+{
+    for disk in store.starts.disks() {
+        if !store.view.is_full(*disk, reading) {
+            return false;
+        }
+    }
+    true
 }
 
 /// Puts the starts that wait for a disk, as long as a visit of it is free. Once none is, the visits

@@ -1,6 +1,6 @@
 //! The starts that wait for a free visit, and those that wait for the predecessor's death.
 ghost use Rattle.std.specs.Prelude.{◌≡◌, ◌==◌, [], ◌++◌, IfOk, OnOk, OnErr, None, length, not, false};
-ghost use Rattle.insert_queue.specs.Queues.{has_start, is_asked, with_waiting, with_redundant, without, without_start, after_take_over, oldest_for, IsOnce};
+ghost use Rattle.insert_queue.specs.Queues.{has_start, is_asked, with_waiting, with_redundant, without, without_start, after_take_over, oldest_for, AreFor, IsOnce};
 
 use crate::disks::{has_disk, put_all_in, put_in, take_out};
 use std::alloc::Global;
@@ -128,6 +128,13 @@ impl Starts {
         ensures { result ≡ not (length self.now.waiting == 0) }
     {
         !self.waiting.is_empty()
+    }
+
+    /// Lends some disks, among which are those of all starts that wait.
+    pub fn disks(&self) -> &[DiskNo]
+        ensures { AreFor result.now self.now.waiting }
+    {
+        self.disks.as_slice()
     }
 
     /// The oldest start that waits for the disk; `None` exactly if none waits for it.

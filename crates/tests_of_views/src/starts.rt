@@ -22,7 +22,7 @@ enum Call {
     Next(u32),
     /// Asks whether an instance is asked for.
     IsAsked(u32),
-    /// Asks whether a start waits, and how many are redundant.
+    /// Asks whether a start waits, how many are redundant, and for how many disks one may wait.
     Count,
 }
 
@@ -66,7 +66,8 @@ fn make(starts: &mut Starts, call: Call, text: &mut String) -> Result<(), NoMemo
         Call::Next(disk) => write!(text, "{:?}; ", next(starts, DiskNo(disk)))?,
         Call::IsAsked(instance) => write!(text, "{}; ", starts.is_asked(Instance(instance)))?,
         Call::Count => {
-            write!(text, "{} {}; ", starts.waits(), starts.redundant().len())?;
+            write!(text, "{} ", starts.waits())?;
+            write!(text, "{} {}; ", starts.redundant().len(), starts.disks().len())?;
         }
     }
     Ok(())
@@ -103,9 +104,9 @@ fn redundant_start_waits_once_it_is_taken_over(rt: HostRuntime) -> Result<(), Fa
     assert_told(
         &rt,
         answers(rt.alloc(), &calls),
-        "true; false 1; Gave { waiting: false, redundant: true }; true; true 0; \
-         false; true; false; false; true 1; None; 1; \
-         Some(Ask { instance: Instance(1), file: FileNo(0), count: 3, disk: DiskNo(7) }); true 0; ",
+        "true; false 1 0; Gave { waiting: false, redundant: true }; true; true 0 1; \
+         false; true; false; false; true 1 1; None; 1; \
+         Some(Ask { instance: Instance(1), file: FileNo(0), count: 3, disk: DiskNo(7) }); true 0 2; ",
     )
 }
 
