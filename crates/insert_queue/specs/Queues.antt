@@ -1,5 +1,5 @@
 -- The starts that a cub keeps, as two lists, and what happens to them.
-use Rattle.std.specs.Prelude.{◌≡◌, Bool, true, false, ◌==◌, ◌||◌, not, List, [], ◌∷◌, ◌++◌, Option, find, filter, if◌then◌else◌}
+use Rattle.std.specs.Prelude.{◌≡◌, ℕ, ◌≤◌, Bool, true, false, ◌==◌, ◌||◌, not, List, [], ◌∷◌, ◌++◌, Option, find, filter, if◌then◌else◌}
 use Rattle.std.specs.List.{list_any, AllByRecursion}
 use Rattle.tiger_base.specs.declared.number.Instance.{Instance}
 use Rattle.tiger_base.specs.declared.number.DiskNo.{DiskNo}
@@ -67,3 +67,7 @@ AllStay old new = (disk : DiskNo) → has_disk old disk ≡ true → has_disk ne
 -- each start is for one of the disks
 abbrev pub AreFor : List DiskNo → List Ask → Type 0
 AreFor disks asks = AllByRecursion (λ a. has_disk disks a.disk ≡ true) asks
+
+-- no start is of an instance with a lower number
+abbrev pub AreFrom : ℕ → List Ask → Type 0
+AreFrom least asks = AllByRecursion (λ a. least ≤ a.instance.0) asks

@@ -1,6 +1,6 @@
 //! The starts that wait for a free visit, and those that wait for the predecessor's death.
-ghost use Rattle.std.specs.Prelude.{◌≡◌, ◌==◌, [], ◌++◌, IfOk, OnOk, OnErr, None, length, not, false};
-ghost use Rattle.insert_queue.specs.Queues.{has_start, is_asked, with_waiting, with_redundant, without, without_start, after_take_over, oldest_for, AreFor, IsOnce};
+ghost use Rattle.std.specs.Prelude.{◌≡◌, ◌≤◌, ◌==◌, [], ◌++◌, IfOk, OnOk, OnErr, None, length, not, false};
+ghost use Rattle.insert_queue.specs.Queues.{has_start, is_asked, with_waiting, with_redundant, without, without_start, after_take_over, oldest_for, AreFor, AreFrom, IsOnce};
 
 use crate::disks::{has_disk, put_all_in, put_in, take_out};
 use std::alloc::Global;
@@ -23,18 +23,22 @@ pub struct Starts {
     redundant: Vec<Ask>,
     // Each waiting start is for one of these disks, so that `next` of another one walks over no start.
     disks: Vec<DiskNo>,
+    // No start is of an instance with a lower number. Each state that comes drops the start of its
+    // instance, and mostly that is older than those whose starts are here.
+    least: u32,
 }
 
 impl Model for Starts {
     ghost use Rattle.std.specs.Prelude.{◌++◌};
-    ghost use Rattle.insert_queue.specs.Queues.{Queues, IsOnce, AreFor};
+    ghost use Rattle.insert_queue.specs.Queues.{Queues, IsOnce, AreFor, AreFrom};
 
     ghost Value = { Queues };
 
     ghost view = { λ s. record { waiting = s.waiting.items; redundant = s.redundant.items } };
 
     ghost invariant = { λ s. IsOnce (s.waiting.items ++ s.redundant.items)
-        × AreFor s.disks.items s.waiting.items };
+        × AreFor s.disks.items s.waiting.items
+        × AreFrom s.least s.waiting.items × AreFrom s.least s.redundant.items };
 }
 
 impl Starts {
@@ -46,6 +50,7 @@ impl Starts {
             waiting: Vec::new(alloc),
             redundant: Vec::new(alloc),
             disks: Vec::new(alloc),
+            least: u32::MAX,
         }
     }
 
@@ -61,6 +66,7 @@ impl Starts {
         }
         put_in(&mut self.disks, ask.disk)?;
         self.waiting.push(ask)?;
+        self.least = lesser(self.least, ask.instance.0);
         Ok(true)
     }
 
@@ -75,6 +81,7 @@ impl Starts {
             return Ok(false);
         }
         self.redundant.push(ask)?;
+        self.least = lesser(self.least, ask.instance.0);
         Ok(true)
     }
 
@@ -93,12 +100,21 @@ impl Starts {
         ensures after { self.new ≡ without_start self.old instance }
         ensures gone { is_asked self.new instance ≡ false }
     {
+        if instance.0 < self.least {
+            return Gave {
+                waiting: false,
+                redundant: false,
+            };
+        }
         let gave = Gave {
             waiting: has_start(&self.waiting, instance),
             redundant: has_start(&self.redundant, instance),
         };
         remove(&mut self.waiting, instance, gave.waiting);
         remove(&mut self.redundant, instance, gave.redundant);
+        if instance.0 == self.least {
+            self.least = lesser(least_of(&self.waiting), least_of(&self.redundant));
+        }
         gave
     }
 
@@ -177,4 +193,24 @@ fn remove(asks: &mut Vec<Ask>, instance: Instance, there: bool)
     if there {
         asks.retain(|ask| ask.instance.0 != instance.0);
     }
+}
+
+/// The lesser of two numbers.
+fn lesser(a: u32, b: u32) -> u32
+    ensures first { result ≤ a }
+    ensures second { result ≤ b }
+{
+    if a < b { a } else { b }
+}
+
+/// The least number of an instance of which a start is in a list, or the greatest that there is if
+/// the list is empty.
+fn least_of(asks: &[Ask]) -> u32
+    ensures { AreFrom result asks.now }
+{
+    let mut least = u32::MAX;
+    for ask in asks {
+        least = lesser(least, ask.instance.0);
+    }
+    least
 }

@@ -67,7 +67,12 @@ fn make(starts: &mut Starts, call: Call, text: &mut String) -> Result<(), NoMemo
         Call::IsAsked(instance) => write!(text, "{}; ", starts.is_asked(Instance(instance)))?,
         Call::Count => {
             write!(text, "{} ", starts.waits())?;
-            write!(text, "{} {}; ", starts.redundant().len(), starts.disks().len())?;
+            write!(
+                text,
+                "{} {}; ",
+                starts.redundant().len(),
+                starts.disks().len()
+            )?;
         }
     }
     Ok(())
@@ -159,5 +164,29 @@ fn next_start_of_a_disk_is_found_after_none_was(rt: HostRuntime) -> Result<(), F
          Gave { waiting: true, redundant: false }; None; 1; \
          Some(Ask { instance: Instance(1), file: FileNo(0), count: 3, disk: DiskNo(5) }); None; true; \
          Some(Ask { instance: Instance(2), file: FileNo(0), count: 3, disk: DiskNo(3) }); ",
+    )
+}
+
+#[test]
+fn starts_of_older_and_newer_instances_are_dropped(rt: HostRuntime) -> Result<(), Fail> {
+    let calls = [
+        Call::Ask(5, 1),
+        Call::AskRedundant(3, 1),
+        Call::Drop(2),
+        Call::Drop(4),
+        Call::Drop(3),
+        Call::Ask(3, 1),
+        Call::Drop(5),
+        Call::Drop(3),
+        Call::Drop(3),
+        Call::Count,
+    ];
+    assert_told(
+        &rt,
+        answers(rt.alloc(), &calls),
+        "true; true; Gave { waiting: false, redundant: false }; \
+         Gave { waiting: false, redundant: false }; Gave { waiting: false, redundant: true }; true; \
+         Gave { waiting: true, redundant: false }; Gave { waiting: true, redundant: false }; \
+         Gave { waiting: false, redundant: false }; false 0 1; ",
     )
 }
