@@ -1,8 +1,11 @@
 -- What keeps each instance in the lists at most once.
-use Rattle.std.proofs.Common.{◌≡◌, List, [], ◌∷◌, ◌++◌, Bool, true, false, not, refl, ap, arith, ◌∙◌, cond, ◌||◌}
+use Rattle.std.proofs.Common.{◌≡◌, ℕ, ◌<◌, ◌==◌, zero, suc, length, get_or, subst, sym, List, [], ◌∷◌, ◌++◌, Bool, true, false, not, refl, ap, arith, ◌∙◌, cond, ◌||◌}
 use Rattle.std.proofs.lemmas.List.{append-nil, append_assoc}
 use Rattle.std.proofs.lemmas.List.Elements.{filter-append}
 use Rattle.std.proofs.lemmas.List.Folds.{list_any-append}
+use Rattle.std.specs.List.{list_any}
+use Rattle.std.specs.Prelude.{remove}
+use Rattle.std.proofs.lemmas.Bool.{eqb-true}
 use Rattle.std.proofs.lemmas.Bool.Decides.{nat_tests}
 use Rattle.tiger_base.specs.declared.number.Instance.{Instance}
 use Rattle.tiger_base.specs.declared.tenancy.Ask.{Ask}
@@ -66,3 +69,40 @@ without-none [] v e = refl
 without-none (a ∷ rest) v e =
     let both = none_of (is_of v a) (has_start rest v) e in
     rw (both.0) (ap (λ (xs : List Ask). a ∷ xs) (without-none rest v both.1))
+
+-- in each of two lists an instance stands once, if it does in both together
+absent_front : (front back : List Ask) (v : Instance) → has_start (front ++ back) v ≡ false → has_start front v ≡ false
+absent_front front back v e = (none_of (has_start front v) (has_start back v) (sym (list_any-append (is_of v) front back) ∙ e)).0
+
+pub once_front : (front back : List Ask) → IsOnce (front ++ back) → IsOnce front
+once_front [] back h = tt
+once_front (a ∷ rest) back h = (absent_front rest back a.instance h.0, once_front rest back h.1)
+
+pub once_back : (front back : List Ask) → IsOnce (front ++ back) → IsOnce back
+once_back [] back h = h
+once_back (a ∷ rest) back h = once_back rest back h.1
+
+-- the start at a place is of the instance, and so no other one is
+has_start-at : (asks : List Ask) (i : ℕ) (d : Ask) (v : Instance) → i < length asks → is_of v (get_or asks i d) ≡ true → has_start asks v ≡ true
+has_start-at [] i d v h e = absurd (omega arith)
+has_start-at (a ∷ rest) zero d v h e = rw e refl
+has_start-at (a ∷ rest) (suc i) d v h e = or-true (is_of v a) (has_start rest v) (has_start-at rest i d v (omega arith) e)
+  where
+    or-true : (s t : Bool) → t ≡ true → (s || t) ≡ true
+    or-true true t e = refl
+    or-true false t e = e
+
+others_absent : (a : Ask) (rest : List Ask) (v : Instance) → has_start rest a.instance ≡ false → is_of v a ≡ true → has_start rest v ≡ false
+others_absent a rest v o e = subst (λ (n : ℕ). list_any (λ (x : Ask). x.instance.0 == n) rest ≡ false) (eqb-true _ _ e) o
+
+pub removed-at : (asks : List Ask) (i : ℕ) (d : Ask) (v : Instance) → IsOnce asks → i < length asks → is_of v (get_or asks i d) ≡ true → remove asks i ≡ without asks v
+removed-at [] i d v o h e = absurd (omega arith)
+removed-at (a ∷ rest) zero d v o h e = rw e (sym (without-none rest v (others_absent a rest v o.0 e)))
+removed-at (a ∷ rest) (suc i) d v o h e = cases (is_of v a) refl (removed-at rest i d v o.1 (omega arith) e) (has_start-at rest i d v (omega arith) e)
+  where
+    cases : (t : Bool) → is_of v a ≡ t → remove rest i ≡ without rest v → has_start rest v ≡ true → remove (a ∷ rest) (suc i) ≡ without (a ∷ rest) v
+    cases true t ih there = let none = others_absent a rest v o.0 t in absurd (cc)
+    cases false t ih there = rw t (ap (λ (xs : List Ask). a ∷ xs) ih)
+
+pub has_start-there : (asks : List Ask) (i : ℕ) (d : Ask) (v : Instance) → i < length asks → is_of v (get_or asks i d) ≡ true → true ≡ has_start asks v
+has_start-there asks i d v h e = sym (has_start-at asks i d v h e)

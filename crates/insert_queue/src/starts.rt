@@ -107,11 +107,9 @@ impl Starts {
             };
         }
         let gave = Gave {
-            waiting: has_start(&self.waiting, instance),
-            redundant: has_start(&self.redundant, instance),
+            waiting: drop_from(&mut self.waiting, instance),
+            redundant: drop_from(&mut self.redundant, instance),
         };
-        remove(&mut self.waiting, instance, gave.waiting);
-        remove(&mut self.redundant, instance, gave.redundant);
         if instance.0 == self.least {
             self.least = lesser(least_of(&self.waiting), least_of(&self.redundant));
         }
@@ -184,15 +182,19 @@ fn oldest_for(asks: &[Ask], disk: DiskNo) -> Option<Ask>
     asks.iter().find(|ask| ask.disk.0 == disk.0).copied()
 }
 
-/// Takes the starts of an instance out; `there` says whether there are any. Mostly there are none,
-/// since each viewer state that comes drops the start of its instance.
-fn remove(asks: &mut Vec<Ask>, instance: Instance, there: bool)
-    requires { there ≡ has_start asks.old.items instance }
-    ensures { asks.new.items ≡ without asks.old.items instance }
+/// Takes the start of an instance out, of which there is at most one, and answers whether there was.
+fn drop_from(asks: &mut Vec<Ask>, instance: Instance) -> bool
+    requires { IsOnce asks.old.items }
+    ensures there { result ≡ has_start asks.old.items instance }
+    ensures left { asks.new.items ≡ without asks.old.items instance }
 {
-    if there {
-        asks.retain(|ask| ask.instance.0 != instance.0);
+    for place in 0..asks.len() {
+        if asks[place].instance.0 == instance.0 {
+            asks.remove(place);
+            return true;
+        }
     }
+    false
 }
 
 /// The lesser of two numbers.

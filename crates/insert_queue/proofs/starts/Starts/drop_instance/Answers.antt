@@ -3,7 +3,7 @@ use Rattle.tiger_base.specs.declared.tenancy.Ask.{Ask}
 use Rattle.insert_queue.specs.Queues.{Queues, AreFrom}
 use Rattle.insert_queue.proofs.Fors.{for_left}
 use Rattle.insert_queue.proofs.Froms.{HasNone, has_none, from_left, from_lower}
-use Rattle.insert_queue.proofs.Once.{IsOnce-without, has_start-gone}
+use Rattle.insert_queue.proofs.Once.{IsOnce-without, has_start-gone, once_back, once_front}
 use Rattle.insert_queue.proofs.starts.Starts.drop_instance.Goals as goal
 use Rattle.insert_queue.proofs.starts.Starts.drop_instance.Goals.{Then-instance-self}
 
@@ -27,21 +27,27 @@ returns-then-instance-self-clause-gone c =
     let n = none (goal.at.returns-then-instance-self-clause-gone c).Then-instance-self in
     rw (sym n.waiting) (sym n.redundant)
 
+pub drop_from-requires : goal.drop_from-requires
+drop_from-requires c = once_front c.self.inside.waiting.items c.self.inside.redundant.items c.self.invariant.0
+
+pub drop_from-requires-2 : goal.drop_from-requires-2
+drop_from-requires-2 c = once_back c.self.inside.waiting.items c.self.inside.redundant.items c.self.invariant.0
+
 pub invariant_of-self : goal.invariant_of-self
 invariant_of-self c =
-    let waiting = subst (λ (asks : List Ask). AreFrom c.lesser-self-inside.result asks) c.deref-then-instance-self-2.ensures.value
-    (from_lower c.lesser-self-inside.result c.least_of.result c.deref-then-instance-self-2.result.now c.lesser-self-inside.ensures.first c.least_of.ensures) in
-    let redundant = subst (λ (asks : List Ask). AreFrom c.lesser-self-inside.result asks) c.deref-then-instance-self-2-2.ensures.value
-    (from_lower c.lesser-self-inside.result c.least_of-then-instance-self-2.result c.deref-then-instance-self-2-2.result.now c.lesser-self-inside.ensures.second c.least_of-then-instance-self-2.ensures) in (
-      rw (c.remove.ensures, c.remove-2.ensures) (IsOnce-without c.self.inside.waiting.items c.self.inside.redundant.items c.args.instance c.self.invariant.0),
-      rw c.remove.ensures (for_left c.self.inside.disks.items c.self.inside.waiting.items c.args.instance c.self.invariant.1),
+    let waiting = subst (λ (asks : List Ask). AreFrom c.lesser-self-inside.result asks) c.deref.ensures.value
+    (from_lower c.lesser-self-inside.result c.least_of.result c.deref.result.now c.lesser-self-inside.ensures.first c.least_of.ensures) in
+    let redundant = subst (λ (asks : List Ask). AreFrom c.lesser-self-inside.result asks) c.deref-then-instance-self-2.ensures.value
+    (from_lower c.lesser-self-inside.result c.least_of-then-instance-self-2.result c.deref-then-instance-self-2.result.now c.lesser-self-inside.ensures.second c.least_of-then-instance-self-2.ensures) in (
+      rw (c.drop_from.ensures.left, c.drop_from-2.ensures.left) (IsOnce-without c.self.inside.waiting.items c.self.inside.redundant.items c.args.instance c.self.invariant.0),
+      rw c.drop_from.ensures.left (for_left c.self.inside.disks.items c.self.inside.waiting.items c.args.instance c.self.invariant.1),
       waiting,
       redundant,
     )
 
 pub invariant_of-self-else-instance-self-2 : goal.invariant_of-self-else-instance-self-2
 invariant_of-self-else-instance-self-2 c =
-    rw (c.remove.ensures, c.remove-2.ensures) (
+    rw (c.drop_from.ensures.left, c.drop_from-2.ensures.left) (
       IsOnce-without c.self.inside.waiting.items c.self.inside.redundant.items c.args.instance c.self.invariant.0,
       for_left c.self.inside.disks.items c.self.inside.waiting.items c.args.instance c.self.invariant.1,
       from_left c.self.inside.least c.self.inside.waiting.items c.args.instance c.self.invariant.2,
@@ -50,8 +56,8 @@ invariant_of-self-else-instance-self-2 c =
 
 pub returns-then-instance-self-2-clause-gone : goal.returns-then-instance-self-2-clause-gone
 returns-then-instance-self-2-clause-gone c =
-    rw (c.remove.ensures, c.remove-2.ensures, has_start-gone c.self.inside.waiting.items c.args.instance) (has_start-gone c.self.inside.redundant.items c.args.instance)
+    rw (c.drop_from.ensures.left, c.drop_from-2.ensures.left, has_start-gone c.self.inside.waiting.items c.args.instance) (has_start-gone c.self.inside.redundant.items c.args.instance)
 
 pub returns-else-instance-self-2-clause-gone : goal.returns-else-instance-self-2-clause-gone
 returns-else-instance-self-2-clause-gone c =
-    rw (c.remove.ensures, c.remove-2.ensures, has_start-gone c.self.inside.waiting.items c.args.instance) (has_start-gone c.self.inside.redundant.items c.args.instance)
+    rw (c.drop_from.ensures.left, c.drop_from-2.ensures.left, has_start-gone c.self.inside.waiting.items c.args.instance) (has_start-gone c.self.inside.redundant.items c.args.instance)
