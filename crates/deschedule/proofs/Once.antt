@@ -1,7 +1,8 @@
 -- What keeps each instance held at most once, and the loop that passes one on.
-use Rattle.std.proofs.Common.{◌≡◌, ℕ, ◌+◌, ◌<◌, List, [], ◌∷◌, ◌++◌, Bool, true, false, map, refl, sym, ap, get_or, add-zero, take, drop, length, arith, ◌∙◌, cond, eqb, ◌||◌}
-use Rattle.std.proofs.lemmas.List.{take_more, take_more_set, map-append, get_or-drop}
+use Rattle.std.proofs.Common.{◌≡◌, ℕ, ◌<◌, ◌==◌, zero, suc, subst, List, [], ◌∷◌, ◌++◌, Bool, true, false, refl, sym, ap, get_or, length, arith, ◌∙◌, cond, eqb, ◌||◌}
 use Rattle.std.proofs.Math.ListN.{set}
+use Rattle.std.specs.List.{list_any}
+use Rattle.std.proofs.lemmas.Bool.{eqb-true}
 use Rattle.std.proofs.lemmas.Bool.Decides.{nat_tests}
 use Rattle.tiger_base.specs.declared.number.Instance.{Instance}
 use Rattle.deschedule.specs.declared.held.Holding.{Holding}
@@ -49,14 +50,33 @@ IsOnce-holds_at [] reading o = tt
 IsOnce-holds_at (h ∷ hs) reading o =
     elim (is_kept reading h) as (λ b. IsOnce (cond b (h ∷ holds_at hs reading) (holds_at hs reading))) [ true ↦ (holds_at-held hs reading h.instance o.0, IsOnce-holds_at hs reading o.1) | false ↦ IsOnce-holds_at hs reading o.1 ]
 
-at_front : (zs : List Holding) (i : ℕ) (d : Holding) → get_or (drop i zs) 0 d ≡ get_or zs i d
-at_front zs i d = get_or-drop i zs 0 d ∙ ap (λ k. get_or zs k d) (add-zero i)
+-- nothing is passed on where the instance is not held
+pub with_pass-none : (holds : List Holding) (v : Instance) → is_held holds v ≡ false → with_pass holds v ≡ holds
+with_pass-none [] v e = refl
+with_pass-none (h ∷ hs) v e =
+    let both = none_of (is_of v h) (is_held hs v) e in
+    rw (both.0) (ap (λ (xs : List Holding). h ∷ xs) (with_pass-none hs v both.1))
 
--- one more place of the loop that passes an instance on
-pub passed_front : (v : Instance) (xs ys : List Holding) (i : ℕ) (d y : Holding) → i < length ys → length ys ≡ length xs → y ≡ once_passed v (get_or ys i d)
-    → take i ys ≡ with_pass (take i xs) v → drop i ys ≡ drop i xs → take (i + 1) (set ys i y) ≡ with_pass (take (i + 1) xs) v
-passed_front v xs ys i d y h long e front rest =
-    let hx : i < length xs = omega arith in
-    let same_item : get_or ys i d ≡ get_or xs i d =
-    sym (at_front ys i d) ∙ (ap (λ zs. get_or zs 0 d) rest ∙ at_front xs i d) in
-    take_more_set ys i y h ∙ (ap (λ zs. zs ++ y ∷ []) front ∙ sym (ap (map (once_passed v)) (take_more xs i d hx) ∙ (map-append (once_passed v) (take i xs) (get_or xs i d ∷ []) ∙ ap (λ z. map (once_passed v) (take i xs) ++ z ∷ []) (ap (once_passed v) (sym same_item) ∙ sym e))))
+held-at : (holds : List Holding) (i : ℕ) (d : Holding) (v : Instance) → i < length holds → is_of v (get_or holds i d) ≡ true → is_held holds v ≡ true
+held-at [] i d v h e = absurd (omega arith)
+held-at (x ∷ xs) zero d v h e = rw e refl
+held-at (x ∷ xs) (suc i) d v h e = or-true (is_of v x) (is_held xs v) (held-at xs i d v (omega arith) e)
+  where
+    or-true : (s t : Bool) → t ≡ true → (s || t) ≡ true
+    or-true true t e = refl
+    or-true false t e = e
+
+others_not : (x : Holding) (xs : List Holding) (v : Instance) → is_held xs x.instance ≡ false → is_of v x ≡ true → is_held xs v ≡ false
+others_not x xs v o e = subst (λ (n : ℕ). list_any (λ (h : Holding). h.instance.0 == n) xs ≡ false) (eqb-true _ _ e) o
+
+-- the deschedule at a place is of the instance, and so no other one is
+pub passed-at : (holds : List Holding) (i : ℕ) (d : Holding) (v : Instance) → IsOnce holds → i < length holds → is_of v (get_or holds i d) ≡ true
+    → set holds i (record (get_or holds i d) { passed = true }) ≡ with_pass holds v
+passed-at [] i d v o h e = absurd (omega arith)
+passed-at (x ∷ xs) zero d v o h e = rw e (ap (λ (ys : List Holding). record x { passed = true } ∷ ys) (sym (with_pass-none xs v (others_not x xs v o.0 e))))
+passed-at (x ∷ xs) (suc i) d v o h e = cases (is_of v x) refl (passed-at xs i d v o.1 (omega arith) e) (held-at xs i d v (omega arith) e)
+  where
+    cases : (t : Bool) → is_of v x ≡ t → set xs i (record (get_or xs i d) { passed = true }) ≡ with_pass xs v → is_held xs v ≡ true
+        → set (x ∷ xs) (suc i) (record (get_or (x ∷ xs) (suc i) d) { passed = true }) ≡ with_pass (x ∷ xs) v
+    cases true t ih there = let none = others_not x xs v o.0 t in absurd (cc)
+    cases false t ih there = rw t (ap (λ (ys : List Holding). x ∷ ys) ih)

@@ -1,6 +1,6 @@
 //! The instances that are held, with the reading until which each is held.
 ghost use Rattle.std.specs.Prelude.{◌≡◌, ◌+◌, [], IfOk, OnOk, OnErr, length, not};
-ghost use Rattle.deschedule.specs.Holds.{IsOnce, AreFrom, is_held, with_hold, must_pass, once_passed, with_pass, holds_at};
+ghost use Rattle.deschedule.specs.Holds.{IsOnce, AreFrom, is_held, with_hold, must_pass, with_pass, holds_at};
 
 use crate::marks::{MOST_MARKED, is_marked, make_place, set_mark, unmark_ended};
 use std::alloc::Global;
@@ -145,23 +145,18 @@ fn must_pass(holds: &[Holding], instance: Instance) -> bool
         .any(|h| h.instance.0 == instance.0 && !h.passed)
 }
 
+// A deschedule is mostly passed on as soon as it is held, so it stands near the end.
 fn pass_on(holds: &mut Vec<Holding>, instance: Instance)
+    requires { IsOnce holds.old.items }
     ensures { holds.new.items ≡ with_pass holds.old.items instance }
 {
-    for hold in holds.iter_mut() {
-        *hold = once_passed(hold, instance);
+    for place in (0..holds.len()).rev() {
+        let hold = &mut holds[place];
+        if hold.instance.0 == instance.0 {
+            hold.passed = true;
+            return;
+        }
     }
-}
-
-// The deschedule again, passed on if it is of the instance.
-fn once_passed(hold: &Holding, instance: Instance) -> Holding
-    ensures { result ≡ once_passed instance hold.now }
-{
-    let mut hold = *hold;
-    if hold.instance.0 == instance.0 {
-        hold.passed = true;
-    }
-    hold
 }
 
 fn release(holds: &mut Vec<Holding>, reading: Micros)

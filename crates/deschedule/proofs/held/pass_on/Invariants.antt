@@ -1,10 +1,9 @@
-use Rattle.std.proofs.Common.{◌≡◌, take, drop, length}
-use Rattle.deschedule.specs.Holds.{with_pass}
+use Rattle.std.proofs.Common.{◌≡◌, false, drop}
+use Rattle.deschedule.specs.Holds.{is_held}
 use Rattle.deschedule.proofs.held.pass_on.Given as goal
 
-abbrev pub invariant-loop-hold : goal.invariant-loop-hold
-invariant-loop-hold l = record {
-  front : take l.hold-index l.hold-items ≡ with_pass (take l.hold-index l.fn.holds.items) l.instance;
-  rest : drop l.hold-index l.hold-items ≡ drop l.hold-index l.fn.holds.items;
-  long : length l.hold-items ≡ length l.fn.holds.items;
+abbrev pub invariant-loop-place : goal.invariant-loop-place
+invariant-loop-place l = record {
+  none : is_held (drop l.place l.holds.items) l.instance ≡ false;
+  same : l.holds.items ≡ l.fn.holds.items;
 }
