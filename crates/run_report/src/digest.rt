@@ -113,23 +113,25 @@ fn known_digest(
 }
 
 /// The digest of the start behind those whose digests are there. It is computed only if the last
-/// start of its file whose digest was computed got other bytes: most viewers of a file get the same.
+/// start of its file with as many blocks whose digest was computed got other bytes: most viewers of
+/// a file who are there equally long get the same.
 fn next_digest(
     library: &Library,
     outcomes: &[Outcome],
     digests: &[Digest32],
-    computed: &mut BTreeMap<FileNo, usize>,
+    computed: &mut BTreeMap<(FileNo, usize), usize>,
     outcome: &Outcome,
 ) -> Result<Digest32, NoMemory>
     requires { AreDigests library.now outcomes.now digests.now }
     ensures { IfOk result (λ digest. digest ≡ digest_of library.now outcome.now) }
 {
-    if let Some(place) = computed.get(&outcome.ask.file).copied() {
+    let alike = (outcome.ask.file, outcome.blocks.len());
+    if let Some(place) = computed.get(&alike).copied() {
         if let Some(digest) = known_digest(outcomes, digests, place, outcome) {
             return Ok(digest);
         }
     }
-    computed.insert(outcome.ask.file, digests.len())?;
+    computed.insert(alike, digests.len())?;
     Ok(digest_of(library, outcome))
 }
 
