@@ -1,4 +1,5 @@
 pub mod Ranges
+pub mod Lines
 pub mod Lookups
 pub mod Rowed
 pub mod Gathering

@@ -10,6 +10,7 @@ mod firsts;
 mod found;
 mod gather;
 mod index;
+mod line;
 mod outcome;
 mod placed;
 mod tally;
@@ -61,7 +62,7 @@ pub fn report_of(alloc: Global, kept: &Kept, outcomes: &[Outcome]) -> Result<Vec
     ensures { IfOk result (λ text. text.items ≡ report_text kept.now) }
 {
     let text = outcomes_text(alloc, kept.digests.as_slice(), outcomes)?;
-    Ok(text.into_bytes())
+    Ok(text)
 }
 
 /// The summary of a kept run: the last line of its report, and how many bytes the report has, with
@@ -83,8 +84,8 @@ pub fn summary_of(alloc: Global, kept: &Kept, outcomes: &[Outcome]) -> Result<Ve
     ensures { IfOk result (λ text. text.items ≡ summary_text kept.now) }
 {
     let report = outcomes_text(alloc, kept.digests.as_slice(), outcomes)?;
-    let mut text = String::new(alloc);
+    let mut text = Vec::new(alloc);
     push_total(&mut text, outcomes)?;
-    push_size(alloc, &mut text, report.as_str().as_bytes())?;
-    Ok(text.into_bytes())
+    push_size(alloc, &mut text, report.as_slice())?;
+    Ok(text)
 }

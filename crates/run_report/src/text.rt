@@ -1,67 +1,95 @@
 //! The lines of a report.
-ghost use Rattle.std.specs.Prelude.{◌≡◌, ◌++◌, ◌<◌, ◌^◌, OnOk, IfOk, string_bytes, length};
+ghost use Rattle.std.specs.Prelude.{◌≡◌, ◌++◌, ◌<◌, ◌^◌, OnOk, IfOk, codes};
 ghost use Rattle.std.specs.List.{flat_map};
-ghost use Rattle.run_report.specs.Text.{worded, spaced, reason_text, kind_text, block_line, start_line, stop_line, counts_text, digest_text, end_line, ending_lines, outcome_lines, total_line, outcomes_text, size_line, tally_of, bytes_of, total_tally, all_placed, Fits, BytesFit};
+ghost use Rattle.run_report.specs.Text.{worded, spaced, reason_text, placed_text, block_line, start_line, stop_line, counts_text, digest_text, end_line, ending_lines, outcome_lines, total_line, outcomes_text, size_line, tally_of, bytes_of, total_tally, all_placed, Fits, BytesFit};
 
 use crate::digest::digest_at;
+use crate::line::Line;
 use crate::outcome::{BlockKind, BlockOut, Outcome, Reason};
 use crate::tally::{Tally, bytes_of};
 use itoa::Buffer;
 use node_kit::Digest32;
 use sha2::{Digest, Sha256};
 use std::alloc::{AllocError, Global};
-use std::fmt::Write;
-use tiger_base::{Beat, Instance};
+use tiger_base::{Beat, Instance, Micros, Tenancy};
 
-/// Writes words, and a number behind them. It takes a third of the instructions of `write!`.
-fn push_worded(text: &mut String, words: &str, n: u64) -> Result<(), AllocError>
-    ensures { OnOk result (string_bytes text.new ≡ string_bytes text.old ++ worded words.now n) }
+/// Writes words, and a number behind them.
+fn push_worded(text: &mut Vec<u8>, words: &[u8], n: u64) -> Result<(), AllocError>
+    ensures { OnOk result (text.new.items ≡ text.old.items ++ worded words.now n) }
 {
-    text.push_str(words)?;
-    text.push_str(Buffer::new().format(n))
+    text.extend_from_slice(words)?;
+    text.extend_from_slice(Buffer::new().format(n).as_bytes())
 }
 
-fn push_spaced(text: &mut String, beats: &[Beat]) -> Result<(), AllocError>
-    ensures { OnOk result (string_bytes text.new ≡ string_bytes text.old ++ spaced beats.now) }
+fn push_spaced(text: &mut Vec<u8>, beats: &[Beat]) -> Result<(), AllocError>
+    ensures { OnOk result (text.new.items ≡ text.old.items ++ spaced beats.now) }
 {
     for beat in beats {
-        push_worded(text, " ", *beat)?;
+        push_worded(text, b" ", *beat)?;
     }
     Ok(())
 }
 
-fn push_kind(text: &mut String, kind: &BlockKind) -> Result<(), AllocError>
-    ensures { OnOk result (string_bytes text.new ≡ string_bytes text.old ++ kind_text kind.now) }
+fn reason_text(reason: Reason) -> &'static [u8]
+    ensures { result.now ≡ reason_text reason }
 {
-    match kind {
-        BlockKind::Whole { len, sent } => {
-            push_worded(text, " whole ", *len)?;
-            push_worded(text, " sent ", *sent)
-        }
-        BlockKind::Pieces { len, sent } => {
-            push_worded(text, " pieces ", *len)?;
-            text.push_str(" sent")?;
-            push_spaced(text, sent.as_slice())
-        }
-        BlockKind::Missing(Reason::Read) => text.push_str(" missing read"),
-        BlockKind::Missing(Reason::Dead) => text.push_str(" missing dead"),
-        BlockKind::Missing(Reason::Piece) => text.push_str(" missing piece"),
+    match reason {
+        Reason::Read => b" missing read",
+        Reason::Dead => b" missing dead",
+        Reason::Piece => b" missing piece",
     }
 }
 
-#[tactic(auto, unfolding(crate::specs::Text::block_line))]
-fn push_block(text: &mut String, out: &BlockOut) -> Result<(), AllocError>
-    ensures { OnOk result (string_bytes text.new ≡ string_bytes text.old ++ block_line out.now) }
+/// The line of a block that came whole, as most do: it is written into the report in one piece.
+fn whole_line(block: u64, due: Micros, len: u64, sent: Beat) -> Line
+    ensures { result ≡ worded (codes "block ") block ++ worded (codes " due ") due
+        ++ worded (codes " whole ") len ++ worded (codes " sent ") sent ++ codes "\n" }
 {
-    push_worded(text, "block ", out.block)?;
-    push_worded(text, " due ", out.due)?;
-    push_kind(text, &out.kind)?;
-    text.push_str("\n")
+    let mut line = Line::new();
+    line.words(b"\n");
+    line.worded(b" sent ", sent);
+    line.worded(b" whole ", len);
+    line.worded(b" due ", due);
+    line.worded(b"block ", block);
+    line
 }
 
-fn push_blocks(text: &mut String, blocks: &[BlockOut]) -> Result<(), AllocError>
-    ensures { OnOk result (string_bytes text.new
-        ≡ string_bytes text.old ++ flat_map block_line blocks.now) }
+/// Writes the front of a block's line.
+fn push_front(text: &mut Vec<u8>, block: u64, due: Micros) -> Result<(), AllocError>
+    ensures { OnOk result (text.new.items
+        ≡ text.old.items ++ worded (codes "block ") block ++ worded (codes " due ") due) }
+{
+    push_worded(text, b"block ", block)?;
+    push_worded(text, b" due ", due)
+}
+
+#[tactic(auto, unfolding(crate::specs::Text::block_line))]
+fn push_block(text: &mut Vec<u8>, out: &BlockOut) -> Result<(), AllocError>
+    ensures { OnOk result (text.new.items ≡ text.old.items ++ block_line out.now) }
+{
+    match &out.kind {
+        BlockKind::Whole { len, sent } => {
+            let line = whole_line(out.block, out.due, *len, *sent);
+            text.extend_from_slice(line.as_slice())
+        }
+        BlockKind::Pieces { len, sent } => {
+            push_front(text, out.block, out.due)?;
+            push_worded(text, b" pieces ", *len)?;
+            text.extend_from_slice(b" sent")?;
+            push_spaced(text, sent.as_slice())?;
+            text.extend_from_slice(b"\n")
+        }
+        BlockKind::Missing(reason) => {
+            push_front(text, out.block, out.due)?;
+            text.extend_from_slice(reason_text(*reason))?;
+            text.extend_from_slice(b"\n")
+        }
+    }
+}
+
+fn push_blocks(text: &mut Vec<u8>, blocks: &[BlockOut]) -> Result<(), AllocError>
+    ensures { OnOk result (text.new.items
+        ≡ text.old.items ++ flat_map block_line blocks.now) }
 {
     for block in blocks {
         push_block(text, block)?;
@@ -69,45 +97,61 @@ fn push_blocks(text: &mut String, blocks: &[BlockOut]) -> Result<(), AllocError>
     Ok(())
 }
 
-#[tactic(auto, unfolding(crate::specs::Text::start_line))]
-fn push_start(text: &mut String, out: &Outcome) -> Result<(), AllocError>
-    ensures { OnOk result (string_bytes text.new ≡ string_bytes text.old ++ start_line out.now) }
+fn push_placed(text: &mut Vec<u8>, placed: &Option<Tenancy>) -> Result<(), AllocError>
+    ensures { OnOk result (text.new.items ≡ text.old.items ++ placed_text placed.now) }
 {
-    write!(text, "start {} file {}", out.ask.instance.0, out.ask.file.0)?;
-    match &out.placed {
-        Some(t) => writeln!(text, " slot {} first {}", t.slot.0, t.first),
-        None => text.push_str(" unplaced\n"),
+    match placed {
+        Some(t) => {
+            push_worded(text, b" slot ", t.slot.0 as u64)?;
+            push_worded(text, b" first ", t.first)
+        }
+        None => text.extend_from_slice(b" unplaced"),
     }
 }
 
-fn push_stop(text: &mut String, v: Instance, stop: Option<Beat>) -> Result<(), AllocError>
-    ensures { OnOk result (string_bytes text.new ≡ string_bytes text.old ++ stop_line v.0 stop) }
+#[tactic(auto, unfolding(crate::specs::Text::start_line))]
+fn push_start(text: &mut Vec<u8>, out: &Outcome) -> Result<(), AllocError>
+    ensures { OnOk result (text.new.items ≡ text.old.items ++ start_line out.now) }
+{
+    push_worded(text, b"start ", out.ask.instance.0 as u64)?;
+    push_worded(text, b" file ", out.ask.file.0 as u64)?;
+    push_placed(text, &out.placed)?;
+    text.extend_from_slice(b"\n")
+}
+
+fn push_stop(text: &mut Vec<u8>, v: Instance, stop: Option<Beat>) -> Result<(), AllocError>
+    ensures { OnOk result (text.new.items ≡ text.old.items ++ stop_line v.0 stop) }
 {
     match stop {
-        Some(beat) => writeln!(text, "stop {} at {}", v.0, beat),
+        Some(beat) => {
+            push_worded(text, b"stop ", v.0 as u64)?;
+            push_worded(text, b" at ", beat)?;
+            text.extend_from_slice(b"\n")
+        }
         None => Ok(()),
     }
 }
 
-fn push_counts(text: &mut String, tally: Tally) -> Result<(), AllocError>
-    ensures { OnOk result (string_bytes text.new ≡ string_bytes text.old ++ counts_text tally) }
+fn push_counts(text: &mut Vec<u8>, tally: Tally) -> Result<(), AllocError>
+    ensures { OnOk result (text.new.items ≡ text.old.items ++ counts_text tally) }
 {
-    write!(text, " whole {} pieces {}", tally.whole, tally.pieces)?;
-    write!(text, " missing {}", tally.missing)
+    push_worded(text, b" whole ", tally.whole)?;
+    push_worded(text, b" pieces ", tally.pieces)?;
+    push_worded(text, b" missing ", tally.missing)
 }
 
 fn push_digest(
     alloc: Global,
-    text: &mut String,
+    text: &mut Vec<u8>,
     digest: &Option<Digest32>,
 ) -> Result<(), AllocError>
-    ensures { OnOk result (string_bytes text.new
-        ≡ string_bytes text.old ++ digest_text digest.now) }
+    ensures { OnOk result (text.new.items
+        ≡ text.old.items ++ digest_text digest.now) }
 {
     match digest {
         Some(digest) => {
             let digits = hex::encode(alloc, digest.0.as_slice())?;
-            text.push_str(digits.as_str())
+            text.extend_from_slice(digits.as_str().as_bytes())
         }
         None => Ok(()),
     }
@@ -116,34 +160,35 @@ fn push_digest(
 #[tactic(auto, unfolding(crate::specs::Text::end_line))]
 fn push_end(
     alloc: Global,
-    text: &mut String,
+    text: &mut Vec<u8>,
     v: Instance,
     blocks: &[BlockOut],
     digest: &Option<Digest32>,
 ) -> Result<(), AllocError>
     requires counts { Fits (tally_of blocks.now) }
     requires bytes { bytes_of blocks.now < 2 ^ 64 }
-    ensures { OnOk result (string_bytes text.new
-        ≡ string_bytes text.old ++ end_line v.0 blocks.now digest.now) }
+    ensures { OnOk result (text.new.items
+        ≡ text.old.items ++ end_line v.0 blocks.now digest.now) }
 {
-    write!(text, "end {}", v.0)?;
+    push_worded(text, b"end ", v.0 as u64)?;
     push_counts(text, Tally::of(blocks))?;
-    write!(text, " bytes {} sha256 ", bytes_of(blocks))?;
+    push_worded(text, b" bytes ", bytes_of(blocks))?;
+    text.extend_from_slice(b" sha256 ")?;
     push_digest(alloc, text, digest)?;
-    text.push_str("\n")
+    text.extend_from_slice(b"\n")
 }
 
 /// The last lines of a start: its stop, if there was one, and its counts.
 fn push_ending(
     alloc: Global,
-    text: &mut String,
+    text: &mut Vec<u8>,
     digests: &[Digest32],
     out: &Outcome,
 ) -> Result<(), AllocError>
     requires counts { Fits (tally_of out.now.blocks) }
     requires bytes { bytes_of out.now.blocks < 2 ^ 64 }
-    ensures { OnOk result (string_bytes text.new
-        ≡ string_bytes text.old ++ ending_lines digests.now out.now) }
+    ensures { OnOk result (text.new.items
+        ≡ text.old.items ++ ending_lines digests.now out.now) }
 {
     let v = out.ask.instance;
     push_stop(text, v, out.stop)?;
@@ -154,14 +199,14 @@ fn push_ending(
 #[tactic(auto, unfolding(crate::specs::Text::outcome_lines))]
 fn push_outcome(
     alloc: Global,
-    text: &mut String,
+    text: &mut Vec<u8>,
     digests: &[Digest32],
     out: &Outcome,
 ) -> Result<(), AllocError>
     requires counts { Fits (tally_of out.now.blocks) }
     requires bytes { bytes_of out.now.blocks < 2 ^ 64 }
-    ensures { OnOk result (string_bytes text.new
-        ≡ string_bytes text.old ++ outcome_lines digests.now out.now) }
+    ensures { OnOk result (text.new.items
+        ≡ text.old.items ++ outcome_lines digests.now out.now) }
 {
     push_start(text, out)?;
     push_blocks(text, out.blocks.as_slice())?;
@@ -195,16 +240,15 @@ fn total_tally(outcomes: &[Outcome]) -> Tally
 
 /// Writes the last line of a report.
 #[tactic(auto, unfolding(crate::specs::Text::total_line))]
-pub fn push_total(text: &mut String, outcomes: &[Outcome]) -> Result<(), AllocError>
+pub fn push_total(text: &mut Vec<u8>, outcomes: &[Outcome]) -> Result<(), AllocError>
     requires { Fits (total_tally outcomes.now) }
-    ensures { OnOk result (string_bytes text.new
-        ≡ string_bytes text.old ++ total_line outcomes.now) }
+    ensures { OnOk result (text.new.items
+        ≡ text.old.items ++ total_line outcomes.now) }
 {
-    let starts = outcomes.len();
-    let placed = all_placed(outcomes);
-    write!(text, "total starts {starts} placed {placed}")?;
+    push_worded(text, b"total starts ", outcomes.len() as u64)?;
+    push_worded(text, b" placed ", all_placed(outcomes) as u64)?;
     push_counts(text, total_tally(outcomes))?;
-    text.push_str("\n")
+    text.extend_from_slice(b"\n")
 }
 
 /// The lines of each start, and the total.
@@ -213,12 +257,12 @@ pub fn outcomes_text(
     alloc: Global,
     digests: &[Digest32],
     outcomes: &[Outcome],
-) -> Result<String, AllocError>
+) -> Result<Vec<u8>, AllocError>
     requires counts { Fits (total_tally outcomes.now) }
     requires bytes { BytesFit outcomes.now }
-    ensures { IfOk result (λ text. string_bytes text ≡ outcomes_text digests.now outcomes.now) }
+    ensures { IfOk result (λ text. text.items ≡ outcomes_text digests.now outcomes.now) }
 {
-    let mut text = String::new(alloc);
+    let mut text = Vec::new(alloc);
     for out in outcomes {
         push_outcome(alloc, &mut text, digests, out)?;
     }
@@ -228,13 +272,14 @@ pub fn outcomes_text(
 
 /// Writes how many bytes a report has, and their digest.
 #[tactic(auto, unfolding(crate::specs::Text::size_line))]
-pub fn push_size(alloc: Global, text: &mut String, report: &[u8]) -> Result<(), AllocError>
-    ensures { OnOk result (string_bytes text.new ≡ string_bytes text.old ++ size_line report.now) }
+pub fn push_size(alloc: Global, text: &mut Vec<u8>, report: &[u8]) -> Result<(), AllocError>
+    ensures { OnOk result (text.new.items ≡ text.old.items ++ size_line report.now) }
 {
     let mut hasher = Sha256::new();
     hasher.update(report);
     let digits = hex::encode(alloc, hasher.finalize().as_slice())?;
-    write!(text, "report bytes {} sha256 ", report.len())?;
-    text.push_str(digits.as_str())?;
-    text.push_str("\n")
+    push_worded(text, b"report bytes ", report.len() as u64)?;
+    text.extend_from_slice(b" sha256 ")?;
+    text.extend_from_slice(digits.as_str().as_bytes())?;
+    text.extend_from_slice(b"\n")
 }
