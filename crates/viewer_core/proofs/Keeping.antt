@@ -11,6 +11,7 @@ use Rattle.tiger_base.specs.declared.message.Msg.TheVariants as msg
 use Rattle.visit_rows.proofs.Under.{or_none, under-inserted, under-there}
 use Rattle.viewer_core.specs.declared.viewers.Key.{Key}
 use Rattle.viewer_core.specs.Parts.{KeptParts, key_order, key_of, part_under, unless_kept, with_part}
+use Rattle.viewer_core.specs.Came.{CameParts, kept_of, first_came}
 use Rattle.viewer_core.specs.Rules.{keeping}
 use Rattle.viewer_core.specs.Taken.{is_same, part_in, first_part, FirstPartsAreKept}
 
@@ -58,6 +59,18 @@ with_part_gives : (q k : Key) (part : LibraryPart) (kept : KeptParts)
     → part_under q (with_part k part kept) ≡ option_or (part_under q kept) (brought q k part)
 unfolding with_part
 with_part_gives q k part kept = unless_kept_gives q k part kept (part_under k kept) refl
+
+came_from : (q : Key) (es : CameParts) (kept : KeptParts)
+    → part_under q (fold (λ kept e. with_part e.0 e.1 kept) kept es) ≡ option_or (part_under q kept) (first_came q es)
+came_from q [] kept = sym (or_none (part_under q kept))
+came_from q (e ∷ es) kept =
+    came_from q es (with_part e.0 e.1 kept)
+    ∙ (ap (λ o. option_or o (first_came q es)) (with_part_gives q e.0 e.1 kept)
+    ∙ or_assoc (part_under q kept) (brought q e.0 e.1) (first_came q es))
+
+-- what is kept under a key is the first part that came under it
+pub kept_first : (q : Key) (came : CameParts) → part_under q (kept_of came) ≡ first_came q came
+kept_first q came = came_from q came []
 
 keeping_gives : (q : Key) (m : Msg) (kept : KeptParts) → part_under q (keeping m kept) ≡ option_or (part_under q kept) (part_in q m)
 unfolding keeping

@@ -1,4 +1,4 @@
+pub mod Came
 pub mod Parts
-pub mod Rows
 pub mod Rules
 pub mod Taken

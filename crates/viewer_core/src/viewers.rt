@@ -2,13 +2,12 @@
 ghost use Rattle.std.specs.Prelude.{◌≡◌, [], OnOk};
 ghost use Rattle.viewer_core.specs.Parts.{part_under, with_part};
 ghost use Rattle.viewer_core.specs.Rules.{keeping};
+ghost use Rattle.viewer_core.specs.Came.{first_came};
 
 use node_kit::{Node, Outbox};
 use std::alloc::Global;
-use std::collections::BTreeMap;
 use std::marker::Model;
 use tiger_base::{Instance, LinkNo, Msg, NoMemory, Part, Stamp, Visit, Want};
-use visit_rows::VisitRow;
 
 /// What a part was asked for: an instance, a visit, and a piece, which is 0 for a whole block.
 #[derive(Clone, Copy, Debug, PartialEq, Eq, PartialOrd, Ord)]
@@ -21,20 +20,18 @@ pub struct Key {
 /// The viewers, seen as the parts that they keep, in the order of their keys.
 #[derive(Drop)]
 pub struct Viewers<'a> {
-    alloc: Global,
-    // A tree of all parts is a hundred times as large, and most steps of a search miss the cache.
-    rows: BTreeMap<Instance, VisitRow<Part<'a>>>,
+    // All that came, in its order. Each part is written behind the last one, which is in the cache:
+    // in a table by key it would go to a page that was last touched a block play time ago.
+    came: Vec<(Key, Part<'a>)>,
 }
 
 impl<'a> Model for Viewers<'a> {
     ghost use Rattle.viewer_core.specs.Parts.{KeptParts};
-    ghost use Rattle.viewer_core.specs.Rows.{AreRows, joined};
+    ghost use Rattle.viewer_core.specs.Came.{kept_of};
 
     ghost Value = { KeptParts };
 
-    ghost view = { λ v. joined v.rows.entries };
-
-    ghost invariant = { λ v. AreRows v.rows.entries };
+    ghost view = { λ v. kept_of v.came.items };
 }
 
 impl<'a> Viewers<'a> {
@@ -43,30 +40,32 @@ impl<'a> Viewers<'a> {
         ensures { result ≡ [] }
     {
         Viewers {
-            alloc,
-            rows: BTreeMap::new(alloc),
+            came: Vec::new(alloc),
         }
     }
 
     /// The first part that came for an instance, a visit and a piece, which is 0 for the whole block.
-    /// `None` exactly where no such part came.
+    /// `None` exactly where no such part came. It goes through all that came: no step of a run asks.
+    #[tactic(auto, using(crate::proofs::Keeping::kept_first))]
     pub fn part_of(&self, instance: Instance, visit: Visit, piece: u32) -> Option<Part<'a>>
         ensures { result ≡
             part_under (record { instance = instance; visit = visit; piece = piece }) self.now }
     {
-        let row = self.rows.get(&instance)?;
-        let part = row.get((visit, piece))?;
-        Some(part.again())
+        let key = Key {
+            instance,
+            visit,
+            piece,
+        };
+        first_of(&self.came, key)
     }
 
-    /// Keeps a part, unless one is kept under its key.
-    #[tactic(auto, unfolding(crate::specs::Parts::with_part))]
+    /// Keeps a part behind those that came: of several under one key the first counts.
+    #[tactic(auto, using(std::proofs::lemmas::List::Sums::fold_push))]
     fn keep(&mut self, key: Key, part: Part<'a>) -> Result<(), NoMemory>
         ensures { OnOk result (self.new ≡ with_part key part.entry self.old) }
     {
-        let none_yet = VisitRow::new(self.alloc);
-        let row = self.rows.entry(key.instance)?.or_insert(none_yet);
-        row.keep((key.visit, key.piece), part)
+        self.came.push((key, part))?;
+        Ok(())
     }
 
     /// Takes a message.
@@ -80,6 +79,18 @@ impl<'a> Viewers<'a> {
             _ => Ok(()),
         }
     }
+}
+
+/// The first part that came under a key.
+fn first_of<'a>(came: &[(Key, Part<'a>)], key: Key) -> Option<Part<'a>>
+    ensures { result ≡ first_came key came.now }
+{
+    for entry in came {
+        if entry.0 == key {
+            return Some(entry.1.again());
+        }
+    }
+    None
 }
 
 ghost use Rattle.viewer_core.specs.Parts.{key_of};
