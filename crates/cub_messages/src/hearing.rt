@@ -12,8 +12,8 @@ use crate::pieces::{take_kill, take_piece};
 use crate::starts::take_start;
 use crate::states::take_state;
 use cub_rules::Store;
-use node_kit::{Outbox, Site, in_form};
-use tiger_base::{LinkNo, Message, Msg, NoMemory, Stamp};
+use node_kit::{Outbox, Site, msg_in_form};
+use tiger_base::{LinkNo, Msg, NoMemory, Stamp};
 
 /// What a cub does with a message that came on a link: one that is not in form is ignored.
 #[tactic(auto, unfolding(cub_rules::specs::Messages::taking, cub_rules::specs::Messages::hearing))]
@@ -31,7 +31,7 @@ pub fn hear<'a>(
         (taking site.now.plan.params site.now.cub.0 stamp link msg.entry store.old)
         out.old out.new store.new) }
 {
-    if !in_form(&site.plan, &msg.note()) {
+    if !msg_in_form(&site.plan, &msg) {
         return Ok(());
     }
     match msg {
