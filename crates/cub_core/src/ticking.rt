@@ -6,8 +6,7 @@ ghost use Rattle.cub_rules.specs.State.{IsStoreOf};
 ghost use Rattle.cub_rules.specs.Ticks.{ticking};
 
 use cub_rules::Store;
-use cub_steps::{beat, insert, release, watch};
-use cub_walks::{forward, read, serve, split};
+use cub_tick::{beat, forward, insert, read, release, serve, split, watch};
 use node_kit::{Outbox, Site};
 use tiger_base::{Msg, NoMemory, Stamp};
 

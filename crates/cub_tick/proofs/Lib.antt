@@ -1,0 +1,15 @@
+pub mod Asked
+pub mod Parts
+pub mod Placed
+pub mod Served
+pub mod Splits
+pub mod States
+pub mod Steps
+pub mod Stops
+pub mod Unsplit
+pub mod FullDisks
+pub mod Waiting
+pub mod Going
+pub mod Putting
+pub mod Visits
+pub mod Turns

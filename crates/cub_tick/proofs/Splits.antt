@@ -1,0 +1,325 @@
+-- What the splitting of visits makes of what a cub keeps.
+use Rattle.std.proofs.Common.{◌≡◌, ℕ, ◌+◌, ◌-◌, ◌<◌, ◌≤◌, zero, suc, add-zero, Bool, true, false, cond, not, List, [], ◌∷◌, ◌++◌, map, take, drop, Option, Some, None, refl, sym, ap, ◌∙◌, arith, append_assoc}
+use Rattle.std.specs.List.{AllByRecursion, flat_map, range_with_len}
+use Rattle.std.proofs.lemmas.List.{append-nil}
+use Rattle.std.proofs.lemmas.Grind.{flat_map-append}
+use Rattle.std.proofs.lemmas.Bool.{both_ways}
+use Rattle.tiger_base.specs.declared.number.Stamp.{Stamp}
+use Rattle.tiger_base.specs.declared.message.Msg.{Msg}
+use Rattle.tiger_base.specs.declared.tenancy.PieceState.{PieceState}
+use Rattle.tiger_base.specs.declared.tenancy.Rec.{Rec}
+use Rattle.slot_plan.specs.declared.params.Params.{Params}
+use Rattle.slot_plan.specs.Keys.{Key}
+use Rattle.node_kit.specs.declared.outbox.Out.{Out}
+use Rattle.partial_view.specs.declared.line.Line.{Line}
+use Rattle.partial_view.specs.declared.line.Flag.TheVariants as flag
+use Rattle.partial_view.specs.Lines.{key_of, marked}
+use Rattle.partial_view.proofs.Calls.{record_of}
+use Rattle.partial_view.proofs.Order.{all_implies}
+use Rattle.partial_view.specs.Views.{Seen, IsWalk, line_at, next_behind, with_mark}
+use Rattle.partial_view.specs.Walks.{replaced, KeepsVisits, IsFirstFor, left}
+use Rattle.partial_view.proofs.Begins.{flat_map-same}
+use Rattle.partial_view.proofs.Walks.{on, fewer, ended_view, ended_outs}
+use Rattle.mirror_schedule.specs.Sorted.{gap_from}
+use Rattle.mirror_schedule.specs.Pieces.{Pieces, IsPieces, pieces_of, is_in, with_piece, comes_before}
+use Rattle.mirror_schedule.specs.Splits.{Split, with_split}
+use Rattle.mirror_schedule.proofs.Orders.{with_one-there}
+use Rattle.mirror_schedule.proofs.PieceLists.{is_in-new}
+use Rattle.node_kit.specs.Steps.{Deed}
+use Rattle.node_kit.specs.Deeds.{Did, nothing}
+use Rattle.cub_rules.specs.declared.store.Store.{Store}
+use Rattle.cub_rules.specs.Records.{with_piece_record, pieces_with}
+use Rattle.cub_rules.specs.Ticks.{must_split, split_line, split_outs, split_visits, first_pieces, with_each, sent_ahead, splitting}
+use Rattle.cub_tick.specs.Splitting.{with_split_of, sent_pieces, with_new, SplitTo}
+use Rattle.cub_tick.proofs.Steps.{line_marked, line_unmarked, one_each, none_given}
+
+pub not_false : (t : Bool) → not t ≡ false → t ≡ true
+not_false true e = refl
+not_false false e = absurd (cc)
+
+-- a piece that is there, put in
+put_there : (q : Params) (x : PieceState) (items : List PieceState) → IsPieces q items → is_in x items ≡ true → with_piece q x items ≡ items
+unfolding with_piece
+put_there q x items order there = by_gap (gap_from (comes_before q) x 0 items) refl
+  where
+    by_gap : (o : Option ℕ) → gap_from (comes_before q) x 0 items ≡ o → with_piece q x items ≡ items
+    by_gap None e = with_one-there (comes_before q) x 0 items e
+    by_gap (Some place) e = absurd (both_ways (is_in x items) (is_in-new q x items place order e) there)
+
+pub put_known : (x : PieceState) (ps now : Pieces) → IsPieces ps.params ps.items → is_in x ps.items ≡ true → now ≡ pieces_with x ps → now ≡ with_new x ps ps
+put_known x ps now order there e =
+    e ∙ (ap (λ (ys : List PieceState). seen ps.params ys) (put_there ps.params x ps.items order there) ∙ ap (λ (t : Bool). cond t ps (pieces_with x ps)) (sym there))
+  where
+    seen : Params → List PieceState → Pieces
+    seen q ys = record { params = q; items = ys }
+
+-- the pieces that go ahead
+abbrev pub piece_at : Rec → ℕ → PieceState
+piece_at r k = record { tenancy = r.tenancy; visit = r.visit; piece = k }
+
+abbrev pub sent_to : Params → ℕ → Rec → ℕ → List (Out Msg)
+sent_to p cub r n = map (sent_ahead p cub) (map (piece_at r) (range_with_len 2 n))
+
+range_more : {X Y : Type 0} (f : Y → X) (g : ℕ → Y) (a n : ℕ) → map f (map g (range_with_len a (suc n))) ≡ map f (map g (range_with_len a n)) ++ f (g (a + n)) ∷ []
+range_more f g a zero = ap (λ (m : ℕ). f (g m) ∷ []) (sym (add-zero a))
+range_more f g a (suc n) =
+    let e : a + 1 + n ≡ a + suc n = omega arith in
+    ap (λ zs. f (g a) ∷ zs) (range_more f g (a + 1) n ∙ ap (λ (m : ℕ). map f (map g (range_with_len (a + 1) n)) ++ f (g m) ∷ []) e)
+
+pub sent_more : (p : Params) (cub : ℕ) (r : Rec) (k : ℕ) (old now after : List (Out Msg)) → 2 ≤ k → now ≡ old ++ sent_to p cub r (k - 2) → after ≡ now ++ sent_ahead p cub (piece_at r k) ∷ []
+    → after ≡ old ++ sent_to p cub r (k + 1 - 2)
+sent_more p cub r k old now after low e f =
+    let next : 2 + (k - 2) ≡ k = omega (arith, low) in
+    let more : suc (k - 2) ≡ k + 1 - 2 = omega (arith, low) in
+    let longer : sent_to p cub r (suc (k - 2)) ≡ sent_to p cub r (k - 2) ++ sent_ahead p cub (piece_at r k) ∷ [] =
+    range_more (sent_ahead p cub) (piece_at r) 2 (k - 2) ∙ ap (λ (m : ℕ). sent_to p cub r (k - 2) ++ sent_ahead p cub (piece_at r m) ∷ []) next in
+    f ∙ (ap (λ (zs : List (Out Msg)). zs ++ sent_ahead p cub (piece_at r k) ∷ []) e ∙ append_assoc old (sent_to p cub r (k - 2)) _)
+    ∙ ap (λ (zs : List (Out Msg)). old ++ zs) (sym longer ∙ ap (λ (m : ℕ). sent_to p cub r m) more)
+
+behind_first : {Y : Type 0} (g : ℕ → Y) (n : ℕ) → 1 ≤ n → map g (range_with_len 2 (n + 1 - 2)) ≡ drop 1 (map g (range_with_len 1 n))
+behind_first g zero h = absurd (omega (arith, h))
+behind_first g (suc m) h =
+    let e : suc m + 1 - 2 ≡ m = omega arith in
+    ap (λ (i : ℕ). map g (range_with_len 2 i)) e
+
+pub sent_all : (p : Params) (cub : ℕ) (r : Rec) (k : ℕ) (old now : List (Out Msg)) → 1 ≤ p.pieces → k ≡ p.pieces + 1 → now ≡ old ++ sent_to p cub r (k - 2) → now ≡ old ++ sent_pieces p cub r
+unfolding pieces_of
+sent_all p cub r k old now some end e =
+    e ∙ ap (λ (zs : List (Out Msg)). old ++ zs) (ap (λ (m : ℕ). sent_to p cub r (m - 2)) end ∙ ap (λ (ys : List PieceState). map (sent_ahead p cub) ys) (behind_first (piece_at r) p.pieces some))
+
+first_one : {Y : Type 0} (g : ℕ → Y) (n : ℕ) → 1 ≤ n → take 1 (map g (range_with_len 1 n)) ≡ g 1 ∷ []
+first_one g zero h = absurd (omega (arith, h))
+first_one g (suc m) h = refl
+
+first_of : (p : Params) (r : Rec) → 1 ≤ p.pieces → take 1 (pieces_of p r) ≡ piece_at r 1 ∷ []
+unfolding pieces_of
+first_of p r some = first_one (piece_at r) p.pieces some
+
+-- what is added one after another
+each_append : {X S : Type 0} (add : X → S → S) (xs ys : List X) (s : S) → with_each add (xs ++ ys) s ≡ with_each add ys (with_each add xs s)
+each_append add [] ys s = refl
+each_append add (x ∷ xs) ys s = each_append add xs ys (add x s)
+
+-- piece records change neither the view nor the split visits
+abbrev changed : Store → Seen → List Split → Store
+changed h view splits = record h { view = view; splits = splits }
+
+-- the view, the split visits and both sets of pieces
+abbrev all_of : Store → Seen → List Split → Pieces → Pieces → Store
+all_of h view splits pieces unasked = record h { view = view; splits = splits; pieces = pieces; unasked = unasked }
+
+piece_fields : (x : PieceState) (h : Store) → with_piece_record x h ≡ record h { pieces = with_new x h.pieces h.pieces; unasked = with_new x h.pieces h.unasked }
+unfolding with_piece_record
+piece_fields x h =
+    elim (is_in x h.pieces.items) as (λ t. cond t h (record h { pieces = pieces_with x h.pieces; unasked = pieces_with x h.unasked })
+    ≡ record h { pieces = cond t h.pieces (pieces_with x h.pieces); unasked = cond t h.unasked (pieces_with x h.unasked) }) [
+      | true ↦ refl
+      | false ↦ refl
+    ]
+
+piece_apart : (x : PieceState) (h : Store) (view : Seen) (splits : List Split) → with_piece_record x (changed h view splits) ≡ changed (with_piece_record x h) view splits
+unfolding with_piece_record
+piece_apart x h view splits =
+    elim (is_in x h.pieces.items) as (λ t. cond t (changed h view splits) (record (changed h view splits) { pieces = pieces_with x h.pieces; unasked = pieces_with x h.unasked })
+    ≡ changed (cond t h (record h { pieces = pieces_with x h.pieces; unasked = pieces_with x h.unasked })) view splits) [
+      | true ↦ refl
+      | false ↦ refl
+    ]
+
+pieces_apart : (xs : List PieceState) (h : Store) (view : Seen) (splits : List Split) → with_each with_piece_record xs (changed h view splits) ≡ changed (with_each with_piece_record xs h) view splits
+pieces_apart [] h view splits = refl
+pieces_apart (x ∷ xs) h view splits =
+    ap (λ (g : Store). with_each with_piece_record xs g) (piece_apart x h view splits) ∙ pieces_apart xs (with_piece_record x h) view splits
+
+-- nor do they change the plan of the pieces
+piece_plan : (x : PieceState) (h : Store) → ((with_piece_record x h).pieces.params ≡ h.pieces.params) × ((with_piece_record x h).unasked.params ≡ h.unasked.params)
+unfolding with_piece_record
+piece_plan x h =
+    elim (is_in x h.pieces.items) as (λ t. ((cond t h (record h { pieces = pieces_with x h.pieces; unasked = pieces_with x h.unasked })).pieces.params ≡ h.pieces.params)
+    × ((cond t h (record h { pieces = pieces_with x h.pieces; unasked = pieces_with x h.unasked })).unasked.params ≡ h.unasked.params)) [
+      | true ↦ (refl, refl)
+      | false ↦ (refl, refl)
+    ]
+
+pieces_plan : (xs : List PieceState) (h : Store) → ((with_each with_piece_record xs h).pieces.params ≡ h.pieces.params) × ((with_each with_piece_record xs h).unasked.params ≡ h.unasked.params)
+pieces_plan [] h = (refl, refl)
+pieces_plan (x ∷ xs) h =
+    let rest = pieces_plan xs (with_piece_record x h) in
+    let here = piece_plan x h in
+    (rest.0 ∙ here.0, rest.1 ∙ here.1)
+
+module _ (p : Params) (stamp : Stamp) where
+  pub view_then : (xs : List Line) (view : Seen) (h : Store) → (with_split_of p stamp xs view h).view ≡ view
+  view_then xs view h =
+      ap (λ (g : Store). g.view) (pieces_apart (flat_map (first_pieces p stamp) xs) h view (with_each with_split (flat_map (split_visits p stamp) xs) h.splits))
+
+  plan_then : (xs : List Line) (view : Seen) (h : Store) → ((with_split_of p stamp xs view h).pieces.params ≡ h.pieces.params) × ((with_split_of p stamp xs view h).unasked.params ≡ h.unasked.params)
+  plan_then xs view h = pieces_plan (flat_map (first_pieces p stamp) xs) (changed h view (with_each with_split (flat_map (split_visits p stamp) xs) h.splits))
+
+  -- some lines, and then others
+  split_more : (xs ys : List Line) (between view : Seen) (h : Store) → with_split_of p stamp ys view (with_split_of p stamp xs between h) ≡ with_split_of p stamp (xs ++ ys) view h
+  split_more xs ys between view h =
+      let visits : List Line → List Split = λ zs. flat_map (split_visits p stamp) zs in
+      let firsts : List Line → List PieceState = λ zs. flat_map (first_pieces p stamp) zs in
+      let one : List Split = with_each with_split (visits xs) h.splits in
+      let two : List Split = with_each with_split (visits ys) one in
+      let done : with_split_of p stamp xs between h ≡ changed (with_each with_piece_record (firsts xs) h) between one = pieces_apart (firsts xs) h between one in
+      ap (λ (g : Store). with_split_of p stamp ys view g) done
+      ∙ (ap (λ (g : Store). with_each with_piece_record (firsts ys) g) (sym (pieces_apart (firsts xs) h view two))
+      ∙ (sym (each_append with_piece_record (firsts xs) (firsts ys) (changed h view two))
+      ∙ (ap (λ (ps : List PieceState). with_each with_piece_record ps (changed h view two)) (sym (flat_map-append (first_pieces p stamp) xs ys))
+      ∙ ap (λ (s : List Split). with_each with_piece_record (firsts (xs ++ ys)) (changed h view s))
+      (sym (ap (λ (zs : List Split). with_each with_split zs h.splits) (flat_map-append (split_visits p stamp) xs ys) ∙ each_append with_split (visits xs) (visits ys) h.splits)))))
+
+  -- what one line adds, by its test
+  one_of : (x : Line) (h : Store) (view : Seen) → 1 ≤ p.pieces → must_split p stamp x ≡ true
+      → with_split_of p stamp (x ∷ []) view h ≡ with_piece_record (piece_at x.rec 1) (changed h view (with_split (x.rec.tenancy.instance, x.rec.tenancy.slot, x.rec.visit) h.splits))
+  one_of x h view some is =
+      let firsts : first_pieces p stamp x ≡ piece_at x.rec 1 ∷ [] = ap (λ (t : Bool). cond t (take 1 (pieces_of p x.rec)) []) is ∙ first_of p x.rec some in
+      let visits : split_visits p stamp x ≡ (x.rec.tenancy.instance, x.rec.tenancy.slot, x.rec.visit) ∷ [] = ap (λ (t : Bool). cond t ((x.rec.tenancy.instance, x.rec.tenancy.slot, x.rec.visit) ∷ []) []) is in
+      ap (λ (ps : List PieceState). with_each with_piece_record (ps ++ []) (changed h view (with_each with_split (split_visits p stamp x ++ []) h.splits))) firsts
+      ∙ ap (λ (ss : List Split). with_each with_piece_record (piece_at x.rec 1 ∷ []) (changed h view (with_each with_split (ss ++ []) h.splits))) visits
+
+  none_of : (x : Line) (h : Store) (view : Seen) → must_split p stamp x ≡ false → with_split_of p stamp (x ∷ []) view h ≡ changed h view h.splits
+  none_of x h view is =
+      let firsts : first_pieces p stamp x ≡ [] = ap (λ (t : Bool). cond t (take 1 (pieces_of p x.rec)) []) is in
+      let visits : split_visits p stamp x ≡ [] = ap (λ (t : Bool). cond t ((x.rec.tenancy.instance, x.rec.tenancy.slot, x.rec.visit) ∷ []) []) is in
+      ap (λ (ps : List PieceState). with_each with_piece_record (ps ++ []) (changed h view (with_each with_split (split_visits p stamp x ++ []) h.splits))) firsts
+      ∙ ap (λ (ss : List Split). with_each with_piece_record [] (changed h view (with_each with_split (ss ++ []) h.splits))) visits
+
+  -- one line, split
+  pub split_one : (x : Line) (h : Store) (view : Seen) (splits : List Split) (pieces unasked : Pieces) → 1 ≤ p.pieces → must_split p stamp x ≡ true
+      → IsWalk h.view.params h.view.lines → line_at (key_of x) h.view.lines ≡ Some x
+      → view ≡ record h.view { lines = with_mark (key_of x) flag.Split h.view.lines }
+      → splits ≡ with_split (x.rec.tenancy.instance, x.rec.tenancy.slot, x.rec.visit) h.splits
+      → pieces ≡ with_new (piece_at x.rec 1) h.pieces h.pieces → unasked ≡ with_new (piece_at x.rec 1) h.pieces h.unasked
+      → record h { view = view; splits = splits; pieces = pieces; unasked = unasked } ≡ with_split_of p stamp (x ∷ []) (record h.view { lines = replaced (key_of x) (split_line p stamp x ∷ []) h.view.lines }) h
+  split_one x h view splits pieces unasked some is walk there v s q u =
+      let first : PieceState = piece_at x.rec 1 in
+      let visit : Split = (x.rec.tenancy.instance, x.rec.tenancy.slot, x.rec.visit) in
+      let others : Seen = record h.view { lines = replaced (key_of x) (split_line p stamp x ∷ []) h.view.lines } in
+      ap (λ (w : Seen). all_of h w splits pieces unasked) (line_marked h.view x (must_split p stamp x) flag.Split is walk there v)
+      ∙ (ap (λ (w : List Split). all_of h others w pieces unasked) s
+      ∙ (ap (λ (w : Pieces). all_of h others (with_split visit h.splits) w unasked) q
+      ∙ (ap (λ (w : Pieces). all_of h others (with_split visit h.splits) (with_new first h.pieces h.pieces) w) u
+      ∙ (ap (λ (g : Store). changed g others (with_split visit h.splits)) (sym (piece_fields first h))
+      ∙ (sym (piece_apart first h others (with_split visit h.splits))
+      ∙ sym (one_of x h others some is))))))
+
+  -- a line that is not split
+  pub split_none : (x : Line) (h : Store) → must_split p stamp x ≡ false → IsWalk h.view.params h.view.lines → line_at (key_of x) h.view.lines ≡ Some x
+      → h ≡ with_split_of p stamp (x ∷ []) (record h.view { lines = replaced (key_of x) (split_line p stamp x ∷ []) h.view.lines }) h
+  split_none x h is walk there =
+      let others : Seen = record h.view { lines = replaced (key_of x) (split_line p stamp x ∷ []) h.view.lines } in
+      ap (λ (w : Seen). changed h w h.splits) (line_unmarked h.view x (must_split p stamp x) flag.Split is walk there) ∙ sym (none_of x h others is)
+
+-- a line that is split stays at its visit
+split_keeps : (p : Params) (stamp : Stamp) → KeepsVisits (λ x. split_line p stamp x ∷ [])
+split_keeps p stamp x =
+    (elim (must_split p stamp x) as (λ t. key_of (cond t (marked flag.Split x) x) ≡ key_of x) [ true ↦ refl | false ↦ refl ], tt)
+
+singles : (xs : List Line) → flat_map (λ x. x ∷ []) xs ≡ xs
+singles [] = refl
+singles (x ∷ xs) = ap (λ (ys : List Line). x ∷ ys) (singles xs)
+
+outs_more : {X : Type 0} (f : Line → List X) (xs : List Line) (x : Line) → flat_map f (xs ++ x ∷ []) ≡ flat_map f xs ++ f x
+outs_more f xs x = flat_map-append f xs (x ∷ []) ∙ ap (λ zs. flat_map f xs ++ zs) (append-nil (f x))
+
+-- lines that are not split leave the store and the outputs as they are
+store_still : (p : Params) (stamp : Stamp) (before : Store) (xs : List Line) → AllByRecursion (λ x. must_split p stamp x ≡ false) xs → before ≡ with_split_of p stamp xs before.view before
+store_still p stamp before xs h =
+    let firsts : flat_map (first_pieces p stamp) xs ≡ [] = none_given (must_split p stamp) _ xs h in
+    let visits : flat_map (split_visits p stamp) xs ≡ [] = none_given (must_split p stamp) _ xs h in
+    sym (ap (λ (ps : List PieceState). with_each with_piece_record ps (changed before before.view (with_each with_split (flat_map (split_visits p stamp) xs) before.splits))) firsts
+    ∙ ap (λ (ss : List Split). changed before before.view (with_each with_split ss before.splits)) visits)
+
+outs_still : (p : Params) (cub : ℕ) (stamp : Stamp) (outs : List (Out Msg)) (xs : List Line) → AllByRecursion (λ x. must_split p stamp x ≡ false) xs → outs ≡ outs ++ flat_map (split_outs p cub stamp) xs
+outs_still p cub stamp outs xs h =
+    let sent : flat_map (split_outs p cub stamp) xs ≡ [] = none_given (must_split p stamp) _ xs h in
+    sym (ap (λ (zs : List (Out Msg)). outs ++ zs) sent ∙ append-nil outs)
+
+line_still : (p : Params) (stamp : Stamp) (x : Line) → must_split p stamp x ≡ false → split_line p stamp x ∷ [] ≡ x ∷ []
+line_still p stamp x is = rw is refl
+
+module _ {p : Params} {cub : ℕ} {stamp : Stamp} {before : Store} {outs_before : List (Out Msg)} where
+  -- a walk that splits begins at the first line for which that may be to do, goes on and ends
+  pub split_begun : (test : Line → Bool) {next : Option Line} → IsWalk before.view.params before.view.lines → IsFirstFor test before.view.lines next
+      → ((x : Line) → test x ≡ false → must_split p stamp x ≡ false) → SplitTo p cub stamp before outs_before before outs_before next
+  split_begun test w b still =
+      let none : AllByRecursion (λ x. must_split p stamp x ≡ false) b.done = all_implies (λ x. test x ≡ false) (λ x. must_split p stamp x ≡ false) still b.done b.none in
+      let same : flat_map (λ x. split_line p stamp x ∷ []) b.done ≡ b.done =
+      flat_map-same (λ x. split_line p stamp x ∷ []) b.done (all_implies (λ x. must_split p stamp x ≡ false) (λ x. split_line p stamp x ∷ [] ≡ x ∷ []) (line_still p stamp) b.done none) in
+      record {
+        done = b.done;
+        walk = record {
+          done = b.done;
+          ahead = b.ahead;
+          parts = b.parts;
+          view = ap (λ (ys : List Line). record_of before.view.params ys) (b.parts ∙ sym (ap (λ (ys : List Line). ys ++ b.ahead) same));
+          outs = sym (singles b.done);
+          first = b.first;
+          walk = w;
+          walk_now = w;
+          keeps = split_keeps p stamp;
+        };
+        store = store_still p stamp before b.done none;
+        outs = outs_still p cub stamp outs_before b.done none;
+      }
+
+  module _ {now : Store} {outs_now : List (Out Msg)} {next : Option Line} (t : SplitTo p cub stamp before outs_before now outs_now next) where
+    pub split_plan : (now.pieces.params ≡ before.pieces.params) × (now.unasked.params ≡ before.unasked.params)
+    split_plan =
+        let then = plan_then p stamp t.done now.view before in
+        (ap (λ (g : Store). g.pieces.params) t.store ∙ then.0, ap (λ (g : Store). g.unasked.params) t.store ∙ then.1)
+
+    module _ (x : Line) {after : Store} (step : after ≡ with_split_of p stamp (x ∷ []) (record now.view { lines = replaced (key_of x) (split_line p stamp x ∷ []) now.view.lines }) now) where
+      pub split_view : after.view ≡ record now.view { lines = replaced (key_of x) (split_line p stamp x ∷ []) now.view.lines }
+      split_view = ap (λ (g : Store). g.view) step ∙ view_then p stamp (x ∷ []) (record now.view { lines = replaced (key_of x) (split_line p stamp x ∷ []) now.view.lines }) now
+
+      module _ (is : next ≡ Some x) {then : Option Line} {k : Key} (key_is : k ≡ key_of x) (is_then : then ≡ next_behind after.view.params (Some k) after.view.lines) (walk_after : IsWalk after.view.params after.view.lines) where
+        pub split_fewer : left then after.view < left next now.view
+        split_fewer = fewer t.walk is split_view refl key_is is_then walk_after
+
+        pub split_on : {outs_after : List (Out Msg)} → outs_after ≡ outs_now ++ split_outs p cub stamp x → SplitTo p cub stamp before outs_before after outs_after then
+        split_on {outs_after} e = record {
+          done = t.done ++ x ∷ [];
+          walk = on t.walk is split_view refl key_is is_then walk_after;
+          store =
+              step ∙ (ap (λ (w : Seen). with_split_of p stamp (x ∷ []) w now) (sym split_view)
+              ∙ (ap (λ (g : Store). with_split_of p stamp (x ∷ []) after.view g) t.store ∙ split_more p stamp t.done (x ∷ []) now.view after.view before));
+          outs =
+              e ∙ (ap (λ (zs : List (Out Msg)). zs ++ split_outs p cub stamp x) t.outs
+              ∙ (append_assoc outs_before (flat_map (split_outs p cub stamp) t.done) (split_outs p cub stamp x)
+              ∙ ap (λ (zs : List (Out Msg)). outs_before ++ zs) (sym (outs_more (split_outs p cub stamp) t.done x))));
+        }
+
+    module _ (end : next ≡ None) where
+      all_done : t.done ≡ before.view.lines
+      all_done = ended_outs t.walk end ∙ singles before.view.lines
+
+      pub split_store : now ≡ with_split_of p stamp before.view.lines (record before.view { lines = map (split_line p stamp) before.view.lines }) before
+      split_store =
+          t.store ∙ (ap (λ (xs : List Line). with_split_of p stamp xs now.view before) all_done
+          ∙ ap (λ (w : Seen). with_split_of p stamp before.view.lines w before) (one_each (split_line p stamp) before.view now.view (ended_view t.walk end)))
+
+      pub split_sent : outs_now ≡ outs_before ++ flat_map (split_outs p cub stamp) before.view.lines
+      split_sent = t.outs ∙ ap (λ (xs : List Line). outs_before ++ flat_map (split_outs p cub stamp) xs) all_done
+
+-- the splitting, where the predecessor is believed dead and where it is not
+did_where : {S : Type 0} (t : Bool) (d e : Deed Msg S) (outs now : List (Out Msg)) (s : S) → t ≡ true → Did d outs now s → Did (cond t d e) outs now s
+did_where true d e outs now s is done = done
+did_where false d e outs now s is done = absurd (cc)
+
+did_else : {S : Type 0} (t : Bool) (d e : Deed Msg S) (outs now : List (Out Msg)) (s : S) → t ≡ false → Did e outs now s → Did (cond t d e) outs now s
+did_else true d e outs now s is done = absurd (cc)
+did_else false d e outs now s is done = done
+
+pub split_all : (p : Params) (cub : ℕ) (stamp : Stamp) (h now : Store) (outs outs_now : List (Out Msg)) → h.believes ≡ true
+    → now ≡ with_split_of p stamp h.view.lines (record h.view { lines = map (split_line p stamp) h.view.lines }) h → outs_now ≡ outs ++ flat_map (split_outs p cub stamp) h.view.lines
+    → Did (splitting p cub stamp h) outs outs_now now
+unfolding splitting
+split_all p cub stamp h now outs outs_now is e f = did_where h.believes _ (nothing h) outs outs_now now is (f, e)
+
+pub split_not : (p : Params) (cub : ℕ) (stamp : Stamp) (h : Store) (outs : List (Out Msg)) → h.believes ≡ false → Did (splitting p cub stamp h) outs outs h
+unfolding splitting
+split_not p cub stamp h outs is = did_else h.believes _ (nothing h) outs outs h is (sym (append-nil outs), refl)

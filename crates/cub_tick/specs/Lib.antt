@@ -1,0 +1,5 @@
+pub mod Leavings
+pub mod Limits
+pub mod Splitting
+pub mod Stopping
+pub mod Placing

@@ -1,0 +1,198 @@
+//! Splitting: the visits of a dead predecessor are split into mirror pieces.
+ghost use Rattle.std.specs.Prelude.{◌≡◌, ◌^◌, ◌≤◌, ◌++◌, ◌∷◌, [], OnOk, Some, map};
+ghost use Rattle.std.specs.List.{flat_map};
+ghost use Rattle.tiger_base.specs.Limits.{most_reading};
+ghost use Rattle.slot_plan.specs.Keys.{IsKey};
+ghost use Rattle.partial_view.specs.Lines.{key_of};
+ghost use Rattle.partial_view.specs.Views.{IsWalk, line_at};
+ghost use Rattle.partial_view.specs.Walks.{replaced};
+ghost use Rattle.mirror_schedule.specs.Pieces.{IsPieceOf, IsPieces};
+ghost use Rattle.node_kit.specs.Deeds.{Did};
+ghost use Rattle.cub_rules.specs.State.{IsStoreOf, IsLineOf};
+ghost use Rattle.cub_rules.specs.Ticks.{splitting, must_split, split_line, split_outs, sent_ahead};
+ghost use Rattle.cub_tick.specs.Limits.{split_limit};
+ghost use Rattle.cub_tick.specs.Splitting.{with_split_of, sent_pieces, with_new};
+
+use crate::walking::after_near;
+use cub_rules::Store;
+use mirror_schedule::PieceView;
+use node_kit::{Out, Outbox, Site};
+use partial_view::{Flag, Line};
+use slot_plan::Plan;
+use tiger_base::{Micros, Msg, NoMemory, PieceState, Rec, Stamp};
+
+/// If the predecessor is believed dead, splits the visit of each backup record that is due late
+/// enough and was not split yet: the first piece becomes the cub's own piece record, and the mirror
+/// states of the others go to the next cubs. Only those lines are walked whose visit may be left to
+/// split.
+pub fn split<'a>(
+    site: &Site,
+    stamp: Stamp,
+    store: &mut Store<'a>,
+    out: &mut Outbox<Msg<'a>>,
+) -> Result<(), NoMemory>
+    requires reading { stamp.reading ≤ most_reading }
+    requires stored { IsStoreOf site.now.plan.params site.now.cub.0 store.old }
+    ensures { OnOk result (Did
+        (splitting site.now.plan.params site.now.cub.0 stamp store.old)
+        out.old out.new store.new) }
+{
+    if !store.believes {
+        return Ok(());
+    }
+    let limit = split_limit(&site.plan, stamp);
+    if store.view.is_split_from(limit) {
+        return Ok(());
+    }
+    split_lines(site, stamp, store, out)?;
+    // All that is due from the limit on is split, and the limit only rises: a beat walks again only after a new record.
+    store.view.set_split_from(limit);
+    Ok(())
+}
+
+/// The time from which on visits are split in a beat; those that are due earlier are due too early.
+#[tactic(auto, unfolding(crate::specs::Limits::split_limit))]
+fn split_limit(plan: &Plan, stamp: Stamp) -> Micros
+    requires { stamp.reading ≤ most_reading }
+    ensures { result ≡ split_limit plan.now.params stamp }
+{
+    let params = plan.params();
+    let way = params.delay * params.beat;
+    stamp.reading + params.read_lead + params.skew + way + params.beat
+}
+
+/// Splits the visits of all lines: the walk begins at the first line whose visit may be left to
+/// split.
+fn split_lines<'a>(
+    site: &Site,
+    stamp: Stamp,
+    store: &mut Store<'a>,
+    out: &mut Outbox<Msg<'a>>,
+) -> Result<(), NoMemory>
+    requires reading { stamp.reading ≤ most_reading }
+    requires stored { IsStoreOf site.now.plan.params site.now.cub.0 store.old }
+    ensures store { let p = site.now.plan.params in let before = store.old.view in
+        OnOk result (store.new ≡ with_split_of p stamp before.lines
+        (record before { lines = map (split_line p stamp) before.lines }) store.old) }
+    ensures outs { OnOk result (out.new ≡ out.old
+        ++ flat_map (split_outs site.now.plan.params site.now.cub.0 stamp) store.old.view.lines) }
+{
+    let limit = split_limit(&site.plan, stamp);
+    // The walk takes no line out: the line that it stands at stays at its place.
+    let (mut place, mut next) = store.view.first_unsplit(limit);
+    while let Some(line) = next {
+        split_line(site, stamp, store, place, line, out)?;
+        next = after_near(&store.view, place, line.key());
+        place = place.saturating_add(1);
+    }
+    Ok(())
+}
+
+/// Splits the visit of one line, which is looked for at a place first.
+fn split_line<'a>(
+    site: &Site,
+    stamp: Stamp,
+    store: &mut Store<'a>,
+    place: usize,
+    line: Line,
+    out: &mut Outbox<Msg<'a>>,
+) -> Result<(), NoMemory>
+    requires reading { stamp.reading ≤ most_reading }
+    requires pieces { store.old.pieces.params ≡ site.now.plan.params }
+    requires unasked { store.old.unasked.params ≡ site.now.plan.params }
+    requires line { IsLineOf site.now.plan.params site.now.cub.0 line }
+    requires key { IsKey store.old.view.params (key_of line) }
+    requires there { line_at (key_of line) store.old.view.lines ≡ Some line }
+    requires walk { IsWalk store.old.view.params store.old.view.lines }
+    ensures store { let p = site.now.plan.params in let before = store.old.view in
+        let after = replaced (key_of line) (split_line p stamp line ∷ []) before.lines in
+        OnOk result (store.new
+        ≡ with_split_of p stamp (line ∷ []) (record before { lines = after }) store.old) }
+    ensures outs { OnOk result (out.new ≡ out.old
+        ++ split_outs site.now.plan.params site.now.cub.0 stamp line) }
+{
+    if must_split(&site.plan, stamp, &line) {
+        send_pieces(site, line.rec, out)?;
+        let first = PieceState {
+            tenancy: line.rec.tenancy,
+            visit: line.rec.visit,
+            piece: 1,
+        };
+        add_piece(&mut store.pieces, &mut store.unasked, first)?;
+        let tenancy = &line.rec.tenancy;
+        store
+            .splits
+            .remember(tenancy.instance, tenancy.slot, line.rec.visit)?;
+        store
+            .view
+            .mark_near(place, tenancy.slot, line.rec.visit, Flag::Split);
+    }
+    Ok(())
+}
+
+/// Whether the visit of a line is split.
+#[tactic(auto, unfolding(cub_rules::specs::Ticks::must_split, crate::specs::Limits::split_limit))]
+fn must_split(plan: &Plan, stamp: Stamp, line: &Line) -> bool
+    requires reading { stamp.reading ≤ most_reading }
+    requires key { IsKey plan.now.params (key_of line.now) }
+    ensures { result ≡ must_split plan.now.params stamp line.now }
+{
+    if line.rec.kind.is_own() || line.split {
+        return false;
+    }
+    split_limit(plan, stamp) <= plan.due(line.rec.tenancy.slot, line.rec.visit)
+}
+
+/// Sends the mirror states of a visit's pieces but the first.
+fn send_pieces<'a>(site: &Site, rec: Rec, out: &mut Outbox<Msg<'a>>) -> Result<(), NoMemory>
+    ensures { OnOk result (out.new ≡ out.old
+        ++ sent_pieces site.now.plan.params site.now.cub.0 rec) }
+{
+    for k in 2..site.plan.params.pieces + 1 {
+        let piece = PieceState {
+            tenancy: rec.tenancy,
+            visit: rec.visit,
+            piece: k as u32,
+        };
+        send_ahead(site, piece, out)?;
+    }
+    Ok(())
+}
+
+/// Sends the mirror state of a piece to its cub.
+fn send_ahead<'a>(site: &Site, piece: PieceState, out: &mut Outbox<Msg<'a>>) -> Result<(), NoMemory>
+    requires low { 2 ≤ piece.piece }
+    requires high { piece.piece ≤ site.now.plan.params.pieces }
+    ensures { OnOk result (out.new ≡ out.old
+        ++ sent_ahead site.now.plan.params site.now.cub.0 piece ∷ []) }
+{
+    let steps = (piece.piece - 1) as u64;
+    out.push(Out::Send(site.ahead(steps), Msg::MirrorState(piece)))?;
+    Ok(())
+}
+
+/// Adds a piece that is still to be asked for, unless it is there.
+fn add_piece(
+    pieces: &mut PieceView,
+    unasked: &mut PieceView,
+    piece: PieceState,
+) -> Result<(), NoMemory>
+    requires pieces { IsPieceOf pieces.old.params piece }
+    requires unasked { IsPieceOf unasked.old.params piece }
+    ensures pieces { OnOk result (pieces.new ≡ with_new piece pieces.old pieces.old) }
+    ensures unasked { OnOk result (unasked.new ≡ with_new piece pieces.old unasked.old) }
+{
+    // The call tells that the set has each piece once, in order.
+    are_in_order(pieces);
+    if pieces.add(piece)? {
+        unasked.add(piece)?;
+    }
+    Ok(())
+}
+
+/// A set of pieces has each of them once, in their order.
+fn are_in_order(pieces: &PieceView)
+    ensures { IsPieces pieces.now.params pieces.now.items }
+{
+    pieces.after(None);
+}

@@ -1,4 +1,0 @@
-pub mod Leavings
-pub mod Limits
-pub mod Splitting
-pub mod Stopping
