@@ -1,3 +1,4 @@
+pub mod Endings
 pub mod KeptSplits
 pub mod Members
 pub mod Numbers
@@ -7,5 +8,6 @@ pub mod PlaceRemovals
 pub mod Places
 pub mod Ranks
 pub mod Removals
+pub mod SplitRemovals
 pub mod Timed
 pub mod TimedPieces

@@ -16,7 +16,7 @@ use Rattle.mirror_schedule.proofs.Timed.{untimed-position, untimed-without_first
 use Rattle.mirror_schedule.proofs.TimedPieces.{pieces_seen}
 
 -- numbers that are the same are one list
-same_numbers : (ms ns : List ℕ) → are_same ms ns ≡ true → ms ≡ ns
+pub same_numbers : (ms ns : List ℕ) → are_same ms ns ≡ true → ms ≡ ns
 same_numbers [] [] e = refl
 same_numbers [] (n ∷ ns) e = absurd (cc)
 same_numbers (m ∷ ms) [] e = absurd (cc)

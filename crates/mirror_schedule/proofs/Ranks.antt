@@ -5,7 +5,7 @@ use Rattle.tiger_base.specs.declared.tenancy.PieceState.{PieceState}
 use Rattle.slot_plan.specs.declared.params.Params.{Params}
 use Rattle.mirror_schedule.specs.Sorted.{are_same}
 use Rattle.mirror_schedule.specs.Pieces.{comes_before, is_same, numbers_of, rank_of, leaving_of}
-use Rattle.mirror_schedule.specs.Splits.{split_before}
+use Rattle.mirror_schedule.specs.Splits.{split_before, is_split}
 use Rattle.mirror_schedule.proofs.Numbers.{is_less-irreflexive, is_less-transitive, is_less-apart, is_less-behind, is_less-neither}
 use Rattle.mirror_schedule.proofs.Orders.{IsOrder}
 use Rattle.mirror_schedule.proofs.Members.{IsSame}
@@ -16,6 +16,16 @@ splits_order =
     record {
       irreflexive = λ x. is_less-irreflexive (x.1.0 ∷ x.2 ∷ x.0.0 ∷ []);
       transitive = λ x y z e f. is_less-transitive (x.1.0 ∷ x.2 ∷ x.0.0 ∷ []) (y.1.0 ∷ y.2 ∷ y.0.0 ∷ []) (z.1.0 ∷ z.2 ∷ z.0.0 ∷ []) e f;
+    }
+
+-- a split visit is told from those that come before it or behind it, and from no other
+pub splits_same : IsSame split_before is_split
+unfolding split_before is_split
+splits_same =
+    record {
+      ahead = λ x y e. is_less-apart (x.1.0 ∷ x.2 ∷ x.0.0 ∷ []) (y.1.0 ∷ y.2 ∷ y.0.0 ∷ []) e;
+      behind = λ x y e. is_less-behind (x.1.0 ∷ x.2 ∷ x.0.0 ∷ []) (y.1.0 ∷ y.2 ∷ y.0.0 ∷ []) e;
+      neither = λ x y e f. is_less-neither (x.1.0 ∷ x.2 ∷ x.0.0 ∷ []) (y.1.0 ∷ y.2 ∷ y.0.0 ∷ []) refl e f;
     }
 
 pub pieces_order : (p : Params) → IsOrder (comes_before p)

@@ -1,16 +1,11 @@
 -- Things that are kept beside a time, and plans under which the times of visits are the same.
-use Rattle.std.specs.Prelude.{ℕ, ◌+◌, ◌≤◌, ◌==◌, ◌&&◌, Bool, List, map}
-use Rattle.std.specs.List.{AllByRecursion}
+use Rattle.std.specs.Prelude.{ℕ, ◌+◌, ◌==◌, ◌&&◌, Bool, List, map}
 use Rattle.slot_plan.specs.declared.params.Params.{Params}
 use Rattle.slot_plan.specs.Keys.{Key, due_of}
 
 -- the things alone
 abbrev pub untimed : {X : Type 0} → List (X × ℕ) → List X
 untimed xs = map (λ x. x.0) xs
-
--- no time comes before a given one
-abbrev pub AreFrom : {X : Type 0} → ℕ → List (X × ℕ) → Type 0
-AreFrom time xs = AllByRecursion (λ x. time ≤ x.1) xs
 
 -- the end of a visit's play time
 abbrev pub end_of : Params → Key → ℕ

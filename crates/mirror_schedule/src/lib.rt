@@ -1,5 +1,5 @@
 //! What a cub keeps of mirror pieces: the pieces that it is to send, and the visits that it has
-//! split; and the times that stand beside what it keeps.
+//! split; and whether plans give visits the same times.
 #![tactic(auto)]
 
 mod order;
@@ -11,4 +11,4 @@ mod times;
 pub use pieces::PieceView;
 pub use splits::Splits;
 pub use splitting::split;
-pub use times::{has_same_times, least_time};
+pub use times::has_same_times;

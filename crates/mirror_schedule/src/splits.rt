@@ -1,40 +1,45 @@
 //! The visits that a cub has split and still remembers.
-ghost use Rattle.std.specs.Prelude.{◌≡◌, ◌≤◌, [], true, length, not, filter, count_by, find, position, option_map, OnOk, OnErr};
+ghost use Rattle.std.specs.Prelude.{◌≡◌, ◌≤◌, [], length, take, drop, nat_le, not, filter, count_by, find, position, option_map, OnOk, OnErr};
 ghost use Rattle.std.specs.List.{AllByRecursion};
-ghost use Rattle.mirror_schedule.specs.Splits.{IsSplitOf, IsSplits, IsKept, key_of, is_of, is_over, with_split, split_before};
-ghost use Rattle.mirror_schedule.specs.Sorted.{gap_from, place_of, without_first};
-ghost use Rattle.mirror_schedule.specs.Timed.{untimed, end_of};
+ghost use Rattle.slot_plan.specs.declared.params.Params.{Params};
+ghost use Rattle.slot_plan.specs.Keys.{IsKey};
+ghost use Rattle.mirror_schedule.specs.Splits.{Split, IsSplitOf, IsSplits, IsRising, AreKept, AreLeft, is_split, key_of, is_of, is_over, with_split, split_before};
+ghost use Rattle.mirror_schedule.specs.Sorted.{gap_from, place_of, without_first, first_if, but_first_if};
+ghost use Rattle.mirror_schedule.specs.Timed.{end_of};
 
-use crate::times::{has_same_times, least_time};
+use crate::times::has_same_times;
 use slot_plan::Plan;
 use std::alloc::Global;
+use std::collections::VecDeque;
 use std::marker::Model;
 use tiger_base::{Instance, Micros, NoMemory, SlotNo, Visit};
 
 /// An instance, a slot and a visit.
 type Split = (Instance, SlotNo, Visit);
 
+/// A split visit, and the end of its play time.
+type Ending = (Split, Micros);
+
 /// A set of split visits, seen as the list of their instances, slots and visits, in the order of
-/// slot, then visit, then instance. Each stands beside a time before which its play time is not
-/// over under a plan.
+/// slot, then visit, then instance.
 #[derive(Drop)]
 pub struct Splits {
     plan: Plan,
-    items: Vec<(Split, Micros)>,
-    // None is over before it: until then a tick walks over none.
-    none_over_before: Micros,
+    items: Vec<Split>,
+    // All items, and visits that were taken, beside the ends of their play times under the plan. They stand in the
+    // order of these ends: those that are over come first, so no tick walks over the items.
+    endings: VecDeque<Ending>,
 }
 
 impl Model for Splits {
     ghost use Rattle.std.specs.Prelude.{List};
     ghost use Rattle.mirror_schedule.specs.Splits.{Split, AreKept};
-    ghost use Rattle.mirror_schedule.specs.Timed.{untimed};
 
     ghost Value = { List Split };
 
-    ghost view = { λ s. untimed s.items.items };
+    ghost view = { λ s. s.items.items };
 
-    ghost invariant = { λ s. AreKept s.plan.params s.none_over_before s.items.items };
+    ghost invariant = { λ s. AreKept s.plan.params s.items.items s.endings.items };
 }
 
 impl Splits {
@@ -45,7 +50,7 @@ impl Splits {
         Splits {
             plan: *plan,
             items: Vec::new(alloc),
-            none_over_before: u64::MAX,
+            endings: VecDeque::new(alloc),
         }
     }
 
@@ -62,11 +67,10 @@ impl Splits {
         let split = (instance, slot, visit);
         match gap_for(&self.items, &split) {
             Some(place) => {
-                let end = kept_until(&self.plan, slot, visit);
-                self.items.insert(place, (split, end))?;
-                if end < self.none_over_before {
-                    self.none_over_before = end;
-                }
+                let end = end_of(&self.plan, slot, visit);
+                let behind = place_by_end(&self.endings, end);
+                self.endings.insert(behind, (split, end))?;
+                self.items.insert(place, split)?;
                 Ok(())
             }
             None => Ok(()),
@@ -80,7 +84,7 @@ impl Splits {
         ensures left { self.new ≡ without_first (is_of instance) self.old }
     {
         let place = first_of(&self.items, instance)?;
-        let ((_, slot, visit), _) = self.items.remove(place);
+        let (_, slot, visit) = self.items.remove(place);
         Some((slot, visit))
     }
 
@@ -90,13 +94,11 @@ impl Splits {
         ensures count { result ≡ count_by (is_over plan.now.params reading) self.old }
         ensures left { self.new ≡ filter (λ x. not (is_over plan.now.params reading x)) self.old }
     {
-        let timed = has_same_times(&self.plan.params, &plan.params);
-        if timed && reading < self.none_over_before {
-            return 0;
+        if has_same_times(&self.plan.params, &plan.params) {
+            forget_ended(&mut self.items, &mut self.endings, reading)
+        } else {
+            forget_over(&mut self.items, plan, reading)
         }
-        let count = forget_over(&mut self.items, timed, plan, reading);
-        self.none_over_before = least_time(self.items.as_slice());
-        count
     }
 }
 
@@ -109,12 +111,12 @@ fn comes_before(a: &Split, b: &Split) -> bool
 }
 
 /// The place of a new one among some in their order, found by halving; `None` if it is there.
-fn gap_for(items: &Vec<(Split, Micros)>, x: &Split) -> Option<usize>
-    requires { IsSplits (untimed items.now.items) }
-    ensures { result ≡ gap_from split_before x.now 0 (untimed items.now.items) }
+fn gap_for(items: &Vec<Split>, x: &Split) -> Option<usize>
+    requires { IsSplits items.now.items }
+    ensures { result ≡ gap_from split_before x.now 0 items.now.items }
 {
     let place = first_not_before(items, x);
-    if place < items.len() && !comes_before(x, &items[place].0) {
+    if place < items.len() && !comes_before(x, &items[place]) {
         None
     } else {
         Some(place)
@@ -122,16 +124,16 @@ fn gap_for(items: &Vec<(Split, Micros)>, x: &Split) -> Option<usize>
 }
 
 /// How many come before the given one, of some in their order.
-fn first_not_before(items: &Vec<(Split, Micros)>, x: &Split) -> usize
-    requires { IsSplits (untimed items.now.items) }
-    ensures place { result ≡ place_of split_before x.now (untimed items.now.items) }
+fn first_not_before(items: &Vec<Split>, x: &Split) -> usize
+    requires { IsSplits items.now.items }
+    ensures place { result ≡ place_of split_before x.now items.now.items }
     ensures inside { result ≤ length items.now.items }
 {
     let mut low = 0;
     let mut high = items.len();
     while low < high {
         let middle = low + (high - low) / 2;
-        if comes_before(&items[middle].0, x) {
+        if comes_before(&items[middle], x) {
             low = middle + 1;
         } else {
             high = middle;
@@ -141,16 +143,16 @@ fn first_not_before(items: &Vec<(Split, Micros)>, x: &Split) -> usize
 }
 
 /// The index of the first of an instance's visits.
-fn first_of(items: &[(Split, Micros)], instance: Instance) -> Option<usize>
-    ensures { result ≡ position (λ x. is_of instance x.0) items.now }
+fn first_of(items: &[Split], instance: Instance) -> Option<usize>
+    ensures { result ≡ position (is_of instance) items.now }
 {
-    items.iter().position(|x| x.0.0 == instance)
+    items.iter().position(|x| x.0 == instance)
 }
 
-/// A time before which a visit's play time is not over: its end, if the visit may be one of the
-/// plan's.
-fn kept_until(plan: &Plan, slot: SlotNo, visit: Visit) -> Micros
-    ensures { result ≤ end_of plan.now.params (slot, visit) }
+/// The end of a visit's play time, if the visit may be one of the plan's; else 0.
+fn end_of(plan: &Plan, slot: SlotNo, visit: Visit) -> Micros
+    ensures { IsKey plan.now.params (slot, visit)
+        → result ≡ end_of plan.now.params (slot, visit) }
 {
     if u64::from(slot.0) < plan.params.slots && visit <= 4294967296 {
         plan.due(slot, visit) + plan.params.play
@@ -159,33 +161,80 @@ fn kept_until(plan: &Plan, slot: SlotNo, visit: Visit) -> Micros
     }
 }
 
-/// Whether a visit's play time is over at a reading, which it is not before the visit's time, if
-/// that is the plan's.
-#[tactic(auto, unfolding(crate::specs::Splits::is_over))]
-fn is_over(x: &(Split, Micros), timed: bool, plan: &Plan, reading: Micros) -> bool
-    requires here { IsSplitOf plan.now.params x.now.0 }
-    requires time { timed ≡ true → IsKept plan.now.params x.now }
-    ensures { result ≡ is_over plan.now.params reading x.now.0 }
+/// The place behind those that end at a time or before it. Most new visits end last, so the search begins there.
+fn place_by_end(endings: &VecDeque<Ending>, end: Micros) -> usize
+    requires { IsRising endings.now.items }
+    ensures inside { result ≤ length endings.now.items }
+    ensures ahead { AllByRecursion (λ x. x.1 ≤ end) (take result endings.now.items) }
+    ensures behind { AllByRecursion (λ x. end ≤ x.1) (drop result endings.now.items) }
 {
-    if timed && reading < x.1 {
-        return false;
+    for i in (0..endings.len()).rev() {
+        if endings[i].1 <= end {
+            return i + 1;
+        }
     }
-    plan.due(x.0.1, x.0.2) + plan.params.play <= reading
+    0
 }
 
-/// Removes the visits whose play time is over, and answers how many; `timed` says that their times
-/// are the plan's.
-fn forget_over(items: &mut Vec<(Split, Micros)>, timed: bool, plan: &Plan, reading: Micros) -> u64
-    requires here { AllByRecursion (λ x. IsSplitOf plan.now.params x.0) items.old.items }
-    requires times { AllByRecursion
-        (λ x. timed ≡ true → IsKept plan.now.params x) items.old.items }
-    ensures count { result ≡ count_by (λ x. is_over plan.now.params reading x.0) items.old.items }
+/// Forgets the visits whose play time is over by their ends, and answers how many.
+fn forget_ended(items: &mut Vec<Split>, endings: &mut VecDeque<Ending>, reading: Micros) -> u64
+    requires { IsSplits items.old.items }
+    ensures { (p : Params) → AllByRecursion (IsSplitOf p) items.old.items
+        → AreKept p items.old.items endings.old.items
+        → AreLeft p reading result items.old.items items.new.items endings.new.items }
+{
+    let before = items.len();
+    while let Some(split) = take_ended(endings, reading) {
+        forget(items, &split);
+    }
+    (before - items.len()) as u64
+}
+
+/// Takes out the first visit if it ends by a time.
+fn take_ended(endings: &mut VecDeque<Ending>, time: Micros) -> Option<Split>
+    ensures first { result
+        ≡ option_map (λ x. x.0) (first_if (λ x. nat_le x.1 time) endings.old.items) }
+    ensures left { endings.new.items ≡ but_first_if (λ x. nat_le x.1 time) endings.old.items }
+{
+    let first = endings.front()?;
+    if first.1 <= time {
+        let (split, _) = endings.pop_front()?;
+        Some(split)
+    } else {
+        None
+    }
+}
+
+/// Forgets a visit if it is there, of some in their order.
+fn forget(items: &mut Vec<Split>, x: &Split)
+    requires { IsSplits items.old.items }
+    ensures { items.new.items ≡ filter (λ y. not (is_split x.now y)) items.old.items }
+{
+    let place = first_not_before(items, x);
+    if place < items.len() && !comes_before(x, &items[place]) {
+        items.remove(place);
+    }
+}
+
+/// Whether a visit's play time is over at a reading.
+#[tactic(auto, unfolding(crate::specs::Splits::is_over))]
+fn is_over(x: &Split, plan: &Plan, reading: Micros) -> bool
+    requires { IsSplitOf plan.now.params x.now }
+    ensures { result ≡ is_over plan.now.params reading x.now }
+{
+    plan.due(x.1, x.2) + plan.params.play <= reading
+}
+
+/// Removes the visits whose play time is over, and answers how many.
+fn forget_over(items: &mut Vec<Split>, plan: &Plan, reading: Micros) -> u64
+    requires { AllByRecursion (IsSplitOf plan.now.params) items.old.items }
+    ensures count { result ≡ count_by (is_over plan.now.params reading) items.old.items }
     ensures left { items.new.items ≡
-        filter (λ x. not (is_over plan.now.params reading x.0)) items.old.items }
+        filter (λ x. not (is_over plan.now.params reading x)) items.old.items }
 {
     let mut count = 0;
     for i in (0..items.len()).rev() {
-        if is_over(&items[i], timed, plan, reading) {
+        if is_over(&items[i], plan, reading) {
             items.remove(i);
             count += 1;
         }

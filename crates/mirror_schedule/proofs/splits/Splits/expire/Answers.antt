@@ -1,40 +1,37 @@
-use Rattle.std.proofs.Common.{ℕ, ◌∙◌, ap, count_by, List, not, subst, sym}
-use Rattle.std.specs.List.{AllByRecursion}
-use Rattle.mirror_schedule.specs.Splits.{Split, IsSplitOf, is_over, key_of}
-use Rattle.mirror_schedule.specs.Timed.{AreFrom}
-use Rattle.mirror_schedule.proofs.KeptSplits.{kept_left, none_gone, none_left_out}
-use Rattle.mirror_schedule.proofs.Timed.{each_untimed, ends_under, untimed-count, untimed_left}
+use Rattle.std.proofs.Common.{List, not, subst, sym, ap, ◌∙◌, count_by}
+use Rattle.std.specs.List.{AllByRecursion, filter}
+use Rattle.mirror_schedule.specs.Splits.{Split, IsSplitOf, AreLeft, is_over}
+use Rattle.mirror_schedule.proofs.Endings.{kept_under, split_under}
+use Rattle.mirror_schedule.proofs.KeptSplits.{kept_left}
 use Rattle.mirror_schedule.proofs.splits.Splits.expire.Goals as goal
+use Rattle.mirror_schedule.proofs.splits.Splits.expire.Goals.{After-forget_ended}
 
--- nothing is over yet
-pub returns-then-reading-self-clause-count : goal.returns-then-reading-self-clause-count
-returns-then-reading-self-clause-count c =
-    none_gone c.self.inside.plan.params c.args.plan.now.params c.self.inside.none_over_before c.args.reading c.self.inside.items.items c.args.self.now c.self.view_is c.self.invariant
-    (sym c.has_same_times-timed.ensures ∙ c.if-timed.true) c.if-reading-self.true
+-- they are visits of the plan
+here : (c : goal.After-forget_ended) → AllByRecursion (IsSplitOf c.args.plan.now.params) c.self.inside.items.items
+here c = subst (λ (xs : List Split). AllByRecursion (IsSplitOf c.args.plan.now.params) xs) (sym c.self.view_is) c.requires
 
-pub returns-then-reading-self-clause-left : goal.returns-then-reading-self-clause-left
-returns-then-reading-self-clause-left c =
-    none_left_out c.self.inside.plan.params c.args.plan.now.params c.self.inside.none_over_before c.args.reading c.self.inside.items.items c.args.self.now c.self.view_is c.self.invariant
-    (sym c.has_same_times-timed.ensures ∙ c.if-timed.true) c.if-reading-self.true
-
-pub forget_over-count-requires-clause-here : goal.forget_over-count-requires-clause-here
-forget_over-count-requires-clause-here c =
-    each_untimed (IsSplitOf c.args.plan.now.params) c.self.inside.items.items (subst (λ (ys : List Split). AllByRecursion (IsSplitOf c.args.plan.now.params) ys) (sym c.self.view_is) c.requires)
-
-pub forget_over-count-requires-clause-times : goal.forget_over-count-requires-clause-times
-forget_over-count-requires-clause-times c =
-    ends_under key_of c.self.inside.plan.params c.args.plan.now.params c.has_same_times-timed.result c.self.inside.items.items c.has_same_times-timed.ensures c.self.invariant.kept
+-- what the ends tell, under the plan that is given
+left_by : (c : goal.After-forget_ended) → AreLeft c.args.plan.now.params c.args.reading c.forget_ended.result c.self.inside.items.items c.forget_ended.new.items.items c.forget_ended.new.endings.items
+left_by c =
+    c.forget_ended.ensures c.args.plan.now.params (here c)
+    (kept_under c.self.inside.plan.params c.args.plan.now.params c.self.inside.items.items c.self.inside.endings.items (sym c.has_same_times.ensures ∙ c.if-has_same_times.true) c.self.invariant)
 
 pub invariant_of-self : goal.invariant_of-self
 invariant_of-self c =
-    kept_left c.self.inside.plan.params c.self.inside.none_over_before c.least_time-self-inside.result (λ x. not (is_over c.args.plan.now.params c.args.reading x)) c.self.inside.items.items c.forget_over-count.new.items.items c.self.invariant c.forget_over-count.ensures.left
-    (subst (λ (xs : List (Split × ℕ)). AreFrom c.least_time-self-inside.result xs) c.as_slice.ensures.value c.least_time-self-inside.ensures)
+    (c.forget_ended.ensures c.self.inside.plan.params
+    (split_under c.self.inside.plan.params c.args.plan.now.params c.self.inside.items.items (sym c.has_same_times.ensures ∙ c.if-has_same_times.true) (here (goal.at.invariant_of-self c).After-forget_ended))
+    c.self.invariant).kept
 
-pub returns-clause-count : goal.returns-clause-count
-returns-clause-count c =
-    c.forget_over-count.ensures.count
-    ∙ (untimed-count (is_over c.args.plan.now.params c.args.reading) c.self.inside.items.items ∙ ap (λ (ys : List Split). count_by (is_over c.args.plan.now.params c.args.reading) ys) c.self.view_is)
+pub invariant_of-self-else-has_same_times : goal.invariant_of-self-else-has_same_times
+invariant_of-self-else-has_same_times c =
+    kept_left c.self.inside.plan.params (λ x. not (is_over c.args.plan.now.params c.args.reading x)) c.self.inside.items.items c.forget_over.new.items.items c.self.inside.endings.items c.self.invariant c.forget_over.ensures.left
 
-pub returns-clause-left : goal.returns-clause-left
-returns-clause-left c =
-    untimed_left (λ x. not (is_over c.args.plan.now.params c.args.reading x)) c.self.inside.items.items c.forget_over-count.new.items.items c.args.self.now c.self.view_is c.forget_over-count.ensures.left
+pub returns-then-has_same_times-clause-count : goal.returns-then-has_same_times-clause-count
+returns-then-has_same_times-clause-count c =
+    (left_by (goal.at.returns-then-has_same_times-clause-count c).After-forget_ended).number
+    ∙ ap (λ (xs : List Split). count_by (is_over c.args.plan.now.params c.args.reading) xs) c.self.view_is
+
+pub returns-then-has_same_times-clause-left : goal.returns-then-has_same_times-clause-left
+returns-then-has_same_times-clause-left c =
+    (left_by (goal.at.returns-then-has_same_times-clause-left c).After-forget_ended).left
+    ∙ ap (λ (xs : List Split). filter (λ x. not (is_over c.args.plan.now.params c.args.reading x)) xs) c.self.view_is
