@@ -33,7 +33,11 @@ pub struct CubView {
     view: View,
     plan: Plan,
     forwarded_to: Micros,
+    // Where the last line stood whose state was forwarded: the next walk begins near it.
+    near_pending: usize,
     asked_before: Micros,
+    // Where the first line stood that was due at that time or later.
+    near_unasked: usize,
     split_from: Micros,
     // No visit that is still to be split is due at the first of these times or later, and before
     // the second.
@@ -69,7 +73,9 @@ impl CubView {
             view: View::new(alloc, plan),
             plan: *plan,
             forwarded_to: 0,
+            near_pending: 0,
             asked_before: 0,
+            near_unasked: 0,
             split_from: 0,
             split_between: (0, 0),
             full: FullDisks::new(alloc),
@@ -125,6 +131,10 @@ impl CubView {
           lines = with_mark (slot, visit) flag self.old.lines;
         } }
     {
+        self.near_pending = match flag {
+            Flag::Forwarded => place,
+            Flag::Asked | Flag::Split => self.near_pending,
+        };
         self.view.mark_near(place, slot, visit, flag)
     }
 
@@ -135,9 +145,9 @@ impl CubView {
         ensures left { self.new ≡ record self.old { lines = without (slot, visit) self.old.lines } }
     {
         // No disk is full any more while the visit, which is free now, is in the window.
-        let gone = gone_from(&self.plan, self.full.from, slot, visit);
-        self.full.from = gone;
-        self.view.remove(slot, visit)
+        let due = self.plan.due(slot, visit);
+        self.full.from = gone_from(&self.plan, self.full.from, due);
+        self.view.remove_due(slot, visit, due)
     }
 
     /// Removes all records of an instance, and says how many there were.
@@ -182,8 +192,10 @@ impl CubView {
     {
         // The state is of the next visit, which is due a block play time after the line's own.
         let next = self.forwarded_to.saturating_add(1);
-        self.view
-            .first_from(next.saturating_sub(self.plan.params.play))
+        self.view.first_near(
+            self.near_pending,
+            next.saturating_sub(self.plan.params.play),
+        )
     }
 
     /// Whether it is known that no visit whose block is still to be asked for is due before the
@@ -204,7 +216,7 @@ impl CubView {
         ensures key { IfSome result.1 (λ line. IsKey self.now.params (key_of line)) }
         ensures walk { IsWalk self.now.params self.now.lines }
     {
-        self.view.first_from(self.asked_before)
+        self.view.first_near(self.near_unasked, self.asked_before)
     }
 
     /// Keeps in mind that the blocks of all visits that are due before a limit are asked for, or
@@ -216,7 +228,7 @@ impl CubView {
         if limit <= self.asked_before {
             return;
         }
-        self.asked_before = self.view.due_from(limit);
+        (self.near_unasked, self.asked_before) = self.view.due_from(self.near_unasked, limit);
     }
 
     /// Whether it is known that no visit of a backup record that is due at the limit or later is
@@ -293,14 +305,13 @@ impl CubView {
     }
 }
 
-/// The given time, or the first reading at which a visit is no more in the window, if that is
-/// later.
-fn gone_from(plan: &Plan, time: Micros, slot: SlotNo, visit: Visit) -> Micros
-    requires { IsKey plan.now.params (slot, visit) }
+/// The given time, or the first reading at which a visit that is due at another time is no more in
+/// the window, if that is later.
+fn gone_from(plan: &Plan, time: Micros, due: Micros) -> Micros
     ensures later { time ≤ result }
-    ensures gone { due_of plan.now.params (slot, visit) ≤ result + plan.now.params.window_b }
+    ensures gone { due ≤ result + plan.now.params.window_b }
 {
-    let gone = plan.due(slot, visit).saturating_sub(plan.params.window_b);
+    let gone = due.saturating_sub(plan.params.window_b);
     if time < gone { gone } else { time }
 }
 

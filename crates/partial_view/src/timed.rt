@@ -8,7 +8,7 @@ ghost use Rattle.partial_view.specs.Views.{Seen, IsWalk, IsFoundAt, place_of, pl
 
 use crate::gap_row::GapRow;
 use crate::line::{Flag, Line};
-use crate::search::{from_in, place_in};
+use crate::search::{from_near, place_in};
 use slot_plan::Plan;
 use std::alloc::Global;
 use std::marker::Model;
@@ -133,15 +133,16 @@ impl TimedLines {
         }
     }
 
-    /// How many lines are due before a time.
-    pub(crate) fn place_from(&self, time: Micros) -> usize
+    /// How many lines are due before a time. The lines around a place are looked at first, and any
+    /// place serves.
+    pub(crate) fn place_from(&self, near: usize, time: Micros) -> usize
         requires walk { IsWalk self.now.params self.now.lines }
         ensures { result ≡ place_from self.now.params time self.now.lines }
     {
         let (front, back) = self.items.parts();
-        let behind = from_in(back, time);
+        let behind = from_near(back, near.saturating_sub(front.len()), time);
         if behind == 0 {
-            from_in(front, time)
+            from_near(front, near, time)
         } else {
             front.len() + behind
         }

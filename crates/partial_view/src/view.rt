@@ -189,21 +189,33 @@ impl View {
         ensures key { IfSome result.1 (λ line. IsKey self.now.params (key_of line)) }
         ensures walk { IsWalk self.now.params self.now.lines }
     {
-        let place = self.lines.place_from(time);
+        self.first_near(0, time)
+    }
+
+    /// The first line that is due at a time or later, as `first_from` gives it. It is looked for
+    /// around a place first, and any place serves.
+    pub(crate) fn first_near(&self, near: usize, time: Micros) -> (usize, Option<Line>)
+        ensures next { result.1 ≡ first_from self.now.params time self.now.lines }
+        ensures place { slice_get self.now.lines result.0 ≡ result.1 }
+        ensures key { IfSome result.1 (λ line. IsKey self.now.params (key_of line)) }
+        ensures walk { IsWalk self.now.params self.now.lines }
+    {
+        let place = self.lines.place_from(near, time);
         (place, self.lines.get(place))
     }
 
-    /// When the first line is due that is due at a time or later, or that time if none is: no line
-    /// is due in between.
-    pub(crate) fn due_from(&self, time: Micros) -> Micros
+    /// When the first line is due that is due at a time or later, or that time if none is, behind
+    /// the place of the line: no line is due in between. The line is looked for around a place
+    /// first, and any place serves.
+    pub(crate) fn due_from(&self, near: usize, time: Micros) -> (usize, Micros)
         ensures { AllByRecursion (λ x. time ≤ due_of self.now.params (key_of x) →
-            result ≤ due_of self.now.params (key_of x)) self.now.lines }
+            result.1 ≤ due_of self.now.params (key_of x)) self.now.lines }
     {
-        let place = self.lines.place_from(time);
+        let place = self.lines.place_from(near, time);
         if place < self.lines.len() {
-            self.lines.at(place).due
+            (place, self.lines.at(place).due)
         } else {
-            time
+            (place, time)
         }
     }
 
@@ -251,7 +263,18 @@ impl View {
         ensures record { result ≡ option_map (λ x. x.rec) (line_at (slot, visit) self.old.lines) }
         ensures left { self.new ≡ record self.old { lines = without (slot, visit) self.old.lines } }
     {
-        match find(&self.lines, (slot, visit)) {
+        let due = self.lines.due((slot, visit));
+        self.remove_due(slot, visit, due)
+    }
+
+    /// Removes the record of a slot and visit, as `remove` does, whose due time is at hand.
+    pub(crate) fn remove_due(&mut self, slot: SlotNo, visit: Visit, due: Micros) -> Option<Rec>
+        requires key { IsKey self.old.params (slot, visit) }
+        requires due { due ≡ due_of self.old.params (slot, visit) }
+        ensures record { result ≡ option_map (λ x. x.rec) (line_at (slot, visit) self.old.lines) }
+        ensures left { self.new ≡ record self.old { lines = without (slot, visit) self.old.lines } }
+    {
+        match place_of(&self.lines, (slot, visit), due) {
             Ok(place) => self.lines.remove(place),
             Err(_) => None,
         }

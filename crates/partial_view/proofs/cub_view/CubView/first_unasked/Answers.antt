@@ -7,6 +7,6 @@ use Rattle.partial_view.proofs.cub_view.CubView.first_unasked.Goals as goal
 
 pub returns-clause-begins : goal.returns-clause-begins
 returns-clause-begins c =
-    subst (λ (s : Seen). IsFirstFor is_unasked s.lines c.first_from.result.1) c.self.view_is
-    (first_along c.self.inside.plan.params c.self.inside.asked_before is_unasked c.self.inside.view _ c.self.invariant.0 c.first_from.ensures.next
+    subst (λ (s : Seen). IsFirstFor is_unasked s.lines c.first_near.result.1) c.self.view_is
+    (first_along c.self.inside.plan.params c.self.inside.asked_before is_unasked c.self.inside.view _ c.self.invariant.0 c.first_near.ensures.next
     (unasked_from c.self.inside.plan.params c.self.inside.asked_before c.self.inside.view.lines c.self.invariant.3))

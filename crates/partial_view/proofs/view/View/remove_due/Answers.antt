@@ -3,7 +3,7 @@ use Rattle.partial_view.specs.declared.line.Line.{Line}
 use Rattle.partial_view.specs.Views.{Seen, line_at, without}
 use Rattle.partial_view.proofs.Order.{walk_without}
 use Rattle.partial_view.proofs.Calls.{record_of, line-found, line-gap, remove-found, remove-gap, seen-with, walk-along}
-use Rattle.partial_view.proofs.view.View.remove.Goals as goal
+use Rattle.partial_view.proofs.view.View.remove_due.Goals as goal
 
 pub invariant_of-self : goal.invariant_of-self
 invariant_of-self c =

@@ -3,7 +3,7 @@ use Rattle.std.specs.List.{slice_get}
 use Rattle.partial_view.specs.Views.{Seen, first_from}
 use Rattle.partial_view.proofs.Calls.{key-found-at}
 use Rattle.partial_view.proofs.Begins.{from_at}
-use Rattle.partial_view.proofs.view.View.first_from.Goals as goal
+use Rattle.partial_view.proofs.view.View.first_near.Goals as goal
 
 pub returns-clause-next : goal.returns-clause-next
 returns-clause-next c =
