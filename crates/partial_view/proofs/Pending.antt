@@ -1,13 +1,10 @@
 -- What is still to be forwarded, to be asked for or to be split where a view changes, and where the
 -- first line stands for which it may be.
-use Rattle.std.proofs.Common.{◌≡◌, ℕ, ◌+◌, ◌*◌, ◌<◌, ◌≤◌, ◌&&◌, ◌-◌, nat_lt, nat_le, Bool, true, false, cond, not, List, [], ◌∷◌, length, get_or, Option, Some, None, is_some, refl, subst, ◌∙◌, sym, ap, arith}
+use Rattle.std.proofs.Common.{◌≡◌, ℕ, ◌+◌, ◌<◌, ◌≤◌, ◌&&◌, ◌-◌, nat_lt, nat_le, Bool, true, false, cond, not, List, [], ◌∷◌, length, get_or, Option, Some, None, is_some, refl, subst, ◌∙◌, sym, ap, arith}
 use Rattle.std.specs.List.{AllByRecursion, slice_get}
 use Rattle.std.proofs.lemmas.Bool.{and_parts, both_ways, leb-true, leb-false}
-use Rattle.std.proofs.Math.Nat.{mul-le-mul}
 use Rattle.slot_plan.specs.declared.params.Params.{Params}
-use Rattle.slot_plan.specs.Conditions.{IsPlan}
 use Rattle.slot_plan.specs.Keys.{Key, due_of, is_earlier}
-use Rattle.slot_plan.specs.Times.{due}
 use Rattle.slot_plan.proofs.Keys.{earlier_due}
 use Rattle.slot_plan.proofs.Times.{due_next}
 use Rattle.tiger_base.specs.declared.number.Instance.{Instance}
@@ -29,19 +26,23 @@ use Rattle.partial_view.proofs.Begins.{first_due, first_for, from_at}
 use Rattle.partial_view.proofs.Calls.{record_of, with_record-known}
 use Rattle.partial_view.proofs.Dues.{stands_at}
 use Rattle.partial_view.specs.Free.{AreFull}
-use Rattle.partial_view.specs.Pending.{is_pending, IsForwardedTo, is_unasked, IsAskedBefore, is_unsplit, IsSplitFrom, IsSplitBetween, is_unsplit_from}
-
--- the next visit is due later than at the beginning
-pub next_due_pos : (p : Params) → IsPlan p → (slot visit : ℕ) → 1 ≤ due p slot (visit + 1)
-unfolding due
-next_due_pos p plan slot visit =
-    let many : 1 * p.play ≤ (visit + 1) * p.play = mul-le-mul (omega arith) (omega arith) in
-    omega (arith, plan.c1, plan.c2)
+use Rattle.partial_view.specs.Pending.{is_pending, IsForwardedTo, IsForwardedBetween, is_unasked, IsAskedBefore, is_unsplit, IsSplitFrom, IsSplitBetween, is_unsplit_from}
 
 -- what is known up to a time is known up to an earlier one, and what is known from a time on from a later one on
 pub forwarded_earlier : (p : Params) (low high : ℕ) (lines : List Line) → low ≤ high → IsForwardedTo p high lines → IsForwardedTo p low lines
 forwarded_earlier p low high lines e h =
     all_implies (λ x. is_pending x ≡ true → high < next_due p x.rec) (λ x. is_pending x ≡ true → low < next_due p x.rec) (λ x f pending. omega (arith, f pending)) lines h
+
+-- what is known of each due time that is still to come is known of the lines
+pub forwarded_on : (p : Params) (limit from to past : ℕ) (lines : List Line) → ((due : ℕ) → limit < due → (from ≤ due → to < due) → past < due)
+    → IsForwardedTo p limit lines → IsForwardedBetween p from to lines → IsForwardedTo p past lines
+forwarded_on p limit from to past [] on f g = tt
+forwarded_on p limit from to past (x ∷ xs) on f g = (λ pending. on (next_due p x.rec) (f.0 pending) (g.0 pending), forwarded_on p limit from to past xs on f.1 g.1)
+
+pub free_on : (p : Params) (limit from to since until : ℕ) (lines : List Line) → ((due : ℕ) → limit < due → (from ≤ due → to < due) → since ≤ due → until < due)
+    → IsForwardedTo p limit lines → IsForwardedBetween p from to lines → IsForwardedBetween p since until lines
+free_on p limit from to since until [] on f g = tt
+free_on p limit from to since until (x ∷ xs) on f g = (λ pending late. on (next_due p x.rec) (f.0 pending) (g.0 pending) late, free_on p limit from to since until xs on f.1 g.1)
 
 pub split_later : (p : Params) (low high : ℕ) (lines : List Line) → low ≤ high → IsSplitFrom p low lines → IsSplitFrom p high lines
 split_later p low high lines e h =
@@ -111,6 +112,11 @@ forwarded_mark p limit k flag lines h =
     all_marked (λ x. is_pending x ≡ true → limit < next_due p x.rec) k flag
     (λ x f pending. subst (λ (r : Rec). limit < next_due p r) (sym (rec_marked flag x)) (f (pending_marked flag x pending))) lines h
 
+pub free_mark : (p : Params) (from to : ℕ) (k : Key) (flag : Flag) (lines : List Line) → IsForwardedBetween p from to lines → IsForwardedBetween p from to (with_mark k flag lines)
+free_mark p from to k flag lines h =
+    all_marked (λ x. is_pending x ≡ true → from ≤ next_due p x.rec → to < next_due p x.rec) k flag
+    (λ x f pending. subst (λ (r : Rec). from ≤ next_due p r → to < next_due p r) (sym (rec_marked flag x)) (f (pending_marked flag x pending))) lines h
+
 pub split_mark : (p : Params) (limit : ℕ) (k : Key) (flag : Flag) (lines : List Line) → IsSplitFrom p limit lines → IsSplitFrom p limit (with_mark k flag lines)
 split_mark p limit k flag lines h =
     all_marked (λ x. is_unsplit x ≡ true → due_of p (key_of x) < limit) k flag
@@ -162,16 +168,17 @@ known p r lines added e old = cases (line_at (visit_of r) lines) refl
     cases (Some x) is = with_record-known p r lines x is
 
 -- a view of the same plan whose lines have become others
-pub kept_by : (q : Params) (forwarded split asked from to : ℕ) (full : FullDisks) (s now : Seen) (lines : List Line) → s.params ≡ q → now ≡ record s { lines = lines }
-    → IsForwardedTo q forwarded lines → IsSplitFrom q split lines → IsAskedBefore q asked lines → IsSplitBetween q from to lines → AreFull q full lines
-    → (now.params ≡ q) × IsForwardedTo q forwarded now.lines × IsSplitFrom q split now.lines × IsAskedBefore q asked now.lines × IsSplitBetween q from to now.lines × AreFull q full now.lines
-kept_by q forwarded split asked from to full s now lines same is f g h i j = (
+pub kept_by : (q : Params) (forwarded split asked from to since until : ℕ) (full : FullDisks) (s now : Seen) (lines : List Line) → s.params ≡ q → now ≡ record s { lines = lines }
+    → IsForwardedTo q forwarded lines → IsSplitFrom q split lines → IsAskedBefore q asked lines → IsSplitBetween q from to lines → AreFull q full lines → IsForwardedBetween q since until lines
+    → (now.params ≡ q) × IsForwardedTo q forwarded now.lines × IsSplitFrom q split now.lines × IsAskedBefore q asked now.lines × IsSplitBetween q from to now.lines × AreFull q full now.lines × IsForwardedBetween q since until now.lines
+kept_by q forwarded split asked from to since until full s now lines same is f g h i j k = (
   ap (λ (r : Seen). r.params) is ∙ same,
   subst (λ (r : Seen). IsForwardedTo q forwarded r.lines) (sym is) f,
   subst (λ (r : Seen). IsSplitFrom q split r.lines) (sym is) g,
   subst (λ (r : Seen). IsAskedBefore q asked r.lines) (sym is) h,
   subst (λ (r : Seen). IsSplitBetween q from to r.lines) (sym is) i,
   subst (λ (r : Seen). AreFull q full r.lines) (sym is) j,
+  subst (λ (r : Seen). IsForwardedBetween q since until r.lines) (sym is) k,
 )
 
 -- no line is due at a time or later, and before the first that is

@@ -19,6 +19,13 @@ abbrev pub IsForwardedTo : Params → ℕ → List Line → Type 0
 IsForwardedTo p limit lines =
     AllByRecursion (λ x. is_pending x ≡ true → limit < next_due p x.rec) lines
 
+-- no state that is still to be forwarded is of a visit that is due at one time or later, and at
+-- another or before it
+abbrev pub IsForwardedBetween : Params → ℕ → ℕ → List Line → Type 0
+IsForwardedBetween p from to lines =
+    AllByRecursion
+    (λ x. is_pending x ≡ true → from ≤ next_due p x.rec → to < next_due p x.rec) lines
+
 -- whether the block of a line is still to be asked for, once it is late enough: of an own record
 -- that was not asked for
 abbrev pub is_unasked : Line → Bool

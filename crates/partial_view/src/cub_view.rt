@@ -3,7 +3,7 @@
 //! something may be to do.
 ghost use Rattle.std.specs.Prelude.{◌≡◌, ℕ, ◌+◌, ◌^◌, ◌≤◌, ◌<◌, true, [], IfOk, OnOk, OnErr, IfSome, option_map, is_some, count_by, slice_get};
 ghost use Rattle.tiger_base.specs.Limits.{most_reading};
-ghost use Rattle.slot_plan.specs.Keys.{IsKey, due_of};
+ghost use Rattle.slot_plan.specs.Keys.{IsKey};
 ghost use Rattle.slot_plan.specs.Times.{disk_count};
 ghost use Rattle.std.specs.Option.{ForSome};
 ghost use Rattle.partial_view.specs.Free.{IsFullAt, IsTakenTo, HasEntered};
@@ -11,7 +11,6 @@ ghost use Rattle.partial_view.specs.Lines.{key_of, visit_of, unmarked, is_of};
 ghost use Rattle.partial_view.specs.Views.{Seen, IsWalk, line_at, with_mark, without, without_instance, with_record};
 ghost use Rattle.partial_view.specs.Walks.{IsFirstFor};
 ghost use Rattle.partial_view.specs.Adding.{answer_to};
-ghost use Rattle.state_forward.specs.Forwards.{next_due};
 ghost use Rattle.partial_view.specs.Pending.{IsForwardedTo, is_pending, IsAskedBefore, is_unasked};
 ghost use Rattle.partial_view.specs.Pending.{IsSplitFrom, IsSplitBetween};
 ghost use Rattle.partial_view.specs.Pending.{is_unsplit, is_unsplit_from};
@@ -19,7 +18,6 @@ ghost use Rattle.partial_view.specs.Pending.{is_unsplit, is_unsplit_from};
 use crate::full_disks::{FullDisk, FullDisks};
 use crate::{Added, Flag, Line, View};
 use slot_plan::Plan;
-use state_forward::next_due;
 use std::alloc::Global;
 use std::marker::Model;
 use tiger_base::{DiskNo, Instance, Micros, NoMemory, Rec, SlotNo, Visit};
@@ -33,6 +31,9 @@ pub struct CubView {
     view: View,
     plan: Plan,
     forwarded_to: Micros,
+    // No state that is still to be forwarded is of a visit that is due at the first of these times
+    // or later, and at the second or before it.
+    forwarded_between: (Micros, Micros),
     // Where the last line stood whose state was forwarded: the next walk begins near it.
     near_pending: usize,
     asked_before: Micros,
@@ -49,7 +50,8 @@ impl Model for CubView {
     ghost use Rattle.std.specs.Prelude.{◌≡◌};
     ghost use Rattle.partial_view.specs.Views.{Seen};
     ghost use Rattle.partial_view.specs.Free.{AreFull};
-    ghost use Rattle.partial_view.specs.Pending.{IsForwardedTo, IsAskedBefore};
+    ghost use Rattle.partial_view.specs.Pending.{IsForwardedTo, IsForwardedBetween};
+    ghost use Rattle.partial_view.specs.Pending.{IsAskedBefore};
     ghost use Rattle.partial_view.specs.Pending.{IsSplitFrom, IsSplitBetween};
 
     ghost Value = { Seen };
@@ -61,7 +63,8 @@ impl Model for CubView {
         × IsSplitFrom v.plan.params v.split_from v.view.lines
         × IsAskedBefore v.plan.params v.asked_before v.view.lines
         × IsSplitBetween v.plan.params v.split_between.0 v.split_between.1 v.view.lines
-        × AreFull v.plan.params v.full v.view.lines };
+        × AreFull v.plan.params v.full v.view.lines
+        × IsForwardedBetween v.plan.params v.forwarded_between.0 v.forwarded_between.1 v.view.lines };
 }
 
 impl CubView {
@@ -73,6 +76,7 @@ impl CubView {
             view: View::new(alloc, plan),
             plan: *plan,
             forwarded_to: 0,
+            forwarded_between: (1, 0),
             near_pending: 0,
             asked_before: 0,
             near_unasked: 0,
@@ -103,7 +107,14 @@ impl CubView {
         let due = self.plan.due(rec.tenancy.slot, rec.visit);
         let added = self.view.add_due(rec, due)?;
         if let Added::New = added {
-            self.forwarded_to = forwarded_before(&self.plan, self.forwarded_to, rec);
+            let next = due + self.plan.params.play;
+            self.forwarded_between = free_between(
+                self.forwarded_between,
+                self.forwarded_to,
+                rec,
+                next,
+            );
+            self.forwarded_to = forwarded_before(self.forwarded_to, rec, next);
             self.asked_before = asked_until(self.asked_before, rec, due);
             self.split_from = split_after(self.split_from, rec, due);
             self.split_between.1 = split_until(self.split_between, rec, due);
@@ -162,9 +173,9 @@ impl CubView {
     }
 
     /// Whether it is known that no state of a visit that is due at the limit or before it is still
-    /// to be forwarded. It is known for each limit up to the one that was set last, if no record
-    /// was added since whose next visit is due by then; `false` says only that the lines have to be
-    /// walked.
+    /// to be forwarded. It is known for each limit up to the last one that was set, but if a record
+    /// is added whose next visit is due by then, only up to that visit until a limit behind it is
+    /// set; `false` says only that the lines have to be walked.
     pub fn is_forwarded_to(&self, limit: Micros) -> bool
         ensures { result ≡ true → IsForwardedTo self.now.params limit self.now.lines }
     {
@@ -177,9 +188,10 @@ impl CubView {
         requires { IsForwardedTo self.old.params limit self.old.lines }
         ensures { self.new ≡ self.old }
     {
-        if self.forwarded_to < limit {
-            self.forwarded_to = limit;
+        if self.is_forwarded_to(limit) {
+            return;
         }
+        self.forwarded_to = forwarded_past(self.forwarded_between, limit);
     }
 
     /// The first line whose next state may still be to be forwarded, behind the place at which it
@@ -315,19 +327,80 @@ fn gone_from(plan: &Plan, time: Micros, due: Micros) -> Micros
     if time < gone { gone } else { time }
 }
 
+/// Whether the state of a new record's next visit is to be forwarded.
+fn is_to_forward(rec: Rec) -> bool
+    ensures { result ≡ is_pending (unmarked rec) }
+{
+    rec.kind.is_own() && rec.visit < rec.tenancy.last
+}
+
 /// The given time, or the last one before the record's next visit is due, if the state of that
 /// visit is to be forwarded and this is earlier.
-fn forwarded_before(plan: &Plan, time: Micros, rec: Rec) -> Micros
-    requires key { IsKey plan.now.params (visit_of rec) }
-    requires visit { rec.visit < 2 ^ 32 }
+fn forwarded_before(time: Micros, rec: Rec, next: Micros) -> Micros
+    requires { 1 ≤ next }
     ensures earlier { result ≤ time }
-    ensures before { is_pending (unmarked rec) ≡ true → result < next_due plan.now.params rec }
+    ensures before { is_pending (unmarked rec) ≡ true → result < next }
 {
-    if !rec.kind.is_own() || rec.visit >= rec.tenancy.last {
+    if !is_to_forward(rec) {
         return time;
     }
-    let next = next_due(plan, &rec);
     if next <= time { next - 1 } else { time }
+}
+
+/// The limit, or the second of two times if all that is due after the limit is due after it too.
+fn forwarded_past(times: (Micros, Micros), limit: Micros) -> Micros
+    ensures { (due : ℕ) → limit < due → (times.0 ≤ due → times.1 < due) → result < due }
+{
+    if times.0 <= limit && limit < times.1 {
+        times.1
+    } else {
+        limit
+    }
+}
+
+/// Two times between which no state is to be forwarded, once a record is new whose next visit is
+/// due at a given time: a part of those that were known, or what is known behind the next visit.
+fn free_between(
+    times: (Micros, Micros),
+    forwarded_to: Micros,
+    rec: Rec,
+    next: Micros,
+) -> (Micros, Micros)
+    requires { next + 1 < 2 ^ 64 }
+    ensures others { (due : ℕ) → forwarded_to < due → (times.0 ≤ due → times.1 < due)
+        → result.0 ≤ due → result.1 < due }
+    ensures new { is_pending (unmarked rec) ≡ true → result.0 ≤ next → result.1 < next }
+{
+    if !is_to_forward(rec) {
+        return times;
+    }
+    longer((next + 1, forwarded_to), cut_at(times, next))
+}
+
+/// The times behind a given one, if it is between the two; else the two as they are.
+fn cut_at(times: (Micros, Micros), next: Micros) -> (Micros, Micros)
+    requires { next + 1 < 2 ^ 64 }
+    ensures others { (due : ℕ) → (times.0 ≤ due → times.1 < due)
+        → result.0 ≤ due → result.1 < due }
+    ensures new { result.0 ≤ next → result.1 < next }
+{
+    if times.0 <= next && next <= times.1 {
+        (next + 1, times.1)
+    } else {
+        times
+    }
+}
+
+/// The longer of two spans of time.
+fn longer(one: (Micros, Micros), other: (Micros, Micros)) -> (Micros, Micros)
+    ensures { (due : ℕ) → (one.0 ≤ due → one.1 < due) → (other.0 ≤ due → other.1 < due)
+        → result.0 ≤ due → result.1 < due }
+{
+    if other.1.saturating_sub(other.0) < one.1.saturating_sub(one.0) {
+        one
+    } else {
+        other
+    }
 }
 
 /// The given time, or the next one after the record is due, if its visit is to be split and this

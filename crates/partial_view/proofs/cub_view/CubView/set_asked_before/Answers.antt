@@ -15,4 +15,5 @@ invariant_of-self c = (
       (subst (λ (s : Seen). IsAskedBefore s.params c.args.limit s.lines) (sym c.self.view_is) c.requires)),
   c.self.invariant.4,
   c.self.invariant.5,
+  c.self.invariant.6,
 )

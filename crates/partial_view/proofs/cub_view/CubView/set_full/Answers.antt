@@ -19,4 +19,5 @@ invariant_of-self c = (
       (subst (λ (s : Seen). IsFullAt s.params c.args.disk.0 c.args.reading s.lines) (sym c.self.view_is) c.requires.full))
       (subst (λ (q : Params). ForSome c.args.last (HasEntered q c.args.reading)) c.self.invariant.0
       (subst (λ (s : Seen). ForSome c.args.last (HasEntered s.params c.args.reading)) (sym c.self.view_is) c.requires.last))),
+  c.self.invariant.6,
 )
