@@ -207,6 +207,53 @@ fn walks_begin_at_the_first_line_that_may_be_left(rt: HostRuntime) -> Result<(),
 }
 
 #[test]
+fn walks_begin_far_behind_the_place_that_is_looked_at_first(rt: HostRuntime) -> Result<(), Fail> {
+    let calls = [
+        add(Kind::Backup, 0),
+        add(Kind::Backup, 1),
+        add(Kind::Backup, 2),
+        add(Kind::Backup, 3),
+        add(Kind::Backup, 4),
+        add(Kind::Backup, 5),
+        add(Kind::Backup, 6),
+        add(Kind::Backup, 7),
+        add(Kind::Backup, 8),
+        add(Kind::Backup, 9),
+        add(Kind::Backup, 10),
+        add(Kind::Backup, 11),
+        add(Kind::Backup, 12),
+        Call::Ask(Ask::Begins),
+    ];
+    assert_told(
+        &rt,
+        answers_after(rt.alloc(), 12499999, 12500000, &calls),
+        "New; New; New; New; New; New; New; New; New; New; New; New; New; \
+         11 at visit 11; 12 at visit 12; ",
+    )
+}
+
+#[test]
+fn walks_begin_before_the_place_that_is_looked_at_first(rt: HostRuntime) -> Result<(), Fail> {
+    // The place is kept when blocks are asked for, and then stands behind the lines that are left.
+    let calls = [
+        Call::Ask(Ask::Begins),
+        Call::Add(Kind::Own, 5, 1, 2),
+        Call::Add(Kind::Own, 5, 1, 3),
+        Call::RemoveInstance(0),
+        Call::Ask(Ask::Begins),
+        Call::RemoveInstance(5),
+        Call::Ask(Ask::Begins),
+    ];
+    let text = answers_of_backups(rt.alloc(), 1500001, &calls);
+    assert_told(
+        &rt,
+        text,
+        "0 at visit 0; 2 at the end; New; New; 2; 0 at visit 2; 0 at visit 2; \
+         2; 0 at the end; 0 at the end; ",
+    )
+}
+
+#[test]
 fn walk_that_splits_begins_at_the_first_visit_from_its_limit_on(
     rt: HostRuntime,
 ) -> Result<(), Fail> {
