@@ -12,7 +12,7 @@ use Rattle.tiger_base.specs.declared.tenancy.Ask.{Ask}
 use Rattle.insert_queue.specs.Queues.{is_of, has_start, without, IsOnce}
 
 -- neither of two tests holds where one or the other does not
-none_of : (a b : Bool) → (a || b) ≡ false → (a ≡ false) × (b ≡ false)
+pub none_of : (a b : Bool) → (a || b) ≡ false → (a ≡ false) × (b ≡ false)
 none_of true b e = (e, cc)
 none_of false b e = (refl, e)
 

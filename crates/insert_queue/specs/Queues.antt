@@ -1,5 +1,5 @@
 -- The starts that a cub keeps, as two lists, and what happens to them.
-use Rattle.std.specs.Prelude.{◌≡◌, ℕ, ◌≤◌, Bool, true, false, ◌==◌, ◌||◌, not, List, [], ◌∷◌, ◌++◌, Option, find, filter, if◌then◌else◌}
+use Rattle.std.specs.Prelude.{◌≡◌, ℕ, ◌<◌, Bool, true, false, ◌==◌, ◌||◌, not, List, [], ◌∷◌, ◌++◌, Option, find, filter, get_or, if◌then◌else◌}
 use Rattle.std.specs.List.{list_any, AllByRecursion}
 use Rattle.tiger_base.specs.declared.number.Instance.{Instance}
 use Rattle.tiger_base.specs.declared.number.DiskNo.{DiskNo}
@@ -68,6 +68,17 @@ AllStay old new = (disk : DiskNo) → has_disk old disk ≡ true → has_disk ne
 abbrev pub AreFor : List DiskNo → List Ask → Type 0
 AreFor disks asks = AllByRecursion (λ a. has_disk disks a.disk ≡ true) asks
 
--- no start is of an instance with a lower number
-abbrev pub AreFrom : ℕ → List Ask → Type 0
-AreFrom least asks = AllByRecursion (λ a. least ≤ a.instance.0) asks
+-- only instances with lower numbers have marks
+abbrev pub most_marked : ℕ
+most_marked = 4096
+
+-- the mark of each instance that has one is what a test of it gives
+abbrev pub AreMarked : List Bool → (Instance → Bool) → Type 0
+AreMarked marks test = (v : Instance) → v.0 < most_marked → get_or marks v.0 false ≡ test v
+
+-- an instance has at most one start in both lists together, those that wait are for some of the
+-- disks, and marks tell which instances have a start
+pub record AreKept (disks : List DiskNo) (marks : List Bool) (waiting redundant : List Ask) : Type 0 where
+  pub once : IsOnce (waiting ++ redundant)
+  pub all_for : AreFor disks waiting
+  pub marked : AreMarked marks (λ v. has_start waiting v || has_start redundant v)

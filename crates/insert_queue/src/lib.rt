@@ -2,6 +2,7 @@
 #![tactic(auto)]
 
 mod disks;
+mod marks;
 mod starts;
 
 pub use starts::{Gave, Starts};

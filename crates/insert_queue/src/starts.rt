@@ -1,8 +1,9 @@
 //! The starts that wait for a free visit, and those that wait for the predecessor's death.
-ghost use Rattle.std.specs.Prelude.{◌≡◌, ◌≤◌, ◌==◌, [], ◌++◌, IfOk, OnOk, OnErr, None, length, not, false};
-ghost use Rattle.insert_queue.specs.Queues.{has_start, is_asked, with_waiting, with_redundant, without, without_start, after_take_over, oldest_for, AreFor, AreFrom, IsOnce};
+ghost use Rattle.std.specs.Prelude.{◌≡◌, ◌==◌, [], ◌++◌, IfOk, OnOk, OnErr, None, length, not, false};
+ghost use Rattle.insert_queue.specs.Queues.{has_start, is_asked, with_waiting, with_redundant, without, without_start, after_take_over, oldest_for, AreFor, IsOnce};
 
 use crate::disks::{has_disk, put_all_in, put_in, take_out};
+use crate::marks::{MOST_MARKED, is_marked, make_place, set_mark};
 use std::alloc::Global;
 use std::marker::Model;
 use tiger_base::{Ask, DiskNo, Instance, NoMemory};
@@ -23,22 +24,20 @@ pub struct Starts {
     redundant: Vec<Ask>,
     // Each waiting start is for one of these disks, so that `next` of another one walks over no start.
     disks: Vec<DiskNo>,
-    // No start is of an instance with a lower number. Each state that comes drops the start of its
-    // instance, and mostly that is older than those whose starts are here.
-    least: u32,
+    // Which instances have a start, of those that have marks: each state that comes drops the start
+    // of its instance, and mostly there is none.
+    asked: Vec<bool>,
 }
 
 impl Model for Starts {
-    ghost use Rattle.std.specs.Prelude.{◌++◌};
-    ghost use Rattle.insert_queue.specs.Queues.{Queues, IsOnce, AreFor, AreFrom};
+    ghost use Rattle.insert_queue.specs.Queues.{Queues, AreKept};
 
     ghost Value = { Queues };
 
     ghost view = { λ s. record { waiting = s.waiting.items; redundant = s.redundant.items } };
 
-    ghost invariant = { λ s. IsOnce (s.waiting.items ++ s.redundant.items)
-        × AreFor s.disks.items s.waiting.items
-        × AreFrom s.least s.waiting.items × AreFrom s.least s.redundant.items };
+    ghost invariant = { λ s. AreKept s.disks.items s.asked.items
+        s.waiting.items s.redundant.items };
 }
 
 impl Starts {
@@ -50,7 +49,7 @@ impl Starts {
             waiting: Vec::new(alloc),
             redundant: Vec::new(alloc),
             disks: Vec::new(alloc),
-            least: u32::MAX,
+            asked: Vec::new(alloc),
         }
     }
 
@@ -64,9 +63,10 @@ impl Starts {
         if self.is_asked(ask.instance) {
             return Ok(false);
         }
+        make_place(&mut self.asked, ask.instance)?;
         put_in(&mut self.disks, ask.disk)?;
         self.waiting.push(ask)?;
-        self.least = lesser(self.least, ask.instance.0);
+        set_mark(&mut self.asked, ask.instance, true);
         Ok(true)
     }
 
@@ -80,8 +80,9 @@ impl Starts {
         if self.is_asked(ask.instance) {
             return Ok(false);
         }
+        make_place(&mut self.asked, ask.instance)?;
         self.redundant.push(ask)?;
-        self.least = lesser(self.least, ask.instance.0);
+        set_mark(&mut self.asked, ask.instance, true);
         Ok(true)
     }
 
@@ -90,7 +91,11 @@ impl Starts {
         ensures asked { result ≡ is_asked self.now instance }
         ensures once { IsOnce (self.now.waiting ++ self.now.redundant) }
     {
-        has_start(&self.waiting, instance) || has_start(&self.redundant, instance)
+        if instance.0 < MOST_MARKED {
+            is_marked(&self.asked, instance)
+        } else {
+            has_start(&self.waiting, instance) || has_start(&self.redundant, instance)
+        }
     }
 
     /// Drops the instance's start, and says where it stood. All others stay, in their order.
@@ -100,20 +105,17 @@ impl Starts {
         ensures after { self.new ≡ without_start self.old instance }
         ensures gone { is_asked self.new instance ≡ false }
     {
-        if instance.0 < self.least {
+        if !self.is_asked(instance) {
             return Gave {
                 waiting: false,
                 redundant: false,
             };
         }
-        let gave = Gave {
+        set_mark(&mut self.asked, instance, false);
+        Gave {
             waiting: drop_from(&mut self.waiting, instance),
             redundant: drop_from(&mut self.redundant, instance),
-        };
-        if instance.0 == self.least {
-            self.least = lesser(least_of(&self.waiting), least_of(&self.redundant));
         }
-        gave
     }
 
     /// Lends the redundant starts, the oldest first.
@@ -195,24 +197,4 @@ fn drop_from(asks: &mut Vec<Ask>, instance: Instance) -> bool
         }
     }
     false
-}
-
-/// The lesser of two numbers.
-fn lesser(a: u32, b: u32) -> u32
-    ensures first { result ≤ a }
-    ensures second { result ≤ b }
-{
-    if a < b { a } else { b }
-}
-
-/// The least number of an instance of which a start is in a list, or the greatest that there is if
-/// the list is empty.
-fn least_of(asks: &[Ask]) -> u32
-    ensures { AreFrom result asks.now }
-{
-    let mut least = u32::MAX;
-    for ask in asks {
-        least = lesser(least, ask.instance.0);
-    }
-    least
 }

@@ -190,3 +190,31 @@ fn starts_of_older_and_newer_instances_are_dropped(rt: HostRuntime) -> Result<()
          Gave { waiting: false, redundant: false }; false 0 1; ",
     )
 }
+
+#[test]
+fn starts_with_and_without_a_mark_are_found_and_dropped(rt: HostRuntime) -> Result<(), Fail> {
+    let calls = [
+        Call::Ask(4095, 1),
+        Call::AskRedundant(4096, 1),
+        Call::Ask(9000, 1),
+        Call::IsAsked(4094),
+        Call::IsAsked(4095),
+        Call::IsAsked(4096),
+        Call::IsAsked(4097),
+        Call::IsAsked(9000),
+        Call::Ask(4096, 1),
+        Call::TakeOver,
+        Call::Drop(4096),
+        Call::Drop(4096),
+        Call::Drop(4095),
+        Call::Ask(4095, 1),
+        Call::Drop(9000),
+    ];
+    assert_told(
+        &rt,
+        answers(rt.alloc(), &calls),
+        "true; true; true; false; true; true; false; true; false; 1; \
+         Gave { waiting: true, redundant: false }; Gave { waiting: false, redundant: false }; \
+         Gave { waiting: true, redundant: false }; true; Gave { waiting: true, redundant: false }; ",
+    )
+}

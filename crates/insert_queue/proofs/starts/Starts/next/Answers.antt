@@ -7,4 +7,4 @@ pub returns-then-not-has_disk : goal.returns-then-not-has_disk
 returns-then-not-has_disk c =
     let e : has_disk c.self.inside.disks.items c.args.disk ≡ false = cc in
     subst (λ (q : Queues). None ≡ oldest_for q.waiting c.args.disk) c.self.view_is
-    (sym (none_for c.self.inside.disks.items c.self.inside.waiting.items c.args.disk c.self.invariant.1 e))
+    (sym (none_for c.self.inside.disks.items c.self.inside.waiting.items c.args.disk c.self.invariant.all_for e))
