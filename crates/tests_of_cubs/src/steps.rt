@@ -14,7 +14,7 @@ use std::alloc::{AllocError, Global};
 use std::fmt::Write;
 use std::test::Fail;
 use tiger_base::{
-    Beat, DiskNo, Instance, Library, MOST_READING, Micros, Msg, NoMemory, Rec, SlotNo, Stamp,
+    Ask, Beat, DiskNo, Instance, Library, MOST_READING, Micros, Msg, NoMemory, Rec, SlotNo, Stamp,
     Tenancy,
 };
 
@@ -206,6 +206,37 @@ fn a_dead_predecessors_disk_is_inserted_on(rt: HostRuntime) -> Result<(), Fail> 
         assert_text(&rt, inserted(rt.alloc(), 1, keeps, 101), want)?;
     }
     Ok(())
+}
+
+/// A start of one block that waits for a disk.
+fn ask_on(instance: u32, disk: u32) -> Keep<'static> {
+    Keep::Start(Ask {
+        disk: DiskNo(disk),
+        ..ask(instance, 1)
+    })
+}
+
+/// What cub 1 inserts if these starts wait while its own disk is full and a visit of its dead predecessor's is free.
+fn inserted_beside_full<'a>(
+    alloc: Global,
+    older: Keep<'a>,
+    newer: Keep<'a>,
+) -> Result<String, Fail> {
+    let taken = Tenancy {
+        instance: Instance(9),
+        ..tenancy(0, 5)
+    };
+    let keeps = [Keep::Record(Rec::own(taken, 1)), Keep::Belief, older, newer];
+    inserted(alloc, 1, &keeps, 101)
+}
+
+#[test]
+fn a_start_for_a_full_disk_holds_up_no_other_disk(rt: HostRuntime) -> Result<(), Fail> {
+    let (full, free) = (ask_on(1, 1), ask_on(0, 0));
+    let wanted = "put (0, 0, 3, 0, 0); took Backup 0 of (0, 0, 3, 0, 0); \
+                  9: placed (0, 0, 3, 0, 0); | Backup 0 of (0, 0, 3, 0, 0); believes; ";
+    assert_text(&rt, inserted_beside_full(rt.alloc(), full, free), wanted)?;
+    assert_text(&rt, inserted_beside_full(rt.alloc(), free, full), wanted)
 }
 
 /// Adds what a cub puts out when it watches its predecessor in a beat, and what it keeps then.
