@@ -1,11 +1,13 @@
 -- One turn of putting the starts that wait for a disk, and the turn of one disk.
-use Rattle.std.proofs.Common.{◌≡◌, ℕ, ◌+◌, ◌*◌, ◌<◌, ◌==◌, List, [], ◌∷◌, ◌++◌, length, Bool, true, false, not, Option, Some, None, refl, sym, ap, subst, ◌∙◌, append-nil, arith}
+use Rattle.std.proofs.Common.{◌≡◌, ℕ, ◌+◌, ◌*◌, ◌<◌, ◌==◌, List, [], ◌∷◌, ◌++◌, length, Bool, true, false, not, cond, Option, Some, None, refl, sym, ap, subst, ◌∙◌, append-nil, arith}
 use Rattle.std.specs.List.{AllByRecursion, filter}
 use Rattle.std.proofs.lemmas.Bool.{eqb-true}
 use Rattle.tiger_base.specs.declared.message.Msg.{Msg}
 use Rattle.tiger_base.specs.declared.number.DiskNo.{DiskNo}
+use Rattle.tiger_base.specs.declared.number.Stamp.{Stamp}
 use Rattle.tiger_base.specs.declared.tenancy.Ask.{Ask}
 use Rattle.tiger_base.specs.declared.tenancy.Kind.{Kind}
+use Rattle.tiger_base.specs.declared.tenancy.Kind.TheVariants.{Own, Backup}
 use Rattle.slot_plan.specs.declared.params.Params.{Params}
 use Rattle.slot_plan.specs.Conditions.{IsPlan}
 use Rattle.slot_plan.specs.Keys.{Key}
@@ -13,11 +15,12 @@ use Rattle.partial_view.specs.Free.{IsFullAt}
 use Rattle.partial_view.proofs.Order.{all_implies}
 use Rattle.node_kit.specs.declared.outbox.Out.{Out}
 use Rattle.node_kit.specs.Steps.{Deed}
+use Rattle.node_kit.specs.Ways.{predecessor}
 use Rattle.insert_queue.specs.Queues.{Queues, without_start, oldest_for, IsOnce}
 use Rattle.node_kit.specs.Deeds.{Did, nothing, each_in_turn}
 use Rattle.cub_rules.specs.declared.store.Store.{Store}
 use Rattle.cub_rules.specs.State.{IsAsk}
-use Rattle.cub_rules.specs.Ticks.{is_for, free_on, put_or_wait, putting_each, putting_on, tenancy_from, disks_at}
+use Rattle.cub_rules.specs.Ticks.{is_for, free_on, put_or_wait, putting_each, putting_on, putting_for_dead, tenancy_from, disks_at, inserting, inserting_own, inserting_for_dead}
 use Rattle.cub_tick.specs.Placing.{putting_by, WaitForFull}
 use Rattle.cub_tick.proofs.FullDisks.{none_where_full}
 use Rattle.cub_tick.proofs.Waiting.{oldest_first, once_front}
@@ -92,10 +95,8 @@ module _ (kind : Kind) (p : Params) (cub reading at : ℕ) where
       ap (λ (x : Deed Msg Store). record { outs = x.outs ++ (disk_rule disks x.state).outs; state = (disk_rule disks x.state).state }) here ∙ none_on disks h e
 
   -- if none waits, nothing is done
-  pub none_waits_at : (h : Store) (out : List (Out Msg)) (waits : Bool) → waits ≡ not (length h.starts.waiting == 0) → waits ≡ false → Did (disk_rule (disks_at p at) h) out out h
-  none_waits_at h out waits is none =
-      let all : disk_rule (disks_at p at) h ≡ nothing h = none_on (disks_at p at) h (none_in h.starts.waiting (sym is ∙ none)) in
-      (sym (ap (λ (d : Deed Msg Store). out ++ d.outs) all ∙ append-nil out), sym (ap (λ (d : Deed Msg Store). d.state) all))
+  none_waits_at : (h : Store) → h.starts.waiting ≡ [] → disk_rule (disks_at p at) h ≡ nothing h
+  none_waits_at h none = none_on (disks_at p at) h none
 
   -- a start that waits for a full disk is not put
   none_put_on : (d : ℕ) (h : Store) (asks : List Ask) → AllByRecursion (λ a. None ≡ free_on p reading a.disk.0 h) asks → putting_each (putting_by kind p cub) p reading d (filter (is_for d) asks) h ≡ nothing h
@@ -119,12 +120,11 @@ module _ (kind : Kind) (p : Params) (cub reading at : ℕ) where
       ap (λ (x : Deed Msg Store). record { outs = x.outs ++ (disk_rule disks x.state).outs; state = (disk_rule disks x.state).state }) (none_put_on d h h.starts.waiting full) ∙ full_on disks h full
 
   -- if all that wait do so for full disks, nothing is done
-  pub full_waits_at : (h : Store) (out : List (Out Msg)) → IsPlan p → h.view.params ≡ p → WaitForFull reading h → Did (disk_rule (disks_at p at) h) out out h
-  full_waits_at h out ok plan full =
+  full_waits_at : (h : Store) → IsPlan p → h.view.params ≡ p → WaitForFull reading h → disk_rule (disks_at p at) h ≡ nothing h
+  full_waits_at h ok plan full =
       let none : AllByRecursion (λ a. None ≡ free_on p reading a.disk.0 h) h.starts.waiting =
       all_implies (λ (a : Ask). IsFullAt h.view.params a.disk.0 reading h.view.lines) (λ a. None ≡ free_on p reading a.disk.0 h) (λ a f. none_where_full p reading a.disk.0 h ok plan f) h.starts.waiting full in
-      let all : disk_rule (disks_at p at) h ≡ nothing h = full_on (disks_at p at) h none in
-      (sym (ap (λ (d : Deed Msg Store). out ++ d.outs) all ∙ append-nil out), sym (ap (λ (d : Deed Msg Store). d.state) all))
+      full_on (disks_at p at) h none
 
   -- one disk more
   pub disk_done : (first : Store) (before : List (Out Msg)) (row : ℕ) (disk : DiskNo) (h : Store) (out : List (Out Msg)) (now : Store) (after : List (Out Msg))
@@ -136,3 +136,43 @@ module _ (kind : Kind) (p : Params) (cub reading at : ℕ) where
       comes_on (disk_rule (disks_at p at) first) before (disk_rule (disks_from p at row) h) out (putting_on (putting_by kind p cub) p reading d) (disk_rule (disks_from p at (row + 1))) h now after
       comes (ap (λ (ds : List ℕ). disk_rule ds h) (disks_next p at row more))
       (subst (λ (n : ℕ). Did (putting_on (putting_by kind p cub) p reading n h) out after now) number did)
+
+module _ (p : Params) (cub : ℕ) (stamp : Stamp) where
+  nothing_if : (b : Bool) (h : Store) (d : Deed Msg Store) → d ≡ nothing h → cond b d (nothing h) ≡ nothing h
+  nothing_if true h d e = e
+  nothing_if false h d e = refl
+
+  -- nothing is done on the predecessor's disks if all that wait do so for full disks, or if it is not believed dead
+  dead_none : (h : Store) → h.starts.waiting ≡ [] → inserting_for_dead p cub stamp h ≡ nothing h
+  dead_none h none = nothing_if h.believes h _ (none_waits_at Backup p cub stamp.reading (predecessor p cub) h none)
+
+  pub dead_full : (h : Store) → IsPlan p → h.view.params ≡ p → WaitForFull stamp.reading h → inserting_for_dead p cub stamp h ≡ nothing h
+  dead_full h ok plan full = nothing_if h.believes h _ (full_waits_at Backup p cub stamp.reading (predecessor p cub) h ok plan full)
+
+  pub not_dead : (h : Store) → h.believes ≡ false → inserting_for_dead p cub stamp h ≡ nothing h
+  not_dead h e = ap (λ (b : Bool). cond b (each_in_turn (putting_on (putting_for_dead p cub) p stamp.reading) (disks_at p (predecessor p cub)) h) (nothing h)) e
+
+  -- if nothing is done there behind what is done on the cub's own disks, that is all
+  pub own_alone : (first : Store) (before out : List (Out Msg)) (h : Store) → Did (inserting_own p cub stamp first) before out h
+      → inserting_for_dead p cub stamp h ≡ nothing h → Did (inserting p cub stamp first) before out h
+  unfolding inserting
+  own_alone first before out h did dead =
+      let own : Deed Msg Store = inserting_own p cub stamp first in
+      let none : inserting_for_dead p cub stamp own.state ≡ nothing own.state = subst (λ (s : Store). inserting_for_dead p cub stamp s ≡ nothing s) did.1 dead in (
+        did.0 ∙ ap (λ (os : List (Out Msg)). before ++ os) (sym (ap (λ (d : Deed Msg Store). own.outs ++ d.outs) none ∙ append-nil own.outs)),
+        did.1 ∙ sym (ap (λ (d : Deed Msg Store). d.state) none),
+      )
+
+  did_nothing : (out : List (Out Msg)) (h : Store) (d : Deed Msg Store) → d ≡ nothing h → Did d out out h
+  did_nothing out h d all =
+      (sym (ap (λ (d : Deed Msg Store). out ++ d.outs) all ∙ append-nil out), sym (ap (λ (d : Deed Msg Store). d.state) all))
+
+  -- if none waits, insertion does nothing
+  pub none_inserted : (h : Store) (out : List (Out Msg)) (waits : Bool) → waits ≡ not (length h.starts.waiting == 0) → waits ≡ false → Did (inserting p cub stamp h) out out h
+  none_inserted h out waits is none =
+      let no_start = none_in h.starts.waiting (sym is ∙ none) in
+      own_alone h out out h (did_nothing out h _ (none_waits_at Own p cub stamp.reading cub h no_start)) (dead_none h no_start)
+
+  -- if all that wait do so for full disks, neither
+  pub full_inserted : (h : Store) (out : List (Out Msg)) → IsPlan p → h.view.params ≡ p → WaitForFull stamp.reading h → Did (inserting p cub stamp h) out out h
+  full_inserted h out ok plan full = own_alone h out out h (did_nothing out h _ (full_waits_at Own p cub stamp.reading cub h ok plan full)) (dead_full h ok plan full)

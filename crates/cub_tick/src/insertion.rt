@@ -38,8 +38,12 @@ pub fn insert<'a>(
         (inserting site.now.plan.params site.now.cub.0 stamp store.old)
         out.old out.new store.new) }
 {
+    // Most ticks end here: no start waits, or those that do wait for full disks.
+    if !store.starts.waits() || all_full(store, stamp.reading) {
+        return Ok(());
+    }
     put_at(site, stamp.reading, site.cub, Kind::Own, store, out)?;
-    if store.believes {
+    if store.believes && !all_full(store, stamp.reading) {
         put_at(
             site,
             stamp.reading,
@@ -72,13 +76,6 @@ fn put_at<'a>(
     ensures plan { OnOk result (store.new.view.params ≡ site.now.plan.params) }
     ensures asks { OnOk result (AllByRecursion IsAsk store.new.starts.waiting) }
 {
-    if !store.starts.waits() {
-        return Ok(());
-    }
-    // While starts wait for full disks, most ticks end here.
-    if all_full(store, reading) {
-        return Ok(());
-    }
     let p = &site.plan.params;
     for row in 0..p.disks {
         let disk = DiskNo((u64::from(cub.0) + row * p.cubs) as u32);

@@ -1,15 +1,7 @@
 use Rattle.std.proofs.Common.{arith}
 use Rattle.cub_tick.proofs.FullDisks.{disk_in}
-use Rattle.cub_tick.proofs.Turns.{none_waits_at, full_waits_at, disk_done}
+use Rattle.cub_tick.proofs.Turns.{disk_done}
 use Rattle.cub_tick.proofs.insertion.put_at.Goals as goal
-
-pub returns-then-not-waits-clause-did : goal.returns-then-not-waits-clause-did
-returns-then-not-waits-clause-did c =
-    none_waits_at c.args.kind c.args.site.now.plan.params c.args.site.now.cub.0 c.args.reading c.args.cub.0 c.args.store.now c.args.out.now c.waits.result c.waits.ensures c.if-not-waits.true
-
-pub returns-then-all_full-clause-did : goal.returns-then-all_full-clause-did
-returns-then-all_full-clause-did c =
-    full_waits_at c.args.kind c.args.site.now.plan.params c.args.site.now.cub.0 c.args.reading c.args.cub.0 c.args.store.now c.args.out.now c.args.site.now.plan.sound c.requires.plan (c.all_full.ensures c.if-all_full.true)
 
 pub put_on-requires-clause-disk : goal.put_on-requires-clause-disk
 put_on-requires-clause-disk c =
