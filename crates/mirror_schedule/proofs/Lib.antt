@@ -1,4 +1,6 @@
 pub mod Endings
+pub mod Firsts
+pub mod Insertions
 pub mod KeptSplits
 pub mod Members
 pub mod Numbers
@@ -8,6 +10,5 @@ pub mod PlaceRemovals
 pub mod Places
 pub mod Ranks
 pub mod Removals
-pub mod SplitRemovals
 pub mod Timed
 pub mod TimedPieces

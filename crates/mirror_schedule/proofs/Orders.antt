@@ -1,7 +1,8 @@
 -- Lists in an order, and what is put into them.
-use Rattle.std.proofs.Common.{◌≡◌, ℕ, ◌+◌, ◌-◌, ◌≤◌, Bool, true, false, cond, List, [], ◌∷◌, length, suc, Some, None, refl, ap, sym, ◌∙◌, arith}
-use Rattle.std.specs.List.{AllByRecursion, filter, insert}
+use Rattle.std.proofs.Common.{◌≡◌, ℕ, ◌+◌, ◌-◌, ◌≤◌, Bool, true, false, cond, List, [], ◌∷◌, length, zero, suc, Some, None, refl, ap, sym, ◌∙◌, arith}
+use Rattle.std.specs.List.{AllByRecursion, filter, insert, remove}
 use Rattle.mirror_schedule.specs.Sorted.{IsSorted, with_one, gap_from, without_first}
+use Rattle.mirror_schedule.proofs.Timed.{all_remove}
 
 -- what a comparison is to do: nothing comes before itself, and what comes before a second that comes before a third comes before that
 pub record IsOrder {X : Type 0} (before : X → X → Bool) : Type 0 where
@@ -58,6 +59,12 @@ module _ {X : Type 0} (before : X → X → Bool) where
         | true ↦ h.1
         | false ↦ (all_without_first (λ y. before x y ≡ true) test xs h.0, sorted_without_first test xs h.1)
       ]
+
+  pub sorted_remove : (xs : List X) (i : ℕ) → IsSorted before xs → IsSorted before (remove xs i)
+  sorted_remove [] zero h = tt
+  sorted_remove [] (suc i) h = tt
+  sorted_remove (x ∷ xs) zero h = h.1
+  sorted_remove (x ∷ xs) (suc i) h = (all_remove (λ y. before x y ≡ true) xs i h.0, sorted_remove xs i h.1)
 
   -- an element put into a list in order, by what the two tests give at the first one
   sorted_put : IsOrder before → (x y : X) (ys : List X) (a b : Bool) → before x y ≡ a → before y x ≡ b → IsSorted before (y ∷ ys) → IsSorted before (with_one before x ys)

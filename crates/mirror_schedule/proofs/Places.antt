@@ -30,7 +30,7 @@ find_past test (x ∷ xs) (suc i) l = find_past test xs i (omega (arith, l))
 
 module _ {X : Type 0} (before : X → X → Bool) where
   -- nothing comes both before and behind another
-  asymmetric : IsOrder before → (x y : X) → before x y ≡ true → before y x ≡ false
+  pub asymmetric : IsOrder before → (x y : X) → before x y ≡ true → before y x ≡ false
   asymmetric order x y e = cases (before y x) refl
     where
       cases : (t : Bool) → before y x ≡ t → before y x ≡ false

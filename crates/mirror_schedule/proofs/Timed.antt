@@ -57,7 +57,7 @@ module _ {X : Type 0} (P : X → Type 0) where
   all_back (suc i) [] h = tt
   all_back (suc i) (x ∷ xs) h = all_back i xs h.1
 
-  all_joined : (xs ys : List X) → AllByRecursion P xs → AllByRecursion P ys → AllByRecursion P (xs ++ ys)
+  pub all_joined : (xs ys : List X) → AllByRecursion P xs → AllByRecursion P ys → AllByRecursion P (xs ++ ys)
   all_joined [] ys h g = g
   all_joined (x ∷ xs) ys h g = (h.0, all_joined xs ys h.1 g)
 

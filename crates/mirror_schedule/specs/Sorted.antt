@@ -27,6 +27,11 @@ with_one before x (y ∷ ys) =
     if before x y then x ∷ y ∷ ys
     else (if before y x then y ∷ with_one before x ys else y ∷ ys)
 
+-- the elements of a list of any order, put in the order, each once
+abbrev pub in_order : {X : Type 0} → (X → X → Bool) → List X → List X
+in_order before [] = []
+in_order before (x ∷ xs) = with_one before x (in_order before xs)
+
 -- the place of a new element in a list whose first place has a number; none if it is there
 abbrev pub gap_from : {X : Type 0} → (X → X → Bool) → X → ℕ → List X → Option ℕ
 gap_from before x place [] = Some place

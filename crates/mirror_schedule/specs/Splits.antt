@@ -1,11 +1,11 @@
 -- Visits that were split: whose, their slots and their numbers.
-use Rattle.std.specs.Prelude.{◌≡◌, ℕ, ◌+◌, ◌≤◌, ◌==◌, nat_le, Bool, true, not, List, [], ◌∷◌, count_by}
-use Rattle.std.specs.List.{AllByRecursion, filter, list_any}
+use Rattle.std.specs.Prelude.{◌≡◌, ℕ, ◌+◌, ◌^◌, ◌<◌, ◌&&◌, ◌==◌, nat_le, nat_lt, Bool, true, false, List, [], ◌∷◌, length, take, get_or, Option, Some, None, if◌then◌else◌}
+use Rattle.std.specs.List.{AllByRecursion}
 use Rattle.tiger_base.specs.declared.number.Instance.{Instance}
 use Rattle.tiger_base.specs.declared.number.SlotNo.{SlotNo}
 use Rattle.slot_plan.specs.declared.params.Params.{Params}
 use Rattle.slot_plan.specs.Keys.{Key, IsKey, due_of}
-use Rattle.mirror_schedule.specs.Sorted.{is_less, are_same, IsSorted, with_one}
+use Rattle.mirror_schedule.specs.Sorted.{is_less, IsSorted, with_one, in_order}
 use Rattle.mirror_schedule.specs.Timed.{end_of}
 
 -- an instance, a slot and a visit
@@ -32,40 +32,40 @@ is_over p reading x = nat_le (due_of p (key_of x) + p.play) reading
 unfoldable pub split_before : Split → Split → Bool
 split_before a b = is_less (a.1.0 ∷ a.2 ∷ a.0.0 ∷ []) (b.1.0 ∷ b.2 ∷ b.0.0 ∷ [])
 
--- split visits in this order, each once
-abbrev pub IsSplits : List Split → Type 0
-IsSplits items = IsSorted split_before items
-
--- whether two are the same
-unfoldable pub is_split : Split → Split → Bool
-is_split a b = are_same (a.1.0 ∷ a.2 ∷ a.0.0 ∷ []) (b.1.0 ∷ b.2 ∷ b.0.0 ∷ [])
-
--- the time beside a visit is the end of its play time, if it may be one of the plan's
-abbrev pub IsKept : Params → Split × ℕ → Type 0
-IsKept p x = IsSplitOf p x.0 → x.1 ≡ end_of p (key_of x.0)
-
--- whether one stands among some that are beside their ends
-abbrev pub is_listed : List (Split × ℕ) → Split → Bool
-is_listed endings x = list_any (λ e. is_split e.0 x) endings
-
--- no end comes before one ahead of it
-abbrev pub IsRising : List (Split × ℕ) → Type 0
-IsRising [] = Unit {0}
-IsRising (x ∷ xs) = AllByRecursion (λ y. x.1 ≤ y.1) xs × IsRising xs
-
--- split visits in this order, each of them among some that stand beside their ends, by these ends
-pub record AreKept (p : Params) (items : List Split) (endings : List (Split × ℕ)) : Type 0 where
-  pub order : IsSplits items
-  pub listed : AllByRecursion (λ x. is_listed endings x ≡ true) items
-  pub kept : AllByRecursion (IsKept p) endings
-  pub rising : IsRising endings
-
--- what is left of some if those that are over at a reading are gone, and how many these are
-pub record AreLeft (p : Params) (reading count : ℕ) (old items : List Split) (endings : List (Split × ℕ)) : Type 0 where
-  pub kept : AreKept p items endings
-  pub number : count ≡ count_by (is_over p reading) old
-  pub left : items ≡ filter (λ x. not (is_over p reading x)) old
-
 -- some split visits with one more at its place in the order; one that is there stays as it is
 unfoldable pub with_split : Split → List Split → List Split
 with_split x items = with_one split_before x items
+
+-- split visits of any order, put in this order
+abbrev pub by_slot : List Split → List Split
+by_slot items = in_order split_before items
+
+-- the end that stands beside a visit: of its play time, if it may be one of the plan's
+abbrev pub kept_end : Params → Key → ℕ
+kept_end p k = if nat_lt k.0.0 p.slots && nat_le k.1 (2 ^ 32) then end_of p k else 0
+
+-- whether a visit ends before another one, or at the same time and comes before it
+unfoldable pub ends_before : Split × ℕ → Split × ℕ → Bool
+ends_before a b = is_less (a.1 ∷ a.0.1.0 ∷ a.0.2 ∷ a.0.0.0 ∷ []) (b.1 ∷ b.0.1.0 ∷ b.0.2 ∷ b.0.0.0 ∷ [])
+
+-- split visits beside their ends, in the order of these, each once
+pub record AreKept (p : Params) (items : List (Split × ℕ)) : Type 0 where
+  pub order : IsSorted ends_before items
+  pub ends : AllByRecursion (λ x. x.1 ≡ kept_end p (key_of x.0)) items
+
+-- whether a visit comes before one that was found, if one was
+abbrev pub is_sooner : Split → Option (Split × ℕ) → Bool
+is_sooner x None = true
+is_sooner x (Some found) = split_before x found.0
+
+-- a visit of an instance, and its place among some; none of the instance comes before it, of as many as were looked at
+pub record IsFoundFor (instance : Instance) (items : List (Split × ℕ)) (many : ℕ) (found : Split × ℕ) : Type 0 where
+  pub inside : found.1 < length items
+  pub at : (get_or items found.1 found).0 ≡ found.0
+  pub own : is_of instance found.0 ≡ true
+  pub first : AllByRecursion (λ x. is_of instance x.0 ≡ true → split_before x.0 found.0 ≡ false) (take many items)
+
+-- what was found if there was one
+abbrev pub IsSoonestOf : Instance → List (Split × ℕ) → ℕ → Option (Split × ℕ) → Type 0
+IsSoonestOf instance items many None = AllByRecursion (λ x. is_of instance x.0 ≡ false) (take many items)
+IsSoonestOf instance items many (Some found) = IsFoundFor instance items many found

@@ -10,11 +10,11 @@ use std::collections::VecDeque;
 use tiger_base::{Micros, PieceState, Visit};
 
 /// A piece, and the time at which it leaves.
-pub type TimedPiece = (PieceState, Micros);
+pub(crate) type TimedPiece = (PieceState, Micros);
 
 /// When a piece leaves.
 #[tactic(auto, unfolding(crate::specs::Pieces::leaving_of))]
-pub fn leaving(plan: &Plan, x: &PieceState) -> Micros
+pub(crate) fn leaving(plan: &Plan, x: &PieceState) -> Micros
     requires { IsPieceOf plan.now.params x.now }
     ensures { result ≡ leaving_of plan.now.params x.now }
 {
@@ -24,7 +24,7 @@ pub fn leaving(plan: &Plan, x: &PieceState) -> Micros
 
 /// Whether one piece comes before another, by the times beside them.
 #[tactic(auto, unfolding(crate::specs::TimedPieces::timed_before))]
-pub fn comes_before(a: &TimedPiece, b: &TimedPiece) -> bool
+pub(crate) fn comes_before(a: &TimedPiece, b: &TimedPiece) -> bool
     ensures { result ≡ timed_before a.now b.now }
 {
     rank(a) < rank(b)
@@ -53,7 +53,7 @@ fn rank(x: &TimedPiece) -> Rank
 }
 
 /// Whether a piece comes behind the given one, if one is given.
-pub fn is_behind(given: &Option<TimedPiece>, x: &TimedPiece) -> bool
+pub(crate) fn is_behind(given: &Option<TimedPiece>, x: &TimedPiece) -> bool
     ensures { result ≡ timed_behind given.now x.now }
 {
     match given {
@@ -63,7 +63,7 @@ pub fn is_behind(given: &Option<TimedPiece>, x: &TimedPiece) -> bool
 }
 
 /// The place of a new piece among some in their order, found by halving; `None` if it is there.
-pub fn gap_for(items: &VecDeque<TimedPiece>, x: &TimedPiece) -> Option<usize>
+pub(crate) fn gap_for(items: &VecDeque<TimedPiece>, x: &TimedPiece) -> Option<usize>
     requires { IsSorted timed_before items.now.items }
     ensures { result ≡ gap_from timed_before x.now 0 items.now.items }
 {
@@ -76,7 +76,7 @@ pub fn gap_for(items: &VecDeque<TimedPiece>, x: &TimedPiece) -> Option<usize>
 }
 
 /// How many pieces come before the given one, of some in their order.
-pub fn first_not_before(items: &VecDeque<TimedPiece>, x: &TimedPiece) -> usize
+pub(crate) fn first_not_before(items: &VecDeque<TimedPiece>, x: &TimedPiece) -> usize
     requires { IsSorted timed_before items.now.items }
     ensures place { result ≡ place_of timed_before x.now items.now.items }
     ensures inside { result ≤ length items.now.items }

@@ -1,11 +1,8 @@
 //! The visits that a cub has split and still remembers.
-ghost use Rattle.std.specs.Prelude.{◌≡◌, ◌≤◌, [], length, take, drop, nat_le, not, filter, count_by, find, position, option_map, OnOk, OnErr};
+ghost use Rattle.std.specs.Prelude.{◌≡◌, ◌≤◌, [], length, nat_le, not, filter, count_by, find, option_map, OnOk, OnErr};
 ghost use Rattle.std.specs.List.{AllByRecursion};
-ghost use Rattle.slot_plan.specs.declared.params.Params.{Params};
-ghost use Rattle.slot_plan.specs.Keys.{IsKey};
-ghost use Rattle.mirror_schedule.specs.Splits.{Split, IsSplitOf, IsSplits, IsRising, AreKept, AreLeft, is_split, key_of, is_of, is_over, with_split, split_before};
-ghost use Rattle.mirror_schedule.specs.Sorted.{gap_from, place_of, without_first, first_if, but_first_if};
-ghost use Rattle.mirror_schedule.specs.Timed.{end_of};
+ghost use Rattle.mirror_schedule.specs.Splits.{IsSplitOf, IsSoonestOf, key_of, is_of, is_over, is_sooner, with_split, split_before, ends_before, kept_end};
+ghost use Rattle.mirror_schedule.specs.Sorted.{IsSorted, gap_from, place_of, without_first, first_if, but_first_if};
 
 use crate::times::has_same_times;
 use slot_plan::Plan;
@@ -25,21 +22,21 @@ type Ending = (Split, Micros);
 #[derive(Drop)]
 pub struct Splits {
     plan: Plan,
-    items: Vec<Split>,
-    // All items, and visits that were taken, beside the ends of their play times under the plan. They stand in the
-    // order of these ends: those that are over come first, so no tick walks over the items.
-    endings: VecDeque<Ending>,
+    // Beside the ends of their play times under the plan, and in the order of these ends: a new one nearly always
+    // comes last, and those that are over come first, so neither moves the others.
+    items: VecDeque<Ending>,
 }
 
 impl Model for Splits {
     ghost use Rattle.std.specs.Prelude.{List};
-    ghost use Rattle.mirror_schedule.specs.Splits.{Split, AreKept};
+    ghost use Rattle.mirror_schedule.specs.Splits.{Split, AreKept, by_slot};
+    ghost use Rattle.mirror_schedule.specs.Timed.{untimed};
 
     ghost Value = { List Split };
 
-    ghost view = { λ s. s.items.items };
+    ghost view = { λ s. by_slot (untimed s.items.items) };
 
-    ghost invariant = { λ s. AreKept s.plan.params s.items.items s.endings.items };
+    ghost invariant = { λ s. AreKept s.plan.params s.items.items };
 }
 
 impl Splits {
@@ -49,8 +46,7 @@ impl Splits {
     {
         Splits {
             plan: *plan,
-            items: Vec::new(alloc),
-            endings: VecDeque::new(alloc),
+            items: VecDeque::new(alloc),
         }
     }
 
@@ -64,13 +60,10 @@ impl Splits {
         ensures ok { OnOk result (self.new ≡ with_split (instance, slot, visit) self.old) }
         ensures err { OnErr result (self.new ≡ self.old) }
     {
-        let split = (instance, slot, visit);
-        match gap_for(&self.items, &split) {
+        let ending = ((instance, slot, visit), end_of(&self.plan, slot, visit));
+        match gap_for(&self.items, &ending) {
             Some(place) => {
-                let end = end_of(&self.plan, slot, visit);
-                let behind = place_by_end(&self.endings, end);
-                self.endings.insert(behind, (split, end))?;
-                self.items.insert(place, split)?;
+                self.items.insert(place, ending)?;
                 Ok(())
             }
             None => Ok(()),
@@ -83,9 +76,13 @@ impl Splits {
         ensures first { result ≡ option_map key_of (find (is_of instance) self.old) }
         ensures left { self.new ≡ without_first (is_of instance) self.old }
     {
-        let place = first_of(&self.items, instance)?;
-        let (_, slot, visit) = self.items.remove(place);
-        Some((slot, visit))
+        match first_of(&self.items, instance) {
+            Some((x, place)) => {
+                self.items.remove(place);
+                Some((x.1, x.2))
+            }
+            None => None,
+        }
     }
 
     /// Forgets the visits whose play time is over at a reading, and answers how many.
@@ -94,8 +91,11 @@ impl Splits {
         ensures count { result ≡ count_by (is_over plan.now.params reading) self.old }
         ensures left { self.new ≡ filter (λ x. not (is_over plan.now.params reading x)) self.old }
     {
-        if has_same_times(&self.plan.params, &plan.params) {
-            forget_ended(&mut self.items, &mut self.endings, reading)
+        // Most cubs remember none, and compare no plans.
+        if self.items.is_empty() {
+            0
+        } else if has_same_times(&self.plan.params, &plan.params) {
+            forget_ended(&mut self.items, reading)
         } else {
             forget_over(&mut self.items, plan, reading)
         }
@@ -110,30 +110,52 @@ fn comes_before(a: &Split, b: &Split) -> bool
     (a.1.0, a.2, a.0.0) < (b.1.0, b.2, b.0.0)
 }
 
-/// The place of a new one among some in their order, found by halving; `None` if it is there.
-fn gap_for(items: &Vec<Split>, x: &Split) -> Option<usize>
-    requires { IsSplits items.now.items }
-    ensures { result ≡ gap_from split_before x.now 0 items.now.items }
+/// Whether one split visit ends before another, or at the same time and comes before it.
+#[tactic(auto, unfolding(crate::specs::Splits::ends_before))]
+fn ends_before(a: &Ending, b: &Ending) -> bool
+    ensures { result ≡ ends_before a.now b.now }
 {
-    let place = first_not_before(items, x);
-    if place < items.len() && !comes_before(x, &items[place]) {
+    (a.1, a.0.1.0, a.0.2, a.0.0.0) < (b.1, b.0.1.0, b.0.2, b.0.0.0)
+}
+
+/// The place of a new one among some in the order of their ends; `None` if it is there.
+fn gap_for(items: &VecDeque<Ending>, x: &Ending) -> Option<usize>
+    requires { IsSorted ends_before items.now.items }
+    ensures { result ≡ gap_from ends_before x.now 0 items.now.items }
+{
+    let place = place_for(items, x);
+    if place < items.len() && !ends_before(x, &items[place]) {
         None
     } else {
         Some(place)
     }
 }
 
-/// How many come before the given one, of some in their order.
-fn first_not_before(items: &Vec<Split>, x: &Split) -> usize
-    requires { IsSplits items.now.items }
-    ensures place { result ≡ place_of split_before x.now items.now.items }
+/// How many end before the given one. Most new visits end last, so the last one is looked at first.
+fn place_for(items: &VecDeque<Ending>, x: &Ending) -> usize
+    requires { IsSorted ends_before items.now.items }
+    ensures place { result ≡ place_of ends_before x.now items.now.items }
+    ensures inside { result ≤ length items.now.items }
+{
+    let many = items.len();
+    if many > 0 && ends_before(&items[many - 1], x) {
+        many
+    } else {
+        first_not_before(items, x)
+    }
+}
+
+/// How many end before the given one, found by halving.
+fn first_not_before(items: &VecDeque<Ending>, x: &Ending) -> usize
+    requires { IsSorted ends_before items.now.items }
+    ensures place { result ≡ place_of ends_before x.now items.now.items }
     ensures inside { result ≤ length items.now.items }
 {
     let mut low = 0;
     let mut high = items.len();
     while low < high {
         let middle = low + (high - low) / 2;
-        if comes_before(&items[middle], x) {
+        if ends_before(&items[middle], x) {
             low = middle + 1;
         } else {
             high = middle;
@@ -142,17 +164,33 @@ fn first_not_before(items: &Vec<Split>, x: &Split) -> usize
     low
 }
 
-/// The index of the first of an instance's visits.
-fn first_of(items: &[Split], instance: Instance) -> Option<usize>
-    ensures { result ≡ position (is_of instance) items.now }
+/// The place of the first of an instance's visits, by slot and then visit, and the visit.
+fn first_of(items: &VecDeque<Ending>, instance: Instance) -> Option<(Split, usize)>
+    ensures { IsSoonestOf instance items.now.items (length items.now.items) result }
 {
-    items.iter().position(|x| x.0 == instance)
+    let mut first = None;
+    for i in 0..items.len() {
+        let x = items[i].0;
+        if x.0 == instance && is_sooner(&x, &first) {
+            first = Some((x, i));
+        }
+    }
+    first
+}
+
+/// Whether a visit comes before one that was found, if one was.
+fn is_sooner(x: &Split, found: &Option<(Split, usize)>) -> bool
+    ensures { result ≡ is_sooner x.now found.now }
+{
+    match found {
+        Some((y, _)) => comes_before(x, y),
+        None => true,
+    }
 }
 
 /// The end of a visit's play time, if the visit may be one of the plan's; else 0.
 fn end_of(plan: &Plan, slot: SlotNo, visit: Visit) -> Micros
-    ensures { IsKey plan.now.params (slot, visit)
-        → result ≡ end_of plan.now.params (slot, visit) }
+    ensures { result ≡ kept_end plan.now.params (slot, visit) }
 {
     if u64::from(slot.0) < plan.params.slots && visit <= 4294967296 {
         plan.due(slot, visit) + plan.params.play
@@ -161,58 +199,28 @@ fn end_of(plan: &Plan, slot: SlotNo, visit: Visit) -> Micros
     }
 }
 
-/// The place behind those that end at a time or before it. Most new visits end last, so the search begins there.
-fn place_by_end(endings: &VecDeque<Ending>, end: Micros) -> usize
-    requires { IsRising endings.now.items }
-    ensures inside { result ≤ length endings.now.items }
-    ensures ahead { AllByRecursion (λ x. x.1 ≤ end) (take result endings.now.items) }
-    ensures behind { AllByRecursion (λ x. end ≤ x.1) (drop result endings.now.items) }
-{
-    for i in (0..endings.len()).rev() {
-        if endings[i].1 <= end {
-            return i + 1;
-        }
-    }
-    0
-}
-
-/// Forgets the visits whose play time is over by their ends, and answers how many.
-fn forget_ended(items: &mut Vec<Split>, endings: &mut VecDeque<Ending>, reading: Micros) -> u64
-    requires { IsSplits items.old.items }
-    ensures { (p : Params) → AllByRecursion (IsSplitOf p) items.old.items
-        → AreKept p items.old.items endings.old.items
-        → AreLeft p reading result items.old.items items.new.items endings.new.items }
+/// Forgets the visits that end by a reading, of some in the order of their ends, and answers how
+/// many.
+fn forget_ended(items: &mut VecDeque<Ending>, reading: Micros) -> u64
+    requires { IsSorted ends_before items.old.items }
+    ensures count { result ≡ count_by (λ x. nat_le x.1 reading) items.old.items }
+    ensures left { items.new.items ≡ filter (λ x. not (nat_le x.1 reading)) items.old.items }
 {
     let before = items.len();
-    while let Some(split) = take_ended(endings, reading) {
-        forget(items, &split);
-    }
+    while take_ended(items, reading).is_some() {}
     (before - items.len()) as u64
 }
 
 /// Takes out the first visit if it ends by a time.
-fn take_ended(endings: &mut VecDeque<Ending>, time: Micros) -> Option<Split>
-    ensures first { result
-        ≡ option_map (λ x. x.0) (first_if (λ x. nat_le x.1 time) endings.old.items) }
-    ensures left { endings.new.items ≡ but_first_if (λ x. nat_le x.1 time) endings.old.items }
+fn take_ended(items: &mut VecDeque<Ending>, time: Micros) -> Option<Ending>
+    ensures first { result ≡ first_if (λ x. nat_le x.1 time) items.old.items }
+    ensures left { items.new.items ≡ but_first_if (λ x. nat_le x.1 time) items.old.items }
 {
-    let first = endings.front()?;
+    let first = items.front()?;
     if first.1 <= time {
-        let (split, _) = endings.pop_front()?;
-        Some(split)
+        items.pop_front()
     } else {
         None
-    }
-}
-
-/// Forgets a visit if it is there, of some in their order.
-fn forget(items: &mut Vec<Split>, x: &Split)
-    requires { IsSplits items.old.items }
-    ensures { items.new.items ≡ filter (λ y. not (is_split x.now y)) items.old.items }
-{
-    let place = first_not_before(items, x);
-    if place < items.len() && !comes_before(x, &items[place]) {
-        items.remove(place);
     }
 }
 
@@ -226,15 +234,15 @@ fn is_over(x: &Split, plan: &Plan, reading: Micros) -> bool
 }
 
 /// Removes the visits whose play time is over, and answers how many.
-fn forget_over(items: &mut Vec<Split>, plan: &Plan, reading: Micros) -> u64
-    requires { AllByRecursion (IsSplitOf plan.now.params) items.old.items }
-    ensures count { result ≡ count_by (is_over plan.now.params reading) items.old.items }
+fn forget_over(items: &mut VecDeque<Ending>, plan: &Plan, reading: Micros) -> u64
+    requires { AllByRecursion (λ x. IsSplitOf plan.now.params x.0) items.old.items }
+    ensures count { result ≡ count_by (λ x. is_over plan.now.params reading x.0) items.old.items }
     ensures left { items.new.items ≡
-        filter (λ x. not (is_over plan.now.params reading x)) items.old.items }
+        filter (λ x. not (is_over plan.now.params reading x.0)) items.old.items }
 {
     let mut count = 0;
     for i in (0..items.len()).rev() {
-        if is_over(&items[i], plan, reading) {
+        if is_over(&items[i].0, plan, reading) {
             items.remove(i);
             count += 1;
         }

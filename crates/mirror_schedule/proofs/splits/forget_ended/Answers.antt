@@ -1,19 +1,14 @@
-use Rattle.std.proofs.Common.{List, subst, sym, refl, arith}
-use Rattle.mirror_schedule.specs.Splits.{Split, IsSplits, split_before}
-use Rattle.mirror_schedule.proofs.Endings.{all_gone, gone_on, shorter}
-use Rattle.mirror_schedule.proofs.Orders.{sorted_filter}
-use Rattle.mirror_schedule.proofs.SplitRemovals.{others}
+use Rattle.std.proofs.Common.{sym, ◌∙◌, arith}
+use Rattle.mirror_schedule.proofs.Endings.{all_gone, many_gone}
 use Rattle.mirror_schedule.proofs.splits.forget_ended.Goals as goal
 
-pub loop-split-preserved : goal.loop-split-preserved
-loop-split-preserved c = record {
-  order = subst (λ (xs : List Split). IsSplits xs) (sym c.forget.ensures) (sorted_filter split_before (others c.in-Some.split) c.loop-split.items.items c.loop-split.invariant.order);
-  shorter = shorter c.in-Some.split c.loop-split.items.items c.forget.new.items.items _ c.forget.ensures c.loop-split.invariant.shorter;
-  way = λ p here kept. gone_on p c.args.reading c.in-Some.split c.args.items.now.items c.loop-split.items.items c.forget.new.items.items c.loop-split.endings.items c.take_ended.new.endings.items
-      c.in-Some.ensures.first c.in-Some.ensures.left c.forget.ensures (c.loop-split.invariant.way p here kept);
-}
+pub returns-clause-count : goal.returns-clause-count
+returns-clause-count c =
+    many_gone c.args.reading c.args.items.now.items c.loop.items.items c.take_ended.new.items.items c.take_ended.result c.loop.invariant.order c.loop.invariant.left
+    c.take_ended.ensures.first (sym c.is_some.ensures ∙ c.loop-test.false) c.take_ended.ensures.left
+    c.len-before.result c.len.result (omega (arith, c.len-before.ensures, c.args.items.now.ok.0)) (omega (arith, c.len.ensures, c.take_ended.new.items.ok.0))
 
-pub returns : goal.returns
-returns c = λ p here kept.
-    all_gone p c.args.reading c.args.items.now.items c.loop-split.items.items c.loop-split.endings.items c.take_ended.new.endings.items c.len-before.result c.len.result _ (omega (arith, c.len-before.ensures, c.args.items.now.ok.0)) (omega (arith, c.len.ensures, c.loop-split.items.ok.0)) refl c.in_default.ensures.first c.in_default.ensures.left
-    (c.loop-split.invariant.way p here kept)
+pub returns-clause-left : goal.returns-clause-left
+returns-clause-left c =
+    all_gone c.args.reading c.args.items.now.items c.loop.items.items c.take_ended.new.items.items c.take_ended.result c.loop.invariant.order c.loop.invariant.left
+    c.take_ended.ensures.first (sym c.is_some.ensures ∙ c.loop-test.false) c.take_ended.ensures.left

@@ -5,7 +5,7 @@ use Rattle.mirror_schedule.proofs.splits.forget_over.Goals as goal
 
 pub loop-i-preserved : goal.loop-i-preserved
 loop-i-preserved c =
-    let next = left_next (λ x. is_over c.args.plan.now.params c.args.reading x) c.args.items.now.items c.loop-i.items.items c.loop-i.count c.loop-i.i c.index.result.now
+    let next = left_next (λ x. is_over c.args.plan.now.params c.args.reading x.0) c.args.items.now.items c.loop-i.items.items c.loop-i.count c.loop-i.i c.index.result.now
     c.loop-i-test.true c.loop-i.invariant.bound c.loop-i.invariant.rest c.loop-i.invariant.count c.index.ensures
     (sym c.is_over.ensures ∙ c.if-is_over.false) in
     record { bound = next.bound; rest = next.rest; count = next.number }
