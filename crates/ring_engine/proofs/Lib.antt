@@ -3,6 +3,7 @@ pub mod Awaiting
 pub mod Channels
 pub mod Delivering
 pub mod Happening
+pub mod Idling
 pub mod Looking
 pub mod Progressing
 pub mod Running

@@ -1,13 +1,10 @@
 //! The events of a node in a run: it takes messages, it ticks, it dies.
-ghost use Rattle.std.specs.Prelude.{◌≡◌, ◌+◌, ◌<◌, ◌≤◌, ◌∷◌, [], OnOk, true};
-ghost use Rattle.std.specs.Bool.{OnTrue};
+ghost use Rattle.std.specs.Prelude.{◌≡◌, ◌+◌, ◌<◌, ◌≤◌, ◌∷◌, [], OnOk};
 ghost use Rattle.tiger_base.specs.Limits.{most_beats, most_reading};
 ghost use Rattle.node_kit.specs.Links.{in_links_of, viewers_of};
-ghost use Rattle.node_kit.specs.Life.{acts};
-ghost use Rattle.node_kit.specs.Steps.{Rests};
 ghost use Rattle.node_kit.specs.Steps.Input.{Take, Tick};
 ghost use Rattle.run_facts.specs.Events.NodeEvent.{Does};
-ghost use Rattle.ring_engine.specs.Traffic.{collected, after_collecting};
+ghost use Rattle.ring_engine.specs.Traffic.{collected};
 ghost use Rattle.ring_engine.specs.Turns.{scene, IsReadyFor, KeepsReady, happens, happen, turn, links_of_letters};
 ghost use Rattle.run_facts.specs.Beats.{letter_events, end_events, beat_events};
 
@@ -17,26 +14,6 @@ use node_kit::{Entry, Journal, Life, Node, Outbox, What};
 use run_facts::Letter;
 use std::collections::VecDeque;
 use tiger_base::{Message, NoMemory, NodeNo, Stamp};
-
-/// Whether a node's beat is idle: nothing arrives at it, and its tick would put nothing out and
-/// change nothing. It may say no if it is.
-fn is_idle<M: Message, T: Node<M>>(
-    stamp: Stamp,
-    number: NodeNo,
-    node: &T,
-    life: &Life,
-    mail: &Mail<M>,
-) -> bool
-    ensures none { OnTrue result
-        (collected stamp.beat (in_links_of mail.now.links number.0) mail.now.channels ≡ []) }
-    ensures left { OnTrue result
-        (after_collecting stamp.beat (in_links_of mail.now.links number.0) mail.now.channels
-        ≡ mail.now.channels) }
-    ensures acts { OnTrue result (acts life.now stamp.beat ≡ true) }
-    ensures rests { OnTrue result (Rests T.step stamp node.now) }
-{
-    mail.is_quiet(stamp.beat, number) && life.acts(stamp.beat) && node.rests(stamp)
-}
 
 /// A node's beat: it takes what has arrived on its in-links, by link number and then in the link's
 /// order, and then ticks. What it does not hear is lost, and where it does not act all of it is;
@@ -72,17 +49,51 @@ pub fn live<M: Message, T: Node<M>>(
     ensures links { OnOk result (mail.new.links ≡ mail.old.links) }
     ensures outputs { OnOk result (outputs.new ≡ []) }
 {
-    // Most nodes are idle in most beats.
-    if is_idle(stamp, number, node, life, mail) {
-        return Ok(());
+    // To most nodes that are not idle nothing comes.
+    if mail.is_quiet(stamp.beat, number) {
+        return end_beat(stamp, node, life, journal, mail, outputs);
     }
+    live_with_mail(stamp, number, node, life, journal, mail, letters, outputs)
+}
+
+/// The beat of a node at which something may arrive.
+// It stands apart from `live`, so that the loop over all nodes stays small.
+#[inline(never)]
+fn live_with_mail<M: Message, T: Node<M>>(
+    stamp: Stamp,
+    number: NodeNo,
+    node: &mut T,
+    life: &mut Life,
+    journal: &mut Journal,
+    mail: &mut Mail<M>,
+    letters: &mut VecDeque<Letter<M>>,
+    outputs: &mut Outbox<M>,
+) -> Result<(), NoMemory>
+    requires early { stamp.beat ≤ most_beats }
+    requires reading { stamp.reading ≤ most_reading }
+    requires number { number.0 < viewers_of mail.old.links + 1 }
+    requires letters { letters.old.items ≡ [] }
+    requires outputs { outputs.old ≡ [] }
+    requires ready { IsReadyFor T.stands_at stamp.beat (in_links_of mail.old.links number.0)
+        (scene node.old life.old journal.old mail.old.channels) }
+    ensures turn { OnOk result ((scene node.new life.new journal.new mail.new.channels)
+        ≡ turn M.note_of T.step stamp (in_links_of mail.old.links number.0)
+        (scene node.old life.old journal.old mail.old.channels)) }
+    ensures keeps { OnOk result (KeepsReady M.note_of T.step T.stands_at stamp.beat
+        (beat_events M.note_of T.step stamp
+        (collected stamp.beat (in_links_of mail.old.links number.0) mail.old.channels)
+        (record { state = node.old; life = life.old; journal = journal.old }))
+        (scene node.old life.old journal.old mail.old.channels)
+        (scene node.new life.new journal.new mail.new.channels)) }
+    ensures letters { OnOk result (letters.new.items ≡ []) }
+    ensures links { OnOk result (mail.new.links ≡ mail.old.links) }
+    ensures outputs { OnOk result (outputs.new ≡ []) }
+{
     mail.gather(stamp.beat, number, letters)?;
     take_all(stamp, letters, node, life, journal, mail, outputs)?;
     end_beat(stamp, node, life, journal, mail, outputs)
 }
 
-// It stands apart from `live`, so that the loop over nodes that are idle stays small.
-#[inline(never)]
 fn take_all<M: Message, T: Node<M>>(
     stamp: Stamp,
     letters: &mut VecDeque<Letter<M>>,
@@ -184,7 +195,7 @@ fn take_one<M: Message, T: Node<M>>(
 }
 
 /// The end of a node's beat: it ticks where it acts, and where it dies it writes that it does.
-// It stands apart as `take_all` does.
+// It stands apart as `live_with_mail` does.
 #[inline(never)]
 fn end_beat<M: Message, T: Node<M>>(
     stamp: Stamp,

@@ -6,6 +6,7 @@ mod delivery;
 mod events;
 mod for_tests;
 mod gathering;
+mod idle;
 mod mail;
 mod opening;
 mod run;

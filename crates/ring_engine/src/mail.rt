@@ -96,8 +96,6 @@ impl<M: Drop> Mail<M> {
 
     /// Takes out what has arrived at a node by a beat, as letters: link for link, and the oldest
     /// first.
-    // It stands apart, as what is done for few nodes in a beat.
-    #[inline(never)]
     pub fn gather(
         &mut self,
         beat: Beat,
@@ -114,9 +112,6 @@ impl<M: Drop> Mail<M> {
             ≡ after_collecting beat (in_links_of self.old.links node.0) self.old.channels) }
         ensures links { OnOk result (self.new.links ≡ self.old.links) }
     {
-        if self.is_quiet(beat, node) {
-            return Ok(());
-        }
         let in_links = self.in_links[node.0 as usize].as_slice();
         match gather(beat, in_links, &mut self.channels, letters) {
             Ok(until) => {

@@ -14,6 +14,7 @@ ghost use Rattle.ring_engine.specs.Places.{ring, IsSound, AllHaveLived};
 ghost use Rattle.node_kit.specs.Rows.{AllStand, each_below};
 
 use crate::events::live;
+use crate::idle::next_busy;
 use crate::mail::Mail;
 use crate::opening::{all_dials, all_lives, new_journals};
 use node_kit::{Course, Dial, Journal, Life, LinkTable, Node, Outbox, Ran};
@@ -112,7 +113,8 @@ fn run_beat<M: Message, T: Node<M>>(
     ensures letters { OnOk result (letters.new.items ≡ []) }
     ensures outputs { OnOk result (outputs.new ≡ []) }
 {
-    for n in 0..nodes.len() {
+    let mut n = next_busy(beat, 0, dials, nodes.as_slice(), lives.as_slice(), mail);
+    while n < nodes.len() {
         let stamp = dials[n].stamp(beat);
         live(
             stamp,
@@ -124,6 +126,7 @@ fn run_beat<M: Message, T: Node<M>>(
             letters,
             outputs,
         )?;
+        n = next_busy(beat, n + 1, dials, nodes.as_slice(), lives.as_slice(), mail);
     }
     Ok(())
 }

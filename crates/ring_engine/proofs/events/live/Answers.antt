@@ -1,38 +1,23 @@
+use Rattle.std.proofs.Common.{refl, sym}
 use Rattle.std.proofs.lemmas.Result.{on_ok_weaker}
-use Rattle.ring_engine.proofs.Happening.{links-lead, ready-letters, ready-kept, turned, turned-keeps, idle-turned, idle-turned-keeps}
+use Rattle.ring_engine.proofs.Happening.{turned, turned-keeps, idle-keeps}
 use Rattle.ring_engine.proofs.events.live.Goals as goal
-
-pub returns-then-is_idle-clause-turn : goal.returns-then-is_idle-clause-turn
-returns-then-is_idle-clause-turn g c =
-    let idle = c.if-is_idle.ensures in
-    idle-turned g.M.Message.note_of g.T.Node.step c.args.stamp _ _ idle.none idle.left idle.acts idle.rests
-
-pub returns-then-is_idle-clause-keeps : goal.returns-then-is_idle-clause-keeps
-returns-then-is_idle-clause-keeps g c =
-    let idle = c.if-is_idle.ensures in
-    idle-turned-keeps g.M.Message.note_of g.T.Node.step g.T.Node.stands_at c.args.stamp _ _ idle.none idle.left idle.acts idle.rests
-
-pub gather-requires-clause-in_links : goal.gather-requires-clause-in_links
-gather-requires-clause-in_links g c =
-    let r = c.requires.ready in
-    links-lead r.params r.number _ _ r.ready.count r.lead
-
-pub take_all-requires-clause-ready : goal.take_all-requires-clause-ready
-take_all-requires-clause-ready g c =
-    ready-letters _ _ _ _ c.args.mail.now.channels _ _ c.in_ok-gather.ensures.letters c.in_ok-gather.ensures.channels c.requires.ready
 
 pub end_beat-requires-clause-ready : goal.end_beat-requires-clause-ready
 end_beat-requires-clause-ready g c =
-    ready-kept _ _ _ _ _ _ _ _ c.in_ok-take_all.ensures.keeps (ready-letters _ _ _ _ c.args.mail.now.channels _ _ c.in_ok-gather.ensures.letters c.in_ok-gather.ensures.channels c.requires.ready)
+    let r = c.requires.ready in
+    record { params = r.params; number = r.number; ready = r.ready; lead = _ }
 
-pub returns-clause-turn : goal.returns-clause-turn
-returns-clause-turn g c =
+pub returns-then-is_quiet-clause-turn : goal.returns-then-is_quiet-clause-turn
+returns-then-is_quiet-clause-turn g c =
+    let quiet = c.if-is_quiet.ensures in
     on_ok_weaker c.end_beat.result
-    (λ d. turned _ _ _ _ _ c.args.mail.now.channels _ _ _ _ c.in_ok-gather.ensures.letters c.in_ok-gather.ensures.channels c.in_ok-take_all.ensures.takes d)
+    (λ d. turned _ _ _ _ _ c.args.mail.now.channels c.args.mail.now.channels _ _ _ (sym quiet.none) (sym quiet.left) refl d)
     c.end_beat.ensures.ends
 
-pub returns-clause-keeps : goal.returns-clause-keeps
-returns-clause-keeps g c =
+pub returns-then-is_quiet-clause-keeps : goal.returns-then-is_quiet-clause-keeps
+returns-then-is_quiet-clause-keeps g c =
+    let quiet = c.if-is_quiet.ensures in
     on_ok_weaker c.end_beat.result
-    (λ d. turned-keeps _ _ _ _ _ _ c.args.mail.now.channels _ _ _ _ c.in_ok-gather.ensures.letters c.in_ok-gather.ensures.channels c.in_ok-take_all.ensures.takes c.in_ok-take_all.ensures.keeps d)
+    (λ d. turned-keeps g.M.Message.note_of g.T.Node.step g.T.Node.stands_at _ _ _ c.args.mail.now.channels c.args.mail.now.channels _ _ _ (sym quiet.none) (sym quiet.left) refl (idle-keeps g.M.Message.note_of g.T.Node.step g.T.Node.stands_at _ _) d)
     c.end_beat.ensures.keeps

@@ -7,12 +7,6 @@ use Rattle.ring_engine.specs.Traffic.{IsLink}
 use Rattle.ring_engine.proofs.Looking.{gathered, row-seen, letters-seen, channels-seen}
 use Rattle.ring_engine.proofs.mail.Mail.gather.Goals as goal
 
-pub returns-then-is_quiet-clause-letters : goal.returns-then-is_quiet-clause-letters
-returns-then-is_quiet-clause-letters g c = c.requires.letters ∙ sym c.if-is_quiet.ensures.none
-
-pub returns-then-is_quiet-clause-channels : goal.returns-then-is_quiet-clause-channels
-returns-then-is_quiet-clause-channels g c = sym c.if-is_quiet.ensures.left
-
 pub index-requires : goal.index-requires
 index-requires g c =
     let rows = ap length c.self.invariant.in_links ∙ length-each_below (in_links_of c.self.inside.links) (viewers_of c.self.inside.links + 1) in
