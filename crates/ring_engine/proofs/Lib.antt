@@ -4,6 +4,7 @@ pub mod Channels
 pub mod Delivering
 pub mod Happening
 pub mod Idling
+pub mod InRows
 pub mod Looking
 pub mod Progressing
 pub mod Running

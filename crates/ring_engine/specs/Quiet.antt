@@ -1,5 +1,5 @@
 -- When something may next arrive at each node of a run.
-use Rattle.std.specs.Prelude.{◌≡◌, ℕ, ◌+◌, ◌≤◌, true, List, [], ◌∷◌, Some, get_or, slice_get}
+use Rattle.std.specs.Prelude.{◌≡◌, ℕ, ◌+◌, ◌≤◌, true, List, [], ◌∷◌, ◌++◌, Option, None, Some, get_or, slice_get}
 use Rattle.std.specs.Option.{option_map_or}
 use Rattle.tiger_base.specs.declared.number.LinkNo.{LinkNo}
 use Rattle.tiger_base.specs.declared.number.NodeNo.{NodeNo}
@@ -7,6 +7,7 @@ use Rattle.node_kit.specs.Links.{Links, ends_of, in_links_of, leads_to, link_cou
 use Rattle.node_kit.specs.Rows.{each_below}
 use Rattle.run_facts.specs.declared.mail.Flight.{Flight}
 use Rattle.run_facts.specs.Rings.{Traffic}
+use Rattle.ring_engine.specs.Traffic.{changed_at}
 
 -- the links of a run, and what is under way on each
 pub record Network (M : Type 0) : Type 0 where
@@ -29,6 +30,11 @@ AreQuiet {M} links quiet_until ts = (l n : ℕ) → leads_to n (ends_of links l)
 -- the node that link l leads to, or 0 if there is no such link
 abbrev pub receiver_of : Links → ℕ → NodeNo
 receiver_of links l = option_map_or (λ ends. record { 0 = ends.1 }) (ends_of links l) (record { 0 = 0 })
+
+-- rows of links by node, with a link of these ends behind the row of the node that it leads to
+abbrev pub with_in_link : Option (ℕ × ℕ) → LinkNo → List (List LinkNo) → List (List LinkNo)
+with_in_link None link rows = rows
+with_in_link (Some ends) link rows = changed_at (λ row. row ++ link ∷ []) rows ends.1
 
 -- each row is the in-links of its node, each receiver is that of its link, and the nodes are quiet until the beats that
 -- are kept for them

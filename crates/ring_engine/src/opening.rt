@@ -1,13 +1,14 @@
 //! What a run begins with: the in-links, clocks, lives and journals of the nodes, and the channels
 //! with their receivers.
-ghost use Rattle.std.specs.Prelude.{◌≡◌, ◌+◌, [], IfOk};
+ghost use Rattle.std.specs.Prelude.{◌≡◌, ◌+◌, [], ◌∷◌, ◌++◌, IfOk, OnOk};
 ghost use Rattle.link_timing.specs.Clock.{FixedIsWithin};
 ghost use Rattle.node_kit.specs.Courses.{IsCourse, setting_of};
 ghost use Rattle.node_kit.specs.Life.{lifetime_of};
-ghost use Rattle.node_kit.specs.Links.{link_count, viewers_of, in_links_of};
+ghost use Rattle.node_kit.specs.Links.{ends_of, link_count, viewers_of, in_links_of};
 ghost use Rattle.ring_engine.specs.Places.{new_channel};
 ghost use Rattle.node_kit.specs.Rows.{each_below};
-ghost use Rattle.ring_engine.specs.Quiet.{receiver_of};
+ghost use Rattle.ring_engine.specs.Quiet.{receiver_of, with_in_link};
+ghost use Rattle.ring_engine.specs.Traffic.{changed_at};
 
 use crate::channel::Channel;
 use node_kit::{Course, Dial, Journal, Life, LinkTable};
@@ -93,13 +94,51 @@ fn receiver(links: &LinkTable, link: LinkNo) -> NodeNo
 }
 
 /// The in-links of each node, by link number.
-#[tactic(auto, using(node_kit::proofs::Rows::each_below_more))]
+// In one pass over the links: to find where a link leads can take divisions.
 pub fn all_in_links(alloc: Global, links: &LinkTable) -> Result<Vec<Sequence<LinkNo>>, NoMemory>
     ensures { IfOk result (λ r. r.items ≡ each_below (in_links_of links.now) (viewers_of links.now + 1)) }
 {
-    let mut rows = Vec::new(alloc);
-    for node in 0..links.nodes() {
-        rows.push(links.in_links(alloc, NodeNo(node))?)?;
+    let mut rows = empty_rows(alloc, links)?;
+    for link in 0..links.count() {
+        add_in_link(links, LinkNo(link), &mut rows)?;
     }
     Ok(rows)
+}
+
+/// A row with no link for each node.
+#[tactic(auto, using(node_kit::proofs::Rows::each_below_more))]
+fn empty_rows(alloc: Global, links: &LinkTable) -> Result<Vec<Sequence<LinkNo>>, NoMemory>
+    ensures { IfOk result (λ r. r.items ≡ each_below (λ _. []) (viewers_of links.now + 1)) }
+{
+    let mut rows = Vec::new(alloc);
+    for _node in 0..links.nodes() {
+        rows.push(Sequence::new(Vec::new(alloc)))?;
+    }
+    Ok(rows)
+}
+
+/// Puts a link at the end of the row of the node that it leads to.
+fn add_in_link(
+    links: &LinkTable,
+    link: LinkNo,
+    rows: &mut Vec<Sequence<LinkNo>>,
+) -> Result<(), NoMemory>
+    ensures { OnOk result
+        (rows.new.items ≡ with_in_link (ends_of links.now link.0) link rows.old.items) }
+{
+    match links.ends(link) {
+        Some((_, to)) => put_in(to, link, rows),
+        None => Ok(()),
+    }
+}
+
+fn put_in(to: NodeNo, link: LinkNo, rows: &mut Vec<Sequence<LinkNo>>) -> Result<(), NoMemory>
+    ensures { OnOk result
+        (rows.new.items ≡ changed_at (λ row. row ++ link ∷ []) rows.old.items to.0) }
+{
+    let place = to.0 as usize;
+    if place < rows.len() {
+        return rows[place].push(link);
+    }
+    Ok(())
 }
