@@ -1,5 +1,5 @@
 //! What has arrived at a node.
-ghost use Rattle.std.specs.Prelude.{◌≡◌, ◌<◌, [], ◌∷◌, ◌++◌, IfOk, OnOk, vec_len};
+ghost use Rattle.std.specs.Prelude.{◌≡◌, ◌<◌, [], ◌++◌, IfOk, OnOk, vec_len};
 ghost use Rattle.std.specs.List.{AllByRecursion};
 ghost use Rattle.ring_engine.specs.Quiet.{IsQuietOn};
 ghost use Rattle.ring_engine.specs.Traffic.{letters_on, emptied, collected, after_collecting, IsLink};
