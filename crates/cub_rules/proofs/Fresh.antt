@@ -1,18 +1,20 @@
 -- What becomes of parts beside their ends, and of those that are not forgotten.
-use Rattle.std.proofs.Common.{◌≡◌, ℕ, ◌-◌, ◌<◌, ◌≤◌, ◌&&◌, max, Bool, true, cond, not, nat_le, nat_lt, List, [], ◌∷◌, ◌++◌, length, get_or, map, refl, sym, ap, ◌∙◌, ⊎_elim, arith}
+use Rattle.std.proofs.Common.{◌≡◌, ℕ, ◌-◌, ◌<◌, ◌≤◌, ◌==◌, ◌&&◌, max, Bool, true, cond, not, nat_le, nat_lt, List, [], ◌∷◌, ◌++◌, length, get_or, map, refl, sym, ap, ◌∙◌, ⊎_elim, arith}
 use Rattle.std.specs.List.{All, AllByRecursion, filter}
-use Rattle.std.proofs.lemmas.Bool.{and_parts, and_right, cases_lt, le-ltb, le-leb, lt-leb, lt-ltb}
+use Rattle.std.proofs.lemmas.Bool.{and_parts, and_right, cases_lt, eqb-true, le-ltb, le-leb, lt-leb, lt-ltb}
 use Rattle.std.proofs.lemmas.List.{map_push}
 use Rattle.std.proofs.lemmas.List.Elements.{All-filter, All-push, filter-append}
 use Rattle.std.proofs.lemmas.List.Kept.{IsNonDecreasingBy-filter}
 use Rattle.std.proofs.lemmas.List.Sorted.{IsNonDecreasingBy-push}
 use Rattle.slot_plan.specs.declared.params.Params.{Params}
+use Rattle.tiger_base.specs.declared.tenancy.Want.{Want}
+use Rattle.mirror_pieces.specs.Pieces.{leaving}
 use Rattle.mirror_schedule.specs.Timed.{has_same_times}
 use Rattle.mirror_schedule.proofs.Timed.{ends_alike}
 use Rattle.partial_view.proofs.Dues.{map-filter}
 use Rattle.cub_rules.specs.declared.parts.KeptPart.{KeptPart}
 use Rattle.cub_rules.specs.declared.store.StoredPart.{StoredPart}
-use Rattle.cub_rules.specs.Fresh.{end_of, is_fresh, fresh_parts, IsTimed, AreKept, is_stale_here}
+use Rattle.cub_rules.specs.Fresh.{end_of, leaves_at, leaves_alike, is_fresh, fresh_parts, IsTimed, AreKept, is_stale_here}
 use Rattle.cub_rules.specs.State.{IsPartHere}
 use Rattle.cub_rules.specs.Ticks.{is_stale}
 use Rattle.cub_rules.proofs.Filters.{filter-swap, filter-twice}
@@ -55,9 +57,9 @@ fresh-later p q time reading later ks alike timed is =
     ∙ map-filter part_of (λ x. not (is_stale q reading x)) (filter (is_fresh time) ks)
   where
     here : (k : KeptPart) → IsTimed p k → is_fresh later k ≡ (is_fresh time k && not (is_stale q reading k.stored))
-    here k end =
+    here k own =
         later_too time reading later k.end is
-        ∙ ap (λ (n : ℕ). is_fresh time k && not (nat_le n reading)) (end ∙ ends_alike p q (k.stored.want.slot, k.stored.want.visit) alike)
+        ∙ ap (λ (n : ℕ). is_fresh time k && not (nat_le n reading)) (own.end ∙ ends_alike p q (k.stored.want.slot, k.stored.want.visit) alike)
 
 -- if all parts are of visits of a plan, a test of that changes nothing
 pub stale_here : (p : Params) (reading : ℕ) (xs : List StoredPart) → AllByRecursion (IsPartHere p) xs → filter (λ x. not (is_stale_here p reading x)) xs ≡ filter (λ x. not (is_stale p reading x)) xs
@@ -75,16 +77,30 @@ pub kept-filter : (p : Params) (timed : Bool) (test : KeptPart → Bool) (ks : L
 kept-filter p timed test ks h = record {
   exact = λ so. All-filter test (IsTimed p) ks (h.exact so);
   order = IsNonDecreasingBy-filter (λ (k : KeptPart). k.top) test ks h.order;
-  above = All-filter test (λ (k : KeptPart). k.end ≤ k.top) ks h.above;
 }
 
+-- under plans whose times of leaving are the same, each want leaves at the same time
+leave_alike : (p q : Params) (want : Want) → leaves_alike p q ≡ true → leaves_at p want ≡ leaves_at q want
+leave_alike p q want h =
+    let both = and_parts (has_same_times p q) (p.pieces == q.pieces) h in
+    let play : p.play ≡ q.play = eqb-true _ _ (and_parts (p.cubs == q.cubs && p.disks == q.disks && p.slots == q.slots) (p.play == q.play) both.0).1 in
+    alike _ _ _ _ _ _ want.piece (omega (arith, play, ends_alike p q (want.slot, want.visit) both.0)) play (eqb-true _ _ both.1)
+  where
+    alike : (a b c d e f piece : ℕ) → a ≡ d → b ≡ e → c ≡ f → leaving a piece b c ≡ leaving d piece e f
+    alike a b c d e f piece i j k = rw (i, j, k) refl
+
 -- and if one comes, under a plan with the same times or under another one
-pub kept-push : (p q : Params) (own t : Bool) (k : KeptPart) (ks : List KeptPart) → t ≡ (own && has_same_times p q) → k.end ≡ end_of q k.stored.want → k.end ≤ k.top → All (λ (other : KeptPart). other.top ≤ k.top) ks
+pub kept-push : (p q : Params) (own t : Bool) (k : KeptPart) (ks : List KeptPart) → t ≡ (own && leaves_alike p q) → k.end ≡ end_of q k.stored.want → leaves_at q k.stored.want ≤ k.top → All (λ (other : KeptPart). other.top ≤ k.top) ks
     → AreKept p own ks → AreKept p t (ks ++ k ∷ [])
 kept-push p q own t k ks is end top tops h = record {
   exact = λ so.
-      let both = and_parts own (has_same_times p q) (sym is ∙ so) in
-      All-push (IsTimed p) ks k (h.exact both.0) (end ∙ sym (ends_alike p q (k.stored.want.slot, k.stored.want.visit) both.1));
+      let both = and_parts own (leaves_alike p q) (sym is ∙ so) in
+      All-push (IsTimed p) ks k (h.exact both.0) (here both.1);
   order = IsNonDecreasingBy-push (λ (other : KeptPart). other.top) ks k h.order (λ d some. tops (length ks - 1) d (omega (arith, some)));
-  above = All-push (λ (other : KeptPart). other.end ≤ other.top) ks k h.above top;
 }
+  where
+    here : leaves_alike p q ≡ true → IsTimed p k
+    here alike = record {
+      end = end ∙ sym (ends_alike p q (k.stored.want.slot, k.stored.want.visit) (and_parts (has_same_times p q) (p.pieces == q.pieces) alike).0);
+      top = omega (arith, top, leave_alike p q k.stored.want alike);
+    }

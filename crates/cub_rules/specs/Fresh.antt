@@ -1,11 +1,14 @@
--- Parts that a cub has stored, beside the ends of their visits' play times, and which of them are not forgotten.
-use Rattle.std.specs.Prelude.{◌≡◌, ℕ, ◌+◌, ◌≤◌, Bool, true, ◌&&◌, List, Option, nat_le, nat_lt, filter, map, find, option_map}
+-- Parts that a cub has stored, beside the ends of their visits' play times and when they leave, and which of them are
+-- not forgotten.
+use Rattle.std.specs.Prelude.{◌≡◌, ℕ, ◌+◌, ◌≤◌, Bool, true, ◌==◌, ◌&&◌, List, Option, nat_le, nat_lt, filter, map, find, option_map}
 use Rattle.std.specs.List.{All}
 use Rattle.std.specs.List.Sorted.{IsNonDecreasingBy}
 use Rattle.tiger_base.specs.declared.tenancy.Want.{Want}
 use Rattle.tiger_base.specs.Span.{LibraryPart}
 use Rattle.slot_plan.specs.declared.params.Params.{Params}
 use Rattle.slot_plan.specs.Times.{due}
+use Rattle.mirror_pieces.specs.Pieces.{leaving}
+use Rattle.mirror_schedule.specs.Timed.{has_same_times}
 use Rattle.node_kit.specs.Form.{is_place}
 use Rattle.cub_rules.specs.declared.parts.KeptPart.{KeptPart}
 use Rattle.cub_rules.specs.declared.store.StoredPart.{StoredPart}
@@ -13,6 +16,14 @@ use Rattle.cub_rules.specs.declared.store.StoredPart.{StoredPart}
 -- the end of the play time of a want's visit
 abbrev pub end_of : Params → Want → ℕ
 end_of p want = due p want.slot.0 want.visit + p.play
+
+-- when what is wanted leaves: a block when its visit is due, and its pieces one after another over the play time
+abbrev pub leaves_at : Params → Want → ℕ
+leaves_at p want = leaving (due p want.slot.0 want.visit) want.piece p.play p.pieces
+
+-- whether blocks and pieces leave at the same times under two plans
+abbrev pub leaves_alike : Params → Params → Bool
+leaves_alike p q = has_same_times p q && p.pieces == q.pieces
 
 -- whether the end beside a part comes after a time
 abbrev pub is_fresh : ℕ → KeptPart → Bool
@@ -22,17 +33,17 @@ is_fresh time k = nat_lt time k.end
 abbrev pub fresh_parts : ℕ → List KeptPart → List StoredPart
 fresh_parts time ks = map (λ k. k.stored) (filter (is_fresh time) ks)
 
--- the end beside a part is that of its visit under a plan's numbers
-abbrev pub IsTimed : Params → KeptPart → Type 0
-IsTimed p k = k.end ≡ end_of p k.stored.want
+-- the end beside a part is that of its visit under a plan's numbers, and the top is no earlier than it leaves
+pub record IsTimed (p : Params) (k : KeptPart) : Type 0 where
+  pub end : k.end ≡ end_of p k.stored.want
+  pub top : leaves_at p k.stored.want ≤ k.top
 
--- If they are timed, their ends are those under a plan's numbers. No top falls, and none comes before the end beside it.
+-- If they are timed, their ends and tops are those under a plan's numbers. No top falls.
 pub record AreKept (p : Params) (timed : Bool) (ks : List KeptPart) : Type 0 where
   pub exact : timed ≡ true → All (IsTimed p) ks
   pub order : IsNonDecreasingBy (λ k. k.top) ks
-  pub above : All (λ k. k.end ≤ k.top) ks
 
--- the first part that passes a test, beside its end
+-- the first part that passes a test, which may look at what stands beside it
 abbrev pub first_part : (KeptPart → Bool) → List KeptPart → Option LibraryPart
 first_part test ks = option_map (λ k. k.stored.part) (find test ks)
 

@@ -1,11 +1,12 @@
-//! The parts that a cub has stored, and the ends of their play times, by which they are found and forgotten.
-ghost use Rattle.std.specs.Prelude.{◌≡◌, ◌<◌, ◌≤◌, ◌==◌, ◌&&◌, ◌++◌, ◌∷◌, [], IsTrue, OnOk, OnErr, nat_lt, not};
+//! The parts that a cub has stored: by when they leave they are found, and by the ends of their visits' play times
+//! forgotten.
+ghost use Rattle.std.specs.Prelude.{◌≡◌, ◌<◌, ◌≤◌, ◌&&◌, ◌++◌, ◌∷◌, [], true, IsTrue, OnOk, OnErr, nat_lt, not};
 ghost use Rattle.std.specs.List.{All, AllByRecursion, filter};
 ghost use Rattle.std.specs.List.Sorted.{IsNonDecreasingBy};
 ghost use Rattle.tiger_base.specs.Records.{same_want};
 ghost use Rattle.mirror_schedule.specs.Timed.{has_same_times};
 ghost use Rattle.node_kit.specs.Form.{is_place};
-ghost use Rattle.cub_rules.specs.Fresh.{end_of, is_fresh, first_part, is_stale_here};
+ghost use Rattle.cub_rules.specs.Fresh.{end_of, leaves_at, leaves_alike, is_fresh, first_part, is_stale_here};
 ghost use Rattle.cub_rules.specs.Messages.{is_piece_part};
 ghost use Rattle.cub_rules.specs.Records.{is_part_of, stored_for};
 ghost use Rattle.cub_rules.specs.State.{IsPartHere};
@@ -24,11 +25,11 @@ const LEAST_ADDED: usize = 32;
 /// Among so many of the last parts a part is looked for first.
 const LAST_PARTS: usize = 32;
 
-/// A part, the end of its visit's play time, and the latest end up to it when it came.
+/// A part, the end of its visit's play time, and the latest time at which it or one before it leaves.
 #[derive(Drop)]
 pub(crate) struct KeptPart<'a> {
     end: Micros,
-    // Ends may fall and tops do not, so a search halves by tops.
+    // The times of leaving may fall and tops do not, so a search halves by tops.
     top: Micros,
     stored: StoredPart<'a>,
 }
@@ -38,7 +39,7 @@ pub(crate) struct KeptPart<'a> {
 pub struct StoredParts<'a> {
     items: Vec<KeptPart<'a>>,
     plan: Plan,
-    // The ends are those under the plan: no part came under one with other times.
+    // The ends and the tops are those under the plan: under each that a part came under, all leave at the same times.
     timed: bool,
     // A part whose end is at it or before it is forgotten: it stands there until it is swept out.
     forgotten_to: Micros,
@@ -82,7 +83,8 @@ impl<'a> StoredParts<'a> {
         }
         let end = end_of(want, &self.plan);
         if self.forgotten_to < end {
-            find_by_end(want, end, &self.items)
+            let leaving = leaving_of(want, &self.plan);
+            find_by_leaving(want, leaving, &self.items)
         } else {
             None
         }
@@ -98,9 +100,9 @@ impl<'a> StoredParts<'a> {
         if end <= self.forgotten_to {
             sweep(&mut self.items, &mut self.forgotten_to);
         }
-        let top = top_with(&self.items, end);
+        let top = top_with(&self.items, leaving_of(stored.want, plan));
         self.items.push(KeptPart { end, top, stored })?;
-        self.timed = are_timed(self.timed, &self.plan, plan);
+        self.timed = stay_timed(self.timed, &self.plan, plan);
         Ok(())
     }
 
@@ -152,31 +154,45 @@ fn end_of(want: Want, plan: &Plan) -> Micros
     plan.due(want.slot, want.visit) + plan.params.play
 }
 
-/// The first part that is for a want and has this end. It came a short time ago in most cases, and then it is among the
-/// last parts: those before them have earlier tops.
-fn find_by_end<'a>(want: Want, end: Micros, items: &[KeptPart<'a>]) -> Option<Part<'a>>
-    requires order { IsNonDecreasingBy (λ k. k.top) items.now }
-    requires above { All (λ k. k.end ≤ k.top) items.now }
-    ensures { result ≡ first_part (λ k. k.end == end && same_want want k.stored.want) items.now }
+/// When what is wanted leaves: a block when it is due, and its pieces one after another over its play time.
+#[tactic(auto, unfolding(mirror_pieces::specs::Pieces::leaving))]
+fn leaving_of(want: Want, plan: &Plan) -> Micros
+    requires { IsTrue (is_place plan.now.params want.slot.0 want.visit) }
+    ensures { result ≡ leaves_at plan.now.params want }
 {
-    let far = items.len().saturating_sub(LAST_PARTS);
-    if far < items.len() && items[far].top < end {
-        find_in_order(want, end, &items[far..])
+    let due = plan.due(want.slot, want.visit);
+    if want.piece == 0 {
+        due
     } else {
-        find_in_order(want, end, items)
+        due + u64::from(want.piece - 1) * plan.params.play / plan.params.pieces
     }
 }
 
-/// The first part that is for a want and has this end: ends are earlier as long as tops are.
-fn find_in_order<'a>(want: Want, end: Micros, items: &[KeptPart<'a>]) -> Option<Part<'a>>
+/// The first part that is for a want, which leaves at this time. It came a short time ago in most cases, and then it is
+/// among the last parts: those before them have earlier tops.
+fn find_by_leaving<'a>(want: Want, leaving: Micros, items: &[KeptPart<'a>]) -> Option<Part<'a>>
     requires order { IsNonDecreasingBy (λ k. k.top) items.now }
-    requires above { All (λ k. k.end ≤ k.top) items.now }
-    ensures { result ≡ first_part (λ k. k.end == end && same_want want k.stored.want) items.now }
+    requires above { All (λ k. same_want want k.stored.want ≡ true → leaving ≤ k.top) items.now }
+    ensures { result ≡ first_part (λ k. same_want want k.stored.want) items.now }
 {
-    let first = items.partition_point(|kept| kept.top < end);
+    let far = items.len().saturating_sub(LAST_PARTS);
+    if far < items.len() && items[far].top < leaving {
+        find_in_order(want, leaving, &items[far..])
+    } else {
+        find_in_order(want, leaving, items)
+    }
+}
+
+/// The first part that is for a want, which leaves at this time: none is as long as tops are earlier.
+fn find_in_order<'a>(want: Want, leaving: Micros, items: &[KeptPart<'a>]) -> Option<Part<'a>>
+    requires order { IsNonDecreasingBy (λ k. k.top) items.now }
+    requires above { All (λ k. same_want want k.stored.want ≡ true → leaving ≤ k.top) items.now }
+    ensures { result ≡ first_part (λ k. same_want want k.stored.want) items.now }
+{
+    let first = items.partition_point(|kept| kept.top < leaving);
     for i in first..items.len() {
         let kept = &items[i];
-        if kept.end == end && is_for(want, &kept.stored) {
+        if is_for(want, &kept.stored) {
             return Some(kept.stored.part.again());
         }
     }
@@ -203,15 +219,15 @@ fn is_for<'a>(want: Want, x: &StoredPart<'a>) -> bool
     x.want == want
 }
 
-/// The latest end up to a part with this end, if it comes behind some others.
-fn top_with<'a>(items: &[KeptPart<'a>], end: Micros) -> Micros
+/// The top of a part that leaves at this time, if it comes behind some others.
+fn top_with<'a>(items: &[KeptPart<'a>], leaving: Micros) -> Micros
     requires { IsNonDecreasingBy (λ k. k.top) items.now }
-    ensures end { end ≤ result }
+    ensures own { leaving ≤ result }
     ensures tops { All (λ k. k.top ≤ result) items.now }
 {
     match items.last() {
-        Some(last) => last.top.max(end),
-        None => end,
+        Some(last) => last.top.max(leaving),
+        None => leaving,
     }
 }
 
@@ -220,6 +236,14 @@ fn are_timed(timed: bool, own: &Plan, plan: &Plan) -> bool
     ensures { result ≡ (timed && has_same_times own.now.params plan.now.params) }
 {
     timed && has_same_times(&own.params, &plan.params)
+}
+
+/// Whether ends and tops are those under their own plan still, once a part came under a plan: pieces leave at other times
+/// if a block has another number of them.
+fn stay_timed(timed: bool, own: &Plan, plan: &Plan) -> bool
+    ensures { result ≡ (timed && leaves_alike own.now.params plan.now.params) }
+{
+    are_timed(timed, own, plan) && own.params.pieces == plan.params.pieces
 }
 
 /// Sweeps out the forgotten parts, whose end is at a time or before it. Then the time is 0, up to which no part ends.

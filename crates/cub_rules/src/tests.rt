@@ -65,12 +65,18 @@ fn part_of<'a>(library: &'a Library, instance: u32, slot: u32) -> Result<StoredP
     ensures slot { IfOk result (λ x. x.want.slot.0 ≡ slot) }
     ensures visit { IfOk result (λ x. x.want.visit ≡ 0) }
 {
+    stored_for(library, want_of(instance, slot))
+}
+
+/// A part for a want.
+fn stored_for<'a>(library: &'a Library, want: Want) -> Result<StoredPart<'a>, Fail>
+    ensures { IfOk result (λ x. x.want ≡ want) }
+{
     let span = Span {
         file: FileNo(0),
         from: 0,
         len: 0,
     };
-    let want = want_of(instance, slot);
     let part = Part::of(library, span, b"").ok_or("no part")?;
     Ok(StoredPart { want, part })
 }
@@ -360,6 +366,66 @@ fn part_is_found_behind_many(rt: HostRuntime) -> Result<(), Fail> {
             found_behind_many(rt.alloc(), &library, count)?,
             (true, true)
         );
+    }
+    Ok(())
+}
+
+/// The small plan, if a block has a number of pieces.
+fn plan_of(pieces: u64) -> Plan
+    requires some { 1 ≤ pieces }
+    requires few { pieces ≤ 2 }
+    ensures { result.params.slots ≡ 16 }
+{
+    Plan {
+        params: Params {
+            pieces,
+            ..small_plan().params
+        },
+    }
+}
+
+/// Piece 2 of visit 0 of slot 1 for an instance.
+fn second_of(instance: u32) -> Want
+    ensures slot { result.slot.0 ≡ 1 }
+    ensures visit { result.visit ≡ 0 }
+{
+    Want {
+        piece: 2,
+        ..want_of(instance, 1)
+    }
+}
+
+/// Whether piece 2 of slot 1 is found for instance 99, and piece 1 for instances 0 and 98, if the parts are begun with a
+/// first plan, and come under a second: a number of pieces 1, for instances 0 and on, and then the other two.
+fn pieces_found<'a>(
+    alloc: Global,
+    library: &'a Library,
+    first: &Plan,
+    came: &Plan,
+    count: u32,
+) -> Result<(bool, (bool, bool)), Fail>
+    requires { 1 < came.now.params.slots }
+{
+    let mut parts = StoredParts::new(alloc, first);
+    push_many(&mut parts, came, library, count)?;
+    parts.push(came, stored_for(library, second_of(99))?)?;
+    parts.push(came, part_of(library, 98, 1)?)?;
+    let is_second = parts.part_for(second_of(99)).is_some();
+    Ok((is_second, found_of(&parts, (0, 1), (98, 1))))
+}
+
+#[test]
+fn pieces_are_found_though_they_leave_later_than_their_block_is_due(
+    rt: HostRuntime,
+) -> Result<(), Fail> {
+    let library = library(rt.alloc())?;
+    let one = plan_of(1);
+    let two = plan_of(2);
+    for (count, is_there) in [(0, false), (1, true), (30, true), (31, true), (64, true)] {
+        let all = (true, (is_there, true));
+        assert_eq!(rt; pieces_found(rt.alloc(), &library, &two, &two, count)?, all);
+        assert_eq!(rt; pieces_found(rt.alloc(), &library, &one, &two, count)?, all);
+        assert_eq!(rt; pieces_found(rt.alloc(), &library, &two, &one, count)?, all);
     }
     Ok(())
 }

@@ -1,10 +1,11 @@
-use Rattle.std.proofs.Common.{◌==◌, ◌&&◌, List, refl, ap, ◌∙◌}
+use Rattle.std.proofs.Common.{◌≡◌, ◌≤◌, ◌&&◌, true, List, refl, sym, ap, subst, ◌∙◌}
+use Rattle.std.specs.List.{All}
 use Rattle.tiger_base.specs.Records.{same_want}
 use Rattle.cub_rules.specs.declared.parts.KeptPart.{KeptPart}
 use Rattle.cub_rules.specs.declared.store.StoredPart.{StoredPart}
 use Rattle.cub_rules.specs.Fresh.{first_part, is_fresh}
 use Rattle.cub_rules.specs.Records.{stored_for}
-use Rattle.cub_rules.proofs.Finding.{found_by_end, found_fresh, none_by_end}
+use Rattle.cub_rules.proofs.Finding.{found_fresh, found_in_time, none_in_time, tops_of}
 use Rattle.cub_rules.proofs.parts.StoredParts.part_for.Goals as goal
 
 -- all that are not forgotten are looked through
@@ -15,17 +16,23 @@ returns-then-not-self c =
     ∙ (ap (λ (ks : List KeptPart). first_part test ks) c.deref.ensures.value
     ∙ (found_fresh c.args.want c.self.inside.forgotten_to test c.self.inside.items.items (λ i d l. refl) ∙ ap (λ (xs : List StoredPart). stored_for c.args.want xs) c.self.view_is))
 
--- those with its end are
+-- of those that are searched in the order of their tops
+pub find_by_leaving-requires-clause-above : goal.find_by_leaving-requires-clause-above
+find_by_leaving-requires-clause-above c =
+    subst (λ (ks : List KeptPart). All (λ (k : KeptPart). same_want c.args.want k.stored.want ≡ true → c.leaving_of-leaving.result ≤ k.top) ks) (sym c.deref-then-self-end.ensures.value)
+    (tops_of c.self.inside.plan.params c.args.want c.self.inside.items.items (c.self.invariant.exact c.if-not-self.false) c.leaving_of-leaving.result c.leaving_of-leaving.ensures)
+
+-- the first for the want is not forgotten
 pub returns-then-self-end : goal.returns-then-self-end
 returns-then-self-end c =
-    let test : KeptPart → _ = λ k. k.end == c.end_of-end.result && same_want c.args.want k.stored.want in
-    c.find_by_end.ensures
+    let test : KeptPart → _ = λ k. same_want c.args.want k.stored.want in
+    c.find_by_leaving.ensures
     ∙ (ap (λ (ks : List KeptPart). first_part test ks) c.deref-then-self-end.ensures.value
-    ∙ (found_by_end c.self.inside.plan.params c.args.want c.end_of-end.result c.self.inside.forgotten_to c.self.inside.items.items c.end_of-end.ensures.end (c.self.invariant.exact c.if-not-self.false) c.if-self-end.true
+    ∙ (found_in_time c.self.inside.plan.params c.args.want c.self.inside.items.items (c.self.invariant.exact c.if-not-self.false) c.end_of-end.result c.self.inside.forgotten_to c.end_of-end.ensures.end c.if-self-end.true
     ∙ ap (λ (xs : List StoredPart). stored_for c.args.want xs) c.self.view_is))
 
 -- none is left whose end is so early
 pub returns-else-self-end : goal.returns-else-self-end
 returns-else-self-end c =
-    none_by_end c.self.inside.plan.params c.args.want c.end_of-end.result c.self.inside.forgotten_to c.self.inside.items.items c.end_of-end.ensures.end (c.self.invariant.exact c.if-not-self.false) c.if-self-end.false
+    none_in_time c.self.inside.plan.params c.args.want c.self.inside.items.items (c.self.invariant.exact c.if-not-self.false) c.end_of-end.result c.self.inside.forgotten_to c.end_of-end.ensures.end c.if-self-end.false
     ∙ ap (λ (xs : List StoredPart). stored_for c.args.want xs) c.self.view_is

@@ -44,7 +44,7 @@ invariant_of-self-2 c =
     let k : KeptPart = record { end = c.end_of-end.result; top = c.top_with-top.result; stored = c.args.stored } in
     let tops = subst (λ (ks : List KeptPart). All (λ (other : KeptPart). other.top ≤ c.top_with-top.result) ks) c.deref.ensures.value c.top_with-top.ensures.tops in
     rw c.in_ok-push.ensures.items
-    (kept-push c.if-end-self.self-inside.plan.params c.args.plan.now.params c.if-end-self.self-inside.timed _ k c.if-end-self.self-inside.items.items c.are_timed-self-inside.ensures c.end_of-end.ensures.end c.top_with-top.ensures.end tops (ready (goal.at.invariant_of-self-2 c).After-deref).0)
+    (kept-push c.if-end-self.self-inside.plan.params c.args.plan.now.params c.if-end-self.self-inside.timed _ k c.if-end-self.self-inside.items.items c.stay_timed-self-inside.ensures c.end_of-end.ensures.end (rw (← c.leaving_of.ensures) c.top_with-top.ensures.own) tops (ready (goal.at.invariant_of-self-2 c).After-deref).0)
 
 pub returns-clause-ok : goal.returns-clause-ok
 returns-clause-ok c =
