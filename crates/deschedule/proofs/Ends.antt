@@ -4,8 +4,10 @@ use Rattle.std.specs.Prelude.{slice_set}
 use Rattle.std.proofs.lemmas.Bool.Decides.{nat_tests}
 use Rattle.tiger_base.specs.declared.number.Instance.{Instance}
 use Rattle.deschedule.specs.declared.held.Holding.{Holding}
-use Rattle.deschedule.specs.Holds.{AreFrom, AreHeld, is_held, is_kept, is_of, has_ended, holds_at, most_marked, must_pass, with_pass}
-use Rattle.deschedule.proofs.Marked.{held_left_marks, held_with, marked_left, marked_less, marked_more, unpassed_left, unpassed_pass, unpassed_with}
+use Rattle.deschedule.specs.Holds.{AreFrom, AreHeld, is_held, is_kept, is_of, has_ended, holds_at, must_pass, with_pass}
+use Rattle.instance_marks.specs.Marks.{most_marked}
+use Rattle.instance_marks.proofs.Marked.{marked_less, marked_more}
+use Rattle.deschedule.proofs.Marked.{held_left_marks, held_with, marked_left, unpassed_left, unpassed_pass, unpassed_with}
 use Rattle.deschedule.proofs.Once.{IsOnce-holds_at, IsOnce-more, IsOnce-with_pass, with_pass-held}
 
 from_more : (time least : ℕ) (holds : List Holding) (new : Holding) → AreFrom time holds → least ≤ time → least ≤ new.until → AreFrom least (holds ++ new ∷ [])

@@ -1,8 +1,9 @@
 -- The deschedules that are held, as a map from instances.
-use Rattle.std.specs.Prelude.{◌≡◌, ℕ, ◌≤◌, ◌<◌, Bool, true, false, ◌==◌, ◌&&◌, not, nat_lt, List, [], ◌∷◌, ◌++◌, map, filter, get_or, if◌then◌else◌}
+use Rattle.std.specs.Prelude.{◌≡◌, ℕ, ◌≤◌, Bool, true, false, ◌==◌, ◌&&◌, not, nat_lt, List, [], ◌∷◌, ◌++◌, map, filter, if◌then◌else◌}
 use Rattle.std.specs.List.{AllByRecursion, list_any}
 use Rattle.tiger_base.specs.declared.number.Instance.{Instance}
 use Rattle.deschedule.specs.declared.held.Holding.{Holding}
+use Rattle.instance_marks.specs.Marks.{AreMarked}
 
 abbrev pub is_of : Instance → Holding → Bool
 is_of v h = h.instance.0 == v.0
@@ -25,14 +26,6 @@ abbrev pub with_hold : List Holding → Instance → ℕ → List Holding
 with_hold holds v until =
     if is_held holds v then holds
     else holds ++ record { instance = v; until = until; passed = false } ∷ []
-
--- only instances with lower numbers have marks
-abbrev pub most_marked : ℕ
-most_marked = 4096
-
--- the mark of each instance that has one is what a test of it gives
-abbrev pub AreMarked : List Bool → (Instance → Bool) → Type 0
-AreMarked marks test = (v : Instance) → v.0 < most_marked → get_or marks v.0 false ≡ test v
 
 -- whether the instance is held, and was not passed on
 abbrev pub must_pass : List Holding → Instance → Bool

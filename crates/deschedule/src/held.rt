@@ -2,7 +2,8 @@
 ghost use Rattle.std.specs.Prelude.{◌≡◌, ◌+◌, [], IfOk, OnOk, OnErr, length, not};
 ghost use Rattle.deschedule.specs.Holds.{IsOnce, AreFrom, is_held, with_hold, must_pass, with_pass, holds_at};
 
-use crate::marks::{MOST_MARKED, is_marked, make_place, set_mark, unmark_ended};
+use crate::marks::unmark_ended;
+use instance_marks::{MOST_MARKED, is_marked, make_place, set_mark};
 use std::alloc::Global;
 use std::marker::Model;
 use tiger_base::{Instance, Micros, NoMemory};

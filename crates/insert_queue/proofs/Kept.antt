@@ -4,9 +4,11 @@ use Rattle.std.specs.Prelude.{slice_set}
 use Rattle.tiger_base.specs.declared.number.DiskNo.{DiskNo}
 use Rattle.tiger_base.specs.declared.number.Instance.{Instance}
 use Rattle.tiger_base.specs.declared.tenancy.Ask.{Ask}
-use Rattle.insert_queue.specs.Queues.{Queues, AllStay, AreFor, AreKept, has_disk, has_start, most_marked, without, without_start}
+use Rattle.insert_queue.specs.Queues.{Queues, AllStay, AreFor, AreKept, has_disk, has_start, without, without_start}
+use Rattle.instance_marks.specs.Marks.{most_marked}
+use Rattle.instance_marks.proofs.Marked.{marked_less, marked_more}
 use Rattle.insert_queue.proofs.Fors.{for_both, for_left, for_longer}
-use Rattle.insert_queue.proofs.Marked.{all_wait, less_of_both, marked_less, marked_more, more_redundant, more_waits}
+use Rattle.insert_queue.proofs.Marked.{all_wait, less_of_both, more_redundant, more_waits}
 use Rattle.insert_queue.proofs.Once.{IsOnce-end, IsOnce-more, IsOnce-without, none_of, without-none}
 
 -- what is told of an instance that has no start

@@ -1,9 +1,10 @@
 -- The starts that a cub keeps, as two lists, and what happens to them.
-use Rattle.std.specs.Prelude.{◌≡◌, ℕ, ◌<◌, Bool, true, false, ◌==◌, ◌||◌, not, List, [], ◌∷◌, ◌++◌, Option, find, filter, get_or, if◌then◌else◌}
+use Rattle.std.specs.Prelude.{◌≡◌, Bool, true, false, ◌==◌, ◌||◌, not, List, [], ◌∷◌, ◌++◌, Option, find, filter, if◌then◌else◌}
 use Rattle.std.specs.List.{list_any, AllByRecursion}
 use Rattle.tiger_base.specs.declared.number.Instance.{Instance}
 use Rattle.tiger_base.specs.declared.number.DiskNo.{DiskNo}
 use Rattle.tiger_base.specs.declared.tenancy.Ask.{Ask}
+use Rattle.instance_marks.specs.Marks.{AreMarked}
 
 -- the starts that wait for a free visit, and those that wait for the predecessor's death, the
 -- oldest first
@@ -67,14 +68,6 @@ AllStay old new = (disk : DiskNo) → has_disk old disk ≡ true → has_disk ne
 -- each start is for one of the disks
 abbrev pub AreFor : List DiskNo → List Ask → Type 0
 AreFor disks asks = AllByRecursion (λ a. has_disk disks a.disk ≡ true) asks
-
--- only instances with lower numbers have marks
-abbrev pub most_marked : ℕ
-most_marked = 4096
-
--- the mark of each instance that has one is what a test of it gives
-abbrev pub AreMarked : List Bool → (Instance → Bool) → Type 0
-AreMarked marks test = (v : Instance) → v.0 < most_marked → get_or marks v.0 false ≡ test v
 
 -- an instance has at most one start in both lists together, those that wait are for some of the
 -- disks, and marks tell which instances have a start

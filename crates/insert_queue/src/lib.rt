@@ -2,7 +2,6 @@
 #![tactic(auto)]
 
 mod disks;
-mod marks;
 mod starts;
 
 pub use starts::{Gave, Starts};

@@ -3,7 +3,7 @@ ghost use Rattle.std.specs.Prelude.{◌≡◌, ◌==◌, [], ◌++◌, IfOk, OnO
 ghost use Rattle.insert_queue.specs.Queues.{has_start, is_asked, with_waiting, with_redundant, without, without_start, after_take_over, oldest_for, AreFor, IsOnce};
 
 use crate::disks::{has_disk, put_all_in, put_in, take_out};
-use crate::marks::{MOST_MARKED, is_marked, make_place, set_mark};
+use instance_marks::{MOST_MARKED, is_marked, make_place, set_mark};
 use std::alloc::Global;
 use std::marker::Model;
 use tiger_base::{Ask, DiskNo, Instance, NoMemory};
