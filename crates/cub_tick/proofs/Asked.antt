@@ -1,7 +1,7 @@
 -- Which lines' blocks are asked for, beside the time before which they are.
-use Rattle.std.proofs.Common.{◌≡◌, ℕ, ◌+◌, ◌*◌, ◌<◌, ◌≤◌, arith, Bool, true, false, cond, not, ◌&&◌, List, [], ◌∷◌, ◌++◌, map, append_assoc, refl, sym, ap, subst, ◌∙◌}
+use Rattle.std.proofs.Common.{◌≡◌, ℕ, ◌+◌, ◌*◌, ◌<◌, ◌≤◌, arith, Bool, true, false, cond, not, ◌&&◌, Option, find, List, [], ◌∷◌, ◌++◌, map, append_assoc, refl, sym, ap, subst, ◌∙◌}
 use Rattle.std.specs.List.{AllByRecursion, flat_map, filter}
-use Rattle.std.proofs.lemmas.Bool.{lt-leb, le-leb, both_ways, leb-true, leb-false}
+use Rattle.std.proofs.lemmas.Bool.{both_ways, leb-true, leb-false}
 use Rattle.std.proofs.lemmas.List.{append-nil}
 use Rattle.tiger_base.specs.declared.number.Stamp.{Stamp}
 use Rattle.tiger_base.specs.declared.message.Msg.{Msg}
@@ -17,7 +17,7 @@ use Rattle.partial_view.specs.declared.line.Line.{Line}
 use Rattle.partial_view.specs.declared.line.Flag.TheVariants.{Asked}
 use Rattle.partial_view.specs.Lines.{key_of, marked}
 use Rattle.partial_view.specs.Views.{Seen}
-use Rattle.partial_view.specs.Walks.{KeepsVisits}
+use Rattle.partial_view.specs.Work.{is_between, first_between}
 use Rattle.partial_view.specs.Pending.{is_unasked, IsAskedBefore}
 use Rattle.partial_view.proofs.Calls.{record_of}
 use Rattle.partial_view.proofs.Order.{all_implies}
@@ -27,39 +27,27 @@ use Rattle.cub_rules.specs.declared.store.Store.{Store}
 use Rattle.cub_rules.specs.Records.{pieces_but}
 use Rattle.cub_rules.specs.Ticks.{must_read, ask_line, ask_outs, reading, reading_blocks, reading_pieces, asked_of_disk, leaves_by}
 use Rattle.cub_tick.proofs.Steps.{none_given, none_changed}
-use Rattle.cub_tick.proofs.Stops.{Rests}
+use Rattle.cub_tick.proofs.Working.{from_start, find_same}
 
--- a line that is asked for stays at its visit
-pub ask_keeps : (p : Params) (stamp : Stamp) → KeepsVisits (λ x. ask_line p stamp x ∷ [])
-ask_keeps p stamp x =
-    (elim (must_read p stamp x) as (λ t. key_of (cond t (marked Asked x) x) ≡ key_of x) [ true ↦ refl | false ↦ refl ], tt)
-
--- one that is due after the read lead is not asked for
-not_read : (p : Params) (stamp : Stamp) (x : Line) → stamp.reading + p.read_lead < due_of p (key_of x) → must_read p stamp x ≡ false
+-- a block is asked for if that is still to be done and the line is due by the end of the read lead
+to_read : (p : Params) (stamp : Stamp) (x : Line) → is_between p is_unasked 0 (stamp.reading + p.read_lead) x ≡ must_read p stamp x
 unfolding must_read
-not_read p stamp x h = rw (lt-leb (due_of p (key_of x)) (stamp.reading + p.read_lead) h) (never (is_own x.rec.kind) x.asked)
-  where
-    never : (o a : Bool) → (o && not a && false) ≡ false
-    never true true = refl
-    never true false = refl
-    never false a = refl
+to_read p stamp x = from_start p is_unasked (stamp.reading + p.read_lead) x
 
-pub ask_rests : (p : Params) (stamp : Stamp) → Rests p (stamp.reading + p.read_lead) (ask_outs p stamp) (λ x. ask_line p stamp x ∷ [])
-ask_rests p stamp =
-    record {
-      silent = λ x h. rw (not_read p stamp x h) refl;
-      stays = λ x h. rw (not_read p stamp x h) refl;
-    }
+pub ask_first : (p : Params) (stamp : Stamp) (time : ℕ) → time ≡ stamp.reading + p.read_lead → (now : Seen) → now.params ≡ p → {o : Option Line} → o ≡ first_between now.params is_unasked 0 time now.lines → o ≡ find (must_read p stamp) now.lines
+unfolding first_between
+ask_first p stamp time is_time now params e =
+    e ∙ (ap (λ (q : Params). find (is_between q is_unasked 0 time) now.lines) params ∙ (ap (λ (n : ℕ). find (is_between p is_unasked 0 n) now.lines) is_time
+    ∙ find_same (is_between p is_unasked 0 (stamp.reading + p.read_lead)) (must_read p stamp) (to_read p stamp) now.lines))
 
--- one that is due by then is asked for if it is still to be
-pub read_if_unasked : (p : Params) (stamp : Stamp) (x : Line) → due_of p (key_of x) ≤ stamp.reading + p.read_lead → must_read p stamp x ≡ is_unasked x
+-- a block is asked for once
+pub ask_once : (p : Params) (stamp : Stamp) (x : Line) → must_read p stamp (marked Asked x) ≡ false
 unfolding must_read
-read_if_unasked p stamp x h = rw (le-leb (due_of p (key_of x)) (stamp.reading + p.read_lead) h) (bits (is_own x.rec.kind) x.asked)
+ask_once p stamp x = never (is_own x.rec.kind) _
   where
-    bits : (o a : Bool) → (o && not a && true) ≡ (o && not a)
-    bits true true = refl
-    bits true false = refl
-    bits false a = refl
+    never : (o t : Bool) → ((o && false) && t) ≡ false
+    never true t = refl
+    never false t = refl
 
 -- a block that is asked for was still to be asked for, and is due by the end of the read lead
 read_soon : (p : Params) (stamp : Stamp) (x : Line) → must_read p stamp x ≡ true → (is_unasked x ≡ true) × (due_of p (key_of x) ≤ stamp.reading + p.read_lead)
@@ -94,12 +82,6 @@ stays_here p stamp x h = by_test (must_read p stamp x) refl
     by_test true e =
         let soon = read_soon p stamp x e in
         absurd (omega (arith, soon.1, h soon.0))
-
-pub silent_past : (p : Params) (stamp : Stamp) (x : Line) → is_unasked x ≡ false → ask_outs p stamp x ≡ []
-silent_past p stamp x none = rw (stays_here p stamp x (λ unasked. absurd (both_ways (is_unasked x) none unasked))) refl
-
-pub stays_past : (p : Params) (stamp : Stamp) (x : Line) → is_unasked x ≡ false → ask_line p stamp x ∷ [] ≡ x ∷ []
-stays_past p stamp x none = rw (stays_here p stamp x (λ unasked. absurd (both_ways (is_unasked x) none unasked))) refl
 
 all_stay : (p : Params) (stamp : Stamp) (view : Seen) → view.params ≡ p → IsAskedBefore view.params (stamp.reading + p.read_lead + 1) view.lines → AllByRecursion (λ x. must_read p stamp x ≡ false) view.lines
 all_stay p stamp view plan h =

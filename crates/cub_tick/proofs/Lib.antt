@@ -1,14 +1,13 @@
 pub mod Asked
 pub mod Parts
-pub mod Placed
 pub mod Served
 pub mod Splits
 pub mod States
 pub mod Steps
-pub mod Stops
 pub mod Unsplit
 pub mod FullDisks
 pub mod Waiting
+pub mod Working
 pub mod Going
 pub mod Putting
 pub mod Visits

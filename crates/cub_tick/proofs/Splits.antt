@@ -1,6 +1,6 @@
 -- What the splitting of visits makes of what a cub keeps.
-use Rattle.std.proofs.Common.{◌≡◌, ℕ, ◌+◌, ◌-◌, ◌<◌, ◌≤◌, zero, suc, add-zero, Bool, true, false, cond, not, List, [], ◌∷◌, ◌++◌, map, take, drop, Option, Some, None, refl, sym, ap, ◌∙◌, arith, append_assoc}
-use Rattle.std.specs.List.{AllByRecursion, flat_map, range_with_len}
+use Rattle.std.proofs.Common.{◌≡◌, ℕ, ◌+◌, ◌-◌, ◌<◌, ◌≤◌, zero, suc, add-zero, Bool, true, false, cond, not, ◌&&◌, find, length, List, [], ◌∷◌, ◌++◌, map, take, drop, Option, Some, None, refl, sym, ap, subst, ◌∙◌, arith, append_assoc}
+use Rattle.std.specs.List.{AllByRecursion, filter, flat_map, range_with_len}
 use Rattle.std.proofs.lemmas.List.{append-nil}
 use Rattle.std.proofs.lemmas.Grind.{flat_map-append}
 use Rattle.std.proofs.lemmas.Bool.{both_ways}
@@ -8,18 +8,13 @@ use Rattle.tiger_base.specs.declared.number.Stamp.{Stamp}
 use Rattle.tiger_base.specs.declared.message.Msg.{Msg}
 use Rattle.tiger_base.specs.declared.tenancy.PieceState.{PieceState}
 use Rattle.tiger_base.specs.declared.tenancy.Rec.{Rec}
+use Rattle.tiger_base.specs.Kinds.{is_own}
 use Rattle.slot_plan.specs.declared.params.Params.{Params}
-use Rattle.slot_plan.specs.Keys.{Key}
 use Rattle.node_kit.specs.declared.outbox.Out.{Out}
 use Rattle.partial_view.specs.declared.line.Line.{Line}
 use Rattle.partial_view.specs.declared.line.Flag.TheVariants as flag
 use Rattle.partial_view.specs.Lines.{key_of, marked}
-use Rattle.partial_view.proofs.Calls.{record_of}
-use Rattle.partial_view.proofs.Order.{all_implies}
-use Rattle.partial_view.specs.Views.{Seen, IsWalk, line_at, next_behind, with_mark}
-use Rattle.partial_view.specs.Walks.{replaced, KeepsVisits, IsFirstFor, left}
-use Rattle.partial_view.proofs.Begins.{flat_map-same}
-use Rattle.partial_view.proofs.Walks.{on, fewer, ended_view, ended_outs}
+use Rattle.partial_view.specs.Views.{Seen, IsWalk, with_mark}
 use Rattle.mirror_schedule.specs.Sorted.{gap_from}
 use Rattle.mirror_schedule.specs.Pieces.{Pieces, IsPieces, pieces_of, is_in, with_piece, comes_before}
 use Rattle.mirror_schedule.specs.Splits.{Split, with_split}
@@ -30,8 +25,11 @@ use Rattle.node_kit.specs.Deeds.{Did, nothing}
 use Rattle.cub_rules.specs.declared.store.Store.{Store}
 use Rattle.cub_rules.specs.Records.{with_piece_record, pieces_with}
 use Rattle.cub_rules.specs.Ticks.{must_split, split_line, split_outs, split_visits, first_pieces, with_each, sent_ahead, splitting}
-use Rattle.cub_tick.specs.Splitting.{with_split_of, sent_pieces, with_new, SplitTo}
-use Rattle.cub_tick.proofs.Steps.{line_marked, line_unmarked, one_each, none_given}
+use Rattle.cub_rules.specs.State.{IsLineOf}
+use Rattle.cub_tick.specs.Working.{WorkedOn}
+use Rattle.cub_tick.specs.Splitting.{with_split_of, sent_pieces, with_new, first_piece, split_of, with_split_visit, SplitOn}
+use Rattle.cub_tick.proofs.Steps.{none_given}
+use Rattle.cub_tick.proofs.Working.{Step, begun, first_passes, none_at, step_gives, marked_step, marked_fewer, marked_on, marked_done, outs_done}
 
 pub not_false : (t : Bool) → not t ≡ false → t ≡ true
 not_false true e = refl
@@ -141,20 +139,10 @@ piece_plan x h =
       | false ↦ (refl, refl)
     ]
 
-pieces_plan : (xs : List PieceState) (h : Store) → ((with_each with_piece_record xs h).pieces.params ≡ h.pieces.params) × ((with_each with_piece_record xs h).unasked.params ≡ h.unasked.params)
-pieces_plan [] h = (refl, refl)
-pieces_plan (x ∷ xs) h =
-    let rest = pieces_plan xs (with_piece_record x h) in
-    let here = piece_plan x h in
-    (rest.0 ∙ here.0, rest.1 ∙ here.1)
-
 module _ (p : Params) (stamp : Stamp) where
   pub view_then : (xs : List Line) (view : Seen) (h : Store) → (with_split_of p stamp xs view h).view ≡ view
   view_then xs view h =
       ap (λ (g : Store). g.view) (pieces_apart (flat_map (first_pieces p stamp) xs) h view (with_each with_split (flat_map (split_visits p stamp) xs) h.splits))
-
-  plan_then : (xs : List Line) (view : Seen) (h : Store) → ((with_split_of p stamp xs view h).pieces.params ≡ h.pieces.params) × ((with_split_of p stamp xs view h).unasked.params ≡ h.unasked.params)
-  plan_then xs view h = pieces_plan (flat_map (first_pieces p stamp) xs) (changed h view (with_each with_split (flat_map (split_visits p stamp) xs) h.splits))
 
   -- some lines, and then others
   split_more : (xs ys : List Line) (between view : Seen) (h : Store) → with_split_of p stamp ys view (with_split_of p stamp xs between h) ≡ with_split_of p stamp (xs ++ ys) view h
@@ -180,50 +168,15 @@ module _ (p : Params) (stamp : Stamp) where
       ap (λ (ps : List PieceState). with_each with_piece_record (ps ++ []) (changed h view (with_each with_split (split_visits p stamp x ++ []) h.splits))) firsts
       ∙ ap (λ (ss : List Split). with_each with_piece_record (piece_at x.rec 1 ∷ []) (changed h view (with_each with_split (ss ++ []) h.splits))) visits
 
-  none_of : (x : Line) (h : Store) (view : Seen) → must_split p stamp x ≡ false → with_split_of p stamp (x ∷ []) view h ≡ changed h view h.splits
-  none_of x h view is =
-      let firsts : first_pieces p stamp x ≡ [] = ap (λ (t : Bool). cond t (take 1 (pieces_of p x.rec)) []) is in
-      let visits : split_visits p stamp x ≡ [] = ap (λ (t : Bool). cond t ((x.rec.tenancy.instance, x.rec.tenancy.slot, x.rec.visit) ∷ []) []) is in
-      ap (λ (ps : List PieceState). with_each with_piece_record (ps ++ []) (changed h view (with_each with_split (split_visits p stamp x ++ []) h.splits))) firsts
-      ∙ ap (λ (ss : List Split). with_each with_piece_record [] (changed h view (with_each with_split (ss ++ []) h.splits))) visits
-
-  -- one line, split
-  pub split_one : (x : Line) (h : Store) (view : Seen) (splits : List Split) (pieces unasked : Pieces) → 1 ≤ p.pieces → must_split p stamp x ≡ true
-      → IsWalk h.view.params h.view.lines → line_at (key_of x) h.view.lines ≡ Some x
-      → view ≡ record h.view { lines = with_mark (key_of x) flag.Split h.view.lines }
-      → splits ≡ with_split (x.rec.tenancy.instance, x.rec.tenancy.slot, x.rec.visit) h.splits
-      → pieces ≡ with_new (piece_at x.rec 1) h.pieces h.pieces → unasked ≡ with_new (piece_at x.rec 1) h.pieces h.unasked
-      → record h { view = view; splits = splits; pieces = pieces; unasked = unasked } ≡ with_split_of p stamp (x ∷ []) (record h.view { lines = replaced (key_of x) (split_line p stamp x ∷ []) h.view.lines }) h
-  split_one x h view splits pieces unasked some is walk there v s q u =
-      let first : PieceState = piece_at x.rec 1 in
-      let visit : Split = (x.rec.tenancy.instance, x.rec.tenancy.slot, x.rec.visit) in
-      let others : Seen = record h.view { lines = replaced (key_of x) (split_line p stamp x ∷ []) h.view.lines } in
-      ap (λ (w : Seen). all_of h w splits pieces unasked) (line_marked h.view x (must_split p stamp x) flag.Split is walk there v)
-      ∙ (ap (λ (w : List Split). all_of h others w pieces unasked) s
-      ∙ (ap (λ (w : Pieces). all_of h others (with_split visit h.splits) w unasked) q
-      ∙ (ap (λ (w : Pieces). all_of h others (with_split visit h.splits) (with_new first h.pieces h.pieces) w) u
-      ∙ (ap (λ (g : Store). changed g others (with_split visit h.splits)) (sym (piece_fields first h))
-      ∙ (sym (piece_apart first h others (with_split visit h.splits))
-      ∙ sym (one_of x h others some is))))))
-
-  -- a line that is not split
-  pub split_none : (x : Line) (h : Store) → must_split p stamp x ≡ false → IsWalk h.view.params h.view.lines → line_at (key_of x) h.view.lines ≡ Some x
-      → h ≡ with_split_of p stamp (x ∷ []) (record h.view { lines = replaced (key_of x) (split_line p stamp x ∷ []) h.view.lines }) h
-  split_none x h is walk there =
-      let others : Seen = record h.view { lines = replaced (key_of x) (split_line p stamp x ∷ []) h.view.lines } in
-      ap (λ (w : Seen). changed h w h.splits) (line_unmarked h.view x (must_split p stamp x) flag.Split is walk there) ∙ sym (none_of x h others is)
-
--- a line that is split stays at its visit
-split_keeps : (p : Params) (stamp : Stamp) → KeepsVisits (λ x. split_line p stamp x ∷ [])
-split_keeps p stamp x =
-    (elim (must_split p stamp x) as (λ t. key_of (cond t (marked flag.Split x) x) ≡ key_of x) [ true ↦ refl | false ↦ refl ], tt)
-
-singles : (xs : List Line) → flat_map (λ x. x ∷ []) xs ≡ xs
-singles [] = refl
-singles (x ∷ xs) = ap (λ (ys : List Line). x ∷ ys) (singles xs)
-
-outs_more : {X : Type 0} (f : Line → List X) (xs : List Line) (x : Line) → flat_map f (xs ++ x ∷ []) ≡ flat_map f xs ++ f x
-outs_more f xs x = flat_map-append f xs (x ∷ []) ∙ ap (λ zs. flat_map f xs ++ zs) (append-nil (f x))
+-- the split of one visit
+pub split_one : (r : Rec) (h : Store) (splits : List Split) (pieces unasked : Pieces) → splits ≡ with_split (split_of r) h.splits
+    → pieces ≡ with_new (first_piece r) h.pieces h.pieces → unasked ≡ with_new (first_piece r) h.pieces h.unasked
+    → record h { splits = splits; pieces = pieces; unasked = unasked } ≡ with_split_visit r h
+split_one r h splits pieces unasked s q u =
+    ap (λ (w : List Split). all_of h h.view w pieces unasked) s
+    ∙ (ap (λ (w : Pieces). all_of h h.view (with_split (split_of r) h.splits) w unasked) q
+    ∙ (ap (λ (w : Pieces). all_of h h.view (with_split (split_of r) h.splits) (with_new (first_piece r) h.pieces h.pieces) w) u
+    ∙ sym (piece_fields (first_piece r) (record h { splits = with_split (split_of r) h.splits }))))
 
 -- lines that are not split leave the store and the outputs as they are
 store_still : (p : Params) (stamp : Stamp) (before : Store) (xs : List Line) → AllByRecursion (λ x. must_split p stamp x ≡ false) xs → before ≡ with_split_of p stamp xs before.view before
@@ -233,77 +186,79 @@ store_still p stamp before xs h =
     sym (ap (λ (ps : List PieceState). with_each with_piece_record ps (changed before before.view (with_each with_split (flat_map (split_visits p stamp) xs) before.splits))) firsts
     ∙ ap (λ (ss : List Split). changed before before.view (with_each with_split ss before.splits)) visits)
 
-outs_still : (p : Params) (cub : ℕ) (stamp : Stamp) (outs : List (Out Msg)) (xs : List Line) → AllByRecursion (λ x. must_split p stamp x ≡ false) xs → outs ≡ outs ++ flat_map (split_outs p cub stamp) xs
-outs_still p cub stamp outs xs h =
-    let sent : flat_map (split_outs p cub stamp) xs ≡ [] = none_given (must_split p stamp) _ xs h in
-    sym (ap (λ (zs : List (Out Msg)). outs ++ zs) sent ∙ append-nil outs)
-
-line_still : (p : Params) (stamp : Stamp) (x : Line) → must_split p stamp x ≡ false → split_line p stamp x ∷ [] ≡ x ∷ []
-line_still p stamp x is = rw is refl
+-- a visit is split once
+pub split_once : (p : Params) (stamp : Stamp) (x : Line) → must_split p stamp (marked flag.Split x) ≡ false
+unfolding must_split
+split_once p stamp x = never (not (is_own x.rec.kind)) _
+  where
+    never : (o t : Bool) → (o && false && t) ≡ false
+    never true t = refl
+    never false t = refl
 
 module _ {p : Params} {cub : ℕ} {stamp : Stamp} {before : Store} {outs_before : List (Out Msg)} where
-  -- a walk that splits begins at the first line for which that may be to do, goes on and ends
-  pub split_begun : (test : Line → Bool) {next : Option Line} → IsWalk before.view.params before.view.lines → IsFirstFor test before.view.lines next
-      → ((x : Line) → test x ≡ false → must_split p stamp x ≡ false) → SplitTo p cub stamp before outs_before before outs_before next
-  split_begun test w b still =
-      let none : AllByRecursion (λ x. must_split p stamp x ≡ false) b.done = all_implies (λ x. test x ≡ false) (λ x. must_split p stamp x ≡ false) still b.done b.none in
-      let same : flat_map (λ x. split_line p stamp x ∷ []) b.done ≡ b.done =
-      flat_map-same (λ x. split_line p stamp x ∷ []) b.done (all_implies (λ x. must_split p stamp x ≡ false) (λ x. split_line p stamp x ∷ [] ≡ x ∷ []) (line_still p stamp) b.done none) in
-      record {
-        done = b.done;
-        walk = record {
-          done = b.done;
-          ahead = b.ahead;
-          parts = b.parts;
-          view = ap (λ (ys : List Line). record_of before.view.params ys) (b.parts ∙ sym (ap (λ (ys : List Line). ys ++ b.ahead) same));
-          outs = sym (singles b.done);
-          first = b.first;
-          walk = w;
-          walk_now = w;
-          keeps = split_keeps p stamp;
-        };
-        store = store_still p stamp before b.done none;
-        outs = outs_still p cub stamp outs_before b.done none;
+  -- the splitting begins
+  pub split_begun : AllByRecursion (IsLineOf p cub) before.view.lines → SplitOn p cub stamp before outs_before before outs_before
+  split_begun all = record { work = begun all; store = λ view. refl; pieces = refl; unasked = refl }
+
+  module _ {now : Store} {outs_now : List (Out Msg)} (t : SplitOn p cub stamp before outs_before now outs_now) where
+    -- one line more is split
+    module _ {x : Line} {view : Seen} {after : Store} (some : 1 ≤ p.pieces) (walk : IsWalk now.view.params now.view.lines) (first : Some x ≡ find (must_split p stamp) now.view.lines)
+        (step : view ≡ record now.view { lines = with_mark (key_of x) flag.Split now.view.lines }) (split : after ≡ with_split_visit x.rec (record now { view = view })) where
+      abbrev visit : List Split
+      visit = with_split (split_of x.rec) now.splits
+
+      one_more : Step (must_split p stamp) x (marked flag.Split x ∷ []) now.view.lines view.lines
+      one_more = marked_step (must_split p stamp) now.view walk first flag.Split (split_once p stamp) step
+
+      view_after : after.view ≡ view
+      view_after = ap (λ (g : Store). g.view) (split ∙ piece_apart (first_piece x.rec) now view visit)
+
+      after_is : after ≡ with_split_of p stamp (x ∷ []) view now
+      after_is = split ∙ sym (one_of p stamp x now view some (first_passes (must_split p stamp) x now.view.lines first))
+
+      firsts : flat_map (first_pieces p stamp) now.view.lines ≡ flat_map (first_pieces p stamp) (x ∷ view.lines)
+      firsts =
+          step_gives (must_split p stamp) one_more (first_pieces p stamp) (λ y is. ap (λ (b : Bool). cond b (take 1 (pieces_of p y.rec)) []) is)
+          (ap (λ (b : Bool). cond b (take 1 (pieces_of p x.rec)) [] ++ []) (split_once p stamp x))
+
+      visits : flat_map (split_visits p stamp) now.view.lines ≡ flat_map (split_visits p stamp) (x ∷ view.lines)
+      visits =
+          step_gives (must_split p stamp) one_more (split_visits p stamp) (λ y is. ap (λ (b : Bool). cond b (split_of y.rec ∷ []) []) is)
+          (ap (λ (b : Bool). cond b (split_of x.rec ∷ []) [] ++ []) (split_once p stamp x))
+
+      store_after : (last : Seen) → with_split_of p stamp view.lines last after ≡ with_split_of p stamp before.view.lines last before
+      store_after last =
+          ap (λ (g : Store). with_split_of p stamp view.lines last g) after_is
+          ∙ (split_more p stamp (x ∷ []) view.lines view last now
+          ∙ (ap (λ (ps : List PieceState). with_each with_piece_record ps (changed now last (with_each with_split (flat_map (split_visits p stamp) (x ∷ view.lines)) now.splits))) (sym firsts)
+          ∙ (ap (λ (ss : List Split). with_each with_piece_record (flat_map (first_pieces p stamp) now.view.lines) (changed now last (with_each with_split ss now.splits))) (sym visits)
+          ∙ t.store last)))
+
+      pub split_fewer : length (filter (must_split p stamp) after.view.lines) < length (filter (must_split p stamp) now.view.lines)
+      split_fewer =
+          subst (λ (v : Seen). length (filter (must_split p stamp) v.lines) < length (filter (must_split p stamp) now.view.lines)) (sym view_after)
+          (marked_fewer (must_split p stamp) now.view walk first flag.Split (split_once p stamp) step)
+
+      pub split_on : {outs_after : List (Out Msg)} → outs_after ≡ outs_now ++ sent_pieces p cub x.rec → SplitOn p cub stamp before outs_before after outs_after
+      split_on {outs_after} e = record {
+        work =
+            subst (λ (v : Seen). WorkedOn (IsLineOf p cub) (split_outs p cub stamp) (λ y. split_line p stamp y ∷ []) before.view outs_before v outs_after) (sym view_after)
+            (marked_on (must_split p stamp) (λ y. sent_pieces p cub y.rec) flag.Split walk first (split_once p stamp) step (λ y h. h) t.work e);
+        store =
+            λ last. ap (λ (v : Seen). with_split_of p stamp v.lines last after) view_after ∙ store_after last;
+        pieces = ap (λ (g : Store). g.pieces.params) split ∙ ((piece_plan (first_piece x.rec) (changed now view visit)).0 ∙ t.pieces);
+        unasked = ap (λ (g : Store). g.unasked.params) split ∙ ((piece_plan (first_piece x.rec) (changed now view visit)).1 ∙ t.unasked);
       }
 
-  module _ {now : Store} {outs_now : List (Out Msg)} {next : Option Line} (t : SplitTo p cub stamp before outs_before now outs_now next) where
-    pub split_plan : (now.pieces.params ≡ before.pieces.params) × (now.unasked.params ≡ before.unasked.params)
-    split_plan =
-        let then = plan_then p stamp t.done now.view before in
-        (ap (λ (g : Store). g.pieces.params) t.store ∙ then.0, ap (λ (g : Store). g.unasked.params) t.store ∙ then.1)
-
-    module _ (x : Line) {after : Store} (step : after ≡ with_split_of p stamp (x ∷ []) (record now.view { lines = replaced (key_of x) (split_line p stamp x ∷ []) now.view.lines }) now) where
-      pub split_view : after.view ≡ record now.view { lines = replaced (key_of x) (split_line p stamp x ∷ []) now.view.lines }
-      split_view = ap (λ (g : Store). g.view) step ∙ view_then p stamp (x ∷ []) (record now.view { lines = replaced (key_of x) (split_line p stamp x ∷ []) now.view.lines }) now
-
-      module _ (is : next ≡ Some x) {then : Option Line} {k : Key} (key_is : k ≡ key_of x) (is_then : then ≡ next_behind after.view.params (Some k) after.view.lines) (walk_after : IsWalk after.view.params after.view.lines) where
-        pub split_fewer : left then after.view < left next now.view
-        split_fewer = fewer t.walk is split_view refl key_is is_then walk_after
-
-        pub split_on : {outs_after : List (Out Msg)} → outs_after ≡ outs_now ++ split_outs p cub stamp x → SplitTo p cub stamp before outs_before after outs_after then
-        split_on {outs_after} e = record {
-          done = t.done ++ x ∷ [];
-          walk = on t.walk is split_view refl key_is is_then walk_after;
-          store =
-              step ∙ (ap (λ (w : Seen). with_split_of p stamp (x ∷ []) w now) (sym split_view)
-              ∙ (ap (λ (g : Store). with_split_of p stamp (x ∷ []) after.view g) t.store ∙ split_more p stamp t.done (x ∷ []) now.view after.view before));
-          outs =
-              e ∙ (ap (λ (zs : List (Out Msg)). zs ++ split_outs p cub stamp x) t.outs
-              ∙ (append_assoc outs_before (flat_map (split_outs p cub stamp) t.done) (split_outs p cub stamp x)
-              ∙ ap (λ (zs : List (Out Msg)). outs_before ++ zs) (sym (outs_more (split_outs p cub stamp) t.done x))));
-        }
-
-    module _ (end : next ≡ None) where
-      all_done : t.done ≡ before.view.lines
-      all_done = ended_outs t.walk end ∙ singles before.view.lines
-
-      pub split_store : now ≡ with_split_of p stamp before.view.lines (record before.view { lines = map (split_line p stamp) before.view.lines }) before
-      split_store =
-          t.store ∙ (ap (λ (xs : List Line). with_split_of p stamp xs now.view before) all_done
-          ∙ ap (λ (w : Seen). with_split_of p stamp before.view.lines w before) (one_each (split_line p stamp) before.view now.view (ended_view t.walk end)))
+    module _ (none : None ≡ find (must_split p stamp) now.view.lines) where
+      pub split_store : {view : Seen} → view ≡ now.view → record now { view = view } ≡ with_split_of p stamp before.view.lines (record before.view { lines = map (split_line p stamp) before.view.lines }) before
+      split_store e =
+          ap (λ (v : Seen). record now { view = v }) e ∙ (store_still p stamp now now.view.lines (none_at (must_split p stamp) now.view.lines none)
+          ∙ (t.store now.view
+          ∙ ap (λ (w : Seen). with_split_of p stamp before.view.lines w before) (marked_done (must_split p stamp) (λ y. sent_pieces p cub y.rec) flag.Split t.work none refl)))
 
       pub split_sent : outs_now ≡ outs_before ++ flat_map (split_outs p cub stamp) before.view.lines
-      split_sent = t.outs ∙ ap (λ (xs : List Line). outs_before ++ flat_map (split_outs p cub stamp) xs) all_done
+      split_sent = outs_done (must_split p stamp) (λ y. sent_pieces p cub y.rec) t.work none
 
 -- the splitting, where the predecessor is believed dead and where it is not
 did_where : {S : Type 0} (t : Bool) (d e : Deed Msg S) (outs now : List (Out Msg)) (s : S) → t ≡ true → Did d outs now s → Did (cond t d e) outs now s

@@ -1,10 +1,11 @@
 -- Which states go out in a beat, beside the time up to which they are forwarded.
-use Rattle.std.proofs.Common.{◌≡◌, ℕ, ◌+◌, ◌-◌, ◌<◌, ◌≤◌, Bool, true, false, cond, not, ◌&&◌, ◌||◌, nat_lt, List, [], ◌∷◌, ◌++◌, map, refl, sym, ap, subst, ◌∙◌, ⊎_elim, arith}
+use Rattle.std.proofs.Common.{◌≡◌, ℕ, ◌+◌, ◌-◌, ◌^◌, ◌<◌, ◌≤◌, Bool, true, false, cond, not, ◌&&◌, ◌||◌, nat_lt, nat_le, Option, find, List, [], ◌∷◌, ◌++◌, map, refl, sym, ap, subst, ◌∙◌, ⊎_elim, arith}
 use Rattle.std.specs.List.{flat_map}
 use Rattle.std.proofs.lemmas.Bool.{and_parts, or_cases, or_parts, both_ways, leb-true, leb-false}
 use Rattle.tiger_base.specs.declared.number.Stamp.{Stamp}
 use Rattle.tiger_base.specs.declared.message.Msg.{Msg}
 use Rattle.tiger_base.specs.Kinds.{is_own}
+use Rattle.tiger_base.specs.Limits.{most_reading}
 use Rattle.node_kit.specs.declared.outbox.Out.{Out}
 use Rattle.partial_view.specs.Views.{Seen}
 use Rattle.partial_view.proofs.Calls.{record_of}
@@ -18,12 +19,12 @@ use Rattle.slot_plan.specs.Keys.{due_of}
 use Rattle.partial_view.specs.declared.line.Line.{Line}
 use Rattle.partial_view.specs.declared.line.Flag.TheVariants.{Forwarded}
 use Rattle.partial_view.specs.Lines.{key_of, marked}
-use Rattle.partial_view.specs.Walks.{KeepsVisits}
+use Rattle.partial_view.specs.Work.{is_between, first_between}
 use Rattle.state_forward.specs.Forwards.{is_batch_beat, is_next_due, must_forward, next_due}
 use Rattle.partial_view.specs.Pending.{is_pending, IsForwardedTo}
 use Rattle.cub_rules.specs.Ticks.{is_to_forward, forward_line, forward_outs, forwarding}
 use Rattle.cub_tick.specs.Limits.{forward_limit}
-use Rattle.cub_tick.proofs.Stops.{Rests}
+use Rattle.cub_tick.proofs.Working.{from_start, find_same}
 
 -- whether the next visit is due within the lead of the beat
 abbrev pub is_soon : Params → Stamp → Line → Bool
@@ -92,7 +93,7 @@ stays_here p plan stamp x h = by_test (is_to_forward p stamp x) refl
         absurd (omega (arith, soon_by p plan stamp x both.1, h both.0))
 
 -- a state whose visit is due by the limit goes out if it is pending
-pub forwarded_if_pending : (p : Params) (stamp : Stamp) (x : Line) → next_due p x.rec ≤ forward_limit p stamp → is_to_forward p stamp x ≡ is_pending x
+forwarded_if_pending : (p : Params) (stamp : Stamp) (x : Line) → next_due p x.rec ≤ forward_limit p stamp → is_to_forward p stamp x ≡ is_pending x
 unfolding is_to_forward must_forward
 forwarded_if_pending p stamp x h = by_test (is_soon p stamp x) refl
   where
@@ -109,7 +110,7 @@ forwarded_if_pending p stamp x h = by_test (is_soon p stamp x) refl
     by_test false e = absurd (omega (arith, late_after p stamp x e, h))
 
 -- the next visit of a line that is due by a time is due by the limit, if that is a block play time behind the time
-pub next_by : (p : Params) → IsPlan p → (stamp : Stamp) (limit time : ℕ) (x : Line) → limit ≡ forward_limit p stamp → time ≡ limit - p.play → due_of p (key_of x) ≤ time → next_due p x.rec ≤ forward_limit p stamp
+next_by : (p : Params) → IsPlan p → (stamp : Stamp) (limit time : ℕ) (x : Line) → limit ≡ forward_limit p stamp → time ≡ limit - p.play → due_of p (key_of x) ≤ time → next_due p x.rec ≤ forward_limit p stamp
 unfolding forward_limit
 next_by p plan stamp limit time x is_limit is_time h = by_beat (is_batch_beat p stamp.beat) is_limit
   where
@@ -117,30 +118,48 @@ next_by p plan stamp limit time x is_limit is_time h = by_beat (is_batch_beat p 
     by_beat true e = omega (arith, e, is_time, h, due_next p x.rec.tenancy.slot.0 x.rec.visit, plan.c5, plan.c6)
     by_beat false e = omega (arith, e, is_time, h, due_next p x.rec.tenancy.slot.0 x.rec.visit, plan.c5)
 
--- a line that is not pending gives nothing out, and stays
-not_pending : (p : Params) (stamp : Stamp) (x : Line) → is_pending x ≡ false → is_to_forward p stamp x ≡ false
-not_pending p stamp x none = by_test (is_to_forward p stamp x) refl
-  where
-    by_test : (t : Bool) → is_to_forward p stamp x ≡ t → is_to_forward p stamp x ≡ false
-    by_test false e = e
-    by_test true e = absurd (both_ways (is_pending x) none (to_forward_soon p stamp x e).0)
-
-pub silent_past : (p : Params) (cub : ℕ) (stamp : Stamp) (x : Line) → is_pending x ≡ false → forward_outs p cub stamp x ≡ []
-silent_past p cub stamp x none = rw (not_pending p stamp x none) refl
-
-pub stays_past : (p : Params) (stamp : Stamp) (x : Line) → is_pending x ≡ false → forward_line p stamp x ∷ [] ≡ x ∷ []
-stays_past p stamp x none = rw (not_pending p stamp x none) refl
-
--- nor does one whose next visit is due past the limit
+-- nor does it of one that is due later
 next_late : (p : Params) → IsPlan p → (stamp : Stamp) (time : ℕ) → forward_limit p stamp ≤ time + p.play → (x : Line) → time < due_of p (key_of x) → is_to_forward p stamp x ≡ false
 next_late p plan stamp time end x h = stays_here p plan stamp x (λ pending. omega (arith, end, h, due_next p x.rec.tenancy.slot.0 x.rec.visit))
 
-pub forward_rests : (p : Params) (cub : ℕ) → IsPlan p → (stamp : Stamp) (time : ℕ) → forward_limit p stamp ≤ time + p.play → Rests p time (forward_outs p cub stamp) (λ x. forward_line p stamp x ∷ [])
-forward_rests p cub plan stamp time end =
-    record {
-      silent = λ x h. rw (next_late p plan stamp time end x h) refl;
-      stays = λ x h. rw (next_late p plan stamp time end x h) refl;
-    }
+-- so the states go out of those lines that are pending and due by then
+to_forward : (p : Params) → IsPlan p → (stamp : Stamp) (limit time : ℕ) → limit ≡ forward_limit p stamp → time ≡ limit - p.play → (x : Line) → is_between p is_pending 0 time x ≡ is_to_forward p stamp x
+to_forward p plan stamp limit time is_limit is_time x = from_start p is_pending time x ∙ by_due (nat_le (due_of p (key_of x)) time) refl
+  where
+    end : forward_limit p stamp ≤ time + p.play
+    end = omega (arith, is_limit, is_time)
+
+    bits_on : (b : Bool) → (b && true) ≡ b
+    bits_on true = refl
+    bits_on false = refl
+
+    bits_off : (b : Bool) → (b && false) ≡ false
+    bits_off true = refl
+    bits_off false = refl
+
+    by_due : (t : Bool) → nat_le (due_of p (key_of x)) time ≡ t → (is_pending x && nat_le (due_of p (key_of x)) time) ≡ is_to_forward p stamp x
+    by_due true e = rw e (bits_on (is_pending x) ∙ sym (forwarded_if_pending p stamp x (next_by p plan stamp limit time x is_limit is_time (leb-true _ _ e))))
+    by_due false e = rw e (bits_off (is_pending x) ∙ sym (next_late p plan stamp time end x (leb-false _ _ e)))
+
+pub forward_first : (p : Params) → IsPlan p → (stamp : Stamp) (limit time : ℕ) → limit ≡ forward_limit p stamp → time ≡ limit - p.play → (now : Seen) → now.params ≡ p → {o : Option Line} → o ≡ first_between now.params is_pending 0 time now.lines
+    → o ≡ find (is_to_forward p stamp) now.lines
+unfolding first_between
+forward_first p plan stamp limit time is_limit is_time now params e =
+    e ∙ (ap (λ (q : Params). find (is_between q is_pending 0 time) now.lines) params ∙ find_same (is_between p is_pending 0 time) (is_to_forward p stamp) (to_forward p plan stamp limit time is_limit is_time) now.lines)
+
+-- no time at which a beat forwards is too late
+pub time_small : (p : Params) → IsPlan p → (stamp : Stamp) (limit time : ℕ) → stamp.reading ≤ most_reading → limit ≡ forward_limit p stamp → time ≡ limit - p.play → time < 2 ^ 63
+unfolding forward_limit
+time_small p plan stamp limit time early is_limit is_time = by_beat (is_batch_beat p stamp.beat) is_limit
+  where
+    by_beat : (b : Bool) → limit ≡ stamp.reading + cond b p.max_lead p.min_lead → time < 2 ^ 63
+    by_beat true e = omega (arith, early, e, is_time, plan.ranges.max_lead.1)
+    by_beat false e = omega (arith, early, e, is_time, plan.ranges.min_lead.1)
+
+-- a line goes out once
+pub forward_once : (p : Params) (stamp : Stamp) (x : Line) → is_to_forward p stamp (marked Forwarded x) ≡ false
+unfolding is_to_forward
+forward_once p stamp x = refl
 
 -- where all is forwarded up to the limit nothing goes out
 pub nothing_out : (p : Params) (cub : ℕ) → IsPlan p → (stamp : Stamp) (lines : List Line) → IsForwardedTo p (forward_limit p stamp) lines → flat_map (forward_outs p cub stamp) lines ≡ []
@@ -164,11 +183,6 @@ forwarded_here p stamp x false e pending = late_after p stamp x (pending_late p 
 pub all_forwarded : (p : Params) (stamp : Stamp) (lines : List Line) → IsForwardedTo p (forward_limit p stamp) (map (forward_line p stamp) lines)
 all_forwarded p stamp [] = tt
 all_forwarded p stamp (x ∷ xs) = (forwarded_here p stamp x (is_to_forward p stamp x) refl, all_forwarded p stamp xs)
-
--- a line that is forwarded stays at its visit
-pub forward_keeps : (p : Params) (stamp : Stamp) → KeepsVisits (λ x. forward_line p stamp x ∷ [])
-forward_keeps p stamp x =
-    (elim (is_to_forward p stamp x) as (λ t. key_of (cond t (marked Forwarded x) x) ≡ key_of x) [ true ↦ refl | false ↦ refl ], tt)
 
 -- a cub did its forwarding: by a walk, or without one where all is forwarded up to the limit
 pub forwarded_by_walk : (p : Params) (cub : ℕ) (stamp : Stamp) (old now : Store) (outs outs_now : List (Out Msg)) (view : Seen) → view ≡ record old.view { lines = map (forward_line p stamp) old.view.lines }

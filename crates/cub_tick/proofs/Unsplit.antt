@@ -1,7 +1,7 @@
 -- Which visits are split in a beat, beside the time from which on they are.
-use Rattle.std.proofs.Common.{◌≡◌, ℕ, ◌<◌, ◌≤◌, Bool, true, false, cond, not, ◌&&◌, List, [], ◌∷◌, ◌++◌, map, refl, sym, ap, subst, ◌∙◌, arith}
+use Rattle.std.proofs.Common.{◌≡◌, ℕ, ◌<◌, ◌≤◌, Option, find, Bool, true, false, cond, not, ◌&&◌, List, [], ◌∷◌, ◌++◌, map, refl, sym, ap, subst, ◌∙◌, arith}
 use Rattle.std.specs.List.{AllByRecursion, flat_map}
-use Rattle.std.proofs.lemmas.Bool.{both_ways, and_from, leb-true, leb-false, le-leb}
+use Rattle.std.proofs.lemmas.Bool.{both_ways, leb-true, leb-false}
 use Rattle.std.proofs.lemmas.List.{append-nil}
 use Rattle.tiger_base.specs.declared.number.Stamp.{Stamp}
 use Rattle.tiger_base.specs.declared.message.Msg.{Msg}
@@ -26,6 +26,7 @@ use Rattle.cub_tick.specs.Limits.{split_limit}
 use Rattle.cub_tick.specs.Splitting.{with_split_of}
 use Rattle.cub_tick.proofs.Steps.{none_given, none_changed}
 use Rattle.cub_tick.proofs.Splits.{split_all, view_then}
+use Rattle.cub_tick.proofs.Working.{find_same}
 
 -- a visit that is split was still to be split, and is due at the limit or later
 split_late : (p : Params) (stamp : Stamp) (x : Line) → must_split p stamp x ≡ true → (is_unsplit x ≡ true) × (split_limit p stamp ≤ due_of p (key_of x))
@@ -49,19 +50,15 @@ left_early p stamp x h unsplit = leb-false _ _ (bits (not (is_own x.rec.kind)) (
     bits true false c e g = absurd (cc)
     bits false b c e g = absurd (cc)
 
--- one that is not still to be split, or is due earlier, is not split
-pub not_unsplit : (p : Params) (stamp : Stamp) (x : Line) → is_unsplit_from p (split_limit p stamp) x ≡ false → must_split p stamp x ≡ false
-not_unsplit p stamp x none = by_test (must_split p stamp x) refl
-  where
-    by_test : (t : Bool) → must_split p stamp x ≡ t → must_split p stamp x ≡ false
-    by_test false e = e
-    by_test true e =
-        let late = split_late p stamp x e in
-        absurd (both_ways (is_unsplit_from p (split_limit p stamp) x) none (and_from (is_unsplit x) _ late.0 (le-leb _ _ late.1)))
+-- so those visits are split that are still to be and are due at the limit or later
+to_split : (p : Params) (stamp : Stamp) (x : Line) → is_unsplit_from p (split_limit p stamp) x ≡ must_split p stamp x
+unfolding must_split split_limit
+to_split p stamp x = refl
 
-pub unsplit_along : (p : Params) (stamp : Stamp) (view : Seen) (limit : ℕ) → view.params ≡ p → limit ≡ split_limit p stamp → (x : Line) → is_unsplit_from view.params limit x ≡ false → must_split p stamp x ≡ false
-unsplit_along p stamp view limit plan is x none =
-    not_unsplit p stamp x (subst (λ (n : ℕ). is_unsplit_from p n x ≡ false) is (subst (λ (q : Params). is_unsplit_from q limit x ≡ false) plan none))
+pub split_first : (p : Params) (stamp : Stamp) (limit : ℕ) → limit ≡ split_limit p stamp → (now : Seen) → now.params ≡ p → {o : Option Line} → o ≡ find (is_unsplit_from now.params limit) now.lines → o ≡ find (must_split p stamp) now.lines
+split_first p stamp limit is_limit now params e =
+    e ∙ (ap (λ (q : Params). find (is_unsplit_from q limit) now.lines) params ∙ (ap (λ (n : ℕ). find (is_unsplit_from p n) now.lines) is_limit
+    ∙ find_same (is_unsplit_from p (split_limit p stamp)) (must_split p stamp) (to_split p stamp) now.lines))
 
 -- where all is split from the limit on no visit is split
 stays_here : (p : Params) (stamp : Stamp) (x : Line) → (is_unsplit x ≡ true → due_of p (key_of x) < split_limit p stamp) → must_split p stamp x ≡ false

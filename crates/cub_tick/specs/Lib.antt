@@ -1,5 +1,5 @@
 pub mod Leavings
 pub mod Limits
 pub mod Splitting
-pub mod Stopping
+pub mod Working
 pub mod Placing

@@ -1,5 +1,5 @@
 -- What a cub keeps once the visits of some lines were split.
-use Rattle.std.specs.Prelude.{◌≡◌, ℕ, List, [], ◌∷◌, ◌++◌, map, drop, Option, if◌then◌else◌}
+use Rattle.std.specs.Prelude.{◌≡◌, ℕ, List, [], ◌∷◌, map, drop, if◌then◌else◌}
 use Rattle.std.specs.List.{flat_map}
 use Rattle.tiger_base.specs.declared.number.Stamp.{Stamp}
 use Rattle.tiger_base.specs.declared.message.Msg.{Msg}
@@ -9,12 +9,13 @@ use Rattle.slot_plan.specs.declared.params.Params.{Params}
 use Rattle.node_kit.specs.declared.outbox.Out.{Out}
 use Rattle.partial_view.specs.declared.line.Line.{Line}
 use Rattle.partial_view.specs.Views.{Seen}
-use Rattle.partial_view.specs.Walks.{Underway}
 use Rattle.mirror_schedule.specs.Pieces.{Pieces, pieces_of, is_in}
-use Rattle.mirror_schedule.specs.Splits.{with_split}
+use Rattle.mirror_schedule.specs.Splits.{Split, with_split}
 use Rattle.cub_rules.specs.declared.store.Store.{Store}
+use Rattle.cub_rules.specs.State.{IsLineOf}
 use Rattle.cub_rules.specs.Records.{with_piece_record, pieces_with}
 use Rattle.cub_rules.specs.Ticks.{split_line, split_outs, split_visits, first_pieces, with_each, sent_ahead}
+use Rattle.cub_tick.specs.Working.{WorkedOn}
 
 -- the lines' visits were split, and this is the view then
 abbrev pub with_split_of : Params → Stamp → List Line → Seen → Store → Store
@@ -30,9 +31,20 @@ sent_pieces p cub r = map (sent_ahead p cub) (drop 1 (pieces_of p r))
 abbrev pub with_new : PieceState → Pieces → Pieces → Pieces
 with_new x known items = if is_in x known.items then items else pieces_with x items
 
--- a walk that splits is under way: the visits of the lines behind it were split
-pub record SplitTo (p : Params) (cub : ℕ) (stamp : Stamp) (before : Store) (outs_before : List (Out Msg)) (now : Store) (outs_now : List (Out Msg)) (next : Option Line) : Type 0 where
-  pub done : List Line
-  pub walk : Underway (λ x. x ∷ []) (λ x. split_line p stamp x ∷ []) before.view [] now.view done next
-  pub store : now ≡ with_split_of p stamp done now.view before
-  pub outs : outs_now ≡ outs_before ++ flat_map (split_outs p cub stamp) done
+-- the first piece of a visit, and the visit as it is remembered
+abbrev pub first_piece : Rec → PieceState
+first_piece r = record { tenancy = r.tenancy; visit = r.visit; piece = 1 }
+
+abbrev pub split_of : Rec → Split
+split_of r = (r.tenancy.instance, r.tenancy.slot, r.visit)
+
+-- a visit was split: its first piece is there, and that it was split is remembered
+abbrev pub with_split_visit : Rec → Store → Store
+with_split_visit r h = with_piece_record (first_piece r) (record h { splits = with_split (split_of r) h.splits })
+
+-- the splitting is under way: what is kept now becomes, by the splits that are left, what all of them make of what was kept before
+pub record SplitOn (p : Params) (cub : ℕ) (stamp : Stamp) (before : Store) (outs_before : List (Out Msg)) (now : Store) (outs_now : List (Out Msg)) : Type 0 where
+  pub work : WorkedOn (IsLineOf p cub) (split_outs p cub stamp) (λ x. split_line p stamp x ∷ []) before.view outs_before now.view outs_now
+  pub store : (view : Seen) → with_split_of p stamp now.view.lines view now ≡ with_split_of p stamp before.view.lines view before
+  pub pieces : now.pieces.params ≡ before.pieces.params
+  pub unasked : now.unasked.params ≡ before.unasked.params

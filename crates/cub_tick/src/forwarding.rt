@@ -1,28 +1,21 @@
 //! Forwarding: the states of visits that are soon due go to the next two cubs, once.
-ghost use Rattle.std.specs.Prelude.{◌≡◌, ◌^◌, ◌<◌, ◌≤◌, ◌++◌, ◌∷◌, [], OnOk, Some, map};
+ghost use Rattle.std.specs.Prelude.{◌≡◌, ◌≤◌, ◌++◌, OnOk, Some, map};
 ghost use Rattle.std.specs.List.{AllByRecursion, flat_map};
 ghost use Rattle.tiger_base.specs.Limits.{most_reading};
-ghost use Rattle.slot_plan.specs.Keys.{IsKey};
-ghost use Rattle.partial_view.specs.Lines.{key_of};
-ghost use Rattle.partial_view.specs.Views.{IsWalk, line_at};
-ghost use Rattle.partial_view.specs.Pending.{is_pending};
-ghost use Rattle.partial_view.specs.Walks.{replaced};
-ghost use Rattle.state_forward.specs.Forwards.{next_due};
 ghost use Rattle.node_kit.specs.Deeds.{Did};
 ghost use Rattle.cub_rules.specs.State.{IsStoreOf, IsLineOf};
 ghost use Rattle.cub_rules.specs.Ticks.{forwarding, forward_line, forward_outs};
 ghost use Rattle.cub_tick.specs.Limits.{forward_limit, sent_on};
 
-use crate::walking::{at_by, behind};
 use cub_rules::Store;
 use node_kit::{Out, Outbox, Site};
-use partial_view::{CubView, Flag, Line};
+use partial_view::CubView;
 use slot_plan::Plan;
 use state_forward::lead_in;
 use tiger_base::{Micros, Msg, NoMemory, Stamp, State};
 
 /// Sends the state of the next visit to the next two cubs for each own record whose next visit is
-/// due within the lead of this beat, unless it was sent before. Only those lines are walked whose
+/// due within the lead of this beat, unless it was sent before. The lines are looked at only if a
 /// state may be left to forward.
 pub fn forward<'a>(
     site: &Site,
@@ -41,7 +34,7 @@ pub fn forward<'a>(
         return Ok(());
     }
     forward_lines(site, stamp, &mut store.view, out)?;
-    // All that is due by the limit is forwarded, so no beat needs to walk before a later limit or a new record.
+    // All that is due by the limit is forwarded, so no beat needs to look before a later limit or a new record.
     store.view.set_forwarded_to(limit);
     Ok(())
 }
@@ -55,8 +48,8 @@ fn forward_limit(plan: &Plan, stamp: Stamp) -> Micros
     stamp.reading + lead_in(plan, stamp.beat)
 }
 
-/// Forwards the states of all lines: the walk begins at the first line whose state may be left to
-/// forward, and ends at the first one whose next visit is due too late.
+/// Forwards the states of all lines whose next visit is due soon enough: each time the first one is
+/// taken whose state is still to be forwarded.
 fn forward_lines<'a>(
     site: &Site,
     stamp: Stamp,
@@ -74,59 +67,14 @@ fn forward_lines<'a>(
 {
     // If a line is due later, its next visit is due past the limit.
     let time = forward_limit(&site.plan, stamp).saturating_sub(site.plan.params.play);
-    let (mut place, _) = view.first_pending();
-    while let Some(line) = at_by(view, place, time) {
-        forward_line(site, stamp, view, place, line, out)?;
-        // The walk takes no line out: the next one stands behind the place of this one.
-        place = behind(place)?;
-    }
-    Ok(())
-}
-
-/// Forwards the state of one line whose next visit is due soon enough, unless it was forwarded. The
-/// line is looked for at a place first.
-fn forward_line<'a>(
-    site: &Site,
-    stamp: Stamp,
-    view: &mut CubView,
-    place: usize,
-    line: Line,
-    out: &mut Outbox<Msg<'a>>,
-) -> Result<(), NoMemory>
-    requires reading { stamp.reading ≤ most_reading }
-    requires line { IsLineOf site.now.plan.params site.now.cub.0 line }
-    requires key { IsKey view.old.params (key_of line) }
-    requires due { let p = site.now.plan.params in next_due p line.rec ≤ forward_limit p stamp }
-    requires there { line_at (key_of line) view.old.lines ≡ Some line }
-    requires walk { IsWalk view.old.params view.old.lines }
-    ensures view { OnOk result (view.new ≡ record view.old {
-      lines = replaced (key_of line)
-          (forward_line site.now.plan.params stamp line ∷ []) view.old.lines;
-    }) }
-    ensures outs { OnOk result (out.new ≡ out.old
-        ++ forward_outs site.now.plan.params site.now.cub.0 stamp line) }
-{
-    if is_pending(&line) {
+    while let Some(line) = view.forward_next(time) {
         let state = State {
             tenancy: line.rec.tenancy,
             visit: line.rec.visit + 1,
         };
         send_state(site, state, out)?;
-        view.mark_near(
-            place,
-            line.rec.tenancy.slot,
-            line.rec.visit,
-            Flag::Forwarded,
-        );
     }
     Ok(())
-}
-
-/// Whether a line's next state is still to be forwarded.
-fn is_pending(line: &Line) -> bool
-    ensures { result ≡ is_pending line.now }
-{
-    line.rec.kind.is_own() && line.rec.visit < line.rec.tenancy.last && !line.forwarded
 }
 
 /// Sends a viewer state to the next two cubs.

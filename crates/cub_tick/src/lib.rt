@@ -8,7 +8,6 @@ mod leaving;
 mod reading;
 mod serving;
 mod splitting;
-mod walking;
 
 pub use clocked::{beat, release, watch};
 pub use forwarding::forward;

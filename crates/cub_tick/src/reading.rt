@@ -2,11 +2,6 @@
 ghost use Rattle.std.specs.Prelude.{◌≡◌, ◌+◌, ◌*◌, ◌<◌, ◌≤◌, ◌++◌, ◌∷◌, [], OnOk, Some, map, filter};
 ghost use Rattle.std.specs.List.{AllByRecursion, flat_map};
 ghost use Rattle.tiger_base.specs.Limits.{most_reading};
-ghost use Rattle.slot_plan.specs.Keys.{IsKey, due_of};
-ghost use Rattle.partial_view.specs.Lines.{key_of};
-ghost use Rattle.partial_view.specs.Views.{IsWalk, line_at};
-ghost use Rattle.partial_view.specs.Pending.{is_unasked};
-ghost use Rattle.partial_view.specs.Walks.{replaced};
 ghost use Rattle.node_kit.specs.Deeds.{Did};
 ghost use Rattle.cub_rules.specs.State.{IsStoreOf, IsLineOf, IsPieceAt};
 ghost use Rattle.cub_rules.specs.Records.{pieces_but};
@@ -14,18 +9,17 @@ ghost use Rattle.cub_rules.specs.Ticks.{reading, ask_line, ask_outs, asked_of_di
 ghost use Rattle.cub_tick.specs.Limits.{asks};
 
 use crate::leaving::take_leaving;
-use crate::walking::{at_by, behind};
 use cub_rules::Store;
 use mirror_pieces::piece_disk;
 use mirror_schedule::PieceView;
 use node_kit::{Out, Outbox, Site};
-use partial_view::{CubView, Flag, Line};
+use partial_view::CubView;
 use tiger_base::{DiskNo, Msg, NoMemory, PieceState, Stamp, Want};
 
 /// Asks the disks for the block of each own record, and then for each piece, that leaves within the
-/// read lead and was not asked for yet. Each walk stops at the first that leaves later, since lines
-/// and pieces stand in the order of their times. Only those lines are walked whose block may be
-/// left to ask for.
+/// read lead and was not asked for yet. The lines are looked at only if a block may be left to ask
+/// for; of the pieces none behind the first one that leaves later is looked at, since they stand in
+/// the order of their times.
 pub fn read<'a>(
     site: &Site,
     stamp: Stamp,
@@ -64,13 +58,13 @@ fn read_blocks<'a>(
         return Ok(());
     }
     read_lines(site, stamp, view, out)?;
-    // All that is due before the limit is asked for: later beats begin their walks there.
+    // All that is due before the limit is asked for: later beats look from there on.
     view.set_asked_before(limit);
     Ok(())
 }
 
-/// Asks for the blocks of all lines: the walk begins at the first line whose block may be left to
-/// ask for, and ends at the first one that is due too late.
+/// Asks for the blocks of all lines that are due soon enough: each time the first one is taken whose
+/// block is still to be asked for.
 fn read_lines<'a>(
     site: &Site,
     stamp: Stamp,
@@ -87,51 +81,11 @@ fn read_lines<'a>(
         ++ flat_map (ask_outs site.now.plan.params stamp) view.old.lines) }
 {
     let time = stamp.reading + site.plan.params.read_lead;
-    let (mut place, _) = view.first_unasked();
-    while let Some(line) = at_by(view, place, time) {
-        read_block(site, stamp, view, place, line, out)?;
-        // The walk takes no line out: the next one stands behind the place of this one.
-        place = behind(place)?;
-    }
-    Ok(())
-}
-
-/// Asks for the block of one line that is due within the read lead, unless it was asked for. The
-/// line is looked for at a place first.
-fn read_block<'a>(
-    site: &Site,
-    stamp: Stamp,
-    view: &mut CubView,
-    place: usize,
-    line: Line,
-    out: &mut Outbox<Msg<'a>>,
-) -> Result<(), NoMemory>
-    requires reading { stamp.reading ≤ most_reading }
-    requires line { IsLineOf site.now.plan.params site.now.cub.0 line }
-    requires key { IsKey view.old.params (key_of line) }
-    requires due { let p = site.now.plan.params in
-        due_of p (key_of line) ≤ stamp.reading + p.read_lead }
-    requires there { line_at (key_of line) view.old.lines ≡ Some line }
-    requires walk { IsWalk view.old.params view.old.lines }
-    ensures view { OnOk result (view.new ≡ record view.old {
-      lines =
-          replaced (key_of line) (ask_line site.now.plan.params stamp line ∷ []) view.old.lines;
-    }) }
-    ensures outs { OnOk result (out.new ≡ out.old ++ ask_outs site.now.plan.params stamp line) }
-{
-    if is_unasked(&line) {
+    while let Some(line) = view.ask_next(time) {
         let disk = site.plan.disk_of(line.rec.visit);
         ask(site, disk, Want::of_block(&line.rec), out)?;
-        view.mark_near(place, line.rec.tenancy.slot, line.rec.visit, Flag::Asked);
     }
     Ok(())
-}
-
-/// Whether a line's block is still to be asked for.
-fn is_unasked(line: &Line) -> bool
-    ensures { result ≡ is_unasked line.now }
-{
-    line.rec.kind.is_own() && !line.asked
 }
 
 /// Asks a disk.

@@ -1,29 +1,23 @@
 //! Serving: blocks and pieces go to the viewers when they are due, and their records are dropped.
-ghost use Rattle.std.specs.Prelude.{◌≡◌, ◌≤◌, ◌+◌, ◌++◌, ◌∷◌, [], IfOk, OnOk, Some, length, map, filter, not};
+ghost use Rattle.std.specs.Prelude.{◌≡◌, ◌≤◌, ◌++◌, OnOk, Some, map, filter, not};
 ghost use Rattle.std.specs.List.{AllByRecursion, flat_map};
 ghost use Rattle.tiger_base.specs.Limits.{most_reading};
-ghost use Rattle.slot_plan.specs.Keys.{IsKey, due_of};
-ghost use Rattle.partial_view.specs.Lines.{key_of};
-ghost use Rattle.partial_view.specs.Views.{IsWalk, line_at};
-ghost use Rattle.partial_view.specs.Walks.{replaced};
 ghost use Rattle.node_kit.specs.Deeds.{Did};
 ghost use Rattle.cub_rules.specs.State.{IsStoreOf, IsLineOf, IsPieceAt};
 ghost use Rattle.cub_rules.specs.Records.{pieces_but, stored_for, dropped};
 ghost use Rattle.cub_rules.specs.Ticks.{serving, is_served, is_past, serve_outs, sent_whole, piece_outs, leaves_by};
-ghost use Rattle.cub_tick.specs.Stopping.{served_line, past_line, past_outs};
 
 use crate::leaving::{drop_leaving, take_leaving};
-use crate::walking::{are_in_order, at_by, behind};
 use cub_rules::{Store, StoredParts};
 use mirror_schedule::PieceView;
 use node_kit::{Out, Outbox, Site, What};
-use partial_view::{CubView, Line};
+use partial_view::CubView;
 use slot_plan::Plan;
 use tiger_base::{Msg, NoMemory, PieceState, Stamp, Want};
 
 /// Sends the block of each own record that is due, if its part is stored, and drops the record; then drops each backup
-/// record that is due; then sends each piece that leaves, if its part is stored, and drops the piece record. Each walk
-/// stops at the first that leaves later.
+/// record that is due; then sends each piece that leaves, if its part is stored, and drops the piece record. No record
+/// behind the first one that leaves later is looked at.
 pub fn serve<'a>(
     site: &Site,
     stamp: Stamp,
@@ -36,7 +30,6 @@ pub fn serve<'a>(
         (serving site.now.plan.params site.now.cub.0 stamp store.old)
         out.old out.new store.new) }
 {
-    are_in_order(&store.view);
     serve_blocks(site, stamp, &mut store.view, &store.parts, out)?;
     drop_backups(site, stamp, &mut store.view, out)?;
     serve_pieces(site, stamp, &mut store.pieces, &store.parts, out)?;
@@ -54,7 +47,6 @@ fn serve_blocks<'a>(
 ) -> Result<(), NoMemory>
     requires reading { stamp.reading ≤ most_reading }
     requires plan { view.old.params ≡ site.now.plan.params }
-    requires walk { IsWalk view.old.params view.old.lines }
     requires lines { AllByRecursion (IsLineOf site.now.plan.params site.now.cub.0) view.old.lines }
     ensures view { OnOk result (view.new ≡ record view.old {
       lines = filter (λ x. not (is_served site.now.plan.params stamp x)) view.old.lines;
@@ -62,45 +54,11 @@ fn serve_blocks<'a>(
     ensures outs { OnOk result (out.new ≡ out.old ++ flat_map
         (serve_outs site.now.plan.params site.now.cub.0 stamp parts.now) view.old.lines) }
 {
-    let mut place = 0;
-    while let Some(line) = at_by(view, place, stamp.reading) {
-        place = serve_block(site, stamp, view, parts, place, line, out)?;
-    }
-    Ok(())
-}
-
-/// Serves one line that is due, if it is an own record's, and gives the place at which the next one stands then.
-fn serve_block<'a>(
-    site: &Site,
-    stamp: Stamp,
-    view: &mut CubView,
-    parts: &StoredParts<'a>,
-    place: usize,
-    line: Line,
-    out: &mut Outbox<Msg<'a>>,
-) -> Result<usize, NoMemory>
-    requires line { IsLineOf site.now.plan.params site.now.cub.0 line }
-    requires key { IsKey view.old.params (key_of line) }
-    requires due { due_of site.now.plan.params (key_of line) ≤ stamp.reading }
-    requires there { line_at (key_of line) view.old.lines ≡ Some line }
-    requires walk { IsWalk view.old.params view.old.lines }
-    ensures view { OnOk result (view.new ≡ record view.old {
-      lines =
-          replaced (key_of line) (served_line site.now.plan.params stamp line) view.old.lines;
-    }) }
-    ensures outs { OnOk result (out.new ≡ out.old
-        ++ serve_outs site.now.plan.params site.now.cub.0 stamp parts.now line) }
-    ensures next { IfOk result
-        (λ next. next ≡ place + length (served_line site.now.plan.params stamp line)) }
-{
-    if line.rec.kind.is_own() {
+    while let Some(line) = view.take_own(stamp.reading) {
         send_whole(site, stamp, Want::of_block(&line.rec), parts, out)?;
         out.push(Out::Act(What::Dropped(line.rec)))?;
-        view.remove(line.rec.tenancy.slot, line.rec.visit);
-        Ok(place)
-    } else {
-        behind(place)
     }
+    Ok(())
 }
 
 /// Sends a block to the viewers, if its part is stored.
@@ -130,48 +88,16 @@ fn drop_backups<'a>(
 ) -> Result<(), NoMemory>
     requires reading { stamp.reading ≤ most_reading }
     requires plan { view.old.params ≡ site.now.plan.params }
-    requires walk { IsWalk view.old.params view.old.lines }
     ensures view { OnOk result (view.new ≡ record view.old {
       lines = filter (λ x. not (is_past site.now.plan.params stamp x)) view.old.lines;
     }) }
     ensures outs { OnOk result (out.new ≡ out.old
         ++ map dropped (filter (is_past site.now.plan.params stamp) view.old.lines)) }
 {
-    let mut place = 0;
-    while let Some(line) = at_by(view, place, stamp.reading) {
-        place = drop_backup(&site.plan, stamp, view, place, line, out)?;
+    while let Some(line) = view.take_backup(stamp.reading) {
+        out.push(Out::Act(What::Dropped(line.rec)))?;
     }
     Ok(())
-}
-
-/// Drops one line that is due, if it is a backup record's, and gives the place at which the next one stands then.
-fn drop_backup<'a>(
-    plan: &Plan,
-    stamp: Stamp,
-    view: &mut CubView,
-    place: usize,
-    line: Line,
-    out: &mut Outbox<Msg<'a>>,
-) -> Result<usize, NoMemory>
-    requires plan { view.old.params ≡ plan.now.params }
-    requires key { IsKey view.old.params (key_of line) }
-    requires due { due_of plan.now.params (key_of line) ≤ stamp.reading }
-    requires there { line_at (key_of line) view.old.lines ≡ Some line }
-    requires walk { IsWalk view.old.params view.old.lines }
-    ensures view { OnOk result (view.new ≡ record view.old {
-      lines = replaced (key_of line) (past_line plan.now.params stamp line) view.old.lines;
-    }) }
-    ensures outs { OnOk result (out.new ≡ out.old ++ past_outs plan.now.params stamp line) }
-    ensures next { IfOk result
-        (λ next. next ≡ place + length (past_line plan.now.params stamp line)) }
-{
-    if !line.rec.kind.is_own() {
-        out.push(Out::Act(What::Dropped(line.rec)))?;
-        view.remove(line.rec.tenancy.slot, line.rec.visit);
-        Ok(place)
-    } else {
-        behind(place)
-    }
 }
 
 /// Serves the piece records that leave.

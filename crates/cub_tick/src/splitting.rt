@@ -1,29 +1,24 @@
 //! Splitting: the visits of a dead predecessor are split into mirror pieces.
-ghost use Rattle.std.specs.Prelude.{◌≡◌, ◌^◌, ◌≤◌, ◌++◌, ◌∷◌, [], OnOk, Some, map};
+ghost use Rattle.std.specs.Prelude.{◌≡◌, ◌≤◌, ◌++◌, ◌∷◌, [], OnOk, Some, map};
 ghost use Rattle.std.specs.List.{flat_map};
 ghost use Rattle.tiger_base.specs.Limits.{most_reading};
-ghost use Rattle.slot_plan.specs.Keys.{IsKey};
-ghost use Rattle.partial_view.specs.Lines.{key_of};
-ghost use Rattle.partial_view.specs.Views.{IsWalk, line_at};
-ghost use Rattle.partial_view.specs.Walks.{replaced};
 ghost use Rattle.mirror_schedule.specs.Pieces.{IsPieceOf, IsPieces};
 ghost use Rattle.node_kit.specs.Deeds.{Did};
 ghost use Rattle.cub_rules.specs.State.{IsStoreOf, IsLineOf};
-ghost use Rattle.cub_rules.specs.Ticks.{splitting, must_split, split_line, split_outs, sent_ahead};
+ghost use Rattle.cub_rules.specs.Ticks.{splitting, split_line, split_outs, sent_ahead};
 ghost use Rattle.cub_tick.specs.Limits.{split_limit};
-ghost use Rattle.cub_tick.specs.Splitting.{with_split_of, sent_pieces, with_new};
+ghost use Rattle.cub_tick.specs.Splitting.{with_split_of, with_split_visit, sent_pieces, with_new};
 
-use crate::walking::after_near;
 use cub_rules::Store;
 use mirror_schedule::PieceView;
 use node_kit::{Out, Outbox, Site};
-use partial_view::{Flag, Line};
+use partial_view::Line;
 use slot_plan::Plan;
 use tiger_base::{Micros, Msg, NoMemory, PieceState, Rec, Stamp};
 
 /// If the predecessor is believed dead, splits the visit of each backup record that is due late
 /// enough and was not split yet: the first piece becomes the cub's own piece record, and the mirror
-/// states of the others go to the next cubs. Only those lines are walked whose visit may be left to
+/// states of the others go to the next cubs. The lines are looked at only if a visit may be left to
 /// split.
 pub fn split<'a>(
     site: &Site,
@@ -45,7 +40,7 @@ pub fn split<'a>(
         return Ok(());
     }
     split_lines(site, stamp, store, out)?;
-    // All that is due from the limit on is split, and the limit only rises: a beat walks again only after a new record.
+    // All that is due from the limit on is split, and the limit only rises: a beat looks again only after a new record.
     store.view.set_split_from(limit);
     Ok(())
 }
@@ -61,8 +56,8 @@ fn split_limit(plan: &Plan, stamp: Stamp) -> Micros
     stamp.reading + params.read_lead + params.skew + way + params.beat
 }
 
-/// Splits the visits of all lines: the walk begins at the first line whose visit may be left to
-/// split.
+/// Splits the visits of all lines that are due late enough: each time the first one is taken whose
+/// visit is still to be split.
 fn split_lines<'a>(
     site: &Site,
     stamp: Stamp,
@@ -78,69 +73,39 @@ fn split_lines<'a>(
         ++ flat_map (split_outs site.now.plan.params site.now.cub.0 stamp) store.old.view.lines) }
 {
     let limit = split_limit(&site.plan, stamp);
-    // The walk takes no line out: the line that it stands at stays at its place.
-    let (mut place, mut next) = store.view.first_unsplit(limit);
-    while let Some(line) = next {
-        split_line(site, stamp, store, place, line, out)?;
-        next = after_near(&store.view, place, line.key());
-        place = place.saturating_add(1);
+    while let Some(line) = store.view.split_next(limit) {
+        split_line(site, store, line, out)?;
     }
     Ok(())
 }
 
-/// Splits the visit of one line, which is looked for at a place first.
+/// Splits the visit of one line: sends the pieces but the first, adds that one, and keeps in mind
+/// that the visit is split.
 fn split_line<'a>(
     site: &Site,
-    stamp: Stamp,
     store: &mut Store<'a>,
-    place: usize,
     line: Line,
     out: &mut Outbox<Msg<'a>>,
 ) -> Result<(), NoMemory>
-    requires reading { stamp.reading ≤ most_reading }
     requires pieces { store.old.pieces.params ≡ site.now.plan.params }
     requires unasked { store.old.unasked.params ≡ site.now.plan.params }
     requires line { IsLineOf site.now.plan.params site.now.cub.0 line }
-    requires key { IsKey store.old.view.params (key_of line) }
-    requires there { line_at (key_of line) store.old.view.lines ≡ Some line }
-    requires walk { IsWalk store.old.view.params store.old.view.lines }
-    ensures store { let p = site.now.plan.params in let before = store.old.view in
-        let after = replaced (key_of line) (split_line p stamp line ∷ []) before.lines in
-        OnOk result (store.new
-        ≡ with_split_of p stamp (line ∷ []) (record before { lines = after }) store.old) }
+    ensures store { OnOk result (store.new ≡ with_split_visit line.rec store.old) }
     ensures outs { OnOk result (out.new ≡ out.old
-        ++ split_outs site.now.plan.params site.now.cub.0 stamp line) }
+        ++ sent_pieces site.now.plan.params site.now.cub.0 line.rec) }
 {
-    if must_split(&site.plan, stamp, &line) {
-        send_pieces(site, line.rec, out)?;
-        let first = PieceState {
-            tenancy: line.rec.tenancy,
-            visit: line.rec.visit,
-            piece: 1,
-        };
-        add_piece(&mut store.pieces, &mut store.unasked, first)?;
-        let tenancy = &line.rec.tenancy;
-        store
-            .splits
-            .remember(tenancy.instance, tenancy.slot, line.rec.visit)?;
-        store
-            .view
-            .mark_near(place, tenancy.slot, line.rec.visit, Flag::Split);
-    }
+    send_pieces(site, line.rec, out)?;
+    let first = PieceState {
+        tenancy: line.rec.tenancy,
+        visit: line.rec.visit,
+        piece: 1,
+    };
+    add_piece(&mut store.pieces, &mut store.unasked, first)?;
+    let tenancy = &line.rec.tenancy;
+    store
+        .splits
+        .remember(tenancy.instance, tenancy.slot, line.rec.visit)?;
     Ok(())
-}
-
-/// Whether the visit of a line is split.
-#[tactic(auto, unfolding(cub_rules::specs::Ticks::must_split, crate::specs::Limits::split_limit))]
-fn must_split(plan: &Plan, stamp: Stamp, line: &Line) -> bool
-    requires reading { stamp.reading ≤ most_reading }
-    requires key { IsKey plan.now.params (key_of line.now) }
-    ensures { result ≡ must_split plan.now.params stamp line.now }
-{
-    if line.rec.kind.is_own() || line.split {
-        return false;
-    }
-    split_limit(plan, stamp) <= plan.due(line.rec.tenancy.slot, line.rec.visit)
 }
 
 /// Sends the mirror states of a visit's pieces but the first.

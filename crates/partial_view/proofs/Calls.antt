@@ -12,7 +12,7 @@ use Rattle.partial_view.specs.declared.line.Flag.{Flag}
 use Rattle.partial_view.specs.Lines.{key_of, visit_of, marked, unmarked}
 use Rattle.partial_view.specs.Views.{Seen, IsWalk, IsFoundAt, IsGapAt, line_at, line_due, due_by, next_behind, with_mark, without, with_line, with_record}
 use Rattle.partial_view.proofs.Order.{walk_later, walk_earlier, walk_put}
-use Rattle.partial_view.proofs.Laws.{line_at-front, line_at-back, line_at-here, with_mark-front, with_mark-back, with_mark-here, without-front, without-back, without-here, with_line-front, with_line-back, next-front, next-back, next-here, line_due-none}
+use Rattle.partial_view.proofs.Laws.{line_at-front, line_at-back, line_at-here, with_mark-front, with_mark-here, without-front, without-here, with_line-front, with_line-back, next-front, next-back, next-here, line_due-none}
 
 -- what is seen of a view
 abbrev pub record_of : Params → List Line → Seen
@@ -46,12 +46,12 @@ get-at (y ∷ ys) back (suc i) j h =
 get-behind : {X : Type 0} (front : List X) (x : X) (back : List X) (i : ℕ) → length front ≡ i → slice_get (front ++ x ∷ back) (i + 1) ≡ slice_get back 0
 get-behind front x back i h = get-at front (x ∷ back) i 1 h
 
-get-from : {X : Type 0} (front back : List X) (i : ℕ) → length front ≡ i → slice_get (front ++ back) i ≡ slice_get back 0
+pub get-from : {X : Type 0} (front back : List X) (i : ℕ) → length front ≡ i → slice_get (front ++ back) i ≡ slice_get back 0
 get-from front back i h =
     let e : i ≡ i + 0 = omega arith in
     ap (λ n. slice_get (front ++ back) n) e ∙ get-at front back i 0 h
 
-remove_at : {X : Type 0} (front : List X) (x : X) (back : List X) (i : ℕ) → length front ≡ i → remove (front ++ x ∷ back) i ≡ front ++ back
+pub remove_at : {X : Type 0} (front : List X) (x : X) (back : List X) (i : ℕ) → length front ≡ i → remove (front ++ x ∷ back) i ≡ front ++ back
 remove_at [] x back zero h = refl
 remove_at [] x back (suc i) h = absurd (omega arith)
 remove_at (y ∷ ys) x back zero h = absurd (omega arith)
@@ -89,24 +89,12 @@ module _ (p : Params) (k : Key) (lines : List Line) (i : ℕ) (w : IsWalk p line
       subst (λ (o : Option Line). IfSome o (λ x. now ≡ record_of p (set lines i (marked flag x)))) (found-at f) e
       ∙ ap (λ (ys : List Line). record_of p ys) (mark-found flag f)
 
-  pub mark-gap : (flag : Flag) → IsGapAt p k lines i → lines ≡ with_mark k flag lines
-  mark-gap flag g =
-      let same_lines : with_mark k flag (g.front ++ g.back) ≡ g.front ++ g.back =
-      with_mark-front p k flag g.front g.back g.earlier ∙ ap (λ zs. g.front ++ zs) (with_mark-back p k flag g.back g.later) in
-      g.parts ∙ sym (ap (λ (ys : List Line). with_mark k flag ys) g.parts ∙ same_lines)
-
   -- the line taken out there
   pub remove-found : IsFoundAt k lines i → remove lines i ≡ without k lines
   remove-found f =
       let walk : IsWalk p (f.front ++ f.line ∷ f.back) = subst (λ (ys : List Line). IsWalk p ys) f.parts w in
       let was : remove lines i ≡ f.front ++ f.back = ap (λ (ys : List Line). remove ys i) f.parts ∙ remove_at f.front f.line f.back i f.long in
       was ∙ sym (ap (λ (ys : List Line). without k ys) f.parts ∙ (ap (λ (x : Key). without x (f.front ++ f.line ∷ f.back)) (sym f.key) ∙ without-parts p f.front f.line f.back walk))
-
-  pub remove-gap : IsGapAt p k lines i → lines ≡ without k lines
-  remove-gap g =
-      let same_lines : without k (g.front ++ g.back) ≡ g.front ++ g.back =
-      without-front p k g.front g.back g.earlier ∙ ap (λ zs. g.front ++ zs) (without-back p k g.back g.later) in
-      g.parts ∙ sym (ap (λ (ys : List Line). without k ys) g.parts ∙ same_lines)
 
   -- the line behind it, and the first line behind a gap
   pub next-found : IsFoundAt k lines i → slice_get lines (i + 1) ≡ next_behind p (Some k) lines
@@ -137,12 +125,6 @@ walk-insert p x lines i w key g =
     let was : insert lines i x ≡ g.front ++ x ∷ g.back = ap (λ (ys : List Line). insert ys i x) g.parts ∙ insert_at g.front x g.back i g.long in
     subst (λ (ys : List Line). IsWalk p ys) (sym was) (walk_put p g.front x g.back (subst (λ (ys : List Line). IsWalk p ys) g.parts w) key g.earlier g.later)
 
--- the visit of a line that is there is the plan's
-pub key-get : (p : Params) (lines : List Line) (i : ℕ) → IsWalk p lines → IfSome (slice_get lines i) (λ line. IsKey p (key_of line))
-key-get p [] i w = tt
-key-get p (x ∷ xs) zero w = w.0
-key-get p (x ∷ xs) (suc i) w = key-get p xs i w.2
-
 -- what is seen of a view whose lines are changed
 pub seen-with : (p : Params) (lines ys : List Line) (s : Seen) (f : Params → List Line → List Line) → record_of p lines ≡ s → ys ≡ f p lines → record_of p ys ≡ record_of s.params (f s.params s.lines)
 seen-with p lines ys s f v e = ap (λ (zs : List Line). record_of p zs) e ∙ ap (λ (r : Seen). record_of r.params (f r.params r.lines)) v
@@ -169,11 +151,6 @@ due-there p reading (x ∷ xs) w = by_test (nat_le (due_of p (key_of x)) reading
 -- the plan of what is seen is the view's own
 pub key-along : (p : Params) (lines : List Line) {s : Seen} (k : Key) → record_of p lines ≡ s → IsKey s.params k → IsKey p k
 key-along p lines k v h = subst (λ (q : Params). IsKey q k) (sym (ap (λ (r : Seen). r.params) v)) h
-
-pub key-found-at : (p : Params) (lines : List Line) (i : ℕ) {s : Seen} {o : Option Line} → record_of p lines ≡ s → IsWalk p lines → o ≡ slice_get lines i → IfSome o (λ line. IsKey s.params (key_of line))
-key-found-at p lines i {s} {o} v w e =
-    subst (λ (q : Seen). IfSome o (λ line. IsKey q.params (key_of line))) v
-    (subst (λ (r : Option Line). IfSome r (λ line. IsKey p (key_of line))) (sym e) (key-get p lines i w))
 
 -- a view that has become another keeps its order
 pub walk-along : (p : Params) (ys : List Line) {now : Seen} → now ≡ record_of p ys → IsWalk p ys → IsWalk now.params now.lines

@@ -1,8 +1,7 @@
 -- What a change of a list is behind its first elements, which are gone.
-use Rattle.std.proofs.Common.{◌≡◌, ℕ, ◌+◌, ◌-◌, ◌<◌, ◌≤◌, zero, suc, List, [], ◌∷◌, ◌++◌, length, take, drop, refl, ap, sym, ◌∙◌, arith}
-use Rattle.std.proofs.Math.ListN.{set}
+use Rattle.std.proofs.Common.{◌≡◌, ℕ, ◌+◌, ◌-◌, ◌<◌, ◌≤◌, zero, suc, List, [], ◌∷◌, ◌++◌, length, take, drop, ap, sym, ◌∙◌, arith}
 use Rattle.std.specs.List.{insert, remove}
-use Rattle.std.proofs.lemmas.List.{append_assoc, length-set, length-drop, length-take-le, take-take, drop-drop, drop_at}
+use Rattle.std.proofs.lemmas.List.{append_assoc, length-drop, length-take-le, take-take, drop-drop, drop_at}
 use borrow.Rule.Slice.PartMut.{put_mid}
 
 module _ {X : Type 0} where
@@ -44,24 +43,3 @@ module _ {X : Type 0} where
       ∙ ap (drop 1) (append_assoc (drop count (take k zs)) (take count zs) (drop k zs))
       ∙ drop_at (drop count (take k zs)) (take count zs ++ drop k zs) 1 one
       ∙ ap (λ l. take count zs ++ l) behind
-
-  -- after `s[from] = x` and `s[from..from + count + 1].rotate_left(1)`: the first elements moved down over the place, with x behind them
-  drop-set_here : (from : ℕ) (xs : List X) (x : X) → from < length xs → drop from (set xs from x) ≡ x ∷ drop (from + 1) xs
-  drop-set_here from [] x h = absurd (omega arith)
-  drop-set_here zero (y ∷ ys) x h = refl
-  drop-set_here (suc from) (y ∷ ys) x h =
-      let on : suc (from + 1) ≡ suc from + 1 = omega arith in
-      drop-set_here from ys x (omega arith) ∙ ap (λ k. x ∷ drop k (y ∷ ys)) on
-
-  turned-left : (count k : ℕ) (x : X) (rest zs : List X) → k ≡ suc count → zs ≡ x ∷ rest → (drop 1 (take k zs) ++ take 1 (take k zs)) ++ drop k zs ≡ insert rest count x
-  turned-left count k x rest zs is e =
-      rw (is, e) (append_assoc (take count rest) (x ∷ []) (drop count rest))
-
-  pub rotated-down : (from count k : ℕ) (xs ys : List X) (x : X) → from + count < length xs → k ≡ count + 1
-      → ys ≡ drop 1 (take k (drop from (set xs from x))) ++ take 1 (take k (drop from (set xs from x)))
-      → drop from (put_mid from k (set xs from x) ys) ≡ insert (drop (from + 1) xs) count x
-  rotated-down from count k xs ys x inside is turned =
-      let zs = drop from (set xs from x) in
-      drop_at (take from (set xs from x)) (ys ++ drop k zs) from (length-take-le from (set xs from x) (omega (arith, inside, length-set xs from x)))
-      ∙ ap (λ l. l ++ drop k zs) turned
-      ∙ turned-left count k x (drop (from + 1) xs) zs (omega (arith, is)) (drop-set_here from xs x (omega (arith, inside)))

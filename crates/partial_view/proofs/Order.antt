@@ -143,3 +143,21 @@ walk_without p k lines w = walk_filter p (λ x. not (is_at k x)) lines w
 pub walk_without_instance : (p : Params) (v : Instance) (lines : List Line) → IsWalk p lines → IsWalk p (without_instance v lines)
 unfolding without_instance
 walk_without_instance p v lines w = walk_filter p (λ x. not (is_of v x)) lines w
+
+-- what holds of each line, where a flag is set that keeps it
+pub all_marked : (P : Line → Type 0) (k : Key) (flag : Flag) → ((x : Line) → P x → P (marked flag x)) → (lines : List Line) → AllByRecursion P lines → AllByRecursion P (with_mark k flag lines)
+unfolding with_mark
+all_marked P k flag keeps [] h = tt
+all_marked P k flag keeps (x ∷ xs) h = (
+  elim (is_at k x) as (λ t. P (cond t (marked flag x) x)) [ true ↦ keeps x h.0 | false ↦ h.0 ],
+  all_marked P k flag keeps xs h.1,
+)
+
+-- what holds of each line, where lines are removed
+pub all_without : (P : Line → Type 0) (k : Key) (lines : List Line) → AllByRecursion P lines → AllByRecursion P (without k lines)
+unfolding without
+all_without P k lines h = all_filter P (λ x. not (is_at k x)) lines h
+
+pub all_without_instance : (P : Line → Type 0) (v : Instance) (lines : List Line) → AllByRecursion P lines → AllByRecursion P (without_instance v lines)
+unfolding without_instance
+all_without_instance P v lines h = all_filter P (λ x. not (is_of v x)) lines h

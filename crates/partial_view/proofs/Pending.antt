@@ -1,13 +1,12 @@
 -- What is still to be forwarded, to be asked for or to be split where a view changes, and where the
 -- first line stands for which it may be.
-use Rattle.std.proofs.Common.{◌≡◌, ℕ, ◌+◌, ◌<◌, ◌≤◌, ◌&&◌, ◌-◌, nat_lt, nat_le, Bool, true, false, cond, not, List, [], ◌∷◌, length, get_or, Option, Some, None, is_some, refl, subst, ◌∙◌, sym, ap, arith}
-use Rattle.std.specs.List.{AllByRecursion, slice_get}
-use Rattle.std.proofs.lemmas.Bool.{and_parts, both_ways, leb-true, leb-false}
+use Rattle.std.proofs.Common.{◌≡◌, ℕ, ◌+◌, ◌^◌, ◌<◌, ◌≤◌, ◌&&◌, ◌-◌, nat_lt, nat_le, max, Bool, true, false, cond, not, List, [], ◌∷◌, find, Option, Some, None, is_some, refl, subst, ◌∙◌, sym, ap, arith}
+use Rattle.std.specs.List.{AllByRecursion}
+use Rattle.std.proofs.lemmas.Bool.{and_parts, and_from, both_ways, le-leb, leb-true}
 use Rattle.slot_plan.specs.declared.params.Params.{Params}
-use Rattle.slot_plan.specs.Keys.{Key, due_of, is_earlier}
-use Rattle.slot_plan.proofs.Keys.{earlier_due}
-use Rattle.slot_plan.proofs.Times.{due_next}
-use Rattle.tiger_base.specs.declared.number.Instance.{Instance}
+use Rattle.slot_plan.specs.Conditions.{IsInRange}
+use Rattle.slot_plan.specs.Keys.{Key, IsKey, due_of, is_earlier}
+use Rattle.slot_plan.proofs.Times.{due_next, due_fits}
 use Rattle.tiger_base.specs.declared.tenancy.Rec.{Rec}
 use Rattle.tiger_base.specs.Kinds.{is_own}
 use Rattle.state_forward.specs.Forwards.{next_due}
@@ -15,16 +14,20 @@ use Rattle.partial_view.specs.declared.line.Line.{Line}
 use Rattle.partial_view.specs.declared.line.Flag.{Flag}
 use Rattle.partial_view.specs.declared.line.Flag.TheVariants.{Forwarded, Asked, Split}
 use Rattle.partial_view.specs.declared.full_disks.FullDisks.{FullDisks}
+use Rattle.partial_view.specs.declared.turn.Turn.{Turn}
 use Rattle.partial_view.specs.declared.view.Added.{Added}
 use Rattle.partial_view.specs.declared.view.Added.TheVariants.{New}
-use Rattle.partial_view.specs.Lines.{key_of, visit_of, marked, unmarked, is_at, is_of}
-use Rattle.partial_view.specs.Views.{line_at, with_mark, without, without_instance, with_line, with_record, first_from, place_from, IsWalk, Seen}
-use Rattle.partial_view.specs.Walks.{IsFirstFor}
+use Rattle.partial_view.specs.Lines.{key_of, visit_of, marked, unmarked}
+use Rattle.partial_view.specs.Views.{line_at, with_mark, without, with_line, with_record, IsWalk, Seen}
+use Rattle.partial_view.specs.Wheel.{IsTurn}
+use Rattle.partial_view.specs.Work.{is_between, first_between}
 use Rattle.partial_view.specs.Adding.{answer_to, answer_at}
-use Rattle.partial_view.proofs.Order.{all_filter, all_implies}
-use Rattle.partial_view.proofs.Begins.{first_due, first_for, from_at}
-use Rattle.partial_view.proofs.Calls.{record_of, with_record-known}
-use Rattle.partial_view.proofs.Dues.{stands_at}
+use Rattle.partial_view.proofs.Order.{all_implies, all_marked, all_without}
+use Rattle.partial_view.proofs.Calls.{with_record-known}
+use Rattle.partial_view.proofs.Firsts.{alike, find_alike, between_parts, first_same, first_least}
+use Rattle.partial_view.proofs.Frees.{full_mark, full_without}
+use Rattle.partial_view.proofs.Soonest.{found-key}
+use Rattle.partial_view.proofs.Turns.{between-is}
 use Rattle.partial_view.specs.Free.{AreFull}
 use Rattle.partial_view.specs.Pending.{is_pending, IsForwardedTo, IsForwardedBetween, is_unasked, IsAskedBefore, is_unsplit, IsSplitFrom, IsSplitBetween, is_unsplit_from}
 
@@ -55,11 +58,6 @@ asked_earlier p low high lines e h =
 pub between_earlier : (p : Params) (from low high : ℕ) (lines : List Line) → low ≤ high → IsSplitBetween p from high lines → IsSplitBetween p from low lines
 between_earlier p from low high lines e h =
     all_implies (λ x. is_unsplit x ≡ true → from ≤ due_of p (key_of x) → high ≤ due_of p (key_of x)) (λ x. is_unsplit x ≡ true → from ≤ due_of p (key_of x) → low ≤ due_of p (key_of x)) (λ x f unsplit late. omega (arith, f unsplit late)) lines h
-
--- what is split from a time on is split between that time and any other
-pub between_from : (p : Params) (from to : ℕ) (lines : List Line) → IsSplitFrom p from lines → IsSplitBetween p from to lines
-between_from p from to lines h =
-    all_implies (λ x. is_unsplit x ≡ true → due_of p (key_of x) < from) (λ x. is_unsplit x ≡ true → from ≤ due_of p (key_of x) → to ≤ due_of p (key_of x)) (λ x f unsplit late. absurd (omega (arith, f unsplit, late))) lines h
 
 rec_marked : (flag : Flag) (x : Line) → (marked flag x).rec ≡ x.rec
 rec_marked Forwarded x = refl
@@ -98,48 +96,30 @@ unsplit_marked Split x h = absurd (both_ways (is_unsplit (marked Split x)) (neve
     never true = refl
     never false = refl
 
--- what holds of each line, where a flag is set that keeps it
-all_marked : (P : Line → Type 0) (k : Key) (flag : Flag) → ((x : Line) → P x → P (marked flag x)) → (lines : List Line) → AllByRecursion P lines → AllByRecursion P (with_mark k flag lines)
-unfolding with_mark
-all_marked P k flag keeps [] h = tt
-all_marked P k flag keeps (x ∷ xs) h = (
-  elim (is_at k x) as (λ t. P (cond t (marked flag x) x)) [ true ↦ keeps x h.0 | false ↦ h.0 ],
-  all_marked P k flag keeps xs h.1,
-)
-
-pub forwarded_mark : (p : Params) (limit : ℕ) (k : Key) (flag : Flag) (lines : List Line) → IsForwardedTo p limit lines → IsForwardedTo p limit (with_mark k flag lines)
+forwarded_mark : (p : Params) (limit : ℕ) (k : Key) (flag : Flag) (lines : List Line) → IsForwardedTo p limit lines → IsForwardedTo p limit (with_mark k flag lines)
 forwarded_mark p limit k flag lines h =
     all_marked (λ x. is_pending x ≡ true → limit < next_due p x.rec) k flag
     (λ x f pending. subst (λ (r : Rec). limit < next_due p r) (sym (rec_marked flag x)) (f (pending_marked flag x pending))) lines h
 
-pub free_mark : (p : Params) (from to : ℕ) (k : Key) (flag : Flag) (lines : List Line) → IsForwardedBetween p from to lines → IsForwardedBetween p from to (with_mark k flag lines)
+free_mark : (p : Params) (from to : ℕ) (k : Key) (flag : Flag) (lines : List Line) → IsForwardedBetween p from to lines → IsForwardedBetween p from to (with_mark k flag lines)
 free_mark p from to k flag lines h =
     all_marked (λ x. is_pending x ≡ true → from ≤ next_due p x.rec → to < next_due p x.rec) k flag
     (λ x f pending. subst (λ (r : Rec). from ≤ next_due p r → to < next_due p r) (sym (rec_marked flag x)) (f (pending_marked flag x pending))) lines h
 
-pub split_mark : (p : Params) (limit : ℕ) (k : Key) (flag : Flag) (lines : List Line) → IsSplitFrom p limit lines → IsSplitFrom p limit (with_mark k flag lines)
+split_mark : (p : Params) (limit : ℕ) (k : Key) (flag : Flag) (lines : List Line) → IsSplitFrom p limit lines → IsSplitFrom p limit (with_mark k flag lines)
 split_mark p limit k flag lines h =
     all_marked (λ x. is_unsplit x ≡ true → due_of p (key_of x) < limit) k flag
     (λ x f unsplit. subst (λ (r : Rec). due_of p (visit_of r) < limit) (sym (rec_marked flag x)) (f (unsplit_marked flag x unsplit))) lines h
 
-pub asked_mark : (p : Params) (limit : ℕ) (k : Key) (flag : Flag) (lines : List Line) → IsAskedBefore p limit lines → IsAskedBefore p limit (with_mark k flag lines)
+asked_mark : (p : Params) (limit : ℕ) (k : Key) (flag : Flag) (lines : List Line) → IsAskedBefore p limit lines → IsAskedBefore p limit (with_mark k flag lines)
 asked_mark p limit k flag lines h =
     all_marked (λ x. is_unasked x ≡ true → limit ≤ due_of p (key_of x)) k flag
     (λ x f unasked. subst (λ (r : Rec). limit ≤ due_of p (visit_of r)) (sym (rec_marked flag x)) (f (unasked_marked flag x unasked))) lines h
 
-pub between_mark : (p : Params) (from to : ℕ) (k : Key) (flag : Flag) (lines : List Line) → IsSplitBetween p from to lines → IsSplitBetween p from to (with_mark k flag lines)
+between_mark : (p : Params) (from to : ℕ) (k : Key) (flag : Flag) (lines : List Line) → IsSplitBetween p from to lines → IsSplitBetween p from to (with_mark k flag lines)
 between_mark p from to k flag lines h =
     all_marked (λ x. is_unsplit x ≡ true → from ≤ due_of p (key_of x) → to ≤ due_of p (key_of x)) k flag
     (λ x f unsplit. subst (λ (r : Rec). from ≤ due_of p (visit_of r) → to ≤ due_of p (visit_of r)) (sym (rec_marked flag x)) (f (unsplit_marked flag x unsplit))) lines h
-
--- where lines are removed
-pub all_without : (P : Line → Type 0) (k : Key) (lines : List Line) → AllByRecursion P lines → AllByRecursion P (without k lines)
-unfolding without
-all_without P k lines h = all_filter P (λ x. not (is_at k x)) lines h
-
-pub all_without_instance : (P : Line → Type 0) (v : Instance) (lines : List Line) → AllByRecursion P lines → AllByRecursion P (without_instance v lines)
-unfolding without_instance
-all_without_instance P v lines h = all_filter P (λ x. not (is_of v x)) lines h
 
 -- and where there is one more line
 all_with_line : (P : Line → Type 0) (q : Params) (x : Line) (lines : List Line) → AllByRecursion P lines → P x → AllByRecursion P (with_line q x lines)
@@ -168,10 +148,10 @@ known p r lines added e old = cases (line_at (visit_of r) lines) refl
     cases (Some x) is = with_record-known p r lines x is
 
 -- a view of the same plan whose lines have become others
-pub kept_by : (q : Params) (forwarded split asked from to since until : ℕ) (full : FullDisks) (s now : Seen) (lines : List Line) → s.params ≡ q → now ≡ record s { lines = lines }
-    → IsForwardedTo q forwarded lines → IsSplitFrom q split lines → IsAskedBefore q asked lines → IsSplitBetween q from to lines → AreFull q full lines → IsForwardedBetween q since until lines
-    → (now.params ≡ q) × IsForwardedTo q forwarded now.lines × IsSplitFrom q split now.lines × IsAskedBefore q asked now.lines × IsSplitBetween q from to now.lines × AreFull q full now.lines × IsForwardedBetween q since until now.lines
-kept_by q forwarded split asked from to since until full s now lines same is f g h i j k = (
+pub kept_by : (q : Params) (forwarded split asked from to since until : ℕ) (full : FullDisks) (pending unasked unsplit : Turn) (s now : Seen) (lines : List Line) → s.params ≡ q → now ≡ record s { lines = lines }
+    → IsForwardedTo q forwarded lines → IsSplitFrom q split lines → IsAskedBefore q asked lines → IsSplitBetween q from to lines → AreFull q full lines → IsForwardedBetween q since until lines → IsTurn q pending → IsTurn q unasked → IsTurn q unsplit
+    → (now.params ≡ q) × IsForwardedTo q forwarded now.lines × IsSplitFrom q split now.lines × IsAskedBefore q asked now.lines × IsSplitBetween q from to now.lines × AreFull q full now.lines × IsForwardedBetween q since until now.lines × IsTurn q pending × IsTurn q unasked × IsTurn q unsplit
+kept_by q forwarded split asked from to since until full pending unasked unsplit s now lines same is f g h i j k l m n = (
   ap (λ (r : Seen). r.params) is ∙ same,
   subst (λ (r : Seen). IsForwardedTo q forwarded r.lines) (sym is) f,
   subst (λ (r : Seen). IsSplitFrom q split r.lines) (sym is) g,
@@ -179,85 +159,125 @@ kept_by q forwarded split asked from to since until full s now lines same is f g
   subst (λ (r : Seen). IsSplitBetween q from to r.lines) (sym is) i,
   subst (λ (r : Seen). AreFull q full r.lines) (sym is) j,
   subst (λ (r : Seen). IsForwardedBetween q since until r.lines) (sym is) k,
+  l,
+  m,
+  n,
 )
 
--- no line is due at a time or later, and before the first that is
-pub late_from : (p : Params) (time : ℕ) (lines : List Line) (y : Line) → IsWalk p lines → first_from p time lines ≡ Some y → AllByRecursion (λ x. time ≤ due_of p (key_of x) → due_of p (key_of y) ≤ due_of p (key_of x)) lines
-unfolding first_from
-late_from p time [] y w e = tt
-late_from p time (z ∷ zs) y w e = by_test (nat_le time (due_of p (key_of z))) refl e (late_from p time zs y w.2)
-  where
-    by_test : (t : Bool) → nat_le time (due_of p (key_of z)) ≡ t → cond t (Some z) (first_from p time zs) ≡ Some y
-        → (first_from p time zs ≡ Some y → AllByRecursion (λ x. time ≤ due_of p (key_of x) → due_of p (key_of y) ≤ due_of p (key_of x)) zs)
-        → AllByRecursion (λ x. time ≤ due_of p (key_of x) → due_of p (key_of y) ≤ due_of p (key_of x)) (z ∷ zs)
-    by_test true is e rest =
-        let same : z ≡ y = cc in
-        subst (λ (u : Line). AllByRecursion (λ x. time ≤ due_of p (key_of x) → due_of p (key_of u) ≤ due_of p (key_of x)) (z ∷ zs)) same
-        (λ late. omega arith, all_implies (λ x. is_earlier p (key_of z) (key_of x) ≡ true) (λ x. time ≤ due_of p (key_of x) → due_of p (key_of z) ≤ due_of p (key_of x)) (λ x h late. earlier_due p (key_of z) (key_of x) h) zs w.1)
-    by_test false is e rest = (λ late. absurd (omega (arith, late, leb-false _ _ is)), rest e)
+-- a flag was set
+pub kept_mark : (q : Params) (forwarded split asked from to since until : ℕ) (full : FullDisks) (pending unasked unsplit : Turn) (s now : Seen) (k : Key) (flag : Flag) → s.params ≡ q → now ≡ record s { lines = with_mark k flag s.lines }
+    → IsForwardedTo q forwarded s.lines → IsSplitFrom q split s.lines → IsAskedBefore q asked s.lines → IsSplitBetween q from to s.lines → AreFull q full s.lines → IsForwardedBetween q since until s.lines → IsTurn q pending → IsTurn q unasked → IsTurn q unsplit
+    → (now.params ≡ q) × IsForwardedTo q forwarded now.lines × IsSplitFrom q split now.lines × IsAskedBefore q asked now.lines × IsSplitBetween q from to now.lines × AreFull q full now.lines × IsForwardedBetween q since until now.lines × IsTurn q pending × IsTurn q unasked × IsTurn q unsplit
+kept_mark q forwarded split asked from to since until full pending unasked unsplit s now k flag same is f g h i j l =
+    kept_by q forwarded split asked from to since until full pending unasked unsplit s now (with_mark k flag s.lines) same is
+    (forwarded_mark q forwarded k flag s.lines f) (split_mark q split k flag s.lines g) (asked_mark q asked k flag s.lines h) (between_mark q from to k flag s.lines i) (full_mark q full k flag s.lines j) (free_mark q since until k flag s.lines l)
 
-pub late_along : (p : Params) (time i : ℕ) (lines : List Line) (y : Line) {due : ℕ} {s : Seen} → record_of p lines ≡ s → IsWalk p lines → i ≡ place_from p time lines → y ≡ get_or lines i y → i < length lines → due ≡ due_of p (key_of y)
-    → AllByRecursion (λ x. time ≤ due_of s.params (key_of x) → due ≤ due_of s.params (key_of x)) s.lines
-late_along p time i lines y {due} {s} v w is here l due_is =
-    let found : first_from p time lines ≡ Some y = sym (from_at p time lines) ∙ (ap (λ n. slice_get lines n) (sym is) ∙ stands_at lines i y here l) in
-    subst (λ (r : Seen). AllByRecursion (λ x. time ≤ due_of r.params (key_of x) → due ≤ due_of r.params (key_of x)) r.lines) v
-    (subst (λ (n : ℕ). AllByRecursion (λ x. time ≤ due_of p (key_of x) → n ≤ due_of p (key_of x)) lines) (sym due_is) (late_from p time lines y w found))
-
-pub none_between : (p : Params) (time : ℕ) (lines : List Line) → AllByRecursion (λ x. time ≤ due_of p (key_of x) → time ≤ due_of p (key_of x)) lines
-none_between p time [] = tt
-none_between p time (x ∷ xs) = (λ late. late, none_between p time xs)
+-- a line was taken out, and from then on it is gone
+pub kept_without : (q : Params) (forwarded split asked from to since until gone : ℕ) (full : FullDisks) (pending unasked unsplit : Turn) (s now : Seen) (k : Key) → s.params ≡ q → now ≡ record s { lines = without k s.lines }
+    → full.from ≤ gone → due_of q k ≤ gone + q.window_b
+    → IsForwardedTo q forwarded s.lines → IsSplitFrom q split s.lines → IsAskedBefore q asked s.lines → IsSplitBetween q from to s.lines → AreFull q full s.lines → IsForwardedBetween q since until s.lines → IsTurn q pending → IsTurn q unasked → IsTurn q unsplit
+    → (now.params ≡ q) × IsForwardedTo q forwarded now.lines × IsSplitFrom q split now.lines × IsAskedBefore q asked now.lines × IsSplitBetween q from to now.lines × AreFull q (record full { from = gone }) now.lines × IsForwardedBetween q since until now.lines × IsTurn q pending × IsTurn q unasked × IsTurn q unsplit
+kept_without q forwarded split asked from to since until gone full pending unasked unsplit s now k same is later out f g h i j l =
+    kept_by q forwarded split asked from to since until (record full { from = gone }) pending unasked unsplit s now (without k s.lines) same is
+    (all_without _ k s.lines f) (all_without _ k s.lines g) (all_without _ k s.lines h) (all_without _ k s.lines i) (full_without q gone full k s.lines later out j) (all_without _ k s.lines l)
 
 -- so what is asked before the one time is asked before the other
 pub asked_on : (p : Params) (time due : ℕ) (lines : List Line) → AllByRecursion (λ x. time ≤ due_of p (key_of x) → due ≤ due_of p (key_of x)) lines → IsAskedBefore p time lines → IsAskedBefore p due lines
 asked_on p time due [] h g = tt
 asked_on p time due (x ∷ xs) h g = (λ unasked. h.0 (g.0 unasked), asked_on p time due xs h.1 g.1)
 
--- the first line that is due at a time or later is the first for a test that no line passes which
--- is due before
-from_time : (p : Params) (time : ℕ) (test : Line → Bool) (lines : List Line) → AllByRecursion (λ x. nat_le time (due_of p (key_of x)) ≡ false → test x ≡ false) lines → IsFirstFor test lines (first_from p time lines)
-from_time p time test lines h =
-    first_for (λ x. nat_le time (due_of p (key_of x))) test lines (first_from p time lines) h (first_due p time lines)
-
--- what would be late is not to be done of a line that is due early
-not_early : (test : Bool) (time due : ℕ) → (test ≡ true → time ≤ due) → nat_le time due ≡ false → test ≡ false
-not_early false time due h early = refl
-not_early true time due h early =
-    let low = h refl in
-    absurd (omega (arith, low, leb-false time due early))
+-- the first line for which something is left to do, looked for between times that serve as well
+pub first_seen : (q : Params) (s now : Seen) (test : Line → Bool) (from to time : ℕ) (o : Option Line) → s.params ≡ q → s ≡ now → first_between q test from to s.lines ≡ first_between q test 0 time s.lines
+    → o ≡ first_between s.params test from to s.lines → o ≡ first_between now.params test 0 time now.lines
+first_seen q s now test from to time o same is e found =
+    found ∙ (ap (λ (r : Params). first_between r test from to s.lines) same ∙ (e ∙ (ap (λ (r : Params). first_between r test 0 time s.lines) (sym same) ∙ ap (λ (r : Seen). first_between r.params test 0 time r.lines) is)))
 
 -- a state that is still to be forwarded is of a visit that is due a block play time later
-pub pending_from : (p : Params) (to time : ℕ) (lines : List Line) → time ≤ to + 1 - p.play → IsForwardedTo p to lines → IsFirstFor is_pending lines (first_from p time lines)
-pending_from p to time lines e h =
-    from_time p time is_pending lines
-    (all_implies (λ x. is_pending x ≡ true → to < next_due p x.rec) (λ x. nat_le time (due_of p (key_of x)) ≡ false → is_pending x ≡ false)
-    (λ x f early. not_early (is_pending x) time (due_of p (key_of x)) (λ pending. omega (arith, e, f pending, due_next p x.rec.tenancy.slot.0 x.rec.visit)) early) lines h)
-
-pub unasked_from : (p : Params) (time : ℕ) (lines : List Line) → IsAskedBefore p time lines → IsFirstFor is_unasked lines (first_from p time lines)
-unasked_from p time lines h =
-    from_time p time is_unasked lines
-    (all_implies (λ x. is_unasked x ≡ true → time ≤ due_of p (key_of x)) (λ x. nat_le time (due_of p (key_of x)) ≡ false → is_unasked x ≡ false)
-    (λ x f early. not_early (is_unasked x) time (due_of p (key_of x)) f early) lines h)
-
--- a visit is split that is due at the limit or later, and is not due when all are split
-unsplit_parts : (p : Params) (limit : ℕ) (x : Line) → is_unsplit_from p limit x ≡ true → (is_unsplit x ≡ true) × (limit ≤ due_of p (key_of x))
-unsplit_parts p limit x h =
-    let both = and_parts (is_unsplit x) (nat_le limit (due_of p (key_of x))) h in
-    (both.0, leb-true limit (due_of p (key_of x)) both.1)
-
-pub unsplit_limit : (p : Params) (limit : ℕ) (lines : List Line) → IsFirstFor (is_unsplit_from p limit) lines (first_from p limit lines)
-unsplit_limit p limit lines = from_time p limit (is_unsplit_from p limit) lines (each lines)
+pub pending_same : (p : Params) (old a b end from to time : ℕ) (lines : List Line) → from ≤ old + 1 - p.play → to ≡ end - p.play → end ≤ time + p.play
+    → ((due : ℕ) → due ≤ time + p.play → (a ≤ due → b < due) → due ≤ end) → IsForwardedTo p old lines → IsForwardedBetween p a b lines
+    → first_between p is_pending from to lines ≡ first_between p is_pending 0 time lines
+pending_same p old a b end from to time lines low high by others f g = first_same p is_pending from to 0 time lines (each lines f g)
   where
-    each : (ys : List Line) → AllByRecursion (λ x. nat_le limit (due_of p (key_of x)) ≡ false → is_unsplit_from p limit x ≡ false) ys
-    each [] = tt
-    each (y ∷ ys) = (not_early (is_unsplit_from p limit y) limit (due_of p (key_of y)) (λ unsplit. (unsplit_parts p limit y unsplit).1), each ys)
+    each : (ys : List Line) → IsForwardedTo p old ys → IsForwardedBetween p a b ys
+        → AllByRecursion (λ x. is_pending x ≡ true → (from ≤ due_of p (key_of x) → due_of p (key_of x) ≤ to → (0 ≤ due_of p (key_of x)) × (due_of p (key_of x) ≤ time)) × (0 ≤ due_of p (key_of x) → due_of p (key_of x) ≤ time → (from ≤ due_of p (key_of x)) × (due_of p (key_of x) ≤ to))) ys
+    each [] f g = tt
+    each (y ∷ ys) f g = (
+      λ pending.
+          let next = due_next p y.rec.tenancy.slot.0 y.rec.visit in (
+            λ least most. (omega arith, omega (arith, most, high, by)),
+            λ least most. (omega (arith, low, f.0 pending, next), omega (arith, others (next_due p y.rec) (omega (arith, most, next)) (g.0 pending), next, high)),
+          ),
+      each ys f.1 g.1,
+    )
 
-pub unsplit_between : (p : Params) (from to limit : ℕ) (lines : List Line) → from ≤ limit → IsSplitBetween p from to lines → IsFirstFor (is_unsplit_from p limit) lines (first_from p to lines)
-unsplit_between p from to limit lines e h =
-    from_time p to (is_unsplit_from p limit) lines
-    (all_implies (λ x. is_unsplit x ≡ true → from ≤ due_of p (key_of x) → to ≤ due_of p (key_of x)) (λ x. nat_le to (due_of p (key_of x)) ≡ false → is_unsplit_from p limit x ≡ false)
-    (λ x f early. not_early (is_unsplit_from p limit x) to (due_of p (key_of x)) (λ unsplit. let both = unsplit_parts p limit x unsplit in f both.0 (omega (arith, e, both.1))) early) lines h)
+pub forwarded_found : (p : Params) (old from to due new : ℕ) (lines : List Line) (x : Line) → IsWalk p lines → 1 ≤ p.play → from ≤ old + 1 - p.play → due ≡ due_of p (key_of x) → new ≡ max old (due + p.play - 1)
+    → IsForwardedTo p old lines → Some x ≡ first_between p is_pending from to lines → IsForwardedTo p new lines
+forwarded_found p old from to due new lines x w play low is later f found =
+    after lines f
+    (first_least p (λ y. is_pending y ≡ true) is_pending from to lines x w
+    (all_implies (λ y. is_pending y ≡ true → old < next_due p y.rec) (λ y. is_pending y ≡ true → (is_pending y ≡ true) × (from ≤ due_of p (key_of y)))
+    (λ y g pending. (pending, omega (arith, low, g pending, due_next p y.rec.tenancy.slot.0 y.rec.visit))) lines f) (sym found))
+  where
+    after : (ys : List Line) → IsForwardedTo p old ys → AllByRecursion (λ y. is_pending y ≡ true → due_of p (key_of x) ≤ due_of p (key_of y)) ys → IsForwardedTo p new ys
+    after [] f g = tt
+    after (y ∷ ys) f g = (λ pending. omega (arith, later, is, play, f.0 pending, g.0 pending, due_next p y.rec.tenancy.slot.0 y.rec.visit), after ys f.1 g.1)
 
--- the same of a view of the plan
-pub first_along : (p : Params) (time : ℕ) (test : Line → Bool) (s : Seen) (next : Option Line) → s.params ≡ p → next ≡ first_from s.params time s.lines → IsFirstFor test s.lines (first_from p time s.lines) → IsFirstFor test s.lines next
-first_along p time test s next same is h =
-    subst (λ (o : Option Line). IsFirstFor test s.lines o) (sym (is ∙ ap (λ (q : Params). first_from q time s.lines) same)) h
+pub unasked_same : (p : Params) (old time : ℕ) (lines : List Line) → IsAskedBefore p old lines → first_between p is_unasked old time lines ≡ first_between p is_unasked 0 time lines
+unasked_same p old time lines f =
+    first_same p is_unasked old time 0 time lines
+    (all_implies (λ x. is_unasked x ≡ true → old ≤ due_of p (key_of x)) (λ x. is_unasked x ≡ true → (old ≤ due_of p (key_of x) → due_of p (key_of x) ≤ time → (0 ≤ due_of p (key_of x)) × (due_of p (key_of x) ≤ time)) × (0 ≤ due_of p (key_of x) → due_of p (key_of x) ≤ time → (old ≤ due_of p (key_of x)) × (due_of p (key_of x) ≤ time)))
+    (λ x g unasked. (λ least most. (omega arith, most), λ least most. (g unasked, most))) lines f)
+
+pub asked_found : (p : Params) (old to due : ℕ) (lines : List Line) (x : Line) → IsWalk p lines → due ≡ due_of p (key_of x) → IsAskedBefore p old lines → Some x ≡ first_between p is_unasked old to lines → IsAskedBefore p due lines
+asked_found p old to due lines x w is f found =
+    subst (λ (n : ℕ). IsAskedBefore p n lines) (sym is)
+    (first_least p (λ y. is_unasked y ≡ true) is_unasked old to lines x w
+    (all_implies (λ y. is_unasked y ≡ true → old ≤ due_of p (key_of y)) (λ y. is_unasked y ≡ true → (is_unasked y ≡ true) × (old ≤ due_of p (key_of y))) (λ y g unasked. (unasked, g unasked)) lines f) (sym found))
+
+-- a visit is still to be split from the limit on, if it is due when some may be
+unsplit_start : (p : Params) (limit from to start : ℕ) → ((due : ℕ) → limit ≤ due → (from ≤ due → to ≤ due) → start ≤ due) → (lines : List Line) → IsSplitBetween p from to lines
+    → AllByRecursion (λ x. is_unsplit x ≡ true → limit ≤ due_of p (key_of x) → start ≤ due_of p (key_of x)) lines
+unsplit_start p limit from to start others lines f =
+    all_implies (λ x. is_unsplit x ≡ true → from ≤ due_of p (key_of x) → to ≤ due_of p (key_of x)) (λ x. is_unsplit x ≡ true → limit ≤ due_of p (key_of x) → start ≤ due_of p (key_of x))
+    (λ x g unsplit late. others (due_of p (key_of x)) late (g unsplit)) lines f
+
+unsplit_alike : (p : Params) (limit start last : ℕ) → limit ≤ start → (x : Line) → (is_unsplit x ≡ true → due_of p (key_of x) < last) → (is_unsplit x ≡ true → limit ≤ due_of p (key_of x) → start ≤ due_of p (key_of x))
+    → is_between p is_unsplit start last x ≡ is_unsplit_from p limit x
+unsplit_alike p limit start last later x f g =
+    alike (is_between p is_unsplit start last x) (is_unsplit_from p limit x)
+    (λ one. let at = between_parts p is_unsplit start last x one in and_from (is_unsplit x) (nat_le limit (due_of p (key_of x))) at.0 (le-leb limit (due_of p (key_of x)) (omega (arith, later, at.1))))
+    (λ other.
+    let both = and_parts (is_unsplit x) (nat_le limit (due_of p (key_of x))) other in
+    between-is p is_unsplit start last x both.0 (g both.0 (leb-true _ _ both.1)) (let before = f both.0 in omega (arith, before)))
+
+pub unsplit_same : (p : Params) (limit from to start last : ℕ) (lines : List Line) → limit ≤ start → ((due : ℕ) → limit ≤ due → (from ≤ due → to ≤ due) → start ≤ due) → IsSplitBetween p from to lines → IsSplitFrom p last lines
+    → first_between p is_unsplit start last lines ≡ find (is_unsplit_from p limit) lines
+unfolding first_between
+unsplit_same p limit from to start last lines later others f g =
+    find_alike (is_between p is_unsplit start last) (is_unsplit_from p limit) lines (each lines g (unsplit_start p limit from to start others lines f))
+  where
+    each : (ys : List Line) → IsSplitFrom p last ys → AllByRecursion (λ x. is_unsplit x ≡ true → limit ≤ due_of p (key_of x) → start ≤ due_of p (key_of x)) ys
+        → AllByRecursion (λ x. is_between p is_unsplit start last x ≡ is_unsplit_from p limit x) ys
+    each [] f g = tt
+    each (y ∷ ys) f g = (unsplit_alike p limit start last later y f.0 g.0, each ys f.1 g.1)
+
+pub split_found : (p : Params) (limit from to start last due : ℕ) (lines : List Line) (x : Line) → IsWalk p lines → due ≡ due_of p (key_of x) → ((due : ℕ) → limit ≤ due → (from ≤ due → to ≤ due) → start ≤ due) → IsSplitBetween p from to lines
+    → Some x ≡ first_between p is_unsplit start last lines → IsSplitBetween p limit due lines
+split_found p limit from to start last due lines x w is others f found =
+    subst (λ (n : ℕ). IsSplitBetween p limit n lines) (sym is)
+    (all_implies (λ y. (is_unsplit y ≡ true) × (limit ≤ due_of p (key_of y)) → due_of p (key_of x) ≤ due_of p (key_of y)) (λ y. is_unsplit y ≡ true → limit ≤ due_of p (key_of y) → due_of p (key_of x) ≤ due_of p (key_of y)) (λ y g unsplit late. g (unsplit, late)) lines
+    (first_least p (λ y. (is_unsplit y ≡ true) × (limit ≤ due_of p (key_of y))) is_unsplit start last lines x w
+    (all_implies (λ y. is_unsplit y ≡ true → limit ≤ due_of p (key_of y) → start ≤ due_of p (key_of y)) (λ y. (is_unsplit y ≡ true) × (limit ≤ due_of p (key_of y)) → (is_unsplit y ≡ true) × (start ≤ due_of p (key_of y))) (λ y g known. (known.0, g known.0 known.1)) lines
+    (unsplit_start p limit from to start others lines f)) (sym found)))
+
+pub unsplit_seen : (q : Params) (s now : Seen) (limit start last : ℕ) (o : Option Line) → s.params ≡ q → s ≡ now → first_between q is_unsplit start last s.lines ≡ find (is_unsplit_from q limit) s.lines
+    → o ≡ first_between s.params is_unsplit start last s.lines → o ≡ find (is_unsplit_from now.params limit) now.lines
+unsplit_seen q s now limit start last o same is e found =
+    found ∙ (ap (λ (r : Params). first_between r is_unsplit start last s.lines) same ∙ (e ∙ (ap (λ (r : Params). find (is_unsplit_from r limit) s.lines) (sym same) ∙ ap (λ (r : Seen). find (is_unsplit_from r.params limit) r.lines) is)))
+
+-- the due time of a line that was found leaves room in 64 bits
+pub found_fits : (p : Params) (test : Line → Bool) (from to : ℕ) (lines : List Line) (x : Line) → IsInRange p → IsWalk p lines → Some x ≡ first_between p test from to lines → due_of p (key_of x) ≤ 2 ^ 63
+unfolding first_between
+found_fits p test from to lines x r w found =
+    let key : IsKey p (key_of x) = found-key p (is_between p test from to) lines (Some x) w found in
+    due_fits p x.rec.tenancy.slot.0 x.rec.visit r key.0 key.1

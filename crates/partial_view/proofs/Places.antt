@@ -1,16 +1,15 @@
 -- What halving finds: the place of a visit's line, and what the calls of a view make of it.
-use Rattle.std.proofs.Common.{◌≡◌, ℕ, ◌+◌, ◌==◌, ◌<◌, ◌≤◌, zero, suc, Bool, true, false, not, cond, List, [], ◌∷◌, ◌++◌, length, get_or, refl, sym, ap, subst, ◌∙◌, arith, length-append}
+use Rattle.std.proofs.Common.{◌≡◌, ℕ, ◌+◌, nat_lt, ◌<◌, ◌≤◌, zero, suc, Bool, true, false, cond, List, [], ◌∷◌, ◌++◌, length, get_or, refl, sym, ap, subst, ◌∙◌, arith, length-append}
 use Rattle.std.specs.List.{AllByRecursion}
-use Rattle.std.proofs.lemmas.Bool.{eq-eqb, ne_eqb}
-use Rattle.std.proofs.lemmas.Bool.Decides.{nat_tests}
+use Rattle.std.proofs.lemmas.Bool.{lt-ltb, le-ltb}
 use Rattle.std.proofs.lemmas.List.{get_or_at}
 use Rattle.slot_plan.specs.declared.params.Params.{Params}
-use Rattle.slot_plan.specs.Keys.{Key, is_earlier}
-use Rattle.slot_plan.proofs.Keys.{is_earlier-transitive}
+use Rattle.slot_plan.specs.Keys.{Key, is_earlier, due_of}
+use Rattle.slot_plan.proofs.Keys.{is_earlier-transitive, earlier_due}
 use Rattle.partial_view.specs.declared.line.Line.{Line}
 use Rattle.partial_view.specs.Lines.{key_of, same}
-use Rattle.partial_view.specs.Views.{IsBefore, IsWalk, place_of, IsFoundAt, IsGapAt}
-use Rattle.partial_view.proofs.Order.{same_is, behind_not, other_earlier, all_implies, all_at, walk_later}
+use Rattle.partial_view.specs.Views.{IsBefore, IsWalk, place_of, place_from, IsFoundAt, IsGapAt}
+use Rattle.partial_view.proofs.Order.{same_is, same_itself, behind_not, other_earlier, all_implies, all_at, walk_later}
 
 -- the line in the middle comes before the visit, and so do those before it; or it does not, and nor do those behind it
 pub place_above : (p : Params) (k : Key) (lines : List Line) (i : ℕ) (d : Line) → IsWalk p lines → i < length lines
@@ -88,7 +87,7 @@ found_from p k lines i d r l h =
       key = same_is (key_of x) k (subst (λ (y : Line). same (key_of y) k ≡ true) (ap (λ ys. get_or ys i d) e ∙ get_or_at r.front x xs d i r.long) h);
     }
 
-later_all : (p : Params) (k : Key) (x : Line) (xs : List Line) → is_earlier p k (key_of x) ≡ true → IsBefore p (key_of x) xs → IsBefore p k xs
+pub later_all : (p : Params) (k : Key) (x : Line) (xs : List Line) → is_earlier p k (key_of x) ≡ true → IsBefore p (key_of x) xs → IsBefore p k xs
 later_all p k x xs h b =
     all_implies (λ y. is_earlier p (key_of x) (key_of y) ≡ true) (λ y. is_earlier p k (key_of y) ≡ true) (λ y g. is_earlier-transitive p k (key_of x) (key_of y) h g) xs b
 
@@ -121,8 +120,8 @@ found_line k (x ∷ xs) (suc i) d h l =
     let r = found_line k xs i d h (omega arith) in
     record { front = x ∷ r.front; line = r.line; back = r.back; parts = ap (λ ys. x ∷ ys) r.parts; long = ap suc r.long; key = r.key }
 
-pub found_there : (k : Key) (lines : List Line) (i : ℕ) (d : Line) (j : Key) {t : Bool} → j ≡ key_of (get_or lines i d) → t ≡ same j k → t ≡ true → i < length lines → IsFoundAt k lines i
-found_there k lines i d j e b h l = found_line k lines i d (subst (λ (x : Key). same x k ≡ true) e (sym b ∙ h)) l
+pub found_own : (lines : List Line) (i : ℕ) (d : Line) → i < length lines → IsFoundAt (key_of (get_or lines i d)) lines i
+found_own lines i d l = found_line (key_of (get_or lines i d)) lines i d (same_itself (key_of (get_or lines i d))) l
 
 -- the same, of a visit that was read from the middle line
 pub above_by : (p : Params) (k : Key) (lines : List Line) (i : ℕ) (d : Line) (j : Key) {t : Bool} → j ≡ key_of (get_or lines i d) → IsWalk p lines → i < length lines
@@ -134,37 +133,6 @@ above_by p k lines i d j e w l is h =
 pub below_by : (p : Params) (k : Key) (lines : List Line) (i : ℕ) (d : Line) (j : Key) {t : Bool} → j ≡ key_of (get_or lines i d) → IsWalk p lines → i < length lines
     → t ≡ is_earlier p j k → t ≡ false → place_of p k lines ≤ i
 below_by p k lines i d j e w l is h = place_below p k lines i d w l (subst (λ (x : Key). is_earlier p x k ≡ false) e (sym is ∙ h))
-
--- no line comes before a visit exactly if there is none, or the first does not
-pub none_there : (p : Params) (k : Key) (lines : List Line) → length lines ≡ 0 → true ≡ (place_of p k lines == 0)
-unfolding place_of
-none_there p k [] none = refl
-none_there p k (x ∷ xs) none = absurd (omega (arith, none))
-
-zero_if_not : (b : Bool) (n : ℕ) → not b ≡ (cond b (suc n) zero == 0)
-zero_if_not true n = grind (arith, nat_tests)
-zero_if_not false n = refl
-
-pub first_tells : (p : Params) (k : Key) (lines : List Line) (d : Line) (j : Key) {t : Bool} → j ≡ key_of (get_or lines 0 d) → 0 < length lines → t ≡ is_earlier p j k → not t ≡ (place_of p k lines == 0)
-unfolding place_of
-first_tells p k [] d j e some is = absurd (omega (arith, some))
-first_tells p k (x ∷ xs) d j e some is =
-    ap not (is ∙ ap (λ (y : Key). is_earlier p y k) e) ∙ zero_if_not (is_earlier p (key_of x) k) (place_of p k xs)
-
--- all lines come before a visit exactly if there is none, or the last does
-pub all_of_none : (p : Params) (k : Key) (lines : List Line) → length lines ≡ 0 → true ≡ (place_of p k lines == length lines)
-unfolding place_of
-all_of_none p k [] none = refl
-all_of_none p k (x ∷ xs) none = absurd (omega (arith, none))
-
-pub last_tells : (p : Params) (k : Key) (lines : List Line) (i : ℕ) (d : Line) (j : Key) {t : Bool} → j ≡ key_of (get_or lines i d) → IsWalk p lines → i + 1 ≡ length lines → t ≡ is_earlier p j k
-    → t ≡ (place_of p k lines == length lines)
-last_tells p k lines i d j {t = true} e w last is =
-    let above = above_by p k lines i d j e w (omega (arith, last)) is refl in
-    sym (eq-eqb _ _ (omega (arith, above, last, place_most p k lines)))
-last_tells p k lines i d j {t = false} e w last is =
-    let below = below_by p k lines i d j e w (omega (arith, last)) is refl in
-    sym (ne_eqb _ _ (λ same. omega (arith, below, last, same)))
 
 -- what a comparison with the line at the place says
 module _ (p : Params) (k : Key) (lines : List Line) (i : ℕ) (w : IsWalk p lines) (is : i ≡ place_of p k lines) where
@@ -183,3 +151,37 @@ module _ (p : Params) (k : Key) (lines : List Line) (i : ℕ) (w : IsWalk p line
       past : (back : List Line) → lines ≡ placed.front ++ back → IsGapAt p k lines i
       past [] e = record { front = placed.front; back = []; parts = e; long = placed.long; earlier = placed.earlier; later = tt }
       past (x ∷ xs) e = absurd (omega (arith, placed.long, ap length e, length-append placed.front (x ∷ xs)))
+
+-- a line that is due before the time comes before that place, and one that is not does not
+from_above : (p : Params) (time : ℕ) (lines : List Line) (i : ℕ) (d : Line) → IsWalk p lines → i < length lines → due_of p (key_of (get_or lines i d)) < time → i < place_from p time lines
+unfolding place_from
+from_above p time [] i d w l h = absurd (omega arith)
+from_above p time (x ∷ xs) zero d w l h = rw (lt-ltb (due_of p (key_of x)) time h) (omega arith)
+from_above p time (x ∷ xs) (suc i) d w l h =
+    let ahead = earlier_due p (key_of x) (key_of (get_or xs i d)) (all_at (λ y. is_earlier p (key_of x) (key_of y) ≡ true) xs i d w.1 (omega arith)) in
+    let rest = from_above p time xs i d w.2 (omega arith) h in
+    rw (lt-ltb (due_of p (key_of x)) time (omega (arith, ahead, h))) (omega (arith, rest))
+
+from_below : (p : Params) (time : ℕ) (lines : List Line) (i : ℕ) (d : Line) → IsWalk p lines → i < length lines → time ≤ due_of p (key_of (get_or lines i d)) → place_from p time lines ≤ i
+unfolding place_from
+from_below p time [] i d w l h = absurd (omega arith)
+from_below p time (x ∷ xs) zero d w l h = rw (le-ltb (due_of p (key_of x)) time h) (omega arith)
+from_below p time (x ∷ xs) (suc i) d w l h =
+    let rest = from_below p time xs i d w.2 (omega arith) h in
+    elim (nat_lt (due_of p (key_of x)) time) as (λ t. cond t (suc (place_from p time xs)) zero ≤ suc i) [ true ↦ omega (arith, rest) | false ↦ omega arith ]
+
+pub from_most : (p : Params) (time : ℕ) (lines : List Line) → place_from p time lines ≤ length lines
+unfolding place_from
+from_most p time [] = omega arith
+from_most p time (x ∷ xs) =
+    let rest = from_most p time xs in
+    elim (nat_lt (due_of p (key_of x)) time) as (λ t. cond t (suc (place_from p time xs)) zero ≤ suc (length xs)) [ true ↦ omega (arith, rest) | false ↦ omega arith ]
+
+-- the same, of a visit that was read from the middle line
+pub above_from : (p : Params) (time : ℕ) (lines : List Line) (i : ℕ) (d : Line) (j : Key) → j ≡ key_of (get_or lines i d) → IsWalk p lines → i < length lines → due_of p j < time → i + 1 ≤ place_from p time lines
+above_from p time lines i d j e w l h =
+    let low = from_above p time lines i d w l (subst (λ (k : Key). due_of p k < time) e h) in
+    omega (arith, low)
+
+pub below_from : (p : Params) (time : ℕ) (lines : List Line) (i : ℕ) (d : Line) (j : Key) → j ≡ key_of (get_or lines i d) → IsWalk p lines → i < length lines → time ≤ due_of p j → place_from p time lines ≤ i
+below_from p time lines i d j e w l h = from_below p time lines i d w l (subst (λ (k : Key). time ≤ due_of p k) e h)

@@ -4,4 +4,5 @@ pub mod Free
 pub mod Lines
 pub mod Pending
 pub mod Views
-pub mod Walks
+pub mod Wheel
+pub mod Work

@@ -40,10 +40,6 @@ next_behind p given lines = find (λ x. is_behind p given (key_of x)) lines
 unfoldable pub line_due : Params → ℕ → List Line → Option Line
 line_due p reading lines = find (λ x. nat_le (due_of p (key_of x)) reading) lines
 
--- the first line that is due at a time or later
-unfoldable pub first_from : Params → ℕ → List Line → Option Line
-first_from p time lines = find (λ x. nat_le time (due_of p (key_of x))) lines
-
 -- a line, if it is due at a time or before it
 abbrev pub due_by : Params → ℕ → Option Line → Option Line
 due_by p time None = None

@@ -1,7 +1,7 @@
 //! A view that knows up to which time its states are forwarded, before which its blocks are asked
 //! for, from which on its visits are split, and which disks are full, so that a tick begins where
 //! something may be to do.
-ghost use Rattle.std.specs.Prelude.{◌≡◌, ℕ, ◌+◌, ◌^◌, ◌≤◌, ◌<◌, true, [], IfOk, OnOk, OnErr, IfSome, option_map, is_some, count_by, slice_get};
+ghost use Rattle.std.specs.Prelude.{◌≡◌, ℕ, ◌+◌, ◌^◌, ◌≤◌, ◌<◌, true, [], IfOk, OnOk, OnErr, IfSome, option_map, is_some, count_by, find};
 ghost use Rattle.tiger_base.specs.Limits.{most_reading};
 ghost use Rattle.slot_plan.specs.Keys.{IsKey};
 ghost use Rattle.slot_plan.specs.Times.{disk_count};
@@ -9,13 +9,16 @@ ghost use Rattle.std.specs.Option.{ForSome};
 ghost use Rattle.partial_view.specs.Free.{IsFullAt, IsTakenTo, HasEntered};
 ghost use Rattle.partial_view.specs.Lines.{key_of, visit_of, unmarked, is_of};
 ghost use Rattle.partial_view.specs.Views.{Seen, IsWalk, line_at, with_mark, without, without_instance, with_record};
-ghost use Rattle.partial_view.specs.Walks.{IsFirstFor};
+ghost use Rattle.partial_view.specs.Work.{is_left, is_whole, is_backup, first_between, with_mark_of, without_of};
+ghost use Rattle.partial_view.specs.declared.line.Flag.TheVariants.{Forwarded, Asked, Split};
 ghost use Rattle.partial_view.specs.Adding.{answer_to};
 ghost use Rattle.partial_view.specs.Pending.{IsForwardedTo, is_pending, IsAskedBefore, is_unasked};
 ghost use Rattle.partial_view.specs.Pending.{IsSplitFrom, IsSplitBetween};
 ghost use Rattle.partial_view.specs.Pending.{is_unsplit, is_unsplit_from};
 
 use crate::full_disks::{FullDisk, FullDisks};
+use crate::line::Work;
+use crate::turn::Place;
 use crate::{Added, Flag, Line, View};
 use slot_plan::Plan;
 use std::alloc::Global;
@@ -34,15 +37,17 @@ pub struct CubView {
     // No state that is still to be forwarded is of a visit that is due at the first of these times
     // or later, and at the second or before it.
     forwarded_between: (Micros, Micros),
-    // Where the last line stood whose state was forwarded: the next walk begins near it.
-    near_pending: usize,
+    // Where the last line stood whose state was forwarded: the next one is looked for near it.
+    near_pending: Place,
     asked_before: Micros,
-    // Where the first line stood that was due at that time or later.
-    near_unasked: usize,
+    // The same of the last line whose block was asked for.
+    near_unasked: Place,
     split_from: Micros,
     // No visit that is still to be split is due at the first of these times or later, and before
     // the second.
     split_between: (Micros, Micros),
+    // The same of the last line whose visit was split.
+    near_unsplit: Place,
     full: FullDisks,
 }
 
@@ -53,6 +58,7 @@ impl Model for CubView {
     ghost use Rattle.partial_view.specs.Pending.{IsForwardedTo, IsForwardedBetween};
     ghost use Rattle.partial_view.specs.Pending.{IsAskedBefore};
     ghost use Rattle.partial_view.specs.Pending.{IsSplitFrom, IsSplitBetween};
+    ghost use Rattle.partial_view.specs.Wheel.{IsTurn};
 
     ghost Value = { Seen };
 
@@ -64,7 +70,10 @@ impl Model for CubView {
         × IsAskedBefore v.plan.params v.asked_before v.view.lines
         × IsSplitBetween v.plan.params v.split_between.0 v.split_between.1 v.view.lines
         × AreFull v.plan.params v.full v.view.lines
-        × IsForwardedBetween v.plan.params v.forwarded_between.0 v.forwarded_between.1 v.view.lines };
+        × IsForwardedBetween v.plan.params v.forwarded_between.0 v.forwarded_between.1 v.view.lines
+        × IsTurn v.plan.params v.near_pending.turn
+        × IsTurn v.plan.params v.near_unasked.turn
+        × IsTurn v.plan.params v.near_unsplit.turn };
 }
 
 impl CubView {
@@ -72,16 +81,18 @@ impl CubView {
     pub fn new(alloc: Global, plan: &Plan) -> CubView
         ensures { result ≡ record { params = plan.now.params; lines = [] } }
     {
+        let start = Place::start(plan, 0);
         CubView {
             view: View::new(alloc, plan),
             plan: *plan,
             forwarded_to: 0,
             forwarded_between: (1, 0),
-            near_pending: 0,
+            near_pending: start,
             asked_before: 0,
-            near_unasked: 0,
+            near_unasked: start,
             split_from: 0,
             split_between: (0, 0),
+            near_unsplit: start,
             full: FullDisks::new(alloc),
         }
     }
@@ -130,23 +141,7 @@ impl CubView {
           lines = with_mark (slot, visit) flag self.old.lines;
         } }
     {
-        self.mark_near(0, slot, visit, flag)
-    }
-
-    /// Sets a flag at a slot and visit, as `mark` does. Their line is looked for at a place first,
-    /// which is where a walk stands; any place serves.
-    pub fn mark_near(&mut self, place: usize, slot: SlotNo, visit: Visit, flag: Flag) -> bool
-        requires { IsKey self.old.params (slot, visit) }
-        ensures found { result ≡ is_some (line_at (slot, visit) self.old.lines) }
-        ensures marked { self.new ≡ record self.old {
-          lines = with_mark (slot, visit) flag self.old.lines;
-        } }
-    {
-        self.near_pending = match flag {
-            Flag::Forwarded => place,
-            Flag::Asked | Flag::Split => self.near_pending,
-        };
-        self.view.mark_near(place, slot, visit, flag)
+        self.view.mark(slot, visit, flag)
     }
 
     /// Removes the record of a slot and visit, and gives it; `None` exactly if there was none.
@@ -175,7 +170,7 @@ impl CubView {
     /// Whether it is known that no state of a visit that is due at the limit or before it is still
     /// to be forwarded. It is known for each limit up to the last one that was set, but if a record
     /// is added whose next visit is due by then, only up to that visit until a limit behind it is
-    /// set; `false` says only that the lines have to be walked.
+    /// set; `false` says only that the lines have to be looked at.
     pub fn is_forwarded_to(&self, limit: Micros) -> bool
         ensures { result ≡ true → IsForwardedTo self.now.params limit self.now.lines }
     {
@@ -194,41 +189,62 @@ impl CubView {
         self.forwarded_to = forwarded_past(self.forwarded_between, limit);
     }
 
-    /// The first line whose next state may still be to be forwarded, behind the place at which it
-    /// stands; `None` says that no state is.
-    pub fn first_pending(&self) -> (usize, Option<Line>)
-        ensures begins { IsFirstFor is_pending self.now.lines result.1 }
-        ensures place { slice_get self.now.lines result.0 ≡ result.1 }
-        ensures key { IfSome result.1 (λ line. IsKey self.now.params (key_of line)) }
-        ensures walk { IsWalk self.now.params self.now.lines }
+    /// Marks the first line as forwarded whose state is still to be forwarded and which is due at a
+    /// time or before it, and gives it as it was; `None` exactly if there is none.
+    pub fn forward_next(&mut self, time: Micros) -> Option<Line>
+        requires { time < 2 ^ 63 }
+        ensures first { result ≡ first_between self.old.params is_pending 0 time self.old.lines }
+        ensures marked { self.new ≡ record self.old {
+          lines = with_mark_of Forwarded result self.old.lines;
+        } }
+        ensures walk { IsWalk self.old.params self.old.lines }
     {
         // The state is of the next visit, which is due a block play time after the line's own.
-        let next = self.forwarded_to.saturating_add(1);
-        self.view.first_near(
+        let play = self.plan.params.play;
+        let from = self.forwarded_to.saturating_add(1).saturating_sub(play);
+        let end = pending_end(self.forwarded_between, time + play);
+        let found = self.view.mark_first(
+            Work::Forward,
             self.near_pending,
-            next.saturating_sub(self.plan.params.play),
-        )
+            from,
+            end.saturating_sub(play),
+            Flag::Forwarded,
+        )?;
+        self.near_pending = found.place;
+        self.forwarded_to = self.forwarded_to.max(found.due + play - 1);
+        Some(found.line)
     }
 
     /// Whether it is known that no visit whose block is still to be asked for is due before the
     /// limit. It is known for each limit up to the one that was set last, and from there up to when
-    /// the next line was due, unless an own record was added since that is due before; `false` says
-    /// only that the lines have to be walked.
+    /// the next line was due, but at most to the end of the limit's block play time, unless an own
+    /// record was added since that is due before; `false` says only that the lines have to be looked
+    /// at.
     pub fn is_asked_before(&self, limit: Micros) -> bool
         ensures { result ≡ true → IsAskedBefore self.now.params limit self.now.lines }
     {
         limit <= self.asked_before
     }
 
-    /// The first line whose block may still be to be asked for, behind the place at which it
-    /// stands; `None` says that no block is.
-    pub fn first_unasked(&self) -> (usize, Option<Line>)
-        ensures begins { IsFirstFor is_unasked self.now.lines result.1 }
-        ensures place { slice_get self.now.lines result.0 ≡ result.1 }
-        ensures key { IfSome result.1 (λ line. IsKey self.now.params (key_of line)) }
-        ensures walk { IsWalk self.now.params self.now.lines }
+    /// Marks the first line as asked for whose block is still to be asked for and which is due at a
+    /// time or before it, and gives it as it was; `None` exactly if there is none.
+    pub fn ask_next(&mut self, time: Micros) -> Option<Line>
+        ensures first { result ≡ first_between self.old.params is_unasked 0 time self.old.lines }
+        ensures marked { self.new ≡ record self.old {
+          lines = with_mark_of Asked result self.old.lines;
+        } }
+        ensures walk { IsWalk self.old.params self.old.lines }
     {
-        self.view.first_near(self.near_unasked, self.asked_before)
+        let found = self.view.mark_first(
+            Work::Ask,
+            self.near_unasked,
+            self.asked_before,
+            time,
+            Flag::Asked,
+        )?;
+        self.near_unasked = found.place;
+        self.asked_before = found.due;
+        Some(found.line)
     }
 
     /// Keeps in mind that the blocks of all visits that are due before a limit are asked for, or
@@ -240,13 +256,13 @@ impl CubView {
         if limit <= self.asked_before {
             return;
         }
-        (self.near_unasked, self.asked_before) = self.view.due_from(self.near_unasked, limit);
+        self.asked_before = self.view.due_from(self.near_unasked, limit);
     }
 
     /// Whether it is known that no visit of a backup record that is due at the limit or later is
     /// still to be split. It is known for each limit from the one that was set last on, if no
     /// backup record was added since that is due at it or later; `false` says only that the lines
-    /// have to be walked.
+    /// have to be looked at.
     pub fn is_split_from(&self, limit: Micros) -> bool
         ensures { result ≡ true → IsSplitFrom self.now.params limit self.now.lines }
     {
@@ -265,21 +281,64 @@ impl CubView {
         }
     }
 
-    /// The first line that is due at a limit or later and whose visit may still be to be split,
-    /// behind the place at which it stands; `None` says that no such visit is.
-    pub fn first_unsplit(&self, limit: Micros) -> (usize, Option<Line>)
-        ensures begins { IsFirstFor (is_unsplit_from self.now.params limit)
-            self.now.lines result.1 }
-        ensures place { slice_get self.now.lines result.0 ≡ result.1 }
-        ensures key { IfSome result.1 (λ line. IsKey self.now.params (key_of line)) }
-        ensures walk { IsWalk self.now.params self.now.lines }
+    /// Marks the first line as split whose visit is still to be split and which is due at a limit or
+    /// later, and gives it as it was; `None` exactly if there is none.
+    pub fn split_next(&mut self, limit: Micros) -> Option<Line>
+        ensures first { result ≡ find (is_unsplit_from self.old.params limit) self.old.lines }
+        ensures marked { self.new ≡ record self.old {
+          lines = with_mark_of Split result self.old.lines;
+        } }
+        ensures walk { IsWalk self.old.params self.old.lines }
     {
-        // What is due between the two times is split already.
-        let (from, to) = self.split_between;
-        if from <= limit && limit < to {
-            return self.view.first_from(to);
+        let found = self.view.mark_first(
+            Work::Split,
+            self.near_unsplit,
+            unsplit_start(self.split_between, limit),
+            self.split_from,
+            Flag::Split,
+        )?;
+        self.near_unsplit = found.place;
+        self.split_between = (limit, found.due);
+        Some(found.line)
+    }
+
+    /// Removes the first own record that is due at a time or before it, and gives its line; `None`
+    /// exactly if there is none.
+    pub fn take_own(&mut self, time: Micros) -> Option<Line>
+        ensures first { result ≡ first_between self.old.params is_whole 0 time self.old.lines }
+        ensures left { self.new ≡ record self.old { lines = without_of result self.old.lines } }
+        ensures walk { IsWalk self.old.params self.old.lines }
+    {
+        if self.view.is_before_all(time) {
+            return None;
         }
-        self.view.first_from(limit)
+        self.take(Work::Serve, time)
+    }
+
+    /// Removes the first backup record that is due at a time or before it, and gives its line;
+    /// `None` exactly if there is none.
+    pub fn take_backup(&mut self, time: Micros) -> Option<Line>
+        ensures first { result ≡ first_between self.old.params is_backup 0 time self.old.lines }
+        ensures left { self.new ≡ record self.old { lines = without_of result self.old.lines } }
+        ensures walk { IsWalk self.old.params self.old.lines }
+    {
+        if self.view.is_before_all(time) {
+            return None;
+        }
+        self.take(Work::Drop, time)
+    }
+
+    /// Removes the first record for which some work is left to do and which is due at a time or
+    /// before it, and gives its line; `None` exactly if there is none.
+    fn take(&mut self, work: Work, time: Micros) -> Option<Line>
+        ensures first { result ≡ first_between self.old.params (is_left work) 0 time self.old.lines }
+        ensures left { self.new ≡ record self.old { lines = without_of result self.old.lines } }
+        ensures walk { IsWalk self.old.params self.old.lines }
+    {
+        let found = self.view.take_first(work, time)?;
+        // No disk is full any more while the visit, which is free now, is in the window.
+        self.full.from = gone_from(&self.plan, self.full.from, found.due);
+        Some(found.line)
     }
 
     /// Whether it is known that no visit of a disk that is in the window at a reading is free. It
@@ -345,6 +404,32 @@ fn forwarded_before(time: Micros, rec: Rec, next: Micros) -> Micros
         return time;
     }
     if next <= time { next - 1 } else { time }
+}
+
+/// The limit, or the first of two times if nothing is due between the two and the limit is between
+/// them.
+fn pending_end(times: (Micros, Micros), limit: Micros) -> Micros
+    ensures earlier { result ≤ limit }
+    ensures others { (due : ℕ) → due ≤ limit → (times.0 ≤ due → times.1 < due) → due ≤ result }
+{
+    if times.0 <= limit && limit <= times.1 {
+        times.0
+    } else {
+        limit
+    }
+}
+
+/// The limit, or the second of two times if nothing is due between the two and the limit is between
+/// them.
+fn unsplit_start(times: (Micros, Micros), limit: Micros) -> Micros
+    ensures later { limit ≤ result }
+    ensures others { (due : ℕ) → limit ≤ due → (times.0 ≤ due → times.1 ≤ due) → result ≤ due }
+{
+    if times.0 <= limit && limit < times.1 {
+        times.1
+    } else {
+        limit
+    }
 }
 
 /// The limit, or the second of two times if all that is due after the limit is due after it too.

@@ -3,14 +3,16 @@
 //! split, and which disks are known to be full.
 #![tactic(auto)]
 
+mod bucket;
 mod cub_view;
 mod full_disks;
-mod gap_row;
 mod line;
 mod row;
 mod search;
 mod timed;
+mod turn;
 mod view;
+mod wheel;
 
 pub use cub_view::CubView;
 pub use line::{Flag, Line};

@@ -1,6 +1,7 @@
 //! A record of a view, and what was done for it.
 ghost use Rattle.std.specs.Prelude.{◌≡◌};
 ghost use Rattle.partial_view.specs.Lines.{marked, key_of, unmarked};
+ghost use Rattle.partial_view.specs.Work.{is_left};
 
 use tiger_base::{Rec, SlotNo, Visit};
 
@@ -28,7 +29,37 @@ pub enum Flag {
     Split,
 }
 
+/// What may be left to do for a line.
+#[derive(Clone, Copy, Debug, PartialEq, Eq)]
+pub(crate) enum Work {
+    /// The state of the next visit is to be sent on: an own record below its tenancy's last visit.
+    Forward,
+    /// The block is to be asked for: an own record.
+    Ask,
+    /// The visit is to be split: a backup record.
+    Split,
+    /// The block is to be sent: an own record.
+    Serve,
+    /// The record is to be dropped: a backup record.
+    Drop,
+}
+
 impl Line {
+    /// Whether some work is left to do for it, once it is late enough.
+    pub(crate) fn is_left(&self, work: Work) -> bool
+        ensures { result ≡ is_left work self.now }
+    {
+        match work {
+            Work::Forward => {
+                self.rec.kind.is_own() && self.rec.visit < self.rec.tenancy.last && !self.forwarded
+            }
+            Work::Ask => self.rec.kind.is_own() && !self.asked,
+            Work::Split => !self.rec.kind.is_own() && !self.split,
+            Work::Serve => self.rec.kind.is_own(),
+            Work::Drop => !self.rec.kind.is_own(),
+        }
+    }
+
     /// The line of a record for which nothing was done yet.
     pub(crate) fn unmarked(rec: Rec) -> Line
         ensures { result ≡ unmarked rec }

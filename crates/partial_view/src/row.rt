@@ -1,150 +1,110 @@
-//! Timed lines in a row, of which the first can be taken out while the others stay where they are.
-ghost use Rattle.std.specs.Prelude.{◌≡◌, ◌+◌, ◌^◌, ◌<◌, ◌≤◌, ◌++◌, [], OnOk, OnErr, length, not, filter, drop, insert, remove, slice_get, slice_index_or, slice_set};
-ghost use Rattle.partial_view.specs.Dues.{line_of};
-ghost use Rattle.partial_view.specs.Lines.{is_of};
+//! Elements in a row, of which the first can be taken out while the others stay where they are.
+ghost use Rattle.std.specs.Prelude.{◌≡◌, ◌+◌, ◌^◌, ◌<◌, ◌≤◌, ◌++◌, ◌∷◌, [], List, OnOk, OnErr, length, drop, insert, remove, slice_get, slice_index_or, slice_set};
 
-use crate::timed::Timed;
 use std::alloc::Global;
 use std::marker::Model;
-use tiger_base::{Instance, NoMemory};
+use tiger_base::NoMemory;
 
-/// How many lines must be gone, and no fewer than are left, before those that are left are moved.
+/// How many elements must be gone, and no fewer than are left, before those that are left are moved.
 const ENOUGH_GONE: usize = 32;
 
-/// Timed lines, one behind another.
+/// The most elements of a row, which is more than any memory has room for.
+const MOST: usize = 1 << 57;
+
+/// Elements, one behind another.
 #[derive(Drop)]
-pub(crate) struct TimedRow {
-    items: Vec<Timed>,
-    // So many of them, from the first on, are taken out already: the first lines leave at each
+pub(crate) struct Row<T> {
+    items: Vec<T>,
+    // As many of them, from the first on, are taken out already: the first ones leave at each
     // tick, and the others need not be moved each time.
     gone: usize,
 }
 
-impl Model for TimedRow {
-    ghost use Rattle.std.specs.Prelude.{List, length, drop, ◌≤◌};
-    ghost use Rattle.partial_view.specs.declared.timed.Timed.{Timed};
+impl<T> Model for Row<T> {
+    ghost use Rattle.std.specs.Prelude.{List, length, drop, ◌≤◌, ◌^◌};
 
-    ghost Value = { List Timed };
+    ghost Value = { List T };
 
     ghost view = { λ v. drop v.gone v.items.items };
 
-    ghost invariant = { λ v. v.gone ≤ length v.items.items };
+    ghost invariant = { λ v. v.gone ≤ length v.items.items × length v.items.items ≤ 2 ^ 57 };
 }
 
-impl TimedRow {
-    /// No lines yet. It takes no memory.
-    pub(crate) fn new(alloc: Global) -> TimedRow
+impl<T: Copy> Row<T> {
+    /// No elements yet. It takes no memory.
+    pub(crate) fn new(alloc: Global) -> Row<T>
         ensures { result ≡ [] }
     {
-        TimedRow {
+        Row {
             items: Vec::new(alloc),
             gone: 0,
         }
     }
 
-    /// The lines, to be read.
-    pub(crate) fn as_slice(&self) -> &[Timed]
+    /// The elements, to be read.
+    pub(crate) fn as_slice(&self) -> &[T]
         ensures lines { result.now ≡ self.now }
-        ensures fits { length result.now < 2 ^ 63 }
+        ensures fits { length result.now ≤ 2 ^ 57 }
     {
         &self.items.as_slice()[self.gone..]
     }
 
-    /// The lines from a place on, to be read; none if it lies behind all lines.
-    pub(crate) fn from(&self, place: usize) -> &[Timed]
-        ensures { result.now ≡ drop place self.now }
-    {
-        let lines = self.as_slice();
-        &lines[place.min(lines.len())..]
-    }
-
-    /// The line at a place.
-    pub(crate) fn at(&self, place: usize) -> &Timed
-        requires { place < length self.now }
-        ensures { result.now ≡ slice_index_or self.now place result.now }
-    {
-        &self.items[self.gone + place]
-    }
-
-    /// How many lines there are.
-    pub(crate) fn len(&self) -> usize
-        ensures len { result ≡ length self.now }
-        ensures fits { result < 2 ^ 63 }
-    {
-        self.items.len() - self.gone
-    }
-
-    /// Puts a line at a place; without memory for it nothing changes.
-    pub(crate) fn insert(&mut self, place: usize, timed: Timed) -> Result<(), NoMemory>
+    /// Puts an element at a place; without memory for it nothing changes.
+    pub(crate) fn insert(&mut self, place: usize, item: T) -> Result<(), NoMemory>
         requires { place ≤ length self.old }
-        ensures ok { OnOk result (self.new ≡ insert self.old place timed) }
+        ensures ok { OnOk result (self.new ≡ insert self.old place item) }
         ensures err { OnErr result (self.new ≡ self.old) }
     {
-        // A line that is put in near the front takes the place of one that is gone.
-        if 0 < self.gone && place < self.len() - place {
-            self.gone -= 1;
-            put_down(self.items.as_mut_slice(), self.gone, place, timed);
-            return Ok(());
+        if MOST <= self.items.len() {
+            return Err(NoMemory);
         }
-        self.items.insert(self.gone + place, timed)?;
+        self.items.push(item)?;
+        move_down(self.items.as_mut_slice(), self.gone + place);
         Ok(())
     }
 
-    /// Puts lines behind all others; without memory for them nothing changes.
-    pub(crate) fn push_all(&mut self, more: &[Timed]) -> Result<(), NoMemory>
-        ensures ok { OnOk result (self.new ≡ self.old ++ more.now) }
-        ensures err { OnErr result (self.new ≡ self.old) }
-    {
-        self.items.extend_from_slice(more)?;
-        Ok(())
-    }
-
-    /// Drops as many of the first lines as a count says.
-    pub(crate) fn drop_front(&mut self, count: usize)
-        requires { count ≤ length self.old }
-        ensures { self.new ≡ drop count self.old }
-    {
-        self.gone += count;
-        self.sweep();
-    }
-
-    /// Puts a line in place of another.
-    pub(crate) fn set(&mut self, place: usize, timed: Timed)
+    /// Puts an element in place of another.
+    pub(crate) fn set(&mut self, place: usize, item: T)
         requires { place < length self.old }
-        ensures { self.new ≡ slice_set self.old place timed }
+        ensures { self.new ≡ slice_set self.old place item }
     {
-        self.items[self.gone + place] = timed;
+        self.items[self.gone + place] = item;
     }
 
-    /// Takes the line at a place out; `None` exactly if there is none.
-    pub(crate) fn remove(&mut self, place: usize) -> Option<Timed>
+    /// Takes the element at a place out; `None` exactly if there is none.
+    pub(crate) fn remove(&mut self, place: usize) -> Option<T>
         ensures taken { result ≡ slice_get self.old place }
         ensures left { self.new ≡ remove self.old place }
     {
         let taken = *self.as_slice().get(place)?;
-        // The lines of a tick leave near the front: those before them are few, and those behind many.
-        if place < self.len() - place {
-            move_up(self.items.as_mut_slice(), self.gone, place);
-            self.gone += 1;
-            self.sweep();
+        // Those of a tick leave near the front: the elements before them are few, and those behind many.
+        if place < self.items.len() - self.gone - place {
+            self.close_from_front(place);
         } else {
-            self.items.remove(self.gone + place);
+            self.close_from_back(place);
         }
         Some(taken)
     }
 
-    /// Takes all lines of an instance out.
-    pub(crate) fn remove_instance(&mut self, instance: Instance)
-        ensures { self.new ≡ filter (λ t. not (is_of instance (line_of t))) self.old }
+    /// Takes the element at a place out, and moves up those before it.
+    fn close_from_front(&mut self, place: usize)
+        requires { place < length self.old }
+        ensures { self.new ≡ remove self.old place }
     {
-        let number = instance.0;
-        drop_first(&mut self.items, self.gone);
-        self.gone = 0;
-        self.items
-            .retain(|there| there.line.rec.tenancy.instance.0 != number);
+        move_up(self.items.as_mut_slice(), self.gone, place);
+        self.gone += 1;
+        self.sweep();
     }
 
-    /// Moves the lines that are left to the front, once enough are gone.
+    /// Takes the element at a place out, and moves down those behind it.
+    fn close_from_back(&mut self, place: usize)
+        requires { place < length self.old }
+        ensures { self.new ≡ remove self.old place }
+    {
+        self.items.remove(self.gone + place);
+    }
+
+    /// Moves the elements that are left to the front, once enough are gone.
     fn sweep(&mut self)
         ensures { self.new ≡ self.old }
     {
@@ -155,16 +115,17 @@ impl TimedRow {
     }
 }
 
-/// Drops as many lines from the front as a count says.
-fn drop_first(items: &mut Vec<Timed>, count: usize)
+/// Drops as many elements from the front as a count says.
+fn drop_first<T: Copy>(items: &mut Vec<T>, count: usize)
     requires { count ≤ length items.old.items }
     ensures { items.new.items ≡ drop count items.old.items }
 {
     items.drain(..count);
 }
 
-/// Moves some lines, from a place on, up by one, over the line behind them, which then stands there.
-fn move_up(items: &mut [Timed], from: usize, count: usize)
+/// Moves some elements, from a place on, up by one, over the one behind them, which then stands
+/// there.
+fn move_up<T: Copy>(items: &mut [T], from: usize, count: usize)
     requires { from + count < length items.old }
     ensures left { drop (from + 1) items.new ≡ remove (drop from items.old) count }
     ensures len { length items.new ≡ length items.old }
@@ -172,13 +133,13 @@ fn move_up(items: &mut [Timed], from: usize, count: usize)
     items[from..from + count + 1].rotate_right(1);
 }
 
-/// Moves some lines, from behind a place on, down by one, over the line at the place, and puts a
-/// line behind them.
-fn put_down(items: &mut [Timed], from: usize, count: usize, timed: Timed)
-    requires { from + count < length items.old }
-    ensures put { drop from items.new ≡ insert (drop (from + 1) items.old) count timed }
+/// Moves the last element to a place, and those from there on up by one. It does so by a turn, which
+/// is one move of memory, and an insertion into a `Vec` is a loop.
+fn move_down<T: Copy>(items: &mut [T], place: usize)
+    requires { place < length items.old }
+    ensures moved { (item : T) (items_before : List T) → items.old ≡ items_before ++ item ∷ []
+        → items.new ≡ insert items_before place item }
     ensures len { length items.new ≡ length items.old }
 {
-    items[from] = timed;
-    items[from..from + count + 1].rotate_left(1);
+    items[place..].rotate_right(1);
 }

@@ -1,15 +1,19 @@
-//! A cub's records by slot and visit, kept as one list in the order of their due times.
-ghost use Rattle.std.specs.Prelude.{◌≡◌, ◌==◌, ℕ, ◌+◌, ◌^◌, ◌≤◌, ◌<◌, [], IfOk, OnOk, OnErr, IfErr, IfSome, Some, MatchResult, option_map, is_some, count_by, length, slice_get};
+//! A cub's records by slot and visit, kept as a wheel of buckets, one for each cub, which the block
+//! play times fill in turn.
+ghost use Rattle.std.specs.Prelude.{◌≡◌, ◌<◌, ◌≤◌, [], true, Some, None, IfOk, OnOk, OnErr, IfSome, option_map, is_some, count_by};
 ghost use Rattle.std.specs.List.{AllByRecursion};
 ghost use Rattle.std.specs.Option.{ForSome};
 ghost use Rattle.tiger_base.specs.Limits.{most_reading};
 ghost use Rattle.slot_plan.specs.Keys.{IsKey, due_of};
 ghost use Rattle.partial_view.specs.Lines.{key_of, visit_of, instance_of, is_of};
-ghost use Rattle.partial_view.specs.Views.{Seen, IsWalk, line_at, first_of, next_behind, line_due, due_by, first_from, place_from, with_mark, without, without_instance, with_record, place_of, IsFoundAt, IsGapAt};
-ghost use Rattle.partial_view.specs.Adding.{answer_to, answer_by};
+ghost use Rattle.partial_view.specs.Views.{Seen, IsWalk, line_at, first_of, next_behind, line_due, with_mark, without, without_instance, with_record};
+ghost use Rattle.partial_view.specs.Adding.{answer_to};
+ghost use Rattle.partial_view.specs.Wheel.{bucket_lines, IsTurn, IsTurnOf};
+ghost use Rattle.partial_view.specs.Work.{is_left, first_between, with_mark_of, without_of, NoneBetween};
 
-use crate::line::{Flag, Line};
-use crate::timed::TimedLines;
+use crate::line::{Flag, Line, Work};
+use crate::turn::{Found, Place};
+use crate::wheel::Wheel;
 use slot_plan::Plan;
 use std::alloc::Global;
 use std::marker::Model;
@@ -29,17 +33,24 @@ pub enum Added {
 /// The records that a cub knows of, by slot and visit, walked by due time, then slot, then visit.
 #[derive(Drop)]
 pub struct View {
-    lines: TimedLines,
+    wheel: Wheel,
+    // No line is due before this time: a tick that has nothing to serve looks into no bucket.
+    begin: Micros,
+    // Before the lines of the turn of that time.
+    front: Place,
 }
 
 impl Model for View {
-    ghost use Rattle.partial_view.specs.Views.{Seen, IsWalk};
+    ghost use Rattle.partial_view.specs.Views.{Seen};
+    ghost use Rattle.partial_view.specs.Wheel.{IsTurn};
+    ghost use Rattle.partial_view.specs.Work.{NoneBefore};
 
     ghost Value = { Seen };
 
-    ghost view = { λ v. v.lines };
+    ghost view = { λ v. v.wheel };
 
-    ghost invariant = { λ v. IsWalk v.lines.params v.lines.lines };
+    ghost invariant = { λ v. NoneBefore v.wheel.params v.begin v.wheel.lines
+        × IsTurn v.wheel.params v.front.turn };
 }
 
 impl View {
@@ -48,8 +59,19 @@ impl View {
         ensures { result ≡ record { params = plan.now.params; lines = [] } }
     {
         View {
-            lines: TimedLines::new(alloc, plan),
+            wheel: Wheel::new(alloc, plan),
+            begin: u64::MAX,
+            front: Place::start(plan, 0),
         }
+    }
+
+    /// Lends bucket i: the lines whose block play time, counted round, is i, in their order. It
+    /// takes no memory.
+    pub fn bucket(&self, i: u32) -> &[Line]
+        requires { i < self.now.params.cubs }
+        ensures { result.now ≡ bucket_lines self.now.params i self.now.lines }
+    {
+        self.wheel.bucket(i)
     }
 
     /// Adds a record, with no flag set, if its slot and visit have none; else, and without memory
@@ -62,7 +84,7 @@ impl View {
         }) }
         ensures err { OnErr result (self.new ≡ self.old) }
     {
-        let due = self.lines.due((rec.tenancy.slot, rec.visit));
+        let due = self.wheel.due((rec.tenancy.slot, rec.visit));
         self.add_due(rec, due)
     }
 
@@ -76,17 +98,12 @@ impl View {
         }) }
         ensures err { OnErr result (self.new ≡ self.old) }
     {
-        let key = (rec.tenancy.slot, rec.visit);
-        match place_of(&self.lines, key, due) {
-            Ok(place) => {
-                let there = self.lines.at(place).line.rec.tenancy.instance;
-                Ok(known(rec.tenancy.instance, there))
-            }
-            Err(place) => {
-                self.lines.insert(place, rec, due)?;
-                Ok(Added::New)
-            }
+        let added = self.wheel.add(rec, due)?;
+        if due < self.begin {
+            self.begin = due;
+            self.front = self.wheel.start(due);
         }
+        Ok(added)
     }
 
     /// The line of a slot and a visit; `None` exactly if there is none.
@@ -94,10 +111,8 @@ impl View {
         requires { IsKey self.now.params (slot, visit) }
         ensures { result ≡ line_at (slot, visit) self.now.lines }
     {
-        match find(&self.lines, (slot, visit)) {
-            Ok(place) => self.lines.get(place),
-            Err(_) => None,
-        }
+        self.wheel
+            .line((slot, visit), self.wheel.due((slot, visit)))
     }
 
     /// The instance that has a slot and a visit; `None` exactly if there is none.
@@ -115,7 +130,7 @@ impl View {
     pub fn first_of(&self, instance: Instance) -> Option<Rec>
         ensures { result ≡ option_map (λ x. x.rec) (first_of instance self.now.lines) }
     {
-        self.lines.first_of(instance)
+        Some(self.wheel.first_of(instance)?.rec)
     }
 
     /// The next line behind a slot and visit, or the first if none is given; `None` exactly if
@@ -126,97 +141,17 @@ impl View {
         ensures key { IfSome result (λ line. IsKey self.now.params (key_of line)) }
         ensures walk { IsWalk self.now.params self.now.lines }
     {
-        let place = place_behind(&self.lines, key);
-        self.lines.get(place)
+        self.wheel.are_in_order();
+        self.wheel.after(key)
     }
 
-    /// The next line behind a slot and visit, as `after` gives it. Their line is looked for at a
-    /// place first, which is where a walk that takes no line out finds it; any place serves.
-    pub fn after_near(&self, place: usize, key: (SlotNo, Visit)) -> Option<Line>
-        requires { IsKey self.now.params key }
-        ensures next { result ≡ next_behind self.now.params (Some key) self.now.lines }
-        ensures key { IfSome result (λ line. IsKey self.now.params (key_of line)) }
-        ensures walk { IsWalk self.now.params self.now.lines }
+    /// A time before which no line is due that is due at a given one or later. The line is looked
+    /// for at a place first, and any place serves.
+    pub(crate) fn due_from(&self, near: Place, time: Micros) -> Micros
+        requires { IsTurn self.now.params near.turn }
+        ensures { NoneBetween self.now.params time result self.now.lines }
     {
-        if let Some(next) = self.lines.behind(place, key) {
-            return Some(next.line);
-        }
-        let behind = place_near(&self.lines, place, key);
-        self.lines.get(behind)
-    }
-
-    /// The next line as `after` gives it, if it is due at a time or before it.
-    pub fn after_by(&self, key: Option<(SlotNo, Visit)>, time: Micros) -> Option<Line>
-        requires { ForSome key (IsKey self.now.params) }
-        ensures next { result ≡ due_by self.now.params time
-            (next_behind self.now.params key self.now.lines) }
-        ensures walk { IsWalk self.now.params self.now.lines }
-    {
-        let place = place_behind(&self.lines, key);
-        self.lines.get_by(place, time)
-    }
-
-    /// The next line as `after_near` gives it, if it is due at a time or before it.
-    pub fn after_near_by(&self, place: usize, key: (SlotNo, Visit), time: Micros) -> Option<Line>
-        requires { IsKey self.now.params key }
-        ensures next { result ≡ due_by self.now.params time
-            (next_behind self.now.params (Some key) self.now.lines) }
-        ensures walk { IsWalk self.now.params self.now.lines }
-    {
-        if let Some(next) = self.lines.behind(place, key) {
-            return if next.due <= time {
-                Some(next.line)
-            } else {
-                None
-            };
-        }
-        let behind = place_near(&self.lines, place, key);
-        self.lines.get_by(behind, time)
-    }
-
-    /// The line at a place, if it is due at a time or before it.
-    pub fn at_by(&self, place: usize, time: Micros) -> Option<Line>
-        ensures { result ≡ due_by self.now.params time (slice_get self.now.lines place) }
-    {
-        self.lines.get_by(place, time)
-    }
-
-    /// The first line that is due at a time or later, behind the place at which it stands; `None`
-    /// exactly if there is none.
-    pub fn first_from(&self, time: Micros) -> (usize, Option<Line>)
-        ensures next { result.1 ≡ first_from self.now.params time self.now.lines }
-        ensures place { slice_get self.now.lines result.0 ≡ result.1 }
-        ensures key { IfSome result.1 (λ line. IsKey self.now.params (key_of line)) }
-        ensures walk { IsWalk self.now.params self.now.lines }
-    {
-        self.first_near(0, time)
-    }
-
-    /// The first line that is due at a time or later, as `first_from` gives it. It is looked for
-    /// around a place first, and any place serves.
-    pub(crate) fn first_near(&self, near: usize, time: Micros) -> (usize, Option<Line>)
-        ensures next { result.1 ≡ first_from self.now.params time self.now.lines }
-        ensures place { slice_get self.now.lines result.0 ≡ result.1 }
-        ensures key { IfSome result.1 (λ line. IsKey self.now.params (key_of line)) }
-        ensures walk { IsWalk self.now.params self.now.lines }
-    {
-        let place = self.lines.place_from(near, time);
-        (place, self.lines.get(place))
-    }
-
-    /// When the first line is due that is due at a time or later, or that time if none is, behind
-    /// the place of the line: no line is due in between. The line is looked for around a place
-    /// first, and any place serves.
-    pub(crate) fn due_from(&self, near: usize, time: Micros) -> (usize, Micros)
-        ensures { AllByRecursion (λ x. time ≤ due_of self.now.params (key_of x) →
-            result.1 ≤ due_of self.now.params (key_of x)) self.now.lines }
-    {
-        let place = self.lines.place_from(near, time);
-        if place < self.lines.len() {
-            (place, self.lines.at(place).due)
-        } else {
-            (place, time)
-        }
+        self.wheel.due_in_turn(near, time)
     }
 
     /// The first record that is due at a reading; `None` exactly if none is.
@@ -225,7 +160,12 @@ impl View {
         ensures { result ≡
             option_map (λ x. x.rec) (line_due self.now.params reading self.now.lines) }
     {
-        Some(self.lines.get_by(0, reading)?.rec)
+        let line = self.after(None)?;
+        if self.wheel.due(line.key()) <= reading {
+            Some(line.rec)
+        } else {
+            None
+        }
     }
 
     /// Sets a flag at a slot and visit; `false` exactly if there is no line.
@@ -236,25 +176,60 @@ impl View {
           lines = with_mark (slot, visit) flag self.old.lines;
         } }
     {
-        self.mark_near(0, slot, visit, flag)
+        let due = self.wheel.due((slot, visit));
+        self.wheel.mark((slot, visit), due, flag)
     }
 
-    /// Sets a flag at a slot and visit, as `mark` does. Their line is looked for at a place first,
-    /// which is where a walk stands; any place serves.
-    pub fn mark_near(&mut self, place: usize, slot: SlotNo, visit: Visit, flag: Flag) -> bool
-        requires { IsKey self.old.params (slot, visit) }
-        ensures found { result ≡ is_some (line_at (slot, visit) self.old.lines) }
+    /// Sets a flag of the first line for which some work is left to do and which is due at a time
+    /// or later, and at another or before it, and gives the line as it was; `None` exactly if there
+    /// is none. The line is looked for at a place first, and any place serves.
+    pub(crate) fn mark_first(
+        &mut self,
+        work: Work,
+        near: Place,
+        from: Micros,
+        to: Micros,
+        flag: Flag,
+    ) -> Option<Found>
+        requires { IsTurn self.old.params near.turn }
+        ensures first { option_map (λ f. f.line) result
+            ≡ first_between self.old.params (is_left work) from to self.old.lines }
+        ensures due { IfSome result (λ f. f.due ≡ due_of self.old.params (key_of f.line)) }
+        ensures turn { IfSome result (λ f. IsTurnOf self.old.params f.due f.place.turn) }
         ensures marked { self.new ≡ record self.old {
-          lines = with_mark (slot, visit) flag self.old.lines;
+          lines = with_mark_of flag (option_map (λ f. f.line) result) self.old.lines;
         } }
+        ensures walk { IsWalk self.old.params self.old.lines }
     {
-        match find_near(&self.lines, place, (slot, visit)) {
-            Ok(place) => {
-                self.lines.mark(place, flag);
-                true
-            }
-            Err(_) => false,
-        }
+        self.wheel.are_in_order();
+        self.wheel.mark_first(work, near, from, to, flag)
+    }
+
+    /// Whether it is known that no line is due at a time or before it.
+    pub(crate) fn is_before_all(&self, time: Micros) -> bool
+        ensures later { result ≡ true →
+            AllByRecursion (λ x. time < due_of self.now.params (key_of x)) self.now.lines }
+        ensures walk { IsWalk self.now.params self.now.lines }
+    {
+        self.wheel.are_in_order();
+        time < self.begin
+    }
+
+    /// Takes the first line out for which some work is left to do and which is due at a time or
+    /// before it, and gives it; `None` exactly if there is none.
+    pub(crate) fn take_first(&mut self, work: Work, time: Micros) -> Option<Found>
+        ensures first { option_map (λ f. f.line) result
+            ≡ first_between self.old.params (is_left work) 0 time self.old.lines }
+        ensures due { IfSome result (λ f. f.due ≡ due_of self.old.params (key_of f.line)) }
+        ensures left { self.new ≡ record self.old {
+          lines = without_of (option_map (λ f. f.line) result) self.old.lines;
+        } }
+        ensures walk { IsWalk self.old.params self.old.lines }
+    {
+        self.wheel.are_in_order();
+        let found = self.wheel.take_first(work, self.front, self.begin, time)?;
+        self.begin_behind(found.due);
+        Some(found)
     }
 
     /// Removes the record of a slot and visit, and gives it; `None` exactly if there was none.
@@ -263,20 +238,33 @@ impl View {
         ensures record { result ≡ option_map (λ x. x.rec) (line_at (slot, visit) self.old.lines) }
         ensures left { self.new ≡ record self.old { lines = without (slot, visit) self.old.lines } }
     {
-        let due = self.lines.due((slot, visit));
+        let due = self.wheel.due((slot, visit));
         self.remove_due(slot, visit, due)
     }
 
     /// Removes the record of a slot and visit, as `remove` does, whose due time is at hand.
     pub(crate) fn remove_due(&mut self, slot: SlotNo, visit: Visit, due: Micros) -> Option<Rec>
-        requires key { IsKey self.old.params (slot, visit) }
-        requires due { due ≡ due_of self.old.params (slot, visit) }
+        requires { due ≡ due_of self.old.params (slot, visit) }
         ensures record { result ≡ option_map (λ x. x.rec) (line_at (slot, visit) self.old.lines) }
         ensures left { self.new ≡ record self.old { lines = without (slot, visit) self.old.lines } }
     {
-        match place_of(&self.lines, (slot, visit), due) {
-            Ok(place) => self.lines.remove(place),
-            Err(_) => None,
+        let line = self.wheel.remove((slot, visit), due)?;
+        self.begin_behind(due);
+        Some(line.rec)
+    }
+
+    /// Begins later, if lines began at a time at which one is gone.
+    fn begin_behind(&mut self, due: Micros)
+        ensures { self.new ≡ self.old }
+    {
+        if self.begin != due {
+            return;
+        }
+        // The next line is mostly of the same turn, and then all others are due later.
+        self.begin = self.wheel.due_in_turn(self.front, due);
+        if self.front.turn.last < self.begin {
+            self.begin = self.wheel.next_due(self.begin);
+            self.front = self.wheel.start(self.begin);
         }
     }
 
@@ -287,88 +275,6 @@ impl View {
           lines = without_instance instance self.old.lines;
         } }
     {
-        self.lines.remove_instance(instance)
-    }
-}
-
-/// What to answer if the slot and visit of a record are taken.
-fn known(wanted: Instance, there: Instance) -> Added
-    ensures { result ≡ answer_by wanted there }
-{
-    if there.0 == wanted.0 {
-        Added::Known
-    } else {
-        Added::Other(there)
-    }
-}
-
-/// Where the first line behind a visit stands, or the first of all if none is given.
-fn place_behind(lines: &TimedLines, given: Option<(SlotNo, Visit)>) -> usize
-    requires given { ForSome given (IsKey lines.now.params) }
-    requires walk { IsWalk lines.now.params lines.now.lines }
-    ensures { slice_get lines.now.lines result ≡ next_behind lines.now.params given lines.now.lines }
-{
-    match given {
-        None => 0,
-        Some(key) => match find(lines, key) {
-            Ok(place) => place + 1,
-            Err(place) => place,
-        },
-    }
-}
-
-/// Where the first line behind a visit stands, whose own line is looked for at a place first.
-fn place_near(lines: &TimedLines, place: usize, key: (SlotNo, Visit)) -> usize
-    requires key { IsKey lines.now.params key }
-    requires walk { IsWalk lines.now.params lines.now.lines }
-    ensures { slice_get lines.now.lines result ≡
-        next_behind lines.now.params (Some key) lines.now.lines }
-{
-    match find_near(lines, place, key) {
-        Ok(place) => place + 1,
-        Err(place) => place,
-    }
-}
-
-/// Where the line of a visit stands, or as an `Err` where it would stand. It is looked for at a
-/// place first.
-fn find_near(lines: &TimedLines, place: usize, key: (SlotNo, Visit)) -> Result<usize, usize>
-    requires key { IsKey lines.now.params key }
-    requires walk { IsWalk lines.now.params lines.now.lines }
-    ensures found { MatchResult result (λ place. IsFoundAt key lines.now.lines place)
-        (λ place. IsGapAt lines.now.params key lines.now.lines place) }
-    ensures fits { IfOk result (λ place. place + 1 < 2 ^ 64) }
-{
-    if place < lines.len() && lines.at(place).line.key() == key {
-        Ok(place)
-    } else {
-        find(lines, key)
-    }
-}
-
-/// Where the line of a visit stands, or as an `Err` where it would stand.
-fn find(lines: &TimedLines, key: (SlotNo, Visit)) -> Result<usize, usize>
-    requires key { IsKey lines.now.params key }
-    requires walk { IsWalk lines.now.params lines.now.lines }
-    ensures found { MatchResult result (λ place. IsFoundAt key lines.now.lines place)
-        (λ place. IsGapAt lines.now.params key lines.now.lines place) }
-    ensures fits { IfOk result (λ place. place + 1 < 2 ^ 64) }
-{
-    place_of(lines, key, lines.due(key))
-}
-
-/// Where the line of a visit stands whose due time is at hand, or as an `Err` where it would stand.
-fn place_of(lines: &TimedLines, key: (SlotNo, Visit), due: Micros) -> Result<usize, usize>
-    requires due { due ≡ due_of lines.now.params key }
-    requires walk { IsWalk lines.now.params lines.now.lines }
-    ensures found { MatchResult result (λ place. IsFoundAt key lines.now.lines place)
-        (λ place. IsGapAt lines.now.params key lines.now.lines place) }
-    ensures fits { IfOk result (λ place. place + 1 < 2 ^ 64) }
-{
-    let place = lines.place_of(key, due);
-    if place < lines.len() && lines.at(place).line.key() == key {
-        Ok(place)
-    } else {
-        Err(place)
+        self.wheel.remove_instance(instance)
     }
 }

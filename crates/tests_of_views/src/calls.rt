@@ -25,6 +25,14 @@ pub enum Call {
     /// Looks for a free visit of a disk behind those that are known to be taken, and lets the view
     /// keep in mind if none is.
     Look(u32, u32),
+    /// Gives the first line whose state is to be forwarded by a time, and marks it.
+    Forward(u32),
+    /// Gives the first line whose block is to be asked for by a time, and marks it.
+    AskFor(u32),
+    /// Gives the first line that is to be split from a limit on, and marks it.
+    Split(u32),
+    /// Takes the first own record out that is due by a time, and the first backup record.
+    Take(u32),
     /// Sets a limit up to which the states are known to be forwarded.
     SetForwarded(Micros),
     /// Sets a limit from which on the visits are known to be split.
@@ -47,10 +55,6 @@ pub enum Ask {
     Full(u32, u32),
     /// Up to which visit those of a disk are known to be taken at a reading.
     TakenTo(u32, u32),
-    /// Where the walk that forwards begins, and where the one that asks for blocks does.
-    Begins,
-    /// Where the walk that splits from a limit on begins.
-    BeginsFrom(Micros),
 }
 
 /// A view with no record, of which it is set up to when its states are forwarded, and before when
@@ -115,6 +119,13 @@ fn make(view: &mut CubView, call: Call, text: &mut String) -> Result<(), NoMemor
         Call::RemoveInstance(instance) => {
             write!(text, "{}; ", view.remove_instance(Instance(instance)))?
         }
+        Call::Forward(time) => push_visit(view.forward_next(u64::from(time)), text)?,
+        Call::AskFor(time) => push_visit(view.ask_next(u64::from(time)), text)?,
+        Call::Split(limit) => push_visit(view.split_next(u64::from(limit)), text)?,
+        Call::Take(time) => {
+            push_visit(view.take_own(u64::from(time)), text)?;
+            push_visit(view.take_backup(u64::from(time)), text)?;
+        }
         Call::Look(disk, reading) => write!(text, "{:?}; ", look(view, disk, reading))?,
         Call::SetForwarded(limit) => set_forwarded(view, limit),
         Call::SetSplit(limit) => set_split(view, limit),
@@ -175,11 +186,6 @@ fn push_asked(view: &CubView, ask: Ask, text: &mut String) -> Result<(), AllocEr
             let last = view.taken_to(DiskNo(disk), u64::from(reading));
             write!(text, "{last:?}; ")
         }
-        Ask::Begins => {
-            push_begin(view.first_pending(), text)?;
-            push_begin(view.first_unasked(), text)
-        }
-        Ask::BeginsFrom(limit) => push_begin(view.first_unsplit(limit), text),
     }
 }
 
@@ -208,11 +214,10 @@ fn push_done(view: &CubView, time: Micros, text: &mut String) -> Result<(), Allo
     text.push_str("; ")
 }
 
-/// Adds to a text a place, and the visit of the line there.
-fn push_begin(begin: (usize, Option<Line>), text: &mut String) -> Result<(), AllocError> {
-    let (place, line) = begin;
+/// Adds to a text the visit of a line, if there is one.
+fn push_visit(line: Option<Line>, text: &mut String) -> Result<(), AllocError> {
     match line {
-        Some(line) => write!(text, "{place} at visit {}; ", line.rec.visit),
-        None => write!(text, "{place} at the end; "),
+        Some(line) => write!(text, "visit {}; ", line.rec.visit),
+        None => text.push_str("none; "),
     }
 }

@@ -177,97 +177,120 @@ fn answers_of_backups(
 #[test]
 fn blocks_are_asked_for_before_the_next_line(rt: HostRuntime) -> Result<(), Fail> {
     let calls = [done(1500000), done(1500001)];
-    let text = answers_of_backups(rt.alloc(), 500001, &calls);
+    let text = answers_of_backups(rt.alloc(), 1000001, &calls);
     assert_told(&rt, text, "1500000 asked; 1500001 split; ")
 }
 
 #[test]
-fn blocks_are_asked_for_before_the_limit_if_no_line_is_later(rt: HostRuntime) -> Result<(), Fail> {
-    let calls = [done(1500001), done(1500002)];
+fn blocks_are_asked_for_in_a_play_time_with_no_later_line(rt: HostRuntime) -> Result<(), Fail> {
+    let calls = [done(2000000), done(2000001)];
     let text = answers_of_backups(rt.alloc(), 1500001, &calls);
-    assert_told(&rt, text, "1500001 asked split; 1500002 split; ")
+    assert_told(&rt, text, "2000000 asked split; 2000001 split; ")
 }
 
 #[test]
-fn walks_begin_at_the_first_line_that_may_be_left(rt: HostRuntime) -> Result<(), Fail> {
+fn states_are_forwarded_in_order(rt: HostRuntime) -> Result<(), Fail> {
     let calls = [
-        add(Kind::Backup, 2),
-        Call::Ask(Ask::Begins),
         add(Kind::Own, 3),
-        Call::Ask(Ask::Begins),
-        add(Kind::Own, 1),
-        Call::Ask(Ask::Begins),
-    ];
-    assert_told(
-        &rt,
-        answers_after(rt.alloc(), 4499999, 3500000, &calls),
-        "New; 1 at the end; 1 at the end; New; 1 at visit 3; 1 at visit 3; \
-         New; 0 at visit 1; 0 at visit 1; ",
-    )
-}
-
-#[test]
-fn walks_begin_far_behind_the_place_that_is_looked_at_first(rt: HostRuntime) -> Result<(), Fail> {
-    let calls = [
-        add(Kind::Backup, 0),
-        add(Kind::Backup, 1),
         add(Kind::Backup, 2),
-        add(Kind::Backup, 3),
-        add(Kind::Backup, 4),
-        add(Kind::Backup, 5),
-        add(Kind::Backup, 6),
-        add(Kind::Backup, 7),
-        add(Kind::Backup, 8),
-        add(Kind::Backup, 9),
-        add(Kind::Backup, 10),
-        add(Kind::Backup, 11),
-        add(Kind::Backup, 12),
-        Call::Ask(Ask::Begins),
-    ];
-    assert_told(
-        &rt,
-        answers_after(rt.alloc(), 12499999, 12500000, &calls),
-        "New; New; New; New; New; New; New; New; New; New; New; New; New; \
-         11 at visit 11; 12 at visit 12; ",
-    )
-}
-
-#[test]
-fn walks_begin_before_the_place_that_is_looked_at_first(rt: HostRuntime) -> Result<(), Fail> {
-    // The place is kept when blocks are asked for, and then stands behind the lines that are left.
-    let calls = [
-        Call::Ask(Ask::Begins),
-        Call::Add(Kind::Own, 5, 1, 2),
-        Call::Add(Kind::Own, 5, 1, 3),
-        Call::RemoveInstance(0),
-        Call::Ask(Ask::Begins),
-        Call::RemoveInstance(5),
-        Call::Ask(Ask::Begins),
-    ];
-    let text = answers_of_backups(rt.alloc(), 1500001, &calls);
-    assert_told(
-        &rt,
-        text,
-        "0 at visit 0; 2 at the end; New; New; 2; 0 at visit 2; 0 at visit 2; \
-         2; 0 at the end; 0 at the end; ",
-    )
-}
-
-#[test]
-fn walk_that_splits_begins_at_the_first_visit_from_its_limit_on(
-    rt: HostRuntime,
-) -> Result<(), Fail> {
-    let calls = [
-        add(Kind::Backup, 3),
-        add(Kind::Backup, 4),
-        Call::Ask(Ask::BeginsFrom(0)),
-        Call::Ask(Ask::BeginsFrom(3500000)),
-        Call::Ask(Ask::BeginsFrom(3500001)),
-        Call::Ask(Ask::BeginsFrom(4500001)),
+        add(Kind::Own, 1),
+        add(Kind::Own, 9),
+        Call::Forward(1499999),
+        Call::Forward(1500000),
+        Call::Forward(3499999),
+        Call::Forward(9500000),
+        Call::Forward(9500000),
+        done(4499999),
+        done(4500000),
     ];
     assert_told(
         &rt,
         answers_after(rt.alloc(), 0, 0, &calls),
-        "New; New; 0 at visit 3; 0 at visit 3; 1 at visit 4; 2 at the end; ",
+        "New; New; New; New; none; visit 1; none; visit 3; none; \
+         4499999 forwarded split; 4500000 split; ",
+    )
+}
+
+#[test]
+fn a_new_record_is_forwarded_though_later_ones_are(rt: HostRuntime) -> Result<(), Fail> {
+    let calls = [
+        add(Kind::Own, 4),
+        Call::Forward(4500000),
+        add(Kind::Own, 2),
+        Call::Forward(4500000),
+        add(Kind::Own, 3),
+        Call::Forward(3499999),
+        Call::Forward(4500000),
+        Call::Forward(4500000),
+    ];
+    assert_told(
+        &rt,
+        answers_after(rt.alloc(), 9000000, 0, &calls),
+        "New; visit 4; New; visit 2; New; none; visit 3; none; ",
+    )
+}
+
+#[test]
+fn blocks_are_asked_for_in_order(rt: HostRuntime) -> Result<(), Fail> {
+    let calls = [
+        add(Kind::Own, 3),
+        add(Kind::Backup, 2),
+        add(Kind::Own, 1),
+        Call::Mark(Flag::Asked, 1, 1),
+        Call::AskFor(3499999),
+        Call::AskFor(3500000),
+        Call::AskFor(3500000),
+        add(Kind::Own, 0),
+        Call::AskFor(3500000),
+        Call::AskFor(3500000),
+    ];
+    assert_told(
+        &rt,
+        answers_after(rt.alloc(), 0, 0, &calls),
+        "New; New; New; true; none; visit 3; none; New; visit 0; none; ",
+    )
+}
+
+#[test]
+fn visits_are_split_from_a_limit_on(rt: HostRuntime) -> Result<(), Fail> {
+    let calls = [
+        add(Kind::Backup, 3),
+        add(Kind::Backup, 4),
+        add(Kind::Own, 5),
+        Call::Split(4500001),
+        Call::Split(3500001),
+        Call::Split(3500001),
+        add(Kind::Backup, 6),
+        Call::Split(3500001),
+        Call::Split(0),
+        Call::Split(0),
+    ];
+    assert_told(
+        &rt,
+        answers_after(rt.alloc(), 0, 0, &calls),
+        "New; New; New; none; visit 4; none; New; visit 6; visit 3; none; ",
+    )
+}
+
+#[test]
+fn records_are_taken_once_they_are_due(rt: HostRuntime) -> Result<(), Fail> {
+    let calls = [
+        add(Kind::Own, 3),
+        add(Kind::Backup, 2),
+        add(Kind::Own, 1),
+        add(Kind::Own, 12),
+        Call::Take(1499999),
+        Call::Take(1500000),
+        Call::Take(3500000),
+        Call::Take(3500000),
+        Call::Take(12499999),
+        Call::Take(12500000),
+        Call::Ask(Ask::First),
+    ];
+    assert_told(
+        &rt,
+        answers_after(rt.alloc(), 0, 0, &calls),
+        "New; New; New; New; none; none; visit 1; none; visit 3; visit 2; none; none; \
+         none; none; visit 12; none; None; ",
     )
 }

@@ -5,6 +5,8 @@
 #![tactic(auto)]
 
 #[cfg(test)]
+mod buckets;
+#[cfg(test)]
 mod calls;
 #[cfg(test)]
 mod cub_views;
@@ -13,13 +15,9 @@ mod deschedules;
 #[cfg(test)]
 mod full_disks;
 #[cfg(test)]
-mod gaps;
-#[cfg(test)]
 mod pieces;
 #[cfg(test)]
 mod records;
-#[cfg(test)]
-mod sample_walks;
 #[cfg(test)]
 mod splits;
 #[cfg(test)]

@@ -1,14 +1,6 @@
-use Rattle.std.proofs.Common.{not, refl, subst, sym}
-use Rattle.partial_view.specs.Views.{Seen, IsWalk}
-use Rattle.partial_view.proofs.Order.{walk_filter}
-use Rattle.cub_rules.specs.Ticks.{is_served}
+use Rattle.std.proofs.Common.{refl}
 use Rattle.cub_tick.proofs.Served.{serve_all}
 use Rattle.cub_tick.proofs.serving.serve.Goals as goal
-
-pub drop_backups-requires-clause-walk : goal.drop_backups-requires-clause-walk
-drop_backups-requires-clause-walk c =
-    subst (λ (s : Seen). IsWalk s.params s.lines) (sym c.in_ok-serve_blocks.ensures.view)
-    (walk_filter c.args.store.now.view.params (λ x. not (is_served c.args.site.now.plan.params c.args.stamp x)) c.args.store.now.view.lines c.are_in_order.ensures)
 
 pub returns : goal.returns
 returns c =

@@ -1,12 +1,16 @@
-use Rattle.std.proofs.Common.{◌-◌, ◌≤◌, map}
+use Rattle.std.proofs.Common.{◌-◌, ◌≤◌, length, List}
 use Rattle.slot_plan.specs.declared.params.Params.{Params}
-use Rattle.partial_view.specs.Dues.{line_of, AreTimed}
+use Rattle.partial_view.specs.declared.line.Line.{Line}
+use Rattle.partial_view.specs.Dues.{AreTimed}
 use Rattle.partial_view.specs.Views.{place_from}
 use Rattle.partial_view.proofs.search.from_forth.Given as goal
 
 abbrev pub invariant-loop-low : goal.invariant-loop-low
-invariant-loop-low l = (p : Params) → AreTimed p l.part
-    → l.least ≤ place_from p l.time (map line_of l.part) → l.low ≤ place_from p l.time (map line_of l.part)
+invariant-loop-low l = record {
+  least : (p : Params) (lines : List Line) → AreTimed p lines l.dues
+      → l.least ≤ place_from p l.time lines → l.low ≤ place_from p l.time lines;
+  inside : l.low ≤ length l.dues;
+}
 
 abbrev pub decreases-loop-low : goal.decreases-loop-low
 decreases-loop-low l = l.end - l.low

@@ -9,7 +9,7 @@ use Rattle.partial_view.proofs.cub_view.CubView.add.Goals as goal
 pub invariant_of-self-in-New : goal.invariant_of-self-in-New
 invariant_of-self-in-New c =
     kept_by c.self.inside.plan.params c.forwarded_before-self-inside.result c.split_after-self-inside.result c.asked_until-self-inside.result c.self.inside.split_between.0 c.split_until-self-inside.result c.free_between-self-inside.result.0 c.free_between-self-inside.result.1
-    c.self.inside.full c.self.inside.view c.add_due.new.self _ c.self.invariant.0 c.in_ok-added.ensures.ok
+    c.self.inside.full c.self.inside.near_pending.turn c.self.inside.near_unasked.turn c.self.inside.near_unsplit.turn c.self.inside.view c.add_due.new.self _ c.self.invariant.0 c.in_ok-added.ensures.ok
     (all_with_record _ c.self.inside.view.params c.args.rec c.self.inside.view.lines
     (forwarded_earlier c.self.inside.plan.params c.forwarded_before-self-inside.result c.self.inside.forwarded_to c.self.inside.view.lines c.forwarded_before-self-inside.ensures.earlier c.self.invariant.1)
     (λ h. omega (arith, c.forwarded_before-self-inside.ensures.before h, c.due-due.ensures.due, due_next c.self.inside.plan.params c.args.rec.tenancy.slot.0 c.args.rec.visit)))
@@ -25,11 +25,11 @@ invariant_of-self-in-New c =
     (full_record c.self.inside.plan.params c.self.inside.view.params c.self.inside.full c.args.rec c.self.inside.view.lines c.self.invariant.5)
     (all_with_record _ c.self.inside.view.params c.args.rec c.self.inside.view.lines
     (free_on c.self.inside.plan.params c.self.inside.forwarded_to c.self.inside.forwarded_between.0 c.self.inside.forwarded_between.1 c.free_between-self-inside.result.0 c.free_between-self-inside.result.1 c.self.inside.view.lines c.free_between-self-inside.ensures.others c.self.invariant.1 c.self.invariant.6)
-    (λ h later. omega (arith, c.free_between-self-inside.ensures.new h (omega (arith, later, c.due-due.ensures.due, due_next c.self.inside.plan.params c.args.rec.tenancy.slot.0 c.args.rec.visit)), c.due-due.ensures.due, due_next c.self.inside.plan.params c.args.rec.tenancy.slot.0 c.args.rec.visit)))
+    (λ h later. omega (arith, c.free_between-self-inside.ensures.new h (omega (arith, later, c.due-due.ensures.due, due_next c.self.inside.plan.params c.args.rec.tenancy.slot.0 c.args.rec.visit)), c.due-due.ensures.due, due_next c.self.inside.plan.params c.args.rec.tenancy.slot.0 c.args.rec.visit))) c.self.invariant.7 c.self.invariant.8 c.self.invariant.9
 
 pub invariant_of-self-in_default : goal.invariant_of-self-in_default
 invariant_of-self-in_default c =
-    kept_by c.self.inside.plan.params c.self.inside.forwarded_to c.self.inside.split_from c.self.inside.asked_before c.self.inside.split_between.0 c.self.inside.split_between.1 c.self.inside.forwarded_between.0 c.self.inside.forwarded_between.1 c.self.inside.full c.self.inside.view c.add_due.new.self c.self.inside.view.lines c.self.invariant.0
+    kept_by c.self.inside.plan.params c.self.inside.forwarded_to c.self.inside.split_from c.self.inside.asked_before c.self.inside.split_between.0 c.self.inside.split_between.1 c.self.inside.forwarded_between.0 c.self.inside.forwarded_between.1 c.self.inside.full c.self.inside.near_pending.turn c.self.inside.near_unasked.turn c.self.inside.near_unsplit.turn c.self.inside.view c.add_due.new.self c.self.inside.view.lines c.self.invariant.0
     (c.in_ok-added.ensures.ok
     ∙ ap (λ (ys : List Line). record_of c.self.inside.view.params ys) (known c.self.inside.view.params c.args.rec c.self.inside.view.lines c.in_ok-added.added c.in_ok-added.ensures.answer c.in_default.not-New))
-    c.self.invariant.1 c.self.invariant.2 c.self.invariant.3 c.self.invariant.4 c.self.invariant.5 c.self.invariant.6
+    c.self.invariant.1 c.self.invariant.2 c.self.invariant.3 c.self.invariant.4 c.self.invariant.5 c.self.invariant.6 c.self.invariant.7 c.self.invariant.8 c.self.invariant.9

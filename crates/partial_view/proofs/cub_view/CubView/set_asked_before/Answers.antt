@@ -10,10 +10,13 @@ invariant_of-self c = (
   c.self.invariant.0,
   c.self.invariant.1,
   c.self.invariant.2,
-  subst (λ (q : Params). IsAskedBefore q c.due_from.result.1 c.self.inside.view.lines) c.self.invariant.0
-      (asked_on c.self.inside.view.params c.args.limit c.due_from.result.1 c.self.inside.view.lines c.due_from.ensures
+  subst (λ (q : Params). IsAskedBefore q c.due_from-self-inside.result c.self.inside.view.lines) c.self.invariant.0
+      (asked_on c.self.inside.view.params c.args.limit c.due_from-self-inside.result c.self.inside.view.lines c.due_from-self-inside.ensures
       (subst (λ (s : Seen). IsAskedBefore s.params c.args.limit s.lines) (sym c.self.view_is) c.requires)),
   c.self.invariant.4,
   c.self.invariant.5,
   c.self.invariant.6,
+  c.self.invariant.7,
+  c.self.invariant.8,
+  c.self.invariant.9,
 )

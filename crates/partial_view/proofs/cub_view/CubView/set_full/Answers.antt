@@ -20,4 +20,7 @@ invariant_of-self c = (
       (subst (λ (q : Params). ForSome c.args.last (HasEntered q c.args.reading)) c.self.invariant.0
       (subst (λ (s : Seen). ForSome c.args.last (HasEntered s.params c.args.reading)) (sym c.self.view_is) c.requires.last))),
   c.self.invariant.6,
+  c.self.invariant.7,
+  c.self.invariant.8,
+  c.self.invariant.9,
 )

@@ -1,14 +1,20 @@
-use Rattle.std.proofs.Common.{◌∙◌, ap, map, List}
-use Rattle.std.specs.List.{insert}
+use Rattle.std.proofs.Common.{sym, ap, ◌∙◌, arith, length}
 use Rattle.partial_view.specs.declared.line.Line.{Line}
-use Rattle.partial_view.specs.declared.timed.Timed.{Timed}
-use Rattle.partial_view.specs.Dues.{line_of}
-use Rattle.partial_view.specs.Lines.{unmarked}
-use Rattle.partial_view.proofs.Calls.{seen-with}
-use Rattle.partial_view.proofs.Dues.{map-insert}
+use Rattle.partial_view.specs.Lines.{visit_of, key_of}
+use Rattle.partial_view.specs.Views.{Seen}
+use Rattle.slot_plan.specs.Keys.{due_of}
+use Rattle.partial_view.proofs.Dues.{dues-insert, dues-along, remove-insert, as-many}
 use Rattle.partial_view.proofs.timed.TimedLines.insert.Goals as goal
 
-pub returns-clause-ok : goal.returns-clause-ok
-returns-clause-ok c =
-    seen-with c.self.inside.plan.params (map line_of c.self.inside.items) _ c.args.self.now (λ p lines. insert lines c.args.place (unmarked c.args.rec)) c.self.view_is
-    (ap (λ (ts : List Timed). map line_of ts) c.in_ok-insert.ensures.ok ∙ (map-insert line_of c.self.inside.items c.args.place _ ∙ ap (λ (x : Line). insert (map line_of c.self.inside.items) c.args.place x) c.unmarked-line.ensures))
+pub invariant_of-self-in-Err : goal.invariant_of-self-in-Err
+invariant_of-self-in-Err c =
+    dues-along c.self.inside.plan.params c.in-Err.ensures.err
+    (c.remove.ensures.left ∙ (ap (λ ds. Rattle.std.specs.List.remove ds c.args.place) c.in_ok-insert.ensures.ok
+    ∙ remove-insert c.self.inside.dues c.args.place c.args.due (omega (arith, c.requires.place, as-many c.self.inside.plan.params c.self.inside.lines c.self.inside.dues c.self.invariant, ap (λ (s : Seen). length s.lines) c.self.view_is))))
+    c.self.invariant
+
+pub invariant_of-self-in_default : goal.invariant_of-self-in_default
+invariant_of-self-in_default c =
+    dues-along c.self.inside.plan.params c.in_default.ensures.ok c.in_ok-insert.ensures.ok
+    (dues-insert c.self.inside.plan.params c.self.inside.lines c.self.inside.dues c.args.place c.args.due c.unmarked.result c.self.invariant
+    (c.requires.due ∙ (ap (λ (s : Seen). due_of s.params (visit_of c.args.rec)) (sym c.self.view_is) ∙ ap (λ (x : Line). due_of c.self.inside.plan.params (key_of x)) (sym c.unmarked.ensures))))

@@ -1,41 +1,33 @@
-use Rattle.std.proofs.Common.{◌≡◌, Bool, ◌-◌, ◌∙◌, ap, subst, sym, map, List, not, length, count_by, refl, arith}
-use Rattle.std.proofs.lemmas.List.{length-map}
-use Rattle.std.proofs.lemmas.List.Filters.{length-filter_both}
-use Rattle.std.specs.List.{AllByRecursion, filter}
-use Rattle.partial_view.specs.declared.timed.Timed.{Timed}
-use Rattle.partial_view.specs.Dues.{line_of, IsTimed}
+use Rattle.std.proofs.Common.{refl, ap, ◌∙◌, ◌-◌, eq-eqb, get_or, length, List}
+use Rattle.std.proofs.lemmas.Bool.{ne_eqb}
+use Rattle.partial_view.specs.declared.line.Line.{Line}
 use Rattle.partial_view.specs.Lines.{is_of}
-use Rattle.partial_view.specs.Views.{Seen, without_instance}
-use Rattle.partial_view.proofs.Order.{all_filter}
-use Rattle.partial_view.proofs.Retained.{count-removed}
-use Rattle.partial_view.proofs.Calls.{seen-with}
-use Rattle.partial_view.proofs.Dues.{map-filter}
+use Rattle.partial_view.specs.Views.{Seen}
+use Rattle.partial_view.proofs.Removals.{left_next, left_gone, left_first}
+use Rattle.partial_view.proofs.Rounds.{left-seen}
 use Rattle.partial_view.proofs.timed.TimedLines.remove_instance.Goals as goal
 
-left : (c : goal.After-len) → map line_of c.remove_instance.new.self ≡ filter (λ x. not (is_of c.args.instance x)) (map line_of c.self.inside.items)
-left c = ap (λ (ts : List Timed). map line_of ts) c.remove_instance.ensures ∙ map-filter line_of (λ x. not (is_of c.args.instance x)) c.self.inside.items
+pub loop-i-init : goal.loop-i-init
+loop-i-init c = record {
+  params = refl;
+  left = left_first (is_of c.args.instance) c.args.self.now.lines _ (ap length (c.as_slice-i.ensures.lines ∙ ap (λ (s : Seen). s.lines) c.self.view_is));
+}
 
-without : (c : goal.After-len) → map line_of c.remove_instance.new.self ≡ without_instance c.args.instance (map line_of c.self.inside.items)
-unfolding without_instance
-without c = left c
+pub loop-i-preserved-then-as_slice-i : goal.loop-i-preserved-then-as_slice-i
+loop-i-preserved-then-as_slice-i c = record {
+  params = ap (λ (s : Seen). s.params) c.remove.ensures.left ∙ c.loop-i.invariant.params;
+  left = left_gone (is_of c.args.instance) c.args.self.now.lines c.loop-i.self.lines c.loop-i.count c.loop-i.i (get_or c.as_slice.result.now (c.loop-i.i - 1) _) _ c.loop-i-test.true c.loop-i.invariant.left.bound c.loop-i.invariant.left.rest c.loop-i.invariant.left.number
+      (ap (λ (ls : List Line). get_or ls (c.loop-i.i - 1) _) (c.as_slice.ensures.lines ∙ ap (λ (s : Seen). s.lines) c.self-in-loop-i.view_is))
+      c.remove.new.self.lines (ap (λ (s : Seen). s.lines) c.remove.ensures.left) (eq-eqb _ _ c.if-as_slice-i.true);
+}
 
-pub invariant_of-self : goal.invariant_of-self
-invariant_of-self c =
-    subst (λ (ts : List Timed). AllByRecursion (IsTimed c.self.inside.plan.params) ts) (sym c.remove_instance.ensures) (all_filter (IsTimed c.self.inside.plan.params) (λ t. not (is_of c.args.instance (line_of t))) c.self.inside.items c.self.invariant)
-
-pub overflow_sub-result : goal.overflow_sub-result
-overflow_sub-result c =
-    let test : Timed → Bool = λ t. is_of c.args.instance (line_of t) in
-    omega (arith, c.len-before.ensures.len, c.len.ensures.len, ap length c.remove_instance.ensures, length-filter_both test (λ t. not (test t)) (λ t. refl) c.self.inside.items)
-
-pub returns-clause-count : goal.returns-clause-count
-returns-clause-count c =
-    let long : length (map line_of c.self.inside.items) - length (map line_of c.remove_instance.new.self) ≡ count_by (is_of c.args.instance) (map line_of c.self.inside.items) =
-    count-removed (is_of c.args.instance) (map line_of c.self.inside.items) (map line_of c.remove_instance.new.self) (left c) in
-    let read : c.len-before.result - c.len.result ≡ length (map line_of c.self.inside.items) - length (map line_of c.remove_instance.new.self) =
-    omega (arith, c.len-before.ensures.len, c.len.ensures.len, length-map c.self.inside.items line_of, length-map c.remove_instance.new.self line_of) in
-    read ∙ (long ∙ ap (λ (s : Seen). count_by (is_of c.args.instance) s.lines) c.self.view_is)
+pub loop-i-preserved : goal.loop-i-preserved
+loop-i-preserved c = record {
+  params = c.loop-i.invariant.params;
+  left = left_next (is_of c.args.instance) c.args.self.now.lines c.loop-i.self.lines c.loop-i.count c.loop-i.i (get_or c.as_slice.result.now (c.loop-i.i - 1) _) _ c.loop-i-test.true c.loop-i.invariant.left.bound c.loop-i.invariant.left.rest c.loop-i.invariant.left.number
+      (ap (λ (ls : List Line). get_or ls (c.loop-i.i - 1) _) (c.as_slice.ensures.lines ∙ ap (λ (s : Seen). s.lines) c.self-in-loop-i.view_is))
+      (ne_eqb _ _ c.if-as_slice-i.false);
+}
 
 pub returns-clause-left : goal.returns-clause-left
-returns-clause-left c =
-    seen-with c.self.inside.plan.params (map line_of c.self.inside.items) _ c.args.self.now (λ p lines. without_instance c.args.instance lines) c.self.view_is (without c)
+returns-clause-left c = left-seen c.args.instance c.args.self.now c.loop-i.self c.loop-i.count c.loop-i.i c.loop-i.invariant.params c.loop-i-test.false c.loop-i.invariant.left

@@ -1,7 +1,0 @@
-use Rattle.std.proofs.Common.{◌∙◌, ap, slice_set}
-use Rattle.std.proofs.lemmas.List.{drop-set-add}
-use Rattle.partial_view.proofs.row.TimedRow.set.Goals as goal
-
-pub returns : goal.returns
-returns c =
-    drop-set-add c.self.inside.gone c.self.inside.items.items c.args.place c.args.timed ∙ ap (λ xs. slice_set xs c.args.place c.args.timed) c.self.view_is
