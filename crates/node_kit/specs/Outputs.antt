@@ -8,6 +8,10 @@ use Rattle.node_kit.specs.declared.outbox.Out.TheVariants.{Act}
 abbrev pub outputs : {M : Type 0} → List (Out M) → Bool → List (Out M)
 outputs outs died = if died then outs ++ Act Died ∷ [] else outs
 
+abbrev pub is_empty : {M : Type 0} → List (Out M) → Bool
+is_empty [] = true
+is_empty (o ∷ os) = false
+
 abbrev pub is_death : {M : Type 0} → Out M → Bool
 is_death (Act Died) = true
 is_death other = false

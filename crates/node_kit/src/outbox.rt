@@ -1,7 +1,7 @@
 //! What an event of a node puts out.
 ghost use Rattle.std.specs.Prelude.{◌≡◌, ◌+◌, ◌≤◌, [], ◌∷◌, ◌++◌, OnOk, OnErr, MatchOption};
 ghost use Rattle.std.specs.VecDeque.{deque_len, deque_capacity};
-ghost use Rattle.node_kit.specs.Outputs.{with_death, ends_in_death, is_death};
+ghost use Rattle.node_kit.specs.Outputs.{outputs, is_empty, with_death, ends_in_death, is_death};
 
 use crate::journal::What;
 use std::alloc::Global;
@@ -44,6 +44,13 @@ impl<M> Outbox<M> {
             outs: VecDeque::new(alloc),
             died: false,
         }
+    }
+
+    /// Whether there is no output.
+    pub fn is_empty(&self) -> bool
+        ensures { result ≡ is_empty self.now }
+    {
+        self.outs.is_empty() && !self.died
     }
 
     /// Takes the first output out; `None` exactly where there is none.
@@ -94,17 +101,36 @@ impl<M: Drop> Outbox<M> {
         ensures ok { OnOk result (self.new ≡ self.old ++ output ∷ []) }
         ensures err { OnErr result (self.new ≡ self.old) }
     {
-        if self.outs.capacity() - self.outs.len() < MOST_PUT {
-            make_room(&mut self.outs)?;
+        if self.outs.capacity() - self.outs.len() < MOST_PUT || self.died {
+            return push_slowly(&mut self.outs, &mut self.died, output);
         }
         // A push that may fail would move the output once more.
-        if self.died {
-            self.outs.push_back_reserved(Out::Act(What::Died));
-            self.died = false;
-        }
         self.outs.push_back_reserved(output);
         Ok(())
     }
+}
+
+/// Puts an output at the end, as `push` does, if there may be no room or the place of `Died` is taken.
+// In `push` itself an output that is dropped for want of room would have each copy of one cut into pieces.
+#[cold]
+#[inline(never)]
+fn push_slowly<M: Drop>(
+    outs: &mut VecDeque<Out<M>>,
+    died: &mut bool,
+    output: Out<M>,
+) -> Result<(), NoMemory>
+    ensures ok { OnOk result (outputs outs.new.items died.new
+        ≡ outputs outs.old.items died.old ++ output ∷ []) }
+    ensures err { OnErr result (outputs outs.new.items died.new
+        ≡ outputs outs.old.items died.old) }
+{
+    make_room(outs)?;
+    if *died {
+        outs.push_back_reserved(Out::Act(What::Died));
+        *died = false;
+    }
+    outs.push_back_reserved(output);
+    Ok(())
 }
 
 /// How many outputs one push puts at the end: `Died`, if its place is taken, and the output.
