@@ -101,7 +101,7 @@ impl<M: Drop> Outbox<M> {
         ensures ok { OnOk result (self.new ≡ self.old ++ output ∷ []) }
         ensures err { OnErr result (self.new ≡ self.old) }
     {
-        if self.outs.capacity() - self.outs.len() < MOST_PUT || self.died {
+        if self.outs.capacity() == self.outs.len() || self.died {
             return push_slowly(&mut self.outs, &mut self.died, output);
         }
         // A push that may fail would move the output once more.

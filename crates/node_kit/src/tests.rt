@@ -12,7 +12,7 @@ use std::mem::size_of;
 use std::test::Fail;
 use tiger_base::{
     Beat, CubNo, DiskNo, FileNo, Instance, LinkNo, MOST_VISIT, Message, Msg, NoMemory, NodeNo,
-    Note, PieceState, Sequence, SlotNo, Stamp, State, Tag, Tenancy, Visit, Want,
+    Note, PieceState, Sequence, SlotNo, Span, Stamp, State, Tag, Tenancy, Visit, Want,
 };
 
 #[test]
@@ -255,6 +255,73 @@ fn a_node_puts_out_what_its_step_says(rt: HostRuntime) -> Result<(), Fail> {
     assert!(rt; matches!(out.take_first(), Some(Out::Act(What::Gone(Instance(7))))));
     assert!(rt; out.take_first().is_some());
     assert!(rt; out.take_first().is_none());
+    Ok(())
+}
+
+/// An entry of the first beat.
+fn first_beat(what: What) -> Entry {
+    Entry {
+        stamp: Stamp {
+            beat: 0,
+            reading: 0,
+        },
+        what,
+    }
+}
+
+/// A want of the first block of file 0.
+fn first_want() -> Want {
+    Want {
+        visit: 3,
+        block: 0,
+        instance: Instance(7),
+        slot: SlotNo(2),
+        file: FileNo(0),
+        piece: 0,
+    }
+}
+
+/// The block itself, as a journal notes it.
+fn first_block() -> Note {
+    Note::Whole {
+        want: first_want(),
+        sent: 0,
+        part: Span {
+            file: FileNo(0),
+            from: 0,
+            len: 1,
+        },
+    }
+}
+
+/// A journal of a heartbeat that came, of a read that failed, and of a block that went out and came.
+fn told_journal(rt: &HostRuntime) -> Result<Journal, NoMemory> {
+    let mut journal = Journal::new(rt.alloc());
+    journal.write(first_beat(What::Got(LinkNo(0), Note::Heartbeat)))?;
+    journal.write(first_beat(What::ReadFailed(first_want())))?;
+    journal.write(first_beat(What::Sent(LinkNo(0), first_block())))?;
+    journal.write(first_beat(What::Got(LinkNo(0), first_block())))?;
+    Ok(journal)
+}
+
+#[test]
+fn a_journal_knows_where_its_telling_entries_stand(rt: HostRuntime) -> Result<(), Fail> {
+    let journal = told_journal(&rt)?;
+    assert_eq!(rt; journal.as_slice().len(), 4);
+    assert_eq!(rt; journal.telling().len(), 2);
+    assert_eq!(rt; journal.telling().first(), Some(&1));
+    assert_eq!(rt; journal.telling().last(), Some(&3));
+    Ok(())
+}
+
+#[test]
+fn places_in_a_journal_that_is_appended_are_counted_on(rt: HostRuntime) -> Result<(), Fail> {
+    let mut journal = told_journal(&rt)?;
+    journal.append(told_journal(&rt)?)?;
+    assert_eq!(rt; journal.as_slice().len(), 8);
+    assert_eq!(rt; journal.telling().len(), 4);
+    assert_eq!(rt; journal.telling().get(2), Some(&5));
+    assert_eq!(rt; journal.telling().last(), Some(&7));
     Ok(())
 }
 
