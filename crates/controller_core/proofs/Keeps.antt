@@ -70,7 +70,7 @@ stopping_right p orders reading v known plan kept =
 
 starts_allowed : (p : Params) (ask : Ask) → IsPlan p → AllByRecursion (IsAllowed noted p (p.cubs + disk_count p)) (starts p ask)
 unfolding starts
-starts_allowed p ask plan = both_allowed p ask.disk.0 (msg.Start ask false) (msg.Start ask true) plan refl refl
+starts_allowed p ask plan = both_allowed p ask.disk.0 (msg.Start false ask) (msg.Start true ask) plan refl refl
 
 carries_right : (p : Params) (orders : List Order) (reading : ℕ) (kind : OrderKind) (known : Known) → IsPlan p → AreInForm p known
     → IsRight p (carries p orders reading kind known)

@@ -32,7 +32,7 @@ to_both p n first second =
 
 -- a start goes to the cub of its disk, and a redundant one to the next cub
 unfoldable pub starts : Params → Ask → List (Out Msg)
-starts p ask = to_both p ask.disk.0 (msg.Start ask false) (msg.Start ask true)
+starts p ask = to_both p ask.disk.0 (msg.Start false ask) (msg.Start true ask)
 
 -- the instance is gone, and cub n and the next one are told
 unfoldable pub gone_from : Params → Instance → Option Tag → ℕ → Known → Deed Msg Known

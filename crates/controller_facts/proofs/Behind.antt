@@ -158,8 +158,8 @@ module _ (p : Params) (orders : List Order) (r : ℕ) where
     pub order : Order
     pub is : slice_get os at ≡ Some order
     pub what : order.what ≡ Finish v
-    pub ahead : (i : ℕ) (q : Order) (ask : Ask) (way : LinkNo) (x : Bool) → i < at → slice_get os i ≡ Some q → q.what ≡ Begin ask → In (out.Send way (msg.Start ask x)) (starts p ask) → way.0 ≡ l
-        → (k : ℕ) × (k < place) × (slice_get sends k ≡ Some (record { beat = b; item = msg.Start ask x }))
+    pub ahead : (i : ℕ) (q : Order) (ask : Ask) (way : LinkNo) (x : Bool) → i < at → slice_get os i ≡ Some q → q.what ≡ Begin ask → In (out.Send way (msg.Start x ask)) (starts p ask) → way.0 ≡ l
+        → (k : ℕ) × (k < place) × (slice_get sends k ≡ Some (record { beat = b; item = msg.Start x ask }))
 
   pub each_behind : (os : List Order) (known : Known) (l b place : ℕ) (v : Instance) (tag : Option Tag)
       → slice_get (sends_of l b (each_in_turn (carrying p orders r) os known).outs) place ≡ Some (record { beat = b; item = msg.Deschedule v tag })
@@ -182,7 +182,7 @@ module _ (p : Params) (orders : List Order) (r : ℕ) where
         is = n.is;
         what = n.what;
         ahead = λ i q ask way x less is begins k link. subst
-            (λ (ds : List (Dated Msg)). (j : ℕ) × (j < place) × (slice_get ds j ≡ Some (record { beat = b; item = msg.Start ask x }))) (sym same)
+            (λ (ds : List (Dated Msg)). (j : ℕ) × (j < place) × (slice_get ds j ≡ Some (record { beat = b; item = msg.Start x ask }))) (sym same)
             (earlier o os known l b place v w.0 n w.1 i q ask way x less is begins k link);
       })
       (get_cases (sends_of l b d.outs) (sends_of l b f.outs) place note (subst (λ (ds : List (Dated Msg)). slice_get ds place ≡ Some note) same e))
@@ -190,20 +190,20 @@ module _ (p : Params) (orders : List Order) (r : ℕ) where
       earlier : (o : Order) (os : List Order) (known : Known) (l b place : ℕ) (v : Instance) (m : ℕ)
           → (n : Behind os l b (sends_of l b (each_in_turn (carrying p orders r) os (carrying p orders r o known).state).outs) v m)
           → place ≡ length (sends_of l b (carrying p orders r o known).outs) + m → (i : ℕ) (q : Order) (ask : Ask) (way : LinkNo) (x : Bool) → i < suc n.at → slice_get (o ∷ os) i ≡ Some q → q.what ≡ Begin ask
-          → In (out.Send way (msg.Start ask x)) (starts p ask) → way.0 ≡ l
+          → In (out.Send way (msg.Start x ask)) (starts p ask) → way.0 ≡ l
           → (j : ℕ) × (j < place) × (slice_get (sends_of l b (carrying p orders r o known).outs ++ sends_of l b (each_in_turn (carrying p orders r) os (carrying p orders r o known).state).outs) j
-          ≡ Some (record { beat = b; item = msg.Start ask x }))
+          ≡ Some (record { beat = b; item = msg.Start x ask }))
       earlier o os known l b place v m n w zero q ask way x less is begins k link =
           let d : Deed Msg Known = carrying p orders r o known in
           let f : Deed Msg Known = each_in_turn (carrying p orders r) os d.state in
           let s : o ≡ q = cc in
-          let there = subst (λ (ys : List (Out Msg)). In (out.Send way (msg.Start ask x)) ys) (sym (carrying_begin o known ask (ap (λ (y : Order). y.what) s ∙ begins))) k in
-          let g = sends_place l b d.outs way (msg.Start ask x) link there in
-          let low = get_below (sends_of l b d.outs) g.0 (record { beat = b; item = msg.Start ask x }) g.1 in
-          (g.0, omega arith, get_front (sends_of l b d.outs) (sends_of l b f.outs) g.0 (record { beat = b; item = msg.Start ask x }) g.1)
+          let there = subst (λ (ys : List (Out Msg)). In (out.Send way (msg.Start x ask)) ys) (sym (carrying_begin o known ask (ap (λ (y : Order). y.what) s ∙ begins))) k in
+          let g = sends_place l b d.outs way (msg.Start x ask) link there in
+          let low = get_below (sends_of l b d.outs) g.0 (record { beat = b; item = msg.Start x ask }) g.1 in
+          (g.0, omega arith, get_front (sends_of l b d.outs) (sends_of l b f.outs) g.0 (record { beat = b; item = msg.Start x ask }) g.1)
       earlier o os known l b place v m n w (suc i) q ask way x less is begins k link =
           let d : Deed Msg Known = carrying p orders r o known in
           let f : Deed Msg Known = each_in_turn (carrying p orders r) os d.state in
           let g = n.ahead i q ask way x (omega (arith, less)) is begins k link in
           let low = g.1 in
-          (length (sends_of l b d.outs) + g.0, omega arith, get_behind (sends_of l b d.outs) (sends_of l b f.outs) g.0 (record { beat = b; item = msg.Start ask x }) g.2)
+          (length (sends_of l b d.outs) + g.0, omega arith, get_behind (sends_of l b d.outs) (sends_of l b f.outs) g.0 (record { beat = b; item = msg.Start x ask }) g.2)

@@ -44,7 +44,7 @@ pub record IsStartOut (p : Params) (os : List Order) (link : LinkNo) (m : Msg) :
   pub ask : Ask
   pub what : order.what ≡ Begin ask
   pub redundant : Bool
-  pub is : m ≡ msg.Start ask redundant
+  pub is : m ≡ msg.Start redundant ask
   pub low : link.0 < p.cubs
 
 -- a deschedule
@@ -59,15 +59,15 @@ pub way_low : (p : Params) (n : ℕ) → IsPlan p → (way_to_cub p (n % p.cubs)
 unfolding way_to_cub
 way_low p n plan = mod_below n p.cubs (omega (arith, plan.ranges.cubs))
 
-pub starts_out : (p : Params) (ask : Ask) (link : LinkNo) (m : Msg) → IsPlan p → In (out.Send link m) (starts p ask) → (redundant : Bool) × (m ≡ msg.Start ask redundant) × (link.0 < p.cubs)
+pub starts_out : (p : Params) (ask : Ask) (link : LinkNo) (m : Msg) → IsPlan p → In (out.Send link m) (starts p ask) → (redundant : Bool) × (m ≡ msg.Start redundant ask) × (link.0 < p.cubs)
 unfolding starts
 starts_out p ask link m plan i = ⊎_elim
-    (λ (e : out.Send link m ≡ out.Send (way_to_cub p (ask.disk.0 % p.cubs)) (msg.Start ask false)).
-    let z : m ≡ msg.Start ask false = cc in let y : link ≡ way_to_cub p (ask.disk.0 % p.cubs) = cc in
+    (λ (e : out.Send link m ≡ out.Send (way_to_cub p (ask.disk.0 % p.cubs)) (msg.Start false ask)).
+    let z : m ≡ msg.Start false ask = cc in let y : link ≡ way_to_cub p (ask.disk.0 % p.cubs) = cc in
     (false, z, subst (λ (x : LinkNo). x.0 < p.cubs) (sym y) (way_low p ask.disk.0 plan)))
     (λ i. ⊎_elim
-    (λ (e : out.Send link m ≡ out.Send (way_to_cub p ((ask.disk.0 + 1) % p.cubs)) (msg.Start ask true)).
-    let z : m ≡ msg.Start ask true = cc in let y : link ≡ way_to_cub p ((ask.disk.0 + 1) % p.cubs) = cc in
+    (λ (e : out.Send link m ≡ out.Send (way_to_cub p ((ask.disk.0 + 1) % p.cubs)) (msg.Start true ask)).
+    let z : m ≡ msg.Start true ask = cc in let y : link ≡ way_to_cub p ((ask.disk.0 + 1) % p.cubs) = cc in
     (true, z, subst (λ (x : LinkNo). x.0 < p.cubs) (sym y) (way_low p (ask.disk.0 + 1) plan)))
     (λ i. absurd i)
     i)
@@ -133,7 +133,7 @@ commanding_out p os stamp known link m plan i =
     each_out p os (filter (λ o. o.beat == stamp.beat) os) stamp.reading (filter (λ o. o.beat == stamp.beat) os) known link m plan (λ o j. j) i
 
 -- a start among it is one of the orders'
-pub start_out : (p : Params) (os : List Order) (link : LinkNo) (a : Ask) (x : Bool) → IsCommand p os link (msg.Start a x) → (o : Order) × In o os × (o.what ≡ Begin a) × (link.0 < p.cubs)
+pub start_out : (p : Params) (os : List Order) (link : LinkNo) (a : Ask) (x : Bool) → IsCommand p os link (msg.Start x a) → (o : Order) × In o os × (o.what ≡ Begin a) × (link.0 < p.cubs)
 start_out p os link a x c = ⊎_elim
     (λ s. let is = s.is in let z : a ≡ s.ask = cc in (s.order, s.there, s.what ∙ ap (λ (q : Ask). Begin q) (sym z), s.low))
     (λ d. let e = d.2 in absurd (cc))
@@ -177,7 +177,7 @@ once_single d v j k s t = let a = zero_only d j v s in let b = zero_only d k v t
   where
     zero_only : (d : Dated Msg) (j v : ℕ) → StartAt (d ∷ []) j v → j ≡ 0
     zero_only d zero v s = refl
-    zero_only d (suc j) v s = absurd (none-some (record { beat = s.beat; item = msg.Start s.ask s.redundant }) s.at)
+    zero_only d (suc j) v s = absurd (none-some (record { beat = s.beat; item = msg.Start s.redundant s.ask }) s.at)
 
 pub ways_apart : (p : Params) (n : ℕ) → IsPlan p → n % p.cubs ≡ (n + 1) % p.cubs → ⊥
 unfolding cub_of
@@ -188,10 +188,10 @@ unfolding starts way_to_cub
 starts_once p ask l b plan = ⊎_elim
     (λ (t : (ask.disk.0 % p.cubs == l) ≡ true). ⊎_elim
     (λ (u : ((ask.disk.0 + 1) % p.cubs == l) ≡ true). absurd (ways_apart p ask.disk.0 plan (eqb-true _ _ t ∙ sym (eqb-true _ _ u))))
-    (λ (u : ((ask.disk.0 + 1) % p.cubs == l) ≡ false). rw (t, u) (once_single (record { beat = b; item = msg.Start ask false })))
+    (λ (u : ((ask.disk.0 + 1) % p.cubs == l) ≡ false). rw (t, u) (once_single (record { beat = b; item = msg.Start false ask })))
     (cases_Bool ((ask.disk.0 + 1) % p.cubs == l)))
     (λ (t : (ask.disk.0 % p.cubs == l) ≡ false). ⊎_elim
-    (λ (u : ((ask.disk.0 + 1) % p.cubs == l) ≡ true). rw (t, u) (once_single (record { beat = b; item = msg.Start ask true })))
+    (λ (u : ((ask.disk.0 + 1) % p.cubs == l) ≡ true). rw (t, u) (once_single (record { beat = b; item = msg.Start true ask })))
     (λ (u : ((ask.disk.0 + 1) % p.cubs == l) ≡ false). rw (t, u) once_nothing)
     (cases_Bool ((ask.disk.0 + 1) % p.cubs == l)))
     (cases_Bool (ask.disk.0 % p.cubs == l))
@@ -200,7 +200,7 @@ pub carries_once : (p : Params) (all : List Order) (r : ℕ) (w : OrderKind) (kn
 carries_once p all r (Begin ask) known l b plan = starts_once p ask l b plan
 carries_once p all r (Finish v) known l b plan = λ w j k s t.
     let x = start_sent l b (stopping p all r v known).outs j w s in
-    let d = stopping_out p all r v known x.0 (msg.Start x.1 x.2) x.3 in
+    let d = stopping_out p all r v known x.0 (msg.Start x.2 x.1) x.3 in
     let e = d.2 in absurd (cc)
 
 pub carrying_once : (p : Params) (all : List Order) (r : ℕ) (o : Order) (known : Known) (l b : ℕ) → IsPlan p → IsOnce (sends_of l b (carrying p all r o known).outs)
@@ -219,8 +219,8 @@ each_once p all r (o ∷ os) known l b plan distinct =
     (λ v i j s t.
     let x = start_sent l b first i v s in
     let y = start_sent l b rest j v t in
-    let fx = start_out p (o ∷ []) x.0 x.1 x.2 (carrying_out p all (o ∷ []) r o known x.0 (msg.Start x.1 x.2) plan (inl refl) x.3) in
-    let fy = start_out p os y.0 y.1 y.2 (each_out p all os r os (carrying p all r o known).state y.0 (msg.Start y.1 y.2) plan (λ q k. k) y.3) in
+    let fx = start_out p (o ∷ []) x.0 x.1 x.2 (carrying_out p all (o ∷ []) r o known x.0 (msg.Start x.2 x.1) plan (inl refl) x.3) in
+    let fy = start_out p os y.0 y.1 y.2 (each_out p all os r os (carrying p all r o known).state y.0 (msg.Start y.2 y.1) plan (λ q k. k) y.3) in
     let same : fx.0 ≡ o = ⊎_elim (λ e. e) (λ e. absurd e) fx.1 in
     distinct.0 fy.0 x.1 y.1 fy.1 (ap (λ (q : Order). q.what) (sym same) ∙ fx.2) fy.2 (x.4 ∙ sym y.4)))
 

@@ -45,5 +45,5 @@ pub starts_at : (os : List Order) (k : ℕ) (o : Order) (a : Ask) → slice_get 
 starts_at os k o a e w = (o.beat, e ∙ ap (λ (x : Order). Some x) (order_made o (Begin a) w))
 
 -- a start among what is sent is an output
-pub start_sent : (l b : ℕ) (os : List (Out Msg)) (k v : ℕ) → StartAt (sends_of l b os) k v → (link : LinkNo) × (ask : Ask) × (redundant : Bool) × In (out.Send link (msg.Start ask redundant)) os × (ask.instance.0 ≡ v)
-start_sent l b os k v s = let r = sends_in l b os (record { beat = s.beat; item = msg.Start s.ask s.redundant }) k s.at in (r.0, s.ask, s.redundant, r.2, s.same)
+pub start_sent : (l b : ℕ) (os : List (Out Msg)) (k v : ℕ) → StartAt (sends_of l b os) k v → (link : LinkNo) × (ask : Ask) × (redundant : Bool) × In (out.Send link (msg.Start redundant ask)) os × (ask.instance.0 ≡ v)
+start_sent l b os k v s = let r = sends_in l b os (record { beat = s.beat; item = msg.Start s.redundant s.ask }) k s.at in (r.0, s.ask, s.redundant, r.2, s.same)

@@ -8,7 +8,7 @@ use Rattle.run_facts.specs.Events.{Dated}
 use Rattle.controller_facts.specs.Orders.{StartAt, IsOnce}
 
 pub none_in_nothing : (k v : ℕ) → StartAt [] k v → ⊥
-none_in_nothing k v s = none-some (record { beat = s.beat; item = msg.Start s.ask s.redundant }) s.at
+none_in_nothing k v s = none-some (record { beat = s.beat; item = msg.Start s.redundant s.ask }) s.at
 
 pub once_nothing : IsOnce []
 once_nothing v j k s t = absurd (none_in_nothing j v s)
@@ -22,7 +22,7 @@ pub start_parts : (xs ys : List (Dated Msg)) (k v : ℕ) → StartAt (xs ++ ys) 
 start_parts xs ys k v s = ⊎_elim
     (λ q. inl (record { beat = s.beat; ask = s.ask; redundant = s.redundant; at = q; same = s.same }))
     (λ q. inr (q.0, q.1, record { beat = s.beat; ask = s.ask; redundant = s.redundant; at = q.2; same = s.same }))
-    (get_parts xs ys k (record { beat = s.beat; item = msg.Start s.ask s.redundant }) s.at)
+    (get_parts xs ys k (record { beat = s.beat; item = msg.Start s.redundant s.ask }) s.at)
 
 -- two lists in which each stands once, and none in both
 pub once_both : (xs ys : List (Dated Msg)) → IsOnce xs → IsOnce ys → ((v j k : ℕ) → StartAt xs j v → StartAt ys k v → ⊥) → IsOnce (xs ++ ys)

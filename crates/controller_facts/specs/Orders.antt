@@ -23,7 +23,7 @@ pub record StartAt (ds : List (Dated Msg)) (k v : ℕ) : Type 0 where
   pub beat : ℕ
   pub ask : Ask
   pub redundant : Bool
-  pub at : slice_get ds k ≡ Some (record { beat = beat; item = msg.Start ask redundant })
+  pub at : slice_get ds k ≡ Some (record { beat = beat; item = msg.Start redundant ask })
   pub same : ask.instance.0 ≡ v
 
 -- No instance is started twice among them.

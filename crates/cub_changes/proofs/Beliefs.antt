@@ -163,7 +163,7 @@ module _ (p : Params) (c : ℕ) (stamp : Stamp) where
   parts_closed = record { none = λ h k. k; both = λ h d e one two k. two (one k) }
 
   none_apart : (g : Stage) (from h : Store) (a : Ask) → Cause p c stamp g from (QueueApart a) h → h.believes ≡ true → ⊥
-  none_apart (OnMessage link (msg.Start b redundant)) from h a cause e =
+  none_apart (OnMessage link (msg.Start redundant b)) from h a cause e =
       not_both e (not_true h.believes (and_parts redundant (not h.believes) cause.0.2).1)
   none_apart other from h a cause e = absurd (cause.0)
 

@@ -111,7 +111,7 @@ tells p c stamp link other a v h may e = absurd may
 
 starts : (stamp : Stamp) (link : LinkNo) (m : Msg) (a b : Ask) (apart : Bool) (h : Store) → MayQueue (OnMessage link m) b apart h → a ≡ b
     → IsStartOf (Take stamp link m) a
-starts stamp link (msg.Start w redundant) a b apart h may e = e ∙ may.0
+starts stamp link (msg.Start redundant w) a b apart h may e = e ∙ may.0
 starts stamp link other a b apart h may e = absurd may
 
 none_told : (p : Params) (c : ℕ) (g : Stage) (v : Instance) (h : Store) → IsOfTick g → MayDrop p c g v h → ⊥

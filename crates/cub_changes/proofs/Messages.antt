@@ -101,15 +101,15 @@ module _ (P : Store → Deed Msg Store → Type 0) (closed : IsClosed P) (p : Pa
   apart_by g from each a h may false e = each (QueueApart a) h (may, e)
 
   pub start_by : (link : LinkNo) (a : Ask) (redundant : Bool) (h : Store)
-      → OfEach P p c stamp (OnMessage link (msg.Start a redundant)) h → P h (meeting_start a redundant h)
+      → OfEach P p c stamp (OnMessage link (msg.Start redundant a)) h → P h (meeting_start a redundant h)
   unfolding meeting_start
   start_by link a redundant h each =
       if_by P closed (not (is_ask a) || is_held h.held a.instance || shows h.view.lines a.instance) h (nothing h)
       (cond (redundant && not h.believes) (queueing_redundant a h) (queueing a h)) (λ _. closed.none h)
       (λ e.
       if_by P closed (redundant && not h.believes) h (queueing_redundant a h) (queueing a h)
-      (λ f. apart_by (OnMessage link (msg.Start a redundant)) h each a h (refl, e, f) (is_asked h.starts a.instance) refl)
-      (λ f. queue_by (OnMessage link (msg.Start a redundant)) h each a h (refl, e, f) (is_asked h.starts a.instance) refl))
+      (λ f. apart_by (OnMessage link (msg.Start redundant a)) h each a h (refl, e, f) (is_asked h.starts a.instance) refl)
+      (λ f. queue_by (OnMessage link (msg.Start redundant a)) h each a h (refl, e, f) (is_asked h.starts a.instance) refl))
 
   pub dropping_by : (v : Instance) (h : Store) → ((q : Store) → P q (did p c stamp (DropLines v) q))
       → ((q : Store) → P q (did p c stamp (DropStart v) q))
@@ -177,7 +177,7 @@ module _ (P : Store → Deed Msg Store → Type 0) (closed : IsClosed P) (p : Pa
       → P h (hearing p c stamp link m h)
   unfolding hearing
   hearing_by link (msg.ViewerState s) h each = state_by link s h each
-  hearing_by link (msg.Start a redundant) h each = start_by link a redundant h each
+  hearing_by link (msg.Start redundant a) h each = start_by link a redundant h each
   hearing_by link (msg.Deschedule v tag) h each = stop_by link v tag h each
   hearing_by link (msg.MirrorState x) h each = piece_by link x h each
   hearing_by link (msg.Kill v slot visit) h each = kill_by link v slot visit h each

@@ -147,7 +147,7 @@ MayTake p c stamp other from r = ⊥
 
 -- A start that comes is queued, apart or not, unless it is discarded.
 abbrev pub MayQueue : Stage → Ask → Bool → Store → Type 0
-MayQueue (OnMessage link (msg.Start b redundant)) a apart h =
+MayQueue (OnMessage link (msg.Start redundant b)) a apart h =
     (a ≡ b)
     × ((not (is_ask a) || is_held h.held a.instance || shows h.view.lines a.instance) ≡ false)
     × ((redundant && not h.believes) ≡ apart)

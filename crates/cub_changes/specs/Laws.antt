@@ -109,7 +109,7 @@ IsListed a h = In a h.starts.waiting ⊎ In a h.starts.redundant
 
 -- the input is this start, plain or redundant
 abbrev pub IsStartOf : Input Msg → Ask → Type 0
-IsStartOf (Take stamp link (msg.Start b redundant)) a = a ≡ b
+IsStartOf (Take stamp link (msg.Start redundant b)) a = a ≡ b
 IsStartOf other a = ⊥
 
 -- the input is a state or a deschedule of this instance

@@ -56,8 +56,8 @@ facts_by p lives beyond = record {
   Sent = SentAt p lives;
   Got = λ c t m b. TookMessage p lives c (msg.ViewerState (record { tenancy = t; visit = m })) b;
   Begun = beyond.Begun;
-  Asked = λ c ask b. TookMessage p lives c (msg.Start ask false) b;
-  AskedApart = λ c ask b. TookMessage p lives c (msg.Start ask true) b;
+  Asked = λ c ask b. TookMessage p lives c (msg.Start false ask) b;
+  AskedApart = λ c ask b. TookMessage p lives c (msg.Start true ask) b;
   Gone = beyond.Gone;
   StoppedAt = beyond.StoppedAt;
   StoppedWaiting = beyond.StoppedWaiting;
@@ -99,9 +99,9 @@ pub record BegunAt (p : Params) (orders : List Order) (lives : Lives) (ask : Ask
   pub at : ℕ
   pub done : at < lives.count (controller p)
   pub in_beat : beat_at (lives.input (controller p)) at ≡ b
-  pub near : In (out.Send (way_to_cub p (cub_of p ask.disk.0)) (msg.Start ask false))
+  pub near : In (out.Send (way_to_cub p (cub_of p ask.disk.0)) (msg.Start false ask))
       (commands_at p orders (lives.input (controller p)) at)
-  pub far : In (out.Send (way_to_cub p (cub_of p (ask.disk.0 + 1))) (msg.Start ask true))
+  pub far : In (out.Send (way_to_cub p (cub_of p (ask.disk.0 + 1))) (msg.Start true ask))
       (commands_at p orders (lives.input (controller p)) at)
 
 -- What a history tells beyond the lives of its cubs.

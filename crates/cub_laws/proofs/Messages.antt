@@ -173,7 +173,7 @@ pub hearing_right : (p : Params) (c : ℕ) (stamp : Stamp) (link : LinkNo) (m : 
     → IsTrue (is_in_form p (noted m)) → IsRule p c (hearing p c stamp link m)
 unfolding hearing
 hearing_right p c stamp link (msg.ViewerState s) plan here short form h kept = meeting_state_right p c stamp s plan here short form h kept
-hearing_right p c stamp link (msg.Start a redundant) plan here short form h kept = meeting_start_right p c a redundant h kept
+hearing_right p c stamp link (msg.Start redundant a) plan here short form h kept = meeting_start_right p c a redundant h kept
 hearing_right p c stamp link (msg.Deschedule v tag) plan here short form h kept = descheduling_right p c stamp v tag plan here short form h kept
 hearing_right p c stamp link (msg.MirrorState x) plan here short form h kept = meeting_piece_right p c x form h kept
 hearing_right p c stamp link (msg.Kill v slot visit) plan here short form h kept = meeting_kill_right p c v visit h kept

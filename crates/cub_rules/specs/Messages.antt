@@ -203,7 +203,7 @@ hearing_beat p cub stamp link h =
 -- the rules on messages in form
 unfoldable pub hearing : Params → ℕ → Stamp → LinkNo → Msg → Store → Deed Msg Store
 hearing p cub stamp link (msg.ViewerState s) h = meeting_state p cub stamp s h
-hearing p cub stamp link (msg.Start a redundant) h = meeting_start a redundant h
+hearing p cub stamp link (msg.Start redundant a) h = meeting_start a redundant h
 hearing p cub stamp link (msg.Deschedule v tag) h = descheduling p cub stamp v tag h
 hearing p cub stamp link (msg.MirrorState x) h = meeting_piece p cub x h
 hearing p cub stamp link (msg.Kill v slot visit) h = meeting_kill v visit h

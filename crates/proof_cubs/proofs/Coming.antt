@@ -71,7 +71,7 @@ module _ (p : Params) (c count : ℕ) (plan : IsPlan p) (here : c < p.cubs) (inp
       (λ (g : s.at ≤ j). ⊎_elim
       (λ (e : s.at ≡ j).
       let m : Msg = msg.Deschedule stop.instance stop.tag in
-      let z : Take s.stamp s.link (msg.Start a s.redundant) ≡ Take stop.stamp stop.link m =
+      let z : Take s.stamp s.link (msg.Start s.redundant a) ≡ Take stop.stamp stop.link m =
       sym s.is ∙ (ap inputs e ∙ stop.is) in
       absurd (cc))
       (λ (l : s.at < j).
@@ -195,7 +195,7 @@ module _ (p : Params) (lives : Lives) (beyond : Beyond) (set : Setting p lives b
       (left_how c i f.at b.at a q s (inputs b.at) w.small w.low b.before (refl {a = inputs b.at}) b.may mine)
 
   -- A start came as the plain one, or as the redundant one.
-  came_as : (c b : ℕ) (ask : Ask) (redundant : Bool) → TookMessage p lives c (msg.Start ask redundant) b
+  came_as : (c b : ℕ) (ask : Ask) (redundant : Bool) → TookMessage p lives c (msg.Start redundant ask) b
       → R.Asked c ask b ⊎ R.AskedApart c ask b
   came_as c b ask true m = inr m
   came_as c b ask false m = inl m
@@ -216,7 +216,7 @@ module _ (p : Params) (lives : Lives) (beyond : Beyond) (set : Setting p lives b
       let last = w.last in
       let one = leb-true _ _ (and_parts (nat_le 1 w.ask.count) (nat_le w.ask.count most_blocks) s.counted).0 in
       let rise = beats_rise p (lives.count c) inputs (set.lived c d.small) s.at d.at (omega arith) d.done in
-      let m = got_message p lives beyond set c s.at s.stamp s.link (msg.Start w.ask s.redundant) d.small (omega arith)
+      let m = got_message p lives beyond set c s.at s.stamp s.link (msg.Start s.redundant w.ask) d.small (omega arith)
       s.is in
       let put : IsPutLater c d.at x t.instance.0 w.ask = record {
         start = s;

@@ -46,7 +46,7 @@ is_refused a h = not (is_ask a) || is_held h.held a.instance || shows h.view.lin
 
 -- A start that is discarded leaves the lists as they are.
 start_refused : (p : Params) (c : ℕ) (stamp : Stamp) (link : LinkNo) (a : Ask) (redundant : Bool) (h : Store)
-    → is_refused a h ≡ true → (taking p c stamp link (msg.Start a redundant) h).state.starts ≡ h.starts
+    → is_refused a h ≡ true → (taking p c stamp link (msg.Start redundant a) h).state.starts ≡ h.starts
 unfolding meeting_start
 start_refused p c stamp link a redundant h e =
     ap (λ (d : Deed Msg Store). d.state.starts) (takes_start p c stamp link a redundant h) ∙ rw e refl
@@ -116,7 +116,7 @@ module _ (p : Params) (c : ℕ) (inputs : ℕ → Input Msg) where
       let before = s.before in
       let at : s.at ≡ i = omega arith in
       let h : Store = store_at p c inputs i in
-      let is : inputs i ≡ Take s.stamp s.link (msg.Start a s.redundant) = ap inputs (sym at) ∙ s.is in
+      let is : inputs i ≡ Take s.stamp s.link (msg.Start s.redundant a) = ap inputs (sym at) ∙ s.is in
       ⊎_elim
       (λ (t : is_refused a h ≡ true).
       let now = subst (λ (x : Input Msg). IsQueued a (deed_of p c x h).state.starts) is q in

@@ -55,7 +55,7 @@ is_queued a h k = ⊎_elim (λ w. inl (to_lives a h.starts.waiting w)) (λ w. in
 -- ---- a start that is not discarded joins a list, if no start of its instance stands in one
 start_queued : (p : Params) (c : ℕ) (stamp : Stamp) (link : LinkNo) (a : Ask) (redundant : Bool) (h : Store)
     → is_refused a h ≡ false → is_asked h.starts a.instance ≡ false
-    → IsQueued a (taking p c stamp link (msg.Start a redundant) h).state.starts
+    → IsQueued a (taking p c stamp link (msg.Start redundant a) h).state.starts
 unfolding meeting_start
 start_queued p c stamp link a redundant h e none =
     subst (λ (d : Deed Msg Store). IsQueued a d.state.starts) (sym (takes_start p c stamp link a redundant h))
@@ -165,7 +165,7 @@ module _ (p : Params) (lives : Lives) (beyond : Beyond) (set : Setting p lives b
 
   -- When a start comes no other one of its instance stands in the lists.
   not_asked : (c i : ℕ) (a : Ask) (stamp : Stamp) (link : LinkNo) (redundant : Bool) → c < p.cubs
-      → i < lives.count c → lives.input c i ≡ Take stamp link (msg.Start a redundant)
+      → i < lives.count c → lives.input c i ≡ Take stamp link (msg.Start redundant a)
       → is_asked (store_at p c (lives.input c) i).starts a.instance ≡ false
   not_asked c i a stamp link redundant small low is =
       let q : Queues = (store_at p c (lives.input c) i).starts in
@@ -188,7 +188,7 @@ module _ (p : Params) (lives : Lives) (beyond : Beyond) (set : Setting p lives b
   -- A start that comes joins the lists, or its instance is out.
   pub start_joins : (c i b : ℕ) (a : Ask) (stamp : Stamp) (link : LinkNo) (redundant : Bool) → c < p.cubs
       → i < lives.count c → beat_at (lives.input c) i ≤ b
-      → lives.input c i ≡ Take stamp link (msg.Start a redundant)
+      → lives.input c i ≡ Take stamp link (msg.Start redundant a)
       → IsQueued a (store_at p c (lives.input c) (suc i)).starts ⊎ IsOut c a.instance.0 b
   start_joins c i b a stamp link redundant small low le is =
       let inputs : ℕ → Input Msg = lives.input c in

@@ -80,7 +80,7 @@ module _ (p : Params) (lives : Lives) (beyond : Beyond) (set : Setting p lives b
       message_before p lives beyond set c w.at g.at w.small w.done g.done tick (ap is_tick_input g.is) (omega arith)
 
   -- A plain start waits when insertion begins, or its instance is out.
-  plain_waits : {c b l y : ℕ} {ask : Ask} (w : TickedAt p lives c b l) → TookMessage p lives c (msg.Start ask false) y
+  plain_waits : {c b l y : ℕ} {ask : Ask} (w : TickedAt p lives c b l) → TookMessage p lives c (msg.Start false ask) y
       → y ≤ b → In ask (ready w).starts.waiting ⊎ Out c ask.instance.0 b
   plain_waits {c} {b} {l} {y} {ask} w g le =
       let stamp : Stamp = record { beat = b; reading = l } in
@@ -114,7 +114,7 @@ module _ (p : Params) (lives : Lives) (beyond : Beyond) (set : Setting p lives b
 
   -- A redundant start waits then too if the cub believes its predecessor dead, or its instance is out.
   redundant_waits : {c b l y : ℕ} {ask : Ask} (w : TickedAt p lives c b l)
-      → TookMessage p lives c (msg.Start ask true) y → y ≤ b → (ready w).believes ≡ true
+      → TookMessage p lives c (msg.Start true ask) y → y ≤ b → (ready w).believes ≡ true
       → In ask (ready w).starts.waiting ⊎ Out c ask.instance.0 b
   redundant_waits {c} {b} {l} {y} {ask} w g le believes =
       let inputs : ℕ → Input Msg = lives.input c in

@@ -40,7 +40,7 @@ pub record IsLetIn (p : Params) (c : ℕ) (inputs : ℕ → Input Msg) (a : Ask)
   pub stamp : Stamp
   pub link : LinkNo
   pub redundant : Bool
-  pub is : inputs at ≡ Take stamp link (msg.Start a redundant)
+  pub is : inputs at ≡ Take stamp link (msg.Start redundant a)
   pub counted : is_ask a ≡ true
   pub free : is_held (store_at p c inputs at).held a.instance ≡ false
   pub unshown : shows (store_at p c inputs at).view.lines a.instance ≡ false

@@ -267,8 +267,8 @@ tells = record {
   died = λ n e small s is.
       let k = said n e what.Died s is in
       subst (λ (m : ℕ). r.Died m e.stamp.beat) (sym k.0) (subst (λ (b : ℕ). r.Died 1 b) (sym k.1) died_in);
-  asked = λ n e link a small s is. absurd (said n e (what.Got link (note.Start a false)) s is);
-  apart = λ n e link a small s is. absurd (said n e (what.Got link (note.Start a true)) s is);
+  asked = λ n e link a small s is. absurd (said n e (what.Got link (note.Start false a)) s is);
+  apart = λ n e link a small s is. absurd (said n e (what.Got link (note.Start true a)) s is);
 }
 
 -- the journals of the cubs that wrote something, and of the viewers

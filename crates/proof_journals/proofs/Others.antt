@@ -35,7 +35,7 @@ use Rattle.controller_facts.specs.Controllers.{command, known_at, commands_at, I
 -- The controller tells only of stops, and sends starts as it carries out their orders and no viewer state.
 abbrev pub Follows : OrderKind → Out Msg → Type 0
 Follows k (out.Act w) = (v : Instance) × (w ≡ what.Gone v)
-Follows k (out.Send link (msg.Start ask redundant)) = k ≡ Begin ask
+Follows k (out.Send link (msg.Start redundant ask)) = k ≡ Begin ask
 Follows k (out.Send link (msg.ViewerState s)) = ⊥
 Follows k other = Unit {0}
 
@@ -98,9 +98,9 @@ of_order p orders (Tick stamp) known o i =
 module _ (p : Params) (orders : List Order) (inputs : ℕ → Input Msg) (i : ℕ) where
   -- A start that it sends was ordered.
   pub start_ordered : (link : LinkNo) (ask : Ask) (redundant : Bool)
-      → In (out.Send link (msg.Start ask redundant)) (commands_at p orders inputs i) → IsOrdered orders ask
+      → In (out.Send link (msg.Start redundant ask)) (commands_at p orders inputs i) → IsOrdered orders ask
   start_ordered link ask redundant k =
-      let r = of_order p orders (inputs i) (known_at p orders inputs i) (out.Send link (msg.Start ask redundant)) k in (
+      let r = of_order p orders (inputs i) (known_at p orders inputs i) (out.Send link (msg.Start redundant ask)) k in (
         r.0.beat,
         subst (λ (x : Order). In x orders)
             (ap (λ (w : OrderKind). record { beat = r.0.beat; what = w }) r.2) r.1,

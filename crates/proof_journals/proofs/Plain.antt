@@ -176,7 +176,7 @@ beat_plain p c stamp link h =
 pub hearing_plain : (p : Params) (c : ℕ) (stamp : Stamp) (link : LinkNo) (m : Msg) (h : Store) → ArePlain (hearing p c stamp link m h).outs
 unfolding hearing
 hearing_plain p c stamp link (msg.ViewerState s) h = state_plain p c stamp s h
-hearing_plain p c stamp link (msg.Start a redundant) h = meeting_start_plain a redundant h
+hearing_plain p c stamp link (msg.Start redundant a) h = meeting_start_plain a redundant h
 hearing_plain p c stamp link (msg.Deschedule v tag) h = descheduling_plain p c stamp v tag h
 hearing_plain p c stamp link (msg.MirrorState x) h = piece_plain p c x h
 hearing_plain p c stamp link (msg.Kill v slot visit) h = kill_plain v visit h

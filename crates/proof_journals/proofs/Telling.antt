@@ -63,11 +63,11 @@ ordered_among all ask o = any_in (λ (x : Order). x.what ≡ Begin ask)
     (record { beat = o.0; what = Begin ask }) all o.1 refl
 
 -- A message that is noted as a start is one.
-start_back : (m : Msg) (ask : Ask) (redundant : Bool) → noted m ≡ note.Start ask redundant → m ≡ msg.Start ask redundant
-start_back (msg.Start a r) ask redundant e =
+start_back : (m : Msg) (ask : Ask) (redundant : Bool) → noted m ≡ note.Start redundant ask → m ≡ msg.Start redundant ask
+start_back (msg.Start r a) ask redundant e =
     let z : a ≡ ask = cc in
     let w : r ≡ redundant = cc in
-    ap (λ (x : Ask). msg.Start x r) z ∙ ap (λ (x : Bool). msg.Start ask x) w
+    ap (λ (x : Ask). msg.Start r x) z ∙ ap (λ (x : Bool). msg.Start x ask) w
 start_back other ask redundant e = absurd (cc)
 
 module _ {S : Type 0} {step : S → Input Msg → Deed Msg S} {p : Params} {orders : List Order}
@@ -168,16 +168,16 @@ module _ {S : Type 0} {step : S → Input Msg → Deed Msg S} {p : Params} {orde
 
   module _ (starts : AreStartsOrdered p orders (lives_of h)) where
     start_told : (n : ℕ) (e : Entry) (link : LinkNo) (ask : Ask) (redundant : Bool) → n < p.cubs
-        → StandsIn journals n e → e.what ≡ what.Got link (note.Start ask redundant)
-        → TookMessage p (lives_of h) n (msg.Start ask redundant) e.stamp.beat × ordering.IsOrdered orders ask
+        → StandsIn journals n e → e.what ≡ what.Got link (note.Start redundant ask)
+        → TookMessage p (lives_of h) n (msg.Start redundant ask) e.stamp.beat × ordering.IsOrdered orders ask
     start_told n e link ask redundant small s is =
         let x = written_in kept n e s in
         let i : ℕ = x.1.at in
-        let k = event_took step p n (h.event n i) (past noted step h n i) e link (note.Start ask redundant)
+        let k = event_took step p n (h.event n i) (past noted step h n i) e link (note.Start redundant ask)
         (kept.ring.run.fair n i x.0 x.1.before) x.1.there is in
-        let event : h.event n i ≡ Does (Take e.stamp link (msg.Start ask redundant)) =
+        let event : h.event n i ≡ Does (Take e.stamp link (msg.Start redundant ask)) =
         k.is ∙ ap (λ (m : Msg). Does (Take e.stamp link m)) (start_back k.message ask redundant k.same) in
-        let input : inputs_of h n i ≡ Take e.stamp link (msg.Start ask redundant) = ap input_of event in
+        let input : inputs_of h n i ≡ Take e.stamp link (msg.Start redundant ask) = ap input_of event in
         let before : i < living h n = is_before kept n i x.0 x.1.before (ap is_death event) in (
           record { small = small; at = i; done = before; reading = e.stamp.reading; link = link; is = input },
           ordered_among orders ask (starts n i e.stamp link ask redundant small before input),

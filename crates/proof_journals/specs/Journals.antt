@@ -35,7 +35,7 @@ pub record AreJournalsOf {S : Type 0} (step : S → Input Msg → Deed Msg S) (p
 abbrev pub AreStartsOrdered : Params → List Order → Lives → Type 0
 AreStartsOrdered p orders lives =
     (c i : ℕ) (stamp : Stamp) (link : LinkNo) (ask : Ask) (redundant : Bool)
-    → c < p.cubs → i < lives.count c → lives.input c i ≡ Take stamp link (msg.Start ask redundant)
+    → c < p.cubs → i < lives.count c → lives.input c i ≡ Take stamp link (msg.Start redundant ask)
     → IsOrdered orders ask
 
 -- Each entry of a ring's journals tells a fact of the ring.

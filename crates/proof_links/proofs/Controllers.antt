@@ -395,9 +395,9 @@ module _ {S : Type 0} {step : S → Input Msg → Deed Msg S} {p : Params} {orde
         done = lt;
         in_beat = ib;
         near = put
-            (out.Send (way_to_cub p (cub_of p ask.disk.0)) (msg.Start ask false)) (inl refl);
+            (out.Send (way_to_cub p (cub_of p ask.disk.0)) (msg.Start false ask)) (inl refl);
         far =
-            put (out.Send (way_to_cub p (cub_of p (ask.disk.0 + 1))) (msg.Start ask true)) (inr (inl refl));
+            put (out.Send (way_to_cub p (cub_of p (ask.disk.0 + 1))) (msg.Start true ask)) (inr (inl refl));
       }
 
   -- An instance that is stopped was begun before or in the same beat.

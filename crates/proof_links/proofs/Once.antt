@@ -65,17 +65,17 @@ low_link p l from c low ends =
 -- A stop at the disk of an ask goes to cubs to which its starts go.
 start_near : (p : Params) (ask : Ask) (way : LinkNo) (n : ℕ) → n ≡ ask.disk.0
     → (way ≡ way_to_cub p (n % p.cubs)) ⊎ (way ≡ way_to_cub p ((n + 1) % p.cubs))
-    → (x : Bool) × In (out.Send way (msg.Start ask x)) (starts p ask)
+    → (x : Bool) × In (out.Send way (msg.Start x ask)) (starts p ask)
 unfolding starts
 start_near p ask way n same w = ⊎_elim
     (λ e. (
       false,
-      inl (ap (λ (l : LinkNo). out.Send l (msg.Start ask false))
+      inl (ap (λ (l : LinkNo). out.Send l (msg.Start false ask))
           (e ∙ ap (λ k. way_to_cub p (k % p.cubs)) same)),
     ))
     (λ e. (
       true,
-      inr (inl (ap (λ (l : LinkNo). out.Send l (msg.Start ask true))
+      inr (inl (ap (λ (l : LinkNo). out.Send l (msg.Start true ask))
           (e ∙ ap (λ k. way_to_cub p ((k + 1) % p.cubs)) same))),
     ))
     w
@@ -87,9 +87,9 @@ start_ahead : (p : Params) (orders : List Order) (stamp : Stamp) (known : Known)
     (v : Instance) (a : Ask) (x : Bool) → AreCounted p orders
     → slice_get (sends_of way.0 b (command p orders (Tick stamp) known).outs) place
     ≡ Some (dated b (msg.Deschedule v None))
-    → In (at_beat stamp.beat (Begin a)) orders → a.instance.0 ≡ v.0 → In (out.Send way (msg.Start a x)) (starts p a)
+    → In (at_beat stamp.beat (Begin a)) orders → a.instance.0 ≡ v.0 → In (out.Send way (msg.Start x a)) (starts p a)
     → (k : ℕ) × (k < place)
-    × (slice_get (sends_of way.0 b (command p orders (Tick stamp) known).outs) k ≡ Some (dated b (msg.Start a x)))
+    × (slice_get (sends_of way.0 b (command p orders (Tick stamp) known).outs) k ≡ Some (dated b (msg.Start x a)))
 unfolding commanding orders_in
 start_ahead p orders stamp known way b place v a x counted seen ordered same start =
     let test : Order → Bool = λ o. o.beat == stamp.beat in
@@ -147,13 +147,13 @@ module _ {S : Type 0} {step : S → Input Msg → Deed Msg S} {p : Params} {orde
     at : ℕ
     place : ℕ
     own : link.0 ≡ c
-    sent : IsFrom c i (msg.Start ask redundant) at place
+    sent : IsFrom c i (msg.Start redundant ask) at place
     started : StartedBy p orders (inputs at) (way c) ask
 
   start_came : (c i : ℕ) (stamp : Stamp) (link : LinkNo) (ask : Ask) (x : Bool) → c < p.cubs → i < living h c
-      → lives.input c i ≡ Take stamp link (msg.Start ask x) → StartCame c i link ask x
+      → lives.input c i ≡ Take stamp link (msg.Start x ask) → StartCame c i link ask x
   start_came c i stamp link ask x small low e =
-      let f = came_from plan ring c i stamp link (msg.Start ask x) (cub_inside plan ring c small) low e in
+      let f = came_from plan ring c i stamp link (msg.Start x ask) (cub_inside plan ring c small) low e in
       let k = from_controller plan ring f (λ q. q) (λ q. q) in
       let d = commanded_before plan ring f k in
       let s = started_by p orders (inputs f.at) (known f.at) link ask x plan d.did in
@@ -176,7 +176,7 @@ module _ {S : Type 0} {step : S → Input Msg → Deed Msg S} {p : Params} {orde
     ordered : IsOrdered orders ask
     same : ask.instance.0 ≡ v.0
     redundant : Bool
-    start : In (out.Send (way c) (msg.Start ask redundant)) (starts p ask)
+    start : In (out.Send (way c) (msg.Start redundant ask)) (starts p ask)
 
   stop_came : (c i : ℕ) (stamp : Stamp) (link : LinkNo) (v : Instance) → c < p.cubs → i < living h c
       → lives.input c i ≡ Take stamp link (msg.Deschedule v None) → StopCame c i v
@@ -212,7 +212,7 @@ module _ {S : Type 0} {step : S → Input Msg → Deed Msg S} {p : Params} {orde
             ordered = from.0;
             same = from.1;
             redundant = near.0;
-            start = subst (λ (x : LinkNo). In (out.Send x (msg.Start w.0 near.0)) (starts p w.0)) link_is near.1;
+            start = subst (λ (x : LinkNo). In (out.Send x (msg.Start near.0 w.0)) (starts p w.0)) link_is near.1;
           })
           s.stopped.is
 
@@ -273,7 +273,7 @@ module _ {S : Type 0} {step : S → Input Msg → Deed Msg S} {p : Params} {orde
       subst (λ (os : List (Out Msg)). IsOnce (sends_of l (beat h ctrl at) os)) (sym (ring.rules.controls at done))
       (command_once plan ring.counted (inputs at) (known at) l (beat h ctrl at)) v j k s t
 
-  start_at : {c i at place : ℕ} {ask : Ask} {x : Bool} → IsFrom c i (msg.Start ask x) at place
+  start_at : {c i at place : ℕ} {ask : Ask} {x : Bool} → IsFrom c i (msg.Start x ask) at place
       → StartAt (sends_of c (beat h ctrl at) (outs noted step h ctrl at)) place ask.instance.0
   start_at {c} {i} {at} {place} {ask} {x} s =
       record { beat = beat h ctrl at; ask = ask; redundant = x; at = s.note.sends; same = refl }
@@ -311,7 +311,7 @@ module _ {S : Type 0} {step : S → Input Msg → Deed Msg S} {p : Params} {orde
   -- A cub gets one start of an instance.
   pub one_start : (c j k : ℕ) (s t : Stamp) (l m : LinkNo) (a b : Ask) (x y : Bool) → c < p.cubs → j < living h c
       → k < living h c
-      → lives.input c j ≡ Take s l (msg.Start a x) → lives.input c k ≡ Take t m (msg.Start b y)
+      → lives.input c j ≡ Take s l (msg.Start x a) → lives.input c k ≡ Take t m (msg.Start y b)
       → a.instance.0 ≡ b.instance.0 → j ≡ k
   one_start c j k s t l m a b x y small low high e f same =
       let one = start_came c j s l a x small low e in
@@ -319,15 +319,15 @@ module _ {S : Type 0} {step : S → Input Msg → Deed Msg S} {p : Params} {orde
       let order = ordered_once ring.counted a b one.started.stamp.beat two.started.stamp.beat one.started.ordered
       two.started.ordered same in
       let event : two.at ≡ one.at = same_tick (tick_of_start two) (tick_of_start one) order.1 in
-      let there : IsFrom c k (msg.Start b y) one.at two.place =
-      subst (λ n. IsFrom c k (msg.Start b y) n two.place) event two.sent in
+      let there : IsFrom c k (msg.Start y b) one.at two.place =
+      subst (λ n. IsFrom c k (msg.Start y b) n two.place) event two.sent in
       let starts : StartAt (sends_of c (beat h ctrl one.at) (outs noted step h ctrl one.at)) two.place a.instance.0 =
       subst (λ v. StartAt (sends_of c (beat h ctrl one.at) (outs noted step h ctrl one.at)) two.place v) (sym same)
       (start_at there) in
       let places = one_place one.at c a.instance.0 one.place two.place one.sent.note.done (start_at one.sent) starts in
       let numbers : takes c h c j ≡ takes c h c k =
       one.sent.number ∙ ap (λ n. number_of plan ring ctrl one.at n (way c)) places ∙ sym there.number in
-      same_number c j k c s t l m (msg.Start a x) (msg.Start b y) small low high e f one.own two.own numbers
+      same_number c j k c s t l m (msg.Start x a) (msg.Start y b) small low high e f one.own two.own numbers
 
   -- The starts that cubs get are those of the orders.
   pub are_starts : AreStarts p lives (orders_alone orders)
@@ -343,7 +343,7 @@ module _ {S : Type 0} {step : S → Input Msg → Deed Msg S} {p : Params} {orde
   -- A deschedule without a tag comes behind the start of its instance.
   pub start_behind : (c j k : ℕ) (s t : Stamp) (l m : LinkNo) (v : Instance) (a : Ask) (x : Bool) → c < p.cubs
       → j < living h c → k < living h c
-      → lives.input c j ≡ Take s l (msg.Deschedule v None) → lives.input c k ≡ Take t m (msg.Start a x)
+      → lives.input c j ≡ Take s l (msg.Deschedule v None) → lives.input c k ≡ Take t m (msg.Start x a)
       → a.instance.0 ≡ v.0 → k < j
   start_behind c j k s t l m v a x small low high e f same =
       let stop = stop_came c j s l v small low e in
@@ -361,8 +361,8 @@ module _ {S : Type 0} {step : S → Input Msg → Deed Msg S} {p : Params} {orde
       (λ (more : z ≤ o).
       let beats : o ≡ z = omega arith in
       let event : start.at ≡ stop.at = same_tick (tick_of_start start) (tick_of_stop stop) beats in
-      let there : IsFrom c k (msg.Start a x) stop.at start.place =
-      subst (λ n. IsFrom c k (msg.Start a x) n start.place) event start.sent in
+      let there : IsFrom c k (msg.Start x a) stop.at start.place =
+      subst (λ n. IsFrom c k (msg.Start x a) n start.place) event start.sent in
       let places = in_one_event c j k v a x stop there
       (subst (λ n. In (at_beat n (Begin a)) orders) beats start.started.ordered) same in
       let number = there.number in
@@ -370,7 +370,7 @@ module _ {S : Type 0} {step : S → Input Msg → Deed Msg S} {p : Params} {orde
       (cases_lt o z)
     where
       in_one_event : (c j k : ℕ) (v : Instance) (a : Ask) (x : Bool) (stop : StopCame c j v) {place : ℕ}
-          → IsFrom c k (msg.Start a x) stop.at place
+          → IsFrom c k (msg.Start x a) stop.at place
           → In (at_beat stop.finished.stamp.beat (Begin a)) orders → a.instance.0 ≡ v.0 → place < stop.place
       in_one_event c j k v a x stop {place} there ordered same =
           let b : ℕ = beat h ctrl stop.at in
@@ -382,8 +382,8 @@ module _ {S : Type 0} {step : S → Input Msg → Deed Msg S} {p : Params} {orde
           let ask : a ≡ stop.ask =
           (ordered_once ring.counted stop.ask a stop.ordered.0 stamp.beat stop.ordered.1 ordered
           (stop.same ∙ sym same)).0 in
-          let start : In (out.Send (way c) (msg.Start a stop.redundant))
-          (starts p a) = subst (λ (q : Ask). In (out.Send (way c) (msg.Start q stop.redundant)) (starts p q))
+          let start : In (out.Send (way c) (msg.Start stop.redundant a))
+          (starts p a) = subst (λ (q : Ask). In (out.Send (way c) (msg.Start stop.redundant q)) (starts p q))
           (sym ask) stop.start in
           let r = start_ahead p orders stamp (known stop.at)
           (way c) b stop.place v a stop.redundant ring.counted seen ordered same start in
@@ -392,7 +392,7 @@ module _ {S : Type 0} {step : S → Input Msg → Deed Msg S} {p : Params} {orde
             ask = a;
             redundant = stop.redundant;
             at = subst (λ (ys : List (Out Msg)). slice_get
-                (sends_of c b ys) r.0 ≡ Some (dated b (msg.Start a stop.redundant))) (sym ticked) r.2;
+                (sends_of c b ys) r.0 ≡ Some (dated b (msg.Start stop.redundant a))) (sym ticked) r.2;
             same = refl;
           } in
           let one = one_place stop.at c a.instance.0 place r.0 stop.sent.note.done (start_at there) first in

@@ -56,11 +56,11 @@ pub record StartedBy (p : Params) (orders : List Order) (input : Input Msg) (lin
 
 pub started_by : (p : Params) (orders : List Order) (input : Input Msg) (known : Known) (link : LinkNo) (a : Ask)
     (x : Bool) → IsPlan p
-    → In (out.Send link (msg.Start a x)) (command p orders input known).outs → StartedBy p orders input link a
+    → In (out.Send link (msg.Start x a)) (command p orders input known).outs → StartedBy p orders input link a
 started_by p orders (Take stamp way m) known link a x plan i = absurd i
 started_by p orders (Tick stamp) known link a x plan i =
     let s = start_out p (filter (λ (o : Order). o.beat == stamp.beat) orders) link a x
-    (commanding_out p orders stamp known link (msg.Start a x) plan i) in
+    (commanding_out p orders stamp known link (msg.Start x a) plan i) in
     record { stamp = stamp; tick = refl; ordered = in_beat orders s.0 stamp.beat (Begin a) s.1 s.2; low = s.3 }
 
 -- At that tick both starts of an order of the beat go out.

@@ -35,7 +35,7 @@ use Rattle.controller_facts.proofs.Commands.{IsCommand, commanding_out}
 
 -- messages that a cub, a disk and the controller may send
 abbrev pub IsOfCub : Msg → Type 0
-IsOfCub (msg.Start ask redundant) = ⊥
+IsOfCub (msg.Start redundant ask) = ⊥
 IsOfCub (msg.ReadDone want part) = ⊥
 IsOfCub other = Unit {0}
 
@@ -44,7 +44,7 @@ IsOfDisk (msg.ReadDone want part) = Unit {0}
 IsOfDisk other = ⊥
 
 abbrev pub IsOfController : Msg → Type 0
-IsOfController (msg.Start ask redundant) = Unit {0}
+IsOfController (msg.Start redundant ask) = Unit {0}
 IsOfController (msg.Deschedule v tag) = Unit {0}
 IsOfController other = ⊥
 

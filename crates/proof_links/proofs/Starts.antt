@@ -33,7 +33,7 @@ module _ {S : Type 0} {step : S → Input Msg → Deed Msg S} {p : Params} {orde
   inputs = lives.input (controller p)
 
   -- A start that came was begun by the controller.
-  pub start_from : {c y : ℕ} {ask : Ask} {redundant : Bool} → TookMessage p lives c (msg.Start ask redundant) y
+  pub start_from : {c y : ℕ} {ask : Ask} {redundant : Bool} → TookMessage p lives c (msg.Start redundant ask) y
       → WasBegun p (facts_of p orders h) ask y
   start_from {c} {y} {ask} {redundant} g =
       let f = took_from plan ring g in
@@ -65,7 +65,7 @@ module _ {S : Type 0} {step : S → Input Msg → Deed Msg S} {p : Params} {orde
     pub later : beat < y
     pub soon : y ≤ beat + p.delay
 
-  pub took_ordered : {c y : ℕ} {ask : Ask} {redundant : Bool} → TookMessage p lives c (msg.Start ask redundant) y
+  pub took_ordered : {c y : ℕ} {ask : Ask} {redundant : Bool} → TookMessage p lives c (msg.Start redundant ask) y
       → TookStart ask y
   took_ordered {c} {y} {ask} {redundant} g =
       let s = start_from g in

@@ -172,10 +172,10 @@ tells = record {
   asked = λ n e link a l s is.
       let k = is_entry n e s in
       subst (λ (m : ℕ). r.Asked m a e.stamp.beat × IsOrdered orders a) (sym k.node)
-      (says_one (λ (x : Entry). x.what ≡ what.Got link (note.Start a false) → r.Asked 0 a x.stamp.beat × IsOrdered orders a) e k.which
+      (says_one (λ (x : Entry). x.what ≡ what.Got link (note.Start false a) → r.Asked 0 a x.stamp.beat × IsOrdered orders a) e k.which
       (λ q. let same : order ≡ a = cc in (subst (λ (u : Ask). r.Asked 0 u 1) same asked_fact, ordered a (sym same))) (λ q. absurd (cc)) (λ q. absurd (cc)) is);
   apart = λ n e link a l s is. let k = is_entry n e s in
-      says_one (λ (x : Entry). x.what ≡ what.Got link (note.Start a true) → r.AskedApart n a x.stamp.beat × IsOrdered orders a) e k.which (λ q. absurd (cc)) (λ q. absurd (cc)) (λ q. absurd (cc)) is;
+      says_one (λ (x : Entry). x.what ≡ what.Got link (note.Start true a) → r.AskedApart n a x.stamp.beat × IsOrdered orders a) e k.which (λ q. absurd (cc)) (λ q. absurd (cc)) (λ q. absurd (cc)) is;
 }
 
 logged : Logged small r orders journals

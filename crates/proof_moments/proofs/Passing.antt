@@ -53,8 +53,8 @@ visit_next p c d visit on next =
     sym (cub_ahead p visit 1) ∙ ap (λ (n : ℕ). cub_of p (n + 1)) own ∙ ahead p d ∙ next
 
 -- what a start's entry is, and a belief's
-start_is : (v : ℕ) (how : Bool) (w : What) → IsStartOf v how w → (link : LinkNo) × (a : Ask) × (w ≡ what.Got link (note.Start a how)) × (a.instance.0 ≡ v)
-start_is v how (what.Got link (note.Start a r)) h = (link, a, ap (λ (b : Bool). what.Got link (note.Start a b)) h.1, h.0)
+start_is : (v : ℕ) (how : Bool) (w : What) → IsStartOf v how w → (link : LinkNo) × (a : Ask) × (w ≡ what.Got link (note.Start how a)) × (a.instance.0 ≡ v)
+start_is v how (what.Got link (note.Start r a)) h = (link, a, ap (λ (b : Bool). what.Got link (note.Start b a)) h.1, h.0)
 start_is v how (what.Got link other) h = absurd h
 start_is v how other h = absurd h
 

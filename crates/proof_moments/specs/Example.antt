@@ -28,7 +28,7 @@ own_record = record { tenancy = viewer; visit = 0; kind = Own }
 
 -- Cub 0 gets the plain start on link 8. At its tick it puts the viewer, and takes the record.
 abbrev pub got : Entry
-got = in_beat_one (what.Got (record { 0 = 8 }) (note.Start order false))
+got = in_beat_one (what.Got (record { 0 = 8 }) (note.Start false order))
 
 abbrev pub put : Entry
 put = in_beat_one (what.Put viewer)

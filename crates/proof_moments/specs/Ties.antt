@@ -80,11 +80,11 @@ pub record Tells (p : Params) (r : Facts) (orders : List Order)
       → n < p.cubs → StandsIn journals n e → e.what ≡ what.Died → r.Died n e.stamp.beat
   -- A plain start that a cub got is one that it was asked for then, and one that was ordered.
   pub asked : (n : ℕ) (e : Entry) (link : LinkNo) (a : Ask)
-      → n < p.cubs → StandsIn journals n e → e.what ≡ what.Got link (note.Start a false)
+      → n < p.cubs → StandsIn journals n e → e.what ≡ what.Got link (note.Start false a)
       → r.Asked n a e.stamp.beat × IsOrdered orders a
   -- So is a redundant start.
   pub apart : (n : ℕ) (e : Entry) (link : LinkNo) (a : Ask)
-      → n < p.cubs → StandsIn journals n e → e.what ≡ what.Got link (note.Start a true)
+      → n < p.cubs → StandsIn journals n e → e.what ≡ what.Got link (note.Start true a)
       → r.AskedApart n a e.stamp.beat × IsOrdered orders a
 
 -- Each fact of these kinds has its entry.

@@ -34,7 +34,7 @@ use Rattle.proof_ring.proofs.Living.{alive_below}
 pub answers_stays : (stamp : Stamp) (m : Msg) (d : DiskState) → (answers stamp m d).state ≡ d
 answers_stays stamp (msg.ReadAsk want) d = refl
 answers_stays stamp (msg.ViewerState s) d = refl
-answers_stays stamp (msg.Start a redundant) d = refl
+answers_stays stamp (msg.Start redundant a) d = refl
 answers_stays stamp (msg.Deschedule v tag) d = refl
 answers_stays stamp (msg.MirrorState x) d = refl
 answers_stays stamp (msg.Kill v slot visit) d = refl

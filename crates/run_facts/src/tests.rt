@@ -69,11 +69,11 @@ fn ordered()
 #[tactic(auto, unfolding(crate::specs::Commanded::starts_sent, crate::specs::Commanded::starts_ordered))]
 fn starts()
     ensures both { (p : Params) → p.cubs ≡ 8 → starts_sent p 3
-        ((record { stamp = record { beat = 3; reading = 30 }; what = Sent (record { 0 = 0 }) (Start (record { instance = record { 0 = 0 }; file = record { 0 = 0 }; count = 1; disk = record { 0 = 0 } }) false) })
-        ∷ (record { stamp = record { beat = 3; reading = 30 }; what = Sent (record { 0 = 1 }) (Start (record { instance = record { 0 = 0 }; file = record { 0 = 0 }; count = 1; disk = record { 0 = 0 } }) true) }) ∷ [])
+        ((record { stamp = record { beat = 3; reading = 30 }; what = Sent (record { 0 = 0 }) (Start false (record { instance = record { 0 = 0 }; file = record { 0 = 0 }; count = 1; disk = record { 0 = 0 } })) })
+        ∷ (record { stamp = record { beat = 3; reading = 30 }; what = Sent (record { 0 = 1 }) (Start true (record { instance = record { 0 = 0 }; file = record { 0 = 0 }; count = 1; disk = record { 0 = 0 } })) }) ∷ [])
         ≡ starts_ordered p 3 ((record { beat = 3; what = Begin (record { instance = record { 0 = 0 }; file = record { 0 = 0 }; count = 1; disk = record { 0 = 0 } }) }) ∷ []) }
     ensures plain { (p : Params) → starts_sent p 3
-        ((record { stamp = record { beat = 3; reading = 30 }; what = Sent (record { 0 = 0 }) (Start (record { instance = record { 0 = 0 }; file = record { 0 = 0 }; count = 1; disk = record { 0 = 0 } }) false) }) ∷ [])
+        ((record { stamp = record { beat = 3; reading = 30 }; what = Sent (record { 0 = 0 }) (Start false (record { instance = record { 0 = 0 }; file = record { 0 = 0 }; count = 1; disk = record { 0 = 0 } })) }) ∷ [])
         ≡ starts_ordered p 3 ((record { beat = 3; what = Begin (record { instance = record { 0 = 0 }; file = record { 0 = 0 }; count = 1; disk = record { 0 = 0 } }) }) ∷ []) → ⊥ }
 {}
 

@@ -67,7 +67,7 @@ end_of_tick beat n log = moment_at (filter (is_up_to beat n) log)
 
 -- an entry says that a start of an instance was got, the redundant one or the plain one
 abbrev pub IsStartOf : ℕ → Bool → What → Type 0
-IsStartOf v redundant (what.Got link (note.Start ask how)) = (ask.instance.0 ≡ v) × (how ≡ redundant)
+IsStartOf v redundant (what.Got link (note.Start how ask)) = (ask.instance.0 ≡ v) × (how ≡ redundant)
 IsStartOf v redundant other = ⊥
 
 -- a cub got the start and may put it: the plain one on the cub of the disk, or on the next one the redundant one,

@@ -60,7 +60,7 @@ tells cub beat link t visit =
 
 -- a cub gets the start of an ask, the plain one or the redundant one
 abbrev pub starts : ℕ → ℕ → Ask → Bool → Noted
-starts cub beat ask redundant = at cub beat (what.Got (record { 0 = cub }) (note.Start ask redundant))
+starts cub beat ask redundant = at cub beat (what.Got (record { 0 = cub }) (note.Start redundant ask))
 
 -- a cub dies, and one believes another dead
 abbrev pub dies : ℕ → ℕ → Noted

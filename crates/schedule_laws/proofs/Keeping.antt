@@ -191,7 +191,7 @@ keeps_but m h d k = (k.0, λ w e. inl (k.1 w e))
 pub hearing_keeps : (p : Params) (c : ℕ) (stamp : Stamp) (link : LinkNo) (m : Msg) (h : Store) → KeepsBut m h (hearing p c stamp link m h)
 unfolding hearing
 hearing_keeps p c stamp link (msg.ViewerState s) h = keeps_but (msg.ViewerState s) h (meeting_state p c stamp s h) (meeting_state_keeps p c stamp s h)
-hearing_keeps p c stamp link (msg.Start a redundant) h = keeps_but (msg.Start a redundant) h (meeting_start a redundant h) (meeting_start_keeps a redundant h)
+hearing_keeps p c stamp link (msg.Start redundant a) h = keeps_but (msg.Start redundant a) h (meeting_start a redundant h) (meeting_start_keeps a redundant h)
 hearing_keeps p c stamp link (msg.Deschedule v tag) h = descheduling_keeps p c stamp v tag h
 hearing_keeps p c stamp link (msg.MirrorState x) h = keeps_but (msg.MirrorState x) h (meeting_piece p c x h) (meeting_piece_keeps p c x h)
 hearing_keeps p c stamp link (msg.Kill v slot visit) h = keeps_but (msg.Kill v slot visit) h (meeting_kill v visit h) (meeting_kill_keeps v visit h)
@@ -391,7 +391,7 @@ believed_before p c inputs (suc i) e = ⊎_elim
 pub stop_is : (inputs : ℕ → Input Msg) (i : ℕ) (v : Instance) (stamp : Stamp) (link : LinkNo) (m : Msg) → inputs i ≡ Take stamp link m → IsStopOf m v → StoppedBefore inputs v (suc i)
 stop_is inputs i v stamp link (msg.Deschedule w tag) e k = record { at = i; before = omega arith; stamp = stamp; link = link; instance = w; tag = tag; is = e; same = k }
 stop_is inputs i v stamp link (msg.ViewerState s) e k = absurd k
-stop_is inputs i v stamp link (msg.Start a redundant) e k = absurd k
+stop_is inputs i v stamp link (msg.Start redundant a) e k = absurd k
 stop_is inputs i v stamp link (msg.MirrorState x) e k = absurd k
 stop_is inputs i v stamp link (msg.Kill w slot visit) e k = absurd k
 stop_is inputs i v stamp link (msg.ReadDone want part) e k = absurd k

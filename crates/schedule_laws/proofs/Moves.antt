@@ -63,7 +63,7 @@ abbrev pub IsQuiet : Out Msg → Type 0
 IsQuiet (out.Act (what.Took r)) = ⊥
 IsQuiet (out.Act (what.Put t)) = ⊥
 IsQuiet (out.Send link (msg.ViewerState s)) = ⊥
-IsQuiet (out.Send link (msg.Start a redundant)) = ⊥
+IsQuiet (out.Send link (msg.Start redundant a)) = ⊥
 IsQuiet (out.Send link (msg.Deschedule v tag)) = ⊥
 IsQuiet (out.Send link (msg.Placed t)) = ⊥
 IsQuiet other = Unit {0}
@@ -73,7 +73,7 @@ AreQuiet outs = AllByRecursion IsQuiet outs
 
 -- outputs that send no start, and a deschedule only of an instance that is held
 abbrev pub IsMeek : (Instance → Type 0) → Out Msg → Type 0
-IsMeek Held (out.Send link (msg.Start a redundant)) = ⊥
+IsMeek Held (out.Send link (msg.Start redundant a)) = ⊥
 IsMeek Held (out.Send link (msg.Deschedule v tag)) = Held v
 IsMeek Held other = Unit {0}
 

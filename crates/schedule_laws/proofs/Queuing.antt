@@ -103,7 +103,7 @@ abbrev pub DropsStart : Msg → Queues → Queues → Type 0
 DropsStart m old new = (v : Instance) × Tells m v × (new ≡ without_start old v)
 
 abbrev pub AddsStart : Msg → Queues → Queues → Type 0
-AddsStart m old new = (a : Ask) × (redundant : Bool) × (m ≡ msg.Start a redundant) × ((new ≡ with_waiting old a) ⊎ (new ≡ with_redundant old a))
+AddsStart m old new = (a : Ask) × (redundant : Bool) × (m ≡ msg.Start redundant a) × ((new ≡ with_waiting old a) ⊎ (new ≡ with_redundant old a))
 
 abbrev pub StartsAfter : Msg → Queues → Queues → Type 0
 StartsAfter m old new = (new ≡ old) ⊎ (DropsStart m old new ⊎ AddsStart m old new)
@@ -127,10 +127,10 @@ meeting_state_after p c stamp s h =
     (λ _. (⊎_elim (λ e. inl e) (λ e. inr (inl (s.tenancy.instance, refl, e))) m.0, m.1)) (λ _. (inl refl, refl))
 
 pub meeting_start_after : (a : Ask) (redundant : Bool) (h : Store)
-    → StartsAfter (msg.Start a redundant) h.starts (meeting_start a redundant h).state.starts × ((meeting_start a redundant h).state.watch ≡ h.watch)
+    → StartsAfter (msg.Start redundant a) h.starts (meeting_start a redundant h).state.starts × ((meeting_start a redundant h).state.watch ≡ h.watch)
 unfolding meeting_start
 meeting_start_after a redundant h =
-    let P : Deed Msg Store → Type 0 = λ d. StartsAfter (msg.Start a redundant) h.starts d.state.starts × (d.state.watch ≡ h.watch) in
+    let P : Deed Msg Store → Type 0 = λ d. StartsAfter (msg.Start redundant a) h.starts d.state.starts × (d.state.watch ≡ h.watch) in
     chosen P (not (is_ask a) || is_held h.held a.instance || shows h.view.lines a.instance) (nothing h) (cond (redundant && not h.believes) (queueing_redundant a h) (queueing a h)) (λ _. (inl refl, refl))
     (λ _. chosen P (redundant && not h.believes) (queueing_redundant a h) (queueing a h) (λ _. (inr (inr (a, redundant, refl, inr refl)), refl)) (λ _. (inr (inr (a, redundant, refl, inl refl)), refl)))
 
@@ -191,7 +191,7 @@ beat_heard p c stamp link h e = rw (eq-eqb _ _ e) refl
 pub hearing_after : (p : Params) (c : ℕ) (stamp : Stamp) (link : LinkNo) (m : Msg) (h : Store) → After p c stamp link m h (hearing p c stamp link m h).state
 unfolding hearing
 hearing_after p c stamp link (msg.ViewerState s) h = let a = meeting_state_after p c stamp s h in (a.0, inl a.1)
-hearing_after p c stamp link (msg.Start a redundant) h = let b = meeting_start_after a redundant h in (b.0, inl b.1)
+hearing_after p c stamp link (msg.Start redundant a) h = let b = meeting_start_after a redundant h in (b.0, inl b.1)
 hearing_after p c stamp link (msg.Deschedule v tag) h = let a = descheduling_after p c stamp v tag h in (inr (inl (v, refl, a.0)), inl a.1)
 hearing_after p c stamp link (msg.MirrorState x) h = steady_after p c stamp link (msg.MirrorState x) h (meeting_piece p c x h) (meeting_piece_steady p c x h)
 hearing_after p c stamp link (msg.Kill v slot visit) h = steady_after p c stamp link (msg.Kill v slot visit) h (meeting_kill v visit h) (meeting_kill_steady v visit h)
@@ -208,7 +208,7 @@ taking_after p c stamp link m h =
     chosen (λ (d : Deed Msg Store). After p c stamp link m h d.state) (is_in_form p (noted m)) (hearing p c stamp link m h) (nothing h) (λ _. hearing_after p c stamp link m h) (λ _. (inl refl, inl refl))
 
 -- starts and heartbeats are always in form
-pub takes_start : (p : Params) (c : ℕ) (stamp : Stamp) (link : LinkNo) (a : Ask) (redundant : Bool) (h : Store) → taking p c stamp link (msg.Start a redundant) h ≡ meeting_start a redundant h
+pub takes_start : (p : Params) (c : ℕ) (stamp : Stamp) (link : LinkNo) (a : Ask) (redundant : Bool) (h : Store) → taking p c stamp link (msg.Start redundant a) h ≡ meeting_start a redundant h
 unfolding taking hearing
 takes_start p c stamp link a redundant h = refl
 

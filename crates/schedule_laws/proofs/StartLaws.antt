@@ -58,7 +58,7 @@ asked_there (a ∷ rest) v e = ⊎_elim
 pub told_by : (m : Msg) (v : Instance) → Tells m v → ((s : State) × (m ≡ msg.ViewerState s) × (s.tenancy.instance ≡ v)) ⊎ ((w : Instance) × (tag : Option Tag) × (m ≡ msg.Deschedule w tag) × (w ≡ v))
 told_by (msg.ViewerState s) v k = inl (s, refl, k)
 told_by (msg.Deschedule w tag) v k = inr (w, tag, refl, k)
-told_by (msg.Start a redundant) v k = absurd k
+told_by (msg.Start redundant a) v k = absurd k
 told_by (msg.MirrorState x) v k = absurd k
 told_by (msg.Kill w slot visit) v k = absurd k
 told_by (msg.ReadDone want part) v k = absurd k
@@ -234,7 +234,7 @@ module _ (p : Params) (plan : IsPlan p) (lives : Lives) (are : AreLives p lives)
       (entered_at p plan lives are formed outside c t.at x.rec.tenancy x.rec.visit x.rec.kind small (omega arith) t.taken)
 
   -- a start that comes stands in no list yet, and so it joins
-  pub joined : (c i : ℕ) (a : Ask) (stamp : Stamp) (link : LinkNo) → c < p.cubs → i < lives.count c → lives.input c i ≡ Take stamp link (msg.Start a false)
+  pub joined : (c i : ℕ) (a : Ask) (stamp : Stamp) (link : LinkNo) → c < p.cubs → i < lives.count c → lives.input c i ≡ Take stamp link (msg.Start false a)
       → In a (with_waiting (store_at p c (lives.input c) i).starts a).waiting
   joined c i a stamp link small low e =
       let q : Queues = (store_at p c (lives.input c) i).starts in
@@ -257,7 +257,7 @@ module _ (p : Params) (plan : IsPlan p) (lives : Lives) (are : AreLives p lives)
           (cases_Bool (has_start (store_at p c (lives.input c) i).starts.waiting a.instance))
 
   -- a start joins the waiting ones, or its instance is known
-  pub joins : (c i b : ℕ) (a : Ask) (stamp : Stamp) (link : LinkNo) → c < p.cubs → i < lives.count c → beat_at (lives.input c) i ≤ b → lives.input c i ≡ Take stamp link (msg.Start a false)
+  pub joins : (c i b : ℕ) (a : Ask) (stamp : Stamp) (link : LinkNo) → c < p.cubs → i < lives.count c → beat_at (lives.input c) i ≤ b → lives.input c i ≡ Take stamp link (msg.Start false a)
       → In a (store_at p c (lives.input c) (suc i)).starts.waiting ⊎ IsOut c a.instance.0 b
   joins c i b a stamp link small low h e =
       let inputs : ℕ → Input Msg = lives.input c in
@@ -305,7 +305,7 @@ module _ (p : Params) (plan : IsPlan p) (lives : Lives) (are : AreLives p lives)
       (λ d. absurd (omega arith))
       (after_insertion_moves p c stamp h x.0 x.1)
 
-  pub waits : {c : ℕ} {ask : Ask} {y b l : ℕ} (s n : ℕ) → TookMessage p lives c (msg.Start ask false) y → y ≤ b → TickedAt p lives c b l → s < p.slots → ask.disk.0 ≡ disk_of p n → c ≡ cub_of p n
+  pub waits : {c : ℕ} {ask : Ask} {y b l : ℕ} (s n : ℕ) → TookMessage p lives c (msg.Start false ask) y → y ≤ b → TickedAt p lives c b l → s < p.slots → ask.disk.0 ≡ disk_of p n → c ≡ cub_of p n
       → IsInWindow p l s n → Stands (facts_of p lives outside) c s n b ⊎ IsOut c ask.instance.0 b
   waits {c} {ask} {y} {b} {l} s n g h w slot disk here window =
       let inputs : ℕ → Input Msg = lives.input c in

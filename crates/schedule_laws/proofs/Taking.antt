@@ -64,7 +64,7 @@ abbrev pub IsHushed : (Instance → Type 0) → Out Msg → Type 0
 IsHushed Held (out.Act (what.Took r)) = ⊥
 IsHushed Held (out.Act (what.Put t)) = ⊥
 IsHushed Held (out.Send link (msg.ViewerState s)) = ⊥
-IsHushed Held (out.Send link (msg.Start a redundant)) = ⊥
+IsHushed Held (out.Send link (msg.Start redundant a)) = ⊥
 IsHushed Held (out.Send link (msg.Deschedule v tag)) = Held v
 IsHushed Held (out.Send link (msg.Placed t)) = ⊥
 IsHushed Held other = Unit {0}
@@ -77,7 +77,7 @@ quiet_hushed Held (out.Act (what.Took r)) q = q
 quiet_hushed Held (out.Act (what.Put t)) q = q
 quiet_hushed Held (out.Act other) q = tt
 quiet_hushed Held (out.Send link (msg.ViewerState s)) q = q
-quiet_hushed Held (out.Send link (msg.Start a redundant)) q = q
+quiet_hushed Held (out.Send link (msg.Start redundant a)) q = q
 quiet_hushed Held (out.Send link (msg.Deschedule v tag)) q = absurd q
 quiet_hushed Held (out.Send link (msg.Placed t)) q = q
 quiet_hushed Held (out.Send link other) q = tt
@@ -92,7 +92,7 @@ hushed_no_put Held (out.Send link other) q = tt
 
 pub hushed_meek_one : (Held : Instance → Type 0) (o : Out Msg) → IsHushed Held o → IsMeek Held o
 hushed_meek_one Held (out.Act other) q = tt
-hushed_meek_one Held (out.Send link (msg.Start a redundant)) q = q
+hushed_meek_one Held (out.Send link (msg.Start redundant a)) q = q
 hushed_meek_one Held (out.Send link (msg.Deschedule v tag)) q = q
 hushed_meek_one Held (out.Send link other) q = tt
 
@@ -331,7 +331,7 @@ hearing_hears p c stamp link (msg.ViewerState s) h = record {
   meek = (meeting_state_mild p c (λ r. ⊥) stamp s h).1;
   only_states = λ r i. (s, refl);
 }
-hearing_hears p c stamp link (msg.Start a redundant) h = silent_hears p c (msg.Start a redundant) h _ (meeting_start_silent p c (λ r. ⊥) (HeldIn h) a redundant h)
+hearing_hears p c stamp link (msg.Start redundant a) h = silent_hears p c (msg.Start redundant a) h _ (meeting_start_silent p c (λ r. ⊥) (HeldIn h) a redundant h)
 hearing_hears p c stamp link (msg.Deschedule v tag) h = silent_hears p c (msg.Deschedule v tag) h _ (descheduling_silent p c stamp v tag h)
 hearing_hears p c stamp link (msg.MirrorState x) h = silent_hears p c (msg.MirrorState x) h _ (meeting_piece_silent p c (λ r. ⊥) (HeldIn h) x h)
 hearing_hears p c stamp link (msg.Kill v slot visit) h = silent_hears p c (msg.Kill v slot visit) h _ (meeting_kill_silent p c (λ r. ⊥) (HeldIn h) v visit h)

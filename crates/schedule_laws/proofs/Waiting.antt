@@ -53,12 +53,12 @@ without_back old v a k = ⊎_elim
     (λ w. inr (from_filter (λ b. not (is_of v b)) a old.redundant w).0)
     k
 
-pub starts_back : (m : Msg) (old new : Queues) (a : Ask) → StartsAfter m old new → IsQueued a new → IsQueued a old ⊎ ((redundant : Bool) × (m ≡ msg.Start a redundant))
+pub starts_back : (m : Msg) (old new : Queues) (a : Ask) → StartsAfter m old new → IsQueued a new → IsQueued a old ⊎ ((redundant : Bool) × (m ≡ msg.Start redundant a))
 starts_back m old new a after k = ⊎_elim
     (λ e. inl (subst (λ (q : Queues). IsQueued a q) e k))
     (λ w. ⊎_elim
     (λ d. inl (without_back old d.0 a (subst (λ (q : Queues). IsQueued a q) d.2 k)))
-    (λ d. ⊎_elim (λ q. inl q) (λ q. inr (d.1, d.2 ∙ ap (λ (b : Ask). msg.Start b d.1) (sym q)))
+    (λ d. ⊎_elim (λ q. inl q) (λ q. inr (d.1, d.2 ∙ ap (λ (b : Ask). msg.Start d.1 b) (sym q)))
     (⊎_elim (λ e. waiting_back old a d.0 (subst (λ (q : Queues). IsQueued a q) e k)) (λ e. redundant_back old a d.0 (subst (λ (q : Queues). IsQueued a q) e k)) d.3))
     w)
     after
@@ -142,7 +142,7 @@ pub record Started (inputs : ℕ → Input Msg) (a : Ask) (j i : ℕ) : Type 0 w
   pub stamp : Stamp
   pub link : LinkNo
   pub redundant : Bool
-  pub is : inputs at ≡ Take stamp link (msg.Start a redundant)
+  pub is : inputs at ≡ Take stamp link (msg.Start redundant a)
 
 pub deed_once : (p : Params) (c : ℕ) (i : Input Msg) (h : Store) → AreOnce h.starts → AreOnce (deed_of p c i h).state.starts
 deed_once p c (Take stamp link m) h o = starts_once m h.starts (taking p c stamp link m h).state.starts (taking_after p c stamp link m h).0 o

@@ -92,7 +92,7 @@ facts_of p lives outside = record {
   Sent = SentAt p lives;
   Got = λ c t m b. TookMessage p lives c (msg.ViewerState (record { tenancy = t; visit = m })) b;
   Ordered = outside.Ordered;
-  Asked = λ c ask b. TookMessage p lives c (msg.Start ask false) b;
+  Asked = λ c ask b. TookMessage p lives c (msg.Start false ask) b;
   Reached = ReachedAt p lives;
   Gone = outside.Gone;
   Died = outside.Died;
@@ -104,7 +104,7 @@ facts_of p lives outside = record {
 -- the starts that cubs get: each is ordered, of an instance one is ordered and a cub gets one, and it has blocks
 pub record AreStarts (p : Params) (lives : Lives) (outside : Outside) : Type 0 where
   pub one_start : (c j k : ℕ) (s t : Stamp) (l m : LinkNo) (a b : Ask) (x y : Bool) → c < p.cubs → j < lives.count c → k < lives.count c
-      → lives.input c j ≡ Take s l (msg.Start a x) → lives.input c k ≡ Take t m (msg.Start b y) → a.instance.0 ≡ b.instance.0 → j ≡ k
-  pub ordered : (c i : ℕ) (s : Stamp) (l : LinkNo) (a : Ask) (x : Bool) → c < p.cubs → i < lives.count c → lives.input c i ≡ Take s l (msg.Start a x) → outside.Ordered a
+      → lives.input c j ≡ Take s l (msg.Start x a) → lives.input c k ≡ Take t m (msg.Start y b) → a.instance.0 ≡ b.instance.0 → j ≡ k
+  pub ordered : (c i : ℕ) (s : Stamp) (l : LinkNo) (a : Ask) (x : Bool) → c < p.cubs → i < lives.count c → lives.input c i ≡ Take s l (msg.Start x a) → outside.Ordered a
   pub one_order : (a b : Ask) → outside.Ordered a → outside.Ordered b → a.instance.0 ≡ b.instance.0 → a ≡ b
   pub counted : (a : Ask) → outside.Ordered a → IsAsk a

@@ -200,7 +200,7 @@ module _ (p : Params) (c : ℕ) where
   pub hearing_tells : (stamp : Stamp) (link : LinkNo) (m : Msg) (h : Store) → Tells p c h.view.lines (hearing p c stamp link m h)
   unfolding hearing
   hearing_tells stamp link (msg.ViewerState s) h = meeting_state_tells stamp s h
-  hearing_tells stamp link (msg.Start a redundant) h = meeting_start_tells a redundant h
+  hearing_tells stamp link (msg.Start redundant a) h = meeting_start_tells a redundant h
   hearing_tells stamp link (msg.Deschedule v tag) h = descheduling_tells stamp v tag h
   hearing_tells stamp link (msg.MirrorState x) h = meeting_piece_tells x h
   hearing_tells stamp link (msg.Kill v slot visit) h = meeting_kill_tells v visit h

@@ -122,7 +122,7 @@ module _ (p : Params) (plan : IsPlan p) (lives : Lives) (outside : Outside) (ord
       (λ d. absurd (omega arith))
       (after_insertion_moves p c stamp h x.0 x.1)
 
-  pub waits : {c : ℕ} {ask : Ask} {y b l : ℕ} (s n : ℕ) → TookMessage p lives c (msg.Start ask false) y → y ≤ b → TickedAt p lives c b l → s < p.slots → ask.disk.0 ≡ disk_of p n → c ≡ cub_of p n
+  pub waits : {c : ℕ} {ask : Ask} {y b l : ℕ} (s n : ℕ) → TookMessage p lives c (msg.Start false ask) y → y ≤ b → TickedAt p lives c b l → s < p.slots → ask.disk.0 ≡ disk_of p n → c ≡ cub_of p n
       → IsInWindow p l s n → StandsYet p (facts_of p lives outside) c s n b
       ⊎ IsOut p plan lives order.lived (states_formed p plan lives outside order) outside order.started c ask.instance.0 b
   waits {c} {ask} {y} {b} {l} s n g h w slot disk here window =

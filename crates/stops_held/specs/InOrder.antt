@@ -54,7 +54,7 @@ pub record AreInOrder (p : Params) (lives : Lives) (outside : Outside) : Type 0 
       → lives.input c i ≡ Take stamp link (msg.ViewerState (record { tenancy = t; visit = m })) → CameInOrder p lives c i t m stamp.beat
   -- and a deschedule without a tag behind the start of its instance
   pub starts : (c j k : ℕ) (s t : Stamp) (l m : LinkNo) (v : Instance) (a : Ask) (x : Bool) → c < p.cubs → j < lives.count c → k < lives.count c
-      → lives.input c j ≡ Take s l (msg.Deschedule v None) → lives.input c k ≡ Take t m (msg.Start a x) → a.instance.0 ≡ v.0 → k < j
+      → lives.input c j ≡ Take s l (msg.Deschedule v None) → lives.input c k ≡ Take t m (msg.Start x a) → a.instance.0 ≡ v.0 → k < j
 
 -- cubs that get their messages so meet the laws of held instances
 abbrev pub MeetTheHeldLaws : Params → Lives → Outside → Controller → Type 0

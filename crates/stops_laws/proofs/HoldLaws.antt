@@ -52,7 +52,7 @@ same_key o j k a b = let z : Some j ≡ Some k = sym a ∙ b in cc
 pub one_key : (p : Params) (c : ℕ) (stamp : Stamp) (m : Msg) (h : Store) (v : Instance) (j k : Key) → PassesOn p c stamp m h v j → PassesOn p c stamp m h v k → j ≡ k
 one_key p c stamp (msg.ViewerState s) h v j k a b = same_key _ j k a.1 b.1
 one_key p c stamp (msg.Deschedule u tag) h v j k a b = same_key _ j k a.1 b.1
-one_key p c stamp (msg.Start a redundant) h v j k q b = absurd q
+one_key p c stamp (msg.Start redundant a) h v j k q b = absurd q
 one_key p c stamp (msg.MirrorState x) h v j k q b = absurd q
 one_key p c stamp (msg.Kill u slot visit) h v j k q b = absurd q
 one_key p c stamp (msg.ReadDone want part) h v j k q b = absurd q
@@ -66,7 +66,7 @@ one_key p c stamp (msg.Piece want sent part) h v j k q b = absurd q
 pub must_on : (p : Params) (c : ℕ) (stamp : Stamp) (m : Msg) (h : Store) (v : Instance) (k : Key) → PassesOn p c stamp m h v k → must_pass (held_on p stamp m h) v ≡ true
 must_on p c stamp (msg.ViewerState s) h v k a = a.4
 must_on p c stamp (msg.Deschedule u tag) h v k a = subst (λ (w : Instance). must_pass (with_hold h.held w (stamp.reading + p.hold)) v ≡ true) (sym a.0) a.2
-must_on p c stamp (msg.Start a redundant) h v k q = absurd q
+must_on p c stamp (msg.Start redundant a) h v k q = absurd q
 must_on p c stamp (msg.MirrorState x) h v k q = absurd q
 must_on p c stamp (msg.Kill u slot visit) h v k q = absurd q
 must_on p c stamp (msg.ReadDone want part) h v k q = absurd q

@@ -67,7 +67,7 @@ all_passed v x (z ∷ zs) i e m = ⊎_elim
 pub one_pass : (p : Params) (c : ℕ) (stamp : Stamp) (m : Msg) (h : Store) (v w : Instance) (j k : Key) → PassesOn p c stamp m h v j → PassesOn p c stamp m h w k → v ≡ w
 one_pass p c stamp (msg.ViewerState s) h v w j k a b = sym a.2 ∙ b.2
 one_pass p c stamp (msg.Deschedule u tag) h v w j k a b = sym a.0 ∙ b.0
-one_pass p c stamp (msg.Start a redundant) h v w j k q b = absurd q
+one_pass p c stamp (msg.Start redundant a) h v w j k q b = absurd q
 one_pass p c stamp (msg.MirrorState x) h v w j k q b = absurd q
 one_pass p c stamp (msg.Kill u slot visit) h v w j k q b = absurd q
 one_pass p c stamp (msg.ReadDone want part) h v w j k q b = absurd q
@@ -96,7 +96,7 @@ held_back p stamp (msg.Deschedule v tag) h x i =
     (in_cases x h.held (new ∷ []) k))
     i
 held_back p stamp (msg.ViewerState s) h x i = inl i
-held_back p stamp (msg.Start a redundant) h x i = inl i
+held_back p stamp (msg.Start redundant a) h x i = inl i
 held_back p stamp (msg.MirrorState y) h x i = inl i
 held_back p stamp (msg.Kill u slot visit) h x i = inl i
 held_back p stamp (msg.ReadDone want part) h x i = inl i
@@ -112,7 +112,7 @@ held_forth p stamp (msg.Deschedule v tag) h x i =
     let new : Holding = record { instance = v; until = stamp.reading + p.hold; passed = false } in
     chosen (λ (xs : List Holding). In x xs) (is_held h.held v) h.held (h.held ++ new ∷ []) (λ _. i) (λ _. in_left x h.held (new ∷ []) i)
 held_forth p stamp (msg.ViewerState s) h x i = i
-held_forth p stamp (msg.Start a redundant) h x i = i
+held_forth p stamp (msg.Start redundant a) h x i = i
 held_forth p stamp (msg.MirrorState y) h x i = i
 held_forth p stamp (msg.Kill u slot visit) h x i = i
 held_forth p stamp (msg.ReadDone want part) h x i = i

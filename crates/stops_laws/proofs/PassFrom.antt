@@ -186,7 +186,7 @@ module _ (p : Params) (plan : IsPlan p) (lives : Lives) (are : AreLives p lives)
       subst (λ (v : Instance). How c v.0 s q y) a.0 (by_tag c i s q y l small low link u tag k is slot visit a.1)
   how_of c i s q y l small low link (msg.Deschedule u None) w k is slot visit a =
       by_record c i s q y l small low link w k (is ∙ ap (λ (v : Instance). Take (record { beat = y; reading = l }) link (msg.Deschedule v None)) a.0) slot visit (first_line w (store_at p c (lives.input c) i).view.lines k _ refl a.1)
-  how_of c i s q y l small low link (msg.Start b redundant) w k is slot visit a = absurd a
+  how_of c i s q y l small low link (msg.Start redundant b) w k is slot visit a = absurd a
   how_of c i s q y l small low link (msg.MirrorState x) w k is slot visit a = absurd a
   how_of c i s q y l small low link (msg.Kill u sl n) w k is slot visit a = absurd a
   how_of c i s q y l small low link (msg.ReadDone want part) w k is slot visit a = absurd a

@@ -83,7 +83,7 @@ pass_outs p c stamp link (msg.Deschedule w tag) h v k form a =
           (subst (λ (u : Instance). In o (descheduling p c stamp u tag h).outs) (sym a.0)
           (stop_outs p c stamp v tag h o (subst (λ (d : Deed Msg Store). In o d.outs) (sym (stop_pass p c stamp v tag k h a.1 a.2)) i))),
     )
-pass_outs p c stamp link (msg.Start b redundant) h v k form a = absurd a
+pass_outs p c stamp link (msg.Start redundant b) h v k form a = absurd a
 pass_outs p c stamp link (msg.MirrorState x) h v k form a = absurd a
 pass_outs p c stamp link (msg.Kill u slot visit) h v k form a = absurd a
 pass_outs p c stamp link (msg.ReadDone want part) h v k form a = absurd a

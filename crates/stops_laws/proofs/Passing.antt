@@ -95,7 +95,7 @@ module _ (p : Params) (c : ℕ) (stamp : Stamp) where
   pub hearing_held : (link : LinkNo) (m : Msg) (h : Store) → Held p c stamp m h (hearing p c stamp link m h)
   unfolding hearing
   hearing_held link (msg.ViewerState s) h = meeting_state_held s h
-  hearing_held link (msg.Start a redundant) h = other_held (msg.Start a redundant) h _ refl (λ v k q. q) (meeting_start_same a redundant h)
+  hearing_held link (msg.Start redundant a) h = other_held (msg.Start redundant a) h _ refl (λ v k q. q) (meeting_start_same a redundant h)
   hearing_held link (msg.Deschedule v tag) h = descheduling_held v tag h
   hearing_held link (msg.MirrorState x) h = other_held (msg.MirrorState x) h _ refl (λ v k q. q) (meeting_piece_same p c x h)
   hearing_held link (msg.Kill v slot visit) h = other_held (msg.Kill v slot visit) h _ refl (λ w k q. q) (meeting_kill_same v visit h)

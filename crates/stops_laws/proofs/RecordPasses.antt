@@ -52,7 +52,7 @@ first_some v (z ∷ zs) x i e =
 pub stop_of : (m : Msg) (q : Rec) → MayLeave m q → (v : Instance) × (tag : Option Tag) × (m ≡ msg.Deschedule v tag) × (q.tenancy.instance.0 ≡ v.0)
 stop_of (msg.Deschedule v tag) q k = (v, tag, refl, k)
 stop_of (msg.ViewerState s) q k = absurd k
-stop_of (msg.Start a redundant) q k = absurd k
+stop_of (msg.Start redundant a) q k = absurd k
 stop_of (msg.MirrorState x) q k = absurd k
 stop_of (msg.Kill w slot visit) q k = absurd k
 stop_of (msg.ReadDone want part) q k = absurd k

@@ -49,10 +49,10 @@ start_refused a redundant h held =
     (λ f. absurd (no_both (or_left (not (is_ask a) || is_held h.held a.instance) (shows h.view.lines a.instance) (or_right (not (is_ask a)) (is_held h.held a.instance) held)) f))
 
 pub start_taken : (p : Params) (c : ℕ) (stamp : Stamp) (link : LinkNo) (a : Ask) (redundant : Bool) (h : Store) → is_held h.held a.instance ≡ true
-    → (taking p c stamp link (msg.Start a redundant) h).state.starts ≡ h.starts
+    → (taking p c stamp link (msg.Start redundant a) h).state.starts ≡ h.starts
 unfolding taking hearing
 start_taken p c stamp link a redundant h held =
-    chosen (λ (d : Deed Msg Store). d.state.starts ≡ h.starts) (is_in_form p (noted (msg.Start a redundant))) (meeting_start a redundant h) (nothing h) (λ _. start_refused a redundant h held) (λ _. refl)
+    chosen (λ (d : Deed Msg Store). d.state.starts ≡ h.starts) (is_in_form p (noted (msg.Start redundant a))) (meeting_start a redundant h) (nothing h) (λ _. start_refused a redundant h held) (λ _. refl)
 
 -- a deschedule drops the starts of its instance
 pub without_none : (old : Queues) (v : Instance) (a : Ask) → a.instance.0 ≡ v.0 → IsQueued a (without_start old v) → ⊥
@@ -78,10 +78,10 @@ module _ (p : Params) (c : ℕ) (inputs : ℕ → Input Msg) where
       let from = s.from in
       let before = s.before in
       let at : s.at ≡ i = omega arith in
-      let is : inputs i ≡ Take s.stamp s.link (msg.Start a s.redundant) = ap inputs (sym at) ∙ s.is in
+      let is : inputs i ≡ Take s.stamp s.link (msg.Start s.redundant a) = ap inputs (sym at) ∙ s.is in
       ⊎_elim
       (λ (t : is_held (store_at p c inputs i).held a.instance ≡ true).
-      let now : IsQueued a (taking p c s.stamp s.link (msg.Start a s.redundant) (store_at p c inputs i)).state.starts =
+      let now : IsQueued a (taking p c s.stamp s.link (msg.Start s.redundant a) (store_at p c inputs i)).state.starts =
       subst (λ (x : Input Msg). IsQueued a (deed_of p c x (store_at p c inputs i)).state.starts) is q in
       inl (subst (λ (w : Queues). IsQueued a w) (start_taken p c s.stamp s.link a s.redundant (store_at p c inputs i) t) now))
       (λ (t : is_held (store_at p c inputs i).held a.instance ≡ false). inr (record { at = i; from = omega arith; before = omega arith; free = t }))

@@ -50,7 +50,7 @@ pub hushed_one : (T : LinkNo → Instance → Option Tag → Type 0) (o : Out Ms
 hushed_one T (out.Act other) q = tt
 hushed_one T (out.Send link (msg.Deschedule v tag)) q = absurd q
 hushed_one T (out.Send link (msg.ViewerState s)) q = tt
-hushed_one T (out.Send link (msg.Start a redundant)) q = tt
+hushed_one T (out.Send link (msg.Start redundant a)) q = tt
 hushed_one T (out.Send link (msg.MirrorState x)) q = tt
 hushed_one T (out.Send link (msg.Kill v slot visit)) q = tt
 hushed_one T (out.Send link (msg.ReadDone want part)) q = tt
@@ -68,7 +68,7 @@ pub meek_one : (T : LinkNo → Instance → Option Tag → Type 0) (o : Out Msg)
 meek_one T (out.Act other) q = tt
 meek_one T (out.Send link (msg.Deschedule v tag)) q = absurd q
 meek_one T (out.Send link (msg.ViewerState s)) q = tt
-meek_one T (out.Send link (msg.Start a redundant)) q = tt
+meek_one T (out.Send link (msg.Start redundant a)) q = tt
 meek_one T (out.Send link (msg.MirrorState x)) q = tt
 meek_one T (out.Send link (msg.Kill v slot visit)) q = tt
 meek_one T (out.Send link (msg.ReadDone want part)) q = tt
@@ -163,7 +163,7 @@ module _ (p : Params) (c : ℕ) (stamp : Stamp) where
   pub hearing_tagged : (link : LinkNo) (m : Msg) (h : Store) → AreTagged (GoesOut p c stamp m h) (hearing p c stamp link m h).outs
   unfolding hearing
   hearing_tagged link (msg.ViewerState s) h = meeting_state_tagged s h
-  hearing_tagged link (msg.Start a redundant) h = hushed_tagged _ _ (meeting_start_silent p c Never Nobody a redundant h).quiet
+  hearing_tagged link (msg.Start redundant a) h = hushed_tagged _ _ (meeting_start_silent p c Never Nobody a redundant h).quiet
   hearing_tagged link (msg.Deschedule v tag) h = descheduling_tagged v tag h
   hearing_tagged link (msg.MirrorState x) h = hushed_tagged _ _ (meeting_piece_silent p c Never Nobody x h).quiet
   hearing_tagged link (msg.Kill v slot visit) h = hushed_tagged _ _ (meeting_kill_silent p c Never Nobody v visit h).quiet

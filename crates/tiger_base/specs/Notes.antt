@@ -9,7 +9,7 @@ use Rattle.tiger_base.specs.declared.message.Note.TheVariants as note
 abbrev pub noted : Msg → Note
 noted (msg.ViewerState state) = note.ViewerState state
 noted (msg.MirrorState state) = note.MirrorState state
-noted (msg.Start ask redundant) = note.Start ask redundant
+noted (msg.Start redundant ask) = note.Start redundant ask
 noted (msg.Deschedule instance tag) = note.Deschedule instance tag
 noted (msg.Kill instance slot visit) = note.Kill instance slot visit
 noted (msg.Placed tenancy) = note.Placed tenancy

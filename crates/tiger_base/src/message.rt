@@ -16,8 +16,9 @@ pub enum Msg<'a> {
     MirrorState(PieceState),
     /// The controller's order to begin; the redundant one waits until the first receiver is dead.
     Start {
-        ask: Ask,
+        // It stands beside the tag: a single byte behind the order would cut each copy of any message in two there.
         redundant: bool,
+        ask: Ask,
     },
     /// The order to drop all that is of an instance.
     Deschedule {
@@ -61,8 +62,8 @@ pub enum Note {
     ViewerState(State),
     MirrorState(PieceState),
     Start {
-        ask: Ask,
         redundant: bool,
+        ask: Ask,
     },
     Deschedule {
         instance: Instance,

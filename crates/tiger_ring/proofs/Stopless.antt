@@ -197,7 +197,7 @@ hearing_beat_quiet p c stamp link h =
 hearing_quiet : (p : Params) (c : ℕ) (stamp : Stamp) (link : LinkNo) (m : Msg) → AreQuiet (hearing p c stamp link m)
 unfolding hearing
 hearing_quiet p c stamp link (msg.ViewerState s) h = meeting_state_quiet p c stamp s h
-hearing_quiet p c stamp link (msg.Start a redundant) h = meeting_start_quiet a redundant h
+hearing_quiet p c stamp link (msg.Start redundant a) h = meeting_start_quiet a redundant h
 hearing_quiet p c stamp link (msg.Deschedule v tag) h = descheduling_quiet p c stamp v tag h
 hearing_quiet p c stamp link (msg.MirrorState x) h = meeting_piece_quiet p c x h
 hearing_quiet p c stamp link (msg.Kill v slot visit) h = meeting_kill_quiet v visit h
