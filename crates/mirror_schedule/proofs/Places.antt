@@ -58,6 +58,12 @@ module _ {X : Type 0} (before : X → X → Bool) where
       let rest = place_most x ys in
       elim (before y x) as (λ t. cond t (suc (place_of before x ys)) zero ≤ suc (length ys)) [ true ↦ omega arith | false ↦ omega arith ]
 
+  -- behind the last element, an element is behind all
+  pub place_behind : IsOrder before → (x : X) (xs : List X) (i : ℕ) (d : X) → IsSorted before xs → i + 1 ≡ length xs → before (get_or xs i d) x ≡ true → place_of before x xs ≡ length xs
+  place_behind order x xs i d s last h =
+      let more = place_above order x xs i d s (omega (arith, last)) h in
+      omega (arith, last, more, place_most x xs)
+
   -- at the place stands an element that comes behind the given one, or one that is the same
   gap_step : IsOrder before → (x y : X) (ys : List X) (n : ℕ) → before y x ≡ true → gap_from before x n (y ∷ ys) ≡ gap_from before x (n + 1) ys
   gap_step order x y ys n e = rw (asymmetric order y x e, e) refl

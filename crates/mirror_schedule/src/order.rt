@@ -62,7 +62,7 @@ pub(crate) fn is_behind(given: &Option<TimedPiece>, x: &TimedPiece) -> bool
     }
 }
 
-/// The place of a new piece among some in their order, found by halving; `None` if it is there.
+/// The place of a new piece among some in their order; `None` if it is there.
 pub(crate) fn gap_for(items: &VecDeque<TimedPiece>, x: &TimedPiece) -> Option<usize>
     requires { IsSorted timed_before items.now.items }
     ensures { result ≡ gap_from timed_before x.now 0 items.now.items }
@@ -77,6 +77,21 @@ pub(crate) fn gap_for(items: &VecDeque<TimedPiece>, x: &TimedPiece) -> Option<us
 
 /// How many pieces come before the given one, of some in their order.
 pub(crate) fn first_not_before(items: &VecDeque<TimedPiece>, x: &TimedPiece) -> usize
+    requires { IsSorted timed_before items.now.items }
+    ensures place { result ≡ place_of timed_before x.now items.now.items }
+    ensures inside { result ≤ length items.now.items }
+{
+    let many = items.len();
+    // A new piece mostly comes behind all others, and then one comparison finds its place.
+    if many > 0 && comes_before(&items[many - 1], x) {
+        many
+    } else {
+        halved(items, x)
+    }
+}
+
+/// How many pieces come before the given one, of some in their order, found by halving.
+fn halved(items: &VecDeque<TimedPiece>, x: &TimedPiece) -> usize
     requires { IsSorted timed_before items.now.items }
     ensures place { result ≡ place_of timed_before x.now items.now.items }
     ensures inside { result ≤ length items.now.items }

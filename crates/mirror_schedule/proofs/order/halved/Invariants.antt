@@ -1,7 +1,7 @@
 use Rattle.std.proofs.Common.{◌-◌, ◌≤◌, length}
 use Rattle.mirror_schedule.specs.TimedPieces.{timed_before}
 use Rattle.mirror_schedule.specs.Sorted.{place_of}
-use Rattle.mirror_schedule.proofs.order.first_not_before.Given as goal
+use Rattle.mirror_schedule.proofs.order.halved.Given as goal
 
 abbrev pub invariant-loop-low : goal.invariant-loop-low
 invariant-loop-low l = record {
