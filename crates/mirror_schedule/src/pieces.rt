@@ -1,7 +1,7 @@
 //! The pieces that a cub is to send.
 ghost use Rattle.std.specs.Prelude.{◌≡◌, ◌≤◌, [], length, nat_le, not, filter, drop, count_by, find, position, option_map, IfOk, OnOk, OnErr, IfSome};
 ghost use Rattle.std.specs.Option.{ForSome};
-ghost use Rattle.std.specs.List.{list_any};
+ghost use Rattle.std.specs.List.{insert, list_any};
 ghost use Rattle.tiger_base.specs.Records.{same_want, want_of_piece};
 ghost use Rattle.mirror_schedule.specs.Pieces.{IsPieceOf, IsPieces, is_same, is_in, is_behind, with_piece, is_of_visit, is_of, leaves_by};
 ghost use Rattle.mirror_schedule.specs.Choices.{covers};
@@ -61,7 +61,7 @@ impl PieceView {
         let timed = (piece, leaving(&self.plan, &piece));
         match gap_for(&self.items, &timed) {
             Some(place) => {
-                self.items.insert(place, timed)?;
+                put_in(&mut self.items, place, timed)?;
                 Ok(true)
             }
             None => Ok(false),
@@ -142,6 +142,21 @@ impl PieceView {
     {
         leave_out(&mut self.items, wanted)
     }
+}
+
+/// Puts a piece in at a place among some. Without memory for it nothing changes.
+fn put_in(items: &mut VecDeque<TimedPiece>, place: usize, x: TimedPiece) -> Result<(), NoMemory>
+    requires { place ≤ length items.old.items }
+    ensures ok { OnOk result (items.new.items ≡ insert items.old.items place x) }
+    ensures err { OnErr result (items.new.items ≡ items.old.items) }
+{
+    // A new piece mostly comes behind all others, and `push_back` looks for none to move.
+    if place == items.len() {
+        items.push_back(x)?;
+    } else {
+        items.insert(place, x)?;
+    }
+    Ok(())
 }
 
 /// Which pieces are to be removed.
