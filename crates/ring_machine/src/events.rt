@@ -29,8 +29,8 @@ pub fn take<M: Message, T: Node<M>>(
         member.old member.new channels.old.items channels.new.items) }
     ensures journal { OnErr result (member.new.past.journal ≡ member.old.past.journal) }
 {
-    let mut entries = living::take(alloc, stamp, link, msg, &mut member.node, channels)?;
-    mark(stamp, &mut entries, member)
+    let entries = living::take(alloc, stamp, link, msg, &mut member.node, channels)?;
+    mark(stamp, entries, member)
 }
 
 /// The member ends its beat.
@@ -48,8 +48,8 @@ pub fn tick<M: Message, T: Node<M>>(
         member.old member.new channels.old.items channels.new.items) }
     ensures journal { OnErr result (member.new.past.journal ≡ member.old.past.journal) }
 {
-    let mut entries = living::tick(alloc, stamp, &mut member.node, channels)?;
-    mark(stamp, &mut entries, member)?;
+    let entries = living::tick(alloc, stamp, &mut member.node, channels)?;
+    mark(stamp, entries, member)?;
     member.ticked += 1;
     Ok(())
 }
@@ -71,12 +71,12 @@ pub fn die<T>(stamp: Stamp, member: &mut Member<T>) -> Result<(), NoMemory>
 }
 
 /// Adds what an event wrote to the journal, and notes when the event was. Without memory nothing changes.
-fn mark<T>(stamp: Stamp, entries: &mut Journal, member: &mut Member<T>) -> Result<(), NoMemory>
+fn mark<T>(stamp: Stamp, entries: Journal, member: &mut Member<T>) -> Result<(), NoMemory>
     requires { stamp.beat ≤ most_beats }
-    ensures ok { OnOk result (member.new ≡ marked stamp entries.old member.old) }
+    ensures ok { OnOk result (member.new ≡ marked stamp entries member.old) }
     ensures err { OnErr result (member.new ≡ member.old) }
 {
-    member.journal.entries.append(&mut entries.entries)?;
+    member.journal.append(entries)?;
     member.acted = stamp.beat + 1;
     member.reading = stamp.reading;
     Ok(())
