@@ -1,8 +1,9 @@
 -- The tables of the first journals, once one more is read; and those of all journals.
-use Rattle.std.proofs.Common.{◌≡◌, ◌≢◌, ℕ, zero, suc, ◌+◌, List, [], ◌∷◌, ◌++◌, Bool, true, false, ◌||◌, ◌==◌, take, is_some, if◌then◌else◌, arith, refl, sym, ap, subst, ◌∙◌}
+use Rattle.std.proofs.Common.{◌≡◌, ◌≢◌, ℕ, zero, suc, ◌+◌, ◌<◌, ◌≤◌, List, [], ◌∷◌, ◌++◌, Bool, true, false, ◌||◌, ◌==◌, length, take, get_or, unwrap_or, is_some, if◌then◌else◌, arith, refl, sym, ap, subst, ◌∙◌}
 use Rattle.std.specs.List.{flat_map, list_any}
 use Rattle.std.proofs.lemmas.Bool.{eqb-true, eq-eqb, false≢true}
 use Rattle.std.proofs.lemmas.List.{append-nil, append_assoc}
+use Rattle.std.proofs.lemmas.Option.{slice_get_read, slice_get_past}
 use Rattle.std.proofs.lemmas.List.Concat.{flat_map-append}
 use Rattle.std.proofs.lemmas.List.Folds.{list_any-append}
 use Rattle.std.proofs.Math.Numerals.{add-one}
@@ -19,7 +20,7 @@ use Rattle.run_report.specs.Tables.{Beats, beat_under, key_at, put_under, AreTab
 use Rattle.run_report.specs.Told.{role_of, TellsOf, of_controller, of_viewers, HasRead, IsToldBy}
 
 -- the same entries, said otherwise
-same_entries : (p : Params) (t : Told) (x y x2 y2 x3 y3 : List Entry) → x ≡ y → x2 ≡ y2 → x3 ≡ y3
+pub same_entries : (p : Params) (t : Told) (x y x2 y2 x3 y3 : List Entry) → x ≡ y → x2 ≡ y2 → x3 ≡ y3
     → TellsOf p x x2 x3 t → TellsOf p y y2 y3 t
 same_entries p t x y x2 y2 x3 y3 all controller viewers told = rw (← all, ← controller, ← viewers) told
 
@@ -118,6 +119,17 @@ told_more p js n role journal old new its own read told =
     let step : HasRead p (role_of p n) (journal_at js n) old new = rw (← its, ← own) read in
     rw (add-one n)
     (same_entries p new _ _ _ _ _ _ (sym (joined_more js n)) (controller_more p js n) (viewers_more p js n) (step _ _ _ told))
+
+-- a node that stands among the journals has the one at its place, and any other an empty one
+pub journal-there : (js : List (List Entry)) (n : ℕ) (journal : List Entry) → n < length js
+    → journal ≡ get_or js n journal → journal ≡ journal_at js n
+unfolding journal_at
+journal-there js n journal low is =
+    sym (ap (λ o. unwrap_or o []) (slice_get_read js (length js) n journal refl low is))
+
+pub journal-past : (js : List (List Entry)) (n : ℕ) → length js ≤ n → [] ≡ journal_at js n
+unfolding journal_at
+journal-past js n past = sym (ap (λ o. unwrap_or o []) (slice_get_past js n past))
 
 -- ---- all journals
 

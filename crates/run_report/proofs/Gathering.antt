@@ -44,7 +44,7 @@ earliest-append (x ∷ xs) ys =
     ap (λ o. Some (sooner x o)) (earliest-append xs ys)
     ∙ (ap (λ y. Some y) (sooner_of x (earliest xs) (earliest ys)) ∙ sym (both_sooner (sooner x (earliest xs)) (earliest ys)))
 
-flat_map-push : {A : Type 0} (f : Entry → List A) (es : List Entry) (e : Entry) → flat_map f (es ++ e ∷ []) ≡ flat_map f es ++ f e
+pub flat_map-push : {A : Type 0} (f : Entry → List A) (es : List Entry) (e : Entry) → flat_map f (es ++ e ∷ []) ≡ flat_map f es ++ f e
 flat_map-push f es e = flat_map-append f es (e ∷ []) ∙ ap (λ ys. flat_map f es ++ ys) (append-nil (f e))
 
 find_one : (v : ℕ) (e : Entry) → option_map (λ e. e.stamp.beat) (find (λ e. is_gone_of v e.what) (e ∷ []))

@@ -4,6 +4,7 @@ pub mod Lookups
 pub mod Rowed
 pub mod Gathering
 pub mod Fronts
+pub mod Telling
 pub mod Forms
 pub mod Settled
 pub mod Came

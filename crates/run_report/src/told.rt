@@ -35,17 +35,6 @@ fn role_of(plan: &Plan, node: usize) -> Role
     }
 }
 
-/// The journal of a node; that of a node that has none is empty.
-#[tactic(auto, unfolding(run_model::specs::Served::journal_at))]
-fn journal_at(journals: &[Journal], node: usize) -> &[Entry]
-    ensures { result.now ≡ journal_at journals.now node }
-{
-    match journals.get(node) {
-        Some(journal) => journal.as_slice(),
-        None => &[],
-    }
-}
-
 /// What journals tell of each instance and visit, with a table for each question.
 #[derive(Drop)]
 pub struct Told {
@@ -92,19 +81,20 @@ impl Told {
     }
 
     /// Keeps what a journal tells, and gives the beats of the deaths in it.
-    #[tactic(auto, unfolding(crate::specs::Tables::deaths_in))]
     fn read(
         &mut self,
         alloc: Global,
         plan: &Plan,
         role: Role,
-        journal: &[Entry],
+        journal: &Journal,
     ) -> Result<Sequence<Beat>, NoMemory>
         ensures told { IfOk result (λ _. HasRead plan.now.params role journal.now self.old self.new) }
         ensures deaths { IfOk result (λ deaths. deaths ≡ deaths_in journal.now) }
     {
         let mut deaths = Sequence::new(Vec::new(alloc));
-        for e in journal {
+        // All other entries put nothing into a table, and there are many more of them.
+        for place in journal.telling() {
+            let e = &journal.as_slice()[*place];
             self.keep(plan, role, e)?;
             push_death(&mut deaths, e)?;
         }
@@ -124,8 +114,10 @@ impl Told {
             (take (node + 1) journals.now) self.new) }
         ensures deaths { IfOk result (λ deaths. deaths ≡ deaths_in (journal_at journals.now node)) }
     {
-        let role = role_of(plan, node);
-        self.read(alloc, plan, role, journal_at(journals, node))
+        match journals.get(node) {
+            Some(journal) => self.read(alloc, plan, role_of(plan, node), journal),
+            None => Ok(Sequence::new(Vec::new(alloc))),
+        }
     }
 
     /// Keeps what the journals of the cubs tell, which stand first, and gives the beats in which
