@@ -1,5 +1,5 @@
 -- What a change of a list is behind its first elements, which are gone.
-use Rattle.std.proofs.Common.{◌≡◌, ℕ, ◌+◌, ◌-◌, ◌<◌, ◌≤◌, zero, suc, List, [], ◌∷◌, ◌++◌, length, take, drop, ap, sym, ◌∙◌, arith}
+use Rattle.std.proofs.Common.{◌≡◌, ℕ, ◌+◌, ◌-◌, ◌<◌, ◌≤◌, zero, suc, List, [], ◌∷◌, ◌++◌, length, take, drop, refl, ap, sym, ◌∙◌, arith}
 use Rattle.std.specs.List.{insert, remove}
 use Rattle.std.proofs.lemmas.List.{append_assoc, length-drop, length-take-le, take-take, drop-drop, drop_at}
 use borrow.Rule.Slice.PartMut.{put_mid}
@@ -43,3 +43,13 @@ module _ {X : Type 0} where
       ∙ ap (drop 1) (append_assoc (drop count (take k zs)) (take count zs) (drop k zs))
       ∙ drop_at (drop count (take k zs)) (take count zs ++ drop k zs) 1 one
       ∙ ap (λ l. take count zs ++ l) behind
+
+  -- one place later on, the first element is gone
+  pub first-gone : (from count : ℕ) (xs : List X) → count ≤ 0 → drop (from + 1) xs ≡ remove (drop from xs) count
+  first-gone from count xs none =
+      let is : count ≡ 0 = omega (arith, none) in
+      sym (drop-drop 1 from xs) ∙ (one (drop from xs) ∙ ap (λ n. remove (drop from xs) n) (sym is))
+    where
+      one : (zs : List X) → drop 1 zs ≡ remove zs 0
+      one [] = refl
+      one (z ∷ zs) = refl

@@ -130,7 +130,10 @@ fn move_up<T: Copy>(items: &mut [T], from: usize, count: usize)
     ensures left { drop (from + 1) items.new ≡ remove (drop from items.old) count }
     ensures len { length items.new ≡ length items.old }
 {
-    items[from..from + count + 1].rotate_right(1);
+    // The first element mostly goes, and a turn of one element would cost as much as another.
+    if 0 < count {
+        items[from..from + count + 1].rotate_right(1);
+    }
 }
 
 /// Moves the last element to a place, and those from there on up by one. It does so by a turn, which
@@ -141,5 +144,8 @@ fn move_down<T: Copy>(items: &mut [T], place: usize)
         → items.new ≡ insert items_before place item }
     ensures len { length items.new ≡ length items.old }
 {
-    items[place..].rotate_right(1);
+    // A new element mostly stays at the end, and a turn of one would cost as much as another.
+    if place < items.len() - 1 {
+        items[place..].rotate_right(1);
+    }
 }
