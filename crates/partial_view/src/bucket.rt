@@ -8,7 +8,7 @@ ghost use Rattle.partial_view.specs.Views.{Seen, IsWalk, line_at, first_of, next
 ghost use Rattle.partial_view.specs.Work.{is_left, first_between, NoneBetween};
 
 use crate::line::{Flag, Line, Work};
-use crate::search::{from_near, place_in};
+use crate::search::{from_near, place_in, place_near};
 use crate::timed::TimedLines;
 use crate::view::Added;
 use slot_plan::Plan;
@@ -20,6 +20,9 @@ use tiger_base::{Instance, Micros, NoMemory, Rec, SlotNo, Visit};
 #[derive(Drop)]
 pub(crate) struct Bucket {
     lines: TimedLines,
+    // About where the record stands that was added last: mostly the next one comes right behind it,
+    // though others, that came before them, are due later.
+    recent: usize,
 }
 
 impl Model for Bucket {
@@ -39,6 +42,7 @@ impl Bucket {
     {
         Bucket {
             lines: TimedLines::new(alloc, plan),
+            recent: 0,
         }
     }
 
@@ -78,7 +82,8 @@ impl Bucket {
         ensures err { OnErr result (self.new ≡ self.old) }
     {
         let key = (rec.tenancy.slot, rec.visit);
-        let row = place_in(self.lines.lines(), self.lines.dues(), key, due);
+        let row = place_near(self.lines.lines(), self.lines.dues(), self.recent, key, due);
+        self.recent = row;
         if let Some(there) = self.lines.lines().get(row) {
             if there.key() == key {
                 return Ok(known(rec.tenancy.instance, there.rec.tenancy.instance));
@@ -190,6 +195,8 @@ impl Bucket {
         }) }
     {
         self.lines.remove(row);
+        // Mostly the first line is taken, and the others stand one place earlier then.
+        self.recent = self.recent.saturating_sub(1);
     }
 
     /// Removes all lines of an instance, and says how many there were.

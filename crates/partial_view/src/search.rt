@@ -37,6 +37,53 @@ pub(crate) fn place_in(lines: &[Line], dues: &[Micros], key: (SlotNo, Visit), du
     halve(lines, dues, key, due, FEW, len)
 }
 
+/// How many of some lines come before a visit whose due time is at hand. The lines behind a place are
+/// looked at first, and any place serves.
+pub(crate) fn place_near(
+    lines: &[Line],
+    dues: &[Micros],
+    near: usize,
+    key: (SlotNo, Visit),
+    due: Micros,
+) -> usize
+    requires { length lines.now ≡ length dues.now }
+    ensures { (p : Params) → AreTimed p lines.now dues.now → due ≡ due_of p key
+        → result ≡ place_of p key lines.now }
+{
+    if is_by(lines, dues, near, key, due) {
+        place_in(lines, dues, key, due)
+    } else {
+        place_behind(lines, dues, near + 1, key, due)
+    }
+}
+
+/// How many of some lines come before a visit whose due time is at hand, given a number that it is
+/// at least. The next few lines are looked at one by one, and only then the others are halved.
+fn place_behind(
+    lines: &[Line],
+    dues: &[Micros],
+    least: usize,
+    key: (SlotNo, Visit),
+    due: Micros,
+) -> usize
+    requires len { length lines.now ≡ length dues.now }
+    requires least { least ≤ length lines.now }
+    ensures { (p : Params) → AreTimed p lines.now dues.now → due ≡ due_of p key
+        → least ≤ place_of p key lines.now
+        → result ≡ place_of p key lines.now }
+{
+    let len = lines.len();
+    let end = least.saturating_add(NEAR).min(len);
+    let mut low = least;
+    while low < end {
+        if is_by(lines, dues, low, key, due) {
+            return low;
+        }
+        low += 1;
+    }
+    halve(lines, dues, key, due, low, len)
+}
+
 /// How many of some lines come before a visit whose due time is at hand, if it is known that so
 /// many do at least and at most.
 fn halve(
