@@ -281,3 +281,13 @@ unfolding first_between
 found_fits p test from to lines x r w found =
     let key : IsKey p (key_of x) = found-key p (is_between p test from to) lines (Some x) w found in
     due_fits p x.rec.tenancy.slot.0 x.rec.visit r key.0 key.1
+
+-- of a new own record no visit is to be split, and of a new backup record no state is to be forwarded and no block to be asked for
+pub own-split : (r : Rec) (b : Bool) → b ≡ is_own r.kind → b ≡ true → is_unsplit (unmarked r) ≡ true → ⊥
+own-split r b is own h = both_ways (is_unsplit (unmarked r)) (ap (λ (a : Bool). not a && not false) (sym is ∙ own)) h
+
+pub backup-pending : (r : Rec) (b : Bool) → b ≡ is_own r.kind → b ≡ false → is_pending (unmarked r) ≡ true → ⊥
+backup-pending r b is backup h = both_ways (is_pending (unmarked r)) (ap (λ (a : Bool). a && nat_lt r.visit r.tenancy.last && not false) (sym is ∙ backup)) h
+
+pub backup-unasked : (r : Rec) (b : Bool) → b ≡ is_own r.kind → b ≡ false → is_unasked (unmarked r) ≡ true → ⊥
+backup-unasked r b is backup h = both_ways (is_unasked (unmarked r)) (ap (λ (a : Bool). a && not false) (sym is ∙ backup)) h

@@ -118,17 +118,20 @@ impl CubView {
         let due = self.plan.due(rec.tenancy.slot, rec.visit);
         let added = self.view.add_due(rec, due)?;
         if let Added::New = added {
-            let next = due + self.plan.params.play;
-            self.forwarded_between = free_between(
-                self.forwarded_between,
-                self.forwarded_to,
-                rec,
-                next,
-            );
-            self.forwarded_to = forwarded_before(self.forwarded_to, rec, next);
-            self.asked_before = asked_until(self.asked_before, rec, due);
-            self.split_from = split_after(self.split_from, rec, due);
-            self.split_between.1 = split_until(self.split_between, rec, due);
+            if rec.kind.is_own() {
+                let next = due + self.plan.params.play;
+                self.forwarded_between = free_between(
+                    self.forwarded_between,
+                    self.forwarded_to,
+                    rec,
+                    next,
+                );
+                self.forwarded_to = forwarded_before(self.forwarded_to, rec, next);
+                self.asked_before = self.asked_before.min(due);
+            } else {
+                self.split_from = split_after(self.split_from, due);
+                self.split_between.1 = split_until(self.split_between, due);
+            }
         }
         Ok(added)
     }
@@ -488,40 +491,21 @@ fn longer(one: (Micros, Micros), other: (Micros, Micros)) -> (Micros, Micros)
     }
 }
 
-/// The given time, or the next one after the record is due, if its visit is to be split and this
-/// is later.
-fn split_after(time: Micros, rec: Rec, due: Micros) -> Micros
+/// The given time, or the next one after a visit is due that is to be split, if this is later.
+fn split_after(time: Micros, due: Micros) -> Micros
     requires { due ≤ 2 ^ 63 }
     ensures later { time ≤ result }
-    ensures after { is_unsplit (unmarked rec) ≡ true → due < result }
+    ensures after { due < result }
 {
-    if rec.kind.is_own() {
-        return time;
-    }
     if due < time { time } else { due + 1 }
 }
 
-/// The given time, or that at which the record is due, if its block is to be asked for and this is
-/// earlier.
-fn asked_until(time: Micros, rec: Rec, due: Micros) -> Micros
-    ensures earlier { result ≤ time }
-    ensures until { is_unasked (unmarked rec) ≡ true → result ≤ due }
-{
-    if !rec.kind.is_own() {
-        return time;
-    }
-    if due < time { due } else { time }
-}
-
-/// The second of two times, or that at which the record is due, if its visit is to be split and
-/// this is not before the first.
-fn split_until(times: (Micros, Micros), rec: Rec, due: Micros) -> Micros
+/// The second of two times, or that at which a visit is due that is to be split, if this is between
+/// them.
+fn split_until(times: (Micros, Micros), due: Micros) -> Micros
     ensures earlier { result ≤ times.1 }
-    ensures until { is_unsplit (unmarked rec) ≡ true → times.0 ≤ due → result ≤ due }
+    ensures until { times.0 ≤ due → result ≤ due }
 {
-    if rec.kind.is_own() {
-        return times.1;
-    }
     if times.0 <= due && due < times.1 {
         due
     } else {
