@@ -1,6 +1,8 @@
 -- The events of a node: what they make of it and of the links.
-use Rattle.std.proofs.Common.{◌≡◌, ℕ, List, [], ◌∷◌, ◌++◌, map, length, Bool, true, false, refl, ap, sym, ◌∙◌, subst, append_assoc, arith, cond}
-use Rattle.std.specs.Prelude.{Result, Ok, Err, OnOk, slice_get, nat_le}
+use Rattle.std.proofs.Common.{◌≡◌, ℕ, zero, suc, ◌+◌, ◌<◌, ◌≤◌, List, [], ◌∷◌, ◌++◌, map, drop, add-one, length, Bool, true, false, Some, None, refl, ap, sym, ◌∙◌, subst, append_assoc, arith, ⊎_elim}
+use Rattle.std.specs.Prelude.{Result, Ok, Err, OnOk, slice_get}
+use Rattle.std.proofs.lemmas.Bool.{cases_Bool}
+use Rattle.std.proofs.lemmas.Option.{none-some}
 use Rattle.std.specs.List.{AllByRecursion}
 use Rattle.tiger_base.specs.declared.number.Stamp.{Stamp}
 use Rattle.tiger_base.specs.declared.number.LinkNo.{LinkNo}
@@ -14,17 +16,17 @@ use Rattle.node_kit.specs.Links.{links_of, link_count, IsInLink}
 use Rattle.node_kit.specs.Steps.{Input, Deed, Acts, Rests, IsAllowed, entry_of}
 use Rattle.node_kit.specs.Steps.Input.{Take, Tick}
 use Rattle.node_kit.proofs.Ring.{ends_counted}
-use Rattle.run_facts.specs.declared.mail.Flight.{Flight}
 use Rattle.run_facts.specs.declared.mail.Letter.{Letter}
-use Rattle.ring_engine.specs.Traffic.{posted, flights_at, letters_on, emptied, collected, after_collecting, AreOpen, IsPostable, IsLink}
+use Rattle.ring_engine.specs.Traffic.{posted, letters_on, emptied, without_first, collected, after_collecting, AreOpen, IsPostable, IsLink}
 use Rattle.run_facts.specs.Rings.{Traffic}
-use Rattle.run_facts.specs.Beats.{arrived, is_taken, letter_events, end_events, beat_events}
+use Rattle.run_facts.specs.Beats.{is_taken, letter_events, end_events, beat_events}
 use Rattle.run_facts.specs.Events.{NodeEvent, Past, after, after_all, after_input, kept_outs, AreFair}
 use Rattle.run_facts.specs.Events.NodeEvent.{Does, Dies}
 use Rattle.run_facts.proofs.Along.{fair-append}
 use Rattle.run_facts.proofs.Beats.{end-acting, rests-past, rests-outs}
-use Rattle.ring_engine.specs.Turns.{Scene, scene, turn, happens, happen, links_of_letters, IsReady, IsReadyFor, KeepsReady}
-use Rattle.ring_engine.proofs.Arriving.{length-posted, length-after_collecting, AreOpen-posted, AreOpen-after_collecting}
+use Rattle.ring_engine.specs.Turns.{Scene, scene, turn, happens, happen, brought, brought_on, IsReady, IsReadyFor, KeepsReady}
+use Rattle.ring_engine.proofs.Arriving.{length-posted, length-without_first, AreOpen-posted, AreOpen-emptied, AreOpen-without_first}
+use Rattle.ring_engine.proofs.Commuting.{Waits, one-waits, all-wait, AreOfBeat, found-after, left-after, letters_on-first, emptied-first, emptied-none, without-none, nothing-first}
 use Rattle.ring_engine.proofs.Delivering.{postable-allowed}
 
 pub both-ok : {T E : Type 0} (P Q : Type 0) (r : Result T E) → OnOk r P → OnOk r Q → OnOk r (P × Q)
@@ -98,7 +100,7 @@ ready-event note step stands i s s' before after kept life life' j j' beat ts ts
   record {
     stands_here = acted.stays p n r.stands_here;
     count = r.count ∙ sym (ap length sent ∙ length-posted beat kept ts);
-    unsent = subst (AreOpen beat) (sym sent) (AreOpen-posted beat kept ts r.unsent);
+    are_open = subst (AreOpen beat) (sym sent) (AreOpen-posted beat kept ts r.are_open);
   },
   (fair-event step (IsAllowed note p n) i (record { state = s; life = life; journal = j }) (acted.allowed p n r.stands_here), tt),
 )
@@ -121,62 +123,6 @@ pub unheard-keeps : {M S : Type 0} (note : M → Note) (step : S → Input M →
     → is_taken old.past.life l.sent stamp.beat ≡ false → KeepsReady note step stands stamp.beat (letter_events note step stamp (l ∷ []) old.past) old old
 unheard-keeps note step stands stamp l old lost = rw lost (λ p n r. (r, tt))
 
--- one letter further
-happen-on : {M S : Type 0} (note : M → Note) (step : S → Input M → Deed M S) (stamp : Stamp) (e : NodeEvent M) (rest : List (Letter M)) (old new : Scene M S) (b : Bool)
-    → new ≡ happen note step (cond b (e ∷ []) []) old
-    → happen note step (letter_events note step stamp rest new.past) new
-    ≡ happen note step (cond b (e ∷ letter_events note step stamp rest (after note step e old.past)) (letter_events note step stamp rest old.past)) old
-happen-on note step stamp e rest old new true took = ap (λ q. happen note step (letter_events note step stamp rest q.past) q) took
-happen-on note step stamp e rest old new false took = ap (λ q. happen note step (letter_events note step stamp rest q.past) q) took
-
-pub takes-on : {M S : Type 0} (note : M → Note) (step : S → Input M → Deed M S) (stamp : Stamp) (l : Letter M) (rest todo : List (Letter M)) (old new whole : Scene M S)
-    → todo ≡ l ∷ rest → new ≡ happen note step (letter_events note step stamp (l ∷ []) old.past) old
-    → happen note step (letter_events note step stamp todo old.past) old ≡ whole → happen note step (letter_events note step stamp rest new.past) new ≡ whole
-takes-on note step stamp l rest todo old new whole next took inv =
-    happen-on note step stamp (Does (Take stamp l.link l.msg)) rest old new (is_taken old.past.life l.sent stamp.beat) took
-    ∙ sym (ap (λ ls. happen note step (letter_events note step stamp ls old.past) old) next) ∙ inv
-
-keeps-on : {M S : Type 0} (note : M → Note) (step : S → Input M → Deed M S) (stands : S → Params → ℕ → Type 0) (stamp : Stamp) (e : NodeEvent M) (rest : List (Letter M))
-    (old new last : Scene M S) (b : Bool) → new ≡ happen note step (cond b (e ∷ []) []) old
-    → KeepsReady note step stands stamp.beat (cond b (e ∷ []) []) old new
-    → KeepsReady note step stands stamp.beat (letter_events note step stamp rest new.past) new last
-    → KeepsReady note step stands stamp.beat (cond b (e ∷ letter_events note step stamp rest (after note step e old.past)) (letter_events note step stamp rest old.past)) old last
-keeps-on {M} {S} note step stands stamp e rest old new last true took keeps more p n r =
-    let first = keeps p n r in
-    let then_more = more p n first.0 in
-    (then_more.0, (first.1.0, subst (λ (q : Scene M S). AreFair note step p n (letter_events note step stamp rest q.past) q.past) took then_more.1))
-keeps-on {M} {S} note step stands stamp e rest old new last false took keeps more p n r =
-    let first = keeps p n r in
-    let then_more = more p n first.0 in
-    (then_more.0, subst (λ (q : Scene M S). AreFair note step p n (letter_events note step stamp rest q.past) q.past) took then_more.1)
-
-pub keeps-letter : {M S : Type 0} (note : M → Note) (step : S → Input M → Deed M S) (stands : S → Params → ℕ → Type 0) (stamp : Stamp) (l : Letter M) (rest todo : List (Letter M))
-    (old new last : Scene M S) → todo ≡ l ∷ rest → new ≡ happen note step (letter_events note step stamp (l ∷ []) old.past) old
-    → KeepsReady note step stands stamp.beat (letter_events note step stamp (l ∷ []) old.past) old new
-    → KeepsReady note step stands stamp.beat (letter_events note step stamp rest new.past) new last
-    → KeepsReady note step stands stamp.beat (letter_events note step stamp todo old.past) old last
-keeps-letter note step stands stamp l rest todo old new last next took keeps more =
-    subst (λ ls. KeepsReady note step stands stamp.beat (letter_events note step stamp ls old.past) old last) (sym next)
-    (keeps-on note step stands stamp (Does (Take stamp l.link l.msg)) rest old new last (is_taken old.past.life l.sent stamp.beat) took keeps more)
-
-pub ready-first : {M S : Type 0} (stands : S → Params → ℕ → Type 0) (beat : ℕ) (l : Letter M) (rest todo : List (Letter M)) (s : Scene M S) → todo ≡ l ∷ rest
-    → IsReadyFor stands beat (links_of_letters todo) s → IsReadyFor stands beat (l.link ∷ []) s
-ready-first stands beat l rest todo s next r = record {
-  params = r.params;
-  number = r.number;
-  ready = r.ready;
-  lead = ((subst (λ ls. AllByRecursion (λ k. IsInLink r.params r.number k.0) (links_of_letters ls)) next r.lead).0, tt);
-}
-
-pub ready-rest : {M S : Type 0} (note : M → Note) (step : S → Input M → Deed M S) (stands : S → Params → ℕ → Type 0) (beat : ℕ) (es : List (NodeEvent M)) (l : Letter M) (rest todo : List (Letter M)) (old new : Scene M S) → todo ≡ l ∷ rest
-    → KeepsReady note step stands beat es old new → IsReadyFor stands beat (links_of_letters todo) old → IsReadyFor stands beat (links_of_letters rest) new
-ready-rest note step stands beat es l rest todo old new next keeps r = record {
-  params = r.params;
-  number = r.number;
-  ready = (keeps r.params r.number r.ready).0;
-  lead = (subst (λ ls. AllByRecursion (λ k. IsInLink r.params r.number k.0) (links_of_letters ls)) next r.lead).1;
-}
-
 -- in-links are links
 pub links-lead : (p : Params) (n k : ℕ) (ls : List LinkNo) → link_count (links_of p) ≡ k → AllByRecursion (λ l. IsInLink p n l.0) ls → AllByRecursion (IsLink k) ls
 links-lead p n k [] count h = tt
@@ -184,47 +130,61 @@ links-lead p n k (l ∷ ls) count h =
     let below = ends_counted (links_of p) l.0 (h.0.0, n) h.0.1 in
     (omega (arith, below, count), links-lead p n k ls count h.1)
 
--- letters came on the links that they were collected from
-all-arrived : {M : Type 0} (P : LinkNo → Type 0) (link : LinkNo) (beat : ℕ) (fs : List (Flight M)) (more : List (Letter M)) → P link
-    → AllByRecursion P (links_of_letters more) → AllByRecursion P (links_of_letters (arrived link beat fs ++ more))
-all-arrived P link beat [] more h m = m
-all-arrived {M} P link beat (f ∷ fs) more h m =
-    elim (nat_le f.arrival beat) as (λ b. AllByRecursion P (links_of_letters {M = M} (cond b ((record { link = link; sent = f.sent; msg = f.msg }) ∷ arrived link beat fs) [] ++ more)))
-    [ true ↦ (h, all-arrived P link beat fs more h m) | false ↦ m ]
+-- what is ready for these links is ready for each of them
+lead-at : (P : LinkNo → Type 0) (ls : List LinkNo) (k : ℕ) (l : LinkNo) → slice_get ls k ≡ Some l → AllByRecursion P ls → P l
+lead-at P [] k l e h = absurd (none-some l e)
+lead-at P (x ∷ xs) zero l e h = let same : x ≡ l = cc in subst P same h.0
+lead-at P (x ∷ xs) (suc k) l e h = lead-at P xs k l e h.1
 
-pub all-collected : {M : Type 0} (P : LinkNo → Type 0) (beat : ℕ) (ls : List LinkNo) (ts : List (Traffic M)) → AllByRecursion P ls
-    → AllByRecursion P (links_of_letters (collected beat ls ts))
-unfolding letters_on
-all-collected P beat [] ts h = tt
-all-collected P beat (l ∷ ls) ts h =
-    all-arrived P l beat (flights_at (slice_get ts l.0)) (collected beat ls (emptied beat l ts)) h.0 (all-collected P beat ls (emptied beat l ts) h.1)
-
--- collecting keeps what is ready
-pub ready-collected : {M S : Type 0} (stands : S → Params → ℕ → Type 0) (beat : ℕ) (links : List LinkNo) (past : Past S) (ts ts' : List (Traffic M))
-    → ts' ≡ after_collecting beat links ts → (p : Params) (n : ℕ) → IsReady stands p n beat (record { past = past; channels = ts })
-    → IsReady stands p n beat (record { past = past; channels = ts' })
-ready-collected stands beat links past ts ts' left p n r = record {
-  stands_here = r.stands_here;
-  count = r.count ∙ sym (ap length left ∙ length-after_collecting beat links ts);
-  unsent = subst (AreOpen beat) (sym left) (AreOpen-after_collecting beat links ts r.unsent);
-}
-
--- collected letters are ready for their node
-pub ready-letters : {M S : Type 0} (stands : S → Params → ℕ → Type 0) (beat : ℕ) (links : List LinkNo) (past : Past S) (ts ts' : List (Traffic M)) (letters : List (Letter M))
-    → letters ≡ collected beat links ts → ts' ≡ after_collecting beat links ts → IsReadyFor stands beat links (record { past = past; channels = ts })
-    → IsReadyFor stands beat (links_of_letters letters) (record { past = past; channels = ts' })
-ready-letters stands beat links past ts ts' letters found left r = record {
+pub ready-link : {M S : Type 0} (stands : S → Params → ℕ → Type 0) (beat : ℕ) (ls : List LinkNo) (k : ℕ) (l : LinkNo) (s : Scene M S) → Some l ≡ slice_get ls k
+    → IsReadyFor stands beat ls s → IsReadyFor stands beat (l ∷ []) s
+ready-link stands beat ls k l s at r = record {
   params = r.params;
   number = r.number;
-  ready = ready-collected stands beat links past ts ts' left r.params r.number r.ready;
-  lead = subst (λ ls. AllByRecursion (λ k. IsInLink r.params r.number k.0) (links_of_letters ls)) (sym found)
-      (all-collected (λ k. IsInLink r.params r.number k.0) beat links ts r.lead);
+  ready = r.ready;
+  lead = (lead-at (λ x. IsInLink r.params r.number x.0) ls k l (sym at) r.lead, tt);
+}
+
+-- it stays ready where the first message on a link is taken out
+ready-without : {M S : Type 0} (stands : S → Params → ℕ → Type 0) (beat : ℕ) (link : LinkNo) (past : Past S) (ts ts' : List (Traffic M)) → ts' ≡ without_first beat link ts
+    → (p : Params) (n : ℕ) → IsReady stands p n beat (record { past = past; channels = ts }) → IsReady stands p n beat (record { past = past; channels = ts' })
+ready-without stands beat link past ts ts' left p n r = record {
+  stands_here = r.stands_here;
+  count = r.count ∙ sym (ap length left ∙ length-without_first beat link ts);
+  are_open = subst (AreOpen beat) (sym left) (AreOpen-without_first beat link ts r.are_open);
+}
+
+pub ready-letter : {M S : Type 0} (stands : S → Params → ℕ → Type 0) (beat : ℕ) (link : LinkNo) (l : Letter M) (past : Past S) (ts ts' : List (Traffic M))
+    → Some l ≡ slice_get (letters_on beat link ts) 0 → ts' ≡ without_first beat link ts → IsReadyFor stands beat (link ∷ []) (record { past = past; channels = ts })
+    → IsReadyFor stands beat (l.link ∷ []) (record { past = past; channels = ts' })
+ready-letter stands beat link l past ts ts' first left r = record {
+  params = r.params;
+  number = r.number;
+  ready = ready-without stands beat link past ts ts' left r.params r.number r.ready;
+  lead = subst (λ k. AllByRecursion (λ x. IsInLink r.params r.number x.0) (k ∷ [])) (letters_on-first beat link ts l (sym first)).1 r.lead;
+}
+
+pub ready-on : {M S : Type 0} (note : M → Note) (step : S → Input M → Deed M S) (stands : S → Params → ℕ → Type 0) (beat : ℕ) (es : List (NodeEvent M)) (link : LinkNo) (past : Past S) (ts ts' : List (Traffic M)) (new : Scene M S)
+    → ts' ≡ without_first beat link ts → KeepsReady note step stands beat es (record { past = past; channels = ts' }) new
+    → IsReadyFor stands beat (link ∷ []) (record { past = past; channels = ts }) → IsReadyFor stands beat (link ∷ []) new
+ready-on note step stands beat es link past ts ts' new left keeps r = record {
+  params = r.params;
+  number = r.number;
+  ready = (keeps r.params r.number (ready-without stands beat link past ts ts' left r.params r.number r.ready)).0;
+  lead = r.lead;
 }
 
 pub ready-kept : {M S : Type 0} (note : M → Note) (step : S → Input M → Deed M S) (stands : S → Params → ℕ → Type 0) (beat : ℕ) (es : List (NodeEvent M)) (links : List LinkNo) (old new : Scene M S)
-    → KeepsReady note step stands beat es old new → IsReadyFor stands beat links old → IsReadyFor stands beat [] new
+    → KeepsReady note step stands beat es old new → IsReadyFor stands beat links old → IsReadyFor stands beat links new
 ready-kept note step stands beat es links old new keeps r =
-    record { params = r.params; number = r.number; ready = (keeps r.params r.number r.ready).0; lead = tt }
+    record { params = r.params; number = r.number; ready = (keeps r.params r.number r.ready).0; lead = r.lead }
+
+pub ready-end : {M S : Type 0} (stands : S → Params → ℕ → Type 0) (beat : ℕ) (links : List LinkNo) (s : Scene M S) → IsReadyFor stands beat links s → IsReadyFor stands beat [] s
+ready-end stands beat links s r = record { params = r.params; number = r.number; ready = r.ready; lead = tt }
+
+pub same-keeps : {M S : Type 0} (note : M → Note) (step : S → Input M → Deed M S) (stands : S → Params → ℕ → Type 0) (beat : ℕ) (es : List (NodeEvent M)) (old new new' : Scene M S)
+    → new' ≡ new → KeepsReady note step stands beat es old new → KeepsReady note step stands beat es old new'
+same-keeps note step stands beat es old new new' same keeps = subst (λ q. KeepsReady note step stands beat es old q) (sym same) keeps
 
 -- the end of a beat, where its events are known
 pub ended : {M S : Type 0} (note : M → Note) (step : S → Input M → Deed M S) (es known : List (NodeEvent M)) (old new : Scene M S) → es ≡ known → new ≡ happen note step known old
@@ -243,16 +203,12 @@ idle-keeps note step stands beat old p n r = (r, tt)
 pub died-keeps : {M S : Type 0} (note : M → Note) (step : S → Input M → Deed M S) (stands : S → Params → ℕ → Type 0) (stamp : Stamp) (past : Past S) (j : List Entry) (ts : List (Traffic M))
     → KeepsReady note step stands stamp.beat (Dies stamp ∷ []) (record { past = past; channels = ts }) (scene past.state past.life j ts)
 died-keeps note step stands stamp past j ts p n r =
-    (record { stands_here = r.stands_here; count = r.count; unsent = r.unsent }, (tt, tt))
+    (record { stands_here = r.stands_here; count = r.count; are_open = r.are_open }, (tt, tt))
 
 pub died-is : {M S : Type 0} (note : M → Note) (step : S → Input M → Deed M S) (stamp : Stamp) (past : Past S) (j : List Entry) (ts : List (Traffic M))
     → j ≡ past.journal ++ (record { stamp = stamp; what = Died }) ∷ []
     → ◌≡◌ {A = Scene M S} (scene past.state past.life j ts) (happen note step (Dies stamp ∷ []) (record { past = past; channels = ts }))
 died-is note step stamp past j ts wrote = rw wrote refl
-
-pub none-left : {A : Type 0} (xs : List A) → length xs ≡ 0 → xs ≡ []
-none-left [] e = refl
-none-left (x ∷ xs) e = absurd (omega (arith, e))
 
 pub none-keeps : {M S : Type 0} (note : M → Note) (step : S → Input M → Deed M S) (stands : S → Params → ℕ → Type 0) (stamp : Stamp) (ls : List (Letter M)) (old : Scene M S)
     → ls ≡ [] → KeepsReady note step stands stamp.beat (letter_events note step stamp ls old.past) old old
@@ -270,54 +226,237 @@ pub happen-past : {M S : Type 0} (note : M → Note) (step : S → Input M → D
 happen-past note step [] s = refl
 happen-past note step (e ∷ es) s = happen-past note step es (happens note step e s)
 
+-- the events of letters that follow others
+letter_events-append : {M S : Type 0} (note : M → Note) (step : S → Input M → Deed M S) (stamp : Stamp) (ls ks : List (Letter M)) (past : Past S)
+    → letter_events note step stamp (ls ++ ks) past
+    ≡ letter_events note step stamp ls past ++ letter_events note step stamp ks (after_all note step (letter_events note step stamp ls past) past)
+letter_events-append note step stamp [] ks past = refl
+letter_events-append {M} note step stamp (l ∷ ls) ks past =
+    let e : NodeEvent M = Does (Take stamp l.link l.msg) in
+    ⊎_elim
+    (λ (h : is_taken past.life l.sent stamp.beat ≡ true). rw h (ap (λ (es : List (NodeEvent M)). e ∷ es) (letter_events-append note step stamp ls ks (after note step e past))))
+    (λ (h : is_taken past.life l.sent stamp.beat ≡ false). rw h (letter_events-append note step stamp ls ks past))
+    (cases_Bool (is_taken past.life l.sent stamp.beat))
+
+letters-of-beat : {M S : Type 0} (note : M → Note) (step : S → Input M → Deed M S) (stamp : Stamp) (ls : List (Letter M)) (past : Past S)
+    → AreOfBeat stamp.beat (letter_events note step stamp ls past)
+letters-of-beat note step stamp [] past = tt
+letters-of-beat {M} note step stamp (l ∷ ls) past =
+    let e : NodeEvent M = Does (Take stamp l.link l.msg) in
+    ⊎_elim
+    (λ (h : is_taken past.life l.sent stamp.beat ≡ true). rw h (refl, letters-of-beat note step stamp ls (after note step e past)))
+    (λ (h : is_taken past.life l.sent stamp.beat ≡ false). rw h (letters-of-beat note step stamp ls past))
+    (cases_Bool (is_taken past.life l.sent stamp.beat))
+
+-- letters are brought to a node: what is found afterwards is what was found before, and it may be brought then
+brings-on : {M S : Type 0} (note : M → Note) (step : S → Input M → Deed M S) (stamp : Stamp) (found : List (Traffic M) → List (Letter M)) (left : List (Traffic M) → List (Traffic M))
+    → Waits M stamp.beat found left → (before : List (Letter M)) (past : Past S) (ts : List (Traffic M)) (new : Scene M S) → AreOpen stamp.beat ts
+    → new ≡ happen note step (letter_events note step stamp before past) (record { past = past; channels = ts })
+    → happen note step (letter_events note step stamp (found new.channels) new.past) (record { past = new.past; channels = left new.channels })
+    ≡ happen note step (letter_events note step stamp (before ++ found ts) past) (record { past = past; channels = left ts })
+brings-on {M} {S} note step stamp found left waits before past ts new are_open took =
+    let es = letter_events note step stamp before past in
+    let s : Scene M S = record { past = past; channels = ts } in
+    let s' : Scene M S = record { past = past; channels = left ts } in
+    let mid : Scene M S = happen note step es s in
+    let mid' : Scene M S = happen note step es s' in
+    let then_past : Past S = after_all note step es past in
+    let now = letters-of-beat note step stamp before past in
+    let same : mid.past ≡ then_past = happen-past note step es s in
+    let same' : mid'.past ≡ then_past = happen-past note step es s' in
+    ap (λ (q : Scene M S). happen note step (letter_events note step stamp (found q.channels) q.past) (record { past = q.past; channels = left q.channels })) took
+    ∙ ap (λ (ls : List (Letter M)). happen note step (letter_events note step stamp ls mid.past) (record { past = mid.past; channels = left mid.channels }))
+    (found-after note step stamp.beat found left waits es past ts now are_open)
+    ∙ ap (λ (q : Past S). happen note step (letter_events note step stamp (found ts) q) (record { past = q; channels = left mid.channels })) (same ∙ sym same')
+    ∙ ap (λ (us : List (Traffic M)). happen note step (letter_events note step stamp (found ts) mid'.past) (record { past = mid'.past; channels = us }))
+    (sym (left-after note step stamp.beat found left waits es past ts now are_open))
+    ∙ ap (λ (q : Past S). happen note step (letter_events note step stamp (found ts) q) mid') same'
+    ∙ sym (happen-append note step es (letter_events note step stamp (found ts) then_past) s')
+    ∙ ap (λ (fs : List (NodeEvent M)). happen note step fs s') (sym (letter_events-append note step stamp before (found ts) past))
+
+brings-keeps : {M S : Type 0} (note : M → Note) (step : S → Input M → Deed M S) (stands : S → Params → ℕ → Type 0) (stamp : Stamp) (found : List (Traffic M) → List (Letter M)) (left : List (Traffic M) → List (Traffic M))
+    → Waits M stamp.beat found left → (before : List (Letter M)) (old : Scene M S) (ts : List (Traffic M)) (new last : Scene M S) → AreOpen stamp.beat ts
+    → new ≡ happen note step (letter_events note step stamp before old.past) (record { past = old.past; channels = ts })
+    → KeepsReady note step stands stamp.beat (letter_events note step stamp before old.past) old new
+    → KeepsReady note step stands stamp.beat (letter_events note step stamp (found new.channels) new.past) new last
+    → KeepsReady note step stands stamp.beat (letter_events note step stamp (before ++ found ts) old.past) old last
+brings-keeps {M} {S} note step stands stamp found left waits before old ts new last are_open took keeps more p n r =
+    let es = letter_events note step stamp before old.past in
+    let s : Scene M S = record { past = old.past; channels = ts } in
+    let then_past : Past S = after_all note step es old.past in
+    let same : new.past ≡ then_past = ap (λ (q : Scene M S). q.past) took ∙ happen-past note step es s in
+    let same_found : found new.channels ≡ found ts = ap (λ (q : Scene M S). found q.channels) took
+    ∙ found-after note step stamp.beat found left waits es old.past ts (letters-of-beat note step stamp before old.past) are_open in
+    let first = keeps p n r in
+    let rest = more p n first.0 in
+    let tail : AreFair note step p n (letter_events note step stamp (found ts) then_past) then_past =
+    subst (λ (q : Past S). AreFair note step p n (letter_events note step stamp (found ts) q) q) same
+    (subst (λ (ls : List (Letter M)). AreFair note step p n (letter_events note step stamp ls new.past) new.past) same_found rest.1) in (
+      rest.0,
+      subst (λ (fs : List (NodeEvent M)). AreFair note step p n fs old.past) (sym (letter_events-append note step stamp before (found ts) old.past))
+          (fair-append note step p n es (letter_events note step stamp (found ts) then_past) old.past first.1 tail),
+    )
+
+-- the oldest letter of a link is taken
+pub link-on : {M S : Type 0} (note : M → Note) (step : S → Input M → Deed M S) (stamp : Stamp) (link : LinkNo) (l : Letter M) (past : Past S) (ts ts' : List (Traffic M)) (new : Scene M S)
+    → AreOpen stamp.beat ts → Some l ≡ slice_get (letters_on stamp.beat link ts) 0 → ts' ≡ without_first stamp.beat link ts
+    → new ≡ happen note step (letter_events note step stamp (l ∷ []) past) (record { past = past; channels = ts' })
+    → brought_on note step stamp link new ≡ brought_on note step stamp link (record { past = past; channels = ts })
+unfolding brought_on
+link-on {M} {S} note step stamp link l past ts ts' new are_open first out_of took =
+    let rest : List (Traffic M) = without_first stamp.beat link ts in
+    let took_first : new ≡ happen note step (letter_events note step stamp (l ∷ []) past) (record { past = past; channels = rest }) =
+    took ∙ ap (λ (us : List (Traffic M)). happen note step (letter_events note step stamp (l ∷ []) past) (record { past = past; channels = us })) out_of in
+    brings-on note step stamp (letters_on stamp.beat link) (emptied stamp.beat link) (one-waits stamp.beat link) (l ∷ []) past rest new
+    (AreOpen-without_first stamp.beat link ts are_open) took_first
+    ∙ ap (λ (ls : List (Letter M)). happen note step (letter_events note step stamp ls past) (record { past = past; channels = emptied stamp.beat link rest }))
+    (sym (letters_on-first stamp.beat link ts l (sym first)).0)
+    ∙ ap (λ (us : List (Traffic M)). happen note step (letter_events note step stamp (letters_on stamp.beat link ts) past) (record { past = past; channels = us }))
+    (emptied-first stamp.beat link ts)
+
+pub link-keeps : {M S : Type 0} (note : M → Note) (step : S → Input M → Deed M S) (stands : S → Params → ℕ → Type 0) (stamp : Stamp) (link : LinkNo) (l : Letter M) (past : Past S)
+    (ts ts' : List (Traffic M)) (new last : Scene M S) → AreOpen stamp.beat ts → Some l ≡ slice_get (letters_on stamp.beat link ts) 0 → ts' ≡ without_first stamp.beat link ts
+    → new ≡ happen note step (letter_events note step stamp (l ∷ []) past) (record { past = past; channels = ts' })
+    → KeepsReady note step stands stamp.beat (letter_events note step stamp (l ∷ []) past) (record { past = past; channels = ts' }) new
+    → KeepsReady note step stands stamp.beat (letter_events note step stamp (letters_on stamp.beat link new.channels) new.past) new last
+    → KeepsReady note step stands stamp.beat (letter_events note step stamp (letters_on stamp.beat link ts) past) (record { past = past; channels = ts }) last
+link-keeps {M} {S} note step stands stamp link l past ts ts' new last are_open first out_of took keeps more =
+    let rest : List (Traffic M) = without_first stamp.beat link ts in
+    let took_first : new ≡ happen note step (letter_events note step stamp (l ∷ []) past) (record { past = past; channels = rest }) =
+    took ∙ ap (λ (us : List (Traffic M)). happen note step (letter_events note step stamp (l ∷ []) past) (record { past = past; channels = us })) out_of in
+    let old : Scene M S = record { past = past; channels = ts } in
+    subst (λ (ls : List (Letter M)). KeepsReady note step stands stamp.beat (letter_events note step stamp ls past) old last) (sym (letters_on-first stamp.beat link ts l (sym first)).0)
+    (brings-keeps note step stands stamp (letters_on stamp.beat link) (emptied stamp.beat link) (one-waits stamp.beat link) (l ∷ []) old rest new last
+    (AreOpen-without_first stamp.beat link ts are_open) took_first (λ p n r. keeps p n (ready-without stands stamp.beat link past ts ts' out_of p n r)) more)
+
+-- one letter less has arrived
+pub link-fewer : {M S : Type 0} (note : M → Note) (step : S → Input M → Deed M S) (stamp : Stamp) (link : LinkNo) (l : Letter M) (past : Past S) (ts ts' : List (Traffic M)) (new : Scene M S)
+    → AreOpen stamp.beat ts → Some l ≡ slice_get (letters_on stamp.beat link ts) 0 → ts' ≡ without_first stamp.beat link ts
+    → new ≡ happen note step (letter_events note step stamp (l ∷ []) past) (record { past = past; channels = ts' })
+    → length (letters_on stamp.beat link new.channels) < length (letters_on stamp.beat link ts)
+link-fewer {M} {S} note step stamp link l past ts ts' new are_open first out_of took =
+    let rest : List (Traffic M) = without_first stamp.beat link ts in
+    let same : letters_on stamp.beat link new.channels ≡ letters_on stamp.beat link rest =
+    ap (λ (q : Scene M S). letters_on stamp.beat link q.channels) took
+    ∙ ap (λ (us : List (Traffic M)). letters_on stamp.beat link (happen note step (letter_events note step stamp (l ∷ []) past) (record { past = past; channels = us })).channels) out_of
+    ∙ found-after note step stamp.beat (letters_on stamp.beat link) (emptied stamp.beat link) (one-waits stamp.beat link) (letter_events note step stamp (l ∷ []) past) past rest
+    (letters-of-beat note step stamp (l ∷ []) past) (AreOpen-without_first stamp.beat link ts are_open) in
+    let more = ap length (letters_on-first stamp.beat link ts l (sym first)).0 in
+    let few = ap length same in
+    omega (arith, more, few)
+
+-- where none has arrived on a link, nothing is brought on it
+pub link-done : {M S : Type 0} (note : M → Note) (step : S → Input M → Deed M S) (stamp : Stamp) (link : LinkNo) (past : Past S) (ts ts' : List (Traffic M))
+    → None ≡ slice_get (letters_on stamp.beat link ts) 0 → ts' ≡ without_first stamp.beat link ts
+    → ◌≡◌ {A = Scene M S} (record { past = past; channels = ts' }) (brought_on note step stamp link (record { past = past; channels = ts }))
+unfolding brought_on
+link-done {M} {S} note step stamp link past ts ts' none out_of =
+    ap (λ (us : List (Traffic M)). record { past = past; channels = us })
+    (out_of ∙ without-none stamp.beat link ts (sym none) ∙ sym (emptied-none stamp.beat link ts (sym none)))
+    ∙ ap (λ (ls : List (Letter M)). happen note step (letter_events note step stamp ls past) (record { past = past; channels = emptied stamp.beat link ts }))
+    (sym (nothing-first (letters_on stamp.beat link ts) (sym none)))
+
+pub link-done-keeps : {M S : Type 0} (note : M → Note) (step : S → Input M → Deed M S) (stands : S → Params → ℕ → Type 0) (stamp : Stamp) (link : LinkNo) (past : Past S) (ts ts' : List (Traffic M))
+    → None ≡ slice_get (letters_on stamp.beat link ts) 0 → ts' ≡ without_first stamp.beat link ts
+    → KeepsReady note step stands stamp.beat (letter_events note step stamp (letters_on stamp.beat link ts) past) (record { past = past; channels = ts }) (record { past = past; channels = ts' })
+link-done-keeps {M} {S} note step stands stamp link past ts ts' none out_of =
+    let old : Scene M S = record { past = past; channels = ts } in
+    subst (λ (us : List (Traffic M)). KeepsReady note step stands stamp.beat (letter_events note step stamp (letters_on stamp.beat link ts) past) old (record { past = past; channels = us }))
+    (sym (out_of ∙ without-none stamp.beat link ts (sym none)))
+    (none-keeps note step stands stamp (letters_on stamp.beat link ts) old (nothing-first (letters_on stamp.beat link ts) (sym none)))
+
+-- one link further
+pub mail-on : {M S : Type 0} (note : M → Note) (step : S → Input M → Deed M S) (stamp : Stamp) (x : LinkNo) (rest todo : List LinkNo) (old new : Scene M S) → AreOpen stamp.beat old.channels
+    → todo ≡ x ∷ rest → new ≡ brought_on note step stamp x old → brought note step stamp rest new ≡ brought note step stamp todo old
+unfolding brought brought_on
+mail-on {M} {S} note step stamp x rest todo old new are_open next took =
+    brings-on note step stamp (collected stamp.beat rest) (after_collecting stamp.beat rest) (all-wait stamp.beat rest) (letters_on stamp.beat x old.channels) old.past
+    (emptied stamp.beat x old.channels) new (AreOpen-emptied stamp.beat x old.channels are_open) took
+    ∙ sym (ap (λ (ls : List LinkNo). happen note step (letter_events note step stamp (collected stamp.beat ls old.channels) old.past)
+    (record { past = old.past; channels = after_collecting stamp.beat ls old.channels })) next)
+
+pub mail-keeps : {M S : Type 0} (note : M → Note) (step : S → Input M → Deed M S) (stands : S → Params → ℕ → Type 0) (stamp : Stamp) (x : LinkNo) (rest todo : List LinkNo) (old new last : Scene M S)
+    → AreOpen stamp.beat old.channels → todo ≡ x ∷ rest → new ≡ brought_on note step stamp x old
+    → KeepsReady note step stands stamp.beat (letter_events note step stamp (letters_on stamp.beat x old.channels) old.past) old new
+    → KeepsReady note step stands stamp.beat (letter_events note step stamp (collected stamp.beat rest new.channels) new.past) new last
+    → KeepsReady note step stands stamp.beat (letter_events note step stamp (collected stamp.beat todo old.channels) old.past) old last
+unfolding brought_on
+mail-keeps {M} {S} note step stands stamp x rest todo old new last are_open next took keeps more =
+    subst (λ (ls : List LinkNo). KeepsReady note step stands stamp.beat (letter_events note step stamp (collected stamp.beat ls old.channels) old.past) old last) (sym next)
+    (brings-keeps note step stands stamp (collected stamp.beat rest) (after_collecting stamp.beat rest) (all-wait stamp.beat rest) (letters_on stamp.beat x old.channels) old
+    (emptied stamp.beat x old.channels) new last (AreOpen-emptied stamp.beat x old.channels are_open) took keeps more)
+
+-- where nothing has arrived, nothing is brought
+pub mail-done : {M S : Type 0} (note : M → Note) (step : S → Input M → Deed M S) (stamp : Stamp) (ls : List LinkNo) (s : Scene M S) → collected stamp.beat ls s.channels ≡ []
+    → after_collecting stamp.beat ls s.channels ≡ s.channels → s ≡ brought note step stamp ls s
+unfolding brought
+mail-done {M} {S} note step stamp ls s none left =
+    ap (λ (us : List (Traffic M)). record { past = s.past; channels = us }) (sym left)
+    ∙ ap (λ (found : List (Letter M)). happen note step (letter_events note step stamp found s.past) (record { past = s.past; channels = after_collecting stamp.beat ls s.channels })) (sym none)
+
+-- the links from a place on
+pub next-drop : {A : Type 0} (xs : List A) (n : ℕ) (x : A) → Some x ≡ slice_get xs n → drop n xs ≡ x ∷ drop (n + 1) xs
+next-drop xs n x here = next xs n x here ∙ ap (λ k. x ∷ drop k xs) (sym (add-one n))
+  where
+    next : {A : Type 0} (xs : List A) (n : ℕ) (x : A) → Some x ≡ slice_get xs n → drop n xs ≡ x ∷ drop (suc n) xs
+    next [] n x here = absurd (none-some x (sym here))
+    next (y ∷ ys) zero x here = let same : y ≡ x = cc in ap (λ z. z ∷ ys) same
+    next (y ∷ ys) (suc n) x here = next ys n x here
+
+pub drop-past : {A : Type 0} (xs : List A) (n : ℕ) → length xs ≤ n → drop n xs ≡ []
+drop-past [] zero past = refl
+drop-past [] (suc n) past = refl
+drop-past (x ∷ xs) zero past = absurd (omega (arith, past))
+drop-past (x ∷ xs) (suc n) past = drop-past xs n (omega (arith, past))
+
+pub mail-end : {M S : Type 0} (note : M → Note) (step : S → Input M → Deed M S) (stamp : Stamp) (ls : List LinkNo) (s : Scene M S) → ls ≡ [] → s ≡ brought note step stamp ls s
+mail-end note step stamp ls s none = subst (λ ks. s ≡ brought note step stamp ks s) (sym none) (mail-done note step stamp [] s refl refl)
+
+pub mail-end-keeps : {M S : Type 0} (note : M → Note) (step : S → Input M → Deed M S) (stands : S → Params → ℕ → Type 0) (stamp : Stamp) (ls : List LinkNo) (s : Scene M S) → ls ≡ []
+    → KeepsReady note step stands stamp.beat (letter_events note step stamp (collected stamp.beat ls s.channels) s.past) s s
+mail-end-keeps note step stands stamp ls s none =
+    none-keeps note step stands stamp (collected stamp.beat ls s.channels) s (ap (λ ks. collected stamp.beat ks s.channels) none)
+
 -- a whole turn
-pub turned : {M S : Type 0} (note : M → Note) (step : S → Input M → Deed M S) (stamp : Stamp) (links : List LinkNo) (past : Past S) (ts ts' : List (Traffic M))
-    (letters : List (Letter M)) (mid new : Scene M S) → letters ≡ collected stamp.beat links ts → ts' ≡ after_collecting stamp.beat links ts
-    → mid ≡ happen note step (letter_events note step stamp letters past) (record { past = past; channels = ts' })
-    → new ≡ happen note step (end_events stamp mid.past.life) mid → new ≡ turn note step stamp links (record { past = past; channels = ts })
-unfolding turn beat_events
-turned {M} {S} note step stamp links past ts ts' letters mid new found left took ends =
-    let s : Scene M S = record { past = past; channels = ts' } in
-    let all = letter_events note step stamp letters past in
-    let same : mid.past ≡ after_all note step all past = ap (λ (q : Scene M S). q.past) took ∙ happen-past note step all s in
+pub turned : {M S : Type 0} (note : M → Note) (step : S → Input M → Deed M S) (stamp : Stamp) (links : List LinkNo) (old mid new : Scene M S) → mid ≡ brought note step stamp links old
+    → new ≡ happen note step (end_events stamp mid.past.life) mid → new ≡ turn note step stamp links old
+unfolding turn beat_events brought
+turned {M} {S} note step stamp links old mid new took ends =
+    let s : Scene M S = record { past = old.past; channels = after_collecting stamp.beat links old.channels } in
+    let all = letter_events note step stamp (collected stamp.beat links old.channels) old.past in
+    let same : mid.past ≡ after_all note step all old.past = ap (λ (q : Scene M S). q.past) took ∙ happen-past note step all s in
     ends
     ∙ ap (λ (q : Scene M S). happen note step (end_events stamp mid.past.life) q) took
     ∙ ap (λ (q : Past S). happen note step (end_events stamp q.life) (happen note step all s)) same
-    ∙ sym (happen-append note step all (end_events stamp (after_all note step all past).life) s)
-    ∙ ap (λ ls. happen note step (beat_events note step stamp ls past) s) found
-    ∙ ap (λ q. happen note step (beat_events note step stamp (collected stamp.beat links ts) past) (record { past = past; channels = q })) left
+    ∙ sym (happen-append note step all (end_events stamp (after_all note step all old.past).life) s)
 
-pub turned-keeps : {M S : Type 0} (note : M → Note) (step : S → Input M → Deed M S) (stands : S → Params → ℕ → Type 0) (stamp : Stamp) (links : List LinkNo) (past : Past S) (ts ts' : List (Traffic M))
-    (letters : List (Letter M)) (mid new : Scene M S) → letters ≡ collected stamp.beat links ts → ts' ≡ after_collecting stamp.beat links ts
-    → mid ≡ happen note step (letter_events note step stamp letters past) (record { past = past; channels = ts' })
-    → KeepsReady note step stands stamp.beat (letter_events note step stamp letters past) (record { past = past; channels = ts' }) mid
+pub turned-keeps : {M S : Type 0} (note : M → Note) (step : S → Input M → Deed M S) (stands : S → Params → ℕ → Type 0) (stamp : Stamp) (links : List LinkNo) (old mid new : Scene M S)
+    → mid ≡ brought note step stamp links old
+    → KeepsReady note step stands stamp.beat (letter_events note step stamp (collected stamp.beat links old.channels) old.past) old mid
     → KeepsReady note step stands stamp.beat (end_events stamp mid.past.life) mid new
-    → KeepsReady note step stands stamp.beat (beat_events note step stamp (collected stamp.beat links ts) past) (record { past = past; channels = ts }) new
-unfolding beat_events
-turned-keeps {M} {S} note step stands stamp links past ts ts' letters mid new found left took keeps ends p n r =
-    let s : Scene M S = record { past = past; channels = ts' } in
-    let all = letter_events note step stamp letters past in
-    let same : mid.past ≡ after_all note step all past = ap (λ (q : Scene M S). q.past) took ∙ happen-past note step all s in
-    let first = keeps p n (ready-collected stands stamp.beat links past ts ts' left p n r) in
+    → KeepsReady note step stands stamp.beat (beat_events note step stamp (collected stamp.beat links old.channels) old.past) old new
+unfolding beat_events brought
+turned-keeps {M} {S} note step stands stamp links old mid new took keeps ends p n r =
+    let s : Scene M S = record { past = old.past; channels = after_collecting stamp.beat links old.channels } in
+    let all = letter_events note step stamp (collected stamp.beat links old.channels) old.past in
+    let same : mid.past ≡ after_all note step all old.past = ap (λ (q : Scene M S). q.past) took ∙ happen-past note step all s in
+    let first = keeps p n r in
     let second = ends p n first.0 in
-    let tail : AreFair note step p n (end_events stamp (after_all note step all past).life) (after_all note step all past) =
-    subst (λ (q : Past S). AreFair note step p n (end_events stamp q.life) q) same second.1 in (
-      second.0,
-      subst (λ ls. AreFair note step p n (beat_events note step stamp ls past) past) found
-          (fair-append note step p n all (end_events stamp (after_all note step all past).life) past first.1 tail),
-    )
+    let tail : AreFair note step p n (end_events stamp (after_all note step all old.past).life) (after_all note step all old.past) =
+    subst (λ (q : Past S). AreFair note step p n (end_events stamp q.life) q) same second.1 in
+    (second.0, fair-append note step p n all (end_events stamp (after_all note step all old.past).life) old.past first.1 tail)
 
 -- the turn of a node at which nothing arrives, and whose tick would leave no trace
 pub idle-turned : {M S : Type 0} (note : M → Note) (step : S → Input M → Deed M S) (stamp : Stamp) (links : List LinkNo) (s : Scene M S)
     → collected stamp.beat links s.channels ≡ [] → after_collecting stamp.beat links s.channels ≡ s.channels → acts s.past.life stamp.beat ≡ true → Rests step stamp s.past.state
     → s ≡ turn note step stamp links s
 idle-turned note step stamp links s none left live quiet =
-    turned note step stamp links s.past s.channels s.channels [] s s (sym none) (sym left) refl
+    turned note step stamp links s s s (mail-done note step stamp links s none left)
     (ended note step (end_events stamp s.past.life) (Does (Tick stamp) ∷ []) s s (end-acting stamp s.past.life live) (rested note step stamp s quiet))
 
 pub idle-turned-keeps : {M S : Type 0} (note : M → Note) (step : S → Input M → Deed M S) (stands : S → Params → ℕ → Type 0) (stamp : Stamp) (links : List LinkNo) (s : Scene M S)
     → collected stamp.beat links s.channels ≡ [] → after_collecting stamp.beat links s.channels ≡ s.channels → acts s.past.life stamp.beat ≡ true → Rests step stamp s.past.state
     → KeepsReady note step stands stamp.beat (beat_events note step stamp (collected stamp.beat links s.channels) s.past) s s
 idle-turned-keeps note step stands stamp links s none left live quiet =
-    turned-keeps note step stands stamp links s.past s.channels s.channels [] s s (sym none) (sym left) refl (idle-keeps note step stands stamp.beat s)
+    turned-keeps note step stands stamp links s s s (mail-done note step stamp links s none left) (none-keeps note step stands stamp (collected stamp.beat links s.channels) s none)
     (ended-keeps note step stands stamp.beat (end_events stamp s.past.life) (Does (Tick stamp) ∷ []) s s (end-acting stamp s.past.life live) (rested-keeps note step stands stamp s quiet))

@@ -4,21 +4,20 @@ ghost use Rattle.tiger_base.specs.Limits.{most_beats, most_reading};
 ghost use Rattle.node_kit.specs.Links.{in_links_of, viewers_of};
 ghost use Rattle.node_kit.specs.Steps.Input.{Take, Tick};
 ghost use Rattle.run_facts.specs.Events.NodeEvent.{Does};
-ghost use Rattle.ring_engine.specs.Traffic.{collected};
-ghost use Rattle.ring_engine.specs.Turns.{scene, IsReadyFor, KeepsReady, happens, happen, turn, links_of_letters};
+ghost use Rattle.ring_engine.specs.Traffic.{letters_on, collected};
+ghost use Rattle.ring_engine.specs.Turns.{scene, IsReadyFor, KeepsReady, happens, happen, turn};
+ghost use Rattle.ring_engine.specs.Turns.{brought, brought_on};
 ghost use Rattle.run_facts.specs.Beats.{letter_events, end_events, beat_events};
 
 use crate::delivery::deliver;
 use crate::mail::Mail;
 use node_kit::{Entry, Journal, Life, Node, Outbox, What};
 use run_facts::Letter;
-use std::collections::VecDeque;
-use tiger_base::{Message, NoMemory, NodeNo, Stamp};
+use tiger_base::{LinkNo, Message, NoMemory, NodeNo, Stamp};
 
 /// A node's beat: it takes what has arrived on its in-links, by link number and then in the link's
 /// order, and then ticks. What it does not hear is lost, and where it does not act all of it is;
-/// where it dies, that is written. Letters and outputs are room for what its events take and put
-/// out.
+/// where it dies, that is written. Outputs are room for what its events put out.
 pub fn live<M: Message, T: Node<M>>(
     stamp: Stamp,
     number: NodeNo,
@@ -26,13 +25,11 @@ pub fn live<M: Message, T: Node<M>>(
     life: &mut Life,
     journal: &mut Journal,
     mail: &mut Mail<M>,
-    letters: &mut VecDeque<Letter<M>>,
     outputs: &mut Outbox<M>,
 ) -> Result<(), NoMemory>
     requires early { stamp.beat ≤ most_beats }
     requires reading { stamp.reading ≤ most_reading }
     requires number { number.0 < viewers_of mail.old.links + 1 }
-    requires letters { letters.old.items ≡ [] }
     requires outputs { outputs.old ≡ [] }
     requires ready { IsReadyFor T.stands_at stamp.beat (in_links_of mail.old.links number.0)
         (scene node.old life.old journal.old mail.old.channels) }
@@ -45,7 +42,6 @@ pub fn live<M: Message, T: Node<M>>(
         (record { state = node.old; life = life.old; journal = journal.old }))
         (scene node.old life.old journal.old mail.old.channels)
         (scene node.new life.new journal.new mail.new.channels)) }
-    ensures letters { OnOk result (letters.new.items ≡ []) }
     ensures links { OnOk result (mail.new.links ≡ mail.old.links) }
     ensures outputs { OnOk result (outputs.new ≡ []) }
 {
@@ -53,7 +49,7 @@ pub fn live<M: Message, T: Node<M>>(
     if mail.is_quiet(stamp.beat, number) {
         return end_beat(stamp, node, life, journal, mail, outputs);
     }
-    live_with_mail(stamp, number, node, life, journal, mail, letters, outputs)
+    live_with_mail(stamp, number, node, life, journal, mail, outputs)
 }
 
 /// The beat of a node at which something may arrive.
@@ -66,13 +62,11 @@ fn live_with_mail<M: Message, T: Node<M>>(
     life: &mut Life,
     journal: &mut Journal,
     mail: &mut Mail<M>,
-    letters: &mut VecDeque<Letter<M>>,
     outputs: &mut Outbox<M>,
 ) -> Result<(), NoMemory>
     requires early { stamp.beat ≤ most_beats }
     requires reading { stamp.reading ≤ most_reading }
     requires number { number.0 < viewers_of mail.old.links + 1 }
-    requires letters { letters.old.items ≡ [] }
     requires outputs { outputs.old ≡ [] }
     requires ready { IsReadyFor T.stands_at stamp.beat (in_links_of mail.old.links number.0)
         (scene node.old life.old journal.old mail.old.channels) }
@@ -85,18 +79,55 @@ fn live_with_mail<M: Message, T: Node<M>>(
         (record { state = node.old; life = life.old; journal = journal.old }))
         (scene node.old life.old journal.old mail.old.channels)
         (scene node.new life.new journal.new mail.new.channels)) }
-    ensures letters { OnOk result (letters.new.items ≡ []) }
     ensures links { OnOk result (mail.new.links ≡ mail.old.links) }
     ensures outputs { OnOk result (outputs.new ≡ []) }
 {
-    mail.gather(stamp.beat, number, letters)?;
-    take_all(stamp, letters, node, life, journal, mail, outputs)?;
+    take_mail(stamp, number, node, life, journal, mail, outputs)?;
+    mail.keep_quiet(number);
     end_beat(stamp, node, life, journal, mail, outputs)
 }
 
-fn take_all<M: Message, T: Node<M>>(
+/// Takes what has arrived at a node: link for link, and the oldest first.
+fn take_mail<M: Message, T: Node<M>>(
     stamp: Stamp,
-    letters: &mut VecDeque<Letter<M>>,
+    number: NodeNo,
+    node: &mut T,
+    life: &mut Life,
+    journal: &mut Journal,
+    mail: &mut Mail<M>,
+    outputs: &mut Outbox<M>,
+) -> Result<(), NoMemory>
+    requires early { stamp.beat ≤ most_beats }
+    requires reading { stamp.reading ≤ most_reading }
+    requires number { number.0 < viewers_of mail.old.links + 1 }
+    requires outputs { outputs.old ≡ [] }
+    requires ready { IsReadyFor T.stands_at stamp.beat (in_links_of mail.old.links number.0)
+        (scene node.old life.old journal.old mail.old.channels) }
+    ensures takes { OnOk result ((scene node.new life.new journal.new mail.new.channels)
+        ≡ brought M.note_of T.step stamp (in_links_of mail.old.links number.0)
+        (scene node.old life.old journal.old mail.old.channels)) }
+    ensures keeps { OnOk result (KeepsReady M.note_of T.step T.stands_at stamp.beat
+        (letter_events M.note_of T.step stamp
+        (collected stamp.beat (in_links_of mail.old.links number.0) mail.old.channels)
+        (record { state = node.old; life = life.old; journal = journal.old }))
+        (scene node.old life.old journal.old mail.old.channels)
+        (scene node.new life.new journal.new mail.new.channels)) }
+    ensures links { OnOk result (mail.new.links ≡ mail.old.links) }
+    ensures outputs { OnOk result (outputs.new ≡ []) }
+{
+    // By place, since each event sends into the same mail.
+    for place in 0..mail.in_link_count(number) {
+        let link = mail.in_link(number, place);
+        take_link(stamp, link, node, life, journal, mail, outputs)?;
+    }
+    Ok(())
+}
+
+/// Takes what has arrived on a link, the oldest first. Each letter comes straight from its channel,
+/// since what the node sends meanwhile arrives in a later beat.
+fn take_link<M: Message, T: Node<M>>(
+    stamp: Stamp,
+    link: LinkNo,
     node: &mut T,
     life: &mut Life,
     journal: &mut Journal,
@@ -106,21 +137,20 @@ fn take_all<M: Message, T: Node<M>>(
     requires early { stamp.beat ≤ most_beats }
     requires reading { stamp.reading ≤ most_reading }
     requires outputs { outputs.old ≡ [] }
-    requires ready { IsReadyFor T.stands_at stamp.beat (links_of_letters letters.old.items)
+    requires ready { IsReadyFor T.stands_at stamp.beat (link ∷ [])
         (scene node.old life.old journal.old mail.old.channels) }
     ensures takes { OnOk result ((scene node.new life.new journal.new mail.new.channels)
-        ≡ happen M.note_of T.step
-        (letter_events M.note_of T.step stamp letters.old.items (record { state = node.old; life = life.old; journal = journal.old }))
+        ≡ brought_on M.note_of T.step stamp link
         (scene node.old life.old journal.old mail.old.channels)) }
     ensures keeps { OnOk result (KeepsReady M.note_of T.step T.stands_at stamp.beat
-        (letter_events M.note_of T.step stamp letters.old.items (record { state = node.old; life = life.old; journal = journal.old }))
+        (letter_events M.note_of T.step stamp (letters_on stamp.beat link mail.old.channels)
+        (record { state = node.old; life = life.old; journal = journal.old }))
         (scene node.old life.old journal.old mail.old.channels)
         (scene node.new life.new journal.new mail.new.channels)) }
-    ensures letters { OnOk result (letters.new.items ≡ []) }
     ensures links { OnOk result (mail.new.links ≡ mail.old.links) }
     ensures outputs { OnOk result (outputs.new ≡ []) }
 {
-    while let Some(letter) = letters.pop_front() {
+    while let Some(letter) = mail.next_letter(stamp.beat, link) {
         take_heard(stamp, letter, node, life, journal, mail, outputs)?;
     }
     Ok(())

@@ -18,9 +18,7 @@ use crate::idle::next_busy;
 use crate::mail::Mail;
 use crate::opening::{all_dials, all_lives, new_journals};
 use node_kit::{Course, Dial, Journal, Life, LinkTable, Node, Outbox, Ran};
-use run_facts::Letter;
 use std::alloc::Global;
-use std::collections::VecDeque;
 use tiger_base::{Beat, Message, NoMemory, NodeNo, Sequence};
 
 /// Runs the nodes of a course. In each beat each node, by number, takes what arrives in the beat, by
@@ -56,8 +54,7 @@ pub fn run_plain<M: Message, T: Node<M>>(
     let mut lives = all_lives(alloc, course, links)?;
     let mut journals = new_journals(alloc, links)?;
     let mut mail = Mail::new(alloc, course, links)?;
-    // One room for letters and one for outputs serve all events of the run.
-    let mut letters = VecDeque::new(alloc);
+    // One room for outputs serves all events of the run.
     let mut outputs = Outbox::new(alloc);
     for beat in 0..course.beats {
         run_beat(
@@ -68,7 +65,6 @@ pub fn run_plain<M: Message, T: Node<M>>(
             &mut lives,
             &mut journals,
             &mut mail,
-            &mut letters,
             &mut outputs,
         )?;
     }
@@ -88,12 +84,10 @@ fn run_beat<M: Message, T: Node<M>>(
     lives: &mut Vec<Life>,
     journals: &mut Vec<Journal>,
     mail: &mut Mail<M>,
-    letters: &mut VecDeque<Letter<M>>,
     outputs: &mut Outbox<M>,
 ) -> Result<(), NoMemory>
     requires course { IsCourse course.now }
     requires early { beat ≤ most_beats }
-    requires letters { letters.old.items ≡ [] }
     requires outputs { outputs.old ≡ [] }
     requires few { vec_len nodes.old ≤ 1000 }
     requires links { mail.old.links ≡ links_of course.now.plan.params }
@@ -110,7 +104,6 @@ fn run_beat<M: Message, T: Node<M>>(
         (ring nodes.old.items lives.old.items journals.old.items mail.old.channels)
         (ring nodes.new.items lives.new.items journals.new.items mail.new.channels)) }
     ensures links { OnOk result (mail.new.links ≡ mail.old.links) }
-    ensures letters { OnOk result (letters.new.items ≡ []) }
     ensures outputs { OnOk result (outputs.new ≡ []) }
 {
     let mut n = next_busy(beat, 0, dials, nodes.as_slice(), lives.as_slice(), mail);
@@ -123,7 +116,6 @@ fn run_beat<M: Message, T: Node<M>>(
             &mut lives[n],
             &mut journals[n],
             mail,
-            letters,
             outputs,
         )?;
         n = next_busy(beat, n + 1, dials, nodes.as_slice(), lives.as_slice(), mail);

@@ -10,5 +10,5 @@ loop-output-preserved g c = record {
   sent = sent-on _ c.loop-output.mail.channels _ _ c.in-Some.output _ c.loop-output.outputs c.in_ok-deliver_one.ensures.channels c.in-Some.ensures c.loop-output.invariant.sent;
   links = postable-on _ c.loop-output.mail.channels c.deliver_one.new.mail.channels c.in-Some.output _ c.loop-output.outputs c.in_ok-deliver_one.ensures.channels c.in-Some.ensures c.loop-output.invariant.links;
   same = c.in_ok-deliver_one.ensures.links ∙ c.loop-output.invariant.same;
-  unsent = subst (AreOpen c.args.stamp.beat) (sym c.in_ok-deliver_one.ensures.channels) (AreOpen-posted_one c.args.stamp.beat c.in-Some.output c.loop-output.mail.channels c.loop-output.invariant.unsent);
+  are_open = subst (AreOpen c.args.stamp.beat) (sym c.in_ok-deliver_one.ensures.channels) (AreOpen-posted_one c.args.stamp.beat c.in-Some.output c.loop-output.mail.channels c.loop-output.invariant.are_open);
 }

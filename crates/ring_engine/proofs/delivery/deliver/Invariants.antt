@@ -11,7 +11,7 @@ invariant-loop-output g l = record {
   sent : posted l.stamp.beat l.outputs l.mail.channels ≡ posted l.stamp.beat l.fn.outputs l.fn.mail.channels;
   links : AllByRecursion (IsPostable (length l.mail.channels)) l.outputs;
   same : l.mail.links ≡ l.fn.mail.links;
-  unsent : AreOpen l.stamp.beat l.mail.channels;
+  are_open : AreOpen l.stamp.beat l.mail.channels;
 }
 
 abbrev pub decreases-loop-output : goal.decreases-loop-output

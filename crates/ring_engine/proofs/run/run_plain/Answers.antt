@@ -14,11 +14,10 @@ loop-beat-init g c =
     let journals = c.in_ok-journals.ensures ∙ ap (each_below (λ _. _)) (sym c.requires.count) in
     let channels = c.in_ok-mail.ensures.channels ∙ ap (λ t. each_below (new_channel c.args.course.now) (link_count t)) c.requires.links in
     record {
-      sound = sound-open _ c.args.course.now _ _ _ _ _ c.requires.stand c.args.nodes.ok.0 lives journals channels;
+      sound = sound-open _ c.args.course.now _ _ _ _ _ c.requires.course c.requires.stand c.args.nodes.ok.0 lives journals channels;
       passed = ring-opens c.args.course.now _ _ _ _ _ c.args.nodes.ok.0 lives journals channels;
       come = come-open _ _ c.args.course.now _ _ _ _ _ c.args.nodes.ok.0 lives journals;
       links = c.in_ok-mail.ensures.links;
-      letters = c.new-letters.ensures.items;
       outputs = c.new-outputs.ensures;
     }
 
@@ -35,7 +34,6 @@ loop-beat-preserved g c = record {
   passed = passed-on _ _ _ _ _ _ _ _ _ (c.loop-beat.nodes.ok.0 ∙ c.loop-beat.invariant.sound.nodes) c.in_ok-run_beat.ensures.turns c.loop-beat.invariant.passed;
   come = come-more _ _ _ _ _ _ _ c.in_ok-run_beat.ensures.lived c.loop-beat.invariant.come;
   links = c.in_ok-run_beat.ensures.links ∙ c.loop-beat.invariant.links;
-  letters = c.in_ok-run_beat.ensures.letters;
   outputs = c.in_ok-run_beat.ensures.outputs;
 }
 
