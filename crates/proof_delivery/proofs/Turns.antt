@@ -1,5 +1,5 @@
--- The blocks of a viewer come in order: what is sent of a visit is got before anything of the next visit is sent.
-use Rattle.std.proofs.Common.{◌≡◌, ℕ, ◌+◌, List, [], sym, ap, subst, ◌∙◌, arith}
+-- The blocks of a viewer come in order: what is sent of a visit is got before anything of any later visit is sent.
+use Rattle.std.proofs.Common.{◌≡◌, ℕ, List, [], sym, ap, subst, ◌∙◌, arith}
 use Rattle.std.specs.Prelude.{◌==◌, if◌then◌else◌}
 use Rattle.std.specs.List.{AllByRecursion}
 use Rattle.std.proofs.lemmas.Bool.{eqb-true}
@@ -36,7 +36,7 @@ module _ (p : Params) (a : Evidence) (r : Facts) (q : PieceFacts) (w : ServiceFa
 
   in_turn : (x y : Dated Want) → In x (got_in p (order_of beats a.journals))
       → In y (sent_in (order_of beats a.journals)) → IsGotBefore x y
-  in_turn x y i k instance next =
+  in_turn x y i k instance later =
       let z = found_in (λ (v : Noted). if v.node == viewers p then got_by (beat_of v) v.entry.what else []) x
       (order_of beats a.journals) i in
       let o = got_of z.0 x z.2 in
@@ -48,13 +48,11 @@ module _ (p : Params) (a : Evidence) (r : Facts) (q : PieceFacts) (w : ServiceFa
       let two = visits.served_in p a r q w end g beats y k in
       let t = one.served.tenancy in
       let u = two.tenancy in
-      let there : q.Serves two.node u (x.item.visit + 1) y.item.piece y.beat = subst
-      (λ (v : ℕ). q.Serves two.node u v y.item.piece y.beat) (sym next) two.serves in
       let same : u.instance.0 ≡ t.instance.0 =
       ap (λ (v : Want). v.instance.0) (sym two.wanted) ∙ ap (λ v. v.0) (sym instance)
       ∙ ap (λ (v : Want). v.instance.0) one.served.wanted in
-      let order = g.blocks.order one.node two.node x.item.visit x.item.piece y.item.piece one.entry.stamp.beat
-      y.beat t u one.served.serves there same in
+      let order = g.blocks.order one.node two.node x.item.visit y.item.visit x.item.piece y.item.piece
+      one.entry.stamp.beat y.beat t u later one.served.serves two.serves same in
       let soon = one.soon in
       let beat : x.beat ≡ z.0.entry.stamp.beat = e.0 in
       omega arith

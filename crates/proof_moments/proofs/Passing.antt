@@ -19,14 +19,12 @@ use Rattle.node_kit.specs.declared.journal.What.TheVariants as what
 use Rattle.node_kit.specs.declared.journal.Entry.{Entry}
 use Rattle.run_facts.specs.Order.{Noted, beat_of, journal_of, order_of}
 use Rattle.run_facts.specs.Timed.{is_died}
-use Rattle.run_facts.specs.Accounts.{Rising}
 use Rattle.run_model.specs.Fronts.{AnyByRecursion}
 use Rattle.run_model.specs.Schedule.{Stop, schedule_of, is_stopped}
 use Rattle.run_model.specs.Views.{records_of}
 use Rattle.run_model.specs.Moments.{is_belief_of, is_put_of, moment_at}
-use Rattle.run_model.specs.Orders.{IsOrdered, is_up_to, end_of_tick, IsStartOf}
-use Rattle.run_claims.specs.Patience.{IsTakenAt, IsJustBefore, PassesNobodyOver, NobodyIsPassedOver}
-use Rattle.run_claims.proofs.Ticks.{tick_is_stronger}
+use Rattle.run_model.specs.Orders.{IsOrdered, is_up_to, end_of_tick, IsStartOf, IsRecentStop, IsTaken, IsNotPassedOver}
+use Rattle.run_claims.specs.Patience.{NobodyIsPassedOver}
 use Rattle.proof_schedule.specs.Facts.{Facts, BelievedBy, PutBy, ReachedBy, GoneBefore, DiedLongBefore}
 use Rattle.proof_schedule.specs.StartLaws.{Waits}
 use Rattle.proof_moments.specs.Members.{In}
@@ -34,7 +32,6 @@ use Rattle.proof_moments.specs.Ties.{IsTickBelow, StandsIn, IsCutAt, IsHeldAt, I
 use Rattle.proof_moments.specs.Recorded.{IsRecorded}
 use Rattle.proof_moments.proofs.Lists.{either_way, in_filter, from_filter, in_cases, any_by, any_with, any_passes, any_passing}
 use Rattle.proof_moments.proofs.Holders.{IsReplaced, holder_or, stop_from, stop_in}
-use Rattle.proof_moments.proofs.Sorted.{last_is}
 use Rattle.proof_moments.proofs.Ticks.{up_to_parts, up_to_by, tick_front}
 use Rattle.proof_moments.proofs.Bridge as bridge
 use Rattle.proof_moments.proofs.Parts as parts
@@ -185,7 +182,7 @@ module _ (p : Params) (r : Facts) (orders : List Order) (journals : List (List E
 
   -- a visit in the window that is held and shown is taken at the end of the tick
   seated : (slot n : ℕ) → IsHere n → due p slot n ≤ reading + p.window_a → reading + p.window_b < due p slot n → (j : List Entry) → slice_get journals c ≡ Some j → IsHeldAt p r c slot n beat
-      → IsTakenAt p (moment_at front) beat c slot n
+      → IsTaken p (moment_at front) c beat slot n
   unfolding moment_at
   seated slot n here below above j at k =
       let t : Tenancy = k.taken.holder in
@@ -208,14 +205,14 @@ module _ (p : Params) (r : Facts) (orders : List Order) (journals : List (List E
       let is_v : s.0.instance ≡ t.instance.0 = eqb-true _ _ s.2 in
       let late = k.taken.recent (beat_of g.entry) (subst (λ (v : ℕ). r.Gone v (beat_of g.entry)) (sym g.same ∙ is_v) gone) in
       let soon : time_of p beat ≤ time_of p s.0.beat + p.play = subst (λ (b : ℕ). time_of p beat ≤ time_of p b + p.play) (sym g.beat) (omega arith) in
-      let stopped : AnyByRecursion (IsJustBefore p beat t.instance.0) (schedule_of front).stops = any_with (IsJustBefore p beat t.instance.0) (schedule_of front).stops s.0 s.1 (is_v, soon) in
+      let stopped : AnyByRecursion (IsRecentStop p beat t.instance.0) (schedule_of front).stops = any_with (IsRecentStop p beat t.instance.0) (schedule_of front).stops s.0 s.1 (is_v, soon) in
       let q = shown_there t n k.shows j at in
       let q_slot : q.0.tenancy.slot.0 ≡ slot = ap (λ (u : Tenancy). u.slot.0) q.2 ∙ same in
-      let q_stopped : AnyByRecursion (IsJustBefore p beat q.0.tenancy.instance.0) (schedule_of front).stops = subst (λ (u : Tenancy). AnyByRecursion (IsJustBefore p beat u.instance.0) (schedule_of front).stops) (sym q.2) stopped in
-      inr (either_way (λ (rs : List Rec). AnyByRecursion (λ (y : Rec). (y.tenancy.slot.0 ≡ slot) × (y.visit ≡ n) × AnyByRecursion (IsJustBefore p beat y.tenancy.instance.0) (schedule_of front).stops) rs)
+      let q_stopped : AnyByRecursion (IsRecentStop p beat q.0.tenancy.instance.0) (schedule_of front).stops = subst (λ (u : Tenancy). AnyByRecursion (IsRecentStop p beat u.instance.0) (schedule_of front).stops) (sym q.2) stopped in
+      inr (either_way (λ (rs : List Rec). AnyByRecursion (λ (y : Rec). (y.tenancy.slot.0 ≡ slot) × (y.visit ≡ n) × AnyByRecursion (IsRecentStop p beat y.tenancy.instance.0) (schedule_of front).stops) rs)
       (list_any (λ (e : Entry). is_died e.what) (journal_of c front)) [] (records_of (journal_of c front))
       (λ d. absurd (alive d))
-      (λ _. any_with (λ (y : Rec). (y.tenancy.slot.0 ≡ slot) × (y.visit ≡ n) × AnyByRecursion (IsJustBefore p beat y.tenancy.instance.0) (schedule_of front).stops) (records_of (journal_of c front)) q.0 q.1 (q_slot, q.3, q_stopped))))
+      (λ _. any_with (λ (y : Rec). (y.tenancy.slot.0 ≡ slot) × (y.visit ≡ n) × AnyByRecursion (IsRecentStop p beat y.tenancy.instance.0) (schedule_of front).stops) (records_of (journal_of c front)) q.0 q.1 (q_slot, q.3, q_stopped))))
       (λ (none : is_stopped t.instance.0 (schedule_of front).stops ≡ false).
       let put = put_there held.cub x t held.put by in
       let pb = put.beat_is in
@@ -304,7 +301,7 @@ module _ (p : Params) (r : Facts) (orders : List Order) (journals : List (List E
       }
 
   start_taken : (ask : Ask) (slot n : ℕ) → IsOrdered orders ask → IsWaiting ask n → list_any (λ (x : Noted). is_put_of ask.instance.0 x.entry.what) front ≡ false
-      → is_stopped ask.instance.0 (schedule_of front).stops ≡ false → slot < p.slots → disk_of p n ≡ ask.disk.0 → IsTrue (in_window p reading slot n) → IsTakenAt p (moment_at front) beat c slot n
+      → is_stopped ask.instance.0 (schedule_of front).stops ≡ false → slot < p.slots → disk_of p n ≡ ask.disk.0 → IsTrue (in_window p reading slot n) → IsTaken p (moment_at front) c beat slot n
   start_taken ask slot n ordered k unput unstopped in_plan on window =
       let parts = window_parts p reading slot n window in
       ⊎_elim
@@ -335,7 +332,7 @@ module _ (p : Params) (r : Facts) (orders : List Order) (journals : List (List E
       other))
       (w.more.waits c k.start beat reading slot n ask k.waits k.by ticked in_plan parts)
 
-  passes_nobody : PassesNobodyOver p orders (end_of_tick beat c log) c beat reading
+  passes_nobody : IsNotPassedOver p orders (end_of_tick beat c log) c beat reading
   unfolding moment_at
   passes_nobody = record {
     taken = λ ask slot n ordered has unput unstopped in_plan on window. ⊎_elim
@@ -344,16 +341,6 @@ module _ (p : Params) (r : Facts) (orders : List Order) (journals : List (List E
         has;
   }
 
--- the last beat of a list is not above what none of its beats is above
-last_below : (b : ℕ) (xs : List Noted) → ((e : Noted) → In e xs → beat_of e ≤ b) → Rising beat_of xs → (moment_at xs).beat ≤ b
-unfolding moment_at
-last_below b [] low rise = omega arith
-last_below b (x ∷ xs) low rise = let z = last_is (x ∷ xs) x (inl refl) rise in let zb = z.beat in let l = low z.entry z.there in omega arith
-
 pub nobody_is_passed_over : (p : Params) (r : Facts) (orders : List Order) (journals : List (List Entry)) (beats : ℕ) → IsRecorded p r orders journals
     → NobodyIsPassedOver p orders (IsTickBelow r beats) (order_of beats journals)
-nobody_is_passed_over p r orders journals beats w c b l small k =
-    tick_is_stronger p orders (end_of_tick b c (order_of beats journals)) c b l
-    (last_below b (front p r orders journals w beats c b l small k.1 k.0) (low_of p r orders journals w beats c b l small k.1 k.0)
-    (parts.front_rises p r orders journals w beats (front p r orders journals w beats c b l small k.1 k.0) (back p r orders journals w beats c b l small k.1 k.0) (is_log p r orders journals w beats c b l small k.1 k.0)))
-    (passes_nobody p r orders journals w beats c b l small k.1 k.0)
+nobody_is_passed_over p r orders journals beats w c b l small k = passes_nobody p r orders journals w beats c b l small k.1 k.0

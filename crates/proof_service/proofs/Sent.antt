@@ -3,7 +3,7 @@ use Rattle.std.proofs.Common.{◌≡◌, ℕ, zero, suc, ◌+◌, ◌<◌, ◌�
 use Rattle.tiger_base.specs.declared.tenancy.Tenancy.{Tenancy}
 use Rattle.slot_plan.specs.declared.params.Params.{Params}
 use Rattle.slot_plan.specs.Times.{time_of, cub_of}
-use Rattle.slot_plan.proofs.Times.{time_add, time_below, time_mono, time_next, due_next}
+use Rattle.slot_plan.proofs.Times.{time_add, time_below, time_mono, time_next, due_later}
 use Rattle.proof_schedule.specs.Facts.{Facts}
 use Rattle.proof_pieces.specs.PieceFacts.{PieceFacts, leave}
 use Rattle.proof_pieces.proofs.Entries.{origin, split_dead, arises_early, there_soon}
@@ -86,15 +86,15 @@ module _ (p : Params) (r : Facts) (q : PieceFacts) (w : ServiceFacts) (end : ℕ
   alone {d = d} {n = n} {b = b} (suc j) k l same =
       absurd (not_both j k (subst (λ x. q.Serves d x n (suc j) b) (same_tenancy k l same) l))
 
-  -- What is sent of a visit is got before anything of the next visit is sent.
-  pub order : {c d n i j x y : ℕ} {t u : Tenancy} → q.Serves c t n i x → q.Serves d u (n + 1) j y
+  -- What is sent of a visit is got before anything of any later visit is sent.
+  pub order : {c d n m i j x y : ℕ} {t u : Tenancy} → n < m → q.Serves c t n i x → q.Serves d u m j y
       → u.instance.0 ≡ t.instance.0 → x + p.delay < y
-  order {c} {d} {n} {i} {j} {x} {y} {t} {u} k l same =
-      let next : q.Serves d t (n + 1) j y = subst (λ v. q.Serves d v (n + 1) j y) (same_tenancy k l same) l in
+  order {c} {d} {n} {m} {i} {j} {x} {y} {t} {u} later k l same =
+      let second : q.Serves d t m j y = subst (λ v. q.Serves d v m j y) (same_tenancy k l same) l in
       let high = (sent_in_time k).1 in
-      let low = (sent_in_time next).0 in
+      let low = (sent_in_time second).0 in
       let until = leave_until p s.setting.ok t n i (s.pieces.serves k).few in
-      let after = leave_after p t (n + 1) j in
-      let due_later = due_next p t.slot.0 n in
+      let after = leave_after p t m j in
+      let play_apart = due_later p t.slot.0 n m later in
       let a = time_add p x p.delay in
       time_below p (x + p.delay) y (omega arith)

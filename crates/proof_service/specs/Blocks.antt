@@ -120,9 +120,9 @@ pub record AreBlocksServed (p : Params) (r : Facts) (q : PieceFacts) (w : Servic
   -- The whole block of an instance's visit and a piece of it are never both sent.
   pub alone : (c d n j a b : ℕ) (t u : Tenancy)
       → q.Serves c t n 0 a → q.Serves d u n j b → u.instance.0 ≡ t.instance.0 → j ≡ 0
-  -- What is sent of a visit is got before anything of the instance's next visit is sent.
-  pub order : (c d n i j x y : ℕ) (t u : Tenancy)
-      → q.Serves c t n i x → q.Serves d u (n + 1) j y → u.instance.0 ≡ t.instance.0
+  -- What is sent of a visit is got before anything of any later visit of the instance is sent.
+  pub order : (c d n m i j x y : ℕ) (t u : Tenancy)
+      → n < m → q.Serves c t n i x → q.Serves d u m j y → u.instance.0 ≡ t.instance.0
       → x + p.delay < y
 
 -- Whatever the facts of a run of a plan, if they meet the laws of the schedule, of pieces and of

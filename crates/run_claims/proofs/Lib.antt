@@ -1,3 +1,2 @@
-pub mod Kept
-pub mod Ticks
+pub mod Nine
 pub mod Fits

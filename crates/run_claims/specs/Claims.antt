@@ -1,13 +1,8 @@
 -- The nine claims of a run, and all of them together.
-use Rattle.std.specs.Prelude.{◌↔◌}
-use Rattle.node_kit.specs.declared.course.Kept.{Kept}
-use Rattle.node_kit.specs.Courses.{reading_of}
-use Rattle.node_kit.specs.Links.{links_of, controller_of}
 use Rattle.run_facts.specs.Commanded.{AreCommanded}
 use Rattle.run_model.specs.Orders.{PutsAreFair}
 use Rattle.run_model.specs.Parts.{ViewsAreAlwaysPart, EntriesAreLocal}
-use Rattle.run_model.specs.Runs.{order_in, NoneIsPassedOver}
-use Rattle.run_claims.specs.Accounts.{Account, account_of, log_of, end_of}
+use Rattle.run_claims.specs.Accounts.{Account, log_of, end_of}
 use Rattle.run_claims.specs.Returns.{NobodyComesBack}
 use Rattle.run_claims.specs.Visits.{AreServedOnce}
 use Rattle.run_claims.specs.Truths.{BeliefsAreTrue, FailuresAreTrue}
@@ -64,24 +59,3 @@ pub record MeetsClaims (a : Account) : Type 0 where
   pub delivery : FullDelivery a
   pub in_order : VisitsInOrder a
   pub starts : FairStarts a
-
--- ---- what is proved of runs today, in these words
-
--- the four of one schedule, and that the controller's journal follows the orders, as they are said of a kept run
-pub record StandsToday (k : Kept) : Type 0 where
-  pub fair : PutsAreFair k.course.plan.params k.orders (order_in k)
-  pub part : ViewsAreAlwaysPart k.course.plan.params (order_in k)
-  pub local : EntriesAreLocal k.course.plan.params (order_in k)
-  pub patient : NoneIsPassedOver k
-  pub commanded : AreCommanded k.course.plan.params k.course.beats
-      (reading_of k.course (controller_of (links_of k.course.plan.params))) k.orders k.journals
-
--- the first, the second and the ninth claim of an account
-pub record HasFirstClaims (a : Account) : Type 0 where
-  pub free : FreePuts a
-  pub part : PartViews a
-  pub starts : FairStarts a
-
--- of a kept run they say neither more nor less than that
-abbrev pub ClaimsAreAsBefore : Type 0
-ClaimsAreAsBefore = (k : Kept) → StandsToday k ↔ HasFirstClaims (account_of k)

@@ -7,4 +7,5 @@ pub mod Served
 pub mod Turns
 pub mod Patience
 pub mod Claims
+pub mod Nine
 pub mod Samples

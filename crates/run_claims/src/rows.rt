@@ -11,7 +11,7 @@ ghost use Rattle.run_claims.specs.Visits.{AreServedOnce};
 ghost use Rattle.run_claims.specs.Truths.{BeliefsAreTrue, FailuresAreTrue};
 ghost use Rattle.run_claims.specs.Turns.{AreInTurn};
 ghost use Rattle.run_claims.specs.Patience.{NobodyIsPassedOver};
-ghost use Rattle.run_model.specs.Samples.{three, gone, put, took, want, bytes, sends, gets, asks, asked, fails, dies, believes, IsOfTen, seated, block, piece, ask, ordered, starts};
+ghost use Rattle.run_model.specs.Samples.{three, gone, put, took, want, bytes, sends, gets, asks, asked, fails, dies, believes, IsOfTen, seated, block, piece, ask, ordered, starts, seat};
 ghost use Rattle.run_claims.specs.Samples.{faulty, once, IsServedBy, two_beats};
 
 /// Instance 0 is stopped in beat 10. The longest way lasts two beats and a block plays for 100.
@@ -80,19 +80,26 @@ pub fn strangers()
     ensures third_piece { (s : IsOfTen) → IsServedBy s 0 (seated ∷ gets 3 51 (piece 0 0 3 50 4 2) ∷ []) → ⊥ }
 {}
 
-/// Visit 1 of instance 0 is sent in beat 150.
+/// Visit 1 of instance 0 is sent in beat 150, or in its place visit 2, or visit 0.
 pub fn in_order()
     ensures earlier { AreInTurn small (sends 1 150 (block 0 1 150 4 4) ∷ gets 0 149 (block 0 0 50 0 4) ∷ []) }
     ensures same_beat { AreInTurn small (sends 1 150 (block 0 1 150 4 4) ∷ gets 0 150 (block 0 0 50 0 4) ∷ []) → ⊥ }
     ensures piece_late { AreInTurn small (sends 1 150 (block 0 1 150 4 4) ∷ gets 2 151 (piece 0 0 2 100 2 2) ∷ []) → ⊥ }
     ensures of_other { AreInTurn small (sends 1 150 (block 1 1 150 4 4) ∷ gets 0 150 (block 0 0 50 0 4) ∷ []) }
-    ensures not_next { AreInTurn small (sends 2 150 (block 0 2 150 8 2) ∷ gets 0 150 (block 0 0 50 0 4) ∷ []) }
+    ensures behind_a_gap { AreInTurn small
+        (sends 2 150 (block 0 2 150 8 2) ∷ gets 0 150 (block 0 0 50 0 4) ∷ []) → ⊥ }
+    ensures earlier_visit { AreInTurn small
+        (sends 0 150 (block 0 0 150 0 4) ∷ gets 2 150 (block 0 2 50 8 2) ∷ []) }
 {}
 
 /// Cub 0 gets the start of instance 0 in beat 1, and ticks at 10000: visit 0 of slot 1 is in the window.
+/// At 7800000 it is visit 8 of that slot. Instance 1 was stopped in beat 600; cub 0 took its record of
+/// the visit in beat 650, and nothing is written until the tick of beat 780.
 pub fn patience()
     ensures put_then { NobodyIsPassedOver small ordered (once 1 10000) (starts 0 1 ask false ∷ put 0 1 three ∷ []) }
     ensures stopped { NobodyIsPassedOver small ordered (once 2 20000) (starts 0 1 ask false ∷ gone 1 0 ∷ []) }
+    ensures silent { NobodyIsPassedOver small ordered (once 780 7800000)
+        (gone 600 1 ∷ starts 0 640 ask false ∷ took 0 650 (own_of (seat 1 8 10) 8) ∷ []) → ⊥ }
     ensures passed_over { NobodyIsPassedOver small ordered (once 1 10000) (starts 0 1 ask false ∷ []) → ⊥ }
 {}
 

@@ -36,12 +36,12 @@ death : (w : What) → IsTrue (is_died w) ↔ IsDeath w
 death what.Died = ((λ h. tt), (λ g. refl))
 death other = ((λ h. absurd (false≢true h)), (λ e. absurd e))
 
-stop_of : (v : ℕ) (w : What) → IsTrue (is_gone_of v w) ↔ IsStopOf v w
+pub stop_of : (v : ℕ) (w : What) → IsTrue (is_gone_of v w) ↔ IsStopOf v w
 stop_of v (what.Gone instance) = equal instance.0 v
 stop_of v other = ((λ h. absurd (false≢true h)), (λ e. absurd e))
 
 -- what a journal says
-read_fails : (v n k : ℕ) (journal : List Entry) → IsTrue (read_failed v n k journal) ↔ AnyByRecursion (λ e. IsFailedRead v n k e.what) journal
+pub read_fails : (v n k : ℕ) (journal : List Entry) → IsTrue (read_failed v n k journal) ↔ AnyByRecursion (λ e. IsFailedRead v n k e.what) journal
 read_fails v n k journal = any (λ e. IsFailedRead v n k e.what) (λ e. is_failed_read v n k e.what) (λ e. failed_read v n k e.what) journal
 
 dies_before : (p : Params) (early time : ℕ) (journal : List Entry)
@@ -125,7 +125,7 @@ pieces_loss p journals t n =
           (some_gives test p.pieces (g.piece - 1) (omega arith) ((piece_loss p journals t n (g.piece - 1 + 1)).1 lost))),
     )
 
-death_loss : (p : Params) (journals : List (List Entry)) (t : Tenancy) (n : ℕ) → IsTrue (lost_in_death p journals t n) ↔ LostInDeath p journals t n
+pub death_loss : (p : Params) (journals : List (List Entry)) (t : Tenancy) (n : ℕ) → IsTrue (lost_in_death p journals t n) ↔ LostInDeath p journals t n
 unfolding lost_in_death
 death_loss p journals t n =
     dies_between p (takeover p) (due p t.slot.0 n) (due p t.slot.0 n + p.beat) (journal_at journals (cub_of p n))

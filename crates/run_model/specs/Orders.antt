@@ -2,19 +2,19 @@
 -- passed over.
 use Rattle.std.specs.Prelude.{◌≡◌, ℕ, ◌+◌, ◌%◌, ◌<◌, ◌≤◌, Bool, true, false, ◌&&◌, ◌||◌, ◌==◌, nat_lt, nat_le, List, length, filter, Some, IsTrue, ◌⊎◌}
 use Rattle.tiger_base.specs.declared.tenancy.Ask.{Ask}
+use Rattle.tiger_base.specs.declared.tenancy.Rec.{Rec}
 use Rattle.tiger_base.specs.declared.tenancy.Tenancy.{Tenancy}
 use Rattle.tiger_base.specs.declared.message.Note.TheVariants as note
 use Rattle.slot_plan.specs.declared.params.Params.{Params}
-use Rattle.slot_plan.specs.Times.{cub_of, disk_of, in_window}
+use Rattle.slot_plan.specs.Times.{cub_of, disk_of, in_window, time_of}
 use Rattle.node_kit.specs.declared.journal.What.{What}
 use Rattle.node_kit.specs.declared.journal.What.TheVariants as what
 use Rattle.node_kit.specs.declared.course.Order.{Order}
 use Rattle.node_kit.specs.declared.course.OrderKind.TheVariants as kind
 use Rattle.run_facts.specs.Order.{Noted, beat_of}
 use Rattle.run_model.specs.Fronts.{AnyByRecursion}
-use Rattle.run_model.specs.Schedule.{IsFreeFrom, is_stopped}
+use Rattle.run_model.specs.Schedule.{Stop, IsFreeFrom, is_stopped}
 use Rattle.run_model.specs.Moments.{Moment, moment_at, view_of, is_put_of, HoldsAtEach}
-use Rattle.run_model.specs.Parts.{was_just_stopped}
 
 -- a start of this was ordered
 abbrev pub IsOrdered : List Order → Ask → Type 0
@@ -78,16 +78,27 @@ HasStart p m c ask =
     ⊎ (((ask.disk.0 + 1) % p.cubs ≡ c) × ((m.believed c (ask.disk.0 % p.cubs) ≡ true)
     × AnyByRecursion (λ e. IsStartOf ask.instance.0 true e.what) (m.journal c)))
 
--- the schedule's tenancy has the visit, or the cub's view has a record there whose instance was just stopped
-abbrev pub IsTaken : Params → Moment → ℕ → ℕ → ℕ → Type 0
-IsTaken p m c slot visit =
-    ((t : Tenancy) × (m.schedule.holder slot ≡ Some t) × (t.first ≤ visit) × (visit ≤ t.last))
-    ⊎ AnyByRecursion (λ r. (r.tenancy.slot.0 ≡ slot) × (r.visit ≡ visit) × IsTrue (was_just_stopped p m r.tenancy.instance.0)) (view_of m c)
+-- a stop is of an instance, and a block play time before a beat at most
+abbrev pub IsRecentStop : Params → ℕ → ℕ → Stop → Type 0
+IsRecentStop p beat v stop = (stop.instance ≡ v) × (time_of p beat ≤ time_of p stop.beat + p.play)
 
--- at the end of a cub's tick at a reading, where an instance has a start there and was neither put nor stopped, each
--- visit of its disk in the window is taken
-pub record IsNotPassedOver (p : Params) (orders : List Order) (m : Moment) (c reading : ℕ) : Type 0 where
+-- a record is of a visit of a slot, and its instance has such a stop
+abbrev pub IsOfRecentlyStopped : Params → Moment → ℕ → ℕ → ℕ → Rec → Type 0
+IsOfRecentlyStopped p m beat slot visit r =
+    (r.tenancy.slot.0 ≡ slot) × (r.visit ≡ visit)
+    × AnyByRecursion (IsRecentStop p beat r.tenancy.instance.0) m.schedule.stops
+
+-- in a cub's tick of a beat: the schedule's tenancy has the visit, or the cub's view has a record there whose instance
+-- was stopped a block play time before this beat at most, however long before it the last entry was written
+abbrev pub IsTaken : Params → Moment → ℕ → ℕ → ℕ → ℕ → Type 0
+IsTaken p m c beat slot visit =
+    ((t : Tenancy) × (m.schedule.holder slot ≡ Some t) × (t.first ≤ visit) × (visit ≤ t.last))
+    ⊎ AnyByRecursion (IsOfRecentlyStopped p m beat slot visit) (view_of m c)
+
+-- at the end of a cub's tick of a beat, at a reading: if an instance has a start there and was neither put nor stopped,
+-- each visit of its disk in the window is taken
+pub record IsNotPassedOver (p : Params) (orders : List Order) (m : Moment) (c beat reading : ℕ) : Type 0 where
   pub taken : (ask : Ask) (slot visit : ℕ) → IsOrdered orders ask → HasStart p m c ask
       → m.put ask.instance.0 ≡ false → is_stopped ask.instance.0 m.schedule.stops ≡ false
       → slot < p.slots → disk_of p visit ≡ ask.disk.0 → IsTrue (in_window p reading slot visit)
-      → IsTaken p m c slot visit
+      → IsTaken p m c beat slot visit

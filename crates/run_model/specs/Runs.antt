@@ -25,4 +25,4 @@ pub record IsTimedRun (k : Kept) : Type 0 where
 abbrev pub NoneIsPassedOver : Kept → Type 0
 NoneIsPassedOver k = (c beat : ℕ) → c < k.course.plan.params.cubs → beat < k.course.beats
     → acts (lifetime_of k.course c) beat ≡ true
-    → IsNotPassedOver k.course.plan.params k.orders (end_of_tick beat c (order_in k)) c (reading_of k.course c beat)
+    → IsNotPassedOver k.course.plan.params k.orders (end_of_tick beat c (order_in k)) c beat (reading_of k.course c beat)

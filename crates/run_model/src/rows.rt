@@ -134,45 +134,55 @@ pub fn rightly_put()
 {}
 
 /// A visit of slot 1 is taken by the tenancy that has the slot, or by a record of cub 0 whose
-/// instance was just stopped.
+/// instance was stopped at most 100 beats before the tick, which the last entry may long precede.
 pub fn taken()
-    ensures held { IsTaken small (moment_at (put 0 1 three ∷ [])) 0 1 2 }
-    ensures behind { IsTaken small (moment_at (put 0 1 three ∷ [])) 0 1 3 → ⊥ }
-    ensures before { IsTaken small (moment_at (put 1 1 (seat 0 1 3) ∷ [])) 0 1 0 → ⊥ }
-    ensures other_slot { IsTaken small (moment_at (put 0 1 three ∷ [])) 0 2 0 → ⊥ }
+    ensures held { IsTaken small (moment_at (put 0 1 three ∷ [])) 0 1 1 2 }
+    ensures behind { IsTaken small (moment_at (put 0 1 three ∷ [])) 0 1 1 3 → ⊥ }
+    ensures before { IsTaken small (moment_at (put 1 1 (seat 0 1 3) ∷ [])) 0 1 1 0 → ⊥ }
+    ensures other_slot { IsTaken small (moment_at (put 0 1 three ∷ [])) 0 1 2 0 → ⊥ }
     ensures recorded { IsTaken small
-        (moment_at (gone 20 0 ∷ took 0 120 (own_of three 0) ∷ [])) 0 1 0 }
+        (moment_at (gone 20 0 ∷ took 0 30 (own_of three 0) ∷ [])) 0 120 1 0 }
     ensures long_stopped { IsTaken small
-        (moment_at (gone 20 0 ∷ took 0 121 (own_of three 0) ∷ [])) 0 1 0 → ⊥ }
+        (moment_at (gone 20 0 ∷ took 0 30 (own_of three 0) ∷ [])) 0 121 1 0 → ⊥ }
+    ensures of_other { IsTaken small
+        (moment_at (gone 20 1 ∷ took 0 30 (own_of three 0) ∷ [])) 0 120 1 0 → ⊥ }
     ensures other_visit { IsTaken small
-        (moment_at (gone 20 0 ∷ took 0 120 (own_of three 0) ∷ [])) 0 1 1 → ⊥ }
+        (moment_at (gone 20 0 ∷ took 0 30 (own_of three 0) ∷ [])) 0 120 1 1 → ⊥ }
     ensures other_view { IsTaken small
-        (moment_at (gone 20 0 ∷ took 0 120 (own_of three 0) ∷ [])) 1 1 0 → ⊥ }
+        (moment_at (gone 20 0 ∷ took 0 30 (own_of three 0) ∷ [])) 1 120 1 0 → ⊥ }
 {}
 
 /// Cub 0 gets the start of instance 0 in beat 1, and ticks at 10000: visit 0 of slot 1 is in the
-/// window. At 7000000 visit 0 of slot 15, the last one, is the only one of its disk in the window.
+/// window. At 7000000 visit 0 of slot 15, the last one, is the only one of its disk in the window, and
+/// at 7800000 visit 8 of slot 1: cub 0 took a record of it in beat 650, and nothing is written until
+/// the tick of beat 780.
 pub fn patience()
     ensures put_then { IsNotPassedOver small ordered
-        (end_of_tick 1 0 (starts 0 1 ask false ∷ put 0 1 three ∷ [])) 0 10000 }
+        (end_of_tick 1 0 (starts 0 1 ask false ∷ put 0 1 three ∷ [])) 0 1 10000 }
     ensures stopped { IsNotPassedOver small ordered
-        (end_of_tick 2 0 (starts 0 1 ask false ∷ gone 1 0 ∷ [])) 0 20000 }
+        (end_of_tick 2 0 (starts 0 1 ask false ∷ gone 1 0 ∷ [])) 0 2 20000 }
     ensures taken { IsNotPassedOver small ordered
-        (end_of_tick 1 0 (put 0 0 (seat 1 0 2) ∷ starts 0 1 ask false ∷ [])) 0 10000 }
+        (end_of_tick 1 0 (put 0 0 (seat 1 0 2) ∷ starts 0 1 ask false ∷ [])) 0 1 10000 }
+    ensures recent { IsNotPassedOver small ordered
+        (end_of_tick 780 0 (starts 0 640 ask false ∷ took 0 650 (own_of (seat 1 8 10) 8) ∷ gone 680 1 ∷ []))
+        0 780 7800000 }
+    ensures silent { IsNotPassedOver small ordered
+        (end_of_tick 780 0 (gone 600 1 ∷ starts 0 640 ask false ∷ took 0 650 (own_of (seat 1 8 10) 8) ∷ []))
+        0 780 7800000 → ⊥ }
     ensures waits { IsNotPassedOver small ordered
-        (end_of_tick 1 0 (starts 0 1 ask false ∷ [])) 0 10000 → ⊥ }
+        (end_of_tick 1 0 (starts 0 1 ask false ∷ [])) 0 1 10000 → ⊥ }
     ensures put_too_late { IsNotPassedOver small ordered
-        (end_of_tick 1 0 (starts 0 1 ask false ∷ put 1 1 three ∷ [])) 0 10000 → ⊥ }
+        (end_of_tick 1 0 (starts 0 1 ask false ∷ put 1 1 three ∷ [])) 0 1 10000 → ⊥ }
     ensures other_put { IsNotPassedOver small ordered
-        (end_of_tick 1 0 (starts 0 1 ask false ∷ put 0 1 (seat_in 9 1 0 2) ∷ [])) 0 10000 → ⊥ }
+        (end_of_tick 1 0 (starts 0 1 ask false ∷ put 0 1 (seat_in 9 1 0 2) ∷ [])) 0 1 10000 → ⊥ }
     ensures other_stopped { IsNotPassedOver small ordered
-        (end_of_tick 1 0 (gone 0 1 ∷ starts 0 1 ask false ∷ [])) 0 10000 → ⊥ }
+        (end_of_tick 1 0 (gone 0 1 ∷ starts 0 1 ask false ∷ [])) 0 1 10000 → ⊥ }
     ensures last_slot { IsNotPassedOver small ordered
-        (end_of_tick 700 0 (starts 0 1 ask false ∷ [])) 0 7000000 → ⊥ }
+        (end_of_tick 700 0 (starts 0 1 ask false ∷ [])) 0 700 7000000 → ⊥ }
     ensures for_dead { IsNotPassedOver small ordered
-        (end_of_tick 1 1 (starts 1 1 ask true ∷ believes 1 1 0 ∷ [])) 1 10000 → ⊥ }
+        (end_of_tick 1 1 (starts 1 1 ask true ∷ believes 1 1 0 ∷ [])) 1 1 10000 → ⊥ }
     ensures for_living { IsNotPassedOver small ordered
-        (end_of_tick 1 1 (starts 1 1 ask true ∷ [])) 1 10000 }
+        (end_of_tick 1 1 (starts 1 1 ask true ∷ [])) 1 1 10000 }
 {}
 
 /// Visit 0 of instance 0 is due at 500000, in beat 50; its block has four bytes. Of its pieces, of

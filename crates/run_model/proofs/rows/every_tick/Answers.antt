@@ -19,8 +19,8 @@ no-start v redundant [] e h = h
 no-start v redundant (x ∷ xs) e h = absurd (cc)
 
 -- a cub that wrote nothing passes nobody over
-idle : (p : Params) (orders : List Order) (m : Moment) (cub reading : ℕ) → m.journal cub ≡ [] → IsNotPassedOver p orders m cub reading
-idle p orders m cub reading e = record {
+idle : (p : Params) (orders : List Order) (m : Moment) (cub beat reading : ℕ) → m.journal cub ≡ [] → IsNotPassedOver p orders m cub beat reading
+idle p orders m cub beat reading e = record {
   taken = λ a slot visit o s put gone l d w. ⊎_elim
       (λ own. absurd (no-start a.instance.0 false (m.journal cub) e own.1))
       (λ next. absurd (no-start a.instance.0 true (m.journal cub) e next.1.1)) s;
@@ -28,7 +28,7 @@ idle p orders m cub reading e = record {
 
 abbrev Passes : Kept → ℕ → ℕ → Type 0
 Passes k beat cub = acts (lifetime_of k.course cub) beat ≡ true
-    → IsNotPassedOver k.course.plan.params k.orders (end_of_tick beat cub (order_in k)) cub (reading_of k.course cub beat)
+    → IsNotPassedOver k.course.plan.params k.orders (end_of_tick beat cub (order_in k)) cub beat (reading_of k.course cub beat)
 
 -- in a run of one beat each of the eight cubs passes nobody over, if it does not in that beat
 in-one-beat : (k : Kept) → k.course.plan.params.cubs ≡ 8 → k.course.beats ≡ 1 → Passes k 0 0 → Passes k 0 1 → Passes k 0 2 → Passes k 0 3
@@ -39,7 +39,7 @@ in-one-beat k e b p0 p1 p2 p3 p4 p5 p6 p7 cub beat low early acts =
 
 pub returns-clause-put_then : goal.returns-clause-put_then
 unfolding on_samples
-returns-clause-put_then c k plan = in-one-beat (kept k plan 1 (dying None None None) ordered (starts 0 0 ask false ∷ put 0 0 three ∷ [])) refl refl (λ acts. record { taken = λ a slot visit o s p g l d w. let same = only-order ask a o in absurd (false≢true (sym (rw (← same) at p))) }) (λ acts. idle _ _ _ _ _ refl) (λ acts. idle _ _ _ _ _ refl) (λ acts. idle _ _ _ _ _ refl) (λ acts. idle _ _ _ _ _ refl) (λ acts. idle _ _ _ _ _ refl) (λ acts. idle _ _ _ _ _ refl) (λ acts. idle _ _ _ _ _ refl)
+returns-clause-put_then c k plan = in-one-beat (kept k plan 1 (dying None None None) ordered (starts 0 0 ask false ∷ put 0 0 three ∷ [])) refl refl (λ acts. record { taken = λ a slot visit o s p g l d w. let same = only-order ask a o in absurd (false≢true (sym (rw (← same) at p))) }) (λ acts. idle _ _ _ _ _ _ refl) (λ acts. idle _ _ _ _ _ _ refl) (λ acts. idle _ _ _ _ _ _ refl) (λ acts. idle _ _ _ _ _ _ refl) (λ acts. idle _ _ _ _ _ _ refl) (λ acts. idle _ _ _ _ _ _ refl) (λ acts. idle _ _ _ _ _ _ refl)
 
 pub returns-clause-waits : goal.returns-clause-waits
 unfolding on_samples
@@ -47,7 +47,7 @@ returns-clause-waits c k plan h = ⊎_elim (λ t. let holder = t.1 in absurd (cc
 
 pub returns-clause-dies_then : goal.returns-clause-dies_then
 unfolding on_samples
-returns-clause-dies_then c k plan = in-one-beat (kept k plan 1 (dying (Some 0) None None) ordered (starts 0 0 ask false ∷ [])) refl refl (λ acts. absurd (false≢true acts)) (λ acts. idle _ _ _ _ _ refl) (λ acts. idle _ _ _ _ _ refl) (λ acts. idle _ _ _ _ _ refl) (λ acts. idle _ _ _ _ _ refl) (λ acts. idle _ _ _ _ _ refl) (λ acts. idle _ _ _ _ _ refl) (λ acts. idle _ _ _ _ _ refl)
+returns-clause-dies_then c k plan = in-one-beat (kept k plan 1 (dying (Some 0) None None) ordered (starts 0 0 ask false ∷ [])) refl refl (λ acts. absurd (false≢true acts)) (λ acts. idle _ _ _ _ _ _ refl) (λ acts. idle _ _ _ _ _ _ refl) (λ acts. idle _ _ _ _ _ _ refl) (λ acts. idle _ _ _ _ _ _ refl) (λ acts. idle _ _ _ _ _ _ refl) (λ acts. idle _ _ _ _ _ _ refl) (λ acts. idle _ _ _ _ _ _ refl)
 
 pub returns-clause-dies_later : goal.returns-clause-dies_later
 unfolding on_samples

@@ -1,5 +1,4 @@
 use Rattle.std.proofs.Common.{◌≡◌, refl, ⊎_elim, inl, inr, arith}
-use Rattle.std.proofs.lemmas.Bool.{false≢true}
 use Rattle.run_model.specs.Samples.{three}
 use Rattle.run_model.proofs.OnSamples.{on_samples}
 use Rattle.run_model.proofs.rows.taken.Goals as goal
@@ -22,11 +21,19 @@ returns-clause-other_slot c h = ⊎_elim (λ t. let holder = t.1 in absurd (cc))
 
 pub returns-clause-recorded : goal.returns-clause-recorded
 unfolding on_samples
-returns-clause-recorded c = inr (inl (refl, refl, refl))
+returns-clause-recorded c = inr (inl (refl, refl, inl (refl, omega arith)))
 
 pub returns-clause-long_stopped : goal.returns-clause-long_stopped
 unfolding on_samples
-returns-clause-long_stopped c h = ⊎_elim (λ t. let holder = t.1 in absurd (cc)) (λ r. ⊎_elim (λ x. false≢true x.2) (λ n. n) r) h
+returns-clause-long_stopped c h =
+    ⊎_elim (λ t. let holder = t.1 in absurd (cc))
+    (λ r. ⊎_elim (λ x. ⊎_elim (λ stop. let recent = stop.1 in omega (arith, recent)) (λ n. n) x.2) (λ n. n) r) h
+
+pub returns-clause-of_other : goal.returns-clause-of_other
+unfolding on_samples
+returns-clause-of_other c h =
+    ⊎_elim (λ t. let holder = t.1 in absurd (cc))
+    (λ r. ⊎_elim (λ x. ⊎_elim (λ stop. let same = stop.0 in omega (arith, same)) (λ n. n) x.2) (λ n. n) r) h
 
 pub returns-clause-other_visit : goal.returns-clause-other_visit
 unfolding on_samples
