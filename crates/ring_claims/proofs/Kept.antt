@@ -1,25 +1,32 @@
 -- Whatever is kept of the run of a scenario meets all claims.
-use Rattle.std.proofs.Common.{ℕ, ◌<◌, List, sym, subst, arith}
+use Rattle.std.proofs.Common.{ℕ, ◌<◌, length, List, sym, subst, arith}
 use Rattle.tiger_base.specs.declared.message.Msg.{Msg}
 use Rattle.slot_plan.specs.declared.params.Params.{Params}
 use Rattle.node_kit.specs.declared.course.Kept.{Kept}
+use Rattle.node_kit.specs.Courses.{reading_of}
 use Rattle.run_facts.specs.Histories.{History}
-use Rattle.run_claims.specs.Accounts.{ticks_in}
+use Rattle.run_facts.specs.Order.{order_of}
+use Rattle.run_claims.specs.Accounts.{account_of, ticks_in}
+use Rattle.run_claims.specs.Claims.{MeetsClaims}
 use Rattle.scenario_read.specs.declared.scenario.Scenario.{Scenario}
 use Rattle.scenario_read.specs.Sound.{IsScenario}
 use Rattle.ring_nodes.specs.declared.nodes.AnyNode.{AnyNode}
 use Rattle.ring_facts.specs.Rings.{IsRingRun}
 use Rattle.schedule_laws.specs.Facts.{TickedAt}
+use Rattle.controller_facts.specs.Controllers.{controller}
 use Rattle.proof_moments.specs.Ties.{IsTickBelow}
 use Rattle.cub_facts.specs.Lives.{lives_of}
 use Rattle.cub_facts.specs.Facts.{facts_of}
 use Rattle.proof_ring.specs.Runs.{AreShort, disks_of}
-use Rattle.proof_ring.proofs.Runs.{kept_ring}
+use Rattle.proof_ring.proofs.Runs.{size, deaths, kept_ring}
+use Rattle.ring_claims.specs.Accounts.{IsControllersClock, account_in}
+use Rattle.ring_claims.specs.Beliefs.{BelievesInTime}
 use Rattle.ring_claims.specs.Rings.{IsStoredRing}
-use Rattle.ring_claims.specs.Kept.{KeptRunsMeetTheClaims}
+use Rattle.ring_claims.specs.Kept.{KeptRunsMeetTheClaims, KeptRunsBelieveInTime}
+use Rattle.ring_claims.proofs.Beliefs.{rings_believe_in_time}
+use Rattle.ring_claims.proofs.Beliefs as beliefs
+use Rattle.ring_claims.proofs.Claims.{rings_meet_the_claims, with_ticks}
 use Rattle.ring_claims.proofs.Faults.{have_faults}
-use Rattle.ring_claims.proofs.Recorded.{rings_have_one_schedule}
-use Rattle.ring_claims.proofs.Served.{rings_are_never_wrongly_served, rings_are_rightly_served}
 use Rattle.ring_claims.proofs.Ticks.{acts_ticks}
 
 module _ (G : Type 0) (s : Scenario) (library : List (List ℕ)) (k : Kept) (scenario : IsScenario s) (short : AreShort library) (run : IsRingRun G s library k) where
@@ -34,6 +41,17 @@ module _ (G : Type 0) (s : Scenario) (library : List (List ℕ)) (k : Kept) (sce
   tick_below c b l small w =
       (subst (λ n. TickedAt p (lives_of h) c b n) (sym w.2) (acts_ticks G s library k scenario short run c b small w.0 w.1), w.0)
 
+  -- So are the beats and the clock of its controller.
+  controlled : IsControllersClock p h k.course.beats (reading_of k.course (controller p))
+  controlled =
+      let all = size G s library k scenario short run in
+      let inside : controller p < length _ = omega (arith, all) in
+      record {
+        beats = run.steps.kept.lived.complete.until_end (controller p) inside
+            (λ i low. (deaths G s library k scenario short run).mortal (controller p) i (omega arith) (omega arith) low);
+        shows = λ i low tick. run.steps.kept.keeps.stamped (controller p) i inside low;
+      }
+
   pub stored_ring : IsStoredRing p k.catalogue k.course.faults k.orders (disks_of k library) h k.journals
   stored_ring =
       let ring = kept_ring G s library k scenario short run in
@@ -46,26 +64,24 @@ module _ (G : Type 0) (s : Scenario) (library : List (List ℕ)) (k : Kept) (sce
         faulty = have_faults p k.course.faults k.catalogue library;
       }
 
+  pub meets : MeetsClaims (account_of k)
+  meets =
+      let beats = k.course.beats in
+      let clock = reading_of k.course (controller p) in
+      with_ticks (account_in p k.catalogue k.course.faults k.orders h k.journals beats beats clock) (ticks_in k.course) tick_below
+      (rings_meet_the_claims G p k.catalogue k.course.faults k.orders (disks_of k library) h k.journals beats beats beats clock stored_ring
+      (kept_ring G s library k scenario short run).up_to (omega arith) controlled)
+
+  pub believes : BelievesInTime (account_of k)
+  believes =
+      let beats = k.course.beats in
+      let r = facts_of p k.orders h in
+      let ring = stored_ring in
+      beliefs.with_ticks p (IsTickBelow r beats) (ticks_in k.course) (order_of beats k.journals) ring.plan tick_below
+      (rings_believe_in_time G p k.orders (disks_of k library) h k.journals beats ring.plan ring.ring ring.written)
+
 pub kept_runs_meet_the_claims : (G : Type 0) → KeptRunsMeetTheClaims G
-kept_runs_meet_the_claims G s library k scenario short run =
-    let p = k.course.plan.params in
-    let h = run.steps.kept.lived.history in
-    let beats = k.course.beats in
-    let stored = stored_ring G s library k scenario short run in
-    let up = (kept_ring G s library k scenario short run).up_to in
-    let one = rings_have_one_schedule G p k.orders (disks_of k library) h k.journals beats stored.plan stored.ring stored.written in
-    let right = rings_are_never_wrongly_served G p k.catalogue k.course.faults k.orders (disks_of k library) h k.journals beats stored in
-    record {
-      free = one.free;
-      part = record { always = one.part; local = one.local };
-      no_return = right.return;
-      one_per_visit = right.once;
-      true_belief = one.belief;
-      true_faults = right.fault;
-      delivery = rings_are_rightly_served G p k.catalogue k.course.faults k.orders (disks_of k library) h k.journals beats beats stored up (omega arith);
-      in_order = right.turn;
-      starts = record {
-        patient = λ cub beat reading small w. one.patient cub beat reading small (tick_below G s library k scenario short run cub beat reading small w);
-        commanded = run.commanded;
-      };
-    }
+kept_runs_meet_the_claims G s library k scenario short run = meets G s library k scenario short run
+
+pub kept_runs_believe_in_time : (G : Type 0) → KeptRunsBelieveInTime G
+kept_runs_believe_in_time G s library k scenario short run = believes G s library k scenario short run

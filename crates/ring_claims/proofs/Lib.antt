@@ -1,3 +1,6 @@
+pub mod Beliefs
+pub mod Claims
+pub mod Commanded
 pub mod Faults
 pub mod Kept
 pub mod Recorded

@@ -1,2 +1,5 @@
+pub mod Accounts
+pub mod Beliefs
 pub mod Kept
 pub mod Rings
+pub mod Samples

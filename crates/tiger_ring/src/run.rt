@@ -8,6 +8,7 @@ ghost use Rattle.ring_answer.specs.Answers.{IsOnlyRun};
 ghost use Rattle.kept_worlds.specs.Worlds.{IsWorld};
 ghost use Rattle.run_claims.specs.Accounts.{account_of};
 ghost use Rattle.run_claims.specs.Claims.{MeetsClaims};
+ghost use Rattle.ring_claims.specs.Beliefs.{BelievesInTime};
 
 use crate::journals::journals_of;
 use node_kit::{Gate, Kept};
@@ -28,7 +29,7 @@ pub struct RingRun {
 /// Runs a scenario over its library by so many workers, and keeps what is told of the run. Each read of a
 /// disk passes the gate. Whatever the number of workers is, the same is kept, and it is a list of events
 /// that the machine of the ring's nodes accepts. Whatever the scenario starts, stops, lets die and fails to
-/// read, there is one schedule, and each settled block came or is excused.
+/// read, there is one schedule, each settled block came or is excused, and whoever dies is believed dead in time.
 ///
 /// The call may wait for a thread. `NoMemory` is the only error; it gives nothing back.
 pub fn run_ring<R: Threads + Wait + Sync, G: Gate + Sync>(
@@ -48,6 +49,7 @@ pub fn run_ring<R: Threads + Wait + Sync, G: Gate + Sync>(
     ensures only { IfOk result (IsOnlyRun G scenario library.now) }
     ensures world { IfOk result (IsWorld G library.now) }
     ensures claims { IfOk result (λ k. MeetsClaims (account_of k)) }
+    ensures belief_in_time { IfOk result (λ k. BelievesInTime (account_of k)) }
 {
     let RingRun { kept, .. } = run_with_outcomes(rt, alloc, scenario, library, gate, workers)?;
     Ok(kept)
@@ -73,6 +75,7 @@ pub fn run_with_outcomes<R: Threads + Wait + Sync, G: Gate + Sync>(
     ensures only { IfOk result (λ run. IsOnlyRun G scenario library.now run.kept) }
     ensures world { IfOk result (λ run. IsWorld G library.now run.kept) }
     ensures claims { IfOk result (λ run. MeetsClaims (account_of run.kept)) }
+    ensures belief_in_time { IfOk result (λ run. BelievesInTime (account_of run.kept)) }
 {
     let catalogue = catalogue_of(alloc, &scenario, library)?;
     let orders = orders_of(alloc, &scenario, &catalogue)?;

@@ -12,6 +12,9 @@ use Rattle.scenario_read.specs.Meaning.{said_by}
 use Rattle.scenario_make.specs.Made.{made_scenario, made_library}
 use Rattle.run_report.specs.Text.{report_text, summary_text}
 use Rattle.ring_facts.specs.Rings.{IsRingRun}
+use Rattle.ring_answer.specs.Answers.{IsOnlyRun}
+use Rattle.kept_worlds.specs.Worlds.{IsWorld}
+use Rattle.ring_claims.specs.Beliefs.{BelievesInTime}
 use Rattle.run_claims.specs.Accounts.{account_of}
 use Rattle.run_claims.specs.Claims.{MeetsClaims}
 use Rattle.scenario_read.specs.Sound.{IsScenario}
@@ -23,12 +26,17 @@ use Rattle.tiger_run.specs.Inputs.{InputsCause, AreInputs, MadeCalls}
 
 -- ---- what is kept
 
--- The ring ran for a scenario, which breaks no rule, and its files, and this is kept of it. Whatever
--- the scenario starts, stops, lets die and fails to read, it meets all claims.
+-- The ring ran for a scenario, which breaks no rule, and its files, and this is kept of it. Nothing
+-- else can be kept of such a run, and it is a list of events that the machine of the ring's nodes
+-- accepts. Whatever the scenario starts, stops, lets die and fails to read, it meets all claims, and
+-- whoever dies is believed dead in time.
 pub record IsRunOf (G : Type 0) (s : Scenario) (library : List (List ℕ)) (k : Kept) : Type 0 where
   pub sound : IsScenario s
   pub ran : IsRingRun G s library k
+  pub only : IsOnlyRun G s library k
+  pub world : IsWorld G library k
   pub claims : MeetsClaims (account_of k)
+  pub belief_in_time : BelievesInTime (account_of k)
 
 -- the scenario of this name was read, and then its files, with one call for each, and the ring ran
 -- for them

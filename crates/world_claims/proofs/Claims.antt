@@ -1,5 +1,5 @@
 -- What is claimed of a ring's histories holds of the lists that its machine accepts.
-use Rattle.std.proofs.Common.{◌≡◌, ℕ, ◌<◌, List, true, false, sym, ap, ◌∙◌, arith, ⊎_elim}
+use Rattle.std.proofs.Common.{◌≡◌, ℕ, ◌+◌, ◌<◌, List, length, filter, true, false, sym, ap, ◌∙◌, arith, ⊎_elim}
 use Rattle.std.proofs.lemmas.Bool.{cases_eq}
 use Rattle.tiger_base.specs.declared.message.Msg.{Msg}
 use Rattle.slot_plan.specs.declared.params.Params.{Params}
@@ -8,21 +8,30 @@ use Rattle.node_kit.specs.declared.course.Order.{Order}
 use Rattle.node_kit.specs.declared.course.ReadFault.{ReadFault}
 use Rattle.run_facts.specs.Events.{is_death}
 use Rattle.run_facts.specs.Histories.{History, living}
+use Rattle.run_facts.specs.Order.{order_of}
+use Rattle.run_claims.specs.Accounts.{HasTick, is_tick_of, reading_at}
 use Rattle.disk_core.specs.State.{DiskState}
 use Rattle.ring_nodes.specs.declared.nodes.AnyNode.{AnyNode}
 use Rattle.schedule_laws.specs.Histories.{input_of}
+use Rattle.controller_facts.specs.Controllers.{controller}
 use Rattle.cub_facts.specs.Facts.{facts_of}
 use Rattle.cub_facts.specs.Rings.{node_count}
 use Rattle.proof_links.proofs.Lives.{LivesOn, EndsInDeath, lives_or_dies}
 use Rattle.proof_moments.specs.Ties.{IsTickBelow}
+use Rattle.ring_claims.specs.Accounts.{account_in}
 use Rattle.ring_claims.specs.Rings.{IsStoredRing}
+use Rattle.ring_claims.proofs.Beliefs.{rings_believe_in_time}
+use Rattle.ring_claims.proofs.Beliefs as beliefs
+use Rattle.ring_claims.proofs.Claims.{rings_meet_the_claims, with_ticks}
 use Rattle.ring_claims.proofs.Recorded.{rings_have_one_schedule}
 use Rattle.ring_claims.proofs.Served.{rings_are_never_wrongly_served, rings_are_rightly_served}
 use Rattle.ring_world.specs.declared.event.Event.{Event}
 use Rattle.ring_world.specs.Machine.{Machine, journals_of}
-use Rattle.world_claims.specs.Accepted.{IsAccepted, IsTickIn, IsStored, AcceptedListsHaveOneSchedule, AcceptedListsAreNeverWronglyServed, AcceptedListsAreRightlyServed}
+use Rattle.world_claims.specs.Accepted.{IsAccepted, IsTickIn, IsStored, AcceptedListsBelieveInTime, AcceptedListsHaveOneSchedule, AcceptedListsAreNeverWronglyServed, AcceptedListsAreRightlyServed}
+use Rattle.world_claims.specs.Accounts.{ticks_of, AcceptedListsMeetTheClaims}
 use Rattle.world_claims.proofs.Events.{tick_happened}
 use Rattle.world_claims.proofs.Rings as rings
+use Rattle.world_claims.proofs.Ticks as told
 
 module _ (G : Type 0) (p : Params) (orders : List Order) (disk_at : ℕ → DiskState) (beats : ℕ)
     (events : List Event) (m : Machine Msg (AnyNode G)) (k : IsAccepted p orders disk_at beats events m) where
@@ -85,6 +94,14 @@ accepted_lists_have_one_schedule G p orders disk_at beats events m top k =
       patient = λ c b l small tick. one.patient c b l small (ticks G p orders disk_at beats events m k top c b l small tick);
     }
 
+pub accepted_lists_believe_in_time : (G : Type 0) → AcceptedListsBelieveInTime G
+accepted_lists_believe_in_time G p orders disk_at beats events m top k =
+    let history = h G p orders disk_at beats events m k in
+    beliefs.with_ticks p (IsTickBelow (facts_of p orders history) top) (IsTickIn events top) (order_of top (journals_of m)) k.plan
+    (ticks G p orders disk_at beats events m k top)
+    (rings_believe_in_time G p orders disk_at history (journals_of m) top k.plan
+    (rings.is_ring G p orders disk_at beats events m k) (rings.written G p orders disk_at beats events m k))
+
 pub accepted_lists_are_never_wrongly_served : (G : Type 0) → AcceptedListsAreNeverWronglyServed G
 accepted_lists_are_never_wrongly_served G p catalogue faults orders disk_at beats events m top k s =
     rings_are_never_wrongly_served G p catalogue faults orders disk_at (h G p orders disk_at beats events m k) (journals_of m) top
@@ -94,3 +111,16 @@ pub accepted_lists_are_rightly_served : (G : Type 0) → AcceptedListsAreRightly
 accepted_lists_are_rightly_served G p catalogue faults orders disk_at beats events m top k s low =
     rings_are_rightly_served G p catalogue faults orders disk_at (h G p orders disk_at beats events m k) (journals_of m) m.beat top
     (stored G p orders disk_at beats events m k catalogue faults s) (rings.up_to G p orders disk_at beats events m k) low
+
+pub accepted_lists_meet_the_claims : (G : Type 0) → AcceptedListsMeetTheClaims G
+accepted_lists_meet_the_claims G p catalogue faults orders disk_at beats events m k s =
+    let history = h G p orders disk_at beats events m k in
+    let listed = ticks_of events in
+    let commands = length (filter (is_tick_of (controller p)) listed) in
+    let clock = reading_at listed (controller p) in
+    with_ticks (account_in p catalogue faults orders history (journals_of m) (m.beat + 1) commands clock) (HasTick listed)
+    (λ c b l small tick. ticks G p orders disk_at beats events m k (m.beat + 1) c b l small
+    (told.tick_in G p orders disk_at beats events m k c b l (omega (arith, small)) tick))
+    (rings_meet_the_claims G p catalogue faults orders disk_at history (journals_of m) m.beat (m.beat + 1) commands clock
+    (stored G p orders disk_at beats events m k catalogue faults s) (rings.up_to G p orders disk_at beats events m k) (omega arith)
+    (told.clock G p orders disk_at beats events m k))

@@ -3,3 +3,4 @@ pub mod Events
 pub mod Lawful
 pub mod Openings
 pub mod Rings
+pub mod Ticks

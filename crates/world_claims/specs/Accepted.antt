@@ -22,6 +22,7 @@ use Rattle.cub_facts.specs.Rings.{AreOfCatalogue, HaveImages}
 use Rattle.proof_journals.specs.Journals.{AreJournalsOf}
 use Rattle.proof_parcels.specs.Parcels.{HaveFaults}
 use Rattle.proof_ring.specs.Rings.{IsRing}
+use Rattle.ring_claims.specs.Beliefs.{BeliefsAreInTime}
 use Rattle.ring_claims.specs.Rings.{HasOneSchedule, IsNeverWronglyServed}
 use Rattle.ring_world.specs.declared.event.Act.TheVariants as act
 use Rattle.ring_world.specs.declared.event.Event.{Event}
@@ -86,6 +87,15 @@ AcceptedListsHaveOneSchedule G =
     (events : List Event) (m : Machine Msg (AnyNode G)) (top : ℕ)
     → IsAccepted p orders disk_at beats events m
     → HasOneSchedule p orders (IsTickIn events top) (order_of top (journals_of m))
+
+-- Whoever dies in it is believed dead in time, by the next cub if that one lives, over the entries of
+-- any number of beats.
+abbrev pub AcceptedListsBelieveInTime : (G : Type 0) → Type 0
+AcceptedListsBelieveInTime G =
+    (p : Params) (orders : List Order) (disk_at : ℕ → DiskState) (beats : ℕ)
+    (events : List Event) (m : Machine Msg (AnyNode G)) (top : ℕ)
+    → IsAccepted p orders disk_at beats events m
+    → BeliefsAreInTime p (IsTickIn events top) (order_of top (journals_of m))
 
 -- The orders are for files of a catalogue, and the disks have its images and these read faults.
 pub record IsStored (p : Params) (catalogue : Catalogue) (faults : List ReadFault)

@@ -3,6 +3,7 @@ use Rattle.std.specs.Prelude.{ℕ, List, []}
 use Rattle.tiger_base.specs.declared.message.Msg.{Msg}
 use Rattle.slot_plan.specs.Samples.{small}
 use Rattle.disk_image.specs.Image.{Image}
+use Rattle.run_claims.specs.Accounts.{Ticking}
 use Rattle.disk_core.specs.State.{DiskState}
 use Rattle.ring_nodes.specs.declared.nodes.AnyNode.{AnyNode}
 use Rattle.ring_world.specs.declared.event.Act.{Act}
@@ -21,6 +22,14 @@ dies n = at_once (act.Die (record { 0 = n }))
 
 abbrev pub ticks : ℕ → Event
 ticks n = at_once (act.Tick (record { 0 = n }))
+
+-- Node n ends a beat at a reading, as an event and as a tick.
+abbrev pub ticks_at : ℕ → ℕ → ℕ → Event
+ticks_at n beat reading =
+    record { stamp = record { beat = beat; reading = reading }; act = act.Tick (record { 0 = n }) }
+
+abbrev pub tick : ℕ → ℕ → ℕ → Ticking
+tick n beat reading = record { node = n; beat = beat; reading = reading }
 
 -- The disks that have these images, and no read faults.
 abbrev pub disks_of : (ℕ → Image) → ℕ → DiskState

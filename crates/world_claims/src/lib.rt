@@ -1,7 +1,8 @@
 //! The claims of a run hold of every list of events that a machine of a ring's nodes accepts.
 #![tactic(auto)]
 
-ghost use Rattle.world_claims.specs.Accepted.{AcceptedListsAreNeverWronglyServed, AcceptedListsAreRightlyServed, AcceptedListsAreRings, AcceptedListsHaveOneSchedule, NodesAreLawful};
+ghost use Rattle.world_claims.specs.Accepted.{AcceptedListsAreNeverWronglyServed, AcceptedListsAreRightlyServed, AcceptedListsAreRings, AcceptedListsBelieveInTime, AcceptedListsHaveOneSchedule, NodesAreLawful};
+ghost use Rattle.world_claims.specs.Accounts.{AcceptedListsMeetTheClaims};
 
 pub mod rows;
 
@@ -22,6 +23,11 @@ pub fn accepted_lists_have_one_schedule<G>()
     ensures { AcceptedListsHaveOneSchedule G }
 {}
 
+/// Whoever dies in such a list is believed dead in time, by the next cub if that one lives.
+pub fn accepted_lists_believe_in_time<G>()
+    ensures { AcceptedListsBelieveInTime G }
+{}
+
 /// In it nobody comes back, nobody is served twice or out of order, and a read fails only in a read fault.
 pub fn accepted_lists_are_never_wrongly_served<G>()
     ensures { AcceptedListsAreNeverWronglyServed G }
@@ -30,4 +36,10 @@ pub fn accepted_lists_are_never_wrongly_served<G>()
 /// Each settled block of each viewer that was put came, or is excused, and nothing else came.
 pub fn accepted_lists_are_rightly_served<G>()
     ensures { AcceptedListsAreRightlyServed G }
+{}
+
+/// The account of such a list, with the ticks that are on it, meets all nine claims: besides the above, the controller's
+/// journal follows the orders in the beats in which it ticked.
+pub fn accepted_lists_meet_the_claims<G>()
+    ensures { AcceptedListsMeetTheClaims G }
 {}

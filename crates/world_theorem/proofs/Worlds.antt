@@ -6,6 +6,8 @@ use Rattle.slot_plan.specs.declared.params.Params.{Params}
 use Rattle.slot_plan.specs.Times.{disk_count, time_of}
 use Rattle.node_kit.specs.declared.journal.Entry.{Entry}
 use Rattle.run_facts.specs.Order.{order_of}
+use Rattle.run_claims.specs.Accounts.{account_by}
+use Rattle.run_claims.specs.Claims.{MeetsClaims}
 use Rattle.run_claims.specs.Served.{AreServed}
 use Rattle.disk_core.specs.State.{DiskState}
 use Rattle.ring_nodes.specs.declared.nodes.AnyNode.{AnyNode}
@@ -17,11 +19,13 @@ use Rattle.ring_world.specs.Faults.{Accepts}
 use Rattle.controller_facts.specs.Orders.{AreCounted}
 use Rattle.cub_facts.specs.Rings.{AreOfCatalogue}
 use Rattle.proof_ring.specs.Runs.{disk_of_run}
+use Rattle.ring_claims.specs.Beliefs.{BeliefsAreInTime}
 use Rattle.ring_claims.specs.Rings.{HasOneSchedule, IsNeverWronglyServed}
 use Rattle.ring_claims.proofs.Faults.{have_faults}
 use Rattle.world.specs.Worlds.{Opening, Worldly, opening_of, IsWorld}
-use Rattle.world_claims.specs.Accepted.{opening_ring, IsAccepted, IsStored, IsTickIn, AcceptedListsHaveOneSchedule, AcceptedListsAreNeverWronglyServed, AcceptedListsAreRightlyServed}
-use Rattle.world_theorem.specs.Claims.{HasOneScheduleThroughout, IsNeverWronglyServedThroughout, IsRightlyServedThroughout}
+use Rattle.world_claims.specs.Accepted.{opening_ring, IsAccepted, IsStored, IsTickIn, AcceptedListsBelieveInTime, AcceptedListsHaveOneSchedule, AcceptedListsAreNeverWronglyServed, AcceptedListsAreRightlyServed}
+use Rattle.world_claims.specs.Accounts.{ticks_of, AcceptedListsMeetTheClaims}
+use Rattle.world_theorem.specs.Claims.{HasOneScheduleThroughout, BelievesInTimeThroughout, IsNeverWronglyServedThroughout, IsRightlyServedThroughout, MeetsTheClaims}
 
 -- What a rule gives for the elements of a list and their numbers, with one element more.
 one_more : {A B : Type 0} (g : ℕ → A → B) (first : ℕ) (xs : List A) (x : A)
@@ -73,6 +77,11 @@ module _ (G : Type 0) (w : Worldly G) (is : IsWorld w) where
       subst (λ (js : List (List Entry)). HasOneSchedule o.params o.orders (IsTickIn w.running.machine.events top) (order_of top js)) (sym is.journals)
       (law o.params o.orders disk_at o.beats w.running.machine.events is.machine top (accepted counted))
 
+  pub believes_in_time : AcceptedListsBelieveInTime G → AreCounted o.params o.orders → BelievesInTimeThroughout w
+  believes_in_time law counted top =
+      subst (λ (js : List (List Entry)). BeliefsAreInTime o.params (IsTickIn w.running.machine.events top) (order_of top js)) (sym is.journals)
+      (law o.params o.orders disk_at o.beats w.running.machine.events is.machine top (accepted counted))
+
   pub never_wrongly : AcceptedListsAreNeverWronglyServed G → AreCounted o.params o.orders → AreOfCatalogue o.params o.catalogue o.orders
       → IsNeverWronglyServedThroughout w
   never_wrongly law counted files top =
@@ -85,3 +94,11 @@ module _ (G : Type 0) (w : Worldly G) (is : IsWorld w) where
       let same = is.beat in
       subst (λ (js : List (List Entry)). AreServed o.params o.catalogue js (time_of o.params top) (order_of top js)) (sym is.journals)
       (law o.params o.catalogue o.faults o.orders disk_at o.beats w.running.machine.events is.machine top (accepted counted) (stored files) (omega (arith, low, same)))
+
+  pub meets : AcceptedListsMeetTheClaims G → AreCounted o.params o.orders → AreOfCatalogue o.params o.catalogue o.orders → MeetsTheClaims w
+  meets law counted files =
+      subst (λ (b : ℕ). MeetsClaims (account_by o.params o.catalogue o.faults o.orders (journals_of w.running.machine) b (ticks_of w.running.machine.events)))
+      (sym is.beat)
+      (subst (λ (js : List (List Entry)). MeetsClaims (account_by o.params o.catalogue o.faults o.orders js is.machine.beat (ticks_of w.running.machine.events)))
+      (sym is.journals)
+      (law o.params o.catalogue o.faults o.orders disk_at o.beats w.running.machine.events is.machine (accepted counted) (stored files)))

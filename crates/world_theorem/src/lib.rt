@@ -3,13 +3,13 @@
 
 ghost use Rattle.controller_facts.specs.Orders.{AreCounted};
 ghost use Rattle.cub_facts.specs.Rings.{AreOfCatalogue};
-ghost use Rattle.world_theorem.specs.Claims.{HasOneScheduleThroughout, IsNeverWronglyServedThroughout, IsRightlyServedThroughout};
+ghost use Rattle.world_theorem.specs.Claims.{BelievesInTimeThroughout, HasOneScheduleThroughout, IsNeverWronglyServedThroughout, IsRightlyServedThroughout, MeetsTheClaims};
 
 use node_kit::Gate;
 use world::World;
 use world_claims::{
     accepted_lists_are_never_wrongly_served, accepted_lists_are_rightly_served,
-    accepted_lists_have_one_schedule,
+    accepted_lists_believe_in_time, accepted_lists_have_one_schedule, accepted_lists_meet_the_claims,
 };
 
 /// At each moment of a world's events there is one schedule: each Put finds its slot free, every view is part of the
@@ -20,6 +20,15 @@ pub fn has_one_schedule<'a, G: Gate>(world: &World<'a, G>)
 {
     world.is_what_its_events_make();
     accepted_lists_have_one_schedule::<G>();
+}
+
+/// Whoever dies in a world is believed dead in time, by the next cub if that one lives.
+pub fn believes_in_time<'a, G: Gate>(world: &World<'a, G>)
+    requires { AreCounted world.now.opening.params world.now.opening.orders }
+    ensures { BelievesInTimeThroughout world.now }
+{
+    world.is_what_its_events_make();
+    accepted_lists_believe_in_time::<G>();
 }
 
 /// In a world whose orders are for files of its catalogue nobody comes back, nobody is served twice or out of order, and
@@ -35,4 +44,16 @@ pub fn is_rightly_served<'a, G: Gate>(world: &World<'a, G>)
     world.is_what_its_events_make();
     accepted_lists_are_never_wrongly_served::<G>();
     accepted_lists_are_rightly_served::<G>();
+}
+
+/// At every moment the account of such a world meets all nine claims, as that of a run does: what was given, its journals,
+/// and the ticks among its events, over the beats up to its own.
+pub fn meets_the_claims<'a, G: Gate>(world: &World<'a, G>)
+    requires counted { AreCounted world.now.opening.params world.now.opening.orders }
+    requires files { AreOfCatalogue world.now.opening.params world.now.opening.catalogue
+        world.now.opening.orders }
+    ensures { MeetsTheClaims world.now }
+{
+    world.is_what_its_events_make();
+    accepted_lists_meet_the_claims::<G>();
 }

@@ -1,7 +1,7 @@
 use Rattle.std.proofs.Common.{refl, ◌∙◌}
 use Rattle.ring_answer.proofs.Kepts.{kept_runs_are_one}
 use Rattle.kept_worlds.proofs.Worlds.{kept-worlds}
-use Rattle.ring_claims.proofs.Kept.{kept_runs_meet_the_claims}
+use Rattle.ring_claims.proofs.Kept.{kept_runs_believe_in_time, kept_runs_meet_the_claims}
 use Rattle.tiger_ring.proofs.run.run_with_outcomes.Goals as goal
 
 pub returns-clause-ran : goal.returns-clause-ran
@@ -32,3 +32,7 @@ returns-clause-world g c =
 pub returns-clause-claims : goal.returns-clause-claims
 returns-clause-claims g c =
     kept_runs_meet_the_claims g.row.G.Denot c.args.scenario c.args.library.now _ c.requires.scenario c.requires.short (returns-clause-ran g c)
+
+pub returns-clause-belief_in_time : goal.returns-clause-belief_in_time
+returns-clause-belief_in_time g c =
+    kept_runs_believe_in_time g.row.G.Denot c.args.scenario c.args.library.now _ c.requires.scenario c.requires.short (returns-clause-ran g c)

@@ -15,7 +15,10 @@ returns-clause-ran g c =
     let run : IsRunOf g.row.G.Denot made.scenario made.library c.in-Ok-run_with_outcomes.run'.kept = record {
       sound = c.in-Ok.ensures.sound;
       ran = c.in-Ok-run_with_outcomes.ensures.ran;
+      only = c.in-Ok-run_with_outcomes.ensures.only;
+      world = c.in-Ok-run_with_outcomes.ensures.world;
       claims = c.in-Ok-run_with_outcomes.ensures.claims;
+      belief_in_time = c.in-Ok-run_with_outcomes.ensures.belief_in_time;
     } in
     record {
       scenario = made.scenario;
