@@ -9,7 +9,6 @@ use Rattle.scenario_read.specs.declared.scenario.Scenario.{Scenario}
 use Rattle.scenario_read.specs.declared.stop.ScenarioFault.{ScenarioFault}
 use Rattle.scenario_read.specs.Meaning.{Said, meaning}
 use Rattle.ring_facts.specs.Rings.{IsRingRun}
-use Rattle.ring_answer.proofs.Kepts.{kept_runs_are_one}
 use Rattle.ring_answer.proofs.Scenarios.{scenarios_are_what_they_say}
 use Rattle.scenario_make.specs.Made.{made_library}
 use Rattle.tiger_run.specs.declared.inputs.Inputs.{Inputs}
@@ -36,10 +35,10 @@ first_once told (n ∷ ns) (a ∷ xs) (b ∷ ys) all one two same =
     rw (told_once (told n) a b (all n) one.0 two.0, first_once told ns xs ys all one.1 two.1 (omega (arith, same))) refl
 
 -- the inputs of one name are one
-abbrev said_ok : Said → Result Said ScenarioFault
+abbrev pub said_ok : Said → Result Said ScenarioFault
 said_ok s = Ok s
 
-ok_said : (s t : Said) → said_ok s ≡ said_ok t → s ≡ t
+pub ok_said : (s t : Said) → said_ok s ≡ said_ok t → s ≡ t
 ok_said s t e = cc
 
 scenario_once : (told : List ℕ → Told) (name : List ℕ) (i j : Inputs) → TellsAll told → AreInputs told name i → AreInputs told name j → i.scenario ≡ j.scenario
@@ -60,7 +59,7 @@ kept_once : (G : Type 0) (s t : Scenario) (xs ys : List (List ℕ)) (k l : Kept)
 kept_once G s t xs ys k l same equal a b =
     let moved : IsRingRun G s xs l =
     subst (λ (u : Scenario). IsRingRun G u xs l) (sym same) (subst (λ (zs : List (List ℕ)). IsRingRun G t zs l) (sym equal) b.ran) in
-    kept_runs_are_one G s xs l k a.sound moved a.ran
+    a.only l moved
 
 named_once : (G : Type 0) (old new was now : FilesState) (name : List ℕ) (k l : Kept) → TellsAll old.told → was.told ≡ old.told
     → IsNamedRun G old new name k → IsNamedRun G was now name l → l ≡ k

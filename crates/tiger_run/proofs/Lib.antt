@@ -6,3 +6,4 @@ pub mod Readings
 pub mod Endings
 pub mod Completeness
 pub mod Answering
+pub mod Samples

@@ -4,3 +4,4 @@ pub mod Inputs
 pub mod Runnable
 pub mod Ending
 pub mod Answers
+pub mod Samples

@@ -2,6 +2,7 @@
 #![tactic(auto)]
 
 mod inputs;
+mod rows;
 mod status;
 mod top;
 mod words;
