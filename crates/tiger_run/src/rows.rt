@@ -18,7 +18,7 @@ ghost use Rattle.tiger_run.specs.Answers.{AskTheSame, IsTheAnswer, TellsAll};
 ghost use Rattle.tiger_run.specs.Ending.{InputCause, IsAskedRun, IsMadeRun, IsNamedRun};
 ghost use Rattle.tiger_run.specs.Runnable.{IsRunnable, IsRunnableCommand};
 ghost use Rattle.tiger_run.specs.Samples.{IsOfFilm, film, here, makes, runs, source, tells, there};
-ghost use Rattle.tiger_run.specs.declared.status.Status.TheVariants.{Absent, Done, ReadFault, Scenario, TooLong};
+ghost use Rattle.tiger_run.specs.declared.status.Status.TheVariants as statuses;
 
 /// A run that is asked for is that of the named scenario, with 1 to 64 workers, or that of the number.
 pub fn asked_runs<G>()
@@ -79,59 +79,59 @@ pub fn telling_all()
 /// The scenario is not there: one call was made, and found no file.
 pub fn absent_scenario()
     ensures is { InputCause (runs here 1) (source (λ name. absent) 3 0 0)
-        (source (λ name. absent) 4 0 1) (Absent None) }
+        (source (λ name. absent) 4 0 1) (statuses.Absent None) }
     ensures told { (text : List ℕ) → InputCause (runs here 1) (source (λ name. bytes text) 3 0 0)
-        (source (λ name. bytes text) 4 0 1) (Absent None) → ⊥ }
+        (source (λ name. bytes text) 4 0 1) (statuses.Absent None) → ⊥ }
     ensures not_counted { InputCause (runs here 1) (source (λ name. absent) 3 0 0)
-        (source (λ name. absent) 4 0 0) (Absent None) → ⊥ }
+        (source (λ name. absent) 4 0 0) (statuses.Absent None) → ⊥ }
     ensures two_calls { InputCause (runs here 1) (source (λ name. absent) 3 0 0)
-        (source (λ name. absent) 5 0 1) (Absent None) → ⊥ }
+        (source (λ name. absent) 5 0 1) (statuses.Absent None) → ⊥ }
     ensures not_named { InputCause (makes 7) (source (λ name. absent) 3 0 0)
-        (source (λ name. absent) 4 0 1) (Absent None) → ⊥ }
+        (source (λ name. absent) 4 0 1) (statuses.Absent None) → ⊥ }
 {}
 
 /// Its file is not there: two calls were made.
 pub fn absent_file()
     ensures is { (text : List ℕ) (said : Said) → IsOfFilm text said →
         InputCause (runs here 1) (source (tells absent (bytes text)) 3 0 0)
-        (source (tells absent (bytes text)) 5 0 1) (Absent (Some (record { 0 = 0 }))) }
+        (source (tells absent (bytes text)) 5 0 1) (statuses.Absent (Some (record { 0 = 0 }))) }
     ensures no_second_file { (text : List ℕ) (said : Said) → IsOfFilm text said →
         InputCause (runs here 1) (source (tells absent (bytes text)) 3 0 0)
-        (source (tells absent (bytes text)) 6 0 1) (Absent (Some (record { 0 = 1 }))) → ⊥ }
+        (source (tells absent (bytes text)) 6 0 1) (statuses.Absent (Some (record { 0 = 1 }))) → ⊥ }
 {}
 
 /// The scenario could not be read, whatever it is.
 pub fn read_faults()
     ensures is { InputCause (runs here 1) (source (λ name. untold) 3 2 0)
-        (source (λ name. untold) 4 3 0) (ReadFault None) }
+        (source (λ name. untold) 4 3 0) (statuses.ReadFault None) }
     ensures not_counted { InputCause (runs here 1) (source (λ name. untold) 3 2 0)
-        (source (λ name. untold) 4 2 0) (ReadFault None) → ⊥ }
+        (source (λ name. untold) 4 2 0) (statuses.ReadFault None) → ⊥ }
 {}
 
 /// A scenario has 4194304 bytes at most.
 pub fn long_scenarios()
     ensures is { InputCause (runs here 1) (source (λ name. untold) 3 0 0)
-        (source (λ name. untold) 4 0 0) (TooLong None 4194305 4194304) }
+        (source (λ name. untold) 4 0 0) (statuses.TooLong None 4194305 4194304) }
     ensures other_limit { InputCause (runs here 1) (source (λ name. untold) 3 0 0)
-        (source (λ name. untold) 4 0 0) (TooLong None 4194305 4194303) → ⊥ }
+        (source (λ name. untold) 4 0 0) (statuses.TooLong None 4194305 4194303) → ⊥ }
     ensures not_longer { InputCause (runs here 1) (source (λ name. untold) 3 0 0)
-        (source (λ name. untold) 4 0 0) (TooLong None 4194304 4194304) → ⊥ }
+        (source (λ name. untold) 4 0 0) (statuses.TooLong None 4194304 4194304) → ⊥ }
     ensures told_shorter { InputCause (runs here 1) (source (λ name. bytes []) 3 0 0)
-        (source (λ name. bytes []) 4 0 0) (TooLong None 4194305 4194304) → ⊥ }
+        (source (λ name. bytes []) 4 0 0) (statuses.TooLong None 4194305 4194304) → ⊥ }
 {}
 
 /// The scenario is empty, and breaks the first rule.
 pub fn broken_rules()
     ensures is { (fault : ScenarioFault) → meaning [] ≡ Err fault →
         InputCause (runs here 1) (source (λ name. bytes []) 3 0 0)
-        (source (λ name. bytes []) 4 0 0) (Scenario fault) }
+        (source (λ name. bytes []) 4 0 0) (statuses.Scenario fault) }
     ensures other_fault { (fault other : ScenarioFault) → meaning [] ≡ Err fault → other ≢ fault →
         InputCause (runs here 1) (source (λ name. bytes []) 3 0 0)
-        (source (λ name. bytes []) 4 0 0) (Scenario other) → ⊥ }
+        (source (λ name. bytes []) 4 0 0) (statuses.Scenario other) → ⊥ }
     ensures two_calls { (fault : ScenarioFault) → meaning [] ≡ Err fault →
         InputCause (runs here 1) (source (λ name. bytes []) 3 0 0)
-        (source (λ name. bytes []) 5 0 0) (Scenario fault) → ⊥ }
-    ensures done { InputCause [] (source (λ name. absent) 3 0 0) (source (λ name. absent) 3 0 0) Done }
+        (source (λ name. bytes []) 5 0 0) (statuses.Scenario fault) → ⊥ }
+    ensures done { InputCause [] (source (λ name. absent) 3 0 0) (source (λ name. absent) 3 0 0) statuses.Done }
 {}
 
 /// A scenario that is told and breaks no rule is runnable if its file is told and has bytes, with 1 to 64 workers.

@@ -76,8 +76,8 @@ reading_in o = unwrap_or (option_map (λ tick. tick.reading) o) 0
 
 picked : (test : Bool) (t : Ticking) (o : Option Ticking) (r : ℕ) → (test ≡ true → t.reading ≡ r) → (test ≡ false → reading_in o ≡ r)
     → reading_in (cond test (Some t) o) ≡ r
-picked true t o r yes no = yes refl
-picked false t o r yes no = no refl
+picked true t o r first rest = first refl
+picked false t o r first rest = rest refl
 
 both_pass : (a b : Bool) → (a && b) ≡ true → (a ≡ true) × (b ≡ true)
 both_pass true true e = (refl, refl)
@@ -101,28 +101,28 @@ reading_is (x ∷ xs) n b r one t = picked (is_tick_at n b x) x (find (is_tick_a
 -- ---- the ticks that a history is told as
 
 -- A tick of a node is told.
+own_first : {M : Type 0} (stamp : Stamp) (n : ℕ) (past : List (NodeEvent M)) (x : Happening M) (rest : List Ticking) (es : List (NodeEvent M))
+    → (x.node == n) ≡ true → ((k : ℕ) → slice_get es k ≡ Some (Does (Tick stamp)) → HasTick rest n stamp.beat stamp.reading)
+    → (k : ℕ) → slice_get (x.event ∷ es) k ≡ Some (Does (Tick stamp))
+    → HasTick (tick_of (stamp_at x.event) (act_of past x.node x.event) ++ rest) n stamp.beat stamp.reading
+own_first {M} stamp n past x rest es t later zero there =
+    let is : x.event ≡ Does (Tick stamp) = some-same x.event (Does (Tick stamp)) there in
+    subst (λ (y : NodeEvent M). HasTick (tick_of (stamp_at y) (act_of past x.node y) ++ rest) n stamp.beat stamp.reading) (sym is)
+    (inl (eqb-true x.node n t, refl, refl))
+own_first stamp n past x rest es t later (suc k) there =
+    behind (stamp_at x.event) (act_of past x.node x.event) rest n stamp.beat stamp.reading (later k there)
+
 own_has : {M : Type 0} (stamp : Stamp) (n : ℕ) (es : ℕ → List (NodeEvent M)) (xs : List (Happening M)) (k : ℕ)
     → slice_get (own n xs) k ≡ Some (Does (Tick stamp)) → HasTick (ticks_of (told_from es xs)) n stamp.beat stamp.reading
 own_has stamp n es [] k there = absurd (none-some _ there)
-own_has {M} stamp n es (x ∷ xs) k there = ⊎_elim
-    (λ (t : (x.node == n) ≡ true). mine t k (rw t at there))
-    (λ (f : (x.node == n) ≡ false). skipped (own_has stamp n (added x.node x.event es) xs k (rw f at there)))
+own_has stamp n es (x ∷ xs) k there =
+    let next = added x.node x.event es in
+    let rest = ticks_of (told_from next xs) in
+    ⊎_elim
+    (λ (t : (x.node == n) ≡ true). own_first stamp n (es x.node) x rest (own n xs) t (own_has stamp n next xs) k (rw t at there))
+    (λ (f : (x.node == n) ≡ false).
+    behind (stamp_at x.event) (act_of (es x.node) x.node x.event) rest n stamp.beat stamp.reading (own_has stamp n next xs k (rw f at there)))
     (cases_Bool (x.node == n))
-  where
-    told : NodeEvent M → List Ticking
-    told y = tick_of (stamp_at y) (act_of (es x.node) x.node y) ++ ticks_of (told_from (added x.node x.event es) xs)
-
-    skipped : HasTick (ticks_of (told_from (added x.node x.event es) xs)) n stamp.beat stamp.reading
-        → HasTick (ticks_of (told_from es (x ∷ xs))) n stamp.beat stamp.reading
-    skipped t =
-        behind (stamp_at x.event) (act_of (es x.node) x.node x.event) (ticks_of (told_from (added x.node x.event es) xs)) n stamp.beat stamp.reading t
-
-    mine : (x.node == n) ≡ true → (j : ℕ) → slice_get (x.event ∷ own n xs) j ≡ Some (Does (Tick stamp))
-        → HasTick (ticks_of (told_from es (x ∷ xs))) n stamp.beat stamp.reading
-    mine t zero here =
-        let is : x.event ≡ Does (Tick stamp) = some-same x.event (Does (Tick stamp)) here in
-        subst (λ (y : NodeEvent M). HasTick (told y) n stamp.beat stamp.reading) (sym is) (inl (eqb-true x.node n t, refl, refl))
-    mine t (suc j) here = skipped (own_has stamp n (added x.node x.event es) xs j here)
 
 -- As many ticks of a node are told as it has.
 told_count : {M : Type 0} (n k : ℕ) (past : List (NodeEvent M)) (y : NodeEvent M) (rest : List Ticking) (es : List (NodeEvent M))
