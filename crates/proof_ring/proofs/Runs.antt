@@ -14,14 +14,16 @@ use Rattle.node_kit.specs.Life.{Lifetime, dies, lifetime_of}
 use Rattle.run_facts.specs.Events.{NodeEvent, is_death, stamp_at}
 use Rattle.run_facts.specs.Events.NodeEvent.{Does, Dies}
 use Rattle.run_facts.specs.Histories.{History, past, beat, reading, IsRun}
+use Rattle.run_facts.specs.Timed.{DieApart}
 use Rattle.scenario_read.specs.declared.scenario.Scenario.{Scenario}
+use Rattle.scenario_read.specs.Orders.{IsCatalogueOf, orders_from}
 use Rattle.scenario_read.specs.Sound.{IsScenario}
 use Rattle.ring_nodes.specs.declared.nodes.AnyNode.{AnyNode}
 use Rattle.ring_nodes.specs.declared.nodes.AnyNode.TheVariants as node
 use Rattle.ring_nodes.specs.AllNodes.{any_step, opening_cub, opening_controller, image_at, images_of}
 use Rattle.ring_nodes.proofs.Numbered.{length-numbered, opening_count}
 use Rattle.ring_facts.specs.Rings.{IsRingRun}
-use Rattle.ring_facts.specs.Steps.{ring_of}
+use Rattle.ring_facts.specs.Steps.{HasRun, ring_of}
 use Rattle.proof_ring.proofs.Opened.{get_some, cubs_open, controller_opens, viewers_open, life_kept, read_low}
 use Rattle.controller_facts.specs.Controllers.{controller}
 use Rattle.controller_facts.specs.Orders.{AreCounted}
@@ -43,8 +45,21 @@ dies_in (Some x) b t = ap (λ n. Some n) (sym (eqb-true _ _ t))
 pub only_cubs : (c : Course) (n : ℕ) → c.plan.params.cubs ≤ n → (lifetime_of c n).death ≡ None
 only_cubs c n high = ap (λ (b : Bool). cond b (option_and_then (λ d. d) (slice_get c.deaths n)) None) (le-ltb n c.plan.params.cubs high)
 
+-- What of a kept run makes a ring of it: nodes lived for the scenario, and no two neighbours die. That its journals follow the
+-- orders is shown of the ring.
+pub record HasRing (G : Type 0) (s : Scenario) (library : List (List ℕ)) (k : Kept) : Type 0 where
+  pub course : k.course ≡ s.course
+  pub catalogue : IsCatalogueOf s library k.catalogue
+  pub orders : k.orders ≡ orders_from k.catalogue 0 s.events
+  pub steps : HasRun G k.course k.catalogue library k.orders k.journals
+  pub apart : DieApart k.course.plan.params (lifetime_of k.course)
+
+abbrev pub ring_in : (G : Type 0) (s : Scenario) (library : List (List ℕ)) (k : Kept) → IsRingRun G s library k → HasRing G s library k
+ring_in G s library k run =
+    record { course = run.course; catalogue = run.catalogue; orders = run.orders; steps = run.steps; apart = run.apart }
+
 -- The ring of a kept run.
-module _ (G : Type 0) (s : Scenario) (library : List (List ℕ)) (k : Kept) (scenario : IsScenario s) (short : AreShort library) (run : IsRingRun G s library k) where
+module _ (G : Type 0) (s : Scenario) (library : List (List ℕ)) (k : Kept) (scenario : IsScenario s) (short : AreShort library) (run : HasRing G s library k) where
   abbrev pub p : Params
   p = k.course.plan.params
 
@@ -153,4 +168,4 @@ module _ (G : Type 0) (s : Scenario) (library : List (List ℕ)) (k : Kept) (sce
   }
 
 pub kept_runs_are_rings : (G : Type 0) → KeptRunsAreRings G
-kept_runs_are_rings G s library k scenario short run = kept_ring G s library k scenario short run
+kept_runs_are_rings G s library k scenario short run = kept_ring G s library k scenario short (ring_in G s library k run)

@@ -1,24 +1,31 @@
 -- Whatever is kept of the run of a scenario meets all claims.
-use Rattle.std.proofs.Common.{ℕ, ◌<◌, length, List, sym, subst, arith}
+use Rattle.std.proofs.Common.{◌≡◌, ℕ, ◌<◌, List, [], length, sym, subst, arith}
 use Rattle.tiger_base.specs.declared.message.Msg.{Msg}
 use Rattle.slot_plan.specs.declared.params.Params.{Params}
+use Rattle.stripe_layout.specs.declared.catalogue.Catalogue.{Catalogue}
+use Rattle.node_kit.specs.declared.course.Course.{Course}
 use Rattle.node_kit.specs.declared.course.Kept.{Kept}
+use Rattle.node_kit.specs.declared.course.Order.{Order}
+use Rattle.node_kit.specs.declared.journal.Entry.{Entry}
 use Rattle.node_kit.specs.Courses.{reading_of}
+use Rattle.node_kit.specs.Life.{lifetime_of}
 use Rattle.run_facts.specs.Histories.{History}
 use Rattle.run_facts.specs.Order.{order_of}
+use Rattle.run_facts.specs.Timed.{DieApart}
 use Rattle.run_claims.specs.Accounts.{account_of, ticks_in}
 use Rattle.run_claims.specs.Claims.{MeetsClaims}
 use Rattle.scenario_read.specs.declared.scenario.Scenario.{Scenario}
+use Rattle.scenario_read.specs.Orders.{IsCatalogueOf, orders_from}
 use Rattle.scenario_read.specs.Sound.{IsScenario}
 use Rattle.ring_nodes.specs.declared.nodes.AnyNode.{AnyNode}
-use Rattle.ring_facts.specs.Rings.{IsRingRun}
+use Rattle.ring_facts.specs.Steps.{HasRun, FollowOrders}
 use Rattle.schedule_laws.specs.Facts.{TickedAt}
 use Rattle.controller_facts.specs.Controllers.{controller}
 use Rattle.proof_moments.specs.Ties.{IsTickBelow}
 use Rattle.cub_facts.specs.Lives.{lives_of}
 use Rattle.cub_facts.specs.Facts.{facts_of}
 use Rattle.proof_ring.specs.Runs.{AreShort, disks_of}
-use Rattle.proof_ring.proofs.Runs.{size, deaths, kept_ring}
+use Rattle.proof_ring.proofs.Runs.{HasRing, ring_in, size, deaths, kept_ring}
 use Rattle.ring_claims.specs.Accounts.{IsControllersClock, account_in}
 use Rattle.ring_claims.specs.Beliefs.{BelievesInTime}
 use Rattle.ring_claims.specs.Rings.{IsStoredRing}
@@ -26,10 +33,11 @@ use Rattle.ring_claims.specs.Kept.{KeptRunsMeetTheClaims, KeptRunsBelieveInTime}
 use Rattle.ring_claims.proofs.Beliefs.{rings_believe_in_time}
 use Rattle.ring_claims.proofs.Beliefs as beliefs
 use Rattle.ring_claims.proofs.Claims.{rings_meet_the_claims, with_ticks}
+use Rattle.ring_claims.proofs.Commanded.{commanded}
 use Rattle.ring_claims.proofs.Faults.{have_faults}
 use Rattle.ring_claims.proofs.Ticks.{acts_ticks}
 
-module _ (G : Type 0) (s : Scenario) (library : List (List ℕ)) (k : Kept) (scenario : IsScenario s) (short : AreShort library) (run : IsRingRun G s library k) where
+module _ (G : Type 0) (s : Scenario) (library : List (List ℕ)) (k : Kept) (scenario : IsScenario s) (short : AreShort library) (run : HasRing G s library k) where
   abbrev pub p : Params
   p = k.course.plan.params
 
@@ -64,6 +72,11 @@ module _ (G : Type 0) (s : Scenario) (library : List (List ℕ)) (k : Kept) (sce
         faulty = have_faults p k.course.faults k.catalogue library;
       }
 
+  pub follows : FollowOrders k.course k.orders k.journals
+  follows =
+      let ring = stored_ring in
+      commanded G p k.orders (disks_of k library) h k.journals ring.plan ring.ring ring.written k.course.beats (reading_of k.course (controller p)) controlled
+
   pub meets : MeetsClaims (account_of k)
   meets =
       let beats = k.course.beats in
@@ -81,7 +94,22 @@ module _ (G : Type 0) (s : Scenario) (library : List (List ℕ)) (k : Kept) (sce
       (rings_believe_in_time G p k.orders (disks_of k library) h k.journals beats ring.plan ring.ring ring.written)
 
 pub kept_runs_meet_the_claims : (G : Type 0) → KeptRunsMeetTheClaims G
-kept_runs_meet_the_claims G s library k scenario short run = meets G s library k scenario short run
+kept_runs_meet_the_claims G s library k scenario short run = meets G s library k scenario short (ring_in G s library k run)
 
 pub kept_runs_believe_in_time : (G : Type 0) → KeptRunsBelieveInTime G
-kept_runs_believe_in_time G s library k scenario short run = believes G s library k scenario short run
+kept_runs_believe_in_time G s library k scenario short run = believes G s library k scenario short (ring_in G s library k run)
+
+-- Of what nodes lived for a scenario the journals follow the orders, so that what is kept of it is a run of the ring.
+pub orders_are_followed : (G : Type 0) (s : Scenario) (library : List (List ℕ)) (course : Course) (catalogue : Catalogue) (orders listed : List Order)
+    (journals : List (List Entry)) → IsScenario s → AreShort library → course ≡ s.course → IsCatalogueOf s library catalogue
+    → orders ≡ orders_from catalogue 0 s.events → listed ≡ orders → HasRun G course catalogue library listed journals
+    → DieApart course.plan.params (lifetime_of course) → FollowOrders course orders journals
+orders_are_followed G s library course catalogue orders listed journals scenario short is_course is_catalogue are_orders same steps apart =
+    follows G s library (record { course = course; catalogue = catalogue; orders = orders; journals = journals; digests = [] }) scenario short
+    (record {
+      course = is_course;
+      catalogue = is_catalogue;
+      orders = are_orders;
+      steps = subst (λ (os : List Order). HasRun G course catalogue library os journals) same steps;
+      apart = apart;
+    })

@@ -12,14 +12,13 @@ use Rattle.run_facts.proofs.Counts.{count-numbered}
 use Rattle.scenario_read.specs.declared.scenario.Scenario.{Scenario}
 use Rattle.scenario_read.specs.Sound.{IsScenario}
 use Rattle.ring_nodes.specs.declared.nodes.AnyNode.{AnyNode}
-use Rattle.ring_facts.specs.Rings.{IsRingRun}
 use Rattle.schedule_laws.specs.Facts.{TickedAt}
 use Rattle.cub_facts.specs.Lives.{lives_of}
 use Rattle.cub_facts.specs.Rings.{node_count}
 use Rattle.proof_links.proofs.Lives.{LivesOn, EndsInDeath, lives_or_dies}
 use Rattle.proof_ring.specs.Runs.{AreShort}
 use Rattle.proof_ring.proofs.Living.{counts_few}
-use Rattle.proof_ring.proofs.Runs.{death_is, size}
+use Rattle.proof_ring.proofs.Runs.{HasRing, death_is, size}
 use Rattle.std.proofs.Common.{◌≡◌, ℕ, true, refl, ap, ◌∙◌}
 use Rattle.tiger_base.specs.declared.number.Stamp.{Stamp}
 use Rattle.node_kit.specs.Steps.{Input}
@@ -47,7 +46,7 @@ pub acts_below : (d b : ℕ) (life : Lifetime) → life.death ≡ Some d → act
 unfolding acts
 acts_below d b life e t = let z = rw e at t in ltb-true b d z
 
-module _ (G : Type 0) (s : Scenario) (library : List (List ℕ)) (k : Kept) (scenario : IsScenario s) (short : AreShort library) (run : IsRingRun G s library k) where
+module _ (G : Type 0) (s : Scenario) (library : List (List ℕ)) (k : Kept) (scenario : IsScenario s) (short : AreShort library) (run : HasRing G s library k) where
   abbrev pub p : Params
   p = k.course.plan.params
 

@@ -10,7 +10,7 @@ ghost use Rattle.run_facts.specs.Carried.{AreCarried};
 ghost use Rattle.run_facts.specs.Kept.{HaveKept};
 ghost use Rattle.run_facts.specs.Paced.{ArePaced};
 ghost use Rattle.run_facts.specs.Timed.{AreTimed};
-ghost use Rattle.ring_facts.specs.Steps.{HasRun, FollowOrders};
+ghost use Rattle.ring_facts.specs.Steps.{HasRun};
 
 use node_kit::{Course, Gate, Journal, LinkTable, Node, Order, Ran};
 use ring_engine::run_plain;
@@ -43,7 +43,6 @@ pub fn journals_of<R: Threads + Wait + Sync, G: Gate + Sync>(
     ensures paced { IfOk result (ArePaced course.now) }
     ensures timed { IfOk result (AreTimed course.now.plan.params course.now.beats
         (lifetime_of course.now)) }
-    ensures commanded { IfOk result (FollowOrders course.now orders.now) }
 {
     let images = make_images(alloc, &course.plan, catalogue, library)?;
     let given = copied(alloc, orders)?;

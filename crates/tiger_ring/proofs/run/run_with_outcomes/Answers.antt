@@ -1,7 +1,7 @@
 use Rattle.std.proofs.Common.{refl, ◌∙◌}
 use Rattle.ring_answer.proofs.Kepts.{kept_runs_are_one}
 use Rattle.kept_worlds.proofs.Worlds.{kept-worlds}
-use Rattle.ring_claims.proofs.Kept.{kept_runs_believe_in_time, kept_runs_meet_the_claims}
+use Rattle.ring_claims.proofs.Kept.{kept_runs_believe_in_time, kept_runs_meet_the_claims, orders_are_followed}
 use Rattle.tiger_ring.proofs.run.run_with_outcomes.Goals as goal
 
 pub returns-clause-ran : goal.returns-clause-ran
@@ -14,7 +14,9 @@ returns-clause-ran g c = record {
   paced = c.in_ok-journals.ensures.paced;
   timed = c.in_ok-journals.ensures.timed;
   apart = c.requires.scenario.apart;
-  commanded = rw (← c.as_slice.ensures) c.in_ok-journals.ensures.commanded;
+  commanded =
+      orders_are_followed g.row.G.Denot c.args.scenario c.args.library.now _ _ _ _ _ c.requires.scenario c.requires.short refl
+      c.in_ok-catalogue.ensures c.in_ok-orders.ensures.orders c.as_slice.ensures c.in_ok-journals.ensures.steps c.requires.scenario.apart;
   digests = c.new.ensures ∙ c.in_ok-digests.ensures ∙ rw (c.as_slice-4.ensures.value, c.in_ok-outcomes.ensures, c.as_slice-2.ensures, c.as_slice-3.ensures) refl;
 }
 

@@ -1,2 +1,0 @@
-mod Stopless
-mod Following
