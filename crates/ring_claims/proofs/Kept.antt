@@ -24,6 +24,7 @@ use Rattle.controller_facts.specs.Controllers.{controller}
 use Rattle.proof_moments.specs.Ties.{IsTickBelow}
 use Rattle.cub_facts.specs.Lives.{lives_of}
 use Rattle.cub_facts.specs.Facts.{facts_of}
+use Rattle.cub_facts.specs.Rings.{node_count}
 use Rattle.proof_ring.specs.Runs.{AreShort, disks_of}
 use Rattle.proof_ring.proofs.Runs.{HasRing, ring_in, size, deaths, kept_ring}
 use Rattle.ring_claims.specs.Accounts.{IsControllersClock, account_in}
@@ -52,12 +53,12 @@ module _ (G : Type 0) (s : Scenario) (library : List (List ℕ)) (k : Kept) (sce
   -- So are the beats and the clock of its controller.
   controlled : IsControllersClock p h k.course.beats (reading_of k.course (controller p))
   controlled =
-      let all = size G s library k scenario short run in
-      let inside : controller p < length _ = omega (arith, all) in
+      let low : controller p < node_count p = omega arith in
+      let inside : controller p < length _ = subst (λ n. controller p < n) (sym (size G s library k scenario short run)) low in
       record {
         beats = run.steps.kept.lived.complete.until_end (controller p) inside
-            (λ i low. (deaths G s library k scenario short run).mortal (controller p) i (omega arith) (omega arith) low);
-        shows = λ i low tick. run.steps.kept.keeps.stamped (controller p) i inside low;
+            (λ i there. (deaths G s library k scenario short run).mortal (controller p) i low (omega arith) there);
+        shows = λ i there tick. run.steps.kept.keeps.stamped (controller p) i inside there;
       }
 
   pub stored_ring : IsStoredRing p k.catalogue k.course.faults k.orders (disks_of k library) h k.journals

@@ -15,7 +15,7 @@ returns-clause-ran g c = record {
   timed = c.in_ok-journals.ensures.timed;
   apart = c.requires.scenario.apart;
   commanded =
-      orders_are_followed g.row.G.Denot c.args.scenario c.args.library.now _ _ _ _ _ c.requires.scenario c.requires.short refl
+      orders_are_followed g.row.G.Denot c.args.scenario c.args.library.now c.args.scenario.course _ _ _ _ c.requires.scenario c.requires.short refl
       c.in_ok-catalogue.ensures c.in_ok-orders.ensures.orders c.as_slice.ensures c.in_ok-journals.ensures.steps c.requires.scenario.apart;
   digests = c.new.ensures ∙ c.in_ok-digests.ensures ∙ rw (c.as_slice-4.ensures.value, c.in_ok-outcomes.ensures, c.as_slice-2.ensures, c.as_slice-3.ensures) refl;
 }
