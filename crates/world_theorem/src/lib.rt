@@ -9,7 +9,8 @@ use node_kit::Gate;
 use world::World;
 use world_claims::{
     accepted_lists_are_never_wrongly_served, accepted_lists_are_rightly_served,
-    accepted_lists_believe_in_time, accepted_lists_have_one_schedule, accepted_lists_meet_the_claims,
+    accepted_lists_believe_in_time, accepted_lists_have_one_schedule,
+    accepted_lists_meet_the_claims,
 };
 
 /// At each moment of a world's events there is one schedule: each Put finds its slot free, every view is part of the
