@@ -98,12 +98,15 @@ fn push_fault(fault: StepFault, answers: &mut String) -> Result<(), AllocError> 
     }
 }
 
-/// A world's mark, a checksum of what can be seen of it: its beat, how many events happened, how long
-/// each journal is, how many messages were taken from each link, and when the oldest there was sent.
-/// If one of these numbers changes, so does the mark.
+/// What a mark begins with.
+const FIRST_MARK: u64 = 1;
+
+/// A world's mark, a checksum of what can be seen of it: its beat, each event that happened, how
+/// long each journal is, how many messages were taken from each link, and when the oldest there was
+/// sent. If one of these numbers changes, so does the mark.
 pub(crate) fn mark_of<'a, G: Gate>(plan: &Plan, world: &World<'a, G>) -> u64 {
     let links = LinkTable::new(plan);
-    let mut mark = mixed(world.beat(), world.events().len() as u64);
+    let mut mark = with_events(mixed(FIRST_MARK, world.beat()), world.events());
     for node in 0..links.nodes() {
         mark = mixed(mark, entry_count(world, NodeNo(node)) as u64);
     }
@@ -113,6 +116,26 @@ pub(crate) fn mark_of<'a, G: Gate>(plan: &Plan, world: &World<'a, G>) -> u64 {
         }
     }
     mark
+}
+
+/// A mark with all events more, and with their number.
+fn with_events(mark: u64, events: &[Event]) -> u64 {
+    let mut mark = mixed(mark, events.len() as u64);
+    for event in events {
+        mark = with_event(mark, event);
+    }
+    mark
+}
+
+/// A mark with one event more: its beat and its reading, which kind it is, and its numbers.
+fn with_event(mark: u64, event: &Event) -> u64 {
+    let (kind, of, number) = match event.act {
+        Act::Get { link, number } => (0, link.0, number),
+        Act::Tick(node) => (1, node.0, 0),
+        Act::Die(cub) => (2, cub.0, 0),
+    };
+    let mark = mixed(mixed(mark, event.stamp.beat), event.stamp.reading);
+    mixed(mixed(mixed(mark, kind), of as u64), number)
 }
 
 /// One more than the beat in which the oldest message under way was sent; 0 if none is.
