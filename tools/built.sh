@@ -6,7 +6,7 @@
 # times are those of the record, nothing has changed: the time of a file's last change of state, which is one of them,
 # cannot be set back. If they differ, as after `touch` or in a copy, the checksums decide.
 
-PROGRAM=crates/tiger_run/out/tiger_run
+PROGRAM=crates/tiger_main/out/tiger_main
 RECORD=$PROGRAM.built-from
 also=
 

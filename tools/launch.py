@@ -12,8 +12,8 @@ import sys
 import time
 
 TOP = os.path.dirname(os.path.dirname(os.path.realpath(__file__)))
-CRATE = os.path.join(TOP, "crates", "tiger_run")
-PROGRAM = os.path.join(CRATE, "out", "tiger_run")
+CRATE = os.path.join(TOP, "crates", "tiger_main")
+PROGRAM = os.path.join(CRATE, "out", "tiger_main")
 
 NOT_BUILT = 70
 NO_ANSWER = 71

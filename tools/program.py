@@ -9,7 +9,7 @@ import sys
 
 TOP = os.path.dirname(os.path.dirname(os.path.realpath(__file__)))
 LAUNCHER = os.path.join(TOP, "tiger")
-PROGRAM = os.path.join(TOP, "crates", "tiger_run", "out", "tiger_run")
+PROGRAM = os.path.join(TOP, "crates", "tiger_main", "out", "tiger_main")
 CASES = os.path.join(TOP, "conformance")
 WAIT = 300  # seconds after which a run counts as hung
 

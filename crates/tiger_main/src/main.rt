@@ -1,22 +1,14 @@
 //! Runs a scenario of the video fileserver over real files, and writes its report.
 #![tactic(auto)]
 
-mod inputs;
-mod rows;
-mod status;
-mod top;
-mod words;
-mod writing;
-
 use node_kit::OpenGate;
 use outside::{DirFiles, StdSink};
-use status::{Status, exit_of, line_of};
 use std::alloc::{AllocError, Global};
 use std::process::ExitCode;
 use std::sync::Wait;
 use std::thread::Threads;
 use std::{env, io};
-use top::tiger;
+use tiger_run::{Status, exit_of, line_of, tiger};
 
 const HELP: &str = "tiger: a video fileserver whose schedule no machine holds
 
@@ -89,6 +81,3 @@ fn main(rt: HostRuntime) -> ExitCode {
     let _ = say(&rt, alloc, &status);
     ExitCode::from(exit_of(&status))
 }
-
-#[cfg(test)]
-mod tests;
