@@ -1,16 +1,21 @@
-//! Runs in which reads of disks wait for each other, so that only workers that move at the same time end the waiting.
+//! Runs in which reads of disks wait for each other, so that only workers that move at the same time end the waiting:
+//! runs of the ring, and calls of the program, which are to have as many workers as their words name.
+ghost use Rattle.std.specs.Prelude.{◌≡◌, IfOk};
 
 use crate::changes::Change;
 use crate::runs::{FINE, LONG, ONE, SMALL, Setting, run};
 use crate::told::More;
 use node_kit::Gate;
+use outside::{MemFiles, MemSink};
 use ring_engine::Party;
 use std::alloc::Global;
 use std::sync::Wait;
 use std::sync::atomic::{AtomicU64, Ordering};
 use std::test::Fail;
 use std::thread::Threads;
+use std::{hint, thread};
 use tiger_base::DiskNo;
+use tiger_run::{Status, tiger};
 
 /// How often a hold looks whether it may end.
 const LOOKS: u64 = 10000000;
@@ -26,6 +31,24 @@ struct Crossing {
     reads_of_1: AtomicU64,
     first: Party,
     second: Party,
+}
+
+impl Crossing {
+    fn new(earlier: u64, both: bool) -> Crossing {
+        Crossing {
+            earlier,
+            both,
+            reads_of_0: AtomicU64::new(0),
+            reads_of_1: AtomicU64::new(0),
+            first: Party::new(),
+            second: Party::new(),
+        }
+    }
+
+    /// Whether each read that was held ended because the other one had come.
+    fn has_met(&self) -> bool {
+        self.first.has_met() && (self.second.has_met() || !self.both)
+    }
 }
 
 impl Gate for Crossing {
@@ -63,17 +86,10 @@ fn meet<R: Threads + Wait + Sync>(
         visits: 0,
         more: More::Nothing,
     };
-    let gate = Crossing {
-        earlier,
-        both,
-        reads_of_0: AtomicU64::new(0),
-        reads_of_1: AtomicU64::new(0),
-        first: Party::new(),
-        second: Party::new(),
-    };
+    let gate = Crossing::new(earlier, both);
     let mut told = String::new(alloc);
     run(rt, alloc, &setting, rest, &gate, Change::Same, &mut told)?;
-    Ok(gate.first.has_met() && (gate.second.has_met() || !both))
+    Ok(gate.has_met())
 }
 
 /// Three viewers in slots 1, 2 and 3: in beat 141 disk 0 is read for the third time, and disk 1 for the first.
@@ -97,5 +113,133 @@ fn two_workers_read_at_the_same_time(rt: HostRuntime) -> Result<(), Fail> {
 fn the_ring_goes_on_around_a_held_read(rt: HostRuntime) -> Result<(), Fail> {
     assert!(rt; meet(&rt, rt.alloc(), FINE, TWO, 1, false, 2)?);
     assert!(rt; !meet(&rt, rt.alloc(), FINE, TWO, 1, false, 1)?);
+    Ok(())
+}
+
+/// How many disks the small plan has.
+const DISKS: u64 = 8;
+
+/// Holds one read of each disk until a read of each one is held at the same time.
+#[derive(Drop)]
+struct Assembly {
+    /// How often each disk was read.
+    reads: [AtomicU64; 8],
+    /// How many reads are held now.
+    held: AtomicU64,
+    /// How many were let go since all were held.
+    met: AtomicU64,
+}
+
+impl Assembly {
+    fn new() -> Assembly {
+        Assembly {
+            reads: [const { AtomicU64::new(0) }; 8],
+            held: AtomicU64::new(0),
+            met: AtomicU64::new(0),
+        }
+    }
+
+    /// Holds a read until all are held; but looks only so many times, and then is held no more.
+    fn hold(&self) {
+        self.held.fetch_add(1, Ordering::SeqCst);
+        for look in 0..LOOKS {
+            if self.held.load(Ordering::SeqCst) == DISKS {
+                self.met.fetch_add(1, Ordering::SeqCst);
+                return;
+            }
+            if look % 1000 == 999 {
+                thread::yield_now();
+            } else {
+                hint::spin_loop();
+            }
+        }
+        self.held.fetch_sub(1, Ordering::SeqCst);
+    }
+
+    /// Whether all reads that were to be held were held at the same time.
+    fn has_met(&self) -> bool {
+        self.met.load(Ordering::SeqCst) == DISKS
+    }
+}
+
+impl Gate for Assembly {
+    /// Disk d is held at the read that comes behind 14 - 2 d others.
+    fn before_read(&self, disk: DiskNo) {
+        if let Some(reads) = self.reads.get(disk.0 as usize) {
+            let earlier = reads.fetch_add(1, Ordering::SeqCst);
+            if earlier.saturating_add(disk.0 as u64 * 2) == 14 {
+                self.hold();
+            }
+        }
+    }
+}
+
+/// The files of a call: a scenario of the small plan, and the long file.
+fn files_of(alloc: Global, rest: &str) -> Result<MemFiles, Fail>
+    ensures { IfOk result (λ m. m.counts.calls ≡ 0) }
+{
+    let text = format!(in alloc; "{SMALL}{ONE}{rest}}}")?;
+    let mut files = MemFiles::new(alloc);
+    files.put("one.json", text.into_bytes())?;
+    files.put("one", LONG.to_vec(alloc)?)?;
+    Ok(files)
+}
+
+/// Runs that scenario by a call of the program, each read of which passes the gate.
+fn call<R: Threads + Wait + Sync, G: Gate + Sync>(
+    rt: &R,
+    alloc: Global,
+    rest: &str,
+    workers: &str,
+    gate: &G,
+) -> Result<(), Fail> {
+    let mut files = files_of(alloc, rest)?;
+    let mut out = MemSink::new(alloc);
+    let mut words = Vec::new(alloc);
+    for word in ["run", "one.json", workers] {
+        words.push(String::from_str(alloc, word)?)?;
+    }
+    match tiger(rt, alloc, &words, &mut files, &mut out, gate).status {
+        Status::Done => Ok(()),
+        _ => Err(Fail::new("the call did not run")),
+    }
+}
+
+/// Whether two reads that wait for each other met in such a call.
+fn two_meet<R: Threads + Wait + Sync>(rt: &R, alloc: Global, workers: &str) -> Result<bool, Fail> {
+    let gate = Crossing::new(2, true);
+    call(rt, alloc, THREE, workers, &gate)?;
+    Ok(gate.has_met())
+}
+
+/// A call whose words name two workers has two, and one whose words name one has no second one.
+#[test]
+fn a_call_has_as_many_workers_as_its_words_name(rt: HostRuntime) -> Result<(), Fail> {
+    assert!(rt; two_meet(&rt, rt.alloc(), "2")?);
+    assert!(rt; !two_meet(&rt, rt.alloc(), "1")?);
+    Ok(())
+}
+
+/// Fifteen viewers in slots 1 to 15. The visits 0 to 7 of slots 15, 13 and so on to 1 are due at the same time: in
+/// beat 741 each disk reads one block, and disk d has read 14 - 2 d before.
+const FIFTEEN: &str =
+    r#""links":{"fixed":1},"beats":800,"events":[{"beat":0,"start":0},{"beat":0,"start":0},{"beat":0,"start":0},{"beat":0,"start":0},{"beat":0,"start":0},{"beat":0,"start":0},{"beat":0,"start":0},{"beat":0,"start":0},{"beat":0,"start":0},{"beat":0,"start":0},{"beat":0,"start":0},{"beat":0,"start":0},{"beat":0,"start":0},{"beat":0,"start":0},{"beat":0,"start":0}]"#;
+
+/// Whether eight reads that wait for each other met in a call.
+fn eight_meet<R: Threads + Wait + Sync>(
+    rt: &R,
+    alloc: Global,
+    workers: &str,
+) -> Result<bool, Fail> {
+    let gate = Assembly::new();
+    call(rt, alloc, FIFTEEN, workers, &gate)?;
+    Ok(gate.has_met())
+}
+
+/// Eight reads of one beat that wait for each other end only if eight workers are at them at the same time.
+#[test]
+fn eight_workers_read_at_the_same_time(rt: HostRuntime) -> Result<(), Fail> {
+    assert!(rt; eight_meet(&rt, rt.alloc(), "8")?);
+    assert!(rt; !eight_meet(&rt, rt.alloc(), "7")?);
     Ok(())
 }

@@ -23,4 +23,6 @@ mod runs;
 #[cfg(test)]
 mod scenarios;
 #[cfg(test)]
+mod stepped;
+#[cfg(test)]
 mod told;

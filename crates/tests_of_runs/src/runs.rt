@@ -51,7 +51,7 @@ pub struct Setting<'a> {
 }
 
 /// A library of one file.
-fn one(alloc: Global, file: &[u8]) -> Result<Library, Fail>
+pub fn one(alloc: Global, file: &[u8]) -> Result<Library, Fail>
     ensures count { IfOk result (λ l. length l ≡ 1) }
     ensures filled { IfOk result (λ l. All (λ bytes. 1 ≤ length bytes) l) }
     ensures short { IfOk result (λ l. All (λ bytes. length bytes ≤ most_file) l) }
@@ -83,7 +83,7 @@ pub fn two(alloc: Global, first: &[u8], second: &[u8]) -> Result<Library, Fail>
 }
 
 /// The scenario of a setting with the rest of its text, if it has so many files.
-fn scenario_of(
+pub fn scenario_of(
     alloc: Global,
     setting: &Setting<'_>,
     rest: &str,
