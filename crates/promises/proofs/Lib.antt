@@ -1,0 +1,5 @@
+pub mod Words
+pub mod Told
+pub mod Causes
+pub mod Written
+pub mod Runs
