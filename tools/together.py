@@ -1,16 +1,22 @@
 """Edits of the bodies of different functions of a crate, tried in one check for tools/wrong-bodies.
 
 A function is proved from its own body and the contracts of what it calls. So a wrong body is refused in its own
-function and in no other one, and what a check says of a function tells of the one edit that changes its body.
+function and in no other one, and what a check says of a function tells of the one edit that changes its body. For the
+same reason a check of the changed functions alone says as much as one of the whole crate.
 """
 import contextlib
 import os
 import re
+import shutil
 import subprocess
+import tempfile
 
 HEAD = re.compile(r"( *)(?:pub(?:\(crate\))? )?fn (\w+)")
+IMPL = re.compile(r"( *)impl(?:<.*?>)? (?:([\w:]+)(?:<.*>)? for )?([\w:]+)")
 IN_SOURCE = re.compile(r"(?:note: )?(src/\S+?):(\d+):\d+: .*")
 IN_PROOFS = re.compile(r"(?:note: )?(?:\./)?proofs/(\S+)/\w+\.antt:\d+:\d+: error.*")
+# The last line of a check of some functions: how many it was asked for, and how many are proved.
+ONLY = re.compile(r"only=(\d+) proved=(\d+)")
 # A proof that cites a name which an edit took away: that says little of the contract.
 OF_NAMES = re.compile(r"has no field|is not in scope|has no `|was not admitted")
 
@@ -56,6 +62,15 @@ def functions_in(lines):
             first = next((n for n in range(number, len(lines) + 1) if opens.match(lines[n - 1])), len(lines))
             last = next((n for n in range(first, len(lines) + 1) if lines[n - 1] == head[1] + "}"), len(lines))
             yield Function(head[2], number, first, last)
+
+
+def path_of(file, lines, function):
+    """The name of a function as a check prints it, but for its crate: its module, its type (with the trait, if it is of an
+    impl of one), and its own name."""
+    module = [it for it in file[len("src/"):-len(".rt")].split("/") if it not in ("lib", "main")]
+    within = len(HEAD.match(lines[function.head - 1])[1])
+    impl = next((it for it in map(IMPL.match, reversed(lines[:function.head - 1])) if it and len(it[1]) < within), None)
+    return "::".join(module + ([impl[3] + (impl[2] or "").split("::")[-1]] if within and impl else []) + [function.name])
 
 
 def changed_body(edit, text):
@@ -137,6 +152,21 @@ def refused(folder, group, room):
                              errors="replace", stdin=subprocess.DEVNULL, stdout=subprocess.PIPE, stderr=subprocess.STDOUT)
     lines = ran.stdout.rstrip("\n").split("\n")
     if ran.returncode != 1 or not any(line.startswith("logic=not-proved") for line in lines):
+        return {}
+    told = {edit.name: next((it for it in lines if is_of(it, edit, function)), None) for edit, function in group}
+    return {name: said for name, said in told.items() if said}
+
+
+def refused_alone(prover, crate, group, room):
+    """What a check of the changed functions alone says of each edit of a group that it refuses, by name. What the check
+    reads of the crate is copied to the room, and the group's edits change the copy."""
+    folder = tempfile.mkdtemp(dir=room)
+    prover.copy(crate, folder)
+    functions = [path_of(edit.file, text_of(os.path.join(folder, edit.file)).split("\n"), function) for edit, function in group]
+    with edited(folder, [edit for edit, _ in group]):
+        status, lines = prover.check(crate, functions, folder)
+    shutil.rmtree(folder, ignore_errors=True)
+    if status != 1 or not ONLY.fullmatch(lines[-1]):
         return {}
     told = {edit.name: next((it for it in lines if is_of(it, edit, function)), None) for edit, function in group}
     return {name: said for name, said in told.items() if said}
