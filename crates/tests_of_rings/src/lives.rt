@@ -4,8 +4,11 @@ ghost use Rattle.node_kit.specs.Steps.{Deed};
 ghost use Rattle.node_kit.specs.declared.journal.What.TheVariants.{Gone};
 ghost use Rattle.node_kit.specs.declared.outbox.Out.TheVariants.{Act};
 
-use super::*;
 use link_timing::Delay;
+use node_kit::{
+    Course, Entry, Gate, Journal, Life, LinkTable, Node, OpenGate, Out, Outbox, Site, What,
+    cub_link, disk_answer_link, in_form,
+};
 use slot_plan::small_plan;
 use std::alloc::Global;
 use std::mem::size_of;
@@ -341,5 +344,22 @@ fn a_journal_keeps_what_is_written(rt: HostRuntime) -> Result<(), Fail> {
     let links = LinkTable::new(&small_plan());
     assert_eq!(rt; links.cub(CubNo(2)), NodeNo(2));
     assert_eq!(rt; links.disk(DiskNo(2)), NodeNo(10));
+    Ok(())
+}
+
+#[test]
+fn links_of_a_cub_stand_at_their_numbers(rt: HostRuntime) -> Result<(), Fail> {
+    let plan = small_plan();
+    let site = Site {
+        plan,
+        cub: CubNo(7),
+    };
+    assert_eq!(rt; site.ahead(1), LinkNo(38));
+    assert_eq!(rt; site.ahead(2), LinkNo(39));
+    assert_eq!(rt; site.to_controller(), LinkNo(15));
+    assert_eq!(rt; site.to_viewers(), LinkNo(23));
+    assert_eq!(rt; site.to_disk(DiskNo(7)), LinkNo(47));
+    assert_eq!(rt; disk_answer_link(&plan, DiskNo(7)), LinkNo(55));
+    assert_eq!(rt; cub_link(&plan, 17), LinkNo(1));
     Ok(())
 }
