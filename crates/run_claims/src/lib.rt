@@ -11,6 +11,3 @@ pub mod rows;
 pub fn claims_are_the_nine()
     ensures { ClaimsAreTheNine }
 {}
-
-#[cfg(test)]
-mod tests;
