@@ -1,4 +1,4 @@
-"""Reads a scenario and the report of its run, for the tools that draw a run.
+"""Reads a scenario and the report of its run, for the tools that draw a run or list what it tells.
 
 The program has judged the scenario, or has not if the report is a kept one: so what the two say is looked at here as
 far as a picture needs it, and `Unfit` says what does not fit.
@@ -11,10 +11,10 @@ from scenarios import KEYS, MOST_BEATS, out_of_range
 
 SECOND = 1000000  # microseconds
 START = re.compile(r"start (\d{1,9}) file (\d{1,9}) (?:slot (\d{1,9}) first (\d{1,9})|unplaced)")
-BLOCK = re.compile(r"block (\d{1,9}) due (\d{1,18}) (?:(whole|pieces) \d{1,9} sent (\d{1,9}(?: \d{1,9})*)"
+BLOCK = re.compile(r"block (\d{1,9}) due (\d{1,18}) (?:(whole|pieces) (\d{1,9}) sent (\d{1,9}(?: \d{1,9})*)"
                    r"|missing (dead|read|piece))")
 STOP = re.compile(r"stop (\d{1,9}) at (\d{1,9})")
-END = re.compile(r"end (\d{1,9}) whole \d+ pieces \d+ missing \d+ bytes \d+ sha256 [0-9a-f]{64}")
+END = re.compile(r"end (\d{1,9}) whole (\d+) pieces (\d+) missing (\d+) bytes (\d+) sha256 ([0-9a-f]{64})")
 TOTAL = re.compile(r"total starts (\d+) placed (\d+) whole (\d+) pieces (\d+) missing (\d+)")
 REASONS = ("dead", "read", "piece")
 TOTALS = ("starts", "placed", "whole", "pieces", "missing")
@@ -25,18 +25,20 @@ class Unfit(Exception):
 
 
 class Block:
-    """A block of the report: its number, when it is due in microseconds, how it came and in which beats it was sent."""
+    """A block of the report: its number, when it is due in microseconds, how it came, how many bytes it has (None if it
+    is missing) and in which beats it was sent."""
 
-    def __init__(self, number, due, kind, sent):
-        self.number, self.due, self.kind, self.sent = number, due, kind, sent
+    def __init__(self, number, due, kind, length, sent):
+        self.number, self.due, self.kind, self.length, self.sent = number, due, kind, length, sent
 
 
 class Viewer:
-    """What the report says of a start; slot and first visit are None without a slot, the stop is a beat or None."""
+    """What the report says of a start; slot and first visit are None without a slot, the stop is a beat or None. The
+    counts are those of the last line: whole, pieces, missing and bytes."""
 
     def __init__(self, number, file, asked, slot, first):
         self.number, self.file, self.asked, self.slot, self.first = number, file, asked, slot, first
-        self.blocks, self.stop = [], None
+        self.blocks, self.stop, self.counts, self.digest = [], None, None, None
 
 
 class Scenario:
@@ -106,7 +108,10 @@ class Run:
             viewer.stop = int(stop[2])
             return True
         end = END.fullmatch(line)
-        return bool(end and viewer and int(end[1]) == viewer.number)
+        if end and viewer and int(end[1]) == viewer.number:
+            viewer.counts, viewer.digest = tuple(map(int, end.groups()[1:5])), end[6]
+            return True
+        return False
 
     def take_start(self, number, file, slot, first):
         """Takes a line that begins a viewer."""
@@ -120,8 +125,9 @@ class Run:
 
     def take_block(self, viewer, found):
         """Takes a line of a viewer's block."""
-        number, due, kind, sent, reason = found.groups()
-        block = Block(int(number), int(due), reason or kind, [int(beat) for beat in (sent or "").split()])
+        number, due, kind, length, sent, reason = found.groups()
+        beats = [int(beat) for beat in (sent or "").split()]
+        block = Block(int(number), int(due), reason or kind, number_or_none(length), beats)
         before = viewer.blocks[-1].number if viewer.blocks else -1
         number_sent = {"whole": 1, "pieces": self.scenario.plan["pieces"]}.get(block.kind, 0)
         fits = (block.number > before and block.due == self.scenario.due(viewer.slot, viewer.first + block.number)

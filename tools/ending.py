@@ -1,0 +1,142 @@
+"""How the tools for users read their words, run the program and end: wrong words get one line and status 64, a signal
+ends a tool and what it runs, quietly, and an output that cannot be written is said in one line."""
+import argparse
+import os
+import signal
+import subprocess
+import sys
+
+import program
+from reports import Unfit
+
+FAILED = 1
+WRONG_WORDS = 64
+HUNG = "hung"  # the status of a run that was not over in time
+STATUSES = range(2, 9)  # those with which the program ends without a report, or with a part of one
+ENDING = (signal.SIGINT, signal.SIGTERM, signal.SIGHUP)  # the signals that end a tool
+
+
+class Stopped(BaseException):
+    """A signal came that ends the tool."""
+
+    def __init__(self, number):
+        super().__init__(number)
+        self.number = number
+
+
+class Words(argparse.ArgumentParser):
+    """A reader of words that says in one line what is wrong with them."""
+
+    def error(self, message):
+        say(self.prog, message)
+        sys.exit(WRONG_WORDS)
+
+
+def words(doc):
+    """A reader of words with the option of all tools that run the program."""
+    reader = Words(description=doc, formatter_class=argparse.RawDescriptionHelpFormatter)
+    reader.add_argument("--program", metavar="PATH", help="run this in place of the built program")
+    return reader
+
+
+def say(tool, message):
+    """Writes one line on standard error; it is lost if that is closed."""
+    try:
+        print(f"{tool}: {' '.join(str(message).split())}", file=sys.stderr, flush=True)
+    except OSError:
+        pass
+
+
+def program_of(given):
+    """The program that was asked for, else the built one. A build that it may need is ended by a signal of its own."""
+    signal.signal(signal.SIGINT, signal.SIG_DFL)
+    return program.program_of(given)
+
+
+def positive(text):
+    """A whole number from 1 to 999999999."""
+    if not (text.isdecimal() and text.isascii()) or not 1 <= int(text[:10]) <= 999999999:
+        raise ValueError
+    return int(text)
+
+
+def ended_of(command, seconds):
+    """How a command ends; after so many seconds it is hung. What it started ends with it if it hangs or a signal comes."""
+    try:
+        ran = subprocess.Popen(command, stdin=subprocess.DEVNULL, stdout=subprocess.PIPE, stderr=subprocess.PIPE,
+                               start_new_session=True)
+    except OSError as why:
+        raise Unfit(f"{command[0]} cannot be run: {why.strerror}")
+    try:
+        out, err = ran.communicate(timeout=seconds)
+    except subprocess.TimeoutExpired:
+        return program.Ended(HUNG, b"", f"no answer in {seconds} seconds\n".encode())
+    finally:
+        if ran.returncode is None:
+            os.killpg(ran.pid, signal.SIGKILL)
+            ran.wait()
+    return program.Ended(ran.returncode, out, err)
+
+
+def how(status):
+    """How a run ended that ended neither with a report nor with a refusal, in words."""
+    if status == HUNG:
+        return "it hung"
+    return f"signal {-status}" if status < 0 else f"status {status}"
+
+
+def line_of(ended):
+    """The line of the program if a run ended with one of its statuses and its line; else nothing."""
+    line = ended.err.decode(errors="replace")
+    is_line = line.startswith("tiger: ") and line.endswith("\n") and line.count("\n") == 1
+    return line[:-1] if ended.status in STATUSES and is_line else ""
+
+
+def content(path):
+    """The bytes of a file."""
+    try:
+        with open(path, "rb") as file:
+            return file.read()
+    except OSError as why:
+        raise Unfit(f"{path}: {why.strerror}")
+
+
+def put(path, text):
+    """Writes a text into a file, as bytes."""
+    try:
+        with open(path, "wb") as file:
+            file.write(text if isinstance(text, bytes) else text.encode())
+    except OSError as why:
+        raise Unfit(f"{path}: {why.strerror}")
+
+
+def write(text):
+    """Writes a text on standard output at once."""
+    try:
+        sys.stdout.buffer.write(text.encode())
+        sys.stdout.buffer.flush()
+    except OSError as why:
+        os.dup2(os.open(os.devnull, os.O_WRONLY), 1)  # else Python would try again at its end, and say so
+        raise Unfit(f"standard output: {why.strerror}")
+
+
+def run(tool, work):
+    """Does the work of a tool, and ends with the status that it gives."""
+    for number in ENDING:
+        if signal.getsignal(number) != signal.SIG_IGN:
+            signal.signal(number, stop)
+    try:
+        sys.exit(work())
+    except Unfit as why:
+        say(tool, why)
+        sys.exit(FAILED)
+    except Stopped as why:
+        signal.signal(why.number, signal.SIG_DFL)
+        os.kill(os.getpid(), why.number)
+
+
+def stop(number, _):
+    """Ends the tool by a signal: the first one counts, and those behind it are of no use."""
+    for other in ENDING:
+        signal.signal(other, signal.SIG_IGN)
+    raise Stopped(number)
