@@ -11,6 +11,7 @@ from reports import Unfit
 
 FAILED = 1
 WRONG_WORDS = 64
+AS_IT_STANDS = argparse.RawDescriptionHelpFormatter
 HUNG = "hung"  # the status of a run that was not over in time
 STATUSES = range(2, 9)  # those with which the program ends without a report, or with a part of one
 ENDING = (signal.SIGINT, signal.SIGTERM, signal.SIGHUP)  # the signals that end a tool
@@ -34,7 +35,7 @@ class Words(argparse.ArgumentParser):
 
 def words(doc):
     """A reader of words with the option of all tools that run the program."""
-    reader = Words(description=doc, formatter_class=argparse.RawDescriptionHelpFormatter)
+    reader = Words(description=doc, formatter_class=AS_IT_STANDS)
     reader.add_argument("--program", metavar="PATH", help="run this in place of the built program")
     return reader
 
