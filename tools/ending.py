@@ -49,9 +49,19 @@ def say(tool, message):
 
 
 def program_of(given):
-    """The program that was asked for, else the built one. A build that it may need is ended by a signal of its own."""
-    signal.signal(signal.SIGINT, signal.SIG_DFL)
-    return program.program_of(given)
+    """The program that was asked for, else the built one. While that is built a signal does what it does by default, so
+    that the build ends by itself."""
+    if given.program and not (os.path.isfile(given.program) and os.access(given.program, os.X_OK)):
+        raise Unfit(f"{given.program} cannot be run")
+    kept = {number: signal.getsignal(number) for number in ENDING}
+    for number in ENDING:
+        if kept[number] != signal.SIG_IGN:
+            signal.signal(number, signal.SIG_DFL)
+    try:
+        return program.program_of(given)
+    finally:
+        for number in ENDING:
+            signal.signal(number, kept[number])
 
 
 def positive(text):
@@ -107,6 +117,14 @@ def put(path, text):
     try:
         with open(path, "wb") as file:
             file.write(text if isinstance(text, bytes) else text.encode())
+    except OSError as why:
+        raise Unfit(f"{path}: {why.strerror}")
+
+
+def make_folder(path):
+    """Makes a folder, if it is not there."""
+    try:
+        os.makedirs(path, exist_ok=True)
     except OSError as why:
         raise Unfit(f"{path}: {why.strerror}")
 
