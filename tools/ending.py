@@ -50,18 +50,19 @@ def say(tool, message):
 
 def program_of(given):
     """The program that was asked for, else the built one. While that is built a signal does what it does by default, so
-    that the build ends by itself."""
+    that the build ends too."""
     if given.program and not (os.path.isfile(given.program) and os.access(given.program, os.X_OK)):
         raise Unfit(f"{given.program} cannot be run")
-    kept = {number: signal.getsignal(number) for number in ENDING}
-    for number in ENDING:
-        if kept[number] != signal.SIG_IGN:
-            signal.signal(number, signal.SIG_DFL)
+    kept = {number: signal.getsignal(number) for number in ENDING if signal.getsignal(number) != signal.SIG_IGN}
+    for number in kept:
+        signal.signal(number, signal.default_int_handler if number == signal.SIGINT else signal.SIG_DFL)
     try:
         return program.program_of(given)
+    except KeyboardInterrupt:
+        raise Stopped(signal.SIGINT)
     finally:
-        for number in ENDING:
-            signal.signal(number, kept[number])
+        for number, handler in kept.items():
+            signal.signal(number, handler)
 
 
 def positive(text):
