@@ -73,7 +73,7 @@ def positive(text):
 
 
 def ended_of(command, seconds):
-    """How a command ends; after so many seconds it is hung. What it started ends with it if it hangs or a signal comes."""
+    """How a command ends; after so many seconds it is hung. If it hangs or a signal comes, what it started ends too."""
     try:
         ran = subprocess.Popen(command, stdin=subprocess.DEVNULL, stdout=subprocess.PIPE, stderr=subprocess.PIPE,
                                start_new_session=True)

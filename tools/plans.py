@@ -15,7 +15,8 @@ MEANS = {  # what the plan's numbers mean, in a few words
     "cubs": "machines of the ring", "disks": "disks of each machine", "slots": "slots of the schedule",
     "play": "block play time", "pieces": "mirror pieces of a block", "block": "bytes of a full block",
     "beat": "length of a beat", "delay": "most beats that a message takes", "skew": "most that a clock is ahead",
-    "window_a": "how long before its due time a visit's window opens", "window_b": "how long before it the window closes",
+    "window_a": "how long before its due time a visit's window opens",
+    "window_b": "how long before its due time a visit's window closes",
     "read_lead": "how long before it is sent a block is read",
     "min_lead": "how long before its due time a state is forwarded at the latest",
     "max_lead": "how long before its due time a state is forwarded at the earliest",
@@ -84,7 +85,7 @@ def check_play(plan, given):
     if "play" not in plan:
         plan["play"] = max(USUAL_PLAY, least)
     elif plan["play"] < least and not {"window_a", "min_lead", "max_lead"} & set(given):
-        raise Unfit(f"play is {plan['play']}, and must be at least {least} with these cubs, pieces, beat, delay and skew")
+        raise Unfit(f"play is {plan['play']}, and must be at least {least} with the other numbers of the plan")
 
 
 def check_ranges(plan):

@@ -14,8 +14,8 @@ MOST_ROWS = 12  # rows of panels
 MISSING = (("missing_dead", "dead: its cub was dead", "#8a0f16"), ("missing_read", "read: its read failed", "#d97706"),
            ("missing_piece", "piece: a piece did not come", "#7c3aed"))
 WAITS = (("wait_worst", "the worst wait", "#1d4ed8"), ("wait_median", "the median wait", "#0f9d76"))
-UNITS = {**dict.fromkeys(("play", "beat", "skew", "window_a", "window_b", "read_lead", "min_lead", "max_lead", "deadman",
-                          "hold"), "microseconds"),
+UNITS = {**dict.fromkeys(("play", "beat", "skew", "window_a", "window_b", "read_lead", "min_lead", "max_lead",
+                          "deadman", "hold"), "microseconds"),
          **dict.fromkeys(("delay", "batch", "heart", "beats", "fixed"), "beats"), "block": "bytes"}
 
 

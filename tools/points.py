@@ -100,8 +100,8 @@ def with_starts(events, number):
 
 
 def with_deaths(scenario, number):
-    """So many deaths: the first of those that the scenario lists, and if they are fewer, then of cubs 0, 2, 4 and so on,
-    of those that are neither dead nor neighbours of a dead one. Cub 2k of these dies in beat
+    """So many deaths: the first of those that the scenario lists, and if they are fewer, then of cubs 0, 2, 4 and so
+    on, of those that are neither dead nor neighbours of a dead one. Cub 2k of these dies in beat
     floor((k + 1) beats / (m + 1)), with m = floor(cubs / 2), which is how many may die at most.
     """
     found, cubs, beats = scenario.get("deaths", [])[:number], scenario["plan"].get("cubs"), scenario.get("beats")

@@ -120,7 +120,8 @@ def refused(tiger, folder):
     with open(os.path.join(folder, "no-beats.json"), "w", encoding="utf-8") as file:
         json.dump({**json.loads(content("one.json")), "beats": 0}, file)
     wanted = program.refused(5, "scenario rule 5 item 0 left 0 right 0")
-    yield "the rows of a refused scenario", report(["--csv", "no-beats.json", "--program", tiger], folder).differs(wanted)
+    made = report(["--csv", "no-beats.json", "--program", tiger], folder)
+    yield "the rows of a refused scenario", made.differs(wanted)
     made = report(["--csv", "six-viewers.json", "--program", tiger], folder)
     same = report(["--csv", "six-viewers.json", "--report", "six-viewers.stdout"], folder)
     yield "the rows of a run", made.differs(same)
@@ -151,7 +152,8 @@ def same_columns():
         text = file.read()
     for what, columns in (("block", rows.BLOCKS), ("viewer", rows.VIEWERS)):
         table = text.partition(f"The row of a {what}:\n\n")[2].partition("\n\n")[0]
-        found = tuple(tuple(cell.strip().strip("`") for cell in line.split("|")[1:5]) for line in table.splitlines()[2:])
+        cells = [line.split("|")[1:5] for line in table.splitlines()[2:]]
+        found = tuple(tuple(cell.strip().strip("`") for cell in row) for row in cells)
         yield f"the table of the row of a {what}", "" if found == columns else f"{found} for {columns}"
 
 

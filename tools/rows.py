@@ -46,7 +46,7 @@ def how_of(block):
 
 
 def wait_of(viewer):
-    """The beats from a viewer's start to the beat in which the first thing that it was sent left; None if nothing was."""
+    """The beats from a viewer's start to the first beat in which something was sent to it; None if nothing was."""
     sent = [beat for block in viewer.blocks for beat in block.sent]
     return min(sent) - viewer.asked if sent else None
 

@@ -1,5 +1,5 @@
-"""Checks of tools/scenario for tools/check-program: what it makes is accepted, its plan is the least one, and numbers for
-which there is no scenario are refused in one line."""
+"""Checks of tools/scenario for tools/check-program: what it makes is accepted, its plan is the least one, and numbers
+for which there is no scenario are refused in one line."""
 import concurrent.futures
 import json
 import os
@@ -122,7 +122,8 @@ REFUSED = (  # words for which there is no scenario, each with a part of the lin
     ("--faults 1001", "1000 are the most"), ("--files 5 --length 262144", "67108864 are the most"),
     ("--viewers-per-second 4 --seconds 100 --beat 1000 --play-time 100000", "400400 blocks that might be due"),
     ("--length 0", "--length"), ("--length 5..4", "--length"), ("--seed 18446744073709551616", "--seed"),
-    ("--seconds -1", "--seconds"), ("--seconds 1e3", "--seconds"), ("--viewers 3", "unrecognized"), ("x", "unrecognized"),
+    ("--seconds -1", "--seconds"), ("--seconds 1e3", "--seconds"), ("--viewers 3", "unrecognized"),
+    ("x", "unrecognized"),
 )
 
 

@@ -15,8 +15,8 @@ import program
 SWEEP = os.path.join(program.TOP, "tools", "sweep")
 SCENARIO = os.path.join(program.TOP, "tools", "scenario")
 DOCUMENT = os.path.join(program.TOP, "docs", "sweeps.md")
-COLUMNS = ("status,refusal,starts,placed,whole,pieces,missing,missing_dead,missing_read,missing_piece,waits,wait_median,"
-           "wait_worst\n")
+COLUMNS = ("status,refusal,starts,placed,whole,pieces,missing,missing_dead,missing_read,missing_piece,waits,"
+           "wait_median,wait_worst\n")
 NOTHING = "," * 11  # a row's end if there is no report
 SIX = {  # rows of six-viewers, from its kept report and its README, written by hand: deadman and what the row says
     400000: "5,tiger: scenario rule 4 item 11 left 524000 right 400000" + NOTHING,
@@ -102,7 +102,8 @@ def failures(folder):
     for status, words in ((64, rest), (64, ["deadman=1"]), (64, ["deadman", *rest]), (64, ["deadman=1..2:0", *rest]),
                           (64, ["deadmen=1", *rest]), (64, ["deadman=-1", *rest]), (64, ["deadman=1..99999", *rest]),
                           (64, ["deadman=1", "deadman=2", *rest]), (64, ["fixed=1", "drawn=1", *rest]),
-                          (64, ["viewers=7", *rest]), (64, ["deaths=5", *rest]), (64, ["beats=1", *rest, "--jobs", "0"]),
+                          (64, ["viewers=7", *rest]), (64, ["deaths=5", *rest]),
+                          (64, ["beats=1", *rest, "--jobs", "0"]),
                           (64, ["beats=1", *rest, "--print"]), (64, ["beats=1", *rest, "--seconds", "x"]),
                           (1, ["beats=2..1", *rest]), (1, ["beats=1", "absent.json"]), (1, ["beats=1", "ten"]),
                           (1, ["beats=1", rest[0], "--program", "/nowhere"]),
@@ -156,7 +157,8 @@ def rules():
     for number in range(4):
         placed = points.with_deaths(ring, number)
         yield f"{number} deaths", "" if placed == wanted[:number] else str(placed)
-    for word, wanted in (("beats=5", [5]), ("beats=1..3", [1, 2, 3]), ("beats=1..6:2,9", [1, 3, 5, 9]), ("beats=2..1", [])):
+    for word, wanted in (("beats=5", [5]), ("beats=1..3", [1, 2, 3]), ("beats=1..6:2,9", [1, 3, 5, 9]),
+                         ("beats=2..1", [])):
         values = points.axis_of(word)[1]
         yield f"the values of {word}", "" if values == wanted else str(values)
 
@@ -168,8 +170,9 @@ def document(tiger, folder):
     made = [block for block in blocks if block[0].startswith("tools/scenario")]
     shown = [block for block in blocks if "," in block[0] and block[0].endswith(COLUMNS.strip())]
     yield "the examples of docs/sweeps.md", "" if len(made) == len(shown) == 2 else "they are not found"
+    tool = f"'{sys.executable}' '{SCENARIO}'"
     for (first, second), rows in zip(made, shown):
-        scenario = program.run(["/bin/sh", "-c", first.replace("tools/scenario", f"'{sys.executable}' '{SCENARIO}'")], folder)
+        scenario = program.run(["/bin/sh", "-c", first.replace("tools/scenario", tool)], folder)
         ended = sweep([*second.split()[1:], "--program", tiger], folder)
         name = second.split()[-1]
         same = content(os.path.join(folder, name)) == content(os.path.join(program.TOP, "docs", "sweeps", name)) != ""
