@@ -1,5 +1,6 @@
 """Checks of tools/sweep for tools/check-program: its rows, with stand-ins for the program too, its plots, the commands
 that it prints, and the examples of docs/sweeps.md."""
+import concurrent.futures
 import csv
 import os
 import re
@@ -34,6 +35,12 @@ STAND_INS = {  # what runs in the program's place, and the end of each row
 def sweep(words, folder):
     """How tools/sweep ends on these words in a folder."""
     return program.run([sys.executable, SWEEP, *words], folder)
+
+
+def sweeps(lines, folder):
+    """How tools/sweep ends on each of some lines of words; several go at a time."""
+    with concurrent.futures.ThreadPoolExecutor(os.cpu_count()) as pool:
+        return list(pool.map(lambda words: sweep(words, folder), lines))
 
 
 def stand_in(folder, name, text):
@@ -83,9 +90,9 @@ def content(path):
 
 def stand_ins(folder):
     """What is neither a report nor a refusal is in its row, and a failure."""
-    for name, (text, row) in STAND_INS.items():
-        path = stand_in(folder, name, text)
-        made = sweep(["beats=1400", "six-viewers.json", "--program", path, "--seconds", "1"], folder)
+    paths = [stand_in(folder, name, text) for name, (text, _) in STAND_INS.items()]
+    lines = [["beats=1400", "six-viewers.json", "--program", path, "--seconds", "1"] for path in paths]
+    for (name, (_, row)), made in zip(STAND_INS.items(), sweeps(lines, folder)):
         rows = made.out.decode().splitlines()[1:]
         good = made.status == 1 and len(rows) == 1 and rows[0].startswith(f"1400,{row}") and rows[0].endswith(NOTHING)
         good = good and re.fullmatch(rb"sweep: 1 of 1 point [^\n]+\n", made.err)
@@ -99,16 +106,14 @@ def stand_ins(folder):
 def failures(folder):
     """Wrong words, and what cannot be tried, get one line and no row."""
     rest = ["six-viewers.json", "--program", "/bin/true"]
-    for status, words in ((64, rest), (64, ["deadman=1"]), (64, ["deadman", *rest]), (64, ["deadman=1..2:0", *rest]),
-                          (64, ["deadmen=1", *rest]), (64, ["deadman=-1", *rest]), (64, ["deadman=1..99999", *rest]),
-                          (64, ["deadman=1", "deadman=2", *rest]), (64, ["fixed=1", "drawn=1", *rest]),
-                          (64, ["viewers=7", *rest]), (64, ["deaths=5", *rest]),
-                          (64, ["beats=1", *rest, "--jobs", "0"]),
-                          (64, ["beats=1", *rest, "--print"]), (64, ["beats=1", *rest, "--seconds", "x"]),
-                          (1, ["beats=2..1", *rest]), (1, ["beats=1", "absent.json"]), (1, ["beats=1", "ten"]),
-                          (1, ["beats=1", rest[0], "--program", "/nowhere"]),
-                          (1, ["beats=1", rest[0], "--program", "ten"])):
-        made = sweep(words, folder)
+    wanted = ((64, rest), (64, ["deadman=1"]), (64, ["deadman", *rest]), (64, ["deadman=1..2:0", *rest]),
+              (64, ["deadmen=1", *rest]), (64, ["deadman=-1", *rest]), (64, ["deadman=1..99999", *rest]),
+              (64, ["deadman=1", "deadman=2", *rest]), (64, ["fixed=1", "drawn=1", *rest]),
+              (64, ["viewers=7", *rest]), (64, ["deaths=5", *rest]), (64, ["beats=1", *rest, "--jobs", "0"]),
+              (64, ["beats=1", *rest, "--print"]), (64, ["beats=1", *rest, "--seconds", "x"]),
+              (1, ["beats=2..1", *rest]), (1, ["beats=1", "absent.json"]), (1, ["beats=1", "ten"]),
+              (1, ["beats=1", rest[0], "--program", "/nowhere"]), (1, ["beats=1", rest[0], "--program", "ten"]))
+    for (status, words), made in zip(wanted, sweeps([words for _, words in wanted], folder)):
         good = made.status == status and made.out == b"" and re.fullmatch(rb"sweep: [^\n]+\n", made.err)
         yield f"the words {words}", "" if good else f"status {made.status}, {made.out.decode()}{made.err.decode()}"
 
