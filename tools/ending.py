@@ -13,6 +13,7 @@ FAILED = 1
 WRONG_WORDS = 64
 AS_IT_STANDS = argparse.RawDescriptionHelpFormatter
 HUNG = "hung"  # the status of a run that was not over in time
+GRACE = 5  # seconds in which what is to end may do so by itself
 STATUSES = range(2, 9)  # those with which the program ends without a report, or with a part of one
 ENDING = (signal.SIGINT, signal.SIGTERM, signal.SIGHUP)  # the signals that end a tool
 
@@ -85,9 +86,20 @@ def ended_of(command, seconds):
         return program.Ended(HUNG, b"", f"no answer in {seconds} seconds\n".encode())
     finally:
         if ran.returncode is None:
-            os.killpg(ran.pid, signal.SIGKILL)
-            ran.wait()
+            end(ran)
     return program.Ended(ran.returncode, out, err)
+
+
+def end(ran):
+    """Ends a process and its group: by SIGTERM, since what it is may have to end more, and else by SIGKILL."""
+    for number in (signal.SIGTERM, signal.SIGKILL):
+        os.killpg(ran.pid, number)
+        try:
+            ran.wait(GRACE)
+            return
+        except subprocess.TimeoutExpired:
+            pass
+    ran.wait()
 
 
 def how(status):

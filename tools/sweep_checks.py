@@ -137,7 +137,8 @@ def interrupted(folder):
     path = stand_in(folder, "hangs-once", f'echo $$ >>"{folder}/started"\n'
                     f'grep -q \'"beats": 2,\' "$2" && exec sleep 600\n{REFUSAL}')
     ran = subprocess.Popen([sys.executable, SWEEP, "beats=1..4", "six-viewers.json", "--program", path, "--jobs", "2",
-                            "--svg", "part.svg"], cwd=folder, stdout=subprocess.PIPE, stderr=subprocess.PIPE)
+                            "--svg", "part.svg"], cwd=folder, stdout=subprocess.PIPE, stderr=subprocess.PIPE,
+                           preexec_fn=lambda: signal.signal(signal.SIGINT, signal.SIG_DFL))
     limit = time.monotonic() + program.WAIT
     while len(content(os.path.join(folder, "started")).split()) < 4 and time.monotonic() < limit:
         time.sleep(0.1)
