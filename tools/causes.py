@@ -7,7 +7,7 @@ import json
 import math
 
 from scenarios import (KEYS, MOST_BEATS, MOST_DEATHS, MOST_EVENTS, MOST_FAULTS, MOST_FILES, MOST_PRODUCT, MOST_STARTS,
-                       RANGES)
+                       RANGES, Raw, text_of)
 
 NEEDED, OPTIONAL = ("plan", "beats", "links", "files", "events"), ("offsets", "deaths", "read_faults")
 NAME_MOST = 200  # bytes of a file's name
@@ -18,18 +18,18 @@ SHOWN = 60  # characters of a value that are shown
 
 def shown(value):
     """A value in ASCII, and of a long one the beginning."""
-    text = json.dumps(value)
+    text = text_of(value)
     return text if len(text) <= SHOWN else text[:SHOWN] + ".."
 
 
 def value_of(content):
-    """The value of a scenario's bytes."""
-    return json.loads(content.decode(), parse_int=whole)
+    """The value of a scenario's bytes; what is no number for the scenario stays as it is written."""
+    return json.loads(content.decode(), parse_int=whole, parse_float=Raw)
 
 
 def whole(digits):
     """A number in digits alone; what has a sign is none for the scenario."""
-    return float(digits) if digits.startswith("-") else int(digits)
+    return Raw(digits) if digits.startswith("-") else int(digits)
 
 
 def outside(name, value, low, high):
@@ -46,7 +46,8 @@ def keys_wrong(name, value, needed, optional=()):
     missing = [key for key in needed if key not in value]
     other = [key for key in value if key not in (*needed, *optional)]
     found = [f"has no key {', '.join(missing)}"] if missing else []
-    found += [f"has the key {shown(other[0])}, which no such object has"] if other else []
+    if other:
+        found.append(f"has the key{'s' if len(other) > 1 else ''} {', '.join(map(shown, other))}, which no such object has")
     return f"{name} {' and '.join(found)}" if found else ""
 
 
@@ -102,9 +103,8 @@ def cause(rule, item, value):
 
 def plan_cause(plan, item):
     """What is wrong with a key of the plan."""
-    if 1 <= item <= len(KEYS) and isinstance(plan, dict):
-        key = KEYS[item - 1]
-        return outside(key, plan[key], *RANGES[item - 1]) if key in plan else f"plan has no key {key}"
+    if 1 <= item <= len(KEYS) and isinstance(plan, dict) and KEYS[item - 1] in plan:
+        return outside(KEYS[item - 1], plan[KEYS[item - 1]], *RANGES[item - 1])
     return keys_wrong("plan", plan, KEYS)
 
 
@@ -130,6 +130,17 @@ def visits_cause(value):
     starts = sum("start" in event for event in value["events"])
     return (f"there are {starts} starts, and floor({beats} \u00b7 {plan['beat']} / {plan['play']}) + 1 is "
             f"{beats * plan['beat'] // plan['play'] + 1}")
+
+
+def mend_of_array(rule, value):
+    """How to mend what is no array, or one that is too long or too short; nothing if an element is to be mended."""
+    array, cubs = value[ARRAYS[rule]], value["plan"]["cubs"]
+    least, most = (cubs + 1, cubs + 1) if rule == 7 else (int(rule == 8), MOST[rule])
+    if not isinstance(array, list):
+        return f"write {ARRAYS[rule]} as an array"
+    if least <= len(array) <= most:
+        return ""
+    return f"give {ARRAYS[rule]} {f'{least} to {most}' if least < most else most} elements"
 
 
 def element_cause(rule, item, value):
@@ -161,7 +172,7 @@ def file_cause(value, item):
     """What is wrong with a file."""
     file = value["files"][item]
     found = keys_wrong("it", file, ("name", "disk"))
-    if not found and not isinstance(file["name"], str):
+    if not found and type(file["name"]) is not str:
         found = "its name is no text"
     length = 0 if found else len(file["name"].encode("utf-8", "replace"))
     if not found and not 1 <= length <= NAME_MOST:

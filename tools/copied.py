@@ -89,9 +89,8 @@ class Copy:
                    f"{self.kit}/rattle/logic/antt-project.json", "--logic-built", f"{self.kit}/logic_built",
                    "--incremental", self.in_use, "--jobs", "1"]
         command += self.given(crate, changed) + (["--only", law] if law else [])
-        ran = subprocess.run(command, cwd=os.path.join(self.folder, "crates", crate), stdin=subprocess.DEVNULL,
-                             stdout=subprocess.PIPE, stderr=subprocess.STDOUT, encoding="utf-8", errors="replace")
-        return ran.returncode == 0, ran.stdout
+        ran = program.run(command, os.path.join(self.folder, "crates", crate), is_limited=False, stderr=subprocess.STDOUT)
+        return ran.status == 0, ran.out.decode("utf-8", "replace")
 
 
 def read_crates():
@@ -124,8 +123,3 @@ def processor_time():
     """The processor time of all checks so far, in seconds."""
     used = resource.getrusage(resource.RUSAGE_CHILDREN)
     return used.ru_utime + used.ru_stime
-
-
-def absolute(path):
-    """The path from the root, where one is given."""
-    return os.path.abspath(path) if path else None

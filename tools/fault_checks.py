@@ -31,10 +31,8 @@ def run(tiger, words, folder, out=None, err=None, closed=(), is_nobody=False):
     is not seen."""
     with contextlib.ExitStack() as stack:
         given = [subprocess.PIPE if it is None else stack.enter_context(it) for it in (out, err)]
-        ran = subprocess.Popen([tiger, *words], cwd=folder, stdin=subprocess.DEVNULL, stdout=given[0], stderr=given[1],
-                               preexec_fn=in_child(closed, is_nobody))
-    wrote = ran.communicate(timeout=program.WAIT)
-    return Ended(ran.returncode, wrote[0] or b"", wrote[1] or b"")
+        return program.run([tiger, *words], folder, stdout=given[0], stderr=given[1],
+                           preexec_fn=in_child(closed, is_nobody))
 
 
 def full():

@@ -6,8 +6,10 @@ Python 3.8 or later, and nothing but its standard library.
 import json
 import os
 import resource
-import subprocess
+import sys
 import tempfile
+
+import program
 
 ROUNDS = 3
 # The small plan of docs/formats.md, and one for a ring of 64 cubs.
@@ -17,6 +19,10 @@ SMALL = {"cubs": 8, "disks": 1, "slots": 16, "play": 1000000, "pieces": 2, "bloc
          "deadman": 1000000, "hold": 3000000}
 LARGE = dict(SMALL, cubs=64, disks=2, slots=256, delay=1)
 LOADS = ((SMALL, 8000), (LARGE, 500))
+
+
+class NoCosts(Exception):
+    """Why the costs cannot be measured, in one line."""
 
 
 def scenario_of(plan, beats):
@@ -30,12 +36,16 @@ def scenario_of(plan, beats):
 def used_by(command, text, folder):
     """The least user time in seconds of some runs with this input, and what they wrote."""
     least = float("inf")
-    for _ in range(ROUNDS):
-        before = resource.getrusage(resource.RUSAGE_CHILDREN).ru_utime
-        ran = subprocess.run(command, cwd=folder, input=text.encode(), stdout=subprocess.PIPE,
-                             check=True)
-        least = min(least, resource.getrusage(resource.RUSAGE_CHILDREN).ru_utime - before)
-    return least, ran.stdout.decode()
+    with tempfile.TemporaryFile() as asked:
+        asked.write(text.encode())
+        for _ in range(ROUNDS):
+            asked.seek(0)
+            before = resource.getrusage(resource.RUSAGE_CHILDREN).ru_utime
+            ran = program.run(command, folder, stdin=asked)
+            if ran.status != 0:
+                raise NoCosts(f"{command[0]} ends with status {ran.status}")
+            least = min(least, resource.getrusage(resource.RUSAGE_CHILDREN).ru_utime - before)
+    return least, ran.out.decode(errors="replace")
 
 
 def measure(stepper, tiger, plan, beats, folder):
@@ -45,23 +55,33 @@ def measure(stepper, tiger, plan, beats, folder):
     with open(os.path.join(folder, "scenario"), "w", encoding="utf-8") as file:
         file.write(scenario)
     used, said = used_by([stepper], f"world {scenario}\nplay {beats}\n\n", folder)
+    if not said.split() or not said.split()[-1].isdecimal():
+        raise NoCosts(f"{stepper} does not say how many events there were")
     events = int(said.split()[-1])
     of_run = used_by([tiger, "run", "scenario", "1"], "", folder)[0] if tiger else None
     return events, used * 1e6 / events, of_run and of_run * 1e6 / events
 
 
+def tell_load(stepper, tiger, plan, beats, folder):
+    """Prints what a step costs in so many beats by this plan."""
+    events, step, of_run = measure(stepper, tiger, plan, beats, folder)
+    beside = f", of a run {of_run:.2f} us, {step / of_run:.1f} times" if of_run else ""
+    print(f"{plan['cubs'] * (1 + plan['disks']) + 2} nodes, {beats} beats, {events} events: "
+          f"a step of a world {step:.2f} us{beside}", flush=True)
+
+
 def tell(stepper, tiger):
-    """Prints what a step costs on each load."""
+    """Prints what a step costs on each load, and gives whether it could be measured."""
     tiger = tiger if tiger and os.access(tiger, os.X_OK) else None
-    with tempfile.TemporaryDirectory() as folder:
-        with open(os.path.join(folder, "file"), "wb") as file:
-            file.write(bytes(64))
-        for plan, beats in LOADS:
-            nodes = plan["cubs"] * (1 + plan["disks"]) + 2
-            for times in (1, 2, 4):
-                events, step, of_run = measure(stepper, tiger, plan, beats * times, folder)
-                beside = f", of a run {of_run:.2f} us, {step / of_run:.1f} times" if of_run else ""
-                print(f"{nodes} nodes, {beats * times} beats, {events} events: "
-                      f"a step of a world {step:.2f} us{beside}", flush=True)
+    try:
+        with tempfile.TemporaryDirectory() as folder:
+            with open(os.path.join(folder, "file"), "wb") as file:
+                file.write(bytes(64))
+            for plan, beats, times in ((*load, times) for load in LOADS for times in (1, 2, 4)):
+                tell_load(stepper, tiger, plan, beats * times, folder)
+    except NoCosts as why:
+        print(f"hostile: the costs cannot be measured: {why}", file=sys.stderr)
+        return False
     if tiger is None:
         print("hostile: the program `tiger` is not there, so a step of a world is measured alone")
+    return True

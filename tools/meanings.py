@@ -22,12 +22,13 @@ RULES = {  # what is wrong, and how to mend it
         "write one JSON value: look for a bracket or quotation mark that is missing, a comma too many, a byte order "
         "mark at the beginning"),
     2: ("the value is no object, a needed key is missing, or another key stands there",
-        "write the five needed keys, and no others than these eight"),
+        "write the five needed keys `plan`, `beats`, `links`, `files` and `events`, and no others but `offsets`, `deaths` "
+        "and `read_faults`"),
     3: ("`plan` is no object, or one of its keys is missing, out of its range or no number, or it has another key",
-        "put the number with that item into its range; take another key out"),
+        "give each of the 18 keys a number in its range, and take another key out"),
     4: ("a condition of the plan is false", "see the next table"),
     5: ("`beats` is out of its range, or `beats` \u00b7 `cubs` is above 2000000",
-        "run fewer beats, or take fewer cubs"),
+        "run 1 to 100000 beats; if the product is too large, fewer beats or fewer cubs"),
     6: ("`links` is not of its form", 'write `{"fixed":1}`; a fixed delay is at most `delay`'),
     7: ("`offsets` is not of its form",
         "write one number for each cub and one more, each at most `skew`; or leave the key out"),

@@ -1,21 +1,36 @@
-"""What the tools of this folder share: the built program, the reference simulator, and one run of either.
+"""What the tools of this folder share: their words and how they end, the built program, the reference simulator, and
+runs of either.
+
+A tool fails if it tried nothing. A word that is wrong is one line on standard error and status 64. SIGINT, SIGTERM and
+SIGHUP end a tool and what it runs, with what was found so far and 128 and the signal's number as status.
 
 Python 3.8 or later, and nothing but its standard library.
 """
 import argparse
+import concurrent.futures
+import contextlib
+import math
 import os
+import re
+import signal
 import subprocess
 import sys
+import threading
 
 TOP = os.path.dirname(os.path.dirname(os.path.realpath(__file__)))
 LAUNCHER = os.path.join(TOP, "tiger")
+BUILD = os.path.join(TOP, "tools", "build")
 PROGRAM = os.path.join(TOP, "crates", "tiger_main", "out", "tiger_main")
 CASES = os.path.join(TOP, "conformance")
-WAIT = 300  # seconds after which a run counts as hung
+WAIT = 300  # seconds after which a run counts as hung, unless --wait gives others
 
 NOBODY = 65534
-NO_PROGRAM = 70
+WRONG_WORD = 64
 NO_REFERENCE = 69
+NO_PROGRAM = 70
+MOST_WORKERS = 64
+TOTAL = re.compile(rb"^total starts [^\n]*\n(?:report [^\n]*\n)?\Z", re.M)  # how the output of a run ends
+REFUSALS = (2, 3, 4, 5, 8)  # the statuses of runs that write nothing but one line on standard error
 
 
 class Ended:
@@ -62,43 +77,210 @@ def where_differ(got, wanted):
     return f"{len(ours) - 1} lines for {len(theirs) - 1}"
 
 
-def run(command, folder):
+class Interrupt:
+    """The signals that end a tool: the first one kills what runs and lets no other process begin, and those after it
+    change nothing. It is raised at once if it is not held back, and else where a process ends or begins."""
+
+    lock, running, held, came = threading.RLock(), set(), 0, 0
+
+    @classmethod
+    def handle(cls, number, _):
+        """Takes a signal."""
+        if cls.came:
+            return
+        cls.came = number
+        with cls.lock:
+            for process in cls.running:
+                kill(process)
+        if not cls.held:
+            raise KeyboardInterrupt
+
+    @classmethod
+    def begin(cls, command, **how):
+        """Starts a process, which has a group of its own with all that it starts."""
+        with cls.lock:
+            if cls.came:
+                raise KeyboardInterrupt
+            process = subprocess.Popen(command, start_new_session=True, **how)
+            cls.running.add(process)
+        return process
+
+    @classmethod
+    @contextlib.contextmanager
+    def held_back(cls):
+        """Has what was found told at the end, if SIGINT comes."""
+        cls.held += 1
+        try:
+            yield
+        except KeyboardInterrupt:
+            pass
+        finally:
+            cls.held -= 1
+
+
+def kill(process):
+    """Kills a process and its group, if it has not ended."""
+    if process.poll() is None:
+        with contextlib.suppress(OSError):
+            os.killpg(process.pid, signal.SIGKILL)
+        process.kill()
+
+
+def run(command, folder, is_limited=True, **how):
     """Runs a command in a folder."""
+    streams = {"stdin": subprocess.DEVNULL, "stdout": subprocess.PIPE, "stderr": subprocess.PIPE, **how}
     try:
-        ran = subprocess.run(command, cwd=folder, stdin=subprocess.DEVNULL, stdout=subprocess.PIPE,
-                             stderr=subprocess.PIPE, timeout=WAIT)
-    except subprocess.TimeoutExpired:
-        return Ended("none", b"", f"no answer in {WAIT} seconds\n".encode())
-    return Ended(ran.returncode, ran.stdout, ran.stderr)
+        return ended(Interrupt.begin(command, cwd=folder, **streams), WAIT if is_limited else None)
+    except OSError as error:
+        return Ended("none", b"", f"{command[0]} does not start: {error.strerror}\n".encode(errors="replace"))
+
+
+def ended(process, seconds):
+    """How a process ends; one that does not end in so many seconds, if there is a limit, is killed and counts as hung."""
+    with process:
+        try:
+            out, err = process.communicate(timeout=seconds)
+            found = Ended(process.returncode, out or b"", err or b"")
+        except subprocess.TimeoutExpired:
+            found = Ended("none", b"", f"no answer in {seconds} seconds\n".encode())
+        finally:
+            kill(process)
+    with Interrupt.lock:
+        Interrupt.running.discard(process)
+    if Interrupt.came:
+        raise KeyboardInterrupt
+    return found
+
+
+def is_answer(one):
+    """Whether a run ended as the program may: with a report and status 0, or with the line of a refusal and its
+    status."""
+    if one.status == 0:
+        return TOTAL.search(one.out) is not None and one.err == b""
+    return one.status in REFUSALS and one.out == b"" and re.fullmatch(rb"tiger: [^\n]+\n", one.err) is not None
+
+
+def in_turn(work, items, jobs):
+    """What comes of the work on each item, in their order, with so many at a time, until SIGINT comes."""
+    with Interrupt.held_back(), concurrent.futures.ThreadPoolExecutor(jobs) as pool:
+        yield from pool.map(work, items)
+
+
+def status_of(tried, failed):
+    """The status of a tool that tried so many and found so many failed."""
+    return 128 + Interrupt.came if Interrupt.came else 1 if failed or not tried else 0
+
+
+def finish(main):
+    """Does a tool's work, and ends with its status."""
+    for number in (signal.SIGINT, signal.SIGTERM, signal.SIGHUP):
+        if signal.getsignal(number) is not signal.SIG_IGN:
+            signal.signal(number, Interrupt.handle)
+    try:
+        status = main()
+        sys.stdout.flush()
+    except KeyboardInterrupt:
+        status = 128 + Interrupt.came
+    except OSError as error:
+        # (what is still to be written there would be tried once more at the end)
+        os.dup2(os.open(os.devnull, os.O_WRONLY), 1)
+        print(f"{os.path.basename(sys.argv[0])}: {error}", file=sys.stderr)
+        status = 1
+    sys.exit(status)
 
 
 def built():
-    """The path of the built program; the launcher builds it first where it is not built from what stands here."""
-    if subprocess.run([LAUNCHER, "--version"], stdout=subprocess.DEVNULL).returncode != 0:
+    """The path of the built program; it is built first if it is not built from what stands here."""
+    building = subprocess.Popen([sys.executable, BUILD], stdin=subprocess.DEVNULL)
+    try:
+        status = building.wait()
+    except KeyboardInterrupt:
+        building.terminate()
+        building.wait()
+        raise
+    if status != 0:
         print("the program could not be built", file=sys.stderr)
         sys.exit(NO_PROGRAM)
     return PROGRAM
 
 
+class Reader(argparse.ArgumentParser):
+    """A reader of words that says in one line which word is wrong."""
+
+    def error(self, message):
+        """Ends with the line."""
+        self.exit(WRONG_WORD, f"{self.prog}: {' '.join(message.split())}\n")
+
+
+def count(text):
+    """The number of a word, which is 1 or more."""
+    if not (text.isascii() and text.isdecimal() and int(text) >= 1):
+        raise argparse.ArgumentTypeError(f"'{text}' is no number from 1 on")
+    return int(text)
+
+
+def workers(text):
+    """A number of workers."""
+    if count(text) > MOST_WORKERS:
+        raise argparse.ArgumentTypeError(f"'{text}' is no number from 1 to {MOST_WORKERS}")
+    return int(text)
+
+
+def minutes(text):
+    """A time in minutes, which is not 0."""
+    number = float(text)
+    if not (math.isfinite(number) and number > 0):
+        raise argparse.ArgumentTypeError(f"'{text}' is no time above 0")
+    return number
+
+
+def executable(text):
+    """The whole path of a program."""
+    if not (os.path.isfile(text) and os.access(text, os.X_OK)):
+        raise argparse.ArgumentTypeError(f"'{text}' is no program that is there")
+    return os.path.abspath(text)
+
+
+def folder(text):
+    """The whole path of a folder that is there."""
+    if not os.path.isdir(text):
+        raise argparse.ArgumentTypeError(f"'{text}' is no folder that is there")
+    return os.path.abspath(text)
+
+
+def words_alone(doc):
+    """A reader of words, with none but --help."""
+    return Reader(description=doc, formatter_class=argparse.RawDescriptionHelpFormatter)
+
+
 def words(doc):
-    """A reader of words with the options that all tools have."""
-    reader = argparse.ArgumentParser(description=doc, formatter_class=argparse.RawDescriptionHelpFormatter)
-    reader.add_argument("--program", metavar="PATH", help="run this in place of the built program")
+    """A reader of words with the options that all tools have that run the program."""
+    reader = words_alone(doc)
+    reader.add_argument("--program", metavar="PATH", type=executable, help="run this in place of the built program")
+    reader.add_argument("--wait", metavar="S", type=count, default=WAIT,
+                        help="the seconds after which a run counts as hung (%(default)s)")
     return reader
+
+
+def with_jobs(reader, what):
+    """Adds the option that says how many of something run at a time."""
+    reader.add_argument("--jobs", type=count, default=os.cpu_count(), help=f"how many {what} run at a time")
 
 
 def with_reference(reader):
     """Adds the option that names the reference simulator."""
-    reader.add_argument("--reference", metavar="PATH", default=os.environ.get("TIGER_REFERENCE"),
+    reader.add_argument("--reference", metavar="PATH", type=executable,
                         help="the reference simulator; else the environment's TIGER_REFERENCE names it")
 
 
 def program_of(given):
     """The program that was asked for, else the built one."""
-    return os.path.abspath(given.program) if given.program else built()
+    global WAIT
+    WAIT = given.wait
+    return given.program or built()
 
 
 def reference_of(given):
-    """The reference simulator's path; None where it is not there."""
-    path = given.reference and os.path.abspath(given.reference)
-    return path if path and os.access(path, os.X_OK) and os.path.isfile(path) else None
+    """The reference simulator's path; None if it is not there."""
+    path = given.reference or os.path.abspath(os.environ.get("TIGER_REFERENCE") or os.devnull)
+    return path if os.access(path, os.X_OK) and os.path.isfile(path) else None

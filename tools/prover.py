@@ -8,6 +8,7 @@ import os
 import shutil
 import subprocess
 
+import program
 from crates import PARTS, used_by
 from launch import TOP
 
@@ -74,9 +75,8 @@ class Prover:
         words = self.words(crate)
         for name in functions:
             words += ["--only", name]
-        ran = subprocess.run(words, cwd=folder, encoding="utf-8", errors="replace", stdin=subprocess.DEVNULL,
-                             stdout=subprocess.PIPE, stderr=subprocess.STDOUT)
-        return ran.returncode, ran.stdout.rstrip("\n").split("\n")
+        ran = program.run(words, folder, is_limited=False, stderr=subprocess.STDOUT)
+        return ran.status, ran.out.decode("utf-8", "replace").rstrip("\n").split("\n")
 
     def stamp(self, crate):
         """A checksum of all that a check of a crate reads: the kit, the crate's files, and the libraries below it."""

@@ -11,6 +11,8 @@ import shutil
 import subprocess
 import tempfile
 
+import program
+
 HEAD = re.compile(r"( *)(?:pub(?:\(crate\))? )?fn (\w+)")
 IMPL = re.compile(r"( *)impl(?:<.*?>)? (?:([\w:]+)(?:<.*>)? for )?([\w:]+)")
 IN_SOURCE = re.compile(r"(?:note: )?(src/\S+?):(\d+):\d+: .*")
@@ -145,13 +147,18 @@ def is_of(line, edit, function):
     return False
 
 
+def said_by(command, folder, room):
+    """The status of a command, and all that it says; its temporary files stand in a folder of their own."""
+    ran = program.run(command, folder, is_limited=False, stderr=subprocess.STDOUT, env={**os.environ, "TMPDIR": room})
+    return ran.status, ran.out.decode("utf-8", "replace")
+
+
 def refused(folder, group, room):
     """What a check of a crate with all edits of a group says of each that it refuses, by name."""
     with edited(folder, [edit for edit, _ in group]):
-        ran = subprocess.run(["rt", "check"], cwd=folder, env={**os.environ, "TMPDIR": room}, encoding="utf-8",
-                             errors="replace", stdin=subprocess.DEVNULL, stdout=subprocess.PIPE, stderr=subprocess.STDOUT)
-    lines = ran.stdout.rstrip("\n").split("\n")
-    if ran.returncode != 1 or not any(line.startswith("logic=not-proved") for line in lines):
+        status, said = said_by(["rt", "check"], folder, room)
+    lines = said.rstrip("\n").split("\n")
+    if status != 1 or not any(line.startswith("logic=not-proved") for line in lines):
         return {}
     told = {edit.name: next((it for it in lines if is_of(it, edit, function)), None) for edit, function in group}
     return {name: said for name, said in told.items() if said}
