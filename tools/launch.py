@@ -3,12 +3,14 @@ with their caller.
 
 Python 3.8 or later, and nothing but its standard library.
 """
+import contextlib
 import os
 import select
 import shutil
 import signal
 import subprocess
 import sys
+import tempfile
 import time
 
 TOP = os.path.dirname(os.path.dirname(os.path.realpath(__file__)))
@@ -22,7 +24,9 @@ PATIENCE = 5  # seconds that a command has to end by itself
 
 
 class Stopped(BaseException):
-    """A signal that ends this process."""
+    """A signal that ends this process. Those that come after it change nothing, so that the clean-up goes to its end."""
+
+    has_come = False
 
     def __init__(self, number):
         super().__init__(number)
@@ -130,7 +134,10 @@ def own_group():
 
 
 def stop(number, _):
-    raise Stopped(number)
+    """Takes a signal."""
+    if not Stopped.has_come:
+        Stopped.has_come = True
+        raise Stopped(number)
 
 
 def pause(*_):
@@ -165,8 +172,6 @@ def main(work, words):
         say(str(error))
         return NOT_BUILT
     except Stopped as why:
-        for number in ENDING:
-            signal.signal(number, signal.SIG_IGN)
         if Command.running:
             Command.running.end()
         say(f"stopped by {signal.Signals(why.number).name}")
@@ -174,9 +179,25 @@ def main(work, words):
         os.kill(os.getpid(), why.number)
 
 
-def run_program(words):
-    """Runs the program in this process's place."""
+@contextlib.contextmanager
+def folder_for_now():
+    """A folder that is removed at the end, when what runs in it has been ended."""
+    signal.pthread_sigmask(signal.SIG_BLOCK, ENDING)
+    room = tempfile.mkdtemp(prefix="tiger-")
+    try:
+        signal.pthread_sigmask(signal.SIG_UNBLOCK, ENDING)
+        yield room
+    finally:
+        if Command.running:
+            Command.running.end()
+        # (a check that has just been ended may still have written a file)
+        while os.path.exists(room):
+            shutil.rmtree(room, ignore_errors=True)
+
+
+def run_program(words, program=PROGRAM):
+    """Runs a program in this process's place."""
     # Python ignores these two, and the program would inherit that.
     for number in (signal.SIGPIPE, signal.SIGXFSZ):
         signal.signal(number, signal.SIG_DFL)
-    os.execv(PROGRAM, [PROGRAM, *words])
+    os.execv(program, [program, *words])
