@@ -164,6 +164,12 @@ def broken():
     one = {**no_one(), "beats": 600}
     event, far = {"beat": 0, "start": 0}, {"beat": 600, "start": 0}
     yield 5, {**one, "seed": 1}, 'the scenario has the key "seed"'
+    yield 5, {**one, "seed": 1, "speed": 2}, '"seed", "speed"'
+    yield 5, {"plan": small_plan()}, "no key beats, links, files, events"
+    yield 5, {**one, "beats": -1}, "beats is -1, which"
+    yield 5, {**one, "beats": 0}, "To mend it: run 1 to 100000 beats"
+    yield 5, {**one, "deaths": [{"cub": 0, "beat": 0}] * 33}, "To mend it: give deaths 0 to 32 elements."
+    yield 5, {**one, "plan": {key: small_plan()[key] for key in scenarios.KEYS[2:]}}, "plan has no key cubs, disks."
     yield 5, {**one, "plan": {**small_plan(), "cubs": 65}}, "cubs is 65, and must be from 3 to 64"
     yield 5, {**one, "plan": {**small_plan(), "window_a": 986001}}, "986001 + 4000 + 10000 = 1000001"
     yield 5, {**one, "plan": {**small_plan(), "window_b": 800000}}, "The first is too large by 1."
@@ -189,6 +195,8 @@ def explained(tiger, folder):
         said = tool("explain", ["--program", tiger, str(status), "broken.json"], folder)
         good = said.status == 0 and words in said.out.decode() and b"\x1b" not in said.out
         yield f"the words '{words}'", "" if good else f"status {said.status}, '{said.out.decode()}'"
+    said = tool("explain", ["7"], folder)
+    yield "the words for no memory", "" if b"run fewer beats, viewers or cubs" in said.out else said.out.decode()
     for words, status, start in ((["tiger: words"], 0, b"Status 2: "), (["7"], 0, b"Status 7: "), (["9"], 1, b""),
                                  (["tiger: scenario rule 14 item 0 left 0 right 0"], 1, b""), (["x"], 1, b""),
                                  (["5", "one.json"], 1, b""),
@@ -216,8 +224,8 @@ def in_terminal(copy, *words):
 def offers(folder):
     """The launcher offers tools/explain if the program refuses and standard error is a terminal, and else does not."""
     copy = launcher_checks.Copy(folder).build()
-    offer = b"tiger: in plain words: %s/tools/explain 5 " % os.fsencode(copy.top)
-    for name, shown in (("a/one.json", b"a/one.json\n"), ("\x1b]0;", b"SCENARIO\n")):
+    offer = b"tiger: in plain words: '%s/tools/explain' 5 " % os.fsencode(copy.top)
+    for name, shown in (("a/one.json", b"a/one.json\n"), ("a b.json", b"'a b.json'\n"), ("\x1b]0;", b"SCENARIO\n")):
         wanted = program.Ended(5, b"<run><%s><1>" % name.encode(), offer + shown)
         yield f"the offer for {name!r}", in_terminal(copy, "run", name, "1").differs(wanted)
     wanted = program.Ended(5, b"<run><one.json><1>", b"")
@@ -232,10 +240,10 @@ def draws(tiger, folder):
     drawn = tool("draw", words, folder)
     good = drawn.status == 0 and drawn.out.endswith(b"draw: 3 agreed, 0 differed\n")
     yield "three drawn scenarios", "" if good else f"status {drawn.status}, '{drawn.out.decode()}'"
-    drawn = tool("draw", [*words, "--minutes", "0"], folder)
-    wanted = rb"draw: \d of 3 of seed 7; .* 7 3 --minutes 0\n"
+    drawn = tool("draw", [*words, "--minutes", "0.002"], folder)
+    wanted = rb"draw: .*\d of 3 of seed \d+; .* \d+ 3 --minutes 0.002\n"
     good = drawn.status == 0 and re.search(wanted, drawn.out)
-    yield "no minutes of drawing", "" if good else f"status {drawn.status}, '{drawn.out.decode()}'"
+    yield "a moment of drawing", "" if good else f"status {drawn.status}, '{drawn.out.decode()}'"
 
 
 def all_of_them(tiger, folder):

@@ -1,0 +1,199 @@
+"""Checks of how the tools end, for tools/check-program: that none passes with a program that is missing, that crashes, that
+hangs or that prints something else, or if there is nothing to try; that a wrong word is one line and status 64; and that
+a signal ends a tool, and the launcher with the program."""
+import os
+import pty
+import signal
+import subprocess
+import sys
+import time
+
+import launcher_checks
+import program
+import tool_checks
+from program import Ended
+
+STAND_INS = {  # programs that are not this one
+    "true": "exit 0",
+    "crashes": "kill -SEGV $$",
+    "other": "echo 'total starts 1'",
+    "hangs": "echo $$ >>begun; exec sleep 600",
+}
+WRONG = (  # words that a tool does not take
+    "stress 1 0", "stress 1 -1", "stress x 1", "stress 1 1 --program /nowhere", "stress 1 1 --wait 0", "draw 1 0",
+    "draw 1 1 --jobs 0", "draw 1 1 --minutes 0", "draw 1 1 --minutes -1", "draw 1 1 --minutes nan", "draw 1",
+    "draw 1 1 --reference /nowhere", "conformance --cases /nowhere", "conformance run", "conformance --workers 65",
+    "conformance --jobs 0", "conformance --program /nowhere", "deaths --jobs 0", "deaths --program /nowhere", "deaths x",
+    "bench --rounds 0", "bench --workers 0", "bench nothing", "bench --beside /nowhere", "hostile 1 0", "hostile",
+    "hostile --costs --tiger /nowhere", "hostile 1 1 --program /nowhere", "refuse-allocations --last 0",
+    "refuse-allocations --workers 0", "refuse-rules --only nothing-of-this-name", "refuse-rules --libraries /nowhere",
+    "wrong-bodies nothing", "explain", "picture", "picture one.json --at x", "check-program --program /nowhere", "build x")
+TRIES = (  # the words of tools that try a program, whichever it is
+    "stress 1 1", "draw 1 2 --reference PROGRAM", "conformance made", "deaths", "bench made --rounds 1", "hostile 1 1",
+    "refuse-allocations --last 1")
+
+
+def tool(words, folder, stand_in):
+    """How a tool ends on these words, with a stand-in for the program."""
+    path = os.path.join(folder, stand_in)
+    first, *others = words.replace("PROGRAM", path).split()
+    return tool_checks.tool(first, ["--program", path, "--wait", "1", *others], folder)
+
+
+def has_traceback(ended):
+    """Whether a tool ended by an error of its own."""
+    return b"Traceback" in ended.err
+
+
+def wrong_words(folder):
+    """Each wrong word is one line on standard error and status 64."""
+    for words in WRONG:
+        name, *others = words.split()
+        got = tool_checks.tool(name, others, folder)
+        good = got.status == 64 and got.out == b"" and got.err.count(b"\n") == 1
+        yield f"the words '{words}'", "" if good else f"status {got.status}, '{got.err.decode()}'"
+
+
+def no_program(folder):
+    """No tool passes with a stand-in for the program."""
+    for name, text in STAND_INS.items():
+        with open(os.path.join(folder, name), "w", encoding="ascii") as file:
+            file.write(f"#!/bin/sh\n{text}\n")
+        os.chmod(file.name, 0o755)
+    for words in TRIES:
+        for name in STAND_INS:
+            if name == "hangs" and words == "deaths":
+                continue  # (400 runs that hang)
+            got = tool(words, folder, name)
+            good = got.status in (1, program.NO_REFERENCE) and not has_traceback(got)
+            yield f"'{words}' with a program that is '{name}'", "" if good else f"status {got.status}, '{got.err.decode()}'"
+
+
+def nothing_to_try(tiger, folder):
+    """A tool that has nothing to try, or cannot write what it draws, fails with one line."""
+    os.makedirs(os.path.join(folder, "no cases", "runs"))
+    for name, words in (("conformance", ["--cases", "no cases"]), ("conformance", ["--cases", "no cases", "--unproved"]),
+                        ("draw", ["1", "1", "--reference", tiger, "--write", "/dev/null/x"])):
+        got = tool_checks.tool(name, ["--program", tiger, *words], folder)
+        good = got.status == 1 and got.out == b"" and got.err.count(b"\n") == 1
+        yield f"{name} {' '.join(words[1:])}", "" if good else f"status {got.status}, '{got.err.decode()}'"
+    yield "nothing that was tried", "" if program.status_of(0, 0) == 1 else "it is no failure"
+
+
+def interrupted(folder):
+    """SIGINT ends a tool and the program that it runs, with what was found and status 130."""
+    begun = os.path.join(folder, "begun")
+    for words, said in (("stress 1 1", b"stress: 0 agreed, 0 differed\n"), ("deaths", b"deaths: 0 passed, 0 failed\n"),
+                        ("bench made", b"")):
+        path = os.path.join(folder, "hangs")
+        name, *others = words.split()
+        with open(path, "w", encoding="ascii") as file:
+            file.write(f"#!/bin/sh\necho $$ >>'{begun}'\nexec sleep 600\n")
+        running = subprocess.Popen([sys.executable, os.path.join(tool_checks.TOOLS, name), "--program", path, *others],
+                                   cwd=folder, stdout=subprocess.PIPE, stderr=subprocess.PIPE, preexec_fn=heeds)
+        processes = lines_of(begun)
+        running.send_signal(signal.SIGINT)
+        got = program.ended(running, program.WAIT)
+        left = [it for it in processes if not ends(int(it))]
+        os.remove(begun)
+        good = got.status == 130 and got.out.endswith(said) and got.err.count(b"\n") <= 1 and not has_traceback(got)
+        yield f"SIGINT to {words}", "" if good and not left else f"status {got.status}, '{got.err.decode()}', {left}"
+
+
+def heeds():
+    """Has a process heed SIGINT, also below `nohup` and in the background."""
+    signal.signal(signal.SIGINT, signal.SIG_DFL)
+
+
+def lines_of(path):
+    """The lines of a file, once it has one."""
+    limit = time.monotonic() + program.WAIT
+    while time.monotonic() < limit:
+        if os.path.exists(path) and os.path.getsize(path):
+            with open(path, encoding="ascii") as file:
+                return file.read().split()
+        time.sleep(0.02)
+    return []
+
+
+def ends(process):
+    """Whether a process is gone soon."""
+    limit = time.monotonic() + 10
+    while time.monotonic() < limit:
+        try:
+            with open(f"/proc/{process}/stat", encoding="utf-8", errors="replace") as file:
+                if file.read().rpartition(")")[2].split()[0] == "Z":
+                    return True
+        except OSError:
+            return True
+        time.sleep(0.02)
+    return False
+
+
+def launched(copy, text):
+    """The launcher of a copy with this text as its program and a terminal as standard error, and the terminal."""
+    copy.write("crates/tiger_run/out/tiger_run", f"#!/bin/sh\n{text}\n")
+    subprocess.run(["/bin/sh", "-c", '. tools/built.sh && record "$(sources_sum)"'], cwd=copy.top, check=True,
+                   env={**os.environ, "PATH": copy.path})
+    ours, theirs = pty.openpty()
+    started = subprocess.Popen([os.path.join(copy.top, "tiger"), "make", "1"], cwd=copy.top, stdin=subprocess.DEVNULL,
+                               stdout=subprocess.PIPE, stderr=theirs, preexec_fn=os.setpgrp,
+                               env={**os.environ, "PATH": copy.path})
+    os.close(theirs)
+    return started, ours
+
+
+def on_a_terminal(folder):
+    """A signal to the launcher alone ends the program too, and a program that a signal ends gives that signal's status
+    with no word of the shell."""
+    copy = launcher_checks.Copy(folder).build()
+    begun = os.path.join(copy.top, "begun")
+    for number in (signal.SIGTERM, signal.SIGHUP, signal.SIGKILL):
+        started, ours = launched(copy, f"echo $$ >'{begun}'; exec sleep 600")
+        process = lines_of(begun)[0]
+        started.send_signal(number)
+        got = program.ended(started, program.WAIT)
+        good = got.status == -number and ends(int(process))
+        yield f"{number.name} to the launcher", "" if good else f"status {got.status}, or the program goes on"
+        os.remove(begun)
+        os.close(ours)
+    for number in (signal.SIGKILL, signal.SIGSEGV, signal.SIGXFSZ):
+        started, ours = launched(copy, f"kill -{int(number)} $$")
+        got = program.ended(started, program.WAIT)
+        yield f"a program that ends by {number.name}", got.differs(Ended(-number, b"", b"")) + shown_on(ours)
+
+
+def shown_on(ours):
+    """What a terminal that nobody writes to any more has shown."""
+    with os.fdopen(ours, "rb", 0) as screen:
+        try:
+            return screen.read(4096).decode()
+        except OSError:
+            return ""
+
+
+def first_words(tiger, folder):
+    """What the launcher answers before a build is what the program answers."""
+    copy = launcher_checks.Copy(folder)
+    with open(os.path.join(program.TOP, "crates/tiger_run/src/main.rt"), encoding="utf-8") as file:
+        copy.write("crates/tiger_run/src/main.rt", file.read())
+    for words in (["--help"], ["--version"], [], ["help"], ["--help", "x"], ["run", "gone", "1"], ["run", "", "1"],
+                  ["run", "crates", "1"], ["run", "gone", "65"], ["run", "gone", "01"], ["run", b"\xff", "1"],
+                  ["make", "01"], ["make", "18446744073709551616"], ["make", "1", "1"]):
+        wanted = program.run([tiger, *words], copy.top)
+        for before in ([], ["--unproved"]):
+            yield f"the launcher's first answer to {before + words}", copy.run(*before, *words).differs(wanted)
+    yield "-h", copy.run("-h").differs(copy.run("--help"))
+    yield "no build for a first answer", copy.holds("copied") + copy.holds("tries")
+
+
+def all_of_them(tiger, folder):
+    """Each check's name, and what it found; nothing if all is well. The folder has the examples and their files."""
+    yield from wrong_words(folder)
+    yield from no_program(folder)
+    yield from nothing_to_try(tiger, folder)
+    yield from interrupted(folder)
+    for number, check in enumerate((on_a_terminal, lambda at: first_words(tiger, at))):
+        at = os.path.join(folder, f"launcher {number}")
+        os.mkdir(at)
+        yield from check(at)
