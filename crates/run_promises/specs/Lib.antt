@@ -1,0 +1,4 @@
+pub mod Windows
+pub mod Kept
+pub mod Waits
+pub mod Placing
