@@ -1,1 +1,12 @@
 pub mod Windows
+pub mod Visits
+pub mod Fronts
+pub mod Journals
+pub mod Starts
+pub mod Tried
+pub mod Stops
+pub mod Room
+pub mod Served
+pub mod House
+pub mod Reports
+pub mod Promises

@@ -2,3 +2,8 @@ pub mod Windows
 pub mod Kept
 pub mod Waits
 pub mod Placing
+pub mod Served
+pub mod House
+pub mod Stops
+pub mod Reports
+pub mod Promises

@@ -1,15 +1,12 @@
 -- What a start that waits may rely on: which visits are tried for it, and by when it is put.
-use Rattle.std.specs.Prelude.{◌≡◌, ◌≢◌, ℕ, ◌+◌, ◌*◌, ◌<◌, ◌≤◌, List, length, Some, ◌⊎◌}
-use Rattle.std.specs.List.{AllByRecursion}
+use Rattle.std.specs.Prelude.{◌≡◌, ◌≢◌, ℕ, ◌+◌, ◌*◌, ◌<◌, ◌≤◌, true, List, length, Some, ◌⊎◌}
 use Rattle.tiger_base.specs.declared.tenancy.Tenancy.{Tenancy}
 use Rattle.slot_plan.specs.declared.params.Params.{Params}
 use Rattle.slot_plan.specs.Conditions.{IsPlan}
 use Rattle.slot_plan.specs.Times.{due, disk_of, disk_count, time_of}
 use Rattle.node_kit.specs.declared.course.Kept.{Kept}
-use Rattle.node_kit.specs.declared.course.Order.{Order}
-use Rattle.node_kit.specs.declared.course.OrderKind.{OrderKind}
-use Rattle.node_kit.specs.declared.course.OrderKind.TheVariants as kind
 use Rattle.node_kit.specs.Courses.{reading_of}
+use Rattle.run_facts.specs.Commanded.{stop_ordered}
 use Rattle.run_model.specs.Fronts.{AnyByRecursion}
 use Rattle.run_model.specs.Served.{IsPut}
 use Rattle.run_promises.specs.Kept.{after_tick, WasPut}
@@ -63,17 +60,17 @@ AreTheOthers k w others = (beat slot : ℕ) (t : Tenancy) → w.from ≤ beat �
     → (after_tick k w.cub beat).schedule.holder slot ≡ Some t → t.instance.0 ≢ w.ask.instance.0
     → AnyByRecursion (λ v. t.instance.0 ≡ v) others
 
--- if an order stops anybody, then more than a block play time before a beat, or after another
-abbrev pub StopsNobodyIn : Params → ℕ → ℕ → Order → Type 0
-StopsNobodyIn p from last o = (v : _) → o.what ≡ kind.Finish v
-    → (time_of p o.beat + p.play < time_of p from) ⊎ (last < o.beat)
+-- any order that stops anybody is of a beat more than a block play time before one beat, or of a beat after another
+abbrev pub NobodyIsStoppedIn : Kept → ℕ → ℕ → Type 0
+NobodyIsStoppedIn k from last = (v beat : ℕ) → stop_ordered k.orders v beat ≡ true
+    → (time_of k.course.plan.params beat + k.course.plan.params.play < time_of k.course.plan.params from) ⊎ (last < beat)
 
 -- there are fewer others than slots, and nobody is stopped in these beats, or up to a block play time before them
 pub record HasRoom (k : Kept) (w : Wait) : Type 0 where
   pub others : List ℕ
   pub all : AreTheOthers k w others
   pub few : length others < k.course.plan.params.slots
-  pub stops : AllByRecursion (StopsNobodyIn k.course.plan.params w.from w.last) k.orders
+  pub stops : NobodyIsStoppedIn k w.from w.last
 
 -- who waits a turn in a house with room is put or stopped by its end, however the others come and go
 abbrev pub WhoFindsRoomIsPut : Kept → Type 0

@@ -46,7 +46,7 @@ abbrev pub IsInWindowAt : Kept → ℕ → ℕ → ℕ → ℕ → Type 0
 IsInWindowAt k cub beat slot visit = IsTrue (in_window k.course.plan.params (reading_of k.course cub beat) slot visit)
 
 abbrev pub IsTakenAt : Kept → ℕ → ℕ → ℕ → ℕ → Type 0
-IsTakenAt k cub beat slot visit = IsTaken k.course.plan.params (after_tick k cub beat) cub slot visit
+IsTakenAt k cub beat slot visit = IsTaken k.course.plan.params (after_tick k cub beat) cub beat slot visit
 
 -- ---- how long it may be until a slot comes by
 
