@@ -108,7 +108,7 @@ stop_stays log b last c v h t =
     (eq-eqb w.instance.0 v (sym w.same ∙ eqb-true q.0.instance v q.2))
 
 -- what a journal has at the end of a tick is an entry of the front
-in_front_journal : (front : List Noted) (c : ℕ) (e : Entry) → In e (journal_of c front)
+pub in_front_journal : (front : List Noted) (c : ℕ) (e : Entry) → In e (journal_of c front)
     → (x : Noted) × In x front × (x.node ≡ c) × (x.entry ≡ e)
 in_front_journal front c e i =
     let m = from_map (λ (x : Noted). x.entry) e (filter (λ (x : Noted). x.node == c) front) i in

@@ -74,7 +74,7 @@ holder_is_begun k c beat slot t w held =
     let same : put.ask.instance.0 ≡ t.instance.0 = ap (λ i. i.0) put.asked.instance in
     subst (λ (v : ℕ). In v (begun k.orders)) same (is_begun k.orders put.ask put.ordered)
 
-room : (k : Kept) (a : Wait) → IsKeptWell k → IsOrdered k.orders a.ask → IsNeverFull k a.from a.last → HasRoom k a
+pub room : (k : Kept) (a : Wait) → IsKeptWell k → IsOrdered k.orders a.ask → IsNeverFull k a.from a.last → HasRoom k a
 room k a w ordered full =
     let v : ℕ = a.ask.instance.0 in
     let less = shorter v (begun k.orders) (is_begun k.orders a.ask ordered) in

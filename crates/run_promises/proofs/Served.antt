@@ -220,8 +220,7 @@ lost_in_death k t cub visit w never none only x =
 -- of two visits that one death cost there is a takeover's time between them at most, and a round of the cubs at least
 one_cost : (k : Kept) (t : Tenancy) (cub m n : ℕ) → IsKeptWell k → OnlyOneDies k cub → m < n
     → LostInDeath k.course.plan.params k.journals t m → LostInDeath k.course.plan.params k.journals t n
-    → due k.course.plan.params t.slot.0 m + k.course.plan.params.cubs * k.course.plan.params.play
-    < due k.course.plan.params t.slot.0 m + takeover k.course.plan.params + k.course.plan.params.beat
+    → k.course.plan.params.cubs * k.course.plan.params.play + 1 < takeover k.course.plan.params + k.course.plan.params.beat
 one_cost k t cub m n w only order lm ln =
     let p = k.course.plan.params in
     let r = k.course.plan.sound.ranges in

@@ -4,7 +4,6 @@ use Rattle.tiger_base.specs.declared.tenancy.Ask.{Ask}
 use Rattle.node_kit.specs.declared.course.Kept.{Kept}
 use Rattle.node_kit.specs.declared.course.Order.{Order}
 use Rattle.node_kit.specs.declared.course.OrderKind.TheVariants as kind
-use Rattle.node_kit.specs.Courses.{IsCourse}
 use Rattle.node_kit.specs.Life.{lifetime_of}
 use Rattle.node_kit.specs.Links.{links_of, viewers_of}
 use Rattle.run_facts.specs.Carried.{AreCarried}
@@ -17,10 +16,9 @@ use Rattle.run_model.specs.Schedule.{is_stopped}
 use Rattle.run_claims.specs.Accounts.{account_of}
 use Rattle.run_claims.specs.Claims.{MeetsClaims}
 
--- A kept run of which the promises are: its course is in the ranges, each node has one journal, what was sent was got,
--- entries were written at their times, and the nine claims hold. That the plan is a plan is kept in its type.
+-- A kept run of which the promises are: each node has one journal, what was sent was got, entries were written at their
+-- times, and the nine claims hold. That the plan is a plan is kept in its type.
 pub record IsKeptWell (k : Kept) : Type 0 where
-  pub course : IsCourse k.course
   pub count : length k.journals ≡ viewers_of (links_of k.course.plan.params) + 1
   pub carried : AreCarried k.course.plan.params k.course.beats (lifetime_of k.course) k.journals
   pub timed : AreTimed k.course.plan.params k.course.beats (lifetime_of k.course) k.journals

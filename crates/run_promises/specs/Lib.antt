@@ -7,3 +7,4 @@ pub mod House
 pub mod Stops
 pub mod Reports
 pub mod Promises
+pub mod Samples

@@ -47,9 +47,9 @@ WhatNothingHindersComes k = (t : Tenancy) (visit : ℕ) → IsPut k.journals t �
 abbrev pub OnlyOneDies : Kept → ℕ → Type 0
 OnlyOneDies k cub = (n : ℕ) → n < k.course.plan.params.cubs → n ≢ cub → (lifetime_of k.course n).death ≡ None
 
--- a death is taken over before the dead cub's turn comes again
+-- a death is taken over in a round of the cubs: before the next visit of the dead cub that it could cost
 abbrev pub IsTakenOverInARound : Params → Type 0
-IsTakenOverInARound p = takeover p + p.beat ≤ p.cubs * p.play
+IsTakenOverInARound p = takeover p + p.beat ≤ p.cubs * p.play + 1
 
 -- if one cub dies and no read fails, of any two blocks of a viewer one comes, unless it is stopped before
 abbrev pub OneDeathCostsOneBlock : Kept → Type 0

@@ -12,6 +12,8 @@ ghost use Rattle.run_promises.specs.Served.{OneDeathCostsOneBlock, WhatNothingHi
 ghost use Rattle.run_promises.specs.Stops.{AStoppedViewerIsGone};
 ghost use Rattle.run_promises.specs.Windows.{WideWindowsAreMet};
 
+pub mod rows;
+
 /// In a plan whose window is a beat long each visit is in the window at a beat, by any clock that is ahead.
 #[tactic(auto, using(crate::proofs::Windows::wide_windows_are_met))]
 pub fn wide_windows_are_met()

@@ -1,0 +1,48 @@
+use Rattle.std.proofs.Common.{◌≡◌, ℕ, refl, ap, arith, ⊎_elim, inl, inr}
+use Rattle.std.proofs.lemmas.Bool.{false≢true}
+use Rattle.tiger_base.specs.declared.tenancy.Tenancy.{Tenancy}
+use Rattle.slot_plan.specs.Samples.{small}
+use Rattle.run_model.specs.Moments.{moment_at}
+use Rattle.run_model.specs.Samples.{three}
+use Rattle.run_model.proofs.OnSamples.{on_samples, of-eight}
+use Rattle.run_promises.specs.Samples.{stopped_log}
+use Rattle.run_promises.proofs.rows.stops.Goals as goal
+
+pub returns-clause-kept : goal.returns-clause-kept
+unfolding on_samples
+returns-clause-kept c = (
+  of-eight _ tt tt tt tt tt tt tt tt,
+  (
+    of-eight _ tt tt tt tt tt tt tt tt,
+    (
+      of-eight _ (inl (record { holder = refl; first = omega arith; last = omega arith }), tt) tt tt tt tt tt tt tt,
+      (of-eight _ (inr refl, tt) tt tt tt tt tt tt tt, of-eight _ (inr refl, tt) tt tt tt tt tt tt tt),
+    ),
+  ),
+)
+
+pub returns-clause-kept_longer : goal.returns-clause-kept_longer
+unfolding on_samples
+returns-clause-kept_longer c h = ⊎_elim (λ v. let holder = v.holder in absurd (cc)) (λ n. false≢true n) (h.1.1.1.1 0 (omega arith)).0
+
+pub returns-clause-at_the_bound : goal.returns-clause-at_the_bound
+unfolding on_samples
+returns-clause-at_the_bound c = refl
+
+pub returns-clause-has_record : goal.returns-clause-has_record
+unfolding on_samples
+returns-clause-has_record c h = (h 0 (omega arith)).0 refl
+
+pub returns-clause-of_other : goal.returns-clause-of_other
+unfolding on_samples
+returns-clause-of_other c = of-eight _ ((λ e. omega (arith, e)), tt) tt tt tt tt tt tt tt
+
+pub returns-clause-no_slot : goal.returns-clause-no_slot
+returns-clause-no_slot c slot t held = no_holder slot t held
+  where
+    no_holder : (slot : ℕ) (t : Tenancy) → (moment_at (stopped_log 120)).schedule.holder slot ≡ Some t → t.instance.0 ≡ 0 → ⊥
+    no_holder slot t held e = absurd (cc)
+
+pub returns-clause-has_slot : goal.returns-clause-has_slot
+unfolding on_samples
+returns-clause-has_slot c h = h 1 three refl refl
