@@ -1,25 +1,23 @@
 -- What stands at the end of a tick of a cub, and that it stays until the end of a later one.
-use Rattle.std.proofs.Common.{◌≡◌, ℕ, ◌+◌, ◌<◌, ◌≤◌, Bool, true, IsTrue, List, ◌++◌, filter, not, Option, Some, None, refl, sym, ap, subst, ◌∙◌, arith, ⊎_elim, inl, inr}
-use Rattle.std.specs.Prelude.{◌⊎◌, ◌==◌}
+use Rattle.std.proofs.Common.{◌≡◌, ℕ, ◌<◌, ◌≤◌, true, List, filter, Option, Some, None, refl, sym, ap, subst, ◌∙◌, arith, ⊎_elim, inl, inr}
+use Rattle.std.specs.Prelude.{◌==◌}
 use Rattle.std.proofs.lemmas.Bool.{eqb-true, eq-eqb, ltb-true, lt-ltb, cases_lt}
 use Rattle.tiger_base.specs.declared.number.Instance.{Instance}
 use Rattle.tiger_base.specs.declared.tenancy.Tenancy.{Tenancy}
-use Rattle.node_kit.specs.declared.course.Kept.{Kept}
 use Rattle.node_kit.specs.declared.journal.What.{What}
 use Rattle.node_kit.specs.declared.journal.What.TheVariants as what
 use Rattle.node_kit.specs.declared.journal.Entry.{Entry}
 use Rattle.node_kit.specs.Life.{Lifetime, acts}
 use Rattle.run_facts.specs.Order.{Noted, beat_of, journal_of}
-use Rattle.run_model.specs.Schedule.{Stop, is_stopped, schedule_of}
-use Rattle.run_model.specs.Moments.{Moment, moment_at, is_put_of, is_belief_of}
+use Rattle.run_model.specs.Schedule.{Stop, schedule_of}
+use Rattle.run_model.specs.Moments.{moment_at, is_put_of, is_belief_of}
 use Rattle.run_model.specs.Orders.{is_up_to, end_of_tick}
-use Rattle.run_model.specs.Runs.{order_in}
 use Rattle.proof_moments.specs.Members.{In}
 use Rattle.proof_moments.proofs.Bridge.{put_is}
 use Rattle.proof_moments.proofs.Lists.{in_map, from_map, in_filter, from_filter, any_passes, any_passing}
 use Rattle.proof_moments.proofs.Ticks.{up_to_by, up_to_parts}
 use Rattle.proof_moments.proofs.Holders.{who_has, stop_from, stop_in}
-use Rattle.run_promises.specs.Kept.{after_tick, WasPut, WasStopped}
+use Rattle.run_promises.specs.Kept.{WasPut, WasStopped}
 
 -- ---- who was put, who has a slot, and who was stopped
 
@@ -44,9 +42,12 @@ unfolding moment_at
 put_by_tick log c beat v h =
     let q = any_passing (λ (x : Noted). is_put_of v x.entry.what) (filter (is_up_to beat c) log) h in
     let i = from_filter (is_up_to beat c) q.0 log q.1 in
-    let t = put_is v q.0.entry.what q.2 in
-    (t.0, record { entry = q.0; there = i.0; is = t.1 }, t.2,
-      ⊎_elim (λ l. omega arith) (λ e. let same = e.0 in omega arith) (up_to_parts beat c q.0 i.1))
+    let t = put_is v q.0.entry.what q.2 in (
+      t.0,
+      record { entry = q.0; there = i.0; is = t.1 },
+      t.2,
+      ⊎_elim (λ l. omega arith) (λ e. let same = e.0 in omega arith) (up_to_parts beat c q.0 i.1),
+    )
 
 -- who has a slot at the end of a tick was put into it by then
 pub holder_by_tick : (log : List Noted) (c beat slot : ℕ) (t : Tenancy) → (end_of_tick beat c log).schedule.holder slot ≡ Some t
@@ -54,10 +55,12 @@ pub holder_by_tick : (log : List Noted) (c beat slot : ℕ) (t : Tenancy) → (e
 unfolding moment_at
 holder_by_tick log c beat slot t h =
     let q = who_has (filter (is_up_to beat c) log) slot t h in
-    let i = from_filter (is_up_to beat c) q.entry log q.there in
-    (record { entry = q.entry; there = i.0; is = q.is }, q.slot,
+    let i = from_filter (is_up_to beat c) q.entry log q.there in (
+      record { entry = q.entry; there = i.0; is = q.is },
+      q.slot,
       any_passes (λ (x : Noted). is_put_of t.instance.0 x.entry.what) (filter (is_up_to beat c) log) q.entry q.there
-      (ap (λ (w : What). is_put_of t.instance.0 w) q.is ∙ eq-eqb t.instance.0 t.instance.0 refl))
+          (ap (λ (w : What). is_put_of t.instance.0 w) q.is ∙ eq-eqb t.instance.0 t.instance.0 refl),
+    )
 
 -- a stop of the schedule at the end of a tick is an entry of its beat, which is up to the tick's
 pub stop_by_tick : (log : List Noted) (c beat : ℕ) (stop : Stop) → In stop (end_of_tick beat c log).schedule.stops
@@ -66,9 +69,11 @@ unfolding moment_at
 stop_by_tick log c beat stop i =
     let w = stop_from (filter (is_up_to beat c) log) stop i in
     let f = from_filter (is_up_to beat c) w.entry log w.there in
-    let at = w.beat in
-    (record { entry = w.entry; there = f.0; instance = w.instance; is = w.is; same = sym w.same }, w.beat,
-      ⊎_elim (λ l. omega arith) (λ e. let same = e.0 in omega arith) (up_to_parts beat c w.entry f.1))
+    let at = w.beat in (
+      record { entry = w.entry; there = f.0; instance = w.instance; is = w.is; same = sym w.same },
+      w.beat,
+      ⊎_elim (λ l. omega arith) (λ e. let same = e.0 in omega arith) (up_to_parts beat c w.entry f.1),
+    )
 
 pub stopped_by_tick : (log : List Noted) (c beat v : ℕ) → WasStopped (end_of_tick beat c log) v → IsGoneBy log v
 stopped_by_tick log c beat v h =

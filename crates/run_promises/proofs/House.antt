@@ -1,12 +1,11 @@
 -- In a house that is never full, in which nothing fails, who presses play is served.
-use Rattle.std.proofs.Common.{◌≡◌, ◌≢◌, ℕ, ◌+◌, ◌*◌, ◌%◌, ◌<◌, ◌≤◌, Bool, true, false, not, List, [], ◌∷◌, length, filter, Option, Some, None, refl, sym, ap, subst, ◌∙◌, arith, ⊎_elim, inl, inr}
-use Rattle.std.specs.Prelude.{◌⊎◌, ◌==◌}
-use Rattle.std.specs.List.{AllByRecursion, flat_map}
-use Rattle.std.proofs.lemmas.Bool.{cases_Bool, cases_lt, eqb-true, eq-eqb, ne_eqb, true≢false}
+use Rattle.std.proofs.Common.{◌≡◌, ◌≢◌, ℕ, ◌+◌, ◌*◌, ◌%◌, ◌<◌, ◌≤◌, Bool, true, false, not, List, [], ◌∷◌, length, filter, Option, Some, None, refl, sym, ap, subst, ◌∙◌, arith, ⊎_elim, inl}
+use Rattle.std.specs.Prelude.{◌==◌}
+use Rattle.std.specs.List.{AllByRecursion}
+use Rattle.std.proofs.lemmas.Bool.{cases_Bool, eq-eqb, ne_eqb, true≢false}
 use Rattle.std.proofs.lemmas.Nat.{mod_below}
 use Rattle.tiger_base.specs.declared.tenancy.Ask.{Ask}
 use Rattle.tiger_base.specs.declared.tenancy.Tenancy.{Tenancy}
-use Rattle.slot_plan.specs.declared.params.Params.{Params}
 use Rattle.slot_plan.specs.Times.{due, cub_of, disk_of, disk_count, time_of}
 use Rattle.slot_plan.proofs.Times.{product_le, cub_below, due_add}
 use Rattle.node_kit.specs.declared.course.Kept.{Kept}
@@ -14,7 +13,7 @@ use Rattle.node_kit.specs.declared.course.Order.{Order}
 use Rattle.node_kit.specs.declared.course.OrderKind.{OrderKind}
 use Rattle.node_kit.specs.declared.course.OrderKind.TheVariants as kind
 use Rattle.node_kit.specs.declared.course.ReadFault.{ReadFault}
-use Rattle.node_kit.specs.Life.{Lifetime, lifetime_of, acts}
+use Rattle.node_kit.specs.Life.{acts}
 use Rattle.run_facts.specs.Commanded.{stop_ordered}
 use Rattle.run_facts.specs.Order.{beat_of}
 use Rattle.run_model.specs.Orders.{IsOrdered, IsTenancyFor}
@@ -22,10 +21,10 @@ use Rattle.run_model.specs.Runs.{order_in}
 use Rattle.proof_moments.specs.Members.{In}
 use Rattle.proof_moments.proofs.Lists.{in_filter, any_by}
 use Rattle.run_promises.specs.Kept.{IsKeptWell, after_tick, WasPut}
-use Rattle.run_promises.specs.Waits.{Wait, IsWaiting, IsOver, turn_of, IsATurn}
-use Rattle.run_promises.specs.Placing.{HasRoom, HasPlaceBy}
-use Rattle.run_promises.specs.Served.{IsSettledVisit, Came}
-use Rattle.run_promises.specs.House.{begun_by, begun, NothingFails, PressesPlay, IsNeverFull, IsServed, WhoPressesPlayIsServed}
+use Rattle.run_promises.specs.Waits.{Wait, IsWaiting, IsATurn}
+use Rattle.run_promises.specs.Placing.{HasRoom}
+use Rattle.run_promises.specs.Served.{Came}
+use Rattle.run_promises.specs.House.{begun_by, begun, NothingFails, PressesPlay, IsNeverFull, WhoPressesPlayIsServed}
 use Rattle.run_promises.proofs.Fronts.{IsPutBy, holder_by_tick, stopped_by_tick}
 use Rattle.run_promises.proofs.Journals.{into_flat_map, put_in_order, put_in_journals, rightly_put}
 use Rattle.run_promises.proofs.Starts.{was_ordered}

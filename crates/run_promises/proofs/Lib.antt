@@ -10,3 +10,4 @@ pub mod Served
 pub mod House
 pub mod Reports
 pub mod Promises
+pub mod Worked

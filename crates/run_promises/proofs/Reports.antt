@@ -1,6 +1,6 @@
 -- A block that is told to be missing neither came nor was stopped, so that its excuse is the printed reason.
 use Rattle.std.proofs.Common.{◌≡◌, ℕ, zero, suc, ◌+◌, ◌<◌, ◌≤◌, Bool, true, false, IsTrue, List, [], ◌∷◌, cond, map, Option, Some, None, refl, sym, ap, subst, ◌∙◌, arith, ⊎_elim, inl, inr}
-use Rattle.std.specs.Prelude.{◌⊎◌, ◌↔◌, filter, find, option_map, slice_get, unwrap_or, nat_lt}
+use Rattle.std.specs.Prelude.{◌↔◌, filter, find, option_map, slice_get, unwrap_or}
 use Rattle.std.specs.List.{list_any, range_with_len}
 use Rattle.std.specs.Option.{option_or}
 use Rattle.std.proofs.lemmas.Bool.{cases_Bool, lt-ltb, false≢true, true≢false}
@@ -11,7 +11,6 @@ use Rattle.node_kit.specs.declared.course.Kept.{Kept}
 use Rattle.node_kit.specs.declared.journal.Entry.{Entry}
 use Rattle.node_kit.specs.Links.{links_of, controller_of}
 use Rattle.run_facts.specs.Commanded.{is_gone_of}
-use Rattle.run_facts.specs.Order.{beat_of}
 use Rattle.run_model.specs.declared.parcels.Parcel.{Parcel}
 use Rattle.run_model.specs.Fronts.{AnyByRecursion}
 use Rattle.run_model.specs.Served.{journal_at, wholes_got, pieces_got, pieces_numbered, CameWhole, CameInPieces}
@@ -26,13 +25,12 @@ use Rattle.run_report.specs.declared.outcome.Reason.TheVariants as reason
 use Rattle.run_report.specs.Outcomes as outcomes
 use Rattle.run_report.specs.Outcomes.{first_sent, whole_sent, piece_sent, all_there, pieces_sent, is_stopped_below, reason_of, missing_of, kind_of, span_at}
 use Rattle.proof_moments.specs.Members.{In}
-use Rattle.proof_moments.specs.Ties.{StandsIn}
 use Rattle.proof_moments.proofs.Lists.{any_by, in_filter}
 use Rattle.run_promises.specs.Kept.{IsKeptWell}
 use Rattle.run_promises.specs.Served.{Came}
 use Rattle.run_promises.specs.Reports.{IsTrueReason, EachReasonIsTrue}
 use Rattle.run_promises.proofs.Journals.{stands_at, stands_some, some_stands, only_one}
-use Rattle.run_promises.proofs.Served.{IsExcusedBy, came_or_excused}
+use Rattle.run_promises.proofs.Served.{came_or_excused}
 use Rattle.run_promises.proofs.Stops.{stop_is, gone_by, by_controller}
 
 -- ---- what came has another line
@@ -93,13 +91,15 @@ did_not_come k t visit why h came =
     let same = came.visited.instance in
     ⊎_elim
     (λ (c : CameWhole p k.catalogue k.journals came.tenancy visit).
-    not_whole _ c.parcel.sent (whole_sent p k.journals v visit) _ _ why
+    not_whole (span_at k.catalogue t visit).len c.parcel.sent (whole_sent p k.journals v visit) (pieces_sent p k.journals v visit)
+    (missing_of p k.journals t visit) why
     (whole_is_told p k.journals v visit c.parcel (subst (λ (u : ℕ). wholes_got p k.journals u visit ≡ c.parcel ∷ []) same c.once)) h)
     (λ (c : CameInPieces p k.catalogue k.journals came.tenancy visit).
     let bs = pieces_are_told p k.journals v visit (λ n low high.
     let x = c.pieces n low high in
     (x.parcel, subst (λ (u : ℕ). pieces_numbered n (pieces_got p k.journals u visit) ≡ x.parcel ∷ []) same x.once)) in
-    not_pieces _ bs.0 (whole_sent p k.journals v visit) (pieces_sent p k.journals v visit) _ why bs.1 h)
+    not_pieces (span_at k.catalogue t visit).len bs.0 (whole_sent p k.journals v visit) (pieces_sent p k.journals v visit)
+    (missing_of p k.journals t visit) why bs.1 h)
     came.came
 
 -- ---- who was stopped has no line
@@ -154,7 +154,7 @@ by_tests P true dead why e f g h = subst P e (f refl)
 by_tests P false true why e f g h = subst P e (g refl)
 by_tests P false false why e f g h = subst P e (h refl refl)
 
-reads_fail : (journals : List (List Entry)) (v visit : ℕ)
+pub reads_fail : (journals : List (List Entry)) (v visit : ℕ)
     → IsTrue (list_any (read_failed v visit 0) journals) ↔ AnyByRecursion (λ journal. AnyByRecursion (λ e. IsFailedRead v visit 0 e.what) journal) journals
 reads_fail journals v visit = any (λ journal. AnyByRecursion (λ e. IsFailedRead v visit 0 e.what) journal) (read_failed v visit 0)
     (λ journal. read_fails v visit 0 journal) journals
@@ -172,7 +172,7 @@ each_reason_is_true k w t visit why put v h =
     let js = k.journals in
     let u : ℕ = t.instance.0 in
     let miss = missing_is _ (reason_of p js t visit) why
-    (is_missing _ (whole_sent p js u visit) (pieces_sent p js u visit) (missing_of p js t visit) why h) in
+    (is_missing (span_at k.catalogue t visit).len (whole_sent p js u visit) (pieces_sent p js u visit) (missing_of p js t visit) why h) in
     let unstopped : WasStopped p js t visit → ⊥ = λ s. true≢false (sym (stop_is_told k t visit w s) ∙ miss.0) in
     let by_pieces : list_any (read_failed u visit 0) js ≡ false → lost_in_death p js t visit ≡ false → LostInPieces p js t visit = λ a b. ⊎_elim
     (λ came. absurd (did_not_come k t visit why h came))

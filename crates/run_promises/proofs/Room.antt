@@ -1,11 +1,7 @@
 -- Fewer others than slots leave a slot; and who is put has its first block due soon.
-use Rattle.std.proofs.Common.{◌≡◌, ◌≢◌, ℕ, zero, suc, ◌+◌, ◌<◌, ◌≤◌, Bool, true, false, List, [], ◌∷◌, ◌++◌, length, Some, refl, sym, ap, subst, ◌∙◌, arith, ⊎_elim, inl, inr}
-use Rattle.std.specs.Prelude.{◌⊎◌}
+use Rattle.std.proofs.Common.{◌≡◌, ◌≢◌, ℕ, zero, suc, ◌+◌, ◌<◌, ◌≤◌, true, false, List, [], ◌∷◌, ◌++◌, length, Some, refl, sym, ap, subst, ◌∙◌, arith, ⊎_elim}
 use Rattle.std.proofs.lemmas.Bool.{true≢false}
 use Rattle.tiger_base.specs.declared.tenancy.Tenancy.{Tenancy}
-use Rattle.tiger_base.specs.declared.tenancy.Rec.{Rec}
-use Rattle.slot_plan.specs.declared.params.Params.{Params}
-use Rattle.slot_plan.specs.Times.{due, time_of}
 use Rattle.slot_plan.proofs.Times.{time_mono, window_parts}
 use Rattle.node_kit.specs.declared.course.Kept.{Kept}
 use Rattle.run_facts.specs.Commanded.{stop_ordered}
@@ -18,7 +14,7 @@ use Rattle.run_model.specs.Schedule.{Stop}
 use Rattle.proof_moments.specs.Members.{In}
 use Rattle.proof_moments.proofs.Lists.{in_left, in_right, in_cases, any_by, all_in, cut_by}
 use Rattle.run_promises.specs.Kept.{IsKeptWell, after_tick, WasPut}
-use Rattle.run_promises.specs.Waits.{Wait, IsWaiting}
+use Rattle.run_promises.specs.Waits.{Wait}
 use Rattle.run_promises.specs.Placing.{NobodyIsStoppedIn, HasRoom, WasTaken, WhoFindsRoomIsPut, TheFirstBlockIsDueSoon}
 use Rattle.run_promises.proofs.Fronts.{put_by_tick, holder_by_tick, stop_by_tick, put_stays}
 use Rattle.run_promises.proofs.Journals.{from_the_order, put_in_journals, rightly_put, one_tenancy}

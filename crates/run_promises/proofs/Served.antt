@@ -1,6 +1,6 @@
 -- What is excused has its cause in what the run was given.
-use Rattle.std.proofs.Common.{◌≡◌, ◌≢◌, ℕ, ◌+◌, ◌*◌, ◌%◌, ◌<◌, ◌≤◌, Bool, true, false, List, [], ◌∷◌, ◌++◌, cond, Option, Some, None, refl, sym, ap, subst, ◌∙◌, arith, ⊎_elim, inl, inr}
-use Rattle.std.specs.Prelude.{◌⊎◌, slice_get, nat_lt}
+use Rattle.std.proofs.Common.{◌≡◌, ◌≢◌, ℕ, ◌+◌, ◌*◌, ◌%◌, ◌<◌, ◌≤◌, Bool, true, false, List, [], ◌∷◌, cond, Option, Some, None, refl, sym, ap, subst, ◌∙◌, arith, ⊎_elim, inl, inr}
+use Rattle.std.specs.Prelude.{◌⊎◌, nat_lt}
 use Rattle.std.specs.List.{AllByRecursion}
 use Rattle.std.proofs.lemmas.Bool.{cases_Bool, cases_eq, cases_lt, false≢true}
 use Rattle.std.proofs.lemmas.Nat.{mod-mul-add}
@@ -17,8 +17,7 @@ use Rattle.node_kit.specs.declared.journal.What.{What}
 use Rattle.node_kit.specs.declared.journal.What.TheVariants as what
 use Rattle.node_kit.specs.declared.journal.Entry.{Entry}
 use Rattle.node_kit.specs.Life.{lifetime_of}
-use Rattle.run_facts.specs.Commanded.{stop_ordered}
-use Rattle.run_facts.specs.Order.{Noted, beat_of}
+use Rattle.run_facts.specs.Order.{Noted}
 use Rattle.run_facts.specs.Timed.{is_died, death_within, IsDeathOf, EndsInDeath}
 use Rattle.run_model.specs.Excuses.{IsFailedRead, IsDeath, IsStopOf, ReadFailed, DiedAt, LostInPieces, LostInDeath, WasStopped}
 use Rattle.run_model.specs.Moments.{moment_at}

@@ -1,5 +1,5 @@
 -- A start that was ordered is at its cub the greatest delay later.
-use Rattle.std.proofs.Common.{◌≡◌, ℕ, ◌+◌, ◌%◌, ◌<◌, ◌≤◌, Bool, true, false, List, [], ◌∷◌, cond, filter, Option, Some, None, refl, sym, ap, subst, ◌∙◌, arith, ⊎_elim, inl, inr}
+use Rattle.std.proofs.Common.{◌≡◌, ℕ, ◌+◌, ◌<◌, ◌≤◌, Bool, true, false, List, [], ◌∷◌, cond, filter, Option, Some, None, refl, sym, ap, subst, ◌∙◌, arith, ⊎_elim, inl, inr}
 use Rattle.std.specs.Prelude.{◌⊎◌, ◌==◌, slice_get, option_map}
 use Rattle.std.specs.List.{flat_map}
 use Rattle.std.proofs.lemmas.Bool.{eqb-true, eq-eqb, lt-ltb, ltb-true, cases_lt}
@@ -25,12 +25,11 @@ use Rattle.run_model.specs.Moments.{moment_at}
 use Rattle.run_model.specs.Orders.{IsOrdered, IsStartOf, HasStart, is_up_to}
 use Rattle.run_model.specs.Runs.{order_in}
 use Rattle.proof_moments.specs.Members.{In}
-use Rattle.proof_moments.specs.Ties.{StandsIn}
 use Rattle.proof_moments.proofs.Lists.{in_filter, either_way, all_in, any_by, any_with}
 use Rattle.proof_moments.proofs.Orders.{noted_at}
 use Rattle.proof_moments.proofs.Ticks.{up_to_by}
 use Rattle.run_promises.specs.Kept.{IsKeptWell, IsOrderedIn, after_tick}
-use Rattle.run_promises.specs.Waits.{Wait, IsWaiting, IsItsCub}
+use Rattle.run_promises.specs.Waits.{Wait, IsWaiting}
 use Rattle.run_promises.proofs.Fronts.{into_front_journal, belief_stays, acted}
 use Rattle.run_promises.proofs.Journals.{from_flat_map, into_flat_map, journal_there, in_the_order}
 
@@ -214,6 +213,11 @@ pub has_start : (k : Kept) (a : Wait) (beat : ℕ) → IsKeptWell k → IsWaitin
 unfolding moment_at
 has_start k a beat w h low high = ⊎_elim
     (λ own. inl (own, start_there k a beat false w h low high (inl (ap (λ (n : ℕ). start_to n a.ask false) (sym own)))))
-    (λ next. inr (next.0, (belief_stays (order_in k) a.from beat a.cub _ low next.1,
-      start_there k a beat true w h low high (inr (inl (ap (λ (n : ℕ). start_to n a.ask true) (sym next.0)))))))
+    (λ next. inr (
+      next.0,
+      (
+        belief_stays (order_in k) a.from beat a.cub _ low next.1,
+        start_there k a beat true w h low high (inr (inl (ap (λ (n : ℕ). start_to n a.ask true) (sym next.0)))),
+      ),
+    ))
     h.its_cub

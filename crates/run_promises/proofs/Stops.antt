@@ -1,14 +1,12 @@
 -- Who is stopped was ordered to stop, and is gone from then on.
-use Rattle.std.proofs.Common.{◌≡◌, ◌≢◌, ℕ, ◌+◌, ◌<◌, ◌≤◌, Bool, true, false, not, ◌&&◌, IsTrue, List, [], ◌∷◌, ◌++◌, length, filter, Some, refl, sym, ap, subst, ◌∙◌, arith, ⊎_elim, inl, inr}
-use Rattle.std.specs.Prelude.{◌⊎◌, ◌==◌, nat_lt, nat_le, slice_get, Option, unwrap_or}
-use Rattle.std.specs.List.{AllByRecursion, fold, list_any}
+use Rattle.std.proofs.Common.{◌≡◌, ◌≢◌, ℕ, ◌+◌, ◌<◌, ◌≤◌, Bool, true, false, not, ◌&&◌, IsTrue, List, [], ◌∷◌, ◌++◌, filter, refl, sym, ap, subst, ◌∙◌, arith, ⊎_elim, inl}
+use Rattle.std.specs.Prelude.{◌==◌, nat_lt, nat_le, Option, unwrap_or}
 use Rattle.std.proofs.lemmas.Bool.{cases_Bool, cases_eq, eqb-true, eq-eqb, ltb-true, leb-true, lt-ltb, true≢false}
 use Rattle.tiger_base.specs.declared.number.Instance.{Instance}
-use Rattle.tiger_base.specs.declared.tenancy.Tenancy.{Tenancy}
 use Rattle.tiger_base.specs.declared.tenancy.Rec.{Rec}
 use Rattle.slot_plan.specs.declared.params.Params.{Params}
 use Rattle.slot_plan.specs.Times.{time_of}
-use Rattle.slot_plan.proofs.Times.{time_below, time_mono, time_zero}
+use Rattle.slot_plan.proofs.Times.{time_below, time_mono}
 use Rattle.node_kit.specs.declared.course.Kept.{Kept}
 use Rattle.node_kit.specs.declared.journal.What.{What}
 use Rattle.node_kit.specs.declared.journal.What.TheVariants as what
@@ -20,10 +18,10 @@ use Rattle.run_facts.specs.Commanded.{is_gone, is_gone_of, gone_in, gone_before,
 use Rattle.run_facts.specs.Order.{Noted, beat_of, IsNotAfter}
 use Rattle.run_facts.proofs.Rows.{all-weaker, same-element}
 use Rattle.run_model.specs.Excuses.{IsStopOf}
-use Rattle.run_model.specs.Moments.{Moment, moment_at, moment_time, view_of, last_beat}
+use Rattle.run_model.specs.Moments.{moment_at, moment_time, view_of, last_beat}
 use Rattle.run_model.specs.Parts.{IsPart, HasVisit, was_just_stopped}
 use Rattle.run_model.specs.Runs.{order_in}
-use Rattle.run_model.specs.Schedule.{Stop, is_stopped, schedule_of}
+use Rattle.run_model.specs.Schedule.{Stop, schedule_of}
 use Rattle.run_model.specs.Served.{journal_at}
 use Rattle.run_model.proofs.Moments.{part_at_fronts}
 use Rattle.run_model.proofs.Reflects.{and_left, and_right, and_both}
@@ -34,7 +32,7 @@ use Rattle.proof_moments.proofs.Lists.{in_left, in_cases, in_filter, any_passes,
 use Rattle.proof_moments.proofs.Orders.{noted_at, order_sorted}
 use Rattle.proof_moments.proofs.Sorted.{sorted_rises, rises_before, not_above, last_is}
 use Rattle.run_promises.specs.Kept.{IsKeptWell}
-use Rattle.run_promises.specs.Stops.{HasNoSlot, HasNoRecord, IsGoneFrom, IsNotOver, AStoppedViewerIsGone}
+use Rattle.run_promises.specs.Stops.{HasNoSlot, IsGoneFrom, IsNotOver, AStoppedViewerIsGone}
 use Rattle.run_promises.proofs.Fronts.{IsGoneBy}
 use Rattle.run_promises.proofs.Journals.{journal_there, only_one, in_the_order, from_the_order}
 
@@ -52,7 +50,7 @@ stop_is v (what.Gone i) h = (i, refl, h)
 stop_is v other h = absurd h
 
 -- an entry of a journal that stops an instance is one of the log
-pub gone_by : (k : Kept) (v n : ℕ) (e : Entry) → IsKeptWell k → StandsIn k.journals n e → (i : Instance) × (e.what ≡ what.Gone i) × (i.0 ≡ v)
+abbrev pub gone_by : (k : Kept) (v n : ℕ) (e : Entry) → IsKeptWell k → StandsIn k.journals n e → (i : Instance) × (e.what ≡ what.Gone i) × (i.0 ≡ v)
     → IsGoneBy (order_in k) v
 gone_by k v n e w s q = record { entry = noted_at n e; there = in_the_order k n e w s; instance = q.0; is = q.1; same = q.2 }
 
@@ -148,7 +146,7 @@ is_among (y ∷ ys) back x rise i l = ⊎_elim
     (in_cases x (y ∷ ys) back i)
 
 -- at a moment after the stop, whoever has a slot is another
-another_has : (front : List Noted) (v : ℕ) (g : Noted) (i : Instance) → In g front → g.entry.what ≡ what.Gone i → i.0 ≡ v
+pub another_has : (front : List Noted) (v : ℕ) (g : Noted) (i : Instance) → In g front → g.entry.what ≡ what.Gone i → i.0 ≡ v
     → HasNoSlot (moment_at front) v
 unfolding moment_at
 another_has front v g i there is same slot t held e =
@@ -171,7 +169,7 @@ just_stopped front p v h =
       subst (λ (b : ℕ). moment_time p m ≤ time_of p b + p.play) g.beat late,
     )
 
-into_order : (k : Kept) (front back : List Noted) (v : ℕ) → front ++ back ≡ order_in k → IsGoneBy front v → IsGoneBy (order_in k) v
+abbrev into_order : (k : Kept) (front back : List Noted) (v : ℕ) → front ++ back ≡ order_in k → IsGoneBy front v → IsGoneBy (order_in k) v
 into_order k front back v is g = record {
   entry = g.entry;
   there = subst (λ (xs : List Noted). In g.entry xs) is (in_left g.entry front back g.there);

@@ -1,23 +1,22 @@
 -- Each visit of its disk that comes by is tried for a start that waits, so that one free visit is enough.
-use Rattle.std.proofs.Common.{◌≡◌, ◌≢◌, ℕ, ◌+◌, ◌*◌, ◌-◌, ◌<◌, ◌≤◌, true, false, IsTrue, refl, sym, ap, subst, ◌∙◌, arith, ⊎_elim, inl, inr}
+use Rattle.std.proofs.Common.{◌≡◌, ℕ, ◌+◌, ◌*◌, ◌<◌, ◌≤◌, false, IsTrue, refl, sym, ap, subst, ◌∙◌, arith, ⊎_elim, inl, inr}
 use Rattle.std.specs.Prelude.{◌⊎◌}
 use Rattle.std.proofs.lemmas.Bool.{cases_Bool, cases_lt, true≢false}
 use Rattle.slot_plan.specs.declared.params.Params.{Params}
 use Rattle.slot_plan.specs.Conditions.{IsPlan}
-use Rattle.slot_plan.specs.Times.{due, disk_of, disk_count, in_window, time_of}
-use Rattle.slot_plan.proofs.Times.{product_le, time_mono, time_next, time_below, time_zero}
+use Rattle.slot_plan.specs.Times.{due, in_window, time_of}
+use Rattle.slot_plan.proofs.Times.{product_le, time_mono, time_next, time_below}
 use Rattle.node_kit.specs.declared.course.Kept.{Kept}
 use Rattle.node_kit.specs.Courses.{reading_of, offset_of}
 use Rattle.node_kit.specs.Life.{lifetime_of}
 use Rattle.run_model.specs.Schedule.{is_stopped}
-use Rattle.run_model.specs.Orders.{end_of_tick}
 use Rattle.run_model.specs.Runs.{order_in}
 use Rattle.run_promises.specs.Windows.{IsWide}
 use Rattle.run_promises.specs.Kept.{IsKeptWell, after_tick}
-use Rattle.run_promises.specs.Waits.{Wait, IsWaiting, IsOver, IsInWindowAt, IsTakenAt, turn_of, IsATurn, IsAStep}
-use Rattle.run_promises.specs.Placing.{EachVisitIsTried, ComesBy, IsNeverTaken, AFreeVisitIsEnough, WasTaken, NobodyWaitsBesideAFreeSlot, AnEmptyRingPutsSoon}
+use Rattle.run_promises.specs.Waits.{Wait, IsWaiting, IsOver, IsInWindowAt, IsTakenAt, IsATurn}
+use Rattle.run_promises.specs.Placing.{EachVisitIsTried, ComesBy, AFreeVisitIsEnough, NobodyWaitsBesideAFreeSlot, AnEmptyRingPutsSoon}
 use Rattle.run_promises.proofs.Windows.{within, opening, opens, met}
-use Rattle.run_promises.proofs.Visits.{turn_is_long, next, some_slot_comes_soon}
+use Rattle.run_promises.proofs.Visits.{next, some_slot_comes_soon}
 use Rattle.run_promises.proofs.Fronts.{put_stays, stop_stays, acted}
 use Rattle.run_promises.proofs.Starts.{was_ordered, has_start}
 
@@ -121,13 +120,15 @@ comes_by k a slot h turn in_plan =
     let n = next p slot a.ask.disk.0 (reading_of k.course a.cub a.from + p.window_b + 1) k.course.plan.sound.ranges in_plan h.disk in
     let low = n.low in
     let whole = turn.0 in
-    let begun = turn.1 in
-    (n.visit, record {
-      in_plan = in_plan;
-      on_disk = n.on_disk;
-      ahead = omega arith;
-      in_time = ⊎_elim (λ l. omega arith) (λ l. omega arith) n.high;
-    })
+    let begun = turn.1 in (
+      n.visit,
+      record {
+        in_plan = in_plan;
+        on_disk = n.on_disk;
+        ahead = omega arith;
+        in_time = ⊎_elim (λ l. omega arith) (λ l. omega arith) n.high;
+      },
+    )
 
 pub nobody_waits_beside_a_free_slot : (k : Kept) → IsKeptWell k → NobodyWaitsBesideAFreeSlot k
 nobody_waits_beside_a_free_slot k w a wide h turn = ⊎_elim

@@ -1,17 +1,17 @@
 -- When a slot comes by a disk: each slot within a turn, and some slot within one part of a turn.
-use Rattle.std.proofs.Common.{◌≡◌, ℕ, ◌+◌, ◌*◌, ◌/◌, ◌%◌, ◌-◌, ◌<◌, ◌≤◌, ap, ◌∙◌, arith, ⊎_elim, inl, inr}
+use Rattle.std.proofs.Common.{◌≡◌, ℕ, ◌+◌, ◌*◌, ◌/◌, ◌%◌, ◌-◌, ◌<◌, ◌≤◌, refl, ap, ◌∙◌, arith, ⊎_elim, inl, inr}
 use Rattle.std.specs.Prelude.{◌⊎◌}
 use Rattle.std.specs.Int.{div_ceil}
 use Rattle.std.proofs.Math.Nat.{div-add-mod}
 use Rattle.std.proofs.lemmas.Nat.{mod_below, mod-mul-add}
 use Rattle.std.proofs.lemmas.Bool.{cases_lt}
 use Rattle.slot_plan.specs.declared.params.Params.{Params}
-use Rattle.slot_plan.specs.Conditions.{IsPlan, IsInRange}
+use Rattle.slot_plan.specs.Conditions.{IsInRange}
 use Rattle.slot_plan.specs.Times.{first_due, due, disk_of, disk_count}
 use Rattle.slot_plan.proofs.Times.{product_le}
 use Rattle.slot_plan.proofs.Turns.{first_due_below, first_from_slot, first_from_turn}
 use Rattle.run_promises.specs.Waits.{turn_of}
-use Rattle.run_promises.specs.Placing.{IsDueSoon, SomeSlotComesSoon}
+use Rattle.run_promises.specs.Placing.{SomeSlotComesSoon}
 use Rattle.run_promises.proofs.Windows.{up, up_is_first}
 
 -- the visit of a slot on a disk in each turn
@@ -38,26 +38,21 @@ pub record IsNext (p : Params) (slot disk time : ℕ) : Type 0 where
   pub high : (due p slot visit < time + turn_of p) ⊎ (due p slot visit < 2 * turn_of p)
 
 pub next : (p : Params) (slot disk time : ℕ) → IsInRange p → slot < p.slots → disk < disk_count p → IsNext p slot disk time
-next p slot disk time r in_plan small =
-    let first : ℕ = first_due p slot + disk * p.play in
-    let t : ℕ = up (time - first) (turn_of p) in
+next p slot disk time r in_plan small = ⊎_elim
+    (λ (l : first_due p slot + disk * p.play < time).
+    let gap : ℕ = time - (first_due p slot + disk * p.play) in
+    let t : ℕ = up gap (turn_of p) in
     let is = due_in_turn p slot disk t in
-    let up_to = up_is_first (time - first) (turn_of p) (turn_is_long p r) in
+    let first = up_is_first gap (turn_of p) (turn_is_long p r) in
+    let soon : due p slot (disk + t * disk_count p) < time + turn_of p = omega (arith, is, first.1, l) in
+    record { visit = disk + t * disk_count p; on_disk = disk_in_turn p disk t small; low = omega (arith, is, first.0); high = inl soon })
+    (λ (g : time ≤ first_due p slot + disk * p.play).
+    let is = due_in_turn p slot disk 0 in
     let low = first_due_below p slot r in_plan in
     let room = product_le (disk + 1) p.play (disk_count p) p.play (omega arith) (omega arith) in
-    record {
-      visit = disk + t * disk_count p;
-      on_disk = disk_in_turn p disk t small;
-      low = omega (arith, is, up_to.0);
-      high = ⊎_elim
-          (λ (l : first < time). let z : due p slot (disk + t * disk_count p) < time + turn_of p = omega (arith, is, up_to.1) in inl z)
-          (λ (g : time ≤ first).
-          let none : time - first ≡ 0 = omega arith in
-          let few = up_to.1 in
-          let zero : t * turn_of p < turn_of p = omega arith in
-          let z : due p slot (disk + t * disk_count p) < 2 * turn_of p = omega (arith, is, low, zero) in inr z)
-          (cases_lt first time);
-    }
+    let soon : due p slot (disk + 0 * disk_count p) < 2 * turn_of p = omega (arith, is, low, room) in
+    record { visit = disk + 0 * disk_count p; on_disk = disk_in_turn p disk 0 small; low = omega (arith, is, g); high = inr soon })
+    (cases_lt (first_due p slot + disk * p.play) time)
 
 -- ---- some slot
 
@@ -69,10 +64,16 @@ ceil_is_close : (n b c : ℕ) → 0 < b → c ≡ div_ceil n b → c * b < n + b
 ceil_is_close n b c h is =
     let whole = div-add-mod n b in
     let rest = mod_below n b h in
-    ⊎_elim (λ l. omega arith) (λ g. omega arith) (cases_lt 0 (n % b))
+    ⊎_elim
+    (λ (l : 0 < n % b). omega (arith, whole, rest, product_le c b (n / b + 1) b (omega arith) (omega arith)))
+    (λ (g : n % b ≤ 0). omega (arith, whole, rest, h, product_le c b (n / b) b (omega arith) (omega arith)))
+    (cases_lt 0 (n % b))
 
 sum_times : (k a b c : ℕ) → k * (a + b + c) ≡ k * a + k * b + k * c
 sum_times k a b c = omega arith
+
+pair_times : (k a b : ℕ) → k * (a + b) ≡ k * a + k * b
+pair_times k a b = omega arith
 
 pub some_slot_comes_soon : SomeSlotComesSoon
 some_slot_comes_soon p disk time ok small begun =
@@ -104,7 +105,8 @@ some_slot_comes_soon p disk time ok small begun =
     })
     (λ (g : p.slots ≤ slot).
     let f = first_from_turn p disk disk time since slot r small refl refl refl g in
-    let next_turn : p.slots * ((t + 1) * u) ≡ p.slots * (t * u) + p.slots * u = omega arith in
+    let more : (t + 1) * u ≡ t * u + u = omega arith in
+    let next_turn : p.slots * ((t + 1) * u) ≡ p.slots * (t * u) + p.slots * u = ap (λ (n : ℕ). p.slots * n) more ∙ pair_times p.slots (t * u) u in
     record {
       slot = 0;
       visit = disk + (t + 1) * disk_count p;

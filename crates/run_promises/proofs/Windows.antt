@@ -1,5 +1,5 @@
 -- The first beat that begins when a window has opened.
-use Rattle.std.proofs.Common.{◌≡◌, ℕ, ◌+◌, ◌*◌, ◌/◌, ◌%◌, ◌-◌, ◌<◌, ◌≤◌, IsTrue, arith}
+use Rattle.std.proofs.Common.{ℕ, ◌+◌, ◌*◌, ◌/◌, ◌-◌, ◌<◌, ◌≤◌, IsTrue, arith}
 use Rattle.std.proofs.Math.Nat.{div-add-mod}
 use Rattle.std.proofs.lemmas.Nat.{mod_below}
 use Rattle.std.proofs.lemmas.Bool.{le-leb, lt-ltb}
@@ -7,13 +7,13 @@ use Rattle.slot_plan.specs.declared.params.Params.{Params}
 use Rattle.slot_plan.specs.Conditions.{IsPlan}
 use Rattle.slot_plan.specs.Times.{due, in_window, time_of}
 use Rattle.run_model.proofs.Reflects.{and_both}
-use Rattle.run_promises.specs.Windows.{IsWide, IsMet, WideWindowsAreMet}
+use Rattle.run_promises.specs.Windows.{IsWide, WideWindowsAreMet}
 
 pub within : (p : Params) (slot visit reading : ℕ) → due p slot visit ≤ reading + p.window_a → reading + p.window_b < due p slot visit
     → IsTrue (in_window p reading slot visit)
 unfolding in_window
-within p slot visit reading opened open =
-    and_both _ _ (le-leb (due p slot visit) (reading + p.window_a) opened) (lt-ltb (reading + p.window_b) (due p slot visit) open)
+within p slot visit reading opened not_closed =
+    and_both _ _ (le-leb (due p slot visit) (reading + p.window_a) opened) (lt-ltb (reading + p.window_b) (due p slot visit) not_closed)
 
 -- n divided by b, upwards: the first multiple of b that is n or more
 abbrev pub up : ℕ → ℕ → ℕ

@@ -1,10 +1,9 @@
 -- The run of one viewer is kept well: each of the nine claims holds of it, and all else that the promises rest on.
-use Rattle.std.proofs.Common.{◌≡◌, ◌≢◌, ℕ, zero, suc, ◌+◌, ◌<◌, ◌≤◌, Bool, true, false, not, ◌&&◌, ◌||◌, IsTrue, nat_lt, cond, List, [], ◌∷◌, ◌++◌, length, filter, Option, Some, None, refl, sym, ap, subst, ◌∙◌, arith, ⊎_elim, inl, inr}
+use Rattle.std.proofs.Common.{◌≡◌, ◌≢◌, ℕ, zero, suc, ◌+◌, ◌<◌, ◌≤◌, Bool, true, false, not, ◌&&◌, ◌||◌, IsTrue, nat_lt, cond, List, [], ◌∷◌, ◌++◌, filter, Option, Some, None, refl, sym, ap, subst, ◌∙◌, arith, ⊎_elim, inl, inr}
 use Rattle.std.specs.Prelude.{◌⊎◌, ◌==◌, slice_get, unwrap_or}
 use Rattle.std.specs.List.{AllByRecursion, list_any}
 use Rattle.std.proofs.lemmas.Bool.{cases_Bool, cases_eq, eqb-true, ne_eqb, false≢true, true≢false}
 use Rattle.tiger_base.specs.declared.tenancy.Rec.{Rec}
-use Rattle.tiger_base.specs.declared.tenancy.Tenancy.{Tenancy}
 use Rattle.slot_plan.specs.Conditions.{IsPlan}
 use Rattle.slot_plan.specs.Samples.{small}
 use Rattle.slot_plan.specs.Times.{time_of, cub_of, disk_of}
@@ -19,24 +18,23 @@ use Rattle.node_kit.specs.declared.journal.Entry.{Entry}
 use Rattle.node_kit.specs.Life.{Lifetime, lifetime_of, acts}
 use Rattle.node_kit.specs.Links.{links_of, ends_of}
 use Rattle.run_facts.specs.Carried.{AreCarriedOn, sent_on, got_on}
-use Rattle.run_facts.specs.Commanded.{IsCommanded, AreCommanded, is_finish_of, is_gone, is_gone_of, starts_sent, starts_ordered, gone_in, gone_before, stop_ordered, places_got}
+use Rattle.run_facts.specs.Commanded.{IsCommanded, AreCommanded, is_finish_of, is_gone, starts_sent, starts_ordered, gone_in, gone_before, stop_ordered, places_got}
 use Rattle.run_facts.specs.Order.{Noted, beat_of, journal_of, order_of, IsInOrder}
 use Rattle.run_facts.proofs.Orders.{order_found}
 use Rattle.run_model.specs.Fronts.{AnyByRecursion}
-use Rattle.run_model.specs.Moments.{Moment, moment_at, view_of, is_put_of}
+use Rattle.run_model.specs.Moments.{moment_at, view_of, is_put_of, is_belief_of}
 use Rattle.run_model.specs.Orders.{IsNotPassedOver, IsStartOf, PutsAreFair, is_up_to, end_of_tick}
 use Rattle.run_model.specs.Parts.{IsPart, ViewsAreAlwaysPart, EntriesAreLocal}
-use Rattle.run_model.specs.Runs.{order_in}
 use Rattle.run_model.specs.Samples.{IsOfTen, ten, all, begins, dying, seat, bytes, seated}
 use Rattle.run_model.specs.Served.{journal_at}
 use Rattle.run_model.specs.Tests.{is_empty}
 use Rattle.run_model.specs.Views.{records_of}
-use Rattle.run_model.specs.Ways.{LinkCarries}
-use Rattle.run_model.proofs.Ends.{carried}
+use Rattle.run_model.proofs.Ends as endings
 use Rattle.run_model.proofs.Moments.{part_at_fronts}
 use Rattle.run_model.proofs.OnSamples.{on_samples, by-test, only-order, of-eight}
 use Rattle.run_model.proofs.Reflects.{negated, and_left, and_right}
-use Rattle.run_model.proofs.Timely.{numbered_found, timed}
+use Rattle.run_model.proofs.Timely.{numbered_found}
+use Rattle.run_model.proofs.Timely as timely
 use Rattle.run_claims.specs.Accounts.{account_of, log_of}
 use Rattle.run_claims.specs.Claims.{MeetsClaims}
 use Rattle.run_claims.specs.Patience.{NobodyIsPassedOver}
@@ -66,19 +64,24 @@ use Rattle.run_promises.proofs.Promises.{kept_runs_keep_promises}
 
 in_order : IsInOrder 18 1600 one_log
 in_order = (
-  omega arith, omega arith,
+  omega arith,
+  omega arith,
   (inr (refl, omega arith), (inl (omega arith), (inl (omega arith), (inl (omega arith), (inl (omega arith), (inl (omega arith), tt)))))),
   (
-    omega arith, omega arith,
+    omega arith,
+    omega arith,
     (inl (omega arith), (inl (omega arith), (inl (omega arith), (inl (omega arith), (inl (omega arith), tt))))),
     (
-      omega arith, omega arith,
+      omega arith,
+      omega arith,
       (inr (refl, omega arith), (inr (refl, omega arith), (inl (omega arith), (inl (omega arith), tt)))),
       (
-        omega arith, omega arith,
+        omega arith,
+        omega arith,
         (inr (refl, omega arith), (inl (omega arith), (inl (omega arith), tt))),
         (
-          omega arith, omega arith,
+          omega arith,
+          omega arith,
           (inl (omega arith), (inl (omega arith), tt)),
           (omega arith, omega arith, (inl (omega arith), tt), (omega arith, omega arith, tt, tt)),
         ),
@@ -94,18 +97,30 @@ order_is = order_found 18 1600 one_log in_order
 
 puts_are_fair : PutsAreFair small (begins one_block) one_log
 unfolding on_samples
-puts_are_fair = (tt, (tt, (tt, (record {
-  free = λ t e. absurd (cc);
-  rightly = record {
-    ask = one_block;
-    ordered = inl refl;
-    asked = record { instance = refl; file = refl; count = omega arith; disk = refl };
-    slot = omega arith;
-    window = refl;
-    cub = inl refl;
-    once = omega arith;
-  };
-}, (tt, (tt, (tt, tt)))))))
+puts_are_fair = (
+  tt,
+  (
+    tt,
+    (
+      tt,
+      (
+        record {
+          free = λ t e. absurd (cc);
+          rightly = record {
+            ask = one_block;
+            ordered = inl refl;
+            asked = record { instance = refl; file = refl; count = omega arith; disk = refl };
+            slot = omega arith;
+            window = refl;
+            cub = inl refl;
+            once = omega arith;
+          };
+        },
+        (tt, (tt, (tt, tt))),
+      ),
+    ),
+  ),
+)
 
 -- nothing is taken, so that no view has a record
 abbrev IsNoTook : What → Type 0
@@ -144,22 +159,35 @@ served s end = record {
   settled = (tt, (tt, (tt, ((λ n first last settled. let e : n ≡ 0 = omega (arith, last) in rw e (inl (by-test s _ refl))), (tt, (tt, (tt, tt)))))));
   got = (
     (λ n. absurd (omega (arith, n))),
-    ((λ n. absurd (omega (arith, n))),
-    ((λ n. absurd (omega (arith, n))),
-    ((λ n. absurd (omega (arith, n))),
-    ((λ n. absurd (omega (arith, n))),
-    ((λ n. absurd (omega (arith, n))),
-    ((λ n. (
-      refl,
-      record {
-        tenancy = seat 0 0 0;
-        visited = record { put = inl (inr (inl refl)); instance = refl; first = omega arith; last = omega arith };
-        wanted = refl;
-        block = record { disk = record { 0 = 0 }; span = bytes 0 4 };
-        place = refl;
-        span = refl;
-      },
-    )), tt)))))),
+    (
+      (λ n. absurd (omega (arith, n))),
+      (
+        (λ n. absurd (omega (arith, n))),
+        (
+          (λ n. absurd (omega (arith, n))),
+          (
+            (λ n. absurd (omega (arith, n))),
+            (
+              (λ n. absurd (omega (arith, n))),
+              (
+                (λ n. (
+                  refl,
+                  record {
+                    tenancy = seat 0 0 0;
+                    visited = record { put = inl (inr (inl refl)); instance = refl; first = omega arith; last = omega arith };
+                    wanted = refl;
+                    block = record { disk = record { 0 = 0 }; span = bytes 0 4 };
+                    place = refl;
+                    span = refl;
+                  },
+                )),
+                tt,
+              ),
+            ),
+          ),
+        ),
+      ),
+    ),
   );
 }
 
@@ -203,9 +231,9 @@ nobody_passed_over cub beat reading = record {
 
 -- ---- the controller
 
-both_none : {X : Type 0} (b : Bool) → cond b [] [] ≡ [] {X}
-both_none true = refl
-both_none false = refl
+both_same : {X : Type 0} (b : Bool) (xs : List X) → cond b xs xs ≡ xs
+both_same true xs = refl
+both_same false xs = refl
 
 and_false : (b : Bool) → (b && false) ≡ false
 and_false true = refl
@@ -219,7 +247,7 @@ unfolding starts_sent starts_ordered gone_in gone_before stop_ordered
 commanded reading = record {
   starts = λ beat. ⊎_elim
       (λ (t : (0 == beat) ≡ true). subst (λ (b : ℕ). starts_sent small b controls ≡ cond (nat_lt b 1600) (starts_ordered small b (begins one_block)) []) (eqb-true 0 beat t) refl)
-      (λ (f : (0 == beat) ≡ false). rw f (sym (both_none (nat_lt beat 1600))))
+      (λ (f : (0 == beat) ≡ false). rw f (sym (both_same (nat_lt beat 1600) [])))
       (cases_Bool (0 == beat));
   stops = λ v beat. ⊎_elim
       (λ (t : (0 == beat) ≡ true). rw t (sym (and_false (nat_lt beat 1600))))
@@ -235,7 +263,10 @@ are_commanded reading = record {
       subst (λ (j : List Entry). IsCommanded small 1600 reading (begins one_block) j) is (commanded reading);
   others = λ n journal other at.
       let found = numbered_found (λ n j. (n == 16) || not (list_any (λ (e : Entry). is_gone e.what) j)) 0 (all one_log) refl n journal at in
-      (negated (list_any (λ (e : Entry). is_gone e.what) journal)).0 (rw (ne_eqb n 16 other) at found);
+      let same : 0 + n ≡ n = omega arith in
+      let here : IsTrue ((n == 16) || not (list_any (λ (e : Entry). is_gone e.what) journal)) =
+      subst (λ (m : ℕ). IsTrue ((m == 16) || not (list_any (λ (e : Entry). is_gone e.what) journal))) same found in
+      (negated (list_any (λ (e : Entry). is_gone e.what) journal)).0 (rw (ne_eqb n 16 other) at here);
 }
 
 -- ---- what was sent was got
@@ -309,8 +340,8 @@ true_faults = (tt, (tt, (tt, (tt, (tt, (tt, (tt, tt)))))))
 
 -- ---- all together
 
-claims : (k : Kept) (plan : IsPlan small) (s : IsOfTen) → MeetsClaims (account_of (one_viewer k plan s))
-claims k plan s =
+meets_claims : (k : Kept) (plan : IsPlan small) (s : IsOfTen) → MeetsClaims (account_of (one_viewer k plan s))
+meets_claims k plan s =
     let a = account_of (one_viewer k plan s) in
     let log : one_log ≡ log_of a = sym order_is in
     record {
@@ -337,15 +368,12 @@ one_viewer_is_kept_well k plan s =
     let run = one_viewer k plan s in
     record {
       count = refl;
-      carried = (carried run (links_of small) refl (λ l from to sender receiver e a b. on_link (lifetime_of run.course to) l from to sender receiver e a b)).0 refl;
-      timed = ((timed run).0 refl).timed;
-      claims = claims k plan s;
+      carried = (endings.carried run (links_of small) refl (λ l from to sender receiver e a b. on_link (lifetime_of run.course to) l from to sender receiver e a b)).0 refl;
+      timed = ((timely.timed run).0 refl).timed;
+      claims = meets_claims k plan s;
     }
 
 -- ---- what promises ask for
-
-run_is_plan : (k : Kept) (plan : IsPlan small) (s : IsOfTen) → one_log ≡ order_in (one_viewer k plan s)
-run_is_plan k plan s = sym order_is
 
 stop_is : (beat : ℕ) (o : Order) (v : ℕ) → ((o.beat == beat) && is_finish_of v o.what) ≡ true → (o.beat ≡ beat) × (is_finish_of v o.what ≡ true)
 stop_is beat o v h = (eqb-true o.beat beat (and_left (o.beat == beat) (is_finish_of v o.what) h), and_right (o.beat == beat) (is_finish_of v o.what) h)
@@ -432,13 +460,23 @@ came k plan s =
     none_some a b = absurd (cc)
 
 -- nobody is believed dead at any moment
-pub nobody_believed : (k : Kept) (plan : IsPlan small) (s : IsOfTen) (c beat d : ℕ) → (after_tick (one_viewer k plan s) c beat).believed c d ≡ false
+none_believes : (d : ℕ) → AllByRecursion (λ (x : Noted). is_belief_of d x.entry.what ≡ false) one_log
+none_believes d = (refl, (refl, (refl, (refl, (refl, (refl, (refl, tt)))))))
+
+believes_none : (c beat d : ℕ) → (end_of_tick beat c one_log).believed c d ≡ false
 unfolding moment_at
-nobody_believed k plan s c beat d =
-    subst (λ (log : List Noted). (end_of_tick beat c log).believed c d ≡ false) (run_is_plan k plan s) none
-  where
-    none : (end_of_tick beat c one_log).believed c d ≡ false
-    none = refl
+believes_none c beat d = ⊎_elim
+    (λ (t : (end_of_tick beat c one_log).believed c d ≡ true).
+    let e = any_passing (λ (e : Entry). is_belief_of d e.what) (journal_of c (filter (is_up_to beat c) one_log)) t in
+    let x = in_front_journal (filter (is_up_to beat c) one_log) c e.0 e.1 in
+    let f = from_filter (is_up_to beat c) x.0 one_log x.1 in
+    let none = all_in (λ (x : Noted). is_belief_of d x.entry.what ≡ false) x.0 one_log (none_believes d) f.0 in
+    absurd (true≢false (sym e.2 ∙ ap (λ (y : Entry). is_belief_of d y.what) (sym x.3) ∙ none)))
+    (λ (f : (end_of_tick beat c one_log).believed c d ≡ false). f)
+    (cases_Bool ((end_of_tick beat c one_log).believed c d))
+
+pub nobody_believed : (k : Kept) (plan : IsPlan small) (s : IsOfTen) (c beat d : ℕ) → (after_tick (one_viewer k plan s) c beat).believed c d ≡ false
+nobody_believed k plan s c beat d = subst (λ (log : List Noted). (end_of_tick beat c log).believed c d ≡ false) (sym order_is) (believes_none c beat d)
 
 pub waits : (k : Kept) (plan : IsPlan small) (s : IsOfTen) → IsWaiting (one_viewer k plan s) (wait 0 2 1520)
 unfolding acts

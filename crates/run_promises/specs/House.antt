@@ -31,8 +31,8 @@ pub record NothingFails (k : Kept) : Type 0 where
   pub deaths : (n : ℕ) → n < k.course.plan.params.cubs → (lifetime_of k.course n).death ≡ None
   pub faults : k.course.faults ≡ []
 
--- Who presses play: a start of this is ordered in a beat, for a disk of the ring; no other start is of its instance, and
--- no order stops it.
+-- Who presses play: a start of this is ordered in a beat, for a disk of the ring; no other start is of its instance,
+-- and no order stops it.
 pub record PressesPlay (k : Kept) (ask : Ask) (beat : ℕ) : Type 0 where
   pub ordered : IsOrderedIn k.orders ask beat
   pub disk : ask.disk.0 < disk_count k.course.plan.params
@@ -58,9 +58,10 @@ pub record IsServed (k : Kept) (ask : Ask) (last : ℕ) : Type 0 where
       + (n + 2) * k.course.plan.params.play ≤ time_of k.course.plan.params k.course.beats
       → Came k tenancy (tenancy.first + n)
 
--- in such a house, in which nothing fails, who presses play is put within a turn from the greatest delay after the order
--- on, and gets every block; all that is asked can be read off the scenario
+-- in such a house, in which nothing fails, who presses play is put within a turn from the greatest delay after the
+-- order on, and gets every block; all that is asked can be read off the scenario
 abbrev pub WhoPressesPlayIsServed : Kept → Type 0
 WhoPressesPlayIsServed k = (ask : Ask) (ordered last : ℕ) → IsWide k.course.plan.params
-    → PressesPlay k ask ordered → IsATurn k.course.plan.params (ordered + k.course.plan.params.delay) last → last < k.course.beats
+    → PressesPlay k ask ordered → IsATurn k.course.plan.params (ordered + k.course.plan.params.delay) last
+    → last < k.course.beats
     → IsNeverFull k (ordered + k.course.plan.params.delay) last → NothingFails k → IsServed k ask last

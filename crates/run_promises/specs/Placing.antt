@@ -63,7 +63,8 @@ AreTheOthers k w others = (beat slot : ℕ) (t : Tenancy) → w.from ≤ beat �
 -- any order that stops anybody is of a beat more than a block play time before one beat, or of a beat after another
 abbrev pub NobodyIsStoppedIn : Kept → ℕ → ℕ → Type 0
 NobodyIsStoppedIn k from last = (v beat : ℕ) → stop_ordered k.orders v beat ≡ true
-    → (time_of k.course.plan.params beat + k.course.plan.params.play < time_of k.course.plan.params from) ⊎ (last < beat)
+    → (time_of k.course.plan.params beat + k.course.plan.params.play < time_of k.course.plan.params from)
+    ⊎ (last < beat)
 
 -- there are fewer others than slots, and nobody is stopped in these beats, or up to a block play time before them
 pub record HasRoom (k : Kept) (w : Wait) : Type 0 where
@@ -79,7 +80,8 @@ WhoFindsRoomIsPut k = (w : Wait) → IsWide k.course.plan.params → IsWaiting k
 
 -- ---- an empty ring
 
--- a visit of a disk is due at a time or after it, and less than one part of a turn after it, of as many as there are slots
+-- a visit of a disk is due at a time or after it, and less than one part of a turn after it, of as many parts as
+-- there are slots
 pub record IsDueSoon (p : Params) (disk time : ℕ) : Type 0 where
   pub slot : ℕ
   pub visit : ℕ
@@ -90,7 +92,8 @@ pub record IsDueSoon (p : Params) (disk time : ℕ) : Type 0 where
 
 -- from a disk's first visit on some slot comes by it in each such part of a turn
 abbrev pub SomeSlotComesSoon : Type 0
-SomeSlotComesSoon = (p : Params) (disk time : ℕ) → IsPlan p → disk < disk_count p → disk * p.play ≤ time → IsDueSoon p disk time
+SomeSlotComesSoon = (p : Params) (disk time : ℕ) → IsPlan p → disk < disk_count p → disk * p.play ≤ time
+    → IsDueSoon p disk time
 
 -- at no tick of the cub in these beats any visit is taken
 abbrev pub IsEmpty : Kept → Wait → Type 0
@@ -114,4 +117,4 @@ pub record HasPlaceBy (k : Kept) (v time : ℕ) (t : Tenancy) : Type 0 where
 abbrev pub TheFirstBlockIsDueSoon : Kept → Type 0
 TheFirstBlockIsDueSoon k = (cub beat v : ℕ) → WasPut (after_tick k cub beat) v
     → (t : Tenancy) × HasPlaceBy k v
-        (time_of k.course.plan.params beat + k.course.plan.params.skew + k.course.plan.params.window_a) t
+    (time_of k.course.plan.params beat + k.course.plan.params.skew + k.course.plan.params.window_a) t

@@ -24,8 +24,8 @@ IsTrueReason p journals t visit reason.Read = AReadFailed journals t visit
 IsTrueReason p journals t visit reason.Dead = LostInDeath p journals t visit
 IsTrueReason p journals t visit reason.Piece = LostInPieces p journals t visit
 
--- a settled visit that the report calls missing is excused by the reason that is printed, and its viewer was not stopped
--- before it was over
+-- a settled visit that the report calls missing is excused by the reason that is printed, and its viewer was not
+-- stopped before it was over
 abbrev pub EachReasonIsTrue : Kept → Type 0
 EachReasonIsTrue k = (t : Tenancy) (visit : ℕ) (why : Reason) → IsPut k.journals t → IsSettledVisit k t visit
     → kind_of k.course.plan.params k.catalogue k.journals t visit ≡ Some (kind.Missing why)

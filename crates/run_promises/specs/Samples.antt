@@ -45,7 +45,8 @@ window_at a = small_with 1000000 a 1000000
 
 -- what is kept of a run of 1600 beats over the file of ten bytes, with these deaths, faults and orders, in which all
 -- clocks show the true time
-abbrev pub run_of : Kept → IsPlan small → IsOfTen → List (Option ℕ) → List ReadFault → List Order → List Noted → Kept
+abbrev pub run_of : Kept → IsPlan small → IsOfTen → List (Option ℕ) → List ReadFault → List Order → List Noted
+    → Kept
 run_of other plan sound deaths faults orders log = record {
   course = record {
     plan = record { params = small; sound = plan };

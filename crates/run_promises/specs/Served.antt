@@ -53,7 +53,8 @@ IsTakenOverInARound p = takeover p + p.beat ≤ p.cubs * p.play + 1
 
 -- if one cub dies and no read fails, of any two blocks of a viewer one comes, unless it is stopped before
 abbrev pub OneDeathCostsOneBlock : Kept → Type 0
-OneDeathCostsOneBlock k = (t : Tenancy) (cub m n : ℕ) → IsPut k.journals t → IsSettledVisit k t m → IsSettledVisit k t n → m < n
+OneDeathCostsOneBlock k = (t : Tenancy) (cub m n : ℕ) → IsPut k.journals t
+    → IsSettledVisit k t m → IsSettledVisit k t n → m < n
     → IsNotStoppedBefore k t.instance.0 (due k.course.plan.params t.slot.0 n + k.course.plan.params.play)
     → k.course.faults ≡ [] → OnlyOneDies k cub → IsTakenOverInARound k.course.plan.params
     → Came k t m ⊎ Came k t n

@@ -29,7 +29,8 @@ IsSoAfter k time P = (front back : List Noted) → front ++ back ≡ order_in k
 -- an instance has no slot after a beat, and is in no view later than a block play time after it
 pub record IsGoneFrom (k : Kept) (v beat : ℕ) : Type 0 where
   pub slots : IsSoAfter k (time_of k.course.plan.params beat) (λ m. HasNoSlot m v)
-  pub views : IsSoAfter k (time_of k.course.plan.params beat + k.course.plan.params.play) (λ m. HasNoRecord k.course.plan.params m v)
+  pub views : IsSoAfter k (time_of k.course.plan.params beat + k.course.plan.params.play)
+      (λ m. HasNoRecord k.course.plan.params m v)
 
 -- in a beat the controller does not know by its clock that an instance's tenancy is over
 abbrev pub IsNotOver : Kept → ℕ → ℕ → Type 0

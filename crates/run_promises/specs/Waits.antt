@@ -58,7 +58,8 @@ turn_of p = disk_count p * p.play
 -- since the run began, in which each slot came by for the first time.
 abbrev pub IsATurn : Params → ℕ → ℕ → Type 0
 IsATurn p from last =
-    (time_of p from + turn_of p + p.window_b ≤ time_of p last + p.window_a) × (2 * turn_of p ≤ time_of p last + p.window_a)
+    (time_of p from + turn_of p + p.window_b ≤ time_of p last + p.window_a)
+    × (2 * turn_of p ≤ time_of p last + p.window_a)
 
 -- From one beat to another some slot comes by each disk: one part of a turn is over, of as many parts as there are
 -- slots, less the length of the window. All is multiplied by the number of slots.

@@ -75,13 +75,11 @@ pub fn what_nothing_hinders_comes()
 {}
 
 /// One death costs a viewer one block at most.
-#[tactic(auto, using(crate::proofs::Served::one_death_costs_one_block))]
 pub fn one_death_costs_one_block()
     ensures { (k : Kept) → IsKeptWell k → OneDeathCostsOneBlock k }
 {}
 
 /// A block that the report calls missing is excused, by the reason that is printed.
-#[tactic(auto, using(crate::proofs::Reports::each_reason_is_true))]
 pub fn each_reason_is_true()
     ensures { (k : Kept) → IsKeptWell k → EachReasonIsTrue k }
 {}

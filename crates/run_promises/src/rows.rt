@@ -1,6 +1,7 @@
-//! Worked plans and runs for the promises: some of which a premise holds, and some that differ in one number, of which
-//! it does not. They stand in contracts of functions without a body, and not in tests, since a weakened definition must be
-//! refused where a crate is checked without its tests.
+//! Worked plans and runs for the promises: some of which a premise holds, and some that differ in
+//! one number, of which it does not. They stand in contracts of functions without a body, and not
+//! in tests, since a weakened definition must be refused where a crate is checked without its
+//! tests.
 ghost use Rattle.std.specs.Prelude.{◌≡◌, ◌+◌, ℕ, ◌∷◌, [], Some, None, IsTrue};
 ghost use Rattle.slot_plan.specs.Conditions.{IsPlan};
 ghost use Rattle.slot_plan.specs.Samples.{small};
@@ -27,19 +28,21 @@ ghost use Rattle.run_promises.specs.Stops.{HasNoRecord, HasNoSlot, IsNotOver};
 ghost use Rattle.run_promises.specs.Waits.{IsAStep, IsATurn, IsWaiting};
 ghost use Rattle.run_promises.specs.Windows.{IsWide};
 
-/// The small plan is wide, and so it is if its window is open for just one beat. If it is open for a microsecond less it is
-/// a plan all the same, and no visit is in the window in any beat by a clock that is right.
+/// The small plan is wide, and so it is if its window is open for just one beat. If it is open for
+/// a microsecond less it is a plan all the same, and no visit is in the window in any beat by a
+/// clock that is right.
 pub fn wide()
     ensures small { IsWide small }
     ensures one_beat { IsWide (window_at 210000) }
     ensures too_short { IsWide (window_at 209999) → ⊥ }
     ensures plan { IsPlan (window_at 209999) }
-    ensures never { (beat slot visit : ℕ) → IsTrue (in_window (window_at 209999) (time_of (window_at 209999) beat) slot visit)
+    ensures never { (beat slot visit : ℕ) →
+        IsTrue (in_window (window_at 209999) (time_of (window_at 209999) beat) slot visit)
         → ⊥ }
 {}
 
-/// In the small plan a turn lasts 8 seconds, and in each half second of it some slot comes by. The window is open for 60
-/// beats, or for one.
+/// In the small plan a turn lasts 8 seconds, and in each half second of it some slot comes by. The
+/// window is open for 60 beats, or for one.
 pub fn turns()
     ensures turn { IsATurn small 900 1640 }
     ensures less { IsATurn small 900 1639 → ⊥ }
@@ -49,92 +52,134 @@ pub fn turns()
     ensures less_than_step { IsAStep (window_at 210000) 0 48 → ⊥ }
 {}
 
-/// The run of one viewer, whose start is ordered in beat 0 and may wait at cub 0 from beat 2 on: all that a promise asks
-/// for holds of it, and so the block comes.
+/// The run of one viewer, whose start is ordered in beat 0 and may wait at cub 0 from beat 2 on:
+/// all that a promise asks for holds of it, and so the block comes.
 pub fn one_viewer_is_served()
     ensures kept { (k : Kept) (p : IsPlan small) (s : IsOfTen) → IsKeptWell (one_viewer k p s) }
-    ensures promises { (k : Kept) (p : IsPlan small) (s : IsOfTen) → KeepsPromises (one_viewer k p s) }
-    ensures presses { (k : Kept) (p : IsPlan small) (s : IsOfTen) → PressesPlay (one_viewer k p s) one_block 0 }
-    ensures house { (k : Kept) (p : IsPlan small) (s : IsOfTen) → IsNeverFull (one_viewer k p s) 2 1520 }
+    ensures promises { (k : Kept) (p : IsPlan small) (s : IsOfTen) →
+        KeepsPromises (one_viewer k p s) }
+    ensures presses { (k : Kept) (p : IsPlan small) (s : IsOfTen) →
+        PressesPlay (one_viewer k p s) one_block 0 }
+    ensures house { (k : Kept) (p : IsPlan small) (s : IsOfTen) →
+        IsNeverFull (one_viewer k p s) 2 1520 }
     ensures sound { (k : Kept) (p : IsPlan small) (s : IsOfTen) → NothingFails (one_viewer k p s) }
-    ensures served { (k : Kept) (p : IsPlan small) (s : IsOfTen) → IsServed (one_viewer k p s) one_block 1520 }
-    ensures settled { (k : Kept) (p : IsPlan small) (s : IsOfTen) → IsSettledVisit (one_viewer k p s) (seat 0 0 0) 0 }
-    ensures came { (k : Kept) (p : IsPlan small) (s : IsOfTen) → Came (one_viewer k p s) (seat 0 0 0) 0 }
-    ensures not_over { (k : Kept) (p : IsPlan small) (s : IsOfTen) → IsNotOver (one_viewer k p s) 0 100 }
+    ensures served { (k : Kept) (p : IsPlan small) (s : IsOfTen) →
+        IsServed (one_viewer k p s) one_block 1520 }
+    ensures settled { (k : Kept) (p : IsPlan small) (s : IsOfTen) →
+        IsSettledVisit (one_viewer k p s) (seat 0 0 0) 0 }
+    ensures came { (k : Kept) (p : IsPlan small) (s : IsOfTen) →
+        Came (one_viewer k p s) (seat 0 0 0) 0 }
+    ensures not_over { (k : Kept) (p : IsPlan small) (s : IsOfTen) →
+        IsNotOver (one_viewer k p s) 0 100 }
 {}
 
-/// The same start waits at cub 0, but neither before it can have come, nor at cub 1, which does not believe cub 0 dead, nor
-/// behind the run's end.
+/// The same start waits at cub 0, but neither before it can have come, nor at cub 1, which does not
+/// believe cub 0 dead, nor behind the run's end.
 pub fn waits()
-    ensures waits { (k : Kept) (p : IsPlan small) (s : IsOfTen) → IsWaiting (one_viewer k p s) (wait 0 2 1520) }
-    ensures room { (k : Kept) (p : IsPlan small) (s : IsOfTen) → HasRoom (one_viewer k p s) (wait 0 2 1520) }
-    ensures too_soon { (k : Kept) (p : IsPlan small) (s : IsOfTen) → IsWaiting (one_viewer k p s) (wait 0 1 1520) → ⊥ }
-    ensures next_cub { (k : Kept) (p : IsPlan small) (s : IsOfTen) → IsWaiting (one_viewer k p s) (wait 1 2 1520) → ⊥ }
-    ensures ended { (k : Kept) (p : IsPlan small) (s : IsOfTen) → IsWaiting (one_viewer k p s) (wait 0 2 1600) → ⊥ }
-    ensures other_beat { (k : Kept) (p : IsPlan small) (s : IsOfTen) → PressesPlay (one_viewer k p s) one_block 1 → ⊥ }
+    ensures waits { (k : Kept) (p : IsPlan small) (s : IsOfTen) →
+        IsWaiting (one_viewer k p s) (wait 0 2 1520) }
+    ensures room { (k : Kept) (p : IsPlan small) (s : IsOfTen) →
+        HasRoom (one_viewer k p s) (wait 0 2 1520) }
+    ensures too_soon { (k : Kept) (p : IsPlan small) (s : IsOfTen) →
+        IsWaiting (one_viewer k p s) (wait 0 1 1520) → ⊥ }
+    ensures next_cub { (k : Kept) (p : IsPlan small) (s : IsOfTen) →
+        IsWaiting (one_viewer k p s) (wait 1 2 1520) → ⊥ }
+    ensures ended { (k : Kept) (p : IsPlan small) (s : IsOfTen) →
+        IsWaiting (one_viewer k p s) (wait 0 2 1600) → ⊥ }
+    ensures other_beat { (k : Kept) (p : IsPlan small) (s : IsOfTen) →
+        PressesPlay (one_viewer k p s) one_block 1 → ⊥ }
 {}
 
-/// There are 16 slots. A stop in beat 899 is more than the 100 beats of a block play time before beat 1000.
+/// There are 16 slots. A stop in beat 899 is more than the 100 beats of a block play time before
+/// beat 1000.
 pub fn houses()
-    ensures full { (k : Kept) (p : IsPlan small) (s : IsOfTen) → IsNeverFull (silent k p s all_live [] (many 16)) 2 1520 }
-    ensures overfull { (k : Kept) (p : IsPlan small) (s : IsOfTen) → IsNeverFull (silent k p s all_live [] (many 17)) 2 1520 → ⊥ }
-    ensures stopped_before { (k : Kept) (p : IsPlan small) (s : IsOfTen) → NobodyIsStoppedIn (silent k p s all_live [] (stop_in 899)) 1000 1100 }
-    ensures just_stopped { (k : Kept) (p : IsPlan small) (s : IsOfTen) → NobodyIsStoppedIn (silent k p s all_live [] (stop_in 900)) 1000 1100 → ⊥ }
-    ensures stopped_after { (k : Kept) (p : IsPlan small) (s : IsOfTen) → NobodyIsStoppedIn (silent k p s all_live [] (stop_in 1101)) 1000 1100 }
-    ensures stopped_last { (k : Kept) (p : IsPlan small) (s : IsOfTen) → NobodyIsStoppedIn (silent k p s all_live [] (stop_in 1100)) 1000 1100 → ⊥ }
+    ensures full { (k : Kept) (p : IsPlan small) (s : IsOfTen) →
+        IsNeverFull (silent k p s all_live [] (many 16)) 2 1520 }
+    ensures overfull { (k : Kept) (p : IsPlan small) (s : IsOfTen) →
+        IsNeverFull (silent k p s all_live [] (many 17)) 2 1520 → ⊥ }
+    ensures stopped_before { (k : Kept) (p : IsPlan small) (s : IsOfTen) →
+        NobodyIsStoppedIn (silent k p s all_live [] (stop_in 899)) 1000 1100 }
+    ensures just_stopped { (k : Kept) (p : IsPlan small) (s : IsOfTen) →
+        NobodyIsStoppedIn (silent k p s all_live [] (stop_in 900)) 1000 1100 → ⊥ }
+    ensures stopped_after { (k : Kept) (p : IsPlan small) (s : IsOfTen) →
+        NobodyIsStoppedIn (silent k p s all_live [] (stop_in 1101)) 1000 1100 }
+    ensures stopped_last { (k : Kept) (p : IsPlan small) (s : IsOfTen) →
+        NobodyIsStoppedIn (silent k p s all_live [] (stop_in 1100)) 1000 1100 → ⊥ }
 {}
 
-/// Visit 0 of slot 1 is cub 0's and due at 500000, on disk 0; the block has left by 510000, in beat 51, and has played by
-/// 1500000, in beat 150.
+/// Visit 0 of slot 1 is cub 0's and due at 500000, on disk 0; the block has left by 510000, in beat
+/// 51, and has played by 1500000, in beat 150.
 pub fn hindrances()
-    ensures lives { (k : Kept) (p : IsPlan small) (s : IsOfTen) → LivesPast (silent k p s (dying (Some 51) None None) [] []) 1 0 }
-    ensures dies { (k : Kept) (p : IsPlan small) (s : IsOfTen) → LivesPast (silent k p s (dying (Some 50) None None) [] []) 1 0 → ⊥ }
-    ensures other_disk { (k : Kept) (p : IsPlan small) (s : IsOfTen) → HasNoFault (silent k p s all_live (faulty 1 ∷ []) []) 0 }
-    ensures own_disk { (k : Kept) (p : IsPlan small) (s : IsOfTen) → HasNoFault (silent k p s all_live (faulty 0 ∷ []) []) 0 → ⊥ }
-    ensures late_stop { (k : Kept) (p : IsPlan small) (s : IsOfTen) → IsNotStoppedBefore (silent k p s all_live [] (stop_in 150)) 0 1500000 }
-    ensures early_stop { (k : Kept) (p : IsPlan small) (s : IsOfTen) → IsNotStoppedBefore (silent k p s all_live [] (stop_in 149)) 0 1500000 → ⊥ }
-    ensures one_dies { (k : Kept) (p : IsPlan small) (s : IsOfTen) → OnlyOneDies (silent k p s (dying None (Some 5) None) [] []) 1 }
-    ensures two_die { (k : Kept) (p : IsPlan small) (s : IsOfTen) → OnlyOneDies (silent k p s (dying None (Some 5) (Some 4)) [] []) 1 → ⊥ }
+    ensures lives { (k : Kept) (p : IsPlan small) (s : IsOfTen) →
+        LivesPast (silent k p s (dying (Some 51) None None) [] []) 1 0 }
+    ensures dies { (k : Kept) (p : IsPlan small) (s : IsOfTen) →
+        LivesPast (silent k p s (dying (Some 50) None None) [] []) 1 0 → ⊥ }
+    ensures other_disk { (k : Kept) (p : IsPlan small) (s : IsOfTen) →
+        HasNoFault (silent k p s all_live (faulty 1 ∷ []) []) 0 }
+    ensures own_disk { (k : Kept) (p : IsPlan small) (s : IsOfTen) →
+        HasNoFault (silent k p s all_live (faulty 0 ∷ []) []) 0 → ⊥ }
+    ensures late_stop { (k : Kept) (p : IsPlan small) (s : IsOfTen) →
+        IsNotStoppedBefore (silent k p s all_live [] (stop_in 150)) 0 1500000 }
+    ensures early_stop { (k : Kept) (p : IsPlan small) (s : IsOfTen) →
+        IsNotStoppedBefore (silent k p s all_live [] (stop_in 149)) 0 1500000 → ⊥ }
+    ensures one_dies { (k : Kept) (p : IsPlan small) (s : IsOfTen) →
+        OnlyOneDies (silent k p s (dying None (Some 5) None) [] []) 1 }
+    ensures two_die { (k : Kept) (p : IsPlan small) (s : IsOfTen) →
+        OnlyOneDies (silent k p s (dying None (Some 5) (Some 4)) [] []) 1 → ⊥ }
 {}
 
-/// A death is taken over in a round of the cubs, or a microsecond too late: then two blocks, of visits 1 and 9 of slot 0, are
-/// lost in one death, of cub 1 in beat 101.
+/// A death is taken over in a round of the cubs, or a microsecond too late: then two blocks, of
+/// visits 1 and 9 of slot 0, are lost in one death, of cub 1 in beat 101.
 pub fn rounds()
     ensures small { IsTakenOverInARound small }
     ensures just { IsTakenOverInARound (small_with 1000001 800000 7818008) }
     ensures too_late { IsTakenOverInARound (small_with 1000001 800000 7818009) → ⊥ }
-    ensures first_lost { LostInDeath (small_with 1000001 800000 7818009) (all (dies 1 101 ∷ [])) (seat_in 0 0 1 9) 1 }
-    ensures second_lost { LostInDeath (small_with 1000001 800000 7818009) (all (dies 1 101 ∷ [])) (seat_in 0 0 1 9) 9 }
+    ensures first_lost { LostInDeath (small_with 1000001 800000 7818009)
+        (all (dies 1 101 ∷ [])) (seat_in 0 0 1 9) 1 }
+    ensures second_lost { LostInDeath (small_with 1000001 800000 7818009)
+        (all (dies 1 101 ∷ [])) (seat_in 0 0 1 9) 9 }
 {}
 
-/// Instance 0 is put into slot 2 at the latest reading of beat 20 at which the window of visit 0 opens, for which it is due as
-/// late as it may be.
+/// Instance 0 is put into slot 2 at the latest reading of beat 20 at which the window of visit 0
+/// opens, for which it is due as late as it may be.
 pub fn first_blocks()
-    ensures put { PutsAreFair (window_at 796000) (begins one_block) (at_reading 0 20 204000 (Put (seat_in 2 0 0 0)) ∷ []) }
+    ensures put { PutsAreFair (window_at 796000) (begins one_block)
+        (at_reading 0 20 204000 (Put (seat_in 2 0 0 0)) ∷ []) }
     ensures latest { due (window_at 796000) 2 0 ≡ time_of (window_at 796000) 20 + 4000 + 796000 }
 {}
 
-/// Instance 0 is stopped in beat 20, and a block plays for 100 beats: a record of it may be in a view up to beat 120.
+/// Instance 0 is stopped in beat 20, and a block plays for 100 beats: a record of it may be in a
+/// view up to beat 120.
 pub fn stops()
     ensures kept { ViewsAreAlwaysPart small (stopped_log 120) }
     ensures kept_longer { ViewsAreAlwaysPart small (stopped_log 121) → ⊥ }
-    ensures at_the_bound { moment_time small (moment_at (stopped_log 120)) ≡ time_of small 20 + 1000000 }
+    ensures at_the_bound { moment_time small (moment_at (stopped_log 120))
+        ≡ time_of small 20 + 1000000 }
     ensures has_record { HasNoRecord small (moment_at (stopped_log 120)) 0 → ⊥ }
     ensures of_other { HasNoRecord small (moment_at (stopped_log 120)) 1 }
     ensures no_slot { HasNoSlot (moment_at (stopped_log 120)) 0 }
     ensures has_slot { HasNoSlot (moment_at (put 0 1 three ∷ [])) 0 → ⊥ }
 {}
 
-/// A block is missing as its read failed, as its cub died just before, or as a piece was lost after its cub's death.
+/// A block is missing as its read failed, as its cub died just before, or as a piece was lost after
+/// its cub's death.
 pub fn reasons()
-    ensures read { (s : IsOfTen) → kind_of small (ten s) (all (seated ∷ fails 0 40 (want 0 0 0) ∷ [])) (seat 0 0 0) 0 ≡ Some (Missing Read) }
-    ensures true_read { IsTrueReason small (all (seated ∷ fails 0 40 (want 0 0 0) ∷ [])) (seat 0 0 0) 0 Read }
-    ensures not_read { IsTrueReason small (all (seated ∷ fails 0 40 (want 0 0 1) ∷ [])) (seat 0 0 0) 0 Read → ⊥ }
-    ensures dead { (s : IsOfTen) → kind_of small (ten s) (all (seated ∷ dies 0 50 ∷ [])) (seat 0 0 0) 0 ≡ Some (Missing Dead) }
+    ensures read { (s : IsOfTen) →
+        kind_of small (ten s) (all (seated ∷ fails 0 40 (want 0 0 0) ∷ [])) (seat 0 0 0) 0
+        ≡ Some (Missing Read) }
+    ensures true_read { IsTrueReason small
+        (all (seated ∷ fails 0 40 (want 0 0 0) ∷ [])) (seat 0 0 0) 0 Read }
+    ensures not_read { IsTrueReason small
+        (all (seated ∷ fails 0 40 (want 0 0 1) ∷ [])) (seat 0 0 0) 0 Read → ⊥ }
+    ensures dead { (s : IsOfTen) →
+        kind_of small (ten s) (all (seated ∷ dies 0 50 ∷ [])) (seat 0 0 0) 0 ≡ Some (Missing Dead) }
     ensures true_dead { IsTrueReason small (all (seated ∷ dies 0 50 ∷ [])) (seat 0 0 0) 0 Dead }
     ensures not_dead { IsTrueReason small (all (seated ∷ dies 0 51 ∷ [])) (seat 0 0 0) 0 Dead → ⊥ }
-    ensures piece { (s : IsOfTen) → kind_of small (ten s) (all (put 0 1 three ∷ dies 1 32 ∷ fails 2 140 (want 0 1 1) ∷ [])) three 1
+    ensures piece { (s : IsOfTen) →
+        kind_of small (ten s) (all (put 0 1 three ∷ dies 1 32 ∷ fails 2 140 (want 0 1 1) ∷ [])) three 1
         ≡ Some (Missing Piece) }
-    ensures true_piece { IsTrueReason small (all (put 0 1 three ∷ dies 1 32 ∷ fails 2 140 (want 0 1 1) ∷ [])) three 1 Piece }
-    ensures not_piece { IsTrueReason small (all (put 0 1 three ∷ dies 1 33 ∷ fails 2 140 (want 0 1 1) ∷ [])) three 1 Piece → ⊥ }
+    ensures true_piece { IsTrueReason small
+        (all (put 0 1 three ∷ dies 1 32 ∷ fails 2 140 (want 0 1 1) ∷ [])) three 1 Piece }
+    ensures not_piece { IsTrueReason small
+        (all (put 0 1 three ∷ dies 1 33 ∷ fails 2 140 (want 0 1 1) ∷ [])) three 1 Piece → ⊥ }
 {}

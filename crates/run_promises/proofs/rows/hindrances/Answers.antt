@@ -1,4 +1,4 @@
-use Rattle.std.proofs.Common.{◌≡◌, ◌≢◌, ℕ, ◌≤◌, Some, None, refl, sym, ap, ◌∙◌, arith, ⊎_elim}
+use Rattle.std.proofs.Common.{◌≡◌, refl, arith}
 use Rattle.slot_plan.specs.Times.{time_of, due, first_due, cub_of, disk_of}
 use Rattle.run_facts.specs.Commanded.{stop_ordered}
 use Rattle.run_promises.proofs.Worked as worked

@@ -1,7 +1,7 @@
 use Rattle.std.proofs.Common.{refl, arith, ⊎_elim, inl, inr}
 use Rattle.slot_plan.specs.Times.{time_of}
 use Rattle.run_facts.specs.Commanded.{stop_ordered}
-use Rattle.run_promises.specs.Samples.{many, stop_in}
+use Rattle.run_promises.specs.Samples.{many}
 use Rattle.run_promises.proofs.Worked as worked
 use Rattle.run_promises.proofs.rows.houses.Goals as goal
 

@@ -1,7 +1,9 @@
-use Rattle.std.proofs.Common.{refl, arith, ⊎_elim, inl, inr}
+use Rattle.std.proofs.Common.{[], ◌∷◌, refl, arith, ⊎_elim, inl, inr}
 use Rattle.std.proofs.lemmas.Bool.{false≢true}
 use Rattle.run_model.proofs.OnSamples.{on_samples}
 use Rattle.run_report.specs.Outcomes.{kind_of, missing_of, reason_of, whole_sent, pieces_sent, piece_sent, stop_of}
+use Rattle.run_model.specs.Samples.{all, seated, fails, want}
+use Rattle.run_promises.proofs.Reports.{reads_fail}
 use Rattle.run_promises.proofs.rows.reasons.Goals as goal
 
 pub returns-clause-read : goal.returns-clause-read
@@ -12,7 +14,7 @@ pub returns-clause-true_read : goal.returns-clause-true_read
 returns-clause-true_read c = inl (inr (inl (refl, refl, refl)))
 
 pub returns-clause-not_read : goal.returns-clause-not_read
-returns-clause-not_read c h = ⊎_elim (λ j. ⊎_elim (λ n. n) (λ k. ⊎_elim (λ e. let piece = e.2 in omega (arith, piece)) (λ n. n) k) j) (λ n. n) h
+returns-clause-not_read c h = false≢true ((reads_fail (all (seated ∷ fails 0 40 (want 0 0 1) ∷ [])) 0 0).1 h)
 
 pub returns-clause-dead : goal.returns-clause-dead
 unfolding on_samples kind_of missing_of reason_of whole_sent pieces_sent piece_sent stop_of

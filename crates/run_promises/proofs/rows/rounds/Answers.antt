@@ -1,4 +1,4 @@
-use Rattle.std.proofs.Common.{refl, arith, inl}
+use Rattle.std.proofs.Common.{arith, inl}
 use Rattle.slot_plan.specs.Times.{takeover}
 use Rattle.run_model.proofs.OnSamples.{on_samples}
 use Rattle.run_promises.proofs.rows.rounds.Goals as goal

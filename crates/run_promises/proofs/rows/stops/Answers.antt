@@ -1,11 +1,9 @@
-use Rattle.std.proofs.Common.{◌≡◌, ℕ, refl, ap, arith, ⊎_elim, inl, inr}
+use Rattle.std.proofs.Common.{refl, arith, ⊎_elim, inl, inr}
 use Rattle.std.proofs.lemmas.Bool.{false≢true}
-use Rattle.tiger_base.specs.declared.tenancy.Tenancy.{Tenancy}
-use Rattle.slot_plan.specs.Samples.{small}
-use Rattle.run_model.specs.Moments.{moment_at}
-use Rattle.run_model.specs.Samples.{three}
+use Rattle.run_model.specs.Samples.{gone, three}
 use Rattle.run_model.proofs.OnSamples.{on_samples, of-eight}
 use Rattle.run_promises.specs.Samples.{stopped_log}
+use Rattle.run_promises.proofs.Stops.{another_has}
 use Rattle.run_promises.proofs.rows.stops.Goals as goal
 
 pub returns-clause-kept : goal.returns-clause-kept
@@ -38,10 +36,7 @@ unfolding on_samples
 returns-clause-of_other c = of-eight _ ((λ e. omega (arith, e)), tt) tt tt tt tt tt tt tt
 
 pub returns-clause-no_slot : goal.returns-clause-no_slot
-returns-clause-no_slot c slot t held = no_holder slot t held
-  where
-    no_holder : (slot : ℕ) (t : Tenancy) → (moment_at (stopped_log 120)).schedule.holder slot ≡ Some t → t.instance.0 ≡ 0 → ⊥
-    no_holder slot t held e = absurd (cc)
+returns-clause-no_slot c = another_has (stopped_log 120) 0 (gone 20 0) (record { 0 = 0 }) (inr (inr (inl refl))) refl refl
 
 pub returns-clause-has_slot : goal.returns-clause-has_slot
 unfolding on_samples

@@ -1,8 +1,7 @@
-use Rattle.std.proofs.Common.{◌≡◌, ℕ, ◌+◌, ◌*◌, ◌/◌, ◌%◌, ◌<◌, ◌≤◌, IsTrue, arith}
+use Rattle.std.proofs.Common.{◌≡◌, ℕ, ◌+◌, ◌*◌, arith}
 use Rattle.std.proofs.Math.Nat.{div-add-mod}
 use Rattle.std.proofs.lemmas.Nat.{mod_below}
-use Rattle.slot_plan.specs.Conditions.{IsPlan, IsInRange}
-use Rattle.slot_plan.specs.Times.{first_due, due, time_of, in_window}
+use Rattle.slot_plan.specs.Times.{first_due, due, time_of}
 use Rattle.slot_plan.proofs.Times.{window_parts}
 use Rattle.run_promises.specs.Samples.{window_at}
 use Rattle.run_promises.proofs.rows.wide.Goals as goal
