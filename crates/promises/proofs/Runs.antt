@@ -12,6 +12,9 @@ use Rattle.run_report.specs.Text.{report_text}
 use Rattle.run_claims.specs.Accounts.{account_of}
 use Rattle.run_claims.specs.Claims.{MeetsClaims}
 use Rattle.ring_claims.specs.Beliefs.{BelievesInTime}
+use Rattle.run_promises.specs.Kept.{IsKeptWell}
+use Rattle.run_promises.specs.Promises.{KeepsPromises}
+use Rattle.run_promises.proofs.Promises.{kept_runs_keep_promises}
 use Rattle.scenario_read.specs.declared.scenario.Scenario.{Scenario}
 use Rattle.tiger_run.specs.Words.{IsRun, IsMake}
 use Rattle.tiger_run.specs.Inputs.{names_of}
@@ -38,6 +41,15 @@ one_number words m n a b =
 
 run_for : (s : Scenario) (library : List (List ℕ)) (k : Kept) → IsRunOf OpenGate s library k → IsRunFor s library k
 run_for s library k run = record { sound = run.sound; ran = run.ran; only = run.only; world = run.world }
+
+-- what the promises rest on
+kept_well : (s : Scenario) (library : List (List ℕ)) (k : Kept) → IsRunOf OpenGate s library k → IsKeptWell k
+kept_well s library k run = record {
+  count = run.world.each_has_journal;
+  carried = run.ran.carried;
+  timed = run.ran.timed;
+  claims = run.claims;
+}
 
 -- the run of a named scenario over files in memory
 abbrev IsNamed : MemoryFiles → MemoryFiles → List ℕ → Kept → Type 0
@@ -97,6 +109,15 @@ module _ (old new : MemoryFiles) (words : List (List ℕ)) where
   believes : (k : Kept) → IsAsked old new words k → BelievesInTime (account_of k)
   believes k (inl asked) = asked.3.run.belief_in_time
   believes k (inr asked) = asked.2.run.belief_in_time
+
+  -- and keeps all promises
+  promises : (k : Kept) → IsAsked old new words k → KeepsPromises k
+  promises k (inl asked) = kept_runs_keep_promises k (kept_well asked.3.inputs.scenario asked.3.inputs.library k asked.3.run)
+  promises k (inr asked) = kept_runs_keep_promises k (kept_well asked.2.scenario _ k asked.2.run)
+
+  pub if_promises : (kept : Option Kept) → IfSome kept (IsAsked old new words) → IfSome kept KeepsPromises
+  if_promises None asked = tt
+  if_promises (Some k) asked = promises k asked
 
   -- a part of the claims, if something is kept
   pub if_meets : (P : Kept → Type 0) → ((k : Kept) → MeetsClaims (account_of k) → P k) → (kept : Option Kept)

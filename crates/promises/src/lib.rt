@@ -18,6 +18,7 @@ ghost use Rattle.run_claims.specs.Served.{AreServed};
 ghost use Rattle.run_claims.specs.Turns.{AreInTurn};
 ghost use Rattle.run_claims.specs.Patience.{NobodyIsPassedOver};
 ghost use Rattle.ring_claims.specs.Beliefs.{BeliefsAreInTime};
+ghost use Rattle.run_promises.specs.Promises.{KeepsPromises};
 ghost use Rattle.tiger_run.specs.declared.status.Status.TheVariants as statuses;
 ghost use Rattle.tiger_run.specs.Words.{texts_of};
 ghost use Rattle.tiger_run.specs.Inputs.{most_reads, most_earlier};
@@ -130,6 +131,12 @@ pub fn run_in_memory<R: Threads + Wait + Sync>(
     // The controller's journal follows the orders.
     ensures commanded { IfSome result.kept (λ k.
         AreCommanded (plan_in k) k.course.beats (clock_in k) k.orders k.journals) }
+
+    // ---- What follows for who presses play, waits, is stopped, or reads the report.
+
+    // When a start is put, which blocks come, that one death costs a viewer one block at most, that each printed reason is
+    // true, and when a stopped viewer is gone.
+    ensures promises { IfSome result.kept KeepsPromises }
 
     // ---- What is refused, and what is not.
 

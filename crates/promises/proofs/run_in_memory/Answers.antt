@@ -17,7 +17,7 @@ use Rattle.promises.proofs.Words.{run_of, made_of, no_run_of, words_refused, ref
 use Rattle.promises.proofs.Told.{tells_all}
 use Rattle.promises.proofs.Causes.{why_refused, runnable}
 use Rattle.promises.proofs.Written.{report_written, summary_written, put_failed, no_memory, none_kept}
-use Rattle.promises.proofs.Runs.{if_run_named, if_run_made, if_answer, if_meets, if_believes}
+use Rattle.promises.proofs.Runs.{if_run_named, if_run_made, if_answer, if_meets, if_believes, if_promises}
 use Rattle.promises.proofs.run_in_memory.Goals as goal
 
 -- ---- what is written
@@ -158,6 +158,11 @@ pub returns-clause-belief_in_time : goal.returns-clause-belief_in_time
 returns-clause-belief_in_time g c =
     let words = texts_of c.args.words.now.items in
     if_believes c.args.files.now c.tiger.new.files words c.tiger.result.kept c.tiger.ensures.ran
+
+pub returns-clause-promises : goal.returns-clause-promises
+returns-clause-promises g c =
+    let words = texts_of c.args.words.now.items in
+    if_promises c.args.files.now c.tiger.new.files words c.tiger.result.kept c.tiger.ensures.ran
 
 -- ---- what is refused
 
