@@ -1,6 +1,6 @@
 -- What a call asks for, what it needs, and why it is refused, in terms of what files in memory tell.
-use Rattle.std.specs.Prelude.{◌≡◌, ℕ, ◌<◌, ◌≤◌, ◌==◌, ◌^◌, List, [], ◌∷◌, ◌++◌, map, length, sum_by, All}
-use Rattle.std.specs.Prelude.{Option, Some, None, option_map, Ok, Err, slice_get, codes, ◌⊎◌}
+use Rattle.std.specs.Prelude.{◌≡◌, ℕ, ◌<◌, ◌≤◌, ◌==◌, ◌^◌, List, [], ◌∷◌, map, length, sum_by, All}
+use Rattle.std.specs.Prelude.{Some, None, option_map, Ok, Err, slice_get, codes, ◌⊎◌}
 use Rattle.std.specs.Fmt.{decimal}
 use Rattle.std.specs.List.{position}
 use Rattle.tiger_base.specs.Limits.{most_file}
@@ -8,7 +8,7 @@ use Rattle.scenario_read.specs.declared.stop.ScenarioFault.{ScenarioFault}
 use Rattle.scenario_read.specs.Fault.{broken}
 use Rattle.scenario_read.specs.Meaning.{Said, meaning}
 use Rattle.outside.specs.Told.{Told, bytes, absent}
-use Rattle.outside.specs.Memory.{MemoryFiles, MemorySink, Entries, told_of}
+use Rattle.outside.specs.Memory.{MemoryFiles, Entries, told_of}
 use Rattle.tiger_run.specs.declared.status.Status.{Status}
 use Rattle.tiger_run.specs.declared.status.Status.TheVariants as statuses
 use Rattle.tiger_run.specs.Inputs.{most_scenario, most_files, names_of}
