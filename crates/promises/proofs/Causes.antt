@@ -1,5 +1,5 @@
 -- Why a scenario or a file of it was refused, and what lets none be refused, in terms of what files in memory tell.
-use Rattle.std.proofs.Common.{◌≡◌, ℕ, ◌<◌, ◌≤◌, List, length, Option, Some, None, subst, arith, inl, inr, ◌⊎◌}
+use Rattle.std.proofs.Common.{◌≡◌, ℕ, List, Some, None, subst, arith, inl, inr}
 use Rattle.outside.specs.Told.{Told, bytes, absent}
 use Rattle.outside.specs.Memory.{MemoryFiles, Entries, source_of, told_of}
 use Rattle.scenario_read.specs.declared.stop.ScenarioFault.{ScenarioFault}

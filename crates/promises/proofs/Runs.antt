@@ -6,9 +6,8 @@ use Rattle.std.specs.Fmt.{decimal}
 use Rattle.std.proofs.lemmas.Fmt.{decimal_injective}
 use Rattle.node_kit.specs.declared.course.Kept.{Kept}
 use Rattle.node_kit.specs.declared.gate.OpenGate.{OpenGate}
-use Rattle.outside.specs.Told.{Told, FilesState}
+use Rattle.outside.specs.Told.{Told}
 use Rattle.outside.specs.Memory.{MemoryFiles, source_of}
-use Rattle.run_report.specs.Text.{report_text}
 use Rattle.run_claims.specs.Accounts.{account_of}
 use Rattle.run_claims.specs.Claims.{MeetsClaims}
 use Rattle.ring_claims.specs.Beliefs.{BelievesInTime}
@@ -22,7 +21,6 @@ use Rattle.tiger_run.specs.Ending.{IsRunOf, IsNamedRun, IsMadeRun, IsAskedRun}
 use Rattle.tiger_run.proofs.WordLists.{IsRun-name}
 use Rattle.tiger_run.specs.Answers.{IsTheAnswer}
 use Rattle.tiger_run.proofs.Endings.{text_for-run}
-use Rattle.promises.specs.Calls.{AskForRun}
 use Rattle.promises.specs.Kept.{IsRunFor, IsRunOfTold, IsRunOfNumber, IsOneAnswer}
 use Rattle.promises.proofs.Words.{run_of}
 use Rattle.promises.proofs.Told.{is_told, are_told}

@@ -1,5 +1,5 @@
 -- What a sink in memory holds with each status, and what is kept.
-use Rattle.std.proofs.Common.{◌≡◌, ℕ, ◌+◌, List, ◌++◌, Option, Some, None, refl, subst}
+use Rattle.std.proofs.Common.{◌≡◌, ℕ, ◌+◌, List, Option, Some, None, subst}
 use Rattle.std.specs.Prelude.{IsSomeAnd, MatchOption}
 use Rattle.node_kit.specs.declared.course.Kept.{Kept}
 use Rattle.run_report.specs.Text.{report_text, summary_text}
