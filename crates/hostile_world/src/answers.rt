@@ -122,20 +122,20 @@ pub(crate) fn mark_of<'a, G: Gate>(plan: &Plan, world: &World<'a, G>) -> u64 {
 fn with_events(mark: u64, events: &[Event]) -> u64 {
     let mut mark = mixed(mark, events.len() as u64);
     for event in events {
-        mark = with_event(mark, event);
+        mark = with_event(mark, *event);
     }
     mark
 }
 
 /// A mark with one event more: its beat and its reading, which kind it is, and its numbers.
-fn with_event(mark: u64, event: &Event) -> u64 {
+fn with_event(mark: u64, event: Event) -> u64 {
     let (kind, of, number) = match event.act {
-        Act::Get { link, number } => (0, link.0, number),
-        Act::Tick(node) => (1, node.0, 0),
-        Act::Die(cub) => (2, cub.0, 0),
+        Act::Get { link, number } => (0, u64::from(link.0), number),
+        Act::Tick(node) => (1, u64::from(node.0), 0),
+        Act::Die(cub) => (2, u64::from(cub.0), 0),
     };
     let mark = mixed(mixed(mark, event.stamp.beat), event.stamp.reading);
-    mixed(mixed(mixed(mark, kind), of as u64), number)
+    mixed(mixed(mixed(mark, kind), of), number)
 }
 
 /// One more than the beat in which the oldest message under way was sent; 0 if none is.
