@@ -10,6 +10,7 @@ use Rattle.slot_plan.specs.Times.{time_of, cub_of, disk_of}
 use Rattle.slot_plan.proofs.Times.{cub_below}
 use Rattle.node_kit.specs.declared.course.Kept.{Kept}
 use Rattle.node_kit.specs.declared.course.Order.{Order}
+use Rattle.node_kit.specs.declared.course.ReadFault.{ReadFault}
 use Rattle.node_kit.specs.declared.course.OrderKind.{OrderKind}
 use Rattle.node_kit.specs.declared.course.OrderKind.TheVariants as kind
 use Rattle.node_kit.specs.declared.journal.What.{What}
@@ -25,6 +26,7 @@ use Rattle.run_model.specs.Fronts.{AnyByRecursion}
 use Rattle.run_model.specs.Moments.{moment_at, view_of, is_put_of, is_belief_of}
 use Rattle.run_model.specs.Orders.{IsNotPassedOver, IsStartOf, PutsAreFair, is_up_to, end_of_tick}
 use Rattle.run_model.specs.Parts.{IsPart, ViewsAreAlwaysPart, EntriesAreLocal}
+use Rattle.run_model.specs.Schedule.{is_stopped}
 use Rattle.run_model.specs.Samples.{IsOfTen, ten, all, begins, dying, seat, bytes, seated}
 use Rattle.run_model.specs.Served.{journal_at}
 use Rattle.run_model.specs.Tests.{is_empty}
@@ -52,10 +54,10 @@ use Rattle.run_promises.specs.House.{NothingFails, PressesPlay, IsNeverFull, IsS
 use Rattle.run_promises.specs.Kept.{after_tick}
 use Rattle.run_promises.specs.Placing.{HasRoom}
 use Rattle.run_promises.specs.Promises.{KeepsPromises}
-use Rattle.run_promises.specs.Samples.{one_block, one_log, one_viewer, silent, many, stop_in, wait}
+use Rattle.run_promises.specs.Samples.{all_live, one_block, one_log, one_viewer, run_of, silent, many, stop_in, wait}
 use Rattle.run_promises.specs.Served.{IsSettledVisit, Came, OnlyOneDies}
 use Rattle.run_promises.specs.Stops.{IsNotOver}
-use Rattle.run_promises.specs.Waits.{IsWaiting, IsATurn}
+use Rattle.run_promises.specs.Waits.{IsWaiting, IsOver, IsATurn}
 use Rattle.run_promises.proofs.Fronts.{in_front_journal}
 use Rattle.run_promises.proofs.House.{room}
 use Rattle.run_promises.proofs.Promises.{kept_runs_keep_promises}
@@ -478,18 +480,45 @@ believes_none c beat d = ⊎_elim
 pub nobody_believed : (k : Kept) (plan : IsPlan small) (s : IsOfTen) (c beat d : ℕ) → (after_tick (one_viewer k plan s) c beat).believed c d ≡ false
 nobody_believed k plan s c beat d = subst (λ (log : List Noted). (end_of_tick beat c log).believed c d ≡ false) (sym order_is) (believes_none c beat d)
 
-pub waits : (k : Kept) (plan : IsPlan small) (s : IsOfTen) → IsWaiting (one_viewer k plan s) (wait 0 2 1520)
+pub waits_until : (k : Kept) (plan : IsPlan small) (s : IsOfTen) (last : ℕ) → 2 ≤ last → last < 1600 → IsWaiting (one_viewer k plan s) (wait 0 2 last)
 unfolding acts
-waits k plan s = record {
+waits_until k plan s last low high = record {
   asked = inl (refl, refl);
   disk = omega arith;
   small = omega arith;
   its_cub = inl refl;
   came = omega arith;
-  rises = omega arith;
-  ends = omega arith;
+  rises = low;
+  ends = high;
   acts = refl;
 }
+
+pub over : (k : Kept) (plan : IsPlan small) (s : IsOfTen) → IsOver (one_viewer k plan s) (wait 0 2 1520) 2
+unfolding moment_at
+over k plan s = inl (subst (λ (log : List Noted). (end_of_tick 2 0 log).put 0 ≡ true) (sym order_is) refl)
+
+pub never_over : (k : Kept) (plan : IsPlan small) (s : IsOfTen) → IsOver (silent k plan s all_live [] (begins one_block)) (wait 0 2 1520) 1520 → ⊥
+unfolding moment_at
+never_over k plan s h =
+    let nothing : order_of 1600 (all []) ≡ [] = order_found 18 1600 [] tt in
+    ⊎_elim
+    (λ put. false≢true (subst (λ (log : List Noted). (end_of_tick 1520 0 log).put 0 ≡ true) nothing put))
+    (λ gone. false≢true (subst (λ (log : List Noted). is_stopped 0 (end_of_tick 1520 0 log).schedule.stops ≡ true) nothing gone))
+    h
+
+-- in a run in which nobody dies
+pub nobody_dies : (k : Kept) (plan : IsPlan small) (s : IsOfTen) (faults : List ReadFault) (orders : List Order) (log : List Noted)
+    → OnlyOneDies (run_of k plan s all_live faults orders log) 0
+nobody_dies k plan s faults orders log n low other =
+    of-eight (λ n. (lifetime_of (run_of k plan s all_live faults orders log).course n).death ≡ None) refl refl refl refl refl refl refl refl n low
+
+pub no_death : (k : Kept) (plan : IsPlan small) (s : IsOfTen) (faults : List ReadFault) (orders : List Order) (log : List Noted) (n : ℕ) → n < 8
+    → (death : ℕ) → (lifetime_of (run_of k plan s all_live faults orders log).course n).death ≡ Some death → ⊥
+no_death k plan s faults orders log n low death d =
+    none_some _ death (of-eight (λ n. (lifetime_of (run_of k plan s all_live faults orders log).course n).death ≡ None) refl refl refl refl refl refl refl refl n low) d
+  where
+    none_some : (o : Option ℕ) (d : ℕ) → o ≡ None → o ≡ Some d → ⊥
+    none_some o d a b = absurd (cc)
 
 pub has_room : (k : Kept) (plan : IsPlan small) (s : IsOfTen) → HasRoom (one_viewer k plan s) (wait 0 2 1520)
 has_room k plan s = room (one_viewer k plan s) (wait 0 2 1520) (one_viewer_is_kept_well k plan s) (inl refl) (house k plan s)

@@ -2,30 +2,34 @@
 //! one number, of which it does not. They stand in contracts of functions without a body, and not
 //! in tests, since a weakened definition must be refused where a crate is checked without its
 //! tests.
-ghost use Rattle.std.specs.Prelude.{◌≡◌, ◌+◌, ℕ, ◌∷◌, [], Some, None, IsTrue};
+ghost use Rattle.std.specs.Prelude.{◌≡◌, ◌+◌, ◌≤◌, ◌⊎◌, ℕ, List, ◌∷◌, [], Some, None, IsTrue};
+ghost use Rattle.tiger_base.specs.declared.tenancy.Tenancy.{Tenancy};
 ghost use Rattle.slot_plan.specs.Conditions.{IsPlan};
 ghost use Rattle.slot_plan.specs.Samples.{small};
 ghost use Rattle.slot_plan.specs.Times.{due, in_window, time_of};
 ghost use Rattle.node_kit.specs.declared.course.Kept.{Kept};
+ghost use Rattle.node_kit.specs.declared.course.Order.{Order};
 ghost use Rattle.node_kit.specs.declared.journal.What.TheVariants.{Put};
+ghost use Rattle.run_facts.specs.Order.{Noted};
 ghost use Rattle.run_model.specs.Excuses.{LostInDeath};
 ghost use Rattle.run_model.specs.Moments.{moment_at, moment_time};
 ghost use Rattle.run_model.specs.Orders.{PutsAreFair};
 ghost use Rattle.run_model.specs.Parts.{ViewsAreAlwaysPart};
 ghost use Rattle.run_model.specs.Samples.{IsOfTen, all, at_reading, begins, dies, dying, fails, put, seat, seat_in, seated, ten, three, want};
+ghost use Rattle.run_model.specs.Served.{IsPut};
 ghost use Rattle.run_claims.specs.Samples.{faulty};
 ghost use Rattle.run_report.specs.Outcomes.{kind_of};
 ghost use Rattle.run_report.specs.declared.outcome.BlockKind.TheVariants.{Missing};
 ghost use Rattle.run_report.specs.declared.outcome.Reason.TheVariants.{Dead, Piece, Read};
 ghost use Rattle.run_promises.specs.House.{IsNeverFull, IsServed, NothingFails, PressesPlay};
-ghost use Rattle.run_promises.specs.Kept.{IsKeptWell};
-ghost use Rattle.run_promises.specs.Placing.{HasRoom, NobodyIsStoppedIn};
+ghost use Rattle.run_promises.specs.Kept.{IsKeptWell, after_tick, WasPut};
+ghost use Rattle.run_promises.specs.Placing.{HasRoom, NobodyIsStoppedIn, TheFirstBlockIsDueSoon};
 ghost use Rattle.run_promises.specs.Promises.{KeepsPromises};
 ghost use Rattle.run_promises.specs.Reports.{IsTrueReason};
-ghost use Rattle.run_promises.specs.Samples.{all_live, many, one_block, one_viewer, silent, small_with, stop_in, stopped_log, wait, window_at};
-ghost use Rattle.run_promises.specs.Served.{Came, HasNoFault, IsNotStoppedBefore, IsSettledVisit, IsTakenOverInARound, LivesPast, OnlyOneDies};
-ghost use Rattle.run_promises.specs.Stops.{HasNoRecord, HasNoSlot, IsNotOver};
-ghost use Rattle.run_promises.specs.Waits.{IsAStep, IsATurn, IsWaiting};
+ghost use Rattle.run_promises.specs.Samples.{all_live, many, one_block, one_viewer, run_of, silent, small_with, stop_in, stopped_log, wait, window_at};
+ghost use Rattle.run_promises.specs.Served.{Came, HasNoFault, IsNotStoppedBefore, IsSettledVisit, IsTakenOverInARound, LivesPast, OneDeathCostsOneBlock, OnlyOneDies, WhatNothingHindersComes};
+ghost use Rattle.run_promises.specs.Stops.{HasNoRecord, HasNoSlot, IsGoneFrom, IsNotOver, IsSoAfter};
+ghost use Rattle.run_promises.specs.Waits.{IsAStep, IsATurn, IsOver, IsWaiting};
 ghost use Rattle.run_promises.specs.Windows.{IsWide};
 
 /// The small plan is wide, and so it is if its window is open for just one beat. If it is open for
@@ -86,6 +90,14 @@ pub fn waits()
         IsWaiting (one_viewer k p s) (wait 1 2 1520) → ⊥ }
     ensures ended { (k : Kept) (p : IsPlan small) (s : IsOfTen) →
         IsWaiting (one_viewer k p s) (wait 0 2 1600) → ⊥ }
+    ensures at_once { (k : Kept) (p : IsPlan small) (s : IsOfTen) →
+        IsWaiting (one_viewer k p s) (wait 0 2 2) }
+    ensures last_beat { (k : Kept) (p : IsPlan small) (s : IsOfTen) →
+        IsWaiting (one_viewer k p s) (wait 0 2 1599) }
+    ensures over { (k : Kept) (p : IsPlan small) (s : IsOfTen) →
+        IsOver (one_viewer k p s) (wait 0 2 1520) 2 }
+    ensures not_over { (k : Kept) (p : IsPlan small) (s : IsOfTen) →
+        IsOver (silent k p s all_live [] (begins one_block)) (wait 0 2 1520) 1520 → ⊥ }
     ensures other_beat { (k : Kept) (p : IsPlan small) (s : IsOfTen) →
         PressesPlay (one_viewer k p s) one_block 1 → ⊥ }
 {}
@@ -176,10 +188,48 @@ pub fn reasons()
     ensures true_dead { IsTrueReason small (all (seated ∷ dies 0 50 ∷ [])) (seat 0 0 0) 0 Dead }
     ensures not_dead { IsTrueReason small (all (seated ∷ dies 0 51 ∷ [])) (seat 0 0 0) 0 Dead → ⊥ }
     ensures piece { (s : IsOfTen) →
-        kind_of small (ten s) (all (put 0 1 three ∷ dies 1 32 ∷ fails 2 140 (want 0 1 1) ∷ [])) three 1
-        ≡ Some (Missing Piece) }
+        kind_of small (ten s) (all (put 0 1 three ∷ dies 1 32 ∷ fails 2 140 (want 0 1 1) ∷ []))
+        three 1 ≡ Some (Missing Piece) }
     ensures true_piece { IsTrueReason small
         (all (put 0 1 three ∷ dies 1 32 ∷ fails 2 140 (want 0 1 1) ∷ [])) three 1 Piece }
     ensures not_piece { IsTrueReason small
         (all (put 0 1 three ∷ dies 1 33 ∷ fails 2 140 (want 0 1 1) ∷ [])) three 1 Piece → ⊥ }
+{}
+
+/// What promises say in numbers, of any run of the small plan in which nobody dies and no read
+/// fails: within 804000 micros after the beat of a Put the first block is due; visit 0 of slot 1,
+/// due at 500000, has played at 1500000; who is stopped in beat 20 is in no view after 1200000.
+pub fn in_numbers()
+    ensures soon { (k : Kept) (p : IsPlan small) (s : IsOfTen) (o : List Order)
+        (log : List Noted) →
+        TheFirstBlockIsDueSoon (run_of k p s all_live [] o log)
+        → WasPut (after_tick (run_of k p s all_live [] o log) 0 1) 0
+        → (t : Tenancy) × (due small t.slot.0 t.first ≤ 814000) }
+    ensures comes { (k : Kept) (p : IsPlan small) (s : IsOfTen) (o : List Order)
+        (log : List Noted) →
+        WhatNothingHindersComes (run_of k p s all_live [] o log) → IsPut (all log) (seat 0 0 0)
+        → IsNotStoppedBefore (run_of k p s all_live [] o log) 0 1500000
+        → Came (run_of k p s all_live [] o log) (seat 0 0 0) 0 }
+    ensures one_comes { (k : Kept) (p : IsPlan small) (s : IsOfTen) (o : List Order)
+        (log : List Noted) →
+        OneDeathCostsOneBlock (run_of k p s all_live [] o log) → IsPut (all log) three
+        → IsNotStoppedBefore (run_of k p s all_live [] o log) 0 2500000
+        → Came (run_of k p s all_live [] o log) three 0
+        ⊎ Came (run_of k p s all_live [] o log) three 1 }
+    ensures slots { (k : Kept) (p : IsPlan small) (s : IsOfTen) (o : List Order)
+        (log : List Noted) →
+        IsGoneFrom (run_of k p s all_live [] o log) 0 20
+        → IsSoAfter (run_of k p s all_live [] o log) 200000 (λ m. HasNoSlot m 0) }
+    ensures views { (k : Kept) (p : IsPlan small) (s : IsOfTen) (o : List Order)
+        (log : List Noted) →
+        IsGoneFrom (run_of k p s all_live [] o log) 0 20
+        → IsSoAfter (run_of k p s all_live [] o log) 1200000 (λ m. HasNoRecord small m 0) }
+    ensures first { (k : Kept) (p : IsPlan small) (s : IsOfTen) (o : List Order)
+        (log : List Noted) →
+        (q : IsServed (run_of k p s all_live [] o log) one_block 1319)
+        → due small q.tenancy.slot.0 q.tenancy.first ≤ 13994000 }
+    ensures blocks { (k : Kept) (p : IsPlan small) (s : IsOfTen) (o : List Order)
+        (log : List Noted) →
+        (q : IsServed (run_of k p s all_live [] o log) one_block 1319)
+        → Came (run_of k p s all_live [] o log) q.tenancy (q.tenancy.first + 0) }
 {}
