@@ -29,7 +29,8 @@ WRONG_WORD = 64
 NO_REFERENCE = 69
 NO_PROGRAM = 70
 MOST_WORKERS = 64
-TOTAL = re.compile(rb"^total starts [^\n]*\n(?:report [^\n]*\n)?\Z", re.M)  # how the output of a run ends
+TOTAL = re.compile(rb"^total starts \d+ placed \d+ whole \d+ pieces \d+ missing \d+\n(?:report [^\n]*\n)?\Z",
+                   re.M)  # how the output of a run ends
 REFUSALS = (2, 3, 4, 5, 8)  # the statuses of runs that write nothing but one line on standard error
 
 
