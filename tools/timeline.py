@@ -16,6 +16,7 @@ BAR = {TALL: 20, MEDIUM: 15, THIN: 7}  # the height of the bars in such a row
 MOST_TALL, MOST_MEDIUM = 12, 40  # slots with viewers up to which their rows are so
 MOST_ROWS, MOST_LANES = 200, 3  # rows of slots, and the slots that a row shows if there are more
 MOST_SENDS = 3000  # sends that are drawn in their viewers' colours
+HIGH = 24  # the height of the row of all missing blocks
 COLUMN = 2  # the points of width in which sends beyond these are one
 RED = {"dead": "#8a0f16", "read": "#e0312a", "piece": "#f58a80"}
 WORDS = {"dead": "its cub was dead", "read": "its read failed", "piece": "a piece did not come"}
@@ -113,13 +114,27 @@ def grouped_rows(picture, placed, used):
     """The rows if there are too many slots for a row each."""
     size = -(-len(used) // MOST_ROWS)
     lanes = min(size, MOST_LANES)
-    left = "" if lanes == size else f", and {lanes} of them are drawn"
+    left = "" if lanes == size else f", and the {lanes} of them with the most missing blocks are drawn"
     picture.notes.append(f"{len(used)} of {picture.scenario.plan['slots']} slots had viewers; "
                          f"each row stands for {size} of them{left}.")
     note_thin(picture)
     groups = [used[at:at + size] for at in range(0, len(used), size)]
-    return [lambda y, group=group: draw_group(picture, y, group, [placed[slot] for slot in group[:lanes]])
+    rows = [lambda y, group=group: draw_group(picture, y, group, [placed[slot] for slot in worst(placed, group, lanes)])
             for group in groups]
+    missing = missing_by_column(picture)
+    return [lambda y: draw_missing(picture, y, missing), *rows] if missing else rows
+
+
+def worst(placed, slots, number):
+    """So many of these slots, in their order: those whose viewers miss the most blocks."""
+    missing = {slot: sum(block.kind in REASONS for viewer in placed[slot] for block in viewer.blocks) for slot in slots}
+    return sorted(sorted(slots, key=lambda slot: -missing[slot])[:number])
+
+
+def missing_by_column(picture):
+    """How many blocks are missing, for each reason and column of width."""
+    return collections.Counter((int(picture.scale.at(block.due) // COLUMN), block.kind)
+                               for viewer in picture.run.placed() for block in viewer.blocks if block.kind in REASONS)
 
 
 def note_thin(picture):
@@ -164,6 +179,24 @@ def draw_group(picture, y, slots, viewers_of):
         for viewer in viewers:
             draw_bar(picture, y + 2 * lane, 2, viewer)
     return y + 2 * len(viewers_of) + 1
+
+
+def draw_missing(picture, y, missing):
+    """A row of all missing blocks, whether or not their slots are drawn: the more in a column, the higher."""
+    columns = collections.Counter()
+    for (column, _), count in missing.items():
+        columns[column] += count
+    most, steps = max(columns.values()), collections.defaultdict(list)
+    for column in columns:
+        bottom = float(y + HIGH)
+        for reason in REASONS:
+            high = HIGH * missing[column, reason] / most
+            steps[reason].append(f"M{column * COLUMN} {number(bottom)}h{COLUMN}v{number(-high)}h{-COLUMN}z" if high else "")
+            bottom -= high
+    draw_label(picture, y, HIGH, f"missing, to {most}")
+    for reason in REASONS:
+        picture.drawing.path(list(filter(None, steps[reason])), fill=RED[reason])
+    return y + HIGH + 6
 
 
 def draw_captions(picture, y, viewers):
@@ -231,9 +264,10 @@ def draw_blocks(picture, y, tall, viewer):
     for fill in steps:
         picture.drawing.path(steps[fill], fill=fill)
     if scale.wide(play) >= 5 and tall > 4:
-        named = named_blocks(picture, viewer) if tall == BAR[MEDIUM] else 0
-        lines = [f"M{number(scale.at(block.due))} {number(y)}v{number(tall)}" for block in viewer.blocks[named:]]
-        lines += [f"M{number(scale.at(block.due))} {number(y)}v2m0 11v2" for block in viewer.blocks[:named]]
+        named = named_blocks(picture, viewer) if tall == BAR[MEDIUM] else ()
+        across = {at: "v2m0 11v2" if at in named else f"v{number(tall)}" for at in range(len(viewer.blocks))}
+        order = sorted(across, key=lambda at: at in named)
+        lines = [f"M{number(scale.at(viewer.blocks[at].due))} {number(y)}{across[at]}" for at in order]
         picture.drawing.path(lines, stroke="#fff")
 
 
@@ -258,28 +292,41 @@ def draw_stop(drawing, x, y):
 
 
 def named_blocks(picture, viewer):
-    """How many of a viewer's first blocks its number covers; none if they are not whole or there are too few."""
+    """Which of a viewer's blocks its number covers: the first whole ones side by side, or else its first ones; none if
+    there are too few."""
     room = 1.1 * width_of(f"viewer {viewer.number}", 11) + 4
     covered = math.ceil(room / picture.scale.wide(picture.scenario.play))
-    first = viewer.blocks[:covered]
-    is_whole = all(block.kind == "whole" and block.number == at for at, block in enumerate(first))
-    return covered if is_whole and len(first) == covered else 0
+    begins = range(len(viewer.blocks) - covered + 1)
+    is_whole = [block.kind == "whole" for block in viewer.blocks]
+    numbers = [block.number for block in viewer.blocks]
+    begin = next((at for at in begins if all(is_whole[at:at + covered])
+                  and numbers[at + covered - 1] == numbers[at] + covered - 1), 0)
+    return range(begin, begin + covered) if begins else range(0)
 
 
 def draw_words(picture, y, tall, viewer):
     """Draws what there is room for in each block, and in rows without captions the viewer's number."""
     drawing, scale, each = picture.drawing, picture.scale, picture.scale.wide(picture.scenario.play)
-    named = named_blocks(picture, viewer) if tall == BAR[MEDIUM] else 0
+    named = named_blocks(picture, viewer) if tall == BAR[MEDIUM] else range(0)
     if named:
-        drawing.text(scale.at(viewer.blocks[0].due) + named * each / 2, y + 11.5, f"viewer {viewer.number}", 11,
-                     text_anchor="middle", font_weight="bold")
-    for block in viewer.blocks[named:]:
+        draw_number(picture, y, tall, viewer, named)
+    for block in (block for at, block in enumerate(viewer.blocks) if at not in named):
         words, x = longest(block_words(block), each - 8, 11), scale.at(block.due)
         if block.kind == "pieces" and words:
             room = width_of(words, 11) + 4
             drawing.box(x + (each - room) / 2, y + 3, room, tall - 6, "#fff", rx=3, fill_opacity="0.85")
         fill = "#fff" if block.kind in ("dead", "read") else INK
         drawing.text(x + each / 2, y + tall / 2 + 4, words, 11, fill, text_anchor="middle")
+
+
+def draw_number(picture, y, tall, viewer, named):
+    """Draws a viewer's number across some of its blocks, on white if one of them is not whole."""
+    wide = len(named) * picture.scale.wide(picture.scenario.play)
+    middle, words = picture.scale.at(viewer.blocks[named[0]].due) + wide / 2, f"viewer {viewer.number}"
+    if any(viewer.blocks[at].kind != "whole" for at in named):
+        room = 1.1 * width_of(words, 11) + 4
+        picture.drawing.box(middle - room / 2, y + 2, room, tall - 4, "#fff", rx=3, fill_opacity="0.85")
+    picture.drawing.text(middle, y + 11.5, words, 11, text_anchor="middle", font_weight="bold")
 
 
 def block_words(block):
@@ -355,7 +402,8 @@ def draw_cubs(picture, y, sends):
     if picture.is_merged:
         scale = picture.scale
         draw_merged(picture, y, tall, [(cub, scale.at(beat * scenario.beat)) for cub, beat, _, _ in sends], MERGED)
-        draw_merged(picture, y, tall, [(cub, x) for cub, x, colour in unsent if colour in RED.values()], RED["read"])
+        for red in RED.values():
+            draw_merged(picture, y, tall, [(cub, x) for cub, x, colour in unsent if colour == red], red)
     else:
         draw_sends(picture, y, tall, sends)
         for cub, x, colour in unsent:
@@ -464,7 +512,7 @@ def entries(picture):
         found.append((lambda drawing, x, y: draw_stop(drawing, x + 11, y + 5), "a viewer is stopped"))
     if run.viewers and not picture.is_thin:
         found.append((waits, "a viewer waits for its first block"))
-    found += merged_entries(kinds) if picture.is_merged else send_entries(kinds)
+    found += [(filled(MERGED), "a cub sends blocks or pieces")] if picture.is_merged else send_entries(kinds)
     if run.scenario.deaths:
         found.append((filled(DEAD), "a cub is dead"))
     if run.scenario.faults:
@@ -479,14 +527,6 @@ def send_entries(kinds):
         found.append((sends_swatch(6), "a cub sends a piece"))
     if set(kinds) - {"whole"}:
         found.append((unsent_swatch, "a block is due that its cub does not send"))
-    return found
-
-
-def merged_entries(kinds):
-    """The entries of sends that are drawn as one."""
-    found = [(filled(MERGED), "a cub sends blocks or pieces")]
-    if set(kinds) - {"whole", "pieces"}:
-        found.append((filled(RED["read"]), "a block is due at the cub, and missing"))
     return found
 
 

@@ -111,6 +111,42 @@ def drawn_pictures(tiger, folder):
             yield f"a picture of {name!r}", "" if good else f"status {made.status}, '{program.first_line(made.err)}'"
 
 
+def picture_of(folder, scenario, report):
+    """The picture of a scenario and a report, by the tool."""
+    put(folder, "told.json", scenario)
+    with open(os.path.join(folder, "told.stdout"), "wb") as file:
+        file.write(report)
+    return tool("picture", ["told.json", "--report", "told.stdout"], folder).out
+
+
+def house():
+    """A scenario with two thousand viewers and its report: each has two whole blocks, but that of slot 9 misses both."""
+    scenario = {**no_one(), "plan": {**small_plan(), "slots": 2000}, "beats": 2000,
+                "events": [{"beat": 0, "start": 0}] * 2000}
+    lines = []
+    for slot in range(2000):
+        due = slot * 8 * 1000000 // 2000
+        how = ["missing dead"] * 2 if slot == 9 else [f"whole 4 sent {(due + at * 1000000) // 10000}" for at in (0, 1)]
+        lines += [f"start {slot} file 0 slot {slot} first 0", f"block 0 due {due} {how[0]}",
+                  f"block 1 due {due + 1000000} {how[1]}",
+                  f"end {slot} whole 0 pieces 0 missing 0 bytes 0 sha256 {'0' * 64}"]
+    lines.append("total starts 2000 placed 2000 whole 3998 pieces 0 missing 2")
+    return scenario, "".join(line + "\n" for line in lines).encode()
+
+
+def told_pictures(folder):
+    """A viewer whose first blocks are not whole has its number; missing blocks are seen in a large house too, in no other
+    red than that of their reason."""
+    report = content(os.path.join(EXAMPLES, "full-house.stdout")).replace(
+        b"block 0 due 500000 whole 4 sent 50", b"block 0 due 500000 missing read")
+    svg = picture_of(folder, json.loads(content(os.path.join(EXAMPLES, "full-house.json"))), report)
+    yield "the number of a viewer that misses its first block", "" if b">viewer 0</text>" in svg else "it is not there"
+    svg = picture_of(folder, *house())
+    yield "the slot with missing blocks", "" if b"<title>viewer 9 plays" in svg else "it is not drawn"
+    yield "the row of missing blocks", "" if b">missing, to 1</text>" in svg else "it is not there"
+    yield "the red of another reason", "it is there" if b"#e0312a" in svg or b"#8a0f16" not in svg else ""
+
+
 def no_pictures(tiger, folder):
     """A refused scenario has the program's line and status, and what does not fit together says so."""
     put(folder, "refused.json", {**no_one(), "beats": 0})
@@ -250,6 +286,7 @@ def all_of_them(tiger, folder):
     """Each check's name, and what it found; nothing if all is well. The folder has the examples and their files."""
     yield from kept_pictures()
     yield from drawn_pictures(tiger, folder)
+    yield from told_pictures(folder)
     yield from no_pictures(tiger, folder)
     yield from same_tables()
     yield from explained(tiger, folder)
