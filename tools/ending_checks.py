@@ -17,7 +17,7 @@ STAND_INS = {  # programs that are not this one
     "true": "exit 0",
     "crashes": "kill -SEGV $$",
     "other": "echo 'total starts 1'",
-    "hangs": "echo $$ >>begun; exec sleep 600",
+    "hangs": "exec sleep 600",
 }
 WRONG = (  # words that a tool does not take
     "stress 1 0", "stress 1 -1", "stress x 1", "stress 1 1 --program /nowhere", "stress 1 1 --wait 0", "draw 1 0",
@@ -83,12 +83,13 @@ def nothing_to_try(tiger, folder):
 def interrupted(folder):
     """SIGINT ends a tool and the program that it runs, with what was found and status 130."""
     begun = os.path.join(folder, "begun")
+    path = os.path.join(folder, "runs-on")
+    with open(path, "w", encoding="ascii") as file:
+        file.write(f"#!/bin/sh\necho $$ >>'{begun}'\nexec sleep 600\n")
+    os.chmod(path, 0o755)
     for words, said in (("stress 1 1", b"stress: 0 agreed, 0 differed\n"), ("deaths", b"deaths: 0 passed, 0 failed\n"),
                         ("bench made", b"")):
-        path = os.path.join(folder, "hangs")
         name, *others = words.split()
-        with open(path, "w", encoding="ascii") as file:
-            file.write(f"#!/bin/sh\necho $$ >>'{begun}'\nexec sleep 600\n")
         running = subprocess.Popen([sys.executable, os.path.join(tool_checks.TOOLS, name), "--program", path, *others],
                                    cwd=folder, stdout=subprocess.PIPE, stderr=subprocess.PIPE, preexec_fn=heeds)
         processes = lines_of(begun)
