@@ -47,7 +47,8 @@ def keys_wrong(name, value, needed, optional=()):
     other = [key for key in value if key not in (*needed, *optional)]
     found = [f"has no key {', '.join(missing)}"] if missing else []
     if other:
-        found.append(f"has the key{'s' if len(other) > 1 else ''} {', '.join(map(shown, other))}, which no such object has")
+        keys = "keys" if len(other) > 1 else "key"
+        found.append(f"has the {keys} {', '.join(map(shown, other))}, which no such object has")
     return f"{name} {' and '.join(found)}" if found else ""
 
 

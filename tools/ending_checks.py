@@ -1,6 +1,6 @@
-"""Checks of how the tools end, for tools/check-program: that none passes with a program that is missing, that crashes, that
-hangs or that prints something else, or if there is nothing to try; that a wrong word is one line and status 64; and that
-a signal ends a tool, and the launcher with the program."""
+"""Checks of how the tools end, for tools/check-program: that none passes with a program that is missing, crashes, hangs or
+prints something else, or if there is nothing to try; that a wrong word is one line and status 64; and that a signal ends
+a tool, and the launcher with the program."""
 import os
 import pty
 import signal
@@ -23,11 +23,13 @@ WRONG = (  # words that a tool does not take
     "stress 1 0", "stress 1 -1", "stress x 1", "stress 1 1 --program /nowhere", "stress 1 1 --wait 0", "draw 1 0",
     "draw 1 1 --jobs 0", "draw 1 1 --minutes 0", "draw 1 1 --minutes -1", "draw 1 1 --minutes nan", "draw 1",
     "draw 1 1 --reference /nowhere", "conformance --cases /nowhere", "conformance run", "conformance --workers 65",
-    "conformance --jobs 0", "conformance --program /nowhere", "deaths --jobs 0", "deaths --program /nowhere", "deaths x",
+    "conformance --jobs 0", "conformance --program /nowhere", "deaths --jobs 0", "deaths --program /nowhere",
+    "deaths x",
     "bench --rounds 0", "bench --workers 0", "bench nothing", "bench --beside /nowhere", "hostile 1 0", "hostile",
     "hostile --costs --tiger /nowhere", "hostile 1 1 --program /nowhere", "refuse-allocations --last 0",
     "refuse-allocations --workers 0", "refuse-rules --only nothing-of-this-name", "refuse-rules --libraries /nowhere",
-    "wrong-bodies nothing", "explain", "picture", "picture one.json --at x", "check-program --program /nowhere", "build x")
+    "wrong-bodies nothing", "explain", "picture", "picture one.json --at x", "check-program --program /nowhere",
+    "build x")
 TRIES = (  # the words of tools that try a program, whichever it is
     "stress 1 1", "draw 1 2 --reference PROGRAM", "conformance made", "deaths", "bench made --rounds 1", "hostile 1 1",
     "refuse-allocations --last 1")
@@ -66,13 +68,15 @@ def no_program(folder):
                 continue  # (400 runs that hang)
             got = tool(words, folder, name)
             good = got.status in (1, program.NO_REFERENCE) and not has_traceback(got)
-            yield f"'{words}' with a program that is '{name}'", "" if good else f"status {got.status}, '{got.err.decode()}'"
+            what = f"'{words}' with a program that is '{name}'"
+            yield what, "" if good else f"status {got.status}, '{got.err.decode()}'"
 
 
 def nothing_to_try(tiger, folder):
     """A tool that has nothing to try, or cannot write what it draws, fails with one line."""
     os.makedirs(os.path.join(folder, "no cases", "runs"))
-    for name, words in (("conformance", ["--cases", "no cases"]), ("conformance", ["--cases", "no cases", "--unproved"]),
+    for name, words in (("conformance", ["--cases", "no cases"]),
+                        ("conformance", ["--cases", "no cases", "--unproved"]),
                         ("draw", ["1", "1", "--reference", tiger, "--write", "/dev/null/x"])):
         got = tool_checks.tool(name, ["--program", tiger, *words], folder)
         good = got.status == 1 and got.out == b"" and got.err.count(b"\n") == 1

@@ -24,7 +24,7 @@ PATIENCE = 5  # seconds that a command has to end by itself
 
 
 class Stopped(BaseException):
-    """A signal that ends this process. Those that come after it change nothing, so that the clean-up goes to its end."""
+    """A signal that ends this process. Those behind it change nothing, so that the clean-up goes to its end."""
 
     has_come = False
 

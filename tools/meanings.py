@@ -22,8 +22,8 @@ RULES = {  # what is wrong, and how to mend it
         "write one JSON value: look for a bracket or quotation mark that is missing, a comma too many, a byte order "
         "mark at the beginning"),
     2: ("the value is no object, a needed key is missing, or another key stands there",
-        "write the five needed keys `plan`, `beats`, `links`, `files` and `events`, and no others but `offsets`, `deaths` "
-        "and `read_faults`"),
+        "write the five needed keys `plan`, `beats`, `links`, `files` and `events`, and no others but `offsets`, "
+        "`deaths` and `read_faults`"),
     3: ("`plan` is no object, or one of its keys is missing, out of its range or no number, or it has another key",
         "give each of the 18 keys a number in its range, and take another key out"),
     4: ("a condition of the plan is false", "see the next table"),

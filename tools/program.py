@@ -137,7 +137,7 @@ def run(command, folder, is_limited=True, **how):
 
 
 def ended(process, seconds):
-    """How a process ends; one that does not end in so many seconds, if there is a limit, is killed and counts as hung."""
+    """How a process ends; one that does not end in so many seconds, if a limit is given, is killed: it hung."""
     with process:
         try:
             out, err = process.communicate(timeout=seconds)

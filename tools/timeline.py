@@ -191,11 +191,12 @@ def draw_missing(picture, y, missing):
         bottom = float(y + HIGH)
         for reason in REASONS:
             high = HIGH * missing[column, reason] / most
-            steps[reason].append(f"M{column * COLUMN} {number(bottom)}h{COLUMN}v{number(-high)}h{-COLUMN}z" if high else "")
+            if high:
+                steps[reason].append(f"M{column * COLUMN} {number(bottom)}h{COLUMN}v{number(-high)}h{-COLUMN}z")
             bottom -= high
     draw_label(picture, y, HIGH, f"missing, to {most}")
     for reason in REASONS:
-        picture.drawing.path(list(filter(None, steps[reason])), fill=RED[reason])
+        picture.drawing.path(steps[reason], fill=RED[reason])
     return y + HIGH + 6
 
 

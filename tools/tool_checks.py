@@ -120,7 +120,7 @@ def picture_of(folder, scenario, report):
 
 
 def house():
-    """A scenario with two thousand viewers and its report: each has two whole blocks, but that of slot 9 misses both."""
+    """A scenario with 2000 viewers and its report; each has two whole blocks, and that of slot 9 misses both."""
     scenario = {**no_one(), "plan": {**small_plan(), "slots": 2000}, "beats": 2000,
                 "events": [{"beat": 0, "start": 0}] * 2000}
     lines = []
@@ -135,8 +135,8 @@ def house():
 
 
 def told_pictures(folder):
-    """A viewer whose first blocks are not whole has its number; missing blocks are seen in a large house too, in no other
-    red than that of their reason."""
+    """A viewer whose first blocks are not whole has its number; missing blocks are seen in a large house too, in no
+    other red than that of their reason."""
     report = content(os.path.join(EXAMPLES, "full-house.stdout")).replace(
         b"block 0 due 500000 whole 4 sent 50", b"block 0 due 500000 missing read")
     svg = picture_of(folder, json.loads(content(os.path.join(EXAMPLES, "full-house.json"))), report)
