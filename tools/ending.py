@@ -54,6 +54,7 @@ def program_of(given):
     that the build ends too."""
     if given.program and not (os.path.isfile(given.program) and os.access(given.program, os.X_OK)):
         raise Unfit(f"{given.program} cannot be run")
+    given.program = given.program and os.path.abspath(given.program)
     kept = {number: signal.getsignal(number) for number in ENDING if signal.getsignal(number) != signal.SIG_IGN}
     for number in kept:
         signal.signal(number, signal.default_int_handler if number == signal.SIGINT else signal.SIG_DFL)
