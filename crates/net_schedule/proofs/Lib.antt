@@ -1,0 +1,4 @@
+pub mod Lists
+pub mod Rows
+pub mod Search
+pub mod Sound
