@@ -1,4 +1,11 @@
+pub mod Capacity
+pub mod Dominated
+pub mod Finds
+pub mod Linked
 pub mod Lists
-pub mod Rows
+pub mod Places
+pub mod Partly
 pub mod Search
 pub mod Sound
+pub mod Turns
+pub mod Worldly

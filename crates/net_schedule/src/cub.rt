@@ -2,7 +2,7 @@
 //! predecessor's.
 ghost use Rattle.std.specs.Prelude.{ℕ, ◌≡◌, ◌+◌, ◌*◌, ◌<◌, ◌≤◌, ◌++◌, true, false, find, filter, not, length, take, None, Some, option_map, IfOk, OnOk, OnErr};
 ghost use Rattle.net_schedule.specs.Rings.{IsRing, IsOwnQuantum, most_quanta};
-ghost use Rattle.net_schedule.specs.Cubs.{first_over, fresh_cub, answer_to, state_of, with_ask, asking, is_asked, is_of, is_for, is_live, with_own, with_kept, counts, waits, standing, with_stop, stopping, CanTake, taking, sending, renewing, reserving, confirming, IsLonger, reserved, answer_to_reserve, confirmed, refused, released, in_state, is_kept, IsOwnOf, IsKeptOf};
+ghost use Rattle.net_schedule.specs.Cubs.{first_over, fresh_cub, answer_to, state_of, with_ask, asking, is_asked, is_of, is_for, is_live, with_own, with_kept, counts, waits, standing, with_stop, stopping, CanTake, taking, sending, renewing, reserving, confirming, IsLonger, reserved, answer_to_reserve, confirmed, refused, released, in_state, is_kept, IsOwnOf, IsKeptOf, IsSound};
 ghost use Rattle.net_schedule.specs.declared.ring.NetState.TheVariants.{Placed};
 
 use crate::entries::{drop_kept, found, found_kept, is_kept, put_kept, put_own, set_state};
@@ -189,6 +189,13 @@ impl NetCub {
         Some(own.state)
     }
 
+    /// Whether an entry was asked here with an instance.
+    pub fn is_asked(&self, v: Instance) -> bool
+        ensures { result ≡ is_asked self.now.own v }
+    {
+        self.own.iter().any(|o| o.entry.instance.0 == v.0)
+    }
+
     /// Sends the Reserve of each entry that waits and the Confirm of each that is kept again, since
     /// the first may have been lost; each by instance. Without memory nothing is sent.
     pub fn renew(&self, out: &mut Vec<Packet>) -> Result<(), NoMemory>
@@ -203,9 +210,11 @@ impl NetCub {
         sent
     }
 
-    /// Lends the entries that were asked of the cub, by instance.
+    /// Lends the entries that were asked of the cub, by instance. None of its quanta carries more
+    /// than the capacity.
     pub fn own(&self) -> &[Own]
-        ensures { result.now ≡ self.now.own }
+        ensures own { result.now ≡ self.now.own }
+        ensures sound { IsSound self.now }
     {
         self.own.as_slice()
     }

@@ -8,7 +8,13 @@ mod entries;
 mod loads;
 mod packet;
 mod ring;
+pub mod rows;
+#[cfg(test)]
+mod tests;
+mod turn;
+mod world;
 
 pub use cub::{Asked, NetCub};
 pub use packet::Packet;
 pub use ring::{Entry, NetRing, NetState, Own};
+pub use world::{NetEvent, NetStop, NetWorld};

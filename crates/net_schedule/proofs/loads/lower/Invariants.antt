@@ -1,5 +1,5 @@
 use Rattle.net_schedule.specs.Cubs.{kept_rate}
-use Rattle.net_schedule.proofs.Rows.{IsPartly}
+use Rattle.net_schedule.proofs.Partly.{IsPartly}
 use Rattle.std.proofs.Common.{◌≡◌, ◌+◌, ℕ}
 use Rattle.net_schedule.proofs.loads.lower.Given as goal
 
