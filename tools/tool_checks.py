@@ -27,8 +27,9 @@ HOSTILE = "a<b>&\"'\x1b[31m\u202e\u0301\U0001f600]]>" + "\u9bca" * 40  # a file'
 
 
 def tool(name, words, folder):
-    """How a tool ends on these words in a folder."""
-    return program.run([sys.executable, os.path.join(TOOLS, name), *words], folder)
+    """How a tool ends on these words in a folder, which has what the tool leaves too."""
+    return program.run([sys.executable, os.path.join(TOOLS, name), *words], folder,
+                       env={**os.environ, "TMPDIR": os.path.abspath(folder)})
 
 
 def content(path):
