@@ -137,7 +137,7 @@ def ends(process):
 
 def launched(copy, text):
     """The launcher of a copy with this text as its program and a terminal as standard error, and the terminal."""
-    copy.write("crates/tiger_run/out/tiger_run", f"#!/bin/sh\n{text}\n")
+    copy.write("crates/tiger_main/out/tiger_main", f"#!/bin/sh\n{text}\n")
     subprocess.run(["/bin/sh", "-c", '. tools/built.sh && record "$(sources_sum)"'], cwd=copy.top, check=True,
                    env={**os.environ, "PATH": copy.path})
     ours, theirs = pty.openpty()
@@ -180,8 +180,8 @@ def shown_on(ours):
 def first_words(tiger, folder):
     """What the launcher answers before a build is what the program answers."""
     copy = launcher_checks.Copy(folder)
-    with open(os.path.join(program.TOP, "crates/tiger_run/src/main.rt"), encoding="utf-8") as file:
-        copy.write("crates/tiger_run/src/main.rt", file.read())
+    with open(os.path.join(program.TOP, "crates/tiger_main/src/main.rt"), encoding="utf-8") as file:
+        copy.write("crates/tiger_main/src/main.rt", file.read())
     for words in (["--help"], ["--version"], [], ["help"], ["--help", "x"], ["run", "gone", "1"], ["run", "", "1"],
                   ["run", "crates", "1"], ["run", "gone", "65"], ["run", "gone", "01"], ["run", b"\xff", "1"],
                   ["make", "01"], ["make", "18446744073709551616"], ["make", "1", "1"]):
