@@ -135,6 +135,13 @@ def ends(process):
     return False
 
 
+def begins_group():
+    """Has a process begin a group of its own and heed the signals that end it, also below `nohup` and in the background."""
+    os.setpgrp()
+    for number in (signal.SIGHUP, signal.SIGINT, signal.SIGTERM):
+        signal.signal(number, signal.SIG_DFL)
+
+
 def launched(copy, text):
     """The launcher of a copy with this text as its program and a terminal as standard error, and the terminal."""
     copy.write("crates/tiger_main/out/tiger_main", f"#!/bin/sh\n{text}\n")
@@ -142,7 +149,7 @@ def launched(copy, text):
                    env={**os.environ, "PATH": copy.path})
     ours, theirs = pty.openpty()
     started = subprocess.Popen([os.path.join(copy.top, "tiger"), "make", "1"], cwd=copy.top, stdin=subprocess.DEVNULL,
-                               stdout=subprocess.PIPE, stderr=theirs, preexec_fn=os.setpgrp,
+                               stdout=subprocess.PIPE, stderr=theirs, preexec_fn=begins_group,
                                env={**os.environ, "PATH": copy.path})
     os.close(theirs)
     return started, ours
