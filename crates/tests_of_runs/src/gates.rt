@@ -133,7 +133,16 @@ struct Assembly {
 impl Assembly {
     fn new() -> Assembly {
         Assembly {
-            reads: [const { AtomicU64::new(0) }; 8],
+            reads: [
+                AtomicU64::new(0),
+                AtomicU64::new(0),
+                AtomicU64::new(0),
+                AtomicU64::new(0),
+                AtomicU64::new(0),
+                AtomicU64::new(0),
+                AtomicU64::new(0),
+                AtomicU64::new(0),
+            ],
             held: AtomicU64::new(0),
             met: AtomicU64::new(0),
         }
