@@ -59,7 +59,7 @@ def program_of(given):
     for number in kept:
         signal.signal(number, signal.default_int_handler if number == signal.SIGINT else signal.SIG_DFL)
     try:
-        return program.program_of(given)
+        return given.program or program.built()
     except KeyboardInterrupt:
         raise Stopped(signal.SIGINT)
     finally:
