@@ -49,10 +49,11 @@ class Edit:
 
 
 class Function:
-    """A function of a source file: its name, the line of its head, and the first and the last line of its body."""
+    """A function of a source file: its name, the line of its first attribute (of its head, if it has none) and of its head,
+    and the first and the last line of its body."""
 
-    def __init__(self, name, head, first, last):
-        self.name, self.head, self.first, self.last = name, head, first, last
+    def __init__(self, name, top, head, first, last):
+        self.name, self.top, self.head, self.first, self.last = name, top, head, first, last
 
 
 def functions_in(lines):
@@ -63,7 +64,10 @@ def functions_in(lines):
             opens = re.compile(head[1] + r"(?! ).*\{$")
             first = next((n for n in range(number, len(lines) + 1) if opens.match(lines[n - 1])), len(lines))
             last = next((n for n in range(first, len(lines) + 1) if lines[n - 1] == head[1] + "}"), len(lines))
-            yield Function(head[2], number, first, last)
+            top = number
+            while lines[top - 2].startswith(head[1] + "#["):
+                top -= 1
+            yield Function(head[2], top, number, first, last)
 
 
 def path_of(file, lines, function):
@@ -81,7 +85,7 @@ def changed_body(edit, text):
     for old, _ in edit.pairs:
         line = text[:text.find(old)].count("\n") + 1
         inside = [it for it in functions_in(text.split("\n")) if it.first < line < it.last]
-        found.update([(it.name, it.head, it.first, it.last) for it in inside[-1:]] or [None])
+        found.update([(it.name, it.top, it.head, it.first, it.last) for it in inside[-1:]] or [None])
     return Function(*found.pop()) if len(found) == 1 and None not in found else None
 
 
@@ -140,7 +144,7 @@ def is_of(line, edit, function):
     """Whether a line of a check refuses a function: it names a place in it, or in the proofs of its goals."""
     source, proofs = IN_SOURCE.match(line), IN_PROOFS.match(line)
     if source:
-        return source[1] == edit.file and function.head <= int(source[2]) <= function.last
+        return source[1] == edit.file and function.top <= int(source[2]) <= function.last
     if proofs and not OF_NAMES.search(line):
         module = edit.file[len("src/"):-len(".rt")]
         return re.fullmatch(rf"(?:{module}/)?(?:\w+/)?{function.name}", proofs[1]) is not None
