@@ -12,7 +12,6 @@ use Rattle.scenario_read.specs.Meaning.{said_by, meaning}
 use Rattle.scenario_read.specs.Sound.{IsScenario}
 use Rattle.scenario_make.specs.Made.{made_scenario, made_library}
 use Rattle.ring_facts.specs.Rings.{IsRingRun}
-use Rattle.ring_answer.specs.Answers.{IsOnlyRun}
 use Rattle.kept_worlds.specs.Worlds.{IsWorld}
 use Rattle.run_report.specs.Text.{report_text}
 use Rattle.outside.specs.Told.{Told, bytes, FilesState}
@@ -47,7 +46,7 @@ clock_in k = reading_of k.course (controller_of (links_of (plan_in k)))
 pub record IsRunFor (scenario : Scenario) (library : List (List ℕ)) (k : Kept) : Type 0 where
   pub sound : IsScenario scenario
   pub ran : IsRingRun OpenGate scenario library k
-  pub only : IsOnlyRun OpenGate scenario library k
+  pub only : (other : Kept) → IsRingRun OpenGate scenario library other → other ≡ k
   pub world : IsWorld OpenGate library k
 
 -- What is kept is a run of the scenario that is told under this name: the told bytes are that
