@@ -1,6 +1,6 @@
 -- No quantum of a ring carries more than the capacity, and all that is kept was asked for.
-use Rattle.std.proofs.Common.{eq-eqb, eq-zero-or-pos, ◌≡◌, ◌∙◌, ℕ, zero, suc, ◌+◌, ◌*◌, ◌-◌, ◌/◌, ◌%◌, ◌<◌, ◌≤◌, ◌&&◌, ◌||◌, ◌==◌, Bool, true, false, not, cond, List, [], ◌∷◌, ◌++◌, Some, None, length, refl, sym, ap, subst, arith, ⊎_elim, inl, inr, lt_of_mul-lt-mul_right, suc-mul, add-mul, nat_le, nat_lt}
-use Rattle.std.specs.Prelude.{find, sum_by, flat_map, ◌⊎◌}
+use Rattle.std.proofs.Common.{eq-eqb, eq-zero-or-pos, ◌≡◌, ◌∙◌, ℕ, suc, ◌+◌, ◌*◌, ◌-◌, ◌/◌, ◌%◌, ◌<◌, ◌≤◌, ◌&&◌, ◌||◌, ◌==◌, Bool, true, false, cond, List, [], ◌∷◌, Some, length, refl, sym, ap, subst, arith, ⊎_elim, inl, inr, lt_of_mul-lt-mul_right, suc-mul, add-mul, nat_le, nat_lt}
+use Rattle.std.specs.Prelude.{find, sum_by, ◌⊎◌}
 use Rattle.std.specs.List.{AllByRecursion}
 use Rattle.std.proofs.Math.Nat.{div-add-mod, mod-lt, mul_comm}
 use Rattle.std.proofs.lemmas.Bool.{eqb-true, ltb-true, leb-true}
@@ -12,13 +12,13 @@ use Rattle.net_schedule.specs.declared.ring.NetState.{NetState}
 use Rattle.net_schedule.specs.declared.ring.NetState.TheVariants as state
 use Rattle.net_schedule.specs.declared.ring.Own.{Own}
 use Rattle.net_schedule.specs.Rings.{IsRing, IsOwnQuantum, takes, reaches, quanta_in, next_of, before}
-use Rattle.net_schedule.specs.Cubs.{CubState, IsSound, IsOwnOf, IsKeptOf, number_of, is_live, is_placed, is_of, is_for, own_rate, kept_rate, carried}
+use Rattle.net_schedule.specs.Cubs.{CubState, IsOwnOf, number_of, is_live, is_placed, is_of, is_for, own_rate, kept_rate}
 use Rattle.net_schedule.specs.Worlds.{WorldState, cub_at}
 use Rattle.net_schedule.specs.Links.{IsSeated, IsWorld}
-use Rattle.net_schedule.specs.Claims.{placed_rate, all_own, ring_sum, KeepsToCapacity, KeepsWhatIsAsked}
-use Rattle.net_schedule.proofs.Finds.{clash, all_found}
+use Rattle.net_schedule.specs.Claims.{placed_rate, ring_sum, KeepsToCapacity, KeepsWhatIsAsked}
+use Rattle.net_schedule.proofs.Finds.{all_found}
 use Rattle.net_schedule.proofs.Sound.{found_all, few_before}
-use Rattle.net_schedule.proofs.Places.{split, not_same, differ, next_not, before_not, next_before, before_next}
+use Rattle.net_schedule.proofs.Places.{split, not_same, differ, next_not, next_before, before_next}
 use Rattle.net_schedule.proofs.Dominated.{Has, dominated, sum_of_parts, share, share_here, sum_of_shares}
 
 -- an entry of cub d that takes a quantum of cub c is of that cub, or of the one before it and begins behind its first quantum

@@ -1,6 +1,6 @@
 -- A list of which each element that counts has an element of its own in another list sums to no more than that.
-use Rattle.std.proofs.Common.{◌≡◌, ◌∙◌, ℕ, zero, suc, ◌+◌, ◌<◌, ◌≤◌, ◌==◌, Bool, true, false, not, cond, List, [], ◌∷◌, ◌++◌, length, get_or, Some, None, refl, sym, ap, subst, arith, ⊎_elim, inl, inr, eq-zero-or-pos, eq-eqb}
-use Rattle.std.specs.Prelude.{filter, find, sum_by, flat_map, ◌⊎◌}
+use Rattle.std.proofs.Common.{◌≡◌, ◌∙◌, ℕ, zero, suc, ◌+◌, ◌<◌, ◌≤◌, ◌==◌, Bool, true, false, not, cond, List, [], ◌∷◌, length, get_or, Some, refl, sym, ap, subst, arith, ⊎_elim, eq-zero-or-pos}
+use Rattle.std.specs.Prelude.{filter, find, sum_by, flat_map}
 use Rattle.std.specs.List.{AllByRecursion}
 use Rattle.std.proofs.lemmas.Bool.{eqb-true}
 use Rattle.std.proofs.lemmas.List.Sums.{sum_by-cons, sum_by-append}

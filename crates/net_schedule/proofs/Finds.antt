@@ -1,5 +1,5 @@
 -- What is found in a list of entries once it has changed.
-use Rattle.std.proofs.Common.{◌≡◌, ◌∙◌, ℕ, ◌<◌, ◌&&◌, ◌||◌, ◌==◌, Bool, true, false, not, cond, List, [], ◌∷◌, ◌++◌, Some, None, Option, refl, sym, ap, subst, arith, nat_lt, eq-eqb}
+use Rattle.std.proofs.Common.{◌≡◌, ◌∙◌, ℕ, ◌<◌, ◌||◌, ◌==◌, Bool, true, false, not, cond, List, [], ◌∷◌, Some, None, Option, refl, sym, ap, subst, arith, nat_lt, eq-eqb}
 use Rattle.std.specs.Prelude.{filter, find}
 use Rattle.std.specs.List.{AllByRecursion, list_any}
 use Rattle.std.proofs.lemmas.Bool.{eqb-true}
@@ -7,7 +7,7 @@ use Rattle.tiger_base.specs.declared.number.Instance.{Instance}
 use Rattle.net_schedule.specs.declared.ring.Entry.{Entry}
 use Rattle.net_schedule.specs.declared.ring.NetState.{NetState}
 use Rattle.net_schedule.specs.declared.ring.Own.{Own}
-use Rattle.net_schedule.specs.Cubs.{IsRising, is_of, is_for, is_asked, number_of, put_in, with_state}
+use Rattle.net_schedule.specs.Cubs.{IsRising, is_of, is_for, put_in, with_state}
 
 pub clash : {t : Bool} → t ≡ true → t ≡ false → ⊥
 clash a b = cc

@@ -1,10 +1,9 @@
 -- What holds between a cub and its successor stays, whichever of the two has a turn.
-use Rattle.std.proofs.Common.{◌≡◌, ◌∙◌, ℕ, suc, ◌+◌, ◌-◌, ◌<◌, ◌≤◌, ◌&&◌, ◌||◌, ◌==◌, Bool, true, false, not, cond, List, [], ◌∷◌, ◌++◌, map, Some, None, Option, refl, sym, ap, subst, arith, ⊎_elim, inl, inr, eq-eqb}
-use Rattle.std.specs.Prelude.{filter, find, ◌⊎◌}
-use Rattle.std.specs.List.{AllByRecursion, list_any}
+use Rattle.std.proofs.Common.{◌≡◌, ◌∙◌, ℕ, ◌==◌, Bool, true, false, not, List, [], ◌∷◌, ◌++◌, Some, None, refl, sym, ap, subst, ⊎_elim, inl, inr, eq-eqb}
+use Rattle.std.specs.Prelude.{filter, find}
+use Rattle.std.specs.List.{AllByRecursion}
 use Rattle.std.proofs.lemmas.Bool.{eqb-true}
 use Rattle.tiger_base.specs.declared.number.Instance.{Instance}
-use Rattle.tiger_base.specs.declared.number.CubNo.{CubNo}
 use Rattle.net_schedule.specs.declared.ring.NetRing.{NetRing}
 use Rattle.net_schedule.specs.declared.ring.Entry.{Entry}
 use Rattle.net_schedule.specs.declared.ring.NetState.{NetState}
@@ -12,10 +11,10 @@ use Rattle.net_schedule.specs.declared.ring.NetState.TheVariants as state
 use Rattle.net_schedule.specs.declared.ring.Own.{Own}
 use Rattle.net_schedule.specs.declared.packet.Packet.{Packet}
 use Rattle.net_schedule.specs.declared.packet.Packet.TheVariants as packet
-use Rattle.net_schedule.specs.Rings.{IsRing, reaches, next_of, before}
+use Rattle.net_schedule.specs.Rings.{reaches}
 use Rattle.net_schedule.specs.Cubs.{is_of, is_for, is_asked, is_live, is_placed, number_of, put_in, with_state}
 use Rattle.net_schedule.specs.Links.{IsAskedFar, IsConfirmed, IsEnded, IsTrueOf, IsLink}
-use Rattle.net_schedule.proofs.Finds.{clash, same_instance, one_some, never, none_any, passes, put_found, put_others, state_found, state_others, released_none, released_others}
+use Rattle.net_schedule.proofs.Finds.{clash, same_instance, one_some, never, none_any, put_found, put_others, state_found, state_others, released_none, released_others}
 
 pub all_map : {X : Type 0} (P Q : X → Type 0) (xs : List X) → ((x : X) → P x → Q x) → AllByRecursion P xs → AllByRecursion Q xs
 all_map P Q [] f h = tt

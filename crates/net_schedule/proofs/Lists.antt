@@ -1,16 +1,15 @@
 -- Lists of entries by instance: what a further entry, another state and a release change.
-use Rattle.std.proofs.Common.{◌≡◌, ◌∙◌, ℕ, zero, suc, ◌+◌, ◌<◌, ◌≤◌, ◌&&◌, ◌||◌, ◌==◌, Bool, true, false, not, cond, List, [], ◌∷◌, ◌++◌, length, get_or, take, drop, Some, None, Option, refl, sym, ap, subst, arith, nat_lt, ⊎_elim, eq-or-lt_of_le, eq-eqb}
+use Rattle.std.proofs.Common.{◌≡◌, ◌∙◌, ℕ, zero, suc, ◌+◌, ◌<◌, ◌≤◌, ◌||◌, ◌==◌, Bool, true, false, not, cond, List, [], ◌∷◌, ◌++◌, length, get_or, take, drop, Some, None, refl, sym, ap, subst, arith, nat_lt, ⊎_elim, eq-or-lt_of_le, eq-eqb}
 use Rattle.std.proofs.Math.ListN.{set}
 use Rattle.std.specs.Prelude.{filter, find, sum_by}
 use Rattle.std.specs.List.{AllByRecursion, list_any}
-use Rattle.std.proofs.lemmas.Bool.{ltb-true, ltb-false, eqb-true, eqb-false}
+use Rattle.std.proofs.lemmas.Bool.{ltb-true, ltb-false, eqb-true}
 use Rattle.std.proofs.lemmas.List.Sums.{sum_by-cons}
 use Rattle.tiger_base.specs.declared.number.Instance.{Instance}
 use Rattle.net_schedule.specs.declared.ring.NetRing.{NetRing}
 use Rattle.net_schedule.specs.declared.ring.Entry.{Entry}
 use Rattle.net_schedule.specs.declared.ring.NetState.{NetState}
 use Rattle.net_schedule.specs.declared.ring.Own.{Own}
-use Rattle.net_schedule.specs.Rings.{takes}
 use Rattle.net_schedule.specs.Cubs.{IsRising, is_live, is_of, is_for, number_of, put_in, with_state, own_rate, kept_rate}
 
 -- the entry at a place is the instance's: what stands before it stays

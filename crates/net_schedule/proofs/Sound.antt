@@ -1,8 +1,8 @@
 -- A cub stays sound, and its row right, as entries come, end and go.
-use Rattle.std.proofs.Common.{◌≡◌, ◌∙◌, ℕ, zero, suc, ◌+◌, ◌-◌, ◌*◌, ◌<◌, ◌≤◌, ◌&&◌, ◌==◌, Bool, true, false, not, cond, List, [], ◌∷◌, ◌++◌, length, get_or, replicate, Some, None, Option, refl, sym, ap, subst, arith, nat_lt, add-mul, one-mul, ⊎_elim, eq-or-lt_of_le}
+use Rattle.std.proofs.Common.{◌≡◌, ◌∙◌, ℕ, zero, suc, ◌+◌, ◌-◌, ◌*◌, ◌<◌, ◌≤◌, ◌&&◌, ◌==◌, Bool, true, false, not, cond, List, [], ◌∷◌, length, get_or, replicate, Some, None, Option, refl, sym, ap, subst, arith, nat_lt, add-mul, one-mul, ⊎_elim, eq-or-lt_of_le}
 use Rattle.std.specs.Prelude.{filter, find, sum_by, option_map}
-use Rattle.std.specs.List.{AllByRecursion, list_any, range_with_len}
-use Rattle.std.proofs.lemmas.Bool.{ltb-false, eqb-true}
+use Rattle.std.specs.List.{AllByRecursion, range_with_len}
+use Rattle.std.proofs.lemmas.Bool.{ltb-false}
 use Rattle.std.proofs.lemmas.Nat.{mul-le}
 use Rattle.tiger_base.specs.declared.number.Instance.{Instance}
 use Rattle.net_schedule.specs.declared.ring.NetRing.{NetRing}
@@ -10,9 +10,8 @@ use Rattle.net_schedule.specs.declared.ring.Entry.{Entry}
 use Rattle.net_schedule.specs.declared.ring.NetState.{NetState}
 use Rattle.net_schedule.specs.declared.ring.NetState.TheVariants as state
 use Rattle.net_schedule.specs.declared.ring.Own.{Own}
-use Rattle.net_schedule.specs.declared.ring.Over.{Over}
 use Rattle.net_schedule.specs.Rings.{IsRing, IsOwnQuantum, IsEntryOf, takes, before, most_quanta, most_capacity}
-use Rattle.net_schedule.specs.Cubs.{waits, CubState, IsSound, HasLoads, IsOwnOf, IsKeptOf, IsMoreBy, IsRising, is_live, is_waiting, is_of, is_for, is_asked, is_kept, number_of, put_in, with_state, own_rate, kept_rate, carried, first_over, is_over, over_at}
+use Rattle.net_schedule.specs.Cubs.{waits, CubState, IsSound, HasLoads, IsOwnOf, IsKeptOf, IsMoreBy, is_live, is_waiting, is_of, is_for, is_asked, is_kept, number_of, put_in, with_state, own_rate, kept_rate, carried, first_over, is_over, over_at}
 use Rattle.net_schedule.proofs.Lists.{all_put, sum_put, rises_put, all_state, rises_state, sum_ended, sum_same, all_filter, rises_filter, sum_released, not_there}
 
 -- the numbers from a on, n of them, of which none passes a test

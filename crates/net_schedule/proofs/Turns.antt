@@ -1,10 +1,7 @@
 -- A cub's turn leaves what holds between it and its neighbours.
-use Rattle.std.proofs.Common.{◌≡◌, ◌∙◌, ℕ, suc, ◌+◌, ◌-◌, ◌<◌, ◌≤◌, ◌&&◌, ◌||◌, ◌==◌, Bool, true, false, not, cond, List, [], ◌∷◌, ◌++◌, map, Some, None, Option, refl, sym, ap, subst, arith, ⊎_elim, inl, inr, eq-eqb}
+use Rattle.std.proofs.Common.{◌≡◌, ◌∙◌, ℕ, ◌&&◌, Bool, true, false, cond, List, [], ◌∷◌, ◌++◌, map, Some, None, Option, refl, sym, ap, ⊎_elim, inl, eq-eqb}
 use Rattle.std.specs.Prelude.{filter, find, ◌⊎◌}
-use Rattle.std.specs.List.{AllByRecursion, list_any}
-use Rattle.std.proofs.lemmas.Bool.{eqb-true, eqb-false}
-use Rattle.tiger_base.specs.declared.number.Instance.{Instance}
-use Rattle.tiger_base.specs.declared.number.CubNo.{CubNo}
+use Rattle.std.specs.List.{AllByRecursion}
 use Rattle.net_schedule.specs.declared.ring.NetRing.{NetRing}
 use Rattle.net_schedule.specs.declared.ring.Entry.{Entry}
 use Rattle.net_schedule.specs.declared.ring.Over.{Over}
@@ -13,18 +10,16 @@ use Rattle.net_schedule.specs.declared.ring.NetState.TheVariants as state
 use Rattle.net_schedule.specs.declared.ring.Own.{Own}
 use Rattle.net_schedule.specs.declared.packet.Packet.{Packet}
 use Rattle.net_schedule.specs.declared.packet.Packet.TheVariants as packet
-use Rattle.net_schedule.specs.declared.cub.Asked.{Asked}
-use Rattle.net_schedule.specs.declared.cub.Asked.TheVariants as asked
 use Rattle.net_schedule.specs.declared.turn.Turn.{Turn}
 use Rattle.net_schedule.specs.declared.turn.Turn.TheVariants as turn
-use Rattle.net_schedule.specs.Rings.{IsRing, reaches, next_of, before}
-use Rattle.net_schedule.specs.Cubs.{CubState, IsSound, IsOwnOf, is_of, is_for, is_asked, is_kept, is_live, is_placed, is_waiting, waits, counts, is_far, number_of, put_in, with_state, first_over, answered, answer_to, state_of, asked_entry, asking, reserve_of, release_of, confirm_of, refuse_of, stopping, reserving, confirming, renewing, keeping, answering, answer_to_reserve, reserved, confirmed, refused, released, sending, taking}
+use Rattle.net_schedule.specs.Rings.{reaches, next_of, before}
+use Rattle.net_schedule.specs.Cubs.{CubState, IsSound, IsOwnOf, is_of, is_for, is_asked, is_kept, is_live, is_placed, is_waiting, waits, counts, is_far, number_of, put_in, with_state, first_over, answered, answer_to, state_of, asked_entry, asking, reserve_of, release_of, confirm_of, refuse_of, reserving, confirming, renewing, keeping, answering, answer_to_reserve, reserved, confirmed, sending}
 use Rattle.net_schedule.specs.Worlds.{turned, telling, goal_of}
 use Rattle.net_schedule.specs.Links.{IsAskedFar, IsConfirmed, IsEnded, IsTrueOf, IsLink}
 use Rattle.net_schedule.proofs.Finds.{clash, none_any, some_any, put_found, state_found, all_found}
 use Rattle.net_schedule.proofs.Sound.{found_all}
-use Rattle.net_schedule.proofs.Places.{next_not, before_not, next_before, before_next, next_low}
-use Rattle.net_schedule.proofs.Linked.{all_map, all_append, own_changes, more_sent, link_asked, link_state, link_kept, link_released}
+use Rattle.net_schedule.proofs.Places.{next_not, before_not}
+use Rattle.net_schedule.proofs.Linked.{all_map, all_append, more_sent, link_asked, link_state, link_kept, link_released}
 
 -- a packet that cub c sends: to its successor, or to its predecessor
 abbrev pub IsFrom : NetRing → ℕ → Packet → Type 0

@@ -1,11 +1,10 @@
 -- What is claimed of a ring at every moment, whatever the network did.
-use Rattle.std.specs.Prelude.{◌≡◌, ℕ, ◌+◌, ◌<◌, ◌≤◌, ◌&&◌, true, List, ◌++◌, flat_map, sum_by, find, Some, if◌then◌else◌}
+use Rattle.std.specs.Prelude.{◌≡◌, ℕ, ◌<◌, ◌≤◌, ◌&&◌, List, flat_map, sum_by, find, Some, if◌then◌else◌}
 use Rattle.std.specs.List.{AllByRecursion}
 use Rattle.net_schedule.specs.declared.ring.NetRing.{NetRing}
-use Rattle.net_schedule.specs.declared.ring.Entry.{Entry}
 use Rattle.net_schedule.specs.declared.ring.Own.{Own}
-use Rattle.net_schedule.specs.Rings.{IsOwnQuantum, takes, quanta_in, before}
-use Rattle.net_schedule.specs.Cubs.{CubState, is_placed, is_of, carried}
+use Rattle.net_schedule.specs.Rings.{takes, quanta_in, before}
+use Rattle.net_schedule.specs.Cubs.{is_placed, is_of}
 use Rattle.net_schedule.specs.Worlds.{WorldState, cub_at}
 
 -- what an entry takes of a quantum, if it is placed

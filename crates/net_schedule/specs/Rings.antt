@@ -1,5 +1,5 @@
 -- The quanta of a ring: which of them an entry takes, and which cub keeps them.
-use Rattle.std.specs.Prelude.{ℕ, ◌+◌, ◌*◌, ◌-◌, ◌<◌, ◌≤◌, ◌&&◌, ◌||◌, ◌==◌, ◌%◌, not, nat_le, nat_lt, Bool, true, ◌≡◌, if◌then◌else◌}
+use Rattle.std.specs.Prelude.{ℕ, ◌+◌, ◌*◌, ◌-◌, ◌<◌, ◌≤◌, ◌&&◌, ◌||◌, ◌==◌, ◌%◌, not, nat_le, nat_lt, Bool, if◌then◌else◌}
 use Rattle.net_schedule.specs.declared.ring.NetRing.{NetRing}
 use Rattle.net_schedule.specs.declared.ring.Entry.{Entry}
 

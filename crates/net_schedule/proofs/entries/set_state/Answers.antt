@@ -1,7 +1,7 @@
-use Rattle.std.proofs.Common.{◌≡◌, ◌∙◌, true, List, ap, arith, eq-eqb, length, subst, sym}
+use Rattle.std.proofs.Common.{◌≡◌, ◌∙◌, true, List, ap, arith, eq-eqb, length, subst}
 use Rattle.std.specs.Prelude.{slice_set}
 use Rattle.net_schedule.specs.declared.ring.Own.{Own}
-use Rattle.net_schedule.specs.Cubs.{is_of, with_state}
+use Rattle.net_schedule.specs.Cubs.{is_of}
 use Rattle.net_schedule.proofs.Lists.{set_front}
 use Rattle.net_schedule.proofs.entries.set_state.Goals as goal
 

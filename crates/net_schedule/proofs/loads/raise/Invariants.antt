@@ -1,6 +1,6 @@
 use Rattle.net_schedule.specs.Cubs.{kept_rate}
 use Rattle.net_schedule.proofs.Partly.{IsPartly}
-use Rattle.std.proofs.Common.{◌≡◌, ◌+◌, ℕ}
+use Rattle.std.proofs.Common.{◌≡◌, ◌+◌}
 use Rattle.net_schedule.proofs.loads.raise.Given as goal
 
 abbrev pub invariant-loop-i : goal.invariant-loop-i

@@ -1,5 +1,4 @@
 use Rattle.std.proofs.Common.{◌≡◌, Some, find, sym, subst}
-use Rattle.net_schedule.specs.declared.ring.NetState.TheVariants as state
 use Rattle.net_schedule.specs.Cubs.{CubState, is_of}
 use Rattle.net_schedule.proofs.Sound.{ended, has_own, found_low}
 use Rattle.net_schedule.proofs.cub.NetCub.end.Goals as goal

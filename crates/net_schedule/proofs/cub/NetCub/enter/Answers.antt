@@ -1,5 +1,4 @@
-use Rattle.std.proofs.Common.{◌≡◌, ◌∙◌, false, None, sym, subst, ap}
-use Rattle.net_schedule.specs.declared.ring.NetState.TheVariants as state
+use Rattle.std.proofs.Common.{◌≡◌, ◌∙◌, false, None, sym, subst}
 use Rattle.net_schedule.specs.Cubs.{CubState, IsOwnOf, is_asked, first_over}
 use Rattle.net_schedule.proofs.Sound.{entered, entered_idle}
 use Rattle.net_schedule.proofs.cub.NetCub.enter.Goals as goal

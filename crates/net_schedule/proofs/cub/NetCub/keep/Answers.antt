@@ -1,5 +1,4 @@
-use Rattle.std.proofs.Common.{◌≡◌, ◌∙◌, false, None, sym, subst, ap}
-use Rattle.net_schedule.specs.declared.ring.NetState.TheVariants as state
+use Rattle.std.proofs.Common.{◌≡◌, false, None, sym, subst}
 use Rattle.net_schedule.specs.Cubs.{CubState, IsKeptOf, is_kept, first_over}
 use Rattle.net_schedule.proofs.Sound.{kept_too}
 use Rattle.net_schedule.proofs.cub.NetCub.keep.Goals as goal

@@ -1,5 +1,4 @@
-use Rattle.std.proofs.Common.{◌≡◌, ◌∙◌, Some, None, find, sym, subst, ap}
-use Rattle.net_schedule.specs.declared.ring.NetState.TheVariants as state
+use Rattle.std.proofs.Common.{◌≡◌, Some, None, find, subst}
 use Rattle.net_schedule.specs.Cubs.{CubState, is_for}
 use Rattle.net_schedule.proofs.Sound.{released_row, has_kept, found_kept_low, unreleased}
 use Rattle.net_schedule.proofs.cub.NetCub.release.Goals as goal

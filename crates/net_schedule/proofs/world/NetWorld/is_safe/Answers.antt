@@ -1,5 +1,4 @@
 use Rattle.std.proofs.Common.{subst}
-use Rattle.net_schedule.specs.Worlds.{WorldState}
 use Rattle.net_schedule.specs.Claims.{KeepsToCapacity, KeepsWhatIsAsked}
 use Rattle.net_schedule.proofs.Capacity.{capacity, what_is_asked}
 use Rattle.net_schedule.proofs.world.NetWorld.is_safe.Goals as goal

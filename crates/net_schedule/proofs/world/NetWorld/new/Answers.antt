@@ -1,12 +1,4 @@
-use Rattle.std.proofs.Common.{◌≡◌, ◌∙◌, ℕ, ◌+◌, ◌-◌, ◌<◌, ◌++◌, ◌∷◌, [], Some, None, false, true, List, Option, refl, sym, ap, subst, arith}
-use Rattle.std.specs.Prelude.{find, slice_get, slice_set}
-use Rattle.std.specs.Option.{is_some}
-use Rattle.std.specs.List.{range_with_len}
-use Rattle.net_schedule.specs.declared.ring.NetRing.{NetRing}
-use Rattle.net_schedule.specs.declared.world.NetEvent.{NetEvent}
-use Rattle.net_schedule.specs.Cubs.{CubState, is_asked, standing}
-use Rattle.net_schedule.specs.Worlds.{WorldState, cub_at, asked_at, actor_of, turn_of, CanTurn, WasSent, IsPossible, state_at}
-use Rattle.net_schedule.specs.Links.{IsWorld}
+use Rattle.std.proofs.Common.{◌≡◌, arith}
 use Rattle.net_schedule.proofs.Worldly.{pushed, made}
 use Rattle.net_schedule.proofs.world.NetWorld.new.Goals as goal
 

@@ -1,11 +1,7 @@
-use Rattle.std.proofs.Common.{◌≡◌, ◌∙◌, ℕ, ◌+◌, ◌-◌, ◌<◌, ◌++◌, ◌∷◌, [], Some, None, false, true, List, Option, refl, sym, ap, subst, arith}
-use Rattle.std.specs.Prelude.{find, slice_get, slice_set, slice_index_or}
-use Rattle.std.specs.Option.{is_some}
-use Rattle.std.specs.List.{range_with_len}
-use Rattle.net_schedule.specs.declared.ring.NetRing.{NetRing}
-use Rattle.net_schedule.specs.declared.world.NetEvent.{NetEvent}
-use Rattle.net_schedule.specs.Cubs.{CubState, is_asked, standing}
-use Rattle.net_schedule.specs.Worlds.{WorldState, cub_at, asked_at, actor_of, turn_of, CanTurn, WasSent, IsPossible, state_at}
+use Rattle.std.proofs.Common.{◌≡◌, ◌∙◌, ℕ, Some, Option, sym, ap, subst}
+use Rattle.std.specs.Prelude.{slice_index_or}
+use Rattle.net_schedule.specs.Cubs.{CubState, standing}
+use Rattle.net_schedule.specs.Worlds.{WorldState, asked_at, state_at}
 use Rattle.net_schedule.specs.Links.{IsWorld}
 use Rattle.net_schedule.proofs.Worldly.{index_is, asked_some_low}
 use Rattle.net_schedule.proofs.world.NetWorld.state.Goals as goal
