@@ -6,6 +6,9 @@ pub mod Lists
 pub mod Places
 pub mod Partly
 pub mod Search
+pub mod Settles
 pub mod Sound
+pub mod Talked
+pub mod Talks
 pub mod Turns
 pub mod Worldly

@@ -1,7 +1,7 @@
 -- What always holds of a ring holds at first, and stays by each turn.
-use Rattle.std.proofs.Common.{◌≡◌, ◌∙◌, ℕ, zero, suc, ◌+◌, ◌*◌, ◌-◌, ◌/◌, ◌<◌, ◌≤◌, ◌≢◌, ◌&&◌, ◌==◌, Bool, true, false, cond, List, [], ◌∷◌, ◌++◌, map, length, get_or, Some, None, Option, refl, sym, ap, subst, arith, ⊎_elim, inl, inr, eq-eqb, ◌%◌, lt_of_mul-lt-mul_right}
+use Rattle.std.proofs.Common.{◌≡◌, ◌∙◌, ℕ, zero, suc, ◌+◌, ◌*◌, ◌-◌, ◌/◌, ◌<◌, ◌≤◌, ◌==◌, Bool, true, false, cond, List, [], ◌∷◌, ◌++◌, map, length, get_or, Some, None, Option, refl, sym, ap, subst, arith, ⊎_elim, inl, inr, ◌%◌, lt_of_mul-lt-mul_right}
 use Rattle.std.proofs.Math.Nat.{div-add-mod, mod-lt, mul_comm}
-use Rattle.std.specs.Prelude.{◌⊎◌, unwrap_or, find, sum_by, slice_get, slice_set, slice_index_or}
+use Rattle.std.specs.Prelude.{◌⊎◌, unwrap_or, find, slice_get, slice_set}
 use Rattle.std.specs.List.{AllByRecursion, range_with_len}
 use Rattle.std.specs.Option.{is_some}
 use Rattle.std.proofs.lemmas.Bool.{eqb-true}
@@ -18,13 +18,15 @@ use Rattle.net_schedule.specs.declared.turn.Turn.{Turn}
 use Rattle.net_schedule.specs.declared.turn.Turn.TheVariants as turn
 use Rattle.net_schedule.specs.declared.world.NetEvent.{NetEvent}
 use Rattle.net_schedule.specs.Rings.{IsRing, IsOwnQuantum, IsEntryOf, next_of, before}
-use Rattle.net_schedule.specs.Cubs.{CubState, IsSound, IsOwnOf, IsKeptOf, fresh_cub, is_kept, is_asked, is_of, waits, counts, keeping, first_over, CanTake, reserved, confirmed, refused, released, with_ask, with_stop, in_state}
-use Rattle.net_schedule.specs.Worlds.{WorldState, fresh_world, cub_at, asked_at, goal_of, turned, telling, moved, CanTurn, WasSent}
-use Rattle.net_schedule.specs.Links.{IsAskedFar, IsTrueOf, IsLink, IsSeated, IsWorld}
+use Rattle.net_schedule.specs.Cubs.{CubState, IsSound, IsOwnOf, IsKeptOf, fresh_cub, is_kept, is_asked, is_of, waits, counts, keeping, first_over, CanTake, in_state}
+use Rattle.net_schedule.specs.Worlds.{WorldState, fresh_world, cub_at, asked_at, goal_of, actor_of, turn_of, turned, telling, moved, CanTurn, WasSent}
+use Rattle.net_schedule.specs.Links.{IsTrueOf, IsLink, IsSeated, IsWorld}
+use Rattle.net_schedule.specs.Settled.{under_way, IsInTalk}
 use Rattle.net_schedule.proofs.Sound.{found_all, few_before, none_passes}
-use Rattle.net_schedule.proofs.Places.{not_same, differ, next_not, next_before, before_next, next_low}
+use Rattle.net_schedule.proofs.Places.{differ, next_not, next_before, before_next, next_low}
 use Rattle.net_schedule.proofs.Linked.{all_map, all_append}
 use Rattle.net_schedule.proofs.Turns.{IsFrom, IsFresh, IsTold, all_from, own_turn, kept_turn, other_turn}
+use Rattle.net_schedule.proofs.Talked.{talk_moved, made_moved, out_moved, made_fresh}
 
 -- a turn leaves a cub in its place
 abbrev IsPlacedAs : CubState → CubState → Type 0
@@ -103,14 +105,17 @@ goal_low r x ring low (packet.Release v to) f = subst (λ (n : ℕ). n < r.cubs)
 
 -- A ring stays what it is by each turn.
 pub world_moved : (w : WorldState) (x : ℕ) (t : Turn) (e : NetEvent) → IsWorld w → x < w.ring.cubs → CanTurn (cub_at w x) t → WasSent w.sent t
-    → IsSound (turned (cub_at w x) t) → IsWorld (moved w x t e)
-world_moved w x t e h low can sent sound = record {
+    → IsSound (turned (cub_at w x) t) → x ≡ actor_of w e → t ≡ turn_of w e → IsWorld (moved w x t e)
+world_moved w x t e h low can sent sound ex et = record {
   ring = h.ring;
   count = length-set w.cubs x (turned (cub_at w x) t) ∙ h.count;
   seated = seated;
   goals = all_append (λ (p : Packet). (goal_of p).0 < w.ring.cubs) w.sent (telling (cub_at w x) t) h.goals
       (all_map (IsFrom w.ring x) (λ (p : Packet). (goal_of p).0 < w.ring.cubs) (telling (cub_at w x) t) (goal_low w.ring x h.ring low) from);
   links = links;
+  made = made_moved w x t e h.made ex et;
+  talks = λ d less. subst (λ (out : List Packet). IsInTalk d (next_of w.ring d) (cub_at (moved w x t e) d).own (cub_at (moved w x t e) (next_of w.ring d)).kept out)
+      (sym (out_moved w x t e h.made ex et)) (talk_moved w x t e h low (fresh_of (cub_at w x) t can) d less);
 }
   where
     s : CubState
@@ -220,8 +225,18 @@ fresh_is_world r ring = record {
   seated = λ c low. seat c low (at_fresh (fresh_cub r) 0 r.cubs c (fresh_cub r 0) low);
   goals = tt;
   links = λ d low. link d low (at_fresh (fresh_cub r) 0 r.cubs d (fresh_cub r 0) low) (at_fresh (fresh_cub r) 0 r.cubs (next_of r d) (fresh_cub r 0) (next_low r d ring low));
+  made = made_fresh r;
+  talks = λ d low. talk d (at_fresh (fresh_cub r) 0 r.cubs d (fresh_cub r 0) low) (at_fresh (fresh_cub r) 0 r.cubs (next_of r d) (fresh_cub r 0) (next_low r d ring low));
 }
   where
+    silent : (d c : ℕ) → IsInTalk d c [] [] (under_way (fresh_world r))
+    silent d c = record { lines = λ v e f. absurd (cc); asks = λ v f. absurd (cc) }
+
+    talk : (d : ℕ) → cub_at (fresh_world r) d ≡ fresh_cub r (0 + d) → cub_at (fresh_world r) (next_of r d) ≡ fresh_cub r (0 + next_of r d)
+        → IsInTalk d (next_of r d) (cub_at (fresh_world r) d).own (cub_at (fresh_world r) (next_of r d)).kept (under_way (fresh_world r))
+    talk d ed en = subst (λ (y : List Own). IsInTalk d (next_of r d) y (cub_at (fresh_world r) (next_of r d)).kept (under_way (fresh_world r))) (sym (ap (λ (y : CubState). y.own) ed))
+        (subst (λ (y : List Entry). IsInTalk d (next_of r d) [] y (under_way (fresh_world r))) (sym (ap (λ (y : CubState). y.kept) en)) (silent d (next_of r d)))
+
     seat : (c : ℕ) → c < r.cubs → cub_at (fresh_world r) c ≡ fresh_cub r (0 + c) → IsSeated (fresh_world r) c
     seat c low e = record {
       ring = ap (λ (y : CubState). y.ring) e;
@@ -275,12 +290,12 @@ same_at (x ∷ xs) (suc i) d e low = same_at xs i d e (omega (arith, low))
 
 pub acted : (w : WorldState) (x : ℕ) (t : Turn) (e : NetEvent) (old new : CubState) (cubs : List CubState) (sent : List Packet) (events : List NetEvent) → IsWorld w
     → x < w.ring.cubs → CanTurn (cub_at w x) t → WasSent w.sent t → old ≡ get_or w.cubs x old → new ≡ turned old t → IsSound new
-    → cubs ≡ slice_set w.cubs x new → sent ≡ w.sent ++ telling old t → events ≡ w.events ++ e ∷ []
+    → cubs ≡ slice_set w.cubs x new → sent ≡ w.sent ++ telling old t → events ≡ w.events ++ e ∷ [] → x ≡ actor_of w e → t ≡ turn_of w e
     → IsWorld (record { ring = w.ring; cubs = cubs; sent = sent; events = events })
-acted w x t e old new cubs sent events h low can was eo en sound ec es ee =
+acted w x t e old new cubs sent events h low can was eo en sound ec es ee ex et =
     let here : old ≡ cub_at w x = eo ∙ same_at w.cubs x old (fresh_cub w.ring 0) (subst (λ (n : ℕ). x < n) (sym h.count) low) in
     let now : new ≡ turned (cub_at w x) t = en ∙ ap (λ (y : CubState). turned y t) here in
-    rw (ec, es ∙ ap (λ (y : CubState). w.sent ++ telling y t) here, ee) (rw now (world_moved w x t e h low can was (subst IsSound now sound)))
+    rw (ec, es ∙ ap (λ (y : CubState). w.sent ++ telling y t) here, ee) (rw now (world_moved w x t e h low can was (subst IsSound now sound) ex et))
 
 pub acted_is : (w : WorldState) (x : ℕ) (t : Turn) (e : NetEvent) (old new : CubState) (cubs : List CubState) (sent : List Packet) (events : List NetEvent) → IsWorld w
     → x < w.ring.cubs → old ≡ get_or w.cubs x old → new ≡ turned old t
@@ -345,6 +360,20 @@ asked_step w v i e s r h less end es idle found =
         → find (λ (c : ℕ). is_asked (cub_at w c).own v) (range_with_len (i + 1) (e - (i + 1))) ≡ r
     next n none b =
         let opened : find (λ (c : ℕ). is_asked (cub_at w c).own v) (range_with_len i (e - i)) ≡ find (λ (c : ℕ). is_asked (cub_at w c).own v) (range_with_len (i + 1) (e - (i + 1))) = rw n (rw none refl) in
+        sym opened ∙ b
+
+-- The search ends at a cub that was asked.
+pub asked_here : (w : WorldState) (v : Instance) (i e : ℕ) (s : CubState) (r : Option ℕ) → IsWorld w → i < e → e ≡ w.ring.cubs → s ≡ get_or w.cubs i s → is_asked s.own v ≡ true
+    → find (λ (c : ℕ). is_asked (cub_at w c).own v) (range_with_len i (e - i)) ≡ r → Some i ≡ r
+asked_here w v i e s r h less end es asked found =
+    let here : s ≡ cub_at w i = index_is w i s h (omega (arith, less, end)) es in
+    let some : is_asked (cub_at w i).own v ≡ true = subst (λ (y : CubState). is_asked y.own v ≡ true) here asked in
+    let n : e - i ≡ suc (e - (i + 1)) = omega (arith, less) in
+    next n some found
+  where
+    next : e - i ≡ suc (e - (i + 1)) → is_asked (cub_at w i).own v ≡ true → find (λ (c : ℕ). is_asked (cub_at w c).own v) (range_with_len i (e - i)) ≡ r → Some i ≡ r
+    next n some b =
+        let opened : find (λ (c : ℕ). is_asked (cub_at w c).own v) (range_with_len i (e - i)) ≡ Some i = rw n (rw some refl) in
         sym opened ∙ b
 
 range_more : (f : ℕ → CubState) (a n : ℕ) → map f (range_with_len a (suc n)) ≡ map f (range_with_len a n) ++ f (a + n) ∷ []

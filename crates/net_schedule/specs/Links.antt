@@ -1,5 +1,5 @@
 -- What always holds between a cub and its successor, whatever the network did with their packets.
-use Rattle.std.specs.Prelude.{◌≡◌, ℕ, ◌<◌, Bool, true, false, List, Option, Some, None, find, length, ◌⊎◌}
+use Rattle.std.specs.Prelude.{◌≡◌, ℕ, ◌<◌, true, false, List, Some, find, length, ◌⊎◌}
 use Rattle.std.specs.List.{AllByRecursion}
 use Rattle.tiger_base.specs.declared.number.Instance.{Instance}
 use Rattle.net_schedule.specs.declared.ring.NetRing.{NetRing}
@@ -10,6 +10,7 @@ use Rattle.net_schedule.specs.declared.packet.Packet.TheVariants as packet
 use Rattle.net_schedule.specs.Rings.{IsRing, reaches, next_of}
 use Rattle.net_schedule.specs.Cubs.{IsSound, is_of, is_for, is_live, is_placed}
 use Rattle.net_schedule.specs.Worlds.{WorldState, cub_at, goal_of}
+use Rattle.net_schedule.specs.Settled.{IsInTalk, IsMadeByEvents, under_way}
 
 -- an entry was asked for, and reaches into the successor's quanta
 pub record IsAskedFar (r : NetRing) (own : List Own) (v : Instance) (e : Entry) : Type 0 where
@@ -60,3 +61,6 @@ pub record IsWorld (w : WorldState) : Type 0 where
   pub goals : AllByRecursion (λ p. (goal_of p).0 < w.ring.cubs) w.sent
   pub links : (d : ℕ) → d < w.ring.cubs
       → IsLink w.ring d (next_of w.ring d) (cub_at w d).own (cub_at w (next_of w.ring d)).kept w.sent
+  pub made : IsMadeByEvents w
+  pub talks : (d : ℕ) → d < w.ring.cubs
+      → IsInTalk d (next_of w.ring d) (cub_at w d).own (cub_at w (next_of w.ring d)).kept (under_way w)

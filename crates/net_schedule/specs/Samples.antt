@@ -3,13 +3,15 @@ use Rattle.std.specs.Prelude.{ℕ, List, [], ◌∷◌}
 use Rattle.tiger_base.specs.declared.number.Instance.{Instance}
 use Rattle.net_schedule.specs.declared.ring.NetRing.{NetRing}
 use Rattle.net_schedule.specs.declared.ring.Entry.{Entry}
-use Rattle.net_schedule.specs.declared.ring.NetState.{NetState}
 use Rattle.net_schedule.specs.declared.ring.NetState.TheVariants as state
 use Rattle.net_schedule.specs.declared.ring.Own.{Own}
 use Rattle.net_schedule.specs.declared.packet.Packet.{Packet}
 use Rattle.net_schedule.specs.declared.packet.Packet.TheVariants as packet
+use Rattle.net_schedule.specs.declared.world.NetEvent.{NetEvent}
+use Rattle.net_schedule.specs.declared.world.NetEvent.TheVariants as event
 use Rattle.net_schedule.specs.Cubs.{CubState}
 use Rattle.net_schedule.specs.Worlds.{WorldState}
+use Rattle.net_schedule.specs.Settled.{history}
 
 abbrev pub four : NetRing
 four = record { cubs = 3; quanta = 4; capacity = 10 }
@@ -70,3 +72,39 @@ ring_of first second_own kept = record {
   sent = [];
   events = [];
 }
+
+-- the ring with nothing but what was sent
+abbrev pub ring_with : List Packet → WorldState
+ring_with sent = record (ring_of [] [] []) { sent = sent }
+
+abbrev pub ask : ℕ → ℕ → ℕ → NetEvent
+ask v at rate = event.Ask (viewer v) at rate
+
+abbrev pub stop : ℕ → NetEvent
+stop v = event.Stop (viewer v)
+
+abbrev pub renew : ℕ → NetEvent
+renew c = event.Renew (record { 0 = c })
+
+abbrev pub deliver : ℕ → NetEvent
+deliver n = event.Deliver n
+
+-- An entry is asked for, and its Reserve and its Confirm come.
+abbrev pub agreed : List NetEvent
+agreed = ask 0 2 6 ∷ deliver 0 ∷ deliver 1 ∷ []
+
+-- It is stopped before its Confirm comes, and the Reserve comes again behind the Release.
+abbrev pub kept_again : List NetEvent
+kept_again = ask 0 2 6 ∷ deliver 0 ∷ stop 0 ∷ deliver 2 ∷ deliver 0 ∷ []
+
+-- the same, and the second Confirm and the second Release come
+abbrev pub given_back : List NetEvent
+given_back = ask 0 2 6 ∷ deliver 0 ∷ stop 0 ∷ deliver 2 ∷ deliver 0 ∷ deliver 3 ∷ deliver 4 ∷ []
+
+-- The first Reserve is lost.
+abbrev pub renewed : List NetEvent
+renewed = ask 0 2 6 ∷ renew 0 ∷ deliver 1 ∷ deliver 2 ∷ []
+
+-- what events make of the ring
+abbrev pub story : List NetEvent → WorldState
+story es = (history four es).world

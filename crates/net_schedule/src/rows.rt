@@ -3,11 +3,14 @@
 //! where the crate is checked without its tests.
 ghost use Rattle.std.specs.Prelude.{◌≡◌, ◌≤◌, [], ◌∷◌, true, false, Some, None};
 ghost use Rattle.net_schedule.specs.declared.cub.Asked.TheVariants.{Full, Placed, Waiting};
+ghost use Rattle.net_schedule.specs.declared.world.NetStop.TheVariants.{NeverSent, Used};
 ghost use Rattle.net_schedule.specs.Rings.{takes, reaches, next_of, before};
-ghost use Rattle.net_schedule.specs.Cubs.{carried, first_over, answer_to, asking, taking, sending, with_stop, stopping, renewing, put_in};
-ghost use Rattle.net_schedule.specs.Worlds.{cub_at, asked_at, turned};
+ghost use Rattle.net_schedule.specs.Cubs.{carried, first_over, answer_to, asking, taking, sending, with_stop, stopping, renewing, number_of, put_in};
+ghost use Rattle.net_schedule.specs.Worlds.{cub_at, asked_at, fault_of, actor_of};
+ghost use Rattle.net_schedule.specs.Links.{IsLink};
+ghost use Rattle.net_schedule.specs.Settled.{under_way, IsSettled};
 ghost use Rattle.net_schedule.specs.Claims.{ring_sum, KeepsToCapacity, KeepsWhatIsAsked};
-ghost use Rattle.net_schedule.specs.Samples.{four, viewer, entry, placed, waiting, stopped, second, reserve, reserve_on, confirm, confirm_back, refuse, refuse_back, release, release_on, ring_of};
+ghost use Rattle.net_schedule.specs.Samples.{four, viewer, entry, placed, waiting, stopped, second, reserve, reserve_on, confirm, confirm_back, refuse, refuse_back, release, release_on, ring_of, ring_with, ask, stop, renew, deliver, agreed, kept_again, given_back, renewed, story};
 
 /// An entry takes four quanta, from that at which it begins, and round the ring.
 pub fn quanta_taken()
@@ -98,4 +101,52 @@ pub fn whole_ring()
     ensures other_rate { KeepsWhatIsAsked (ring_of (placed 0 2 6 ∷ []) [] (entry 0 2 5 ∷ [])) → ⊥ }
     ensures asked { asked_at (ring_of (placed 0 2 6 ∷ []) (placed 1 5 4 ∷ []) []) (viewer 1) ≡ Some 1 }
     ensures not_asked { asked_at (ring_of (placed 0 2 6 ∷ []) [] []) (viewer 1) ≡ None }
+{}
+
+/// An entry goes in before the first of a greater instance, and behind all others.
+pub fn inserts()
+    ensures before { put_in number_of (placed 2 5 1) (placed 3 5 1 ∷ []) ≡ placed 2 5 1 ∷ placed 3 5 1 ∷ [] }
+    ensures behind { put_in number_of (placed 2 5 1) (placed 1 5 1 ∷ []) ≡ placed 1 5 1 ∷ placed 2 5 1 ∷ [] }
+    ensures behind_same { put_in number_of (placed 2 5 1) (placed 2 6 1 ∷ []) ≡ placed 2 6 1 ∷ placed 2 5 1 ∷ [] }
+{}
+
+/// An instance is asked for once, and what was never sent does not come.
+pub fn faults()
+    ensures asked_before { fault_of (ring_of (placed 0 2 6 ∷ []) [] []) (ask 0 8 1) ≡ Some Used }
+    ensures new { fault_of (ring_of (placed 0 2 6 ∷ []) [] []) (ask 1 8 1) ≡ None }
+    ensures not_sent { fault_of (ring_with (confirm_back 0 ∷ [])) (deliver 1) ≡ Some NeverSent }
+    ensures sent { fault_of (ring_with (confirm_back 0 ∷ [])) (deliver 0) ≡ None }
+    ensures stopped_unasked { fault_of (ring_of [] [] []) (stop 0) ≡ None }
+{}
+
+/// Who acts: the cub of the quantum, that of the instance, the one that renews, and the one that a packet is for.
+pub fn actors()
+    ensures last { actor_of (ring_of [] [] []) (ask 0 7 1) ≡ 1 }
+    ensures first { actor_of (ring_of [] [] []) (ask 0 8 1) ≡ 2 }
+    ensures its { actor_of (ring_of [] (placed 1 5 4 ∷ []) []) (stop 1) ≡ 1 }
+    ensures nobody { actor_of (ring_of [] (placed 1 5 4 ∷ []) []) (stop 2) ≡ 0 }
+    ensures renews { actor_of (ring_of [] [] []) (renew 2) ≡ 2 }
+    ensures comes { actor_of (ring_with (confirm_back 0 ∷ release_on 0 ∷ [])) (deliver 1) ≡ 2 }
+{}
+
+/// What is placed and reaches the successor is kept there with its rate; and a Release of it is not true.
+pub fn links()
+    ensures kept { IsLink four 0 1 (placed 0 2 6 ∷ []) (entry 0 2 6 ∷ []) (reserve 0 2 6 ∷ confirm_back 0 ∷ []) }
+    ensures not_kept { IsLink four 0 1 (placed 0 2 6 ∷ []) [] [] → ⊥ }
+    ensures other_rate { IsLink four 0 1 (placed 0 2 6 ∷ []) (entry 0 2 5 ∷ []) [] → ⊥ }
+    ensures released { IsLink four 0 1 (placed 0 2 6 ∷ []) (entry 0 2 6 ∷ []) (release 0 ∷ []) → ⊥ }
+{}
+
+/// If nothing is under way, all is settled. An entry that was stopped is kept again as its Reserve comes again, until the
+/// Confirm and the Release have come. A packet that was lost is under way no more once one like it has come.
+#[tactic(auto, unfolding(crate::specs::Cubs::first_over, crate::specs::Settled::history))]
+pub fn settlings()
+    ensures all_came { under_way (story agreed) ≡ [] }
+    ensures settled { IsSettled (story agreed) (viewer 0) }
+    ensures some_not { under_way (story kept_again) ≡ confirm_back 0 ∷ confirm_back 0 ∷ [] }
+    ensures not_settled { IsSettled (story kept_again) (viewer 0) → ⊥ }
+    ensures all_came_then { under_way (story given_back) ≡ [] }
+    ensures given_back { (cub_at (story given_back) 1).kept ≡ [] }
+    ensures lost { under_way (story renewed) ≡ [] }
+    ensures lost_kept { (cub_at (story renewed) 1).kept ≡ entry 0 2 6 ∷ [] }
 {}

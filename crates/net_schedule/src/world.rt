@@ -4,6 +4,7 @@ ghost use Rattle.std.specs.Prelude.{◌≡◌, ◌<◌, Some, None, IfSome, slic
 ghost use Rattle.net_schedule.specs.Rings.{IsRing};
 ghost use Rattle.net_schedule.specs.Worlds.{fresh_world, cub_at, IsPossible, CanTurn, WasSent, after, moved, fault_of, asked_at, actor_of, turn_of, state_at, no_memory};
 ghost use Rattle.net_schedule.specs.Claims.{KeepsToCapacity, KeepsWhatIsAsked};
+ghost use Rattle.net_schedule.specs.Settled.{IsMadeByEvents, SettlesEach, SettlesAll};
 
 use crate::cub::NetCub;
 use crate::packet::Packet;
@@ -149,6 +150,17 @@ impl NetWorld {
         let _ring = self.ring;
     }
 
+    /// At every moment each instance of which nothing is under way is settled: a cub keeps quanta for
+    /// its entry exactly if that is placed and reaches there, and it does not wait. So if all packets
+    /// that were ever sent have been delivered since, every instance is.
+    pub fn is_settled(&self)
+        ensures made { IsMadeByEvents self.now }
+        ensures each { SettlesEach self.now }
+        ensures all { SettlesAll self.now }
+    {
+        let _ring = self.ring;
+    }
+
     /// Which cub has its turn by an event, and what it does; or why the event cannot be done.
     fn turn_of(&self, e: NetEvent) -> Result<(u32, Turn), NetStop>
         requires { IsPossible self.now.ring e }
@@ -192,11 +204,13 @@ impl NetWorld {
         None
     }
 
-    /// Gives a cub its turn. Without memory nothing changes.
+    /// Gives a cub its turn by an event. Without memory nothing changes.
     fn act(&mut self, cub: u32, turn: Turn, e: NetEvent) -> Result<(), NoMemory>
         requires cub { cub < self.old.ring.cubs }
         requires turn { CanTurn (cub_at self.old cub) turn }
         requires sent { WasSent self.old.sent turn }
+        requires actor { cub ≡ actor_of self.old e }
+        requires its { turn ≡ turn_of self.old e }
         ensures after { OnOk result (self.new ≡ moved self.old cub turn e) }
         ensures err { OnErr result (self.new ≡ self.old) }
     {
