@@ -6,9 +6,10 @@ FONT = "Helvetica, Arial, 'DejaVu Sans', sans-serif"
 INK, GREY, PALE, PAPER = "#1f2430", "#5b6270", "#e3e6eb", "#ffffff"
 DEAD, FAULT = "url(#dead)", "#f5b942"  # what fills the place of a dead cub, and of a disk that cannot be read
 PIECES = "url(#pieces)"  # what is laid over the colour of a block in pieces
+HATCH = "#9aa1ad"  # the lines over the place of a dead cub
 PATTERNS = (
     '<pattern id="dead" width="5" height="5" patternUnits="userSpaceOnUse" patternTransform="rotate(45)">'
-    '<rect width="5" height="5" fill="#e3e6eb"/><rect width="1.5" height="5" fill="#9aa1ad"/></pattern>',
+    f'<rect width="5" height="5" fill="{PALE}"/><rect width="1.5" height="5" fill="{HATCH}"/></pattern>',
     '<pattern id="pieces" width="6" height="6" patternUnits="userSpaceOnUse" patternTransform="rotate(45)">'
     '<rect width="3" height="6" fill="#fff" fill-opacity=".7"/></pattern>')
 WIDTHS = {0.36: " .,:;'|!ijlI-", 0.42: "ftr()[]/", 0.55: "csz", 0.82: "w", 1.05: "mMW@%\u2026"}  # shares of the size
@@ -20,9 +21,14 @@ def number(value):
     return text[:-2] if text.endswith(".0") else text
 
 
+def printable(text):
+    """A text in which what is no printable character stands as U+FFFD."""
+    return "".join(it if it.isprintable() else "\ufffd" for it in text)
+
+
 def escaped(text):
-    """A text as XML may have it: what is no printable character stands as U+FFFD."""
-    plain = "".join(it if it.isprintable() else "\ufffd" for it in text)
+    """A printable text as XML may have it."""
+    plain = printable(text)
     for sign, name in (("&", "&amp;"), ("<", "&lt;"), (">", "&gt;"), ('"', "&quot;"), ("'", "&#39;")):
         plain = plain.replace(sign, name)
     return plain

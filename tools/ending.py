@@ -5,6 +5,7 @@ import os
 import signal
 import subprocess
 import sys
+import threading
 
 import program
 from reports import Unfit
@@ -26,6 +27,21 @@ class Stopped(BaseException):
         self.number = number
 
 
+class Held:
+    """The signal that came while the tool's first thread begins a process: it counts once that one is known, so that
+    it ends too."""
+
+    is_on, came = False, None
+
+    @classmethod
+    def hold(cls, is_on):
+        """Holds signals back, or lets the one go that came."""
+        if threading.current_thread() is threading.main_thread():
+            cls.is_on = is_on
+            if not is_on and cls.came:
+                raise Stopped(cls.came)
+
+
 class Words(argparse.ArgumentParser):
     """A reader of words that says in one line what is wrong with them."""
 
@@ -38,6 +54,16 @@ def words(doc):
     """A reader of words with the option of all tools that run the program."""
     reader = Words(description=doc, formatter_class=AS_IT_STANDS)
     reader.add_argument("--program", metavar="PATH", help="run this in place of the built program")
+    return reader
+
+
+def words_of_run(doc):
+    """A reader of words with the options of all tools that show one run: the program or a kept report, and a limit."""
+    reader = words(doc)
+    reader.add_argument("--report", metavar="FILE", help="take this report, and run no program")
+    reader.add_argument("--seconds", metavar="S", type=positive, default=program.WAIT,
+                        help="how long the program may take (%(default)s)")
+    reader.add_argument("scenario", metavar="SCENARIO")
     return reader
 
 
@@ -76,12 +102,15 @@ def positive(text):
 
 def ended_of(command, seconds):
     """How a command ends; after so many seconds it is hung. If it hangs or a signal comes, what it started ends too."""
+    Held.hold(True)
     try:
         ran = subprocess.Popen(command, stdin=subprocess.DEVNULL, stdout=subprocess.PIPE, stderr=subprocess.PIPE,
                                start_new_session=True)
     except OSError as why:
+        Held.hold(False)
         raise Unfit(f"{command[0]} cannot be run: {why.strerror}")
     try:
+        Held.hold(False)
         out, err = ran.communicate(timeout=seconds)
     except subprocess.TimeoutExpired:
         return program.Ended(HUNG, b"", f"no answer in {seconds} seconds\n".encode())
@@ -115,6 +144,22 @@ def line_of(ended):
     line = ended.err.decode(errors="replace")
     is_line = line.startswith("tiger: ") and line.endswith("\n") and line.count("\n") == 1
     return line[:-1] if ended.status in STATUSES and is_line else ""
+
+
+def report_of(given):
+    """The report of the run that the words name: the kept one, or that of a run of the program; a refusal is handed
+    on."""
+    if given.report is not None:
+        return content(given.report)
+    tiger = program_of(given)
+    ended = ended_of([tiger, "run", given.scenario, "1"], given.seconds)
+    if ended.status == 0:
+        return ended.out
+    line = line_of(ended)
+    if not line:
+        raise Unfit(f"{tiger} ended without a report: {how(ended.status)}")
+    print(line, file=sys.stderr)
+    sys.exit(ended.status)
 
 
 def content(path):
@@ -172,4 +217,6 @@ def stop(number, _):
     """Ends the tool by a signal: the first one counts, and those behind it are of no use."""
     for other in ENDING:
         signal.signal(other, signal.SIG_IGN)
-    raise Stopped(number)
+    if not Held.is_on:
+        raise Stopped(number)
+    Held.came = number

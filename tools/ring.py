@@ -16,6 +16,23 @@ OWN, BACKUP, CHIP = 612, 780, 26  # where the records stand across, and how far 
 MOST_CHIPS = 5  # records that are drawn in a row of the table
 
 
+def tenure(run, viewer):
+    """From when on, and until before when, a viewer surely has its slot: it has been put there, is not stopped, and
+    plays on. The times are in microseconds."""
+    scenario, last = run.scenario, last_of(run, viewer)
+    ends = [scenario.end + 1] if last is None else [scenario.due(viewer.slot, last) + 1]
+    if viewer.stop is not None:
+        ends.append(viewer.stop * scenario.beat)
+    return scenario.due(viewer.slot, viewer.first) - scenario.plan["window_b"], min(ends)
+
+
+def last_of(run, viewer):
+    """A viewer's last visit; None if the report does not tell it."""
+    if viewer.stop is not None or run.open_from(viewer) is not None:
+        return None
+    return viewer.first + (viewer.blocks[-1].number if viewer.blocks else -1)
+
+
 class Moment:
     """A run at a moment, in microseconds: the viewers that have a slot, and the visits whose records are there."""
 
@@ -26,23 +43,13 @@ class Moment:
                               for viewer in self.viewers for visit in self.visits(viewer))
 
     def has_slot(self, viewer):
-        """Whether a viewer surely has its slot: it has been put there, is not stopped, and plays on."""
-        scenario = self.scenario
-        begin = scenario.due(viewer.slot, viewer.first) - scenario.plan["window_b"]
-        last = self.last(viewer)
-        is_over = last is not None and scenario.due(viewer.slot, last) < self.now
-        is_stopped = viewer.stop is not None and viewer.stop * scenario.beat <= self.now
-        return begin <= self.now and not is_over and not is_stopped
-
-    def last(self, viewer):
-        """A viewer's last visit; None if the report does not tell it."""
-        if viewer.stop is not None or self.run.open_from(viewer) is not None:
-            return None
-        return viewer.first + (viewer.blocks[-1].number if viewer.blocks else -1)
+        """Whether a viewer surely has its slot."""
+        begin, end = tenure(self.run, viewer)
+        return begin <= self.now < end
 
     def visits(self, viewer):
         """The visits of a viewer whose records are there by their due times."""
-        scenario, last = self.scenario, self.last(viewer)
+        scenario, last = self.scenario, last_of(self.run, viewer)
         offset = scenario.due(viewer.slot, 0)
         begin = max(viewer.first, (self.now - offset) // scenario.play + 1)
         end = (self.now + scenario.plan["min_lead"] - offset) // scenario.play

@@ -33,15 +33,28 @@ class Picture:
         self.notes = []
         self.is_thin = self.is_merged = False  # whether rows have no words, and whether sends are drawn as one
         self.labelled = 0  # where the last words at the left of a row stand
+        self.bars, self.lanes = {}, (0, 0)  # the top and the height of each viewer's bar, and of the first cub's row
+        self.top = 0  # where the rows begin
 
 
 def timeline(run, name):
     """The picture of a run whose scenario has this name, as SVG."""
+    return drawn(Picture(run), name, draw_head)
+
+
+def without_head(run, name):
+    """The picture of such a run with no title, and as SVG: a page has the title."""
     picture = Picture(run)
+    return picture, drawn(picture, name, lambda *_: draw_notes(picture, 0) + 8)
+
+
+def drawn(picture, name, head):
+    """Draws a run below its head; the whole as SVG."""
+    run = picture.run
     rows = slot_rows(picture)
     sends = sends_by_cub(run)
     note_sends(picture, sends)
-    y = heading(picture, draw_head(picture, name), "Slots: who has them, and how each block came")
+    y = heading(picture, head(picture, name), "Slots: who has them, and how each block came")
     y = draw_slots(picture, y, rows)
     y = heading(picture, y, "Cubs: what each one sends, as the report tells it")
     y = draw_cubs(picture, y, sends)
@@ -60,11 +73,15 @@ def totals_of(run):
 
 def draw_head(picture, name):
     """Draws the title, the ring and the notes; where they end below."""
-    y = picture.drawing.head(totals_of(picture.run), name, picture.scenario.words())
+    return draw_notes(picture, picture.drawing.head(totals_of(picture.run), name, picture.scenario.words())) + 14
+
+
+def draw_notes(picture, y):
+    """Draws the notes; where they end below."""
     for note in picture.notes:
         y += 18
         picture.drawing.text(16, y, note, 12, GREY, font_style="italic")
-    return y + 14
+    return y
 
 
 def heading(picture, y, words):
@@ -76,7 +93,7 @@ def heading(picture, y, words):
 def draw_slots(picture, y, rows):
     """Draws the part of the slots; where it ends below."""
     picture.scale.name(picture.drawing, y + 12)
-    top = y + 18
+    picture.top = top = y + 18
     y = top + 8
     for row in rows:
         y = row(y)
@@ -240,6 +257,7 @@ def alike(blocks, look):
 def draw_bar(picture, y, tall, viewer):
     """Draws the bar of a viewer: its blocks, what the report does not say, and its stop."""
     drawing, scenario, scale = picture.drawing, picture.scenario, picture.scale
+    picture.bars[viewer.number] = (y, tall)
     drawing.parts.append(f"<g><title>{escaped(told_of(picture, viewer))}</title>")
     unsaid = picture.run.open_from(viewer)
     if unsaid is not None:
@@ -387,6 +405,7 @@ def draw_cubs(picture, y, sends):
     """Draws the part of the cubs: what makes them fail, and what they send; where it ends below."""
     scenario, drawing = picture.scenario, picture.drawing
     tall = cub_height(scenario.cubs)
+    picture.lanes = (y, tall)
     bottom = y + tall * scenario.cubs
     picture.scale.rule(drawing, y, bottom)
     picture.scale.name(drawing, bottom + 15)
