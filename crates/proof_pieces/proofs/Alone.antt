@@ -1,23 +1,27 @@
 -- All that is asked for at a visit of a slot is of one tenancy, and each piece once.
-use Rattle.std.proofs.Common.{◌≡◌, ◌≢◌, ℕ, ◌+◌, ◌<◌, ◌≤◌, sym, ap, subst, ◌∙◌, arith, ⊎_elim, inl, eq-or-lt_of_le}
+use Rattle.std.proofs.Common.{◌≡◌, ◌≢◌, ℕ, ◌+◌, ◌-◌, ◌<◌, ◌≤◌, sym, ap, subst, ◌∙◌, arith, ⊎_elim, inl, inr, eq-or-lt_of_le}
+use Rattle.std.specs.Prelude.{◌⊎◌}
 use Rattle.std.proofs.lemmas.Bool.{cases_lt, cases_eq}
 use Rattle.tiger_base.specs.declared.tenancy.Tenancy.{Tenancy}
 use Rattle.slot_plan.specs.declared.params.Params.{Params}
 use Rattle.slot_plan.specs.Times.{time_of, due, cub_of}
-use Rattle.slot_plan.proofs.Times.{time_add, time_next, time_mono, time_below, due_later, cub_below, cub_ahead}
-use Rattle.proof_schedule.specs.Facts.{Facts, ReachedBy, Cut}
+use Rattle.slot_plan.proofs.Times.{time_add, time_next, time_mono, time_below, due_next, due_later, due_add, due_mono, cub_below, cub_ahead, cub_round, same_cub}
+use Rattle.proof_schedule.specs.Facts.{Facts, ReachedBy, Cut, IsSameLife}
 use Rattle.proof_schedule.specs.HoldLaws.{horizon}
+use Rattle.proof_schedule.specs.LinkLaws.{TagFromCub}
 use Rattle.proof_schedule.specs.Schedule.{IsHeld}
 use Rattle.proof_schedule.specs.StateLaws.{PutsOwn, PutsForDead}
-use Rattle.proof_schedule.proofs.Ahead.{is_ahead}
+use Rattle.proof_schedule.proofs.Ahead.{base_first, is_ahead}
 use Rattle.proof_schedule.proofs.Ends.{IsEnd, end_of, one_put}
-use Rattle.proof_schedule.proofs.Reach.{enters}
-use Rattle.proof_schedule.proofs.Silence.{believed_died, all_heard}
+use Rattle.proof_schedule.proofs.Reach.{enters, told_at_once}
+use Rattle.proof_schedule.proofs.Waves.{reached_after, bare}
+use Rattle.proof_schedule.proofs.Lives.{first_same_life, same_life_later, same_life_since_stop}
+use Rattle.proof_schedule.proofs.Silence.{all_heard}
 use Rattle.proof_schedule.proofs.Timely.{put_in_time}
 use Rattle.proof_schedule.proofs.Invariant.{Setting}
 use Rattle.proof_pieces.specs.PieceFacts.{PieceFacts}
-use Rattle.proof_pieces.specs.PieceLaws.{PieceLaws}
-use Rattle.proof_pieces.proofs.Entries.{Origin, origin, arises_held, asks_once}
+use Rattle.proof_pieces.specs.PieceLaws.{PieceLaws, IsThere}
+use Rattle.proof_pieces.proofs.Entries.{Origin, origin, kind_of, split_first_life, arises_held, asks_once}
 use Rattle.proof_pieces.proofs.Leaving.{leave_after, lead}
 use Rattle.proof_pieces.proofs.Stopped.{split_unreached, there_unreached, used_forgotten, not_late}
 
@@ -72,6 +76,119 @@ module _ (p : Params) (r : Facts) (g : Setting p r) (q : PieceFacts) (m : PieceL
       let mono = time_mono p (xt + 1) b (omega arith) in
       not_late p r g q m u xu z base e (inl asks) (omega arith)
 
+  -- The cub that uses the whole block has not been away since the stop: its record is due within
+  -- the horizon.
+  own_since : {lead : ℕ} → 0 ≡ j → IsThere p r q d u n j b lead → IsSameLife r d z b
+  own_since whole there = ⊎_elim
+      (λ a.
+      let within = (enters p r g u xu z base e a.1).within in
+      same_life_since_stop p r g.law b g.room a.1 within there.life)
+      (λ o.
+      let none : ⊥ = ⊎_elim
+      (λ a. let one = a.1 in omega arith)
+      (λ a. let k = a.piece in omega arith)
+      o.how in
+      absurd none)
+      (kind_of p r g q m there.arises)
+
+  -- If the visit is a turn or more behind the first of the wave, the stop is a play time before the
+  -- newer one's Put.
+  far_ahead : t.first ≡ n → base + p.cubs ≤ n + 1 → time_of p z + p.play ≤ time_of p xt
+  far_ahead f far =
+      let w = g.law.states.inserts it in
+      let below = w.below in
+      let high = w.tick.high in
+      let df = ap (λ v. due p t.slot.0 v) f in
+      let d = same_due n in
+      let mono = due_mono p u.slot.0 (base + p.cubs) (n + 1) far in
+      let add = due_add p u.slot.0 base p.cubs in
+      let next = due_next p u.slot.0 n in
+      let near = e.near in
+      let turn = g.turn.turn in
+      omega (arith, g.room)
+
+  -- If the cub after the visit's was reached, and the visit's own has not been away since the stop,
+  -- that is reached a way later: by whoever told the other one.
+  reached_too : {h : ℕ} → t.first ≡ n → r.Reached (cub_of p (n + 1)) u.instance.0 h → h ≤ xt
+      → r.Came (cub_of p n) b → IsSameLife r (cub_of p n) z b → xt + p.delay < b
+      → ReachedBy r (cub_of p n) u.instance.0 (xt + p.delay)
+  reached_too {h} f reached until came one_life late = ⊎_elim
+      (λ k. ⊎_elim
+      (λ o.
+      let same = ⊎_elim
+      (λ w. (g.law.stops.one_place w o.stopped).1)
+      (λ w. absurd (g.law.stops.one_way o.stopped w.stopped))
+      e.how in
+      by_controller (⊎_elim
+      (λ a. inl (a ∙ ap (λ v. cub_of p v) same))
+      (λ a. inr (a ∙ ap (λ v. cub_of p (v + 1)) same))
+      o.to))
+      (λ o. by_cub o)
+      (g.law.links.tag_from k.2))
+      (λ k. by_controller (bare p r g u xu z base e k).to)
+      (g.law.holds.reached reached)
+    where
+      -- If the next cubs of two visits are one, so are the visits' own.
+      same_before : (i k : ℕ) → cub_of p (i + 1) ≡ cub_of p (k + 1) → cub_of p i ≡ cub_of p k
+      same_before i k same = back i ∙ ap (λ v. cub_of p (v + (p.cubs - 1))) same ∙ sym (back k)
+        where
+          back : (m : ℕ) → cub_of p m ≡ cub_of p (cub_of p (m + 1) + (p.cubs - 1))
+          back m =
+              let cubs = g.turn.cubs in
+              let sum : m + p.cubs ≡ m + 1 + (p.cubs - 1) = omega arith in
+              cub_round p m ∙ ap (λ v. cub_of p v) sum ∙ sym (cub_ahead p (m + 1) (p.cubs - 1))
+
+      -- A cub told the other one: it is the visit's own, or told that too.
+      by_cub : {s v : ℕ} → TagFromCub p r (cub_of p (n + 1)) u.instance.0 s v h
+          → ReachedBy r (cub_of p n) u.instance.0 (xt + p.delay)
+      by_cub k =
+          let o = g.law.holds.told k.told in
+          let later = k.later in
+          let pass = g.law.holds.pass o.passed in
+          let by = pass.reached.by in
+          let after = reached_after p r g u xu z base e pass.reached.reached in
+          ⊎_elim
+          (λ (one : k.ahead ≡ 1).
+          let near = ap (λ v. cub_of p (k.from + v)) one in
+          let from = ap (λ v. cub_of p (v + 1)) pass.at in
+          let here = k.to ∙ near ∙ from ∙ cub_ahead p o.visit 1 in
+          let same = pass.at ∙ sym (same_before n o.visit here) in
+          let at = pass.reached.beat in
+          let own = subst (λ v. r.Reached v u.instance.0 at) same pass.reached.reached in
+          record { beat = at; reached = own; by = omega arith })
+          (λ (two : k.ahead ≡ 2).
+          let near = ap (λ v. cub_of p (k.from + v)) two in
+          let from = ap (λ v. cub_of p (v + 2)) pass.at in
+          let sum : o.visit + 2 ≡ o.visit + 1 + 1 = omega arith in
+          let here = k.to ∙ near ∙ from ∙ cub_ahead p o.visit 2 ∙ ap (λ v. cub_of p v) sum in
+          let next = sym (cub_ahead p o.visit 1) ∙ ap (λ v. cub_of p (v + 1)) (sym pass.at) in
+          let to = same_before n (o.visit + 1) here ∙ next in
+          let told = g.law.holds.told_next k.told in
+          let same = same_life_later r (cub_of p n) z k.beat b (omega arith) one_life in
+          let got = g.law.links.told_arrives (cub_of p n) b told to came same (omega arith) in
+          let got_by = got.by in
+          record { beat = got.beat; reached = g.law.holds.reached_tag got.got; by = omega arith })
+          o.ahead
+
+      -- The controller told the first two cubs of the wave, and the visit's own is the first.
+      by_controller : (cub_of p (n + 1) ≡ cub_of p base) ⊎ (cub_of p (n + 1) ≡ cub_of p (base + 1))
+          → ReachedBy r (cub_of p n) u.instance.0 (xt + p.delay)
+      by_controller to =
+          let low = base_first p r g u xu z base e t ct xt it le sl zx cut in
+          ⊎_elim
+          (λ (near : n + 1 < base + p.cubs). ⊎_elim
+          (λ a. let s = same_cub p base (n + 1) (sym a) (omega arith) near in absurd (omega arith))
+          (λ a.
+          let s = same_cub p (base + 1) (n + 1) (sym a) (omega arith) (omega arith) in
+          let first : n ≡ base = omega arith in
+          let own = inl (ap (λ v. cub_of p v) first) in
+          let k = told_at_once p r g u xu z base e own came one_life (omega arith) in
+          let by = k.by in
+          record { beat = k.beat; reached = k.reached; by = omega arith })
+          to)
+          (λ (far : base + p.cubs ≤ n + 1). absurd (too_late f (far_ahead f far)))
+          (cases_lt (n + 1) (base + p.cubs))
+
   -- The newer one was not put by the visit's own cub. That one was reached, so it does not ask; nor
   -- does a cub ask for a piece, since the deschedule came to the cub that would split ahead of the
   -- newer one's state.
@@ -84,7 +201,10 @@ module _ (p : Params) (r : Facts) (g : Setting p r) (q : PieceFacts) (m : PieceL
       ⊎_elim
       (λ (whole : 0 ≡ j).
       let here : d ≡ ct = there.here ∙ ap (λ v. cub_of p v) (let s : n + j ≡ n = omega arith in s) ∙ sym mine in
-      there_unreached p r g q m u xu z base e there (subst (λ v. r.Reached v u.instance.0 k.beat) (sym here) k.reached) (omega arith))
+      let after = reached_after p r g u xu z base e k.reached in
+      let own_reached = subst (λ v. r.Reached v u.instance.0 k.beat) (sym here) k.reached in
+      let one_life = same_life_later r d z k.beat b (omega arith) (own_since whole there) in
+      there_unreached p r g q m u xu z base e there own_reached (omega arith) one_life)
       (λ (some : 0 < j). by_split f own (origin p r g q m some there.arises))
       (eq-or-lt_of_le (let s : 0 ≤ j = omega arith in s))
     where
@@ -95,11 +215,19 @@ module _ (p : Params) (r : Facts) (g : Setting p r) (q : PieceFacts) (m : PieceL
           let kb = k.believed.by in
           let mine : ct ≡ cub_of p n = own.own ∙ ap (λ v. cub_of p v) f in
           let next : s.cub ≡ cub_of p (cub_of p n + 1) = k.next ∙ sym (cub_ahead p n 1) in
-          let heard = all_heard p g.ok g.room r g.law (cub_of p n) mine (cub_below p n g.ok.ranges) next own.sent k.believed.believed in
+          let small = cub_below p n g.ok.ranges in
+          let first = (g.law.states.inserts it).first in
+          let believed = k.believed.believed in
+          let heard =
+          all_heard p g.ok g.room r g.law (cub_of p n) mine small next own.sent first believed in
           ⊎_elim
           (λ w.
           let wb = w.by in
-          let got = g.law.links.told_arrives s.cub s.beat w.told (next ∙ ap (λ v. cub_of p (v + 1)) (sym mine)) k.tick.came (omega arith) in
+          let to = next ∙ ap (λ v. cub_of p (v + 1)) (sym mine) in
+          let always = split_first_life p r g q m s.split s.beat in
+          let same = first_same_life r s.cub s.beat always w.beat in
+          let came = k.tick.came in
+          let got = g.law.links.told_arrives s.cub s.beat w.told to came same (omega arith) in
           let gb = got.by in
           split_unreached p r g q m u xu z base e s.split (g.law.holds.reached_tag got.got) (omega arith))
           (λ w. ⊎_elim
@@ -111,8 +239,9 @@ module _ (p : Params) (r : Facts) (g : Setting p r) (q : PieceFacts) (m : PieceL
           w)
           (is_ahead p r g u xu z base e t ct xt it le sl zx cut own.sent)
 
-  -- Nor was it put by the next cub for a dead one. The dead cub asks for nothing. And the next one,
-  -- which would have split, was reached, too early to have forgotten the split.
+  -- Nor was it put by the next cub for a dead one. If that came back before the stop, it was
+  -- reached too; if after it, it would not let the record in. And the next one, which would have
+  -- split, was reached, too early to have forgotten the split.
   by_next : t.first ≡ n → PutsForDead p r ct t xt → ReachedBy r ct u.instance.0 xt → ⊥
   by_next f w k =
       let h = behind f in
@@ -122,12 +251,16 @@ module _ (p : Params) (r : Facts) (g : Setting p r) (q : PieceFacts) (m : PieceL
       ⊎_elim
       (λ (whole : 0 ≡ j).
       let here : d ≡ cub_of p n = there.here ∙ ap (λ v. cub_of p v) (let s : n + j ≡ n = omega arith in s) in
-      let wb = w.believed.by in
-      let dead = believed_died p g.ok g.room r g.law (cub_of p n) (cub_below p n g.ok.ranges) (next ∙ sym (cub_ahead p n 1)) w.believed.believed in
-      let long = dead.long in
-      let db = dead.died.by in
-      let last = g.law.run.last there.tick.came (subst (λ v. r.Died v dead.died.beat) (sym here) dead.died.died) in
-      absurd (omega arith))
+      let since = own_since whole there in
+      let next_reached = subst (λ v. r.Reached v u.instance.0 k.beat) next k.reached in
+      let came = subst (λ v. r.Came v b) here there.tick.came in
+      let own_life = subst (λ v. IsSameLife r v z b) here since in
+      let got = reached_too f next_reached by came own_life h in
+      let got_by = got.by in
+      let own_reached = subst (λ v. r.Reached v u.instance.0 got.beat) (sym here) got.reached in
+      let after = reached_after p r g u xu z base e own_reached in
+      let one_life = same_life_later r d z got.beat b (omega arith) since in
+      there_unreached p r g q m u xu z base e there own_reached (omega arith) one_life)
       (λ (some : 0 < j).
       let o = used_forgotten p r g q m u xu z base e (inl asks) some (subst (λ v. r.Reached v u.instance.0 k.beat) next k.reached) (omega arith) in
       let past = o.past in

@@ -4,12 +4,13 @@ use Rattle.std.specs.Prelude.{◌⊎◌}
 use Rattle.tiger_base.specs.declared.tenancy.Tenancy.{Tenancy}
 use Rattle.slot_plan.specs.declared.params.Params.{Params}
 use Rattle.slot_plan.specs.Times.{time_of, due, cub_of}
-use Rattle.slot_plan.proofs.Times.{time_next, time_below, cub_below, cub_ahead}
-use Rattle.proof_schedule.specs.Facts.{Facts, DiedLongBefore, Entered}
+use Rattle.slot_plan.proofs.Times.{time_next, time_mono, time_below, cub_below, cub_ahead}
+use Rattle.proof_schedule.specs.Facts.{Facts, DiedLongBefore, Entered, IsFirstLife, enters_from}
 use Rattle.proof_schedule.specs.Schedule.{IsHeld}
 use Rattle.proof_schedule.proofs.Origins.{entered_held}
 use Rattle.proof_schedule.proofs.Room.{soon_after}
 use Rattle.proof_schedule.proofs.Silence.{believed_died}
+use Rattle.proof_schedule.proofs.Lives.{entered_late, next_first_life}
 use Rattle.proof_schedule.proofs.Timely.{entered_in_time}
 use Rattle.proof_schedule.proofs.Invariant.{Setting}
 use Rattle.proof_pieces.specs.PieceFacts.{PieceFacts, leave, Arises, Uses}
@@ -133,11 +134,42 @@ module _ (p : Params) (r : Facts) (g : Setting p r) (q : PieceFacts) (m : PieceL
       let some = g.room.beat in
       time_below p e b (omega (arith, g.ok.ranges.read_lead))
 
+  -- The cub of a visit that is split has died long before.
+  pub split_dead : {c n b : ℕ} {t : Tenancy} → q.Split c t n b → DiedLongBefore p r (cub_of p n) b
+  split_dead {c} {n} {b} {t} w =
+      let k = m.splits w in
+      let by = k.believed.by in
+      let small = cub_below p n g.ok.ranges in
+      let next = k.next ∙ sym (cub_ahead p n 1) in
+      let o = believed_died p g.ok g.room r g.law (cub_of p n) small next k.believed.believed in
+      let long = o.long in
+      record { until = o.until; died = o.died; long = omega arith }
+
+  -- So the cub that splits is in its first life for ever.
+  pub split_first_life : {c n b : ℕ} {t : Tenancy} → q.Split c t n b → (d : ℕ) → IsFirstLife r c d
+  split_first_life {c} {n} w d =
+      let next = (m.splits w).next ∙ sym (cub_ahead p n 1) in
+      next_first_life p r g.law c d (split_dead w).died.died next
+
+  -- The piece of a record that enters a cub which has come back leaves late enough after its
+  -- return.
+  arises_late : {c n j y : ℕ} {t : Tenancy} (w : ℕ) → Arises r q c t n j y → r.Returned c w → w ≤ y
+      → enters_from p (time_of p w) ≤ leave p t n j
+  arises_late {c} {n} {j} {y} {t} w a back le =
+      let after = leave_after p t n j in
+      ⊎_elim
+      (λ o. let late = entered_late p r g.law w o.1 back le in omega arith)
+      (λ o. ⊎_elim
+      (λ s. let l = split_first_life s.1 y w back in absurd (omega arith))
+      (λ s. m.late s back le)
+      o)
+      a
+
   -- What leaves at a tick leaves at no later one: there it was too late to be fresh, since readings
-  -- never fall.
-  once : {c n j a b lead : ℕ} {t : Tenancy} → IsThere p r q c t n j a lead
+  -- never fall. If the cub died in that tick and came back, it would have left before the return.
+  once : {c n j a b lead : ℕ} {t : Tenancy} → lead ≤ p.read_lead → IsThere p r q c t n j a lead
       → (v : IsThere p r q c t n j b lead) → v.beat < b → a < b → ⊥
-  once {c} {n} {j} {a} {b} {lead} {t} w v early l =
+  once {c} {n} {j} {a} {b} {lead} {t} short w v early l =
       let soon = w.soon in
       ⊎_elim
       (λ (e : v.beat ≡ b). omega arith)
@@ -146,18 +178,27 @@ module _ (p : Params) (r : Facts) (g : Setting p r) (q : PieceFacts) (m : PieceL
       let undue = k.undue in
       ⊎_elim
       (λ t. let rise = m.rising t k.ticked (omega arith) in omega arith)
-      (λ d. let last = g.law.run.last v.tick.came d in omega arith)
+      (λ d.
+      let back = g.law.run.again v.tick.came d l in
+      let after = back.2 in
+      let before = back.3 in
+      let late = arises_late back.0 v.arises back.1 (v.life back.0 back.1 before) in
+      let high = w.tick.high in
+      let mono = time_mono p a back.0 (omega arith) in
+      omega (arith, g.room, g.ok.c4, g.ok.c1))
       w.whole)
       v.fresh
 
   -- So a cub asks once for a piece.
   pub asks_once : {c n j a b : ℕ} {t : Tenancy} → q.Asks c t n j a → q.Asks c t n j b → a < b → ⊥
-  asks_once w v l = once (m.asks w) (m.asks v) (entered_before v (m.asks v).arises) l
+  asks_once w v l =
+      once (omega arith) (m.asks w) (m.asks v) (entered_before v (m.asks v).arises) l
 
   -- And it sends it once.
   pub sent_once : {c n j a b : ℕ} {t : Tenancy} → q.Serves c t n j a → q.Serves c t n j b → a < b
       → ⊥
-  sent_once w v l = once (m.serves w) (m.serves v) (entered_sent v (m.serves v).arises) l
+  sent_once w v l =
+      once (omega arith) (m.serves w) (m.serves v) (entered_sent v (m.serves v).arises) l
 
   -- A piece is used less than a beat after it leaves.
   pub there_soon : {c n j b lead : ℕ} {t : Tenancy} → IsThere p r q c t n j b lead
@@ -179,15 +220,6 @@ module _ (p : Params) (r : Facts) (g : Setting p r) (q : PieceFacts) (m : PieceL
   pub used_there : {c n j b : ℕ} {t : Tenancy} → Uses q c t n j b
       → (lead : ℕ) × IsThere p r q c t n j b lead
   used_there w = ⊎_elim (λ a. (p.read_lead, m.asks a)) (λ a. (0, m.serves a)) w
-
-  -- The cub of a visit that is split has died long before.
-  pub split_dead : {c n b : ℕ} {t : Tenancy} → q.Split c t n b → DiedLongBefore p r (cub_of p n) b
-  split_dead {c} {n} {b} {t} w =
-      let k = m.splits w in
-      let by = k.believed.by in
-      let o = believed_died p g.ok g.room r g.law (cub_of p n) (cub_below p n g.ok.ranges) (k.next ∙ sym (cub_ahead p n 1)) k.believed.believed in
-      let long = o.long in
-      record { until = o.until; died = o.died; long = omega arith }
 
   -- So has the cub of a visit of which a piece is asked for.
   pub asked_dead : {c n j b : ℕ} {t : Tenancy} → q.Asks c t n j b → 1 ≤ j

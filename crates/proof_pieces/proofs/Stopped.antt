@@ -5,17 +5,18 @@ use Rattle.tiger_base.specs.declared.tenancy.Tenancy.{Tenancy}
 use Rattle.slot_plan.specs.declared.params.Params.{Params}
 use Rattle.slot_plan.specs.Times.{time_of, due, cub_of}
 use Rattle.slot_plan.proofs.Times.{time_mono, time_below, cub_below, cub_ahead}
-use Rattle.proof_schedule.specs.Facts.{Facts, Entered, IsReleasedBy, Ended}
+use Rattle.proof_schedule.specs.Facts.{Facts, Entered, IsReleasedBy, Ended, IsFirstLife, IsSameLife}
 use Rattle.proof_schedule.proofs.Conflicts.{not_released, record_reached}
 use Rattle.proof_schedule.proofs.Ends.{IsEnd}
 use Rattle.proof_schedule.proofs.Kept.{over_before}
 use Rattle.proof_schedule.proofs.Reach.{from_base, enters}
 use Rattle.proof_schedule.proofs.Room.{way, wave_after}
 use Rattle.proof_schedule.proofs.Waves.{reached_after}
+use Rattle.proof_schedule.proofs.Lives.{first_same_life, same_life_later, same_life_since_stop}
 use Rattle.proof_schedule.proofs.Invariant.{Setting}
 use Rattle.proof_pieces.specs.PieceFacts.{PieceFacts, Arises, Uses}
 use Rattle.proof_pieces.specs.PieceLaws.{PieceLaws, IsThere, IsKilled, IsForgotten}
-use Rattle.proof_pieces.proofs.Entries.{Origin, ByMirror, origin, split_dead, there_soon, used_there, kind_of, split_held, arises_held}
+use Rattle.proof_pieces.proofs.Entries.{Origin, ByMirror, origin, split_dead, split_first_life, there_soon, used_there, kind_of, split_held, arises_held}
 use Rattle.proof_pieces.proofs.Leaving.{leave_until}
 
 -- Of a tenancy t that was put and stopped, with its end.
@@ -23,7 +24,10 @@ module _ (p : Params) (r : Facts) (g : Setting p r) (q : PieceFacts) (m : PieceL
     (t : Tenancy) (x z base : ℕ) (e : IsEnd p r t x z base) where
   -- A cub that was reached splits nothing of it.
   pub split_unreached : {a n y h : ℕ} → q.Split a t n y → r.Reached a t.instance.0 h → h ≤ y → ⊥
-  split_unreached w reached le = let k = m.splits w in not_released p r g t x z base e k.entered (k.since _ reached le)
+  split_unreached {a} {n} {y} {h} w reached le =
+      let k = m.splits w in
+      let same = first_same_life r a y (split_first_life p r g q m w y) h in
+      not_released p r g t x z base e k.entered (k.since h reached le same)
 
   -- So nothing of it is split after its wave: the cub that splits has been reached by then.
   pub split_over : {a n y : ℕ} → q.Split a t n y → y ≤ z + (p.cubs + 1) * p.delay
@@ -36,7 +40,10 @@ module _ (p : Params) (r : Facts) (g : Setting p r) (q : PieceFacts) (m : PieceL
       let mono = time_mono p z y (omega arith) in
       let play = g.room.play in
       let from = from_base p r g t x z base e n low (omega arith) in
-      let h = record_reached p r g t x z base e k.entered (inr k.next) from k.tick.came (omega arith) in
+      let same = first_same_life r a y (split_first_life p r g q m w y) k.beat in
+      let near = inr k.next in
+      let came = k.tick.came in
+      let h = record_reached p r g t x z base e k.entered same near from came (omega arith) in
       let by = h.by in
       absurd (split_unreached w h.reached (omega arith)))
       (λ (fine : y ≤ z + (p.cubs + 1) * p.delay). fine)
@@ -64,10 +71,11 @@ module _ (p : Params) (r : Facts) (g : Setting p r) (q : PieceFacts) (m : PieceL
       let play = g.room.play in
       omega arith
 
-  -- So a cub that was reached uses nothing of it.
+  -- So a cub that was reached uses nothing of it in that life.
   pub there_unreached : {c n j b h lead : ℕ} → IsThere p r q c t n j b lead
-      → r.Reached c t.instance.0 h → h ≤ b → ⊥
-  there_unreached w reached le = not_released_piece w.arises (w.since _ reached le)
+      → r.Reached c t.instance.0 h → h ≤ b → IsSameLife r c h b → ⊥
+  there_unreached {c} {n} {j} {b} {h} w reached le one_life =
+      not_released_piece w.arises (w.since h reached le one_life)
 
   -- The cub after a visit's lives, if a piece of the visit is there: it splits, so the visit's own
   -- is dead.
@@ -77,14 +85,17 @@ module _ (p : Params) (r : Facts) (g : Setting p r) (q : PieceFacts) (m : PieceL
       let o = origin p r g q m some w.arises in
       let d = split_dead p r g q m o.split in
       ⊎_elim
-      (λ k. k)
+      (λ k. record { reading = k.reading; ticked = k.ticked })
       (λ k. absurd (g.law.run.apart d.died.died k.died (sym (cub_ahead p n 1))))
       (g.law.run.up w.tick.came l (cub_below p (n + 1) g.ok.ranges))
 
   -- The first piece is not used after that cub was reached.
-  by_first : {c a n j b h : ℕ} → Uses q c t n j b → c ≡ a → r.Reached a t.instance.0 h → h ≤ b → ⊥
-  by_first {c} {a} {n} {j} {b} {h} w same reached le =
-      there_unreached (used_there p r g q m w).1 (subst (λ v. r.Reached v t.instance.0 h) (sym same) reached) le
+  by_first : {c a n j b h : ℕ} → Uses q c t n j b → c ≡ a → IsFirstLife r a b
+      → r.Reached a t.instance.0 h → h ≤ b → ⊥
+  by_first {c} {a} {n} {j} {b} {h} w same first reached le =
+      let here = subst (λ v. r.Reached v t.instance.0 h) (sym same) reached in
+      let one_life = first_same_life r c b (subst (λ v. IsFirstLife r v b) (sym same) first) h in
+      there_unreached (used_there p r g q m w).1 here le one_life
 
   -- Another piece is not used a way after the kill: it would have been sent behind it, so split
   -- after the deschedule came.
@@ -110,14 +121,16 @@ module _ (p : Params) (r : Facts) (g : Setting p r) (q : PieceFacts) (m : PieceL
       let here : r.Reached o.cub t.instance.0 h = subst (λ v. r.Reached v t.instance.0 h) (sym a) reached in
       let delay = g.turn.delay in
       let up = ended_split {y = h} (used_there p r g q m w).1 some (omega arith) in
+      let came = subst (λ v. r.Came v h) (sym a) (g.law.run.came up.ticked) in
+      let one_life = first_same_life r o.cub h (split_first_life p r g q m o.split h) o.beat in
       ⊎_elim
       (λ (l : o.beat < h). ⊎_elim
       (λ kill. absurd (⊎_elim
-      (λ f. by_first w f.0 here (omega arith))
+      (λ f. by_first w f.0 (split_first_life p r g q m o.split b) here (omega arith))
       (λ f. by_mirror w f kill late)
       o.how))
       (λ k. subst (λ v. IsForgotten p r v t n h) a k)
-      (m.kills o.split here l (subst (λ v. r.Came v h) (sym a) (g.law.run.came up.ticked)) (omega arith)))
+      (m.kills o.split here l came (omega arith) one_life))
       (λ (l : h ≤ o.beat). absurd (split_unreached o.split here l))
       (cases_lt o.beat h)
 
@@ -144,9 +157,15 @@ module _ (p : Params) (r : Facts) (g : Setting p r) (q : PieceFacts) (m : PieceL
           → Entered r c t n o.beat → base ≤ n → z + (p.cubs + 1) * p.delay < b → ⊥
       late_own {c} {n} {j} {b} {lead} o whole entered from over =
           let here : c ≡ cub_of p n = o.here ∙ ap (λ v. cub_of p v) (let u : n + j ≡ n = omega arith in u) in
-          let h = record_reached p r g t x z base e entered (inl here) from o.tick.came (omega arith) in
+          let came = o.tick.came in
+          let h =
+          record_reached p r g t x z base e entered o.life (inl here) from came (omega arith) in
           let by = h.by in
-          there_unreached o h.reached (omega arith)
+          let within = (enters p r g t x z base e entered).within in
+          let since = same_life_since_stop p r g.law b g.room entered within o.life in
+          let after = reached_after p r g t x z base e h.reached in
+          let one_life = same_life_later r c z h.beat b (omega arith) since in
+          there_unreached o h.reached (omega arith) one_life
 
       -- A piece is used by a cub that the kill has reached.
       late_piece : {c n j b lead : ℕ} → Uses q c t n j b → (o : IsThere p r q c t n j b lead)
@@ -157,7 +176,12 @@ module _ (p : Params) (r : Facts) (g : Setting p r) (q : PieceFacts) (m : PieceL
           let until = z + (p.cubs + 1) * p.delay in
           let some : 1 ≤ j = ⊎_elim (λ a. let a1 = a.1 in omega arith) (λ a. let k = a.piece in omega arith) s.how in
           let up = ended_split {y = until} o some over in
-          let h = record_reached p r g t x z base e split.entered (inr split.next) from (subst (λ v. r.Came v until) (sym split.next) (g.law.run.came up.ticked)) (omega arith) in
+          let first = split_first_life p r g q m s.split until in
+          let same = first_same_life r s.cub until first split.beat in
+          let came = subst (λ v. r.Came v until) (sym split.next) (g.law.run.came up.ticked) in
+          let near = inr split.next in
+          let h =
+          record_reached p r g t x z base e split.entered same near from came (omega arith) in
           let by = h.by in
           let far = wave_after p g.turn z (z + (p.cubs + 2) * p.delay) (p.cubs + 2) (omega arith) (omega arith) in
           let arrived = time_below p (z + (p.cubs + 2) * p.delay) b (omega arith) in

@@ -3,7 +3,7 @@ use Rattle.std.specs.Prelude.{◌≡◌, ℕ, ◌+◌, ◌<◌, ◌≤◌, ◌�
 use Rattle.tiger_base.specs.declared.tenancy.Tenancy.{Tenancy}
 use Rattle.slot_plan.specs.declared.params.Params.{Params}
 use Rattle.slot_plan.specs.Times.{time_of, due, cub_of}
-use Rattle.proof_schedule.specs.Facts.{Facts, BelievedBy, IsUnheld, Entered}
+use Rattle.proof_schedule.specs.Facts.{Facts, BelievedBy, IsUnheld, Entered, IsSameLife, enters_from}
 use Rattle.proof_schedule.specs.RunLaws.{IsTick}
 use Rattle.proof_pieces.specs.PieceFacts.{PieceFacts, leave, Arises, AsksBy, Uses}
 
@@ -48,7 +48,8 @@ pub record WasUndue (p : Params) (r : Facts) (c b time lead : ℕ) : Type 0 wher
   pub next : b ≡ beat + 1
   pub undue : reading + lead < time
 
--- At a tick of beat b cub c uses piece j by a record that entered when its instance was not held.
+-- At a tick of beat b cub c uses piece j by a record that entered in that life, when its instance
+-- was not held.
 -- The cub is the j-th after the visit's. The piece leaves within the lead, and at the tick before
 -- it did not, unless the record entered in this beat. If the cub did not end the beat, it died in
 -- that tick.
@@ -62,6 +63,7 @@ pub record IsThere (p : Params) (r : Facts) (q : PieceFacts) (c : ℕ) (t : Tena
   pub beat : ℕ
   pub arises : Arises r q c t n j beat
   pub by : beat ≤ b
+  pub life : IsSameLife r c beat b
   pub since : IsUnheld p r c t.instance.0 b beat
   pub soon : leave p t n j ≤ reading + lead
   pub fresh : (beat ≡ b) ⊎ WasUndue p r c b (leave p t n j) lead
@@ -107,6 +109,9 @@ pub record PieceLaws (p : Params) (r : Facts) (q : PieceFacts) : Type 0 where
   -- Link: a mirror state that was got was sent.
   pub mirrored : {c : ℕ} {t : Tenancy} {n j y : ℕ}
       → q.Mirrored c t n j y → WasMirrored p q c t n j y
+  -- Mirror state: what enters a cub that has come back leaves late enough after its return.
+  pub late : {c : ℕ} {t : Tenancy} {n j y w : ℕ}
+      → q.Mirrored c t n j y → r.Returned c w → w ≤ y → enters_from p (time_of p w) ≤ leave p t n j
   -- Reading: a disk is asked for a piece when that leaves within the read lead.
   pub asks : {c : ℕ} {t : Tenancy} {n j b : ℕ}
       → q.Asks c t n j b → IsThere p r q c t n j b p.read_lead
@@ -116,10 +121,11 @@ pub record PieceLaws (p : Params) (r : Facts) (q : PieceFacts) : Type 0 where
   pub asked : {c : ℕ} {t : Tenancy} {n j b : ℕ} → q.Serves c t n j b → WasAsked q c t n j b
   -- Clock: the readings of a cub never fall.
   pub rising : {c a b l m : ℕ} → r.Ticked c a l → r.Ticked c b m → a ≤ b → l ≤ m
-  -- Deschedule: at a deschedule a cub kills what it split in a lower beat, unless it has forgotten
-  -- that, or dies in that beat.
+  -- Deschedule: at a deschedule a cub kills what it split in a lower beat of that life, unless it
+  -- has forgotten that, or dies in that beat.
   pub kills : {a : ℕ} {t : Tenancy} {n x y b : ℕ}
       → q.Split a t n x → r.Reached a t.instance.0 y → x < y → r.Came a b → y ≤ b
+      → IsSameLife r a x b
       → IsKilled p r q a t n x y ⊎ IsForgotten p r a t n y
   -- Kill, and order on the link: a piece that is used when a kill must have come was sent behind
   -- it.

@@ -15,7 +15,7 @@ use Rattle.proof_schedule.specs.Logs.{Begun}
 use Rattle.proof_service.specs.Example.{plan, order, viewer, bytes}
 use Rattle.proof_service.specs.ServiceLogs.{Failed, Sends}
 use Rattle.proof_service.proofs.Example.{IsSent, is_block}
-use Rattle.proof_service.proofs.ExampleLog.{its, r}
+use Rattle.proof_service.proofs.ExampleLog.{worked, r}
 use Rattle.proof_service.proofs.ExamplePieces.{q, serves_in}
 use Rattle.proof_places.specs.Disks.{disk_at, IsRead}
 use Rattle.proof_places.specs.Example.{two_blocks, LawsCanBeMet}
@@ -42,7 +42,7 @@ order_is : IsOfFile c order
 order_is = record { info = two_blocks; there = refl; count = sym (block_count-there c 0 two_blocks refl); disk = refl }
 
 files : AreOfFiles plan c r
-files = record { disks = refl; orders = λ {ask} {b} h. rw (its (Begun ask b) h).0 order_is }
+files = record { disks = refl; orders = λ {ask} {b} h. rw (worked.its (Begun ask b) h).0 order_is }
 
 -- A block of it lies on the disk of its visit.
 disk_is : (n : ℕ) → (0 + (n - 0)) % 8 ≡ disk_of plan n

@@ -1,37 +1,44 @@
 -- Ahead of a newer tenancy's states goes the deschedule of the older one that had its slot.
-use Rattle.std.proofs.Common.{◌≡◌, ℕ, ◌+◌, ◌-◌, ◌<◌, ◌≤◌, refl, sym, ap, subst, ◌∙◌, arith, ⊎_elim, inl, inr, eq-or-lt_of_le}
+use Rattle.std.proofs.Common.{◌≡◌, ℕ, ◌+◌, ◌-◌, ◌*◌, ◌<◌, ◌≤◌, refl, sym, ap, subst, ◌∙◌, arith, ⊎_elim, inl, inr, eq-or-lt_of_le}
 use Rattle.std.specs.Prelude.{◌⊎◌}
 use Rattle.std.proofs.lemmas.Bool.{cases_lt}
 use Rattle.tiger_base.specs.declared.tenancy.Tenancy.{Tenancy}
 use Rattle.slot_plan.specs.declared.params.Params.{Params}
 use Rattle.slot_plan.specs.Times.{time_of, due, cub_of}
-use Rattle.slot_plan.proofs.Times.{time_mono, due_next, due_mono, cub_apart, same_cub}
+use Rattle.slot_plan.proofs.Times.{time_mono, due_next, due_add, due_mono, cub_apart, same_cub}
 use Rattle.proof_schedule.specs.HoldLaws.{horizon}
-use Rattle.proof_schedule.specs.Facts.{Facts, BelievedBy, Cut, Entered, PassedBy}
+use Rattle.proof_schedule.specs.Facts.{Facts, BelievedBy, Cut, Entered, PassedBy, IsFirstLife, IsSameLife}
 use Rattle.proof_schedule.specs.StateLaws.{SendsFirst}
 use Rattle.proof_schedule.proofs.Beats.{by_beats}
 use Rattle.proof_schedule.proofs.Soon.{put_over, windows_rise}
 use Rattle.proof_schedule.proofs.Origins.{got_held, entered_held}
+use Rattle.proof_schedule.proofs.Lives.{first_same_life, first_life_before, same_life_later, same_life_or_return, entered_late}
 use Rattle.proof_schedule.proofs.Timely.{which_of}
 use Rattle.proof_schedule.proofs.Ends.{IsEnd, WasWaiting, one_put}
-use Rattle.proof_schedule.proofs.Reach.{near_base, at_visit, wave}
+use Rattle.proof_schedule.proofs.Reach.{near_base, wave}
 use Rattle.proof_schedule.proofs.Invariant.{Setting}
 use Rattle.proof_schedule.proofs.Waves.{Wave, passed_later, tag_passed, passed_after, bare, bare_first, second_by_state, has_second}
 
 -- Of a tenancy t that was put and stopped.
 module _ (p : Params) (r : Facts) (g : Setting p r) (t : Tenancy) (x z n : ℕ) (e : IsEnd p r t x z n) where
-  -- A cub that was reached by beat b has passed the deschedule on by then, if the second cub has
-  -- heard of the Put.
-  pub reached_passed : {c y b : ℕ} → r.Reached c t.instance.0 y → y ≤ b → r.Came c b
+  -- A cub that was reached by beat b of its first life has passed the deschedule on by then, if the
+  -- second cub has heard of the Put.
+  pub reached_passed : {c y b : ℕ} → r.Reached c t.instance.0 y → y ≤ b
+      → r.Came c b → IsFirstLife r c b
       → (WasWaiting p r t x z n → c ≡ cub_of p (n + 1) → (x + p.delay < b) ⊎ BelievedBy r c b)
       → PassedBy r c t.instance.0 b
-  reached_passed {c} {y} {b} h le w late = ⊎_elim
+  reached_passed {c} {y} {b} h le w first late = ⊎_elim
       (λ k. passed_later p r g y b le (tag_passed p r g (record { beat = y; got = k.2; by = omega arith })))
       (λ k.
       let o = bare p r g t x z n e k in
       ⊎_elim
-      (λ here. passed_later p r g y b le (bare_first p r g t x z n e k o.waiting here o.soon))
-      (λ here. second_by_state p r g t x z n e here w (omega arith) o.waiting k le (has_second p r g t x z n e here w o.waiting b (omega arith) (late o.waiting here)))
+      (λ here.
+      let then = first_life_before r c b y le first in
+      passed_later p r g y b le (bare_first p r g t x z n e k then o.waiting here o.soon))
+      (λ here.
+      let heard = late o.waiting here in
+      let has = has_second p r g t x z n e here w first o.waiting b (omega arith) heard in
+      second_by_state p r g t x z n e here w first (omega arith) o.waiting k le has)
       o.to)
       (g.law.holds.reached h)
 
@@ -54,8 +61,8 @@ module _ (p : Params) (r : Facts) (g : Setting p r) (u : Tenancy) (xu z n : ℕ)
   firsts : u.first ≤ t.first
   firsts = windows_rise p g.room r g.law le it e.put sl
 
-  -- It begins at a visit that was not due at the stop.
-  first_late : time_of p z + p.skew < due p u.slot.0 t.first
+  -- It begins at a visit that is due more than two skews after the stop.
+  first_late : time_of p z + 2 * p.skew < due p u.slot.0 t.first
   first_late =
       let w = g.law.states.inserts it in
       let above = w.above in
@@ -66,7 +73,7 @@ module _ (p : Params) (r : Facts) (g : Setting p r) (u : Tenancy) (xu z n : ℕ)
       omega (arith, room)
 
   -- So it begins at the first visit of the wave, or a later one.
-  base_first : n ≤ t.first
+  pub base_first : n ≤ t.first
   base_first = ⊎_elim
       (λ (q : due p u.slot.0 n ≤ time_of p z + p.skew). ⊎_elim
       (λ (l : t.first < n).
@@ -78,27 +85,37 @@ module _ (p : Params) (r : Facts) (g : Setting p r) (u : Tenancy) (xu z n : ℕ)
       (λ q. let q0 = q.0 in let h = firsts in omega arith)
       e.begins
 
-  -- A pass of the older one's deschedule, at the cub of a visit of the newer one, is at that visit.
-  place : {s q y : ℕ} (m : ℕ) → t.first ≤ m → due p u.slot.0 m ≤ horizon p (time_of p z)
-      → Wave p r g u xu z n e s q y → cub_of p m ≡ cub_of p q → q ≡ m
-  place {s} {q} {y} m low h o same =
+  -- A pass of the older one's deschedule, at the cub of a visit of the newer one, is at that visit:
+  -- nobody is told of a visit that is a turn ahead of it.
+  place : {c s q y : ℕ} (m : ℕ) → t.first ≤ m → due p u.slot.0 m ≤ horizon p (time_of p z)
+      → Wave p r g u xu z n e c s q y → cub_of p m ≡ cub_of p q → q ≡ m
+  place {c} {s} {q} {y} m low h o same =
       let base = base_first in
       let back : n + (m - n) ≡ m = omega arith in
       let hd : due p u.slot.0 (n + (m - n)) ≤ horizon p (time_of p z) = (let d = ap (λ v. due p u.slot.0 v) back in omega arith) in
       let turn = near_base p r g u xu z n e (m - n) hd in
       let least = o.low in
+      let top = o.top in
+      let cubs = g.turn.cubs in
       ⊎_elim
-      (λ (a : n ≡ m). ⊎_elim
-      (λ (w : q < n + p.cubs). sym (same_cub p m q same (omega arith) (omega arith)))
-      (λ w.
-      let w1 = w.1 in
+      (λ (l : q < m). same_cub p q m (sym same) (omega arith) (omega arith))
+      (λ (l : m ≤ q). ⊎_elim
+      (λ (a : q < m + p.cubs). sym (same_cub p m q same l a))
+      (λ (a : m + p.cubs ≤ q).
+      let far = due_mono p u.slot.0 (m + p.cubs) q a in
+      let add = due_add p u.slot.0 m p.cubs in
       let mono = due_mono p u.slot.0 t.first m low in
-      let d = ap (λ v. due p u.slot.0 v) a in
       let late = first_late in
-      absurd (omega arith))
-      o.high)
-      (λ (a : n < m). at_visit p r g u xu z n e m o same a (omega arith))
-      (eq-or-lt_of_le (let w : n ≤ m = omega arith in w))
+      let round = g.turn.turn in
+      absurd (⊎_elim
+      (λ k. ⊎_elim
+      (λ (b : q ≡ n). let none : ⊥ = omega arith in none)
+      (λ (b : q ≡ n + 1). let none : ⊥ = omega arith in none)
+      k)
+      (λ k. let none : ⊥ = omega arith in none)
+      o.soon))
+      (cases_lt q (m + p.cubs)))
+      (cases_lt q m)
 
   -- Cub c has passed the older one's deschedule on by beat b; or visit m is beyond the horizon, or
   -- the stop is long ago.
@@ -134,7 +151,7 @@ module _ (p : Params) (r : Facts) (g : Setting p r) (u : Tenancy) (xu z n : ℕ)
       let rise = firsts in
       let cubs = g.turn.cubs in
       let d = same_due t.first in
-      reached_passed p r g u xu z n e h by w.tick.came
+      reached_passed p r g u xu z n e h by w.tick.came w.first
       (λ wait next. ⊎_elim
       (λ (a : u.first ≡ t.first). ⊎_elim
       (λ o. absurd (cub_apart p n 1 (omega arith) (omega arith) (ap (λ v. cub_of p v) (wait.base ∙ a) ∙ sym o.own ∙ next)))
@@ -159,7 +176,7 @@ module _ (p : Params) (r : Facts) (g : Setting p r) (u : Tenancy) (xu z n : ℕ)
       cut))
 
   -- A cub that takes a record of the newer one has passed it on, since the deschedule went ahead of
-  -- the state.
+  -- the state. If the cub came back between the two, the record is beyond the horizon.
   took_known : (b : ℕ) → ((y : ℕ) → y < b → AheadAt y) → {c m y : ℕ} → y ≤ b → r.Took c t m y
       → Known c m y
   took_known b ahead {c} {m} {y} h w =
@@ -169,7 +186,18 @@ module _ (p : Params) (r : Facts) (g : Setting p r) (u : Tenancy) (xu z n : ℕ)
       let later = q.later in
       let from : k.visit ≤ m = ⊎_elim (λ (a : m ≡ k.visit). omega arith) (λ (a : m ≡ k.visit + 1). omega arith) (which_of p g.room r g.law t k.given) in
       ⊎_elim
-      (λ d. inl (tag_passed p r g (q.tags u.instance.0 d.slot d.visit d.beat d.told d.by)))
+      (λ d. ⊎_elim
+      (λ life. inl (tag_passed p r g (q.tags u.instance.0 d.slot d.visit d.beat d.told d.by life)))
+      (λ k.
+      let l = k.after in
+      let kb = k.by in
+      let after = passed_after p r g u xu z n e (g.law.holds.told d.told).passed in
+      let late = entered_late p r g.law k.beat (inl w) k.returned kb in
+      let tm = time_mono p z k.beat (omega arith) in
+      let dm = same_due m in
+      let play = g.room.play in
+      inr (inl (omega arith)))
+      (same_life_or_return p r g.law c d.beat y))
       (λ d. known_on m y from (omega arith) (inr d))
       (ahead q.beat (omega arith) q.from q.ahead k.visit q.sent)
 
@@ -183,11 +211,13 @@ module _ (p : Params) (r : Facts) (g : Setting p r) (u : Tenancy) (xu z n : ℕ)
       known_on m y low (omega arith) (put_known (g.law.states.inserted a).0))
       w
 
-  -- A cub that has passed it on has told both next cubs, from the visit that is its own.
-  told_on : {a b d k : ℕ} (q : ℕ) → r.Came a d → b ≤ d → a ≡ cub_of p q → (k ≡ 1) ⊎ (k ≡ 2)
+  -- A cub that has passed it on has told both next cubs, from the visit that is its own, if it has
+  -- not been away since the stop.
+  told_on : {a b d k : ℕ} (q : ℕ) → r.Came a d → IsSameLife r a z d → b ≤ d
+      → a ≡ cub_of p q → (k ≡ 1) ⊎ (k ≡ 2)
       → t.first ≤ q → due p u.slot.0 (q + 1) ≤ horizon p (time_of p z) → PassedBy r a u.instance.0 b
       → ToldBy r a k u.instance.0 b
-  told_on {a} {b} {d} {k} q came le own which low h v =
+  told_on {a} {b} {d} {k} q came life le own which low h v =
       let by = v.by in
       let o = wave p r g u xu z n e v.passed in
       let next = due_next p u.slot.0 q in
@@ -195,7 +225,8 @@ module _ (p : Params) (r : Facts) (g : Setting p r) (u : Tenancy) (xu z n : ℕ)
       let after = passed_after p r g u xu z n e v.passed in
       let tm = time_mono p z v.beat (omega arith) in
       let dq : due p v.slot (v.visit + 1) ≡ due p u.slot.0 (q + 1) = ap (λ y. due p y (v.visit + 1)) o.slot ∙ ap (λ y. due p u.slot.0 (y + 1)) at in
-      let out = g.law.holds.passes v.passed came (omega arith) (omega arith) in
+      let since = same_life_later r a z v.beat d (omega arith) life in
+      let out = g.law.holds.passes v.passed came (omega arith) since (omega arith) in
       record {
         slot = v.slot;
         visit = v.visit + 1;
@@ -219,11 +250,15 @@ module _ (p : Params) (r : Facts) (g : Setting p r) (u : Tenancy) (xu z n : ℕ)
       let dm : due p u.slot.0 m ≡ due p u.slot.0 t.first = ap (λ v. due p u.slot.0 v) i.first in
       let room = g.room in
       ⊎_elim
-      (λ v. inl (told_on t.first w.tick.came (omega arith) i.own (inl i.near) (omega arith) (omega (arith, room)) v))
+      (λ v.
+      let life = first_same_life r a b w.first z in
+      inl (told_on t.first w.tick.came life (omega arith)
+      i.own (inl i.near) (omega arith) (omega (arith, room)) v))
       (λ v. inr (⊎_elim (λ (w : horizon p (time_of p z) < due p u.slot.0 t.first). inl (omega arith)) (λ w. inr w) v))
       (put_known i.put)
 
-  -- It goes ahead of each state that is forwarded, too.
+  -- It goes ahead of each state that is forwarded, too. If the forwarding cub came back after the
+  -- stop, its record is beyond the horizon.
   ahead_step : (b : ℕ) → ((y : ℕ) → y < b → AheadAt y) → AheadAt b
   ahead_step b ahead a k m w = ⊎_elim
       (λ (far : horizon p (time_of p z) < due p u.slot.0 m). inr (inl far))
@@ -236,7 +271,21 @@ module _ (p : Params) (r : Facts) (g : Setting p r) (u : Tenancy) (xu z n : ℕ)
       let low = (entered_held p r g.law o.entered).low in
       let dm : due p u.slot.0 m ≡ due p u.slot.0 (o.visit + 1) = ap (λ v. due p u.slot.0 v) next in
       ⊎_elim
-      (λ v. inl (told_on o.visit o.tick.came (omega arith) o.own (g.law.states.ahead w) low (omega arith) v))
+      (λ v. ⊎_elim
+      (λ life.
+      let which = g.law.states.ahead w in
+      inl (told_on o.visit o.tick.came life (omega arith) o.own which low (omega arith) v))
+      (λ k.
+      let l = k.after in
+      let kb = k.by in
+      let same = o.life k.beat k.returned kb in
+      let late = entered_late p r g.law k.beat o.entered k.returned same in
+      let tm = time_mono p z k.beat (omega arith) in
+      let dn = due_next p u.slot.0 o.visit in
+      let dv = same_due o.visit in
+      let play = g.room.play in
+      inr (inl (omega arith)))
+      (same_life_or_return p r g.law a z b))
       (λ v. inr v)
       (known_on m b (omega arith) by (entered_known b ahead by o.entered)))
       (g.law.states.sends w))

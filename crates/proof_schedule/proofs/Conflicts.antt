@@ -7,9 +7,10 @@ use Rattle.slot_plan.specs.declared.params.Params.{Params}
 use Rattle.slot_plan.specs.Times.{time_of, due, cub_of}
 use Rattle.slot_plan.proofs.Times.{time_next, time_mono, time_below, due_next, due_mono}
 use Rattle.proof_schedule.specs.HoldLaws.{horizon}
-use Rattle.proof_schedule.specs.Facts.{Facts, ReachedBy, Cut, Late, Entered, Takes, IsBeside, IsGiven, IsReleasedBy, PassedBy}
+use Rattle.proof_schedule.specs.Facts.{Facts, ReachedBy, Cut, Late, Entered, Takes, IsBeside, IsGiven, IsReleasedBy, PassedBy, IsSameLife}
 use Rattle.proof_schedule.specs.StateLaws.{Found, Meeting}
 use Rattle.proof_schedule.proofs.Soon.{sent_soon}
+use Rattle.proof_schedule.proofs.Lives.{same_life_later, same_life_before, same_life_since_stop}
 use Rattle.proof_schedule.proofs.Invariant.{Setting, NoConflictAt}
 use Rattle.proof_schedule.proofs.Origins.{given_held, got_held, took_held, entered_held}
 use Rattle.proof_schedule.proofs.Timely.{sent_in_time, which_of}
@@ -17,7 +18,7 @@ use Rattle.proof_schedule.proofs.Ahead.{is_ahead, is_known}
 use Rattle.proof_schedule.proofs.Ends.{IsEnd, end_of, one_put}
 use Rattle.proof_schedule.proofs.Reach.{from_base, ends, enters, reached_at}
 use Rattle.proof_schedule.proofs.Room.{wave_after}
-use Rattle.proof_schedule.proofs.Waves.{among, reached_after, passed_later, passed_reached}
+use Rattle.proof_schedule.proofs.Waves.{among, reached_after, passed_after, passed_later}
 
 -- Of a tenancy t that was put and stopped.
 module _ (p : Params) (r : Facts) (g : Setting p r) (t : Tenancy) (x z n : ℕ) (e : IsEnd p r t x z n) where
@@ -33,18 +34,30 @@ module _ (p : Params) (r : Facts) (g : Setting p r) (t : Tenancy) (x z n : ℕ) 
       let play = g.room.play in
       omega arith
 
-  -- The cub of a record is reached by the end of the wave, if the record is of a visit of the wave.
-  pub record_reached : {c m y b : ℕ} → Entered r c t m y → IsBeside p c m → n ≤ m → r.Came c b
-      → z + (p.cubs + 1) * p.delay ≤ b
+  -- A cub that has a record has not been away since the stop.
+  pub record_since : {c m y b : ℕ} → Entered r c t m y → IsSameLife r c y b → IsSameLife r c z b
+  record_since {c} {m} {y} {b} w life =
+      same_life_since_stop p r g.law b g.room w (enters p r g t x z n e w).within life
+
+  -- It is reached by the end of the wave, if the record is of a visit of the wave.
+  pub record_reached : {c m y b : ℕ} → Entered r c t m y → IsSameLife r c y b → IsBeside p c m
+      → n ≤ m → r.Came c b → z + (p.cubs + 1) * p.delay ≤ b
       → ReachedBy r c t.instance.0 (z + (p.cubs + 1) * p.delay)
-  record_reached {c} {m} {y} {b} w to low tick late =
+  record_reached {c} {m} {y} {b} w life to low tick late =
       let o = enters p r g t x z n e w in
       let until = z + (p.cubs + 1) * p.delay in
+      let since = record_since w life in
       ⊎_elim
-      (λ here. subst (λ (v : ℕ). ReachedBy r v t.instance.0 until) (sym here)
-      (passed_reached p r g (reached_at p r g t x z n e m low o.within (subst (λ (v : ℕ). r.Came v b) here tick) late)))
-      (λ next. subst (λ (v : ℕ). ReachedBy r v t.instance.0 until) (sym next)
-      (passed_reached p r g (reached_at p r g t x z n e (m + 1) (omega arith) (o.next next) (subst (λ (v : ℕ). r.Came v b) next tick) late)))
+      (λ here.
+      let came = subst (λ (v : ℕ). r.Came v b) here tick in
+      let life = subst (λ (v : ℕ). IsSameLife r v z b) here since in
+      subst (λ (v : ℕ). ReachedBy r v t.instance.0 until) (sym here)
+      (reached_at p r g t x z n e m low o.within came life late))
+      (λ next.
+      let came = subst (λ (v : ℕ). r.Came v b) next tick in
+      let life = subst (λ (v : ℕ). IsSameLife r v z b) next since in
+      subst (λ (v : ℕ). ReachedBy r v t.instance.0 until) (sym next)
+      (reached_at p r g t x z n e (m + 1) (omega arith) (o.next next) came life late))
       to
 
 -- A state gives records of a visit to its cub and the next one alone.
@@ -120,10 +133,20 @@ module _ (p : Params) (r : Facts) (g : Setting p r) where
         let next = time_next p q.beat in
         let some = g.room.beat in
         let done = time_below p (z + (p.cubs + 1) * p.delay) (q.beat + 1) (omega arith) in
-        let tick = g.law.run.got_ended {b = z + (p.cubs + 1) * p.delay} got (omega arith) in
-        let k1 = record_reached p r g v.holder xu z n e w.0 (beside_given p t given) base (g.law.run.came tick.ticked) (omega arith) in
-        let by = k1.by in
-        not_released p r g v.holder xu z n e w.0 (v.since k1.beat k1.reached (omega arith))
+        let until = z + (p.cubs + 1) * p.delay in
+        let since = record_since p r g v.holder xu z n e w.0 v.life in
+        let life = same_life_later r c z until y (omega arith) since in
+        let tick = g.law.run.got_ended {b = until} got (omega arith) life in
+        let came = g.law.run.came tick.ticked in
+        let then = same_life_before r c v.beat until y (omega arith) v.life in
+        let to = beside_given p t given in
+        let reached = record_reached p r g v.holder xu z n e w.0 then to base came (omega arith) in
+        let by = reached.by in
+        let after = reached_after p r g v.holder xu z n e
+        {c = c} {y = reached.beat} reached.reached in
+        let same = same_life_later r c z reached.beat y (omega arith) since in
+        let over = v.since reached.beat reached.reached (omega arith) same in
+        not_released p r g v.holder xu z n e w.0 over
 
     -- Nor does one have the place whose deschedule went ahead of the state, or whose visit is
     -- beyond the horizon. So no older tenancy has it.
@@ -131,7 +154,12 @@ module _ (p : Params) (r : Facts) (g : Setting p r) where
     gone_from le zx cut =
         let w = found_entered v in
         ⊎_elim
-        (λ d. not_released p r g v.holder xu z n e w.0 (v.behind d.slot d.visit d.beat d.told d.by))
+        (λ d.
+        let since = record_since p r g v.holder xu z n e w.0 v.life in
+        let after = passed_after p r g v.holder xu z n e (g.law.holds.told d.told).passed in
+        let life = same_life_later r c z d.beat y (omega arith) since in
+        let over = v.behind d.slot d.visit d.beat d.told d.by life in
+        not_released p r g v.holder xu z n e w.0 over)
         (λ o. ⊎_elim
         (λ (far : horizon p (time_of p z) < due p v.holder.slot.0 m).
         let within = (enters p r g v.holder xu z n e w.0).within in
@@ -197,7 +225,9 @@ module _ (p : Params) (r : Facts) (g : Setting p r) where
       let hh = held.high in
       ⊎_elim
       (λ (same : v.holder.instance.0 ≡ t.instance.0).
-      inl (record { beat = v.beat; entered = subst (λ (u : Tenancy). Entered r c u k v.beat) (one_put p r g o.put held.put same).1 w.0; by = wb }))
+      let one = (one_put p r g o.put held.put same).1 in
+      let entered = subst (λ (u : Tenancy). Entered r c u k v.beat) one w.0 in
+      inl (record { beat = v.beat; entered = entered; by = wb; life = v.life }))
       (λ (ne : v.holder.instance.0 ≢ t.instance.0). ⊎_elim
       (λ (l : o.beat < held.beat). ⊎_elim
       (λ (z : t.last < v.holder.first). absurd (omega arith))
@@ -218,11 +248,11 @@ module _ (p : Params) (r : Facts) (g : Setting p r) where
 
   -- So there is no conflict in any beat.
   pub no_conflict : (y : ℕ) → NoConflictAt p r y
-  no_conflict y c m k t got given =
+  no_conflict y c m k t got given let_in =
       let o = got_held p r g.law got in
       let in_tenancy = given_held p r g.law t o.low o.high given in
       let q = g.law.states.meets got o.low o.high in
       ⊎_elim
       (λ v. found_own got o.low given in_tenancy.0 in_tenancy.1 q v)
       (λ a. inr (inl a))
-      (q.places k given)
+      (q.places k given let_in)

@@ -6,12 +6,13 @@ use Rattle.tiger_base.specs.declared.tenancy.Ask.{Ask}
 use Rattle.tiger_base.specs.declared.tenancy.Tenancy.{Tenancy}
 use Rattle.slot_plan.specs.declared.params.Params.{Params}
 use Rattle.slot_plan.specs.Times.{time_of, due, cub_of, disk_of}
-use Rattle.slot_plan.proofs.Times.{time_add, time_mono, due_next, cub_below, cub_ahead}
-use Rattle.proof_schedule.specs.Facts.{Facts, Ended}
+use Rattle.slot_plan.proofs.Times.{time_add, time_mono, due_next, cub_ahead}
+use Rattle.proof_schedule.specs.Facts.{Facts}
 use Rattle.proof_schedule.proofs.Starts.{disk_cub, ordered, put_first}
 use Rattle.proof_schedule.proofs.Room.{way}
+use Rattle.proof_schedule.proofs.Lives.{first_same_life}
 use Rattle.proof_schedule.proofs.Timely.{put_in_time}
-use Rattle.proof_schedule.proofs.Invariant.{Setting, NoConflictAt}
+use Rattle.proof_schedule.proofs.Invariant.{Setting}
 
 -- The controller stopped the instance of t at a disk: it did not yet know of the Put of beat x. So
 -- the deschedule goes to the cub of the first visit and the next one, long before that visit is
@@ -50,17 +51,6 @@ module _ (p : Params) (r : Facts) (g : Setting p r) where
       (λ (l : x < y). let o = g.once y d c x u t (omega arith) j i (sym e) in (sym o.0, sym o.1, sym o.2))
       (λ (l : y ≤ x). g.once x c d y t u l i j e)
       (cases_lt x y)
-
-  -- A cub that came to a beat's tick has ended each lower beat.
-  pub ended_before : {c b : ℕ} (y m : ℕ) → c ≡ cub_of p m → r.Came c b → y < b → Ended r c y
-  ended_before {c} {b} y m here w l = ⊎_elim
-      (λ k. k)
-      (λ k. let a = g.law.run.last w k.died in let by = k.by in absurd (omega arith))
-      (g.law.run.up w l (subst (λ v. v < p.cubs) (sym here) (cub_below p m g.ok.ranges)))
-
-  -- And in those there was no conflict.
-  pub clean_before : {c b : ℕ} (y m : ℕ) → c ≡ cub_of p m → r.Came c b → y < b → NoConflictAt p r y
-  clean_before {c} {b} y m here w l = let k = ended_before y m here w l in g.clean c y k.reading y k.ticked (omega arith)
 
   -- A tenancy that is stopped at a visit has its end there.
   end_at : {c x z s n : ℕ} {t : Tenancy} → r.Put c t x → r.Gone t.instance.0 z
@@ -111,10 +101,14 @@ module _ (p : Params) (r : Facts) (g : Setting p r) where
   waiting_put {c} {d} {x} {z} {t} i h = ⊎_elim
       (λ (l : x < z + p.delay). l)
       (λ (late : z + p.delay ≤ x).
-      let z = g.law.states.inserts i in
+      let put = g.law.states.inserts i in
       let disk_of_first = disk_is i h in
-      let to = ⊎_elim (λ w. inl (w.own ∙ sym (first_cub t disk_of_first))) (λ w. inr (w.next ∙ sym (second_cub t disk_of_first))) z.who in
-      let k = g.law.links.bare_arrives c x h to z.tick.came late in
+      let to = ⊎_elim
+      (λ w. inl (w.own ∙ sym (first_cub t disk_of_first)))
+      (λ w. inr (w.next ∙ sym (second_cub t disk_of_first)))
+      put.who in
+      let life = first_same_life r c x put.first z in
+      let k = g.law.links.bare_arrives c x h to put.tick.came life late in
       let by = k.by in
       let after = put_first p g.ok g.room r g.law i (g.law.holds.reached_bare k.got) in
       absurd (omega arith))

@@ -7,16 +7,18 @@ use Rattle.slot_plan.specs.declared.params.Params.{Params}
 use Rattle.slot_plan.specs.Conditions.{IsPlan}
 use Rattle.slot_plan.specs.Times.{time_of, due, cub_of}
 use Rattle.slot_plan.proofs.Times.{time_next, time_mono, time_below, cub_ahead, cub_apart}
-use Rattle.proof_schedule.specs.Facts.{Facts, GoneBefore, Entered, Knows, IsBeside, IsUnheld}
+use Rattle.proof_schedule.specs.Facts.{Facts, GoneBefore, Entered, Knows, IsBeside, IsUnheld, IsSameLife, IsOpenTo}
 use Rattle.proof_schedule.specs.StateLaws.{Stands}
 use Rattle.proof_schedule.specs.Laws.{Laws}
 use Rattle.proof_schedule.specs.Schedule.{IsTaken, PutsFor, IsOneSchedule}
-use Rattle.proof_schedule.proofs.Conflicts.{not_released, record_reached, beside_given}
+use Rattle.proof_schedule.proofs.Conflicts.{not_released, record_since, record_reached, beside_given}
 use Rattle.proof_schedule.proofs.Ends.{end_of, one_put}
 use Rattle.proof_schedule.proofs.Beside.{arrived, beside}
 use Rattle.proof_schedule.proofs.Induction.{setting}
 use Rattle.proof_schedule.proofs.Kept.{kept}
 use Rattle.proof_schedule.proofs.Origins.{entered_held}
+use Rattle.proof_schedule.proofs.Waves.{reached_after}
+use Rattle.proof_schedule.proofs.Lives.{same_life_later}
 use Rattle.proof_schedule.proofs.Reach.{from_base, enters}
 use Rattle.proof_schedule.proofs.Room.{wave_after}
 use Rattle.proof_schedule.proofs.Silence.{believed_died, dead_first, cut_gone}
@@ -37,12 +39,15 @@ module _ (p : Params) (r : Facts) (g : Setting p r) where
       (λ w. inr (w.next, w.believed, dead_first p g.ok g.room r g.law w))
       (g.law.states.inserts i).who
 
-  -- The cub after the one that put knows the first visit.
+  -- The cub after the one that put knows the first visit, if it lets it in.
   first_backup : {c x b : ℕ} {t : Tenancy} → r.Put c t x → c ≡ cub_of p t.first
       → r.Came (cub_of p (t.first + 1)) b → x + p.delay ≤ b
+      → IsOpenTo p r (cub_of p (t.first + 1)) (due p t.slot.0 t.first) b
       → Knows p r (cub_of p (t.first + 1)) t t.first b
-  first_backup {c} {x} {b} {t} i own came late = ⊎_elim
-      (λ w. arrived p r g t.first w.sent (sym (ap (λ v. cub_of p (v + 1)) w.own ∙ cub_ahead p t.first 1)) came late (inl (refl, inr refl)))
+  first_backup {c} {x} {b} {t} i own came late let_in = ⊎_elim
+      (λ w.
+      let to = sym (ap (λ v. cub_of p (v + 1)) w.own ∙ cub_ahead p t.first 1) in
+      arrived p r g t.first w.sent to came late (inl (refl, inr refl)) let_in)
       (λ w.
       let cubs = g.turn.cubs in
       absurd (cub_apart p t.first 1 (omega arith) (omega arith) (sym own ∙ w.next)))
@@ -55,12 +60,13 @@ module _ (p : Params) (r : Facts) (g : Setting p r) where
       (λ a. beside_given p t (g.law.states.inserted a).1)
       w
 
-  -- A record that is not yet due, and entered when its instance was not held, is of an instance
-  -- that was not stopped a play time before the next beat begins.
-  recent : {c n e b l z : ℕ} {t : Tenancy} → Entered r c t n e → IsUnheld p r c t.instance.0 b e
+  -- A record of that life that is not yet due, and entered when its instance was not held, is of an
+  -- instance that was not stopped a play time before the next beat begins.
+  recent : {c n e b l z : ℕ} {t : Tenancy} → Entered r c t n e → IsSameLife r c e b
+      → IsUnheld p r c t.instance.0 b e
       → r.Ticked c b l → l < due p t.slot.0 n → r.Gone t.instance.0 z
       → time_of p (b + 1) ≤ time_of p z + p.play
-  recent {c} {n} {e} {b} {l} {z} {t} w since tick undue gone =
+  recent {c} {n} {e} {b} {l} {z} {t} w life since tick undue gone =
       let o = entered_held p r g.law w in
       let end = end_of p r g o.put gone in
       let room = g.room in
@@ -75,9 +81,15 @@ module _ (p : Params) (r : Facts) (g : Setting p r) where
       let one = time_next p 0 in
       let beat = g.room.beat in
       let over = time_below p (z + (p.cubs + 1) * p.delay) b (omega arith) in
-      let h = record_reached p r g t o.beat z end.0 end.1 w (beside_entered w) base (g.law.run.came tick) (omega arith) in
+      let came = g.law.run.came tick in
+      let h = record_reached p r g t o.beat z end.0 end.1
+      w life (beside_entered w) base came (omega arith) in
+      let stopped = record_since p r g t o.beat z end.0 end.1 w life in
+      let after = reached_after p r g t o.beat z end.0 end.1 h.reached in
       let by = h.by in
-      absurd (not_released p r g t o.beat z end.0 end.1 w (since h.beat h.reached (omega arith))))
+      let same = same_life_later r c z h.beat b (omega arith) stopped in
+      let over = since h.beat h.reached (omega arith) same in
+      absurd (not_released p r g t o.beat z end.0 end.1 w over))
       (λ (early : time_of p (b + 1) ≤ time_of p z + p.play). early)
       (cases_lt (time_of p z + p.play) (time_of p (b + 1)))
 
@@ -94,7 +106,9 @@ module _ (p : Params) (r : Facts) (g : Setting p r) where
         holder = k.holder;
         slot = k.slot;
         held = record { cub = o.cub; beat = o.beat; put = o.put; by = omega arith; low = o.low; high = o.high };
-        recent = λ z gone. let early = recent {l = l} k.entered k.since tick (omega arith) gone in omega arith;
+        recent = λ z gone.
+            let early = recent {l = l} k.entered k.life k.since tick (omega arith) gone in
+            omega arith;
       }
 
   -- So there is one schedule.
@@ -106,9 +120,11 @@ module _ (p : Params) (r : Facts) (g : Setting p r) where
     who = λ c x t i. who i;
     trust = λ c d b w next small. believed_died p g.ok g.room r g.law d small next w;
     rising = λ c d x y t u i j h s. windows_rise p g.room r g.law h i j s;
-    kept = λ c x b l n t i low high may w. kept p r g b c x n t i low high may (g.law.run.came w);
+    kept = λ c x b l n t i low high may w let_in.
+        kept p r g b c x n t i low high may (g.law.run.came w) let_in;
     beside = λ c x b e l n t i low high may died w. beside p r g b c x e n n t i low high may died (g.law.run.came w) (inl (refl, inr refl));
-    first_backup = λ c x b l t i own w late. first_backup i own (g.law.run.came w) late;
+    first_backup = λ c x b l t i own w late let_in.
+        first_backup i own (g.law.run.came w) late let_in;
     cut = λ c v b w. cut_gone p g.ok g.room r g.law w;
     held = λ c n y t w. entered_held p r g.law w;
     soon = λ c n y t w. soon p g.room r g.law w;
@@ -121,12 +137,12 @@ module _ (p : Params) (r : Facts) (g : Setting p r) where
         let by = k.by in
         let ob = o.by in (
           record { cub = o.cub; beat = o.beat; put = o.put; by = omega arith; low = o.low; high = o.high },
-          λ z gone. recent k.entered k.since k.ticked k.undue gone,
+          λ z gone. recent k.entered k.life k.since k.ticked k.undue gone,
         );
-    waits = λ c y b l s n ask k le w slot window. ⊎_elim
+    waits = λ c y b l s n ask k le w first slot window. ⊎_elim
         (λ a. inl (taken a w (let above = window.1 in omega arith)))
         (λ o. inr (⊎_elim (λ a. inl (placed p g.room r g.law a)) (λ a. inr a) o))
-        (g.law.starts.waits s n k le w slot window);
+        (g.law.starts.waits s n k le w first slot window);
   }
 
 -- In each run of a plan that meets the laws.

@@ -35,11 +35,14 @@ module _ (p : Params) (r : Facts) (ok : IsPlan p) (law : Laws p r) where
             (λ k. inl k)
             (λ k. inr (prefix_gone p room r b (omega arith) k.0, prefix_cut p room r b (omega arith) k.1))
             ((below x i.1).free c d y t u le i.0 j.0 slot ne);
-        sent = λ y c x l n t i low more may w. let wl = w.1 in ⊎_elim
+        sent = λ y c x l n t i low more may w first. let wl = w.1 in ⊎_elim
             (λ k. inl (prefix_sends p room r b wl k))
             (λ k. inr (prefix_cut p room r b (omega arith) k))
-            ((below y w.1).sent c x l n t i.0 low more may w.0);
-        clean = λ d e l y w le c m n t got given. let wl = w.1 in prefix_takes p room r b (omega arith) ((below y (omega arith)).clean c m n t got.0 given);
+            ((below y w.1).sent c x l n t i.0 low more may w.0 first);
+        clean = λ d e y w le c m n t got given let_in.
+            let wl = w.1 in
+            let clean = (below y (omega arith)).clean in
+            prefix_takes p room r b (omega arith) (clean c m n t got.0 given let_in);
       }
 
   -- Then it holds in beat b. There is no conflict in the prefix, so there is none in the run; and
@@ -48,7 +51,9 @@ module _ (p : Params) (r : Facts) (ok : IsPlan p) (law : Laws p r) where
   holds_at b below =
       let g = setting_below b below in
       record {
-        clean = λ c m n t got given. run_takes p r b (no_conflict p (prefix r b) g b c m n t (got, omega arith) given);
+        clean = λ c m n t got given let_in.
+            let clean = no_conflict p (prefix r b) g b in
+            run_takes p r b (clean c m n t (got, omega arith) given let_in);
         once = once_at p r b law g;
         free = free_at p r b law g;
         sent = sent_at p r b law g;
@@ -68,5 +73,5 @@ module _ (p : Params) (r : Facts) (ok : IsPlan p) (law : Laws p r) where
     once = λ b. (always b).once;
     free = λ b. (always b).free;
     sent = λ b. (always b).sent;
-    clean = λ d e l y w le. (always y).clean;
+    clean = λ d e y w le. (always y).clean;
   }

@@ -5,10 +5,13 @@ pub mod Conflicts
 pub mod CuttingOn
 pub mod Ends
 pub mod Example
+pub mod ExamplePut
+pub mod ExampleReturn
 pub mod Follows
 pub mod Induction
 pub mod Invariant
 pub mod Kept
+pub mod Lives
 pub mod Once
 pub mod Origins
 pub mod Passes

@@ -2,13 +2,14 @@
 use Rattle.std.proofs.Common.{◌≡◌, ℕ, ◌+◌, ◌<◌, ◌≤◌, refl, sym, ap, subst, ◌∙◌, arith, ⊎_elim, inl, inr}
 use Rattle.tiger_base.specs.declared.tenancy.Tenancy.{Tenancy}
 use Rattle.slot_plan.specs.declared.params.Params.{Params}
-use Rattle.slot_plan.specs.Times.{cub_of}
+use Rattle.slot_plan.specs.Times.{due, cub_of}
 use Rattle.slot_plan.proofs.Times.{cub_ahead}
 use Rattle.proof_schedule.specs.Facts.{Facts, EnteredBy, Late}
 use Rattle.proof_schedule.specs.StateLaws.{PutsOwn, PutsForDead}
 use Rattle.proof_schedule.specs.Laws.{Laws}
 use Rattle.proof_schedule.proofs.Conflicts.{no_conflict}
 use Rattle.proof_schedule.proofs.Ends.{end_of}
+use Rattle.proof_schedule.proofs.Lives.{first_same_life, first_life_before, first_is_open}
 use Rattle.proof_schedule.proofs.Prefix.{prefix, run_passed}
 use Rattle.proof_schedule.proofs.Room.{soon_after}
 use Rattle.proof_schedule.proofs.Silence.{dead_first, put_heard}
@@ -33,7 +34,8 @@ module _ (p : Params) (r : Facts) (b : ℕ) (law : Laws p r) (g : Setting p (pre
     heard =
         let k = w.believed in
         let by = k.by in
-        let a = put_heard p g.ok g.room r law own next_cub k.believed in
+        let first = (law.states.inserts j).first in
+        let a = put_heard p g.ok g.room r law own first next_cub k.believed in
         omega arith
 
     -- Cub c's start came before that state: both starts are of one order, and cub d put after its
@@ -89,9 +91,12 @@ module _ (p : Params) (r : Facts) (b : ℕ) (law : Laws p r) (g : Setting p (pre
         let l = heard in
         let z = law.states.inserts i in
         let to : c ≡ cub_of p (d + 1) = next_cub ∙ sym (cub_ahead p u.first 1) ∙ ap (λ v. cub_of p (v + 1)) (sym own.own) in
-        let got = law.links.arrives c b own.sent to z.tick.came (omega arith) in
+        let life = first_same_life r c b z.first in
+        let got = law.links.arrives c b own.sent to z.tick.came (life y) (omega arith) in
         let by = got.by in
         let until : got.beat ≤ b = omega arith in
+        let then = first_life_before r c b got.beat until z.first in
+        let let_in = first_is_open p r c got.beat then (due p u.slot.0 u.first) in
         ⊎_elim
         (λ e. not_entered e until)
         (λ o. ⊎_elim
@@ -100,10 +105,13 @@ module _ (p : Params) (r : Facts) (b : ℕ) (law : Laws p r) (g : Setting p (pre
         let kb = k.by in
         let q = (law.holds.pass k.passed).reached in
         let qb = q.by in
-        not_held p g.ok g.room r law i ((law.starts.comes i).since q.beat (subst (λ v. r.Reached c v q.beat) same q.reached) (omega arith)))
+        let reached = subst (λ v. r.Reached c v q.beat) same q.reached in
+        let over = (law.starts.comes i).since q.beat reached (omega arith) (life q.beat) in
+        not_held p g.ok g.room r law i over)
         (λ e. not_late e by)
         o)
-        (no_conflict p (prefix r b) g got.beat c u.first u.first u (got.got, until) (inl (refl, inr next_cub)))
+        (no_conflict p (prefix r b) g got.beat c u.first u.first u
+        (got.got, until) (inl (refl, inr next_cub)) let_in)
 
   -- So an instance that is put in beat b was not put before: not by the same cub, nor for a dead
   -- cub that had put it, nor by a cub that was dead.
@@ -121,7 +129,8 @@ module _ (p : Params) (r : Facts) (b : ℕ) (law : Laws p r) (g : Setting p (pre
       let dead = dead_first p g.ok g.room r law o in
       let long = dead.long in
       let db = dead.died.by in
-      let last = law.run.last zi.tick.came (subst (λ v. r.Died v dead.died.beat) (cubs ∙ sym own.own) dead.died.died) in
+      let died = subst (λ v. r.Died v dead.died.beat) (cubs ∙ sym own.own) dead.died.died in
+      let last = law.run.last zi.tick.came died zi.first in
       absurd (omega arith))
       zj.who)
       (λ w. ⊎_elim

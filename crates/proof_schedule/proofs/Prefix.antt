@@ -4,7 +4,7 @@ use Rattle.tiger_base.specs.declared.tenancy.Ask.{Ask}
 use Rattle.tiger_base.specs.declared.tenancy.Tenancy.{Tenancy}
 use Rattle.slot_plan.specs.declared.params.Params.{Params}
 use Rattle.slot_plan.proofs.Times.{time_below}
-use Rattle.proof_schedule.specs.Facts.{Facts, Ended, GotBy, GotTagBy, GotBareBy, PassedBy, ReachedBy, BelievedBy, DiedBy, GoneBefore, Late, IsReleasedBy, IsUnheld, Cut, Entered, EnteredBy, EnteredAmong, Knows, Takes}
+use Rattle.proof_schedule.specs.Facts.{Facts, Ended, LivedTo, GotBy, GotTagBy, GotBareBy, PassedBy, ReachedBy, BelievedBy, DiedBy, GoneBefore, Late, IsReleasedBy, IsUnheld, Cut, Entered, EnteredBy, EnteredAmong, Knows, Takes}
 use Rattle.proof_schedule.specs.RunLaws.{IsTick, RunLaws}
 use Rattle.proof_schedule.specs.LinkLaws.{WasSent, LinkLaws}
 use Rattle.proof_schedule.specs.StateLaws.{StateLaws, PutsForDead, Stands, Inserts, Forwards, Sends, Found, Meeting, IsShown}
@@ -17,7 +17,7 @@ use Rattle.proof_schedule.proofs.Room.{Room}
 
 -- The prefix of a run up to the middle of beat b: in beat b the messages are taken, and nobody has
 -- ticked. What cubs do in a tick is kept of lower beats, and what comes of a message of beat b too.
--- Orders, starts, heartbeats and deaths are kept whole, since no law needs less.
+-- Orders, starts, heartbeats, deaths and returns are kept whole, since no law needs less.
 abbrev pub prefix : Facts → ℕ → Facts
 prefix r b = record {
   Came = λ c y. r.Came c y × (y ≤ b);
@@ -40,6 +40,7 @@ prefix r b = record {
   GotBare = λ c v y. r.GotBare c v y × (y ≤ b);
   Passed = λ c v s q y. r.Passed c v s q y × (y ≤ b);
   Died = r.Died;
+  Returned = r.Returned;
   Beat = r.Beat;
   Heard = r.Heard;
   Believed = λ c y. r.Believed c y × (y < b);
@@ -70,7 +71,8 @@ module _ (p : Params) (r : Facts) (b : ℕ) where
   -- A record that entered by a beat.
   pub run_entered_by : {c n y : ℕ} {t : Tenancy} → EnteredBy (prefix r b) c t n y
       → EnteredBy r c t n y
-  run_entered_by k = record { beat = k.beat; entered = run_entered k.entered; by = k.by }
+  run_entered_by k =
+      record { beat = k.beat; entered = run_entered k.entered; by = k.by; life = k.life }
 
   -- What a cub knows.
   pub run_knows : {c n y : ℕ} {t : Tenancy} → Knows p (prefix r b) c t n y → Knows p r c t n y
@@ -85,6 +87,10 @@ module _ (p : Params) (room : Room p) (r : Facts) (b : ℕ) where
   -- A tick.
   prefix_ended : {c y : ℕ} → y < b → Ended r c y → Ended (prefix r b) c y
   prefix_ended l k = record { reading = k.reading; ticked = (k.ticked, l) }
+
+  -- A tick of a first life.
+  prefix_lived : {c y : ℕ} → y < b → LivedTo r c y → LivedTo (prefix r b) c y
+  prefix_lived l k = record { reading = k.reading; ticked = (k.ticked, l); first = k.first }
 
   -- A death.
   prefix_died : {c y : ℕ} → DiedBy r c y → DiedBy (prefix r b) c y
@@ -138,7 +144,7 @@ module _ (p : Params) (room : Room p) (r : Facts) (b : ℕ) where
 
   -- A hold that was over.
   prefix_unheld : {c v x y : ℕ} → y ≤ b → IsUnheld p r c v x y → IsUnheld p (prefix r b) c v x y
-  prefix_unheld l k = λ e w le. prefix_released l (k e w.0 le)
+  prefix_unheld l k = λ e w le life. prefix_released l (k e w.0 le life)
 
   -- A record that entered.
   prefix_entered : {c n y : ℕ} {t : Tenancy} → y < b → Entered r c t n y
@@ -148,7 +154,10 @@ module _ (p : Params) (room : Room p) (r : Facts) (b : ℕ) where
   -- A record that entered by a beat.
   pub prefix_entered_by : {c n y : ℕ} {t : Tenancy} → y < b → EnteredBy r c t n y
       → EnteredBy (prefix r b) c t n y
-  prefix_entered_by l k = let by = k.by in record { beat = k.beat; entered = prefix_entered (omega arith) k.entered; by = by }
+  prefix_entered_by l k =
+      let by = k.by in
+      let entered = prefix_entered (omega arith) k.entered in
+      record { beat = k.beat; entered = entered; by = by; life = k.life }
 
   -- A record that a message finds.
   prefix_among : {c n x y : ℕ} {t : Tenancy} → y ≤ b → EnteredAmong r c t n x y
@@ -171,7 +180,18 @@ module _ (p : Params) (room : Room p) (r : Facts) (b : ℕ) where
   -- A state that came, with its sending.
   prefix_sent : {c m y : ℕ} {t : Tenancy} → y ≤ b → WasSent p r c t m y
       → WasSent p (prefix r b) c t m y
-  prefix_sent l k = let later = k.later in record { from = k.from; ahead = k.ahead; beat = k.beat; sent = (k.sent, omega arith); to = k.to; later = later; soon = k.soon }
+  prefix_sent l k =
+      let later = k.later in
+      record {
+        from = k.from;
+        ahead = k.ahead;
+        beat = k.beat;
+        sent = (k.sent, omega arith);
+        to = k.to;
+        later = later;
+        soon = k.soon;
+        life = k.life;
+      }
 
   -- A tick, also one that is cut off.
   prefix_tick : {c y l : ℕ} → y ≤ b → IsTick p r c y l → IsTick p (prefix r b) c y l
@@ -179,8 +199,17 @@ module _ (p : Params) (room : Room p) (r : Facts) (b : ℕ) where
 
   -- A record that stands in a view.
   prefix_stands : {c s n y : ℕ} → y < b → Stands p r c s n y → Stands p (prefix r b) c s n y
-  prefix_stands l k = let by = k.by in
-      record { holder = k.holder; slot = k.slot; beat = k.beat; entered = prefix_entered (omega arith) k.entered; by = by; since = prefix_unheld (omega arith) k.since }
+  prefix_stands l k =
+      let by = k.by in
+      record {
+        holder = k.holder;
+        slot = k.slot;
+        beat = k.beat;
+        entered = prefix_entered (omega arith) k.entered;
+        by = by;
+        since = prefix_unheld (omega arith) k.since;
+        life = k.life;
+      }
 
   -- A Put for a dead cub.
   prefix_for_dead : {c x : ℕ} {t : Tenancy} → x < b → PutsForDead p r c t x
@@ -202,6 +231,7 @@ module _ (p : Params) (room : Room p) (r : Facts) (b : ℕ) where
     below = k.below;
     within = k.within;
     entered = (k.entered, l);
+    first = k.first;
     who = ⊎_elim (λ a. inl (record { own = a.own; sent = (a.sent, l) })) (λ a. inr (prefix_for_dead l a)) k.who;
   }
 
@@ -221,6 +251,7 @@ module _ (p : Params) (room : Room p) (r : Facts) (b : ℕ) where
     soon = k.soon;
     fresh = ⊎_elim (λ a. inl a) (λ a. let next = a.next in inr (record { beat = a.beat; reading = a.reading; ticked = (a.ticked, omega arith); next = next; early = a.early })) k.fresh;
     since = prefix_unheld (omega arith) k.since;
+    life = k.life;
   }
 
   -- A record that a state finds.
@@ -233,8 +264,9 @@ module _ (p : Params) (room : Room p) (r : Facts) (b : ℕ) where
         slot = k.slot;
         beat = k.beat;
         entered = prefix_among l k.entered;
-        behind = λ u q x w le. prefix_released (omega arith) (k.behind u q x w.0 le);
-        since = λ e w le. prefix_released (omega arith) (k.since e w.0 le);
+        behind = λ u q x w le life. prefix_released (omega arith) (k.behind u q x w.0 le life);
+        since = λ e w le life. prefix_released (omega arith) (k.since e w.0 le life);
+        life = k.life;
       }
 
   -- A state and what it finds.
@@ -248,8 +280,11 @@ module _ (p : Params) (room : Room p) (r : Facts) (b : ℕ) where
     to = k.to;
     later = later;
     soon = k.soon;
-    tags = λ v s q x w le. prefix_tag l (k.tags v s q x w.0 le);
-    places = λ n given. ⊎_elim (λ a. inl (prefix_found l a)) (λ a. inr (prefix_passed l a)) (k.places n given);
+    tags = λ v s q x w le life. prefix_tag l (k.tags v s q x w.0 le life);
+    places = λ n given let_in. ⊎_elim
+        (λ a. inl (prefix_found l a))
+        (λ a. inr (prefix_passed l a))
+        (k.places n given let_in);
   }
 
   -- A record that is in a view after a tick.
@@ -263,6 +298,7 @@ module _ (p : Params) (room : Room p) (r : Facts) (b : ℕ) where
     entered = prefix_entered (omega arith) k.entered;
     by = by;
     since = prefix_unheld (omega arith) k.since;
+    life = k.life;
   }
 
   -- An instance that is placed.
@@ -295,7 +331,17 @@ module _ (p : Params) (room : Room p) (r : Facts) (b : ℕ) where
     how = ⊎_elim
         (λ a. inl (record { visit = a.visit; got = (a.got, l); which = a.which }))
         (λ o. inr (⊎_elim
-        (λ a. inl (record { got = (a.got, l); tenancy = a.tenancy; same = a.same; slot = a.slot; visit = a.visit; beat = a.beat; entered = prefix_among l a.entered; which = a.which }))
+        (λ a. inl (record {
+          got = (a.got, l);
+          tenancy = a.tenancy;
+          same = a.same;
+          slot = a.slot;
+          visit = a.visit;
+          beat = a.beat;
+          entered = prefix_among l a.entered;
+          life = a.life;
+          which = a.which;
+        }))
         (λ a. inr (record {
           tenancy = a.tenancy;
           same = a.same;
@@ -303,7 +349,14 @@ module _ (p : Params) (room : Room p) (r : Facts) (b : ℕ) where
           visit = a.visit;
           got = (a.got, l);
           which = a.which;
-          unplaced = ⊎_elim (λ u. inl (prefix_bare l u)) (λ u. inr (record { slot = u.slot; visit = u.visit; got = prefix_tag l u.got; away = u.away })) a.unplaced;
+          unplaced = ⊎_elim
+              (λ u.
+              let by = u.by in
+              inl (record { beat = u.beat; got = (u.got, omega arith); by = by; life = u.life }))
+              (λ u.
+              let got = prefix_tag l u.got in
+              inr (record { slot = u.slot; visit = u.visit; got = got; away = u.away }))
+              a.unplaced;
         }))
         o))
         k.how;
@@ -316,11 +369,24 @@ module _ (p : Params) (room : Room p) (r : Facts) (b : ℕ) where
     prefix_run : RunLaws p (prefix r b)
     prefix_run = record {
       came = λ w. let l = w.1 in (law.run.came w.0, omega arith);
-      up = λ w less small. let l = w.1 in ⊎_elim (λ k. inl (prefix_ended (omega arith) k)) (λ k. inr (prefix_died k)) (law.run.up w.0 less small);
-      last = λ w d. law.run.last w.0 d;
+      up = λ w less small. let l = w.1 in ⊎_elim
+          (λ k. inl (prefix_lived (omega arith) k))
+          (λ k. inr (prefix_died k))
+          (law.run.up w.0 less small);
+      last = λ w d first. law.run.last w.0 d first;
+      again = λ w d l. law.run.again w.0 d l;
+      returned = λ w. prefix_died (law.run.returned w);
+      returns = λ c y. ⊎_elim
+          (λ k. inl k)
+          (λ k. inr (record { beat = k.beat; returned = k.returned; by = k.by; last = k.last }))
+          (law.run.returns c y);
       apart = λ d e same. law.run.apart d e same;
-      got_ended = λ w less. let l = w.1 in prefix_ended (omega arith) (law.run.got_ended w.0 less);
-      reached_ended = λ w less. let l = w.1 in prefix_ended (omega arith) (law.run.reached_ended w.0 less);
+      got_ended = λ w less life.
+          let l = w.1 in
+          prefix_ended (omega arith) (law.run.got_ended w.0 less life);
+      reached_ended = λ w less life.
+          let l = w.1 in
+          prefix_ended (omega arith) (law.run.reached_ended w.0 less life);
       reads = λ w. law.run.reads w.0;
     }
 
@@ -332,12 +398,13 @@ module _ (p : Params) (room : Room p) (r : Facts) (b : ℕ) where
       free = λ w e le slot. let l = w.1 in ⊎_elim (λ k. inl k) (λ k. inr (prefix_reached (omega arith) k)) (law.states.free w.0 (run_entered p r b e) le slot);
       taken = λ w. let k = law.states.taken w.0 in record { visit = k.visit; got = (k.got, w.1); given = k.given };
       meets = λ w low high. prefix_meeting w.1 (law.states.meets w.0 low high);
+      late = λ w back le. law.states.late w.0 back le;
       sends = λ w. ⊎_elim (λ k. inl (record { put = (k.put, w.1); first = k.first; near = k.near; own = k.own })) (λ k. inr (prefix_forwards w.1 k)) (law.states.sends w.0);
       ahead = λ w. law.states.ahead w.0;
-      forwards = λ e le w own more undue soon. let l = w.1 in ⊎_elim
+      forwards = λ e le w first own more undue soon. let l = w.1 in ⊎_elim
           (λ k. inl (prefix_sends l k))
           (λ k. inr (prefix_reached (omega arith) k))
-          (law.states.forwards (run_entered p r b e) le w.0 own more undue soon);
+          (law.states.forwards (run_entered p r b e) le w.0 first own more undue soon);
       shows = λ w. prefix_shown w.1 (law.states.shows w.0);
     }
 
@@ -348,10 +415,10 @@ module _ (p : Params) (room : Room p) (r : Facts) (b : ℕ) where
       one_order = λ a o same. law.starts.one_order a o same;
       gone_after = λ a w. law.starts.gone_after a w.0;
       once = λ w u same. law.starts.once w.0 u.0 same;
-      waits = λ s n k le w slot window. let l = w.1 in ⊎_elim
+      waits = λ s n k le w first slot window. let l = w.1 in ⊎_elim
           (λ a. inl (prefix_stands l a))
           (λ o. inr (⊎_elim (λ a. inl (prefix_placed l a)) (λ a. inr (prefix_reached (omega arith) a)) o))
-          (law.starts.waits s n (run_waits k) le w.0 slot window);
+          (law.starts.waits s n (run_waits k) le w.0 first slot window);
     }
       where
         -- A start that waits.
@@ -365,8 +432,18 @@ module _ (p : Params) (room : Room p) (r : Facts) (b : ℕ) where
     -- Heartbeats and belief.
     prefix_watch : WatchLaws p (prefix r b)
     prefix_watch = record {
-      beats = λ w heart. law.watch.beats w.0 heart;
-      silent = λ w. let k = law.watch.silent w.0 in let l = w.1 in record { reading = k.reading; tick = prefix_tick (omega arith) k.tick; long = k.long; since = k.since };
+      beats = λ w first heart. law.watch.beats w.0 first heart;
+      silent = λ w.
+          let k = law.watch.silent w.0 in
+          let l = w.1 in
+          let tick = prefix_tick (omega arith) k.tick in
+          record {
+            reading = k.reading;
+            tick = tick;
+            long = k.long;
+            since = k.since;
+            back = k.back;
+          };
     }
 
     -- The controller.
@@ -398,23 +475,60 @@ module _ (p : Params) (room : Room p) (r : Facts) (b : ℕ) where
     prefix_links : LinkLaws p (prefix r b)
     prefix_links = record {
       carried = λ w. prefix_sent w.1 (law.links.carried w.0);
-      arrives = λ c e w to came late. let l = came.1 in prefix_got (omega arith) (law.links.arrives c e w.0 to came.0 late);
+      arrives = λ c e w to came life late.
+          let l = came.1 in
+          prefix_got (omega arith) (law.links.arrives c e w.0 to came.0 life late);
       asked_from = λ w. let k = law.links.asked_from w in record { beat = k.beat; begun = k.begun; later = k.later; soon = k.soon };
       apart_from = λ w. let k = law.links.apart_from w in record { beat = k.beat; begun = k.begun; later = k.later; soon = k.soon };
-      heard = λ c e w next came late. let k = law.links.heard c e w next came.0 late in record { beat = k.beat; heard = k.heard; after = k.after; by = k.by };
+      heard = λ c e w next came life late.
+          let k = law.links.heard c e w next came.0 life late in
+          record { beat = k.beat; heard = k.heard; after = k.after; by = k.by };
       tag_from = λ w. let l = w.1 in ⊎_elim
           (λ k.
           let later = k.later in
-          inl (record { beat = k.beat; stopped = (k.stopped, omega arith); to = k.to; later = later; soon = k.soon }))
+          inl (record {
+            beat = k.beat;
+            stopped = (k.stopped, omega arith);
+            to = k.to;
+            later = later;
+            soon = k.soon;
+            life = k.life;
+          }))
           (λ k.
           let later = k.later in
-          inr (record { from = k.from; ahead = k.ahead; beat = k.beat; told = (k.told, omega arith); to = k.to; later = later; soon = k.soon }))
+          inr (record {
+            from = k.from;
+            ahead = k.ahead;
+            beat = k.beat;
+            told = (k.told, omega arith);
+            to = k.to;
+            later = later;
+            soon = k.soon;
+            life = k.life;
+          }))
           (law.links.tag_from w.0);
-      bare_from = λ w. let l = w.1 in let k = law.links.bare_from w.0 in let later = k.later in
-          record { disk = k.disk; beat = k.beat; stopped = (k.stopped, omega arith); to = k.to; later = later; soon = k.soon };
-      told_arrives = λ c e w to came late. let l = came.1 in prefix_tag (omega arith) (law.links.told_arrives c e w.0 to came.0 late);
-      tag_arrives = λ c e w to came late. let l = came.1 in prefix_tag (omega arith) (law.links.tag_arrives c e w.0 to came.0 late);
-      bare_arrives = λ c e w to came late. let l = came.1 in prefix_bare (omega arith) (law.links.bare_arrives c e w.0 to came.0 late);
+      bare_from = λ w.
+          let l = w.1 in
+          let k = law.links.bare_from w.0 in
+          let later = k.later in
+          record {
+            disk = k.disk;
+            beat = k.beat;
+            stopped = (k.stopped, omega arith);
+            to = k.to;
+            later = later;
+            soon = k.soon;
+            life = k.life;
+          };
+      told_arrives = λ c e w to came life late.
+          let l = came.1 in
+          prefix_tag (omega arith) (law.links.told_arrives c e w.0 to came.0 life late);
+      tag_arrives = λ c e w to came life late.
+          let l = came.1 in
+          prefix_tag (omega arith) (law.links.tag_arrives c e w.0 to came.0 life late);
+      bare_arrives = λ c e w to came life late.
+          let l = came.1 in
+          prefix_bare (omega arith) (law.links.bare_arrives c e w.0 to came.0 life late);
     }
 
     -- Deschedules.
@@ -424,16 +538,23 @@ module _ (p : Params) (room : Room p) (r : Facts) (b : ℕ) where
       reached_tag = λ w. (law.holds.reached_tag w.0, w.1);
       reached_bare = λ w. (law.holds.reached_bare w.0, w.1);
       pass = λ w. prefix_pass w.1 (law.holds.pass w.0);
-      passes = λ w came le soon. let k = law.holds.passes w.0 came.0 le soon in ((k.0, w.1), (k.1, w.1));
+      passes = λ w came le life soon.
+          let k = law.holds.passes w.0 came.0 le life soon in
+          ((k.0, w.1), (k.1, w.1));
       told = λ w. let k = law.holds.told w.0 in record { visit = k.visit; next = k.next; passed = (k.passed, w.1); ahead = k.ahead; soon = k.soon };
       told_next = λ w. (law.holds.told_next w.0, w.1);
       tag_passes = λ w to. prefix_passed w.1 (law.holds.tag_passes w.0 to);
-      record_passes = λ w e undue. ⊎_elim
+      record_passes = λ w e life undue. ⊎_elim
           (λ k. inl (prefix_passed w.1 k))
           (λ k. inr (k.0, k.1, prefix_tag w.1 k.2))
-          (law.holds.record_passes w.0 (run_among e) undue);
-      pass_once = λ w u le. let l = u.1 in ⊎_elim (λ k. inl k) (λ k. inr (prefix_released l k)) (law.holds.pass_once w.0 u.0 le);
-      took = λ w u less. prefix_released w.1 (law.holds.took w.0 u.0 less);
+          (law.holds.record_passes w.0 (run_among e) life undue);
+      pass_once = λ w u le life.
+          let l = u.1 in
+          ⊎_elim
+          (λ k. inl k)
+          (λ k. inr (prefix_released l k))
+          (law.holds.pass_once w.0 u.0 le life);
+      took = λ w u less life. prefix_released w.1 (law.holds.took w.0 u.0 less life);
     }
       where
         -- A record that a message finds.

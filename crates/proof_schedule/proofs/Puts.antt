@@ -6,13 +6,14 @@ use Rattle.tiger_base.specs.declared.tenancy.Tenancy.{Tenancy}
 use Rattle.slot_plan.specs.declared.params.Params.{Params}
 use Rattle.slot_plan.specs.Times.{time_of, due, cub_of}
 use Rattle.slot_plan.proofs.Times.{time_next, time_below, time_mono, due_next, due_mono, cub_below, cub_ahead}
-use Rattle.proof_schedule.specs.Facts.{Facts, Ended, GoneBefore, Cut, Knows}
+use Rattle.proof_schedule.specs.Facts.{Facts, Ended, GoneBefore, Cut, Knows, IsFirstLife, IsOpenTo}
 use Rattle.proof_schedule.specs.StateLaws.{PutsOwn, PutsForDead, Sends}
 use Rattle.proof_schedule.specs.Laws.{Laws}
 use Rattle.proof_schedule.proofs.Conflicts.{no_conflict}
 use Rattle.proof_schedule.proofs.Beside.{beside, opening, takes_knows, knows_later}
 use Rattle.proof_schedule.proofs.Prefix.{prefix, run_knows}
 use Rattle.proof_schedule.proofs.Kept.{kept}
+use Rattle.proof_schedule.proofs.Lives.{first_same_life, first_life_before, first_is_open}
 use Rattle.proof_schedule.proofs.Silence.{dead_first, put_heard, cut_gone}
 use Rattle.proof_schedule.proofs.Soon.{put_over, windows_rise}
 use Rattle.proof_schedule.proofs.Invariant.{Setting, IsOpening, FreeAt, KnownAt, SentAt}
@@ -25,6 +26,14 @@ module _ (p : Params) (r : Facts) (b : ℕ) (law : Laws p r) (g : Setting p (pre
       (λ (q : y < b). q)
       (λ (q : b ≤ y). let rise = windows_rise p g.room r law q j i (sym slot) in absurd (omega arith))
       (cases_lt y b)
+
+  -- A cub in its first life knows each record that it inserted.
+  put_there : {c d m n y : ℕ} {u : Tenancy} → y ≤ b → d ≡ c → m ≡ n → IsFirstLife r c b
+      → r.Inserted d u m y → Knows p r c u n b
+  put_there {c} {d} {m} {n} {y} {u} le here e first w =
+      let there = subst (λ v. r.Inserted d u v y) e w in
+      let entered = inr (subst (λ v. r.Inserted v u n y) here there) in
+      inl (record { beat = y; entered = entered; by = le; life = first_same_life r c b first y })
 
   -- A cub that puts at a visit of its own knows each tenancy that has it: it put that there itself,
   -- or the visit is a later one, which it knows.
@@ -41,17 +50,24 @@ module _ (p : Params) (r : Facts) (b : ℕ) (law : Laws p r) (g : Setting p (pre
       (λ (e : u.first ≡ t.first). ⊎_elim
       (λ o.
       let here : d ≡ c = o.own ∙ ap (λ v. cub_of p v) e ∙ sym own.own in
-      inl (record { beat = y; entered = inr (subst (λ v. r.Inserted v u t.first y) here (subst (λ v. r.Inserted d u v y) e zj.entered)); by = le }))
+      put_there le here e z.first zj.entered)
       (λ o.
       let dead = dead_first p g.ok g.room r law o in
       let long = dead.long in
       let db = dead.died.by in
-      let last = law.run.last came (subst (λ v. r.Died v dead.died.beat) (ap (λ v. cub_of p v) e ∙ sym own.own) dead.died.died) in
+      let here = ap (λ v. cub_of p v) e ∙ sym own.own in
+      let died = subst (λ v. r.Died v dead.died.beat) here dead.died.died in
+      let last = law.run.last came died z.first in
       absurd (omega arith))
       zj.who)
       (λ (l : u.first < t.first).
       let same : due p u.slot.0 t.first ≡ due p t.slot.0 t.first = ap (λ v. due p v t.first) slot in
-      let k = kept p (prefix r b) g b d y t.first u (j, put_before i j slot l) l over (omega arith) (subst (λ v. r.Came v b) own.own came, omega arith) in
+      let at = due p u.slot.0 t.first in
+      let here = subst (λ v. r.Came v b) own.own came in
+      let open_to = first_is_open p r c b z.first at in
+      let let_in = subst (λ v. IsOpenTo p r v at b) own.own open_to in
+      let k = kept p (prefix r b) g b d y t.first u
+      (j, put_before i j slot l) l over (omega arith) (here, omega arith) let_in in
       subst (λ v. Knows p r v u t.first b) (sym own.own) (run_knows p r b k))
       (eq-or-lt_of_le rise)
 
@@ -72,17 +88,23 @@ module _ (p : Params) (r : Facts) (b : ℕ) (law : Laws p r) (g : Setting p (pre
       (λ (e : u.first ≡ t.first). ⊎_elim
       (λ o.
       let next : c ≡ cub_of p (u.first + 1) = w.next ∙ ap (λ v. cub_of p (v + 1)) (sym e) in
-      let heard = put_heard p g.ok g.room r law o next k.believed in
+      let heard = put_heard p g.ok g.room r law o zj.first next k.believed in
       let to : c ≡ cub_of p (d + 1) = next ∙ sym (cub_ahead p u.first 1) ∙ ap (λ v. cub_of p (v + 1)) (sym o.own) in
-      let got = law.links.arrives c b o.sent to came (omega arith) in
+      let sent_since = first_same_life r c b z.first y in
+      let got = law.links.arrives c b o.sent to came sent_since (omega arith) in
       let by = got.by in
       let until : got.beat ≤ b = omega arith in
-      let taken = no_conflict p (prefix r b) g got.beat c u.first u.first u (got.got, until) (inl (refl, inr next)) in
+      let then = first_life_before r c b got.beat until z.first in
+      let let_in = first_is_open p r c got.beat then (due p u.slot.0 u.first) in
+      let taken = no_conflict p (prefix r b) g got.beat c u.first u.first u
+      (got.got, until) (inl (refl, inr next)) let_in in
       let q = takes_knows p (prefix r b) g {b = got.beat} taken in
-      subst (λ v. Knows p r c u v b) e (run_knows p r b (knows_later p (prefix r b) g got.beat b until q)))
+      let got_since = first_same_life r c b z.first got.beat in
+      let known_then = knows_later p (prefix r b) g got.beat b until got_since q in
+      subst (λ v. Knows p r c u v b) e (run_knows p r b known_then))
       (λ o.
       let here : d ≡ c = o.next ∙ ap (λ v. cub_of p (v + 1)) e ∙ sym w.next in
-      inl (record { beat = y; entered = inr (subst (λ v. r.Inserted v u t.first y) here (subst (λ v. r.Inserted d u v y) e zj.entered)); by = le }))
+      put_there le here e z.first zj.entered)
       zj.who)
       (λ (l : u.first < t.first).
       let same : due p u.slot.0 t.first ≡ due p t.slot.0 t.first = ap (λ v. due p v t.first) slot in
@@ -112,18 +134,25 @@ module _ (p : Params) (r : Facts) (b : ℕ) (law : Laws p r) (g : Setting p (pre
       (known c d y t u le i j slot rise over))
       (cases_lt u.last t.first)
 
-  -- A cub that ended a beat had ended each lower one.
-  had_ended : {c l : ℕ} (y : ℕ) → c < p.cubs → r.Ticked c b l → y ≤ b → Ended r c y
-  had_ended {c} {l} y small w h = ⊎_elim
+  -- A cub that ended a beat in its first life had ended each lower one.
+  had_ended : {c l : ℕ} (y : ℕ) → c < p.cubs → r.Ticked c b l → IsFirstLife r c b → y ≤ b
+      → Ended r c y
+  had_ended {c} {l} y small w first h = ⊎_elim
       (λ (e : y ≡ b). record { reading = l; ticked = subst (λ (v : ℕ). r.Ticked c v l) (sym e) w })
-      (λ (q : y < b). ⊎_elim (λ k. k) (λ k. let a = law.run.last (law.run.came w) k.died in let by = k.by in absurd (omega arith)) (law.run.up (law.run.came w) q small))
+      (λ (q : y < b). ⊎_elim
+      (λ k. record { reading = k.reading; ticked = k.ticked })
+      (λ k.
+      let a = law.run.last (law.run.came w) k.died first in
+      let by = k.by in
+      absurd (omega arith))
+      (law.run.up (law.run.came w) q small))
       (eq-or-lt_of_le h)
 
-  -- A record that is there when its visit opens is forwarded in that beat.
+  -- A record that is there when its visit opens is forwarded in that beat, in the cub's first life.
   sent_then : {c n y l : ℕ} (t : Tenancy) → c ≡ cub_of p n → n < t.last → IsOpening p t n y
-      → r.Ticked c y l → Knows p r c t n y
+      → r.Ticked c y l → IsFirstLife r c y → Knows p r c t n y
       → Sends r c t (n + 1) y ⊎ Cut p r c t.instance.0 y
-  sent_then {c} {n} {y} {l} t here more o w known =
+  sent_then {c} {n} {y} {l} t here more o w first known =
       let opens = o.opens in
       let now = o.only_now in
       let reads = law.run.reads w in
@@ -134,13 +163,16 @@ module _ (p : Params) (r : Facts) (b : ℕ) (law : Laws p r) (g : Setting p (pre
       let early : l < due p t.slot.0 n = omega (arith, room) in
       let enough : due p t.slot.0 (n + 1) ≤ l + p.min_lead = omega (arith, room) in
       ⊎_elim
-      (λ e. ⊎_elim (λ s. inl s) (λ s. inr (inl s)) (law.states.forwards e.entered e.by w here more early enough))
+      (λ e. ⊎_elim
+      (λ s. inl s)
+      (λ s. inr (inl s))
+      (law.states.forwards e.entered e.by w first here more early enough))
       (λ e. inr e)
       known
 
-  -- So the cub of each visit has forwarded it when it may be in a window.
+  -- So in its first life the cub of each visit has forwarded it when it may be in a window.
   pub sent_at : SentAt p r b
-  sent_at c x l n t i low more may w =
+  sent_at c x l n t i low more may w first =
       let o = opening p (prefix r b) g t n (omega arith) in
       let y : ℕ = o.0 in
       let now = o.1.only_now in
@@ -149,8 +181,11 @@ module _ (p : Params) (r : Facts) (b : ℕ) (law : Laws p r) (g : Setting p (pre
       let upto : y ≤ b = omega arith in
       let mono = due_mono p t.slot.0 (t.first + 1) n (omega arith) in
       let over = put_over p g.room r law i (let m : due p t.slot.0 (t.first + 1) ≤ time_of p b + p.window_a + p.skew = omega arith in m) in
-      let k = had_ended y (cub_below p n g.ok.ranges) w upto in
-      let there = kept p (prefix r b) g y c x n t (i, omega arith) low (omega arith) o.1.opens (law.run.came k.ticked, upto) in
+      let k = had_ended y (cub_below p n g.ok.ranges) w first upto in
+      let then = first_life_before r (cub_of p n) b y upto first in
+      let let_in = first_is_open p r (cub_of p n) y then (due p t.slot.0 n) in
+      let there = kept p (prefix r b) g y c x n t
+      (i, omega arith) low (omega arith) o.1.opens (law.run.came k.ticked, upto) let_in in
       ⊎_elim
       (λ s. let by = s.by in inl (record { beat = s.beat; near = s.near; far = s.far; by = omega arith }))
       (λ s. inr (⊎_elim
@@ -160,4 +195,4 @@ module _ (p : Params) (r : Facts) (b : ℕ) (law : Laws p r) (g : Setting p (pre
       let m = time_mono p y b upto in
       inr (record { beat = a.beat; gone = a.gone; late = omega arith }))
       s))
-      (sent_then t refl more o.1 k.ticked (run_knows p r b there))
+      (sent_then t refl more o.1 k.ticked then (run_knows p r b there))

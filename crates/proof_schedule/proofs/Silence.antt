@@ -9,7 +9,7 @@ use Rattle.slot_plan.specs.declared.params.Params.{Params}
 use Rattle.slot_plan.specs.Conditions.{IsPlan}
 use Rattle.slot_plan.specs.Times.{time_of, cub_of}
 use Rattle.slot_plan.proofs.Times.{time_add, time_next, time_mono, time_below, product_le, cub_below, cub_ahead}
-use Rattle.proof_schedule.specs.Facts.{Facts, Cut, GoneBefore, DiedLongBefore}
+use Rattle.proof_schedule.specs.Facts.{Facts, Cut, GoneBefore, DiedLongBefore, IsFirstLife, IsSameLife}
 use Rattle.proof_schedule.specs.LinkLaws.{HeardIn}
 use Rattle.proof_schedule.specs.WatchLaws.{IsSilence}
 use Rattle.proof_schedule.specs.StateLaws.{PutsOwn, PutsForDead}
@@ -98,6 +98,20 @@ module _ (p : Params) (ok : IsPlan p) (room : Room p) (r : Facts) (law : Laws p 
       let silence = room.silence in
       omega arith
 
+  -- A cub that has come back believes its predecessor dead only after a silence since its return.
+  -- So it was back when the last heartbeat was sent that must have come.
+  same_life_since_heartbeat : {c b h : ℕ} → IsSilence p r c b → b < h + p.heart + p.delay + 2
+      → IsSameLife r c h b
+  same_life_since_heartbeat {c} {b} {h} s near = λ w back le.
+      let over = s.back w back le in
+      let high = s.tick.high in
+      let t1 = time_add p (w + p.heart) p.delay in
+      let t2 = time_add p w p.heart in
+      let t3 = time_heart p in
+      let silence = room.silence in
+      let l = time_below p (w + p.heart + p.delay) b (omega arith) in
+      omega arith
+
   -- So a cub that is believed dead has died, so long ago that all it sent has come: else it would
   -- have sent a heartbeat that was heard.
   pub believed_died : {c b : ℕ} (d : ℕ) → d < p.cubs → c ≡ cub_of p (d + 1) → r.Believed c b
@@ -112,22 +126,27 @@ module _ (p : Params) (ok : IsPlan p) (room : Room p) (r : Facts) (law : Laws p 
       let h2 = h.2 in
       let far : h.0 + p.delay ≤ b = omega arith in
       ⊎_elim
-      (λ k. absurd (heard_late s (omega arith) far (law.links.heard c b (law.watch.beats k.ticked h.3) next s.tick.came far)))
+      (λ k.
+      let sent = law.watch.beats k.ticked k.first h.3 in
+      let life = same_life_since_heartbeat s (omega arith) in
+      absurd (heard_late s (omega arith) far (law.links.heard c b sent next s.tick.came life far)))
       (λ k. record { until = h.0; died = k; long = omega arith })
       (law.run.up s.tick.came (omega arith) small))
       (cases_lt b (p.delay + 2))
 
-  -- A cub that believes its predecessor dead has got all states that this one sent.
+  -- A cub that believes its predecessor dead has got all states that this one sent in its first
+  -- life.
   pub all_heard : {a k m x c b : ℕ} {t : Tenancy} (d : ℕ) → a ≡ d → d < p.cubs
-      → c ≡ cub_of p (d + 1) → r.Sent a k t m x → r.Believed c b → x + p.delay < b
-  all_heard {a} {k} {m} {x} {c} {b} {t} d same small next s w =
+      → c ≡ cub_of p (d + 1) → r.Sent a k t m x → IsFirstLife r a x → r.Believed c b
+      → x + p.delay < b
+  all_heard {a} {k} {m} {x} {c} {b} {t} d same small next s first w =
       let o = believed_died d small next w in
       let long = o.long in
       let by = o.died.by in
       let died = subst (λ v. r.Died v o.died.beat) (sym same) o.died.died in
       let before : x ≤ o.died.beat = ⊎_elim
-      (λ i. law.run.last (law.states.inserts i.put).tick.came died)
-      (λ f. law.run.last f.tick.came died)
+      (λ i. law.run.last (law.states.inserts i.put).tick.came died first)
+      (λ f. law.run.last f.tick.came died first)
       (law.states.sends s) in
       omega arith
 
@@ -143,10 +162,12 @@ module _ (p : Params) (ok : IsPlan p) (room : Room p) (r : Facts) (law : Laws p 
       record { until = o.until; died = o.died; long = omega arith }
 
   -- And the state of an own Put has come to the next cub, if that believes the one that put dead.
-  pub put_heard : {c d x b : ℕ} {t : Tenancy} → PutsOwn p r d t x → c ≡ cub_of p (t.first + 1)
-      → r.Believed c b → x + p.delay < b
-  put_heard {c} {d} {x} {b} {t} own next w =
-      all_heard (cub_of p t.first) own.own (cub_below p t.first ok.ranges) (next ∙ sym (cub_ahead p t.first 1)) own.sent w
+  pub put_heard : {c d x b : ℕ} {t : Tenancy} → PutsOwn p r d t x → IsFirstLife r d x
+      → c ≡ cub_of p (t.first + 1) → r.Believed c b → x + p.delay < b
+  put_heard {c} {d} {x} {b} {t} own first next w =
+      let small = cub_below p t.first ok.ranges in
+      let to = next ∙ sym (cub_ahead p t.first 1) in
+      all_heard (cub_of p t.first) own.own small to own.sent first w
 
   -- An instance that is cut somewhere was stopped in a lower beat.
   pub cut_gone : {c v b : ℕ} → Cut p r c v b → GoneBefore r v b

@@ -13,6 +13,7 @@ use Rattle.proof_schedule.specs.Laws.{Laws}
 use Rattle.proof_schedule.specs.Schedule.{IsOrdered}
 use Rattle.proof_schedule.proofs.Room.{Room, soon_after}
 use Rattle.proof_schedule.proofs.Silence.{reached_gone}
+use Rattle.proof_schedule.proofs.Lives.{first_same_life}
 
 -- The cub of a visit is the cub of its disk.
 pub disk_cub : (p : Params) (n : ℕ) → disk_of p n % p.cubs ≡ cub_of p n
@@ -87,5 +88,7 @@ module _ (p : Params) (ok : IsPlan p) (room : Room p) (r : Facts) (law : Laws p 
   pub put_first : {c x y : ℕ} {t : Tenancy} → r.Put c t x → r.Reached c t.instance.0 y → x < y
   put_first {c} {x} {y} i h = ⊎_elim
       (λ (l : x < y). l)
-      (λ (l : y ≤ x). absurd (not_held i ((law.starts.comes i).since y h l)))
+      (λ (l : y ≤ x).
+      let life = first_same_life r c x (law.states.inserts i).first y in
+      absurd (not_held i ((law.starts.comes i).since y h l life)))
       (cases_lt x y)

@@ -38,11 +38,11 @@ module _ (p : Params) (r : Facts) (none : IsWithoutStops r) where
     reached_tag = λ {c} {v} {s} {q} {y} h. absurd (none.tag c v s q y h);
     reached_bare = λ {c} {v} {y} h. absurd (none.bare c v y h);
     pass = λ {c} {v} {s} {q} {y} h. absurd (none.passed c v s q y h);
-    passes = λ {c} {v} {s} {q} {y} {b} h w le soon. absurd (none.passed c v s q y h);
+    passes = λ {c} {v} {s} {q} {y} {b} h w le life soon. absurd (none.passed c v s q y h);
     told = λ {a} {k} {v} {s} {q} {x} h. absurd (none.told a k v s q x h);
     told_next = λ {a} {k} {v} {s} {q} {x} h. absurd (none.told a k v s q x h);
     tag_passes = λ {c} {v} {s} {q} {y} h to. absurd (none.tag c v s q y h);
-    record_passes = λ {c} {n} {x} {y} {t} h e undue. absurd (none.bare c t.instance.0 y h);
-    pass_once = λ {c} {v} {s} {q} {y} {u} {m} {z} h k le. absurd (none.passed c v s q y h);
-    took = λ {c} {n} {x} {b} {t} h k l. absurd (none.reached c t.instance.0 b k);
+    record_passes = λ {c} {n} {x} {y} {t} h e life undue. absurd (none.bare c t.instance.0 y h);
+    pass_once = λ {c} {v} {s} {q} {y} {u} {m} {z} h k le life. absurd (none.passed c v s q y h);
+    took = λ {c} {n} {x} {b} {t} h k l life. absurd (none.reached c t.instance.0 b k);
   }

@@ -6,13 +6,14 @@ use Rattle.tiger_base.specs.declared.tenancy.Tenancy.{Tenancy}
 use Rattle.slot_plan.specs.declared.params.Params.{Params}
 use Rattle.slot_plan.specs.Times.{time_of, due, cub_of}
 use Rattle.slot_plan.proofs.Times.{time_mono, due_add, cub_ahead, same_cub}
-use Rattle.proof_schedule.specs.Facts.{Facts, ReachedBy, BelievedBy, Entered, EnteredAmong, IsBeside, PassedBy, GotTagBy}
+use Rattle.proof_schedule.specs.Facts.{Facts, ReachedBy, BelievedBy, Entered, EnteredAmong, IsBeside, PassedBy, GotTagBy, IsFirstLife, IsSameLife}
 use Rattle.proof_schedule.specs.HoldLaws.{IsStray}
 use Rattle.proof_schedule.proofs.Origins.{entered_held}
 use Rattle.proof_schedule.proofs.Room.{way, soon_after}
 use Rattle.proof_schedule.proofs.Starts.{put_first}
+use Rattle.proof_schedule.proofs.Lives.{first_same_life, first_life_before, first_is_open}
 use Rattle.proof_schedule.proofs.Silence.{reached_gone, dead_first, put_heard}
-use Rattle.proof_schedule.proofs.Ends.{IsEnd, WasWaiting, disk_is, first_cub, second_cub, one_put, clean_before}
+use Rattle.proof_schedule.proofs.Ends.{IsEnd, WasWaiting, disk_is, first_cub, second_cub, one_put}
 use Rattle.proof_schedule.proofs.Invariant.{Setting}
 use Rattle.proof_schedule.proofs.Room.{wave_after}
 
@@ -110,19 +111,27 @@ module _ (p : Params) (r : Facts) (g : Setting p r) (t : Tenancy) (x z n : ℕ) 
       (λ a. let by = a.by in inr (record { beat = a.beat; told = a.told; by = omega arith }))
       k
 
-  -- A pass from visit q in beat y is of the wave: q is visit n or a later one, and the pass is at
-  -- most q - n + 2 ways after the stop. Visit q is less than a turn ahead, or just a turn if visit
-  -- n was due at the stop. If it lies behind the first two visits the wave was seeded before.
-  pub record Wave (s q y : ℕ) : Type 0 where
+  -- A pass of cub c from visit q in beat y is of the wave: q is visit n or a later one, and the
+  -- pass is at most q - n + 2 ways after the stop, and comes before the wave has gone round. If q
+  -- lies behind the first two visits the wave was seeded before, and q is due soon. In the cub's
+  -- first life q is less than a turn ahead, or just a turn if visit n was due at the stop. A cub
+  -- that has come back does not know that it passed on before, and may do so again, one visit
+  -- further.
+  pub record Wave (c s q y : ℕ) : Type 0 where
     pub seed : ((q ≡ n) ⊎ (q ≡ n + 1)) ⊎ Seeded y
     pub slot : s ≡ t.slot.0
     pub low : n ≤ q
     pub by : y ≤ z + ((q - n) + 2) * p.delay
-    pub high : (q < n + p.cubs) ⊎ ((q ≡ n + p.cubs) × (due p t.slot.0 n ≤ time_of p z + p.skew))
+    pub within : y ≤ z + (p.cubs + 2) * p.delay
+    pub top : q ≤ n + p.cubs + 1
+    pub soon : ((q ≡ n) ⊎ (q ≡ n + 1))
+        ⊎ (due p t.slot.0 q ≤ time_of p z + p.max_lead + 4 * p.play + 2 * p.skew)
+    pub high : IsFirstLife r c y
+        → (q < n + p.cubs) ⊎ ((q ≡ n + p.cubs) × (due p t.slot.0 n ≤ time_of p z + p.skew))
 
   -- Each pass of beat y is of the wave.
   abbrev pub WaveAt : ℕ → Type 0
-  WaveAt y = (c s q : ℕ) → r.Passed c t.instance.0 s q y → Wave s q y
+  WaveAt y = (c s q : ℕ) → r.Passed c t.instance.0 s q y → Wave c s q y
 
   -- Each pass below beat b is of the wave.
   abbrev pub WaveBelow : ℕ → Type 0
@@ -167,52 +176,65 @@ module _ (p : Params) (r : Facts) (g : Setting p r) (t : Tenancy) (x z n : ℕ) 
   -- A cub that has a record of the first visit when it gets a deschedule without a tag passes it
   -- on, since that visit is not due yet.
   passes_early : {c y w : ℕ} → r.GotBare c t.instance.0 y → EnteredAmong r c t t.first w y
-      → WasWaiting p r t x z n → y ≤ z + p.delay → PassedBy r c t.instance.0 y
-  passes_early {c} {y} {w} got here h by =
+      → IsSameLife r c w y → WasWaiting p r t x z n → y ≤ z + p.delay
+      → PassedBy r c t.instance.0 y
+  passes_early {c} {y} {w} got here life h by =
       let undue = h.undue in
       let m = soon_after p z y by in
       ⊎_elim
       (λ q. q)
       (λ q. tag_passed p r g q.2)
-      (g.law.holds.record_passes got here (omega arith))
+      (g.law.holds.record_passes got here life (omega arith))
 
-  -- So does one that has inserted the record.
-  record_passed : {c y : ℕ} → r.GotBare c t.instance.0 y → WasWaiting p r t x z n → y ≤ z + p.delay
+  -- So does one that has inserted the record in its first life.
+  record_passed : {c y : ℕ} → r.GotBare c t.instance.0 y → IsFirstLife r c y
+      → WasWaiting p r t x z n → y ≤ z + p.delay
       → r.Inserted c t t.first x → x < y → PassedBy r c t.instance.0 y
-  record_passed got h by i before = passes_early got (inr (i, before)) h by
+  record_passed {c} {y} got first h by i before =
+      passes_early got (inr (i, before)) (first_same_life r c y first x) h by
 
-  -- The first cub passes on a deschedule without a tag: it has its own record by then, since it
-  -- put. If it is dead it gets none.
-  pub bare_first : {c y : ℕ} → r.GotBare c t.instance.0 y → WasWaiting p r t x z n → c ≡ cub_of p n
-      → y ≤ z + p.delay → PassedBy r c t.instance.0 y
-  bare_first {c} {y} got h here by =
+  -- In its first life the first cub passes on a deschedule without a tag: it has its own record by
+  -- then, since it put. If it is dead it gets none.
+  pub bare_first : {c y : ℕ} → r.GotBare c t.instance.0 y → IsFirstLife r c y
+      → WasWaiting p r t x z n → c ≡ cub_of p n → y ≤ z + p.delay → PassedBy r c t.instance.0 y
+  bare_first {c} {y} got first h here by =
       let ins = g.law.states.inserts e.put in
-      let first : c ≡ cub_of p t.first = here ∙ ap (λ v. cub_of p v) h.base in
+      let own : c ≡ cub_of p t.first = here ∙ ap (λ v. cub_of p v) h.base in
       ⊎_elim
       (λ w.
-      let same : e.cub ≡ c = w.own ∙ sym first in
+      let same : e.cub ≡ c = w.own ∙ sym own in
       let i : r.Inserted c t t.first x = subst (λ v. r.Inserted v t t.first x) same ins.entered in
-      record_passed got h by i (put_first p g.ok g.room r g.law (subst (λ v. r.Put v t x) same e.put) (g.law.holds.reached_bare got)))
+      let put = subst (λ v. r.Put v t x) same e.put in
+      let after = put_first p g.ok g.room r g.law put (g.law.holds.reached_bare got) in
+      record_passed got first h by i after)
       (λ w.
       let d = dead_first p g.ok g.room r g.law w in
       let long = d.long in
       let a = d.died.by in
       let after = reached_after (g.law.holds.reached_bare got) in
       let soon = e.soon in
-      let k = g.law.run.reached_ended {b = z} (g.law.holds.reached_bare got) after in
-      let died = g.law.run.last (g.law.run.came k.ticked) (subst (λ v. r.Died v d.died.beat) (sym first) d.died.died) in
+      let life = first_same_life r c y first z in
+      let k = g.law.run.reached_ended {b = z} (g.law.holds.reached_bare got) after life in
+      let died = subst (λ v. r.Died v d.died.beat) (sym own) d.died.died in
+      let then = first_life_before r c y z (omega arith) first in
+      let last = g.law.run.last (g.law.run.came k.ticked) died then in
       absurd (omega arith))
       ins.who
 
-  -- So the first cub has passed the deschedule on a way after the stop, whatever its form.
-  pub first_passed : {c b : ℕ} → c ≡ cub_of p n → r.Came c b → z + p.delay ≤ b
+  -- So in its first life the first cub has passed the deschedule on a way after the stop, whatever
+  -- its form.
+  pub first_passed : {c b : ℕ} → c ≡ cub_of p n → r.Came c b → IsFirstLife r c b → z + p.delay ≤ b
       → PassedBy r c t.instance.0 (z + p.delay)
-  first_passed {c} {b} here w late = ⊎_elim
-      (λ h. tag_passed p r g (g.law.links.tag_arrives c b h (inl here) w late))
+  first_passed {c} {b} here w first late =
+      let life = first_same_life r c b first z in
+      ⊎_elim
+      (λ h. tag_passed p r g (g.law.links.tag_arrives c b h (inl here) w life late))
       (λ h.
-      let k = g.law.links.bare_arrives c b h.stopped (inl (here ∙ ap (λ v. cub_of p v) h.base ∙ sym h.here)) w late in
+      let there = here ∙ ap (λ v. cub_of p v) h.base ∙ sym h.here in
+      let k = g.law.links.bare_arrives c b h.stopped (inl there) w life late in
       let by = k.by in
-      passed_later p r g k.beat (z + p.delay) by (bare_first k.got h here by))
+      let then = first_life_before r c b k.beat (omega arith) first in
+      passed_later p r g k.beat (z + p.delay) by (bare_first k.got then h here by))
       e.how
 
   -- The second cub got the state of the first visit before beat b, or put the tenancy itself.
@@ -229,17 +251,21 @@ module _ (p : Params) (r : Facts) (g : Setting p r) (t : Tenancy) (x z n : ℕ) 
       (λ w. let low = (entered_held p r g.law w.entered).low in let next = w.next in absurd (omega arith))
       (g.law.states.sends s.sent)
 
-  -- A cub that put the tenancy passes on a deschedule without a tag.
-  put_passes : {c y : ℕ} → r.Put c t x → r.GotBare c t.instance.0 y → WasWaiting p r t x z n
-      → y ≤ z + p.delay → PassedBy r c t.instance.0 y
-  put_passes i got h by = record_passed got h by (g.law.states.inserts i).entered (put_first p g.ok g.room r g.law i (g.law.holds.reached_bare got))
+  -- In its first life a cub that put the tenancy passes on a deschedule without a tag.
+  put_passes : {c y : ℕ} → r.Put c t x → r.GotBare c t.instance.0 y → IsFirstLife r c y
+      → WasWaiting p r t x z n → y ≤ z + p.delay → PassedBy r c t.instance.0 y
+  put_passes i got first h by =
+      let after = put_first p g.ok g.room r g.law i (g.law.holds.reached_bare got) in
+      record_passed got first h by (g.law.states.inserts i).entered after
 
-  -- And so does a cub that took the record of the first visit.
-  took_passes : {c y w : ℕ} → r.GotBare c t.instance.0 y → WasWaiting p r t x z n → y ≤ z + p.delay
+  -- And so does a cub that took the record of the first visit, if both are of its first life.
+  took_passes : {c y w : ℕ} (d : ℕ) → IsFirstLife r c d → y ≤ d → w ≤ d
+      → r.GotBare c t.instance.0 y → WasWaiting p r t x z n → y ≤ z + p.delay
       → r.Took c t t.first w → w ≤ x + p.delay → PassedBy r c t.instance.0 y
-  took_passes {c} {y} {w} got h by took soon = ⊎_elim
+  took_passes {c} {y} {w} d first yd wd got h by took soon = ⊎_elim
       (λ (l : y < w).
-      let k = g.law.holds.took took (g.law.holds.reached_bare got) l in
+      let life = first_same_life r c w (first_life_before r c d w wd first) y in
+      let k = g.law.holds.took took (g.law.holds.reached_bare got) l life in
       let over = k.over in
       let m1 = time_mono p z k.beat (let a = reached_after k.reached in omega arith) in
       let s = e.soon in
@@ -247,31 +273,36 @@ module _ (p : Params) (r : Facts) (g : Setting p r) (t : Tenancy) (x z n : ℕ) 
       let m3 = soon_after p z x (omega arith) in
       let play = g.room.play in
       absurd (omega arith))
-      (λ (l : w ≤ y). passes_early got (inl (took, l)) h by)
+      (λ (l : w ≤ y).
+      let life = first_same_life r c y (first_life_before r c d y yd first) w in
+      passes_early got (inl (took, l)) life h by)
       (cases_lt y w)
 
-  -- So the second cub passes on a deschedule without a tag by beat b, if it has that state by then:
-  -- in the beat of the state there was no conflict, so its record entered, or the deschedule was
-  -- passed on at once.
-  pub second_by_state : {c d b y : ℕ} → c ≡ cub_of p (n + 1) → r.Came c d → b ≤ d
-      → WasWaiting p r t x z n → r.GotBare c t.instance.0 y → y ≤ b → HasSecond c b
+  -- So in its first life the second cub passes on a deschedule without a tag by beat b, if it has
+  -- that state by then: in the beat of the state there was no conflict, so its record entered, or
+  -- the deschedule was passed on at once.
+  pub second_by_state : {c d b y : ℕ} → c ≡ cub_of p (n + 1) → r.Came c d → IsFirstLife r c d
+      → b ≤ d → WasWaiting p r t x z n → r.GotBare c t.instance.0 y → y ≤ b → HasSecond c b
       → PassedBy r c t.instance.0 b
-  second_by_state {c} {d} {b} {y} here came le h got by has =
+  second_by_state {c} {d} {b} {y} here came first le h got by has =
       let soon = (bare got).soon in
       let next : c ≡ cub_of p (t.first + 1) = here ∙ ap (λ v. cub_of p (v + 1)) h.base in
+      let then = first_life_before r c d y (omega arith) first in
       ⊎_elim
-      (λ i. passed_later p r g y b by (put_passes i got h soon))
+      (λ i. passed_later p r g y b by (put_passes i got then h soon))
       (λ k.
       let kl = k.2 in
-      let first = first_state k.1 in
+      let early = first_state k.1 in
+      let at = due p t.slot.0 t.first in
+      let let_in = first_is_open p r c k.0 (first_life_before r c d k.0 (omega arith) first) at in
       ⊎_elim
       (λ q.
       let qb = q.by in
       passed_later p r g y b by (⊎_elim
-      (λ w. took_passes got h soon w (omega arith))
+      (λ w. took_passes d first (omega arith) (omega arith) got h soon w (omega arith))
       (λ w.
       let i = (g.law.states.inserted w).0 in
-      put_passes (subst (λ v. r.Put c t v) (one_put p r g e.put i refl).2 i) got h soon)
+      put_passes (subst (λ v. r.Put c t v) (one_put p r g e.put i refl).2 i) got then h soon)
       q.entered))
       (λ o. ⊎_elim
       (λ q. passed_later p r g k.0 b (omega arith) q)
@@ -280,18 +311,19 @@ module _ (p : Params) (r : Facts) (g : Setting p r) (t : Tenancy) (x z n : ℕ) 
       let tb = ap (λ v. time_of p v) same in
       let late = q.late in
       let s = e.soon in
-      let m2 = soon_after p x k.0 first in
+      let m2 = soon_after p x k.0 early in
       let m3 = soon_after p z x (omega arith) in
       let play = g.room.play in
       absurd (omega arith))
       o)
-      (clean_before p r g k.0 (n + 1) here came (omega arith) c t.first t.first t k.1 (inl (refl, inr next))))
+      (g.clean c d k.0 came (omega arith) c t.first t.first t k.1 (inl (refl, inr next)) let_in))
       has
 
   -- It has the state when a way has passed since the Put, or when it believes the first cub dead.
-  pub has_second : {c d : ℕ} → c ≡ cub_of p (n + 1) → r.Came c d → WasWaiting p r t x z n → (b : ℕ)
+  pub has_second : {c d : ℕ} → c ≡ cub_of p (n + 1) → r.Came c d → IsFirstLife r c d
+      → WasWaiting p r t x z n → (b : ℕ)
       → b ≤ d → (x + p.delay < b) ⊎ BelievedBy r c b → HasSecond c b
-  has_second {c} {d} here came h b le when =
+  has_second {c} {d} here came first h b le when =
       let next : c ≡ cub_of p (t.first + 1) = here ∙ ap (λ v. cub_of p (v + 1)) h.base in
       ⊎_elim
       (λ w.
@@ -301,30 +333,41 @@ module _ (p : Params) (r : Facts) (g : Setting p r) (t : Tenancy) (x z n : ℕ) 
       (λ (q : x + p.delay < b). q)
       (λ k.
       let kb = k.by in
-      let a = put_heard p g.ok g.room r g.law w next k.believed in
+      let put = (g.law.states.inserts e.put).first in
+      let a = put_heard p g.ok g.room r g.law w put next k.believed in
       omega arith)
       when in
-      let k = g.law.links.arrives c d w.sent to came (omega arith) in
+      let life = first_same_life r c d first x in
+      let k = g.law.links.arrives c d w.sent to came life (omega arith) in
       let kb = k.by in
       inr (k.beat, k.got, omega arith))
       (λ w. inl (subst (λ v. r.Put v t x) (w.next ∙ sym next) e.put))
       (g.law.states.inserts e.put).who
 
-  -- So the second cub has passed the deschedule on two ways after the stop.
-  pub second_passed : {c b : ℕ} → c ≡ cub_of p (n + 1) → r.Came c b → z + 2 * p.delay ≤ b
-      → PassedBy r c t.instance.0 (z + 2 * p.delay)
-  second_passed {c} {b} here w late = ⊎_elim
-      (λ h. passed_later p r g (z + p.delay) (z + 2 * p.delay) (omega arith) (tag_passed p r g (g.law.links.tag_arrives c b h (inr here) w (omega arith))))
+  -- So in its first life the second cub has passed the deschedule on two ways after the stop.
+  pub second_passed : {c b : ℕ} → c ≡ cub_of p (n + 1) → r.Came c b → IsFirstLife r c b
+      → z + 2 * p.delay ≤ b → PassedBy r c t.instance.0 (z + 2 * p.delay)
+  second_passed {c} {b} here w first late =
+      let until = z + 2 * p.delay in
+      let life = first_same_life r c b first z in
+      ⊎_elim
       (λ h.
-      let k = g.law.links.bare_arrives c b h.stopped (inr (here ∙ ap (λ v. cub_of p (v + 1)) h.base ∙ sym h.next)) w (omega arith) in
+      let got = g.law.links.tag_arrives c b h (inr here) w life (omega arith) in
+      passed_later p r g (z + p.delay) until (omega arith) (tag_passed p r g got))
+      (λ h.
+      let there = here ∙ ap (λ v. cub_of p (v + 1)) h.base ∙ sym h.next in
+      let k = g.law.links.bare_arrives c b h.stopped (inr there) w life (omega arith) in
       let by = k.by in
-      second_by_state here w late h k.got (omega arith) (has_second here w h (z + 2 * p.delay) late (inl (let soon = e.soon in omega arith))))
+      let soon = e.soon in
+      let has = has_second here w first h until late (inl (omega arith)) in
+      second_by_state here w first late h k.got (omega arith) has)
       e.how
 
-  -- No cub passes it on twice while the wave goes round, since it holds the instance for longer.
-  pub twice : {c s q y b : ℕ} → PassedBy r c t.instance.0 y → y < b → r.Passed c t.instance.0 s q b
-      → b ≤ z + (p.cubs + 2) * p.delay → ⊥
-  twice {c} {s} {q} {y} {b} k l h by =
+  -- In its first life no cub passes it on twice while the wave goes round, since it holds the
+  -- instance for longer.
+  pub twice : {c s q y b : ℕ} → PassedBy r c t.instance.0 y → y < b → IsFirstLife r c b
+      → r.Passed c t.instance.0 s q b → b ≤ z + (p.cubs + 2) * p.delay → ⊥
+  twice {c} {s} {q} {y} {b} k l first h by =
       let kb = k.by in
       let play = g.room.play in
       ⊎_elim
@@ -335,7 +378,7 @@ module _ (p : Params) (r : Facts) (g : Setting p r) (t : Tenancy) (x z n : ℕ) 
       let m = time_mono p z o.beat (omega arith) in
       let a = wave_after p g.turn z b (p.cubs + 2) (omega arith) by in
       let u : ⊥ = omega arith in u)
-      (g.law.holds.pass_once k.passed h (omega arith))
+      (g.law.holds.pass_once k.passed h (omega arith) (first_same_life r c b first k.beat))
 
   -- A visit whose state may have gone out before the wave is over is less than a turn ahead.
   pub near_turn : (m : ℕ) → t.first ≤ m → WasWaiting p r t x z n
@@ -362,12 +405,25 @@ module _ (p : Params) (r : Facts) (g : Setting p r) (t : Tenancy) (x z n : ℕ) 
       to
 
   -- A pass from one of these two, within two ways, is of the wave.
-  pub early_wave : {s q y : ℕ} → s ≡ t.slot.0 → (q ≡ n) ⊎ (q ≡ n + 1) → y ≤ z + 2 * p.delay
-      → Wave s q y
-  early_wave {s} {q} {y} slot which by =
+  pub early_wave : {c s q y : ℕ} → s ≡ t.slot.0 → (q ≡ n) ⊎ (q ≡ n + 1) → y ≤ z + 2 * p.delay
+      → Wave c s q y
+  early_wave {c} {s} {q} {y} slot which by =
       let cubs = g.turn.cubs in
       let two : 2 * p.delay ≤ ((q - n) + 2) * p.delay = mul-le-mul_right p.delay (omega arith) in
-      ⊎_elim
-      (λ (a : q ≡ n). record { seed = inl (inl a); slot = slot; low = omega arith; by = omega arith; high = inl (omega arith) })
-      (λ (a : q ≡ n + 1). record { seed = inl (inr a); slot = slot; low = omega arith; by = omega arith; high = inl (omega arith) })
-      which
+      let whole : 2 * p.delay ≤ (p.cubs + 2) * p.delay = mul-le-mul_right p.delay (omega arith) in
+      let near : (n ≤ q) × (q ≤ n + 1) = ⊎_elim
+      (λ (a : q ≡ n). (omega arith, omega arith))
+      (λ (a : q ≡ n + 1). (omega arith, omega arith))
+      which in
+      let least = near.0 in
+      let most = near.1 in
+      record {
+        seed = inl which;
+        slot = slot;
+        low = least;
+        by = omega arith;
+        within = omega arith;
+        top = omega arith;
+        soon = inl which;
+        high = λ first. inl (omega arith);
+      }

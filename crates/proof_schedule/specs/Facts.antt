@@ -50,6 +50,8 @@ pub record Facts : Type 1 where
   pub Passed : (c v s q b : ℕ) → Type 0
   -- Cub c died.
   pub Died : (c b : ℕ) → Type 0
+  -- Cub c, which had died, came back, with an empty view. Its next life begins with this beat.
+  pub Returned : (c b : ℕ) → Type 0
   -- Cub c sent its successor a heartbeat.
   pub Beat : (c b : ℕ) → Type 0
   -- Cub c got a heartbeat of its predecessor.
@@ -57,10 +59,44 @@ pub record Facts : Type 1 where
   -- Cub c began to believe its predecessor dead.
   pub Believed : (c b : ℕ) → Type 0
 
+-- Cub c is in its first life in beat b: it has not come back by then.
+abbrev pub IsFirstLife : Facts → ℕ → ℕ → Type 0
+IsFirstLife r c b = (w : ℕ) → r.Returned c w → b < w
+
+-- No cub comes back, so that each has one life.
+abbrev pub NobodyReturns : Facts → Type 0
+NobodyReturns r = (c w : ℕ) → ¬ r.Returned c w
+
+-- Beats x and b are of one life of cub c: if it came back by beat b, then by beat x.
+abbrev pub IsSameLife : Facts → ℕ → ℕ → ℕ → Type 0
+IsSameLife r c x b = (w : ℕ) → r.Returned c w → w ≤ b → w ≤ x
+
+-- A cub that came back at this reading lets in what is due, or leaves, from this time on.
+abbrev pub enters_from : Params → ℕ → ℕ
+enters_from p reading = reading + p.max_lead + 3 * p.play + p.skew
+
+-- Cub c lets in, in beat b, what is due at this time, whatever its clock read when it came back.
+abbrev pub IsOpenTo : Params → Facts → ℕ → ℕ → ℕ → Type 0
+IsOpenTo p r c at b = (w : ℕ)
+    → r.Returned c w → w ≤ b → enters_from p (time_of p w) + p.skew ≤ at
+
+-- The last return of cub c by beat b.
+pub record LastReturn (r : Facts) (c b : ℕ) : Type 0 where
+  pub beat : ℕ
+  pub returned : r.Returned c beat
+  pub by : beat ≤ b
+  pub last : (w : ℕ) → r.Returned c w → w ≤ b → w ≤ beat
+
 -- Cub c ended beat b.
 pub record Ended (r : Facts) (c b : ℕ) : Type 0 where
   pub reading : ℕ
   pub ticked : r.Ticked c b reading
+
+-- Cub c ended beat b in its first life.
+pub record LivedTo (r : Facts) (c b : ℕ) : Type 0 where
+  pub reading : ℕ
+  pub ticked : r.Ticked c b reading
+  pub first : IsFirstLife r c b
 
 -- Instance v was put in beat b or before it.
 pub record PutBy (r : Facts) (v b : ℕ) : Type 0 where
@@ -135,9 +171,10 @@ pub record IsReleasedBy (p : Params) (r : Facts) (c v b : ℕ) : Type 0 where
   pub over : time_of p beat + 2 * p.play ≤ time_of p b
 
 -- Cub c holds instance v no longer in beat y, in which a record or a start of it comes: whatever
--- deschedule reached the cub by beat b, its hold was over then.
+-- deschedule reached the cub by beat b in that beat's life, its hold was over then.
 abbrev pub IsUnheld : Params → Facts → ℕ → ℕ → ℕ → ℕ → Type 0
-IsUnheld p r c v b y = (x : ℕ) → r.Reached c v x → x ≤ b → IsReleasedBy p r c v y
+IsUnheld p r c v b y = (x : ℕ)
+    → r.Reached c v x → x ≤ b → IsSameLife r c x b → IsReleasedBy p r c v y
 
 -- Cub c died so long before beat b that whatever it sent has been got by then.
 pub record DiedLongBefore (p : Params) (r : Facts) (c b : ℕ) : Type 0 where
@@ -155,11 +192,12 @@ Cut p r c v b = ReachedBy r c v b ⊎ Late p r v b
 abbrev pub Entered : Facts → ℕ → Tenancy → ℕ → ℕ → Type 0
 Entered r c t n b = r.Took c t n b ⊎ r.Inserted c t n b
 
--- A record of visit n of t entered cub c's view in beat b or before it.
+-- A record of visit n of t entered cub c's view in beat b or before it, in the same life.
 pub record EnteredBy (r : Facts) (c : ℕ) (t : Tenancy) (n b : ℕ) : Type 0 where
   pub beat : ℕ
   pub entered : Entered r c t n beat
   pub by : beat ≤ b
+  pub life : IsSameLife r c beat b
 
 -- A record entered in beat b, so early that a message of beat y finds it: a cub takes its messages
 -- before it puts.

@@ -3,7 +3,7 @@ use Rattle.std.specs.Prelude.{◌≡◌, ℕ, ◌+◌, ◌*◌, ◌<◌, ◌≤�
 use Rattle.tiger_base.specs.declared.tenancy.Tenancy.{Tenancy}
 use Rattle.slot_plan.specs.declared.params.Params.{Params}
 use Rattle.slot_plan.specs.Times.{time_of, due, cub_of}
-use Rattle.proof_schedule.specs.Facts.{Facts, ReachedBy, PassedBy, GotTagBy, GotBareBy, IsReleasedBy, EnteredAmong, IsBeside}
+use Rattle.proof_schedule.specs.Facts.{Facts, ReachedBy, PassedBy, GotTagBy, IsReleasedBy, EnteredAmong, IsBeside, IsSameLife}
 
 -- How far a deschedule is passed on at a time: to visits that are due by then, and no further.
 abbrev pub horizon : Params → ℕ → ℕ
@@ -15,7 +15,7 @@ pub record ForTag (r : Facts) (c v s q y : ℕ) : Type 0 where
   pub got : r.GotTag c v s visit y
   pub which : (q ≡ visit) ⊎ (q ≡ visit + 1)
 
--- Or that of a record of the instance, at a deschedule without a tag.
+-- Or that of a record of the instance, of the same life, at a deschedule without a tag.
 pub record ForRecord (r : Facts) (c v s q y : ℕ) : Type 0 where
   pub got : r.GotBare c v y
   pub tenancy : Tenancy
@@ -24,7 +24,15 @@ pub record ForRecord (r : Facts) (c v s q y : ℕ) : Type 0 where
   pub visit : ℕ
   pub beat : ℕ
   pub entered : EnteredAmong r c tenancy visit beat y
+  pub life : IsSameLife r c beat y
   pub which : (q ≡ visit) ⊎ (q ≡ visit + 1)
+
+-- Cub c got a deschedule of instance v without a tag in beat b or before it, in the same life.
+pub record GotBareInLife (r : Facts) (c v b : ℕ) : Type 0 where
+  pub beat : ℕ
+  pub got : r.GotBare c v beat
+  pub by : beat ≤ b
+  pub life : IsSameLife r c beat b
 
 -- A tag gave cub c no position: it stands neither at the tag's visit nor one after it.
 pub record IsStray (p : Params) (r : Facts) (c v b : ℕ) : Type 0 where
@@ -42,7 +50,7 @@ pub record ForState (p : Params) (r : Facts) (c v s q y : ℕ) : Type 0 where
   pub visit : ℕ
   pub got : r.Got c tenancy visit y
   pub which : (q ≡ visit) ⊎ (q ≡ visit + 1)
-  pub unplaced : GotBareBy r c v y ⊎ IsStray p r c v y
+  pub unplaced : GotBareInLife r c v y ⊎ IsStray p r c v y
 
 -- Cub c passes a deschedule on from visit q of slot s. That visit is its own, and a tag, a record
 -- or a state gives it.
@@ -73,9 +81,10 @@ pub record HoldLaws (p : Params) (r : Facts) : Type 0 where
   -- gives.
   pub pass : {c v s q y : ℕ} → r.Passed c v s q y → IsPass p r c v s q y
   -- A cub that passes a deschedule on sends it to the next two cubs, if the next visit is within
-  -- the horizon and the cub does not die in that beat.
+  -- the horizon and the cub does not die in that beat: in that life it comes to a tick yet.
   pub passes : {c v s q y b : ℕ}
-      → r.Passed c v s q y → r.Came c b → y ≤ b → due p s (q + 1) ≤ horizon p (time_of p y)
+      → r.Passed c v s q y → r.Came c b → y ≤ b → IsSameLife r c y b
+      → due p s (q + 1) ≤ horizon p (time_of p y)
       → r.Told c 1 v s (q + 1) y × r.Told c 2 v s (q + 1) y
   -- A cub sends a deschedule only by passing it on.
   pub told : {a k v s q x : ℕ} → r.Told a k v s q x → IsTold p r a k v s q x
@@ -85,13 +94,14 @@ pub record HoldLaws (p : Params) (r : Facts) : Type 0 where
   pub tag_passes : {c v s q y : ℕ} → r.GotTag c v s q y → IsBeside p c q → PassedBy r c v y
   -- A deschedule without a tag that finds a record which is not due is passed on, or a tag came.
   pub record_passes : {c n x y : ℕ} {t : Tenancy}
-      → r.GotBare c t.instance.0 y → EnteredAmong r c t n x y
+      → r.GotBare c t.instance.0 y → EnteredAmong r c t n x y → IsSameLife r c x y
       → time_of p y + p.skew < due p t.slot.0 n
       → PassedBy r c t.instance.0 y ⊎ ((s q : ℕ) × GotTagBy r c t.instance.0 s q y)
-  -- A deschedule is passed on once while its instance is held.
+  -- In one life a deschedule is passed on once while its instance is held.
   pub pass_once : {c v s q y u m z : ℕ}
-      → r.Passed c v s q y → r.Passed c v u m z → y ≤ z
+      → r.Passed c v s q y → r.Passed c v u m z → y ≤ z → IsSameLife r c y z
       → ((m ≡ q) × (z ≡ y)) ⊎ IsReleasedBy p r c v z
   -- No record of an instance is taken while it is held.
   pub took : {c n x b : ℕ} {t : Tenancy}
-      → r.Took c t n x → r.Reached c t.instance.0 b → b < x → IsReleasedBy p r c t.instance.0 x
+      → r.Took c t n x → r.Reached c t.instance.0 b → b < x → IsSameLife r c b x
+      → IsReleasedBy p r c t.instance.0 x

@@ -1,11 +1,11 @@
--- What it means that there is one schedule, where instances are stopped and cubs die.
+-- What it means that there is one schedule, where instances are stopped and cubs die and come back.
 use Rattle.std.specs.Prelude.{◌≡◌, ◌≢◌, ℕ, ◌+◌, ◌*◌, ◌<◌, ◌≤◌, ◌⊎◌, List}
 use Rattle.tiger_base.specs.declared.tenancy.Ask.{Ask}
 use Rattle.tiger_base.specs.declared.tenancy.Tenancy.{Tenancy}
 use Rattle.slot_plan.specs.declared.params.Params.{Params}
 use Rattle.slot_plan.specs.Conditions.{IsPlan}
 use Rattle.slot_plan.specs.Times.{time_of, due, cub_of, disk_of}
-use Rattle.proof_schedule.specs.Facts.{Facts, PutBy, GoneBefore, ReachedBy, BelievedBy, DiedLongBefore, Cut, Entered, Knows, IsFor}
+use Rattle.proof_schedule.specs.Facts.{Facts, PutBy, GoneBefore, ReachedBy, BelievedBy, DiedLongBefore, Cut, Entered, Knows, IsFor, IsFirstLife, IsOpenTo}
 use Rattle.proof_schedule.specs.Laws.{Laws}
 use Rattle.proof_schedule.specs.Logs.{Fact, facts_in}
 use Rattle.proof_schedule.specs.StartLaws.{IsInWindow, Waits}
@@ -65,18 +65,21 @@ pub record IsOneSchedule (p : Params) (r : Facts) : Type 0 where
   pub rising : (c d x y : ℕ) (t u : Tenancy)
       → r.Put c t x → r.Put d u y → y ≤ x → u.slot.0 ≡ t.slot.0 → u.first ≤ t.first
   -- The cub of a later visit knows it, from the first beat on in which that visit may be in a
-  -- window.
+  -- window. One that has come back knows what is due so late that it lets it in.
   pub kept : (c x b l n : ℕ) (t : Tenancy)
       → r.Put c t x → t.first < n → n ≤ t.last → MayOpen p t n b → r.Ticked (cub_of p n) b l
+      → IsOpenTo p r (cub_of p n) (due p t.slot.0 n) b
       → Knows p r (cub_of p n) t n b
   -- If the cub of a later visit dies, in whatever beat, the next cub knows the visit as soon.
   pub beside : (c x b e l n : ℕ) (t : Tenancy)
       → r.Put c t x → t.first < n → n ≤ t.last → MayOpen p t n b
       → r.Died (cub_of p n) e → r.Ticked (cub_of p (n + 1)) b l
       → Knows p r (cub_of p (n + 1)) t n b
-  -- The cub after the one that put knows the first visit a longest way later.
+  -- The cub after the one that put knows the first visit a longest way later, again if it lets it
+  -- in.
   pub first_backup : (c x b l : ℕ) (t : Tenancy)
       → r.Put c t x → c ≡ cub_of p t.first → r.Ticked (cub_of p (t.first + 1)) b l → x + p.delay ≤ b
+      → IsOpenTo p r (cub_of p (t.first + 1)) (due p t.slot.0 t.first) b
       → Knows p r (cub_of p (t.first + 1)) t t.first b
   -- An instance that is cut somewhere was stopped in an earlier beat.
   pub cut : (c v b : ℕ) → Cut p r c v b → GoneBefore r v b
@@ -105,10 +108,11 @@ pub record IsOneSchedule (p : Params) (r : Facts) : Type 0 where
       → r.Shows c t n b
       → IsHeld r t n b
       × ((z : ℕ) → r.Gone t.instance.0 z → time_of p (b + 1) ≤ time_of p z + p.play)
-  -- A start that a cub got was put, or a deschedule of it came, or each visit of its disk in the
-  -- window is taken.
+  -- A start that a cub got in its first life was put, or a deschedule of it came, or each visit of
+  -- its disk in the window is taken.
   pub waits : (c y b l s n : ℕ) (ask : Ask)
-      → Waits p r c ask n y b → y ≤ b → r.Ticked c b l → s < p.slots → IsInWindow p l s n
+      → Waits p r c ask n y b → y ≤ b → r.Ticked c b l → IsFirstLife r c b
+      → s < p.slots → IsInWindow p l s n
       → IsTaken p r s n b ⊎ (PutBy r ask.instance.0 b ⊎ ReachedBy r c ask.instance.0 b)
 
 -- Whatever the facts of a run of a plan, if they meet the laws there is one schedule. The facts are

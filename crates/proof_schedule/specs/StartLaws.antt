@@ -4,7 +4,7 @@ use Rattle.tiger_base.specs.declared.tenancy.Ask.{Ask}
 use Rattle.tiger_base.specs.declared.tenancy.Tenancy.{Tenancy}
 use Rattle.slot_plan.specs.declared.params.Params.{Params}
 use Rattle.slot_plan.specs.Times.{due, cub_of, disk_of}
-use Rattle.proof_schedule.specs.Facts.{Facts, ReachedBy, BelievedBy, IsReleasedBy, IsUnheld, IsFor}
+use Rattle.proof_schedule.specs.Facts.{Facts, ReachedBy, BelievedBy, IsReleasedBy, IsUnheld, IsFor, IsFirstLife}
 use Rattle.proof_schedule.specs.StateLaws.{Stands}
 
 -- A visit of a slot is in the window at a reading.
@@ -62,8 +62,9 @@ pub record StartLaws (p : Params) (r : Facts) : Type 0 where
   -- instance once.
   pub once : {c : ℕ} {t u : Tenancy} {x y : ℕ}
       → r.Put c t x → r.Put c u y → u.instance.0 ≡ t.instance.0 → (u ≡ t) × (y ≡ x)
-  -- Start and insertion: while a start waits, a record stands at each visit of its disk in the
-  -- window.
+  -- Start and insertion: while a start waits at a cub in its first life, a record stands at each
+  -- visit of its disk in the window. A cub that has come back discards starts.
   pub waits : {c : ℕ} {ask : Ask} {y b l : ℕ} (s n : ℕ)
-      → Waits p r c ask n y b → y ≤ b → r.Ticked c b l → s < p.slots → IsInWindow p l s n
+      → Waits p r c ask n y b → y ≤ b → r.Ticked c b l → IsFirstLife r c b
+      → s < p.slots → IsInWindow p l s n
       → Stands p r c s n b ⊎ (IsPlacedBy r c ask.instance.0 b ⊎ ReachedBy r c ask.instance.0 b)

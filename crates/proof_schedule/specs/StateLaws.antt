@@ -2,8 +2,8 @@
 use Rattle.std.specs.Prelude.{◌≡◌, ℕ, ◌+◌, ◌<◌, ◌≤◌, ◌⊎◌}
 use Rattle.tiger_base.specs.declared.tenancy.Tenancy.{Tenancy}
 use Rattle.slot_plan.specs.declared.params.Params.{Params}
-use Rattle.slot_plan.specs.Times.{due, cub_of}
-use Rattle.proof_schedule.specs.Facts.{Facts, GotTagBy, PassedBy, ReachedBy, BelievedBy, IsReleasedBy, IsUnheld, Entered, EnteredAmong, IsGiven}
+use Rattle.slot_plan.specs.Times.{time_of, due, cub_of}
+use Rattle.proof_schedule.specs.Facts.{Facts, GotTagBy, PassedBy, ReachedBy, BelievedBy, IsReleasedBy, IsUnheld, Entered, EnteredAmong, IsGiven, IsFirstLife, IsSameLife, IsOpenTo, enters_from}
 use Rattle.proof_schedule.specs.RunLaws.{IsTick}
 
 -- Cub c puts at a visit of its own, and sends the visit's state to its successor.
@@ -11,8 +11,8 @@ pub record PutsOwn (p : Params) (r : Facts) (c : ℕ) (t : Tenancy) (x : ℕ) : 
   pub own : c ≡ cub_of p t.first
   pub sent : r.Sent c 1 t t.first x
 
--- At cub c's tick of beat b a record of visit n of slot s is in its view. It entered when its
--- instance was not held.
+-- At cub c's tick of beat b a record of visit n of slot s is in its view. It entered in that life,
+-- when its instance was not held.
 pub record Stands (p : Params) (r : Facts) (c s n b : ℕ) : Type 0 where
   pub holder : Tenancy
   pub slot : holder.slot.0 ≡ s
@@ -20,6 +20,7 @@ pub record Stands (p : Params) (r : Facts) (c s n b : ℕ) : Type 0 where
   pub entered : Entered r c holder n beat
   pub by : beat ≤ b
   pub since : IsUnheld p r c holder.instance.0 b beat
+  pub life : IsSameLife r c beat b
 
 -- Cub c puts at a visit of its predecessor, which it believes dead. If the tenancy has a next
 -- visit, which is the cub's own, it inserts a record of that too, or finds one there.
@@ -29,8 +30,8 @@ pub record PutsForDead (p : Params) (r : Facts) (c : ℕ) (t : Tenancy) (x : ℕ
   pub second : t.first < t.last
       → r.Inserted c t (t.first + 1) x ⊎ Stands p r c t.slot.0 (t.first + 1) x
 
--- A Put of beat x is in a tick, at a first visit in the window, and its record enters the view. If
--- the cub did not end the beat, it died in that tick.
+-- A Put of beat x is in a tick of a first life, at a first visit in the window, and its record
+-- enters the view. If the cub did not end the beat, it died in that tick.
 pub record Inserts (p : Params) (r : Facts) (c : ℕ) (t : Tenancy) (x : ℕ) : Type 0 where
   pub reading : ℕ
   pub tick : IsTick p r c x reading
@@ -39,6 +40,7 @@ pub record Inserts (p : Params) (r : Facts) (c : ℕ) (t : Tenancy) (x : ℕ) : 
   pub below : due p t.slot.0 t.first ≤ reading + p.window_a
   pub within : t.first ≤ t.last
   pub entered : r.Inserted c t t.first x
+  pub first : IsFirstLife r c x
   pub who : PutsOwn p r c t x ⊎ PutsForDead p r c t x
 
 -- A record of visit n that entered by a state is one that this state gives, and the state came in
@@ -57,8 +59,8 @@ pub record WasEarly (p : Params) (r : Facts) (a : ℕ) (t : Tenancy) (m x : ℕ)
   pub early : reading + p.min_lead < due p t.slot.0 m
 
 -- Cub a forwards the state of visit m in a tick of beat x, from its own record of the visit before.
--- That record entered in this beat, or at the tick before it was too early; and it entered when its
--- instance was not held.
+-- That record entered in this beat, or at the tick before it was too early; and it entered in that
+-- life, when its instance was not held.
 pub record Forwards (p : Params) (r : Facts) (a : ℕ) (t : Tenancy) (m x : ℕ) : Type 0 where
   pub visit : ℕ
   pub next : m ≡ visit + 1
@@ -72,6 +74,7 @@ pub record Forwards (p : Params) (r : Facts) (a : ℕ) (t : Tenancy) (m x : ℕ)
   pub soon : due p t.slot.0 m ≤ reading + p.max_lead
   pub fresh : (beat ≡ x) ⊎ WasEarly p r a t m x
   pub since : IsUnheld p r a t.instance.0 x beat
+  pub life : IsSameLife r a beat x
 
 -- Cub a sends the state of a first visit at its own Put there, to the next cub.
 pub record SendsFirst (p : Params) (r : Facts) (a k : ℕ) (t : Tenancy) (m x : ℕ) : Type 0 where
@@ -87,22 +90,24 @@ pub record Sends (r : Facts) (a : ℕ) (t : Tenancy) (m b : ℕ) : Type 0 where
   pub far : r.Sent a 2 t m beat
   pub by : beat ≤ b
 
--- A state that cub c got in beat y found a record in a place that it gives. If a deschedule of that
--- record's instance came before the state, ahead of it on its link or in a lower beat, then the
--- record entered after the hold.
+-- A state that cub c got in beat y found a record of the same life in a place that it gives. If a
+-- deschedule of that record's instance came in that life before the state, ahead of it on its link
+-- or in a lower beat, then the record entered after the hold.
 pub record Found (p : Params) (r : Facts) (c s n y from ahead sent : ℕ) : Type 0 where
   pub holder : Tenancy
   pub slot : holder.slot.0 ≡ s
   pub beat : ℕ
   pub entered : EnteredAmong r c holder n beat y
   pub behind : (u q x : ℕ) → r.Told from ahead holder.instance.0 u q x → x ≤ sent
-      → IsReleasedBy p r c holder.instance.0 beat
+      → IsSameLife r c x y → IsReleasedBy p r c holder.instance.0 beat
   pub since : (b : ℕ) → r.Reached c holder.instance.0 b → b < y
-      → IsReleasedBy p r c holder.instance.0 beat
+      → IsSameLife r c b y → IsReleasedBy p r c holder.instance.0 beat
+  pub life : IsSameLife r c beat y
 
 -- A state that cub c got in beat y was sent, and each deschedule that went ahead of it on its link
--- had come. In each place that it gives there is a record now, perhaps its own; or its instance is
--- held, and cub c has passed the deschedule on.
+-- had come, unless the cub was away. In each place that it gives, and that the cub lets in, there
+-- is a record now, perhaps its own; or its instance is held, and cub c has passed the deschedule
+-- on.
 pub record Meeting (p : Params) (r : Facts) (c : ℕ) (t : Tenancy) (m y : ℕ) : Type 0 where
   pub from : ℕ
   pub ahead : ℕ
@@ -111,12 +116,13 @@ pub record Meeting (p : Params) (r : Facts) (c : ℕ) (t : Tenancy) (m y : ℕ) 
   pub to : c ≡ cub_of p (from + ahead)
   pub later : beat < y
   pub soon : y ≤ beat + p.delay
-  pub tags : (v s q x : ℕ) → r.Told from ahead v s q x → x ≤ beat → GotTagBy r c v s q y
-  pub places : (n : ℕ) → IsGiven p c t m n
+  pub tags : (v s q x : ℕ)
+      → r.Told from ahead v s q x → x ≤ beat → IsSameLife r c x y → GotTagBy r c v s q y
+  pub places : (n : ℕ) → IsGiven p c t m n → IsOpenTo p r c (due p t.slot.0 n) y
       → Found p r c t.slot.0 n y from ahead beat ⊎ PassedBy r c t.instance.0 y
 
--- A record that a view has after a tick was not due at it, and entered when its instance was not
--- held.
+-- A record that a view has after a tick was not due at it, and entered in that life, when its
+-- instance was not held.
 pub record IsShown (p : Params) (r : Facts) (c : ℕ) (t : Tenancy) (n b : ℕ) : Type 0 where
   pub reading : ℕ
   pub ticked : r.Ticked c b reading
@@ -125,6 +131,7 @@ pub record IsShown (p : Params) (r : Facts) (c : ℕ) (t : Tenancy) (n b : ℕ) 
   pub entered : Entered r c t n beat
   pub by : beat ≤ b
   pub since : IsUnheld p r c t.instance.0 b beat
+  pub life : IsSameLife r c beat b
 
 -- The laws of records and states, each of one cub.
 pub record StateLaws (p : Params) (r : Facts) : Type 0 where
@@ -145,15 +152,18 @@ pub record StateLaws (p : Params) (r : Facts) : Type 0 where
   -- takes it.
   pub meets : {c m y : ℕ} {t : Tenancy}
       → r.Got c t m y → t.first ≤ m → m ≤ t.last → Meeting p r c t m y
+  -- Viewer state: what enters a cub that has come back is due late enough after its return.
+  pub late : {c n y w : ℕ} {t : Tenancy}
+      → r.Took c t n y → r.Returned c w → w ≤ y → enters_from p (time_of p w) ≤ due p t.slot.0 n
   -- Insertion and forwarding: a state goes out at a Put, or by an own record.
   pub sends : {a k : ℕ} {t : Tenancy} {m x : ℕ}
       → r.Sent a k t m x → SendsFirst p r a k t m x ⊎ Forwards p r a t m x
   -- Insertion and forwarding: a state goes to one of the next two cubs.
   pub ahead : {a k m x : ℕ} {t : Tenancy} → r.Sent a k t m x → (k ≡ 1) ⊎ (k ≡ 2)
   -- Forwarding: from an own record that is not yet due the next state has gone out, if that is due
-  -- within the least lead, unless a deschedule came.
+  -- within the least lead, unless a deschedule came. Nobody relies on a cub that has come back.
   pub forwards : {a : ℕ} {t : Tenancy} {n y b l : ℕ}
-      → Entered r a t n y → y ≤ b → r.Ticked a b l → a ≡ cub_of p n → n < t.last
+      → Entered r a t n y → y ≤ b → r.Ticked a b l → IsFirstLife r a b → a ≡ cub_of p n → n < t.last
       → l < due p t.slot.0 n → due p t.slot.0 (n + 1) ≤ l + p.min_lead
       → Sends r a t (n + 1) b ⊎ ReachedBy r a t.instance.0 b
   -- Releasing: a tick leaves no record that is due, and a deschedule leaves none of its instance.

@@ -1,20 +1,23 @@
 -- Each piece of a visit that is split leaves in time, or its read fails, or its cub dies.
 use Rattle.std.proofs.Common.{◌≡◌, ℕ, zero, suc, ◌+◌, ◌<◌, ◌≤◌, refl, sym, ap, subst, ◌∙◌, arith, ⊎_elim, inl, inr, eq-or-lt_of_le}
 use Rattle.std.specs.Prelude.{◌⊎◌}
+use Rattle.std.proofs.lemmas.Bool.{cases_lt}
 use Rattle.tiger_base.specs.declared.tenancy.Tenancy.{Tenancy}
 use Rattle.slot_plan.specs.declared.params.Params.{Params}
 use Rattle.slot_plan.specs.Times.{time_of, due, cub_of}
 use Rattle.slot_plan.proofs.Times.{time_below, time_mono, cub_below, cub_ahead}
-use Rattle.proof_schedule.specs.Facts.{Facts, Ended}
+use Rattle.proof_schedule.specs.Facts.{Facts, enters_from}
 use Rattle.proof_schedule.proofs.Room.{way, soon_after}
 use Rattle.proof_pieces.specs.PieceFacts.{PieceFacts, leave}
 use Rattle.proof_pieces.proofs.Leaving.{leave_after, leave_until}
 use Rattle.proof_service.specs.Blocks.{LeftInTime, DiedBeforeLeaving, PieceIsLost}
-use Rattle.proof_service.specs.ServiceFacts.{ServiceFacts, ArisesBy}
+use Rattle.proof_service.specs.ServiceFacts.{ServiceFacts, ArisesBy, LetsIn}
+use Rattle.proof_service.proofs.Back.{first_life, second_life, one_return, first_lets_in, piece_may_serve, split_near}
+use Rattle.proof_service.proofs.Lives.{Lives, in_life, since_life}
 use Rattle.proof_service.proofs.Service.{Service}
 use Rattle.proof_service.proofs.Serving.{Awaited, LeftOrFailed, in_run, not_reached, there_left}
 use Rattle.proof_service.proofs.Takeover.{goes_on}
-use Rattle.proof_service.proofs.Ticks.{turn, ended_by}
+use Rattle.proof_service.proofs.Ticks.{turn}
 
 module _ (p : Params) (r : Facts) (q : PieceFacts) (w : ServiceFacts) (end : ℕ) (s : Service p r q w end) where
   -- A visit is split so early that its pieces can still be sent ahead and read.
@@ -27,11 +30,14 @@ module _ (p : Params) (r : Facts) (q : PieceFacts) (w : ServiceFacts) (end : ℕ
 module _ (p : Params) (r : Facts) (q : PieceFacts) (w : ServiceFacts) (end : ℕ) (s : Service p r q w end)
     (t : Tenancy) (n : ℕ) (v : Awaited p r end t n) (e : ℕ) (died : r.Died (cub_of p n) e)
     (b : ℕ) (split : q.Split (cub_of p (n + 1)) t n b) where
-  -- The record of another piece than the first comes with its mirror state.
-  mirror_comes : {f : ℕ} (k : ℕ) → 1 ≤ k → k < p.pieces → Ended r (cub_of p (n + (k + 1))) f
+  -- The record of another piece than the first comes with its mirror state, if its cub lives from
+  -- the split on and lets the piece in.
+  mirror_comes : {from f : ℕ} (k : ℕ) → 1 ≤ k → k < p.pieces
+      → Lives r (cub_of p (n + (k + 1))) from f → from ≤ b
+      → LetsIn p r (cub_of p (n + (k + 1))) (leave p t n (k + 1)) f
       → due p t.slot.0 n ≤ time_of p f
       → ArisesBy r q (cub_of p (n + (k + 1))) t n (k + 1) f
-  mirror_comes {f} k some few ended late =
+  mirror_comes {from} {f} k some few lives low lets late =
       let early = split_soon p r q w end s split in
       let room = s.setting.room in
       let far = in_run p r q w end s t n v b (omega (arith, room)) in
@@ -41,30 +47,72 @@ module _ (p : Params) (r : Facts) (q : PieceFacts) (w : ServiceFacts) (end : ℕ
       let to : cub_of p (n + (k + 1)) ≡ cub_of p (cub_of p (n + 1) + k) = sym (cub_ahead p (n + 1) k ∙ ap (λ m. cub_of p m) sum) in
       let soon = soon_after p b (b + p.delay) (omega arith) in
       let before = time_below p (b + p.delay) f (omega (arith, room)) in
-      let there = ended_by p r s.setting {e = f} (n + (k + 1)) (b + p.delay) ended (omega arith) in
+      let there = lives.ended (b + p.delay) (omega arith) (omega arith) in
+      let c : ℕ = cub_of p (n + (k + 1)) in
+      let came = s.setting.law.run.came there.ticked in
+      let since = in_life lives b (b + p.delay) low (omega arith) in
+      let then : LetsIn p r c (leave p t n (k + 1)) (b + p.delay) =
+      λ x l back tick le. lets x l back tick (omega arith) in
       ⊎_elim
-      (λ h. let by = h.by in record { beat = h.beat; arises = h.arises; by = omega arith })
+      (λ h.
+      let by = h.by in
+      let after = since_life lives h.beat (b + p.delay) (omega arith) h.life in
+      let same = in_life lives h.beat f after (omega arith) in
+      record { beat = h.beat; arises = h.arises; by = omega arith; life = same })
       (λ h. absurd (not_reached p r q w end s t n v h (omega (arith, room))))
-      (s.laws.mirror_arrives (cub_of p (n + (k + 1))) (b + p.delay) sent to refl (s.setting.law.run.came there.ticked) (omega arith))
+      (s.laws.mirror_arrives c (b + p.delay) sent to refl came since then (omega arith))
 
-  -- So the record of each piece is there in time, if its cub goes on.
-  piece_comes : {f : ℕ} (j : ℕ) → 1 ≤ j → j ≤ p.pieces → Ended r (cub_of p (n + j)) f
+  -- So the record of each piece is there in time, if its cub lives from the split on and lets the
+  -- piece in.
+  piece_comes : {from f : ℕ} (j : ℕ) → 1 ≤ j → j ≤ p.pieces → Lives r (cub_of p (n + j)) from f
+      → from ≤ b → LetsIn p r (cub_of p (n + j)) (leave p t n j) f
       → due p t.slot.0 n ≤ time_of p f
       → ArisesBy r q (cub_of p (n + j)) t n j f
-  piece_comes zero some few ended late = absurd (omega arith)
-  piece_comes {f} (suc zero) some few ended late =
+  piece_comes zero some few lives low lets late = absurd (omega arith)
+  piece_comes {from} {f} (suc zero) some few lives low lets late =
       let early = split_soon p r q w end s split in
       let before = time_below p b f (omega (arith, s.setting.room)) in
-      record { beat = b; arises = inr (inl (refl, split)); by = omega arith }
-  piece_comes {f} (suc (suc k)) some few ended late =
+      let same = in_life lives b f low (omega arith) in
+      record { beat = b; arises = inr (inl (refl, split)); by = omega arith; life = same }
+  piece_comes {from} {f} (suc (suc k)) some few lives low lets late =
       let sum : k + 1 + 1 ≡ suc (suc k) = omega arith in
       subst
-      (λ i. Ended r (cub_of p (n + i)) f → ArisesBy r q (cub_of p (n + i)) t n i f)
+      (λ i. Lives r (cub_of p (n + i)) from f → LetsIn p r (cub_of p (n + i)) (leave p t n i) f
+      → ArisesBy r q (cub_of p (n + i)) t n i f)
       sum
-      (λ h. mirror_comes (k + 1) (omega arith) (omega arith) h late)
-      ended
+      (λ lives lets. mirror_comes (k + 1) (omega arith) (omega arith) lives low lets late)
+      lives lets
 
-  -- So each piece leaves or its read fails, or its cub died.
+  -- What is split is due soon, so if a cub that came back lets a piece in, that was split after its
+  -- return.
+  let_in_after : {d : ℕ} (j y l : ℕ) → j ≤ p.pieces → r.Ticked d y l
+      → enters_from p l ≤ leave p t n j → y ≤ b
+  let_in_after j y l few tick late = ⊎_elim
+      (λ (before : b < y).
+      let low = (s.setting.law.run.reads tick).0 in
+      let until = leave_until p s.setting.ok t n j few in
+      let near = split_near p r q w end s split in
+      let m = time_mono p b y (omega arith) in
+      let some = s.setting.room.beat in
+      absurd (omega (arith, s.setting.room)))
+      (λ (fine : y ≤ b). fine)
+      (cases_lt b y)
+
+  -- A piece leaves from a cub that lives from the split on and lets it in, or its read fails.
+  lives_left : {from f : ℕ} (j : ℕ) → 1 ≤ j → j ≤ p.pieces → Lives r (cub_of p (n + j)) from f
+      → from ≤ b → LetsIn p r (cub_of p (n + j)) (leave p t n j) f → leave p t n j ≤ time_of p f
+      → LeftOrFailed p q w end (cub_of p (n + j)) t n j
+  lives_left {from} {f} j some few lives low lets late =
+      let after = leave_after p t n j in
+      let early = split_soon p r q w end s split in
+      let before = time_below p b f (omega (arith, s.setting.room)) in
+      let k = piece_comes j some few lives low lets (omega arith) in
+      let since = since_life lives k.beat f (omega arith) k.life in
+      let may = piece_may_serve p r (cub_of p (n + j)) t n j f some in
+      there_left p r q w end s t n v {j = j} {from = from} {f = f} k.beat few k.arises
+      since lives may late
+
+  -- So each piece leaves or its read fails, or its cub died and did not come back in time.
   piece_left : (j : ℕ) → 1 ≤ j → j ≤ p.pieces
       → LeftOrFailed p q w end (cub_of p (n + j)) t n j ⊎ DiedBeforeLeaving p r end (cub_of p (n + j)) t n j
   piece_left j some few =
@@ -77,14 +125,48 @@ module _ (p : Params) (r : Facts) (q : PieceFacts) (w : ServiceFacts) (end : ℕ
       let meets = o.1.meets in
       let only_now = o.1.only_now in
       let far = in_run p r q w end s t n v f (omega arith) in
+      let c : ℕ = cub_of p (n + j) in
       ⊎_elim
       (λ h.
-      let k = piece_comes j some few h (omega arith) in
-      inl (there_left p r q w end s t n v {j = j} {f = f} k.beat few k.arises h meets))
+      let lives = first_life p r q w end s (n + j) h in
+      let lets = first_lets_in p r c (leave p t n j) f h.first in
+      inl (lives_left j some few lives (omega arith) lets meets))
       (λ h.
       let by = h.by in
       let m = time_mono p h.beat f by in
-      inr (record { beat = h.beat; died = h.died; before = omega arith; early = omega arith }))
+      ⊎_elim
+      (λ first. inr (record {
+        beat = h.beat;
+        died = h.died;
+        before = omega arith;
+        early = omega arith;
+        away = λ y l back tick.
+            let g = first y back in
+            let low = (s.setting.law.run.reads tick).0 in
+            let mono = time_mono p f y (omega arith) in
+            omega (arith, s.setting.room);
+      }))
+      (λ k.
+      let e = s.laws.returns_ended k.returned in
+      ⊎_elim
+      (λ (early : leave p t n j < enters_from p e.reading). inr (record {
+        beat = h.beat;
+        died = h.died;
+        before = omega arith;
+        early = omega arith;
+        away = λ y l back tick.
+            let same = one_return p r q w end s k.returned e.ticked back tick in
+            omega arith;
+      }))
+      (λ (late : enters_from p e.reading ≤ leave p t n j).
+      let lives = second_life p r q w end s k.returned (omega arith) in
+      let after = let_in_after j k.beat e.reading few e.ticked late in
+      let lets : LetsIn p r c (leave p t n j) f = λ y l back tick le.
+      let same = one_return p r q w end s k.returned e.ticked back tick in
+      omega arith in
+      inl (lives_left j some few lives after lets meets))
+      (cases_lt (leave p t n j) (enters_from p e.reading)))
+      (s.setting.law.run.returns c f))
       (s.laws.ends (omega arith) (cub_below p (n + j) s.setting.ok.ranges))
 
   -- One of the first so many pieces was lost.

@@ -9,6 +9,7 @@ use Rattle.proof_pieces.specs.PieceFacts.{PieceFacts, leave}
 use Rattle.proof_pieces.proofs.Entries.{origin, split_dead, arises_early, there_soon}
 use Rattle.proof_pieces.proofs.Leaving.{leave_after, leave_until}
 use Rattle.proof_service.specs.ServiceFacts.{ServiceFacts}
+use Rattle.proof_service.proofs.Back.{served_later, split_not_back}
 use Rattle.proof_service.proofs.Mirrors.{split_soon}
 use Rattle.proof_service.proofs.Service.{Service}
 
@@ -62,7 +63,7 @@ module _ (p : Params) (r : Facts) (q : PieceFacts) (w : ServiceFacts) (end : ℕ
       s.right.one_sent c d n j a b t u k l (ap (λ (x : Tenancy). x.slot.0) e)
 
   -- The whole block is sent by a cub that goes on until the visit is due, and a piece only if that
-  -- cub died before.
+  -- cub died before and did not come back in time: then it does not send the whole block.
   not_both : {c d n a b : ℕ} {t : Tenancy} (j : ℕ) → q.Serves c t n 0 a → q.Serves d t n (suc j) b
       → ⊥
   not_both {c} {d} {n} {a} {b} {t} j k l =
@@ -75,10 +76,21 @@ module _ (p : Params) (r : Facts) (q : PieceFacts) (w : ServiceFacts) (end : ℕ
       let long = dead.long in
       let none : n + 0 ≡ n = omega arith in
       let here : cub_of p n ≡ c = sym (o.here ∙ ap (λ m. cub_of p m) none) in
-      let alive = s.setting.law.run.last o.tick.came (subst (λ x. r.Died x dead.died.beat) here dead.died.died) in
-      let m = time_mono p a (dead.until + p.delay + 2) (omega arith) in
       let before = time_mono p (dead.until + p.delay + 2) (origin p r s.setting q s.pieces (omega arith) (s.pieces.serves l).arises).beat long in
-      omega (arith, s.setting.room)
+      ⊎_elim
+      (λ first.
+      let died = subst (λ x. r.Died x dead.died.beat) here dead.died.died in
+      let alive = s.setting.law.run.last o.tick.came died first in
+      let m = time_mono p a (dead.until + p.delay + 2) (omega arith) in
+      omega (arith, s.setting.room))
+      (λ back.
+      let e = s.laws.returns_ended back.returned in
+      let late = s.laws.may_serve k back.beat e.reading back.returned e.ticked back.by refl in
+      ⊎_elim
+      (λ early. omega arith)
+      (λ first. served_later p r q w end s k back.returned back.by first)
+      (split_not_back p r q w end s split (sym here) back.returned e.ticked))
+      (s.setting.law.run.returns c a)
 
   pub alone : {c d n a b : ℕ} {t u : Tenancy} (j : ℕ) → q.Serves c t n 0 a → q.Serves d u n j b
       → u.instance.0 ≡ t.instance.0 → j ≡ 0

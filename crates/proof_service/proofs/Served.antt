@@ -1,41 +1,56 @@
 -- Each settled visit is served, whole or in pieces, or there is an excuse.
-use Rattle.std.proofs.Common.{◌≡◌, ℕ, ◌+◌, ◌<◌, ◌≤◌, refl, subst, arith, ⊎_elim, inl, inr, eq-or-lt_of_le}
+use Rattle.std.proofs.Common.{◌≡◌, ℕ, ◌+◌, ◌<◌, ◌≤◌, refl, ap, subst, arith, ⊎_elim, inl, inr, eq-or-lt_of_le}
 use Rattle.std.specs.Prelude.{◌⊎◌}
 use Rattle.std.proofs.lemmas.Bool.{cases_lt}
 use Rattle.tiger_base.specs.declared.tenancy.Tenancy.{Tenancy}
 use Rattle.slot_plan.specs.declared.params.Params.{Params}
 use Rattle.slot_plan.specs.Times.{time_of, due, cub_of, takeover}
 use Rattle.slot_plan.proofs.Times.{time_below, time_mono, due_mono, cub_below}
-use Rattle.proof_schedule.specs.Facts.{Facts, Ended, EnteredBy}
+use Rattle.proof_schedule.specs.Facts.{Facts, LivedTo, Entered, EnteredBy, IsOpenTo}
+use Rattle.proof_schedule.proofs.Lives.{first_same_life, first_is_open, open_before}
 use Rattle.proof_schedule.proofs.Timely.{put_in_time}
 use Rattle.proof_pieces.specs.PieceFacts.{PieceFacts}
-use Rattle.proof_service.specs.Blocks.{IsDelivered, IsExcused}
-use Rattle.proof_service.specs.ServiceFacts.{ServiceFacts}
+use Rattle.proof_service.specs.Blocks.{IsDelivered, IsExcused, IsNotBackFor}
+use Rattle.proof_service.specs.ServiceFacts.{ServiceFacts, MayServe}
+use Rattle.proof_service.proofs.Back.{IsBackFor, first_life, second_life, first_may_serve, back_may_serve, back_or_not, left_to_next}
+use Rattle.proof_service.proofs.Lives.{Lives, in_life, since_life}
 use Rattle.proof_service.proofs.Mirrors.{all_or_one}
 use Rattle.proof_service.proofs.Service.{Service}
 use Rattle.proof_service.proofs.Serving.{Awaited, LeftOrFailed, in_run, not_cut, there_left}
 use Rattle.proof_service.proofs.Takeover.{opening, is_split}
-use Rattle.proof_service.proofs.Ticks.{turn, ended_by}
+use Rattle.proof_service.proofs.Ticks.{turn}
 
 module _ (p : Params) (r : Facts) (q : PieceFacts) (w : ServiceFacts) (end : ℕ) (s : Service p r q w end) where
-  -- The cub of a later visit has its record before the window opens.
-  later_comes : {c x f n : ℕ} {t : Tenancy} → r.Put c t x → t.first < n → n ≤ t.last
-      → Awaited p r end t n → Ended r (cub_of p n) f → due p t.slot.0 n ≤ time_of p f
+  -- The cub of a later visit has its record before the window opens, if it lives then and lets in
+  -- what is due then.
+  later_comes : {c x from f n : ℕ} {t : Tenancy} → r.Put c t x → t.first < n → n ≤ t.last
+      → Awaited p r end t n → Lives r (cub_of p n) from f
+      → (from ≡ 0) ⊎ (time_of p from + p.window_a + p.skew < due p t.slot.0 n)
+      → IsOpenTo p r (cub_of p n) (due p t.slot.0 n) f
+      → due p t.slot.0 n ≤ time_of p f
       → EnteredBy r (cub_of p n) t n f
-  later_comes {c} {x} {f} {n} {t} i low high v ended late =
+  later_comes {c} {x} {from} {f} {n} {t} i low high v lives begins let_in late =
       let o = opening p r q w end s t n (omega arith) in
+      let b : ℕ = o.0 in
+      let opens = o.1.opens in
       let early = o.1.early in
-      let before = time_below p o.0 f (omega arith) in
-      let k = ended_by p r s.setting {e = f} n o.0 ended (omega arith) in
+      let before = time_below p b f (omega arith) in
+      let below : from ≤ b = ⊎_elim
+      (λ z. omega arith)
+      (λ l. let m = time_below p from b (omega arith) in omega arith)
+      begins in
+      let k = lives.ended b below (omega arith) in
+      let then = open_before p r (cub_of p n) (due p t.slot.0 n) b f (omega arith) let_in in
       ⊎_elim
       (λ h.
       let by = h.by in
-      record { beat = h.beat; entered = h.entered; by = omega arith })
+      let same = in_life lives h.beat f (since_life lives h.beat b below h.life) (omega arith) in
+      record { beat = h.beat; entered = h.entered; by = omega arith; life = same })
       (λ h. absurd (not_cut p r q w end s t n v h (omega arith)))
-      (s.one.kept c x o.0 k.reading n t i low high o.1.opens k.ticked)
+      (s.one.kept c x b k.reading n t i low high opens k.ticked then)
 
   -- The cub of the first visit has it by its own Put: nobody puts for a cub that goes on.
-  first_comes : {c x f : ℕ} {t : Tenancy} → r.Put c t x → Ended r (cub_of p t.first) f
+  first_comes : {c x f : ℕ} {t : Tenancy} → r.Put c t x → LivedTo r (cub_of p t.first) f
       → due p t.slot.0 t.first ≤ time_of p f
       → EnteredBy r (cub_of p t.first) t t.first f
   first_comes {c} {x} {f} {t} i ended late =
@@ -43,52 +58,89 @@ module _ (p : Params) (r : Facts) (q : PieceFacts) (w : ServiceFacts) (end : ℕ
       let early = put_in_time p s.setting.room r s.setting.law i in
       let before = time_below p x f (omega arith) in
       ⊎_elim
-      (λ own. subst (λ d. EnteredBy r d t t.first f) own (record { beat = x; entered = inr z.entered; by = omega arith }))
+      (λ own.
+      let entered = subst (λ d. r.Inserted d t t.first x) own z.entered in
+      let same = first_same_life r (cub_of p t.first) f ended.first x in
+      record { beat = x; entered = inr entered; by = omega arith; life = same })
       (λ k.
       let dead = k.2 in
       let by = dead.died.by in
       let long = dead.long in
-      let alive = s.setting.law.run.last (s.setting.law.run.came ended.ticked) dead.died.died in
+      let came = s.setting.law.run.came ended.ticked in
+      let alive = s.setting.law.run.last came dead.died.died ended.first in
       absurd (omega arith))
       (s.one.who c x t i)
 
-  -- So the cub of a visit has its record, if it goes on until the visit is due.
+  -- So the cub of a visit has its record, if it goes on in its first life until the visit is due.
   comes : {c x f n : ℕ} {t : Tenancy} → r.Put c t x → t.first ≤ n → n ≤ t.last
-      → Awaited p r end t n → Ended r (cub_of p n) f → due p t.slot.0 n ≤ time_of p f
+      → Awaited p r end t n → LivedTo r (cub_of p n) f → due p t.slot.0 n ≤ time_of p f
       → EnteredBy r (cub_of p n) t n f
   comes {c} {x} {f} {n} {t} i low high v ended late = ⊎_elim
       (λ (same : t.first ≡ n). subst
-      (λ m. Ended r (cub_of p m) f → due p t.slot.0 m ≤ time_of p f → EnteredBy r (cub_of p m) t m f)
+      (λ m. LivedTo r (cub_of p m) f → due p t.slot.0 m ≤ time_of p f
+      → EnteredBy r (cub_of p m) t m f)
       same
       (λ ended late. first_comes i ended late)
       ended late)
-      (λ (l : t.first < n). later_comes i l high v ended late)
+      (λ (l : t.first < n).
+      let let_in = first_is_open p r (cub_of p n) f ended.first (due p t.slot.0 n) in
+      later_comes i l high v (first_life p r q w end s n ended) (inl refl) let_in late)
       (eq-or-lt_of_le low)
 
-  -- And the block leaves whole, or its read fails.
-  whole_left : {c x f n : ℕ} {t : Tenancy} → r.Put c t x → t.first ≤ n → n ≤ t.last
-      → Awaited p r end t n → Ended r (cub_of p n) f → due p t.slot.0 n ≤ time_of p f
+  -- And the block leaves whole from a cub that lives and may serve it, or its read fails.
+  whole_left : {from f n : ℕ} {t : Tenancy} → Awaited p r end t n → EnteredBy r (cub_of p n) t n f
+      → Lives r (cub_of p n) from f → from ≤ f → MayServe p r (cub_of p n) t n 0 f
+      → due p t.slot.0 n ≤ time_of p f
       → LeftOrFailed p q w end (cub_of p n) t n 0
-  whole_left {c} {x} {f} {n} {t} i low high v ended late =
-      let k = comes i low high v ended late in
+  whole_left {from} {f} {n} {t} v k lives below serving late =
       let none : n + 0 ≡ n = omega arith in
+      let by = k.by in
+      let low = since_life lives k.beat f below k.life in
       subst
-      (λ m. r.Took (cub_of p m) t n k.beat ⊎ r.Inserted (cub_of p m) t n k.beat → Ended r (cub_of p m) f → LeftOrFailed p q w end (cub_of p m) t n 0)
+      (λ m. Entered r (cub_of p m) t n k.beat → Lives r (cub_of p m) from f
+      → MayServe p r (cub_of p m) t n 0 f → LeftOrFailed p q w end (cub_of p m) t n 0)
       none
-      (λ entered ended. there_left p r q w end s t n v {j = 0} {f = f} k.beat (omega arith) (inl (refl, entered)) ended late)
-      k.entered ended
+      (λ entered lives serving.
+      there_left p r q w end s t n v {j = 0} {from = from} {f = f} k.beat (omega arith)
+      (inl (refl, entered)) low lives serving late)
+      k.entered lives serving
 
-  -- If the visit's cub died first, and a takeover before the visit was due, the next one served it
-  -- in pieces, or a piece was lost.
-  dead_served : {c x e n : ℕ} {t : Tenancy} → r.Put c t x → t.first ≤ n → n ≤ t.last
+  -- The block leaves whole from a cub that came back in time for it, or its read fails.
+  back_left : {c x f n : ℕ} {t : Tenancy} → r.Put c t x → n ≤ t.last → Awaited p r end t n
+      → IsBackFor p r t n → f < end → due p t.slot.0 n ≤ time_of p f
+      → LeftOrFailed p q w end (cub_of p n) t n 0
+  back_left {c} {x} {f} {n} {t} i high v h within late =
+      let low = (s.setting.law.run.reads h.ticked).0 in
+      let far = h.late in
+      let lives = second_life p r q w end s h.returned within in
+      let let_in : IsOpenTo p r (cub_of p n) (due p t.slot.0 n) f = λ y back le.
+      let one : y ≡ h.beat = s.laws.returns_once h.returned back in
+      let same : time_of p y ≡ time_of p h.beat = ap (λ z. time_of p z) one in
+      omega (arith, s.setting.room) in
+      let k = later_comes i h.more high v lives (inr (omega (arith, s.setting.room))) let_in late in
+      let before = time_below p h.beat f (omega (arith, s.setting.room)) in
+      whole_left v k lives (omega arith) (back_may_serve p r q w end s h f) late
+
+  -- If the visit's cub died first and did not come back in time, then the next one took over and
+  -- served the visit in pieces, or a piece was lost, or the visit was due too soon after the death.
+  dead_served : {c x e n : ℕ} {t : Tenancy} (f : ℕ) → r.Put c t x → t.first ≤ n → n ≤ t.last
       → Awaited p r end t n → r.Died (cub_of p n) e → e < end
       → time_of p e < due p t.slot.0 n + p.beat
+      → due p t.slot.0 n ≤ time_of p f → IsNotBackFor p r t n
       → IsDelivered p q end t n ⊎ IsExcused p r w end t n
-  dead_served {c} {x} {e} {n} {t} i low high v died before early = ⊎_elim
+  dead_served {c} {x} {e} {n} {t} f i low high v died before early meets away = ⊎_elim
       (λ (near : due p t.slot.0 n < time_of p e + takeover p).
-      inr (inr (inr (record { beat = e; died = died; before = before; early = early; late = near }))))
+      inr (inr (inr (record {
+        beat = e;
+        died = died;
+        before = before;
+        early = early;
+        late = near;
+        away = away;
+      }))))
       (λ (long : time_of p e + takeover p ≤ due p t.slot.0 n).
-      let split = (is_split p r q w end s i low high v died long).1 in
+      let left = left_to_next p r q w end s t n f away in
+      let split = (is_split p r q w end s i low high v died long meets left).1 in
       ⊎_elim
       (λ all. inl (inr all))
       (λ one. inr (inr (inl (record {
@@ -96,6 +148,7 @@ module _ (p : Params) (r : Facts) (q : PieceFacts) (w : ServiceFacts) (end : ℕ
         died = died;
         before = before;
         long = long;
+        away = away;
         piece = one.piece;
         low = one.low;
         high = one.high;
@@ -105,7 +158,7 @@ module _ (p : Params) (r : Facts) (q : PieceFacts) (w : ServiceFacts) (end : ℕ
       (cases_lt (due p t.slot.0 n) (time_of p e + takeover p))
 
   -- So each awaited visit of what is put is served, or there is an excuse: its cub goes on until it
-  -- is due, or died before.
+  -- is due, or died before; and then it came back in time for the visit, or not.
   pub served_at : {c x n : ℕ} {t : Tenancy} → r.Put c t x → t.first ≤ n → n ≤ t.last
       → Awaited p r end t n
       → IsDelivered p q end t n ⊎ IsExcused p r w end t n
@@ -118,9 +171,20 @@ module _ (p : Params) (r : Facts) (q : PieceFacts) (w : ServiceFacts) (end : ℕ
       let only_now = o.1.only_now in
       let far = in_run p r q w end s t n v f (omega (arith, s.setting.room)) in
       ⊎_elim
-      (λ h. ⊎_elim (λ left. inl (inl left)) (λ failed. inr (inl failed)) (whole_left i low high v h meets))
+      (λ h.
+      let may = first_may_serve p r (cub_of p n) t n 0 f h.first in
+      let k = comes i low high v h meets in
+      whole (whole_left v k (first_life p r q w end s n h) (omega arith) may meets))
       (λ h.
       let by = h.by in
       let m = time_mono p h.beat f by in
-      dead_served i low high v h.died (omega arith) (omega arith))
+      ⊎_elim
+      (λ k. whole (back_left i high v k (omega arith) meets))
+      (λ away. dead_served f i low high v h.died (omega arith) (omega arith) meets away)
+      (back_or_not p r q w end s t n f low meets))
       (s.laws.ends (omega arith) (cub_below p n s.setting.ok.ranges))
+    where
+      -- The block left whole, or its read failed.
+      whole : LeftOrFailed p q w end (cub_of p n) t n 0
+          → IsDelivered p q end t n ⊎ IsExcused p r w end t n
+      whole k = ⊎_elim (λ left. inl (inl left)) (λ failed. inr (inl failed)) k

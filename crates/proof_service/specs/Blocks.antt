@@ -4,14 +4,14 @@ use Rattle.tiger_base.specs.declared.tenancy.Tenancy.{Tenancy}
 use Rattle.slot_plan.specs.declared.params.Params.{Params}
 use Rattle.slot_plan.specs.Conditions.{IsPlan}
 use Rattle.slot_plan.specs.Times.{time_of, due, cub_of, takeover}
-use Rattle.proof_schedule.specs.Facts.{Facts}
+use Rattle.proof_schedule.specs.Facts.{Facts, enters_from}
 use Rattle.proof_schedule.specs.Laws.{Laws}
 use Rattle.proof_schedule.specs.Logs.{Fact, facts_in}
 use Rattle.proof_schedule.specs.Schedule.{IsHeld}
 use Rattle.proof_pieces.specs.PieceFacts.{PieceFacts, leave}
 use Rattle.proof_pieces.specs.PieceLaws.{PieceLaws}
 use Rattle.proof_pieces.specs.PieceLogs.{PieceFact, pieces_in}
-use Rattle.proof_service.specs.ServiceFacts.{ServiceFacts}
+use Rattle.proof_service.specs.ServiceFacts.{ServiceFacts, serves_from}
 use Rattle.proof_service.specs.ServiceLaws.{ServiceLaws}
 use Rattle.proof_service.specs.ServiceLogs.{ServiceFact, service_in}
 
@@ -37,40 +37,51 @@ pub record ReadFailed (w : ServiceFacts) (end c : ℕ) (t : Tenancy) (n j : ℕ)
   pub failed : w.Failed c t n j beat
   pub before : beat < end
 
--- Cub c died before piece j had left.
+-- Cub c died before piece j had left, and did not come back in time to let the piece in.
 pub record DiedBeforeLeaving (p : Params) (r : Facts) (end c : ℕ) (t : Tenancy)
     (n j : ℕ) : Type 0 where
   pub beat : ℕ
   pub died : r.Died c beat
   pub before : beat < end
   pub early : time_of p beat < leave p t n j + p.beat
+  pub away : (x l : ℕ) → r.Returned c x → r.Ticked c x l → leave p t n j < enters_from p l
 
--- Piece j of visit n was lost: its read failed, or its cub died before it had left.
+-- Piece j of visit n was lost: its read failed, or its cub died before it had left and did not come
+-- back in time.
 abbrev pub PieceIsLost : Params → Facts → ServiceFacts → ℕ → Tenancy → ℕ → ℕ → Type 0
 PieceIsLost p r w end t n j = ReadFailed w end (cub_of p (n + j)) t n j
     ⊎ DiedBeforeLeaving p r end (cub_of p (n + j)) t n j
 
--- The cub of visit n died so long before the visit was due that the next one takes over, and a
--- piece was lost.
+-- The cub of visit n did not come back in time to serve the visit: it is due before that, or is the
+-- tenancy's first, which a cub that has come back never serves.
+abbrev pub IsNotBackFor : Params → Facts → Tenancy → ℕ → Type 0
+IsNotBackFor p r t n = (x l : ℕ)
+    → r.Returned (cub_of p n) x → r.Ticked (cub_of p n) x l
+    → (due p t.slot.0 n < serves_from p l) ⊎ (n ≡ t.first)
+
+-- The cub of visit n died so long before the visit was due that the next one takes over, and did
+-- not come back in time; and a piece was lost.
 pub record LostInPieces (p : Params) (r : Facts) (w : ServiceFacts) (end : ℕ) (t : Tenancy)
     (n : ℕ) : Type 0 where
   pub beat : ℕ
   pub died : r.Died (cub_of p n) beat
   pub before : beat < end
   pub long : time_of p beat + takeover p ≤ due p t.slot.0 n
+  pub away : IsNotBackFor p r t n
   pub piece : ℕ
   pub low : 1 ≤ piece
   pub high : piece ≤ p.pieces
   pub lost : PieceIsLost p r w end t n piece
 
--- The cub of visit n died before it had served the visit, and too late for the next one to take
--- over.
+-- The cub of visit n died before it had served the visit, too late for the next one to take over,
+-- and did not come back in time.
 pub record LostInDeath (p : Params) (r : Facts) (end : ℕ) (t : Tenancy) (n : ℕ) : Type 0 where
   pub beat : ℕ
   pub died : r.Died (cub_of p n) beat
   pub before : beat < end
   pub early : time_of p beat < due p t.slot.0 n + p.beat
   pub late : due p t.slot.0 n < time_of p beat + takeover p
+  pub away : IsNotBackFor p r t n
 
 -- Visit n is excused: the read of its whole block failed, a piece was lost, or its cub died near
 -- the time at which it was due.

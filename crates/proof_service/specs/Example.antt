@@ -62,10 +62,11 @@ unfoldable pub heard_from : ℕ → ℕ → List Fact
 heard_from c zero = []
 heard_from c (suc b) = Heard (cub_of plan (c + 1)) (b + 1) ∷ heard_from c b
 
--- All of this of each of the first n cubs.
-unfoldable pub all_ticks : ℕ → List Fact
-all_ticks zero = []
-all_ticks (suc c) = ticks_of c (beats_of c) ++ (heard_from c (heard_of c) ++ all_ticks c)
+-- All of this of each of the first n cubs, of each its number of beats and of heartbeats.
+unfoldable pub all_ticks : (ℕ → ℕ) → (ℕ → ℕ) → ℕ → List Fact
+all_ticks beats heard zero = []
+all_ticks beats heard (suc c) =
+    ticks_of c (beats c) ++ (heard_from c (heard c) ++ all_ticks beats heard c)
 
 -- The two starts of the order come in beat 1, and cub 0 puts the viewer. It sends the states of
 -- both visits, which come a beat later. Cub 1 dies in beat 20, and cub 2 believes it dead in beat
@@ -92,7 +93,7 @@ few_facts =
 
 -- These facts, and the ticks of the eight cubs.
 unfoldable pub one_run : List Fact
-one_run = few_facts ++ all_ticks 8
+one_run = few_facts ++ all_ticks beats_of heard_of 8
 
 -- Cub 0 serves the first block whole. Cub 2 splits visit 1 and serves piece 1, and cub 3 piece 2.
 abbrev pub its_pieces : List PieceFact
@@ -128,9 +129,9 @@ pub record IsAwaited (n : ℕ) : Type 0 where
   pub settled : IsSettled plan 349 viewer n
   pub unstopped : IsUnstopped plan (facts_in one_run) viewer n
 
--- All laws can be met, in a run in which both visits are awaited: one is served whole, and one in
+-- All laws are met in this run, in which both visits are awaited: one is served whole, and one in
 -- pieces.
-pub record LawsCanBeMet : Type 0 where
+pub record IsMetWithDeath : Type 0 where
   pub plan_is : IsPlan plan
   pub laws : Laws plan (facts_in one_run)
   pub pieces : PieceLaws plan (facts_in one_run) (pieces_in its_pieces)
