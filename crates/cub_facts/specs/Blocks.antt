@@ -57,7 +57,8 @@ pub record KilledAt (p : Params) (lives : Lives) (c v n b : ℕ) : Type 0 where
   pub slot : SlotNo
   pub took : TookMessage p lives c (msg.Kill instance slot n) b
 
--- The facts about blocks of these lives, over these disks.
+-- The facts about blocks of these lives, over these disks. No cub comes back in a run, so that none
+-- is told of a return.
 abbrev pub blocks_by : Params → Lives → (ℕ → DiskState) → ServiceFacts
 blocks_by p lives disk_at = record {
   Stored = StoredAt p lives;
@@ -65,4 +66,5 @@ blocks_by p lives disk_at = record {
   Sends = SendsAt p lives;
   Struck = λ disk b. is_faulty (disk_at disk).faults disk b ≡ true;
   Killed = KilledAt p lives;
+  TookBack = λ c from b. ⊥;
 }

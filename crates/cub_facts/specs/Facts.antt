@@ -44,7 +44,7 @@ pub record Beyond : Type 1 where
   pub StoppedAt : (v s n b : ℕ) → Type 0
   pub StoppedWaiting : (v d b : ℕ) → Type 0
 
--- The facts of these lives, and of what is beyond them.
+-- The facts of these lives, and of what is beyond them. No cub comes back in a run.
 abbrev pub facts_by : Params → Lives → Beyond → Facts
 facts_by p lives beyond = record {
   Came = beyond.Came;
@@ -67,6 +67,7 @@ facts_by p lives beyond = record {
   GotBare = GotBareAt p lives;
   Passed = PassedAt p lives;
   Died = beyond.Died;
+  Returned = λ c w. ⊥;
   Beat = λ c b. DidAt p lives c (out.Send (way_ahead p c 1) msg.Heartbeat) b;
   Heard = HeardAt p lives;
   Believed = WroteBelief p lives;

@@ -23,6 +23,7 @@ use Rattle.stops_laws.proofs.HoldLaws.{reached_at}
 use Rattle.proof_service.specs.ServiceFacts.{ArisesBy}
 use Rattle.cub_facts.specs.Facts.{Beyond, facts_by}
 use Rattle.cub_facts.specs.Pieces.{pieces_by}
+use Rattle.cub_facts.proofs.NoReturns.{same_life}
 use Rattle.proof_splits.proofs.Backups.{nowhere}
 use Rattle.proof_blocks.proofs.Living.{AreCubs, store_of, states_formed}
 use Rattle.proof_blocks.proofs.Tracing.{trail}
@@ -88,4 +89,5 @@ module _ (p : Params) (lives : Lives) (cubs : AreCubs p lives) where
               (omega arith) taken,
         );
         by = omega arith;
+        life = same_life p lives beyond c (beat_at (lives.input c) d.at) b;
       }

@@ -38,6 +38,7 @@ use Rattle.proof_splits.proofs.Backups.{stop_before}
 use Rattle.cub_facts.specs.Facts.{Beyond, facts_by}
 use Rattle.cub_facts.specs.Pieces.{before_reading, pieces_by}
 use Rattle.cub_facts.specs.Pieces as facts
+use Rattle.cub_facts.proofs.NoReturns.{same_life}
 use Rattle.proof_blocks.proofs.Tracing.{Trail, asking_trail}
 
 -- What is given of the cubs: a plan, and lives in which all messages are in form.
@@ -93,7 +94,7 @@ module _ (p : Params) (lives : Lives) (cubs : AreCubs p lives) (c : ℕ) (small 
       → i < lives.count c
       → lives.input c i ≡ Tick stamp
       → IsUnheld p (facts_by p lives beyond) c x.rec.tenancy.instance.0 stamp.beat (beat_at (lives.input c) d.at)
-  unheld beyond i stamp x d low is = λ y g le.
+  unheld beyond i stamp x d low is = λ y g le one_life.
       let v : ℕ = x.rec.tenancy.instance.0 in
       let at : ℕ = d.at in
       let by = d.before in
@@ -179,6 +180,7 @@ module _ (p : Params) (lives : Lives) (cubs : AreCubs p lives) (c : ℕ) (small 
               (subst (λ (r : Rec). In (taken_out r) (outs_at p c (lives.input c) d.at)) same d.taken),
         );
         by = omega arith;
+        life = same_life p lives beyond c (beat_at (lives.input c) d.at) b;
         since = subst (λ (r : Rec). IsUnheld p (facts_by p lives beyond) c r.tenancy.instance.0 b
             (beat_at (lives.input c) d.at)) same
             (unheld beyond at stamp x d low tick.is);

@@ -149,7 +149,7 @@ module _ (p : Params) (lives : Lives) (beyond : Beyond) (set : Setting p lives b
   -- Each hold of the instance was over when the start came.
   unheld : {c i x v : ℕ} {a : Ask} (w : IsPutLater c i x v a)
       → IsUnheld p R c v x (beat_at (lives.input c) w.start.at)
-  unheld {c} {i} {x} {v} {a} w y g le =
+  unheld {c} {i} {x} {v} {a} w y g le life =
       let inputs : ℕ → Input Msg = lives.input c in
       let s = w.start in
       let sb = s.before in

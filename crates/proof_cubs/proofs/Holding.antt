@@ -12,8 +12,8 @@ use Rattle.node_kit.specs.Steps.{Input}
 use Rattle.node_kit.specs.Steps.Input.{Take, Tick}
 use Rattle.node_kit.specs.Ways.{way_ahead}
 use Rattle.cub_rules.specs.declared.store.Store.{Store}
-use Rattle.proof_schedule.specs.Facts.{Facts, PassedBy, GotTagBy, GotBareBy, IsReleasedBy}
-use Rattle.proof_schedule.specs.HoldLaws.{ForTag, ForRecord, ForState, IsPass, IsTold, HoldLaws}
+use Rattle.proof_schedule.specs.Facts.{Facts, PassedBy, GotTagBy, IsReleasedBy}
+use Rattle.proof_schedule.specs.HoldLaws.{ForTag, ForRecord, ForState, GotBareInLife, IsPass, IsTold, HoldLaws}
 use Rattle.stops_laws.specs.StopFacts as stops
 use Rattle.stops_laws.specs.StopLaws as stop_laws
 use Rattle.schedule_laws.specs.Facts as own_facts
@@ -29,6 +29,7 @@ use Rattle.stops_held.specs.InOrder.{AreInOrder}
 use Rattle.stops_held.proofs.Reaching.{states_formed}
 use Rattle.stops_held.proofs.Starting.{bare_ends}
 use Rattle.cub_facts.specs.Facts.{Beyond, facts_by}
+use Rattle.cub_facts.proofs.NoReturns.{same_life}
 use Rattle.proof_cubs.specs.Setting.{Setting}
 
 module _ (p : Params) (lives : Lives) (beyond : Beyond) (set : Setting p lives beyond) (outside : own_facts.Outside)
@@ -49,8 +50,9 @@ module _ (p : Params) (lives : Lives) (beyond : Beyond) (set : Setting p lives b
   tagged : {c v s q b : ℕ} → stops.GotTagBy F c v s q b → GotTagBy R c v s q b
   tagged k = record { beat = k.beat; got = k.got; by = k.by }
 
-  bare : {c v b : ℕ} → stops.GotBareBy F c v b → GotBareBy R c v b
-  bare k = record { beat = k.beat; got = k.got; by = k.by }
+  bare : {c v b : ℕ} → stops.GotBareBy F c v b → GotBareInLife R c v b
+  bare {c} {v} {b} k =
+      record { beat = k.beat; got = k.got; by = k.by; life = same_life p lives beyond c k.beat b }
 
   for_tag : {c v s q y : ℕ} → stop_laws.ForTag F c v s q y → ForTag R c v s q y
   for_tag k = record { visit = k.visit; got = k.got; which = k.which }
@@ -58,7 +60,7 @@ module _ (p : Params) (lives : Lives) (beyond : Beyond) (set : Setting p lives b
   -- A record by which a deschedule without a tag is passed on entered among the messages before it: one that was
   -- inserted was put before, since a start of its instance cannot come any more.
   for_record : {c v s q y : ℕ} → stop_laws.ForRecord (own_facts.facts_of p lives outside) F c v s q y → ForRecord R c v s q y
-  for_record k = record {
+  for_record {c} {v} {s} {q} {y} k = record {
     got = k.got;
     tenancy = k.tenancy;
     same = k.same;
@@ -72,6 +74,7 @@ module _ (p : Params) (lives : Lives) (beyond : Beyond) (set : Setting p lives b
         let put = (inserted p set.plan lives set.lived formed outside w).0 in
         inr (w, bare_ends p set.plan lives outside order k.got put k.same))
         k.entered;
+    life = same_life p lives beyond c k.beat y;
     which = k.which;
   }
 
@@ -150,14 +153,14 @@ module _ (p : Params) (lives : Lives) (beyond : Beyond) (set : Setting p lives b
         reached_tag = λ r. h.reached_tag r;
         reached_bare = λ r. h.reached_bare r;
         pass = λ a. pass (h.pass a);
-        passes = λ a came le soon. h.passes a soon;
+        passes = λ a came le life soon. h.passes a soon;
         told = λ a. told (h.told a);
         told_next = λ a. told_next a;
         tag_passes = λ a to. passed (h.tag_passes a to);
-        record_passes = λ a entered undue. ⊎_elim
+        record_passes = λ a entered life undue. ⊎_elim
             (λ k. inl (passed k))
             (λ k. inr (k.0, k.1, tagged k.2))
             (h.record_passes a entered undue);
-        pass_once = λ a b le. ⊎_elim (λ k. inl k) (λ k. inr (released k)) (h.pass_once a b le);
-        took = λ a r l. released (h.took a r l);
+        pass_once = λ a b le life. ⊎_elim (λ k. inl k) (λ k. inr (released k)) (h.pass_once a b le);
+        took = λ a r l life. released (h.took a r l);
       }

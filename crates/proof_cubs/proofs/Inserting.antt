@@ -27,6 +27,7 @@ use Rattle.schedule_laws.proofs.Order.{beats_rise}
 use Rattle.schedule_laws.proofs.States.{put_at_tick, put_inserted, at_tick, from_tick}
 use Rattle.schedule_laws.proofs.Ticking.{before_inserting, same_before, inserted_out}
 use Rattle.cub_facts.specs.Facts.{Beyond, facts_by}
+use Rattle.cub_facts.proofs.NoReturns.{first_life}
 use Rattle.proof_cubs.specs.Grounds.{TakesSecond, HasWritten}
 use Rattle.proof_cubs.specs.Setting.{Setting}
 use Rattle.proof_cubs.proofs.Believing.{written_when}
@@ -121,6 +122,7 @@ module _ (p : Params) (lives : Lives) (beyond : Beyond) (set : Setting p lives b
         below = w.below;
         within = w.within;
         entered = record { kind = w.kind; done = also _ (inserted_out p c a.stamp h _ w.taken); tick = tick };
+        first = first_life p lives beyond c x;
         who = ⊎_elim
             (λ q.
             let did = also (state_out p c t) (inserted_out p c a.stamp h (state_out p c t) q.1) in

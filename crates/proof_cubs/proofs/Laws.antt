@@ -21,6 +21,7 @@ use Rattle.stops_held.proofs.Meeting as meeting
 use Rattle.stops_held.proofs.Reaching.{states_formed}
 use Rattle.cub_facts.specs.Facts.{Beyond, facts_by, cubs_alone}
 use Rattle.cub_facts.specs.Laws.{CubLaws}
+use Rattle.cub_facts.proofs.NoReturns.{same_life}
 use Rattle.proof_cubs.specs.Claims.{CubsMeetTheLaws}
 use Rattle.proof_cubs.specs.Setting.{Setting}
 use Rattle.proof_cubs.proofs.Coming.{comes}
@@ -46,13 +47,14 @@ module _ (p : Params) (lives : Lives) (beyond : Beyond) (set : Setting p lives b
   found : {c s n y from ahead sent : ℕ}
       → stop_laws.Found p (own_facts.facts_of p lives outside) (stop_facts_of p lives any_controller) c s n y from ahead sent
       → Found p R c s n y from ahead sent
-  found k = record {
+  found {c} {s} {n} {y} k = record {
     holder = k.holder;
     slot = k.slot;
     beat = k.beat;
     entered = k.entered;
-    behind = λ u q x told le. released (k.behind u q x told le);
-    since = λ b g l. released (k.since b g l);
+    behind = λ u q x told le life. released (k.behind u q x told le);
+    since = λ b g l life. released (k.since b g l);
+    life = same_life p lives beyond c k.beat y;
   }
 
   meets : {c m y : ℕ} {t : Tenancy} → R.Got c t m y → t.first ≤ m → m ≤ t.last → Meeting p R c t m y
@@ -66,9 +68,9 @@ module _ (p : Params) (lives : Lives) (beyond : Beyond) (set : Setting p lives b
         to = k.to;
         later = k.later;
         soon = k.soon;
-        tags = λ v s q x told le.
+        tags = λ v s q x told le life.
             let w = k.tags v s q x told le in record { beat = w.beat; got = w.got; by = w.by };
-        places = λ n given. ⊎_elim
+        places = λ n given let_in. ⊎_elim
             (λ w. inl (found w))
             (λ w. inr (record { slot = w.slot; visit = w.visit; beat = w.beat; passed = w.passed; by = w.by }))
             (k.places n given);
@@ -83,9 +85,10 @@ module _ (p : Params) (lives : Lives) (beyond : Beyond) (set : Setting p lives b
         free = λ put entered le slot. ⊎_elim (λ e. inl e) (λ k. inr (reached k)) (s.free put entered le slot);
         taken = λ w. let k = s.taken w in record { visit = k.visit; got = k.got; given = k.given };
         meets = λ g low high. meets g low high;
+        late = λ w back le. absurd back;
         sends = λ w. sends p lives beyond set outside order w;
         ahead = λ w. w.ahead;
-        forwards = λ entered le w here more undue soon. ⊎_elim
+        forwards = λ entered le w first here more undue soon. ⊎_elim
             (λ k. inl (record { beat = k.beat; near = k.near; far = k.far; by = k.by }))
             (λ k. inr (reached k))
             (s.forwards entered le w here more undue soon);

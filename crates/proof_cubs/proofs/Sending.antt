@@ -39,6 +39,7 @@ use Rattle.schedule_laws.proofs.States.{state_at_tick, at_tick, from_tick, forwa
 use Rattle.stops_held.specs.InOrder.{AreInOrder}
 use Rattle.stops_held.proofs.Going.{one_way, goes_on}
 use Rattle.cub_facts.specs.Facts.{Beyond, facts_by}
+use Rattle.cub_facts.proofs.NoReturns.{same_life}
 use Rattle.proof_cubs.specs.Setting.{Setting}
 use Rattle.proof_cubs.proofs.Second.{first_own}
 use Rattle.proof_cubs.proofs.Standing.{is_tick}
@@ -79,7 +80,7 @@ module _ (p : Params) (lives : Lives) (beyond : Beyond) (set : Setting p lives b
 
   -- a forwarded state, as the laws for a ring without deaths have it
   forwards : {a m x : ℕ} {t : Tenancy} → Goes p (facts_of p lives outside) a t m x → Forwards p R a t m x
-  forwards g =
+  forwards {a} {m} {x} {t} g =
       let f = g.forwards in
       record {
         visit = f.visit;
@@ -102,8 +103,9 @@ module _ (p : Params) (lives : Lives) (beyond : Beyond) (set : Setting p lives b
               early = e.early;
             }))
             f.fresh;
-        since = λ y reached le.
+        since = λ y reached le life.
             let r = g.since y reached le in record { beat = r.beat; reached = r.reached; over = r.over };
+        life = same_life p lives beyond a f.beat x;
       }
 
   pub sends : {a k m x : ℕ} {t : Tenancy} → SentAt p lives a k t m x → SendsFirst p R a k t m x ⊎ Forwards p R a t m x

@@ -20,6 +20,7 @@ use Rattle.schedule_laws.proofs.States.{tick_true}
 use Rattle.schedule_laws.proofs.Ticking.{not_true}
 use Rattle.stops_laws.proofs.HoldLaws.{no_both}
 use Rattle.cub_facts.specs.Facts.{Beyond, ShowsAt, facts_by}
+use Rattle.cub_facts.proofs.NoReturns.{same_life}
 use Rattle.proof_cubs.specs.Setting.{Setting}
 use Rattle.proof_cubs.proofs.Standing.{come_before, stop_before, stop_in}
 
@@ -85,10 +86,11 @@ module _ (p : Params) (lives : Lives) (beyond : Beyond) (set : Setting p lives b
         beat = come.beat;
         entered = come.entered;
         by = omega arith;
-        since = λ y g le.
+        since = λ y g le life.
             let tick = tick_true inputs k.at stamp k.is in
             come.since g.took.at (stop_before p lives beyond set k.small k.done tick eb g le)
             (stop_in p lives beyond set g);
+        life = same_life p lives beyond c come.beat b;
       } in
       subst (λ (m : ℕ). IsShown p R c t m b) w.visit
       (subst (λ (u : Tenancy). IsShown p R c u w.line.rec.visit b) w.tenancy all)

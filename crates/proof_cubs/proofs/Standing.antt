@@ -24,6 +24,7 @@ use Rattle.stops_laws.proofs.HoldLaws.{no_both, released_by}
 use Rattle.stops_laws.proofs.Persist.{IsReleased}
 use Rattle.stops_held.proofs.Standing.{taken_released, standing}
 use Rattle.cub_facts.specs.Facts.{Beyond, facts_by}
+use Rattle.cub_facts.proofs.NoReturns.{same_life}
 use Rattle.proof_cubs.specs.Setting.{Setting}
 
 -- Nothing is known outside the cubs: laws are cited that ask for nothing there.
@@ -164,5 +165,6 @@ module _ (p : Params) (lives : Lives) (beyond : Beyond) (set : Setting p lives b
         beat = h.beat;
         entered = subst (λ m. Entered R c r.tenancy m h.beat) visit h.entered;
         by = omega arith;
-        since = λ y g le. h.since g.took.at (stop_before small low tick eb g le) (stop_in g);
+        since = λ y g le life. h.since g.took.at (stop_before small low tick eb g le) (stop_in g);
+        life = same_life p lives beyond c h.beat b;
       }

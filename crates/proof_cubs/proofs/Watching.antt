@@ -140,12 +140,18 @@ module _ (p : Params) (lives : Lives) (beyond : Beyond) (set : Setting p lives b
   silent : {c b : ℕ} → WroteBelief p lives c b → IsSilence p R c b
   silent w =
       let s = watching.silent p lives set.lived nothing_outside (believed_there w) in
-      record { reading = s.reading; tick = is_tick p lives beyond set s.ticked; long = s.long; since = s.since }
+      record {
+        reading = s.reading;
+        tick = is_tick p lives beyond set s.ticked;
+        long = s.long;
+        since = s.since;
+        back = λ w back le. absurd back;
+      }
 
   -- The laws of heartbeats and belief.
   pub watch_laws : WatchLaws p R
   watch_laws = record {
-    beats = λ w e. watching.beats p lives set.lived nothing_outside w e;
+    beats = λ w first e. watching.beats p lives set.lived nothing_outside w e;
     silent = λ w. silent w;
   }
 

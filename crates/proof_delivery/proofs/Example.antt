@@ -6,13 +6,11 @@ use Rattle.std.proofs.lemmas.Option.{none-some}
 use Rattle.tiger_base.specs.declared.number.CubNo.{CubNo}
 use Rattle.tiger_base.specs.declared.number.LinkNo.{LinkNo}
 use Rattle.tiger_base.specs.declared.number.Stamp.{Stamp}
-use Rattle.tiger_base.specs.declared.part.Span.{Span}
 use Rattle.tiger_base.specs.declared.tenancy.Ask.{Ask}
 use Rattle.tiger_base.specs.declared.tenancy.Tenancy.{Tenancy}
-use Rattle.tiger_base.specs.declared.tenancy.Want.{Want}
 use Rattle.tiger_base.specs.declared.message.Note.{Note}
 use Rattle.tiger_base.specs.declared.message.Note.TheVariants as note
-use Rattle.slot_plan.specs.Times.{time_of, due, cub_of}
+use Rattle.slot_plan.specs.Times.{cub_of}
 use Rattle.node_kit.specs.declared.course.OrderKind.TheVariants as kind
 use Rattle.node_kit.specs.declared.journal.Entry.{Entry}
 use Rattle.node_kit.specs.declared.journal.What.{What}
@@ -21,28 +19,30 @@ use Rattle.run_facts.specs.Accounts.{Rising}
 use Rattle.run_model.specs.Orders.{IsOrdered}
 use Rattle.run_model.specs.Served.{want_of_visit}
 use Rattle.proof_schedule.specs.Facts.{Facts}
-use Rattle.proof_schedule.specs.Logs.{Fact, facts_in, Ticked, Put, Took, Shows, Begun, Asked, AskedApart, Gone, Died, Believed}
+use Rattle.proof_schedule.specs.Laws.{Laws}
+use Rattle.proof_schedule.specs.Logs.{Ticked, Put, Shows, Begun, Asked, AskedApart, Gone, Died, Believed}
 use Rattle.proof_schedule.proofs.Follows.{runs}
-use Rattle.proof_pieces.specs.PieceLogs.{Asks, Serves}
+use Rattle.proof_pieces.specs.PieceLogs.{Serves}
 use Rattle.proof_pieces.proofs.Right.{right}
-use Rattle.proof_service.specs.Example.{plan, order, viewer, bytes, beats_of}
-use Rattle.proof_service.specs.ServiceLogs.{Failed, Struck, Sends}
+use Rattle.proof_service.specs.Example.{plan, order, viewer, bytes, one_run}
+use Rattle.proof_service.specs.ServiceLogs.{Failed, Struck}
+use Rattle.proof_service.proofs.ExampleLives.{goes_on}
 use Rattle.proof_service.proofs.ExampleLog as log
 use Rattle.proof_service.proofs.ExamplePieces as pieces
+use Rattle.proof_service.proofs.ExamplePlan.{plan_is, time_is, due_is, cub_2, one_before}
 use Rattle.proof_service.proofs.ExampleSchedule as schedule
 use Rattle.proof_service.proofs.Example as blocks
 use Rattle.proof_service.proofs.Follows.{runs_serve}
 use Rattle.proof_places.proofs.TrueReads.{true_reads}
 use Rattle.proof_places.proofs.Example as places
 use Rattle.proof_moments.specs.Members.{In}
-use Rattle.proof_moments.specs.Ties.{StandsIn, IsPutAt, IsBeliefAt, IsCutAt, IsLogged, Tells, Logged, Keeps, Besides}
+use Rattle.proof_moments.specs.Ties.{StandsIn, IsPutAt, Tells, Logged, Keeps, Besides}
 use Rattle.proof_moments.specs.Recorded.{IsRecorded}
 use Rattle.proof_moments.proofs.Lists.{in_left, in_right, all_in, all_by}
 use Rattle.proof_moments.proofs.Records.{was_taken}
 use Rattle.proof_moments.proofs.Sorted.{Sorted}
-use Rattle.proof_delivery.specs.Ties.{viewers, parcel, SendsParcel, AsksDisk, IsServing, IsAsking, IsFailure, TellsParcels, LogsParcels, AreOfBeats, KeepsParcels, DisksTell, WasSentOn, IsGotOn, IsSentTwice, ViewersGet}
-use Rattle.proof_delivery.specs.Recorded.{Evidence, AreParcelsRecorded}
-use Rattle.proof_delivery.specs.Example.{in_beat, sent_whole, got_whole, sent_first, got_first, sent_second, got_second, put, died, believed, journals, orders, evidence, TiesCanBeMet}
+use Rattle.proof_delivery.specs.Ties.{IsServing, TellsParcels, LogsParcels, WasSentOn, IsGotOn, ViewersGet}
+use Rattle.proof_delivery.specs.Example.{sent_whole, got_whole, sent_first, got_first, sent_second, got_second, put, died, believed, journals, orders, TiesCanBeMet}
 
 abbrev r : Facts
 r = log.r
@@ -222,13 +222,20 @@ ordered a e = inl (ap (λ (x : Ask). kind.Begin x) (sym e))
 order_is : (a : Ask) → IsOrdered orders a → a ≡ order
 order_is a h = ⊎_elim (λ q. let same : order ≡ a = cc in sym same) (λ n. absurd n) h
 
+-- The viewer is put, and the laws of the schedule are met, as in the worked run of blocks.
+put_in : r.Put 0 viewer 1
+put_in = schedule.put_in 0 350 350 one_run log.timed log.worked
+
+laws : Laws plan r
+laws = schedule.laws 0 350 350 one_run log.timed log.worked
+
 is_put_at : (stamp : Stamp) → stamp.beat ≡ 1 → stamp.reading ≡ stamp.beat * 10000 → IsPutAt plan r 0 stamp viewer
 is_put_at stamp one read =
-    let time = schedule.time_is stamp.beat in
-    let visit = schedule.due_is 0 in
+    let time = time_is stamp.beat in
+    let visit = due_is 0 in
     record {
       small = omega arith;
-      put = subst (λ (b : ℕ). r.Put 0 viewer b) (sym one) schedule.put_in;
+      put = subst (λ (b : ℕ). r.Put 0 viewer b) (sym one) put_in;
       low = omega arith;
       high = omega arith;
       slot = omega arith;
@@ -241,10 +248,10 @@ low n e s = all_in (λ (x : Entry). (x.stamp.beat ≤ 201) × (x.stamp.reading �
     (plain_at n s.journal s.at).low s.there
 
 died_in : r.Died 1 20
-died_in = log.few (Died 1 20) (14, omega arith, refl)
+died_in = log.worked.few (Died 1 20) (14, omega arith, refl)
 
 believed_in : r.Believed 2 121
-believed_in = log.few (Believed 2 121) (15, omega arith, refl)
+believed_in = log.worked.few (Believed 2 121) (15, omega arith, refl)
 
 tells : Tells plan r orders journals
 tells = record {
@@ -257,7 +264,7 @@ tells = record {
   believed = λ n e d s is.
       let k = said n e (what.Believed d) s is in
       let one : d.0 ≡ 1 = ap (λ (c : CubNo). c.0) k.1 in
-      let next : cub_of plan (d.0 + 1) ≡ 2 = ap (λ (m : ℕ). cub_of plan (m + 1)) one ∙ schedule.cub_2 in
+      let next : cub_of plan (d.0 + 1) ≡ 2 = ap (λ (m : ℕ). cub_of plan (m + 1)) one ∙ cub_2 in
       record {
         believed = subst (λ (m : ℕ). r.Believed m e.stamp.beat) (sym k.0) (subst (λ (b : ℕ). r.Believed 2 b)
             (sym k.2) believed_in);
@@ -290,7 +297,7 @@ at_viewers = refl
 logged : Logged plan r orders journals
 logged = record {
   put = λ c b t h.
-      let k = log.its (Put c t b) h in
+      let k = log.worked.its (Put c t b) h in
       record {
         entry = put;
         stands = record {
@@ -302,9 +309,9 @@ logged = record {
         beat = sym k.2;
         is = ap (λ (u : Tenancy). what.Put u) (sym k.1);
       };
-  gone = λ v b h. absurd (log.its (Gone v b) h);
+  gone = λ v b h. absurd (log.worked.its (Gone v b) h);
   died = λ c b h.
-      let k = log.its (Died c b) h in
+      let k = log.worked.its (Died c b) h in
       record {
         entry = died;
         stands = record { journal = died ∷ []; at = ap (λ (m : ℕ). slice_get journals m) k.0 ∙ at_1; there = inl refl };
@@ -312,8 +319,8 @@ logged = record {
         is = refl;
       };
   believed = λ c d b h next small.
-      let k = log.its (Believed c b) h in
-      let same : d ≡ 1 = schedule.one_before d 1 small (omega arith) (sym next ∙ k.0 ∙ sym schedule.cub_2) in
+      let k = log.worked.its (Believed c b) h in
+      let same : d ≡ 1 = one_before d 1 small (omega arith) (sym next ∙ k.0 ∙ sym cub_2) in
       record {
         entry = believed;
         stands = record {
@@ -325,7 +332,7 @@ logged = record {
         beat = sym k.1;
         is = (record { 0 = 1 }, refl, sym same);
       };
-  begun = λ ask b h. ordered ask (log.its (Begun ask b) h).0;
+  begun = λ ask b h. ordered ask (log.worked.its (Begun ask b) h).0;
 }
 
 keeps : Keeps plan r orders journals
@@ -335,30 +342,34 @@ keeps = record {
   belief_first = λ n xs ys e f t d at is i f_is. later n xs ys e f at i;
   put_first = λ n xs ys e q at is. absurd (said n e (what.Took q) (stands n (xs ++ e ∷ ys) e at
       (in_right e xs (e ∷ ys) (inl refl))) is);
-  ended = λ n c b e s less small. let l = (low n e s).0 in schedule.goes_on c b small (omega arith);
+  ended = λ n c b e s less small.
+      let l = (low n e s).0 in
+      ⊎_elim (λ k. inl (record { reading = k.reading; ticked = k.ticked })) (λ d. inr d)
+      (goes_on 0 350 350 one_run log.timed log.worked c b small (omega arith));
   shows = λ c b l upper lower q cut ticked i.
       let k = was_taken upper q i in
       absurd (said c k.0 (what.Took q) (stands c (upper ++ lower) k.0 cut.at (in_left k.0 upper lower k.1)) k.2);
-  shown = λ c b l n t upper lower cut ticked s. absurd (log.its (Shows c t n b) s);
+  shown = λ c b l n t upper lower cut ticked s. absurd (log.worked.its (Shows c t n b) s);
   one_order = λ a b h k same. order_is a h ∙ sym (order_is b k);
 }
 
 besides : Besides plan r
 besides = record {
-  ended = λ c b l a t d.
-      let k = log.its (Ticked c b l) t in
-      let m = log.its (Died c a) d in
+  ended = λ c b l a t first d.
+      let m = log.worked.its (Died c a) d in
       let one = m.0 in
       let when = m.1 in
-      let less = k.1 in
-      ⊎_elim (λ e. let z = e.1 in omega arith) (λ e. absurd (e.0 one)) (log.beats_at c);
-  put = λ c x a t h d. let k = (log.its (Put c t x) h).0 in let m = (log.its (Died c a) d).0 in absurd (omega arith);
-  reads = λ c b l t. schedule.laws.run.reads t;
-  undue = λ c n b t s. absurd (log.its (Shows c t n b) s);
+      ⊎_elim
+      (λ o. ⊎_elim (λ k. let early = k.1 in omega arith) (λ k. absurd (k.0 one)) o)
+      (λ k. let late = k.1 in let high = k.2 in absurd (omega arith))
+      (log.worked.its (Ticked c b l) t).1;
+  put = λ c x a t h d. let k = (log.worked.its (Put c t x) h).0 in let m = (log.worked.its (Died c a) d).0 in absurd (omega arith);
+  reads = λ c b l t. laws.run.reads t;
+  undue = λ c n b t s. absurd (log.worked.its (Shows c t n b) s);
   waits = λ c y b l s n ask w by ticked slot window.
       let one : (ask ≡ order) × (y ≡ 1) = ⊎_elim
-      (λ a. let k = log.its (Asked c ask y) a.0 in (k.1, k.2))
-      (λ a. let k = log.its (AskedApart c ask y) a.0 in (k.1, k.2))
+      (λ a. let k = log.worked.its (Asked c ask y) a.0 in (k.1, k.2))
+      (λ a. let k = log.worked.its (AskedApart c ask y) a.0 in (k.1, k.2))
       w.how in
       let beat = one.1 in
       inr (inl (record {
@@ -366,15 +377,15 @@ besides = record {
         tenancy = viewer;
         same = ap (λ (v : Ask). v.instance.0) (sym one.0);
         beat = 1;
-        put = schedule.put_in;
+        put = put_in;
         by = omega arith;
       }));
 }
 
 recorded : IsRecorded plan r orders journals
 recorded = record {
-  plan = schedule.plan_is;
-  one = runs plan r schedule.plan_is schedule.laws;
+  plan = plan_is;
+  one = runs plan r plan_is laws;
   more = besides;
   tells = tells;
   logged = logged;
@@ -384,7 +395,7 @@ recorded = record {
 -- ---- blocks and pieces
 
 -- each part that is sent is served
-serving_whole : IsServing plan pieces.q blocks.w 0 (record { 0 = 16 }) (want_of_visit viewer 0 0) 50 (bytes 0 4) 50
+serving_whole : IsServing plan pieces.q pieces.w 0 (record { 0 = 16 }) (want_of_visit viewer 0 0) 50 (bytes 0 4) 50
 serving_whole =
     record {
       tenancy = viewer;
@@ -396,7 +407,7 @@ serving_whole =
       way = refl;
     }
 
-serving_first : IsServing plan pieces.q blocks.w 2 (record { 0 = 18 }) (want_of_visit viewer 1 1) 150 (bytes 4 2) 150
+serving_first : IsServing plan pieces.q pieces.w 2 (record { 0 = 18 }) (want_of_visit viewer 1 1) 150 (bytes 4 2) 150
 serving_first =
     record {
       tenancy = viewer;
@@ -407,7 +418,7 @@ serving_first =
       way = refl;
     }
 
-serving_second : IsServing plan pieces.q blocks.w 3 (record { 0 = 19 }) (want_of_visit viewer 1 2) 200 (bytes 6 2) 200
+serving_second : IsServing plan pieces.q pieces.w 3 (record { 0 = 19 }) (want_of_visit viewer 1 2) 200 (bytes 6 2) 200
 serving_second =
     record {
       tenancy = viewer;
@@ -418,7 +429,7 @@ serving_second =
       way = refl;
     }
 
-tells_parcels : TellsParcels plan pieces.q blocks.w journals
+tells_parcels : TellsParcels plan pieces.q pieces.w journals
 tells_parcels = record {
   whole = λ n e link want sent part s is.
       let k = said n e (what.Sent link (note.Whole want sent part)) s is in
@@ -431,7 +442,7 @@ tells_parcels = record {
   failed = λ n e want s is. absurd (said n e (what.ReadFailed want) s is);
 }
 
-logs_parcels : LogsParcels pieces.q blocks.w journals
+logs_parcels : LogsParcels pieces.q pieces.w journals
 logs_parcels = record {
   served = λ c n j b t h.
       let k = pieces.is_piece (Serves c t n j b) h in
@@ -555,10 +566,10 @@ ties_met = record {
   files = places.laws_met.files;
   recorded = record {
     schedule = recorded;
-    pieces = right plan r pieces.q schedule.plan_is schedule.laws pieces.pieces;
-    blocks = runs_serve plan r pieces.q blocks.w 349 schedule.plan_is schedule.laws pieces.pieces
-        blocks.laws_met.blocks;
-    reads = true_reads plan places.laws_met.catalogue r pieces.q blocks.w schedule.plan_is schedule.laws
+    pieces = right plan r pieces.q plan_is laws pieces.pieces;
+    blocks = runs_serve plan r pieces.q pieces.w 349 plan_is laws pieces.pieces
+        blocks.met_with_death.blocks;
+    reads = true_reads plan places.laws_met.catalogue r pieces.q pieces.w plan_is laws
         pieces.pieces places.laws_met.laws;
     ties = record {
       tells = tells_parcels;

@@ -1,5 +1,5 @@
 -- The worked run of blocks, with journals that tell it: one block comes whole, and one in pieces.
-use Rattle.std.specs.Prelude.{◌≡◌, ℕ, ◌+◌, ◌*◌, List, [], ◌∷◌}
+use Rattle.std.specs.Prelude.{◌≡◌, ℕ, ◌*◌, List, [], ◌∷◌}
 use Rattle.tiger_base.specs.declared.message.Note.TheVariants as note
 use Rattle.stripe_layout.specs.declared.catalogue.Catalogue.{Catalogue}
 use Rattle.node_kit.specs.declared.course.Order.{Order}

@@ -1,16 +1,17 @@
 -- The laws of single nodes and links, gathered from what cubs, links, the controller and disks give.
-use Rattle.std.proofs.Common.{◌≡◌, ℕ, zero, suc, ◌+◌, ◌*◌, ◌<◌, ◌≤◌, refl, arith}
+use Rattle.std.proofs.Common.{◌≡◌, ℕ, zero, suc, ◌+◌, ◌*◌, ◌<◌, ◌≤◌, refl, arith, ⊎_elim, inl, inr}
 use Rattle.std.specs.Prelude.{◌⊎◌}
 use Rattle.tiger_base.specs.declared.part.Span.{Span}
 use Rattle.tiger_base.specs.declared.tenancy.Tenancy.{Tenancy}
 use Rattle.slot_plan.specs.declared.params.Params.{Params}
 use Rattle.slot_plan.specs.Times.{due, cub_of}
 use Rattle.stripe_layout.specs.declared.catalogue.Catalogue.{Catalogue}
-use Rattle.proof_schedule.specs.Facts.{Facts, Ended, DiedBy}
+use Rattle.proof_schedule.specs.Facts.{Facts, LivedTo, DiedBy, NobodyReturns}
 use Rattle.proof_schedule.specs.Laws.{Laws}
+use Rattle.proof_schedule.proofs.Lives.{nobody_same}
 use Rattle.proof_pieces.specs.PieceFacts.{PieceFacts, leave, AsksBy}
 use Rattle.proof_pieces.specs.PieceLaws.{PieceLaws, WasUndue, IsThere, WasAsked}
-use Rattle.proof_service.specs.ServiceFacts.{ServiceFacts, ArisesBy, IsCutOff}
+use Rattle.proof_service.specs.ServiceFacts.{ServiceFacts, ArisesBy, AsksInLife, IsCutOff}
 use Rattle.proof_service.specs.ServiceLaws.{ServiceLaws, IsAnswered}
 use Rattle.proof_places.specs.Files.{AreOfFiles}
 use Rattle.proof_places.specs.Disks.{DiskLaws, FailedThere, IsRefused, IsRead}
@@ -29,7 +30,7 @@ laws_of p r ring cubs = record {
     gone_after = ring.gone_after;
     comes = cubs.comes;
     once = cubs.once;
-    waits = cubs.waits;
+    waits = λ s n k le tick first slot window. cubs.waits s n k le tick slot window;
   };
   watch = cubs.watch;
   stops = ring.stops;
@@ -60,6 +61,17 @@ module _ (p : Params) (catalogue : Catalogue) (r : Facts) (q : PieceFacts) (w : 
   asks_due c t n zero b l a here tick early soon = whole.asks_due refl a here tick early soon
   asks_due c t n (suc j) b l a here tick early soon = piece.asks_due (omega arith) a here tick early soon
 
+  -- If nobody comes back, a cub has asked in that life.
+  asks_in_life : (c : ℕ) (t : Tenancy) (n j b l : ℕ) → NobodyReturns r → ArisesBy r q c t n j b
+      → c ≡ cub_of p (n + j) → r.Ticked c b l → l < leave p t n j → leave p t n j ≤ l + p.read_lead
+      → AsksInLife r q c t n j b ⊎ IsCutOff r w c t.instance.0 n b
+  asks_in_life c t n j b l none a here tick early soon = ⊎_elim
+      (λ k.
+      let life = nobody_same r c k.beat b none in
+      inl (record { beat = k.beat; asks = k.asks; by = k.by; life = life }))
+      (λ k. inr k)
+      (asks_due c t n j b l a here tick early soon)
+
   answers : (c : ℕ) (t : Tenancy) (n j b e : ℕ) → q.Asks c t n j b → r.Came c e → b + 2 * p.delay ≤ e → IsAnswered p r w c t n j b
   answers c t n zero b e a came late = whole.answers refl a came late
   answers c t n (suc j) b e a came late = piece.answers (omega arith) a came late
@@ -82,33 +94,48 @@ module _ (p : Params) (catalogue : Catalogue) (r : Facts) (q : PieceFacts) (w : 
   sends c t n zero y part a = whole.sends refl a
   sends c t n (suc j) y part a = piece.sends (omega arith) a
 
-  -- The laws of pieces, if readings never fall.
-  pub piece_laws_of : SplitLaws p r q w → ((c a b l m : ℕ) → r.Ticked c a l → r.Ticked c b m → a ≤ b → l ≤ m) → PieceLaws p r q
-  piece_laws_of split rising = record {
+  -- The laws of pieces, if nobody comes back and readings never fall.
+  pub piece_laws_of : NobodyReturns r → SplitLaws p r q w
+      → ((c a b l m : ℕ) → r.Ticked c a l → r.Ticked c b m → a ≤ b → l ≤ m) → PieceLaws p r q
+  piece_laws_of none split rising = record {
     splits = λ a. split.splits a;
     mirrors = λ a. split.mirrors a;
     mirrored = λ a. split.mirrored a;
+    late = λ a back le. absurd (none _ _ back);
     asks = λ {c} {t} {n} {j} {b} a. asks c t n j b a;
     serves = λ {c} {t} {n} {j} {b} a. serves c t n j b a;
     asked = λ {c} {t} {n} {j} {b} a. asked c t n j b a;
     rising = λ {c} {a} {b} {l} {m} first then le. rising c a b l m first then le;
-    kills = λ a reached later came by. split.kills a reached later came by;
+    kills = λ a reached later came by life. split.kills a reached later came by;
     killed = λ a to next used late. split.killed a to next used late;
   }
 
-  -- The laws of blocks, if each cub has ended each beat below the end, or died by then.
-  pub service_laws_of : RingLaws p r → CubLaws p r → SplitLaws p r q w → (end : ℕ)
-      → ((c b : ℕ) → b < end → c < p.cubs → Ended r c b ⊎ DiedBy r c b) → ServiceLaws p r q w end
-  service_laws_of ring cubs split end ends = record {
+  -- The laws of blocks, if nobody comes back or is told of a return, and each cub has ended each
+  -- beat below the end, or died by then.
+  pub service_laws_of : NobodyReturns r → ((c from b : ℕ) → w.TookBack c from b → ⊥)
+      → RingLaws p r → CubLaws p r → SplitLaws p r q w → (end : ℕ)
+      → ((c b : ℕ) → b < end → c < p.cubs → LivedTo r c b ⊎ DiedBy r c b) → ServiceLaws p r q w end
+  service_laws_of none untold ring cubs split end ends = record {
     ends = λ {c} {b} low small. ends c b low small;
-    watches = λ tick. cubs.watches tick;
+    returns_once = λ back again. absurd (none _ _ back);
+    returns_ended = λ back. absurd (none _ _ back);
+    stays = λ back le low. absurd (none _ _ back);
+    back_arrives = λ c b back tick next came life late. absurd (none _ _ back);
+    back_from = λ told small next. absurd (untold _ _ _ told);
+    left = λ a from y told le. absurd (untold _ from y told);
+    may_serve = λ a x l back tick le whole. absurd (none _ x back);
+    watches = λ tick first. cubs.watches tick;
     heard_from = λ heard small next. ring.heard_from heard small next;
-    split_due = λ believed entered next tick soon. split.split_due believed entered next tick soon;
+    split_due = λ believed entered next tick first left soon.
+        split.split_due believed entered next tick soon;
     mirrors_due = λ k a tick low high. split.mirrors_due k a tick low high;
-    mirror_arrives = λ c b a to here came late. split.mirror_arrives c b a to here came late;
-    asks_due = λ {c} {t} {n} {j} {b} {l} a here tick early soon. asks_due c t n j b l a here tick early soon;
-    answers = λ {c} {t} {n} {j} {b} {e} a came late. answers c t n j b e a came late;
-    serves_due = λ {c} {t} {n} {j} {y} {b} {l} a by tick past fresh undue. serves_due c t n j y b l a by tick past fresh undue;
+    mirror_arrives = λ c b a to here came life let_in late.
+        split.mirror_arrives c b a to here came late;
+    asks_due = λ {c} {t} {n} {j} {b} {l} a here tick early soon may.
+        asks_in_life c t n j b l none a here tick early soon;
+    answers = λ {c} {t} {n} {j} {b} {e} a came life late. answers c t n j b e a came late;
+    serves_due = λ {c} {t} {n} {j} {y} {b} {l} a by tick life may past fresh undue.
+        serves_due c t n j y b l a by tick past fresh undue;
     killed = λ a. split.dropped a;
   }
 

@@ -13,7 +13,7 @@ use Rattle.schedule_laws.specs.Lives.{AreLives}
 use Rattle.schedule_laws.specs.Rings.{orders_alone}
 use Rattle.stops_laws.specs.HoldsHere.{AreAllFormed}
 use Rattle.stops_held.specs.InOrder.{AreInOrder}
-use Rattle.proof_schedule.specs.Facts.{Facts}
+use Rattle.proof_schedule.specs.Facts.{Facts, NobodyReturns}
 use Rattle.proof_schedule.specs.Laws.{Laws}
 use Rattle.proof_schedule.specs.Schedule.{IsOneSchedule}
 use Rattle.proof_schedule.proofs.Follows.{runs}
@@ -31,6 +31,7 @@ use Rattle.cub_facts.specs.Lives.{lives_of, CameAt}
 use Rattle.cub_facts.specs.Facts.{beyond_of, facts_of}
 use Rattle.cub_facts.specs.Laws.{CubLaws, RingLaws, SplitLaws, ReadLaws}
 use Rattle.cub_facts.specs.Rings.{IsRingHistory, IsUpTo}
+use Rattle.cub_facts.proofs.NoReturns.{nobody}
 use Rattle.proof_cubs.proofs.Laws.{cub_laws}
 use Rattle.proof_links.proofs.Laws.{links_meet_the_laws, messages_come_in_order, cubs_are_told_in_order, disks_answer_asks}
 use Rattle.proof_links.proofs.Running.{came, readings_rise, ends}
@@ -75,6 +76,10 @@ module _ {S : Type 0} (step : S → Input Msg → Deed Msg S) (p : Params) (cata
   abbrev pub W : ServiceFacts
   W = blocks_of p disk_at h
 
+  -- No cub comes back in a run.
+  pub none : NobodyReturns R
+  none = nobody p (lives_of h) (beyond_of p orders h)
+
   pub came_by : (c b l : ℕ) → TickedAt p (lives_of h) c b l → CameAt p h c b
   came_by c b l w = came plan ring w
 
@@ -103,12 +108,13 @@ module _ {S : Type 0} (step : S → Input Msg → Deed Msg S) (p : Params) (cata
 
   pub pieces : PieceLaws p R Q
   pieces =
-      piece_laws_of p catalogue R Q W whole_reads piece_reads split_laws_hold
+      piece_laws_of p catalogue R Q W whole_reads piece_reads none split_laws_hold
       (λ c a b l m first then le. readings_rise plan ring first then le)
 
   pub service : (end : ℕ) → IsUpTo p end h → ServiceLaws p R Q W end
   service end up =
-      service_laws_of p catalogue R Q W whole_reads piece_reads (ring_laws step p orders disk_at h plan ring)
+      service_laws_of p catalogue R Q W whole_reads piece_reads none (λ c from b told. told)
+      (ring_laws step p orders disk_at h plan ring)
       (cubs_laws step p orders disk_at h plan ring) split_laws_hold end (λ c b low small. ends plan ring up low small)
 
   pub are_of_files : AreOfFiles p catalogue R

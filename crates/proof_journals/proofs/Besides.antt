@@ -53,8 +53,8 @@ module _ (p : Params) (r : Facts) (plan : IsPlan p) (law : Laws p r) (cubs : Cub
 
   pub besides : ((c b l a : ℕ) → r.Ticked c b l → r.Died c a → b < a) → Besides p r
   besides ended = record {
-    ended = ended;
-    put = λ c x a t i d. law.run.last (law.states.inserts i).tick.came d;
+    ended = λ c b l a w first d. ended c b l a w d;
+    put = λ c x a t i d. let k = law.states.inserts i in law.run.last k.tick.came d k.first;
     reads = λ c b l w. law.run.reads w;
     undue = undue;
     waits = waits_at;

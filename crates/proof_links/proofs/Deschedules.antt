@@ -29,9 +29,10 @@ use Rattle.controller_facts.proofs.Knowing.{some_same}
 use Rattle.controller_facts.proofs.Ways.{led}
 use Rattle.proof_schedule.specs.Facts.{Facts, IsBeside, GotTagBy, GotBareBy}
 use Rattle.proof_schedule.specs.LinkLaws.{TagFromController, TagFromCub, BareFrom}
-use Rattle.cub_facts.specs.Facts.{facts_of}
+use Rattle.cub_facts.specs.Facts.{beyond_of, facts_of}
 use Rattle.cub_facts.specs.Lives.{lives_of, CameAt}
 use Rattle.cub_facts.specs.Rings.{IsRingHistory}
+use Rattle.cub_facts.proofs.NoReturns.{same_life}
 use Rattle.proof_links.proofs.Carrying.{Came, TakenThere, commanded_before, did_before, from_either, reaches_near, sent_as, sent_there, took_from}
 use Rattle.proof_links.proofs.Nodes.{beat_same, controller_inside}
 use Rattle.proof_links.proofs.Controllers.{done_of, stops_here, stopped_waiting}
@@ -204,6 +205,7 @@ module _ {S : Type 0} {step : S → Input Msg → Deed Msg S} {p : Params} {orde
         to = subst (λ n. IsBeside p c n) number f.to;
         later = f.later;
         soon = f.soon;
+        life = same_life p lives (beyond_of p orders h) c b y;
       }
 
   -- So did each one with a tag.
@@ -228,6 +230,7 @@ module _ {S : Type 0} {step : S → Input Msg → Deed Msg S} {p : Params} {orde
         to = f.to;
         later = f.later;
         soon = f.soon;
+        life = same_life p lives (beyond_of p orders h) c f.beat y;
       }))
       (stop_from g.took)
 
@@ -247,6 +250,7 @@ module _ {S : Type 0} {step : S → Input Msg → Deed Msg S} {p : Params} {orde
         to = f.to;
         later = f.later;
         soon = f.soon;
+        life = same_life p lives (beyond_of p orders h) c b y;
       })
       f.stops.stopped.is)
       (λ f. let e = f.tagged.1 in absurd (cc))

@@ -15,15 +15,15 @@ pub links_meet_the_laws : (S : Type 0) → LinksMeetTheLaws S
 links_meet_the_laws S step p orders disk_at h plan ring =
     let links : LinkLaws p (facts_of p orders h) = record {
       carried = carried plan ring;
-      arrives = λ c b s to w late. arrives plan ring c b s to w late;
+      arrives = λ c b s to w life late. arrives plan ring c b s to w late;
       asked_from = λ g. start_from plan ring g;
       apart_from = λ g. start_from plan ring g;
-      heard = λ c b d to w late. heard plan ring c b d to w late;
+      heard = λ c b d to w life late. heard plan ring c b d to w late;
       tag_from = λ g. tag_from plan ring g;
       bare_from = λ g. bare_from plan ring g;
-      told_arrives = λ c b t to w late. told_arrives plan ring c b t to w late;
-      tag_arrives = λ c b a beside w late. tag_arrives plan ring c b a beside w late;
-      bare_arrives = λ c b a beside w late. bare_arrives plan ring c b a beside w late;
+      told_arrives = λ c b t to w life late. told_arrives plan ring c b t to w late;
+      tag_arrives = λ c b a beside w life late. tag_arrives plan ring c b a beside w late;
+      bare_arrives = λ c b a beside w life late. bare_arrives plan ring c b a beside w late;
     } in
     record {
       run = run_laws plan ring;

@@ -21,11 +21,13 @@ use Rattle.schedule_laws.proofs.Carrying.{count_rises}
 use Rattle.schedule_laws.proofs.Order as order
 use Rattle.schedule_laws.proofs.Order.{tick_of, ticked_before}
 use Rattle.schedule_laws.proofs.States.{stamp_made}
-use Rattle.proof_schedule.specs.Facts.{Ended, DiedBy}
+use Rattle.proof_schedule.specs.Facts.{Ended, LivedTo, DiedBy}
 use Rattle.proof_schedule.specs.RunLaws.{RunLaws}
-use Rattle.cub_facts.specs.Facts.{facts_of}
+use Rattle.proof_schedule.proofs.Lives.{nobody_returns}
+use Rattle.cub_facts.specs.Facts.{beyond_of, facts_of}
 use Rattle.cub_facts.specs.Lives.{lives_of, CameAt, DiedAt}
 use Rattle.cub_facts.specs.Rings.{IsRingHistory, IsUpTo}
+use Rattle.cub_facts.proofs.NoReturns.{first_life, nobody}
 use Rattle.proof_links.proofs.Lives.{EndsInDeath, LivesOn}
 use Rattle.proof_links.proofs.Carrying.{not_behind}
 use Rattle.proof_links.proofs.Nodes.{after_tick, before, cub_inside, did_in, event_is, how, lived, rises, tick_is_no_death, ticks_same}
@@ -125,23 +127,30 @@ module _ {S : Type 0} {step : S → Input Msg → Deed Msg S} {p : Params} {orde
         };
       }
 
-  -- If a cub is not behind beat b unless it dies, it has ended each lower beat, or died by then.
-  ended_or_died : (d a b : ℕ) → d < p.cubs → a < b
+  -- No cub comes back, so that it ended each beat in its first life.
+  lived_to : (d a : ℕ) → Ended (facts_of p orders h) d a → LivedTo (facts_of p orders h) d a
+  lived_to d a e =
+      let first = first_life p lives (beyond_of p orders h) d a in
+      record { reading = e.reading; ticked = e.ticked; first = first }
+
+  -- If a cub is not behind beat b unless it dies, it has ended each lower beat in its first life, or
+  -- died by then.
+  lived_or_died : (d a b : ℕ) → d < p.cubs → a < b
       → (((i : ℕ) → i < h.count d → is_death (h.event d i) ≡ false) → b ≤ ticks h d (h.count d))
-      → Ended (facts_of p orders h) d a ⊎ DiedBy (facts_of p orders h) d a
-  ended_or_died d a b small low up =
+      → LivedTo (facts_of p orders h) d a ⊎ DiedBy (facts_of p orders h) d a
+  lived_or_died d a b small low up =
       let inside = cub_inside plan ring d small in
       ⊎_elim
       (λ (l : LivesOn h d).
       let r = up l.none in
       let all : ticks h d (h.count d) ≡ ticks h d (living h d) = ap (λ n. ticks h d n) (sym l.all) in
-      inl (ended_in d a (living h d) small (omega arith) (omega arith)))
+      inl (lived_to d a (ended_in d a (living h d) small (omega arith) (omega arith))))
       (λ (e : EndsInDeath h d).
       let end = e.last in
       let n : ℕ = living h d in
       let db = ring.run.in_beat d n inside (omega arith) in
       ⊎_elim
-      (λ (less : a < ticks h d n). inl (ended_in d a n small (omega arith) less))
+      (λ (less : a < ticks h d n). inl (lived_to d a (ended_in d a n small (omega arith) less)))
       (λ (more : ticks h d n ≤ a).
       inr (record {
         beat = beat h d n;
@@ -151,17 +160,20 @@ module _ {S : Type 0} {step : S → Input Msg → Deed Msg S} {p : Params} {orde
       (cases_lt a (ticks h d n)))
       (how plan ring d inside)
 
-  -- Before a cub comes to the tick of a beat, each cub has ended each lower beat, or died.
+  -- Before a cub comes to the tick of a beat, each cub has ended each lower beat in its first life,
+  -- or died.
   pub up : {c b d a : ℕ} → CameAt p h c b → a < b → d < p.cubs
-      → Ended (facts_of p orders h) d a ⊎ DiedBy (facts_of p orders h) d a
+      → LivedTo (facts_of p orders h) d a ⊎ DiedBy (facts_of p orders h) d a
   up {c} {b} {d} {a} w low small =
-      ended_or_died d a b small low (λ lives. not_behind plan ring c b d w (cub_inside plan ring d small) lives)
+      lived_or_died d a b small low
+      (λ lives. not_behind plan ring c b d w (cub_inside plan ring d small) lives)
 
-  -- If each node has ended each beat below end, or died, each cub has ended beat b below it, or died by then.
+  -- If each node has ended each beat below end, or died, each cub has ended beat b below it in its
+  -- first life, or died by then.
   pub ends : {end c b : ℕ} → IsUpTo p end h → b < end → c < p.cubs
-      → Ended (facts_of p orders h) c b ⊎ DiedBy (facts_of p orders h) c b
+      → LivedTo (facts_of p orders h) c b ⊎ DiedBy (facts_of p orders h) c b
   ends {end} {c} {b} whole low small =
-      ended_or_died c b end small low (λ lives. whole.until c (cub_inside plan ring c small) lives)
+      lived_or_died c b end small low (λ lives. whole.until c (cub_inside plan ring c small) lives)
 
   -- A cub that takes a message has ended each lower beat.
   pub ended_before : {c b y : ℕ} {m : Msg} → TookMessage p lives c m y → b < y → Ended (facts_of p orders h) c b
@@ -184,14 +196,18 @@ module _ {S : Type 0} {step : S → Input Msg → Deed Msg S} {p : Params} {orde
       let r1 = r.1 in
       (omega arith, omega arith)
 
-  -- The laws of the run.
+  -- The laws of the run. No cub comes back, so that those of a return hold of none.
   pub run_laws : RunLaws p (facts_of p orders h)
   run_laws = record {
     came = came;
     up = λ w low small. up w low small;
-    last = λ w d. last w d;
+    last = λ w d first. last w d;
+    again = λ w d after. let l = last w d in absurd (omega arith);
+    returned = λ back. absurd back;
+    returns = λ c b.
+        nobody_returns (facts_of p orders h) c b (nobody p lives (beyond_of p orders h));
     apart = λ d e to. ring.deaths.apart _ _ d.at e.at d.small e.small d.done e.done d.death e.death to;
-    got_ended = λ g low. ended_before g low;
-    reached_ended = λ g low. ended_before g.took low;
+    got_ended = λ g low life. ended_before g low;
+    reached_ended = λ g low life. ended_before g.took low;
     reads = reads;
   }

@@ -23,9 +23,10 @@ use Rattle.schedule_laws.proofs.States.{state_way}
 use Rattle.proof_schedule.specs.Facts.{GotBy}
 use Rattle.proof_schedule.specs.LinkLaws.{WasSent, HeardIn}
 use Rattle.proof_service.specs.ServiceLaws.{WasUp}
-use Rattle.cub_facts.specs.Facts.{facts_of}
+use Rattle.cub_facts.specs.Facts.{beyond_of, facts_of}
 use Rattle.cub_facts.specs.Lives.{lives_of, CameAt}
 use Rattle.cub_facts.specs.Rings.{IsRingHistory}
+use Rattle.cub_facts.proofs.NoReturns.{first_life, same_life}
 use Rattle.proof_links.proofs.Sending.{beat_at_tick}
 use Rattle.proof_links.proofs.Carrying.{did_before, from_cub, reaches_near, took_from}
 use Rattle.proof_links.proofs.Nodes.{before, beat_same, cub_inside}
@@ -73,6 +74,7 @@ module _ {S : Type 0} {step : S → Input Msg → Deed Msg S} {p : Params} {orde
         to = n.to;
         later = d.later;
         soon = d.soon;
+        life = same_life p lives (beyond_of p orders h) c d.beat y;
       }
 
   -- A state that is sent comes in time.
@@ -129,6 +131,7 @@ module _ {S : Type 0} {step : S → Input Msg → Deed Msg S} {p : Params} {orde
       record {
         beat = b.beat;
         came = subst (λ n. CameAt p h n b.beat) (sym from) (beats_came b.did);
+        first = first_life p lives (beyond_of p orders h) d b.beat;
         before = b.later;
         soon = b.soon;
       }

@@ -121,7 +121,7 @@ put_fact = facts.laws_met.2
 
 besides : Besides small r
 besides = record {
-  ended = λ c b l a t d. absurd (says (Died c a) d);
+  ended = λ c b l a t first d. absurd (says (Died c a) d);
   put = λ c x a t _ d. absurd (says (Died c a) d);
   reads = λ c b l t. law.run.reads t;
   undue = λ c n b t s. let k = law.states.shows s in let low = (law.run.reads k.ticked).0 in let high = k.undue in omega arith;
@@ -245,7 +245,8 @@ keeps = record {
       inl (put, subst (λ (z : List Entry). In put z) (sym k.0) (inr (inl refl)), ap (λ (z : Rec). what.Put z.tenancy) k.1);
   ended = λ n c b e s before low.
       let beat = beat_one e (is_entry n e s).which in
-      law.run.up {c = 0} {b = 1} {d = c} {a = b} came (omega arith) low;
+      ⊎_elim (λ k. inl (record { reading = k.reading; ticked = k.ticked })) (λ d. inr d)
+      (law.run.up {c = 0} {b = 1} {d = c} {a = b} came (omega arith) low);
   shows = λ c b l upper lower q cut ticked i.
       let node = (one_journal c (upper ++ lower) cut.at).0 in
       let k = was_taken upper q i in

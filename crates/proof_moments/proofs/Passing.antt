@@ -25,7 +25,7 @@ use Rattle.run_model.specs.Views.{records_of}
 use Rattle.run_model.specs.Moments.{is_belief_of, is_put_of, moment_at}
 use Rattle.run_model.specs.Orders.{IsOrdered, is_up_to, end_of_tick, IsStartOf, IsRecentStop, IsTaken, IsNotPassedOver}
 use Rattle.run_claims.specs.Patience.{NobodyIsPassedOver}
-use Rattle.proof_schedule.specs.Facts.{Facts, BelievedBy, PutBy, ReachedBy, GoneBefore, DiedLongBefore}
+use Rattle.proof_schedule.specs.Facts.{Facts, BelievedBy, PutBy, ReachedBy, GoneBefore, DiedLongBefore, IsFirstLife, NobodyReturns}
 use Rattle.proof_schedule.specs.StartLaws.{Waits}
 use Rattle.proof_moments.specs.Members.{In}
 use Rattle.proof_moments.specs.Ties.{IsTickBelow, StandsIn, IsCutAt, IsHeldAt, IsPutAt}
@@ -60,7 +60,8 @@ belief_is d (what.Believed cub) e = (cub, refl, eqb-true _ _ e)
 belief_is d other e = absurd (cc)
 
 module _ (p : Params) (r : Facts) (orders : List Order) (journals : List (List Entry)) (w : IsRecorded p r orders journals) (beats c beat reading : ℕ)
-    (small : c < p.cubs) (known : beat < beats) (ticked : r.Ticked c beat reading) where
+    (small : c < p.cubs) (known : beat < beats) (ticked : r.Ticked c beat reading)
+    (first : IsFirstLife r c beat) where
   abbrev log : List Noted
   log = order_of beats journals
 
@@ -122,7 +123,7 @@ module _ (p : Params) (r : Facts) (orders : List Order) (journals : List (List E
   who_here d n t here same put =
       let next : cub_of p (t.first + 1) ≡ cub_of p (n + 1) = sym (cub_ahead p t.first 1) ∙ ap (λ (k : ℕ). cub_of p (k + 1)) same ∙ cub_ahead p n 1 in
       let dead : DiedLongBefore p r c beat → ⊥ =
-      λ l. let by = l.died.by in let long = l.long in let e = w.more.ended c beat reading l.died.beat ticked l.died.died in absurd (omega arith) in
+      λ l. let by = l.died.by in let long = l.long in let e = w.more.ended c beat reading l.died.beat ticked first l.died.died in absurd (omega arith) in
       ⊎_elim
       (λ own. ⊎_elim
       (λ q. q ∙ same ∙ sym own)
@@ -148,7 +149,7 @@ module _ (p : Params) (r : Facts) (orders : List Order) (journals : List (List E
       let m = mine e.0 e.1 in
       let l = m.1 in
       let d = w.tells.died c e.0 small m.0 (bridge.died_is e.0.what e.2) in
-      let a = w.more.ended c beat reading e.0.stamp.beat ticked d in
+      let a = w.more.ended c beat reading e.0.stamp.beat ticked first d in
       absurd (omega arith)
 
   -- what its view shows after the tick, its journal tells
@@ -341,6 +342,8 @@ module _ (p : Params) (r : Facts) (orders : List Order) (journals : List (List E
         has;
   }
 
-pub nobody_is_passed_over : (p : Params) (r : Facts) (orders : List Order) (journals : List (List Entry)) (beats : ℕ) → IsRecorded p r orders journals
+pub nobody_is_passed_over : (p : Params) (r : Facts) (orders : List Order) (journals : List (List Entry)) (beats : ℕ) → IsRecorded p r orders journals → NobodyReturns r
     → NobodyIsPassedOver p orders (IsTickBelow r beats) (order_of beats journals)
-nobody_is_passed_over p r orders journals beats w c b l small k = passes_nobody p r orders journals w beats c b l small k.1 k.0
+nobody_is_passed_over p r orders journals beats w nobody c b l small k =
+    passes_nobody p r orders journals w beats c b l small k.1 k.0
+    (λ x back. absurd (nobody c x back))

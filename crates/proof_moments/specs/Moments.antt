@@ -9,6 +9,7 @@ use Rattle.run_model.specs.Parts.{ViewsAreAlwaysPart, EntriesAreLocal}
 use Rattle.run_claims.specs.Patience.{NobodyIsPassedOver}
 use Rattle.run_claims.specs.Returns.{NobodyComesBack}
 use Rattle.run_claims.specs.Truths.{BeliefsAreTrue}
+use Rattle.proof_schedule.specs.Facts.{NobodyReturns}
 use Rattle.proof_schedule.specs.Logs.{Fact, facts_in}
 use Rattle.proof_moments.specs.Ties.{IsTickBelow, Locals}
 use Rattle.proof_moments.specs.Recorded.{IsRecorded, ParcelsAreInTime}
@@ -26,8 +27,8 @@ RecordedBeliefsAreTrue =
     → IsRecorded p (facts_in log) orders journals → BeliefsAreTrue (order_of beats journals)
 
 -- No instance comes back after its stop, if what goes to its viewers is in time.
-abbrev pub NobodyReturns : Type 0
-NobodyReturns =
+abbrev pub NoInstanceReturns : Type 0
+NoInstanceReturns =
     (p : Params) (log : List Fact) (orders : List Order) (journals : List (List Entry)) (beats : ℕ)
     → IsRecorded p (facts_in log) orders journals → ParcelsAreInTime p (facts_in log) journals
     → NobodyComesBack p (order_of beats journals)
@@ -38,11 +39,11 @@ RecordedViewsArePart =
     (p : Params) (log : List Fact) (orders : List Order) (journals : List (List Entry)) (beats : ℕ)
     → IsRecorded p (facts_in log) orders journals → ViewsAreAlwaysPart p (order_of beats journals)
 
--- At the end of each tick of a cub no start is passed over.
+-- If no cub comes back, no start is passed over at the end of each tick of a cub.
 abbrev pub NoStartIsPassedOver : Type 0
 NoStartIsPassedOver =
     (p : Params) (log : List Fact) (orders : List Order) (journals : List (List Entry)) (beats : ℕ)
-    → IsRecorded p (facts_in log) orders journals
+    → IsRecorded p (facts_in log) orders journals → NobodyReturns (facts_in log)
     → NobodyIsPassedOver p orders (IsTickBelow (facts_in log) beats) (order_of beats journals)
 
 -- What a cub takes and which viewer states it sends follows from what it has.

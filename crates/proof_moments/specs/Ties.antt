@@ -19,7 +19,7 @@ use Rattle.run_model.specs.Orders.{IsOrdered}
 use Rattle.run_model.specs.Fronts.{AnyByRecursion}
 use Rattle.run_model.specs.Parts.{Brings, IsForCub, IsOwnRecordFor}
 use Rattle.run_model.specs.Views.{records_of}
-use Rattle.proof_schedule.specs.Facts.{Facts, Ended, DiedBy, Entered, PutBy, ReachedBy}
+use Rattle.proof_schedule.specs.Facts.{Facts, Ended, DiedBy, Entered, PutBy, ReachedBy, IsFirstLife}
 use Rattle.proof_schedule.specs.StartLaws.{Waits, IsInWindow}
 use Rattle.proof_schedule.specs.Schedule.{IsTaken}
 use Rattle.proof_moments.specs.Members.{In}
@@ -155,8 +155,8 @@ pub record IsHeldAt (p : Params) (r : Facts) (c s n b : ℕ) : Type 0 where
 
 -- What is needed of the facts beside one schedule.
 pub record Besides (p : Params) (r : Facts) : Type 0 where
-  -- A cub that ended a beat by its tick dies, if at all, in a later one.
-  pub ended : (c b l a : ℕ) → r.Ticked c b l → r.Died c a → b < a
+  -- A cub that ended a beat of its first life by its tick dies, if at all, in a later one.
+  pub ended : (c b l a : ℕ) → r.Ticked c b l → IsFirstLife r c b → r.Died c a → b < a
   -- A cub puts nothing after the beat of its death.
   pub put : (c x a : ℕ) (t : Tenancy) → r.Put c t x → r.Died c a → x ≤ a
   -- A reading is the true time of its beat, or at most the skew above it.

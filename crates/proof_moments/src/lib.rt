@@ -2,7 +2,7 @@
 #![tactic(auto)]
 
 ghost use Rattle.proof_moments.specs.Example.{TiesCanBeMet};
-ghost use Rattle.proof_moments.specs.Moments.{NoStartIsPassedOver, NobodyReturns, RecordedBeliefsAreTrue, RecordedEntriesAreLocal, RecordedPutsAreFair, RecordedViewsArePart};
+ghost use Rattle.proof_moments.specs.Moments.{NoInstanceReturns, NoStartIsPassedOver, RecordedBeliefsAreTrue, RecordedEntriesAreLocal, RecordedPutsAreFair, RecordedViewsArePart};
 
 /// Each Put finds its slot free at the moment before it, and is rightly put, by whichever cub.
 pub fn puts_are_fair()
@@ -16,7 +16,7 @@ pub fn beliefs_are_true()
 
 /// No instance comes back after its stop, if what goes to its viewers is in time.
 pub fn nobody_comes_back()
-    ensures { NobodyReturns }
+    ensures { NoInstanceReturns }
 {}
 
 /// At every moment each record of each view is part of the schedule.
@@ -24,7 +24,7 @@ pub fn views_are_part()
     ensures { RecordedViewsArePart }
 {}
 
-/// At the end of each tick of a cub no start is passed over.
+/// If no cub comes back, no start is passed over at the end of each tick of a cub.
 pub fn nobody_is_passed_over()
     ensures { NoStartIsPassedOver }
 {}

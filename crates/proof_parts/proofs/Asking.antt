@@ -21,6 +21,7 @@ use Rattle.cub_facts.specs.Blocks.{AnsweredAt}
 use Rattle.cub_facts.specs.Facts.{Beyond, facts_by}
 use Rattle.cub_facts.specs.Pieces.{piece, AsksAt, ServesAt, pieces_by}
 use Rattle.cub_facts.specs.Pieces.{stamp_of as made_of}
+use Rattle.cub_facts.proofs.NoReturns.{same_life}
 use Rattle.proof_splits.specs.PieceRecords.{KeepsPieces}
 use Rattle.proof_splits.proofs.Standing.{keeps_pieces}
 use Rattle.proof_splits.proofs.Backups.{is_tick}
@@ -49,6 +50,7 @@ module _ (p : Params) (plan : IsPlan p) (lives : Lives) (are : AreLives p lives)
         beat = f.beat;
         arises = f.arises;
         by = f.by;
+        life = same_life p lives beyond c f.beat b;
         since = f.since;
         soon = subst (λ m. m ≤ l + lead) (sym e) (leaves_to p (l + lead) (piece t n j) leaves);
         fresh = ⊎_elim (λ q. inl q) (λ q. inr
@@ -134,6 +136,7 @@ module _ (p : Params) (plan : IsPlan p) (lives : Lives) (are : AreLives p lives)
           arises = arises_at p plan lives are formed beyond came c s.at x (lives.input c s.at) a.small
               (omega arith) refl s.enters s.new;
           by = omega arith;
+          life = same_life p lives beyond c (beat_at (lives.input c) s.at) y;
         };
         here = sym form.here;
         few = (numbered p c x form).1;

@@ -27,6 +27,7 @@ use Rattle.proof_pieces.specs.PieceLaws.{WasUndue}
 use Rattle.cub_facts.specs.Facts.{Beyond, facts_by}
 use Rattle.cub_facts.specs.Pieces.{SplitAt, pieces_by}
 use Rattle.cub_facts.specs.Pieces.{stamp_of as made_of}
+use Rattle.cub_facts.proofs.NoReturns.{same_life}
 use Rattle.proof_splits.specs.PieceRecords.{IsSplitOff, Enters, CutsOff, StandsSince}
 use Rattle.proof_splits.proofs.Backups.{before_tick, released, splits}
 use Rattle.proof_parts.proofs.CutOff.{leaves_later}
@@ -115,7 +116,9 @@ module _ (p : Params) (plan : IsPlan p) (lives : Lives) (are : AreLives p lives)
       let s = splits p plan lives are formed beyond came (split_at c a stamp x small low is w) in
       let rise = beats_rise p (lives.count c) (lives.input c) (are c small) t.at a (omega arith) low in
       let e : beat_at (lives.input c) t.at ≡ y = ap (λ (k : Input Msg). (stamp_of k).beat) t.is in
-      later c x.tenancy.instance.0 s.beat (beat_at (lives.input c) a) s.by (s.since y g (omega arith))
+      let b : ℕ = beat_at (lives.input c) a in
+      let life = same_life p lives beyond c y b in
+      later c x.tenancy.instance.0 s.beat b s.by (s.since y g (omega arith) life)
 
   -- so of one that is there at a tick
   unheld : (c i b a : ℕ) (stamp : Stamp) (x : PieceState) → c < p.cubs → i < lives.count c
@@ -123,7 +126,7 @@ module _ (p : Params) (plan : IsPlan p) (lives : Lives) (are : AreLives p lives)
       → Enters p c (lives.input c a) (store_at p c (lives.input c) a) x
       → ((j : ℕ) → j < i → CutsOff (lives.input c j) x → j < a)
       → IsUnheld p (facts_by p lives beyond) c x.tenancy.instance.0 b (beat_at (lives.input c) a)
-  unheld c i b a stamp x small low is beat le w since y g by =
+  unheld c i b a stamp x small low is beat le w since y g by life =
       let t = g.took in
       let e : beat_at (lives.input c) t.at ≡ y = ap (λ (k : Input Msg). (stamp_of k).beat) t.is in
       let before = before_tick p lives are c t.at i stamp small low t.done is (ap is_tick_input t.is) (omega arith) in

@@ -52,6 +52,7 @@ use Rattle.cub_facts.specs.Blocks.{KilledAt}
 use Rattle.cub_facts.specs.Carried.{Leads, CubsAreTold, TookInOrder}
 use Rattle.cub_facts.specs.Facts.{Beyond, facts_by}
 use Rattle.cub_facts.specs.Pieces.{piece, stamp_of as made_stamp, MirrorSentAt, MirroredAt, KillSentAt, AsksAt, ServesAt, pieces_by}
+use Rattle.cub_facts.proofs.NoReturns.{same_life}
 use Rattle.proof_splits.specs.PieceRecords.{IsSplitOff, Enters, CutsOff, StandsSince, KeepsPieces}
 use Rattle.proof_splits.proofs.PieceSets.{there_is_in}
 use Rattle.proof_splits.proofs.Standing.{keeps_pieces}
@@ -278,6 +279,7 @@ module _ (p : Params) (plan : IsPlan p) (lives : Lives) (are : AreLives p lives)
             arises = arises c d.at
                 (inputs d.at) y small low refl d.enters d.new;
             by = omega arith;
+            life = same_life p lives beyond c (beat_at inputs d.at) (x + p.delay);
           })
           (λ (e : is_in y h.pieces.items ≡ false).
           record {
@@ -295,6 +297,7 @@ module _ (p : Params) (plan : IsPlan p) (lives : Lives) (are : AreLives p lives)
               new = e;
             }));
             by = soon;
+            life = same_life p lives beyond c g.beat (x + p.delay);
           })
           (cases_Bool (is_in y h.pieces.items))))
           held_or

@@ -218,7 +218,7 @@ module _ (p : Params) (plan : IsPlan p) (lives : Lives) (are : AreLives p lives)
             beat = beat_at inputs d.at;
             entered = entered c d.at t n Backup small low taken;
             by = omega arith;
-            since = λ y g le.
+            since = λ y g le life.
                 let s = stop_before p lives are c i t.instance.0 y stamp w.tick.done w.tick.is g (omega arith) in
                 let stop = subst (λ (q : Rec). IsStop p c inputs s.at q.tenancy.instance.0) (sym w.there.1) s.stop in
                 let behind = d.behind s.at s.before stop in

@@ -27,9 +27,10 @@ use Rattle.proof_moments.specs.Ties.{IsTickBelow}
 use Rattle.proof_moments.proofs.Bridge as bridge
 use Rattle.proof_moments.proofs.Lists.{all_by, any_with}
 use Rattle.proof_moments.proofs.Truths.{ways_after}
-use Rattle.cub_facts.specs.Facts.{facts_of}
+use Rattle.cub_facts.specs.Facts.{beyond_of, facts_of}
 use Rattle.cub_facts.specs.Lives.{lives_of, CameAt, DiedAt}
 use Rattle.cub_facts.specs.Rings.{IsRingHistory, node_count}
+use Rattle.cub_facts.proofs.NoReturns.{first_life}
 use Rattle.proof_histories.proofs.Histories.{ring_laws, cubs_laws}
 use Rattle.proof_journals.specs.Journals.{AreJournalsOf}
 use Rattle.proof_journals.proofs.Living.{before_death, tick_is}
@@ -61,7 +62,7 @@ module _ (G : Type 0) (p : Params) (orders : List Order) (disk_at : ℕ → Disk
         done = before_death h c (λ i low death. is_ring.run.ended c i known low death) came.at came.done tick.1;
         is = tick.0 ∙ stamped (stamp_at (h.event c came.at)) b l came.in_beat refl;
       } in
-      w.more.ended c b l a ticked died
+      w.more.ended c b l a ticked (first_life p (lives_of h) (beyond_of p orders h) c b) died
 
   -- The heartbeat that a cub heard of one that died says nothing of a tick at which the silence is noticed.
   not_heard : (c d x b l : ℕ) → c ≡ cub_of p (d + 1) → d < p.cubs → DiedAt p h d x → TickedAt p (lives_of h) c b l

@@ -17,8 +17,10 @@ use Rattle.proof_moments.proofs.Truths.{beliefs_are_true}
 use Rattle.proof_moments.proofs.Parts.{views_are_part}
 use Rattle.proof_moments.proofs.Passing.{nobody_is_passed_over}
 use Rattle.proof_moments.proofs.Local.{entries_are_local}
-use Rattle.cub_facts.specs.Facts.{facts_of}
+use Rattle.cub_facts.specs.Facts.{beyond_of, facts_of}
+use Rattle.cub_facts.specs.Lives.{lives_of}
 use Rattle.cub_facts.specs.Rings.{IsRingHistory}
+use Rattle.cub_facts.proofs.NoReturns.{nobody}
 use Rattle.proof_histories.proofs.Histories.{in_order, laws, cubs_laws}
 use Rattle.proof_journals.specs.Journals.{AreJournalsOf}
 use Rattle.proof_journals.proofs.Recorded.{rings_are_recorded}
@@ -53,5 +55,6 @@ rings_have_one_schedule G p orders disk_at h journals beats plan is_ring are =
       part = views_are_part p r orders journals beats w;
       local = entries_are_local p r orders journals beats w (locals G p orders disk_at h journals plan is_ring are);
       belief = beliefs_are_true p r orders journals beats w;
-      patient = nobody_is_passed_over p r orders journals beats w;
+      patient = nobody_is_passed_over p r orders journals beats w
+          (nobody p (lives_of h) (beyond_of p orders h));
     }
