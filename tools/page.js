@@ -107,9 +107,9 @@ class Page {
 
   /* Has the cursor of the timeline be as high as its rows. */
   fitCursor() {
-    const {begin, top, tall} = this.run.timeline, high = this.picture.firstElementChild.viewBox.baseVal.height;
+    const {begin, end} = this.run.timeline, high = this.picture.firstElementChild.viewBox.baseVal.height;
     this.cursor.style.top = `${100 * begin / high}%`;
-    this.cursor.style.height = `${100 * (top + this.run.cubs * tall - begin) / high}%`;
+    this.cursor.style.height = `${100 * (end - begin) / high}%`;
   }
 
   /* Marks the row of what is chosen in the timeline. */
@@ -150,17 +150,23 @@ class Page {
     return this.run.atBeat(this.run.end * Math.max(0, Math.min(1, (this.pointOf(event)[0] - left) / (right - left))));
   }
 
+  /* The cub whose row, or whose band of bytes, is at a height of the timeline. */
+  cubAt(y) {
+    const {top, tall, bands} = this.run.timeline, rows = bands ? [[top, tall], bands] : [[top, tall]];
+    const found = rows.map(([first, high]) => Math.floor((y - first) / high));
+    return found.find((cub) => cub >= 0 && cub < this.run.cubs);
+  }
+
   /* Goes to the time that was clicked in the timeline, and shows the viewer or the cub of the row. */
   clickedTimeline(event) {
     if (event.button !== 0) return;
-    const {top, tall, bars} = this.run.timeline, y = this.pointOf(event)[1], time = this.timeAt(event);
-    const cub = Math.floor((y - top) / tall);
+    const {bars} = this.run.timeline, y = this.pointOf(event)[1], time = this.timeAt(event), cub = this.cubAt(y);
     const far = ({number}) => Math.max(0, bars[number][0] - y, y - bars[number][0] - bars[number][1]);
     const found = this.run.placed.filter((viewer) => bars[viewer.number] && far(viewer) <= 2)
       .filter((viewer) => this.spanOf(viewer)[0] <= time && time < this.spanOf(viewer)[1])
       .sort((one, other) => far(one) - far(other));
     this.go(time);
-    if (cub >= 0 && cub < this.run.cubs) this.choose({viewer: null, cub});
+    if (cub !== undefined) this.choose({viewer: null, cub});
     else if (found.length) this.choose({viewer: found[0].number, cub: null});
   }
 

@@ -335,6 +335,28 @@ def shows(shown):
     yield "a click on a cub", "" if good else f"{heading(shown)}: {listed}"
 
 
+def reaches(shown):
+    """The cursor is as high as the rows, those at the foot among them, and a click on a cub's band shows the cub."""
+    side = "document.{}.getBoundingClientRect().{}".format
+    cursor = [shown.value(side("getElementById('cursor')", it)) for it in ("top", "bottom")]
+    wanted = [shown.value(side("querySelector('#timeline > svg > g')", "top")),
+              shown.value(side("getElementById('bytes')", "bottom"))]
+    good = cursor[0] <= wanted[0] and abs(cursor[1] - wanted[1]) <= 4
+    yield "the cursor over the rows at the foot", "" if good else f"it is from {cursor[0]} to {cursor[1]} for {wanted}"
+    left, top, _, high = place_of(shown, "document.getElementById('bytes')")
+    shown.press("Escape")
+    shown.click(left + 200, top + high * 5.5 / 8)
+    yield "a click on a cub's bytes", "" if heading(shown) == "Cub 5" else heading(shown)
+    before = heading(shown), told(shown)
+    _, top, _, high = place_of(shown, "document.getElementById('waits')")
+    svg = "querySelector('#timeline > svg')"
+    share = shown.value(side(svg, "width")) / shown.value("page.run.timeline.wide")
+    shown.click(shown.value(side(svg, "left")) + shown.value("page.placeOf(7005000)") * share, top + high / 2)
+    after = heading(shown), told(shown)
+    good = after[0] == before[0] and after[1] == "7.00 s" != before[1]
+    yield "a click on the waits", "" if good else f"{before} becomes {after}"
+
+
 def guides(shown):
     """A key shows what goes wrong, a button goes to the next missing block, and each control has a name."""
     shown.press("Escape")
@@ -370,7 +392,7 @@ def in_a_browser(folder):
             shown.begin(1200, 900)
             shown.open(os.path.join(folder, "six.html"))
             for tried in (moves(shown), plays(shown), stands(shown, dict(kept())["six-viewers"]), tells(shown),
-                          shows(shown), guides(shown), excuses(shown, folder)):
+                          shows(shown), reaches(shown), guides(shown), excuses(shown, folder)):
                 found.extend(tried)
             found.append(("what the browser complains of", "; ".join(shown.complaints)))
     except (browser.Fault, OSError, ValueError) as why:

@@ -14,6 +14,7 @@ import json
 import os
 import re
 
+import foot
 import timeline
 from drawing import FAULT, FONT, GREY, HATCH, INK, PALE, PAPER, colour_of, escaped, printable
 from ring import tenure
@@ -72,7 +73,8 @@ def data_of(run, name, picture):
         "light": "".join(colour_of(viewer.number)[1:] for viewer in run.viewers),
         "strong": "".join(colour_of(viewer.number, 0.45)[1:] for viewer in run.viewers),
         "timeline": {"wide": timeline.WIDTH, "left": scale.left, "right": scale.right, "begin": picture.top,
-                     "top": top, "tall": tall, "bars": [bar and [round(side, 1) for side in bar] for bar in bars]},
+                     "top": top, "tall": tall, "bars": [bar and [round(side, 1) for side in bar] for bar in bars],
+                     "end": picture.bottom, "bands": picture.bands and [picture.bands, foot.BAND]},
     }
 
 

@@ -51,6 +51,13 @@ def wait_of(viewer):
     return min(sent) - viewer.asked if sent else None
 
 
+def median(ordered):
+    """The median of some whole numbers in order, None if there is none: of an even number of them the mean of the two
+    in the middle, with a digit behind the point if it is not whole."""
+    twice = sum(ordered[at] for at in ((len(ordered) - 1) // 2, len(ordered) // 2)) if ordered else None
+    return twice if twice is None else twice / 2 if twice % 2 else twice // 2
+
+
 def block_rows(run):
     """A row for each block of the report, in its order."""
     for viewer in run.viewers:

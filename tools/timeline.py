@@ -1,11 +1,12 @@
-"""Draws a run over its time: the slots with their viewers and blocks, and below them what each cub sends and when it is
-dead or a disk of it cannot be read.
+"""Draws a run over its time: the slots with their viewers and blocks, below them what each cub sends and when it is
+dead or a disk of it cannot be read, and at the foot how long viewers waited and how many bytes were sent.
 
 Where there are many slots, viewers or sends the picture is thinned, and says so in a line below its title.
 """
 import collections
 import math
 
+import foot
 from drawing import (DEAD, FAULT, GREY, INK, PALE, PIECES, Drawing, Scale, colour_of, counted, cut, escaped, filled,
                      legend, longest, number, seconds, width_of)
 from reports import REASONS
@@ -20,7 +21,7 @@ HIGH = 24  # the height of the row of all missing blocks
 COLUMN = 2  # the points of width in which sends beyond these are one
 RED = {"dead": "#8a0f16", "read": "#e0312a", "piece": "#f58a80"}
 WORDS = {"dead": "its cub was dead", "read": "its read failed", "piece": "a piece did not come"}
-FREE, MERGED = "#f4f5f8", "#6b7c99"
+FREE, MERGED = "#f4f5f8", foot.SENT
 
 
 class Picture:
@@ -34,7 +35,8 @@ class Picture:
         self.is_thin = self.is_merged = False  # whether rows have no words, and whether sends are drawn as one
         self.labelled = 0  # where the last words at the left of a row stand
         self.bars, self.lanes = {}, (0, 0)  # the top and the height of each viewer's bar, and of the first cub's row
-        self.top = 0  # where the rows begin
+        self.top = self.bottom = 0  # where the rows begin, and where they end
+        self.bands = None  # the top of the first cub's band of bytes, if each cub has one
 
 
 def timeline(run, name):
@@ -53,12 +55,15 @@ def drawn(picture, name, head):
     run = picture.run
     rows = slot_rows(picture)
     sends = sends_by_cub(run)
+    waits, sent = foot.Waits(run), foot.Bytes(run, sends)
     note_sends(picture, sends)
+    foot.note(picture)
     y = heading(picture, head(picture, name), "Slots: who has them, and how each block came")
     y = draw_slots(picture, y, rows)
     y = heading(picture, y, "Cubs: what each one sends, as the report tells it")
     y = draw_cubs(picture, y, sends)
-    y = legend(picture.drawing, entries(picture), LEFT, y + 34, WIDTH - 8)
+    y = picture.bottom = foot.draw_foot(picture, y, waits, sent)
+    y = legend(picture.drawing, entries(picture) + foot.entries(picture, waits, sent), LEFT, y + 34, WIDTH - 8)
     return picture.drawing.svg(y + 12, f"{name}: {totals_of(run)}")
 
 
@@ -386,11 +391,11 @@ def cub_height(cubs):
 
 
 def sends_by_cub(run):
-    """What is sent: the cub, the beat, the viewer's number and whether it is a piece."""
+    """What is sent: the cub, the beat, the viewer's number, whether it is a piece, and its bytes."""
     cubs = run.scenario.cubs
-    return [((viewer.first + block.number + ahead) % cubs, beat, viewer.number, block.kind == "pieces")
-            for viewer in run.placed() for block in viewer.blocks
-            for ahead, beat in enumerate(block.sent, 1 if block.kind == "pieces" else 0)]
+    return [((viewer.first + block.number + at + (block.kind == "pieces")) % cubs, beat, viewer.number,
+             block.kind == "pieces", (at + 1) * block.length // len(block.sent) - at * block.length // len(block.sent))
+            for viewer in run.placed() for block in viewer.blocks for at, beat in enumerate(block.sent)]
 
 
 def note_sends(picture, sends):
@@ -421,7 +426,7 @@ def draw_cubs(picture, y, sends):
         draw_death(picture, y + cub * tall, tall, beat, taken[cub])
     if picture.is_merged:
         scale = picture.scale
-        draw_merged(picture, y, tall, [(cub, scale.at(beat * scenario.beat)) for cub, beat, _, _ in sends], MERGED)
+        draw_merged(picture, y, tall, [(cub, scale.at(beat * scenario.beat)) for cub, beat, *_ in sends], MERGED)
         for red in RED.values():
             draw_merged(picture, y, tall, [(cub, x) for cub, x, colour in unsent if colour == red], red)
     else:
@@ -445,7 +450,7 @@ def taken_by_cub(picture, sends, unsent):
     taken = collections.defaultdict(list)
     for cub, x, _ in unsent:
         taken[cub].append(x)
-    beats = [] if picture.is_merged else [(cub, beat) for cub, beat, _, _ in sends]
+    beats = [] if picture.is_merged else [(cub, beat) for cub, beat, *_ in sends]
     beats += [*scenario.deaths.items(), *((disk % scenario.cubs, begin) for disk, begin, _ in scenario.faults)]
     for cub, beat in beats:
         taken[cub].append(scale.at(beat * scenario.beat))
@@ -494,7 +499,7 @@ def free_place(begin, wide, marks):
 def draw_sends(picture, y, tall, sends):
     """Draws each send in its viewer's colour: a piece is half as tall as a whole block."""
     paths = collections.defaultdict(list)
-    for cub, beat, viewer, is_piece in sends:
+    for cub, beat, viewer, is_piece, _ in sends:
         x = picture.scale.at(beat * picture.scenario.beat)
         high = (tall - 4) / 2 if is_piece else tall - 4
         paths[viewer].append(f"M{number(x)} {number(y + (cub + 1) * tall - 2)}v{number(-high)}")
