@@ -28,8 +28,8 @@ WRONG = (  # words that a tool does not take
     "bench --rounds 0", "bench --workers 0", "bench nothing", "bench --beside /nowhere", "hostile 1 0", "hostile",
     "hostile --costs --tiger /nowhere", "hostile 1 1 --program /nowhere", "refuse-allocations --last 0",
     "refuse-allocations --workers 0", "refuse-rules --only nothing-of-this-name", "refuse-rules --libraries /nowhere",
-    "wrong-bodies nothing", "explain", "picture", "picture one.json --at x", "check-program --program /nowhere",
-    "build x")
+    "wrong-bodies nothing", "plant-bugs 1 0", "plant-bugs 1 1 --crates nothing", "explain", "picture",
+    "picture one.json --at x", "check-program --program /nowhere", "build x")
 TRIES = (  # the words of tools that try a program, whichever it is
     "stress 1 1", "draw 1 2 --reference PROGRAM", "conformance made", "deaths", "bench made --rounds 1", "hostile 1 1",
     "refuse-allocations --last 1")

@@ -69,10 +69,11 @@ class Prover:
         logic = f"{self.kit}/rattle/logic/antt-project.json"
         return [*words, "--antt-project", logic, "--logic-built", f"{self.kit}/logic_built", "--jobs", "1"]
 
-    def check(self, crate, functions, folder):
+    def check(self, crate, functions, folder, kept=None):
         """Checks these functions of a crate, whose src/, specs/ and proofs/ stand in a folder; all of them if there is
-        none. The exit status, and the lines that the check wrote."""
-        words = self.words(crate)
+        none. If a second folder is given, what is proved is kept there for later checks of the crate. The exit status, and
+        the lines that the check wrote."""
+        words = self.words(crate) + (["--incremental", kept] if kept else [])
         for name in functions:
             words += ["--only", name]
         ran = program.run(words, folder, is_limited=False, stderr=subprocess.STDOUT)
@@ -85,12 +86,15 @@ class Prover:
             for at, folders, names in os.walk(os.path.join(self.folder(crate), part)):
                 folders.sort()
                 read += [(os.path.relpath(path, self.top), path) for path in (os.path.join(at, it) for it in sorted(names))]
-        for name in self.below(crate):
-            sums = os.path.join(self.library(name), "format")
-            if not os.path.isfile(sums):
+        return sum_of(read + self.sums(crate)) + " ".join(self.used[crate])
+
+    def sums(self, crate):
+        """The name of each library below a crate, and the file there that has its checksums."""
+        found = [(name, os.path.join(self.library(name), "format")) for name in self.below(crate)]
+        for name, path in found:
+            if not os.path.isfile(path):
                 raise NotBuilt(f"{name} is not built: run rt ci first")
-            read.append((name, sums))
-        return sum_of(read) + " ".join(self.used[crate])
+        return found
 
     def copy(self, crate, folder):
         """Copies to a folder what a check of a crate reads of it."""

@@ -10,6 +10,7 @@ import re
 import shutil
 import subprocess
 import tempfile
+import time
 
 import program
 
@@ -164,23 +165,31 @@ def refused(folder, group, room):
     lines = said.rstrip("\n").split("\n")
     if status != 1 or not any(line.startswith("logic=not-proved") for line in lines):
         return {}
+    return told_of(lines, group)
+
+
+def told_of(lines, group):
+    """What the lines of a check say of each edit of a group whose function they refuse, by name."""
     told = {edit.name: next((it for it in lines if is_of(it, edit, function)), None) for edit, function in group}
     return {name: said for name, said in told.items() if said}
 
 
-def refused_alone(prover, crate, group, room):
-    """What a check of the changed functions alone says of each edit of a group that it refuses, by name. What the check
-    reads of the crate is copied to the room, and the group's edits change the copy."""
+def checked_alone(prover, crate, group, room, kept=None):
+    """The status and the lines of a check of the changed functions alone. What the check reads of the crate is copied to the
+    room, and the group's edits change the copy."""
     folder = tempfile.mkdtemp(dir=room)
     prover.copy(crate, folder)
     functions = [path_of(edit.file, text_of(os.path.join(folder, edit.file)).split("\n"), function) for edit, function in group]
     with edited(folder, [edit for edit, _ in group]):
-        status, lines = prover.check(crate, functions, folder)
+        ended = prover.check(crate, functions, folder, kept)
     shutil.rmtree(folder, ignore_errors=True)
-    if status != 1 or not ONLY.fullmatch(lines[-1]):
-        return {}
-    told = {edit.name: next((it for it in lines if is_of(it, edit, function)), None) for edit, function in group}
-    return {name: said for name, said in told.items() if said}
+    return ended
+
+
+def refused_alone(prover, crate, group, room):
+    """What a check of the changed functions alone says of each edit of a group that it refuses, by name."""
+    status, lines = checked_alone(prover, crate, group, room)
+    return told_of(lines, group) if status == 1 and ONLY.fullmatch(lines[-1]) else {}
 
 
 def refused_together(folder, paths, room):
@@ -190,3 +199,12 @@ def refused_together(folder, paths, room):
         if len(group) > 1:
             told.update(refused(folder, group, room))
     return told
+
+
+def remove(folder):
+    """Removes the copy, into which a check that was just cut off may still write for a moment."""
+    for _ in range(50):
+        shutil.rmtree(folder, ignore_errors=True)
+        if not os.path.exists(folder):
+            return
+        time.sleep(0.1)
