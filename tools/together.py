@@ -15,7 +15,7 @@ import time
 import program
 
 HEAD = re.compile(r"( *)(?:pub(?:\(crate\))? )?fn (\w+)")
-IMPL = re.compile(r"( *)impl(?:<.*?>)? (?:([\w:]+)(?:<.*>)? for )?([\w:]+)")
+IMPL = re.compile(r"( *)impl(?:<.*?>)? (?:([\w:]+)(?:<(\w\w+)?.*>)? for )?([\w:]+)")
 IN_SOURCE = re.compile(r"(?:note: )?(src/\S+?):(\d+):\d+: .*")
 IN_PROOFS = re.compile(r"(?:note: )?(?:\./)?proofs/(\S+)/\w+\.antt:\d+:\d+: error.*")
 # The last line of a check of some functions: how many it was asked for, and how many are proved.
@@ -72,12 +72,27 @@ def functions_in(lines):
 
 
 def path_of(file, lines, function):
-    """The name of a function as a check prints it, but for its crate: its module, its type (with the trait, if it is of an
-    impl of one), and its own name."""
-    module = [it for it in file[len("src/"):-len(".rt")].split("/") if it not in ("lib", "main")]
+    """The name of a function as a check prints it, but for its crate: its module, its type (with the trait and what this is
+    of, if it is of an impl of one, but for `Drop`), and its own name."""
     within = len(HEAD.match(lines[function.head - 1])[1])
     impl = next((it for it in map(IMPL.match, reversed(lines[:function.head - 1])) if it and len(it[1]) < within), None)
-    return "::".join(module + ([impl[3] + (impl[2] or "").split("::")[-1]] if within and impl else []) + [function.name])
+    if not (within and impl):
+        return "::".join([*modules_of(file), function.name])
+    trait = (impl[2] or "").split("::")[-1]
+    if trait:
+        return "::".join([*modules_of(file), impl[4] + trait.replace("Drop", "") + (impl[3] or ""), function.name])
+    return "::".join([*home_of(impl[4], file, lines), impl[4], function.name])
+
+
+def modules_of(file):
+    """The modules of a source file."""
+    return [it for it in file[len("src/"):-len(".rt")].split("/") if it not in ("lib", "main")]
+
+
+def home_of(name, file, lines):
+    """The modules of a type of the crate that is named in a source file."""
+    uses = re.compile(rf"use crate::([\w:]+)::(?:\{{.*\b)?{name}\b")
+    return next((it[1].split("::") for it in map(uses.match, lines) if it), modules_of(file))
 
 
 def changed_body(edit, text):
