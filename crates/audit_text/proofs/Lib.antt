@@ -1,0 +1,5 @@
+pub mod Again
+pub mod Feeds
+pub mod Gathering
+mod Numbers
+pub mod Whole

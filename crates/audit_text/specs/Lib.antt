@@ -1,0 +1,9 @@
+pub mod Fields
+pub mod Fits
+pub mod Laws
+pub mod Lines
+pub mod Reading
+pub mod Samples
+pub mod Scanning
+pub mod Texts
+pub mod Words

@@ -1,0 +1,137 @@
+//! What the numbers of a line are from a place on: a missing number is 0, and one that is too large is cut.
+ghost use Rattle.std.specs.Prelude.{◌≡◌, ◌≤◌};
+ghost use Rattle.audit_text.specs.Reading.{long_at, short_at, kind_at, tenancy_at, state_at, piece_at, record_at, ask_at, want_at, span_at, tag_at, part_at};
+
+use tiger_base::{
+    Ask, DiskNo, FileNo, Instance, Kind, PieceState, Rec, SlotNo, Span, State, Tag, Tenancy, Want,
+};
+
+pub fn long_at(ns: &[u64], i: usize) -> u64
+    ensures { result ≡ long_at ns.now i }
+{
+    match ns.get(i) {
+        Some(n) => *n,
+        None => 0,
+    }
+}
+
+pub fn short_at(ns: &[u64], i: usize) -> u32
+    ensures { result ≡ short_at ns.now i }
+{
+    (long_at(ns, i) % 4294967296) as u32
+}
+
+pub fn kind_at(ns: &[u64], i: usize) -> Kind
+    ensures { result ≡ kind_at ns.now i }
+{
+    if long_at(ns, i) == 0 {
+        Kind::Own
+    } else {
+        Kind::Backup
+    }
+}
+
+pub fn tenancy_at(ns: &[u64], i: usize) -> Tenancy
+    requires { i ≤ 100 }
+    ensures { result ≡ tenancy_at ns.now i }
+{
+    Tenancy {
+        instance: Instance(short_at(ns, i)),
+        file: FileNo(short_at(ns, i + 1)),
+        slot: SlotNo(short_at(ns, i + 2)),
+        first: long_at(ns, i + 3),
+        last: long_at(ns, i + 4),
+    }
+}
+
+pub fn state_at(ns: &[u64], i: usize) -> State
+    requires { i ≤ 90 }
+    ensures { result ≡ state_at ns.now i }
+{
+    State {
+        tenancy: tenancy_at(ns, i),
+        visit: long_at(ns, i + 5),
+    }
+}
+
+pub fn piece_at(ns: &[u64], i: usize) -> PieceState
+    requires { i ≤ 90 }
+    ensures { result ≡ piece_at ns.now i }
+{
+    PieceState {
+        tenancy: tenancy_at(ns, i),
+        visit: long_at(ns, i + 5),
+        piece: short_at(ns, i + 6),
+    }
+}
+
+pub fn record_at(ns: &[u64], i: usize) -> Rec
+    requires { i ≤ 90 }
+    ensures { result ≡ record_at ns.now i }
+{
+    Rec {
+        tenancy: tenancy_at(ns, i),
+        visit: long_at(ns, i + 5),
+        kind: kind_at(ns, i + 6),
+    }
+}
+
+pub fn ask_at(ns: &[u64], i: usize) -> Ask
+    requires { i ≤ 100 }
+    ensures { result ≡ ask_at ns.now i }
+{
+    Ask {
+        instance: Instance(short_at(ns, i)),
+        file: FileNo(short_at(ns, i + 1)),
+        count: long_at(ns, i + 2),
+        disk: DiskNo(short_at(ns, i + 3)),
+    }
+}
+
+pub fn want_at(ns: &[u64], i: usize) -> Want
+    requires { i ≤ 100 }
+    ensures { result ≡ want_at ns.now i }
+{
+    Want {
+        visit: long_at(ns, i + 2),
+        block: long_at(ns, i + 4),
+        instance: Instance(short_at(ns, i)),
+        slot: SlotNo(short_at(ns, i + 1)),
+        file: FileNo(short_at(ns, i + 3)),
+        piece: short_at(ns, i + 5),
+    }
+}
+
+pub fn span_at(ns: &[u64], i: usize) -> Span
+    requires { i ≤ 100 }
+    ensures { result ≡ span_at ns.now i }
+{
+    Span {
+        file: FileNo(short_at(ns, i)),
+        from: long_at(ns, i + 1),
+        len: long_at(ns, i + 2),
+    }
+}
+
+pub fn tag_at(ns: &[u64], i: usize) -> Option<Tag>
+    requires { i ≤ 100 }
+    ensures { result ≡ tag_at ns.now i }
+{
+    if long_at(ns, i) == 0 {
+        return None;
+    }
+    Some(Tag {
+        slot: SlotNo(short_at(ns, i + 1)),
+        visit: long_at(ns, i + 2),
+    })
+}
+
+pub fn part_at(ns: &[u64], i: usize) -> Option<Span>
+    requires { i ≤ 90 }
+    ensures { result ≡ part_at ns.now i }
+{
+    if long_at(ns, i) == 0 {
+        return None;
+    }
+    Some(span_at(ns, i + 1))
+}
