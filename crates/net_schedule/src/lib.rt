@@ -16,5 +16,5 @@ mod world;
 
 pub use cub::{Asked, NetCub};
 pub use packet::Packet;
-pub use ring::{Entry, NetRing, NetState, Own};
+pub use ring::{Entry, NetRing, NetState, Own, quanta_in, takes};
 pub use world::{NetEvent, NetStop, NetWorld};

@@ -59,7 +59,7 @@ impl NetState {
 }
 
 /// How many quanta the ring has.
-pub(crate) fn quanta_in(ring: &NetRing) -> u32
+pub fn quanta_in(ring: &NetRing) -> u32
     requires { IsRing ring.now }
     ensures is { result ≡ quanta_in ring.now }
     ensures few { result ≤ most_quanta }
@@ -68,7 +68,7 @@ pub(crate) fn quanta_in(ring: &NetRing) -> u32
 }
 
 /// Whether an entry that begins at one quantum takes another one.
-pub(crate) fn takes(ring: &NetRing, at: u32, quantum: u32) -> bool
+pub fn takes(ring: &NetRing, at: u32, quantum: u32) -> bool
     requires ring { IsRing ring.now }
     requires at { at < most_quanta }
     requires quantum { quantum < most_quanta }

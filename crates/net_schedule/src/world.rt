@@ -3,6 +3,7 @@
 ghost use Rattle.std.specs.Prelude.{◌≡◌, ◌<◌, Some, None, IfSome, slice_get, IfOk, OnOk, OnErr, IfErr, unwrap_or};
 ghost use Rattle.net_schedule.specs.Rings.{IsRing};
 ghost use Rattle.net_schedule.specs.Worlds.{fresh_world, cub_at, IsPossible, CanTurn, WasSent, after, moved, fault_of, asked_at, actor_of, turn_of, state_at, no_memory};
+ghost use Rattle.net_schedule.specs.Links.{IsWorld};
 ghost use Rattle.net_schedule.specs.Claims.{KeepsToCapacity, KeepsWhatIsAsked};
 ghost use Rattle.net_schedule.specs.Settled.{IsMadeByEvents, SettlesEach, SettlesAll};
 
@@ -142,8 +143,9 @@ impl NetWorld {
     }
 
     /// At every moment no quantum carries more than the capacity, and what a cub keeps quanta for was
-    /// asked for at its predecessor.
+    /// asked for at its predecessor; and what always holds of a ring from which that follows.
     pub fn is_safe(&self)
+        ensures world { IsWorld self.now }
         ensures capacity { KeepsToCapacity self.now }
         ensures asked { KeepsWhatIsAsked self.now }
     {
@@ -191,8 +193,8 @@ impl NetWorld {
         }
     }
 
-    /// The cub that was asked for an instance.
-    fn asked_at(&self, v: Instance) -> Option<u32>
+    /// The cub that was asked for an instance; `None` exactly if none was.
+    pub fn asked_at(&self, v: Instance) -> Option<u32>
         ensures cub { result ≡ asked_at self.now v }
         ensures low { IfSome result (λ c. c < self.now.ring.cubs) }
     {

@@ -1,0 +1,4 @@
+pub mod Meaning
+pub mod Orders
+pub mod Plans
+pub mod Samples

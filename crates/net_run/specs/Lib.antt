@@ -1,0 +1,5 @@
+pub mod Peaks
+pub mod Runs
+pub mod Samples
+pub mod Sent
+pub mod Text
