@@ -9,4 +9,5 @@ pub mod Forms
 pub mod Settled
 pub mod Came
 pub mod Counts
-pub mod Known
+pub mod Hashing
+pub mod Filling

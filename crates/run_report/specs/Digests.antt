@@ -1,11 +1,11 @@
 -- The digests of what the viewers got.
-use Rattle.std.specs.Prelude.{◌≡◌, ◌&&◌, ℕ, Bool, true, false, List, [], length, take, drop, map, slice_get, unwrap_or, if◌then◌else◌}
-use Rattle.std.specs.Bool.{beq}
-use Rattle.std.specs.List.{flat_map}
+use Rattle.std.specs.Prelude.{◌≡◌, ℕ, suc, Bool, true, false, List, [], Option, Some, take, drop, map, slice_get, unwrap_or, if◌then◌else◌}
+use Rattle.std.specs.List.{flat_map, filter}
 use Rattle.sha2.specs.Sha256.{sha256}
+use Rattle.sha2.specs.Hashers.{Holds256}
 use Rattle.tiger_base.specs.declared.part.Span.{Span}
 use Rattle.node_kit.specs.declared.course.Digest32.{Digest32}
-use Rattle.run_model.specs.Tests.{same_span}
+use Rattle.run_report.specs.declared.digest.Front.{Front}
 use Rattle.run_report.specs.declared.outcome.BlockKind.{BlockKind}
 use Rattle.run_report.specs.declared.outcome.BlockKind.TheVariants as kind
 use Rattle.run_report.specs.declared.outcome.BlockOut.{BlockOut}
@@ -37,20 +37,27 @@ digest_of library o = record { 0 = sha256 (got_bytes library o.blocks) }
 unfoldable pub digests_of : List (List ℕ) → List Outcome → List Digest32
 digests_of library outcomes = map (digest_of library) outcomes
 
--- whether two blocks were got and have the same span, or neither was got
-abbrev pub is_same_block : BlockOut → BlockOut → Bool
-is_same_block a b = beq (is_got a.kind) (is_got b.kind) && same_span a.span b.span
+-- the spans of those blocks that were got, in order
+unfoldable pub got_spans : List BlockOut → List Span
+got_spans blocks = map (λ (b : BlockOut). b.span) (filter (λ (b : BlockOut). is_got b.kind) blocks)
 
--- the same bytes were got of these blocks, whatever the library is
-abbrev pub AreSameBytes : List BlockOut → List BlockOut → Type 0
-AreSameBytes xs ys = (library : List (List ℕ)) → got_bytes library xs ≡ got_bytes library ys
+-- the library's bytes of spans, one after another, and their digest
+unfoldable pub spans_bytes : List (List ℕ) → List Span → List ℕ
+spans_bytes library spans = flat_map (span_bytes library) spans
 
--- these are the digests of the first starts
-abbrev pub AreDigests : List (List ℕ) → List Outcome → List Digest32 → Type 0
-AreDigests library outcomes digests =
-    digests ≡ map (digest_of library) (take (length digests) outcomes)
+unfoldable pub digest_of_spans : List (List ℕ) → List Span → Digest32
+digest_of_spans library spans = record { 0 = sha256 (spans_bytes library spans) }
 
--- a digest is that of a start, whatever library the digests of the first starts are of
-abbrev pub IsKnownDigest : List Outcome → List Digest32 → Outcome → Digest32 → Type 0
-IsKnownDigest outcomes digests o digest =
-    (library : List (List ℕ)) → AreDigests library outcomes digests → digest ≡ digest_of library o
+-- spans that were hashed, and the library whose bytes they are
+pub record Hashed : Type 0 where
+  pub library : List (List ℕ)
+  pub spans : List Span
+
+abbrev pub spans_of : List Front → List Span
+spans_of fronts = map (λ (f : Front). f.span) fronts
+
+-- the state behind each span has the bytes of this span and of all before it
+abbrev pub AreFronts : List (List ℕ) → List Front → Type 0
+AreFronts library fronts =
+    (i : ℕ) (f : Front) → slice_get fronts i ≡ Some f
+    → Holds256 f.state (spans_bytes library (take (suc i) (spans_of fronts)))

@@ -17,6 +17,7 @@ mod tally;
 mod text;
 mod times;
 mod told;
+mod turns;
 
 use crate::text::{outcomes_text, push_size, push_total};
 pub use digest::digests_of;

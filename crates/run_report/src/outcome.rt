@@ -1,4 +1,6 @@
 //! What became of each start.
+ghost use Rattle.std.specs.Prelude.{◌≡◌};
+ghost use Rattle.run_report.specs.Digests.{is_got};
 
 use tiger_base::{Ask, Beat, Micros, Sequence, Span, Tenancy};
 
@@ -22,6 +24,19 @@ pub enum BlockKind {
     Pieces { len: u64, sent: Sequence<Beat> },
     /// Not at all.
     Missing(Reason),
+}
+
+impl BlockKind {
+    /// Whether the block was got, whole or in pieces.
+    pub fn is_got(&self) -> bool
+        ensures { result ≡ is_got self.now }
+    {
+        match self {
+            BlockKind::Whole { .. } => true,
+            BlockKind::Pieces { .. } => true,
+            BlockKind::Missing(_) => false,
+        }
+    }
 }
 
 /// The block of a visit that is settled.

@@ -1,7 +1,12 @@
-use Rattle.std.proofs.Common.{◌≡◌, map, take}
-use Rattle.run_report.specs.Digests.{digest_of}
+use Rattle.std.proofs.Common.{◌≡◌, length, take}
+use Rattle.run_report.specs.Digests.{digests_of}
+use Rattle.run_report.specs.Turns.{AreFilled}
 use Rattle.run_report.proofs.digest.digests_of.Given as goal
 
--- the digests of the starts so far
-abbrev pub invariant-loop-outcome : goal.invariant-loop-outcome
-invariant-loop-outcome l = l.digests.items ≡ map (digest_of l.library) (take l.outcome-index l.outcomes)
+-- the digests of the starts whose turns are over stand at their places
+abbrev pub invariant-loop-turn : goal.invariant-loop-turn
+invariant-loop-turn l = record {
+  library : l.fronts.library ≡ l.library;
+  len : length l.digests.items ≡ length l.outcomes;
+  filled : AreFilled (digests_of l.library l.outcomes) l.digests.items (take l.turn-index l.turn-items);
+}
