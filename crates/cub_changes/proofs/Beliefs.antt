@@ -22,13 +22,15 @@ use Rattle.cub_rules.specs.Messages.{taking}
 use Rattle.cub_rules.specs.Ticks.{number, ticking}
 use Rattle.cub_changes.specs.Changes.{Change, did}
 use Rattle.cub_changes.specs.Changes.Change.{DropStart, QueueApart, HearBeat, Believe, PutStart}
-use Rattle.cub_changes.specs.Causes.{In, Stage, Cause}
+use Rattle.cub_changes.specs.Causes.{Stage, Cause}
+use Rattle.lists.specs.Elements.{In}
 use Rattle.cub_changes.specs.Causes.Stage.{OnMessage, OnRelease, OnDeadman, OnInsertion, OnService}
 use Rattle.cub_changes.specs.Outputs.{Output, output, ComesOf}
 use Rattle.cub_changes.specs.Outputs.Output.{Believed}
 use Rattle.cub_changes.specs.Laws.{believed_out, CubsKeepBelief}
 use Rattle.cub_changes.proofs.Closed.{IsClosed}
-use Rattle.cub_changes.proofs.Members.{all_in, in_left, in_right, in_cases}
+use Rattle.lists.proofs.Each.{all_in}
+use Rattle.lists.proofs.Elements.{in_left, in_right, in_cases}
 use Rattle.cub_changes.proofs.Messages.{taking_by}
 use Rattle.cub_changes.proofs.Ticks.{IsOfTick, ticking_by}
 use Rattle.cub_changes.proofs.Outputs.{forms_of}

@@ -8,7 +8,8 @@ use Rattle.node_kit.specs.Steps.{Deed}
 use Rattle.node_kit.specs.Deeds.{nothing, then_do, each_in_turn}
 use Rattle.cub_rules.specs.declared.store.Store.{Store}
 use Rattle.cub_changes.specs.Changes.{Change, did}
-use Rattle.cub_changes.specs.Causes.{In, Stage, Cause}
+use Rattle.cub_changes.specs.Causes.{Stage, Cause}
+use Rattle.lists.specs.Elements.{In}
 
 -- it holds if nothing is done, and of one deed after another
 pub record IsClosed (P : Store → Deed Msg Store → Type 0) : Type 0 where

@@ -4,7 +4,7 @@ use Rattle.tiger_base.specs.declared.number.Stamp.{Stamp}
 use Rattle.slot_plan.specs.declared.params.Params.{Params}
 use Rattle.cub_rules.specs.declared.store.Store.{Store}
 use Rattle.cub_changes.specs.Changes.{Change}
-use Rattle.cub_changes.specs.Changes.Change.{PassOn, TakeRecord, Queue, QueueApart, AddPiece, Release, Believe, PutStart, SendFirst, SendPlaced, SplitVisits, Forward, AskBlocks, AskPieces, ServeBlocks, DropBackups, ServePieces, Beat}
+use Rattle.cub_changes.specs.Changes.Change.{TakeRecord, Queue, QueueApart, AddPiece, Release, Believe, PutStart, SendFirst, SendPlaced, SplitVisits, Forward, AskBlocks, AskPieces, ServeBlocks, DropBackups, ServePieces, Beat}
 use Rattle.cub_changes.specs.Causes.{Stage, Cause}
 use Rattle.cub_changes.specs.Causes.Stage.{OnMessage, OnRelease, OnDeadman, OnInsertion, OnService}
 
@@ -76,7 +76,6 @@ module _ (p : Params) (c : ℕ) (stamp : Stamp) (from : Store) where
   fits (OnMessage link m) ServePieces h a = a
   fits (OnMessage link m) other h a = tt
   fits OnDeadman Believe h a = tt
-  fits OnDeadman (PassOn v k) h a = a.0
   fits OnDeadman (TakeRecord r) h a = a.0
   fits OnDeadman (Queue b) h a = a.0
   fits OnDeadman (QueueApart b) h a = a.0
@@ -91,7 +90,6 @@ module _ (p : Params) (c : ℕ) (stamp : Stamp) (from : Store) where
   fits OnInsertion (PutStart t) h a = tt
   fits OnInsertion (SendFirst t) h a = tt
   fits OnInsertion (SendPlaced t) h a = tt
-  fits OnInsertion (PassOn v k) h a = a.0
   fits OnInsertion (Queue b) h a = a.0
   fits OnInsertion (QueueApart b) h a = a.0
   fits OnInsertion (AddPiece x) h a = a.0
@@ -100,7 +98,6 @@ module _ (p : Params) (c : ℕ) (stamp : Stamp) (from : Store) where
   fits OnInsertion Beat h a = a.0
   fits OnInsertion other h a = a
   fits OnRelease Release h a = tt
-  fits OnRelease (PassOn v k) h a = a.0
   fits OnRelease (TakeRecord r) h a = a.0
   fits OnRelease (Queue b) h a = a.0
   fits OnRelease (QueueApart b) h a = a.0
@@ -121,7 +118,6 @@ module _ (p : Params) (c : ℕ) (stamp : Stamp) (from : Store) where
   fits OnService DropBackups h a = tt
   fits OnService ServePieces h a = tt
   fits OnService Beat h a = tt
-  fits OnService (PassOn v k) h a = a.0
   fits OnService (TakeRecord r) h a = a.0
   fits OnService (Queue b) h a = a.0
   fits OnService (QueueApart b) h a = a.0

@@ -1,5 +1,5 @@
 -- A start stands in a cub's lists until it is put or told of, and came there as a start.
-use Rattle.std.proofs.Common.{◌≡◌, ℕ, [], ◌∷◌, ◌++◌, Bool, true, false, not, refl, ap, ◌∙◌, ⊎_elim, inl, inr}
+use Rattle.std.proofs.Common.{◌≡◌, ℕ, List, [], ◌∷◌, ◌++◌, Bool, true, false, not, refl, ap, ◌∙◌, ⊎_elim, inl, inr}
 use Rattle.std.specs.Prelude.{◌⊎◌}
 use Rattle.std.proofs.lemmas.Bool.{cases_Bool, eqb-true}
 use Rattle.tiger_base.specs.declared.number.Instance.{Instance}
@@ -10,17 +10,19 @@ use Rattle.tiger_base.specs.declared.message.Msg.{Msg}
 use Rattle.tiger_base.specs.declared.message.Msg.TheVariants as msg
 use Rattle.slot_plan.specs.declared.params.Params.{Params}
 use Rattle.node_kit.specs.declared.journal.What.TheVariants as what
+use Rattle.node_kit.specs.declared.outbox.Out.{Out}
 use Rattle.node_kit.specs.declared.outbox.Out.TheVariants as out
 use Rattle.node_kit.specs.Steps.{Deed, Input}
 use Rattle.node_kit.specs.Steps.Input.{Take, Tick}
 use Rattle.insert_queue.specs.Queues.{Queues, is_of, without_start}
 use Rattle.cub_rules.specs.declared.store.Store.{Store}
 use Rattle.cub_changes.specs.Changes.Change.{DropStart, Queue, QueueApart, Believe, PutStart}
-use Rattle.cub_changes.specs.Causes.{In, Stage, MayDrop, MayQueue}
+use Rattle.cub_changes.specs.Causes.{Stage, MayDrop, MayQueue}
+use Rattle.lists.specs.Elements.{In}
 use Rattle.cub_changes.specs.Causes.Stage.{OnMessage}
-use Rattle.cub_changes.specs.Laws.{IsStartOf, TellsOf, KeepsStart, CubsKeepStarts}
+use Rattle.cub_changes.specs.Laws.{IsStartOf, TellsOf, HasPutOf, KeepsStart, CubsKeepStarts}
 use Rattle.cub_changes.proofs.Closed.{IsClosed, OfEach}
-use Rattle.cub_changes.proofs.Members.{in_left, in_right, in_cases, in_filter, from_filter}
+use Rattle.lists.proofs.Elements.{in_left, in_right, in_cases, in_filter, from_filter}
 use Rattle.cub_changes.proofs.Messages.{taking_by}
 use Rattle.cub_changes.proofs.Ticks.{IsOfTick, ticking_by}
 
@@ -43,22 +45,32 @@ module _ (i : Input Msg) (a : Ask) where
   Keeps : Store → Deed Msg Store → Type 0
   Keeps h d = KeepsStart i a h d
 
+  -- an event of these outputs tells of the instance, or puts it
+  IsGone : List (Out Msg) → Type 0
+  IsGone outs = TellsOf i a.instance ⊎ HasPutOf a.instance outs
+
+  -- what one deed keeps until that, and then another one, both keep
+  stays_both : {X Y : Type 0} (d e : Deed Msg Store) → X ⊎ IsGone d.outs → (X → Y ⊎ IsGone e.outs) → Y ⊎ IsGone (d.outs ++ e.outs)
+  unfolding IsGone
+  stays_both d e one two = ⊎_elim
+      (λ q. ⊎_elim
+      (λ w. inl w)
+      (λ w. ⊎_elim (λ t. inr (inl t)) (λ t. inr (inr (t.0, in_right (out.Act (what.Put t.0)) d.outs e.outs t.1, t.2))) w)
+      (two q))
+      (λ q. ⊎_elim (λ t. inr (inl t)) (λ t. inr (inr (t.0, in_left (out.Act (what.Put t.0)) d.outs e.outs t.1, t.2))) q)
+      one
+
   keeps_both : (h : Store) (d e : Deed Msg Store) → Keeps h d → Keeps d.state e → Keeps h (record { outs = d.outs ++ e.outs; state = e.state })
-  unfolding Keeps
+  unfolding Keeps IsGone
   keeps_both h d e one two = record {
-    stays = λ k. ⊎_elim
-        (λ q. ⊎_elim
-        (λ w. inl w)
-        (λ w. ⊎_elim (λ t. inr (inl t)) (λ t. inr (inr (t.0, in_right (out.Act (what.Put t.0)) d.outs e.outs t.1, t.2))) w)
-        (two.stays q))
-        (λ q. ⊎_elim (λ t. inr (inl t)) (λ t. inr (inr (t.0, in_left (out.Act (what.Put t.0)) d.outs e.outs t.1, t.2))) q)
-        (one.stays k);
+    stays = λ k. stays_both d e (one.stays k) (λ q. two.stays q);
+    waits = λ k. stays_both d e (one.waits k) (λ q. two.waits q);
     came = λ k. ⊎_elim (λ q. one.came q) (λ q. inr q) (two.came k);
   }
 
   keeps_closed : IsClosed Keeps
   unfolding Keeps
-  keeps_closed = record { none = λ h. record { stays = λ k. inl k; came = λ k. inl k }; both = keeps_both }
+  keeps_closed = record { none = λ h. record { stays = λ k. inl k; waits = λ k. inl k; came = λ k. inl k }; both = keeps_both }
 
   module _ (p : Params) (c : ℕ) (stamp : Stamp) where
     each : (g : Stage) (from : Store) → ((v : Instance) (h : Store) → MayDrop p c g v h → a.instance.0 ≡ v.0 → TellsOf i a.instance)
@@ -69,12 +81,17 @@ module _ (i : Input Msg) (a : Ask) where
           (λ w. in_left a h.starts.waiting h.starts.redundant w)
           (λ w. in_right a h.starts.waiting h.starts.redundant w)
           k));
+      waits = λ k. inl (in_left a h.starts.waiting h.starts.redundant k);
       came = λ k. ⊎_elim (λ w. inl (in_cases a h.starts.waiting h.starts.redundant w)) (λ w. absurd w) k;
     }
     each g from told comes (DropStart v) h cause = record {
       stays = λ k. ⊎_elim
           (λ (e : is_of v a ≡ true). inr (inl (told v h cause (eqb-true _ _ e))))
           (λ (e : is_of v a ≡ false). inl (others_stay a v h.starts e k))
+          (cases_Bool (is_of v a));
+      waits = λ k. ⊎_elim
+          (λ (e : is_of v a ≡ true). inr (inl (told v h cause (eqb-true _ _ e))))
+          (λ (e : is_of v a ≡ false). inl (in_filter (λ b. not (is_of v b)) a h.starts.waiting k (ap not e)))
           (cases_Bool (is_of v a));
       came = λ k. inl (none_joins a v h.starts k);
     }
@@ -83,10 +100,15 @@ module _ (i : Input Msg) (a : Ask) where
           (λ (e : is_of t.instance a ≡ true). inr (inr (t, inl refl, eqb-true _ _ e)))
           (λ (e : is_of t.instance a ≡ false). inl (others_stay a t.instance h.starts e k))
           (cases_Bool (is_of t.instance a));
+      waits = λ k. ⊎_elim
+          (λ (e : is_of t.instance a ≡ true). inr (inr (t, inl refl, eqb-true _ _ e)))
+          (λ (e : is_of t.instance a ≡ false). inl (in_filter (λ b. not (is_of t.instance b)) a h.starts.waiting k (ap not e)))
+          (cases_Bool (is_of t.instance a));
       came = λ k. inl (none_joins a t.instance h.starts k);
     }
     each g from told comes (Queue b) h cause = record {
       stays = λ k. inl (⊎_elim (λ w. inl (in_left a h.starts.waiting (b ∷ []) w)) (λ w. inr w) k);
+      waits = λ k. inl (in_left a h.starts.waiting (b ∷ []) k);
       came = λ k. ⊎_elim
           (λ w. ⊎_elim (λ q. inl (inl q)) (λ q. ⊎_elim (λ e. inr (comes b false h cause.0 e)) (λ e. absurd e) q)
           (in_cases a h.starts.waiting (b ∷ []) w))
@@ -95,13 +117,14 @@ module _ (i : Input Msg) (a : Ask) where
     }
     each g from told comes (QueueApart b) h cause = record {
       stays = λ k. inl (⊎_elim (λ w. inl w) (λ w. inr (in_left a h.starts.redundant (b ∷ []) w)) k);
+      waits = λ k. inl k;
       came = λ k. ⊎_elim
           (λ w. inl (inl w))
           (λ w. ⊎_elim (λ q. inl (inr q)) (λ q. ⊎_elim (λ e. inr (comes b true h cause.0 e)) (λ e. absurd e) q)
           (in_cases a h.starts.redundant (b ∷ []) w))
           k;
     }
-    each g from told comes other h cause = record { stays = λ k. inl k; came = λ k. inl k }
+    each g from told comes other h cause = record { stays = λ k. inl k; waits = λ k. inl k; came = λ k. inl k }
 
 tells : (p : Params) (c : ℕ) (stamp : Stamp) (link : LinkNo) (m : Msg) (a : Ask) (v : Instance) (h : Store) → MayDrop p c (OnMessage link m) v h
     → a.instance.0 ≡ v.0 → TellsOf (Take stamp link m) a.instance

@@ -20,7 +20,7 @@ use Rattle.slot_plan.specs.Times.{cub_of}
 use Rattle.slot_plan.specs.Keys.{Key}
 use Rattle.node_kit.specs.declared.journal.What.TheVariants as what
 use Rattle.node_kit.specs.declared.outbox.Out.TheVariants as out
-use Rattle.node_kit.specs.Form.{is_in_form}
+use Rattle.node_kit.specs.Form.{is_in_form, IsInForm}
 use Rattle.node_kit.specs.Steps.{Deed}
 use Rattle.partial_view.specs.Lines as lines
 use Rattle.partial_view.specs.Views.{line_at}
@@ -36,7 +36,8 @@ use Rattle.cub_rules.specs.Records.{took, dropping_lines, dropping_start, droppi
 use Rattle.cub_rules.specs.Messages.{position_at, position, records_told, shows, is_wanted, passing_on, passing_from, told, met, meeting_state, queueing, queueing_redundant, meeting_start, holding, passing, killing_splits, dropping_all, descheduling, meeting_piece, meeting_kill, storing, meeting_answer, hearing_beat, hearing, taking}
 use Rattle.cub_changes.specs.Changes.{did}
 use Rattle.cub_changes.specs.Changes.Change.{Hold, PassOn, DropLines, DropStart, DropPieces, KillSplits, TakeRecord, Queue, QueueApart, AddPiece, DropKilled, StorePart, FailRead, HearBeat}
-use Rattle.cub_changes.specs.Causes.{In, Stage, IsPosition, MayPass, MayTake, MayQueue, MayAdd}
+use Rattle.cub_changes.specs.Causes.{Stage, IsPosition, MayPass, MayTake, MayQueue, MayAdd}
+use Rattle.lists.specs.Elements.{In}
 use Rattle.cub_changes.specs.Causes.Stage.{OnMessage}
 use Rattle.cub_changes.proofs.Closed.{IsClosed, OfEach, then_by, each_by, if_by}
 
@@ -49,11 +50,11 @@ module _ (P : Store → Deed Msg Store → Type 0) (closed : IsClosed P) (p : Pa
       (λ e. each (TakeRecord r) h (may, e))
 
   passing_by : (g : Stage) (from : Store) → OfEach P p c stamp g from → (v : Instance) (o : Option Key) (h : Store)
-      → ((k : Key) → o ≡ Some k → MayPass p c g v k h) → P h (passing_from p c stamp v o h)
+      → ((k : Key) → o ≡ Some k → must_pass h.held v ≡ true → MayPass p c stamp g from v k) → P h (passing_from p c stamp v o h)
   unfolding passing_on
   passing_by g from each v None h may = closed.none h
   passing_by g from each v (Some k) h may =
-      if_by P closed (must_pass h.held v) h (passing_on p c stamp v k h) (nothing h) (λ e. each (PassOn v k) h (may k refl, e))
+      if_by P closed (must_pass h.held v) h (passing_on p c stamp v k h) (nothing h) (λ e. each (PassOn v k) h (may k refl e))
       (λ _. closed.none h)
 
   pub told_by : (s : State) (k : Key) (h : Store) → P h (did p c stamp (DropStart s.tenancy.instance) h)
@@ -80,7 +81,7 @@ module _ (P : Store → Deed Msg Store → Type 0) (closed : IsClosed P) (p : Pa
       at None m = closed.none h
       at (Some k) m =
           if_by P closed (is_held h.held s.tenancy.instance) h (passing_from p c stamp s.tenancy.instance (Some k) h) (told s k h)
-          (λ held. passing_by g h each s.tenancy.instance (Some k) h (λ q e. (refl, m q e, held)))
+          (λ held. passing_by g h each s.tenancy.instance (Some k) h (λ q e must. ((m q e).0, (m q e).1, refl, held, must)))
           (λ free.
           told_by s k h (each (DropStart s.tenancy.instance) h (refl, k, m k refl, free))
           (λ r i q e. each (TakeRecord r) q ((k, m k refl, i, free), e)))
@@ -124,18 +125,25 @@ module _ (P : Store → Deed Msg Store → Type 0) (closed : IsClosed P) (p : Pa
       (then_by P closed (dropping_start v) (then_do (dropping_pieces v) (killing_splits p c v)) h1 (two h1)
       (then_by P closed (dropping_pieces v) (killing_splits p c v) h2 (three h2) (four (dropping_pieces v h2).state)))
 
+  -- what follows on the hold: the deschedule is passed on, and all is dropped
+  pub stop_rest_by : (link : LinkNo) (v : Instance) (tag : Option Tag) (h : Store)
+      → OfEach P p c stamp (OnMessage link (msg.Deschedule v tag)) h
+      → P (holding p stamp v h).state (then_do (passing p c stamp v tag) (dropping_all p c v) (holding p stamp v h).state)
+  stop_rest_by link v tag h each =
+      let h1 : Store = (holding p stamp v h).state in
+      let h2 : Store = (passing p c stamp v tag h1).state in
+      then_by P closed (passing p c stamp v tag) (dropping_all p c v) h1
+      (passing_by (OnMessage link (msg.Deschedule v tag)) h each v (position p c v tag h1.view.lines) h1 (λ k e must. (refl, e, must)))
+      (dropping_by v h2 (λ q. each (DropLines v) q refl) (λ q. each (DropStart v) q refl) (λ q. each (DropPieces v) q refl) (λ q. each (KillSplits v) q refl))
+
   pub stop_by : (link : LinkNo) (v : Instance) (tag : Option Tag) (h : Store)
       → OfEach P p c stamp (OnMessage link (msg.Deschedule v tag)) h → P h (descheduling p c stamp v tag h)
   unfolding descheduling
   stop_by link v tag h each =
-      let h1 : Store = (holding p stamp v h).state in
-      let h2 : Store = (passing p c stamp v tag h1).state in
       then_by P closed (holding p stamp v) (then_do (passing p c stamp v tag) (dropping_all p c v)) h (each (Hold v) h refl)
-      (then_by P closed (passing p c stamp v tag) (dropping_all p c v) h1
-      (passing_by (OnMessage link (msg.Deschedule v tag)) h each v (position p c v tag h1.view.lines) h1 (λ k e. (refl, e)))
-      (dropping_by v h2 (λ q. each (DropLines v) q refl) (λ q. each (DropStart v) q refl) (λ q. each (DropPieces v) q refl) (λ q. each (KillSplits v) q refl)))
+      (stop_rest_by link v tag h each)
 
-  pub add_by : (g : Stage) (from : Store) → OfEach P p c stamp g from → (x : PieceState) (h : Store) → MayAdd p c g x from
+  pub add_by : (g : Stage) (from : Store) → OfEach P p c stamp g from → (x : PieceState) (h : Store) → MayAdd p c stamp g x from
       → P h (record { outs = []; state = with_piece_record x h })
   unfolding with_piece_record
   add_by g from each x h may =
@@ -185,10 +193,14 @@ module _ (P : Store → Deed Msg Store → Type 0) (closed : IsClosed P) (p : Pa
   hearing_by link msg.Heartbeat h each = beat_by link h each
   hearing_by link other h each = closed.none h
 
-  -- what holds of each change that a message causes holds of what the cub does with the message
-  pub taking_by : (link : LinkNo) (m : Msg) (h : Store) → OfEach P p c stamp (OnMessage link m) h
+  -- what holds of each change that a message in form causes holds of what the cub does with the message
+  pub taking_in_form : (link : LinkNo) (m : Msg) (h : Store) → (IsInForm p (noted m) → OfEach P p c stamp (OnMessage link m) h)
       → P h (taking p c stamp link m h)
   unfolding taking
-  taking_by link m h each =
-      if_by P closed (is_in_form p (noted m)) h (hearing p c stamp link m h) (nothing h) (λ _. hearing_by link m h each)
+  taking_in_form link m h each =
+      if_by P closed (is_in_form p (noted m)) h (hearing p c stamp link m h) (nothing h) (λ form. hearing_by link m h (each form))
       (λ _. closed.none h)
+
+  pub taking_by : (link : LinkNo) (m : Msg) (h : Store) → OfEach P p c stamp (OnMessage link m) h
+      → P h (taking p c stamp link m h)
+  taking_by link m h each = taking_in_form link m h (λ _. each)

@@ -1,19 +1,27 @@
 -- Each output of a change is of a form, and comes of the change as the form says.
-use Rattle.std.proofs.Common.{◌≡◌, ℕ, ◌+◌, ◌-◌, List, [], ◌∷◌, ◌++◌, map, filter, drop, true, Option, Some, None, refl, sym, ap, inl, inr}
+use Rattle.std.proofs.Common.{◌≡◌, ℕ, ◌+◌, ◌-◌, List, [], ◌∷◌, ◌++◌, map, filter, drop, true, Option, Some, None, refl, sym, ap, arith, ⊎_elim, inl, inr}
+use Rattle.std.specs.Prelude.{◌⊎◌}
 use Rattle.std.specs.List.{AllByRecursion, range_with_len}
 use Rattle.std.proofs.lemmas.Bool.{eqb-true}
 use Rattle.tiger_base.specs.declared.number.Instance.{Instance}
+use Rattle.tiger_base.specs.declared.number.LinkNo.{LinkNo}
 use Rattle.tiger_base.specs.declared.number.Stamp.{Stamp}
 use Rattle.tiger_base.specs.declared.tenancy.PieceState.{PieceState}
 use Rattle.tiger_base.specs.declared.tenancy.State.{State}
 use Rattle.tiger_base.specs.declared.tenancy.Tag.{Tag}
+use Rattle.tiger_base.specs.declared.tenancy.Tenancy.{Tenancy}
 use Rattle.tiger_base.specs.Span.{LibraryPart}
 use Rattle.tiger_base.specs.declared.message.Msg.{Msg}
+use Rattle.tiger_base.specs.declared.message.Msg.TheVariants as msg
 use Rattle.tiger_base.specs.Records.{want_of, want_of_piece}
 use Rattle.slot_plan.specs.declared.params.Params.{Params}
 use Rattle.slot_plan.specs.Times.{disk_of, disk_count}
+use Rattle.slot_plan.specs.Keys.{Key}
 use Rattle.mirror_pieces.specs.Pieces.{piece_disk}
+use Rattle.node_kit.specs.declared.journal.What.TheVariants as what
 use Rattle.node_kit.specs.declared.outbox.Out.{Out}
+use Rattle.node_kit.specs.declared.outbox.Out.TheVariants as out
+use Rattle.node_kit.specs.Ways.{way_ahead}
 use Rattle.node_kit.specs.Steps.{Deed}
 use Rattle.partial_view.specs.declared.line.Line.{Line}
 use Rattle.partial_view.specs.Lines as lines
@@ -26,11 +34,13 @@ use Rattle.cub_rules.specs.Messages.{is_reached, passed_on, kills}
 use Rattle.cub_rules.specs.Ticks.{queued, must_split, sent_ahead, split_outs, is_to_forward, forward_outs, must_read, ask_outs, asked_of_disk, leaves_by, is_served, is_past, sent_whole, serve_outs, sent_piece, piece_outs}
 use Rattle.cub_changes.specs.Changes.{Change, did}
 use Rattle.cub_changes.specs.Changes.Change.{PassOn, DropLines, DropStart, KillSplits, TakeRecord, Queue, FailRead, Believe, PutStart, SendFirst, SendPlaced, SplitVisits, Forward, AskBlocks, AskPieces, ServeBlocks, DropBackups, ServePieces, Beat}
-use Rattle.cub_changes.specs.Causes.{In}
-use Rattle.cub_changes.specs.Outputs.{Output, output, ComesOf}
+use Rattle.lists.specs.Elements.{In}
+use Rattle.cub_changes.specs.Outputs.{Output, output, IsNear, HasLine, ComesOf}
 use Rattle.cub_changes.specs.Outputs.Output.{Took, Dropped, Unqueued, Queued, Put, Believed, ReadFailed, DescheduleSent, KillSent, StateSent, MirrorStateSent, PlacedSent, AskSent, BlockSent, PieceSent, HeartbeatSent}
 use Rattle.cub_changes.proofs.Closed.{IsClosed}
-use Rattle.cub_changes.proofs.Members.{all_append, all_map, all_flat_map, all_if, from_filter}
+use Rattle.cub_changes.proofs.Numbers.{in_range}
+use Rattle.lists.proofs.Each.{all_append, all_map, all_flat_map, all_if, all_in, all_wider}
+use Rattle.lists.proofs.Elements.{from_filter}
 
 abbrev instance : ℕ → Instance
 instance n = record { 0 = n }
@@ -76,7 +86,9 @@ module _ (p : Params) (c : ℕ) (stamp : Stamp) (Q : Out Msg → Type 0) where
       (λ y i.
       let f = from_filter (splits.is_of v) y h.splits i in
       all_map Q (λ steps. output p c stamp (KillSent steps y)) (range_with_len 1 (p.pieces - 1))
-      (λ steps k. each (KillSent steps y) (ap KillSplits (split_of v y f.1), f.0)))
+      (λ steps k.
+      let r = in_range steps 1 (p.pieces - 1) k in
+      each (KillSent steps y) (ap KillSplits (split_of v y f.1), f.0, r.0, omega (arith, r.0, r.1))))
   forms_of (TakeRecord r) h each = (each (Took r) refl, tt)
   forms_of (Queue a) h each = (each (Queued a) (inl refl), tt)
   forms_of (FailRead want) h each = (each (ReadFailed want) refl, tt)
@@ -130,3 +142,55 @@ module _ (p : Params) (c : ℕ) (stamp : Stamp) (Q : Out Msg → Type 0) where
 
   pub puts_closed : IsClosed Puts
   puts_closed = record { none = λ h. tt; both = λ h d e one two. all_append Q d.outs e.outs one two }
+
+-- ---- what an output tells of its change
+
+-- a link to one of the next two cubs
+abbrev pub IsNextWay : Params → ℕ → LinkNo → Type 0
+IsNextWay p c link = (link ≡ way_ahead p c 1) ⊎ (link ≡ way_ahead p c 2)
+
+-- of which change an output comes that tells of records, Puts, states, deschedules or places; none sends a start
+abbrev pub Tells : Params → ℕ → Stamp → Change → Store → Out Msg → Type 0
+Tells p c stamp x h (out.Act (what.Took r)) = x ≡ TakeRecord r
+Tells p c stamp x h (out.Act (what.Put t)) = x ≡ PutStart t
+Tells p c stamp x h (out.Send link (msg.ViewerState s)) =
+    ((l : Line)
+    × (x ≡ Forward)
+    × HasLine (is_to_forward p stamp) h l
+    × (s ≡ record { tenancy = l.rec.tenancy; visit = l.rec.visit + 1 })
+    × IsNextWay p c link)
+    ⊎ ((t : Tenancy) × (x ≡ SendFirst t) × (s ≡ record { tenancy = t; visit = t.first }) × (link ≡ way_ahead p c 1))
+Tells p c stamp x h (out.Send link (msg.Deschedule v tag)) =
+    (k : Key)
+    × (x ≡ PassOn v k)
+    × (tag ≡ Some (record { slot = k.0; visit = k.1 + 1 }))
+    × (is_reached p stamp k.0 (k.1 + 1) ≡ true)
+    × IsNextWay p c link
+Tells p c stamp x h (out.Send link (msg.Placed t)) = (x ≡ SendFirst t) ⊎ (x ≡ SendPlaced t)
+Tells p c stamp x h (out.Send link (msg.Start redundant a)) = ⊥
+Tells p c stamp x h other = Unit {0}
+
+module _ (p : Params) (c : ℕ) (stamp : Stamp) (x : Change) (h : Store) where
+  near_way : (steps : ℕ) → IsNear steps → IsNextWay p c (way_ahead p c steps)
+  near_way steps near = ⊎_elim (λ e. inl (ap (way_ahead p c) e)) (λ e. inr (ap (way_ahead p c) e)) near
+
+  form_tells : (o : Output) → ComesOf p c stamp x h o → Tells p c stamp x h (output p c stamp o)
+  form_tells (Took r) comes = comes
+  form_tells (Put t) comes = comes
+  form_tells (StateSent steps s) comes = ⊎_elim
+      (λ f. inl (f.0, f.1, f.2, f.3, near_way steps f.4))
+      (λ f. inr (f.0, f.1, f.2, ap (way_ahead p c) f.3))
+      comes
+  form_tells (DescheduleSent steps v tag) comes = (comes.0, comes.1, ap Some comes.2, comes.3, near_way steps comes.4)
+  form_tells (PlacedSent t) comes = comes
+  form_tells other comes = tt
+
+  -- what tells of each output so holds of all outputs of the change
+  pub outs_of : (Q : Out Msg → Type 0) → ((o : Out Msg) → Tells p c stamp x h o → Q o) → AllByRecursion Q (did p c stamp x h).outs
+  outs_of Q wide =
+      all_wider (Tells p c stamp x h) Q wide (did p c stamp x h).outs
+      (forms_of p c stamp (Tells p c stamp x h) x h form_tells)
+
+  pub tells_of : (o : Out Msg) → In o (did p c stamp x h).outs → Tells p c stamp x h o
+  tells_of o i =
+      all_in (Tells p c stamp x h) o (did p c stamp x h).outs (outs_of (Tells p c stamp x h) (λ o t. t)) i

@@ -20,13 +20,15 @@ use Rattle.cub_rules.specs.Messages.{taking}
 use Rattle.cub_rules.specs.Ticks.{releasing, believing, inserting, ticking}
 use Rattle.cub_changes.specs.Changes.{Change}
 use Rattle.cub_changes.specs.Changes.Change.{PutStart}
-use Rattle.cub_changes.specs.Causes.{In, Stage, WasPut, Cause}
+use Rattle.cub_changes.specs.Causes.{Stage, WasPut, Cause}
+use Rattle.lists.specs.Elements.{In}
 use Rattle.cub_changes.specs.Causes.Stage.{OnMessage, OnRelease, OnDeadman, OnInsertion, OnService}
 use Rattle.cub_changes.specs.Outputs.{Output, output, ComesOf}
 use Rattle.cub_changes.specs.Outputs.Output.{Put}
 use Rattle.cub_changes.specs.Laws.{IsPutOfStart, CubsPutStarts}
 use Rattle.cub_changes.proofs.Closed.{OfEach, then_by}
-use Rattle.cub_changes.proofs.Members.{all_in, in_cases}
+use Rattle.lists.proofs.Each.{all_in}
+use Rattle.lists.proofs.Elements.{in_cases}
 use Rattle.cub_changes.proofs.Messages.{taking_by}
 use Rattle.cub_changes.proofs.Puts.{inserting_by}
 use Rattle.cub_changes.proofs.Ticks.{service_steps, late_steps, releasing_by, believing_by, service_by, late_by}

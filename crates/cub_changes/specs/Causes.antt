@@ -1,5 +1,6 @@
 -- Why a cub makes a change: in which step of an event, and what holds just before it.
-use Rattle.std.specs.Prelude.{◌≡◌, ℕ, ◌+◌, ◌&&◌, ◌||◌, ◌==◌, ◌%◌, ◌⊎◌, List, [], ◌∷◌, Bool, true, false, not, nat_lt, is_some, Option, Some, None}
+use Rattle.std.specs.Prelude.{◌≡◌, ℕ, ◌+◌, ◌++◌, ◌&&◌, ◌||◌, ◌==◌, ◌%◌, ◌⊎◌, [], ◌∷◌, Bool, true, false, not, nat_lt, is_some, Option, Some, None}
+use Rattle.std.specs.List.{flat_map}
 use Rattle.tiger_base.specs.declared.number.Instance.{Instance}
 use Rattle.tiger_base.specs.declared.number.LinkNo.{LinkNo}
 use Rattle.tiger_base.specs.declared.number.Stamp.{Stamp}
@@ -18,7 +19,7 @@ use Rattle.slot_plan.specs.Times.{cub_of}
 use Rattle.slot_plan.specs.Keys.{Key}
 use Rattle.partial_view.specs.Lines as lines
 use Rattle.partial_view.specs.Views.{line_at}
-use Rattle.insert_queue.specs.Queues.{is_asked}
+use Rattle.insert_queue.specs.Queues.{is_asked, IsOnce}
 use Rattle.deschedule.specs.Holds.{is_held, must_pass}
 use Rattle.deadman.specs.Silence.{is_silent}
 use Rattle.mirror_schedule.specs.Pieces as pieces
@@ -28,15 +29,11 @@ use Rattle.node_kit.specs.Steps.Input.{Take, Tick}
 use Rattle.node_kit.specs.Ways.{way_ahead, predecessor}
 use Rattle.cub_rules.specs.declared.store.Store.{Store}
 use Rattle.cub_rules.specs.State.{is_ask}
-use Rattle.cub_rules.specs.Messages.{position_at, position, records_told, shows, is_wanted}
-use Rattle.cub_rules.specs.Ticks.{tenancy_from, free_on, is_for, disks_at}
+use Rattle.cub_rules.specs.Messages.{position_at, position, holding, records_told, shows, is_wanted}
+use Rattle.cub_rules.specs.Ticks.{tenancy_from, free_on, is_for, disks_at, first_pieces}
 use Rattle.cub_changes.specs.Changes.{Change}
 use Rattle.cub_changes.specs.Changes.Change.{Hold, PassOn, DropLines, DropStart, DropPieces, KillSplits, TakeRecord, Queue, QueueApart, AddPiece, DropKilled, StorePart, FailRead, HearBeat, Release, Believe, PutStart, SendFirst, SendPlaced, SplitVisits, Forward, AskBlocks, AskPieces, ServeBlocks, DropBackups, ServePieces, Beat}
-
--- x is an element of a list
-abbrev pub In : {X : Type 0} → X → List X → Type 0
-In x [] = ⊥
-In x (y ∷ ys) = (x ≡ y) ⊎ In x ys
+use Rattle.lists.specs.Elements.{In}
 
 -- In which step of an event a change is made: at a message, or in a tick at release, at the deadman step, at insertion, or
 -- in one of the steps from splitting to the heartbeat.
@@ -98,11 +95,25 @@ IsHeartbeat p c other = ⊥
 abbrev pub IsPosition : Params → ℕ → State → Key → Type 0
 IsPosition p c s k = (is_visit_of s.tenancy s.visit ≡ true) × (position_at p c s.tenancy.slot s.visit ≡ Some k)
 
--- A deschedule is passed on from the cub's position to it, or to a state of an instance that is held.
-abbrev pub MayPass : Params → ℕ → Stage → Instance → Key → Store → Type 0
-MayPass p c (OnMessage link (msg.Deschedule w tag)) v k h = (v ≡ w) × (position p c w tag h.view.lines ≡ Some k)
-MayPass p c (OnMessage link (msg.ViewerState s)) v k h = (v ≡ s.tenancy.instance) × IsPosition p c s k × (is_held h.held v ≡ true)
-MayPass p c other v k h = ⊥
+-- A message lets a cub pass the deschedule of an instance on from a position: a state of the instance, which is held and was
+-- not passed on; or the deschedule itself, if the instance was not passed on since it is held. h is what the cub kept when
+-- the message came.
+abbrev pub PassesOn : Params → ℕ → Stamp → Msg → Store → Instance → Key → Type 0
+PassesOn p c stamp (msg.ViewerState s) h v k =
+    (is_visit_of s.tenancy s.visit ≡ true)
+    × (position_at p c s.tenancy.slot s.visit ≡ Some k)
+    × (s.tenancy.instance ≡ v)
+    × (is_held h.held v ≡ true)
+    × (must_pass h.held v ≡ true)
+PassesOn p c stamp (msg.Deschedule w tag) h v k =
+    (w ≡ v)
+    × (position p c v tag (holding p stamp v h).state.view.lines ≡ Some k)
+    × (must_pass (holding p stamp v h).state.held v ≡ true)
+PassesOn p c stamp other h v k = ⊥
+
+abbrev pub MayPass : Params → ℕ → Stamp → Stage → Store → Instance → Key → Type 0
+MayPass p c stamp (OnMessage link m) from v k = PassesOn p c stamp m from v k
+MayPass p c stamp other from v k = ⊥
 
 -- A start is dropped at a deschedule, and at a state of an instance that is not held.
 abbrev pub MayDrop : Params → ℕ → Stage → Instance → Store → Type 0
@@ -120,6 +131,8 @@ pub record Fills (p : Params) (c : ℕ) (stamp : Stamp) (from : Store) (t : Tena
   pub is : t ≡ tenancy_from ask key
   pub on : is_for disk ask ≡ true
   pub waits : In ask from.starts.waiting
+  -- it still waits, if each instance had one start when insertion began
+  pub still : IsOnce (from.starts.waiting ++ from.starts.redundant) → In ask h.starts.waiting
   pub free : free_on p stamp.reading disk h ≡ Some key
   pub here : In disk (disks_at p c) ⊎ (In disk (disks_at p (predecessor p c)) × (from.believes ≡ true))
 
@@ -133,16 +146,20 @@ pub record WasPutHere (p : Params) (c : ℕ) (stamp : Stamp) (from : Store) (t :
   pub fills : Fills p c stamp from t store
   pub own : In fills.disk (disks_at p c)
 
--- a Put lets a cub take the own or the backup record of the first visit, and the own record of the second one
-abbrev pub IsRecordOfPut : Tenancy → Rec → Type 0
-IsRecordOfPut t r =
-    (r ≡ own_of t t.first) ⊎ ((r ≡ backup_of t t.first) ⊎ ((r ≡ own_of t (t.first + 1)) × (nat_lt t.first t.last ≡ true)))
+-- A Put on a disk of its own lets a cub take the own record of the first visit; one on a disk of its predecessor, the backup
+-- record of the first visit and the own record of the second one.
+abbrev pub IsRecordOfPut : Params → ℕ → ℕ → Tenancy → Rec → Type 0
+IsRecordOfPut p c disk t r =
+    (In disk (disks_at p c) × (r ≡ own_of t t.first))
+    ⊎ (In disk (disks_at p (predecessor p c))
+    × ((r ≡ backup_of t t.first) ⊎ ((r ≡ own_of t (t.first + 1)) × (nat_lt t.first t.last ≡ true))))
 
 -- A record is taken of a state whose instance was not held when the message came, or of a Put.
 abbrev pub MayTake : Params → ℕ → Stamp → Stage → Store → Rec → Type 0
 MayTake p c stamp (OnMessage link (msg.ViewerState s)) from r =
     (k : Key) × IsPosition p c s k × In r (records_told s k) × (is_held from.held s.tenancy.instance ≡ false)
-MayTake p c stamp OnInsertion from r = (t : Tenancy) × IsRecordOfPut t r × WasPut p c stamp from t
+MayTake p c stamp OnInsertion from r =
+    (t : Tenancy) × (q : Store) × (o : Fills p c stamp from t q) × IsRecordOfPut p c o.disk t r
 MayTake p c stamp other from r = ⊥
 
 -- A start that comes is queued, apart or not, unless it is discarded.
@@ -153,17 +170,18 @@ MayQueue (OnMessage link (msg.Start redundant b)) a apart h =
     × ((redundant && not h.believes) ≡ apart)
 MayQueue other a apart h = ⊥
 
--- A piece record is added of a mirror state for this cub, and of a split by a cub that believed its predecessor dead.
-abbrev pub MayAdd : Params → ℕ → Stage → PieceState → Store → Type 0
-MayAdd p c (OnMessage link (msg.MirrorState y)) x from =
+-- A piece record is added of a mirror state for this cub, and of a split: then the cub believed its predecessor dead, and it is
+-- the first piece of a visit that was split.
+abbrev pub MayAdd : Params → ℕ → Stamp → Stage → PieceState → Store → Type 0
+MayAdd p c stamp (OnMessage link (msg.MirrorState y)) x from =
     (x ≡ y) × ((is_held from.held x.tenancy.instance || not (cub_of p (x.visit + x.piece) == c)) ≡ false)
-MayAdd p c OnService x from = from.believes ≡ true
-MayAdd p c other x from = ⊥
+MayAdd p c stamp OnService x from = (from.believes ≡ true) × In x (flat_map (first_pieces p stamp) from.view.lines)
+MayAdd p c stamp other x from = ⊥
 
 -- why a change is made: from is what the cub kept when the stage began, and h what it keeps just before the change
 abbrev pub Cause : Params → ℕ → Stamp → Stage → Store → Change → Store → Type 0
 Cause p c stamp g from (Hold v) h = IsDeschedule g v
-Cause p c stamp g from (PassOn v k) h = MayPass p c g v k h × (must_pass h.held v ≡ true)
+Cause p c stamp g from (PassOn v k) h = MayPass p c stamp g from v k
 Cause p c stamp g from (DropLines v) h = IsDeschedule g v
 Cause p c stamp g from (DropStart v) h = MayDrop p c g v h
 Cause p c stamp g from (DropPieces v) h = IsDeschedule g v
@@ -171,7 +189,7 @@ Cause p c stamp g from (KillSplits v) h = IsDeschedule g v
 Cause p c stamp g from (TakeRecord r) h = MayTake p c stamp g from r × (is_some (line_at (lines.visit_of r) h.view.lines) ≡ false)
 Cause p c stamp g from (Queue a) h = MayQueue g a false h × (is_asked h.starts a.instance ≡ false)
 Cause p c stamp g from (QueueApart a) h = MayQueue g a true h × (is_asked h.starts a.instance ≡ false)
-Cause p c stamp g from (AddPiece x) h = MayAdd p c g x from × (pieces.is_in x h.pieces.items ≡ false)
+Cause p c stamp g from (AddPiece x) h = MayAdd p c stamp g x from × (pieces.is_in x h.pieces.items ≡ false)
 Cause p c stamp g from (DropKilled v visit) h = IsKill g v visit
 Cause p c stamp g from (StorePart want part) h = IsAnswer g want (Some part) h
 Cause p c stamp g from (FailRead want) h = IsAnswer g want None h

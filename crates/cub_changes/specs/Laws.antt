@@ -1,6 +1,7 @@
--- What holds of every event of a cub, whatever it keeps: it stops nothing, each output comes of a change that has a cause,
--- it writes down whom it believes dead, it puts starts that wait, and it keeps starts until they are put or told of.
-use Rattle.std.specs.Prelude.{◌≡◌, ℕ, ◌⊎◌, true, false, List, []}
+-- What holds of every event of a cub. Within the time of a run it stays the cub of its number. Whatever it keeps: it stops
+-- nothing, each output comes of a change that has a cause, it writes down whom it believes dead, it puts starts that wait,
+-- and it keeps starts until they are put or told of.
+use Rattle.std.specs.Prelude.{◌≡◌, ℕ, ◌≤◌, ◌⊎◌, true, false, List, []}
 use Rattle.std.specs.List.{AllByRecursion}
 use Rattle.tiger_base.specs.declared.number.CubNo.{CubNo}
 use Rattle.tiger_base.specs.declared.number.Instance.{Instance}
@@ -8,22 +9,36 @@ use Rattle.tiger_base.specs.declared.tenancy.Ask.{Ask}
 use Rattle.tiger_base.specs.declared.tenancy.Tenancy.{Tenancy}
 use Rattle.tiger_base.specs.declared.message.Msg.{Msg}
 use Rattle.tiger_base.specs.declared.message.Msg.TheVariants as msg
+use Rattle.tiger_base.specs.Notes.{noted}
+use Rattle.tiger_base.specs.Limits.{most_reading}
 use Rattle.slot_plan.specs.declared.params.Params.{Params}
 use Rattle.slot_plan.specs.Keys.{Key}
 use Rattle.node_kit.specs.declared.journal.What.TheVariants as what
 use Rattle.node_kit.specs.declared.outbox.Out.{Out}
 use Rattle.node_kit.specs.declared.outbox.Out.TheVariants as out
-use Rattle.node_kit.specs.Steps.{Deed, Input, stamp_of}
+use Rattle.node_kit.specs.Steps.{Deed, Input, IsAllowed, stamp_of}
 use Rattle.node_kit.specs.Steps.Input.{Take, Tick}
 use Rattle.node_kit.specs.Ways.{predecessor}
 use Rattle.deadman.specs.Silence.{is_silent}
 use Rattle.cub_rules.specs.declared.store.Store.{Store}
-use Rattle.cub_rules.specs.State.{CubState}
+use Rattle.cub_rules.specs.State.{CubState, IsCub}
 use Rattle.cub_rules.specs.Ticks.{number, tenancy_from, is_for, disks_at}
 use Rattle.cub_rules.specs.Cubs.{cub_step}
 use Rattle.cub_changes.specs.Changes.{Change}
-use Rattle.cub_changes.specs.Causes.{In, Stage, IsStageOf, Cause}
+use Rattle.cub_changes.specs.Causes.{Stage, IsStageOf, Cause}
+use Rattle.lists.specs.Elements.{In}
 use Rattle.cub_changes.specs.Outputs.{Output, output, ComesOf}
+
+-- ---- its place
+
+-- a cub stays the cub of its number, and keeps only what such a cub may keep
+abbrev pub CubsStay : Type 0
+CubsStay = (s : CubState) (i : Input Msg) (p : Params) (n : ℕ) → (stamp_of i).reading ≤ most_reading → IsCub s p n → IsCub (cub_step s i).state p n
+
+-- each output is a message in form on a link that leads from the cub, or an entry of a cub's own
+abbrev pub CubsPutOutWhatTheyMay : Type 0
+CubsPutOutWhatTheyMay = (s : CubState) (i : Input Msg) (p : Params) (n : ℕ) → (stamp_of i).reading ≤ most_reading → IsCub s p n
+    → AllByRecursion (IsAllowed noted p n) (cub_step s i).outs
 
 -- ---- stops
 
@@ -122,10 +137,11 @@ TellsOf other v = ⊥
 abbrev pub HasPutOf : Instance → List (Out Msg) → Type 0
 HasPutOf v outs = (t : Tenancy) × In (out.Act (what.Put t)) outs × (v.0 ≡ t.instance.0)
 
--- A start stands in the lists until its instance is put here, or a state or a deschedule tells of it; and each start that
--- stands there came as a start.
+-- A start stands in the lists until its instance is put here, or a state or a deschedule tells of it, and one that waits
+-- goes on to wait; and each start that stands there came as a start.
 pub record KeepsStart (i : Input Msg) (a : Ask) (old : Store) (d : Deed Msg Store) : Type 0 where
   pub stays : IsListed a old → IsListed a d.state ⊎ (TellsOf i a.instance ⊎ HasPutOf a.instance d.outs)
+  pub waits : In a old.starts.waiting → In a d.state.starts.waiting ⊎ (TellsOf i a.instance ⊎ HasPutOf a.instance d.outs)
   pub came : IsListed a d.state → IsListed a old ⊎ IsStartOf i a
 
 abbrev pub CubsKeepStarts : Type 0

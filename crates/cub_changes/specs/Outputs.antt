@@ -1,5 +1,5 @@
 -- The forms of what a cub puts out, and of which change an output of each form comes.
-use Rattle.std.specs.Prelude.{◌≡◌, ℕ, ◌+◌, ◌-◌, ◌⊎◌, Bool, true, drop, Some}
+use Rattle.std.specs.Prelude.{◌≡◌, ℕ, ◌+◌, ◌-◌, ◌<◌, ◌≤◌, ◌⊎◌, Bool, true, drop, Some}
 use Rattle.tiger_base.specs.declared.number.Instance.{Instance}
 use Rattle.tiger_base.specs.declared.number.Stamp.{Stamp}
 use Rattle.tiger_base.specs.declared.tenancy.Ask.{Ask}
@@ -30,7 +30,7 @@ use Rattle.cub_rules.specs.Messages.{is_reached}
 use Rattle.cub_rules.specs.Ticks.{number, must_split, is_to_forward, must_read, leaves_by, is_served, is_past}
 use Rattle.cub_changes.specs.Changes.{Change}
 use Rattle.cub_changes.specs.Changes.Change.{PassOn, DropLines, DropStart, KillSplits, TakeRecord, Queue, FailRead, Believe, PutStart, SendFirst, SendPlaced, SplitVisits, Forward, AskBlocks, AskPieces, ServeBlocks, DropBackups, ServePieces, Beat}
-use Rattle.cub_changes.specs.Causes.{In}
+use Rattle.lists.specs.Elements.{In}
 
 -- entries of the cub's journal, and messages that it sends
 pub data Output : Type 0 where
@@ -97,7 +97,7 @@ ComesOf p c stamp x h (DescheduleSent steps v tag) =
     × (tag ≡ record { slot = k.0; visit = k.1 + 1 })
     × (is_reached p stamp k.0 (k.1 + 1) ≡ true)
     × IsNear steps
-ComesOf p c stamp x h (KillSent steps y) = (x ≡ KillSplits y.0) × In y h.splits
+ComesOf p c stamp x h (KillSent steps y) = (x ≡ KillSplits y.0) × In y h.splits × (1 ≤ steps) × (steps < p.pieces)
 ComesOf p c stamp x h (StateSent steps s) =
     ((l : Line)
     × (x ≡ Forward)

@@ -1,7 +1,17 @@
 //! What a cub's rules are made of: single changes, each made for a cause; and laws that follow from all of them.
 #![tactic(auto)]
 
-ghost use Rattle.cub_changes.specs.Laws.{CubsKeepBelief, CubsKeepStarts, CubsPutStarts, CubsStopNothing, OutputsHaveCauses};
+ghost use Rattle.cub_changes.specs.Laws.{CubsKeepBelief, CubsKeepStarts, CubsPutOutWhatTheyMay, CubsPutStarts, CubsStay, CubsStopNothing, OutputsHaveCauses};
+
+/// In every event within the time of a run a cub stays the cub of its number.
+pub fn cubs_stay()
+    ensures { CubsStay }
+{}
+
+/// And each of its outputs is one that this cub may put out.
+pub fn cubs_put_out_what_they_may()
+    ensures { CubsPutOutWhatTheyMay }
+{}
 
 /// No cub says that an instance is stopped: none of its outputs is Gone.
 pub fn cubs_stop_nothing()

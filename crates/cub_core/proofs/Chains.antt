@@ -12,10 +12,8 @@ use Rattle.node_kit.specs.Deeds.{Did, then_do}
 use Rattle.cub_rules.specs.declared.store.Store.{Store}
 use Rattle.cub_rules.specs.State.{IsStoreOf}
 use Rattle.cub_rules.specs.Ticks.{releasing, believing, inserting, splitting, forwarding, reading, serving, beating, ticking}
-use Rattle.cub_laws.proofs.Stores.{IsRule}
-use Rattle.cub_laws.proofs.Insertions.{inserting_right}
-use Rattle.cub_laws.proofs.Ticks.{releasing_right, believing_right}
-use Rattle.cub_laws.proofs.Walks.{splitting_right, forwarding_right, reading_right}
+use Rattle.cub_changes.proofs.Stores.{IsRule}
+use Rattle.cub_changes.proofs.Rules.{inserting_right, releasing_right, believing_right, splitting_right, forwarding_right, reading_right}
 
 -- what the cub of a site may keep
 abbrev pub IsKept : Site → Store → Type 0
@@ -56,7 +54,7 @@ forwarded site stamp {h} {new} kept is =
 pub asked : (site : Site) (stamp : Stamp) {h new : Store} → IsKept site h
     → new ≡ (reading site.plan.params stamp h).state → IsKept site new
 asked site stamp {h} {new} kept is =
-    followed site.plan.params site.cub.0 (reading site.plan.params stamp) h new (reading_right site.plan.params site.cub.0 stamp site.plan.sound) kept is
+    followed site.plan.params site.cub.0 (reading site.plan.params stamp) h new (reading_right site.plan.params site.cub.0 stamp site.plan.sound site.inside) kept is
 
 -- release puts nothing out
 release_did : (p : Params) (stamp : Stamp) (h new : Store) (outs : List (Out Msg)) → new ≡ (releasing p stamp h).state → Did (releasing p stamp h) outs outs new

@@ -1,12 +1,11 @@
 //! What a world answers to an event, and what can be seen of it, as text.
 
 use node_kit::{Gate, LinkTable, What};
-use ring_machine::{Channel, StepError};
 use ring_world::{Act, Event, StepFault};
 use slot_plan::Plan;
 use std::alloc::{AllocError, Global};
 use tiger_base::{LinkNo, Msg, NodeNo};
-use world::World;
+use world::{Channel, StepError, World};
 
 /// Answers an event: `done`, the world's mark, and the links on which the node sent; `refused`, the
 /// mark, and the cause; or `not asked`, if the world has no such beat, link, node or cub.

@@ -12,7 +12,7 @@ use Rattle.ring_nodes.proofs.Numbered.{length-numbered, opening_count}
 use Rattle.ring_facts.specs.Steps.{ring_of}
 use Rattle.ring_world.specs.Laws.{IsPlace}
 use Rattle.ring_world.proofs.Places.{plans-places}
-use Rattle.kept_events.proofs.Kept.{kept-accepted}
+use Rattle.kept_worlds.proofs.Kept.{kept-accepted}
 use Rattle.kept_worlds.specs.Worlds.{KeptRunsAreWorlds}
 
 -- a ring has a node more than the number of its viewers

@@ -9,8 +9,8 @@ use Rattle.scenario_read.specs.Sound.{IsScenario}
 use Rattle.ring_nodes.specs.AllNodes.{any_step}
 use Rattle.ring_facts.specs.Rings.{IsRingRun}
 use Rattle.ring_facts.specs.Steps.{ring_of}
-use Rattle.kept_events.specs.Events.{world_events_of}
-use Rattle.kept_events.specs.Laws.{IsWorldOf}
+use Rattle.kept_worlds.specs.Events.{world_events_of}
+use Rattle.kept_worlds.specs.Laws.{IsWorldOf}
 
 -- What is kept of a run over a library can be told as events (its course is one, and each node has
 -- a journal); the machine of the ring's nodes, as they open, accepts these events, and then has the

@@ -10,7 +10,7 @@ use Rattle.outside.specs.Told.{Told}
 use Rattle.outside.specs.Memory.{MemoryFiles, source_of}
 use Rattle.run_claims.specs.Accounts.{account_of}
 use Rattle.run_claims.specs.Claims.{MeetsClaims}
-use Rattle.ring_claims.specs.Beliefs.{BelievesInTime}
+use Rattle.proof_ring.specs.Beliefs.{BelievesInTime}
 use Rattle.run_promises.specs.Kept.{IsKeptWell}
 use Rattle.run_promises.specs.Promises.{KeepsPromises}
 use Rattle.run_promises.proofs.Promises.{kept_runs_keep_promises}

@@ -17,7 +17,7 @@ ghost use Rattle.run_claims.specs.Truths.{BeliefsAreTrue, FailuresAreTrue};
 ghost use Rattle.run_claims.specs.Served.{AreServed};
 ghost use Rattle.run_claims.specs.Turns.{AreInTurn};
 ghost use Rattle.run_claims.specs.Patience.{NobodyIsPassedOver};
-ghost use Rattle.ring_claims.specs.Beliefs.{BeliefsAreInTime};
+ghost use Rattle.proof_ring.specs.Beliefs.{BeliefsAreInTime};
 ghost use Rattle.run_promises.specs.Promises.{KeepsPromises};
 ghost use Rattle.tiger_run.specs.declared.status.Status.TheVariants as statuses;
 ghost use Rattle.tiger_run.specs.Words.{texts_of};

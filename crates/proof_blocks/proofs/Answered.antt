@@ -15,28 +15,27 @@ use Rattle.partial_view.specs.declared.line.Line.{Line}
 use Rattle.cub_rules.specs.declared.store.Store.{Store}
 use Rattle.disk_core.specs.State.{DiskState}
 use Rattle.disk_core.specs.Rules.{read_part}
-use Rattle.schedule_laws.specs.Lives.{In, Lives, outs_at, is_tick_input, beat_at}
-use Rattle.schedule_laws.specs.Facts.{TookMessage}
-use Rattle.schedule_laws.proofs.Moves.{taken_out}
-use Rattle.schedule_laws.proofs.Order.{beats_rise, behind}
+use Rattle.proof_lives.specs.Lives.{Lives, outs_at, beat_at}
+use Rattle.run_facts.specs.Events.{is_tick_input}
+use Rattle.lists.specs.Elements.{In}
+use Rattle.proof_lives.specs.Facts.{TookMessage}
+use Rattle.proof_lives.proofs.Leaving.{stays_or_gone}
+use Rattle.proof_lives.proofs.Moves.{taken_out}
+use Rattle.proof_lives.proofs.Order.{beats_rise, behind}
 use Rattle.proof_schedule.specs.Facts.{Facts}
-use Rattle.proof_service.specs.ServiceFacts.{ServiceFacts}
-use Rattle.proof_service.specs.ServiceLaws.{IsAnswered}
-use Rattle.proof_places.specs.Disks.{FailedThere}
-use Rattle.proof_places.specs.Disks.{disk_at as disk_of_piece}
+use Rattle.proof_service.specs.ServiceFacts.{ServiceFacts, IsCutOff}
+use Rattle.proof_service.specs.ServiceLaws.{IsAnswered, HasLeft}
+use Rattle.proof_service.specs.Disks.{FailedThere, disk_at as disk_of_piece}
 use Rattle.proof_parts.proofs.AskLives.{asked_disk}
-use Rattle.cub_facts.specs.Blocks.{AnsweredAt, blocks_by}
-use Rattle.cub_facts.specs.Carried.{DisksAnswer}
-use Rattle.cub_facts.specs.Facts.{Beyond, facts_by}
-use Rattle.cub_facts.specs.Pieces.{AsksAt, SendsPart, ServesAt, piece, want, pieces_by, before_reading, before_serving}
-use Rattle.cub_facts.specs.Pieces as facts
+use Rattle.proof_facts.specs.Blocks.{AnsweredAt, blocks_by}
+use Rattle.proof_facts.specs.Carried.{DisksAnswer}
+use Rattle.proof_lives.specs.FactsBy.{Beyond, facts_by}
+use Rattle.proof_facts.specs.Pieces.{AsksAt, want, pieces_by, before_reading}
+use Rattle.proof_facts.specs.Pieces as facts
 use Rattle.proof_blocks.proofs.Living.{AreCubs, store_of, asking_kept, beat_is, kept_here, own_here}
 use Rattle.proof_blocks.proofs.Serving.{own_line}
-use Rattle.proof_blocks.proofs.Tracing.{asking_trail}
-use Rattle.proof_service.specs.ServiceLaws.{HasLeft}
-use Rattle.proof_service.specs.ServiceFacts.{IsCutOff}
-use Rattle.proof_blocks.proofs.Leaving.{stays_or_gone, own_arises}
-use Rattle.proof_blocks.proofs.Tracing.{Trail}
+use Rattle.proof_blocks.proofs.Tracing.{asking_trail, Trail}
+use Rattle.proof_blocks.proofs.Leaving.{own_arises}
 
 module _ (p : Params) (lives : Lives) (cubs : AreCubs p lives) (disk_at : ℕ → DiskState) (beyond : Beyond)
     (disks : DisksAnswer p lives disk_at beyond.Came) where
@@ -95,7 +94,7 @@ module _ (p : Params) (lives : Lives) (cubs : AreCubs p lives) (disk_at : ℕ �
         past = q.past;
       })))
       s.why)
-      (stays_or_gone p lives cubs c d.at k (own_of t n) small (omega arith) (omega arith) taken)
+      (stays_or_gone p cubs.plan lives c d.at k (own_of t n) small (omega arith) (omega arith) taken)
 
   -- the answer to what an own record asked for
   answer_to : {c : ℕ} {t : Tenancy} {n b e : ℕ} (a : AsksAt p lives c t n 0 b) (x : Line) → beyond.Came c e

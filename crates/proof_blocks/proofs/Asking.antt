@@ -1,5 +1,5 @@
 -- The laws of asking for whole blocks: what is asked for is due within the read lead, and what is due so is asked for.
-use Rattle.std.proofs.Common.{◌≡◌, ℕ, suc, ◌+◌, ◌<◌, ◌≤◌, [], true, false, refl, sym, ap, subst, ◌∙◌, ⊎_elim, inl, inr, arith}
+use Rattle.std.proofs.Common.{◌≡◌, ℕ, suc, ◌+◌, ◌<◌, ◌≤◌, true, false, refl, sym, ap, subst, ◌∙◌, ⊎_elim, inl, inr, arith}
 use Rattle.std.specs.Prelude.{◌⊎◌, ◌&&◌, not, nat_le}
 use Rattle.std.proofs.lemmas.Bool.{cases_Bool, and_parts, leb-true}
 use Rattle.tiger_base.specs.Kinds.{is_own}
@@ -18,27 +18,27 @@ use Rattle.slot_plan.specs.Keys.{due_of}
 use Rattle.disk_core.specs.State.{DiskState}
 use Rattle.cub_rules.specs.State.{IsRecordOf, IsLineOf}
 use Rattle.cub_rules.specs.Ticks.{must_read}
-use Rattle.schedule_laws.specs.Lives.{Lives, is_tick_input}
-use Rattle.schedule_laws.specs.Facts.{TickedAt}
+use Rattle.proof_lives.specs.Lives.{Lives}
+use Rattle.run_facts.specs.Events.{is_tick_input}
+use Rattle.proof_lives.specs.Facts.{TickedAt}
 use Rattle.cub_changes.proofs.Beliefs.{not_true}
-use Rattle.cub_laws.proofs.Numbers.{piece_parts}
-use Rattle.schedule_laws.specs.Rings.{orders_alone}
-use Rattle.schedule_laws.proofs.Lines.{stays}
-use Rattle.schedule_laws.proofs.Members.{all_in}
-use Rattle.schedule_laws.proofs.Moves.{Stays}
-use Rattle.schedule_laws.proofs.Order.{beats_rise, not_behind}
-use Rattle.schedule_laws.proofs.StateLaws.{entered_did, left}
-use Rattle.schedule_laws.proofs.States.{own_kind}
+use Rattle.cub_changes.proofs.Numbers.{piece_parts}
+use Rattle.proof_lives.proofs.Inputs.{entered_did}
+use Rattle.proof_lives.proofs.Leaving.{stays_or_stopped}
+use Rattle.lists.proofs.Each.{all_in}
+use Rattle.proof_lives.proofs.Moves.{Stays}
+use Rattle.proof_lives.proofs.Order.{beats_rise, not_behind}
+use Rattle.proof_lives.proofs.States.{own_kind}
 use Rattle.proof_schedule.specs.Facts.{Facts, Entered}
 use Rattle.proof_pieces.specs.PieceFacts.{PieceFacts, AsksBy}
 use Rattle.proof_pieces.specs.PieceLaws.{IsThere}
 use Rattle.proof_service.specs.ServiceFacts.{ServiceFacts, ArisesBy, IsCutOff}
-use Rattle.cub_facts.specs.Facts.{Beyond, facts_by}
-use Rattle.cub_facts.specs.Pieces.{piece, AsksAt, pieces_by}
-use Rattle.cub_facts.specs.Pieces as facts
-use Rattle.cub_facts.specs.Blocks.{blocks_by}
+use Rattle.proof_lives.specs.FactsBy.{Beyond, facts_by}
+use Rattle.proof_facts.specs.Pieces.{piece, AsksAt, pieces_by}
+use Rattle.proof_facts.specs.Pieces as facts
+use Rattle.proof_facts.specs.Blocks.{blocks_by}
 use Rattle.proof_blocks.proofs.Tracing.{trail, trail_unread, marked}
-use Rattle.proof_blocks.proofs.Living.{AreCubs, store_of, states_formed, beat_is, reading_is, kept_here, there_at}
+use Rattle.proof_blocks.proofs.Living.{AreCubs, store_of, beat_is, reading_is, kept_here, there_at}
 
 -- what is to be read is an own record's, has no mark, and is due within the read lead
 pub read_parts : (p : Params) (stamp : Stamp) (x : Line) → must_read p stamp x ≡ true
@@ -142,8 +142,7 @@ module _ (p : Params) (lives : Lives) (cubs : AreCubs p lives) (disk_at : ℕ �
       → AsksBy q c t n 0 b ⊎ IsCutOff r w c t.instance.0 n b
   entered_asked c b l t n e entered by here tick undue soon =
       let small = tick.small in
-      let formed = states_formed p lives cubs c small in
-      let k = entered_did p cubs.plan lives cubs.lived formed (orders_alone []) entered in
+      let k = entered_did p lives entered in
       let z : Rec = record { tenancy = t; visit = n; kind = k.0 } in
       let j : ℕ = k.1.at in
       let i : ℕ = tick.at in
@@ -156,10 +155,9 @@ module _ (p : Params) (lives : Lives) (cubs : AreCubs p lives) (disk_at : ℕ �
       not_behind p (lives.count c) (lives.input c) life j i low k.1.done (ap is_tick_input tick.is) (omega arith) in
       ⊎_elim
       (λ s. inl (asked_by_tick c b l t n tick (own_stays c (suc i) t n k.0 small (omega arith) here s) soon))
-      (λ m.
-      let g = left p cubs.plan lives cubs.lived formed (orders_alone []) c j i b z small low (omega arith) (omega arith) m in
-      inr (inl (record { beat = g.beat; reached = g.reached; by = g.by })))
-      (stays p c cubs.plan small (lives.input c) (suc i) j z (omega arith) k.1.did)
+      (λ m. let by = m.2 in inr (inl (record { beat = m.0; reached = m.1; by = omega arith })))
+      (stays_or_stopped p cubs.plan lives cubs.lived c j (suc i) i z small (omega arith) (omega arith) low (omega arith)
+      k.1.did)
 
   pub asks_due : {c : ℕ} {t : Tenancy} {n b l : ℕ} → ArisesBy r q c t n 0 b → c ≡ cub_of p (n + 0)
       → TickedAt p lives c b l → l < due p t.slot.0 n → due p t.slot.0 n ≤ l + p.read_lead

@@ -7,20 +7,20 @@ use Rattle.slot_plan.specs.Conditions.{IsPlan}
 use Rattle.slot_plan.specs.Times.{due, cub_of}
 use Rattle.stripe_layout.specs.declared.catalogue.Catalogue.{Catalogue}
 use Rattle.disk_core.specs.State.{DiskState}
-use Rattle.schedule_laws.specs.Lives.{Lives, AreLives}
-use Rattle.stops_laws.specs.HoldsHere.{AreAllFormed}
-use Rattle.schedule_laws.specs.Facts.{TickedAt}
+use Rattle.proof_lives.specs.Lives.{Lives, AreLives}
+use Rattle.proof_lives.specs.HoldsHere.{AreAllFormed}
+use Rattle.proof_lives.specs.Facts.{TickedAt}
 use Rattle.proof_schedule.specs.Facts.{Facts}
 use Rattle.proof_pieces.specs.PieceFacts.{PieceFacts, AsksBy, leave}
 use Rattle.proof_pieces.specs.PieceLaws.{IsThere, WasUndue}
 use Rattle.proof_service.specs.ServiceFacts.{ServiceFacts, ArisesBy, IsCutOff}
 use Rattle.proof_service.specs.ServiceLaws.{IsAnswered}
-use Rattle.proof_places.specs.Disks.{FailedThere}
-use Rattle.cub_facts.specs.Blocks.{blocks_by}
-use Rattle.cub_facts.specs.Carried.{DisksAnswer}
-use Rattle.cub_facts.specs.Facts.{Beyond, facts_by}
-use Rattle.cub_facts.specs.Laws.{ReadLaws}
-use Rattle.cub_facts.specs.Pieces.{pieces_by}
+use Rattle.proof_service.specs.Disks.{FailedThere}
+use Rattle.proof_facts.specs.Blocks.{blocks_by}
+use Rattle.proof_facts.specs.Carried.{DisksAnswer}
+use Rattle.proof_lives.specs.FactsBy.{Beyond, facts_by}
+use Rattle.proof_facts.specs.Laws.{ReadLaws}
+use Rattle.proof_facts.specs.Pieces.{pieces_by}
 use Rattle.proof_parts.specs.Asks.{HaveDisks}
 use Rattle.proof_parts.proofs.TrueReads.{sent_was_asked, failed_was_refused, sent_is_read}
 use Rattle.proof_blocks.specs.Blocks.{IsWhole}

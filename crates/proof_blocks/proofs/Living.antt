@@ -1,14 +1,12 @@
 -- The own records of cubs, along their lives: each entered behind the holds of its instance, on the visit's cub.
-use Rattle.std.proofs.Common.{◌≡◌, ℕ, suc, ◌+◌, ◌-◌, ◌<◌, ◌≤◌, [], refl, ap, subst, ◌∙◌, ⊎_elim, inl, inr, arith, eq-or-lt_of_le}
+use Rattle.std.proofs.Common.{◌≡◌, ℕ, suc, ◌+◌, ◌-◌, ◌<◌, ◌≤◌, refl, ap, subst, ◌∙◌, ⊎_elim, inl, inr, arith, eq-or-lt_of_le}
 use Rattle.std.proofs.lemmas.Bool.{cases_lt}
 use Rattle.tiger_base.specs.Limits.{most_reading}
 use Rattle.tiger_base.specs.Records.{own_of}
 use Rattle.tiger_base.specs.declared.number.Stamp.{Stamp}
-use Rattle.tiger_base.specs.declared.tenancy.Kind.TheVariants.{Own}
 use Rattle.tiger_base.specs.declared.tenancy.Rec.{Rec}
 use Rattle.tiger_base.specs.declared.tenancy.Tenancy.{Tenancy}
 use Rattle.tiger_base.specs.declared.message.Msg.{Msg}
-use Rattle.tiger_base.specs.declared.message.Msg.TheVariants as msg
 use Rattle.slot_plan.specs.declared.params.Params.{Params}
 use Rattle.slot_plan.specs.Conditions.{IsPlan}
 use Rattle.slot_plan.specs.Times.{time_of, due, cub_of}
@@ -17,28 +15,28 @@ use Rattle.node_kit.specs.Steps.Input.{Tick}
 use Rattle.partial_view.specs.declared.line.Line.{Line}
 use Rattle.cub_rules.specs.declared.store.Store.{Store}
 use Rattle.cub_rules.specs.State.{IsStoreOf, IsLineOf, IsRecordOf}
-use Rattle.cub_laws.proofs.Walks.{forwarding_right}
-use Rattle.schedule_laws.specs.Lives.{In, Lives, IsLife, AreLives, AreFormed, store_at, outs_at, beat_at, reading_at}
-use Rattle.schedule_laws.specs.Facts.{TickedAt}
-use Rattle.schedule_laws.specs.Rings.{orders_alone}
-use Rattle.schedule_laws.proofs.Lines.{kept_at}
-use Rattle.schedule_laws.proofs.Members.{all_in}
-use Rattle.schedule_laws.proofs.Moves.{taken_out}
-use Rattle.schedule_laws.proofs.Order.{beats_rise, not_behind, tick_before, tick_of}
-use Rattle.schedule_laws.proofs.StateLaws.{entered_at, ticked}
-use Rattle.schedule_laws.proofs.States.{own_visit}
-use Rattle.schedule_laws.proofs.Ticking.{before_forwarding, kept_before}
-use Rattle.stops_laws.specs.HoldsHere.{AreAllFormed}
-use Rattle.stops_laws.proofs.Begun.{IsStop}
-use Rattle.stops_laws.proofs.HoldLaws.{released_by}
-use Rattle.stops_held.proofs.Standing.{gone, taken_released}
+use Rattle.cub_changes.proofs.Rules.{forwarding_right}
+use Rattle.proof_lives.specs.Lives.{Lives, IsLife, AreLives, store_at, outs_at, beat_at, reading_at}
+use Rattle.run_facts.specs.Events.{is_tick_input}
+use Rattle.lists.specs.Elements.{In}
+use Rattle.proof_lives.specs.Facts.{TickedAt}
+use Rattle.proof_lives.proofs.Inputs.{ticked_there, entered_at}
+use Rattle.proof_lives.proofs.Lines.{kept_at}
+use Rattle.lists.proofs.Each.{all_in}
+use Rattle.proof_lives.proofs.Moves.{taken_out}
+use Rattle.proof_lives.proofs.Order.{beats_rise, not_behind, tick_before, tick_of}
+use Rattle.proof_lives.proofs.States.{own_visit}
+use Rattle.proof_lives.proofs.Ticking.{before_forwarding, kept_before}
+use Rattle.proof_lives.specs.HoldsHere.{AreAllFormed}
+use Rattle.proof_lives.proofs.Begun.{IsStop}
+use Rattle.proof_lives.proofs.Reaching.{stop_by_tick, let_go}
+use Rattle.proof_lives.proofs.Standing.{gone}
 use Rattle.proof_schedule.specs.Facts.{IsUnheld}
 use Rattle.proof_pieces.specs.PieceLaws.{IsThere, WasUndue}
-use Rattle.proof_splits.proofs.Backups.{stop_before}
-use Rattle.cub_facts.specs.Facts.{Beyond, facts_by}
-use Rattle.cub_facts.specs.Pieces.{before_reading, pieces_by}
-use Rattle.cub_facts.specs.Pieces as facts
-use Rattle.cub_facts.proofs.NoReturns.{same_life}
+use Rattle.proof_lives.specs.FactsBy.{Beyond, facts_by}
+use Rattle.proof_facts.specs.Pieces.{before_reading, pieces_by}
+use Rattle.proof_facts.specs.Pieces as facts
+use Rattle.proof_lives.proofs.NoReturns.{same_life}
 use Rattle.proof_blocks.proofs.Tracing.{Trail, asking_trail}
 
 -- What is given of the cubs: a plan, and lives in which all messages are in form.
@@ -56,9 +54,6 @@ store_of p lives c i = store_at p c (lives.input c) i
 module _ (p : Params) (lives : Lives) (cubs : AreCubs p lives) (c : ℕ) (small : c < p.cubs) where
   abbrev life : IsLife p (lives.count c) (lives.input c)
   life = cubs.lived c small
-
-  pub states_formed : AreFormed p lives
-  states_formed d i stamp link s here low is = cubs.formed d here i stamp link (msg.ViewerState s) low is
 
   -- the beat of an input that has this stamp
   pub beat_is : (i : ℕ) (q : Input Msg) → lives.input c i ≡ q → beat_at (lives.input c) i ≡ (stamp_of q).beat
@@ -99,7 +94,7 @@ module _ (p : Params) (lives : Lives) (cubs : AreCubs p lives) (c : ℕ) (small 
       let at : ℕ = d.at in
       let by = d.before in
       let ei = beat_is i (Tick stamp) is in
-      let s = stop_before p lives cubs.lived c i v y stamp low is g (omega arith) in
+      let s = stop_by_tick p lives cubs.lived c i v y low (ap is_tick_input is) g (omega arith) in
       let j : ℕ = s.at in
       let below = s.before in
       let first : j < at = ⊎_elim
@@ -110,11 +105,7 @@ module _ (p : Params) (lives : Lives) (cubs : AreCubs p lives) (c : ℕ) (small 
       (omega arith) refl w.there
       (subst (λ (r : Rec). IsStop p c (lives.input c) j r.tenancy.instance.0) w.same s.stop)))
       (cases_lt j at) in
-      let k = taken_released p c cubs.plan small (lives.count c) (lives.input c) (cubs.formed c small) at j x.rec
-      (omega arith) first d.taken s.stop in
-      let q = released_by p cubs.plan lives cubs.lived cubs.formed (orders_alone []) c at j v
-      (beat_at (lives.input c) at) small (omega arith) (omega arith) k in
-      record { beat = q.beat; reached = q.reached; over = q.over }
+      let_go p cubs.plan lives cubs.lived cubs.formed beyond c at j x.rec small (omega arith) first d.taken s.stop
 
   -- at the tick of the beat before it was not yet due within a lead, if it was there at that
   undue_before : (beyond : Beyond) (i b time lead : ℕ) (stamp : Stamp) (x : Line)
@@ -137,8 +128,8 @@ module _ (p : Params) (lives : Lives) (cubs : AreCubs p lives) (c : ℕ) (small 
       record {
         beat = b - 1;
         reading = s.0.reading;
-        ticked = ticked p cubs.plan lives cubs.lived states_formed (orders_alone []) c k (b - 1) s.0 small
-            (omega arith) s.1 beat;
+        ticked = subst (λ m. TickedAt p lives c m s.0.reading) beat
+            (ticked_there p lives c k s.0 small (omega arith) s.1);
         next = omega arith;
         undue = early k s.0 s.1 from before;
       }
@@ -176,7 +167,7 @@ module _ (p : Params) (lives : Lives) (cubs : AreCubs p lives) (c : ℕ) (small 
         beat = beat_at (lives.input c) d.at;
         arises = inl (
           refl,
-          entered_at p cubs.plan lives cubs.lived states_formed (orders_alone []) c d.at t n Own small (omega arith)
+          entered_at p lives c d.at (own_of t n) small (omega arith)
               (subst (λ (r : Rec). In (taken_out r) (outs_at p c (lives.input c) d.at)) same d.taken),
         );
         by = omega arith;

@@ -27,16 +27,16 @@ use Rattle.cub_changes.specs.Changes.Change.{DropLines, TakeRecord, SplitVisits,
 use Rattle.cub_changes.specs.Causes.{Stage, Cause}
 use Rattle.cub_changes.specs.Causes.Stage.{OnMessage, OnRelease, OnDeadman, OnInsertion}
 use Rattle.cub_changes.proofs.Beliefs.{not_true}
-use Rattle.stops_laws.proofs.HoldLaws.{no_both}
+use Rattle.proof_lives.proofs.HoldLaws.{no_both}
 use Rattle.cub_changes.proofs.Closed.{IsClosed, OfEach, then_by}
 use Rattle.cub_changes.proofs.Messages.{taking_by}
 use Rattle.cub_changes.proofs.Puts.{inserting_by}
 use Rattle.cub_changes.proofs.Ticks.{releasing_by, believing_by}
-use Rattle.schedule_laws.specs.Lives.{In}
-use Rattle.schedule_laws.proofs.Members.{chosen, in_left, in_right, in_cases, from_map, from_filter}
-use Rattle.schedule_laws.proofs.Moves.{taken_out, from_with_line}
-use Rattle.schedule_laws.proofs.Steps.{same_with_pieces, beating_lines}
-use Rattle.cub_facts.specs.Pieces.{before_reading, before_serving}
+use Rattle.lists.specs.Elements.{In}
+use Rattle.lists.proofs.Elements.{chosen, in_left, in_right, in_cases, from_map, from_filter}
+use Rattle.proof_lives.proofs.Moves.{taken_out, from_with_line}
+use Rattle.proof_lives.proofs.Steps.{same_with_pieces, beating_lines}
+use Rattle.proof_facts.specs.Pieces.{before_reading, before_serving}
 
 -- A line is of a record that was there, and has the mark of that one's line.
 pub record WasLine (lines : List Line) (y : Line) : Type 0 where

@@ -25,31 +25,33 @@ use Rattle.cub_rules.specs.declared.store.StoredPart.{StoredPart}
 use Rattle.cub_rules.specs.Messages.{is_block_of, is_wanted}
 use Rattle.cub_rules.specs.Ticks.{forwarding, is_served, is_stale, reading}
 use Rattle.disk_core.specs.State.{DiskState}
-use Rattle.schedule_laws.specs.Lives.{In, Lives, outs_at, is_tick_input, beat_at}
-use Rattle.schedule_laws.specs.Facts.{TickedAt, ReachedAt}
-use Rattle.schedule_laws.proofs.Inserting.{Never}
-use Rattle.schedule_laws.proofs.Moves.{Moves, Stays, taken_out}
-use Rattle.schedule_laws.proofs.Order.{beats_rise, behind, not_behind}
-use Rattle.schedule_laws.proofs.Steps.{forwarding_moves, reading_moves, served_due}
-use Rattle.schedule_laws.proofs.Ticking.{before_forwarding, early, early_moves}
+use Rattle.proof_lives.specs.Lives.{Lives, outs_at, beat_at}
+use Rattle.run_facts.specs.Events.{is_tick_input}
+use Rattle.lists.specs.Elements.{In}
+use Rattle.proof_lives.specs.Facts.{TickedAt, ReachedAt}
+use Rattle.proof_lives.proofs.Inserting.{Never}
+use Rattle.proof_lives.proofs.Moves.{Moves, Stays, taken_out}
+use Rattle.proof_lives.proofs.Order.{beats_rise, behind, not_behind}
+use Rattle.proof_lives.proofs.Steps.{forwarding_moves, reading_moves, served_due}
+use Rattle.proof_lives.proofs.Ticking.{before_forwarding, early, early_moves}
 use Rattle.proof_pieces.specs.PieceLaws.{IsThere, WasUndue}
 use Rattle.proof_service.specs.ServiceFacts.{IsCutOff}
 use Rattle.proof_parts.proofs.Answering.{kept}
 use Rattle.proof_parts.proofs.Found.{found, same_self}
 use Rattle.proof_parts.proofs.PartLives.{stays_until}
-use Rattle.stops_laws.proofs.HoldLaws.{reached_at}
+use Rattle.proof_lives.proofs.Inputs.{message_before}
+use Rattle.proof_lives.proofs.HoldLaws.{reached_at}
 use Rattle.proof_parts.specs.Parts.{MayCost}
-use Rattle.cub_facts.specs.Blocks.{AnsweredAt, HasRecord, StoredAt, blocks_by}
-use Rattle.cub_facts.specs.Facts.{Beyond, facts_by}
-use Rattle.cub_facts.specs.Pieces.{ServesAt, want, pieces_by, before_reading, before_serving}
-use Rattle.cub_facts.specs.Pieces as facts
+use Rattle.proof_facts.specs.Blocks.{AnsweredAt, HasRecord, StoredAt, blocks_by}
+use Rattle.proof_lives.specs.FactsBy.{Beyond, facts_by}
+use Rattle.proof_facts.specs.Pieces.{ServesAt, want, pieces_by, before_reading, before_serving}
+use Rattle.proof_facts.specs.Pieces as facts
 use Rattle.proof_parts.proofs.Storing.{part_to_serving}
-use Rattle.proof_splits.proofs.Backups.{before_tick, nowhere}
 use Rattle.proof_blocks.proofs.Living.{AreCubs, store_of, beat_is, reading_is, there_at}
 use Rattle.proof_blocks.proofs.Marks.{asked_line, served_from}
 use Rattle.proof_blocks.proofs.Single.{AreSingle, always_single, line_found}
 use Rattle.proof_blocks.proofs.Tracing.{trail, trail_undue}
-use Rattle.proof_blocks.proofs.Leaving.{stays_or_gone}
+use Rattle.proof_lives.proofs.Leaving.{stays_or_gone}
 
 -- ---- one store
 
@@ -71,7 +73,7 @@ serving_stays p c stamp plan small h r s =
     let h5 : Store = before_reading p c stamp h in
     stays_on p c h5 (reading p stamp h5) r (reading_moves p c Never stamp h5)
     (stays_on p c h4 (forwarding p c stamp h4) r (forwarding_moves p c Never stamp h4)
-    (stays_on p c h (early p c stamp h) r (early_moves p c stamp plan small h) s))
+    (stays_on p c h (early p c stamp h) r (early_moves p c stamp h) s))
 
 -- an own record that is due is served
 due_served : (p : Params) (stamp : Stamp) (x : Line) (t : Tenancy) (n : ℕ) → x.rec ≡ own_of t n
@@ -177,7 +179,7 @@ module _ (p : Params) (lives : Lives) (cubs : AreCubs p lives) (beyond : Beyond)
       → x.want.piece ≡ 0 → MayCost p q x
       → ReachedAt p lives c x.want.instance.0 (beat_at (lives.input c) i) ⊎ IsStaleTick c i x
   why_lost c i x (Take stamp link (msg.Deschedule v tag)) small low is whole costs =
-      inl (reached_at p cubs.plan lives cubs.lived cubs.formed nowhere c i x.want.instance.0 small low
+      inl (reached_at p lives c i x.want.instance.0 small low
       (record { stamp = stamp; link = link; instance = v; tag = tag; is = is; same = sym costs }))
   why_lost c i x (Take stamp link (msg.Kill v slot n)) small low is whole costs =
       let some = costs.2 in absurd (omega arith)
@@ -236,7 +238,7 @@ module _ (p : Params) (lives : Lives) (cubs : AreCubs p lives) (beyond : Beyond)
       let ei = beat_is p lives cubs c small i (Tick stamp) tick.is in
       let m : Msg = msg.ReadDone (want t n 0) (Some s.part) in
       let ej = beat_is p lives cubs c small j (Take (facts.stamp_of y a.reading) a.link m) a.is in
-      let less = before_tick p lives cubs.lived c j i stamp small low a.done tick.is (ap is_tick_input a.is)
+      let less = message_before p lives cubs.lived c i j small low a.done (ap is_tick_input tick.is) (ap is_tick_input a.is)
       (omega arith) in
       let x = own_line (store_of p lives c j) t n a.there in
       let d = trail p c (lives.input c) j x.0 x.1 in
@@ -266,4 +268,4 @@ module _ (p : Params) (lives : Lives) (cubs : AreCubs p lives) (beyond : Beyond)
       let over = k.past in
       absurd (omega arith))
       m.why)
-      (stays_or_gone p lives cubs c d.at i (own_of t n) small (omega arith) (omega arith) taken)
+      (stays_or_gone p cubs.plan lives c d.at i (own_of t n) small (omega arith) (omega arith) taken)

@@ -17,14 +17,15 @@ use Rattle.cub_rules.specs.declared.store.Store.{Store}
 use Rattle.cub_rules.specs.Ticks.{split_line, forward_line, ask_line, is_served, is_past}
 use Rattle.cub_changes.specs.Changes.{Change, did}
 use Rattle.cub_changes.specs.Changes.Change.{DropLines, TakeRecord, SplitVisits, Forward, AskBlocks, ServeBlocks, DropBackups}
-use Rattle.stops_laws.proofs.HoldLaws.{no_both}
+use Rattle.proof_lives.proofs.HoldLaws.{no_both}
 use Rattle.cub_changes.proofs.Closed.{IsClosed}
 use Rattle.cub_changes.proofs.Messages.{taking_by}
 use Rattle.cub_changes.proofs.Ticks.{ticking_by}
-use Rattle.schedule_laws.specs.Lives.{In, deed_of, store_at}
-use Rattle.schedule_laws.proofs.Members.{chosen, from_map, from_filter}
-use Rattle.schedule_laws.proofs.Moves.{from_with_line}
-use Rattle.schedule_laws.proofs.Steps.{forward_same, split_same, ask_same}
+use Rattle.proof_lives.specs.Lives.{deed_of, store_at}
+use Rattle.lists.specs.Elements.{In}
+use Rattle.lists.proofs.Elements.{chosen, from_map, from_filter}
+use Rattle.proof_lives.proofs.Moves.{from_with_line}
+use Rattle.proof_lives.proofs.Steps.{forward_same, split_same, ask_same}
 
 -- Lines of one slot and visit are one line.
 pub record AreSingle (lines : List Line) : Type 0 where

@@ -13,11 +13,12 @@ use Rattle.node_kit.specs.Steps.Input.{Take, Tick}
 use Rattle.partial_view.specs.declared.line.Line.{Line}
 use Rattle.cub_rules.specs.declared.store.Store.{Store}
 use Rattle.cub_rules.specs.Ticks.{must_read}
-use Rattle.stops_laws.proofs.HoldLaws.{no_both}
-use Rattle.schedule_laws.specs.Lives.{In, deed_of, store_at, outs_at}
-use Rattle.schedule_laws.proofs.Moves.{taken_out}
-use Rattle.schedule_laws.proofs.States.{from_tick}
-use Rattle.cub_facts.specs.Pieces.{before_reading}
+use Rattle.proof_lives.proofs.HoldLaws.{no_both}
+use Rattle.proof_lives.specs.Lives.{deed_of, store_at, outs_at}
+use Rattle.lists.specs.Elements.{In}
+use Rattle.proof_lives.proofs.Moves.{taken_out}
+use Rattle.proof_lives.proofs.States.{from_tick}
+use Rattle.proof_facts.specs.Pieces.{before_reading}
 use Rattle.proof_blocks.specs.Marks.{AskedBefore, WasEarly}
 use Rattle.proof_blocks.proofs.Marks.{taking_none, before_none, before_out, IsLeft, ticking_left, asked_line, unread_early, unserved_early}
 

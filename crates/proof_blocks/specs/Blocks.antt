@@ -4,12 +4,12 @@ use Rattle.slot_plan.specs.declared.params.Params.{Params}
 use Rattle.slot_plan.specs.Conditions.{IsPlan}
 use Rattle.stripe_layout.specs.declared.catalogue.Catalogue.{Catalogue}
 use Rattle.disk_core.specs.State.{DiskState}
-use Rattle.schedule_laws.specs.Lives.{Lives, AreLives}
-use Rattle.stops_laws.specs.HoldsHere.{AreAllFormed}
-use Rattle.cub_facts.specs.Blocks.{blocks_by}
-use Rattle.cub_facts.specs.Facts.{HasTicked, cubs_alone, facts_by}
-use Rattle.cub_facts.specs.Laws.{ReadLaws}
-use Rattle.cub_facts.specs.Pieces.{pieces_by}
+use Rattle.proof_lives.specs.Lives.{Lives, AreLives}
+use Rattle.proof_lives.specs.HoldsHere.{AreAllFormed}
+use Rattle.proof_facts.specs.Blocks.{blocks_by}
+use Rattle.proof_lives.specs.FactsBy.{HasTicked, cubs_alone, facts_by}
+use Rattle.proof_facts.specs.Laws.{ReadLaws}
+use Rattle.proof_facts.specs.Pieces.{pieces_by}
 use Rattle.proof_parts.specs.Asks.{HaveDisks}
 
 -- It is the number of the whole block.

@@ -11,8 +11,9 @@ use Rattle.node_kit.specs.Steps.{Input}
 use Rattle.node_kit.specs.Steps.Input.{Tick}
 use Rattle.partial_view.specs.declared.line.Line.{Line}
 use Rattle.cub_rules.specs.Ticks.{must_read}
-use Rattle.schedule_laws.specs.Lives.{In, store_at, outs_at}
-use Rattle.cub_facts.specs.Pieces.{before_reading}
+use Rattle.proof_lives.specs.Lives.{store_at, outs_at}
+use Rattle.lists.specs.Elements.{In}
+use Rattle.proof_facts.specs.Pieces.{before_reading}
 
 -- At a tick before its input of number i, cub c asked for the block of a line's record.
 pub record AskedBefore (p : Params) (c : ℕ) (inputs : ℕ → Input Msg) (i : ℕ)

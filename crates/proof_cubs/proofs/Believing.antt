@@ -10,32 +10,45 @@ use Rattle.node_kit.specs.declared.outbox.Out.TheVariants as out
 use Rattle.node_kit.specs.Steps.{Deed, Input}
 use Rattle.node_kit.specs.Steps.Input.{Take, Tick}
 use Rattle.node_kit.specs.Deeds.{nothing}
-use Rattle.insert_queue.specs.Queues.{Queues}
 use Rattle.deadman.specs.Silence.{Silence, is_silent}
 use Rattle.cub_rules.specs.declared.store.Store.{Store}
 use Rattle.cub_rules.specs.Ticks.{releasing, believing, ticking}
-use Rattle.cub_changes.specs.Laws.{believed_out, KeepsBelief}
+use Rattle.cub_changes.specs.Changes.{Change, did}
+use Rattle.cub_changes.specs.Changes.Change.{Believe}
+use Rattle.cub_changes.specs.Causes.{Stage, Cause, IsDeadman}
+use Rattle.cub_changes.specs.Causes.Stage.{OnInsertion, OnService}
+use Rattle.cub_changes.specs.Laws.{KeepsBelief}
+use Rattle.cub_changes.proofs.Ticks.{late_by}
 use Rattle.cub_changes.proofs.Beliefs.{keep_belief}
 use Rattle.proof_cubs.specs.Grounds.{HasWritten, BeliefIsWritten}
-use Rattle.schedule_laws.specs.Lives.{In, store_at, outs_at, deed_of}
-use Rattle.schedule_laws.proofs.Members.{chosen}
-use Rattle.schedule_laws.proofs.Keeping.{after_belief_keeps, releasing_keeps, same_watch}
-use Rattle.schedule_laws.proofs.Queuing.{releasing_steady}
-use Rattle.schedule_laws.proofs.Steps.{and_false, not_false}
-use Rattle.schedule_laws.proofs.Ticking.{before_inserting}
-use Rattle.stops_laws.proofs.HoldLaws.{no_both}
-use Rattle.proof_cubs.proofs.Members.{to_lives, to_causes}
+use Rattle.proof_lives.specs.Lives.{store_at, outs_at, deed_of}
+use Rattle.lists.specs.Elements.{In}
+use Rattle.lists.proofs.Elements.{chosen}
+use Rattle.proof_lives.proofs.Queuing.{releasing_steady}
+use Rattle.proof_lives.proofs.Steps.{and_false, not_false}
+use Rattle.proof_lives.proofs.Ticking.{before_inserting}
+use Rattle.proof_lives.proofs.HoldLaws.{no_both}
 
 -- What one event makes of belief is as cub_changes proves it for the whole cub.
 pub keeps_belief : (p : Params) (c : ℕ) (i : Input Msg) (h : Store) → KeepsBelief p c i h (deed_of p c i h)
 keeps_belief p c (Take stamp link m) h = keep_belief (record { params = p; cub = c; store = h }) (Take stamp link m)
 keeps_belief p c (Tick stamp) h = keep_belief (record { params = p; cub = c; store = h }) (Tick stamp)
 
+-- No change but that of the deadman step changes belief.
+belief_same : (p : Params) (c : ℕ) (stamp : Stamp) (g : Stage) → (IsDeadman g → ⊥) → (from : Store) (x : Change) (h : Store)
+    → Cause p c stamp g from x h
+    → (did p c stamp x h).state.believes ≡ h.believes
+belief_same p c stamp g apart from Believe h cause = absurd (apart cause.0)
+belief_same p c stamp g apart from other h cause = refl
+
 -- A tick changes no belief once insertion begins.
 belief_lasts : (p : Params) (c : ℕ) (stamp : Stamp) (h : Store)
     → (ticking p c stamp h).state.believes ≡ (before_inserting p c stamp h).believes
 unfolding ticking
-belief_lasts p c stamp h = (after_belief_keeps p c stamp (before_inserting p c stamp h)).0
+belief_lasts p c stamp h =
+    late_by (λ (q : Store) (d : Deed Msg Store). d.state.believes ≡ q.believes)
+    (record { none = λ q. refl; both = λ q d e one two. two ∙ one }) p c stamp (before_inserting p c stamp h)
+    (belief_same p c stamp OnInsertion (λ e. e)) (belief_same p c stamp OnService (λ e. e))
 
 -- A cub whose watch is silent at a tick believes its predecessor dead after the deadman step.
 believing_silent : (p : Params) (c : ℕ) (stamp : Stamp) (h : Store) → is_silent h.watch stamp.reading ≡ true
@@ -55,20 +68,19 @@ pub silent_believes : (p : Params) (c : ℕ) (stamp : Stamp) (h : Store) → is_
     → (before_inserting p c stamp h).believes ≡ true
 silent_believes p c stamp h e =
     believing_silent p c stamp (releasing p stamp h).state
-    (subst (λ (w : Silence). is_silent w stamp.reading ≡ true) (sym (same_watch p stamp h)) e)
+    (subst (λ (w : Silence). is_silent w stamp.reading ≡ true) (sym (releasing_steady p stamp h).1) e)
 
 -- A cub that believes its predecessor dead when insertion begins has no redundant start then.
 pub none_apart : (p : Params) (c : ℕ) (stamp : Stamp) (h : Store)
     → (h.believes ≡ true → h.starts.redundant ≡ []) → (before_inserting p c stamp h).believes ≡ true
     → (before_inserting p c stamp h).starts.redundant ≡ []
-unfolding believing
+unfolding believing releasing
 none_apart p c stamp h none =
     let g : Store = (releasing p stamp h).state in
     chosen (λ (d : Deed Msg Store). d.state.believes ≡ true → d.state.starts.redundant ≡ [])
     (not g.believes && is_silent g.watch stamp.reading) _ (nothing g)
     (λ _ _. refl)
-    (λ _ e.
-    ap (λ (q : Queues). q.redundant) (releasing_steady p stamp h).0 ∙ none (sym (releasing_keeps p stamp h).0 ∙ e))
+    (λ _ e. none e)
 
 -- ---- along a life
 module _ (p : Params) (c : ℕ) (inputs : ℕ → Input Msg) where
@@ -80,7 +92,7 @@ module _ (p : Params) (c : ℕ) (inputs : ℕ → Input Msg) where
   written zero e = absurd (cc)
   written (suc i) e = ⊎_elim
       (λ b. later (written i b))
-      (λ o. record { at = i; before = omega arith; wrote = to_lives (believed_out p c) (outs_at p c inputs i) o })
+      (λ o. record { at = i; before = omega arith; wrote = o })
       ((keeps_belief p c (inputs i) (store_at p c inputs i)).written e)
 
   -- Once it wrote so it believes it.
@@ -92,7 +104,7 @@ module _ (p : Params) (c : ℕ) (inputs : ℕ → Input Msg) where
       ⊎_elim
       (λ (e : j ≡ i).
       let now = subst (λ n. In (out.Act (what.Believed who)) (outs_at p c inputs n)) e o in
-      (k.entry who (to_causes (out.Act (what.Believed who)) (outs_at p c inputs i) now)).4)
+      (k.entry who now).4)
       (λ (b : j < i). k.stays (believes_after i j who b o))
       (eq-or-lt_of_le (let z : j ≤ i = omega arith in z))
 

@@ -21,28 +21,28 @@ use Rattle.cub_rules.specs.declared.store.Store.{Store}
 use Rattle.cub_rules.specs.Messages.{shows}
 use Rattle.proof_schedule.specs.Facts.{Facts, IsReleasedBy, IsUnheld}
 use Rattle.proof_schedule.specs.StartLaws.{Comes, HadLeft}
-use Rattle.schedule_laws.specs.Facts.{DidAt, TookAt, TookMessage}
-use Rattle.schedule_laws.specs.Lives.{In, Lives, store_at, outs_at, is_tick_input, beat_at}
-use Rattle.schedule_laws.proofs.Members.{chosen}
-use Rattle.schedule_laws.proofs.Moves.{taken_out}
-use Rattle.schedule_laws.proofs.Inserting.{put_out}
-use Rattle.schedule_laws.proofs.TakingOver.{inserting_puts}
-use Rattle.schedule_laws.proofs.Lines.{MayAt, MightLeave, stays}
-use Rattle.schedule_laws.proofs.Order.{beats_rise, behind}
-use Rattle.schedule_laws.proofs.States.{put_at_tick, put_inserted, at_tick}
-use Rattle.schedule_laws.proofs.Ticking.{before_inserting}
-use Rattle.schedule_laws.proofs.Waiting.{IsQueued, before_back}
-use Rattle.stops_laws.specs.HoldsHere.{IsFormed}
-use Rattle.stops_laws.proofs.Begun.{IsStop}
-use Rattle.stops_laws.proofs.Holds.{in_held}
-use Rattle.stops_laws.proofs.HoldLaws.{no_both}
-use Rattle.stops_laws.proofs.Persist.{IsReleased, held_since}
-use Rattle.cub_facts.specs.Facts.{Beyond, facts_by}
+use Rattle.proof_lives.specs.Facts.{DidAt, TookAt, TookMessage}
+use Rattle.proof_lives.specs.Lives.{Lives, store_at, outs_at, beat_at}
+use Rattle.run_facts.specs.Events.{is_tick_input}
+use Rattle.lists.specs.Elements.{In}
+use Rattle.lists.proofs.Elements.{chosen}
+use Rattle.proof_lives.proofs.Moves.{taken_out}
+use Rattle.proof_lives.proofs.Inputs.{stop_of, got_message, ticked_there, message_before}
+use Rattle.proof_lives.proofs.Inserting.{put_out}
+use Rattle.proof_lives.proofs.TakingOver.{inserting_puts}
+use Rattle.proof_lives.proofs.Lines.{MayAt, MightLeave, stays}
+use Rattle.proof_lives.proofs.Order.{beats_rise, behind}
+use Rattle.proof_lives.proofs.States.{put_at_tick, put_inserted, at_tick}
+use Rattle.proof_lives.proofs.Ticking.{before_inserting}
+use Rattle.proof_lives.proofs.Waiting.{IsQueued, before_back}
+use Rattle.proof_lives.specs.HoldsHere.{IsFormed}
+use Rattle.proof_lives.proofs.Begun.{IsStop, stop_as}
+use Rattle.proof_lives.proofs.HoldLaws.{no_both, stop_in, released_by}
+use Rattle.proof_lives.proofs.Persist.{IsReleased, unheld_released}
+use Rattle.proof_lives.specs.FactsBy.{Beyond, facts_by}
 use Rattle.proof_cubs.specs.Grounds.{IsLetIn}
 use Rattle.proof_cubs.specs.Setting.{Setting}
-use Rattle.schedule_laws.proofs.StateLaws.{stop_of}
-use Rattle.stops_laws.proofs.Starts.{without_none, stop_drops}
-use Rattle.proof_cubs.proofs.Standing.{got_message, ticked_there, released, message_before}
+use Rattle.proof_lives.proofs.Starts.{without_none, stop_drops}
 use Rattle.proof_cubs.proofs.Letting.{let_in, took_drops}
 
 -- A view shows an instance of which it has a line.
@@ -64,10 +64,8 @@ module _ (p : Params) (c count : ℕ) (plan : IsPlan p) (here : c < p.cubs) (inp
   over_before i j a s low before stop =
       let sb = s.before in
       ⊎_elim
-      (λ (l : j < s.at). ⊎_elim
-      (λ h. absurd (no_both (in_held a.instance h.holding (store_at p c inputs s.at).held h.member h.same) s.free))
-      (λ k. k)
-      (held_since p c inputs count formed s.at j a.instance.0 l (omega arith) stop))
+      (λ (l : j < s.at).
+      unheld_released p c inputs count formed s.at j a.instance.0 l (omega arith) stop a.instance refl s.free)
       (λ (g : s.at ≤ j). ⊎_elim
       (λ (e : s.at ≡ j).
       let m : Msg = msg.Deschedule stop.instance stop.tag in
@@ -123,7 +121,7 @@ module _ (p : Params) (lives : Lives) (beyond : Beyond) (set : Setting p lives b
       } in
       let over = over_before p c (lives.count c) set.plan small inputs (set.formed c small) i n a s (omega arith)
       (omega arith) stop in
-      inr (released p lives beyond set c s.at n a.instance.0 (beat_at inputs s.at) small (omega arith) (omega arith)
+      inr (released_by p set.plan lives set.lived set.formed beyond c s.at n a.instance.0 (beat_at inputs s.at) small (omega arith) (omega arith)
       over)
   left_how c i j n a r s (Tick stamp) small low before is may same =
       let inputs : ℕ → Input Msg = lives.input c in
@@ -132,7 +130,7 @@ module _ (p : Params) (lives : Lives) (beyond : Beyond) (set : Setting p lives b
       inl (record {
         beat = beat_at inputs n;
         reading = stamp.reading;
-        ticked = ticked_there p lives beyond set c n stamp small (omega arith) is;
+        ticked = ticked_there p lives c n stamp small (omega arith) is;
         before = e;
         due = may;
       })
@@ -157,20 +155,13 @@ module _ (p : Params) (lives : Lives) (beyond : Beyond) (set : Setting p lives b
       let eb = w.in_beat in
       let r = g.took in
       let rb : beat_at inputs r.at ≡ y = ap (λ (k : Input Msg). (stamp_of k).beat) r.is in
-      let before = message_before p lives beyond set c i r.at w.small w.low r.done w.tick (ap is_tick_input r.is)
+      let before = message_before p lives set.lived c i r.at w.small w.low r.done w.tick (ap is_tick_input r.is)
       (omega arith) in
-      let stop : IsStop p c inputs r.at a.instance.0 = record {
-        stamp = record { beat = y; reading = r.reading };
-        link = r.link;
-        instance = g.instance;
-        tag = g.tag;
-        is = r.is;
-        same = g.same ∙ sym w.same;
-      } in
+      let stop = stop_as p c inputs r.at v a.instance.0 (sym w.same) (stop_in p lives g) in
       let over = over_before p c (lives.count c) set.plan w.small inputs (set.formed c w.small) i r.at a s (omega arith)
       before stop in
       subst (λ n. IsReleasedBy p R c n (beat_at inputs s.at)) w.same
-      (released p lives beyond set c s.at r.at a.instance.0 (beat_at inputs s.at) w.small (omega arith) (omega arith)
+      (released_by p set.plan lives set.lived set.formed beyond c s.at r.at a.instance.0 (beat_at inputs s.at) w.small (omega arith) (omega arith)
       over)
 
   -- Each record of it that a state gave had left then.
@@ -184,7 +175,7 @@ module _ (p : Params) (lives : Lives) (beyond : Beyond) (set : Setting p lives b
       let eb = w.in_beat in
       let f = g.done in
       let fb = f.in_beat in
-      let before = message_before p lives beyond set c i f.at w.small w.low f.done w.tick g.message (omega arith) in
+      let before = message_before p lives set.lived c i f.at w.small w.low f.done w.tick g.message (omega arith) in
       let q : Rec = record { tenancy = u; visit = n; kind = g.kind } in
       let mine = same ∙ sym w.same in
       let b = left_before p c (lives.count c) set.plan w.small inputs (set.formed c w.small) i f.at a q s before
@@ -216,7 +207,7 @@ module _ (p : Params) (lives : Lives) (beyond : Beyond) (set : Setting p lives b
       let last = w.last in
       let one = leb-true _ _ (and_parts (nat_le 1 w.ask.count) (nat_le w.ask.count most_blocks) s.counted).0 in
       let rise = beats_rise p (lives.count c) inputs (set.lived c d.small) s.at d.at (omega arith) d.done in
-      let m = got_message p lives beyond set c s.at s.stamp s.link (msg.Start s.redundant w.ask) d.small (omega arith)
+      let m = got_message p lives c s.at s.stamp s.link (msg.Start s.redundant w.ask) d.small (omega arith)
       s.is in
       let put : IsPutLater c d.at x t.instance.0 w.ask = record {
         start = s;

@@ -1,5 +1,6 @@
--- A Put as the laws of records speak of it: by the cub of its first visit, or for a predecessor that is believed dead.
-use Rattle.std.proofs.Common.{◌≡◌, ℕ, suc, ◌+◌, ◌<◌, List, true, refl, sym, ap, subst, ◌∙◌, arith, ⊎_elim, inl, inr}
+-- A Put as the laws of records speak of it: by the cub of its first visit, or for a predecessor that is believed dead. It inserts
+-- what it gives, and its visit is free.
+use Rattle.std.proofs.Common.{◌≡◌, ℕ, suc, ◌+◌, ◌<◌, ◌≤◌, List, true, refl, sym, ap, subst, ◌∙◌, arith, ⊎_elim, inl, inr, eq-or-lt_of_le}
 use Rattle.std.specs.Prelude.{◌⊎◌}
 use Rattle.tiger_base.specs.declared.number.Stamp.{Stamp}
 use Rattle.tiger_base.specs.declared.tenancy.Kind.TheVariants.{Own}
@@ -8,31 +9,36 @@ use Rattle.tiger_base.specs.declared.tenancy.Tenancy.{Tenancy}
 use Rattle.tiger_base.specs.declared.message.Msg.{Msg}
 use Rattle.tiger_base.specs.Records.{own_of}
 use Rattle.slot_plan.specs.declared.params.Params.{Params}
+use Rattle.slot_plan.specs.Times.{due}
 use Rattle.slot_plan.proofs.Times.{cub_apart, seven_cubs}
 use Rattle.node_kit.specs.declared.outbox.Out.{Out}
-use Rattle.node_kit.specs.Steps.{Input}
+use Rattle.node_kit.specs.Steps.{Input, stamp_of}
 use Rattle.node_kit.specs.Steps.Input.{Tick}
 use Rattle.node_kit.specs.Ways.{predecessor}
 use Rattle.partial_view.specs.declared.line.Line.{Line}
 use Rattle.cub_rules.specs.declared.store.Store.{Store}
 use Rattle.cub_rules.specs.Ticks.{number, inserting, ticking}
-use Rattle.proof_schedule.specs.Facts.{Facts, BelievedBy}
+use Rattle.proof_schedule.specs.Facts.{Facts, BelievedBy, ReachedBy, Entered, IsGiven}
 use Rattle.proof_schedule.specs.StateLaws.{Inserts, Stands}
-use Rattle.schedule_laws.specs.Facts.{TickedAt, DidAt, InsertedAt}
-use Rattle.schedule_laws.specs.Lives.{In, Lives, store_at, is_tick_input, beat_at}
-use Rattle.schedule_laws.proofs.Moves.{taken_out}
-use Rattle.schedule_laws.proofs.Inserting.{put_out, state_out, IsAt}
-use Rattle.schedule_laws.proofs.TakingOver.{inserting_puts}
-use Rattle.schedule_laws.proofs.Order.{beats_rise}
-use Rattle.schedule_laws.proofs.States.{put_at_tick, put_inserted, at_tick, from_tick}
-use Rattle.schedule_laws.proofs.Ticking.{before_inserting, same_before, inserted_out}
-use Rattle.cub_facts.specs.Facts.{Beyond, facts_by}
-use Rattle.cub_facts.proofs.NoReturns.{first_life}
+use Rattle.proof_lives.specs.Facts.{TickedAt, DidAt, InsertedAt}
+use Rattle.proof_lives.specs.Lives.{Lives, store_at, outs_at, beat_at, reading_at}
+use Rattle.run_facts.specs.Events.{is_tick_input}
+use Rattle.lists.specs.Elements.{In}
+use Rattle.proof_lives.proofs.Inputs.{ticked_there, entered_did}
+use Rattle.proof_lives.proofs.Moves.{taken_out}
+use Rattle.proof_lives.proofs.Inserting.{put_out, state_out, IsAt}
+use Rattle.proof_lives.proofs.Leaving.{stays_or_stopped}
+use Rattle.proof_lives.proofs.TakingOver.{inserting_puts}
+use Rattle.proof_lives.proofs.Order.{beats_rise, not_behind}
+use Rattle.proof_lives.proofs.States.{put_at_tick, put_inserted, took_inserted, at_tick, at_tick_same, from_tick}
+use Rattle.proof_lives.proofs.Ticking.{before_inserting, same_before, inserted_out}
+use Rattle.proof_lives.specs.FactsBy.{Beyond, facts_by}
+use Rattle.proof_lives.proofs.NoReturns.{first_life}
 use Rattle.proof_cubs.specs.Grounds.{TakesSecond, HasWritten}
 use Rattle.proof_cubs.specs.Setting.{Setting}
 use Rattle.proof_cubs.proofs.Believing.{written_when}
 use Rattle.proof_cubs.proofs.Second.{puts_take_second}
-use Rattle.proof_cubs.proofs.Standing.{come_now, come_before, stands, is_tick, ticked_there}
+use Rattle.proof_cubs.proofs.Standing.{come_now, come_before, stands, is_tick}
 
 module _ (p : Params) (lives : Lives) (beyond : Beyond) (set : Setting p lives beyond) where
   abbrev R : Facts
@@ -92,6 +98,51 @@ module _ (p : Params) (lives : Lives) (beyond : Beyond) (set : Setting p lives b
       (λ y. inr (line_stands c i x t.slot.0 (t.first + 1) stamp y.0 small low is eb y.1 (y.2, y.3)))
       next
 
+  -- A record is inserted by a Put, which gives it.
+  pub inserted : {c n x : ℕ} {t : Tenancy} → InsertedAt p lives c t n x → DidAt p lives c (put_out t) x × IsGiven p c t t.first n
+  inserted {c} {n} {x} {t} w =
+      let d = w.done in
+      let inputs : ℕ → Input Msg = lives.input c in
+      let h : Store = store_at p c inputs d.at in
+      let q : Rec = record { tenancy = t; visit = n; kind = w.kind } in
+      let a = at_tick p c inputs d.at (taken_out q) w.tick d.did in
+      let k = took_inserted p c set.plan d.small a.stamp h q a.did in
+      let told = (inserting_puts p c a.stamp set.plan d.small (before_inserting p c a.stamp h)).told q k in
+      let put = from_tick p c inputs d.at a.stamp (put_out t) a.is (inserted_out p c a.stamp h (put_out t) told.0) in
+      (record { small = d.small; at = d.at; done = d.done; in_beat = d.in_beat; did = put }, told.1)
+
+  -- The visit of a Put is free: if a record of it came before, that is of the same instance, or was descheduled.
+  pub free : {c x y : ℕ} {t u : Tenancy} → DidAt p lives c (put_out t) x → Entered R c u t.first y → y ≤ x
+      → u.slot.0 ≡ t.slot.0 → (u.instance.0 ≡ t.instance.0) ⊎ ReachedBy R c u.instance.0 x
+  free {c} {x} {y} {t} {u} d entered le slot =
+      let inputs : ℕ → Input Msg = lives.input c in
+      let g : Store = store_at p c inputs d.at in
+      let e = (entered_did p lives entered).1 in
+      let q : Rec = record { tenancy = u; visit = t.first; kind = (entered_did p lives entered).0 } in
+      let tick = put_at_tick p c set.plan d.small (inputs d.at) g t d.did in
+      let a = at_tick p c inputs d.at (put_out t) tick d.did in
+      let k = put_inserted p c set.plan d.small a.stamp g t a.did in
+      let puts = inserting_puts p c a.stamp set.plan d.small (before_inserting p c a.stamp g) in
+      let db = d.in_beat in
+      let eb = e.in_beat in
+      let low = not_behind p (lives.count c) inputs (set.lived c d.small) e.at d.at d.done e.done tick (omega arith) in
+      let same : due p u.slot.0 t.first ≡ due p t.slot.0 t.first = ap (λ s. due p s t.first) slot in
+      let read : reading_at inputs d.at ≡ a.stamp.reading = ap (λ (i : Input Msg). (stamp_of i).reading) a.is in
+      let above = (puts.put t k).above in
+      ⊎_elim
+      (λ (now : e.at ≡ d.at).
+      let i = subst (λ m. In (taken_out q) (outs_at p c inputs m)) now e.did in
+      let j = took_inserted p c set.plan d.small a.stamp g q (at_tick_same p c inputs d.at a.stamp (taken_out q) a.is i) in
+      inl (ap (λ (z : Tenancy). z.instance.0) (puts.one t q k j slot refl)))
+      (λ (before : e.at < d.at). ⊎_elim
+      (λ s. absurd (puts.free t s.line k
+      (subst (λ (ls : List Line). In s.line ls) (sym (same_before p c a.stamp g)) s.there)
+      (ap (λ (z : Rec). z.tenancy.slot.0) s.same ∙ slot, ap (λ (z : Rec). z.visit) s.same)))
+      (λ m. let by = m.2 in inr (record { beat = m.0; reached = m.1; by = omega arith }))
+      (stays_or_stopped p set.plan lives set.lived c e.at d.at d.at q d.small before (omega arith) d.done (omega arith)
+      e.did))
+      (eq-or-lt_of_le low)
+
   -- A Put is as the law of insertion has it.
   pub inserts : {c : ℕ} {t : Tenancy} {x : ℕ} → DidAt p lives c (put_out t) x → Inserts p R c t x
   inserts {c} {t} {x} d =
@@ -105,7 +156,7 @@ module _ (p : Params) (lives : Lives) (beyond : Beyond) (set : Setting p lives b
       let next = puts_take_second p c a.stamp g t set.plan d.small k in
       let eb = d.in_beat in
       let ticked = subst (λ n. TickedAt p lives c n a.stamp.reading) eb
-      (ticked_there p lives beyond set c d.at a.stamp d.small d.done a.is) in
+      (ticked_there p lives c d.at a.stamp d.small d.done a.is) in
       let also : (o : Out Msg) → In o (ticking p c a.stamp h).outs → DidAt p lives c o x =
       λ o i. record {
         small = d.small;

@@ -1,6 +1,6 @@
 -- The starts that a cub lets in: their instance is then neither held nor shown, and while a start waits no state of its
 -- instance is taken and no deschedule comes.
-use Rattle.std.proofs.Common.{◌≡◌, ℕ, zero, suc, ◌<◌, List, [], ◌∷◌, Bool, true, false, cond, not, Option, Some, None, refl, sym, ap, subst, ◌∙◌, arith, ⊎_elim, inl, inr, eq-or-lt_of_le}
+use Rattle.std.proofs.Common.{◌≡◌, ℕ, zero, suc, ◌<◌, List, [], ◌∷◌, Bool, true, false, not, refl, sym, ap, subst, ◌∙◌, arith, ⊎_elim, inl, inr, eq-or-lt_of_le}
 use Rattle.std.specs.Prelude.{◌⊎◌, ◌||◌}
 use Rattle.std.proofs.lemmas.Bool.{cases_Bool}
 use Rattle.tiger_base.specs.declared.number.Instance.{Instance}
@@ -12,29 +12,27 @@ use Rattle.tiger_base.specs.declared.tenancy.State.{State}
 use Rattle.tiger_base.specs.declared.tenancy.Tenancy.{Tenancy}
 use Rattle.tiger_base.specs.declared.message.Msg.{Msg}
 use Rattle.tiger_base.specs.declared.message.Msg.TheVariants as msg
-use Rattle.tiger_base.specs.Notes.{noted}
 use Rattle.slot_plan.specs.declared.params.Params.{Params}
 use Rattle.slot_plan.specs.Keys.{Key}
-use Rattle.node_kit.specs.Form.{is_in_form}
 use Rattle.node_kit.specs.Steps.{Deed, Input}
 use Rattle.node_kit.specs.Steps.Input.{Take, Tick}
-use Rattle.viewer_state.specs.States.{is_visit_of}
 use Rattle.insert_queue.specs.Queues.{Queues, without_start}
 use Rattle.deschedule.specs.Holds.{is_held}
-use Rattle.node_kit.specs.Deeds.{nothing, each_in_turn}
+use Rattle.node_kit.specs.Deeds.{each_in_turn}
 use Rattle.cub_rules.specs.declared.store.Store.{Store}
 use Rattle.cub_rules.specs.State.{is_ask}
 use Rattle.cub_rules.specs.Records.{took, dropping_start}
-use Rattle.cub_rules.specs.Messages.{position_at, passing_from, records_told, told, met, meeting_state, shows, meeting_start, hearing, taking}
+use Rattle.cub_rules.specs.Messages.{records_told, told, shows, meeting_start, taking}
 use Rattle.proof_cubs.specs.Grounds.{IsLetIn}
-use Rattle.schedule_laws.specs.Lives.{In, store_at, deed_of, is_tick_input}
-use Rattle.schedule_laws.proofs.Members.{chosen}
-use Rattle.schedule_laws.proofs.Moves.{taken_out}
-use Rattle.schedule_laws.proofs.Queuing.{took_steady, takes_start}
-use Rattle.schedule_laws.proofs.Steps.{not_false}
-use Rattle.schedule_laws.proofs.Taking.{HeldIn, hushed_took, passing_from_silent, taking_hears}
-use Rattle.schedule_laws.proofs.Telling.{taking_told}
-use Rattle.schedule_laws.proofs.Waiting.{IsQueued, queued_since}
+use Rattle.proof_lives.specs.Lives.{store_at, deed_of}
+use Rattle.run_facts.specs.Events.{is_tick_input}
+use Rattle.lists.specs.Elements.{In}
+use Rattle.proof_lives.proofs.Moves.{taken_out}
+use Rattle.proof_lives.proofs.Queuing.{took_steady, takes_start}
+use Rattle.proof_lives.proofs.Steps.{not_false}
+use Rattle.proof_lives.proofs.Taking.{taking_hears}
+use Rattle.proof_lives.proofs.Telling.{taking_told, took_told}
+use Rattle.proof_lives.proofs.Waiting.{IsQueued, queued_since}
 
 no_either : (a b : Bool) → (a || b) ≡ false → (a ≡ false) × (b ≡ false)
 no_either true b e = absurd (cc)
@@ -64,35 +62,6 @@ told_drops : (s : State) (k : Key) (h : Store) → (told s k h).state.starts ≡
 told_drops s k h =
     took_each (records_told s k) (dropping_start s.tenancy.instance h).state ∙ drops s.tenancy.instance h
 
-met_drops : (p : Params) (c : ℕ) (stamp : Stamp) (s : State) (o : Option Key) (r : Rec) (h : Store)
-    → In (taken_out r) (met p c stamp s o h).outs
-    → (met p c stamp s o h).state.starts ≡ without_start h.starts s.tenancy.instance
-met_drops p c stamp s None r h i = absurd i
-met_drops p c stamp s (Some k) r h i =
-    let v : Instance = s.tenancy.instance in
-    let passed : Deed Msg Store = passing_from p c stamp v (Some k) h in
-    let silent = passing_from_silent p c (λ r. ⊥) (HeldIn h) stamp v (Some k) h (λ e. e) in
-    chosen (λ (d : Deed Msg Store). In (taken_out r) d.outs → d.state.starts ≡ without_start h.starts v)
-    (is_held h.held v) passed (told s k h)
-    (λ _ i. absurd (hushed_took (HeldIn h) r passed.outs silent.quiet i))
-    (λ _ i. told_drops s k h)
-    i
-
-state_drops : (p : Params) (c : ℕ) (stamp : Stamp) (link : LinkNo) (s : State) (r : Rec) (h : Store)
-    → In (taken_out r) (taking p c stamp link (msg.ViewerState s) h).outs
-    → (taking p c stamp link (msg.ViewerState s) h).state.starts ≡ without_start h.starts s.tenancy.instance
-unfolding taking hearing meeting_state
-state_drops p c stamp link s r h =
-    let v : Instance = s.tenancy.instance in
-    let P : Deed Msg Store → Type 0 = λ d. In (taken_out r) d.outs → d.state.starts ≡ without_start h.starts v in
-    let o : Option Key = position_at p c s.tenancy.slot s.visit in
-    let meets : Deed Msg Store = cond (is_visit_of s.tenancy s.visit) (met p c stamp s o h) (nothing h) in
-    chosen P (is_in_form p (noted (msg.ViewerState s))) meets (nothing h)
-    (λ _. chosen P (is_visit_of s.tenancy s.visit) (met p c stamp s o h) (nothing h)
-    (λ _ i. met_drops p c stamp s o r h i)
-    (λ _ i. absurd i))
-    (λ _ i. absurd i)
-
 -- A message of which a record is taken is such a state.
 pub took_drops : (p : Params) (c : ℕ) (k : Input Msg) (r : Rec) (h : Store) → is_tick_input k ≡ false
     → In (taken_out r) (deed_of p c k h).outs
@@ -101,8 +70,9 @@ took_drops p c (Take stamp link m) r h e i =
     let s = (taking_hears p c stamp link m h).only_states r i in
     let j = subst (λ (n : Msg). In (taken_out r) (taking p c stamp link n h).outs) s.1 i in
     let same : r.tenancy ≡ s.0.tenancy = (taking_told p c stamp link s.0 r h j).tenancy in
+    let k = took_told p c stamp link s.0 r h j in
     subst (λ (n : Msg). (taking p c stamp link n h).state.starts ≡ without_start h.starts r.tenancy.instance) (sym s.1)
-    (state_drops p c stamp link s.0 r h j ∙ ap (λ (t : Tenancy). without_start h.starts t.instance) (sym same))
+    (ap (λ (d : Deed Msg Store). d.state.starts) k.1 ∙ (told_drops s.0 k.0 h ∙ ap (λ (t : Tenancy). without_start h.starts t.instance) (sym same)))
 took_drops p c (Tick stamp) r h e i = absurd (cc)
 
 module _ (p : Params) (c : ℕ) (inputs : ℕ → Input Msg) where

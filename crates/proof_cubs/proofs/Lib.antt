@@ -1,12 +1,10 @@
 pub mod Believing
 pub mod Coming
 pub mod Filling
-pub mod Holding
 pub mod Inserting
 pub mod Laws
 pub mod Letting
 pub mod Listing
-pub mod Members
 pub mod Second
 pub mod Sending
 pub mod Showing

@@ -1,7 +1,7 @@
 -- A Put for a dead cub leaves no free place at its second visit: its own record is taken there, or a line stands there.
-use Rattle.std.proofs.Common.{◌≡◌, ℕ, ◌+◌, ◌<◌, ◌%◌, nat_lt, List, [], ◌∷◌, ◌++◌, true, false, refl, sym, ap, subst, ◌∙◌, ⊎_elim, inl, inr}
+use Rattle.std.proofs.Common.{◌≡◌, ℕ, ◌+◌, ◌<◌, ◌%◌, nat_lt, List, [], ◌∷◌, ◌++◌, true, false, cond, refl, sym, ap, subst, ◌∙◌, ⊎_elim, inl, inr}
 use Rattle.std.specs.Prelude.{◌⊎◌}
-use Rattle.std.proofs.lemmas.Bool.{cases_Bool, lt-ltb}
+use Rattle.std.proofs.lemmas.Bool.{lt-ltb}
 use Rattle.tiger_base.specs.declared.number.Stamp.{Stamp}
 use Rattle.tiger_base.specs.declared.tenancy.Rec.{Rec}
 use Rattle.tiger_base.specs.declared.tenancy.Tenancy.{Tenancy}
@@ -17,28 +17,25 @@ use Rattle.partial_view.specs.Lines.{visit_of}
 use Rattle.cub_rules.specs.declared.store.Store.{Store}
 use Rattle.cub_rules.specs.Records.{took}
 use Rattle.cub_rules.specs.Ticks.{putting, told_placed, putting_own, putting_for_dead, disks_at}
-use Rattle.cub_laws.proofs.Numbers.{visit_own, disks_own}
-use Rattle.cub_changes.specs.Causes as causes
+use Rattle.cub_changes.proofs.Numbers.{visit_own, disks_own}
+use Rattle.lists.specs.Elements.{In}
 use Rattle.cub_changes.specs.Causes.{Fills}
 use Rattle.cub_changes.proofs.Closed.{IsClosed}
-use Rattle.cub_changes.proofs.Members as changes
+use Rattle.lists.proofs.Each.{all_in}
 use Rattle.cub_changes.proofs.Puts.{puts_by}
 use Rattle.proof_cubs.specs.Grounds.{TakesSecond, PutsTakeSecond}
-use Rattle.schedule_laws.specs.Lives.{In}
-use Rattle.schedule_laws.proofs.Members.{chosen, in_left, in_right, in_cases}
-use Rattle.schedule_laws.proofs.Moves.{Moves, taken_out, still, moves_then, is_taken, took_new, took_none}
-use Rattle.schedule_laws.proofs.Inserting.{Never, put_out, opening}
-use Rattle.schedule_laws.proofs.Putting.{own_moves}
-use Rattle.schedule_laws.proofs.TakingOver.{second, first_done, dead_moves}
-use Rattle.schedule_laws.proofs.Seating.{own_one, dead_one}
-use Rattle.schedule_laws.proofs.Telling.{found_in}
+use Rattle.lists.proofs.Elements.{chosen, in_left, in_right, in_cases}
+use Rattle.proof_lives.proofs.Moves.{Moves, taken_out, moves_closed, is_taken}
+use Rattle.proof_lives.proofs.Inserting.{Never, put_out, opening}
+use Rattle.proof_lives.proofs.Putting.{OfPut, TakesOwn, TakesForDead, own_outs, dead_outs, own_fresh, dead_fresh}
+use Rattle.proof_lives.proofs.Telling.{found_in}
 
 -- A start that fills a visit on a disk of the cub's own is put at a visit of the cub's own.
 pub first_own : (p : Params) (c : ℕ) (stamp : Stamp) → IsPlan p → c < p.cubs → (from : Store) (t : Tenancy) (h : Store)
-    (o : Fills p c stamp from t h) → causes.In o.disk (disks_at p c) → c ≡ cub_of p t.first
+    (o : Fills p c stamp from t h) → In o.disk (disks_at p c) → c ≡ cub_of p t.first
 first_own p c stamp plan here from t h o own =
     let on = (opening p stamp.reading o.disk h o.key plan o.free).on_disk in
-    let mine = changes.all_in (λ d. d % p.cubs ≡ c) o.disk (disks_at p c) (disks_own p c here) own in
+    let mine = all_in (λ d. d % p.cubs ≡ c) o.disk (disks_at p c) (disks_own p c here) own in
     sym (visit_own p c o.disk o.key.1 on mine) ∙ ap (λ (u : Tenancy). cub_of p u.first) (sym o.is)
 
 -- The tenancy of a Put begins at a visit of the cub's own, or has no second visit, or that is taken.
@@ -84,7 +81,7 @@ module _ (p : Params) (c : ℕ) (h : Store) (d e : Deed Msg Store) (one : Second
 
   seconds_both : Seconds p c h whole
   seconds_both = record {
-    moves = moves_then p c Never h.view.lines d e one.moves two.moves;
+    moves = (moves_closed p c Never).both h d e one.moves two.moves;
     next = λ t k. ⊎_elim
         (λ q. stands_on t (one.next t q))
         (λ q. more_outs t (two.next t q))
@@ -93,56 +90,60 @@ module _ (p : Params) (c : ℕ) (h : Store) (d e : Deed Msg Store) (one : Second
 
 seconds_closed : (p : Params) (c : ℕ) → IsClosed (Seconds p c)
 seconds_closed p c = record {
-  none = λ h. record { moves = still p c Never h.view.lines (nothing h) refl tt; next = λ t k. absurd k };
+  none = λ h. record { moves = (moves_closed p c Never).none h; next = λ t k. absurd k };
   both = seconds_both p c;
 }
 
 -- ---- the two kinds of Put
-own_second : (p : Params) (c : ℕ) (t : Tenancy) (h : Store) → c ≡ cub_of p t.first
+own_second : (p : Params) (c : ℕ) (stamp : Stamp) (t : Tenancy) (h : Store) → c ≡ cub_of p t.first
     → Seconds p c h (putting_own p c t h)
-own_second p c t h own = record {
-  moves = own_moves p c t h;
-  next = λ u k. inl (own ∙ ap (λ (w : Tenancy). cub_of p w.first) (sym ((own_one p c).only t u h k)));
+own_second p c stamp t h own = record {
+  moves = (own_fresh p c stamp t h).moves;
+  next = λ u k.
+      let same : u ≡ t = all_in (OfPut p c t (TakesOwn t)) (put_out u) (putting_own p c t h).outs (own_outs p c stamp t h) k in
+      inl (own ∙ ap (λ (w : Tenancy). cub_of p w.first) (sym same));
 }
+
+-- The own record of the visit behind the first one, if there is one.
+abbrev second : Tenancy → Store → Deed Msg Store
+second t = cond (nat_lt t.first t.last) (took (own_of t (t.first + 1))) nothing
 
 -- The second record of a Put is taken, or a line stands in its place.
 second_found : (t : Tenancy) (h : Store) → t.first < t.last → TakesSecond t (second t h)
+unfolding took
 second_found t h more =
     let r : Rec = own_of t (t.first + 1) in
     chosen (λ (f : Store → Deed Msg Store). TakesSecond t (f h))
     (nat_lt t.first t.last) (took r) nothing
-    (λ _. ⊎_elim
-    (λ (e : is_taken r h ≡ true).
-    let f = found_in (visit_of r) h.view.lines e in
-    inr (f.0, subst (λ (d : Deed Msg Store). In f.0 d.state.view.lines) (sym (took_none r h e)) f.1, f.2.0, f.2.1))
-    (λ (e : is_taken r h ≡ false).
-    inl (subst (λ (os : List (Out Msg)). In (taken_out r) os) (sym (took_new r h e).0) (inl refl)))
-    (cases_Bool (is_taken r h)))
+    (λ _. chosen (λ (d : Deed Msg Store). TakesSecond t d) (is_taken r h) (nothing h) _
+    (λ e. let f = found_in (visit_of r) h.view.lines e in inr (f.0, f.1, f.2.0, f.2.1))
+    (λ _. inl (inl refl)))
     (λ f. let z : true ≡ false = sym (lt-ltb t.first t.last more) ∙ f in absurd (cc))
 
 dead_found : (p : Params) (c : ℕ) (t : Tenancy) (h : Store) → t.first < t.last
     → TakesSecond t (putting_for_dead p c t h)
 unfolding putting_for_dead
 dead_found p c t h more =
+    let g : Store = (took (backup_of t t.first) (putting t h).state).state in
     let first : List (Out Msg) = (took (backup_of t t.first) (putting t h).state).outs in
-    let next : List (Out Msg) = (second t (first_done t h)).outs in
+    let next : List (Out Msg) = (second t g).outs in
     let o : Out Msg = taken_out (own_of t (t.first + 1)) in
     ⊎_elim
     (λ k. inl (inr (in_right o first (next ++ told_placed p c t ∷ []) (in_left o next (told_placed p c t ∷ []) k))))
     (λ x. inr x)
-    (second_found t (first_done t h) more)
+    (second_found t g more)
 
-dead_second : (p : Params) (c : ℕ) (t : Tenancy) (h : Store) → Seconds p c h (putting_for_dead p c t h)
-dead_second p c t h = record {
-  moves = dead_moves p c t h;
+dead_second : (p : Params) (c : ℕ) (stamp : Stamp) (t : Tenancy) (h : Store) → Seconds p c h (putting_for_dead p c t h)
+dead_second p c stamp t h = record {
+  moves = (dead_fresh p c stamp t h).moves;
   next = λ u k.
-      subst (λ (w : Tenancy). HasSecond p c w (putting_for_dead p c t h)) (sym ((dead_one p c).only t u h k))
-      (inr (λ more. dead_found p c t h more));
+      let same : u ≡ t = all_in (OfPut p c t (TakesForDead t)) (put_out u) (putting_for_dead p c t h).outs (dead_outs p c stamp t h) k in
+      subst (λ (w : Tenancy). HasSecond p c w (putting_for_dead p c t h)) (sym same) (inr (λ more. dead_found p c t h more));
 }
 
 -- Insertion is made of Puts of these two kinds.
 pub puts_take_second : PutsTakeSecond
 puts_take_second p c stamp h t plan here k =
-    (puts_by p c stamp h (Seconds p c) (seconds_closed p c)
-    (λ u g o own. own_second p c u g (first_own p c stamp plan here h u g o own))
-    (λ u g o believes there. dead_second p c u g)).next t k
+    (puts_by (Seconds p c) (seconds_closed p c) p c stamp h
+    (λ u g o own. own_second p c stamp u g (first_own p c stamp plan here h u g o own))
+    (λ u g o believes there. dead_second p c stamp u g)).next t k

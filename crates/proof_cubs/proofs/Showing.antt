@@ -13,16 +13,18 @@ use Rattle.cub_rules.specs.declared.store.Store.{Store}
 use Rattle.cub_rules.specs.Ticks.{releasing, believing, inserting, splitting, forwarding, reading, is_served, is_past, serving_blocks, dropping_backups, serving_pieces, serving, ticking}
 use Rattle.proof_schedule.specs.Facts.{Facts}
 use Rattle.proof_schedule.specs.StateLaws.{IsShown}
-use Rattle.schedule_laws.specs.Lives.{In, Lives, deed_of, store_at, beat_at}
-use Rattle.schedule_laws.proofs.Members.{from_filter}
-use Rattle.schedule_laws.proofs.Steps.{beating_lines}
-use Rattle.schedule_laws.proofs.States.{tick_true}
-use Rattle.schedule_laws.proofs.Ticking.{not_true}
-use Rattle.stops_laws.proofs.HoldLaws.{no_both}
-use Rattle.cub_facts.specs.Facts.{Beyond, ShowsAt, facts_by}
-use Rattle.cub_facts.proofs.NoReturns.{same_life}
+use Rattle.proof_lives.specs.Lives.{Lives, deed_of, store_at, beat_at}
+use Rattle.lists.specs.Elements.{In}
+use Rattle.lists.proofs.Elements.{from_filter}
+use Rattle.proof_lives.proofs.Steps.{beating_lines}
+use Rattle.proof_lives.proofs.States.{tick_true}
+use Rattle.proof_lives.proofs.Ticking.{not_true}
+use Rattle.proof_lives.proofs.HoldLaws.{no_both}
+use Rattle.proof_lives.specs.FactsBy.{Beyond, ShowsAt, facts_by}
+use Rattle.proof_lives.proofs.NoReturns.{same_life}
+use Rattle.proof_lives.proofs.Reaching.{stop_by_tick}
 use Rattle.proof_cubs.specs.Setting.{Setting}
-use Rattle.proof_cubs.proofs.Standing.{come_before, stop_before, stop_in}
+use Rattle.proof_cubs.proofs.Standing.{come_before}
 
 -- A line that is neither served nor past is not due.
 undue : (p : Params) (stamp : Stamp) (y : Line) → is_served p stamp y ≡ false → is_past p stamp y ≡ false
@@ -88,8 +90,8 @@ module _ (p : Params) (lives : Lives) (beyond : Beyond) (set : Setting p lives b
         by = omega arith;
         since = λ y g le life.
             let tick = tick_true inputs k.at stamp k.is in
-            come.since g.took.at (stop_before p lives beyond set k.small k.done tick eb g le)
-            (stop_in p lives beyond set g);
+            let s = stop_by_tick p lives set.lived c k.at w.line.rec.tenancy.instance.0 y k.done tick g (omega arith) in
+            come.since s.at s.before s.stop;
         life = same_life p lives beyond c come.beat b;
       } in
       subst (λ (m : ℕ). IsShown p R c t m b) w.visit

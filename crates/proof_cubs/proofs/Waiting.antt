@@ -9,6 +9,7 @@ use Rattle.tiger_base.specs.declared.message.Msg.{Msg}
 use Rattle.tiger_base.specs.declared.message.Msg.TheVariants as msg
 use Rattle.slot_plan.specs.declared.params.Params.{Params}
 use Rattle.slot_plan.specs.Times.{due, disk_of}
+use Rattle.node_kit.specs.declared.course.Order.{Order}
 use Rattle.node_kit.specs.Steps.{Input, stamp_of}
 use Rattle.insert_queue.specs.Queues.{Queues}
 use Rattle.partial_view.specs.declared.line.Line.{Line}
@@ -17,28 +18,27 @@ use Rattle.cub_rules.specs.Ticks.{inserting}
 use Rattle.proof_schedule.specs.Facts.{Facts, BelievedBy}
 use Rattle.proof_schedule.specs.StateLaws.{Stands}
 use Rattle.proof_schedule.specs.StartLaws.{IsInWindow, Waits}
-use Rattle.schedule_laws.specs.Facts as own_facts
-use Rattle.schedule_laws.specs.Facts.{TickedAt, TookMessage}
-use Rattle.schedule_laws.specs.Lives.{In, Lives, deed_of, store_at, is_tick_input, beat_at}
-use Rattle.schedule_laws.proofs.Members.{in_left, in_right}
-use Rattle.schedule_laws.proofs.Inserting.{put_out, IsAt}
-use Rattle.schedule_laws.proofs.Ticking.{before_inserting, inserted_out}
-use Rattle.schedule_laws.proofs.Order.{not_behind}
-use Rattle.schedule_laws.proofs.States.{tick_true, from_tick}
-use Rattle.schedule_laws.proofs.Seating.{PutOf, IsFull}
-use Rattle.schedule_laws.proofs.Filling.{inserting_full}
-use Rattle.schedule_laws.proofs.StartLaws.{after_insertion_moves, waits_on, joins}
-use Rattle.schedule_laws.proofs.Waiting.{IsQueued, before_once, before_forth, before_starts, once_at}
-use Rattle.stops_held.specs.InOrder.{AreInOrder}
-use Rattle.stops_held.proofs.Reaching.{states_formed}
-use Rattle.cub_facts.specs.Facts.{Beyond, facts_by}
-use Rattle.cub_facts.specs.Laws.{ShowsSlot}
+use Rattle.proof_lives.specs.Facts.{TickedAt, TookMessage}
+use Rattle.proof_lives.specs.Lives.{Lives, deed_of, store_at, beat_at}
+use Rattle.run_facts.specs.Events.{is_tick_input}
+use Rattle.lists.specs.Elements.{In}
+use Rattle.lists.proofs.Elements.{in_left, in_right}
+use Rattle.proof_lives.proofs.Inputs.{message_before}
+use Rattle.proof_lives.proofs.Inserting.{put_out, IsAt}
+use Rattle.proof_lives.proofs.Ticking.{before_inserting, inserted_out, after_insertion_stays}
+use Rattle.proof_lives.proofs.Order.{not_behind}
+use Rattle.proof_lives.proofs.States.{tick_true, from_tick}
+use Rattle.proof_lives.proofs.Seating.{PutOf, IsFull}
+use Rattle.proof_lives.proofs.Filling.{inserting_full}
+use Rattle.proof_lives.proofs.Waiting.{IsQueued, before_forth, before_starts}
+use Rattle.proof_lives.specs.InOrder.{AreInOrder}
+use Rattle.proof_lives.specs.FactsBy.{Beyond, facts_by}
+use Rattle.proof_facts.specs.Laws.{ShowsSlot}
 use Rattle.proof_cubs.specs.Setting.{Setting}
 use Rattle.proof_cubs.proofs.Believing.{none_apart, apart_at, believes_after, believes_when}
 use Rattle.proof_cubs.proofs.Filling.{inserting_full_apart}
 use Rattle.proof_cubs.proofs.Inserting.{line_stands}
-use Rattle.proof_cubs.proofs.Listing.{IsOut, out_of, put_out_by, queued_on, start_joins}
-use Rattle.proof_cubs.proofs.Standing.{message_before}
+use Rattle.proof_cubs.proofs.Listing.{IsOut, put_out_by, queued_on, waits_on, start_joins}
 
 -- A start that stands in a list when a tick begins stands in one when insertion begins.
 before_queued : (p : Params) (c : ℕ) (stamp : Stamp) (h : Store) (a : Ask) → IsQueued a h.starts
@@ -52,12 +52,12 @@ before_queued p c stamp h a k = ⊎_elim
     (before_starts p c stamp h)
 
 module _ (p : Params) (lives : Lives) (beyond : Beyond) (set : Setting p lives beyond)
-    (outside : own_facts.Outside) (order : AreInOrder p lives outside) where
+    (orders : List Order) (order : AreInOrder p lives orders) where
   abbrev R : Facts
   R = facts_by p lives beyond
 
   abbrev Out : ℕ → ℕ → ℕ → Type 0
-  Out c v b = IsOut p lives beyond set outside order c v b
+  Out c v b = IsOut p lives beyond set orders order c v b
 
   -- What the cub keeps when insertion begins at a tick.
   abbrev ready : {c b l : ℕ} → TickedAt p lives c b l → Store
@@ -77,7 +77,7 @@ module _ (p : Params) (lives : Lives) (beyond : Beyond) (set : Setting p lives b
       let wb = in_beat w in
       let gb : beat_at (lives.input c) g.at ≡ y = ap (λ (i : Input Msg). (stamp_of i).beat) g.is in
       let tick = tick_true (lives.input c) w.at (record { beat = b; reading = l }) w.is in
-      message_before p lives beyond set c w.at g.at w.small w.done g.done tick (ap is_tick_input g.is) (omega arith)
+      message_before p lives set.lived c w.at g.at w.small w.done g.done tick (ap is_tick_input g.is) (omega arith)
 
   -- A plain start waits when insertion begins, or its instance is out.
   plain_waits : {c b l y : ℕ} {ask : Ask} (w : TickedAt p lives c b l) → TookMessage p lives c (msg.Start false ask) y
@@ -86,17 +86,19 @@ module _ (p : Params) (lives : Lives) (beyond : Beyond) (set : Setting p lives b
       let stamp : Stamp = record { beat = b; reading = l } in
       let wb = in_beat w in
       let gb : beat_at (lives.input c) g.at ≡ y = ap (λ (i : Input Msg). (stamp_of i).beat) g.is in
-      let formed = states_formed p set.plan lives outside order in
       let before = start_before w g le in
       ⊎_elim
       (λ q. ⊎_elim
+      (λ v. ⊎_elim
       (λ k. inl (before_forth p c stamp (store_at p c (lives.input c) w.at) ask k))
-      (λ k. inr (out_of p lives beyond set outside order k))
-      (waits_on p set.plan lives set.lived formed outside order.started c b w.at ask w.small w.done (omega arith) w.at
-      (suc g.at) (omega arith) (omega arith) q))
-      (λ q. inr (out_of p lives beyond set outside order q))
-      (joins p set.plan lives set.lived formed outside order.started c g.at b ask
-      (record { beat = y; reading = g.reading }) g.link w.small g.done (omega arith) g.is)
+      (λ k. inr k)
+      (waits_on p lives beyond set orders order c b w.at ask w.small w.done (omega arith) w.at (suc g.at) (omega arith)
+      (omega arith) v))
+      (λ v. let apart : false ≡ true = v.0 in absurd (cc))
+      q)
+      (λ q. inr q)
+      (start_joins p lives beyond set orders order c g.at b ask (record { beat = y; reading = g.reading }) g.link
+      false w.small g.done (omega arith) g.is)
 
   -- Belief that was written by a tick is there when insertion begins.
   believes_at : {c b l : ℕ} (w : TickedAt p lives c b l) → BelievedBy R c b → (ready w).believes ≡ true
@@ -131,10 +133,10 @@ module _ (p : Params) (lives : Lives) (beyond : Beyond) (set : Setting p lives b
       (λ v. absurd (subst (λ (xs : List Ask). In ask xs) none v))
       (before_queued p c stamp store ask k)))
       (λ k. inr k)
-      (queued_on p lives beyond set outside order c b w.at ask w.small w.done (omega arith) w.at (suc g.at)
-      (omega arith) (omega arith) q))
+      (queued_on p lives beyond set orders order c b w.at ask w.small w.done (omega arith) w.at (suc g.at)
+      (omega arith) (omega arith) (⊎_elim (λ v. inl v) (λ v. inr v.1) q)))
       (λ q. inr q)
-      (start_joins p lives beyond set outside order c g.at b ask (record { beat = y; reading = g.reading }) g.link
+      (start_joins p lives beyond set orders order c g.at b ask (record { beat = y; reading = g.reading }) g.link
       true w.small g.done (omega arith) g.is)
 
   -- A line stands at visit n of slot s when insertion ends.
@@ -151,7 +153,7 @@ module _ (p : Params) (lives : Lives) (beyond : Beyond) (set : Setting p lives b
       let stamp : Stamp = record { beat = b; reading = l } in
       let wb = in_beat w in
       let o = inserted_out p c stamp (store_at p c (lives.input c) w.at) (put_out v.0) v.1 in
-      inr (put_out_by p lives beyond set outside order c w.at b ask w.small w.done (omega arith)
+      inr (put_out_by p lives beyond set orders order c w.at b ask w.small w.done (omega arith)
       (v.0, from_tick p c (lives.input c) w.at stamp (put_out v.0) w.is o, v.2)))
       (λ v. inl (v s n slot refl window.0 window.1))
       k
@@ -161,18 +163,17 @@ module _ (p : Params) (lives : Lives) (beyond : Beyond) (set : Setting p lives b
       → s < p.slots → IsInWindow p l s n → HasLine w s n ⊎ Out c ask.instance.0 b
   has_line {c} {ask} {y} {b} {l} s n w k le slot window =
       let stamp : Stamp = record { beat = b; reading = l } in
-      let once = before_once p c stamp (store_at p c (lives.input c) w.at) (once_at p c (lives.input c) w.at) in
       ⊎_elim
       (λ q. ⊎_elim
       (λ v. line_or_out ask s n w slot window
-      (inserting_full p c stamp set.plan w.small n ask (ready w) q.1 v k.disk once))
+      (inserting_full p c stamp set.plan n ask (ready w) q.1 v k.disk))
       (λ v. inr v)
       (plain_waits w q.0 le))
       (λ q.
       let believes = believes_at w q.2 in
       ⊎_elim
       (λ v. line_or_out ask s n w slot window
-      (inserting_full_apart p c stamp set.plan w.small n ask (ready w) q.1 believes v k.disk once))
+      (inserting_full_apart p c stamp set.plan n ask (ready w) q.1 believes v k.disk))
       (λ v. inr v)
       (redundant_waits w q.0 le believes))
       k.how
@@ -210,7 +211,7 @@ module _ (p : Params) (lives : Lives) (beyond : Beyond) (set : Setting p lives b
         };
       })
       (λ d. absurd (omega arith))
-      (after_insertion_moves p c stamp h x.0 x.1)
+      (after_insertion_stays p c stamp h x.0 x.1)
 
   -- So the cub's view shows such a record.
   pub waits_shown : {c : ℕ} {ask : Ask} {y b l : ℕ} (s n : ℕ) → Waits p R c ask n y b → y ≤ b

@@ -1,7 +1,7 @@
 -- Heartbeats and belief along a cub's life: what its watch shows was heard, and whom it believes dead was silent.
 use Rattle.std.proofs.Common.{◌≡◌, ℕ, zero, suc, ◌+◌, ◌<◌, ◌≤◌, true, refl, ap, subst, ◌∙◌, arith, ⊎_elim, inl, inr}
 use Rattle.std.specs.Prelude.{◌⊎◌}
-use Rattle.std.proofs.lemmas.Bool.{cases_lt, lt-ltb}
+use Rattle.std.proofs.lemmas.Bool.{cases_lt, lt-ltb, ltb-true}
 use Rattle.tiger_base.specs.declared.number.CubNo.{CubNo}
 use Rattle.tiger_base.specs.declared.number.LinkNo.{LinkNo}
 use Rattle.tiger_base.specs.declared.number.Stamp.{Stamp}
@@ -25,20 +25,19 @@ use Rattle.cub_changes.proofs.Messages.{taking_by}
 use Rattle.proof_schedule.specs.Facts.{Facts, BelievedBy}
 use Rattle.proof_schedule.specs.WatchLaws.{IsSilence, WatchLaws}
 use Rattle.proof_service.specs.ServiceLaws.{HeardTill}
-use Rattle.schedule_laws.specs.Facts as own_facts
-use Rattle.schedule_laws.specs.Facts.{TickedAt}
-use Rattle.schedule_laws.specs.Lives.{In, Lives, deed_of, store_at, beat_at}
-use Rattle.schedule_laws.proofs.Order.{beats_rise}
-use Rattle.schedule_laws.proofs.Queuing.{ticking_watch}
-use Rattle.schedule_laws.proofs.Watching as watching
-use Rattle.schedule_laws.proofs.Watching.{IsBeat, heard_now, timeout_at}
-use Rattle.cub_facts.specs.Facts.{Beyond, WroteBelief, facts_by}
+use Rattle.proof_lives.specs.Facts.{TickedAt}
+use Rattle.proof_lives.specs.Lives.{Lives, deed_of, store_at, beat_at}
+use Rattle.lists.specs.Elements.{In}
+use Rattle.proof_lives.proofs.Order.{beats_rise}
+use Rattle.proof_lives.proofs.Queuing.{ticking_watch}
+use Rattle.proof_lives.proofs.Inputs.{got_message, ticked_there}
+use Rattle.proof_lives.proofs.Watching.{IsBeat, heard_now, timeout_at, beats, since}
+use Rattle.proof_lives.specs.FactsBy.{Beyond, WroteBelief, facts_by}
 use Rattle.proof_cubs.specs.Grounds.{HasHeard}
 use Rattle.proof_cubs.specs.Setting.{Setting}
 use Rattle.proof_cubs.proofs.Believing.{keeps_belief, silent_believes, written_when}
 use Rattle.proof_cubs.proofs.Inserting.{believed_by}
-use Rattle.proof_cubs.proofs.Members.{to_causes}
-use Rattle.proof_cubs.proofs.Standing.{got_message, is_tick, nothing_outside, ticked_there}
+use Rattle.proof_cubs.proofs.Standing.{is_tick}
 
 -- ---- the watch changes at a heartbeat of the predecessor alone
 module _ (p : Params) (c : ℕ) (stamp : Stamp) (link : LinkNo) (m : Msg) where
@@ -115,13 +114,13 @@ written_at : (p : Params) (c : ℕ) (h : Store) (k : Input Msg) (who : CubNo)
     → In (out.Act (what.Believed who)) (deed_of p c k h).outs → IsWritten p c h k
 written_at p c h (Take stamp link m) who i =
     let k : Input Msg = Take stamp link m in
-    absurd (((keeps_belief p c k h).entry who (to_causes (out.Act (what.Believed who)) (deed_of p c k h).outs i)).0)
+    absurd (((keeps_belief p c k h).entry who i).0)
 written_at p c h (Tick stamp) who i = record {
   stamp = stamp;
   is = refl;
   silent =
       let k : Input Msg = Tick stamp in
-      ((keeps_belief p c k h).entry who (to_causes (out.Act (what.Believed who)) (deed_of p c k h).outs i)).3;
+      ((keeps_belief p c k h).entry who i).3;
 }
 
 module _ (p : Params) (lives : Lives) (beyond : Beyond) (set : Setting p lives beyond) where
@@ -129,29 +128,27 @@ module _ (p : Params) (lives : Lives) (beyond : Beyond) (set : Setting p lives b
   R = facts_by p lives beyond
 
   -- A cub that wrote its belief found its predecessor silent.
-  believed_there : {c b : ℕ} → WroteBelief p lives c b → own_facts.BelievedAt p lives c b
-  believed_there {c} {b} w =
-      let d = w.did in
-      let k = written_at p c (store_at p c (lives.input c) d.at) (lives.input c d.at) w.cub d.did in
-      let ticked = ticked_there p lives beyond set c d.at k.stamp d.small d.done k.is in
-      subst (λ n. own_facts.BelievedAt p lives c n) d.in_beat
-      (record { reading = k.stamp.reading; ticked = ticked; silent = k.silent })
-
   silent : {c b : ℕ} → WroteBelief p lives c b → IsSilence p R c b
-  silent w =
-      let s = watching.silent p lives set.lived nothing_outside (believed_there w) in
-      record {
-        reading = s.reading;
-        tick = is_tick p lives beyond set s.ticked;
-        long = s.long;
-        since = s.since;
+  silent {c} {b} w =
+      let d = w.did in
+      let h : Store = store_at p c (lives.input c) d.at in
+      let k = written_at p c h (lives.input c d.at) w.cub d.did in
+      let ticked = ticked_there p lives c d.at k.stamp d.small d.done k.is in
+      let timeout = timeout_at p c (lives.input c) d.at in
+      let long = ltb-true _ _ k.silent in
+      subst (λ n. IsSilence p R c n) d.in_beat (record {
+        reading = k.stamp.reading;
+        tick = is_tick p lives beyond set ticked;
+        long = omega arith;
+        since = λ y heard le.
+            since p lives set.lived c (beat_at (lives.input c) d.at) k.stamp.reading y ticked k.silent heard le;
         back = λ w back le. absurd back;
-      }
+      })
 
   -- The laws of heartbeats and belief.
   pub watch_laws : WatchLaws p R
   watch_laws = record {
-    beats = λ w first e. watching.beats p lives set.lived nothing_outside w e;
+    beats = λ w first e. beats p lives set.lived w e;
     silent = λ w. silent w;
   }
 
@@ -173,7 +170,7 @@ module _ (p : Params) (lives : Lives) (beyond : Beyond) (set : Setting p lives b
       let high = (life.reads q.at (omega arith)).1 in
       let wb : beat_at inputs w.at ≡ b = ap (λ (i : Input Msg). (stamp_of i).beat) w.is in
       let rise = beats_rise p (lives.count c) inputs life q.at w.at (omega arith) w.done in
-      let took = got_message p lives beyond set c q.at q.stamp q.link msg.Heartbeat w.small (omega arith) q.is in
+      let took = got_message p lives c q.at q.stamp q.link msg.Heartbeat w.small (omega arith) q.is in
       inl (record {
         beat = beat_at inputs q.at;
         heard = record { took = took; link = q.from };

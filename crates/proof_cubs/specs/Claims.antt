@@ -3,15 +3,14 @@ use Rattle.std.specs.Prelude.{List}
 use Rattle.slot_plan.specs.declared.params.Params.{Params}
 use Rattle.slot_plan.specs.Conditions.{IsPlan}
 use Rattle.node_kit.specs.declared.course.Order.{Order}
-use Rattle.schedule_laws.specs.Lives.{Lives}
-use Rattle.schedule_laws.specs.Rings.{orders_alone}
-use Rattle.stops_held.specs.InOrder.{AreInOrder}
-use Rattle.cub_facts.specs.Facts.{facts_by, cubs_alone}
-use Rattle.cub_facts.specs.Laws.{CubLaws}
+use Rattle.proof_lives.specs.Lives.{Lives}
+use Rattle.proof_lives.specs.InOrder.{AreInOrder}
+use Rattle.proof_lives.specs.FactsBy.{facts_by, cubs_alone}
+use Rattle.proof_facts.specs.Laws.{CubLaws}
 
 -- Whatever befalls cubs whose messages are in form and in order, they meet the laws of records,
 -- starts, heartbeats and deschedules.
 abbrev pub CubsMeetTheLaws : Type 0
 CubsMeetTheLaws = (p : Params) (lives : Lives) (orders : List Order)
-    → IsPlan p → AreInOrder p lives (orders_alone orders)
+    → IsPlan p → AreInOrder p lives orders
     → CubLaws p (facts_by p lives (cubs_alone p lives))

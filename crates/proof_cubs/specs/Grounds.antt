@@ -23,7 +23,8 @@ use Rattle.cub_rules.specs.State.{is_ask}
 use Rattle.cub_rules.specs.Messages.{shows}
 use Rattle.cub_rules.specs.Ticks.{inserting}
 use Rattle.cub_changes.specs.Laws.{believed_out}
-use Rattle.schedule_laws.specs.Lives.{In, store_at, outs_at}
+use Rattle.proof_lives.specs.Lives.{store_at, outs_at}
+use Rattle.lists.specs.Elements.{In}
 
 -- ---- starts
 

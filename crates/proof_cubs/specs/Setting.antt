@@ -2,10 +2,10 @@
 use Rattle.std.specs.Prelude.{ℕ}
 use Rattle.slot_plan.specs.declared.params.Params.{Params}
 use Rattle.slot_plan.specs.Conditions.{IsPlan}
-use Rattle.schedule_laws.specs.Lives.{Lives, AreLives}
-use Rattle.schedule_laws.specs.Facts.{TickedAt}
-use Rattle.stops_laws.specs.HoldsHere.{AreAllFormed}
-use Rattle.cub_facts.specs.Facts.{Beyond}
+use Rattle.proof_lives.specs.Lives.{Lives, AreLives}
+use Rattle.proof_lives.specs.Facts.{TickedAt}
+use Rattle.proof_lives.specs.HoldsHere.{AreAllFormed}
+use Rattle.proof_lives.specs.FactsBy.{Beyond}
 
 -- The cubs of a plan have lives, and the messages that they take are in form. What is known beyond
 -- their lives agrees with them: a cub that ended a beat by its tick came to that tick.

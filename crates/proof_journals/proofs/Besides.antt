@@ -14,8 +14,8 @@ use Rattle.proof_schedule.proofs.Follows.{runs}
 use Rattle.proof_schedule.proofs.Room.{room_of}
 use Rattle.proof_schedule.proofs.Soon.{placed}
 use Rattle.proof_moments.specs.Ties.{Besides, IsHeldAt}
-use Rattle.cub_facts.specs.Facts.{facts_of}
-use Rattle.cub_facts.specs.Laws.{CubLaws, ShowsSlot}
+use Rattle.proof_facts.specs.Facts.{facts_of}
+use Rattle.proof_facts.specs.Laws.{CubLaws, ShowsSlot}
 use Rattle.proof_journals.specs.Journals.{LawsGiveBesides}
 use Rattle.proof_journals.proofs.Ending.{tick_below_death}
 

@@ -1,11 +1,9 @@
 -- Lists that are put together and cut elsewhere, and lists whose keys never fall.
-use Rattle.std.proofs.Common.{◌≡◌, ℕ, ◌≤◌, List, [], ◌∷◌, ◌++◌, refl, sym, ap, ◌∙◌, ⊎_elim, inl, inr}
-use Rattle.std.specs.Prelude.{◌⊎◌}
+use Rattle.std.proofs.Common.{◌≡◌, ℕ, ◌≤◌, List, [], ◌∷◌, ◌++◌, refl, sym, ap, ◌∙◌, ⊎_elim, inl, inr, zero, suc, ◌<◌, length, Some, arith}
+use Rattle.std.specs.Prelude.{◌⊎◌, slice_get}
 use Rattle.run_facts.specs.Accounts.{Rising}
 use Rattle.run_facts.proofs.Rows.{all-append}
-use Rattle.schedule_laws.specs.Lives.{In}
-use Rattle.std.proofs.Common.{◌≡◌, ℕ, zero, suc, ◌<◌, List, ◌∷◌, length, Some, refl, arith, inl, inr}
-use Rattle.std.specs.Prelude.{slice_get}
+use Rattle.lists.specs.Elements.{In}
 use Rattle.std.specs.List.{AllByRecursion}
 use Rattle.std.proofs.lemmas.Option.{none-some}
 

@@ -21,13 +21,15 @@ use Rattle.run_facts.specs.Histories.{History, living, outs, past}
 use Rattle.run_facts.specs.Timed.{is_died}
 use Rattle.run_facts.proofs.Journals.{is_got}
 use Rattle.disk_core.specs.State.{DiskState}
-use Rattle.schedule_laws.specs.Lives.{In, outs_at}
-use Rattle.schedule_laws.proofs.Members.{in_right, in_cases, all_in}
-use Rattle.schedule_laws.proofs.Carrying.{stamp_same}
+use Rattle.proof_lives.specs.Lives.{outs_at}
+use Rattle.lists.specs.Elements.{In}
+use Rattle.lists.proofs.Elements.{in_right, in_cases}
+use Rattle.lists.proofs.Each.{all_in}
+use Rattle.proof_lives.proofs.Carrying.{stamp_same}
 use Rattle.proof_journals.proofs.Written.{acted, one_event_more}
 use Rattle.proof_journals.proofs.Notes as old
 use Rattle.proof_journals.proofs.Journals.{inputs_of, got_at, put_out, so_far, wrote, written, so_far_on}
-use Rattle.cub_facts.specs.Rings.{node_count}
+use Rattle.proof_facts.specs.Rings.{node_count}
 use Rattle.proof_journals.proofs.Events.{AreKept, journal_is, alive_if_out}
 use Rattle.proof_journals.proofs.Lists.{moved, tail_same}
 

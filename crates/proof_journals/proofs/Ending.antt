@@ -8,19 +8,18 @@ use Rattle.slot_plan.specs.declared.params.Params.{Params}
 use Rattle.node_kit.specs.declared.course.Order.{Order}
 use Rattle.node_kit.specs.Steps.{Deed, Input, stamp_of}
 use Rattle.node_kit.specs.Steps.Input.{Tick}
-use Rattle.run_facts.specs.Events.{is_tick, is_death, stamp_at}
+use Rattle.run_facts.specs.Events.{is_tick, is_death, stamp_at, is_tick_input}
 use Rattle.run_facts.specs.Histories.{History, living, ticks, beat}
 use Rattle.run_facts.proofs.Counts.{count-numbered}
 use Rattle.disk_core.specs.State.{DiskState}
-use Rattle.schedule_laws.specs.Lives.{is_tick_input}
-use Rattle.schedule_laws.specs.Facts.{TickedAt}
-use Rattle.schedule_laws.proofs.Order.{after_tick, ticks_rise}
-use Rattle.schedule_laws.proofs.States.{stamp_made}
+use Rattle.proof_lives.specs.Facts.{TickedAt}
+use Rattle.proof_lives.proofs.Order.{after_tick, ticks_rise}
+use Rattle.proof_lives.proofs.States.{stamp_made}
 use Rattle.proof_journals.proofs.Journals.{inputs_of}
 use Rattle.proof_schedule.specs.Facts.{Ended, DiedBy}
-use Rattle.cub_facts.specs.Facts.{facts_of}
-use Rattle.cub_facts.specs.Lives.{lives_of, DiedAt}
-use Rattle.cub_facts.specs.Rings.{IsRingHistory, node_count}
+use Rattle.proof_facts.specs.Facts.{facts_of}
+use Rattle.proof_facts.specs.Lives.{lives_of, DiedAt}
+use Rattle.proof_facts.specs.Rings.{IsRingHistory, node_count}
 use Rattle.proof_journals.proofs.Living.{alive, before_death, beat_same, tick_is, ticks_same}
 
 module _ {S : Type 0} {step : S → Input Msg → Deed Msg S} {p : Params} {orders : List Order}

@@ -23,19 +23,19 @@ use Rattle.run_facts.specs.Events.{NodeEvent, is_death, outs_of, stamp_at}
 use Rattle.run_facts.specs.Histories.{History, living, outs, past, last_of}
 use Rattle.disk_core.specs.State.{DiskState}
 use Rattle.disk_core.specs.Rules.{disk_step}
-use Rattle.schedule_laws.specs.Lives.{In, IsLife, outs_at}
-use Rattle.schedule_laws.proofs.Carrying.{stamp_same}
+use Rattle.proof_lives.specs.Lives.{IsLife, outs_at}
+use Rattle.lists.specs.Elements.{In}
+use Rattle.proof_lives.proofs.Carrying.{stamp_same}
 use Rattle.proof_journals.proofs.Cuts.{numbered_below}
 use Rattle.proof_journals.proofs.Written.{WrittenAt, event_wrote, written_at, act_written}
 use Rattle.proof_journals.proofs.Journals.{inputs_of}
-use Rattle.controller_facts.specs.Controllers.{controller, commands_at}
-use Rattle.proof_moments.specs.Members as members
+use Rattle.proof_controller.specs.Controllers.{controller, commands_at}
 use Rattle.proof_moments.specs.Ties.{StandsIn}
-use Rattle.cub_facts.specs.Rings.{IsRingHistory, node_count, node_of_disk, viewers}
+use Rattle.proof_facts.specs.Rings.{IsRingHistory, node_count, node_of_disk, viewers}
 use Rattle.proof_journals.specs.Journals.{AreJournalsOf}
 use Rattle.proof_journals.proofs.Living.{alive, before_death, ticks_same, death_is, beat_same, reading_same}
 use Rattle.proof_journals.proofs.Others.{act_gone, disk_no_act, disk_no_state}
-use Rattle.proof_journals.proofs.Lists.{moved, in_laws, in_moments}
+use Rattle.proof_journals.proofs.Lists.{moved}
 
 -- A plan, a history of its ring, and the ring's journals: the setting of all that follows.
 pub record AreKept {S : Type 0} (step : S → Input Msg → Deed Msg S) (p : Params) (orders : List Order)
@@ -106,7 +106,7 @@ module _ {S : Type 0} {step : S → Input Msg → Deed Msg S} {p : Params} {orde
   pub written_in : (n : ℕ) (e : Entry) → StandsIn journals n e → (n < node_count p) × WrittenAt step h n (h.count n) e
   written_in n e s =
       let j = journal_is n s.journal s.at in
-      (j.0, written_at step h n (h.count n) e (in_laws e _ (subst (λ (es : List Entry). members.In e es) j.1 s.there)))
+      (j.0, written_at step h n (h.count n) e (subst (λ (es : List Entry). In e es) j.1 s.there))
 
   -- A node put an entry of its own out, in an event before its death.
   pub record DidOwn (n : ℕ) (w : What) (stamp : Stamp) : Type 0 where
@@ -139,7 +139,7 @@ module _ {S : Type 0} {step : S → Input Msg → Deed Msg S} {p : Params} {orde
       record {
         journal = (last_of noted step h n).journal;
         at = kept.are.writes n known;
-        there = in_moments e _ (act_written step h n i w (is_alive n i known low).0 k);
+        there = act_written step h n i w (is_alive n i known low).0 k;
       }
 
   -- ---- which node puts out what

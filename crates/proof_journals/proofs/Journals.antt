@@ -18,13 +18,14 @@ use Rattle.run_facts.specs.Histories.{History, past}
 use Rattle.run_facts.specs.Accounts.{Rising}
 use Rattle.run_facts.specs.Timed.{is_died}
 use Rattle.run_facts.proofs.Journals.{is_got, stamped-written, rising-append}
-use Rattle.schedule_laws.specs.Lives.{In, IsLife, beat_at}
-use Rattle.schedule_laws.specs.Histories.{input_of, lives_of}
-use Rattle.schedule_laws.proofs.Members.{in_right, in_cases, all_in}
-use Rattle.schedule_laws.proofs.Order.{beats_rise}
-use Rattle.proof_journals.proofs.Cuts.{all_from}
+use Rattle.proof_lives.specs.Lives.{IsLife, beat_at}
+use Rattle.lists.specs.Elements.{In}
+use Rattle.proof_lives.specs.Histories.{input_of, lives_of}
+use Rattle.lists.proofs.Elements.{in_right, in_cases}
+use Rattle.lists.proofs.Each.{all_in}
+use Rattle.proof_lives.proofs.Order.{beats_rise}
+use Rattle.proof_journals.proofs.Cuts.{all_from, IsAhead, two_cuts, rising_joined}
 use Rattle.proof_journals.proofs.Written.{written_at, one_event_more, stamp_same}
-use Rattle.proof_journals.proofs.Cuts.{IsAhead, two_cuts, rising_joined}
 
 -- a list that was mapped, cut at an element
 pub record IsMapped {X Y : Type 0} (f : X → Y) (xs : List X) (front : List Y) (y : Y) : Type 0 where

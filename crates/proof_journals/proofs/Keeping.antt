@@ -22,45 +22,43 @@ use Rattle.node_kit.specs.Steps.{Deed, Input, entry_of, stamp_of}
 use Rattle.node_kit.specs.Steps.Input.{Take, Tick}
 use Rattle.cub_rules.specs.declared.store.Store.{Store}
 use Rattle.run_facts.specs.Accounts.{Rising}
-use Rattle.run_facts.specs.Events.{NodeEvent, Past, entries_at, outs_of, is_death, stamp_at}
+use Rattle.run_facts.specs.Events.{NodeEvent, Past, entries_at, outs_of, is_death, stamp_at, is_tick_input}
 use Rattle.run_facts.specs.Events.NodeEvent.{Does, Dies}
 use Rattle.run_facts.specs.Histories.{History, living, outs, past, beat}
 use Rattle.run_model.specs.Moments.{is_put_of}
 use Rattle.run_model.specs.Orders as ordering
 use Rattle.disk_core.specs.State.{DiskState}
 use Rattle.controller_core.specs.Orders.{Starts}
-use Rattle.schedule_laws.specs.Lives.{In, deed_of, is_tick_input, store_at, outs_at}
-use Rattle.schedule_laws.specs.Facts.{DidAt, TookAt}
-use Rattle.schedule_laws.specs.Histories.{input_of}
-use Rattle.schedule_laws.proofs.Members.{in_right, from_map, all_in, in_map}
-use Rattle.schedule_laws.proofs.Moves.{IsQuiet}
-use Rattle.schedule_laws.proofs.Inserting.{put_out}
-use Rattle.schedule_laws.proofs.Order.{behind, tick_of}
-use Rattle.schedule_laws.proofs.States.{put_at_tick}
-use Rattle.schedule_laws.proofs.Waiting.{once_at}
-use Rattle.schedule_records.proofs.Keeping.{keeps_records}
-use Rattle.proof_journals.proofs.Singles.{entries_one}
+use Rattle.proof_lives.specs.Lives.{deed_of, store_at, outs_at}
+use Rattle.lists.specs.Elements.{In}
+use Rattle.proof_lives.specs.Facts.{DidAt, TookAt}
+use Rattle.proof_lives.specs.Histories.{input_of}
+use Rattle.lists.proofs.Elements.{in_right, from_map, in_map}
+use Rattle.lists.proofs.Each.{all_in}
+use Rattle.proof_lives.proofs.Inserting.{put_out}
+use Rattle.proof_lives.proofs.Order.{behind, tick_of}
+use Rattle.proof_lives.proofs.States.{put_at_tick}
+use Rattle.proof_lives.proofs.Waiting.{once_at}
+use Rattle.proof_lives.proofs.KeepingRecords.{keeps_records}
+use Rattle.proof_journals.proofs.Singles.{entries_one, puts, deed_single}
 use Rattle.proof_journals.proofs.Ones.{IsOne}
-use Rattle.proof_journals.proofs.Plain.{IsPlain}
-use Rattle.proof_journals.proofs.Singles.{puts, deed_single}
 use Rattle.proof_journals.proofs.Written.{acted, event_wrote}
 use Rattle.proof_journals.proofs.Journals.{inputs_of, got_at, so_far, wrote, beat_is, rising_so_far}
 use Rattle.proof_schedule.specs.Facts.{Ended, DiedBy}
 use Rattle.proof_schedule.specs.Laws.{Laws}
 use Rattle.proof_schedule.proofs.Origins.{took_held}
-use Rattle.proof_moments.specs.Members as members
 use Rattle.proof_moments.specs.Ties.{StandsIn, Keeps}
-use Rattle.cub_facts.specs.Facts.{facts_of}
-use Rattle.cub_facts.specs.Lives.{lives_of}
-use Rattle.cub_facts.specs.Rings.{node_count}
+use Rattle.proof_facts.specs.Facts.{facts_of}
+use Rattle.proof_facts.specs.Lives.{lives_of}
+use Rattle.proof_facts.specs.Rings.{node_count}
 use Rattle.proof_journals.specs.Journals.{JournalsKeepOrder}
 use Rattle.proof_journals.proofs.Living.{beat_same}
-use Rattle.proof_journals.proofs.Outputs.{believes_first}
+use Rattle.proof_journals.proofs.Outputs.{OfPut, IsNoBelief, believes_first}
 use Rattle.proof_journals.proofs.Events.{AreKept, alive_if_out, is_alive, journal_is, life_of, own_entry, cub_acts, who_acts, written_in}
 use Rattle.proof_journals.proofs.Cutting.{IsCutIn, cut_in, own_output, did}
 use Rattle.proof_journals.proofs.Ending.{ended_or_died}
 use Rattle.proof_journals.proofs.Views.{shows, shown}
-use Rattle.proof_journals.proofs.Lists.{moved, in_laws, in_moments, one_behind, none_behind}
+use Rattle.proof_journals.proofs.Lists.{moved, one_behind, none_behind}
 
 -- ---- events
 
@@ -150,7 +148,7 @@ module _ {S : Type 0} {step : S → Input Msg → Deed Msg S} {p : Params} {orde
   outs_are n i small low = kept.ring.rules.cubs n i small low
 
   one_put : (n : ℕ) (xs ys : List Entry) (e f : Entry) (t u : Tenancy) → slice_get journals n ≡ Some (xs ++ e ∷ ys)
-      → e.what ≡ what.Put t → members.In f ys → f.what ≡ what.Put u
+      → e.what ≡ what.Put t → In f ys → f.what ≡ what.Put u
       → u.instance.0 ≡ t.instance.0 → e.stamp.beat < f.stamp.beat
   one_put n xs ys e f t u at is i puts_too same =
       let c = cut_in kept n xs e ys at in
@@ -163,7 +161,7 @@ module _ {S : Type 0} {step : S → Input Msg → Deed Msg S} {p : Params} {orde
       let one : IsOne (λ (x : Entry). is_put_of v x.what) (c.part ++ e ∷ c.rest) =
       subst (λ (es : List Entry). IsOne (λ (x : Entry). is_put_of v x.what) es) (sym c.event_is)
       (entries_one step v (h.event n c.at) (past noted step h n c.at) outs_one) in
-      later n xs e ys f t c is (in_laws f ys i)
+      later n xs e ys f t c is i
       (λ k. one_behind (λ (x : Entry). is_put_of v x.what) c.part e c.rest f one
       (ap (is_put_of v) is ∙ eq-eqb _ _ refl) k (ap (is_put_of v) puts_too ∙ eq-eqb _ _ same))
 
@@ -188,21 +186,21 @@ module _ {S : Type 0} {step : S → Input Msg → Deed Msg S} {p : Params} {orde
       (λ x j q.
       let m = from_map (entry_of noted stamp) x b.first j in
       let o : m.0 ≡ put_out t = acted m.0 (what.Put t) tt (ap (λ (y : Entry). y.what) (sym m.2) ∙ q) in
-      all_in IsQuiet (put_out t) b.first b.puts_none (subst (λ (y : Out Msg). In y b.first) o m.1))
+      all_in (OfPut (λ u. ⊥)) (put_out t) b.first b.puts_none (subst (λ (y : Out Msg). In y b.first) o m.1))
       (λ x j q.
       let m = from_map (entry_of noted stamp) x b.rest j in
       let o : m.0 ≡ out.Act (what.Believed d) =
       acted m.0 (what.Believed d) tt (ap (λ (y : Entry). y.what) (sym m.2) ∙ q) in
-      all_in IsPlain (out.Act (what.Believed d)) b.rest b.believes_none (subst (λ (y : Out Msg). In y b.rest) o m.1))
+      all_in IsNoBelief (out.Act (what.Believed d)) b.rest b.believes_none (subst (λ (y : Out Msg). In y b.rest) o m.1))
       (event ∙ wrote_is) is k told
 
   belief_first : (n : ℕ) (xs ys : List Entry) (e f : Entry) (t : Tenancy) (d : CubNo)
-      → slice_get journals n ≡ Some (xs ++ e ∷ ys) → e.what ≡ what.Put t → members.In f ys → f.what ≡ what.Believed d
+      → slice_get journals n ≡ Some (xs ++ e ∷ ys) → e.what ≡ what.Put t → In f ys → f.what ≡ what.Believed d
       → e.stamp.beat < f.stamp.beat
   belief_first n xs ys e f t d at is i told =
       let c = cut_in kept n xs e ys at in
       let put = put_in n c.at e t c.known c.done (event_there n xs e ys c) is in
-      later n xs e ys f t c is (in_laws f ys i)
+      later n xs e ys f t c is i
       (λ k. no_belief n c.at c.part e c.rest f t d put c.known c.event_is is k told)
 
   -- ---- a record that is taken
@@ -210,13 +208,13 @@ module _ {S : Type 0} {step : S → Input Msg → Deed Msg S} {p : Params} {orde
   module _ (law : Laws p (facts_of p orders h)) where
     put_first : (n : ℕ) (xs ys : List Entry) (e : Entry) (q : Rec) → slice_get journals n ≡ Some (xs ++ e ∷ ys)
         → e.what ≡ what.Took q
-        → ((f : Entry) × members.In f xs × (f.what ≡ what.Put q.tenancy))
+        → ((f : Entry) × In f xs × (f.what ≡ what.Put q.tenancy))
         ⊎ ((c x : ℕ) × DidAt p (lives_of h) c (put_out q.tenancy) x × (x < e.stamp.beat))
     put_first n xs ys e q at is =
         let s : StandsIn journals n e = record {
           journal = xs ++ e ∷ ys;
           at = at;
-          there = in_moments e (xs ++ e ∷ ys) (in_right e xs (e ∷ ys) (inl refl));
+          there = in_right e xs (e ∷ ys) (inl refl);
         } in
         let d = own_entry kept n e (what.Took q) s tt is in
         let small = (cub_acts kept n (what.Took q) e.stamp (λ v k. absurd (cc)) d).0 in
@@ -233,7 +231,7 @@ module _ {S : Type 0} {step : S → Input Msg → Deed Msg S} {p : Params} {orde
         (in_right f (so_far step h n o.at) _
         (in_right f (got_at (inputs o.at)) _
         (in_map (entry_of noted (stamp_of (inputs o.at))) (put_out q.tenancy) o.earlier put))) in
-        inl (f, in_moments f xs inside, refl))
+        inl (f, inside, refl))
         (λ (f : is_tick_input (inputs o.at) ≡ false).
         let took : TookAt p (lives_of h) n q.tenancy q.visit e.stamp.beat = record {
           kind = q.kind;

@@ -16,7 +16,6 @@ pub mod Cuts
 pub mod Journals
 pub mod Notes
 pub mod Ones
-pub mod Plain
 pub mod Records
 pub mod Singles
 pub mod Written

@@ -1,23 +1,13 @@
 -- Elements of lists, and where lists are cut.
 use Rattle.std.proofs.Common.{◌≡◌, List, [], ◌∷◌, ◌++◌, Bool, true, refl, sym, subst, ◌∙◌, ⊎_elim, inl, inr, append-nil}
-use Rattle.schedule_laws.specs.Lives.{In}
-use Rattle.schedule_laws.proofs.Members.{in_right}
+use Rattle.lists.specs.Elements.{In}
+use Rattle.lists.proofs.Elements.{in_right}
 use Rattle.proof_journals.proofs.Ones.{IsOne}
 use Rattle.proof_journals.proofs.Cuts.{IsAhead, two_cuts}
-use Rattle.proof_moments.specs.Members as members
 
 -- An element of a list is one of any list that is the same.
 pub moved : {X : Type 0} (x : X) {xs ys : List X} → xs ≡ ys → In x xs → In x ys
 moved {X} x e i = subst (λ (l : List X). In x l) e i
-
--- Elements in the words of the moments and in those of the cubs' laws.
-pub in_laws : {X : Type 0} (x : X) (xs : List X) → members.In x xs → In x xs
-in_laws x [] i = absurd i
-in_laws x (y ∷ ys) i = ⊎_elim (λ e. inl e) (λ k. inr (in_laws x ys k)) i
-
-pub in_moments : {X : Type 0} (x : X) (xs : List X) → In x xs → members.In x xs
-in_moments x [] i = absurd i
-in_moments x (y ∷ ys) i = ⊎_elim (λ e. inl e) (λ k. inr (in_moments x ys k)) i
 
 -- Lists with the same head and the same whole have the same tail.
 pub tail_same : {X : Type 0} (x : X) (ys zs : List X) → x ∷ ys ≡ x ∷ zs → ys ≡ zs

@@ -4,12 +4,12 @@ use Rattle.std.proofs.lemmas.Bool.{cases_Bool, true≢false}
 use Rattle.tiger_base.specs.declared.number.Stamp.{Stamp}
 use Rattle.tiger_base.specs.declared.message.Msg.{Msg}
 use Rattle.node_kit.specs.Steps.Input.{Take, Tick}
-use Rattle.run_facts.specs.Events.{NodeEvent, is_tick, is_death, stamp_at}
+use Rattle.run_facts.specs.Events.{NodeEvent, is_tick, is_death, stamp_at, is_tick_input}
 use Rattle.run_facts.specs.Events.NodeEvent.{Does, Dies}
 use Rattle.run_facts.specs.Histories.{History, count_of, living, ticks, beat, reading}
-use Rattle.schedule_laws.specs.Lives.{is_tick_input, ticks_at, beat_at, reading_at}
-use Rattle.schedule_laws.specs.Histories.{input_of}
-use Rattle.schedule_laws.proofs.Carrying.{stamp_same, tick_same}
+use Rattle.proof_lives.specs.Lives.{ticks_at, beat_at, reading_at}
+use Rattle.proof_lives.specs.Histories.{input_of}
+use Rattle.proof_lives.proofs.Carrying.{stamp_same, tick_same}
 
 abbrev is_alive : NodeEvent Msg → Bool
 is_alive e = not (is_death e)

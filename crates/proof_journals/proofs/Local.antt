@@ -29,21 +29,20 @@ use Rattle.run_model.specs.Fronts.{AnyByRecursion}
 use Rattle.run_model.specs.Parts.{Brings, IsForCub, IsOwnRecordFor, is_from_before}
 use Rattle.run_model.specs.Views.{records_of}
 use Rattle.disk_core.specs.State.{DiskState}
-use Rattle.schedule_laws.specs.Lives.{In, outs_at, beat_at, reading_at}
-use Rattle.schedule_laws.proofs.Members.{in_left, in_right, in_map}
-use Rattle.schedule_laws.proofs.Carrying.{came_to, does_it, same_ends, stamp_same, way_ends}
-use Rattle.controller_facts.specs.Controllers.{controller}
-use Rattle.schedule_records.specs.Records.{AreFromRecords}
-use Rattle.schedule_records.proofs.Keeping.{keeps_records}
-use Rattle.schedule_records.proofs.Told.{any_in}
+use Rattle.proof_lives.specs.Lives.{outs_at, beat_at, reading_at}
+use Rattle.lists.specs.Elements.{In}
+use Rattle.lists.proofs.Elements.{in_left, in_right, in_map}
+use Rattle.proof_lives.proofs.Carrying.{came_to, does_it, same_ends, stamp_same, way_ends}
+use Rattle.proof_controller.specs.Controllers.{controller}
+use Rattle.proof_lives.specs.Records.{AreFromRecords}
+use Rattle.proof_lives.proofs.KeepingRecords.{keeps_records}
+use Rattle.proof_lives.proofs.Told.{any_in}
 use Rattle.proof_journals.proofs.Notes.{event_lives}
 use Rattle.proof_journals.proofs.Journals.{inputs_of, got_at, so_far, wrote, stamped}
-use Rattle.proof_journals.proofs.Records.{from_before, state_record}
-use Rattle.proof_journals.proofs.Records.{records_after, input_recorded}
-use Rattle.proof_moments.specs.Members as members
+use Rattle.proof_journals.proofs.Records.{from_before, state_record, records_after, input_recorded}
 use Rattle.proof_moments.specs.Ties.{StandsIn, Locals}
-use Rattle.proof_moments.proofs.Lists.{cut_by}
-use Rattle.cub_facts.specs.Rings.{node_count}
+use Rattle.lists.proofs.Cuts.{cut_by}
+use Rattle.proof_facts.specs.Rings.{node_count}
 use Rattle.proof_journals.specs.Journals.{JournalsAreLocal}
 use Rattle.proof_journals.proofs.Living.{death_is}
 use Rattle.proof_journals.proofs.Others.{commands_no_state}
@@ -181,7 +180,7 @@ module _ {S : Type 0} {step : S → Input Msg → Deed Msg S} {p : Params} {orde
 
   -- The event that writes a death is its node's last, and writes nothing else.
   ends : (n : ℕ) (xs ys : List Entry) (e f : Entry) → n < p.cubs → slice_get journals n ≡ Some (xs ++ e ∷ ys)
-      → members.In f xs → f.what ≡ what.Died → ⊥
+      → In f xs → f.what ≡ what.Died → ⊥
   ends n xs ys e f small at i is =
       let k = cut_by f xs i in
       let back : List Entry = k.back ++ e ∷ ys in

@@ -16,23 +16,25 @@ use Rattle.run_facts.specs.Events.{NodeEvent, entries_at, stamp_at}
 use Rattle.run_facts.specs.Histories.{History, living, outs, past, last_of}
 use Rattle.run_model.specs.Orders as ordering
 use Rattle.disk_core.specs.State.{DiskState}
-use Rattle.schedule_laws.specs.Lives.{In, beat_at}
-use Rattle.schedule_laws.specs.Facts.{DidAt}
-use Rattle.schedule_laws.proofs.Carrying.{before_next}
+use Rattle.proof_lives.specs.Lives.{beat_at}
+use Rattle.lists.specs.Elements.{In}
+use Rattle.proof_lives.specs.Facts.{DidAt}
+use Rattle.proof_lives.proofs.Carrying.{before_next}
 use Rattle.proof_journals.proofs.Written.{journal_keeps}
 use Rattle.proof_journals.proofs.Journals.{inputs_of}
-use Rattle.controller_facts.specs.Controllers.{controller, GoneAt}
+use Rattle.proof_controller.specs.Controllers.{controller, GoneAt}
 use Rattle.proof_moments.specs.Ties.{IsLogged, IsGoneOf, Logged}
-use Rattle.cub_facts.specs.Facts.{facts_of, BegunAt, WroteBelief}
-use Rattle.cub_facts.specs.Lives.{lives_of, DiedAt}
-use Rattle.cub_facts.specs.Rings.{node_count}
+use Rattle.proof_lives.specs.FactsBy.{WroteBelief}
+use Rattle.proof_facts.specs.Facts.{facts_of, BegunAt}
+use Rattle.proof_facts.specs.Lives.{lives_of, DiedAt}
+use Rattle.proof_facts.specs.Rings.{node_count}
 use Rattle.proof_journals.specs.Journals.{FactsAreLogged}
 use Rattle.proof_journals.proofs.Living.{death_is, beat_same}
 use Rattle.proof_journals.proofs.Others.{start_ordered}
 use Rattle.proof_journals.proofs.Outputs.{believes_predecessor}
 use Rattle.proof_journals.proofs.Events.{AreKept, is_alive, deed_logged, cub_inside}
 use Rattle.proof_journals.proofs.Telling.{ordered_among}
-use Rattle.proof_journals.proofs.Lists.{moved, in_moments}
+use Rattle.proof_journals.proofs.Lists.{moved}
 
 module _ {S : Type 0} {step : S → Input Msg → Deed Msg S} {p : Params} {orders : List Order}
     {disk_at : ℕ → DiskState} {h : History Msg S} {journals : List (List Entry)}
@@ -80,7 +82,7 @@ module _ {S : Type 0} {step : S → Input Msg → Deed Msg S} {p : Params} {orde
         stands = record {
           journal = (last_of noted step h c).journal;
           at = kept.are.writes c (cub_inside kept c d.small);
-          there = in_moments e _ (journal_keeps step h c d.at (h.count c) e d.done there);
+          there = journal_keeps step h c d.at (h.count c) e d.done there;
         };
         beat = d.in_beat;
         is = refl;

@@ -19,8 +19,9 @@ use Rattle.node_kit.specs.Steps.Input.{Take, Tick}
 use Rattle.run_facts.specs.Events.{NodeEvent, Past, kept_outs, outs_of, is_death, entries_at}
 use Rattle.run_facts.specs.Events.NodeEvent.{Does, Dies}
 use Rattle.run_facts.specs.Timed.{is_died}
-use Rattle.schedule_laws.specs.Lives.{In}
-use Rattle.schedule_laws.proofs.Members.{from_map, all_in}
+use Rattle.lists.specs.Elements.{In}
+use Rattle.lists.proofs.Elements.{from_map}
+use Rattle.lists.proofs.Each.{all_in}
 
 -- a viewer state that a journal says was sent went out
 pub state_back : (m : Msg) (s : State) → noted m ≡ note.ViewerState s → m ≡ msg.ViewerState s

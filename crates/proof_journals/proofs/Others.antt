@@ -28,9 +28,10 @@ use Rattle.controller_core.specs.Rules.{starts, gone_from, visit_due, stops_star
 use Rattle.controller_core.specs.State.{tenancy_of, is_gone}
 use Rattle.disk_core.specs.State.{DiskState}
 use Rattle.disk_core.specs.Rules.{answers, asked, disk_step}
-use Rattle.schedule_laws.specs.Lives.{In}
-use Rattle.schedule_laws.proofs.Members.{chosen, in_cases, from_filter, all_in}
-use Rattle.controller_facts.specs.Controllers.{command, known_at, commands_at, IsOrdered}
+use Rattle.lists.specs.Elements.{In}
+use Rattle.lists.proofs.Elements.{chosen, in_cases, from_filter}
+use Rattle.lists.proofs.Each.{all_in}
+use Rattle.proof_controller.specs.Controllers.{command, known_at, commands_at, IsOrdered}
 
 -- The controller tells only of stops, and sends starts as it carries out their orders and no viewer state.
 abbrev pub Follows : OrderKind → Out Msg → Type 0

@@ -1,6 +1,6 @@
 -- A ring that meets the laws has one schedule, of which its journals are a record.
 use Rattle.proof_schedule.proofs.Follows.{runs}
-use Rattle.cub_facts.specs.Facts.{facts_of}
+use Rattle.proof_facts.specs.Facts.{facts_of}
 use Rattle.proof_journals.specs.Journals.{RingsAreRecorded}
 use Rattle.proof_journals.proofs.Ending.{tick_below_death}
 use Rattle.proof_journals.proofs.Besides.{besides}

@@ -13,7 +13,7 @@ use Rattle.run_facts.specs.Events.{NodeEvent, Past, kept_outs, outs_of, entries_
 use Rattle.run_facts.specs.Events.NodeEvent.{Does, Dies}
 use Rattle.run_model.specs.Views.{records_of, recorded}
 use Rattle.run_model.proofs.Moments.{records_more}
-use Rattle.schedule_records.specs.Records.{recorded_by}
+use Rattle.proof_lives.specs.Records.{recorded_by}
 use Rattle.proof_journals.proofs.Journals.{got_at}
 use Rattle.std.proofs.Common.{◌≡◌, ℕ, ◌+◌, ◌<◌, ◌%◌, List, ◌∷◌, ◌++◌, Some, IsTrue, subst, ⊎_elim}
 use Rattle.std.specs.Prelude.{◌⊎◌, nat_lt}
@@ -26,7 +26,7 @@ use Rattle.slot_plan.specs.Times.{cub_of}
 use Rattle.run_model.specs.Fronts.{AnyByRecursion}
 use Rattle.run_model.specs.Views.{recorded}
 use Rattle.run_model.specs.Parts.{is_from_before, IsOwnRecordFor}
-use Rattle.schedule_records.specs.Records.{recorded_by, AreFromRecords}
+use Rattle.proof_lives.specs.Records.{recorded_by, AreFromRecords}
 
 -- what entries make of the records
 abbrev pub recorded_in : List Entry → List Rec → List Rec

@@ -23,34 +23,32 @@ use Rattle.node_kit.specs.declared.outbox.Out.TheVariants as out
 use Rattle.node_kit.specs.Steps.{Deed, Input}
 use Rattle.node_kit.specs.Steps.Input.{Take}
 use Rattle.node_kit.specs.Ways.{predecessor}
-use Rattle.cub_laws.proofs.Numbers.{predecessor_below}
-use Rattle.run_facts.specs.Events.{is_death}
+use Rattle.cub_changes.proofs.Numbers.{predecessor_below, next_own}
+use Rattle.run_facts.specs.Events.{is_death, is_tick_input}
 use Rattle.run_facts.specs.Events.NodeEvent.{Does}
 use Rattle.run_facts.specs.Histories.{History, living, past}
 use Rattle.run_facts.specs.Timed.{is_died}
 use Rattle.run_model.specs.Orders as ordering
 use Rattle.disk_core.specs.State.{DiskState}
-use Rattle.schedule_laws.specs.Lives.{In, is_tick_input, outs_at, beat_at, reading_at}
-use Rattle.schedule_laws.specs.Facts.{DidAt, TookMessage}
-use Rattle.schedule_laws.specs.Histories.{input_of}
-use Rattle.schedule_records.proofs.Told.{any_in}
+use Rattle.proof_lives.specs.Lives.{outs_at, beat_at, reading_at}
+use Rattle.lists.specs.Elements.{In}
+use Rattle.proof_lives.specs.Facts.{DidAt, TookMessage}
+use Rattle.proof_lives.specs.Histories.{input_of}
+use Rattle.proof_lives.proofs.Told.{any_in}
 use Rattle.proof_journals.proofs.Written.{event_took}
 use Rattle.proof_journals.proofs.Notes.{event_lives}
 use Rattle.proof_journals.proofs.Journals.{inputs_of, beat_is}
-use Rattle.controller_facts.specs.Controllers.{GoneAt, IsOrdered}
+use Rattle.proof_controller.specs.Controllers.{GoneAt, IsOrdered}
 use Rattle.proof_schedule.specs.Facts.{Entered}
 use Rattle.proof_moments.specs.Ties.{StandsIn, IsPutAt, IsBeliefAt, Tells}
-use Rattle.cub_facts.specs.Facts.{facts_of}
-use Rattle.cub_facts.specs.Lives.{lives_of, DiedAt}
+use Rattle.proof_facts.specs.Facts.{facts_of}
+use Rattle.proof_facts.specs.Lives.{lives_of, DiedAt}
 use Rattle.proof_journals.specs.Journals.{AreStartsOrdered, JournalsTell}
 use Rattle.proof_journals.proofs.Living.{beat_same}
 use Rattle.proof_journals.proofs.Outputs.{put_seat, believes_predecessor, tells_no_stop}
 use Rattle.proof_journals.proofs.Events.{AreKept, DidOwn, own_entry, who_acts, cub_acts, written_in, life_of, is_alive, is_before}
-use Rattle.std.proofs.Common.{◌≡◌, ℕ, ◌+◌, ◌<◌}
 use Rattle.std.proofs.Math.Nat.{mod-eq_of_lt}
 use Rattle.slot_plan.specs.Conditions.{IsPlan}
-use Rattle.slot_plan.specs.Times.{cub_of}
-use Rattle.cub_laws.proofs.Numbers.{predecessor_below, next_own}
 
 -- behind its predecessor stands the cub
 pub behind_it : (p : Params) (c : ℕ) → IsPlan p → c < p.cubs → cub_of p (predecessor p c + 1) ≡ c
@@ -89,7 +87,7 @@ module _ {S : Type 0} {step : S → Input Msg → Deed Msg S} {p : Params} {orde
   put_told n e t s is =
       let d = own_entry kept n e (what.Put t) s tt is in
       let c = cub_acts kept n (what.Put t) e.stamp (λ v q. absurd (cc)) d in
-      let seat = put_seat p n kept.plan c.0 (inputs_of h n) d.at t c.1 in
+      let seat = put_seat p n kept.plan (inputs_of h n) d.at t c.1 in
       let reads = (life_of kept n d.known).reads d.at (is_alive kept n d.at d.known d.done).0 in
       let same : e.stamp.reading ≡ reading_at (inputs_of h n) d.at = ap (λ (x : Stamp). x.reading) d.when in
       let beat : time_of p e.stamp.beat ≡ time_of p (beat_at (inputs_of h n) d.at) =

@@ -12,20 +12,21 @@ use Rattle.node_kit.specs.Steps.{Deed, Input, stamp_of}
 use Rattle.run_facts.specs.Histories.{History, living, past}
 use Rattle.run_model.specs.Views.{records_of}
 use Rattle.disk_core.specs.State.{DiskState}
-use Rattle.schedule_laws.specs.Lives.{is_tick_input, store_at, outs_at, beat_at}
-use Rattle.schedule_laws.specs.Facts.{TickedAt}
-use Rattle.schedule_laws.proofs.Order.{beats_rise, behind}
-use Rattle.schedule_records.specs.Records.{recorded_by, AreRecordsOf}
-use Rattle.schedule_records.proofs.Keeping.{keeps_records}
+use Rattle.proof_lives.specs.Lives.{store_at, outs_at, beat_at}
+use Rattle.run_facts.specs.Events.{is_tick_input}
+use Rattle.proof_lives.specs.Facts.{TickedAt}
+use Rattle.proof_lives.proofs.Order.{beats_rise, behind}
+use Rattle.proof_lives.specs.Records.{recorded_by, AreRecordsOf}
+use Rattle.proof_lives.proofs.KeepingRecords.{keeps_records}
 use Rattle.proof_journals.proofs.Written.{written_at, one_event_more}
 use Rattle.proof_journals.proofs.Journals.{inputs_of, so_far, wrote, beat_is, so_far_on}
 use Rattle.proof_journals.proofs.Records.{records_after, event_recorded}
-use Rattle.proof_moments.specs.Members as members
+use Rattle.lists.specs.Elements.{In}
 use Rattle.proof_moments.specs.Ties.{IsCutAt}
-use Rattle.cub_facts.specs.Facts.{ShowsAt}
-use Rattle.cub_facts.specs.Lives.{lives_of}
+use Rattle.proof_lives.specs.FactsBy.{ShowsAt}
+use Rattle.proof_facts.specs.Lives.{lives_of}
 use Rattle.proof_journals.proofs.Events.{AreKept, is_alive, journal_is, life_of, cub_inside}
-use Rattle.proof_journals.proofs.Lists.{in_laws, in_moments, same_cut}
+use Rattle.proof_journals.proofs.Lists.{same_cut}
 
 module _ {S : Type 0} {step : S → Input Msg → Deed Msg S} {p : Params} {orders : List Order}
     {disk_at : ℕ → DiskState} {h : History Msg S} {journals : List (List Entry)}
@@ -62,8 +63,8 @@ module _ {S : Type 0} {step : S → Input Msg → Deed Msg S} {p : Params} {orde
       let beat : beat_at (inputs_of h c) w.at ≡ b = ap (λ (i : Input Msg). (stamp_of i).beat) w.is in
       same_cut (λ (e : Entry). e.stamp.beat ≤ b) upper lower (so_far step h c (suc w.at)) more.rest
       ((journal_is kept c (upper ++ lower) cut.at).1 ∙ sym more.is)
-      (λ e i. cut.early e (in_moments e upper i))
-      (λ e i low. let k = cut.late e (in_moments e lower i) in absurd (omega arith))
+      (λ e i. cut.early e i)
+      (λ e i low. let k = cut.late e i in absurd (omega arith))
       (λ e i.
       let x = written_at step h c (suc w.at) e i in
       let xb = x.before in
@@ -86,10 +87,10 @@ module _ {S : Type 0} {step : S → Input Msg → Deed Msg S} {p : Params} {orde
       (sym (cut_is c b l upper lower cut w)) (told_before c (suc w.at) w.small (omega arith))
 
   pub shows : (c b l : ℕ) (upper lower : List Entry) (q : Rec) → IsCutAt journals c b upper lower
-      → TickedAt p (lives_of h) c b l → members.In q (records_of upper)
+      → TickedAt p (lives_of h) c b l → In q (records_of upper)
       → ShowsAt p (lives_of h) c q.tenancy q.visit b
   shows c b l upper lower q cut w i =
-      let x = (told_after c b l upper lower cut w).seen q (in_laws q (records_of upper) i) in
+      let x = (told_after c b l upper lower cut w).seen q i in
       record {
         reading = l;
         ticked = w;
@@ -101,11 +102,10 @@ module _ {S : Type 0} {step : S → Input Msg → Deed Msg S} {p : Params} {orde
 
   pub shown : (c b l n : ℕ) (t : Tenancy) (upper lower : List Entry) → IsCutAt journals c b upper lower
       → TickedAt p (lives_of h) c b l → ShowsAt p (lives_of h) c t n b
-      → (q : Rec) × members.In q (records_of upper) × (q.tenancy ≡ t) × (q.visit ≡ n)
+      → (q : Rec) × In q (records_of upper) × (q.tenancy ≡ t) × (q.visit ≡ n)
   shown c b l n t upper lower cut w s = (
     s.line.rec,
-    in_moments s.line.rec (records_of upper)
-        ((told_after c b s.reading upper lower cut s.ticked).told s.line s.there),
+    ((told_after c b s.reading upper lower cut s.ticked).told s.line s.there),
     s.tenancy,
     s.visit,
   )

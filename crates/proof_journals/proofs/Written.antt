@@ -18,9 +18,10 @@ use Rattle.run_facts.specs.Events.{NodeEvent, Past, kept_outs, outs_of, stamp_at
 use Rattle.run_facts.specs.Events.NodeEvent.{Does, Dies}
 use Rattle.run_facts.specs.Histories.{History, past}
 use Rattle.run_facts.proofs.Along.{journal-after}
-use Rattle.schedule_laws.specs.Lives.{In}
-use Rattle.schedule_laws.specs.Histories.{input_of}
-use Rattle.schedule_laws.proofs.Members.{in_left, in_right, in_cases, in_map, from_map, all_in}
+use Rattle.lists.specs.Elements.{In}
+use Rattle.proof_lives.specs.Histories.{input_of}
+use Rattle.lists.proofs.Elements.{in_left, in_right, in_cases, in_map, from_map}
+use Rattle.lists.proofs.Each.{all_in}
 
 -- an output that is written as an entry of the node's own is that entry
 pub acted : (o : Out Msg) (w : What) → IsOwnEntry w → what_of noted o ≡ w → o ≡ out.Act w

@@ -14,15 +14,15 @@ use Rattle.node_kit.specs.Steps.{Deed, Input}
 use Rattle.node_kit.specs.Steps.Input.{Take}
 use Rattle.run_facts.specs.Histories.{History, last_of}
 use Rattle.disk_core.specs.State.{DiskState}
-use Rattle.schedule_laws.specs.Lives.{Lives}
-use Rattle.controller_facts.specs.Controllers.{IsOrdered}
+use Rattle.proof_lives.specs.Lives.{Lives}
+use Rattle.proof_controller.specs.Controllers.{IsOrdered}
 use Rattle.proof_schedule.specs.Laws.{Laws}
 use Rattle.proof_moments.specs.Recorded.{IsRecorded}
 use Rattle.proof_moments.specs.Ties.{Besides, Keeps, Locals, Logged, Tells}
-use Rattle.cub_facts.specs.Facts.{facts_of}
-use Rattle.cub_facts.specs.Laws.{CubLaws}
-use Rattle.cub_facts.specs.Lives.{lives_of}
-use Rattle.cub_facts.specs.Rings.{IsRingHistory, node_count}
+use Rattle.proof_facts.specs.Facts.{facts_of}
+use Rattle.proof_facts.specs.Laws.{CubLaws}
+use Rattle.proof_facts.specs.Lives.{lives_of}
+use Rattle.proof_facts.specs.Rings.{IsRingHistory, node_count}
 
 -- Each node of the ring has one journal: what its events of the history wrote.
 pub record AreJournalsOf {S : Type 0} (step : S → Input Msg → Deed Msg S) (p : Params)

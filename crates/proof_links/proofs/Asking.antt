@@ -22,13 +22,14 @@ use Rattle.run_facts.specs.Events.{NodeEvent, stamp_at}
 use Rattle.run_facts.specs.Histories.{History, beat, outs}
 use Rattle.disk_core.specs.State.{DiskState}
 use Rattle.disk_core.specs.Rules.{disk_step, asked, read_part}
-use Rattle.schedule_laws.specs.Lives.{In, Lives}
-use Rattle.schedule_laws.specs.Facts.{DidAt, TookMessage}
-use Rattle.schedule_laws.specs.Histories.{input_of}
-use Rattle.schedule_laws.proofs.Carrying.{same_ends}
-use Rattle.cub_facts.specs.Carried.{AnswersAsk, AskedDisk, DisksAnswer, WasAnswered}
-use Rattle.cub_facts.specs.Lives.{lives_of, CameAt}
-use Rattle.cub_facts.specs.Rings.{IsRingHistory, IsDiskOf, node_count, node_of_disk}
+use Rattle.proof_lives.specs.Lives.{Lives}
+use Rattle.lists.specs.Elements.{In}
+use Rattle.proof_lives.specs.Facts.{DidAt, TookMessage}
+use Rattle.proof_lives.specs.Histories.{input_of}
+use Rattle.proof_lives.proofs.Carrying.{same_ends}
+use Rattle.proof_facts.specs.Carried.{AnswersAsk, AskedDisk, DisksAnswer, WasAnswered}
+use Rattle.proof_facts.specs.Lives.{lives_of, CameAt}
+use Rattle.proof_facts.specs.Rings.{IsRingHistory, IsDiskOf, node_count, node_of_disk}
 use Rattle.proof_links.proofs.Carrying.{came_from, delivered, did_as, did_before, from_cub, not_behind, sent_as, sent_there, took_from}
 use Rattle.proof_links.proofs.Nodes.{SentByDisk, beat_same, cub_inside, did_in, did_it, disk_inside, formed_at, lives_on, sender}
 use Rattle.proof_links.proofs.Ways.{ends_from_disk, ends_to_disk, is_to_disk}

@@ -20,14 +20,15 @@ use Rattle.run_facts.specs.Events.NodeEvent.{Does}
 use Rattle.run_facts.specs.Histories.{History, outs, beat, ticks, takes, sent, living}
 use Rattle.run_facts.proofs.Counts.{count-numbered, sent-numbered, sent-stays}
 use Rattle.disk_core.specs.State.{DiskState}
-use Rattle.schedule_laws.specs.Lives.{In, beat_at, Lives}
-use Rattle.schedule_laws.specs.Facts.{DidAt, TookMessage}
-use Rattle.schedule_laws.specs.Histories.{input_of}
-use Rattle.schedule_laws.proofs.Carrying.{count_rises, get_behind, is_take, same_dated, same_ends, sends_in, sends_place}
-use Rattle.controller_facts.proofs.Places.{get_below}
-use Rattle.controller_facts.specs.Controllers.{controller, commands_at}
-use Rattle.cub_facts.specs.Lives.{lives_of, CameAt}
-use Rattle.cub_facts.specs.Rings.{IsRingHistory, node_count}
+use Rattle.proof_lives.specs.Lives.{beat_at, Lives}
+use Rattle.lists.specs.Elements.{In}
+use Rattle.proof_lives.specs.Facts.{DidAt, TookMessage}
+use Rattle.proof_lives.specs.Histories.{input_of}
+use Rattle.proof_lives.proofs.Carrying.{count_rises, get_behind, is_take, same_dated, same_ends, sends_in, sends_place}
+use Rattle.proof_controller.proofs.Places.{get_below}
+use Rattle.proof_controller.specs.Controllers.{controller, commands_at}
+use Rattle.proof_facts.specs.Lives.{lives_of, CameAt}
+use Rattle.proof_facts.specs.Rings.{IsRingHistory, node_count}
 use Rattle.proof_links.proofs.Nodes.{after_tick, beat_same, before, by_rules, controller_inside, cub_inside, did_in, did_it, event_is, lives_on, sender, within}
 use Rattle.proof_links.proofs.Sending.{IsOfCub, IsOfDisk, IsOfController, of_answer}
 use Rattle.proof_links.proofs.Ways.{way_leads}

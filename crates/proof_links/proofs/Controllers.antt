@@ -31,25 +31,26 @@ use Rattle.disk_core.specs.State.{DiskState}
 use Rattle.controller_core.specs.Orders.{start_of}
 use Rattle.controller_core.specs.State.{tenancy_of}
 use Rattle.controller_core.specs.Rules.{starts, visit_due}
-use Rattle.schedule_laws.specs.Lives.{In, Lives, store_at, beat_at}
-use Rattle.schedule_laws.specs.Facts.{DidAt}
-use Rattle.schedule_laws.specs.Histories.{input_of}
-use Rattle.schedule_laws.proofs.Carrying.{stamp_same, count_rises, tick_same}
-use Rattle.schedule_laws.proofs.Inserting.{put_out}
-use Rattle.schedule_laws.proofs.Order.{tick_of}
-use Rattle.controller_facts.specs.Controllers.{controller, command, commands_at, known_at, GoneAt, Stops, StoppedAt, StoppedWaiting}
-use Rattle.controller_facts.specs.Stops.{tag_at, IsStopOf}
-use Rattle.controller_facts.proofs.Commanding.{StoppedIn, stopped_there, same_event, one_stop}
-use Rattle.controller_facts.proofs.Controllers.{same_instance, same_visit, tag_sent}
-use Rattle.controller_facts.proofs.Knowing.{start_from, told_before, known_told}
-use Rattle.controller_facts.proofs.Placings.{put_tells, told_put}
-use Rattle.controller_facts.proofs.Visits.{IsLastDue, last_due}
-use Rattle.controller_facts.proofs.Ends.{ends_controller}
+use Rattle.proof_lives.specs.Lives.{Lives, store_at, beat_at}
+use Rattle.lists.specs.Elements.{In}
+use Rattle.proof_lives.specs.Facts.{DidAt}
+use Rattle.proof_lives.specs.Histories.{input_of}
+use Rattle.proof_lives.proofs.Carrying.{stamp_same, count_rises, tick_same}
+use Rattle.proof_lives.proofs.Inserting.{put_out}
+use Rattle.proof_lives.proofs.Order.{tick_of}
+use Rattle.proof_controller.specs.Controllers.{controller, command, commands_at, known_at, GoneAt, Stops, StoppedAt, StoppedWaiting}
+use Rattle.proof_controller.specs.Stops.{tag_at, IsStopOf}
+use Rattle.proof_controller.proofs.CommandedOnce.{StoppedIn, stopped_there, same_event, one_stop}
+use Rattle.proof_controller.proofs.Controllers.{same_instance, same_visit, tag_sent}
+use Rattle.proof_controller.proofs.Knowing.{start_from, told_before, known_told}
+use Rattle.proof_controller.proofs.Placings.{put_tells, told_put}
+use Rattle.proof_controller.proofs.Visits.{IsLastDue, last_due}
+use Rattle.proof_controller.proofs.Ends.{ends_controller}
 use Rattle.proof_schedule.specs.Facts.{Facts}
 use Rattle.proof_schedule.specs.StopLaws.{IsStopAt, IsStopWaiting, StopLaws}
-use Rattle.cub_facts.specs.Facts.{BegunAt, facts_of}
-use Rattle.cub_facts.specs.Lives.{lives_of}
-use Rattle.cub_facts.specs.Rings.{IsRingHistory, node_count}
+use Rattle.proof_facts.specs.Facts.{BegunAt, facts_of}
+use Rattle.proof_facts.specs.Lives.{lives_of}
+use Rattle.proof_facts.specs.Rings.{IsRingHistory, node_count}
 use Rattle.proof_links.proofs.Carrying.{came_from, delivered, did_as, did_before, from_cub}
 use Rattle.proof_links.proofs.Nodes.{after_tick, beat_same, before, controller_inside, cub_inside, did_in, did_it, event_is, formed_at, lives_on, rises}
 use Rattle.proof_links.proofs.Ordering.{both_start, finished_by, ordered_before}

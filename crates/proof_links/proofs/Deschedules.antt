@@ -16,23 +16,24 @@ use Rattle.node_kit.specs.Steps.{Deed, Input}
 use Rattle.node_kit.specs.Ways.{way_ahead, way_to_cub}
 use Rattle.run_facts.specs.Histories.{History, living}
 use Rattle.disk_core.specs.State.{DiskState}
-use Rattle.schedule_laws.specs.Lives.{In, Lives, store_at, beat_at}
-use Rattle.schedule_laws.specs.Facts.{DidAt, TookMessage}
-use Rattle.stops_laws.specs.StopFactsOf.{ToldAt, GotTagAt, GotBareAt}
-use Rattle.controller_facts.specs.Controllers.{controller, known_at, commands_at, Stops, StoppedAt, StoppedWaiting}
-use Rattle.controller_facts.specs.Stops.{tag_at}
-use Rattle.controller_facts.proofs.Commanding.{StoppedIn, stopped_there}
-use Rattle.controller_facts.proofs.Controllers.{tag_sent}
-use Rattle.controller_facts.proofs.Deschedules.{deschedule_out}
-use Rattle.controller_facts.proofs.Ends.{ends_cub}
-use Rattle.controller_facts.proofs.Knowing.{some_same}
-use Rattle.controller_facts.proofs.Ways.{led}
+use Rattle.proof_lives.specs.Lives.{Lives, store_at, beat_at}
+use Rattle.lists.specs.Elements.{In}
+use Rattle.proof_lives.specs.Facts.{DidAt, TookMessage}
+use Rattle.proof_lives.specs.StopFactsOf.{ToldAt, GotTagAt, GotBareAt}
+use Rattle.proof_controller.specs.Controllers.{controller, known_at, commands_at, Stops, StoppedAt, StoppedWaiting}
+use Rattle.proof_controller.specs.Stops.{tag_at}
+use Rattle.proof_controller.proofs.CommandedOnce.{StoppedIn, stopped_there}
+use Rattle.proof_controller.proofs.Controllers.{tag_sent}
+use Rattle.proof_controller.proofs.Deschedules.{deschedule_out}
+use Rattle.proof_controller.proofs.Ends.{ends_cub}
+use Rattle.proof_controller.proofs.Knowing.{some_same}
+use Rattle.proof_controller.proofs.Ways.{led}
 use Rattle.proof_schedule.specs.Facts.{Facts, IsBeside, GotTagBy, GotBareBy}
 use Rattle.proof_schedule.specs.LinkLaws.{TagFromController, TagFromCub, BareFrom}
-use Rattle.cub_facts.specs.Facts.{beyond_of, facts_of}
-use Rattle.cub_facts.specs.Lives.{lives_of, CameAt}
-use Rattle.cub_facts.specs.Rings.{IsRingHistory}
-use Rattle.cub_facts.proofs.NoReturns.{same_life}
+use Rattle.proof_facts.specs.Facts.{beyond_of, facts_of}
+use Rattle.proof_facts.specs.Lives.{lives_of, CameAt}
+use Rattle.proof_facts.specs.Rings.{IsRingHistory}
+use Rattle.proof_lives.proofs.NoReturns.{same_life}
 use Rattle.proof_links.proofs.Carrying.{Came, TakenThere, commanded_before, did_before, from_either, reaches_near, sent_as, sent_there, took_from}
 use Rattle.proof_links.proofs.Nodes.{beat_same, controller_inside}
 use Rattle.proof_links.proofs.Controllers.{done_of, stops_here, stopped_waiting}

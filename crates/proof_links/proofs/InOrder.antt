@@ -17,17 +17,18 @@ use Rattle.node_kit.specs.Steps.Input.{Take}
 use Rattle.node_kit.specs.Ways.{way_ahead}
 use Rattle.run_facts.specs.Histories.{History, living, takes}
 use Rattle.disk_core.specs.State.{DiskState}
-use Rattle.schedule_laws.specs.Lives.{In, is_tick_input, store_at, outs_at, beat_at, Lives}
-use Rattle.schedule_laws.specs.Histories.{input_of}
-use Rattle.schedule_laws.specs.Rings.{orders_alone}
-use Rattle.schedule_laws.proofs.Order as order
-use Rattle.schedule_laws.proofs.States.{state_at_tick, state_way}
-use Rattle.stops_laws.specs.HoldsHere.{AreAllFormed}
-use Rattle.stops_laws.specs.StopFactsOf.{ToldAt}
-use Rattle.stops_held.specs.InOrder.{AreInOrder, CameInOrder, GotTagBefore}
-use Rattle.stops_held.proofs.NoStops.{no_input_stop}
-use Rattle.cub_facts.specs.Lives.{lives_of}
-use Rattle.cub_facts.specs.Rings.{IsRingHistory}
+use Rattle.proof_lives.specs.Lives.{store_at, outs_at, beat_at, Lives}
+use Rattle.run_facts.specs.Events.{is_tick_input}
+use Rattle.lists.specs.Elements.{In}
+use Rattle.proof_lives.specs.Histories.{input_of}
+use Rattle.proof_lives.proofs.Order as order
+use Rattle.proof_lives.proofs.States.{state_at_tick, state_way}
+use Rattle.proof_lives.specs.HoldsHere.{AreAllFormed}
+use Rattle.proof_lives.specs.StopFactsOf.{ToldAt}
+use Rattle.proof_lives.specs.InOrder.{AreInOrder, CameInOrder, GotTagBefore}
+use Rattle.proof_lives.proofs.NoStops.{no_input_stop}
+use Rattle.proof_facts.specs.Lives.{lives_of}
+use Rattle.proof_facts.specs.Rings.{IsRingHistory}
 use Rattle.proof_links.proofs.Carrying.{Came, came_from, did_as, from_cub, number_of, numbers_rise, taken_as}
 use Rattle.proof_links.proofs.Nodes.{beat_same, before, by_rules, cub_inside, formed_at, lived}
 use Rattle.proof_links.proofs.Once.{are_starts, start_behind}
@@ -118,7 +119,7 @@ module _ {S : Type 0} {step : S → Input Msg → Deed Msg S} {p : Params} {orde
       }
 
   -- What cubs take is in form and in order.
-  pub in_order : AreInOrder p lives (orders_alone orders)
+  pub in_order : AreInOrder p lives orders
   in_order = record {
     lived = lived plan ring;
     started = are_starts plan ring;

@@ -1,5 +1,5 @@
 -- The four laws, each gathered from its parts.
-use Rattle.cub_facts.specs.Facts.{facts_of}
+use Rattle.proof_facts.specs.Facts.{facts_of}
 use Rattle.proof_schedule.specs.LinkLaws.{LinkLaws}
 use Rattle.proof_links.specs.Statements.{CubsAreToldInOrder, DisksAnswerAsks, LinksMeetTheLaws, MessagesComeInOrder}
 use Rattle.proof_links.proofs.Asking.{disks_answer}

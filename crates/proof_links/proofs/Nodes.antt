@@ -14,24 +14,20 @@ use Rattle.node_kit.specs.declared.outbox.Out.{Out}
 use Rattle.node_kit.specs.declared.outbox.Out.TheVariants as out
 use Rattle.node_kit.specs.Form.{is_in_form}
 use Rattle.node_kit.specs.Steps.{Deed, Input, IsAllowed}
-use Rattle.run_facts.specs.Events.{NodeEvent, is_tick, is_death, outs_of}
+use Rattle.run_facts.specs.Events.{NodeEvent, is_tick, is_death, outs_of, is_tick_input}
 use Rattle.run_facts.specs.Events.NodeEvent.{Does, Dies}
 use Rattle.run_facts.specs.Histories.{History, outs, beat, reading, ticks, past, living}
 use Rattle.disk_core.specs.State.{DiskState}
-use Rattle.schedule_laws.specs.Lives.{Lives, In, AreLives, store_at, outs_at, is_tick_input, ticks_at, beat_at, reading_at}
-use Rattle.schedule_laws.specs.Facts.{DidAt}
-use Rattle.schedule_laws.proofs.Carrying.{stamp_same, tick_same, does_it, count_rises}
-use Rattle.schedule_laws.proofs.Members.{all_in}
-use Rattle.controller_facts.specs.Controllers.{controller, known_at}
-use Rattle.cub_facts.specs.Lives.{lives_of}
-use Rattle.cub_facts.specs.Rings.{IsRingHistory, node_count, node_of_disk, viewers}
+use Rattle.proof_lives.specs.Lives.{Lives, AreLives, store_at, outs_at, ticks_at, beat_at, reading_at}
+use Rattle.lists.specs.Elements.{In}
+use Rattle.proof_lives.specs.Facts.{DidAt}
+use Rattle.proof_lives.proofs.Carrying.{stamp_same, tick_same, does_it, count_rises}
+use Rattle.lists.proofs.Each.{all_in}
+use Rattle.proof_controller.specs.Controllers.{controller, known_at}
+use Rattle.proof_facts.specs.Lives.{lives_of}
+use Rattle.proof_facts.specs.Rings.{IsRingHistory, node_count, node_of_disk, viewers}
 use Rattle.proof_links.proofs.Lives.{EndsInDeath, LivesOn, lives_or_dies, counts_all}
 use Rattle.proof_links.proofs.Sending.{IsOfCub, IsOfController, IsAnswer, cub_sends, disk_sends, command_sends}
-
--- An event in which a node ticks is no death.
-pub tick_is_no_death : (e : NodeEvent Msg) → is_tick e ≡ true → is_death e ≡ false
-tick_is_no_death (Does i) t = refl
-tick_is_no_death (Dies stamp) t = absurd (cc)
 
 module _ {S : Type 0} {step : S → Input Msg → Deed Msg S} {p : Params} {orders : List Order} {disk_at : ℕ → DiskState}
     {h : History Msg S} (plan : IsPlan p) (ring : IsRingHistory step p orders disk_at h) where

@@ -27,23 +27,22 @@ use Rattle.disk_core.specs.State.{DiskState}
 use Rattle.controller_core.specs.declared.known.Known.{Known}
 use Rattle.controller_core.specs.Orders.{orders_in}
 use Rattle.controller_core.specs.Rules.{starts, commanding}
-use Rattle.schedule_laws.specs.Lives.{In, Lives}
-use Rattle.schedule_laws.specs.Facts.{AreStarts}
-use Rattle.schedule_laws.specs.Rings.{orders_alone}
-use Rattle.schedule_laws.proofs.Carrying.{count_rises, same_ends}
-use Rattle.controller_facts.specs.Controllers.{controller, command, known_at, IsOrdered}
-use Rattle.controller_facts.specs.Stops.{tag_at}
-use Rattle.controller_facts.proofs.Commanding.{stopped_there}
-use Rattle.controller_facts.proofs.Controllers.{tag_sent}
-use Rattle.controller_facts.proofs.Knowing.{start_from}
-use Rattle.controller_facts.proofs.Behind.{each_behind, kept}
-use Rattle.controller_facts.proofs.Places.{place_in}
-use Rattle.controller_facts.proofs.StartsOnce.{once_nothing}
-use Rattle.controller_facts.specs.Orders.{IsOnce, StartAt}
-use Rattle.controller_facts.proofs.Commands.{commanding_once, way_low}
-use Rattle.cub_facts.specs.Lives.{lives_of}
-use Rattle.controller_facts.specs.Orders.{AreCounted}
-use Rattle.cub_facts.specs.Rings.{IsRingHistory}
+use Rattle.proof_lives.specs.Lives.{Lives}
+use Rattle.lists.specs.Elements.{In}
+use Rattle.proof_lives.specs.Facts.{AreStarts}
+use Rattle.proof_lives.proofs.Carrying.{count_rises, same_ends}
+use Rattle.proof_controller.specs.Controllers.{controller, command, known_at, IsOrdered}
+use Rattle.proof_controller.specs.Stops.{tag_at}
+use Rattle.proof_controller.proofs.CommandedOnce.{stopped_there}
+use Rattle.proof_controller.proofs.Controllers.{tag_sent}
+use Rattle.proof_controller.proofs.Knowing.{start_from}
+use Rattle.proof_controller.proofs.Behind.{each_behind, kept}
+use Rattle.proof_controller.proofs.Places.{place_in}
+use Rattle.proof_controller.proofs.StartsOnce.{once_nothing}
+use Rattle.proof_controller.specs.Orders.{IsOnce, StartAt, AreCounted}
+use Rattle.proof_controller.proofs.Commands.{commanding_once, way_low}
+use Rattle.proof_facts.specs.Lives.{lives_of}
+use Rattle.proof_facts.specs.Rings.{IsRingHistory}
 use Rattle.proof_links.proofs.Carrying.{Came, SentAs, came_from, commanded_before, from_controller, from_either, number_of, numbers_rise, dated}
 use Rattle.proof_links.proofs.Deschedules.{by_cub}
 use Rattle.proof_links.proofs.Nodes.{after_tick, beat_same, before, controller_inside, cub_inside, event_is}
@@ -330,7 +329,7 @@ module _ {S : Type 0} {step : S → Input Msg → Deed Msg S} {p : Params} {orde
       same_number c j k c s t l m (msg.Start x a) (msg.Start y b) small low high e f one.own two.own numbers
 
   -- The starts that cubs get are those of the orders.
-  pub are_starts : AreStarts p lives (orders_alone orders)
+  pub are_starts : AreStarts p lives orders
   are_starts = record {
     one_start = one_start;
     ordered = λ c i s l a x small low e.

@@ -23,15 +23,15 @@ use Rattle.node_kit.specs.Ways.{way_to_cub}
 use Rattle.controller_core.specs.declared.known.Known.{Known}
 use Rattle.controller_core.specs.Orders.{orders_in, Starts}
 use Rattle.controller_core.specs.Rules.{starts, commanding}
-use Rattle.schedule_laws.specs.Lives.{In}
-use Rattle.schedule_laws.proofs.Carrying.{sends_place}
-use Rattle.schedule_laws.proofs.Members.{in_filter, from_filter}
-use Rattle.controller_facts.specs.Controllers.{command}
-use Rattle.controller_facts.proofs.Commanding.{stopped_in}
-use Rattle.controller_facts.proofs.Behind.{each_behind, each_starts}
-use Rattle.controller_facts.proofs.Places.{in_place, place_in, get_below}
-use Rattle.controller_facts.specs.Orders.{AreCounted}
-use Rattle.controller_facts.proofs.Commands.{commanding_out, one_order, start_out}
+use Rattle.lists.specs.Elements.{In}
+use Rattle.proof_lives.proofs.Carrying.{sends_place}
+use Rattle.lists.proofs.Elements.{in_filter, from_filter}
+use Rattle.proof_controller.specs.Controllers.{command}
+use Rattle.proof_controller.proofs.CommandedOnce.{stopped_in}
+use Rattle.proof_controller.proofs.Behind.{each_behind, each_starts}
+use Rattle.proof_controller.proofs.Places.{in_place, place_in, get_below}
+use Rattle.proof_controller.specs.Orders.{AreCounted}
+use Rattle.proof_controller.proofs.Commands.{commanding_out, one_order, start_out}
 
 -- an order of a beat
 abbrev pub at_beat : ℕ → OrderKind → Order

@@ -1,5 +1,5 @@
 -- The laws of the run: how far cubs are apart, and what a death ends.
-use Rattle.std.proofs.Common.{◌≡◌, ℕ, suc, ◌+◌, ◌<◌, ◌≤◌, List, true, false, refl, sym, ap, ◌∙◌, arith, ⊎_elim, inl, inr, eq-or-lt_of_le}
+use Rattle.std.proofs.Common.{◌≡◌, ℕ, ◌+◌, ◌<◌, ◌≤◌, List, true, false, refl, sym, ap, ◌∙◌, arith, ⊎_elim, inl, inr}
 use Rattle.std.specs.Prelude.{◌⊎◌}
 use Rattle.std.proofs.lemmas.Bool.{cases_lt}
 use Rattle.tiger_base.specs.declared.number.Stamp.{Stamp}
@@ -8,29 +8,27 @@ use Rattle.slot_plan.specs.declared.params.Params.{Params}
 use Rattle.slot_plan.specs.Conditions.{IsPlan}
 use Rattle.slot_plan.specs.Times.{time_of}
 use Rattle.node_kit.specs.declared.course.Order.{Order}
-use Rattle.node_kit.specs.declared.outbox.Out.{Out}
 use Rattle.node_kit.specs.Steps.{Deed, Input, stamp_of}
 use Rattle.node_kit.specs.Steps.Input.{Tick}
-use Rattle.run_facts.specs.Events.{NodeEvent, stamp_at, is_tick, is_death}
+use Rattle.run_facts.specs.Events.{NodeEvent, stamp_at, is_tick, is_death, is_tick_input}
 use Rattle.run_facts.specs.Events.NodeEvent.{Does}
 use Rattle.run_facts.specs.Histories.{History, beat, ticks, living}
 use Rattle.disk_core.specs.State.{DiskState}
-use Rattle.schedule_laws.specs.Lives.{Lives, beat_at, reading_at, is_tick_input}
-use Rattle.schedule_laws.specs.Facts.{TickedAt, DidAt, TookMessage}
-use Rattle.schedule_laws.proofs.Carrying.{count_rises}
-use Rattle.schedule_laws.proofs.Order as order
-use Rattle.schedule_laws.proofs.Order.{tick_of, ticked_before}
-use Rattle.schedule_laws.proofs.States.{stamp_made}
+use Rattle.proof_lives.specs.Lives.{Lives, beat_at, reading_at}
+use Rattle.proof_lives.specs.Facts.{TickedAt, TookMessage}
+use Rattle.proof_lives.proofs.Order as order
+use Rattle.proof_lives.proofs.Order.{tick_of, ticked_before}
+use Rattle.proof_lives.proofs.States.{stamp_made}
 use Rattle.proof_schedule.specs.Facts.{Ended, LivedTo, DiedBy}
 use Rattle.proof_schedule.specs.RunLaws.{RunLaws}
 use Rattle.proof_schedule.proofs.Lives.{nobody_returns}
-use Rattle.cub_facts.specs.Facts.{beyond_of, facts_of}
-use Rattle.cub_facts.specs.Lives.{lives_of, CameAt, DiedAt}
-use Rattle.cub_facts.specs.Rings.{IsRingHistory, IsUpTo}
-use Rattle.cub_facts.proofs.NoReturns.{first_life, nobody}
+use Rattle.proof_facts.specs.Facts.{beyond_of, facts_of}
+use Rattle.proof_facts.specs.Lives.{lives_of, CameAt, DiedAt}
+use Rattle.proof_facts.specs.Rings.{IsRingHistory, IsUpTo}
+use Rattle.proof_lives.proofs.NoReturns.{first_life, nobody}
 use Rattle.proof_links.proofs.Lives.{EndsInDeath, LivesOn}
 use Rattle.proof_links.proofs.Carrying.{not_behind}
-use Rattle.proof_links.proofs.Nodes.{after_tick, before, cub_inside, did_in, event_is, how, lived, rises, tick_is_no_death, ticks_same}
+use Rattle.proof_links.proofs.Nodes.{before, cub_inside, event_is, how, lived, rises, ticks_same}
 
 module _ {S : Type 0} {step : S → Input Msg → Deed Msg S} {p : Params} {orders : List Order} {disk_at : ℕ → DiskState}
     {h : History Msg S} (plan : IsPlan p) (ring : IsRingHistory step p orders disk_at h) where
@@ -62,35 +60,6 @@ module _ {S : Type 0} {step : S → Input Msg → Deed Msg S} {p : Params} {orde
   -- A cub comes to no tick after the beat of its death.
   pub last : {c b a : ℕ} → CameAt p h c b → DiedAt p h c a → b ≤ a
   last {c} {b} {a} w d = let r = death_last c w.at a w.done d in let at = w.in_beat in omega arith
-
-  -- What a cub did it did by the beat of its death.
-  pub did_last : {c b a : ℕ} {o : Out Msg} → DidAt p lives c o b → DiedAt p h c a → b ≤ a
-  did_last {c} {b} {a} d e =
-      let at = did_in plan ring d in let r = death_last c d.at a at.0 e in let b1 = at.1 in omega arith
-
-  -- A beat that a cub ended is below the beat of its death.
-  pub ticked_before_death : {c b l a : ℕ} → TickedAt p lives c b l → DiedAt p h c a → b < a
-  ticked_before_death {c} {b} {l} {a} w d =
-      let inside = cub_inside plan ring c d.small in
-      let t = came w in
-      let end = ring.run.ended c d.at inside d.done d.death in
-      let wb = t.in_beat in
-      let db = d.in_beat in
-      let done = t.done in
-      let one = after_tick plan ring c t.at inside t.done t.tick in
-      let less : t.at < d.at = ⊎_elim
-      (λ (q : t.at ≡ d.at). absurd (dead_tick c t.at d.at q t.tick d.death))
-      (λ (q : t.at < d.at). q)
-      (eq-or-lt_of_le (let z : t.at ≤ d.at = omega arith in z)) in
-      let rise = count_rises is_tick h c (suc t.at) d.at less in
-      let low = ring.run.in_beat c d.at inside d.done in
-      omega arith
-    where
-      dead_tick : (c i j : ℕ) → i ≡ j → is_tick (h.event c i) ≡ true → is_death (h.event c j) ≡ true → ⊥
-      dead_tick c i j e t d =
-          let z : true ≡ false =
-          sym d ∙ (ap (λ n. is_death (h.event c n)) (sym e) ∙ tick_is_no_death (h.event c i) t) in
-          absurd (cc)
 
   -- A cub's readings never fall.
   pub readings_rise : {c a b l m : ℕ} → TickedAt p lives c a l → TickedAt p lives c b m → a ≤ b → l ≤ m

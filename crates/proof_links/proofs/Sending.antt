@@ -27,11 +27,14 @@ use Rattle.cub_changes.proofs.Causing.{have_causes}
 use Rattle.disk_core.specs.State.{DiskState}
 use Rattle.disk_core.specs.Rules.{disk_step, asked, answers, read_part}
 use Rattle.controller_core.specs.declared.known.Known.{Known}
-use Rattle.schedule_laws.specs.Lives.{In, deed_of, is_tick_input}
-use Rattle.schedule_laws.proofs.Members.{chosen, all_in}
-use Rattle.schedule_laws.proofs.Wrapped.{cub_with, cub_outs}
-use Rattle.controller_facts.specs.Controllers.{command}
-use Rattle.controller_facts.proofs.Commands.{IsCommand, commanding_out}
+use Rattle.proof_lives.specs.Lives.{deed_of}
+use Rattle.run_facts.specs.Events.{is_tick_input}
+use Rattle.lists.specs.Elements.{In}
+use Rattle.lists.proofs.Elements.{chosen}
+use Rattle.lists.proofs.Each.{all_in}
+use Rattle.proof_lives.proofs.Wrapped.{cub_with, cub_outs}
+use Rattle.proof_controller.specs.Controllers.{command}
+use Rattle.proof_controller.proofs.Commands.{IsCommand, commanding_out}
 
 -- messages that a cub, a disk and the controller may send
 abbrev pub IsOfCub : Msg → Type 0

@@ -13,13 +13,14 @@ use Rattle.node_kit.specs.Ways.{way_to_cub}
 use Rattle.run_facts.specs.Histories.{History}
 use Rattle.disk_core.specs.State.{DiskState}
 use Rattle.controller_core.specs.Orders.{Starts}
-use Rattle.schedule_laws.specs.Lives.{In, Lives}
-use Rattle.schedule_laws.specs.Facts.{TookMessage}
-use Rattle.controller_facts.specs.Controllers.{controller, known_at, GoneAt}
+use Rattle.proof_lives.specs.Lives.{Lives}
+use Rattle.lists.specs.Elements.{In}
+use Rattle.proof_lives.specs.Facts.{TookMessage}
+use Rattle.proof_controller.specs.Controllers.{controller, known_at, GoneAt}
 use Rattle.proof_schedule.specs.LinkLaws.{WasBegun}
-use Rattle.cub_facts.specs.Facts.{BegunAt, facts_of}
-use Rattle.cub_facts.specs.Lives.{lives_of}
-use Rattle.cub_facts.specs.Rings.{IsRingHistory}
+use Rattle.proof_facts.specs.Facts.{BegunAt, facts_of}
+use Rattle.proof_facts.specs.Lives.{lives_of}
+use Rattle.proof_facts.specs.Rings.{IsRingHistory}
 use Rattle.proof_links.proofs.Carrying.{commanded_before, from_controller, took_from}
 use Rattle.proof_links.proofs.Controllers.{begun_by}
 use Rattle.proof_links.proofs.Ordering.{at_beat, started_by, finished_by, ordered_once, ordered_before, place_of}
@@ -64,21 +65,6 @@ module _ {S : Type 0} {step : S → Input Msg → Deed Msg S} {p : Params} {orde
     pub starts : Starts orders place ask
     pub later : beat < y
     pub soon : y ≤ beat + p.delay
-
-  pub took_ordered : {c y : ℕ} {ask : Ask} {redundant : Bool} → TookMessage p lives c (msg.Start redundant ask) y
-      → TookStart ask y
-  took_ordered {c} {y} {ask} {redundant} g =
-      let s = start_from g in
-      let k = begun_place s.begun in
-      record {
-        beat = s.beat;
-        ordered = begun_ordered s.begun;
-        place = k.0;
-        starts = k.1;
-        later = s.later;
-        soon =
-            s.soon;
-      }
 
   -- An instance has one order, of one beat, and is stopped in it or after it.
   pub one_begun : {a b : Ask} {x y : ℕ} → BegunAt p orders lives a x → BegunAt p orders lives b y

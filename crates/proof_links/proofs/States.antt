@@ -16,17 +16,17 @@ use Rattle.node_kit.specs.Steps.{Deed, Input}
 use Rattle.node_kit.specs.Ways.{way_ahead}
 use Rattle.run_facts.specs.Histories.{History}
 use Rattle.disk_core.specs.State.{DiskState}
-use Rattle.schedule_laws.specs.Lives.{store_at, Lives}
-use Rattle.schedule_laws.specs.Facts.{DidAt, SentAt, TookMessage, HeardAt}
-use Rattle.schedule_laws.proofs.Carrying.{before_next, same_ends, tick_same, way_ends, way_of}
-use Rattle.schedule_laws.proofs.States.{state_way}
+use Rattle.proof_lives.specs.Lives.{store_at, Lives}
+use Rattle.proof_lives.specs.Facts.{DidAt, SentAt, TookMessage, HeardAt}
+use Rattle.proof_lives.proofs.Carrying.{before_next, same_ends, tick_same, way_ends, way_of}
+use Rattle.proof_lives.proofs.States.{state_way}
 use Rattle.proof_schedule.specs.Facts.{GotBy}
 use Rattle.proof_schedule.specs.LinkLaws.{WasSent, HeardIn}
 use Rattle.proof_service.specs.ServiceLaws.{WasUp}
-use Rattle.cub_facts.specs.Facts.{beyond_of, facts_of}
-use Rattle.cub_facts.specs.Lives.{lives_of, CameAt}
-use Rattle.cub_facts.specs.Rings.{IsRingHistory}
-use Rattle.cub_facts.proofs.NoReturns.{first_life, same_life}
+use Rattle.proof_facts.specs.Facts.{beyond_of, facts_of}
+use Rattle.proof_facts.specs.Lives.{lives_of, CameAt}
+use Rattle.proof_facts.specs.Rings.{IsRingHistory}
+use Rattle.proof_lives.proofs.NoReturns.{first_life, same_life}
 use Rattle.proof_links.proofs.Sending.{beat_at_tick}
 use Rattle.proof_links.proofs.Carrying.{did_before, from_cub, reaches_near, took_from}
 use Rattle.proof_links.proofs.Nodes.{before, beat_same, cub_inside}

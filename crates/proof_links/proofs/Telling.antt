@@ -15,12 +15,13 @@ use Rattle.node_kit.specs.Steps.Input.{Take}
 use Rattle.run_facts.specs.Events.{is_take_on}
 use Rattle.run_facts.specs.Histories.{History, living, outs, takes}
 use Rattle.disk_core.specs.State.{DiskState}
-use Rattle.schedule_laws.specs.Lives.{In, beat_at, Lives}
-use Rattle.schedule_laws.specs.Facts.{DidAt}
-use Rattle.schedule_laws.proofs.Carrying.{count_rises, same_ends}
-use Rattle.cub_facts.specs.Carried.{CameAhead, CubsAreTold, Leads, TookInOrder, WasSentBy, WasSentSince}
-use Rattle.cub_facts.specs.Lives.{lives_of, CameAt}
-use Rattle.cub_facts.specs.Rings.{IsRingHistory}
+use Rattle.proof_lives.specs.Lives.{beat_at, Lives}
+use Rattle.lists.specs.Elements.{In}
+use Rattle.proof_lives.specs.Facts.{DidAt}
+use Rattle.proof_lives.proofs.Carrying.{count_rises, same_ends}
+use Rattle.proof_facts.specs.Carried.{CameAhead, CubsAreTold, Leads, TookInOrder, WasSentBy, WasSentSince}
+use Rattle.proof_facts.specs.Lives.{lives_of, CameAt}
+use Rattle.proof_facts.specs.Rings.{IsRingHistory}
 use Rattle.proof_links.proofs.Carrying.{SentAs, came_from, did_as, did_before, from_cub, number_of, numbers_rise, reaches}
 use Rattle.proof_links.proofs.Nodes.{beat_same, by_rules, cub_inside, did_in, rises}
 use Rattle.proof_links.proofs.Once.{counts}

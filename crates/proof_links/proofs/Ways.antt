@@ -11,8 +11,8 @@ use Rattle.node_kit.specs.Links.{Links, IsLinks, links_of, ends_of, controller_o
 use Rattle.node_kit.specs.Ways.{way_ahead, way_to_disk, way_from_disk}
 use Rattle.node_kit.proofs.Ring.{ends_between}
 use Rattle.node_kit.proofs.Ways.{links_sound}
-use Rattle.schedule_laws.proofs.Members.{chosen}
-use Rattle.schedule_laws.proofs.Carrying.{same_ends, steps_made}
+use Rattle.lists.proofs.Elements.{chosen}
+use Rattle.proof_lives.proofs.Carrying.{same_ends, steps_made}
 
 -- A link that leads k steps ahead leads from its cub to the k-th cub after it.
 pub way_leads : (p : Params) (c k : ℕ) → IsPlan p → c < p.cubs → 1 ≤ k → k ≤ max 2 p.pieces

@@ -7,13 +7,12 @@ use Rattle.node_kit.specs.declared.course.Order.{Order}
 use Rattle.node_kit.specs.Steps.{Deed, Input}
 use Rattle.run_facts.specs.Histories.{History}
 use Rattle.disk_core.specs.State.{DiskState}
-use Rattle.schedule_laws.specs.Rings.{orders_alone}
-use Rattle.stops_held.specs.InOrder.{AreInOrder}
-use Rattle.cub_facts.specs.Carried.{CubsAreTold, DisksAnswer}
-use Rattle.cub_facts.specs.Facts.{facts_of}
-use Rattle.cub_facts.specs.Laws.{RingLaws}
-use Rattle.cub_facts.specs.Lives.{lives_of, CameAt}
-use Rattle.cub_facts.specs.Rings.{IsRingHistory}
+use Rattle.proof_lives.specs.InOrder.{AreInOrder}
+use Rattle.proof_facts.specs.Carried.{CubsAreTold, DisksAnswer}
+use Rattle.proof_facts.specs.Facts.{facts_of}
+use Rattle.proof_facts.specs.Laws.{RingLaws}
+use Rattle.proof_facts.specs.Lives.{lives_of, CameAt}
+use Rattle.proof_facts.specs.Rings.{IsRingHistory}
 
 -- The laws of the run, of the links and of the controller hold.
 abbrev pub LinksMeetTheLaws : (S : Type 0) → Type 0
@@ -29,7 +28,7 @@ abbrev pub MessagesComeInOrder : (S : Type 0) → Type 0
 MessagesComeInOrder S = (step : S → Input Msg → Deed Msg S) (p : Params) (orders : List Order)
     (disk_at : ℕ → DiskState) (h : History Msg S)
     → IsPlan p → IsRingHistory step p orders disk_at h
-    → AreInOrder p (lives_of h) (orders_alone orders)
+    → AreInOrder p (lives_of h) orders
 
 -- What a cub sends another comes in time, and in the order in which it was sent; what comes from a
 -- cub was sent by it.

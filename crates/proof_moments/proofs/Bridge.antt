@@ -14,10 +14,11 @@ use Rattle.run_facts.specs.Timed.{is_died}
 use Rattle.run_facts.specs.Accounts.{Rising}
 use Rattle.run_model.specs.Moments.{is_put_of}
 use Rattle.proof_schedule.specs.Facts.{Facts, GoneBefore}
-use Rattle.proof_moments.specs.Members.{In}
+use Rattle.lists.specs.Elements.{In}
 use Rattle.proof_moments.specs.Ties.{StandsIn, IsLogged, IsGoneOf}
 use Rattle.proof_moments.specs.Recorded.{IsRecorded}
-use Rattle.proof_moments.proofs.Lists.{in_left, in_right, in_cases, in_map, from_map, in_filter, from_filter, any_passes, one_passes}
+use Rattle.proof_moments.proofs.Lists.{any_passes, one_passes}
+use Rattle.lists.proofs.Elements.{in_left, in_right, in_cases, in_map, from_map, in_filter, from_filter}
 use Rattle.proof_moments.proofs.Sorted.{sorted_rises, not_above}
 use Rattle.proof_moments.proofs.Orders.{noted_at, of_order, into_order, order_sorted, journal_joined, order_has_front}
 

@@ -25,11 +25,11 @@ use Rattle.proof_schedule.specs.Laws.{Laws}
 use Rattle.proof_schedule.specs.Logs.{Fact, facts_in, Ticked, Put, Took, Shows, Begun, Asked, AskedApart, Gone, Died, Believed}
 use Rattle.proof_schedule.proofs.Example as facts
 use Rattle.proof_schedule.proofs.Follows.{runs}
-use Rattle.proof_moments.specs.Members.{In}
+use Rattle.lists.specs.Elements.{In}
 use Rattle.proof_moments.specs.Ties.{StandsIn, IsPutAt, IsBeliefAt, IsCutAt, Tells, Logged, Keeps, Besides, Locals}
 use Rattle.proof_moments.specs.Recorded.{IsRecorded, ParcelsAreInTime}
 use Rattle.proof_moments.specs.Example.{orders, own_record, got, put, took, journal, journals, TiesCanBeMet}
-use Rattle.proof_moments.proofs.Lists.{in_left, in_right}
+use Rattle.lists.proofs.Elements.{in_left, in_right}
 use Rattle.proof_moments.proofs.Records.{was_taken}
 
 abbrev r : Facts

@@ -20,10 +20,13 @@ use Rattle.run_model.specs.Moments.{is_belief_of, moment_at}
 use Rattle.run_model.specs.Orders.{PutIsFair, EntryIsFair, MayPut, PutsAreFair}
 use Rattle.run_model.proofs.Moments.{fair_at_fronts}
 use Rattle.proof_schedule.specs.Facts.{Facts, GoneBefore, BelievedBy}
-use Rattle.proof_moments.specs.Members.{In}
+use Rattle.lists.specs.Elements.{In}
 use Rattle.proof_moments.specs.Recorded.{IsRecorded}
 use Rattle.proof_moments.proofs.Sorted.{not_above}
-use Rattle.proof_moments.proofs.Lists.{all_in, in_left, in_right, in_cases, cut_by, any_passes}
+use Rattle.proof_moments.proofs.Lists.{any_passes}
+use Rattle.lists.proofs.Each.{all_in}
+use Rattle.lists.proofs.Elements.{in_left, in_right, in_cases}
+use Rattle.lists.proofs.Cuts.{cut_by}
 use Rattle.proof_moments.proofs.Holders.{IsPutIn, who_has, stop_in}
 use Rattle.proof_moments.proofs.Bridge as bridge
 

@@ -11,8 +11,9 @@ use Rattle.node_kit.specs.declared.journal.What.TheVariants as what
 use Rattle.run_facts.specs.Accounts.{Rising}
 use Rattle.run_facts.specs.Order.{Noted, beat_of}
 use Rattle.run_model.specs.Schedule.{Schedule, Stop, is_stopped, unless_of, empty_schedule, changed, after_entry, schedule_of}
-use Rattle.proof_moments.specs.Members.{In}
-use Rattle.proof_moments.proofs.Lists.{either_way, all_in, in_left, in_right, in_cases}
+use Rattle.lists.specs.Elements.{In}
+use Rattle.lists.proofs.Elements.{chosen, in_left, in_right, in_cases}
+use Rattle.lists.proofs.Each.{all_in}
 
 abbrev given_slot : Schedule → Tenancy → Schedule
 given_slot sch u = record { holder = λ slot. cond (u.slot.0 == slot) (Some u) (sch.holder slot); stops = sch.stops }
@@ -42,7 +43,7 @@ ArePutIn log sch = (s : ℕ) (t : Tenancy) → sch.holder s ≡ Some t → IsPut
 -- who is left by a stop was there, and is another
 left_there : (v : ℕ) (o : Option Tenancy) (t : Tenancy) → unless_of v o ≡ Some t → (o ≡ Some t) × ((t.instance.0 == v) ≡ false)
 left_there v None t e = absurd (cc)
-left_there v (Some u) t e = either_way (λ (o : Option Tenancy). o ≡ Some t → (Some u ≡ Some t) × ((t.instance.0 == v) ≡ false)) (u.instance.0 == v) None (Some u)
+left_there v (Some u) t e = chosen (λ (o : Option Tenancy). o ≡ Some t → (Some u ≡ Some t) × ((t.instance.0 == v) ≡ false)) (u.instance.0 == v) None (Some u)
     (λ _ q. absurd (cc))
     (λ f q. let same : u ≡ t = cc in (q, ap (λ (w : Tenancy). w.instance.0 == v) (sym same) ∙ f))
     e
@@ -55,9 +56,9 @@ still_fresh v beat k stops had other =
 
 put_by : (log : List Noted) (sch : Schedule) (x : Noted) (w : What) → x.entry.what ≡ w → In x log → ArePutIn log sch → ArePutIn log (changed sch (beat_of x) w)
 put_by log sch x (what.Put u) is i had =
-    either_way (λ (q : Schedule). ArePutIn log q) (is_stopped u.instance.0 sch.stops) sch (given_slot sch u)
+    chosen (λ (q : Schedule). ArePutIn log q) (is_stopped u.instance.0 sch.stops) sch (given_slot sch u)
     (λ _. had)
-    (λ fresh s t e. either_way (λ (o : Option Tenancy). o ≡ Some t → IsPutIn log (given_slot sch u) s t) (u.slot.0 == s) (Some u) (sch.holder s)
+    (λ fresh s t e. chosen (λ (o : Option Tenancy). o ≡ Some t → IsPutIn log (given_slot sch u) s t) (u.slot.0 == s) (Some u) (sch.holder s)
     (λ here q.
     let same : u ≡ t = cc in
     record {
@@ -107,7 +108,7 @@ unless_other v t ne = let f : (t.instance.0 == v) ≡ false = ne_eqb t.instance.
 holds_more : (log : List Noted) (s b : ℕ) (t : Tenancy) (sch : Schedule) (x : Noted) (w : What) → x.entry.what ≡ w → In x log → b ≤ beat_of x → IsNeverGone t.instance.0 log → IsOnlyPut t log
     → HoldsOr log s b t sch → HoldsOr log s b t (changed sch (beat_of x) w)
 holds_more log s b t sch x (what.Put u) is i low never only had =
-    either_way (λ (q : Schedule). HoldsOr log s b t q) (is_stopped u.instance.0 sch.stops) sch (given_slot sch u) (λ _. had)
+    chosen (λ (q : Schedule). HoldsOr log s b t q) (is_stopped u.instance.0 sch.stops) sch (given_slot sch u) (λ _. had)
     (λ _. ⊎_elim
     (λ (same : (u.slot.0 == s) ≡ true). ⊎_elim
     (λ (e : u.instance.0 ≡ t.instance.0). inl (ap (λ (k : Bool). cond k (Some u) (sch.holder s)) same ∙ ap (λ (v : Tenancy). Some v) (only x u i is e)))
@@ -121,7 +122,7 @@ holds_more log s b t sch x other is i low never only had = had
 
 -- no stop of it stands among the stops
 fresh_more : (v : ℕ) (sch : Schedule) (beat : ℕ) (w : What) → ((i : Instance) → w ≡ what.Gone i → i.0 ≡ v → ⊥) → is_stopped v sch.stops ≡ false → is_stopped v (changed sch beat w).stops ≡ false
-fresh_more v sch beat (what.Put u) never had = either_way (λ (q : Schedule). is_stopped v q.stops ≡ false) (is_stopped u.instance.0 sch.stops) sch (given_slot sch u) (λ _. had) (λ _. had)
+fresh_more v sch beat (what.Put u) never had = chosen (λ (q : Schedule). is_stopped v q.stops ≡ false) (is_stopped u.instance.0 sch.stops) sch (given_slot sch u) (λ _. had) (λ _. had)
 fresh_more v sch beat (what.Gone w) never had = still_fresh w beat v sch.stops had (ne_eqb w.0 v (never w refl))
 fresh_more v sch beat other never had = had
 
@@ -161,7 +162,7 @@ pub record WasGone (log : List Noted) (stop : Stop) : Type 0 where
   pub beat : stop.beat ≡ beat_of entry
 
 gone_by : (log : List Noted) (sch : Schedule) (x : Noted) (w : What) → x.entry.what ≡ w → In x log → ((q : Stop) → In q sch.stops → WasGone log q) → (q : Stop) → In q (changed sch (beat_of x) w).stops → WasGone log q
-gone_by log sch x (what.Put u) is i had q k = either_way (λ (z : Schedule). In q z.stops → WasGone log q) (is_stopped u.instance.0 sch.stops) sch (given_slot sch u) (λ _ l. had q l) (λ _ l. had q l) k
+gone_by log sch x (what.Put u) is i had q k = chosen (λ (z : Schedule). In q z.stops → WasGone log q) (is_stopped u.instance.0 sch.stops) sch (given_slot sch u) (λ _ l. had q l) (λ _ l. had q l) k
 gone_by log sch x (what.Gone v) is i had q k = ⊎_elim
     (λ l. had q l)
     (λ l. ⊎_elim
@@ -174,7 +175,7 @@ pub stop_from : (front : List Noted) (q : Stop) → In q (schedule_of front).sto
 stop_from front = kept_along (λ (sch : Schedule). (q : Stop) → In q sch.stops → WasGone front q) front empty_schedule (λ x q i h. gone_by front q x x.entry.what refl i h) (λ q l. absurd l)
 
 stays_stop : (sch : Schedule) (beat : ℕ) (w : What) (q : Stop) → In q sch.stops → In q (changed sch beat w).stops
-stays_stop sch beat (what.Put u) q k = either_way (λ (z : Schedule). In q z.stops) (is_stopped u.instance.0 sch.stops) sch (given_slot sch u) (λ _. k) (λ _. k)
+stays_stop sch beat (what.Put u) q k = chosen (λ (z : Schedule). In q z.stops) (is_stopped u.instance.0 sch.stops) sch (given_slot sch u) (λ _. k) (λ _. k)
 stays_stop sch beat (what.Gone v) q k = in_left q sch.stops (stop_of v beat ∷ []) k
 stays_stop sch beat other q k = k
 

@@ -21,7 +21,8 @@ use Rattle.run_model.proofs.Moments.{local_at_fronts}
 use Rattle.proof_schedule.specs.Facts.{Facts}
 use Rattle.proof_moments.specs.Ties.{StandsIn, Locals}
 use Rattle.proof_moments.specs.Recorded.{IsRecorded}
-use Rattle.proof_moments.proofs.Lists.{either_way, any_passing}
+use Rattle.proof_moments.proofs.Lists.{any_passing}
+use Rattle.lists.proofs.Elements.{chosen}
 use Rattle.proof_moments.proofs.Bridge as bridge
 use Rattle.proof_moments.proofs.Free as free
 
@@ -51,7 +52,7 @@ module _ (p : Params) (r : Facts) (orders : List Order) (journals : List (List E
 
   local_sent : (link : LinkNo) (s : State) → x.entry.what ≡ what.Sent link (note.ViewerState s) → IsLocalEntry p (moment_at front) x.node x.entry.stamp.reading (what.Sent link (note.ViewerState s))
   unfolding moment_at
-  local_sent link s is = either_way (λ (rs : List Rec). AnyByRecursion (IsOwnRecordFor s) rs) (list_any (λ (e : Entry). is_died e.what) (journal_of x.node front)) [] (records_of (journal_of x.node front))
+  local_sent link s is = chosen (λ (rs : List Rec). AnyByRecursion (IsOwnRecordFor s) rs) (list_any (λ (e : Entry). is_died e.what) (journal_of x.node front)) [] (records_of (journal_of x.node front))
       (λ d. let e = any_passing (λ (f : Entry). is_died f.what) (journal_of x.node front) d in absurd (locals.ends x.node (journal_of x.node front) cut.0 x.entry e.0 small cut.1 e.1 (bridge.died_is e.0.what e.2)))
       (λ _. locals.sent x.node (journal_of x.node front) cut.0 x.entry link s small cut.1 is)
 

@@ -8,9 +8,10 @@ use Rattle.run_facts.specs.Accounts.{Rising}
 use Rattle.run_facts.specs.Order.{Noted, beat_of, journal_of, in_beat, order_from, order_of, IsNotAfter}
 use Rattle.run_facts.proofs.Orders.{groups, by_key}
 use Rattle.run_facts.proofs.Rows.{filter-none}
-use Rattle.proof_moments.specs.Members.{In}
+use Rattle.lists.specs.Elements.{In}
 use Rattle.proof_moments.specs.Ties.{StandsIn}
-use Rattle.proof_moments.proofs.Lists.{in_left, in_right, in_cases, in_map, from_map, in_filter, from_filter, all_by}
+use Rattle.lists.proofs.Elements.{in_left, in_right, in_cases, in_map, from_map, in_filter, from_filter}
+use Rattle.lists.proofs.Each.{all_by}
 use Rattle.proof_moments.proofs.Sorted.{Sorted, sorted_joined, sorted_flat, split_at, rises_before}
 
 abbrev pub noted_at : ℕ → Entry → Noted

@@ -20,10 +20,13 @@ use Rattle.run_model.specs.Moments.{moment_at, last_beat}
 use Rattle.run_model.specs.Parts.{IsPart, ViewsArePart, ViewsAreAlwaysPart, was_just_stopped}
 use Rattle.run_model.proofs.Moments.{part_at_fronts}
 use Rattle.proof_schedule.specs.Facts.{Facts, Entered, GoneBefore}
-use Rattle.proof_moments.specs.Members.{In}
+use Rattle.lists.specs.Elements.{In}
 use Rattle.proof_moments.specs.Ties.{StandsIn, IsCutAt}
 use Rattle.proof_moments.specs.Recorded.{IsRecorded}
-use Rattle.proof_moments.proofs.Lists.{either_way, in_left, in_right, in_cases, all_by, any_passes, any_passing, cut_by}
+use Rattle.proof_moments.proofs.Lists.{any_passes, any_passing}
+use Rattle.lists.proofs.Elements.{chosen, in_left, in_right, in_cases}
+use Rattle.lists.proofs.Each.{all_by}
+use Rattle.lists.proofs.Cuts.{cut_by}
 use Rattle.proof_moments.proofs.Holders.{IsNeverGone, IsOnlyPut, IsReplaced, holder_or, stop_from, stop_in}
 use Rattle.proof_moments.proofs.Records.{was_taken, records_cut}
 use Rattle.proof_moments.proofs.Sorted.{IsLast, last_is, split_at, rises_before, not_above}
@@ -205,7 +208,7 @@ module _ (p : Params) (r : Facts) (orders : List Order) (journals : List (List E
 
   views_part : ViewsArePart p (moment_at front)
   unfolding moment_at
-  views_part c small = either_way (λ (rs : List Rec). AllByRecursion (λ q. IsPart p (moment_at front) q.tenancy q.visit) rs)
+  views_part c small = chosen (λ (rs : List Rec). AllByRecursion (λ q. IsPart p (moment_at front) q.tenancy q.visit) rs)
       (list_any (λ (e : Entry). is_died e.what) (journal_of c front)) [] (records_of (journal_of c front))
       (λ _. tt)
       (λ alive. all_by (λ q. IsPart p (moment_at front) q.tenancy q.visit) (records_of (journal_of c front)) (λ q i. record_part c small alive q i))

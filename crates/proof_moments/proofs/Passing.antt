@@ -27,10 +27,11 @@ use Rattle.run_model.specs.Orders.{IsOrdered, is_up_to, end_of_tick, IsStartOf, 
 use Rattle.run_claims.specs.Patience.{NobodyIsPassedOver}
 use Rattle.proof_schedule.specs.Facts.{Facts, BelievedBy, PutBy, ReachedBy, GoneBefore, DiedLongBefore, IsFirstLife, NobodyReturns}
 use Rattle.proof_schedule.specs.StartLaws.{Waits}
-use Rattle.proof_moments.specs.Members.{In}
+use Rattle.lists.specs.Elements.{In}
 use Rattle.proof_moments.specs.Ties.{IsTickBelow, StandsIn, IsCutAt, IsHeldAt, IsPutAt}
 use Rattle.proof_moments.specs.Recorded.{IsRecorded}
-use Rattle.proof_moments.proofs.Lists.{either_way, in_filter, from_filter, in_cases, any_by, any_with, any_passes, any_passing}
+use Rattle.proof_moments.proofs.Lists.{any_by, any_with, any_passes, any_passing}
+use Rattle.lists.proofs.Elements.{chosen, in_filter, from_filter, in_cases}
 use Rattle.proof_moments.proofs.Holders.{IsReplaced, holder_or, stop_from, stop_in}
 use Rattle.proof_moments.proofs.Ticks.{up_to_parts, up_to_by, tick_front}
 use Rattle.proof_moments.proofs.Bridge as bridge
@@ -210,7 +211,7 @@ module _ (p : Params) (r : Facts) (orders : List Order) (journals : List (List E
       let q = shown_there t n k.shows j at in
       let q_slot : q.0.tenancy.slot.0 ≡ slot = ap (λ (u : Tenancy). u.slot.0) q.2 ∙ same in
       let q_stopped : AnyByRecursion (IsRecentStop p beat q.0.tenancy.instance.0) (schedule_of front).stops = subst (λ (u : Tenancy). AnyByRecursion (IsRecentStop p beat u.instance.0) (schedule_of front).stops) (sym q.2) stopped in
-      inr (either_way (λ (rs : List Rec). AnyByRecursion (λ (y : Rec). (y.tenancy.slot.0 ≡ slot) × (y.visit ≡ n) × AnyByRecursion (IsRecentStop p beat y.tenancy.instance.0) (schedule_of front).stops) rs)
+      inr (chosen (λ (rs : List Rec). AnyByRecursion (λ (y : Rec). (y.tenancy.slot.0 ≡ slot) × (y.visit ≡ n) × AnyByRecursion (IsRecentStop p beat y.tenancy.instance.0) (schedule_of front).stops) rs)
       (list_any (λ (e : Entry). is_died e.what) (journal_of c front)) [] (records_of (journal_of c front))
       (λ d. absurd (alive d))
       (λ _. any_with (λ (y : Rec). (y.tenancy.slot.0 ≡ slot) × (y.visit ≡ n) × AnyByRecursion (IsRecentStop p beat y.tenancy.instance.0) (schedule_of front).stops) (records_of (journal_of c front)) q.0 q.1 (q_slot, q.3, q_stopped))))

@@ -9,11 +9,11 @@ use Rattle.node_kit.specs.declared.journal.What.{What}
 use Rattle.node_kit.specs.declared.journal.What.TheVariants as what
 use Rattle.node_kit.specs.declared.journal.Entry.{Entry}
 use Rattle.run_model.specs.Views.{records_of, taken_by, drops}
-use Rattle.proof_moments.specs.Members.{In}
-use Rattle.proof_moments.proofs.Lists.{either_way, in_left, in_right, in_cases}
+use Rattle.lists.specs.Elements.{In}
+use Rattle.lists.proofs.Elements.{chosen, in_left, in_right, in_cases}
 
 taken_is : (w : What) (es : List Entry) (q : Rec) → In q (taken_by w es) → w ≡ what.Took q
-taken_is (what.Took r) es q i = either_way (λ (rs : List Rec). In q rs → what.Took r ≡ what.Took q) (list_any (λ (e : Entry). drops r e.what) es) [] (r ∷ [])
+taken_is (what.Took r) es q i = chosen (λ (rs : List Rec). In q rs → what.Took r ≡ what.Took q) (list_any (λ (e : Entry). drops r e.what) es) [] (r ∷ [])
     (λ _ k. absurd k)
     (λ _ k. ⊎_elim (λ e. ap (λ (x : Rec). what.Took x) (sym e)) (λ n. absurd n) k)
     i
@@ -21,12 +21,12 @@ taken_is other es q i = absurd i
 
 -- what no entry of a list drops, none of its front drops
 taken_before : (w : What) (es fs : List Entry) (q : Rec) → In q (taken_by w (es ++ fs)) → In q (taken_by w es)
-taken_before (what.Took r) es fs q i = either_way (λ (rs : List Rec). In q rs → In q (taken_by (what.Took r) es)) (list_any (λ (e : Entry). drops r e.what) (es ++ fs)) [] (r ∷ [])
+taken_before (what.Took r) es fs q i = chosen (λ (rs : List Rec). In q rs → In q (taken_by (what.Took r) es)) (list_any (λ (e : Entry). drops r e.what) (es ++ fs)) [] (r ∷ [])
     (λ _ k. absurd k)
     (λ none k.
     let test : Entry → Bool = λ e. drops r e.what in
     let fresh : list_any test es ≡ false = false_from_ne_true (list_any test es) (λ t. true≢false (sym (list_any-append test es fs ∙ or_left (list_any test es) (list_any test fs) t) ∙ none)) in
-    either_way (λ (rs : List Rec). In q rs) (list_any test es) [] (r ∷ []) (λ t. absurd (true≢false (sym t ∙ fresh))) (λ _. k))
+    chosen (λ (rs : List Rec). In q rs) (list_any test es) [] (r ∷ []) (λ t. absurd (true≢false (sym t ∙ fresh))) (λ _. k))
     i
 taken_before other es fs q i = absurd i
 

@@ -5,8 +5,9 @@ use Rattle.std.proofs.lemmas.Bool.{cases_Bool, cases_lt}
 use Rattle.run_facts.specs.Accounts.{Rising}
 use Rattle.run_facts.specs.Order.{Noted, beat_of}
 use Rattle.run_facts.proofs.Rows.{all-append, all-left, all-weaker}
-use Rattle.proof_moments.specs.Members.{In}
-use Rattle.proof_moments.proofs.Lists.{in_right, all_in, all_by}
+use Rattle.lists.specs.Elements.{In}
+use Rattle.lists.proofs.Elements.{in_right}
+use Rattle.lists.proofs.Each.{all_in, all_by}
 
 -- each element goes before those behind it
 abbrev pub Sorted : {X : Type 0} → (X → X → Type 0) → List X → Type 0

@@ -20,7 +20,8 @@ use Rattle.run_claims.specs.Returns.{IsSoonAfterStops, BringsNobodyBack, NobodyC
 use Rattle.proof_schedule.specs.Facts.{Facts}
 use Rattle.proof_moments.specs.Ties.{StandsIn}
 use Rattle.proof_moments.specs.Recorded.{IsRecorded, ParcelsAreInTime}
-use Rattle.proof_moments.proofs.Lists.{all_by, any_passes}
+use Rattle.proof_moments.proofs.Lists.{any_passes}
+use Rattle.lists.proofs.Each.{all_by}
 use Rattle.proof_moments.proofs.Holders.{stop_from}
 use Rattle.proof_moments.proofs.Bridge as bridge
 use Rattle.proof_moments.proofs.Free as free

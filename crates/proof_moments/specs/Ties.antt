@@ -22,7 +22,7 @@ use Rattle.run_model.specs.Views.{records_of}
 use Rattle.proof_schedule.specs.Facts.{Facts, Ended, DiedBy, Entered, PutBy, ReachedBy, IsFirstLife}
 use Rattle.proof_schedule.specs.StartLaws.{Waits, IsInWindow}
 use Rattle.proof_schedule.specs.Schedule.{IsTaken}
-use Rattle.proof_moments.specs.Members.{In}
+use Rattle.lists.specs.Elements.{In}
 
 -- An entry stands in the journal of a node.
 pub record StandsIn (journals : List (List Entry)) (n : ℕ) (e : Entry) : Type 0 where

@@ -28,11 +28,12 @@ use Rattle.cub_changes.proofs.Closed.{IsClosed, OfEach}
 use Rattle.cub_changes.proofs.Messages.{taking_by}
 use Rattle.cub_changes.proofs.Puts.{inserting_by}
 use Rattle.cub_changes.proofs.Ticks.{releasing_by, believing_by, splitting_by, forwarding_by, reading_by, ticking_by}
-use Rattle.schedule_laws.specs.Lives.{In, deed_of, store_at}
-use Rattle.schedule_laws.proofs.Members.{chosen, from_map, from_filter, in_filter}
-use Rattle.schedule_laws.proofs.Moves.{from_with_line, with_record_new}
-use Rattle.schedule_laws.proofs.Steps.{forward_same, split_same, ask_same}
-use Rattle.cub_facts.specs.Pieces.{before_reading, before_serving}
+use Rattle.proof_lives.specs.Lives.{deed_of, store_at}
+use Rattle.lists.specs.Elements.{In}
+use Rattle.lists.proofs.Elements.{chosen, from_map, from_filter, in_filter}
+use Rattle.proof_lives.proofs.Moves.{from_with_line, with_record_new}
+use Rattle.proof_lives.proofs.Steps.{forward_same, split_same, ask_same}
+use Rattle.proof_facts.specs.Pieces.{before_reading, before_serving}
 use Rattle.proof_splits.proofs.PieceSets.{is_in_there, one_more_stays, with_there}
 
 -- ---- lists

@@ -23,21 +23,22 @@ use Rattle.cub_rules.specs.declared.store.Store.{Store}
 use Rattle.cub_rules.specs.State.{IsStoreOf, IsPieceAt}
 use Rattle.cub_rules.specs.Records.{stored_for}
 use Rattle.cub_rules.specs.Ticks.{ticking}
-use Rattle.cub_laws.proofs.Walks.{forwarding_right, reading_right}
+use Rattle.cub_changes.proofs.Rules.{forwarding_right, reading_right}
 use Rattle.run_model.proofs.Reflects.{and_left, and_right, at_most}
-use Rattle.schedule_laws.specs.Lives.{In, Lives, AreLives, deed_of, store_at, outs_at}
-use Rattle.schedule_laws.specs.Facts.{TickedAt}
-use Rattle.schedule_laws.proofs.Lines.{kept_at}
-use Rattle.schedule_laws.proofs.Members.{all_in}
-use Rattle.schedule_laws.proofs.Ticking.{kept_before}
-use Rattle.proof_journals.proofs.Ones.{IsOne, none_one}
+use Rattle.cub_changes.proofs.Order.{is_ask, is_parcel, asks_in_reading, parcels_in_serving, no_ask_taken, no_parcel_taken}
+use Rattle.proof_lives.specs.Lives.{Lives, AreLives, deed_of, store_at, outs_at}
+use Rattle.lists.specs.Elements.{In}
+use Rattle.proof_lives.specs.Facts.{TickedAt}
+use Rattle.proof_lives.proofs.Lines.{kept_at}
+use Rattle.lists.proofs.Each.{all_in}
+use Rattle.proof_lives.proofs.Ticking.{kept_before}
+use Rattle.proof_journals.proofs.Ones.{IsOne, none_one, none_by, in_part, of_part, one_of_part}
 use Rattle.proof_schedule.specs.Facts.{Facts}
 use Rattle.proof_pieces.specs.Pieces.{ArePiecesRight}
-use Rattle.cub_facts.specs.Pieces.{want, before_reading, before_serving, stamp_of, AsksFor, IsToServe, AsksAt, SendsPart, ServesAt, pieces_by}
+use Rattle.proof_facts.specs.Pieces.{want, before_reading, before_serving, stamp_of, AsksFor, IsToServe, AsksAt, SendsPart, ServesAt, pieces_by}
 use Rattle.proof_parcels.proofs.Apart.{always_once, once_reading, once_serving}
-use Rattle.proof_parcels.proofs.TickParts.{is_ask, is_parcel, asks_in_reading, parcels_in_serving, no_ask_taken, no_parcel_taken, in_part, of_part, one_of_part}
 use Rattle.proof_parcels.proofs.AskOuts.{asks, ask_once}
-use Rattle.proof_parcels.proofs.ServeOuts.{IsServeOf, sends, sends_as, whole_for, piece_for, serves_out, serve_once}
+use Rattle.proof_parcels.proofs.ServeOuts.{IsServeOf, IsOfRecord, sends, sends_as, serving_of_records, serves_out, serve_once}
 
 -- a piece record in form has a number from 1 to the plan's
 pub numbered : (p : Params) (c : ℕ) (x : PieceState) → IsPieceAt p c x → (1 ≤ x.piece) × (x.piece ≤ p.pieces)
@@ -81,7 +82,7 @@ module _ {p : Params} {lives : Lives} (plan : IsPlan p) (lived : AreLives p live
         short)).keeps
 
     pub at_serving : IsStoreOf p c (before_serving p c stamp old)
-    at_serving = (reading_right p c stamp plan _ at_reading).keeps
+    at_serving = (reading_right p c stamp plan small _ at_reading).keeps
 
     pub low_unasked : (x : PieceState) → In x (before_reading p c stamp old).unasked.items → 1 ≤ x.piece
     low_unasked x k = (numbered p c x (all_in (IsPieceAt p c) x (before_reading p c stamp old).unasked.items
@@ -112,8 +113,10 @@ module _ {p : Params} {lives : Lives} (plan : IsPlan p) (lived : AreLives p live
   ask_tick i link w h = by_input (lives.input c i) refl
     where
       by_input : (k : Input Msg) → lives.input c i ≡ k → IsAtTick i
-      by_input (Take stamp way m) e = absurd (no_ask_taken p c stamp way m (store_at p c (lives.input c) i)
-          (out.Send link (msg.ReadAsk w)) (out_at i (Take stamp way m) (out.Send link (msg.ReadAsk w)) e h) refl)
+      by_input (Take stamp way m) e =
+          let none = no_ask_taken p c stamp way m (store_at p c (lives.input c) i) in
+          absurd (none_by is_ask _ none (out.Send link (msg.ReadAsk w))
+          (out_at i (Take stamp way m) (out.Send link (msg.ReadAsk w)) e h) refl)
       by_input (Tick stamp) e = record { stamp = stamp; tick = e }
 
   -- ---- parts
@@ -123,37 +126,39 @@ module _ {p : Params} {lives : Lives} (plan : IsPlan p) (lived : AreLives p live
     pub tick : lives.input c i ≡ Tick stamp
     pub serve : IsServeOf p c stamp (before_serving p c stamp (store_at p c (lives.input c) i)) link w sent part
 
+  -- it goes out at a tick, when the cub serves
+  record IsOfServing (i : ℕ) (o : Out Msg) : Type 0 where
+    stamp : Stamp
+    tick : lives.input c i ≡ Tick stamp
+    of : IsOfRecord p c stamp (before_serving p c stamp (store_at p c (lives.input c) i)) o
+
+  of_serving : (i : ℕ) (o : Out Msg) → is_parcel o ≡ true → i < lives.count c → In o (outs_at p c (lives.input c) i)
+      → IsOfServing i o
+  of_serving i o is low h = by_input (lives.input c i) refl
+    where
+      by_input : (k : Input Msg) → lives.input c i ≡ k → IsOfServing i o
+      by_input (Take stamp way m) e =
+          let none = no_parcel_taken p c stamp way m (store_at p c (lives.input c) i) in
+          absurd (none_by is_parcel _ none o (out_at i (Take stamp way m) o e h) is)
+      by_input (Tick stamp) e =
+          let g : Store = store_at p c (lives.input c) i in
+          let there = in_part is_parcel _ _ (parcels_in_serving p c stamp g) o (out_at i (Tick stamp) o e h) is in
+          let all = serving_of_records p c stamp (before_serving p c stamp g) (low_pieces i low stamp e) in
+          record { stamp = stamp; tick = e; of = all_in (IsOfRecord p c stamp (before_serving p c stamp g)) o _ all there }
+
   pub whole_at : (i : ℕ) (link : LinkNo) (w : Want) (sent : ℕ) (part : LibraryPart) → i < lives.count c
       → In (out.Send link (msg.Whole w sent part)) (outs_at p c (lives.input c) i)
       → (w.piece ≡ 0) × IsServeAt i link w sent part
-  whole_at i link w sent part low h = by_input (lives.input c i) refl
-    where
-      by_input : (k : Input Msg) → lives.input c i ≡ k → (w.piece ≡ 0) × IsServeAt i link w sent part
-      by_input (Take stamp way m) e = absurd (no_parcel_taken p c stamp way m (store_at p c (lives.input c) i)
-          (out.Send link (msg.Whole w sent part)) (out_at i (Take stamp way m)
-          (out.Send link (msg.Whole w sent part)) e h) refl)
-      by_input (Tick stamp) e =
-          let g : Store = store_at p c (lives.input c) i in
-          let there = in_part is_parcel _ _ (parcels_in_serving p c stamp g) (out.Send link (msg.Whole w sent part))
-          (out_at i (Tick stamp) (out.Send link (msg.Whole w sent part)) e h) refl in
-          let r = whole_for p c stamp (before_serving p c stamp g) link w sent part there in
-          (r.0, record { stamp = stamp; tick = e; serve = r.1 })
+  whole_at i link w sent part low h =
+      let s = of_serving i (out.Send link (msg.Whole w sent part)) refl low h in
+      (s.of.0, record { stamp = s.stamp; tick = s.tick; serve = s.of.1 })
 
   pub piece_at : (i : ℕ) (link : LinkNo) (w : Want) (sent : ℕ) (part : LibraryPart) → i < lives.count c
       → In (out.Send link (msg.Piece w sent part)) (outs_at p c (lives.input c) i)
       → (1 ≤ w.piece) × IsServeAt i link w sent part
-  piece_at i link w sent part low h = by_input (lives.input c i) refl
-    where
-      by_input : (k : Input Msg) → lives.input c i ≡ k → (1 ≤ w.piece) × IsServeAt i link w sent part
-      by_input (Take stamp way m) e = absurd (no_parcel_taken p c stamp way m (store_at p c (lives.input c) i)
-          (out.Send link (msg.Piece w sent part)) (out_at i (Take stamp way m)
-          (out.Send link (msg.Piece w sent part)) e h) refl)
-      by_input (Tick stamp) e =
-          let g : Store = store_at p c (lives.input c) i in
-          let there = in_part is_parcel _ _ (parcels_in_serving p c stamp g) (out.Send link (msg.Piece w sent part))
-          (out_at i (Tick stamp) (out.Send link (msg.Piece w sent part)) e h) refl in
-          let r = piece_for p c stamp (before_serving p c stamp g) (low_pieces i low stamp e) link w sent part there in
-          (r.0, record { stamp = stamp; tick = e; serve = r.1 })
+  piece_at i link w sent part low h =
+      let s = of_serving i (out.Send link (msg.Piece w sent part)) refl low h in
+      (s.of.0, record { stamp = s.stamp; tick = s.tick; serve = s.of.1 })
 
   pub serves_fact : (i : ℕ) (link : LinkNo) (w : Want) (sent : ℕ) (part : LibraryPart) → i < lives.count c
       → (a : IsServeAt i link w sent part)
@@ -188,7 +193,7 @@ module _ {p : Params} {lives : Lives} (plan : IsPlan p) (lived : AreLives p live
         by_input (Take stamp way m) e =
             let g : Store = store_at p c (lives.input c) i in
             subst (λ (k : Input Msg). IsOne (asks w) (deed_of p c k g).outs) (sym e)
-            (none_one (asks w) _ (λ o h t. no_ask_taken p c stamp way m g o h (ask_is_ask w o t)))
+            (none_one (asks w) _ (λ o h t. none_by is_ask _ (no_ask_taken p c stamp way m g) o h (ask_is_ask w o t)))
         by_input (Tick stamp) e =
             let g : Store = store_at p c (lives.input c) i in
             let h : Store = before_reading p c stamp g in
@@ -208,7 +213,7 @@ module _ {p : Params} {lives : Lives} (plan : IsPlan p) (lived : AreLives p live
         by_input (Take stamp way m) e =
             let g : Store = store_at p c (lives.input c) i in
             subst (λ (k : Input Msg). IsOne (sends w) (deed_of p c k g).outs) (sym e)
-            (none_one (sends w) _ (λ o h t. no_parcel_taken p c stamp way m g o h (send_is_parcel w o t)))
+            (none_one (sends w) _ (λ o h t. none_by is_parcel _ (no_parcel_taken p c stamp way m g) o h (send_is_parcel w o t)))
         by_input (Tick stamp) e =
             let g : Store = store_at p c (lives.input c) i in
             let h : Store = before_serving p c stamp g in

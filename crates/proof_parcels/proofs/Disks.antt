@@ -1,7 +1,6 @@
 -- Why a read failed, by the journal of the disk that has what was wanted.
 use Rattle.std.proofs.Common.{◌≡◌, ℕ, zero, suc, ◌+◌, ◌<◌, ◌≤◌, List, true, false, cond, None, Some, Option, refl, sym, ap, subst, ◌∙◌, arith, ⊎_elim, inl, inr}
 use Rattle.std.specs.Prelude.{◌⊎◌, ◌==◌, ◌*◌, ◌&&◌, ◌-◌, max, nat_le, nat_lt}
-use Rattle.std.specs.List.{list_any}
 use Rattle.std.proofs.lemmas.Bool.{cases_Bool, ne_eqb}
 use Rattle.tiger_base.specs.declared.number.LinkNo.{LinkNo}
 use Rattle.tiger_base.specs.declared.number.Stamp.{Stamp}
@@ -32,22 +31,22 @@ use Rattle.run_claims.specs.Truths.{Lasts}
 use Rattle.cub_rules.specs.State.{IsPieceAt}
 use Rattle.disk_core.specs.State.{DiskState}
 use Rattle.disk_core.specs.Rules.{strikes, is_faulty, part_for, read_part}
-use Rattle.schedule_laws.specs.Lives.{store_at, beat_at}
-use Rattle.schedule_laws.specs.Facts.{TookMessage}
-use Rattle.schedule_laws.proofs.Members.{all_in}
+use Rattle.proof_lives.specs.Lives.{store_at, beat_at}
+use Rattle.proof_lives.specs.Facts.{TookMessage}
+use Rattle.lists.proofs.Each.{all_in}
 use Rattle.proof_journals.proofs.Journals.{inputs_of}
 use Rattle.proof_moments.specs.Ties.{StandsIn}
-use Rattle.proof_places.specs.Disks.{disk_at, part_at}
-use Rattle.cub_facts.specs.Blocks.{AnsweredAt, blocks_by}
-use Rattle.cub_facts.specs.Lives.{lives_of}
-use Rattle.cub_facts.specs.Pieces.{want}
-use Rattle.cub_facts.specs.Rings.{HaveImages, node_of_disk}
+use Rattle.proof_service.specs.Disks.{disk_at, part_at}
+use Rattle.proof_facts.specs.Blocks.{AnsweredAt, blocks_by}
+use Rattle.proof_facts.specs.Lives.{lives_of}
+use Rattle.proof_facts.specs.Pieces.{want}
+use Rattle.proof_facts.specs.Rings.{HaveImages, node_of_disk}
 use Rattle.proof_links.proofs.Carrying.{Came, came_from, took_from, from_cub}
 use Rattle.proof_links.proofs.Nodes.{lived, sender, by_rules, event_is, lives_on, beat_same, SentByDisk}
 use Rattle.proof_links.proofs.Ways.{is_to_disk}
 use Rattle.proof_parts.proofs.AskLives.{read_for}
 use Rattle.proof_journals.proofs.Events.{AreKept}
-use Rattle.proof_delivery.specs.Ties.{IsRefusedAt, DisksTell}
+use Rattle.proof_moments.specs.ParcelTies.{IsRefusedAt, DisksTell}
 use Rattle.proof_parcels.specs.Parcels.{HaveFaults}
 use Rattle.proof_parcels.proofs.Cubs as cubs
 use Rattle.proof_parcels.proofs.Entries.{event_writes_got, stands_written}

@@ -24,15 +24,14 @@ use Rattle.run_facts.specs.Events.NodeEvent.{Does, Dies}
 use Rattle.run_facts.specs.Histories.{History, outs, past, last_of}
 use Rattle.disk_core.specs.State.{DiskState}
 use Rattle.node_kit.specs.declared.course.Order.{Order}
-use Rattle.schedule_laws.specs.Lives.{In}
-use Rattle.schedule_laws.proofs.Members.{in_left, in_right, in_map, from_map, all_in}
+use Rattle.lists.specs.Elements.{In}
+use Rattle.lists.proofs.Elements.{in_left, in_right, in_map, from_map}
+use Rattle.lists.proofs.Each.{all_in}
 use Rattle.proof_journals.proofs.Written.{journal_keeps, one_event_more}
 use Rattle.proof_journals.proofs.Journals.{so_far, wrote}
-use Rattle.proof_moments.specs.Members as members
 use Rattle.proof_moments.specs.Ties.{StandsIn}
-use Rattle.cub_facts.specs.Rings.{node_count}
+use Rattle.proof_facts.specs.Rings.{node_count}
 use Rattle.proof_journals.proofs.Events.{AreKept, written_in}
-use Rattle.proof_journals.proofs.Lists.{in_laws, in_moments}
 
 -- ---- messages by their notes
 
@@ -92,14 +91,14 @@ pub record StandsBehind (j : List Entry) (e f : Entry) : Type 0 where
   pub before : List Entry
   pub behind : List Entry
   pub is : j ≡ before ++ e ∷ behind
-  pub there : members.In f behind
+  pub there : In f behind
 
 behind_more : (j more : List Entry) (e f : Entry) → StandsBehind j e f → StandsBehind (j ++ more) e f
 behind_more j more e f b = record {
   before = b.before;
   behind = b.behind ++ more;
   is = ap (λ (l : List Entry). l ++ more) b.is ∙ append_assoc b.before (e ∷ b.behind) more;
-  there = in_moments f (b.behind ++ more) (in_left f b.behind more (in_laws f b.behind b.there));
+  there = in_left f b.behind more b.there;
 }
 
 cut_of : (e : Entry) (xs : List Entry) → In e xs → (front : List Entry) × (back : List Entry) × (xs ≡ front ++ e ∷ back)
@@ -116,7 +115,7 @@ behind_here j more e f i k =
       before = c.0;
       behind = c.1 ++ more;
       is = ap (λ (l : List Entry). l ++ more) c.2 ∙ append_assoc c.0 (e ∷ c.1) more;
-      there = in_moments f (c.1 ++ more) (in_right f c.1 more k);
+      there = in_right f c.1 more k;
     }
 
 module _ {S : Type 0} (step : S → Input Msg → Deed Msg S) where
@@ -214,7 +213,7 @@ module _ {S : Type 0} {step : S → Input Msg → Deed Msg S} {p : Params} {orde
   stands_written n i e known low k = record {
     journal = (last_of noted step h n).journal;
     at = kept.are.writes n known;
-    there = in_moments e _ (journal_keeps step h n i (h.count n) e low k);
+    there = journal_keeps step h n i (h.count n) e low k;
   }
 
   pub stands_out : (n i : ℕ) (o : Out Msg) → n < node_count p → i < h.count n → In o (outs noted step h n i)

@@ -22,40 +22,50 @@ use Rattle.node_kit.specs.declared.outbox.Out.{Out}
 use Rattle.node_kit.specs.declared.outbox.Out.TheVariants as out
 use Rattle.node_kit.specs.Deeds.{nothing}
 use Rattle.node_kit.specs.Form.{is_in_form}
-use Rattle.node_kit.specs.Steps.{Deed, Input, stamp_of}
+use Rattle.node_kit.specs.Steps.{Deed, Input}
 use Rattle.node_kit.specs.Steps.Input.{Take, Tick}
 use Rattle.partial_view.specs.declared.line.Line.{Line}
 use Rattle.partial_view.specs.Lines.{is_at, key_of}
 use Rattle.partial_view.specs.Views.{line_at}
 use Rattle.partial_view.proofs.Order.{same_is, same_itself}
 use Rattle.cub_rules.specs.declared.store.Store.{Store}
-use Rattle.cub_rules.specs.Cubs.{cub_step}
 use Rattle.cub_rules.specs.Messages.{is_block_of, is_wanted, storing, meeting_answer, hearing, taking}
-use Rattle.cub_changes.specs.Causes.{Stage, IsStageOf, IsAnswer}
-use Rattle.cub_changes.specs.Causes.Stage.{OnMessage, OnRelease, OnDeadman, OnInsertion, OnService}
+use Rattle.cub_rules.specs.Ticks.{ticking}
+use Rattle.cub_changes.specs.Causes.{Stage, IsAnswer, Cause}
+use Rattle.cub_changes.specs.Causes.Stage.{OnMessage}
 use Rattle.cub_changes.specs.Changes.{Change}
-use Rattle.cub_changes.specs.Causes.{Cause}
-use Rattle.cub_changes.specs.Laws.{HasCause}
 use Rattle.cub_changes.specs.Outputs.{Output, output, ComesOf}
 use Rattle.cub_changes.specs.Outputs.Output.{ReadFailed}
-use Rattle.cub_changes.proofs.Causing.{have_causes}
+use Rattle.cub_changes.proofs.Closed.{OfEach}
+use Rattle.cub_changes.proofs.Messages.{taking_by}
+use Rattle.cub_changes.proofs.Outputs.{forms_of, Puts, puts_closed}
+use Rattle.cub_changes.proofs.Ticks.{IsOfTick, ticking_by}
 use Rattle.run_model.proofs.Reflects.{or_either}
-use Rattle.schedule_laws.specs.Lives.{In, deed_of}
-use Rattle.schedule_laws.proofs.Members.{chosen, all_in}
-use Rattle.schedule_laws.proofs.Wrapped.{cub_with, cub_outs}
+use Rattle.proof_lives.specs.Lives.{deed_of}
+use Rattle.lists.specs.Elements.{In}
+use Rattle.lists.proofs.Elements.{chosen}
+use Rattle.lists.proofs.Each.{all_in}
 use Rattle.proof_parts.proofs.Found.{one_want, same_self, wanted_piece}
 use Rattle.proof_parts.proofs.Storing.{answer_kept}
-use Rattle.cub_facts.specs.Pieces.{piece, want, HasOwn}
-use Rattle.cub_facts.specs.Blocks.{HasRecord}
+use Rattle.proof_facts.specs.Pieces.{piece, want, HasOwn}
+use Rattle.proof_facts.specs.Blocks.{HasRecord}
 use Rattle.proof_parcels.proofs.Apart.{AreApart, OtherKey, IsOnce}
 use Rattle.proof_parcels.proofs.ServeOuts.{own_rec}
 
 -- ---- which event writes that a read failed
 
-failed_form : (p : Params) (c : ℕ) (stamp : Stamp) (f : Output) (w : Want) → out.Act (what.ReadFailed w) ≡ output p
-    c stamp f → f ≡ ReadFailed w
-failed_form p c stamp (ReadFailed v) w e = let q : w ≡ v = cc in ap (λ (z : Want). ReadFailed z) (sym q)
-failed_form p c stamp other w e = absurd (cc)
+-- if an output writes down a failed read, this holds of its want
+abbrev OfFailed : (Want → Type 0) → Out Msg → Type 0
+OfFailed X (out.Act (what.ReadFailed w)) = X w
+OfFailed X other = Unit {0}
+
+each : (p : Params) (c : ℕ) (stamp : Stamp) (X : Want → Type 0) (g : Stage) (from : Store)
+    → ((w : Want) (h : Store) → IsAnswer g w None h → X w) → OfEach (Puts p c stamp (OfFailed X)) p c stamp g from
+each p c stamp X g from gives x h cause = forms_of p c stamp (OfFailed X) x h form
+  where
+    form : (o : Output) → ComesOf p c stamp x h o → OfFailed X (output p c stamp o)
+    form (ReadFailed w) comes = gives w h (subst (λ (y : Change). Cause p c stamp g from y h) comes cause)
+    form other comes = tt
 
 -- the message is an answer without a part
 abbrev IsNoPart : Msg → Want → Type 0
@@ -72,22 +82,9 @@ no_part_is (msg.ReadDone v None) w e = ap (λ (z : Want). msg.ReadDone z None) (
 no_part_is (msg.ReadDone v (Some part)) w e = absurd e
 no_part_is other w e = absurd e
 
-cause : (p : Params) (c : ℕ) (i : Input Msg) (h : Store) (w : Want) → In (out.Act (what.ReadFailed w))
-    (deed_of p c i h).outs
-    → (g : Stage) × (from : Store) × (before : Store) × IsStageOf i h g from × IsAnswer g w None before
-cause p c i h w k =
-    let o : Out Msg = out.Act (what.ReadFailed w) in
-    let why = all_in (HasCause p c i h) o (cub_step (cub_with p c h) i).outs (have_causes (cub_with p c h) i)
-    (subst (λ (os : List (Out Msg)). In o os) (sym (cub_outs p c h i)) k) in
-    let comes = subst (λ (f : Output). ComesOf p c (stamp_of i) why.change why.before f)
-    (failed_form p c (stamp_of i) why.form w why.is) why.comes in (
-      why.stage,
-      why.from,
-      why.before,
-      why.of_event,
-      subst (λ (x : Change). Cause p c (stamp_of i) why.stage why.from
-          x why.before) comes why.cause,
-    )
+none_in_tick : (g : Stage) → IsOfTick g → (w : Want) (h : Store) → IsAnswer g w None h → ⊥
+none_in_tick (OnMessage link m) t w h a = t
+none_in_tick other t w h a = a
 
 -- it is one that takes an answer without a part, in form, to a want that is still there
 pub record IsFailedRead (p : Params) (i : Input Msg) (h : Store) (w : Want) : Type 0 where
@@ -111,25 +108,21 @@ answered p c stamp link w h k =
     (λ _ i. absurd i)
     k
 
-pub failed_read : (p : Params) (c : ℕ) (i : Input Msg) (h : Store) (w : Want) → In (out.Act (what.ReadFailed w))
-    (deed_of p c i h).outs → IsFailedRead p i h w
+pub failed_read : (p : Params) (c : ℕ) (i : Input Msg) (h : Store) (w : Want)
+    → In (out.Act (what.ReadFailed w)) (deed_of p c i h).outs → IsFailedRead p i h w
 failed_read p c (Take stamp link m) h w k =
-    let why = cause p c (Take stamp link m) h w k in
-    let is : m ≡ msg.ReadDone w None = no_part_is m w
-    (no_part link m w why.2 (subst (λ (g : Stage). IsAnswer g w None why.2) why.3.0 why.4)) in
-    let both = answered p c stamp link w h (subst (λ (n : Msg). In (out.Act (what.ReadFailed w))
-    (taking p c stamp link n h).outs) is k) in
+    let o : Out Msg = out.Act (what.ReadFailed w) in
+    let Q : Out Msg → Type 0 = OfFailed (IsNoPart m) in
+    let all = taking_by (Puts p c stamp Q) (puts_closed p c stamp Q) p c stamp link m h
+    (each p c stamp (IsNoPart m) (OnMessage link m) h (no_part link m)) in
+    let is : m ≡ msg.ReadDone w None = no_part_is m w (all_in Q o (taking p c stamp link m h).outs all k) in
+    let both = answered p c stamp link w h (subst (λ (n : Msg). In o (taking p c stamp link n h).outs) is k) in
     record { stamp = stamp; link = link; is = ap (λ (n : Msg). Take stamp link n) is; formed = both.0; wanted = both.1 }
-failed_read p c (Tick stamp) h w k = let why = cause p c (Tick stamp) h w k in absurd
-    (never stamp why.0 why.1 why.2 h w why.3 why.4)
-  where
-    never : (stamp : Stamp) (g : Stage) (from before h : Store) (w : Want) → IsStageOf (Tick stamp) h g from
-        → IsAnswer g w None before → ⊥
-    never stamp (OnMessage link m) from before h w s a = s
-    never stamp OnRelease from before h w s a = a
-    never stamp OnDeadman from before h w s a = a
-    never stamp OnInsertion from before h w s a = a
-    never stamp OnService from before h w s a = a
+failed_read p c (Tick stamp) h w k =
+    let Q : Out Msg → Type 0 = OfFailed (λ v. ⊥) in
+    absurd (all_in Q (out.Act (what.ReadFailed w)) (ticking p c stamp h).outs
+    (ticking_by (Puts p c stamp Q) (puts_closed p c stamp Q) p c stamp h
+    (λ g from t. each p c stamp (λ v. ⊥) g from (none_in_tick g t))) k)
 
 -- and such an event writes so
 pub writes_failure : (p : Params) (c : ℕ) (stamp : Stamp) (link : LinkNo) (w : Want) (h : Store)

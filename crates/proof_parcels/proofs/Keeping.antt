@@ -22,22 +22,24 @@ use Rattle.run_facts.specs.Events.{NodeEvent, Past, entries_at, outs_of, is_tick
 use Rattle.run_facts.specs.Events.NodeEvent.{Does, Dies}
 use Rattle.run_facts.specs.Histories.{History, living, outs, past, beat}
 use Rattle.disk_core.specs.State.{DiskState}
-use Rattle.schedule_laws.specs.Lives.{In, outs_at}
-use Rattle.schedule_laws.proofs.Carrying.{count_rises}
-use Rattle.schedule_laws.proofs.Members.{in_right, all_in}
+use Rattle.proof_lives.specs.Lives.{outs_at}
+use Rattle.lists.specs.Elements.{In}
+use Rattle.proof_lives.proofs.Carrying.{count_rises}
+use Rattle.lists.proofs.Elements.{in_right}
+use Rattle.lists.proofs.Each.{all_in}
 use Rattle.proof_journals.proofs.Ones.{IsOne, one_map}
 use Rattle.proof_journals.proofs.Journals.{inputs_of, wrote, stamped}
 use Rattle.proof_pieces.specs.Pieces.{ArePiecesRight}
 use Rattle.proof_schedule.specs.Facts.{Facts}
-use Rattle.cub_facts.specs.Lives.{lives_of}
-use Rattle.cub_facts.specs.Pieces.{pieces_by}
-use Rattle.cub_facts.specs.Rings.{node_count}
+use Rattle.proof_facts.specs.Lives.{lives_of}
+use Rattle.proof_facts.specs.Pieces.{pieces_by}
+use Rattle.proof_facts.specs.Rings.{node_count}
 use Rattle.proof_parts.proofs.Found.{same_self}
 use Rattle.proof_links.proofs.Nodes.{lived, after_tick, event_is}
 use Rattle.proof_journals.proofs.Events.{AreKept}
-use Rattle.proof_journals.proofs.Lists.{in_laws, one_behind}
+use Rattle.proof_journals.proofs.Lists.{one_behind}
 use Rattle.proof_journals.proofs.Cutting.{cut_in}
-use Rattle.proof_delivery.specs.Ties.{SendsParcel, AsksDisk, AreOfBeats, KeepsParcels}
+use Rattle.proof_moments.specs.ParcelTies.{SendsParcel, AsksDisk, AreOfBeats, KeepsParcels}
 use Rattle.proof_parcels.proofs.AskOuts.{asks}
 use Rattle.proof_parcels.proofs.ServeOuts.{sends}
 use Rattle.proof_parcels.proofs.Cubs as cubs
@@ -152,7 +154,7 @@ module _ {S : Type 0} {step : S → Input Msg → Deed Msg S} {p : Params} {orde
       let first : e.stamp.beat ≡ beat h n c.at = ap (λ (x : Stamp). x.beat) (stamped step h n c.at e here) in
       let second : f.stamp.beat ≡ beat h n k.0 = ap (λ (x : Stamp). x.beat) (stamped step h n k.0 f k.3) in
       omega arith)
-      (c.behind f (in_laws f ys i))
+      (c.behind f i)
 
   -- the tick of an ask, and of a parcel
   ask_tick : (w : Want) (n i : ℕ) (e : Entry) → n < node_count p → i < h.count n → In e (wrote step h n i)

@@ -1,5 +1,4 @@
 pub mod Apart
-pub mod TickParts
 pub mod AskOuts
 pub mod ServeOuts
 pub mod Failing

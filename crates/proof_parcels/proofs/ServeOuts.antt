@@ -1,8 +1,8 @@
 -- What a cub sends the viewers in a tick: each part is of a record that it serves, and each such record's part is
 -- sent once.
 use Rattle.std.proofs.Common.{◌≡◌, ℕ, zero, suc, ◌≤◌, List, [], ◌∷◌, ◌++◌, map, filter, Bool, true, false, Option, Some, None, refl, sym, ap, subst, ◌∙◌, arith, ⊎_elim, inl, inr}
-use Rattle.std.specs.Prelude.{◌⊎◌, ◌&&◌, ◌==◌, if◌then◌else◌}
-use Rattle.std.specs.List.{flat_map}
+use Rattle.std.specs.Prelude.{◌&&◌, ◌==◌, if◌then◌else◌}
+use Rattle.std.specs.List.{AllByRecursion, flat_map}
 use Rattle.std.proofs.lemmas.Bool.{ne_eqb}
 use Rattle.tiger_base.specs.declared.number.LinkNo.{LinkNo}
 use Rattle.tiger_base.specs.declared.number.Stamp.{Stamp}
@@ -23,15 +23,22 @@ use Rattle.node_kit.specs.declared.outbox.Out.TheVariants as out
 use Rattle.node_kit.specs.Ways.{way_to_viewers}
 use Rattle.partial_view.specs.declared.line.Line.{Line}
 use Rattle.cub_rules.specs.declared.store.Store.{Store}
+use Rattle.cub_rules.specs.declared.store.StoredPart.{StoredPart}
 use Rattle.cub_rules.specs.Records.{stored_for, dropped}
 use Rattle.cub_rules.specs.Ticks.{is_served, is_past, leaves_by, sent_whole, serve_outs, sent_piece, piece_outs, serving_blocks, dropping_backups, serving_pieces, serving}
-use Rattle.schedule_laws.specs.Lives.{In}
-use Rattle.schedule_laws.proofs.Members.{in_left, in_right, in_cases, in_filter, from_map, from_filter, from_flat_map, in_flat_map}
-use Rattle.proof_journals.proofs.Ones.{IsNone, IsOne, one_append, none_one}
+use Rattle.cub_changes.specs.Changes.{Change, did}
+use Rattle.cub_changes.specs.Changes.Change.{ServeBlocks, DropBackups, ServePieces}
+use Rattle.cub_changes.specs.Outputs.{Output, output, ComesOf}
+use Rattle.cub_changes.specs.Outputs.Output.{BlockSent, PieceSent}
+use Rattle.lists.proofs.Each.{all_append, all_if}
+use Rattle.cub_changes.proofs.Outputs.{forms_of}
+use Rattle.lists.specs.Elements.{In}
+use Rattle.lists.proofs.Elements.{in_left, in_right, in_filter, from_filter, in_flat_map}
+use Rattle.proof_journals.proofs.Ones.{IsOne, one_append, none_by}
 use Rattle.proof_parts.proofs.Found.{one_want}
-use Rattle.cub_facts.specs.Pieces.{piece, want, HasOwn, IsToServe}
-use Rattle.proof_parcels.proofs.Apart.{OtherKey, Differ, IsOnce, apart_filter}
-use Rattle.proof_parcels.proofs.AskOuts.{one_flat, one_alone, one_if, in_if}
+use Rattle.proof_facts.specs.Pieces.{piece, want, HasOwn, IsToServe}
+use Rattle.proof_parcels.proofs.Apart.{Differ, IsOnce, apart_filter}
+use Rattle.proof_parcels.proofs.AskOuts.{one_alone, one_if, IsFor, one_of_records}
 
 -- an own record by its kind
 pub own_rec : (r : Rec) → is_own r.kind ≡ true → r ≡ own_of r.tenancy r.visit
@@ -69,140 +76,74 @@ own_if_served p stamp x e = by_own (is_own x.rec.kind) _ e
     by_own true b f = refl
     by_own false b f = absurd (cc)
 
--- ---- one part
-
--- what is sent of what is stored, or not
-whole_out : (p : Params) (c : ℕ) (stamp : Stamp) (w : Want) (s : Option LibraryPart) (o : Out Msg)
-    → In o (sent_whole p c stamp w s)
-    → (part : LibraryPart) × (s ≡ Some part) × (o ≡ out.Send (way_to_viewers p c) (msg.Whole w stamp.beat part))
-whole_out p c stamp w None o i = absurd i
-whole_out p c stamp w (Some part) o i = (part, refl, ⊎_elim (λ e. e) (λ n. absurd n) i)
-
-piece_out : (p : Params) (c : ℕ) (stamp : Stamp) (w : Want) (s : Option LibraryPart) (o : Out Msg)
-    → In o (sent_piece p c stamp w s)
-    → (part : LibraryPart) × (s ≡ Some part) × (o ≡ out.Send (way_to_viewers p c) (msg.Piece w stamp.beat part))
-piece_out p c stamp w None o i = absurd i
-piece_out p c stamp w (Some part) o i = (part, refl, ⊎_elim (λ e. e) (λ n. absurd n) i)
-
-one_whole : (p : Params) (c : ℕ) (stamp : Stamp) (w : Want) (s : Option LibraryPart) (test : Out Msg → Bool)
-    → IsOne test (sent_whole p c stamp w s)
-one_whole p c stamp w None test = tt
-one_whole p c stamp w (Some part) test = one_alone test _
-
-one_piece : (p : Params) (c : ℕ) (stamp : Stamp) (w : Want) (s : Option LibraryPart) (test : Out Msg → Bool)
-    → IsOne test (sent_piece p c stamp w s)
-one_piece p c stamp w None test = tt
-one_piece p c stamp w (Some part) test = one_alone test _
+-- ---- what goes out is of a record
 
 module _ (p : Params) (c : ℕ) (stamp : Stamp) (h : Store) where
-  -- what a line sends
-  line_out : (x : Line) (o : Out Msg) → In o (serve_outs p c stamp h.parts x)
-      → (is_served p stamp x ≡ true) ×
-      (In o (sent_whole p c stamp (want_of x.rec) (stored_for (want_of x.rec) h.parts)) ⊎ (o ≡ dropped x))
-  line_out x o k =
-      let sent : List (Out Msg) = sent_whole p c stamp (want_of x.rec) (stored_for (want_of x.rec) h.parts) in
-      let q = in_if o (is_served p stamp x) (sent ++ dropped x ∷ []) k in
-      (q.0, ⊎_elim (λ i. inl i) (λ i. ⊎_elim (λ e. inr e) (λ n. absurd n) i) (in_cases o sent (dropped x ∷ []) q.1))
+  -- what goes to the viewers is a whole block of an own record, or a piece of a piece record
+  abbrev pub IsOfRecord : Out Msg → Type 0
+  IsOfRecord (out.Send link (msg.Whole w sent part)) = (w.piece ≡ 0) × IsServeOf p c stamp h link w sent part
+  IsOfRecord (out.Send link (msg.Piece w sent part)) = (1 ≤ w.piece) × IsServeOf p c stamp h link w sent part
+  IsOfRecord other = Unit {0}
 
-  -- all that is put out in serving
-  serving_cases : (o : Out Msg) → In o (serving p c stamp h).outs
-      → ((x : Line) × In x h.view.lines × In o (serve_outs p c stamp h.parts x))
-      ⊎ (((x : Line) × (o ≡ dropped x))
-      ⊎ ((x : PieceState) × In x (filter (leaves_by p stamp.reading) h.pieces.items)
-      × In o (piece_outs p c stamp h.parts x)))
+  -- in serving, in which pieces and parts are those that were there when it began
+  record IsInServing (x : Change) (q : Store) : Type 0 where
+    lines : x ≡ ServeBlocks → q.view.lines ≡ h.view.lines
+    pieces : q.pieces.items ≡ h.pieces.items
+    parts : q.parts ≡ h.parts
+
+  of_record : ((x : PieceState) → In x h.pieces.items → 1 ≤ x.piece) → (x : Change) (q : Store) → IsInServing x q
+      → AllByRecursion IsOfRecord (did p c stamp x q).outs
+  of_record low x q s = forms_of p c stamp IsOfRecord x q form
+    where
+      stored : (w v : Want) (part : LibraryPart) → w ≡ v → stored_for w q.parts ≡ Some part → stored_for v h.parts ≡ Some part
+      stored w v part e f =
+          ap (λ (z : Want). stored_for z h.parts) (sym e) ∙ (ap (λ (ps : List StoredPart). stored_for w ps) (sym s.parts) ∙ f)
+
+      form : (o : Output) → ComesOf p c stamp x q o → IsOfRecord (output p c stamp o)
+      form (BlockSent w part) comes =
+          let l : Line = comes.0 in
+          let is : w ≡ want_of l.rec = comes.3 in
+          let there : In l h.view.lines =
+          subst (λ (ls : List Line). In l ls) (s.lines comes.1) comes.2.0 in (
+            ap (λ (z : Want). z.piece) is,
+            subst (λ (z : Want). IsServeOf p c stamp h (way_to_viewers p c) z stamp.beat part) (sym is) (record {
+              tenancy = l.rec.tenancy;
+              serves = inl (refl, l, (there, own_rec l.rec (own_if_served p stamp l comes.2.1)), comes.2.1);
+              same = refl;
+              stored = stored w (want_of l.rec) part is comes.4;
+              named = refl;
+              way = refl;
+            }),
+          )
+      form (PieceSent w part) comes =
+          let y : PieceState = comes.0 in
+          let is : w ≡ want_of_piece y = comes.4 in
+          let there : In y h.pieces.items =
+          subst (λ (ys : List PieceState). In y ys) s.pieces comes.2 in (
+            subst (λ (z : Want). 1 ≤ z.piece) (sym is) (low y there),
+            subst (λ (z : Want). IsServeOf p c stamp h (way_to_viewers p c) z stamp.beat part) (sym is) (record {
+              tenancy = y.tenancy;
+              serves = inr (low y there, there, comes.3);
+              same = refl;
+              stored = stored w (want_of_piece y) part is comes.5;
+              named = refl;
+              way = refl;
+            }),
+          )
+      form other comes = tt
+
+  -- each part that goes out is of a record, if no piece record has the number 0
+  pub serving_of_records : ((x : PieceState) → In x h.pieces.items → 1 ≤ x.piece)
+      → AllByRecursion IsOfRecord (serving p c stamp h).outs
   unfolding serving serving_blocks dropping_backups serving_pieces
-  serving_cases o k =
-      let left : List Line = (serving_blocks p c stamp h).state.view.lines in
-      let backups : List (Out Msg) = map dropped (filter (is_past p stamp) left) in
-      let late : List PieceState = filter (leaves_by p stamp.reading) h.pieces.items in
-      ⊎_elim
-      (λ i. inl (from_flat_map (serve_outs p c stamp h.parts) o h.view.lines i))
-      (λ i. ⊎_elim
-      (λ j. let m = from_map dropped o (filter (is_past p stamp) left) j in inr (inl (m.0, m.2)))
-      (λ j. inr (inr (from_flat_map (piece_outs p c stamp h.parts) o late j)))
-      (in_cases o backups (flat_map (piece_outs p c stamp h.parts) late) i))
-      (in_cases o (flat_map (serve_outs p c stamp h.parts) h.view.lines)
-      (backups ++ flat_map (piece_outs p c stamp h.parts) late) k)
-
-  -- a whole block that goes out is an own record's
-  pub whole_for : (link : LinkNo) (w : Want) (sent : ℕ) (part : LibraryPart)
-      → In (out.Send link (msg.Whole w sent part)) (serving p c stamp h).outs
-      → (w.piece ≡ 0) × IsServeOf p c stamp h link w sent part
-  whole_for link w sent part k =
-      let o : Out Msg = out.Send link (msg.Whole w sent part) in
-      ⊎_elim
-      (λ l.
-      let x : Line = l.0 in
-      let q = line_out x o l.2 in
-      ⊎_elim
-      (λ i.
-      let r = whole_out p c stamp (want_of x.rec) (stored_for (want_of x.rec) h.parts) o i in
-      let e : out.Send link (msg.Whole w sent part) ≡ out.Send (way_to_viewers p c)
-      (msg.Whole (want_of x.rec) stamp.beat r.0) = r.2 in
-      let road : link ≡ way_to_viewers p c = cc in
-      let is : w ≡ want_of x.rec = cc in
-      let beat : sent ≡ stamp.beat = cc in
-      let of_part : r.0 ≡ part = cc in
-      let own = own_rec x.rec (own_if_served p stamp x q.0) in (
-        ap (λ (z : Want). z.piece) is,
-        subst (λ (z : Want). IsServeOf p c stamp h link z sent part) (sym is) (record {
-          tenancy = x.rec.tenancy;
-          serves = inl (refl, x, (l.1, own), q.0);
-          same = refl;
-          stored = r.1 ∙ ap Some of_part;
-          named = beat;
-          way = road;
-        }),
-      ))
-      (λ (e : o ≡ dropped x). absurd (cc))
-      q.1)
-      (λ more. ⊎_elim
-      (λ d. let e : o ≡ dropped d.0 = d.1 in absurd (cc))
-      (λ z. let r = piece_out p c stamp (want_of_piece z.0) (stored_for (want_of_piece z.0) h.parts) o z.2 in
-      let e : out.Send link (msg.Whole w sent part) ≡ out.Send (way_to_viewers p c)
-      (msg.Piece (want_of_piece z.0) stamp.beat r.0) = r.2 in absurd (cc))
-      more)
-      (serving_cases o k)
-
-  -- and a piece is a piece record's, if no record has the number 0
-  pub piece_for : ((x : PieceState) → In x h.pieces.items → 1 ≤ x.piece) → (link : LinkNo) (w : Want) (sent : ℕ)
-      (part : LibraryPart) → In (out.Send link (msg.Piece w sent part)) (serving p c stamp h).outs
-      → (1 ≤ w.piece) × IsServeOf p c stamp h link w sent part
-  piece_for low link w sent part k =
-      let o : Out Msg = out.Send link (msg.Piece w sent part) in
-      ⊎_elim
-      (λ l.
-      let q = line_out l.0 o l.2 in
-      ⊎_elim
-      (λ i. let r = whole_out p c stamp (want_of l.0.rec) (stored_for (want_of l.0.rec) h.parts) o i in
-      let e : out.Send link (msg.Piece w sent part) ≡ out.Send (way_to_viewers p c)
-      (msg.Whole (want_of l.0.rec) stamp.beat r.0) = r.2 in absurd (cc))
-      (λ (e : o ≡ dropped l.0). absurd (cc))
-      q.1)
-      (λ more. ⊎_elim
-      (λ d. let e : o ≡ dropped d.0 = d.1 in absurd (cc))
-      (λ z.
-      let x : PieceState = z.0 in
-      let f = from_filter (leaves_by p stamp.reading) x h.pieces.items z.1 in
-      let r = piece_out p c stamp (want_of_piece x) (stored_for (want_of_piece x) h.parts) o z.2 in
-      let e : out.Send link (msg.Piece w sent part) ≡ out.Send (way_to_viewers p c)
-      (msg.Piece (want_of_piece x) stamp.beat r.0) = r.2 in
-      let road : link ≡ way_to_viewers p c = cc in
-      let is : w ≡ want_of_piece x = cc in
-      let beat : sent ≡ stamp.beat = cc in
-      let of_part : r.0 ≡ part = cc in (
-        subst (λ (z : Want). 1 ≤ z.piece) (sym is) (low x f.0),
-        subst (λ (z : Want). IsServeOf p c stamp h link z sent part) (sym is) (record {
-          tenancy = x.tenancy;
-          serves = inr (low x f.0, f.0, f.1);
-          same = refl;
-          stored = r.1 ∙ ap Some of_part;
-          named = beat;
-          way = road;
-        }),
-      ))
-      more)
-      (serving_cases o k)
+  serving_of_records low =
+      let h1 : Store = (serving_blocks p c stamp h).state in
+      let h2 : Store = (dropping_backups p stamp h1).state in
+      all_append IsOfRecord (serving_blocks p c stamp h).outs _
+      (of_record low ServeBlocks h (record { lines = λ _. refl; pieces = refl; parts = refl }))
+      (all_append IsOfRecord (dropping_backups p stamp h1).outs (serving_pieces p c stamp h2).outs
+      (of_record low DropBackups h1 (record { lines = λ e. absurd (cc); pieces = refl; parts = refl }))
+      (of_record low ServePieces h2 (record { lines = λ e. absurd (cc); pieces = refl; parts = refl })))
 
   -- the other way round: what is to be served is sent, if its part is stored
   line_serves : (t : Tenancy) (n : ℕ) (x : Line) (part : LibraryPart) → HasOwn h t n x → is_served p stamp x ≡ true
@@ -253,23 +194,27 @@ module _ (p : Params) (c : ℕ) (stamp : Stamp) (h : Store) where
 
   -- ---- once
 
-  line_sends : (w : Want) (x : Line) (o : Out Msg) → In o (serve_outs p c stamp h.parts x) → sends w o ≡ true
-      → w ≡ want_of x.rec
-  line_sends w x o k t =
-      let q = line_out x o k in
-      ⊎_elim
-      (λ i.
-      let r = whole_out p c stamp (want_of x.rec) (stored_for (want_of x.rec) h.parts) o i in
-      one_want w (want_of x.rec) (ap (sends w) (sym r.2) ∙ t))
-      (λ (e : o ≡ dropped x). let none : sends w o ≡ false = ap (sends w) e in absurd (let z : true ≡ false = sym t
-      ∙ none in cc))
-      q.1
+  -- what is sent of what is stored, or not
+  one_whole : (w v : Want) (s : Option LibraryPart)
+      → IsOne (sends w) (sent_whole p c stamp v s) × AllByRecursion (IsFor (sends w) w v) (sent_whole p c stamp v s)
+  one_whole w v None = (tt, tt)
+  one_whole w v (Some part) =
+      (one_alone (sends w) (out.Send (way_to_viewers p c) (msg.Whole v stamp.beat part)), (one_want w v, tt))
 
-  piece_sends : (w : Want) (x : PieceState) (o : Out Msg) → In o (piece_outs p c stamp h.parts x) → sends w o ≡ true
-      → w ≡ want_of_piece x
-  piece_sends w x o i t =
-      let r = piece_out p c stamp (want_of_piece x) (stored_for (want_of_piece x) h.parts) o i in
-      one_want w (want_of_piece x) (ap (sends w) (sym r.2) ∙ t)
+  one_piece : (w v : Want) (s : Option LibraryPart)
+      → IsOne (sends w) (sent_piece p c stamp v s) × AllByRecursion (IsFor (sends w) w v) (sent_piece p c stamp v s)
+  one_piece w v None = (tt, tt)
+  one_piece w v (Some part) =
+      (one_alone (sends w) (out.Send (way_to_viewers p c) (msg.Piece v stamp.beat part)), (one_want w v, tt))
+
+  was_stored : (v : Want) (s : Option LibraryPart) (o : Out Msg) → In o (sent_piece p c stamp v s)
+      → (part : LibraryPart) × (s ≡ Some part)
+  was_stored v None o i = absurd i
+  was_stored v (Some part) o i = (part, refl)
+
+  drops_none : (w : Want) (some : List Line) → AllByRecursion (λ o. sends w o ≡ false) (map dropped some)
+  drops_none w [] = tt
+  drops_none w (x ∷ xs) = (refl, drops_none w xs)
 
   -- one thing is sent once, if for one piece of a visit there is one record
   pub serve_once : (w : Want) → IsOnce h → ((x : PieceState) → In x h.pieces.items → 1 ≤ x.piece)
@@ -279,56 +224,29 @@ module _ (p : Params) (c : ℕ) (stamp : Stamp) (h : Store) where
       → IsOne (sends w) (serving p c stamp h).outs
   unfolding serving serving_blocks dropping_backups serving_pieces
   serve_once w once low one_record =
-      let left : List Line = (serving_blocks p c stamp h).state.view.lines in
-      let backups : List (Out Msg) = map dropped (filter (is_past p stamp) left) in
-      let late : List PieceState = filter (leaves_by p stamp.reading) h.pieces.items in
-      let no_backup : IsNone (sends w) backups = λ o i t. let m = from_map dropped o (filter (is_past p stamp) left)
-      i in
-      let none : sends w o ≡ false = ap (sends w) m.2 in let z : true ≡ false = sym t ∙ none in absurd (cc) in
-      one_append (sends w) (flat_map (serve_outs p c stamp h.parts) h.view.lines)
-      (backups ++ flat_map (piece_outs p c stamp h.parts) late)
-      (one_flat OtherKey (sends w) (serve_outs p c stamp h.parts) h.view.lines once.lines_apart
-      (λ x. one_if (sends w) (is_served p stamp x) _
-      (one_append (sends w) (sent_whole p c stamp (want_of x.rec) (stored_for (want_of x.rec) h.parts))
-      (dropped x ∷ []) (one_whole p c stamp (want_of x.rec) (stored_for (want_of x.rec) h.parts) (sends w))
-      (one_alone (sends w) (dropped x))
-      (λ a b i j t s. ⊎_elim (λ (e : b ≡ dropped x). let none : sends w b ≡ false = ap (sends w) e in let z : true ≡
-      false = sym s ∙ none in absurd (cc)) (λ n. n) j)))
-      (λ x y a b i j apart k l t s.
-      let both : want_of x.rec ≡ want_of y.rec = sym (line_sends w x a k t) ∙ line_sends w y b l s in
-      apart (ap (λ (z : Want). (z.slot, z.visit)) both)))
-      (one_append (sends w) backups (flat_map (piece_outs p c stamp h.parts) late)
-      (none_one (sends w) backups no_backup)
-      (one_flat Differ (sends w) (piece_outs p c stamp h.parts) late
-      (apart_filter Differ (leaves_by p stamp.reading) h.pieces.items once.pieces_apart)
-      (λ x. one_piece p c stamp (want_of_piece x) (stored_for (want_of_piece x) h.parts) (sends w))
-      (λ x y a b i j differ k l t s.
-      let f = from_filter (leaves_by p stamp.reading) x h.pieces.items i in
-      let g = from_filter (leaves_by p stamp.reading) y h.pieces.items j in
-      let both : want_of_piece y ≡ want_of_piece x = sym (piece_sends w y b l s) ∙ piece_sends w x a k t in
-      let visits : y.visit ≡ x.visit = ap (λ (z : Want). z.visit) both in
-      let numbers : y.piece ≡ x.piece = ap (λ (z : Want). z.piece) both in
-      let ra = piece_out p c stamp (want_of_piece x) (stored_for (want_of_piece x) h.parts) a k in
-      let rb = piece_out p c stamp (want_of_piece y) (stored_for (want_of_piece y) h.parts) b l in
-      let two : IsToServe p stamp h y.tenancy x.visit x.piece =
-      subst (λ (n : ℕ). IsToServe p stamp h y.tenancy n x.piece) visits
-      (subst (λ (m : ℕ). IsToServe p stamp h y.tenancy y.visit m) numbers (inr (low y g.0, g.0, g.1))) in
-      let stored : stored_for (want y.tenancy x.visit x.piece) h.parts ≡ Some rb.0 =
-      ap (λ (n : ℕ). stored_for (want y.tenancy n x.piece) h.parts) (sym visits)
-      ∙ ap (λ (m : ℕ). stored_for (want y.tenancy y.visit m) h.parts) (sym numbers) ∙ rb.1 in
-      let same : y.tenancy ≡ x.tenancy = one_record x.tenancy y.tenancy x.visit x.piece ra.0 rb.0
-      (inr (low x f.0, f.0, f.1)) two ra.1 stored (ap (λ (z : Want). z.slot.0) both) in
-      differ (sym (ap (λ (z : Tenancy). piece z y.visit y.piece) same ∙ ap (λ (m : ℕ). piece x.tenancy m y.piece)
-      visits ∙ ap (λ (m : ℕ). piece x.tenancy x.visit m) numbers))))
-      (λ a b i j t s. no_backup a i t))
-      (λ a b i j t s. ⊎_elim
-      (λ k. no_backup b k s)
-      (λ k.
-      let r = from_flat_map (serve_outs p c stamp h.parts) a h.view.lines i in
-      let m = from_flat_map (piece_outs p c stamp h.parts) b late k in
-      let f = from_filter (leaves_by p stamp.reading) m.0 h.pieces.items m.1 in
-      let both : want_of_piece m.0 ≡ want_of r.0.rec = sym (piece_sends w m.0 b m.2 s) ∙ line_sends w r.0 a r.2 t in
-      let number : m.0.piece ≡ 0 = ap (λ (z : Want). z.piece) both in
-      let some = low m.0 f.0 in
-      absurd (omega arith))
-      (in_cases b backups (flat_map (piece_outs p c stamp h.parts) late) j))
+      let leaves : PieceState → Bool = leaves_by p stamp.reading in
+      let late : List PieceState = filter leaves h.pieces.items in
+      let left : List Line = filter (is_past p stamp) (serving_blocks p c stamp h).state.view.lines in
+      let whole : Line → List (Out Msg) = λ x. sent_whole p c stamp (want_of x.rec) (stored_for (want_of x.rec) h.parts) in
+      one_of_records (sends w) w h.view.lines late (map dropped left) (serve_outs p c stamp h.parts) (piece_outs p c stamp h.parts)
+      once.lines_apart (apart_filter Differ leaves h.pieces.items once.pieces_apart)
+      (λ x. one_if (sends w) (is_served p stamp x) (whole x ++ dropped x ∷ [])
+      (one_append (sends w) (whole x) (dropped x ∷ []) (one_whole w (want_of x.rec) (stored_for (want_of x.rec) h.parts)).0
+      (one_alone (sends w) (dropped x)) (λ a b i j t s. none_by (sends w) (dropped x ∷ []) (refl, tt) b j s)))
+      (λ x. (one_piece w (want_of_piece x) (stored_for (want_of_piece x) h.parts)).0)
+      (none_by (sends w) (map dropped left) (drops_none w left))
+      (λ x. all_if (IsFor (sends w) w (want_of x.rec)) (is_served p stamp x) (whole x ++ dropped x ∷ [])
+      (λ _. all_append (IsFor (sends w) w (want_of x.rec)) (whole x) (dropped x ∷ [])
+      (one_whole w (want_of x.rec) (stored_for (want_of x.rec) h.parts)).1 ((λ t. absurd (cc)), tt)))
+      (λ x. (one_piece w (want_of_piece x) (stored_for (want_of_piece x) h.parts)).1)
+      (λ x i. low x (from_filter leaves x h.pieces.items i).0)
+      (λ x y a b i j k l visits numbers slots.
+      let f = from_filter leaves x h.pieces.items i in
+      let g = from_filter leaves y h.pieces.items j in
+      let ra = was_stored (want_of_piece x) (stored_for (want_of_piece x) h.parts) a k in
+      let rb = was_stored (want_of_piece y) (stored_for (want_of_piece y) h.parts) b l in
+      one_record x.tenancy y.tenancy x.visit x.piece ra.0 rb.0 (inr (low x f.0, f.0, f.1))
+      (subst (λ (n : ℕ). IsToServe p stamp h y.tenancy n x.piece) visits
+      (subst (λ (m : ℕ). IsToServe p stamp h y.tenancy y.visit m) numbers (inr (low y g.0, g.0, g.1)))) ra.1
+      (ap (λ (n : ℕ). stored_for (want y.tenancy n x.piece) h.parts) (sym visits)
+      ∙ ap (λ (m : ℕ). stored_for (want y.tenancy y.visit m) h.parts) (sym numbers) ∙ rb.1) slots)

@@ -29,20 +29,21 @@ use Rattle.run_facts.specs.Histories.{History, living, outs}
 use Rattle.run_model.specs.Served.{want_of_visit}
 use Rattle.cub_rules.specs.State.{IsPieceAt}
 use Rattle.disk_core.specs.State.{DiskState}
-use Rattle.schedule_laws.specs.Lives.{In, deed_of, store_at, outs_at}
-use Rattle.schedule_laws.proofs.Carrying.{stamp_same}
-use Rattle.schedule_laws.proofs.Members.{all_in}
+use Rattle.proof_lives.specs.Lives.{deed_of, store_at, outs_at}
+use Rattle.lists.specs.Elements.{In}
+use Rattle.proof_lives.proofs.Carrying.{stamp_same}
+use Rattle.lists.proofs.Each.{all_in}
 use Rattle.proof_journals.proofs.Journals.{inputs_of, wrote, stamped, beat_is}
 use Rattle.proof_moments.specs.Ties.{StandsIn, IsLogged}
-use Rattle.cub_facts.specs.Blocks.{AnsweredAt, blocks_by}
-use Rattle.cub_facts.specs.Lives.{lives_of}
-use Rattle.cub_facts.specs.Pieces.{want, SendsPart, ServesAt, pieces_by}
-use Rattle.cub_facts.specs.Rings.{node_count}
+use Rattle.proof_facts.specs.Blocks.{AnsweredAt, blocks_by}
+use Rattle.proof_facts.specs.Lives.{lives_of}
+use Rattle.proof_facts.specs.Pieces.{want, SendsPart, ServesAt, pieces_by}
+use Rattle.proof_facts.specs.Rings.{node_count}
 use Rattle.proof_links.proofs.Nodes.{lived, sender, by_rules, cub_inside, before}
 use Rattle.proof_links.proofs.Sending.{IsOfDisk, IsOfController, of_answer}
 use Rattle.proof_parts.proofs.AskLives.{read_for}
 use Rattle.proof_journals.proofs.Events.{AreKept, own_entry, cub_acts, deed_logged}
-use Rattle.proof_delivery.specs.Ties.{viewers, parcel, SendsParcel, AsksDisk, IsServing, IsAsking, IsFailure, TellsParcels, LogsParcels}
+use Rattle.proof_moments.specs.ParcelTies.{viewers, parcel, SendsParcel, AsksDisk, IsServing, IsAsking, IsFailure, TellsParcels, LogsParcels}
 use Rattle.proof_parcels.proofs.Apart.{always_once}
 use Rattle.proof_parcels.proofs.ServeOuts.{sends_as}
 use Rattle.proof_parcels.proofs.Failing.{failed_read, writes_failure, of_record, record_wanted}

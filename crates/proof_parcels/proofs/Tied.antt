@@ -7,10 +7,10 @@ use Rattle.run_facts.specs.Histories.{History}
 use Rattle.disk_core.specs.State.{DiskState}
 use Rattle.proof_schedule.specs.Facts.{Facts}
 use Rattle.proof_pieces.specs.Pieces.{ArePiecesRight}
-use Rattle.cub_facts.specs.Blocks.{blocks_by}
-use Rattle.cub_facts.specs.Lives.{lives_of}
-use Rattle.cub_facts.specs.Pieces.{pieces_by}
-use Rattle.proof_delivery.specs.Recorded.{Evidence, TiesParcels}
+use Rattle.proof_facts.specs.Blocks.{blocks_by}
+use Rattle.proof_facts.specs.Lives.{lives_of}
+use Rattle.proof_facts.specs.Pieces.{pieces_by}
+use Rattle.proof_moments.specs.RecordedParcels.{Evidence, TiesParcels}
 use Rattle.proof_journals.proofs.Events.{AreKept}
 use Rattle.proof_parcels.specs.Parcels.{IsRingOf, ParcelsAreTied}
 use Rattle.proof_parcels.proofs.Disks as disks

@@ -23,21 +23,20 @@ use Rattle.run_facts.specs.Events.{NodeEvent, Past, Dated, entries_at, kept_outs
 use Rattle.run_facts.specs.Events.NodeEvent.{Does, Dies}
 use Rattle.run_facts.specs.Histories.{History, living, outs, past, beat, takes}
 use Rattle.disk_core.specs.State.{DiskState}
-use Rattle.schedule_laws.specs.Lives.{In}
-use Rattle.schedule_laws.specs.Histories.{input_of}
-use Rattle.schedule_laws.proofs.Carrying.{count_rises, same_dated, same_ends, sends_in}
-use Rattle.schedule_laws.proofs.Members.{chosen, in_map, in_right}
+use Rattle.lists.specs.Elements.{In}
+use Rattle.proof_lives.specs.Histories.{input_of}
+use Rattle.proof_lives.proofs.Carrying.{count_rises, same_dated, same_ends, sends_in}
+use Rattle.lists.proofs.Elements.{chosen, in_map, in_right}
 use Rattle.proof_journals.proofs.Written.{event_took}
 use Rattle.proof_journals.proofs.Journals.{so_far, wrote, stamped}
-use Rattle.proof_moments.specs.Members as members
 use Rattle.proof_moments.specs.Ties.{StandsIn}
-use Rattle.cub_facts.specs.Rings.{IsUpTo, node_count}
+use Rattle.proof_facts.specs.Rings.{IsUpTo, node_count}
 use Rattle.proof_links.proofs.Carrying.{Came, came_from, SentAs, sent_as, number_of, numbers_rise, delivered}
 use Rattle.proof_links.proofs.Nodes.{lives_on}
 use Rattle.proof_journals.proofs.Events.{AreKept, written_in}
-use Rattle.proof_journals.proofs.Lists.{in_laws, in_moments, none_more}
+use Rattle.proof_journals.proofs.Lists.{none_more}
 use Rattle.proof_journals.proofs.Cutting.{cut_in}
-use Rattle.proof_delivery.specs.Ties.{viewers, WasSentOn, IsGotOn, IsSentTwice, ViewersGet}
+use Rattle.proof_moments.specs.ParcelTies.{viewers, WasSentOn, IsGotOn, IsSentTwice, ViewersGet}
 use Rattle.proof_parcels.proofs.Entries.{sent_in, stands_out, stands_written, event_writes_got, event_writes_out, StandsBehind, later_behind, same_behind}
 
 -- two messages that are sent on a link in one event, one after the other
@@ -109,7 +108,7 @@ mapped_behind stamp outs link m o s = record {
   before = map (entry_of noted stamp) s.front;
   behind = map (entry_of noted stamp) s.back;
   is = ap (map (entry_of noted stamp)) s.is ∙ map-append (entry_of noted stamp) s.front (out.Send link m ∷ s.back);
-  there = in_moments _ (map (entry_of noted stamp) s.back) (in_map (entry_of noted stamp) (out.Send link o) s.back
+  there = (in_map (entry_of noted stamp) (out.Send link o) s.back
       s.there);
 }
 
@@ -254,7 +253,7 @@ module _ {S : Type 0} {step : S → Input Msg → Deed Msg S} {p : Params} {orde
       }
 
   twice : (xs ys : List Entry) (e f : Entry) (link : LinkNo) (m : Note) → slice_get journals (viewers p) ≡ Some
-      (xs ++ e ∷ ys) → members.In f ys
+      (xs ++ e ∷ ys) → In f ys
       → e.what ≡ what.Got link m → f.what ≡ what.Got link m → IsSentTwice journals link m
   twice xs ys e f link m at i e_is f_is =
       let v : ℕ = viewers p in
@@ -287,7 +286,7 @@ module _ {S : Type 0} {step : S → Input Msg → Deed Msg S} {p : Params} {orde
       let second = moved.2 in
       sent_pair a.from a.at b.at a.place b.place link m one.message two.message a.known a.note moved.0 a.sent
       moved.1 (omega arith) one.same two.same)
-      (c.behind f (in_laws f ys i))
+      (c.behind f i)
 
   pub get : (end : ℕ) → IsUpTo p end h → ViewersGet p journals end
   get end until = record { came = came; comes = comes end until; twice = twice }

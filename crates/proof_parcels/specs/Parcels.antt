@@ -10,12 +10,12 @@ use Rattle.run_facts.specs.Histories.{History}
 use Rattle.disk_core.specs.State.{DiskState}
 use Rattle.disk_core.specs.Rules.{is_faulty}
 use Rattle.proof_pieces.specs.Pieces.{ArePiecesRight}
-use Rattle.cub_facts.specs.Blocks.{blocks_by}
-use Rattle.cub_facts.specs.Facts.{facts_of}
-use Rattle.cub_facts.specs.Lives.{lives_of}
-use Rattle.cub_facts.specs.Pieces.{pieces_by}
-use Rattle.cub_facts.specs.Rings.{IsRingHistory, IsUpTo, HaveImages}
-use Rattle.proof_delivery.specs.Recorded.{Evidence, TiesParcels}
+use Rattle.proof_facts.specs.Blocks.{blocks_by}
+use Rattle.proof_facts.specs.Facts.{facts_of}
+use Rattle.proof_facts.specs.Lives.{lives_of}
+use Rattle.proof_facts.specs.Pieces.{pieces_by}
+use Rattle.proof_facts.specs.Rings.{IsRingHistory, IsUpTo, HaveImages}
+use Rattle.proof_moments.specs.RecordedParcels.{Evidence, TiesParcels}
 use Rattle.proof_journals.specs.Journals.{AreJournalsOf}
 
 -- Each read fault that strikes a disk is one of the run's.

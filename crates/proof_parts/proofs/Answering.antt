@@ -14,11 +14,12 @@ use Rattle.cub_rules.specs.declared.store.StoredPart.{StoredPart}
 use Rattle.cub_rules.specs.Messages.{is_wanted, storing}
 use Rattle.disk_core.specs.State.{DiskState}
 use Rattle.disk_core.specs.Rules.{read_part}
-use Rattle.schedule_laws.specs.Lives.{In, Lives, store_at, deed_of}
-use Rattle.schedule_laws.specs.Facts.{TookMessage}
-use Rattle.schedule_laws.proofs.Members.{in_right}
-use Rattle.stops_laws.specs.HoldsHere.{AreAllFormed}
-use Rattle.cub_facts.specs.Carried.{AskedDisk, DisksAnswer}
+use Rattle.proof_lives.specs.Lives.{Lives, store_at, deed_of}
+use Rattle.lists.specs.Elements.{In}
+use Rattle.proof_lives.specs.Facts.{TookMessage}
+use Rattle.lists.proofs.Elements.{in_right}
+use Rattle.proof_lives.specs.HoldsHere.{AreAllFormed}
+use Rattle.proof_facts.specs.Carried.{AskedDisk, DisksAnswer}
 use Rattle.proof_parts.specs.Parts.{CameFromDisk, IsKept, IsTakenBack}
 use Rattle.proof_parts.proofs.PartLives.{came_by_answer}
 use Rattle.proof_parts.proofs.Storing.{answer_kept}

@@ -20,13 +20,15 @@ use Rattle.node_kit.specs.Ways.{way_to_disk}
 use Rattle.partial_view.specs.declared.line.Line.{Line}
 use Rattle.cub_rules.specs.declared.store.Store.{Store}
 use Rattle.cub_rules.specs.Ticks.{releasing, believing, inserting, splitting, forwarding, ask_outs, asked_of_disk, leaves_by, reading_blocks, reading_pieces, reading, ticking}
-use Rattle.cub_laws.proofs.Numbers.{piece_disk_own}
-use Rattle.schedule_laws.specs.Lives.{In, Lives, AreLives, store_at, deed_of}
-use Rattle.schedule_laws.specs.Facts.{DidAt}
-use Rattle.schedule_laws.proofs.Members.{in_left, in_right, in_map, in_filter, in_flat_map, all_in}
-use Rattle.cub_facts.specs.Carried.{AskedDisk}
-use Rattle.cub_facts.specs.Pieces.{want, stamp_of as made_of, before_reading, AsksFor, AsksAt}
-use Rattle.proof_places.specs.Disks.{disk_at}
+use Rattle.cub_changes.proofs.Numbers.{piece_disk_own}
+use Rattle.proof_lives.specs.Lives.{Lives, AreLives, store_at, deed_of}
+use Rattle.lists.specs.Elements.{In}
+use Rattle.proof_lives.specs.Facts.{DidAt}
+use Rattle.lists.proofs.Elements.{in_left, in_right, in_map, in_filter, in_flat_map}
+use Rattle.lists.proofs.Each.{all_in}
+use Rattle.proof_facts.specs.Carried.{AskedDisk}
+use Rattle.proof_facts.specs.Pieces.{want, stamp_of as made_of, before_reading, AsksFor, AsksAt}
+use Rattle.proof_service.specs.Disks.{disk_at}
 use Rattle.proof_parts.specs.Asks.{IsAskOf, AskedForRecord}
 use Rattle.proof_parts.proofs.AskOutputs.{OfAsk, ticking_asks, taking_asks, reading_asks, whole_disk}
 use Rattle.proof_parts.proofs.PieceForms.{numbered, unasked_within}

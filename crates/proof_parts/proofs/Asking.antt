@@ -10,18 +10,18 @@ use Rattle.mirror_schedule.specs.Pieces.{leaving_of}
 use Rattle.node_kit.specs.Steps.{Input, stamp_of}
 use Rattle.cub_rules.specs.State.{IsPieceAt}
 use Rattle.cub_rules.specs.Ticks.{leaves_by}
-use Rattle.schedule_laws.specs.Lives.{Lives, AreLives, beat_at}
-use Rattle.schedule_laws.specs.Facts.{TickedAt}
-use Rattle.schedule_laws.proofs.Order.{beats_rise}
-use Rattle.stops_laws.specs.HoldsHere.{AreAllFormed}
+use Rattle.proof_lives.specs.Lives.{Lives, AreLives, beat_at}
+use Rattle.proof_lives.specs.Facts.{TickedAt}
+use Rattle.proof_lives.proofs.Order.{beats_rise}
+use Rattle.proof_lives.specs.HoldsHere.{AreAllFormed}
 use Rattle.proof_pieces.specs.PieceFacts.{leave}
 use Rattle.proof_pieces.specs.PieceLaws.{IsThere, WasUndue}
-use Rattle.proof_places.specs.Disks.{FailedThere}
-use Rattle.cub_facts.specs.Blocks.{AnsweredAt}
-use Rattle.cub_facts.specs.Facts.{Beyond, facts_by}
-use Rattle.cub_facts.specs.Pieces.{piece, AsksAt, ServesAt, pieces_by}
-use Rattle.cub_facts.specs.Pieces.{stamp_of as made_of}
-use Rattle.cub_facts.proofs.NoReturns.{same_life}
+use Rattle.proof_service.specs.Disks.{FailedThere}
+use Rattle.proof_facts.specs.Blocks.{AnsweredAt}
+use Rattle.proof_lives.specs.FactsBy.{Beyond, facts_by}
+use Rattle.proof_facts.specs.Pieces.{piece, AsksAt, ServesAt, pieces_by}
+use Rattle.proof_facts.specs.Pieces.{stamp_of as made_of}
+use Rattle.proof_lives.proofs.NoReturns.{same_life}
 use Rattle.proof_splits.specs.PieceRecords.{KeepsPieces}
 use Rattle.proof_splits.proofs.Standing.{keeps_pieces}
 use Rattle.proof_splits.proofs.Backups.{is_tick}

@@ -19,14 +19,14 @@ use Rattle.node_kit.specs.Steps.Input.{Take, Tick}
 use Rattle.cub_rules.specs.declared.store.StoredPart.{StoredPart}
 use Rattle.cub_rules.specs.Ticks.{is_stale, leaves_by}
 use Rattle.disk_core.specs.State.{DiskState}
-use Rattle.schedule_laws.specs.Lives.{Lives, AreLives, beat_at}
-use Rattle.schedule_laws.proofs.Order.{beats_rise}
+use Rattle.proof_lives.specs.Lives.{Lives, AreLives, beat_at}
+use Rattle.proof_lives.proofs.Order.{beats_rise}
 use Rattle.proof_schedule.specs.Facts.{ReachedBy}
 use Rattle.proof_pieces.specs.PieceFacts.{leave}
 use Rattle.proof_service.specs.ServiceFacts.{KilledBy, IsCutOff}
-use Rattle.cub_facts.specs.Blocks.{blocks_by}
-use Rattle.cub_facts.specs.Facts.{Beyond, facts_by}
-use Rattle.cub_facts.specs.Pieces.{piece}
+use Rattle.proof_facts.specs.Blocks.{blocks_by}
+use Rattle.proof_lives.specs.FactsBy.{Beyond, facts_by}
+use Rattle.proof_facts.specs.Pieces.{piece}
 use Rattle.proof_splits.specs.PieceRecords.{MayGo, MightGo}
 use Rattle.proof_parts.specs.Parts.{MayCost, MayBeLost}
 

@@ -17,22 +17,23 @@ use Rattle.cub_rules.specs.declared.store.Store.{Store}
 use Rattle.cub_rules.specs.declared.store.StoredPart.{StoredPart}
 use Rattle.disk_core.specs.State.{DiskState}
 use Rattle.disk_core.specs.Rules.{read_part}
-use Rattle.schedule_laws.specs.Lives.{In, Lives, AreLives, store_at, is_tick_input, beat_at, reading_at}
-use Rattle.schedule_laws.specs.Facts.{TickedAt, TookMessage}
-use Rattle.schedule_laws.proofs.Order.{beats_rise, behind, not_behind}
-use Rattle.stops_laws.specs.HoldsHere.{AreAllFormed}
+use Rattle.proof_lives.specs.Lives.{Lives, AreLives, store_at, beat_at, reading_at}
+use Rattle.run_facts.specs.Events.{is_tick_input}
+use Rattle.lists.specs.Elements.{In}
+use Rattle.proof_lives.specs.Facts.{TickedAt, TookMessage}
+use Rattle.proof_lives.proofs.Order.{beats_rise, behind, not_behind}
+use Rattle.proof_lives.proofs.Inputs.{message_before}
+use Rattle.proof_lives.specs.HoldsHere.{AreAllFormed}
 use Rattle.proof_pieces.specs.PieceFacts.{leave, Arises, AsksBy}
 use Rattle.proof_pieces.specs.PieceLaws.{WasUndue}
-use Rattle.proof_places.specs.Disks.{disk_at as disk_of_piece}
+use Rattle.proof_service.specs.Disks.{disk_at as disk_of_piece}
 use Rattle.proof_service.specs.ServiceFacts.{ArisesBy}
 use Rattle.proof_service.specs.ServiceLaws.{HasLeft, IsAnswered}
-use Rattle.cub_facts.specs.Blocks.{AnsweredAt, StoredAt, blocks_by}
-use Rattle.cub_facts.specs.Carried.{DisksAnswer}
-use Rattle.cub_facts.specs.Facts.{Beyond, facts_by}
-use Rattle.cub_facts.specs.Pieces.{piece, want, before_reading, before_serving, SplitAt, MirroredAt, AsksAt, ServesAt, pieces_by}
-use Rattle.cub_facts.specs.Pieces.{stamp_of as made_of}
+use Rattle.proof_facts.specs.Blocks.{AnsweredAt, StoredAt, blocks_by}
+use Rattle.proof_facts.specs.Carried.{DisksAnswer}
+use Rattle.proof_lives.specs.FactsBy.{Beyond, facts_by}
+use Rattle.proof_facts.specs.Pieces.{piece, want, before_reading, before_serving, SplitAt, MirroredAt, AsksAt, ServesAt, pieces_by, stamp_of as made_of}
 use Rattle.proof_splits.specs.PieceRecords.{IsMirrored, IsSplitOff, Enters, MayGo, MightGo, KeepsPieces}
-use Rattle.proof_splits.proofs.Backups.{before_tick}
 use Rattle.proof_parts.proofs.Answering.{taken_back, kept}
 use Rattle.proof_parts.proofs.AskLives.{asked_disk}
 use Rattle.proof_parts.proofs.Asking.{keeps, asks_there}
@@ -279,7 +280,7 @@ module _ (p : Params) (plan : IsPlan p) (lives : Lives) (are : AreLives p lives)
       let read : reading_at inputs i ≡ l = ap (λ (k : Input Msg). (stamp_of k).reading) tick.is in
       let a : AnsweredAt p lives c t n j y (Some s.part) = s.answered in
       let ab : beat_at inputs a.at ≡ y = ap (λ (k : Input Msg). (stamp_of k).beat) a.is in
-      let before : a.at < i = before_tick p lives are c a.at i stamp small low a.done tick.is (ap is_tick_input a.is)
+      let before : a.at < i = message_before p lives are c i a.at small low a.done (ap is_tick_input tick.is) (ap is_tick_input a.is)
       (omega arith) in
       let had : In x (store_at p c inputs a.at).pieces.items = ⊎_elim (λ z. let none = z.0 in absurd (omega arith))
       (λ z. z.1) a.there in

@@ -10,7 +10,7 @@ use Rattle.cub_rules.specs.declared.store.Store.{Store}
 use Rattle.cub_rules.specs.declared.store.StoredPart.{StoredPart}
 use Rattle.cub_rules.specs.Records.{stored_for}
 use Rattle.cub_rules.specs.Messages.{is_wanted}
-use Rattle.schedule_laws.specs.Lives.{In}
+use Rattle.lists.specs.Elements.{In}
 use Rattle.proof_parts.specs.Parts.{IsFound}
 
 -- a want by its numbers

@@ -13,23 +13,22 @@ use Rattle.mirror_schedule.specs.Pieces.{is_in, leaving_of}
 use Rattle.node_kit.specs.Steps.{Input, stamp_of}
 use Rattle.node_kit.specs.Steps.Input.{Take, Tick}
 use Rattle.cub_rules.specs.Ticks.{leaves_by}
-use Rattle.schedule_laws.specs.Lives.{Lives, AreLives, store_at, is_tick_input, beat_at}
-use Rattle.schedule_laws.specs.Facts.{TickedAt, ReachedAt}
-use Rattle.schedule_laws.proofs.Order.{beats_rise, behind, tick_before, tick_of}
-use Rattle.stops_laws.specs.HoldsHere.{AreAllFormed}
-use Rattle.stops_laws.proofs.Begun.{IsStop}
-use Rattle.stops_laws.proofs.HoldLaws.{no_both}
-use Rattle.stops_laws.proofs.Holds.{in_held}
-use Rattle.stops_laws.proofs.Persist.{held_since}
+use Rattle.proof_lives.specs.Lives.{Lives, AreLives, store_at, beat_at}
+use Rattle.run_facts.specs.Events.{is_tick_input}
+use Rattle.proof_lives.specs.Facts.{TickedAt, ReachedAt}
+use Rattle.proof_lives.proofs.Order.{beats_rise, behind, tick_before, tick_of}
+use Rattle.proof_lives.proofs.Inputs.{message_before}
+use Rattle.proof_lives.specs.HoldsHere.{AreAllFormed}
+use Rattle.proof_lives.proofs.HoldLaws.{stop_in, released_by}
+use Rattle.proof_lives.proofs.Persist.{unheld_released}
 use Rattle.proof_schedule.specs.Facts.{IsReleasedBy, IsUnheld}
 use Rattle.proof_pieces.specs.PieceFacts.{Arises}
 use Rattle.proof_pieces.specs.PieceLaws.{WasUndue}
-use Rattle.cub_facts.specs.Facts.{Beyond, facts_by}
-use Rattle.cub_facts.specs.Pieces.{SplitAt, pieces_by}
-use Rattle.cub_facts.specs.Pieces.{stamp_of as made_of}
-use Rattle.cub_facts.proofs.NoReturns.{same_life}
+use Rattle.proof_lives.specs.FactsBy.{Beyond, facts_by}
+use Rattle.proof_facts.specs.Pieces.{SplitAt, pieces_by}
+use Rattle.proof_lives.proofs.NoReturns.{same_life}
 use Rattle.proof_splits.specs.PieceRecords.{IsSplitOff, Enters, CutsOff, StandsSince}
-use Rattle.proof_splits.proofs.Backups.{before_tick, released, splits}
+use Rattle.proof_splits.proofs.Backups.{splits}
 use Rattle.proof_parts.proofs.CutOff.{leaves_later}
 
 module _ (p : Params) (plan : IsPlan p) (lives : Lives) (are : AreLives p lives) (formed : AreAllFormed p lives)
@@ -98,19 +97,9 @@ module _ (p : Params) (plan : IsPlan p) (lives : Lives) (are : AreLives p lives)
   let_go c a x (Take stamp link m) small low is w y g less =
       let v : ℕ = x.tenancy.instance.0 in
       let t = g.took in
-      let stop : IsStop p c (lives.input c) t.at v = record {
-        stamp = made_of y t.reading;
-        link = t.link;
-        instance = g.instance;
-        tag = g.tag;
-        is = t.is;
-        same = g.same;
-      } in
-      ⊎_elim
-      (λ k. absurd (no_both (in_held x.tenancy.instance k.holding
-      (store_at p c (lives.input c) a).held k.member k.same) w.free))
-      (λ k. released p plan lives are formed beyond c a t.at v (beat_at (lives.input c) a) small low (omega arith) k)
-      (held_since p c (lives.input c) (lives.count c) (formed c small) a t.at v less (omega arith) stop)
+      released_by p plan lives are formed beyond c a t.at v (beat_at (lives.input c) a) small low (omega arith)
+      (unheld_released p c (lives.input c) (lives.count c) (formed c small) a t.at v less (omega arith) (stop_in p lives g)
+      x.tenancy.instance refl w.free)
   let_go c a x (Tick stamp) small low is w y g less =
       let t = g.took in
       let s = splits p plan lives are formed beyond came (split_at c a stamp x small low is w) in
@@ -129,7 +118,7 @@ module _ (p : Params) (plan : IsPlan p) (lives : Lives) (are : AreLives p lives)
   unheld c i b a stamp x small low is beat le w since y g by life =
       let t = g.took in
       let e : beat_at (lives.input c) t.at ≡ y = ap (λ (k : Input Msg). (stamp_of k).beat) t.is in
-      let before = before_tick p lives are c t.at i stamp small low t.done is (ap is_tick_input t.is) (omega arith) in
+      let before = message_before p lives are c i t.at small low t.done (ap is_tick_input is) (ap is_tick_input t.is) (omega arith) in
       let less = since t.at before (subst (λ (k : Input Msg). CutsOff k x) (sym t.is) g.same) in
       let_go c a x (lives.input c a) small (omega arith) refl w y g less
 

@@ -10,12 +10,13 @@ use Rattle.node_kit.specs.Steps.Input.{Tick}
 use Rattle.cub_rules.specs.declared.store.Store.{Store}
 use Rattle.cub_rules.specs.State.{IsStoreOf, IsPieceAt}
 use Rattle.cub_rules.specs.Ticks.{forwarding}
-use Rattle.cub_laws.proofs.Numbers.{piece_parts}
-use Rattle.schedule_laws.specs.Lives.{In, Lives, AreLives, store_at}
-use Rattle.schedule_laws.proofs.Lines.{kept_at}
-use Rattle.schedule_laws.proofs.Members.{all_in}
-use Rattle.schedule_laws.proofs.Ticking.{before_forwarding, kept_before}
-use Rattle.cub_facts.specs.Pieces.{before_reading}
+use Rattle.cub_changes.proofs.Numbers.{piece_parts}
+use Rattle.proof_lives.specs.Lives.{Lives, AreLives, store_at}
+use Rattle.lists.specs.Elements.{In}
+use Rattle.proof_lives.proofs.Lines.{kept_at}
+use Rattle.lists.proofs.Each.{all_in}
+use Rattle.proof_lives.proofs.Ticking.{before_forwarding, kept_before}
+use Rattle.proof_facts.specs.Pieces.{before_reading}
 
 forwarding_unasked : (p : Params) (c : ℕ) (stamp : Stamp) (h : Store)
     → (forwarding p c stamp h).state.unasked ≡ h.unasked

@@ -28,9 +28,10 @@ use Rattle.cub_changes.proofs.Fits.{fits}
 use Rattle.cub_changes.proofs.Messages.{taking_by}
 use Rattle.cub_changes.proofs.Puts.{inserting_by}
 use Rattle.cub_changes.proofs.Ticks.{IsOfTick, releasing_by, believing_by, splitting_by, forwarding_by, reading_by, ticking_by}
-use Rattle.schedule_laws.specs.Lives.{In, deed_of}
-use Rattle.schedule_laws.proofs.Members.{chosen, in_left, in_cases, in_filter, from_filter}
-use Rattle.cub_facts.specs.Pieces.{before_serving}
+use Rattle.proof_lives.specs.Lives.{deed_of}
+use Rattle.lists.specs.Elements.{In}
+use Rattle.lists.proofs.Elements.{chosen, in_left, in_cases, in_filter, from_filter}
+use Rattle.proof_facts.specs.Pieces.{before_serving}
 use Rattle.proof_parts.specs.Parts.{MayCost}
 
 -- a list without those that pass a test

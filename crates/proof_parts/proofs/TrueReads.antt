@@ -24,19 +24,17 @@ use Rattle.cub_rules.specs.declared.store.Store.{Store}
 use Rattle.cub_rules.specs.declared.store.StoredPart.{StoredPart}
 use Rattle.disk_core.specs.State.{DiskState}
 use Rattle.disk_core.specs.Rules.{is_faulty, part_for, read_part}
-use Rattle.schedule_laws.specs.Lives.{Lives, AreLives, store_at, beat_at}
-use Rattle.schedule_laws.specs.Facts.{TookMessage}
-use Rattle.schedule_laws.proofs.Members.{chosen}
-use Rattle.schedule_laws.proofs.Order.{beats_rise}
-use Rattle.stops_laws.specs.HoldsHere.{AreAllFormed}
+use Rattle.proof_lives.specs.Lives.{Lives, AreLives, store_at, beat_at}
+use Rattle.proof_lives.specs.Facts.{TookMessage}
+use Rattle.lists.proofs.Elements.{chosen}
+use Rattle.proof_lives.proofs.Order.{beats_rise}
+use Rattle.proof_lives.specs.HoldsHere.{AreAllFormed}
 use Rattle.proof_pieces.specs.PieceLaws.{WasAsked}
-use Rattle.proof_places.specs.Disks.{part_at, IsImageFor, IsRefused, IsRead}
-use Rattle.proof_places.specs.Disks.{disk_at as disk_of_piece}
-use Rattle.cub_facts.specs.Blocks.{AnsweredAt, SendsAt, blocks_by}
-use Rattle.cub_facts.specs.Carried.{AnswersAsk, DisksAnswer}
-use Rattle.cub_facts.specs.Pieces.{want, before_serving, SendsPart, ServesAt, pieces_by}
-use Rattle.cub_facts.specs.Pieces.{stamp_of as made_of}
-use Rattle.cub_facts.specs.Rings.{IsDiskOf, HaveImages}
+use Rattle.proof_service.specs.Disks.{part_at, IsImageFor, IsRefused, IsRead, disk_at as disk_of_piece}
+use Rattle.proof_facts.specs.Blocks.{AnsweredAt, SendsAt, blocks_by}
+use Rattle.proof_facts.specs.Carried.{AnswersAsk, DisksAnswer}
+use Rattle.proof_facts.specs.Pieces.{want, before_serving, SendsPart, ServesAt, pieces_by, stamp_of as made_of}
+use Rattle.proof_facts.specs.Rings.{IsDiskOf, HaveImages}
 use Rattle.proof_parts.specs.Asks.{WasRead}
 use Rattle.proof_parts.proofs.Answering.{came_from_disk}
 use Rattle.proof_parts.proofs.AskLives.{read_for}

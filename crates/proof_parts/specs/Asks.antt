@@ -16,17 +16,17 @@ use Rattle.node_kit.specs.Ways.{way_to_disk}
 use Rattle.cub_rules.specs.declared.store.Store.{Store}
 use Rattle.disk_core.specs.State.{DiskState}
 use Rattle.disk_core.specs.Rules.{read_part}
-use Rattle.schedule_laws.specs.Facts.{DidAt}
-use Rattle.schedule_laws.specs.Lives.{Lives, AreLives}
-use Rattle.stops_laws.specs.HoldsHere.{AreAllFormed}
-use Rattle.cub_facts.specs.Blocks.{AnsweredAt, SendsAt, blocks_by}
-use Rattle.cub_facts.specs.Carried.{AskedDisk, DisksAnswer}
-use Rattle.cub_facts.specs.Facts.{HasTicked}
-use Rattle.cub_facts.specs.Pieces.{want, AsksFor, AsksAt, ServesAt, pieces_by}
-use Rattle.cub_facts.specs.Rings.{IsDiskOf, HaveImages}
+use Rattle.proof_lives.specs.Facts.{DidAt}
+use Rattle.proof_lives.specs.Lives.{Lives, AreLives}
+use Rattle.proof_lives.specs.HoldsHere.{AreAllFormed}
+use Rattle.proof_facts.specs.Blocks.{AnsweredAt, SendsAt, blocks_by}
+use Rattle.proof_facts.specs.Carried.{AskedDisk, DisksAnswer}
+use Rattle.proof_lives.specs.FactsBy.{HasTicked}
+use Rattle.proof_facts.specs.Pieces.{want, AsksFor, AsksAt, ServesAt, pieces_by}
+use Rattle.proof_facts.specs.Rings.{IsDiskOf, HaveImages}
 use Rattle.proof_pieces.specs.PieceLaws.{WasAsked}
-use Rattle.proof_places.specs.Disks.{disk_at as disk_of_piece}
-use Rattle.proof_places.specs.Disks.{IsRefused, IsRead}
+use Rattle.proof_service.specs.Disks.{disk_at as disk_of_piece}
+use Rattle.proof_service.specs.Disks.{IsRefused, IsRead}
 
 -- A read that goes out on a link goes to the disk of its piece. It is for a record of some tenancy
 -- that a cub which keeps h when it begins to ask the disks has, and is to ask for.

@@ -19,11 +19,12 @@ use Rattle.cub_rules.specs.Records.{stored_for}
 use Rattle.cub_rules.specs.Ticks.{is_stale}
 use Rattle.disk_core.specs.State.{DiskState}
 use Rattle.disk_core.specs.Rules.{read_part}
-use Rattle.schedule_laws.specs.Lives.{In, Lives, store_at, outs_at}
-use Rattle.schedule_laws.specs.Facts.{TookMessage}
-use Rattle.stops_laws.specs.HoldsHere.{AreAllFormed}
-use Rattle.cub_facts.specs.Carried.{AskedDisk, AnswersAsk, DisksAnswer}
-use Rattle.cub_facts.specs.Facts.{HasTicked}
+use Rattle.proof_lives.specs.Lives.{Lives, store_at, outs_at}
+use Rattle.lists.specs.Elements.{In}
+use Rattle.proof_lives.specs.Facts.{TookMessage}
+use Rattle.proof_lives.specs.HoldsHere.{AreAllFormed}
+use Rattle.proof_facts.specs.Carried.{AskedDisk, AnswersAsk, DisksAnswer}
+use Rattle.proof_lives.specs.FactsBy.{HasTicked}
 
 -- A part that a cub keeps before its input of number i came by a disk's answer, in form, to its
 -- want, when the cub had a record for that; and the cub keeps it since.

@@ -4,12 +4,12 @@ use Rattle.slot_plan.specs.declared.params.Params.{Params}
 use Rattle.slot_plan.specs.Conditions.{IsPlan}
 use Rattle.stripe_layout.specs.declared.catalogue.Catalogue.{Catalogue}
 use Rattle.disk_core.specs.State.{DiskState}
-use Rattle.schedule_laws.specs.Lives.{Lives, AreLives}
-use Rattle.stops_laws.specs.HoldsHere.{AreAllFormed}
-use Rattle.cub_facts.specs.Blocks.{blocks_by}
-use Rattle.cub_facts.specs.Facts.{facts_by, cubs_alone, HasTicked}
-use Rattle.cub_facts.specs.Laws.{ReadLaws}
-use Rattle.cub_facts.specs.Pieces.{pieces_by}
+use Rattle.proof_lives.specs.Lives.{Lives, AreLives}
+use Rattle.proof_lives.specs.HoldsHere.{AreAllFormed}
+use Rattle.proof_facts.specs.Blocks.{blocks_by}
+use Rattle.proof_lives.specs.FactsBy.{facts_by, cubs_alone, HasTicked}
+use Rattle.proof_facts.specs.Laws.{ReadLaws}
+use Rattle.proof_facts.specs.Pieces.{pieces_by}
 use Rattle.proof_parts.specs.Asks.{HaveDisks}
 
 -- Whatever befalls cubs whose messages are in form, if their disks have the images of a catalogue

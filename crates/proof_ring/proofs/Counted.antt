@@ -26,7 +26,7 @@ use Rattle.scenario_read.proofs.Inversions.{map-some}
 use Rattle.scenario_read.proofs.OrderFacts.{orders-given}
 use Rattle.proof_ring.specs.Runs.{AreShort}
 use Rattle.proof_ring.proofs.Opened.{get_some}
-use Rattle.controller_facts.specs.Orders.{AreCounted}
+use Rattle.proof_controller.specs.Orders.{AreCounted}
 
 -- what holds of all elements of a list holds of the one at a place
 pub all_at : {X : Type 0} (P : X → Type 0) (xs : List X) (k : ℕ) (x : X) → All P xs → slice_get xs k ≡ Some x → P x

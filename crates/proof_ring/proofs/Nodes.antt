@@ -21,12 +21,12 @@ use Rattle.viewer_core.specs.Rules.{viewers_step}
 use Rattle.ring_nodes.specs.declared.nodes.AnyNode.{AnyNode}
 use Rattle.ring_nodes.specs.declared.nodes.AnyNode.TheVariants as node
 use Rattle.ring_nodes.specs.AllNodes.{any_step, opening_cub, opening_controller}
-use Rattle.schedule_laws.specs.Lives.{store_at, outs_at}
-use Rattle.schedule_laws.specs.Histories.{input_of}
-use Rattle.schedule_laws.proofs.Members.{chosen}
-use Rattle.schedule_laws.proofs.Wrapped.{cub_with, cub_state, cub_outs, after_state, event_outs}
-use Rattle.controller_facts.specs.Controllers.{controller, command, known_at, commands_at}
-use Rattle.cub_facts.specs.Rings.{node_of_disk, viewers}
+use Rattle.proof_lives.specs.Lives.{store_at, outs_at}
+use Rattle.proof_lives.specs.Histories.{input_of}
+use Rattle.lists.proofs.Elements.{chosen}
+use Rattle.proof_lives.proofs.Wrapped.{cub_with, cub_state, cub_outs, after_state, event_outs}
+use Rattle.proof_controller.specs.Controllers.{controller, command, known_at, commands_at}
+use Rattle.proof_facts.specs.Rings.{node_of_disk, viewers}
 use Rattle.proof_ring.specs.Rings.{RingsAreHistories}
 use Rattle.proof_ring.proofs.Living.{alive_below}
 

@@ -1,5 +1,5 @@
 -- The nodes of a ring as they open, by number; and that a life without a death goes on.
-use Rattle.std.proofs.Common.{◌≡◌, ℕ, zero, suc, ◌+◌, ◌*◌, ◌-◌, ◌<◌, ◌≤◌, List, [], ◌∷◌, ◌++◌, length, length-append, true, false, Some, None, refl, sym, ap, ◌∙◌, arith, ⊎_elim}
+use Rattle.std.proofs.Common.{◌≡◌, ℕ, zero, suc, ◌+◌, ◌*◌, ◌-◌, ◌<◌, ◌≤◌, List, [], ◌∷◌, ◌++◌, length, length-append, true, Some, None, refl, ap, ◌∙◌, arith, ⊎_elim}
 use Rattle.std.specs.Prelude.{slice_get}
 use Rattle.std.proofs.lemmas.Bool.{cases_lt}
 use Rattle.std.proofs.lemmas.Option.{none-some}
@@ -16,9 +16,7 @@ use Rattle.node_kit.specs.declared.course.ReadFault.{ReadFault}
 use Rattle.node_kit.specs.Courses.{IsCourse}
 use Rattle.node_kit.specs.Life.{Lifetime, acts}
 use Rattle.node_kit.specs.Steps.{Deed, Input}
-use Rattle.run_facts.specs.Events.{NodeEvent, is_death}
-use Rattle.run_facts.specs.Events.NodeEvent.{Does, Dies}
-use Rattle.run_facts.specs.Histories.{History, past, beat, IsComplete}
+use Rattle.run_facts.specs.Histories.{History, past, beat}
 use Rattle.run_facts.proofs.Along.{life-at}
 use Rattle.ring_nodes.specs.declared.nodes.AnyNode.{AnyNode}
 use Rattle.ring_nodes.specs.declared.nodes.AnyNode.TheVariants as node
@@ -85,18 +83,6 @@ acts_always life b e = rw e refl
 pub life_kept : {S : Type 0} (step : S → Input Msg → Deed Msg S) (h : History Msg S) (n i : ℕ) → (past noted step h n i).life ≡ h.life n
 life_kept step h n zero = refl
 life_kept step h n (suc i) = life-at noted step (h.event n i) (past noted step h n i) ∙ life_kept step h n i
-
-pub alive_at : {S : Type 0} (step : S → Input Msg → Deed Msg S) (nodes beats : ℕ) (h : History Msg S) → IsComplete noted step nodes beats h → (n i : ℕ) → n < nodes → i < h.count n → (h.life n).death ≡ None
-    → is_death (h.event n i) ≡ false
-alive_at step nodes beats h complete n i inside low none = go (h.event n i) refl
-  where
-    go : (e : NodeEvent Msg) → h.event n i ≡ e → is_death e ≡ false
-    go (Does k) e = refl
-    go (Dies stamp) e =
-        let d = complete.dying n i stamp inside low e in
-        let t = acts_always (past noted step h n i).life stamp.beat (ap (λ (l : Lifetime). l.death) (life_kept step h n i) ∙ none) in
-        let q : true ≡ false = sym t ∙ d.0 in
-        absurd (cc)
 
 -- the readings of a run are not too large
 pub read_low : (c : Course) (b r : ℕ) → IsCourse c → b < c.beats → r ≤ time_of c.plan.params b + c.plan.params.skew → r ≤ most_reading

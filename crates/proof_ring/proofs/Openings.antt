@@ -12,7 +12,7 @@ use Rattle.ring_nodes.specs.declared.nodes.AnyNode.TheVariants as node
 use Rattle.ring_nodes.specs.AllNodes.{numbered, each_numbered, opening_cub, opening_disk, opening_controller, opening_nodes, image_at, images_of}
 use Rattle.ring_nodes.proofs.Numbered.{length-numbered}
 use Rattle.proof_ring.proofs.Opened.{get_front, get_back, numbered_at}
-use Rattle.cub_facts.specs.Rings.{node_of_disk}
+use Rattle.proof_facts.specs.Rings.{node_of_disk}
 use Rattle.proof_ring.specs.Runs.{disk_of_run}
 
 -- What a rule gives for the element at a place, and its number.

@@ -16,8 +16,8 @@ use Rattle.scenario_read.specs.Sound.{StartsWithin, IsScenario}
 use Rattle.scenario_read.specs.Orders.{IsCatalogueOf, orders_from, start_order, first_disk, disk_in}
 use Rattle.proof_ring.proofs.Opened.{get_some}
 use Rattle.proof_ring.proofs.Counted.{all_at, same_kind}
-use Rattle.proof_places.specs.Files.{IsOfFile}
-use Rattle.cub_facts.specs.Rings.{AreOfCatalogue}
+use Rattle.proof_service.specs.Files.{IsOfFile}
+use Rattle.proof_facts.specs.Rings.{AreOfCatalogue}
 
 -- The first disk of a file that is there.
 pub disk_there : (c : Catalogue) (file : ℕ) (info : FileInfo) → slice_get c.files file ≡ Some info → first_disk c file ≡ info.disk

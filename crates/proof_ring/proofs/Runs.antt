@@ -25,9 +25,9 @@ use Rattle.ring_nodes.proofs.Numbered.{length-numbered, opening_count}
 use Rattle.ring_facts.specs.Rings.{IsRingRun}
 use Rattle.ring_facts.specs.Steps.{HasRun, ring_of}
 use Rattle.proof_ring.proofs.Opened.{get_some, cubs_open, controller_opens, viewers_open, life_kept, read_low}
-use Rattle.controller_facts.specs.Controllers.{controller}
-use Rattle.controller_facts.specs.Orders.{AreCounted}
-use Rattle.cub_facts.specs.Rings.{node_count, node_of_disk, viewers, DieAlone, IsUpTo, AreOfCatalogue}
+use Rattle.proof_controller.specs.Controllers.{controller}
+use Rattle.proof_controller.specs.Orders.{AreCounted}
+use Rattle.proof_facts.specs.Rings.{node_count, node_of_disk, viewers, DieAlone, IsUpTo, AreOfCatalogue}
 use Rattle.proof_journals.specs.Journals.{AreJournalsOf}
 use Rattle.proof_ring.specs.Rings.{OpensAs, IsRing}
 use Rattle.proof_ring.specs.Runs.{disks_of, AreShort, IsKeptRing, KeptRunsAreRings}

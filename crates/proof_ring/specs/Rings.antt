@@ -12,9 +12,9 @@ use Rattle.disk_core.specs.State.{DiskState}
 use Rattle.ring_nodes.specs.declared.nodes.AnyNode.{AnyNode}
 use Rattle.ring_nodes.specs.declared.nodes.AnyNode.TheVariants as node
 use Rattle.ring_nodes.specs.AllNodes.{any_step, opening_cub, opening_controller}
-use Rattle.controller_facts.specs.Controllers.{controller}
-use Rattle.controller_facts.specs.Orders.{AreCounted}
-use Rattle.cub_facts.specs.Rings.{node_count, node_of_disk, viewers, IsDiskOf, DieAlone, IsRingHistory}
+use Rattle.proof_controller.specs.Controllers.{controller}
+use Rattle.proof_controller.specs.Orders.{AreCounted}
+use Rattle.proof_facts.specs.Rings.{node_count, node_of_disk, viewers, IsDiskOf, DieAlone, IsRingHistory}
 
 -- The nodes of a ring as they open: cubs that keep nothing, these disks, a controller that has the
 -- orders, and viewers that have nothing.

@@ -13,7 +13,7 @@ use Rattle.scenario_read.specs.Sound.{IsScenario}
 use Rattle.ring_nodes.specs.declared.nodes.AnyNode.{AnyNode}
 use Rattle.ring_nodes.specs.AllNodes.{any_step, faults_of, image_at}
 use Rattle.ring_facts.specs.Rings.{IsRingRun}
-use Rattle.cub_facts.specs.Rings.{IsUpTo, AreOfCatalogue, HaveImages}
+use Rattle.proof_facts.specs.Rings.{IsUpTo, AreOfCatalogue, HaveImages}
 use Rattle.proof_journals.specs.Journals.{AreJournalsOf}
 use Rattle.proof_ring.specs.Rings.{IsRing}
 

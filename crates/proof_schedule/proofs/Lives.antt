@@ -19,10 +19,6 @@ nobody_first r c b none = λ w back. absurd (none c w back)
 pub nobody_same : (r : Facts) (c x b : ℕ) → NobodyReturns r → IsSameLife r c x b
 nobody_same r c x b none = λ w back le. absurd (none c w back)
 
--- If nobody comes back, each cub lets in whatever is due.
-pub nobody_open : (p : Params) (r : Facts) (c at b : ℕ) → NobodyReturns r → IsOpenTo p r c at b
-nobody_open p r c at b none = λ w back le. absurd (none c w back)
-
 -- If nobody comes back, the law on the last return holds.
 pub nobody_returns : (r : Facts) (c b : ℕ) → NobodyReturns r → IsFirstLife r c b ⊎ LastReturn r c b
 nobody_returns r c b none = inl (nobody_first r c b none)

@@ -12,6 +12,8 @@ pub mod Follows
 pub mod Leads
 pub mod Lives
 pub mod Mirrors
+pub mod Places
+pub mod PlacesExample
 pub mod ReturnExample
 pub mod ReturnLog
 pub mod ReturnPieces
@@ -21,3 +23,4 @@ pub mod Service
 pub mod Serving
 pub mod Takeover
 pub mod Ticks
+pub mod TrueReads

@@ -34,30 +34,32 @@ use Rattle.cub_changes.specs.Laws.{HasCause}
 use Rattle.cub_changes.specs.Outputs.{Output, output, ComesOf}
 use Rattle.cub_changes.specs.Outputs.Output.{KillSent}
 use Rattle.cub_changes.proofs.Causing.{have_causes}
-use Rattle.schedule_laws.specs.Lives.{In, Lives, AreLives, store_at, deed_of, is_tick_input, beat_at}
-use Rattle.schedule_laws.specs.Facts.{TickedAt, DidAt, ReachedAt}
-use Rattle.schedule_laws.proofs.Carrying.{steps_made}
-use Rattle.schedule_laws.proofs.Keeping.{held_stopped}
-use Rattle.schedule_laws.proofs.Members.{all_in}
-use Rattle.schedule_laws.proofs.Order.{beats_rise}
-use Rattle.stops_laws.specs.HoldsHere.{AreAllFormed}
-use Rattle.stops_laws.proofs.HoldLaws.{reached_at}
-use Rattle.stops_laws.proofs.Begun.{IsStop}
+use Rattle.proof_lives.specs.Lives.{Lives, AreLives, store_at, deed_of, beat_at}
+use Rattle.run_facts.specs.Events.{is_tick_input}
+use Rattle.lists.specs.Elements.{In}
+use Rattle.proof_lives.specs.Facts.{TickedAt, DidAt, ReachedAt}
+use Rattle.proof_lives.proofs.Carrying.{steps_made}
+use Rattle.proof_lives.proofs.Keeping.{held_stopped}
+use Rattle.lists.proofs.Each.{all_in}
+use Rattle.proof_lives.proofs.Order.{beats_rise}
+use Rattle.proof_lives.proofs.Inputs.{message_before}
+use Rattle.proof_lives.specs.HoldsHere.{AreAllFormed}
+use Rattle.proof_lives.proofs.HoldLaws.{reached_at}
+use Rattle.proof_lives.proofs.Begun.{IsStop}
 use Rattle.proof_schedule.specs.Facts.{ReachedBy}
 use Rattle.proof_pieces.specs.PieceFacts.{Arises, Uses}
 use Rattle.proof_pieces.specs.PieceLaws.{IsMirror, WasMirrored, MirrorSince}
 use Rattle.proof_service.specs.ServiceFacts.{ArisesBy}
 use Rattle.proof_service.specs.ServiceLaws.{WasReached}
-use Rattle.cub_facts.specs.Blocks.{KilledAt}
-use Rattle.cub_facts.specs.Carried.{Leads, CubsAreTold, TookInOrder}
-use Rattle.cub_facts.specs.Facts.{Beyond, facts_by}
-use Rattle.cub_facts.specs.Pieces.{piece, stamp_of as made_stamp, MirrorSentAt, MirroredAt, KillSentAt, AsksAt, ServesAt, pieces_by}
-use Rattle.cub_facts.proofs.NoReturns.{same_life}
+use Rattle.proof_facts.specs.Blocks.{KilledAt}
+use Rattle.proof_facts.specs.Carried.{Leads, CubsAreTold, TookInOrder}
+use Rattle.proof_lives.specs.FactsBy.{Beyond, facts_by}
+use Rattle.proof_facts.specs.Pieces.{piece, stamp_of as made_stamp, MirrorSentAt, MirroredAt, KillSentAt, AsksAt, ServesAt, pieces_by}
+use Rattle.proof_lives.proofs.NoReturns.{same_life}
 use Rattle.proof_splits.specs.PieceRecords.{IsSplitOff, Enters, CutsOff, StandsSince, KeepsPieces}
 use Rattle.proof_splits.proofs.PieceSets.{there_is_in}
 use Rattle.proof_splits.proofs.Standing.{keeps_pieces}
 use Rattle.proof_splits.proofs.MirrorStates.{of_split, one_way}
-use Rattle.proof_splits.proofs.Backups.{before_tick, nowhere}
 
 -- ---- the links between cubs
 
@@ -184,7 +186,7 @@ module _ (p : Params) (plan : IsPlan p) (lives : Lives) (are : AreLives p lives)
         cub = a.from;
         beat = a.sent.beat;
         reached = subst (λ (b : ℕ). ReachedAt p lives a.from v b) d.in_beat
-            (reached_at p plan lives are formed nowhere a.from d.at v d.small d.done stop);
+            (reached_at p lives a.from d.at v d.small d.done stop);
         earlier = a.sent.later;
       }
 
@@ -252,7 +254,7 @@ module _ (p : Params) (plan : IsPlan p) (lives : Lives) (are : AreLives p lives)
           let rise = beats_rise p (lives.count c) inputs (are c small) z.at g.at (omega arith) g.done in
           inl (record {
             beat = beat_at inputs z.at;
-            reached = reached_at p plan lives are formed nowhere c z.at t.instance.0 small (omega arith)
+            reached = reached_at p lives c z.at t.instance.0 small (omega arith)
                 (record {
                   stamp = z.stamp;
                   link = z.link;
@@ -312,7 +314,7 @@ module _ (p : Params) (plan : IsPlan p) (lives : Lives) (are : AreLives p lives)
   cut_before a c y i stamp link v s n x g d small low tick le same visit =
       let gb : beat_at (lives.input c) g.at ≡ g.beat = ap (λ (k : Input Msg). (stamp_of k).beat) g.is in
       let ib : beat_at (lives.input c) i ≡ stamp.beat = ap (λ (k : Input Msg). (stamp_of k).beat) tick in
-      let first = before_tick p lives are c g.at i stamp small low g.done tick (ap is_tick_input g.is) (omega arith) in
+      let first = message_before p lives are c i g.at small low g.done (ap is_tick_input tick) (ap is_tick_input g.is) (omega arith) in
       d.behind g.at first (subst (λ (k : Input Msg). CutsOff k x) (sym g.is) (same, visit))
 
   -- a mirror state that came on whatever link was sent by the cub as many steps before as its piece says

@@ -1,14 +1,11 @@
 -- The records that a cub splits: each is of this cub, and entered when its instance was held no longer.
-use Rattle.std.proofs.Common.{◌≡◌, ℕ, ◌+◌, ◌*◌, ◌<◌, ◌≤◌, nat_le, List, Bool, true, false, not, refl, sym, ap, subst, ◌∙◌, arith, ⊎_elim}
+use Rattle.std.proofs.Common.{◌≡◌, ℕ, ◌+◌, ◌*◌, ◌<◌, ◌≤◌, nat_le, List, Bool, true, not, refl, sym, ap, subst, ◌∙◌, arith, ⊎_elim}
 use Rattle.std.specs.Prelude.{◌&&◌}
-use Rattle.std.proofs.lemmas.Bool.{and_parts, cases_lt, leb-true}
+use Rattle.std.proofs.lemmas.Bool.{and_parts, leb-true}
 use Rattle.tiger_base.specs.declared.number.Stamp.{Stamp}
-use Rattle.tiger_base.specs.declared.tenancy.Kind.{Kind}
-use Rattle.tiger_base.specs.declared.tenancy.Kind.TheVariants.{Backup}
 use Rattle.tiger_base.specs.declared.tenancy.Rec.{Rec}
 use Rattle.tiger_base.specs.declared.tenancy.Tenancy.{Tenancy}
 use Rattle.tiger_base.specs.declared.message.Msg.{Msg}
-use Rattle.tiger_base.specs.declared.message.Msg.TheVariants as msg
 use Rattle.tiger_base.specs.Kinds.{is_own}
 use Rattle.tiger_base.specs.Limits.{most_reading}
 use Rattle.tiger_base.specs.Records.{backup_of}
@@ -21,77 +18,29 @@ use Rattle.node_kit.specs.Steps.Input.{Tick}
 use Rattle.cub_rules.specs.declared.store.Store.{Store}
 use Rattle.cub_rules.specs.State.{IsLineOf, IsRecordOf, IsStoreOf}
 use Rattle.cub_rules.specs.Ticks.{releasing, believing, must_split}
-use Rattle.cub_laws.proofs.Insertions.{inserting_right}
-use Rattle.cub_laws.proofs.Ticks.{releasing_right, believing_right}
-use Rattle.schedule_laws.specs.Lives.{In, Lives, AreLives, store_at, outs_at, is_tick_input, beat_at}
-use Rattle.schedule_laws.specs.Facts.{Outside, TickedAt, ReachedAt}
-use Rattle.schedule_laws.proofs.Lines.{kept_at}
-use Rattle.schedule_laws.proofs.Members.{all_in}
-use Rattle.schedule_laws.proofs.Moves.{taken_out}
-use Rattle.schedule_laws.proofs.Order.{beats_rise, not_behind}
-use Rattle.schedule_laws.proofs.StateLaws.{entered_at}
-use Rattle.schedule_laws.proofs.States.{from_tick}
-use Rattle.schedule_laws.proofs.TakingOver.{inserting_puts}
-use Rattle.schedule_laws.proofs.Ticking.{before_inserting, same_before, inserted_out}
-use Rattle.stops_laws.specs.HoldsHere.{AreAllFormed}
-use Rattle.stops_laws.proofs.Begun.{IsStop}
-use Rattle.stops_laws.proofs.HoldLaws.{released_by}
-use Rattle.stops_laws.proofs.Persist.{IsReleased}
-use Rattle.stops_held.proofs.Standing.{standing, taken_released}
-use Rattle.proof_schedule.specs.Facts.{Entered, IsReleasedBy, BelievedBy}
+use Rattle.cub_changes.proofs.Rules.{inserting_right, releasing_right, believing_right}
+use Rattle.proof_lives.specs.Lives.{Lives, AreLives, store_at, outs_at, beat_at}
+use Rattle.run_facts.specs.Events.{is_tick_input}
+use Rattle.lists.specs.Elements.{In}
+use Rattle.proof_lives.specs.Facts.{TickedAt}
+use Rattle.proof_lives.proofs.Lines.{kept_at}
+use Rattle.lists.proofs.Each.{all_in}
+use Rattle.proof_lives.proofs.Moves.{taken_out}
+use Rattle.proof_lives.proofs.Order.{beats_rise}
+use Rattle.proof_lives.proofs.Inputs.{entered_at}
+use Rattle.proof_lives.proofs.States.{from_tick}
+use Rattle.proof_lives.proofs.TakingOver.{inserting_puts}
+use Rattle.proof_lives.proofs.Ticking.{before_inserting, same_before, inserted_out}
+use Rattle.proof_lives.specs.HoldsHere.{AreAllFormed}
+use Rattle.proof_lives.proofs.Begun.{IsStop}
+use Rattle.proof_lives.proofs.Reaching.{stop_by_tick, let_go}
+use Rattle.proof_lives.proofs.Standing.{standing}
+use Rattle.proof_schedule.specs.Facts.{BelievedBy}
 use Rattle.proof_schedule.specs.RunLaws.{IsTick}
 use Rattle.proof_pieces.specs.PieceLaws.{IsSplit}
-use Rattle.cub_facts.specs.Facts.{Beyond, facts_by}
-use Rattle.cub_facts.specs.Pieces.{before_splitting, stamp_of as made_stamp, SplitAt}
+use Rattle.proof_lives.specs.FactsBy.{Beyond, facts_by}
+use Rattle.proof_facts.specs.Pieces.{before_splitting, stamp_of as made_stamp, SplitAt}
 use Rattle.proof_splits.proofs.Beliefs.{believed_by}
-
--- nothing is known of what is outside the cubs
-abbrev pub nowhere : Outside
-nowhere = record { Ordered = λ ask. ⊥; Gone = λ v b. ⊥; Died = λ c b. ⊥ }
-
--- ---- a deschedule that reached a cub, as an input of its life
-
--- a deschedule of an instance came by an input before one
-pub record StopBefore (p : Params) (lives : Lives) (c i v : ℕ) : Type 0 where
-  pub at : ℕ
-  pub before : at < i
-  pub stop : IsStop p c (lives.input c) at v
-
-module _ (p : Params) (lives : Lives) (are : AreLives p lives) where
-  -- what comes in the beat of a tick or before it comes before the tick
-  pub before_tick : (c j i : ℕ) (stamp : Stamp) → c < p.cubs → i < lives.count c → j < lives.count c
-      → lives.input c i ≡ Tick stamp
-      → is_tick_input (lives.input c j) ≡ false → beat_at (lives.input c) j ≤ beat_at (lives.input c) i → j < i
-  before_tick c j i stamp small low high tick message le =
-      let first = not_behind p (lives.count c) (lives.input c) (are c small) j i low high (ap is_tick_input tick) le in
-      ⊎_elim
-      (λ (l : j < i). l)
-      (λ (g : i ≤ j).
-      let e : j ≡ i = omega arith in
-      let z : true ≡ false = sym (ap is_tick_input tick)
-      ∙ (ap (λ (n : ℕ). is_tick_input (lives.input c n)) (sym e) ∙ message) in
-      absurd (cc))
-      (cases_lt j i)
-
-  -- a deschedule that reached a cub by the beat of a tick came before the tick
-  pub stop_before : (c i v y : ℕ) (stamp : Stamp) → i < lives.count c → lives.input c i ≡ Tick stamp
-      → ReachedAt p lives c v y → y ≤ beat_at (lives.input c) i
-      → StopBefore p lives c i v
-  stop_before c i v y stamp low tick g le =
-      let t = g.took in
-      let eb : beat_at (lives.input c) t.at ≡ y = ap (λ (k : Input Msg). (stamp_of k).beat) t.is in
-      record {
-        at = t.at;
-        before = before_tick c t.at i stamp t.small low t.done tick (ap is_tick_input t.is) (omega arith);
-        stop = record {
-          stamp = made_stamp y t.reading;
-          link = t.link;
-          instance = g.instance;
-          tag = g.tag;
-          is = t.is;
-          same = g.same;
-        };
-      }
 
 -- ---- what stands when a cub splits
 
@@ -150,22 +99,6 @@ module _ (p : Params) (plan : IsPlan p) (lives : Lives) (are : AreLives p lives)
       ((inserting_puts p c stamp plan small (before_inserting p c stamp h)).moves.back x there)
 
   module _ (beyond : Beyond) where
-    -- a hold that was over at a tick was over in true time
-    pub released : (c i j v b : ℕ) → c < p.cubs → i < lives.count c → beat_at (lives.input c) i ≤ b
-        → IsReleased p c (lives.input c) j i v
-        → IsReleasedBy p (facts_by p lives beyond) c v b
-    released c i j v b small low le k =
-        let r = released_by p plan lives are formed nowhere c i j v b small low le k in
-        record { beat = r.beat; reached = r.reached; over = r.over }
-
-    -- a record that was taken at an input entered there
-    entered : (c i : ℕ) (t : Tenancy) (n : ℕ) (kind : Kind) → c < p.cubs → i < lives.count c
-        → In (taken_out (record { tenancy = t; visit = n; kind = kind })) (outs_at p c (lives.input c) i)
-        → Entered (facts_by p lives beyond) c t n (beat_at (lives.input c) i)
-    entered c i t n kind small low k =
-        entered_at p plan lives are (λ d m at link s here done e. formed d here m at link (msg.ViewerState s) done e)
-        nowhere c i t n kind small low k
-
     in_time : (stamp : Stamp) (x : Line) → must_split p stamp x ≡ true
         → stamp.reading + p.read_lead + p.skew + p.delay * p.beat + p.beat ≤ due p x.rec.tenancy.slot.0 x.rec.visit
     unfolding must_split
@@ -216,14 +149,12 @@ module _ (p : Params) (plan : IsPlan p) (lives : Lives) (are : AreLives p lives)
             believed = subst (λ (x : ℕ). BelievedBy (facts_by p lives beyond) c x) eb
                 (believed_by p lives are beyond c i stamp small w.tick.done w.tick.is w.believes);
             beat = beat_at inputs d.at;
-            entered = entered c d.at t n Backup small low taken;
+            entered = entered_at p lives c d.at (backup_of t n) small low taken;
             by = omega arith;
             since = λ y g le life.
-                let s = stop_before p lives are c i t.instance.0 y stamp w.tick.done w.tick.is g (omega arith) in
+                let s = stop_by_tick p lives are c i t.instance.0 y w.tick.done (ap is_tick_input w.tick.is) g (omega arith) in
                 let stop = subst (λ (q : Rec). IsStop p c inputs s.at q.tenancy.instance.0) (sym w.there.1) s.stop in
                 let behind = d.behind s.at s.before stop in
-                released c d.at s.at t.instance.0 (beat_at inputs d.at) small low (omega arith)
-                (taken_released p c plan small (lives.count c) inputs (formed c small) d.at s.at (backup_of t n)
-                (omega arith) behind taken s.stop);
+                let_go p plan lives are formed beyond c d.at s.at (backup_of t n) small low behind taken s.stop;
             soon = omega arith;
           }

@@ -1,5 +1,5 @@
 -- Belief along a life: who believes wrote it down at a tick, and from then on believes whenever it splits.
-use Rattle.std.proofs.Common.{◌≡◌, ℕ, zero, suc, ◌<◌, ◌≤◌, List, [], ◌∷◌, true, refl, sym, ap, subst, ◌∙◌, arith, ⊎_elim, inl, inr, eq-or-lt_of_le}
+use Rattle.std.proofs.Common.{◌≡◌, ℕ, suc, ◌<◌, ◌≤◌, List, [], ◌∷◌, true, refl, sym, ap, subst, ◌∙◌, arith, ⊎_elim, inl, inr}
 use Rattle.tiger_base.specs.declared.number.Stamp.{Stamp}
 use Rattle.tiger_base.specs.declared.message.Msg.{Msg}
 use Rattle.slot_plan.specs.declared.params.Params.{Params}
@@ -12,25 +12,22 @@ use Rattle.cub_rules.specs.declared.store.Store.{Store}
 use Rattle.cub_rules.specs.Ticks.{number, ticking}
 use Rattle.cub_changes.specs.Changes.{Change, did}
 use Rattle.cub_changes.specs.Changes.Change.{Believe}
-use Rattle.cub_changes.specs.Causes as changes
+use Rattle.lists.specs.Elements.{In}
 use Rattle.cub_changes.specs.Causes.{Cause}
 use Rattle.cub_changes.specs.Causes.Stage.{OnService}
-use Rattle.cub_changes.specs.Laws.{IsTick, believed_out, KeepsBelief}
+use Rattle.cub_changes.specs.Laws.{believed_out, KeepsBelief}
 use Rattle.cub_changes.proofs.Beliefs.{keep_belief}
 use Rattle.cub_changes.proofs.Closed.{IsClosed}
 use Rattle.cub_changes.proofs.Ticks.{service_by}
-use Rattle.schedule_laws.specs.Lives.{In, Lives, AreLives, store_at, deed_of, is_tick_input, beat_at}
-use Rattle.schedule_laws.proofs.Order.{beats_rise, not_behind}
+use Rattle.proof_lives.specs.Lives.{Lives, AreLives, store_at, deed_of, outs_at, beat_at}
+use Rattle.run_facts.specs.Events.{is_tick_input}
+use Rattle.proof_lives.proofs.Order.{beats_rise, not_behind}
+use Rattle.proof_lives.proofs.Trails.{Since, came_since, held_until}
 use Rattle.proof_schedule.specs.Facts.{BelievedBy}
-use Rattle.cub_facts.specs.Facts.{Beyond, facts_by}
-use Rattle.cub_facts.specs.Pieces.{before_splitting}
+use Rattle.proof_lives.specs.FactsBy.{Beyond, facts_by}
+use Rattle.proof_facts.specs.Pieces.{before_splitting}
 
--- an element of a list is one, in the words of either crate
-in_same : {X : Type 0} (x : X) (xs : List X) → changes.In x xs → In x xs
-in_same x [] i = absurd i
-in_same x (y ∷ ys) i = ⊎_elim (λ e. inl e) (λ k. inr (in_same x ys k)) i
-
-same_in : {X : Type 0} (x : X) (xs : List X) → In x xs → changes.In x xs
+same_in : {X : Type 0} (x : X) (xs : List X) → In x xs → In x xs
 same_in x [] i = absurd i
 same_in x (y ∷ ys) i = ⊎_elim (λ e. inl e) (λ k. inr (same_in x ys k)) i
 
@@ -60,30 +57,24 @@ belief_of p c (Take stamp link m) h = keep_belief (record { params = p; cub = c;
 belief_of p c (Tick stamp) h = keep_belief (record { params = p; cub = c; store = h }) (Tick stamp)
 
 module _ (p : Params) (c : ℕ) (inputs : ℕ → Input Msg) where
-  -- a cub wrote before an input that it believes its predecessor dead
-  record WroteBefore (i : ℕ) : Type 0 where
-    at : ℕ
-    before : at < i
-    wrote : In (believed_out p c) (deed_of p c (inputs at) (store_at p c inputs at)).outs
+  abbrev Believes : ℕ → Type 0
+  Believes i = (store_at p c inputs i).believes ≡ true
 
-  wrote_before : (i : ℕ) → (store_at p c inputs i).believes ≡ true → WroteBefore i
-  wrote_before zero e = absurd (cc)
-  wrote_before (suc i) e = ⊎_elim
-      (λ k. let w = wrote_before i k in let b = w.before in record { at = w.at; before = omega arith; wrote = w.wrote })
-      (λ k. record { at = i; before = omega arith; wrote = in_same (believed_out p c) _ k })
-      ((belief_of p c (inputs i) (store_at p c inputs i)).written e)
+  -- a cub that believes its predecessor dead wrote so, and believes it since
+  wrote_before : (i : ℕ) → Believes i → Since Believes (λ k. In (believed_out p c) (outs_at p c inputs k)) i
+  wrote_before i e =
+      came_since Believes (λ k. In (believed_out p c) (outs_at p c inputs k)) (λ e. absurd (cc)) i
+      (λ k _ e. ⊎_elim
+      (λ q. inl q)
+      (λ q. inr q)
+      ((belief_of p c (inputs k) (store_at p c inputs k)).written e))
+      e
 
-  believes_on : (j i : ℕ) → j ≤ i → (store_at p c inputs j).believes ≡ true → (store_at p c inputs i).believes ≡ true
-  believes_on j zero le e = subst (λ (n : ℕ). (store_at p c inputs n).believes ≡ true)
-      (let z : j ≡ 0 = omega arith in z) e
-  believes_on j (suc i) le e = ⊎_elim
-      (λ (q : j ≡ suc i). subst (λ (n : ℕ). (store_at p c inputs n).believes ≡ true) q e)
-      (λ (l : j < suc i). (belief_of p c (inputs i) (store_at p c inputs i)).stays (believes_on j i (omega arith) e))
-      (eq-or-lt_of_le le)
-
-tick_input : (i : Input Msg) → IsTick i → is_tick_input i ≡ true
-tick_input (Take stamp link m) t = absurd t
-tick_input (Tick stamp) t = refl
+  believes_on : (j i : ℕ) → j ≤ i → Believes j → Believes i
+  believes_on j i le e = ⊎_elim
+      (λ q. q)
+      (λ u. absurd u.may)
+      (held_until Believes (λ k. ⊥) i j le (λ k _ _ q. inl ((belief_of p c (inputs k) (store_at p c inputs k)).stays q)) e)
 
 module _ (p : Params) (lives : Lives) (are : AreLives p lives) (beyond : Beyond) where
   -- who believes when it splits has written it down by that beat
@@ -102,7 +93,7 @@ module _ (p : Params) (lives : Lives) (are : AreLives p lives) (beyond : Beyond)
         believed = record {
           cub = number (predecessor p c);
           did =
-              record { small = small; at = w.at; done = omega arith; in_beat = refl; did = w.wrote };
+              record { small = small; at = w.at; done = omega arith; in_beat = refl; did = w.came };
         };
         by = beats_rise p (lives.count c) inputs (are c small) w.at i (omega arith) low;
       }

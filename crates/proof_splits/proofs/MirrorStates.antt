@@ -1,6 +1,5 @@
 -- Mirror states go out at a split alone, one for each piece behind the first, to as many cubs ahead.
-use Rattle.std.proofs.Common.{◌≡◌, ℕ, zero, suc, ◌+◌, ◌-◌, ◌*◌, ◌<◌, ◌≤◌, max, List, [], ◌++◌, map, drop, true, refl, sym, ap, subst, ◌∙◌, arith, ⊎_elim, inl, inr, eq-or-lt_of_le}
-use Rattle.std.specs.Prelude.{◌==◌, ◌%◌}
+use Rattle.std.proofs.Common.{◌≡◌, ℕ, zero, suc, ◌+◌, ◌-◌, ◌*◌, ◌<◌, ◌≤◌, max, List, [], map, drop, true, refl, sym, ap, subst, ◌∙◌, arith, ⊎_elim, inl, inr, eq-or-lt_of_le}
 use Rattle.std.specs.List.{flat_map, range_with_len, AllByRecursion}
 use Rattle.tiger_base.specs.declared.number.LinkNo.{LinkNo}
 use Rattle.tiger_base.specs.declared.number.Stamp.{Stamp}
@@ -15,41 +14,33 @@ use Rattle.partial_view.specs.declared.line.Line.{Line}
 use Rattle.mirror_schedule.specs.Pieces.{pieces_of}
 use Rattle.node_kit.specs.declared.outbox.Out.{Out}
 use Rattle.node_kit.specs.declared.outbox.Out.TheVariants as out
-use Rattle.node_kit.specs.Deeds.{nothing}
+use Rattle.node_kit.specs.Deeds.{nothing, then_do}
 use Rattle.node_kit.specs.Steps.{Deed, Input, stamp_of}
 use Rattle.node_kit.specs.Steps.Input.{Take, Tick}
 use Rattle.node_kit.specs.Ways.{way_ahead}
 use Rattle.cub_rules.specs.declared.store.Store.{Store}
 use Rattle.cub_rules.specs.Records.{with_piece_record}
 use Rattle.cub_rules.specs.Messages.{taking}
-use Rattle.cub_rules.specs.Ticks.{releasing, believing, inserting, must_split, sent_ahead, split_outs, first_pieces, with_each, with_split_lines, splitting, forwarding, reading_blocks, reading_pieces, reading, serving_blocks, dropping_backups, serving_pieces, serving, beating, ticking}
+use Rattle.cub_rules.specs.Ticks.{releasing, believing, inserting, must_split, sent_ahead, split_outs, first_pieces, with_each, with_split_lines, splitting, forwarding, ticking}
 use Rattle.cub_changes.specs.Changes.{Change, did}
-use Rattle.cub_changes.specs.Changes.Change.{SplitVisits, Forward, AskBlocks, AskPieces, ServeBlocks, DropBackups, ServePieces}
-use Rattle.cub_changes.specs.Causes.{Cause}
-use Rattle.cub_changes.specs.Causes.Stage.{OnMessage, OnDeadman, OnInsertion}
+use Rattle.cub_changes.specs.Changes.Change.{SplitVisits, Forward}
+use Rattle.cub_changes.specs.Causes.Stage.{OnMessage, OnRelease, OnDeadman, OnInsertion}
+use Rattle.cub_changes.specs.Causes.{Stage, IsService, Cause}
 use Rattle.cub_changes.specs.Outputs.{Output, output, ComesOf}
 use Rattle.cub_changes.specs.Outputs.Output.{MirrorStateSent}
-use Rattle.cub_changes.proofs.Fits.{IsOfInsertion, IsOfDeadman, fits}
-use Rattle.cub_changes.proofs.Members.{all_append}
+use Rattle.cub_changes.proofs.Closed.{OfEach, then_by}
 use Rattle.cub_changes.proofs.Messages.{taking_by}
 use Rattle.cub_changes.proofs.Outputs.{forms_of, Puts, puts_closed}
 use Rattle.cub_changes.proofs.Puts.{inserting_by}
-use Rattle.cub_changes.proofs.Ticks.{believing_by}
-use Rattle.schedule_laws.specs.Lives.{In, Lives, store_at, deed_of}
-use Rattle.schedule_laws.specs.Facts.{DidAt}
-use Rattle.schedule_laws.proofs.Members.{chosen, in_left, in_right, in_cases, in_map, from_map, in_flat_map, from_flat_map, all_in}
-use Rattle.cub_facts.specs.Pieces.{before_splitting, piece, stamp_of as made_stamp, SplitAt, MirrorSentAt}
-use Rattle.stops_laws.proofs.HoldLaws.{no_both}
+use Rattle.cub_changes.proofs.Ticks.{end_steps, IsOfEnd, splitting_from, forwarding_from, end_from, releasing_by, believing_by, tick_chain}
+use Rattle.proof_lives.specs.Lives.{Lives, store_at, deed_of}
+use Rattle.lists.specs.Elements.{In}
+use Rattle.proof_lives.specs.Facts.{DidAt}
+use Rattle.lists.proofs.Elements.{chosen, in_left, in_right, in_map, from_map, in_flat_map}
+use Rattle.lists.proofs.Each.{all_in}
+use Rattle.proof_facts.specs.Pieces.{before_splitting, piece, stamp_of as made_stamp, SplitAt, MirrorSentAt}
+use Rattle.proof_lives.proofs.HoldLaws.{no_both}
 use Rattle.proof_splits.proofs.PieceMoves.{backup_line}
-
--- no mirror state
-abbrev IsNoMirror : Out Msg → Type 0
-IsNoMirror (out.Send link (msg.MirrorState x)) = ⊥
-IsNoMirror other = Unit {0}
-
-no_mirror : (link : LinkNo) (x : PieceState) (outs : List (Out Msg)) → AllByRecursion IsNoMirror outs
-    → In (out.Send link (msg.MirrorState x)) outs → ⊥
-no_mirror link x outs all i = all_in IsNoMirror (out.Send link (msg.MirrorState x)) outs all i
 
 -- ---- the pieces of a record behind the first
 
@@ -119,48 +110,34 @@ record IsSentAhead (p : Params) (c : ℕ) (stamp : Stamp) (link : LinkNo) (x : P
   is : x ≡ piece line.rec.tenancy line.rec.visit number
   way : link ≡ way_ahead p c (number - 1)
 
-splitting_sends : (p : Params) (c : ℕ) (stamp : Stamp) (h : Store) (link : LinkNo) (x : PieceState)
-    → In (out.Send link (msg.MirrorState x)) (splitting p c stamp h).outs → IsSentAhead p c stamp link x h
-unfolding splitting
-splitting_sends p c stamp h link x i =
-    let o : Out Msg = out.Send link (msg.MirrorState x) in
-    chosen (λ (d : Deed Msg Store). In o d.outs → IsSentAhead p c stamp link x h) h.believes
-    (record {
-      outs = flat_map (split_outs p c stamp) h.view.lines;
-      state = with_each with_piece_record
-          (flat_map (first_pieces p stamp) h.view.lines) (with_split_lines p stamp h);
-    })
-    (nothing h)
-    (λ b j. let f = from_flat_map (split_outs p c stamp) o h.view.lines j in of_line b f.0 f.1 f.2)
-    (λ _ j. absurd j)
-    i
+-- if an output is a mirror state, this holds of it
+abbrev OfMirror : (LinkNo → PieceState → Type 0) → Out Msg → Type 0
+OfMirror X (out.Send link (msg.MirrorState x)) = X link x
+OfMirror X other = Unit {0}
+
+splitting_sent : (p : Params) (c : ℕ) (stamp : Stamp) (h : Store)
+    → AllByRecursion (OfMirror (λ link x. IsSentAhead p c stamp link x h)) (splitting p c stamp h).outs
+splitting_sent p c stamp h =
+    splitting_from (Puts p c stamp Q) (puts_closed p c stamp Q) p c stamp h (λ b. forms_of p c stamp Q SplitVisits h (form b))
+    (λ _ x q. tt)
   where
-    of_line : h.believes ≡ true → (y : Line) → In y h.view.lines
-        → In (out.Send link (msg.MirrorState x)) (split_outs p c stamp y) → IsSentAhead p c stamp link x h
-    of_line b y there j =
-        chosen (λ (ls : List (Out Msg)). In (out.Send link (msg.MirrorState x)) ls → IsSentAhead p c stamp link x h)
-        (must_split p stamp y)
-        (map (sent_ahead p c) (drop 1 (pieces_of p y.rec))) []
-        (λ must q.
-        let f = from_map (sent_ahead p c) (out.Send link (msg.MirrorState x)) (drop 1 (pieces_of p y.rec)) q in
-        let e : out.Send link (msg.MirrorState x) ≡ out.Send (way_ahead p c (f.0.piece - 1))
-        (msg.MirrorState f.0) = f.2 in
-        let way : link ≡ way_ahead p c (f.0.piece - 1) = cc in
-        let same : x ≡ f.0 = cc in
-        let l = later_piece p y.rec f.0 f.1 in
-        record {
+    Q : Out Msg → Type 0
+    Q = OfMirror (λ link x. IsSentAhead p c stamp link x h)
+
+    form : h.believes ≡ true → (o : Output) → ComesOf p c stamp SplitVisits h o → Q (output p c stamp o)
+    form b (MirrorStateSent x) comes =
+        let l = later_piece p comes.0.rec x comes.3 in record {
           believes = b;
-          line = y;
-          there = there;
-          must = must;
+          line = comes.0;
+          there = comes.2.0;
+          must = comes.2.1;
           number = l.number;
           low = l.low;
           high = l.high;
-          is = same ∙ l.is;
-          way = way ∙ ap (λ (z : PieceState). way_ahead p c (z.piece - 1)) l.is;
-        })
-        (λ _ q. absurd q)
-        j
+          is = l.is;
+          way = ap (λ (z : PieceState). way_ahead p c (z.piece - 1)) l.is;
+        }
+    form b other comes = tt
 
 splitting_sends_all : (p : Params) (c : ℕ) (stamp : Stamp) (h : Store) (y : Line) (k : ℕ) → h.believes ≡ true
     → In y h.view.lines
@@ -183,94 +160,51 @@ splitting_sends_all p c stamp h y k b there must low high =
     (nothing h)
     (λ _. in_flat_map (split_outs p c stamp) (sent_ahead p c x) y h.view.lines there here) (λ f. absurd (no_both b f))
 
-module _ (p : Params) (c : ℕ) (stamp : Stamp) where
-  form : (x : Change) (h : Store) (o : Output) → (x ≡ SplitVisits → ⊥) → ComesOf p c stamp x h o
-      → IsNoMirror (output p c stamp o)
-  form x h (MirrorStateSent y) apart comes = apart comes.1
-  form x h other apart comes = tt
+module _ (p : Params) (c : ℕ) (stamp : Stamp) (X : LinkNo → PieceState → Type 0) where
+  -- only the change that splits visits sends mirror states
+  none : (x : Change) (h : Store) → (x ≡ SplitVisits → ⊥) → Puts p c stamp (OfMirror X) h (did p c stamp x h)
+  none x h apart = forms_of p c stamp (OfMirror X) x h form
+    where
+      form : (o : Output) → ComesOf p c stamp x h o → OfMirror X (output p c stamp o)
+      form (MirrorStateSent y) comes = absurd (apart comes.1)
+      form other comes = tt
 
-  none : (x : Change) (h : Store) → (x ≡ SplitVisits → ⊥) → AllByRecursion IsNoMirror (did p c stamp x h).outs
-  none x h apart = forms_of p c stamp IsNoMirror x h (λ o comes. form x h o apart comes)
+  unsplit : (g : Stage) (from : Store) → (IsService g → ⊥) → OfEach (Puts p c stamp (OfMirror X)) p c stamp g from
+  unsplit g from early x h cause = none x h (λ e. early (subst (λ y. Cause p c stamp g from y h) e cause).0)
 
-  abbrev Quiet : Store → Deed Msg Store → Type 0
-  Quiet = Puts p c stamp IsNoMirror
+  taking_sent : (link : LinkNo) (m : Msg) (h : Store) → Puts p c stamp (OfMirror X) h (taking p c stamp link m h)
+  taking_sent link m h =
+      taking_by (Puts p c stamp (OfMirror X)) (puts_closed p c stamp (OfMirror X)) p c stamp link m h
+      (unsplit (OnMessage link m) h (λ s. s))
 
-  taking_none : (link : LinkNo) (m : Msg) (h : Store) → Quiet h (taking p c stamp link m h)
-  taking_none link m h =
-      taking_by Quiet (puts_closed p c stamp IsNoMirror) p c stamp link m h
-      (λ x q cause. none x q (λ e. (subst (λ y. Cause p c stamp (OnMessage link m) h y q) e cause).0))
-
-  releasing_none : (h : Store) → Quiet h (releasing p stamp h)
-  unfolding releasing
-  releasing_none h = tt
-
-  believing_none : (h : Store) → Quiet h (believing p c stamp h)
-  believing_none h =
-      believing_by Quiet (puts_closed p c stamp IsNoMirror) p c stamp h
-      (λ x q cause. none x q (λ e. subst IsOfDeadman e (fits p c stamp h OnDeadman x q cause)))
-
-  inserting_none : (h : Store) → Quiet h (inserting p c stamp h)
-  inserting_none h =
-      inserting_by Quiet (puts_closed p c stamp IsNoMirror) p c stamp h
-      (λ x q cause. none x q (λ e. subst IsOfInsertion e (fits p c stamp h OnInsertion x q cause)))
-
-  forwarding_none : (h : Store) → Quiet h (forwarding p c stamp h)
-  unfolding forwarding
-  forwarding_none h = none Forward h (λ e. absurd (cc))
-
-  reading_none : (h : Store) → Quiet h (reading p stamp h)
-  unfolding reading reading_blocks reading_pieces
-  reading_none h =
-      all_append IsNoMirror (reading_blocks p stamp h).outs
-      (reading_pieces p stamp (reading_blocks p stamp h).state).outs (none AskBlocks h (λ e. absurd (cc)))
-      (none AskPieces (reading_blocks p stamp h).state (λ e. absurd (cc)))
-
-  serving_none : (h : Store) → Quiet h (serving p c stamp h)
-  unfolding serving serving_blocks dropping_backups serving_pieces
-  serving_none h =
-      let h1 : Store = (serving_blocks p c stamp h).state in
-      let h2 : Store = (dropping_backups p stamp h1).state in
-      all_append IsNoMirror (serving_blocks p c stamp h).outs
-      ((dropping_backups p stamp h1).outs ++ (serving_pieces p c stamp h2).outs)
-      (none ServeBlocks h (λ e. absurd (cc)))
-      (all_append IsNoMirror (dropping_backups p stamp h1).outs (serving_pieces p c stamp h2).outs
-      (none DropBackups h1 (λ e. absurd (cc)))
-      (none ServePieces h2 (λ e. absurd (cc))))
-
-  beating_none : (h : Store) → Quiet h (beating p c stamp h)
-  unfolding beating
-  beating_none h = chosen (λ (d : Deed Msg Store). Quiet h d) (stamp.beat % p.heart == 0) _ (nothing h) (λ _. (tt, tt))
-      (λ _. tt)
-
-  -- of all that a tick puts out mirror states come of the splitting
-  tick_sends : (h : Store) (link : LinkNo) (x : PieceState)
-      → In (out.Send link (msg.MirrorState x)) (ticking p c stamp h).outs
-      → IsSentAhead p c stamp link x (before_splitting p c stamp h)
-  unfolding ticking
-  tick_sends h link x i =
-      let o : Out Msg = out.Send link (msg.MirrorState x) in
+  -- what holds of each mirror state of the splitting holds of each of the tick
+  ticking_sent : (h : Store) → AllByRecursion (OfMirror X) (splitting p c stamp (before_splitting p c stamp h)).outs
+      → Puts p c stamp (OfMirror X) h (ticking p c stamp h)
+  ticking_sent h splits =
+      let P : Store → Deed Msg Store → Type 0 = Puts p c stamp (OfMirror X) in
+      let closed = puts_closed p c stamp (OfMirror X) in
       let h1 : Store = (releasing p stamp h).state in
       let h2 : Store = (believing p c stamp h1).state in
       let h3 : Store = before_splitting p c stamp h in
       let h4 : Store = (splitting p c stamp h3).state in
       let h5 : Store = (forwarding p c stamp h4).state in
-      let h6 : Store = (reading p stamp h5).state in
-      let h7 : Store = (serving p c stamp h6).state in
-      ⊎_elim (λ q. absurd (no_mirror link x _ (releasing_none h) q))
-      (λ q. ⊎_elim (λ q. absurd (no_mirror link x _ (believing_none h1) q))
-      (λ q. ⊎_elim (λ q. absurd (no_mirror link x _ (inserting_none h2) q))
-      (λ q. ⊎_elim (λ q. splitting_sends p c stamp h3 link x q)
-      (λ q. ⊎_elim (λ q. absurd (no_mirror link x _ (forwarding_none h4) q))
-      (λ q. ⊎_elim (λ q. absurd (no_mirror link x _ (reading_none h5) q))
-      (λ q. ⊎_elim (λ q. absurd (no_mirror link x _ (serving_none h6) q))
-      (λ q. absurd (no_mirror link x _ (beating_none h7) q))
-      (in_cases o (serving p c stamp h6).outs (beating p c stamp h7).outs q))
-      (in_cases o (reading p stamp h5).outs _ q))
-      (in_cases o (forwarding p c stamp h4).outs _ q))
-      (in_cases o (splitting p c stamp h3).outs _ q))
-      (in_cases o (inserting p c stamp h2).outs _ q))
-      (in_cases o (believing p c stamp h1).outs _ q))
-      (in_cases o (releasing p stamp h).outs _ i)
+      tick_chain P closed p c stamp h (releasing_by P closed p c stamp h (unsplit OnRelease h (λ s. s)))
+      (believing_by P closed p c stamp h1 (unsplit OnDeadman h1 (λ s. s)))
+      (inserting_by P closed p c stamp h2 (unsplit OnInsertion h2 (λ s. s)))
+      (then_by P closed (splitting p c stamp) (then_do (forwarding p c stamp) (end_steps p c stamp)) h3 splits
+      (then_by P closed (forwarding p c stamp) (end_steps p c stamp) h4
+      (forwarding_from P closed p c stamp h4 (none Forward h4 (λ e. absurd (cc))))
+      (end_from P closed p c stamp h5 (λ x of q. none x q (λ e. subst IsOfEnd e of)))))
+
+module _ (p : Params) (c : ℕ) (stamp : Stamp) where
+  -- of all that a tick puts out mirror states come of the splitting
+  tick_sends : (h : Store) (link : LinkNo) (x : PieceState)
+      → In (out.Send link (msg.MirrorState x)) (ticking p c stamp h).outs
+      → IsSentAhead p c stamp link x (before_splitting p c stamp h)
+  tick_sends h link x i =
+      let X : LinkNo → PieceState → Type 0 = λ way y. IsSentAhead p c stamp way y (before_splitting p c stamp h) in
+      all_in (OfMirror X) (out.Send link (msg.MirrorState x)) (ticking p c stamp h).outs
+      (ticking_sent p c stamp X h (splitting_sent p c stamp (before_splitting p c stamp h))) i
 
   from_splitting : (h : Store) (o : Out Msg) → In o (splitting p c stamp (before_splitting p c stamp h)).outs
       → In o (ticking p c stamp h).outs
@@ -297,8 +231,9 @@ module _ (p : Params) (lives : Lives) (a : ℕ) where
       → (link : LinkNo) (x : PieceState)
       → In (out.Send link (msg.MirrorState x)) (deed_of p a k (store_at p a (lives.input a) i)).outs
       → IsOfSplit p lives a link x (stamp_of k).beat
-  of_input i low small (Take stamp way m) e link x w = absurd
-      (no_mirror link x _ (taking_none p a stamp way m (store_at p a (lives.input a) i)) w)
+  of_input i low small (Take stamp way m) e link x w =
+      absurd (all_in (OfMirror (λ l y. ⊥)) (out.Send link (msg.MirrorState x)) _
+      (taking_sent p a stamp (λ l y. ⊥) way m (store_at p a (lives.input a) i)) w)
   of_input i low small (Tick stamp) e link x w =
       let s = tick_sends p a stamp (store_at p a (lives.input a) i) link x w in
       let number : x.piece ≡ s.number = ap (λ (z : PieceState). z.piece) s.is in

@@ -36,11 +36,12 @@ use Rattle.cub_changes.proofs.Fits.{IsOfInsertion, IsOfDeadman, fits}
 use Rattle.cub_changes.proofs.Messages.{taking_by}
 use Rattle.cub_changes.proofs.Puts.{inserting_by}
 use Rattle.cub_changes.proofs.Ticks.{believing_by}
-use Rattle.schedule_laws.specs.Lives.{In, deed_of}
-use Rattle.schedule_laws.proofs.Members.{chosen, from_flat_map, in_flat_map, from_filter}
-use Rattle.cub_facts.specs.Pieces.{before_splitting, before_reading, before_serving, piece}
+use Rattle.proof_lives.specs.Lives.{deed_of}
+use Rattle.lists.specs.Elements.{In}
+use Rattle.lists.proofs.Elements.{chosen, from_flat_map, in_flat_map, from_filter}
+use Rattle.proof_facts.specs.Pieces.{before_splitting, before_reading, before_serving, piece}
 use Rattle.proof_splits.specs.PieceRecords.{IsMirrored, IsSplitOff, Enters, CutsOff, MayGo, IsAsked}
-use Rattle.stops_laws.proofs.HoldLaws.{no_both}
+use Rattle.proof_lives.proofs.HoldLaws.{no_both}
 use Rattle.cub_changes.proofs.Beliefs.{not_true}
 use Rattle.proof_splits.proofs.PieceSets.{Moves, moves_same, moves_then, moves_more, moves_fewer, moves_asked, moves_with_each, with_each_there}
 

@@ -11,9 +11,9 @@ use Rattle.mirror_schedule.proofs.Ranks.{pieces_same}
 use Rattle.cub_rules.specs.declared.store.Store.{Store}
 use Rattle.cub_rules.specs.Records.{pieces_with, with_piece_record}
 use Rattle.cub_rules.specs.Ticks.{with_each}
-use Rattle.schedule_laws.specs.Lives.{In}
-use Rattle.stops_laws.proofs.HoldLaws.{no_both}
-use Rattle.schedule_laws.proofs.Members.{chosen, in_filter, from_filter}
+use Rattle.lists.specs.Elements.{In}
+use Rattle.proof_lives.proofs.HoldLaws.{no_both}
+use Rattle.lists.proofs.Elements.{chosen, in_filter, from_filter}
 
 -- ---- a piece and its numbers
 

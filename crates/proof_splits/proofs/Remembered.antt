@@ -1,5 +1,5 @@
 -- The splits that a cub remembers: each stays until a deschedule comes, which kills it, or a tick at which it is over.
-use Rattle.std.proofs.Common.{◌≡◌, ℕ, zero, suc, ◌+◌, ◌-◌, ◌<◌, ◌≤◌, List, [], ◌∷◌, ◌++◌, filter, Bool, true, false, cond, not, Option, refl, sym, ap, subst, ◌∙◌, arith, ⊎_elim, inl, inr, eq-or-lt_of_le}
+use Rattle.std.proofs.Common.{◌≡◌, ℕ, suc, ◌+◌, ◌-◌, ◌<◌, ◌≤◌, List, [], ◌∷◌, ◌++◌, filter, Bool, true, false, cond, not, Option, refl, sym, ap, subst, ◌∙◌, arith, ⊎_elim, inl, inr}
 use Rattle.std.specs.Prelude.{◌⊎◌, ◌==◌}
 use Rattle.std.specs.List.{flat_map, range_with_len}
 use Rattle.std.proofs.lemmas.Bool.{cases_Bool, and_parts, eq-eqb, eqb-true, leb-true}
@@ -38,12 +38,14 @@ use Rattle.cub_changes.specs.Causes.Stage.{OnMessage, OnRelease, OnDeadman, OnIn
 use Rattle.cub_changes.proofs.Closed.{IsClosed}
 use Rattle.cub_changes.proofs.Messages.{taking_by}
 use Rattle.cub_changes.proofs.Ticks.{IsOfTick, ticking_by}
-use Rattle.schedule_laws.specs.Lives.{In, Lives, store_at, deed_of, outs_at}
-use Rattle.schedule_laws.proofs.Members.{chosen, in_left, in_right, in_map, in_filter, from_filter, in_flat_map}
-use Rattle.stops_laws.specs.HoldsHere.{IsFormed}
-use Rattle.stops_laws.proofs.Begun.{IsStop}
-use Rattle.cub_facts.specs.Pieces.{before_splitting, stamp_of, kept_at, SplitAt}
-use Rattle.stops_laws.proofs.HoldLaws.{no_both}
+use Rattle.proof_lives.specs.Lives.{Lives, store_at, deed_of, outs_at}
+use Rattle.lists.specs.Elements.{In}
+use Rattle.lists.proofs.Elements.{chosen, in_left, in_right, in_map, in_filter, from_filter, in_flat_map}
+use Rattle.proof_lives.proofs.Trails.{held_until}
+use Rattle.proof_lives.specs.HoldsHere.{IsFormed}
+use Rattle.proof_lives.proofs.Begun.{IsStop}
+use Rattle.proof_facts.specs.Pieces.{before_splitting, stamp_of, kept_at, SplitAt}
+use Rattle.proof_lives.proofs.HoldLaws.{no_both}
 use Rattle.proof_splits.proofs.PieceSets.{one_more_stays, one_more_there}
 use Rattle.proof_splits.proofs.PieceMoves.{beating_same}
 use Rattle.proof_splits.proofs.MirrorStates.{in_range}
@@ -293,40 +295,26 @@ module _ (p : Params) (c count : ℕ) (inputs : ℕ → Input Msg) (formed : IsF
     pub is : inputs at ≡ Tick stamp
     pub past : due p s.1.0 s.2 + p.play ≤ stamp.reading
 
-  one_step : (i k : ℕ) → i < k → (q : Input Msg) → inputs k ≡ q
-      → Forgets p c q s (deed_of p c q (store_at p c inputs k)).outs
-      → WasKilled i k ⊎ WasForgotten (suc k)
-  one_step i k l (Take stamp link (msg.Deschedule v tag)) e f = inl (record {
+  lost_at : (i k j : ℕ) → i < k → k < j → (q : Input Msg) → inputs k ≡ q
+      → Forgets p c q s (deed_of p c q (store_at p c inputs k)).outs → WasKilled i j ⊎ WasForgotten j
+  lost_at i k j l low (Take stamp link (msg.Deschedule v tag)) e f = inl (record {
     at = k;
     after = l;
     by = omega arith;
     stop = record { stamp = stamp; link = link; instance = v; tag = tag; is = e; same = f.0 };
     kills = subst (λ (x : Input Msg). AreKilled p c s (deed_of p c x (store_at p c inputs k)).outs) (sym e) f.1;
   })
-  one_step i k l (Take stamp link other) e f = absurd f
-  one_step i k l (Tick stamp) e f = inr (record { at = k; before = omega arith; stamp = stamp; is = e; past = f })
-
-  wider : {i k : ℕ} → WasKilled i k ⊎ WasForgotten (suc k) → WasKilled i (suc k) ⊎ WasForgotten (suc k)
-  wider w = ⊎_elim (λ o. let by = o.by in inl
-      (record { at = o.at; after = o.after; by = omega arith; stop = o.stop; kills = o.kills })) (λ o. inr o) w
+  lost_at i k j l low (Take stamp link other) e f = absurd f
+  lost_at i k j l low (Tick stamp) e f = inr (record { at = k; before = low; stamp = stamp; is = e; past = f })
 
   -- from a split on it is remembered, until one of the two
   remembered : (i j : ℕ) → In s (store_at p c inputs (suc i)).splits → i < j → In s (store_at p c inputs j).splits
       ⊎ (WasKilled i j ⊎ WasForgotten j)
-  remembered i zero w l = absurd (omega arith)
-  remembered i (suc j) w l = ⊎_elim
-      (λ (e : i ≡ j). inl (subst (λ (n : ℕ). In s (store_at p c inputs (suc n)).splits) e w))
-      (λ (q : i < j). ⊎_elim
-      (λ k. ⊎_elim (λ a. inl a) (λ a. inr (wider (one_step i j q (inputs j) refl a)))
-      (deed_remembers p c s (inputs j) (store_at p c inputs j) k))
-      (λ k. ⊎_elim
-      (λ o. let by = o.by in inr (inl
-      (record { at = o.at; after = o.after; by = omega arith; stop = o.stop; kills = o.kills })))
-      (λ o. let b = o.before in inr (inr
-      (record { at = o.at; before = omega arith; stamp = o.stamp; is = o.is; past = o.past })))
-      k)
-      (remembered i j w q))
-      (eq-or-lt_of_le (let z : i ≤ j = omega arith in z))
+  remembered i j w l = ⊎_elim
+      (λ k. inl k)
+      (λ u. inr (lost_at i u.at j u.from u.before (inputs u.at) refl u.may))
+      (held_until (λ k. In s (store_at p c inputs k).splits) (λ k. Forgets p c (inputs k) s (outs_at p c inputs k)) j (suc i) l
+      (λ k _ _ h. deed_remembers p c s (inputs k) (store_at p c inputs k) h) w)
 
   -- so when a deschedule came its kills had gone out, or its time was over
   pub killed_by : (i j : ℕ) → j < count → In s (store_at p c inputs (suc i)).splits → i < j → IsStop p c inputs j s.0.0

@@ -8,22 +8,23 @@ use Rattle.slot_plan.specs.declared.params.Params.{Params}
 use Rattle.slot_plan.specs.Conditions.{IsPlan}
 use Rattle.disk_core.specs.State.{DiskState}
 use Rattle.node_kit.specs.Steps.{Input, stamp_of}
-use Rattle.schedule_laws.specs.Lives.{Lives, AreLives, is_tick_input, beat_at}
-use Rattle.schedule_laws.specs.Facts.{TickedAt, ReachedAt}
-use Rattle.schedule_laws.proofs.Order.{beats_rise, behind}
-use Rattle.stops_laws.specs.HoldsHere.{AreAllFormed}
-use Rattle.stops_laws.proofs.HoldLaws.{reached_at}
-use Rattle.stops_laws.proofs.Begun.{IsStop}
+use Rattle.proof_lives.specs.Lives.{Lives, AreLives, beat_at}
+use Rattle.run_facts.specs.Events.{is_tick_input}
+use Rattle.proof_lives.specs.Facts.{TickedAt, ReachedAt}
+use Rattle.proof_lives.proofs.Order.{beats_rise, behind}
+use Rattle.proof_lives.specs.HoldsHere.{AreAllFormed}
+use Rattle.proof_lives.proofs.HoldLaws.{reached_at}
+use Rattle.proof_lives.proofs.Begun.{IsStop}
 use Rattle.proof_pieces.specs.PieceLaws.{IsKilled, IsForgotten}
-use Rattle.cub_facts.specs.Blocks.{blocks_by}
-use Rattle.cub_facts.specs.Carried.{CubsAreTold}
-use Rattle.cub_facts.specs.Facts.{Beyond, facts_by, cubs_alone}
-use Rattle.cub_facts.specs.Laws.{SplitLaws}
-use Rattle.cub_facts.specs.Pieces.{stamp_of as made_stamp, SplitAt, pieces_by}
+use Rattle.proof_facts.specs.Blocks.{blocks_by}
+use Rattle.proof_facts.specs.Carried.{CubsAreTold}
+use Rattle.proof_lives.specs.FactsBy.{Beyond, facts_by, cubs_alone}
+use Rattle.proof_facts.specs.Laws.{SplitLaws}
+use Rattle.proof_facts.specs.Pieces.{stamp_of as made_stamp, SplitAt, pieces_by}
 use Rattle.proof_splits.specs.Splitting.{CubsSplitRightly}
 use Rattle.proof_splits.proofs.MirrorStates.{sends_all}
 use Rattle.proof_splits.proofs.Remembered.{split_remembered, killed_by}
-use Rattle.proof_splits.proofs.Backups.{nowhere, splits}
+use Rattle.proof_splits.proofs.Backups.{splits}
 use Rattle.proof_splits.proofs.Unsplit.{split_due}
 use Rattle.proof_splits.proofs.Arrivals.{mirrors, mirrored, mirror_arrives, killed, dropped}
 
@@ -65,7 +66,7 @@ kills p lives plan are formed beyond {a} {t} {n} {x} {y} w g less =
     let below = beats_rise p count inputs (are a small) o.at j o.by g.took.done in
     inl (record {
       beat = beat_at inputs o.at;
-      reached = reached_at p plan lives are formed nowhere a o.at t.instance.0 small done o.stop;
+      reached = reached_at p lives a o.at t.instance.0 small done o.stop;
       after = omega arith;
       by = omega arith;
       kills = λ k some few. record {

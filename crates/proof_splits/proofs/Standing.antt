@@ -1,5 +1,5 @@
 -- A cub's piece records along its life: how each entered, how long it stands, and until when it is to be asked for.
-use Rattle.std.proofs.Common.{◌≡◌, ℕ, zero, suc, ◌+◌, ◌<◌, ◌≤◌, Bool, true, false, cond, not, Option, refl, sym, ap, subst, arith, ⊎_elim, inl, inr, eq-or-lt_of_le}
+use Rattle.std.proofs.Common.{◌≡◌, ℕ, zero, suc, ◌+◌, ◌<◌, ◌≤◌, Bool, true, false, cond, not, Option, refl, sym, ap, subst, arith, ⊎_elim, inl, inr}
 use Rattle.std.specs.Prelude.{◌⊎◌}
 use Rattle.std.proofs.lemmas.Bool.{cases_Bool, cases_lt, eq-eqb, and_from}
 use Rattle.tiger_base.specs.declared.number.Instance.{Instance}
@@ -23,12 +23,14 @@ use Rattle.cub_rules.specs.declared.store.Store.{Store}
 use Rattle.cub_rules.specs.Records.{dropping_lines, dropping_start, dropping_pieces}
 use Rattle.cub_rules.specs.Messages.{holding, passing, killing_splits, descheduling, meeting_piece, meeting_kill, hearing, taking}
 use Rattle.cub_rules.specs.Ticks.{leaves_by, ticking}
-use Rattle.schedule_laws.specs.Lives.{In, deed_of, store_at}
-use Rattle.schedule_laws.proofs.Members.{from_filter}
-use Rattle.stops_laws.specs.HoldsHere.{IsFormed}
-use Rattle.cub_facts.specs.Pieces.{before_reading}
+use Rattle.proof_lives.specs.Lives.{deed_of, store_at}
+use Rattle.lists.specs.Elements.{In}
+use Rattle.lists.proofs.Elements.{from_filter}
+use Rattle.proof_lives.proofs.Trails.{came_since, held_or_came, held_until}
+use Rattle.proof_lives.specs.HoldsHere.{IsFormed}
+use Rattle.proof_facts.specs.Pieces.{before_reading}
 use Rattle.proof_splits.specs.PieceRecords.{IsMirrored, IsSplitOff, Enters, CutsOff, MayGo, StandsSince, MightGo, WasAskedFor, KeepsInTick, KeepsPieces}
-use Rattle.stops_laws.proofs.HoldLaws.{no_both}
+use Rattle.proof_lives.proofs.HoldLaws.{no_both}
 use Rattle.proof_splits.proofs.PieceSets.{Moves, there_is_in, with_there}
 use Rattle.proof_splits.proofs.PieceMoves.{to_reading, to_serving, split_there, ticking_leaves, ticking_asks, rest_moves, deed_moves}
 
@@ -121,49 +123,27 @@ module _ (p : Params) (c : ℕ) (some : 1 ≤ p.pieces) (count : ℕ) (inputs : 
       (λ (f : is_in x (kept i).pieces.items ≡ false). ⊎_elim (λ k. inl k) (λ w. inr (w, f)) ((moves i).back x there))
       (cases_Bool (is_in x (kept i).pieces.items))
 
-  -- how what stands entered
-  pub entered : (i : ℕ) (x : PieceState) → i ≤ count → In x (kept i).pieces.items → StandsSince p c inputs x i
-  entered zero x low there = absurd there
-  entered (suc i) x low there = ⊎_elim
-      (λ w.
-      let d = entered i x (omega arith) w in
-      let b = d.before in
-      record {
-        at = d.at;
-        before = omega arith;
-        enters = d.enters;
-        new = d.new;
-        behind = λ j l cut. ⊎_elim
-            (λ (e : j ≡ i). absurd (cut_goes i x (inputs i) (omega arith) refl
-            (subst (λ (n : ℕ). CutsOff (inputs n) x) e cut) there))
-            (λ (q : j < i). d.behind j q cut)
-            (eq-or-lt_of_le (let z : j ≤ i = omega arith in z));
-        stands = λ k l le. ⊎_elim
-            (λ (e : k ≡ suc i). subst (λ (n : ℕ). In x (kept n).pieces.items) (sym e) there)
-            (λ (q : k < suc i). d.stands k l (omega arith))
-            (eq-or-lt_of_le le);
-      })
-      (λ w. record {
-        at = i;
-        before = omega arith;
-        enters = w.0;
-        new = w.1;
-        behind = λ j l cut. ⊎_elim
-            (λ (e : j ≡ i). absurd (cut_goes i x (inputs i) (omega arith) refl
-            (subst (λ (n : ℕ). CutsOff (inputs n) x) e cut) there))
-            (λ (q : j < i). q)
-            (eq-or-lt_of_le (let z : j ≤ i = omega arith in z));
-        stands = λ k l le. subst (λ (n : ℕ). In x (kept n).pieces.items) (let z : suc i ≡ k = omega arith in z) there;
-      })
-      (came i x there)
+  abbrev Stands : PieceState → ℕ → Type 0
+  Stands x i = In x (kept i).pieces.items
 
-  -- a record that stands, and did not stand before an earlier input, entered between
-  pub entered_between : (j i : ℕ) (x : PieceState) → j ≤ i → i ≤ count → (In x (kept j).pieces.items → ⊥)
-      → In x (kept i).pieces.items
-      → (s : StandsSince p c inputs x i) × (j ≤ s.at)
-  entered_between j i x le low none there =
-      let s = entered i x low there in
-      (s, ⊎_elim (λ (l : s.at < j). absurd (none (s.stands j l le))) (λ (g : j ≤ s.at). g) (cases_lt s.at j))
+  -- how what stands entered
+  pub entered : (i : ℕ) (x : PieceState) → i ≤ count → Stands x i → StandsSince p c inputs x i
+  entered i x low there =
+      let s = came_since (Stands x)
+      (λ k. Enters p c (inputs k) (kept k) x × (is_in x (kept k).pieces.items ≡ false)) (λ h. h) i (λ k _ h. came k x h) there in
+      let before = s.before in
+      record {
+        at = s.at;
+        before = before;
+        enters = s.came.0;
+        new = s.came.1;
+        behind = λ j l cut. ⊎_elim
+            (λ (q : j < s.at). q)
+            (λ (q : s.at ≤ j). absurd
+            (cut_goes j x (inputs j) (omega arith) refl cut (s.since (suc j) (omega arith) (omega arith))))
+            (cases_lt j s.at);
+        stands = s.since;
+      }
 
   enters_at : (i : ℕ) (x : PieceState) (k : Input Msg) → i < count → inputs i ≡ k → Enters p c k (kept i) x
       → In x (deed_of p c k (kept i)).state.pieces.items ⊎ MayGo p k x
@@ -184,15 +164,10 @@ module _ (p : Params) (c : ℕ) (some : 1 ≤ p.pieces) (count : ℕ) (inputs : 
   -- a record stays until it may go
   stays : (j i : ℕ) (x : PieceState) → j ≤ i → In x (kept j).pieces.items → In x (kept i).pieces.items
       ⊎ MightGo p inputs x j i
-  stays j zero x le there = inl (subst (λ (n : ℕ). In x (kept n).pieces.items) (let z : j ≡ 0 = omega arith in z) there)
-  stays j (suc i) x le there = ⊎_elim
-      (λ (e : j ≡ suc i). inl (subst (λ (n : ℕ). In x (kept n).pieces.items) e there))
-      (λ (l : j < suc i). ⊎_elim
-      (λ k. ⊎_elim (λ s. inl s) (λ m. inr (record { at = i; from = omega arith; before = omega arith; may = m }))
-      ((moves i).stays x k))
-      (λ w. let b = w.before in inr (record { at = w.at; from = w.from; before = omega arith; may = w.may }))
-      (stays j i x (omega arith) there))
-      (eq-or-lt_of_le le)
+  stays j i x le there = ⊎_elim
+      (λ k. inl k)
+      (λ u. inr (record { at = u.at; from = u.from; before = u.before; may = u.may }))
+      (held_until (Stands x) (λ k. MayGo p (inputs k) x) i j le (λ k _ _ h. (moves k).stays x h) there)
 
   -- after a tick no record stands of a piece that leaves by then
   left : (i : ℕ) (stamp : Stamp) (x : PieceState) → inputs i ≡ Tick stamp → In x (kept (suc i)).pieces.items
@@ -225,29 +200,16 @@ module _ (p : Params) (c : ℕ) (some : 1 ≤ p.pieces) (count : ℕ) (inputs : 
   unasked_since : (i : ℕ) (x : PieceState) → i ≤ count → In x (kept i).unasked.items
       → (s : StandsSince p c inputs x i) → (k : ℕ) → s.at < k → k ≤ i
       → In x (kept k).unasked.items
-  unasked_since zero x low there s k after by = absurd there
-  unasked_since (suc i) x low there s k after by = ⊎_elim
-      (λ (e : k ≡ suc i). subst (λ (n : ℕ). In x (kept n).unasked.items) (sym e) there)
-      (λ (l : k < suc i).
-      let stood = s.stands i (omega arith) (omega arith) in
-      let b = s.before in
-      let before = ⊎_elim
+  unasked_since i x low there s k after by = ⊎_elim
       (λ q. q)
-      (λ q. absurd (not_gone i x (inputs i) (omega arith) refl (s.stands (suc i) (omega arith) (omega arith))
-      (q stood)))
-      ((moves i).unasked_back x there) in
-      unasked_since i x (omega arith) before
-      (record {
-        at = s.at;
-        before = omega arith;
-        enters = s.enters;
-        new = s.new;
-        behind = λ j q cut. s.behind j
-            (omega arith) cut;
-        stands = λ n a q. s.stands n a (omega arith);
-      })
-      k after (omega arith))
-      (eq-or-lt_of_le by)
+      (λ w. absurd w.is)
+      (held_or_came (λ n. In x (kept n).unasked.items) (λ n. ⊥) i k by
+      (λ n from to h. inl (⊎_elim
+      (λ q. q)
+      (λ q. absurd (not_gone n x (inputs n) (omega arith) refl (s.stands (suc n) (omega arith) (omega arith))
+      (q (s.stands n (omega arith) (omega arith)))))
+      ((moves n).unasked_back x h)))
+      there)
 
   -- after a tick nothing is to be asked for that leaves within the read lead
   asked : (i : ℕ) (stamp : Stamp) (x : PieceState) → inputs i ≡ Tick stamp → In x (kept (suc i)).unasked.items

@@ -1,5 +1,5 @@
 -- A backup record that is not yet split: it stands unsplit from its entry on until it is split, cut off, or due.
-use Rattle.std.proofs.Common.{◌≡◌, ℕ, zero, suc, ◌+◌, ◌*◌, ◌<◌, ◌≤◌, List, map, filter, Bool, true, false, not, is_some, refl, sym, ap, subst, ◌∙◌, arith, ⊎_elim, inl, inr, eq-or-lt_of_le}
+use Rattle.std.proofs.Common.{◌≡◌, ℕ, suc, ◌+◌, ◌*◌, ◌<◌, ◌≤◌, List, map, filter, Bool, true, false, not, is_some, refl, sym, ap, subst, ◌∙◌, arith, ⊎_elim, inl, inr, eq-or-lt_of_le}
 use Rattle.std.specs.Prelude.{◌⊎◌}
 use Rattle.std.specs.List.{flat_map}
 use Rattle.std.proofs.lemmas.Bool.{cases_Bool, and_parts, and_from, leb-true, le-leb, eqb-true}
@@ -45,22 +45,26 @@ use Rattle.cub_changes.proofs.Messages.{taking_by}
 use Rattle.cub_changes.proofs.Outputs.{forms_of}
 use Rattle.cub_changes.proofs.Puts.{inserting_by}
 use Rattle.cub_changes.proofs.Ticks.{believing_by}
-use Rattle.schedule_laws.specs.Lives.{In, Lives, AreLives, store_at, deed_of, outs_at, is_tick_input, beat_at}
-use Rattle.schedule_laws.specs.Facts.{TickedAt, DidAt}
-use Rattle.schedule_laws.proofs.Members.{chosen, in_cases, in_map, in_filter, all_in}
-use Rattle.schedule_laws.proofs.Moves.{taken_out, in_with_line, stays_with_line}
-use Rattle.schedule_laws.proofs.Order.{beats_rise, not_behind}
-use Rattle.schedule_laws.proofs.States.{took_inserted}
-use Rattle.schedule_laws.proofs.Steps.{same_with_pieces}
-use Rattle.stops_laws.proofs.HoldLaws.{reached_at}
-use Rattle.stops_laws.specs.HoldsHere.{AreAllFormed}
+use Rattle.proof_lives.specs.Lives.{Lives, AreLives, store_at, deed_of, outs_at, beat_at}
+use Rattle.run_facts.specs.Events.{is_tick_input}
+use Rattle.lists.specs.Elements.{In}
+use Rattle.proof_lives.specs.Facts.{TickedAt, DidAt}
+use Rattle.lists.proofs.Elements.{chosen, in_cases, in_map, in_filter}
+use Rattle.lists.proofs.Each.{all_in}
+use Rattle.proof_lives.proofs.Moves.{taken_out, in_with_line, stays_with_line}
+use Rattle.proof_lives.proofs.Order.{beats_rise, not_behind}
+use Rattle.proof_lives.proofs.States.{took_inserted}
+use Rattle.proof_lives.proofs.Steps.{same_with_pieces}
+use Rattle.proof_lives.proofs.Trails.{Within, held_until}
+use Rattle.proof_lives.proofs.HoldLaws.{reached_at}
+use Rattle.proof_lives.specs.HoldsHere.{AreAllFormed}
 use Rattle.proof_schedule.specs.Facts.{BelievedBy, EnteredBy, ReachedBy}
 use Rattle.proof_service.specs.ServiceFacts.{SplitBy}
-use Rattle.cub_facts.specs.Facts.{Beyond, facts_by}
-use Rattle.cub_facts.specs.Pieces.{before_splitting, stamp_of as made_stamp, SplitAt, pieces_by}
+use Rattle.proof_lives.specs.FactsBy.{Beyond, facts_by}
+use Rattle.proof_facts.specs.Pieces.{before_splitting, stamp_of as made_stamp, SplitAt, pieces_by}
 use Rattle.proof_splits.proofs.PieceMoves.{backup_line, beating_same}
 use Rattle.proof_splits.proofs.Beliefs.{believes_then}
-use Rattle.proof_splits.proofs.Backups.{line_here, nowhere}
+use Rattle.proof_splits.proofs.Backups.{line_here}
 
 -- ---- single changes
 
@@ -371,11 +375,6 @@ module _ (p : Params) (plan : IsPlan p) (lives : Lives) (are : AreLives p lives)
   Ends (Tick stamp) i = IsSplitNow p c stamp (store_at p c inputs i) r
       ⊎ (due p r.tenancy.slot.0 r.visit ≤ stamp.reading)
 
-  record EndsBefore (i : ℕ) : Type 0 where
-    at : ℕ
-    before : at < i
-    ends : Ends (inputs at) at
-
   one_input : (i : ℕ) (k : Input Msg) → HasUnsplit r (store_at p c inputs i)
       ⊎ In (taken_out r) (deed_of p c k (store_at p c inputs i)).outs
       → HasUnsplit r (deed_of p c k (store_at p c inputs i)).state ⊎ Ends k i
@@ -388,19 +387,16 @@ module _ (p : Params) (plan : IsPlan p) (lives : Lives) (are : AreLives p lives)
       (at_tick r p c stamp h (⊎_elim (λ u. inl u) (λ t. inr (took_inserted p c plan small stamp h r t)) w))
 
   -- from its entry on it stands unsplit, until one of them
-  unsplit_since : (e i : ℕ) → e < i → In (taken_out r) (outs_at p c inputs e) → HasUnsplit r (store_at p c inputs i)
-      ⊎ EndsBefore i
-  unsplit_since e zero l t = absurd (omega arith)
-  unsplit_since e (suc i) l t =
-      let here : HasUnsplit r (store_at p c inputs i) ⊎ In (taken_out r) (outs_at p c inputs i)
-      → HasUnsplit r (store_at p c inputs (suc i)) ⊎ EndsBefore (suc i) = λ w.
-      ⊎_elim (λ u. inl u) (λ q. inr (record { at = i; before = omega arith; ends = q })) (one_input i (inputs i) w) in
-      ⊎_elim
-      (λ (q : e ≡ i). here (inr (subst (λ (n : ℕ). In (taken_out r) (outs_at p c inputs n)) q t)))
-      (λ (q : e < i). ⊎_elim (λ u. here (inl u))
-      (λ z. let b = z.before in inr (record { at = z.at; before = omega arith; ends = z.ends }))
-      (unsplit_since e i q t))
-      (eq-or-lt_of_le (let z : e ≤ i = omega arith in z))
+  unsplit_since : (e i : ℕ) → e < i → In (taken_out r) (outs_at p c inputs e)
+      → HasUnsplit r (store_at p c inputs i) ⊎ Within (λ k. Ends (inputs k) k) e i
+  unsplit_since e i l t = ⊎_elim
+      (λ u. ⊎_elim
+      (λ k. inl k)
+      (λ w. let from = w.from in inr (record { at = w.at; from = omega arith; before = w.before; is = w.may }))
+      (held_until (λ k. HasUnsplit r (store_at p c inputs k)) (λ k. Ends (inputs k) k) i (suc e) l
+      (λ k _ _ h. one_input k (inputs k) (inl h)) u))
+      (λ q. inr (record { at = e; from = omega arith; before = l; is = q }))
+      (one_input e (inputs e) (inr t))
 
   of_split : (i : ℕ) (stamp : Stamp) → i < lives.count c → inputs i ≡ Tick stamp
       → IsSplitNow p c stamp (store_at p c inputs i) r
@@ -426,7 +422,7 @@ module _ (p : Params) (plan : IsPlan p) (lives : Lives) (are : AreLives p lives)
         → beat_at inputs i ≤ b → IsCutBy m r → Wanted
     of_cut i stamp link (msg.Deschedule v tag) low e le cut = inr (record {
       beat = beat_at inputs i;
-      reached = reached_at p plan lives are formed nowhere c i r.tenancy.instance.0 small low
+      reached = reached_at p lives c i r.tenancy.instance.0 small low
           (record { stamp = stamp; link = link; instance = v; tag = tag; is = e; same = cut });
       by = le;
     })
@@ -519,6 +515,6 @@ split_due p plan lives are formed beyond {c} {t} {n} {b} {l} believed entry next
         let rising = (are c small).rising z.at i (omega arith) low in
         let beat = plan.ranges.beat.0 in
         of_end p plan lives are formed c small r beyond b z.at (ins z.at) (omega arith) refl (omega arith)
-        (omega arith) z.ends)
+        (omega arith) z.is)
         (unsplit_since p plan lives are formed c small r d.at i before d.did))
         (eq-or-lt_of_le first)

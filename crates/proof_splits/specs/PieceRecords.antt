@@ -14,9 +14,10 @@ use Rattle.node_kit.specs.Steps.{Input}
 use Rattle.node_kit.specs.Steps.Input.{Take, Tick}
 use Rattle.cub_rules.specs.declared.store.Store.{Store}
 use Rattle.cub_rules.specs.Ticks.{must_split, leaves_by}
-use Rattle.schedule_laws.specs.Lives.{In, Lives, store_at}
-use Rattle.stops_laws.specs.HoldsHere.{AreAllFormed}
-use Rattle.cub_facts.specs.Pieces.{before_splitting, before_reading, before_serving, HasBackup}
+use Rattle.proof_lives.specs.Lives.{Lives, store_at}
+use Rattle.lists.specs.Elements.{In}
+use Rattle.proof_lives.specs.HoldsHere.{AreAllFormed}
+use Rattle.proof_facts.specs.Pieces.{before_splitting, before_reading, before_serving, HasBackup}
 
 -- ---- one input
 

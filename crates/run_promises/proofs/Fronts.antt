@@ -12,9 +12,10 @@ use Rattle.run_facts.specs.Order.{Noted, beat_of, journal_of}
 use Rattle.run_model.specs.Schedule.{Stop, schedule_of}
 use Rattle.run_model.specs.Moments.{moment_at, is_put_of, is_belief_of}
 use Rattle.run_model.specs.Orders.{is_up_to, end_of_tick}
-use Rattle.proof_moments.specs.Members.{In}
+use Rattle.lists.specs.Elements.{In}
 use Rattle.proof_moments.proofs.Bridge.{put_is}
-use Rattle.proof_moments.proofs.Lists.{in_map, from_map, in_filter, from_filter, any_passes, any_passing}
+use Rattle.proof_moments.proofs.Lists.{any_passes, any_passing}
+use Rattle.lists.proofs.Elements.{in_map, from_map, in_filter, from_filter}
 use Rattle.proof_moments.proofs.Ticks.{up_to_by, up_to_parts}
 use Rattle.proof_moments.proofs.Holders.{who_has, stop_from, stop_in}
 use Rattle.run_promises.specs.Kept.{WasPut, WasStopped}

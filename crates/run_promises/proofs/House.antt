@@ -18,8 +18,9 @@ use Rattle.run_facts.specs.Commanded.{stop_ordered}
 use Rattle.run_facts.specs.Order.{beat_of}
 use Rattle.run_model.specs.Orders.{IsOrdered, IsTenancyFor}
 use Rattle.run_model.specs.Runs.{order_in}
-use Rattle.proof_moments.specs.Members.{In}
-use Rattle.proof_moments.proofs.Lists.{in_filter, any_by}
+use Rattle.lists.specs.Elements.{In}
+use Rattle.proof_moments.proofs.Lists.{any_by}
+use Rattle.lists.proofs.Elements.{in_filter}
 use Rattle.run_promises.specs.Kept.{IsKeptWell, after_tick, WasPut}
 use Rattle.run_promises.specs.Waits.{Wait, IsWaiting, IsATurn}
 use Rattle.run_promises.specs.Placing.{HasRoom}

@@ -17,9 +17,12 @@ use Rattle.run_model.specs.Orders.{EntryIsFair, IsRightlyPut}
 use Rattle.run_model.specs.Runs.{order_in}
 use Rattle.run_model.specs.Served.{journal_at, IsPut}
 use Rattle.run_model.proofs.Moments.{fair_at_fronts}
-use Rattle.proof_moments.specs.Members.{In}
+use Rattle.lists.specs.Elements.{In}
 use Rattle.proof_moments.specs.Ties.{StandsIn}
-use Rattle.proof_moments.proofs.Lists.{in_left, in_right, in_cases, in_filter, any_by, any_with, all_in, cut_by}
+use Rattle.proof_moments.proofs.Lists.{any_by, any_with}
+use Rattle.lists.proofs.Elements.{in_left, in_right, in_cases, in_filter}
+use Rattle.lists.proofs.Each.{all_in}
+use Rattle.lists.proofs.Cuts.{cut_by}
 use Rattle.proof_moments.proofs.Orders.{noted_at, into_order, of_order}
 use Rattle.run_promises.specs.Kept.{IsKeptWell}
 use Rattle.run_promises.proofs.Fronts.{IsPutBy}

@@ -24,8 +24,9 @@ use Rattle.run_report.specs.declared.outcome.Reason.{Reason}
 use Rattle.run_report.specs.declared.outcome.Reason.TheVariants as reason
 use Rattle.run_report.specs.Outcomes as outcomes
 use Rattle.run_report.specs.Outcomes.{first_sent, whole_sent, piece_sent, all_there, pieces_sent, is_stopped_below, reason_of, missing_of, kind_of, span_at}
-use Rattle.proof_moments.specs.Members.{In}
-use Rattle.proof_moments.proofs.Lists.{any_by, in_filter}
+use Rattle.lists.specs.Elements.{In}
+use Rattle.proof_moments.proofs.Lists.{any_by}
+use Rattle.lists.proofs.Elements.{in_filter}
 use Rattle.run_promises.specs.Kept.{IsKeptWell}
 use Rattle.run_promises.specs.Served.{Came}
 use Rattle.run_promises.specs.Reports.{IsTrueReason, EachReasonIsTrue}

@@ -11,8 +11,11 @@ use Rattle.run_model.specs.Moments.{view_of}
 use Rattle.run_model.specs.Orders.{IsRecentStop, IsOfRecentlyStopped}
 use Rattle.run_model.specs.Runs.{order_in}
 use Rattle.run_model.specs.Schedule.{Stop}
-use Rattle.proof_moments.specs.Members.{In}
-use Rattle.proof_moments.proofs.Lists.{in_left, in_right, in_cases, any_by, all_in, cut_by}
+use Rattle.lists.specs.Elements.{In}
+use Rattle.proof_moments.proofs.Lists.{any_by}
+use Rattle.lists.proofs.Elements.{in_left, in_right, in_cases}
+use Rattle.lists.proofs.Each.{all_in}
+use Rattle.lists.proofs.Cuts.{cut_by}
 use Rattle.run_promises.specs.Kept.{IsKeptWell, after_tick, WasPut}
 use Rattle.run_promises.specs.Waits.{Wait}
 use Rattle.run_promises.specs.Placing.{NobodyIsStoppedIn, HasRoom, WasTaken, WhoFindsRoomIsPut, TheFirstBlockIsDueSoon}

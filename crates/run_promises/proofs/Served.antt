@@ -26,9 +26,12 @@ use Rattle.run_model.specs.Served.{journal_at, IsPut}
 use Rattle.run_model.proofs.Moments.{each_is_each_entry}
 use Rattle.run_claims.specs.Truths.{Lasts, FailsIn, disk_with, IsTrueFailure}
 use Rattle.run_claims.specs.Served.{IsServedIfPut}
-use Rattle.proof_moments.specs.Members.{In}
+use Rattle.lists.specs.Elements.{In}
 use Rattle.proof_moments.specs.Ties.{StandsIn}
-use Rattle.proof_moments.proofs.Lists.{in_cases, any_by, all_in, cut_by}
+use Rattle.proof_moments.proofs.Lists.{any_by}
+use Rattle.lists.proofs.Elements.{in_cases}
+use Rattle.lists.proofs.Each.{all_in}
+use Rattle.lists.proofs.Cuts.{cut_by}
 use Rattle.proof_moments.proofs.Orders.{noted_at}
 use Rattle.run_promises.specs.Kept.{IsKeptWell}
 use Rattle.run_promises.specs.Served.{IsSettledVisit, Came, IsNotStoppedBefore, HasNoFault, WhatNothingHindersComes, OnlyOneDies, OneDeathCostsOneBlock}

@@ -24,8 +24,10 @@ use Rattle.run_model.specs.Fronts.{AnyByRecursion}
 use Rattle.run_model.specs.Moments.{moment_at}
 use Rattle.run_model.specs.Orders.{IsOrdered, IsStartOf, HasStart, is_up_to}
 use Rattle.run_model.specs.Runs.{order_in}
-use Rattle.proof_moments.specs.Members.{In}
-use Rattle.proof_moments.proofs.Lists.{in_filter, either_way, all_in, any_by, any_with}
+use Rattle.lists.specs.Elements.{In}
+use Rattle.proof_moments.proofs.Lists.{any_by, any_with}
+use Rattle.lists.proofs.Elements.{in_filter, chosen}
+use Rattle.lists.proofs.Each.{all_in}
 use Rattle.proof_moments.proofs.Orders.{noted_at}
 use Rattle.proof_moments.proofs.Ticks.{up_to_by}
 use Rattle.run_promises.specs.Kept.{IsKeptWell, IsOrderedIn, after_tick}
@@ -67,7 +69,7 @@ sends_it p (what.Sent link (note.Start r a)) d i = ⊎_elim
 sends_it p other d i = absurd i
 
 sent_in_beat : (p : Params) (beat : ℕ) (d : Dispatch) (e : Entry) → In d (start_in p beat e) → (e.stamp.beat ≡ beat) × In d (start_of p e.what)
-sent_in_beat p beat d e i = either_way (λ (ds : List Dispatch). In d ds → (e.stamp.beat ≡ beat) × In d (start_of p e.what))
+sent_in_beat p beat d e i = chosen (λ (ds : List Dispatch). In d ds → (e.stamp.beat ≡ beat) × In d (start_of p e.what))
     (e.stamp.beat == beat) (start_of p e.what) [] (λ t k. (eqb-true _ _ t, k)) (λ _ k. absurd k) i
 
 -- an entry of a journal sends the start in a beat
@@ -122,7 +124,7 @@ sent_on_link l e link n is same = rw (is, eq-eqb link.0 l same) (inl refl)
 
 got_on_link : (l beat : ℕ) (w : What) (g : Dated Note) → In g (got_by l beat w) → (link : LinkNo) × (w ≡ what.Got link g.item) × (g.beat ≡ beat)
 got_on_link l beat (what.Got link n) g i =
-    either_way (λ (ds : List (Dated Note)). In g ds → (k : LinkNo) × (what.Got link n ≡ what.Got k g.item) × (g.beat ≡ beat))
+    chosen (λ (ds : List (Dated Note)). In g ds → (k : LinkNo) × (what.Got link n ≡ what.Got k g.item) × (g.beat ≡ beat))
     (link.0 == l) ((record { beat = beat; item = n }) ∷ []) []
     (λ _ k. ⊎_elim (λ e. (link, ap (λ (d : Dated Note). what.Got link d.item) (sym e), ap (λ (d : Dated Note). d.beat) e)) (λ b. absurd b) k)
     (λ _ k. absurd k) i

@@ -25,10 +25,11 @@ use Rattle.run_model.specs.Schedule.{Stop, schedule_of}
 use Rattle.run_model.specs.Served.{journal_at}
 use Rattle.run_model.proofs.Moments.{part_at_fronts}
 use Rattle.run_model.proofs.Reflects.{and_left, and_right, and_both}
-use Rattle.proof_moments.specs.Members.{In}
+use Rattle.lists.specs.Elements.{In}
 use Rattle.proof_moments.specs.Ties.{StandsIn}
 use Rattle.proof_moments.proofs.Holders.{who_has, stop_from, stop_in}
-use Rattle.proof_moments.proofs.Lists.{in_left, in_cases, in_filter, any_passes, any_passing}
+use Rattle.proof_moments.proofs.Lists.{any_passes, any_passing}
+use Rattle.lists.proofs.Elements.{in_left, in_cases, in_filter}
 use Rattle.proof_moments.proofs.Orders.{noted_at, order_sorted}
 use Rattle.proof_moments.proofs.Sorted.{sorted_rises, rises_before, not_above, last_is}
 use Rattle.run_promises.specs.Kept.{IsKeptWell}

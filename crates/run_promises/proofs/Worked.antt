@@ -45,13 +45,14 @@ use Rattle.run_claims.specs.Served.{AreServed}
 use Rattle.run_claims.specs.Truths.{BeliefsAreTrue, FailuresAreTrue}
 use Rattle.run_claims.specs.Turns.{AreInTurn}
 use Rattle.run_claims.specs.Visits.{AreServedOnce}
-use Rattle.proof_moments.specs.Members.{In}
-use Rattle.proof_moments.proofs.Lists.{in_left, in_filter, from_filter, either_way, any_by, all_in, all_by, any_passes, any_passing}
+use Rattle.lists.specs.Elements.{In}
+use Rattle.proof_moments.proofs.Lists.{any_by, any_passes, any_passing}
+use Rattle.lists.proofs.Elements.{in_left, in_filter, from_filter, chosen}
+use Rattle.lists.proofs.Each.{all_in, all_by}
 use Rattle.proof_moments.proofs.Records.{was_taken}
 use Rattle.proof_moments.proofs.Ticks.{up_to_by, up_to_parts}
-use Rattle.run_promises.specs.Kept.{IsKeptWell}
+use Rattle.run_promises.specs.Kept.{IsKeptWell, after_tick}
 use Rattle.run_promises.specs.House.{NothingFails, PressesPlay, IsNeverFull, IsServed}
-use Rattle.run_promises.specs.Kept.{after_tick}
 use Rattle.run_promises.specs.Placing.{HasRoom}
 use Rattle.run_promises.specs.Promises.{KeepsPromises}
 use Rattle.run_promises.specs.Samples.{all_live, one_block, one_log, one_viewer, run_of, silent, many, stop_in, wait}
@@ -145,7 +146,7 @@ unfolding moment_at
 views_are_part = (part_at_fronts small one_log).1 (λ front back is c low.
     let m = moment_at front in
     all_by (λ (r : Rec). IsPart small m r.tenancy r.visit) (view_of m c) (λ r i.
-    absurd (either_way (λ (rs : List Rec). In r rs → ⊥) (m.dead c) [] (m.records c) (λ _ j. j) (λ _ j. no_record front back c r is j) i)))
+    absurd (chosen (λ (rs : List Rec). In r rs → ⊥) (m.dead c) [] (m.records c) (λ _ j. j) (λ _ j. no_record front back c r is j) i)))
 
 served_once : AreServedOnce small one_log
 unfolding on_samples

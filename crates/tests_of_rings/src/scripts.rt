@@ -4,14 +4,13 @@ ghost use Rattle.tiger_base.specs.Limits.{most_beats};
 
 use crate::rings::{Story, assert_told};
 use node_kit::Gate;
-use ring_machine::StepError;
 use ring_world::{Act, Event};
 use std::alloc::Global;
 use std::fmt::Write;
 use std::process::Abort;
 use std::test::Fail;
 use tiger_base::{Beat, CubNo, LinkNo, Micros, NoMemory, NodeNo, Stamp};
-use world::World;
+use world::{StepError, World};
 
 /// What is answered to an event.
 #[derive(Clone, Copy, Debug)]

@@ -4,7 +4,7 @@ ghost use Rattle.scenario_read.specs.Sound.{IsScenario};
 
 use crate::runs::{LONG, ONE, SMALL, Setting, one, scenario_of};
 use crate::told::More;
-use kept_events::world_events;
+use kept_worlds::world_events;
 use node_kit::{Gate, Journal, Kept, OpenGate};
 use ring_nodes::make_images;
 use ring_world::{Act, Event};

@@ -4,11 +4,11 @@ ghost use Rattle.tiger_base.specs.Limits.{most_file};
 ghost use Rattle.scenario_read.specs.Sound.{IsScenario};
 ghost use Rattle.run_report.specs.Text.{kept_outcomes};
 ghost use Rattle.ring_facts.specs.Rings.{IsRingRun};
-ghost use Rattle.ring_answer.specs.Answers.{IsOnlyRun};
+ghost use Rattle.proof_answer.specs.KeptAnswers.{IsOnlyRun};
 ghost use Rattle.kept_worlds.specs.Worlds.{IsWorld};
 ghost use Rattle.run_claims.specs.Accounts.{account_of};
 ghost use Rattle.run_claims.specs.Claims.{MeetsClaims};
-ghost use Rattle.ring_claims.specs.Beliefs.{BelievesInTime};
+ghost use Rattle.proof_ring.specs.Beliefs.{BelievesInTime};
 
 use crate::journals::journals_of;
 use node_kit::{Gate, Kept};

@@ -9,7 +9,7 @@ use Rattle.scenario_read.specs.declared.scenario.Scenario.{Scenario}
 use Rattle.scenario_read.specs.declared.stop.ScenarioFault.{ScenarioFault}
 use Rattle.scenario_read.specs.Meaning.{Said, meaning}
 use Rattle.ring_facts.specs.Rings.{IsRingRun}
-use Rattle.ring_answer.proofs.Scenarios.{scenarios_are_what_they_say}
+use Rattle.proof_answer.proofs.Scenarios.{scenarios_are_what_they_say}
 use Rattle.scenario_make.specs.Made.{made_library}
 use Rattle.tiger_run.specs.declared.inputs.Inputs.{Inputs}
 use Rattle.tiger_run.specs.Words.{IsRun, IsMake}

@@ -1,6 +1,5 @@
 -- How a call of the program ends.
-use Rattle.std.specs.Prelude.{◌≡◌, ℕ, ◌+◌, ◌==◌, Bool, false, if◌then◌else◌, List, [], ◌∷◌, length, Option, Some, None, IsSomeAnd, codes, ◌⊎◌}
-use Rattle.std.specs.List.{position}
+use Rattle.std.specs.Prelude.{◌≡◌, ℕ, ◌+◌, Bool, false, if◌then◌else◌, List, [], ◌∷◌, length, Option, Some, None, IsSomeAnd, codes, ◌⊎◌}
 use Rattle.std.specs.Str.{bytes_eq}
 use Rattle.outside.specs.Told.{FilesState}
 use Rattle.outside.specs.Written.{SinkState, Appended, FrontAppended}
@@ -12,9 +11,9 @@ use Rattle.scenario_read.specs.Meaning.{said_by}
 use Rattle.scenario_make.specs.Made.{made_scenario, made_library}
 use Rattle.run_report.specs.Text.{report_text, summary_text}
 use Rattle.ring_facts.specs.Rings.{IsRingRun}
-use Rattle.ring_answer.specs.Answers.{IsOnlyRun}
+use Rattle.proof_answer.specs.KeptAnswers.{IsOnlyRun}
 use Rattle.kept_worlds.specs.Worlds.{IsWorld}
-use Rattle.ring_claims.specs.Beliefs.{BelievesInTime}
+use Rattle.proof_ring.specs.Beliefs.{BelievesInTime}
 use Rattle.run_claims.specs.Accounts.{account_of}
 use Rattle.run_claims.specs.Claims.{MeetsClaims}
 use Rattle.scenario_read.specs.Sound.{IsScenario}
@@ -59,15 +58,6 @@ IsAskedRun G old new words k =
     ⊎ ((number : ℕ) × IsMake words number × IsMadeRun G number k)
 
 -- ---- what is written
-
--- the bytes up to the place of a line feed, with it, or all bytes if there is none
-abbrev up_to_feed : List ℕ → Option ℕ → ℕ
-up_to_feed text None = length text
-up_to_feed text (Some place) = place + 1
-
--- how many bytes the first line of a text has, with its line feed if it has one
-abbrev pub first_line : List ℕ → ℕ
-first_line text = up_to_feed text (position (λ byte. byte == 10) text)
 
 -- the first word is `make`
 abbrev pub begins_make : List (List ℕ) → Bool

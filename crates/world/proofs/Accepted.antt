@@ -1,5 +1,5 @@
 -- What a world's step makes of what always holds of it.
-use Rattle.std.proofs.Common.{◌≡◌, ℕ, suc, ◌+◌, ◌≤◌, List, [], ◌∷◌, ◌++◌, length, Bool, true, false, None, refl, ap, sym, ◌∙◌, subst, arith}
+use Rattle.std.proofs.Common.{◌≡◌, ℕ, ◌+◌, ◌≤◌, List, [], ◌∷◌, ◌++◌, true, false, None, refl, ap, sym, ◌∙◌, subst, arith}
 use Rattle.std.specs.Prelude.{Result, Ok, Err, OnOk, IfErr}
 use Rattle.tiger_base.specs.Limits.{most_beats}
 use Rattle.tiger_base.specs.declared.message.Msg.{Msg}
@@ -17,10 +17,10 @@ use Rattle.ring_nodes.specs.AllNodes.{any_step, node_count, opening_nodes, image
 use Rattle.ring_world.specs.declared.event.Event.{Event}
 use Rattle.ring_world.specs.Machine.{Machine, happens, journals_of}
 use Rattle.ring_world.specs.Faults.{fault_of, IsEventOf, Accepts}
-use Rattle.ring_machine.specs.declared.error.StepError.{StepError}
-use Rattle.ring_machine.specs.declared.error.StepError.TheVariants as error
-use Rattle.ring_machine.specs.Running.{Running, fresh, nodes_of, IsLeft, HasStepped}
-use Rattle.world.specs.Worlds.{Opening, Worldly, first_machine, IsAcceptedFrom, IsWorld, new_world}
+use Rattle.world.specs.declared.error.StepError.{StepError}
+use Rattle.world.specs.declared.error.StepError.TheVariants as error
+use Rattle.world.specs.Running.{Running, fresh, nodes_of, IsLeft, HasStepped}
+use Rattle.world.specs.Worlds.{Opening, first_machine, IsAcceptedFrom, IsWorld, new_world}
 
 -- A machine that accepts events, and one event more that has no fault.
 accepts_more : {M S : Type 0} (note : M → Note) (step : S → Input M → Deed M S) (p : Params) (nodes beats : ℕ) (m : Machine M S) (es : List Event) (k : Machine M S) (e : Event)

@@ -1,1 +1,11 @@
 mod Accepted
+mod Asking
+mod Deeds
+mod Kept
+mod Late
+mod Lists
+mod Lives
+mod Moves
+mod Openings
+mod Posts
+mod Sound

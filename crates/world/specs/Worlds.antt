@@ -13,7 +13,7 @@ use Rattle.ring_nodes.specs.AllNodes.{any_step, node_count, opening_nodes, image
 use Rattle.ring_world.specs.declared.event.Event.{Event}
 use Rattle.ring_world.specs.Machine.{Machine, journals_of, opening_machine}
 use Rattle.ring_world.specs.Faults.{Accepts}
-use Rattle.ring_machine.specs.Running.{Running, fresh}
+use Rattle.world.specs.Running.{Running, fresh}
 
 -- What a world opens with: the plan's numbers, how many beats it may run, the read faults, the orders, the catalogue, and
 -- the library whose blocks the disks have.

@@ -7,11 +7,11 @@ ghost use Rattle.controller_core.specs.Orders.{AreOrders};
 ghost use Rattle.ring_nodes.specs.AllNodes.{any_step, images_of};
 ghost use Rattle.ring_world.specs.Faults.{IsEventOf};
 ghost use Rattle.ring_world.specs.Machine.{journals_of};
-ghost use Rattle.ring_machine.specs.Running.{nodes_of, IsCause, IsLeft, HasStepped};
+ghost use Rattle.world.specs.Running.{nodes_of, IsCause, IsLeft, HasStepped};
 
+use crate::{Channel, Machine, StepError};
 use disk_image::DiskImage;
 use node_kit::{Course, Gate, Journal, Order, ReadFault};
-use ring_machine::{Channel, Machine, StepError};
 use ring_nodes::{AnyNode, make_nodes};
 use ring_world::Event;
 use slot_plan::Plan;

@@ -1,4 +1,4 @@
-use Rattle.cub_facts.specs.Facts.{cubs_alone}
+use Rattle.proof_lives.specs.FactsBy.{cubs_alone}
 use Rattle.proof_blocks.proofs.Laws.{read_laws}
 use Rattle.proof_blocks.proofs.cubs_serve_blocks.Goals as goal
 

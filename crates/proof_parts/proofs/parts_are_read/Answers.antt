@@ -1,4 +1,4 @@
-use Rattle.cub_facts.specs.Facts.{HasTicked}
+use Rattle.proof_lives.specs.FactsBy.{HasTicked}
 use Rattle.proof_parts.proofs.Answering.{taken_back, came_from_disk}
 use Rattle.proof_parts.proofs.parts_are_read.Goals as goal
 

@@ -1,4 +1,4 @@
-use Rattle.cub_facts.specs.Facts.{HasTicked}
+use Rattle.proof_lives.specs.FactsBy.{HasTicked}
 use Rattle.proof_parts.proofs.TrueReads.{sent_was_asked, failed_was_refused, sent_is_read}
 use Rattle.proof_parts.proofs.reads_are_true.Goals as goal
 

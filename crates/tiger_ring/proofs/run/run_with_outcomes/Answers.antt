@@ -1,7 +1,7 @@
 use Rattle.std.proofs.Common.{refl, ◌∙◌}
-use Rattle.ring_answer.proofs.Kepts.{kept_runs_are_one}
+use Rattle.proof_answer.proofs.Kepts.{kept_runs_are_one}
 use Rattle.kept_worlds.proofs.Worlds.{kept-worlds}
-use Rattle.ring_claims.proofs.Kept.{kept_runs_believe_in_time, kept_runs_meet_the_claims, orders_are_followed}
+use Rattle.proof_ring.proofs.Kept.{kept_runs_believe_in_time, kept_runs_meet_the_claims, orders_are_followed}
 use Rattle.tiger_ring.proofs.run.run_with_outcomes.Goals as goal
 
 pub returns-clause-ran : goal.returns-clause-ran

@@ -1,5 +1,5 @@
 use Rattle.cub_rules.specs.Ticks.{ticking}
-use Rattle.cub_laws.proofs.Ticks.{ticking_right}
+use Rattle.cub_changes.proofs.Rules.{ticking_right}
 use Rattle.cub_core.proofs.Chains.{followed, where_ok}
 use Rattle.cub_core.proofs.cub.Cub.end_beat.Goals as goal
 

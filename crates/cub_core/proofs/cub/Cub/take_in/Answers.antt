@@ -1,5 +1,5 @@
 use Rattle.cub_rules.specs.Messages.{taking}
-use Rattle.cub_laws.proofs.Messages.{taking_right}
+use Rattle.cub_changes.proofs.Rules.{taking_right}
 use Rattle.cub_core.proofs.Chains.{followed, where_ok}
 use Rattle.cub_core.proofs.cub.Cub.take_in.Goals as goal
 

@@ -1,6 +1,6 @@
 use Rattle.std.proofs.lemmas.Result.{on_ok_weaker}
 use Rattle.node_kit.specs.Steps.Input.{Take}
-use Rattle.cub_laws.proofs.Cubs.{cub_acts}
+use Rattle.cub_changes.proofs.Rules.{cub_acts}
 use Rattle.cub_core.proofs.cub.CubNodeMsg.take.Goals as goal
 
 pub returns : goal.returns

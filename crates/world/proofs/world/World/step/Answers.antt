@@ -3,7 +3,7 @@ use Rattle.std.proofs.lemmas.Result.{on_ok_weaker}
 use Rattle.tiger_base.specs.Notes.{noted}
 use Rattle.ring_nodes.specs.AllNodes.{any_step}
 use Rattle.ring_world.specs.Faults.{IsEventOf}
-use Rattle.ring_machine.specs.Running.{nodes_of, HasStepped}
+use Rattle.world.specs.Running.{nodes_of, HasStepped}
 use Rattle.world.specs.Worlds.{Worldly}
 use Rattle.world.proofs.Accepted.{still_world}
 use Rattle.world.proofs.world.World.step.Goals as goal

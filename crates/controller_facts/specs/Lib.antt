@@ -1,3 +1,0 @@
-pub mod Controllers
-pub mod Orders
-pub mod Stops

@@ -1,9 +1,0 @@
-pub mod Counting
-pub mod Ends
-pub mod Gets
-pub mod Grouping
-pub mod Kept
-pub mod Lives
-pub mod Naming
-pub mod Pushing
-pub mod Runs

@@ -1,9 +1,0 @@
-use Rattle.std.proofs.Common.{◌≡◌, ◌++◌, drop}
-use Rattle.kept_events.specs.Telling.{nodes_told}
-use Rattle.kept_events.proofs.telling.push_nodes.Given as goal
-
--- what is pushed and what the nodes that are left tell is what all nodes tell
-abbrev pub invariant-loop-n : goal.invariant-loop-n
-invariant-loop-n l = record {
-  told : l.events.items ++ nodes_told l.course l.n (drop l.n l.journals) ≡ l.fn.events.items ++ nodes_told l.course 0 l.journals;
-}

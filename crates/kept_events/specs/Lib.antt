@@ -1,4 +1,0 @@
-pub mod Events
-pub mod Laws
-pub mod Samples
-pub mod Telling

@@ -1,0 +1,118 @@
+-- The messages that a journal says were got are the takes of the events that wrote it, with their numbers.
+use Rattle.std.proofs.Common.{◌≡◌, ℕ, ◌+◌, List, [], ◌∷◌, ◌++◌, map, length, refl, ap, sym, ◌∙◌, arith, append_assoc, append-nil, length-append}
+use Rattle.std.specs.List.{AllByRecursion}
+use Rattle.std.proofs.lemmas.List.{length-map}
+use Rattle.tiger_base.specs.declared.number.Stamp.{Stamp}
+use Rattle.tiger_base.specs.declared.message.Note.{Note}
+use Rattle.slot_plan.specs.declared.params.Params.{Params}
+use Rattle.node_kit.specs.declared.journal.Entry.{Entry}
+use Rattle.node_kit.specs.declared.journal.What.{What}
+use Rattle.node_kit.specs.declared.journal.What.TheVariants as what
+use Rattle.node_kit.specs.declared.outbox.Out.{Out}
+use Rattle.node_kit.specs.declared.outbox.Out.TheVariants as out
+use Rattle.node_kit.specs.Steps.{Input, Deed, IsAllowed, IsOwnEntry, entry_of}
+use Rattle.node_kit.specs.Steps.Input.{Take, Tick}
+use Rattle.run_facts.specs.Carried.{got_on}
+use Rattle.run_facts.specs.Events.{NodeEvent, Past, Dated, after, kept_outs, outs_of, AreFair, entries_at, written, take_on, takes_along, noted_as}
+use Rattle.run_facts.specs.Events.NodeEvent.{Does, Dies}
+use Rattle.run_facts.proofs.Along.{got_on-append, got-written, takes-append}
+use Rattle.ring_world.specs.declared.event.Act.{Act}
+use Rattle.ring_world.specs.declared.event.Act.TheVariants as act
+use Rattle.kept_worlds.specs.Events.{get_of, gets_behind}
+
+-- what a node takes in its events, each with its beat and its number, if these happened to it before
+abbrev pub takes_behind : {M : Type 0} → List (NodeEvent M) → List (NodeEvent M) → List (Dated Act)
+takes_behind before [] = []
+takes_behind before (Does (Take stamp link msg) ∷ es) =
+    (record { beat = stamp.beat; item = act.Get link (length (takes_along link.0 before)) })
+    ∷ takes_behind (before ++ Does (Take stamp link msg) ∷ []) es
+takes_behind before (Does (Tick stamp) ∷ es) = takes_behind (before ++ Does (Tick stamp) ∷ []) es
+takes_behind before (Dies stamp ∷ es) = takes_behind (before ++ Dies stamp ∷ []) es
+
+gets-append : (before xs ys : List Entry)
+    → gets_behind before (xs ++ ys) ≡ gets_behind before xs ++ gets_behind (before ++ xs) ys
+gets-append before [] ys = ap (λ q. gets_behind q ys) (sym (append-nil before))
+gets-append before (x ∷ xs) ys =
+    let here = map (λ (a : Act). record { beat = x.stamp.beat; item = a }) (get_of before x.what) in
+    let rest = gets-append (before ++ x ∷ []) xs ys in
+    let behind = ap (λ q. gets_behind (before ++ x ∷ []) xs ++ gets_behind q ys) (append_assoc before (x ∷ []) xs) in
+    ap (λ q. here ++ q) (rest ∙ behind)
+    ∙ sym (append_assoc here (gets_behind (before ++ x ∷ []) xs) (gets_behind (before ++ x ∷ xs) ys))
+
+-- an entry of a node's own says of no message that it was got
+own-none : (before : List Entry) (w : What) → IsOwnEntry w → get_of before w ≡ []
+own-none before (what.Got link note) h = absurd h
+own-none before (what.Sent link note) h = absurd h
+own-none before (what.Took r) h = refl
+own-none before (what.Dropped r) h = refl
+own-none before (what.Queued v d) h = refl
+own-none before (what.Unqueued v) h = refl
+own-none before (what.Put t) h = refl
+own-none before (what.Gone v) h = refl
+own-none before (what.ReadFailed w) h = refl
+own-none before (what.Believed c) h = refl
+own-none before what.Died h = absurd h
+
+outs-none : {M : Type 0} (note : M → Note) (p : Params) (n : ℕ) (stamp : Stamp) (before : List Entry) (os : List (Out M))
+    → AllByRecursion (IsAllowed note p n) os → gets_behind before (map (entry_of note stamp) os) ≡ []
+outs-none note p n stamp before [] h = refl
+outs-none note p n stamp before (out.Send link msg ∷ os) h =
+    outs-none note p n stamp (before ++ entry_of note stamp (out.Send link msg) ∷ []) os h.1
+outs-none note p n stamp before (out.Act w ∷ os) h =
+    rw (own-none before w h.0) (outs-none note p n stamp (before ++ entry_of note stamp (out.Act w) ∷ []) os h.1)
+
+-- entries that say as often that a message was got on a link as events take one there
+abbrev pub AreLevel : {M : Type 0} → List Entry → List (NodeEvent M) → Type 0
+AreLevel earlier before = (l : ℕ) → length (got_on l earlier) ≡ length (takes_along l before)
+
+module _ {M S : Type 0} (note : M → Note) (step : S → Input M → Deed M S) (p : Params) (n : ℕ) where
+  level-more : (earlier : List Entry) (before : List (NodeEvent M)) (e : NodeEvent M) (past : Past S)
+      → AllByRecursion (IsAllowed note p n) (outs_of step e past) → AreLevel earlier before
+      → AreLevel (earlier ++ entries_at note step e past) (before ++ e ∷ [])
+  level-more earlier before e past fair level l =
+      let wrote = entries_at note step e past in
+      let got : got_on l (wrote ++ []) ≡ map (noted_as note) (take_on l e ++ []) =
+      got-written note step p n l (e ∷ []) past (fair, tt) in
+      let same : length (got_on l wrote) ≡ length (take_on l e) =
+      ap (λ q. length (got_on l q)) (sym (append-nil wrote)) ∙ ap length got
+      ∙ length-map (take_on l e ++ []) (noted_as note) ∙ ap length (append-nil (take_on l e)) in
+      let old = level l in
+      let entries = length-append (got_on l earlier) (got_on l wrote) in
+      let takes = length-append (takes_along l before) (take_on l e) in
+      ap length (got_on-append l earlier wrote) ∙ entries
+      ∙ (let sum : length (got_on l earlier) + length (got_on l wrote) ≡ length (takes_along l before) + length (take_on l e) =
+      omega (arith, same, old) in sum)
+      ∙ sym takes
+      ∙ ap (λ q. length (takes_along l before ++ q)) (sym (append-nil (take_on l e)))
+      ∙ ap length (sym (takes-append l before (e ∷ [])))
+
+  pub gets-written : (earlier : List Entry) (before es : List (NodeEvent M)) (past : Past S) → AreFair note step p n es past
+      → AreLevel earlier before → gets_behind earlier (written note step es past) ≡ takes_behind before es
+  gets-written earlier before [] past fair level = refl
+  gets-written earlier before (Does (Take stamp link msg) ∷ es) past fair level =
+      let e : NodeEvent M = Does (Take stamp link msg) in
+      let wrote = entries_at note step e past in
+      let outs = kept_outs step (Take stamp link msg) past in
+      let first : Entry = record { stamp = stamp; what = what.Got link (note msg) } in
+      let rest = gets-written (earlier ++ wrote) (before ++ e ∷ []) es (after note step e past) fair.1
+      (level-more earlier before e past fair.0 level) in
+      let none = outs-none note p n stamp (earlier ++ first ∷ []) outs fair.0 in
+      gets-append earlier wrote (written note step es (after note step e past))
+      ∙ ap (λ q. ((record { beat = stamp.beat; item = act.Get link (length (got_on link.0 earlier)) }) ∷ q) ++ gets_behind (earlier ++ wrote) (written note step es (after note step e past))) none
+      ∙ ap (λ k. (record { beat = stamp.beat; item = act.Get link k }) ∷ gets_behind (earlier ++ wrote) (written note step es (after note step e past))) (level link.0)
+      ∙ ap (λ q. (record { beat = stamp.beat; item = act.Get link (length (takes_along link.0 before)) }) ∷ q) rest
+  gets-written earlier before (Does (Tick stamp) ∷ es) past fair level =
+      let e : NodeEvent M = Does (Tick stamp) in
+      let wrote = entries_at note step e past in
+      let rest = gets-written (earlier ++ wrote) (before ++ e ∷ []) es (after note step e past) fair.1
+      (level-more earlier before e past fair.0 level) in
+      gets-append earlier wrote (written note step es (after note step e past))
+      ∙ ap (λ q. q ++ gets_behind (earlier ++ wrote) (written note step es (after note step e past)))
+      (outs-none note p n stamp earlier (kept_outs step (Tick stamp) past) fair.0)
+      ∙ rest
+  gets-written earlier before (Dies stamp ∷ es) past fair level =
+      let e : NodeEvent M = Dies stamp in
+      let wrote = entries_at note step e past in
+      gets-append earlier wrote (written note step es (after note step e past))
+      ∙ gets-written (earlier ++ wrote) (before ++ e ∷ []) es (after note step e past) fair.1
+      (level-more earlier before e past fair.0 level)

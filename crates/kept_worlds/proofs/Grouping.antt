@@ -1,0 +1,209 @@
+-- Events node for node, sorted by their beats and else left in their order, are the events beat for beat.
+use Rattle.std.proofs.Common.{append-nil, ◌≡◌, ℕ, zero, suc, ◌+◌, ◌<◌, ◌≤◌, List, [], ◌∷◌, ◌++◌, map, filter, length, Bool, true, false, not, ◌&&◌, get_or, refl, ap, sym, ◌∙◌, subst, arith, cond, ⊎_elim, Less, Equal, Greater}
+use Rattle.std.specs.Prelude.{◌==◌, nat_lt}
+use Rattle.std.specs.List.{AllByRecursion}
+use Rattle.std.specs.List.Sorted.{IsPermutation, IsNonDecreasingBy, IsSortedByKey, IsStableByKey, ties}
+use Rattle.std.specs.Ordering.{is_lt, nat_cmp}
+use Rattle.std.proofs.lemmas.Bool.{cases_Bool, cases_eq, eq-eqb, ne_eqb}
+use Rattle.std.proofs.lemmas.Bool.Decides.{nat_tests}
+use Rattle.std.proofs.lemmas.List.{map-append}
+use Rattle.std.proofs.lemmas.List.Elements.{filter-append, All-from_recursion, recursion_from_All}
+use Rattle.std.proofs.lemmas.List.Sorted.{IsNonDecreasingBy-from_sort, All-permutation}
+use Rattle.node_kit.specs.declared.course.Course.{Course}
+use Rattle.node_kit.specs.declared.journal.Entry.{Entry}
+use Rattle.run_facts.specs.Accounts.{Rising}
+use Rattle.run_facts.specs.Events.{Dated}
+use Rattle.run_facts.proofs.Orders.{groups, by_key}
+use Rattle.run_facts.proofs.Rows.{all-append, filter-same}
+use Rattle.ring_world.specs.declared.event.Act.{Act}
+use Rattle.ring_world.specs.declared.event.Act.TheVariants as act
+use Rattle.ring_world.specs.declared.event.Event.{Event}
+use Rattle.kept_worlds.specs.Events.{get_of, gets_behind, end_of_beat, event_in, events_in, events_of_beat, events_from, events_by}
+use Rattle.kept_worlds.specs.Telling.{told_in, gets_told, ends_told, node_told, nodes_told}
+
+-- a list whose keys do not fall, by index and by recursion
+all-at : {X : Type 0} (P : X → Type 0) (xs : List X) → ((j : ℕ) (d : X) → j < length xs → P (get_or xs j d)) → AllByRecursion P xs
+all-at P [] f = tt
+all-at P (x ∷ xs) f = (f 0 x (omega arith), all-at P xs (λ j d low. f (suc j) d (omega (arith, low))))
+
+rising-of : {X : Type 0} (key : X → ℕ) (xs : List X) → IsNonDecreasingBy key xs → Rising key xs
+rising-of key [] h = tt
+rising-of {X} key (x ∷ xs) h = (
+  all-at (λ (y : X). key x ≤ key y) xs (λ j d low. h 0 (suc j) d (omega arith) (omega (arith, low))),
+  rising-of key xs (λ i j d up low. h (suc i) (suc j) d (omega (arith, up)) (omega (arith, low))),
+)
+
+-- what ties with an element has its key
+lt-is : (a b : ℕ) → is_lt (nat_cmp a b) ≡ nat_lt a b
+lt-is a b = by_tests (nat_lt a b) (a == b)
+  where
+    by_tests : (x y : Bool) → is_lt (cond x Less (cond y Equal Greater)) ≡ x
+    by_tests true y = refl
+    by_tests false true = refl
+    by_tests false false = refl
+
+ties-is : {X : Type 0} (key : X → ℕ) (x y : X) (b : ℕ) → key x ≡ b → ties (λ u v. is_lt (nat_cmp (key u) (key v))) x y ≡ (key y == b)
+ties-is key x y b is =
+    let one = lt-is (key x) (key y) in
+    let other = lt-is (key y) (key x) in
+    rw (one, other, is) (alike (key y) b)
+  where
+    alike : (m n : ℕ) → not (nat_lt n m) && not (nat_lt m n) ≡ (m == n)
+    alike m n = grind (arith, nat_tests)
+
+groups-same : {X : Type 0} (key : X → ℕ) (xs ys : List X)
+    → ((b : ℕ) → filter (λ x. key x == b) ys ≡ filter (λ x. key x == b) xs) → (b k : ℕ) → groups key b k ys ≡ groups key b k xs
+groups-same key xs ys same b zero = refl
+groups-same {X} key xs ys same b (suc k) =
+    ap (λ q. q ++ groups key (b + 1) k ys) (same b) ∙ ap (λ q. filter (λ (x : X). key x == b) xs ++ q) (groups-same key xs ys same (b + 1) k)
+
+pub sorted-groups : {X : Type 0} (key : X → ℕ) (xs ys : List X) (k : ℕ) → ((b : ℕ) → (x : X) × (key x ≡ b))
+    → AllByRecursion (λ x. key x < k) xs → IsPermutation xs ys → IsSortedByKey key nat_cmp ys → IsStableByKey key nat_cmp xs ys
+    → ys ≡ groups key 0 k xs
+sorted-groups {X} key xs ys k any early moved sorted stable =
+    let small = recursion_from_All (λ (x : X). key x < k) ys (All-permutation (λ (x : X). key x < k) xs ys moved (All-from_recursion (λ (x : X). key x < k) xs early)) in
+    let rises = rising-of key ys (IsNonDecreasingBy-from_sort key ys sorted) in
+    let same : (b : ℕ) → filter (λ (x : X). key x == b) ys ≡ filter (λ x. key x == b) xs = λ b.
+    (let x = any b in
+    let tied = λ (zs : List X). filter-same (λ (y : X). key y == b) (ties (λ u v. is_lt (nat_cmp (key u) (key v))) x.0) zs
+    (all-at (λ (y : X). (key y == b) ≡ ties (λ u v. is_lt (nat_cmp (key u) (key v))) x.0 y) zs (λ j d low. sym (ties-is key x.0 (get_or zs j d) b x.1))) in
+    tied ys ∙ stable x.0 ∙ sym (tied xs)) in
+    sym (by_key key k ys small rises) ∙ groups-same key xs ys same 0 k
+
+-- all that is told is in a beat of the course
+acts-all : (c : Course) (n b : ℕ) (acts : List Act) → b < c.beats → AllByRecursion (λ (e : Event). e.stamp.beat < c.beats) (map (event_in c n b) acts)
+acts-all c n b [] low = tt
+acts-all c n b (a ∷ acts) low = (low, acts-all c n b acts low)
+
+told-all : (c : Course) (n b : ℕ) (acts : List Act) → AllByRecursion (λ (e : Event). e.stamp.beat < c.beats) (told_in c n b acts)
+told-all c n b acts = ⊎_elim
+    (λ (t : nat_lt b c.beats ≡ true). let low : b < c.beats = grind (arith, nat_tests, t) in rw t (acts-all c n b acts low))
+    (λ (t : nat_lt b c.beats ≡ false). rw t tt)
+    (cases_Bool (nat_lt b c.beats))
+
+gets-all : (c : Course) (n : ℕ) (before es : List Entry) → AllByRecursion (λ (e : Event). e.stamp.beat < c.beats) (gets_told c n before es)
+gets-all c n before [] = tt
+gets-all c n before (e ∷ es) =
+    all-append (λ (x : Event). x.stamp.beat < c.beats) (told_in c n e.stamp.beat (get_of before e.what)) (gets_told c n (before ++ e ∷ []) es)
+    (told-all c n e.stamp.beat (get_of before e.what)) (gets-all c n (before ++ e ∷ []) es)
+
+ends-all : (c : Course) (n b k : ℕ) → b + k ≤ c.beats → AllByRecursion (λ (e : Event). e.stamp.beat < c.beats) (ends_told c n b k)
+ends-all c n b zero h = tt
+ends-all c n b (suc k) h =
+    all-append (λ (x : Event). x.stamp.beat < c.beats) (map (event_in c n b) (end_of_beat c n b)) (ends_told c n (b + 1) k)
+    (acts-all c n b (end_of_beat c n b) (omega (arith, h))) (ends-all c n (b + 1) k (omega (arith, h)))
+
+pub nodes-all : (c : Course) (n : ℕ) (journals : List (List Entry)) → AllByRecursion (λ (e : Event). e.stamp.beat < c.beats) (nodes_told c n journals)
+nodes-all c n [] = tt
+nodes-all c n (journal ∷ rest) =
+    all-append (λ (x : Event). x.stamp.beat < c.beats) (node_told c n journal) (nodes_told c (n + 1) rest)
+    (all-append (λ (x : Event). x.stamp.beat < c.beats) (gets_told c n [] journal) (ends_told c n 0 c.beats)
+    (gets-all c n [] journal) (ends-all c n 0 c.beats (omega arith)))
+    (nodes-all c (n + 1) rest)
+
+-- of a beat: what a node gets in it
+abbrev of_beat : ℕ → List Event → List Event
+of_beat b es = filter (λ e. e.stamp.beat == b) es
+
+acts-here : (c : Course) (n b : ℕ) (acts : List Act) → of_beat b (map (event_in c n b) acts) ≡ map (event_in c n b) acts
+acts-here c n b [] = refl
+acts-here c n b (a ∷ acts) =
+    let t : (b == b) ≡ true = eq-eqb b b refl in rw t (ap (λ q. event_in c n b a ∷ q) (acts-here c n b acts))
+
+acts-other : (c : Course) (n b x : ℕ) (acts : List Act) → (x ≡ b → ⊥) → of_beat b (map (event_in c n x) acts) ≡ []
+acts-other c n b x [] ne = refl
+acts-other c n b x (a ∷ acts) ne = let t : (x == b) ≡ false = ne_eqb x b ne in rw t (acts-other c n b x acts ne)
+
+dated-here : (b : ℕ) (acts : List Act)
+    → map (λ (g : Dated Act). g.item) (filter (λ g. g.beat == b) (map (λ (a : Act). record { beat = b; item = a }) acts)) ≡ acts
+dated-here b [] = refl
+dated-here b (a ∷ acts) = let t : (b == b) ≡ true = eq-eqb b b refl in rw t (ap (λ q. a ∷ q) (dated-here b acts))
+
+dated-other : (b x : ℕ) (acts : List Act) → (x ≡ b → ⊥)
+    → filter (λ (g : Dated Act). g.beat == b) (map (λ (a : Act). record { beat = x; item = a }) acts) ≡ []
+dated-other b x [] ne = refl
+dated-other b x (a ∷ acts) ne = let t : (x == b) ≡ false = ne_eqb x b ne in rw t (dated-other b x acts ne)
+
+told-beat : (c : Course) (n b x : ℕ) (acts : List Act) → b < c.beats
+    → of_beat b (told_in c n x acts)
+    ≡ map (event_in c n b) (map (λ (g : Dated Act). g.item) (filter (λ g. g.beat == b) (map (λ (a : Act). record { beat = x; item = a }) acts)))
+told-beat c n b x acts low = ⊎_elim
+    (λ (same : x ≡ b).
+    let t : nat_lt x c.beats ≡ true = grind (arith, nat_tests, same, low) in
+    rw t (subst (λ q. of_beat b (map (event_in c n q) acts) ≡ map (event_in c n b) (map (λ (g : Dated Act). g.item) (filter (λ g. g.beat == b) (map (λ (a : Act). record { beat = q; item = a }) acts)))) (sym same)
+    (acts-here c n b acts ∙ sym (ap (map (event_in c n b)) (dated-here b acts)))))
+    (λ (other : x ≡ b → ⊥).
+    let none = ap (λ q. map (event_in c n b) (map (λ (g : Dated Act). g.item) q)) (dated-other b x acts other) in
+    ⊎_elim
+    (λ (t : nat_lt x c.beats ≡ true). rw t (acts-other c n b x acts other ∙ sym none))
+    (λ (t : nat_lt x c.beats ≡ false). rw t (sym none))
+    (cases_Bool (nat_lt x c.beats)))
+    (cases_eq x b)
+
+gets-beat : (c : Course) (n b : ℕ) (before es : List Entry) → b < c.beats
+    → of_beat b (gets_told c n before es) ≡ map (event_in c n b) (map (λ (g : Dated Act). g.item) (filter (λ g. g.beat == b) (gets_behind before es)))
+gets-beat c n b before [] low = refl
+gets-beat c n b before (e ∷ es) low =
+    let item = λ (g : Dated Act). g.item in
+    let test = λ (g : Dated Act). g.beat == b in
+    let here = map (λ (a : Act). record { beat = e.stamp.beat; item = a }) (get_of before e.what) in
+    let rest = gets_behind (before ++ e ∷ []) es in
+    filter-append (λ (x : Event). x.stamp.beat == b) (told_in c n e.stamp.beat (get_of before e.what)) (gets_told c n (before ++ e ∷ []) es)
+    ∙ ap (λ q. q ++ of_beat b (gets_told c n (before ++ e ∷ []) es)) (told-beat c n b e.stamp.beat (get_of before e.what) low)
+    ∙ ap (λ q. map (event_in c n b) (map item (filter test here)) ++ q) (gets-beat c n b (before ++ e ∷ []) es low)
+    ∙ sym (ap (λ q. map (event_in c n b) (map item q)) (filter-append test here rest)
+    ∙ ap (map (event_in c n b)) (map-append item (filter test here) (filter test rest))
+    ∙ map-append (event_in c n b) (map item (filter test here)) (map item (filter test rest)))
+
+-- and how it ends it
+ends-below : (c : Course) (n b a k : ℕ) → b < a → of_beat b (ends_told c n a k) ≡ []
+ends-below c n b a zero low = refl
+ends-below c n b a (suc k) low =
+    filter-append (λ (x : Event). x.stamp.beat == b) (map (event_in c n a) (end_of_beat c n a)) (ends_told c n (a + 1) k)
+    ∙ ap (λ q. q ++ of_beat b (ends_told c n (a + 1) k)) (acts-other c n b a (end_of_beat c n a) (λ e. omega (arith, e, low)))
+    ∙ ends-below c n b (a + 1) k (omega (arith, low))
+
+ends-beat : (c : Course) (n b a k : ℕ) → a ≤ b → b < a + k → of_beat b (ends_told c n a k) ≡ map (event_in c n b) (end_of_beat c n b)
+ends-beat c n b a zero low high = absurd (omega (arith, low, high))
+ends-beat c n b a (suc k) low high =
+    let rest = ends_told c n (a + 1) k in
+    filter-append (λ (x : Event). x.stamp.beat == b) (map (event_in c n a) (end_of_beat c n a)) rest ∙ ⊎_elim
+    (λ (same : a ≡ b).
+    subst (λ q. of_beat b (map (event_in c n q) (end_of_beat c n q)) ++ of_beat b (ends_told c n (q + 1) k) ≡ map (event_in c n b) (end_of_beat c n b)) (sym same)
+    (ap (λ q. q ++ of_beat b (ends_told c n (b + 1) k)) (acts-here c n b (end_of_beat c n b))
+    ∙ ap (λ q. map (event_in c n b) (end_of_beat c n b) ++ q) (ends-below c n b (b + 1) k (omega arith))
+    ∙ append-nil (map (event_in c n b) (end_of_beat c n b))))
+    (λ (other : a ≡ b → ⊥).
+    ap (λ q. q ++ of_beat b rest) (acts-other c n b a (end_of_beat c n a) other)
+    ∙ ends-beat c n b (a + 1) k (omega (arith, low, other)) (omega (arith, high)))
+    (cases_eq a b)
+
+-- so a beat of the list is the beat
+nodes-beat : (c : Course) (n b : ℕ) (journals : List (List Entry)) → b < c.beats → of_beat b (nodes_told c n journals) ≡ events_of_beat c b n journals
+nodes-beat c n b [] low = refl
+nodes-beat c n b (journal ∷ rest) low =
+    let gets = map (λ (g : Dated Act). g.item) (filter (λ g. g.beat == b) (gets_behind [] journal)) in
+    let test = λ (x : Event). x.stamp.beat == b in
+    filter-append test (node_told c n journal) (nodes_told c (n + 1) rest)
+    ∙ ap (λ q. q ++ of_beat b (nodes_told c (n + 1) rest)) (filter-append test (gets_told c n [] journal) (ends_told c n 0 c.beats)
+    ∙ ap (λ q. q ++ of_beat b (ends_told c n 0 c.beats)) (gets-beat c n b [] journal low)
+    ∙ ap (λ q. map (event_in c n b) gets ++ q) (ends-beat c n b 0 c.beats (omega arith) (omega (arith, low)))
+    ∙ sym (map-append (event_in c n b) gets (end_of_beat c n b)))
+    ∙ ap (λ q. events_in c n b journal ++ q) (nodes-beat c (n + 1) b rest low)
+
+pub groups-told : (c : Course) (b k : ℕ) (journals : List (List Entry)) → b + k ≤ c.beats
+    → groups (λ (e : Event). e.stamp.beat) b k (nodes_told c 0 journals) ≡ events_from c b k journals
+groups-told c b zero journals h = refl
+groups-told c b (suc k) journals h =
+    ap (λ q. q ++ groups (λ (e : Event). e.stamp.beat) (b + 1) k (nodes_told c 0 journals)) (nodes-beat c 0 b journals (omega (arith, h)))
+    ∙ ap (λ q. events_of_beat c b 0 journals ++ q) (groups-told c (b + 1) k journals (omega (arith, h)))
+
+-- what a stable sort by the beats makes of the list
+pub sorted-events : (c : Course) (journals : List (List Entry)) (told sorted : List Event) → told ≡ nodes_told c 0 journals
+    → IsPermutation told sorted → IsSortedByKey (λ (e : Event). e.stamp.beat) nat_cmp sorted
+    → IsStableByKey (λ (e : Event). e.stamp.beat) nat_cmp told sorted → sorted ≡ events_by c journals
+sorted-events c journals told sorted is moved up stable =
+    let key = λ (e : Event). e.stamp.beat in
+    let early = subst (AllByRecursion (λ (e : Event). e.stamp.beat < c.beats)) (sym is) (nodes-all c 0 journals) in
+    sorted-groups key told sorted c.beats (λ b. (event_in c 0 b (act.Tick (record { 0 = 0 })), refl)) early moved up stable
+    ∙ ap (groups key 0 c.beats) is ∙ groups-told c 0 c.beats journals (omega arith)

@@ -1,0 +1,241 @@
+-- The next event of a node may happen: nothing of it is missing, late, early or beside a dead cub.
+use Rattle.std.proofs.Common.{◌≡◌, ℕ, suc, ◌+◌, ◌-◌, ◌%◌, ◌<◌, List, [], ◌∷◌, length, true, false, Option, Some, None, refl, ap, sym, ◌∙◌, subst, arith, ⊎_elim}
+use Rattle.std.specs.Prelude.{slice_get, option_map, nat_lt, ◌==◌}
+use Rattle.std.specs.List.{AllByRecursion}
+use Rattle.std.proofs.Math.Nat.{mod_self, mod-eq_of_lt, mod-lt}
+use Rattle.std.proofs.lemmas.Option.{none-some}
+use Rattle.std.proofs.lemmas.Bool.{cases_Bool, cases_eq, eqb-true, eq-eqb, ne_eqb}
+use Rattle.std.proofs.lemmas.Bool.Decides.{nat_tests}
+use Rattle.tiger_base.specs.declared.number.Stamp.{Stamp}
+use Rattle.tiger_base.specs.declared.number.LinkNo.{LinkNo}
+use Rattle.tiger_base.specs.declared.message.Note.{Note}
+use Rattle.slot_plan.specs.declared.params.Params.{Params}
+use Rattle.node_kit.specs.Links.{links_of, ends_of, leads_to}
+use Rattle.node_kit.specs.Steps.{Input, Deed}
+use Rattle.node_kit.specs.Steps.Input.{Take, Tick}
+use Rattle.run_facts.specs.Events.{NodeEvent, Dated, stamp_at, is_tick, is_death, is_take_on, takes_along}
+use Rattle.run_facts.specs.Events.NodeEvent.{Does, Dies}
+use Rattle.run_facts.specs.Accounts.{IsLed}
+use Rattle.run_facts.specs.Histories.{History, IsRun, beat, takes, sent}
+use Rattle.run_facts.proofs.Rows.{same-element}
+use Rattle.run_facts.proofs.Counts.{sent-stays}
+use Rattle.ring_world.specs.Machine.{Machine, Being, Way, oldest, receiver, node_of, node_event}
+use Rattle.ring_world.specs.Faults.{has_done, take_fault, late_fault, death_fault, is_dead, cub_before, cub_after, IsActOf}
+use Rattle.ring_world.specs.Laws.{IsPlace}
+use Rattle.ring_world.specs.Merging.{act_of}
+use Rattle.ring_world.proofs.Lists.{passed-length}
+use Rattle.ring_world.proofs.Neighbours.{MayDie}
+use Rattle.ring_world.proofs.Steps.{IsTakenOff}
+use Rattle.kept_worlds.specs.Merges.{LivesThrough, MayHappen}
+use Rattle.kept_worlds.proofs.Faultless.{none-take, none-late, none-death}
+use Rattle.kept_worlds.proofs.Numbers.{get-after, sent-by, young-at_tick}
+use Rattle.kept_worlds.proofs.Points.{IsAt, IsNext, sent-here, taken-here, spared, own, own-acted, undone}
+
+-- a list that has a first element
+first-of : {X : Type 0} (xs : List X) (x : X) → slice_get xs 0 ≡ Some x → (tail : List X) × (xs ≡ x ∷ tail)
+first-of [] x at = absurd (none-some x at)
+first-of (y ∷ ys) x at = let same : y ≡ x = cc in (ys, ap (λ z. z ∷ ys) same)
+
+pub all-from_get : {X : Type 0} (P : X → Type 0) (xs : List X)
+    → ((j : ℕ) (x : X) → slice_get xs j ≡ Some x → P x) → AllByRecursion P xs
+all-from_get P [] f = tt
+all-from_get P (x ∷ xs) f = (f 0 x refl, all-from_get P xs (λ j y at. f (suc j) y at))
+
+leads-from : (n : ℕ) (o : Option (ℕ × ℕ)) → leads_to n o ≡ true → (from : ℕ) × (o ≡ Some (from, n))
+leads-from n None h = absurd (cc)
+leads-from n (Some e) h = let same : e.1 ≡ n = eqb-true _ _ h in (e.0, ap (λ t. Some (e.0, t)) same)
+
+end-same : (a b n t : ℕ) → ◌≡◌ {A = Option (ℕ × ℕ)} (Some (a, n)) (Some (b, t)) → t ≡ n
+end-same a b n t e = let pair : ◌≡◌ {A = ℕ × ℕ} (a, n) (b, t) = cc in sym (ap (λ (q : ℕ × ℕ). q.1) pair)
+
+-- the cub before a cub has it behind it
+before-low : (p : Params) (n : ℕ) → n < p.cubs → cub_before p n < p.cubs
+before-low p n low = ⊎_elim
+    (λ (t : (n == 0) ≡ true). rw t (omega (arith, low)))
+    (λ (t : (n == 0) ≡ false). rw t (omega (arith, low)))
+    (cases_Bool (n == 0))
+
+after-before : (p : Params) (n : ℕ) → n < p.cubs → cub_after p (cub_before p n) ≡ n
+after-before p n low = ⊎_elim
+    (λ (first : n ≡ 0).
+    let t : (n == 0) ≡ true = eq-eqb n 0 first in
+    let sum : p.cubs - 1 + 1 ≡ p.cubs = omega (arith, low) in
+    rw t (ap (λ q. q % p.cubs) sum ∙ mod_self p.cubs ∙ sym first))
+    (λ (other : n ≡ 0 → ⊥).
+    let t : (n == 0) ≡ false = ne_eqb n 0 other in
+    let sum : n - 1 + 1 ≡ n = omega (arith, other) in
+    rw t (ap (λ q. q % p.cubs) sum ∙ mod-eq_of_lt low))
+    (cases_eq n 0)
+
+module _ {M S : Type 0} (note : M → Note) (step : S → Input M → Deed M S) (p : Params) (nodes beats : ℕ) (h : History M S)
+    (place : IsPlace p nodes beats) (run : IsRun note step p nodes h) (may : MayHappen p nodes beats h)
+    (m : Machine M S) (es : ℕ → List (NodeEvent M)) (at : ℕ → ℕ)
+    (point : IsAt note step p nodes beats h place run may m es at)
+    (n : ℕ) (next : IsNext note step p nodes beats h place run may m at n) where
+  -- when the next event happens, and to whom
+  abbrev now : ℕ
+  now = beat h n (at n)
+
+  abbrev mine : Being S
+  mine = own note step p nodes beats h place run may m es at point n next
+
+  -- this event of the node may happen to the machine, by its kind
+  pub record IsReady (y : NodeEvent M) : Type 0 where
+    pub known : IsActOf p nodes (act_of (es n) n y)
+    pub theirs : node_of p (act_of (es n) n y) ≡ n
+    pub event : node_event m.ways (stamp_at y) (act_of (es n) n y) ≡ Some y
+    pub led : IsLed p n y
+    pub free : has_done (act_of (es n) n y) now mine ≡ false
+    pub take : take_fault m.ways now (act_of (es n) n y) ≡ None
+    pub late : late_fault p m.ways now (act_of (es n) n y) ≡ None
+    pub death : death_fault p m.beings (act_of (es n) n y) ≡ None
+    pub takes : (l from to : ℕ) (w : Way M) → ends_of (links_of p) l ≡ Some (from, to) → slice_get m.ways l ≡ Some w
+        → is_take_on l y ≡ true → (to ≡ n) × IsTakenOff now l w y
+    pub dies : is_death y ≡ true → MayDie p m.beings n
+    pub aged : is_tick y ≡ true → (l from : ℕ) (w : Way M) → ends_of (links_of p) l ≡ Some (from, n)
+        → slice_get m.ways l ≡ Some w → AllByRecursion (λ (d : Dated M). now < d.beat + p.delay) w.under_way
+
+  not-ticked : nat_lt now mine.ticked ≡ false
+  not-ticked = undone note step p nodes beats h place run may m es at point n next
+
+  -- what is under way on a link to the node stands behind what was taken there
+  waiting-at : (l from j : ℕ) (w : Way M) (d : Dated M) → ends_of (links_of p) l ≡ Some (from, n) → slice_get m.ways l ≡ Some w
+      → slice_get w.under_way j ≡ Some d → slice_get (sent note step l h from (at from)) (takes l h n (at n) + j) ≡ Some d
+  waiting-at l from j w d ends here there =
+      let theirs = point.holds.way l from n ends in
+      let same : theirs.0 ≡ w = same-element m.ways l theirs.0 w theirs.1 here in
+      let on = theirs.2 in
+      let gone = passed-length p.delay on.gone (takes_along l (es n)) on.passed in
+      let count = taken-here note step p nodes beats h place run may m es at point l n next.low in
+      let behind : takes l h n (at n) + j ≡ length on.gone + j = omega (arith, gone, count) in
+      ap (λ ds. slice_get ds (takes l h n (at n) + j)) (sym (sent-here note step p nodes beats h place run may m es at point l from n ends) ∙ on.split)
+      ∙ get-after on.gone theirs.0.under_way (takes l h n (at n) + j) j behind
+      ∙ ap (λ (v : Way M). slice_get v.under_way j) same ∙ there
+
+  -- and the other way round: what is sent with the number of the next take is the oldest under way
+  next-at : (l from : ℕ) (d : Dated M) → ends_of (links_of p) l ≡ Some (from, n)
+      → slice_get (sent note step l h from (at from)) (takes l h n (at n)) ≡ Some d
+      → (w : Way M) × (slice_get m.ways l ≡ Some w) × (w.taken ≡ length (takes_along l (es n))) × (tail : List (Dated M))
+      × (w.under_way ≡ d ∷ tail)
+  next-at l from d ends was =
+      let theirs = point.holds.way l from n ends in
+      let on = theirs.2 in
+      let gone = passed-length p.delay on.gone (takes_along l (es n)) on.passed in
+      let count = taken-here note step p nodes beats h place run may m es at point l n next.low in
+      let behind : takes l h n (at n) ≡ length on.gone + 0 = omega (arith, gone, count) in
+      let head : slice_get theirs.0.under_way 0 ≡ Some d = sym (get-after on.gone theirs.0.under_way (takes l h n (at n)) 0 behind)
+      ∙ ap (λ ds. slice_get ds (takes l h n (at n))) (sym on.split ∙ sent-here note step p nodes beats h place run may m es at point l from n ends)
+      ∙ was in
+      let all = first-of theirs.0.under_way d head in
+      (theirs.0, theirs.1, on.number, all.0, all.1)
+
+  ready-take : (stamp : Stamp) (link : LinkNo) (msg : M) → h.event n (at n) ≡ Does (Take stamp link msg)
+      → IsReady (Does (Take stamp link msg))
+  ready-take stamp link msg is =
+      let y : NodeEvent M = Does (Take stamp link msg) in
+      let came = run.carried n (at n) stamp link msg next.low next.here is in
+      let dated : now ≡ stamp.beat = ap (λ (x : NodeEvent M). (stamp_at x).beat) is in
+      let later = came.later in
+      let earlier : came.when < now = omega (arith, later, dated) in
+      let d : Dated M = record { beat = came.when; item = msg } in
+      let was = sent-by note step link.0 h came.from (at came.from) (h.count came.from) (takes link.0 h n (at n)) now d earlier
+      (λ e low high. next.first came.from e came.known low high) came.was_sent in
+      let way = next-at link.0 came.from d came.ends was in
+      let old : oldest m.ways link.0 ≡ Some d = rw (way.1, way.4) refl in
+      let hit : (link.0 == link.0) ≡ true = eq-eqb link.0 link.0 refl in
+      let off : IsTakenOff now link.0 way.0 y = record {
+        head = d;
+        tail = way.3;
+        all = way.4;
+        takes = rw (hit, dated) refl;
+        earlier = earlier;
+      } in
+      record {
+        known = (came.from, n, came.ends);
+        theirs = ap receiver came.ends;
+        event = ap (λ o. option_map (λ (q : Dated M). Does (Take stamp link q.item)) o) old;
+        led = (came.from, came.ends);
+        free = not-ticked;
+        take = none-take m.ways now link (length (takes_along link.0 (es n))) way.0 d way.1 (sym way.2) old earlier;
+        late = refl;
+        death = refl;
+        takes = λ l from to w ends here takes_it.
+            let same : link.0 ≡ l = eqb-true _ _ takes_it in
+            let both : ◌≡◌ {A = Option (ℕ × ℕ)} (Some (came.from, n)) (Some (from, to)) =
+            sym came.ends ∙ ap (ends_of (links_of p)) same ∙ ends in
+            let one : way.0 ≡ w = same-element m.ways l way.0 w (ap (slice_get m.ways) (sym same) ∙ way.1) here in
+            let theirs = subst (λ (v : Way M). IsTakenOff now link.0 v y) one off in
+            (end-same came.from from n to both, subst (λ q. IsTakenOff now q w y) same theirs);
+        dies = λ t. absurd (cc);
+        aged = λ t l from w ends here. absurd (cc);
+      }
+
+  ready-tick : (stamp : Stamp) → h.event n (at n) ≡ Does (Tick stamp) → IsReady (Does (Tick stamp))
+  ready-tick stamp is =
+      let ticks_it : is_tick (h.event n (at n)) ≡ true = ap is_tick is in
+      let young : (l from : ℕ) (w : Way M) → ends_of (links_of p) l ≡ Some (from, n) → slice_get m.ways l ≡ Some w
+      → AllByRecursion (λ (d : Dated M). now < d.beat + p.delay) w.under_way = λ l from w ends here.
+      (let low_from = (place.linked l from n ends).0 in
+      all-from_get (λ (d : Dated M). now < d.beat + p.delay) w.under_way (λ j d there.
+      let k = takes l h n (at n) + j in
+      let was = sent-stays note step l h from (at from) (h.count from) k d (point.within from low_from)
+      (waiting-at l from j w d ends here there) in
+      young-at_tick note step p nodes h run l from n (at n) k d low_from next.low next.here ends ticks_it was (omega arith))) in
+      record {
+        known = next.low;
+        theirs = refl;
+        event = refl;
+        led = tt;
+        free = not-ticked;
+        take = refl;
+        late = none-late p n now m.ways (λ l w here leads.
+            let from = leads-from n (ends_of (links_of p) l) leads in young l from.0 w from.1 here);
+        death = refl;
+        takes = λ l from to w ends here takes_it. absurd (cc);
+        dies = λ t. absurd (cc);
+        aged = λ t. young;
+      }
+
+  ready-death : (stamp : Stamp) → h.event n (at n) ≡ Dies stamp → IsReady (Dies stamp)
+  ready-death stamp is =
+      let died : is_death (h.event n (at n)) ≡ true = ap is_death is in
+      let low = may.cubs n (at n) next.low next.here died in
+      let dead_here : LivesThrough h n → ⊥ = λ through. let q : true ≡ false = sym died ∙ through (at n) next.here in absurd (cc) in
+      let spare : (k : ℕ) → k < p.cubs → LivesThrough h k → is_dead (slice_get m.beings k) ≡ false = λ k low_k through.
+      (let cubs = place.cubs in
+      let within : k < nodes = omega (arith, low_k, cubs) in
+      let theirs = point.holds.node k within in
+      ap is_dead theirs.1 ∙ spared note step p nodes beats h place run may m es at point k theirs.0 within theirs.1 through) in
+      let before = cub_before p n in
+      let after_low : cub_after p n < p.cubs = mod-lt (n + 1) (omega (arith, low)) in
+      let after_lives : is_dead (slice_get m.beings (cub_after p n)) ≡ false = ⊎_elim
+      (λ (through : LivesThrough h n). absurd (dead_here through))
+      (λ (through : LivesThrough h (cub_after p n)). spare (cub_after p n) after_low through)
+      (may.apart n low) in
+      let before_lives : is_dead (slice_get m.beings before) ≡ false = ⊎_elim
+      (λ (through : LivesThrough h before). spare before (before-low p n low) through)
+      (λ (through : LivesThrough h (cub_after p before)). absurd (dead_here (subst (LivesThrough h) (after-before p n low) through)))
+      (may.apart before (before-low p n low)) in
+      let acted = own-acted note step p nodes beats h place run may m es at point n next died in
+      let idle : nat_lt now mine.acted ≡ false = grind (arith, nat_tests, acted) in
+      record {
+        known = low;
+        theirs = refl;
+        event = refl;
+        led = tt;
+        free = rw idle not-ticked;
+        take = refl;
+        late = refl;
+        death = none-death p m.beings n before_lives after_lives;
+        takes = λ l from to w ends here takes_it. absurd (cc);
+        dies = λ _. (low, before_lives, after_lives);
+        aged = λ t l from w ends here. absurd (cc);
+      }
+
+  by-event : (y : NodeEvent M) → h.event n (at n) ≡ y → IsReady y
+  by-event (Does (Take stamp link msg)) is = ready-take stamp link msg is
+  by-event (Does (Tick stamp)) is = ready-tick stamp is
+  by-event (Dies stamp) is = ready-death stamp is
+
+  pub ready : IsReady (h.event n (at n))
+  ready = by-event (h.event n (at n)) refl

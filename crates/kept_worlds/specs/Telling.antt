@@ -1,0 +1,45 @@
+-- The same events node for node: for each what its journal tells, and then the ends of its beats;
+-- and how they are counted.
+use Rattle.std.specs.Prelude.{ℕ, zero, suc, ◌+◌, nat_lt, List, [], ◌∷◌, ◌++◌, map, Option, Some, None, if◌then◌else◌}
+use Rattle.std.specs.Map.{lookup}
+use Rattle.std.specs.Ordering.{is_eq, nat_cmp}
+use Rattle.node_kit.specs.declared.course.Course.{Course}
+use Rattle.node_kit.specs.declared.journal.Entry.{Entry}
+use Rattle.ring_world.specs.declared.event.Act.{Act}
+use Rattle.ring_world.specs.declared.event.Event.{Event}
+use Rattle.kept_worlds.specs.Events.{get_of, end_of_beat, event_in}
+
+-- numbers by link, in the order of the links
+abbrev pub Numbers : Type 0
+Numbers = List (ℕ × ℕ)
+
+abbrev pub or_none : Option ℕ → ℕ
+or_none None = 0
+or_none (Some n) = n
+
+-- how many are counted under a link
+abbrev pub counted_on : ℕ → Numbers → ℕ
+counted_on l counts = or_none (lookup (λ q. is_eq (nat_cmp l q)) counts)
+
+-- an act in a beat, if the course has the beat
+abbrev pub told_in : Course → ℕ → ℕ → List Act → List Event
+told_in c n b acts = if nat_lt b c.beats then map (event_in c n b) acts else []
+
+-- the messages that entries say were got, if others stand before them
+abbrev pub gets_told : Course → ℕ → List Entry → List Entry → List Event
+gets_told c n before [] = []
+gets_told c n before (e ∷ es) =
+    told_in c n e.stamp.beat (get_of before e.what) ++ gets_told c n (before ++ e ∷ []) es
+
+-- the ends of so many beats from beat b on
+abbrev pub ends_told : Course → ℕ → ℕ → ℕ → List Event
+ends_told c n b zero = []
+ends_told c n b (suc k) = map (event_in c n b) (end_of_beat c n b) ++ ends_told c n (b + 1) k
+
+abbrev pub node_told : Course → ℕ → List Entry → List Event
+node_told c n journal = gets_told c n [] journal ++ ends_told c n 0 c.beats
+
+-- all nodes, if the first journal is that of node n
+abbrev pub nodes_told : Course → ℕ → List (List Entry) → List Event
+nodes_told c n [] = []
+nodes_told c n (journal ∷ rest) = node_told c n journal ++ nodes_told c (n + 1) rest

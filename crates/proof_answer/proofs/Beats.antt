@@ -1,0 +1,93 @@
+-- Beat by beat all nodes have the same events, in whatever runs they begin alike and live through one course.
+use Rattle.std.proofs.Common.{◌≡◌, ℕ, zero, suc, ◌<◌, ◌≤◌, List, [], ◌∷◌, false, true, Some, refl, ap, sym, ◌∙◌, arith, ⊎_elim}
+use Rattle.std.specs.Prelude.{nat_lt}
+use Rattle.std.proofs.lemmas.Bool.Decides.{nat_tests}
+use Rattle.tiger_base.specs.declared.message.Note.{Note}
+use Rattle.tiger_base.specs.Limits.{most_beats}
+use Rattle.link_timing.specs.Clock.{new_clock}
+use Rattle.link_timing.proofs.Arrivals.{IsClock-new_clock}
+use Rattle.node_kit.specs.declared.course.Course.{Course}
+use Rattle.node_kit.specs.Courses.{IsCourse, reading_of}
+use Rattle.node_kit.specs.Life.{lifetime_of}
+use Rattle.node_kit.specs.Links.{links_of, ends_of}
+use Rattle.node_kit.specs.Steps.{Input, Deed}
+use Rattle.run_facts.specs.Events.{NodeEvent, Dated, opening, stamp_at, sends_along, takes_along}
+use Rattle.run_facts.proofs.Rows.{all-weaker, filter-all}
+use Rattle.run_facts.proofs.Timelines.{rising-counted}
+use Rattle.proof_answer.proofs.Bringing.{got_up_to, got-below}
+use Rattle.proof_answer.proofs.Dated.{events_below, dated_below}
+use Rattle.proof_answer.proofs.Determined.{one-below}
+use Rattle.proof_answer.proofs.Living.{AreLived, none-or-from}
+use Rattle.proof_answer.proofs.Sending.{sends-below, order-sends}
+
+nothing-below : {M : Type 0} (es : List (NodeEvent M)) → events_below 0 es ≡ []
+nothing-below [] = refl
+nothing-below (e ∷ es) =
+    let late : nat_lt (stamp_at e).beat 0 ≡ false = grind (arith, nat_tests) in
+    rw late (nothing-below es)
+
+module _ {M S : Type 0} (note : M → Note) (step : S → Input M → Deed M S) (c : Course) (course : IsCourse c)
+    (nodes : ℕ) (first : ℕ → S) where
+  -- what a link brings up to a beat, if these are the events of its sender below it
+  abbrev brought_by : (b l from to : ℕ) → List (NodeEvent M) → List (Dated M)
+  brought_by b l from to es =
+      got_up_to (new_clock l c.delay c.plan.params.delay) (lifetime_of c to) c.beats b
+      (sends_along note step l es (opening (first from) (lifetime_of c from)))
+
+  brings : (events : ℕ → List (NodeEvent M)) → AreLived note step c nodes first events
+      → (b l from to : ℕ) → from < nodes → to < nodes
+      → ends_of (links_of c.plan.params) l ≡ Some (from, to)
+      → dated_below (suc b) (takes_along l (events to)) ≡ brought_by b l from to (events_below b (events from))
+  brings events lived b l from to low_from low_to ends =
+      let delay = c.plan.sound.ranges.delay in
+      let start = new_clock l c.delay c.plan.params.delay in
+      let past = opening (first from) (lifetime_of c from) in
+      let theirs = lived.all from low_from in
+      let rising = rising-counted 0 (events from) theirs.counted in
+      let most = course.beats in
+      let few = all-weaker (λ (e : NodeEvent M). (stamp_at e).beat < c.beats) (λ e. (stamp_at e).beat ≤ most_beats)
+      (events from) (λ e h. omega (arith, h, most)) theirs.early in
+      let is_clock = IsClock-new_clock l c.delay c.plan.params.delay delay.0 delay.1 course.delay in
+      let order = order-sends note step l 0 (events from) past rising.0 few rising.1 in
+      let sends = sends_along note step l (events from) past in
+      got-below start (lifetime_of c to) c.beats b sends (takes_along l (events to)) is_clock order
+      (lived.paced l from to low_from low_to ends)
+      ∙ ap (got_up_to start (lifetime_of c to) c.beats b) (sends-below note step b l (events from) past rising.1)
+
+  module _ (es fs : ℕ → List (NodeEvent M)) (one : AreLived note step c nodes first es)
+      (two : AreLived note step c nodes first fs) where
+    -- if the events below a beat are the same, so is what is taken up to it
+    takes-same : (b : ℕ) → ((n : ℕ) → n < nodes → events_below b (es n) ≡ events_below b (fs n))
+        → (n : ℕ) → n < nodes → (l : ℕ)
+        → dated_below (suc b) (takes_along l (es n)) ≡ dated_below (suc b) (takes_along l (fs n))
+    takes-same b same n low l = ⊎_elim
+        (λ (none : takes_along l (es n) ≡ []). ⊎_elim
+        (λ (also : takes_along l (fs n) ≡ []). ap (dated_below (suc b)) (none ∙ sym also))
+        (λ lead. by_link lead.0 lead.1 lead.2)
+        (none-or-from c.plan.params nodes n l (fs n) (two.come n low)))
+        (λ lead. by_link lead.0 lead.1 lead.2)
+        (none-or-from c.plan.params nodes n l (es n) (one.come n low))
+      where
+        by_link : (from : ℕ) → from < nodes → ends_of (links_of c.plan.params) l ≡ Some (from, n)
+            → dated_below (suc b) (takes_along l (es n)) ≡ dated_below (suc b) (takes_along l (fs n))
+        by_link from low_from ends =
+            brings es one b l from n low_from low ends
+            ∙ ap (brought_by b l from n) (same from low_from)
+            ∙ sym (brings fs two b l from n low_from low ends)
+
+    -- all nodes have the same events below each beat
+    same-below : (b n : ℕ) → n < nodes → events_below b (es n) ≡ events_below b (fs n)
+    same-below zero n low = nothing-below (es n) ∙ sym (nothing-below (fs n))
+    same-below (suc b) n low =
+        one-below (reading_of c n) (lifetime_of c n) c.beats (suc b) 0 (es n) (fs n)
+        (one.all n low) (two.all n low) (takes-same b (λ m h. same-below b m h) n low)
+
+    -- so all their events are the same, since none lies past the run's beats
+    pub all-same : (n : ℕ) → n < nodes → es n ≡ fs n
+    all-same n low = sym (whole es one) ∙ same-below c.beats n low ∙ whole fs two
+      where
+        whole : (events : ℕ → List (NodeEvent M)) → AreLived note step c nodes first events
+            → events_below c.beats (events n) ≡ events n
+        whole events lived = filter-all (λ e. nat_lt (stamp_at e).beat c.beats) (events n)
+            (all-weaker (λ (e : NodeEvent M). (stamp_at e).beat < c.beats) (λ e. nat_lt (stamp_at e).beat c.beats ≡ true)
+            (events n) (λ e h. grind (arith, nat_tests, h)) (lived.all n low).early)

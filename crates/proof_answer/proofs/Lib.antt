@@ -1,0 +1,13 @@
+pub mod Beats
+pub mod Bringing
+pub mod Catalogues
+pub mod Dated
+pub mod Determined
+pub mod Kepts
+pub mod Lists
+pub mod Living
+pub mod One
+pub mod Resting
+pub mod Scenarios
+pub mod Sending
+pub mod Taking

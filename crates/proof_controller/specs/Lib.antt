@@ -1,0 +1,4 @@
+pub mod Controllers
+pub mod Follows
+pub mod Orders
+pub mod Stops

@@ -1,8 +1,0 @@
-use Rattle.proof_schedule.specs.Logs.{facts_in}
-use Rattle.proof_pieces.specs.PieceLogs.{pieces_in}
-use Rattle.proof_service.specs.ServiceLogs.{service_in}
-use Rattle.proof_delivery.proofs.failures_are_true.Goals as goal
-use Rattle.proof_delivery.proofs.Failures as lemma
-
-pub returns : goal.returns
-returns c p a log more rest end beats g = lemma.failures_are_true p a (facts_in log) (pieces_in more) (service_in rest) end g beats

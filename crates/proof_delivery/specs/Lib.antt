@@ -1,4 +1,0 @@
-pub mod Delivered
-pub mod Example
-pub mod Recorded
-pub mod Ties

@@ -1,5 +1,0 @@
-use Rattle.proof_histories.proofs.Histories.{histories_meet_the_laws}
-use Rattle.proof_histories.proofs.histories_meet_the_laws.Goals as goal
-
-pub returns : goal.returns
-returns g c = histories_meet_the_laws _

@@ -1,0 +1,9 @@
+pub mod Facts
+pub mod FactsBy
+pub mod Histories
+pub mod HoldsHere
+pub mod InOrder
+pub mod Lives
+pub mod Once
+pub mod Records
+pub mod StopFactsOf

@@ -1,0 +1,56 @@
+-- The life of a cub: what it keeps, and what it puts out, by all that befell it.
+use Rattle.std.specs.Prelude.{◌≡◌, ℕ, zero, suc, ◌+◌, ◌<◌, ◌≤◌, List, if◌then◌else◌}
+use Rattle.tiger_base.specs.declared.message.Msg.{Msg}
+use Rattle.tiger_base.specs.Limits.{most_reading}
+use Rattle.slot_plan.specs.declared.params.Params.{Params}
+use Rattle.slot_plan.specs.Times.{time_of}
+use Rattle.node_kit.specs.declared.outbox.Out.{Out}
+use Rattle.node_kit.specs.Steps.{Deed, Input, stamp_of}
+use Rattle.node_kit.specs.Steps.Input.{Take, Tick}
+use Rattle.run_facts.specs.Events.{is_tick_input}
+use Rattle.cub_rules.specs.declared.store.Store.{Store}
+use Rattle.cub_rules.specs.State.{opening_store}
+use Rattle.cub_rules.specs.Messages.{taking}
+use Rattle.cub_rules.specs.Ticks.{ticking}
+pub use Rattle.lists.specs.Elements.{In}
+
+-- what cub c does with an input
+abbrev pub deed_of : Params → ℕ → Input Msg → Store → Deed Msg Store
+deed_of p c (Take stamp link m) h = taking p c stamp link m h
+deed_of p c (Tick stamp) h = ticking p c stamp h
+
+-- what it keeps before its input of number i, and what it puts out at that
+abbrev pub store_at : Params → ℕ → (ℕ → Input Msg) → ℕ → Store
+store_at p c inputs zero = opening_store p 0
+store_at p c inputs (suc i) = (deed_of p c (inputs i) (store_at p c inputs i)).state
+
+abbrev pub outs_at : Params → ℕ → (ℕ → Input Msg) → ℕ → List (Out Msg)
+outs_at p c inputs i = (deed_of p c (inputs i) (store_at p c inputs i)).outs
+
+-- how many of the first i inputs are ticks
+abbrev pub ticks_at : (ℕ → Input Msg) → ℕ → ℕ
+ticks_at inputs zero = 0
+ticks_at inputs (suc i) = if is_tick_input (inputs i) then suc (ticks_at inputs i) else ticks_at inputs i
+
+-- when an input comes
+abbrev pub beat_at : (ℕ → Input Msg) → ℕ → ℕ
+beat_at inputs i = (stamp_of (inputs i)).beat
+
+abbrev pub reading_at : (ℕ → Input Msg) → ℕ → ℕ
+reading_at inputs i = (stamp_of (inputs i)).reading
+
+-- a cub of a run: a tick ends each beat, and its readings are within the skew, never fall and are not too large
+pub record IsLife (p : Params) (count : ℕ) (inputs : ℕ → Input Msg) : Type 0 where
+  pub in_beat : (i : ℕ) → i < count → beat_at inputs i ≡ ticks_at inputs i
+  pub reads : (i : ℕ) → i < count → (time_of p (beat_at inputs i) ≤ reading_at inputs i) × (reading_at inputs i ≤ time_of p (beat_at inputs i) + p.skew)
+  pub rising : (j i : ℕ) → j ≤ i → i < count → reading_at inputs j ≤ reading_at inputs i
+  pub short : (i : ℕ) → i < count → reading_at inputs i ≤ most_reading
+
+-- for each cub how many inputs it has, and which
+pub record Lives : Type 0 where
+  pub count : ℕ → ℕ
+  pub input : ℕ → ℕ → Input Msg
+
+-- each cub of a run has a life
+abbrev pub AreLives : Params → Lives → Type 0
+AreLives p lives = (c : ℕ) → c < p.cubs → IsLife p (lives.count c) (lives.input c)

@@ -1,0 +1,4 @@
+pub mod Accepted
+pub mod Accounts
+pub mod Claims
+pub mod Samples

@@ -1,2 +1,0 @@
-pub mod Kepts
-pub mod Scenarios

@@ -1,5 +1,0 @@
-use Rattle.ring_claims.proofs.Beliefs.{rings_believe_in_time}
-use Rattle.ring_claims.proofs.rings_believe_in_time.Goals as goal
-
-pub returns : goal.returns
-returns g c = rings_believe_in_time _

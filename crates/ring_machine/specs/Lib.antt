@@ -1,5 +1,0 @@
-pub mod Living
-pub mod Moving
-pub mod Posting
-pub mod Running
-pub mod Samples

@@ -1,5 +1,0 @@
-use Rattle.stops_laws.proofs.Cubs.{cubs_hold}
-use Rattle.stops_laws.proofs.cubs_meet_the_laws_of_holding.Goals as goal
-
-pub returns : goal.returns
-returns c = cubs_hold

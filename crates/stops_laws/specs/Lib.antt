@@ -1,4 +1,0 @@
-pub mod HoldsHere
-pub mod StopFactsOf
-pub mod StopFacts
-pub mod StopLaws
