@@ -1,6 +1,7 @@
 pub mod DecimalLemmas
 pub mod WordLists
 pub mod Texts
+pub mod LastFeeds
 pub mod Puts
 pub mod Readings
 pub mod Endings

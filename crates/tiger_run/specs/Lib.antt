@@ -1,3 +1,4 @@
+pub mod Puts
 pub mod Words
 pub mod Statuses
 pub mod Inputs

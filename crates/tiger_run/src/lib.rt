@@ -10,6 +10,7 @@ mod writing;
 
 pub use status::{Status, exit_of, line_of};
 pub use top::{Ended, tiger};
+pub use writing::put_lines;
 
 #[cfg(test)]
 mod tests;

@@ -11,8 +11,8 @@ ghost use Rattle.scenario_read.specs.declared.stop.ScenarioFault.{ScenarioFault}
 ghost use Rattle.scenario_read.specs.Meaning.{Said, meaning};
 ghost use Rattle.run_claims.specs.Accounts.{account_of};
 ghost use Rattle.run_claims.specs.Claims.{MeetsClaims};
-ghost use Rattle.ring_answer.specs.Answers.{IsOnlyRun};
-ghost use Rattle.ring_claims.specs.Beliefs.{BelievesInTime};
+ghost use Rattle.proof_answer.specs.KeptAnswers.{IsOnlyRun};
+ghost use Rattle.proof_ring.specs.Beliefs.{BelievesInTime};
 ghost use Rattle.kept_worlds.specs.Worlds.{IsWorld};
 ghost use Rattle.tiger_run.specs.Answers.{AskTheSame, IsTheAnswer, TellsAll};
 ghost use Rattle.tiger_run.specs.Ending.{InputCause, IsAskedRun, IsMadeRun, IsNamedRun};

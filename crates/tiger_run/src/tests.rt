@@ -3,6 +3,7 @@ ghost use Rattle.std.specs.Prelude.{◌≡◌, IfOk};
 
 use crate::status::{Status, exit_of, line_of};
 use crate::top::{Ended, tiger};
+use crate::writing::put_lines;
 use node_kit::OpenGate;
 use outside::{MemFiles, MemSink};
 use std::alloc::Global;
@@ -176,64 +177,73 @@ fn a_made_scenario_is_summed_up(rt: HostRuntime) -> Result<(), Fail> {
     Ok(())
 }
 
-/// Whether a put that fails once it kept so many bytes ends the run with so many bytes of the report written.
+/// Whether a put that fails once it kept so many bytes ends the run with these bytes of the report written.
 fn is_cut<R: Threads + Wait + Sync>(
     rt: &R,
     alloc: Global,
     workers: u32,
-    put: usize,
     kept: usize,
-    len: usize,
 ) -> Result<bool, Fail> {
     let words = format!(in alloc; "run one.json {workers}")?;
-    let change = format!(in alloc; "put: {put} {kept}")?;
+    let change = format!(in alloc; "put: 0 {kept}")?;
     let told = ran_one(rt, alloc, words.as_str(), change.as_str())?;
-    let text = told.as_slice();
-    let written = text
+    let written = told
+        .as_slice()
         .strip_prefix(b"6 kept tiger: write fault\n")
         .ok_or("no write fault")?;
-    Ok(written.len() == len && SIX_LINES.as_bytes().starts_with(written))
-}
-
-/// Whether that is so of the put of one line, whatever it keeps of it; so many bytes stand before the line.
-fn line_is_cut<R: Threads + Wait + Sync>(
-    rt: &R,
-    alloc: Global,
-    workers: u32,
-    put: usize,
-    line: &str,
-    before: usize,
-) -> Result<bool, Fail> {
-    for kept in 0..line.len().saturating_add(2) {
-        if !is_cut(rt, alloc, workers, put, kept, before.saturating_add(kept))? {
-            return Ok(false);
-        }
-    }
-    Ok(true)
-}
-
-/// Whether that is so of each line.
-fn each_line_is_cut<R: Threads + Wait + Sync>(
-    rt: &R,
-    alloc: Global,
-    workers: u32,
-) -> Result<bool, Fail> {
-    let mut before = 0usize;
-    for (put, line) in SIX_LINES.lines().enumerate() {
-        if !line_is_cut(rt, alloc, workers, put, line, before)? {
-            return Ok(false);
-        }
-        before = before.saturating_add(line.len()).saturating_add(1);
-    }
-    Ok(true)
+    Ok(written.len() == kept && SIX_LINES.as_bytes().starts_with(written))
 }
 
 #[test]
-fn each_put_that_fails_ends_the_run_behind_a_front_of_its_line(
-    rt: HostRuntime,
-) -> Result<(), Fail> {
-    for workers in [1, 2, 8] {
-        assert!(rt; each_line_is_cut(&rt, rt.alloc(), workers)?, "{workers}");
+fn a_put_that_fails_ends_the_run_behind_a_front_of_the_report(rt: HostRuntime) -> Result<(), Fail> {
+    for sevens in 0..SIX_LINES.len() / 7 {
+        let kept = sevens.saturating_mul(7);
+        assert!(rt; is_cut(&rt, rt.alloc(), 1, kept)?, "{kept}");
+    }
+    for workers in [2, 8] {
+        for kept in [0, 1, 33, SIX_LINES.len()] {
+            assert!(rt; is_cut(&rt, rt.alloc(), workers, kept)?, "{workers} {kept}");
+        }
+    }
+    Ok(())
+}
+
+/// A text of lines of so many bytes each, with the line feed.
+fn lines_of(alloc: Global, lens: &[usize]) -> Result<Vec<u8>, Fail> {
+    let mut text = Vec::new(alloc);
+    for len in lens {
+        for _ in 1..*len {
+            text.push(b'a')?;
+        }
+        text.push(b'\n')?;
+    }
+    Ok(text)
+}
+
+/// How many bytes are written of lines of these lengths, if the put of this number fails once it kept three.
+fn written_of(alloc: Global, lens: &[usize], put: u64) -> Result<usize, Fail> {
+    let text = lines_of(alloc, lens)?;
+    let mut out = sink_of(alloc, Some((put, 3)))?;
+    let ended = put_lines(&mut out, text.as_slice());
+    let whole = ended.is_ok() && out.bytes().len() == text.len();
+    Ok(if whole { 0 } else { out.bytes().len() })
+}
+
+#[test]
+fn a_put_has_as_many_lines_as_fit_and_one_at_least(rt: HostRuntime) -> Result<(), Fail> {
+    for (lens, put, written) in [
+        (&[30_000, 30_000, 30_000][..], 0, 3),
+        (&[30_000, 30_000, 30_000][..], 1, 60_003),
+        (&[30_000, 30_000, 30_000][..], 2, 0),
+        (&[32_768, 32_768, 1][..], 1, 65_537),
+        (&[32_768, 32_767, 1, 1][..], 1, 65_537),
+        (&[70_000, 1, 1][..], 1, 70_002),
+        (&[70_000, 1, 1][..], 2, 0),
+    ] {
+        assert!(rt;
+            written_of(rt.alloc(), lens, put)? == written,
+            "{put} {written}"
+        );
     }
     Ok(())
 }

@@ -9,8 +9,8 @@ returns-in_err-put-clause-cause g c =
     let p = err_from_is_err_and c.from_residual.result c.from_residual.ensures.1 in
     let text = c.args.text.now in
     let done = c.loop-done.done in
-    let n = c.line_len.result in
-    let part = part-is text done n (part-within text done n c.line_len.ensures.within) in
+    let n = c.put_len.result in
+    let part = part-is text done n (part-within text done n c.put_len.ensures.within) in
     let state = g.K.Sink.state in
     rw (p.1, p.2) (TextCause-at c.in_err-put.field-0.0 (state c.args.out.now) (state c.loop-done.out) (state c.put.new.self)
     (take done text) (take n (drop done text)) (drop n (drop done text)) text (around-part text done n) c.loop-done.invariant.written c.loop-done.invariant.no_fault (rw part at c.in_err-put.ensures.cause))
@@ -19,8 +19,8 @@ pub returns-in_err-put-clause-one_fault : goal.returns-in_err-put-clause-one_fau
 returns-in_err-put-clause-one_fault g c =
     let text = c.args.text.now in
     let done = c.loop-done.done in
-    let n = c.line_len.result in
-    let part = part-is text done n (part-within text done n c.line_len.ensures.within) in
+    let n = c.put_len.result in
+    let part = part-is text done n (part-within text done n c.put_len.ensures.within) in
     let state = g.K.Sink.state in
     TextCause-faults c.in_err-put.field-0.0 (state c.args.out.now) (state c.put.new.self) text (TextCause-at c.in_err-put.field-0.0 (state c.args.out.now) (state c.loop-done.out) (state c.put.new.self)
     (take done text) (take n (drop done text)) (drop n (drop done text)) text (around-part text done n) c.loop-done.invariant.written c.loop-done.invariant.no_fault (rw part at c.in_err-put.ensures.cause))
@@ -29,8 +29,8 @@ pub loop-done-preserved : goal.loop-done-preserved
 loop-done-preserved g c =
     let text = c.args.text.now in
     let done = c.loop-done.done in
-    let n = c.line_len.result in
-    let within = part-within text done n c.line_len.ensures.within in
+    let n = c.put_len.result in
+    let within = part-within text done n c.put_len.ensures.within in
     let part = part-is text done n within in
     let len = length-part text done n within in
     let state = g.K.Sink.state in
