@@ -22,7 +22,7 @@ use Rattle.scenario_read.specs.declared.scenario.ScEvent.TheVariants.{Begin, Fin
 use Rattle.scenario_read.specs.declared.scenario.Scenario.{Scenario}
 use Rattle.scenario_read.specs.Sound.{StartsWithin, IsScenario}
 use Rattle.scenario_read.specs.Orders.{IsCatalogueOf, first_disk, orders_from, start_order}
-use Rattle.scenario_read.proofs.Inversions.{map-some}
+use Rattle.json_look.proofs.Inversions.{map-some}
 use Rattle.scenario_read.proofs.OrderFacts.{orders-given}
 use Rattle.proof_ring.specs.Runs.{AreShort}
 use Rattle.proof_ring.proofs.Opened.{get_some}

@@ -12,10 +12,11 @@ use Rattle.std.proofs.lemmas.List.FromFn.{length-map-range_with_len, get_or-map-
 use Rattle.serde_json.specs.Data.{Data}
 use Rattle.serde_json.specs.Find.{get}
 use Rattle.scenario_read.specs.declared.deaths.Death.{Death}
-use Rattle.scenario_read.specs.Json.{below_at, has_only, is_one_of}
+use Rattle.json_look.specs.Json.{below_at, has_only, is_one_of}
 use Rattle.scenario_read.specs.Items.{items_of}
 use Rattle.scenario_read.specs.Deaths.{are_close, death_after, deaths_given, death_in, by_cub, deaths_of}
-use Rattle.scenario_read.proofs.Inversions.{bind-ok, ok-same, below_at-range}
+use Rattle.json_look.proofs.Inversions.{below_at-range}
+use Rattle.scenario_read.proofs.Inversions.{bind-ok, ok-same}
 use Rattle.scenario_read.proofs.ItemFacts.{AreRead, items_of-read, given_or-read}
 
 -- one more cub

@@ -16,11 +16,12 @@ use Rattle.scenario_read.specs.declared.stop.ScenarioFault.{ScenarioFault}
 use Rattle.scenario_read.specs.declared.scenario.ScEvent.{ScEvent}
 use Rattle.scenario_read.specs.declared.scenario.ScEvent.TheVariants.{Begin, Finish}
 use Rattle.scenario_read.specs.Fault.{broken, exceeded, found}
-use Rattle.scenario_read.specs.Json.{below_at, has_only, is_one_of}
+use Rattle.json_look.specs.Json.{below_at, has_only, is_one_of}
 use Rattle.scenario_read.specs.Items.{items_of}
 use Rattle.scenario_read.specs.Events.{beat_of, is_start, starts_in, latest_beat, beat_from, start_in, stop_in, event_in, event_after, events_of, most_blocks, few_blocks}
 use Rattle.scenario_read.specs.Sound.{StartsWithin, AreEvents}
-use Rattle.scenario_read.proofs.Inversions.{bind-ok, keeps-ok, then-some, tested-some, below_at-range}
+use Rattle.json_look.proofs.Inversions.{then-some, tested-some, below_at-range}
+use Rattle.scenario_read.proofs.Inversions.{bind-ok, keeps-ok}
 use Rattle.scenario_read.proofs.ItemFacts.{items_of-read}
 
 pub starts_in-cons : (e : ScEvent) (es : List ScEvent) → starts_in (e ∷ es) ≡ cond (is_start e) 1 0 + starts_in es

@@ -15,13 +15,14 @@ use Rattle.slot_plan.specs.declared.params.Params.{Params}
 use Rattle.node_kit.specs.declared.course.ReadFault.{ReadFault}
 use Rattle.scenario_read.specs.declared.scenario.FileLine.{FileLine}
 use Rattle.scenario_read.specs.Fault.{broken, exceeded, keeps, found}
-use Rattle.scenario_read.specs.Json.{whole_at, ranged_at, below_at, has_only, is_one_of}
+use Rattle.json_look.specs.Json.{whole_at, ranged_at, below_at, has_only, is_one_of}
 use Rattle.scenario_read.specs.Items.{items_of}
 use Rattle.scenario_read.specs.Timing.{beats_of, delay_of, links_of, offset_in, offset_after, offsets_of}
 use Rattle.scenario_read.specs.Files.{name_of, file_of, file_after, files_of}
 use Rattle.scenario_read.specs.ReadFaults.{fault_on, read_fault_of, read_fault_after, read_faults_of}
 use Rattle.scenario_read.specs.Sound.{IsFile, IsReadFault}
-use Rattle.scenario_read.proofs.Inversions.{bind-ok, ok-same, found-ok, keeps-ok, then-some, map-some, tested-some, in-range, ranged_at-range, below_at-range}
+use Rattle.json_look.proofs.Inversions.{then-some, map-some, tested-some, in-range, ranged_at-range, below_at-range}
+use Rattle.scenario_read.proofs.Inversions.{bind-ok, ok-same, found-ok, keeps-ok}
 use Rattle.scenario_read.proofs.ItemFacts.{AreRead, items_of-read, given_or-read, Keeps-each}
 
 pub record AreBeats (cubs beats : ℕ) : Type 0 where

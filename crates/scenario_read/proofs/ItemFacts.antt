@@ -5,9 +5,10 @@ use Rattle.std.proofs.lemmas.List.Elements.{All-push}
 use Rattle.serde_json.specs.Data.{Data}
 use Rattle.scenario_read.specs.declared.stop.ScenarioFault.{ScenarioFault}
 use Rattle.scenario_read.specs.Fault.{broken, found}
-use Rattle.scenario_read.specs.Json.{array_of, sized_array}
+use Rattle.json_look.specs.Json.{array_of, sized_array}
 use Rattle.scenario_read.specs.Items.{items_after, items_of, given_or}
-use Rattle.scenario_read.proofs.Inversions.{bind-ok, ok-same, found-ok, then-some, tested-some, in-range}
+use Rattle.json_look.proofs.Inversions.{then-some, tested-some, in-range}
+use Rattle.scenario_read.proofs.Inversions.{bind-ok, ok-same, found-ok}
 use Rattle.std.proofs.lemmas.Option.{same_Some}
 
 -- an item that is read behind a front keeps what holds of the front

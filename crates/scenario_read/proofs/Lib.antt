@@ -1,4 +1,3 @@
-pub mod JsonLemmas
 pub mod Loop
 pub mod Inversions
 pub mod ItemFacts

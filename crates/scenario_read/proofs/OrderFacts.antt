@@ -26,7 +26,7 @@ use Rattle.scenario_read.specs.declared.scenario.Scenario.{Scenario}
 use Rattle.scenario_read.specs.Events.{beat_of, starts_in}
 use Rattle.scenario_read.specs.Sound.{StartsWithin, IsScenario}
 use Rattle.scenario_read.specs.Orders.{HasDisks, IsCatalogueOf, infos_of, disk_in, first_disk, order_of, orders_from}
-use Rattle.scenario_read.proofs.Inversions.{map-some}
+use Rattle.json_look.proofs.Inversions.{map-some}
 use Rattle.scenario_read.proofs.EventFacts.{starts_in-take_cons, starts_in-one}
 
 -- ---- the orders one by one

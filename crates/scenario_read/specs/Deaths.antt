@@ -7,7 +7,7 @@ use Rattle.serde_json.specs.Find.{get}
 use Rattle.scenario_read.specs.declared.stop.ScenarioFault.{ScenarioFault}
 use Rattle.scenario_read.specs.declared.deaths.Death.{Death}
 use Rattle.scenario_read.specs.Fault.{◌>>=◌}
-use Rattle.scenario_read.specs.Json.{has_only, is_one_of, below_at}
+use Rattle.json_look.specs.Json.{has_only, is_one_of, below_at}
 use Rattle.scenario_read.specs.Items.{items_of, given_or}
 
 -- the same cub, or two that stand side by side in a ring of so many

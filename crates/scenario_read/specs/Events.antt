@@ -9,7 +9,7 @@ use Rattle.scenario_read.specs.declared.stop.ScenarioFault.{ScenarioFault}
 use Rattle.scenario_read.specs.declared.scenario.ScEvent.{ScEvent}
 use Rattle.scenario_read.specs.declared.scenario.ScEvent.TheVariants.{Begin, Finish}
 use Rattle.scenario_read.specs.Fault.{◌>>=◌, broken, exceeded, keeps, found}
-use Rattle.scenario_read.specs.Json.{has_only, is_one_of, below_at}
+use Rattle.json_look.specs.Json.{has_only, is_one_of, below_at}
 use Rattle.scenario_read.specs.Items.{items_of}
 
 abbrev pub beat_of : ScEvent → ℕ

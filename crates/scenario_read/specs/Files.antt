@@ -5,7 +5,7 @@ use Rattle.serde_json.specs.Find.{get, as_str}
 use Rattle.scenario_read.specs.declared.stop.ScenarioFault.{ScenarioFault}
 use Rattle.scenario_read.specs.declared.scenario.FileLine.{FileLine}
 use Rattle.scenario_read.specs.Fault.{◌>>=◌, broken, found}
-use Rattle.scenario_read.specs.Json.{has_only, is_one_of, below_at}
+use Rattle.json_look.specs.Json.{has_only, is_one_of, below_at}
 use Rattle.scenario_read.specs.Items.{items_of}
 
 -- a name of 1 to 200 bytes

@@ -3,7 +3,7 @@ use Rattle.std.specs.Prelude.{ℕ, List, [], ◌∷◌, ◌++◌, length, Option
 use Rattle.serde_json.specs.Data.{Data}
 use Rattle.scenario_read.specs.declared.stop.ScenarioFault.{ScenarioFault}
 use Rattle.scenario_read.specs.Fault.{◌>>=◌, broken, found}
-use Rattle.scenario_read.specs.Json.{sized_array}
+use Rattle.json_look.specs.Json.{sized_array}
 
 -- what the items mean after those in front of them; the first that means nothing there breaks the rule, and is named by its index
 unfoldable pub items_after : {X : Type 0} → ℕ → (List X → Data → Option X) → List X → List Data → Result (List X) ScenarioFault

@@ -1,5 +1,4 @@
 pub mod Fault
-pub mod Json
 pub mod Items
 pub mod Plan
 pub mod Timing

@@ -11,7 +11,7 @@ use Rattle.scenario_read.specs.declared.scenario.FileLine.{FileLine}
 use Rattle.scenario_read.specs.declared.scenario.ScEvent.{ScEvent}
 use Rattle.scenario_read.specs.declared.scenario.Scenario.{Scenario}
 use Rattle.scenario_read.specs.Fault.{◌>>=◌, broken, keeps, found}
-use Rattle.scenario_read.specs.Json.{json_of, has_only, is_one_of}
+use Rattle.json_look.specs.Json.{json_of, has_only, is_one_of}
 use Rattle.scenario_read.specs.Plan.{plan_of}
 use Rattle.scenario_read.specs.Timing.{beats_of, links_of, offsets_of}
 use Rattle.scenario_read.specs.Files.{files_of}

@@ -1,12 +1,13 @@
 -- The plan: its keys with their ranges, and its conditions.
-use Rattle.std.specs.Prelude.{ℕ, Option, Some, None, List, [], ◌∷◌, Result, Ok, Err, ⊤, codes}
+use Rattle.std.specs.Prelude.{ℕ, Bool, Option, Some, None, is_some, List, [], ◌∷◌, Result, Ok, Err, ⊤, codes}
 use Rattle.serde_json.specs.Data.{Data}
+use Rattle.serde_json.specs.Find.{as_object}
 use Rattle.slot_plan.specs.declared.params.Params.{Params}
 use Rattle.slot_plan.specs.declared.params.PlanFault.{PlanFault}
 use Rattle.slot_plan.specs.Conditions.{plan_fault}
 use Rattle.scenario_read.specs.declared.stop.ScenarioFault.{ScenarioFault}
 use Rattle.scenario_read.specs.Fault.{◌>>=◌, broken, keeps, found}
-use Rattle.scenario_read.specs.Json.{ranged_at, has_only, is_one_of, is_object}
+use Rattle.json_look.specs.Json.{ranged_at, has_only, is_one_of}
 
 -- the plan's key of this number, from low to high
 unfoldable pub plan_key : ℕ → List ℕ → ℕ → ℕ → Data → Result ℕ ScenarioFault
@@ -61,6 +62,9 @@ params_of d = do
 abbrev pub meets : Option PlanFault → Result ⊤ ScenarioFault
 meets None = Ok tt
 meets (Some fault) = Err (record { rule = 4; item = fault.condition; left = fault.left; right = fault.right })
+
+abbrev pub is_object : Data → Bool
+is_object d = is_some (as_object d)
 
 -- an object with exactly the plan's keys, whose numbers lie in their ranges and meet every condition
 unfoldable pub plan_of : Data → Result Params ScenarioFault

@@ -4,7 +4,7 @@ use Rattle.serde_json.specs.Data.{Data}
 use Rattle.serde_json.specs.Find.{get}
 use Rattle.node_kit.specs.declared.course.ReadFault.{ReadFault}
 use Rattle.scenario_read.specs.declared.stop.ScenarioFault.{ScenarioFault}
-use Rattle.scenario_read.specs.Json.{has_only, is_one_of, ranged_at, below_at}
+use Rattle.json_look.specs.Json.{has_only, is_one_of, ranged_at, below_at}
 use Rattle.scenario_read.specs.Items.{items_of, given_or}
 
 -- the beats of a read fault: at least one, and none beyond the run's

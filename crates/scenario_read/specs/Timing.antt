@@ -8,7 +8,7 @@ use Rattle.link_timing.specs.declared.Delay.TheVariants.{Fixed, Drawn}
 use Rattle.slot_plan.specs.declared.params.Params.{Params}
 use Rattle.scenario_read.specs.declared.stop.ScenarioFault.{ScenarioFault}
 use Rattle.scenario_read.specs.Fault.{◌>>=◌, broken, exceeded, keeps, found}
-use Rattle.scenario_read.specs.Json.{has_only, is_one_of, whole_at, ranged_at}
+use Rattle.json_look.specs.Json.{has_only, is_one_of, whole_at, ranged_at}
 use Rattle.scenario_read.specs.Items.{items_of, given_or}
 
 -- the number of beats: from 1 to 100000, and in all cubs together at most 2000000

@@ -6,8 +6,8 @@ ghost use Rattle.scenario_read.specs.Fault.{Gives, GivesAs};
 ghost use Rattle.scenario_read.specs.Items.{items_after};
 ghost use Rattle.scenario_read.specs.Deaths.{are_close, death_after, deaths_given, beat_for, death_in, by_cub, deaths_of};
 
-use crate::json::{below, broken, has_only, sized_array};
-use crate::stop::ReadStop;
+use crate::stop::{ReadStop, broken};
+use json_look::{below, has_only, sized_array};
 use serde_json::Value;
 use std::alloc::Global;
 use tiger_base::{Beat, NoMemory, Sequence};

@@ -6,9 +6,9 @@ ghost use Rattle.scenario_read.specs.Fault.{Gives, GivesAs};
 ghost use Rattle.scenario_read.specs.Items.{items_after};
 ghost use Rattle.scenario_read.specs.Events.{beat_of, starts_in, beat_from, start_in, stop_in, event_in, event_after, events_of, few_blocks};
 
-use crate::json::{below, broken, exceeded, has_only, sized_array};
 use crate::scenario::ScEvent;
-use crate::stop::ReadStop;
+use crate::stop::{ReadStop, broken, exceeded};
+use json_look::{below, has_only, sized_array};
 use serde_json::Value;
 use slot_plan::Plan;
 use std::alloc::Global;

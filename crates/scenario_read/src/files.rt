@@ -5,9 +5,9 @@ ghost use Rattle.scenario_read.specs.Fault.{Gives, GivesAs, broken, found};
 ghost use Rattle.scenario_read.specs.Items.{items_after};
 ghost use Rattle.scenario_read.specs.Files.{name_of, file_of, file_after, files_of};
 
-use crate::json::{below, broken, has_only, sized_array};
 use crate::scenario::{FileLine, Name};
-use crate::stop::ReadStop;
+use crate::stop::{ReadStop, broken};
+use json_look::{below, has_only, sized_array};
 use serde_json::Value;
 use std::alloc::Global;
 use tiger_base::{DiskNo, Sequence};

@@ -5,7 +5,6 @@ mod catalogue;
 mod deaths;
 mod events;
 mod files;
-mod json;
 mod orders;
 mod planning;
 mod read_faults;

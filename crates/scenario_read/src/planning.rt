@@ -5,8 +5,8 @@ ghost use Rattle.slot_plan.specs.Conditions.{IsInRange};
 ghost use Rattle.scenario_read.specs.Fault.{Gives, GivesAs};
 ghost use Rattle.scenario_read.specs.Plan.{plan_key, params_of, plan_of};
 
-use crate::json::{broken, has_only, ranged};
-use crate::stop::{ReadStop, ScenarioFault};
+use crate::stop::{ReadStop, ScenarioFault, broken};
+use json_look::{has_only, ranged};
 use serde_json::Value;
 use slot_plan::{Params, Plan};
 

@@ -5,8 +5,8 @@ ghost use Rattle.scenario_read.specs.Fault.{Gives, GivesAs};
 ghost use Rattle.scenario_read.specs.Items.{items_after};
 ghost use Rattle.scenario_read.specs.ReadFaults.{fault_on, read_fault_of, read_fault_after, read_faults_of};
 
-use crate::json::{below, broken, has_only, ranged, sized_array};
-use crate::stop::ReadStop;
+use crate::stop::{ReadStop, broken};
+use json_look::{below, has_only, ranged, sized_array};
 use node_kit::ReadFault;
 use serde_json::Value;
 use std::alloc::Global;

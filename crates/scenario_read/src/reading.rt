@@ -8,12 +8,12 @@ ghost use Rattle.scenario_read.specs.Sound.{IsScenario};
 use crate::deaths::deaths_of;
 use crate::events::{events_of, few_blocks};
 use crate::files::files_of;
-use crate::json::{broken, has_only, parse};
 use crate::planning::plan_of;
 use crate::read_faults::read_faults_of;
 use crate::scenario::Scenario;
-use crate::stop::ReadStop;
+use crate::stop::{ReadStop, broken};
 use crate::timing::{beats_of, links_of, offsets_of};
+use json_look::{has_only, parse};
 use node_kit::Course;
 use serde_json::Value;
 use std::alloc::Global;
@@ -82,6 +82,8 @@ pub fn read_scenario(alloc: Global, bytes: &[u8]) -> Result<Scenario, ReadStop>
     ensures gives { GivesAs said_by result (meaning bytes.now) }
     ensures sound { IfOk result IsScenario }
 {
-    let value = parse(alloc, bytes)?;
-    scenario_of(alloc, &value)
+    match parse(alloc, bytes)? {
+        Some(value) => scenario_of(alloc, &value),
+        None => Err(broken(1, 0)),
+    }
 }

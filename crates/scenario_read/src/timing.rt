@@ -6,8 +6,8 @@ ghost use Rattle.scenario_read.specs.Fault.{Gives, GivesAs};
 ghost use Rattle.scenario_read.specs.Items.{items_after};
 ghost use Rattle.scenario_read.specs.Timing.{beats_of, delay_of, links_of, offset_in, offset_after, offsets_of};
 
-use crate::json::{broken, exceeded, has_only, ranged, sized_array, whole};
-use crate::stop::ReadStop;
+use crate::stop::{ReadStop, broken, exceeded};
+use json_look::{has_only, ranged, sized_array, whole};
 use link_timing::Delay;
 use serde_json::Value;
 use slot_plan::Plan;

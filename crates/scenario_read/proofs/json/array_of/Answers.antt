@@ -1,5 +1,0 @@
-use Rattle.scenario_read.proofs.JsonLemmas.{array_of-seen}
-use Rattle.scenario_read.proofs.json.array_of.Goals as goal
-
-pub returns : goal.returns
-returns c = array_of-seen c.as_array.result _ c.as_array.ensures
