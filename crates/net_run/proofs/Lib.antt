@@ -1,6 +1,12 @@
+pub mod Asked
+pub mod Beside
+pub mod Fronts
 pub mod Loads
+pub mod Packets
 pub mod Ranges
 pub mod Scenes
+pub mod Spans
 pub mod Steps
 pub mod Sums
+pub mod Turned
 pub mod Unasked

@@ -1,15 +1,14 @@
 -- Numbers from one on.
-use Rattle.std.proofs.Common.{◌≡◌, ◌∙◌, ℕ, zero, suc, ◌+◌, ◌-◌, ◌<◌, ◌≤◌, List, [], ◌∷◌, ◌++◌, length, map, sym, ap, refl, arith, append_assoc}
+use Rattle.std.proofs.Common.{◌≡◌, ◌∙◌, ℕ, zero, suc, ◌+◌, ◌-◌, ◌<◌, ◌≤◌, List, [], ◌∷◌, ◌++◌, length, sym, ap, refl, arith, append_assoc}
 use Rattle.std.specs.Prelude.{slice_get}
 use Rattle.std.specs.Option.{is_some}
 use Rattle.std.specs.List.{range_with_len, fold}
 use Rattle.std.specs.Prelude.{true}
 use Rattle.std.proofs.lemmas.List.Sums.{fold_push}
-use Rattle.net_schedule.specs.declared.world.NetEvent.{NetEvent}
-use Rattle.net_schedule.specs.declared.world.NetEvent.TheVariants as event
 use Rattle.net_read.specs.Plans.{NetSaid}
-use Rattle.net_run.specs.Runs.{Running, done, happened, renewals, stepped, begun, run_to}
+use Rattle.net_run.specs.Runs.{Running, stepped, begun, run_to}
 use Rattle.net_run.specs.Sent.{AreBelow}
+use Rattle.net_run.specs.Shortened.{renewed_by, renewed_in}
 
 pub range_more : (a n : ℕ) → range_with_len a (n + 1) ≡ range_with_len a n ++ (a + n) ∷ []
 range_more a zero = ap (λ (m : ℕ). m ∷ []) (omega arith)
@@ -17,7 +16,7 @@ range_more a (suc n) =
     let opened : suc n + 1 ≡ suc (n + 1) = omega arith in
     ap (range_with_len a) opened ∙ ap (λ (xs : List ℕ). a ∷ xs) (range_more (a + 1) n ∙ ap (λ (m : ℕ). range_with_len (a + 1) n ++ m ∷ []) (omega arith))
 
-range_next : (n : ℕ) → range_with_len 0 (n + 1) ≡ range_with_len 0 n ++ n ∷ []
+pub range_next : (n : ℕ) → range_with_len 0 (n + 1) ≡ range_with_len 0 n ++ n ∷ []
 range_next n = range_more 0 n ∙ ap (λ (m : ℕ). range_with_len 0 n ++ m ∷ []) (omega arith)
 
 -- one more number is put behind those so far
@@ -45,14 +44,10 @@ there (x ∷ xs) zero low = refl
 there (x ∷ xs) (suc n) low = there xs n (omega (arith, low))
 
 -- one more cub renews
-pub renewals_more : (r s : Running) (n : ℕ) → s ≡ happened r (renewals n) → done s (event.Renew (record { 0 = n })) ≡ happened r (renewals (n + 1))
-renewals_more r s n e =
-    ap (λ (q : Running). done q (event.Renew (record { 0 = n }))) e
-    ∙ sym (ap (λ (es : List NetEvent). happened r es) (ap (λ (xs : List ℕ). map (λ (c : ℕ). event.Renew (record { 0 = c })) xs) (range_next n) ∙ map_push (range_with_len 0 n) n) ∙ fold_push done r (renewals n) (event.Renew (record { 0 = n })))
-  where
-    map_push : (xs : List ℕ) (m : ℕ) → map (λ (c : ℕ). event.Renew (record { 0 = c })) (xs ++ m ∷ []) ≡ map (λ (c : ℕ). event.Renew (record { 0 = c })) xs ++ event.Renew (record { 0 = m }) ∷ []
-    map_push [] m = refl
-    map_push (x ∷ xs) m = ap (λ (es : List NetEvent). event.Renew (record { 0 = x }) ∷ es) (map_push xs m)
+pub renewed_more : (left : ℕ) (r s : Running) (n : ℕ) → s ≡ renewed_in left r n → renewed_by left s n ≡ renewed_in left r (n + 1)
+renewed_more left r s n e =
+    ap (λ (q : Running). renewed_by left q n) e
+    ∙ sym (ap (λ (cs : List ℕ). fold (renewed_by left) r cs) (range_next n) ∙ fold_push (renewed_by left) r (range_with_len 0 n) n)
 
 -- one more step
 pub run_more : (p : NetSaid) (r : Running) (i : ℕ) → r ≡ run_to p i → stepped p r i ≡ run_to p (i + 1)

@@ -49,18 +49,17 @@ take-nil : (n : ℕ) → take n no_events ≡ no_events
 take-nil zero = refl
 take-nil (suc n) = refl
 
-always_first : (r : NetRing) → IsMadeByEvents (fresh_world r) → KeepsToCapacity (fresh_world r) → AlwaysKeeps (fresh_world r)
+pub always_first : (r : NetRing) → IsMadeByEvents (fresh_world r) → KeepsToCapacity (fresh_world r) → AlwaysKeeps (fresh_world r)
 always_first r made keeps n = subst KeepsToCapacity (sym (ap (λ (es : List NetEvent). (history r es).world) (take-nil n) ∙ made)) keeps
 
-pub scene_first : (r : NetRing) (w : WorldState) (row : List ℕ) → w ≡ fresh_world r → row ≡ zeros (quanta_in r) → IsWorld w → KeepsToCapacity w
+pub scene_first : (r : NetRing) (w : WorldState) (row : List ℕ) → w ≡ fresh_world r → row ≡ zeros (quanta_in r) → IsWorld w
     → IsScene r w no_peak row false
-scene_first r w row ew er is keeps = rw (ew, er) (record {
+scene_first r w row ew er is = rw (ew, er) (record {
   ring = refl;
   world = subst IsWorld ew is;
   carried = record { len = length-zeros (quanta_in r); is = λ k low. at-zeros (quanta_in r) k ∙ sym (no_sum r k) };
   seen = λ e k low. omega (arith, at-zeros (quanta_in r) k);
   few = omega arith;
-  always = always_first r (subst IsMadeByEvents ew is.made) (subst KeepsToCapacity ew keeps);
 })
 
 -- ---- a further event
@@ -152,7 +151,6 @@ scene_next r w v e p row new risen then_risen was now h is ev c d er = record {
   carried = row_next w v was now row new (ap (λ (y : WorldState). y.ring) ev) h.carried c (subst (λ (q : NetRing). IsChanged q row new was now) h.ring d);
   seen = λ idle. under risen (rises was now) refl refl (sym er ∙ idle);
   few = subst (λ (q : NetRing). p.sum ≤ q.capacity) (sym (ap (λ (y : WorldState). y.ring) ev)) h.few;
-  always = subst AlwaysKeeps (sym ev) (always_next w e (subst IsMadeByEvents ev is.made) (subst KeepsToCapacity ev (capacity v is)) h.always);
 }
   where
     under : (a b : Bool) → risen ≡ a → rises was now ≡ b → (a || b) ≡ false → IsUnder new p.sum
@@ -167,5 +165,4 @@ scene_looked r w p q row risen h eq = rw eq (record {
   carried = h.carried;
   seen = λ idle. peak_over p row;
   few = peak_low p row w.ring.capacity h.few (row_low w row h.carried (capacity w h.world));
-  always = h.always;
 })

@@ -1,11 +1,12 @@
 -- The orders of a step, one after the other, and the steps.
-use Rattle.std.proofs.Common.{◌≡◌, ◌∙◌, ℕ, zero, suc, ◌+◌, ◌<◌, ◌≤◌, ◌==◌, Bool, true, false, cond, List, [], ◌∷◌, ◌++◌, length, drop, map, Some, None, Option, refl, sym, ap, subst, arith, eq-eqb, get_or, ⊎_elim, eq-or-lt_of_le}
+use Rattle.std.proofs.Common.{◌≡◌, ◌∙◌, ℕ, zero, suc, ◌+◌, ◌<◌, ◌≤◌, ◌==◌, ◌||◌, ◌-◌, Bool, true, false, cond, List, [], ◌∷◌, ◌++◌, length, drop, map, Some, None, Option, refl, sym, ap, subst, arith, eq-eqb, get_or, ⊎_elim, eq-or-lt_of_le}
 use Rattle.std.specs.Prelude.{slice_get, find}
-use Rattle.std.specs.List.{range_with_len}
+use Rattle.std.specs.List.{range_with_len, fold}
 use Rattle.std.proofs.lemmas.Bool.{eqb-true}
 use Rattle.tiger_base.specs.declared.number.Instance.{Instance}
 use Rattle.net_schedule.specs.declared.ring.NetRing.{NetRing}
 use Rattle.net_schedule.specs.declared.world.NetEvent.{NetEvent}
+use Rattle.net_schedule.specs.declared.world.NetEvent.TheVariants as event
 use Rattle.net_schedule.specs.Worlds.{WorldState, fresh_world, cub_at, fault_of, IsPossible}
 use Rattle.net_schedule.specs.declared.ring.Own.{Own}
 use Rattle.net_schedule.specs.Cubs.{fresh_cub, is_asked}
@@ -15,7 +16,8 @@ use Rattle.net_read.specs.declared.plan.NetOrder.{NetOrder}
 use Rattle.net_read.specs.declared.plan.NetOrder.TheVariants as order
 use Rattle.net_read.specs.Orders.{step_of, asks_of, IsOrderIn, AreOrdersFrom, AreOrders}
 use Rattle.net_read.specs.Plans.{NetSaid}
-use Rattle.net_run.specs.Runs.{Running, done, came, fated, drawn, draw_of, taking_first, delivered, happened, renewed, renewals, is_renewal, event_of, is_in, if_in, ordered, stepped}
+use Rattle.net_run.specs.Runs.{Running, done, came, fated, drawn, draw_of, taking_first, delivered, happened, is_renewal, event_of, is_in, if_in, ordered}
+use Rattle.net_run.specs.Shortened.{has_enough, is_quiet, renewed_by, renewed_in, shortly_renewed, shortly_stepped}
 use Rattle.net_run.specs.Sent.{OnlyBelow, StaysUnasked, NoneIsAsked, IsAtStep}
 
 -- ---- the place of the next order
@@ -54,7 +56,7 @@ pub amid_first : (w : WorldState) (orders : List NetOrder) (step first : ℕ) �
 amid_first w orders step first h = record { rest = λ j low. h.rest j (omega (arith, low)); steps = h.steps; asks = h.asks; possible = h.possible; new = h.new }
 
 -- the next order may be done
-head : (w : WorldState) (n step asks : ℕ) (o : NetOrder) → IsOrderIn w.ring n step asks o → OnlyBelow w asks → IsPossible w.ring (event_of o) × (fault_of w (event_of o) ≡ None)
+pub head : (w : WorldState) (n step asks : ℕ) (o : NetOrder) → IsOrderIn w.ring n step asks o → OnlyBelow w asks → IsPossible w.ring (event_of o) × (fault_of w (event_of o) ≡ None)
 head w n step asks (order.Ask at entry) h new =
     let fresh = new entry.instance (omega (arith, h.possible.0)) in
     ((h.possible.1.at, h.possible.1.some, h.possible.1.few), rw fresh refl)
@@ -69,7 +71,7 @@ amid_can w orders step next o h e =
     head w h.steps step h.asks o each.0 h.new
 
 -- and then the place is that of the one behind it
-fresh_behind : (w v : WorldState) (n step asks : ℕ) (o : NetOrder) → IsOrderIn w.ring n step asks o → StaysUnasked (event_of o) w v → OnlyBelow w asks → OnlyBelow v (asks + asks_of o)
+pub fresh_behind : (w v : WorldState) (n step asks : ℕ) (o : NetOrder) → IsOrderIn w.ring n step asks o → StaysUnasked (event_of o) w v → OnlyBelow w asks → OnlyBelow v (asks + asks_of o)
 fresh_behind w v n step asks (order.Ask at entry) h stays new u low =
     stays u (not_same entry.instance.0 u.0 (λ e. absurd (omega (arith, low, e, h.possible.0)))) (new u (omega (arith, low)))
 fresh_behind w v n step asks (order.Stop at instance) h stays new u low = stays u refl (new u (omega (arith, low)))
@@ -106,7 +108,7 @@ did_next r q orders step next o e eq =
     ap (λ (s : Running). happened s (ordered (drop (next + 1) orders) step)) eq ∙ sym (ap (happened r) first)
 
 -- no order is left in a step
-none_from : (r : NetRing) (n i asks : ℕ) (xs : List NetOrder) → AreOrdersFrom r n (i + 1) asks xs → ordered xs i ≡ []
+pub none_from : (r : NetRing) (n i asks : ℕ) (xs : List NetOrder) → AreOrdersFrom r n (i + 1) asks xs → ordered xs i ≡ []
 none_from r n i asks [] h = refl
 none_from r n i asks (o ∷ os) h =
     let other : is_in i o ≡ false = not_same (step_of o) i (λ e. absurd (omega (arith, e, h.0.late))) in
@@ -116,7 +118,7 @@ none_from r n i asks (o ∷ os) h =
     later r n a b asks [] le g = tt
     later r n a b asks (x ∷ xs) le g = (record { late = omega (arith, le, g.0.late); early = g.0.early; possible = g.0.possible }, g.1)
 
-raised : (r : NetRing) (n i asks : ℕ) (orders : List NetOrder) (p : ℕ) → if_in i (slice_get orders p) ≡ None → AreOrdersFrom r n i asks (drop p orders) → AreOrdersFrom r n (i + 1) asks (drop p orders)
+pub raised : (r : NetRing) (n i asks : ℕ) (orders : List NetOrder) (p : ℕ) → if_in i (slice_get orders p) ≡ None → AreOrdersFrom r n i asks (drop p orders) → AreOrdersFrom r n (i + 1) asks (drop p orders)
 raised r n i asks orders p e h = cases (slice_get orders p) refl e
   where
     cases : (x : Option NetOrder) → slice_get orders p ≡ x → if_in i x ≡ None → AreOrdersFrom r n (i + 1) asks (drop p orders)
@@ -167,11 +169,22 @@ pub happened_ring : (r : Running) (es : List NetEvent) → (happened r es).scene
 happened_ring r [] = refl
 happened_ring r (e ∷ es) = happened_ring (done r e) es
 
-pub renewed_ring : (p : NetSaid) (r : Running) (i : ℕ) → (renewed p r i).scene.world.ring ≡ r.scene.world.ring
-renewed_ring p r i = cases (is_renewal p.renew i)
+pub renewed_by_ring : (left : ℕ) (r : Running) (c : ℕ) → (renewed_by left r c).scene.world.ring ≡ r.scene.world.ring
+renewed_by_ring left r c = cases (has_enough left r || is_quiet (cub_at r.scene.world c))
   where
-    cases : (b : Bool) → (cond b (happened r (renewals p.ring.cubs)) r).scene.world.ring ≡ r.scene.world.ring
-    cases true = happened_ring r (renewals p.ring.cubs)
+    cases : (b : Bool) → (cond b r (done r (event.Renew (record { 0 = c })))).scene.world.ring ≡ r.scene.world.ring
+    cases true = refl
+    cases false = refl
+
+renewed_in_ring : (left : ℕ) (r : Running) (cs : List ℕ) → (fold (renewed_by left) r cs).scene.world.ring ≡ r.scene.world.ring
+renewed_in_ring left r [] = refl
+renewed_in_ring left r (c ∷ cs) = renewed_in_ring left (renewed_by left r c) cs ∙ renewed_by_ring left r c
+
+pub shortly_renewed_ring : (p : NetSaid) (r : Running) (i : ℕ) → (shortly_renewed p r i).scene.world.ring ≡ r.scene.world.ring
+shortly_renewed_ring p r i = cases (is_renewal p.renew i)
+  where
+    cases : (b : Bool) → (cond b (renewed_in (p.steps - i) r p.ring.cubs) r).scene.world.ring ≡ r.scene.world.ring
+    cases true = renewed_in_ring (p.steps - i) r (range_with_len 0 p.ring.cubs)
     cases false = refl
 
 pub delivered_ring : (r : Running) → (delivered r).scene.world.ring ≡ r.scene.world.ring
@@ -190,6 +203,7 @@ delivered_ring r = firsts r.out
     firsts [] = refl
     firsts (n ∷ rest) = fates (record r { out = rest; draws = drawn r.draws }) n (draw_of r.draws) refl
 
-pub stepped_ring : (p : NetSaid) (r : Running) (i : ℕ) → (stepped p r i).scene.world.ring ≡ r.scene.world.ring
-stepped_ring p r i =
-    delivered_ring (renewed p (happened r (ordered p.orders i)) i) ∙ renewed_ring p (happened r (ordered p.orders i)) i ∙ happened_ring r (ordered p.orders i)
+pub shortly_stepped_ring : (p : NetSaid) (r : Running) (i : ℕ) → (shortly_stepped p r i).scene.world.ring ≡ r.scene.world.ring
+shortly_stepped_ring p r i =
+    delivered_ring (shortly_renewed p (happened r (ordered p.orders i)) i) ∙ shortly_renewed_ring p (happened r (ordered p.orders i)) i
+    ∙ happened_ring r (ordered p.orders i)

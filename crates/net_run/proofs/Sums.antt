@@ -167,7 +167,7 @@ pub sent_some : (p : Option Packet) → cond (is_some p) None (Some cause.NeverS
 sent_some None e = absurd (cc)
 sent_some (Some q) e = (q, refl)
 
-unused : (o : Option ℕ) → cond (is_some o) (Some cause.Used) None ≡ None → o ≡ None
+pub unused : (o : Option ℕ) → cond (is_some o) (Some cause.Used) None ≡ None → o ≡ None
 unused None e = refl
 unused (Some c) e = absurd (cc)
 

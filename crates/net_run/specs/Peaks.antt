@@ -8,7 +8,7 @@ use Rattle.net_schedule.specs.declared.packet.Packet.{Packet}
 use Rattle.net_schedule.specs.declared.packet.Packet.TheVariants as packet
 use Rattle.net_schedule.specs.declared.world.NetEvent.{NetEvent}
 use Rattle.net_schedule.specs.declared.world.NetEvent.TheVariants as event
-use Rattle.net_schedule.specs.Rings.{quanta_in, most_quanta, most_capacity}
+use Rattle.net_schedule.specs.Rings.{quanta_in, takes, most_quanta, most_capacity}
 use Rattle.net_schedule.specs.Cubs.{is_of, is_placed, kept_rate}
 use Rattle.net_schedule.specs.Worlds.{WorldState, cub_at, asked_at}
 use Rattle.net_schedule.specs.Links.{IsWorld}
@@ -86,6 +86,22 @@ pub record IsMoreIn (r : NetRing) (e : Entry) (low high : List ℕ) : Type 0 whe
   pub len : length high ≡ length low
   pub more : (k : ℕ) → k < length low → get_or high k 0 ≡ get_or low k 0 + kept_rate r k e
 
+-- where in a row of so many quanta those of an entry lie: before the first place, and from the second to the third
+pub record AreParts (r : NetRing) (at len wrapped first end : ℕ) : Type 0 where
+  pub apart : wrapped ≤ first
+  pub order : first ≤ end
+  pub low : end ≤ len
+  pub between : (k : ℕ) → wrapped ≤ k → k < first → takes r at k ≡ false
+  pub behind : (k : ℕ) → end ≤ k → k < len → takes r at k ≡ false
+
+-- a row has, in each quantum from one place to another, what another has and what an entry takes of it, and is the same
+-- elsewhere
+pub record IsMoreWithin (r : NetRing) (e : Entry) (first end : ℕ) (low high : List ℕ) : Type 0 where
+  pub len : length high ≡ length low
+  pub more : (k : ℕ) → first ≤ k → k < end → get_or high k 0 ≡ get_or low k 0 + kept_rate r k e
+  pub before : (k : ℕ) → k < first → get_or high k 0 ≡ get_or low k 0
+  pub behind : (k : ℕ) → end ≤ k → get_or high k 0 ≡ get_or low k 0
+
 -- a row has at least what an entry takes of each quantum
 abbrev pub HasEntry : NetRing → Entry → List ℕ → Type 0
 HasEntry r e row = (k : ℕ) → k < length row → kept_rate r k e ≤ get_or row k 0
@@ -116,12 +132,11 @@ pub record IsChanged (r : NetRing) (old new : List ℕ) (was now : Option Entry)
   pub len : length new ≡ length old
   pub sums : (k : ℕ) → k < length old → get_or new k 0 + rate_of r k was ≡ get_or old k 0 + rate_of r k now
 
--- what always holds of a ring that is looked at: what its quanta carry stands in a row, and they never carried more
--- than the capacity; and if nothing was placed since it was last looked at, none of them carries more than the peak
+-- what always holds of a ring that is looked at: what its quanta carry stands in a row; and if nothing was placed since
+-- it was last looked at, none of them carries more than the peak
 pub record IsScene (r : NetRing) (w : WorldState) (p : Peak) (row : List ℕ) (risen : Bool) : Type 0 where
   pub ring : r ≡ w.ring
   pub world : IsWorld w
   pub carried : IsRow w row
   pub seen : risen ≡ false → IsUnder row p.sum
   pub few : p.sum ≤ w.ring.capacity
-  pub always : AlwaysKeeps w

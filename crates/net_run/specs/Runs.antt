@@ -1,6 +1,7 @@
 -- A run of a plan: what each step makes of the ring, and of the packets that are under way.
-use Rattle.std.specs.Prelude.{ℕ, ◌-◌, ◌%◌, ◌==◌, ◌&&◌, nat_lt, Bool, false, if◌then◌else◌, List, [], ◌∷◌, ◌++◌, length, map, filter, Option, Some, None, option_map, unwrap_or}
-use Rattle.std.specs.List.{fold, range_with_len, flat_map}
+use Rattle.std.specs.Prelude.{◌≡◌, ℕ, ◌-◌, ◌%◌, ◌==◌, ◌&&◌, nat_lt, Bool, true, false, if◌then◌else◌, List, [], ◌∷◌, ◌++◌, length, map, filter, Option, Some, None, option_map, unwrap_or}
+use Rattle.std.specs.List.{fold, range_with_len, flat_map, AllByRecursion}
+use Rattle.std.specs.Option.{is_some}
 use Rattle.rand_pcg.specs.Lcg.{Lcg, started, increment_of}
 use Rattle.rand_pcg.specs.Pcg.{multiplier_64, pcg32}
 use Rattle.net_schedule.specs.declared.ring.Entry.{Entry}
@@ -136,10 +137,15 @@ abbrev pub entry_of : NetOrder → List Entry
 entry_of (order.Ask step entry) = entry ∷ []
 entry_of (order.Stop step instance) = []
 
--- how the entry of an instance stands; it waits, as far as is known, if it was never asked for
+-- how the entry of an instance stands; that nothing is known of it, and so it waits, never comes (`EachStands`)
 abbrev pub standing_of : WorldState → Entry → Own
 standing_of w e = record { entry = e; state = unwrap_or (state_at w (asked_at w e.instance) e.instance) state.Waiting }
 
 -- each entry that is asked for, in order, and how it stands in a ring
 abbrev pub standings : List NetOrder → WorldState → List Own
 standings orders w = map (standing_of w) (flat_map entry_of orders)
+
+-- each entry that is asked for was asked of its cub, so that how it stands is known
+abbrev pub EachStands : List NetOrder → WorldState → Type 0
+EachStands orders w =
+    AllByRecursion (λ e. is_some (state_at w (asked_at w e.instance) e.instance) ≡ true) (flat_map entry_of orders)

@@ -1,5 +1,5 @@
 -- Plans for the worked rows: a ring of three cubs with four quanta each, and a capacity of ten.
-use Rattle.std.specs.Prelude.{ℕ, List, [], ◌∷◌, Option, Some, None}
+use Rattle.std.specs.Prelude.{ℕ, List, [], ◌∷◌, Option, None, length}
 use Rattle.net_schedule.specs.declared.ring.NetState.{NetState}
 use Rattle.net_schedule.specs.declared.ring.NetState.TheVariants as state
 use Rattle.net_schedule.specs.declared.ring.Own.{Own}
@@ -8,7 +8,8 @@ use Rattle.net_read.specs.declared.plan.NetOrder.{NetOrder}
 use Rattle.net_read.specs.declared.plan.NetOrder.TheVariants as order
 use Rattle.net_read.specs.Plans.{NetSaid}
 use Rattle.net_run.specs.declared.peak.Peak.{Peak}
-use Rattle.net_run.specs.Runs.{run_of, standings}
+use Rattle.net_run.specs.Runs.{Running, begun, happened, ordered, run_of, standings}
+use Rattle.net_run.specs.Shortened.{renewed_by}
 
 abbrev pub ask_in : ℕ → ℕ → ℕ → ℕ → NetOrder
 ask_in step v at rate = order.Ask step (entry v at rate)
@@ -59,3 +60,11 @@ overtaken = five_steps None (ask_in 0 0 4 8 ∷ ask_in 0 1 2 3 ∷ [])
 -- an entry is stopped, and another one takes its quanta
 abbrev pub freed : NetSaid
 freed = five_steps None (ask_in 0 0 2 6 ∷ stop_in 3 0 ∷ ask_in 4 1 5 5 ∷ [])
+
+-- one packet is under way: the Reserve of an entry that cub 0 was asked for
+abbrev pub asked : Running
+asked = happened (begun (five_steps None [])) (ordered (ask_in 0 0 2 6 ∷ []) 0)
+
+-- how many are under way once cub 0 renewed, while so many steps are left
+abbrev pub out_after : ℕ → ℕ
+out_after left = length (renewed_by left asked 0).out

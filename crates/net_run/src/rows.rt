@@ -3,10 +3,11 @@
 ghost use Rattle.std.specs.Prelude.{◌≡◌, [], ◌∷◌, ◌++◌, true, false, Some, None, codes};
 ghost use Rattle.std.specs.Fmt.{decimal};
 ghost use Rattle.net_run.specs.Peaks.{higher, rises};
-ghost use Rattle.net_run.specs.Runs.{is_renewal, ordered, event_of};
+ghost use Rattle.net_run.specs.Runs.{EachStands, run_of, is_renewal, ordered, event_of};
+ghost use Rattle.net_run.specs.Shortened.{is_quiet};
 ghost use Rattle.net_run.specs.Text.{state_text};
-ghost use Rattle.net_run.specs.Samples.{peak, own, ask_in, stop_in, placed, waiting, stopped, full, refused, told_of, peak_of, filled, overtaken, freed};
-ghost use Rattle.net_schedule.specs.Samples.{entry};
+ghost use Rattle.net_run.specs.Samples.{peak, own, ask_in, stop_in, placed, waiting, stopped, full, refused, out_after, told_of, peak_of, filled, overtaken, freed};
+ghost use Rattle.net_schedule.specs.Samples.{entry, second, ring_with};
 
 /// The greater of two peaks, and the first if they are as great.
 pub fn peaks()
@@ -26,11 +27,29 @@ pub fn renewals()
     ensures between { is_renewal (Some 2) 5 ≡ false }
 {}
 
+/// A cub passes its renewal over if as many packets are under way as steps are left, and not if one less is;
+/// and if no entry waits there and it keeps none.
+#[tactic(auto, unfolding(net_schedule::specs::Cubs::first_over))]
+pub fn passed_over()
+    ensures enough { out_after 1 ≡ 1 }
+    ensures one_less { out_after 2 ≡ 2 }
+    ensures waits { is_quiet (second (own 0 6 5 waiting ∷ []) []) ≡ false }
+    ensures keeps { is_quiet (second [] (entry 0 2 6 ∷ [])) ≡ false }
+    ensures placed { is_quiet (second (own 0 6 5 placed ∷ []) []) ≡ true }
+{}
+
 /// The orders of a step are those that name it, in their order.
 pub fn steps()
     ensures both { ordered (ask_in 1 0 2 6 ∷ stop_in 1 0 ∷ ask_in 2 1 2 6 ∷ []) 1
         ≡ event_of (ask_in 1 0 2 6) ∷ event_of (stop_in 1 0) ∷ [] }
     ensures none { ordered (ask_in 1 0 2 6 ∷ []) 0 ≡ [] }
+{}
+
+/// An entry that a plan asks for was asked of its cub in its run; in a ring of which nothing was asked none was.
+#[tactic(auto, unfolding(crate::specs::Runs::run_to, net_schedule::specs::Cubs::first_over))]
+pub fn asks()
+    ensures asked { EachStands freed.orders (run_of freed).scene.world }
+    ensures never { EachStands freed.orders (ring_with []) → ⊥ }
 {}
 
 /// How an entry's line ends.

@@ -1,8 +1,9 @@
 //! The run of a plan.
-ghost use Rattle.std.specs.Prelude.{◌≡◌, ◌+◌, ◌≤◌, slice_get, IfOk, IfSome, OnOk};
+ghost use Rattle.std.specs.Prelude.{◌≡◌, ◌+◌, ◌<◌, ◌≤◌, slice_get, IfOk, IfSome, OnOk};
 ghost use Rattle.net_read.specs.Plans.{IsCount};
 ghost use Rattle.net_run.specs.Peaks.{AlwaysKeeps};
-ghost use Rattle.net_run.specs.Runs.{event_of, if_in, is_renewal, ordered, happened, renewed, run_of, standings, stepped};
+ghost use Rattle.net_run.specs.Runs.{EachStands, event_of, if_in, is_renewal, ordered, happened, run_of, standings};
+ghost use Rattle.net_run.specs.Shortened.{shortly_renewed, shortly_stepped};
 ghost use Rattle.net_run.specs.Sent.{IsAtStep, NoneIsAsked};
 ghost use Rattle.net_run.specs.Text.{net_text};
 
@@ -90,15 +91,16 @@ fn do_orders(
     Ok(next)
 }
 
-/// Has all cubs send again what was maybe lost, if it is time in a step.
+/// Has the cubs send again what was maybe lost, if it is time in a step.
 fn renew_at(run: &mut Running, plan: &NetPlan, step: u64) -> Result<(), NoMemory>
-    requires { run.old.scene.world.ring ≡ plan.now.ring }
-    ensures renewed { OnOk result (run.new ≡ renewed plan.now run.old step) }
+    requires ring { run.old.scene.world.ring ≡ plan.now.ring }
+    requires step { step < plan.now.steps }
+    ensures renewed { OnOk result (run.new ≡ shortly_renewed plan.now run.old step) }
     ensures new { OnOk result (NoneIsAsked run.old.scene.world run.new.scene.world) }
 {
     plan.is_sound();
     if is_renewal(plan.renew(), step) {
-        run.renew(plan.ring().cubs)?;
+        run.renew(plan.ring().cubs, plan.steps() - step)?;
     }
     Ok(())
 }
@@ -107,8 +109,9 @@ fn renew_at(run: &mut Running, plan: &NetPlan, step: u64) -> Result<(), NoMemory
 /// delivery; the place of the next step's first order.
 fn take_step(run: &mut Running, plan: &NetPlan, step: u64, first: usize) -> Result<usize, NoMemory>
     requires ring { run.old.scene.world.ring ≡ plan.now.ring }
+    requires step { step < plan.now.steps }
     requires first { IsAtStep run.old.scene.world plan.now.orders step first }
-    ensures stepped { OnOk result (run.new ≡ stepped plan.now run.old step) }
+    ensures stepped { OnOk result (run.new ≡ shortly_stepped plan.now run.old step) }
     ensures next { IfOk result (λ next. IsAtStep run.new.scene.world plan.now.orders (step + 1) next) }
 {
     let next = do_orders(run, plan.orders(), step, first)?;
@@ -135,12 +138,17 @@ fn standings(alloc: Global, orders: &[NetOrder], world: &NetWorld) -> Result<Vec
     Ok(entries)
 }
 
-/// Runs a plan, step by step. No quantum carries more than the capacity at any moment.
+/// Runs a plan, step by step: the cubs and the peak are as the run leaves them in which all is sent that
+/// a renewal sends, though the ring here did not send what could not come any more. At no moment of
+/// that run a quantum carries more than the capacity.
 pub fn run_net(alloc: Global, plan: &NetPlan) -> Result<NetRun, NoMemory>
-    ensures world { IfOk result (λ r. r.world ≡ (run_of plan.now).scene.world) }
+    ensures ring { IfOk result (λ r. r.world.ring ≡ plan.now.ring) }
+    ensures cubs { IfOk result (λ r. r.world.cubs ≡ (run_of plan.now).scene.world.cubs) }
+    ensures entries { IfOk result (λ r. r.entries
+        ≡ standings plan.now.orders (run_of plan.now).scene.world) }
+    ensures stands { OnOk result (EachStands plan.now.orders (run_of plan.now).scene.world) }
     ensures peak { IfOk result (λ r. r.peak ≡ (run_of plan.now).scene.peak) }
-    ensures entries { IfOk result (λ r. r.entries ≡ standings plan.now.orders r.world) }
-    ensures always { IfOk result (λ r. AlwaysKeeps r.world) }
+    ensures always { OnOk result (AlwaysKeeps (run_of plan.now).scene.world) }
     ensures few { IfOk result (λ r. r.peak.sum ≤ plan.now.ring.capacity) }
 {
     plan.is_sound();

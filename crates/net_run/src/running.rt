@@ -1,15 +1,16 @@
 //! A run between two events: the ring, the packets that are under way, and what becomes of them.
 ghost use Rattle.std.specs.Prelude.{◌≡◌, ◌<◌, ◌≤◌, ◌-◌, ◌++◌, None, length, IfOk, OnOk};
-ghost use Rattle.std.specs.List.{range_with_len};
-ghost use Rattle.net_schedule.specs.Worlds.{IsPossible, fault_of};
-ghost use Rattle.net_run.specs.Peaks.{AlwaysKeeps};
-ghost use Rattle.net_run.specs.Runs.{begun, done, came, fated, delivered, drawn, draw_of, happened, renewals, looked};
+ghost use Rattle.std.specs.List.{range_with_len, list_any};
+ghost use Rattle.net_schedule.specs.Cubs.{is_waiting};
+ghost use Rattle.net_schedule.specs.Worlds.{IsPossible, fault_of, cub_at};
+ghost use Rattle.net_run.specs.Runs.{begun, done, came, fated, delivered, drawn, draw_of, looked};
+ghost use Rattle.net_run.specs.Shortened.{is_quiet, renewed_by, renewed_in};
 ghost use Rattle.net_run.specs.Sent.{AreBelow, StaysUnasked, NoneIsAsked};
 
 use crate::peak::Peak;
 use crate::scene::Scene;
 use net_read::NetPlan;
-use net_schedule::{NetEvent, NetWorld};
+use net_schedule::{NetCub, NetEvent, NetState, NetWorld, Own};
 use rand_core::utils::NextWord;
 use rand_pcg::Lcg64Xsh32;
 use std::alloc::Global;
@@ -116,16 +117,29 @@ impl Running {
         self.meet(number, draw)
     }
 
-    /// Has each of so many cubs send again what was maybe lost, by number.
-    pub(crate) fn renew(&mut self, cubs: u32) -> Result<(), NoMemory>
+    /// Has each of so many cubs send again what was maybe lost, by number, while so many steps are
+    /// left; not a cub of whose packets none can come, or that would send none.
+    pub(crate) fn renew(&mut self, cubs: u32, left: u64) -> Result<(), NoMemory>
         requires { cubs ≤ self.old.scene.world.ring.cubs }
-        ensures happened { OnOk result (self.new ≡ happened self.old (renewals cubs)) }
+        ensures renewed { OnOk result (self.new ≡ renewed_in left self.old cubs) }
         ensures new { OnOk result (NoneIsAsked self.old.scene.world self.new.scene.world) }
     {
         for cub in 0..cubs {
-            self.act(NetEvent::Renew { cub: CubNo(cub) })?;
+            self.renew_one(cub, left)?;
         }
         Ok(())
+    }
+
+    /// The same of one cub.
+    fn renew_one(&mut self, cub: u32, left: u64) -> Result<(), NoMemory>
+        requires { cub < self.old.scene.world.ring.cubs }
+        ensures renewed { OnOk result (self.new ≡ renewed_by left self.old cub) }
+        ensures new { OnOk result (NoneIsAsked self.old.scene.world self.new.scene.world) }
+    {
+        if left <= self.out.len() as u64 || is_quiet_at(self.scene.world(), cub) {
+            return Ok(());
+        }
+        self.act(NetEvent::Renew { cub: CubNo(cub) })
     }
 
     /// Looks at what each quantum carries.
@@ -138,7 +152,6 @@ impl Running {
     /// Lends the ring.
     pub(crate) fn world(&self) -> &NetWorld
         ensures world { result.now ≡ self.now.scene.world }
-        ensures always { AlwaysKeeps self.now.scene.world }
         ensures peak { self.now.scene.peak.sum ≤ self.now.scene.world.ring.capacity }
     {
         self.scene.world()
@@ -153,6 +166,36 @@ impl Running {
         let peak = scene.peak();
         (scene.into_world(), peak)
     }
+}
+
+/// Whether an entry in this state waits.
+fn is_waiting(state: NetState) -> bool
+    ensures { result ≡ is_waiting state }
+{
+    matches!(state, NetState::Waiting)
+}
+
+/// Whether one of the entries waits.
+fn any_waits(own: &[Own]) -> bool
+    ensures { result ≡ list_any (λ o. is_waiting o.state) own.now }
+{
+    own.iter().any(|o| is_waiting(o.state))
+}
+
+/// Whether a cub would send nothing if it renewed.
+fn is_quiet(cub: &NetCub) -> bool
+    ensures { result ≡ is_quiet cub.now }
+{
+    cub.kept().len() == 0 && !any_waits(cub.own())
+}
+
+/// The same of a ring's cub.
+fn is_quiet_at(world: &NetWorld, cub: u32) -> bool
+    requires { cub < world.now.ring.cubs }
+    ensures { result ≡ is_quiet (cub_at world.now cub) }
+{
+    world.is_safe();
+    is_quiet(&world.cubs()[cub as usize])
 }
 
 /// Puts the numbers from one to another at the end, without the last; without memory maybe some of them.

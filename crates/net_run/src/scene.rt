@@ -1,9 +1,9 @@
 //! A ring, and the peak of what its quanta carried so far.
-ghost use Rattle.std.specs.Prelude.{◌≡◌, ◌<◌, ◌≤◌, ◌||◌, None, replicate, length, IfOk, IfSome, OnOk, OnErr};
+ghost use Rattle.std.specs.Prelude.{ℕ, ◌≡◌, ◌<◌, ◌≤◌, ◌||◌, ◌⊎◌, None, replicate, length, get_or, IfOk, IfSome, OnOk, OnErr};
 ghost use Rattle.net_schedule.specs.Rings.{IsRing, most_quanta, most_capacity};
 ghost use Rattle.net_schedule.specs.Cubs.{kept_rate};
 ghost use Rattle.net_schedule.specs.Worlds.{IsPossible, fresh_world, fault_of};
-ghost use Rattle.net_run.specs.Peaks.{no_peak, peak_after, IsUnder, IsMoreIn, HasEntry, HasEnded, StaysSame, IsChanged, IsFew, rises, AlwaysKeeps};
+ghost use Rattle.net_run.specs.Peaks.{no_peak, peak_after, IsUnder, IsMoreIn, IsMoreWithin, AreParts, HasEntry, HasEnded, StaysSame, IsChanged, IsFew, rises};
 ghost use Rattle.net_run.specs.Runs.{in_world};
 ghost use Rattle.net_run.specs.Sent.{StaysUnasked};
 
@@ -89,7 +89,6 @@ impl Scene {
     /// Lends the ring.
     pub(crate) fn world(&self) -> &NetWorld
         ensures world { result.now ≡ self.now.world }
-        ensures always { AlwaysKeeps self.now.world }
         ensures peak { self.now.peak.sum ≤ self.now.world.ring.capacity }
     {
         &self.world
@@ -159,6 +158,66 @@ fn taken(ring: &NetRing, entry: Entry, quantum: u32) -> u64
     }
 }
 
+/// The lesser of two numbers.
+fn lesser(a: usize, b: usize) -> usize
+    ensures first { result ≤ a }
+    ensures second { result ≤ b }
+    ensures is { (result ≡ a) ⊎ (result ≡ b) }
+{
+    if a < b { a } else { b }
+}
+
+/// The greater of two numbers.
+fn greater(a: usize, b: usize) -> usize
+    ensures first { a ≤ result }
+    ensures second { b ≤ result }
+    ensures is { (result ≡ a) ⊎ (result ≡ b) }
+{
+    if a < b { b } else { a }
+}
+
+/// Where in a row an entry's quanta lie: before the first place, and from the second to the third.
+#[derive(Clone, Copy, Debug, PartialEq, Eq)]
+struct Parts {
+    wrapped: usize,
+    first: usize,
+    end: usize,
+}
+
+/// Where an entry's quanta lie in a row of so many.
+fn parts_of(ring: &NetRing, at: u32, len: usize) -> Parts
+    requires ring { IsRing ring.now }
+    requires at { at < most_quanta }
+    ensures { AreParts ring.now at len result.wrapped result.first result.end }
+{
+    let last = at as usize + ring.quanta as usize;
+    let wrapped = lesser(last.saturating_sub(quanta_in(ring) as usize), len);
+    let end = lesser(last, len);
+    let first = lesser(greater(at as usize, wrapped), end);
+    Parts {
+        wrapped,
+        first: greater(first, wrapped),
+        end: greater(end, wrapped),
+    }
+}
+
+/// Adds what an entry takes to a part of a row.
+fn raise_in(row: &mut Vec<u64>, ring: &NetRing, first: usize, end: usize, entry: Entry)
+    requires ring { IsRing ring.now }
+    requires at { entry.at < most_quanta }
+    requires rate { entry.rate ≤ most_capacity }
+    requires row { length row.old.items ≤ most_quanta }
+    requires order { first ≤ end }
+    requires low { end ≤ length row.old.items }
+    requires room { (k : ℕ) → first ≤ k → k < end → get_or row.old.items k 0 ≤ most_capacity }
+    ensures { IsMoreWithin ring.now entry first end row.old.items row.new.items }
+{
+    for k in first..end {
+        let more = taken(ring, entry, k as u32);
+        row[k] += more;
+    }
+}
+
 /// Adds what an entry takes to a row.
 fn raise(row: &mut Vec<u64>, ring: &NetRing, entry: Entry)
     requires ring { IsRing ring.now }
@@ -168,9 +227,24 @@ fn raise(row: &mut Vec<u64>, ring: &NetRing, entry: Entry)
     requires room { IsUnder row.old.items most_capacity }
     ensures { IsMoreIn ring.now entry row.old.items row.new.items }
 {
-    for k in 0..row.len() {
-        let more = taken(ring, entry, k as u32);
-        row[k] += more;
+    let parts = parts_of(ring, entry.at, row.len());
+    raise_in(row, ring, 0, parts.wrapped, entry);
+    raise_in(row, ring, parts.first, parts.end, entry);
+}
+
+/// Takes what an entry takes out of a part of a row.
+fn lower_in(row: &mut Vec<u64>, ring: &NetRing, first: usize, end: usize, entry: Entry)
+    requires ring { IsRing ring.now }
+    requires at { entry.at < most_quanta }
+    requires row { length row.old.items ≤ most_quanta }
+    requires order { first ≤ end }
+    requires low { end ≤ length row.old.items }
+    requires has { (k : ℕ) → first ≤ k → k < end → kept_rate ring.now k entry ≤ get_or row.old.items k 0 }
+    ensures { IsMoreWithin ring.now entry first end row.new.items row.old.items }
+{
+    for k in first..end {
+        let less = taken(ring, entry, k as u32);
+        row[k] -= less;
     }
 }
 
@@ -182,8 +256,7 @@ fn lower(row: &mut Vec<u64>, ring: &NetRing, entry: Entry)
     requires has { HasEntry ring.now entry row.old.items }
     ensures { IsMoreIn ring.now entry row.new.items row.old.items }
 {
-    for k in 0..row.len() {
-        let less = taken(ring, entry, k as u32);
-        row[k] -= less;
-    }
+    let parts = parts_of(ring, entry.at, row.len());
+    lower_in(row, ring, parts.first, parts.end, entry);
+    lower_in(row, ring, 0, parts.wrapped, entry);
 }

@@ -1,7 +1,0 @@
-use Rattle.std.proofs.Common.{◌≡◌, ◌+◌}
-use Rattle.net_schedule.specs.Cubs.{kept_rate}
-use Rattle.net_schedule.proofs.Partly.{IsPartly}
-use Rattle.net_run.proofs.scene.raise.Given as goal
-
-abbrev pub invariant-loop-k : goal.invariant-loop-k
-invariant-loop-k l = IsPartly (λ k old new. new ≡ old + kept_rate l.ring k l.entry) l.k l.fn.row.items l.row.items
