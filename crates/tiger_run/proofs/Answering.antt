@@ -61,7 +61,8 @@ kept_once G s t xs ys k l same equal a b =
     subst (λ (u : Scenario). IsRingRun G u xs l) (sym same) (subst (λ (zs : List (List ℕ)). IsRingRun G t zs l) (sym equal) b.ran) in
     a.only l moved
 
-named_once : (G : Type 0) (old new was now : FilesState) (name : List ℕ) (k l : Kept) → TellsAll old.told → was.told ≡ old.told
+-- of the scenario of one name the same is kept
+pub named_once : (G : Type 0) (old new was now : FilesState) (name : List ℕ) (k l : Kept) → TellsAll old.told → was.told ≡ old.told
     → IsNamedRun G old new name k → IsNamedRun G was now name l → l ≡ k
 named_once G old new was now name k l all same a b =
     let read : AreInputs old.told name b.inputs = subst (λ (t : List ℕ → Told). AreInputs t name b.inputs) same b.read in

@@ -2,14 +2,17 @@
 #![tactic(auto)]
 
 mod inputs;
+mod named;
 pub mod rows;
 mod status;
 mod top;
 mod words;
 mod writing;
 
+pub use named::named_run;
 pub use status::{Status, exit_of, line_of};
-pub use top::{Ended, tiger};
+pub use top::{Ended, refused, tiger, written};
+pub use words::workers_of;
 pub use writing::put_lines;
 
 #[cfg(test)]

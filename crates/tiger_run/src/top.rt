@@ -10,7 +10,7 @@ ghost use Rattle.tiger_run.specs.Ending.{text_for, IsWritten, Wrote, EndsSink};
 ghost use Rattle.tiger_run.specs.Ending.{EndsInputs, InputCause};
 ghost use Rattle.tiger_run.specs.Answers.{TellsAll, IsTheAnswer};
 
-use crate::inputs::{Inputs, read_inputs};
+use crate::named::named_run;
 use crate::status::Status;
 use crate::words::{Command, command_in};
 use crate::writing::put_lines;
@@ -32,14 +32,15 @@ pub struct Ended {
     pub kept: Option<Kept>,
 }
 
-fn refused(status: Status) -> Ended
+/// The end of a command of which nothing is kept.
+pub fn refused(status: Status) -> Ended
     ensures { result ≡ record { status = status; kept = None } }
 {
     Ended { status, kept: None }
 }
 
 /// Writes a text, and says how that ended.
-fn written<K: Sink>(out: &mut K, text: &[u8]) -> Status
+pub fn written<K: Sink>(out: &mut K, text: &[u8]) -> Status
     requires { (K.state out.old).faults ≤ most_faults }
     ensures wrote { Wrote (K.state out.old) (K.state out.new) text.now result }
     ensures one_fault { (K.state out.new).faults ≤ (K.state out.old).faults + 1 }
@@ -75,12 +76,9 @@ fn run_named<R: Threads + Wait + Sync, F: Files, K: Sink, G: Gate + Sync>(
     ensures one_fault { (K.state out.new).faults ≤ (K.state out.old).faults + 1 }
     ensures silent { IsRefusal result.status → out.new ≡ out.old }
 {
-    let Inputs { scenario, library } = match read_inputs(alloc, files, name) {
-        Ok(inputs) => inputs,
+    let run = match named_run(rt, alloc, name, workers, files, gate) {
+        Ok(run) => run,
         Err(status) => return refused(status),
-    };
-    let Ok(run) = run_with_outcomes(rt, alloc, scenario, &library, gate, workers) else {
-        return refused(Status::NoMemory);
     };
     let Ok(text) = report_of(alloc, &run.kept, run.outcomes.as_slice()) else {
         return refused(Status::NoMemory);

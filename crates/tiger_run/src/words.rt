@@ -42,7 +42,7 @@ fn number_of(word: &str) -> Option<u64>
 }
 
 /// The number of workers that the word is in decimal, from 1 to 64.
-fn workers_of(word: &str) -> Option<u32>
+pub fn workers_of(word: &str) -> Option<u32>
     ensures { MatchOption result (AreNoWorkers word.now) (AreWorkers word.now) }
 {
     let number = number_of(word)?;

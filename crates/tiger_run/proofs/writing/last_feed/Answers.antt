@@ -1,4 +1,4 @@
-use Rattle.std.proofs.Common.{arith, sym, eqb}
+use Rattle.std.proofs.Common.{arith, sym}
 use Rattle.tiger_run.proofs.LastFeeds.{none_at_end, none_before, found_at, none_in_all}
 use Rattle.tiger_run.proofs.writing.last_feed.Goals as goal
 
