@@ -1,4 +1,4 @@
-//! Runs a scenario of the video fileserver over real files, and writes its report.
+//! Does the commands of the video fileserver over real files, and writes what they tell.
 #![tactic(auto)]
 
 use node_kit::OpenGate;
@@ -8,14 +8,22 @@ use std::process::ExitCode;
 use std::sync::Wait;
 use std::thread::Threads;
 use std::{env, io};
-use tiger_run::{Status, exit_of, line_of, tiger};
+use tiger_run::Status;
+use tiger_top::{TopStatus, exit_of, line_of, tiger_top};
 
 const HELP: &str = "tiger: a video fileserver whose schedule no machine holds
 
-usage: tiger run NAME W    run the scenario of the file NAME with W workers, 1 to 64
-       tiger make NUMBER   make the scenario of NUMBER, run it, and sum it up
-       tiger --help        this text
-       tiger --version     the version
+usage: tiger run NAME W      run the scenario of the file NAME with W workers, 1 to 64
+       tiger make NUMBER     make the scenario of NUMBER, run it, and sum it up
+       tiger journal NAME W  run a scenario as run does, and write its journals
+       tiger net NAME        run the plan of a network's schedule of the file NAME
+       tiger --help          this text
+       tiger --version       the version
+
+examples: tiger run one.json 2
+          tiger make 7
+          tiger journal one.json 2
+          tiger net net.json
 ";
 
 const VERSION: &str = "tiger 0.1.0\n";
@@ -52,24 +60,24 @@ fn asked_text(words: &[String]) -> Option<&'static str> {
 }
 
 /// Does what the words say, and answers how that ended. Workers are threads of `threads`.
-fn status_of<R: Threads + Wait + Sync>(rt: &HostRuntime, threads: &R, alloc: Global) -> Status {
+fn status_of<R: Threads + Wait + Sync>(rt: &HostRuntime, threads: &R, alloc: Global) -> TopStatus {
     let words = match words_of(rt, alloc) {
         Ok(words) => words,
-        Err(status) => return status,
+        Err(status) => return TopStatus::Tiger(status),
     };
     if let Some(text) = asked_text(words.as_slice()) {
-        return match rt.print(text) {
+        return TopStatus::Tiger(match rt.print(text) {
             Ok(()) => Status::Done,
             Err(_) => Status::WriteFault,
-        };
+        });
     }
     let mut files = DirFiles::new(rt);
     let mut out = StdSink::new(rt);
-    tiger(threads, alloc, &words, &mut files, &mut out, &OpenGate).status
+    tiger_top(threads, alloc, &words, &mut files, &mut out, &OpenGate).status
 }
 
-/// Says on standard error how a run ended.
-fn say(rt: &HostRuntime, alloc: Global, status: &Status) -> Result<(), AllocError> {
+/// Says on standard error how a command ended.
+fn say(rt: &HostRuntime, alloc: Global, status: &TopStatus) -> Result<(), AllocError> {
     let line = line_of(alloc, status)?;
     let _ = rt.eprint(line.as_str());
     Ok(())

@@ -1,0 +1,25 @@
+-- Which words are for `tiger` to answer, and which of them it refuses.
+use Rattle.std.proofs.Common.{◌≡◌, ℕ, List, [], length, get_or, ap}
+use Rattle.tiger_run.specs.Words.{IsNoCommand}
+use Rattle.tiger_top.specs.Commands.{AreTigers}
+
+abbrev first_letter : List (List ℕ) → ℕ
+first_letter words = get_or (get_or words 0 []) 0 0
+
+abbrev count : List (List ℕ) → ℕ
+count words = length words
+
+-- neither two words of which the first begins as `net` does, nor three of which it begins as `journal` does
+pub tigers_by : (words : List (List ℕ)) → (count words ≡ 2 → first_letter words ≡ 110 → ⊥) → (count words ≡ 3 → first_letter words ≡ 106 → ⊥)
+    → AreTigers words
+tigers_by words no_n no_j = record {
+  no_net = λ name net. no_n (ap count net) (ap first_letter net);
+  no_journal = λ name workers journal. no_j (ap count journal.form) (ap first_letter journal.form);
+}
+
+-- the first word begins neither as `run` does nor as `make`
+pub no_command : (words : List (List ℕ)) → (first_letter words ≡ 114 → ⊥) → (first_letter words ≡ 109 → ⊥) → IsNoCommand words
+no_command words no_r no_m = record {
+  no_run = λ name workers run. no_r (ap first_letter run.form);
+  no_make = λ number make. no_m (ap first_letter make.form);
+}

@@ -1,0 +1,44 @@
+use Rattle.std.proofs.Common.{refl, arith}
+use Rattle.tiger_run.specs.Samples.{here}
+use Rattle.tiger_run.proofs.Samples.{some_workers, nothing_is_no_run, nothing_is_no_make}
+use Rattle.tiger_top.proofs.Asked.{tigers_by, no_command}
+use Rattle.std.specs.Prelude.{ℕ, List}
+use Rattle.tiger_top.specs.Commands.{AsksJournal}
+use Rattle.tiger_top.specs.Samples.{journal_words}
+use Rattle.tiger_top.proofs.rows.commands.Goals as goal
+
+one_worker : (name : List ℕ) → AsksJournal (journal_words name 1) name 1
+one_worker name = record { form = refl; some = omega arith; few = omega arith }
+
+pub returns-clause-run : goal.returns-clause-run
+returns-clause-run c = tigers_by _ (λ n f. omega (arith, n, f)) (λ n f. omega (arith, n, f))
+
+pub returns-clause-make : goal.returns-clause-make
+returns-clause-make c = tigers_by _ (λ n f. omega (arith, n, f)) (λ n f. omega (arith, n, f))
+
+pub returns-clause-net : goal.returns-clause-net
+returns-clause-net c h = h.no_net here refl
+
+pub returns-clause-journal : goal.returns-clause-journal
+returns-clause-journal c h = h.no_journal here 1 (one_worker here)
+
+pub returns-clause-no_words : goal.returns-clause-no_words
+returns-clause-no_words c = record {
+  tigers = tigers_by _ (λ n f. omega (arith, n, f)) (λ n f. omega (arith, n, f));
+  none = record { no_run = λ name n run. nothing_is_no_run n name run; no_make = λ n make. nothing_is_no_make n make };
+}
+
+pub returns-clause-no_name : goal.returns-clause-no_name
+returns-clause-no_name c = record { tigers = tigers_by _ (λ n f. omega (arith, n, f)) (λ n f. omega (arith, n, f)); none = no_command _ (λ e. omega (arith, e)) (λ e. omega (arith, e)) }
+
+pub returns-clause-two_names : goal.returns-clause-two_names
+returns-clause-two_names c = record { tigers = tigers_by _ (λ n f. omega (arith, n, f)) (λ n f. omega (arith, n, f)); none = no_command _ (λ e. omega (arith, e)) (λ e. omega (arith, e)) }
+
+pub returns-clause-no_refused_net : goal.returns-clause-no_refused_net
+returns-clause-no_refused_net c h = h.tigers.no_net here refl
+
+pub returns-clause-no_refused_run : goal.returns-clause-no_refused_run
+returns-clause-no_refused_run c h = h.none.no_run here 1 (some_workers here 1 (omega arith) (omega arith))
+
+pub returns-clause-no_refused_journal : goal.returns-clause-no_refused_journal
+returns-clause-no_refused_journal c h = h.tigers.no_journal here 1 (one_worker here)

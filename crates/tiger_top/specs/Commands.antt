@@ -1,0 +1,38 @@
+-- Which words are a command beside those of `tiger`, and which are none at all.
+use Rattle.std.specs.Prelude.{◌≡◌, ℕ, ◌≤◌, List, [], ◌∷◌, codes}
+use Rattle.std.specs.Fmt.{decimal}
+use Rattle.tiger_run.specs.Words.{IsNoCommand, most_workers}
+use Rattle.tiger_top.specs.declared.commands.TopCommand.{TopCommand}
+use Rattle.tiger_top.specs.declared.commands.TopCommand.TheVariants as command
+
+-- the words `net NAME`
+abbrev pub IsNet : List (List ℕ) → List ℕ → Type 0
+IsNet words name = words ≡ codes "net" ∷ name ∷ []
+
+abbrev pub IsNoNet : List (List ℕ) → Type 0
+IsNoNet words = (name : List ℕ) → ¬ IsNet words name
+
+-- the words `journal NAME W`, and W is from 1 to 64 in decimal
+pub record AsksJournal (words : List (List ℕ)) (name : List ℕ) (workers : ℕ) : Type 0 where
+  pub form : words ≡ codes "journal" ∷ name ∷ decimal workers ∷ []
+  pub some : 1 ≤ workers
+  pub few : workers ≤ most_workers
+
+abbrev pub AsksNoJournal : List (List ℕ) → Type 0
+AsksNoJournal words = (name : List ℕ) (workers : ℕ) → ¬ AsksJournal words name workers
+
+-- the words are none of the commands beside those of `tiger`, so that they are for `tiger` to answer
+pub record AreTigers (words : List (List ℕ)) : Type 0 where
+  pub no_net : IsNoNet words
+  pub no_journal : AsksNoJournal words
+
+-- the words are no command at all
+pub record IsNoTopCommand (words : List (List ℕ)) : Type 0 where
+  pub tigers : AreTigers words
+  pub none : IsNoCommand words
+
+-- the words are this command
+abbrev pub AsksTop : List (List ℕ) → TopCommand → Type 0
+AsksTop words command.Tiger = AreTigers words
+AsksTop words (command.Net name) = IsNet words name.now
+AsksTop words (command.Journal name workers) = AsksJournal words name.now workers

@@ -1,0 +1,51 @@
+-- What is said of how a command ended.
+use Rattle.std.specs.Prelude.{ℕ, List, ◌++◌, None, Result, Ok, Err, codes}
+use Rattle.outside.specs.declared.sink.SinkFault.{SinkFault}
+use Rattle.outside.specs.declared.sink.SinkFault.TheVariants as faults
+use Rattle.tiger_net.specs.declared.stop.NetStop.{NetStop}
+use Rattle.tiger_net.specs.declared.stop.NetStop.TheVariants as stops
+use Rattle.tiger_net.specs.Stops.{rule_number}
+use Rattle.tiger_run.specs.declared.status.Status.{Status}
+use Rattle.tiger_run.specs.declared.status.Status.TheVariants as statuses
+use Rattle.tiger_run.specs.Statuses.{worded, line_of, exit_of}
+use Rattle.tiger_run.specs.Ending.{IsRefusal}
+use Rattle.tiger_top.specs.declared.status.TopStatus.{TopStatus}
+use Rattle.tiger_top.specs.declared.status.TopStatus.TheVariants as tops
+
+-- the line on standard error; none if all was done
+abbrev pub top_line : TopStatus → List ℕ
+top_line (tops.Tiger status) = line_of status
+top_line (tops.Net rule) = worded (codes "tiger: net rule ") rule ++ codes "\n"
+
+-- the number that the program ends with
+abbrev pub top_exit : TopStatus → ℕ
+top_exit (tops.Tiger status) = exit_of status
+top_exit (tops.Net rule) = 13
+
+-- a status is one of those of `tiger`, and this holds of it
+abbrev pub OfTiger : (Status → Type 0) → TopStatus → Type 0
+OfTiger P (tops.Tiger status) = P status
+OfTiger P (tops.Net rule) = ⊥
+
+-- the words or an input were refused
+abbrev pub IsTopRefusal : TopStatus → Type 0
+IsTopRefusal (tops.Tiger status) = IsRefusal status
+IsTopRefusal (tops.Net rule) = Unit {0}
+
+-- how a command ended that was done, or stopped with a status
+abbrev pub status_of : Result (Unit {0}) TopStatus → TopStatus
+status_of (Ok done) = tops.Tiger statuses.Done
+status_of (Err status) = status
+
+-- ---- what a fault below is here
+
+abbrev pub top_by_sink : SinkFault → TopStatus
+top_by_sink faults.Failed = tops.Tiger statuses.WriteFault
+top_by_sink faults.NoMemory = tops.Tiger statuses.NoMemory
+
+abbrev pub top_by_stop : NetStop → TopStatus
+top_by_stop stops.Absent = tops.Tiger (statuses.Absent None)
+top_by_stop stops.ReadFault = tops.Tiger (statuses.ReadFault None)
+top_by_stop (stops.TooLong given most) = tops.Tiger (statuses.TooLong None given most)
+top_by_stop (stops.Fault rule) = tops.Net (rule_number rule)
+top_by_stop stops.NoMemory = tops.Tiger statuses.NoMemory

@@ -1,0 +1,85 @@
+//! Which command the words are.
+ghost use Rattle.std.specs.Prelude.{◌≡◌, ◌↔◌, MatchOption, IsTrue, codes};
+ghost use Rattle.tiger_run.specs.Words.{texts_of};
+ghost use Rattle.tiger_top.specs.Commands.{AsksTop, IsNet, IsNoNet, AsksJournal, AsksNoJournal};
+
+use tiger_run::workers_of;
+
+/// What the words ask for.
+#[derive(Clone, Copy, Debug)]
+pub enum TopCommand<'a> {
+    /// What `tiger` makes of them: they are none of the other commands.
+    Tiger,
+    /// To run the plan of a network's schedule of the file `name`.
+    Net { name: &'a str },
+    /// To run the scenario of the file `name`, with 1 to 64 workers, and to write what is kept of it.
+    Journal { name: &'a str, workers: u32 },
+}
+
+fn is_net(word: &str) -> bool
+    ensures { IsTrue result ↔ (word.now ≡ codes "net") }
+{
+    word == "net"
+}
+
+/// The name of the plan, if the words are `net NAME`.
+fn net_in(words: &[String]) -> Option<&str>
+    ensures { let texts = texts_of words.now in
+        MatchOption result (IsNoNet texts) (λ name. IsNet texts name.now) }
+{
+    match words {
+        [command, name] => {
+            if !is_net(command.as_str()) {
+                return None;
+            }
+            Some(name.as_str())
+        }
+        _ => None,
+    }
+}
+
+fn is_journal(word: &str) -> bool
+    ensures { IsTrue result ↔ (word.now ≡ codes "journal") }
+{
+    word == "journal"
+}
+
+/// The name of the scenario and the number of workers, if the words are `journal NAME W`.
+fn journal_in(words: &[String]) -> Option<(&str, u32)>
+    ensures { let texts = texts_of words.now in
+        MatchOption result (AsksNoJournal texts) (λ j. AsksJournal texts j.0.now j.1) }
+{
+    match words {
+        [command, name, workers] => {
+            if !is_journal(command.as_str()) {
+                return None;
+            }
+            match workers_of(workers.as_str()) {
+                Some(workers) => Some((name.as_str(), workers)),
+                None => None,
+            }
+        }
+        _ => None,
+    }
+}
+
+/// The command that the words are, if they are `journal NAME W` or one of `tiger`.
+fn ring_command_in(words: &[String]) -> TopCommand<'_>
+    requires { IsNoNet (texts_of words.now) }
+    ensures { AsksTop (texts_of words.now) result }
+{
+    match journal_in(words) {
+        Some((name, workers)) => TopCommand::Journal { name, workers },
+        None => TopCommand::Tiger,
+    }
+}
+
+/// The command that the words are.
+pub fn top_command_in(words: &[String]) -> TopCommand<'_>
+    ensures { AsksTop (texts_of words.now) result }
+{
+    match net_in(words) {
+        Some(name) => TopCommand::Net { name },
+        None => ring_command_in(words),
+    }
+}

@@ -1,0 +1,14 @@
+//! All commands of the program as one call: words, files and an output go in, and how the command ended comes out.
+#![tactic(auto)]
+
+mod commands;
+mod net;
+pub mod rows;
+mod status;
+mod top;
+
+pub use status::{TopStatus, exit_of, line_of};
+pub use top::{TopEnded, tiger_top};
+
+#[cfg(test)]
+mod tests;

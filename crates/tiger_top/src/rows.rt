@@ -1,0 +1,90 @@
+//! Worked rows of what the contract of `tiger_top` speaks of. They stand in contracts of functions without a body, so
+//! that a weakened definition is refused where the crate is checked without its tests.
+ghost use Rattle.std.specs.Prelude.{◌≡◌, ◌≢◌, ◌++◌, ◌<◌, ◌≤◌, ℕ, List, [], ◌∷◌, length, codes, None, Some, Ok, Err};
+ghost use Rattle.std.specs.Fmt.{decimal};
+ghost use Rattle.outside.specs.Told.{bytes, absent, untold};
+ghost use Rattle.net_read.specs.declared.fault.NetFault.TheVariants as faults;
+ghost use Rattle.net_read.specs.Meaning.{net_meaning};
+ghost use Rattle.net_read.specs.Plans.{NetSaid};
+ghost use Rattle.net_run.specs.Text.{net_text};
+ghost use Rattle.tiger_net.specs.Lines.{most_plan};
+ghost use Rattle.tiger_net.specs.Samples.{net_name, net_source};
+ghost use Rattle.tiger_run.specs.Samples.{here, makes, runs};
+ghost use Rattle.tiger_run.specs.declared.status.Status.TheVariants as statuses;
+ghost use Rattle.tiger_top.specs.declared.status.TopStatus.TheVariants as tops;
+ghost use Rattle.tiger_top.specs.Commands.{AreTigers, IsNoTopCommand};
+ghost use Rattle.tiger_top.specs.Ends.{IsRunnableNet, NetCause, NetWrote};
+ghost use Rattle.tiger_top.specs.Samples.{journal_words, nets, sunk};
+ghost use Rattle.tiger_top.specs.Statuses.{OfTiger, IsTopRefusal, top_line, top_exit};
+
+/// Words are for `tiger`, or they are `net NAME` or `journal NAME W`; and they may be no command of all these.
+pub fn commands()
+    ensures run { AreTigers (runs here 1) }
+    ensures make { AreTigers (makes 7) }
+    ensures net { AreTigers (nets here) → ⊥ }
+    ensures journal { AreTigers (journal_words here 1) → ⊥ }
+    ensures no_words { IsNoTopCommand [] }
+    ensures no_name { IsNoTopCommand (codes "net" ∷ []) }
+    ensures two_names { IsNoTopCommand (codes "net" ∷ here ∷ here ∷ []) }
+    ensures no_refused_net { IsNoTopCommand (nets here) → ⊥ }
+    ensures no_refused_journal { IsNoTopCommand (journal_words here 1) → ⊥ }
+    ensures no_refused_run { IsNoTopCommand (runs here 1) → ⊥ }
+{}
+
+/// A broken rule of a plan has its line and its exit status, is a refusal, and is no status of `tiger`.
+pub fn rules()
+    ensures line { top_line (tops.Net 2) ≡ codes "tiger: net rule " ++ decimal 2 ++ codes "\n" }
+    ensures exit { top_exit (tops.Net 2) ≡ 13 }
+    ensures refuses { IsTopRefusal (tops.Net 2) }
+    ensures done { IsTopRefusal (tops.Tiger statuses.Done) → ⊥ }
+    ensures no_tigers { OfTiger (λ status. status ≡ status) (tops.Net 2) → ⊥ }
+    ensures tigers { OfTiger (λ status. status ≡ statuses.Done) (tops.Tiger statuses.Done) }
+{}
+
+/// Why a plan is refused: it is not there, or breaks the first rule, or the second one.
+pub fn refused_plans()
+    ensures not_there { NetCause net_name (net_source absent 0 0) (net_source absent 0 1)
+        (tops.Tiger (statuses.Absent None)) }
+    ensures other_file { NetCause net_name (net_source absent 0 0) (net_source absent 0 1)
+        (tops.Tiger (statuses.Absent (Some (record { 0 = 0 })))) → ⊥ }
+    ensures first_rule { (text : List ℕ) → length text ≤ most_plan →
+        net_meaning text ≡ Err faults.NoJson →
+        NetCause net_name (net_source (bytes text) 0 0) (net_source (bytes text) 0 0) (tops.Net 1) }
+    ensures second_rule { (text : List ℕ) → length text ≤ most_plan →
+        net_meaning text ≡ Err faults.BadForm →
+        NetCause net_name (net_source (bytes text) 0 0) (net_source (bytes text) 0 0) (tops.Net 2) }
+    ensures not_the_first { (text : List ℕ) → net_meaning text ≡ Err faults.BadForm →
+        NetCause net_name (net_source (bytes text) 0 0) (net_source (bytes text) 0 0)
+        (tops.Net 1) → ⊥ }
+    ensures no_third_rule { NetCause net_name (net_source untold 0 0) (net_source untold 0 0)
+        (tops.Net 3) → ⊥ }
+    ensures words { NetCause net_name (net_source untold 0 0) (net_source untold 0 0)
+        (tops.Tiger statuses.Words) → ⊥ }
+{}
+
+/// The lines of the told plan are written behind what the output had, and no other text is.
+pub fn written_plans()
+    ensures all { (text : List ℕ) (plan : NetSaid) → length text ≤ most_plan →
+        net_meaning text ≡ Ok plan → NetWrote (bytes text) (sunk (1 ∷ []) 0)
+        (sunk (1 ∷ net_text plan) 0) (tops.Tiger statuses.Done) }
+    ensures other_text { (text lines : List ℕ) (plan : NetSaid) → net_meaning text ≡ Ok plan →
+        lines ≢ net_text plan →
+        NetWrote (bytes text) (sunk [] 0) (sunk lines 0) (tops.Tiger statuses.Done) → ⊥ }
+    ensures no_plan { (text lines : List ℕ) → net_meaning text ≡ Err faults.BadForm →
+        NetWrote (bytes text) (sunk [] 0) (sunk lines 0) (tops.Tiger statuses.Done) → ⊥ }
+    ensures no_put_failed { (text : List ℕ) → NetWrote (bytes text) (sunk [] 0) (sunk [] 0)
+        (tops.Tiger statuses.WriteFault) → ⊥ }
+    ensures written_before { (text : List ℕ) →
+        NetWrote (bytes text) (sunk [] 0) (sunk (1 ∷ []) 0) (tops.Net 1) → ⊥ }
+{}
+
+/// A plan that is told, is short enough and breaks no rule is runnable.
+pub fn runnable_plans()
+    ensures is { (text : List ℕ) (plan : NetSaid) → length text ≤ most_plan →
+        net_meaning text ≡ Ok plan → IsRunnableNet (bytes text) }
+    ensures no_file { IsRunnableNet absent → ⊥ }
+    ensures not_told { IsRunnableNet untold → ⊥ }
+    ensures too_long { (text : List ℕ) → most_plan < length text → IsRunnableNet (bytes text) → ⊥ }
+    ensures no_plan { (text : List ℕ) → net_meaning text ≡ Err faults.BadForm →
+        IsRunnableNet (bytes text) → ⊥ }
+{}

@@ -1,0 +1,88 @@
+//! How a command ended, as it is said on standard error and by the exit status.
+ghost use Rattle.std.specs.Prelude.{◌≡◌, ◌++◌, IfOk, OnOk, codes, string_bytes};
+ghost use Rattle.tiger_run.specs.Statuses.{IsPushed, worded};
+ghost use Rattle.tiger_top.specs.Statuses.{top_line, top_exit, top_by_sink, top_by_stop};
+
+use outside::SinkFault;
+use std::alloc::{AllocError, Global};
+use std::fmt::Write;
+use tiger_net::NetStop;
+use tiger_run::Status;
+
+/// How a command ended.
+#[derive(Clone, Copy, Debug, PartialEq, Eq)]
+pub enum TopStatus {
+    /// In one of the ways in which `tiger` ends. A file that is `None` is the one that the words name.
+    Tiger(Status),
+    /// What was read of a network's plan breaks this rule.
+    Net { rule: u32 },
+}
+
+impl From<SinkFault> for TopStatus {
+    ghost from_gives = { λ fault status. status ≡ top_by_sink fault };
+
+    fn from(fault: SinkFault) -> TopStatus {
+        TopStatus::Tiger(match fault {
+            SinkFault::Failed => Status::WriteFault,
+            SinkFault::NoMemory => Status::NoMemory,
+        })
+    }
+}
+
+impl From<NetStop> for TopStatus {
+    ghost from_gives = { λ stop status. status ≡ top_by_stop stop };
+
+    fn from(stop: NetStop) -> TopStatus {
+        match stop {
+            NetStop::Absent => TopStatus::Tiger(Status::Absent { file: None }),
+            NetStop::ReadFault => TopStatus::Tiger(Status::ReadFault { file: None }),
+            NetStop::TooLong { given, most } => TopStatus::Tiger(Status::TooLong {
+                file: None,
+                given,
+                most,
+            }),
+            NetStop::Fault(rule) => TopStatus::Net {
+                rule: rule.number(),
+            },
+            NetStop::NoMemory => TopStatus::Tiger(Status::NoMemory),
+        }
+    }
+}
+
+fn push_rule(text: &mut String, rule: u32) -> Result<(), AllocError>
+    ensures { OnOk result (IsPushed text.old text.new (worded (codes "tiger: net rule ") rule)) }
+{
+    text.push_str("tiger: net rule ")?;
+    write!(text, "{rule}")
+}
+
+/// The line of a broken rule.
+fn rule_line(alloc: Global, rule: u32) -> Result<String, AllocError>
+    ensures { IfOk result (λ line.
+        string_bytes line ≡ worded (codes "tiger: net rule ") rule ++ codes "\n") }
+{
+    let mut text = String::new(alloc);
+    push_rule(&mut text, rule)?;
+    text.push_str("\n")?;
+    Ok(text)
+}
+
+/// The line on standard error that says how a command ended; empty if everything was done.
+pub fn line_of(alloc: Global, status: &TopStatus) -> Result<String, AllocError>
+    ensures { IfOk result (λ line. string_bytes line ≡ top_line status.now) }
+{
+    match status {
+        TopStatus::Tiger(status) => tiger_run::line_of(alloc, status),
+        TopStatus::Net { rule } => rule_line(alloc, *rule),
+    }
+}
+
+/// The exit status of the program.
+pub fn exit_of(status: &TopStatus) -> u8
+    ensures { result ≡ top_exit status.now }
+{
+    match status {
+        TopStatus::Tiger(status) => tiger_run::exit_of(status),
+        TopStatus::Net { .. } => 13,
+    }
+}

@@ -1,0 +1,196 @@
+//! The program as a function of its words, its files and its output.
+ghost use Rattle.std.specs.Prelude.{◌≡◌, ◌+◌, ◌≤◌, ◌↔◌, ◌⊎◌, ℕ, List, None, IsSomeAnd, IfSome};
+ghost use Rattle.outside.specs.Written.{most_faults};
+ghost use Rattle.tiger_net.specs.Lines.{HasLines};
+ghost use Rattle.tiger_run.specs.Words.{IsMake, IsNoRun, texts_of};
+ghost use Rattle.tiger_run.specs.Inputs.{MadeCalls, most_reads, most_earlier};
+ghost use Rattle.tiger_run.specs.Runnable.{IsRunnable, IsRunnableCommand, NoReadFailed, NoPutFailed};
+ghost use Rattle.tiger_run.specs.Ending.{IsAskedRun, IsNamedRun, text_for, IsWritten};
+ghost use Rattle.tiger_run.specs.Ending.{EndsInputs, EndsSink, InputCause};
+ghost use Rattle.tiger_journal.specs.Answers.{IsTheNamedRun};
+ghost use Rattle.audit_text.specs.Texts.{text_of};
+ghost use Rattle.tiger_run.specs.Answers.{TellsAll, IsTheAnswer};
+ghost use Rattle.tiger_run.specs.declared.status.Status.TheVariants as statuses;
+ghost use Rattle.tiger_top.specs.declared.status.TopStatus.TheVariants as tops;
+ghost use Rattle.tiger_top.specs.Commands.{AreTigers, AsksJournal, IsNet, IsNoTopCommand};
+ghost use Rattle.tiger_top.specs.Statuses.{OfTiger, IsTopRefusal, status_of};
+ghost use Rattle.tiger_top.specs.Ends.{IsRunnableNet, NetCause, NetWrote};
+
+use crate::commands::{TopCommand, top_command_in};
+use crate::net::write_net;
+use crate::status::TopStatus;
+use node_kit::{Gate, Kept};
+use outside::{Files, Sink};
+use std::alloc::Global;
+use std::sync::Wait;
+use std::thread::Threads;
+use tiger_journal::write_journal;
+use tiger_run::{Ended, Status, tiger};
+
+/// How a command ended, and what was kept of a run of the ring.
+#[derive(Drop)]
+pub struct TopEnded {
+    pub status: TopStatus,
+    pub kept: Option<Kept>,
+}
+
+/// The end of a command of `tiger`.
+fn by_tiger(ended: Ended) -> TopEnded
+    ensures { result ≡ record { status = tops.Tiger ended.status; kept = ended.kept } }
+{
+    TopEnded {
+        status: TopStatus::Tiger(ended.status),
+        kept: ended.kept,
+    }
+}
+
+/// The end of a command that runs no ring.
+fn without_ring(done: Result<(), TopStatus>) -> TopEnded
+    ensures { result ≡ record { status = status_of done; kept = None } }
+{
+    TopEnded {
+        status: match done {
+            Ok(()) => TopStatus::Tiger(Status::Done),
+            Err(status) => status,
+        },
+        kept: None,
+    }
+}
+
+/// Does what the words say: as `tiger` does it; for `journal NAME W` runs the scenario as `run` does, and writes what is
+/// kept of the run as a text; for `net NAME` reads the plan of a network's schedule, runs it, and writes the lines that
+/// tell of its entries. The call may wait for a thread.
+pub fn tiger_top<R: Threads + Wait + Sync, F: Files, K: Sink, G: Gate + Sync>(
+    rt: &R,
+    alloc: Global,
+    words: &Vec<String>,
+    files: &mut F,
+    out: &mut K,
+    gate: &G,
+) -> TopEnded
+    requires calls { (F.state files.old).counts.calls ≤ most_earlier }
+    requires faults { (K.state out.old).faults ≤ most_faults }
+
+    // ---- Of every command.
+
+    // The words are refused exactly if they are no command.
+    ensures words { (result.status ≡ tops.Tiger statuses.Words)
+        ↔ IsNoTopCommand (texts_of words.now.items) }
+
+    // Nothing is put before words and inputs are good.
+    ensures silent { IsTopRefusal result.status → out.new ≡ out.old }
+
+    // What is told of the files stays, few calls were made, and at most one put failed: so the
+    // files and the output can be used again.
+    ensures same { (F.state files.new).told ≡ (F.state files.old).told }
+    ensures few_calls { let old = F.state files.old in
+        (F.state files.new).counts.calls ≤ old.counts.calls + most_reads }
+    ensures one_fault { (K.state out.new).faults ≤ (K.state out.old).faults + 1 }
+
+    // ---- Of the words that `tiger` answers: what its own contract says of them.
+
+    // All was written: the text that the words ask for, of what is kept.
+    ensures done { let texts = texts_of words.now.items in
+        AreTigers texts → result.status ≡ tops.Tiger statuses.Done → IsSomeAnd result.kept
+        (λ k. IsWritten (K.state out.old) (K.state out.new) (text_for texts k)) }
+
+    // What is kept is the run that the words ask for. If they name a scenario, it was read, and
+    // then each of its files, with one call for each.
+    ensures ran { let texts = texts_of words.now.items in let old = F.state files.old in
+        AreTigers texts → IfSome result.kept (IsAskedRun G old (F.state files.new) texts) }
+
+    // There is one answer: whatever else is kept of a run that the same is asked of, with whatever
+    // number of workers, over files of which the same is told, is the same, and so is its text.
+    ensures one_answer { let texts = texts_of words.now.items in let old = F.state files.old in
+        AreTigers texts → TellsAll old.told →
+        IfSome result.kept (IsTheAnswer G old.told texts) }
+
+    // Why an input was refused: it is the first, in the order of work, that is not as it should be.
+    ensures input { let texts = texts_of words.now.items in let old = F.state files.old in
+        AreTigers texts → OfTiger (InputCause texts old (F.state files.new)) result.status }
+
+    // What was written with each status, and what is kept.
+    ensures sink { let texts = texts_of words.now.items in let old = K.state out.old in
+        AreTigers texts →
+        OfTiger (EndsSink old (K.state out.new) (text_for texts) result.kept) result.status }
+
+    // Only a named scenario has files that are read.
+    ensures unread { let texts = texts_of words.now.items in
+        AreTigers texts → IsNoRun texts → files.new ≡ files.old }
+
+    // A named scenario is run, unless something stands in its way.
+    ensures complete { let texts = texts_of words.now.items in let old = F.state files.old in
+        AreTigers texts → IsRunnableCommand old.told texts →
+        NoReadFailed old (F.state files.new) → NoPutFailed (K.state out.old) (K.state out.new) →
+        (result.status ≡ tops.Tiger statuses.Done) ⊎ (result.status ≡ tops.Tiger statuses.NoMemory) }
+
+    // A made scenario is never refused.
+    ensures made { let texts = texts_of words.now.items in
+        AreTigers texts → (number : ℕ) → IsMake texts number → ¬ IsTopRefusal result.status }
+
+    // ---- Of `journal NAME W`.
+
+    // What is kept is the run of the scenario that was read, and then each of its files.
+    ensures journal_ran { let old = F.state files.old in (name : List ℕ) (workers : ℕ) →
+        AsksJournal (texts_of words.now.items) name workers →
+        IfSome result.kept (IsNamedRun G old (F.state files.new) name) }
+
+    // There is one answer: whatever else is kept of a run of the scenario of this name, over files
+    // of which the same is told, is the same, and so is its text.
+    ensures journal_answer { let told = (F.state files.old).told in (name : List ℕ) (workers : ℕ) →
+        AsksJournal (texts_of words.now.items) name workers → TellsAll told →
+        IfSome result.kept (IsTheNamedRun G told name) }
+
+    // Why an input was refused.
+    ensures journal_input { let old = F.state files.old in (name : List ℕ) (workers : ℕ) →
+        AsksJournal (texts_of words.now.items) name workers →
+        OfTiger (EndsInputs name old (F.state files.new)) result.status }
+
+    // What was written with each status, and what is kept: if all was done, the text of it.
+    ensures journal_sink { let old = K.state out.old in (name : List ℕ) (workers : ℕ) →
+        AsksJournal (texts_of words.now.items) name workers →
+        OfTiger (EndsSink old (K.state out.new) text_of result.kept) result.status }
+
+    // A scenario that is told is run, unless something stands in its way.
+    ensures journal_complete { let old = F.state files.old in (name : List ℕ) (workers : ℕ) →
+        AsksJournal (texts_of words.now.items) name workers → IsRunnable old.told name →
+        NoReadFailed old (F.state files.new) → NoPutFailed (K.state out.old) (K.state out.new) →
+        (result.status ≡ tops.Tiger statuses.Done) ⊎ (result.status ≡ tops.Tiger statuses.NoMemory) }
+
+    // ---- Of `net NAME`.
+
+    // All was written: the lines of the plan that was read, which is the told one if it is told.
+    ensures net_done { let old = F.state files.old in (name : List ℕ) →
+        IsNet (texts_of words.now.items) name → result.status ≡ tops.Tiger statuses.Done →
+        HasLines (old.told name) (IsWritten (K.state out.old) (K.state out.new)) }
+
+    // Why the plan was refused.
+    ensures net_input { let old = F.state files.old in (name : List ℕ) →
+        IsNet (texts_of words.now.items) name →
+        NetCause name old (F.state files.new) result.status }
+
+    // What was written with each status. No run of the ring is kept.
+    ensures net_sink { let told = (F.state files.old).told in (name : List ℕ) →
+        IsNet (texts_of words.now.items) name →
+        NetWrote (told name) (K.state out.old) (K.state out.new) result.status }
+    ensures net_kept { (name : List ℕ) →
+        IsNet (texts_of words.now.items) name → result.kept ≡ None }
+
+    // The file of the name was asked for once, and no other one.
+    ensures net_counted { (name : List ℕ) → IsNet (texts_of words.now.items) name →
+        MadeCalls 1 (F.state files.old) (F.state files.new) }
+
+    // A plan that is told is run, unless something stands in its way.
+    ensures net_complete { let old = F.state files.old in (name : List ℕ) →
+        IsNet (texts_of words.now.items) name → IsRunnableNet (old.told name) →
+        NoReadFailed old (F.state files.new) → NoPutFailed (K.state out.old) (K.state out.new) →
+        (result.status ≡ tops.Tiger statuses.Done) ⊎ (result.status ≡ tops.Tiger statuses.NoMemory) }
+{
+    match top_command_in(words.as_slice()) {
+        TopCommand::Tiger => by_tiger(tiger(rt, alloc, words, files, out, gate)),
+        TopCommand::Journal { name, workers } => {
+            by_tiger(write_journal(rt, alloc, name, workers, files, out, gate))
+        }
+        TopCommand::Net { name } => without_ring(write_net(alloc, name, files, out)),
+    }
+}
