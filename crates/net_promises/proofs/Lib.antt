@@ -1,0 +1,4 @@
+pub mod Kept
+pub mod Means
+pub mod Lines
+pub mod Causes
