@@ -1,0 +1,8 @@
+mod Ends
+mod Feeds
+mod Fronts
+mod Lists
+mod Planning
+mod Steps
+mod Texts
+mod Walk

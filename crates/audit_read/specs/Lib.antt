@@ -1,0 +1,4 @@
+pub mod Begun
+pub mod Drafts
+pub mod Samples
+pub mod Writable
