@@ -1,0 +1,11 @@
+pub mod Bytes
+pub mod Written
+pub mod Joining
+pub mod Ranges
+pub mod Sizes
+pub mod Names
+pub mod Order
+pub mod Finding
+pub mod Single
+pub mod Fetched
+pub mod Keeping

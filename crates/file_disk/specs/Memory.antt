@@ -1,0 +1,49 @@
+-- What a device in memory is seen as.
+use Rattle.std.specs.Prelude.{ℕ, ◌+◌, ◌-◌, ◌^◌, ◌==◌, ◌||◌, min, Bool, true, false, if◌then◌else◌, List, ◌++◌, length, take, drop, replicate, Some, Result, Err}
+use Rattle.std.specs.List.{list_any}
+use Rattle.file_disk.specs.Devices.{DeviceState}
+use Rattle.file_disk.specs.declared.device.DeviceFault.{DeviceFault}
+use Rattle.file_disk.specs.declared.device.DeviceFault.TheVariants.{Failed}
+
+-- a device in memory: its bytes, the calls that fail, whether every read fails, and the counts
+pub record MemoryDevice : Type 0 where
+  pub bytes : List ℕ
+  pub failing : List ℕ
+  pub reads_fail : Bool
+  pub calls : ℕ
+  pub faults : ℕ
+  pub reads : ℕ
+
+-- it tells all of its bytes
+abbrev pub device_of : MemoryDevice → DeviceState
+device_of m = record { told = Some m.bytes; faults = m.faults; reads = m.reads }
+
+-- the next call is made to fail
+abbrev pub fails_next : MemoryDevice → Bool
+fails_next m = list_any (λ call. call == m.calls) m.failing
+
+-- the next call fails if it is a read
+abbrev pub fails_read : MemoryDevice → Bool
+fails_read m = m.reads_fail || fails_next m
+
+-- one if the test holds
+abbrev pub one_if : Bool → ℕ
+one_if test = if test then 1 else 0
+
+-- the answer is that the call failed
+abbrev pub is_failed : Result (Unit {0}) DeviceFault → Bool
+is_failed (Err Failed) = true
+is_failed _ = false
+
+-- one more call is counted, up to the greatest number
+abbrev pub counted : MemoryDevice → MemoryDevice
+counted m = record m { calls = min (m.calls + 1) (2 ^ 64 - 1) }
+
+-- bytes, and zeros behind them if they are fewer
+abbrev pub padded : List ℕ → ℕ → List ℕ
+padded told len = told ++ replicate (len - length told) 0
+
+-- the same with these bytes at a place, behind zeros if the place is behind the end
+abbrev pub overwritten : List ℕ → ℕ → List ℕ → List ℕ
+overwritten told at bytes =
+    let end = at + length bytes in take at (padded told end) ++ (bytes ++ drop end told)
