@@ -8,28 +8,32 @@ import os
 
 import scenarios
 
-FILES = {"thousand": 1000, "sixteen-mib": 16 << 20}  # the files that loads name, and how many bytes they have
+MIB = 1 << 20  # bytes
+FILES = {"one": 1, "thousand": 1000, "sixteen-mib": 16 * MIB}  # the files that loads name, and how many bytes they have
 PATTERN = bytes(range(251))  # of a prime length, so that blocks differ from those beside them
 TO_THE_END = 10**9  # microseconds, the longest hold of a plan: what is held is held to the end of each run
 LONGEST_WAY = 16  # beats, the largest delay of a plan
+LAST_READ = 7581  # the beat in which the first viewer's last block is asked for in the load `missed`
 
 
-def plan(cubs, disks=1, slots=None, pieces=1, beat=100, delay=1, play_beats=1000, longest_lead=False,
-         read_early=False, heart=50, deadman=None, hold=None):
-    """A plan with blocks of one byte and no skew. `delay`, `play_beats` and `heart` are beats, other times microseconds.
+def plan(cubs, disks=1, slots=None, pieces=1, block=1, beat=100, delay=1, play_beats=1000, longest_lead=False,
+         read_early=False, narrow=False, heart=50, deadman=None, hold=None):
+    """A plan with no skew. `delay`, `play_beats` and `heart` are beats, other times microseconds; `block` is bytes.
 
-    The window is as wide as it may be. The leads are the shortest, or the longest if that is asked for. A block is read
-    as late as it may be, or nearly a block play time before it is due. There is a slot for each disk if no number is
-    given, and `deadman` and `hold` are the least if they are not given.
+    The window is as wide as it may be, or the narrowest, in which a visit is due in one microsecond alone. The leads
+    are the shortest, or the longest if that is asked for. A block is read as late as it may be, or nearly a block play
+    time before it is due. There is a slot for each disk if no number is given, and `deadman` and `hold` are the least if
+    they are not given.
     """
     play, way = play_beats * beat, delay * beat
-    window_a = play - beat
-    read_lead = window_a - 2 * beat - way if read_early else beat + 2 * way
+    widest = play - beat
+    read_lead = widest - 2 * beat - way - narrow if read_early else beat + 2 * way
     window_b = read_lead + way + beat
+    window_a = window_b + 1 if narrow else widest
     least, room = window_a + 2 * play, (cubs - 4) * play
     max_lead = room if longest_lead else least + beat
-    return {"cubs": cubs, "disks": disks, "slots": slots or cubs * disks, "play": play, "pieces": pieces, "block": 1,
-            "beat": beat, "delay": delay, "skew": 0, "window_a": window_a, "window_b": window_b,
+    return {"cubs": cubs, "disks": disks, "slots": slots or cubs * disks, "play": play, "pieces": pieces,
+            "block": block, "beat": beat, "delay": delay, "skew": 0, "window_a": window_a, "window_b": window_b,
             "read_lead": read_lead, "min_lead": max_lead - beat, "max_lead": max_lead, "batch": 1, "heart": heart,
             "deadman": deadman or heart * beat + way, "hold": hold or 2 * play}
 
@@ -46,6 +50,25 @@ def stopped(load, beat):
     """The load with all its viewers stopped in one beat."""
     stops = [{"beat": beat, "stop": number} for number in range(len(load["events"]))]
     return {**load, "events": load["events"] + stops}
+
+
+def stopped_in_turn(load, beat, count):
+    """The load with so many of its viewers stopped, one in each beat from this one on."""
+    stops = [{"beat": beat + number, "stop": number} for number in range(count)]
+    return {**load, "events": load["events"] + stops}
+
+
+def dying(cubs, beat):
+    """The deaths of each second of the cubs, in one beat."""
+    return [{"cub": cub, "beat": beat} for cub in range(0, cubs, 2)]
+
+
+def of_long_files(viewers, beats, play_beats, beat, files):
+    """Viewers who play the first of some files of 16 MiB in blocks of one MiB, each with a slot of his own."""
+    rules = plan(cubs=7, slots=viewers, block=MIB, beat=beat, play_beats=play_beats)
+    return {"plan": rules, "beats": beats, "links": {"fixed": 1}, "read_faults": [],
+            "files": [{"name": "sixteen-mib", "disk": disk} for disk in range(files)],
+            "events": [{"beat": 0, "start": 0} for _ in range(viewers)]}
 
 
 # The heaviest loads.
@@ -83,7 +106,7 @@ def deathpieces(beats=15000):
     come in 8 pieces, for each of which a mirror state is sent.
     """
     rules = plan(cubs=64, slots=2048, pieces=8, play_beats=160, longest_lead=True, heart=1, deadman=2000)
-    return playing(2000, beats, rules, deaths=[{"cub": cub, "beat": beats // 6} for cub in range(0, 64, 2)])
+    return playing(2000, beats, rules, deaths=dying(64, beats // 6))
 
 
 def readahead(viewers=1900):
@@ -104,6 +127,77 @@ def drawn(viewers=1500):
     return playing(viewers, 100000, rules, links={"drawn": 7})
 
 
+def stopseach(viewers=2000, stops=None):
+    """As `lead`, and from beat 10,800 on one viewer is stopped in each beat, while the records of all others stand in
+    nearly all views; what is held is held to the end.
+    """
+    rules = plan(cubs=64, slots=2048, play_beats=160, longest_lead=True, hold=TO_THE_END)
+    return stopped_in_turn(playing(viewers, 11200 + viewers, rules), 10800, viewers if stops is None else stops)
+
+
+def deadstops(viewers=2000):
+    """As `deathpieces` with the deaths in beat 10,800, and from beat 11,400 on one viewer is stopped in each beat: his
+    pieces are to be dropped from among those of all others.
+    """
+    rules = plan(cubs=64, slots=2048, pieces=8, play_beats=160, longest_lead=True, heart=1, deadman=2000,
+                 hold=TO_THE_END)
+    return stopped_in_turn(playing(viewers, 11800 + viewers, rules, deaths=dying(64, 10800)), 11400, viewers)
+
+
+def expiry(viewers=2000, held_beats=3000):
+    """Viewers of one block start one after another, and each is stopped before it is due: the deschedules go round a
+    ring with empty views, and each of them ends in a beat of its own.
+    """
+    rules = plan(cubs=64, slots=4096, play_beats=160, longest_lead=True, read_early=True, narrow=True,
+                 hold=held_beats * 100)
+    starts = [(10400 + number, {"beat": 10400 + number, "start": number % 64}) for number in range(viewers)]
+    stops = [(10460 + number, {"beat": 10460 + number, "stop": number}) for number in range(viewers)]
+    events = [event for _, event in sorted(starts + stops, key=lambda it: it[0])]
+    return {"plan": rules, "beats": 10760 + viewers + held_beats, "links": {"fixed": 1}, "events": events,
+            "files": [{"name": "one", "disk": disk} for disk in range(64)]}
+
+
+def earlypieces(beats=40000):
+    """Each second of ten cubs dies, and all blocks and pieces are asked for nearly a block play time before they are
+    due, so a cub stores as many pieces as its viewers play.
+    """
+    rules = plan(cubs=10, slots=2000, pieces=8, play_beats=505, read_early=True, heart=1, deadman=2000)
+    return playing(2000, beats, rules, deaths=dying(10, 3000))
+
+
+def threedead(beats=40000):
+    """As `earlypieces` with seven cubs of which three die."""
+    rules = plan(cubs=7, slots=1930, pieces=5, play_beats=505, read_early=True, heart=1, deadman=2000)
+    return playing(2000, beats, rules, deaths=dying(6, 3000))
+
+
+def churn(viewers=2000, beats=31250):
+    """Viewers start one after another on 64 cubs with one slot each, and each is stopped 300 beats later."""
+    rules = plan(cubs=64, slots=64, play_beats=160, longest_lead=True)
+    gap = (beats - 400) // viewers
+    starts = [(gap * number, {"beat": gap * number, "start": number % 64}) for number in range(viewers)]
+    stops = [(beat + 300, {"beat": beat + 300, "stop": number}) for number, (beat, _) in enumerate(starts)]
+    events = [event for _, event in sorted(starts + stops, key=lambda it: it[0])]
+    return {"plan": rules, "beats": beats, "links": {"fixed": 1}, "events": events,
+            "files": [{"name": "thousand", "disk": disk} for disk in range(64)]}
+
+
+def whole(viewers=2000):
+    """All viewers play one file of 16 MiB in blocks of one MiB: each read is of a MiB, and no two starts have other
+    bytes.
+    """
+    return of_long_files(viewers, beats=600, play_beats=20, beat=1000, files=4)
+
+
+def missed(viewers=500):
+    """As `whole`, and the last block of each second viewer, in the order of the starts, cannot be read: neighbours have
+    other bytes. The viewers share seven block play times of 505 beats, in which each has his turn on a disk.
+    """
+    load = of_long_files(viewers, beats=505 * 27, play_beats=505, beat=100, files=1)
+    reads = [LAST_READ + 7 * 505 * number // viewers for number in range(0, viewers, 2)]
+    return {**load, "read_faults": [{"disk": 15 % 7, "from": beat - 3, "until": beat + 4} for beat in reads]}
+
+
 def blocks(files=4):
     """Nobody plays 64 MiB in blocks of one byte, each of which has 8 pieces: if a disk kept its blocks and pieces as
     such, they would take more than a hundred times the memory of the bytes.
@@ -114,15 +208,11 @@ def blocks(files=4):
 
 
 WORST = {made.__name__: made for made in (leadfull, lead, heldall, heldworst, deathpieces, readahead, full, drawn,
+                                          stopseach, deadstops, expiry, earlypieces, threedead, churn, whole, missed,
                                           blocks)}
 
 
-# The load that grows.
-
-# The sizes from which each is doubled by itself. With half of them a run would be too short to tell, and with twice the
-# viewers or twice the beats the blocks that might be due are as many as may be.
-GROWING = {"viewers": 1000, "beats": 19900, "cubs": 8}
-
+# The loads that grow.
 
 def crowd(viewers, beats, cubs):
     """Viewers with room, as in the load of six hundred viewers: 4 disks on each cub, 4 pieces, and 100 beats of 10 ms
@@ -131,10 +221,29 @@ def crowd(viewers, beats, cubs):
     return playing(viewers, beats, plan(cubs, disks=4, slots=4096, pieces=4, beat=10000, play_beats=100))
 
 
+def stopping(stops):
+    """As `stopseach`, of which so many of the 2,000 viewers are stopped."""
+    return stopseach(2000, stops)
+
+
+def deaths(dead):
+    """As `deathpieces`, of which so many of the 64 cubs die."""
+    return {**deathpieces(), "deaths": dying(2 * dead, 2500)}
+
+
+# Each size that is doubled by itself, with the load that has it and the sizes of that load from which it grows. With
+# half of the crowd's a run would be too short to tell, and with twice its viewers or twice its beats the blocks that
+# might be due are as many as may be.
+CROWD = {"viewers": 1000, "beats": 19900, "cubs": 8}
+GROWING = {"viewers": (crowd, CROWD), "beats": (crowd, CROWD), "cubs": (crowd, CROWD),
+           "stops": (stopping, {"stops": 250}), "dead": (deaths, {"dead": 4})}
+
+
 def doublings(what):
-    """The crowd with one of its sizes doubled again and again, as long as no rule is broken: each size and its load."""
-    sizes = dict(GROWING)
-    while breaks_no_rule(load := crowd(**sizes)):
+    """The load of a size that is doubled again and again, as long as no rule is broken: each size and its load."""
+    made, begun = GROWING[what]
+    sizes = dict(begun)
+    while breaks_no_rule(load := made(**sizes)):
         yield sizes[what], load
         sizes[what] *= 2
 
@@ -147,7 +256,8 @@ def breaks_no_rule(load):
     return (scenarios.out_of_range(rules) == scenarios.first_false(rules) == 0
             and beats <= scenarios.MOST_BEATS and beats * rules["cubs"] <= scenarios.MOST_PRODUCT
             and starts <= scenarios.MOST_STARTS and blocks_due <= scenarios.MOST_VISITS
-            and len(load["files"]) <= scenarios.MOST_FILES)
+            and len(load["files"]) <= scenarios.MOST_FILES and len(load["events"]) <= scenarios.MOST_EVENTS
+            and len(load["deaths"]) <= scenarios.MOST_DEATHS)
 
 
 def put(folder, name, load):
