@@ -6,6 +6,7 @@ its value and what it may be.
 import json
 import math
 
+from nets import OF_PLANS, OF_SCENARIOS, has_keys
 from scenarios import (KEYS, MOST_BEATS, MOST_DEATHS, MOST_EVENTS, MOST_FAULTS, MOST_FILES, MOST_PRODUCT, MOST_STARTS,
                        RANGES, Raw, text_of)
 
@@ -89,6 +90,8 @@ def unknown_word(word):
 
 def cause(rule, item, value):
     """What breaks a rule from 2 to 12 in the value of a scenario, in words; nothing if it is not found."""
+    if rule == 2 and has_keys(value, OF_PLANS, OF_SCENARIOS):
+        return "the keys are those of a network's plan, which tiger net takes"
     if rule == 2:
         return keys_wrong("the scenario", value, NEEDED, OPTIONAL)
     if rule == 3:

@@ -22,7 +22,7 @@ STAND_INS = {  # programs that are not this one
 WRONG = (  # words that a tool does not take
     "stress 1 0", "stress 1 -1", "stress x 1", "stress 1 1 --program /nowhere", "stress 1 1 --wait 0", "draw 1 0",
     "draw 1 1 --jobs 0", "draw 1 1 --minutes 0", "draw 1 1 --minutes -1", "draw 1 1 --minutes nan", "draw 1",
-    "draw 1 1 --reference /nowhere", "conformance --cases /nowhere", "conformance run", "conformance --workers 65",
+    "draw 1 1 --reference /nowhere", "draw-nets 1 0", "draw-nets x 1", "draw-nets 1 1 --program /nowhere", "conformance --cases /nowhere", "conformance run", "conformance --workers 65",
     "conformance --jobs 0", "conformance --program /nowhere", "deaths --jobs 0", "deaths --program /nowhere",
     "deaths x",
     "bench --rounds 0", "bench --workers 0", "bench nothing", "bench --beside /nowhere", "hostile 1 0", "hostile",
@@ -31,8 +31,8 @@ WRONG = (  # words that a tool does not take
     "wrong-bodies nothing", "plant-bugs 1 0", "plant-bugs 1 1 --crates nothing", "explain", "picture",
     "picture one.json --at x", "check-program --program /nowhere", "build x")
 TRIES = (  # the words of tools that try a program, whichever it is
-    "stress 1 1", "draw 1 2 --reference PROGRAM", "conformance made", "deaths", "bench made --rounds 1", "hostile 1 1",
-    "refuse-allocations --last 1")
+    "stress 1 1", "draw 1 2 --reference PROGRAM", "conformance made", "conformance net", "deaths",
+    "bench made --rounds 1", "hostile 1 1", "refuse-allocations --last 1", "draw-nets 1 2")
 
 
 def tool(words, folder, stand_in):
@@ -64,8 +64,8 @@ def no_program(folder):
         os.chmod(file.name, 0o755)
     for words in TRIES:
         for name in STAND_INS:
-            if name == "hangs" and words == "deaths":
-                continue  # (400 runs that hang)
+            if name == "hangs" and words in ("deaths", "conformance net"):
+                continue  # (hundreds of runs that hang)
             got = tool(words, folder, name)
             good = got.status in (1, program.NO_REFERENCE) and not has_traceback(got)
             what = f"'{words}' with a program that is '{name}'"
@@ -190,7 +190,9 @@ def first_words(tiger, folder):
     with open(os.path.join(program.TOP, "crates/tiger_main/src/main.rt"), encoding="utf-8") as file:
         copy.write("crates/tiger_main/src/main.rt", file.read())
     for words in (["--help"], ["--version"], [], ["help"], ["--help", "x"], ["run", "gone", "1"], ["run", "", "1"],
-                  ["run", "crates", "1"], ["run", "gone", "65"], ["run", "gone", "01"], ["run", b"\xff", "1"],
+                  ["run", "crates", "1"], ["journal", "gone"], ["journal", "gone", "1"],
+                  ["journal", "gone", "0"], ["net"], ["net", "gone"], ["net", ""], ["net", "crates"], ["net", b"\xff"],
+                  ["net", "gone", "1"], ["run", "gone", "65"], ["run", "gone", "01"], ["run", b"\xff", "1"],
                   ["make", "01"], ["make", "18446744073709551616"], ["make", "1", "1"]):
         wanted = program.run([tiger, *words], copy.top)
         for before in ([], ["--unproved"]):

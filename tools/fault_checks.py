@@ -1,17 +1,25 @@
 """Checks of faults outside the program for tools/check-program: streams that are closed, full or read by nobody, and
-scenarios that cannot be read or do not end. The status is the one of docs/formats.md, nothing is written on the wrong
-stream, and no core is dumped."""
+scenarios and plans that cannot be read or do not end; and of the pieces in which a long output goes out. The status is
+the one of docs/formats.md, nothing is written on the wrong stream, and no core is dumped."""
+import concurrent.futures
 import contextlib
+import json
 import os
 import resource
 import shutil
+import socket
 import subprocess
 
 import program
+import tool_checks
 from program import Ended, refused
 
 FAULT = refused(6, "write fault")
 RUN, ABSENT = ["run", "one.json", "1"], ["run", "absent.json", "1"]
+JOURNAL, NO_JOURNAL = ["journal", "one.json", "1"], ["journal", "absent.json", "1"]
+NET, NO_NET = ["net", "net.json"], ["net", "absent.json"]
+PUT_MOST = 65536  # bytes of a put, unless a line has more
+TOO_LONG = refused(8, "too long scenario given 4194305 most 4194304")
 
 
 def in_child(closed, is_nobody):
@@ -26,12 +34,12 @@ def in_child(closed, is_nobody):
     return prepare
 
 
-def run(tiger, words, folder, out=None, err=None, closed=(), is_nobody=False):
+def run(tiger, words, folder, out=None, err=None, closed=(), is_nobody=False, given=subprocess.DEVNULL):
     """How the program ends if a stream is this file, where one is named, or is closed. What it writes on such a stream
     is not seen."""
     with contextlib.ExitStack() as stack:
-        given = [subprocess.PIPE if it is None else stack.enter_context(it) for it in (out, err)]
-        return program.run([tiger, *words], folder, stdout=given[0], stderr=given[1],
+        streams = [subprocess.PIPE if it is None else stack.enter_context(it) for it in (out, err)]
+        return program.run([tiger, *words], folder, stdin=given, stdout=streams[0], stderr=streams[1],
                            preexec_fn=in_child(closed, is_nobody))
 
 
@@ -52,50 +60,103 @@ def unread():
     return os.fdopen(writes, "wb")
 
 
-def streams(tiger, folder, report):
+def piped(tiger, words, folder, command):
+    """How the program ends if standard input is a pipe into which a command writes."""
+    with subprocess.Popen(command, cwd=folder, stdin=subprocess.DEVNULL, stdout=subprocess.PIPE,
+                          stderr=subprocess.DEVNULL) as writer:
+        got = run(tiger, words, folder, given=writer.stdout)
+        writer.stdout.close()
+        writer.kill()
+    return got
+
+
+def streams(tiger, folder):
     """Faults of standard output and of standard error."""
-    for what, words in (("run", RUN), ("made run", ["make", "0"]), ("usage", ["--help"]), ("version", ["--version"])):
+    for what, words in (("run", RUN), ("made run", ["make", "0"]), ("journal", JOURNAL), ("plan", NET), ("usage", ["--help"]),
+                        ("version", ["--version"])):
         yield f"a {what} on a full disk", run(tiger, words, folder, out=full()), FAULT
         yield f"a {what} for a reader that is gone", run(tiger, words, folder, out=unread()), FAULT
         yield f"a {what} with no standard output", run(tiger, words, folder, closed=[1]), FAULT
-    yield "an output that is open for reading", run(tiger, RUN, folder, out=read_only()), FAULT
-    yield "neither input nor output", run(tiger, RUN, folder, closed=[0, 1]), FAULT
-    yield "no stream at all", run(tiger, RUN, folder, closed=[0, 1, 2]), Ended(6, b"", b"")
-    yield "a refusal with no standard output", run(tiger, ABSENT, folder, closed=[1]), refused(3, "absent scenario")
-    for words, wanted in ((RUN, Ended(0, report, b"")), (ABSENT, Ended(3, b"", b""))):
-        yield f"{words[1]} with no standard error", run(tiger, words, folder, closed=[2]), wanted
-        yield f"{words[1]} with output alone", run(tiger, words, folder, closed=[0, 2]), wanted
-        yield f"{words[1]} with a full standard error", run(tiger, words, folder, err=full()), wanted
-    yield "both streams full", run(tiger, RUN, folder, out=full(), err=full()), Ended(6, b"", b"")
+    for words, absent, report in ((RUN, ABSENT, "one.stdout"), (JOURNAL, NO_JOURNAL, "one.journal"),
+                                  (NET, NO_NET, "net.stdout")):
+        yield f"an output of {words} that is open for reading", run(tiger, words, folder, out=read_only()), FAULT
+        yield f"{words} with neither input nor output", run(tiger, words, folder, closed=[0, 1]), FAULT
+        yield f"{words} with no stream at all", run(tiger, words, folder, closed=[0, 1, 2]), Ended(6, b"", b"")
+        yield f"{absent} with no standard output", run(tiger, absent, folder, closed=[1]), refused(3, "absent scenario")
+        for given, wanted in ((words, Ended(0, content(folder, report), b"")), (absent, Ended(3, b"", b""))):
+            yield f"{given} with no standard error", run(tiger, given, folder, closed=[2]), wanted
+            yield f"{given} with output alone", run(tiger, given, folder, closed=[0, 2]), wanted
+            yield f"{given} with a full standard error", run(tiger, given, folder, err=full()), wanted
+        yield f"{words} with both streams full", run(tiger, words, folder, out=full(), err=full()), Ended(6, b"", b"")
 
 
-def inputs(tiger, folder, scenario):
-    """Scenarios and files that cannot be read, and some that do not end."""
+def puts(tiger, folder):
+    """What a long output of each command goes out in: whole lines, as many at a time as fit, and at least one."""
+    with open(os.path.join(folder, "long-report.json"), "w", encoding="ascii") as file:
+        json.dump(tool_checks.crowd(), file)
+    with open(os.path.join(folder, "long-plan.json"), "w", encoding="ascii") as file:
+        json.dump({"cubs": 3, "quanta": 4, "capacity": 1, "steps": 1,
+                   "events": [{"step": 0, "at": 0, "rate": 1}] * 4000}, file)
+    for words in (["run", "long-report.json", "1"], ["journal", "long-report.json", "1"], ["net", "long-plan.json"]):
+        yield f"the puts of {words}", fault_of(*put(tiger, words, folder))
+
+
+def put(tiger, words, folder):
+    """How the program ends, and each piece that it writes on standard output: a socket of packets keeps them apart."""
+    ours, theirs = socket.socketpair(socket.AF_UNIX, socket.SOCK_SEQPACKET)
+    with ours, concurrent.futures.ThreadPoolExecutor(1) as pool:
+        pieces = pool.submit(lambda: list(iter(lambda: ours.recv(1 << 20), b"")))
+        return run(tiger, words, folder, out=theirs), pieces.result()
+
+
+def fault_of(ended, pieces):
+    """What is wrong with a long output in pieces; nothing if each has whole lines, and no more would have fit."""
+    if ended.differs(Ended(0, b"", b"")) or len(pieces) < 2:
+        return f"status {ended.status}, {len(pieces)} puts"
+    if any(len(piece) > PUT_MOST or not piece.endswith(b"\n") for piece in pieces):
+        return "a put has more bytes than may be, or part of a line"
+    has_room = any(len(piece) + later.index(b"\n") + 1 <= PUT_MOST for piece, later in zip(pieces, pieces[1:]))
+    return "a put has fewer lines than fit" if has_room else ""
+
+
+def content(folder, name):
+    """The bytes of a file of a folder."""
+    with open(os.path.join(folder, name), "rb") as file:
+        return file.read()
+
+
+def inputs(tiger, folder):
+    """Scenarios, plans and files that cannot be read, and some that do not end."""
     os.chmod(folder, 0o755)
-    tiger = shutil.copy(tiger, folder)  # nobody may not get at the first one
-    with open(os.path.join(folder, "secret.json"), "wb") as file:
-        file.write(scenario)
-    os.chmod(file.name, 0)
-    got = run(tiger, ["run", "secret.json", "1"], folder, is_nobody=True)
-    yield "a secret scenario", got, refused(4, "read fault scenario")
+    tiger, scenario = shutil.copy(tiger, folder), content(folder, "one.json")  # nobody may not get at the first one
+    for name, command in (("secret.json", RUN), ("secret-net.json", NET)):
+        with open(os.path.join(folder, name), "wb") as file:
+            file.write(content(folder, command[1]))
+        os.chmod(file.name, 0)
+        got = run(tiger, [command[0], name, *command[2:]], folder, is_nobody=True)
+        yield f"a secret file for {command[0]}", got, refused(4, "read fault scenario")
     for name, path, wanted in (("secret", "secret.json", refused(4, "read fault file 0")),
                                ("endless", "/dev/zero", refused(8, "too long file 0 given 16777217 most 16777216")),
                                ("below-a-file", "one.json/x", refused(4, "read fault file 0"))):
         with open(os.path.join(folder, f"{name}-file.json"), "wb") as file:
             file.write(scenario.replace(b'"ten"', b'"%s"' % path.encode()))
         yield f"the file {path}", run(tiger, ["run", f"{name}-file.json", "1"], folder, is_nobody=True), wanted
-    for path, wanted in (("/dev/zero", refused(8, "too long scenario given 4194305 most 4194304")),
-                         ("/proc/self/mem", refused(4, "read fault scenario")), ("/dev/null", rule_one())):
-        yield f"the scenario {path}", run(tiger, ["run", path, "1"], folder), wanted
+    no_scenario = refused(5, "scenario rule 1 item 0 left 0 right 0")
+    for command, no_json, report in ((RUN, no_scenario, "one.stdout"), (JOURNAL, no_scenario, "one.journal"),
+                                     (NET, refused(13, "net rule 1"), "net.stdout")):
+        name, behind = command[0], command[2:]
+        for path, wanted in (("/dev/zero", TOO_LONG), ("/proc/self/mem", refused(4, "read fault scenario")),
+                             ("/dev/null", no_json)):
+            yield f"{name} {path}", run(tiger, [name, path, *behind], folder), wanted
+        words = [name, "/dev/stdin", *behind]
+        yield f"{name} of a pipe that does not end", piped(tiger, words, folder, ["cat", "/dev/zero"]), TOO_LONG
+        whole = Ended(0, content(folder, report), b"")
+        yield f"{name} of a pipe", piped(tiger, words, folder, ["cat", command[1]]), whole
 
 
-def rule_one():
-    """A run that is refused because its scenario is no JSON."""
-    return refused(5, "scenario rule 1 item 0 left 0 right 0")
-
-
-def all_of_them(tiger, folder, scenario, report):
-    """Each check's name, and what it found; nothing if all is well. The folder has one.json and its file."""
-    for name, got, wanted in [*streams(tiger, folder, report), *inputs(tiger, folder, scenario)]:
+def all_of_them(tiger, folder):
+    """Each check's name, and what it found; nothing if all is well. The folder has the examples and their files."""
+    for name, got, wanted in [*streams(tiger, folder), *inputs(tiger, folder)]:
         yield name, got.differs(wanted)
+    yield from puts(tiger, folder)
     yield "cores", ", ".join(name for name in os.listdir(folder) if name.startswith("core"))

@@ -1,5 +1,5 @@
 """What the launcher answers before the program is there: its usage and version, words that are no command, and a
-scenario that is not there. The answers are the program's own: the texts stand in its source, and are read from there.
+scenario or a plan that is not there. The answers are the program's own: the texts stand in its source, and are read from there.
 
 Python 3.8 or later, and nothing but its standard library.
 """
@@ -24,7 +24,7 @@ def answer(words):
         return text and shows(text)
     if not is_command(words):
         return refuses(WORDS, "words")
-    return scenario_fault(words[1]) if words[0] == "run" else None
+    return scenario_fault(words[1]) if words[0] in ("run", "journal", "net") else None
 
 
 def text_in_source(name):
@@ -51,9 +51,9 @@ def is_command(words):
     """Whether the program takes these words for a command."""
     if not all(map(is_text, words)):
         return False
-    if len(words) == 3 and words[0] == "run":
+    if len(words) == 3 and words[0] in ("run", "journal"):
         return is_number(words[2], 1, MOST_WORKERS)
-    return len(words) == 2 and words[0] == "make" and is_number(words[1], 0, MOST_NUMBER)
+    return len(words) == 2 and (words[0] == "net" or words[0] == "make" and is_number(words[1], 0, MOST_NUMBER))
 
 
 def is_text(word):
@@ -71,7 +71,8 @@ def is_number(word, least, most):
 
 
 def scenario_fault(name):
-    """The status for a scenario that is not there or cannot be read; none for any other, which is the program's."""
+    """The status for a scenario or a plan that is not there or cannot be read; none for any other, which is the
+    program's."""
     try:
         os.stat(os.fsencode(name))
     except FileNotFoundError:

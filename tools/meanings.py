@@ -1,18 +1,19 @@
-"""What each exit status means, and what each rule of a scenario asks for, for tools/explain.
+"""What each exit status means, and what each rule of a scenario and of a network's plan asks for, for tools/explain.
 
 The texts are those of the tables in docs/formats.md, and tools/check-program compares the two.
 """
 
 STATUSES = {  # what happened
     0: "all was read, run and written",
-    2: "the words are neither `run SCENARIO WORKERS` nor `make NUMBER`, or a number has a leading zero or is out of "
-       "its range",
+    2: "the words are none of `run SCENARIO WORKERS`, `make NUMBER`, `journal SCENARIO WORKERS` and `net PLAN`, or a number has a leading zero or "
+       "is out of its range",
     3: "a file is not there",
     4: "a file cannot be read, for any other cause",
     5: "the scenario breaks a rule",
     6: "a write failed",
     7: "there was no memory",
     8: "a file is longer than may be",
+    13: "the plan of a network's schedule breaks a rule",
     70: "`./tiger` could not build the program",
     71: "`./tiger --unproved` has no answer",
 }
@@ -45,6 +46,14 @@ RULES = {  # what is wrong, and how to mend it
     12: ("`read_faults` is not of its form",
          "see that the disk is there, that `from` is below `until`, and that `until` is at most `beats`"),
     13: ("a file has no bytes", "name a file that is not empty"),
+}
+
+NET_RULES = {  # what is wrong with a network's plan, and how to mend it
+    1: (RULES[1][0], RULES[1][1]),
+    2: ("the value is not in the form of a plan: a key is missing, another one stands there, or a value is out of its "
+        "range",
+        "give each key a value as network.md has it, and see that the steps of the orders never fall and that a stop "
+        "names an instance that was asked for before it"),
 }
 
 CONDITIONS = {  # rule 4 by its item: what may be at most what, and how to mend it

@@ -31,7 +31,10 @@ NO_PROGRAM = 70
 MOST_WORKERS = 64
 TOTAL = re.compile(rb"^total starts \d+ placed \d+ whole \d+ pieces \d+ missing \d+\n(?:report [^\n]*\n)?\Z",
                    re.M)  # how the output of a run ends
-REFUSALS = (2, 3, 4, 5, 8)  # the statuses of runs that write nothing but one line on standard error
+PEAK = re.compile(rb"^peak \d+ at \d+\n\Z", re.M)  # how the output of a network's schedule ends
+END = re.compile(rb"^end\n\Z", re.M)  # how the journals of a run end
+LAST = {"run": TOTAL, "make": TOTAL, "net": PEAK, "journal": END}  # how the output of each command ends
+REFUSALS = (2, 3, 4, 5, 8, 13)  # the statuses of runs that write nothing but one line on standard error
 
 
 class Ended:
@@ -153,11 +156,11 @@ def ended(process, seconds):
     return found
 
 
-def is_answer(one):
-    """Whether a run ended as the program may: with a report and status 0, or with the line of a refusal and its
-    status."""
+def is_answer(one, last=TOTAL):
+    """Whether a run ended as the program may: with a report that ends so and status 0, or with the line of a refusal
+    and its status."""
     if one.status == 0:
-        return TOTAL.search(one.out) is not None and one.err == b""
+        return last.search(one.out) is not None and one.err == b""
     return one.status in REFUSALS and one.out == b"" and re.fullmatch(rb"tiger: [^\n]+\n", one.err) is not None
 
 

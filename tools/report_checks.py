@@ -10,6 +10,7 @@ import program
 import rows
 import scenario_checks
 import sweep_checks
+from nets import is_net
 from reports import run_of
 
 EXAMPLES = os.path.join(program.TOP, "examples")
@@ -62,10 +63,10 @@ def content(name):
 
 
 def kept():
-    """The names of the examples, and the run that the kept report of each tells."""
+    """The names of the scenarios among the examples, and the run that the kept report of each tells."""
     for file in sorted(os.listdir(EXAMPLES)):
         name, ending = os.path.splitext(file)
-        if ending == ".json":
+        if ending == ".json" and not is_net(content(file)):
             yield name, run_of(content(file), content(name + ".stdout"))
 
 

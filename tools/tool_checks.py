@@ -18,6 +18,7 @@ TOOLS = os.path.join(program.TOP, "tools")
 KEPT = {  # the pictures of examples/, each with the words that make it from a scenario and its kept report there
     "dead-cub.svg": ("dead-cub",),
     "full-house.svg": ("full-house",),
+    "net.svg": ("net",),
     "read-fault.svg": ("read-fault",),
     "six-viewers.svg": ("six-viewers",),
     "six-viewers-ring.svg": ("six-viewers", "--ring", "--at", "7.05"),
@@ -194,6 +195,8 @@ def same_tables():
     yield "the table of conditions", first_unlike(meanings.CONDITIONS, conditions)
     yield "the table of the plan's keys", first_unlike(ours, keys)
     yield "the table of statuses", first_unlike(meanings.STATUSES, statuses)
+    net_rules = {int(row[0]): row[1:] for row in numbered if len(row) == 3 and not row[1].isdecimal()}
+    yield "the table of a plan's rules", first_unlike(meanings.NET_RULES, net_rules)
 
 
 def broken():
@@ -267,6 +270,8 @@ def offers(folder):
         yield f"the offer for {name!r}", in_terminal(copy, "run", name, "1").differs(wanted)
     wanted = program.Ended(5, b"<run><one.json><1>", b"")
     yield "no offer without a terminal", copy.run("run", "one.json", "1").differs(wanted)
+    wanted = program.Ended(13, b"<net><net.json>", offer.replace(b" 5 ", b" 13 ") + b"net.json\n")
+    yield "the offer for a plan", in_terminal(copy, "net", "net.json").differs(wanted)
 
 
 # Drawn scenarios.
