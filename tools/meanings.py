@@ -5,8 +5,8 @@ The texts are those of the tables in docs/formats.md, and tools/check-program co
 
 STATUSES = {  # what happened
     0: "all was read, run and written",
-    2: "the words are none of `run SCENARIO WORKERS`, `make NUMBER`, `journal SCENARIO WORKERS` and `net PLAN`, or a number has a leading zero or "
-       "is out of its range",
+    2: "the words are none of `run SCENARIO WORKERS`, `make NUMBER`, `journal SCENARIO WORKERS` and `net PLAN`, or a "
+       "number has a leading zero or is out of its range",
     3: "a file is not there",
     4: "a file cannot be read, for any other cause",
     5: "the scenario breaks a rule",
