@@ -14,14 +14,13 @@ use Rattle.audit_text.specs.declared.item.Item.{Item}
 use Rattle.audit_text.specs.Fits.{ItemFits}
 use Rattle.audit_text.specs.Lines.{line_of}
 use Rattle.audit_text.specs.Texts.{parts_of, items_in, text_in, text_of}
-use Rattle.audit_text.proofs.Feeds.{one_line}
+use Rattle.audit_text.proofs.Feeds.{line_free, one_line}
 use Rattle.audit_read.specs.Begun.{HasNoFeed, whole_lines, lines_of, Begins, IsFaultyAt}
 use Rattle.audit_read.specs.Drafts.{written, Admits, after, IsSound, IsRead, IsReadAs, whole_parts}
 use Rattle.audit_read.specs.Writable.{IsWritable}
 use Rattle.audit_read.specs.declared.draft.Draft.{Draft}
 use Rattle.audit_read.specs.declared.draft.Draft.TheVariants as draft
 use Rattle.audit_read.specs.declared.told.Told.{Told}
-use Rattle.audit_read.proofs.Feeds.{line_free}
 use Rattle.audit_read.proofs.Lists.{all_push, length_push, none_from}
 use Rattle.audit_read.proofs.Steps.{step}
 use Rattle.audit_read.proofs.Walk.{IsWholeDraft, ReadsOut, reads_behind, walk}

@@ -1,5 +1,4 @@
 mod Ends
-mod Feeds
 mod Fronts
 mod Lists
 mod Planning

@@ -8,7 +8,7 @@ use Rattle.audit_text.specs.Lines.{line_of}
 use Rattle.audit_read.specs.Begun.{IsFaultyAt}
 use Rattle.audit_read.specs.Drafts.{Admits}
 use Rattle.audit_read.specs.declared.draft.Draft.TheVariants as draft
-use Rattle.audit_read.proofs.Feeds.{from_test}
+use Rattle.audit_text.proofs.Feeds.{from_test}
 use Rattle.audit_read.proofs.Fronts.{at_start, at_next, fault_at_end, fault_at_line}
 
 pub empty_faulty : IsFaultyAt [] 1

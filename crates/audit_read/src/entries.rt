@@ -31,6 +31,7 @@ fn is_held(p: &Params, t: &Tenancy, visit: Visit) -> bool
     is_tenancy(p, t) && visit <= LAST_VISIT
 }
 
+/// Whether a start is of a number of blocks that it may have.
 pub fn is_ask(ask: &Ask) -> bool
     ensures { IsTrue result ↔ IsAsk ask.now }
 {

@@ -10,7 +10,7 @@ use audit_text::Item;
 use link_timing::Delay;
 use node_kit::{Digest32, Entry, OrderKind, What};
 use slot_plan::Params;
-use tiger_base::{Ask, Note, Span, Tag, Tenancy, Want};
+use tiger_base::{Ask, Beat, Note, Span, State, Tag, Tenancy, Want};
 
 fn short_fits(n: u32)
     ensures { IsShort n }
@@ -91,14 +91,26 @@ fn part_fits(part: &Option<Span>)
     }
 }
 
+fn state_fits(state: &State)
+    ensures { TenancyFits state.now.tenancy × IsLong state.now.visit }
+{
+    tenancy_fits(&state.tenancy);
+    long_fits(state.visit);
+}
+
+fn sent_fits(want: &Want, sent: Beat, part: &Span)
+    ensures { WantFits want.now × IsLong sent × SpanFits part.now }
+{
+    want_fits(want);
+    long_fits(sent);
+    span_fits(part);
+}
+
 fn note_fits(note: &Note)
     ensures { NoteFits note.now }
 {
     match note {
-        Note::ViewerState(state) => {
-            tenancy_fits(&state.tenancy);
-            long_fits(state.visit);
-        }
+        Note::ViewerState(state) => state_fits(state),
         Note::MirrorState(state) => {
             tenancy_fits(&state.tenancy);
             long_fits(state.visit);
@@ -125,16 +137,8 @@ fn note_fits(note: &Note)
             want_fits(want);
             part_fits(part);
         }
-        Note::Whole { want, sent, part } => {
-            want_fits(want);
-            long_fits(*sent);
-            span_fits(part);
-        }
-        Note::Piece { want, sent, part } => {
-            want_fits(want);
-            long_fits(*sent);
-            span_fits(part);
-        }
+        Note::Whole { want, sent, part } => sent_fits(want, *sent, part),
+        Note::Piece { want, sent, part } => sent_fits(want, *sent, part),
     }
 }
 

@@ -19,7 +19,7 @@ use Rattle.audit_text.specs.Texts.{text_in}
 use Rattle.audit_text.specs.Words.{letters}
 use Rattle.audit_text.proofs.Again.{fields_long, line_again}
 
-abbrev FeedFree : List ℕ → Type 0
+abbrev pub FeedFree : List ℕ → Type 0
 FeedFree bytes = AllByRecursion (λ b. b ≡ 10 → ⊥) bytes
 
 free-append : (xs ys : List ℕ) → FeedFree xs → FeedFree ys → FeedFree (xs ++ ys)
@@ -27,11 +27,11 @@ free-append [] ys f g = g
 free-append (x ∷ xs) ys f g = (f.0, free-append xs ys f.1 g)
 
 -- of letters that are written out it is computed
-abbrev has_none : List ℕ → Bool
+abbrev pub has_none : List ℕ → Bool
 has_none [] = true
 has_none (b ∷ bs) = cond (eqb b 10) false (has_none bs)
 
-from_test : (bs : List ℕ) → has_none bs ≡ true → FeedFree bs
+pub from_test : (bs : List ℕ) → has_none bs ≡ true → FeedFree bs
 from_test [] h = tt
 from_test (b ∷ bs) h = go (eqb b 10) refl (λ (k : has_none bs ≡ true). from_test bs k) h where
   go : (t : Bool) → eqb b 10 ≡ t → (has_none bs ≡ true → FeedFree bs) → cond t false (has_none bs) ≡ true → FeedFree (b ∷ bs)
@@ -105,7 +105,7 @@ behind_free (item.Entry e) f = spaced_free (fields_of (item.Entry e)) (fields_lo
 behind_free (item.Digest d) f = (λ is. omega (arith, is), encoded_free d.0 f.1)
 behind_free item.End f = tt
 
-line_free : (i : Item) → ItemFits i → FeedFree (line_of i)
+pub line_free : (i : Item) → ItemFits i → FeedFree (line_of i)
 unfolding line_of
 line_free i f = free-append (letters (word_of i)) (behind_word i) (word_free (word_of i)) (behind_free i f)
 
