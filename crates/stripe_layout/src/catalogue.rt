@@ -21,7 +21,7 @@ pub struct Catalogue {
 }
 
 impl Catalogue {
-    ghost use Rattle.std.specs.Prelude.{◌≡◌, ◌↔◌, ◌≤◌, length, IsNone};
+    ghost use Rattle.std.specs.Prelude.{◌≡◌, ◌↔◌, ◌+◌, ◌^◌, ◌<◌, ◌≤◌, length, IsNone, IfSome};
     ghost use Rattle.stripe_layout.specs.Places.{block_count, place_of};
 
     /// The number of blocks of a file; 0 exactly if there is no such file.
@@ -42,6 +42,7 @@ impl Catalogue {
     pub fn place(&self, file: FileNo, block: u64) -> Option<Place>
         ensures value { result ≡ place_of self.now file block }
         ensures none { IsNone result ↔ (block_count self.now file.0 ≤ block) }
+        ensures room { IfSome result (λ p. p.span.from + p.span.len < 2 ^ 64) }
     {
         let info = self.files.get(file.0 as usize)?;
         if info.len.div_ceil(self.block) <= block {

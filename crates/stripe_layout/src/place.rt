@@ -1,5 +1,5 @@
 //! The disk and the bytes of one block.
-ghost use Rattle.std.specs.Prelude.{◌≡◌, ◌+◌, ◌%◌, ◌<◌, ◌≤◌};
+ghost use Rattle.std.specs.Prelude.{◌≡◌, ◌+◌, ◌^◌, ◌%◌, ◌<◌, ◌≤◌};
 ghost use Rattle.std.specs.Int.{div_ceil};
 ghost use Rattle.stripe_layout.specs.Layout.{block_span};
 
@@ -28,7 +28,8 @@ pub fn disk_after(first: DiskNo, block: u64, disks: u32) -> DiskNo
 pub fn span_of(file: FileNo, len: u64, size: u64, block: u64) -> Span
     requires sized { 1 ≤ size }
     requires inside { block < div_ceil len size }
-    ensures { result ≡ block_span file len size block }
+    ensures value { result ≡ block_span file len size block }
+    ensures room { result.from + result.len < 2 ^ 64 }
 {
     let from = block * size;
     Span {

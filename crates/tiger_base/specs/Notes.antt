@@ -18,3 +18,4 @@ noted (msg.ReadAsk want) = note.ReadAsk want
 noted (msg.ReadDone want part) = note.ReadDone want (option_map (λ p. p.span) part)
 noted (msg.Whole want sent part) = note.Whole want sent part.span
 noted (msg.Piece want sent part) = note.Piece want sent part.span
+noted (msg.Back from) = note.Back from

@@ -7,6 +7,12 @@ pub record LibraryPart : Type 0 where
   pub library : List (List ℕ)
   pub span : Span
 
+-- the library has the span's file, and the span lies inside it
+pub record HasSpan (library : List (List ℕ)) (span : Span) : Type 0 where
+  pub file : List ℕ
+  pub there : slice_get library span.file.0 ≡ Some file
+  pub inside : span.from + span.len ≤ length file
+
 -- the library has the span's file, the span lies inside it, and these are its bytes
 pub record IsCut (library : List (List ℕ)) (span : Span) (bytes : List ℕ) : Type 0 where
   pub file : List ℕ

@@ -3,7 +3,7 @@ ghost use Rattle.std.specs.Prelude.{◌≡◌, option_map};
 ghost use Rattle.tiger_base.specs.Notes.{noted};
 ghost use Rattle.tiger_base.specs.declared.message.Note.{Note};
 
-use crate::number::{Beat, Instance, SlotNo, Visit};
+use crate::number::{Beat, Instance, Micros, SlotNo, Visit};
 use crate::part::{Part, Span};
 use crate::tenancy::{Ask, PieceState, State, Tag, Tenancy, Want};
 
@@ -54,6 +54,11 @@ pub enum Msg<'a> {
         sent: Beat,
         part: Part<'a>,
     },
+    /// Tells the next cub that this one has returned, and the due time from which on it serves its
+    /// visits again.
+    Back {
+        from: Micros,
+    },
 }
 
 /// What a journal keeps of a message: the same, with a span in place of a part.
@@ -90,6 +95,9 @@ pub enum Note {
         want: Want,
         sent: Beat,
         part: Span,
+    },
+    Back {
+        from: Micros,
     },
 }
 
@@ -144,6 +152,7 @@ impl<'a> Message for Msg<'a> {
                 sent: *sent,
                 part: part.span(),
             },
+            Msg::Back { from } => Note::Back { from: *from },
         }
     }
 }

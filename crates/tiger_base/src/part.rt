@@ -1,6 +1,6 @@
 //! A part of a file: bytes that are proved to be the library's bytes of a span.
 ghost use Rattle.std.specs.Prelude.{◌≡◌, IfSome, IfNone};
-ghost use Rattle.tiger_base.specs.Span.{IsCut};
+ghost use Rattle.tiger_base.specs.Span.{IsCut, HasSpan};
 
 use crate::library::Library;
 use crate::number::FileNo;
@@ -33,12 +33,27 @@ impl<'a> Model for Part<'a> {
 }
 
 impl<'a> Part<'a> {
-    /// The part; `None` exactly if the bytes are not the library's bytes of the span, or the span
-    /// reaches past its file.
-    pub fn of(library: &'a Library, span: Span, bytes: &'a [u8]) -> Option<Part<'a>>
+    /// The part of these bytes; `None` exactly if they are not the library's bytes of the span, or the
+    /// span reaches past its file.
+    pub fn of(library: &'a Library, span: Span, bytes: &[u8]) -> Option<Part<'a>>
         ensures part { IfSome result (λ p. p ≡ record { library = library.now; span = span }) }
         ensures cut { IfSome result (λ _. IsCut library.now span bytes.now) }
         ensures none { IfNone result (¬ IsCut library.now span bytes.now) }
+    {
+        let part = Part::cut(library, span)?;
+        if part.bytes == bytes {
+            Some(part)
+        } else {
+            None
+        }
+    }
+
+    /// The library's own bytes of a span, which are neither compared nor copied; `None` exactly if there
+    /// is no such file, or the span reaches past it.
+    pub fn cut(library: &'a Library, span: Span) -> Option<Part<'a>>
+        ensures part { IfSome result (λ p. p ≡ record { library = library.now; span = span }) }
+        ensures there { IfSome result (λ _. HasSpan library.now span) }
+        ensures none { IfNone result (¬ HasSpan library.now span) }
     {
         let file = library.file(span.file)?;
         let len = file.len() as u64;
@@ -46,16 +61,11 @@ impl<'a> Part<'a> {
             return None;
         }
         let from = span.from as usize;
-        let until = from + span.len as usize;
-        if &file[from..until] == bytes {
-            Some(Part {
-                library,
-                span,
-                bytes,
-            })
-        } else {
-            None
-        }
+        Some(Part {
+            library,
+            span,
+            bytes: &file[from..from + span.len as usize],
+        })
     }
 
     /// The bytes.
