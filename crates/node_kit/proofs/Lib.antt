@@ -5,3 +5,5 @@ pub mod Rows
 pub mod Telling
 pub mod Turns
 pub mod Ways
+pub mod Cutting
+pub mod Whole

@@ -40,6 +40,11 @@ pub struct Course {
     pub offsets: Sequence<Micros>,
     /// The beat in which each cub dies, if it does.
     pub deaths: Sequence<Option<Beat>>,
+    /// How many messages each cub may still send in the beat of its death, if its death cuts it off
+    /// in the middle of that beat.
+    pub cuts: Sequence<Option<u64>>,
+    /// The beat in which each cub returns, if it does.
+    pub backs: Sequence<Option<Beat>>,
     pub faults: Sequence<ReadFault>,
     pub delay: Delay,
 }

@@ -1,7 +1,7 @@
 //! What an event of a node puts out.
-ghost use Rattle.std.specs.Prelude.{◌≡◌, ◌+◌, ◌≤◌, [], ◌∷◌, ◌++◌, OnOk, OnErr, MatchOption};
+ghost use Rattle.std.specs.Prelude.{◌≡◌, ◌+◌, ◌≤◌, [], ◌∷◌, ◌++◌, OnOk, OnErr, MatchOption, take, drop, length};
 ghost use Rattle.std.specs.VecDeque.{deque_len, deque_capacity};
-ghost use Rattle.node_kit.specs.Outputs.{outputs, is_empty, with_death, ends_in_death, is_death};
+ghost use Rattle.node_kit.specs.Outputs.{outputs, is_empty, with_death, ends_in_death, is_death, send_count, cut_at};
 
 use crate::journal::What;
 use std::alloc::Global;
@@ -86,6 +86,118 @@ impl<M> Outbox<M> {
             Some(output) => is_death(output),
             None => false,
         }
+    }
+}
+
+impl<M> Outbox<M> {
+    /// How many of the outputs are messages.
+    pub fn send_count(&self) -> u64
+        ensures { result ≡ send_count self.now }
+    {
+        count_sends(&self.outs)
+    }
+}
+
+impl<M: Drop> Outbox<M> {
+    /// Cuts off all outputs from the message on that stands behind `sends` others, and the insertion
+    /// whose state that message is. It takes no memory.
+    pub fn cut(&mut self, sends: u64)
+        ensures { self.new ≡ cut_at sends self.old }
+    {
+        let count = self.outs.len();
+        let kept = kept_before(&self.outs, sends);
+        self.outs.truncate(kept);
+        self.died = self.died && kept == count;
+    }
+}
+
+fn count_sends<M>(outs: &VecDeque<Out<M>>) -> u64
+    ensures { result ≡ send_count outs.now.items }
+{
+    let mut count = 0;
+    let mut i = 0;
+    while i < outs.len() {
+        if begins_send(outs, i) {
+            count += 1;
+        }
+        i += 1;
+    }
+    count
+}
+
+/// How many outputs stand before the message behind `sends` others and before its insertion; all, if
+/// there is no such message.
+fn kept_before<M>(outs: &VecDeque<Out<M>>, sends: u64) -> usize
+    ensures kept { take result outs.now.items ≡ cut_at sends outs.now.items }
+    ensures inside { result ≤ length outs.now.items }
+{
+    let mut left = sends;
+    let mut i = 0;
+    while i < outs.len() {
+        if left == 0 && begins_lost(outs, i) {
+            return i;
+        }
+        if begins_send(outs, i) {
+            left = left.saturating_sub(1);
+        }
+        i += 1;
+    }
+    i
+}
+
+ghost use Rattle.node_kit.specs.Outputs.{is_send, is_put, is_took_own, begins_send, begins_taking, begins_lost};
+
+/// Whether a message is lost with output `i`: it is one, or it is the Put of an insertion that sends
+/// its state.
+#[tactic(auto, using(crate::proofs::Cutting::drop_first))]
+fn begins_lost<M>(outs: &VecDeque<Out<M>>, i: usize) -> bool
+    ensures { result ≡ begins_lost (drop i outs.now.items) }
+{
+    match outs.get(i) {
+        Some(output) => is_send(output) || (is_put(output) && begins_taking(outs, i + 1)),
+        None => false,
+    }
+}
+
+/// Whether output `i` is an own record that is taken, and the next one a message.
+#[tactic(auto, using(crate::proofs::Cutting::drop_first))]
+fn begins_taking<M>(outs: &VecDeque<Out<M>>, i: usize) -> bool
+    ensures { result ≡ begins_taking (drop i outs.now.items) }
+{
+    match outs.get(i) {
+        Some(output) => is_took_own(output) && begins_send(outs, i + 1),
+        None => false,
+    }
+}
+
+#[tactic(auto, using(crate::proofs::Cutting::drop_first))]
+fn begins_send<M>(outs: &VecDeque<Out<M>>, i: usize) -> bool
+    ensures { result ≡ begins_send (drop i outs.now.items) }
+{
+    match outs.get(i) {
+        Some(output) => is_send(output),
+        None => false,
+    }
+}
+
+fn is_send<M>(output: &Out<M>) -> bool
+    ensures { result ≡ is_send output.now }
+{
+    matches!(output, Out::Send(..))
+}
+
+fn is_put<M>(output: &Out<M>) -> bool
+    ensures { result ≡ is_put output.now }
+{
+    matches!(output, Out::Act(What::Put(..)))
+}
+
+fn is_took_own<M>(output: &Out<M>) -> bool
+    ensures { result ≡ is_took_own output.now }
+{
+    match output {
+        Out::Act(What::Took(rec)) => rec.kind.is_own(),
+        _ => false,
     }
 }
 
