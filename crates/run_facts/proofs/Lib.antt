@@ -3,6 +3,8 @@ pub mod Along
 pub mod Beats
 pub mod Carrying
 pub mod Counts
+pub mod Fronts
+pub mod Getting
 pub mod InLinks
 pub mod Indexed
 pub mod Journals
@@ -15,7 +17,9 @@ pub mod Lives
 pub mod Noting
 pub mod Orders
 pub mod Pacing
+pub mod Plain
 pub mod Progress
 pub mod Recording
 pub mod Rows
 pub mod Timelines
+pub mod TwoNodes

@@ -1,13 +1,15 @@
 -- The events of a history in lists: what they are as a list, and that each keeps its number.
-use Rattle.std.proofs.Common.{◌≡◌, ℕ, zero, suc, ◌+◌, ◌<◌, ◌≤◌, List, [], ◌∷◌, ◌++◌, true, false, refl, ap, sym, ◌∙◌, subst, arith, ⊎_elim, append_assoc, append-nil}
+use Rattle.std.proofs.Common.{◌≡◌, ℕ, zero, suc, ◌+◌, ◌<◌, ◌≤◌, List, [], ◌∷◌, ◌++◌, true, false, refl, ap, sym, ◌∙◌}
+use Rattle.std.proofs.Common.{subst, arith, ⊎_elim, append_assoc, append-nil}
 use Rattle.std.specs.Prelude.{Some, slice_get, length}
 use Rattle.std.specs.List.{AllByRecursion}
 use Rattle.std.proofs.lemmas.Bool.{cases_Bool, cases_eq}
 use Rattle.tiger_base.specs.declared.message.Note.{Note}
 use Rattle.node_kit.specs.Steps.{Input, Deed}
-use Rattle.run_facts.specs.Events.{NodeEvent, opening, after_all, is_tick, is_death, sends_of, sends_along, take_on, takes_along}
-use Rattle.run_facts.specs.Histories.{History, past, last_of, beat, outs, ticks, sent, taken}
-use Rattle.run_facts.specs.Accounts.{tick_count, AreCounted, IsInTurn, AreInTurn, AreAlive, DeathIsLast}
+use Rattle.run_facts.specs.Events.{NodeEvent, opening, after_all, is_tick, is_death, sends_of, sends_along, take_on}
+use Rattle.run_facts.specs.Events.{takes_along}
+use Rattle.run_facts.specs.Histories.{History, past, last_of, beat, open_beat, outs, ticks, sent, taken}
+use Rattle.run_facts.specs.Accounts.{tick_count, IsOpen, AreCounted, IsInTurn, AreInTurn, AreAlive, DeathIsLast}
 
 -- k events of node n, from number i on, and all of them
 abbrev pub listed : {M S : Type 0} → History M S → ℕ → ℕ → ℕ → List (NodeEvent M)
@@ -77,8 +79,8 @@ listed-ticks h n i (suc k) m e =
 
 -- their beats, their turn, and their end
 pub listed-counted : {M S : Type 0} (h : History M S) (n i k m : ℕ) → i + k ≡ m
-    → ((j : ℕ) → j < m → beat h n j ≡ ticks h n j)
-    → AreCounted (ticks h n i) (listed h n i k)
+    → ((j : ℕ) → j < m → IsOpen (open_beat h n j) (h.event n j))
+    → AreCounted (open_beat h n i) (listed h n i k)
 listed-counted h n i zero m e f = tt
 listed-counted h n i (suc k) m e f =
     (f i (omega (arith, e)), listed-counted h n (suc i) k m (next-sum i k m e) f)
@@ -88,7 +90,8 @@ pub listed-turn : {M S : Type 0} (h : History M S) (n i k m : ℕ) → i + k ≡
 listed-turn h n i zero m e f = tt
 listed-turn h n i (suc k) m e f =
     let more = next-sum i k m e in
-    let here = listed-all h (IsInTurn (h.event n i)) n (suc i) k m more (λ j low high. f i j (omega (arith, low)) high) in
+    let here = listed-all h (IsInTurn (h.event n i)) n (suc i) k m more
+    (λ j low high. f i j (omega (arith, low)) high) in
     (here, listed-turn h n (suc i) k m more f)
 
 pub listed-ended : {M S : Type 0} (h : History M S) (n i k m : ℕ) → i + k ≡ m

@@ -10,15 +10,15 @@ use Rattle.link_timing.proofs.Arrivals.{GoesOn-from_IsClock, IsClock-after_send,
 use Rattle.node_kit.specs.declared.journal.What.{What}
 use Rattle.node_kit.specs.declared.journal.What.TheVariants as what
 use Rattle.node_kit.specs.declared.journal.Entry.{Entry}
-use Rattle.node_kit.specs.Life.{lifetime_of}
+use Rattle.node_kit.specs.Life.{death_of, cut_of, back_of}
 use Rattle.run_facts.specs.Events.{Dated}
 use Rattle.run_facts.specs.Carried.{sent_by, sent_on, got_on}
-use Rattle.run_facts.specs.Paced.{Passage, passages}
+use Rattle.run_facts.specs.Paced.{Passage, passages, DiedInTurn}
 use Rattle.run_facts.specs.Timed.{IsNotBelow, AreRising}
 use Rattle.run_facts.specs.Laws.{PacedIsCarried}
 use Rattle.run_facts.specs.Accounts.{Rising, IsTimely, AreInOrder}
 use Rattle.run_facts.proofs.Rows.{all-weaker}
-use Rattle.run_facts.proofs.Carrying.{paced-carries}
+use Rattle.run_facts.proofs.Fronts.{paced-carries}
 
 -- what they are on their way
 pub record RunsOn {X : Type 0} (most : ℕ) (clock : Clock) (sent : List (Dated X)) : Type 0 where
@@ -26,7 +26,8 @@ pub record RunsOn {X : Type 0} (most : ℕ) (clock : Clock) (sent : List (Dated 
   pub above : AllByRecursion (λ (f : Passage X). clock.last_arrival ≤ f.arrival) (passages clock sent)
   pub rising : Rising (λ (f : Passage X). f.arrival) (passages clock sent)
 
-pub runs-on : {X : Type 0} (clock : Clock) (sent : List (Dated X)) → IsClock clock → AreInOrder clock.last_send sent → RunsOn clock.most clock sent
+pub runs-on : {X : Type 0} (clock : Clock) (sent : List (Dated X)) → IsClock clock → AreInOrder clock.last_send sent
+    → RunsOn clock.most clock sent
 runs-on clock [] k h = record { timely = tt; above = tt; rising = tt }
 runs-on {X} clock (s ∷ ss) k h =
     let goes = GoesOn-from_IsClock clock s.beat k h.0 in
@@ -34,7 +35,12 @@ runs-on {X} clock (s ∷ ss) k h =
     let in_order = goes.in_order in
     record {
       timely = ((goes.later, goes.soon), rest.timely);
-      above = (in_order, all-weaker (λ (f : Passage X). arrival_at clock s.beat ≤ f.arrival) (λ f. clock.last_arrival ≤ f.arrival) (passages (after_send clock s.beat) ss) (λ f l. omega (arith, l, in_order)) rest.above);
+      above = (
+        in_order,
+        all-weaker (λ (f : Passage X). arrival_at clock s.beat ≤ f.arrival)
+            (λ f. clock.last_arrival ≤ f.arrival) (passages (after_send clock s.beat) ss)
+            (λ f l. omega (arith, l, in_order)) rest.above,
+      );
       rising = (rest.above, rest.rising);
     }
 
@@ -42,7 +48,8 @@ runs-on {X} clock (s ∷ ss) k h =
 abbrev sent_one : ℕ → Entry → List (Dated Note)
 sent_one l e = sent_by l e.stamp.beat e.what
 
-order-one : (l low : ℕ) (e : Entry) (rest : List (Dated Note)) → low ≤ e.stamp.beat → e.stamp.beat ≤ most_beats → AreInOrder e.stamp.beat rest → AreInOrder low rest → AreInOrder low (sent_one l e ++ rest)
+order-one : (l low : ℕ) (e : Entry) (rest : List (Dated Note)) → low ≤ e.stamp.beat → e.stamp.beat ≤ most_beats
+    → AreInOrder e.stamp.beat rest → AreInOrder low rest → AreInOrder low (sent_one l e ++ rest)
 order-one l low e rest above early here there = by_what e.what
   where
     by_what : (w : What) → AreInOrder low (sent_by l e.stamp.beat w ++ rest)
@@ -60,15 +67,19 @@ order-one l low e rest above early here there = by_what e.what
     by_what (what.ReadFailed w) = there
     by_what (what.Believed c) = there
     by_what what.Died = there
+    by_what what.Returned = there
 
-order-sent : (l low beats : ℕ) (journal : List Entry) → beats ≤ most_beats → AllByRecursion (λ (e : Entry). low ≤ e.stamp.beat) journal → AreRising journal
+order-sent : (l low beats : ℕ) (journal : List Entry) → beats ≤ most_beats
+    → AllByRecursion (λ (e : Entry). low ≤ e.stamp.beat) journal → AreRising journal
     → AllByRecursion (λ (e : Entry). e.stamp.beat < beats) journal → AreInOrder low (sent_on l journal)
 unfolding sent_on
 order-sent l low beats [] few above rising early = tt
 order-sent l low beats (e ∷ es) few above rising early =
     let here = early.0 in
     order-one l low e (sent_on l es) above.0 (omega (arith, here, few))
-    (order-sent l e.stamp.beat beats es few (all-weaker (IsNotBelow e) (λ (f : Entry). e.stamp.beat ≤ f.stamp.beat) es (λ f h. h.beat) rising.0) rising.1 early.1)
+    (order-sent l e.stamp.beat beats es few
+    (all-weaker (IsNotBelow e) (λ (f : Entry). e.stamp.beat ≤ f.stamp.beat) es (λ f h. h.beat) rising.0) rising.1
+    early.1)
     (order-sent l low beats es few above.1 rising.1 early.1)
 
 all-low : (journal : List Entry) → AllByRecursion (λ (e : Entry). 0 ≤ e.stamp.beat) journal
@@ -80,6 +91,10 @@ paced_is_carried c journals course paced timed l from to sender receiver ends hs
     let delay = c.plan.sound.ranges.delay in
     let start = new_clock l c.delay c.plan.params.delay in
     let theirs = timed from sender hs in
-    let on = runs-on start (sent_on l sender) (IsClock-new_clock l c.delay c.plan.params.delay delay.0 delay.1 course.delay)
+    let on = runs-on start (sent_on l sender)
+    (IsClock-new_clock l c.delay c.plan.params.delay delay.0 delay.1 course.delay)
     (order-sent l 0 c.beats sender course.beats (all-low sender) theirs.rising theirs.early) in
-    paced-carries (lifetime_of c to) c.plan.params.delay c.beats start (sent_on l sender) (got_on l receiver) on.timely on.rising (paced.on_links l from to sender receiver ends hs hr)
+    paced-carries (death_of c to) (cut_of c to) (back_of c to) (course.returns_later to) c.plan.params.delay c.beats
+    start
+    (DiedInTurn (death_of c to) l receiver) (sent_on l sender) (got_on l receiver) on.timely on.rising
+    (paced.on_links l from to sender receiver ends hs hr)

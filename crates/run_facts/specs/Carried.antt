@@ -1,5 +1,6 @@
 -- What is sent is got: on each link the notes got are a front of the notes sent, each in time.
 use Rattle.std.specs.Prelude.{◌≡◌, ℕ, ◌+◌, ◌≤◌, ◌==◌, List, [], ◌∷◌, Option, Some, None, slice_get, ◌⊎◌, if◌then◌else◌}
+use Rattle.std.specs.Prelude.{◌<◌, nat_lt, nat_le, filter}
 use Rattle.std.specs.List.{AllByRecursion, flat_map}
 use Rattle.tiger_base.specs.declared.message.Note.{Note}
 use Rattle.slot_plan.specs.declared.params.Params.{Params}
@@ -31,17 +32,41 @@ abbrev pub DiedBy : Option ℕ → ℕ → Type 0
 DiedBy None beat = ⊥
 DiedBy (Some death) beat = death ≤ beat
 
--- a note sent in a beat may be lost: the run's beats end by the last beat in which it may arrive, or its receiver died by then
+-- a node with this return had not returned in a beat or before
+abbrev pub NotBackBy : Option ℕ → ℕ → Type 0
+NotBackBy None beat = Unit {0}
+NotBackBy (Some back) beat = beat < back
+
+-- a note sent in a beat may be lost: the run's beats end by the last beat in which it may arrive, or its receiver
+-- died by then and had not returned by the beat in which it was sent
 abbrev pub MayBeLost : ℕ → ℕ → Lifetime → ℕ → Type 0
-MayBeLost most beats life sent = (beats ≤ sent + most) ⊎ DiedBy life.death (sent + most)
+MayBeLost most beats life sent = (beats ≤ sent + most) ⊎ (DiedBy life.death (sent + most) × NotBackBy life.back sent)
 
 -- the notes got are a front of those sent, each from one beat to the greatest delay later, and the rest may be lost
+abbrev pub AreFrontOn : ℕ → ℕ → Lifetime → List (Dated Note) → List (Dated Note) → Type 0
+AreFrontOn most beats life [] [] = Unit {0}
+AreFrontOn most beats life [] (g ∷ gs) = ⊥
+AreFrontOn most beats life (s ∷ ss) [] = MayBeLost most beats life s.beat × AreFrontOn most beats life ss []
+AreFrontOn most beats life (s ∷ ss) (g ∷ gs) =
+    (g.item ≡ s.item) × (s.beat + 1 ≤ g.beat) × (g.beat ≤ s.beat + most) × AreFrontOn most beats life ss gs
+
+-- those of the beats below one, and those of the others
+abbrev pub until : {X : Type 0} → ℕ → List (Dated X) → List (Dated X)
+until back ds = filter (λ d. nat_lt d.beat back) ds
+
+abbrev pub since : {X : Type 0} → ℕ → List (Dated X) → List (Dated X)
+since back ds = filter (λ d. nat_le back d.beat) ds
+
+-- so it is of all, or, if the receiver returns, of those of the beats below its return and apart from that of the
+-- others
+abbrev pub AreCarriedBy : ℕ → ℕ → Lifetime → Option ℕ → List (Dated Note) → List (Dated Note) → Type 0
+AreCarriedBy most beats life None sent got = AreFrontOn most beats life sent got
+AreCarriedBy most beats life (Some back) sent got =
+    AreFrontOn most beats life (until back sent) (until back got) × AreFrontOn most beats life (since back sent)
+    (since back got)
+
 abbrev pub AreCarriedOn : ℕ → ℕ → Lifetime → List (Dated Note) → List (Dated Note) → Type 0
-AreCarriedOn most beats life [] [] = Unit {0}
-AreCarriedOn most beats life [] (g ∷ gs) = ⊥
-AreCarriedOn most beats life (s ∷ ss) [] = MayBeLost most beats life s.beat × AreCarriedOn most beats life ss []
-AreCarriedOn most beats life (s ∷ ss) (g ∷ gs) =
-    (g.item ≡ s.item) × (s.beat + 1 ≤ g.beat) × (g.beat ≤ s.beat + most) × AreCarriedOn most beats life ss gs
+AreCarriedOn most beats life sent got = AreCarriedBy most beats life life.back sent got
 
 -- a Got stands at its link's receiver, and a Sent at its sender
 abbrev pub IsAtItsEnd : Params → ℕ → What → Type 0

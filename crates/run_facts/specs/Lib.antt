@@ -8,6 +8,8 @@ pub mod Kept
 pub mod Laws
 pub mod Order
 pub mod Paced
+pub mod Plain
+pub mod Returning
 pub mod Rings
 pub mod Samples
 pub mod Timed

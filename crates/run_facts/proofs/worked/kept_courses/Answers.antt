@@ -1,4 +1,4 @@
-use Rattle.std.proofs.Common.{◌≡◌, ◌+◌, refl, arith}
+use Rattle.std.proofs.Common.{◌≡◌, ◌+◌, refl, arith, inl, ⊎_elim}
 use Rattle.node_kit.specs.Courses.{reading_of}
 use Rattle.run_facts.proofs.worked.kept_courses.Goals as goal
 
@@ -9,9 +9,9 @@ returns-clause-fast g c note step h =
 
 pub returns-clause-out_of_turn : goal.returns-clause-out_of_turn
 returns-clause-out_of_turn g c note step h =
-    let turn = h.in_turn 0 0 1 _ _ _ _ _ _ (omega arith) (omega arith) (omega arith) refl refl refl in
+    let turn = h.in_turn 0 0 1 _ _ _ _ _ _ (omega arith) (omega arith) (omega arith) (inl refl) (inl refl) refl in
     omega (arith, turn)
 
 pub returns-clause-unsent : goal.returns-clause-unsent
 returns-clause-unsent g c ends note step h =
-    let none = h.on_links 0 0 1 (omega arith) (omega arith) ends in absurd (cc)
+    ⊎_elim (λ none. absurd (cc)) (λ some. absurd some.0.2) (h.on_links 0 0 1 (omega arith) (omega arith) ends)
