@@ -1,18 +1,19 @@
 -- An in-link in a beat: messages are received, and what arrives is taken out.
-use Rattle.std.proofs.Common.{◌≡◌, ℕ, ◌+◌, ◌<◌, ◌≤◌, List, [], ◌∷◌, ◌++◌, map, filter, ap, sym, ◌∙◌, subst, arith, append_assoc}
+use Rattle.std.proofs.Common.{◌≡◌, ℕ, zero, suc, ◌+◌, ◌<◌, ◌≤◌, List, [], ◌∷◌, ◌++◌, map, filter, length, false, refl, ap, sym, ◌∙◌, subst, arith, append_assoc}
 use Rattle.std.proofs.lemmas.List.{map-append}
 use Rattle.std.proofs.lemmas.List.Elements.{filter-append}
 use Rattle.std.specs.List.{AllByRecursion}
-use Rattle.node_kit.specs.Life.{Lifetime}
+use Rattle.node_kit.specs.Life.{Lifetime, ends_in}
 use Rattle.run_facts.specs.declared.mail.Flight.{Flight}
-use Rattle.run_facts.specs.Accounts.{Rising, is_caught, arriving, waiting}
+use Rattle.run_facts.specs.Accounts.{Rising, is_caught, arriving, waiting, event_at, HasCutIn}
 use Rattle.run_facts.specs.Beats.{pass}
-use Rattle.run_facts.specs.Events.{NodeEvent, takes_along}
-use Rattle.run_facts.specs.Paced.{Passage, brought}
+use Rattle.run_facts.specs.Events.{NodeEvent, takes_along, IsCutUpTo}
+use Rattle.run_facts.specs.Paced.{Passage, AreGot, brought}
 use Rattle.run_facts.proofs.Along.{takes-append}
 use Rattle.run_facts.proofs.Beats.{under_way-waiting}
-use Rattle.run_facts.proofs.Links.{arriving-waiting, arriving-low, waiting-high}
-use Rattle.run_facts.proofs.Rows.{all-append, all-weaker, rising-right}
+use Rattle.run_facts.proofs.Getting.{got-weaker}
+use Rattle.run_facts.proofs.Links.{arriving-waiting, arriving-low, arriving-now, waiting-high, got-more}
+use Rattle.run_facts.proofs.Rows.{all-append, all-filter, all-weaker, rising-right}
 use Rattle.ring_links.specs.Ends.{LineId}
 use Rattle.ring_links.specs.Flights.{AllFollow, IsOrdered, AllFrom}
 use Rattle.ring_cells.specs.Flows.{Inflow, HasReceived, IsClosedTo, emptied}
@@ -57,15 +58,17 @@ module _ {M : Type 0} (line_of : ℕ → LineId) (life : Lifetime) where
         ordered = ordered;
         gone = h.gone;
         split = ap (map pass) r.all ∙ map-append pass i.flights more ∙ ap (λ l. l ++ map pass more) h.split ∙ append_assoc h.gone (map pass i.waiting) (map pass more) ∙ ap (λ l. h.gone ++ l) (sym waits);
-        got_is = ap (λ (l : _). takes_along l.0 events) r.same_link ∙ h.got_is;
+        got_is = subst (λ (l : _). AreGot life (HasCutIn l.0 events) (filter (is_caught life) h.gone) (takes_along l.0 events))
+            (sym r.same_link) h.got_is;
         behind = h.behind;
         ahead = subst (AllByRecursion (λ (f : Passage M). next ≤ f.arrival)) (sym waits)
             (all-append (λ (f : Passage M). next ≤ f.arrival) (map pass i.waiting) (map pass more) h.ahead (behind-late i.closed next i.flights more far r.of_open whole));
         far = omega (arith, far, rises);
       }
 
-  pub inflow-passes : (next : ℕ) (events es : List (NodeEvent M)) (i : Inflow M) → IsInflow line_of life next events i → IsClosedTo next i
-      → takes_along i.link.0 es ≡ map brought (filter (is_caught life) (arriving next (map pass i.waiting))) → IsInflow line_of life (next + 1) (events ++ es) (emptied next i)
+  pub inflow-passes : (next : ℕ) (events es : List (NodeEvent M)) (i : Inflow M) → (h : IsInflow line_of life next events i) → IsClosedTo next i
+      → AreGot life (HasCutIn i.link.0 (events ++ es)) (filter (is_caught life) (h.gone ++ arriving next (map pass i.waiting))) (takes_along i.link.0 (events ++ es))
+      → IsInflow line_of life (next + 1) (events ++ es) (emptied next i)
   inflow-passes next events es i h closed got =
       let fs : List (Passage M) = map pass i.waiting in
       let parts = arriving-waiting next fs in
@@ -74,9 +77,7 @@ module _ {M : Type 0} (line_of : ℕ → LineId) (life : Lifetime) where
         ordered = h.ordered;
         gone = h.gone ++ arriving next fs;
         split = h.split ∙ ap (λ ps. h.gone ++ ps) parts ∙ sym (append_assoc h.gone (arriving next fs) (waiting next fs)) ∙ ap (λ ps. (h.gone ++ arriving next fs) ++ ps) (sym (under_way-waiting next i.waiting));
-        got_is = takes-append i.link.0 events es ∙ ap (λ ds. ds ++ takes_along i.link.0 es) h.got_is ∙ ap (λ ds. map brought (filter (is_caught life) h.gone) ++ ds) got
-            ∙ sym (map-append brought (filter (is_caught life) h.gone) (filter (is_caught life) (arriving next fs)))
-            ∙ ap (map brought) (sym (filter-append (is_caught life) h.gone (arriving next fs)));
+        got_is = got;
         behind = all-append (λ (f : Passage M). f.arrival < next + 1) h.gone (arriving next fs)
             (all-weaker (λ (f : Passage M). f.arrival < next) (λ (f : Passage M). f.arrival < next + 1) h.gone (λ f l. omega (arith, l)) h.behind) (arriving-low next fs);
         ahead = subst (AllByRecursion (λ (f : Passage M). next + 1 ≤ f.arrival)) (sym (under_way-waiting next i.waiting))

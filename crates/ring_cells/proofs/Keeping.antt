@@ -1,25 +1,30 @@
 -- Waiting for messages, and a whole beat, keep what a cell keeps.
-use Rattle.std.proofs.Common.{◌≡◌, ℕ, ◌+◌, ◌≤◌, List, [], ◌∷◌, ◌++◌, map, filter, refl, ap, sym, ◌∙◌, subst, arith}
+use Rattle.std.proofs.Common.{◌≡◌, ℕ, ◌+◌, ◌≤◌, List, [], ◌∷◌, ◌++◌, map, filter, false, refl, ap, sym, ◌∙◌, subst, arith}
 use Rattle.std.specs.List.{AllByRecursion}
 use Rattle.tiger_base.specs.Limits.{most_beats}
 use Rattle.tiger_base.specs.declared.number.LinkNo.{LinkNo}
+use Rattle.tiger_base.specs.declared.number.Stamp.{Stamp}
 use Rattle.tiger_base.specs.declared.message.Note.{Note}
 use Rattle.slot_plan.specs.declared.params.Params.{Params}
 use Rattle.node_kit.specs.declared.course.Course.{Course}
-use Rattle.node_kit.specs.Courses.{stamp_in}
-use Rattle.node_kit.specs.Life.{Lifetime, lifetime_of}
+use Rattle.node_kit.specs.Courses.{IsCourse, stamp_in}
+use Rattle.node_kit.specs.Life.{Lifetime, lifetime_of, death_of, cut_of, back_of}
 use Rattle.node_kit.specs.Links.{links_of, link_count, IsInLink}
 use Rattle.node_kit.specs.Steps.{Input, Deed}
 use Rattle.node_kit.proofs.Rows.{links_into-lead}
 use Rattle.run_facts.specs.declared.mail.Letter.{Letter}
-use Rattle.run_facts.specs.Accounts.{Rising, is_caught}
-use Rattle.run_facts.specs.Beats.{bring, on_link, opening_of}
-use Rattle.run_facts.specs.Events.{NodeEvent, Past, Dated, after_all, AreFair, sends_along}
-use Rattle.run_facts.specs.Paced.{brought}
-use Rattle.run_facts.proofs.Along.{life-after, after_all-append, fair-append, sends-in_beat}
-use Rattle.run_facts.proofs.Beats.{arrived-brings, arrived-link, events-takes, events-in_turn, events-dated, beat-takes, beat-timeline}
+use Rattle.run_facts.specs.Accounts.{Rising, arriving, AreWhole, IsTimeline}
+use Rattle.run_facts.specs.Beats.{bring, on_link, opening_of, pass}
+use Rattle.run_facts.specs.Events.{NodeEvent, Past, Dated, after_all, AreFair, sends_along, stamp_at}
+use Rattle.run_facts.proofs.Along.{after_all-append, fair-append, sends-in_beat}
+use Rattle.run_facts.proofs.Beats.{arrived-brings, arrived-link}
+use Rattle.run_facts.proofs.Links.{arriving-now}
 use Rattle.run_facts.proofs.Journals.{rising-append}
 use Rattle.run_facts.proofs.Rows.{all-weaker, all-both, all-map}
+use Rattle.run_lives.proofs.Beating.{beat-lives}
+use Rattle.run_lives.proofs.Bringing.{got-lives}
+use Rattle.run_lives.proofs.Standing.{StandsAs, stands as stands-as}
+use Rattle.run_lives.proofs.Wholes.{whole-append, beat-is_whole, beat-stamped}
 use Rattle.ring_links.specs.Ends.{LineId}
 use Rattle.ring_cells.specs.Lists.{Pairwise}
 use Rattle.ring_cells.specs.Flows.{Inflow, Outflow, HasReceived, IsClosedTo, emptied, letters_from, letters_of, done, AreOpen, IsOpen, links_of_ins, links_of_outs}
@@ -76,6 +81,7 @@ module _ {M S : Type 0} (note : M → Note) (step : S → Input M → Deed M S) 
     events = h.events;
     here = h.here;
     fair = h.fair;
+    whole = h.whole;
     timeline = h.timeline;
     in_row = pairs-links ins ins' r ∙ h.in_row;
     out_row = h.out_row;
@@ -92,20 +98,22 @@ module _ {M S : Type 0} (note : M → Note) (step : S → Input M → Deed M S) 
   }
 
   -- the in-links after a beat
-  ins-pass : (past : Past S) (events : List (NodeEvent M)) (ins : List (Inflow M)) → past.life ≡ lifetime_of c n → Apart (links_of_ins ins) → AllByRecursion (IsClosedTo next) ins
+  ins-pass : (past : Past S) (events : List (NodeEvent M)) (ins : List (Inflow M)) → IsCourse c
+      → StandsAs (lifetime_of c n) past.life next → IsTimeline (stamp_in c n) c.plan.params n (lifetime_of c n) next events
+      → Apart (links_of_ins ins) → AllByRecursion (IsClosedTo next) ins
       → AllByRecursion (IsInflow line_of (lifetime_of c n) next events) ins
       → AllByRecursion (IsInflow line_of (lifetime_of c n) (next + 1) (events ++ events_of note step (stamp_in c n next) ins past)) (map (emptied next) ins)
-  ins-pass past events ins still apart closed each =
+  ins-pass past events ins course stood timeline apart closed each =
       let life = lifetime_of c n in
-      let stamp = stamp_in c n next in
       let letters = letters_of next ins in
-      let es = events_of note step stamp ins past in
+      let es = events_of note step (stamp_in c n next) ins past in
+      let rises = letters-rise next ins (apart-rises (links_of_ins ins) apart) in
       all-map (IsInflow line_of life (next + 1) (events ++ es)) (emptied next) ins
       (all-weaker (λ (i : Inflow M). IsInflow line_of life next events i × (IsClosedTo next i × (filter (on_link i.link.0) letters ≡ letters_from next i))) (λ (i : Inflow M). IsInflow line_of life (next + 1) (events ++ es) (emptied next i)) ins
       (λ i q. inflow-passes line_of life next events es i q.0 q.1.0
-      (beat-takes note step stamp i.link.0 life letters past still
-      ∙ ap (λ ls. map brought (filter (is_caught life) (map (bring next) ls))) q.1.1
-      ∙ ap (λ ls. map brought (filter (is_caught life) ls)) (arrived-brings i.link next i.waiting q.0.ahead)))
+      (got-lives note step (stamp_in c n) c.plan.params n (death_of c n) (cut_of c n) (back_of c n) (course.returns_later n) (λ k. refl) next letters past rises stood
+      i.link.0 q.0.gone (arriving next (map pass i.waiting)) events timeline (arriving-now next (map pass i.waiting) q.0.ahead)
+      (ap (map (bring next)) q.1.1 ∙ arrived-brings i.link next i.waiting q.0.ahead) q.0.got_is))
       (all-both (IsInflow line_of life next events) (λ (i : Inflow M). IsClosedTo next i × (filter (on_link i.link.0) letters ≡ letters_from next i)) ins each
       (all-both (IsClosedTo next) (λ (i : Inflow M). filter (on_link i.link.0) letters ≡ letters_from next i) ins closed (letters-apart next ins apart))))
 
@@ -131,15 +139,16 @@ module _ {M S : Type 0} (note : M → Note) (step : S → Input M → Deed M S) 
       let es = events_of note step stamp ins old.past in
       let events = h.events ++ es in
       let opening = opening_of c n h.first in
-      let still : old.past.life ≡ life = ap (λ (q : Past S). q.life) h.here ∙ life-after note step h.events opening in
+      let stood : StandsAs life old.past.life next = subst (λ (q : Past S). StandsAs life q.life next) (sym h.here)
+      (stands-as note step (stamp_in c n) h.first life next h.events ps n h.timeline) in
       let set = is_set old.past ins old.outs h in
       let kept = p.keeps ps n set.set in
       let in_apart : Apart (links_of_ins ins) = subst Apart (sym h.in_row) (into-apart (links_of ps) n (link_count (links_of ps))) in
       let out_apart : Apart (links_of_outs old.outs) = subst Apart (sym h.out_row) (from-apart (links_of ps) n (link_count (links_of ps))) in
       let lead : AllByRecursion (λ (x : Letter M). IsInLink ps n x.link.0) letters = letters-lead (λ (l : LinkNo). IsInLink ps n l.0) next ins set.lead in
-      let takes = events-takes note step stamp ps n letters old.past lead in
-      let turn = events-in_turn note step stamp letters old.past (letters-rise next ins (apart-rises (links_of_ins ins) in_apart)) in
-      let dated = events-dated note step stamp ps n letters old.past takes in
+      let rises = letters-rise next ins (apart-rises (links_of_ins ins) in_apart) in
+      let dated = all-weaker (λ (e : NodeEvent M). stamp_at e ≡ stamp) (λ e. (stamp_at e).beat ≡ next) es (λ e q. ap (λ (t : Stamp). t.beat) q)
+      (beat-stamped note step stamp letters old.past) in
       let row = λ (o : Outflow M). sends_along note step o.link.0 es old.past in
       let outs : new.outs ≡ map (done next) (map (λ (o : Outflow M). sent_all (row o) o) old.outs) = p.outs_are ∙ ap (map (done next)) (happen-row note step es old out_apart) in
       record {
@@ -150,10 +159,11 @@ module _ {M S : Type 0} (note : M → Note) (step : S → Input M → Deed M S) 
         events = events;
         here = p.past_is ∙ ap (after_all note step es) h.here ∙ sym (after_all-append note step h.events es opening);
         fair = fair-append note step ps n h.events es opening h.fair (subst (λ (q : Past S). AreFair note step ps n es q) h.here kept.1);
-        timeline = beat-timeline note step c n next letters old.past h.events still takes turn h.timeline;
+        whole = whole-append note step h.events es opening h.whole (subst (AreWhole note step es) h.here (beat-is_whole note step stamp letters old.past));
+        timeline = beat-lives note step (stamp_in c n) ps n (death_of c n) (cut_of c n) (back_of c n) (h.course.returns_later n) (λ k. refl) next letters old.past lead rises stood h.events h.timeline;
         in_row = ap links_of_ins p.rest ∙ links-emptied next ins ∙ h.in_row;
         out_row = ap links_of_outs outs ∙ links-passed next row old.outs ∙ h.out_row;
-        each_in = subst (AllByRecursion (IsInflow line_of life (next + 1) events)) (sym p.rest) (ins-pass old.past h.events ins still in_apart closed h.each_in);
+        each_in = subst (AllByRecursion (IsInflow line_of life (next + 1) events)) (sym p.rest) (ins-pass old.past h.events ins h.course stood h.timeline in_apart closed h.each_in);
         each_out = subst (AllByRecursion (IsOutflow line_of note step c n h.first (next + 1) events)) (sym outs)
             (outs-pass h.first old.past h.events es old.outs h.here early (λ l. sends-in_beat note step l next es old.past dated) h.each_out);
       }

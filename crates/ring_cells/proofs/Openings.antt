@@ -1,5 +1,5 @@
 -- A cell before its first beat.
-use Rattle.std.proofs.Common.{◌≡◌, ℕ, ◌≤◌, List, [], map, Some, refl, ap, sym, ◌∙◌, subst, arith}
+use Rattle.std.proofs.Common.{◌≡◌, ℕ, ◌≤◌, List, [], map, Some, refl, ap, sym, ◌∙◌, subst, arith, inl}
 use Rattle.std.specs.Prelude.{slice_get}
 use Rattle.std.specs.List.{AllByRecursion}
 use Rattle.tiger_base.specs.declared.message.Note.{Note}
@@ -30,7 +30,7 @@ inflow-opens {M} line_of life i h = record {
   ordered = subst IsOrdered (sym h.flights) tt;
   gone = [];
   split = ap (map pass) h.flights ∙ sym (ap (map pass) h.waiting);
-  got_is = refl;
+  got_is = inl refl;
   behind = tt;
   ahead = subst (λ ws. AllByRecursion (λ (f : Passage M). 0 ≤ f.arrival) (map pass ws)) (sym h.waiting) tt;
   far = omega arith;
@@ -42,13 +42,13 @@ outflow-opens {M} line_of note step c n first o course h =
     let delay = c.plan.sound.ranges.delay in
     let start = new_clock o.link.0 c.delay p.delay in
     let last = ap (λ (k : Clock). k.last_send) h.clock in
-    let opens : OnLink {X = M} (lifetime_of c n) p.delay start [] [] start [] 0 = link-opens (lifetime_of c n) start (IsClock-new_clock o.link.0 c.delay p.delay delay.0 delay.1 course.delay) in
+    let opens : OnLink {X = M} (lifetime_of c n) ⊥ p.delay start [] [] start [] 0 = link-opens (lifetime_of c n) ⊥ start (IsClock-new_clock o.link.0 c.delay p.delay delay.0 delay.1 course.delay) in
     record {
       its_line = h.its_line;
       its_closed = h.closed;
       calm = omega (arith, last);
-      account = subst (λ fs. OnLink {X = M} (lifetime_of c n) p.delay start [] [] o.clock (map pass fs) 0) (sym h.flights)
-          (subst (λ k. OnLink {X = M} (lifetime_of c n) p.delay start [] [] k [] 0) (sym h.clock) opens);
+      account = subst (λ fs. OnLink {X = M} (lifetime_of c n) ⊥ p.delay start [] [] o.clock (map pass fs) 0) (sym h.flights)
+          (subst (λ k. OnLink {X = M} (lifetime_of c n) ⊥ p.delay start [] [] k [] 0) (sym h.clock) opens);
     }
 
 pub keeps_open : {M S : Type 0} (note : M → Note) (step : S → Input M → Deed M S) (stands : S → Params → ℕ → Type 0) (c : Course) (opened : List S) (line_of : ℕ → LineId) (n : ℕ) (first : S) (life : Lifetime) (journal : List Entry)
@@ -62,6 +62,7 @@ keeps_open {M} {S} note step stands c opened line_of n first life journal ins ou
   events = [];
   here = (let e : ◌≡◌ {A = Past S} (record { state = first; life = life; journal = journal }) (opening_of c n first) = rw (lived, wrote) refl in e);
   fair = tt;
+  whole = tt;
   timeline = timeline-opens (stamp_in c n) c.plan.params n (lifetime_of c n);
   in_row = fresh_ins.row;
   out_row = fresh_outs.row;

@@ -135,19 +135,19 @@ module _ {M : Type 0} where
 
   -- the account of a link along what is sent
   sends-kept : (life : Lifetime) (most : ℕ) (start : Clock) (sent : List (Dated M)) (o : Outflow M) (beat : ℕ) (ds : List (Dated M)) → AllByRecursion (λ (d : Dated M). d.beat ≡ beat) ds
-      → o.clock.last_send ≤ beat → beat ≤ most_beats → OnLink life most start sent [] o.clock (map pass o.flights) 0
-      → OnLink life most start (sent ++ ds) [] (sent_all ds o).clock (map pass (sent_all ds o).flights) 0 × ((sent_all ds o).clock.last_send ≤ beat)
+      → o.clock.last_send ≤ beat → beat ≤ most_beats → OnLink life ⊥ most start sent [] o.clock (map pass o.flights) 0
+      → OnLink life ⊥ most start (sent ++ ds) [] (sent_all ds o).clock (map pass (sent_all ds o).flights) 0 × ((sent_all ds o).clock.last_send ≤ beat)
   sends-kept life most start sent o beat [] dated low early on =
-      (subst (λ ss. OnLink life most start ss [] o.clock (map pass o.flights) 0) (sym (append-nil sent)) on, low)
+      (subst (λ ss. OnLink life ⊥ most start ss [] o.clock (map pass o.flights) 0) (sym (append-nil sent)) on, low)
   sends-kept life most start sent o beat (d ∷ ds) dated low early on =
       let now = dated.0 in
       let next : Outflow M = sent_through d.beat d.item o in
       let flight : Flight M = record { sent = d.beat; arrival = arrival_at o.clock d.beat; msg = d.item } in
-      let sends = link-sends life most start sent [] o.clock (map pass o.flights) 0 d.beat d.item (omega (arith, now, low)) (omega (arith, now, early)) (omega arith) on in
-      let again : OnLink life most start (sent ++ d ∷ []) [] next.clock (map pass next.flights) 0 =
-      subst (λ fs. OnLink life most start (sent ++ d ∷ []) [] next.clock fs 0) (sym (map-append pass o.flights (flight ∷ []))) sends in
+      let sends = link-sends life ⊥ most start sent [] o.clock (map pass o.flights) 0 d.beat d.item (omega (arith, now, low)) (omega (arith, now, early)) (omega arith) on in
+      let again : OnLink life ⊥ most start (sent ++ d ∷ []) [] next.clock (map pass next.flights) 0 =
+      subst (λ fs. OnLink life ⊥ most start (sent ++ d ∷ []) [] next.clock fs 0) (sym (map-append pass o.flights (flight ∷ []))) sends in
       let rest = sends-kept life most start (sent ++ d ∷ []) next beat ds dated.1 (omega (arith, now)) early again in
-      (subst (λ ss. OnLink life most start ss [] (sent_all ds next).clock (map pass (sent_all ds next).flights) 0) (append_assoc sent (d ∷ []) ds) rest.0, rest.1)
+      (subst (λ ss. OnLink life ⊥ most start ss [] (sent_all ds next).clock (map pass (sent_all ds next).flights) 0) (append_assoc sent (d ∷ []) ds) rest.0, rest.1)
 
   pub outflow-passes : {S : Type 0} (line_of : ℕ → LineId) (note : M → Note) (step : S → Input M → Deed M S) (c : Course) (n : ℕ) (first : S) (next : ℕ) (events es : List (NodeEvent M)) (past : Past S) (o : Outflow M)
       → past ≡ after_all note step events (opening_of c n first) → next ≤ most_beats → AllByRecursion (λ (d : Dated M). d.beat ≡ next) (sends_along note step o.link.0 es past)
@@ -165,11 +165,11 @@ module _ {M : Type 0} where
       let calm = kept.1 in
       let all : old ++ ds ≡ sends_along note step o.link.0 (events ++ es) opening =
       ap (λ (q : Past S). old ++ sends_along note step o.link.0 es q) here ∙ sym (sends-append note step o.link.0 events es opening) in
-      let account : OnLink life most start (sends_along note step o.link.0 (events ++ es) opening) [] new.clock (map pass new.flights) 0 =
-      subst (λ q. OnLink life most start q [] new.clock (map pass new.flights) 0) all kept.0 in
+      let account : OnLink life ⊥ most start (sends_along note step o.link.0 (events ++ es) opening) [] new.clock (map pass new.flights) 0 =
+      subst (λ q. OnLink life ⊥ most start q [] new.clock (map pass new.flights) 0) all kept.0 in
       record {
         its_line = sent_all-line ds o ∙ h.its_line ∙ ap (λ (l : LinkNo). line_of l.0) (sym link);
         its_closed = refl;
         calm = omega (arith, calm);
-        account = subst (λ (l : LinkNo). OnLink life most (new_clock l.0 c.delay most) (sends_along note step l.0 (events ++ es) opening) [] new.clock (map pass new.flights) 0) (sym link) account;
+        account = subst (λ (l : LinkNo). OnLink life ⊥ most (new_clock l.0 c.delay most) (sends_along note step l.0 (events ++ es) opening) [] new.clock (map pass new.flights) 0) (sym link) account;
       }

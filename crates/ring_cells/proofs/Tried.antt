@@ -1,19 +1,22 @@
 -- What follows for the worked links.
-use Rattle.std.proofs.Common.{◌≡◌, ℕ, ◌<◌, List, [], ◌∷◌, ◌++◌, map, filter, ap, sym, ◌∙◌, arith, append-nil}
+use Rattle.std.proofs.Common.{◌≡◌, ℕ, ◌<◌, List, [], ◌∷◌, ◌++◌, map, filter, None, refl, ap, sym, ◌∙◌, arith, append-nil}
 use Rattle.std.specs.List.{AllByRecursion}
 use Rattle.node_kit.specs.Life.{acts, hears}
 use Rattle.run_facts.specs.Accounts.{is_caught}
 use Rattle.run_facts.specs.Beats.{pass}
 use Rattle.run_facts.specs.Events.{Dated}
-use Rattle.run_facts.specs.Paced.{Passage, brought}
+use Rattle.run_facts.specs.Paced.{Passage, AreGot, brought}
+use Rattle.run_facts.proofs.Getting.{got-whole}
 use Rattle.ring_cells.specs.Samples.{five, for_ever}
 
 -- if message 5 waits no more it was taken in beat 1
-pub taken-is : (got : List (Dated ℕ)) (gone : List (Passage ℕ)) → pass five ∷ [] ≡ gone ++ [] → got ≡ map brought (filter (is_caught for_ever) gone)
+pub taken-is : (got : List (Dated ℕ)) (gone : List (Passage ℕ)) → (Came : Type 0) → pass five ∷ [] ≡ gone ++ []
+    → AreGot for_ever Came (filter (is_caught for_ever) gone) got
     → got ≡ (record { beat = 1; item = 5 }) ∷ []
 unfolding acts hears
-taken-is got gone split is =
-    let all : gone ≡ pass five ∷ [] = sym (append-nil gone) ∙ sym split in is ∙ ap (λ q. map brought (filter (is_caught for_ever) q)) all
+taken-is got gone Came split is =
+    let all : gone ≡ pass five ∷ [] = sym (append-nil gone) ∙ sym split in
+    got-whole None for_ever Came (filter (is_caught for_ever) gone) got refl is ∙ ap (λ q. map brought (filter (is_caught for_ever) q)) all
 
 abbrev beat_of : List (Dated ℕ) → ℕ
 beat_of [] = 0

@@ -9,22 +9,23 @@ use Rattle.node_kit.specs.Courses.{IsCourse, stamp_in}
 use Rattle.node_kit.specs.Life.{Lifetime, lifetime_of}
 use Rattle.node_kit.specs.Links.{links_of, in_links_of, out_links_of}
 use Rattle.node_kit.specs.Steps.{Input, Deed}
-use Rattle.run_facts.specs.Accounts.{is_caught, IsTimeline, OnLink}
+use Rattle.run_facts.specs.Accounts.{is_caught, HasCutIn, AreWhole, IsTimeline, OnLink}
 use Rattle.run_facts.specs.Beats.{pass, opening_of}
 use Rattle.run_facts.specs.Events.{NodeEvent, Past, after_all, AreFair, sends_along, takes_along}
-use Rattle.run_facts.specs.Paced.{Passage, brought}
+use Rattle.run_facts.specs.Paced.{Passage, AreGot}
 use Rattle.ring_links.specs.Ends.{LineId}
 use Rattle.ring_links.specs.Flights.{IsOrdered}
 use Rattle.ring_cells.specs.Flows.{Inflow, Outflow, links_of_ins, links_of_outs}
 
 -- An in-link of a node with this life that has come through the beats below one: what arrived in them is gone, each
--- message that the node hears was taken in the beat of its arrival, and all others wait.
+-- message that the node hears was taken in the beat of its arrival, unless the node's death came before its turn, and
+-- all others wait.
 pub record IsInflow {M : Type 0} (line_of : ℕ → LineId) (life : Lifetime) (next : ℕ) (events : List (NodeEvent M)) (i : Inflow M) : Type 0 where
   pub its_line : i.line ≡ line_of i.link.0
   pub ordered : IsOrdered i.flights
   pub gone : List (Passage M)
   pub split : map pass i.flights ≡ gone ++ map pass i.waiting
-  pub got_is : takes_along i.link.0 events ≡ map brought (filter (is_caught life) gone)
+  pub got_is : AreGot life (HasCutIn i.link.0 events) (filter (is_caught life) gone) (takes_along i.link.0 events)
   pub behind : AllByRecursion (λ (f : Passage M). f.arrival < next) gone
   pub ahead : AllByRecursion (λ (f : Passage M). next ≤ f.arrival) (map pass i.waiting)
   pub far : next ≤ i.closed + 1
@@ -37,7 +38,7 @@ pub record IsOutflow {M S : Type 0} (line_of : ℕ → LineId) (note : M → Not
   pub its_line : o.line ≡ line_of o.link.0
   pub its_closed : o.closed ≡ next
   pub calm : o.clock.last_send ≤ next
-  pub account : OnLink (lifetime_of c n) c.plan.params.delay (new_clock o.link.0 c.delay c.plan.params.delay)
+  pub account : OnLink (lifetime_of c n) ⊥ c.plan.params.delay (new_clock o.link.0 c.delay c.plan.params.delay)
       (sends_along note step o.link.0 events (opening_of c n first)) [] o.clock (map pass o.flights) 0
 
 -- Node n of a course, begun as the opening says, has come through the beats below one: there are events of which it,
@@ -51,6 +52,7 @@ pub record Kept {M S : Type 0} (note : M → Note) (step : S → Input M → Dee
   pub events : List (NodeEvent M)
   pub here : past ≡ after_all note step events (opening_of c n first)
   pub fair : AreFair note step c.plan.params n events (opening_of c n first)
+  pub whole : AreWhole note step events (opening_of c n first)
   pub timeline : IsTimeline (stamp_in c n) c.plan.params n (lifetime_of c n) next events
   pub in_row : links_of_ins ins ≡ in_links_of (links_of c.plan.params) n
   pub out_row : links_of_outs outs ≡ out_links_of (links_of c.plan.params) n

@@ -6,7 +6,7 @@ use Rattle.link_timing.specs.Clock.{Clock, new_clock, arrival_at, after_send}
 use Rattle.node_kit.specs.declared.course.Course.{Course}
 use Rattle.node_kit.specs.declared.outbox.Out.TheVariants.{Send}
 use Rattle.node_kit.specs.Courses.{IsCourse, Setting}
-use Rattle.node_kit.specs.Life.{Lifetime}
+use Rattle.node_kit.specs.Life.{Lifetime, mortal}
 use Rattle.node_kit.specs.Steps.{Input, Deed}
 use Rattle.node_kit.specs.Steps.Input.{Take, Tick}
 use Rattle.run_facts.specs.declared.mail.Flight.{Flight}
@@ -29,7 +29,7 @@ five = record { sent = 0; arrival = 1; msg = 5 }
 
 -- a node that never dies takes it in a beat
 abbrev pub for_ever : Lifetime
-for_ever = record { death = None }
+for_ever = mortal None
 
 abbrev pub takes_in : ℕ → List (NodeEvent ℕ)
 takes_in beat = Does (Take (record { beat = beat; reading = 0 }) wire 5) ∷ []

@@ -3,7 +3,7 @@ ghost use Rattle.std.specs.Prelude.{◌≡◌, ◌≤◌, ◌∷◌, [], OnOk};
 ghost use Rattle.tiger_base.specs.Limits.{most_beats, most_reading};
 ghost use Rattle.node_kit.specs.Steps.Input.{Take, Tick};
 ghost use Rattle.run_facts.specs.Beats.{letter_events, end_events, beat_events};
-ghost use Rattle.run_facts.specs.Events.NodeEvent.{Does};
+ghost use Rattle.run_facts.specs.Events.{event_of};
 ghost use Rattle.ring_cells.specs.Flows.{links_of_ins};
 ghost use Rattle.ring_cells.specs.Stages.{stage, IsSetFor, KeepsSet, HasPassed, happens, happen, links_of_letters};
 
@@ -161,10 +161,12 @@ fn take_one<M: Message, T: Node<M>, R: Wait>(
     requires set { IsSetFor T.stands_at stamp.beat (letter.link ∷ [])
         (stage node.old life.old journal.old outs.old.items) }
     ensures event { OnOk result ((stage node.new life.new journal.new outs.new.items)
-        ≡ happens M.note_of T.step (Does (Take stamp letter.link letter.msg))
+        ≡ happens M.note_of T.step (event_of T.step (Take stamp letter.link letter.msg)
+        (record { state = node.old; life = life.old; journal = journal.old }))
         (stage node.old life.old journal.old outs.old.items)) }
     ensures keeps { OnOk result (KeepsSet M.note_of T.step T.stands_at stamp.beat
-        (Does (Take stamp letter.link letter.msg) ∷ [])
+        (event_of T.step (Take stamp letter.link letter.msg)
+        (record { state = node.old; life = life.old; journal = journal.old }) ∷ [])
         (stage node.old life.old journal.old outs.old.items)
         (stage node.new life.new journal.new outs.new.items)) }
     ensures outputs { OnOk result (outputs.new ≡ []) }
@@ -196,9 +198,11 @@ fn end_beat<M: Message, T: Node<M>, R: Wait>(
     requires set { IsSetFor T.stands_at stamp.beat []
         (stage node.old life.old journal.old outs.old.items) }
     ensures ends { OnOk result ((stage node.new life.new journal.new outs.new.items)
-        ≡ happen M.note_of T.step (end_events stamp life.old)
+        ≡ happen M.note_of T.step (end_events T.step stamp
+        (record { state = node.old; life = life.old; journal = journal.old }))
         (stage node.old life.old journal.old outs.old.items)) }
-    ensures keeps { OnOk result (KeepsSet M.note_of T.step T.stands_at stamp.beat (end_events stamp life.old)
+    ensures keeps { OnOk result (KeepsSet M.note_of T.step T.stands_at stamp.beat (end_events T.step stamp
+        (record { state = node.old; life = life.old; journal = journal.old }))
         (stage node.old life.old journal.old outs.old.items)
         (stage node.new life.new journal.new outs.new.items)) }
     ensures outputs { OnOk result (outputs.new ≡ []) }
@@ -230,15 +234,18 @@ fn tick<M: Message, T: Node<M>, R: Wait>(
     requires set { IsSetFor T.stands_at stamp.beat []
         (stage node.old life.old journal.old outs.old.items) }
     ensures event { OnOk result ((stage node.new life.new journal.new outs.new.items)
-        ≡ happens M.note_of T.step (Does (Tick stamp))
+        ≡ happens M.note_of T.step (event_of T.step (Tick stamp)
+        (record { state = node.old; life = life.old; journal = journal.old }))
         (stage node.old life.old journal.old outs.old.items)) }
-    ensures keeps { OnOk result (KeepsSet M.note_of T.step T.stands_at stamp.beat (Does (Tick stamp) ∷ [])
+    ensures keeps { OnOk result (KeepsSet M.note_of T.step T.stands_at stamp.beat (event_of T.step (Tick stamp)
+        (record { state = node.old; life = life.old; journal = journal.old }) ∷ [])
         (stage node.old life.old journal.old outs.old.items)
         (stage node.new life.new journal.new outs.new.items)) }
     ensures outputs { OnOk result (outputs.new ≡ []) }
 {
-    // The tick of a node that rests would put nothing out and change nothing.
-    if node.rests(stamp) {
+    // The tick of a node that rests would put nothing out and change nothing, but a death that comes in it is written all
+    // the same.
+    if !life.ends_in(stamp.beat) && node.rests(stamp) {
         return Ok(());
     }
     node.tick(stamp, outputs)?;

@@ -1,5 +1,5 @@
 -- The events of a node: what they make of it and of the links.
-use Rattle.std.proofs.Common.{◌≡◌, ℕ, zero, suc, ◌+◌, ◌<◌, ◌≤◌, List, [], ◌∷◌, ◌++◌, map, drop, add-one, length, Bool, true, false, Some, None, refl, ap, sym, ◌∙◌, subst, append_assoc, arith, ⊎_elim}
+use Rattle.std.proofs.Common.{◌≡◌, ℕ, zero, suc, ◌+◌, ◌<◌, ◌≤◌, List, [], ◌∷◌, ◌++◌, map, drop, add-one, length, Bool, true, false, Option, Some, None, refl, ap, sym, ◌∙◌, subst, append_assoc, arith, ⊎_elim}
 use Rattle.std.specs.Prelude.{Result, Ok, Err, OnOk, slice_get}
 use Rattle.std.proofs.lemmas.Bool.{cases_Bool}
 use Rattle.std.proofs.lemmas.Option.{none-some}
@@ -11,19 +11,24 @@ use Rattle.slot_plan.specs.declared.params.Params.{Params}
 use Rattle.node_kit.specs.declared.journal.What.TheVariants.{Got, Died}
 use Rattle.node_kit.specs.declared.journal.Entry.{Entry}
 use Rattle.node_kit.specs.declared.outbox.Out.{Out}
-use Rattle.node_kit.specs.Life.{Lifetime, acts, trimmed}
+use Rattle.node_kit.specs.declared.outbox.Out.TheVariants.{Act}
+use Rattle.node_kit.specs.Life.{Lifetime, acts, returns, ends_in, cut_to, trimmed, trimmed_to}
+use Rattle.node_kit.specs.Outputs.{cut_at, with_death, ends_in_death}
+use Rattle.node_kit.proofs.Cutting.{cut-all}
 use Rattle.node_kit.specs.Links.{links_of, link_count, IsInLink}
-use Rattle.node_kit.specs.Steps.{Input, Deed, Acts, Rests, IsAllowed, entry_of}
+use Rattle.node_kit.specs.Steps.{Input, Deed, Acts, Rests, IsAllowed, entry_of, entries_of, stamp_of}
 use Rattle.node_kit.specs.Steps.Input.{Take, Tick}
 use Rattle.node_kit.proofs.Ring.{ends_counted}
 use Rattle.run_facts.specs.declared.mail.Letter.{Letter}
-use Rattle.ring_engine.specs.Traffic.{posted, letters_on, emptied, without_first, collected, after_collecting, AreOpen, IsPostable, IsLink}
+use Rattle.ring_engine.specs.Traffic.{posted, posted_one, letters_on, emptied, without_first, collected, after_collecting, AreOpen, IsPostable, IsLink}
 use Rattle.run_facts.specs.Rings.{Traffic}
-use Rattle.run_facts.specs.Beats.{is_taken, letter_events, end_events, beat_events}
-use Rattle.run_facts.specs.Events.{NodeEvent, Past, after, after_all, after_input, kept_outs, AreFair}
-use Rattle.run_facts.specs.Events.NodeEvent.{Does, Dies}
-use Rattle.run_facts.proofs.Along.{fair-append}
-use Rattle.run_facts.proofs.Beats.{end-acting, rests-past, rests-outs}
+use Rattle.run_facts.specs.Beats.{is_taken, return_events, letter_events, end_events, beat_events}
+use Rattle.run_facts.specs.Events.{NodeEvent, Past, after, after_all, after_input, after_cut, event_to, event_of}
+use Rattle.run_facts.specs.Events.{is_tick_input, kept_outs, left_outs, outs_of, stamp_at, AreFair}
+use Rattle.run_facts.specs.Events.NodeEvent.{Ends, Dies}
+use Rattle.run_facts.proofs.Rows.{all-append}
+use Rattle.run_facts.proofs.Along.{fair-append, event-unended}
+use Rattle.run_facts.proofs.Beats.{last-acting, rests-past, rests-outs}
 use Rattle.ring_engine.specs.Turns.{Scene, scene, turn, happens, happen, brought, brought_on, IsReady, IsReadyFor, KeepsReady}
 use Rattle.ring_engine.proofs.Arriving.{length-posted, length-without_first, AreOpen-posted, AreOpen-emptied, AreOpen-without_first}
 use Rattle.ring_engine.proofs.Commuting.{Waits, one-waits, all-wait, AreOfBeat, found-after, left-after, letters_on-first, emptied-first, emptied-none, without-none, nothing-first}
@@ -33,11 +38,58 @@ pub both-ok : {T E : Type 0} (P Q : Type 0) (r : Result T E) → OnOk r P → On
 both-ok P Q (Ok x) p q = (p, q)
 both-ok P Q (Err e) p q = tt
 
+-- Died behind outputs sends nothing
+posted-act : {M : Type 0} (beat : ℕ) (os : List (Out M)) (ts : List (Traffic M))
+    → posted beat (os ++ Act Died ∷ []) ts ≡ posted beat os ts
+posted-act beat [] ts = refl
+posted-act beat (o ∷ os) ts = posted-act beat os (posted_one beat o ts)
+
+posted-death : {M : Type 0} (beat : ℕ) (os : List (Out M)) (ts : List (Traffic M))
+    → posted beat (with_death os) ts ≡ posted beat os ts
+posted-death beat os ts = ⊎_elim
+    (λ (e : ends_in_death os ≡ true). rw e refl)
+    (λ (e : ends_in_death os ≡ false). rw e (posted-act beat os ts))
+    (cases_Bool (ends_in_death os))
+
+postable-death : {M : Type 0} (k : ℕ) (os : List (Out M)) → AllByRecursion (IsPostable k) os
+    → AllByRecursion (IsPostable k) (with_death os)
+postable-death {M} k os h = ⊎_elim
+    (λ (e : ends_in_death os ≡ true). rw e h)
+    (λ (e : ends_in_death os ≡ false). rw e (all-append (IsPostable {M = M} k) os (Act Died ∷ []) h (tt, tt)))
+    (cases_Bool (ends_in_death os))
+
+-- what is left of an event, cut off or not, may be sent
+postable-to : {M : Type 0} (k : ℕ) (life : Lifetime) (stamp : Stamp) (os : List (Out M)) → AllByRecursion (IsPostable k) os
+    → (cut : Option ℕ) → AllByRecursion (IsPostable k) (trimmed_to life stamp os cut).outs
+postable-to k life stamp os h None = h
+postable-to k life stamp os h (Some n) = postable-death k (cut_at n os) (cut-all (IsPostable k) n os h)
+
+abbrev scene-of : {M S : Type 0} → Past S → List (Traffic M) → Scene M S
+scene-of past ts = record { past = past; channels = ts }
+
+-- and it is what happens
+left-happens : {M S : Type 0} (note : M → Note) (step : S → Input M → Deed M S) (i : Input M) (past : Past S)
+    (ts : List (Traffic M)) (cut : Option ℕ)
+    → ◌≡◌ {A = Scene M S} (record {
+      past = record {
+        state = (step past.state i).state;
+        life = (trimmed_to past.life (stamp_of i) (step past.state i).outs cut).life;
+        journal = past.journal ++ entries_of note i (trimmed_to past.life (stamp_of i) (step past.state i).outs cut).outs;
+      };
+      channels = posted (stamp_of i).beat (trimmed_to past.life (stamp_of i) (step past.state i).outs cut).outs ts;
+    })
+    (happens note step (event_to i cut) (record { past = past; channels = ts }))
+unfolding after_input after_cut kept_outs left_outs
+left-happens note step i past ts None = refl
+left-happens {M} {S} note step i past ts (Some k) =
+    ap (λ (us : List (Traffic M)). scene-of (after note step (Ends i k) past) us)
+    (posted-death (stamp_of i).beat (cut_at k (step past.state i).outs) ts)
+
 -- trimming leaves what may be sent
 trimmed-postable : {M : Type 0} (k : ℕ) (life : Lifetime) (stamp : Stamp) (ticked : Bool) (os : List (Out M)) → AllByRecursion (IsPostable k) os
     → AllByRecursion (IsPostable k) (trimmed life stamp ticked os).outs
 unfolding trimmed
-trimmed-postable k life stamp ticked os h = h
+trimmed-postable k life stamp ticked os h = postable-to k life stamp os h (cut_to life stamp ticked os)
 
 -- the outputs of an event can be sent
 pub postable-event : {M S : Type 0} (note : M → Note) (step : S → Input M → Deed M S) (stands : S → Params → ℕ → Type 0) (i : Input M) (s s' : S)
@@ -55,13 +107,16 @@ pub taken : {M S : Type 0} (note : M → Note) (step : S → Input M → Deed M 
     → kept ≡ (trimmed life stamp false after).outs → j1 ≡ j ++ (record { stamp = stamp; what = Got link noted }) ∷ []
     → j2 ≡ j1 ++ map (entry_of note stamp) kept → ts' ≡ posted stamp.beat kept ts
     → ◌≡◌ {A = Scene M S} (record { past = record { state = s'; life = life'; journal = j2 }; channels = ts' })
-    (happens note step (Does (Take stamp link msg)) (record { past = record { state = s; life = life; journal = j }; channels = ts }))
-unfolding after_input kept_outs
+    (happens note step (event_of step (Take stamp link msg) (record { state = s; life = life; journal = j }))
+    (record { past = record { state = s; life = life; journal = j }; channels = ts }))
+unfolding event_of trimmed
 taken note step stands stamp link msg s s' before after kept life life' noted j j1 j2 ts ts' says acted none lived trim got wrote sent =
     let whole : after ≡ (step s (Take stamp link msg)).outs = acted.appended ∙ ap (λ os. os ++ (step s (Take stamp link msg)).outs) none in
     let entries : j2 ≡ j ++ (record { stamp = stamp; what = Got link (note msg) }) ∷ map (entry_of note stamp) kept =
     wrote ∙ ap (λ x. x ++ map (entry_of note stamp) kept) (got ∙ ap (λ w. j ++ (record { stamp = stamp; what = Got link w }) ∷ []) says) ∙ append_assoc j ((record { stamp = stamp; what = Got link (note msg) }) ∷ []) (map (entry_of note stamp) kept) in
-    rw (acted.moved, lived, entries, sent) (rw trim (rw whole refl))
+    rw (acted.moved, lived, entries, sent) (rw trim (rw whole
+    (left-happens note step (Take stamp link msg) (record { state = s; life = life; journal = j }) ts
+    (cut_to life stamp false (step s (Take stamp link msg)).outs))))
 
 -- a node ticked, and its outputs were delivered
 pub ticked : {M S : Type 0} (note : M → Note) (step : S → Input M → Deed M S) (stands : S → Params → ℕ → Type 0) (stamp : Stamp) (s s' : S)
@@ -69,32 +124,58 @@ pub ticked : {M S : Type 0} (note : M → Note) (step : S → Input M → Deed M
     → Acts note step stands (Tick stamp) s s' before after → before ≡ [] → life' ≡ (trimmed life stamp true after).life
     → kept ≡ (trimmed life stamp true after).outs → j2 ≡ j ++ map (entry_of note stamp) kept → ts' ≡ posted stamp.beat kept ts
     → ◌≡◌ {A = Scene M S} (record { past = record { state = s'; life = life'; journal = j2 }; channels = ts' })
-    (happens note step (Does (Tick stamp)) (record { past = record { state = s; life = life; journal = j }; channels = ts }))
-unfolding after_input kept_outs
+    (happens note step (event_of step (Tick stamp) (record { state = s; life = life; journal = j }))
+    (record { past = record { state = s; life = life; journal = j }; channels = ts }))
+unfolding event_of trimmed
 ticked note step stands stamp s s' before after kept life life' j j2 ts ts' acted none lived trim wrote sent =
     let whole : after ≡ (step s (Tick stamp)).outs = acted.appended ∙ ap (λ os. os ++ (step s (Tick stamp)).outs) none in
-    rw (acted.moved, lived, wrote, sent) (rw trim (rw whole refl))
+    rw (acted.moved, lived, wrote, sent) (rw trim (rw whole
+    (left-happens note step (Tick stamp) (record { state = s; life = life; journal = j }) ts
+    (cut_to life stamp true (step s (Tick stamp)).outs))))
 
--- the tick of a node that rests leaves no trace
-pub rested : {M S : Type 0} (note : M → Note) (step : S → Input M → Deed M S) (stamp : Stamp) (old : Scene M S) → Rests step stamp old.past.state
-    → old ≡ happens note step (Does (Tick stamp)) old
-rested note step stamp old quiet = rw (rests-past note step stamp old.past quiet, rests-outs step stamp old.past quiet) refl
+-- the tick of a node that rests leaves no trace, if no death comes in it
+pub rested : {M S : Type 0} (note : M → Note) (step : S → Input M → Deed M S) (stamp : Stamp) (old : Scene M S)
+    → ends_in old.past.life stamp.beat ≡ false → Rests step stamp old.past.state
+    → old ≡ happens note step (event_of step (Tick stamp) old.past) old
+rested note step stamp old unended quiet =
+    rw (
+      event-unended step (Tick stamp) old.past unended,
+      rests-past note step stamp old.past quiet,
+      rests-outs step stamp old.past quiet,
+    ) refl
 
 pub rested-keeps : {M S : Type 0} (note : M → Note) (step : S → Input M → Deed M S) (stands : S → Params → ℕ → Type 0) (stamp : Stamp) (old : Scene M S)
-    → Rests step stamp old.past.state → KeepsReady note step stands stamp.beat (Does (Tick stamp) ∷ []) old old
-rested-keeps note step stands stamp old quiet p n r = (r, (subst (AllByRecursion (IsAllowed note p n)) (sym (rests-outs step stamp old.past quiet)) tt, tt))
+    → ends_in old.past.life stamp.beat ≡ false → Rests step stamp old.past.state
+    → KeepsReady note step stands stamp.beat (event_of step (Tick stamp) old.past ∷ []) old old
+rested-keeps note step stands stamp old unended quiet p n r = (
+  r,
+  (
+    rw (event-unended step (Tick stamp) old.past unended)
+        (subst (AllByRecursion (IsAllowed note p n)) (sym (rests-outs step stamp old.past quiet)) tt),
+    tt,
+  ),
+)
 
--- trimming leaves what may be put out
-fair-event : {M S : Type 0} (step : S → Input M → Deed M S) (P : Out M → Type 0) (i : Input M) (past : Past S) → AllByRecursion P (step past.state i).outs
-    → AllByRecursion P (kept_outs step i past)
-unfolding kept_outs trimmed
-fair-event step P i past h = h
+-- what is left of an event, cut off or not, may be put out
+fair-to : {M S : Type 0} (step : S → Input M → Deed M S) (P : Out M → Type 0) (i : Input M) (past : Past S)
+    → AllByRecursion P (step past.state i).outs → (cut : Option ℕ)
+    → AllByRecursion P (outs_of step (event_to i cut) past)
+unfolding kept_outs left_outs
+fair-to step P i past h None = h
+fair-to step P i past h (Some k) = cut-all P k (step past.state i).outs h
+
+fair-event : {M S : Type 0} (step : S → Input M → Deed M S) (P : Out M → Type 0) (i : Input M) (past : Past S)
+    → AllByRecursion P (step past.state i).outs → AllByRecursion P (outs_of step (event_of step i past) past)
+unfolding event_of
+fair-event step P i past h =
+    fair-to step P i past h (cut_to past.life (stamp_of i) (is_tick_input i) (step past.state i).outs)
 
 -- an event keeps what is ready
 pub ready-event : {M S : Type 0} (note : M → Note) (step : S → Input M → Deed M S) (stands : S → Params → ℕ → Type 0) (i : Input M) (s s' : S)
     (before after kept : List (Out M)) (life life' : Lifetime) (j j' : List Entry) (beat : ℕ) (ts ts' : List (Traffic M))
     → Acts note step stands i s s' before after → ts' ≡ posted beat kept ts
-    → KeepsReady note step stands beat (Does i ∷ []) (record { past = record { state = s; life = life; journal = j }; channels = ts })
+    → KeepsReady note step stands beat (event_of step i (record { state = s; life = life; journal = j }) ∷ [])
+    (record { past = record { state = s; life = life; journal = j }; channels = ts })
     (record { past = record { state = s'; life = life'; journal = j' }; channels = ts' })
 ready-event note step stands i s s' before after kept life life' j j' beat ts ts' acted sent p n r = (
   record {
@@ -107,7 +188,8 @@ ready-event note step stands i s s' before after kept life life' j j' beat ts ts
 
 -- the event that a letter brings, or none
 pub heard : {M S : Type 0} (note : M → Note) (step : S → Input M → Deed M S) (stamp : Stamp) (l : Letter M) (old new : Scene M S) → is_taken old.past.life l.sent stamp.beat ≡ true
-    → new ≡ happens note step (Does (Take stamp l.link l.msg)) old → new ≡ happen note step (letter_events note step stamp (l ∷ []) old.past) old
+    → new ≡ happens note step (event_of step (Take stamp l.link l.msg) old.past) old
+    → new ≡ happen note step (letter_events note step stamp (l ∷ []) old.past) old
 heard note step stamp l old new yes_taken took = rw yes_taken took
 
 pub unheard : {M S : Type 0} (note : M → Note) (step : S → Input M → Deed M S) (stamp : Stamp) (l : Letter M) (old : Scene M S) → is_taken old.past.life l.sent stamp.beat ≡ false
@@ -115,7 +197,8 @@ pub unheard : {M S : Type 0} (note : M → Note) (step : S → Input M → Deed 
 unheard note step stamp l old lost = rw lost refl
 
 pub heard-keeps : {M S : Type 0} (note : M → Note) (step : S → Input M → Deed M S) (stands : S → Params → ℕ → Type 0) (stamp : Stamp) (l : Letter M) (old new : Scene M S)
-    → is_taken old.past.life l.sent stamp.beat ≡ true → KeepsReady note step stands stamp.beat (Does (Take stamp l.link l.msg) ∷ []) old new
+    → is_taken old.past.life l.sent stamp.beat ≡ true
+    → KeepsReady note step stands stamp.beat (event_of step (Take stamp l.link l.msg) old.past ∷ []) old new
     → KeepsReady note step stands stamp.beat (letter_events note step stamp (l ∷ []) old.past) old new
 heard-keeps note step stands stamp l old new yes_taken keeps = rw yes_taken keeps
 
@@ -232,19 +315,32 @@ letter_events-append : {M S : Type 0} (note : M → Note) (step : S → Input M 
     ≡ letter_events note step stamp ls past ++ letter_events note step stamp ks (after_all note step (letter_events note step stamp ls past) past)
 letter_events-append note step stamp [] ks past = refl
 letter_events-append {M} note step stamp (l ∷ ls) ks past =
-    let e : NodeEvent M = Does (Take stamp l.link l.msg) in
+    let e : NodeEvent M = event_of step (Take stamp l.link l.msg) past in
     ⊎_elim
     (λ (h : is_taken past.life l.sent stamp.beat ≡ true). rw h (ap (λ (es : List (NodeEvent M)). e ∷ es) (letter_events-append note step stamp ls ks (after note step e past))))
     (λ (h : is_taken past.life l.sent stamp.beat ≡ false). rw h (letter_events-append note step stamp ls ks past))
     (cases_Bool (is_taken past.life l.sent stamp.beat))
 
+stamp-to : {M : Type 0} (i : Input M) (cut : Option ℕ) → stamp_at (event_to i cut) ≡ stamp_of i
+stamp-to i None = refl
+stamp-to i (Some k) = refl
+
+stamp-event : {M S : Type 0} (step : S → Input M → Deed M S) (i : Input M) (past : Past S)
+    → stamp_at (event_of step i past) ≡ stamp_of i
+unfolding event_of
+stamp-event step i past =
+    stamp-to i (cut_to past.life (stamp_of i) (is_tick_input i) (step past.state i).outs)
+
 letters-of-beat : {M S : Type 0} (note : M → Note) (step : S → Input M → Deed M S) (stamp : Stamp) (ls : List (Letter M)) (past : Past S)
     → AreOfBeat stamp.beat (letter_events note step stamp ls past)
 letters-of-beat note step stamp [] past = tt
 letters-of-beat {M} note step stamp (l ∷ ls) past =
-    let e : NodeEvent M = Does (Take stamp l.link l.msg) in
+    let e : NodeEvent M = event_of step (Take stamp l.link l.msg) past in
     ⊎_elim
-    (λ (h : is_taken past.life l.sent stamp.beat ≡ true). rw h (refl, letters-of-beat note step stamp ls (after note step e past)))
+    (λ (h : is_taken past.life l.sent stamp.beat ≡ true). rw h (
+      ap (λ (s : Stamp). s.beat) (stamp-event step (Take stamp l.link l.msg) past),
+      letters-of-beat note step stamp ls (after note step e past),
+    ))
     (λ (h : is_taken past.life l.sent stamp.beat ≡ false). rw h (letters-of-beat note step stamp ls past))
     (cases_Bool (is_taken past.life l.sent stamp.beat))
 
@@ -417,23 +513,41 @@ pub mail-end-keeps : {M S : Type 0} (note : M → Note) (step : S → Input M �
 mail-end-keeps note step stands stamp ls s none =
     none-keeps note step stands stamp (collected stamp.beat ls s.channels) s (ap (λ ks. collected stamp.beat ks s.channels) none)
 
+-- a return changes nothing
+happen-back : {M S : Type 0} (note : M → Note) (step : S → Input M → Deed M S) (stamp : Stamp) (es : List (NodeEvent M))
+    (s : Scene M S)
+    → happen note step (return_events stamp s.past ++ es) s ≡ happen note step es s
+happen-back note step stamp es s = ⊎_elim
+    (λ (e : returns s.past.life stamp.beat ≡ true). rw e refl)
+    (λ (e : returns s.past.life stamp.beat ≡ false). rw e refl)
+    (cases_Bool (returns s.past.life stamp.beat))
+
+fair-back : {M S : Type 0} (note : M → Note) (step : S → Input M → Deed M S) (p : Params) (n : ℕ) (stamp : Stamp)
+    (es : List (NodeEvent M)) (past : Past S)
+    → AreFair note step p n es past → AreFair note step p n (return_events stamp past ++ es) past
+fair-back note step p n stamp es past h = ⊎_elim
+    (λ (e : returns past.life stamp.beat ≡ true). rw e (tt, h))
+    (λ (e : returns past.life stamp.beat ≡ false). rw e h)
+    (cases_Bool (returns past.life stamp.beat))
+
 -- a whole turn
 pub turned : {M S : Type 0} (note : M → Note) (step : S → Input M → Deed M S) (stamp : Stamp) (links : List LinkNo) (old mid new : Scene M S) → mid ≡ brought note step stamp links old
-    → new ≡ happen note step (end_events stamp mid.past.life) mid → new ≡ turn note step stamp links old
+    → new ≡ happen note step (end_events step stamp mid.past) mid → new ≡ turn note step stamp links old
 unfolding turn beat_events brought
 turned {M} {S} note step stamp links old mid new took ends =
     let s : Scene M S = record { past = old.past; channels = after_collecting stamp.beat links old.channels } in
     let all = letter_events note step stamp (collected stamp.beat links old.channels) old.past in
     let same : mid.past ≡ after_all note step all old.past = ap (λ (q : Scene M S). q.past) took ∙ happen-past note step all s in
     ends
-    ∙ ap (λ (q : Scene M S). happen note step (end_events stamp mid.past.life) q) took
-    ∙ ap (λ (q : Past S). happen note step (end_events stamp q.life) (happen note step all s)) same
-    ∙ sym (happen-append note step all (end_events stamp (after_all note step all old.past).life) s)
+    ∙ ap (λ (q : Scene M S). happen note step (end_events step stamp mid.past) q) took
+    ∙ ap (λ (q : Past S). happen note step (end_events step stamp q) (happen note step all s)) same
+    ∙ sym (happen-append note step all (end_events step stamp (after_all note step all old.past)) s)
+    ∙ sym (happen-back note step stamp (all ++ end_events step stamp (after_all note step all old.past)) s)
 
 pub turned-keeps : {M S : Type 0} (note : M → Note) (step : S → Input M → Deed M S) (stands : S → Params → ℕ → Type 0) (stamp : Stamp) (links : List LinkNo) (old mid new : Scene M S)
     → mid ≡ brought note step stamp links old
     → KeepsReady note step stands stamp.beat (letter_events note step stamp (collected stamp.beat links old.channels) old.past) old mid
-    → KeepsReady note step stands stamp.beat (end_events stamp mid.past.life) mid new
+    → KeepsReady note step stands stamp.beat (end_events step stamp mid.past) mid new
     → KeepsReady note step stands stamp.beat (beat_events note step stamp (collected stamp.beat links old.channels) old.past) old new
 unfolding beat_events brought
 turned-keeps {M} {S} note step stands stamp links old mid new took keeps ends p n r =
@@ -442,21 +556,26 @@ turned-keeps {M} {S} note step stands stamp links old mid new took keeps ends p 
     let same : mid.past ≡ after_all note step all old.past = ap (λ (q : Scene M S). q.past) took ∙ happen-past note step all s in
     let first = keeps p n r in
     let second = ends p n first.0 in
-    let tail : AreFair note step p n (end_events stamp (after_all note step all old.past).life) (after_all note step all old.past) =
-    subst (λ (q : Past S). AreFair note step p n (end_events stamp q.life) q) same second.1 in
-    (second.0, fair-append note step p n all (end_events stamp (after_all note step all old.past).life) old.past first.1 tail)
+    let end = end_events step stamp (after_all note step all old.past) in
+    let tail : AreFair note step p n end (after_all note step all old.past) =
+    subst (λ (q : Past S). AreFair note step p n (end_events step stamp q) q) same second.1 in
+    (second.0, fair-back note step p n stamp (all ++ end) old.past (fair-append note step p n all end old.past first.1 tail))
 
 -- the turn of a node at which nothing arrives, and whose tick would leave no trace
 pub idle-turned : {M S : Type 0} (note : M → Note) (step : S → Input M → Deed M S) (stamp : Stamp) (links : List LinkNo) (s : Scene M S)
-    → collected stamp.beat links s.channels ≡ [] → after_collecting stamp.beat links s.channels ≡ s.channels → acts s.past.life stamp.beat ≡ true → Rests step stamp s.past.state
+    → collected stamp.beat links s.channels ≡ [] → after_collecting stamp.beat links s.channels ≡ s.channels → acts s.past.life stamp.beat ≡ true
+    → ends_in s.past.life stamp.beat ≡ false → Rests step stamp s.past.state
     → s ≡ turn note step stamp links s
-idle-turned note step stamp links s none left live quiet =
+idle-turned note step stamp links s none left live unended quiet =
     turned note step stamp links s s s (mail-done note step stamp links s none left)
-    (ended note step (end_events stamp s.past.life) (Does (Tick stamp) ∷ []) s s (end-acting stamp s.past.life live) (rested note step stamp s quiet))
+    (ended note step (end_events step stamp s.past) (event_of step (Tick stamp) s.past ∷ []) s s
+    (last-acting step stamp s.past live) (rested note step stamp s unended quiet))
 
 pub idle-turned-keeps : {M S : Type 0} (note : M → Note) (step : S → Input M → Deed M S) (stands : S → Params → ℕ → Type 0) (stamp : Stamp) (links : List LinkNo) (s : Scene M S)
-    → collected stamp.beat links s.channels ≡ [] → after_collecting stamp.beat links s.channels ≡ s.channels → acts s.past.life stamp.beat ≡ true → Rests step stamp s.past.state
+    → collected stamp.beat links s.channels ≡ [] → after_collecting stamp.beat links s.channels ≡ s.channels → acts s.past.life stamp.beat ≡ true
+    → ends_in s.past.life stamp.beat ≡ false → Rests step stamp s.past.state
     → KeepsReady note step stands stamp.beat (beat_events note step stamp (collected stamp.beat links s.channels) s.past) s s
-idle-turned-keeps note step stands stamp links s none left live quiet =
+idle-turned-keeps note step stands stamp links s none left live unended quiet =
     turned-keeps note step stands stamp links s s s (mail-done note step stamp links s none left) (none-keeps note step stands stamp (collected stamp.beat links s.channels) s none)
-    (ended-keeps note step stands stamp.beat (end_events stamp s.past.life) (Does (Tick stamp) ∷ []) s s (end-acting stamp s.past.life live) (rested-keeps note step stands stamp s quiet))
+    (ended-keeps note step stands stamp.beat (end_events step stamp s.past) (event_of step (Tick stamp) s.past ∷ []) s s
+    (last-acting step stamp s.past live) (rested-keeps note step stands stamp s unended quiet))

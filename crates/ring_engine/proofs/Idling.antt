@@ -72,8 +72,9 @@ idle-on : {M S : Type 0} (note : M → Note) (step : S → Input M → Deed M S)
 idle-on {M} {S} note step stands c count beat n old now s life j hs hl hj is come =
     let here : Scene M S = scene s life j now.channels in
     let links = in_links_of (links_of c.plan.params) n in
-    let turned = idle-turned note step (stamp_in c n beat) links here is.none is.left is.acts_then is.rests in
-    let keeps = idle-turned-keeps note step stands (stamp_in c n beat) links here is.none is.left is.acts_then is.rests in
+    let turned = idle-turned note step (stamp_in c n beat) links here is.none is.left is.acts_then is.unended is.rests in
+    let keeps = idle-turned-keeps note step stands (stamp_in c n beat) links here is.none is.left is.acts_then is.unended
+    is.rests in
     subst (λ (r : Ring M S). TurnsTo note step stands c count beat (n + 1) old r) (with-same now n s life j hs hl hj) (record {
       midway = midway-on note step stands c count beat n old now (stamp_in c n beat) links _ s s life life j j now.channels refl hs hl hj turned keeps come.midway;
       turns = turns-on note step stands c count beat n old now (stamp_in c n beat) links s s life life j j now.channels refl refl hs hl hj turned come.midway.sound keeps come.turns;

@@ -13,8 +13,8 @@ use Rattle.run_facts.specs.Paced.{ArePaced}
 use Rattle.run_facts.specs.Timed.{AreTimed}
 use Rattle.ring_engine.specs.Whole.{IsWholeRun}
 use Rattle.ring_engine.proofs.Progressing.{progress-ends}
-use Rattle.run_facts.proofs.Accounts.{carried-run, paced-run, timed-run}
-use Rattle.run_facts.proofs.Kept.{firsts, kept-run}
+use Rattle.run_facts.proofs.Kept.{firsts}
+use Rattle.run_lives.proofs.Kept.{carried-run, paced-run, timed-run, kept-run}
 
 pub kept-whole : {M S : Type 0} (note : M → Note) (step : S → Input M → Deed M S) (c : Course) (given nodes : List S) (journals : List (List Entry)) → IsCourse c
     → length given ≡ viewers_of (links_of c.plan.params) + 1 → length nodes ≡ length given → IsWholeRun {M = M} note step c given nodes journals
@@ -23,25 +23,25 @@ kept-whole {M} note step c given nodes journals course size back whole =
     let opens = firsts given (omega (arith, size)) in
     subst (λ js. HaveKept {M = M} note step c given nodes js) (sym whole.same_journals)
     (subst (λ ns. HaveKept {M = M} note step c given ns whole.last.journals) (sym whole.same_nodes)
-    (kept-run note step c given opens.0 whole.last course size opens.1 (ap length (sym whole.same_nodes) ∙ back) (progress-ends note step c given nodes journals opens.0 course opens.1 whole)))
+    (kept-run note step c given opens.0 whole.last course size (progress-ends note step c given nodes journals opens.0 course opens.1 whole) opens.1 (ap length (sym whole.same_nodes) ∙ back)))
 
 pub carried-whole : {M S : Type 0} (note : M → Note) (step : S → Input M → Deed M S) (c : Course) (given nodes : List S) (journals : List (List Entry)) → IsCourse c
     → length given ≡ viewers_of (links_of c.plan.params) + 1 → IsWholeRun {M = M} note step c given nodes journals → AreCarried c.plan.params c.beats (lifetime_of c) journals
 carried-whole note step c given nodes journals course size whole =
     let opens = firsts given (omega (arith, size)) in
     subst (AreCarried c.plan.params c.beats (lifetime_of c)) (sym whole.same_journals)
-    (carried-run note step c (length given) opens.0 whole.last (progress-ends note step c given nodes journals opens.0 course opens.1 whole))
+    (carried-run note step c given opens.0 whole.last course size (progress-ends note step c given nodes journals opens.0 course opens.1 whole))
 
 pub paced-whole : {M S : Type 0} (note : M → Note) (step : S → Input M → Deed M S) (c : Course) (given nodes : List S) (journals : List (List Entry)) → IsCourse c
     → length given ≡ viewers_of (links_of c.plan.params) + 1 → IsWholeRun {M = M} note step c given nodes journals → ArePaced c journals
 paced-whole note step c given nodes journals course size whole =
     let opens = firsts given (omega (arith, size)) in
     subst (ArePaced c) (sym whole.same_journals)
-    (paced-run note step c (length given) opens.0 whole.last (progress-ends note step c given nodes journals opens.0 course opens.1 whole))
+    (paced-run note step c given opens.0 whole.last course size (progress-ends note step c given nodes journals opens.0 course opens.1 whole))
 
 pub timed-whole : {M S : Type 0} (note : M → Note) (step : S → Input M → Deed M S) (c : Course) (given nodes : List S) (journals : List (List Entry)) → IsCourse c
     → length given ≡ viewers_of (links_of c.plan.params) + 1 → IsWholeRun {M = M} note step c given nodes journals → AreTimed c.plan.params c.beats (lifetime_of c) journals
 timed-whole note step c given nodes journals course size whole =
     let opens = firsts given (omega (arith, size)) in
     subst (AreTimed c.plan.params c.beats (lifetime_of c)) (sym whole.same_journals)
-    (timed-run note step c (length given) opens.0 whole.last course (progress-ends note step c given nodes journals opens.0 course opens.1 whole))
+    (timed-run note step c given opens.0 whole.last course size (progress-ends note step c given nodes journals opens.0 course opens.1 whole))

@@ -3,7 +3,7 @@ ghost use Rattle.std.specs.Prelude.{◌≡◌, ◌+◌, ◌<◌, ◌≤◌, ◌�
 ghost use Rattle.tiger_base.specs.Limits.{most_beats, most_reading};
 ghost use Rattle.node_kit.specs.Links.{in_links_of, viewers_of};
 ghost use Rattle.node_kit.specs.Steps.Input.{Take, Tick};
-ghost use Rattle.run_facts.specs.Events.NodeEvent.{Does};
+ghost use Rattle.run_facts.specs.Events.{event_of};
 ghost use Rattle.ring_engine.specs.Traffic.{letters_on, collected};
 ghost use Rattle.ring_engine.specs.Turns.{scene, IsReadyFor, KeepsReady, happens, happen, turn};
 ghost use Rattle.ring_engine.specs.Turns.{brought, brought_on};
@@ -204,10 +204,12 @@ fn take_one<M: Message, T: Node<M>>(
     requires ready { IsReadyFor T.stands_at stamp.beat (letter.link ∷ [])
         (scene node.old life.old journal.old mail.old.channels) }
     ensures event { OnOk result ((scene node.new life.new journal.new mail.new.channels)
-        ≡ happens M.note_of T.step (Does (Take stamp letter.link letter.msg))
+        ≡ happens M.note_of T.step (event_of T.step (Take stamp letter.link letter.msg)
+        (record { state = node.old; life = life.old; journal = journal.old }))
         (scene node.old life.old journal.old mail.old.channels)) }
     ensures keeps { OnOk result (KeepsReady M.note_of T.step T.stands_at stamp.beat
-        (Does (Take stamp letter.link letter.msg) ∷ [])
+        (event_of T.step (Take stamp letter.link letter.msg)
+        (record { state = node.old; life = life.old; journal = journal.old }) ∷ [])
         (scene node.old life.old journal.old mail.old.channels)
         (scene node.new life.new journal.new mail.new.channels)) }
     ensures links { OnOk result (mail.new.links ≡ mail.old.links) }
@@ -241,9 +243,11 @@ fn end_beat<M: Message, T: Node<M>>(
     requires ready { IsReadyFor T.stands_at stamp.beat []
         (scene node.old life.old journal.old mail.old.channels) }
     ensures ends { OnOk result ((scene node.new life.new journal.new mail.new.channels)
-        ≡ happen M.note_of T.step (end_events stamp life.old)
+        ≡ happen M.note_of T.step (end_events T.step stamp
+        (record { state = node.old; life = life.old; journal = journal.old }))
         (scene node.old life.old journal.old mail.old.channels)) }
-    ensures keeps { OnOk result (KeepsReady M.note_of T.step T.stands_at stamp.beat (end_events stamp life.old)
+    ensures keeps { OnOk result (KeepsReady M.note_of T.step T.stands_at stamp.beat (end_events T.step stamp
+        (record { state = node.old; life = life.old; journal = journal.old }))
         (scene node.old life.old journal.old mail.old.channels)
         (scene node.new life.new journal.new mail.new.channels)) }
     ensures links { OnOk result (mail.new.links ≡ mail.old.links) }
@@ -275,16 +279,19 @@ fn tick<M: Message, T: Node<M>>(
     requires ready { IsReadyFor T.stands_at stamp.beat []
         (scene node.old life.old journal.old mail.old.channels) }
     ensures event { OnOk result ((scene node.new life.new journal.new mail.new.channels)
-        ≡ happens M.note_of T.step (Does (Tick stamp))
+        ≡ happens M.note_of T.step (event_of T.step (Tick stamp)
+        (record { state = node.old; life = life.old; journal = journal.old }))
         (scene node.old life.old journal.old mail.old.channels)) }
-    ensures keeps { OnOk result (KeepsReady M.note_of T.step T.stands_at stamp.beat (Does (Tick stamp) ∷ [])
+    ensures keeps { OnOk result (KeepsReady M.note_of T.step T.stands_at stamp.beat (event_of T.step (Tick stamp)
+        (record { state = node.old; life = life.old; journal = journal.old }) ∷ [])
         (scene node.old life.old journal.old mail.old.channels)
         (scene node.new life.new journal.new mail.new.channels)) }
     ensures links { OnOk result (mail.new.links ≡ mail.old.links) }
     ensures outputs { OnOk result (outputs.new ≡ []) }
 {
-    // The tick of a node that rests would put nothing out and change nothing.
-    if node.rests(stamp) {
+    // The tick of a node that rests would put nothing out and change nothing, but a death that comes in it is
+    // written all the same.
+    if !life.ends_in(stamp.beat) && node.rests(stamp) {
         return Ok(());
     }
     node.tick(stamp, outputs)?;

@@ -1,9 +1,9 @@
 //! Which nodes are idle in a beat.
-ghost use Rattle.std.specs.Prelude.{◌≡◌, ◌≤◌, [], length, true};
+ghost use Rattle.std.specs.Prelude.{◌≡◌, ◌≤◌, [], length, true, false};
 ghost use Rattle.std.specs.Bool.{OnTrue};
 ghost use Rattle.tiger_base.specs.Limits.{most_beats};
 ghost use Rattle.node_kit.specs.Links.{in_links_of};
-ghost use Rattle.node_kit.specs.Life.{acts};
+ghost use Rattle.node_kit.specs.Life.{acts, ends_in};
 ghost use Rattle.node_kit.specs.Steps.{Rests};
 ghost use Rattle.ring_engine.specs.Idle.{AreIdle};
 ghost use Rattle.ring_engine.specs.Traffic.{collected, after_collecting};
@@ -44,8 +44,8 @@ pub fn next_busy<M: Message, T: Node<M>>(
     n
 }
 
-/// Whether a node's beat is idle: nothing arrives at it, and its tick would put nothing out and
-/// change nothing. It may say no if it is.
+/// Whether a node's beat is idle: nothing arrives at it, no death is to cut it off, and its tick would
+/// put nothing out and change nothing. It may say no if it is.
 fn is_idle<M: Message, T: Node<M>>(
     stamp: Stamp,
     number: NodeNo,
@@ -59,7 +59,11 @@ fn is_idle<M: Message, T: Node<M>>(
         (after_collecting stamp.beat (in_links_of mail.now.links number.0) mail.now.channels
         ≡ mail.now.channels) }
     ensures acts { OnTrue result (acts life.now stamp.beat ≡ true) }
+    ensures unended { OnTrue result (ends_in life.now stamp.beat ≡ false) }
     ensures rests { OnTrue result (Rests T.step stamp node.now) }
 {
-    mail.is_quiet(stamp.beat, number) && life.acts(stamp.beat) && node.rests(stamp)
+    mail.is_quiet(stamp.beat, number)
+        && life.acts(stamp.beat)
+        && !life.ends_in(stamp.beat)
+        && node.rests(stamp)
 }

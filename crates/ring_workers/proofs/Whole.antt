@@ -18,14 +18,15 @@ use Rattle.node_kit.specs.Rows.{each_below}
 use Rattle.node_kit.specs.Steps.{Input, Deed}
 use Rattle.node_kit.proofs.Ring.{ends_counted}
 use Rattle.node_kit.proofs.Rows.{get-each_below, links_into-lead, links_from-lead}
-use Rattle.run_facts.specs.Accounts.{OnLink, IsTimeline}
+use Rattle.run_facts.specs.Accounts.{AreWhole, HasCutIn, OnLink, IsTimeline}
 use Rattle.run_facts.specs.Beats.{opening_of, pass}
 use Rattle.run_facts.specs.Events.{NodeEvent, Past, after_all, AreFair, sends_along, takes_along}
 use Rattle.run_facts.specs.Rings.{Traffic, Ring}
-use Rattle.run_facts.proofs.Accounts.{carried-run, paced-run, timed-run}
-use Rattle.run_facts.proofs.Kept.{firsts, kept-run}
-use Rattle.run_facts.proofs.Progress.{Progress, next-none}
+use Rattle.run_facts.proofs.Kept.{firsts}
+use Rattle.run_facts.proofs.Progress.{next-none}
 use Rattle.run_facts.proofs.Rows.{same-element}
+use Rattle.run_lives.proofs.Kept.{carried-run, paced-run, timed-run, kept-run}
+use Rattle.run_lives.proofs.Progress.{Progress}
 use Rattle.ring_links.specs.Ends.{End, LineId}
 use Rattle.ring_links.specs.Flights.{IsOrdered, IsFront}
 use Rattle.ring_cells.specs.declared.cell.CellParts.{CellParts}
@@ -60,6 +61,7 @@ record NodeAt {M S : Type 0} (note : M → Note) (step : S → Input M → Deed 
   there : slice_get parts k ≡ Some part
   here : past_of part ≡ after_all note step events (opening_of c k first)
   fair : AreFair note step c.plan.params k events (opening_of c k first)
+  whole : AreWhole note step events (opening_of c k first)
   timeline : IsTimeline (stamp_in c k) c.plan.params k (lifetime_of c k) c.beats events
   each_in : AllByRecursion (IsInflow line (lifetime_of c k) c.beats events) part.ins.items
   each_out : AllByRecursion (IsOutflow line note step c k first c.beats events) part.outs.items
@@ -81,7 +83,7 @@ module _ {M S : Type 0} (note : M → Note) (step : S → Input M → Deed M S) 
       let h = all k p e in
       let same : h.first ≡ first k = same-element opened k h.first (first k) h.opens given in
       subst (λ f. NodeAt note step c line parts k f h.events) same
-      (record { part = p; there = e; here = h.here; fair = h.fair; timeline = h.timeline; each_in = h.each_in; each_out = h.each_out })
+      (record { part = p; there = e; here = h.here; fair = h.fair; whole = h.whole; timeline = h.timeline; each_in = h.each_in; each_out = h.each_out })
 
   node-at : (first : ℕ → S) (k : ℕ) → k < length parts → slice_get opened k ≡ Some (first k) → NodeAt note step c line parts k (first k) (events_of k)
   node-at first k low given = node-in first k (slice_get parts k) refl low given
@@ -134,9 +136,9 @@ module _ {M S : Type 0} (note : M → Note) (step : S → Input M → Deed M S) 
     abbrev traffic : ℕ → Traffic M
     traffic l = traffic_at l (cases_lt l (link_count (links_of c.plan.params)))
 
-    account-at : (first : ℕ → S) (l from to : ℕ) (d : (l < link_count (links_of c.plan.params)) ⊎ (link_count (links_of c.plan.params) ≤ l)) → from < length parts → to < length parts
-        → ((k : ℕ) → k < length parts → slice_get opened k ≡ Some (first k)) → ends_of (links_of c.plan.params) l ≡ Some (from, to)
-        → OnLink (lifetime_of c to) c.plan.params.delay (new_clock l c.delay c.plan.params.delay) (sends_along note step l (events_of from) (opening_of c from (first from)))
+    account-at : (first : ℕ → S) (l from to : ℕ) (d : (l < link_count (links_of c.plan.params)) ⊎ (link_count (links_of c.plan.params) ≤ l)) → from < length parts
+        → to < length parts → ((k : ℕ) → k < length parts → slice_get opened k ≡ Some (first k)) → ends_of (links_of c.plan.params) l ≡ Some (from, to)
+        → OnLink (lifetime_of c to) (HasCutIn l (events_of to)) c.plan.params.delay (new_clock l c.delay c.plan.params.delay) (sends_along note step l (events_of from) (opening_of c from (first from)))
         (takes_along l (events_of to)) (traffic_at l d).clock (map pass (traffic_at l d).flights) c.beats × ((traffic_at l d).clock.last_send ≤ c.beats)
     account-at first l from to (inr high) low_from low_to given ends = let low = ends_counted (links_of c.plan.params) l (from, to) ends in absurd (omega (arith, low, high))
     account-at first l from to (inl low) low_from low_to given ends =
@@ -177,6 +179,7 @@ module _ {M S : Type 0} (note : M → Note) (step : S → Input M → Deed M S) 
             journal = get-map (λ (p : CellParts M S). p.journal) parts k n.part n.there ∙ ap (λ (q : Past S). Some q.journal) n.here;
           };
       fair = λ k low. (node-at first k low (given k low)).fair;
+      whole = λ k low. (node-at first k low (given k low)).whole;
       timeline = λ k low.
           subst (λ q. IsTimeline (stamp_in c k) c.plan.params k (lifetime_of c k) q (events_of k)) (sym (next-none c.beats k)) (node-at first k low (given k low)).timeline;
       links = λ l from to low_from low_to ends.
@@ -185,7 +188,7 @@ module _ {M S : Type 0} (note : M → Note) (step : S → Input M → Deed M S) 
             traffic = traffic_at l d;
             here = get-each_below traffic (link_count (links_of c.plan.params)) l (ends_counted (links_of c.plan.params) l (from, to) ends);
             calm = on.1;
-            account = subst (λ q. OnLink (lifetime_of c to) c.plan.params.delay (new_clock l c.delay c.plan.params.delay)
+            account = subst (λ q. OnLink (lifetime_of c to) (HasCutIn l (events_of to)) c.plan.params.delay (new_clock l c.delay c.plan.params.delay)
                 (sends_along note step l (events_of from) (opening_of c from (first from))) (takes_along l (events_of to)) (traffic_at l d).clock (map pass (traffic_at l d).flights) q)
                 (sym (next-none c.beats to)) on.0;
           };
@@ -198,10 +201,10 @@ module _ {M S : Type 0} (note : M → Note) (step : S → Input M → Deed M S) 
         let st : Progress note step c (length opened) opens.0 c.beats 0 ring =
         subst (λ k. Progress note step c k opens.0 c.beats 0 ring) long (progress opens.0 (λ k low. opens.1 k (let q : k < length opened = omega (arith, low, long) in q))) in
         record {
-          kept = kept-run note step c opened opens.0 ring course size opens.1 (length-map parts (λ (p : CellParts M S). p.node) ∙ long) st;
-          carried = carried-run note step c (length opened) opens.0 ring st;
-          paced = paced-run note step c (length opened) opens.0 ring st;
-          timed = timed-run note step c (length opened) opens.0 ring course st;
+          kept = kept-run note step c opened opens.0 ring course size st opens.1 (length-map parts (λ (p : CellParts M S). p.node) ∙ long);
+          carried = carried-run note step c opened opens.0 ring course size st;
+          paced = paced-run note step c opened opens.0 ring course size st;
+          timed = timed-run note step c opened opens.0 ring course size st;
         }
 
 -- in the words of the call

@@ -1,13 +1,18 @@
+use Rattle.std.proofs.Common.{rules, sym, ◌∙◌}
 use Rattle.std.proofs.lemmas.Bool.{OnTrue_at}
 use Rattle.std.proofs.lemmas.Result.{on_ok_weaker}
 use Rattle.ring_cells.proofs.Acting.{both-ok, rested, rested-keeps, ticked, set-event}
 use Rattle.ring_cells.proofs.beats.tick.Goals as goal
 
 pub returns-then-rests-clause-event : goal.returns-then-rests-clause-event
-returns-then-rests-clause-event g c = rested g.M.Message.note_of g.T.Node.step c.args.stamp _ (OnTrue_at c.if-rests.true c.rests.ensures)
+returns-then-rests-clause-event g c =
+    rested g.M.Message.note_of g.T.Node.step c.args.stamp _ (sym c.ends_in.ensures ∙ search rules)
+    (OnTrue_at c.if-rests.true c.rests.ensures)
 
 pub returns-then-rests-clause-keeps : goal.returns-then-rests-clause-keeps
-returns-then-rests-clause-keeps g c = rested-keeps g.M.Message.note_of g.T.Node.step g.T.Node.stands_at c.args.stamp _ (OnTrue_at c.if-rests.true c.rests.ensures)
+returns-then-rests-clause-keeps g c =
+    rested-keeps g.M.Message.note_of g.T.Node.step g.T.Node.stands_at c.args.stamp _ (sym c.ends_in.ensures ∙ search rules)
+    (OnTrue_at c.if-rests.true c.rests.ensures)
 
 pub returns-clause-event : goal.returns-clause-event
 returns-clause-event g c =

@@ -1,4 +1,4 @@
-use Rattle.std.proofs.Common.{◌≡◌, [], ◌∷◌, refl, arith}
+use Rattle.std.proofs.Common.{◌≡◌, [], ◌∷◌, refl, arith, inl}
 use Rattle.node_kit.specs.Life.{acts, hears}
 use Rattle.run_facts.specs.Beats.{pass}
 use Rattle.ring_cells.specs.Samples.{five}
@@ -11,7 +11,7 @@ returns-clause-waits c line_of = record {
   ordered = (omega arith, tt, tt);
   gone = [];
   split = refl;
-  got_is = refl;
+  got_is = inl refl;
   behind = tt;
   ahead = (omega arith, tt);
   far = omega arith;
@@ -24,7 +24,7 @@ returns-clause-taken c line_of = record {
   ordered = (omega arith, tt, tt);
   gone = pass five ∷ [];
   split = refl;
-  got_is = refl;
+  got_is = inl refl;
   behind = (omega arith, tt);
   ahead = tt;
   far = omega arith;
@@ -32,11 +32,11 @@ returns-clause-taken c line_of = record {
 
 pub returns-clause-lost : goal.returns-clause-lost
 returns-clause-lost c line_of h =
-    let e = taken-is _ h.gone h.split h.got_is in absurd (cc)
+    let e = taken-is _ h.gone _ h.split h.got_is in absurd (cc)
 
 pub returns-clause-late : goal.returns-clause-late
 returns-clause-late c line_of h =
-    let e : 2 ≡ 1 = same-beat _ _ (taken-is _ h.gone h.split h.got_is) in omega (arith, e)
+    let e : 2 ≡ 1 = same-beat _ _ (taken-is _ h.gone _ h.split h.got_is) in omega (arith, e)
 
 pub returns-clause-still_waits : goal.returns-clause-still_waits
 returns-clause-still_waits c line_of h = let low = h.ahead.0 in omega (arith, low)

@@ -1,3 +1,4 @@
+use Rattle.std.proofs.Common.{rules, sym, ◌∙◌}
 use Rattle.std.proofs.lemmas.Bool.{OnTrue_at}
 use Rattle.std.proofs.lemmas.Result.{on_ok_weaker}
 use Rattle.ring_engine.proofs.Happening.{both-ok, postable-event, rested, rested-keeps, ticked, ready-event}
@@ -9,10 +10,14 @@ deliver-requires-clause-links g c =
     postable-event _ _ _ _ _ _ _ _ _ _ _ _ r.params r.number _ c.in_ok-tick.ensures c.requires.outputs c.trim.ensures.outs r.ready.stands_here r.ready.count
 
 pub returns-then-rests-clause-event : goal.returns-then-rests-clause-event
-returns-then-rests-clause-event g c = rested g.M.Message.note_of g.T.Node.step c.args.stamp _ (OnTrue_at c.if-rests.true c.rests.ensures)
+returns-then-rests-clause-event g c =
+    rested g.M.Message.note_of g.T.Node.step c.args.stamp _ (sym c.ends_in.ensures ∙ search rules)
+    (OnTrue_at c.if-rests.true c.rests.ensures)
 
 pub returns-then-rests-clause-keeps : goal.returns-then-rests-clause-keeps
-returns-then-rests-clause-keeps g c = rested-keeps g.M.Message.note_of g.T.Node.step g.T.Node.stands_at c.args.stamp _ (OnTrue_at c.if-rests.true c.rests.ensures)
+returns-then-rests-clause-keeps g c =
+    rested-keeps g.M.Message.note_of g.T.Node.step g.T.Node.stands_at c.args.stamp _ (sym c.ends_in.ensures ∙ search rules)
+    (OnTrue_at c.if-rests.true c.rests.ensures)
 
 pub returns-clause-event : goal.returns-clause-event
 returns-clause-event g c =
