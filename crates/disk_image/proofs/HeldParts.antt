@@ -1,7 +1,7 @@
 -- What is read out of an image.
 use Rattle.std.proofs.Common.{◌≡◌, ◌≢◌, ℕ, true, false, not, ◌==◌, List, Option, Some, None, IfSome, IfNone, refl, ap, sym, ◌∙◌, arith}
 use Rattle.std.proofs.lemmas.Bool.Decides.{nat_tests}
-use Rattle.tiger_base.specs.Span.{LibraryPart, IsCut}
+use Rattle.tiger_base.specs.Span.{LibraryPart, HasSpan}
 use Rattle.tiger_base.specs.declared.part.Span.{Span}
 use Rattle.tiger_base.specs.declared.number.FileNo.{FileNo}
 use Rattle.stripe_layout.specs.Places.{place_of}
@@ -30,16 +30,15 @@ held_part-here m file block k p e on = rw e (grind (arith, nat_tests))
 abbrev part_of : List (List ℕ) → Span → LibraryPart
 part_of library span = record { library = library; span = span }
 
--- a part of the bytes of the piece is the one that is held, and there is such a part
-pub held_part-cut : (m : Image) (file : FileNo) (block k : ℕ) (p : Place)
-    (span : Span) (bytes : List ℕ) (r : Option LibraryPart)
+-- a part of the piece's span is the one that is held, and there is such a part
+pub held_part-cut : (m : Image) (file : FileNo) (block k : ℕ) (p : Place) (span : Span) (r : Option LibraryPart)
     → place_of m.catalogue file block ≡ Some p → piece_disk p.disk.0 k m.catalogue.disks ≡ m.disk
-    → span ≡ piece_span p.span m.pieces k → IsCut m.library span bytes
+    → span ≡ piece_span p.span m.pieces k → HasSpan m.library span
     → IfSome r (λ part. part ≡ record { library = m.library; span = span })
-    → IfNone r (¬ IsCut m.library span bytes)
+    → IfNone r (¬ HasSpan m.library span)
     → r ≡ held_part m file block k
-held_part-cut m file block k p span bytes None at on e cut some none = absurd (none cut)
-held_part-cut m file block k p span bytes (Some part) at on e cut some none =
+held_part-cut m file block k p span None at on e has some none = absurd (none has)
+held_part-cut m file block k p span (Some part) at on e has some none =
     ap (λ (q : LibraryPart). Some q) (some ∙ ap (λ (s : Span). part_of m.library s) e)
     ∙ sym (held_part-here m file block k p at on)
 

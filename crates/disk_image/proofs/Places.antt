@@ -2,8 +2,6 @@
 use Rattle.std.proofs.Common.{◌≡◌, ℕ, ◌+◌, ◌%◌, ◌<◌, ◌≤◌, List, length, map, Option, Some, None, slice_get, option_map, refl, ap, sym, subst, inl, inr, ◌∙◌, arith}
 use Rattle.std.proofs.lemmas.List.{length-map}
 use Rattle.std.proofs.lemmas.Option.{slice_get_cases, slice_get_past, slice_get-map}
-use Rattle.std.specs.Option.{option_copied, IsSome}
-use Rattle.std.specs.Borrow.{Bor}
 use Rattle.tiger_base.specs.declared.number.FileNo.{FileNo}
 use Rattle.stripe_layout.specs.Places.{place_of, block_count, place_in}
 use Rattle.stripe_layout.specs.declared.catalogue.FileInfo.{FileInfo}
@@ -76,7 +74,10 @@ file_there library c n block lengths h =
           absurd (omega arith)
     ]
 
--- what is copied out of a reference that is there
-pub IsSome-copied : {X : Type 0} (o : Option (Bor X)) (x : X) → option_copied o ≡ Some x → IsSome o
-IsSome-copied None x e = absurd (cc)
-IsSome-copied (Some r) x e = refl
+-- a block that has a place lies in a file of the library
+pub place_in_library : (library : List (List ℕ)) (c : Catalogue) (file : FileNo) (block : ℕ) (p : Place) → HasLengths library c
+    → place_of c file block ≡ Some p
+    → (bytes : List ℕ) × (slice_get library file.0 ≡ Some bytes) × IsFitting file bytes p
+place_in_library library c file block p lengths e =
+    let there = file_there library c file.0 block lengths (place_disk c file block p e).3 in
+    (there.0, there.1, place_fits library c file block p there.0 lengths e there.1)

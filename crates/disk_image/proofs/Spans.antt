@@ -1,9 +1,9 @@
 -- The bytes of pieces.
-use Rattle.std.proofs.Common.{◌≡◌, ◌≢◌, ℕ, ◌+◌, ◌-◌, ◌≤◌, inl, inr, refl, arith, List, length, take, drop, Some, slice_get, ap, sym, ◌∙◌, subst}
+use Rattle.std.proofs.Common.{◌≡◌, ◌≢◌, ℕ, ◌+◌, ◌-◌, ◌≤◌, inl, inr, refl, arith, List, length, Some, slice_get, ap, sym, ◌∙◌, subst}
 use Rattle.std.proofs.lemmas.Bool.{cases_lt}
 use Rattle.std.proofs.lemmas.Bool.Decides.{nat_tests}
 use Rattle.tiger_base.specs.declared.number.FileNo.{FileNo}
-use Rattle.tiger_base.specs.Span.{IsCut}
+use Rattle.tiger_base.specs.Span.{HasSpan}
 use Rattle.tiger_base.specs.declared.part.Span.{Span}
 use Rattle.mirror_pieces.specs.Pieces.{piece_of, piece_start, piece_end}
 use Rattle.mirror_pieces.proofs.Cuts.{IsCutUp-holds}
@@ -53,14 +53,8 @@ piece_span-fits file bytes p pieces k span last fits e =
     let Here : Span → Type 0 = λ s. IsInside file (length bytes) s in
     subst Here (sym e) (record { same = at.same ∙ fits.same; inside = omega (arith, at.inside, fits.inside) })
 
--- the bytes of a span in its file are cut out of the library
-pub IsCut-of : (library : List (List ℕ)) (file : FileNo) (bytes cut : List ℕ) (span : Span)
-    → slice_get library file.0 ≡ Some bytes → IsInside file (length bytes) span
-    → cut ≡ take span.len (drop span.from bytes) → IsCut library span cut
-IsCut-of library file bytes cut span there at e =
-    record {
-      file = bytes;
-      there = ap (λ (f : FileNo). slice_get library f.0) at.same ∙ there;
-      inside = at.inside;
-      cut = e;
-    }
+-- a span of a file of the library is one that the library has
+pub HasSpan-of : (library : List (List ℕ)) (file : FileNo) (bytes : List ℕ) (span : Span)
+    → slice_get library file.0 ≡ Some bytes → IsInside file (length bytes) span → HasSpan library span
+HasSpan-of library file bytes span there at =
+    record { file = bytes; there = ap (λ (f : FileNo). slice_get library f.0) at.same ∙ there; inside = at.inside }

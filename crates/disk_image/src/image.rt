@@ -3,7 +3,7 @@ ghost use Rattle.std.specs.Prelude.{◌≡◌, ◌≤◌, IfOk};
 ghost use Rattle.disk_image.specs.Image.{HasLengths, block_part, piece_part};
 ghost use Rattle.disk_image.specs.Parts.{held_part};
 
-use crate::span::{cut_out, piece_span};
+use crate::span::piece_span;
 use mirror_pieces::piece_disk;
 use std::alloc::Global;
 use std::marker::Model;
@@ -87,10 +87,9 @@ impl<'a> DiskImage<'a> {
         if piece_disk(place.disk, k, self.catalogue.disks) != self.disk {
             return None;
         }
-        // The library has each file of the catalogue.
-        let bytes = self.library.file(file).unwrap();
         let span = piece_span(place.span, self.pieces, k);
-        Part::of(self.library, span, cut_out(bytes, span))
+        // The library has each file of the catalogue, and each block lies in its file.
+        Part::cut(self.library, span)
     }
 }
 

@@ -1,5 +1,5 @@
 //! The bytes of a piece.
-ghost use Rattle.std.specs.Prelude.{◌≡◌, ◌+◌, ◌^◌, ◌<◌, ◌≤◌, length, take, drop};
+ghost use Rattle.std.specs.Prelude.{◌≡◌, ◌+◌, ◌^◌, ◌<◌, ◌≤◌};
 ghost use Rattle.disk_image.specs.Parts.{piece_span};
 
 use mirror_pieces::piece_range;
@@ -21,12 +21,4 @@ pub fn piece_span(block: Span, pieces: u32, k: u32) -> Span
         from: block.from + from,
         len: to - from,
     }
-}
-
-/// The bytes of a span, out of all the bytes of its file.
-pub fn cut_out(file: &[u8], span: Span) -> &[u8]
-    requires { span.from + span.len ≤ length file.now }
-    ensures { result.now ≡ take span.len (drop span.from file.now) }
-{
-    &file[span.from as usize..][..span.len as usize]
 }
