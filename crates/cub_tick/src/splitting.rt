@@ -36,12 +36,12 @@ pub fn split<'a>(
         return Ok(());
     }
     let limit = split_limit(&site.plan, stamp);
-    if store.view.is_split_from(limit) {
+    if store.view.is_split_between(limit, None) {
         return Ok(());
     }
     split_lines(site, stamp, store, out)?;
     // All that is due from the limit on is split, and the limit only rises: a beat looks again only after a new record.
-    store.view.set_split_from(limit);
+    store.view.set_split_between(limit, None);
     Ok(())
 }
 
@@ -73,7 +73,7 @@ fn split_lines<'a>(
         ++ flat_map (split_outs site.now.plan.params site.now.cub.0 stamp) store.old.view.lines) }
 {
     let limit = split_limit(&site.plan, stamp);
-    while let Some(line) = store.view.split_next(limit) {
+    while let Some(line) = store.view.split_next(limit, None) {
         split_line(site, store, line, out)?;
     }
     Ok(())

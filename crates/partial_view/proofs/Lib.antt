@@ -15,5 +15,6 @@ pub mod Removals
 pub mod Rounds
 pub mod Rows
 pub mod Soonest
+pub mod Splits
 pub mod Times
 pub mod Turns
