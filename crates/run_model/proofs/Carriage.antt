@@ -1,34 +1,83 @@
 -- What is left to compare along a link, one entry on.
-use Rattle.std.proofs.Common.{◌≡◌, ℕ, ◌+◌, ◌<◌, Bool, true, false, not, IsTrue, List, [], ◌∷◌, ◌++◌, length, drop, get_or, Option, Some, None, is_some, MatchOption, refl, sym, subst, ◌∙◌}
+use Rattle.std.proofs.Common.{◌≡◌, ℕ, ◌+◌, ◌<◌, Bool, true, false, not, IsTrue, List, [], ◌∷◌, ◌++◌, length, drop, filter, get_or, Option, Some, None, is_some, MatchOption, refl, sym, ap, subst, ◌∙◌}
 use Rattle.std.specs.Prelude.{◌↔◌}
 use Rattle.std.proofs.lemmas.Bool.{false≢true}
 use Rattle.std.proofs.lemmas.List.{at_drop_more}
+use Rattle.std.proofs.lemmas.List.Elements.{filter-append}
 use Rattle.tiger_base.specs.declared.message.Note.{Note}
 use Rattle.node_kit.specs.declared.journal.Entry.{Entry}
 use Rattle.run_facts.specs.Events.{Dated}
-use Rattle.run_facts.specs.Carried.{sent_by, sent_on, got_by, got_on, MayBeLost}
+use Rattle.run_facts.specs.Carried.{sent_on, got_on, MayBeLost, AreFrontOn, AreCarriedBy}
+use Rattle.run_model.specs.declared.carrying.Half.TheVariants.{All}
 use Rattle.run_model.specs.declared.carrying.Way.{Way}
 use Rattle.run_model.specs.declared.carrying.Arrival.{Arrival}
-use Rattle.run_model.specs.Ways.{CarriesOn, got_from, IsNext, IsInTime}
+use Rattle.run_model.specs.Ways.{life_by, is_of, halved, sent_in, got_in, CarriesOn, HalfCarries, BothCarry, WayCarries, got_from, IsNext, IsInTime}
+
+-- of what was sent or got, and then more, that of the beats that are compared
+halved_more : (way : Way) (whole here then : List (Dated Note)) → whole ≡ here ++ then
+    → halved way whole ≡ halved way here ++ halved way then
+halved_more way whole here then e =
+    ap (halved way) e ∙ filter-append (λ (d : Dated Note). is_of way.half d.beat) here then
 
 -- what was got from an entry on is what it says, and what was got behind it
 pub got_step : (way : Way) (i : ℕ) (xs : List Entry) (d : Entry) → i < length xs
-    → got_from way i xs ≡ got_by way.link.0 (get_or xs i d).stamp.beat (get_or xs i d).what ++ got_from way (i + 1) xs
+    → got_from way i xs ≡ got_in way (get_or xs i d) ++ got_from way (i + 1) xs
 unfolding got_on
-got_step way i xs d h = at_drop_more (got_on way.link.0) xs i d h
+got_step way i xs d h = halved_more way _ _ _ (at_drop_more (got_on way.link.0) xs i d h)
 
-pub sent_step : (l i : ℕ) (xs : List Entry) (d : Entry) → i < length xs
-    → sent_on l (drop i xs) ≡ sent_by l (get_or xs i d).stamp.beat (get_or xs i d).what ++ sent_on l (drop (i + 1) xs)
+pub sent_step : (way : Way) (i : ℕ) (xs : List Entry) (d : Entry) → i < length xs
+    → halved way (sent_on way.link.0 (drop i xs))
+    ≡ sent_in way (get_or xs i d) ++ halved way (sent_on way.link.0 (drop (i + 1) xs))
 unfolding sent_on
-sent_step l i xs d h = at_drop_more (sent_on l) xs i d h
+sent_step way i xs d h = halved_more way _ _ _ (at_drop_more (sent_on way.link.0) xs i d h)
 
-pub got_none : (l : ℕ) → got_on l [] ≡ []
+pub got_none : (way : Way) → halved way (got_on way.link.0 []) ≡ []
 unfolding got_on
-got_none l = refl
+got_none way = refl
 
-pub sent_none : (l : ℕ) → sent_on l [] ≡ []
+pub sent_none : (way : Way) → halved way (sent_on way.link.0 []) ≡ []
 unfolding sent_on
-sent_none l = refl
+sent_none way = refl
+
+-- all are of the beats that are compared, if all beats are
+all_kept : (ds : List (Dated Note)) → ds ≡ filter (λ d. true) ds
+all_kept [] = refl
+all_kept (d ∷ ds) = ap (λ rest. d ∷ rest) (all_kept ds)
+
+-- a way whose receiver does not return carries as that of all beats does
+by-back : (way : Way) (back : Option ℕ) (sent got : List (Dated Note)) → back ≡ None
+    → AreFrontOn way.most way.beats (life_by way) (filter (λ d. true) sent) (filter (λ d. true) got)
+    ↔ AreCarriedBy way.most way.beats (life_by way) back sent got
+by-back way None sent got e = (
+  (λ h.
+      subst (λ (xs : List (Dated Note)). AreFrontOn way.most way.beats (life_by way) xs got) (sym (all_kept sent))
+      (subst (λ (xs : List (Dated Note)). AreFrontOn way.most way.beats (life_by way) (filter (λ d. true) sent) xs)
+      (sym (all_kept got)) h)),
+  (λ g.
+      subst (λ (xs : List (Dated Note)). AreFrontOn way.most way.beats (life_by way) (filter (λ d. true) sent) xs)
+      (all_kept got)
+      (subst (λ (xs : List (Dated Note)). AreFrontOn way.most way.beats (life_by way) xs got) (all_kept sent) g)),
+)
+by-back way (Some back) sent got e = absurd (cc)
+
+pub none_back : (way : Way) (sender receiver : List Entry) → way.back ≡ None
+    → HalfCarries (record way { half = All }) sender receiver ↔ WayCarries way sender receiver
+none_back way sender receiver e = by-back way way.back (sent_on way.link.0 sender) (got_on way.link.0 receiver) e
+
+-- and one whose receiver returns as both halves do
+by-return : (way : Way) (o : Option ℕ) (back : ℕ) (sender receiver : List Entry) → o ≡ Some back
+    → BothCarry way back sender receiver
+    ↔ AreCarriedBy way.most way.beats (life_by way) o (sent_on way.link.0 sender) (got_on way.link.0 receiver)
+by-return way None back sender receiver e = absurd (cc)
+by-return way (Some x) back sender receiver e =
+    let same : x ≡ back = cc in
+    subst (λ (y : ℕ). BothCarry way back sender receiver
+    ↔ AreCarriedBy way.most way.beats (life_by way) (Some y) (sent_on way.link.0 sender) (got_on way.link.0 receiver)) (sym same)
+    ((λ h. h), (λ g. g))
+
+pub some_back : (way : Way) (back : ℕ) (sender receiver : List Entry) → way.back ≡ Some back
+    → BothCarry way back sender receiver ↔ WayCarries way sender receiver
+some_back way back sender receiver e = by-return way way.back back sender receiver e
 
 -- a note that was got in time leaves what is left
 pub on_in_time : (way : Way) (beat : ℕ) (note : Note) (a : Arrival) (ss gs : List (Dated Note)) → IsInTime way beat note a
@@ -40,11 +89,11 @@ pub not_in_time : (way : Way) (beat : ℕ) (note : Note) (a : Arrival) (ss gs : 
 not_in_time way beat note a ss gs h = λ g. h (g.0, g.1, g.2)
 
 -- one that was not got may be lost
-pub on_lost : (way : Way) (beat : ℕ) (note : Note) (ss : List (Dated Note)) → MayBeLost way.most way.beats (record { death = way.death }) beat
+pub on_lost : (way : Way) (beat : ℕ) (note : Note) (ss : List (Dated Note)) → MayBeLost way.most way.beats (life_by way) beat
     → CarriesOn way (record { beat = beat; item = note } ∷ ss) [] ↔ CarriesOn way ss []
 on_lost way beat note ss h = ((λ g. g.1), (λ g. (h, g)))
 
-pub not_lost : (way : Way) (beat : ℕ) (note : Note) (ss : List (Dated Note)) → ¬ MayBeLost way.most way.beats (record { death = way.death }) beat
+pub not_lost : (way : Way) (beat : ℕ) (note : Note) (ss : List (Dated Note)) → ¬ MayBeLost way.most way.beats (life_by way) beat
     → ¬ CarriesOn way (record { beat = beat; item = note } ∷ ss) []
 not_lost way beat note ss h = λ g. h g.0
 

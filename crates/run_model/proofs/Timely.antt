@@ -1,6 +1,6 @@
 -- The tests of what is timed are true exactly of what is.
-use Rattle.std.proofs.Common.{◌≡◌, ℕ, zero, suc, ◌+◌, ◌%◌, ◌<◌, ◌≤◌, Bool, false, not, ◌&&◌, IsTrue, nat_lt, nat_le, List, [], ◌∷◌, ◌++◌, Option, Some, None, is_some, slice_get, refl, ap, subst, ⊎_elim, inl, inr, arith, add-zero}
-use Rattle.std.specs.Prelude.{◌==◌, ◌↔◌, ◌⊎◌}
+use Rattle.std.proofs.Common.{◌≡◌, ℕ, zero, suc, ◌+◌, ◌%◌, ◌<◌, ◌≤◌, Bool, true, false, not, ◌&&◌, IsTrue, nat_lt, nat_le, List, [], ◌∷◌, ◌++◌, Option, Some, None, is_some, slice_get, refl, ap, subst, ⊎_elim, inl, inr, arith, add-zero}
+use Rattle.std.specs.Prelude.{◌==◌, ◌↔◌, ◌⊎◌, if◌then◌else◌}
 use Rattle.std.specs.List.{list_all, AllByRecursion}
 use Rattle.std.proofs.lemmas.Bool.{false≢true}
 use Rattle.tiger_base.specs.declared.number.Stamp.{Stamp}
@@ -11,10 +11,11 @@ use Rattle.node_kit.specs.declared.course.Kept.{Kept}
 use Rattle.node_kit.specs.declared.journal.What.{What}
 use Rattle.node_kit.specs.declared.journal.What.TheVariants as what
 use Rattle.node_kit.specs.declared.journal.Entry.{Entry}
-use Rattle.node_kit.specs.Life.{death_of, lifetime_of}
-use Rattle.run_facts.specs.Timed.{IsRead, IsNotBelow, AreRising, is_died, death_within, EndsInDeath, IsDeathOf, IsTimed, AreTimed, DieApart}
+use Rattle.node_kit.specs.Life.{Lifetime, death_of, lifetime_of}
+use Rattle.run_facts.specs.Timed.{IsRead, IsNotBelow, AreRising, is_died, death_within, IsUntil, IsLater, EndsInDeath, IsDeathOf, IsTimed, AreTimed, DieApart}
 use Rattle.run_model.specs.Runs.{IsTimedRun}
-use Rattle.run_model.specs.Tests.{is_timed_run, each_from, all_below, is_read, rises_from, is_before_death, ends_in_death, dies_as, is_timed, timed_in, one_lives}
+use Rattle.run_model.specs.declared.timing.End.{End}
+use Rattle.run_model.specs.Tests.{is_timed_run, each_from, all_below, is_read, rises_from, is_empty, is_until, stands_later, is_later, ends_in_death, dies_as, is_timed, timed_in, one_lives}
 use Rattle.run_model.proofs.Reflects.{and_both, and_left, and_right, both, negated, equal, less, at_most, all, each_found, each_gives}
 
 reads : (p : Params) (e : Entry) → IsTrue (is_read p e) ↔ IsRead p e
@@ -79,59 +80,111 @@ rises es = (
 )
 
 -- deaths
-before_death : (death : ℕ) (e : Entry) → IsTrue (is_before_death death e) ↔ ((is_died e.what ≡ false) × (e.stamp.beat < death))
-before_death death e =
-    both (not (is_died e.what)) (nat_lt e.stamp.beat death) (is_died e.what ≡ false) (e.stamp.beat < death) (negated (is_died e.what)) (less e.stamp.beat death)
+untils : (left : Option ℕ) (death beat : ℕ) → IsTrue (is_until left death beat) ↔ IsUntil left death beat
+untils None death beat = less beat death
+untils (Some left) death beat = at_most beat death
+
+empties : (es : List Entry) → IsTrue (is_empty es) ↔ (es ≡ [])
+empties [] = ((λ h. refl), (λ e. refl))
+empties (e ∷ es) = ((λ h. absurd (false≢true h)), (λ e. absurd (cc)))
+
+laters : (back : Option ℕ) (es : List Entry) → IsTrue (is_later back es) ↔ IsLater back es
+laters None es = empties es
+laters (Some back) es =
+    all (λ e. (is_died e.what ≡ false) × (back ≤ e.stamp.beat)) (stands_later back)
+    (λ e. both (not (is_died e.what)) (nat_le back e.stamp.beat) (is_died e.what ≡ false) (back ≤ e.stamp.beat)
+    (negated (is_died e.what)) (at_most back e.stamp.beat)) es
 
 death_said : (w : What) → IsTrue (is_died w) ↔ (w ≡ what.Died)
 death_said what.Died = ((λ h. refl), (λ e. refl))
 death_said other = ((λ h. absurd (false≢true h)), (λ e. absurd (cc)))
 
-ends_found : (death : ℕ) (es : List Entry) → IsTrue (ends_in_death death es) → EndsInDeath death es
-ends_found death [] h = absurd (false≢true h)
-ends_found death (e ∷ []) h = record {
+-- the end that a life has by a death
+abbrev end_of : Lifetime → ℕ → End
+end_of life death = record { death = death; left = life.left; back = life.back }
+
+-- the first entry decides: it is the death, or it may stand before one
+abbrev HasEnd : Lifetime → ℕ → Bool → Entry → List Entry → Type 0
+HasEnd life death true e es = (e.stamp.beat ≡ death) × IsLater life.back es
+HasEnd life death false e es = IsUntil life.left death e.stamp.beat × EndsInDeath life death es
+
+end_first : (life : Lifetime) (death : ℕ) (e : Entry) (es : List Entry) (b : Bool) → is_died e.what ≡ b
+    → HasEnd life death b e es → EndsInDeath life death (e ∷ es)
+end_first life death e es true said h = record {
   before = [];
   last = e;
+  later = es;
   all = refl;
-  died = (death_said e.what).0 (and_left (is_died e.what) (e.stamp.beat == death) h);
-  in_beat = (equal e.stamp.beat death).0 (and_right (is_died e.what) (e.stamp.beat == death) h);
+  died = (death_said e.what).0 said;
+  in_beat = h.0;
   alone = tt;
+  back = h.1;
 }
-ends_found death (e ∷ f ∷ fs) h =
-    let rest = ends_found death (f ∷ fs) (and_right (is_before_death death e) (ends_in_death death (f ∷ fs)) h) in
+end_first life death e es false said h =
+    let rest = h.1 in
     record {
       before = e ∷ rest.before;
       last = rest.last;
+      later = rest.later;
       all = ap (λ ds. e ∷ ds) rest.all;
       died = rest.died;
       in_beat = rest.in_beat;
-      alone = ((before_death death e).0 (and_left (is_before_death death e) (ends_in_death death (f ∷ fs)) h), rest.alone);
+      alone = ((said, h.0), rest.alone);
+      back = rest.back;
     }
 
-ends_gives : (death : ℕ) (before : List Entry) (last : Entry) → last.what ≡ what.Died → last.stamp.beat ≡ death
-    → AllByRecursion (λ e. (is_died e.what ≡ false) × (e.stamp.beat < death)) before → IsTrue (ends_in_death death (before ++ last ∷ []))
-ends_gives death [] last died beat h =
-    and_both (is_died last.what) (last.stamp.beat == death) ((death_said last.what).1 died) ((equal last.stamp.beat death).1 beat)
-ends_gives death (e ∷ []) last died beat h =
-    and_both (is_before_death death e) (ends_in_death death (last ∷ [])) ((before_death death e).1 h.0) (ends_gives death [] last died beat tt)
-ends_gives death (e ∷ f ∷ fs) last died beat h =
-    and_both (is_before_death death e) (ends_in_death death (f ∷ fs ++ last ∷ [])) ((before_death death e).1 h.0) (ends_gives death (f ∷ fs) last died beat h.1)
+ends_found : (life : Lifetime) (death : ℕ) (es : List Entry) → IsTrue (ends_in_death (end_of life death) es)
+    → EndsInDeath life death es
+ends_found life death [] h = absurd (false≢true h)
+ends_found life death (e ∷ es) h = by (λ k. ends_found life death es k) (is_died e.what) refl h
+  where
+    by : (IsTrue (ends_in_death (end_of life death) es) → EndsInDeath life death es) → (b : Bool) → is_died e.what ≡ b
+        → IsTrue (if b then (e.stamp.beat == death) && is_later life.back es
+        else is_until life.left death e.stamp.beat && ends_in_death (end_of life death) es)
+        → EndsInDeath life death (e ∷ es)
+    by rest true said g =
+        let x = e.stamp.beat == death in
+        let y = is_later life.back es in
+        end_first life death e es true said
+        ((equal e.stamp.beat death).0 (and_left x y g), (laters life.back es).0 (and_right x y g))
+    by rest false said g =
+        let x = is_until life.left death e.stamp.beat in
+        let y = ends_in_death (end_of life death) es in
+        end_first life death e es false said
+        ((untils life.left death e.stamp.beat).0 (and_left x y g), rest (and_right x y g))
 
-dies : (death : Option ℕ) (es : List Entry) → IsTrue (dies_as death es) ↔ IsDeathOf death es
-dies None es = all (λ e. is_died e.what ≡ false) (λ e. not (is_died e.what)) (λ e. negated (is_died e.what)) es
-dies (Some death) es = (
-  (λ h. ends_found death es h),
-  (λ g. rw g.all (ends_gives death g.before g.last g.died g.in_beat g.alone)),
+ends_gives : (life : Lifetime) (death : ℕ) (before : List Entry) (last : Entry) (later : List Entry)
+    → last.what ≡ what.Died → last.stamp.beat ≡ death
+    → AllByRecursion (λ e. (is_died e.what ≡ false) × IsUntil life.left death e.stamp.beat) before
+    → IsLater life.back later → IsTrue (ends_in_death (end_of life death) (before ++ last ∷ later))
+ends_gives life death [] last later died beat h g =
+    rw ((death_said last.what).1 died)
+    (and_both (last.stamp.beat == death) (is_later life.back later) ((equal last.stamp.beat death).1 beat)
+    ((laters life.back later).1 g))
+ends_gives life death (e ∷ es) last later died beat h g =
+    let now = h.0 in
+    let said : is_died e.what ≡ false = now.0 in
+    rw said
+    (and_both (is_until life.left death e.stamp.beat) (ends_in_death (end_of life death) (es ++ last ∷ later))
+    ((untils life.left death e.stamp.beat).1 now.1) (ends_gives life death es last later died beat h.1 g))
+
+dies : (life : Lifetime) (death : Option ℕ) (es : List Entry) → IsTrue (dies_as life death es) ↔ IsDeathOf life death es
+dies life None es = all (λ e. is_died e.what ≡ false) (λ e. not (is_died e.what)) (λ e. negated (is_died e.what)) es
+dies life (Some death) es = (
+  (λ h. ends_found life death es h),
+  (λ g. rw g.all (ends_gives life death g.before g.last g.later g.died g.in_beat g.alone g.back)),
 )
 
 -- a journal is timed
-times : (p : Params) (beats : ℕ) (death : Option ℕ) (es : List Entry) → IsTrue (is_timed p beats death es) ↔ IsTimed p beats (record { death = death }) es
+times : (p : Params) (beats : ℕ) (life : Lifetime) (es : List Entry)
+    → IsTrue (is_timed p beats life es) ↔ IsTimed p beats life es
 unfolding is_timed
-times p beats death es =
+times p beats life es =
+    let death = death_within beats life.death in
     let a = list_all (is_read p) es in
     let b = rises_from (record { beat = 0; reading = 0 }) es in
     let c = list_all (λ (e : Entry). nat_lt e.stamp.beat beats) es in
-    let d = dies_as (death_within beats death) es in
+    let d = dies_as life death es in
     let early = all (λ (e : Entry). e.stamp.beat < beats) (λ e. nat_lt e.stamp.beat beats) (λ e. less e.stamp.beat beats) es in (
       (λ h.
           let bcd = and_right a (b && (c && d)) h in
@@ -140,11 +193,11 @@ times p beats death es =
             reads = (all (IsRead p) (is_read p) (reads p) es).0 (and_left a (b && (c && d)) h);
             rising = (rises es).0 (and_left b (c && d) bcd);
             early = early.0 (and_left c d cd);
-            death = (dies (death_within beats death) es).0 (and_right c d cd);
+            death = (dies life death es).0 (and_right c d cd);
           }),
       (λ g. and_both a (b && (c && d)) ((all (IsRead p) (is_read p) (reads p) es).1 g.reads)
           (and_both b (c && d) ((rises es).1 g.rising)
-          (and_both c d (early.1 g.early) ((dies (death_within beats death) es).1 g.death)))),
+          (and_both c d (early.1 g.early) ((dies life death es).1 g.death)))),
     )
 
 -- a test of each element and its number
@@ -173,11 +226,11 @@ all_times c journals = (
   (λ h. λ n journal e.
       let here = numbered_found (timed_in c) 0 journals h n journal e in
       let same : 0 + n ≡ n = omega arith in
-      (times c.plan.params c.beats (death_of c n) journal).0 (subst (λ (k : ℕ). IsTrue (timed_in c k journal)) same here)),
+      (times c.plan.params c.beats (lifetime_of c n) journal).0 (subst (λ (k : ℕ). IsTrue (timed_in c k journal)) same here)),
   (λ g. numbered_gives (timed_in c) 0 journals
       (λ n journal e.
       let same : n ≡ 0 + n = omega arith in
-      subst (λ (k : ℕ). IsTrue (timed_in c k journal)) same ((times c.plan.params c.beats (death_of c n) journal).1 (g n journal e)))),
+      subst (λ (k : ℕ). IsTrue (timed_in c k journal)) same ((times c.plan.params c.beats (lifetime_of c n) journal).1 (g n journal e)))),
 )
 
 none_or : (a b : Option ℕ) → IsTrue (not (is_some a && is_some b)) ↔ ((a ≡ None) ⊎ (b ≡ None))

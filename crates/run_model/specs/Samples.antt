@@ -1,5 +1,5 @@
 -- Short words for the entries of worked logs, on the ring of the plan of worked examples.
-use Rattle.std.specs.Prelude.{ℕ, ◌+◌, ◌*◌, Bool, List, [], ◌∷◌, Option, None}
+use Rattle.std.specs.Prelude.{ℕ, ◌+◌, ◌*◌, Bool, List, [], ◌∷◌, Option, Some, None}
 use Rattle.tiger_base.specs.declared.message.Note.{Note}
 use Rattle.tiger_base.specs.declared.message.Note.TheVariants as note
 use Rattle.tiger_base.specs.declared.part.Span.{Span}
@@ -191,15 +191,25 @@ IsExcusedBy visit log = IsExcused small (all log) 0 visit
 abbrev pub dying : Option ℕ → Option ℕ → Option ℕ → List (Option ℕ)
 dying a b z = a ∷ b ∷ None ∷ None ∷ None ∷ None ∷ None ∷ z ∷ []
 
--- what is kept of a run of so many beats, with these deaths and orders, in which all clocks show the true time; the rest
--- is that of some other run
-abbrev pub kept : Kept → IsPlan small → ℕ → List (Option ℕ) → List Order → List Noted → Kept
-kept other plan beats deaths orders log = record {
+-- of no cub, or of cub 7 alone
+abbrev pub of_none : List (Option ℕ)
+of_none = dying None None None
+
+abbrev pub of_last : ℕ → List (Option ℕ)
+of_last n = dying None None (Some n)
+
+-- what is kept of a run of so many beats, with these deaths, which cut off and are followed by a return so, and with
+-- these orders, in which all clocks show the true time; the rest is that of some other run
+abbrev pub kept_of_lives : Kept → IsPlan small → ℕ → List (Option ℕ) → List (Option ℕ) → List (Option ℕ) → List Order
+    → List Noted → Kept
+kept_of_lives other plan beats deaths cuts backs orders log = record {
   course = record {
     plan = record { params = small; sound = plan };
     beats = beats;
     offsets = 0 ∷ 0 ∷ 0 ∷ 0 ∷ 0 ∷ 0 ∷ 0 ∷ 0 ∷ 0 ∷ [];
     deaths = deaths;
+    cuts = cuts;
+    backs = backs;
     faults = other.course.faults;
     delay = other.course.delay;
   };
@@ -208,3 +218,7 @@ kept other plan beats deaths orders log = record {
   journals = all log;
   digests = other.digests;
 }
+
+-- and with whole lives
+abbrev pub kept : Kept → IsPlan small → ℕ → List (Option ℕ) → List Order → List Noted → Kept
+kept other plan beats deaths orders log = kept_of_lives other plan beats deaths of_none of_none orders log

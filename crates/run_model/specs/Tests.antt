@@ -1,5 +1,5 @@
 -- The tests that the programs compute, each for a definition.
-use Rattle.std.specs.Prelude.{ℕ, zero, suc, ◌+◌, ◌-◌, ◌%◌, Bool, true, false, not, ◌&&◌, ◌||◌, ◌==◌, nat_lt, nat_le, List, [], ◌∷◌, Option, Some, None, is_some}
+use Rattle.std.specs.Prelude.{ℕ, zero, suc, ◌+◌, ◌-◌, ◌%◌, Bool, true, false, not, ◌&&◌, ◌||◌, ◌==◌, nat_lt, nat_le, List, [], ◌∷◌, Option, Some, None, is_some, if◌then◌else◌}
 use Rattle.std.specs.List.{list_any, list_all, flat_map}
 use Rattle.tiger_base.specs.declared.number.Stamp.{Stamp}
 use Rattle.tiger_base.specs.declared.number.LinkNo.{LinkNo}
@@ -21,9 +21,10 @@ use Rattle.run_facts.specs.Commanded.{is_gone_of}
 use Rattle.run_facts.specs.Timed.{is_died, death_within}
 use Rattle.node_kit.specs.declared.course.Course.{Course}
 use Rattle.node_kit.specs.declared.course.Kept.{Kept}
-use Rattle.node_kit.specs.Life.{death_of}
+use Rattle.node_kit.specs.Life.{Lifetime, death_of, lifetime_of}
 use Rattle.node_kit.specs.Links.{Links, ends_of, leads_to, leads_from}
 use Rattle.run_model.specs.declared.parcels.Parcel.{Parcel}
+use Rattle.run_model.specs.declared.timing.End.{End}
 use Rattle.run_model.specs.declared.parcels.Form.{Form}
 use Rattle.run_model.specs.declared.parcels.Form.TheVariants.{Whole, Piece, AnyPiece}
 use Rattle.run_model.specs.Served.{journal_at, whole_in, piece_in, wholes_got, pieces_got, pieces_numbered, want_of_visit}
@@ -191,28 +192,41 @@ abbrev pub rises_from : Stamp → List Entry → Bool
 rises_from stamp [] = true
 rises_from stamp (e ∷ es) = nat_le stamp.beat e.stamp.beat && nat_le stamp.reading e.stamp.reading && rises_from e.stamp es
 
--- whether no death stands in a journal, and whether one stands in a beat, once and last
+-- whether no death stands in a journal
 abbrev pub never_dies : List Entry → Bool
 never_dies journal = list_all (λ e. not (is_died e.what)) journal
 
-abbrev pub is_before_death : ℕ → Entry → Bool
-is_before_death death e = not (is_died e.what) && nat_lt e.stamp.beat death
+-- whether an entry before a death may be of a beat
+abbrev pub is_until : Option ℕ → ℕ → ℕ → Bool
+is_until None death beat = nat_lt beat death
+is_until (Some left) death beat = nat_le beat death
 
-abbrev pub ends_in_death : ℕ → List Entry → Bool
-ends_in_death death [] = false
-ends_in_death death (e ∷ []) = is_died e.what && (e.stamp.beat == death)
-ends_in_death death (e ∷ f ∷ fs) = is_before_death death e && ends_in_death death (f ∷ fs)
+-- whether an entry may stand behind a death, and whether all of these may
+abbrev pub stands_later : ℕ → Entry → Bool
+stands_later back e = not (is_died e.what) && nat_le back e.stamp.beat
 
-abbrev pub dies_as : Option ℕ → List Entry → Bool
-dies_as None journal = never_dies journal
-dies_as (Some death) journal = ends_in_death death journal
+abbrev pub is_later : Option ℕ → List Entry → Bool
+is_later None journal = is_empty journal
+is_later (Some back) journal = list_all (stands_later back) journal
+
+-- whether the first death is in its beat, and what stands before it and behind it may stand there
+abbrev pub ends_in_death : End → List Entry → Bool
+ends_in_death end [] = false
+ends_in_death end (e ∷ es) =
+    if is_died e.what then (e.stamp.beat == end.death) && is_later end.back es
+    else is_until end.left end.death e.stamp.beat && ends_in_death end es
+
+abbrev pub dies_as : Lifetime → Option ℕ → List Entry → Bool
+dies_as life None journal = never_dies journal
+dies_as life (Some death) journal =
+    ends_in_death (record { death = death; left = life.left; back = life.back }) journal
 
 -- whether a journal is timed
-unfoldable pub is_timed : Params → ℕ → Option ℕ → List Entry → Bool
-is_timed p beats death journal =
+unfoldable pub is_timed : Params → ℕ → Lifetime → List Entry → Bool
+is_timed p beats life journal =
     list_all (is_read p) journal
     && (rises_from (record { beat = 0; reading = 0 }) journal
-    && (list_all (λ e. nat_lt e.stamp.beat beats) journal && dies_as (death_within beats death) journal))
+    && (list_all (λ e. nat_lt e.stamp.beat beats) journal && dies_as life (death_within beats life.death) journal))
 
 -- whether an entry stands at the right end of its link
 abbrev pub at_its_end : Links → ℕ → What → Bool
@@ -226,7 +240,7 @@ at_ends t n journal = list_all (λ e. at_its_end t n e.what) journal
 
 -- whether the journal of a node of a course is timed
 abbrev pub timed_in : Course → ℕ → List Entry → Bool
-timed_in c n journal = is_timed c.plan.params c.beats (death_of c n) journal
+timed_in c n journal = is_timed c.plan.params c.beats (lifetime_of c n) journal
 
 -- whether a cub or the next one lives on
 abbrev pub one_lives : Course → ℕ → Bool

@@ -1,16 +1,16 @@
 //! Whether all entries were written at their times.
 ghost use Rattle.std.specs.Prelude.{◌≡◌, ◌↔◌, ◌<◌, IsTrue, nat_lt};
 ghost use Rattle.std.specs.List.{list_all};
-ghost use Rattle.node_kit.specs.Life.{death_of};
+ghost use Rattle.node_kit.specs.Life.{of_cub, death_of, cut_of, back_of, lifetime_of};
 ghost use Rattle.run_facts.specs.Timed.{death_within};
 ghost use Rattle.run_model.specs.Runs.{IsTimedRun};
-ghost use Rattle.run_model.specs.Tests.{is_timed_run, each_from, all_below, timed_in, one_lives, is_read, rises_from, never_dies, dies_as, ends_in_death};
+ghost use Rattle.run_model.specs.Tests.{is_timed_run, each_from, all_below, timed_in, one_lives, is_read, rises_from, never_dies, dies_as, is_until, stands_later, is_later, ends_in_death};
 
 use crate::missing::is_died;
 use crate::times::time_of;
 use node_kit::{Course, Entry, Kept};
 use slot_plan::Plan;
-use tiger_base::{Beat, Stamp};
+use tiger_base::{Beat, Sequence, Stamp};
 
 /// Whether each entry was written in a beat of the run and at a reading within the skew, no reading and
 /// no beat falls along a journal, each death is that of the course, and no two cubs side by side die. It
@@ -47,7 +47,7 @@ fn is_timed(course: &Course, n: u64, journal: &[Entry]) -> bool
     all_read(&course.plan, journal)
         && rises(journal)
         && all_early(course.beats, journal)
-        && dies_as(death_within(course.beats, death_of(course, n)), journal)
+        && dies_as(course, n, journal)
 }
 
 fn all_read(plan: &Plan, journal: &[Entry]) -> bool
@@ -92,11 +92,32 @@ fn all_early(beats: u64, journal: &[Entry]) -> bool
 pub fn death_of(course: &Course, n: u64) -> Option<Beat>
     ensures { result ≡ death_of course.now n }
 {
+    of_cub(course, &course.deaths, n)
+}
+
+/// How many messages a node may still send in the beat of its death, if its death cuts it off there.
+pub fn cut_of(course: &Course, n: u64) -> Option<u64>
+    ensures { result ≡ cut_of course.now n }
+{
+    of_cub(course, &course.cuts, n)
+}
+
+/// The beat in which a node returns, if it is a cub that does.
+pub fn back_of(course: &Course, n: u64) -> Option<Beat>
+    ensures { result ≡ back_of course.now n }
+{
+    of_cub(course, &course.backs, n)
+}
+
+/// What a course has for a node in a row with one element for each cub.
+fn of_cub(course: &Course, row: &Sequence<Option<u64>>, n: u64) -> Option<u64>
+    ensures { result ≡ of_cub course.now row.now n }
+{
     if course.plan.params.cubs <= n {
         return None;
     }
-    match course.deaths.get(n as usize) {
-        Some(death) => *death,
+    match row.get(n as usize) {
+        Some(value) => *value,
         None => None,
     }
 }
@@ -111,12 +132,28 @@ fn death_within(beats: u64, death: Option<Beat>) -> Option<Beat>
     }
 }
 
-/// Whether a death stands in a journal exactly where there is one.
-fn dies_as(death: Option<Beat>, journal: &[Entry]) -> bool
-    ensures { result ≡ dies_as death journal.now }
+/// What is asked of a journal with a death: the beat of the death; whether it cuts the node off; and the beat of
+/// the return.
+#[derive(Clone, Copy)]
+struct End {
+    death: Beat,
+    left: Option<u64>,
+    back: Option<Beat>,
+}
+
+/// Whether a death stands in a node's journal exactly if it has one.
+fn dies_as(course: &Course, n: u64, journal: &[Entry]) -> bool
+    ensures { result ≡ dies_as (lifetime_of course.now n) (death_within course.now.beats (death_of course.now n)) journal.now }
 {
-    match death {
-        Some(beat) => ends_in_death(beat, journal),
+    match death_within(course.beats, death_of(course, n)) {
+        Some(death) => {
+            let end = End {
+                death,
+                left: cut_of(course, n),
+                back: back_of(course, n),
+            };
+            ends_in_death(&end, journal)
+        }
         None => never_dies(journal),
     }
 }
@@ -127,20 +164,55 @@ fn never_dies(journal: &[Entry]) -> bool
     journal.iter().all(|e| !is_died(&e.what))
 }
 
-/// Whether a death stands in a beat of a journal, once and last.
-fn ends_in_death(death: Beat, journal: &[Entry]) -> bool
-    ensures { result ≡ ends_in_death death journal.now }
+/// Whether a death stands in its beat of a journal, once, and what stands before it and behind it may stand
+/// there.
+fn ends_in_death(end: &End, journal: &[Entry]) -> bool
+    ensures { result ≡ ends_in_death end.now journal.now }
 {
     for i in 0..journal.len() {
         let e = &journal[i];
-        if i + 1 == journal.len() {
-            return is_died(&e.what) && e.stamp.beat == death;
+        if is_died(&e.what) {
+            return e.stamp.beat == end.death && is_later(end.back, &journal[i + 1..]);
         }
-        if is_died(&e.what) || death <= e.stamp.beat {
+        if !is_until(end, e.stamp.beat) {
             return false;
         }
     }
     false
+}
+
+/// Whether an entry of a beat may stand before the death: it is of a lower beat, or of that beat if the death
+/// cuts the node off.
+fn is_until(end: &End, beat: Beat) -> bool
+    ensures { result ≡ is_until end.now.left end.now.death beat }
+{
+    match end.left {
+        Some(_) => beat <= end.death,
+        None => beat < end.death,
+    }
+}
+
+fn all_later(back: Beat, journal: &[Entry]) -> bool
+    ensures { result ≡ list_all (stands_later back) journal.now }
+{
+    journal.iter().all(|e| stands_later(back, e))
+}
+
+/// Whether an entry may stand behind a death: it is of a beat from that of the return on, and is no death.
+fn stands_later(back: Beat, e: &Entry) -> bool
+    ensures { result ≡ stands_later back e.now }
+{
+    !is_died(&e.what) && back <= e.stamp.beat
+}
+
+/// Whether entries may stand behind a death: there is none, or all are from the return on and none is a death.
+fn is_later(back: Option<Beat>, journal: &[Entry]) -> bool
+    ensures { result ≡ is_later back journal.now }
+{
+    match back {
+        Some(back) => all_later(back, journal),
+        None => journal.is_empty(),
+    }
 }
 
 /// Whether of two cubs that stand side by side at most one has a death.

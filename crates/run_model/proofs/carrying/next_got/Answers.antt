@@ -1,7 +1,7 @@
 use Rattle.std.proofs.Common.{◌∙◌, ◌+◌, ◌++◌, ap, arith}
 use Rattle.std.proofs.lemmas.List.{at_drop_all}
 use Rattle.run_facts.specs.Carried.{got_on}
-use Rattle.run_model.specs.Ways.{got_from}
+use Rattle.run_model.specs.Ways.{halved, got_from}
 use Rattle.run_model.proofs.Carriage.{got_step, got_none}
 use Rattle.run_model.proofs.carrying.next_got.Goals as goal
 
@@ -20,5 +20,7 @@ loop-i-preserved c =
 
 pub returns : goal.returns
 returns c =
-    c.loop-i.invariant ∙ at_drop_all (got_on c.args.way.now.link.0) c.args.receiver.now c.loop-i.i c.loop-i-test.false
-    ∙ got_none c.args.way.now.link.0
+    let way = c.args.way.now in
+    c.loop-i.invariant
+    ∙ at_drop_all (λ es. halved way (got_on way.link.0 es)) c.args.receiver.now c.loop-i.i c.loop-i-test.false
+    ∙ got_none way
