@@ -11,11 +11,10 @@ use Rattle.slot_plan.specs.declared.params.Params.{Params}
 use Rattle.slot_plan.specs.Conditions.{IsPlan}
 use Rattle.node_kit.specs.declared.course.Order.{Order}
 use Rattle.node_kit.specs.declared.journal.Entry.{Entry}
-use Rattle.node_kit.specs.Life.{trimmed}
 use Rattle.node_kit.specs.Form.{is_tenancy}
 use Rattle.node_kit.specs.Steps.Input.{Take, Tick}
 use Rattle.run_facts.specs.Events.{NodeEvent, Past, after, after_input, kept_outs, is_tick, is_death, stamp_at}
-use Rattle.run_facts.specs.Events.NodeEvent.{Does, Dies}
+use Rattle.run_facts.specs.Events.NodeEvent.{Does, Ends, Dies, Returns}
 use Rattle.run_facts.specs.Histories.{History, past, last_of, ticks}
 use Rattle.run_facts.specs.Commanded.{IsCommanded, starts_sent, starts_ordered, gone_in, gone_before}
 use Rattle.controller_core.specs.declared.known.Known.{Known}
@@ -61,14 +60,14 @@ record IsAt (p : Params) (os : List Order) (known : Known) (journal : List Entry
 after_take : (p : Params) (os : List Order) (known : Known) (now : Past ControllerState) (stamp : Stamp) (link : LinkNo) (m : Msg)
     → now.state ≡ knowing p os known
     → IsAt p os (taking p m known) (now.journal ++ got stamp link m ∷ []) (after noted controller_step (Does (Take stamp link m)) now)
-unfolding after_input kept_outs trimmed
+unfolding after_input kept_outs
 after_take p os known now stamp link m e =
     record { here = ap (λ (s : ControllerState). (controller_step s (Take stamp link m)).state) e; wrote = refl }
 
 after_tick : (p : Params) (os : List Order) (known : Known) (now : Past ControllerState) (stamp : Stamp) → now.state ≡ knowing p os known
     → IsAt p os (commanding p os stamp known).state (now.journal ++ entries stamp (commanding p os stamp known).outs)
     (after noted controller_step (Does (Tick stamp)) now)
-unfolding after_input kept_outs trimmed
+unfolding after_input kept_outs
 after_tick p os known now stamp e = record {
   here = ap (λ (s : ControllerState). (controller_step s (Tick stamp)).state) e;
   wrote = ap (λ (s : ControllerState). now.journal ++ entries stamp (controller_step s (Tick stamp)).outs) e;
@@ -135,13 +134,34 @@ reached_by_tick p os beats reading h n i stamp plan are run inside e r =
           (subst (λ j. Followed p os reading (stamp.beat + 1) d.state j) (sym (ap (λ (x : Past ControllerState). x.journal) step ∙ next.wrote)) followed);
     }
 
+-- where it is a return, nothing changes
+reached_by_return : (p : Params) (os : List Order) (reading : ℕ → ℕ) (h : History Msg ControllerState) (n i : ℕ)
+    (stamp : Stamp) → h.event n i ≡ Returns stamp → Reached p os reading h n i → Reached p os reading h n (suc i)
+reached_by_return p os reading h n i stamp e r =
+    let step : past noted controller_step h n (suc i) ≡ past noted controller_step h n i =
+    ap (λ (x : NodeEvent Msg). after noted controller_step x (past noted controller_step h n i)) e in
+    let same : ticks h n (suc i) ≡ ticks h n i =
+    ap (λ (x : NodeEvent Msg). cond (is_tick x) (suc (ticks h n i)) (ticks h n i)) e in
+    record {
+      known = r.known;
+      here = ap (λ (x : Past ControllerState). x.state) step ∙ r.here;
+      followed =
+          subst (λ t. Followed p os reading t r.known (past noted controller_step h n (suc i)).journal) (sym same)
+          (subst (λ j. Followed p os reading (ticks h n i) r.known j)
+          (sym (ap (λ (x : Past ControllerState). x.journal) step)) r.followed);
+    }
+
 by_event : (p : Params) (os : List Order) (beats : ℕ) (reading : ℕ → ℕ) (h : History Msg ControllerState) (n i : ℕ) (x : NodeEvent Msg)
     → IsPlan p → AreOrders p os → IsControllersRun beats reading h n → i < h.count n → h.event n i ≡ x
     → Reached p os reading h n i → Reached p os reading h n (suc i)
 by_event p os beats reading h n i (Does (Take stamp link m)) plan are run inside e r = reached_by_take p os beats reading h n i stamp link m run inside e r
 by_event p os beats reading h n i (Does (Tick stamp)) plan are run inside e r = reached_by_tick p os beats reading h n i stamp plan are run inside e r
+by_event p os beats reading h n i (Ends input sends) plan are run inside e r =
+    absurd (let dead = ap (λ (x : NodeEvent Msg). is_death x) e in let alive = run.lives i inside in cc)
 by_event p os beats reading h n i (Dies stamp) plan are run inside e r =
     absurd (let dead = ap (λ (x : NodeEvent Msg). is_death x) e in let alive = run.lives i inside in cc)
+by_event p os beats reading h n i (Returns stamp) plan are run inside e r =
+    reached_by_return p os reading h n i stamp e r
 
 reached : (p : Params) (os : List Order) (beats : ℕ) (reading : ℕ → ℕ) (h : History Msg ControllerState) (n i : ℕ)
     → IsPlan p → AreOrders p os → h.first n ≡ fresh_controller p os → IsControllersRun beats reading h n → i ≤ h.count n

@@ -1,5 +1,5 @@
 -- A controller among other nodes, in a type of its own for all of them, follows its orders too.
-use Rattle.std.proofs.Common.{◌≡◌, ℕ, zero, suc, ◌++◌, List, [], ◌∷◌, Bool, cond, refl, sym, ap, subst, ◌∙◌}
+use Rattle.std.proofs.Common.{◌≡◌, ℕ, zero, suc, ◌++◌, List, [], ◌∷◌, Bool, true, cond, refl, sym, ap, subst, ◌∙◌}
 use Rattle.tiger_base.specs.declared.number.Stamp.{Stamp}
 use Rattle.tiger_base.specs.declared.message.Msg.{Msg}
 use Rattle.tiger_base.specs.Notes.{noted}
@@ -8,11 +8,13 @@ use Rattle.slot_plan.specs.Conditions.{IsPlan}
 use Rattle.node_kit.specs.declared.course.Order.{Order}
 use Rattle.node_kit.specs.declared.journal.What.TheVariants as what
 use Rattle.node_kit.specs.declared.journal.Entry.{Entry}
-use Rattle.node_kit.specs.Life.{trimmed}
+use Rattle.node_kit.specs.declared.outbox.Out.{Out}
+use Rattle.node_kit.specs.Life.{Lifetime, spent}
+use Rattle.node_kit.specs.Outputs.{with_death, cut_at}
 use Rattle.node_kit.specs.Steps.{Deed, Input, stamp_of, entries_of}
 use Rattle.node_kit.specs.Deeds.{wrapped}
-use Rattle.run_facts.specs.Events.{NodeEvent, Past, after, after_input, kept_outs, is_tick, is_tick_input}
-use Rattle.run_facts.specs.Events.NodeEvent.{Does, Dies}
+use Rattle.run_facts.specs.Events.{NodeEvent, Past, after, after_input, after_cut, kept_outs, left_outs, is_tick}
+use Rattle.run_facts.specs.Events.NodeEvent.{Does, Ends, Dies, Returns}
 use Rattle.run_facts.specs.Histories.{History, past, last_of, count_of}
 use Rattle.run_facts.specs.Commanded.{IsCommanded}
 use Rattle.controller_core.specs.Orders.{AreOrders}
@@ -23,7 +25,8 @@ use Rattle.proof_controller.proofs.Follows.{controllers_follow}
 
 -- the same events of controllers that all begin in one state
 abbrev unwrapped : {S : Type 0} → ControllerState → History Msg S → History Msg ControllerState
-unwrapped first h = record { first = λ n. first; life = h.life; count = h.count; event = h.event }
+unwrapped first h =
+    record { first = λ n. first; life = h.life; count = h.count; event = h.event; before = h.before }
 
 same_count : {S : Type 0} (test : NodeEvent Msg → Bool) (s : ControllerState) (h : History Msg S) (n i : ℕ)
     → count_of test (unwrapped s h) n i ≡ count_of test h n i
@@ -52,25 +55,36 @@ after_wrapped : {S : Type 0} (step : S → Input Msg → Deed Msg S) (wrap : Con
     → ((s : ControllerState) (i : Input Msg) → step (wrap s) i ≡ wrapped wrap (controller_step s i))
     → (e : NodeEvent Msg) (outer : Past S) (inner : Past ControllerState) → IsWrapped wrap outer inner
     → IsWrapped wrap (after noted step e outer) (after noted controller_step e inner)
-unfolding after_input kept_outs
+unfolding after_input after_cut kept_outs left_outs
 after_wrapped {S} step wrap same (Does i) outer inner w =
     let d : step outer.state i ≡ wrapped wrap (controller_step inner.state i) = ap (λ s. step s i) w.state ∙ same inner.state i in
     let o = ap (λ (x : Deed Msg S). x.outs) d in
     record {
       state = ap (λ (x : Deed Msg S). x.state) d;
       life =
-          ap (λ l. (trimmed l (stamp_of i) (is_tick_input i) (step outer.state i).outs).life) w.life
-          ∙ ap (λ outs. (trimmed inner.life (stamp_of i) (is_tick_input i) outs).life) o;
+          ap (λ (l : Lifetime). spent l (stamp_of i) (step outer.state i).outs) w.life
+          ∙ ap (λ (outs : List (Out Msg)). spent inner.life (stamp_of i) outs) o;
       journal =
-          ap (λ j. j ++ entries_of noted i (trimmed outer.life (stamp_of i) (is_tick_input i) (step outer.state i).outs).outs) w.journal
-          ∙ (ap (λ l. inner.journal ++ entries_of noted i (trimmed l (stamp_of i) (is_tick_input i) (step outer.state i).outs).outs) w.life
-          ∙ ap (λ outs. inner.journal ++ entries_of noted i (trimmed inner.life (stamp_of i) (is_tick_input i) outs).outs) o);
+          ap (λ (j : List Entry). j ++ entries_of noted i (step outer.state i).outs) w.journal
+          ∙ ap (λ (outs : List (Out Msg)). inner.journal ++ entries_of noted i outs) o;
+    }
+after_wrapped {S} step wrap same (Ends i sends) outer inner w =
+    let d : step outer.state i ≡ wrapped wrap (controller_step inner.state i) = ap (λ s. step s i) w.state ∙ same inner.state i in
+    let o = ap (λ (x : Deed Msg S). x.outs) d in
+    record {
+      state = ap (λ (x : Deed Msg S). x.state) d;
+      life = ap (λ (l : Lifetime). record l { over = true }) w.life;
+      journal =
+          ap (λ (j : List Entry). j ++ entries_of noted i (with_death (cut_at sends (step outer.state i).outs)))
+          w.journal
+          ∙ ap (λ (outs : List (Out Msg)). inner.journal ++ entries_of noted i (with_death (cut_at sends outs))) o;
     }
 after_wrapped step wrap same (Dies stamp) outer inner w = record {
   state = w.state;
   life = w.life;
   journal = ap (λ j. j ++ died stamp ∷ []) w.journal;
 }
+after_wrapped step wrap same (Returns stamp) outer inner w = w
 
 past_wrapped : {S : Type 0} (step : S → Input Msg → Deed Msg S) (wrap : ControllerState → S)
     → ((s : ControllerState) (i : Input Msg) → step (wrap s) i ≡ wrapped wrap (controller_step s i))

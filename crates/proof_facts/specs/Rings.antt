@@ -11,7 +11,8 @@ use Rattle.node_kit.specs.declared.course.Order.{Order}
 use Rattle.node_kit.specs.Links.{links_of, viewers_of}
 use Rattle.node_kit.specs.Steps.{Deed, Input}
 use Rattle.run_facts.specs.Events.{is_death}
-use Rattle.run_facts.specs.Histories.{History, IsRun, outs, reading, ticks, living}
+use Rattle.run_facts.specs.Histories.{History, outs, reading, ticks, living}
+use Rattle.run_facts.specs.Plain.{IsPlainRun}
 use Rattle.disk_core.specs.State.{DiskState}
 use Rattle.disk_core.specs.Rules.{disk_step}
 use Rattle.controller_core.specs.Orders.{Starts}
@@ -68,7 +69,7 @@ pub record PutsOutByRules {S : Type 0} (step : S → Input Msg → Deed Msg S) (
 -- which no two neighbours die. Time is not too long.
 pub record IsRingHistory {S : Type 0} (step : S → Input Msg → Deed Msg S) (p : Params)
     (orders : List Order) (disk_at : ℕ → DiskState) (h : History Msg S) : Type 0 where
-  pub run : IsRun noted step p (node_count p) h
+  pub run : IsPlainRun noted step p (node_count p) h
   pub deaths : DieAlone p h
   pub rules : PutsOutByRules step p orders disk_at h
   pub counted : AreCounted p orders

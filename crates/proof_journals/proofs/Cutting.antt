@@ -98,7 +98,8 @@ module _ {S : Type 0} {step : S → Input Msg → Deed Msg S} {p : Params} {orde
       → (o : Out Msg) × (what_of noted o ≡ e.what) × IsAllowed noted p c o × IsOutputOf c front e o
   cub_output c small front e back at sent lives =
       let w = cut_in c front e back at in
-      let o = put_out step (h.event c w.at) (past noted step h c w.at) w.part e w.rest sent lives w.event_is in
+      let o = put_out step (h.event c w.at) (past noted step h c w.at) w.part e w.rest
+      (kept.ring.run.plain c w.at w.known w.done) sent lives w.event_is in
       let there : In o.output (outs noted step h c w.at) =
       moved o.output (sym o.outs_are) (in_right o.output o.earlier (o.output ∷ o.later) (inl refl)) in
       let before = alive_if_out kept c w.at o.output w.known w.done there in

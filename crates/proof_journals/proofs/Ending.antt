@@ -53,7 +53,7 @@ module _ {S : Type 0} {step : S → Input Msg → Deed Msg S} {p : Params} {orde
       let known : c < node_count p = omega arith in
       let k = count-numbered is_tick h c i b l in
       let kb = k.before in
-      let tick = tick_is (h.event c k.at) k.passes in
+      let tick = tick_is (h.event c k.at) (ring.run.plain c k.at known (omega arith)) k.passes in
       let when : beat h c k.at ≡ b = ring.run.in_beat c k.at known (omega arith) ∙ k.number in
       record {
         reading = (stamp_at (h.event c k.at)).reading;
@@ -107,8 +107,9 @@ module _ {S : Type 0} {step : S → Input Msg → Deed Msg S} {p : Params} {orde
       let tick : is_tick_input (inputs_of h c w.at) ≡ true = ap is_tick_input w.is in
       let b1 : beat h c w.at ≡ b = beat_same h c w.at ∙ ap (λ (q : Input Msg). (stamp_of q).beat) w.is in
       let a1 = d.in_beat in
-      let t1 = ticks_same h c ended w.at done in
-      let t2 = ticks_same h c ended d.at d.done in
+      let plain = λ (i : ℕ) (low : i < h.count c). ring.run.plain c i known low in
+      let t1 = ticks_same h c ended plain w.at done in
+      let t2 = ticks_same h c ended plain d.at d.done in
       let t3 = after_tick (inputs_of h c) w.at tick in
       let t4 = ticks_rise (inputs_of h c) (suc w.at) d.at before in
       omega arith

@@ -65,7 +65,8 @@ module _ {S : Type 0} {step : S → Input Msg → Deed Msg S} {p : Params} {orde
       → i < living h n
   alive_if_out n i o known low k = ⊎_elim
       (λ (t : is_death (h.event n i) ≡ true).
-      let none = subst (λ (e : NodeEvent Msg). In o (outs_of step e (past noted step h n i))) (death_is (h.event n i) t) k in
+      let none = subst (λ (e : NodeEvent Msg). In o (outs_of step e (past noted step h n i)))
+      (death_is (h.event n i) (kept.ring.run.plain n i known low) t) k in
       absurd none)
       (λ (f : is_death (h.event n i) ≡ false). is_before n i known low f)
       (cases_Bool (is_death (h.event n i)))
@@ -74,7 +75,7 @@ module _ {S : Type 0} {step : S → Input Msg → Deed Msg S} {p : Params} {orde
   pub life_of : (n : ℕ) → n < node_count p → IsLife p (h.count n) (inputs_of h n)
   life_of n known = record {
     in_beat = λ i low. sym (beat_same h n i) ∙ kept.ring.run.in_beat n i known low
-        ∙ ticks_same h n (λ k. kept.ring.run.ended n k known) i low;
+        ∙ ticks_same h n (λ k. kept.ring.run.ended n k known) (λ k. kept.ring.run.plain n k known) i low;
     reads = λ i low.
         let r = kept.ring.run.reads n i known low in
         let t = ap (λ (b : ℕ). time_of p b) (beat_same h n i) in
@@ -122,7 +123,8 @@ module _ {S : Type 0} {step : S → Input Msg → Deed Msg S} {p : Params} {orde
   own_entry n e w s own is =
       let x = written_in n e s in
       let i : ℕ = x.1.at in
-      let r = event_wrote step (h.event n i) (past noted step h n i) e w own x.1.there is in
+      let r = event_wrote step (h.event n i) (past noted step h n i) e w
+      (kept.ring.run.plain n i x.0 x.1.before) own x.1.there is in
       record {
         known = x.0;
         at = i;
@@ -136,10 +138,11 @@ module _ {S : Type 0} {step : S → Input Msg → Deed Msg S} {p : Params} {orde
       → StandsIn journals n (record { stamp = stamp_at (h.event n i); what = w })
   deed_logged n i w known low k =
       let e : Entry = record { stamp = stamp_at (h.event n i); what = w } in
+      let done = (is_alive n i known low).0 in
       record {
         journal = (last_of noted step h n).journal;
         at = kept.are.writes n known;
-        there = act_written step h n i w (is_alive n i known low).0 k;
+        there = act_written step h n i w done (kept.ring.run.plain n i known done) k;
       }
 
   -- ---- which node puts out what

@@ -12,8 +12,8 @@ use Rattle.node_kit.specs.declared.journal.Entry.{Entry}
 use Rattle.node_kit.specs.declared.outbox.Out.{Out}
 use Rattle.node_kit.specs.Steps.{Deed, Input, entry_of}
 use Rattle.node_kit.specs.Steps.Input.{Take, Tick}
-use Rattle.run_facts.specs.Events.{NodeEvent, Past, kept_outs, outs_of, stamp_at, entries_at}
-use Rattle.run_facts.specs.Events.NodeEvent.{Does, Dies}
+use Rattle.run_facts.specs.Events.{NodeEvent, Past, kept_outs, outs_of, stamp_at, entries_at, IsPlain}
+use Rattle.run_facts.specs.Events.NodeEvent.{Does, Ends, Dies, Returns}
 use Rattle.run_facts.specs.Histories.{History, past}
 use Rattle.run_facts.specs.Accounts.{Rising}
 use Rattle.run_facts.specs.Timed.{is_died}
@@ -89,15 +89,17 @@ put_out_behind step stamp link m before (g ∷ part) e rest sent is =
     }
 
 pub put_out : {S : Type 0} (step : S → Input Msg → Deed Msg S) (ev : NodeEvent Msg) (before : Past S) (part : List Entry) (e : Entry) (rest : List Entry)
-    → is_got e.what ≡ false → is_died e.what ≡ false → part ++ e ∷ rest ≡ entries_at noted step ev before → IsPutOut step ev before part e
-put_out step (Does (Take stamp link m)) before part e rest sent lives is = put_out_behind step stamp link m before part e rest sent is
-put_out step (Does (Tick stamp)) before part e rest sent lives is =
+    → IsPlain ev → is_got e.what ≡ false → is_died e.what ≡ false → part ++ e ∷ rest ≡ entries_at noted step ev before → IsPutOut step ev before part e
+put_out step (Does (Take stamp link m)) before part e rest plain sent lives is = put_out_behind step stamp link m before part e rest sent is
+put_out step (Does (Tick stamp)) before part e rest plain sent lives is =
     let c = mapped_cut (entry_of noted stamp) (kept_outs step (Tick stamp) before) part e rest is in
     record { earlier = c.before; output = c.at; later = c.behind; outs_are = c.whole; part_is = c.front_is; is = c.is }
-put_out step (Dies stamp) before [] e rest sent lives is =
+put_out step (Ends i sends) before part e rest plain sent lives is = absurd plain
+put_out step (Returns stamp) before part e rest plain sent lives is = absurd plain
+put_out step (Dies stamp) before [] e rest plain sent lives is =
     let head : e ≡ record { stamp = stamp; what = what.Died } = cc in
     absurd (true≢false (sym (ap (λ (x : Entry). is_died x.what) head) ∙ lives))
-put_out step (Dies stamp) before (g ∷ part) e rest sent lives is =
+put_out step (Dies stamp) before (g ∷ part) e rest plain sent lives is =
     let tail : part ++ e ∷ rest ≡ [] = cc in
     absurd (subst (λ l. In e l) tail (in_right e part (e ∷ rest) (inl refl)))
 

@@ -22,8 +22,8 @@ use Rattle.node_kit.specs.Steps.{Deed, Input, entry_of, stamp_of}
 use Rattle.node_kit.specs.Steps.Input.{Take, Tick}
 use Rattle.cub_rules.specs.declared.store.Store.{Store}
 use Rattle.run_facts.specs.Accounts.{Rising}
-use Rattle.run_facts.specs.Events.{NodeEvent, Past, entries_at, outs_of, is_death, stamp_at, is_tick_input}
-use Rattle.run_facts.specs.Events.NodeEvent.{Does, Dies}
+use Rattle.run_facts.specs.Events.{NodeEvent, Past, entries_at, outs_of, is_death, stamp_at, is_tick_input, IsPlain}
+use Rattle.run_facts.specs.Events.NodeEvent.{Does, Ends, Dies, Returns}
 use Rattle.run_facts.specs.Histories.{History, living, outs, past, beat}
 use Rattle.run_model.specs.Moments.{is_put_of}
 use Rattle.run_model.specs.Orders as ordering
@@ -64,11 +64,13 @@ use Rattle.proof_journals.proofs.Lists.{moved, one_behind, none_behind}
 
 -- A tick writes its outputs.
 tick_wrote : {S : Type 0} (step : S → Input Msg → Deed Msg S) (e : NodeEvent Msg) (before : Past S)
-    → is_tick_input (input_of e) ≡ true → is_death e ≡ false
+    → IsPlain e → is_tick_input (input_of e) ≡ true → is_death e ≡ false
     → entries_at noted step e before ≡ map (entry_of noted (stamp_at e)) (outs_of step e before)
-tick_wrote step (Does (Take stamp link m)) before t d = absurd (cc)
-tick_wrote step (Does (Tick stamp)) before t d = refl
-tick_wrote step (Dies stamp) before t d = absurd (cc)
+tick_wrote step (Does (Take stamp link m)) before plain t d = absurd (cc)
+tick_wrote step (Does (Tick stamp)) before plain t d = refl
+tick_wrote step (Ends i sends) before plain t d = absurd plain
+tick_wrote step (Dies stamp) before plain t d = absurd (cc)
+tick_wrote step (Returns stamp) before plain t d = absurd plain
 
 -- ---- one order
 
@@ -115,7 +117,8 @@ module _ {S : Type 0} {step : S → Input Msg → Deed Msg S} {p : Params} {orde
   put_in : (n i : ℕ) (e : Entry) (t : Tenancy) → n < node_count p → i < h.count n → In e (wrote step h n i)
       → e.what ≡ what.Put t → IsPutIn n i t
   put_in n i e t known low k is =
-      let r = event_wrote step (h.event n i) (past noted step h n i) e (what.Put t) tt k is in
+      let r = event_wrote step (h.event n i) (past noted step h n i) e (what.Put t)
+      (kept.ring.run.plain n i known low) tt k is in
       let before = alive_if_out kept n i (put_out t) known low r.0 in
       ⊎_elim
       (λ c. record {
@@ -160,7 +163,8 @@ module _ {S : Type 0} {step : S → Input Msg → Deed Msg S} {p : Params} {orde
       (deed_single p n v (inputs c.at) (store_at p n inputs c.at) (once_at p n inputs c.at)) in
       let one : IsOne (λ (x : Entry). is_put_of v x.what) (c.part ++ e ∷ c.rest) =
       subst (λ (es : List Entry). IsOne (λ (x : Entry). is_put_of v x.what) es) (sym c.event_is)
-      (entries_one step v (h.event n c.at) (past noted step h n c.at) outs_one) in
+      (entries_one step v (h.event n c.at) (past noted step h n c.at) (kept.ring.run.plain n c.at c.known c.done)
+      outs_one) in
       later n xs e ys f t c is i
       (λ k. one_behind (λ (x : Entry). is_put_of v x.what) c.part e c.rest f one
       (ap (is_put_of v) is ∙ eq-eqb _ _ refl) k (ap (is_put_of v) puts_too ∙ eq-eqb _ _ same))
@@ -175,10 +179,11 @@ module _ {S : Type 0} {step : S → Input Msg → Deed Msg S} {p : Params} {orde
       let input = tick_of (inputs i) put.tick in
       let store : Store = store_at p n inputs i in
       let b = believes_first p n input.0 store in
+      let life = is_alive kept n i known put.before in
       let outs_is : outs noted step h n i ≡ b.first ++ b.rest =
       outs_are n i put.small put.before ∙ ap (λ (q : Input Msg). (deed_of p n q store).outs) input.1 ∙ b.is in
       let wrote_is : wrote step h n i ≡ map (entry_of noted stamp) b.first ++ map (entry_of noted stamp) b.rest =
-      tick_wrote step (h.event n i) (past noted step h n i) put.tick (is_alive kept n i known put.before).1
+      tick_wrote step (h.event n i) (past noted step h n i) (kept.ring.run.plain n i known life.0) put.tick life.1
       ∙ ap (λ (os : List (Out Msg)). map (entry_of noted stamp) os) outs_is
       ∙ map-append (entry_of noted stamp) b.first b.rest in
       none_behind (λ (x : Entry). x.what ≡ what.Put t) (λ (x : Entry). x.what ≡ what.Believed d)

@@ -4,8 +4,8 @@ use Rattle.std.proofs.lemmas.Bool.{cases_Bool, true≢false}
 use Rattle.tiger_base.specs.declared.number.Stamp.{Stamp}
 use Rattle.tiger_base.specs.declared.message.Msg.{Msg}
 use Rattle.node_kit.specs.Steps.Input.{Take, Tick}
-use Rattle.run_facts.specs.Events.{NodeEvent, is_tick, is_death, stamp_at, is_tick_input}
-use Rattle.run_facts.specs.Events.NodeEvent.{Does, Dies}
+use Rattle.run_facts.specs.Events.{NodeEvent, is_tick, is_death, stamp_at, is_tick_input, IsPlain}
+use Rattle.run_facts.specs.Events.NodeEvent.{Does, Ends, Dies, Returns}
 use Rattle.run_facts.specs.Histories.{History, count_of, living, ticks, beat, reading}
 use Rattle.proof_lives.specs.Lives.{ticks_at, beat_at, reading_at}
 use Rattle.proof_lives.specs.Histories.{input_of}
@@ -73,24 +73,30 @@ module _ {S : Type 0} (h : History Msg S) (n : ℕ)
   before_death i low lives = (counts (h.count n) refl).1 i low lives
 
   -- Up to an event the ticks are those of the inputs.
-  pub ticks_same : (i : ℕ) → i < h.count n → ticks h n i ≡ ticks_at (λ k. input_of (h.event n k)) i
-  ticks_same zero low = refl
-  ticks_same (suc i) low =
-      let t = tick_same (h.event n i) (early i (omega arith)) in
-      let before = ticks_same i (omega arith) in
+  pub ticks_same : ((i : ℕ) → i < h.count n → IsPlain (h.event n i)) → (i : ℕ) → i < h.count n
+      → ticks h n i ≡ ticks_at (λ k. input_of (h.event n k)) i
+  ticks_same plain zero low = refl
+  ticks_same plain (suc i) low =
+      let t = tick_same (h.event n i) (plain i (omega arith)) (early i (omega arith)) in
+      let before = ticks_same plain i (omega arith) in
       ap (λ (b : Bool). cond b (suc (ticks h n i)) (ticks h n i)) t
       ∙ ap (λ (k : ℕ). cond (is_tick_input (input_of (h.event n i))) (suc k) k) before
 
--- A death is known by its stamp.
-pub death_is : (e : NodeEvent Msg) → is_death e ≡ true → e ≡ Dies (stamp_at e)
-death_is (Does i) t = absurd (cc)
-death_is (Dies stamp) t = refl
+-- A plain death is known by its stamp.
+pub death_is : (e : NodeEvent Msg) → IsPlain e → is_death e ≡ true → e ≡ Dies (stamp_at e)
+death_is (Does i) plain t = absurd (cc)
+death_is (Ends i sends) plain t = absurd plain
+death_is (Dies stamp) plain t = refl
+death_is (Returns stamp) plain t = absurd plain
 
--- A tick is an input.
-pub tick_is : (e : NodeEvent Msg) → is_tick e ≡ true → (input_of e ≡ Tick (stamp_at e)) × (is_death e ≡ false)
-tick_is (Does (Tick stamp)) t = (refl, refl)
-tick_is (Does (Take stamp link m)) t = absurd (cc)
-tick_is (Dies stamp) t = absurd (cc)
+-- A plain tick is an input.
+pub tick_is : (e : NodeEvent Msg) → IsPlain e → is_tick e ≡ true
+    → (input_of e ≡ Tick (stamp_at e)) × (is_death e ≡ false)
+tick_is (Does (Tick stamp)) plain t = (refl, refl)
+tick_is (Does (Take stamp link m)) plain t = absurd (cc)
+tick_is (Ends i sends) plain t = absurd plain
+tick_is (Dies stamp) plain t = absurd (cc)
+tick_is (Returns stamp) plain t = absurd plain
 
 -- When an event happens, its input happens.
 pub beat_same : {S : Type 0} (h : History Msg S) (n i : ℕ) → beat h n i ≡ beat_at (λ k. input_of (h.event n k)) i

@@ -93,7 +93,7 @@ module _ {S : Type 0} {step : S → Input Msg → Deed Msg S} {p : Params} {orde
       let known = cub_inside kept c small in
       let lives = is_alive kept c i known low in
       let event : h.event c i ≡ Does (Take stamp link (msg.ViewerState s)) =
-      does_it (h.event c i) lives.1 ∙ ap (λ (q : Input Msg). Does q) is in
+      does_it (h.event c i) (kept.ring.run.plain c i known lives.0) lives.1 ∙ ap (λ (q : Input Msg). Does q) is in
       let f = came_to step p (node_count p) h kept.ring.run c i stamp link (msg.ViewerState s) known lives.0 event in
       let from = state_sender f.from f.at f.way s f.known f.done f.sent in
       let w = (keeps_records p f.from (inputs_of h f.from) f.at kept.plan from.0).ways f.way s from.1 in
@@ -188,19 +188,20 @@ module _ {S : Type 0} {step : S → Input Msg → Deed Msg S} {p : Params} {orde
       ap (λ (es : List Entry). es ++ e ∷ ys) (sym k.is) ∙ append_assoc k.front (f ∷ k.back) (e ∷ ys) in
       let c = cut_in kept n k.front f back (at ∙ ap (λ (es : List Entry). Some es) all) in
       let event : NodeEvent Msg = h.event n c.at in
+      let plain = kept.ring.run.plain n c.at c.known c.done in
       let there : In f (wrote step h n c.at) = moved f c.event_is (in_right f c.part (f ∷ c.rest) (inl refl)) in
       ⊎_elim
       (λ (t : is_death event ≡ true).
       let last = kept.ring.run.ended n c.at c.known c.done t in
       let one : wrote step h n c.at ≡ died_entry (stamp_at event) ∷ [] =
-      ap (λ (x : NodeEvent Msg). entries_at noted step x (past noted step h n c.at)) (death_is event t) in
+      ap (λ (x : NodeEvent Msg). entries_at noted step x (past noted step h n c.at)) (death_is event plain t) in
       ⊎_elim
       (λ j. none_more c.part f c.rest (died_entry (stamp_at event)) e (c.event_is ∙ one) j)
       (λ j. let low = j.1 in let high = j.2 in absurd (omega arith))
       (c.behind e (in_right e k.back (e ∷ ys) (inl refl))))
       (λ (l : is_death event ≡ false).
       let fair = kept.ring.run.fair n c.at c.known c.done in
-      absurd (event_lives step p n event (past noted step h n c.at) f l fair there (ap is_died is)))
+      absurd (event_lives step p n event (past noted step h n c.at) f plain l fair there (ap is_died is)))
       (cases_Bool (is_death event))
 
   pub locals : Locals p journals

@@ -74,9 +74,10 @@ module _ {S : Type 0} {step : S → Input Msg → Deed Msg S} {p : Params} {orde
   died_logged c b d =
       let stamp = stamp_at (h.event c d.at) in
       let e : Entry = record { stamp = stamp; what = what.Died } in
+      let plain = kept.ring.run.plain c d.at (cub_inside kept c d.small) d.done in
       let there : In e (entries_at noted step (h.event c d.at) (past noted step h c d.at)) =
       subst (λ (x : NodeEvent Msg). In e (entries_at noted step x (past noted step h c d.at)))
-      (sym (death_is (h.event c d.at) d.death)) (inl refl) in
+      (sym (death_is (h.event c d.at) plain d.death)) (inl refl) in
       record {
         entry = e;
         stands = record {

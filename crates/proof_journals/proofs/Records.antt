@@ -9,8 +9,8 @@ use Rattle.node_kit.specs.declared.outbox.Out.{Out}
 use Rattle.node_kit.specs.declared.outbox.Out.TheVariants as out
 use Rattle.node_kit.specs.Steps.{Deed, Input, entry_of, stamp_of}
 use Rattle.node_kit.specs.Steps.Input.{Take, Tick}
-use Rattle.run_facts.specs.Events.{NodeEvent, Past, kept_outs, outs_of, entries_at}
-use Rattle.run_facts.specs.Events.NodeEvent.{Does, Dies}
+use Rattle.run_facts.specs.Events.{NodeEvent, Past, kept_outs, outs_of, entries_at, IsPlain}
+use Rattle.run_facts.specs.Events.NodeEvent.{Does, Ends, Dies, Returns}
 use Rattle.run_model.specs.Views.{records_of, recorded}
 use Rattle.run_model.proofs.Moments.{records_more}
 use Rattle.proof_lives.specs.Records.{recorded_by}
@@ -46,11 +46,13 @@ outs_recorded stamp [] rs = refl
 outs_recorded stamp (out.Act w ∷ os) rs = outs_recorded stamp os (recorded rs w)
 outs_recorded stamp (out.Send link m ∷ os) rs = outs_recorded stamp os rs
 
-pub event_recorded : {S : Type 0} (step : S → Input Msg → Deed Msg S) (ev : NodeEvent Msg) (before : Past S) (rs : List Rec)
+pub event_recorded : {S : Type 0} (step : S → Input Msg → Deed Msg S) (ev : NodeEvent Msg) (before : Past S) (rs : List Rec) → IsPlain ev
     → recorded_in (entries_at noted step ev before) rs ≡ recorded_by (outs_of step ev before) rs
-event_recorded step (Does (Take stamp link m)) before rs = outs_recorded stamp (kept_outs step (Take stamp link m) before) rs
-event_recorded step (Does (Tick stamp)) before rs = outs_recorded stamp (kept_outs step (Tick stamp) before) rs
-event_recorded step (Dies stamp) before rs = refl
+event_recorded step (Does (Take stamp link m)) before rs plain = outs_recorded stamp (kept_outs step (Take stamp link m) before) rs
+event_recorded step (Does (Tick stamp)) before rs plain = outs_recorded stamp (kept_outs step (Tick stamp) before) rs
+event_recorded step (Ends i sends) before rs plain = absurd plain
+event_recorded step (Dies stamp) before rs plain = refl
+event_recorded step (Returns stamp) before rs plain = refl
 
 -- and so what stands before an output in its event
 pub input_recorded : (i : Input Msg) (os : List (Out Msg)) (rs : List Rec) → recorded_in (got_at i ++ map (entry_of noted (stamp_of i)) os) rs ≡ recorded_by os rs

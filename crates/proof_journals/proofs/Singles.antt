@@ -22,8 +22,8 @@ use Rattle.cub_changes.proofs.Closed.{IsClosed}
 use Rattle.cub_changes.proofs.Order.{AreOfStep, step_of, in_insertion}
 use Rattle.cub_changes.proofs.Outputs.{tells_of}
 use Rattle.cub_changes.proofs.Puts.{inserting_by}
-use Rattle.run_facts.specs.Events.{NodeEvent, Past, kept_outs, outs_of, entries_at}
-use Rattle.run_facts.specs.Events.NodeEvent.{Does, Dies}
+use Rattle.run_facts.specs.Events.{NodeEvent, Past, kept_outs, outs_of, entries_at, IsPlain}
+use Rattle.run_facts.specs.Events.NodeEvent.{Does, Ends, Dies, Returns}
 use Rattle.run_model.specs.Moments.{is_put_of}
 use Rattle.proof_lives.specs.Lives.{deed_of}
 use Rattle.lists.specs.Elements.{In}
@@ -101,9 +101,12 @@ deed_single p c v (Take stamp link m) h o = none_one (puts v) (taking p c stamp 
 deed_single p c v (Tick stamp) h o = ticking_single v p c stamp h o
 
 -- what an event writes has at most one Put of an instance where its outputs have
-pub entries_one : {S : Type 0} (step : S → Input Msg → Deed Msg S) (v : ℕ) (ev : NodeEvent Msg) (before : Past S) → IsOne (puts v) (outs_of step ev before)
+pub entries_one : {S : Type 0} (step : S → Input Msg → Deed Msg S) (v : ℕ) (ev : NodeEvent Msg) (before : Past S) → IsPlain ev
+    → IsOne (puts v) (outs_of step ev before)
     → IsOne (λ (e : Entry). is_put_of v e.what) (entries_at noted step ev before)
-entries_one step v (Does (Take stamp link m)) before one =
+entries_one step v (Does (Take stamp link m)) before plain one =
     ((λ t. absurd (cc)), one_map (entry_of noted stamp) (λ (e : Entry). is_put_of v e.what) (kept_outs step (Take stamp link m) before) one)
-entries_one step v (Does (Tick stamp)) before one = one_map (entry_of noted stamp) (λ (e : Entry). is_put_of v e.what) (kept_outs step (Tick stamp) before) one
-entries_one step v (Dies stamp) before one = ((λ t. absurd (cc)), tt)
+entries_one step v (Does (Tick stamp)) before plain one = one_map (entry_of noted stamp) (λ (e : Entry). is_put_of v e.what) (kept_outs step (Tick stamp) before) one
+entries_one step v (Ends i sends) before plain one = absurd plain
+entries_one step v (Dies stamp) before plain one = ((λ t. absurd (cc)), tt)
+entries_one step v (Returns stamp) before plain one = absurd plain

@@ -153,12 +153,13 @@ module _ {S : Type 0} {step : S → Input Msg → Deed Msg S} {p : Params} {orde
   died_told n e small s is =
       let x = written_in kept n e s in
       let i : ℕ = x.1.at in
+      let plain = kept.ring.run.plain n i x.0 x.1.before in
       ⊎_elim
       (λ (t : is_death (h.event n i) ≡ true).
       let when = beat_same h n i ∙ sym (beat_is step h n i e x.1.there) in
       record { small = small; at = i; done = x.1.before; death = t; in_beat = when })
       (λ (f : is_death (h.event n i) ≡ false).
-      absurd (event_lives step p n (h.event n i) (past noted step h n i) e f
+      absurd (event_lives step p n (h.event n i) (past noted step h n i) e plain f
       (kept.ring.run.fair n i x.0 x.1.before) x.1.there (ap is_died is)))
       (cases_Bool (is_death (h.event n i)))
 
@@ -172,7 +173,7 @@ module _ {S : Type 0} {step : S → Input Msg → Deed Msg S} {p : Params} {orde
         let x = written_in kept n e s in
         let i : ℕ = x.1.at in
         let k = event_took step p n (h.event n i) (past noted step h n i) e link (note.Start redundant ask)
-        (kept.ring.run.fair n i x.0 x.1.before) x.1.there is in
+        (kept.ring.run.plain n i x.0 x.1.before) (kept.ring.run.fair n i x.0 x.1.before) x.1.there is in
         let event : h.event n i ≡ Does (Take e.stamp link (msg.Start redundant ask)) =
         k.is ∙ ap (λ (m : Msg). Does (Take e.stamp link m)) (start_back k.message ask redundant k.same) in
         let input : inputs_of h n i ≡ Take e.stamp link (msg.Start redundant ask) = ap input_of event in

@@ -36,9 +36,11 @@ module _ {S : Type 0} {step : S → Input Msg → Deed Msg S} {p : Params} {orde
       (records_of (so_far step h c i))
   records_next c i small low =
       let old : List Entry = so_far step h c i in
+      let known = cub_inside kept c small in
+      let plain = kept.ring.run.plain c i known (is_alive kept c i known low).0 in
       ap records_of (one_event_more step h c i)
       ∙ records_after old (wrote step h c i)
-      ∙ event_recorded step (h.event c i) (past noted step h c i) (records_of old)
+      ∙ event_recorded step (h.event c i) (past noted step h c i) (records_of old) plain
       ∙ ap (λ (os : List (Out Msg)). recorded_by os (records_of old)) (kept.ring.rules.cubs c i small low)
 
   -- Before each event of a cub that lives its journal tells the records of its view.

@@ -14,8 +14,8 @@ use Rattle.node_kit.specs.declared.outbox.Out.{Out}
 use Rattle.node_kit.specs.declared.outbox.Out.TheVariants as out
 use Rattle.node_kit.specs.Steps.{Deed, Input, IsAllowed, IsOwnEntry, what_of, entry_of, stamp_of}
 use Rattle.node_kit.specs.Steps.Input.{Take, Tick}
-use Rattle.run_facts.specs.Events.{NodeEvent, Past, kept_outs, outs_of, stamp_at, entries_at}
-use Rattle.run_facts.specs.Events.NodeEvent.{Does, Dies}
+use Rattle.run_facts.specs.Events.{NodeEvent, Past, kept_outs, outs_of, stamp_at, entries_at, IsPlain}
+use Rattle.run_facts.specs.Events.NodeEvent.{Does, Ends, Dies, Returns}
 use Rattle.run_facts.specs.Histories.{History, past}
 use Rattle.run_facts.proofs.Along.{journal-after}
 use Rattle.lists.specs.Elements.{In}
@@ -48,14 +48,17 @@ none_got p c stamp os e link n fair i is =
 
 module _ {S : Type 0} (step : S → Input Msg → Deed Msg S) where
   -- an entry of the node's own that an event writes is one of its outputs
-  pub event_wrote : (ev : NodeEvent Msg) (before : Past S) (e : Entry) (w : What) → IsOwnEntry w → In e (entries_at noted step ev before) → e.what ≡ w
+  pub event_wrote : (ev : NodeEvent Msg) (before : Past S) (e : Entry) (w : What) → IsPlain ev → IsOwnEntry w
+      → In e (entries_at noted step ev before) → e.what ≡ w
       → In (out.Act w) (outs_of step ev before) × (e.stamp ≡ stamp_at ev)
-  event_wrote (Does (Take stamp link m)) before e w own i is = ⊎_elim
+  event_wrote (Does (Take stamp link m)) before e w plain own i is = ⊎_elim
       (λ q. absurd (subst IsOwnEntry (sym is ∙ ap (λ (x : Entry). x.what) q) own))
       (λ k. outs_written stamp (kept_outs step (Take stamp link m) before) e w own k is)
       i
-  event_wrote (Does (Tick stamp)) before e w own i is = outs_written stamp (kept_outs step (Tick stamp) before) e w own i is
-  event_wrote (Dies stamp) before e w own i is = ⊎_elim
+  event_wrote (Does (Tick stamp)) before e w plain own i is = outs_written stamp (kept_outs step (Tick stamp) before) e w own i is
+  event_wrote (Ends input sends) before e w plain own i is = absurd plain
+  event_wrote (Returns stamp) before e w plain own i is = absurd plain
+  event_wrote (Dies stamp) before e w plain own i is = ⊎_elim
       (λ q. absurd (subst IsOwnEntry (sym is ∙ ap (λ (x : Entry). x.what) q) own))
       (λ k. absurd k)
       i
@@ -79,10 +82,13 @@ module _ {S : Type 0} (step : S → Input Msg → Deed Msg S) where
       (in_cases e (past noted step h n i).journal (entries_at noted step (h.event n i) (past noted step h n i)) (subst (λ (es : List Entry). In e es) (one_event_more h n i) k))
 
   -- and each output of an event is written
-  pub event_writes : (ev : NodeEvent Msg) (before : Past S) (w : What) → In (out.Act w) (outs_of step ev before) → In (record { stamp = stamp_at ev; what = w }) (entries_at noted step ev before)
-  event_writes (Does (Take stamp link m)) before w k = inr (in_map (entry_of noted stamp) (out.Act w) (kept_outs step (Take stamp link m) before) k)
-  event_writes (Does (Tick stamp)) before w k = in_map (entry_of noted stamp) (out.Act w) (kept_outs step (Tick stamp) before) k
-  event_writes (Dies stamp) before w k = absurd k
+  pub event_writes : (ev : NodeEvent Msg) (before : Past S) (w : What) → IsPlain ev
+      → In (out.Act w) (outs_of step ev before) → In (record { stamp = stamp_at ev; what = w }) (entries_at noted step ev before)
+  event_writes (Does (Take stamp link m)) before w plain k = inr (in_map (entry_of noted stamp) (out.Act w) (kept_outs step (Take stamp link m) before) k)
+  event_writes (Does (Tick stamp)) before w plain k = in_map (entry_of noted stamp) (out.Act w) (kept_outs step (Tick stamp) before) k
+  event_writes (Ends input sends) before w plain k = absurd plain
+  event_writes (Dies stamp) before w plain k = absurd k
+  event_writes (Returns stamp) before w plain k = absurd k
 
   pub journal_keeps : (h : History Msg S) (n i j : ℕ) (e : Entry) → i < j → In e (entries_at noted step (h.event n i) (past noted step h n i)) → In e (past noted step h n j).journal
   journal_keeps h n i zero e l k = absurd (omega arith)
@@ -94,9 +100,12 @@ module _ {S : Type 0} (step : S → Input Msg → Deed Msg S) where
       (λ (g : i < j). in_left e old new (journal_keeps h n i j e g k))
       (eq-or-lt_of_le (let z : i ≤ j = omega arith in z)))
 
-  pub act_written : (h : History Msg S) (n i : ℕ) (w : What) → i < h.count n → In (out.Act w) (outs_of step (h.event n i) (past noted step h n i))
+  pub act_written : (h : History Msg S) (n i : ℕ) (w : What) → i < h.count n → IsPlain (h.event n i)
+      → In (out.Act w) (outs_of step (h.event n i) (past noted step h n i))
       → In (record { stamp = stamp_at (h.event n i); what = w }) (past noted step h n (h.count n)).journal
-  act_written h n i w low k = journal_keeps h n i (h.count n) (record { stamp = stamp_at (h.event n i); what = w }) low (event_writes (h.event n i) (past noted step h n i) w k)
+  act_written h n i w low plain k =
+      journal_keeps h n i (h.count n) (record { stamp = stamp_at (h.event n i); what = w }) low
+      (event_writes (h.event n i) (past noted step h n i) w plain k)
 
   -- a message that was got was taken in the event that wrote so
   pub record TookIn (ev : NodeEvent Msg) (e : Entry) (link : LinkNo) (n : Note) : Type 0 where
@@ -104,9 +113,9 @@ module _ {S : Type 0} (step : S → Input Msg → Deed Msg S) where
     pub is : ev ≡ Does (Take e.stamp link message)
     pub same : noted message ≡ n
 
-  pub event_took : (p : Params) (c : ℕ) (ev : NodeEvent Msg) (before : Past S) (e : Entry) (link : LinkNo) (n : Note) → AllByRecursion (IsAllowed noted p c) (outs_of step ev before)
-      → In e (entries_at noted step ev before) → e.what ≡ what.Got link n → TookIn ev e link n
-  event_took p c (Does (Take stamp way m)) before e link n fair i is = ⊎_elim
+  pub event_took : (p : Params) (c : ℕ) (ev : NodeEvent Msg) (before : Past S) (e : Entry) (link : LinkNo) (n : Note) → IsPlain ev
+      → AllByRecursion (IsAllowed noted p c) (outs_of step ev before) → In e (entries_at noted step ev before) → e.what ≡ what.Got link n → TookIn ev e link n
+  event_took p c (Does (Take stamp way m)) before e link n plain fair i is = ⊎_elim
       (λ q.
       let both : what.Got way (noted m) ≡ what.Got link n = ap (λ (x : Entry). x.what) (sym q) ∙ is in
       let ways : way ≡ link = cc in
@@ -115,8 +124,10 @@ module _ {S : Type 0} (step : S → Input Msg → Deed Msg S) where
       record { message = m; is = ap (λ (s : Stamp). Does (Take s way m)) when ∙ ap (λ (l : LinkNo). Does (Take e.stamp l m)) ways; same = notes })
       (λ k. absurd (none_got p c stamp (kept_outs step (Take stamp way m) before) e link n fair k is))
       i
-  event_took p c (Does (Tick stamp)) before e link n fair i is = absurd (none_got p c stamp (kept_outs step (Tick stamp) before) e link n fair i is)
-  event_took p c (Dies stamp) before e link n fair i is = ⊎_elim
+  event_took p c (Does (Tick stamp)) before e link n plain fair i is = absurd (none_got p c stamp (kept_outs step (Tick stamp) before) e link n fair i is)
+  event_took p c (Ends input sends) before e link n plain fair i is = absurd plain
+  event_took p c (Returns stamp) before e link n plain fair i is = absurd plain
+  event_took p c (Dies stamp) before e link n plain fair i is = ⊎_elim
       (λ q. let both : what.Died ≡ what.Got link n = ap (λ (x : Entry). x.what) (sym q) ∙ is in absurd (cc))
       (λ k. absurd k)
       i
@@ -124,4 +135,6 @@ module _ {S : Type 0} (step : S → Input Msg → Deed Msg S) where
 -- an event's stamp is its input's
 pub stamp_same : (ev : NodeEvent Msg) → stamp_at ev ≡ stamp_of (input_of ev)
 stamp_same (Does i) = refl
+stamp_same (Ends i sends) = refl
 stamp_same (Dies stamp) = refl
+stamp_same (Returns stamp) = refl

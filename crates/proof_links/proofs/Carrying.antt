@@ -216,7 +216,7 @@ module _ {S : Type 0} {step : S → Input Msg → Deed Msg S} {p : Params} {orde
       let number : ℕ = number_of a at place link in
       let t = count-numbered (is_take_on l) h c i number below in
       let tb = t.before in
-      let e = is_take l (h.event c t.at) t.passes in
+      let e = is_take l (h.event c t.at) (ring.run.plain c t.at inside (omega arith)) t.passes in
       let k = ring.run.carried c t.at e.0 e.1 e.2 inside (omega arith) e.3 in
       let from_same : k.from ≡ a =
       (same_ends k.from c a c (sym k.ends ∙ ap (λ n. ends_of (links_of p) n) e.4 ∙ ends)).0 in

@@ -383,7 +383,8 @@ module _ {S : Type 0} {step : S → Input Msg → Deed Msg S} {p : Params} {orde
       let lt : t.at < living h ctrl = omega arith in
       let b = ring.run.in_beat ctrl t.at (controller_inside plan ring) (done_of t.at lt) ∙ t.number in
       let alive = (before plan ring ctrl t.at (controller_inside plan ring) lt).alive in
-      let s = tick_of (inputs t.at) (sym (tick_same (h.event ctrl t.at) alive) ∙ t.passes) in
+      let plain = ring.run.plain ctrl t.at (controller_inside plan ring) (done_of t.at lt) in
+      let s = tick_of (inputs t.at) (sym (tick_same (h.event ctrl t.at) plain alive) ∙ t.passes) in
       let ib : beat_at inputs t.at ≡ o = sym (beat_of t.at) ∙ b in
       let sb : o ≡ s.0.beat = sym ib ∙ ap (λ (k : Input Msg). (stamp_of k).beat) s.1 in
       let now : In (record { beat = s.0.beat; what = Begin ask }) orders =

@@ -14,8 +14,8 @@ use Rattle.node_kit.specs.declared.outbox.Out.{Out}
 use Rattle.node_kit.specs.declared.outbox.Out.TheVariants as out
 use Rattle.node_kit.specs.Form.{is_in_form}
 use Rattle.node_kit.specs.Steps.{Deed, Input, IsAllowed}
-use Rattle.run_facts.specs.Events.{NodeEvent, is_tick, is_death, outs_of, is_tick_input}
-use Rattle.run_facts.specs.Events.NodeEvent.{Does, Dies}
+use Rattle.run_facts.specs.Events.{NodeEvent, is_tick, is_death, outs_of, is_tick_input, IsPlain}
+use Rattle.run_facts.specs.Events.NodeEvent.{Does, Ends, Dies, Returns}
 use Rattle.run_facts.specs.Histories.{History, outs, beat, reading, ticks, past, living}
 use Rattle.disk_core.specs.State.{DiskState}
 use Rattle.proof_lives.specs.Lives.{Lives, AreLives, store_at, outs_at, ticks_at, beat_at, reading_at}
@@ -86,7 +86,8 @@ module _ {S : Type 0} {step : S → Input Msg → Deed Msg S} {p : Params} {orde
 
   -- An event before the death is an input, with the same beat and reading.
   pub event_is : (n i : ℕ) → n < node_count p → i < living h n → h.event n i ≡ Does (lives.input n i)
-  event_is n i inside low = does_it (h.event n i) (before n i inside low).alive
+  event_is n i inside low =
+      let b = before n i inside low in does_it (h.event n i) (ring.run.plain n i inside b.done) b.alive
 
   pub beat_same : (n i : ℕ) → beat h n i ≡ beat_at (lives.input n) i
   beat_same n i = ap (λ (s : Stamp). s.beat) (stamp_same (h.event n i))
@@ -97,7 +98,8 @@ module _ {S : Type 0} {step : S → Input Msg → Deed Msg S} {p : Params} {orde
   pub ticks_same : (n i : ℕ) → n < node_count p → i ≤ living h n → ticks h n i ≡ ticks_at (lives.input n) i
   ticks_same n zero inside low = refl
   ticks_same n (suc i) inside low =
-      let t = tick_same (h.event n i) (before n i inside (omega arith)).alive in
+      let b = before n i inside (omega arith) in
+      let t = tick_same (h.event n i) (ring.run.plain n i inside b.done) b.alive in
       let rest = ticks_same n i inside (omega arith) in
       ap (λ (b : Bool). cond b (suc (ticks h n i)) (ticks h n i)) t
       ∙ ap (λ (k : ℕ). cond (is_tick_input (lives.input n i)) (suc k) k) rest
@@ -145,13 +147,15 @@ module _ {S : Type 0} {step : S → Input Msg → Deed Msg S} {p : Params} {orde
   outs_alive : (n i : ℕ) (o : Out Msg) → n < node_count p → i < h.count n → In o (outs noted step h n i)
       → i < living h n
   outs_alive n i o inside low k = ⊎_elim
-      (λ (t : is_death (h.event n i) ≡ true). absurd (silent (h.event n i) refl t))
+      (λ (t : is_death (h.event n i) ≡ true). absurd (silent (h.event n i) refl (ring.run.plain n i inside low) t))
       (λ (f : is_death (h.event n i) ≡ false). within n i inside low f)
       (cases_Bool (is_death (h.event n i)))
     where
-      silent : (e : NodeEvent Msg) → h.event n i ≡ e → is_death e ≡ true → ⊥
-      silent (Does x) q t = absurd (cc)
-      silent (Dies stamp) q t = subst (λ (e : NodeEvent Msg). In o (outs_of step e (past noted step h n i))) q k
+      silent : (e : NodeEvent Msg) → h.event n i ≡ e → IsPlain e → is_death e ≡ true → ⊥
+      silent (Does x) q plain t = absurd (cc)
+      silent (Ends x sends) q plain t = plain
+      silent (Returns stamp) q plain t = plain
+      silent (Dies stamp) q plain t = subst (λ (e : NodeEvent Msg). In o (outs_of step e (past noted step h n i))) q k
 
   -- What a cub puts out is by its rules.
   pub by_rules : (c i : ℕ) (o : Out Msg) → c < p.cubs → i < h.count c → In o (outs noted step h c i)

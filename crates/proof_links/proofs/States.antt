@@ -111,7 +111,8 @@ module _ {S : Type 0} {step : S → Input Msg → Deed Msg S} {p : Params} {orde
         small = d.small;
         at = d.at;
         done = k.done;
-        tick = tick_same (h.event c d.at) k.alive ∙ tick;
+        tick =
+            tick_same (h.event c d.at) (ring.run.plain c d.at (cub_inside plan ring c d.small) k.done) k.alive ∙ tick;
         in_beat =
             beat_same plan ring c d.at ∙ d.in_beat;
       }

@@ -20,9 +20,10 @@ use Rattle.node_kit.specs.Steps.Input.{Take, Tick}
 use Rattle.node_kit.proofs.Ring.{ends_between}
 use Rattle.node_kit.specs.Ways.{way_ahead, predecessor}
 use Rattle.node_kit.proofs.Ways.{links_sound}
-use Rattle.run_facts.specs.Events.{NodeEvent, Dated, stamp_at, is_tick, is_death, is_take_on, sends_of, is_tick_input}
-use Rattle.run_facts.specs.Events.NodeEvent.{Does, Dies}
-use Rattle.run_facts.specs.Histories.{History, IsRun, outs, beat, takes, count_of}
+use Rattle.run_facts.specs.Events.{NodeEvent, Dated, stamp_at, is_tick, is_death, is_take_on, sends_of, is_tick_input, IsPlain}
+use Rattle.run_facts.specs.Events.NodeEvent.{Does, Ends, Dies, Returns}
+use Rattle.run_facts.specs.Histories.{History, outs, beat, takes, count_of}
+use Rattle.run_facts.specs.Plain.{IsPlainRun}
 use Rattle.run_facts.proofs.Counts.{sent-numbered}
 use Rattle.lists.specs.Elements.{In}
 use Rattle.proof_lives.specs.Histories.{input_of}
@@ -31,16 +32,22 @@ use Rattle.lists.proofs.Elements.{chosen}
 -- an event and what befell the node in it
 pub stamp_same : (e : NodeEvent Msg) → stamp_at e ≡ stamp_of (input_of e)
 stamp_same (Does i) = refl
+stamp_same (Ends i sends) = refl
 stamp_same (Dies stamp) = refl
+stamp_same (Returns stamp) = refl
 
-pub tick_same : (e : NodeEvent Msg) → is_death e ≡ false → is_tick e ≡ is_tick_input (input_of e)
-tick_same (Does (Take stamp link m)) d = refl
-tick_same (Does (Tick stamp)) d = refl
-tick_same (Dies stamp) d = absurd (cc)
+pub tick_same : (e : NodeEvent Msg) → IsPlain e → is_death e ≡ false → is_tick e ≡ is_tick_input (input_of e)
+tick_same (Does (Take stamp link m)) plain d = refl
+tick_same (Does (Tick stamp)) plain d = refl
+tick_same (Ends i sends) plain d = absurd plain
+tick_same (Dies stamp) plain d = absurd (cc)
+tick_same (Returns stamp) plain d = absurd plain
 
-pub does_it : (e : NodeEvent Msg) → is_death e ≡ false → e ≡ Does (input_of e)
-does_it (Does i) d = refl
-does_it (Dies stamp) d = absurd (cc)
+pub does_it : (e : NodeEvent Msg) → IsPlain e → is_death e ≡ false → e ≡ Does (input_of e)
+does_it (Does i) plain d = refl
+does_it (Ends i sends) plain d = absurd plain
+does_it (Dies stamp) plain d = absurd (cc)
+does_it (Returns stamp) plain d = absurd plain
 
 -- what is sent on a link in an event
 -- an output that sends a message on a link
@@ -138,10 +145,13 @@ same_ends a b c d e =
 pub same_dated : (a b : Dated Msg) → Some a ≡ Some b → a ≡ b
 same_dated a b e = cc
 
-pub is_take : (l : ℕ) (e : NodeEvent Msg) → is_take_on l e ≡ true → (stamp : Stamp) × (link : LinkNo) × (m : Msg) × (e ≡ Does (Take stamp link m)) × (link.0 ≡ l)
-is_take l (Does (Take stamp link m)) t = (stamp, link, m, refl, eqb-true _ _ t)
-is_take l (Does (Tick stamp)) t = absurd (cc)
-is_take l (Dies stamp) t = absurd (cc)
+pub is_take : (l : ℕ) (e : NodeEvent Msg) → IsPlain e → is_take_on l e ≡ true
+    → (stamp : Stamp) × (link : LinkNo) × (m : Msg) × (e ≡ Does (Take stamp link m)) × (link.0 ≡ l)
+is_take l (Does (Take stamp link m)) plain t = (stamp, link, m, refl, eqb-true _ _ t)
+is_take l (Does (Tick stamp)) plain t = absurd (cc)
+is_take l (Ends i sends) plain t = absurd plain
+is_take l (Dies stamp) plain t = absurd (cc)
+is_take l (Returns stamp) plain t = absurd (cc)
 
 -- of more events as many or more pass a test
 pub count_rises : {S : Type 0} (test : NodeEvent Msg → Bool) (h : History Msg S) (n i j : ℕ) → i ≤ j → count_of test h n i ≤ count_of test h n j
@@ -154,7 +164,8 @@ count_rises test h n i (suc j) l = ⊎_elim
     (eq-or-lt_of_le l)
 
 -- what the record of a run gives of each link, whatever the nodes do
-module _ {S : Type 0} (step : S → Input Msg → Deed Msg S) (p : Params) (nodes : ℕ) (h : History Msg S) (run : IsRun noted step p nodes h) where
+module _ {S : Type 0} (step : S → Input Msg → Deed Msg S) (p : Params) (nodes : ℕ) (h : History Msg S)
+    (run : IsPlainRun noted step p nodes h) where
   -- who sent what a node took
   pub record CameFrom (c i : ℕ) (b : ℕ) (link : LinkNo) (m : Msg) : Type 0 where
     pub from : ℕ

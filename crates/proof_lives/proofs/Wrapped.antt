@@ -3,14 +3,13 @@ use Rattle.std.proofs.Common.{◌≡◌, ℕ, false, refl}
 use Rattle.tiger_base.specs.declared.message.Msg.{Msg}
 use Rattle.tiger_base.specs.Notes.{noted}
 use Rattle.slot_plan.specs.declared.params.Params.{Params}
-use Rattle.node_kit.specs.Life.{trimmed}
 use Rattle.node_kit.specs.Steps.{Deed, Input}
 use Rattle.node_kit.specs.Steps.Input.{Take, Tick}
 use Rattle.cub_rules.specs.declared.store.Store.{Store}
 use Rattle.cub_rules.specs.State.{CubState}
 use Rattle.cub_rules.specs.Cubs.{cub_step}
-use Rattle.run_facts.specs.Events.{NodeEvent, Past, after, after_input, kept_outs, outs_of, is_death}
-use Rattle.run_facts.specs.Events.NodeEvent.{Does, Dies}
+use Rattle.run_facts.specs.Events.{NodeEvent, Past, after, after_input, kept_outs, outs_of, is_death, IsPlain}
+use Rattle.run_facts.specs.Events.NodeEvent.{Does, Ends, Dies, Returns}
 use Rattle.proof_lives.specs.Lives.{deed_of}
 use Rattle.proof_lives.specs.Histories.{input_of}
 
@@ -26,13 +25,19 @@ pub cub_outs : (p : Params) (c : ℕ) (h : Store) (k : Input Msg) → (cub_step 
 cub_outs p c h (Take stamp link m) = refl
 cub_outs p c h (Tick stamp) = refl
 
--- an event that is no death is a step at its input
-pub after_state : {S : Type 0} (step : S → Input Msg → Deed Msg S) (e : NodeEvent Msg) (x : Past S) → is_death e ≡ false → (after noted step e x).state ≡ (step x.state (input_of e)).state
+-- a plain event that is no death is a step at its input
+pub after_state : {S : Type 0} (step : S → Input Msg → Deed Msg S) (e : NodeEvent Msg) (x : Past S) → IsPlain e
+    → is_death e ≡ false → (after noted step e x).state ≡ (step x.state (input_of e)).state
 unfolding after_input
-after_state step (Does i) x d = refl
-after_state step (Dies stamp) x d = absurd (cc)
+after_state step (Does i) x plain d = refl
+after_state step (Ends i sends) x plain d = absurd plain
+after_state step (Dies stamp) x plain d = absurd (cc)
+after_state step (Returns stamp) x plain d = absurd plain
 
-pub event_outs : {S : Type 0} (step : S → Input Msg → Deed Msg S) (e : NodeEvent Msg) (x : Past S) → is_death e ≡ false → outs_of step e x ≡ (step x.state (input_of e)).outs
-unfolding kept_outs trimmed
-event_outs step (Does i) x d = refl
-event_outs step (Dies stamp) x d = absurd (cc)
+pub event_outs : {S : Type 0} (step : S → Input Msg → Deed Msg S) (e : NodeEvent Msg) (x : Past S) → IsPlain e
+    → is_death e ≡ false → outs_of step e x ≡ (step x.state (input_of e)).outs
+unfolding kept_outs
+event_outs step (Does i) x plain d = refl
+event_outs step (Ends i sends) x plain d = absurd plain
+event_outs step (Dies stamp) x plain d = absurd (cc)
+event_outs step (Returns stamp) x plain d = absurd plain

@@ -19,8 +19,8 @@ use Rattle.node_kit.specs.declared.outbox.Out.{Out}
 use Rattle.node_kit.specs.declared.outbox.Out.TheVariants as out
 use Rattle.node_kit.specs.Steps.{Deed, Input, IsAllowed, IsOwnEntry, what_of, entry_of}
 use Rattle.node_kit.specs.Steps.Input.{Take, Tick}
-use Rattle.run_facts.specs.Events.{NodeEvent, Past, entries_at, kept_outs, outs_of, stamp_at}
-use Rattle.run_facts.specs.Events.NodeEvent.{Does, Dies}
+use Rattle.run_facts.specs.Events.{NodeEvent, Past, entries_at, kept_outs, outs_of, stamp_at, IsPlain}
+use Rattle.run_facts.specs.Events.NodeEvent.{Does, Ends, Dies, Returns}
 use Rattle.run_facts.specs.Histories.{History, outs, past, last_of}
 use Rattle.disk_core.specs.State.{DiskState}
 use Rattle.node_kit.specs.declared.course.Order.{Order}
@@ -120,27 +120,32 @@ behind_here j more e f i k =
 
 module _ {S : Type 0} (step : S → Input Msg → Deed Msg S) where
   pub event_sent : (p : Params) (n : ℕ) (ev : NodeEvent Msg) (before : Past S) (e : Entry) (link : LinkNo)
-      (m : Note) → AllByRecursion (IsAllowed noted p n) (outs_of step ev before)
+      (m : Note) → IsPlain ev → AllByRecursion (IsAllowed noted p n) (outs_of step ev before)
       → In e (entries_at noted step ev before) → e.what ≡ what.Sent link m → IsSend (outs_of step ev before) link m
-  event_sent p n (Does (Take stamp way x)) before e link m fair i is = ⊎_elim
+  event_sent p n (Does (Take stamp way x)) before e link m plain fair i is = ⊎_elim
       (λ q. let both : what.Got way (noted x) ≡ what.Sent link m = ap (λ (z : Entry). z.what) (sym q)
       ∙ is in absurd (cc))
       (λ k. outs_sent p n stamp (kept_outs step (Take stamp way x) before) e link m fair k is)
       i
-  event_sent p n (Does (Tick stamp)) before e link m fair i is = outs_sent p n stamp
+  event_sent p n (Does (Tick stamp)) before e link m plain fair i is = outs_sent p n stamp
       (kept_outs step (Tick stamp) before) e link m fair i is
-  event_sent p n (Dies stamp) before e link m fair i is = ⊎_elim
+  event_sent p n (Ends input sends) before e link m plain fair i is = absurd plain
+  event_sent p n (Returns stamp) before e link m plain fair i is = absurd plain
+  event_sent p n (Dies stamp) before e link m plain fair i is = ⊎_elim
       (λ q. let both : what.Died ≡ what.Sent link m = ap (λ (z : Entry). z.what) (sym q) ∙ is in absurd (cc))
       (λ k. absurd k)
       i
 
-  pub event_writes_out : (ev : NodeEvent Msg) (before : Past S) (o : Out Msg) → In o (outs_of step ev before)
+  pub event_writes_out : (ev : NodeEvent Msg) (before : Past S) (o : Out Msg) → IsPlain ev
+      → In o (outs_of step ev before)
       → In (entry_of noted (stamp_at ev) o) (entries_at noted step ev before)
-  event_writes_out (Does (Take stamp link m)) before o k = inr (in_map (entry_of noted stamp) o
+  event_writes_out (Does (Take stamp link m)) before o plain k = inr (in_map (entry_of noted stamp) o
       (kept_outs step (Take stamp link m) before) k)
-  event_writes_out (Does (Tick stamp)) before o k = in_map (entry_of noted stamp) o
+  event_writes_out (Does (Tick stamp)) before o plain k = in_map (entry_of noted stamp) o
       (kept_outs step (Tick stamp) before) k
-  event_writes_out (Dies stamp) before o k = absurd k
+  event_writes_out (Ends i sends) before o plain k = absurd plain
+  event_writes_out (Dies stamp) before o plain k = absurd k
+  event_writes_out (Returns stamp) before o plain k = absurd k
 
   -- what a node took it wrote
   pub event_writes_got : (ev : NodeEvent Msg) (before : Past S) (stamp : Stamp) (link : LinkNo) (m : Msg)
@@ -204,7 +209,7 @@ module _ {S : Type 0} {step : S → Input Msg → Deed Msg S} {p : Params} {orde
         done = w.1.before;
         there = w.1.there;
         send = event_sent step p n (h.event n w.1.at) (past noted step h n w.1.at) e link m
-            (kept.ring.run.fair n w.1.at w.0 w.1.before) w.1.there is;
+            (kept.ring.run.plain n w.1.at w.0 w.1.before) (kept.ring.run.fair n w.1.at w.0 w.1.before) w.1.there is;
       }
 
   -- what an event wrote stands in the journal
@@ -219,4 +224,4 @@ module _ {S : Type 0} {step : S → Input Msg → Deed Msg S} {p : Params} {orde
   pub stands_out : (n i : ℕ) (o : Out Msg) → n < node_count p → i < h.count n → In o (outs noted step h n i)
       → StandsIn journals n (entry_of noted (stamp_at (h.event n i)) o)
   stands_out n i o known low k = stands_written n i (entry_of noted (stamp_at (h.event n i)) o) known low
-      (event_writes_out step (h.event n i) (past noted step h n i) o k)
+      (event_writes_out step (h.event n i) (past noted step h n i) o (kept.ring.run.plain n i known low) k)

@@ -19,7 +19,7 @@ use Rattle.node_kit.specs.declared.outbox.Out.TheVariants as out
 use Rattle.node_kit.specs.Steps.{Deed, Input, IsAllowed, what_of, entry_of}
 use Rattle.node_kit.specs.Steps.Input.{Take, Tick}
 use Rattle.run_facts.specs.Events.{NodeEvent, Past, entries_at, outs_of, is_tick}
-use Rattle.run_facts.specs.Events.NodeEvent.{Does, Dies}
+use Rattle.run_facts.specs.Events.NodeEvent.{Does, Ends, Dies, Returns}
 use Rattle.run_facts.specs.Histories.{History, living, outs, past, beat}
 use Rattle.disk_core.specs.State.{DiskState}
 use Rattle.proof_lives.specs.Lives.{outs_at}
@@ -100,7 +100,9 @@ tick_wrote : {S : Type 0} (step : S → Input Msg → Deed Msg S) (ev : NodeEven
 tick_wrote step (Does (Tick now)) before stamp e = let same : now ≡ stamp = cc in ap
     (λ (s : Stamp). map (entry_of noted s) (outs_of step (Does (Tick now)) before)) same
 tick_wrote step (Does (Take now link m)) before stamp e = absurd (cc)
+tick_wrote step (Ends i sends) before stamp e = absurd (cc)
 tick_wrote step (Dies now) before stamp e = absurd (cc)
+tick_wrote step (Returns now) before stamp e = absurd (cc)
 
 tick_is : (ev : NodeEvent Msg) (stamp : Stamp) → ev ≡ Does (Tick stamp) → is_tick ev ≡ true
 tick_is ev stamp e = ap is_tick e
@@ -161,7 +163,7 @@ module _ {S : Type 0} {step : S → Input Msg → Deed Msg S} {p : Params} {orde
       → AsksDisk w e → IsOfTick n i
   ask_tick w n i e known low k a =
       let x = event_sent step p n (h.event n i) (past noted step h n i) e a.link (note.ReadAsk w)
-      (kept.ring.run.fair n i known low) k a.is in
+      (kept.ring.run.plain n i known low) (kept.ring.run.fair n i known low) k a.is in
       let m : x.message ≡ msg.ReadAsk w = ask_back x.message w x.same in
       let sent = subst (λ (y : Msg). In (out.Send a.link y) (outs noted step h n i)) m x.sent in
       let c = of_cub kept n i a.link (msg.ReadAsk w) (λ q. q) (λ q. q) known low sent in
@@ -174,7 +176,7 @@ module _ {S : Type 0} {step : S → Input Msg → Deed Msg S} {p : Params} {orde
       (λ (t : (w.piece == 0) ≡ true).
       let is : e.what ≡ what.Sent a.link (note.Whole w a.sent a.part) = a.is ∙ (rw t refl) in
       let x = event_sent step p n (h.event n i) (past noted step h n i) e a.link (note.Whole w a.sent a.part)
-      (kept.ring.run.fair n i known low) k is in
+      (kept.ring.run.plain n i known low) (kept.ring.run.fair n i known low) k is in
       let m = whole_back x.message w a.sent a.part x.same in
       let sent = subst (λ (y : Msg). In (out.Send a.link y) (outs noted step h n i)) m.1 x.sent in
       let c = of_cub kept n i a.link (msg.Whole w a.sent m.0) (λ q. q) (λ q. q) known low sent in
@@ -183,7 +185,7 @@ module _ {S : Type 0} {step : S → Input Msg → Deed Msg S} {p : Params} {orde
       (λ (f : (w.piece == 0) ≡ false).
       let is : e.what ≡ what.Sent a.link (note.Piece w a.sent a.part) = a.is ∙ (rw f refl) in
       let x = event_sent step p n (h.event n i) (past noted step h n i) e a.link (note.Piece w a.sent a.part)
-      (kept.ring.run.fair n i known low) k is in
+      (kept.ring.run.plain n i known low) (kept.ring.run.fair n i known low) k is in
       let m = piece_back x.message w a.sent a.part x.same in
       let sent = subst (λ (y : Msg). In (out.Send a.link y) (outs noted step h n i)) m.1 x.sent in
       let c = of_cub kept n i a.link (msg.Piece w a.sent m.0) (λ q. q) (λ q. q) known low sent in

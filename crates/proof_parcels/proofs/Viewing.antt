@@ -19,8 +19,8 @@ use Rattle.node_kit.specs.declared.outbox.Out.TheVariants as out
 use Rattle.node_kit.specs.Links.{links_of, ends_of}
 use Rattle.node_kit.specs.Steps.{Deed, Input, entry_of}
 use Rattle.node_kit.specs.Steps.Input.{Take, Tick}
-use Rattle.run_facts.specs.Events.{NodeEvent, Past, Dated, entries_at, kept_outs, outs_of, sends_of, stamp_at, is_take_on}
-use Rattle.run_facts.specs.Events.NodeEvent.{Does, Dies}
+use Rattle.run_facts.specs.Events.{NodeEvent, Past, Dated, entries_at, kept_outs, outs_of, sends_of, stamp_at, is_take_on, IsPlain}
+use Rattle.run_facts.specs.Events.NodeEvent.{Does, Ends, Dies, Returns}
 use Rattle.run_facts.specs.Histories.{History, living, outs, past, beat, takes}
 use Rattle.disk_core.specs.State.{DiskState}
 use Rattle.lists.specs.Elements.{In}
@@ -117,17 +117,19 @@ nothing_cut outs [] back x e f = let q : [] ≡ x ∷ back = sym e ∙ f in absu
 nothing_cut outs (y ∷ ys) back x e f = let q : [] ≡ y ∷ (ys ++ x ∷ back) = sym e ∙ f in absurd (cc)
 
 module _ {S : Type 0} (step : S → Input Msg → Deed Msg S) where
-  event_behind : (ev : NodeEvent Msg) (before : Past S) (link : LinkNo) (m o : Msg)
+  event_behind : (ev : NodeEvent Msg) (before : Past S) (link : LinkNo) (m o : Msg) → IsPlain ev
       → SentBehind (outs_of step ev before) link m o
       → StandsBehind (entries_at noted step ev before) (entry_of noted (stamp_at ev) (out.Send link m))
       (entry_of noted (stamp_at ev) (out.Send link o))
-  event_behind (Does (Take stamp way n)) before link m o s =
+  event_behind (Does (Take stamp way n)) before link m o plain s =
       let b = mapped_behind stamp (kept_outs step (Take stamp way n) before) link m o s in
       let got : Entry = record { stamp = stamp; what = what.Got way (noted n) } in
       record { before = got ∷ b.before; behind = b.behind; is = ap (λ (l : List Entry). got ∷ l) b.is; there = b.there }
-  event_behind (Does (Tick stamp)) before link m o s = mapped_behind stamp (kept_outs step (Tick stamp) before) link
-      m o s
-  event_behind (Dies stamp) before link m o s = absurd (nothing_cut [] s.front s.back (out.Send link m) refl s.is)
+  event_behind (Does (Tick stamp)) before link m o plain s =
+      mapped_behind stamp (kept_outs step (Tick stamp) before) link m o s
+  event_behind (Ends i sends) before link m o plain s = absurd plain
+  event_behind (Returns stamp) before link m o plain s = absurd plain
+  event_behind (Dies stamp) before link m o plain s = absurd (nothing_cut [] s.front s.back (out.Send link m) refl s.is)
 
   -- a message that is taken is written first, and then the outputs
   take_wrote : (ev : NodeEvent Msg) (before : Past S) (stamp : Stamp) (link : LinkNo) (m : Msg)
@@ -160,7 +162,7 @@ module _ {S : Type 0} {step : S → Input Msg → Deed Msg S} {p : Params} {orde
       → In e (wrote step h (viewers p) i) → e.what ≡ what.Got link m → IsTakenIn i e link m
   taken_in i e link m low k is =
       let t = event_took step p (viewers p) (h.event (viewers p) i) (past noted step h (viewers p) i) e link m
-      (kept.ring.run.fair (viewers p) i known low) k is in
+      (kept.ring.run.plain (viewers p) i known low) (kept.ring.run.fair (viewers p) i known low) k is in
       let all = lives_all in
       record {
         message = t.message;
@@ -217,8 +219,10 @@ module _ {S : Type 0} {step : S → Input Msg → Deed Msg S} {p : Params} {orde
   sent_pair n i k a b link m x y inside one two first second less same_x same_y =
       let e : Entry = entry_of noted (stamp_at (h.event n i)) (out.Send link x) in
       let f : Entry = entry_of noted (stamp_at (h.event n k)) (out.Send link y) in
-      let there_e = event_writes_out step (h.event n i) (past noted step h n i) (out.Send link x) first in
-      let there_f = event_writes_out step (h.event n k) (past noted step h n k) (out.Send link y) second in
+      let there_e = event_writes_out step (h.event n i) (past noted step h n i) (out.Send link x)
+      (kept.ring.run.plain n i inside one.done) first in
+      let there_f = event_writes_out step (h.event n k) (past noted step h n k) (out.Send link y)
+      (kept.ring.run.plain n k inside two.done) second in
       let done_i = one.done in
       let done_k = two.done in
       let both : StandsBehind (so_far step h n (h.count n)) e f = ⊎_elim
@@ -233,7 +237,8 @@ module _ {S : Type 0} {step : S → Input Msg → Deed Msg S} {p : Params} {orde
       (record { beat = beat h n j; item = y })) q two.sends in
       let s = pair_sent (beat h n i) (outs noted step h n i) link x y a b places one.sends other in
       let here = same_behind step h n i (h.count n) e (entry_of noted (stamp_at (h.event n i)) (out.Send link y))
-      done_i (event_behind step (h.event n i) (past noted step h n i) link x y s) in
+      done_i (event_behind step (h.event n i) (past noted step h n i) link x y
+      (kept.ring.run.plain n i inside one.done) s) in
       subst (λ (j : ℕ). StandsBehind (so_far step h n (h.count n)) e (entry_of noted (stamp_at (h.event n j))
       (out.Send link y))) (sym q) here)
       (λ (l : k < i). let r = numbers_rise kept.plan kept.ring {n = n} {at = k} {place = b} {link = link} {m = y} i

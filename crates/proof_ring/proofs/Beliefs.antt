@@ -56,7 +56,7 @@ module _ (G : Type 0) (p : Params) (orders : List Order) (disk_at : ℕ → Disk
   came_before c b a came died =
       let known : c < node_count p = let small = came.small in omega arith in
       let l = reading h c came.at in
-      let tick = tick_is (h.event c came.at) came.tick in
+      let tick = tick_is (h.event c came.at) (is_ring.run.plain c came.at known came.done) came.tick in
       let ticked : TickedAt p (lives_of h) c b l = record {
         small = came.small;
         at = came.at;

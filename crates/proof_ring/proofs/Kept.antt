@@ -26,7 +26,7 @@ use Rattle.proof_facts.specs.Lives.{lives_of}
 use Rattle.proof_facts.specs.Facts.{facts_of}
 use Rattle.proof_facts.specs.Rings.{node_count}
 use Rattle.proof_ring.specs.Runs.{AreShort, disks_of}
-use Rattle.proof_ring.proofs.Runs.{HasRing, ring_in, size, deaths, kept_ring}
+use Rattle.proof_ring.proofs.Runs.{HasRing, ring_in, size, deaths, kept_ring, ticked}
 use Rattle.proof_ring.specs.Accounts.{IsControllersClock, account_in}
 use Rattle.proof_ring.specs.Beliefs.{BelievesInTime}
 use Rattle.proof_ring.specs.ClaimsOfRings.{IsStoredRing}
@@ -56,7 +56,7 @@ module _ (G : Type 0) (s : Scenario) (library : List (List ℕ)) (k : Kept) (sce
       let low : controller p < node_count p = omega arith in
       let inside : controller p < length _ = subst (λ n. controller p < n) (sym (size G s library k scenario short run)) low in
       record {
-        beats = run.steps.kept.lived.complete.until_end (controller p) inside
+        beats = ticked G s library k scenario short run (controller p) inside
             (λ i there. (deaths G s library k scenario short run).mortal (controller p) i low (omega arith) there);
         shows = λ i there tick. run.steps.kept.keeps.stamped (controller p) i inside there;
       }

@@ -10,7 +10,7 @@ use Rattle.node_kit.specs.Form.{is_in_form}
 use Rattle.node_kit.specs.Steps.{Deed, Input}
 use Rattle.node_kit.specs.Steps.Input.{Take, Tick}
 use Rattle.node_kit.specs.Deeds.{nothing}
-use Rattle.run_facts.specs.Events.{is_death}
+use Rattle.run_facts.specs.Events.{IsPlain, is_death}
 use Rattle.run_facts.specs.Histories.{History, past, outs, living}
 use Rattle.disk_core.specs.State.{DiskState}
 use Rattle.disk_core.specs.Rules.{asked, answers, disk_step}
@@ -28,7 +28,7 @@ use Rattle.proof_lives.proofs.Wrapped.{cub_with, cub_state, cub_outs, after_stat
 use Rattle.proof_controller.specs.Controllers.{controller, command, known_at, commands_at}
 use Rattle.proof_facts.specs.Rings.{node_of_disk, viewers}
 use Rattle.proof_ring.specs.Rings.{RingsAreHistories}
-use Rattle.proof_ring.proofs.Living.{alive_below}
+use Rattle.proof_ring.proofs.Living.{alive_below, counts_few}
 
 -- A disk never changes.
 pub answers_stays : (stamp : Stamp) (m : Msg) (d : DiskState) → (answers stamp m d).state ≡ d
@@ -43,6 +43,7 @@ answers_stays stamp msg.Heartbeat d = refl
 answers_stays stamp (msg.Placed t) d = refl
 answers_stays stamp (msg.Whole want at part) d = refl
 answers_stays stamp (msg.Piece want at part) d = refl
+answers_stays stamp (msg.Back from) d = refl
 
 pub disk_stays : (d : DiskState) (k : Input Msg) → (disk_step d k).state ≡ d
 unfolding asked
@@ -70,8 +71,9 @@ pub controller_outs : (G : Type 0) (p : Params) (orders : List Order) (known : K
 controller_outs G p orders known (Take stamp link m) = refl
 controller_outs G p orders known (Tick stamp) = refl
 
--- The events of node n below a number, none of which is a death.
-module _ {G : Type 0} (h : History Msg (AnyNode G)) (n top : ℕ) (alive : (i : ℕ) → i < top → is_death (h.event n i) ≡ false) where
+-- The events of node n below a number, which are plain, and none of which is a death.
+module _ {G : Type 0} (h : History Msg (AnyNode G)) (n top : ℕ) (plain : (i : ℕ) → i < top → IsPlain (h.event n i))
+    (alive : (i : ℕ) → i < top → is_death (h.event n i) ≡ false) where
   abbrev pub inputs : ℕ → Input Msg
   inputs i = input_of (h.event n i)
 
@@ -79,10 +81,10 @@ module _ {G : Type 0} (h : History Msg (AnyNode G)) (n top : ℕ) (alive : (i : 
   state i = (past noted any_step h n i).state
 
   pub next_state : (i : ℕ) → i < top → state (suc i) ≡ (any_step (state i) (inputs i)).state
-  next_state i low = after_state any_step (h.event n i) (past noted any_step h n i) (alive i low)
+  next_state i low = after_state any_step (h.event n i) (past noted any_step h n i) (plain i low) (alive i low)
 
   pub outs_are : (i : ℕ) → i < top → outs noted any_step h n i ≡ (any_step (state i) (inputs i)).outs
-  outs_are i low = event_outs any_step (h.event n i) (past noted any_step h n i) (alive i low)
+  outs_are i low = event_outs any_step (h.event n i) (past noted any_step h n i) (plain i low) (alive i low)
 
   pub cub_keeps : (p : Params) → h.first n ≡ opening_cub p n → (i : ℕ) → i ≤ top → state i ≡ node.Cub (cub_with p n (store_at p n inputs i))
   cub_keeps p first zero low = first
@@ -143,15 +145,24 @@ rings_are_histories G p orders disk_at h plan ring =
       short = ring.short;
       rules = record {
         cubs = λ c i small low.
-            cub_puts_out h c (living h c) (λ j l. alive_below h c (λ k m d. ring.run.ended c k (omega arith) m d) j l) p (ring.opens.cubs c small) i low;
+            cub_puts_out h c (living h c)
+            (λ j l. ring.run.plain c j (omega arith) (let few = counts_few h c (h.count c) in omega (arith, few, l)))
+            (λ j l. alive_below h c (λ k m d. ring.run.ended c k (omega arith) m d) j l) p (ring.opens.cubs c small)
+            i low;
         disks = λ d i small low.
-            disk_puts_out h (node_of_disk p d) (h.count (node_of_disk p d)) (λ j l. mortal (node_of_disk p d) j (omega arith) (omega arith) l)
+            disk_puts_out h (node_of_disk p d) (h.count (node_of_disk p d))
+            (λ j l. ring.run.plain (node_of_disk p d) j (omega arith) l)
+            (λ j l. mortal (node_of_disk p d) j (omega arith) (omega arith) l)
             (disk_at d) (ring.opens.disks d small) i low;
         are_disks = ring.opens.numbered;
         controls = λ i low.
-            controller_puts_out h (controller p) (h.count (controller p)) (λ j l. mortal (controller p) j (omega arith) (omega arith) l)
+            controller_puts_out h (controller p) (h.count (controller p))
+            (λ j l. ring.run.plain (controller p) j (omega arith) l)
+            (λ j l. mortal (controller p) j (omega arith) (omega arith) l)
             p orders ring.opens.commands i low;
         views = λ i low.
-            viewers_put_out h (viewers p) (h.count (viewers p)) (λ j l. mortal (viewers p) j (omega arith) (omega arith) l) ring.opens.views i low;
+            viewers_put_out h (viewers p) (h.count (viewers p))
+            (λ j l. ring.run.plain (viewers p) j (omega arith) l)
+            (λ j l. mortal (viewers p) j (omega arith) (omega arith) l) ring.opens.views i low;
       };
     }

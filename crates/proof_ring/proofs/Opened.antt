@@ -1,11 +1,9 @@
--- The nodes of a ring as they open, by number; and that a life without a death goes on.
-use Rattle.std.proofs.Common.{◌≡◌, ℕ, zero, suc, ◌+◌, ◌*◌, ◌-◌, ◌<◌, ◌≤◌, List, [], ◌∷◌, ◌++◌, length, length-append, true, Some, None, refl, ap, ◌∙◌, arith, ⊎_elim}
+-- The nodes of a ring as they open, by number; and that the readings of a run are not too large.
+use Rattle.std.proofs.Common.{◌≡◌, ℕ, zero, suc, ◌+◌, ◌*◌, ◌-◌, ◌<◌, ◌≤◌, List, [], ◌∷◌, ◌++◌, length, length-append, Some, refl, ap, ◌∙◌, arith, ⊎_elim}
 use Rattle.std.specs.Prelude.{slice_get}
 use Rattle.std.proofs.lemmas.Bool.{cases_lt}
 use Rattle.std.proofs.lemmas.Option.{none-some}
 use Rattle.std.proofs.Math.Nat.{mul-le-mul}
-use Rattle.tiger_base.specs.declared.message.Msg.{Msg}
-use Rattle.tiger_base.specs.Notes.{noted}
 use Rattle.tiger_base.specs.Limits.{most_beats, most_reading}
 use Rattle.slot_plan.specs.declared.params.Params.{Params}
 use Rattle.slot_plan.specs.Times.{time_of, disk_count}
@@ -14,10 +12,6 @@ use Rattle.node_kit.specs.declared.course.Course.{Course}
 use Rattle.node_kit.specs.declared.course.Order.{Order}
 use Rattle.node_kit.specs.declared.course.ReadFault.{ReadFault}
 use Rattle.node_kit.specs.Courses.{IsCourse}
-use Rattle.node_kit.specs.Life.{Lifetime, acts}
-use Rattle.node_kit.specs.Steps.{Deed, Input}
-use Rattle.run_facts.specs.Histories.{History, past, beat}
-use Rattle.run_facts.proofs.Along.{life-at}
 use Rattle.ring_nodes.specs.declared.nodes.AnyNode.{AnyNode}
 use Rattle.ring_nodes.specs.declared.nodes.AnyNode.TheVariants as node
 use Rattle.ring_nodes.specs.AllNodes.{numbered, each_numbered, opening_cub, opening_disk, opening_controller, opening_nodes}
@@ -74,15 +68,6 @@ module _ (G : Type 0) (p : Params) (faults : List ReadFault) (images : List Imag
 
   pub viewers_open : slice_get (opening_nodes {G = G} p faults images os) (p.cubs + disk_count p + 1) ≡ Some (node.Viewers [])
   viewers_open = get_back (cubs ++ disks) others 1 (p.cubs + disk_count p + 1) (omega (arith, before))
-
--- a life without a death goes on
-pub acts_always : (life : Lifetime) (b : ℕ) → life.death ≡ None → acts life b ≡ true
-unfolding acts
-acts_always life b e = rw e refl
-
-pub life_kept : {S : Type 0} (step : S → Input Msg → Deed Msg S) (h : History Msg S) (n i : ℕ) → (past noted step h n i).life ≡ h.life n
-life_kept step h n zero = refl
-life_kept step h n (suc i) = life-at noted step (h.event n i) (past noted step h n i) ∙ life_kept step h n i
 
 -- the readings of a run are not too large
 pub read_low : (c : Course) (b r : ℕ) → IsCourse c → b < c.beats → r ≤ time_of c.plan.params b + c.plan.params.skew → r ≤ most_reading

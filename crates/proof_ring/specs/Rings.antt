@@ -7,7 +7,8 @@ use Rattle.slot_plan.specs.declared.params.Params.{Params}
 use Rattle.slot_plan.specs.Conditions.{IsPlan}
 use Rattle.slot_plan.specs.Times.{disk_count}
 use Rattle.node_kit.specs.declared.course.Order.{Order}
-use Rattle.run_facts.specs.Histories.{History, IsRun, reading}
+use Rattle.run_facts.specs.Histories.{History, reading}
+use Rattle.run_facts.specs.Plain.{IsPlainRun}
 use Rattle.disk_core.specs.State.{DiskState}
 use Rattle.ring_nodes.specs.declared.nodes.AnyNode.{AnyNode}
 use Rattle.ring_nodes.specs.declared.nodes.AnyNode.TheVariants as node
@@ -29,7 +30,7 @@ pub record OpensAs {G : Type 0} (p : Params) (orders : List Order) (disk_at : �
 -- A history of a ring from its opening on, of which no two neighbours die. Time is not too long.
 pub record IsRing {G : Type 0} (p : Params) (orders : List Order) (disk_at : ℕ → DiskState)
     (h : History Msg (AnyNode G)) : Type 0 where
-  pub run : IsRun noted any_step p (node_count p) h
+  pub run : IsPlainRun noted any_step p (node_count p) h
   pub opens : OpensAs p orders disk_at h
   pub deaths : DieAlone p h
   pub counted : AreCounted p orders
