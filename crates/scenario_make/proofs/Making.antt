@@ -8,7 +8,7 @@ use Rattle.slot_plan.specs.declared.params.Params.{Params}
 use Rattle.node_kit.specs.declared.course.ReadFault.{ReadFault}
 use Rattle.scenario_read.specs.declared.scenario.FileLine.{FileLine}
 use Rattle.scenario_read.specs.declared.scenario.ScEvent.{ScEvent}
-use Rattle.scenario_read.specs.Meaning.{Said}
+use Rattle.scenario_read.specs.Meaning.{Said, of_none}
 use Rattle.scenario_make.specs.Draws.{after, generator_of}
 use Rattle.scenario_make.specs.Events.{events_by}
 use Rattle.scenario_make.specs.Files.{lines_by, contents_by}
@@ -24,13 +24,13 @@ pub record Follow (g h i j k : Lcg) : Type 0 where
   pub deaths : j ≡ after 660 i
   pub faults : k ≡ after 4 j
 
-pub made-said : (number : ℕ) (g h i j k : Lcg) (plan : Params) (offsets : List ℕ) (deaths : List (Option ℕ)) (faults : List ReadFault) (files : List FileLine)
+pub made-said : (number : ℕ) (g h i j k : Lcg) (plan : Params) (offsets : List ℕ) (deaths cuts backs : List (Option ℕ)) (faults : List ReadFault) (files : List FileLine)
     (events : List ScEvent) → g ≡ generator_of number → Follow g h i j k → plan ≡ made_plan → offsets ≡ offsets_by g 15 → files ≡ lines_by h 8
-    → events ≡ events_by i 300 → deaths ≡ deaths_by j → faults ≡ faults_by k 10
-    → ◌≡◌ {A = Said} (record { plan = plan; beats = 6000; offsets = offsets; deaths = deaths; faults = faults; delay = Drawn number; files = files; events = events })
+    → events ≡ events_by i 300 → deaths ≡ deaths_by j → cuts ≡ of_none 14 → backs ≡ of_none 14 → faults ≡ faults_by k 10
+    → ◌≡◌ {A = Said} (record { plan = plan; beats = 6000; offsets = offsets; deaths = deaths; cuts = cuts; backs = backs; faults = faults; delay = Drawn number; files = files; events = events })
     (made_scenario number)
 unfolding made_scenario
-made-said number g h i j k plan offsets deaths faults files events start f p o l e d r =
+made-said number g h i j k plan offsets deaths cuts backs faults files events start f p o l e d a b r =
     let first = f.files ∙ ap (after 15) start in
     let second = f.events ∙ ap (after 24) first ∙ after-after (generator_of number) 15 24 in
     let third = f.deaths ∙ ap (after 660) second ∙ after-after (generator_of number) 39 660 in
@@ -40,7 +40,7 @@ made-said number g h i j k plan offsets deaths faults files events start f p o l
     let e' = e ∙ ap (λ (x : Lcg). events_by x 300) second in
     let d' = d ∙ ap deaths_by third in
     let r' = r ∙ ap (λ (x : Lcg). faults_by x 10) fourth in
-    rw (p, o', l', e', d', r') refl
+    rw (p, o', l', e', d', a, b, r') refl
 
 pub made-contents : (number : ℕ) (g h : Lcg) (library : List (List ℕ)) → g ≡ generator_of number → h ≡ after 15 g → library ≡ contents_by h 8
     → library ≡ made_library number

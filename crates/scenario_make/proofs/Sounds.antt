@@ -17,8 +17,9 @@ use Rattle.scenario_read.specs.declared.scenario.ScEvent.{ScEvent}
 use Rattle.scenario_read.specs.declared.scenario.ScEvent.TheVariants.{Begin, Finish}
 use Rattle.scenario_read.specs.declared.scenario.Scenario.{Scenario}
 use Rattle.scenario_read.specs.Events.{beat_of, starts_in, most_blocks}
-use Rattle.scenario_read.specs.Meaning.{Said, said_by}
+use Rattle.scenario_read.specs.Meaning.{Said, said_by, of_none}
 use Rattle.scenario_read.specs.Sound.{AreEvents, IsFile, IsReadFault, IsScenario}
+use Rattle.scenario_read.proofs.Sounds.{none-whole}
 use Rattle.scenario_make.specs.Draws.{after, draw, generator_of}
 use Rattle.scenario_make.specs.Events.{at_start, beat_by, events_at, events_by}
 use Rattle.scenario_make.specs.Files.{at_file, line_by, bytes_of, length_by, lines_by, contents_by}
@@ -39,6 +40,8 @@ record IsSound (q : Said) : Type 0 where
   offsets : length q.offsets ≡ q.plan.cubs + 1
   skewed : All (λ o. o ≤ q.plan.skew) q.offsets
   by_cub : length q.deaths ≡ q.plan.cubs
+  cuts : of_none q.plan.cubs ≡ q.cuts
+  backs : of_none q.plan.cubs ≡ q.backs
   delay : FixedIsWithin q.delay q.plan.delay
   product : q.beats * q.plan.cubs ≤ 2000000
   some_file : 1 ≤ length q.files
@@ -53,21 +56,34 @@ record IsSound (q : Said) : Type 0 where
   faults : All (IsReadFault (disk_count q.plan) q.beats) q.faults
 
 scenario-sound : (s : Scenario) → IsSound (said_by s) → IsScenario s
-scenario-sound s q = record {
-  course = record { beats = q.high; offsets = q.offsets; skewed = q.skewed; deaths = q.by_cub; delay = q.delay };
-  beats = q.low;
-  product = q.product;
-  some_file = q.some_file;
-  few_files = q.few_files;
-  files = q.files;
-  events = q.events;
-  blocks = q.blocks;
-  few_deaths = q.few_deaths;
-  deaths = q.deaths;
-  apart = q.apart;
-  few_faults = q.few_faults;
-  faults = q.faults;
-}
+scenario-sound s q =
+    let whole = none-whole s.course q.cuts q.backs in
+    record {
+      course = record {
+        beats = q.high;
+        offsets = q.offsets;
+        skewed = q.skewed;
+        deaths = q.by_cub;
+        cuts = whole.cuts;
+        backs = whole.backs;
+        cut_deaths = whole.cut_deaths;
+        returns_later = whole.returns_later;
+        delay = q.delay;
+      };
+      whole_lives = whole.lives;
+      beats = q.low;
+      product = q.product;
+      some_file = q.some_file;
+      few_files = q.few_files;
+      files = q.files;
+      events = q.events;
+      blocks = q.blocks;
+      few_deaths = q.few_deaths;
+      deaths = q.deaths;
+      apart = q.apart;
+      few_faults = q.few_faults;
+      faults = q.faults;
+    }
 
 -- what holds of the thing of each number below n holds of all
 all_by : {X : Type 0} (P : X → Type 0) (f : ℕ → X) (n : ℕ) → ((k : ℕ) → k < n → P (f k)) → All P (map f (range_with_len 0 n))
@@ -293,6 +309,8 @@ sound-by number g =
       offsets = length-offsets_by g 15;
       skewed = offsets-skewed g 15;
       by_cub = cubs;
+      cuts = refl;
+      backs = refl;
       delay = tt;
       product = lit≤ tt;
       some_file = omega arith;

@@ -3,7 +3,7 @@ use Rattle.std.specs.Prelude.{ℕ, List}
 use Rattle.rand_pcg.specs.Lcg.{Lcg}
 use Rattle.link_timing.specs.declared.Delay.TheVariants.{Drawn}
 use Rattle.slot_plan.specs.declared.params.Params.{Params}
-use Rattle.scenario_read.specs.Meaning.{Said}
+use Rattle.scenario_read.specs.Meaning.{Said, of_none}
 use Rattle.scenario_make.specs.Draws.{generator_of, after}
 use Rattle.scenario_make.specs.Events.{events_by}
 use Rattle.scenario_make.specs.Files.{lines_by, contents_by}
@@ -40,6 +40,8 @@ scenario_by number g = record {
   beats = 6000;
   offsets = offsets_by g 15;
   deaths = deaths_by (after 699 g);
+  cuts = of_none 14;
+  backs = of_none 14;
   faults = faults_by (after 703 g) 10;
   delay = Drawn number;
   files = lines_by (after 15 g) 8;

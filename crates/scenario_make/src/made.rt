@@ -7,11 +7,11 @@ ghost use Rattle.scenario_make.specs.Made.{made_plan, made_scenario, made_librar
 
 use crate::events::events;
 use crate::files::files;
-use crate::troubles::{deaths, faults, offsets};
+use crate::troubles::{CUBS, deaths, faults, offsets};
 use link_timing::Delay;
 use node_kit::Course;
 use rand_pcg::Lcg64Xsh32;
-use scenario_read::Scenario;
+use scenario_read::{Scenario, of_none};
 use slot_plan::{Params, Plan};
 use std::alloc::Global;
 use tiger_base::{Library, NoMemory};
@@ -40,11 +40,15 @@ pub fn make(alloc: Global, number: u64) -> Result<Made, NoMemory>
     let events = events(alloc, &mut generator)?;
     let deaths = deaths(alloc, &mut generator)?;
     let faults = faults(alloc, &mut generator)?;
+    let cuts = of_none(alloc, CUBS)?;
+    let backs = of_none(alloc, CUBS)?;
     let course = Course {
         plan: made_plan(),
         beats: 6000,
         offsets,
         deaths,
+        cuts,
+        backs,
         faults,
         delay: Delay::Drawn(number),
     };

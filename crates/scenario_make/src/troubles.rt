@@ -9,7 +9,8 @@ use rand_pcg::Lcg64Xsh32;
 use std::alloc::Global;
 use tiger_base::{Beat, DiskNo, Micros, NoMemory, Sequence};
 
-const CUBS: u64 = 14;
+/// The number of cubs of a made scenario.
+pub const CUBS: u64 = 14;
 
 const CLOCKS: u64 = CUBS + 1;
 

@@ -1,5 +1,5 @@
 -- What a scenario's bytes mean, or the first broken rule.
-use Rattle.std.specs.Prelude.{ℕ, Bool, ◌&&◌, List, [], ◌∷◌, length, Option, is_some, Result, Ok, codes}
+use Rattle.std.specs.Prelude.{ℕ, Bool, ◌&&◌, List, [], ◌∷◌, length, replicate, Option, None, is_some, Result, Ok, codes}
 use Rattle.serde_json.specs.Data.{Data}
 use Rattle.serde_json.specs.Find.{get}
 use Rattle.link_timing.specs.declared.Delay.{Delay}
@@ -19,12 +19,14 @@ use Rattle.scenario_read.specs.Events.{starts_in, events_of, few_blocks}
 use Rattle.scenario_read.specs.Deaths.{deaths_of}
 use Rattle.scenario_read.specs.ReadFaults.{read_faults_of}
 
--- what a scenario says; the deaths stand by cub
+-- what a scenario says; the deaths stand by cub, and what they cut off, and the returns
 pub record Said : Type 0 where
   pub plan : Params
   pub beats : ℕ
   pub offsets : List ℕ
   pub deaths : List (Option ℕ)
+  pub cuts : List (Option ℕ)
+  pub backs : List (Option ℕ)
   pub faults : List ReadFault
   pub delay : Delay
   pub files : List FileLine
@@ -37,6 +39,8 @@ said_by s = record {
   beats = s.course.beats;
   offsets = s.course.offsets;
   deaths = s.course.deaths;
+  cuts = s.course.cuts;
+  backs = s.course.backs;
   faults = s.course.faults;
   delay = s.course.delay;
   files = s.files;
@@ -53,7 +57,11 @@ has_key d key = is_some (get key d)
 unfoldable pub has_keys : Data → Bool
 has_keys d = has_only (is_one_of scenario_keys) d && has_key d (codes "plan") && has_key d (codes "beats") && has_key d (codes "links") && has_key d (codes "files") && has_key d (codes "events")
 
--- what a scenario's object means: its rules in their order
+-- of each of so many cubs nothing
+abbrev pub of_none : ℕ → List (Option ℕ)
+of_none cubs = replicate cubs None
+
+-- what a scenario's object means: its rules in their order. No death cuts a cub off, and no cub returns
 unfoldable pub scenario_of : Data → Result Said ScenarioFault
 scenario_of d = do
   keys ← keeps (has_keys d) (broken 2 0)
@@ -71,6 +79,8 @@ scenario_of d = do
     beats = beats;
     offsets = offsets;
     deaths = deaths;
+    cuts = of_none plan.cubs;
+    backs = of_none plan.cubs;
     faults = faults;
     delay = delay;
     files = files;

@@ -7,6 +7,7 @@ use Rattle.node_kit.specs.declared.course.ReadFault.{ReadFault}
 use Rattle.node_kit.specs.Courses.{IsCourse}
 use Rattle.node_kit.specs.Life.{lifetime_of}
 use Rattle.run_facts.specs.Timed.{DieApart}
+use Rattle.run_facts.specs.Plain.{HasWholeLives}
 use Rattle.scenario_read.specs.declared.scenario.FileLine.{FileLine}
 use Rattle.scenario_read.specs.declared.scenario.ScEvent.{ScEvent}
 use Rattle.scenario_read.specs.declared.scenario.ScEvent.TheVariants.{Begin, Finish}
@@ -52,5 +53,6 @@ pub record IsScenario (s : Scenario) : Type 0 where
   pub few_deaths : count_by is_some s.course.deaths ≤ 32
   pub deaths : All (λ d. IfSome d (λ beat. beat < s.course.beats)) s.course.deaths
   pub apart : DieApart s.course.plan.params (lifetime_of s.course)
+  pub whole_lives : HasWholeLives s.course
   pub few_faults : length s.course.faults ≤ 1000
   pub faults : All (IsReadFault (disk_count s.course.plan.params) s.course.beats) s.course.faults

@@ -4,6 +4,7 @@ ghost use Rattle.std.specs.List.{list_any};
 ghost use Rattle.serde_json.specs.View.{view};
 ghost use Rattle.scenario_read.specs.Fault.{Gives, GivesAs};
 ghost use Rattle.scenario_read.specs.Items.{items_after};
+ghost use Rattle.scenario_read.specs.Meaning.{of_none};
 ghost use Rattle.scenario_read.specs.Deaths.{are_close, death_after, deaths_given, beat_for, death_in, by_cub, deaths_of};
 
 use crate::stop::{ReadStop, broken};
@@ -145,4 +146,11 @@ pub fn deaths_of(
         Ok(beats) => Ok(Sequence::new(beats)),
         Err(NoMemory) => Err(ReadStop::NoMemory),
     }
+}
+
+/// A row that says nothing of each of so many cubs: neither that its death cuts it off, nor that it returns.
+pub fn of_none(alloc: Global, cubs: u64) -> Result<Sequence<Option<u64>>, NoMemory>
+    ensures { IfOk result (λ row. row ≡ of_none cubs) }
+{
+    Ok(Sequence::new(vec![in alloc; None; cubs as usize]?))
 }

@@ -5,7 +5,7 @@ ghost use Rattle.scenario_read.specs.Fault.{GivesAs};
 ghost use Rattle.scenario_read.specs.Meaning.{has_keys, scenario_of, meaning, said_by};
 ghost use Rattle.scenario_read.specs.Sound.{IsScenario};
 
-use crate::deaths::deaths_of;
+use crate::deaths::{deaths_of, of_none};
 use crate::events::{events_of, few_blocks};
 use crate::files::files_of;
 use crate::planning::plan_of;
@@ -68,6 +68,8 @@ fn scenario_of(alloc: Global, top: &Value) -> Result<Scenario, ReadStop>
             beats,
             offsets,
             deaths,
+            cuts: of_none(alloc, cubs)?,
+            backs: of_none(alloc, cubs)?,
             faults,
             delay,
         },

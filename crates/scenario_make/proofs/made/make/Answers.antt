@@ -9,8 +9,8 @@ returns-clause-said c =
     let follow : Follow c.new-generator.result c.offsets.new.generator c.files.new.generator c.events.new.generator c.deaths.new.generator =
     record { files = c.in_ok-offsets.ensures.after; events = c.in_ok-files.ensures.after; deaths = c.in_ok-events.ensures.after; faults = c.in_ok-deaths.ensures.after } in
     made-said c.args.number c.new-generator.result c.offsets.new.generator c.files.new.generator c.events.new.generator c.deaths.new.generator c.made_plan.result.params
-    c.in_ok-offsets.offsets c.in_ok-deaths.deaths c.in_ok-faults.faults c.in_ok-files.files.lines c.in_ok-events.events c.new-generator.ensures follow c.made_plan.ensures
-    c.in_ok-offsets.ensures.offsets c.in_ok-files.ensures.lines c.in_ok-events.ensures.events c.in_ok-deaths.ensures.deaths c.in_ok-faults.ensures.faults
+    c.in_ok-offsets.offsets c.in_ok-deaths.deaths c.in_ok-cuts.cuts c.in_ok-backs.backs c.in_ok-faults.faults c.in_ok-files.files.lines c.in_ok-events.events c.new-generator.ensures follow c.made_plan.ensures
+    c.in_ok-offsets.ensures.offsets c.in_ok-files.ensures.lines c.in_ok-events.ensures.events c.in_ok-deaths.ensures.deaths c.in_ok-cuts.ensures c.in_ok-backs.ensures c.in_ok-faults.ensures.faults
 
 pub returns-clause-library : goal.returns-clause-library
 unfolding generator_of
