@@ -8,7 +8,7 @@ use Rattle.link_timing.specs.Clock.{Clock, IsClock, arrival_at, after_send}
 use Rattle.link_timing.proofs.Arrivals.{GoesOn-from_IsClock, IsClock-after_send}
 use Rattle.node_kit.specs.Life.{Lifetime}
 use Rattle.run_facts.specs.Events.{Dated}
-use Rattle.run_facts.specs.Paced.{Passage, passages, is_heard, brought, ArePacedOn}
+use Rattle.run_facts.specs.Paced.{Passage, passages, is_heard, brought}
 use Rattle.run_facts.specs.Accounts.{AreInOrder}
 use Rattle.run_facts.proofs.Rows.{all-weaker, filter-none}
 use Rattle.proof_answer.proofs.Dated.{dated_below, arriving_below, order-above}
@@ -59,18 +59,20 @@ brought-below b (f ∷ ps) = ⊎_elim
     (λ (q : nat_lt f.arrival b ≡ false). rw q (brought-below b ps))
     (cases_Bool (nat_lt f.arrival b))
 
--- what a paced link brings up to a beat, if this was sent below the beat
-abbrev pub got_up_to : {X : Type 0} → Clock → Lifetime → ℕ → ℕ → List (Dated X) → List (Dated X)
-got_up_to clock life beats b sent =
+-- what a link brings that its receiver hears, each in the beat in which it is brought
+abbrev pub heard_on : {X : Type 0} → Clock → Lifetime → ℕ → List (Dated X) → List (Dated X)
+heard_on clock life beats sent = map brought (filter (is_heard life beats) (passages clock sent))
+
+-- so it is up to a beat, if this was sent below the beat
+abbrev pub heard_up_to : {X : Type 0} → Clock → Lifetime → ℕ → ℕ → List (Dated X) → List (Dated X)
+heard_up_to clock life beats b sent =
     map brought (filter (is_heard life beats) (arriving_below (suc b) (passages clock sent)))
 
-pub got-below : {X : Type 0} (clock : Clock) (life : Lifetime) (beats b : ℕ)
-    (sent got : List (Dated X)) → IsClock clock
-    → AreInOrder clock.last_send sent → ArePacedOn clock life beats sent got
-    → dated_below (suc b) got ≡ got_up_to clock life beats b (dated_below b sent)
-got-below {X} clock life beats b sent got k h paced =
-    ap (dated_below (suc b)) paced
-    ∙ brought-below (suc b) (filter (is_heard life beats) (passages clock sent))
+pub heard-below : {X : Type 0} (clock : Clock) (life : Lifetime) (beats b : ℕ) (sent : List (Dated X)) → IsClock clock
+    → AreInOrder clock.last_send sent
+    → dated_below (suc b) (heard_on clock life beats sent) ≡ heard_up_to clock life beats b (dated_below b sent)
+heard-below {X} clock life beats b sent k h =
+    brought-below (suc b) (filter (is_heard life beats) (passages clock sent))
     ∙ ap (map brought) (
     filter-swap (λ (f : Passage X). nat_lt f.arrival (suc b)) (is_heard life beats) (passages clock sent)
     ∙ ap (filter (is_heard life beats)) (passages-below clock b sent k h)

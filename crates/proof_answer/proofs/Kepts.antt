@@ -20,7 +20,8 @@ use Rattle.proof_answer.specs.KeptAnswers.{KeptRunsAreOne}
 same_journals : (G : Type 0) (c : Course) (catalogue : Catalogue) (library : List (List ℕ)) (orders : List Order) (js ks : List (List Entry))
     → IsCourse c → HasRun G c catalogue library orders js → HasRun G c catalogue library orders ks → js ≡ ks
 same_journals G c catalogue library orders js ks course one two =
-    (runs-are-one Msg (AnyNode G) noted (any_step {G = G}) c (ring_of G c catalogue library orders) one.nodes two.nodes js ks course one.kept two.kept).1
+    (runs-are-one Msg (AnyNode G) noted (any_step {G = G}) c (ring_of G c catalogue library orders) one.nodes two.nodes js
+    ks course one.kept two.kept).1
 
 pub kept_runs_are_one : (G : Type 0) → KeptRunsAreOne G
 kept_runs_are_one G s library one two sound a b =

@@ -12,7 +12,7 @@ use Rattle.proof_answer.specs.Answers.{AreSame, RunsAreOne}
 use Rattle.proof_answer.proofs.Beats.{all-same}
 use Rattle.run_facts.proofs.Listed.{events_of, listed-last, listed-length, listed-get}
 use Rattle.proof_answer.proofs.Lists.{some-same, element-of, each-same}
-use Rattle.proof_answer.proofs.Living.{lived-of}
+use Rattle.proof_answer.proofs.Lived.{have-lived}
 
 -- events that are the same in lists are so by number
 same-by_number : {M S : Type 0} (nodes : ℕ) (g h : History M S)
@@ -66,10 +66,9 @@ runs-are-one M S note step c given nodes others journals books course one two =
     let s = opens_g n low in
     let t = opens_h n low in
     t.2 ∙ some-same t.0 s.0 (sym t.1 ∙ s.1) ∙ sym s.2 in
-    let from_g = lived-of note step c count g life_g one.lived.run one.lived.complete one.keeps in
-    let from_h = lived-of note step c count h life_h two.lived.run two.lived.complete two.keeps in
-    let lived_g = from_g g.first (λ n low. refl) in
-    let lived_h = from_h g.first first in
+    let lived_g = have-lived note step c count g life_g one.lived.run one.lived.complete one.keeps g.first
+    (λ n low. refl) in
+    let lived_h = have-lived note step c count h life_h two.lived.run two.lived.complete two.keeps g.first first in
     let same = all-same note step c course count g.first (events_of g) (events_of h) lived_g lived_h in
     let last : (n : ℕ) → n < count → ◌≡◌ {A = Past S} (last_of note step g n) (last_of note step h n) =
     λ n low. same-last note step g h n (sym (first n low)) (life_g n low ∙ sym (life_h n low)) (same n low) in

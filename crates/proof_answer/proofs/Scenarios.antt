@@ -26,9 +26,9 @@ scenarios_are_what_they_say s t same =
     let plan : s.course.plan ≡ t.course.plan =
     same_plan s.course.plan.params t.course.plan.params s.course.plan.sound t.course.plan.sound (ap (λ (x : Said). x.plan) same) in
     let course : ◌≡◌ {A = Course}
-    (record { plan = s.course.plan; beats = s.course.beats; offsets = s.course.offsets; deaths = s.course.deaths; faults = s.course.faults; delay = s.course.delay })
-    (record { plan = t.course.plan; beats = t.course.beats; offsets = t.course.offsets; deaths = t.course.deaths; faults = t.course.faults; delay = t.course.delay }) =
-    rw (plan, ap (λ (x : Said). x.beats) same, ap (λ (x : Said). x.offsets) same, ap (λ (x : Said). x.deaths) same, ap (λ (x : Said). x.faults) same, ap (λ (x : Said). x.delay) same) refl in
+    (record { plan = s.course.plan; beats = s.course.beats; offsets = s.course.offsets; deaths = s.course.deaths; cuts = s.course.cuts; backs = s.course.backs; faults = s.course.faults; delay = s.course.delay })
+    (record { plan = t.course.plan; beats = t.course.beats; offsets = t.course.offsets; deaths = t.course.deaths; cuts = t.course.cuts; backs = t.course.backs; faults = t.course.faults; delay = t.course.delay }) =
+    rw (plan, ap (λ (x : Said). x.beats) same, ap (λ (x : Said). x.offsets) same, ap (λ (x : Said). x.deaths) same, ap (λ (x : Said). x.cuts) same, ap (λ (x : Said). x.backs) same, ap (λ (x : Said). x.faults) same, ap (λ (x : Said). x.delay) same) refl in
     let whole : ◌≡◌ {A = Scenario} (record { course = s.course; files = s.files; events = s.events }) (record { course = t.course; files = t.files; events = t.events }) =
     rw (course, ap (λ (x : Said). x.files) same, ap (λ (x : Said). x.events) same) refl in
     whole
