@@ -1,16 +1,18 @@
 -- The events of a node in a beat are its takes, and then its tick or its death.
-use Rattle.std.proofs.Common.{◌≡◌, ℕ, suc, ◌<◌, ◌≤◌, List, [], ◌∷◌, ◌++◌, map, filter, true, false, Option, Some, None, refl, ap, sym, ◌∙◌, arith, ⊎_elim}
-use Rattle.std.specs.Prelude.{◌==◌}
+use Rattle.std.proofs.Common.{◌≡◌, ℕ, suc, ◌<◌, ◌≤◌, List, [], ◌∷◌, ◌++◌, map, filter, true, false, Option, Some, None, refl, ap, sym, ◌∙◌, subst, arith, ⊎_elim}
+use Rattle.std.specs.Prelude.{◌==◌, nat_lt}
 use Rattle.std.specs.List.{AllByRecursion}
 use Rattle.std.proofs.lemmas.Bool.{cases_Bool, cases_eq, eqb-true, eq-eqb, ne_eqb}
 use Rattle.std.proofs.lemmas.Bool.Decides.{nat_tests}
 use Rattle.tiger_base.specs.declared.number.Stamp.{Stamp}
 use Rattle.node_kit.specs.declared.course.Course.{Course}
 use Rattle.node_kit.specs.Courses.{reading_of, stamp_in}
-use Rattle.node_kit.specs.Life.{Lifetime, lifetime_of, acts, dies}
+use Rattle.node_kit.specs.Life.{Lifetime, IsWholeLife, mortal, lifetime_of, acts, dies}
+use Rattle.node_kit.proofs.Whole.{acts-mortal, dies-undying, dies-mortal}
+use Rattle.run_facts.specs.Plain.{HasWholeLives}
 use Rattle.node_kit.specs.Steps.Input.{Take, Tick}
 use Rattle.run_facts.specs.Events.{NodeEvent, Dated, stamp_at}
-use Rattle.run_facts.specs.Events.NodeEvent.{Does, Dies}
+use Rattle.run_facts.specs.Events.NodeEvent.{Does, Ends, Dies, Returns}
 use Rattle.run_facts.proofs.Rows.{all-weaker}
 use Rattle.run_facts.proofs.Timelines.{rising-counted}
 use Rattle.proof_answer.proofs.Resting.{IsRest, rest-behind}
@@ -28,14 +30,19 @@ acts_by c n b before es =
     map (λ (g : Dated Act). g.item) (filter (λ g. g.beat == b) (takes_behind before es)) ++ end_of_beat c n b
 
 -- behind a death nothing happens
-idle-behind : (life : Lifetime) (a b : ℕ) → a < b → dies life a ≡ true → (acts life b ≡ false) × (dies life b ≡ false)
-unfolding acts dies
-idle-behind life a b later dead = by_death life.death dead
+idle-behind : (life : Lifetime) → IsWholeLife life → (a b : ℕ) → a < b → dies life a ≡ true
+    → (acts life b ≡ false) × (dies life b ≡ false)
+idle-behind life whole a b later dead =
+    subst (λ (q : Lifetime). (acts q b ≡ false) × (dies q b ≡ false)) (sym whole)
+    (by_death life.death (sym (ap (λ (q : Lifetime). dies q a) whole) ∙ dead))
   where
-    by_death : (o : Option ℕ) → dies (record { death = o }) a ≡ true
-        → (acts (record { death = o }) b ≡ false) × (dies (record { death = o }) b ≡ false)
-    by_death None d = absurd (cc)
-    by_death (Some x) d = (grind (arith, nat_tests, d, later), grind (arith, nat_tests, d, later))
+    by_death : (o : Option ℕ) → dies (mortal o) a ≡ true → (acts (mortal o) b ≡ false) × (dies (mortal o) b ≡ false)
+    by_death None d = let never : true ≡ false = sym d ∙ dies-undying a in absurd (cc)
+    by_death (Some x) d =
+        let at : (a == x) ≡ true = sym (dies-mortal x a) ∙ d in
+        let idle : nat_lt b x ≡ false = grind (arith, nat_tests, at, later) in
+        let over : (b == x) ≡ false = grind (arith, nat_tests, at, later) in
+        (acts-mortal x b ∙ idle, dies-mortal x b ∙ over)
 
 -- of later beats nothing is named, and nothing taken
 named-none : {M : Type 0} (n b : ℕ) (before es : List (NodeEvent M))
@@ -56,7 +63,9 @@ takes-none {M} b before (Does (Take s k m) ∷ es) later =
     let other : (s.beat == b) ≡ false = grind (arith, nat_tests, low) in
     rw other (takes-none b (before ++ Does (Take s k m) ∷ []) es later.1)
 takes-none b before (Does (Tick s) ∷ es) later = takes-none b (before ++ Does (Tick s) ∷ []) es later.1
+takes-none b before (Ends i sends ∷ es) later = takes-none b (before ++ Ends i sends ∷ []) es later.1
 takes-none b before (Dies s ∷ es) later = takes-none b (before ++ Dies s ∷ []) es later.1
+takes-none b before (Returns s ∷ es) later = takes-none b (before ++ Returns s ∷ []) es later.1
 
 shown : (c : Course) (n b : ℕ) (s : Stamp) (a : Act) → s.reading ≡ reading_of c n s.beat → s.beat ≡ b
     → ◌≡◌ {A = Event} (record { stamp = s; act = a }) (event_in c n b a)
@@ -68,7 +77,7 @@ shown c n b s a reads now =
 both-same : {X : Type 0} (x y : X) (xs ys : List X) → x ≡ y → xs ≡ ys → x ∷ xs ≡ y ∷ ys
 both-same x y xs ys head tail = rw (head, tail) refl
 
-module _ {M : Type 0} (c : Course) (n : ℕ) where
+module _ {M : Type 0} (c : Course) (whole : HasWholeLives c) (n : ℕ) where
   -- the rest of a node's events, behind these
   abbrev Rest : ℕ → List (NodeEvent M) → Type 0
   Rest t es = IsRest (reading_of c n) (lifetime_of c n) c.beats t es
@@ -101,7 +110,7 @@ module _ {M : Type 0} (c : Course) (n : ℕ) where
   dead-by t b before s es h later =
       let now = h.counted.0 in
       let miss : (s.beat == b) ≡ false = grind (arith, nat_tests, now, later) in
-      let over = idle-behind (lifetime_of c n) s.beat b (omega (arith, now, later)) h.lived.0.1 in
+      let over = idle-behind (lifetime_of c n) (whole n) s.beat b (omega (arith, now, later)) h.lived.0.1 in
       rw (miss, h.ended.0 refl, over.0, over.1) refl
 
   -- so it is of each beat that is not over
@@ -128,3 +137,5 @@ module _ {M : Type 0} (c : Course) (n : ℕ) where
       (λ (same : t ≡ b). died-at t b before s es h same)
       (λ (other : t ≡ b → ⊥). dead-by t b before s es h (omega (arith, low, other)))
       (cases_eq t b)
+  named-acts t b before (Ends i sends ∷ es) h low high = absurd h.plain.0
+  named-acts t b before (Returns s ∷ es) h low high = absurd h.plain.0

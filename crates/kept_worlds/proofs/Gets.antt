@@ -13,8 +13,8 @@ use Rattle.node_kit.specs.declared.outbox.Out.TheVariants as out
 use Rattle.node_kit.specs.Steps.{Input, Deed, IsAllowed, IsOwnEntry, entry_of}
 use Rattle.node_kit.specs.Steps.Input.{Take, Tick}
 use Rattle.run_facts.specs.Carried.{got_on}
-use Rattle.run_facts.specs.Events.{NodeEvent, Past, Dated, after, kept_outs, outs_of, AreFair, entries_at, written, take_on, takes_along, noted_as}
-use Rattle.run_facts.specs.Events.NodeEvent.{Does, Dies}
+use Rattle.run_facts.specs.Events.{NodeEvent, Past, Dated, after, kept_outs, outs_of, AreFair, IsPlain, entries_at, written, take_on, takes_along, noted_as}
+use Rattle.run_facts.specs.Events.NodeEvent.{Does, Ends, Dies, Returns}
 use Rattle.run_facts.proofs.Along.{got_on-append, got-written, takes-append}
 use Rattle.ring_world.specs.declared.event.Act.{Act}
 use Rattle.ring_world.specs.declared.event.Act.TheVariants as act
@@ -27,7 +27,9 @@ takes_behind before (Does (Take stamp link msg) ∷ es) =
     (record { beat = stamp.beat; item = act.Get link (length (takes_along link.0 before)) })
     ∷ takes_behind (before ++ Does (Take stamp link msg) ∷ []) es
 takes_behind before (Does (Tick stamp) ∷ es) = takes_behind (before ++ Does (Tick stamp) ∷ []) es
+takes_behind before (Ends input sends ∷ es) = takes_behind (before ++ Ends input sends ∷ []) es
 takes_behind before (Dies stamp ∷ es) = takes_behind (before ++ Dies stamp ∷ []) es
+takes_behind before (Returns stamp ∷ es) = takes_behind (before ++ Returns stamp ∷ []) es
 
 gets-append : (before xs ys : List Entry)
     → gets_behind before (xs ++ ys) ≡ gets_behind before xs ++ gets_behind (before ++ xs) ys
@@ -52,6 +54,7 @@ own-none before (what.Gone v) h = refl
 own-none before (what.ReadFailed w) h = refl
 own-none before (what.Believed c) h = refl
 own-none before what.Died h = absurd h
+own-none before what.Returned h = refl
 
 outs-none : {M : Type 0} (note : M → Note) (p : Params) (n : ℕ) (stamp : Stamp) (before : List Entry) (os : List (Out M))
     → AllByRecursion (IsAllowed note p n) os → gets_behind before (map (entry_of note stamp) os) ≡ []
@@ -86,33 +89,36 @@ module _ {M S : Type 0} (note : M → Note) (step : S → Input M → Deed M S) 
       ∙ ap (λ q. length (takes_along l before ++ q)) (sym (append-nil (take_on l e)))
       ∙ ap length (sym (takes-append l before (e ∷ [])))
 
-  pub gets-written : (earlier : List Entry) (before es : List (NodeEvent M)) (past : Past S) → AreFair note step p n es past
+  pub gets-written : (earlier : List Entry) (before es : List (NodeEvent M)) (past : Past S)
+      → AllByRecursion IsPlain es → AreFair note step p n es past
       → AreLevel earlier before → gets_behind earlier (written note step es past) ≡ takes_behind before es
-  gets-written earlier before [] past fair level = refl
-  gets-written earlier before (Does (Take stamp link msg) ∷ es) past fair level =
+  gets-written earlier before [] past plain fair level = refl
+  gets-written earlier before (Does (Take stamp link msg) ∷ es) past plain fair level =
       let e : NodeEvent M = Does (Take stamp link msg) in
       let wrote = entries_at note step e past in
       let outs = kept_outs step (Take stamp link msg) past in
       let first : Entry = record { stamp = stamp; what = what.Got link (note msg) } in
-      let rest = gets-written (earlier ++ wrote) (before ++ e ∷ []) es (after note step e past) fair.1
+      let rest = gets-written (earlier ++ wrote) (before ++ e ∷ []) es (after note step e past) plain.1 fair.1
       (level-more earlier before e past fair.0 level) in
       let none = outs-none note p n stamp (earlier ++ first ∷ []) outs fair.0 in
       gets-append earlier wrote (written note step es (after note step e past))
       ∙ ap (λ q. ((record { beat = stamp.beat; item = act.Get link (length (got_on link.0 earlier)) }) ∷ q) ++ gets_behind (earlier ++ wrote) (written note step es (after note step e past))) none
       ∙ ap (λ k. (record { beat = stamp.beat; item = act.Get link k }) ∷ gets_behind (earlier ++ wrote) (written note step es (after note step e past))) (level link.0)
       ∙ ap (λ q. (record { beat = stamp.beat; item = act.Get link (length (takes_along link.0 before)) }) ∷ q) rest
-  gets-written earlier before (Does (Tick stamp) ∷ es) past fair level =
+  gets-written earlier before (Does (Tick stamp) ∷ es) past plain fair level =
       let e : NodeEvent M = Does (Tick stamp) in
       let wrote = entries_at note step e past in
-      let rest = gets-written (earlier ++ wrote) (before ++ e ∷ []) es (after note step e past) fair.1
+      let rest = gets-written (earlier ++ wrote) (before ++ e ∷ []) es (after note step e past) plain.1 fair.1
       (level-more earlier before e past fair.0 level) in
       gets-append earlier wrote (written note step es (after note step e past))
       ∙ ap (λ q. q ++ gets_behind (earlier ++ wrote) (written note step es (after note step e past)))
       (outs-none note p n stamp earlier (kept_outs step (Tick stamp) past) fair.0)
       ∙ rest
-  gets-written earlier before (Dies stamp ∷ es) past fair level =
+  gets-written earlier before (Dies stamp ∷ es) past plain fair level =
       let e : NodeEvent M = Dies stamp in
       let wrote = entries_at note step e past in
       gets-append earlier wrote (written note step es (after note step e past))
-      ∙ gets-written (earlier ++ wrote) (before ++ e ∷ []) es (after note step e past) fair.1
+      ∙ gets-written (earlier ++ wrote) (before ++ e ∷ []) es (after note step e past) plain.1 fair.1
       (level-more earlier before e past fair.0 level)
+  gets-written earlier before (Ends input sends ∷ es) past plain fair level = absurd plain.0
+  gets-written earlier before (Returns stamp ∷ es) past plain fair level = absurd plain.0

@@ -8,7 +8,8 @@ use Rattle.tiger_base.specs.declared.message.Note.{Note}
 use Rattle.slot_plan.specs.declared.params.Params.{Params}
 use Rattle.node_kit.specs.Steps.{Input, Deed, IsAllowed}
 use Rattle.run_facts.specs.Events.{NodeEvent, Past, opening, after_all, outs_of, stamp_at}
-use Rattle.run_facts.specs.Histories.{History, IsRun, beat, past}
+use Rattle.run_facts.specs.Histories.{History, beat, past}
+use Rattle.run_facts.specs.Plain.{IsPlainRun}
 use Rattle.run_facts.proofs.Listed.{listed, listed-past}
 use Rattle.ring_world.specs.declared.event.Event.{Event}
 use Rattle.ring_world.specs.Machine.{Machine, Being, undying, node_event, lived, happened, happens, moved}
@@ -30,7 +31,7 @@ abbrev pub beyond : ℕ → (ℕ → ℕ) → ℕ → ℕ
 beyond n at k = if k == n then suc (at k) else at k
 
 module _ {M S : Type 0} (note : M → Note) (step : S → Input M → Deed M S) (p : Params) (nodes beats : ℕ) (h : History M S)
-    (place : IsPlace p nodes beats) (run : IsRun note step p nodes h) (may : MayHappen p nodes beats h) where
+    (place : IsPlace p nodes beats) (run : IsPlainRun note step p nodes h) (may : MayHappen p nodes beats h) where
   -- an event of node n is no fault, and behind it the machine is beside the next numbers
   pub record IsStep (m : Machine M S) (es : ℕ → List (NodeEvent M)) (at : ℕ → ℕ) (n : ℕ) (y : NodeEvent M) : Type 0 where
     pub known : IsEventOf p nodes beats (told_as (es n) (record { node = n; event = y }))
@@ -77,6 +78,7 @@ module _ {M S : Type 0} (note : M → Note) (step : S → Input M → Deed M S) 
         let high = shown.1 in
         record {
           alive = own-lives note step p nodes beats h place run may m es at point n next;
+          plain = run.plain n (at n) next.low next.here;
           dated = refl;
           ticked = own-ticked note step p nodes beats h place run may m es at point n next;
           shown = shown;

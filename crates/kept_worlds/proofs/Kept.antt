@@ -12,7 +12,8 @@ use Rattle.node_kit.proofs.Rows.{get-below}
 use Rattle.run_facts.specs.Accounts.{Rising}
 use Rattle.run_facts.specs.Carried.{got_on}
 use Rattle.run_facts.specs.Events.{NodeEvent, Past, Dated, AreFair, opening, stamp_at, written}
-use Rattle.run_facts.specs.Histories.{History, IsRun, past}
+use Rattle.run_facts.specs.Histories.{History, past}
+use Rattle.run_facts.specs.Plain.{HasWholeLives, IsPlainRun}
 use Rattle.run_facts.specs.Kept.{HaveKept}
 use Rattle.run_facts.proofs.Along.{journal-after}
 use Rattle.run_facts.proofs.Listed.{listed, events_of, listed-last, next-sum}
@@ -28,6 +29,7 @@ use Rattle.kept_worlds.specs.Laws.{KeptRunsAreAccepted}
 use Rattle.kept_worlds.proofs.Ends.{named-acts}
 use Rattle.kept_worlds.proofs.Gets.{gets-written}
 use Rattle.kept_worlds.proofs.Naming.{named_in, named_row, named_rows, rows_from, told-rows, own-each, rows-all, rows-rising}
+use Rattle.kept_worlds.proofs.Lives.{plain-of}
 use Rattle.kept_worlds.proofs.Runs.{runs-accepted}
 
 -- no event is below beat 0
@@ -68,7 +70,7 @@ rows-told c all b (suc k) journals low tell =
     ∙ ap (λ q. named_row b 0 (length journals) all ++ q) (rows-told c all (b + 1) k journals (omega (arith, low)) tell)
 
 module _ {M S : Type 0} (note : M → Note) (step : S → Input M → Deed M S) (p : Params) (nodes : ℕ) (h : History M S)
-    (run : IsRun note step p nodes h) where
+    (run : IsPlainRun note step p nodes h) where
   -- the outputs of listed events are allowed
   fair-listed : (n i k m : ℕ) → n < nodes → i + k ≡ m → m ≤ h.count n
       → AreFair note step p n (listed h n i k) (past note step h n i)
@@ -77,18 +79,21 @@ module _ {M S : Type 0} (note : M → Note) (step : S → Input M → Deed M S) 
       (run.fair n i low (omega (arith, sum, high)), fair-listed n (suc i) k m low (next-sum i k m sum) high)
 
 module _ {M S : Type 0} (note : M → Note) (step : S → Input M → Deed M S) (c : Course) (given nodes : List S)
-    (journals : List (List Entry)) (kept : HaveKept note step c given nodes journals) where
+    (journals : List (List Entry)) (whole : HasWholeLives c) (kept : HaveKept note step c given nodes journals) where
   abbrev h : History M S
   h = kept.lived.history
 
   abbrev all : ℕ → List (NodeEvent M)
   all = events_of h
 
+  plain : IsPlainRun note step c.plan.params (length given) h
+  plain = plain-of note step c given nodes journals whole kept.lived
+
   lived : AreLived note step c (length given) h.first all
   lived =
       let lives : (n : ℕ) → n < length given → h.life n ≡ lifetime_of c n = λ n low.
       (let s = element-of given n low in (kept.lived.theirs.opens n s.0 s.1).1) in
-      lived-of note step c (length given) h lives kept.lived.run kept.lived.complete kept.keeps h.first (λ n low. refl)
+      lived-of note step c (length given) h lives whole plain kept.lived.complete kept.keeps h.first (λ n low. refl)
 
   rising : (n : ℕ) → n < length given → Rising (λ (e : NodeEvent M). (stamp_at e).beat) (all n)
   rising n low = (rising-counted 0 (all n) (lived.all n low).counted).1
@@ -104,11 +109,11 @@ module _ {M S : Type 0} (note : M → Note) (step : S → Input M → Deed M S) 
       let there : Some journal ≡ Some (written note step (all n) start) = sym at ∙ kept.lived.theirs.writes n low
       ∙ ap (λ (s : Past S). Some s.journal) (listed-last note step h n) ∙ ap Some (journal-after note step (all n) start) in
       let wrote : journal ≡ written note step (all n) start = cc in
-      let fair = fair-listed note step c.plan.params (length given) h kept.lived.run n 0 (h.count n) (h.count n) low (omega arith) (omega arith) in
-      let gets = gets-written note step c.plan.params n [] [] (all n) start fair got-none in
+      let fair = fair-listed note step c.plan.params (length given) h plain n 0 (h.count n) (h.count n) low (omega arith) (omega arith) in
+      let gets = gets-written note step c.plan.params n [] [] (all n) start (lived.all n low).plain fair got-none in
       ap (λ q. events_in c n b q) wrote
       ∙ ap (λ q. map (event_in c n b) (map (λ (g : Dated Act). g.item) (filter (λ g. g.beat == b) q) ++ end_of_beat c n b)) gets
-      ∙ sym (named-acts c n 0 b [] (all n) (lived.all n low) (omega arith) early)
+      ∙ sym (named-acts c whole n 0 b [] (all n) (lived.all n low) (omega arith) early)
 
   tell-each : Tell c all 0 journals
   tell-each n journal at b early =
@@ -129,6 +134,6 @@ module _ {M S : Type 0} (note : M → Note) (step : S → Input M → Deed M S) 
   }
 
 pub kept-accepted : (M S : Type 0) → KeptRunsAreAccepted M S
-kept-accepted M S note step c given nodes journals place apart kept =
-    runs-accepted M S note step c given nodes journals (events_by c journals) place apart kept.lived kept.each_has_journal
-    (merged-of note step c given nodes journals kept)
+kept-accepted M S note step c given nodes journals place apart whole kept =
+    runs-accepted M S note step c given nodes journals (events_by c journals) place apart whole kept.lived kept.each_has_journal
+    (merged-of note step c given nodes journals whole kept)

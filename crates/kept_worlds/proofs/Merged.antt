@@ -9,7 +9,8 @@ use Rattle.slot_plan.specs.declared.params.Params.{Params}
 use Rattle.node_kit.specs.Steps.{Input, Deed}
 use Rattle.run_facts.specs.Events.{NodeEvent, Past, opening, after_all, stamp_at}
 use Rattle.run_facts.specs.Accounts.{Rising}
-use Rattle.run_facts.specs.Histories.{History, IsRun, beat, last_of}
+use Rattle.run_facts.specs.Histories.{History, beat, last_of}
+use Rattle.run_facts.specs.Plain.{IsPlainRun}
 use Rattle.run_facts.proofs.Rows.{all-given}
 use Rattle.run_facts.proofs.Listed.{listed, events_of, listed-last}
 use Rattle.ring_world.specs.declared.event.Event.{Event}
@@ -46,7 +47,7 @@ heads : {X : Type 0} (x y : X) (xs ys : List X) → x ∷ xs ≡ y ∷ ys → (x
 heads x y xs ys e = (cc, cc)
 
 module _ {M S : Type 0} (note : M → Note) (step : S → Input M → Deed M S) (p : Params) (nodes beats : ℕ) (h : History M S)
-    (place : IsPlace p nodes beats) (run : IsRun note step p nodes h) (may : MayHappen p nodes beats h) where
+    (place : IsPlace p nodes beats) (run : IsPlainRun note step p nodes h) (may : MayHappen p nodes beats h) where
   -- a list has what is left of a node's events, from a number on
   record IsLeft (k i : ℕ) (xs : List (Happening M)) : Type 0 where
     more : ℕ
@@ -174,7 +175,7 @@ mapped-at : {X Y : Type 0} (f : X → Y) (xs : List X) (k : ℕ) (x : X) (y : Y)
 mapped-at f xs k x y here is = slice_get-map f xs k ∙ ap (option_map f) here ∙ ap Some is
 
 module _ {M S : Type 0} (note : M → Note) (step : S → Input M → Deed M S) (p : Params) (beats : ℕ) (given : List S)
-    (h : History M S) (place : IsPlace p (length given) beats) (run : IsRun note step p (length given) h)
+    (h : History M S) (place : IsPlace p (length given) beats) (run : IsPlainRun note step p (length given) h)
     (may : MayHappen p (length given) beats h) where
   -- before the first event
   starts-at : ((k : ℕ) → k < length given → slice_get given k ≡ Some (h.first k))

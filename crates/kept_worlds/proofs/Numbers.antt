@@ -11,9 +11,10 @@ use Rattle.node_kit.specs.Links.{links_of, ends_of}
 use Rattle.node_kit.specs.Rows.{each_below}
 use Rattle.node_kit.specs.Steps.{Input, Deed}
 use Rattle.node_kit.specs.Steps.Input.{Take, Tick}
-use Rattle.run_facts.specs.Events.{NodeEvent, Dated, stamp_at, is_tick, is_death, is_take_on, sends_of, take_on}
-use Rattle.run_facts.specs.Events.NodeEvent.{Does, Dies}
-use Rattle.run_facts.specs.Histories.{History, IsRun, CameOn, beat, outs, count_of, takes, sent, taken}
+use Rattle.run_facts.specs.Events.{NodeEvent, Dated, stamp_at, is_tick, is_death, is_take_on, sends_of, take_on, IsPlain}
+use Rattle.run_facts.specs.Events.NodeEvent.{Does, Ends, Dies, Returns}
+use Rattle.run_facts.specs.Histories.{History, CameOn, beat, outs, count_of, takes, sent, taken}
+use Rattle.run_facts.specs.Plain.{IsPlainRun}
 use Rattle.run_facts.proofs.Rows.{same-element}
 use Rattle.run_facts.proofs.Along.{sends_of-dated}
 use Rattle.run_facts.proofs.Counts.{sent-numbered, sent-stays, count-numbered}
@@ -74,7 +75,13 @@ one-take l (Does (Take s k m)) = ⊎_elim
     (λ (t : (k.0 == l) ≡ false). rw t refl)
     (cases_Bool (k.0 == l))
 one-take l (Does (Tick s)) = refl
+one-take l (Ends (Take s k m) sends) = ⊎_elim
+    (λ (t : (k.0 == l) ≡ true). rw t refl)
+    (λ (t : (k.0 == l) ≡ false). rw t refl)
+    (cases_Bool (k.0 == l))
+one-take l (Ends (Tick s) sends) = refl
 one-take l (Dies s) = refl
+one-take l (Returns s) = refl
 
 pub length-taken : {M S : Type 0} (l : ℕ) (h : History M S) (n i : ℕ) → length (taken l h n i) ≡ takes l h n i
 length-taken l h n zero = refl
@@ -117,18 +124,23 @@ pub record IsTake {M : Type 0} (l : ℕ) (x : NodeEvent M) : Type 0 where
   pub is : x ≡ Does (Take stamp link msg)
   pub on : link.0 ≡ l
 
-pub take-of : {M : Type 0} (l : ℕ) (x : NodeEvent M) → is_take_on l x ≡ true → IsTake l x
-take-of l (Does (Take s k m)) t = record { stamp = s; link = k; msg = m; is = refl; on = eqb-true _ _ t }
-take-of l (Does (Tick s)) t = absurd (cc)
-take-of l (Dies s) t = absurd (cc)
+pub take-of : {M : Type 0} (l : ℕ) (x : NodeEvent M) → IsPlain x → is_take_on l x ≡ true → IsTake l x
+take-of l (Does (Take s k m)) plain t = record { stamp = s; link = k; msg = m; is = refl; on = eqb-true _ _ t }
+take-of l (Does (Tick s)) plain t = absurd (cc)
+take-of l (Ends i sends) plain t = absurd plain
+take-of l (Dies s) plain t = absurd (cc)
+take-of l (Returns s) plain t = absurd plain
 
 tick-or-take : {M : Type 0} (l : ℕ) (x : NodeEvent M) → is_tick x ≡ true → is_take_on l x ≡ true → ⊥
 tick-or-take l (Does (Take s k m)) t u = absurd (cc)
 tick-or-take l (Does (Tick s)) t u = absurd (cc)
+tick-or-take l (Ends (Take s k m) sends) t u = absurd (cc)
+tick-or-take l (Ends (Tick s) sends) t u = absurd (cc)
 tick-or-take l (Dies s) t u = absurd (cc)
+tick-or-take l (Returns s) t u = absurd (cc)
 
 module _ {M S : Type 0} (note : M → Note) (step : S → Input M → Deed M S) (p : Params) (nodes : ℕ) (h : History M S)
-    (run : IsRun note step p nodes h) where
+    (run : IsPlainRun note step p nodes h) where
   -- before its last event nobody died
   pub lives-before : (n j i : ℕ) → n < nodes → j < i → i < h.count n → is_death (h.event n j) ≡ false
   lives-before n j i low before high = ⊎_elim
@@ -142,7 +154,7 @@ module _ {M S : Type 0} (note : M → Note) (step : S → Input M → Deed M S) 
       → takes l h n i ≡ k → slice_get (sent note step l h from (h.count from)) k ≡ Some d
       → is_take_on l (h.event n i) ≡ true → beat h n i ≤ d.beat + p.delay
   came-as l from n i k d low at ends number was takes_it =
-      let t = take-of l (h.event n i) takes_it in
+      let t = take-of l (h.event n i) (run.plain n i low at) takes_it in
       let came : CameOn note step p nodes h n l (takes l h n i) t.stamp.beat t.msg =
       subst (λ q. CameOn note step p nodes h n q (takes q h n i) t.stamp.beat t.msg) t.on
       (run.carried n i t.stamp t.link t.msg low at t.is) in

@@ -11,7 +11,8 @@ use Rattle.node_kit.specs.Links.{links_of, ends_of}
 use Rattle.node_kit.specs.Steps.{Input, Deed}
 use Rattle.run_facts.specs.Events.{NodeEvent, opening, stamp_at, is_death, sends_along, takes_along}
 use Rattle.run_facts.specs.Accounts.{tick_count, AreAlive}
-use Rattle.run_facts.specs.Histories.{History, IsRun, beat, reading, ticks, takes, sent}
+use Rattle.run_facts.specs.Histories.{History, beat, reading, ticks, takes, sent}
+use Rattle.run_facts.specs.Plain.{IsPlainRun}
 use Rattle.run_facts.proofs.Rows.{same-element}
 use Rattle.run_facts.proofs.Listed.{listed, listed-all, listed-sends, listed-takes, listed-ticks, listed-alive}
 use Rattle.ring_world.specs.declared.event.Act.{Act}
@@ -51,7 +52,7 @@ ticks-listed : {M S : Type 0} (h : History M S) (n i : ℕ) → tick_count (list
 ticks-listed h n i = let all = listed-ticks h n 0 i i (omega arith) in omega (arith, all)
 
 module _ {M S : Type 0} (note : M → Note) (step : S → Input M → Deed M S) (p : Params) (nodes beats : ℕ) (h : History M S)
-    (place : IsPlace p nodes beats) (run : IsRun note step p nodes h) (may : MayHappen p nodes beats h) where
+    (place : IsPlace p nodes beats) (run : IsPlainRun note step p nodes h) (may : MayHappen p nodes beats h) where
   -- the machine has come through the events below these numbers
   pub record IsAt (m : Machine M S) (es : ℕ → List (NodeEvent M)) (at : ℕ → ℕ) : Type 0 where
     pub holds : Holds note step anywhere p nodes h.first m es

@@ -87,6 +87,7 @@ one-at_most l b (what.Gone v) = omega arith
 one-at_most l b (what.ReadFailed w) = omega arith
 one-at_most l b (what.Believed c) = omega arith
 one-at_most l b what.Died = omega arith
+one-at_most l b what.Returned = omega arith
 
 got-few : (l : ℕ) (es : List Entry) → length (got_on l es) ≤ length es
 unfolding got_on
@@ -186,6 +187,7 @@ other-next c n i journal d start old counts low other told same =
     none-of before (what.ReadFailed x) h = refl
     none-of before (what.Believed x) h = refl
     none-of before what.Died h = refl
+    none-of before what.Returned h = refl
 
     no-got : (l b : ℕ) (w : What) → ((link : LinkNo) (note : Note) → w ≡ what.Got link note → ⊥) → got_by l b w ≡ []
     no-got l b (what.Got link note) h = absurd (h link note refl)
@@ -199,6 +201,7 @@ other-next c n i journal d start old counts low other told same =
     no-got l b (what.ReadFailed x) h = refl
     no-got l b (what.Believed x) h = refl
     no-got l b what.Died h = refl
+    no-got l b what.Returned h = refl
 
 pub node-next : (c : Course) (n : ℕ) (journal entries : List Entry) (old mid new : List Event) → entries ≡ journal
     → mid ≡ old ++ gets_told c n [] entries → new ≡ mid ++ ends_told c n 0 c.beats → new ≡ old ++ node_told c n journal

@@ -13,10 +13,11 @@ use Rattle.slot_plan.specs.declared.params.Params.{Params}
 use Rattle.node_kit.specs.Links.{links_of, ends_of, leads_to}
 use Rattle.node_kit.specs.Steps.{Input, Deed}
 use Rattle.node_kit.specs.Steps.Input.{Take, Tick}
-use Rattle.run_facts.specs.Events.{NodeEvent, Dated, stamp_at, is_tick, is_death, is_take_on, takes_along}
-use Rattle.run_facts.specs.Events.NodeEvent.{Does, Dies}
+use Rattle.run_facts.specs.Events.{NodeEvent, Dated, stamp_at, is_tick, is_death, is_take_on, takes_along, IsPlain}
+use Rattle.run_facts.specs.Events.NodeEvent.{Does, Ends, Dies, Returns}
 use Rattle.run_facts.specs.Accounts.{IsLed}
-use Rattle.run_facts.specs.Histories.{History, IsRun, beat, takes, sent}
+use Rattle.run_facts.specs.Histories.{History, beat, takes, sent}
+use Rattle.run_facts.specs.Plain.{IsPlainRun}
 use Rattle.run_facts.proofs.Rows.{same-element}
 use Rattle.run_facts.proofs.Counts.{sent-stays}
 use Rattle.ring_world.specs.Machine.{Machine, Being, Way, oldest, receiver, node_of, node_event}
@@ -68,7 +69,7 @@ after-before p n low = ⊎_elim
     (cases_eq n 0)
 
 module _ {M S : Type 0} (note : M → Note) (step : S → Input M → Deed M S) (p : Params) (nodes beats : ℕ) (h : History M S)
-    (place : IsPlace p nodes beats) (run : IsRun note step p nodes h) (may : MayHappen p nodes beats h)
+    (place : IsPlace p nodes beats) (run : IsPlainRun note step p nodes h) (may : MayHappen p nodes beats h)
     (m : Machine M S) (es : ℕ → List (NodeEvent M)) (at : ℕ → ℕ)
     (point : IsAt note step p nodes beats h place run may m es at)
     (n : ℕ) (next : IsNext note step p nodes beats h place run may m at n) where
@@ -232,10 +233,12 @@ module _ {M S : Type 0} (note : M → Note) (step : S → Input M → Deed M S) 
         aged = λ t l from w ends here. absurd (cc);
       }
 
-  by-event : (y : NodeEvent M) → h.event n (at n) ≡ y → IsReady y
-  by-event (Does (Take stamp link msg)) is = ready-take stamp link msg is
-  by-event (Does (Tick stamp)) is = ready-tick stamp is
-  by-event (Dies stamp) is = ready-death stamp is
+  by-event : (y : NodeEvent M) → h.event n (at n) ≡ y → IsPlain y → IsReady y
+  by-event (Does (Take stamp link msg)) is plain = ready-take stamp link msg is
+  by-event (Does (Tick stamp)) is plain = ready-tick stamp is
+  by-event (Ends input sends) is plain = absurd plain
+  by-event (Dies stamp) is plain = ready-death stamp is
+  by-event (Returns stamp) is plain = absurd plain
 
   pub ready : IsReady (h.event n (at n))
-  ready = by-event (h.event n (at n)) refl
+  ready = by-event (h.event n (at n)) refl (run.plain n (at n) next.low next.here)

@@ -10,6 +10,7 @@ use Rattle.ring_nodes.specs.declared.nodes.AnyNode.{AnyNode}
 use Rattle.ring_nodes.specs.AllNodes.{any_step, image_at, images_of}
 use Rattle.ring_nodes.proofs.Numbered.{length-numbered, opening_count}
 use Rattle.ring_facts.specs.Steps.{ring_of}
+use Rattle.run_facts.specs.Plain.{HasWholeLives}
 use Rattle.ring_world.specs.Laws.{IsPlace}
 use Rattle.ring_world.proofs.Places.{plans-places}
 use Rattle.kept_worlds.proofs.Kept.{kept-accepted}
@@ -29,6 +30,7 @@ pub kept-worlds : (G : Type 0) → KeptRunsAreWorlds G
 kept-worlds G s library k sound ran =
     let p = k.course.plan.params in
     let course : IsCourse k.course = subst IsCourse (sym ran.course) sound.course in
+    let whole : HasWholeLives k.course = subst HasWholeLives (sym ran.course) sound.whole_lives in
     let count = ring-count G k library in
     let place = subst (λ n. IsPlace p n k.course.beats) (sym count)
     (plans-places p k.course.beats k.course.plan.sound course.beats) in
@@ -37,5 +39,5 @@ kept-worlds G s library k sound ran =
       course = course;
       each_has_journal = kept.each_has_journal ∙ count;
       world = kept-accepted Msg (AnyNode G) noted (any_step {G = G}) k.course
-          (ring_of G k.course k.catalogue library k.orders) ran.steps.nodes k.journals place ran.apart kept;
+          (ring_of G k.course k.catalogue library k.orders) ran.steps.nodes k.journals place ran.apart whole kept;
     }

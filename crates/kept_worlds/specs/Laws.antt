@@ -9,6 +9,7 @@ use Rattle.node_kit.specs.Life.{lifetime_of}
 use Rattle.node_kit.specs.Steps.{Input, Deed}
 use Rattle.run_facts.specs.Histories.{HaveHistory}
 use Rattle.run_facts.specs.Kept.{HaveKept}
+use Rattle.run_facts.specs.Plain.{HasWholeLives}
 use Rattle.run_facts.specs.Timed.{DieApart}
 use Rattle.ring_world.specs.declared.event.Event.{Event}
 use Rattle.ring_world.specs.Machine.{Machine, opening_machine, journals_of}
@@ -25,7 +26,7 @@ pub record IsWorldOf {M S : Type 0} (note : M → Note) (step : S → Input M �
   pub accepts : Accepts note step p (length given) beats (opening_machine p given) events machine
   pub writes : journals_of machine ≡ journals
 
--- If the nodes of a course lived through a history, each to its death or the end of the beats, and
+-- If the nodes of a course of whole lives lived through a history, each to its death or the end of the beats, and
 -- no two neighbours die, then their machine accepts the history's events in any one list that never
 -- falls in beats.
 abbrev pub RunsAreAccepted : (M S : Type 0) → Type 0
@@ -33,6 +34,7 @@ RunsAreAccepted M S =
     (note : M → Note) (step : S → Input M → Deed M S) (c : Course) (given nodes : List S)
     (journals : List (List Entry)) (events : List Event)
     → IsPlace c.plan.params (length given) c.beats → DieApart c.plan.params (lifetime_of c)
+    → HasWholeLives c
     → (one : HaveHistory note step c.plan.params (lifetime_of c) c.beats given nodes journals)
     → length journals ≡ length given → IsMerged one.history (length given) events
     → IsWorldOf note step c.plan.params c.beats given journals events
@@ -43,5 +45,6 @@ KeptRunsAreAccepted M S =
     (note : M → Note) (step : S → Input M → Deed M S) (c : Course) (given nodes : List S)
     (journals : List (List Entry))
     → IsPlace c.plan.params (length given) c.beats → DieApart c.plan.params (lifetime_of c)
+    → HasWholeLives c
     → HaveKept note step c given nodes journals
     → IsWorldOf note step c.plan.params c.beats given journals (events_by c journals)

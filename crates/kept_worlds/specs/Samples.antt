@@ -4,7 +4,7 @@ use Rattle.tiger_base.specs.declared.message.Note.TheVariants.{Heartbeat}
 use Rattle.node_kit.specs.declared.course.Course.{Course}
 use Rattle.node_kit.specs.declared.journal.Entry.{Entry}
 use Rattle.node_kit.specs.declared.journal.What.TheVariants as what
-use Rattle.node_kit.specs.Life.{death_of}
+use Rattle.node_kit.specs.Life.{lifetime_of, mortal}
 use Rattle.run_facts.specs.Events.{Dated}
 use Rattle.ring_world.specs.declared.event.Act.{Act}
 use Rattle.ring_world.specs.declared.event.Act.TheVariants as act
@@ -39,7 +39,7 @@ acts_of events = map (λ e. e.act) events
 
 -- node n dies in a beat of the course, or in none
 abbrev pub DiesIn : Course → ℕ → ℕ → Type 0
-DiesIn c n beat = death_of c n ≡ Some beat
+DiesIn c n beat = lifetime_of c n ≡ mortal (Some beat)
 
 abbrev pub LivesOn : Course → ℕ → Type 0
-LivesOn c n = death_of c n ≡ None
+LivesOn c n = lifetime_of c n ≡ mortal None

@@ -12,9 +12,9 @@ use Rattle.node_kit.specs.Steps.{Input, Deed}
 use Rattle.node_kit.specs.Steps.Input.{Take, Tick}
 use Rattle.node_kit.proofs.Rows.{length-each_below, get-each_below, get-below}
 use Rattle.run_facts.specs.Events.{NodeEvent, is_death, stamp_at}
-use Rattle.run_facts.specs.Events.NodeEvent.{Does, Dies}
+use Rattle.run_facts.specs.Events.NodeEvent.{Does, Ends, Dies, Returns}
 use Rattle.run_facts.specs.Histories.{History}
-use Rattle.run_facts.proofs.Rows.{all-left, all-right, same-element}
+use Rattle.run_facts.proofs.Rows.{all-append, all-left, all-right, same-element}
 use Rattle.ring_world.specs.declared.event.Act.{Act}
 use Rattle.ring_world.specs.declared.event.Act.TheVariants as act
 use Rattle.ring_world.specs.declared.event.Event.{Event}
@@ -36,7 +36,9 @@ death_of_cub : {M : Type 0} (p : Params) (nodes : ℕ) (es : List (NodeEvent M))
     → IsActOf p nodes (act_of es n x) → is_death x ≡ true → n < p.cubs
 death_of_cub p nodes es n (Does (Take stamp link msg)) is t = absurd (cc)
 death_of_cub p nodes es n (Does (Tick stamp)) is t = absurd (cc)
+death_of_cub p nodes es n (Ends input sends) is t = is
 death_of_cub p nodes es n (Dies stamp) is t = is
+death_of_cub p nodes es n (Returns stamp) is t = absurd (cc)
 
 deaths_of_cubs : {M : Type 0} (p : Params) (nodes beats n : ℕ) (es : ℕ → List (NodeEvent M)) (xs : List (Happening M))
     → AllByRecursion (IsEventOf p nodes beats) (told_from es xs)
@@ -75,7 +77,9 @@ told_tick {M} es x stamp n told = by x.event refl
     by (Does (Tick s)) e =
         let at : s ≡ stamp = ap stamp_at (sym e) ∙ ap (λ (v : Event). v.stamp) told in
         (some-same x.node n (named (Does (Tick s)) e), e ∙ ap (λ (z : Stamp). Does (Tick z)) at)
+    by (Ends i sends) e = absurd (none-some n (named (Ends i sends) e))
     by (Dies s) e = absurd (none-some n (named (Dies s) e))
+    by (Returns s) e = absurd (none-some n (named (Returns s) e))
 
 tick_own : {M : Type 0} (stamp : Stamp) (n : ℕ) (es : ℕ → List (NodeEvent M)) (xs : List (Happening M)) (k : ℕ)
     → slice_get (told_from es xs) k ≡ Some (tick_event stamp n) → (j : ℕ) × (slice_get (own n xs) j ≡ Some (Does (Tick stamp)))
@@ -100,6 +104,14 @@ all_below P f (suc n) k low all = ⊎_elim
     let same : n ≡ k = omega (arith, low, last) in
     subst (λ j. P (f j)) same (all-right P (each_below f n) (f n ∷ []) all).0)
     (cases_lt k n)
+
+-- And back.
+pub all_each : {X : Type 0} (P : X → Type 0) (f : ℕ → X) (n : ℕ) → ((k : ℕ) → k < n → P (f k))
+    → AllByRecursion P (each_below f n)
+all_each P f zero each = tt
+all_each P f (suc n) each =
+    all-append P (each_below f n) (f n ∷ []) (all_each P f n (λ k low. each k (omega (arith, low))))
+    (each n (omega arith), tt)
 
 -- In the history of a list that is accepted only cubs die, and each tick of the list is its node's.
 module _ {M S : Type 0} (p : Params) (nodes beats : ℕ) (h : History M S) (events : List Event)

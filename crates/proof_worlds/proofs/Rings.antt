@@ -10,7 +10,8 @@ use Rattle.slot_plan.specs.declared.params.Params.{Params}
 use Rattle.slot_plan.specs.Times.{cub_of}
 use Rattle.node_kit.specs.declared.course.Order.{Order}
 use Rattle.run_facts.specs.Events.{is_death}
-use Rattle.run_facts.specs.Histories.{History, IsRun}
+use Rattle.run_facts.specs.Histories.{History}
+use Rattle.run_facts.specs.Plain.{IsPlainRun}
 use Rattle.disk_core.specs.State.{DiskState}
 use Rattle.ring_nodes.specs.declared.nodes.AnyNode.{AnyNode}
 use Rattle.ring_nodes.specs.declared.nodes.AnyNode.TheVariants as node
@@ -103,7 +104,7 @@ module _ (G : Type 0) (p : Params) (orders : List Order) (disk_at : ℕ → Disk
 
   pub is_ring : IsRing p orders disk_at h
   is_ring = record {
-    run = subst (λ n. IsRun noted any_step p n h) size come.run;
+    run = subst (λ n. IsPlainRun noted any_step p n h) size come.run;
     opens = opens;
     deaths = deaths;
     counted = k.counted;

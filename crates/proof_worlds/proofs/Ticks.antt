@@ -1,6 +1,7 @@
 -- The ticks of a list of events that is accepted are those of its history.
 use Rattle.std.proofs.Common.{◌≡◌, ℕ, zero, suc, ◌+◌, ◌<◌, List, [], ◌∷◌, ◌++◌, length, filter, Bool, true, false, cond, ◌&&◌, Option, Some, refl, sym, ap, subst, ◌∙◌, arith, ⊎_elim, inl, inr, length-append}
 use Rattle.std.specs.Prelude.{slice_get, find, option_map, unwrap_or, ◌==◌, ◌⊎◌}
+use Rattle.std.specs.List.{AllByRecursion}
 use Rattle.std.proofs.lemmas.Bool.{cases_Bool, eqb-true, eq-eqb}
 use Rattle.std.proofs.lemmas.List.Elements.{filter-append}
 use Rattle.std.proofs.lemmas.Option.{none-some}
@@ -11,8 +12,8 @@ use Rattle.node_kit.specs.declared.course.Order.{Order}
 use Rattle.node_kit.specs.Rows.{each_below}
 use Rattle.node_kit.specs.Steps.Input.{Take, Tick}
 use Rattle.node_kit.proofs.Rows.{get-each_below}
-use Rattle.run_facts.specs.Events.{NodeEvent, is_tick, stamp_at, is_tick_input}
-use Rattle.run_facts.specs.Events.NodeEvent.{Does, Dies}
+use Rattle.run_facts.specs.Events.{NodeEvent, IsPlain, is_tick, stamp_at, is_tick_input}
+use Rattle.run_facts.specs.Events.NodeEvent.{Does, Ends, Dies, Returns}
 use Rattle.run_facts.specs.Histories.{History, beat, reading, ticks}
 use Rattle.run_claims.specs.Accounts.{Ticking, HasTick, is_tick_of, is_tick_at, reading_at}
 use Rattle.disk_core.specs.State.{DiskState}
@@ -34,7 +35,7 @@ use Rattle.ring_world.specs.Merging.{Happening, act_of, added, own, told_from}
 use Rattle.ring_world.proofs.Accepting.{some-same}
 use Rattle.proof_worlds.specs.Accepted.{IsAccepted, IsTickIn}
 use Rattle.proof_worlds.specs.Accounts.{tick_of, ticks_of}
-use Rattle.proof_worlds.proofs.Events.{tick_event, tick_happened}
+use Rattle.proof_worlds.proofs.Events.{all_each, tick_event, tick_happened}
 use Rattle.proof_worlds.proofs.Rings as rings
 
 -- ---- the ticks of a list
@@ -124,27 +125,36 @@ own_has stamp n es (x ∷ xs) k there =
 
 -- As many ticks of a node are told as it has.
 told_count : {M : Type 0} (n k : ℕ) (past : List (NodeEvent M)) (y : NodeEvent M) (rest : List Ticking) (es : List (NodeEvent M))
-    → (k == n) ≡ true → length (filter (is_tick_of n) rest) ≡ length (filter is_tick es)
+    → IsPlain y → (k == n) ≡ true → length (filter (is_tick_of n) rest) ≡ length (filter is_tick es)
     → length (filter (is_tick_of n) (tick_of (stamp_at y) (act_of past k y) ++ rest)) ≡ length (filter is_tick (y ∷ es))
-told_count n k past (Does (Take stamp link msg)) rest es t same = same
-told_count n k past (Does (Tick stamp)) rest es t same = rw t (ap (λ (j : ℕ). suc j) same)
-told_count n k past (Dies stamp) rest es t same = same
+told_count n k past (Does (Take stamp link msg)) rest es plain t same = same
+told_count n k past (Does (Tick stamp)) rest es plain t same = rw t (ap (λ (j : ℕ). suc j) same)
+told_count n k past (Ends input sends) rest es plain t same = absurd plain
+told_count n k past (Dies stamp) rest es plain t same = same
+told_count n k past (Returns stamp) rest es plain t same = absurd plain
 
 others_count : {M : Type 0} (n k : ℕ) (past : List (NodeEvent M)) (y : NodeEvent M) (rest : List Ticking) → (k == n) ≡ false
     → length (filter (is_tick_of n) (tick_of (stamp_at y) (act_of past k y) ++ rest)) ≡ length (filter (is_tick_of n) rest)
 others_count n k past (Does (Take stamp link msg)) rest f = refl
 others_count n k past (Does (Tick stamp)) rest f = rw f refl
+others_count n k past (Ends input sends) rest f = refl
 others_count n k past (Dies stamp) rest f = refl
+others_count n k past (Returns stamp) rest f = refl
 
 own_count : {M : Type 0} (n : ℕ) (es : ℕ → List (NodeEvent M)) (xs : List (Happening M))
+    → AllByRecursion IsPlain (own n xs)
     → length (filter (is_tick_of n) (ticks_of (told_from es xs))) ≡ length (filter is_tick (own n xs))
-own_count n es [] = refl
-own_count n es (x ∷ xs) =
-    let rest = own_count n (added x.node x.event es) xs in
+own_count n es [] plain = refl
+own_count {M} n es (x ∷ xs) plain =
     let told = ticks_of (told_from (added x.node x.event es) xs) in
     ⊎_elim
-    (λ (t : (x.node == n) ≡ true). rw t (told_count n x.node (es x.node) x.event told (own n xs) t rest))
-    (λ (f : (x.node == n) ≡ false). rw f (others_count n x.node (es x.node) x.event told f ∙ rest))
+    (λ (t : (x.node == n) ≡ true).
+    let both : AllByRecursion IsPlain (x.event ∷ own n xs) = rw t at plain in
+    rw t (told_count n x.node (es x.node) x.event told (own n xs) both.0 t
+    (own_count n (added x.node x.event es) xs both.1)))
+    (λ (f : (x.node == n) ≡ false).
+    let rest : AllByRecursion IsPlain (own n xs) = rw f at plain in
+    rw f (others_count n x.node (es x.node) x.event told f ∙ own_count n (added x.node x.event es) xs rest))
     (cases_Bool (x.node == n))
 
 count_below : {M S : Type 0} (h : History M S) (n k : ℕ) → length (filter is_tick (each_below (h.event n) k)) ≡ ticks h n k
@@ -158,10 +168,12 @@ count_below h n (suc k) =
     (λ (f : is_tick (h.event n k) ≡ false). rw f (omega (arith, before)))
     (cases_Bool (is_tick (h.event n k)))
 
-tick_is : {M : Type 0} (e : NodeEvent M) → is_tick e ≡ true → e ≡ Does (Tick (stamp_at e))
-tick_is (Does (Take stamp link msg)) t = absurd (cc)
-tick_is (Does (Tick stamp)) t = refl
-tick_is (Dies stamp) t = absurd (cc)
+tick_is : {M : Type 0} (e : NodeEvent M) → IsPlain e → is_tick e ≡ true → e ≡ Does (Tick (stamp_at e))
+tick_is (Does (Take stamp link msg)) plain t = absurd (cc)
+tick_is (Does (Tick stamp)) plain t = refl
+tick_is (Ends input sends) plain t = absurd plain
+tick_is (Dies stamp) plain t = absurd (cc)
+tick_is (Returns stamp) plain t = absurd plain
 
 -- ---- a list that is accepted
 
@@ -169,6 +181,9 @@ module _ (G : Type 0) (p : Params) (orders : List Order) (disk_at : ℕ → Disk
     (events : List Event) (m : Machine Msg (AnyNode G)) (k : IsAccepted p orders disk_at beats events m) where
   abbrev pub h : History Msg (AnyNode G)
   h = rings.h G p orders disk_at beats events m k
+
+  plain_at : (n i : ℕ) → n < node_count p → i < h.count n → IsPlain (h.event n i)
+  plain_at n i inside low = (rings.is_ring G p orders disk_at beats events m k).run.plain n i inside low
 
   -- A node has one tick in a beat.
   one_tick : (n i j : ℕ) → n < node_count p → i < h.count n → j < h.count n → is_tick (h.event n i) ≡ true
@@ -209,9 +224,11 @@ module _ (G : Type 0) (p : Params) (orders : List Order) (disk_at : ℕ → Disk
   count =
       let merged = (rings.come G p orders disk_at beats events m k).merged in
       let own_events = merged.each (controller p) (rings.within G p orders disk_at beats events m k (controller p) controller_inside) in
+      let plain : AllByRecursion IsPlain (own (controller p) merged.merged) = subst (AllByRecursion IsPlain) (sym own_events)
+      (all_each IsPlain (h.event (controller p)) (h.count (controller p)) (λ i low. plain_at (controller p) i controller_inside low)) in
       sym
       (ap (λ (es : List Event). length (filter (is_tick_of (controller p)) (ticks_of es))) merged.told
-      ∙ own_count (controller p) (λ _. []) merged.merged
+      ∙ own_count (controller p) (λ _. []) merged.merged plain
       ∙ ap (λ (es : List (NodeEvent Msg)). length (filter is_tick es)) own_events
       ∙ count_below h (controller p) (h.count (controller p)))
 
@@ -222,7 +239,7 @@ module _ (G : Type 0) (p : Params) (orders : List Order) (disk_at : ℕ → Disk
       let merged = (rings.come G p orders disk_at beats events m k).merged in
       let at : slice_get (own n merged.merged) i ≡ Some (Does (Tick (stamp_at (h.event n i)))) =
       ap (λ (ys : List (NodeEvent Msg)). slice_get ys i) (merged.each n (rings.within G p orders disk_at beats events m k n controller_inside))
-      ∙ get-each_below (h.event n) (h.count n) i low ∙ ap (λ (y : NodeEvent Msg). Some y) (tick_is (h.event n i) tick) in
+      ∙ get-each_below (h.event n) (h.count n) i low ∙ ap (λ (y : NodeEvent Msg). Some y) (tick_is (h.event n i) (plain_at n i controller_inside low) tick) in
       let there : HasTick (ticks_of events) n (beat h n i) (reading h n i) =
       subst (λ (es : List Event). HasTick (ticks_of es) n (beat h n i) (reading h n i)) (sym merged.told)
       (own_has (stamp_at (h.event n i)) n (λ _. []) merged.merged i at) in

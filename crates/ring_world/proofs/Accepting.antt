@@ -9,7 +9,6 @@ use Rattle.tiger_base.specs.declared.number.Stamp.{Stamp}
 use Rattle.tiger_base.specs.declared.message.Note.{Note}
 use Rattle.tiger_base.specs.Limits.{most_reading}
 use Rattle.slot_plan.specs.declared.params.Params.{Params}
-use Rattle.node_kit.specs.Life.{trimmed}
 use Rattle.node_kit.specs.Links.{links_of, ends_of}
 use Rattle.node_kit.specs.Steps.{Input, Deed, IsAllowed}
 use Rattle.node_kit.specs.Steps.Input.{Take, Tick}
@@ -31,7 +30,7 @@ unfolding after_input
 state-plain note step i past = refl
 
 outs-plain : {M S : Type 0} (step : S → Input M → Deed M S) (i : Input M) (past : Past S) → outs_of step (Does i) past ≡ (step past.state i).outs
-unfolding kept_outs trimmed
+unfolding kept_outs
 outs-plain step i past = refl
 
 -- all faults apart
@@ -113,6 +112,7 @@ module _ {M S : Type 0} (note : M → Note) (step : S → Input M → Deed M S) 
           here = own.1;
           due = record {
             alive = open_node.alive;
+            plain = tt;
             dated = refl;
             ticked = at-beat e to b free own.1 line open_node.alive open_node.undone;
             shown = (open_node.from, open_node.until);
@@ -174,6 +174,7 @@ module _ {M S : Type 0} (note : M → Note) (step : S → Input M → Deed M S) 
           here = own.1;
           due = record {
             alive = open_node.alive;
+            plain = tt;
             dated = refl;
             ticked = at-beat e n b free own.1 line open_node.alive open_node.undone;
             shown = (open_node.from, open_node.until);
@@ -213,6 +214,7 @@ module _ {M S : Type 0} (note : M → Note) (step : S → Input M → Deed M S) 
           here = own.1;
           due = record {
             alive = open_node.alive;
+            plain = tt;
             dated = refl;
             ticked = at-beat e n b free own.1 line open_node.alive (second (nat_lt stamp.beat b.acted) (nat_lt stamp.beat b.ticked) open_node.undone);
             shown = (open_node.from, open_node.until);

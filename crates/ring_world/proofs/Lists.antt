@@ -1,13 +1,13 @@
 -- Lists with each element changed, and with one more: what is numbered, passed and last in them.
-use Rattle.std.proofs.Common.{◌≡◌, ℕ, zero, suc, ◌+◌, ◌<◌, ◌≤◌, List, [], ◌∷◌, ◌++◌, length, true, false, Some, refl, ap, sym, ◌∙◌, subst, arith, ⊎_elim, inl, inr}
+use Rattle.std.proofs.Common.{◌≡◌, ℕ, zero, suc, ◌+◌, ◌<◌, ◌≤◌, List, [], ◌∷◌, ◌++◌, length, true, false, Some, refl, ap, sym, ◌∙◌, subst, arith, cond, ⊎_elim, inl, inr}
 use Rattle.std.specs.Prelude.{slice_get, option_map, ◌⊎◌}
 use Rattle.std.specs.List.{AllByRecursion}
 use Rattle.std.proofs.lemmas.Bool.{cases_Bool}
 use Rattle.std.proofs.lemmas.Option.{none-some, slice_get_within}
-use Rattle.run_facts.specs.Accounts.{tick_count, AreCounted, AreAlive, DeathIsLast, event_at}
-use Rattle.run_facts.specs.Events.{NodeEvent, Dated, stamp_at, is_death}
+use Rattle.run_facts.specs.Accounts.{tick_count, AreAlive, DeathIsLast, event_at, front}
+use Rattle.run_facts.specs.Events.{NodeEvent, Dated, stamp_at, is_tick, is_death}
 use Rattle.run_facts.proofs.Counts.{get-append}
-use Rattle.run_facts.proofs.Timelines.{counted-append}
+use Rattle.run_facts.proofs.Indexed.{passing}
 use Rattle.ring_world.specs.Machine.{each_at}
 
 pub each-get : {X : Type 0} (f : ℕ → X → X) (i : ℕ) (xs : List X) (k j : ℕ) → i + k ≡ j
@@ -61,9 +61,37 @@ death-found {M} (e ∷ es) h = ⊎_elim
     let low = rest.1 in (suc rest.0, omega (arith, low), rest.2))
     (cases_Bool (is_death e))
 
-pub counted-more : {M : Type 0} (t : ℕ) (es : List (NodeEvent M)) (x : NodeEvent M) → AreCounted t es
-    → (stamp_at x).beat ≡ t + tick_count es → AreCounted t (es ++ x ∷ [])
-counted-more t es x h at = counted-append t es (x ∷ []) h (at, tt)
+-- the beat of each event is the number of ticks before it
+abbrev pub AreTicked : {M : Type 0} → ℕ → List (NodeEvent M) → Type 0
+AreTicked t [] = Unit {0}
+AreTicked t (e ∷ es) = ((stamp_at e).beat ≡ t) × AreTicked (cond (is_tick e) (suc t) t) es
+
+pub ticked-more : {M : Type 0} (t : ℕ) (es : List (NodeEvent M)) (x : NodeEvent M) → AreTicked t es
+    → (stamp_at x).beat ≡ t + tick_count es → AreTicked t (es ++ x ∷ [])
+ticked-more t [] x h at = (omega (arith, at), tt)
+ticked-more t (e ∷ es) x h at = ⊎_elim
+    (λ (q : is_tick e ≡ true).
+    let rest = subst (λ b. AreTicked (cond b (suc t) t) es) q h.1 in
+    let now = subst (λ b. (stamp_at x).beat ≡ t + cond b (suc (tick_count es)) (tick_count es)) q at in
+    (h.0, subst (λ b. AreTicked (cond b (suc t) t) (es ++ x ∷ [])) (sym q) (ticked-more (suc t) es x rest (omega (arith, now)))))
+    (λ (q : is_tick e ≡ false).
+    let rest = subst (λ b. AreTicked (cond b (suc t) t) es) q h.1 in
+    let now = subst (λ b. (stamp_at x).beat ≡ t + cond b (suc (tick_count es)) (tick_count es)) q at in
+    (h.0, subst (λ b. AreTicked (cond b (suc t) t) (es ++ x ∷ [])) (sym q) (ticked-more t es x rest now)))
+    (cases_Bool (is_tick e))
+
+pub ticked-at : {M : Type 0} (t : ℕ) (es : List (NodeEvent M)) (i : ℕ) → i < length es → AreTicked t es
+    → (stamp_at (event_at es i)).beat ≡ t + passing is_tick (front i es)
+ticked-at t [] i h c = absurd (omega (arith, h))
+ticked-at t (e ∷ es) zero h c = let q = c.0 in omega (arith, q)
+ticked-at t (e ∷ es) (suc i) h c = ⊎_elim
+    (λ (q : is_tick e ≡ true).
+    let rest = ticked-at (suc t) es i (omega (arith, h)) (subst (λ b. AreTicked (cond b (suc t) t) es) q c.1) in
+    rw q (omega (arith, rest)))
+    (λ (q : is_tick e ≡ false).
+    let rest = ticked-at t es i (omega (arith, h)) (subst (λ b. AreTicked (cond b (suc t) t) es) q c.1) in
+    rw q rest)
+    (cases_Bool (is_tick e))
 
 -- what is taken came in order of what was sent, each from one beat to the greatest delay later
 abbrev pub ArePassed : {X : Type 0} → ℕ → List (Dated X) → List (Dated X) → Type 0

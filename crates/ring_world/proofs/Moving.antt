@@ -9,7 +9,7 @@ use Rattle.node_kit.specs.Links.{links_of, ends_of}
 use Rattle.node_kit.specs.Steps.{Input, Deed}
 use Rattle.node_kit.specs.Steps.Input.{Take, Tick}
 use Rattle.run_facts.specs.Events.{NodeEvent, Past, Dated, opening, after_all, outs_of, stamp_at, is_tick, is_death, is_take_on, sends_of, sends_along, take_on, takes_along}
-use Rattle.run_facts.specs.Events.NodeEvent.{Does, Dies}
+use Rattle.run_facts.specs.Events.NodeEvent.{Does, Ends, Dies, Returns}
 use Rattle.run_facts.specs.Accounts.{tick_count}
 use Rattle.run_facts.proofs.Rows.{all-weaker, same-element}
 use Rattle.run_facts.proofs.Along.{sends-append, takes-append, sends-none}
@@ -51,7 +51,10 @@ added-other n x es k ne = let q : (k == n) ≡ false = ne_eqb k n ne in rw q ref
 tick-takes-none : {M : Type 0} (l : ℕ) (x : NodeEvent M) → is_tick x ≡ true → is_take_on l x ≡ false
 tick-takes-none l (Does (Take s k m)) h = absurd (cc)
 tick-takes-none l (Does (Tick s)) h = refl
+tick-takes-none l (Ends (Take s k m) sends) h = absurd (cc)
+tick-takes-none l (Ends (Tick s) sends) h = refl
 tick-takes-none l (Dies s) h = absurd (cc)
+tick-takes-none l (Returns s) h = absurd (cc)
 
 module _ {M S : Type 0} (note : M → Note) (step : S → Input M → Deed M S) (stands : S → Params → ℕ → Type 0) (p : Params) (nodes beats : ℕ) (place : IsPlace p nodes beats) (first : ℕ → S)
     (m : Machine M S) (es : ℕ → List (NodeEvent M)) (h : Holds note step stands p nodes first m es) (e : Event) (n : ℕ) (x : NodeEvent M) (b : Being S) (move : IsMove note step stands p nodes m e n x b) where

@@ -18,7 +18,7 @@ use Rattle.run_facts.proofs.Indexed.{last-all, all-at, front-more, front-all}
 use Rattle.ring_world.specs.declared.event.Event.{Event}
 use Rattle.ring_world.specs.Machine.{Machine, Being, being, empty_ways, opening_machine, undying}
 use Rattle.ring_world.specs.Laws.{IsPlace, IsDeadBy, HasCome, AcceptedListsAreRuns}
-use Rattle.ring_world.proofs.Telling.{IsTold, ticked-told, run-of_told}
+use Rattle.ring_world.proofs.Telling.{IsTold, none_lost, ticked-told, run-of_told}
 use Rattle.ring_world.proofs.Lists.{death-found}
 use Rattle.ring_world.proofs.Moving.{Holds}
 use Rattle.node_kit.specs.Rows.{each_below}
@@ -51,6 +51,7 @@ holds-opens {M} {S} note step stands p given first all stand = record {
       high = omega arith;
       low = λ _. omega arith;
       early = tt;
+      plain = tt;
       counted = tt;
       shown = tt;
       rising = tt;
@@ -90,6 +91,7 @@ each-event es = each-front es (length es) (omega arith) ∙ front-all es
 told-of : {M S : Type 0} (note : M → Note) (step : S → Input M → Deed M S) (stands : S → Params → ℕ → Type 0) (p : Params) (nodes beats : ℕ) → IsPlace p nodes beats → (first : ℕ → S) (m : Machine M S) (es : ℕ → List (NodeEvent M))
     → Holds note step stands p nodes first m es → IsTold note step p (λ _. undying) nodes m.beat first es
 told-of {M} note step stands p nodes beats place first m es h = record {
+  plain = λ n low. (h.node n low).2.plain;
   counted = λ n low. (h.node n low).2.counted;
   shown = λ n low. (h.node n low).2.shown;
   rising = λ n low. (h.node n low).2.rising;
@@ -124,15 +126,15 @@ module _ {M S : Type 0} (note : M → Note) (step : S → Input M → Deed M S) 
   h = r.holds
 
   ends-at : (n : ℕ) (low : n < length given) → slice_get m.beings n ≡ Some (h.node n low).0
-      → (h.node n low).0.past ≡ last_of note step (history_of first (λ _. undying) es) n
-  ends-at n low at = (h.node n low).2.past ∙ sym (last-all note step first (λ _. undying) es n)
+      → (h.node n low).0.past ≡ last_of note step (history_of first (λ _. undying) none_lost es) n
+  ends-at n low at = (h.node n low).2.past ∙ sym (last-all note step first (λ _. undying) none_lost es n)
 
-  dead-by : (n : ℕ) (b : Being S) → n < length given → slice_get m.beings n ≡ Some b → IsDeadBy (history_of first (λ _. undying) es) n b.dead
+  dead-by : (n : ℕ) (b : Being S) → n < length given → slice_get m.beings n ≡ Some b → IsDeadBy (history_of first (λ _. undying) none_lost es) n b.dead
   dead-by n b low at =
       let own = h.node n low in
       let line = own.2 in
       let same : own.0 ≡ b = same-element m.beings n own.0 b own.1 at in
-      subst (λ (c : Being S). IsDeadBy (history_of first (λ _. undying) es) n c.dead) same
+      subst (λ (c : Being S). IsDeadBy (history_of first (λ _. undying) none_lost es) n c.dead) same
       (record {
         died = λ dead. death-found (es n) (line.died dead);
         lives = λ lives i here. all-at (λ e. is_death e ≡ false) (es n) i here (line.alive lives);
@@ -142,7 +144,7 @@ module _ {M S : Type 0} (note : M → Note) (step : S → Input M → Deed M S) 
   come-of =
       let t = told-of note step stands p (length given) beats place first m es h in
       record {
-        history = history_of first (λ _. undying) es;
+        history = history_of first (λ _. undying) none_lost es;
         theirs = record {
           opens = λ n s at. (same-element given n (first n) s (starts n (slice_get_within given n s at)) at, refl);
           writes = λ n low. let own = h.node n low in

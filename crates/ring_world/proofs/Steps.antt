@@ -8,15 +8,15 @@ use Rattle.slot_plan.specs.declared.params.Params.{Params}
 use Rattle.node_kit.specs.declared.outbox.Out.{Out}
 use Rattle.node_kit.specs.Steps.{Input, Deed, IsAllowed}
 use Rattle.node_kit.specs.Steps.Input.{Take, Tick}
-use Rattle.run_facts.specs.Events.{NodeEvent, Past, Dated, opening, after, after_all, outs_of, stamp_at, is_tick, is_death, is_take_on, AreFair, sends_of, take_on}
-use Rattle.run_facts.specs.Events.NodeEvent.{Does, Dies}
+use Rattle.run_facts.specs.Events.{NodeEvent, Past, Dated, opening, after, after_all, outs_of, stamp_at, is_tick, is_death, is_take_on, AreFair, IsPlain, sends_of, take_on}
+use Rattle.run_facts.specs.Events.NodeEvent.{Does, Ends, Dies, Returns}
 use Rattle.run_facts.proofs.Rows.{all-append, all-weaker, rising-push}
-use Rattle.run_facts.specs.Accounts.{Rising, tick_count, AreCounted, AreAlive, DeathIsLast, IsLed}
+use Rattle.run_facts.specs.Accounts.{Rising, tick_count, AreAlive, DeathIsLast, IsLed}
 use Rattle.run_facts.proofs.Along.{after_all-append, fair-append, sends_of-dated}
 use Rattle.run_facts.proofs.Timelines.{count-append}
 use Rattle.tiger_base.specs.Limits.{most_reading}
 use Rattle.ring_world.specs.Machine.{Being, Way, undying, lived, rest_of}
-use Rattle.ring_world.proofs.Lists.{death-more, counted-more, ArePassed, passed-more, length-more}
+use Rattle.ring_world.proofs.Lists.{death-more, AreTicked, ticked-more, ArePassed, passed-more, length-more}
 use Rattle.ring_world.proofs.Telling.{IsShown}
 
 -- a node by a beat, and its events
@@ -26,7 +26,8 @@ pub record IsLifeline {M S : Type 0} (note : M → Note) (step : S → Input M �
   pub high : b.ticked ≤ now + 1
   pub low : b.dead ≡ false → now ≤ b.ticked
   pub early : AllByRecursion (λ (e : NodeEvent M). (stamp_at e).beat ≤ now) es
-  pub counted : AreCounted 0 es
+  pub plain : AllByRecursion IsPlain es
+  pub counted : AreTicked 0 es
   pub shown : AllByRecursion (IsShown p) es
   pub rising : Rising (λ (e : NodeEvent M). (stamp_at e).reading) es
   pub last : AllByRecursion (λ (e : NodeEvent M). (stamp_at e).reading ≤ b.reading) es
@@ -41,6 +42,7 @@ pub record IsLifeline {M S : Type 0} (note : M → Note) (step : S → Input M �
 -- what an event needs of its node
 pub record IsDue {M S : Type 0} (note : M → Note) (step : S → Input M → Deed M S) (stands : S → Params → ℕ → Type 0) (p : Params) (n beat : ℕ) (b : Being S) (x : NodeEvent M) : Type 0 where
   pub alive : b.dead ≡ false
+  pub plain : IsPlain x
   pub dated : (stamp_at x).beat ≡ beat
   pub ticked : b.ticked ≡ beat
   pub shown : IsShown p x
@@ -90,7 +92,8 @@ lifeline-more {M} {S} note step stands p n now beat first b es x goes line due =
       low = λ _. omega (arith, down, at);
       early = all-append (λ (e : NodeEvent M). (stamp_at e).beat ≤ beat) es (x ∷ [])
           (all-weaker (λ (e : NodeEvent M). (stamp_at e).beat ≤ now) (λ e. (stamp_at e).beat ≤ beat) es (λ e h. omega (arith, h, goes)) line.early) (omega (arith, dated), tt);
-      counted = counted-more 0 es x line.counted (omega (arith, dated, at, t));
+      plain = all-append IsPlain es (x ∷ []) line.plain (due.plain, tt);
+      counted = ticked-more 0 es x line.counted (omega (arith, dated, at, t));
       shown = all-append (IsShown p) es (x ∷ []) line.shown (due.shown, tt);
       rising = rising-push (λ (e : NodeEvent M). (stamp_at e).reading) es x line.rising
           (all-weaker (λ (e : NodeEvent M). (stamp_at e).reading ≤ b.reading) (λ e. (stamp_at e).reading ≤ (stamp_at x).reading) es (λ e h. omega (arith, h, later)) line.last);
@@ -115,6 +118,7 @@ lifeline-later note step stands p n now beat first b es goes done line = record 
   high = let h = line.high in omega (arith, h, goes);
   low = done;
   early = all-weaker (λ e. (stamp_at e).beat ≤ now) (λ e. (stamp_at e).beat ≤ beat) es (λ e h. omega (arith, h, goes)) line.early;
+  plain = line.plain;
   counted = line.counted;
   shown = line.shown;
   rising = line.rising;
@@ -148,7 +152,10 @@ pub record IsTakenOff {M : Type 0} (beat l : ℕ) (w : Way M) (x : NodeEvent M) 
 pub no-take : {M : Type 0} (l : ℕ) (x : NodeEvent M) → is_take_on l x ≡ false → take_on l x ≡ []
 no-take l (Does (Take s k m)) h = rw h refl
 no-take l (Does (Tick s)) h = refl
+no-take l (Ends (Take s k m) sends) h = rw h refl
+no-take l (Ends (Tick s) sends) h = refl
 no-take l (Dies s) h = refl
+no-take l (Returns s) h = refl
 
 -- the way after an event of either end or of neither
 abbrev pub way_after : {M : Type 0} → ℕ → ℕ → NodeEvent M → List (Out M) → Way M → Way M

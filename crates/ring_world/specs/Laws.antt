@@ -11,7 +11,8 @@ use Rattle.node_kit.specs.Rows.{AllStand}
 use Rattle.node_kit.specs.Steps.{Input, Deed, IsAllowed}
 use Rattle.node_kit.specs.Steps.Input.{Take, Tick}
 use Rattle.run_facts.specs.Events.{is_death}
-use Rattle.run_facts.specs.Histories.{History, IsHistoryOf, IsRun, beat, reading, ticks}
+use Rattle.run_facts.specs.Histories.{History, IsHistoryOf, beat, reading, ticks}
+use Rattle.run_facts.specs.Plain.{IsPlainRun}
 use Rattle.ring_world.specs.declared.event.Act.{Act}
 use Rattle.ring_world.specs.declared.event.Act.TheVariants as act
 use Rattle.ring_world.specs.declared.event.Event.{Event}
@@ -56,7 +57,7 @@ pub record IsDeadBy {M S : Type 0} (h : History M S) (n : ℕ) (dead : Bool) : T
   pub lives : dead ≡ false → (i : ℕ) → i < h.count n → is_death (h.event n i) ≡ false
 
 -- The machine has come through a history by these events: the history begins with the nodes given, has the machine's
--- journals, and ends with its nodes; the record of a run holds of it; the machine remembers the events, and they are
+-- journals, and ends with its nodes; the record of a plain run holds of it; the machine remembers the events, and they are
 -- the history's in one order of beats; none is in a later beat than the machine's, and who lives has ticked in each
 -- beat before; readings are within the limit; a node is dead exactly if it died in the history, nobody did if none of
 -- the events is a death, and of two neighbours in the ring at most one is dead.
@@ -64,7 +65,7 @@ pub record HasCome {M S : Type 0} (note : M → Note) (step : S → Input M → 
     (given : List S) (events : List Event) (m : Machine M S) : Type 0 where
   pub history : History M S
   pub theirs : IsHistoryOf note step (λ _. undying) given (states_of m) (journals_of m) history
-  pub run : IsRun note step p (length given) history
+  pub run : IsPlainRun note step p (length given) history
   pub happened : m.events ≡ events
   pub merged : IsMerged history (length given) events
   pub each_has_being : length m.beings ≡ length given

@@ -4,7 +4,7 @@ use Rattle.tiger_base.specs.declared.message.Note.{Note}
 use Rattle.tiger_base.specs.declared.number.Stamp.{Stamp}
 use Rattle.slot_plan.specs.declared.params.Params.{Params}
 use Rattle.node_kit.specs.declared.journal.Entry.{Entry}
-use Rattle.node_kit.specs.Life.{Lifetime}
+use Rattle.node_kit.specs.Life.{Lifetime, mortal}
 use Rattle.node_kit.specs.Links.{links_of, ends_of, link_count}
 use Rattle.node_kit.specs.Steps.{Input, Deed}
 use Rattle.node_kit.specs.Steps.Input.{Take, Tick}
@@ -45,7 +45,7 @@ states_of m = map (λ b. b.past.state) m.beings
 
 -- the life of each node: no death is set, since a death is an event
 abbrev pub undying : Lifetime
-undying = record { death = None }
+undying = mortal None
 
 -- a node to which nothing has happened
 abbrev pub being : {S : Type 0} → S → Being S

@@ -2,10 +2,11 @@
 use Rattle.std.specs.Prelude.{◌≡◌, ℕ, ◌<◌, ◌==◌, List, [], ◌∷◌, ◌++◌, map, filter, length, if◌then◌else◌}
 use Rattle.std.specs.List.{AllByRecursion}
 use Rattle.node_kit.specs.Rows.{each_below}
+use Rattle.node_kit.specs.Steps.{Input}
 use Rattle.node_kit.specs.Steps.Input.{Take, Tick}
 use Rattle.run_facts.specs.Accounts.{Rising}
 use Rattle.run_facts.specs.Events.{NodeEvent, stamp_at, takes_along}
-use Rattle.run_facts.specs.Events.NodeEvent.{Does, Dies}
+use Rattle.run_facts.specs.Events.NodeEvent.{Does, Ends, Dies, Returns}
 use Rattle.run_facts.specs.Histories.{History}
 use Rattle.ring_world.specs.declared.event.Act.{Act}
 use Rattle.ring_world.specs.declared.event.Act.TheVariants as act
@@ -27,12 +28,19 @@ own n xs = map (λ x. x.event) (filter (λ x. x.node == n) xs)
 abbrev pub added : {M : Type 0} → ℕ → NodeEvent M → (ℕ → List (NodeEvent M)) → ℕ → List (NodeEvent M)
 added n x es k = if k == n then es k ++ x ∷ [] else es k
 
--- what an event of node n is called if these happened to the node before: a message has as its number
--- how many were taken on its link
+-- what a step of node n is called if these happened to the node before: a message has as its number how many were
+-- taken on its link
+abbrev pub act_by : {M : Type 0} → List (NodeEvent M) → ℕ → Input M → Act
+act_by es n (Take stamp link msg) = act.Get link (length (takes_along link.0 es))
+act_by es n (Tick stamp) = act.Tick (record { 0 = n })
+
+-- what an event is called. A machine has plain events alone, so an end and a return, which are not, have no name of
+-- their own
 abbrev pub act_of : {M : Type 0} → List (NodeEvent M) → ℕ → NodeEvent M → Act
-act_of es n (Does (Take stamp link msg)) = act.Get link (length (takes_along link.0 es))
-act_of es n (Does (Tick stamp)) = act.Tick (record { 0 = n })
+act_of es n (Does input) = act_by es n input
+act_of es n (Ends input sends) = act.Die (record { 0 = n })
 act_of es n (Dies stamp) = act.Die (record { 0 = n })
+act_of es n (Returns stamp) = act.Die (record { 0 = n })
 
 abbrev pub told_as : {M : Type 0} → List (NodeEvent M) → Happening M → Event
 told_as es x = record { stamp = stamp_at x.event; act = act_of es x.node x.event }
