@@ -1,5 +1,7 @@
 -- Whatever was read has lines behind it that end it to the text of a writable value.
-use Rattle.std.proofs.Common.{◌≡◌, ℕ, zero, suc, ◌+◌, ◌-◌, ◌*◌, ◌<◌, ◌≤◌, ◌^◌, List, [], ◌∷◌, ◌++◌, refl, sym, ap, ◌∙◌, subst, arith, length, map, replicate, append_assoc, append-nil}
+use Rattle.std.proofs.Common.{◌≡◌, ℕ, zero, suc, ◌+◌, ◌-◌, ◌*◌, ◌<◌, ◌≤◌, ◌^◌, Bool, true, false, cond, List, [], ◌∷◌, ◌++◌, None, refl, sym}
+use Rattle.std.proofs.Common.{ap, ◌∙◌, subst, arith, length, map, replicate, append_assoc, append-nil}
+use Rattle.std.specs.Prelude.{nat_lt}
 use Rattle.std.specs.List.{All, AllByRecursion}
 use Rattle.std.proofs.Math.Nat.{mul-le-mul}
 use Rattle.std.proofs.lemmas.List.{length-replicate}
@@ -13,20 +15,23 @@ use Rattle.slot_plan.specs.Times.{disk_count}
 use Rattle.slot_plan.specs.declared.params.Params.{Params}
 use Rattle.stripe_layout.specs.Layout.{IsCatalogue}
 use Rattle.stripe_layout.specs.declared.catalogue.FileInfo.{FileInfo}
+use Rattle.node_kit.specs.Courses.{CutsDeath, ReturnsLater}
+use Rattle.node_kit.specs.Life.{death_of, cut_of, back_of}
+use Rattle.node_kit.specs.declared.course.Course.{Course}
 use Rattle.node_kit.specs.declared.course.Digest32.{Digest32}
 use Rattle.node_kit.specs.declared.course.Kept.{Kept}
 use Rattle.audit_text.specs.declared.item.Item.{Item}
 use Rattle.audit_text.specs.declared.item.Item.TheVariants as item
 use Rattle.audit_text.specs.Fields.{params_fields}
 use Rattle.audit_text.specs.Fits.{ItemFits, DigestFits}
-use Rattle.audit_text.specs.Texts.{Parts, parts_of, node_items, head_items, items_in}
+use Rattle.audit_text.specs.Texts.{Parts, parts_of, row_at, node_items, head_items, items_in}
 use Rattle.audit_read.specs.Writable.{IsDeath, IsFault, IsFile, AreOrders, IsJournal, IsWritable, node_count, starts_in}
 use Rattle.audit_read.specs.Drafts.{given_parts, whole_parts, written, Admits, AreOffsets, AreBeats, TellsAll, padded, told_with, begun_told, opened, after, IsGiven, IsTold, IsWhole, IsSound}
 use Rattle.audit_read.specs.declared.draft.Draft.{Draft}
 use Rattle.audit_read.specs.declared.draft.Draft.TheVariants as draft
 use Rattle.audit_read.specs.declared.given.Given.{Given}
 use Rattle.audit_read.specs.declared.told.Told.{Told}
-use Rattle.audit_read.proofs.Lists.{all_push, padded_items, padded_length, padded_all, length_push, bytes_from}
+use Rattle.audit_read.proofs.Lists.{all_push, padded_at, padded_items, padded_length, padded_all, length_push, bytes_from}
 use Rattle.audit_read.proofs.Steps.{step}
 
 -- ---- a whole text is that of a writable value
@@ -38,6 +43,10 @@ record AreWritable (q : Parts) : Type 0 where
   delay : FixedIsWithin q.delay q.params.delay
   cubs : length q.deaths ≡ q.params.cubs
   deaths : AllByRecursion (IsDeath q.beats) q.deaths
+  cuts : length q.cuts ≡ q.params.cubs
+  backs : length q.backs ≡ q.params.cubs
+  cut_deaths : (n : ℕ) → CutsDeath (row_at q.deaths n) (row_at q.cuts n)
+  returns_later : (n : ℕ) → ReturnsLater (row_at q.deaths n) (row_at q.backs n)
   faults : AllByRecursion (IsFault q.params q.beats) q.faults
   files : AllByRecursion (IsFile q.params) q.files
   orders : AreOrders q.params q.beats q.files [] q.orders
@@ -53,7 +62,7 @@ whole_items t =
     ap (λ (q : List Item). head_items (given_parts t.given)
     ++ (q ++ map (λ f. item.Fault f) t.given.faults ++ map (λ f. item.File f) t.given.files ++ map (λ o. item.Order o) t.given.orders
     ++ node_items 0 (t.journals ++ t.current ∷ []) ++ map (λ d. item.Digest d) t.digests) ++ item.End ∷ [])
-    (padded_items t.given.deaths t.given.params.cubs)
+    (padded_items t.given.cuts t.given.backs t.given.deaths t.given.params.cubs)
 
 parts_are : (t : Told) → IsWhole t → AllByRecursion ItemFits (written (draft.Whole t)) → AreWritable (whole_parts t)
 parts_are t w fits =
@@ -64,6 +73,10 @@ parts_are t w fits =
       delay = g.delay;
       cubs = padded_length t.given.deaths t.given.params.cubs g.cubs;
       deaths = padded_all t.given.beats t.given.deaths t.given.params.cubs g.deaths;
+      cuts = padded_length t.given.cuts t.given.params.cubs (omega (arith, g.cuts, g.cubs));
+      backs = padded_length t.given.backs t.given.params.cubs (omega (arith, g.backs, g.cubs));
+      cut_deaths = λ n. rw (padded_at t.given.deaths t.given.params.cubs n, padded_at t.given.cuts t.given.params.cubs n) (g.cut_deaths n);
+      returns_later = λ n. rw (padded_at t.given.deaths t.given.params.cubs n, padded_at t.given.backs t.given.params.cubs n) (g.returns_later n);
       faults = g.faults;
       files = g.files;
       orders = g.orders;
@@ -73,6 +86,19 @@ parts_are t w fits =
       numbers = subst (λ (q : List Item). All ItemFits q) (sym (whole_items t)) (All-from_recursion ItemFits (written (draft.Whole t)) fits);
     }
 
+-- what the rows of a course say of a cub they say of a node: of all others they say nothing
+cut_of_node : (c : Course) → ((n : ℕ) → CutsDeath (row_at c.deaths n) (row_at c.cuts n)) → (n : ℕ) → CutsDeath (death_of c n) (cut_of c n)
+cut_of_node c f n = by_kind (nat_lt n c.plan.params.cubs) where
+  by_kind : (t : Bool) → CutsDeath (cond t (row_at c.deaths n) None) (cond t (row_at c.cuts n) None)
+  by_kind true = f n
+  by_kind false = tt
+
+back_of_node : (c : Course) → ((n : ℕ) → ReturnsLater (row_at c.deaths n) (row_at c.backs n)) → (n : ℕ) → ReturnsLater (death_of c n) (back_of c n)
+back_of_node c f n = by_kind (nat_lt n c.plan.params.cubs) where
+  by_kind : (t : Bool) → ReturnsLater (cond t (row_at c.deaths n) None) (cond t (row_at c.backs n) None)
+  by_kind true = f n
+  by_kind false = tt
+
 kept_is : (k : Kept) → AreWritable (parts_of k) → k.catalogue.block ≡ k.course.plan.params.block
     → k.catalogue.disks ≡ disk_count k.course.plan.params → IsWritable k
 kept_is k a block disks = record {
@@ -81,6 +107,10 @@ kept_is k a block disks = record {
     offsets = a.offsets.0;
     skewed = a.offsets.1;
     deaths = a.cubs;
+    cuts = a.cuts;
+    backs = a.backs;
+    cut_deaths = cut_of_node k.course a.cut_deaths;
+    returns_later = back_of_node k.course a.returns_later;
     delay = a.delay;
   };
   lasting = a.beats.0;
@@ -137,6 +167,8 @@ kept_of t w = record {
     beats = t.given.beats;
     offsets = t.given.offsets;
     deaths = padded t.given.deaths t.given.params.cubs;
+    cuts = padded t.given.cuts t.given.params.cubs;
+    backs = padded t.given.backs t.given.params.cubs;
     faults = t.given.faults;
     delay = t.given.delay;
   };

@@ -1,13 +1,17 @@
 -- Lists with one element more at their end, and what they are as items.
-use Rattle.std.proofs.Common.{◌≡◌, ℕ, zero, suc, ◌+◌, ◌-◌, ◌<◌, ◌≤◌, List, [], ◌∷◌, ◌++◌, Option, Some, None, refl, sym, ap, ◌∙◌, arith, length, map, replicate, append_assoc, append-nil, length-append}
+use Rattle.std.proofs.Common.{◌≡◌, ℕ, zero, suc, ◌+◌, ◌-◌, ◌<◌, ◌≤◌, Bool, true, false, cond, List, [], ◌∷◌, ◌++◌, Option, Some, None, refl, sym, ap, ◌∙◌}
+use Rattle.std.proofs.Common.{arith, eqb, length, map, replicate, append_assoc, append-nil, length-append}
+use lib.Dec.{eqb-suc-suc, eqb-suc-zero, eqb-zero-suc}
 use Rattle.std.specs.List.{AllByRecursion}
 use Rattle.std.specs.Prelude.{slice_index}
+use Rattle.std.proofs.lemmas.Bool.Decides.{nat_tests}
 use Rattle.std.proofs.lemmas.List.{map-append, length-replicate}
+use Rattle.node_kit.specs.Courses.{CutsDeath, ReturnsLater}
 use Rattle.node_kit.specs.declared.journal.Entry.{Entry}
 use Rattle.audit_text.specs.declared.item.Item.{Item}
 use Rattle.audit_text.specs.declared.item.Item.TheVariants as item
-use Rattle.audit_text.specs.Texts.{death_items, entry_items, node_items}
-use Rattle.audit_read.specs.Drafts.{padded}
+use Rattle.audit_text.specs.Texts.{row_at, death_items, entry_items, node_items}
+use Rattle.audit_read.specs.Drafts.{padded, padded_with}
 use Rattle.audit_read.specs.Writable.{IsDeath}
 
 pub all_append : {X : Type 0} (P : X → Type 0) (xs ys : List X) → AllByRecursion P xs → AllByRecursion P ys → AllByRecursion P (xs ++ ys)
@@ -45,7 +49,7 @@ mapped f a xs x = ap (λ (q : List Item). a ++ q) (map-append f xs (x ∷ [])) �
 pub before_nothing : (xs ys : List Item) (x : Item) → ys ≡ xs ++ x ∷ [] → ys ++ [] ≡ (xs ++ []) ++ x ∷ []
 before_nothing xs ys x e = append-nil ys ∙ e ∙ ap (λ (q : List Item). q ++ x ∷ []) (sym (append-nil xs))
 
--- ---- deaths
+-- ---- rows
 
 same_number : (c : ℕ) → c ≡ c + 0
 same_number c = omega arith
@@ -53,36 +57,118 @@ same_number c = omega arith
 shifted : (c n : ℕ) → c + 1 + n ≡ c + suc n
 shifted c n = omega arith
 
-deaths-append : (c : ℕ) (xs ys : List (Option ℕ)) → death_items c (xs ++ ys) ≡ death_items c xs ++ death_items (c + length xs) ys
-deaths-append c [] ys = ap (λ (n : ℕ). death_items n ys) (same_number c)
-deaths-append c (None ∷ xs) ys =
-    deaths-append (c + 1) xs ys ∙ ap (λ (n : ℕ). death_items (c + 1) xs ++ death_items n ys) (shifted c (length xs))
-deaths-append c (Some b ∷ xs) ys =
-    ap (λ (q : List Item). item.Death (record { 0 = c }) b ∷ q)
-    (deaths-append (c + 1) xs ys ∙ ap (λ (n : ℕ). death_items (c + 1) xs ++ death_items n ys) (shifted c (length xs)))
+pub padded_length : (row : List (Option ℕ)) (c : ℕ) → length row ≤ c → length (padded row c) ≡ c
+padded_length row c le =
+    let nothing : List (Option ℕ) = replicate (c - length row) None in
+    let made : length nothing ≡ c - length row = length-replicate (c - length row) None in
+    omega (arith, le, length-append row nothing, made)
 
-living : (c n : ℕ) → death_items c (replicate n None) ≡ []
-living c zero = refl
-living c (suc n) = living (c + 1) n
+pub padded_with_length : (row : List (Option ℕ)) (c : ℕ) (value : Option ℕ) → length row ≤ c
+    → length (padded_with row c value) ≡ c + 1
+padded_with_length row c value le =
+    omega (arith, length_push (padded row c) value, padded_length row c le)
 
-pub padded_items : (ds : List (Option ℕ)) (c : ℕ) → death_items 0 (padded ds c) ≡ death_items 0 ds
-padded_items ds c =
-    deaths-append 0 ds (replicate (c - length ds) None)
-    ∙ ap (λ (q : List Item). death_items 0 ds ++ q) (living (0 + length ds) (c - length ds))
-    ∙ append-nil (death_items 0 ds)
+-- behind its end a row says what it says of nobody
+says_nothing : (m n : ℕ) → row_at (replicate m None) n ≡ None
+says_nothing zero n = refl
+says_nothing (suc m) zero = refl
+says_nothing (suc m) (suc n) = says_nothing m n
 
-pub padded_length : (ds : List (Option ℕ)) (c : ℕ) → length ds ≤ c → length (padded ds c) ≡ c
-padded_length ds c le =
-    let living : List (Option ℕ) = replicate (c - length ds) None in
-    let made : length living ≡ c - length ds = length-replicate (c - length ds) None in
-    omega (arith, le, length-append ds living, made)
+pub padded_at : (row : List (Option ℕ)) (c n : ℕ) → row_at (padded row c) n ≡ row_at row n
+padded_at row c n = behind row (c - length row) n where
+  behind : (row : List (Option ℕ)) (m n : ℕ) → row_at (row ++ replicate m None) n ≡ row_at row n
+  behind [] m n = says_nothing m n
+  behind (o ∷ row) m zero = refl
+  behind (o ∷ row) m (suc n) = behind row m n
 
-pub death_push : (ds : List (Option ℕ)) (c b : ℕ) → length ds ≤ c → death_items 0 (padded ds c ++ Some b ∷ []) ≡ death_items 0 ds ++ item.Death (record { 0 = c }) b ∷ []
-death_push ds c b le =
+-- what a row says with one element more
+push_at : (row : List (Option ℕ)) (value : Option ℕ) (n : ℕ)
+    → row_at (row ++ value ∷ []) n ≡ cond (eqb n (length row)) value (row_at row n)
+push_at [] value zero = refl
+push_at [] value (suc n) = rw (eqb-suc-zero n) refl
+push_at (o ∷ row) value zero = rw (eqb-zero-suc (length row)) refl
+push_at (o ∷ row) value (suc n) =
+    push_at row value n ∙ ap (λ (t : Bool). cond t value (row_at row n)) (sym (eqb-suc-suc n (length row)))
+
+pub padded_with_at : (row : List (Option ℕ)) (c : ℕ) (value : Option ℕ) (n : ℕ) → length row ≤ c
+    → row_at (padded_with row c value) n ≡ cond (eqb n c) value (row_at row n)
+padded_with_at row c value n le =
+    push_at (padded row c) value n
+    ∙ ap (λ (k : ℕ). cond (eqb n k) value (row_at (padded row c) n)) (padded_length row c le)
+    ∙ ap (λ (o : Option ℕ). cond (eqb n c) value o) (padded_at row c n)
+
+-- ---- deaths
+
+deaths-append : (cuts backs : List (Option ℕ)) (c : ℕ) (xs ys : List (Option ℕ))
+    → death_items cuts backs c (xs ++ ys) ≡ death_items cuts backs c xs ++ death_items cuts backs (c + length xs) ys
+deaths-append cuts backs c [] ys = ap (λ (n : ℕ). death_items cuts backs n ys) (same_number c)
+deaths-append cuts backs c (None ∷ xs) ys =
+    deaths-append cuts backs (c + 1) xs ys
+    ∙ ap (λ (n : ℕ). death_items cuts backs (c + 1) xs ++ death_items cuts backs n ys) (shifted c (length xs))
+deaths-append cuts backs c (Some b ∷ xs) ys =
+    ap (λ (q : List Item). item.Death (record { 0 = c }) b (row_at cuts c) (row_at backs c) ∷ q)
+    (deaths-append cuts backs (c + 1) xs ys
+    ∙ ap (λ (n : ℕ). death_items cuts backs (c + 1) xs ++ death_items cuts backs n ys) (shifted c (length xs)))
+
+living : (cuts backs : List (Option ℕ)) (c n : ℕ) → death_items cuts backs c (replicate n None) ≡ []
+living cuts backs c zero = refl
+living cuts backs c (suc n) = living cuts backs (c + 1) n
+
+-- rows that say the same of the cubs that are told of
+same_dying : (cuts backs more late : List (Option ℕ)) (c : ℕ) (ds : List (Option ℕ))
+    → ((n : ℕ) → n < c + length ds → row_at more n ≡ row_at cuts n)
+    → ((n : ℕ) → n < c + length ds → row_at late n ≡ row_at backs n)
+    → death_items more late c ds ≡ death_items cuts backs c ds
+same_dying cuts backs more late c [] f g = refl
+same_dying cuts backs more late c (None ∷ ds) f g =
+    same_dying cuts backs more late (c + 1) ds (λ n low. f n (omega (arith, low))) (λ n low. g n (omega (arith, low)))
+same_dying cuts backs more late c (Some b ∷ ds) f g =
+    ap (λ (o : Option ℕ). item.Death (record { 0 = c }) b o (row_at late c) ∷ death_items more late (c + 1) ds) (f c (omega arith))
+    ∙ ap (λ (o : Option ℕ). item.Death (record { 0 = c }) b (row_at cuts c) o ∷ death_items more late (c + 1) ds) (g c (omega arith))
+    ∙ ap (λ (q : List Item). item.Death (record { 0 = c }) b (row_at cuts c) (row_at backs c) ∷ q)
+    (same_dying cuts backs more late (c + 1) ds (λ n low. f n (omega (arith, low))) (λ n low. g n (omega (arith, low))))
+
+padded_deaths : (cuts backs ds : List (Option ℕ)) (c : ℕ) → death_items cuts backs 0 (padded ds c) ≡ death_items cuts backs 0 ds
+padded_deaths cuts backs ds c =
+    deaths-append cuts backs 0 ds (replicate (c - length ds) None)
+    ∙ ap (λ (q : List Item). death_items cuts backs 0 ds ++ q) (living cuts backs (0 + length ds) (c - length ds))
+    ∙ append-nil (death_items cuts backs 0 ds)
+
+-- who is not told of has no line
+pub padded_items : (cuts backs ds : List (Option ℕ)) (c : ℕ)
+    → death_items (padded cuts c) (padded backs c) 0 (padded ds c) ≡ death_items cuts backs 0 ds
+padded_items cuts backs ds c =
+    padded_deaths (padded cuts c) (padded backs c) ds c
+    ∙ same_dying cuts backs (padded cuts c) (padded backs c) 0 ds (λ n low. padded_at cuts c n) (λ n low. padded_at backs c n)
+
+-- what a row says of cubs before the one that is told of
+below_at : (row : List (Option ℕ)) (c : ℕ) (value : Option ℕ) (n : ℕ) → length row ≤ c → n < c
+    → row_at (padded_with row c value) n ≡ row_at row n
+below_at row c value n le low =
+    let other : eqb n c ≡ false = grind (arith, nat_tests, low) in
+    padded_with_at row c value n le ∙ ap (λ (t : Bool). cond t value (row_at row n)) other
+
+last_at : (row : List (Option ℕ)) (c : ℕ) (value : Option ℕ) → length row ≤ c → row_at (padded_with row c value) c ≡ value
+last_at row c value le =
+    let same : eqb c c ≡ true = grind (arith, nat_tests) in
+    padded_with_at row c value c le ∙ ap (λ (t : Bool). cond t value (row_at row c)) same
+
+-- so a death more is a line more
+pub death_push : (cuts backs ds : List (Option ℕ)) (c b : ℕ) (left back : Option ℕ)
+    → length cuts ≤ c → length backs ≤ c → length ds ≤ c
+    → death_items (padded_with cuts c left) (padded_with backs c back) 0 (padded_with ds c (Some b))
+    ≡ death_items cuts backs 0 ds ++ item.Death (record { 0 = c }) b left back ∷ []
+death_push cuts backs ds c b left back lc lb le =
+    let more : List (Option ℕ) = padded_with cuts c left in
+    let late : List (Option ℕ) = padded_with backs c back in
     let here : 0 + length (padded ds c) ≡ c = omega (arith, padded_length ds c le) in
-    deaths-append 0 (padded ds c) (Some b ∷ [])
-    ∙ ap (λ (n : ℕ). death_items 0 (padded ds c) ++ death_items n (Some b ∷ [])) here
-    ∙ ap (λ (q : List Item). q ++ item.Death (record { 0 = c }) b ∷ []) (padded_items ds c)
+    deaths-append more late 0 (padded ds c) (Some b ∷ [])
+    ∙ ap (λ (n : ℕ). death_items more late 0 (padded ds c) ++ death_items more late n (Some b ∷ [])) here
+    ∙ ap (λ (o : Option ℕ). death_items more late 0 (padded ds c) ++ item.Death (record { 0 = c }) b o (row_at late c) ∷ []) (last_at cuts c left lc)
+    ∙ ap (λ (o : Option ℕ). death_items more late 0 (padded ds c) ++ item.Death (record { 0 = c }) b left o ∷ []) (last_at backs c back lb)
+    ∙ ap (λ (q : List Item). q ++ item.Death (record { 0 = c }) b left back ∷ [])
+    (padded_deaths more late ds c
+    ∙ same_dying cuts backs more late 0 ds (λ n low. below_at cuts c left n lc (omega (arith, low, le))) (λ n low. below_at backs c back n lb (omega (arith, low, le))))
 
 none_die : (beats n : ℕ) → AllByRecursion (IsDeath beats) (replicate n None)
 none_die beats zero = tt
@@ -90,6 +176,31 @@ none_die beats (suc n) = (tt, none_die beats n)
 
 pub padded_all : (beats : ℕ) (ds : List (Option ℕ)) (c : ℕ) → AllByRecursion (IsDeath beats) ds → AllByRecursion (IsDeath beats) (padded ds c)
 padded_all beats ds c f = all_append (IsDeath beats) ds (replicate (c - length ds) None) f (none_die beats (c - length ds))
+
+-- ---- who is cut off and who returns
+
+cuts_who_dies : (b : ℕ) (left : Option ℕ) → CutsDeath (Some b) left
+cuts_who_dies b None = tt
+cuts_who_dies b (Some n) = tt
+
+-- where rows say what they said, or this of a death
+pub cut_with : (ds cuts : List (Option ℕ)) (c b : ℕ) (left : Option ℕ) → length ds ≤ c → length cuts ≤ c
+    → ((n : ℕ) → CutsDeath (row_at ds n) (row_at cuts n))
+    → (n : ℕ) → CutsDeath (row_at (padded_with ds c (Some b)) n) (row_at (padded_with cuts c left) n)
+cut_with ds cuts c b left ld lc f n =
+    rw (padded_with_at ds c (Some b) n ld, padded_with_at cuts c left n lc) (by_place (eqb n c)) where
+      by_place : (t : Bool) → CutsDeath (cond t (Some b) (row_at ds n)) (cond t left (row_at cuts n))
+      by_place true = cuts_who_dies b left
+      by_place false = f n
+
+pub back_with : (ds backs : List (Option ℕ)) (c b : ℕ) (back : Option ℕ) → length ds ≤ c → length backs ≤ c
+    → ReturnsLater (Some b) back → ((n : ℕ) → ReturnsLater (row_at ds n) (row_at backs n))
+    → (n : ℕ) → ReturnsLater (row_at (padded_with ds c (Some b)) n) (row_at (padded_with backs c back) n)
+back_with ds backs c b back ld lb later f n =
+    rw (padded_with_at ds c (Some b) n ld, padded_with_at backs c back n lb) (by_place (eqb n c)) where
+      by_place : (t : Bool) → ReturnsLater (cond t (Some b) (row_at ds n)) (cond t back (row_at backs n))
+      by_place true = later
+      by_place false = f n
 
 -- ---- nodes and entries
 

@@ -1,5 +1,5 @@
 -- A line that may stand next is read: what was read has it behind it, and is sound.
-use Rattle.std.proofs.Common.{◌≡◌, ℕ, ◌+◌, ◌≤◌, List, [], ◌∷◌, ◌++◌, Option, Some, refl, sym, ap, ◌∙◌, subst, arith, length, map, append_assoc, append-nil}
+use Rattle.std.proofs.Common.{◌≡◌, ℕ, ◌+◌, ◌≤◌, List, [], ◌∷◌, ◌++◌, Some, refl, sym, ap, ◌∙◌, subst, arith, length, map, append_assoc, append-nil}
 use Rattle.std.proofs.lemmas.List.Sums.{fold_push}
 use Rattle.link_timing.specs.declared.Delay.{Delay}
 use Rattle.slot_plan.specs.declared.params.Params.{Params}
@@ -12,12 +12,12 @@ use Rattle.audit_text.specs.declared.item.Item.{Item}
 use Rattle.audit_text.specs.declared.item.Item.TheVariants as item
 use Rattle.audit_text.specs.Texts.{death_items, node_items, head_items}
 use Rattle.audit_read.specs.Writable.{IsDeath, IsFault, IsFile, IsOrder, AreOrders, IsEntry, IsJournal, start_in}
-use Rattle.audit_read.specs.Drafts.{given_parts, written, Admits, BegunAdmits, PlannedAdmits, LastingAdmits, PacedAdmits, FirstAdmits, GivenAdmits, ToldAdmits, padded, after, IsGiven, IsTold, IsSound}
+use Rattle.audit_read.specs.Drafts.{given_parts, written, Admits, BegunAdmits, PlannedAdmits, LastingAdmits, PacedAdmits, FirstAdmits, GivenAdmits, ToldAdmits, padded, given_with, after, IsGiven, IsTold, IsSound}
 use Rattle.audit_read.specs.declared.draft.Draft.{Draft}
 use Rattle.audit_read.specs.declared.draft.Draft.TheVariants as draft
 use Rattle.audit_read.specs.declared.given.Given.{Given}
 use Rattle.audit_read.specs.declared.told.Told.{Told}
-use Rattle.audit_read.proofs.Lists.{all_push, padded_length, padded_all, length_push, death_push, mapped, before_nothing, node_push, entry_push}
+use Rattle.audit_read.proofs.Lists.{all_push, padded_with_length, padded_all, length_push, death_push, cut_with, back_with, mapped, before_nothing, node_push, entry_push}
 
 -- ---- the lines
 
@@ -33,47 +33,48 @@ order_item o = item.Order o
 abbrev digest_item : Digest32 → Item
 digest_item d = item.Digest d
 
--- the lines of what a run is given behind the head
-abbrev given_body : List (Option ℕ) → List ReadFault → List FileInfo → List Order → List Item
-given_body ds fs is os =
-    death_items 0 ds ++ map fault_item fs ++ map file_item is ++ map order_item os ++ [] ++ []
+-- what is told of who dies
+abbrev deaths_of : Given → List Item
+deaths_of g = death_items g.cuts g.backs 0 g.deaths
 
-death_line : (ds : List (Option ℕ)) (fs : List ReadFault) (is : List FileInfo) (os : List Order) (c b : ℕ)
-    → length fs ≡ 0 → length is ≡ 0 → length os ≡ 0 → length ds ≤ c
-    → given_body (padded ds c ++ Some b ∷ []) fs is os ≡ given_body ds fs is os ++ item.Death (record { 0 = c }) b ∷ []
-death_line ds [] [] [] c b e f g le =
-    before_nothing _ _ _ (before_nothing _ _ _ (before_nothing _ _ _ (before_nothing _ _ _ (before_nothing (death_items 0 ds) (death_items 0 (padded ds c ++ Some b ∷ [])) (item.Death (record { 0 = c }) b) (death_push ds c b le)))))
-death_line ds (x ∷ fs) is os c b e f g le = absurd (omega (arith, e))
-death_line ds [] (x ∷ is) os c b e f g le = absurd (omega (arith, f))
-death_line ds [] [] (x ∷ os) c b e f g le = absurd (omega (arith, g))
+-- the lines of what a run is given behind the head, with these of who dies
+abbrev given_body : List Item → List ReadFault → List FileInfo → List Order → List Item
+given_body dying fs is os = dying ++ map fault_item fs ++ map file_item is ++ map order_item os ++ [] ++ []
 
-fault_line : (ds : List (Option ℕ)) (fs : List ReadFault) (is : List FileInfo) (os : List Order) (x : ReadFault)
+death_line : (dying more : List Item) (fs : List ReadFault) (is : List FileInfo) (os : List Order) (x : Item)
+    → length fs ≡ 0 → length is ≡ 0 → length os ≡ 0 → more ≡ dying ++ x ∷ []
+    → given_body more fs is os ≡ given_body dying fs is os ++ x ∷ []
+death_line dying more [] [] [] x e f g pushed =
+    before_nothing _ _ _ (before_nothing _ _ _ (before_nothing _ _ _ (before_nothing _ _ _ (before_nothing dying more x pushed))))
+death_line dying more (y ∷ fs) is os x e f g pushed = absurd (omega (arith, e))
+death_line dying more [] (y ∷ is) os x e f g pushed = absurd (omega (arith, f))
+death_line dying more [] [] (y ∷ os) x e f g pushed = absurd (omega (arith, g))
+
+fault_line : (dying : List Item) (fs : List ReadFault) (is : List FileInfo) (os : List Order) (x : ReadFault)
     → length is ≡ 0 → length os ≡ 0
-    → given_body ds (fs ++ x ∷ []) is os ≡ given_body ds fs is os ++ item.Fault x ∷ []
-fault_line ds fs [] [] x f g =
-    let before : List Item = death_items 0 ds in
-    before_nothing _ _ _ (before_nothing _ _ _ (before_nothing _ _ _ (before_nothing (before ++ map fault_item fs) (before ++ map fault_item (fs ++ x ∷ [])) (item.Fault x) (mapped fault_item before fs x))))
-fault_line ds fs (y ∷ is) os x f g = absurd (omega (arith, f))
-fault_line ds fs [] (y ∷ os) x f g = absurd (omega (arith, g))
+    → given_body dying (fs ++ x ∷ []) is os ≡ given_body dying fs is os ++ item.Fault x ∷ []
+fault_line dying fs [] [] x f g =
+    before_nothing _ _ _ (before_nothing _ _ _ (before_nothing _ _ _ (before_nothing (dying ++ map fault_item fs) (dying ++ map fault_item (fs ++ x ∷ [])) (item.Fault x) (mapped fault_item dying fs x))))
+fault_line dying fs (y ∷ is) os x f g = absurd (omega (arith, f))
+fault_line dying fs [] (y ∷ os) x f g = absurd (omega (arith, g))
 
-file_line : (ds : List (Option ℕ)) (fs : List ReadFault) (is : List FileInfo) (os : List Order) (x : FileInfo)
+file_line : (dying : List Item) (fs : List ReadFault) (is : List FileInfo) (os : List Order) (x : FileInfo)
     → length os ≡ 0
-    → given_body ds fs (is ++ x ∷ []) os ≡ given_body ds fs is os ++ item.File x ∷ []
-file_line ds fs is [] x g =
-    let before : List Item = death_items 0 ds ++ map fault_item fs in
+    → given_body dying fs (is ++ x ∷ []) os ≡ given_body dying fs is os ++ item.File x ∷ []
+file_line dying fs is [] x g =
+    let before : List Item = dying ++ map fault_item fs in
     before_nothing _ _ _ (before_nothing _ _ _ (before_nothing (before ++ map file_item is) (before ++ map file_item (is ++ x ∷ [])) (item.File x) (mapped file_item before is x)))
-file_line ds fs is (y ∷ os) x g = absurd (omega (arith, g))
+file_line dying fs is (y ∷ os) x g = absurd (omega (arith, g))
 
-order_line : (ds : List (Option ℕ)) (fs : List ReadFault) (is : List FileInfo) (os : List Order) (x : Order)
-    → given_body ds fs is (os ++ x ∷ []) ≡ given_body ds fs is os ++ item.Order x ∷ []
-order_line ds fs is os x =
-    let before : List Item = death_items 0 ds ++ map fault_item fs ++ map file_item is in
+order_line : (dying : List Item) (fs : List ReadFault) (is : List FileInfo) (os : List Order) (x : Order)
+    → given_body dying fs is (os ++ x ∷ []) ≡ given_body dying fs is os ++ item.Order x ∷ []
+order_line dying fs is os x =
+    let before : List Item = dying ++ map fault_item fs ++ map file_item is in
     before_nothing _ _ _ (before_nothing (before ++ map order_item os) (before ++ map order_item (os ++ x ∷ [])) (item.Order x) (mapped order_item before os x))
 
 -- the lines of what a run is given, before its journals
 abbrev told_front : Given → List Item
-told_front g =
-    death_items 0 g.deaths ++ map fault_item g.faults ++ map file_item g.files ++ map order_item g.orders
+told_front g = deaths_of g ++ map fault_item g.faults ++ map file_item g.files ++ map order_item g.orders
 
 -- a line of the journals, before all digests
 before_digests : (front nodes more : List Item) (ds : List Digest32) (x : Item) → length ds ≡ 0 → more ≡ nodes ++ x ∷ []
@@ -134,6 +135,10 @@ step_paced p beats delay (item.Offsets offsets) h a = record {
     offsets = a;
     cubs = omega arith;
     deaths = tt;
+    cuts = refl;
+    backs = refl;
+    cut_deaths = λ n. tt;
+    returns_later = λ n. tt;
     faults = tt;
     files = tt;
     few = omega arith;
@@ -146,23 +151,34 @@ step_paced p beats delay (item.Offsets offsets) h a = record {
 step_paced p beats delay i h a = absurd a
 
 step_given : (g : Given) (i : Item) → IsGiven g → GivenAdmits g i → Stepped (draft.Given g) i
-step_given g (item.Death cub beat) h a = record {
-  sound = record {
-    plan = h.plan;
-    beats = h.beats;
-    delay = h.delay;
-    offsets = h.offsets;
-    cubs = omega (arith, length_push (padded g.deaths cub.0) (Some beat), padded_length g.deaths cub.0 a.next, a.inside);
-    deaths = all_push (IsDeath g.beats) (padded g.deaths cub.0) (Some beat) (padded_all g.beats g.deaths cub.0 h.deaths) a.early;
-    faults = h.faults;
-    files = h.files;
-    few = h.few;
-    orders = h.orders;
-    starts = h.starts;
-    latest = h.latest;
-  };
-  more = ap (headed g) (death_line g.deaths g.faults g.files g.orders cub.0 beat a.faults a.files a.orders a.next);
-}
+step_given g (item.Death cub beat left back) h a =
+    let cuts : length g.cuts ≤ cub.0 = omega (arith, h.cuts, a.next) in
+    let backs : length g.backs ≤ cub.0 = omega (arith, h.backs, a.next) in
+    let long = padded_with_length g.deaths cub.0 (Some beat) a.next in
+    record {
+      sound = record {
+        plan = h.plan;
+        beats = h.beats;
+        delay = h.delay;
+        offsets = h.offsets;
+        cubs = omega (arith, long, a.inside);
+        deaths = all_push (IsDeath g.beats) (padded g.deaths cub.0) (Some beat) (padded_all g.beats g.deaths cub.0 h.deaths) a.early;
+        cuts = padded_with_length g.cuts cub.0 left cuts ∙ sym long;
+        backs = padded_with_length g.backs cub.0 back backs ∙ sym long;
+        cut_deaths = cut_with g.deaths g.cuts cub.0 beat left a.next cuts h.cut_deaths;
+        returns_later = back_with g.deaths g.backs cub.0 beat back a.next backs a.later h.returns_later;
+        faults = h.faults;
+        files = h.files;
+        few = h.few;
+        orders = h.orders;
+        starts = h.starts;
+        latest = h.latest;
+      };
+      more =
+          let with : Given = given_with g (item.Death cub beat left back) in
+          ap (headed g) (death_line (deaths_of g) (deaths_of with) g.faults g.files g.orders (item.Death cub beat left back) a.faults a.files a.orders
+          (death_push g.cuts g.backs g.deaths cub.0 beat left back cuts backs a.next));
+    }
 step_given g (item.Fault f) h a = record {
   sound = record {
     plan = h.plan;
@@ -171,6 +187,10 @@ step_given g (item.Fault f) h a = record {
     offsets = h.offsets;
     cubs = h.cubs;
     deaths = h.deaths;
+    cuts = h.cuts;
+    backs = h.backs;
+    cut_deaths = h.cut_deaths;
+    returns_later = h.returns_later;
     faults = all_push (IsFault g.params g.beats) g.faults f h.faults a.2;
     files = h.files;
     few = h.few;
@@ -178,7 +198,7 @@ step_given g (item.Fault f) h a = record {
     starts = h.starts;
     latest = h.latest;
   };
-  more = ap (headed g) (fault_line g.deaths g.faults g.files g.orders f a.0 a.1);
+  more = ap (headed g) (fault_line (deaths_of g) g.faults g.files g.orders f a.0 a.1);
 }
 step_given g (item.File f) h a = record {
   sound = record {
@@ -188,6 +208,10 @@ step_given g (item.File f) h a = record {
     offsets = h.offsets;
     cubs = h.cubs;
     deaths = h.deaths;
+    cuts = h.cuts;
+    backs = h.backs;
+    cut_deaths = h.cut_deaths;
+    returns_later = h.returns_later;
     faults = h.faults;
     files = all_push (IsFile g.params) g.files f h.files a.2;
     few = omega (arith, length_push g.files f, a.1);
@@ -195,7 +219,7 @@ step_given g (item.File f) h a = record {
     starts = h.starts;
     latest = h.latest;
   };
-  more = ap (headed g) (file_line g.deaths g.faults g.files g.orders f a.0);
+  more = ap (headed g) (file_line (deaths_of g) g.faults g.files g.orders f a.0);
 }
 step_given g (item.Order o) h a = record {
   sound = record {
@@ -205,6 +229,10 @@ step_given g (item.Order o) h a = record {
     offsets = h.offsets;
     cubs = h.cubs;
     deaths = h.deaths;
+    cuts = h.cuts;
+    backs = h.backs;
+    cut_deaths = h.cut_deaths;
+    returns_later = h.returns_later;
     faults = h.faults;
     files = h.files;
     few = h.few;
@@ -212,7 +240,7 @@ step_given g (item.Order o) h a = record {
     starts = ap (λ (n : ℕ). n + start_in o.what) h.starts ∙ sym (fold_push (λ (n : ℕ) (x : Order). n + start_in x.what) 0 g.orders o);
     latest = sym (fold_push (λ (n : ℕ) (x : Order). x.beat) 0 g.orders o);
   };
-  more = ap (headed g) (order_line g.deaths g.faults g.files g.orders o);
+  more = ap (headed g) (order_line (deaths_of g) g.faults g.files g.orders o);
 }
 step_given g (item.Node n) h a = record {
   sound = record {

@@ -1,6 +1,13 @@
 -- The lines of a writable value are read in turn, and the text is whole behind the last one.
-use Rattle.std.proofs.Common.{◌≡◌, ℕ, ◌+◌, ◌<◌, ◌≤◌, ◌^◌, List, [], ◌∷◌, ◌++◌, Option, Some, None, refl, sym, subst, arith, length, map, append_assoc, append-nil}
+use Rattle.std.proofs.Common.{◌≡◌, ℕ, suc, ◌+◌, ◌<◌, ◌≤◌, ◌^◌, true, List, [], ◌∷◌, ◌++◌, Option, Some, None, refl, sym, subst, ⊎_elim, arith, length}
+use Rattle.std.proofs.Common.{map, append_assoc, append-nil}
+use Rattle.std.specs.Prelude.{nat_lt}
 use Rattle.std.specs.List.{AllByRecursion, fold}
+use Rattle.std.proofs.lemmas.Bool.{lt-ltb, cases_lt}
+use Rattle.std.proofs.lemmas.Option.{slice_get_past}
+use Rattle.node_kit.specs.Courses.{IsCourse, ReturnsLater}
+use Rattle.node_kit.specs.Life.{death_of, back_of}
+use Rattle.node_kit.specs.declared.course.Course.{Course}
 use Rattle.node_kit.specs.declared.course.Digest32.{Digest32}
 use Rattle.node_kit.specs.declared.course.Kept.{Kept}
 use Rattle.node_kit.specs.declared.course.Order.{Order}
@@ -9,14 +16,14 @@ use Rattle.node_kit.specs.declared.journal.Entry.{Entry}
 use Rattle.stripe_layout.specs.declared.catalogue.FileInfo.{FileInfo}
 use Rattle.audit_text.specs.declared.item.Item.{Item}
 use Rattle.audit_text.specs.declared.item.Item.TheVariants as item
-use Rattle.audit_text.specs.Texts.{parts_of, death_items, entry_items, node_items, items_in}
+use Rattle.audit_text.specs.Texts.{parts_of, row_at, death_items, entry_items, node_items, items_in}
 use Rattle.audit_read.specs.Writable.{IsDeath, IsFault, IsFile, AreOrders, IsJournal, IsWritable, node_count, starts_in}
-use Rattle.audit_read.specs.Drafts.{Admits, TellsAll, padded, given_with, told_with, begun_told, opened, after}
+use Rattle.audit_read.specs.Drafts.{Admits, TellsAll, given_with, told_with, begun_told, opened, after}
 use Rattle.audit_read.specs.declared.draft.Draft.{Draft}
 use Rattle.audit_read.specs.declared.draft.Draft.TheVariants as draft
 use Rattle.audit_read.specs.declared.given.Given.{Given}
 use Rattle.audit_read.specs.declared.told.Told.{Told}
-use Rattle.audit_read.proofs.Lists.{padded_length, length_push, spread}
+use Rattle.audit_read.proofs.Lists.{padded_with_length, length_push, spread}
 
 abbrev pub IsWholeDraft : Draft → Type 0
 IsWholeDraft (draft.Whole t) = Unit {0}
@@ -32,19 +39,38 @@ pub reads_behind : (d : Draft) (xs ys : List Item) → ReadsOut d (xs ++ ys) →
 reads_behind d [] ys r = r
 reads_behind d (x ∷ xs) ys r = reads_behind (after d x) xs ys r.1
 
-walk_deaths : (g : Given) (c : ℕ) (ds : List (Option ℕ)) (rest : List Item)
+-- what holds of each cub from a place on holds behind that place
+from_next : (P : ℕ → ℕ → Type 0) (c : ℕ) → ((m : ℕ) → P m (c + m)) → (m : ℕ) → P (suc m) (c + 1 + m)
+from_next P c f m = subst (λ (k : ℕ). P (suc m) k) (shifted c m) (f (suc m)) where
+  shifted : (c m : ℕ) → c + suc m ≡ c + 1 + m
+  shifted c m = omega arith
+
+walk_deaths : (g : Given) (cuts backs : List (Option ℕ)) (c : ℕ) (ds : List (Option ℕ)) (rest : List Item)
     → length g.faults ≡ 0 → length g.files ≡ 0 → length g.orders ≡ 0
     → length g.deaths ≤ c → c + length ds ≤ g.params.cubs → AllByRecursion (IsDeath g.beats) ds
-    → ((e : List (Option ℕ)) → ReadsOut (draft.Given (record g { deaths = e })) rest)
-    → ReadsOut (draft.Given g) (death_items c ds ++ rest)
-walk_deaths g c [] rest a b o le fit all then = then g.deaths
-walk_deaths g c (None ∷ ds) rest a b o le fit all then =
-    walk_deaths g (c + 1) ds rest a b o (omega (arith, le)) (omega (arith, fit)) all.1 then
-walk_deaths g c (Some beat ∷ ds) rest a b o le fit all then = (
-  record { faults = a; files = b; orders = o; next = le; inside = omega (arith, fit); early = all.0 },
-  walk_deaths (given_with g (item.Death (record { 0 = c }) beat)) (c + 1) ds rest a b o
-      (omega (arith, length_push (padded g.deaths c) (Some beat), padded_length g.deaths c le)) (omega (arith, fit)) all.1 then,
-)
+    → ((m : ℕ) → ReturnsLater (row_at ds m) (row_at backs (c + m)))
+    → ((e f h : List (Option ℕ)) → ReadsOut (draft.Given (record g { deaths = e; cuts = f; backs = h })) rest)
+    → ReadsOut (draft.Given g) (death_items cuts backs c ds ++ rest)
+walk_deaths g cuts backs c [] rest a b o le fit all later then = then g.deaths g.cuts g.backs
+walk_deaths g cuts backs c (None ∷ ds) rest a b o le fit all later then =
+    walk_deaths g cuts backs (c + 1) ds rest a b o (omega (arith, le)) (omega (arith, fit)) all.1
+    (from_next (λ m k. ReturnsLater (row_at (None ∷ ds) m) (row_at backs k)) c later) then
+walk_deaths g cuts backs c (Some beat ∷ ds) rest a b o le fit all later then = (
+  record {
+    faults = a;
+    files = b;
+    orders = o;
+    next = le;
+    inside = omega (arith, fit);
+    early = all.0;
+    later = subst (λ (k : ℕ). ReturnsLater (Some beat) (row_at backs k)) (here c) (later 0);
+  },
+  walk_deaths (given_with g (item.Death (record { 0 = c }) beat (row_at cuts c) (row_at backs c))) cuts backs (c + 1) ds rest a b o
+      (omega (arith, padded_with_length g.deaths c (Some beat) le)) (omega (arith, fit)) all.1
+      (from_next (λ m k. ReturnsLater (row_at (Some beat ∷ ds) m) (row_at backs k)) c later) then,
+) where
+  here : (c : ℕ) → c + 0 ≡ c
+  here c = omega arith
 
 walk_faults : (g : Given) (fs : List ReadFault) (rest : List Item)
     → length g.files ≡ 0 → length g.orders ≡ 0 → AllByRecursion (IsFault g.params g.beats) fs
@@ -145,6 +171,25 @@ walk_journals : (g : Given) (js : List (List Entry)) (ds : List Digest32)
 walk_journals g [] ds count all told = absurd (omega (arith, count))
 walk_journals g (j ∷ js) ds count all told = walk_told g j js ds count all told
 
+-- of each cub of a course the rows of deaths and returns say what the course does
+rows_return : (c : Course) → IsCourse c → (m : ℕ) → ReturnsLater (row_at c.deaths m) (row_at c.backs (0 + m))
+rows_return c h m = ⊎_elim
+    (λ (low : m < c.plan.params.cubs).
+    let cub : nat_lt m c.plan.params.cubs ≡ true = lt-ltb m c.plan.params.cubs low in
+    let dead : death_of c m ≡ row_at c.deaths m = rw cub refl in
+    let back : back_of c m ≡ row_at c.backs m = rw cub refl in
+    here (rw (sym dead, sym back) (h.returns_later m)))
+    (λ (high : c.plan.params.cubs ≤ m). here (rw (row-past c.backs m (omega (arith, high, h.backs))) tt))
+    (cases_lt m c.plan.params.cubs)
+  where
+    here : ReturnsLater (row_at c.deaths m) (row_at c.backs m) → ReturnsLater (row_at c.deaths m) (row_at c.backs (0 + m))
+    here r =
+        let same : m ≡ 0 + m = omega arith in
+        subst (λ (k : ℕ). ReturnsLater (row_at c.deaths m) (row_at c.backs k)) same r
+
+    row-past : (row : List (Option ℕ)) (n : ℕ) → length row ≤ n → row_at row n ≡ None
+    row-past row n le = rw (slice_get_past row n le) refl
+
 pub walk : (k : Kept) → IsWritable k → ReadsOut draft.Empty (items_in (parts_of k))
 unfolding items_in
 walk k w =
@@ -161,13 +206,14 @@ walk k w =
             (
               (w.course.offsets, w.course.skewed),
               subst (λ (q : List Item). ReadsOut (draft.Given first) q)
-                  (sym (spread (death_items 0 c.deaths) (map (λ f. item.Fault f) c.faults) (map (λ f. item.File f) k.catalogue.files)
+                  (sym (spread (death_items c.cuts c.backs 0 c.deaths) (map (λ f. item.Fault f) c.faults) (map (λ f. item.File f) k.catalogue.files)
                   (map (λ o. item.Order o) k.orders) (node_items 0 k.journals) digests (item.End ∷ [])))
-                  (walk_deaths first 0 c.deaths _ refl refl refl (omega arith) (omega (arith, w.course.deaths)) w.deaths
-                  (λ deaths. walk_faults (record first { deaths = deaths }) c.faults _ refl refl w.faults
-                  (walk_files (record first { deaths = deaths; faults = c.faults }) k.catalogue.files _ refl (omega (arith, k.catalogue.sound.count)) w.files
-                  (walk_orders (record first { deaths = deaths; faults = c.faults; files = k.catalogue.files }) k.orders _ w.orders
-                  (λ n b. walk_journals (record first { deaths = deaths; faults = c.faults; files = k.catalogue.files; orders = k.orders; starts = n; latest = b })
+                  (walk_deaths first c.cuts c.backs 0 c.deaths _ refl refl refl (omega arith) (omega (arith, w.course.deaths)) w.deaths
+                  (λ m. rows_return c w.course m)
+                  (λ deaths cuts backs. walk_faults (record first { deaths = deaths; cuts = cuts; backs = backs }) c.faults _ refl refl w.faults
+                  (walk_files (record first { deaths = deaths; cuts = cuts; backs = backs; faults = c.faults }) k.catalogue.files _ refl (omega (arith, k.catalogue.sound.count)) w.files
+                  (walk_orders (record first { deaths = deaths; cuts = cuts; backs = backs; faults = c.faults; files = k.catalogue.files }) k.orders _ w.orders
+                  (λ n b. walk_journals (record first { deaths = deaths; cuts = cuts; backs = backs; faults = c.faults; files = k.catalogue.files; orders = k.orders; starts = n; latest = b })
                   k.journals k.digests w.nodes w.journals w.digests))))),
             ),
           ),

@@ -6,13 +6,14 @@ use Rattle.link_timing.specs.declared.Delay.{Delay}
 use Rattle.slot_plan.specs.Conditions.{IsPlan, IsWithin}
 use Rattle.slot_plan.specs.declared.params.Params.{Params}
 use Rattle.tiger_base.specs.Limits.{most_beats}
+use Rattle.node_kit.specs.Courses.{CutsDeath, ReturnsLater}
 use Rattle.node_kit.specs.declared.course.Digest32.{Digest32}
 use Rattle.node_kit.specs.declared.journal.Entry.{Entry}
 use Rattle.audit_text.specs.declared.item.Item.{Item}
 use Rattle.audit_text.specs.declared.item.Item.TheVariants as item
 use Rattle.audit_text.specs.Fits.{ItemFits}
 use Rattle.audit_text.specs.Lines.{line_of}
-use Rattle.audit_text.specs.Texts.{Parts, head_items, body_items}
+use Rattle.audit_text.specs.Texts.{Parts, row_at, head_items, body_items}
 use Rattle.audit_read.specs.Writable.{node_count, starts_in, start_in, last_beat, IsDeath, IsFault, IsFile, IsOrder, AreOrders, IsEntry, IsJournal}
 use Rattle.audit_read.specs.declared.draft.Draft.{Draft}
 use Rattle.audit_read.specs.declared.draft.Draft.TheVariants as draft
@@ -28,6 +29,8 @@ given_parts g = record {
   delay = g.delay;
   offsets = g.offsets;
   deaths = g.deaths;
+  cuts = g.cuts;
+  backs = g.backs;
   faults = g.faults;
   files = g.files;
   orders = g.orders;
@@ -62,14 +65,16 @@ AreOffsets p offsets = (length offsets ≡ p.cubs + 1) × All (λ o. o ≤ p.ske
 abbrev pub AreBeats : ℕ → Type 0
 AreBeats beats = (1 ≤ beats) × (beats ≤ most_beats)
 
--- a death is told before all faults, files and orders, behind those of cubs with lower numbers
-pub record AdmitsDeath (g : Given) (cub beat : ℕ) : Type 0 where
+-- a death is told before all faults, files and orders, behind those of cubs with lower numbers; the cub returns late
+-- enough, if it does
+pub record AdmitsDeath (g : Given) (cub beat : ℕ) (back : Option ℕ) : Type 0 where
   pub faults : length g.faults ≡ 0
   pub files : length g.files ≡ 0
   pub orders : length g.orders ≡ 0
   pub next : length g.deaths ≤ cub
   pub inside : cub < g.params.cubs
   pub early : beat < g.beats
+  pub later : ReturnsLater (Some beat) back
 
 abbrev pub FirstAdmits : Item → Type 0
 FirstAdmits item.Version = Unit {0}
@@ -92,7 +97,7 @@ PacedAdmits p (item.Offsets offsets) = AreOffsets p offsets
 PacedAdmits p i = ⊥
 
 abbrev pub GivenAdmits : Given → Item → Type 0
-GivenAdmits g (item.Death cub beat) = AdmitsDeath g cub.0 beat
+GivenAdmits g (item.Death cub beat left back) = AdmitsDeath g cub.0 beat back
 GivenAdmits g (item.Fault f) =
     (length g.files ≡ 0) × (length g.orders ≡ 0) × IsFault g.params g.beats f
 GivenAdmits g (item.File f) =
@@ -135,6 +140,8 @@ opened p beats delay offsets = record {
   delay = delay;
   offsets = offsets;
   deaths = [];
+  cuts = [];
+  backs = [];
   faults = [];
   files = [];
   orders = [];
@@ -142,13 +149,20 @@ opened p beats delay offsets = record {
   latest = 0;
 }
 
--- the cubs up to the one that dies live
+-- a row that says nothing of the cubs up to this number that it did not tell of
 abbrev pub padded : List (Option ℕ) → ℕ → List (Option ℕ)
-padded deaths count = deaths ++ replicate (count - length deaths) None
+padded row count = row ++ replicate (count - length row) None
+
+-- and then this of the next one
+abbrev pub padded_with : List (Option ℕ) → ℕ → Option ℕ → List (Option ℕ)
+padded_with row count value = padded row count ++ value ∷ []
 
 abbrev pub given_with : Given → Item → Given
-given_with g (item.Death cub beat) =
-    record g { deaths = padded g.deaths cub.0 ++ Some beat ∷ [] }
+given_with g (item.Death cub beat left back) = record g {
+  deaths = padded_with g.deaths cub.0 (Some beat);
+  cuts = padded_with g.cuts cub.0 left;
+  backs = padded_with g.backs cub.0 back;
+}
 given_with g (item.Fault f) = record g { faults = g.faults ++ f ∷ [] }
 given_with g (item.File f) = record g { files = g.files ++ f ∷ [] }
 given_with g (item.Order o) =
@@ -207,6 +221,10 @@ pub record IsGiven (g : Given) : Type 0 where
   pub offsets : AreOffsets g.params g.offsets
   pub cubs : length g.deaths ≤ g.params.cubs
   pub deaths : AllByRecursion (IsDeath g.beats) g.deaths
+  pub cuts : length g.cuts ≡ length g.deaths
+  pub backs : length g.backs ≡ length g.deaths
+  pub cut_deaths : (n : ℕ) → CutsDeath (row_at g.deaths n) (row_at g.cuts n)
+  pub returns_later : (n : ℕ) → ReturnsLater (row_at g.deaths n) (row_at g.backs n)
   pub faults : AllByRecursion (IsFault g.params g.beats) g.faults
   pub files : AllByRecursion (IsFile g.params) g.files
   pub few : length g.files < 2 ^ 32
@@ -259,6 +277,8 @@ IsRead d line o =
 abbrev pub parts_with : Given → List (List Entry) → List Digest32 → Parts
 parts_with g journals digests = record (given_parts g) {
   deaths = padded g.deaths g.params.cubs;
+  cuts = padded g.cuts g.params.cubs;
+  backs = padded g.backs g.params.cubs;
   journals = journals;
   digests = digests;
 }

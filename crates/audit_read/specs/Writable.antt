@@ -109,6 +109,7 @@ IsNote p (note.ReadAsk want) = IsPlace p want.slot.0 want.visit
 IsNote p (note.ReadDone want part) = IsPlace p want.slot.0 want.visit
 IsNote p (note.Whole want sent part) = IsPlace p want.slot.0 want.visit
 IsNote p (note.Piece want sent part) = IsPlace p want.slot.0 want.visit
+IsNote p (note.Back from) = Unit {0}
 
 -- the slots, visits and numbers of blocks that an entry names are in their ranges
 abbrev pub IsWhat : Params → What → Type 0
@@ -123,6 +124,7 @@ IsWhat p (what.Gone instance) = Unit {0}
 IsWhat p (what.ReadFailed want) = IsPlace p want.slot.0 want.visit
 IsWhat p (what.Believed cub) = Unit {0}
 IsWhat p what.Died = Unit {0}
+IsWhat p what.Returned = Unit {0}
 
 -- and its beat is one of the run
 abbrev pub IsEntry : Params → ℕ → Entry → Type 0

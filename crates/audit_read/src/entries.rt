@@ -62,6 +62,7 @@ fn is_note(p: &Params, note: &Note) -> bool
         Note::ReadDone { want, .. } => is_place(p, want.slot, want.visit),
         Note::Whole { want, .. } => is_place(p, want.slot, want.visit),
         Note::Piece { want, .. } => is_place(p, want.slot, want.visit),
+        Note::Back { .. } => true,
     }
 }
 
@@ -78,6 +79,7 @@ fn is_what(p: &Params, what: &What) -> bool
         What::Gone(_) => true,
         What::Believed(_) => true,
         What::Died => true,
+        What::Returned => true,
     }
 }
 

@@ -1,16 +1,16 @@
-//! That the numbers of an item fit their types, since it is a value of the program. Each function only reads them: what
-//! is read is known to be in its type's range.
-ghost use Rattle.std.specs.Prelude.{◌<◌, ◌^◌};
+//! Whether the numbers of an item fit their types. Those of all but a death do, since it is a value of the program: each
+//! function that claims it only reads them, and what is read is known to be in its type's range.
+ghost use Rattle.std.specs.Prelude.{◌<◌, ◌^◌, ◌↔◌, IsTrue};
 ghost use Rattle.std.specs.List.{All, AllByRecursion};
 ghost use Rattle.audit_text.specs.Fields.{params_fields};
-ghost use Rattle.audit_text.specs.Fits.{IsShort, IsLong, TenancyFits, AskFits, WantFits, SpanFits, TagFits, PartFits, NoteFits, WhatFits, OrderFits, DigestFits, ItemFits};
+ghost use Rattle.audit_text.specs.Fits.{IsShort, IsLong, TenancyFits, AskFits, WantFits, SpanFits, TagFits, PartFits, LeftFits, BackFits, NoteFits, WhatFits, OrderFits, DigestFits, ItemFits};
 ghost use Rattle.audit_text.specs.declared.item.Item.TheVariants as item;
 
 use audit_text::Item;
 use link_timing::Delay;
 use node_kit::{Digest32, Entry, OrderKind, What};
 use slot_plan::Params;
-use tiger_base::{Ask, Beat, Note, Span, State, Tag, Tenancy, Want};
+use tiger_base::{Ask, Beat, CubNo, Note, Span, State, Tag, Tenancy, Want};
 
 fn short_fits(n: u32)
     ensures { IsShort n }
@@ -139,6 +139,9 @@ fn note_fits(note: &Note)
         }
         Note::Whole { want, sent, part } => sent_fits(want, *sent, part),
         Note::Piece { want, sent, part } => sent_fits(want, *sent, part),
+        Note::Back { from } => {
+            long_fits(*from);
+        }
     }
 }
 
@@ -178,6 +181,7 @@ fn what_fits(what: &What)
             short_fits(cub.0);
         }
         What::Died => {}
+        What::Returned => {}
     }
 }
 
@@ -244,9 +248,37 @@ fn delay_fits(delay: &Delay)
     }
 }
 
-/// The numbers of an item fit their types.
-pub fn item_fits(i: &Item)
-    ensures { ItemFits i.now }
+/// Whether a line can tell how many messages go out: it tells one more.
+fn left_fits(left: Option<u64>) -> bool
+    ensures { IsTrue result ↔ LeftFits left }
+{
+    match left {
+        Some(n) => n < u64::MAX,
+        None => true,
+    }
+}
+
+/// Whether a line can tell of a return in this beat: 0 says that there is none.
+fn back_fits(back: Option<Beat>) -> bool
+    ensures { IsTrue result ↔ BackFits back }
+{
+    match back {
+        Some(beat) => 1 <= beat,
+        None => true,
+    }
+}
+
+fn death_fits(cub: CubNo, beat: Beat, left: Option<u64>, back: Option<Beat>) -> bool
+    ensures { IsTrue result ↔ ItemFits (item.Death cub beat left back) }
+{
+    short_fits(cub.0);
+    long_fits(beat);
+    left_fits(left) && back_fits(back)
+}
+
+/// Whether the numbers of an item fit their types.
+pub fn item_fits(i: &Item) -> bool
+    ensures { IsTrue result ↔ ItemFits i.now }
 {
     match i {
         Item::Version => {}
@@ -256,10 +288,12 @@ pub fn item_fits(i: &Item)
         }
         Item::Delay(delay) => delay_fits(delay),
         Item::Offsets(offsets) => longs_fit(offsets.as_slice()),
-        Item::Death(cub, beat) => {
-            short_fits(cub.0);
-            long_fits(*beat);
-        }
+        Item::Death {
+            cub,
+            beat,
+            left,
+            back,
+        } => return death_fits(*cub, *beat, *left, *back),
         Item::Fault(f) => {
             short_fits(f.disk.0);
             long_fits(f.from);
@@ -280,4 +314,5 @@ pub fn item_fits(i: &Item)
         Item::Digest(d) => digest_fits(d),
         Item::End => {}
     }
+    true
 }

@@ -2,9 +2,10 @@
 ghost use Rattle.std.specs.Prelude.{◌≡◌, ◌↔◌, ◌+◌, ◌<◌, ◌≤◌, ◌++◌, ◌∷◌, [], None, IfOk, IfSome, OnOk, IsTrue, length, slice_get, if◌then◌else◌, Some, None};
 ghost use Rattle.audit_text.specs.Texts.{parts_of};
 ghost use Rattle.slot_plan.specs.Times.{disk_count};
+ghost use Rattle.node_kit.specs.Courses.{ReturnsLater};
 ghost use Rattle.audit_text.specs.declared.item.Item.TheVariants as item;
 ghost use Rattle.audit_read.specs.Writable.{IsFault, IsFile, IsAskOf, IsOrder, MayBeOrdered, starts_in, last_beat, start_in};
-ghost use Rattle.audit_read.specs.Drafts.{AdmitsDeath, GivenAdmits, given_with, padded, opened, IsGiven, IsNext, parts_with};
+ghost use Rattle.audit_read.specs.Drafts.{AdmitsDeath, GivenAdmits, given_with, padded, padded_with, opened, IsGiven, IsNext, parts_with};
 ghost use Rattle.audit_read.specs.declared.draft.Draft.{Draft};
 ghost use Rattle.audit_read.specs.declared.draft.Draft.TheVariants as draft;
 
@@ -28,6 +29,10 @@ pub struct Given {
     pub offsets: Sequence<Micros>,
     /// Of the cubs up to the last one that is said to die.
     pub deaths: Sequence<Option<Beat>>,
+    /// How many messages each of them may still send in the beat of its death, if its death cuts it off there.
+    pub cuts: Sequence<Option<u64>>,
+    /// The beat in which each of them returns, if it does.
+    pub backs: Sequence<Option<Beat>>,
     pub faults: Sequence<ReadFault>,
     pub files: Sequence<FileInfo>,
     pub orders: Sequence<Order>,
@@ -54,6 +59,8 @@ impl Given {
             delay,
             offsets,
             deaths: Sequence::new(Vec::new(alloc)),
+            cuts: Sequence::new(Vec::new(alloc)),
+            backs: Sequence::new(Vec::new(alloc)),
             faults: Sequence::new(Vec::new(alloc)),
             files: Sequence::new(Vec::new(alloc)),
             orders: Sequence::new(Vec::new(alloc)),
@@ -62,8 +69,8 @@ impl Given {
         }
     }
 
-    fn admits_death(&self, cub: CubNo, beat: Beat) -> bool
-        ensures { IsTrue result ↔ AdmitsDeath self.now cub.0 beat }
+    fn admits_death(&self, cub: CubNo, beat: Beat, back: Option<Beat>) -> bool
+        ensures { IsTrue result ↔ AdmitsDeath self.now cub.0 beat back }
     {
         let cub = cub.0 as u64;
         self.faults.len() == 0
@@ -72,20 +79,29 @@ impl Given {
             && self.deaths.len() as u64 <= cub
             && cub < self.params.cubs
             && beat < self.beats
+            && returns_later(beat, back)
     }
 
     /// Reads that a cub dies, if that may stand next.
-    fn death(&mut self, cub: CubNo, beat: Beat) -> Result<bool, NoMemory>
+    fn death(
+        &mut self,
+        cub: CubNo,
+        beat: Beat,
+        left: Option<u64>,
+        back: Option<Beat>,
+    ) -> Result<bool, NoMemory>
         ensures admits { IfOk result (λ yes.
-            IsTrue yes ↔ AdmitsDeath self.old cub.0 beat) }
+            IsTrue yes ↔ AdmitsDeath self.old cub.0 beat back) }
         ensures with { IfOk result (λ yes.
-            IsTrue yes → self.new ≡ given_with self.old (item.Death cub beat)) }
+            IsTrue yes → self.new ≡ given_with self.old (item.Death cub beat left back)) }
     {
-        if !self.admits_death(cub, beat) {
+        if !self.admits_death(cub, beat, back) {
             return Ok(false);
         }
-        pad(&mut self.deaths, cub.0 as u64)?;
-        self.deaths.push(Some(beat))?;
+        let cub = cub.0 as u64;
+        say_of(&mut self.deaths, cub, Some(beat))?;
+        say_of(&mut self.cuts, cub, left)?;
+        say_of(&mut self.backs, cub, back)?;
         Ok(true)
     }
 
@@ -215,8 +231,13 @@ impl Given {
     {
         let mut given = self;
         match line {
-            Item::Death(cub, beat) => {
-                let yes = given.death(cub, beat)?;
+            Item::Death {
+                cub,
+                beat,
+                left,
+                back,
+            } => {
+                let yes = given.death(cub, beat, left, back)?;
                 Ok(given.go_on(yes))
             }
             Item::Fault(f) => {
@@ -249,12 +270,16 @@ impl Given {
     {
         let mut given = self;
         pad(&mut given.deaths, given.params.cubs)?;
+        pad(&mut given.cuts, given.params.cubs)?;
+        pad(&mut given.backs, given.params.cubs)?;
         let Given {
             params,
             beats,
             delay,
             offsets,
             deaths,
+            cuts,
+            backs,
             faults,
             files,
             orders,
@@ -266,6 +291,8 @@ impl Given {
                 beats,
                 offsets,
                 deaths,
+                cuts,
+                backs,
                 faults,
                 delay,
             },
@@ -281,13 +308,31 @@ impl Given {
     }
 }
 
-/// Says of each cub that was not told of, up to this number, that it lives.
-pub fn pad(deaths: &mut Sequence<Option<Beat>>, count: u64) -> Result<(), NoMemory>
-    ensures { OnOk result (deaths.new ≡ padded deaths.old count) }
+/// Whether who dies in this beat returns two beats later or more, if it does.
+fn returns_later(death: Beat, back: Option<Beat>) -> bool
+    ensures { IsTrue result ↔ ReturnsLater (Some death) back }
 {
-    let missing = count.saturating_sub(deaths.len() as u64);
+    match back {
+        Some(back) => death as u128 + 2 <= back as u128,
+        None => true,
+    }
+}
+
+/// Says nothing of each cub that was not told of, up to this number.
+pub fn pad(row: &mut Sequence<Option<u64>>, count: u64) -> Result<(), NoMemory>
+    ensures { OnOk result (row.new ≡ padded row.old count) }
+{
+    let missing = count.saturating_sub(row.len() as u64);
     for n in 0..missing {
-        deaths.push(None)?;
+        row.push(None)?;
     }
     Ok(())
+}
+
+/// Says this of a cub, and nothing of those before it that were not told of.
+fn say_of(row: &mut Sequence<Option<u64>>, cub: u64, value: Option<u64>) -> Result<(), NoMemory>
+    ensures { OnOk result (row.new ≡ padded_with row.old cub value) }
+{
+    pad(row, cub)?;
+    row.push(value)
 }

@@ -13,3 +13,6 @@ pub mod rows;
 mod told;
 
 pub use read::{TextStop, read_kept};
+
+#[cfg(test)]
+mod tests;

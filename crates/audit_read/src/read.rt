@@ -47,7 +47,9 @@ fn next(
 {
     match desk.read(alloc, line)? {
         Some(item) => {
-            item_fits(&item);
+            if !item_fits(&item) {
+                return Ok(None);
+            }
             draft.take(alloc, item)
         }
         None => Ok(None),

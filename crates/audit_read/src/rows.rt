@@ -1,6 +1,7 @@
 //! Worked values beside ones that differ in a number or a place, of which nothing holds. They stand in contracts of
 //! functions without a body, so that a weakened definition is refused where the crate is checked without its tests.
-ghost use Rattle.std.specs.Prelude.{◌≡◌, ◌∷◌, [], Some, None, codes, ◌++◌};
+ghost use Rattle.std.specs.Prelude.{◌≡◌, ◌+◌, ◌∷◌, [], Some, None, codes, ◌++◌};
+ghost use Rattle.tiger_base.specs.Limits.{most_blocks};
 ghost use Rattle.slot_plan.specs.Samples.{small};
 ghost use Rattle.audit_read.specs.Begun.{IsFaultyAt, whole_lines};
 ghost use Rattle.audit_read.specs.Samples.{ask, begin, fault, file, finish, tenancy};
@@ -42,9 +43,9 @@ pub fn entries()
     ensures held { IsTenancy small (tenancy 0 4294967296) }
     ensures backwards { IsTenancy small (tenancy 3 2) → ⊥ }
     ensures too_far { IsTenancy small (tenancy 0 4294967297) → ⊥ }
-    ensures longest { IsAsk (ask 0 16777216) }
+    ensures longest { IsAsk (ask 0 most_blocks) }
     ensures of_nothing { IsAsk (ask 0 0) → ⊥ }
-    ensures too_many { IsAsk (ask 0 16777217) → ⊥ }
+    ensures too_many { IsAsk (ask 0 (most_blocks + 1)) → ⊥ }
 {}
 
 /// What stands behind the last line feed is no line, and two line feeds side by side have an empty line between them.

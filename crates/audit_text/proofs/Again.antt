@@ -1,6 +1,7 @@
 -- The line of an item is read as that item.
-use Rattle.std.proofs.Common.{◌≡◌, ℕ, ◌%◌, ◌^◌, Bool, true, false, cond, List, [], ◌∷◌, ◌++◌, Option, Some, None, refl, sym, ap, ◌∙◌, arith, eqb}
+use Rattle.std.proofs.Common.{◌≡◌, ℕ, ◌+◌, ◌-◌, ◌%◌, ◌^◌, Bool, true, false, cond, List, [], ◌∷◌, ◌++◌, Option, Some, None, refl, sym, ap, ◌∙◌, arith, eqb}
 use Rattle.std.specs.List.{fold, AllByRecursion}
+use Rattle.std.proofs.lemmas.Bool.Decides.{nat_tests}
 use Rattle.std.proofs.lemmas.List.Elements.{recursion_from_All}
 use Rattle.std.proofs.lemmas.List.Sums.{fold-append}
 use Rattle.hex.proofs.HexLemmas.{decode_sized-encode_lower}
@@ -21,8 +22,8 @@ use Rattle.audit_text.specs.declared.item.Item.{Item}
 use Rattle.audit_text.specs.declared.item.Item.TheVariants as item
 use Rattle.audit_text.specs.declared.item.Word.{Word}
 use Rattle.audit_text.specs.declared.item.Word.TheVariants as word
-use Rattle.audit_text.specs.Fields.{flag_number, kind_number, tag_fields, part_fields, note_fields, what_fields, what_word, params_fields, order_fields, order_word, fields_of, word_of}
-use Rattle.audit_text.specs.Fits.{IsShort, IsLong, TagFits, PartFits, NoteFits, WhatFits, OrderFits, DigestFits, ItemFits}
+use Rattle.audit_text.specs.Fields.{flag_number, kind_number, one_more, or_zero, tag_fields, part_fields, note_fields, what_fields, what_word, params_fields, order_fields, order_word, fields_of, word_of}
+use Rattle.audit_text.specs.Fits.{IsShort, IsLong, TagFits, PartFits, LeftFits, BackFits, NoteFits, WhatFits, OrderFits, DigestFits, ItemFits}
 use Rattle.audit_text.specs.Lines.{spaced, behind_word, line_of}
 use Rattle.audit_text.specs.Reading.{word_in, note_in, what_by, entry_by, params_by, digest_in, item_by, item_in}
 use Rattle.audit_text.specs.Scanning.{scanned, closed, nothing, numbers_in}
@@ -56,6 +57,7 @@ word_again word.Gone rest = refl
 word_again word.ReadFailed rest = refl
 word_again word.Believed rest = refl
 word_again word.Died rest = refl
+word_again word.Returned rest = refl
 word_again word.Digest rest = refl
 word_again word.End rest = refl
 
@@ -85,6 +87,7 @@ word_scanned word.Gone = refl
 word_scanned word.ReadFailed = refl
 word_scanned word.Believed = refl
 word_scanned word.Died = refl
+word_scanned word.Returned = refl
 word_scanned word.Digest = refl
 word_scanned word.End = refl
 
@@ -123,10 +126,19 @@ note_long (note.Deschedule instance tag) f = (omega arith, (longer _ f.0, tag_lo
 note_long (note.Kill instance slot visit) f = (omega arith, (longer _ f.0, (longer _ f.1, (f.2, tt))))
 note_long (note.Placed t) f = (omega arith, (longer _ f.0, (longer _ f.1, (longer _ f.2, (f.3, (f.4, tt))))))
 note_long note.Heartbeat f = (omega arith, tt)
+note_long (note.Back from) f = (omega arith, (f, tt))
 note_long (note.ReadAsk w) f = (omega arith, (longer _ f.0, (longer _ f.1, (f.2, (longer _ f.3, (f.4, (longer _ f.5, tt)))))))
 note_long (note.ReadDone w part) f = (omega arith, (longer _ f.0.0, (longer _ f.0.1, (f.0.2, (longer _ f.0.3, (f.0.4, (longer _ f.0.5, part_long part f.1)))))))
 note_long (note.Whole w sent s) f = (omega arith, (longer _ f.0.0, (longer _ f.0.1, (f.0.2, (longer _ f.0.3, (f.0.4, (longer _ f.0.5, (f.1, (longer _ f.2.0, (f.2.1, (f.2.2, tt)))))))))))
 note_long (note.Piece w sent s) f = (omega arith, (longer _ f.0.0, (longer _ f.0.1, (f.0.2, (longer _ f.0.3, (f.0.4, (longer _ f.0.5, (f.1, (longer _ f.2.0, (f.2.1, (f.2.2, tt)))))))))))
+
+left_long : (o : Option ℕ) → LeftFits o → IsLong (one_more o)
+left_long None f = omega arith
+left_long (Some n) f = f
+
+back_long : (o : Option ℕ) → BackFits o → IsLong (or_zero o)
+back_long None f = omega arith
+back_long (Some n) f = f.1
 
 what_long : (w : What) → WhatFits w → AllByRecursion IsLong (what_fields w)
 what_long (what.Got link n) f = (longer _ f.0, note_long n f.1)
@@ -140,6 +152,7 @@ what_long (what.Gone instance) f = (longer _ f, tt)
 what_long (what.ReadFailed w) f = (longer _ f.0, (longer _ f.1, (f.2, (longer _ f.3, (f.4, (longer _ f.5, tt))))))
 what_long (what.Believed cub) f = (longer _ f, tt)
 what_long what.Died f = tt
+what_long what.Returned f = tt
 
 order_long : (o : OrderKind) → OrderFits o → AllByRecursion IsLong (order_fields o)
 order_long (Begin a) f = (longer _ f.0, (longer _ f.1, (f.2, (longer _ f.3, tt))))
@@ -151,7 +164,7 @@ fields_long (item.Plan p) f = recursion_from_All IsLong (params_fields p) f
 fields_long (item.Beats n) f = (f, tt)
 fields_long (item.Delay d) f = (f, tt)
 fields_long (item.Offsets offsets) f = recursion_from_All IsLong offsets f
-fields_long (item.Death cub beat) f = (longer _ f.0, (f.1, (omega arith, (omega arith, tt))))
+fields_long (item.Death cub beat left back) f = (longer _ f.0, (f.1, (left_long left f.2, (back_long back f.3, tt))))
 fields_long (item.Fault x) f = (longer _ f.0, (f.1, (f.2, tt)))
 fields_long (item.File x) f = (f.0, (longer _ f.1, tt))
 fields_long (item.Order o) f = (f.0, order_long o.what f.1)
@@ -173,6 +186,20 @@ flag_again : (b : Bool) → cond (eqb (flag_number b) 0) false true ≡ b
 flag_again false = refl
 flag_again true = refl
 
+left_again : (o : Option ℕ) → LeftFits o → cond (eqb (one_more o) 0) None (Some (one_more o - 1)) ≡ o
+left_again None f = refl
+left_again (Some n) f =
+    let more : eqb (n + 1) 0 ≡ false = grind (arith, nat_tests) in
+    let less : n + 1 - 1 ≡ n = omega arith in
+    rw (more, less) refl
+
+back_again : (o : Option ℕ) → BackFits o → cond (eqb (or_zero o) 0) None (Some (or_zero o)) ≡ o
+back_again None f = refl
+back_again (Some n) f =
+    let some = f.0 in
+    let more : eqb n 0 ≡ false = grind (arith, nat_tests, some) in
+    rw more refl
+
 note_again : (n : Note) → NoteFits n → (b r l : ℕ) → note_in (b ∷ r ∷ l ∷ note_fields n) ≡ n
 unfolding note_in
 note_again (note.ViewerState s) f b r l = rw (short_again _ f.0.0, short_again _ f.0.1, short_again _ f.0.2) refl
@@ -183,6 +210,7 @@ note_again (note.Deschedule instance (Some tag)) f b r l = rw (short_again _ f.0
 note_again (note.Kill instance slot visit) f b r l = rw (short_again _ f.0, short_again _ f.1) refl
 note_again (note.Placed t) f b r l = rw (short_again _ f.0, short_again _ f.1, short_again _ f.2) refl
 note_again note.Heartbeat f b r l = refl
+note_again (note.Back from) f b r l = refl
 note_again (note.ReadAsk w) f b r l = rw (short_again _ f.0, short_again _ f.1, short_again _ f.3, short_again _ f.5) refl
 note_again (note.ReadDone w None) f b r l = rw (short_again _ f.0.0, short_again _ f.0.1, short_again _ f.0.3, short_again _ f.0.5) refl
 note_again (note.ReadDone w (Some s)) f b r l = rw (short_again _ f.0.0, short_again _ f.0.1, short_again _ f.0.3, short_again _ f.0.5, short_again _ f.1.0) refl
@@ -201,6 +229,7 @@ what_again (what.Gone instance) f b r = rw (short_again _ f) refl
 what_again (what.ReadFailed w) f b r = rw (short_again _ f.0, short_again _ f.1, short_again _ f.3, short_again _ f.5) refl
 what_again (what.Believed cub) f b r = rw (short_again _ f) refl
 what_again what.Died f b r = refl
+what_again what.Returned f b r = refl
 
 entry_again : (e : Entry) → ItemFits (item.Entry e) → entry_by (what_word e.what) (fields_of (item.Entry e)) ≡ e
 unfolding entry_by
@@ -220,6 +249,7 @@ entry_word (what.Gone instance) line ns = refl
 entry_word (what.ReadFailed w) line ns = refl
 entry_word (what.Believed cub) line ns = refl
 entry_word what.Died line ns = refl
+entry_word what.Returned line ns = refl
 
 digest_again : (d : Digest32) → DigestFits d → digest_in (line_of (item.Digest d)) ≡ d
 unfolding digest_in line_of
@@ -233,7 +263,8 @@ item_again (item.Beats n) f line is = refl
 item_again (item.Delay (delay.Fixed n)) f line is = refl
 item_again (item.Delay (delay.Drawn n)) f line is = refl
 item_again (item.Offsets offsets) f line is = refl
-item_again (item.Death cub beat) f line is = rw (short_again _ f.0) refl
+item_again (item.Death cub beat left back) f line is =
+    rw (short_again _ f.0, left_again left f.2, back_again back f.3) refl
 item_again (item.Fault x) f line is = rw (short_again _ f.0) refl
 item_again (item.File x) f line is = rw (short_again _ f.1) refl
 item_again (item.Order o) f line is = order_again o.what f.1 where
@@ -269,7 +300,7 @@ any_again (item.Plan p) f = numbered (item.Plan p) refl f
 any_again (item.Beats n) f = numbered (item.Beats n) refl f
 any_again (item.Delay d) f = numbered (item.Delay d) refl f
 any_again (item.Offsets offsets) f = numbered (item.Offsets offsets) refl f
-any_again (item.Death cub beat) f = numbered (item.Death cub beat) refl f
+any_again (item.Death cub beat left back) f = numbered (item.Death cub beat left back) refl f
 any_again (item.Fault x) f = numbered (item.Fault x) refl f
 any_again (item.File x) f = numbered (item.File x) refl f
 any_again (item.Order o) f = numbered (item.Order o) refl f

@@ -62,6 +62,7 @@ word_free word.Gone = from_test (letters word.Gone) refl
 word_free word.ReadFailed = from_test (letters word.ReadFailed) refl
 word_free word.Believed = from_test (letters word.Believed) refl
 word_free word.Died = from_test (letters word.Died) refl
+word_free word.Returned = from_test (letters word.Returned) refl
 word_free word.Digest = from_test (letters word.Digest) refl
 word_free word.End = from_test (letters word.End) refl
 
@@ -96,7 +97,7 @@ behind_free (item.Plan p) f = spaced_free (fields_of (item.Plan p)) (fields_long
 behind_free (item.Beats n) f = spaced_free (fields_of (item.Beats n)) (fields_long (item.Beats n) f)
 behind_free (item.Delay d) f = spaced_free (fields_of (item.Delay d)) (fields_long (item.Delay d) f)
 behind_free (item.Offsets offsets) f = spaced_free offsets (fields_long (item.Offsets offsets) f)
-behind_free (item.Death cub beat) f = spaced_free (fields_of (item.Death cub beat)) (fields_long (item.Death cub beat) f)
+behind_free (item.Death cub beat left back) f = spaced_free (fields_of (item.Death cub beat left back)) (fields_long (item.Death cub beat left back) f)
 behind_free (item.Fault x) f = spaced_free (fields_of (item.Fault x)) (fields_long (item.Fault x) f)
 behind_free (item.File x) f = spaced_free (fields_of (item.File x)) (fields_long (item.File x) f)
 behind_free (item.Order o) f = spaced_free (fields_of (item.Order o)) (fields_long (item.Order o) f)

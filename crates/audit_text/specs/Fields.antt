@@ -1,5 +1,5 @@
 -- The numbers of each line, in the order of the text. A field that may be absent is 0, or 1 and what it holds.
-use Rattle.std.specs.Prelude.{ℕ, Bool, true, false, List, [], ◌∷◌, ◌++◌, Option, Some, None}
+use Rattle.std.specs.Prelude.{ℕ, ◌+◌, Bool, true, false, List, [], ◌∷◌, ◌++◌, Option, Some, None}
 use Rattle.link_timing.specs.declared.Delay.{Delay}
 use Rattle.link_timing.specs.declared.Delay.TheVariants as delay
 use Rattle.node_kit.specs.declared.course.OrderKind.{OrderKind}
@@ -49,6 +49,15 @@ abbrev pub tag_fields : Option Tag → List ℕ
 tag_fields None = 0 ∷ []
 tag_fields (Some t) = 1 ∷ t.slot.0 ∷ t.visit ∷ []
 
+-- one more than a number that may be 0, and a number that is not; 0 if there is none
+abbrev pub one_more : Option ℕ → ℕ
+one_more None = 0
+one_more (Some n) = n + 1
+
+abbrev pub or_zero : Option ℕ → ℕ
+or_zero None = 0
+or_zero (Some n) = n
+
 abbrev pub part_fields : Option Span → List ℕ
 part_fields None = 0 ∷ []
 part_fields (Some s) = 1 ∷ span_fields s
@@ -67,6 +76,7 @@ note_fields (note.ReadAsk want) = 7 ∷ want_fields want
 note_fields (note.ReadDone want part) = 8 ∷ want_fields want ++ part_fields part
 note_fields (note.Whole want sent part) = 9 ∷ want_fields want ++ sent ∷ span_fields part
 note_fields (note.Piece want sent part) = 10 ∷ want_fields want ++ sent ∷ span_fields part
+note_fields (note.Back from) = 11 ∷ from ∷ []
 
 abbrev pub what_fields : What → List ℕ
 what_fields (what.Got link n) = link.0 ∷ note_fields n
@@ -80,6 +90,7 @@ what_fields (what.Gone instance) = instance.0 ∷ []
 what_fields (what.ReadFailed want) = want_fields want
 what_fields (what.Believed cub) = cub.0 ∷ []
 what_fields what.Died = []
+what_fields what.Returned = []
 
 abbrev pub what_word : What → Word
 what_word (what.Got link n) = word.Got
@@ -93,6 +104,7 @@ what_word (what.Gone instance) = word.Gone
 what_word (what.ReadFailed want) = word.ReadFailed
 what_word (what.Believed cub) = word.Believed
 what_word what.Died = word.Died
+what_word what.Returned = word.Returned
 
 abbrev pub params_fields : Params → List ℕ
 params_fields p =
@@ -123,7 +135,7 @@ fields_of (item.Plan p) = params_fields p
 fields_of (item.Beats n) = n ∷ []
 fields_of (item.Delay d) = delay_number d ∷ []
 fields_of (item.Offsets offsets) = offsets
-fields_of (item.Death cub beat) = cub.0 ∷ beat ∷ 0 ∷ 0 ∷ []
+fields_of (item.Death cub beat left back) = cub.0 ∷ beat ∷ one_more left ∷ or_zero back ∷ []
 fields_of (item.Fault f) = f.disk.0 ∷ f.from ∷ f.until ∷ []
 fields_of (item.File f) = f.len ∷ f.disk.0 ∷ []
 fields_of (item.Order o) = o.beat ∷ order_fields o.what
@@ -138,7 +150,7 @@ word_of (item.Plan p) = word.Plan
 word_of (item.Beats n) = word.Beats
 word_of (item.Delay d) = delay_word d
 word_of (item.Offsets offsets) = word.Offsets
-word_of (item.Death cub beat) = word.Death
+word_of (item.Death cub beat left back) = word.Death
 word_of (item.Fault f) = word.Fault
 word_of (item.File f) = word.File
 word_of (item.Order o) = order_word o.what

@@ -1,6 +1,6 @@
--- That the numbers of a line fit their types. Each value that the program has meets this; a number of a definition is
--- any number.
-use Rattle.std.specs.Prelude.{◌≡◌, ℕ, ◌<◌, ◌^◌, Option, Some, None, length}
+-- That the numbers of a line fit their types. Each value that the program has meets this, but for a death that leaves
+-- the greatest number of messages that there is, and a return in beat 0; a number of a definition is any number.
+use Rattle.std.specs.Prelude.{◌≡◌, ℕ, ◌+◌, ◌<◌, ◌≤◌, ◌^◌, Option, Some, None, length}
 use Rattle.std.specs.List.{All}
 use Rattle.hex.specs.Hex.{IsBytes}
 use Rattle.node_kit.specs.declared.course.Digest32.{Digest32}
@@ -61,6 +61,7 @@ NoteFits (note.ReadAsk want) = WantFits want
 NoteFits (note.ReadDone want part) = WantFits want × PartFits part
 NoteFits (note.Whole want sent part) = WantFits want × IsLong sent × SpanFits part
 NoteFits (note.Piece want sent part) = WantFits want × IsLong sent × SpanFits part
+NoteFits (note.Back from) = IsLong from
 
 abbrev pub WhatFits : What → Type 0
 WhatFits (what.Got link n) = IsShort link.0 × NoteFits n
@@ -74,6 +75,16 @@ WhatFits (what.Gone instance) = IsShort instance.0
 WhatFits (what.ReadFailed want) = WantFits want
 WhatFits (what.Believed cub) = IsShort cub.0
 WhatFits what.Died = Unit {0}
+WhatFits what.Returned = Unit {0}
+
+-- one more than how many messages may go out is a long number, and a return is not in beat 0
+abbrev pub LeftFits : Option ℕ → Type 0
+LeftFits None = Unit {0}
+LeftFits (Some n) = IsLong (n + 1)
+
+abbrev pub BackFits : Option ℕ → Type 0
+BackFits None = Unit {0}
+BackFits (Some beat) = (1 ≤ beat) × IsLong beat
 
 abbrev pub OrderFits : OrderKind → Type 0
 OrderFits (Begin ask) = AskFits ask
@@ -88,7 +99,7 @@ ItemFits (item.Plan p) = All IsLong (params_fields p)
 ItemFits (item.Beats n) = IsLong n
 ItemFits (item.Delay d) = IsLong (delay_number d)
 ItemFits (item.Offsets offsets) = All IsLong offsets
-ItemFits (item.Death cub beat) = IsShort cub.0 × IsLong beat
+ItemFits (item.Death cub beat left back) = IsShort cub.0 × IsLong beat × LeftFits left × BackFits back
 ItemFits (item.Fault f) = IsShort f.disk.0 × IsLong f.from × IsLong f.until
 ItemFits (item.File f) = IsLong f.len × IsShort f.disk.0
 ItemFits (item.Order o) = IsLong o.beat × OrderFits o.what

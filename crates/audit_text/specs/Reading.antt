@@ -1,6 +1,6 @@
 -- What a line is read as, whatever it is: the word that its letters are if they are one, and the item that its numbers
 -- then make. A missing number is 0, and a number that is too large is cut.
-use Rattle.std.specs.Prelude.{ℕ, ◌+◌, ◌%◌, ◌^◌, ◌==◌, Bool, true, false, List, Option, Some, None, Result, Ok, Err, drop, if◌then◌else◌, slice_index_or, replicate}
+use Rattle.std.specs.Prelude.{ℕ, ◌+◌, ◌-◌, ◌%◌, ◌^◌, ◌==◌, Bool, true, false, List, Option, Some, None, Result, Ok, Err, drop, if◌then◌else◌, slice_index_or, replicate}
 use Rattle.hex.specs.Hex.{decode_sized}
 use Rattle.hex.specs.declared.error.FromHexError.{FromHexError}
 use Rattle.link_timing.specs.declared.Delay.TheVariants as delay
@@ -46,6 +46,9 @@ word_by_f third =
     if third == 120 then word.Fixed else if third == 110 then word.Finish
     else if third == 108 then word.File else word.Fault
 
+abbrev pub word_by_r : ℕ → Word
+word_by_r third = if third == 97 then word.ReadFailed else word.Returned
+
 abbrev pub word_by_gpt : ℕ → ℕ → ℕ → Word
 word_by_gpt first second third =
     if first == 103 then (if third == 116 then word.Got else word.Gone)
@@ -56,7 +59,7 @@ word_by_gpt first second third =
 abbrev pub word_by_first : ℕ → Word
 word_by_first first =
     if first == 115 then word.Sent else if first == 113 then word.Queued
-    else if first == 117 then word.Unqueued else if first == 114 then word.ReadFailed
+    else if first == 117 then word.Unqueued
     else if first == 111 then word.Offsets else if first == 110 then word.Node
     else word.End
 
@@ -68,6 +71,7 @@ word_by first second third =
     else if first == 103 then word_by_gpt first second third
     else if first == 112 then word_by_gpt first second third
     else if first == 116 then word_by_gpt first second third
+    else if first == 114 then word_by_r third
     else word_by_first first
 
 unfoldable pub word_in : List ℕ → Word
@@ -136,6 +140,13 @@ tag_at ns i =
 abbrev pub part_at : List ℕ → ℕ → Option Span
 part_at ns i = if long_at ns i == 0 then None else Some (span_at ns (i + 1))
 
+-- the number that one more is told of, and the one that is told if it is not 0
+abbrev pub one_less_at : List ℕ → ℕ → Option ℕ
+one_less_at ns i = if long_at ns i == 0 then None else Some (long_at ns i - 1)
+
+abbrev pub some_at : List ℕ → ℕ → Option ℕ
+some_at ns i = if long_at ns i == 0 then None else Some (long_at ns i)
+
 -- the note of a line: the number of its kind stands behind beat, reading and link
 unfoldable pub note_in : List ℕ → Note
 note_in ns =
@@ -151,7 +162,8 @@ note_in ns =
     else if kind == 7 then note.ReadAsk (want_at ns 4)
     else if kind == 8 then note.ReadDone (want_at ns 4) (part_at ns 10)
     else if kind == 9 then note.Whole (want_at ns 4) (long_at ns 10) (span_at ns 11)
-    else note.Piece (want_at ns 4) (long_at ns 10) (span_at ns 11)
+    else if kind == 10 then note.Piece (want_at ns 4) (long_at ns 10) (span_at ns 11)
+    else note.Back (long_at ns 4)
 
 -- what an entry with this word says
 abbrev pub what_by : Word → List ℕ → What
@@ -166,6 +178,7 @@ what_by word.Put ns = what.Put (tenancy_at ns 2)
 what_by word.Gone ns = what.Gone (record { 0 = short_at ns 2 })
 what_by word.ReadFailed ns = what.ReadFailed (want_at ns 2)
 what_by word.Believed ns = what.Believed (record { 0 = short_at ns 2 })
+what_by word.Returned ns = what.Returned
 what_by w ns = what.Died
 
 unfoldable pub entry_by : Word → List ℕ → Entry
@@ -225,7 +238,7 @@ item_by word.Beats line ns = item.Beats (long_at ns 0)
 item_by word.Fixed line ns = item.Delay (delay.Fixed (long_at ns 0))
 item_by word.Drawn line ns = item.Delay (delay.Drawn (long_at ns 0))
 item_by word.Offsets line ns = item.Offsets ns
-item_by word.Death line ns = item.Death (record { 0 = short_at ns 0 }) (long_at ns 1)
+item_by word.Death line ns = item.Death (record { 0 = short_at ns 0 }) (long_at ns 1) (one_less_at ns 2) (some_at ns 3)
 item_by word.Fault line ns = item.Fault (fault_by ns)
 item_by word.File line ns = item.File (file_by ns)
 item_by word.Begin line ns = item.Order (begin_by ns)

@@ -1,5 +1,5 @@
 -- Values of worked lines: their fields are numbered in the order of the text.
-use Rattle.std.specs.Prelude.{ℕ}
+use Rattle.std.specs.Prelude.{ℕ, Option, Some, None}
 use Rattle.node_kit.specs.declared.course.Order.{Order}
 use Rattle.node_kit.specs.declared.course.OrderKind.TheVariants.{Begin, Finish}
 use Rattle.tiger_base.specs.declared.message.Note.{Note}
@@ -17,8 +17,11 @@ use Rattle.audit_text.specs.declared.item.Item.TheVariants as item
 abbrev pub node : ℕ → Item
 node n = item.Node (record { 0 = n })
 
+abbrev pub death_with : ℕ → ℕ → Option ℕ → Option ℕ → Item
+death_with cub beat left back = item.Death (record { 0 = cub }) beat left back
+
 abbrev pub death : ℕ → ℕ → Item
-death cub beat = item.Death (record { 0 = cub }) beat
+death cub beat = death_with cub beat None None
 
 abbrev pub tenancy : Tenancy
 tenancy = record {

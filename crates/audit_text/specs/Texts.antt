@@ -1,5 +1,5 @@
 -- The text of what is kept of a run: its lines in order, each with a line feed at its end.
-use Rattle.std.specs.Prelude.{ℕ, ◌+◌, List, [], ◌∷◌, ◌++◌, Option, Some, None, map}
+use Rattle.std.specs.Prelude.{ℕ, ◌+◌, List, [], ◌∷◌, ◌++◌, Option, Some, None, map, option_and_then, slice_get}
 use Rattle.std.specs.List.{flat_map}
 use Rattle.link_timing.specs.declared.Delay.{Delay}
 use Rattle.node_kit.specs.declared.course.Digest32.{Digest32}
@@ -20,6 +20,8 @@ pub record Parts : Type 0 where
   pub delay : Delay
   pub offsets : List ℕ
   pub deaths : List (Option ℕ)
+  pub cuts : List (Option ℕ)
+  pub backs : List (Option ℕ)
   pub faults : List ReadFault
   pub files : List FileInfo
   pub orders : List Order
@@ -33,6 +35,8 @@ parts_of k = record {
   delay = k.course.delay;
   offsets = k.course.offsets;
   deaths = k.course.deaths;
+  cuts = k.course.cuts;
+  backs = k.course.backs;
   faults = k.course.faults;
   files = k.catalogue.files;
   orders = k.orders;
@@ -40,11 +44,16 @@ parts_of k = record {
   digests = k.digests;
 }
 
--- a line for each cub that dies, from this cub on
-abbrev pub death_items : ℕ → List (Option ℕ) → List Item
-death_items cub [] = []
-death_items cub (None ∷ rest) = death_items (cub + 1) rest
-death_items cub (Some beat ∷ rest) = item.Death (record { 0 = cub }) beat ∷ death_items (cub + 1) rest
+-- what a row with one element for each cub has for a cub
+abbrev pub row_at : List (Option ℕ) → ℕ → Option ℕ
+row_at row cub = option_and_then (λ o. o) (slice_get row cub)
+
+-- a line for each cub that dies, from this cub on, with what the rows of cuts and of returns have for the cub
+abbrev pub death_items : List (Option ℕ) → List (Option ℕ) → ℕ → List (Option ℕ) → List Item
+death_items cuts backs cub [] = []
+death_items cuts backs cub (None ∷ rest) = death_items cuts backs (cub + 1) rest
+death_items cuts backs cub (Some beat ∷ rest) =
+    item.Death (record { 0 = cub }) beat (row_at cuts cub) (row_at backs cub) ∷ death_items cuts backs (cub + 1) rest
 
 -- a line for each entry
 abbrev pub entry_items : List Entry → List Item
@@ -65,7 +74,7 @@ head_items q =
 -- and those of which there may be any number
 abbrev pub body_items : Parts → List Item
 body_items q =
-    death_items 0 q.deaths ++ map (λ f. item.Fault f) q.faults ++ map (λ f. item.File f) q.files
+    death_items q.cuts q.backs 0 q.deaths ++ map (λ f. item.Fault f) q.faults ++ map (λ f. item.File f) q.files
     ++ map (λ o. item.Order o) q.orders ++ node_items 0 q.journals
     ++ map (λ d. item.Digest d) q.digests
 

@@ -21,8 +21,14 @@ pub enum Item {
     Delay(Delay),
     /// How far the clock of each cub, and of the controller last, is ahead.
     Offsets(Sequence<Micros>),
-    /// That a cub dies, and in which beat.
-    Death(CubNo, Beat),
+    /// That a cub dies, and in which beat; how many messages it may still send in that beat, if its death
+    /// cuts it off there; and in which beat it returns.
+    Death {
+        cub: CubNo,
+        beat: Beat,
+        left: Option<u64>,
+        back: Option<Beat>,
+    },
     /// A read fault.
     Fault(ReadFault),
     /// The next file of the catalogue.
@@ -65,6 +71,7 @@ pub enum Word {
     ReadFailed,
     Believed,
     Died,
+    Returned,
     Digest,
     End,
 }
@@ -98,6 +105,7 @@ impl Word {
             Word::ReadFailed => b"readfailed",
             Word::Believed => b"believed",
             Word::Died => b"died",
+            Word::Returned => b"returned",
             Word::Digest => b"digest",
             Word::End => b"end",
         }

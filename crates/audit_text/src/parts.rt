@@ -1,6 +1,6 @@
 //! What the numbers of a line are from a place on: a missing number is 0, and one that is too large is cut.
 ghost use Rattle.std.specs.Prelude.{◌≡◌, ◌≤◌};
-ghost use Rattle.audit_text.specs.Reading.{long_at, short_at, kind_at, tenancy_at, state_at, piece_at, record_at, ask_at, want_at, span_at, tag_at, part_at};
+ghost use Rattle.audit_text.specs.Reading.{long_at, short_at, kind_at, tenancy_at, state_at, piece_at, record_at, ask_at, want_at, span_at, tag_at, part_at, one_less_at, some_at};
 
 use tiger_base::{
     Ask, DiskNo, FileNo, Instance, Kind, PieceState, Rec, SlotNo, Span, State, Tag, Tenancy, Want,
@@ -134,4 +134,26 @@ pub fn part_at(ns: &[u64], i: usize) -> Option<Span>
         return None;
     }
     Some(span_at(ns, i + 1))
+}
+
+/// The number that one more is told of, if that is not 0.
+pub fn one_less_at(ns: &[u64], i: usize) -> Option<u64>
+    ensures { result ≡ one_less_at ns.now i }
+{
+    let n = long_at(ns, i);
+    if n == 0 {
+        return None;
+    }
+    Some(n - 1)
+}
+
+/// The number that is told, if it is not 0.
+pub fn some_at(ns: &[u64], i: usize) -> Option<u64>
+    ensures { result ≡ some_at ns.now i }
+{
+    let n = long_at(ns, i);
+    if n == 0 {
+        return None;
+    }
+    Some(n)
 }

@@ -7,8 +7,8 @@ ghost use Rattle.audit_text.specs.Reading.{note_in, what_by, entry_by, params_by
 
 use crate::item::{Item, Word};
 use crate::parts::{
-    ask_at, long_at, part_at, piece_at, record_at, short_at, span_at, state_at, tag_at, tenancy_at,
-    want_at,
+    ask_at, long_at, one_less_at, part_at, piece_at, record_at, short_at, some_at, span_at,
+    state_at, tag_at, tenancy_at, want_at,
 };
 use crate::scan::Scan;
 use crate::words::word_in;
@@ -52,10 +52,13 @@ fn note_in(ns: &[u64]) -> Note
             sent: long_at(ns, 10),
             part: span_at(ns, 11),
         },
-        _ => Note::Piece {
+        10 => Note::Piece {
             want: want_at(ns, 4),
             sent: long_at(ns, 10),
             part: span_at(ns, 11),
+        },
+        _ => Note::Back {
+            from: long_at(ns, 4),
         },
     }
 }
@@ -74,6 +77,7 @@ fn what_by(word: Word, ns: &[u64]) -> What
         Word::Gone => What::Gone(Instance(short_at(ns, 2))),
         Word::ReadFailed => What::ReadFailed(want_at(ns, 2)),
         Word::Believed => What::Believed(CubNo(short_at(ns, 2))),
+        Word::Returned => What::Returned,
         _ => What::Died,
     }
 }
@@ -145,7 +149,12 @@ fn item_by(alloc: Global, word: Word, line: &[u8], ns: &[u64]) -> Result<Item, A
         Word::Fixed => Item::Delay(Delay::Fixed(long_at(ns, 0))),
         Word::Drawn => Item::Delay(Delay::Drawn(long_at(ns, 0))),
         Word::Offsets => Item::Offsets(Sequence::new(Vec::from_slice(alloc, ns)?)),
-        Word::Death => Item::Death(CubNo(short_at(ns, 0)), long_at(ns, 1)),
+        Word::Death => Item::Death {
+            cub: CubNo(short_at(ns, 0)),
+            beat: long_at(ns, 1),
+            left: one_less_at(ns, 2),
+            back: some_at(ns, 3),
+        },
         Word::Fault => Item::Fault(fault_by(ns)),
         Word::File => Item::File(file_by(ns)),
         Word::Begin => Item::Order(begin_by(ns)),

@@ -10,7 +10,7 @@ ghost use Rattle.audit_text.specs.declared.item.Item.TheVariants as item;
 ghost use Rattle.audit_text.specs.Fields.{fields_of, note_fields, what_fields};
 ghost use Rattle.audit_text.specs.Fits.{ItemFits};
 ghost use Rattle.audit_text.specs.Lines.{line_of};
-ghost use Rattle.audit_text.specs.Samples.{ask, death, finish, node, start_order, tag, took, want, whole};
+ghost use Rattle.audit_text.specs.Samples.{ask, death, death_with, finish, node, start_order, tag, took, want, whole};
 ghost use Rattle.audit_text.specs.Texts.{death_items, node_items};
 
 /// A line is a word and numbers, each behind one space and without leading zeros.
@@ -18,6 +18,8 @@ ghost use Rattle.audit_text.specs.Texts.{death_items, node_items};
 pub fn lines()
     ensures node { line_of (node 3) ≡ codes "node 3" }
     ensures death { line_of (death 2 7) ≡ codes "death 2 7 0 0" }
+    ensures cut_off { line_of (death_with 2 7 (Some 0) None) ≡ codes "death 2 7 1 0" }
+    ensures back { line_of (death_with 2 7 None (Some 9)) ≡ codes "death 2 7 0 9" }
     ensures fixed { line_of (item.Delay (Fixed 1)) ≡ codes "fixed 1" }
     ensures drawn { line_of (item.Delay (Drawn 1)) ≡ codes "drawn 1" }
     ensures end { line_of item.End ≡ codes "end" }
@@ -42,14 +44,18 @@ pub fn fields()
     ensures begin { fields_of (item.Order start_order) ≡ 9 ∷ 1 ∷ 2 ∷ 3 ∷ 4 ∷ [] }
     ensures stop { fields_of (item.Order finish) ≡ 9 ∷ 1 ∷ [] }
     ensures in_memory { note_fields (note.ReadAsk want) ≡ 7 ∷ 3 ∷ 5 ∷ 1 ∷ 2 ∷ 4 ∷ 6 ∷ [] → ⊥ }
+    ensures returns { note_fields (note.Back 5) ≡ 11 ∷ 5 ∷ [] }
     ensures flag_first { note_fields (note.Start true ask) ≡ 2 ∷ 1 ∷ 1 ∷ 2 ∷ 3 ∷ 4 ∷ [] → ⊥ }
 {}
 
 /// A cub that lives has no line, and the others have theirs by number; a node has its line before its entries, though it
 /// has none of these.
 pub fn order_of_lines()
-    ensures deaths { death_items 0 (None ∷ Some 7 ∷ None ∷ Some 5 ∷ []) ≡ death 1 7 ∷ death 3 5 ∷ [] }
-    ensures by_number { death_items 0 (None ∷ Some 7 ∷ []) ≡ death 0 7 ∷ [] → ⊥ }
+    ensures deaths { death_items [] [] 0 (None ∷ Some 7 ∷ None ∷ Some 5 ∷ []) ≡ death 1 7 ∷ death 3 5 ∷ [] }
+    ensures cuts { death_items (None ∷ Some 3 ∷ []) (None ∷ Some 9 ∷ []) 0 (None ∷ Some 7 ∷ [])
+        ≡ death_with 1 7 (Some 3) (Some 9) ∷ [] }
+    ensures lives { death_items (Some 3 ∷ []) (Some 9 ∷ []) 0 (None ∷ []) ≡ [] }
+    ensures by_number { death_items [] [] 0 (None ∷ Some 7 ∷ []) ≡ death 0 7 ∷ [] → ⊥ }
     ensures nodes { node_items 0 ([] ∷ [] ∷ []) ≡ node 0 ∷ node 1 ∷ [] }
     ensures without { node_items 0 ([] ∷ []) ≡ [] → ⊥ }
 {}
@@ -59,5 +65,6 @@ pub fn numbers_that_fit()
     ensures largest { ItemFits (node 4294967295) }
     ensures too_large { ItemFits (node 4294967296) → ⊥ }
     ensures long { ItemFits (item.Beats 4294967296) }
+    ensures in_first_beat { ItemFits (death_with 0 0 None (Some 0)) → ⊥ }
     ensures short_digest { ItemFits (item.Digest (record { 0 = 0 ∷ [] })) → ⊥ }
 {}

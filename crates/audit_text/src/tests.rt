@@ -17,6 +17,7 @@ fixed 1
 drawn 18446744073709551615
 offsets 0 0 4000 0 17 0 0 0 0
 death 3 250 0 0
+death 4 250 1 260
 fault 7 130 160
 file 10 4294967295
 begin 0 0 0 3 0
@@ -44,7 +45,9 @@ sent 50 500000 16 10 0 1 0 0 0 2 50 0 2 2
 gone 71 710000 0
 readfailed 42 420000 0 1 0 0 0 0
 believed 351 3510000 3
+got 260 2600000 24 11 4294967296
 died 250 2500000
+returned 260 2600000
 digest c775e7b757ede630cd0aa1113bd102661ab38829ca52a6422ab782862f268646
 end";
 
@@ -61,19 +64,21 @@ beats 600 0
 beats +600
 beats 18446744073709551616
 offset 0
-death 3 250 1 0
+death 3 250 01 0
 death 3 250
 node 4294967296
 fault 7 130
 begin 0 0 0 3
 sent 0 0 24 11
+sent 0 0 24 12 0
 sent 0 0 24 6 0
 got 1 10000 0 2 0 0 3 0 2
 queued 1 10000 4294967296 0
 took 1 10000 0 0 1 0 2 0 2
 got 7 70000 9 3 0 2 5 4294967296
 gone 71 710000
-returned 5 50000
+return 5 50000
+returned 5 50000 0
 digest C775e7b757ede630cd0aa1113bd102661ab38829ca52a6422ab782862f268646
 digest c775e7b757ede630cd0aa1113bd102661ab38829ca52a6422ab782862f26864
 digest
@@ -116,7 +121,7 @@ plan 8 1 16 1000000 2 4 10000 2 4000 800000 200000 100000 3000000 4000000 20 50 
 beats 2
 drawn 7
 offsets 0 4
-death 1 1 0 0
+death 1 1 7 9
 fault 7 0 1
 file 10 5
 begin 0 0 0 3 5
@@ -139,6 +144,8 @@ fn course(alloc: Global) -> Result<Course, NoMemory> {
         beats: 2,
         offsets: Sequence::new(vec![in alloc; 0, 4]?),
         deaths: Sequence::new(vec![in alloc; None, Some(1)]?),
+        cuts: Sequence::new(vec![in alloc; None, Some(6)]?),
+        backs: Sequence::new(vec![in alloc; None, Some(9)]?),
         faults: Sequence::new(vec![in alloc; fault]?),
         delay: Delay::Drawn(7),
     })

@@ -6,10 +6,12 @@ ghost use Rattle.node_kit.specs.declared.course.ReadFault.{ReadFault};
 ghost use Rattle.stripe_layout.specs.declared.catalogue.FileInfo.{FileInfo};
 ghost use Rattle.audit_text.specs.declared.item.Item.TheVariants as item;
 ghost use Rattle.audit_text.specs.Lines.{line_of};
-ghost use Rattle.audit_text.specs.Texts.{parts_of, death_items, entry_items, node_items, head_items, body_items, text_in, text_of};
+ghost use Rattle.audit_text.specs.Texts.{parts_of, row_at, death_items, entry_items, node_items, head_items, body_items, text_in, text_of};
 
 use crate::item::Word;
-use crate::writing::{push_delay, push_digest, push_entry, push_line, push_order, push_plan};
+use crate::writing::{
+    push_delay, push_digest, push_dying, push_entry, push_line, push_order, push_plan,
+};
 use node_kit::{Course, Digest32, Entry, Journal, Kept, Order, ReadFault};
 use std::alloc::{AllocError, Global};
 use stripe_layout::FileInfo;
@@ -72,28 +74,44 @@ fn push_head(text: &mut Vec<u8>, kept: &Kept) -> Result<(), AllocError>
     push_clocks(text, &kept.course)
 }
 
+/// What a row with one element for each cub has for a cub.
+fn row_at(row: &[Option<u64>], cub: usize) -> Option<u64>
+    ensures { result ≡ row_at row.now cub }
+{
+    match row.get(cub) {
+        Some(value) => *value,
+        None => None,
+    }
+}
+
 /// Writes the line of a cub if it dies.
-#[tactic(auto, unfolding(crate::specs::Lines::line_of))]
-fn push_death(text: &mut Vec<u8>, cub: u64, death: &Option<Beat>) -> Result<(), AllocError>
+fn push_death(
+    text: &mut Vec<u8>,
+    course: &Course,
+    cub: usize,
+    death: &Option<Beat>,
+) -> Result<(), AllocError>
     ensures { OnOk result (text.new.items
-        ≡ text.old.items ++ text_in (death_items cub (death.now ∷ []))) }
+        ≡ text.old.items ++ text_in (death_items course.now.cuts course.now.backs cub (death.now ∷ []))) }
 {
     match death {
         Some(beat) => {
-            push_line(text, Word::Death, &[cub, *beat, 0, 0])?;
+            let left = row_at(course.cuts.as_slice(), cub);
+            let back = row_at(course.backs.as_slice(), cub);
+            push_dying(text, cub as u64, *beat, left, back)?;
             push_end(text)
         }
         None => Ok(()),
     }
 }
 
-fn push_deaths(text: &mut Vec<u8>, deaths: &[Option<Beat>]) -> Result<(), AllocError>
+fn push_deaths(text: &mut Vec<u8>, course: &Course) -> Result<(), AllocError>
     ensures { OnOk result (text.new.items
-        ≡ text.old.items ++ text_in (death_items 0 deaths.now)) }
+        ≡ text.old.items ++ text_in (death_items course.now.cuts course.now.backs 0 course.now.deaths)) }
 {
     let mut cub = 0;
-    for death in deaths {
-        push_death(text, cub, death)?;
+    for death in course.deaths.as_slice() {
+        push_death(text, course, cub, death)?;
         cub += 1;
     }
     Ok(())
@@ -183,7 +201,7 @@ fn push_body(text: &mut Vec<u8>, kept: &Kept) -> Result<(), AllocError>
     ensures { OnOk result (text.new.items
         ≡ text.old.items ++ text_in (body_items (parts_of kept.now))) }
 {
-    push_deaths(text, kept.course.deaths.as_slice())?;
+    push_deaths(text, &kept.course)?;
     push_faults(text, kept.course.faults.as_slice())?;
     push_files(text, kept.catalogue.files.as_slice())?;
     push_orders(text, kept.orders.as_slice())?;

@@ -1,6 +1,6 @@
 //! The word that a line begins with.
 ghost use Rattle.std.specs.Prelude.{◌≡◌};
-ghost use Rattle.audit_text.specs.Reading.{long_at, word_by_b, word_by_d, word_by_f, word_by_gpt, word_by_first, word_in};
+ghost use Rattle.audit_text.specs.Reading.{long_at, word_by_b, word_by_d, word_by_f, word_by_r, word_by_gpt, word_by_first, word_in};
 
 use crate::item::Word;
 
@@ -57,6 +57,16 @@ fn word_by_f(third: u8) -> Word
     }
 }
 
+fn word_by_r(third: u8) -> Word
+    ensures { result ≡ word_by_r third }
+{
+    if third == b'a' {
+        Word::ReadFailed
+    } else {
+        Word::Returned
+    }
+}
+
 fn word_by_gpt(first: u8, second: u8, third: u8) -> Word
     ensures { result ≡ word_by_gpt first second third }
 {
@@ -84,8 +94,6 @@ fn word_by_first(first: u8) -> Word
         Word::Queued
     } else if first == b'u' {
         Word::Unqueued
-    } else if first == b'r' {
-        Word::ReadFailed
     } else if first == b'o' {
         Word::Offsets
     } else if first == b'n' {
@@ -115,6 +123,8 @@ pub fn word_in(line: &[u8]) -> Word
         word_by_gpt(first, second, third)
     } else if first == b't' {
         word_by_gpt(first, second, third)
+    } else if first == b'r' {
+        word_by_r(third)
     } else {
         word_by_first(first)
     }

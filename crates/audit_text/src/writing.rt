@@ -2,7 +2,7 @@
 ghost use Rattle.std.specs.Prelude.{◌≡◌, ◌++◌, [], ◌∷◌, OnOk};
 ghost use Rattle.node_kit.specs.declared.journal.Entry.{Entry};
 ghost use Rattle.audit_text.specs.declared.item.Item.TheVariants as item;
-ghost use Rattle.audit_text.specs.Fields.{flag_number, kind_number, tenancy_fields, record_fields, ask_fields, want_fields, span_fields, tag_fields, part_fields, note_fields, what_fields, what_word, params_fields, order_fields};
+ghost use Rattle.audit_text.specs.Fields.{flag_number, kind_number, tenancy_fields, record_fields, ask_fields, want_fields, span_fields, one_more, or_zero, tag_fields, part_fields, note_fields, what_fields, what_word, params_fields, order_fields};
 ghost use Rattle.audit_text.specs.Lines.{spaced, line_of};
 ghost use Rattle.audit_text.specs.Words.{letters};
 
@@ -12,7 +12,7 @@ use link_timing::Delay;
 use node_kit::{Digest32, Entry, Order, OrderKind, What};
 use slot_plan::Params;
 use std::alloc::AllocError;
-use tiger_base::{Ask, Kind, Note, Rec, Span, Tag, Tenancy, Want};
+use tiger_base::{Ask, Beat, Kind, Note, Rec, Span, Tag, Tenancy, Want};
 
 /// Writes a space and a number.
 fn push_number(text: &mut Vec<u8>, n: u64) -> Result<(), AllocError>
@@ -177,6 +177,7 @@ fn push_note(text: &mut Vec<u8>, n: Note) -> Result<(), AllocError>
         }
         Note::Whole { want, sent, part } => push_sending(text, 9, want, sent, part),
         Note::Piece { want, sent, part } => push_sending(text, 10, want, sent, part),
+        Note::Back { from } => push_numbers(text, &[11, from]),
     }
 }
 
@@ -194,7 +195,7 @@ fn push_what(text: &mut Vec<u8>, what: What) -> Result<(), AllocError>
         What::Put(t) => push_tenancy(text, t),
         What::ReadFailed(want) => push_want(text, want),
         What::Believed(cub) => push_number(text, cub.0 as u64),
-        What::Died => Ok(()),
+        What::Died | What::Returned => Ok(()),
     }
 }
 
@@ -213,6 +214,7 @@ fn what_word(what: &What) -> Word
         What::ReadFailed(_) => Word::ReadFailed,
         What::Believed(_) => Word::Believed,
         What::Died => Word::Died,
+        What::Returned => Word::Returned,
     }
 }
 
@@ -294,6 +296,43 @@ pub fn push_digest(text: &mut Vec<u8>, digest: &Digest32) -> Result<(), AllocErr
     }
 }
 
+/// Writes one more than a number that may be 0, or 0 if there is none. One more than the greatest number has
+/// a digit of its own.
+fn push_one_more(text: &mut Vec<u8>, n: Option<u64>) -> Result<(), AllocError>
+    ensures { OnOk result (text.new.items ≡ text.old.items ++ spaced (one_more n ∷ [])) }
+{
+    let wide = match n {
+        Some(n) => n as u128 + 1,
+        None => 0,
+    };
+    text.extend_from_slice(b" ")?;
+    text.extend_from_slice(Buffer::new().format(wide).as_bytes())
+}
+
+/// A number that is not 0, or 0 if there is none.
+fn or_zero(n: Option<u64>) -> u64
+    ensures { result ≡ or_zero n }
+{
+    n.unwrap_or(0)
+}
+
+/// Writes the line of a cub that dies, without its line feed.
+#[tactic(auto, unfolding(crate::specs::Lines::line_of))]
+pub fn push_dying(
+    text: &mut Vec<u8>,
+    cub: u64,
+    beat: Beat,
+    left: Option<u64>,
+    back: Option<Beat>,
+) -> Result<(), AllocError>
+    ensures { OnOk result (text.new.items
+        ≡ text.old.items ++ line_of (item.Death (record { 0 = cub }) beat left back)) }
+{
+    push_line(text, Word::Death, &[cub, beat])?;
+    push_one_more(text, left)?;
+    push_number(text, or_zero(back))
+}
+
 /// Writes a line, without its line feed.
 #[tactic(auto, unfolding(crate::specs::Lines::line_of))]
 pub fn push_item(text: &mut Vec<u8>, i: &Item) -> Result<(), AllocError>
@@ -305,7 +344,12 @@ pub fn push_item(text: &mut Vec<u8>, i: &Item) -> Result<(), AllocError>
         Item::Beats(beats) => push_line(text, Word::Beats, &[*beats]),
         Item::Delay(delay) => push_delay(text, *delay),
         Item::Offsets(offsets) => push_line(text, Word::Offsets, offsets.as_slice()),
-        Item::Death(cub, beat) => push_line(text, Word::Death, &[cub.0 as u64, *beat, 0, 0]),
+        Item::Death {
+            cub,
+            beat,
+            left,
+            back,
+        } => push_dying(text, cub.0 as u64, *beat, *left, *back),
         Item::Fault(f) => push_line(text, Word::Fault, &[f.disk.0 as u64, f.from, f.until]),
         Item::File(f) => push_line(text, Word::File, &[f.len, f.disk.0 as u64]),
         Item::Order(order) => push_order(text, order),

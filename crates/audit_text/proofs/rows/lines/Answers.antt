@@ -13,6 +13,16 @@ pub returns-clause-death : goal.returns-clause-death
 unfolding line_of
 returns-clause-death c = rw (decimal_digit 2 (omega arith), decimal_digit 7 (omega arith), decimal_digit 0 (omega arith)) refl
 
+pub returns-clause-cut_off : goal.returns-clause-cut_off
+unfolding line_of
+returns-clause-cut_off c =
+    rw (decimal_digit 2 (omega arith), decimal_digit 7 (omega arith), decimal_digit 1 (omega arith), decimal_digit 0 (omega arith)) refl
+
+pub returns-clause-back : goal.returns-clause-back
+unfolding line_of
+returns-clause-back c =
+    rw (decimal_digit 2 (omega arith), decimal_digit 7 (omega arith), decimal_digit 0 (omega arith), decimal_digit 9 (omega arith)) refl
+
 pub returns-clause-fixed : goal.returns-clause-fixed
 unfolding line_of
 returns-clause-fixed c = rw (decimal_digit 1 (omega arith)) refl

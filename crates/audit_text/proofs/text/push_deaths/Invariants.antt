@@ -6,4 +6,5 @@ use Rattle.audit_text.proofs.text.push_deaths.Given as goal
 abbrev pub invariant-loop-death : goal.invariant-loop-death
 invariant-loop-death l =
     (l.cub ≡ l.death-index)
-    × (l.text.items ++ text_in (death_items l.cub (drop l.death-index l.deaths)) ≡ l.fn.text.items ++ text_in (death_items 0 l.deaths))
+    × (l.text.items ++ text_in (death_items l.course.cuts l.course.backs l.cub (drop l.death-index l.death-items)) ≡ l.fn.text.items
+    ++ text_in (death_items l.course.cuts l.course.backs 0 l.course.deaths))
