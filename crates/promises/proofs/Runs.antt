@@ -8,6 +8,7 @@ use Rattle.node_kit.specs.declared.course.Kept.{Kept}
 use Rattle.node_kit.specs.declared.gate.OpenGate.{OpenGate}
 use Rattle.outside.specs.Told.{Told}
 use Rattle.outside.specs.Memory.{MemoryFiles, source_of}
+use Rattle.run_facts.specs.Plain.{HasWholeLives}
 use Rattle.run_claims.specs.Accounts.{account_of}
 use Rattle.run_claims.specs.Claims.{MeetsClaims}
 use Rattle.proof_ring.specs.Beliefs.{BelievesInTime}
@@ -48,6 +49,13 @@ kept_well s library k run = record {
   timed = run.ran.timed;
   claims = run.claims;
 }
+
+-- no death of the scenario cuts a cub off, and no cub returns
+whole_lives : (s : Scenario) (library : List (List ℕ)) (k : Kept) → IsRunOf OpenGate s library k → HasWholeLives k.course
+whole_lives s library k run = subst HasWholeLives (sym run.ran.course) run.sound.whole_lives
+
+keeps_promises : (s : Scenario) (library : List (List ℕ)) (k : Kept) → IsRunOf OpenGate s library k → KeepsPromises k
+keeps_promises s library k run = kept_runs_keep_promises k (kept_well s library k run) (whole_lives s library k run)
 
 -- the run of a named scenario over files in memory
 abbrev IsNamed : MemoryFiles → MemoryFiles → List ℕ → Kept → Type 0
@@ -110,8 +118,8 @@ module _ (old new : MemoryFiles) (words : List (List ℕ)) where
 
   -- and keeps all promises
   promises : (k : Kept) → IsAsked old new words k → KeepsPromises k
-  promises k (inl asked) = kept_runs_keep_promises k (kept_well asked.3.inputs.scenario asked.3.inputs.library k asked.3.run)
-  promises k (inr asked) = kept_runs_keep_promises k (kept_well asked.2.scenario _ k asked.2.run)
+  promises k (inl asked) = keeps_promises asked.3.inputs.scenario asked.3.inputs.library k asked.3.run
+  promises k (inr asked) = keeps_promises asked.2.scenario _ k asked.2.run
 
   pub if_promises : (kept : Option Kept) → IfSome kept (IsAsked old new words) → IfSome kept KeepsPromises
   if_promises None asked = tt

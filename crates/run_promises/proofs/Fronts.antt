@@ -7,7 +7,8 @@ use Rattle.tiger_base.specs.declared.tenancy.Tenancy.{Tenancy}
 use Rattle.node_kit.specs.declared.journal.What.{What}
 use Rattle.node_kit.specs.declared.journal.What.TheVariants as what
 use Rattle.node_kit.specs.declared.journal.Entry.{Entry}
-use Rattle.node_kit.specs.Life.{Lifetime, acts}
+use Rattle.node_kit.specs.Life.{Lifetime, IsWholeLife, mortal, acts}
+use Rattle.node_kit.proofs.Whole.{acts-undying, acts-mortal}
 use Rattle.run_facts.specs.Order.{Noted, beat_of, journal_of}
 use Rattle.run_model.specs.Schedule.{Stop, schedule_of}
 use Rattle.run_model.specs.Moments.{moment_at, is_put_of, is_belief_of}
@@ -136,11 +137,17 @@ belief_stays log b last c d h t =
     any_passes (λ (e : Entry). is_belief_of d e.what) (journal_of c (filter (is_up_to last c) log)) x.0.entry i
     (subst (λ (e : Entry). is_belief_of d e.what ≡ true) (sym x.3) q.2)
 
--- who acts in a beat acted in each before it
-acted_before : (death : Option ℕ) (b last : ℕ) → b ≤ last → acts (record { death = death }) last ≡ true → acts (record { death = death }) b ≡ true
-unfolding acts
-acted_before None b last h t = refl
-acted_before (Some d) b last h t = let l = ltb-true last d t in lt-ltb b d (omega arith)
+-- whose life is whole acts as by its death alone
+pub acts_by_death : (life : Lifetime) (b : ℕ) → IsWholeLife life → acts life b ≡ acts (mortal life.death) b
+acts_by_death life b whole = ap (λ (q : Lifetime). acts q b) whole
 
-pub acted : (life : Lifetime) (b last : ℕ) → b ≤ last → acts life last ≡ true → acts life b ≡ true
-acted life b last h t = acted_before life.death b last h t
+-- who acts in a beat acted in each before it
+acted_before : (death : Option ℕ) (b last : ℕ) → b ≤ last → acts (mortal death) last ≡ true → acts (mortal death) b ≡ true
+acted_before None b last h t = acts-undying b
+acted_before (Some d) b last h t =
+    let l = ltb-true last d (sym (acts-mortal d last) ∙ t) in
+    acts-mortal d b ∙ lt-ltb b d (omega arith)
+
+pub acted : (life : Lifetime) (b last : ℕ) → IsWholeLife life → b ≤ last → acts life last ≡ true → acts life b ≡ true
+acted life b last whole h t =
+    acts_by_death life b whole ∙ acted_before life.death b last h (sym (acts_by_death life last whole) ∙ t)

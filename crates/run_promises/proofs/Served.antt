@@ -16,9 +16,9 @@ use Rattle.node_kit.specs.declared.course.ReadFault.{ReadFault}
 use Rattle.node_kit.specs.declared.journal.What.{What}
 use Rattle.node_kit.specs.declared.journal.What.TheVariants as what
 use Rattle.node_kit.specs.declared.journal.Entry.{Entry}
-use Rattle.node_kit.specs.Life.{lifetime_of}
+use Rattle.node_kit.specs.Life.{Lifetime, lifetime_of}
 use Rattle.run_facts.specs.Order.{Noted}
-use Rattle.run_facts.specs.Timed.{is_died, death_within, IsDeathOf, EndsInDeath}
+use Rattle.run_facts.specs.Timed.{is_died, death_within, IsUntil, IsLater, IsDeathOf, EndsInDeath}
 use Rattle.run_model.specs.Excuses.{IsFailedRead, IsDeath, IsStopOf, ReadFailed, DiedAt, LostInPieces, LostInDeath, WasStopped}
 use Rattle.run_model.specs.Moments.{moment_at}
 use Rattle.run_model.specs.Runs.{order_in}
@@ -68,20 +68,32 @@ died_is other h = absurd h
 lives_through : (j : List Entry) (e : Entry) → AllByRecursion (λ (e : Entry). is_died e.what ≡ false) j → In e j → IsDeath e.what → ⊥
 lives_through j e none i d = false≢true (sym (all_in (λ (e : Entry). is_died e.what ≡ false) e j none i) ∙ died_is e.what d)
 
-last_is_death : (death : ℕ) (j : List Entry) (e : Entry) → EndsInDeath death j → In e j → IsDeath e.what → death ≡ e.stamp.beat
-last_is_death death j e q i d = ⊎_elim
-    (λ l. absurd (false≢true (sym (all_in (λ (e : Entry). (is_died e.what ≡ false) × (e.stamp.beat < death)) e q.before q.alone l).0 ∙ died_is e.what d)))
-    (λ l. ⊎_elim (λ (f : e ≡ q.last). sym q.in_beat ∙ ap (λ (e : Entry). e.stamp.beat) (sym f)) (λ b. absurd b) l)
-    (in_cases e q.before (q.last ∷ []) (subst (λ (es : List Entry). In e es) q.all i))
+-- nobody dies behind a death
+lives_later : (back : Option ℕ) (j : List Entry) (e : Entry) → IsLater back j → In e j → is_died e.what ≡ false
+lives_later None j e none i = absurd (subst (λ (es : List Entry). In e es) none i)
+lives_later (Some back) j e later i = (all_in (λ (e : Entry). (is_died e.what ≡ false) × (back ≤ e.stamp.beat)) e j later i).0
+
+only_death : (life : Lifetime) (death : ℕ) (j : List Entry) (e : Entry) → EndsInDeath life death j → In e j → IsDeath e.what
+    → death ≡ e.stamp.beat
+only_death life death j e q i d =
+    let died = died_is e.what d in
+    let Before : Entry → Type 0 = λ e. (is_died e.what ≡ false) × IsUntil life.left death e.stamp.beat in
+    ⊎_elim
+    (λ l. absurd (false≢true (sym (all_in Before e q.before q.alone l).0 ∙ died)))
+    (λ l. ⊎_elim
+    (λ (f : e ≡ q.last). sym q.in_beat ∙ ap (λ (e : Entry). e.stamp.beat) (sym f))
+    (λ b. absurd (false≢true (sym (lives_later life.back q.later e q.back b) ∙ died))) l)
+    (in_cases e q.before (q.last ∷ q.later) (subst (λ (es : List Entry). In e es) q.all i))
 
 -- a death that is written is one of the life
-death_is : (beats : ℕ) (death : Option ℕ) (j : List Entry) (e : Entry) → IsDeathOf (death_within beats death) j → In e j → IsDeath e.what → death ≡ Some e.stamp.beat
-death_is beats None j e h i d = absurd (lives_through j e h i d)
-death_is beats (Some death) j e h i d = ⊎_elim
+death_is : (beats : ℕ) (life : Lifetime) (death : Option ℕ) (j : List Entry) (e : Entry) → IsDeathOf life (death_within beats death) j → In e j
+    → IsDeath e.what → death ≡ Some e.stamp.beat
+death_is beats life None j e h i d = absurd (lives_through j e h i d)
+death_is beats life (Some death) j e h i d = ⊎_elim
     (λ (l : nat_lt death beats ≡ true).
-    let q : EndsInDeath death j = subst (λ (b : Bool). IsDeathOf (cond b (Some death) None) j) l h in
-    ap (λ (b : ℕ). Some b) (last_is_death death j e q i d))
-    (λ (g : nat_lt death beats ≡ false). absurd (lives_through j e (subst (λ (b : Bool). IsDeathOf (cond b (Some death) None) j) g h) i d))
+    let q : EndsInDeath life death j = subst (λ (b : Bool). IsDeathOf life (cond b (Some death) None) j) l h in
+    ap (λ (b : ℕ). Some b) (only_death life death j e q i d))
+    (λ (g : nat_lt death beats ≡ false). absurd (lives_through j e (subst (λ (b : Bool). IsDeathOf life (cond b (Some death) None) j) g h) i d))
     (cases_Bool (nat_lt death beats))
 
 died_at : (k : Kept) (cub : ℕ) (When : ℕ → Type 0) → IsKeptWell k → DiedAt k.course.plan.params k.journals cub When
@@ -89,7 +101,7 @@ died_at : (k : Kept) (cub : ℕ) (When : ℕ → Type 0) → IsKeptWell k → Di
 died_at k cub When w h =
     let e = any_by (λ (e : Entry). IsDeath e.what × When (time_of k.course.plan.params e.stamp.beat)) (journal_at k.journals cub) h in
     let s = stands_at k.journals cub e.0 e.1 in
-    (e.0.stamp.beat, death_is k.course.beats _ s.journal e.0 (w.timed cub s.journal s.at).death s.there e.2.0, e.2.1)
+    (e.0.stamp.beat, death_is k.course.beats (lifetime_of k.course cub) _ s.journal e.0 (w.timed cub s.journal s.at).death s.there e.2.0, e.2.1)
 
 who_died : (k : Kept) (cub n death : ℕ) → OnlyOneDies k cub → n < k.course.plan.params.cubs → (lifetime_of k.course n).death ≡ Some death → n ≡ cub
 who_died k cub n death only low is = ⊎_elim (λ e. e) (λ other. let none = only n low other in absurd (cc)) (cases_eq n cub)

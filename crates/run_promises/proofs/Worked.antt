@@ -2,7 +2,9 @@
 use Rattle.std.proofs.Common.{◌≡◌, ◌≢◌, ℕ, zero, suc, ◌+◌, ◌<◌, ◌≤◌, Bool, true, false, not, ◌&&◌, ◌||◌, IsTrue, nat_lt, cond, List, [], ◌∷◌, ◌++◌, filter, Option, Some, None, refl, sym, ap, subst, ◌∙◌, arith, ⊎_elim, inl, inr}
 use Rattle.std.specs.Prelude.{◌⊎◌, ◌==◌, slice_get, unwrap_or}
 use Rattle.std.specs.List.{AllByRecursion, list_any}
-use Rattle.std.proofs.lemmas.Bool.{cases_Bool, cases_eq, eqb-true, ne_eqb, false≢true, true≢false}
+use Rattle.std.proofs.lemmas.Bool.{cases_Bool, cases_eq, cases_lt, eqb-true, ne_eqb, false≢true, true≢false}
+use Rattle.std.proofs.lemmas.Bool.Decides.{nat_tests}
+use Rattle.tiger_base.specs.declared.message.Note.{Note}
 use Rattle.tiger_base.specs.declared.tenancy.Rec.{Rec}
 use Rattle.slot_plan.specs.Conditions.{IsPlan}
 use Rattle.slot_plan.specs.Samples.{small}
@@ -16,9 +18,11 @@ use Rattle.node_kit.specs.declared.course.OrderKind.TheVariants as kind
 use Rattle.node_kit.specs.declared.journal.What.{What}
 use Rattle.node_kit.specs.declared.journal.What.TheVariants as what
 use Rattle.node_kit.specs.declared.journal.Entry.{Entry}
-use Rattle.node_kit.specs.Life.{Lifetime, lifetime_of, acts}
+use Rattle.node_kit.specs.Life.{Lifetime, IsWholeLife, lifetime_of, acts}
 use Rattle.node_kit.specs.Links.{links_of, ends_of}
-use Rattle.run_facts.specs.Carried.{AreCarriedOn, sent_on, got_on}
+use Rattle.run_facts.specs.Carried.{AreFrontOn, AreCarriedBy, AreCarriedOn, sent_on, got_on}
+use Rattle.run_facts.specs.Events.{Dated}
+use Rattle.run_facts.specs.Plain.{HasWholeLives}
 use Rattle.run_facts.specs.Commanded.{IsCommanded, AreCommanded, is_finish_of, is_gone, starts_sent, starts_ordered, gone_in, gone_before, stop_ordered, places_got}
 use Rattle.run_facts.specs.Order.{Noted, beat_of, journal_of, order_of, IsInOrder}
 use Rattle.run_facts.proofs.Orders.{order_found}
@@ -292,22 +296,22 @@ none_got l a b c n j at = empty_by_test (got_on l j) (numbered_found (λ n j. is
 -- a link whose two ends are known carries, if it does between the journals there
 by_ends : (life : Lifetime) (l m n from to : ℕ) (sender receiver : List Entry) → ends_of (links_of small) l ≡ Some (m, n)
     → ends_of (links_of small) l ≡ Some (from, to) → slice_get journals from ≡ Some sender → slice_get journals to ≡ Some receiver
-    → AreCarriedOn 2 1600 life (sent_on l (unwrap_or (slice_get journals m) [])) (got_on l (unwrap_or (slice_get journals n) []))
-    → AreCarriedOn 2 1600 life (sent_on l sender) (got_on l receiver)
+    → AreFrontOn 2 1600 life (sent_on l (unwrap_or (slice_get journals m) [])) (got_on l (unwrap_or (slice_get journals n) []))
+    → AreFrontOn 2 1600 life (sent_on l sender) (got_on l receiver)
 by_ends life l m n from to sender receiver is e a b h =
     let both : Some (m, n) ≡ Some (from, to) = sym is ∙ e in
     let f : m ≡ from = ap (λ (o : Option (ℕ × ℕ)). (unwrap_or o (0, 0)).0) both in
     let t : n ≡ to = ap (λ (o : Option (ℕ × ℕ)). (unwrap_or o (0, 0)).1) both in
     let s : unwrap_or (slice_get journals m) [] ≡ sender = ap (λ (o : Option (List Entry)). unwrap_or o []) (ap (slice_get journals) f ∙ a) in
     let r : unwrap_or (slice_get journals n) [] ≡ receiver = ap (λ (o : Option (List Entry)). unwrap_or o []) (ap (slice_get journals) t ∙ b) in
-    subst (λ (x : List Entry). AreCarriedOn 2 1600 life (sent_on l x) (got_on l receiver)) s
-    (subst (λ (y : List Entry). AreCarriedOn 2 1600 life (sent_on l (unwrap_or (slice_get journals m) [])) (got_on l y)) r h)
+    subst (λ (x : List Entry). AreFrontOn 2 1600 life (sent_on l x) (got_on l receiver)) s
+    (subst (λ (y : List Entry). AreFrontOn 2 1600 life (sent_on l (unwrap_or (slice_get journals m) [])) (got_on l y)) r h)
 
-on_link : (life : Lifetime) (l from to : ℕ) (sender receiver : List Entry) → ends_of (links_of small) l ≡ Some (from, to)
-    → slice_get journals from ≡ Some sender → slice_get journals to ≡ Some receiver → AreCarriedOn 2 1600 life (sent_on l sender) (got_on l receiver)
+front_on_link : (life : Lifetime) (l from to : ℕ) (sender receiver : List Entry) → ends_of (links_of small) l ≡ Some (from, to)
+    → slice_get journals from ≡ Some sender → slice_get journals to ≡ Some receiver → AreFrontOn 2 1600 life (sent_on l sender) (got_on l receiver)
 unfolding on_samples
-on_link life l from to sender receiver e a b =
-    let Carries : ℕ → Type 0 = λ m. ends_of (links_of small) m ≡ Some (from, to) → AreCarriedOn 2 1600 life (sent_on m sender) (got_on m receiver) in
+front_on_link life l from to sender receiver e a b =
+    let Carries : ℕ → Type 0 = λ m. ends_of (links_of small) m ≡ Some (from, to) → AreFrontOn 2 1600 life (sent_on m sender) (got_on m receiver) in
     ⊎_elim
     (λ (z : 0 ≡ l). subst Carries z (λ f. by_ends life 0 16 0 from to sender receiver refl f a b (refl, omega arith, omega arith, tt)) e)
     (λ nz. ⊎_elim
@@ -322,6 +326,15 @@ on_link life l from to sender receiver e a b =
     (cases_eq 16 l))
     (cases_eq 1 l))
     (cases_eq 0 l)
+
+-- a receiver of a whole life does not return, so that what is carried is one front
+on_link : (life : Lifetime) (l from to : ℕ) (sender receiver : List Entry) → IsWholeLife life → ends_of (links_of small) l ≡ Some (from, to)
+    → slice_get journals from ≡ Some sender → slice_get journals to ≡ Some receiver → AreCarriedOn 2 1600 life (sent_on l sender) (got_on l receiver)
+on_link life l from to sender receiver whole e a b =
+    let ss : List (Dated Note) = sent_on l sender in
+    let gs : List (Dated Note) = got_on l receiver in
+    subst (λ (back : Option ℕ). AreCarriedBy 2 1600 life back ss gs) (sym (ap (λ (q : Lifetime). q.back) whole))
+    (front_on_link life l from to sender receiver e a b)
 
 -- ---- what is said of other entries than there are
 
@@ -365,13 +378,20 @@ meets_claims k plan s =
       };
     }
 
+-- no death cuts a cub off, and none returns
+pub whole_lives : (k : Kept) (plan : IsPlan small) (s : IsOfTen) → HasWholeLives (one_viewer k plan s).course
+whole_lives k plan s n = ⊎_elim
+    (λ (low : n < 8). of-eight (λ n. IsWholeLife (lifetime_of (one_viewer k plan s).course n)) refl refl refl refl refl refl refl refl n low)
+    (λ (high : 8 ≤ n). let beyond : nat_lt n 8 ≡ false = grind (arith, nat_tests, high) in rw beyond refl)
+    (cases_lt n 8)
+
 pub one_viewer_is_kept_well : (k : Kept) (plan : IsPlan small) (s : IsOfTen) → IsKeptWell (one_viewer k plan s)
 unfolding on_samples
 one_viewer_is_kept_well k plan s =
     let run = one_viewer k plan s in
     record {
       count = refl;
-      carried = (endings.carried run (links_of small) refl (λ l from to sender receiver e a b. on_link (lifetime_of run.course to) l from to sender receiver e a b)).0 refl;
+      carried = (endings.carried run (links_of small) refl (λ l from to sender receiver e a b. on_link (lifetime_of run.course to) l from to sender receiver (whole_lives k plan s to) e a b)).0 refl;
       timed = ((timely.timed run).0 refl).timed;
       claims = meets_claims k plan s;
     }
@@ -438,7 +458,7 @@ sound k plan s = record {
 }
 
 pub promises : (k : Kept) (plan : IsPlan small) (s : IsOfTen) → KeepsPromises (one_viewer k plan s)
-promises k plan s = kept_runs_keep_promises (one_viewer k plan s) (one_viewer_is_kept_well k plan s)
+promises k plan s = kept_runs_keep_promises (one_viewer k plan s) (one_viewer_is_kept_well k plan s) (whole_lives k plan s)
 
 turn : IsATurn small 2 1520
 unfolding time_of

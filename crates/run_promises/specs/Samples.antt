@@ -14,7 +14,7 @@ use Rattle.node_kit.specs.declared.journal.What.TheVariants as what
 use Rattle.run_facts.specs.Order.{Noted}
 use Rattle.node_kit.specs.declared.course.OrderKind.TheVariants as kind
 use Rattle.run_promises.specs.Waits.{Wait}
-use Rattle.run_model.specs.Samples.{IsOfTen, ten, all, at, ask_for, begins, starts, seated, sends, gets, first_block, put, took, gone, later, three}
+use Rattle.run_model.specs.Samples.{IsOfTen, ten, all, at, ask_for, begins, starts, seated, sends, gets, first_block, put, took, gone, later, three, of_none}
 
 -- the small plan with another play time, beginning of the window and silence after which a cub is believed dead
 abbrev pub small_with : ℕ → ℕ → ℕ → Params
@@ -44,7 +44,7 @@ abbrev pub window_at : ℕ → Params
 window_at a = small_with 1000000 a 1000000
 
 -- what is kept of a run of 1600 beats over the file of ten bytes, with these deaths, faults and orders, in which all
--- clocks show the true time
+-- lives are whole and all clocks show the true time
 abbrev pub run_of : Kept → IsPlan small → IsOfTen → List (Option ℕ) → List ReadFault → List Order → List Noted
     → Kept
 run_of other plan sound deaths faults orders log = record {
@@ -53,6 +53,8 @@ run_of other plan sound deaths faults orders log = record {
     beats = 1600;
     offsets = 0 ∷ 0 ∷ 0 ∷ 0 ∷ 0 ∷ 0 ∷ 0 ∷ 0 ∷ 0 ∷ [];
     deaths = deaths;
+    cuts = of_none;
+    backs = of_none;
     faults = faults;
     delay = delays.Fixed 1;
   };

@@ -6,8 +6,8 @@ use Rattle.tiger_run.specs.declared.words.Command.{Command}
 use Rattle.tiger_run.specs.declared.words.Command.TheVariants as command
 
 -- no plus and no leading zero
-abbrev pub IsPlain : List ℕ → Type 0
-IsPlain word = (slice_index word 0 ≢ 43) × (slice_index word 0 ≡ 48 → length word ≡ 1)
+abbrev pub IsPlainWord : List ℕ → Type 0
+IsPlainWord word = (slice_index word 0 ≢ 43) × (slice_index word 0 ≡ 48 → length word ≡ 1)
 
 -- the word is no number of 64 bits in decimal
 abbrev pub IsNoNumber : List ℕ → Type 0

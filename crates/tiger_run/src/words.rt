@@ -1,7 +1,7 @@
 //! The words of the command line.
 ghost use Rattle.std.specs.Prelude.{◌≡◌, ◌<◌, ◌↔◌, MatchOption, IsTrue, codes, length};
 ghost use Rattle.std.specs.Fmt.{decimal};
-ghost use Rattle.tiger_run.specs.Words.{IsPlain, IsNoNumber, AreWorkers, AreNoWorkers};
+ghost use Rattle.tiger_run.specs.Words.{IsPlainWord, IsNoNumber, AreWorkers, AreNoWorkers};
 ghost use Rattle.tiger_run.specs.Words.{IsMake, IsNoRun, IsNoMake, IsNoCommand, Asks, texts_of};
 
 /// What the words ask for.
@@ -16,7 +16,7 @@ pub enum Command<'a> {
 /// Whether no sign and no leading zero stands first.
 fn is_plain(word: &[u8]) -> bool
     requires { 0 < length word.now }
-    ensures { IsTrue result ↔ IsPlain word.now }
+    ensures { IsTrue result ↔ IsPlainWord word.now }
 {
     if word[0] == b'+' {
         false

@@ -1,7 +1,8 @@
 -- Which words are for `tiger` to answer, and which of them it refuses.
-use Rattle.std.proofs.Common.{◌≡◌, ℕ, List, [], length, get_or, ap}
+use Rattle.std.proofs.Common.{◌≡◌, ℕ, List, [], length, get_or, refl, ap, arith}
 use Rattle.tiger_run.specs.Words.{IsNoCommand}
-use Rattle.tiger_top.specs.Commands.{AreTigers}
+use Rattle.tiger_top.specs.Commands.{AreTigers, AsksJournal}
+use Rattle.tiger_top.specs.Samples.{journal_words}
 
 abbrev first_letter : List (List ℕ) → ℕ
 first_letter words = get_or (get_or words 0 []) 0 0
@@ -23,3 +24,7 @@ no_command words no_r no_m = record {
   no_run = λ name workers run. no_r (ap first_letter run.form);
   no_make = λ number make. no_m (ap first_letter make.form);
 }
+
+-- these words ask for the journals of a run by one worker
+pub one_worker : (name : List ℕ) → AsksJournal (journal_words name 1) name 1
+one_worker name = record { form = refl; some = omega arith; few = omega arith }

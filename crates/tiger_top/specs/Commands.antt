@@ -1,7 +1,8 @@
 -- Which words are a command beside those of `tiger`, and which are none at all.
-use Rattle.std.specs.Prelude.{◌≡◌, ℕ, ◌≤◌, List, [], ◌∷◌, codes}
+use Rattle.std.specs.Prelude.{◌≡◌, ℕ, ◌≤◌, List, [], ◌∷◌, codes, String, Vec}
 use Rattle.std.specs.Fmt.{decimal}
-use Rattle.tiger_run.specs.Words.{IsNoCommand, most_workers}
+use Rattle.std.specs.declared.alloc.Global.{Global}
+use Rattle.tiger_run.specs.Words.{IsNoCommand, most_workers, texts_of}
 use Rattle.tiger_top.specs.declared.commands.TopCommand.{TopCommand}
 use Rattle.tiger_top.specs.declared.commands.TopCommand.TheVariants as command
 
@@ -36,3 +37,17 @@ abbrev pub AsksTop : List (List ℕ) → TopCommand → Type 0
 AsksTop words command.Tiger = AreTigers words
 AsksTop words (command.Net name) = IsNet words name.now
 AsksTop words (command.Journal name workers) = AsksJournal words name.now workers
+
+-- ---- what is said of a call by the command that its words ask for
+
+-- if the words are for `tiger` to answer, this holds of their texts
+abbrev pub IfTigers : Vec (String Global) Global → (List (List ℕ) → Type 0) → Type 0
+IfTigers words P = AreTigers (texts_of words.items) → P (texts_of words.items)
+
+-- if they are `journal NAME W`, this holds of the name
+abbrev pub IfJournal : Vec (String Global) Global → (List ℕ → Type 0) → Type 0
+IfJournal words P = (name : List ℕ) (workers : ℕ) → AsksJournal (texts_of words.items) name workers → P name
+
+-- if they are `net NAME`, this holds of the name
+abbrev pub IfNet : Vec (String Global) Global → (List ℕ → Type 0) → Type 0
+IfNet words P = (name : List ℕ) → IsNet (texts_of words.items) name → P name

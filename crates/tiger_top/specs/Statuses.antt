@@ -1,5 +1,5 @@
 -- What is said of how a command ended.
-use Rattle.std.specs.Prelude.{ℕ, List, ◌++◌, None, Result, Ok, Err, codes}
+use Rattle.std.specs.Prelude.{◌≡◌, ℕ, List, ◌++◌, None, Result, Ok, Err, codes, ◌⊎◌}
 use Rattle.outside.specs.declared.sink.SinkFault.{SinkFault}
 use Rattle.outside.specs.declared.sink.SinkFault.TheVariants as faults
 use Rattle.tiger_net.specs.declared.stop.NetStop.{NetStop}
@@ -26,6 +26,13 @@ top_exit (tops.Net rule) = 13
 abbrev pub OfTiger : (Status → Type 0) → TopStatus → Type 0
 OfTiger P (tops.Tiger status) = P status
 OfTiger P (tops.Net rule) = ⊥
+
+-- all was done; and it was, unless there was no memory
+abbrev pub IsDone : TopStatus → Type 0
+IsDone status = status ≡ tops.Tiger statuses.Done
+
+abbrev pub IsDoneOrNoMemory : TopStatus → Type 0
+IsDoneOrNoMemory status = IsDone status ⊎ (status ≡ tops.Tiger statuses.NoMemory)
 
 -- the words or an input were refused
 abbrev pub IsTopRefusal : TopStatus → Type 0

@@ -1,6 +1,8 @@
 //! Worked rows of what the contract of `tiger_top` speaks of. They stand in contracts of functions without a body, so
 //! that a weakened definition is refused where the crate is checked without its tests.
-ghost use Rattle.std.specs.Prelude.{◌≡◌, ◌≢◌, ◌++◌, ◌<◌, ◌≤◌, ℕ, List, [], ◌∷◌, length, codes, None, Some, Ok, Err};
+ghost use Rattle.std.specs.Prelude.{◌≡◌, ◌≢◌, ◌++◌, ◌<◌, ◌≤◌, ℕ, List, [], ◌∷◌, length, codes};
+ghost use Rattle.std.specs.Prelude.{None, Some, Ok, Err, String, Vec};
+ghost use Rattle.std.specs.declared.alloc.Global.{Global};
 ghost use Rattle.std.specs.Fmt.{decimal};
 ghost use Rattle.outside.specs.Told.{bytes, absent, untold};
 ghost use Rattle.net_read.specs.declared.fault.NetFault.TheVariants as faults;
@@ -10,12 +12,14 @@ ghost use Rattle.net_run.specs.Text.{net_text};
 ghost use Rattle.tiger_net.specs.Lines.{most_plan};
 ghost use Rattle.tiger_net.specs.Samples.{net_name, net_source};
 ghost use Rattle.tiger_run.specs.Samples.{here, makes, runs};
+ghost use Rattle.tiger_run.specs.Words.{texts_of};
 ghost use Rattle.tiger_run.specs.declared.status.Status.TheVariants as statuses;
 ghost use Rattle.tiger_top.specs.declared.status.TopStatus.TheVariants as tops;
-ghost use Rattle.tiger_top.specs.Commands.{AreTigers, IsNoTopCommand};
+ghost use Rattle.tiger_top.specs.Commands.{AreTigers, IsNoTopCommand, IfTigers, IfJournal, IfNet};
 ghost use Rattle.tiger_top.specs.Ends.{IsRunnableNet, NetCause, NetWrote};
 ghost use Rattle.tiger_top.specs.Samples.{journal_words, nets, sunk};
-ghost use Rattle.tiger_top.specs.Statuses.{OfTiger, IsTopRefusal, top_line, top_exit};
+ghost use Rattle.tiger_top.specs.Statuses.{OfTiger, IsDone, IsDoneOrNoMemory, IsTopRefusal};
+ghost use Rattle.tiger_top.specs.Statuses.{top_line, top_exit};
 
 /// Words are for `tiger`, or they are `net NAME` or `journal NAME W`; and they may be no command of all these.
 pub fn commands()
@@ -31,6 +35,29 @@ pub fn commands()
     ensures no_refused_run { IsNoTopCommand (runs here 1) → ⊥ }
 {}
 
+/// What is said of calls for a command is true of the name that the words have, or of their texts, and nothing is said
+/// of calls for another command.
+pub fn calls()
+    ensures net { (words : Vec (String Global) Global) → texts_of words.items ≡ nets here →
+        IfNet words (λ name. name ≡ here) }
+    ensures no_net { (words : Vec (String Global) Global) → texts_of words.items ≡ runs here 1 →
+        IfNet words (λ _. ⊥) }
+    ensures net_name { (words : Vec (String Global) Global) → texts_of words.items ≡ nets here →
+        IfNet words (λ name. name ≡ []) → ⊥ }
+    ensures journal { (words : Vec (String Global) Global) →
+        texts_of words.items ≡ journal_words here 1 → IfJournal words (λ name. name ≡ here) }
+    ensures no_journal { (words : Vec (String Global) Global) →
+        texts_of words.items ≡ nets here → IfJournal words (λ _. ⊥) }
+    ensures journal_name { (words : Vec (String Global) Global) →
+        texts_of words.items ≡ journal_words here 1 → IfJournal words (λ name. name ≡ []) → ⊥ }
+    ensures tigers { (words : Vec (String Global) Global) → texts_of words.items ≡ runs here 1 →
+        IfTigers words (λ texts. texts ≡ runs here 1) }
+    ensures no_tigers { (words : Vec (String Global) Global) → texts_of words.items ≡ nets here →
+        IfTigers words (λ _. ⊥) }
+    ensures tigers_texts { (words : Vec (String Global) Global) →
+        texts_of words.items ≡ runs here 1 → IfTigers words (λ texts. texts ≡ []) → ⊥ }
+{}
+
 /// A broken rule of a plan has its line and its exit status, is a refusal, and is no status of `tiger`.
 pub fn rules()
     ensures line { top_line (tops.Net 2) ≡ codes "tiger: net rule " ++ decimal 2 ++ codes "\n" }
@@ -39,6 +66,16 @@ pub fn rules()
     ensures done { IsTopRefusal (tops.Tiger statuses.Done) → ⊥ }
     ensures no_tigers { OfTiger (λ status. status ≡ status) (tops.Net 2) → ⊥ }
     ensures tigers { OfTiger (λ status. status ≡ statuses.Done) (tops.Tiger statuses.Done) }
+{}
+
+/// All was done, or it was but for want of memory.
+pub fn dones()
+    ensures is { IsDone (tops.Tiger statuses.Done) }
+    ensures no_memory { IsDone (tops.Tiger statuses.NoMemory) → ⊥ }
+    ensures broken_rule { IsDone (tops.Net 2) → ⊥ }
+    ensures or_is { IsDoneOrNoMemory (tops.Tiger statuses.Done) }
+    ensures or_no_memory { IsDoneOrNoMemory (tops.Tiger statuses.NoMemory) }
+    ensures or_write_fault { IsDoneOrNoMemory (tops.Tiger statuses.WriteFault) → ⊥ }
 {}
 
 /// Why a plan is refused: it is not there, or breaks the first rule, or the second one.

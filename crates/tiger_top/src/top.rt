@@ -1,5 +1,5 @@
 //! The program as a function of its words, its files and its output.
-ghost use Rattle.std.specs.Prelude.{◌≡◌, ◌+◌, ◌≤◌, ◌↔◌, ◌⊎◌, ℕ, List, None, IsSomeAnd, IfSome};
+ghost use Rattle.std.specs.Prelude.{◌≡◌, ◌+◌, ◌≤◌, ◌↔◌, ℕ, None, IsSomeAnd, IfSome};
 ghost use Rattle.outside.specs.Written.{most_faults};
 ghost use Rattle.tiger_net.specs.Lines.{HasLines};
 ghost use Rattle.tiger_run.specs.Words.{IsMake, IsNoRun, texts_of};
@@ -12,8 +12,9 @@ ghost use Rattle.audit_text.specs.Texts.{text_of};
 ghost use Rattle.tiger_run.specs.Answers.{TellsAll, IsTheAnswer};
 ghost use Rattle.tiger_run.specs.declared.status.Status.TheVariants as statuses;
 ghost use Rattle.tiger_top.specs.declared.status.TopStatus.TheVariants as tops;
-ghost use Rattle.tiger_top.specs.Commands.{AreTigers, AsksJournal, IsNet, IsNoTopCommand};
-ghost use Rattle.tiger_top.specs.Statuses.{OfTiger, IsTopRefusal, status_of};
+ghost use Rattle.tiger_top.specs.Commands.{IfTigers, IfJournal, IfNet, IsNoTopCommand};
+ghost use Rattle.tiger_top.specs.Statuses.{OfTiger, IsDone, IsDoneOrNoMemory, IsTopRefusal};
+ghost use Rattle.tiger_top.specs.Statuses.{status_of};
 ghost use Rattle.tiger_top.specs.Ends.{IsRunnableNet, NetCause, NetWrote};
 
 use crate::commands::{TopCommand, top_command_in};
@@ -90,101 +91,86 @@ pub fn tiger_top<R: Threads + Wait + Sync, F: Files, K: Sink, G: Gate + Sync>(
     // ---- Of the words that `tiger` answers: what its own contract says of them.
 
     // All was written: the text that the words ask for, of what is kept.
-    ensures done { let texts = texts_of words.now.items in
-        AreTigers texts → result.status ≡ tops.Tiger statuses.Done → IsSomeAnd result.kept
-        (λ k. IsWritten (K.state out.old) (K.state out.new) (text_for texts k)) }
+    ensures done { IfTigers words.now (λ texts. IsDone result.status → IsSomeAnd result.kept
+        (λ k. IsWritten (K.state out.old) (K.state out.new) (text_for texts k))) }
 
     // What is kept is the run that the words ask for. If they name a scenario, it was read, and
     // then each of its files, with one call for each.
-    ensures ran { let texts = texts_of words.now.items in let old = F.state files.old in
-        AreTigers texts → IfSome result.kept (IsAskedRun G old (F.state files.new) texts) }
+    ensures ran { IfTigers words.now (λ texts. IfSome result.kept
+        (IsAskedRun G (F.state files.old) (F.state files.new) texts)) }
 
     // There is one answer: whatever else is kept of a run that the same is asked of, with whatever
     // number of workers, over files of which the same is told, is the same, and so is its text.
-    ensures one_answer { let texts = texts_of words.now.items in let old = F.state files.old in
-        AreTigers texts → TellsAll old.told →
-        IfSome result.kept (IsTheAnswer G old.told texts) }
+    ensures one_answer { let told = (F.state files.old).told in IfTigers words.now (λ texts.
+        TellsAll told → IfSome result.kept (IsTheAnswer G told texts)) }
 
     // Why an input was refused: it is the first, in the order of work, that is not as it should be.
-    ensures input { let texts = texts_of words.now.items in let old = F.state files.old in
-        AreTigers texts → OfTiger (InputCause texts old (F.state files.new)) result.status }
+    ensures input { IfTigers words.now (λ texts.
+        OfTiger (InputCause texts (F.state files.old) (F.state files.new)) result.status) }
 
     // What was written with each status, and what is kept.
-    ensures sink { let texts = texts_of words.now.items in let old = K.state out.old in
-        AreTigers texts →
-        OfTiger (EndsSink old (K.state out.new) (text_for texts) result.kept) result.status }
+    ensures sink { let old = K.state out.old in IfTigers words.now (λ texts.
+        OfTiger (EndsSink old (K.state out.new) (text_for texts) result.kept) result.status) }
 
     // Only a named scenario has files that are read.
-    ensures unread { let texts = texts_of words.now.items in
-        AreTigers texts → IsNoRun texts → files.new ≡ files.old }
+    ensures unread { IfTigers words.now (λ texts. IsNoRun texts → files.new ≡ files.old) }
 
     // A named scenario is run, unless something stands in its way.
-    ensures complete { let texts = texts_of words.now.items in let old = F.state files.old in
-        AreTigers texts → IsRunnableCommand old.told texts →
-        NoReadFailed old (F.state files.new) → NoPutFailed (K.state out.old) (K.state out.new) →
-        (result.status ≡ tops.Tiger statuses.Done) ⊎ (result.status ≡ tops.Tiger statuses.NoMemory) }
+    ensures complete { let old = F.state files.old in IfTigers words.now (λ texts.
+        IsRunnableCommand old.told texts → NoReadFailed old (F.state files.new) →
+        NoPutFailed (K.state out.old) (K.state out.new) → IsDoneOrNoMemory result.status) }
 
     // A made scenario is never refused.
-    ensures made { let texts = texts_of words.now.items in
-        AreTigers texts → (number : ℕ) → IsMake texts number → ¬ IsTopRefusal result.status }
+    ensures made { IfTigers words.now (λ texts.
+        (number : ℕ) → IsMake texts number → ¬ IsTopRefusal result.status) }
 
     // ---- Of `journal NAME W`.
 
     // What is kept is the run of the scenario that was read, and then each of its files.
-    ensures journal_ran { let old = F.state files.old in (name : List ℕ) (workers : ℕ) →
-        AsksJournal (texts_of words.now.items) name workers →
-        IfSome result.kept (IsNamedRun G old (F.state files.new) name) }
+    ensures journal_ran { IfJournal words.now (λ name. IfSome result.kept
+        (IsNamedRun G (F.state files.old) (F.state files.new) name)) }
 
     // There is one answer: whatever else is kept of a run of the scenario of this name, over files
     // of which the same is told, is the same, and so is its text.
-    ensures journal_answer { let told = (F.state files.old).told in (name : List ℕ) (workers : ℕ) →
-        AsksJournal (texts_of words.now.items) name workers → TellsAll told →
-        IfSome result.kept (IsTheNamedRun G told name) }
+    ensures journal_answer { let told = (F.state files.old).told in IfJournal words.now (λ name.
+        TellsAll told → IfSome result.kept (IsTheNamedRun G told name)) }
 
     // Why an input was refused.
-    ensures journal_input { let old = F.state files.old in (name : List ℕ) (workers : ℕ) →
-        AsksJournal (texts_of words.now.items) name workers →
-        OfTiger (EndsInputs name old (F.state files.new)) result.status }
+    ensures journal_input { IfJournal words.now (λ name.
+        OfTiger (EndsInputs name (F.state files.old) (F.state files.new)) result.status) }
 
     // What was written with each status, and what is kept: if all was done, the text of it.
-    ensures journal_sink { let old = K.state out.old in (name : List ℕ) (workers : ℕ) →
-        AsksJournal (texts_of words.now.items) name workers →
-        OfTiger (EndsSink old (K.state out.new) text_of result.kept) result.status }
+    ensures journal_sink { let old = K.state out.old in IfJournal words.now (λ name.
+        OfTiger (EndsSink old (K.state out.new) text_of result.kept) result.status) }
 
     // A scenario that is told is run, unless something stands in its way.
-    ensures journal_complete { let old = F.state files.old in (name : List ℕ) (workers : ℕ) →
-        AsksJournal (texts_of words.now.items) name workers → IsRunnable old.told name →
-        NoReadFailed old (F.state files.new) → NoPutFailed (K.state out.old) (K.state out.new) →
-        (result.status ≡ tops.Tiger statuses.Done) ⊎ (result.status ≡ tops.Tiger statuses.NoMemory) }
+    ensures journal_complete { let old = F.state files.old in IfJournal words.now (λ name.
+        IsRunnable old.told name → NoReadFailed old (F.state files.new) →
+        NoPutFailed (K.state out.old) (K.state out.new) → IsDoneOrNoMemory result.status) }
 
     // ---- Of `net NAME`.
 
     // All was written: the lines of the plan that was read, which is the told one if it is told.
-    ensures net_done { let old = F.state files.old in (name : List ℕ) →
-        IsNet (texts_of words.now.items) name → result.status ≡ tops.Tiger statuses.Done →
-        HasLines (old.told name) (IsWritten (K.state out.old) (K.state out.new)) }
+    ensures net_done { IfNet words.now (λ name. IsDone result.status → HasLines
+        ((F.state files.old).told name) (IsWritten (K.state out.old) (K.state out.new))) }
 
     // Why the plan was refused.
-    ensures net_input { let old = F.state files.old in (name : List ℕ) →
-        IsNet (texts_of words.now.items) name →
-        NetCause name old (F.state files.new) result.status }
+    ensures net_input { IfNet words.now (λ name.
+        NetCause name (F.state files.old) (F.state files.new) result.status) }
 
     // What was written with each status. No run of the ring is kept.
-    ensures net_sink { let told = (F.state files.old).told in (name : List ℕ) →
-        IsNet (texts_of words.now.items) name →
-        NetWrote (told name) (K.state out.old) (K.state out.new) result.status }
-    ensures net_kept { (name : List ℕ) →
-        IsNet (texts_of words.now.items) name → result.kept ≡ None }
+    ensures net_sink { let told = (F.state files.old).told in IfNet words.now (λ name.
+        NetWrote (told name) (K.state out.old) (K.state out.new) result.status) }
+    ensures net_kept { IfNet words.now (λ _. result.kept ≡ None) }
 
     // The file of the name was asked for once, and no other one.
-    ensures net_counted { (name : List ℕ) → IsNet (texts_of words.now.items) name →
-        MadeCalls 1 (F.state files.old) (F.state files.new) }
+    ensures net_counted { IfNet words.now (λ _.
+        MadeCalls 1 (F.state files.old) (F.state files.new)) }
 
     // A plan that is told is run, unless something stands in its way.
-    ensures net_complete { let old = F.state files.old in (name : List ℕ) →
-        IsNet (texts_of words.now.items) name → IsRunnableNet (old.told name) →
-        NoReadFailed old (F.state files.new) → NoPutFailed (K.state out.old) (K.state out.new) →
-        (result.status ≡ tops.Tiger statuses.Done) ⊎ (result.status ≡ tops.Tiger statuses.NoMemory) }
+    ensures net_complete { let old = F.state files.old in IfNet words.now (λ name.
+        IsRunnableNet (old.told name) → NoReadFailed old (F.state files.new) →
+        NoPutFailed (K.state out.old) (K.state out.new) → IsDoneOrNoMemory result.status) }
 {
     match top_command_in(words.as_slice()) {
         TopCommand::Tiger => by_tiger(tiger(rt, alloc, words, files, out, gate)),

@@ -1,14 +1,8 @@
 use Rattle.std.proofs.Common.{refl, arith}
 use Rattle.tiger_run.specs.Samples.{here}
 use Rattle.tiger_run.proofs.Samples.{some_workers, nothing_is_no_run, nothing_is_no_make}
-use Rattle.tiger_top.proofs.Asked.{tigers_by, no_command}
-use Rattle.std.specs.Prelude.{ℕ, List}
-use Rattle.tiger_top.specs.Commands.{AsksJournal}
-use Rattle.tiger_top.specs.Samples.{journal_words}
+use Rattle.tiger_top.proofs.Asked.{tigers_by, no_command, one_worker}
 use Rattle.tiger_top.proofs.rows.commands.Goals as goal
-
-one_worker : (name : List ℕ) → AsksJournal (journal_words name 1) name 1
-one_worker name = record { form = refl; some = omega arith; few = omega arith }
 
 pub returns-clause-run : goal.returns-clause-run
 returns-clause-run c = tigers_by _ (λ n f. omega (arith, n, f)) (λ n f. omega (arith, n, f))
