@@ -6,7 +6,8 @@ use Rattle.tiger_base.specs.declared.number.LinkNo.{LinkNo}
 use Rattle.tiger_base.specs.declared.message.Msg.{Msg}
 use Rattle.tiger_base.specs.declared.message.Msg.TheVariants.{Heartbeat}
 use Rattle.node_kit.specs.declared.outbox.Out.{Out}
-use Rattle.node_kit.specs.declared.outbox.Out.TheVariants.{Send}
+use Rattle.node_kit.specs.declared.journal.What.TheVariants.{Gone}
+use Rattle.node_kit.specs.declared.outbox.Out.TheVariants.{Act, Send}
 use Rattle.node_kit.specs.Links.{Links, ends_of}
 use Rattle.node_kit.specs.Steps.{Deed, Input}
 use Rattle.node_kit.specs.Steps.Input.{Take, Tick}
@@ -24,3 +25,12 @@ toy_step out relay s (Tick stamp) = record { outs = beat_on (out s); state = s }
 abbrev pub LeadFrom : Links → ℕ → Option LinkNo → Option LinkNo → Type 0
 LeadFrom links n out relay = ForSome out (λ l. (to : ℕ) × (ends_of links l.0 ≡ Some (n, to)))
     × ForSome relay (λ l. (to : ℕ) × (ends_of links l.0 ≡ Some (n, to)))
+
+-- a node in the place of cub 2 sends to cub 3: one message at each that it takes, and two at a tick, with an entry
+-- between them
+abbrev to_cub_3 : Out Msg
+to_cub_3 = Send (record { 0 = 28 }) Heartbeat
+
+abbrev pub talk : {S : Type 0} → S → Input Msg → Deed Msg S
+talk s (Take stamp link msg) = record { outs = to_cub_3 ∷ []; state = s }
+talk s (Tick stamp) = record { outs = to_cub_3 ∷ Act (Gone (record { 0 = 1 })) ∷ to_cub_3 ∷ []; state = s }

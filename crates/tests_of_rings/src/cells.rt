@@ -10,6 +10,7 @@ ghost use Rattle.node_kit.specs.Courses.{IsCourse};
 ghost use Rattle.node_kit.specs.Links.{IsOutLink};
 ghost use Rattle.node_kit.specs.Steps.{Deed, Input, Rests};
 ghost use Rattle.node_kit.specs.Steps.Input.{Take, Tick};
+ghost use Rattle.run_facts.specs.Plain.{HasWholeLives};
 ghost use Rattle.tests_of_rings.specs.declared.cells.Ping.{Ping};
 ghost use Rattle.tests_of_rings.specs.declared.cells.Echo.{Echo};
 
@@ -87,6 +88,7 @@ fn disk_cell<W: Named<Echo>>(
     out: OutEnd<Ping>,
 ) -> Result<Cell<Ping, Echo, W>, NoMemory>
     requires course { IsCourse course.now }
+    requires plain { HasWholeLives course.now }
     requires params { course.now.plan.params ≡ small }
     requires named { W.course ≡ course.now ∷ [] }
     requires opens { slice_get W.opening 8 ≡ Some (record { back = record { 0 = 48 } }) }
@@ -186,6 +188,7 @@ fn push_told<W: Named<Echo>, R: Wait>(
     text: &mut String,
 ) -> Result<(), NoMemory>
     requires course { IsCourse course.now }
+    requires plain { HasWholeLives course.now }
     requires params { course.now.plan.params ≡ small }
     requires named { W.course ≡ course.now ∷ [] }
     requires opens { slice_get W.opening 8 ≡ Some (record { back = record { 0 = 48 } }) }
@@ -211,6 +214,7 @@ fn push_opened<R: Wait>(
     text: &mut String,
 ) -> Result<(), NoMemory>
     requires course { IsCourse course.now }
+    requires plain { HasWholeLives course.now }
     requires params { course.now.plan.params ≡ small }
 {
     let (mut feed, into) = open_link(rt, alloc)?;

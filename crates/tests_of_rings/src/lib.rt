@@ -6,6 +6,8 @@
 #[cfg(test)]
 mod cells;
 #[cfg(test)]
+mod endings;
+#[cfg(test)]
 mod lives;
 #[cfg(test)]
 mod nodes;

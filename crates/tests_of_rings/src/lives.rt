@@ -86,6 +86,8 @@ fn course(alloc: Global) -> Result<Course, NoMemory> {
         beats: 10,
         offsets: Sequence::new(Vec::new(alloc)),
         deaths,
+        cuts: Sequence::new(Vec::new(alloc)),
+        backs: Sequence::new(Vec::new(alloc)),
         faults: Sequence::new(Vec::new(alloc)),
         delay: Delay::Fixed(1),
     })

@@ -106,6 +106,7 @@ fn tells(what: &What) -> bool {
             | What::Got(_, Note::Deschedule { .. })
             | What::Sent(_, Note::Deschedule { .. })
             | What::Died
+            | What::Returned
     )
 }
 

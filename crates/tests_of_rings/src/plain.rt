@@ -3,6 +3,7 @@ ghost use Rattle.std.specs.Prelude.{◌≤◌};
 ghost use Rattle.tiger_base.specs.Limits.{most_beats};
 ghost use Rattle.link_timing.specs.Clock.{FixedIsWithin};
 ghost use Rattle.node_kit.specs.Courses.{IsCourse};
+ghost use Rattle.run_facts.specs.Plain.{HasWholeLives};
 
 use crate::texts::push_ran;
 use crate::toys::{Toy, toy_course, toys};
@@ -17,7 +18,8 @@ use tiger_base::{Beat, Msg, NoMemory};
 
 /// What the toys write on one thread.
 pub fn plain_text(alloc: Global, course: &Course) -> Result<String, NoMemory>
-    requires { IsCourse course.now }
+    requires course { IsCourse course.now }
+    requires plain { HasWholeLives course.now }
 {
     let links = LinkTable::new(&course.plan);
     let nodes = toys(alloc, &links)?;

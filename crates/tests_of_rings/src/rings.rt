@@ -74,6 +74,8 @@ fn course(alloc: Global) -> Result<Course, NoMemory>
         beats: 300,
         offsets: Sequence::new(Vec::new(alloc)),
         deaths: Sequence::new(Vec::new(alloc)),
+        cuts: Sequence::new(Vec::new(alloc)),
+        backs: Sequence::new(Vec::new(alloc)),
         faults: Sequence::new(faults),
         delay: Delay::Fixed(1),
     })

@@ -3,6 +3,7 @@
 ghost use Rattle.std.specs.Prelude.{◌≡◌, ◌+◌, [], ⊤, IfOk, vec_len};
 ghost use Rattle.node_kit.specs.Links.{viewers_of};
 ghost use Rattle.node_kit.specs.Courses.{IsCourse};
+ghost use Rattle.run_facts.specs.Plain.{HasWholeLives};
 
 use crate::toys::toy_course;
 use link_timing::Delay;
@@ -77,7 +78,8 @@ fn run_told<G: Watch + Sync, R: Threads + Wait + Sync>(
     course: &Course,
     workers: u32,
 ) -> Result<(), Fail>
-    requires { IsCourse course.now }
+    requires course { IsCourse course.now }
+    requires plain { HasWholeLives course.now }
 {
     if workers == 0 || workers > 64 {
         return Err(Fail::new("no such number of workers"));

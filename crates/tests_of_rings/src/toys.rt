@@ -1,5 +1,5 @@
 //! Toy nodes, and a course for them: runs whose journals tests can write out.
-ghost use Rattle.std.specs.Prelude.{◌≡◌, ℕ, ◌+◌, ◌≤◌, ◌++◌, IfOk, OnOk, Some, slice_get, vec_len};
+ghost use Rattle.std.specs.Prelude.{◌≡◌, ℕ, ◌+◌, ◌≤◌, ◌++◌, IfOk, None, OnOk, Some, replicate, slice_get, vec_len};
 ghost use Rattle.std.specs.Bool.{OnTrue};
 ghost use Rattle.std.specs.Option.{ForSome};
 ghost use Rattle.tiger_base.specs.Limits.{most_beats};
@@ -7,6 +7,7 @@ ghost use Rattle.link_timing.specs.Clock.{FixedIsWithin};
 ghost use Rattle.node_kit.specs.Links.{ends_of, viewers_of};
 ghost use Rattle.node_kit.specs.Steps.{Rests};
 ghost use Rattle.node_kit.specs.Courses.{IsCourse};
+ghost use Rattle.run_facts.specs.Plain.{HasWholeLives};
 ghost use Rattle.tests_of_rings.specs.declared.toys.Toy.{Toy};
 ghost use Rattle.tests_of_rings.specs.Toys.{beat_on, toy_step, LeadFrom};
 
@@ -63,7 +64,14 @@ impl<'a> Node<Msg<'a>> for Toy {
     }
 }
 
-/// A course of a plan of eight cubs. The clock of cub 0 is 300 ahead, and that of the controller 7;
+/// A row that says nothing of each of eight cubs.
+fn of_none(alloc: Global) -> Result<Sequence<Option<u64>>, NoMemory>
+    ensures { IfOk result (λ row. row ≡ replicate 8 None) }
+{
+    Ok(Sequence::new(vec![in alloc; None; 8]?))
+}
+
+/// A course of a plan of eight cubs, in which all lives are whole. The clock of cub 0 is 300 ahead, and that of the controller 7;
 /// cub 2 dies in this beat, if in any.
 pub fn toy_course(
     alloc: Global,
@@ -78,6 +86,7 @@ pub fn toy_course(
     requires beats { beats ≤ most_beats }
     requires delay { FixedIsWithin delay 2 }
     ensures course { IfOk result IsCourse }
+    ensures plain { IfOk result HasWholeLives }
     ensures params { IfOk result (λ c. c.plan.params ≡ plan.params) }
 {
     let offsets: Vec<u64> = vec![in alloc; 300, 0, 0, 0, 0, 0, 0, 0, 7]?;
@@ -89,6 +98,8 @@ pub fn toy_course(
         beats,
         offsets: Sequence::new(offsets),
         deaths: Sequence::new(deaths),
+        cuts: of_none(alloc)?,
+        backs: of_none(alloc)?,
         faults: Sequence::new(Vec::new(alloc)),
         delay,
     })

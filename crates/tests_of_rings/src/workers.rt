@@ -3,6 +3,7 @@ ghost use Rattle.std.specs.Prelude.{◌≤◌};
 ghost use Rattle.tiger_base.specs.Limits.{most_beats};
 ghost use Rattle.link_timing.specs.Clock.{FixedIsWithin};
 ghost use Rattle.node_kit.specs.Courses.{IsCourse};
+ghost use Rattle.run_facts.specs.Plain.{HasWholeLives};
 
 use crate::plain::plain_text;
 use crate::texts::push_ran;
@@ -25,7 +26,8 @@ fn worked_text<R: Threads + Wait + Sync>(
     course: &Course,
     workers: u32,
 ) -> Result<String, Fail>
-    requires { IsCourse course.now }
+    requires course { IsCourse course.now }
+    requires plain { HasWholeLives course.now }
 {
     if workers == 0 || workers > 64 {
         return Err(Fail::new("no such number of workers"));
@@ -45,7 +47,8 @@ fn assert_worked<R: Abort + Threads + Wait + Sync>(
     workers: u32,
     wanted: &str,
 ) -> Result<(), Fail>
-    requires { IsCourse course.now }
+    requires course { IsCourse course.now }
+    requires plain { HasWholeLives course.now }
 {
     let text = worked_text(rt, alloc, course, workers)?;
     assert_eq!(rt; text.as_str(), wanted);
@@ -59,7 +62,8 @@ fn assert_all_agree<R: Abort + Threads + Wait + Sync>(
     alloc: Global,
     course: &Course,
 ) -> Result<(), Fail>
-    requires { IsCourse course.now }
+    requires course { IsCourse course.now }
+    requires plain { HasWholeLives course.now }
 {
     let wanted = plain_text(alloc, course)?;
     assert!(rt; wanted.as_str().contains("\n3: "));

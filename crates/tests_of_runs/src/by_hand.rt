@@ -183,6 +183,8 @@ pub fn kept(alloc: Global, beats: u64, catalogue: Catalogue, sample: Sample) -> 
             beats,
             offsets: Sequence::new(Vec::new(alloc)),
             deaths: Sequence::new(deaths),
+            cuts: Sequence::new(Vec::new(alloc)),
+            backs: Sequence::new(Vec::new(alloc)),
             faults: Sequence::new(Vec::new(alloc)),
             delay: Delay::Fixed(1),
         },

@@ -273,6 +273,91 @@ fn visits_are_split_from_a_limit_on(rt: HostRuntime) -> Result<(), Fail> {
 }
 
 #[test]
+fn visits_are_split_before_a_bound(rt: HostRuntime) -> Result<(), Fail> {
+    let calls = [
+        add(Kind::Backup, 3),
+        add(Kind::Backup, 4),
+        add(Kind::Backup, 5),
+        Call::Ask(Ask::Split(3500001, 5500000)),
+        Call::SplitBelow(3500001, 4500000),
+        Call::Ask(Ask::Split(3500001, 4500000)),
+        Call::Ask(Ask::Split(3500001, 4500001)),
+        Call::SplitBelow(3500001, 5500000),
+        Call::SplitBelow(3500001, 5500000),
+        Call::Ask(Ask::Split(3500001, 5500000)),
+        Call::Ask(Ask::Split(4000000, 5000000)),
+        Call::Ask(Ask::Split(3500000, 5500000)),
+        Call::Ask(Ask::Split(3500001, 5500001)),
+        Call::SplitBelow(3500001, 5500001),
+        Call::SplitBelow(3500001, 5500001),
+    ];
+    assert_told(
+        &rt,
+        answers_after(rt.alloc(), 0, 0, &calls),
+        "New; New; New; false true; none; true true; false true; visit 4; none; true true; \
+         true true; false true; false true; visit 5; none; ",
+    )
+}
+
+#[test]
+fn a_new_record_parts_what_is_split_before_a_bound(rt: HostRuntime) -> Result<(), Fail> {
+    let calls = [
+        add(Kind::Backup, 5),
+        Call::SplitBelow(1000000, 5500000),
+        Call::Ask(Ask::Split(1000000, 5500000)),
+        add(Kind::Backup, 3),
+        Call::Ask(Ask::Split(1000000, 3500000)),
+        Call::Ask(Ask::Split(1000000, 3500001)),
+        Call::SplitBelow(1000000, 5500000),
+        Call::SplitBelow(1000000, 5500000),
+        add(Kind::Backup, 4),
+        Call::Ask(Ask::Split(1000000, 4500000)),
+        Call::Ask(Ask::Split(4500001, 5500000)),
+        Call::Ask(Ask::Split(1000000, 5500000)),
+        Call::SplitBelow(2000000, 5500000),
+        Call::SplitBelow(5500000, 5500000),
+        Call::Split(0),
+    ];
+    assert_told(
+        &rt,
+        answers_after(rt.alloc(), 0, 0, &calls),
+        "New; none; true true; New; true true; false true; visit 3; none; New; true true; true true; \
+         false true; visit 4; none; visit 5; ",
+    )
+}
+
+#[test]
+fn first_visits_are_split_by_themselves(rt: HostRuntime) -> Result<(), Fail> {
+    let calls = [
+        add(Kind::Backup, 0),
+        add(Kind::Backup, 1),
+        Call::Add(Kind::Backup, 1, 3, 0),
+        Call::Add(Kind::Own, 2, 5, 0),
+        Call::Ask(Ask::Split(0, 0)),
+        Call::SplitFirst(500001),
+        Call::SplitFirst(500001),
+        Call::Ask(Ask::Split(500001, 500001)),
+        Call::Ask(Ask::Split(500000, 500000)),
+        Call::SplitFirst(0),
+        Call::SplitFirst(0),
+        add(Kind::Backup, 2),
+        Call::Ask(Ask::Split(0, 1500000)),
+        Call::Add(Kind::Backup, 3, 7, 0),
+        Call::Ask(Ask::Split(0, 1500000)),
+        Call::SplitFirst(0),
+        Call::Split(0),
+        Call::Split(0),
+        Call::Split(0),
+    ];
+    assert_told(
+        &rt,
+        answers_after(rt.alloc(), 0, 0, &calls),
+        "New; New; New; New; true false; visit 0; none; true true; true false; visit 0; none; New; \
+         false true; New; false false; visit 0; visit 1; visit 2; none; ",
+    )
+}
+
+#[test]
 fn records_are_taken_once_they_are_due(rt: HostRuntime) -> Result<(), Fail> {
     let calls = [
         add(Kind::Own, 3),
