@@ -1,6 +1,6 @@
 -- What a toy node does and where it stands, by the links that it may have: one for what its ticks send, and one for what
 -- it passes on.
-use Rattle.std.specs.Prelude.{◌≡◌, ℕ, List, [], ◌∷◌, Option, Some}
+use Rattle.std.specs.Prelude.{◌≡◌, ℕ, Bool, List, [], ◌∷◌, Option, Some, if◌then◌else◌}
 use Rattle.std.specs.Option.{ForSome, option_map_or}
 use Rattle.tiger_base.specs.declared.number.LinkNo.{LinkNo}
 use Rattle.tiger_base.specs.declared.message.Msg.{Msg}
@@ -16,10 +16,16 @@ use Rattle.node_kit.specs.Steps.Input.{Take, Tick}
 abbrev pub beat_on : Option LinkNo → List (Out Msg)
 beat_on link = option_map_or (λ l. Send l Heartbeat ∷ []) link []
 
--- a message is passed on, and a tick sends, each if there is a link for that
-abbrev pub toy_step : {S : Type 0} → (S → Option LinkNo) → (S → Option LinkNo) → S → Input Msg → Deed Msg S
-toy_step out relay s (Take stamp link msg) = record { outs = beat_on (relay s); state = s }
-toy_step out relay s (Tick stamp) = record { outs = beat_on (out s); state = s }
+-- the same, or two of them
+abbrev pub beats_on : Bool → Option LinkNo → List (Out Msg)
+beats_on twice link =
+    option_map_or (λ l. if twice then Send l Heartbeat ∷ Send l Heartbeat ∷ [] else Send l Heartbeat ∷ []) link []
+
+-- a message is passed on, and a tick sends once or twice, each if there is a link for that
+abbrev pub toy_step : {S : Type 0} → (S → Option LinkNo) → (S → Option LinkNo) → (S → Bool) → S → Input Msg
+    → Deed Msg S
+toy_step out relay twice s (Take stamp link msg) = record { outs = beat_on (relay s); state = s }
+toy_step out relay twice s (Tick stamp) = record { outs = beats_on (twice s) (out s); state = s }
 
 -- the links lead from node n
 abbrev pub LeadFrom : Links → ℕ → Option LinkNo → Option LinkNo → Type 0

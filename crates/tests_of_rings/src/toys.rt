@@ -9,7 +9,7 @@ ghost use Rattle.node_kit.specs.Steps.{Rests};
 ghost use Rattle.node_kit.specs.Courses.{IsCourse};
 ghost use Rattle.run_facts.specs.Plain.{HasWholeLives};
 ghost use Rattle.tests_of_rings.specs.declared.toys.Toy.{Toy};
-ghost use Rattle.tests_of_rings.specs.Toys.{beat_on, toy_step, LeadFrom};
+ghost use Rattle.tests_of_rings.specs.Toys.{beat_on, beats_on, toy_step, LeadFrom};
 
 use link_timing::Delay;
 use node_kit::{Course, LinkTable, Node, Out, Outbox};
@@ -17,14 +17,16 @@ use slot_plan::Plan;
 use std::alloc::Global;
 use tiger_base::{Beat, LinkNo, Msg, NoMemory, NodeNo, Sequence, Stamp};
 
-/// A node that sends a heartbeat at each tick, and one at each message that it takes, if it has
-/// links for them.
+/// A node that sends a heartbeat or two at each tick, and one at each message that it takes, if it
+/// has links for them.
 #[derive(Drop)]
 pub struct Toy {
     /// The link of the heartbeats of its ticks.
     out: Option<LinkNo>,
     /// The link of the heartbeats of what it takes.
     relay: Option<LinkNo>,
+    /// Whether each tick sends two.
+    twice: bool,
 }
 
 fn send_beat<'a>(link: Option<LinkNo>, out: &mut Outbox<Msg<'a>>) -> Result<(), NoMemory>
@@ -36,15 +38,34 @@ fn send_beat<'a>(link: Option<LinkNo>, out: &mut Outbox<Msg<'a>>) -> Result<(), 
     }
 }
 
+fn send_beats<'a>(
+    twice: bool,
+    link: Option<LinkNo>,
+    out: &mut Outbox<Msg<'a>>,
+) -> Result<(), NoMemory>
+    ensures { OnOk result (out.new ≡ out.old ++ beats_on twice link) }
+{
+    match link {
+        Some(link) => {
+            if twice {
+                out.push(Out::Send(link, Msg::Heartbeat))?;
+            }
+            out.push(Out::Send(link, Msg::Heartbeat))
+        }
+        None => Ok(()),
+    }
+}
+
 impl<'a> Node<Msg<'a>> for Toy {
     ghost use Rattle.node_kit.specs.Links.{links_of};
 
-    ghost step = { toy_step (λ s. s.out) (λ s. s.relay) };
+    ghost step = { toy_step (λ s. s.out) (λ s. s.relay) (λ s. s.twice) };
 
     ghost stands_at = { λ s p n. LeadFrom (links_of p) n s.out s.relay };
 
     fn rests(&self, _stamp: Stamp) -> bool
-        ensures { OnTrue result (Rests (toy_step (λ (s : Toy). s.out) (λ s. s.relay)) _stamp self.now) }
+        ensures { OnTrue result
+            (Rests (toy_step (λ (s : Toy). s.out) (λ s. s.relay) (λ s. s.twice)) _stamp self.now) }
     {
         false
     }
@@ -60,7 +81,7 @@ impl<'a> Node<Msg<'a>> for Toy {
     }
 
     fn tick(&mut self, _stamp: Stamp, out: &mut Outbox<Msg<'a>>) -> Result<(), NoMemory> {
-        send_beat(self.out, out)
+        send_beats(self.twice, self.out, out)
     }
 }
 
@@ -105,12 +126,68 @@ pub fn toy_course(
     })
 }
 
-fn toy_at(links: &LinkTable, node: NodeNo) -> Toy
+/// A course that breaks three lives, and else is as `toy_course` makes it: the death of cub 0 cuts
+/// it off in beat 5, where it may still send so many messages; cub 1 dies in beat 2 and returns in
+/// beat 4; and cub 2 dies in beat 6.
+pub fn broken_course(
+    alloc: Global,
+    plan: Plan,
+    beats: u64,
+    delay: Delay,
+    left: u64,
+) -> Result<Course, NoMemory>
+    requires cubs { plan.params.cubs ≡ 8 }
+    requires skew { plan.params.skew ≡ 4000 }
+    requires most { plan.params.delay ≡ 2 }
+    requires beats { beats ≤ most_beats }
+    requires delay { FixedIsWithin delay 2 }
+    ensures course { IfOk result IsCourse }
+    ensures params { IfOk result (λ c. c.plan.params ≡ plan.params) }
+{
+    let mut course = toy_course(alloc, plan, beats, delay, None)?;
+    let deaths: Vec<Option<Beat>> = vec![in alloc;
+        Some(5),
+        Some(2),
+        Some(6),
+        None,
+        None,
+        None,
+        None,
+        None,
+    ]?;
+    let cuts: Vec<Option<u64>> = vec![in alloc;
+        Some(left),
+        None,
+        None,
+        None,
+        None,
+        None,
+        None,
+        None,
+    ]?;
+    let backs: Vec<Option<Beat>> = vec![in alloc;
+        None,
+        Some(4),
+        None,
+        None,
+        None,
+        None,
+        None,
+        None,
+    ]?;
+    course.deaths = Sequence::new(deaths);
+    course.cuts = Sequence::new(cuts);
+    course.backs = Sequence::new(backs);
+    Ok(course)
+}
+
+fn toy_at(links: &LinkTable, node: NodeNo, twice: bool) -> Toy
     ensures { LeadFrom links.now node.0 result.out result.relay }
 {
     Toy {
         out: out_of(links, node),
         relay: relay_of(links, node),
+        twice: twice && node.0 == 0,
     }
 }
 
@@ -136,15 +213,16 @@ fn relay_of(links: &LinkTable, node: NodeNo) -> Option<LinkNo>
 }
 
 /// A toy for each node of the small plan. Cub 0 and the controller, which is node 16, send to cub
-/// 1, and cub 1 to cub 2; what cub 1 takes it passes on to cub 2, and cub 2 to cub 3.
-pub fn toys(alloc: Global, links: &LinkTable) -> Result<Vec<Toy>, NoMemory>
+/// 1, and cub 1 to cub 2; what cub 1 takes it passes on to cub 2, and cub 2 to cub 3. If wanted,
+/// each tick of cub 0 sends twice.
+pub fn toys(alloc: Global, links: &LinkTable, twice: bool) -> Result<Vec<Toy>, NoMemory>
     ensures count { IfOk result (λ r. vec_len r ≡ viewers_of links.now + 1) }
     ensures stand { IfOk result (λ r. (n : ℕ) (s : Toy) → slice_get r.items n ≡ Some s
         → LeadFrom links.now n s.out s.relay) }
 {
     let mut toys = Vec::new(alloc);
     for node in 0..links.nodes() {
-        toys.push(toy_at(links, NodeNo(node)))?;
+        toys.push(toy_at(links, NodeNo(node), twice))?;
     }
     Ok(toys)
 }

@@ -3,11 +3,10 @@ ghost use Rattle.std.specs.Prelude.{◌≤◌};
 ghost use Rattle.tiger_base.specs.Limits.{most_beats};
 ghost use Rattle.link_timing.specs.Clock.{FixedIsWithin};
 ghost use Rattle.node_kit.specs.Courses.{IsCourse};
-ghost use Rattle.run_facts.specs.Plain.{HasWholeLives};
 
 use crate::plain::plain_text;
 use crate::texts::push_ran;
-use crate::toys::{Toy, toy_course, toys};
+use crate::toys::{Toy, broken_course, toy_course, toys};
 use link_timing::Delay;
 use node_kit::{Course, LinkTable};
 use ring_workers::run_workers;
@@ -27,13 +26,12 @@ fn worked_text<R: Threads + Wait + Sync>(
     workers: u32,
 ) -> Result<String, Fail>
     requires course { IsCourse course.now }
-    requires plain { HasWholeLives course.now }
 {
     if workers == 0 || workers > 64 {
         return Err(Fail::new("no such number of workers"));
     }
     let links = LinkTable::new(&course.plan);
-    let nodes = toys(alloc, &links)?;
+    let nodes = toys(alloc, &links, true)?;
     let ran = run_workers::<Msg<'_>, Toy, R>(rt, alloc, nodes, &links, course, workers)?;
     let mut text = String::new(alloc);
     push_ran(&ran, &mut text)?;
@@ -48,26 +46,24 @@ fn assert_worked<R: Abort + Threads + Wait + Sync>(
     wanted: &str,
 ) -> Result<(), Fail>
     requires course { IsCourse course.now }
-    requires plain { HasWholeLives course.now }
 {
     let text = worked_text(rt, alloc, course, workers)?;
     assert_eq!(rt; text.as_str(), wanted);
     Ok(())
 }
 
-/// Asserts that 1, 2, 4 and 8 workers make the toys write what they write on one thread, and that
-/// cub 3 writes something.
+/// Asserts that 1 to 8 workers make the toys write what they write on one thread, and that cub 3
+/// writes something.
 fn assert_all_agree<R: Abort + Threads + Wait + Sync>(
     rt: &R,
     alloc: Global,
     course: &Course,
 ) -> Result<(), Fail>
     requires course { IsCourse course.now }
-    requires plain { HasWholeLives course.now }
 {
-    let wanted = plain_text(alloc, course)?;
+    let wanted = plain_text(alloc, course, true)?;
     assert!(rt; wanted.as_str().contains("\n3: "));
-    for workers in [1, 2, 4, 8] {
+    for workers in [1, 2, 3, 4, 5, 6, 7, 8] {
         assert_worked(rt, alloc, course, workers, wanted.as_str())?;
     }
     Ok(())
@@ -104,4 +100,29 @@ fn so_they_do_with_a_longer_delay(rt: HostRuntime) -> Result<(), Fail> {
 #[test]
 fn so_they_do_with_drawn_delays(rt: HostRuntime) -> Result<(), Fail> {
     assert_agree(&rt, rt.alloc(), 60, Delay::Drawn(7), None)
+}
+
+/// The same of 8 beats in which three lives are broken.
+fn assert_broken_agree<R: Abort + Threads + Wait + Sync>(
+    rt: &R,
+    alloc: Global,
+    delay: Delay,
+    left: u64,
+) -> Result<(), Fail>
+    requires { FixedIsWithin delay 2 }
+{
+    let course = broken_course(alloc, small_plan(), 8, delay, left)?;
+    assert_all_agree(rt, alloc, &course)
+}
+
+/// A cub is cut off with one of the two messages of its tick sent, one dies and one returns.
+#[test]
+fn so_they_do_if_a_cub_is_cut_off_and_one_returns(rt: HostRuntime) -> Result<(), Fail> {
+    assert_broken_agree(&rt, rt.alloc(), Delay::Fixed(1), 1)
+}
+
+/// The same with more left than its tick sends, and messages that take two beats.
+#[test]
+fn so_they_do_if_the_cut_leaves_all(rt: HostRuntime) -> Result<(), Fail> {
+    assert_broken_agree(&rt, rt.alloc(), Delay::Fixed(2), 9)
 }
