@@ -272,36 +272,24 @@ impl Given {
         pad(&mut given.deaths, given.params.cubs)?;
         pad(&mut given.cuts, given.params.cubs)?;
         pad(&mut given.backs, given.params.cubs)?;
-        let Given {
-            params,
-            beats,
-            delay,
-            offsets,
-            deaths,
-            cuts,
-            backs,
-            faults,
-            files,
-            orders,
-            ..
-        } = given;
+        let params = given.params;
         Ok(Kept {
             course: Course {
                 plan: Plan { params },
-                beats,
-                offsets,
-                deaths,
-                cuts,
-                backs,
-                faults,
-                delay,
+                beats: given.beats,
+                offsets: given.offsets,
+                deaths: given.deaths,
+                cuts: given.cuts,
+                backs: given.backs,
+                faults: given.faults,
+                delay: given.delay,
             },
             catalogue: Catalogue {
-                files,
+                files: given.files,
                 block: params.block,
                 disks: (params.cubs * params.disks) as u32,
             },
-            orders,
+            orders: given.orders,
             journals,
             digests,
         })
