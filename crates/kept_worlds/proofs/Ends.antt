@@ -25,9 +25,9 @@ use Rattle.kept_worlds.proofs.Gets.{takes_behind}
 use Rattle.kept_worlds.proofs.Naming.{named}
 
 -- what a node does in a beat, by its takes
-abbrev pub acts_by : {M : Type 0} → Course → ℕ → ℕ → List (NodeEvent M) → List (NodeEvent M) → List Act
-acts_by c n b before es =
-    map (λ (g : Dated Act). g.item) (filter (λ g. g.beat == b) (takes_behind before es)) ++ end_of_beat c n b
+abbrev pub acts_by : {M : Type 0} → (ℕ → ℕ) → Course → ℕ → ℕ → List (NodeEvent M) → List (NodeEvent M) → List Act
+acts_by lost c n b before es =
+    map (λ (g : Dated Act). g.item) (filter (λ g. g.beat == b) (takes_behind lost before es)) ++ end_of_beat c n b
 
 -- behind a death nothing happens
 idle-behind : (life : Lifetime) → IsWholeLife life → (a b : ℕ) → a < b → dies life a ≡ true
@@ -45,27 +45,27 @@ idle-behind life whole a b later dead =
         (acts-mortal x b ∙ idle, dies-mortal x b ∙ over)
 
 -- of later beats nothing is named, and nothing taken
-named-none : {M : Type 0} (n b : ℕ) (before es : List (NodeEvent M))
+named-none : {M : Type 0} (lost : ℕ → ℕ) (n b : ℕ) (before es : List (NodeEvent M))
     → AllByRecursion (λ (e : NodeEvent M). b < (stamp_at e).beat) es
-    → filter (λ e. e.stamp.beat == b) (named n before es) ≡ []
-named-none n b before [] later = refl
-named-none n b before (e ∷ es) later =
+    → filter (λ e. e.stamp.beat == b) (named lost n before es) ≡ []
+named-none lost n b before [] later = refl
+named-none lost n b before (e ∷ es) later =
     let low = later.0 in
     let other : ((stamp_at e).beat == b) ≡ false = grind (arith, nat_tests, low) in
-    rw other (named-none n b (before ++ e ∷ []) es later.1)
+    rw other (named-none lost n b (before ++ e ∷ []) es later.1)
 
-takes-none : {M : Type 0} (b : ℕ) (before es : List (NodeEvent M))
+takes-none : {M : Type 0} (lost : ℕ → ℕ) (b : ℕ) (before es : List (NodeEvent M))
     → AllByRecursion (λ (e : NodeEvent M). b < (stamp_at e).beat) es
-    → filter (λ (g : Dated Act). g.beat == b) (takes_behind before es) ≡ []
-takes-none b before [] later = refl
-takes-none {M} b before (Does (Take s k m) ∷ es) later =
+    → filter (λ (g : Dated Act). g.beat == b) (takes_behind lost before es) ≡ []
+takes-none lost b before [] later = refl
+takes-none {M} lost b before (Does (Take s k m) ∷ es) later =
     let low = later.0 in
     let other : (s.beat == b) ≡ false = grind (arith, nat_tests, low) in
-    rw other (takes-none b (before ++ Does (Take s k m) ∷ []) es later.1)
-takes-none b before (Does (Tick s) ∷ es) later = takes-none b (before ++ Does (Tick s) ∷ []) es later.1
-takes-none b before (Ends i sends ∷ es) later = takes-none b (before ++ Ends i sends ∷ []) es later.1
-takes-none b before (Dies s ∷ es) later = takes-none b (before ++ Dies s ∷ []) es later.1
-takes-none b before (Returns s ∷ es) later = takes-none b (before ++ Returns s ∷ []) es later.1
+    rw other (takes-none lost b (before ++ Does (Take s k m) ∷ []) es later.1)
+takes-none lost b before (Does (Tick s) ∷ es) later = takes-none lost b (before ++ Does (Tick s) ∷ []) es later.1
+takes-none lost b before (Ends i sends ∷ es) later = takes-none lost b (before ++ Ends i sends ∷ []) es later.1
+takes-none lost b before (Dies s ∷ es) later = takes-none lost b (before ++ Dies s ∷ []) es later.1
+takes-none lost b before (Returns s ∷ es) later = takes-none lost b (before ++ Returns s ∷ []) es later.1
 
 shown : (c : Course) (n b : ℕ) (s : Stamp) (a : Act) → s.reading ≡ reading_of c n s.beat → s.beat ≡ b
     → ◌≡◌ {A = Event} (record { stamp = s; act = a }) (event_in c n b a)
@@ -77,14 +77,14 @@ shown c n b s a reads now =
 both-same : {X : Type 0} (x y : X) (xs ys : List X) → x ≡ y → xs ≡ ys → x ∷ xs ≡ y ∷ ys
 both-same x y xs ys head tail = rw (head, tail) refl
 
-module _ {M : Type 0} (c : Course) (whole : HasWholeLives c) (n : ℕ) where
+module _ {M : Type 0} (lost : ℕ → ℕ) (c : Course) (whole : HasWholeLives c) (n : ℕ) where
   -- the rest of a node's events, behind these
   abbrev Rest : ℕ → List (NodeEvent M) → Type 0
   Rest t es = IsRest (reading_of c n) (lifetime_of c n) c.beats t es
 
   -- a tick in a beat is the last of it
   ticked-at : (t b : ℕ) (before : List (NodeEvent M)) (s : Stamp) (es : List (NodeEvent M)) → Rest t (Does (Tick s) ∷ es)
-      → t ≡ b → filter (λ e. e.stamp.beat == b) (named n before (Does (Tick s) ∷ es)) ≡ map (event_in c n b) (acts_by c n b before (Does (Tick s) ∷ es))
+      → t ≡ b → filter (λ e. e.stamp.beat == b) (named lost n before (Does (Tick s) ∷ es)) ≡ map (event_in c n b) (acts_by lost c n b before (Does (Tick s) ∷ es))
   ticked-at t b before s es h same =
       let e : NodeEvent M = Does (Tick s) in
       let now : s.beat ≡ b = h.counted.0 ∙ same in
@@ -93,11 +93,11 @@ module _ {M : Type 0} (c : Course) (whole : HasWholeLives c) (n : ℕ) where
       let rest = rest-behind (reading_of c n) (lifetime_of c n) c.beats t (Tick s) es h in
       let later = all-weaker (λ (f : NodeEvent M). suc t ≤ (stamp_at f).beat) (λ f. b < (stamp_at f).beat) es
       (λ f low. omega (arith, low, same)) (rising-counted (suc t) es rest.counted).0 in
-      rw (hit, named-none n b (before ++ e ∷ []) es later, takes-none b (before ++ e ∷ []) es later, live)
+      rw (hit, named-none lost n b (before ++ e ∷ []) es later, takes-none lost b (before ++ e ∷ []) es later, live)
       (ap (λ q. q ∷ []) (shown c n b s (act.Tick (record { 0 = n })) h.stamped.0 now))
 
   died-at : (t b : ℕ) (before : List (NodeEvent M)) (s : Stamp) (es : List (NodeEvent M)) → Rest t (Dies s ∷ es)
-      → t ≡ b → filter (λ e. e.stamp.beat == b) (named n before (Dies s ∷ es)) ≡ map (event_in c n b) (acts_by c n b before (Dies s ∷ es))
+      → t ≡ b → filter (λ e. e.stamp.beat == b) (named lost n before (Dies s ∷ es)) ≡ map (event_in c n b) (acts_by lost c n b before (Dies s ∷ es))
   died-at t b before s es h same =
       let now : s.beat ≡ b = h.counted.0 ∙ same in
       let hit : (s.beat == b) ≡ true = eq-eqb s.beat b now in
@@ -106,7 +106,7 @@ module _ {M : Type 0} (c : Course) (whole : HasWholeLives c) (n : ℕ) where
       rw (hit, h.ended.0 refl, idle, dead) (ap (λ q. q ∷ []) (shown c n b s (act.Die (record { 0 = n })) h.stamped.0 now))
 
   dead-by : (t b : ℕ) (before : List (NodeEvent M)) (s : Stamp) (es : List (NodeEvent M)) → Rest t (Dies s ∷ es)
-      → t < b → filter (λ e. e.stamp.beat == b) (named n before (Dies s ∷ es)) ≡ map (event_in c n b) (acts_by c n b before (Dies s ∷ es))
+      → t < b → filter (λ e. e.stamp.beat == b) (named lost n before (Dies s ∷ es)) ≡ map (event_in c n b) (acts_by lost c n b before (Dies s ∷ es))
   dead-by t b before s es h later =
       let now = h.counted.0 in
       let miss : (s.beat == b) ≡ false = grind (arith, nat_tests, now, later) in
@@ -115,14 +115,14 @@ module _ {M : Type 0} (c : Course) (whole : HasWholeLives c) (n : ℕ) where
 
   -- so it is of each beat that is not over
   pub named-acts : (t b : ℕ) (before es : List (NodeEvent M)) → Rest t es → t ≤ b → b < c.beats
-      → filter (λ e. e.stamp.beat == b) (named n before es) ≡ map (event_in c n b) (acts_by c n b before es)
+      → filter (λ e. e.stamp.beat == b) (named lost n before es) ≡ map (event_in c n b) (acts_by lost c n b before es)
   named-acts t b before [] h low high = let all = h.whole tt in absurd (omega (arith, all, low, high))
   named-acts t b before (Does (Take s k m) ∷ es) h low high =
       let e : NodeEvent M = Does (Take s k m) in
       let rest = named-acts t b (before ++ e ∷ []) es (rest-behind (reading_of c n) (lifetime_of c n) c.beats t (Take s k m) es h) low high in
       ⊎_elim
       (λ (hit : (s.beat == b) ≡ true).
-      let first = shown c n b s (act_of before n e) h.stamped.0 (eqb-true _ _ hit) in
+      let first = shown c n b s (act_of lost before n e) h.stamped.0 (eqb-true _ _ hit) in
       rw hit (both-same _ _ _ _ first rest))
       (λ (miss : (s.beat == b) ≡ false). rw miss rest)
       (cases_Bool (s.beat == b))

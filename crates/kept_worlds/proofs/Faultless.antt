@@ -12,7 +12,7 @@ use Rattle.run_facts.specs.Events.{Dated}
 use Rattle.ring_world.specs.declared.event.Act.TheVariants as act
 use Rattle.ring_world.specs.declared.event.Event.{Event}
 use Rattle.ring_world.specs.Machine.{Machine, Being, Way, oldest, node_of}
-use Rattle.ring_world.specs.Faults.{beat_fault, is_behind, least_behind, missed_fault, has_done, node_fault, is_next, take_fault, late_in, least_late, late_fault, is_dead, cub_before, cub_after, beside_fault, death_fault, fault_of}
+use Rattle.ring_world.specs.Faults.{beat_fault, is_behind, least_behind, missed_fault, life_fault, has_done, node_fault, is_next, take_fault, late_in, least_late, late_fault, has_died, cub_before, cub_after, beside_fault, death_fault, fault_of}
 
 pub none-beat : (now b : ℕ) → now ≤ b → b ≤ suc now → beat_fault now b ≡ None
 none-beat now b low high = ⊎_elim
@@ -45,18 +45,18 @@ none-missed {S} now b bs level = ⊎_elim
     (λ (other : (b == suc now) ≡ false). rw other refl)
     (cases_Bool (b == suc now))
 
-pub none-node : {S : Type 0} (p : Params) (n : ℕ) (e : Event) (b : Being S) → b.dead ≡ false
-    → has_done e.act e.stamp.beat b ≡ false → time_of p e.stamp.beat ≤ e.stamp.reading
+pub none-node : {S : Type 0} (p : Params) (n : ℕ) (e : Event) (b : Being S)
+    → life_fault n e.act e.stamp.beat b ≡ None → has_done e.act e.stamp.beat b ≡ false → time_of p e.stamp.beat ≤ e.stamp.reading
     → e.stamp.reading ≤ time_of p e.stamp.beat + p.skew → b.reading ≤ e.stamp.reading
     → node_fault p n e (Some b) ≡ None
 none-node p n e b lives undone low high later =
     let from : nat_le (time_of p e.stamp.beat) e.stamp.reading ≡ true = grind (arith, nat_tests, low) in
     let until : nat_le e.stamp.reading (time_of p e.stamp.beat + p.skew) ≡ true = grind (arith, nat_tests, high) in
     let on : nat_le b.reading e.stamp.reading ≡ true = grind (arith, nat_tests, later) in
-    rw (undone, from, until, on, lives) refl
+    rw (lives, undone, from, until, on) refl
 
 pub none-take : {M : Type 0} (ways : List (Way M)) (beat : ℕ) (link : LinkNo) (number : ℕ) (w : Way M) (d : Dated M)
-    → slice_get ways link.0 ≡ Some w → number ≡ w.taken → oldest ways link.0 ≡ Some d → d.beat < beat
+    → slice_get ways link.0 ≡ Some w → number ≡ w.gone → oldest ways link.0 ≡ Some d → d.beat < beat
     → take_fault ways beat (act.Get link number) ≡ None
 none-take ways beat link number w d at same first earlier =
     let next : is_next number (slice_get ways link.0) ≡ true = rw at (eq-eqb _ _ same) in
@@ -108,16 +108,16 @@ min-or-max P a b one two = ⊎_elim
     (subst P (sym low) two, subst P (sym high) one))
     (cases_Bool (nat_le a b))
 
-none-beside : {S : Type 0} (beings : List (Being S)) (a b : ℕ) → is_dead (slice_get beings a) ≡ false
-    → is_dead (slice_get beings b) ≡ false → beside_fault beings a b ≡ None
+none-beside : {S : Type 0} (beings : List (Being S)) (a b : ℕ) → has_died (slice_get beings a) ≡ false
+    → has_died (slice_get beings b) ≡ false → beside_fault beings a b ≡ None
 none-beside beings a b one two = rw (one, two) refl
 
--- a death between two cubs that live
+-- a death between two cubs that have never died
 pub none-death : {S : Type 0} (p : Params) (beings : List (Being S)) (n : ℕ)
-    → is_dead (slice_get beings (cub_before p n)) ≡ false → is_dead (slice_get beings (cub_after p n)) ≡ false
+    → has_died (slice_get beings (cub_before p n)) ≡ false → has_died (slice_get beings (cub_after p n)) ≡ false
     → death_fault p beings (act.Die (record { 0 = n })) ≡ None
 none-death {S} p beings n before after =
-    let both = min-or-max (λ k. is_dead (slice_get beings k) ≡ false) (cub_before p n) (cub_after p n) before after in
+    let both = min-or-max (λ k. has_died (slice_get beings k) ≡ false) (cub_before p n) (cub_after p n) before after in
     none-beside beings (min (cub_before p n) (cub_after p n)) (max (cub_before p n) (cub_after p n)) both.0 both.1
 
 -- all faults apart

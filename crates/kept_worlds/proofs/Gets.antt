@@ -13,23 +13,27 @@ use Rattle.node_kit.specs.declared.outbox.Out.TheVariants as out
 use Rattle.node_kit.specs.Steps.{Input, Deed, IsAllowed, IsOwnEntry, entry_of}
 use Rattle.node_kit.specs.Steps.Input.{Take, Tick}
 use Rattle.run_facts.specs.Carried.{got_on}
-use Rattle.run_facts.specs.Events.{NodeEvent, Past, Dated, after, kept_outs, outs_of, AreFair, IsPlain, entries_at, written, take_on, takes_along, noted_as}
+use Rattle.run_facts.specs.Events.{NodeEvent, Past, Dated, after, kept_outs, outs_of, AreFair, IsPlain, entries_at, written, take_on, noted_as}
 use Rattle.run_facts.specs.Events.NodeEvent.{Does, Ends, Dies, Returns}
-use Rattle.run_facts.proofs.Along.{got_on-append, got-written, takes-append}
+use Rattle.run_facts.proofs.Along.{got_on-append, got-written}
+use Rattle.run_facts.proofs.Timelines.{plain-here}
 use Rattle.ring_world.specs.declared.event.Act.{Act}
 use Rattle.ring_world.specs.declared.event.Act.TheVariants as act
+use Rattle.ring_world.specs.Merging.{place_along}
+use Rattle.ring_world.proofs.Ways.{place-append, place-one}
 use Rattle.kept_worlds.specs.Events.{get_of, gets_behind}
 
--- what a node takes in its events, each with its beat and its number, if these happened to it before
-abbrev pub takes_behind : {M : Type 0} → List (NodeEvent M) → List (NodeEvent M) → List (Dated Act)
-takes_behind before [] = []
-takes_behind before (Does (Take stamp link msg) ∷ es) =
-    (record { beat = stamp.beat; item = act.Get link (length (takes_along link.0 before)) })
-    ∷ takes_behind (before ++ Does (Take stamp link msg) ∷ []) es
-takes_behind before (Does (Tick stamp) ∷ es) = takes_behind (before ++ Does (Tick stamp) ∷ []) es
-takes_behind before (Ends input sends ∷ es) = takes_behind (before ++ Ends input sends ∷ []) es
-takes_behind before (Dies stamp ∷ es) = takes_behind (before ++ Dies stamp ∷ []) es
-takes_behind before (Returns stamp ∷ es) = takes_behind (before ++ Returns stamp ∷ []) es
+-- what a node takes in its events, each with its beat and its number, if these happened to it before, and on each link
+-- so many messages were sent below its return
+abbrev pub takes_behind : {M : Type 0} → (ℕ → ℕ) → List (NodeEvent M) → List (NodeEvent M) → List (Dated Act)
+takes_behind lost before [] = []
+takes_behind lost before (Does (Take stamp link msg) ∷ es) =
+    (record { beat = stamp.beat; item = act.Get link (place_along link.0 (lost link.0) 0 before) })
+    ∷ takes_behind lost (before ++ Does (Take stamp link msg) ∷ []) es
+takes_behind lost before (Does (Tick stamp) ∷ es) = takes_behind lost (before ++ Does (Tick stamp) ∷ []) es
+takes_behind lost before (Ends input sends ∷ es) = takes_behind lost (before ++ Ends input sends ∷ []) es
+takes_behind lost before (Dies stamp ∷ es) = takes_behind lost (before ++ Dies stamp ∷ []) es
+takes_behind lost before (Returns stamp ∷ es) = takes_behind lost (before ++ Returns stamp ∷ []) es
 
 gets-append : (before xs ys : List Entry)
     → gets_behind before (xs ++ ys) ≡ gets_behind before xs ++ gets_behind (before ++ xs) ys
@@ -65,14 +69,14 @@ outs-none note p n stamp before (out.Act w ∷ os) h =
     rw (own-none before w h.0) (outs-none note p n stamp (before ++ entry_of note stamp (out.Act w) ∷ []) os h.1)
 
 -- entries that say as often that a message was got on a link as events take one there
-abbrev pub AreLevel : {M : Type 0} → List Entry → List (NodeEvent M) → Type 0
-AreLevel earlier before = (l : ℕ) → length (got_on l earlier) ≡ length (takes_along l before)
+abbrev pub AreLevel : {M : Type 0} → (ℕ → ℕ) → List Entry → List (NodeEvent M) → Type 0
+AreLevel lost earlier before = (l : ℕ) → length (got_on l earlier) ≡ place_along l (lost l) 0 before
 
-module _ {M S : Type 0} (note : M → Note) (step : S → Input M → Deed M S) (p : Params) (n : ℕ) where
-  level-more : (earlier : List Entry) (before : List (NodeEvent M)) (e : NodeEvent M) (past : Past S)
-      → AllByRecursion (IsAllowed note p n) (outs_of step e past) → AreLevel earlier before
-      → AreLevel (earlier ++ entries_at note step e past) (before ++ e ∷ [])
-  level-more earlier before e past fair level l =
+module _ {M S : Type 0} (note : M → Note) (step : S → Input M → Deed M S) (p : Params) (n : ℕ) (lost : ℕ → ℕ) where
+  level-more : (earlier : List Entry) (before : List (NodeEvent M)) (e : NodeEvent M) (past : Past S) → IsPlain e
+      → AllByRecursion (IsAllowed note p n) (outs_of step e past) → AreLevel lost earlier before
+      → AreLevel lost (earlier ++ entries_at note step e past) (before ++ e ∷ [])
+  level-more earlier before e past plain fair level l =
       let wrote = entries_at note step e past in
       let got : got_on l (wrote ++ []) ≡ map (noted_as note) (take_on l e ++ []) =
       got-written note step p n l (e ∷ []) past (fair, tt) in
@@ -81,17 +85,16 @@ module _ {M S : Type 0} (note : M → Note) (step : S → Input M → Deed M S) 
       ∙ length-map (take_on l e ++ []) (noted_as note) ∙ ap length (append-nil (take_on l e)) in
       let old = level l in
       let entries = length-append (got_on l earlier) (got_on l wrote) in
-      let takes = length-append (takes_along l before) (take_on l e) in
+      let number = place_along l (lost l) 0 before in
+      let one = place-one l (lost l) number e (plain-here e plain) in
       ap length (got_on-append l earlier wrote) ∙ entries
-      ∙ (let sum : length (got_on l earlier) + length (got_on l wrote) ≡ length (takes_along l before) + length (take_on l e) =
-      omega (arith, same, old) in sum)
-      ∙ sym takes
-      ∙ ap (λ q. length (takes_along l before ++ q)) (sym (append-nil (take_on l e)))
-      ∙ ap length (sym (takes-append l before (e ∷ [])))
+      ∙ (let sum : length (got_on l earlier) + length (got_on l wrote) ≡ place_along l (lost l) number (e ∷ []) =
+      omega (arith, same, old, one) in sum)
+      ∙ sym (place-append l (lost l) 0 before (e ∷ []))
 
   pub gets-written : (earlier : List Entry) (before es : List (NodeEvent M)) (past : Past S)
       → AllByRecursion IsPlain es → AreFair note step p n es past
-      → AreLevel earlier before → gets_behind earlier (written note step es past) ≡ takes_behind before es
+      → AreLevel lost earlier before → gets_behind earlier (written note step es past) ≡ takes_behind lost before es
   gets-written earlier before [] past plain fair level = refl
   gets-written earlier before (Does (Take stamp link msg) ∷ es) past plain fair level =
       let e : NodeEvent M = Does (Take stamp link msg) in
@@ -99,17 +102,17 @@ module _ {M S : Type 0} (note : M → Note) (step : S → Input M → Deed M S) 
       let outs = kept_outs step (Take stamp link msg) past in
       let first : Entry = record { stamp = stamp; what = what.Got link (note msg) } in
       let rest = gets-written (earlier ++ wrote) (before ++ e ∷ []) es (after note step e past) plain.1 fair.1
-      (level-more earlier before e past fair.0 level) in
+      (level-more earlier before e past plain.0 fair.0 level) in
       let none = outs-none note p n stamp (earlier ++ first ∷ []) outs fair.0 in
       gets-append earlier wrote (written note step es (after note step e past))
       ∙ ap (λ q. ((record { beat = stamp.beat; item = act.Get link (length (got_on link.0 earlier)) }) ∷ q) ++ gets_behind (earlier ++ wrote) (written note step es (after note step e past))) none
       ∙ ap (λ k. (record { beat = stamp.beat; item = act.Get link k }) ∷ gets_behind (earlier ++ wrote) (written note step es (after note step e past))) (level link.0)
-      ∙ ap (λ q. (record { beat = stamp.beat; item = act.Get link (length (takes_along link.0 before)) }) ∷ q) rest
+      ∙ ap (λ q. (record { beat = stamp.beat; item = act.Get link (place_along link.0 (lost link.0) 0 before) }) ∷ q) rest
   gets-written earlier before (Does (Tick stamp) ∷ es) past plain fair level =
       let e : NodeEvent M = Does (Tick stamp) in
       let wrote = entries_at note step e past in
       let rest = gets-written (earlier ++ wrote) (before ++ e ∷ []) es (after note step e past) plain.1 fair.1
-      (level-more earlier before e past fair.0 level) in
+      (level-more earlier before e past plain.0 fair.0 level) in
       gets-append earlier wrote (written note step es (after note step e past))
       ∙ ap (λ q. q ++ gets_behind (earlier ++ wrote) (written note step es (after note step e past)))
       (outs-none note p n stamp earlier (kept_outs step (Tick stamp) past) fair.0)
@@ -119,6 +122,6 @@ module _ {M S : Type 0} (note : M → Note) (step : S → Input M → Deed M S) 
       let wrote = entries_at note step e past in
       gets-append earlier wrote (written note step es (after note step e past))
       ∙ gets-written (earlier ++ wrote) (before ++ e ∷ []) es (after note step e past) plain.1 fair.1
-      (level-more earlier before e past fair.0 level)
+      (level-more earlier before e past plain.0 fair.0 level)
   gets-written earlier before (Ends input sends ∷ es) past plain fair level = absurd plain.0
   gets-written earlier before (Returns stamp ∷ es) past plain fair level = absurd plain.0

@@ -7,7 +7,9 @@ use Rattle.std.proofs.lemmas.Bool.{cases_eq, eq-eqb, ne_eqb}
 use Rattle.tiger_base.specs.declared.message.Note.{Note}
 use Rattle.slot_plan.specs.declared.params.Params.{Params}
 use Rattle.node_kit.specs.Steps.{Input, Deed, IsAllowed}
-use Rattle.run_facts.specs.Events.{NodeEvent, Past, opening, after_all, outs_of, stamp_at}
+use Rattle.run_facts.specs.Events.{NodeEvent, Past, IsPlain, opening, after_all, outs_of, stamp_at}
+use Rattle.run_facts.specs.Events.NodeEvent.{Does, Ends, Dies, Returns}
+use Rattle.run_facts.specs.Accounts.{IsOpen}
 use Rattle.run_facts.specs.Histories.{History, beat, past}
 use Rattle.run_facts.specs.Plain.{IsPlainRun}
 use Rattle.run_facts.proofs.Listed.{listed, listed-past}
@@ -19,12 +21,25 @@ use Rattle.ring_world.specs.Merging.{added, act_of, told_as}
 use Rattle.ring_world.proofs.Accepting.{some-same}
 use Rattle.ring_world.proofs.Lists.{each-get}
 use Rattle.ring_world.proofs.Moving.{IsMove, holds-moved}
-use Rattle.ring_world.proofs.Steps.{IsDue}
+use Rattle.ring_world.proofs.Steps.{MayLive, IsDue}
 use Rattle.kept_worlds.specs.Merges.{MayHappen}
 use Rattle.kept_worlds.proofs.Lifeless.{all-twin, outs-twin}
 use Rattle.kept_worlds.proofs.Numbers.{listed-more}
 use Rattle.kept_worlds.proofs.Points.{anywhere, IsLatest, IsAt, IsNext, own, own-at, own-lives, own-ticked, own-read, reached, none-of_act}
 use Rattle.kept_worlds.proofs.Ready.{ready}
+
+-- a plain event of a node that is not dead and has never died, in the open beat
+may-live : {M S : Type 0} (b : Being S) → (b.dead ≡ false) × (b.died ≡ None) → (x : NodeEvent M) → IsPlain x → MayLive b x
+may-live b alive (Does i) plain = alive.0
+may-live b alive (Ends i sends) plain = absurd plain
+may-live b alive (Dies stamp) plain = alive
+may-live b alive (Returns stamp) plain = absurd plain
+
+is-open : {M : Type 0} (t : ℕ) (x : NodeEvent M) → IsPlain x → (stamp_at x).beat ≡ t → IsOpen t x
+is-open t (Does i) plain now = now
+is-open t (Ends i sends) plain now = absurd plain
+is-open t (Dies stamp) plain now = now
+is-open t (Returns stamp) plain now = absurd plain
 
 -- the numbers behind the next event of node n
 abbrev pub beyond : ℕ → (ℕ → ℕ) → ℕ → ℕ
@@ -34,11 +49,11 @@ module _ {M S : Type 0} (note : M → Note) (step : S → Input M → Deed M S) 
     (place : IsPlace p nodes beats) (run : IsPlainRun note step p nodes h) (may : MayHappen p nodes beats h) where
   -- an event of node n is no fault, and behind it the machine is beside the next numbers
   pub record IsStep (m : Machine M S) (es : ℕ → List (NodeEvent M)) (at : ℕ → ℕ) (n : ℕ) (y : NodeEvent M) : Type 0 where
-    pub known : IsEventOf p nodes beats (told_as (es n) (record { node = n; event = y }))
-    pub free : fault_of p m (told_as (es n) (record { node = n; event = y })) ≡ None
-    pub dated : (happens note step p m (told_as (es n) (record { node = n; event = y }))).beat ≡ (stamp_at y).beat
+    pub known : IsEventOf p nodes beats (told_as h.before (es n) (record { node = n; event = y }))
+    pub free : fault_of p m (told_as h.before (es n) (record { node = n; event = y })) ≡ None
+    pub dated : (happens note step p m (told_as h.before (es n) (record { node = n; event = y }))).beat ≡ (stamp_at y).beat
     pub point : IsAt note step p nodes beats h place run may
-        (happens note step p m (told_as (es n) (record { node = n; event = y }))) (added n y es) (beyond n at)
+        (happens note step p m (told_as h.before (es n) (record { node = n; event = y }))) (added n y es) (beyond n at)
 
   module _ (m : Machine M S) (es : ℕ → List (NodeEvent M)) (at : ℕ → ℕ)
       (point : IsAt note step p nodes beats h place run may m es at)
@@ -47,7 +62,7 @@ module _ {M S : Type 0} (note : M → Note) (step : S → Input M → Deed M S) 
     x = h.event n (at n)
 
     abbrev e : Event
-    e = told_as (es n) (record { node = n; event = x })
+    e = told_as h.before (es n) (record { node = n; event = x })
 
     abbrev b : Being S
     b = own note step p nodes beats h place run may m es at point n next
@@ -77,10 +92,11 @@ module _ {M S : Type 0} (note : M → Note) (step : S → Input M → Deed M S) 
         let short = place.short (beat h n (at n)) early in
         let high = shown.1 in
         record {
-          alive = own-lives note step p nodes beats h place run may m es at point n next;
-          plain = run.plain n (at n) next.low next.here;
+          lives = may-live b (own-lives note step p nodes beats h place run may m es at point n next) x
+              (run.plain n (at n) next.low next.here);
           dated = refl;
-          ticked = own-ticked note step p nodes beats h place run may m es at point n next;
+          open_here = is-open b.ticked x (run.plain n (at n) next.low next.here)
+              (sym (own-ticked note step p nodes beats h place run may m es at point n next));
           shown = shown;
           later = own-read note step p nodes beats h place run may m es at point n next;
           brief = omega (arith, high, short);
@@ -109,12 +125,12 @@ module _ {M S : Type 0} (note : M → Note) (step : S → Input M → Deed M S) 
             let low = slice_get_within m.beings k c here in
             omega (arith, low, size)
 
-    is-moved : happens note step p m e ≡ moved note step m e n x b.past
+    is-moved : happens note step p m e ≡ moved note step p m e n x b.past
     is-moved =
         let r = ready note step p nodes beats h place run may m es at point n next in
-        ap (λ k. happened note step m e k (node_event m.ways e.stamp e.act) (slice_get m.beings k)) r.theirs
-        ∙ ap (λ o. happened note step m e n o (slice_get m.beings n)) r.event
-        ∙ ap (λ o. happened note step m e n (Some x) o) b-at
+        ap (λ k. happened note step p m e k (node_event m.ways e.stamp e.act) (slice_get m.beings k)) r.theirs
+        ∙ ap (λ o. happened note step p m e n o (slice_get m.beings n)) r.event
+        ∙ ap (λ o. happened note step p m e n (Some x) o) b-at
 
     behind-told : (k : ℕ) → k < nodes → added n x es k ≡ listed h k 0 (beyond n at k)
     behind-told k low = ⊎_elim
@@ -135,12 +151,12 @@ module _ {M S : Type 0} (note : M → Note) (step : S → Input M → Deed M S) 
         (λ (other : k ≡ n → ⊥). let t : (k == n) ≡ false = ne_eqb k n other in rw t (point.within k low))
         (cases_eq k n)
 
-    behind-last : (k : ℕ) (c : Being S) → k < nodes → slice_get (moved note step m e n x b.past).beings k ≡ Some c
+    behind-last : (k : ℕ) (c : Being S) → k < nodes → slice_get (moved note step p m e n x b.past).beings k ≡ Some c
         → IsLatest h k (beyond n at k) c
     behind-last k c low here =
         let theirs = point.holds.node k low in
         let change = λ (j : ℕ) (a : Being S). if j == n then lived note step x a else a in
-        let there : slice_get (moved note step m e n x b.past).beings k ≡ Some (change k theirs.0) =
+        let there : slice_get (moved note step p m e n x b.past).beings k ≡ Some (change k theirs.0) =
         each-get change 0 m.beings k k (omega arith) ∙ ap (option_map (change k)) theirs.1 in
         let is : change k theirs.0 ≡ c = some-same (change k theirs.0) c (sym there ∙ here) in
         subst (IsLatest h k (beyond n at k)) is (⊎_elim
@@ -158,7 +174,7 @@ module _ {M S : Type 0} (note : M → Note) (step : S → Input M → Deed M S) 
         let holds = holds-moved note step anywhere p nodes beats place h.first m es point.holds e n x b move in
         record {
           known = (may.early n (at n) next.low next.here, r.known);
-          free = none-of_act note step p nodes beats h place run may m es at point n next (act_of (es n) n x) r.theirs r.free r.take r.late r.death;
+          free = none-of_act note step p nodes beats h place run may m es at point n next (act_of h.before (es n) n x) r.theirs r.life r.free r.take r.late r.death;
           dated = ap (λ (q : Machine M S). q.beat) is-moved;
           point = subst (λ (q : Machine M S). IsAt note step p nodes beats h place run may q (added n x es) (beyond n at)) (sym is-moved)
               (record { holds = holds; told = behind-told; within = behind-within; last = behind-last });

@@ -43,31 +43,31 @@ unfolding got_on
 got-none l = refl
 
 -- the journals of nodes from one on, each of which tells its node's events of each beat
-abbrev Tell : {M : Type 0} → Course → (ℕ → List (NodeEvent M)) → ℕ → List (List Entry) → Type 0
-Tell c all n journals =
+abbrev Tell : {M : Type 0} → (ℕ → ℕ) → Course → (ℕ → List (NodeEvent M)) → ℕ → List (List Entry) → Type 0
+Tell lost c all n journals =
     (k : ℕ) (journal : List Entry) → slice_get journals k ≡ Some journal
-    → (b : ℕ) → b < c.beats → events_in c (n + k) b journal ≡ named_in b (n + k) (all (n + k))
+    → (b : ℕ) → b < c.beats → events_in c (n + k) b journal ≡ named_in lost b (n + k) (all (n + k))
 
-row-told : {M : Type 0} (c : Course) (all : ℕ → List (NodeEvent M)) (b n : ℕ) (journals : List (List Entry))
-    → b < c.beats → Tell c all n journals → events_of_beat c b n journals ≡ named_row b n (length journals) all
-row-told c all b n [] low tell = refl
-row-told {M} c all b n (journal ∷ rest) low tell =
+row-told : {M : Type 0} (lost : ℕ → ℕ) (c : Course) (all : ℕ → List (NodeEvent M)) (b n : ℕ) (journals : List (List Entry))
+    → b < c.beats → Tell lost c all n journals → events_of_beat c b n journals ≡ named_row lost b n (length journals) all
+row-told lost c all b n [] low tell = refl
+row-told {M} lost c all b n (journal ∷ rest) low tell =
     let none : n + 0 ≡ n = omega arith in
-    let here : events_in c n b journal ≡ named_in b n (all n) =
-    subst (λ q. events_in c q b journal ≡ named_in b q (all q)) none (tell 0 journal refl b low) in
-    let more : Tell c all (suc n) rest = λ k j at beat early.
+    let here : events_in c n b journal ≡ named_in lost b n (all n) =
+    subst (λ q. events_in c q b journal ≡ named_in lost b q (all q)) none (tell 0 journal refl b low) in
+    let more : Tell lost c all (suc n) rest = λ k j at beat early.
     (let sum : n + suc k ≡ suc n + k = omega arith in
-    subst (λ q. events_in c q beat j ≡ named_in beat q (all q)) sum (tell (suc k) j at beat early)) in
+    subst (λ q. events_in c q beat j ≡ named_in lost beat q (all q)) sum (tell (suc k) j at beat early)) in
     ap (λ q. q ++ events_of_beat c b (n + 1) rest) here
-    ∙ ap (λ q. named_in b n (all n) ++ events_of_beat c b q rest) (add-one n)
-    ∙ ap (λ q. named_in b n (all n) ++ q) (row-told c all b (suc n) rest low more)
+    ∙ ap (λ q. named_in lost b n (all n) ++ events_of_beat c b q rest) (add-one n)
+    ∙ ap (λ q. named_in lost b n (all n) ++ q) (row-told lost c all b (suc n) rest low more)
 
-rows-told : {M : Type 0} (c : Course) (all : ℕ → List (NodeEvent M)) (b k : ℕ) (journals : List (List Entry))
-    → b + k ≤ c.beats → Tell c all 0 journals → events_from c b k journals ≡ named_rows b k (length journals) all
-rows-told c all b zero journals low tell = refl
-rows-told c all b (suc k) journals low tell =
-    ap (λ q. q ++ events_from c (b + 1) k journals) (row-told c all b 0 journals (omega (arith, low)) tell)
-    ∙ ap (λ q. named_row b 0 (length journals) all ++ q) (rows-told c all (b + 1) k journals (omega (arith, low)) tell)
+rows-told : {M : Type 0} (lost : ℕ → ℕ) (c : Course) (all : ℕ → List (NodeEvent M)) (b k : ℕ) (journals : List (List Entry))
+    → b + k ≤ c.beats → Tell lost c all 0 journals → events_from c b k journals ≡ named_rows lost b k (length journals) all
+rows-told lost c all b zero journals low tell = refl
+rows-told lost c all b (suc k) journals low tell =
+    ap (λ q. q ++ events_from c (b + 1) k journals) (row-told lost c all b 0 journals (omega (arith, low)) tell)
+    ∙ ap (λ q. named_row lost b 0 (length journals) all ++ q) (rows-told lost c all (b + 1) k journals (omega (arith, low)) tell)
 
 module _ {M S : Type 0} (note : M → Note) (step : S → Input M → Deed M S) (p : Params) (nodes : ℕ) (h : History M S)
     (run : IsPlainRun note step p nodes h) where
@@ -100,7 +100,7 @@ module _ {M S : Type 0} (note : M → Note) (step : S → Input M → Deed M S) 
 
   -- each journal tells its node's events
   tell-of : (n : ℕ) (journal : List Entry) → slice_get journals n ≡ Some journal → (b : ℕ) → b < c.beats
-      → events_in c n b journal ≡ named_in b n (all n)
+      → events_in c n b journal ≡ named_in h.before b n (all n)
   tell-of n journal at b early =
       let size = kept.each_has_journal in
       let within = get-below journals n journal at in
@@ -110,23 +110,23 @@ module _ {M S : Type 0} (note : M → Note) (step : S → Input M → Deed M S) 
       ∙ ap (λ (s : Past S). Some s.journal) (listed-last note step h n) ∙ ap Some (journal-after note step (all n) start) in
       let wrote : journal ≡ written note step (all n) start = cc in
       let fair = fair-listed note step c.plan.params (length given) h plain n 0 (h.count n) (h.count n) low (omega arith) (omega arith) in
-      let gets = gets-written note step c.plan.params n [] [] (all n) start (lived.all n low).plain fair got-none in
+      let gets = gets-written note step c.plan.params n h.before [] [] (all n) start (lived.all n low).plain fair got-none in
       ap (λ q. events_in c n b q) wrote
       ∙ ap (λ q. map (event_in c n b) (map (λ (g : Dated Act). g.item) (filter (λ g. g.beat == b) q) ++ end_of_beat c n b)) gets
-      ∙ sym (named-acts c whole n 0 b [] (all n) (lived.all n low) (omega arith) early)
+      ∙ sym (named-acts h.before c whole n 0 b [] (all n) (lived.all n low) (omega arith) early)
 
-  tell-each : Tell c all 0 journals
+  tell-each : Tell h.before c all 0 journals
   tell-each n journal at b early =
       let same : n ≡ 0 + n = omega arith in
-      subst (λ q. events_in c q b journal ≡ named_in b q (all q)) same (tell-of n journal at b early)
+      subst (λ q. events_in c q b journal ≡ named_in h.before b q (all q)) same (tell-of n journal at b early)
 
   -- so all that they tell is a list of the history's events
   merged-of : IsMerged h (length given) (events_by c journals)
   merged-of = record {
     merged = rows_from 0 c.beats (length given) all;
-    told = rows-told c all 0 c.beats journals (omega arith) tell-each
-        ∙ ap (λ q. named_rows 0 c.beats q all) kept.each_has_journal
-        ∙ sym (told-rows (length given) all rising 0 c.beats (λ _. []) (λ n low. sym (below-none (all n))));
+    told = rows-told h.before c all 0 c.beats journals (omega arith) tell-each
+        ∙ ap (λ q. named_rows h.before 0 c.beats q all) kept.each_has_journal
+        ∙ sym (told-rows h.before (length given) all rising 0 c.beats (λ _. []) (λ n low. sym (below-none (all n))));
     of_nodes = rows-all (λ (x : Happening M). x.node < length given) 0 c.beats (length given) all (λ k e low _. low);
     rising = rows-rising 0 c.beats (length given) all;
     each = λ n low.

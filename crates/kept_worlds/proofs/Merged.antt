@@ -121,7 +121,7 @@ module _ {M S : Type 0} (note : M → Note) (step : S → Input M → Deed M S) 
   through : (xs : List (Happening M)) (m : Machine M S) (es : ℕ → List (NodeEvent M)) (at : ℕ → ℕ)
       → IsAt note step p nodes beats h place run may m es at → AllByRecursion (λ (x : Happening M). x.node < nodes) xs
       → AllByRecursion (λ (x : Happening M). m.beat ≤ beat_at x) xs → Rising beat_at xs
-      → ((k : ℕ) → k < nodes → IsLeft k (at k) xs) → IsThrough m (told_from es xs)
+      → ((k : ℕ) → k < nodes → IsLeft k (at k) xs) → IsThrough m (told_from h.before es xs)
   through [] m es at point low later rising left = record {
     end = m;
     es = es;
@@ -142,7 +142,7 @@ module _ {M S : Type 0} (note : M → Note) (step : S → Input M → Deed M S) 
       let next = next-of m at x xs low.0 later.0 rising.0 left head in
       let s = subst (IsStep note step p nodes beats h place run may m es at n) head.event
       (stepped note step p nodes beats h place run may m es at point n next) in
-      let new = happens note step p m (told_as (es n) x) in
+      let new = happens note step p m (told_as h.before (es n) x) in
       let behind = subst (λ b. AllByRecursion (λ (y : Happening M). b ≤ beat_at y) xs) (sym s.dated) rising.0 in
       let rest = through xs new (added n x.event es) (beyond n at) s.point low.1 behind rising.1 (left-behind at x xs left head) in
       record {
@@ -218,4 +218,4 @@ merges-accepted M S note step p beats given h events place first run may merged 
     (λ _. []) (λ _. 0) start merged.of_nodes
     (all-given (λ (x : Happening M). 0 ≤ beat_at x) merged.merged (λ x. omega arith)) merged.rising left in
     subst (HasLivedThrough note step p beats given h) (sym merged.told)
-    (lived-of note step p beats given h place run may (told_from (λ _. []) merged.merged) t)
+    (lived-of note step p beats given h place run may (told_from h.before (λ _. []) merged.merged) t)

@@ -32,20 +32,21 @@ rows_from b zero nodes all = []
 rows_from b (suc k) nodes all = row_from b 0 nodes all ++ rows_from (b + 1) k nodes all
 
 -- a node's events as the machine is told them, if these happened to it before
-abbrev pub named : {M : Type 0} → ℕ → List (NodeEvent M) → List (NodeEvent M) → List Event
-named n before [] = []
-named n before (e ∷ es) = told_as before (record { node = n; event = e }) ∷ named n (before ++ e ∷ []) es
+abbrev pub named : {M : Type 0} → (ℕ → ℕ) → ℕ → List (NodeEvent M) → List (NodeEvent M) → List Event
+named lost n before [] = []
+named lost n before (e ∷ es) =
+    told_as lost before (record { node = n; event = e }) ∷ named lost n (before ++ e ∷ []) es
 
-abbrev pub named_in : {M : Type 0} → ℕ → ℕ → List (NodeEvent M) → List Event
-named_in b n es = filter (λ e. e.stamp.beat == b) (named n [] es)
+abbrev pub named_in : {M : Type 0} → (ℕ → ℕ) → ℕ → ℕ → List (NodeEvent M) → List Event
+named_in lost b n es = filter (λ e. e.stamp.beat == b) (named lost n [] es)
 
-abbrev pub named_row : {M : Type 0} → ℕ → ℕ → ℕ → (ℕ → List (NodeEvent M)) → List Event
-named_row b n zero all = []
-named_row b n (suc j) all = named_in b n (all n) ++ named_row b (suc n) j all
+abbrev pub named_row : {M : Type 0} → (ℕ → ℕ) → ℕ → ℕ → ℕ → (ℕ → List (NodeEvent M)) → List Event
+named_row lost b n zero all = []
+named_row lost b n (suc j) all = named_in lost b n (all n) ++ named_row lost b (suc n) j all
 
-abbrev pub named_rows : {M : Type 0} → ℕ → ℕ → ℕ → (ℕ → List (NodeEvent M)) → List Event
-named_rows b zero nodes all = []
-named_rows b (suc k) nodes all = named_row b 0 nodes all ++ named_rows (b + 1) k nodes all
+abbrev pub named_rows : {M : Type 0} → (ℕ → ℕ) → ℕ → ℕ → ℕ → (ℕ → List (NodeEvent M)) → List Event
+named_rows lost b zero nodes all = []
+named_rows lost b (suc k) nodes all = named_row lost b 0 nodes all ++ named_rows lost (b + 1) k nodes all
 
 -- what is named of a beat is named behind the events below it
 none-later : {M : Type 0} (b : ℕ) (es : List (NodeEvent M)) → AllByRecursion (λ (e : NodeEvent M). b < (stamp_at e).beat) es
@@ -60,30 +61,30 @@ none-below {M} b es later = filter-none (λ (e : NodeEvent M). nat_lt (stamp_at 
     (all-weaker (λ (e : NodeEvent M). b ≤ (stamp_at e).beat) (λ e. nat_lt (stamp_at e).beat b ≡ false) es
     (λ e h. grind (arith, nat_tests, h)) later)
 
-pub named-beat : {M : Type 0} (b n : ℕ) (before es : List (NodeEvent M)) → Rising (λ (e : NodeEvent M). (stamp_at e).beat) es
-    → filter (λ e. e.stamp.beat == b) (named n before es) ≡ named n (before ++ events_below b es) (in_beat b es)
-named-beat b n before [] rising = refl
-named-beat {M} b n before (e ∷ es) rising =
+pub named-beat : {M : Type 0} (lost : ℕ → ℕ) (b n : ℕ) (before es : List (NodeEvent M)) → Rising (λ (e : NodeEvent M). (stamp_at e).beat) es
+    → filter (λ e. e.stamp.beat == b) (named lost n before es) ≡ named lost n (before ++ events_below b es) (in_beat b es)
+named-beat lost b n before [] rising = refl
+named-beat {M} lost b n before (e ∷ es) rising =
     let now = (stamp_at e).beat in
-    let rest = named-beat b n (before ++ e ∷ []) es rising.1 in
+    let rest = named-beat lost b n (before ++ e ∷ []) es rising.1 in
     ⊎_elim
     (λ (same : (now == b) ≡ true).
     let is : now ≡ b = eqb-true _ _ same in
     let not_below : nat_lt now b ≡ false = grind (arith, nat_tests, is) in
     let none : events_below b es ≡ [] = none-below b es
     (all-weaker (λ (f : NodeEvent M). now ≤ (stamp_at f).beat) (λ f. b ≤ (stamp_at f).beat) es (λ f h. omega (arith, h, is)) rising.0) in
-    let behind : named n ((before ++ e ∷ []) ++ events_below b es) (in_beat b es) ≡ named n (before ++ e ∷ []) (in_beat b es) =
-    ap (λ q. named n q (in_beat b es)) (ap (λ q. (before ++ e ∷ []) ++ q) none ∙ append-nil (before ++ e ∷ [])) in
+    let behind : named lost n ((before ++ e ∷ []) ++ events_below b es) (in_beat b es) ≡ named lost n (before ++ e ∷ []) (in_beat b es) =
+    ap (λ q. named lost n q (in_beat b es)) (ap (λ q. (before ++ e ∷ []) ++ q) none ∙ append-nil (before ++ e ∷ [])) in
     let front : before ++ events_below b es ≡ before = ap (λ q. before ++ q) none ∙ append-nil before in
-    rw (same, not_below) (ap (λ q. told_as before (record { node = n; event = e }) ∷ q) (rest ∙ behind)
-    ∙ sym (ap (λ q. told_as q (record { node = n; event = e }) ∷ named n (q ++ e ∷ []) (in_beat b es)) front)))
+    rw (same, not_below) (ap (λ q. told_as lost before (record { node = n; event = e }) ∷ q) (rest ∙ behind)
+    ∙ sym (ap (λ q. told_as lost q (record { node = n; event = e }) ∷ named lost n (q ++ e ∷ []) (in_beat b es)) front)))
     (λ (other : (now == b) ≡ false). ⊎_elim
     (λ (low : nat_lt now b ≡ true).
-    rw (other, low) (rest ∙ ap (λ q. named n q (in_beat b es)) (append_assoc before (e ∷ []) (events_below b es))))
+    rw (other, low) (rest ∙ ap (λ q. named lost n q (in_beat b es)) (append_assoc before (e ∷ []) (events_below b es))))
     (λ (high : nat_lt now b ≡ false).
     let none : in_beat b es ≡ [] = none-later b es
     (all-weaker (λ (f : NodeEvent M). now ≤ (stamp_at f).beat) (λ f. b < (stamp_at f).beat) es (λ f h. grind (arith, nat_tests, h, other, high)) rising.0) in
-    rw (other, high) (rest ∙ ap (named n ((before ++ e ∷ []) ++ events_below b es)) none ∙ sym (ap (named n (before ++ events_below b es)) none)))
+    rw (other, high) (rest ∙ ap (named lost n ((before ++ e ∷ []) ++ events_below b es)) none ∙ sym (ap (named lost n (before ++ events_below b es)) none)))
     (cases_Bool (nat_lt now b)))
     (cases_Bool (now == b))
 
@@ -113,35 +114,35 @@ below-next {M} b (e ∷ es) rising =
     (cases_Bool (now == b))
 
 -- the events of one node in front of a list
-told-node : {M : Type 0} (n : ℕ) (before es : List (NodeEvent M)) (ys : List (Happening M)) (zs : List Event)
+told-node : {M : Type 0} (lost : ℕ → ℕ) (n : ℕ) (before es : List (NodeEvent M)) (ys : List (Happening M)) (zs : List Event)
     (f : ℕ → List (NodeEvent M)) → f n ≡ before
-    → ((g : ℕ → List (NodeEvent M)) → g n ≡ before ++ es → ((k : ℕ) → (k ≡ n → ⊥) → g k ≡ f k) → told_from g ys ≡ zs)
-    → told_from f (of_node n es ++ ys) ≡ named n before es ++ zs
-told-node n before [] ys zs f is rest = rest f (is ∙ sym (append-nil before)) (λ k ne. refl)
-told-node {M} n before (e ∷ es) ys zs f is rest =
+    → ((g : ℕ → List (NodeEvent M)) → g n ≡ before ++ es → ((k : ℕ) → (k ≡ n → ⊥) → g k ≡ f k) → told_from lost g ys ≡ zs)
+    → told_from lost f (of_node n es ++ ys) ≡ named lost n before es ++ zs
+told-node lost n before [] ys zs f is rest = rest f (is ∙ sym (append-nil before)) (λ k ne. refl)
+told-node {M} lost n before (e ∷ es) ys zs f is rest =
     let hit : (n == n) ≡ true = eq-eqb n n refl in
     let here : added n e f n ≡ before ++ e ∷ [] = rw hit (ap (λ q. q ++ e ∷ []) is) in
-    let more = told-node n (before ++ e ∷ []) es ys zs (added n e f) here
+    let more = told-node lost n (before ++ e ∷ []) es ys zs (added n e f) here
     (λ g at others. rest g (at ∙ append_assoc before (e ∷ []) es)
     (λ k ne. others k ne ∙ (let miss : (k == n) ≡ false = ne_eqb k n ne in rw miss refl))) in
-    let head : told_as (f n) (record { node = n; event = e }) ≡ told_as before (record { node = n; event = e }) =
-    ap (λ q. told_as q (record { node = n; event = e })) is in
-    ap (λ q. q ∷ told_from (added n e f) (of_node n es ++ ys)) head
-    ∙ ap (λ q. told_as before (record { node = n; event = e }) ∷ q) more
+    let head : told_as lost (f n) (record { node = n; event = e }) ≡ told_as lost before (record { node = n; event = e }) =
+    ap (λ q. told_as lost q (record { node = n; event = e })) is in
+    ap (λ q. q ∷ told_from lost (added n e f) (of_node n es ++ ys)) head
+    ∙ ap (λ q. told_as lost before (record { node = n; event = e }) ∷ q) more
 
-module _ {M : Type 0} (nodes : ℕ) (all : ℕ → List (NodeEvent M))
+module _ {M : Type 0} (lost : ℕ → ℕ) (nodes : ℕ) (all : ℕ → List (NodeEvent M))
     (rising : (n : ℕ) → n < nodes → Rising (λ (e : NodeEvent M). (stamp_at e).beat) (all n)) where
   -- a beat in front of a list
   told-row : (b n j : ℕ) (ys : List (Happening M)) (zs : List Event) (f : ℕ → List (NodeEvent M)) → n + j ≡ nodes
       → ((k : ℕ) → n ≤ k → k < nodes → f k ≡ events_below b (all k))
       → ((k : ℕ) → k < n → f k ≡ events_below (b + 1) (all k))
-      → ((g : ℕ → List (NodeEvent M)) → ((k : ℕ) → k < nodes → g k ≡ events_below (b + 1) (all k)) → told_from g ys ≡ zs)
-      → told_from f (row_from b n j all ++ ys) ≡ named_row b n j all ++ zs
+      → ((g : ℕ → List (NodeEvent M)) → ((k : ℕ) → k < nodes → g k ≡ events_below (b + 1) (all k)) → told_from lost g ys ≡ zs)
+      → told_from lost f (row_from b n j all ++ ys) ≡ named_row lost b n j all ++ zs
   told-row b n zero ys zs f sum now done rest = rest f (λ k low. done k (omega (arith, low, sum)))
   told-row b n (suc j) ys zs f sum now done rest =
       let low : n < nodes = omega (arith, sum) in
       let row = row_from b (suc n) j all in
-      let more = told-node n (events_below b (all n)) (in_beat b (all n)) (row ++ ys) (named_row b (suc n) j all ++ zs) f (now n (omega arith) low)
+      let more = told-node lost n (events_below b (all n)) (in_beat b (all n)) (row ++ ys) (named_row lost b (suc n) j all ++ zs) f (now n (omega arith) low)
       (λ g at others. told-row b (suc n) j ys zs g (omega (arith, sum))
       (λ k up high. others k (λ same. omega (arith, same, up)) ∙ now k (omega (arith, up)) high)
       (λ k below. ⊎_elim
@@ -149,15 +150,15 @@ module _ {M : Type 0} (nodes : ℕ) (all : ℕ → List (NodeEvent M))
       (λ (other : k ≡ n → ⊥). others k other ∙ done k (omega (arith, below, other)))
       (cases_eq k n))
       rest) in
-      ap (told_from f) (append_assoc (of_node n (in_beat b (all n))) row ys) ∙ more
-      ∙ ap (λ q. q ++ (named_row b (suc n) j all ++ zs)) (sym (named-beat b n [] (all n) (rising n low)))
-      ∙ sym (append_assoc (named_in b n (all n)) (named_row b (suc n) j all) zs)
+      ap (told_from lost f) (append_assoc (of_node n (in_beat b (all n))) row ys) ∙ more
+      ∙ ap (λ q. q ++ (named_row lost b (suc n) j all ++ zs)) (sym (named-beat lost b n [] (all n) (rising n low)))
+      ∙ sym (append_assoc (named_in lost b n (all n)) (named_row lost b (suc n) j all) zs)
 
   pub told-rows : (b k : ℕ) (f : ℕ → List (NodeEvent M)) → ((n : ℕ) → n < nodes → f n ≡ events_below b (all n))
-      → told_from f (rows_from b k nodes all) ≡ named_rows b k nodes all
+      → told_from lost f (rows_from b k nodes all) ≡ named_rows lost b k nodes all
   told-rows b zero f now = refl
   told-rows b (suc k) f now =
-      told-row b 0 nodes (rows_from (b + 1) k nodes all) (named_rows (b + 1) k nodes all) f (omega arith)
+      told-row b 0 nodes (rows_from (b + 1) k nodes all) (named_rows lost (b + 1) k nodes all) f (omega arith)
       (λ n _ high. now n high) (λ n low. absurd (omega (arith, low))) (λ g then_on. told-rows (b + 1) k g then_on)
 
 -- each node's own in the list by beat and node

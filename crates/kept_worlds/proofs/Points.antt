@@ -1,5 +1,6 @@
 -- A machine beside the numbers of the events that come next, and what of it is known before the next one.
-use Rattle.std.proofs.Common.{◌≡◌, ℕ, zero, suc, ◌+◌, ◌%◌, ◌<◌, ◌≤◌, List, length, true, false, Some, None, refl, ap, sym, ◌∙◌, subst, arith, ⊎_elim}
+use Rattle.std.proofs.Common.{◌≡◌, ℕ, zero, suc, ◌+◌, ◌%◌, ◌<◌, ◌≤◌, List, length, Bool, true, false, Option, Some, None}
+use Rattle.std.proofs.Common.{refl, ap, sym, ◌∙◌, subst, arith, ⊎_elim}
 use Rattle.std.specs.Prelude.{slice_get, nat_lt}
 use Rattle.std.proofs.Math.Nat.{mod-lt}
 use Rattle.std.proofs.lemmas.Option.{slice_get_within}
@@ -9,17 +10,22 @@ use Rattle.tiger_base.specs.declared.message.Note.{Note}
 use Rattle.slot_plan.specs.declared.params.Params.{Params}
 use Rattle.node_kit.specs.Links.{links_of, ends_of}
 use Rattle.node_kit.specs.Steps.{Input, Deed}
-use Rattle.run_facts.specs.Events.{NodeEvent, opening, stamp_at, is_death, sends_along, takes_along}
-use Rattle.run_facts.specs.Accounts.{tick_count, AreAlive}
+use Rattle.run_facts.specs.Events.{NodeEvent, opening, stamp_at, is_death, is_return, sends_along}
+use Rattle.run_facts.specs.Accounts.{AreAlive, AreHere, event_at, open_after}
 use Rattle.run_facts.specs.Histories.{History, beat, reading, ticks, takes, sent}
 use Rattle.run_facts.specs.Plain.{IsPlainRun}
 use Rattle.run_facts.proofs.Rows.{same-element}
-use Rattle.run_facts.proofs.Listed.{listed, listed-all, listed-sends, listed-takes, listed-ticks, listed-alive}
+use Rattle.run_facts.proofs.Indexed.{all-at}
+use Rattle.run_facts.proofs.Timelines.{open-ticks, plain-here}
+use Rattle.run_facts.proofs.Listed.{listed, listed-all, listed-length, listed-sends, listed-takes, listed-ticks}
 use Rattle.ring_world.specs.declared.event.Act.{Act}
 use Rattle.ring_world.specs.declared.event.Event.{Event}
 use Rattle.ring_world.specs.Machine.{Machine, Being, undying, node_of}
-use Rattle.ring_world.specs.Faults.{has_done, node_fault, missed_fault, take_fault, late_fault, death_fault, fault_of}
+use Rattle.ring_world.specs.Faults.{has_done, life_fault, node_fault, missed_fault, take_fault, late_fault, death_fault, fault_of}
 use Rattle.ring_world.specs.Laws.{IsPlace}
+use Rattle.ring_world.specs.Merging.{place_along}
+use Rattle.ring_world.proofs.Deaths.{HasDied}
+use Rattle.ring_world.proofs.Ways.{place-taken}
 use Rattle.ring_world.proofs.Steps.{IsLifeline}
 use Rattle.ring_world.proofs.Moving.{Holds}
 use Rattle.kept_worlds.specs.Merges.{LivesThrough, MayHappen}
@@ -44,12 +50,42 @@ sends-listed note step l h n i =
     (record { state = refl; journal = refl })
     ∙ sym (listed-sends note step l h n 0 i i (omega arith))
 
-pub takes-listed : {M S : Type 0} (l : ℕ) (h : History M S) (n i : ℕ)
-    → length (takes_along l (listed h n 0 i)) ≡ takes l h n i
-takes-listed l h n i = ap length (sym (listed-takes l h n 0 i i (omega arith))) ∙ length-taken l h n i
+pub takes-listed : {M S : Type 0} (l lost : ℕ) (h : History M S) (n i : ℕ) → AreHere (listed h n 0 i)
+    → place_along l lost 0 (listed h n 0 i) ≡ takes l h n i
+takes-listed l lost h n i here =
+    place-taken l lost (listed h n 0 i) here
+    ∙ ap length (sym (listed-takes l h n 0 i i (omega arith))) ∙ length-taken l h n i
 
-ticks-listed : {M S : Type 0} (h : History M S) (n i : ℕ) → tick_count (listed h n 0 i) ≡ ticks h n i
-ticks-listed h n i = let all = listed-ticks h n 0 i i (omega arith) in omega (arith, all)
+ticks-listed : {M S : Type 0} (h : History M S) (n i : ℕ) → AreHere (listed h n 0 i)
+    → open_after 0 (listed h n 0 i) ≡ ticks h n i
+ticks-listed h n i here =
+    let all = listed-ticks h n 0 i i (omega arith) in
+    let opens = open-ticks 0 (listed h n 0 i) here in
+    omega (arith, all, opens)
+
+-- the event of a number is the history's
+listed-at : {M S : Type 0} (h : History M S) (n i k j m : ℕ) → i + j ≡ m → j < k
+    → event_at (listed h n i k) j ≡ h.event n m
+listed-at h n i zero j m e low = absurd (omega (arith, low))
+listed-at h n i (suc k) zero m e low = let same : i ≡ m = omega (arith, e) in ap (h.event n) same
+listed-at h n i (suc k) (suc j) m e low = listed-at h n (suc i) k j m (omega (arith, e)) (omega (arith, low))
+
+-- who has no death among its events is not dead, and has never died
+pub never-died : {M : Type 0} (dead : Bool) (death : Option ℕ) (es : List (NodeEvent M)) → HasDied dead death es
+    → AreAlive es → (dead ≡ false) × (death ≡ None)
+never-died {M} dead death es h alive = (by_dead dead h, by_death death h)
+  where
+    living : (i : ℕ) → i < length es → is_death (event_at es i) ≡ true → ⊥
+    living i low died = let q : true ≡ false = sym died ∙ all-at (λ (e : NodeEvent M). is_death e ≡ false) es i low alive in
+        absurd (cc)
+
+    by_dead : (d : Bool) → HasDied d death es → d ≡ false
+    by_dead true k = let one = k.final refl in let end = one.1 in absurd (living one.0 (omega (arith, end)) one.2)
+    by_dead false k = refl
+
+    by_death : (d : Option ℕ) → HasDied dead d es → d ≡ None
+    by_death None k = refl
+    by_death (Some d) k = let one = k.when d refl in absurd (living one.0 one.1.low one.1.died)
 
 module _ {M S : Type 0} (note : M → Note) (step : S → Input M → Deed M S) (p : Params) (nodes beats : ℕ) (h : History M S)
     (place : IsPlace p nodes beats) (run : IsPlainRun note step p nodes h) (may : MayHappen p nodes beats h) where
@@ -91,20 +127,28 @@ module _ {M S : Type 0} (note : M → Note) (step : S → Input M → Deed M S) 
         let same : own.0 ≡ c = same-element m.beings k own.0 c own.1 here in
         subst (λ (a : Being S). IsLifeline note step anywhere p k m.beat (h.first k) a (es k)) same own.2
 
+    -- nobody has returned
+    here-listed : (k : ℕ) → k < nodes → AreHere (listed h k 0 (at k))
+    here-listed k low =
+        let within = point.within k low in
+        listed-all h (λ e. is_return e ≡ false) k 0 (at k) (at k) (omega arith)
+        (λ j _ high. plain-here (h.event k j) (run.plain k j low (omega (arith, high, within))))
+
+    pub here-all : (k : ℕ) → k < nodes → AreHere (es k)
+    here-all k low = subst AreHere (sym (point.told k low)) (here-listed k low)
+
     pub ticked-at : (k : ℕ) (c : Being S) → k < nodes → slice_get m.beings k ≡ Some c → c.ticked ≡ ticks h k (at k)
     ticked-at k c low here =
-        (line-of k c low here).ticked ∙ ap tick_count (point.told k low) ∙ ticks-listed h k (at k)
+        (line-of k c low here).ticked ∙ ap (open_after 0) (point.told k low) ∙ ticks-listed h k (at k) (here-listed k low)
 
-    -- who lives through the history lives
-    pub spared : (k : ℕ) (c : Being S) → k < nodes → slice_get m.beings k ≡ Some c → LivesThrough h k → c.dead ≡ false
+    -- who lives through the history is not dead, and has never died
+    pub spared : (k : ℕ) (c : Being S) → k < nodes → slice_get m.beings k ≡ Some c → LivesThrough h k
+        → (c.dead ≡ false) × (c.died ≡ None)
     spared k c low here through =
         let within = point.within k low in
         let alive : AreAlive (es k) = subst AreAlive (sym (point.told k low))
         (listed-all h (λ e. is_death e ≡ false) k 0 (at k) (at k) (omega arith) (λ j _ high. through j (omega (arith, high, within)))) in
-        ⊎_elim
-        (λ (dead : c.dead ≡ true). absurd ((line-of k c low here).died dead alive))
-        (λ (lives : c.dead ≡ false). lives)
-        (cases_Bool c.dead)
+        never-died c.dead c.died (es k) (line-of k c low here).deaths alive
 
     pub sent-here : (l from to : ℕ) → ends_of (links_of p) l ≡ Some (from, to)
         → sends_along note step l (es from) (opening (h.first from) undying) ≡ sent note step l h from (at from)
@@ -112,8 +156,9 @@ module _ {M S : Type 0} (note : M → Note) (step : S → Input M → Deed M S) 
         ap (λ q. sends_along note step l q (opening (h.first from) undying)) (point.told from (place.linked l from to ends).0)
         ∙ sends-listed note step l h from (at from)
 
-    pub taken-here : (l k : ℕ) → k < nodes → length (takes_along l (es k)) ≡ takes l h k (at k)
-    taken-here l k low = ap (λ q. length (takes_along l q)) (point.told k low) ∙ takes-listed l h k (at k)
+    pub taken-here : (l lost k : ℕ) → k < nodes → place_along l lost 0 (es k) ≡ takes l h k (at k)
+    taken-here l lost k low =
+        ap (place_along l lost 0) (point.told k low) ∙ takes-listed l lost h k (at k) (here-listed k low)
 
     module _ (n : ℕ) (next : IsNext m at n) where
       -- the being of the node
@@ -123,16 +168,13 @@ module _ {M S : Type 0} (note : M → Note) (step : S → Input M → Deed M S) 
       pub own-at : slice_get m.beings n ≡ Some own
       own-at = (point.holds.node n next.low).1
 
-      pub own-lives : own.dead ≡ false
+      pub own-lives : (own.dead ≡ false) × (own.died ≡ None)
       own-lives =
           let here = next.here in
           let alive : AreAlive (es n) = subst AreAlive (sym (point.told n next.low))
           (listed-all h (λ e. is_death e ≡ false) n 0 (at n) (at n) (omega arith)
           (λ j _ high. lives-before note step p nodes h run n j (at n) next.low high here)) in
-          ⊎_elim
-          (λ (dead : own.dead ≡ true). absurd ((line-of n own next.low own-at).died dead alive))
-          (λ (lives : own.dead ≡ false). lives)
-          (cases_Bool own.dead)
+          never-died own.dead own.died (es n) (line-of n own next.low own-at).deaths alive
 
       pub own-ticked : own.ticked ≡ beat h n (at n)
       own-ticked = ticked-at n own next.low own-at ∙ sym (run.in_beat n (at n) next.low next.here)
@@ -142,6 +184,18 @@ module _ {M S : Type 0} (note : M → Note) (step : S → Input M → Deed M S) 
 
       pub own-acted : is_death (h.event n (at n)) ≡ true → own.acted ≤ beat h n (at n)
       own-acted died = latest-acted n (at n) own next.low next.here died (point.last n own next.low own-at)
+
+      -- behind its last event who is not dead has not died
+      last-dies : (k : ℕ) (c : Being S) (j : ℕ) → k < nodes → slice_get m.beings k ≡ Some c → c.dead ≡ false
+          → at k ≡ h.count k → j < h.count k → is_death (h.event k j) ≡ true → ⊥
+      last-dies k c j low here lives all high died =
+          let last = run.ended k j low high died in
+          let size : length (es k) ≡ at k = ap length (point.told k low) ∙ listed-length h k 0 (at k) in
+          let inside : j < length (es k) = omega (arith, size, all, high) in
+          let is : event_at (es k) j ≡ h.event k j = ap (λ q. event_at q j) (point.told k low)
+          ∙ listed-at h k 0 (at k) j j (omega arith) (omega (arith, all, high)) in
+          let more = (line-of k c low here).deaths.up lives j (record { low = inside; died = ap is_death is ∙ died }) in
+          omega (arith, more, size, all, last)
 
       -- who lives has ticked in each beat before
       pub reached : (k : ℕ) (c : Being S) → k < nodes → slice_get m.beings k ≡ Some c → c.dead ≡ false
@@ -156,9 +210,10 @@ module _ {M S : Type 0} (note : M → Note) (step : S → Input M → Deed M S) 
           (λ (none : h.count k ≤ at k).
           let within = point.within k low in
           let all : at k ≡ h.count k = omega (arith, none, within) in
-          let alive : AreAlive (listed h k 0 (at k)) = subst AreAlive (point.told k low) ((line-of k c low here).alive lives) in
-          let level = run.level n k (at n) next.low low next.here
-          (λ j high. listed-alive h k 0 (at k) (at k) (omega arith) alive j (omega arith) (omega (arith, high, all))) in
+          let level = run.level n k (at n) next.low low next.here (λ j high. ⊎_elim
+          (λ (died : is_death (h.event k j) ≡ true). absurd (last-dies k c j low here lives all high died))
+          (λ (alive : is_death (h.event k j) ≡ false). alive)
+          (cases_Bool (is_death (h.event k j)))) in
           let same : ticks h k (h.count k) ≡ ticks h k (at k) = ap (ticks h k) (sym all) in
           omega (arith, level, same, ticked))
           (cases_lt (at k) (h.count k))
@@ -167,7 +222,7 @@ module _ {M S : Type 0} (note : M → Note) (step : S → Input M → Deed M S) 
       by-cub : (k : ℕ) → k < nodes → LivesThrough h k → beat h n (at n) ≤ suc m.beat
       by-cub k low through =
           let theirs = point.holds.node k low in
-          let up = reached k theirs.0 low theirs.1 (spared k theirs.0 low theirs.1 through) in
+          let up = reached k theirs.0 low theirs.1 (spared k theirs.0 low theirs.1 through).0 in
           let high = theirs.2.high in
           omega (arith, up, high)
 
@@ -192,14 +247,14 @@ module _ {M S : Type 0} (note : M → Note) (step : S → Input M → Deed M S) 
       undone = let same = own-ticked in grind (arith, nat_tests, same)
 
       -- an act of the node has no fault, if its kind has none
-      pub none-of_act : (a : Act) → node_of p a ≡ n → has_done a (beat h n (at n)) own ≡ false
+      pub none-of_act : (a : Act) → node_of p a ≡ n → life_fault n a (beat h n (at n)) own ≡ None → has_done a (beat h n (at n)) own ≡ false
           → take_fault m.ways (beat h n (at n)) a ≡ None → late_fault p m.ways (beat h n (at n)) a ≡ None
           → death_fault p m.beings a ≡ None
           → fault_of p m (record { stamp = stamp_at (h.event n (at n)); act = a }) ≡ None
-      none-of_act a theirs free take late death =
+      none-of_act a theirs life free take late death =
           let e : Event = record { stamp = stamp_at (h.event n (at n)); act = a } in
           let shown = run.reads n (at n) next.low next.here in
           let node : node_fault p (node_of p a) e (slice_get m.beings (node_of p a)) ≡ None =
           ap (λ k. node_fault p k e (slice_get m.beings k)) theirs ∙ ap (node_fault p n e) own-at
-          ∙ none-node p n e own own-lives free shown.0 shown.1 own-read in
+          ∙ none-node p n e own life free shown.0 shown.1 own-read in
           none-all p m e (none-beat m.beat (beat h n (at n)) next.goes soon) none-of_missed node take late death

@@ -1,6 +1,6 @@
--- The next event of a node may happen: nothing of it is missing, late, early or beside a dead cub.
+-- The next event of a node may happen: nothing of it is missing, late, early or beside a cub that died.
 use Rattle.std.proofs.Common.{◌≡◌, ℕ, suc, ◌+◌, ◌-◌, ◌%◌, ◌<◌, List, [], ◌∷◌, length, true, false, Option, Some, None, refl, ap, sym, ◌∙◌, subst, arith, ⊎_elim}
-use Rattle.std.specs.Prelude.{slice_get, option_map, nat_lt, ◌==◌}
+use Rattle.std.specs.Prelude.{slice_get, option_map, nat_lt, is_some, ◌==◌}
 use Rattle.std.specs.List.{AllByRecursion}
 use Rattle.std.proofs.Math.Nat.{mod_self, mod-eq_of_lt, mod-lt}
 use Rattle.std.proofs.lemmas.Option.{none-some}
@@ -13,24 +13,26 @@ use Rattle.slot_plan.specs.declared.params.Params.{Params}
 use Rattle.node_kit.specs.Links.{links_of, ends_of, leads_to}
 use Rattle.node_kit.specs.Steps.{Input, Deed}
 use Rattle.node_kit.specs.Steps.Input.{Take, Tick}
-use Rattle.run_facts.specs.Events.{NodeEvent, Dated, stamp_at, is_tick, is_death, is_take_on, takes_along, IsPlain}
+use Rattle.run_facts.specs.Events.{NodeEvent, Dated, opening, stamp_at, is_tick, is_death, is_return, is_take_on}
+use Rattle.run_facts.specs.Events.{sends_along, IsPlain}
 use Rattle.run_facts.specs.Events.NodeEvent.{Does, Ends, Dies, Returns}
 use Rattle.run_facts.specs.Accounts.{IsLed}
 use Rattle.run_facts.specs.Histories.{History, beat, takes, sent}
 use Rattle.run_facts.specs.Plain.{IsPlainRun}
 use Rattle.run_facts.proofs.Rows.{same-element}
 use Rattle.run_facts.proofs.Counts.{sent-stays}
-use Rattle.ring_world.specs.Machine.{Machine, Being, Way, oldest, receiver, node_of, node_event}
-use Rattle.ring_world.specs.Faults.{has_done, take_fault, late_fault, death_fault, is_dead, cub_before, cub_after, IsActOf}
+use Rattle.run_facts.proofs.Indexed.{all-at}
+use Rattle.ring_world.specs.Machine.{Machine, Being, Way, undying, oldest, receiver, node_of, node_event}
+use Rattle.ring_world.specs.Faults.{has_done, life_fault, take_fault, late_fault, death_fault, has_died, cub_before, cub_after, IsActOf}
 use Rattle.ring_world.specs.Laws.{IsPlace}
-use Rattle.ring_world.specs.Merging.{act_of}
-use Rattle.ring_world.proofs.Lists.{passed-length}
 use Rattle.ring_world.proofs.Neighbours.{MayDie}
-use Rattle.ring_world.proofs.Steps.{IsTakenOff}
+use Rattle.ring_world.specs.Merging.{act_of, place_along}
+use Rattle.ring_world.proofs.Ways.{IsOnWay, IsTakenOff}
 use Rattle.kept_worlds.specs.Merges.{LivesThrough, MayHappen}
 use Rattle.kept_worlds.proofs.Faultless.{none-take, none-late, none-death}
 use Rattle.kept_worlds.proofs.Numbers.{get-after, sent-by, young-at_tick}
-use Rattle.kept_worlds.proofs.Points.{IsAt, IsNext, sent-here, taken-here, spared, own, own-acted, undone}
+use Rattle.kept_worlds.proofs.Points.{IsAt, IsNext, sent-here, here-all, taken-here, spared, own}
+use Rattle.kept_worlds.proofs.Points.{own-lives, own-acted, undone}
 
 -- a list that has a first element
 first-of : {X : Type 0} (xs : List X) (x : X) → slice_get xs 0 ≡ Some x → (tail : List X) × (xs ≡ x ∷ tail)
@@ -82,14 +84,15 @@ module _ {M S : Type 0} (note : M → Note) (step : S → Input M → Deed M S) 
 
   -- this event of the node may happen to the machine, by its kind
   pub record IsReady (y : NodeEvent M) : Type 0 where
-    pub known : IsActOf p nodes (act_of (es n) n y)
-    pub theirs : node_of p (act_of (es n) n y) ≡ n
-    pub event : node_event m.ways (stamp_at y) (act_of (es n) n y) ≡ Some y
+    pub known : IsActOf p nodes (act_of h.before (es n) n y)
+    pub theirs : node_of p (act_of h.before (es n) n y) ≡ n
+    pub event : node_event m.ways (stamp_at y) (act_of h.before (es n) n y) ≡ Some y
     pub led : IsLed p n y
-    pub free : has_done (act_of (es n) n y) now mine ≡ false
-    pub take : take_fault m.ways now (act_of (es n) n y) ≡ None
-    pub late : late_fault p m.ways now (act_of (es n) n y) ≡ None
-    pub death : death_fault p m.beings (act_of (es n) n y) ≡ None
+    pub life : life_fault n (act_of h.before (es n) n y) now mine ≡ None
+    pub free : has_done (act_of h.before (es n) n y) now mine ≡ false
+    pub take : take_fault m.ways now (act_of h.before (es n) n y) ≡ None
+    pub late : late_fault p m.ways now (act_of h.before (es n) n y) ≡ None
+    pub death : death_fault p m.beings (act_of h.before (es n) n y) ≡ None
     pub takes : (l from to : ℕ) (w : Way M) → ends_of (links_of p) l ≡ Some (from, to) → slice_get m.ways l ≡ Some w
         → is_take_on l y ≡ true → (to ≡ n) × IsTakenOff now l w y
     pub dies : is_death y ≡ true → MayDie p m.beings n
@@ -99,6 +102,18 @@ module _ {M S : Type 0} (note : M → Note) (step : S → Input M → Deed M S) 
   not-ticked : nat_lt now mine.ticked ≡ false
   not-ticked = undone note step p nodes beats h place run may m es at point n next
 
+  alive-here : (mine.dead ≡ false) × (mine.died ≡ None)
+  alive-here = own-lives note step p nodes beats h place run may m es at point n next
+
+  -- nothing is lost, so that what is gone was taken
+  gone-is : (l from : ℕ) (w : Way M)
+      → IsOnWay p.delay m.beat l w (sends_along note step l (es from) (opening (h.first from) undying)) (es n)
+      → place_along l (h.before l) 0 (es n) ≡ w.gone
+  gone-is l from w on = on.place (h.before l) (λ i stamp low is.
+      let here = all-at (λ (e : NodeEvent M). is_return e ≡ false) (es n) i low
+      (here-all note step p nodes beats h place run may m es at point n next.low) in
+      let q : true ≡ false = sym (ap is_return is) ∙ here in absurd (cc))
+
   -- what is under way on a link to the node stands behind what was taken there
   waiting-at : (l from j : ℕ) (w : Way M) (d : Dated M) → ends_of (links_of p) l ≡ Some (from, n) → slice_get m.ways l ≡ Some w
       → slice_get w.under_way j ≡ Some d → slice_get (sent note step l h from (at from)) (takes l h n (at n) + j) ≡ Some d
@@ -106,9 +121,10 @@ module _ {M S : Type 0} (note : M → Note) (step : S → Input M → Deed M S) 
       let theirs = point.holds.way l from n ends in
       let same : theirs.0 ≡ w = same-element m.ways l theirs.0 w theirs.1 here in
       let on = theirs.2 in
-      let gone = passed-length p.delay on.gone (takes_along l (es n)) on.passed in
-      let count = taken-here note step p nodes beats h place run may m es at point l n next.low in
-      let behind : takes l h n (at n) + j ≡ length on.gone + j = omega (arith, gone, count) in
+      let number = on.number in
+      let gone = gone-is l from theirs.0 on in
+      let count = taken-here note step p nodes beats h place run may m es at point l (h.before l) n next.low in
+      let behind : takes l h n (at n) + j ≡ length on.gone + j = omega (arith, gone, count, number) in
       ap (λ ds. slice_get ds (takes l h n (at n) + j)) (sym (sent-here note step p nodes beats h place run may m es at point l from n ends) ∙ on.split)
       ∙ get-after on.gone theirs.0.under_way (takes l h n (at n) + j) j behind
       ∙ ap (λ (v : Way M). slice_get v.under_way j) same ∙ there
@@ -116,19 +132,20 @@ module _ {M S : Type 0} (note : M → Note) (step : S → Input M → Deed M S) 
   -- and the other way round: what is sent with the number of the next take is the oldest under way
   next-at : (l from : ℕ) (d : Dated M) → ends_of (links_of p) l ≡ Some (from, n)
       → slice_get (sent note step l h from (at from)) (takes l h n (at n)) ≡ Some d
-      → (w : Way M) × (slice_get m.ways l ≡ Some w) × (w.taken ≡ length (takes_along l (es n))) × (tail : List (Dated M))
+      → (w : Way M) × (slice_get m.ways l ≡ Some w) × (w.gone ≡ place_along l (h.before l) 0 (es n)) × (tail : List (Dated M))
       × (w.under_way ≡ d ∷ tail)
   next-at l from d ends was =
       let theirs = point.holds.way l from n ends in
       let on = theirs.2 in
-      let gone = passed-length p.delay on.gone (takes_along l (es n)) on.passed in
-      let count = taken-here note step p nodes beats h place run may m es at point l n next.low in
-      let behind : takes l h n (at n) ≡ length on.gone + 0 = omega (arith, gone, count) in
+      let number = on.number in
+      let gone = gone-is l from theirs.0 on in
+      let count = taken-here note step p nodes beats h place run may m es at point l (h.before l) n next.low in
+      let behind : takes l h n (at n) ≡ length on.gone + 0 = omega (arith, gone, count, number) in
       let head : slice_get theirs.0.under_way 0 ≡ Some d = sym (get-after on.gone theirs.0.under_way (takes l h n (at n)) 0 behind)
       ∙ ap (λ ds. slice_get ds (takes l h n (at n))) (sym on.split ∙ sent-here note step p nodes beats h place run may m es at point l from n ends)
       ∙ was in
       let all = first-of theirs.0.under_way d head in
-      (theirs.0, theirs.1, on.number, all.0, all.1)
+      (theirs.0, theirs.1, sym gone, all.0, all.1)
 
   ready-take : (stamp : Stamp) (link : LinkNo) (msg : M) → h.event n (at n) ≡ Does (Take stamp link msg)
       → IsReady (Does (Take stamp link msg))
@@ -156,8 +173,9 @@ module _ {M S : Type 0} (note : M → Note) (step : S → Input M → Deed M S) 
         theirs = ap receiver came.ends;
         event = ap (λ o. option_map (λ (q : Dated M). Does (Take stamp link q.item)) o) old;
         led = (came.from, came.ends);
+        life = rw alive-here.0 refl;
         free = not-ticked;
-        take = none-take m.ways now link (length (takes_along link.0 (es n))) way.0 d way.1 (sym way.2) old earlier;
+        take = none-take m.ways now link (place_along link.0 (h.before link.0) 0 (es n)) way.0 d way.1 (sym way.2) old earlier;
         late = refl;
         death = refl;
         takes = λ l from to w ends here takes_it.
@@ -187,6 +205,7 @@ module _ {M S : Type 0} (note : M → Note) (step : S → Input M → Deed M S) 
         theirs = refl;
         event = refl;
         led = tt;
+        life = rw alive-here.0 refl;
         free = not-ticked;
         take = refl;
         late = none-late p n now m.ways (λ l w here leads.
@@ -202,18 +221,19 @@ module _ {M S : Type 0} (note : M → Note) (step : S → Input M → Deed M S) 
       let died : is_death (h.event n (at n)) ≡ true = ap is_death is in
       let low = may.cubs n (at n) next.low next.here died in
       let dead_here : LivesThrough h n → ⊥ = λ through. let q : true ≡ false = sym died ∙ through (at n) next.here in absurd (cc) in
-      let spare : (k : ℕ) → k < p.cubs → LivesThrough h k → is_dead (slice_get m.beings k) ≡ false = λ k low_k through.
+      let spare : (k : ℕ) → k < p.cubs → LivesThrough h k → has_died (slice_get m.beings k) ≡ false = λ k low_k through.
       (let cubs = place.cubs in
       let within : k < nodes = omega (arith, low_k, cubs) in
       let theirs = point.holds.node k within in
-      ap is_dead theirs.1 ∙ spared note step p nodes beats h place run may m es at point k theirs.0 within theirs.1 through) in
+      ap has_died theirs.1
+      ∙ ap is_some (spared note step p nodes beats h place run may m es at point k theirs.0 within theirs.1 through).1) in
       let before = cub_before p n in
       let after_low : cub_after p n < p.cubs = mod-lt (n + 1) (omega (arith, low)) in
-      let after_lives : is_dead (slice_get m.beings (cub_after p n)) ≡ false = ⊎_elim
+      let after_lives : has_died (slice_get m.beings (cub_after p n)) ≡ false = ⊎_elim
       (λ (through : LivesThrough h n). absurd (dead_here through))
       (λ (through : LivesThrough h (cub_after p n)). spare (cub_after p n) after_low through)
       (may.apart n low) in
-      let before_lives : is_dead (slice_get m.beings before) ≡ false = ⊎_elim
+      let before_lives : has_died (slice_get m.beings before) ≡ false = ⊎_elim
       (λ (through : LivesThrough h before). spare before (before-low p n low) through)
       (λ (through : LivesThrough h (cub_after p before)). absurd (dead_here (subst (LivesThrough h) (after-before p n low) through)))
       (may.apart before (before-low p n low)) in
@@ -224,6 +244,7 @@ module _ {M S : Type 0} (note : M → Note) (step : S → Input M → Deed M S) 
         theirs = refl;
         event = refl;
         led = tt;
+        life = rw (alive-here.0, alive-here.1) refl;
         free = rw idle not-ticked;
         take = refl;
         late = refl;

@@ -20,6 +20,7 @@ use Rattle.ring_world.specs.declared.event.Act.TheVariants as act
 use Rattle.ring_world.specs.declared.event.Event.{Event}
 use Rattle.ring_world.specs.Machine.{Machine, happens}
 use Rattle.ring_world.specs.Faults.{Accepts, IsActOf, IsEventOf}
+use Rattle.ring_world.specs.Laws.{is_whole, HaveWholeDeaths}
 use Rattle.ring_world.specs.Merging.{Happening, IsMerged, act_of, added, own, told_as, told_from}
 use Rattle.ring_world.proofs.Accepting.{some-same}
 
@@ -32,24 +33,25 @@ accepted_events note step p nodes beats m (e ∷ es) k a =
     (a.0, accepted_events note step p nodes beats (happens note step p m e) es k a.2)
 
 -- A death is told as the death of its node, and so is a cub's.
-death_of_cub : {M : Type 0} (p : Params) (nodes : ℕ) (es : List (NodeEvent M)) (n : ℕ) (x : NodeEvent M)
-    → IsActOf p nodes (act_of es n x) → is_death x ≡ true → n < p.cubs
-death_of_cub p nodes es n (Does (Take stamp link msg)) is t = absurd (cc)
-death_of_cub p nodes es n (Does (Tick stamp)) is t = absurd (cc)
-death_of_cub p nodes es n (Ends input sends) is t = is
-death_of_cub p nodes es n (Dies stamp) is t = is
-death_of_cub p nodes es n (Returns stamp) is t = absurd (cc)
+death_of_cub : {M : Type 0} (p : Params) (nodes : ℕ) (lost : ℕ → ℕ) (es : List (NodeEvent M)) (n : ℕ) (x : NodeEvent M)
+    → IsActOf p nodes (act_of lost es n x) → is_whole (act_of lost es n x) ≡ true → is_death x ≡ true → n < p.cubs
+death_of_cub p nodes lost es n (Does (Take stamp link msg)) is whole t = absurd (cc)
+death_of_cub p nodes lost es n (Does (Tick stamp)) is whole t = absurd (cc)
+death_of_cub p nodes lost es n (Ends input sends) is whole t = absurd (cc)
+death_of_cub p nodes lost es n (Dies stamp) is whole t = is
+death_of_cub p nodes lost es n (Returns stamp) is whole t = absurd (cc)
 
-deaths_of_cubs : {M : Type 0} (p : Params) (nodes beats n : ℕ) (es : ℕ → List (NodeEvent M)) (xs : List (Happening M))
-    → AllByRecursion (IsEventOf p nodes beats) (told_from es xs)
+deaths_of_cubs : {M : Type 0} (p : Params) (nodes beats n : ℕ) (lost : ℕ → ℕ) (es : ℕ → List (NodeEvent M))
+    (xs : List (Happening M)) → AllByRecursion (IsEventOf p nodes beats) (told_from lost es xs)
+    → HaveWholeDeaths (told_from lost es xs)
     → AllByRecursion (λ (y : NodeEvent M). is_death y ≡ true → n < p.cubs) (own n xs)
-deaths_of_cubs p nodes beats n es [] all = tt
-deaths_of_cubs {M} p nodes beats n es (x ∷ xs) all =
-    let rest = deaths_of_cubs p nodes beats n (added x.node x.event es) xs all.1 in
+deaths_of_cubs p nodes beats n lost es [] all whole = tt
+deaths_of_cubs {M} p nodes beats n lost es (x ∷ xs) all whole =
+    let rest = deaths_of_cubs p nodes beats n lost (added x.node x.event es) xs all.1 whole.1 in
     ⊎_elim
     (λ (t : (x.node == n) ≡ true).
     let here : is_death x.event ≡ true → n < p.cubs =
-    λ d. subst (λ k. k < p.cubs) (eqb-true _ _ t) (death_of_cub p nodes (es x.node) x.node x.event all.0.1 d) in
+    λ d. subst (λ k. k < p.cubs) (eqb-true _ _ t) (death_of_cub p nodes lost (es x.node) x.node x.event all.0.1 whole.0 d) in
     rw t (here, rest))
     (λ (f : (x.node == n) ≡ false). rw f rest)
     (cases_Bool (x.node == n))
@@ -59,18 +61,20 @@ abbrev ticking : Act → Option ℕ
 ticking (act.Get link number) = None
 ticking (act.Tick node) = Some node.0
 ticking (act.Die cub) = None
+ticking (act.DieIn final sends) = None
+ticking (act.Return cub) = None
 
 -- The event that node n ticks.
 abbrev pub tick_event : Stamp → ℕ → Event
 tick_event stamp n = record { stamp = stamp; act = act.Tick (record { 0 = n }) }
 
 -- A tick that is told is one of its node's events.
-told_tick : {M : Type 0} (es : List (NodeEvent M)) (x : Happening M) (stamp : Stamp) (n : ℕ)
-    → told_as es x ≡ tick_event stamp n → (x.node ≡ n) × (x.event ≡ Does (Tick stamp))
-told_tick {M} es x stamp n told = by x.event refl
+told_tick : {M : Type 0} (lost : ℕ → ℕ) (es : List (NodeEvent M)) (x : Happening M) (stamp : Stamp) (n : ℕ)
+    → told_as lost es x ≡ tick_event stamp n → (x.node ≡ n) × (x.event ≡ Does (Tick stamp))
+told_tick {M} lost es x stamp n told = by x.event refl
   where
-    named : (y : NodeEvent M) → x.event ≡ y → ticking (act_of es x.node y) ≡ Some n
-    named y e = ap (λ z. ticking (act_of es x.node z)) (sym e) ∙ ap (λ (v : Event). ticking v.act) told
+    named : (y : NodeEvent M) → x.event ≡ y → ticking (act_of lost es x.node y) ≡ Some n
+    named y e = ap (λ z. ticking (act_of lost es x.node z)) (sym e) ∙ ap (λ (v : Event). ticking v.act) told
 
     by : (y : NodeEvent M) → x.event ≡ y → (x.node ≡ n) × (x.event ≡ Does (Tick stamp))
     by (Does (Take s link msg)) e = absurd (none-some n (named (Does (Take s link msg)) e))
@@ -81,15 +85,15 @@ told_tick {M} es x stamp n told = by x.event refl
     by (Dies s) e = absurd (none-some n (named (Dies s) e))
     by (Returns s) e = absurd (none-some n (named (Returns s) e))
 
-tick_own : {M : Type 0} (stamp : Stamp) (n : ℕ) (es : ℕ → List (NodeEvent M)) (xs : List (Happening M)) (k : ℕ)
-    → slice_get (told_from es xs) k ≡ Some (tick_event stamp n) → (j : ℕ) × (slice_get (own n xs) j ≡ Some (Does (Tick stamp)))
-tick_own stamp n es [] k at = absurd (none-some (tick_event stamp n) at)
-tick_own {M} stamp n es (x ∷ xs) zero at =
-    let told = told_tick (es x.node) x stamp n (some-same (told_as (es x.node) x) (tick_event stamp n) at) in
+tick_own : {M : Type 0} (lost : ℕ → ℕ) (stamp : Stamp) (n : ℕ) (es : ℕ → List (NodeEvent M)) (xs : List (Happening M)) (k : ℕ)
+    → slice_get (told_from lost es xs) k ≡ Some (tick_event stamp n) → (j : ℕ) × (slice_get (own n xs) j ≡ Some (Does (Tick stamp)))
+tick_own lost stamp n es [] k at = absurd (none-some (tick_event stamp n) at)
+tick_own {M} lost stamp n es (x ∷ xs) zero at =
+    let told = told_tick lost (es x.node) x stamp n (some-same (told_as lost (es x.node) x) (tick_event stamp n) at) in
     let t : (x.node == n) ≡ true = eq-eqb x.node n told.0 in
     (0, rw t (ap (λ (y : NodeEvent M). Some y) told.1))
-tick_own {M} stamp n es (x ∷ xs) (suc k) at =
-    let rest = tick_own stamp n (added x.node x.event es) xs k at in
+tick_own {M} lost stamp n es (x ∷ xs) (suc k) at =
+    let rest = tick_own lost stamp n (added x.node x.event es) xs k at in
     ⊎_elim
     (λ (t : (x.node == n) ≡ true). (suc rest.0, rw t rest.1))
     (λ (f : (x.node == n) ≡ false). (rest.0, rw f rest.1))
@@ -117,18 +121,20 @@ all_each P f (suc n) each =
 module _ {M S : Type 0} (p : Params) (nodes beats : ℕ) (h : History M S) (events : List Event)
     (merged : IsMerged h nodes events) where
   pub only_cubs_die : AllByRecursion (IsEventOf p nodes beats) events
+      → HaveWholeDeaths events
       → (n i : ℕ) → n < nodes → i < h.count n → is_death (h.event n i) ≡ true → n < p.cubs
-  only_cubs_die all n i inside low =
+  only_cubs_die all whole n i inside low =
       let told = subst (AllByRecursion (IsEventOf p nodes beats)) merged.told all in
+      let told_whole = subst HaveWholeDeaths merged.told whole in
       all_below (λ (y : NodeEvent M). is_death y ≡ true → n < p.cubs) (h.event n) (h.count n) i low
       (subst (AllByRecursion (λ (y : NodeEvent M). is_death y ≡ true → n < p.cubs)) (merged.each n inside)
-      (deaths_of_cubs p nodes beats n (λ _. []) merged.merged told))
+      (deaths_of_cubs p nodes beats n h.before (λ _. []) merged.merged told told_whole))
 
   pub tick_happened : (stamp : Stamp) (n k : ℕ) → n < nodes
       → slice_get events k ≡ Some (tick_event stamp n)
       → (i : ℕ) × (i < h.count n) × (h.event n i ≡ Does (Tick stamp))
   tick_happened stamp n k inside at =
-      let mine = tick_own stamp n (λ _. []) merged.merged k (ap (λ es. slice_get es k) (sym merged.told) ∙ at) in
+      let mine = tick_own h.before stamp n (λ _. []) merged.merged k (ap (λ es. slice_get es k) (sym merged.told) ∙ at) in
       let there : slice_get (each_below (h.event n) (h.count n)) mine.0 ≡ Some (Does (Tick stamp)) =
       ap (λ ys. slice_get ys mine.0) (sym (merged.each n inside)) ∙ mine.1 in
       let low : mine.0 < h.count n = omega (arith, get-below _ mine.0 _ there, length-each_below (h.event n) (h.count n)) in

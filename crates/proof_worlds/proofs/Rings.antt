@@ -1,5 +1,5 @@
 -- A list of events that a machine of a ring's opening nodes accepts is a history of a ring.
-use Rattle.std.proofs.Common.{◌≡◌, ℕ, ◌+◌, ◌<◌, List, [], length, true, false, Some, sym, ap, subst, ◌∙◌, arith, ⊎_elim}
+use Rattle.std.proofs.Common.{◌≡◌, ℕ, ◌+◌, ◌<◌, List, [], length, true, false, Some, None, sym, ap, subst, ◌∙◌, arith, ⊎_elim}
 use Rattle.std.specs.Prelude.{slice_get}
 use Rattle.std.specs.List.{AllByRecursion}
 use Rattle.std.proofs.lemmas.Bool.{cases_Bool}
@@ -10,8 +10,9 @@ use Rattle.slot_plan.specs.declared.params.Params.{Params}
 use Rattle.slot_plan.specs.Times.{cub_of}
 use Rattle.node_kit.specs.declared.course.Order.{Order}
 use Rattle.run_facts.specs.Events.{is_death}
-use Rattle.run_facts.specs.Histories.{History}
+use Rattle.run_facts.specs.Histories.{History, IsUp}
 use Rattle.run_facts.specs.Plain.{IsPlainRun}
+use Rattle.run_facts.proofs.Plain.{ticked-to}
 use Rattle.disk_core.specs.State.{DiskState}
 use Rattle.ring_nodes.specs.declared.nodes.AnyNode.{AnyNode}
 use Rattle.ring_nodes.specs.declared.nodes.AnyNode.TheVariants as node
@@ -24,7 +25,7 @@ use Rattle.proof_ring.specs.Rings.{OpensAs, IsRing}
 use Rattle.ring_world.specs.declared.event.Event.{Event}
 use Rattle.ring_world.specs.Machine.{Machine, Being, journals_of, opening_machine}
 use Rattle.ring_world.specs.Faults.{Accepts, IsEventOf}
-use Rattle.ring_world.specs.Laws.{HasCome, IsPlace}
+use Rattle.ring_world.specs.Laws.{HasCome, HasDiedIn, IsPlace}
 use Rattle.ring_world.proofs.Places.{plans-places}
 use Rattle.ring_world.proofs.Runs.{accepted-runs}
 use Rattle.proof_worlds.specs.Accepted.{opening_ring, IsAccepted, AcceptedListsAreRings}
@@ -55,6 +56,9 @@ module _ (G : Type 0) (p : Params) (orders : List Order) (disk_at : ℕ → Disk
   abbrev pub h : History Msg (AnyNode G)
   h = come.history
 
+  plain_run : IsPlainRun noted any_step p (length given) h
+  plain_run = come.plain k.whole
+
   -- Each event that is accepted may be asked of the ring.
   pub asked : AllByRecursion (IsEventOf p (length given) beats) events
   asked = subst (λ n. AllByRecursion (IsEventOf p n beats) events) (sym size)
@@ -64,11 +68,11 @@ module _ (G : Type 0) (p : Params) (orders : List Order) (disk_at : ℕ → Disk
   pub being_of : (n : ℕ) → n < node_count p → (b : Being (AnyNode G)) × (slice_get m.beings n ≡ Some b)
   being_of n low = get_some m.beings n (subst (λ k. n < k) (sym (come.each_has_being ∙ size)) low)
 
-  -- Who died in the history is dead.
+  -- Who died in the history is known to have died.
   pub dead_if : (n i : ℕ) (b : Being (AnyNode G)) → n < node_count p → slice_get m.beings n ≡ Some b → i < h.count n
-      → is_death (h.event n i) ≡ true → b.dead ≡ false → ⊥
-  dead_if n i b inside at low died lives =
-      let alive = (come.dead n b (within n inside) at).lives lives i low in
+      → is_death (h.event n i) ≡ true → b.died ≡ None → ⊥
+  dead_if n i b inside at low died never =
+      let alive = subst (HasDiedIn h n) never (come.died n b (within n inside) at) i low in
       let q : true ≡ false = sym died ∙ alive in absurd (cc)
 
   pub deaths : DieAlone p h
@@ -76,7 +80,7 @@ module _ (G : Type 0) (p : Params) (orders : List Order) (disk_at : ℕ → Disk
   deaths = record {
     mortal = λ n i inside other low. ⊎_elim
         (λ (t : is_death (h.event n i) ≡ true).
-        let cub = only_cubs_die p (length given) beats h events come.merged asked n i (within n inside) low t in
+        let cub = only_cubs_die p (length given) beats h events come.merged asked k.whole n i (within n inside) low t in
         absurd (omega (arith, cub, other)))
         (λ (f : is_death (h.event n i) ≡ false). f)
         (cases_Bool (is_death (h.event n i)));
@@ -86,8 +90,8 @@ module _ (G : Type 0) (p : Params) (orders : List Order) (disk_at : ℕ → Disk
         let a = being_of c first in
         let b = being_of d second in
         ⊎_elim
-        (λ (q : a.0.dead ≡ false). dead_if c i a.0 first a.1 low one q)
-        (λ (q : b.0.dead ≡ false). dead_if d j b.0 second b.1 high two q)
+        (λ (q : a.0.died ≡ None). dead_if c i a.0 first a.1 low one q)
+        (λ (q : b.0.died ≡ None). dead_if d j b.0 second b.1 high two q)
         (come.apart c a.0 b.0 small a.1 (ap (λ n. slice_get m.beings n) (sym next) ∙ b.1));
   }
 
@@ -104,7 +108,7 @@ module _ (G : Type 0) (p : Params) (orders : List Order) (disk_at : ℕ → Disk
 
   pub is_ring : IsRing p orders disk_at h
   is_ring = record {
-    run = subst (λ n. IsPlainRun noted any_step p n h) size come.run;
+    run = subst (λ n. IsPlainRun noted any_step p n h) size plain_run;
     opens = opens;
     deaths = deaths;
     counted = k.counted;
@@ -118,7 +122,13 @@ module _ (G : Type 0) (p : Params) (orders : List Order) (disk_at : ℕ → Disk
   }
 
   pub up_to : IsUpTo p m.beat h
-  up_to = record { until = λ n inside alive. come.ticked n (within n inside) alive }
+  up_to = record {
+    until = λ n inside alive.
+        let up : IsUp h n = λ i low died. (let q : true ≡ false = sym died ∙ alive i low in absurd (cc)) in
+        let ended = come.ticked n (within n inside) up in
+        let same = ticked-to noted any_step p (length given) h plain_run.plain n (h.count n) (within n inside) (omega arith) in
+        omega (arith, ended, same);
+  }
 
 pub accepted_lists_are_rings : (G : Type 0) → AcceptedListsAreRings G
 accepted_lists_are_rings G p orders disk_at beats events m k = record {

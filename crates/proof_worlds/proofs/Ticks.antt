@@ -54,11 +54,15 @@ first_or_rest stamp (act.Tick node) rest n b l t = ⊎_elim
     ∙ ap (λ (x : ℕ). tick_event (record { beat = b; reading = x }) n) first.2))
     (λ later. inr later) t
 first_or_rest stamp (act.Die cub) rest n b l t = inr t
+first_or_rest stamp (act.DieIn final sends) rest n b l t = inr t
+first_or_rest stamp (act.Return cub) rest n b l t = inr t
 
 behind : (stamp : Stamp) (a : Act) (rest : List Ticking) (n b l : ℕ) → HasTick rest n b l → HasTick (tick_of stamp a ++ rest) n b l
 behind stamp (act.Get link number) rest n b l t = t
 behind stamp (act.Tick node) rest n b l t = inr t
 behind stamp (act.Die cub) rest n b l t = t
+behind stamp (act.DieIn final sends) rest n b l t = t
+behind stamp (act.Return cub) rest n b l t = t
 
 -- Each tick of a list is one of its events.
 pub has_event : (events : List Event) (n b l : ℕ) → HasTick (ticks_of events) n b l
@@ -100,61 +104,61 @@ reading_is (x ∷ xs) n b r one t = picked (is_tick_at n b x) x (find (is_tick_a
 -- ---- the ticks that a history is told as
 
 -- A tick of a node is told.
-own_first : {M : Type 0} (stamp : Stamp) (n : ℕ) (past : List (NodeEvent M)) (x : Happening M) (rest : List Ticking) (es : List (NodeEvent M))
+own_first : {M : Type 0} (lost : ℕ → ℕ) (stamp : Stamp) (n : ℕ) (past : List (NodeEvent M)) (x : Happening M) (rest : List Ticking) (es : List (NodeEvent M))
     → (x.node == n) ≡ true → ((k : ℕ) → slice_get es k ≡ Some (Does (Tick stamp)) → HasTick rest n stamp.beat stamp.reading)
     → (k : ℕ) → slice_get (x.event ∷ es) k ≡ Some (Does (Tick stamp))
-    → HasTick (tick_of (stamp_at x.event) (act_of past x.node x.event) ++ rest) n stamp.beat stamp.reading
-own_first {M} stamp n past x rest es t later zero there =
+    → HasTick (tick_of (stamp_at x.event) (act_of lost past x.node x.event) ++ rest) n stamp.beat stamp.reading
+own_first {M} lost stamp n past x rest es t later zero there =
     let is : x.event ≡ Does (Tick stamp) = some-same x.event (Does (Tick stamp)) there in
-    subst (λ (y : NodeEvent M). HasTick (tick_of (stamp_at y) (act_of past x.node y) ++ rest) n stamp.beat stamp.reading) (sym is)
+    subst (λ (y : NodeEvent M). HasTick (tick_of (stamp_at y) (act_of lost past x.node y) ++ rest) n stamp.beat stamp.reading) (sym is)
     (inl (eqb-true x.node n t, refl, refl))
-own_first stamp n past x rest es t later (suc k) there =
-    behind (stamp_at x.event) (act_of past x.node x.event) rest n stamp.beat stamp.reading (later k there)
+own_first lost stamp n past x rest es t later (suc k) there =
+    behind (stamp_at x.event) (act_of lost past x.node x.event) rest n stamp.beat stamp.reading (later k there)
 
-own_has : {M : Type 0} (stamp : Stamp) (n : ℕ) (es : ℕ → List (NodeEvent M)) (xs : List (Happening M)) (k : ℕ)
-    → slice_get (own n xs) k ≡ Some (Does (Tick stamp)) → HasTick (ticks_of (told_from es xs)) n stamp.beat stamp.reading
-own_has stamp n es [] k there = absurd (none-some _ there)
-own_has stamp n es (x ∷ xs) k there =
+own_has : {M : Type 0} (lost : ℕ → ℕ) (stamp : Stamp) (n : ℕ) (es : ℕ → List (NodeEvent M)) (xs : List (Happening M)) (k : ℕ)
+    → slice_get (own n xs) k ≡ Some (Does (Tick stamp)) → HasTick (ticks_of (told_from lost es xs)) n stamp.beat stamp.reading
+own_has lost stamp n es [] k there = absurd (none-some _ there)
+own_has lost stamp n es (x ∷ xs) k there =
     let next = added x.node x.event es in
-    let rest = ticks_of (told_from next xs) in
+    let rest = ticks_of (told_from lost next xs) in
     ⊎_elim
-    (λ (t : (x.node == n) ≡ true). own_first stamp n (es x.node) x rest (own n xs) t (own_has stamp n next xs) k (rw t at there))
+    (λ (t : (x.node == n) ≡ true). own_first lost stamp n (es x.node) x rest (own n xs) t (own_has lost stamp n next xs) k (rw t at there))
     (λ (f : (x.node == n) ≡ false).
-    behind (stamp_at x.event) (act_of (es x.node) x.node x.event) rest n stamp.beat stamp.reading (own_has stamp n next xs k (rw f at there)))
+    behind (stamp_at x.event) (act_of lost (es x.node) x.node x.event) rest n stamp.beat stamp.reading (own_has lost stamp n next xs k (rw f at there)))
     (cases_Bool (x.node == n))
 
 -- As many ticks of a node are told as it has.
-told_count : {M : Type 0} (n k : ℕ) (past : List (NodeEvent M)) (y : NodeEvent M) (rest : List Ticking) (es : List (NodeEvent M))
+told_count : {M : Type 0} (lost : ℕ → ℕ) (n k : ℕ) (past : List (NodeEvent M)) (y : NodeEvent M) (rest : List Ticking) (es : List (NodeEvent M))
     → IsPlain y → (k == n) ≡ true → length (filter (is_tick_of n) rest) ≡ length (filter is_tick es)
-    → length (filter (is_tick_of n) (tick_of (stamp_at y) (act_of past k y) ++ rest)) ≡ length (filter is_tick (y ∷ es))
-told_count n k past (Does (Take stamp link msg)) rest es plain t same = same
-told_count n k past (Does (Tick stamp)) rest es plain t same = rw t (ap (λ (j : ℕ). suc j) same)
-told_count n k past (Ends input sends) rest es plain t same = absurd plain
-told_count n k past (Dies stamp) rest es plain t same = same
-told_count n k past (Returns stamp) rest es plain t same = absurd plain
+    → length (filter (is_tick_of n) (tick_of (stamp_at y) (act_of lost past k y) ++ rest)) ≡ length (filter is_tick (y ∷ es))
+told_count lost n k past (Does (Take stamp link msg)) rest es plain t same = same
+told_count lost n k past (Does (Tick stamp)) rest es plain t same = rw t (ap (λ (j : ℕ). suc j) same)
+told_count lost n k past (Ends input sends) rest es plain t same = absurd plain
+told_count lost n k past (Dies stamp) rest es plain t same = same
+told_count lost n k past (Returns stamp) rest es plain t same = absurd plain
 
-others_count : {M : Type 0} (n k : ℕ) (past : List (NodeEvent M)) (y : NodeEvent M) (rest : List Ticking) → (k == n) ≡ false
-    → length (filter (is_tick_of n) (tick_of (stamp_at y) (act_of past k y) ++ rest)) ≡ length (filter (is_tick_of n) rest)
-others_count n k past (Does (Take stamp link msg)) rest f = refl
-others_count n k past (Does (Tick stamp)) rest f = rw f refl
-others_count n k past (Ends input sends) rest f = refl
-others_count n k past (Dies stamp) rest f = refl
-others_count n k past (Returns stamp) rest f = refl
+others_count : {M : Type 0} (lost : ℕ → ℕ) (n k : ℕ) (past : List (NodeEvent M)) (y : NodeEvent M) (rest : List Ticking) → (k == n) ≡ false
+    → length (filter (is_tick_of n) (tick_of (stamp_at y) (act_of lost past k y) ++ rest)) ≡ length (filter (is_tick_of n) rest)
+others_count lost n k past (Does (Take stamp link msg)) rest f = refl
+others_count lost n k past (Does (Tick stamp)) rest f = rw f refl
+others_count lost n k past (Ends input sends) rest f = refl
+others_count lost n k past (Dies stamp) rest f = refl
+others_count lost n k past (Returns stamp) rest f = refl
 
-own_count : {M : Type 0} (n : ℕ) (es : ℕ → List (NodeEvent M)) (xs : List (Happening M))
+own_count : {M : Type 0} (lost : ℕ → ℕ) (n : ℕ) (es : ℕ → List (NodeEvent M)) (xs : List (Happening M))
     → AllByRecursion IsPlain (own n xs)
-    → length (filter (is_tick_of n) (ticks_of (told_from es xs))) ≡ length (filter is_tick (own n xs))
-own_count n es [] plain = refl
-own_count {M} n es (x ∷ xs) plain =
-    let told = ticks_of (told_from (added x.node x.event es) xs) in
+    → length (filter (is_tick_of n) (ticks_of (told_from lost es xs))) ≡ length (filter is_tick (own n xs))
+own_count lost n es [] plain = refl
+own_count {M} lost n es (x ∷ xs) plain =
+    let told = ticks_of (told_from lost (added x.node x.event es) xs) in
     ⊎_elim
     (λ (t : (x.node == n) ≡ true).
     let both : AllByRecursion IsPlain (x.event ∷ own n xs) = rw t at plain in
-    rw t (told_count n x.node (es x.node) x.event told (own n xs) both.0 t
-    (own_count n (added x.node x.event es) xs both.1)))
+    rw t (told_count lost n x.node (es x.node) x.event told (own n xs) both.0 t
+    (own_count lost n (added x.node x.event es) xs both.1)))
     (λ (f : (x.node == n) ≡ false).
     let rest : AllByRecursion IsPlain (own n xs) = rw f at plain in
-    rw f (others_count n x.node (es x.node) x.event told f ∙ own_count n (added x.node x.event es) xs rest))
+    rw f (others_count lost n x.node (es x.node) x.event told f ∙ own_count lost n (added x.node x.event es) xs rest))
     (cases_Bool (x.node == n))
 
 count_below : {M S : Type 0} (h : History M S) (n k : ℕ) → length (filter is_tick (each_below (h.event n) k)) ≡ ticks h n k
@@ -228,7 +232,7 @@ module _ (G : Type 0) (p : Params) (orders : List Order) (disk_at : ℕ → Disk
       (all_each IsPlain (h.event (controller p)) (h.count (controller p)) (λ i low. plain_at (controller p) i controller_inside low)) in
       sym
       (ap (λ (es : List Event). length (filter (is_tick_of (controller p)) (ticks_of es))) merged.told
-      ∙ own_count (controller p) (λ _. []) merged.merged plain
+      ∙ own_count h.before (controller p) (λ _. []) merged.merged plain
       ∙ ap (λ (es : List (NodeEvent Msg)). length (filter is_tick es)) own_events
       ∙ count_below h (controller p) (h.count (controller p)))
 
@@ -242,7 +246,7 @@ module _ (G : Type 0) (p : Params) (orders : List Order) (disk_at : ℕ → Disk
       ∙ get-each_below (h.event n) (h.count n) i low ∙ ap (λ (y : NodeEvent Msg). Some y) (tick_is (h.event n i) (plain_at n i controller_inside low) tick) in
       let there : HasTick (ticks_of events) n (beat h n i) (reading h n i) =
       subst (λ (es : List Event). HasTick (ticks_of es) n (beat h n i) (reading h n i)) (sym merged.told)
-      (own_has (stamp_at (h.event n i)) n (λ _. []) merged.merged i at) in
+      (own_has h.before (stamp_at (h.event n i)) n (λ _. []) merged.merged i at) in
       sym (reading_is (ticks_of events) n (beat h n i) (reading h n i)
       (λ l t.
       let mine = happened n (beat h n i) l controller_inside t in

@@ -28,7 +28,7 @@ use Rattle.ring_world.specs.declared.event.Act.TheVariants as act
 use Rattle.ring_world.specs.declared.event.Event.{Event}
 use Rattle.ring_world.specs.Machine.{Machine, journals_of, opening_machine}
 use Rattle.ring_world.specs.Faults.{Accepts}
-use Rattle.ring_world.specs.Laws.{AreLawful, HasCome}
+use Rattle.ring_world.specs.Laws.{AreLawful, HasCome, HaveWholeDeaths}
 
 -- Any node of a ring is lawful.
 abbrev pub NodesAreLawful : (G : Type 0) → Type 0
@@ -44,8 +44,9 @@ opening_ring p orders disk_at =
     ∷ node.Viewers []
     ∷ []
 
--- A machine of such nodes accepts the events, each in a beat below a number, and is then this one.
--- Its numbers are a plan's, its orders can be given, and each disk has its own number.
+-- A machine of such nodes accepts the events, each in a beat below a number, and is then this one; and whoever dies in
+-- them dies apart from any other event, and for good. Its numbers are a plan's, its orders can be given, and each disk has
+-- its own number.
 pub record IsAccepted {G : Type 0} (p : Params) (orders : List Order) (disk_at : ℕ → DiskState)
     (beats : ℕ) (events : List Event) (m : Machine Msg (AnyNode G)) : Type 0 where
   pub plan : IsPlan p
@@ -54,6 +55,7 @@ pub record IsAccepted {G : Type 0} (p : Params) (orders : List Order) (disk_at :
   pub few : beats ≤ most_beats
   pub accepts : Accepts noted any_step p (node_count p) beats
       (opening_machine p (opening_ring p orders disk_at)) events m
+  pub whole : HaveWholeDeaths events
 
 -- By these events a machine has come through a history of a ring, in which each node ended each
 -- beat before the machine's, or died; and the machine has the journals of the history.

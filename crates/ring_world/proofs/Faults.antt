@@ -1,23 +1,26 @@
 -- What holds where an event has no fault.
-use Rattle.std.proofs.Common.{◌≡◌, ℕ, zero, suc, ◌+◌, ◌<◌, ◌≤◌, List, [], ◌∷◌, Bool, true, false, not, ◌&&◌, ◌||◌, Option, Some, None, refl, ap, sym, ◌∙◌, subst, arith, cond, ⊎_elim, inl, inr}
-use Rattle.std.specs.Prelude.{slice_get, nat_le, min, max, ◌==◌, ◌⊎◌}
+use Rattle.std.proofs.Common.{◌≡◌, ℕ, zero, suc, ◌+◌, ◌<◌, ◌≤◌, List, [], ◌∷◌, Bool, true, false, not, ◌&&◌, ◌||◌}
+use Rattle.std.proofs.Common.{Option, Some, None, refl, ap, sym, ◌∙◌, subst, arith, cond, ⊎_elim, inl, inr}
+use Rattle.std.specs.Prelude.{slice_get, nat_le, min, max, is_some, ◌==◌, ◌⊎◌}
 use Rattle.std.specs.List.{AllByRecursion}
 use Rattle.std.specs.Option.{option_or}
 use Rattle.std.proofs.lemmas.Option.{none-some}
 use Rattle.std.proofs.lemmas.Bool.{eqb-true, eq-eqb}
 use Rattle.std.proofs.lemmas.Bool.Decides.{nat_tests}
-use Rattle.tiger_base.specs.declared.number.CubNo.{CubNo}
 use Rattle.tiger_base.specs.declared.number.LinkNo.{LinkNo}
 use Rattle.slot_plan.specs.declared.params.Params.{Params}
 use Rattle.slot_plan.specs.Times.{time_of}
 use Rattle.node_kit.specs.Links.{links_of, ends_of, leads_to}
 use Rattle.run_facts.specs.Events.{Dated}
+use Rattle.ring_world.specs.declared.event.Act.{Act}
 use Rattle.ring_world.specs.declared.event.Act.TheVariants as act
 use Rattle.ring_world.specs.declared.event.Event.{Event}
 use Rattle.ring_world.specs.declared.event.StepFault.{StepFault}
 use Rattle.ring_world.specs.declared.event.StepFault.TheVariants as fault
 use Rattle.ring_world.specs.Machine.{Being, Way, oldest}
-use Rattle.ring_world.specs.Faults.{beat_fault, is_behind, least_behind, missed_fault, has_done, is_shown, node_fault, is_next, early_fault, take_fault, late_in, least_late, cub_before, cub_after, is_dead, beside_fault, death_fault}
+use Rattle.ring_world.specs.Faults.{beat_fault, is_behind, least_behind, missed_fault, is_past, may_return, dead_fault}
+use Rattle.ring_world.specs.Faults.{life_fault, has_done, is_shown, stamp_fault, node_fault, is_next, early_fault, get_fault}
+use Rattle.ring_world.specs.Faults.{late_in, least_late, cub_before, cub_after, has_died, beside_fault, neighbour_fault}
 
 pub or-none : (a o : Option StepFault) → option_or a o ≡ None → (a ≡ None) × (o ≡ None)
 or-none None o h = (refl, h)
@@ -70,26 +73,66 @@ missed-none {S} now b bs goes h k c at alive low = ⊎_elim
     grind (arith, nat_tests, ticks, next))
     goes
 
+-- an act may happen to a node: it is up; it has never died, if the act is a death; and to return it is dead, and has been
+-- for two beats or more
+abbrev pub MayAct : {S : Type 0} → Act → ℕ → Being S → Type 0
+MayAct (act.Get link number) beat b = b.dead ≡ false
+MayAct (act.Tick node) beat b = b.dead ≡ false
+MayAct (act.Die cub) beat b = (b.dead ≡ false) × (b.died ≡ None)
+MayAct (act.DieIn final sends) beat b = (b.dead ≡ false) × (b.died ≡ None)
+MayAct (act.Return cub) beat b = (b.dead ≡ true) × (d : ℕ) × (b.died ≡ Some d) × (d + 2 ≤ beat)
+
+dead-none : (n : ℕ) (t : Bool) → dead_fault n t ≡ None → t ≡ false
+dead-none n t h = (if-none t (fault.Dead (record { 0 = n })) None h).0
+
+none-of : {X : Type 0} (o : Option X) → is_some o ≡ false → o ≡ None
+none-of None h = refl
+none-of (Some x) h = absurd (cc)
+
+never-none : {S : Type 0} (n : ℕ) (b : Being S) → dead_fault n (b.dead || is_some b.died) ≡ None
+    → (b.dead ≡ false) × (b.died ≡ None)
+never-none n b h =
+    let q = neither b.dead (is_some b.died) (dead-none n (b.dead || is_some b.died) h) in
+    (q.0, none-of b.died q.1)
+
+past-some : (beat : ℕ) (o : Option ℕ) → is_past beat o ≡ true → (d : ℕ) × (o ≡ Some d) × (d + 2 ≤ beat)
+past-some beat None h = absurd (cc)
+past-some beat (Some d) h = (d, refl, grind (arith, nat_tests, h))
+
+pub life-none : {S : Type 0} (n : ℕ) (a : Act) (beat : ℕ) (b : Being S) → life_fault n a beat b ≡ None → MayAct a beat b
+life-none n (act.Get link number) beat b h = dead-none n b.dead h
+life-none n (act.Tick node) beat b h = dead-none n b.dead h
+life-none n (act.Die cub) beat b h = never-none n b h
+life-none n (act.DieIn final sends) beat b h = never-none n b h
+life-none n (act.Return cub) beat b h =
+    let q = unless-none (may_return beat b) (fault.NotBack (record { 0 = n })) None h in
+    let one = both b.dead (is_past beat b.died && not b.returned) q.0 in
+    let two = both (is_past beat b.died) (not b.returned) one.1 in
+    let d = past-some beat b.died two.0 in
+    (one.0, d.0, d.1, d.2)
+
 pub record IsFree {S : Type 0} (p : Params) (e : Event) (b : Being S) : Type 0 where
-  pub alive : b.dead ≡ false
+  pub life : MayAct e.act e.stamp.beat b
   pub undone : has_done e.act e.stamp.beat b ≡ false
   pub from : time_of p e.stamp.beat ≤ e.stamp.reading
   pub until : e.stamp.reading ≤ time_of p e.stamp.beat + p.skew
   pub later : b.reading ≤ e.stamp.reading
 
-pub node-none : {S : Type 0} (p : Params) (n : ℕ) (e : Event) (b : Being S) → node_fault p n e (Some b) ≡ None → IsFree p e b
+pub node-none : {S : Type 0} (p : Params) (n : ℕ) (e : Event) (b : Being S) → node_fault p n e (Some b) ≡ None
+    → IsFree p e b
 node-none p n e b h =
-    let rest = cond (has_done e.act e.stamp.beat b) (Some (fault.Ticked (record { 0 = n }))) (cond (is_shown p e.stamp b) None (Some (fault.ReadingOff e.stamp.reading))) in
-    let one = if-none b.dead (fault.Dead (record { 0 = n })) rest h in
-    let two = if-none (has_done e.act e.stamp.beat b) (fault.Ticked (record { 0 = n })) (cond (is_shown p e.stamp b) None (Some (fault.ReadingOff e.stamp.reading))) one.1 in
+    let one = or-none (life_fault n e.act e.stamp.beat b) (stamp_fault p n e b) h in
+    let two = if-none (has_done e.act e.stamp.beat b) (fault.Ticked (record { 0 = n }))
+    (cond (is_shown p e.stamp b) None (Some (fault.ReadingOff e.stamp.reading))) one.1 in
     let three = unless-none (is_shown p e.stamp b) (fault.ReadingOff e.stamp.reading) None two.1 in
-    let first = both (nat_le (time_of p e.stamp.beat) e.stamp.reading) (nat_le e.stamp.reading (time_of p e.stamp.beat + p.skew) && nat_le b.reading e.stamp.reading) three.0 in
+    let first = both (nat_le (time_of p e.stamp.beat) e.stamp.reading)
+    (nat_le e.stamp.reading (time_of p e.stamp.beat + p.skew) && nat_le b.reading e.stamp.reading) three.0 in
     let second = both (nat_le e.stamp.reading (time_of p e.stamp.beat + p.skew)) (nat_le b.reading e.stamp.reading) first.1 in
     let f = first.0 in
     let u = second.0 in
     let l = second.1 in
     record {
-      alive = one.0;
+      life = life-none n e.act e.stamp.beat b one.0;
       undone = two.0;
       from = grind (arith, nat_tests, f);
       until = grind (arith, nat_tests, u);
@@ -112,7 +155,7 @@ early-none beat f (Some d) h =
     let q = if-none (d.beat == beat) (fault.TooEarly d.beat) None h in
     (d, refl, λ e. (let t : (d.beat == beat) ≡ true = eq-eqb _ _ e in let u = q.0 in absurd (cc)))
 
-pub take-none : {M : Type 0} (ways : List (Way M)) (beat : ℕ) (link : LinkNo) (number : ℕ) → take_fault ways beat (act.Get link number) ≡ None → IsOldest ways link.0 beat
+pub take-none : {M : Type 0} (ways : List (Way M)) (beat : ℕ) (link : LinkNo) (number : ℕ) → get_fault ways beat link number ≡ None → IsOldest ways link.0 beat
 take-none {M} ways beat link number h =
     let one = unless-none (is_next number (slice_get ways link.0)) (fault.NotNext link) (early_fault beat (fault.NotNext link) (oldest ways link.0)) h in
     let two = early-none beat (fault.NotNext link) (oldest ways link.0) one.1 in
@@ -152,13 +195,13 @@ late-none {M} p n beat l (v ∷ ws) h (suc k) j w sum at leads =
     let parts = or-none (cond (leads_to n (ends_of (links_of p) l)) (late_in l p.delay beat v.under_way) None) (least_late p n beat (suc l) ws) h in
     late-none p n beat (suc l) ws parts.1 k j w (omega (arith, sum)) at leads
 
--- neither neighbour of a cub that may die is dead
+-- neither neighbour of a cub that may die has died
 pub beside-none : {S : Type 0} (beings : List (Being S)) (a b : ℕ) → beside_fault beings a b ≡ None
-    → (is_dead (slice_get beings a) ≡ false) × (is_dead (slice_get beings b) ≡ false)
+    → (has_died (slice_get beings a) ≡ false) × (has_died (slice_get beings b) ≡ false)
 beside-none {S} beings a b h =
-    let rest = cond (is_dead (slice_get beings b)) (Some (fault.NeighbourDead (record { 0 = b }))) None in
-    let one = if-none (is_dead (slice_get beings a)) (fault.NeighbourDead (record { 0 = a })) rest h in
-    let two = if-none (is_dead (slice_get beings b)) (fault.NeighbourDead (record { 0 = b })) None one.1 in
+    let rest = cond (has_died (slice_get beings b)) (Some (fault.NeighbourDead (record { 0 = b }))) None in
+    let one = if-none (has_died (slice_get beings a)) (fault.NeighbourDead (record { 0 = a })) rest h in
+    let two = if-none (has_died (slice_get beings b)) (fault.NeighbourDead (record { 0 = b })) None one.1 in
     (one.0, two.0)
 
 least-and-most : (P : ℕ → Type 0) (a b : ℕ) → P (min a b) → P (max a b) → P a × P b
@@ -178,8 +221,8 @@ least-and-most P a b low high = ⊎_elim
     either_way (suc x) zero = inr (omega arith)
     either_way (suc x) (suc y) = ⊎_elim (λ h. inl (omega (arith, h))) (λ h. inr (omega (arith, h))) (either_way x y)
 
-pub death-none : {S : Type 0} (p : Params) (beings : List (Being S)) (cub : CubNo) → death_fault p beings (act.Die cub) ≡ None
-    → (is_dead (slice_get beings (cub_before p cub.0)) ≡ false) × (is_dead (slice_get beings (cub_after p cub.0)) ≡ false)
+pub death-none : {S : Type 0} (p : Params) (beings : List (Being S)) (cub : ℕ) → neighbour_fault p beings cub ≡ None
+    → (has_died (slice_get beings (cub_before p cub)) ≡ false) × (has_died (slice_get beings (cub_after p cub)) ≡ false)
 death-none {S} p beings cub h =
-    let q = beside-none beings (min (cub_before p cub.0) (cub_after p cub.0)) (max (cub_before p cub.0) (cub_after p cub.0)) h in
-    least-and-most (λ k. is_dead (slice_get beings k) ≡ false) (cub_before p cub.0) (cub_after p cub.0) q.0 q.1
+    let q = beside-none beings (min (cub_before p cub) (cub_after p cub)) (max (cub_before p cub) (cub_after p cub)) h in
+    least-and-most (λ k. has_died (slice_get beings k) ≡ false) (cub_before p cub) (cub_after p cub) q.0 q.1

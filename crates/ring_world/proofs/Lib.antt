@@ -1,4 +1,5 @@
 pub mod Accepting
+pub mod Deaths
 pub mod Faults
 pub mod Lists
 pub mod Merging
@@ -8,3 +9,4 @@ pub mod Places
 pub mod Runs
 pub mod Steps
 pub mod Telling
+pub mod Ways

@@ -1,13 +1,15 @@
--- Lists with each element changed, and with one more: what is numbered, passed and last in them.
-use Rattle.std.proofs.Common.{◌≡◌, ℕ, zero, suc, ◌+◌, ◌<◌, ◌≤◌, List, [], ◌∷◌, ◌++◌, length, true, false, Some, refl, ap, sym, ◌∙◌, subst, arith, cond, ⊎_elim, inl, inr}
-use Rattle.std.specs.Prelude.{slice_get, option_map, ◌⊎◌}
+-- Lists with each element changed, and with one more: what stands at a number of them.
+use Rattle.std.proofs.Common.{◌≡◌, ℕ, zero, suc, ◌+◌, ◌<◌, ◌≤◌, List, [], ◌∷◌, ◌++◌, filter, length, true, false, Some}
+use Rattle.std.proofs.Common.{refl, ap, sym, subst, arith, ⊎_elim, inl, inr}
+use Rattle.std.specs.Prelude.{slice_get, option_map, nat_lt, nat_le, ◌⊎◌}
 use Rattle.std.specs.List.{AllByRecursion}
-use Rattle.std.proofs.lemmas.Bool.{cases_Bool}
+use Rattle.std.proofs.lemmas.Bool.{cases_Bool, cases_lt}
+use Rattle.std.proofs.lemmas.Bool.Decides.{nat_tests}
 use Rattle.std.proofs.lemmas.Option.{none-some, slice_get_within}
-use Rattle.run_facts.specs.Accounts.{tick_count, AreAlive, DeathIsLast, event_at, front}
-use Rattle.run_facts.specs.Events.{NodeEvent, Dated, stamp_at, is_tick, is_death}
+use Rattle.run_facts.specs.Accounts.{Rising, event_at, front}
+use Rattle.run_facts.specs.Events.{NodeEvent}
 use Rattle.run_facts.proofs.Counts.{get-append}
-use Rattle.run_facts.proofs.Indexed.{passing}
+use Rattle.run_facts.proofs.Rows.{all-append, all-weaker, filter-all, filter-none}
 use Rattle.ring_world.specs.Machine.{each_at}
 
 pub each-get : {X : Type 0} (f : ℕ → X → X) (i : ℕ) (xs : List X) (k j : ℕ) → i + k ≡ j
@@ -24,7 +26,8 @@ pub length-more : {X : Type 0} (xs : List X) (y : X) → length (xs ++ y ∷ [])
 length-more [] y = refl
 length-more (x ∷ xs) y = ap suc (length-more xs y)
 
-pub get-all : {X : Type 0} (P : X → Type 0) (xs : List X) (k : ℕ) (x : X) → slice_get xs k ≡ Some x → AllByRecursion P xs → P x
+pub get-all : {X : Type 0} (P : X → Type 0) (xs : List X) (k : ℕ) (x : X) → slice_get xs k ≡ Some x
+    → AllByRecursion P xs → P x
 get-all P [] k x at all = absurd (none-some x at)
 get-all P (y ∷ ys) zero x at all = let q : y ≡ x = cc in subst P q all.0
 get-all P (y ∷ ys) (suc k) x at all = get-all P ys k x at all.1
@@ -37,90 +40,102 @@ get-cases P xs ys k x at all = ⊎_elim
     (λ there. inr (get-all P ys there.0 x there.2 all))
     (get-append xs ys k x at)
 
--- a death at a number is the last event
-pub death-at : {M : Type 0} (es : List (NodeEvent M)) (i : ℕ) → i < length es → DeathIsLast es
-    → is_death (event_at es i) ≡ true → i + 1 ≡ length es
-death-at [] i h last died = absurd (omega (arith, h))
-death-at {M} (e ∷ es) zero h last died =
-    let none : length es ≡ 0 = ap length (last.0 died) in omega (arith, none)
-death-at (e ∷ es) (suc i) h last died = let q = death-at es i (omega (arith, h)) last.1 died in omega (arith, q)
+-- what stands behind a list
+pub get-behind : {X : Type 0} (xs : List X) (y : X) (ys : List X) (k : ℕ) → k ≡ length xs
+    → slice_get (xs ++ y ∷ ys) k ≡ Some y
+get-behind [] y ys k at = subst (λ j. slice_get (y ∷ ys) j ≡ Some y) (sym at) refl
+get-behind (x ∷ xs) y ys zero at = absurd (omega (arith, at))
+get-behind (x ∷ xs) y ys (suc k) at = get-behind xs y ys k (omega (arith, at))
 
-pub death-more : {M : Type 0} (es : List (NodeEvent M)) (x : NodeEvent M) → AreAlive es → DeathIsLast (es ++ x ∷ [])
-death-more [] x alive = ((λ _. refl), tt)
-death-more (e ∷ es) x alive =
-    ((λ died. let q : true ≡ false = sym died ∙ alive.0 in absurd (cc)), death-more es x alive.1)
+-- the events of lower numbers stay where one more stands behind them
+pub event-old : {M : Type 0} (es fs : List (NodeEvent M)) (i : ℕ) → i < length es
+    → event_at (es ++ fs) i ≡ event_at es i
+event-old [] fs i low = absurd (omega (arith, low))
+event-old (e ∷ es) fs zero low = refl
+event-old (e ∷ es) fs (suc i) low = event-old es fs i (omega (arith, low))
 
--- events that are not all alive have a death at a number
-pub death-found : {M : Type 0} (es : List (NodeEvent M)) → (AreAlive es → ⊥)
-    → (i : ℕ) × (i < length es) × (is_death (event_at es i) ≡ true)
-death-found [] h = absurd (h tt)
-death-found {M} (e ∷ es) h = ⊎_elim
-    (λ (q : is_death e ≡ true). (0, omega arith, q))
-    (λ (q : is_death e ≡ false).
-    let rest = death-found es (λ alive. h (q, alive)) in
-    let low = rest.1 in (suc rest.0, omega (arith, low), rest.2))
-    (cases_Bool (is_death e))
+pub event-new : {M : Type 0} (es : List (NodeEvent M)) (x : NodeEvent M) (i : ℕ) → i ≡ length es
+    → event_at (es ++ x ∷ []) i ≡ x
+event-new [] x i at = subst (λ j. event_at (x ∷ []) j ≡ x) (sym at) refl
+event-new (e ∷ es) x zero at = absurd (omega (arith, at))
+event-new (e ∷ es) x (suc i) at = event-new es x i (omega (arith, at))
 
--- the beat of each event is the number of ticks before it
-abbrev pub AreTicked : {M : Type 0} → ℕ → List (NodeEvent M) → Type 0
-AreTicked t [] = Unit {0}
-AreTicked t (e ∷ es) = ((stamp_at e).beat ≡ t) × AreTicked (cond (is_tick e) (suc t) t) es
+pub front-old : {M : Type 0} (es fs : List (NodeEvent M)) (i : ℕ) → i ≤ length es → front i (es ++ fs) ≡ front i es
+front-old es fs zero low = refl
+front-old [] fs (suc i) low = absurd (omega (arith, low))
+front-old (e ∷ es) fs (suc i) low = ap (λ gs. e ∷ gs) (front-old es fs i (omega (arith, low)))
 
-pub ticked-more : {M : Type 0} (t : ℕ) (es : List (NodeEvent M)) (x : NodeEvent M) → AreTicked t es
-    → (stamp_at x).beat ≡ t + tick_count es → AreTicked t (es ++ x ∷ [])
-ticked-more t [] x h at = (omega (arith, at), tt)
-ticked-more t (e ∷ es) x h at = ⊎_elim
-    (λ (q : is_tick e ≡ true).
-    let rest = subst (λ b. AreTicked (cond b (suc t) t) es) q h.1 in
-    let now = subst (λ b. (stamp_at x).beat ≡ t + cond b (suc (tick_count es)) (tick_count es)) q at in
-    (h.0, subst (λ b. AreTicked (cond b (suc t) t) (es ++ x ∷ [])) (sym q) (ticked-more (suc t) es x rest (omega (arith, now)))))
-    (λ (q : is_tick e ≡ false).
-    let rest = subst (λ b. AreTicked (cond b (suc t) t) es) q h.1 in
-    let now = subst (λ b. (stamp_at x).beat ≡ t + cond b (suc (tick_count es)) (tick_count es)) q at in
-    (h.0, subst (λ b. AreTicked (cond b (suc t) t) (es ++ x ∷ [])) (sym q) (ticked-more t es x rest now)))
-    (cases_Bool (is_tick e))
+pub old-or-new : {M : Type 0} (es : List (NodeEvent M)) (x : NodeEvent M) (i : ℕ) → i < length (es ++ x ∷ [])
+    → (i < length es) ⊎ (i ≡ length es)
+old-or-new es x i low = ⊎_elim
+    (λ (old : i < length es). inl old)
+    (λ (end : length es ≤ i). let all = length-more es x in inr (omega (arith, end, low, all)))
+    (cases_lt i (length es))
 
-pub ticked-at : {M : Type 0} (t : ℕ) (es : List (NodeEvent M)) (i : ℕ) → i < length es → AreTicked t es
-    → (stamp_at (event_at es i)).beat ≡ t + passing is_tick (front i es)
-ticked-at t [] i h c = absurd (omega (arith, h))
-ticked-at t (e ∷ es) zero h c = let q = c.0 in omega (arith, q)
-ticked-at t (e ∷ es) (suc i) h c = ⊎_elim
-    (λ (q : is_tick e ≡ true).
-    let rest = ticked-at (suc t) es i (omega (arith, h)) (subst (λ b. AreTicked (cond b (suc t) t) es) q c.1) in
-    rw q (omega (arith, rest)))
-    (λ (q : is_tick e ≡ false).
-    let rest = ticked-at t es i (omega (arith, h)) (subst (λ b. AreTicked (cond b (suc t) t) es) q c.1) in
-    rw q rest)
-    (cases_Bool (is_tick e))
+-- what holds of each event by its number holds with one more of which it holds
+pub each-more : {M : Type 0} (P : ℕ → NodeEvent M → Type 0) (es : List (NodeEvent M)) (x : NodeEvent M)
+    → ((i : ℕ) → i < length es → P i (event_at es i)) → P (length es) x
+    → (i : ℕ) → i < length (es ++ x ∷ []) → P i (event_at (es ++ x ∷ []) i)
+each-more {M} P es x old new i low = ⊎_elim
+    (λ (below : i < length es). subst (λ (e : NodeEvent M). P i e) (sym (event-old es (x ∷ []) i below)) (old i below))
+    (λ (end : i ≡ length es).
+    subst (λ (e : NodeEvent M). P i e) (sym (event-new es x i end)) (subst (λ j. P j x) (sym end) new))
+    (old-or-new es x i low)
 
--- what is taken came in order of what was sent, each from one beat to the greatest delay later
-abbrev pub ArePassed : {X : Type 0} → ℕ → List (Dated X) → List (Dated X) → Type 0
-ArePassed most [] [] = Unit {0}
-ArePassed most [] (g ∷ gs) = ⊥
-ArePassed most (s ∷ ss) [] = ⊥
-ArePassed most (s ∷ ss) (g ∷ gs) = (g.item ≡ s.item) × (s.beat < g.beat) × (g.beat ≤ s.beat + most) × ArePassed most ss gs
+-- keys that never fall are below a number first, and then no longer
+pub split-rising : {X : Type 0} (f : X → ℕ) (b : ℕ) (xs : List X) → Rising f xs
+    → xs ≡ filter (λ x. nat_lt (f x) b) xs ++ filter (λ x. nat_le b (f x)) xs
+split-rising f b [] rising = refl
+split-rising {X} f b (x ∷ xs) rising = ⊎_elim
+    (λ (low : nat_lt (f x) b ≡ true).
+    let not_from : nat_le b (f x) ≡ false = grind (arith, nat_tests, low) in
+    rw (low, not_from) (ap (λ ys. x ∷ ys) (split-rising f b xs rising.1)))
+    (λ (high : nat_lt (f x) b ≡ false).
+    let from : nat_le b (f x) ≡ true = grind (arith, nat_tests, high) in
+    let rest : AllByRecursion (λ (y : X). nat_lt (f y) b ≡ false) xs =
+    all-weaker (λ (y : X). f x ≤ f y) (λ y. nat_lt (f y) b ≡ false) xs
+    (λ y h. grind (arith, nat_tests, high, h)) rising.0 in
+    let all : AllByRecursion (λ (y : X). nat_le b (f y) ≡ true) xs =
+    all-weaker (λ (y : X). f x ≤ f y) (λ y. nat_le b (f y) ≡ true) xs
+    (λ y h. grind (arith, nat_tests, high, h)) rising.0 in
+    let none = filter-none (λ (y : X). nat_lt (f y) b) xs rest in
+    let same = filter-all (λ (y : X). nat_le b (f y)) xs all in
+    rw (high, from, none) (ap (λ ys. x ∷ ys) (sym same)))
+    (cases_Bool (nat_lt (f x) b))
 
-pub passed-length : {X : Type 0} (most : ℕ) (ss gs : List (Dated X)) → ArePassed most ss gs → length ss ≡ length gs
-passed-length most [] [] h = refl
-passed-length most [] (g ∷ gs) h = absurd h
-passed-length most (s ∷ ss) [] h = absurd h
-passed-length most (s ∷ ss) (g ∷ gs) h = ap suc (passed-length most ss gs h.3)
+-- what passes a test of numbers from one on is from there on
+pub all-from : {X : Type 0} (f : X → ℕ) (b : ℕ) (xs : List X)
+    → AllByRecursion (λ (x : X). b ≤ f x) (filter (λ x. nat_le b (f x)) xs)
+all-from f b [] = tt
+all-from {X} f b (x ∷ xs) = ⊎_elim
+    (λ (from : nat_le b (f x) ≡ true). rw from ((let low : b ≤ f x = grind (arith, nat_tests, from) in low), all-from f b xs))
+    (λ (below : nat_le b (f x) ≡ false). rw below (all-from f b xs))
+    (cases_Bool (nat_le b (f x)))
 
-pub passed-more : {X : Type 0} (most : ℕ) (ss gs : List (Dated X)) (s g : Dated X) → ArePassed most ss gs
-    → g.item ≡ s.item → s.beat < g.beat → g.beat ≤ s.beat + most → ArePassed most (ss ++ s ∷ []) (gs ++ g ∷ [])
-passed-more most [] [] s g h same later soon = (same, later, soon, tt)
-passed-more most [] (y ∷ ys) s g h same later soon = absurd h
-passed-more most (x ∷ xs) [] s g h same later soon = absurd h
-passed-more most (x ∷ xs) (y ∷ ys) s g h same later soon =
-    (h.0, h.1, h.2, passed-more most xs ys s g h.3 same later soon)
+pub all-below : {X : Type 0} (f : X → ℕ) (b : ℕ) (xs : List X)
+    → AllByRecursion (λ (x : X). f x < b) (filter (λ x. nat_lt (f x) b) xs)
+all-below f b [] = tt
+all-below {X} f b (x ∷ xs) = ⊎_elim
+    (λ (low : nat_lt (f x) b ≡ true). rw low ((let less : f x < b = grind (arith, nat_tests, low) in less), all-below f b xs))
+    (λ (from : nat_lt (f x) b ≡ false). rw from (all-below f b xs))
+    (cases_Bool (nat_lt (f x) b))
 
-pub passed-at : {X : Type 0} (most : ℕ) (ss gs : List (Dated X)) (k : ℕ) (g : Dated X) → ArePassed most ss gs → slice_get gs k ≡ Some g
-    → (s : Dated X) × (slice_get ss k ≡ Some s) × (g.item ≡ s.item) × (s.beat < g.beat) × (g.beat ≤ s.beat + most)
-passed-at most [] [] k g h at = absurd (none-some g at)
-passed-at most [] (y ∷ ys) k g h at = absurd h
-passed-at most (x ∷ xs) [] k g h at = absurd h
-passed-at {X} most (x ∷ xs) (y ∷ ys) zero g h at =
-    let q : y ≡ g = cc in
-    let all = subst (λ (z : Dated X). (z.item ≡ x.item) × (x.beat < z.beat) × (z.beat ≤ x.beat + most)) q (h.0, h.1, h.2) in
-    (x, refl, all.0, all.1, all.2)
-passed-at most (x ∷ xs) (y ∷ ys) (suc k) g h at = passed-at most xs ys k g h.3 at
+-- keys of two lists, of which no one in the first is above a number, and none in the second below it
+pub rising-both : {X : Type 0} (f : X → ℕ) (b : ℕ) (xs ys : List X) → Rising f xs → AllByRecursion (λ (x : X). f x ≤ b) xs
+    → Rising f ys → AllByRecursion (λ (y : X). b ≤ f y) ys → Rising f (xs ++ ys)
+rising-both f b [] ys rx low ry high = ry
+rising-both {X} f b (x ∷ xs) ys rx low ry high =
+    let top = low.0 in (
+      all-append (λ (y : X). f x ≤ f y) xs ys rx.0
+          (all-weaker (λ (y : X). b ≤ f y) (λ y. f x ≤ f y) ys (λ y h. omega (arith, h, top)) high),
+      rising-both f b xs ys rx.1 low.1 ry high,
+    )
+
+-- keys that are one number do not fall
+pub rising-same : {X : Type 0} (f : X → ℕ) (b : ℕ) (xs : List X) → AllByRecursion (λ (x : X). f x ≡ b) xs → Rising f xs
+rising-same f b [] all = tt
+rising-same {X} f b (x ∷ xs) all =
+    let here = all.0 in (
+      all-weaker (λ (y : X). f y ≡ b) (λ y. f x ≤ f y) xs (λ y h. omega (arith, h, here)) all.1,
+      rising-same f b xs all.1,
+    )

@@ -2,6 +2,15 @@
 
 use tiger_base::{Beat, CubNo, LinkNo, Micros, NodeNo, Stamp};
 
+/// The event of a cub in which its death comes.
+#[derive(Clone, Copy, Debug, PartialEq, Eq)]
+pub enum Last {
+    /// The cub to which the link leads takes the message of this number.
+    Get { link: LinkNo, number: u64 },
+    /// The cub of this node ends its beat.
+    Tick(NodeNo),
+}
+
 /// What happens.
 #[derive(Clone, Copy, Debug, PartialEq, Eq)]
 pub enum Act {
@@ -12,6 +21,11 @@ pub enum Act {
     Tick(NodeNo),
     /// The cub dies.
     Die(CubNo),
+    /// The cub dies in the middle of this event: so many of the event's messages go out, or all if it has no more, and
+    /// what it puts out from the next one on is lost.
+    DieIn { last: Last, sends: u64 },
+    /// The cub, which is dead, comes back. What is under way to it from lower beats is lost.
+    Return(CubNo),
 }
 
 /// What happens, in which beat, and at which reading of the clock of the node to which it happens.
@@ -29,8 +43,10 @@ pub enum StepFault {
     /// The beat is the next one, and this node lives and has not ticked in the machine's beat. It is
     /// the least such node.
     TickMissed { node: NodeNo },
-    /// The cub to which the event happens is dead.
+    /// The cub to which the event happens is dead, or the cub that is to die has died before.
     Dead { cub: CubNo },
+    /// The cub that is to return is not dead, or died in this beat or the one before, or has returned before.
+    NotBack { cub: CubNo },
     /// The node to which the event happens has ticked in this beat, or the cub that is to die has had
     /// any event in it.
     Ticked { node: NodeNo },
@@ -44,6 +60,7 @@ pub enum StepFault {
     /// A node is to tick, and a message to it is under way that was sent in beat `sent`, the greatest
     /// delay before or earlier. The link is the least such link.
     TooLate { link: LinkNo, sent: Beat },
-    /// A cub is to die, and this neighbour of it in the ring is dead. It is the lesser one, if both are.
+    /// A cub is to die, and this neighbour of it in the ring has died, whether it has returned or not. It is the
+    /// lesser one, if both have.
     NeighbourDead { cub: CubNo },
 }

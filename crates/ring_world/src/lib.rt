@@ -5,9 +5,10 @@
 ghost use Rattle.ring_world.specs.Laws.{AcceptedListsAreRuns, PlansArePlaces};
 
 mod event;
+pub mod ring_rows;
 pub mod rows;
 
-pub use event::{Act, Event, StepFault};
+pub use event::{Act, Event, Last, StepFault};
 use node_kit::Node;
 use tiger_base::Message;
 

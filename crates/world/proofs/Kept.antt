@@ -1,5 +1,5 @@
 -- What always holds of a machine that runs, before and after a step.
-use Rattle.std.proofs.Common.{◌≡◌, ℕ, zero, suc, ◌-◌, ◌^◌, ◌<◌, ◌≤◌, List, [], ◌∷◌, ◌++◌, length, map, true, false, Option, Some, None, refl, ap, sym, ◌∙◌, subst, arith}
+use Rattle.std.proofs.Common.{◌≡◌, ℕ, zero, suc, ◌<◌, ◌≤◌, List, [], ◌∷◌, ◌++◌, length, map, true, false, Option, Some, None, refl, ap, sym, ◌∙◌, subst, arith}
 use Rattle.std.specs.Prelude.{slice_get}
 use Rattle.std.specs.Option.{option_or}
 use Rattle.std.proofs.Math.Nat.{mul-le-mul}
@@ -94,18 +94,19 @@ module _ {M S : Type 0} (stands : S → Params → ℕ → Type 0) (r now : Runn
     faultless : fault_of r.params r.machine e ≡ None
     faultless = ap (λ (q : Running M S). fault_of q.params q.machine e) is ∙ none
 
-    pub is_ready : (n : ℕ) → n ≡ node_of r.params e.act → length r.machine.events < 2 ^ 64 - 1 → IsReady stands n e r.machine.beings r.machine.ways
-    is_ready n at room =
+    pub is_ready : (n : ℕ) → n ≡ node_of r.params e.act → IsReady stands n e r.machine.beings r.machine.ways
+    is_ready n at =
         subst (λ k. IsReady stands k e r.machine.beings r.machine.ways) (sym at)
-        (sound.ready stands r.params r.beats plan kept.few r.machine kept.nodes is_sound e mine faultless room)
+        (sound.ready stands r.params r.beats plan kept.few r.machine kept.nodes is_sound e mine faultless
+        (few_links r.params (length r.machine.ways) plan is_sound.links))
 
     module _ (note : M → Note) (step : S → Input M → Deed M S) (n : ℕ) (at : n ≡ node_of r.params e.act) (beings : List (Being S)) (ways : List (Way M))
-        (moved : HasMoved note step stands n e r.machine.beings beings r.machine.ways ways) (events : List Event) (more : events ≡ r.machine.events ++ e ∷ []) where
+        (moved : HasMoved note step stands r.params n e r.machine.beings beings r.machine.ways ways) (events : List Event) (more : events ≡ r.machine.events ++ e ∷ []) where
       abbrev after : Running M S
       after = record { params = r.params; beats = r.beats; machine = record { beat = e.stamp.beat; beings = beings; ways = ways; events = events }; spoilt = false }
 
-      there : HasMoved note step stands (node_of r.params e.act) e r.machine.beings beings r.machine.ways ways
-      there = subst (λ k. HasMoved note step stands k e r.machine.beings beings r.machine.ways ways) at moved
+      there : HasMoved note step stands r.params (node_of r.params e.act) e r.machine.beings beings r.machine.ways ways
+      there = subst (λ k. HasMoved note step stands r.params k e r.machine.beings beings r.machine.ways ways) at moved
 
       pub kept_after : IsKept stands after
       kept_after =
@@ -128,7 +129,7 @@ module _ {M S : Type 0} (stands : S → Params → ℕ → Type 0) (r now : Runn
           ∙ ap (λ (q : Running M S). stepped note step q e) is
 
 -- The machine before the first event.
-empty_way : {M : Type 0} (k l : ℕ) (w : Way M) → slice_get (empty_ways k) l ≡ Some w → w ≡ record { taken = 0; under_way = [] }
+empty_way : {M : Type 0} (k l : ℕ) (w : Way M) → slice_get (empty_ways k) l ≡ Some w → w ≡ record { gone = 0; under_way = [] }
 empty_way zero l w at = absurd (cc)
 empty_way (suc k) zero w at = cc
 empty_way (suc k) (suc l) w at = empty_way k l w at
@@ -156,7 +157,7 @@ kept_fresh {M} {S} stands p beats count given beings ways events few counted who
         let own = get_being given n b (ap (λ bs. slice_get bs n) (sym nodes) ∙ at) in
         subst (λ (c : Being S). stands c.past.state p n) (sym own.2) (stand n own.0 own.1);
     orderly = λ l w at.
-        subst (IsOrderly 0 (length events)) (sym (empty_way (link_count (links_of p)) l w (ap (λ ws. slice_get ws l) (sym links) ∙ at)))
-        (record { rising = tt; sent = tt; taken = omega arith });
+        subst (IsOrderly 0) (sym (empty_way (link_count (links_of p)) l w (ap (λ ws. slice_get ws l) (sym links) ∙ at)))
+        (record { rising = tt; sent = tt });
   });
 }

@@ -1,6 +1,7 @@
 mod Accepted
 mod Asking
 mod Deeds
+mod Losing
 mod Kept
 mod Late
 mod Lists

@@ -1,5 +1,5 @@
 -- Outputs that are sent one after another.
-use Rattle.std.proofs.Common.{◌≡◌, ℕ, List, [], ◌∷◌, ◌++◌, map, length, true, false, Some, refl, ap, sym, ◌∙◌, subst, arith, cond, append_assoc, append-nil}
+use Rattle.std.proofs.Common.{◌≡◌, ℕ, List, [], ◌∷◌, ◌++◌, map, length, Bool, true, false, Option, Some, None, refl, ap, sym, ◌∙◌, subst, arith, cond, append_assoc, append-nil}
 use Rattle.std.specs.Prelude.{slice_get, slice_set, ◌==◌}
 use Rattle.std.specs.List.{AllByRecursion}
 use Rattle.std.proofs.lemmas.Bool.{eq-eqb, ne_eqb}
@@ -8,6 +8,9 @@ use Rattle.tiger_base.specs.declared.message.Note.{Note}
 use Rattle.slot_plan.specs.declared.params.Params.{Params}
 use Rattle.node_kit.specs.declared.journal.Entry.{Entry}
 use Rattle.node_kit.specs.declared.journal.What.{What}
+use Rattle.node_kit.specs.declared.journal.What.TheVariants.{Died}
+use Rattle.node_kit.specs.Outputs.{cut_at, with_death, ends_in_death}
+use Rattle.node_kit.proofs.Cutting.{cut-all}
 use Rattle.node_kit.specs.declared.outbox.Out.{Out}
 use Rattle.node_kit.specs.declared.outbox.Out.TheVariants as out
 use Rattle.node_kit.specs.Links.{links_of, link_count}
@@ -16,11 +19,13 @@ use Rattle.node_kit.proofs.Ring.{ends_counted}
 use Rattle.run_facts.specs.Events.{Dated, sends_of}
 use Rattle.ring_world.specs.Machine.{Way}
 use Rattle.ring_world.proofs.Lists.{each-length}
+use Rattle.run_facts.proofs.Rows.{all-append}
+use Rattle.world.specs.Living.{left_by}
 use Rattle.world.specs.Posting.{with_sent, posted, IsPostable}
-use Rattle.world.proofs.Lists.{each_twice, each_kept, each_one}
+use Rattle.world.proofs.Lists.{each_twice, each_alike, each_kept, each_one}
 
 way_same : {M : Type 0} (w : Way M) (ds : List (Dated M)) → ds ≡ w.under_way
-    → ◌≡◌ {A = Way M} (record { taken = w.taken; under_way = ds }) w
+    → ◌≡◌ {A = Way M} (record { gone = w.gone; under_way = ds }) w
 way_same w ds e = rw e refl
 
 sends_first : {M : Type 0} (l beat : ℕ) (o : Out M) (os : List (Out M)) → sends_of l beat (o ∷ []) ++ sends_of l beat os ≡ sends_of l beat (o ∷ os)
@@ -37,7 +42,7 @@ pub posted_first : {M : Type 0} (beat : ℕ) (o : Out M) (os : List (Out M)) (wa
     → posted beat os (posted beat (o ∷ []) ways) ≡ posted beat (o ∷ os) ways
 posted_first beat o os ways =
     each_twice (with_sent beat (o ∷ [])) (with_sent beat os) (with_sent beat (o ∷ os)) 0 ways
-    (λ l w. ap (λ ds. record { taken = w.taken; under_way = ds })
+    (λ l w. ap (λ ds. record { gone = w.gone; under_way = ds })
     (append_assoc w.under_way (sends_of l beat (o ∷ [])) (sends_of l beat os) ∙ ap (λ ds. w.under_way ++ ds) (sends_first l beat o os)))
 
 pub posted_act : {M : Type 0} (beat : ℕ) (o : Out M) (what : What) (ways : List (Way M)) → o ≡ out.Act what → posted beat (o ∷ []) ways ≡ ways
@@ -47,16 +52,34 @@ posted_act beat o what ways is =
 
 -- A message that is sent stands behind those under way on its link.
 pub posted_send : {M : Type 0} (beat : ℕ) (link : LinkNo) (msg : M) (ways : List (Way M)) (w v : Way M) → slice_get ways link.0 ≡ Some w
-    → v ≡ record { taken = w.taken; under_way = w.under_way ++ (record { beat = beat; item = msg }) ∷ [] }
+    → v ≡ record { gone = w.gone; under_way = w.under_way ++ (record { beat = beat; item = msg }) ∷ [] }
     → slice_set ways link.0 v ≡ posted beat (out.Send link msg ∷ []) ways
 posted_send {M} beat link msg ways w v at is =
     let f = with_sent beat (out.Send link msg ∷ []) in
     let here : f link.0 w ≡ v =
-    ap (λ b. record { taken = w.taken; under_way = w.under_way ++ cond b ((record { beat = beat; item = msg }) ∷ []) [] }) (eq-eqb link.0 link.0 refl) ∙ sym is in
+    ap (λ b. record { gone = w.gone; under_way = w.under_way ++ cond b ((record { beat = beat; item = msg }) ∷ []) [] }) (eq-eqb link.0 link.0 refl) ∙ sym is in
     let there : (j : ℕ) (y : Way M) → (j ≡ link.0 → ⊥) → f j y ≡ y =
     λ j y ne. way_same y (y.under_way ++ cond (link.0 == j) ((record { beat = beat; item = msg }) ∷ []) [])
     (ap (λ b. y.under_way ++ cond b ((record { beat = beat; item = msg }) ∷ []) []) (ne_eqb link.0 j (λ e. ne (sym e))) ∙ append-nil y.under_way) in
     ap (slice_set ways link.0) (sym here) ∙ each_one f link.0 0 ways link.0 w (omega arith) at there
+
+-- A death that is written down sends nothing.
+sends_behind : {M : Type 0} (l beat : ℕ) (os : List (Out M)) → sends_of l beat (os ++ out.Act Died ∷ []) ≡ sends_of l beat os
+sends_behind l beat [] = refl
+sends_behind {M} l beat (out.Send link msg ∷ os) =
+    ap (λ ds. cond (link.0 == l) ((record { beat = beat; item = msg }) ∷ ds) ds) (sends_behind l beat os)
+sends_behind l beat (out.Act what ∷ os) = sends_behind l beat os
+
+sends_dying : {M : Type 0} (l beat : ℕ) (os : List (Out M)) → sends_of l beat (with_death os) ≡ sends_of l beat os
+sends_dying {M} l beat os = by (ends_in_death os)
+  where
+    by : (b : Bool) → sends_of l beat (cond b os (os ++ out.Act Died ∷ [])) ≡ sends_of l beat os
+    by true = refl
+    by false = sends_behind l beat os
+
+pub posted_dying : {M : Type 0} (beat : ℕ) (os : List (Out M)) (ways : List (Way M)) → posted beat (with_death os) ways ≡ posted beat os ways
+posted_dying beat os ways = each_alike (with_sent beat (with_death os)) (with_sent beat os) 0 ways
+    (λ l w. ap (λ ds. record { gone = w.gone; under_way = w.under_way ++ ds }) (sends_dying l beat os))
 
 pub length_posted : {M : Type 0} (beat : ℕ) (os : List (Out M)) (ways : List (Way M)) → length (posted beat os ways) ≡ length ways
 length_posted beat os ways = each-length (with_sent beat os) 0 ways
@@ -89,3 +112,14 @@ pub postable_all : {M : Type 0} (note : M → Note) (p : Params) (n k : ℕ) (os
     → AllByRecursion (IsAllowed note p n) os → AllByRecursion (IsPostable k) os
 postable_all note p n k [] count h = tt
 postable_all note p n k (o ∷ os) count h = (postable_one note p n k o count h.0, postable_all note p n k os count h.1)
+
+-- Nor is what a death leaves of it anything else.
+pub postable_left : {M : Type 0} (k : ℕ) (sends : Option ℕ) (os : List (Out M)) → AllByRecursion (IsPostable k) os
+    → AllByRecursion (IsPostable k) (left_by sends os)
+postable_left k None os h = h
+postable_left {M} k (Some sends) os h = by (ends_in_death (cut_at sends os)) (cut-all (IsPostable k) sends os h)
+  where
+    by : (b : Bool) → AllByRecursion (IsPostable k) (cut_at sends os)
+        → AllByRecursion (IsPostable k) (cond b (cut_at sends os) (cut_at sends os ++ out.Act Died ∷ []))
+    by true all = all
+    by false all = all-append (IsPostable k) (cut_at sends os) (out.Act Died ∷ []) all (tt, tt)

@@ -1,31 +1,37 @@
 -- A machine that is sound can do each event that has no fault, and is sound afterwards.
-use Rattle.std.proofs.Common.{◌≡◌, ℕ, zero, suc, ◌+◌, ◌-◌, ◌^◌, ◌<◌, ◌≤◌, List, [], ◌∷◌, ◌++◌, length, Bool, true, false, ◌||◌, Option, Some, None, refl, ap, sym, ◌∙◌, subst, arith, cond, ⊎_elim, length-append}
-use Rattle.std.specs.Prelude.{slice_get, option_map, nat_lt, ◌==◌, if◌then◌else◌}
+use Rattle.std.proofs.Common.{◌≡◌, ℕ, zero, suc, ◌<◌, ◌≤◌, List, [], ◌∷◌, ◌++◌, filter, length, Bool, true, false}
+use Rattle.std.proofs.Common.{◌||◌, ◌&&◌, Option, Some, None, refl, ap, sym, ◌∙◌, subst, arith, cond, ⊎_elim}
+use Rattle.std.specs.Prelude.{slice_get, option_map, nat_lt, nat_le, ◌==◌, if◌then◌else◌}
 use Rattle.std.specs.List.{AllByRecursion}
 use Rattle.std.proofs.lemmas.Bool.{cases_Bool, cases_eq, eq-eqb, ne_eqb}
 use Rattle.std.proofs.lemmas.Bool.Decides.{nat_tests}
 use Rattle.std.proofs.lemmas.Option.{none-some}
 use Rattle.tiger_base.specs.Limits.{most_beats}
 use Rattle.tiger_base.specs.declared.message.Note.{Note}
+use Rattle.tiger_base.specs.declared.number.LinkNo.{LinkNo}
 use Rattle.slot_plan.specs.declared.params.Params.{Params}
 use Rattle.slot_plan.specs.Conditions.{IsPlan}
-use Rattle.node_kit.specs.Links.{links_of, ends_of}
+use Rattle.node_kit.specs.Links.{links_of, ends_of, leads_to, IsInLink}
 use Rattle.node_kit.specs.Steps.{Input, Deed}
 use Rattle.run_facts.specs.Accounts.{Rising}
-use Rattle.run_facts.specs.Events.{NodeEvent, Past, Dated, outs_of, stamp_at, is_take_on, sends_of}
+use Rattle.run_facts.specs.Events.{NodeEvent, Past, Dated, outs_of, stamp_at, is_return, is_take_on, sends_of}
 use Rattle.run_facts.proofs.Along.{sends_of-dated}
-use Rattle.run_facts.proofs.Rows.{all-append, all-weaker, same-element}
+use Rattle.run_facts.proofs.Rows.{all-append, all-filter, all-weaker, rising-right, same-element}
 use Rattle.ring_world.specs.declared.event.Act.{Act}
 use Rattle.ring_world.specs.declared.event.Act.TheVariants as act
+use Rattle.ring_world.specs.declared.event.Last.{Last}
+use Rattle.ring_world.specs.declared.event.Last.TheVariants as last
 use Rattle.ring_world.specs.declared.event.Event.{Event}
-use Rattle.ring_world.specs.Machine.{Machine, Being, Way, each_at, lived, gone_on, rest_of, node_of, receiver, happens}
-use Rattle.ring_world.specs.Faults.{fault_of, has_done, node_fault, take_fault, IsActOf, IsEventOf}
+use Rattle.ring_world.specs.Machine.{Machine, Being, Way, each_at, lived, dropped, lost_on, gone_on, rest_of, node_of}
+use Rattle.ring_world.specs.Machine.{node_of_last, receiver, happens}
+use Rattle.ring_world.specs.Faults.{fault_of, has_done, node_fault, get_fault, take_fault, last_take_fault, IsActOf}
+use Rattle.ring_world.specs.Faults.{IsLastOf, IsEventOf}
 use Rattle.ring_world.specs.Laws.{IsPlace}
 use Rattle.ring_world.proofs.Accepting.{IsFaultless, faultless}
 use Rattle.ring_world.proofs.Faults.{IsFree, node-none, take-none}
-use Rattle.ring_world.proofs.Lists.{each-get, each-length}
+use Rattle.ring_world.proofs.Lists.{each-get, each-length, split-rising}
 use Rattle.ring_world.proofs.Places.{plans-places}
-use Rattle.world.specs.Moving.{CanTake, IsReady, HasMoved}
+use Rattle.world.specs.Moving.{HasLink, CanTake, CanTakeLast, IsReady, HasMoved}
 use Rattle.world.specs.Posting.{IsOrderly}
 use Rattle.world.specs.Running.{nodes_of, IsSound}
 
@@ -54,31 +60,46 @@ rest_low : {M : Type 0} (P : Dated M → Type 0) (ds : List (Dated M)) → AllBy
 rest_low P [] h = tt
 rest_low P (d ∷ ds) h = h.1
 
--- A link stays orderly in an event.
-orderly_after : {M S : Type 0} (step : S → Input M → Deed M S) (x : NodeEvent M) (past : Past S) (l now events beat : ℕ) (w : Way M)
-    → now ≤ beat → (stamp_at x).beat ≡ beat → IsOrderly now events w → IsOrderly beat (events + 1) (gone_on step x past l w)
-orderly_after {M} step x past l now events beat w goes when old =
+-- A link stays orderly when a return loses what is older.
+orderly_lost : {M : Type 0} (p : Params) (n : ℕ) (x : NodeEvent M) (l now : ℕ) (w : Way M) → IsOrderly now w
+    → IsOrderly now (lost_on p n x l w)
+orderly_lost {M} p n x l now w old = by (is_return x && leads_to n (ends_of (links_of p) l))
+  where
+    b : ℕ
+    b = (stamp_at x).beat
+
+    by : (t : Bool) → IsOrderly now (cond t (dropped (stamp_at x).beat w) w)
+    by true = record {
+      rising = rising-right (λ (d : Dated M). d.beat) (filter (λ (d : Dated M). nat_lt d.beat b) w.under_way)
+          (filter (λ (d : Dated M). nat_le b d.beat) w.under_way)
+          (subst (λ (ds : List (Dated M)). Rising (λ (d : Dated M). d.beat) ds)
+          (split-rising (λ (d : Dated M). d.beat) b w.under_way old.rising) old.rising);
+      sent = all-filter (λ (d : Dated M). d.beat ≤ now) (λ (d : Dated M). nat_le b d.beat) w.under_way old.sent;
+    }
+    by false = old
+
+-- And in an event.
+orderly_after : {M S : Type 0} (step : S → Input M → Deed M S) (x : NodeEvent M) (past : Past S) (l now beat : ℕ) (w : Way M)
+    → now ≤ beat → (stamp_at x).beat ≡ beat → IsOrderly now w → IsOrderly beat (gone_on step x past l w)
+orderly_after {M} step x past l now beat w goes when old =
     let os = outs_of step x past in
     let ds = sends_of l (stamp_at x).beat os in
     let fresh = sends_of-dated (λ b. b ≡ beat) l (stamp_at x).beat os when in
     let low = all-weaker (λ (d : Dated M). d.beat ≤ now) (λ d. d.beat ≤ beat) w.under_way (λ d h. omega (arith, h, goes)) old.sent in
     let new = all-weaker (λ (d : Dated M). d.beat ≡ beat) (λ d. d.beat ≤ beat) ds (λ d h. omega (arith, h)) fresh in
-    let few = old.taken in
     ⊎_elim
     (λ (t : is_take_on l x ≡ true).
-    let is : gone_on step x past l w ≡ record { taken = suc w.taken; under_way = rest_of w.under_way ++ ds } = rw t refl in
+    let is : gone_on step x past l w ≡ record { gone = suc w.gone; under_way = rest_of w.under_way ++ ds } = rw t refl in
     let left = rest_low (λ (d : Dated M). d.beat ≤ beat) w.under_way low in
-    subst (IsOrderly beat (events + 1)) (sym is) (record {
+    subst (IsOrderly beat) (sym is) (record {
       rising = rising_more beat (rest_of w.under_way) ds (rest_rising w.under_way old.rising) left fresh;
       sent = all-append (λ (d : Dated M). d.beat ≤ beat) (rest_of w.under_way) ds left new;
-      taken = omega (arith, few);
     }))
     (λ (f : is_take_on l x ≡ false).
-    let is : gone_on step x past l w ≡ record { taken = w.taken; under_way = w.under_way ++ ds } = rw f refl in
-    subst (IsOrderly beat (events + 1)) (sym is) (record {
+    let is : gone_on step x past l w ≡ record { gone = w.gone; under_way = w.under_way ++ ds } = rw f refl in
+    subst (IsOrderly beat) (sym is) (record {
       rising = rising_more beat w.under_way ds old.rising low fresh;
       sent = all-append (λ (d : Dated M). d.beat ≤ beat) w.under_way ds low new;
-      taken = omega (arith, few);
     }))
     (cases_Bool (is_take_on l x))
 
@@ -103,6 +124,8 @@ changed_from {X} f xs k y at = by (slice_get xs k) refl
 not_ticked : {S : Type 0} (a : Act) (beat : ℕ) (b : Being S) → has_done a beat b ≡ false → b.ticked ≤ beat
 not_ticked (act.Get link number) beat b h = grind (arith, nat_tests, h)
 not_ticked (act.Tick node) beat b h = grind (arith, nat_tests, h)
+not_ticked (act.DieIn final sends) beat b h = grind (arith, nat_tests, h)
+not_ticked (act.Return cub) beat b h = grind (arith, nat_tests, h)
 not_ticked (act.Die cub) beat b h = by (nat_lt beat b.acted) h
   where
     by : (q : Bool) → q || nat_lt beat b.ticked ≡ false → b.ticked ≤ beat
@@ -122,6 +145,10 @@ module _ {M S : Type 0} (stands : S → Params → ℕ → Type 0) (p : Params) 
       by (act.Get link number) ends = subst (λ k. k < nodes_of p) (sym (ap receiver ends.2)) (place.linked link.0 ends.0 ends.1 ends.2).1
       by (act.Tick node) low = low
       by (act.Die cub) low = let cubs = place.cubs in omega (arith, low, cubs)
+      by (act.DieIn (last.Get link number) sends) ends =
+          subst (λ k. k < nodes_of p) (sym (ap receiver ends.2)) (place.linked link.0 ends.0 ends.1 ends.2).1
+      by (act.DieIn (last.Tick node) sends) low = let cubs = place.cubs in omega (arith, low, cubs)
+      by (act.Return cub) low = let cubs = place.cubs in omega (arith, low, cubs)
 
   module _ (none : fault_of p m e ≡ None) where
     free : IsFaultless p m e
@@ -130,21 +157,31 @@ module _ {M S : Type 0} (stands : S → Params → ℕ → Type 0) (p : Params) 
     goes : m.beat ≤ e.stamp.beat
     goes = ⊎_elim (λ (q : e.stamp.beat ≡ m.beat). omega (arith, q)) (λ (q : e.stamp.beat ≡ suc m.beat). omega (arith, q)) free.beat
 
-    can_take : (old : Being S) (b : length m.events < 2 ^ 64 - 1) → CanTake p (node_of p e.act) m.ways e.act
-    can_take old room = by e.act known.1 free.take
+    linked : (link : LinkNo) (number from to : ℕ) → ends_of (links_of p) link.0 ≡ Some (from, to)
+        → get_fault m.ways e.stamp.beat link number ≡ None
+        → IsInLink p (receiver (ends_of (links_of p) link.0)) link.0 × HasLink m.ways link.0
+    linked link number from to ends untaken =
+        let first = take-none m.ways e.stamp.beat link number untaken in (
+          (from, subst (λ k. ends_of (links_of p) link.0 ≡ Some (from, k)) (sym (ap receiver ends)) ends),
+          record { way = first.way; here = first.here },
+        )
+
+    can_take : CanTake p (node_of p e.act) m.ways e.act
+    can_take = by e.act known.1 free.take
       where
+        by_last : (a : Last) → IsLastOf p a → last_take_fault m.ways e.stamp.beat a ≡ None → CanTakeLast p (node_of_last p a) m.ways a
+        by_last (last.Get link number) ends untaken = linked link number ends.0 ends.1 ends.2 untaken
+        by_last (last.Tick node) low untaken = tt
+
         by : (a : Act) → IsActOf p (nodes_of p) a → take_fault m.ways e.stamp.beat a ≡ None → CanTake p (node_of p a) m.ways a
-        by (act.Get link number) ends untaken =
-            let first = take-none m.ways e.stamp.beat link number untaken in
-            let counted = (sound.orderly link.0 first.way first.here).taken in (
-              (ends.0, subst (λ k. ends_of (links_of p) link.0 ≡ Some (ends.0, k)) (sym (ap receiver ends.2)) ends.2),
-              record { way = first.way; here = first.here; room = omega (arith, counted, room) },
-            )
+        by (act.Get link number) ends untaken = linked link number ends.0 ends.1 ends.2 untaken
         by (act.Tick node) low untaken = tt
         by (act.Die cub) low untaken = tt
+        by (act.DieIn final sends) may untaken = by_last final may untaken
+        by (act.Return cub) low untaken = tt
 
-    pub ready : length m.events < 2 ^ 64 - 1 → IsReady stands (node_of p e.act) e m.beings m.ways
-    ready room =
+    pub ready : length m.ways ≤ 4000 → IsReady stands (node_of p e.act) e m.beings m.ways
+    ready links =
         let n = node_of p e.act in
         let low : n < length m.beings = omega (arith, within, size) in
         let own = get_some m.beings n low in
@@ -161,12 +198,14 @@ module _ {M S : Type 0} (stands : S → Params → ℕ → Type 0) (p : Params) 
             reading = omega (arith, until, short);
             ticked = not_ticked e.act e.stamp.beat b open_node.undone;
             place = record { params = p; number = n; here = sound.stand n b own.1; all = sym sound.links };
-            takes = can_take b room;
+            takes = can_take;
+            few = links;
+            order = λ l w at. (sound.orderly l w at).rising;
           };
         }
 
     module _ (note : M → Note) (step : S → Input M → Deed M S) (beings : List (Being S)) (ways : List (Way M))
-        (moved : HasMoved note step stands (node_of p e.act) e m.beings beings m.ways ways) where
+        (moved : HasMoved note step stands p (node_of p e.act) e m.beings beings m.ways ways) where
       abbrev after : Machine M S
       after = record { beat = e.stamp.beat; beings = beings; ways = ways; events = m.events ++ e ∷ [] }
 
@@ -185,8 +224,9 @@ module _ {M S : Type 0} (stands : S → Params → ℕ → Type 0) (p : Params) 
           let x = moved.lived_in.event in
           let through = moved.lived_in.through in
           let f : ℕ → Being S → Being S = λ k b. if k == n then lived note step x b else b in
+          let on : ℕ → Way M → Way M = λ l w. gone_on step x moved.old.past l (lost_on p n x l w) in
           record {
-            links = ap length through.ways ∙ each-length (gone_on step x moved.old.past) 0 m.ways ∙ sound.links;
+            links = ap length through.ways ∙ each-length on 0 m.ways ∙ sound.links;
             stand = λ k b at.
                 let was = changed_from f m.beings k b (ap (λ bs. slice_get bs k) (sym moved.nodes) ∙ at) in
                 ⊎_elim
@@ -202,10 +242,9 @@ module _ {M S : Type 0} (stands : S → Params → ℕ → Type 0) (p : Params) 
                 subst (λ (c : Being S). stands c.past.state p k) (sym same_being) (sound.stand k was.0 was.1))
                 (cases_eq k n);
             orderly = λ l w at.
-                let was = changed_from (gone_on step x moved.old.past) m.ways l w (ap (λ ws. slice_get ws l) (sym through.ways) ∙ at) in
+                let was = changed_from on m.ways l w (ap (λ ws. slice_get ws l) (sym through.ways) ∙ at) in
                 let when : (stamp_at x).beat ≡ e.stamp.beat = ap (λ s. s.beat) moved.lived_in.when in
-                let more : length m.events + 1 ≡ length (m.events ++ e ∷ []) = sym (length-append m.events (e ∷ [])) in
-                subst (IsOrderly e.stamp.beat (length (m.events ++ e ∷ []))) (sym was.2)
-                (subst (λ k. IsOrderly e.stamp.beat k (gone_on step x moved.old.past l was.0)) more
-                (orderly_after step x moved.old.past l m.beat (length m.events) e.stamp.beat was.0 goes when (sound.orderly l was.0 was.1)));
+                subst (IsOrderly e.stamp.beat) (sym was.2)
+                (orderly_after step x moved.old.past l m.beat e.stamp.beat (lost_on p n x l was.0) goes when
+                (orderly_lost p n x l m.beat was.0 (sound.orderly l was.0 was.1)));
           }

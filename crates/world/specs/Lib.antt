@@ -1,3 +1,4 @@
+pub mod Dropping
 pub mod Living
 pub mod Moving
 pub mod Posting

@@ -32,7 +32,7 @@ nodes_of p = viewers_of (links_of p) + 1
 pub record IsSound {M S : Type 0} (stands : S → Params → ℕ → Type 0) (p : Params) (m : Machine M S) : Type 0 where
   pub links : length m.ways ≡ link_count (links_of p)
   pub stand : (n : ℕ) (b : Being S) → slice_get m.beings n ≡ Some b → stands b.past.state p n
-  pub orderly : (l : ℕ) (w : Way M) → slice_get m.ways l ≡ Some w → IsOrderly m.beat (length m.events) w
+  pub orderly : (l : ℕ) (w : Way M) → slice_get m.ways l ≡ Some w → IsOrderly m.beat w
 
 -- What always holds: the beats are within the limit, there is a node for each number, and a machine that is not spoilt is sound.
 pub record IsKept {M S : Type 0} (stands : S → Params → ℕ → Type 0) (r : Running M S) : Type 0 where

@@ -10,9 +10,9 @@ use Rattle.ring_world.specs.Samples.{living, machine, tick}
 use Rattle.world.specs.declared.error.StepError.{StepError}
 use Rattle.world.specs.Running.{IsCause}
 
--- A link from which so many messages were taken, with these under way.
+-- A link from which so many messages are gone, with these under way.
 abbrev pub way : ℕ → List (Dated ℕ) → Way ℕ
-way taken under = record { taken = taken; under_way = under }
+way gone under = record { gone = gone; under_way = under }
 
 -- A message of a beat.
 abbrev pub dated : ℕ → ℕ → Dated ℕ

@@ -1,9 +1,9 @@
-//! A link of a machine that runs: how many messages were taken from it, and those under way.
-ghost use Rattle.std.specs.Prelude.{◌≡◌, ◌+◌, ◌<◌, ◌^◌, ◌-◌, ◌∷◌, [], ◌++◌, MatchOption, IfSome, OnOk, Some, None, option_map, nat_le, ◌==◌, if◌then◌else◌};
+//! A link of a machine that runs: how many messages are gone from it, taken or lost, and those under way.
+ghost use Rattle.std.specs.Prelude.{◌≡◌, ◌+◌, ◌∷◌, [], ◌++◌, MatchOption, IfSome, OnOk, Some, None, option_map, nat_lt, nat_le, ◌==◌, if◌then◌else◌};
 ghost use Rattle.ring_world.specs.declared.event.StepFault.TheVariants.{NotNext, TooEarly, TooLate};
 ghost use Rattle.ring_world.specs.Faults.{is_next, early_fault, late_in};
-ghost use Rattle.ring_world.specs.Machine.{first_in, rest_of};
-ghost use Rattle.world.specs.Posting.{IsInOrder};
+ghost use Rattle.ring_world.specs.Machine.{first_in, rest_of, dropped};
+ghost use Rattle.world.specs.Posting.{IsInOrder, begins_below};
 
 use ring_world::StepFault;
 use std::alloc::Global;
@@ -35,10 +35,10 @@ impl<M> Posted<M> {
     }
 }
 
-/// A link: how many messages were taken from it, and those under way, the oldest first.
+/// A link: how many messages are gone from it, taken or lost, and those under way, the oldest first.
 #[derive(Drop)]
 pub struct Channel<M> {
-    taken: u64,
+    gone: u64,
     under_way: VecDeque<Posted<M>>,
 }
 
@@ -47,25 +47,25 @@ impl<M> Model for Channel<M> {
 
     ghost Value = { Way M };
 
-    ghost view = { λ c. record { taken = c.taken; under_way = c.under_way.items } };
+    ghost view = { λ c. record { gone = c.gone; under_way = c.under_way.items } };
 }
 
 impl<M> Channel<M> {
     /// A link on which nothing was sent.
     pub fn new(alloc: Global) -> Channel<M>
-        ensures { result ≡ record { taken = 0; under_way = [] } }
+        ensures { result ≡ record { gone = 0; under_way = [] } }
     {
         Channel {
-            taken: 0,
+            gone: 0,
             under_way: VecDeque::new(alloc),
         }
     }
 
-    /// How many messages were taken: the number of the next one.
-    pub fn taken(&self) -> u64
-        ensures { result ≡ self.now.taken }
+    /// How many messages are gone: the number of the next one.
+    pub fn gone(&self) -> u64
+        ensures { result ≡ self.now.gone }
     {
-        self.taken
+        self.gone
     }
 
     /// The oldest message under way.
@@ -83,7 +83,7 @@ impl<M> Channel<M> {
             then early_fault beat (NotNext link) (first_in self.now.under_way)
             else Some (NotNext link)) }
     {
-        if number != self.taken {
+        if number != self.gone {
             return Some(StepFault::NotNext { link });
         }
         match self.oldest() {
@@ -104,17 +104,43 @@ impl<M> Channel<M> {
         }
     }
 
-    /// Takes the oldest message out, if there is one.
+    /// Takes the oldest message out, if there is one and the count of those that are gone can grow.
     pub fn take(&mut self) -> Option<M>
-        requires { self.old.taken < 2 ^ 64 - 1 }
-        ensures message { result ≡ option_map (λ d. d.item) (first_in self.old.under_way) }
+        ensures message { IfSome result
+            (λ msg. Some msg ≡ option_map (λ d. d.item) (first_in self.old.under_way)) }
         ensures rest { IfSome result (λ _. self.new
-            ≡ record { taken = self.old.taken + 1; under_way = rest_of self.old.under_way }) }
+            ≡ record { gone = self.old.gone + 1; under_way = rest_of self.old.under_way }) }
     {
+        let gone = self.gone.checked_add(1)?;
         let posted = self.under_way.pop_front()?;
-        self.taken += 1;
+        self.gone = gone;
         Some(posted.msg)
     }
+
+    /// Whether the oldest message under way was sent below a beat.
+    fn begins_below(&self, beat: Beat) -> bool
+        ensures { result ≡ begins_below beat self.now.under_way }
+    {
+        match self.oldest() {
+            None => false,
+            Some(posted) => posted.sent() < beat,
+        }
+    }
+}
+
+/// Loses the messages of a link that were sent below a beat.
+pub fn drop_below<M: Drop>(channel: &mut Channel<M>, beat: Beat) -> Result<(), NoMemory>
+    requires { IsInOrder channel.old }
+    ensures { OnOk result (channel.new ≡ dropped beat channel.old) }
+{
+    while channel.begins_below(beat) {
+        match channel.take() {
+            Some(_) => {}
+            // There is one, unless the count is at its end.
+            None => return Err(NoMemory),
+        }
+    }
+    Ok(())
 }
 
 /// The message was sent in the beat in which it is to be taken.
@@ -143,7 +169,7 @@ impl<M: Drop> Channel<M> {
     /// Puts a message behind those under way.
     pub fn post(&mut self, beat: Beat, msg: M) -> Result<(), NoMemory>
         ensures { OnOk result (self.new ≡ record {
-          taken = self.old.taken;
+          gone = self.old.gone;
           under_way = self.old.under_way ++ (record { beat = beat; item = msg }) ∷ [];
         }) }
     {

@@ -1,15 +1,17 @@
 //! Why an event may not happen, but for what the node's own marks and the link tell.
-ghost use Rattle.std.specs.Prelude.{◌≡◌, ℕ, ◌+◌, ◌<◌, ◌≤◌, Some, None, length, min, max, if◌then◌else◌, slice_get};
+ghost use Rattle.std.specs.Prelude.{◌≡◌, ℕ, ◌+◌, ◌<◌, ◌≤◌, Some, None, length, if◌then◌else◌, slice_get};
 ghost use Rattle.tiger_base.specs.Limits.{most_beats};
 ghost use Rattle.node_kit.specs.Links.{links_of, link_count, ends_of, leads_to};
 ghost use Rattle.std.specs.Option.{option_or};
-ghost use Rattle.ring_world.specs.Faults.{beat_fault, least_behind, missed_fault, take_fault, least_late, late_in, late_fault, cub_before, cub_after, is_dead, beside_fault, death_fault, IsActOf};
+ghost use Rattle.ring_world.specs.Faults.{beat_fault, least_behind, missed_fault, get_fault, take_fault, last_take_fault, least_late, late_in, late_fault, last_late_fault, has_died, beside_fault, neighbour_fault, death_fault, IsActOf, IsLastOf};
+ghost use Rattle.ring_world.specs.Machine.{node_of_last};
 ghost use Rattle.world.specs.Posting.{IsInOrder, AreInOrder};
 
 use crate::channel::Channel;
 use crate::member::Member;
+use crate::receiver::last_receiver;
 use node_kit::LinkTable;
-use ring_world::{Act, Event, StepFault};
+use ring_world::{Act, Event, Last, StepFault};
 use slot_plan::Plan;
 use tiger_base::{Beat, CubNo, LinkNo, NodeNo};
 
@@ -95,12 +97,10 @@ fn late_on<M>(
     }
 }
 
-/// A neighbour of a cub is dead.
+/// A neighbour of a cub has died.
 fn die_fault<T>(plan: &Plan, cub: CubNo, members: &[Member<T>]) -> Option<StepFault>
     requires { cub.0 < plan.now.params.cubs }
-    ensures { result ≡ beside_fault members.now
-        (min (cub_before plan.now.params cub.0) (cub_after plan.now.params cub.0))
-        (max (cub_before plan.now.params cub.0) (cub_after plan.now.params cub.0)) }
+    ensures { result ≡ neighbour_fault plan.now.params members.now cub.0 }
 {
     let cubs = plan.params.cubs as u32;
     let after = (cub.0 + 1) % cubs;
@@ -111,20 +111,20 @@ fn die_fault<T>(plan: &Plan, cub: CubNo, members: &[Member<T>]) -> Option<StepFa
 fn beside_fault<T>(a: u32, b: u32, members: &[Member<T>]) -> Option<StepFault>
     ensures { result ≡ beside_fault members.now a b }
 {
-    if is_dead(a, members) {
+    if has_died(a, members) {
         Some(StepFault::NeighbourDead { cub: CubNo(a) })
-    } else if is_dead(b, members) {
+    } else if has_died(b, members) {
         Some(StepFault::NeighbourDead { cub: CubNo(b) })
     } else {
         None
     }
 }
 
-fn is_dead<T>(node: u32, members: &[Member<T>]) -> bool
-    ensures { result ≡ is_dead (slice_get members.now node) }
+fn has_died<T>(node: u32, members: &[Member<T>]) -> bool
+    ensures { result ≡ has_died (slice_get members.now node) }
 {
     match members.get(node as usize) {
-        Some(member) => member.is_dead(),
+        Some(member) => member.has_died(),
         None => false,
     }
 }
@@ -150,5 +150,43 @@ pub fn act_fault<M, T>(
         }
         Act::Tick(node) => tick_fault(plan, node, event.stamp.beat, channels),
         Act::Die(cub) => die_fault(plan, cub, members),
+        Act::DieIn { last, .. } => last_fault(plan, event.stamp.beat, last, members, channels),
+        Act::Return(_) => None,
+    }
+}
+
+/// The same of an event in which a cub's death comes.
+fn last_fault<M, T>(
+    plan: &Plan,
+    beat: Beat,
+    last: Last,
+    members: &[Member<T>],
+    channels: &[Channel<M>],
+) -> Option<StepFault>
+    requires few { length channels.now ≤ 4000 }
+    requires order { AreInOrder channels.now }
+    requires last { IsLastOf plan.now.params last }
+    requires links { length channels.now ≡ link_count (links_of plan.now.params) }
+    ensures { result ≡ option_or (last_take_fault channels.now beat last)
+        (option_or (last_late_fault plan.now.params channels.now beat last)
+        (neighbour_fault plan.now.params members.now (node_of_last plan.now.params last))) }
+{
+    let beside = die_fault(plan, CubNo(last_receiver(plan, last).0), members);
+    match last {
+        Last::Get { link, number } => first_of(
+            channels[link.0 as usize].take_fault(link, number, beat),
+            beside,
+        ),
+        Last::Tick(node) => first_of(tick_fault(plan, node, beat, channels), beside),
+    }
+}
+
+/// The first of two faults, if there is one.
+fn first_of(one: Option<StepFault>, other: Option<StepFault>) -> Option<StepFault>
+    ensures { result ≡ option_or one other }
+{
+    match one {
+        Some(fault) => Some(fault),
+        None => other,
     }
 }

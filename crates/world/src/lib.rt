@@ -2,6 +2,7 @@
 #![tactic(auto)]
 
 mod channel;
+mod dropping;
 mod error;
 mod events;
 mod faults;

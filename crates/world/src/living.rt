@@ -1,11 +1,12 @@
-//! What a node does in an event: it takes a message or ticks, and its outputs are written down and sent.
+//! What a node does in an event: it takes a message or ticks, and its outputs are written down and sent, or so many of
+//! them as its death leaves.
 ghost use Rattle.std.specs.Prelude.{◌≡◌, ◌<◌, ◌≤◌, ◌∷◌, [], ◌++◌, OnOk, IfOk, map, length, vec_len};
 ghost use Rattle.std.specs.List.{AllByRecursion};
 ghost use Rattle.tiger_base.specs.Limits.{most_reading};
 ghost use Rattle.node_kit.specs.declared.outbox.Out.TheVariants.{Send};
 ghost use Rattle.node_kit.specs.Steps.{entry_of};
 ghost use Rattle.node_kit.specs.Steps.Input.{Take, Tick};
-ghost use Rattle.world.specs.Living.{StandsIn, StandsAt, HasDone};
+ghost use Rattle.world.specs.Living.{StandsIn, StandsAt, HasDone, left_by};
 ghost use Rattle.world.specs.Posting.{posted, IsPostable};
 
 use crate::channel::Channel;
@@ -13,23 +14,26 @@ use node_kit::{Entry, Journal, Node, Out, Outbox, What};
 use std::alloc::Global;
 use tiger_base::{Beat, LinkNo, Message, NoMemory, Stamp};
 
-/// The node takes a message that came on a link. What it wrote is given back.
+/// The node takes a message that came on a link; of its messages so many go out if it dies in that. What it wrote is
+/// given back.
 pub fn take<M: Message, T: Node<M>>(
     alloc: Global,
     stamp: Stamp,
     link: LinkNo,
     msg: M,
+    sends: Option<u64>,
     node: &mut T,
     channels: &mut Vec<Channel<M>>,
 ) -> Result<Journal, NoMemory>
     requires reading { stamp.reading ≤ most_reading }
     requires stands { StandsAt T.stands_at (vec_len channels.old) link.0 node.old }
-    ensures { IfOk result (λ journal. HasDone M.note_of T.step T.stands_at (Take stamp link msg)
+    ensures { IfOk result (λ journal. HasDone M.note_of T.step T.stands_at (Take stamp link msg) sends
         node.old node.new journal channels.old.items channels.new.items) }
 {
     let note = msg.note();
     let mut outputs = Outbox::new(alloc);
     node.take(stamp, link, msg, &mut outputs)?;
+    cut_off(sends, &mut outputs);
     let mut journal = Journal::new(alloc);
     journal.write(Entry {
         stamp,
@@ -39,23 +43,35 @@ pub fn take<M: Message, T: Node<M>>(
     Ok(journal)
 }
 
-/// The node ends its beat. What it wrote is given back.
+/// The node ends its beat; of its messages so many go out if it dies in that. What it wrote is given back.
 pub fn tick<M: Message, T: Node<M>>(
     alloc: Global,
     stamp: Stamp,
+    sends: Option<u64>,
     node: &mut T,
     channels: &mut Vec<Channel<M>>,
 ) -> Result<Journal, NoMemory>
     requires reading { stamp.reading ≤ most_reading }
     requires stands { StandsIn T.stands_at (vec_len channels.old) node.old }
-    ensures { IfOk result (λ journal. HasDone M.note_of T.step T.stands_at (Tick stamp)
+    ensures { IfOk result (λ journal. HasDone M.note_of T.step T.stands_at (Tick stamp) sends
         node.old node.new journal channels.old.items channels.new.items) }
 {
     let mut outputs = Outbox::new(alloc);
     node.tick(stamp, &mut outputs)?;
+    cut_off(sends, &mut outputs);
     let mut journal = Journal::new(alloc);
     deliver(stamp, &mut outputs, &mut journal, channels)?;
     Ok(journal)
+}
+
+/// Cuts the outputs off behind so many messages, and puts the death at their end, if the node dies in the event.
+fn cut_off<M: Drop>(sends: Option<u64>, outputs: &mut Outbox<M>)
+    ensures { outputs.new ≡ left_by sends outputs.old }
+{
+    if let Some(sends) = sends {
+        outputs.cut(sends);
+        outputs.end_in_death();
+    }
 }
 
 /// Writes the outputs down in their order, and sends the messages among them.

@@ -184,7 +184,14 @@ impl<M: Message, T: Node<M>> Machine<M, T> {
         let node = receiver(&self.plan, event.act);
         self.spoilt = true;
         self.events.reserve(1)?;
-        happen(alloc, event, node, &mut self.members, &mut self.channels)?;
+        happen(
+            alloc,
+            &self.plan,
+            event,
+            node,
+            &mut self.members,
+            &mut self.channels,
+        )?;
         self.events.push(event)?;
         self.beat = event.stamp.beat;
         self.spoilt = false;

@@ -15,12 +15,11 @@ pub fn outputs()
         ≡ way 2 (dated 1 5 ∷ dated 3 7 ∷ dated 3 9 ∷ []) ∷ way 0 (dated 3 8 ∷ []) ∷ [] }
 {}
 
-/// In beat 2, after 3 events.
+/// In beat 2.
 pub fn orderly_links()
-    ensures orderly { IsOrderly 2 3 (way 3 (dated 1 5 ∷ dated 2 6 ∷ dated 2 7 ∷ [])) }
-    ensures falls { IsOrderly 2 3 (way 3 (dated 2 5 ∷ dated 1 6 ∷ [])) → ⊥ }
-    ensures ahead { IsOrderly 2 3 (way 3 (dated 3 5 ∷ [])) → ⊥ }
-    ensures too_many { IsOrderly 2 3 (way 4 []) → ⊥ }
+    ensures orderly { IsOrderly 2 (way 3 (dated 1 5 ∷ dated 2 6 ∷ dated 2 7 ∷ [])) }
+    ensures falls { IsOrderly 2 (way 3 (dated 2 5 ∷ dated 1 6 ∷ [])) → ⊥ }
+    ensures ahead { IsOrderly 2 (way 3 (dated 3 5 ∷ [])) → ⊥ }
 {}
 
 /// A tick of node 0 in beat 2 is refused by a machine in beat 0 for its beat, whatever else is wrong with

@@ -13,6 +13,7 @@ use Rattle.ring_nodes.specs.AllNodes.{any_step}
 use Rattle.ring_world.specs.declared.event.Event.{Event}
 use Rattle.ring_world.specs.Machine.{Machine, opening_machine}
 use Rattle.ring_world.specs.Faults.{Accepts}
+use Rattle.ring_world.specs.Laws.{HaveWholeDeaths}
 use Rattle.proof_worlds.specs.Accepted.{opening_ring}
 use Rattle.proof_worlds.specs.Samples.{AreAccepted, disks_of}
 use Rattle.proof_worlds.proofs.rows.deaths.Goals as goal
@@ -30,8 +31,8 @@ no-orders = record {
 
 accepted : (image : ℕ → Image) (events : List Event) (m : Machine Msg (AnyNode ℕ))
     → Accepts noted any_step small (node_count small) 1 (opening_machine small (opening_ring small [] (disks_of image))) events m
-    → AreAccepted image events
-accepted image events m a = (
+    → HaveWholeDeaths events → AreAccepted image events
+accepted image events m a whole = (
   m,
   record {
     plan = laws_met.0;
@@ -39,16 +40,17 @@ accepted image events m a = (
     disks = λ d l. record { params = refl; number = refl };
     few = omega arith;
     accepts = a;
+    whole = whole;
   },
 )
 
 pub returns-clause-nothing : goal.returns-clause-nothing
-returns-clause-nothing c image = accepted image [] _ refl
+returns-clause-nothing c image = accepted image [] _ refl tt
 
 pub returns-clause-apart : goal.returns-clause-apart
 unfolding time_of
 returns-clause-apart c image =
-    accepted image _ _ ((omega arith, omega arith), refl, ((omega arith, omega arith), refl, refl))
+    accepted image _ _ ((omega arith, omega arith), refl, ((omega arith, omega arith), refl, refl)) (refl, (refl, tt))
 
 pub returns-clause-beside : goal.returns-clause-beside
 unfolding time_of

@@ -19,7 +19,7 @@ returns-clause-moved g c =
     let low : c.args.node.0 < length c.args.members.now.items = slice_get_within _ _ _ c.requires.here in
     let len = c.args.members.now.ok.0 in
     let here : slice_get c.args.members.now.items c.args.node.0 ≡ Some c.index_mut-member.result.now = slice_get_read _ (vec_len c.args.members.now) _ _ len (omega (arith, low, len)) c.index_mut-member.ensures.value in
-    on_ok_weaker c.happen_to.result (λ l. has_moved _ _ _ c.args.node.0 c.args.event _ _ c.args.members.now.items _ _ here l) c.happen_to.ensures.lived
+    on_ok_weaker c.happen_to.result (λ l. has_moved _ _ _ c.args.plan.now.params c.args.node.0 c.args.event _ _ c.args.members.now.items _ _ here l) c.happen_to.ensures.lived
 
 pub returns-clause-journals : goal.returns-clause-journals
 returns-clause-journals g c =

@@ -1,14 +1,12 @@
-use Rattle.std.proofs.Common.{◌∙◌, ◌++◌, ◌∷◌, [], ap, arith}
+use Rattle.std.proofs.Common.{◌∙◌, ◌++◌, ◌∷◌, [], ap}
 use Rattle.world.specs.Running.{Running}
 use Rattle.world.proofs.Kept.{kept_spoilt, is_ready, kept_after, after_is}
 use Rattle.world.proofs.machine.Machine.happen.Goals as goal
 
 pub happen-requires : goal.happen-requires
 happen-requires g c =
-    let len = c.self.inside.events.ok in
-    let room = c.self.inside.events.small in
     is_ready g.T.Node.stands_at _ c.args.self.now c.self.inside.plan.sound c.self.view_is c.self.invariant c.requires.whole c.args.event c.requires.event c.requires.faultless
-    c.receiver-node.result.0 c.receiver-node.ensures (omega (arith, len.0, len.1, room))
+    c.receiver-node.result.0 c.receiver-node.ensures
 
 pub invariant_of-self-in_err-happen : goal.invariant_of-self-in_err-happen
 invariant_of-self-in_err-happen g c = kept_spoilt g.T.Node.stands_at _ _ _ _ c.self.invariant c.in_err-happen.ensures.journals
