@@ -16,6 +16,8 @@ mod overtaken;
 #[cfg(test)]
 mod plain;
 #[cfg(test)]
+mod returns;
+#[cfg(test)]
 mod rings;
 #[cfg(test)]
 mod scripts;

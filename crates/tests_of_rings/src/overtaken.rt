@@ -28,7 +28,7 @@ fn take_next<'a, G: Gate>(alloc: Global, world: &mut World<'a, G>, beat: Beat, l
     requires { beat ≤ most_beats }
 {
     let number = match world.channel(link) {
-        Some(channel) => channel.taken(),
+        Some(channel) => channel.gone(),
         None => return false,
     };
     happens(alloc, world, beat, Act::Get { link, number })

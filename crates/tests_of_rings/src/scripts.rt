@@ -51,7 +51,8 @@ pub fn push_answers<'a, G: Gate>(
     Ok(())
 }
 
-fn assert_answers(
+/// Whether the world answers a script so.
+pub fn assert_answers(
     rt: &impl Abort,
     alloc: Global,
     script: &[Event],
@@ -68,18 +69,18 @@ pub fn event(beat: Beat, reading: Micros, act: Act) -> Event {
     }
 }
 
-fn get(link: u32, number: u64) -> Act {
+pub fn get(link: u32, number: u64) -> Act {
     Act::Get {
         link: LinkNo(link),
         number,
     }
 }
 
-fn tick(node: u32) -> Act {
+pub fn tick(node: u32) -> Act {
     Act::Tick(NodeNo(node))
 }
 
-fn die(cub: u32) -> Act {
+pub fn die(cub: u32) -> Act {
     Act::Die(CubNo(cub))
 }
 
@@ -120,7 +121,7 @@ fn a_message_takes_a_beat(rt: HostRuntime) -> Result<(), Fail> {
 }
 
 /// Ticks of the first so many nodes in a beat.
-fn add_ticks(beat: Beat, count: u32, script: &mut Vec<Event>) -> Result<(), NoMemory>
+pub fn add_ticks(beat: Beat, count: u32, script: &mut Vec<Event>) -> Result<(), NoMemory>
     requires { beat ≤ most_beats }
 {
     for node in 0..count {

@@ -41,7 +41,8 @@ fn counts_of(events: &[Event]) -> (u64, u64, u64) {
     for event in events {
         match event.act {
             Act::Tick(_) => ticks = ticks.saturating_add(1),
-            Act::Die(_) => deaths = deaths.saturating_add(1),
+            Act::Die(_) | Act::DieIn { .. } => deaths = deaths.saturating_add(1),
+            Act::Return(_) => {}
             Act::Get { .. } => gets = gets.saturating_add(1),
         }
     }
