@@ -17,14 +17,14 @@ class Beat:
         self.reading = list(ring.reading)
         self.taken = list(ring.taken)
         self.left = [len(queue) for queue in ring.under_way]
-        self.acted, self.ticked, self.dying = set(), set(), set()
+        self.acted, self.ticked = set(), set()
         self.events = []
 
     def draw(self):
         """The events of the beat, in their order."""
-        dying = self.draw_dying()
-        acts = {node: self.acts_of(node, node in dying)
-                for node in range(self.ring.nodes) if not self.ring.dead[node]}
+        dying, back = self.draw_dying(), self.draw_back()
+        acts = {node: self.acts_of(node, node in dying, node in back)
+                for node in range(self.ring.nodes) if node in back or not self.ring.dead[node]}
         order = list(acts)
         self.rng.shuffle(order)
         if self.rng.random() < 0.5:  # else one node after another
@@ -41,26 +41,37 @@ class Beat:
         return self.events
 
     def draw_dying(self):
-        """The cubs that die in the beat: no two of them neighbours, and none beside a dead one."""
+        """The cubs that die in the beat: no two of them neighbours, and none beside one that has died."""
         ring, rng, dying = self.ring, self.rng, set()
         if rng.random() > 3 / ring.beats:
             return dying
-        dead = [cub for cub in range(ring.cubs) if ring.dead[cub]]
+        dead = [cub for cub in range(ring.cubs) if ring.died[cub] is not None]
         near = [other for cub in dead for other in ring.beside(cub, 2)]
         late = [cub for cub in range(ring.cubs) if ring.may_not_tick(self.beat, cub)]
         ends = [0, 1, ring.cubs - 2, ring.cubs - 1]
         cubs = rng.choice((near, late, ends, range(ring.cubs)))
         for cub in rng.sample(cubs, min(len(cubs), rng.randint(1, 3))):
-            if not any(ring.dead[other] or other in dying for other in (cub, *ring.beside(cub, 1))):
+            if not any(ring.died[other] is not None or other in dying for other in (cub, *ring.beside(cub, 1))):
                 dying.add(cub)
         return dying
 
-    def acts_of(self, node, dies):
-        """What a node does in the beat: it takes all that would be too late, more or less of the
-        rest, and ticks."""
-        if dies:
-            return [("die", node)]
+    def draw_back(self):
+        """The cubs that return in the beat: each that may does so sooner or later, often as soon as it may."""
         ring, rng = self.ring, self.rng
+        may = [cub for cub in range(ring.cubs)
+               if ring.dead[cub] and ring.died[cub] + 2 <= self.beat and not ring.returned[cub]]
+        return {cub for cub in may
+                if rng.random() < (0.5 if ring.died[cub] + 2 == self.beat else 0.3)}
+
+    def acts_of(self, node, dies, returns):
+        """What a node does in the beat: it takes all that would be too late, more or less of the
+        rest, and ticks. One that dies does so apart from that, or in one of these events; one that returns has lost
+        all that came before, and ticks."""
+        ring, rng = self.ring, self.rng
+        if returns:
+            return [("return", node), ("tick", node)]
+        if dies and rng.random() < (0.4 if self.beat else 0.7):  # in beat 0 more often before any event
+            return [("die", node)]
         takes, manner = [], rng.randrange(3)
         for link in ring.into[node]:
             queue = ring.under_way[link]
@@ -72,7 +83,12 @@ class Beat:
             takes.reverse()
         elif order == 2:
             rng.shuffle(takes)
-        return [*(("get", link) for link in takes), ("tick", node)]
+        acts = [*(("get", link) for link in takes), ("tick", node)]
+        if not dies:
+            return acts
+        place = rng.choice((0, len(acts) - 1, rng.randrange(len(acts))))
+        kind, of = acts[place]
+        return [*acts[:place], ("die_in_" + kind, of)]
 
     def draw_reading(self, node):
         """A reading that the node's clock may show: the least, the greatest, or one between."""
@@ -84,9 +100,12 @@ class Beat:
     def event(self, act, reading):
         """The event of an act: a message has the number of the next one on its link."""
         kind, number = act
-        if kind != "get":
-            return (kind, self.beat, reading, number)
-        return (kind, self.beat, reading, number, self.taken[number] if number < len(self.taken) else 0)
+        event = (kind, self.beat, reading, number)
+        if kind in ("get", "die_in_get"):
+            event += (self.taken[number] if number < len(self.taken) else 0,)
+        if kind.startswith("die_in"):
+            event += (self.rng.choice((0, 0, 1, 1, 2, 3, 1000)),)
+        return event
 
     def add(self, node, act):
         """Adds an event that may happen."""
@@ -94,11 +113,20 @@ class Beat:
         self.events.append(self.event(act, reading))
         self.reading[node] = reading
         self.acted.add(node)
-        if act[0] == "get":
+        if act[0] in ("get", "die_in_get"):
             self.taken[act[1]] += 1
             self.left[act[1]] -= 1
-        else:
+        if act[0] == "return":
+            self.lose(node)
+        elif act[0] != "get":
             self.ticked.add(node)
+
+    def lose(self, node):
+        """A cub has returned: all that was sent to it in lower beats is lost."""
+        for link in self.ring.into[node]:
+            lost = sum(sent < self.beat for sent in self.ring.under_way[link])
+            self.taken[link] += lost
+            self.left[link] -= lost
 
     def draw_foe(self, node, act):
         """Adds an event that may not happen, beside the one that comes next: one number moved over a
@@ -123,8 +151,10 @@ class Beat:
 
     def some_act(self, node):
         """Some act of a node."""
-        return self.rng.choice([("tick", node)] + [("get", link) for link in self.ring.into[node]]
-                               + [("die", node)] * (node < self.ring.cubs))
+        acts = [("tick", node)] + [("get", link) for link in self.ring.into[node]]
+        if node < self.ring.cubs:
+            acts += [("die", node), ("die_in_tick", node), ("die_in_get", self.ring.into[node][0])]
+        return self.rng.choice(acts)
 
 
 def beat_off(draws, node, act):
@@ -145,9 +175,23 @@ def beat_soon(draws, node, act):
 
 
 def of_the_dead(draws, _node, _act):
-    """An event of a dead cub."""
-    dead = draws.some_node({cub for cub in range(draws.ring.cubs) if draws.ring.dead[cub]})
-    return None if dead is None else draws.event(draws.some_act(dead), draws.draw_reading(dead))
+    """An event of a dead cub, or the death of one that has returned."""
+    ring = draws.ring
+    died = draws.some_node({cub for cub in range(ring.cubs) if ring.died[cub] is not None})
+    if died is None:
+        return None
+    act = draws.some_act(died) if ring.dead[died] else (draws.rng.choice(("die", "die_in_tick")), died)
+    return draws.event(act, draws.draw_reading(died))
+
+
+def not_back(draws, _node, _act):
+    """The return of a cub that is up, that died in the beat or the one before, or that has returned."""
+    ring = draws.ring
+    soon = {cub for cub in range(ring.cubs) if ring.dead[cub] and ring.died[cub] + 2 > draws.beat}
+    again = {cub for cub in range(ring.cubs) if ring.returned[cub]}
+    cubs = draws.rng.choice((soon, again, soon | again)) or set(range(ring.cubs))
+    cub = draws.some_node(cubs)
+    return draws.event(("return", cub), draws.draw_reading(cub))
 
 
 def behind_tick(draws, _node, _act):
@@ -193,23 +237,27 @@ def too_late(draws, node, _act):
 
 
 def beside_the_dead(draws, _node, _act):
-    """The death of a neighbour of a dead cub, one that has had no event in the beat if there is
-    one."""
+    """The death of a neighbour of a cub that has died, whether it has returned or not, one that has had no event in
+    the beat if there is one; apart from any event or in a tick."""
     ring = draws.ring
-    cubs = {other for cub in range(ring.cubs) if ring.dead[cub] for other in ring.beside(cub, 1)}
+    cubs = {other for cub in range(ring.cubs) if ring.died[cub] is not None for other in ring.beside(cub, 1)}
     cub = draws.some_node(cubs - draws.acted or cubs)
-    return None if cub is None else draws.event(("die", cub), draws.draw_reading(cub))
+    kind = draws.rng.choice(("die", "die_in_tick"))
+    return None if cub is None else draws.event((kind, cub), draws.draw_reading(cub))
 
 
 def none_of_the_ring(draws, node, act):
-    """One over the highest link, node, cub or beat."""
+    """One over the highest link, node, cub or beat; or a death in an event of a node that is no cub."""
     ring = draws.ring
     reading = draws.draw_reading(node)
     return draws.rng.choice((draws.event(("get", len(ring.links)), reading),
                              draws.event(("tick", ring.nodes), reading),
                              draws.event(("die", ring.cubs), reading),
+                             draws.event(("return", ring.cubs), reading),
+                             draws.event(("die_in_tick", ring.cubs), reading),
+                             draws.event(("die_in_get", ring.into[ring.nodes - 1][0]), reading),
                              draws.at_beat(draws.event(act, reading), ring.beats)))
 
 
-FOES = (beat_off, beat_soon, of_the_dead, behind_tick, reading_off, number_off, too_early, too_late,
+FOES = (beat_off, beat_soon, of_the_dead, not_back, behind_tick, reading_off, number_off, too_early, too_late,
         beside_the_dead, none_of_the_ring)

@@ -1,10 +1,10 @@
 //! What a world answers to an event, and what can be seen of it, as text.
 
 use node_kit::{Gate, LinkTable, What};
-use ring_world::{Act, Event, StepFault};
+use ring_world::{Act, Event, Last, StepFault};
 use slot_plan::Plan;
 use std::alloc::{AllocError, Global};
-use tiger_base::{LinkNo, Msg, NodeNo};
+use tiger_base::{Beat, LinkNo, Micros, Msg, NodeNo};
 use world::{Channel, StepError, World};
 
 /// Answers an event: `done`, the world's mark, and the links on which the node sent; `refused`, the
@@ -36,15 +36,24 @@ pub(crate) fn answer<'a, G: Gate>(
     answers.push_str("\n")
 }
 
-/// The node to which a link leads, that ticks, or that dies.
+/// The node to which a link leads, that ticks, that dies, or that returns.
 fn receiver(plan: &Plan, act: Act) -> NodeNo {
     match act {
-        Act::Get { link, .. } => match LinkTable::new(plan).ends(link) {
-            Some((_, to)) => to,
-            None => NodeNo(0),
-        },
+        Act::Get { link, .. } => end_of(plan, link),
         Act::Tick(node) => node,
         Act::Die(cub) => NodeNo(cub.0),
+        Act::DieIn { last, .. } => match last {
+            Last::Get { link, .. } => end_of(plan, link),
+            Last::Tick(node) => node,
+        },
+        Act::Return(cub) => NodeNo(cub.0),
+    }
+}
+
+fn end_of(plan: &Plan, link: LinkNo) -> NodeNo {
+    match LinkTable::new(plan).ends(link) {
+        Some((_, to)) => to,
+        None => NodeNo(0),
     }
 }
 
@@ -88,6 +97,7 @@ fn push_fault(fault: StepFault, answers: &mut String) -> Result<(), AllocError> 
         StepFault::WrongBeat { now } => write!(answers, "WrongBeat {now}"),
         StepFault::TickMissed { node } => write!(answers, "TickMissed {}", node.0),
         StepFault::Dead { cub } => write!(answers, "Dead {}", cub.0),
+        StepFault::NotBack { cub } => write!(answers, "NotBack {}", cub.0),
         StepFault::Ticked { node } => write!(answers, "Ticked {}", node.0),
         StepFault::ReadingOff { reading } => write!(answers, "ReadingOff {reading}"),
         StepFault::NotNext { link } => write!(answers, "NotNext {}", link.0),
@@ -101,7 +111,7 @@ fn push_fault(fault: StepFault, answers: &mut String) -> Result<(), AllocError> 
 const FIRST_MARK: u64 = 1;
 
 /// A world's mark, a checksum of what can be seen of it: its beat, each event that happened, how
-/// long each journal is, how many messages were taken from each link, and when the oldest there was
+/// long each journal is, how many messages are gone from each link, and when the oldest there was
 /// sent. If one of these numbers changes, so does the mark.
 pub(crate) fn mark_of<'a, G: Gate>(plan: &Plan, world: &World<'a, G>) -> u64 {
     let links = LinkTable::new(plan);
@@ -111,7 +121,7 @@ pub(crate) fn mark_of<'a, G: Gate>(plan: &Plan, world: &World<'a, G>) -> u64 {
     }
     for link in 0..links.count() {
         if let Some(channel) = world.channel(LinkNo(link)) {
-            mark = mixed(mixed(mark, channel.taken()), oldest_in(channel));
+            mark = mixed(mixed(mark, channel.gone()), oldest_in(channel));
         }
     }
     mark
@@ -128,12 +138,24 @@ fn with_events(mark: u64, events: &[Event]) -> u64 {
 
 /// A mark with one event more: its beat and its reading, which kind it is, and its numbers.
 fn with_event(mark: u64, event: Event) -> u64 {
-    let (kind, of, number) = match event.act {
-        Act::Get { link, number } => (0, u64::from(link.0), number),
-        Act::Tick(node) => (1, u64::from(node.0), 0),
-        Act::Die(cub) => (2, u64::from(cub.0), 0),
-    };
     let mark = mixed(mixed(mark, event.stamp.beat), event.stamp.reading);
+    match event.act {
+        Act::Get { link, number } => with_numbers(mark, 0, u64::from(link.0), number),
+        Act::Tick(node) => with_numbers(mark, 1, u64::from(node.0), 0),
+        Act::Die(cub) => with_numbers(mark, 2, u64::from(cub.0), 0),
+        Act::Return(cub) => with_numbers(mark, 3, u64::from(cub.0), 0),
+        Act::DieIn { last, sends } => mixed(with_last(mark, last), sends),
+    }
+}
+
+fn with_last(mark: u64, last: Last) -> u64 {
+    match last {
+        Last::Get { link, number } => with_numbers(mark, 4, u64::from(link.0), number),
+        Last::Tick(node) => with_numbers(mark, 5, u64::from(node.0), 0),
+    }
+}
+
+fn with_numbers(mark: u64, kind: u64, of: u64, number: u64) -> u64 {
     mixed(mixed(mixed(mark, kind), of), number)
 }
 
@@ -153,7 +175,7 @@ fn mixed(mark: u64, number: u64) -> u64 {
 }
 
 /// Adds the world's events as the lines that ask for them, and then each link: how many messages
-/// were taken from it, and one more than the beat in which the oldest under way was sent, or 0.
+/// are gone from it, and one more than the beat in which the oldest under way was sent, or 0.
 pub(crate) fn show<'a, G: Gate>(
     plan: &Plan,
     world: &World<'a, G>,
@@ -164,7 +186,7 @@ pub(crate) fn show<'a, G: Gate>(
     }
     for link in 0..LinkTable::new(plan).count() {
         if let Some(channel) = world.channel(LinkNo(link)) {
-            writeln!(answers, "link {} {}", channel.taken(), oldest_in(channel))?;
+            writeln!(answers, "link {} {}", channel.gone(), oldest_in(channel))?;
         }
     }
     Ok(())
@@ -179,5 +201,26 @@ fn push_event(event: Event, answers: &mut String) -> Result<(), AllocError> {
         }
         Act::Tick(node) => writeln!(answers, "tick {beat} {reading} {}", node.0),
         Act::Die(cub) => writeln!(answers, "die {beat} {reading} {}", cub.0),
+        Act::DieIn { last, sends } => push_ending(beat, reading, last, sends, answers),
+        Act::Return(cub) => writeln!(answers, "return {beat} {reading} {}", cub.0),
+    }
+}
+
+fn push_ending(
+    beat: Beat,
+    reading: Micros,
+    last: Last,
+    sends: u64,
+    answers: &mut String,
+) -> Result<(), AllocError> {
+    match last {
+        Last::Get { link, number } => {
+            writeln!(
+                answers,
+                "die_in_get {beat} {reading} {} {number} {sends}",
+                link.0
+            )
+        }
+        Last::Tick(node) => writeln!(answers, "die_in_tick {beat} {reading} {} {sends}", node.0),
     }
 }

@@ -1,6 +1,6 @@
 //! The commands of the program, one a line.
 
-use ring_world::{Act, Event};
+use ring_world::{Act, Event, Last};
 use tiger_base::{Beat, CubNo, LinkNo, NodeNo, Stamp};
 
 /// What a line asks for.
@@ -8,7 +8,9 @@ use tiger_base::{Beat, CubNo, LinkNo, NodeNo, Stamp};
 pub enum Command {
     /// `world SCENARIO`: a new world, in place of the one before.
     World,
-    /// `get BEAT READING LINK NUMBER`, `tick BEAT READING NODE`, `die BEAT READING CUB`: an event.
+    /// `get BEAT READING LINK NUMBER`, `tick BEAT READING NODE`, `die BEAT READING CUB`,
+    /// `die_in_get BEAT READING LINK NUMBER SENDS`, `die_in_tick BEAT READING NODE SENDS`, `return BEAT READING CUB`:
+    /// an event.
     Step(Event),
     /// `play BEAT`: up to this beat each node takes what came, and ticks.
     Play { until: Beat },
@@ -69,6 +71,27 @@ fn act_in(name: &str, numbers: &str) -> Option<Act> {
         }
         "tick" => Some(Act::Tick(NodeNo(numbers.parse::<u32>().ok()?))),
         "die" => Some(Act::Die(CubNo(numbers.parse::<u32>().ok()?))),
-        _ => None,
+        "return" => Some(Act::Return(CubNo(numbers.parse::<u32>().ok()?))),
+        _ => end_in(name, numbers),
     }
+}
+
+/// The death in an event of this name and of the numbers behind it.
+fn end_in(name: &str, numbers: &str) -> Option<Act> {
+    let (of, rest) = numbers.split_once(' ')?;
+    let of = of.parse::<u32>().ok()?;
+    let (last, sends) = match name {
+        "die_in_get" => {
+            let (number, sends) = rest.split_once(' ')?;
+            let number = number.parse::<u64>().ok()?;
+            let link = LinkNo(of);
+            (Last::Get { link, number }, sends)
+        }
+        "die_in_tick" => (Last::Tick(NodeNo(of)), rest),
+        _ => return None,
+    };
+    Some(Act::DieIn {
+        last,
+        sends: sends.parse::<u64>().ok()?,
+    })
 }

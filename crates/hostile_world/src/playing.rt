@@ -40,7 +40,7 @@ fn play_beat<'a, G: Gate>(alloc: Global, plan: &Plan, world: &mut World<'a, G>, 
 fn take_all<'a, G: Gate>(alloc: Global, world: &mut World<'a, G>, stamp: Stamp, link: LinkNo) {
     for _ in 0..u64::MAX {
         let number = match world.channel(link) {
-            Some(channel) => channel.taken(),
+            Some(channel) => channel.gone(),
             None => return,
         };
         if !happens(alloc, world, stamp, Act::Get { link, number }) {
