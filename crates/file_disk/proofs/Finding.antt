@@ -79,6 +79,11 @@ within-ends (x ∷ xs) zero e all there =
     let same : x ≡ e = cc in subst (λ (y : Extent). y.at + y.len ≤ last_end) same all.0
 within-ends (x ∷ xs) (suc i) e all there = within-ends xs i e all.1 there
 
+pub get-end : (es : List Extent) (i : ℕ) (o : Option Extent) → AllByRecursion (λ (x : Extent). x.at + x.len ≤ last_end) es → o ≡ slice_get es i
+    → IfSome o (λ x. x.at + x.len ≤ last_end)
+get-end es i None all there = tt
+get-end es i (Some e) all there = within-ends es i e all (sym there)
+
 if-ends : (b : Bool) (e : Extent) → e.at + e.len ≤ last_end → IfSome (if b then Some e else None) (λ x. x.at + x.len ≤ last_end)
 if-ends true e h = h
 if-ends false e h = tt

@@ -84,6 +84,7 @@ stored-none a =
       written = record {
         faults = refl;
         reads = refl;
+        refusals = refl;
         there = stand-none a.device.told a.next;
         outside = same-refl a.device.told a.next 0;
       };
@@ -99,6 +100,7 @@ written-join a b c at xs ys s t =
     record {
       faults = t.faults ∙ s.faults;
       reads = t.reads ∙ s.reads;
+      refusals = t.refusals ∙ s.refusals;
       there = stand-join b.told c.told at xs ys (length ys) s.there t.outside t.there;
       outside = same-trans a.told b.told c.told at (length (xs ++ ys)) first second;
     }
@@ -133,6 +135,7 @@ cut-join a b d ps m len more s within cut =
     record {
       faults = omega (arith, s.written.faults, cut.faults);
       reads = cut.reads ∙ s.written.reads;
+      refusals = cut.refusals ∙ s.written.refusals;
       outside = same-trans a.device.told b.device.told d.told a.next len first second;
     }
 

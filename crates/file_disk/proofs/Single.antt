@@ -50,7 +50,7 @@ last-cause (Ok x) P Q f h = tt
 last-cause (Err e) P Q f h = f e h
 
 -- what is kept of all parts of a disk is a directory
-pub disk-directory : (m : Image) (at n : ℕ) → at ≤ 2 ^ 40 → All (λ (info : FileInfo). info.len ≤ 2 ^ 24) m.catalogue.files
+pub disk-directory : (m : Image) (at n : ℕ) → at ≤ 2 ^ 61 → All (λ (info : FileInfo). info.len ≤ 2 ^ 24) m.catalogue.files
     → n ≡ length (all_bytes (disk_parts m)) → IsDirectory (placed at (disk_parts m)) n
 disk-directory m at n low lengths e =
     let few : (file : ℕ) → AreFew m.catalogue file = λ file. AreFew-blocks m.catalogue file lengths in

@@ -159,19 +159,27 @@ file-size m first count file few blocks =
     omega (arith, each, turned, blocks.bytes)
 
 files-size : (m : Image) (first count : ℕ) → count ≤ most_pieces → ((file : ℕ) → AreFew m.catalogue file)
-    → length (all_bytes (parts_of_files m first count)) ≤ 2 ^ 60
+    → length (all_bytes (parts_of_files m first count)) ≤ length m.catalogue.files * 2 ^ 28
 unfolding parts_of_files
 files-size m first count few blocks =
-    let n = length m.catalogue.files in
-    let all = size-in (parts_of_file m first count) 0 n (2 ^ 28) (λ j. file-size m first count j few (blocks j)) in
-    omega (arith, all, m.catalogue.sound.count)
+    size-in (parts_of_file m first count) 0 (length m.catalogue.files) (2 ^ 28) (λ j. file-size m first count j few (blocks j))
 
--- all parts of a disk end before the last place
-pub disk-fits : (m : Image) (at : ℕ) → at ≤ 2 ^ 40 → All (λ (info : FileInfo). info.len ≤ 2 ^ 24) m.catalogue.files
-    → at + length (all_bytes (disk_parts m)) ≤ last_end
+-- all parts of a disk
+disk-size : (m : Image) → All (λ (info : FileInfo). info.len ≤ 2 ^ 24) m.catalogue.files
+    → length (all_bytes (disk_parts m)) ≤ length m.catalogue.files * 2 ^ 29
 unfolding disk_parts
-disk-fits m at low lengths =
+disk-size m lengths =
     let few : (file : ℕ) → AreFew m.catalogue file = λ file. AreFew-blocks m.catalogue file lengths in
     let wholes = files-size m 0 1 (omega arith) few in
     let pieces = files-size m 1 most_pieces (omega arith) few in
-    omega (arith, low, wholes, pieces, size-append (parts_of_files m 0 1) (parts_of_files m 1 most_pieces))
+    omega (arith, wholes, pieces, size-append (parts_of_files m 0 1) (parts_of_files m 1 most_pieces))
+
+-- of few files
+pub disk-short : (m : Image) → length m.catalogue.files ≤ 64 → All (λ (info : FileInfo). info.len ≤ 2 ^ 24) m.catalogue.files
+    → length (all_bytes (disk_parts m)) ≤ 2 ^ 35
+disk-short m few lengths = omega (arith, few, disk-size m lengths)
+
+-- all parts of a disk end before the last place
+pub disk-fits : (m : Image) (at : ℕ) → at ≤ 2 ^ 61 → All (λ (info : FileInfo). info.len ≤ 2 ^ 24) m.catalogue.files
+    → at + length (all_bytes (disk_parts m)) ≤ last_end
+disk-fits m at low lengths = omega (arith, low, disk-size m lengths, m.catalogue.sound.count)

@@ -5,13 +5,15 @@ use Rattle.file_disk.specs.Memory.{overwritten}
 use Rattle.file_disk.proofs.Bytes.{overwritten-there, overwritten-outside}
 
 -- bytes that are put over those that are told are written
-pub AreWrittenAt-overwritten : (old new : List ℕ) (faults faults' reads reads' : ℕ) (at : ℕ) (bytes : List ℕ)
-    → new ≡ overwritten old at bytes → faults' ≡ faults → reads' ≡ reads
-    → AreWrittenAt (record { told = Some old; faults = faults; reads = reads }) (record { told = Some new; faults = faults'; reads = reads' }) at bytes
-AreWrittenAt-overwritten old new faults faults' reads reads' at bytes e f r =
+pub AreWrittenAt-overwritten : (old new : List ℕ) (faults faults' reads reads' refusals refusals' : ℕ) (at : ℕ) (bytes : List ℕ)
+    → new ≡ overwritten old at bytes → faults' ≡ faults → reads' ≡ reads → refusals' ≡ refusals
+    → AreWrittenAt (record { told = Some old; faults = faults; reads = reads; refusals = refusals })
+    (record { told = Some new; faults = faults'; reads = reads'; refusals = refusals' }) at bytes
+AreWrittenAt-overwritten old new faults faults' reads reads' refusals refusals' at bytes e f r n =
     record {
       faults = f;
       reads = r;
+      refusals = n;
       there = λ i h. ap (λ (told : List ℕ). get_or told (at + i) 0) e ∙ overwritten-there old at bytes i h;
       outside = λ i h. ap (λ (told : List ℕ). get_or told i 0) e ∙ overwritten-outside old at bytes i h;
     }

@@ -1,16 +1,19 @@
--- What a device tells after a write, what a read of it gives, and why neither was done.
-use Rattle.std.specs.Prelude.{◌≡◌, ℕ, ◌+◌, ◌-◌, ◌^◌, ◌<◌, ◌≤◌, ◌⊎◌, List, length, get_or, Option, Some, None}
+-- What a device tells once an image was opened and after a write, what a read of it gives, and why none of them was done.
+use Rattle.std.specs.Prelude.{◌≡◌, ℕ, ◌+◌, ◌-◌, ◌^◌, ◌<◌, ◌≤◌, ◌⊎◌, Bool, false, List, [], length, get_or, Option, Some, None}
 use Rattle.file_disk.specs.declared.device.DeviceFault.{DeviceFault}
 use Rattle.file_disk.specs.declared.device.DeviceFault.TheVariants.{Failed, NoMemory}
+use Rattle.file_disk.specs.declared.device.OpenFault.{OpenFault}
+use Rattle.file_disk.specs.declared.device.OpenFault.TheVariants as opening
 
--- a device: what it tells of its bytes, if it tells anything, how many of its calls failed, and how
--- many of its reads were answered
+-- a device: what it tells of its bytes, if it tells anything, how many of its calls failed, how many
+-- of its reads were answered, and how often an image was not opened since it exists
 pub record DeviceState : Type 0 where
   pub told : Option (List ℕ)
   pub faults : ℕ
   pub reads : ℕ
+  pub refusals : ℕ
 
--- how many calls can have failed, and how many reads can have been answered, before the next call
+-- how far each count can have come before the next call
 abbrev pub most_counted : ℕ
 most_counted = 2 ^ 64 - 2
 
@@ -37,10 +40,46 @@ AreSameOutside (Some old) None at len = ⊥
 AreSameOutside (Some old) (Some new) at len =
     (i : ℕ) → (i < at) ⊎ (at + len ≤ i) → byte_at new i ≡ byte_at old i
 
+-- a device that tells its bytes tells that there are none; another one goes on telling nothing
+abbrev pub HasNoBytes : Option (List ℕ) → Option (List ℕ) → Type 0
+HasNoBytes None None = Unit {0}
+HasNoBytes None (Some new) = ⊥
+HasNoBytes (Some old) None = ⊥
+HasNoBytes (Some old) (Some new) = new ≡ []
+
+-- an image was opened: it has no bytes, and nothing is counted
+pub record IsOpened (old new : DeviceState) : Type 0 where
+  pub faults : new.faults ≡ old.faults
+  pub reads : new.reads ≡ old.reads
+  pub refusals : new.refusals ≡ old.refusals
+  pub empty : HasNoBytes old.told new.told
+
+-- one more call failed, and nothing else was changed
+pub record IsOpenFailed (old new : DeviceState) : Type 0 where
+  pub told : new.told ≡ old.told
+  pub faults : new.faults ≡ old.faults + 1
+  pub reads : new.reads ≡ old.reads
+  pub refusals : new.refusals ≡ old.refusals
+
+-- the image exists and was not to be written over, which is counted, and nothing else was changed
+pub record IsRefused (over : Bool) (old new : DeviceState) : Type 0 where
+  pub kept : over ≡ false
+  pub told : new.told ≡ old.told
+  pub faults : new.faults ≡ old.faults
+  pub reads : new.reads ≡ old.reads
+  pub refusals : new.refusals ≡ old.refusals + 1
+
+-- why an image was not opened
+abbrev pub OpenCause : Bool → DeviceState → DeviceState → OpenFault → Type 0
+OpenCause over old new opening.Failed = IsOpenFailed old new
+OpenCause over old new opening.Exists = IsRefused over old new
+OpenCause over old new opening.NoMemory = new ≡ old
+
 -- the bytes were written at a place, and nothing else was changed
 pub record AreWrittenAt (old new : DeviceState) (at : ℕ) (bytes : List ℕ) : Type 0 where
   pub faults : new.faults ≡ old.faults
   pub reads : new.reads ≡ old.reads
+  pub refusals : new.refusals ≡ old.refusals
   pub there : StandAt new.told at bytes
   pub outside : AreSameOutside old.told new.told at (length bytes)
 
@@ -48,6 +87,7 @@ pub record AreWrittenAt (old new : DeviceState) (at : ℕ) (bytes : List ℕ) : 
 pub record IsWriteFailed (old new : DeviceState) (at len : ℕ) : Type 0 where
   pub faults : new.faults ≡ old.faults + 1
   pub reads : new.reads ≡ old.reads
+  pub refusals : new.refusals ≡ old.refusals
   pub outside : AreSameOutside old.told new.told at len
 
 -- why bytes were not written
@@ -60,6 +100,7 @@ pub record AreReadAt (old new : DeviceState) (at : ℕ) (bytes : List ℕ) : Typ
   pub told : new.told ≡ old.told
   pub faults : new.faults ≡ old.faults
   pub reads : new.reads ≡ old.reads + 1
+  pub refusals : new.refusals ≡ old.refusals
   pub are : StandAt old.told at bytes
 
 -- one more call failed, which counts as an answer too, and nothing was changed
@@ -67,6 +108,7 @@ pub record IsReadFailed (old new : DeviceState) : Type 0 where
   pub told : new.told ≡ old.told
   pub faults : new.faults ≡ old.faults + 1
   pub reads : new.reads ≡ old.reads + 1
+  pub refusals : new.refusals ≡ old.refusals
 
 -- why nothing was read
 abbrev pub ReadCause : DeviceState → DeviceState → DeviceFault → Type 0

@@ -1,22 +1,28 @@
 -- What a device in memory is seen as.
-use Rattle.std.specs.Prelude.{ℕ, ◌+◌, ◌-◌, ◌^◌, ◌==◌, ◌||◌, min, Bool, true, false, if◌then◌else◌, List, ◌++◌, length, take, drop, replicate, Some, Result, Err}
+use Rattle.std.specs.Prelude.{ℕ, ◌+◌, ◌-◌, ◌^◌, ◌==◌, ◌||◌, ◌&&◌, not, min, Bool, true, false, if◌then◌else◌, List, ◌++◌, length, take, drop, replicate, Some, Result, Err}
 use Rattle.std.specs.List.{list_any}
 use Rattle.file_disk.specs.Devices.{DeviceState}
 use Rattle.file_disk.specs.declared.device.DeviceFault.{DeviceFault}
 use Rattle.file_disk.specs.declared.device.DeviceFault.TheVariants.{Failed}
+use Rattle.file_disk.specs.declared.device.OpenFault.{OpenFault}
+use Rattle.file_disk.specs.declared.device.OpenFault.TheVariants as opening
 
--- a device in memory: its bytes, the calls that fail, whether every read fails, and the counts
+-- a device in memory: whether it has an image, the image's bytes, the calls that fail, whether every read fails, and the
+-- counts
 pub record MemoryDevice : Type 0 where
+  pub opened : Bool
   pub bytes : List ℕ
   pub failing : List ℕ
   pub reads_fail : Bool
   pub calls : ℕ
   pub faults : ℕ
   pub reads : ℕ
+  pub refusals : ℕ
 
 -- it tells all of its bytes
 abbrev pub device_of : MemoryDevice → DeviceState
-device_of m = record { told = Some m.bytes; faults = m.faults; reads = m.reads }
+device_of m =
+    record { told = Some m.bytes; faults = m.faults; reads = m.reads; refusals = m.refusals }
 
 -- the next call is made to fail
 abbrev pub fails_next : MemoryDevice → Bool
@@ -34,6 +40,19 @@ one_if test = if test then 1 else 0
 abbrev pub is_failed : Result (Unit {0}) DeviceFault → Bool
 is_failed (Err Failed) = true
 is_failed _ = false
+
+-- the answer is that the image was not opened, since the call failed or since the image exists
+abbrev pub is_open_failed : Result (Unit {0}) OpenFault → Bool
+is_open_failed (Err opening.Failed) = true
+is_open_failed _ = false
+
+abbrev pub is_open_refused : Result (Unit {0}) OpenFault → Bool
+is_open_refused (Err opening.Exists) = true
+is_open_refused _ = false
+
+-- the next call fails not, and finds an image that is not to be written over
+abbrev pub refuses_next : MemoryDevice → Bool → Bool
+refuses_next m over = not (fails_next m) && (m.opened && not over)
 
 -- one more call is counted, up to the greatest number
 abbrev pub counted : MemoryDevice → MemoryDevice

@@ -11,6 +11,7 @@ use Rattle.file_disk.specs.declared.putting.StoreFault.TheVariants.{Failed, NoMe
 pub record IsCutShort (old new : DeviceState) (at len more : ℕ) : Type 0 where
   pub faults : new.faults ≡ old.faults + more
   pub reads : new.reads ≡ old.reads
+  pub refusals : new.refusals ≡ old.refusals
   pub outside : AreSameOutside old.told new.told at len
 
 -- why parts were not stored: a call of the device failed, or there was no memory

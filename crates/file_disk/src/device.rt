@@ -11,6 +11,17 @@ pub enum DeviceFault {
     NoMemory,
 }
 
+/// Why an image was not opened.
+#[derive(Clone, Copy, Debug, PartialEq, Eq)]
+pub enum OpenFault {
+    /// Opening it failed.
+    Failed,
+    /// It exists, and was not to be written over.
+    Exists,
+    /// There was no memory for it; nothing was changed.
+    NoMemory,
+}
+
 impl From<AllocError> for DeviceFault {
     ghost use Rattle.std.specs.Prelude.{◌≡◌};
     ghost use Rattle.file_disk.specs.declared.device.DeviceFault.TheVariants.{NoMemory};
@@ -33,16 +44,24 @@ impl<T: Drop> From<AllocFailed<T>> for DeviceFault {
     }
 }
 
-/// A device that keeps bytes at places, counted from 0. Contracts see what it tells of its bytes,
-/// and what it counts.
+/// A device that keeps bytes at places of an image, counted from 0. Contracts see what it tells of
+/// its bytes, and what it counts.
 pub trait Device {
     ghost use Rattle.std.specs.Prelude.{◌≡◌, ◌+◌, ◌≤◌, OnOk, IfErr, length};
-    ghost use Rattle.file_disk.specs.Devices.{DeviceState, AreWrittenAt, AreReadAt, WriteCause, ReadCause, most_counted, last_end};
+    ghost use Rattle.file_disk.specs.Devices.{DeviceState, IsOpened, AreWrittenAt, AreReadAt, OpenCause, WriteCause, ReadCause, most_counted, last_end};
 
-    /// What it tells of its bytes, if it tells anything, how many of its calls failed, and how many
-    /// of its reads were answered, be it with the bytes or that they failed. Whether it tells
-    /// anything never changes.
+    /// What it tells of its bytes, if it tells anything, how many of its calls failed, how many of
+    /// its reads were answered, be it with the bytes or that they failed, and how often an image was
+    /// not opened since it exists. Whether it tells anything never changes.
     ghost state: { Self → DeviceState };
+
+    /// Takes the image of a name for all further calls. It begins with no bytes. One that exists is
+    /// refused, unless it is to be written over.
+    fn open(&mut self, name: &str, over: bool) -> Result<(), OpenFault>
+        requires faults { (state self.old).faults ≤ most_counted }
+        requires refusals { (state self.old).refusals ≤ most_counted }
+        ensures opened { OnOk result (IsOpened (state self.old) (state self.new)) }
+        ensures cause { IfErr result (OpenCause over (state self.old) (state self.new)) };
 
     /// Writes the bytes at a place. After a failure the range of the bytes may hold anything.
     fn write_at(&mut self, at: u64, bytes: &[u8]) -> Result<(), DeviceFault>

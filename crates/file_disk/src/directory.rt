@@ -62,6 +62,14 @@ impl Directory {
         self.extents.as_slice()
     }
 
+    /// What is kept of the part of a number, parts being counted from 0.
+    pub fn kept(&self, number: usize) -> Option<Extent>
+        ensures value { result ≡ slice_get self.now number }
+        ensures end { IfSome result (λ e. e.at + e.len ≤ last_end) }
+    {
+        extent_at(self.extents.as_slice(), number)
+    }
+
     /// The sum of the parts' bytes.
     pub fn bytes(&self) -> u64
         ensures { result ≡ total_len self.now }

@@ -76,8 +76,9 @@ pub fn fetch<V: Device>(
     }
 }
 
-/// The bytes that stand where a part was stored, if they are as they were kept.
-fn fetch_extent<V: Device>(
+/// The bytes that stand where a part was stored, which are read once, if they have the length and
+/// the SHA-256 that were kept.
+pub fn fetch_extent<V: Device>(
     alloc: Global,
     extent: Extent,
     dev: &mut V,

@@ -10,9 +10,9 @@ mod mem_device;
 mod putting;
 pub mod rows;
 
-pub use device::{Device, DeviceFault};
+pub use device::{Device, DeviceFault, OpenFault};
 pub use directory::{Directory, Extent, PartName};
-pub use getting::{FetchFault, fetch};
+pub use getting::{FetchFault, fetch, fetch_extent};
 pub use mem_device::MemDevice;
 pub use putting::{StoreFault, store};
 

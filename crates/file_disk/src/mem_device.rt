@@ -3,20 +3,22 @@ ghost use Rattle.std.specs.Prelude.{◌≡◌, ◌+◌, ◌≤◌, length, OnOk,
 ghost use Rattle.file_disk.specs.Devices.{StandAt, byte_at, last_end};
 ghost use Rattle.file_disk.specs.Memory.{fails_next, counted, overwritten};
 
-use crate::device::{Device, DeviceFault};
+use crate::device::{Device, DeviceFault, OpenFault};
 use std::alloc::{AllocError, Global};
 use std::marker::Model;
 use tiger_base::NoMemory;
 
-/// Bytes in memory, with calls that are made to fail.
+/// One image in memory, whatever its name, with calls that are made to fail.
 #[derive(Drop)]
 pub struct MemDevice {
+    opened: bool,
     bytes: Vec<u8>,
     failing: Vec<u64>,
     reads_fail: bool,
     calls: u64,
     faults: u64,
     reads: u64,
+    refusals: u64,
 }
 
 impl Model for MemDevice {
@@ -25,36 +27,42 @@ impl Model for MemDevice {
     ghost Value = { MemoryDevice };
 
     ghost view = { λ m. record {
+      opened = m.opened;
       bytes = m.bytes.items;
       failing = m.failing.items;
       reads_fail = m.reads_fail;
       calls = m.calls;
       faults = m.faults;
       reads = m.reads;
+      refusals = m.refusals;
     } };
 }
 
 impl MemDevice {
     ghost use Rattle.std.specs.Prelude.{◌≡◌, ◌++◌, ◌∷◌, [], true, false, OnOk, OnErr, set};
 
-    /// A device with no bytes, of which no call fails.
+    /// A device with no image and no bytes, of which no call fails.
     pub fn new(alloc: Global) -> MemDevice
         ensures { result ≡ record {
+          opened = false;
           bytes = [];
           failing = [];
           reads_fail = false;
           calls = 0;
           faults = 0;
           reads = 0;
+          refusals = 0;
         } }
     {
         MemDevice {
+            opened: false,
             bytes: Vec::new(alloc),
             failing: Vec::new(alloc),
             reads_fail: false,
             calls: 0,
             faults: 0,
             reads: 0,
+            refusals: 0,
         }
     }
 
@@ -79,7 +87,14 @@ impl MemDevice {
         self.reads
     }
 
-    /// Makes the call of this number fail, be it a write or a read; calls are counted from 0.
+    /// How often an image was not opened since there is one.
+    pub fn refusals(&self) -> u64
+        ensures { result ≡ self.now.refusals }
+    {
+        self.refusals
+    }
+
+    /// Makes the call of this number fail, be it an opening, a write or a read; calls are counted from 0.
     /// Without memory nothing changes.
     pub fn fail_at(&mut self, call: u64) -> Result<(), NoMemory>
         ensures ok { OnOk result
@@ -125,6 +140,9 @@ fn overwrite(told: &mut Vec<u8>, at: u64, bytes: &[u8]) -> Result<(), AllocError
     ensures err { OnErr result (told.new.items ≡ told.old.items) }
 {
     let start = at as usize;
+    if start == told.len() {
+        return told.extend_from_slice(bytes);
+    }
     let end = start + bytes.len();
     if told.len() < end {
         told.resize(end, 0)?;
@@ -149,17 +167,64 @@ fn fill(into: &mut [u8], told: &[u8], at: u64)
     ensures room { length into.new ≡ length into.old }
     ensures bytes { StandAt (Some told.now) at into.new }
 {
+    let start = at as usize;
+    let end = start + into.len();
+    if end <= told.len() {
+        into.copy_from_slice(&told[start..end]);
+    } else {
+        fill_past(into, told, at);
+    }
+}
+
+/// The same byte by byte, where the room reaches behind the end.
+fn fill_past(into: &mut [u8], told: &[u8], at: u64)
+    requires { at + length into.old ≤ last_end }
+    ensures room { length into.new ≡ length into.old }
+    ensures bytes { StandAt (Some told.now) at into.new }
+{
     for i in 0..into.len() {
         into[i] = byte_at(told, at + i as u64);
     }
 }
 
 impl Device for MemDevice {
-    ghost use Rattle.std.specs.Prelude.{◌≡◌, ◌+◌, ◌≤◌, OnOk, IfErr, length};
-    ghost use Rattle.file_disk.specs.Devices.{AreWrittenAt, AreReadAt, WriteCause, ReadCause, most_counted, last_end};
-    ghost use Rattle.file_disk.specs.Memory.{device_of, fails_next, fails_read, is_failed, one_if, counted};
+    ghost use Rattle.std.specs.Prelude.{◌≡◌, ◌+◌, ◌≤◌, true, OnOk, OnErr, IfErr, length};
+    ghost use Rattle.file_disk.specs.Devices.{IsOpened, AreWrittenAt, AreReadAt, OpenCause, WriteCause, ReadCause, most_counted, last_end};
+    ghost use Rattle.file_disk.specs.Memory.{device_of, fails_next, fails_read, refuses_next, is_failed, is_open_failed, is_open_refused, one_if, counted};
 
     ghost state = { λ m. device_of m };
+
+    fn open(&mut self, _name: &str, over: bool) -> Result<(), OpenFault>
+        requires faults { self.old.faults ≤ most_counted }
+        requires refusals { self.old.refusals ≤ most_counted }
+        ensures opened { OnOk result (IsOpened (device_of self.old) (device_of self.new)) }
+        ensures cause { IfErr result (OpenCause over (device_of self.old) (device_of self.new)) }
+
+        // It fails exactly if it was made to, and refuses exactly if there is an image that is not
+        // to be written over.
+        ensures failed { is_open_failed result ≡ fails_next self.old }
+        ensures refused { is_open_refused result ≡ refuses_next self.old over }
+        ensures counts { self.new ≡ record (counted self.old) {
+          opened = self.new.opened;
+          bytes = self.new.bytes;
+          faults = self.new.faults;
+          refusals = self.new.refusals;
+        } }
+        ensures image { OnOk result (self.new.opened ≡ true) }
+        ensures same_image { OnErr result (self.new.opened ≡ self.old.opened) }
+    {
+        if self.next_fails() {
+            self.faults += 1;
+            return Err(OpenFault::Failed);
+        }
+        if self.opened && !over {
+            self.refusals += 1;
+            return Err(OpenFault::Exists);
+        }
+        self.opened = true;
+        self.bytes.clear();
+        Ok(())
+    }
 
     fn write_at(&mut self, at: u64, bytes: &[u8]) -> Result<(), DeviceFault>
         requires faults { self.old.faults ≤ most_counted }

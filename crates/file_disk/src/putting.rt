@@ -78,7 +78,7 @@ pub fn store<'a, V: Device>(
     requires disk { image.now.disk ≡ disk.0 }
     requires pieces { image.now.pieces ≤ most_pieces }
     requires lengths { All (λ info. info.len ≤ most_file) cat.now.files }
-    requires place { at ≤ 2 ^ 40 }
+    requires place { at ≤ 2 ^ 61 }
     requires faults { (V.state dev.old).faults ≤ most_counted }
     ensures directory { IfOk result (λ dir. dir ≡ placed at (disk_parts image.now)) }
     ensures written { let bytes = all_bytes (disk_parts image.now) in

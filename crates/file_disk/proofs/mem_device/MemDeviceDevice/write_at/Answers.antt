@@ -11,6 +11,7 @@ returns-clause-written c =
     let same : c.self.inside.bytes.items ≡ c.args.self.now.bytes = ap (λ (m : MemoryDevice). m.bytes) seen in
     let faults : c.self.inside.faults ≡ c.args.self.now.faults = ap (λ (m : MemoryDevice). m.faults) seen in
     let reads : c.self.inside.reads ≡ c.args.self.now.reads = ap (λ (m : MemoryDevice). m.reads) seen in
+    let refusals : c.self.inside.refusals ≡ c.args.self.now.refusals = ap (λ (m : MemoryDevice). m.refusals) seen in
     let put : c.overwrite.new.told.items ≡ overwritten c.args.self.now.bytes at bytes =
     c.in_ok-overwrite.ensures.ok ∙ ap (λ (told : List ℕ). overwritten told at bytes) same in
-    AreWrittenAt-overwritten c.args.self.now.bytes c.overwrite.new.told.items c.args.self.now.faults c.self.inside.faults c.args.self.now.reads c.self.inside.reads at bytes put faults reads
+    AreWrittenAt-overwritten c.args.self.now.bytes c.overwrite.new.told.items c.args.self.now.faults c.self.inside.faults c.args.self.now.reads c.self.inside.reads c.args.self.now.refusals c.self.inside.refusals at bytes put faults reads refusals

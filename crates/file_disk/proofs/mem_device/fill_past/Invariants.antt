@@ -1,6 +1,6 @@
 use Rattle.std.proofs.Common.{◌≡◌, ℕ, ◌+◌, ◌<◌, length, get_or}
 use Rattle.file_disk.specs.Devices.{byte_at}
-use Rattle.file_disk.proofs.mem_device.fill.Given as goal
+use Rattle.file_disk.proofs.mem_device.fill_past.Given as goal
 
 -- the bytes so far are given
 abbrev pub invariant-loop-i : goal.invariant-loop-i
