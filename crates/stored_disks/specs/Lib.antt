@@ -1,0 +1,4 @@
+pub mod Disks
+pub mod Reading
+pub mod Kept
+pub mod Faults
