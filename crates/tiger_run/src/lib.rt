@@ -9,6 +9,7 @@ mod top;
 mod words;
 mod writing;
 
+pub use inputs::{Inputs, read_inputs};
 pub use named::named_run;
 pub use status::{Status, exit_of, line_of};
 pub use top::{Ended, refused, tiger, written};
