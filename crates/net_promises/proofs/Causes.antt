@@ -65,3 +65,6 @@ module _ (old new : MemoryFiles) (name : List ℕ) where
   plan_cause (tops.Tiger statuses.WriteFault) cause = tt
   plan_cause (tops.Tiger statuses.NoMemory) cause = tt
   plan_cause (tops.Net rule) cause = rule_cause rule cause.0 cause.1 cause.2
+  plan_cause tops.Device cause = cause
+  plan_cause (tops.Damaged disk at kept found) cause = cause
+  plan_cause tops.ImageExists cause = cause

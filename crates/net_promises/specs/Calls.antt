@@ -39,6 +39,9 @@ IsPlanCause old new name (tops.Tiger (statuses.TooLong file given most)) =
 IsPlanCause old new name (tops.Net rule) =
     ((rule ≡ 1) × IsNoPlan old.entries name faults.NoJson)
     ⊎ ((rule ≡ 2) × IsNoPlan old.entries name faults.BadForm)
+IsPlanCause old new name tops.Device = ⊥
+IsPlanCause old new name (tops.Damaged disk at kept found) = ⊥
+IsPlanCause old new name tops.ImageExists = ⊥
 IsPlanCause old new name (tops.Tiger statuses.Words) = ⊥
 IsPlanCause old new name (tops.Tiger (statuses.Scenario fault)) = ⊥
 IsPlanCause old new name _ = Unit {0}

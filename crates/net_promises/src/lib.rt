@@ -17,6 +17,7 @@ ghost use Rattle.tiger_top.specs.Statuses.{IsTopRefusal};
 ghost use Rattle.net_promises.specs.Calls.{AskForPlan, IsToldPlan, IsPlanCause};
 ghost use Rattle.net_promises.specs.Promises.{IsPrintedOf, NeverExceeds, peak_in, ring_at_end};
 
+use file_disk::MemDevice;
 use node_kit::OpenGate;
 use outside::{MemFiles, MemSink};
 use std::alloc::Global;
@@ -78,5 +79,6 @@ pub fn net_in_memory<R: Threads + Wait + Sync>(
     ensures same { told_of files.new.entries ≡ told_of files.old.entries }
     ensures one_fault { out.new.faults ≤ out.old.faults + 1 }
 {
-    tiger_top(rt, alloc, words, files, out, &OpenGate)
+    let mut dev = MemDevice::new(alloc);
+    tiger_top(rt, alloc, words, files, out, &mut dev, &OpenGate)
 }

@@ -1,13 +1,14 @@
 //! Does the commands of the video fileserver over real files, and writes what they tell.
 #![tactic(auto)]
 
+use file_device::FileDevice;
 use node_kit::OpenGate;
 use outside::{DirFiles, StdSink};
 use std::alloc::{AllocError, Global};
 use std::process::ExitCode;
 use std::sync::Wait;
 use std::thread::Threads;
-use std::{env, io};
+use std::{env, fs, io, rt};
 use tiger_run::Status;
 use tiger_top::{TopStatus, exit_of, line_of, tiger_top};
 
@@ -17,6 +18,9 @@ usage: tiger run NAME W      run the scenario of the file NAME with W workers, 1
        tiger make NUMBER     make the scenario of NUMBER, run it, and sum it up
        tiger journal NAME W  run a scenario as run does, and write its journals
        tiger net NAME        run the plan of a network's schedule of the file NAME
+       tiger disks NAME IMAGE [--force]
+                             store the disks of a scenario in the file IMAGE, and read
+                             each of their parts; --force: over what IMAGE holds
        tiger --help          this text
        tiger --version       the version
 
@@ -24,6 +28,7 @@ examples: tiger run one.json 2
           tiger make 7
           tiger journal one.json 2
           tiger net net.json
+          tiger disks one.json one.img
 ";
 
 const VERSION: &str = "tiger 0.1.0\n";
@@ -73,7 +78,11 @@ fn status_of<R: Threads + Wait + Sync>(rt: &HostRuntime, threads: &R, alloc: Glo
     }
     let mut files = DirFiles::new(rt);
     let mut out = StdSink::new(rt);
-    tiger_top(threads, alloc, &words, &mut files, &mut out, &OpenGate).status
+    let mut dev = FileDevice::new(rt);
+    let ended = tiger_top(
+        threads, alloc, &words, &mut files, &mut out, &mut dev, &OpenGate,
+    );
+    ended.status
 }
 
 /// Says on standard error how a command ended.
@@ -83,7 +92,14 @@ fn say(rt: &HostRuntime, alloc: Global, status: &TopStatus) -> Result<(), AllocE
     Ok(())
 }
 
+/// A file that is open for reading alone. It takes the number of a stream that is closed, if one is: else an image would
+/// get that number, and what is written on the stream would stand in it.
+fn held<R: rt::Files>(rt: &R) -> Option<R::File> {
+    fs::open(rt, "/dev/null").ok()
+}
+
 fn main(rt: HostRuntime) -> ExitCode {
+    let _held = (held(&rt), held(&rt), held(&rt));
     let alloc = rt.alloc();
     let status = status_of(&rt, &rt, alloc);
     let _ = say(&rt, alloc, &status);

@@ -1,7 +1,8 @@
 -- Which words are for `tiger` to answer, and which of them it refuses.
 use Rattle.std.proofs.Common.{◌≡◌, ℕ, List, [], length, get_or, refl, ap, arith}
 use Rattle.tiger_run.specs.Words.{IsNoCommand}
-use Rattle.tiger_top.specs.Commands.{AreTigers, AsksJournal}
+use Rattle.tiger_disks.proofs.Asked.{no_disks}
+use Rattle.tiger_top.specs.Commands.{AreTigers, AsksJournal, IsNoTopCommand}
 use Rattle.tiger_top.specs.Samples.{journal_words}
 
 abbrev first_letter : List (List ℕ) → ℕ
@@ -10,12 +11,34 @@ first_letter words = get_or (get_or words 0 []) 0 0
 abbrev count : List (List ℕ) → ℕ
 count words = length words
 
--- neither two words of which the first begins as `net` does, nor three of which it begins as `journal` does
+-- neither two words of which the first begins as `net` does, nor three of which it begins as `journal` does, nor any of which it begins
+-- as `disks` does
 pub tigers_by : (words : List (List ℕ)) → (count words ≡ 2 → first_letter words ≡ 110 → ⊥) → (count words ≡ 3 → first_letter words ≡ 106 → ⊥)
-    → AreTigers words
-tigers_by words no_n no_j = record {
+    → (first_letter words ≡ 100 → ⊥) → AreTigers words
+tigers_by words no_n no_j no_d = record {
   no_net = λ name net. no_n (ap count net) (ap first_letter net);
   no_journal = λ name workers journal. no_j (ap count journal.form) (ap first_letter journal.form);
+  no_disks = λ name image over disks. no_d (ap first_letter disks);
+}
+
+-- a word behind the image has the length of `--force`
+abbrev fourth_length : List (List ℕ) → ℕ
+fourth_length words = length (get_or words 3 [])
+
+-- the words begin as `disks` does, and are neither three words nor four of which the last is as long as `--force`
+pub refused_disks : (words : List (List ℕ)) → first_letter words ≡ 100 → (count words ≡ 3 → ⊥)
+    → (count words ≡ 4 → fourth_length words ≡ 7 → ⊥) → IsNoTopCommand words
+refused_disks words d no_p no_f = record {
+  tigers = record {
+    no_net = λ name net. (let n = ap first_letter net in omega (arith, n, d));
+    no_journal = λ name workers journal. (let j = ap first_letter journal.form in omega (arith, j, d));
+    no_disks = no_disks words (λ name image plain. no_p (ap count plain))
+        (λ name image forced. no_f (ap count forced) (ap fourth_length forced));
+  };
+  none = record {
+    no_run = λ name workers run. (let r = ap first_letter run.form in omega (arith, r, d));
+    no_make = λ number make. (let m = ap first_letter make.form in omega (arith, m, d));
+  };
 }
 
 -- the first word begins neither as `run` does nor as `make`

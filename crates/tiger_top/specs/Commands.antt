@@ -1,8 +1,9 @@
 -- Which words are a command beside those of `tiger`, and which are none at all.
-use Rattle.std.specs.Prelude.{◌≡◌, ℕ, ◌≤◌, List, [], ◌∷◌, codes, String, Vec}
+use Rattle.std.specs.Prelude.{◌≡◌, ℕ, ◌≤◌, Bool, List, [], ◌∷◌, codes, String, Vec}
 use Rattle.std.specs.Fmt.{decimal}
 use Rattle.std.specs.declared.alloc.Global.{Global}
 use Rattle.tiger_run.specs.Words.{IsNoCommand, most_workers, texts_of}
+use Rattle.tiger_disks.specs.Words.{AsksDisks, IsNoDisks}
 use Rattle.tiger_top.specs.declared.commands.TopCommand.{TopCommand}
 use Rattle.tiger_top.specs.declared.commands.TopCommand.TheVariants as command
 
@@ -26,6 +27,7 @@ AsksNoJournal words = (name : List ℕ) (workers : ℕ) → ¬ AsksJournal words
 pub record AreTigers (words : List (List ℕ)) : Type 0 where
   pub no_net : IsNoNet words
   pub no_journal : AsksNoJournal words
+  pub no_disks : IsNoDisks words
 
 -- the words are no command at all
 pub record IsNoTopCommand (words : List (List ℕ)) : Type 0 where
@@ -37,6 +39,7 @@ abbrev pub AsksTop : List (List ℕ) → TopCommand → Type 0
 AsksTop words command.Tiger = AreTigers words
 AsksTop words (command.Net name) = IsNet words name.now
 AsksTop words (command.Journal name workers) = AsksJournal words name.now workers
+AsksTop words (command.Disks name image over) = AsksDisks words name.now image.now over
 
 -- ---- what is said of a call by the command that its words ask for
 
@@ -51,3 +54,13 @@ IfJournal words P = (name : List ℕ) (workers : ℕ) → AsksJournal (texts_of 
 -- if they are `net NAME`, this holds of the name
 abbrev pub IfNet : Vec (String Global) Global → (List ℕ → Type 0) → Type 0
 IfNet words P = (name : List ℕ) → IsNet (texts_of words.items) name → P name
+
+-- if they are `disks NAME IMAGE`, with `--force` behind them or not, this holds of the name, and of whether an image that
+-- exists is written over
+abbrev pub IfDisks : Vec (String Global) Global → (List ℕ → Bool → Type 0) → Type 0
+IfDisks words P =
+    (name image : List ℕ) (over : Bool) → AsksDisks (texts_of words.items) name image over → P name over
+
+-- if they are none of these, this holds
+abbrev pub IfNoDisks : Vec (String Global) Global → Type 0 → Type 0
+IfNoDisks words P = IsNoDisks (texts_of words.items) → P

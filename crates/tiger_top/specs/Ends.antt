@@ -1,4 +1,4 @@
--- How `net NAME` ends.
+-- How `net NAME` and `disks NAME IMAGE` end.
 use Rattle.std.specs.Prelude.{◌≡◌, ℕ, ◌≤◌, List, None, length, Ok, ◌⊎◌}
 use Rattle.outside.specs.Told.{Told, bytes, FilesState}
 use Rattle.outside.specs.Written.{SinkState}
@@ -8,6 +8,9 @@ use Rattle.tiger_net.specs.declared.stop.NetRule.{NetRule}
 use Rattle.tiger_net.specs.declared.stop.NetStop.TheVariants as stops
 use Rattle.tiger_net.specs.Lines.{most_plan, HasLines}
 use Rattle.tiger_net.specs.Stops.{StopCause, BreaksNetRule, rule_number}
+use Rattle.file_disk.specs.Devices.{DeviceState}
+use Rattle.stored_disks.specs.Disks.{Disks}
+use Rattle.scenario_disks.specs.Images.{AreInImage, all_lines}
 use Rattle.tiger_run.specs.declared.status.Status.TheVariants as statuses
 use Rattle.tiger_run.specs.Ending.{IsWritten, IsBegun, PutFailed}
 use Rattle.tiger_top.specs.declared.status.TopStatus.{TopStatus}
@@ -26,6 +29,9 @@ NetCause name old new (tops.Tiger (statuses.TooLong file given most)) =
 NetCause name old new (tops.Tiger statuses.Words) = ⊥
 NetCause name old new (tops.Tiger (statuses.Scenario fault)) = ⊥
 NetCause name old new (tops.Net rule) = BreaksNumbered (old.told name) rule
+NetCause name old new tops.Device = ⊥
+NetCause name old new (tops.Damaged disk at kept found) = ⊥
+NetCause name old new tops.ImageExists = ⊥
 NetCause name old new _ = Unit {0}
 
 -- What was written with each status: all lines of the plan that was read of its file, or a front of them, or nothing.
@@ -43,3 +49,7 @@ pub record IsRunnableNet (file : Told) : Type 0 where
   pub is_short : length plan_bytes ≤ most_plan
   pub plan : NetSaid
   pub is_sound : net_meaning plan_bytes ≡ Ok plan
+
+-- all disks are in the image, each of their parts was read once, and their lines were written
+abbrev pub AreStored : DeviceState → DeviceState → SinkState → SinkState → Disks → Type 0
+AreStored old new out_old out_new disks = AreInImage disks old new × IsWritten out_old out_new (all_lines disks)

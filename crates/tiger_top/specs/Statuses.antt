@@ -5,6 +5,9 @@ use Rattle.outside.specs.declared.sink.SinkFault.TheVariants as faults
 use Rattle.tiger_net.specs.declared.stop.NetStop.{NetStop}
 use Rattle.tiger_net.specs.declared.stop.NetStop.TheVariants as stops
 use Rattle.tiger_net.specs.Stops.{rule_number}
+use Rattle.tiger_disks.specs.Statuses.{disks_line}
+use Rattle.tiger_disks.specs.declared.status.DisksStatus.{DisksStatus}
+use Rattle.tiger_disks.specs.declared.status.DisksStatus.TheVariants as ends
 use Rattle.tiger_run.specs.declared.status.Status.{Status}
 use Rattle.tiger_run.specs.declared.status.Status.TheVariants as statuses
 use Rattle.tiger_run.specs.Statuses.{worded, line_of, exit_of}
@@ -16,16 +19,31 @@ use Rattle.tiger_top.specs.declared.status.TopStatus.TheVariants as tops
 abbrev pub top_line : TopStatus → List ℕ
 top_line (tops.Tiger status) = line_of status
 top_line (tops.Net rule) = worded (codes "tiger: net rule ") rule ++ codes "\n"
+top_line tops.Device = disks_line ends.Device
+top_line (tops.Damaged disk at kept found) = disks_line (ends.Damaged disk at kept found)
+top_line tops.ImageExists = disks_line ends.ImageExists
 
 -- the number that the program ends with
 abbrev pub top_exit : TopStatus → ℕ
 top_exit (tops.Tiger status) = exit_of status
+top_exit tops.Device = 11
+top_exit (tops.Damaged disk at kept found) = 12
 top_exit (tops.Net rule) = 13
+top_exit tops.ImageExists = 14
 
 -- a status is one of those of `tiger`, and this holds of it
 abbrev pub OfTiger : (Status → Type 0) → TopStatus → Type 0
 OfTiger P (tops.Tiger status) = P status
-OfTiger P (tops.Net rule) = ⊥
+OfTiger P _ = ⊥
+
+-- if not all was done, this holds of the way in which `disks` stopped
+abbrev pub IfDisksStopped : (DisksStatus → Type 0) → TopStatus → Type 0
+IfDisksStopped P (tops.Tiger statuses.Done) = Unit {0}
+IfDisksStopped P (tops.Tiger status) = P (ends.Run status)
+IfDisksStopped P (tops.Net rule) = ⊥
+IfDisksStopped P tops.Device = P ends.Device
+IfDisksStopped P (tops.Damaged disk at kept found) = P (ends.Damaged disk at kept found)
+IfDisksStopped P tops.ImageExists = P ends.ImageExists
 
 -- all was done; and it was, unless there was no memory
 abbrev pub IsDone : TopStatus → Type 0
@@ -34,10 +52,10 @@ IsDone status = status ≡ tops.Tiger statuses.Done
 abbrev pub IsDoneOrNoMemory : TopStatus → Type 0
 IsDoneOrNoMemory status = IsDone status ⊎ (status ≡ tops.Tiger statuses.NoMemory)
 
--- the words or an input were refused
+-- the words, an input or an image were refused
 abbrev pub IsTopRefusal : TopStatus → Type 0
 IsTopRefusal (tops.Tiger status) = IsRefusal status
-IsTopRefusal (tops.Net rule) = Unit {0}
+IsTopRefusal _ = Unit {0}
 
 -- how a command ended that was done, or stopped with a status
 abbrev pub status_of : Result (Unit {0}) TopStatus → TopStatus
@@ -49,6 +67,12 @@ status_of (Err status) = status
 abbrev pub top_by_sink : SinkFault → TopStatus
 top_by_sink faults.Failed = tops.Tiger statuses.WriteFault
 top_by_sink faults.NoMemory = tops.Tiger statuses.NoMemory
+
+abbrev pub top_by_disks : DisksStatus → TopStatus
+top_by_disks (ends.Run status) = tops.Tiger status
+top_by_disks ends.Device = tops.Device
+top_by_disks (ends.Damaged disk at kept found) = tops.Damaged disk at kept found
+top_by_disks ends.ImageExists = tops.ImageExists
 
 abbrev pub top_by_stop : NetStop → TopStatus
 top_by_stop stops.Absent = tops.Tiger (statuses.Absent None)

@@ -1,8 +1,10 @@
 //! Which command the words are.
 ghost use Rattle.std.specs.Prelude.{◌≡◌, ◌↔◌, MatchOption, IsTrue, codes};
 ghost use Rattle.tiger_run.specs.Words.{texts_of};
+ghost use Rattle.tiger_disks.specs.Words.{IsNoDisks};
 ghost use Rattle.tiger_top.specs.Commands.{AsksTop, IsNet, IsNoNet, AsksJournal, AsksNoJournal};
 
+use tiger_disks::{DisksWords, disks_in};
 use tiger_run::workers_of;
 
 /// What the words ask for.
@@ -11,9 +13,20 @@ pub enum TopCommand<'a> {
     /// What `tiger` makes of them: they are none of the other commands.
     Tiger,
     /// To run the plan of a network's schedule of the file `name`.
-    Net { name: &'a str },
+    Net {
+        name: &'a str,
+    },
     /// To run the scenario of the file `name`, with 1 to 64 workers, and to write what is kept of it.
-    Journal { name: &'a str, workers: u32 },
+    Journal {
+        name: &'a str,
+        workers: u32,
+    },
+    /// To store the disks of the scenario of the file `name` in the file `image`, over what it holds if that is said.
+    Disks {
+        name: &'a str,
+        image: &'a str,
+        over: bool,
+    },
 }
 
 fn is_net(word: &str) -> bool
@@ -65,12 +78,24 @@ fn journal_in(words: &[String]) -> Option<(&str, u32)>
 
 /// The command that the words are, if they are `journal NAME W` or one of `tiger`.
 fn ring_command_in(words: &[String]) -> TopCommand<'_>
-    requires { IsNoNet (texts_of words.now) }
+    requires no_net { IsNoNet (texts_of words.now) }
+    requires no_disks { IsNoDisks (texts_of words.now) }
     ensures { AsksTop (texts_of words.now) result }
 {
     match journal_in(words) {
         Some((name, workers)) => TopCommand::Journal { name, workers },
         None => TopCommand::Tiger,
+    }
+}
+
+/// The command that the words are, if they are not `net NAME`.
+fn disk_command_in(words: &[String]) -> TopCommand<'_>
+    requires { IsNoNet (texts_of words.now) }
+    ensures { AsksTop (texts_of words.now) result }
+{
+    match disks_in(words) {
+        Some(DisksWords { name, image, over }) => TopCommand::Disks { name, image, over },
+        None => ring_command_in(words),
     }
 }
 
@@ -80,6 +105,6 @@ pub fn top_command_in(words: &[String]) -> TopCommand<'_>
 {
     match net_in(words) {
         Some(name) => TopCommand::Net { name },
-        None => ring_command_in(words),
+        None => disk_command_in(words),
     }
 }

@@ -2,6 +2,7 @@
 #![tactic(auto)]
 
 mod commands;
+mod disks;
 mod net;
 pub mod rows;
 mod status;

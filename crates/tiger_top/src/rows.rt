@@ -1,6 +1,6 @@
 //! Worked rows of what the contract of `tiger_top` speaks of. They stand in contracts of functions without a body, so
 //! that a weakened definition is refused where the crate is checked without its tests.
-ghost use Rattle.std.specs.Prelude.{◌≡◌, ◌≢◌, ◌++◌, ◌<◌, ◌≤◌, ℕ, List, [], ◌∷◌, length, codes};
+ghost use Rattle.std.specs.Prelude.{◌≡◌, ◌≢◌, ◌++◌, ◌<◌, ◌≤◌, ℕ, true, false, List, [], ◌∷◌, length, codes};
 ghost use Rattle.std.specs.Prelude.{None, Some, Ok, Err, String, Vec};
 ghost use Rattle.std.specs.declared.alloc.Global.{Global};
 ghost use Rattle.std.specs.Fmt.{decimal};
@@ -15,21 +15,28 @@ ghost use Rattle.tiger_run.specs.Samples.{here, makes, runs};
 ghost use Rattle.tiger_run.specs.Words.{texts_of};
 ghost use Rattle.tiger_run.specs.declared.status.Status.TheVariants as statuses;
 ghost use Rattle.tiger_top.specs.declared.status.TopStatus.TheVariants as tops;
-ghost use Rattle.tiger_top.specs.Commands.{AreTigers, IsNoTopCommand, IfTigers, IfJournal, IfNet};
+ghost use Rattle.tiger_disks.specs.Samples.{disks_words, one_name};
+ghost use Rattle.tiger_disks.specs.declared.status.DisksStatus.TheVariants as ends;
+ghost use Rattle.tiger_top.specs.Commands.{AreTigers, IsNoTopCommand, IfTigers, IfJournal, IfNet, IfDisks, IfNoDisks};
 ghost use Rattle.tiger_top.specs.Ends.{IsRunnableNet, NetCause, NetWrote};
 ghost use Rattle.tiger_top.specs.Samples.{journal_words, nets, sunk};
-ghost use Rattle.tiger_top.specs.Statuses.{OfTiger, IsDone, IsDoneOrNoMemory, IsTopRefusal};
+ghost use Rattle.tiger_top.specs.Statuses.{OfTiger, IfDisksStopped, IsDone, IsDoneOrNoMemory, IsTopRefusal};
 ghost use Rattle.tiger_top.specs.Statuses.{top_line, top_exit};
 
-/// Words are for `tiger`, or they are `net NAME` or `journal NAME W`; and they may be no command of all these.
+/// Words are for `tiger`, or they are `net NAME`, `journal NAME W` or `disks NAME IMAGE`; and they may be no command of all
+/// these.
 pub fn commands()
     ensures run { AreTigers (runs here 1) }
     ensures make { AreTigers (makes 7) }
     ensures net { AreTigers (nets here) → ⊥ }
     ensures journal { AreTigers (journal_words here 1) → ⊥ }
+    ensures disks { AreTigers (disks_words []) → ⊥ }
+    ensures forced { AreTigers (disks_words (codes "--force" ∷ [])) → ⊥ }
     ensures no_words { IsNoTopCommand [] }
     ensures no_name { IsNoTopCommand (codes "net" ∷ []) }
     ensures two_names { IsNoTopCommand (codes "net" ∷ here ∷ here ∷ []) }
+    ensures no_image { IsNoTopCommand (codes "disks" ∷ here ∷ []) }
+    ensures no_force { IsNoTopCommand (disks_words (codes "force" ∷ [])) }
     ensures no_refused_net { IsNoTopCommand (nets here) → ⊥ }
     ensures no_refused_journal { IsNoTopCommand (journal_words here 1) → ⊥ }
     ensures no_refused_run { IsNoTopCommand (runs here 1) → ⊥ }
@@ -50,6 +57,19 @@ pub fn calls()
         texts_of words.items ≡ nets here → IfJournal words (λ _. ⊥) }
     ensures journal_name { (words : Vec (String Global) Global) →
         texts_of words.items ≡ journal_words here 1 → IfJournal words (λ name. name ≡ []) → ⊥ }
+    ensures disks { (words : Vec (String Global) Global) → texts_of words.items ≡ disks_words [] →
+        IfDisks words (λ name over. (name ≡ one_name) × (over ≡ false)) }
+    ensures forced { (words : Vec (String Global) Global) →
+        texts_of words.items ≡ disks_words (codes "--force" ∷ []) →
+        IfDisks words (λ _ over. over ≡ true) }
+    ensures no_disks { (words : Vec (String Global) Global) → texts_of words.items ≡ nets here →
+        IfDisks words (λ _ _. ⊥) }
+    ensures disks_name { (words : Vec (String Global) Global) → texts_of words.items ≡ disks_words [] →
+        IfDisks words (λ name _. name ≡ []) → ⊥ }
+    ensures image { (words : Vec (String Global) Global) → texts_of words.items ≡ disks_words [] →
+        IfNoDisks words ⊥ }
+    ensures no_image { (words : Vec (String Global) Global) → texts_of words.items ≡ nets here →
+        IfNoDisks words ⊥ → ⊥ }
     ensures tigers { (words : Vec (String Global) Global) → texts_of words.items ≡ runs here 1 →
         IfTigers words (λ texts. texts ≡ runs here 1) }
     ensures no_tigers { (words : Vec (String Global) Global) → texts_of words.items ≡ nets here →
@@ -66,6 +86,19 @@ pub fn rules()
     ensures done { IsTopRefusal (tops.Tiger statuses.Done) → ⊥ }
     ensures no_tigers { OfTiger (λ status. status ≡ status) (tops.Net 2) → ⊥ }
     ensures tigers { OfTiger (λ status. status ≡ statuses.Done) (tops.Tiger statuses.Done) }
+{}
+
+/// What is said of how `disks` stopped is said of the device's ends too, and nothing is said if all was done.
+pub fn images()
+    ensures exists { IfDisksStopped (λ end. end ≡ ends.ImageExists) tops.ImageExists }
+    ensures other { IfDisksStopped (λ end. end ≡ ends.Device) tops.ImageExists → ⊥ }
+    ensures run { IfDisksStopped (λ end. end ≡ ends.Run statuses.WriteFault) (tops.Tiger statuses.WriteFault) }
+    ensures done { IfDisksStopped (λ _. ⊥) (tops.Tiger statuses.Done) }
+    ensures rule { IfDisksStopped (λ end. end ≡ end) (tops.Net 1) → ⊥ }
+    ensures line { top_line tops.ImageExists ≡ codes "tiger: image exists\n" }
+    ensures exit { top_exit tops.ImageExists ≡ 14 }
+    ensures refuses { IsTopRefusal tops.Device }
+    ensures no_tigers { OfTiger (λ status. status ≡ status) tops.Device → ⊥ }
 {}
 
 /// All was done, or it was but for want of memory.
@@ -97,6 +130,8 @@ pub fn refused_plans()
         (tops.Net 3) → ⊥ }
     ensures words { NetCause net_name (net_source untold 0 0) (net_source untold 0 0)
         (tops.Tiger statuses.Words) → ⊥ }
+    ensures device { NetCause net_name (net_source untold 0 0) (net_source untold 0 0)
+        tops.Device → ⊥ }
 {}
 
 /// The lines of the told plan are written behind what the output had, and no other text is.

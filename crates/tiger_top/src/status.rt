@@ -1,11 +1,14 @@
 //! How a command ended, as it is said on standard error and by the exit status.
 ghost use Rattle.std.specs.Prelude.{◌≡◌, ◌++◌, IfOk, OnOk, codes, string_bytes};
 ghost use Rattle.tiger_run.specs.Statuses.{IsPushed, worded};
-ghost use Rattle.tiger_top.specs.Statuses.{top_line, top_exit, top_by_sink, top_by_stop};
+ghost use Rattle.tiger_top.specs.Statuses.{top_line, top_exit, top_by_sink, top_by_stop, top_by_disks};
 
+use node_kit::Digest32;
 use outside::SinkFault;
 use std::alloc::{AllocError, Global};
 use std::fmt::Write;
+use tiger_base::DiskNo;
+use tiger_disks::DisksStatus;
 use tiger_net::NetStop;
 use tiger_run::Status;
 
@@ -15,7 +18,20 @@ pub enum TopStatus {
     /// In one of the ways in which `tiger` ends. A file that is `None` is the one that the words name.
     Tiger(Status),
     /// What was read of a network's plan breaks this rule.
-    Net { rule: u32 },
+    Net {
+        rule: u32,
+    },
+    /// A call of the device for an image failed.
+    Device,
+    /// The bytes that were read of a disk at a part's place have another SHA-256 than the part.
+    Damaged {
+        disk: DiskNo,
+        at: u64,
+        kept: Digest32,
+        found: Digest32,
+    },
+    /// The image exists, and was not to be written over.
+    ImageExists,
 }
 
 impl From<SinkFault> for TopStatus {
@@ -49,6 +65,29 @@ impl From<NetStop> for TopStatus {
     }
 }
 
+impl From<DisksStatus> for TopStatus {
+    ghost from_gives = { λ end status. status ≡ top_by_disks end };
+
+    fn from(end: DisksStatus) -> TopStatus {
+        match end {
+            DisksStatus::Run(status) => TopStatus::Tiger(status),
+            DisksStatus::Device => TopStatus::Device,
+            DisksStatus::Damaged {
+                disk,
+                at,
+                kept,
+                found,
+            } => TopStatus::Damaged {
+                disk,
+                at,
+                kept,
+                found,
+            },
+            DisksStatus::ImageExists => TopStatus::ImageExists,
+        }
+    }
+}
+
 fn push_rule(text: &mut String, rule: u32) -> Result<(), AllocError>
     ensures { OnOk result (IsPushed text.old text.new (worded (codes "tiger: net rule ") rule)) }
 {
@@ -74,6 +113,22 @@ pub fn line_of(alloc: Global, status: &TopStatus) -> Result<String, AllocError>
     match status {
         TopStatus::Tiger(status) => tiger_run::line_of(alloc, status),
         TopStatus::Net { rule } => rule_line(alloc, *rule),
+        TopStatus::Device => tiger_disks::line_of(alloc, &DisksStatus::Device),
+        TopStatus::Damaged {
+            disk,
+            at,
+            kept,
+            found,
+        } => tiger_disks::line_of(
+            alloc,
+            &DisksStatus::Damaged {
+                disk: *disk,
+                at: *at,
+                kept: *kept,
+                found: *found,
+            },
+        ),
+        TopStatus::ImageExists => tiger_disks::line_of(alloc, &DisksStatus::ImageExists),
     }
 }
 
@@ -83,6 +138,9 @@ pub fn exit_of(status: &TopStatus) -> u8
 {
     match status {
         TopStatus::Tiger(status) => tiger_run::exit_of(status),
+        TopStatus::Device => 11,
+        TopStatus::Damaged { .. } => 12,
         TopStatus::Net { .. } => 13,
+        TopStatus::ImageExists => 14,
     }
 }

@@ -1,7 +1,8 @@
-//! How calls on plans of a network's schedule end, over files and an output in memory.
+//! How calls end on plans of a network's schedule and on images, over files, an output and a device in memory.
 ghost use Rattle.std.specs.Prelude.{◌≡◌, IfOk};
 
 use crate::{TopEnded, exit_of, line_of, tiger_top};
+use file_disk::MemDevice;
 use node_kit::OpenGate;
 use outside::{MemFiles, MemSink};
 use std::alloc::Global;
@@ -102,7 +103,8 @@ fn ending_of<R: Threads + Wait + Sync>(
     let mut files = plan_files(alloc, plan, read_fails)?;
     let mut out = plan_sink(alloc, failing_put)?;
     let words = split_words(alloc, line)?;
-    let ended = tiger_top(rt, alloc, &words, &mut files, &mut out, &OpenGate);
+    let mut dev = MemDevice::new(alloc);
+    let ended = tiger_top(rt, alloc, &words, &mut files, &mut out, &mut dev, &OpenGate);
     ending(alloc, &ended, out.bytes())
 }
 
@@ -203,7 +205,13 @@ net plan | {"cubs":3 | 13 tiger: net rule 1
 net plan | | 13 tiger: net rule 1
 net plan | {"cubs":3} | 13 tiger: net rule 2
 net plan | [] | 13 tiger: net rule 2
-run plan 1 | {} | 5 tiger: scenario rule 2 item 0 left 0 right 0"#;
+run plan 1 | {} | 5 tiger: scenario rule 2 item 0 left 0 right 0
+disks plan image | {} | 5 tiger: scenario rule 2 item 0 left 0 right 0
+disks other image --force | {} | 3 tiger: absent scenario
+disks plan | {} | 2 tiger: words
+disks plan image force | {} | 2 tiger: words
+disks plan image --force --force | {} | 2 tiger: words
+disk plan image | {} | 2 tiger: words"#;
 
 /// Whether a row's call ends as the row says.
 fn ends_as_told<R: Threads + Wait + Sync>(rt: &R, alloc: Global, row: &str) -> Result<bool, Fail> {

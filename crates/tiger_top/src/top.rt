@@ -1,6 +1,8 @@
 //! The program as a function of its words, its files and its output.
-ghost use Rattle.std.specs.Prelude.{◌≡◌, ◌+◌, ◌≤◌, ◌↔◌, ℕ, None, IsSomeAnd, IfSome};
+ghost use Rattle.std.specs.Prelude.{◌≡◌, ◌+◌, ◌^◌, ◌≤◌, ◌↔◌, ℕ, None, IsSomeAnd, IfSome};
 ghost use Rattle.outside.specs.Written.{most_faults};
+ghost use Rattle.file_disk.specs.Devices.{most_counted};
+ghost use Rattle.tiger_disks.specs.Ends.{OfInputs, InputEnd, DeviceEnd, SinkEnd, IsInputRefusal};
 ghost use Rattle.tiger_net.specs.Lines.{HasLines};
 ghost use Rattle.tiger_run.specs.Words.{IsMake, IsNoRun, texts_of};
 ghost use Rattle.tiger_run.specs.Inputs.{MadeCalls, most_reads, most_earlier};
@@ -12,14 +14,16 @@ ghost use Rattle.audit_text.specs.Texts.{text_of};
 ghost use Rattle.tiger_run.specs.Answers.{TellsAll, IsTheAnswer};
 ghost use Rattle.tiger_run.specs.declared.status.Status.TheVariants as statuses;
 ghost use Rattle.tiger_top.specs.declared.status.TopStatus.TheVariants as tops;
-ghost use Rattle.tiger_top.specs.Commands.{IfTigers, IfJournal, IfNet, IsNoTopCommand};
-ghost use Rattle.tiger_top.specs.Statuses.{OfTiger, IsDone, IsDoneOrNoMemory, IsTopRefusal};
+ghost use Rattle.tiger_top.specs.Commands.{IfTigers, IfJournal, IfNet, IfDisks, IfNoDisks, IsNoTopCommand};
+ghost use Rattle.tiger_top.specs.Statuses.{OfTiger, IfDisksStopped, IsDone, IsDoneOrNoMemory, IsTopRefusal};
 ghost use Rattle.tiger_top.specs.Statuses.{status_of};
-ghost use Rattle.tiger_top.specs.Ends.{IsRunnableNet, NetCause, NetWrote};
+ghost use Rattle.tiger_top.specs.Ends.{IsRunnableNet, NetCause, NetWrote, AreStored};
 
 use crate::commands::{TopCommand, top_command_in};
+use crate::disks::write_image;
 use crate::net::write_net;
 use crate::status::TopStatus;
+use file_disk::Device;
 use node_kit::{Gate, Kept};
 use outside::{Files, Sink};
 use std::alloc::Global;
@@ -60,17 +64,22 @@ fn without_ring(done: Result<(), TopStatus>) -> TopEnded
 
 /// Does what the words say: as `tiger` does it; for `journal NAME W` runs the scenario as `run` does, and writes what is
 /// kept of the run as a text; for `net NAME` reads the plan of a network's schedule, runs it, and writes the lines that
-/// tell of its entries. The call may wait for a thread.
-pub fn tiger_top<R: Threads + Wait + Sync, F: Files, K: Sink, G: Gate + Sync>(
+/// tell of its entries; for `disks NAME IMAGE` stores the disks of a scenario in an image of the device, and writes a line
+/// for each. The call may wait for a thread.
+pub fn tiger_top<R: Threads + Wait + Sync, F: Files, K: Sink, V: Device, G: Gate + Sync>(
     rt: &R,
     alloc: Global,
     words: &Vec<String>,
     files: &mut F,
     out: &mut K,
+    dev: &mut V,
     gate: &G,
 ) -> TopEnded
     requires calls { (F.state files.old).counts.calls ≤ most_earlier }
     requires faults { (K.state out.old).faults ≤ most_faults }
+    requires device_faults { (V.state dev.old).faults ≤ most_counted }
+    requires device_reads { (V.state dev.old).reads ≤ 2 ^ 63 }
+    requires refusals { (V.state dev.old).refusals ≤ most_counted }
 
     // ---- Of every command.
 
@@ -78,7 +87,7 @@ pub fn tiger_top<R: Threads + Wait + Sync, F: Files, K: Sink, G: Gate + Sync>(
     ensures words { (result.status ≡ tops.Tiger statuses.Words)
         ↔ IsNoTopCommand (texts_of words.now.items) }
 
-    // Nothing is put before words and inputs are good.
+    // Nothing is put before words, inputs and the image are good.
     ensures silent { IsTopRefusal result.status → out.new ≡ out.old }
 
     // What is told of the files stays, few calls were made, and at most one put failed: so the
@@ -87,6 +96,9 @@ pub fn tiger_top<R: Threads + Wait + Sync, F: Files, K: Sink, G: Gate + Sync>(
     ensures few_calls { let old = F.state files.old in
         (F.state files.new).counts.calls ≤ old.counts.calls + most_reads }
     ensures one_fault { (K.state out.new).faults ≤ (K.state out.old).faults + 1 }
+
+    // No other command than `disks` does anything to the device.
+    ensures no_image { IfNoDisks words.now (dev.new ≡ dev.old) }
 
     // ---- Of the words that `tiger` answers: what its own contract says of them.
 
@@ -171,6 +183,38 @@ pub fn tiger_top<R: Threads + Wait + Sync, F: Files, K: Sink, G: Gate + Sync>(
     ensures net_complete { let old = F.state files.old in IfNet words.now (λ name.
         IsRunnableNet (old.told name) → NoReadFailed old (F.state files.new) →
         NoPutFailed (K.state out.old) (K.state out.new) → IsDoneOrNoMemory result.status) }
+
+    // ---- Of `disks NAME IMAGE`, with `--force` behind it or not.
+
+    // All was done: the scenario was read, and then each of its files; all of its disks are in the
+    // image, each part was read once and is as it was stored, and the lines of the disks were
+    // written.
+    ensures disks_done { let old = V.state dev.old in let out_old = K.state out.old in
+        IfDisks words.now (λ name _. IsDone result.status →
+        OfInputs (F.state files.old) (F.state files.new) name
+        (AreStored old (V.state dev.new) out_old (K.state out.new))) }
+
+    // Why an input was refused: it is the first, in the order of work, that is not as it should
+    // be, or the disks have too many parts.
+    ensures disks_input { let old = F.state files.old in IfDisks words.now (λ name _.
+        IfDisksStopped (InputEnd name old (F.state files.new)) result.status) }
+
+    // A device ends the command for its cause alone: one of its calls failed, which it counts; the
+    // image exists and was not to be written over, which it counts too; or what it gave of a part
+    // is other than what was stored there, and it does not tell its bytes.
+    ensures disks_device { let old = F.state files.old in let dev_old = V.state dev.old in
+        IfDisks words.now (λ name over. IfDisksStopped
+        (DeviceEnd name old (F.state files.new) over dev_old (V.state dev.new)) result.status) }
+
+    // What was written with each status. No run of the ring is kept.
+    ensures disks_sink { let old = F.state files.old in let out_old = K.state out.old in
+        IfDisks words.now (λ name _. IfDisksStopped
+        (SinkEnd name old (F.state files.new) out_old (K.state out.new)) result.status) }
+    ensures disks_kept { IfDisks words.now (λ _ _. result.kept ≡ None) }
+
+    // No image is opened before the inputs are good.
+    ensures disks_untouched { IfDisks words.now (λ _ _. IfDisksStopped (λ end.
+        IsInputRefusal end → V.state dev.new ≡ V.state dev.old) result.status) }
 {
     match top_command_in(words.as_slice()) {
         TopCommand::Tiger => by_tiger(tiger(rt, alloc, words, files, out, gate)),
@@ -178,5 +222,8 @@ pub fn tiger_top<R: Threads + Wait + Sync, F: Files, K: Sink, G: Gate + Sync>(
             by_tiger(write_journal(rt, alloc, name, workers, files, out, gate))
         }
         TopCommand::Net { name } => without_ring(write_net(alloc, name, files, out)),
+        TopCommand::Disks { name, image, over } => {
+            without_ring(write_image(alloc, name, image, over, files, out, dev))
+        }
     }
 }

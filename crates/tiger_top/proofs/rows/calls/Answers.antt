@@ -1,11 +1,15 @@
-use Rattle.std.proofs.Common.{ℕ, List, [], length, get_or, sym, ap, subst, ◌∙◌, arith}
+use Rattle.std.proofs.Common.{ℕ, true, false, List, [], length, get_or, sym, ap, subst, ◌∙◌, arith, refl}
 use Rattle.tiger_run.specs.Samples.{here}
+use Rattle.tiger_disks.specs.Samples.{image_name, one_name}
 use Rattle.tiger_top.specs.Commands.{AreTigers, AsksJournal}
 use Rattle.tiger_top.proofs.Asked.{tigers_by, one_worker}
 use Rattle.tiger_top.proofs.rows.calls.Goals as goal
 
 abbrev count : List (List ℕ) → ℕ
 count words = length words
+
+abbrev first_letter : List (List ℕ) → ℕ
+first_letter words = get_or (get_or words 0 []) 0 0
 
 abbrev second : List (List ℕ) → List ℕ
 second words = get_or words 1 []
@@ -40,6 +44,26 @@ returns-clause-no_tigers c words is tigers = tigers.no_net here is
 
 pub returns-clause-tigers_texts : goal.returns-clause-tigers_texts
 returns-clause-tigers_texts c words is h =
-    let tigers = subst AreTigers (sym is) (tigers_by _ (λ n f. omega (arith, n, f)) (λ n f. omega (arith, n, f))) in
+    let tigers = subst AreTigers (sym is) (tigers_by _ (λ n f. omega (arith, n, f)) (λ n f. omega (arith, n, f)) (λ f. omega (arith, f))) in
     let e = ap count (sym is ∙ h tigers) in
     omega (arith, e)
+
+pub returns-clause-disks : goal.returns-clause-disks
+returns-clause-disks c words is name image false plain = (ap second (sym plain ∙ is), refl)
+returns-clause-disks c words is name image true forced = let e = ap count (sym is ∙ forced) in absurd (omega (arith, e))
+
+pub returns-clause-forced : goal.returns-clause-forced
+returns-clause-forced c words is name image false plain = let e = ap count (sym is ∙ plain) in absurd (omega (arith, e))
+returns-clause-forced c words is name image true forced = refl
+
+pub returns-clause-no_disks : goal.returns-clause-no_disks
+returns-clause-no_disks c words is name image over disks = let e = ap first_letter (sym is ∙ disks) in absurd (omega (arith, e))
+
+pub returns-clause-disks_name : goal.returns-clause-disks_name
+returns-clause-disks_name c words is h = let e = ap length (h one_name image_name false is) in omega (arith, e)
+
+pub returns-clause-image : goal.returns-clause-image
+returns-clause-image c words is none = none one_name image_name false is
+
+pub returns-clause-no_image : goal.returns-clause-no_image
+returns-clause-no_image c words is h = h (λ name image over disks. (let e = ap first_letter (sym is ∙ disks) in omega (arith, e)))

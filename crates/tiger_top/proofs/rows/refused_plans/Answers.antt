@@ -21,5 +21,8 @@ returns-clause-not_the_first c text means cause = other_number text cause.0 caus
 pub returns-clause-no_third_rule : goal.returns-clause-no_third_rule
 returns-clause-no_third_rule c cause = no_number cause.0 cause.1
 
+pub returns-clause-device : goal.returns-clause-device
+returns-clause-device c cause = cause
+
 pub returns-clause-words : goal.returns-clause-words
 returns-clause-words c cause = cause
