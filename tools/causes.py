@@ -89,7 +89,7 @@ def unknown_word(word):
 
 
 def cause(rule, item, value):
-    """What breaks a rule from 2 to 12 in the value of a scenario, in words; nothing if it is not found."""
+    """What breaks a rule from 2 to 12, or rule 15, in the value of a scenario, in words; nothing if it is not found."""
     if rule == 2 and has_keys(value, OF_PLANS, OF_SCENARIOS):
         return "the keys are those of a network's plan, which tiger net takes"
     if rule == 2:
@@ -102,6 +102,8 @@ def cause(rule, item, value):
         return links_cause(value["links"], value["plan"]["delay"])
     if rule == 10:
         return visits_cause(value)
+    if rule == 15:
+        return parts_cause(value["plan"])
     return element_cause(rule, item, value) if rule in ARRAYS else ""
 
 
@@ -134,6 +136,13 @@ def visits_cause(value):
     starts = sum("start" in event for event in value["events"])
     return (f"there are {starts} starts, and floor({beats} \u00b7 {plan['beat']} / {plan['play']}) + 1 is "
             f"{beats * plan['beat'] // plan['play'] + 1}")
+
+
+def parts_cause(plan):
+    """How many parts a block has, and how many bytes make one."""
+    block, parts = plan["block"], plan["pieces"] + 1
+    each = "byte" if block == 1 else f"{block} bytes"
+    return f"block is {block}, so a file has a block for each {each}, and pieces is {plan['pieces']}: {parts} parts each"
 
 
 def mend_of_array(rule, value):

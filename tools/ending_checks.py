@@ -31,7 +31,7 @@ WRONG = (  # words that a tool does not take
     "wrong-bodies nothing", "plant-bugs 1 0", "plant-bugs 1 1 --crates nothing", "explain", "picture",
     "picture one.json --at x", "check-program --program /nowhere", "build x")
 TRIES = (  # the words of tools that try a program, whichever it is
-    "stress 1 1", "draw 1 2 --reference PROGRAM", "conformance made", "conformance net", "deaths",
+    "stress 1 1", "draw 1 2 --reference PROGRAM", "conformance made", "conformance net", "conformance disks", "deaths",
     "bench made --rounds 1", "hostile 1 1", "refuse-allocations --last 1", "draw-nets 1 2")
 
 
@@ -193,12 +193,18 @@ def first_words(tiger, folder):
                   ["run", "crates", "1"], ["journal", "gone"], ["journal", "gone", "1"],
                   ["journal", "gone", "0"], ["net"], ["net", "gone"], ["net", ""], ["net", "crates"], ["net", b"\xff"],
                   ["net", "gone", "1"], ["run", "gone", "65"], ["run", "gone", "01"], ["run", b"\xff", "1"],
-                  ["make", "01"], ["make", "18446744073709551616"], ["make", "1", "1"]):
+                  ["make", "01"], ["make", "18446744073709551616"], ["make", "1", "1"],
+                  ["disks"], ["disks", "gone"], ["disks", "gone", "image"], ["disks", "gone", "image", "--force"],
+                  ["disks", "gone", "image", "force"], ["disks", "gone", "image", "--force", "--force"],
+                  ["disks", "gone", "--force"], ["disks", "gone", ""], ["disks", "", "image"],
+                  ["disks", "crates", "image"], ["disks", "crates", "image", "--force"], ["disks", b"\xff", "image"],
+                  ["disks", "gone", b"\xff"], ["disks", "gone", "image", b"\xff"], ["--force", "gone", "image"]):
         wanted = program.run([tiger, *words], copy.top)
         for before in ([], ["--unproved"]):
             yield f"the launcher's first answer to {before + words}", copy.run(*before, *words).differs(wanted)
     yield "-h", copy.run("-h").differs(copy.run("--help"))
     yield "no build for a first answer", copy.holds("copied") + copy.holds("tries")
+    yield "no image for a first answer", "there is one" if os.path.exists(os.path.join(copy.top, "image")) else ""
 
 
 def all_of_them(tiger, folder):

@@ -18,6 +18,8 @@ FAULT = refused(6, "write fault")
 RUN, ABSENT = ["run", "one.json", "1"], ["run", "absent.json", "1"]
 JOURNAL, NO_JOURNAL = ["journal", "one.json", "1"], ["journal", "absent.json", "1"]
 NET, NO_NET = ["net", "net.json"], ["net", "absent.json"]
+DISKS, NO_DISKS = ["disks", "one.json", "image", "--force"], ["disks", "absent.json", "image", "--force"]
+DISK_LINES = os.path.join(program.CASES, "disks", "one.stdout")
 PUT_MOST = 65536  # bytes of a put, unless a line has more
 TOO_LONG = refused(8, "too long scenario given 4194305 most 4194304")
 
@@ -72,13 +74,13 @@ def piped(tiger, words, folder, command):
 
 def streams(tiger, folder):
     """Faults of standard output and of standard error."""
-    for what, words in (("run", RUN), ("made run", ["make", "0"]), ("journal", JOURNAL), ("plan", NET), ("usage", ["--help"]),
-                        ("version", ["--version"])):
+    for what, words in (("run", RUN), ("made run", ["make", "0"]), ("journal", JOURNAL), ("plan", NET),
+                        ("line of disks", DISKS), ("usage", ["--help"]), ("version", ["--version"])):
         yield f"a {what} on a full disk", run(tiger, words, folder, out=full()), FAULT
         yield f"a {what} for a reader that is gone", run(tiger, words, folder, out=unread()), FAULT
         yield f"a {what} with no standard output", run(tiger, words, folder, closed=[1]), FAULT
     for words, absent, report in ((RUN, ABSENT, "one.stdout"), (JOURNAL, NO_JOURNAL, "one.journal"),
-                                  (NET, NO_NET, "net.stdout")):
+                                  (NET, NO_NET, "net.stdout"), (DISKS, NO_DISKS, DISK_LINES)):
         yield f"an output of {words} that is open for reading", run(tiger, words, folder, out=read_only()), FAULT
         yield f"{words} with neither input nor output", run(tiger, words, folder, closed=[0, 1]), FAULT
         yield f"{words} with no stream at all", run(tiger, words, folder, closed=[0, 1, 2]), Ended(6, b"", b"")
@@ -120,7 +122,7 @@ def fault_of(ended, pieces):
 
 
 def content(folder, name):
-    """The bytes of a file of a folder."""
+    """The bytes of a file of a folder, or of one with a whole path."""
     with open(os.path.join(folder, name), "rb") as file:
         return file.read()
 
@@ -129,7 +131,7 @@ def inputs(tiger, folder):
     """Scenarios, plans and files that cannot be read, and some that do not end."""
     os.chmod(folder, 0o755)
     tiger, scenario = shutil.copy(tiger, folder), content(folder, "one.json")  # nobody may not get at the first one
-    for name, command in (("secret.json", RUN), ("secret-net.json", NET)):
+    for name, command in (("secret.json", RUN), ("secret-net.json", NET), ("secret-disks.json", DISKS)):
         with open(os.path.join(folder, name), "wb") as file:
             file.write(content(folder, command[1]))
         os.chmod(file.name, 0)
@@ -140,10 +142,12 @@ def inputs(tiger, folder):
                                ("below-a-file", "one.json/x", refused(4, "read fault file 0"))):
         with open(os.path.join(folder, f"{name}-file.json"), "wb") as file:
             file.write(scenario.replace(b'"ten"', b'"%s"' % path.encode()))
-        yield f"the file {path}", run(tiger, ["run", f"{name}-file.json", "1"], folder, is_nobody=True), wanted
+        for command in (RUN, DISKS):
+            words = [command[0], f"{name}-file.json", *command[2:]]
+            yield f"the file {path} for {command[0]}", run(tiger, words, folder, is_nobody=True), wanted
     no_scenario = refused(5, "scenario rule 1 item 0 left 0 right 0")
     for command, no_json, report in ((RUN, no_scenario, "one.stdout"), (JOURNAL, no_scenario, "one.journal"),
-                                     (NET, refused(13, "net rule 1"), "net.stdout")):
+                                     (NET, refused(13, "net rule 1"), "net.stdout"), (DISKS, no_scenario, DISK_LINES)):
         name, behind = command[0], command[2:]
         for path, wanted in (("/dev/zero", TOO_LONG), ("/proc/self/mem", refused(4, "read fault scenario")),
                              ("/dev/null", no_json)):

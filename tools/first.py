@@ -24,7 +24,7 @@ def answer(words):
         return text and shows(text)
     if not is_command(words):
         return refuses(WORDS, "words")
-    return scenario_fault(words[1]) if words[0] in ("run", "journal", "net") else None
+    return scenario_fault(words[1]) if words[0] in ("run", "journal", "net", "disks") else None
 
 
 def text_in_source(name):
@@ -53,6 +53,8 @@ def is_command(words):
         return False
     if len(words) == 3 and words[0] in ("run", "journal"):
         return is_number(words[2], 1, MOST_WORKERS)
+    if words[:1] == ["disks"]:
+        return len(words) == 3 or len(words) == 4 and words[3] == "--force"
     return len(words) == 2 and (words[0] == "net" or words[0] == "make" and is_number(words[1], 0, MOST_NUMBER))
 
 

@@ -5,15 +5,19 @@ The texts are those of the tables in docs/formats.md, and tools/check-program co
 
 STATUSES = {  # what happened
     0: "all was read, run and written",
-    2: "the words are none of `run SCENARIO WORKERS`, `make NUMBER`, `journal SCENARIO WORKERS` and `net PLAN`, or a "
-       "number has a leading zero or is out of its range",
+    2: "the words are none of `run SCENARIO WORKERS`, `make NUMBER`, `journal SCENARIO WORKERS`, `net PLAN`, "
+       "`disks SCENARIO IMAGE` and `disks SCENARIO IMAGE --force`, or a number has a leading zero or is out of its "
+       "range",
     3: "a file is not there",
     4: "a file cannot be read, for any other cause",
     5: "the scenario breaks a rule",
     6: "a write failed",
     7: "there was no memory",
     8: "a file is longer than may be",
+    11: "the image of `disks` could not be opened, written or read",
+    12: "what `disks` read of a part of the image has another SHA-256 than what it had stored there",
     13: "the plan of a network's schedule breaks a rule",
+    14: "the image of `disks` exists, and `--force` is not among the words; it was left as it was",
     70: "`./tiger` could not build the program",
     71: "`./tiger --unproved` has no answer",
 }
@@ -46,6 +50,8 @@ RULES = {  # what is wrong, and how to mend it
     12: ("`read_faults` is not of its form",
          "see that the disk is there, that `from` is below `until`, and that `until` is at most `beats`"),
     13: ("a file has no bytes", "name a file that is not empty"),
+    15: ("the disks of the scenario have more parts than 4000000, each block once whole and each of its pieces once; "
+         "`disks` alone asks this", "make `block` larger or `pieces` fewer, or name shorter files"),
 }
 
 NET_RULES = {  # what is wrong with a network's plan, and how to mend it

@@ -33,8 +33,10 @@ TOTAL = re.compile(rb"^total starts \d+ placed \d+ whole \d+ pieces \d+ missing 
                    re.M)  # how the output of a run ends
 PEAK = re.compile(rb"^peak \d+ at \d+\n\Z", re.M)  # how the output of a network's schedule ends
 END = re.compile(rb"^end\n\Z", re.M)  # how the journals of a run end
-LAST = {"run": TOTAL, "make": TOTAL, "net": PEAK, "journal": END}  # how the output of each command ends
+DISK = re.compile(rb"^disk \d+ parts \d+ bytes \d+\n\Z", re.M)  # how the lines of a scenario's disks end
+LAST = {"run": TOTAL, "make": TOTAL, "net": PEAK, "journal": END, "disks": DISK}  # how each command's output ends
 REFUSALS = (2, 3, 4, 5, 8, 13)  # the statuses of runs that write nothing but one line on standard error
+IMAGES = (11, 12, 14)  # those of `disks` that do so besides: the device, a damaged part, an image that exists
 
 
 class Ended:
@@ -161,7 +163,8 @@ def is_answer(one, last=TOTAL):
     and its status."""
     if one.status == 0:
         return last.search(one.out) is not None and one.err == b""
-    return one.status in REFUSALS and one.out == b"" and re.fullmatch(rb"tiger: [^\n]+\n", one.err) is not None
+    statuses = REFUSALS + IMAGES if last is DISK else REFUSALS
+    return one.status in statuses and one.out == b"" and re.fullmatch(rb"tiger: [^\n]+\n", one.err) is not None
 
 
 def in_turn(work, items, jobs):

@@ -223,6 +223,9 @@ def broken():
     yield 5, {**one, "deaths": [{"cub": 7, "beat": 1}, {"cub": 0, "beat": 1}]}, "a neighbour of cub 7"
     yield 5, {**one, "read_faults": [{"disk": 0, "from": 9, "until": 9}]}, "must be below its until, 9"
     yield 5, {**one, "files": [{"name": "nothing", "disk": 0}]}, 'files[0] names it "nothing"'
+    tiny = {**one, "plan": {**small_plan(), "block": 1, "pieces": 6}, "files": [{"name": "most", "disk": 0}]}
+    yield 5, tiny, "have 117440512 parts, and may have at most 4000000."
+    yield 5, tiny, "a block for each byte, and pieces is 6: 7 parts each"
     yield 3, {**one, "files": [{"name": "gone\x1b", "disk": 0}]}, 'files[0] names it "gone\\u001b"'
     yield 4, {**one, "files": [{"name": "folder", "disk": 0}]}, 'files[0] names it "folder"'
     yield 8, {**one, "files": [{"name": "large", "disk": 0}]}, "at most 16777216 bytes, and has 16777217 or more"
@@ -238,6 +241,11 @@ def explained(tiger, folder):
     said = tool("explain", ["7"], folder)
     yield "the words for no memory", "" if b"run fewer beats, viewers or cubs" in said.out else said.out.decode()
     for words, status, start in ((["tiger: words"], 0, b"Status 2: "), (["7"], 0, b"Status 7: "), (["9"], 1, b""),
+                                 (["11"], 0, b"Status 11: "), (["tiger: device"], 0, b"Status 11: "),
+                                 (["tiger: damaged disk 3 at 17"], 0, b"Status 12: "),
+                                 (["12", "one.json"], 0, b"Status 12: "), (["14", "one.json"], 0, b"Status 14: "),
+                                 (["tiger: image exists"], 0, b"Status 14: "), (["tiger: damaged disk 3"], 1, b""),
+                                 (["tiger: scenario rule 15 item 0 left 9 right 8"], 0, b"Rule 15: "),
                                  (["tiger: scenario rule 14 item 0 left 0 right 0"], 1, b""), (["x"], 1, b""),
                                  (["5", "one.json"], 1, b""),
                                  (["tiger: scenario rule 4 item 1 left 9 right 9", "/"], 1, b""),
@@ -272,6 +280,8 @@ def offers(folder):
     yield "no offer without a terminal", copy.run("run", "one.json", "1").differs(wanted)
     wanted = program.Ended(13, b"<net><net.json>", offer.replace(b" 5 ", b" 13 ") + b"net.json\n")
     yield "the offer for a plan", in_terminal(copy, "net", "net.json").differs(wanted)
+    wanted = program.Ended(14, b"<disks><one.json><image>", offer.replace(b" 5 ", b" 14\n"))
+    yield "the offer for an image", in_terminal(copy, "disks", "one.json", "image").differs(wanted)
 
 
 # Drawn scenarios.
