@@ -1,0 +1,5 @@
+pub mod Lines
+pub mod First
+pub mod Tables
+pub mod Samples
+pub mod Wanted

@@ -1,0 +1,12 @@
+//! The log of a kept run as an auditor walks along it, where a claim on it is first false, and the tables of what its
+//! entries tell.
+#![tactic(auto)]
+
+mod lines;
+pub mod rows;
+mod tables;
+mod wants;
+
+pub use lines::{Line, line_at, lines_of};
+pub use tables::{Asks, Marks, Numbers, Pairs, Seats};
+pub use wants::Wants;
