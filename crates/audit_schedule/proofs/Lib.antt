@@ -1,0 +1,10 @@
+pub mod Fairly
+pub mod Ordered
+pub mod Judged
+pub mod Taken
+pub mod Joined
+pub mod Walking
+pub mod Stopping
+pub mod Dying
+pub mod Failing
+pub mod Saying

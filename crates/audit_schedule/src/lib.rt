@@ -1,0 +1,15 @@
+//! Walks along the log of a run that decide what is claimed of its schedule, each in the order of the entries.
+#![tactic(auto)]
+
+mod asks;
+mod beliefs;
+mod failures;
+pub mod laws;
+mod puts;
+pub mod rows;
+mod stops;
+
+pub use beliefs::first_false_belief;
+pub use failures::first_false_failure;
+pub use puts::first_unfair_put;
+pub use stops::first_return;
