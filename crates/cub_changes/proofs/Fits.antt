@@ -13,7 +13,6 @@ IsOfMessage Release = ⊥
 IsOfMessage Believe = ⊥
 IsOfMessage (PutStart t) = ⊥
 IsOfMessage (SendFirst t) = ⊥
-IsOfMessage (SendPlaced t) = ⊥
 IsOfMessage SplitVisits = ⊥
 IsOfMessage Forward = ⊥
 IsOfMessage AskBlocks = ⊥
@@ -64,7 +63,6 @@ module _ (p : Params) (c : ℕ) (stamp : Stamp) (from : Store) where
   fits (OnMessage link m) Believe h a = a.0
   fits (OnMessage link m) (PutStart t) h a = a.0
   fits (OnMessage link m) (SendFirst t) h a = a.0
-  fits (OnMessage link m) (SendPlaced t) h a = a.0
   fits (OnMessage link m) SplitVisits h a = a.0
   fits (OnMessage link m) Beat h a = a.0
   fits (OnMessage link m) Release h a = a
@@ -82,7 +80,6 @@ module _ (p : Params) (c : ℕ) (stamp : Stamp) (from : Store) where
   fits OnDeadman (AddPiece x) h a = a.0
   fits OnDeadman (PutStart t) h a = a.0
   fits OnDeadman (SendFirst t) h a = a.0
-  fits OnDeadman (SendPlaced t) h a = a.0
   fits OnDeadman SplitVisits h a = a.0
   fits OnDeadman Beat h a = a.0
   fits OnDeadman other h a = a
@@ -105,7 +102,6 @@ module _ (p : Params) (c : ℕ) (stamp : Stamp) (from : Store) where
   fits OnRelease Believe h a = a.0
   fits OnRelease (PutStart t) h a = a.0
   fits OnRelease (SendFirst t) h a = a.0
-  fits OnRelease (SendPlaced t) h a = a.0
   fits OnRelease SplitVisits h a = a.0
   fits OnRelease Beat h a = a.0
   fits OnRelease other h a = a
@@ -124,5 +120,4 @@ module _ (p : Params) (c : ℕ) (stamp : Stamp) (from : Store) where
   fits OnService Believe h a = a.0
   fits OnService (PutStart t) h a = a.0
   fits OnService (SendFirst t) h a = a.0
-  fits OnService (SendPlaced t) h a = a.0
   fits OnService other h a = a

@@ -1,5 +1,5 @@
 -- A closed relation that holds of each change at a message holds of what the cub does with the message.
-use Rattle.std.proofs.Common.{◌≡◌, ℕ, ◌+◌, ◌&&◌, ◌||◌, ◌==◌, [], ◌∷◌, ◌++◌, Bool, true, false, not, cond, is_some, Option, Some, None, refl}
+use Rattle.std.proofs.Common.{◌≡◌, ℕ, ◌+◌, ◌&&◌, ◌||◌, ◌==◌, List, [], ◌∷◌, ◌++◌, Bool, true, false, not, cond, is_some, Option, Some, None, refl}
 use Rattle.std.proofs.lemmas.Bool.{eqb-true, cond_both}
 use Rattle.tiger_base.specs.declared.number.Instance.{Instance}
 use Rattle.tiger_base.specs.declared.number.LinkNo.{LinkNo}
@@ -19,6 +19,7 @@ use Rattle.slot_plan.specs.declared.params.Params.{Params}
 use Rattle.slot_plan.specs.Times.{cub_of}
 use Rattle.slot_plan.specs.Keys.{Key}
 use Rattle.node_kit.specs.declared.journal.What.TheVariants as what
+use Rattle.node_kit.specs.declared.outbox.Out.{Out}
 use Rattle.node_kit.specs.declared.outbox.Out.TheVariants as out
 use Rattle.node_kit.specs.Form.{is_in_form, IsInForm}
 use Rattle.node_kit.specs.Steps.{Deed}
@@ -33,9 +34,10 @@ use Rattle.node_kit.specs.Ways.{way_ahead, predecessor}
 use Rattle.cub_rules.specs.declared.store.Store.{Store}
 use Rattle.cub_rules.specs.State.{is_ask}
 use Rattle.cub_rules.specs.Records.{took, dropping_lines, dropping_start, dropping_pieces, with_piece_record}
-use Rattle.cub_rules.specs.Messages.{position_at, position, records_told, shows, is_wanted, passing_on, passing_from, told, met, meeting_state, queueing, queueing_redundant, meeting_start, holding, passing, killing_splits, dropping_all, descheduling, meeting_piece, meeting_kill, storing, meeting_answer, hearing_beat, hearing, taking}
+use Rattle.cub_rules.specs.Messages.{position_at, position, records_told, is_news, place_told, shows, is_wanted, passing_on, passing_from, told, met, meeting_state, queueing, queueing_redundant, meeting_start, holding, passing, killing_splits, dropping_all, descheduling, meeting_piece, meeting_kill, storing, meeting_answer, hearing_beat, hearing, taking}
+use Rattle.cub_rules.specs.Ticks.{sending, told_placed}
 use Rattle.cub_changes.specs.Changes.{did}
-use Rattle.cub_changes.specs.Changes.Change.{Hold, PassOn, DropLines, DropStart, DropPieces, KillSplits, TakeRecord, Queue, QueueApart, AddPiece, DropKilled, StorePart, FailRead, HearBeat}
+use Rattle.cub_changes.specs.Changes.Change.{Hold, PassOn, DropLines, DropStart, DropPieces, KillSplits, TakeRecord, Queue, QueueApart, AddPiece, DropKilled, StorePart, FailRead, HearBeat, SendPlaced}
 use Rattle.cub_changes.specs.Causes.{Stage, IsPosition, MayPass, MayTake, MayQueue, MayAdd}
 use Rattle.lists.specs.Elements.{In}
 use Rattle.cub_changes.specs.Causes.Stage.{OnMessage}
@@ -59,13 +61,21 @@ module _ (P : Store → Deed Msg Store → Type 0) (closed : IsClosed P) (p : Pa
 
   pub told_by : (s : State) (k : Key) (h : Store) → P h (did p c stamp (DropStart s.tenancy.instance) h)
       → ((r : Rec) → In r (records_told s k) → (q : Store) → is_some (line_at (lines.visit_of r) q.view.lines) ≡ false → P q (did p c stamp (TakeRecord r) q))
-      → P h (told s k h)
+      → ((q : Store) → is_news s k h.view.lines ≡ true → P q (did p c stamp (SendPlaced s.tenancy) q))
+      → P h (told p c s k h)
   unfolding dropping_start took
-  told_by s k h drop take =
-      then_by P closed (dropping_start s.tenancy.instance) (each_in_turn took (records_told s k)) h drop
+  told_by s k h drop take place =
+      let telling : Store → Deed Msg Store = sending (place_told p c s k h.view.lines) in
+      let taking_all : Store → Deed Msg Store = each_in_turn took (records_told s k) in
+      let g : Store = (dropping_start s.tenancy.instance h).state in
+      let g1 : Store = (taking_all g).state in
+      then_by P closed (dropping_start s.tenancy.instance) (then_do taking_all telling) h drop
+      (then_by P closed taking_all telling g
       (each_by P closed took (records_told s k)
       (λ r i q. if_by P closed (is_some (line_at (lines.visit_of r) q.view.lines)) q (nothing q) _ (λ _. closed.none q) (λ e. take r i q e))
-      (dropping_start s.tenancy.instance h).state)
+      g)
+      (cond_both (is_news s k h.view.lines) (told_placed p c s.tenancy ∷ []) [] (λ (outs : List (Out Msg)). P g1 (record { outs = outs; state = g1 }))
+      (λ e. place g1 e) (λ _. closed.none g1)))
 
   pub state_by : (link : LinkNo) (s : State) (h : Store) → OfEach P p c stamp (OnMessage link (msg.ViewerState s)) h
       → P h (meeting_state p c stamp s h)
@@ -80,11 +90,12 @@ module _ (P : Store → Deed Msg Store → Type 0) (closed : IsClosed P) (p : Pa
       at : (o : Option Key) → ((k : Key) → o ≡ Some k → IsPosition p c s k) → P h (met p c stamp s o h)
       at None m = closed.none h
       at (Some k) m =
-          if_by P closed (is_held h.held s.tenancy.instance) h (passing_from p c stamp s.tenancy.instance (Some k) h) (told s k h)
+          if_by P closed (is_held h.held s.tenancy.instance) h (passing_from p c stamp s.tenancy.instance (Some k) h) (told p c s k h)
           (λ held. passing_by g h each s.tenancy.instance (Some k) h (λ q e must. ((m q e).0, (m q e).1, refl, held, must)))
           (λ free.
           told_by s k h (each (DropStart s.tenancy.instance) h (refl, k, m k refl, free))
-          (λ r i q e. each (TakeRecord r) q ((k, m k refl, i, free), e)))
+          (λ r i q e. each (TakeRecord r) q ((k, m k refl, i, free), e))
+          (λ q e. each (SendPlaced s.tenancy) q (k, m k refl, refl, e, free)))
 
   queue_by : (g : Stage) (from : Store) → OfEach P p c stamp g from → (a : Ask) (h : Store) → MayQueue g a false h → (b : Bool)
       → is_asked h.starts a.instance ≡ b

@@ -253,4 +253,4 @@ module _ (P : Store → Deed Msg Store → Type 0) (closed : IsClosed P) (p : Pa
       (λ t h o b i.
       dead_from P closed p c stamp t h (each (PutStart t) h (tt, o)) (take t h o (backup_of t t.first) (inr (i, inl refl)))
       (λ q e. take t h o (own_of t (t.first + 1)) (inr (i, inr (refl, e))) q)
-      (λ q. each (SendPlaced t) q (tt, (h, o))))
+      (λ q. each (SendPlaced t) q (h, o)))

@@ -28,7 +28,7 @@ use Rattle.cub_rules.specs.Messages.{position_at, position, records_told}
 use Rattle.cub_rules.specs.Ticks.{tenancy_from, free_on, disks_at, first_pieces}
 use Rattle.cub_changes.specs.Changes.{Change}
 use Rattle.cub_changes.specs.Changes.Change.{PassOn, TakeRecord, Queue, QueueApart, AddPiece, StorePart, SendFirst, SendPlaced}
-use Rattle.cub_changes.specs.Causes.{Stage, IsInsertion, IsAnswer, MayPass, Fills, WasPut, IsRecordOfPut, MayTake, MayQueue, MayAdd, Cause}
+use Rattle.cub_changes.specs.Causes.{Stage, IsInsertion, IsAnswer, MayPass, Fills, WasPut, IsRecordOfPut, MayTake, MayTellPlace, MayQueue, MayAdd, Cause}
 use Rattle.lists.specs.Elements.{In}
 use Rattle.cub_changes.specs.Causes.Stage.{OnMessage, OnInsertion, OnService}
 use Rattle.cub_changes.proofs.Allowing.{first_pieces_own}
@@ -142,9 +142,15 @@ module _ (p : Params) (c : ℕ) (stamp : Stamp) (plan : IsPlan p) (from : Store)
     stored (OnMessage link (msg.ReadDone w found)) want part h may known = rw may.0 known.1
     stored other want part h may known = absurd may
 
-    placed : (g : Stage) (t : Tenancy) → IsInsertion g → IsKnown p stamp g → WasPut p c stamp from t → IsTrue (is_tenancy p t)
-    placed OnInsertion t is known was = put_form t was.0 was.1 known
-    placed other t is known was = absurd is
+    put : (g : Stage) (t : Tenancy) → IsInsertion g → IsKnown p stamp g → WasPut p c stamp from t → IsTrue (is_tenancy p t)
+    put OnInsertion t is known was = put_form t was.0 was.1 known
+    put other t is known was = absurd is
+
+    placed : (g : Stage) (t : Tenancy) → MayTellPlace p c stamp g from t → IsKnown p stamp g → IsTrue (is_tenancy p t)
+    placed (OnMessage link (msg.ViewerState s)) t may known =
+        rw may.2 ((and_parts (is_tenancy p s.tenancy) (nat_le s.visit most_visit) known.1).0)
+    placed OnInsertion t may known = put_form t may.0 may.1 known
+    placed other t may known = absurd may
 
     pub sound : (g : Stage) → IsKnown p stamp g → (x : Change) (h : Store) → Cause p c stamp g from x h → IsStoreOf p c h
         → IsSound p c stamp x
@@ -154,6 +160,6 @@ module _ (p : Params) (c : ℕ) (stamp : Stamp) (plan : IsPlan p) (from : Store)
     sound g known (QueueApart a) h cause kept = queued g a true h cause.0
     sound g known (AddPiece x) h cause kept = added g x cause.0 known
     sound g known (StorePart want part) h cause kept = stored g want (Some part) h cause known
-    sound g known (SendFirst t) h cause kept = placed g t cause.0 known (cause.1.store, cause.1.fills)
-    sound g known (SendPlaced t) h cause kept = placed g t cause.0 known cause.1
+    sound g known (SendFirst t) h cause kept = put g t cause.0 known (cause.1.store, cause.1.fills)
+    sound g known (SendPlaced t) h cause kept = placed g t cause known
     sound g known other h cause kept = tt

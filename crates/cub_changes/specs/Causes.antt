@@ -1,5 +1,5 @@
 -- Why a cub makes a change: in which step of an event, and what holds just before it.
-use Rattle.std.specs.Prelude.{◌≡◌, ℕ, ◌+◌, ◌++◌, ◌&&◌, ◌||◌, ◌==◌, ◌%◌, ◌⊎◌, [], ◌∷◌, Bool, true, false, not, nat_lt, is_some, Option, Some, None}
+use Rattle.std.specs.Prelude.{◌≡◌, ℕ, ◌+◌, ◌++◌, ◌&&◌, ◌||◌, ◌==◌, ◌%◌, ◌⊎◌, Bool, true, false, not, nat_lt, is_some, Option, Some, None}
 use Rattle.std.specs.List.{flat_map}
 use Rattle.tiger_base.specs.declared.number.Instance.{Instance}
 use Rattle.tiger_base.specs.declared.number.LinkNo.{LinkNo}
@@ -29,7 +29,7 @@ use Rattle.node_kit.specs.Steps.Input.{Take, Tick}
 use Rattle.node_kit.specs.Ways.{way_ahead, predecessor}
 use Rattle.cub_rules.specs.declared.store.Store.{Store}
 use Rattle.cub_rules.specs.State.{is_ask}
-use Rattle.cub_rules.specs.Messages.{position_at, position, holding, records_told, shows, is_wanted}
+use Rattle.cub_rules.specs.Messages.{position_at, position, holding, records_told, is_news, shows, is_wanted}
 use Rattle.cub_rules.specs.Ticks.{tenancy_from, free_on, is_for, disks_at, first_pieces}
 use Rattle.cub_changes.specs.Changes.{Change}
 use Rattle.cub_changes.specs.Changes.Change.{Hold, PassOn, DropLines, DropStart, DropPieces, KillSplits, TakeRecord, Queue, QueueApart, AddPiece, DropKilled, StorePart, FailRead, HearBeat, Release, Believe, PutStart, SendFirst, SendPlaced, SplitVisits, Forward, AskBlocks, AskPieces, ServeBlocks, DropBackups, ServePieces, Beat}
@@ -162,6 +162,17 @@ MayTake p c stamp OnInsertion from r =
     (t : Tenancy) × (q : Store) × (o : Fills p c stamp from t q) × IsRecordOfPut p c o.disk t r
 MayTake p c stamp other from r = ⊥
 
+-- A place is told of a Put, and of a state that is news to the next cub, whose instance was not held when the message came.
+abbrev pub MayTellPlace : Params → ℕ → Stamp → Stage → Store → Tenancy → Type 0
+MayTellPlace p c stamp (OnMessage link (msg.ViewerState s)) from t =
+    (k : Key)
+    × IsPosition p c s k
+    × (t ≡ s.tenancy)
+    × (is_news s k from.view.lines ≡ true)
+    × (is_held from.held s.tenancy.instance ≡ false)
+MayTellPlace p c stamp OnInsertion from t = WasPut p c stamp from t
+MayTellPlace p c stamp other from t = ⊥
+
 -- A start that comes is queued, apart or not, unless it is discarded.
 abbrev pub MayQueue : Stage → Ask → Bool → Store → Type 0
 MayQueue (OnMessage link (msg.Start redundant b)) a apart h =
@@ -198,7 +209,7 @@ Cause p c stamp g from Release h = IsRelease g
 Cause p c stamp g from Believe h = IsDeadman g × ((not h.believes && is_silent h.watch stamp.reading) ≡ true)
 Cause p c stamp g from (PutStart t) h = IsInsertion g × Fills p c stamp from t h
 Cause p c stamp g from (SendFirst t) h = IsInsertion g × WasPutHere p c stamp from t
-Cause p c stamp g from (SendPlaced t) h = IsInsertion g × WasPut p c stamp from t
+Cause p c stamp g from (SendPlaced t) h = MayTellPlace p c stamp g from t
 Cause p c stamp g from SplitVisits h = IsService g × (h.believes ≡ true)
 Cause p c stamp g from Forward h = IsService g
 Cause p c stamp g from AskBlocks h = IsService g

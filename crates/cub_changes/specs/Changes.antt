@@ -29,7 +29,7 @@ use Rattle.cub_rules.specs.Messages.{passed_on, is_reached, kills, is_piece_part
 use Rattle.cub_rules.specs.Ticks.{is_stale, queued, number, told_placed, split_outs, with_split_lines, forward_outs, forward_line, ask_outs, ask_line, leaves_by, asked_of_disk, is_served, is_past, serve_outs, piece_outs}
 
 -- A rule of a cub is a chain of these changes. Those of the first group are made at messages, those of the second in a
--- tick; a record is taken at either.
+-- tick; a record is taken, and a place told, at either.
 pub data Change : Type 0 where
   -- an instance is held; its deschedule is passed on from a position; its records, starts, pieces and split visits are dropped
   Hold : (v : Instance) → Change

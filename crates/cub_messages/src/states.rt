@@ -1,17 +1,20 @@
 //! What a cub does with a viewer state.
 ghost use Rattle.std.specs.Prelude.{◌≡◌, ◌≤◌, IsTrue, OnOk};
 ghost use Rattle.tiger_base.specs.Limits.{most_reading};
+ghost use Rattle.slot_plan.specs.Keys.{IsKey};
 ghost use Rattle.node_kit.specs.Form.{is_tenancy};
 ghost use Rattle.viewer_state.specs.States.{is_visit_of};
-ghost use Rattle.node_kit.specs.Deeds.{Did};
+ghost use Rattle.node_kit.specs.Deeds.{Did, each_in_turn};
 ghost use Rattle.cub_rules.specs.State.{IsStoreOf};
-ghost use Rattle.cub_rules.specs.Messages.{told, meeting_state};
+ghost use Rattle.cub_rules.specs.Records.{took};
+ghost use Rattle.cub_rules.specs.Messages.{is_news, records_told, told, meeting_state};
 ghost use Rattle.cub_messages.specs.Rules.{IsNear};
 
 use crate::passing::{pass_from, position_at};
 use crate::records::{drop_start, take_record};
 use cub_rules::Store;
-use node_kit::{Outbox, Site};
+use node_kit::{Out, Outbox, Site};
+use partial_view::View;
 use tiger_base::{Msg, NoMemory, Rec, SlotNo, Stamp, State, Visit};
 use viewer_state::state_for;
 
@@ -45,7 +48,8 @@ pub fn take_state<'a>(
     }
 }
 
-/// A start of the instance that waits is dropped, and the records are taken that the state tells of.
+/// A start of the instance that waits is dropped, and the records are taken that the state tells of; of news the
+/// controller is told.
 fn tell<'a>(
     site: &Site,
     state: State,
@@ -56,10 +60,33 @@ fn tell<'a>(
     requires form { IsTrue (is_tenancy site.now.plan.params state.tenancy) }
     requires visit { IsTrue (is_visit_of state.tenancy state.visit) }
     requires params { store.old.view.params ≡ site.now.plan.params }
-    ensures { OnOk result (Did (told state place store.old) out.old out.new store.new) }
+    ensures { OnOk result (Did
+        (told site.now.plan.params site.now.cub.0 state place store.old)
+        out.old out.new store.new) }
+{
+    let is_news = is_news(state, place, store.view.view());
+    drop_start(state.tenancy.instance, store, out)?;
+    take_told(state, place, store, out)?;
+    if is_news {
+        out.push(Out::Send(site.to_controller(), Msg::Placed(state.tenancy)))?;
+    }
+    Ok(())
+}
+
+/// The records are taken that a state tells a cub of.
+fn take_told<'a>(
+    state: State,
+    place: (SlotNo, Visit),
+    store: &mut Store<'a>,
+    out: &mut Outbox<Msg<'a>>,
+) -> Result<(), NoMemory>
+    requires form { IsTrue (is_tenancy store.old.view.params state.tenancy) }
+    requires visit { IsTrue (is_visit_of state.tenancy state.visit) }
+    ensures { OnOk result (Did
+        (each_in_turn took (records_told state place) store.old)
+        out.old out.new store.new) }
 {
     let (tenancy, visit) = (state.tenancy, state.visit);
-    drop_start(tenancy.instance, store, out)?;
     if place.1 == visit {
         return take_record(Rec::own(tenancy, visit), store, out);
     }
@@ -68,4 +95,14 @@ fn tell<'a>(
         take_record(Rec::own(tenancy, visit + 1), store, out)?;
     }
     Ok(())
+}
+
+/// Whether a state is the first that the next cub hears of its tenancy.
+fn is_news(state: State, place: (SlotNo, Visit), view: &View) -> bool
+    requires key { IsKey view.now.params (state.tenancy.slot, state.visit) }
+    ensures { result ≡ is_news state place view.now.lines }
+{
+    place.1 != state.visit
+        && state.visit == state.tenancy.first
+        && view.line(state.tenancy.slot, state.visit).is_none()
 }

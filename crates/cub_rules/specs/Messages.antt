@@ -39,6 +39,7 @@ use Rattle.cub_rules.specs.declared.store.Store.{Store}
 use Rattle.cub_rules.specs.declared.store.StoredPart.{StoredPart}
 use Rattle.cub_rules.specs.State.{visit_here, is_ask}
 use Rattle.cub_rules.specs.Records.{took, dropping_lines, dropping_start, dropping_pieces, pieces_but, with_piece_record}
+use Rattle.cub_rules.specs.Ticks.{sending, told_placed}
 
 -- Where a cub stands to a visit of a slot that a state or a tag names: at that visit if it is the visit's cub, at the
 -- next one if it is the next one's cub, and else nowhere.
@@ -77,14 +78,27 @@ records_told s k =
     record { tenancy = s.tenancy; visit = s.visit; kind = Backup }
     ∷ (if nat_lt s.visit s.tenancy.last then record { tenancy = s.tenancy; visit = s.visit + 1; kind = Own } ∷ [] else [])
 
--- a state of an instance that is not held: a start of it that waits is dropped, and the records are taken
-abbrev pub told : State → Key → Store → Deed Msg Store
-told s k = then_do (dropping_start s.tenancy.instance) (each_in_turn took (records_told s k))
+-- whether a state is the first that the next cub hears of its tenancy: it is of the first visit, of which the view has no
+-- record
+abbrev pub is_news : State → Key → List Line → Bool
+is_news s k lines =
+    not (k.1 == s.visit) && (s.visit == s.tenancy.first && not (is_some (line_at (s.tenancy.slot, s.visit) lines)))
+
+-- of news the controller is told, since the cub that put may have died before it did
+abbrev pub place_told : Params → ℕ → State → Key → List Line → List (Out Msg)
+place_told p cub s k lines = if is_news s k lines then told_placed p cub s.tenancy ∷ [] else []
+
+-- a state of an instance that is not held: a start of it that waits is dropped, the records are taken, and of news the
+-- controller is told; h is what the cub kept when the state came
+abbrev pub told : Params → ℕ → State → Key → Store → Deed Msg Store
+told p cub s k h =
+    then_do (dropping_start s.tenancy.instance)
+    (then_do (each_in_turn took (records_told s k)) (sending (place_told p cub s k h.view.lines))) h
 
 abbrev pub met : Params → ℕ → Stamp → State → Option Key → Store → Deed Msg Store
 met p cub stamp s None h = nothing h
 met p cub stamp s (Some k) h =
-    if is_held h.held s.tenancy.instance then passing_from p cub stamp s.tenancy.instance (Some k) h else told s k h
+    if is_held h.held s.tenancy.instance then passing_from p cub stamp s.tenancy.instance (Some k) h else told p cub s k h
 
 -- Viewer state: a state of a visit of its tenancy, on the visit's cub or the next one, lets it take records. A state of
 -- an instance that is held is discarded, and the deschedule passed on.

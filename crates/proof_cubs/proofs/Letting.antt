@@ -58,8 +58,8 @@ drops : (v : Instance) (h : Store) → (dropping_start v h).state.starts ≡ wit
 unfolding dropping_start
 drops v h = refl
 
-told_drops : (s : State) (k : Key) (h : Store) → (told s k h).state.starts ≡ without_start h.starts s.tenancy.instance
-told_drops s k h =
+told_drops : (p : Params) (c : ℕ) (s : State) (k : Key) (h : Store) → (told p c s k h).state.starts ≡ without_start h.starts s.tenancy.instance
+told_drops p c s k h =
     took_each (records_told s k) (dropping_start s.tenancy.instance h).state ∙ drops s.tenancy.instance h
 
 -- A message of which a record is taken is such a state.
@@ -72,7 +72,7 @@ took_drops p c (Take stamp link m) r h e i =
     let same : r.tenancy ≡ s.0.tenancy = (taking_told p c stamp link s.0 r h j).tenancy in
     let k = took_told p c stamp link s.0 r h j in
     subst (λ (n : Msg). (taking p c stamp link n h).state.starts ≡ without_start h.starts r.tenancy.instance) (sym s.1)
-    (ap (λ (d : Deed Msg Store). d.state.starts) k.1 ∙ (told_drops s.0 k.0 h ∙ ap (λ (t : Tenancy). without_start h.starts t.instance) (sym same)))
+    (ap (λ (d : Deed Msg Store). d.state.starts) k.1 ∙ (told_drops p c s.0 k.0 h ∙ ap (λ (t : Tenancy). without_start h.starts t.instance) (sym same)))
 took_drops p c (Tick stamp) r h e i = absurd (cc)
 
 module _ (p : Params) (c : ℕ) (inputs : ℕ → Input Msg) where

@@ -37,13 +37,14 @@ use Rattle.proof_lives.specs.Facts.{DidAt}
 use Rattle.proof_lives.specs.Histories.{input_of}
 use Rattle.proof_lives.proofs.Carrying.{stamp_same, count_rises, tick_same}
 use Rattle.proof_lives.proofs.Inserting.{put_out}
+use Rattle.proof_lives.proofs.Lines.{kept_at}
 use Rattle.proof_lives.proofs.Order.{tick_of}
 use Rattle.proof_controller.specs.Controllers.{controller, command, commands_at, known_at, GoneAt, Stops, StoppedAt, StoppedWaiting}
 use Rattle.proof_controller.specs.Stops.{tag_at, IsStopOf}
 use Rattle.proof_controller.proofs.CommandedOnce.{StoppedIn, stopped_there, same_event, one_stop}
 use Rattle.proof_controller.proofs.Controllers.{same_instance, same_visit, tag_sent}
 use Rattle.proof_controller.proofs.Knowing.{start_from, told_before, known_told}
-use Rattle.proof_controller.proofs.Placings.{put_tells, told_put}
+use Rattle.proof_controller.proofs.Placings.{BringsFirst, first_put, first_state, put_tells, told_of}
 use Rattle.proof_controller.proofs.Visits.{IsLastDue, last_due}
 use Rattle.proof_controller.proofs.Ends.{ends_controller}
 use Rattle.proof_schedule.specs.Facts.{Facts}
@@ -52,7 +53,7 @@ use Rattle.proof_facts.specs.Facts.{BegunAt, facts_of}
 use Rattle.proof_facts.specs.Lives.{lives_of}
 use Rattle.proof_facts.specs.Rings.{IsRingHistory, node_count}
 use Rattle.proof_links.proofs.Carrying.{came_from, delivered, did_as, did_before, from_cub}
-use Rattle.proof_links.proofs.Nodes.{after_tick, beat_same, before, controller_inside, cub_inside, did_in, did_it, event_is, formed_at, lives_on, rises}
+use Rattle.proof_links.proofs.Nodes.{after_tick, beat_same, before, controller_inside, cub_inside, did_in, did_it, event_is, formed_at, lived, lives_on, rises}
 use Rattle.proof_links.proofs.Ordering.{both_start, finished_by, ordered_before}
 
 module _ {S : Type 0} {step : S → Input Msg → Deed Msg S} {p : Params} {orders : List Order} {disk_at : ℕ → DiskState}
@@ -268,6 +269,37 @@ module _ {S : Type 0} {step : S → Input Msg → Deed Msg S} {p : Params} {orde
     put : DidAt p lives cub (put_out t) beat
     before : beat < z
 
+  -- So was one whose place a cub tells: it was put just then, or its first state had come, which was sent at the Put.
+  put_told : (a b : ℕ) (link : LinkNo) (t : Tenancy) → DidAt p lives a (out.Send link (msg.Placed t)) b
+      → PutBefore t (suc b)
+  put_told a b link t d = ⊎_elim
+      (λ put. record {
+        cub = a;
+        beat = b;
+        put = record { small = d.small; at = d.at; done = d.done; in_beat = d.in_beat; did = put };
+        before = omega arith;
+      })
+      (λ (s : BringsFirst (lives.input a d.at) t).
+      let f = came_from plan ring a d.at s.stamp s.link (msg.ViewerState (first_state t))
+      (cub_inside plan ring a d.small) d.done s.is in
+      let small = from_cub plan ring f (λ q. q) (λ q. q) in
+      let g = did_before plan ring f small in
+      let did = g.did in
+      let done = did.done in
+      let life = lived plan ring f.from small in
+      let kept = kept_at p f.from plan small (lives.input f.from) did.at (λ k l. life.short k (omega arith)) in
+      let put = first_put p f.from plan small (lives.input f.from did.at)
+      (store_at p f.from (lives.input f.from) did.at) s.link t kept (life.short did.at done) did.did in
+      let got : s.stamp.beat ≡ b = sym (ap (λ (k : Input Msg). (stamp_of k).beat) s.is) ∙ d.in_beat in
+      let later = g.later in
+      record {
+        cub = f.from;
+        beat = g.beat;
+        put = record { small = small; at = did.at; done = done; in_beat = did.in_beat; did = put };
+        before = omega arith;
+      })
+      (told_of p a plan d.small (lives.input a d.at) (store_at p a (lives.input a) d.at) link t d.did)
+
   put_before : (i : ℕ) (v : Instance) (t : Tenancy) → i < living h ctrl
       → tenancy_of (known_at p orders inputs i).placed v ≡ Some t → PutBefore t (beat h ctrl i)
   put_before i v t low e =
@@ -278,19 +310,13 @@ module _ {S : Type 0} {step : S → Input Msg → Deed Msg S} {p : Params} {orde
       (controller_inside plan ring) done told.is in
       let small = from_cub plan ring f (λ q. q) (λ q. q) in
       let d = did_before plan ring f small in
-      let did = d.did in
-      let put = told_put p f.from plan small (lives.input f.from did.at)
-      (store_at p f.from (lives.input f.from) did.at) told.link t did.did in
+      let put = put_told f.from d.beat told.link t d.did in
+      let by = put.before in
       let taken : beat h ctrl told.at ≡ told.stamp.beat =
       beat_of told.at ∙ ap (λ (k : Input Msg). (stamp_of k).beat) told.is in
       let rise = rises plan ring ctrl told.at i (controller_inside plan ring) (omega arith) (done_of i low) in
       let later = d.later in
-      record {
-        cub = f.from;
-        beat = d.beat;
-        put = record { small = small; at = did.at; done = did.done; in_beat = did.in_beat; did = put };
-        before = omega arith;
-      }
+      record { cub = put.cub; beat = put.beat; put = put.put; before = omega arith }
 
   place : {v s n z : ℕ} → StoppedAt p orders lives v s n z → IsStopAt p facts v s n z
   place {v} {s} {n} {z} a =

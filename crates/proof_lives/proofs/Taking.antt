@@ -1,11 +1,12 @@
 -- What each message makes of a view's lines: a viewer state adds, a deschedule takes away, and all others leave them.
-use Rattle.std.proofs.Common.{◌≡◌, ℕ, List, refl, ap, subst, ◌∙◌, ⊎_elim}
+use Rattle.std.proofs.Common.{◌≡◌, ℕ, List, refl, sym, ap, subst, ◌∙◌, ⊎_elim}
 use Rattle.std.specs.List.{AllByRecursion}
 use Rattle.tiger_base.specs.declared.number.Instance.{Instance}
 use Rattle.tiger_base.specs.declared.number.LinkNo.{LinkNo}
 use Rattle.tiger_base.specs.declared.number.Stamp.{Stamp}
 use Rattle.tiger_base.specs.declared.tenancy.Rec.{Rec}
 use Rattle.tiger_base.specs.declared.tenancy.State.{State}
+use Rattle.tiger_base.specs.declared.tenancy.Tenancy.{Tenancy}
 use Rattle.tiger_base.specs.declared.message.Msg.{Msg}
 use Rattle.tiger_base.specs.declared.message.Msg.TheVariants as msg
 use Rattle.slot_plan.specs.declared.params.Params.{Params}
@@ -16,8 +17,8 @@ use Rattle.node_kit.specs.Steps.{Deed}
 use Rattle.cub_rules.specs.declared.store.Store.{Store}
 use Rattle.cub_rules.specs.Messages.{taking}
 use Rattle.cub_changes.specs.Changes.{Change}
-use Rattle.cub_changes.specs.Changes.Change.{DropLines, ServeBlocks, DropBackups}
-use Rattle.cub_changes.specs.Causes.{Stage, Cause, IsDeschedule, MayTake}
+use Rattle.cub_changes.specs.Changes.Change.{DropLines, SendFirst, SendPlaced, ServeBlocks, DropBackups}
+use Rattle.cub_changes.specs.Causes.{Stage, Cause, IsDeschedule, MayTake, MayTellPlace}
 use Rattle.cub_changes.specs.Causes.Stage.{OnMessage}
 use Rattle.cub_changes.proofs.Closed.{OfEach}
 use Rattle.cub_changes.proofs.Fits.{IsOfMessage, fits}
@@ -43,11 +44,10 @@ abbrev pub MayLeave : Msg → Rec → Type 0
 MayLeave (msg.Deschedule v tag) r = r.tenancy.instance.0 ≡ v.0
 MayLeave other r = ⊥
 
--- outputs that put nothing, and send no state and no place
+-- outputs that put nothing, and send no state
 abbrev pub IsNoPut : Out Msg → Type 0
 IsNoPut (out.Act (what.Put t)) = ⊥
 IsNoPut (out.Send link (msg.ViewerState s)) = ⊥
-IsNoPut (out.Send link (msg.Placed t)) = ⊥
 IsNoPut other = Unit {0}
 
 abbrev pub AreNoPuts : List (Out Msg) → Type 0
@@ -74,7 +74,6 @@ module _ (p : Params) (c : ℕ) (stamp : Stamp) (link : LinkNo) where
   no_put x h f (out.Act (what.Put t)) tells = subst IsOfMessage tells f
   no_put x h f (out.Act other) tells = tt
   no_put x h f (out.Send way (msg.ViewerState s)) tells = ⊎_elim (λ k. subst IsOfMessage k.1 f) (λ k. subst IsOfMessage k.1 f) tells
-  no_put x h f (out.Send way (msg.Placed t)) tells = ⊎_elim (λ k. subst IsOfMessage k f) (λ k. subst IsOfMessage k f) tells
   no_put x h f (out.Send way other) tells = tt
 
   of_state : (m : Msg) (h : Store) (r : Rec) → MayTake p c stamp (OnMessage link m) h r → (s : State) × (m ≡ msg.ViewerState s)
@@ -94,6 +93,18 @@ module _ (p : Params) (c : ℕ) (stamp : Stamp) (link : LinkNo) where
   message_took m h r i =
       let k = message_out m h (taken_out r) i in
       (subst (λ (x : Change). Cause p c stamp (OnMessage link m) h x k.before) k.tells k.cause).0
+
+  -- what lets a place be told
+  pub message_placed : (m : Msg) (h : Store) (way : LinkNo) (t : Tenancy) → In (out.Send way (msg.Placed t)) (taking p c stamp link m h).outs
+      → MayTellPlace p c stamp (OnMessage link m) h t
+  message_placed m h way t i =
+      let k = message_out m h (out.Send way (msg.Placed t)) i in
+      let because : (x : Change) → x ≡ k.change → Cause p c stamp (OnMessage link m) h x k.before = λ x e.
+      subst (λ (y : Change). Cause p c stamp (OnMessage link m) h y k.before) (sym e) k.cause in
+      ⊎_elim
+      (λ e. absurd ((because (SendFirst t) (sym e)).0))
+      (λ e. because (SendPlaced t) (sym e))
+      k.tells
 
   pub taking_hears : (m : Msg) (h : Store) → Hears p c m h (taking p c stamp link m h)
   taking_hears m h = record {

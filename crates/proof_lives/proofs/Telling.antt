@@ -1,5 +1,5 @@
 -- What a viewer state tells a cub: the records that it takes, and that each of them finds its place taken or takes it.
-use Rattle.std.proofs.Common.{◌≡◌, ℕ, ◌+◌, ◌<◌, ◌==◌, nat_lt, List, [], ◌∷◌, find, true, false, cond, is_some, Option, Some, None, refl, sym, ap, subst, ◌∙◌, arith, ⊎_elim, inl, inr}
+use Rattle.std.proofs.Common.{◌≡◌, ℕ, ◌+◌, ◌<◌, ◌==◌, nat_lt, List, [], ◌∷◌, ◌++◌, find, true, false, cond, is_some, Option, Some, None, refl, sym, ap, subst, ◌∙◌, arith, ⊎_elim, inl, inr}
 use Rattle.std.specs.Prelude.{◌⊎◌}
 use Rattle.std.proofs.lemmas.Bool.{cases_Bool, ltb-true, lt-ltb, eqb-true, eq-eqb, ne_eqb, and_parts}
 use Rattle.tiger_base.specs.declared.number.Instance.{Instance}
@@ -28,7 +28,7 @@ use Rattle.deschedule.specs.Holds.{is_held}
 use Rattle.node_kit.specs.Deeds.{nothing, each_in_turn}
 use Rattle.cub_rules.specs.declared.store.Store.{Store}
 use Rattle.cub_rules.specs.Records.{took, dropping_start}
-use Rattle.cub_rules.specs.Messages.{position_at, records_told, told, meeting_state, hearing, taking}
+use Rattle.cub_rules.specs.Messages.{position_at, records_told, place_told, told, meeting_state, hearing, taking}
 use Rattle.proof_schedule.specs.Facts.{IsGiven}
 use Rattle.lists.specs.Elements.{In}
 use Rattle.lists.proofs.Elements.{chosen, in_left, in_right}
@@ -141,7 +141,7 @@ taking_told p c stamp link s r h i =
 -- a state in form of an instance that is not held is told from the cub's position
 pub takes_told : (p : Params) (c : ℕ) (stamp : Stamp) (link : LinkNo) (s : State) (k : Key) (h : Store) → is_in_form p (noted (msg.ViewerState s)) ≡ true
     → is_visit_of s.tenancy s.visit ≡ true → position_at p c s.tenancy.slot s.visit ≡ Some k → is_held h.held s.tenancy.instance ≡ false
-    → taking p c stamp link (msg.ViewerState s) h ≡ told s k h
+    → taking p c stamp link (msg.ViewerState s) h ≡ told p c s k h
 unfolding taking hearing meeting_state
 takes_told p c stamp link s k h form visit position free = rw (form, visit, position, free) refl
 
@@ -152,7 +152,7 @@ out_of_form p c stamp link s h e = rw e refl
 
 -- a state of which a record is taken is told from the cub's position
 pub took_told : (p : Params) (c : ℕ) (stamp : Stamp) (link : LinkNo) (s : State) (r : Rec) (h : Store) → In (taken_out r) (taking p c stamp link (msg.ViewerState s) h).outs
-    → (k : Key) × (taking p c stamp link (msg.ViewerState s) h ≡ told s k h)
+    → (k : Key) × (taking p c stamp link (msg.ViewerState s) h ≡ told p c s k h)
 took_told p c stamp link s r h i =
     let may = message_took p c stamp link (msg.ViewerState s) h r i in
     ⊎_elim
@@ -210,16 +210,17 @@ pub same_start : (v : Instance) (h : Store) → (dropping_start v h).state.view.
 unfolding dropping_start
 same_start v h = refl
 
-pub told_places : (p : Params) (c : ℕ) (s : State) (n : ℕ) (o : Position p c s n) (h : Store) → FindsIts s n h.view.lines (told s o.key h).outs
+pub told_places : (p : Params) (c : ℕ) (s : State) (n : ℕ) (o : Position p c s n) (h : Store) → FindsIts s n h.view.lines (told p c s o.key h).outs
 told_places p c s n o h =
     let g : Store = (dropping_start s.tenancy.instance h).state in
     let rs : List Rec = records_told s o.key in
     let before : List (Out Msg) = (dropping_start s.tenancy.instance h).outs in
     let after : List (Out Msg) = (each_in_turn took rs g).outs in
+    let last : List (Out Msg) = place_told p c s o.key h.view.lines in
     record {
       how = ⊎_elim
           (λ w. inl (w.0, subst (λ (ls : List Line). In w.0 ls) (same_start s.tenancy.instance h) w.1, (w.2.0 ∙ ap (λ (t : Tenancy). t.slot.0) o.tenancy, w.2.1 ∙ o.visit)))
-          (λ w. inr (w.0, in_right (taken_out w.0) before after w.2, (position_told p c s o.key w.0 o.at w.1).tenancy, w.4 ∙ o.visit))
+          (λ w. inr (w.0, in_right (taken_out w.0) before (after ++ last) (in_left (taken_out w.0) after last w.2), (position_told p c s o.key w.0 o.at w.1).tenancy, w.4 ∙ o.visit))
           (each_place rs o.rec g o.told);
     }
 

@@ -204,6 +204,39 @@ fn record_that_is_there_stays(rt: HostRuntime) -> Result<(), Fail> {
     assert_text(&rt, text, wanted)
 }
 
+/// Of the first visit the next cub tells the controller, behind the records, if the backup record is new to it.
+#[test]
+fn place_that_is_news_is_told(rt: HostRuntime) -> Result<(), Fail> {
+    let cases: [(u32, &[Keep], &str); 4] = [
+        (
+            0,
+            &[],
+            "took Own 0 of (0, 0, 1, 0, 63); | Own 0 of (0, 0, 1, 0, 63); ",
+        ),
+        (
+            1,
+            &[],
+            "took Backup 0 of (0, 0, 1, 0, 63); took Own 1 of (0, 0, 1, 0, 63); \
+             9: placed (0, 0, 1, 0, 63); | Backup 0 of (0, 0, 1, 0, 63); ",
+        ),
+        (
+            1,
+            &[own(1)],
+            "took Backup 0 of (0, 0, 1, 0, 63); 9: placed (0, 0, 1, 0, 63); \
+             | Backup 0 of (0, 0, 1, 0, 63); ",
+        ),
+        (
+            1,
+            &[backup(0)],
+            "took Own 1 of (0, 0, 1, 0, 63); | Backup 0 of (0, 0, 1, 0, 63); ",
+        ),
+    ];
+    for (cub, keeps, want) in cases {
+        assert_text(&rt, heard(rt.alloc(), cub, keeps, state(0)), want)?;
+    }
+    Ok(())
+}
+
 #[test]
 fn start_that_waits_is_dropped_where_the_state_comes(rt: HostRuntime) -> Result<(), Fail> {
     let text = heard(rt.alloc(), 3, &[Keep::Start(ask(0, 64))], state(3));
