@@ -13,6 +13,3 @@ pub mod rows;
 mod told;
 
 pub use read::{TextStop, read_kept};
-
-#[cfg(test)]
-mod tests;

@@ -17,6 +17,3 @@ pub use laws::text_is_exact;
 pub use reading::Desk;
 pub use text::write_kept;
 pub use writing::{push_entry, push_item};
-
-#[cfg(test)]
-mod tests;

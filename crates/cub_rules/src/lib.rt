@@ -6,6 +6,3 @@ mod store;
 
 pub use parts::StoredParts;
 pub use store::{Store, StoredPart};
-
-#[cfg(test)]
-mod tests;

@@ -5,6 +5,3 @@ mod image;
 mod span;
 
 pub use image::DiskImage;
-
-#[cfg(test)]
-mod tests;

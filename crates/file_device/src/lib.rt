@@ -4,6 +4,3 @@
 mod device;
 
 pub use device::FileDevice;
-
-#[cfg(test)]
-mod tests;

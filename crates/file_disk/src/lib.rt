@@ -28,6 +28,3 @@ pub fn each_part_is_kept()
 pub fn nothing_else_is_kept()
     ensures { NoOtherIsKept }
 {}
-
-#[cfg(test)]
-mod tests;

@@ -21,6 +21,3 @@ pub enum Delay {
 pub fn link_keeps_order()
     ensures { KeepsOrder }
 {}
-
-#[cfg(test)]
-mod tests;

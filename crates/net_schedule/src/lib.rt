@@ -9,8 +9,6 @@ mod loads;
 mod packet;
 mod ring;
 pub mod rows;
-#[cfg(test)]
-mod tests;
 mod turn;
 mod world;
 

@@ -15,6 +15,3 @@ pub use mem_files::MemFiles;
 pub use mem_sink::{FailingPut, MemSink};
 pub use sink::{Sink, SinkFault};
 pub use std_sink::StdSink;
-
-#[cfg(test)]
-mod tests;

@@ -5,8 +5,6 @@ mod board;
 mod ends;
 mod line;
 mod opening;
-#[cfg(test)]
-mod tests;
 
 pub use ends::{InEnd, OutEnd, Refused};
 pub use opening::{Both, close, open_link, open_links};

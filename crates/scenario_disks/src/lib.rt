@@ -6,6 +6,3 @@ mod stop;
 
 pub use keeping::{MOST_PARTS, keep_disks};
 pub use stop::DisksStop;
-
-#[cfg(test)]
-mod tests;

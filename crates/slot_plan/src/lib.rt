@@ -8,6 +8,3 @@ mod samples;
 pub use params::{Params, PlanFault};
 pub use plan::Plan;
 pub use samples::small_plan;
-
-#[cfg(test)]
-mod tests;

@@ -4,6 +4,3 @@
 mod forward;
 
 pub use forward::{lead_in, must_forward, next_due, targets};
-
-#[cfg(test)]
-mod tests;

@@ -17,6 +17,3 @@ pub use keeping::store_disks;
 pub fn all_parts_are_counted()
     ensures { AllPartsAreCounted }
 {}
-
-#[cfg(test)]
-mod tests;

@@ -14,6 +14,3 @@ pub use place::Place;
 pub fn blocks_make_file()
     ensures { BlocksMakeFile }
 {}
-
-#[cfg(test)]
-mod tests;

@@ -1,4 +1,5 @@
-//! Tests of what cubs do, by public items alone: the rules on messages, the steps and walks of a tick, the cub as a node.
+//! Tests of what cubs do, by public items alone: the parts that they store, the rules on messages, the steps and walks of a
+//! tick, the cub as a node.
 
 #![tactic(auto)]
 
@@ -10,6 +11,8 @@ mod messages;
 mod samples;
 #[cfg(test)]
 mod steps;
+#[cfg(test)]
+mod stores;
 #[cfg(test)]
 mod texts;
 #[cfg(test)]

@@ -1,4 +1,4 @@
-//! Tests of a ring's nodes, of runs of them by one thread or many, and of a world of them, by
+//! Tests of delays, of links, of a ring's nodes, of runs of them by one thread or many, and of a world of them, by
 //! public items alone.
 
 #![tactic(auto)]
@@ -6,7 +6,11 @@
 #[cfg(test)]
 mod cells;
 #[cfg(test)]
+mod delays;
+#[cfg(test)]
 mod endings;
+#[cfg(test)]
+mod links;
 #[cfg(test)]
 mod lives;
 #[cfg(test)]

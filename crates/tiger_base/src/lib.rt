@@ -19,6 +19,3 @@ pub use number::{
 pub use part::{Part, Span};
 pub use sequence::Sequence;
 pub use tenancy::{Ask, Kind, PieceState, Rec, State, Tag, Tenancy, Want};
-
-#[cfg(test)]
-mod tests;

@@ -9,6 +9,3 @@ mod words;
 pub use disks::write_disks;
 pub use status::{DisksStatus, exit_of, line_of};
 pub use words::{DisksWords, disks_in};
-
-#[cfg(test)]
-mod tests;

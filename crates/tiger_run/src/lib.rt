@@ -15,6 +15,3 @@ pub use status::{Status, exit_of, line_of};
 pub use top::{Ended, refused, tiger, written};
 pub use words::workers_of;
 pub use writing::put_lines;
-
-#[cfg(test)]
-mod tests;

@@ -10,6 +10,3 @@ mod top;
 
 pub use status::{TopStatus, exit_of, line_of};
 pub use top::{TopEnded, tiger_top};
-
-#[cfg(test)]
-mod tests;

@@ -1,0 +1,18 @@
+//! Tests of what the commands read and write, and of how calls of them end, by public items alone.
+
+#![tactic(auto)]
+
+#[cfg(test)]
+mod commands;
+#[cfg(test)]
+mod disks;
+#[cfg(test)]
+mod files;
+#[cfg(test)]
+mod networks;
+#[cfg(test)]
+mod readings;
+#[cfg(test)]
+mod runs;
+#[cfg(test)]
+mod texts;
