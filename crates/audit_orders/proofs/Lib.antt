@@ -1,0 +1,13 @@
+pub mod Walks
+pub mod Timely
+pub mod Firsts
+pub mod Starting
+pub mod Sameness
+pub mod Placing
+pub mod Stopping
+pub mod Following
+pub mod Denying
+pub mod Mailing
+pub mod Posting
+pub mod Delivering
+pub mod Refuting

@@ -1,0 +1,76 @@
+use Rattle.std.proofs.Common.{◌≡◌, ℕ, Bool, true, false, nat_lt, cond, List, [], ◌∷◌, ◌++◌, Some, refl, sym, ap, subst, arith}
+use Rattle.std.specs.Prelude.{◌==◌}
+use Rattle.std.proofs.lemmas.Bool.{eqb-true, false≢true}
+use Rattle.slot_plan.specs.Samples.{small}
+use Rattle.run_facts.specs.Commanded.{Dispatch, starts_sent, starts_ordered}
+use Rattle.run_model.specs.Samples.{ask, ordered}
+use Rattle.audit_orders.specs.Commanding.{starts_due}
+use Rattle.audit_orders.specs.Samples.{start_to}
+use Rattle.audit_orders.proofs.rows.starts.Goals as goal
+
+-- the start that goes to cub 1
+abbrev second : Dispatch
+second = record { to = Some 1; ask = ask; redundant = true }
+
+-- beat 0 is one of ten
+is_early : (beat : ℕ) → (0 == beat) ≡ true → nat_lt beat 10 ≡ true
+is_early beat e = subst (λ (b : ℕ). nat_lt b 10 ≡ true) (eqb-true 0 beat e) refl
+
+both_sent : (d e : Dispatch) (t u : Bool) → (t ≡ true → u ≡ true)
+    → cond t (d ∷ []) [] ++ (cond t (e ∷ []) [] ++ []) ≡ cond u (cond t (d ∷ e ∷ []) [] ++ []) []
+both_sent d e true true h = refl
+both_sent d e true false h = absurd (false≢true (h refl))
+both_sent d e false true h = refl
+both_sent d e false false h = refl
+
+pub returns-clause-sent : goal.returns-clause-sent
+unfolding starts_sent starts_ordered
+returns-clause-sent c beat = both_sent _ _ (0 == beat) (nat_lt beat 10) (is_early beat)
+
+-- which of the two starts stands first
+abbrev flag_of : List Dispatch → Bool
+flag_of [] = true
+flag_of (d ∷ ds) = d.redundant
+
+pub returns-clause-turned : goal.returns-clause-turned
+unfolding starts_sent starts_ordered
+returns-clause-turned c = record {
+  inside = omega arith;
+  beat = 0;
+  before = (starts_due small 10 ordered 0, refl);
+  with_it = λ f. false≢true (sym (ap flag_of f.1));
+}
+
+pub returns-clause-not_sent : goal.returns-clause-not_sent
+unfolding starts_sent starts_ordered
+returns-clause-not_sent c = record {
+  order = record { beat = 0; what = _ };
+  here = refl;
+  early = omega arith;
+  sent = (starts_due small 10 ordered 0, refl);
+  lower = ([], refl);
+  lacks = λ f. let none = f.1 in absurd (cc none);
+}
+
+pub returns-clause-half_sent : goal.returns-clause-half_sent
+unfolding starts_sent starts_ordered
+returns-clause-half_sent c = record {
+  order = record { beat = 0; what = _ };
+  here = refl;
+  early = omega arith;
+  sent = (second ∷ [], refl);
+  lower = (starts_sent small 0 (start_to 0 0 false ∷ []), refl);
+  lacks = λ f. let one = f.1 in absurd (cc one);
+}
+
+one_sent : (d e : Dispatch) (t u : Bool) → (t ≡ true → u ≡ true)
+    → (cond t (d ∷ []) [] ++ []) ++ cond t (e ∷ []) [] ≡ cond u (cond t (d ∷ e ∷ []) [] ++ []) []
+one_sent d e true true h = refl
+one_sent d e true false h = absurd (false≢true (h refl))
+one_sent d e false true h = refl
+one_sent d e false false h = refl
+
+pub returns-clause-not_the_first : goal.returns-clause-not_the_first
+unfolding starts_sent starts_ordered
+returns-clause-not_the_first c h =
+    h.with_it (cond (0 == h.beat) (second ∷ []) [], one_sent _ second (0 == h.beat) (nat_lt h.beat 10) (is_early h.beat))

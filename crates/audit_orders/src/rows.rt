@@ -1,0 +1,73 @@
+//! Worked journals for each walk: where a claim holds of one, and where one breaks it. They stand in contracts of functions
+//! without a body, and not in tests, since a weakened definition must be refused where the crate is checked without its tests.
+ghost use Rattle.std.specs.Prelude.{true, false, [], ◌∷◌, Some, None};
+ghost use Rattle.slot_plan.specs.Conditions.{IsPlan};
+ghost use Rattle.slot_plan.specs.Samples.{small};
+ghost use Rattle.node_kit.specs.declared.course.Kept.{Kept};
+ghost use Rattle.tiger_base.specs.declared.message.Note.TheVariants.{Heartbeat};
+ghost use Rattle.node_kit.specs.declared.journal.What.TheVariants.{Got};
+ghost use Rattle.run_model.specs.Samples.{kept, dying, of_none, ordered, at, sends, gets, later, all};
+ghost use Rattle.audit_orders.specs.Carrying.{IsUncarriedAt};
+ghost use Rattle.audit_orders.specs.declared.carrying.Uncarried.TheVariants as uncarried;
+ghost use Rattle.audit_orders.specs.Commanding.{DecidesStarts, DecidesStops};
+ghost use Rattle.audit_orders.specs.Samples.{writes, start_to, stops_first, stop_in_five, true_time};
+ghost use Rattle.audit_orders.specs.Timing.{DecidesTimed, IsFirstPair};
+ghost use Rattle.audit_orders.specs.declared.commanding.Uncommanded.TheVariants as un;
+ghost use Rattle.audit_orders.specs.declared.flaw.Flaw.TheVariants as flaw;
+ghost use Rattle.audit_orders.specs.declared.timing.Untimed.TheVariants as untimed;
+
+/// Runs of ten beats, in which a reading may be 4 milliseconds late. Cub 0 writes in beats 2, 3 and 4, the second time in
+/// time or a micro too late; or it was to die in beat 4, and writes nothing.
+pub fn timing()
+    ensures in_time { (k : Kept) (p : IsPlan small) → DecidesTimed
+        (kept k p 10 of_none [] (writes 2 20000 ∷ writes 3 34000 ∷ writes 4 40000 ∷ [])) None }
+    ensures late { (k : Kept) (p : IsPlan small) → DecidesTimed
+        (kept k p 10 of_none [] (writes 2 20000 ∷ writes 3 34001 ∷ writes 4 40000 ∷ []))
+        (Some (untimed.Journal (record { 0 = 0 }) (flaw.Entry 1))) }
+    ensures not_the_next { (k : Kept) (p : IsPlan small) → DecidesTimed
+        (kept k p 10 of_none [] (writes 2 20000 ∷ writes 3 34001 ∷ writes 4 40000 ∷ []))
+        (Some (untimed.Journal (record { 0 = 0 }) (flaw.Entry 2))) → ⊥ }
+    ensures no_death { (k : Kept) (p : IsPlan small) → DecidesTimed
+        (kept k p 10 (dying (Some 4) None None) [] [])
+        (Some (untimed.Journal (record { 0 = 0 }) flaw.Missing)) }
+{}
+
+/// Cub 0 dies, and cub 1 or cub 7 besides: cubs 7 and 0 stand side by side too.
+pub fn neighbours()
+    ensures first_two { (k : Kept) (p : IsPlan small) → IsFirstPair
+        (kept k p 10 (dying (Some 5) (Some 4) None) [] []).course 0 }
+    ensures last_and_first { (k : Kept) (p : IsPlan small) → IsFirstPair
+        (kept k p 10 (dying (Some 5) None (Some 4)) [] []).course 7 }
+{}
+
+/// Instance 0 is to be started in beat 0, from disk 0: the plain start goes to cub 0, and the redundant one to cub 1.
+pub fn starts()
+    ensures sent { DecidesStarts small 10 ordered (start_to 0 0 false ∷ start_to 0 1 true ∷ []) None }
+    ensures turned { DecidesStarts small 10 ordered
+        (start_to 0 1 true ∷ start_to 0 0 false ∷ []) (Some (un.Start 0)) }
+    ensures not_sent { DecidesStarts small 10 ordered [] (Some (un.Unsent 0)) }
+    ensures half_sent { DecidesStarts small 10 ordered (start_to 0 0 false ∷ []) (Some (un.Unsent 0)) }
+    ensures not_the_first { DecidesStarts small 10 ordered
+        (start_to 0 0 false ∷ start_to 0 1 true ∷ []) (Some (un.Start 0)) → ⊥ }
+{}
+
+/// Instance 0 is to be stopped in beat 5, and no tenancy of it is known.
+pub fn stops()
+    ensures stopped { DecidesStops small 10 true_time stop_in_five (stops_first 5 ∷ []) None }
+    ensures early { DecidesStops small 10 true_time stop_in_five
+        (stops_first 4 ∷ []) (Some (un.Stop 0)) }
+    ensures again { DecidesStops small 10 true_time stop_in_five
+        (stops_first 5 ∷ stops_first 5 ∷ []) (Some (un.Stop 1)) }
+    ensures not_stopped { DecidesStops small 10 true_time stop_in_five [] (Some (un.Unstopped 0)) }
+{}
+
+/// Runs of ten beats, in which a message takes one beat or two, and cub 0 sends the viewers a heartbeat in beat 3. They get it
+/// in beat 6, or not at all; or cub 5 gets it in their place.
+pub fn carrying()
+    ensures late { (k : Kept) (p : IsPlan small) → IsUncarriedAt (kept k p 10 of_none [] []).course
+        (all (sends 0 3 Heartbeat ∷ gets 0 6 Heartbeat ∷ [])) (uncarried.Got (record { 0 = 17 }) 0) }
+    ensures lost { (k : Kept) (p : IsPlan small) → IsUncarriedAt (kept k p 10 of_none [] []).course
+        (all (sends 0 3 Heartbeat ∷ later 4 ∷ [])) (uncarried.Lost (record { 0 = 0 }) 0) }
+    ensures stray { (k : Kept) (p : IsPlan small) → IsUncarriedAt (kept k p 10 of_none [] []).course
+        (all (at 5 4 (Got (record { 0 = 16 }) Heartbeat) ∷ [])) (uncarried.Stray (record { 0 = 5 }) 0) }
+{}
