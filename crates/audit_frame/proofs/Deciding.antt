@@ -64,9 +64,9 @@ line_more lines i x lt is =
 pub all_lines : (lines : List Line) (i : ℕ) → length lines ≤ i → take i (told_by lines) ≡ told_by lines
 all_lines lines i le = take-map noted_line i lines ∙ ap told_by (take_all i lines le)
 
--- what holds of each line
-pub each_at : (P : Line → Type 0) (lines : List Line) (i : ℕ) (d : Line) → AllByRecursion P lines → i < length lines
-    → P (slice_index_or lines i d)
+-- what holds of each element
+pub each_at : {X : Type 0} (P : X → Type 0) (xs : List X) (i : ℕ) (d : X) → AllByRecursion P xs → i < length xs
+    → P (slice_index_or xs i d)
 each_at P [] i d h lt = absurd (omega (arith, lt))
 each_at P (x ∷ xs) zero d h lt = h.0
 each_at P (x ∷ xs) (suc i) d h lt = each_at P xs i d h.1 (omega (arith, lt))

@@ -1,4 +1,12 @@
 pub mod Deciding
+pub mod Walking
+pub mod Rising
+pub mod Rises
+pub mod Saying
+pub mod Added
+pub mod Joined
+pub mod Seated
+pub mod Spans
 pub mod Tabled
 pub mod Grouped
 pub mod Gathered

@@ -3,3 +3,4 @@ pub mod First
 pub mod Tables
 pub mod Samples
 pub mod Wanted
+pub mod Said

@@ -1,5 +1,5 @@
 -- What tables have under a key.
-use Rattle.std.specs.Prelude.{ℕ, Bool, ◌&&◌, ◌==◌, List, Option}
+use Rattle.std.specs.Prelude.{ℕ, Bool, ◌&&◌, ◌==◌, List, Option, Some, None, if◌then◌else◌}
 use Rattle.std.specs.List.{list_any}
 use Rattle.std.specs.Map.{lookup}
 use Rattle.std.specs.Ordering.{is_eq, nat_cmp, ordering_then}
@@ -42,3 +42,14 @@ mark_under n marks = lookup (λ k. is_eq (nat_cmp n k)) marks
 -- the tenancy of a slot
 abbrev pub seat_under : ℕ → Tenancies → Option Tenancy
 seat_under slot seats = lookup (λ k. is_eq (nat_cmp slot k)) seats
+
+-- a tenancy, unless a test holds of its instance
+abbrev pub unless_by : (ℕ → Bool) → Option Tenancy → Option Tenancy
+unless_by test None = None
+unless_by test (Some t) = if test t.instance.0 then None else Some t
+
+-- the tenancy of a slot after a Put: an instance of which the test holds gets no seat
+abbrev pub seat_by : (ℕ → Bool) → Tenancies → Tenancy → ℕ → Option Tenancy
+seat_by test seats t slot =
+    if test t.instance.0 then seat_under slot seats
+    else if t.slot.0 == slot then Some t else seat_under slot seats

@@ -2,11 +2,14 @@
 //! entries tell.
 #![tactic(auto)]
 
+pub mod laws;
 mod lines;
 pub mod rows;
 mod tables;
 mod wants;
+mod within;
 
 pub use lines::{Line, line_at, lines_of};
 pub use tables::{Asks, Marks, Numbers, Pairs, Seats};
 pub use wants::Wants;
+pub use within::is_within;

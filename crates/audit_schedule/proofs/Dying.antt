@@ -9,6 +9,7 @@ use Rattle.run_facts.specs.Timed.{is_died}
 use Rattle.run_model.specs.Moments.{Moment, next_moment, opening}
 use Rattle.run_claims.specs.Truths.{BeliefsAreTrue, IsTrueBelief}
 use Rattle.audit_frame.specs.Tables.{has_number}
+use Rattle.audit_frame.proofs.Added.{or_none}
 use Rattle.audit_frame.proofs.Deciding.{GoesBySteps}
 use Rattle.audit_schedule.specs.Beliefs.{TellsDead}
 
@@ -30,11 +31,6 @@ none_dead dead e n = sym (ap (has_number n) e)
 and_true : (b : Bool) → (b && true) ≡ b
 and_true true = refl
 and_true false = refl
-
-or_none : (a b : Bool) → (a || (b && false)) ≡ a
-or_none true b = refl
-or_none false true = refl
-or_none false false = refl
 
 pub death_tells : (old new : List ℕ) (m : Moment) (x : Noted) → x.entry.what ≡ what.Died
     → ((n : ℕ) → has_number n new ≡ (has_number n old || (x.node == n))) → TellsDead old m → TellsDead new (next_moment m x)

@@ -1,6 +1,6 @@
 -- Failures are judged by the asks that met a fault before them.
-use Rattle.std.proofs.Common.{◌≡◌, ℕ, ◌+◌, Bool, true, false, ◌&&◌, ◌||◌, IsTrue, nat_le, nat_lt, cond, List, [], ◌∷◌, ◌++◌, refl, sym, ap, subst, ◌∙◌, ⊎_elim, inl, inr}
-use Rattle.std.specs.Prelude.{◌==◌, ◌↔◌, ◌⊎◌}
+use Rattle.std.proofs.Common.{◌≡◌, ℕ, ◌+◌, Bool, true, false, ◌&&◌, ◌||◌, IsTrue, nat_le, nat_lt, cond, List, [], ◌∷◌, ◌++◌, refl, sym, ap, subst, ◌∙◌, ⊎_elim}
+use Rattle.std.specs.Prelude.{◌==◌, ◌↔◌}
 use Rattle.std.specs.List.{list_any}
 use Rattle.std.proofs.lemmas.Bool.{eqb-true, eq-eqb, false≢true, both_ways}
 use Rattle.tiger_base.specs.declared.number.LinkNo.{LinkNo}
@@ -10,7 +10,6 @@ use Rattle.tiger_base.specs.Records.{same_want}
 use Rattle.tiger_base.specs.declared.tenancy.Want.{Want}
 use Rattle.slot_plan.specs.declared.params.Params.{Params}
 use Rattle.node_kit.specs.declared.course.ReadFault.{ReadFault}
-use Rattle.node_kit.specs.declared.journal.Entry.{Entry}
 use Rattle.node_kit.specs.declared.journal.What.{What}
 use Rattle.node_kit.specs.declared.journal.What.TheVariants as what
 use Rattle.run_facts.specs.Order.{Noted, beat_of}
@@ -20,6 +19,7 @@ use Rattle.run_model.proofs.Deliveries.{want_same}
 use Rattle.run_model.proofs.Reflects.{and_both, and_left, and_right, or_either, or_first, or_second, any, at_most, less}
 use Rattle.run_claims.specs.Truths.{FailuresAreTrue, IsTrueFailure, FailsIn, GetsAsk, Lasts, disk_with}
 use Rattle.audit_frame.specs.Wanted.{WantNumbers, has_want}
+use Rattle.audit_frame.proofs.Added.{any_before, any_end, any_more, or_false}
 use Rattle.audit_frame.proofs.Deciding.{GoesBySteps}
 use Rattle.audit_schedule.specs.Failures.{TellsAsks, lasts_at, meets_fault, asks_in_fault, note_in_fault, got_in_fault}
 
@@ -92,21 +92,6 @@ meets p faults n beat other w at asks all = absurd asks
 
 -- ---- one entry more
 
-any_more : (P : Entry → Type 0) (es : List Entry) (e : Entry) → AnyByRecursion P (es ++ e ∷ []) → AnyByRecursion P es ⊎ P e
-any_more P [] e h = ⊎_elim (λ a. inr a) (λ b. absurd b) h
-any_more P (x ∷ xs) e h = ⊎_elim
-    (λ a. inl (inl a))
-    (λ b. ⊎_elim (λ c. inl (inr c)) (λ c. inr c) (any_more P xs e b))
-    h
-
-any_before : (P : Entry → Type 0) (es : List Entry) (e : Entry) → AnyByRecursion P es → AnyByRecursion P (es ++ e ∷ [])
-any_before P [] e h = absurd h
-any_before P (x ∷ xs) e h = ⊎_elim (λ a. inl a) (λ b. inr (any_before P xs e b)) h
-
-any_end : (P : Entry → Type 0) (es : List Entry) (e : Entry) → P e → AnyByRecursion P (es ++ e ∷ [])
-any_end P [] e h = inl h
-any_end P (x ∷ xs) e h = inr (any_end P xs e h)
-
 pub got_tells : (p : Params) (faults : List ReadFault) (old new : WantNumbers) (m : Moment) (x : Noted)
     → ((w : Want) → has_want w new ≡ (has_want w old || got_in_fault p faults x.node (beat_of x) x.entry.what w))
     → TellsAsks p faults old m → TellsAsks p faults new (next_moment m x)
@@ -121,7 +106,7 @@ got_tells p faults old new m x added h w =
           (cond b (m.journal (p.cubs + disk_with p w) ++ x.entry ∷ []) (m.journal (p.cubs + disk_with p w)))
       go true e = (
         (λ t. ⊎_elim
-            (λ a. any_before (FailsIn faults (disk_with p w) w) (m.journal (p.cubs + disk_with p w)) x.entry ((h w).0 a))
+            (λ a. any_before (FailsIn faults (disk_with p w) w) (m.journal (p.cubs + disk_with p w)) (x.entry ∷ []) ((h w).0 a))
             (λ a. any_end (FailsIn faults (disk_with p w) w) (m.journal (p.cubs + disk_with p w)) x.entry
             (met p faults x.node (beat_of x) x.entry.what w a).1)
             (or_either (has_want w old) (got_in_fault p faults x.node (beat_of x) x.entry.what w) t)),
@@ -139,10 +124,6 @@ got_tells p faults old new m x added h w =
             (or_either (has_want w old) (got_in_fault p faults x.node (beat_of x) x.entry.what w) t)),
         (λ t. or_first (has_want w old) (got_in_fault p faults x.node (beat_of x) x.entry.what w) ((h w).1 t)),
       )
-
-or_false : (b : Bool) → (b || false) ≡ b
-or_false true = refl
-or_false false = refl
 
 not_got : (p : Params) (faults : List ReadFault) (n beat : ℕ) (w : What) (want : Want) → ((link : LinkNo) (k : Note) → w ≡ what.Got link k → ⊥)
     → got_in_fault p faults n beat w want ≡ false

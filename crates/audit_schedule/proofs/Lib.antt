@@ -2,9 +2,12 @@ pub mod Fairly
 pub mod Ordered
 pub mod Judged
 pub mod Taken
-pub mod Joined
-pub mod Walking
 pub mod Stopping
 pub mod Dying
 pub mod Failing
 pub mod Saying
+pub mod Paired
+pub mod Turning
+pub mod Timing
+pub mod Serving
+pub mod Marked

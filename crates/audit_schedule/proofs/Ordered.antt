@@ -1,5 +1,5 @@
 -- The table of the orders' asks has the ask of a tenancy exactly if a start that asks for it was ordered.
-use Rattle.std.proofs.Common.{◌≡◌, ℕ, ◌+◌, ◌-◌, ◌<◌, ◌≤◌, Bool, true, false, ◌&&◌, ◌||◌, IsTrue, nat_le, List, [], ◌∷◌, length, take, get_or, refl, sym, ap, subst, ◌∙◌, arith}
+use Rattle.std.proofs.Common.{◌≡◌, ℕ, ◌+◌, ◌-◌, ◌<◌, ◌≤◌, Bool, ◌&&◌, ◌||◌, IsTrue, nat_le, List, [], ◌∷◌, length, take, get_or, refl, sym, ap, subst, ◌∙◌, arith}
 use Rattle.std.specs.Prelude.{◌==◌, ◌↔◌}
 use Rattle.std.specs.List.{list_any}
 use Rattle.std.proofs.lemmas.Bool.{eqb-true, eq-eqb, false≢true}
@@ -17,11 +17,8 @@ use Rattle.node_kit.specs.declared.course.OrderKind.TheVariants as kind
 use Rattle.run_model.specs.Orders.{IsOrdered}
 use Rattle.run_model.proofs.Reflects.{and_both, and_left, and_right, any, at_most}
 use Rattle.audit_frame.specs.Tables.{AskNumbers, has_ask, same_ask}
+use Rattle.audit_frame.proofs.Added.{or_false}
 use Rattle.audit_schedule.specs.Fair.{IsAskedFor, begins_for, AreAsksOf, ask_by}
-
-or_false : (b : Bool) → (b || false) ≡ b
-or_false true = refl
-or_false false = refl
 
 one_ask : (b a : Ask) → IsTrue (same_ask b a) → b ≡ a
 one_ask b a h =

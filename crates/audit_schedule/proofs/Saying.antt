@@ -1,5 +1,5 @@
 -- What is decided of the log of a kept run is decided of its account.
-use Rattle.std.proofs.Common.{◌≡◌, ℕ, zero, suc, ◌+◌, ◌==◌, Bool, true, false, cond, List, [], ◌∷◌, map, filter, Option, Some, None, sym, subst}
+use Rattle.std.proofs.Common.{ℕ, zero, suc, ◌+◌, ◌==◌, Bool, true, false, cond, List, [], ◌∷◌, map, filter, sym, subst}
 use Rattle.std.specs.List.{AllByRecursion}
 use Rattle.node_kit.specs.declared.journal.Entry.{Entry}
 use Rattle.run_facts.specs.Order.{Noted, in_beat, order_from}
@@ -7,16 +7,12 @@ use Rattle.run_facts.proofs.Rows.{all-append}
 use Rattle.run_model.specs.Orders.{PutsAreFair}
 use Rattle.run_claims.specs.Returns.{NobodyComesBack}
 use Rattle.run_claims.specs.Truths.{BeliefsAreTrue, FailuresAreTrue}
-use Rattle.audit_frame.specs.First.{Decides}
+use Rattle.run_claims.specs.Turns.{AreInTurn}
 use Rattle.audit_frame.specs.Lines.{told_by}
+use Rattle.audit_frame.proofs.Saying.{says}
 use Rattle.audit_frame.specs.declared.lines.Line.{Line}
 use Rattle.audit_schedule.specs.Fair.{IsEarlyPut, IsEarlyLine}
-use Rattle.audit_schedule.specs.Verdicts.{SaysOf, PutsOfAccounts, ReturnsOfAccounts, BeliefsOfAccounts, FailuresOfAccounts, AreEarlyJournals, LinesAreEarly}
-
-says : (Claim : List Noted → Type 0) (told log : List Noted) (answer : Option ℕ) → told ≡ log → Decides Claim told answer
-    → SaysOf answer (Claim log)
-says Claim told log None is d = subst Claim is d
-says Claim told log (Some i) is d = λ claim. d.whole (subst Claim (sym is) claim)
+use Rattle.audit_schedule.specs.Verdicts.{PutsOfAccounts, ReturnsOfAccounts, BeliefsOfAccounts, FailuresOfAccounts, TurnsOfAccounts, AreEarlyJournals, LinesAreEarly}
 
 pub puts_of_accounts : PutsOfAccounts
 puts_of_accounts k lines answer a = says (PutsAreFair k.course.plan.params k.orders) _ _ answer a.told a.decided
@@ -29,6 +25,9 @@ beliefs_of_accounts k lines answer a = says BeliefsAreTrue _ _ answer a.told a.d
 
 pub failures_of_accounts : FailuresOfAccounts
 failures_of_accounts k lines answer a = says (FailuresAreTrue k.course.plan.params k.course.faults) _ _ answer a.told a.decided
+
+pub turns_of_accounts : TurnsOfAccounts
+turns_of_accounts k lines answer a = says (AreInTurn k.course.plan.params) _ _ answer a.told a.decided
 
 -- ---- what holds of the entries of all journals holds of those of their order
 

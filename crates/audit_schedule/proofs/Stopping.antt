@@ -1,9 +1,8 @@
 -- What comes after the earliest stop of an instance is judged by it alone.
-use Rattle.std.proofs.Common.{◌≡◌, ℕ, ◌+◌, ◌-◌, ◌*◌, ◌/◌, ◌<◌, ◌≤◌, Bool, true, false, IsTrue, nat_lt, nat_le, cond, List, [], ◌∷◌, ◌++◌, Option, Some, None, refl, sym, ap, subst, ◌∙◌, ⊎_elim, inl, inr, arith}
+use Rattle.std.proofs.Common.{◌≡◌, ℕ, ◌+◌, ◌≤◌, Bool, true, false, IsTrue, nat_lt, nat_le, cond, List, [], ◌∷◌, ◌++◌, Option, Some, None, refl, sym, ap, subst, ◌∙◌, ⊎_elim, arith}
 use Rattle.std.specs.Prelude.{◌==◌, ◌↔◌}
 use Rattle.std.specs.List.{AllByRecursion}
-use Rattle.std.proofs.lemmas.Bool.{eqb-true, eq-eqb, both_ways, ltb-true, lt-ltb, cases_lt}
-use Rattle.std.proofs.lemmas.Nat.{le-div, div-add-mod'}
+use Rattle.std.proofs.lemmas.Bool.{eqb-true, eq-eqb, both_ways, ltb-true}
 use Rattle.tiger_base.specs.declared.number.Instance.{Instance}
 use Rattle.tiger_base.specs.declared.number.LinkNo.{LinkNo}
 use Rattle.tiger_base.specs.declared.message.Note.{Note}
@@ -26,47 +25,14 @@ use Rattle.run_model.specs.Moments.{Moment, next_moment, opening}
 use Rattle.run_model.proofs.Reflects.{at_most}
 use Rattle.run_claims.specs.Returns.{NobodyComesBack, BringsNobodyBack, IsSoonAfterStops, IsWithin}
 use Rattle.audit_frame.specs.Tables.{MarkNumbers, mark_under}
+use Rattle.audit_frame.proofs.Added.{any_before, any_end, not_below}
 use Rattle.audit_frame.proofs.Deciding.{GoesBySteps}
+use Rattle.audit_frame.proofs.Seated.{put_stops}
 use Rattle.audit_schedule.specs.Stops.{TellsStops, IsEarliest, earlier}
-use Rattle.audit_schedule.proofs.Taken.{put_stops}
 
 pub returns_go_by_steps : (p : Params)
     → GoesBySteps (NobodyComesBack p) (λ m x. BringsNobodyBack p m (beat_of x) x.entry.what) next_moment opening
 returns_go_by_steps p log = ((λ h. h), (λ h. h))
-
--- ---- one span
-
-same_test : (a b : Bool) → (IsTrue a → IsTrue b) → (IsTrue b → IsTrue a) → a ≡ b
-same_test true true f g = refl
-same_test true false f g = sym (f refl)
-same_test false true f g = g refl
-same_test false false f g = refl
-
-span_there : (p : Params) (beat stop span : ℕ) → beat - stop ≤ span / p.beat → time_of p beat ≤ time_of p stop + span
-unfolding time_of
-span_there p beat stop span le =
-    let most : beat * p.beat ≤ (stop + span / p.beat) * p.beat = time_mono p beat (stop + span / p.beat) (omega (arith, le)) in
-    let rest = div-add-mod' span p.beat in
-    omega (arith, most, rest)
-
-span_of : (g stop k beat span : ℕ) → beat ≡ stop + k → beat * g ≤ stop * g + span → k * g ≤ span
-span_of g stop k beat span is le =
-    let times : beat * g ≡ (stop + k) * g = ap (λ (n : ℕ). n * g) is in omega (arith, times, le)
-
-span_back : (p : Params) (beat stop span : ℕ) → 1 ≤ p.beat → time_of p beat ≤ time_of p stop + span → beat - stop ≤ span / p.beat
-unfolding time_of
-span_back p beat stop span some le = le-div (beat - stop) span p.beat (omega (arith, some)) (⊎_elim
-    (λ (l : beat < stop).
-    let none : beat - stop ≡ 0 = omega (arith, l) in subst (λ (k : ℕ). k * p.beat ≤ span) (sym none) (omega arith))
-    (λ (g : stop ≤ beat). span_of p.beat stop (beat - stop) beat span (omega (arith, g)) le)
-    (cases_lt beat stop))
-
-pub within_is : (p : Params) (beat stop span : ℕ) → 1 ≤ p.beat
-    → nat_le (beat - stop) (span / p.beat) ≡ nat_le (time_of p beat) (time_of p stop + span)
-within_is p beat stop span some = same_test
-    (nat_le (beat - stop) (span / p.beat)) (nat_le (time_of p beat) (time_of p stop + span))
-    (λ h. (at_most (time_of p beat) (time_of p stop + span)).1 (span_there p beat stop span ((at_most (beat - stop) (span / p.beat)).0 h)))
-    (λ h. (at_most (beat - stop) (span / p.beat)).1 (span_back p beat stop span some ((at_most (time_of p beat) (time_of p stop + span)).0 h)))
 
 -- ---- all stops of an instance, and the earliest
 
@@ -151,14 +117,6 @@ other_note_judged p m beat link other a b = ((λ h. tt), (λ h. refl))
 
 -- ---- one stop more
 
-any_left : (P : Stop → Type 0) (xs ys : List Stop) → AnyByRecursion P xs → AnyByRecursion P (xs ++ ys)
-any_left P [] ys h = absurd h
-any_left P (x ∷ xs) ys h = ⊎_elim (λ a. inl a) (λ b. inr (any_left P xs ys b)) h
-
-any_last : (P : Stop → Type 0) (xs : List Stop) (y : Stop) → P y → AnyByRecursion P (xs ++ y ∷ [])
-any_last P [] y h = inl h
-any_last P (x ∷ xs) y h = inr (any_last P xs y h)
-
 all_of_none : (n beat : ℕ) (stops : List Stop) → AllByRecursion (λ s. s.instance ≡ n → ⊥) stops
     → AllByRecursion (λ s. s.instance ≡ n → beat ≤ s.beat) stops
 all_of_none n beat [] h = tt
@@ -172,12 +130,6 @@ all_lower n beat first (s ∷ ss) le h = (
   all_lower n beat first ss le h.1,
 )
 
-not_below : (beat first : ℕ) → nat_lt beat first ≡ false → first ≤ beat
-not_below beat first t = ⊎_elim
-    (λ (l : beat < first). absurd (both_ways (nat_lt beat first) t (lt-ltb beat first l)))
-    (λ (g : first ≤ beat). g)
-    (cases_lt beat first)
-
 abbrev stop_of : ℕ → ℕ → Stop
 stop_of v beat = record { instance = v; beat = beat }
 
@@ -185,19 +137,19 @@ own_stop : (n v beat : ℕ) (stops : List Stop) (o : Option ℕ) → v ≡ n →
     → IsEarliest n (stops ++ stop_of v beat ∷ []) (Some (earlier o beat))
 own_stop n v beat stops None is h = (
   all-append (λ s. s.instance ≡ n → beat ≤ s.beat) stops (stop_of v beat ∷ []) (all_of_none n beat stops h) ((λ e. omega arith), tt),
-  any_last (λ s. (s.instance ≡ n) × (s.beat ≡ beat)) stops (stop_of v beat) (is, refl),
+  any_end (λ s. (s.instance ≡ n) × (s.beat ≡ beat)) stops (stop_of v beat) (is, refl),
 )
 own_stop n v beat stops (Some first) is h = go (nat_lt beat first) refl where
   go : (b : Bool) → nat_lt beat first ≡ b → IsEarliest n (stops ++ stop_of v beat ∷ []) (Some (cond b beat first))
   go true t = (
     all-append (λ s. s.instance ≡ n → beat ≤ s.beat) stops (stop_of v beat ∷ [])
         (all_lower n beat first stops (let less = ltb-true beat first t in omega (arith, less)) h.0) ((λ e. omega arith), tt),
-    any_last (λ s. (s.instance ≡ n) × (s.beat ≡ beat)) stops (stop_of v beat) (is, refl),
+    any_end (λ s. (s.instance ≡ n) × (s.beat ≡ beat)) stops (stop_of v beat) (is, refl),
   )
   go false t = (
     all-append (λ s. s.instance ≡ n → first ≤ s.beat) stops (stop_of v beat ∷ []) h.0
         ((λ e. not_below beat first t), tt),
-    any_left (λ s. (s.instance ≡ n) × (s.beat ≡ first)) stops (stop_of v beat ∷ []) h.1,
+    any_before (λ s. (s.instance ≡ n) × (s.beat ≡ first)) stops (stop_of v beat ∷ []) h.1,
   )
 
 other_stop : (n v beat : ℕ) (stops : List Stop) (o : Option ℕ) → (v ≡ n → ⊥) → IsEarliest n stops o
@@ -206,7 +158,7 @@ other_stop n v beat stops None ne h =
     all-append (λ s. s.instance ≡ n → ⊥) stops (stop_of v beat ∷ []) h ((λ e. ne e), tt)
 other_stop n v beat stops (Some first) ne h = (
   all-append (λ s. s.instance ≡ n → first ≤ s.beat) stops (stop_of v beat ∷ []) h.0 ((λ e. absurd (ne e)), tt),
-  any_left (λ s. (s.instance ≡ n) × (s.beat ≡ first)) stops (stop_of v beat ∷ []) h.1,
+  any_before (λ s. (s.instance ≡ n) × (s.beat ≡ first)) stops (stop_of v beat ∷ []) h.1,
 )
 
 pub no_stops : (marks : MarkNumbers) → marks ≡ [] → TellsStops marks opening

@@ -1,7 +1,6 @@
 -- What the tables tell after one entry more.
-use Rattle.std.proofs.Common.{◌≡◌, ℕ, Bool, true, false, ◌&&◌, ◌||◌, cond, List, [], ◌∷◌, Option, Some, None, refl, sym, ap, ◌∙◌}
+use Rattle.std.proofs.Common.{◌≡◌, ℕ, Bool, false, ◌&&◌, ◌||◌, List, [], ◌∷◌, refl, sym, ap, ◌∙◌}
 use Rattle.std.specs.Prelude.{◌==◌}
-use Rattle.std.proofs.lemmas.Bool.{eqb-true, eq-eqb, both_ways}
 use Rattle.std.proofs.lemmas.List.Folds.{list_any-append}
 use Rattle.tiger_base.specs.declared.tenancy.Tenancy.{Tenancy}
 use Rattle.tiger_base.specs.declared.number.CubNo.{CubNo}
@@ -12,25 +11,9 @@ use Rattle.run_facts.specs.Order.{Noted, beat_of}
 use Rattle.run_model.specs.Schedule.{Schedule, Stop, is_stopped, unless_of, after_entry, changed}
 use Rattle.run_model.specs.Moments.{Moment, next_moment, opening, is_belief_of, is_put_of}
 use Rattle.audit_frame.specs.Tables.{Tenancies, has_number, has_pair, seat_under}
+use Rattle.audit_frame.proofs.Added.{or_false, or_none}
+use Rattle.audit_frame.proofs.Seated.{put_holder, put_stops, gone_seat}
 use Rattle.audit_schedule.specs.Puts.{TellsPuts, unless_in, seat_after}
-
-or_false : (b : Bool) → (b || false) ≡ b
-or_false true = refl
-or_false false = refl
-
-or_none : (a b : Bool) → (a || (b && false)) ≡ a
-or_none true b = refl
-or_none false true = refl
-or_none false false = refl
-
--- equality of numbers does not know left from right
-turned : (a b : ℕ) → (a == b) ≡ (b == a)
-turned a b = go (a == b) (b == a) refl refl where
-  go : (x y : Bool) → (a == b) ≡ x → (b == a) ≡ y → x ≡ y
-  go true true e f = refl
-  go false false e f = refl
-  go true false e f = absurd (both_ways (b == a) f (eq-eqb b a (sym (eqb-true a b e))))
-  go false true e f = absurd (both_ways (a == b) e (eq-eqb a b (sym (eqb-true b a f))))
 
 -- before the first entry
 pub tells_opening : (seats : Tenancies) (gone puts : List ℕ) (beliefs : List (ℕ × ℕ)) → seats ≡ [] → gone ≡ [] → puts ≡ [] → beliefs ≡ []
@@ -44,31 +27,6 @@ tells_opening seats gone puts beliefs a b c d = rw (a, b, c, d) (record {
 
 -- ---- a Put
 
-put_holder : (s : Schedule) (beat : ℕ) (t : Tenancy) (gone : List ℕ) (seats : Tenancies)
-    → ((slot : ℕ) → s.holder slot ≡ unless_in gone (seat_under slot seats))
-    → is_stopped t.instance.0 s.stops ≡ has_number t.instance.0 gone
-    → (slot : ℕ) → (changed s beat (what.Put t)).holder slot ≡ unless_in gone (seat_after gone seats t slot)
-put_holder s beat t gone seats has stopped slot =
-    go (is_stopped t.instance.0 s.stops) (has_number t.instance.0 gone) refl stopped (t.slot.0 == slot) where
-      own : (here : Bool) → has_number t.instance.0 gone ≡ false
-          → cond here (Some t) (s.holder slot) ≡ unless_in gone (cond here (Some t) (seat_under slot seats))
-      own true e = rw e refl
-      own false e = has slot
-
-      go : (a b : Bool) → has_number t.instance.0 gone ≡ b → a ≡ b → (mine : Bool)
-          → (cond a s (record { holder = λ k. cond (t.slot.0 == k) (Some t) (s.holder k); stops = s.stops })).holder slot
-          ≡ unless_in gone (cond b (seat_under slot seats) (cond (t.slot.0 == slot) (Some t) (seat_under slot seats)))
-      go true true e f mine = has slot
-      go true false e f mine = absurd (both_ways true (sym (sym f)) refl)
-      go false true e f mine = absurd (both_ways true (sym f) refl)
-      go false false e f mine = own (t.slot.0 == slot) e
-
-pub put_stops : (s : Schedule) (beat : ℕ) (t : Tenancy) → (changed s beat (what.Put t)).stops ≡ s.stops
-put_stops s beat t = go (is_stopped t.instance.0 s.stops) where
-  go : (b : Bool) → (cond b s (record { holder = λ k. cond (t.slot.0 == k) (Some t) (s.holder k); stops = s.stops })).stops ≡ s.stops
-  go true = refl
-  go false = refl
-
 pub put_tells : (seats new_seats : Tenancies) (gone puts new_puts : List ℕ) (beliefs : List (ℕ × ℕ)) (m : Moment) (x : Noted) (t : Tenancy)
     → x.entry.what ≡ what.Put t
     → ((k : ℕ) → seat_under k new_seats ≡ seat_after gone seats t k)
@@ -78,7 +36,7 @@ unfolding next_moment after_entry
 put_tells seats new_seats gone puts new_puts beliefs m x t is seated put h = record {
   holder = λ slot.
       ap (λ (w : What). (changed m.schedule (beat_of x) w).holder slot) is
-      ∙ put_holder m.schedule (beat_of x) t gone seats h.holder (h.stopped t.instance.0) slot
+      ∙ put_holder m.schedule (beat_of x) t (λ v. has_number v gone) seats h.holder (h.stopped t.instance.0) slot
       ∙ ap (unless_in gone) (sym (seated slot));
   stopped = λ v.
       ap (λ (w : What). is_stopped v (changed m.schedule (beat_of x) w).stops) is
@@ -93,18 +51,6 @@ put_tells seats new_seats gone puts new_puts beliefs m x t is seated put h = rec
 
 -- ---- a stop
 
-gone_seat : (v : ℕ) (gone new_gone : List ℕ) → ((n : ℕ) → has_number n new_gone ≡ (has_number n gone || (v == n)))
-    → (o : Option Tenancy) → unless_of v (unless_in gone o) ≡ unless_in new_gone o
-gone_seat v gone new_gone set None = refl
-gone_seat v gone new_gone set (Some t) =
-    go (has_number t.instance.0 gone) (v == t.instance.0) (turned t.instance.0 v)
-    ∙ ap (λ (b : Bool). cond b None (Some t)) (sym (set t.instance.0)) where
-      go : (a b : Bool) → (t.instance.0 == v) ≡ b
-          → unless_of v (cond a None (Some t)) ≡ cond (a || b) None (Some t)
-      go true b e = refl
-      go false true e = rw e refl
-      go false false e = rw e refl
-
 pub gone_tells : (seats : Tenancies) (gone new_gone puts : List ℕ) (beliefs : List (ℕ × ℕ)) (m : Moment) (x : Noted) (v : Instance)
     → x.entry.what ≡ what.Gone v
     → ((n : ℕ) → has_number n new_gone ≡ (has_number n gone || (v.0 == n)))
@@ -114,7 +60,7 @@ gone_tells seats gone new_gone puts beliefs m x v is set h = record {
   holder = λ slot.
       ap (λ (w : What). (changed m.schedule (beat_of x) w).holder slot) is
       ∙ ap (unless_of v.0) (h.holder slot)
-      ∙ gone_seat v.0 gone new_gone set (seat_under slot seats);
+      ∙ gone_seat v.0 (λ n. has_number n gone) (λ n. has_number n new_gone) set (seat_under slot seats);
   stopped = λ u.
       ap (λ (w : What). is_stopped u (changed m.schedule (beat_of x) w).stops) is
       ∙ list_any-append (λ stop. stop.instance == u) m.schedule.stops ((record { instance = v.0; beat = beat_of x }) ∷ [])

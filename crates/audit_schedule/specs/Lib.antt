@@ -4,3 +4,4 @@ pub mod Stops
 pub mod Beliefs
 pub mod Failures
 pub mod Verdicts
+pub mod Turns

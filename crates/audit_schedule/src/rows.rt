@@ -5,10 +5,11 @@ ghost use Rattle.std.specs.Prelude.{[], ◌∷◌, Some, None};
 ghost use Rattle.tiger_base.specs.Records.{own_of};
 ghost use Rattle.slot_plan.specs.Samples.{small};
 ghost use Rattle.run_model.specs.Orders.{PutsAreFair};
-ghost use Rattle.run_model.specs.Samples.{put, later, three, ordered, gone, took, dies, believes, asked, fails, want};
+ghost use Rattle.run_model.specs.Samples.{put, later, three, ordered, gone, took, dies, believes, asked, fails, want, gets, sends, block};
 ghost use Rattle.run_claims.specs.Returns.{NobodyComesBack};
 ghost use Rattle.run_claims.specs.Samples.{faulty};
 ghost use Rattle.run_claims.specs.Truths.{BeliefsAreTrue, FailuresAreTrue};
+ghost use Rattle.run_claims.specs.Turns.{AreInTurn};
 ghost use Rattle.audit_frame.specs.First.{Decides};
 
 /// Instance 0 was ordered. Cub 0 puts it into slot 1 in beat 1, and perhaps once more; or in beat 30, when the first visit
@@ -45,4 +46,12 @@ pub fn failures()
         (asked 0 42 (want 0 0 0) ∷ fails 0 44 (want 0 0 0) ∷ []) None }
     ensures behind_it { Decides (FailuresAreTrue small (faulty 0 ∷ []))
         (asked 0 43 (want 0 0 0) ∷ fails 0 44 (want 0 0 0) ∷ later 45 ∷ []) (Some 1) }
+{}
+
+/// The viewers get the block of visit 0 of instance 0; cub 1 sends that of visit 1 a beat later, or in the same beat.
+pub fn turns()
+    ensures a_beat_later { Decides (AreInTurn small)
+        (gets 0 149 (block 0 0 50 0 4) ∷ sends 1 150 (block 0 1 150 4 4) ∷ []) None }
+    ensures in_the_beat { Decides (AreInTurn small)
+        (gets 0 150 (block 0 0 50 0 4) ∷ sends 1 150 (block 0 1 150 4 4) ∷ []) (Some 1) }
 {}

@@ -11,7 +11,7 @@ ghost use Rattle.audit_frame.specs.Lines.{noted_line, told_by};
 ghost use Rattle.audit_frame.specs.Tables.{mark_under};
 ghost use Rattle.audit_schedule.specs.Stops.{TellsStops, earlier};
 
-use audit_frame::{Line, Marks, line_at};
+use audit_frame::{Line, Marks, is_within, line_at};
 use node_kit::What;
 use slot_plan::Plan;
 use std::alloc::Global;
@@ -82,21 +82,6 @@ fn is_soon(plan: &Plan, stops: &Marks, v: Instance, span: Micros, beat: Beat) ->
         Some(stop) => is_within(plan, span, beat, stop),
         None => true,
     }
-}
-
-/// Whether a beat begins within a span after another begins.
-fn is_within(plan: &Plan, span: Micros, beat: Beat, stop: Beat) -> bool
-    ensures { result ≡ nat_le (time_of plan.now.params beat) (time_of plan.now.params stop + span) }
-{
-    let late = beats_behind(beat, stop);
-    late <= span / plan.params.beat
-}
-
-/// How many beats one is behind another.
-fn beats_behind(beat: Beat, other: Beat) -> u64
-    ensures { result ≡ beat - other }
-{
-    beat.saturating_sub(other)
 }
 
 /// Takes one more entry.

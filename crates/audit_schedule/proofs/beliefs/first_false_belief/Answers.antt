@@ -5,7 +5,7 @@ use Rattle.run_model.specs.Moments.{Moment, opening, next_moment}
 use Rattle.run_claims.specs.Truths.{BeliefsAreTrue, IsTrueBelief}
 use Rattle.audit_schedule.specs.Beliefs.{TellsDead}
 use Rattle.audit_schedule.proofs.Dying.{beliefs_go_by_steps, none_dead}
-use Rattle.audit_schedule.proofs.Walking.{state_at, wrong_here, right_here, state_next, all_right}
+use Rattle.audit_frame.proofs.Walking.{state_at, wrong_here, right_here, state_next, all_right}
 use Rattle.audit_schedule.proofs.beliefs.first_false_belief.Goals as goal
 
 abbrev Is : Moment → Noted → Type 0

@@ -7,7 +7,7 @@ use Rattle.run_model.specs.Moments.{Moment, opening, next_moment}
 use Rattle.run_claims.specs.Truths.{FailuresAreTrue, IsTrueFailure}
 use Rattle.audit_schedule.specs.Failures.{TellsAsks}
 use Rattle.audit_schedule.proofs.Failing.{failures_go_by_steps, no_asks}
-use Rattle.audit_schedule.proofs.Walking.{state_at, wrong_here, right_here, state_next, all_right}
+use Rattle.audit_frame.proofs.Walking.{state_at, wrong_here, right_here, state_next, all_right}
 use Rattle.audit_schedule.proofs.failures.first_false_failure.Goals as goal
 
 abbrev Is : Params → List ReadFault → Moment → Noted → Type 0

@@ -1,7 +1,7 @@
 use Rattle.run_model.specs.Moments.{opening, next_moment}
 use Rattle.run_claims.specs.Truths.{IsTrueFailure}
 use Rattle.audit_schedule.specs.Failures.{TellsAsks}
-use Rattle.audit_schedule.proofs.Walking.{state_at, AreRight}
+use Rattle.audit_frame.proofs.Walking.{state_at, AreRight}
 use Rattle.audit_schedule.proofs.failures.first_false_failure.Given as goal
 
 -- the entries so far report true failures alone, and the set has the asks that met a fault

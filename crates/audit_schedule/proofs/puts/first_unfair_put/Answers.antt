@@ -8,7 +8,7 @@ use Rattle.audit_schedule.specs.Fair.{IsFairSoFar, IsEarlyLine}
 use Rattle.audit_schedule.specs.Puts.{TellsPuts}
 use Rattle.audit_schedule.proofs.Fairly.{puts_go_by_steps}
 use Rattle.audit_schedule.proofs.Taken.{tells_opening}
-use Rattle.audit_schedule.proofs.Walking.{state_at, wrong_here, right_here, state_next, all_right}
+use Rattle.audit_frame.proofs.Walking.{state_at, wrong_here, right_here, state_next, all_right}
 use Rattle.audit_schedule.proofs.puts.first_unfair_put.Goals as goal
 
 pub loop-i-init : goal.loop-i-init

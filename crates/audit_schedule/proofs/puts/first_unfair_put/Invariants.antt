@@ -1,7 +1,7 @@
 use Rattle.run_model.specs.Moments.{opening, next_moment}
 use Rattle.audit_schedule.specs.Fair.{IsFairSoFar}
 use Rattle.audit_schedule.specs.Puts.{TellsPuts}
-use Rattle.audit_schedule.proofs.Walking.{state_at, AreRight}
+use Rattle.audit_frame.proofs.Walking.{state_at, AreRight}
 use Rattle.audit_schedule.proofs.puts.first_unfair_put.Given as goal
 
 -- the entries so far are fair, and the tables tell what they make

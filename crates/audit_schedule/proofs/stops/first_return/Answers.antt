@@ -6,7 +6,7 @@ use Rattle.run_model.specs.Moments.{Moment, opening, next_moment}
 use Rattle.run_claims.specs.Returns.{NobodyComesBack, BringsNobodyBack}
 use Rattle.audit_schedule.specs.Stops.{TellsStops}
 use Rattle.audit_schedule.proofs.Stopping.{returns_go_by_steps, no_stops}
-use Rattle.audit_schedule.proofs.Walking.{state_at, wrong_here, right_here, state_next, all_right}
+use Rattle.audit_frame.proofs.Walking.{state_at, wrong_here, right_here, state_next, all_right}
 use Rattle.audit_schedule.proofs.stops.first_return.Goals as goal
 
 abbrev Is : Params → Moment → Noted → Type 0

@@ -2,7 +2,7 @@ use Rattle.run_facts.specs.Order.{beat_of}
 use Rattle.run_model.specs.Moments.{opening, next_moment}
 use Rattle.run_claims.specs.Returns.{BringsNobodyBack}
 use Rattle.audit_schedule.specs.Stops.{TellsStops}
-use Rattle.audit_schedule.proofs.Walking.{state_at, AreRight}
+use Rattle.audit_frame.proofs.Walking.{state_at, AreRight}
 use Rattle.audit_schedule.proofs.stops.first_return.Given as goal
 
 -- the entries so far bring nobody back, and the marks tell their stops

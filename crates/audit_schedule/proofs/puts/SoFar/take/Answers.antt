@@ -1,7 +1,7 @@
 use Rattle.std.proofs.lemmas.Result.{on_ok_weaker}
 use Rattle.audit_frame.specs.Lines.{noted_line}
 use Rattle.audit_schedule.proofs.Taken.{put_tells, gone_tells, belief_tells, other_tells}
-use Rattle.audit_schedule.proofs.Joined.{both_ok}
+use Rattle.audit_frame.proofs.Joined.{both_ok}
 use Rattle.audit_schedule.proofs.puts.SoFar.take.Goals as goal
 
 pub returns-in-Put : goal.returns-in-Put

@@ -1,0 +1,7 @@
+pub mod Kept
+pub mod Members
+pub mod Steps
+pub mod Taking
+pub mod Judging
+pub mod Bringing
+pub mod Saying

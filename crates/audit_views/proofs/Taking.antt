@@ -1,0 +1,439 @@
+-- What the tables tell after one entry more.
+use Rattle.std.proofs.Common.{◌≡◌, ℕ, ◌-◌, ◌≤◌, Bool, true, false, not, ◌&&◌, ◌||◌, IsTrue, nat_lt, cond, List, [], ◌∷◌, ◌++◌, length, filter, Option, Some, None, is_some, refl, sym, ap, subst, ◌∙◌, arith}
+use Rattle.std.specs.Prelude.{◌==◌}
+use Rattle.std.specs.List.{AllByRecursion, list_any}
+use Rattle.std.proofs.lemmas.Bool.{eqb-true, eq-eqb, false≢true, both_ways}
+use Rattle.std.proofs.lemmas.List.{map-append}
+use Rattle.std.proofs.lemmas.List.Folds.{list_any-append}
+use Rattle.std.proofs.lemmas.List.Sorted.{IsNonDecreasingBy-push}
+use Rattle.tiger_base.specs.declared.number.Instance.{Instance}
+use Rattle.tiger_base.specs.declared.tenancy.Rec.{Rec}
+use Rattle.tiger_base.specs.declared.tenancy.Tenancy.{Tenancy}
+use Rattle.slot_plan.specs.declared.params.Params.{Params}
+use Rattle.node_kit.specs.declared.journal.What.{What}
+use Rattle.node_kit.specs.declared.journal.What.TheVariants as what
+use Rattle.run_facts.specs.Order.{Noted, beat_of}
+use Rattle.run_facts.specs.Timed.{is_died}
+use Rattle.run_facts.proofs.Rows.{all-append, all-map, all-weaker}
+use Rattle.run_model.specs.Schedule.{Schedule, Stop, is_stopped, unless_of, after_entry, changed}
+use Rattle.run_model.specs.Views.{same_record, recorded}
+use Rattle.run_model.specs.Moments.{Moment, next_moment, opening}
+use Rattle.run_model.proofs.Reflects.{and_both, and_left, and_right, any_gives}
+use Rattle.audit_frame.specs.Tables.{MarkNumbers, Tenancies, has_number, mark_under, seat_under, seat_by, unless_by}
+use Rattle.audit_frame.proofs.Added.{any_before, any_end, or_false, or_none}
+use Rattle.audit_frame.proofs.Deciding.{each_at}
+use Rattle.audit_frame.proofs.Seated.{put_holder, put_stops, gone_seat}
+use Rattle.audit_frame.proofs.Spans.{same_test}
+use Rattle.audit_views.specs.Standing.{has_record, held_by, is_same, record_of}
+use Rattle.audit_views.specs.Views.{is_in_view, is_marked, IsLatest, stop_of, TellsSchedule, TellsRecords, TellsViews}
+use Rattle.audit_views.specs.declared.records.Held.{Held}
+use Rattle.audit_views.specs.declared.views.Stopped.{Stopped}
+use Rattle.audit_views.proofs.Kept.{any_filtered, held_itself, one_held, record_again}
+use Rattle.audit_views.proofs.Members.{one_record, record_itself}
+
+-- ---- the schedule
+
+none_stopped : (v : ℕ) (ss : List Stop) → AllByRecursion (λ s. s.instance ≡ v → ⊥) ss → is_stopped v ss ≡ false
+none_stopped v [] h = refl
+none_stopped v (s ∷ ss) h = go (s.instance == v) refl (none_stopped v ss h.1) where
+  go : (b : Bool) → (s.instance == v) ≡ b → is_stopped v ss ≡ false → (b || is_stopped v ss) ≡ false
+  go true e r = absurd (h.0 (eqb-true s.instance v e))
+  go false e r = r
+
+pub stopped_is : (v : ℕ) (ss : List Stop) (o : Option ℕ) → IsLatest v ss o → is_stopped v ss ≡ is_some o
+stopped_is v ss None h = none_stopped v ss h
+stopped_is v ss (Some b) h =
+    any_gives (λ s. (s.instance ≡ v) × (s.beat ≡ b)) (λ s. s.instance == v) (λ s q. eq-eqb s.instance v q.0) ss h.1
+
+early_still : (now soon : ℕ) (kept : List Stopped) → now ≤ soon → AllByRecursion (λ s. s.beat ≤ now) kept
+    → AllByRecursion (λ s. s.beat ≤ soon) kept
+early_still now soon kept le h = all-weaker (λ s. s.beat ≤ now) (λ s. s.beat ≤ soon) kept (λ s q. omega (arith, q, le)) h
+
+still_told : (seats : Tenancies) (marks : MarkNumbers) (kept : List Stopped) (now soon : ℕ) (s t : Schedule) → t ≡ s → now ≤ soon
+    → TellsSchedule seats marks kept now s → TellsSchedule seats marks kept soon t
+still_told seats marks kept now soon s t same le h =
+    subst (λ (q : Schedule). TellsSchedule seats marks kept soon q) (sym same) (record {
+      holder = h.holder;
+      stops = h.stops;
+      rising = h.rising;
+      early = early_still now soon kept le h.early;
+      latest = h.latest;
+    })
+
+put_told : (seats new : Tenancies) (marks : MarkNumbers) (kept : List Stopped) (now soon : ℕ) (s : Schedule) (t : Tenancy)
+    → ((k : ℕ) → seat_under k new ≡ seat_by (is_marked marks) seats t k) → now ≤ soon → TellsSchedule seats marks kept now s
+    → TellsSchedule new marks kept soon (changed s soon (what.Put t))
+put_told seats new marks kept now soon s t seated le h = record {
+  holder = λ slot.
+      put_holder s soon t (is_marked marks) seats h.holder
+      (stopped_is t.instance.0 s.stops (mark_under t.instance.0 marks) (h.latest t.instance.0)) slot
+      ∙ ap (unless_by (is_marked marks)) (sym (seated slot));
+  stops = put_stops s soon t ∙ h.stops;
+  rising = h.rising;
+  early = early_still now soon kept le h.early;
+  latest = λ v. subst (λ (ss : List Stop). IsLatest v ss (mark_under v marks)) (sym (put_stops s soon t)) (h.latest v);
+}
+
+-- ---- a stop more
+
+abbrev stopped : Instance → ℕ → Stopped
+stopped v beat = record { instance = v; beat = beat }
+
+abbrev stop_by : ℕ → ℕ → Stop
+stop_by v beat = record { instance = v; beat = beat }
+
+marked_more : (v soon n : ℕ) (marks new : MarkNumbers) → mark_under n new ≡ cond (v == n) (Some soon) (mark_under n marks)
+    → is_marked new n ≡ (is_marked marks n || (v == n))
+marked_more v soon n marks new set = ap is_some set ∙ go (v == n) (mark_under n marks) where
+  go : (b : Bool) (o : Option ℕ) → is_some (cond b (Some soon) o) ≡ (is_some o || b)
+  go true None = refl
+  go true (Some k) = refl
+  go false None = refl
+  go false (Some k) = refl
+
+own_latest : (n v soon : ℕ) (ss : List Stop) → v ≡ n → AllByRecursion (λ s. s.beat ≤ soon) ss
+    → IsLatest n (ss ++ stop_by v soon ∷ []) (Some soon)
+own_latest n v soon ss is early = (
+  all-append (λ s. s.instance ≡ n → s.beat ≤ soon) ss (stop_by v soon ∷ [])
+      (all-weaker (λ s. s.beat ≤ soon) (λ s. s.instance ≡ n → s.beat ≤ soon) ss (λ s q e. q) early) ((λ e. omega arith), tt),
+  any_end (λ s. (s.instance ≡ n) × (s.beat ≡ soon)) ss (stop_by v soon) (is, refl),
+)
+
+other_latest : (n v soon : ℕ) (ss : List Stop) (o : Option ℕ) → (v ≡ n → ⊥) → IsLatest n ss o
+    → IsLatest n (ss ++ stop_by v soon ∷ []) o
+other_latest n v soon ss None ne h =
+    all-append (λ s. s.instance ≡ n → ⊥) ss (stop_by v soon ∷ []) h ((λ e. ne e), tt)
+other_latest n v soon ss (Some b) ne h = (
+  all-append (λ s. s.instance ≡ n → s.beat ≤ b) ss (stop_by v soon ∷ []) h.0 ((λ e. absurd (ne e)), tt),
+  any_before (λ s. (s.instance ≡ n) × (s.beat ≡ b)) ss (stop_by v soon ∷ []) h.1,
+)
+
+latest_more : (n v soon : ℕ) (ss : List Stop) (o : Option ℕ) (b : Bool) → (v == n) ≡ b → AllByRecursion (λ s. s.beat ≤ soon) ss
+    → IsLatest n ss o → IsLatest n (ss ++ stop_by v soon ∷ []) (cond b (Some soon) o)
+latest_more n v soon ss o true e early h = own_latest n v soon ss (eqb-true v n e) early
+latest_more n v soon ss o false e early h = other_latest n v soon ss o (λ same. both_ways (v == n) e (eq-eqb v n same)) h
+
+gone_told : (seats : Tenancies) (marks new : MarkNumbers) (kept : List Stopped) (now soon : ℕ) (s : Schedule) (v : Instance)
+    → ((n : ℕ) → mark_under n new ≡ cond (v.0 == n) (Some soon) (mark_under n marks)) → now ≤ soon
+    → TellsSchedule seats marks kept now s
+    → TellsSchedule seats new (kept ++ stopped v soon ∷ []) soon (changed s soon (what.Gone v))
+gone_told seats marks new kept now soon s v set le h =
+    let early = early_still now soon kept le h.early in
+    record {
+      holder = λ slot.
+          ap (unless_of v.0) (h.holder slot)
+          ∙ gone_seat v.0 (is_marked marks) (is_marked new) (λ n. marked_more v.0 soon n marks new (set n)) (seat_under slot seats);
+      stops = ap (λ (ss : List Stop). ss ++ stop_by v.0 soon ∷ []) h.stops ∙ sym (map-append stop_of kept (stopped v soon ∷ []));
+      rising = IsNonDecreasingBy-push (λ (q : Stopped). q.beat) kept (stopped v soon) h.rising
+          (λ d some. each_at (λ (q : Stopped). q.beat ≤ soon) kept (length kept - 1) d early (omega (arith, some)));
+      early = all-append (λ (q : Stopped). q.beat ≤ soon) kept (stopped v soon ∷ []) early (omega arith, tt);
+      latest = λ n.
+          subst (λ (o : Option ℕ). IsLatest n (s.stops ++ stop_by v.0 soon ∷ []) o) (sym (set n))
+          (latest_more n v.0 soon s.stops (mark_under n marks) (v.0 == n) refl
+          (subst (λ (ss : List Stop). AllByRecursion (λ q. q.beat ≤ soon) ss) (sym h.stops)
+          (all-map (λ (q : Stop). q.beat ≤ soon) stop_of kept early)) (h.latest n));
+    }
+
+-- ---- which entries change what
+
+abbrev of_schedule : What → Bool
+of_schedule (what.Put t) = true
+of_schedule (what.Gone v) = true
+of_schedule other = false
+
+abbrev pub of_records : What → Bool
+of_records (what.Took r) = true
+of_records (what.Dropped r) = true
+of_records what.Died = true
+of_records other = false
+
+unchanged : (s : Schedule) (beat : ℕ) (w : What) → of_schedule w ≡ false → changed s beat w ≡ s
+unchanged s beat (what.Put t) e = absurd (false≢true (sym e))
+unchanged s beat (what.Gone v) e = absurd (false≢true (sym e))
+unchanged s beat other e = refl
+
+unrecorded : (xs : List Rec) (w : What) → of_records w ≡ false → (recorded xs w ≡ xs) × (is_died w ≡ false)
+unrecorded xs (what.Took r) e = absurd (false≢true (sym e))
+unrecorded xs (what.Dropped r) e = absurd (false≢true (sym e))
+unrecorded xs what.Died e = absurd (false≢true (sym e))
+unrecorded xs other e = (refl, refl)
+
+-- ---- the records
+
+pub same_is : (n c : ℕ) (r q : Rec) → is_same n r c q ≡ ((n == c) && same_record r q)
+same_is n c r q = same_test (is_same n r c q) ((n == c) && same_record r q)
+    (λ h.
+    let e = one_held (held_by n r) (held_by c q) h in
+    let same : r ≡ q = sym (record_again n r) ∙ (ap record_of e ∙ record_again c q) in
+    and_both (n == c) (same_record r q) (eq-eqb n c (ap (λ (k : Held). k.cub) e))
+    (subst (λ (k : Rec). IsTrue (same_record r k)) same (record_itself r)))
+    (λ h.
+    let same = one_record r q (and_right (n == c) (same_record r q) h) in
+    let cub = eqb-true n c (and_left (n == c) (same_record r q) h) in
+    subst (λ (k : ℕ). IsTrue (is_same n r k q)) cub
+    (subst (λ (k : Rec). IsTrue (is_same n r n k)) same (held_itself (held_by n r))))
+
+same_turned : (r q : Rec) → same_record r q ≡ same_record q r
+same_turned r q = same_test (same_record r q) (same_record q r)
+    (λ h. subst (λ (k : Rec). IsTrue (same_record k r)) (one_record r q h) (record_itself r))
+    (λ h. subst (λ (k : Rec). IsTrue (same_record k q)) (one_record q r h) (record_itself q))
+
+-- ---- a record is taken
+
+taken_bits : (low dead a s : Bool) → (((low && not dead) && a) || ((low && not dead) && s)) ≡ ((low && not (dead || false)) && (a || (s || false)))
+taken_bits false dead a s = refl
+taken_bits true true a s = refl
+taken_bits true false true s = refl
+taken_bits true false false true = refl
+taken_bits true false false false = refl
+
+not_taken_bits : (low dead a other : Bool) → (((low && not dead) && a) || (other && false)) ≡ ((low && not (dead || false)) && a)
+not_taken_bits false dead a true = refl
+not_taken_bits false dead a false = refl
+not_taken_bits true true a true = refl
+not_taken_bits true true a false = refl
+not_taken_bits true false true other = refl
+not_taken_bits true false false true = refl
+not_taken_bits true false false false = refl
+
+took_here : (p : Params) (m : Moment) (n c : ℕ) (q r : Rec) (b : Bool) → (n == c) ≡ b
+    → (is_in_view p m c r || ((nat_lt n p.cubs && not (m.dead n)) && (b && same_record q r)))
+    ≡ ((nat_lt c p.cubs && not (m.dead c || (b && false))) && list_any (same_record r) (cond b (m.records c ++ q ∷ []) (m.records c)))
+took_here p m n c q r true e =
+    ap (λ (k : ℕ). is_in_view p m c r || ((nat_lt k p.cubs && not (m.dead k)) && same_record q r)) (eqb-true n c e)
+    ∙ (taken_bits (nat_lt c p.cubs) (m.dead c) (list_any (same_record r) (m.records c)) (same_record q r)
+    ∙ (ap (λ (s : Bool). (nat_lt c p.cubs && not (m.dead c || false)) && (list_any (same_record r) (m.records c) || (s || false))) (same_turned q r)
+    ∙ ap (λ (s : Bool). (nat_lt c p.cubs && not (m.dead c || false)) && s)
+    (sym (list_any-append (same_record r) (m.records c) (q ∷ [])))))
+took_here p m n c q r false e =
+    not_taken_bits (nat_lt c p.cubs) (m.dead c) (list_any (same_record r) (m.records c)) (nat_lt n p.cubs && not (m.dead n))
+
+pub took_told : (p : Params) (gone : List ℕ) (old new : List Held) (m : Moment) (x : Noted) (q : Rec) → x.entry.what ≡ what.Took q
+    → ((c : ℕ) (r : Rec) → has_record c r new
+    ≡ (has_record c r old || ((nat_lt x.node p.cubs && not (has_number x.node gone)) && is_same x.node q c r)))
+    → TellsRecords p gone old m → TellsRecords p gone new (next_moment m x)
+unfolding next_moment
+took_told p gone old new m x q is added h = record {
+  dead = λ n. ap (λ (w : What). m.dead n || ((x.node == n) && is_died w)) is ∙ or_none (m.dead n) (x.node == n) ∙ h.dead n;
+  records = λ c r.
+      added c r
+      ∙ ap (λ (b : Bool). b || ((nat_lt x.node p.cubs && not (has_number x.node gone)) && is_same x.node q c r)) (h.records c r)
+      ∙ ap (λ (b : Bool). is_in_view p m c r || ((nat_lt x.node p.cubs && not b) && is_same x.node q c r)) (sym (h.dead x.node))
+      ∙ ap (λ (b : Bool). is_in_view p m c r || ((nat_lt x.node p.cubs && not (m.dead x.node)) && b)) (same_is x.node c q r)
+      ∙ took_here p m x.node c q r (x.node == c) refl
+      ∙ ap (λ (w : What). (nat_lt c p.cubs && not (m.dead c || ((x.node == c) && is_died w)))
+      && list_any (same_record r) (cond (x.node == c) (recorded (m.records c) w) (m.records c))) (sym is);
+}
+
+-- ---- a record is dropped
+
+dropped_bits : (low dead a s : Bool) → (((low && not dead) && a) && s) ≡ ((low && not (dead || false)) && (a && s))
+dropped_bits false dead a s = refl
+dropped_bits true true a s = refl
+dropped_bits true false a s = refl
+
+not_dropped_bits : (low dead a : Bool) → (((low && not dead) && a) && true) ≡ ((low && not (dead || false)) && a)
+not_dropped_bits false dead a = refl
+not_dropped_bits true true a = refl
+not_dropped_bits true false true = refl
+not_dropped_bits true false false = refl
+
+dropped_here : (p : Params) (m : Moment) (n c : ℕ) (q r : Rec) (b : Bool)
+    → (is_in_view p m c r && not (b && same_record q r))
+    ≡ ((nat_lt c p.cubs && not (m.dead c || (b && false)))
+    && list_any (same_record r) (cond b (filter (λ k. not (same_record q k)) (m.records c)) (m.records c)))
+dropped_here p m n c q r true =
+    dropped_bits (nat_lt c p.cubs) (m.dead c) (list_any (same_record r) (m.records c)) (not (same_record q r))
+    ∙ ap (λ (s : Bool). (nat_lt c p.cubs && not (m.dead c || false)) && s)
+    (sym (any_filtered (same_record r) (λ k. not (same_record q k)) (not (same_record q r)) (m.records c)
+    (λ k e. ap (λ (y : Rec). not (same_record q y)) (sym (one_record r k e)))))
+dropped_here p m n c q r false = not_dropped_bits (nat_lt c p.cubs) (m.dead c) (list_any (same_record r) (m.records c))
+
+pub dropped_told : (p : Params) (gone : List ℕ) (old new : List Held) (m : Moment) (x : Noted) (q : Rec) → x.entry.what ≡ what.Dropped q
+    → ((c : ℕ) (r : Rec) → has_record c r new ≡ (has_record c r old && not (is_same x.node q c r)))
+    → TellsRecords p gone old m → TellsRecords p gone new (next_moment m x)
+unfolding next_moment
+dropped_told p gone old new m x q is removed h = record {
+  dead = λ n. ap (λ (w : What). m.dead n || ((x.node == n) && is_died w)) is ∙ or_none (m.dead n) (x.node == n) ∙ h.dead n;
+  records = λ c r.
+      removed c r
+      ∙ ap (λ (b : Bool). b && not (is_same x.node q c r)) (h.records c r)
+      ∙ ap (λ (b : Bool). is_in_view p m c r && not b) (same_is x.node c q r)
+      ∙ dropped_here p m x.node c q r (x.node == c)
+      ∙ ap (λ (w : What). (nat_lt c p.cubs && not (m.dead c || ((x.node == c) && is_died w)))
+      && list_any (same_record r) (cond (x.node == c) (recorded (m.records c) w) (m.records c))) (sym is);
+}
+
+-- ---- a node dies
+
+died_bits : (low dead a : Bool) → (((low && not dead) && a) && false) ≡ ((low && not (dead || true)) && a)
+died_bits false dead a = refl
+died_bits true true a = refl
+died_bits true false true = refl
+died_bits true false false = refl
+
+died_here : (p : Params) (m : Moment) (c : ℕ) (r : Rec) (b : Bool)
+    → (is_in_view p m c r && not b)
+    ≡ ((nat_lt c p.cubs && not (m.dead c || (b && true))) && list_any (same_record r) (cond b (m.records c) (m.records c)))
+died_here p m c r true = died_bits (nat_lt c p.cubs) (m.dead c) (list_any (same_record r) (m.records c))
+died_here p m c r false = not_dropped_bits (nat_lt c p.cubs) (m.dead c) (list_any (same_record r) (m.records c))
+
+and_true : (b : Bool) → (b && true) ≡ b
+and_true true = refl
+and_true false = refl
+
+pub died_told : (p : Params) (gone later : List ℕ) (old new : List Held) (m : Moment) (x : Noted) → x.entry.what ≡ what.Died
+    → ((n : ℕ) → has_number n later ≡ (has_number n gone || (x.node == n)))
+    → ((c : ℕ) (r : Rec) → has_record c r new ≡ (has_record c r old && not (x.node == c)))
+    → TellsRecords p gone old m → TellsRecords p later new (next_moment m x)
+unfolding next_moment
+died_told p gone later old new m x is more cleared h = record {
+  dead = λ n.
+      ap (λ (w : What). m.dead n || ((x.node == n) && is_died w)) is
+      ∙ ap (λ (b : Bool). m.dead n || b) (and_true (x.node == n))
+      ∙ ap (λ (b : Bool). b || (x.node == n)) (h.dead n) ∙ sym (more n);
+  records = λ c r.
+      cleared c r
+      ∙ ap (λ (b : Bool). b && not (x.node == c)) (h.records c r)
+      ∙ died_here p m c r (x.node == c)
+      ∙ ap (λ (w : What). (nat_lt c p.cubs && not (m.dead c || ((x.node == c) && is_died w)))
+      && list_any (same_record r) (cond (x.node == c) (recorded (m.records c) w) (m.records c))) (sym is);
+}
+
+-- ---- another entry
+
+other_here : (p : Params) (m : Moment) (c : ℕ) (r : Rec) (b : Bool)
+    → is_in_view p m c r
+    ≡ ((nat_lt c p.cubs && not (m.dead c || (b && false))) && list_any (same_record r) (cond b (m.records c) (m.records c)))
+other_here p m c r true = ap (λ (b : Bool). (nat_lt c p.cubs && not b) && list_any (same_record r) (m.records c)) (sym (or_false (m.dead c)))
+other_here p m c r false = ap (λ (b : Bool). (nat_lt c p.cubs && not b) && list_any (same_record r) (m.records c)) (sym (or_false (m.dead c)))
+
+pub same_told : (p : Params) (gone : List ℕ) (held : List Held) (m : Moment) (x : Noted) → of_records x.entry.what ≡ false
+    → TellsRecords p gone held m → TellsRecords p gone held (next_moment m x)
+unfolding next_moment
+same_told p gone held m x e h = record {
+  dead = λ n. ap (λ (b : Bool). m.dead n || ((x.node == n) && b)) (unrecorded [] x.entry.what e).1
+      ∙ or_none (m.dead n) (x.node == n) ∙ h.dead n;
+  records = λ c r.
+      h.records c r
+      ∙ other_here p m c r (x.node == c)
+      ∙ ap (λ (b : Bool). (nat_lt c p.cubs && not (m.dead c || ((x.node == c) && b)))
+      && list_any (same_record r) (cond (x.node == c) (m.records c) (m.records c))) (sym (unrecorded [] x.entry.what e).1)
+      ∙ ap (λ (xs : List Rec). (nat_lt c p.cubs && not (m.dead c || ((x.node == c) && is_died x.entry.what)))
+      && list_any (same_record r) (cond (x.node == c) xs (m.records c))) (sym (unrecorded (m.records c) x.entry.what e).0);
+}
+
+-- ---- all tables, for each kind of entry
+
+pub put_taken : (p : Params) (seats new : Tenancies) (marks : MarkNumbers) (kept : List Stopped) (gone : List ℕ) (held : List Held)
+    (now : ℕ) (m : Moment) (x : Noted) (t : Tenancy) → x.entry.what ≡ what.Put t
+    → ((k : ℕ) → seat_under k new ≡ seat_by (is_marked marks) seats t k)
+    → TellsViews p seats marks kept gone held now m → m.beat ≤ beat_of x
+    → TellsViews p new marks kept gone held (beat_of x) (next_moment m x)
+unfolding next_moment after_entry
+put_taken p seats new marks kept gone held now m x t is seated h le = record {
+  beat = refl;
+  schedule = subst (λ (w : What). TellsSchedule new marks kept (beat_of x) (changed m.schedule (beat_of x) w)) (sym is)
+      (put_told seats new marks kept now (beat_of x) m.schedule t seated (let b = h.beat in omega (arith, b, le)) h.schedule);
+  records = same_told p gone held m x (ap of_records is) h.records;
+}
+
+pub gone_taken : (p : Params) (seats : Tenancies) (marks new : MarkNumbers) (kept more : List Stopped) (gone : List ℕ) (held : List Held)
+    (now : ℕ) (m : Moment) (x : Noted) (v : Instance) → x.entry.what ≡ what.Gone v
+    → ((n : ℕ) → mark_under n new ≡ cond (v.0 == n) (Some (beat_of x)) (mark_under n marks))
+    → more ≡ kept ++ stopped v (beat_of x) ∷ []
+    → TellsViews p seats marks kept gone held now m → m.beat ≤ beat_of x
+    → TellsViews p seats new more gone held (beat_of x) (next_moment m x)
+unfolding next_moment after_entry
+gone_taken p seats marks new kept more gone held now m x v is set pushed h le = record {
+  beat = refl;
+  schedule = subst (λ (w : What). TellsSchedule seats new more (beat_of x) (changed m.schedule (beat_of x) w)) (sym is)
+      (subst (λ (ss : List Stopped). TellsSchedule seats new ss (beat_of x) (changed m.schedule (beat_of x) (what.Gone v))) (sym pushed)
+      (gone_told seats marks new kept now (beat_of x) m.schedule v set (let b = h.beat in omega (arith, b, le)) h.schedule));
+  records = same_told p gone held m x (ap of_records is) h.records;
+}
+
+records_taken : (p : Params) (seats : Tenancies) (marks : MarkNumbers) (kept : List Stopped) (gone later : List ℕ) (held new : List Held)
+    (now : ℕ) (m : Moment) (x : Noted) → of_schedule x.entry.what ≡ false
+    → TellsRecords p later new (next_moment m x)
+    → TellsViews p seats marks kept gone held now m → m.beat ≤ beat_of x
+    → TellsViews p seats marks kept later new (beat_of x) (next_moment m x)
+unfolding next_moment after_entry
+records_taken p seats marks kept gone later held new now m x e told h le = record {
+  beat = refl;
+  schedule = still_told seats marks kept now (beat_of x) m.schedule (changed m.schedule (beat_of x) x.entry.what)
+      (unchanged m.schedule (beat_of x) x.entry.what e) (let b = h.beat in omega (arith, b, le)) h.schedule;
+  records = told;
+}
+
+pub took_taken : (p : Params) (seats : Tenancies) (marks : MarkNumbers) (kept : List Stopped) (gone : List ℕ) (held new : List Held)
+    (now : ℕ) (m : Moment) (x : Noted) (q : Rec) → x.entry.what ≡ what.Took q
+    → ((c : ℕ) (r : Rec) → has_record c r new
+    ≡ (has_record c r held || ((nat_lt x.node p.cubs && not (has_number x.node gone)) && is_same x.node q c r)))
+    → TellsViews p seats marks kept gone held now m → m.beat ≤ beat_of x
+    → TellsViews p seats marks kept gone new (beat_of x) (next_moment m x)
+took_taken p seats marks kept gone held new now m x q is added h le =
+    records_taken p seats marks kept gone gone held new now m x (ap of_schedule is)
+    (took_told p gone held new m x q is added h.records) h le
+
+pub dropped_taken : (p : Params) (seats : Tenancies) (marks : MarkNumbers) (kept : List Stopped) (gone : List ℕ) (held new : List Held)
+    (now : ℕ) (m : Moment) (x : Noted) (q : Rec) → x.entry.what ≡ what.Dropped q
+    → ((c : ℕ) (r : Rec) → has_record c r new ≡ (has_record c r held && not (is_same x.node q c r)))
+    → TellsViews p seats marks kept gone held now m → m.beat ≤ beat_of x
+    → TellsViews p seats marks kept gone new (beat_of x) (next_moment m x)
+dropped_taken p seats marks kept gone held new now m x q is removed h le =
+    records_taken p seats marks kept gone gone held new now m x (ap of_schedule is)
+    (dropped_told p gone held new m x q is removed h.records) h le
+
+pub died_taken : (p : Params) (seats : Tenancies) (marks : MarkNumbers) (kept : List Stopped) (gone later : List ℕ) (held new : List Held)
+    (now : ℕ) (m : Moment) (x : Noted) → x.entry.what ≡ what.Died
+    → ((n : ℕ) → has_number n later ≡ (has_number n gone || (x.node == n)))
+    → ((c : ℕ) (r : Rec) → has_record c r new ≡ (has_record c r held && not (x.node == c)))
+    → TellsViews p seats marks kept gone held now m → m.beat ≤ beat_of x
+    → TellsViews p seats marks kept later new (beat_of x) (next_moment m x)
+died_taken p seats marks kept gone later held new now m x is more cleared h le =
+    records_taken p seats marks kept gone later held new now m x (ap of_schedule is)
+    (died_told p gone later held new m x is more cleared h.records) h le
+
+other_kind : (w : What) → ((t : Tenancy) → w ≡ what.Put t → ⊥) → ((v : Instance) → w ≡ what.Gone v → ⊥)
+    → ((r : Rec) → w ≡ what.Took r → ⊥) → ((r : Rec) → w ≡ what.Dropped r → ⊥) → (w ≡ what.Died → ⊥)
+    → (of_schedule w ≡ false) × (of_records w ≡ false)
+other_kind (what.Put t) a b c d e = absurd (a t refl)
+other_kind (what.Gone v) a b c d e = absurd (b v refl)
+other_kind (what.Took r) a b c d e = absurd (c r refl)
+other_kind (what.Dropped r) a b c d e = absurd (d r refl)
+other_kind what.Died a b c d e = absurd (e refl)
+other_kind other a b c d e = (refl, refl)
+
+pub other_taken : (p : Params) (seats : Tenancies) (marks : MarkNumbers) (kept : List Stopped) (gone : List ℕ) (held : List Held)
+    (now : ℕ) (m : Moment) (x : Noted) → ((t : Tenancy) → x.entry.what ≡ what.Put t → ⊥)
+    → ((v : Instance) → x.entry.what ≡ what.Gone v → ⊥) → ((r : Rec) → x.entry.what ≡ what.Took r → ⊥)
+    → ((r : Rec) → x.entry.what ≡ what.Dropped r → ⊥) → (x.entry.what ≡ what.Died → ⊥)
+    → TellsViews p seats marks kept gone held now m → m.beat ≤ beat_of x
+    → TellsViews p seats marks kept gone held (beat_of x) (next_moment m x)
+other_taken p seats marks kept gone held now m x a b c d e h le =
+    let kind = other_kind x.entry.what a b c d e in
+    records_taken p seats marks kept gone gone held held now m x kind.0 (same_told p gone held m x kind.1 h.records) h le
+
+-- ---- before the first entry
+
+nowhere : (b : Bool) → false ≡ ((b && true) && false)
+nowhere true = refl
+nowhere false = refl
+
+pub nothing_told : (p : Params) → TellsRecords p [] [] opening
+nothing_told p = record { dead = λ n. refl; records = λ c r. nowhere (nat_lt c p.cubs) }
+
+pub tells_opening : (p : Params) (seats : Tenancies) (marks : MarkNumbers) (kept : List Stopped) (gone : List ℕ) (held : List Held) (now : ℕ)
+    → seats ≡ [] → marks ≡ [] → kept ≡ [] → gone ≡ [] → held ≡ [] → now ≡ 0 → TellsViews p seats marks kept gone held now opening
+tells_opening p seats marks kept gone held now a b c d e f = rw (a, b, c, d, e, f) (record {
+  beat = refl;
+  schedule = record {
+    holder = λ slot. refl;
+    stops = refl;
+    rising = λ i j q le low. absurd (omega (arith, low));
+    early = tt;
+    latest = λ v. tt;
+  };
+  records = nothing_told p;
+})

@@ -1,0 +1,7 @@
+use Rattle.audit_views.proofs.Judging.{late_judged}
+use Rattle.audit_views.proofs.views.SoFar.are_late_part.Goals as goal
+
+pub returns : goal.returns
+returns c = λ m h.
+    late_judged c.args.plan.now.params _ _ _ _ _ _ m c.args.before c.run_out_in-from.result c.run_out_in-to.result _ c.run_out_in-to.ensures.bound
+    c.run_out_in-from.ensures.split c.run_out_in-to.ensures.split (c.are_all_part.ensures m h) h

@@ -1,0 +1,4 @@
+pub mod Standing
+pub mod Views
+pub mod Local
+pub mod Verdicts

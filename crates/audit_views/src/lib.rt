@@ -1,0 +1,14 @@
+//! Walks along the log of a run that decide whether each cub's view is part of one schedule, and whether what a cub takes and
+//! sends follows from what it has.
+#![tactic(auto)]
+
+mod cubs;
+pub mod laws;
+mod local;
+mod records;
+pub mod rows;
+mod views;
+
+pub use local::first_not_local;
+pub use records::Records;
+pub use views::first_stray_view;
