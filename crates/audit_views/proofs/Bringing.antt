@@ -27,7 +27,7 @@ use Rattle.audit_frame.proofs.Deciding.{GoesBySteps}
 use Rattle.audit_frame.proofs.Spans.{same_test}
 use Rattle.audit_views.specs.Standing.{has_record, is_same}
 use Rattle.audit_views.specs.Local.{BringsAt, TellsBrought, TellsLocal, has_by, is_soon, state_brings, note_brings}
-use Rattle.audit_views.specs.Views.{is_in_view, is_live, TellsRecords}
+use Rattle.audit_views.specs.Views.{is_in_view, is_living_cub, TellsRecords}
 use Rattle.audit_views.specs.declared.records.Held.{Held}
 use Rattle.audit_views.proofs.Members.{lives, one_record, record_itself, stands}
 use Rattle.audit_views.proofs.Taking.{of_records, same_is, same_told, nothing_told, took_told, dropped_told, died_told}
@@ -125,7 +125,7 @@ seen_there p gone held m c k h t =
     let seen : IsTrue (is_in_view p m c k) = sym (h.records c k) ∙ t in
     subst (λ (b : Bool). AnyByRecursion (λ (q : Rec). q ≡ k) (cond b [] (m.records c))) (sym (lives p m c k seen).1)
     (any_found (λ q. q ≡ k) (same_record k) (λ q e. sym (one_record k q e)) (m.records c)
-    (and_right (is_live p m c) (list_any (same_record k) (m.records c)) seen))
+    (and_right (is_living_cub p m c) (list_any (same_record k) (m.records c)) seen))
 
 there_seen : (p : Params) (gone : List ℕ) (held : List Held) (m : Moment) (c : ℕ) (k : Rec) → TellsRecords p gone held m → c < p.cubs
     → AnyByRecursion (λ q. q ≡ k) (view_of m c) → IsTrue (has_record c k held)

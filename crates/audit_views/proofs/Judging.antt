@@ -21,8 +21,8 @@ use Rattle.run_model.proofs.Reflects.{and_both, and_left, and_right, or_either, 
 use Rattle.audit_frame.specs.Tables.{MarkNumbers, Tenancies, mark_under, seat_under, unless_by}
 use Rattle.audit_frame.proofs.Added.{meet, not_below}
 use Rattle.audit_frame.proofs.Spans.{same_test, within_is}
-use Rattle.audit_views.specs.Standing.{held_by, held_cmp, record_of, tenancy_of}
-use Rattle.audit_views.specs.Views.{is_in_view, is_in_time, is_marked, is_of, is_visit_of, is_seated, are_seated, of_instance, IsInstancePart, IsLatest, LateArePart, RunsOut, RunsOutUpTo, Touches, TellsSchedule, TellsViews, stop_of, stops_of}
+use Rattle.audit_views.specs.Standing.{held_by, held_cmp, record_of, tenancy_held}
+use Rattle.audit_views.specs.Views.{is_in_view, is_in_time, is_marked, is_of, is_held_visit, is_seated, are_seated, of_instance, IsInstancePart, IsLatestStop, LateArePart, RunsOut, RunsOutUpTo, Touches, TellsSchedule, TellsViews, told_stop, stops_of}
 use Rattle.audit_views.specs.declared.records.Held.{Held}
 use Rattle.audit_views.specs.declared.views.Stopped.{Stopped}
 use Rattle.audit_views.proofs.Kept.{held_again, held_itself, one_held}
@@ -36,7 +36,7 @@ in_time_later p beat one other le h =
     let times = time_mono p one other le in
     (at_most (time_of p beat) (time_of p other + p.play)).1 (omega (arith, early, times))
 
-just_by_latest : (p : Params) (m : Moment) (v stop : ℕ) → IsLatest v m.schedule.stops (Some stop)
+just_by_latest : (p : Params) (m : Moment) (v stop : ℕ) → IsLatestStop v m.schedule.stops (Some stop)
     → was_just_stopped p m v ≡ is_in_time p m.beat stop
 just_by_latest p m v stop h = same_test (was_just_stopped p m v) (is_in_time p m.beat stop)
     (λ t. meet (λ s. IsTrue (is_stop_in_time p m.beat v s)) (λ s. s.instance ≡ v → s.beat ≤ stop) (IsTrue (is_in_time p m.beat stop))
@@ -48,7 +48,7 @@ just_by_latest p m v stop h = same_test (was_just_stopped p m v) (is_in_time p m
     (λ s q. and_both (s.instance == v) (is_in_time p m.beat s.beat) (eq-eqb s.instance v q.0)
     (subst (λ (b : ℕ). IsTrue (is_in_time p m.beat b)) (sym q.1) t)) m.schedule.stops h.1)
 
-not_just : (p : Params) (m : Moment) (v : ℕ) → IsLatest v m.schedule.stops None → IsTrue (was_just_stopped p m v) → ⊥
+not_just : (p : Params) (m : Moment) (v : ℕ) → IsLatestStop v m.schedule.stops None → IsTrue (was_just_stopped p m v) → ⊥
 not_just p m v h t = meet (λ s. IsTrue (is_stop_in_time p m.beat v s)) (λ s. s.instance ≡ v → ⊥) ⊥ m.schedule.stops
     (λ s q other. other (eqb-true s.instance v (and_left (s.instance == v) (is_in_time p m.beat s.beat) q)))
     (any_found (λ s. IsTrue (is_stop_in_time p m.beat v s)) (is_stop_in_time p m.beat v) (λ s q. q) m.schedule.stops t) h
@@ -126,7 +126,7 @@ pub may_stand_judged : (p : Params) (seats : Tenancies) (marks : MarkNumbers) (k
     → IsTrue r ↔ (IsTrue (is_in_time p now stop) ⊎ (of_instance v held ≡ []))
     → TellsViews p seats marks kept gone held now m → IsTrue r ↔ IsInstancePart p m v
 may_stand_judged p seats marks kept gone held now m v stop r marked judged h =
-    let latest : IsLatest v m.schedule.stops (Some stop) = subst (IsLatest v m.schedule.stops) marked (h.schedule.latest v) in
+    let latest : IsLatestStop v m.schedule.stops (Some stop) = subst (IsLatestStop v m.schedule.stops) marked (h.schedule.latest v) in
     let just : was_just_stopped p m v ≡ is_in_time p now stop =
     just_by_latest p m v stop latest ∙ ap (λ (b : ℕ). is_in_time p b stop) (sym h.beat) in (
       (λ t. ⊎_elim
@@ -142,10 +142,10 @@ may_stand_judged p seats marks kept gone held now m v stop r marked judged h =
     nowhere late part k among own =
         let is = eqb-true k.instance v own in
         ⊎_elim
-        (λ has. stopped_holds_none p seats marks kept now m.schedule stop (tenancy_of k) h.schedule
+        (λ has. stopped_holds_none p seats marks kept now m.schedule stop (tenancy_held k) h.schedule
         (subst (λ (n : ℕ). mark_under n marks ≡ Some stop) (sym is) marked) has.holder)
         (λ just. both_ways (is_in_time p now stop) late
-        (sym (just_by_latest p m v stop (subst (IsLatest v m.schedule.stops) marked (h.schedule.latest v))
+        (sym (just_by_latest p m v stop (subst (IsLatestStop v m.schedule.stops) marked (h.schedule.latest v))
         ∙ ap (λ (b : ℕ). is_in_time p b stop) (sym h.beat)) ∙ subst (λ (n : ℕ). IsTrue (was_just_stopped p m n)) is just))
         (part k.cub (record_of k) (in_its_view p seats marks kept gone held now m h k among) is)
 
@@ -156,7 +156,7 @@ may_stand_judged p seats marks kept gone held now m v stop r marked judged h =
 
 -- ---- one that was not stopped
 
-one_visit : (t : Tenancy) (k : Held) → IsTrue (is_of t k) → t ≡ tenancy_of k
+one_visit : (t : Tenancy) (k : Held) → IsTrue (is_of t k) → t ≡ tenancy_held k
 one_visit t k h =
     let a = t.instance.0 == k.instance in
     let b = t.file.0 == k.file in
@@ -179,7 +179,7 @@ one_visit t k h =
       last = last i;
     }
 
-own_visit : (k : Held) → IsTrue (is_of (tenancy_of k) k)
+own_visit : (k : Held) → IsTrue (is_of (tenancy_held k) k)
 own_visit k =
     let a = k.instance == k.instance in
     let b = k.file == k.file in
@@ -195,7 +195,7 @@ own_visit k =
     (eq-eqb k.last k.last refl)
 
 seat_found : (s : Schedule) (marks : MarkNumbers) (o : Option Tenancy) (k : Held) → is_marked marks k.instance ≡ false
-    → s.holder k.slot ≡ unless_by (is_marked marks) o → IsTrue (is_visit_of o k) → HasVisit s (tenancy_of k) k.visit
+    → s.holder k.slot ≡ unless_by (is_marked marks) o → IsTrue (is_held_visit o k) → HasVisit s (tenancy_held k) k.visit
 seat_found s marks None k free holder h = absurd (false≢true h)
 seat_found s marks (Some t) k free holder h =
     let visits = nat_le k.first k.visit && nat_le k.visit k.last in
@@ -203,17 +203,17 @@ seat_found s marks (Some t) k free holder h =
     let rest = and_right (is_of t k) visits h in
     record {
       holder = holder ∙ ap (λ (u : Tenancy). cond (is_marked marks u.instance.0) None (Some u)) same
-          ∙ ap (λ (b : Bool). cond b None (Some (tenancy_of k))) free;
+          ∙ ap (λ (b : Bool). cond b None (Some (tenancy_held k))) free;
       first = (at_most k.first k.visit).0 (and_left (nat_le k.first k.visit) (nat_le k.visit k.last) rest);
       last = (at_most k.visit k.last).0 (and_right (nat_le k.first k.visit) (nat_le k.visit k.last) rest);
     }
 
 seat_given : (s : Schedule) (marks : MarkNumbers) (o : Option Tenancy) (k : Held) → s.holder k.slot ≡ unless_by (is_marked marks) o
-    → HasVisit s (tenancy_of k) k.visit → IsTrue (is_visit_of o k)
+    → HasVisit s (tenancy_held k) k.visit → IsTrue (is_held_visit o k)
 seat_given s marks o k holder h =
-    let is = (nobody_seated marks o (tenancy_of k) (sym holder ∙ h.holder)).0 in
-    subst (λ (q : Option Tenancy). IsTrue (is_visit_of q k)) (sym is)
-    (and_both (is_of (tenancy_of k) k) (nat_le k.first k.visit && nat_le k.visit k.last) (own_visit k)
+    let is = (nobody_seated marks o (tenancy_held k) (sym holder ∙ h.holder)).0 in
+    subst (λ (q : Option Tenancy). IsTrue (is_held_visit q k)) (sym is)
+    (and_both (is_of (tenancy_held k) k) (nat_le k.first k.visit && nat_le k.visit k.last) (own_visit k)
     (and_both (nat_le k.first k.visit) (nat_le k.visit k.last) ((at_most k.first k.visit).1 h.first) ((at_most k.visit k.last).1 h.last)))
 
 pub seated_judged : (p : Params) (seats : Tenancies) (marks : MarkNumbers) (kept : List Stopped) (gone : List ℕ) (held : List Held) (now : ℕ)
@@ -230,7 +230,7 @@ seated_judged p seats marks kept gone held now m v r free judged h = (
       let is = eqb-true k.instance v own in
       ⊎_elim
       (λ has. seat_given m.schedule marks (seat_under k.slot seats) k (h.schedule.holder k.slot) has)
-      (λ just. absurd (not_just p m v (subst (IsLatest v m.schedule.stops) free (h.schedule.latest v))
+      (λ just. absurd (not_just p m v (subst (IsLatestStop v m.schedule.stops) free (h.schedule.latest v))
       (subst (λ (n : ℕ). IsTrue (was_just_stopped p m n)) is just)))
       (part k.cub (record_of k) (in_its_view p seats marks kept gone held now m h k among) is))),
 ) where
@@ -282,13 +282,13 @@ untouched_judged p m touched is = (
 
 -- ---- what runs out
 
-all_stops : (P : Stop → Type 0) (kept : List Stopped) → ((j : ℕ) (d : Stopped) → j < length kept → P (stop_of (slice_index_or kept j d)))
+all_stops : (P : Stop → Type 0) (kept : List Stopped) → ((j : ℕ) (d : Stopped) → j < length kept → P (told_stop (slice_index_or kept j d)))
     → AllByRecursion P (stops_of kept)
 all_stops P [] f = tt
 all_stops P (s ∷ ss) f = (f 0 s (omega arith), all_stops P ss (λ j d low. f (suc j) d (omega (arith, low))))
 
 one_stop : (P : Stop → Type 0) (kept : List Stopped) (j : ℕ) (d : Stopped) → AllByRecursion P (stops_of kept) → j < length kept
-    → P (stop_of (slice_index_or kept j d))
+    → P (told_stop (slice_index_or kept j d))
 one_stop P [] j d h low = absurd (omega (arith, low))
 one_stop P (s ∷ ss) zero d h low = h.0
 one_stop P (s ∷ ss) (suc j) d h low = one_stop P ss j d h.1 (omega (arith, low))

@@ -14,7 +14,7 @@ use Rattle.std.proofs.lemmas.Bool.Decides.{nat_tests}
 use Rattle.tiger_base.specs.declared.tenancy.Kind.{Kind}
 use Rattle.tiger_base.specs.declared.tenancy.Kind.TheVariants.{Own, Backup}
 use Rattle.tiger_base.specs.declared.tenancy.Rec.{Rec}
-use Rattle.audit_views.specs.Standing.{has_record, held_by, held_cmp, is_backup, is_same, kind_by, lowest_of, record_of}
+use Rattle.audit_views.specs.Standing.{has_record, held_by, held_cmp, backs_up, is_same, kind_by, lowest_held, record_of}
 use Rattle.audit_views.specs.declared.records.Held.{Held}
 
 -- ---- numbers in one order are the same numbers
@@ -64,14 +64,14 @@ held_itself a = own_number a.instance _ (own_number a.cub _ (own_number a.file _
     (own_number a.last _ (own_number a.visit _ (own_flag a.backup)))))))
 
 -- a record is that of its numbers, and numbers are those of their record
-kind_again : (k : Kind) → kind_by (is_backup k) ≡ k
+kind_again : (k : Kind) → kind_by (backs_up k) ≡ k
 kind_again Own = refl
 kind_again Backup = refl
 
 pub record_again : (c : ℕ) (r : Rec) → record_of (held_by c r) ≡ r
 record_again c r = ap (λ (k : Kind). record { tenancy = r.tenancy; visit = r.visit; kind = k }) (kind_again r.kind)
 
-flag_again : (b : Bool) → is_backup (kind_by b) ≡ b
+flag_again : (b : Bool) → backs_up (kind_by b) ≡ b
 flag_again true = refl
 flag_again false = refl
 
@@ -175,15 +175,15 @@ least_flag true = refl
 low : (n : ℕ) (rest : Ordering) → is_le rest ≡ true → is_le (ordering_then (nat_cmp 0 n) rest) ≡ true
 low n rest h = le_then (nat_cmp 0 n) rest h ∙ least_number n
 
-from_lowest : (v : ℕ) (h : Held) → is_le (held_cmp (lowest_of v) h) ≡ nat_le v h.instance
+from_lowest : (v : ℕ) (h : Held) → is_le (held_cmp (lowest_held v) h) ≡ nat_le v h.instance
 from_lowest v h =
     le_then (nat_cmp v h.instance) _ (low h.cub _ (low h.file _ (low h.slot _ (low h.first _ (low h.last _ (low h.visit _ (least_flag h.backup)))))))
     ∙ le_is v h.instance
 
 in_between : (v : ℕ) (h : Held)
-    → range_contains held_cmp (Included (lowest_of v)) (Excluded (lowest_of (v + 1))) h ≡ (h.instance == v)
+    → range_contains held_cmp (Included (lowest_held v)) (Excluded (lowest_held (v + 1))) h ≡ (h.instance == v)
 in_between v h =
-    ap (λ (b : Bool). b && not (is_le (held_cmp (lowest_of (v + 1)) h))) (from_lowest v h)
+    ap (λ (b : Bool). b && not (is_le (held_cmp (lowest_held (v + 1)) h))) (from_lowest v h)
     ∙ ap (λ (b : Bool). nat_le v h.instance && not b) (from_lowest (v + 1) h)
     ∙ alike v h.instance
   where
@@ -196,13 +196,13 @@ filter_alike {X} f g (x ∷ xs) h =
     ap (λ (b : Bool). cond b (x ∷ filter f xs) (filter f xs)) (h x)
     ∙ ap (λ (ys : List X). cond (g x) (x ∷ ys) ys) (filter_alike f g xs h)
 
-pub between_instances : (v : ℕ) (lo hi : Held) (keys all : List Held) → lo ≡ lowest_of v → hi ≡ lowest_of (v + 1) → keys ≡ all
+pub between_instances : (v : ℕ) (lo hi : Held) (keys all : List Held) → lo ≡ lowest_held v → hi ≡ lowest_held (v + 1) → keys ≡ all
     → filter (range_contains held_cmp (Included lo) (Excluded hi)) keys ≡ filter (λ h. h.instance == v) all
 between_instances v lo hi keys all is_lo is_hi view =
     ap (λ (ks : List Held). filter (range_contains held_cmp (Included lo) (Excluded hi)) ks) view
     ∙ ap (λ (k : Held). filter (range_contains held_cmp (Included k) (Excluded hi)) all) is_lo
-    ∙ ap (λ (k : Held). filter (range_contains held_cmp (Included (lowest_of v)) (Excluded k)) all) is_hi
-    ∙ filter_alike (range_contains held_cmp (Included (lowest_of v)) (Excluded (lowest_of (v + 1)))) (λ h. h.instance == v) all (in_between v)
+    ∙ ap (λ (k : Held). filter (range_contains held_cmp (Included (lowest_held v)) (Excluded k)) all) is_hi
+    ∙ filter_alike (range_contains held_cmp (Included (lowest_held v)) (Excluded (lowest_held (v + 1)))) (λ h. h.instance == v) all (in_between v)
 
 -- what is first of no records
 pub first_of_none : (o : Option (Bor Held)) (r : Bool) (v : ℕ) (part rest held : List Held) → is_some o ≡ not r

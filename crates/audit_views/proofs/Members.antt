@@ -12,7 +12,7 @@ use Rattle.run_model.specs.Views.{same_kind, same_tenancy, same_record}
 use Rattle.run_model.specs.Moments.{Moment}
 use Rattle.run_model.specs.Parts.{IsPart, ViewsArePart}
 use Rattle.run_model.proofs.Reflects.{and_both, and_left, and_right, or_either, or_first, or_second, negated, less}
-use Rattle.audit_views.specs.Views.{is_live, is_in_view}
+use Rattle.audit_views.specs.Views.{is_living_cub, is_in_view}
 
 -- ---- one record
 
@@ -117,14 +117,14 @@ kept_stood t k (x ∷ xs) h = kept_one t k x xs (k x) (λ a. kept_stood t k xs a
 -- the cub of a view lives
 pub lives : (p : Params) (m : Moment) (c : ℕ) (r : Rec) → IsTrue (is_in_view p m c r) → (c < p.cubs) × (m.dead c ≡ false)
 lives p m c r t =
-    let live = and_left (is_live p m c) (list_any (same_record r) (m.records c)) t in (
+    let live = and_left (is_living_cub p m c) (list_any (same_record r) (m.records c)) t in (
       (less c p.cubs).0 (and_left (nat_lt c p.cubs) (not (m.dead c)) live),
       (negated (m.dead c)).0 (and_right (nat_lt c p.cubs) (not (m.dead c)) live),
     )
 
 pub stands : (p : Params) (m : Moment) (c : ℕ) (r : Rec) → c < p.cubs → m.dead c ≡ false → IsTrue (list_any (same_record r) (m.records c))
     → IsTrue (is_in_view p m c r)
-stands p m c r low alive t = and_both (is_live p m c) (list_any (same_record r) (m.records c))
+stands p m c r low alive t = and_both (is_living_cub p m c) (list_any (same_record r) (m.records c))
     (and_both (nat_lt c p.cubs) (not (m.dead c)) ((less c p.cubs).1 low) ((negated (m.dead c)).1 alive)) t
 
 pub all_part : (p : Params) (m : Moment) → ViewsArePart p m → (c : ℕ) (r : Rec) → IsTrue (is_in_view p m c r)
@@ -133,7 +133,7 @@ all_part p m h c r t =
     let live = lives p m c r t in
     of_members (λ q. IsPart p m q.tenancy q.visit) (m.records c)
     (subst (λ (b : Bool). AllByRecursion (λ q. IsPart p m q.tenancy q.visit) (cond b [] (m.records c))) live.1 (h c live.0))
-    r (and_right (is_live p m c) (list_any (same_record r) (m.records c)) t)
+    r (and_right (is_living_cub p m c) (list_any (same_record r) (m.records c)) t)
 
 pub from_part : (p : Params) (m : Moment) → ((c : ℕ) (r : Rec) → IsTrue (is_in_view p m c r) → IsPart p m r.tenancy r.visit)
     → ViewsArePart p m

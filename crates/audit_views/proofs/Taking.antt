@@ -25,7 +25,7 @@ use Rattle.audit_frame.proofs.Deciding.{each_at}
 use Rattle.audit_frame.proofs.Seated.{put_holder, put_stops, gone_seat}
 use Rattle.audit_frame.proofs.Spans.{same_test}
 use Rattle.audit_views.specs.Standing.{has_record, held_by, is_same, record_of}
-use Rattle.audit_views.specs.Views.{is_in_view, is_marked, IsLatest, stop_of, TellsSchedule, TellsRecords, TellsViews}
+use Rattle.audit_views.specs.Views.{is_in_view, is_marked, IsLatestStop, told_stop, TellsSchedule, TellsRecords, TellsViews}
 use Rattle.audit_views.specs.declared.records.Held.{Held}
 use Rattle.audit_views.specs.declared.views.Stopped.{Stopped}
 use Rattle.audit_views.proofs.Kept.{any_filtered, held_itself, one_held, record_again}
@@ -40,7 +40,7 @@ none_stopped v (s ∷ ss) h = go (s.instance == v) refl (none_stopped v ss h.1) 
   go true e r = absurd (h.0 (eqb-true s.instance v e))
   go false e r = r
 
-pub stopped_is : (v : ℕ) (ss : List Stop) (o : Option ℕ) → IsLatest v ss o → is_stopped v ss ≡ is_some o
+pub stopped_is : (v : ℕ) (ss : List Stop) (o : Option ℕ) → IsLatestStop v ss o → is_stopped v ss ≡ is_some o
 stopped_is v ss None h = none_stopped v ss h
 stopped_is v ss (Some b) h =
     any_gives (λ s. (s.instance ≡ v) × (s.beat ≡ b)) (λ s. s.instance == v) (λ s q. eq-eqb s.instance v q.0) ss h.1
@@ -71,7 +71,7 @@ put_told seats new marks kept now soon s t seated le h = record {
   stops = put_stops s soon t ∙ h.stops;
   rising = h.rising;
   early = early_still now soon kept le h.early;
-  latest = λ v. subst (λ (ss : List Stop). IsLatest v ss (mark_under v marks)) (sym (put_stops s soon t)) (h.latest v);
+  latest = λ v. subst (λ (ss : List Stop). IsLatestStop v ss (mark_under v marks)) (sym (put_stops s soon t)) (h.latest v);
 }
 
 -- ---- a stop more
@@ -92,15 +92,15 @@ marked_more v soon n marks new set = ap is_some set ∙ go (v == n) (mark_under 
   go false (Some k) = refl
 
 own_latest : (n v soon : ℕ) (ss : List Stop) → v ≡ n → AllByRecursion (λ s. s.beat ≤ soon) ss
-    → IsLatest n (ss ++ stop_by v soon ∷ []) (Some soon)
+    → IsLatestStop n (ss ++ stop_by v soon ∷ []) (Some soon)
 own_latest n v soon ss is early = (
   all-append (λ s. s.instance ≡ n → s.beat ≤ soon) ss (stop_by v soon ∷ [])
       (all-weaker (λ s. s.beat ≤ soon) (λ s. s.instance ≡ n → s.beat ≤ soon) ss (λ s q e. q) early) ((λ e. omega arith), tt),
   any_end (λ s. (s.instance ≡ n) × (s.beat ≡ soon)) ss (stop_by v soon) (is, refl),
 )
 
-other_latest : (n v soon : ℕ) (ss : List Stop) (o : Option ℕ) → (v ≡ n → ⊥) → IsLatest n ss o
-    → IsLatest n (ss ++ stop_by v soon ∷ []) o
+other_latest : (n v soon : ℕ) (ss : List Stop) (o : Option ℕ) → (v ≡ n → ⊥) → IsLatestStop n ss o
+    → IsLatestStop n (ss ++ stop_by v soon ∷ []) o
 other_latest n v soon ss None ne h =
     all-append (λ s. s.instance ≡ n → ⊥) ss (stop_by v soon ∷ []) h ((λ e. ne e), tt)
 other_latest n v soon ss (Some b) ne h = (
@@ -109,7 +109,7 @@ other_latest n v soon ss (Some b) ne h = (
 )
 
 latest_more : (n v soon : ℕ) (ss : List Stop) (o : Option ℕ) (b : Bool) → (v == n) ≡ b → AllByRecursion (λ s. s.beat ≤ soon) ss
-    → IsLatest n ss o → IsLatest n (ss ++ stop_by v soon ∷ []) (cond b (Some soon) o)
+    → IsLatestStop n ss o → IsLatestStop n (ss ++ stop_by v soon ∷ []) (cond b (Some soon) o)
 latest_more n v soon ss o true e early h = own_latest n v soon ss (eqb-true v n e) early
 latest_more n v soon ss o false e early h = other_latest n v soon ss o (λ same. both_ways (v == n) e (eq-eqb v n same)) h
 
@@ -123,15 +123,15 @@ gone_told seats marks new kept now soon s v set le h =
       holder = λ slot.
           ap (unless_of v.0) (h.holder slot)
           ∙ gone_seat v.0 (is_marked marks) (is_marked new) (λ n. marked_more v.0 soon n marks new (set n)) (seat_under slot seats);
-      stops = ap (λ (ss : List Stop). ss ++ stop_by v.0 soon ∷ []) h.stops ∙ sym (map-append stop_of kept (stopped v soon ∷ []));
+      stops = ap (λ (ss : List Stop). ss ++ stop_by v.0 soon ∷ []) h.stops ∙ sym (map-append told_stop kept (stopped v soon ∷ []));
       rising = IsNonDecreasingBy-push (λ (q : Stopped). q.beat) kept (stopped v soon) h.rising
           (λ d some. each_at (λ (q : Stopped). q.beat ≤ soon) kept (length kept - 1) d early (omega (arith, some)));
       early = all-append (λ (q : Stopped). q.beat ≤ soon) kept (stopped v soon ∷ []) early (omega arith, tt);
       latest = λ n.
-          subst (λ (o : Option ℕ). IsLatest n (s.stops ++ stop_by v.0 soon ∷ []) o) (sym (set n))
+          subst (λ (o : Option ℕ). IsLatestStop n (s.stops ++ stop_by v.0 soon ∷ []) o) (sym (set n))
           (latest_more n v.0 soon s.stops (mark_under n marks) (v.0 == n) refl
           (subst (λ (ss : List Stop). AllByRecursion (λ q. q.beat ≤ soon) ss) (sym h.stops)
-          (all-map (λ (q : Stop). q.beat ≤ soon) stop_of kept early)) (h.latest n));
+          (all-map (λ (q : Stop). q.beat ≤ soon) told_stop kept early)) (h.latest n));
     }
 
 -- ---- which entries change what

@@ -11,9 +11,9 @@ use Rattle.audit_views.specs.declared.records.Held.{Held}
 
 -- ---- a record of a cub as its numbers
 
-abbrev pub is_backup : Kind → Bool
-is_backup Own = false
-is_backup Backup = true
+abbrev pub backs_up : Kind → Bool
+backs_up Own = false
+backs_up Backup = true
 
 abbrev pub kind_by : Bool → Kind
 kind_by false = Own
@@ -28,12 +28,12 @@ held_by c r = record {
   first = r.tenancy.first;
   last = r.tenancy.last;
   visit = r.visit;
-  backup = is_backup r.kind;
+  backup = backs_up r.kind;
 }
 
 -- the record of these numbers, and its tenancy
-abbrev pub tenancy_of : Held → Tenancy
-tenancy_of h = record {
+abbrev pub tenancy_held : Held → Tenancy
+tenancy_held h = record {
   instance = record { 0 = h.instance };
   file = record { 0 = h.file };
   slot = record { 0 = h.slot };
@@ -42,7 +42,7 @@ tenancy_of h = record {
 }
 
 abbrev pub record_of : Held → Rec
-record_of h = record { tenancy = tenancy_of h; visit = h.visit; kind = kind_by h.backup }
+record_of h = record { tenancy = tenancy_held h; visit = h.visit; kind = kind_by h.backup }
 
 -- ---- which records a set has
 
@@ -63,5 +63,5 @@ abbrev pub has_record : ℕ → Rec → List Held → Bool
 has_record c r records = list_any (λ h. is_eq (held_cmp (held_by c r) h)) records
 
 -- the lowest numbers of an instance
-abbrev pub lowest_of : ℕ → Held
-lowest_of v = record { instance = v; cub = 0; file = 0; slot = 0; first = 0; last = 0; visit = 0; backup = false }
+abbrev pub lowest_held : ℕ → Held
+lowest_held v = record { instance = v; cub = 0; file = 0; slot = 0; first = 0; last = 0; visit = 0; backup = false }

@@ -22,12 +22,12 @@ use Rattle.audit_views.specs.declared.views.Stopped.{Stopped}
 -- ---- views
 
 -- whether a node is a cub that lives
-abbrev pub is_live : Params → Moment → ℕ → Bool
-is_live p m c = nat_lt c p.cubs && not (m.dead c)
+abbrev pub is_living_cub : Params → Moment → ℕ → Bool
+is_living_cub p m c = nat_lt c p.cubs && not (m.dead c)
 
 -- whether the view of a cub has a record
 abbrev pub is_in_view : Params → Moment → ℕ → Rec → Bool
-is_in_view p m c r = is_live p m c && list_any (same_record r) (m.records c)
+is_in_view p m c r = is_living_cub p m c && list_any (same_record r) (m.records c)
 
 -- each record of an instance in a view is part of the schedule
 abbrev pub IsInstancePart : Params → Moment → ℕ → Type 0
@@ -63,11 +63,11 @@ pub record KeepsPart (p : Params) (m : Moment) (x : Noted) : Type 0 where
 -- ---- what a walk keeps
 
 -- a stop, and all stops
-abbrev pub stop_of : Stopped → Stop
-stop_of s = record { instance = s.instance.0; beat = s.beat }
+abbrev pub told_stop : Stopped → Stop
+told_stop s = record { instance = s.instance.0; beat = s.beat }
 
 abbrev pub stops_of : List Stopped → List Stop
-stops_of kept = map stop_of kept
+stops_of kept = map told_stop kept
 
 -- of some stops those before a place have run out in a beat, and no others
 pub record RunsOutUpTo (p : Params) (beat : ℕ) (kept : List Stopped) (place : ℕ) : Type 0 where
@@ -75,9 +75,9 @@ pub record RunsOutUpTo (p : Params) (beat : ℕ) (kept : List Stopped) (place : 
   pub in_time : (j : ℕ) (d : Stopped) → place ≤ j → j < length kept → IsTrue (is_in_time p beat (slice_index_or kept j d).beat)
 
 -- of an instance's stops the latest is of this beat; there is none exactly if the instance was not stopped
-abbrev pub IsLatest : ℕ → List Stop → Option ℕ → Type 0
-IsLatest v stops None = AllByRecursion (λ stop. stop.instance ≡ v → ⊥) stops
-IsLatest v stops (Some beat) =
+abbrev pub IsLatestStop : ℕ → List Stop → Option ℕ → Type 0
+IsLatestStop v stops None = AllByRecursion (λ stop. stop.instance ≡ v → ⊥) stops
+IsLatestStop v stops (Some beat) =
     AllByRecursion (λ stop. stop.instance ≡ v → stop.beat ≤ beat) stops
     × AnyByRecursion (λ stop. (stop.instance ≡ v) × (stop.beat ≡ beat)) stops
 
@@ -91,7 +91,7 @@ pub record TellsSchedule (seats : Tenancies) (marks : MarkNumbers) (kept : List 
   pub stops : s.stops ≡ stops_of kept
   pub rising : IsNonDecreasingBy (λ stop. stop.beat) kept
   pub early : AllByRecursion (λ stop. stop.beat ≤ now) kept
-  pub latest : (v : ℕ) → IsLatest v s.stops (mark_under v marks)
+  pub latest : (v : ℕ) → IsLatestStop v s.stops (mark_under v marks)
 
 -- tables tell who died, and what stands in the views
 pub record TellsRecords (p : Params) (gone : List ℕ) (held : List Held) (m : Moment) : Type 0 where
@@ -112,12 +112,12 @@ abbrev pub is_of : Tenancy → Held → Bool
 is_of t h =
     (t.instance.0 == h.instance) && (t.file.0 == h.file) && (t.slot.0 == h.slot) && (t.first == h.first) && (t.last == h.last)
 
-abbrev pub is_visit_of : Option Tenancy → Held → Bool
-is_visit_of None h = false
-is_visit_of (Some t) h = is_of t h && (nat_le h.first h.visit && nat_le h.visit h.last)
+abbrev pub is_held_visit : Option Tenancy → Held → Bool
+is_held_visit None h = false
+is_held_visit (Some t) h = is_of t h && (nat_le h.first h.visit && nat_le h.visit h.last)
 
 abbrev pub is_seated : Tenancies → Held → Bool
-is_seated seats h = is_visit_of (seat_under h.slot seats) h
+is_seated seats h = is_held_visit (seat_under h.slot seats) h
 
 -- the records of an instance, and whether all of them are so
 abbrev pub of_instance : ℕ → List Held → List Held

@@ -1,7 +1,7 @@
 //! The records that cubs have at a place of a walk, as a set.
 ghost use Rattle.std.specs.Prelude.{◌≡◌, ◌↔◌, ℕ, ◌==◌, ◌&&◌, ◌||◌, not, [], IsTrue, OnOk};
 ghost use Rattle.tiger_base.specs.declared.tenancy.Rec.{Rec};
-ghost use Rattle.audit_views.specs.Standing.{has_record, held_by, is_same, is_backup, lowest_of};
+ghost use Rattle.audit_views.specs.Standing.{has_record, held_by, is_same, backs_up, lowest_held};
 ghost use Rattle.audit_views.specs.Views.{are_seated, is_of, is_seated, of_instance};
 
 use audit_frame::Seats;
@@ -126,7 +126,7 @@ fn is_of(t: &Tenancy, held: &Held) -> bool
 
 /// The lowest numbers of an instance.
 fn first_of(instance: u64) -> Held
-    ensures { result ≡ lowest_of instance }
+    ensures { result ≡ lowest_held instance }
 {
     Held {
         instance,
@@ -151,12 +151,12 @@ fn held_by(cub: NodeNo, r: &Rec) -> Held
         first: r.tenancy.first,
         last: r.tenancy.last,
         visit: r.visit,
-        backup: is_backup(r.kind),
+        backup: backs_up(r.kind),
     }
 }
 
-fn is_backup(kind: Kind) -> bool
-    ensures { result ≡ is_backup kind }
+fn backs_up(kind: Kind) -> bool
+    ensures { result ≡ backs_up kind }
 {
     match kind {
         Kind::Own => false,
