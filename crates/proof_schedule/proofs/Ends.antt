@@ -118,7 +118,7 @@ module _ (p : Params) (r : Facts) (g : Setting p r) where
   end_waiting : {c d x z : ℕ} {t : Tenancy} → r.Put c t x → r.Gone t.instance.0 z
       → r.StoppedWaiting t.instance.0 d z → IsEnd p r t x z t.first
   end_waiting {c} {d} {x} {z} {t} i gone h =
-      let early = g.law.stops.unplaced h i refl in
+      let early = g.early z c d x t h i in
       let timely = put_in_time p g.room r g.law i in
       let m = time_mono p z (x + p.delay + p.delay) (omega arith) in
       let a = time_add p (x + p.delay) p.delay in

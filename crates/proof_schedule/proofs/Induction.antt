@@ -6,6 +6,7 @@ use Rattle.proof_schedule.specs.Facts.{Facts}
 use Rattle.proof_schedule.specs.Laws.{Laws}
 use Rattle.proof_schedule.proofs.Beats.{by_beats}
 use Rattle.proof_schedule.proofs.Conflicts.{no_conflict}
+use Rattle.proof_schedule.proofs.Early.{early_at}
 use Rattle.proof_schedule.proofs.Prefix.{prefix, prefix_laws, prefix_gone, prefix_cut, prefix_sends, prefix_takes, run_takes}
 use Rattle.proof_schedule.proofs.Once.{once_at}
 use Rattle.proof_schedule.proofs.Puts.{free_at, sent_at}
@@ -43,6 +44,8 @@ module _ (p : Params) (r : Facts) (ok : IsPlan p) (law : Laws p r) where
             let wl = w.1 in
             let clean = (below y (omega arith)).clean in
             prefix_takes p room r b (omega arith) (clean c m n t got.0 given let_in);
+        early = λ z c d x t stop put. let l = stop.1 in early_at p ok room r law z
+            (λ y low. (below y (omega arith)).clean) c d x t stop.0 put.0;
       }
 
   -- Then it holds in beat b. There is no conflict in the prefix, so there is none in the run; and
@@ -74,4 +77,5 @@ module _ (p : Params) (r : Facts) (ok : IsPlan p) (law : Laws p r) where
     free = λ b. (always b).free;
     sent = λ b. (always b).sent;
     clean = λ d e y w le. (always y).clean;
+    early = λ z. early_at p ok (room_of p ok) r law z (λ y low. (always y).clean);
   }

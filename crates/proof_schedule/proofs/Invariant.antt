@@ -1,5 +1,5 @@
 -- The invariant, as statements about one beat; and all that holds of a run, in one value.
-use Rattle.std.specs.Prelude.{◌≡◌, ◌≢◌, ℕ, ◌+◌, ◌<◌, ◌≤◌, ◌⊎◌}
+use Rattle.std.specs.Prelude.{◌≡◌, ◌≢◌, ℕ, ◌+◌, ◌*◌, ◌<◌, ◌≤◌, ◌⊎◌}
 use Rattle.tiger_base.specs.declared.tenancy.Tenancy.{Tenancy}
 use Rattle.slot_plan.specs.declared.params.Params.{Params}
 use Rattle.slot_plan.specs.Conditions.{IsPlan}
@@ -44,6 +44,14 @@ module _ (p : Params) (r : Facts) where
       → r.Put c t x → t.first < n → n < t.last → MayOpen p t n b → r.Ticked (cub_of p n) b l
       → IsFirstLife r (cub_of p n) b
       → Sends r (cub_of p n) t (n + 1) b ⊎ Cut p r (cub_of p n) t.instance.0 b
+
+-- What follows from there being no conflict in the beats below.
+module _ (p : Params) (r : Facts) where
+  -- An instance that is stopped at a disk in beat b was put, if at all, less than two longest ways
+  -- before: else the controller would know of the Put, from the cub that put or from the next one.
+  abbrev pub EarlyAt : ℕ → Type 0
+  EarlyAt b = (c d x : ℕ) (t : Tenancy)
+      → r.StoppedWaiting t.instance.0 d b → r.Put c t x → b < x + 2 * p.delay
 
 -- What follows from these in the beat itself, on the way to its own Puts and states.
 module _ (p : Params) (r : Facts) where
@@ -104,3 +112,4 @@ pub record Setting (p : Params) (r : Facts) : Type 0 where
   pub free : (b : ℕ) → FreeAt p r b
   pub sent : (b : ℕ) → SentAt p r b
   pub clean : (c b y : ℕ) → r.Came c b → y < b → NoConflictAt p r y
+  pub early : (b : ℕ) → EarlyAt p r b

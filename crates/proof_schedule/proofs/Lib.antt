@@ -3,6 +3,7 @@ pub mod Beats
 pub mod Beside
 pub mod Conflicts
 pub mod CuttingOn
+pub mod Early
 pub mod Ends
 pub mod Example
 pub mod ExamplePut

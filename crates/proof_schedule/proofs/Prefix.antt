@@ -469,6 +469,11 @@ module _ (p : Params) (room : Room p) (r : Facts) (b : ℕ) where
       };
       waiting = λ w. let k = law.stops.waiting w.0 in record { ask = k.ask; beat = k.beat; begun = k.begun; same = k.same; disk = k.disk };
       unplaced = λ w u same. law.stops.unplaced w.0 u.0 same;
+      unheard = λ w u next same. law.stops.unheard w.0 u.0 next same;
+      up = λ w less small. let l = w.1 in ⊎_elim
+          (λ k. inl (prefix_lived (omega arith) k))
+          (λ k. inr (prefix_died k))
+          (law.stops.up w.0 less small);
     }
 
     -- The links.

@@ -29,6 +29,8 @@ module _ (p : Params) (r : Facts) (none : IsWithoutStops r) where
     place = λ {v} {s} {n} {z} h. absurd (none.at v s n z h);
     waiting = λ {v} {d} {z} h. absurd (none.waiting v d z h);
     unplaced = λ {c} {v} {d} {x} {z} {t} h i same. absurd (none.waiting v d z h);
+    unheard = λ {c} {v} {d} {y} {z} {t} h i next same. absurd (none.waiting v d z h);
+    up = λ {v} {d} {z} {c} {a} h low small. absurd (none.waiting v d z h);
   }
 
   -- and so do the cubs' laws of deschedules.
