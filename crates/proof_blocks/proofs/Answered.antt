@@ -21,6 +21,8 @@ use Rattle.lists.specs.Elements.{In}
 use Rattle.proof_lives.specs.Facts.{TookMessage}
 use Rattle.proof_lives.proofs.Leaving.{stays_or_gone}
 use Rattle.proof_lives.proofs.Moves.{taken_out}
+use Rattle.proof_lives.proofs.Cuts.{whole_before, whole_by_beat}
+use Rattle.proof_lives.proofs.Fitting.{Fits}
 use Rattle.proof_lives.proofs.Order.{beats_rise, behind}
 use Rattle.proof_schedule.specs.Facts.{Facts}
 use Rattle.proof_service.specs.ServiceFacts.{ServiceFacts, IsCutOff}
@@ -38,7 +40,7 @@ use Rattle.proof_blocks.proofs.Tracing.{asking_trail, Trail}
 use Rattle.proof_blocks.proofs.Leaving.{own_arises}
 
 module _ (p : Params) (lives : Lives) (cubs : AreCubs p lives) (disk_at : ℕ → DiskState) (beyond : Beyond)
-    (disks : DisksAnswer p lives disk_at beyond.Came) where
+    (fits : Fits p lives beyond) (disks : DisksAnswer p lives disk_at beyond.Came) where
   abbrev r : Facts
   r = facts_by p lives beyond
 
@@ -89,7 +91,13 @@ module _ (p : Params) (lives : Lives) (cubs : AreCubs p lives) (disk_at : ℕ �
       inr (inl (record {
         beat = q.stamp.beat;
         reading = q.stamp.reading;
-        ticked = record { small = small; at = s.at; done = omega arith; is = q.is };
+        ticked = record {
+          small = small;
+          at = s.at;
+          done = omega arith;
+          is = q.is;
+          whole = whole_before lives c s.at k before done;
+        };
         before = omega arith;
         past = q.past;
       })))
@@ -109,7 +117,12 @@ module _ (p : Params) (lives : Lives) (cubs : AreCubs p lives) (disk_at : ℕ �
       let h : Store = before_reading p c stamp (store_of p lives c i) in
       let may = asking_kept p lives cubs c small i stamp low a.tick.is in
       let disk : ℕ = disk_of_piece p n 0 in
-      let ask = asked_disk p cubs.plan lives a (own_here p lives cubs c small t n x h may there same) in
+      let ei = beat_is p lives cubs c small i (Tick stamp) a.tick.is in
+      let up = (fits.ticks c e came).tick in
+      let eu = beat_is p lives cubs c small up.at (Tick (facts.stamp_of e (fits.ticks c e came).reading)) up.is in
+      let some_delay = cubs.plan.ranges.delay.0 in
+      let whole = whole_by_beat p lives cubs.lived c i up.at small low up.done (omega arith) in
+      let ask = asked_disk p cubs.plan lives a whole (own_here p lives cubs c small t n x h may there same) in
       let g = disks.answered c disk b e (want t n 0) ask came late in
       let after = g.after in
       let in_time = g.in_time in
@@ -117,7 +130,6 @@ module _ (p : Params) (lives : Lives) (cubs : AreCubs p lives) (disk_at : ℕ �
       let soon = g.soon in
       let k : ℕ = g.answer.at in
       let m : Msg = msg.ReadDone (want t n 0) (read_part (disk_at disk) g.taken (want t n 0)) in
-      let ei = beat_is p lives cubs c small i (Tick stamp) a.tick.is in
       let ek = beat_is p lives cubs c small k (Take (facts.stamp_of g.beat g.answer.reading) g.answer.link m)
       g.answer.is in
       let less : i < k = ⊎_elim

@@ -21,12 +21,14 @@ use Rattle.cub_rules.specs.Ticks.{must_read}
 use Rattle.proof_lives.specs.Lives.{Lives}
 use Rattle.run_facts.specs.Events.{is_tick_input}
 use Rattle.proof_lives.specs.Facts.{TickedAt}
+use Rattle.proof_lives.proofs.Cuts.{was_put_out}
+use Rattle.proof_lives.proofs.Fitting.{Fits}
 use Rattle.cub_changes.proofs.Beliefs.{not_true}
 use Rattle.cub_changes.proofs.Numbers.{piece_parts}
 use Rattle.proof_lives.proofs.Inputs.{entered_did}
 use Rattle.proof_lives.proofs.Leaving.{stays_or_stopped}
 use Rattle.lists.proofs.Each.{all_in}
-use Rattle.proof_lives.proofs.Moves.{Stays}
+use Rattle.proof_lives.proofs.Moves.{Stays, taken_out}
 use Rattle.proof_lives.proofs.Order.{beats_rise, not_behind}
 use Rattle.proof_lives.proofs.States.{own_kind}
 use Rattle.proof_schedule.specs.Facts.{Facts, Entered}
@@ -59,7 +61,7 @@ own_record t n Own e = refl
 own_record t n Backup e = absurd (cc)
 
 module _ (p : Params) (lives : Lives) (cubs : AreCubs p lives) (disk_at : ℕ → DiskState) (beyond : Beyond)
-    (came : (c b l : ℕ) → TickedAt p lives c b l → beyond.Came c b) where
+    (fits : Fits p lives beyond) where
   abbrev r : Facts
   r = facts_by p lives beyond
 
@@ -80,7 +82,8 @@ module _ (p : Params) (lives : Lives) (cubs : AreCubs p lives) (disk_at : ℕ �
       let due_is : due p x.rec.tenancy.slot.0 x.rec.visit ≡ due p t.slot.0 n =
       ap (λ (z : Rec). due p z.tenancy.slot.0 z.visit) same in
       let soon = e.2 in
-      there_at p lives cubs c a.tick.small beyond (came c) p.read_lead a.tick x k.2.0 same
+      let c4 = cubs.plan.c4 in
+      there_at p lives cubs c a.tick.small beyond fits p.read_lead (omega arith) a.tick x k.2.0 same
       (λ d j stamp is from low.
       let early = trail_unread p c (lives.input c) (suc i) i x d e.0 e.1 j stamp is from low in
       omega arith)
@@ -157,7 +160,7 @@ module _ (p : Params) (lives : Lives) (cubs : AreCubs p lives) (disk_at : ℕ �
       (λ s. inl (asked_by_tick c b l t n tick (own_stays c (suc i) t n k.0 small (omega arith) here s) soon))
       (λ m. let by = m.2 in inr (inl (record { beat = m.0; reached = m.1; by = omega arith })))
       (stays_or_stopped p cubs.plan lives cubs.lived c j (suc i) i z small (omega arith) (omega arith) low (omega arith)
-      k.1.did)
+      (was_put_out p lives c j (taken_out z) k.1.did))
 
   pub asks_due : {c : ℕ} {t : Tenancy} {n b l : ℕ} → ArisesBy r q c t n 0 b → c ≡ cub_of p (n + 0)
       → TickedAt p lives c b l → l < due p t.slot.0 n → due p t.slot.0 n ≤ l + p.read_lead

@@ -9,7 +9,7 @@ use Rattle.stripe_layout.specs.declared.catalogue.Catalogue.{Catalogue}
 use Rattle.disk_core.specs.State.{DiskState}
 use Rattle.proof_lives.specs.Lives.{Lives, AreLives}
 use Rattle.proof_lives.specs.HoldsHere.{AreAllFormed}
-use Rattle.proof_lives.specs.Facts.{TickedAt}
+use Rattle.proof_lives.proofs.Fitting.{Fits}
 use Rattle.proof_schedule.specs.Facts.{Facts}
 use Rattle.proof_pieces.specs.PieceFacts.{PieceFacts, AsksBy, leave}
 use Rattle.proof_pieces.specs.PieceLaws.{IsThere, WasUndue}
@@ -34,7 +34,7 @@ at_whole : {j : ℕ} (P : ℕ → Type 0) → j ≡ 0 → P 0 → P j
 at_whole P e law = subst P (sym e) law
 
 module _ (p : Params) (lives : Lives) (cubs : AreCubs p lives) (disk_at : ℕ → DiskState) (beyond : Beyond)
-    (came : (c b l : ℕ) → TickedAt p lives c b l → beyond.Came c b)
+    (fits : Fits p lives beyond)
     (disks : DisksAnswer p lives disk_at beyond.Came) where
   abbrev r : Facts
   r = facts_by p lives beyond
@@ -48,12 +48,12 @@ module _ (p : Params) (lives : Lives) (cubs : AreCubs p lives) (disk_at : ℕ �
   asks_of : {c : ℕ} {t : Tenancy} {n j b : ℕ} → j ≡ 0 → q.Asks c t n j b → IsThere p r q c t n j b p.read_lead
   asks_of {c} {t} {n} {j} {b} e =
       at_whole (λ (i : ℕ). q.Asks c t n i b → IsThere p r q c t n i b p.read_lead) e
-      (λ a. asks p lives cubs disk_at beyond came a)
+      (λ a. asks p lives cubs disk_at beyond fits a)
 
   serves_of : {c : ℕ} {t : Tenancy} {n j b : ℕ} → j ≡ 0 → q.Serves c t n j b → IsThere p r q c t n j b 0
   serves_of {c} {t} {n} {j} {b} e =
       at_whole (λ (i : ℕ). q.Serves c t n i b → IsThere p r q c t n i b 0) e
-      (λ a. serves p lives cubs beyond disk_at (came c) a)
+      (λ a. serves p lives cubs beyond disk_at fits a)
 
   asks_due_of : {c : ℕ} {t : Tenancy} {n j b l : ℕ} → j ≡ 0 → ArisesBy r q c t n j b → c ≡ cub_of p (n + j)
       → r.Ticked c b l
@@ -62,13 +62,13 @@ module _ (p : Params) (lives : Lives) (cubs : AreCubs p lives) (disk_at : ℕ �
       at_whole
       (λ (i : ℕ). ArisesBy r q c t n i b → c ≡ cub_of p (n + i) → r.Ticked c b l → l < leave p t n i
       → leave p t n i ≤ l + p.read_lead → AsksBy q c t n i b ⊎ IsCutOff r w c t.instance.0 n b)
-      e (λ a here tick undue soon. asks_due p lives cubs disk_at beyond came a here tick undue soon)
+      e (λ a here tick undue soon. asks_due p lives cubs disk_at beyond fits a here tick undue soon)
 
   answers_of : {c : ℕ} {t : Tenancy} {n j b e : ℕ} → j ≡ 0 → q.Asks c t n j b → r.Came c e → b + 2 * p.delay ≤ e
       → IsAnswered p r w c t n j b
   answers_of {c} {t} {n} {j} {b} {e} z =
       at_whole (λ (i : ℕ). q.Asks c t n i b → r.Came c e → b + 2 * p.delay ≤ e → IsAnswered p r w c t n i b) z
-      (λ a there late. answers p lives cubs disk_at beyond disks a there late)
+      (λ a there late. answers p lives cubs disk_at beyond fits disks a there late)
 
   serves_due_of : {c : ℕ} {t : Tenancy} {n j y b l : ℕ} → j ≡ 0 → w.Stored c t n j y → y ≤ b → r.Ticked c b l
       → leave p t n j ≤ l
@@ -83,27 +83,27 @@ module _ (p : Params) (lives : Lives) (cubs : AreCubs p lives) (disk_at : ℕ �
   failed_of : {k : ℕ} {t : Tenancy} {n j y : ℕ} → j ≡ 0 → w.Failed k t n j y → FailedThere p r q k t n j y
   failed_of {k} {t} {n} {j} {y} e =
       at_whole (λ (i : ℕ). w.Failed k t n i y → FailedThere p r q k t n i y) e
-      (λ a. failed p lives cubs disk_at beyond disks a)
+      (λ a. failed p lives cubs disk_at beyond fits disks a)
 
--- The laws hold whatever is known beyond the cubs' lives, if each cub came to the ticks of its life.
+-- The laws hold whatever is known beyond the cubs' lives, if that fits them.
 pub read_laws : (p : Params) (catalogue : Catalogue) (lives : Lives) (disk_at : ℕ → DiskState) → IsPlan p
     → AreLives p lives → AreAllFormed p lives
-    → (beyond : Beyond) → ((c b l : ℕ) → TickedAt p lives c b l → beyond.Came c b)
+    → (beyond : Beyond) → Fits p lives beyond
     → HaveDisks p catalogue lives disk_at beyond.Came
     → ReadLaws p catalogue (facts_by p lives beyond) (pieces_by p lives) (blocks_by p lives disk_at) IsWhole
-read_laws p catalogue lives disk_at plan are formed beyond came disks =
+read_laws p catalogue lives disk_at plan are formed beyond fits disks =
     let cubs : AreCubs p lives = record { plan = plan; lived = are; formed = formed } in
     let Came : ℕ → ℕ → Type 0 = beyond.Came in
     record {
-      asks = λ e a. asks_of p lives cubs disk_at beyond came disks.answer e a;
-      serves = λ e a. serves_of p lives cubs disk_at beyond came disks.answer e a;
+      asks = λ e a. asks_of p lives cubs disk_at beyond fits disks.answer e a;
+      serves = λ e a. serves_of p lives cubs disk_at beyond fits disks.answer e a;
       asked = λ e a. sent_was_asked p plan lives are formed disk_at Came disks.answer a;
       asks_due = λ e a here tick undue soon.
-          asks_due_of p lives cubs disk_at beyond came disks.answer e a here tick undue soon;
-      answers = λ e a there late. answers_of p lives cubs disk_at beyond came disks.answer e a there late;
+          asks_due_of p lives cubs disk_at beyond fits disks.answer e a here tick undue soon;
+      answers = λ e a there late. answers_of p lives cubs disk_at beyond fits disks.answer e a there late;
       serves_due = λ e s le tick past late u.
-          serves_due_of p lives cubs disk_at beyond came disks.answer e s le tick past late u;
-      failed = λ e a. failed_of p lives cubs disk_at beyond came disks.answer e a;
+          serves_due_of p lives cubs disk_at beyond fits disks.answer e s le tick past late u;
+      failed = λ e a. failed_of p lives cubs disk_at beyond fits disks.answer e a;
       refused = λ e a.
           failed_was_refused p plan lives are formed disk_at Came disks.answer catalogue disks.are disks.images a;
       sends = λ e a.

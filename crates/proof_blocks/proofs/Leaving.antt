@@ -8,6 +8,7 @@ use Rattle.partial_view.specs.declared.line.Line.{Line}
 use Rattle.proof_lives.specs.Lives.{Lives, outs_at, beat_at}
 use Rattle.lists.specs.Elements.{In}
 use Rattle.proof_lives.proofs.Inputs.{entered_at}
+use Rattle.proof_lives.proofs.Cuts.{goes_whole, whole_before}
 use Rattle.proof_lives.proofs.Moves.{taken_out}
 use Rattle.proof_lives.proofs.Order.{beats_rise}
 use Rattle.proof_lives.specs.FactsBy.{Beyond, facts_by}
@@ -27,7 +28,8 @@ module _ (p : Params) (lives : Lives) (cubs : AreCubs p lives) where
       let d = trail p c (lives.input c) i x there in
       let before = d.before in
       let rise = beats_rise p (lives.count c) (lives.input c) (cubs.lived c small) d.at i (omega arith) low in
-      let taken = subst (λ (r : Rec). In (taken_out r) (outs_at p c (lives.input c) d.at)) same d.taken in
+      let taken = goes_whole p lives c d.at (taken_out (own_of t n)) (whole_before lives c d.at i before low)
+      (subst (λ (r : Rec). In (taken_out r) (outs_at p c (lives.input c) d.at)) same d.taken) in
       record {
         beat = beat_at (lives.input c) d.at;
         arises = inl (refl, entered_at p lives c d.at (own_of t n) small (omega arith) taken);

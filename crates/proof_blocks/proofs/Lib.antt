@@ -7,3 +7,4 @@ pub mod Marks
 pub mod Serving
 pub mod Single
 pub mod Tracing
+pub mod Window

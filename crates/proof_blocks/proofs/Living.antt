@@ -19,7 +19,9 @@ use Rattle.cub_changes.proofs.Rules.{forwarding_right}
 use Rattle.proof_lives.specs.Lives.{Lives, IsLife, AreLives, store_at, outs_at, beat_at, reading_at}
 use Rattle.run_facts.specs.Events.{is_tick_input}
 use Rattle.lists.specs.Elements.{In}
-use Rattle.proof_lives.specs.Facts.{TickedAt}
+use Rattle.proof_lives.specs.Facts.{TickAt, TickedAt}
+use Rattle.proof_lives.proofs.Cuts.{goes_whole, whole_before}
+use Rattle.proof_lives.proofs.Fitting.{Fits, whole_or_died}
 use Rattle.proof_lives.proofs.Inputs.{ticked_there, entered_at}
 use Rattle.proof_lives.proofs.Lines.{kept_at}
 use Rattle.lists.proofs.Each.{all_in}
@@ -38,6 +40,7 @@ use Rattle.proof_facts.specs.Pieces.{before_reading, pieces_by}
 use Rattle.proof_facts.specs.Pieces as facts
 use Rattle.proof_lives.proofs.NoReturns.{same_life}
 use Rattle.proof_blocks.proofs.Tracing.{Trail, asking_trail}
+use Rattle.proof_blocks.proofs.Window.{taken_above}
 
 -- What is given of the cubs: a plan, and lives in which all messages are in form.
 pub record AreCubs (p : Params) (lives : Lives) : Type 0 where
@@ -129,22 +132,23 @@ module _ (p : Params) (lives : Lives) (cubs : AreCubs p lives) (c : ℕ) (small 
         beat = b - 1;
         reading = s.0.reading;
         ticked = subst (λ m. TickedAt p lives c m s.0.reading) beat
-            (ticked_there p lives c k s.0 small (omega arith) s.1);
+            (ticked_there p lives c k s.0 small (omega arith) s.1 (whole_before lives c k i before low));
         next = omega arith;
         undue = early k s.0 s.1 from before;
       }
 
-  -- Cub c uses the block of a visit, whose own record is there when a tick asks and is due within a lead.
-  pub there_at : (beyond : Beyond) → ((b l : ℕ) → TickedAt p lives c b l → beyond.Came c b)
-      → {t : Tenancy} {n b l : ℕ} (lead : ℕ)
-      (tick : TickedAt p lives c b l) (x : Line)
+  -- Cub c uses the block of a visit, whose own record is there when a tick asks and is due within a lead. That is below
+  -- the window, so the record was taken before the tick.
+  pub there_at : (beyond : Beyond) → Fits p lives beyond
+      → {t : Tenancy} {n b l : ℕ} (lead : ℕ) → lead ≤ p.window_b
+      → (tick : TickAt p lives c b l) (x : Line)
       → In x (before_reading p c (facts.stamp_of b l) (store_of p lives c tick.at)).view.lines
       → x.rec ≡ own_of t n
       → ((d : Trail p c (lives.input c) (suc tick.at) tick.at x) (k : ℕ) (at : Stamp) → lives.input c k ≡ Tick at
       → d.at ≤ k → k < tick.at → at.reading + lead < due p t.slot.0 n)
       → due p t.slot.0 n ≤ l + lead
       → IsThere p (facts_by p lives beyond) (pieces_by p lives) c t n 0 b lead
-  there_at beyond came {t} {n} {b} {l} lead tick x i same early soon =
+  there_at beyond fits {t} {n} {b} {l} lead inside tick x i same early soon =
       let at : ℕ = tick.at in
       let stamp : Stamp = facts.stamp_of b l in
       let d = asking_trail p c (lives.input c) at stamp x tick.is i in
@@ -157,10 +161,19 @@ module _ (p : Params) (lives : Lives) (cubs : AreCubs p lives) (c : ℕ) (small 
       let low_read = reads.0 in
       let high_read = reads.1 in
       let rise = beats_rise p (lives.count c) (lives.input c) life d.at at (omega arith) low in
+      let due_is : due p x.rec.tenancy.slot.0 x.rec.visit ≡ due p t.slot.0 n =
+      ap (λ (r : Rec). due p r.tenancy.slot.0 r.visit) same in
+      let first : d.at < at = ⊎_elim
+      (λ (e : d.at ≡ at).
+      let above = taken_above p cubs.plan c small (lives.input c) d.at stamp x.rec (ap (lives.input c) e ∙ tick.is)
+      d.taken in
+      absurd (omega arith))
+      (λ (l : d.at < at). l)
+      (eq-or-lt_of_le (let z : d.at ≤ at = omega arith in z)) in
       record {
         reading = l;
-        tick = record { came = came b l tick; low = omega arith; high = omega arith };
-        whole = inl tick;
+        tick = record { came = fits.came c b l tick; low = omega arith; high = omega arith };
+        whole = ⊎_elim (λ w. inl w) (λ e. inr (fits.died c b e)) (whole_or_died tick);
         here = own_here t n x (before_reading p c stamp (store_of p lives c at))
             (asking_kept at stamp low tick.is) i same;
         few = omega arith;
@@ -168,7 +181,8 @@ module _ (p : Params) (lives : Lives) (cubs : AreCubs p lives) (c : ℕ) (small 
         arises = inl (
           refl,
           entered_at p lives c d.at (own_of t n) small (omega arith)
-              (subst (λ (r : Rec). In (taken_out r) (outs_at p c (lives.input c) d.at)) same d.taken),
+              (goes_whole p lives c d.at (taken_out (own_of t n)) (whole_before lives c d.at at first low)
+              (subst (λ (r : Rec). In (taken_out r) (outs_at p c (lives.input c) d.at)) same d.taken)),
         );
         by = omega arith;
         life = same_life p lives beyond c (beat_at (lives.input c) d.at) b;

@@ -29,6 +29,7 @@ use Rattle.proof_lives.specs.Lives.{Lives, outs_at, beat_at}
 use Rattle.run_facts.specs.Events.{is_tick_input}
 use Rattle.lists.specs.Elements.{In}
 use Rattle.proof_lives.specs.Facts.{TickedAt, ReachedAt}
+use Rattle.proof_lives.proofs.Fitting.{Fits, as_tick}
 use Rattle.proof_lives.proofs.Inserting.{Never}
 use Rattle.proof_lives.proofs.Moves.{Moves, Stays, taken_out}
 use Rattle.proof_lives.proofs.Order.{beats_rise, behind, not_behind}
@@ -109,9 +110,9 @@ own_line h t n has = ⊎_elim (λ k. (k.1, k.2.0, k.2.1)) (λ k. let some = k.0 
 
 module _ (p : Params) (lives : Lives) (cubs : AreCubs p lives) (beyond : Beyond) (disk_at : ℕ → DiskState) where
   -- what is sent is there, and is due
-  pub serves : {c : ℕ} {t : Tenancy} {n b : ℕ} → ((b l : ℕ) → TickedAt p lives c b l → beyond.Came c b)
+  pub serves : {c : ℕ} {t : Tenancy} {n b : ℕ} → Fits p lives beyond
       → ServesAt p lives c t n 0 b → IsThere p (facts_by p lives beyond) (pieces_by p lives) c t n 0 b 0
-  serves {c} {t} {n} {b} came s = ⊎_elim
+  serves {c} {t} {n} {b} fits s = ⊎_elim
       (λ k.
       let tick = s.sends.tick in
       let l : ℕ = s.sends.reading in
@@ -126,7 +127,7 @@ module _ (p : Params) (lives : Lives) (cubs : AreCubs p lives) (beyond : Beyond)
       subst (λ (r : Rec). due p r.tenancy.slot.0 r.visit ≤ l) k.2.1 (served_due p stamp y k.3) in
       let due_is : due p x.rec.tenancy.slot.0 x.rec.visit ≡ due p t.slot.0 n =
       ap (λ (r : Rec). due p r.tenancy.slot.0 r.visit) own_is in
-      there_at p lives cubs c tick.small beyond came 0 tick x f.1 own_is
+      there_at p lives cubs c tick.small beyond fits 0 (omega arith) tick x f.1 own_is
       (λ d i at is from low.
       let early = trail_undue p c (lives.input c) (suc tick.at) tick.at x d own i at is from low in
       omega arith)
@@ -206,9 +207,10 @@ module _ (p : Params) (lives : Lives) (cubs : AreCubs p lives) (beyond : Beyond)
         part = f.part;
         sends = record {
           reading = l;
-          tick = tick;
+          tick = as_tick tick;
           serves = inl (refl, line.line, (line.there, line.same), due_served p stamp line.line t n line.same past);
           stored = f.found;
+          goes = inl tick.whole;
         };
       }
 

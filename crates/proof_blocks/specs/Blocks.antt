@@ -7,7 +7,7 @@ use Rattle.disk_core.specs.State.{DiskState}
 use Rattle.proof_lives.specs.Lives.{Lives, AreLives}
 use Rattle.proof_lives.specs.HoldsHere.{AreAllFormed}
 use Rattle.proof_facts.specs.Blocks.{blocks_by}
-use Rattle.proof_lives.specs.FactsBy.{HasTicked, cubs_alone, facts_by}
+use Rattle.proof_lives.specs.FactsBy.{CameToTick, cubs_alone, facts_by}
 use Rattle.proof_facts.specs.Laws.{ReadLaws}
 use Rattle.proof_facts.specs.Pieces.{pieces_by}
 use Rattle.proof_parts.specs.Asks.{HaveDisks}
@@ -21,6 +21,6 @@ IsWhole j = j ≡ 0
 abbrev pub CubsServeBlocks : Type 0
 CubsServeBlocks = (p : Params) (catalogue : Catalogue) (lives : Lives) (disk_at : ℕ → DiskState)
     → IsPlan p → AreLives p lives → AreAllFormed p lives
-    → HaveDisks p catalogue lives disk_at (HasTicked p lives)
+    → HaveDisks p catalogue lives disk_at (CameToTick p lives)
     → ReadLaws p catalogue (facts_by p lives (cubs_alone p lives)) (pieces_by p lives)
     (blocks_by p lives disk_at) IsWhole

@@ -14,6 +14,7 @@ pub mod Late
 pub mod Noted
 pub mod Places
 pub mod Placings
+pub mod PutFirst
 pub mod Starting
 pub mod StartsOnce
 pub mod Stopping

@@ -120,11 +120,6 @@ module _ (p : Params) (c : ℕ) (inputs : ℕ → Input Msg) where
       let h : Store = store_at p c inputs i in
       ap (λ (x : Input Msg). (deed_of p c x h).state.believes) is ∙ belief_lasts p c stamp h
 
-  -- Belief that is there when insertion begins was written before, or in this tick.
-  pub written_when : (i : ℕ) (stamp : Stamp) → inputs i ≡ Tick stamp
-      → (before_inserting p c stamp (store_at p c inputs i)).believes ≡ true → HasWritten p c inputs (suc i)
-  written_when i stamp is e = written (suc i) (after_tick i stamp is ∙ e)
-
   -- Belief that is there after a tick is there when insertion begins.
   pub believes_when : (i : ℕ) (stamp : Stamp) → inputs i ≡ Tick stamp → (store_at p c inputs (suc i)).believes ≡ true
       → (before_inserting p c stamp (store_at p c inputs i)).believes ≡ true

@@ -27,6 +27,7 @@ use Rattle.run_facts.specs.Events.{is_tick_input}
 use Rattle.lists.specs.Elements.{In}
 use Rattle.lists.proofs.Elements.{chosen}
 use Rattle.proof_lives.proofs.Moves.{taken_out}
+use Rattle.proof_lives.proofs.Cuts.{was_put_out, whole_before}
 use Rattle.proof_lives.proofs.Inputs.{stop_of, got_message, ticked_there, message_before}
 use Rattle.proof_lives.proofs.Inserting.{put_out}
 use Rattle.proof_lives.proofs.TakingOver.{inserting_puts}
@@ -41,7 +42,7 @@ use Rattle.proof_lives.proofs.HoldLaws.{no_both, stop_in, released_by}
 use Rattle.proof_lives.proofs.Persist.{IsReleased, unheld_released}
 use Rattle.proof_lives.specs.FactsBy.{Beyond, facts_by}
 use Rattle.proof_cubs.specs.Grounds.{IsLetIn}
-use Rattle.proof_cubs.specs.Setting.{Setting}
+use Rattle.proof_cubs.proofs.Setting.{Setting}
 use Rattle.proof_lives.proofs.Starts.{without_none, stop_drops}
 use Rattle.proof_cubs.proofs.Letting.{let_in, took_drops}
 
@@ -130,7 +131,7 @@ module _ (p : Params) (lives : Lives) (beyond : Beyond) (set : Setting p lives b
       inl (record {
         beat = beat_at inputs n;
         reading = stamp.reading;
-        ticked = ticked_there p lives c n stamp small (omega arith) is;
+        ticked = ticked_there p lives c n stamp small (omega arith) is (whole_before lives c n s.at before (omega arith));
         before = e;
         due = may;
       })
@@ -179,7 +180,7 @@ module _ (p : Params) (lives : Lives) (beyond : Beyond) (set : Setting p lives b
       let q : Rec = record { tenancy = u; visit = n; kind = g.kind } in
       let mine = same ∙ sym w.same in
       let b = left_before p c (lives.count c) set.plan w.small inputs (set.formed c w.small) i f.at a q s before
-      g.message f.did mine in
+      g.message (was_put_out p lives c f.at (taken_out q) f.did) mine in
       ⊎_elim
       (λ z. inl z)
       (λ z. inr (subst (λ m. IsReleasedBy p R c m (beat_at inputs s.at)) w.same z))
@@ -196,8 +197,9 @@ module _ (p : Params) (lives : Lives) (beyond : Beyond) (set : Setting p lives b
   comes {c} {t} {x} d =
       let inputs : ℕ → Input Msg = lives.input c in
       let h : Store = store_at p c inputs d.at in
-      let tick = put_at_tick p c set.plan d.small (inputs d.at) h t d.did in
-      let a = at_tick p c inputs d.at (put_out t) tick d.did in
+      let was = was_put_out p lives c d.at (put_out t) d.did in
+      let tick = put_at_tick p c set.plan d.small (inputs d.at) h t was in
+      let a = at_tick p c inputs d.at (put_out t) tick was in
       let k = put_inserted p c set.plan d.small a.stamp h t a.did in
       let w = (inserting_puts p c a.stamp set.plan d.small (before_inserting p c a.stamp h)).put t k in
       let s = let_in p c inputs d.at w.ask (before_back p c a.stamp h w.ask (inl w.waits)) in

@@ -1,12 +1,12 @@
 -- All laws of records, starts, heartbeats and deschedules that the cubs' own rules give.
-use Rattle.std.proofs.Common.{ℕ, List}
+use Rattle.std.proofs.Common.{List}
 use Rattle.slot_plan.specs.declared.params.Params.{Params}
 use Rattle.slot_plan.specs.Conditions.{IsPlan}
 use Rattle.node_kit.specs.declared.course.Order.{Order}
 use Rattle.proof_schedule.specs.Facts.{Facts}
 use Rattle.proof_schedule.specs.StateLaws.{StateLaws}
-use Rattle.proof_lives.specs.Facts.{TickedAt}
 use Rattle.proof_lives.specs.Lives.{Lives}
+use Rattle.proof_lives.proofs.Fitting.{Fits, alone_fits}
 use Rattle.proof_lives.proofs.Once.{once}
 use Rattle.proof_lives.specs.FactsBy.{Beyond, facts_by, cubs_alone}
 use Rattle.proof_lives.proofs.Cubs.{hold_laws}
@@ -14,7 +14,7 @@ use Rattle.proof_lives.specs.InOrder.{AreInOrder}
 use Rattle.proof_lives.proofs.Meeting.{taken, meets}
 use Rattle.proof_facts.specs.Laws.{CubLaws}
 use Rattle.proof_cubs.specs.Claims.{CubsMeetTheLaws}
-use Rattle.proof_cubs.specs.Setting.{Setting}
+use Rattle.proof_cubs.proofs.Setting.{Setting}
 use Rattle.proof_cubs.proofs.Coming.{comes}
 use Rattle.proof_cubs.proofs.Inserting.{inserts, inserted, free}
 use Rattle.proof_cubs.proofs.Sending.{sends, forwards}
@@ -45,7 +45,7 @@ module _ (p : Params) (lives : Lives) (beyond : Beyond) (set : Setting p lives b
   laws_in = record {
     states = state_laws;
     watch = watch_laws p lives beyond set;
-    holds = hold_laws p set.plan lives set.lived set.formed beyond;
+    holds = hold_laws p set.plan lives set.lived set.formed beyond set.fits;
     comes = λ put. comes p lives beyond set put;
     once = λ a b same. once p lives orders set.plan order.started a b same;
     waits = λ s n k le w slot window. waits p lives beyond set orders order s n k le w slot window;
@@ -53,14 +53,13 @@ module _ (p : Params) (lives : Lives) (beyond : Beyond) (set : Setting p lives b
     watches = λ w. watches p lives beyond set w;
   }
 
--- Whatever is known beyond the lives of cubs whose messages are in order, if it agrees with them, they meet the laws.
+-- Whatever is known beyond the lives of cubs whose messages are in order, if it fits them, they meet the laws.
 pub cub_laws : (p : Params) (lives : Lives) (beyond : Beyond) (orders : List Order) → IsPlan p → AreInOrder p lives orders
-    → ((c b l : ℕ) → TickedAt p lives c b l → beyond.Came c b) → CubLaws p (facts_by p lives beyond)
-cub_laws p lives beyond orders plan order came =
-    let set : Setting p lives beyond =
-    record { plan = plan; lived = order.lived; formed = order.formed; came = λ {c} {b} {l} w. came c b l w } in
+    → Fits p lives beyond → CubLaws p (facts_by p lives beyond)
+cub_laws p lives beyond orders plan order fits =
+    let set : Setting p lives beyond = record { plan = plan; lived = order.lived; formed = order.formed; fits = fits } in
     laws_in p lives beyond set orders order
 
 pub cubs_meet : CubsMeetTheLaws
 cubs_meet p lives orders plan order =
-    cub_laws p lives (cubs_alone p lives) orders plan order (λ c b l w. record { reading = l; ticked = w })
+    cub_laws p lives (cubs_alone p lives) orders plan order (alone_fits p lives)

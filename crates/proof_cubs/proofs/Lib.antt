@@ -5,9 +5,10 @@ pub mod Inserting
 pub mod Laws
 pub mod Letting
 pub mod Listing
-pub mod Second
 pub mod Sending
+pub mod Setting
 pub mod Showing
 pub mod Standing
+pub mod Together
 pub mod Waiting
 pub mod Watching

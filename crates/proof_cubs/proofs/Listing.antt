@@ -1,5 +1,5 @@
 -- A start joins a cub's lists and stands there until the cub knows that its instance was put or stopped.
-use Rattle.std.proofs.Common.{◌≡◌, ℕ, suc, ◌<◌, ◌≤◌, List, [], ◌∷◌, ◌++◌, Bool, true, false, cond, not, refl, sym, subst, arith, ⊎_elim, inl, inr}
+use Rattle.std.proofs.Common.{◌≡◌, ℕ, suc, ◌<◌, ◌≤◌, List, [], ◌∷◌, ◌++◌, Bool, true, false, None, cond, not, refl, sym, subst, arith, ⊎_elim, inl, inr}
 use Rattle.std.specs.Prelude.{◌⊎◌, ◌&&◌, ◌||◌}
 use Rattle.std.proofs.lemmas.Bool.{cases_Bool, and_parts, eqb-true}
 use Rattle.tiger_base.specs.declared.number.LinkNo.{LinkNo}
@@ -23,8 +23,9 @@ use Rattle.cub_changes.specs.Laws.{IsListed, TellsOf, HasPutOf, KeepsStart}
 use Rattle.cub_changes.proofs.Listing.{keep_starts}
 use Rattle.proof_schedule.specs.Facts.{Facts, ReachedBy}
 use Rattle.proof_schedule.specs.StartLaws.{IsPlacedBy}
-use Rattle.proof_lives.specs.Lives.{Lives, deed_of, store_at, outs_at, beat_at}
+use Rattle.proof_lives.specs.Lives.{Lives, cut_in, deed_of, store_at, outs_at, beat_at}
 use Rattle.lists.specs.Elements.{In}
+use Rattle.proof_lives.proofs.Cuts.{whole_before, goes_whole}
 use Rattle.proof_lives.proofs.Inputs.{got_message}
 use Rattle.lists.proofs.Elements.{chosen, in_right}
 use Rattle.proof_lives.proofs.Keeping.{held_stopped}
@@ -34,10 +35,11 @@ use Rattle.proof_lives.proofs.Seating.{PutOf}
 use Rattle.proof_lives.proofs.Waiting.{IsQueued, queued_came, shown_line}
 use Rattle.proof_lives.proofs.Trails.{held_until}
 use Rattle.proof_lives.proofs.HoldLaws.{no_both}
+use Rattle.proof_lives.proofs.Inserting.{put_out}
 use Rattle.proof_lives.specs.InOrder.{AreInOrder}
 use Rattle.proof_lives.proofs.Meeting.{taken}
 use Rattle.proof_lives.specs.FactsBy.{Beyond, facts_by}
-use Rattle.proof_cubs.specs.Setting.{Setting}
+use Rattle.proof_cubs.proofs.Setting.{Setting}
 use Rattle.proof_cubs.proofs.Inserting.{inserted}
 use Rattle.proof_cubs.proofs.Letting.{is_refused}
 use Rattle.proof_cubs.proofs.Standing.{come_before}
@@ -115,24 +117,31 @@ module _ (p : Params) (lives : Lives) (beyond : Beyond) (set : Setting p lives b
       })
   told_out c i b a other small low le is told = absurd told
 
-  -- It is out once it is put.
-  pub put_out_by : (c i b : ℕ) (a : Ask) → c < p.cubs → i < lives.count c → beat_at (lives.input c) i ≤ b
-      → PutOf a (outs_at p c (lives.input c) i) → IsOut c a.instance.0 b
-  put_out_by c i b a small low le k = inl (record {
+  -- It is out once it is put in a whole event.
+  pub put_out_by : (c i b : ℕ) (a : Ask) → c < p.cubs → i < lives.count c → cut_in lives c i ≡ None
+      → beat_at (lives.input c) i ≤ b → PutOf a (outs_at p c (lives.input c) i) → IsOut c a.instance.0 b
+  put_out_by c i b a small low whole le k = inl (record {
     beat = beat_at (lives.input c) i;
     tenancy = k.0;
     same = k.2;
     visit = 0;
-    how = inl (record { small = small; at = i; done = low; in_beat = refl; did = k.1 });
+    how = inl (record {
+      small = small;
+      at = i;
+      done = low;
+      in_beat = refl;
+      did = goes_whole p lives c i (put_out k.0) whole k.1;
+    });
     by = le;
   })
 
-  -- It is out if an event tells of it or puts it.
-  out_now : (c i b : ℕ) (a : Ask) → c < p.cubs → i < lives.count c → beat_at (lives.input c) i ≤ b
+  -- It is out if a whole event tells of it or puts it.
+  out_now : (c i b : ℕ) (a : Ask) → c < p.cubs → i < lives.count c → cut_in lives c i ≡ None
+      → beat_at (lives.input c) i ≤ b
       → TellsOf (lives.input c i) a.instance ⊎ HasPutOf a.instance (outs_at p c (lives.input c) i) → IsOut c a.instance.0 b
-  out_now c i b a small low le w = ⊎_elim
+  out_now c i b a small low whole le w = ⊎_elim
       (λ t. told_out c i b a (lives.input c i) small low le (refl {a = lives.input c i}) t)
-      (λ t. put_out_by c i b a small low le (t.0, t.1, sym t.2))
+      (λ t. put_out_by c i b a small low whole le (t.0, t.1, sym t.2))
       w
 
   -- What an event leaves as it is, unless it tells of the instance or puts it, stays until the instance is out.
@@ -147,7 +156,8 @@ module _ (p : Params) (lives : Lives) (beyond : Beyond) (set : Setting p lives b
       (held_until (λ k. P (store_at p c (lives.input c) k)) (λ k. IsOut c a.instance.0 b) i j l
       (λ k _ to q.
       let rise = beats_rise p (lives.count c) (lives.input c) (set.lived c small) k n (omega arith) low in
-      ⊎_elim (λ v. inl v) (λ v. inr (out_now c k b a small (omega arith) (omega arith) v)) (step k q))
+      let whole = whole_before lives c k n (omega arith) low in
+      ⊎_elim (λ v. inl v) (λ v. inr (out_now c k b a small (omega arith) whole (omega arith) v)) (step k q))
       w)
 
   -- A start that stands in the lists still stands there at a later input, or its instance is out.
@@ -176,7 +186,7 @@ module _ (p : Params) (lives : Lives) (beyond : Beyond) (set : Setting p lives b
   line_out : (c i b v : ℕ) (x : Line) → c < p.cubs → i < lives.count c → beat_at (lives.input c) i ≤ b
       → In x (store_at p c (lives.input c) i).view.lines → x.rec.tenancy.instance.0 ≡ v → IsPlacedBy R c v b
   line_out c i b v x small low le there same =
-      let h = come_before p lives beyond set c i i x small low (omega arith) (omega arith) there in
+      let h = come_before p lives beyond set c i x small low there in
       let by = h.by in
       let t : Tenancy = x.rec.tenancy in
       ⊎_elim

@@ -1,6 +1,6 @@
 -- States that go out: at a Put at a visit of the cub's own to the next cub, or from an own record that came behind each
 -- deschedule of its instance.
-use Rattle.std.proofs.Common.{◌≡◌, ℕ, suc, ◌+◌, ◌-◌, ◌<◌, ◌≤◌, true, false, Option, Some, refl, sym, ap, subst, ◌∙◌, arith, ⊎_elim, inl, inr, eq-or-lt_of_le}
+use Rattle.std.proofs.Common.{◌≡◌, ℕ, suc, ◌+◌, ◌-◌, ◌<◌, ◌≤◌, List, true, false, Option, Some, refl, sym, ap, subst, ◌∙◌, arith, ⊎_elim, inl, inr, eq-or-lt_of_le}
 use Rattle.std.specs.Prelude.{◌⊎◌}
 use Rattle.std.proofs.lemmas.Bool.{cases_Bool}
 use Rattle.tiger_base.specs.declared.number.LinkNo.{LinkNo}
@@ -26,7 +26,7 @@ use Rattle.partial_view.specs.declared.line.Line.{Line}
 use Rattle.state_forward.specs.Forwards.{must_forward}
 use Rattle.cub_rules.specs.declared.store.Store.{Store}
 use Rattle.cub_rules.specs.State.{IsRecordOf, IsLineOf}
-use Rattle.cub_rules.specs.Ticks.{inserting, ticking}
+use Rattle.cub_rules.specs.Ticks.{inserting}
 use Rattle.cub_changes.specs.Changes.{Change}
 use Rattle.cub_changes.specs.Causes.{IsInsertion, WasPutHere, Cause}
 use Rattle.cub_changes.specs.Causes.Stage.{OnInsertion}
@@ -36,29 +36,31 @@ use Rattle.cub_changes.proofs.Outputs.{Puts, forms_of, puts_closed}
 use Rattle.cub_changes.proofs.Puts.{inserting_by}
 use Rattle.proof_schedule.specs.Facts.{Facts, ReachedBy, Entered}
 use Rattle.proof_schedule.specs.StateLaws.{SendsFirst, WasEarly, Forwards, Sends}
-use Rattle.proof_lives.specs.Lives.{Lives, store_at, outs_at, beat_at, reading_at}
+use Rattle.proof_lives.specs.Lives.{Lives, cut_in, store_at, outs_at, outs_in, beat_at, reading_at}
 use Rattle.lists.specs.Elements.{In}
 use Rattle.proof_lives.specs.Facts.{TickedAt, SentAt}
 use Rattle.proof_lives.proofs.Carrying.{way_ends, same_ends}
-use Rattle.proof_lives.proofs.Inputs.{entered_at, entered_did, ticked_there}
+use Rattle.proof_lives.proofs.Beside.{tick_outs, whole_to}
+use Rattle.proof_lives.proofs.Cuts.{was_put_out, whole_before, goes_whole}
+use Rattle.proof_lives.proofs.Inputs.{entered_at, entered_did, tick_there, ticked_there}
 use Rattle.proof_lives.proofs.Leaving.{stays_or_stopped}
 use Rattle.lists.proofs.Each.{all_in}
 use Rattle.proof_lives.proofs.Moves.{NextSent, taken_out}
 use Rattle.proof_lives.proofs.Inserting.{put_out}
 use Rattle.proof_lives.proofs.TakingOver.{inserting_puts}
-use Rattle.proof_lives.proofs.Ticking.{before_inserting, loud, inserted_out, forwarded}
+use Rattle.proof_lives.proofs.Ticking.{before_inserting, forwarded}
 use Rattle.proof_lives.proofs.Lines.{marked_sent, settled, kept_at}
 use Rattle.proof_lives.proofs.Order.{tick_of, tick_before, beats_rise, not_behind}
-use Rattle.proof_lives.proofs.States.{state_at_tick, at_tick, from_tick, tick_true, forward_parts, forward_must, forward_early, own_kind, own_visit}
+use Rattle.proof_lives.proofs.States.{state_at_tick, took_inserted, at_tick, tick_true, forward_parts, forward_must, forward_early, own_kind, own_visit}
 use Rattle.proof_lives.proofs.Begun.{IsStop}
 use Rattle.proof_lives.proofs.HoldLaws.{no_both}
 use Rattle.proof_lives.proofs.Reaching.{stop_by_tick, let_go}
 use Rattle.proof_lives.proofs.Standing.{standing}
 use Rattle.proof_lives.specs.FactsBy.{Beyond, facts_by}
 use Rattle.proof_lives.proofs.NoReturns.{same_life}
-use Rattle.proof_cubs.specs.Setting.{Setting}
-use Rattle.proof_cubs.proofs.Second.{first_own}
+use Rattle.proof_cubs.proofs.Setting.{Setting}
 use Rattle.proof_cubs.proofs.Standing.{is_tick}
+use Rattle.proof_cubs.proofs.Together.{first_own, state_goes_behind}
 
 -- ---- at insertion a state goes out at a visit of the cub's own
 module _ (p : Params) (c : ℕ) (stamp : Stamp) (plan : IsPlan p) (here : c < p.cubs) (from : Store) where
@@ -115,7 +117,7 @@ module _ (p : Params) (lives : Lives) (beyond : Beyond) (set : Setting p lives b
   record Came (c i : ℕ) (z : Rec) : Type 0 where
     at : ℕ
     by : at ≤ i
-    taken : In (taken_out z) (outs_at p c (lives.input c) at)
+    taken : In (taken_out z) (outs_in p lives c at)
     since : (j : ℕ) → j < i → IsStop p c (lives.input c) j z.tenancy.instance.0 → j < at
     fresh : (beat_at (lives.input c) at ≡ beat_at (lives.input c) i)
         ⊎ WasEarly p R c z.tenancy (z.visit + 1) (beat_at (lives.input c) i)
@@ -141,20 +143,21 @@ module _ (p : Params) (lives : Lives) (beyond : Beyond) (set : Setting p lives b
       record {
         beat = b;
         reading = s.0.reading;
-        ticked = subst (λ n. TickedAt p lives c n s.0.reading) eb (ticked_there p lives c t.at s.0 small done s.1);
+        ticked = subst (λ n. TickedAt p lives c n s.0.reading) eb
+            (ticked_there p lives c t.at s.0 small done s.1 (whole_before lives c t.at i tb low));
         next = last;
         early = forward_early p s.0 z own more (idle t.at s.0 from tb s.1);
       }
 
-  -- It is there when the tick begins and has not gone out, or the tick takes it.
-  abbrev IsHere : ℕ → ℕ → Rec → Stamp → Type 0
-  IsHere c i z stamp =
+  -- It is there when the tick begins and has not gone out, or the tick takes it, and that goes out.
+  abbrev IsHere : ℕ → ℕ → Rec → Type 0
+  IsHere c i z =
       ((x : Line) × In x (store_at p c (lives.input c) i).view.lines × (x.rec ≡ z) × (x.forwarded ≡ false))
-      ⊎ In (taken_out z) (ticking p c stamp (store_at p c (lives.input c) i)).outs
+      ⊎ In (taken_out z) (outs_in p lives c i)
 
-  came : (c i : ℕ) (z : Rec) (stamp : Stamp) → c < p.cubs → i < lives.count c → lives.input c i ≡ Tick stamp
-      → is_own z.kind ≡ true → z.visit < z.tenancy.last → IsHere c i z stamp → Came c i z
-  came c i z stamp small low tick own more how =
+  came : (c i : ℕ) (z : Rec) → c < p.cubs → i < lives.count c → is_own z.kind ≡ true → z.visit < z.tenancy.last
+      → IsHere c i z → Came c i z
+  came c i z small low own more how =
       let inputs : ℕ → Input Msg = lives.input c in
       ⊎_elim
       (λ w.
@@ -165,7 +168,8 @@ module _ (p : Params) (lives : Lives) (beyond : Beyond) (set : Setting p lives b
       record {
         at = d.at;
         by = omega arith;
-        taken = subst (λ (q : Rec). In (taken_out q) (outs_at p c inputs d.at)) w.2 d.taken;
+        taken = goes_whole p lives c d.at (taken_out z) (whole_before lives c d.at i before low)
+            (subst (λ (q : Rec). In (taken_out q) (outs_at p c inputs d.at)) w.2 d.taken);
         since = λ j l s. d.since j l (subst (λ (q : Rec). IsStop p c inputs j q.tenancy.instance.0) (sym w.2) s);
         fresh = ⊎_elim
             (λ e. inl e)
@@ -175,7 +179,7 @@ module _ (p : Params) (lives : Lives) (beyond : Beyond) (set : Setting p lives b
       (λ k. record {
         at = i;
         by = omega arith;
-        taken = from_tick p c inputs i stamp (taken_out z) tick k;
+        taken = k;
         since = λ j l s. l;
         fresh = inl refl;
       })
@@ -183,12 +187,12 @@ module _ (p : Params) (lives : Lives) (beyond : Beyond) (set : Setting p lives b
 
   -- The state of a record's next visit is forwarded, as the law has it.
   goes_on : (a i : ℕ) (z : Rec) (stamp : Stamp) → a < p.cubs → i < lives.count a → lives.input a i ≡ Tick stamp
-      → must_forward p stamp z ≡ true → a ≡ cub_of p z.visit → IsHere a i z stamp
+      → must_forward p stamp z ≡ true → a ≡ cub_of p z.visit → IsHere a i z
       → Forwards p R a z.tenancy (z.visit + 1) (beat_at (lives.input a) i)
   goes_on a i z stamp small low tick must own how =
       let inputs : ℕ → Input Msg = lives.input a in
       let parts = forward_parts p stamp z set.plan must in
-      let c = came a i z stamp small low tick parts.0 parts.1 how in
+      let c = came a i z small low parts.0 parts.1 how in
       let by = c.by in
       let done : c.at < lives.count a = omega arith in
       record {
@@ -200,14 +204,14 @@ module _ (p : Params) (lives : Lives) (beyond : Beyond) (set : Setting p lives b
         entered = entered_at p lives a c.at z small done c.taken;
         by = beats_rise p (lives.count a) inputs (set.lived a small) c.at i by low;
         reading = stamp.reading;
-        tick = is_tick p lives beyond set (ticked_there p lives a i stamp small low tick);
+        tick = is_tick p lives beyond set (tick_there p lives a i stamp small low tick);
         soon = parts.2;
         fresh = c.fresh;
         since = λ y g le life.
             let is = tick_true inputs i stamp tick in
             let w = stop_by_tick p lives set.lived a i z.tenancy.instance.0 y low is g le in
-            let_go p set.plan lives set.lived set.formed beyond a c.at w.at z small done (c.since w.at w.before w.stop) c.taken
-            w.stop;
+            let_go p set.plan lives set.lived set.formed beyond a c.at w.at z small done (c.since w.at w.before w.stop)
+            (was_put_out p lives a c.at (taken_out z) c.taken) w.stop;
         life = same_life p lives beyond a (beat_at inputs c.at) (beat_at inputs i);
       }
 
@@ -219,21 +223,29 @@ module _ (p : Params) (lives : Lives) (beyond : Beyond) (set : Setting p lives b
       let s : State = record { tenancy = t; visit = m } in
       let link : LinkNo = way_ahead p a k in
       let o : Out Msg = out.Send link (msg.ViewerState s) in
-      let tick = state_at_tick p a set.plan d.small (inputs d.at) h link s d.did in
-      let w = at_tick p a inputs d.at o tick d.did in
+      let was = was_put_out p lives a d.at o d.did in
+      let tick = state_at_tick p a set.plan d.small (inputs d.at) h link s was in
+      let w = at_tick p a inputs d.at o tick was in
       let ready : Store = before_inserting p a w.stamp h in
+      let all = tick_outs p lives a d.at w.stamp w.is in
       ⊎_elim
-      (λ i.
+      (λ g.
+      let i = g.0 in
       let z = (inserting_puts p a w.stamp set.plan d.small ready).sent link s i in
-      let put = from_tick p a inputs d.at w.stamp (put_out t) w.is (inserted_out p a w.stamp h (put_out t) z.0) in
+      let put = subst (λ (os : List (Out Msg)). In (put_out t) os) (sym all) g.1 in
       inl (record {
         put = record { small = d.small; at = d.at; done = d.done; in_beat = d.in_beat; did = put };
         first = z.1;
         near = one_way p a k set.plan d.small sent.ahead z.2;
         own = inserting_owns p a w.stamp set.plan d.small ready link s i ∙ ap (λ n. cub_of p n) z.1;
       }))
-      (λ i.
-      let f = (forwarded p a w.stamp set.plan d.small h link s i).0 in
+      (λ g.
+      let f = (forwarded p a w.stamp set.plan d.small h link s g.forwarded).0 in
+      let here : IsHere a d.at f.rec = ⊎_elim
+      (λ x. inl x)
+      (λ i. inr (subst (λ (os : List (Out Msg)). In (taken_out f.rec) os) (sym all)
+      (g.all (taken_out f.rec) (took_inserted p a set.plan d.small w.stamp h f.rec i))))
+      f.how in
       let life = set.lived a d.small in
       let low = d.done in
       let short : w.stamp.reading ≤ most_reading =
@@ -241,12 +253,13 @@ module _ (p : Params) (lives : Lives) (beyond : Beyond) (set : Setting p lives b
       let kept = kept_at p a set.plan d.small inputs d.at (λ j l. life.short j (omega arith)) in
       let parts = forward_parts p w.stamp f.rec set.plan f.must in
       let own = own_visit p a f.rec (f.own kept short) parts.0 in
-      let all = goes_on a d.at f.rec w.stamp d.small d.done w.is f.must own f.how in
+      let next = goes_on a d.at f.rec w.stamp d.small d.done w.is f.must own here in
       let x : ℕ = beat_at inputs d.at in
-      let one = subst (λ (u : Tenancy). Forwards p R a u (f.rec.visit + 1) x) f.tenancy all in
+      let one = subst (λ (u : Tenancy). Forwards p R a u (f.rec.visit + 1) x) f.tenancy next in
       let two = subst (λ (n : ℕ). Forwards p R a t n x) (sym f.next) one in
       inr (subst (λ (n : ℕ). Forwards p R a t m n) d.in_beat two))
-      (loud p a w.stamp h o (λ q. q) w.did)
+      (state_goes_behind p a w.stamp set.plan d.small h (cut_in lives a d.at) link s
+      (subst (λ (os : List (Out Msg)). In o os) all d.did))
 
   -- What is there, and whose next visit is soon, has gone out, or was descheduled.
   pub forwards : {a n y b l : ℕ} {t : Tenancy} → Entered R a t n y → y ≤ b → TickedAt p lives a b l → a ≡ cub_of p n
@@ -276,15 +289,28 @@ module _ (p : Params) (lives : Lives) (beyond : Beyond) (set : Setting p lives b
       let sent : NextSent p a q (outs_at p a inputs k.at) =
       subst (λ (z : Rec). NextSent p a z (outs_at p a inputs k.at)) s.same k.sent in
       let rise = beats_rise p (lives.count a) inputs life k.at w.at (omega arith) w.done in
+      let whole = whole_to lives a k.at w.at (omega arith) w.done w.whole in
       inl (record {
         beat = beat_at inputs k.at;
         near = record {
           ahead = inl refl;
-          did = record { small = w.small; at = k.at; done = omega arith; in_beat = refl; did = sent.0 };
+          did = record {
+            small = w.small;
+            at = k.at;
+            done = omega arith;
+            in_beat = refl;
+            did = goes_whole p lives a k.at _ whole sent.0;
+          };
         };
         far = record {
           ahead = inr refl;
-          did = record { small = w.small; at = k.at; done = omega arith; in_beat = refl; did = sent.1 };
+          did = record {
+            small = w.small;
+            at = k.at;
+            done = omega arith;
+            in_beat = refl;
+            did = goes_whole p lives a k.at _ whole sent.1;
+          };
         };
         by = omega arith;
       }))
@@ -297,4 +323,4 @@ module _ (p : Params) (lives : Lives) (beyond : Beyond) (set : Setting p lives b
       (cases_Bool s.line.forwarded))
       (λ m. let by = m.2 in inr (record { beat = m.0; reached = m.1; by = omega arith }))
       (stays_or_stopped p set.plan lives set.lived a e.at (suc w.at) w.at q w.small (omega arith) (omega arith) w.done
-      (omega arith) e.did)
+      (omega arith) (was_put_out p lives a e.at (taken_out q) e.did))

@@ -1,5 +1,5 @@
 -- What a view shows after a tick is not due yet, and came behind the deschedules of its instance.
-use Rattle.std.proofs.Common.{◌≡◌, ℕ, suc, ◌<◌, ◌≤◌, List, filter, true, false, not, ap, subst, arith, ⊎_elim}
+use Rattle.std.proofs.Common.{◌≡◌, ℕ, ◌<◌, ◌≤◌, List, filter, true, false, not, ap, subst, arith, ⊎_elim}
 use Rattle.std.proofs.lemmas.Bool.{cases_Bool, cases_lt, and_from, le-leb}
 use Rattle.tiger_base.specs.declared.number.Stamp.{Stamp}
 use Rattle.tiger_base.specs.declared.tenancy.Tenancy.{Tenancy}
@@ -23,8 +23,8 @@ use Rattle.proof_lives.proofs.HoldLaws.{no_both}
 use Rattle.proof_lives.specs.FactsBy.{Beyond, ShowsAt, facts_by}
 use Rattle.proof_lives.proofs.NoReturns.{same_life}
 use Rattle.proof_lives.proofs.Reaching.{stop_by_tick}
-use Rattle.proof_cubs.specs.Setting.{Setting}
-use Rattle.proof_cubs.proofs.Standing.{come_before}
+use Rattle.proof_cubs.proofs.Setting.{Setting}
+use Rattle.proof_cubs.proofs.Standing.{come_after}
 
 -- A line that is neither served nor past is not due.
 undue : (p : Params) (stamp : Stamp) (y : Line) → is_served p stamp y ≡ false → is_past p stamp y ≡ false
@@ -77,8 +77,7 @@ module _ (p : Params) (lives : Lives) (beyond : Beyond) (set : Setting p lives b
       let eb : beat_at inputs k.at ≡ b = ap (λ (i : Input Msg). (stamp_of i).beat) k.is in
       let h : Store = store_at p c inputs k.at in
       let there = subst (λ (i : Input Msg). In w.line (deed_of p c i h).state.view.lines) k.is w.there in
-      let come = come_before p lives beyond set c k.at (suc k.at) w.line k.small k.done (omega arith) (omega arith)
-      w.there in
+      let come = come_after p lives beyond set c k.at w.line k.small k.done k.whole w.there in
       let by = come.by in
       let late = ticking_undue p c stamp h w.line there in
       let all : IsShown p R c w.line.rec.tenancy w.line.rec.visit b = record {

@@ -10,6 +10,8 @@ use Rattle.tiger_base.specs.declared.message.Msg.TheVariants as msg
 use Rattle.slot_plan.specs.declared.params.Params.{Params}
 use Rattle.slot_plan.specs.Times.{due, disk_of}
 use Rattle.node_kit.specs.declared.course.Order.{Order}
+use Rattle.node_kit.specs.declared.journal.What.TheVariants as what
+use Rattle.node_kit.specs.declared.outbox.Out.TheVariants as out
 use Rattle.node_kit.specs.Steps.{Input, stamp_of}
 use Rattle.insert_queue.specs.Queues.{Queues}
 use Rattle.partial_view.specs.declared.line.Line.{Line}
@@ -23,6 +25,7 @@ use Rattle.proof_lives.specs.Lives.{Lives, deed_of, store_at, beat_at}
 use Rattle.run_facts.specs.Events.{is_tick_input}
 use Rattle.lists.specs.Elements.{In}
 use Rattle.lists.proofs.Elements.{in_left, in_right}
+use Rattle.proof_lives.proofs.Cuts.{was_put_out}
 use Rattle.proof_lives.proofs.Inputs.{message_before}
 use Rattle.proof_lives.proofs.Inserting.{put_out, IsAt}
 use Rattle.proof_lives.proofs.Ticking.{before_inserting, inserted_out, after_insertion_stays}
@@ -34,7 +37,7 @@ use Rattle.proof_lives.proofs.Waiting.{IsQueued, before_forth, before_starts}
 use Rattle.proof_lives.specs.InOrder.{AreInOrder}
 use Rattle.proof_lives.specs.FactsBy.{Beyond, facts_by}
 use Rattle.proof_facts.specs.Laws.{ShowsSlot}
-use Rattle.proof_cubs.specs.Setting.{Setting}
+use Rattle.proof_cubs.proofs.Setting.{Setting}
 use Rattle.proof_cubs.proofs.Believing.{none_apart, apart_at, believes_after, believes_when}
 use Rattle.proof_cubs.proofs.Filling.{inserting_full_apart}
 use Rattle.proof_cubs.proofs.Inserting.{line_stands}
@@ -112,7 +115,8 @@ module _ (p : Params) (lives : Lives) (beyond : Beyond) (set : Setting p lives b
       let tick = tick_true inputs w.at stamp w.is in
       let low = not_behind p (lives.count c) inputs (set.lived c w.small) d.at w.at w.done d.done tick (omega arith) in
       believes_when p c inputs w.at stamp w.is
-      (believes_after p c inputs (suc w.at) d.at k.believed.cub (omega arith) d.did)
+      (believes_after p c inputs (suc w.at) d.at k.believed.cub (omega arith)
+      (was_put_out p lives c d.at (out.Act (what.Believed k.believed.cub)) d.did))
 
   -- A redundant start waits then too if the cub believes its predecessor dead, or its instance is out.
   redundant_waits : {c b l y : ℕ} {ask : Ask} (w : TickedAt p lives c b l)
@@ -153,7 +157,7 @@ module _ (p : Params) (lives : Lives) (beyond : Beyond) (set : Setting p lives b
       let stamp : Stamp = record { beat = b; reading = l } in
       let wb = in_beat w in
       let o = inserted_out p c stamp (store_at p c (lives.input c) w.at) (put_out v.0) v.1 in
-      inr (put_out_by p lives beyond set orders order c w.at b ask w.small w.done (omega arith)
+      inr (put_out_by p lives beyond set orders order c w.at b ask w.small w.done w.whole (omega arith)
       (v.0, from_tick p c (lives.input c) w.at stamp (put_out v.0) w.is o, v.2)))
       (λ v. inl (v s n slot refl window.0 window.1))
       k
@@ -183,7 +187,7 @@ module _ (p : Params) (lives : Lives) (beyond : Beyond) (set : Setting p lives b
       → s < p.slots → IsInWindow p l s n → Stands p R c s n b ⊎ Out c ask.instance.0 b
   waits {c} {ask} {y} {b} {l} s n k le w slot window = ⊎_elim
       (λ x. inl (line_stands p lives beyond set c w.at b s n (record { beat = b; reading = l }) x.0 w.small w.done w.is
-      (in_beat w) x.1 x.2))
+      w.whole (in_beat w) x.1 x.2))
       (λ o. inr o)
       (has_line s n w k le slot window)
 

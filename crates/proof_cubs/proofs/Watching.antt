@@ -30,12 +30,13 @@ use Rattle.proof_lives.specs.Lives.{Lives, deed_of, store_at, beat_at}
 use Rattle.lists.specs.Elements.{In}
 use Rattle.proof_lives.proofs.Order.{beats_rise}
 use Rattle.proof_lives.proofs.Queuing.{ticking_watch}
-use Rattle.proof_lives.proofs.Inputs.{got_message, ticked_there}
+use Rattle.proof_lives.proofs.Cuts.{was_put_out}
+use Rattle.proof_lives.proofs.Inputs.{got_message, tick_there}
 use Rattle.proof_lives.proofs.Watching.{IsBeat, heard_now, timeout_at, beats, since}
 use Rattle.proof_lives.specs.FactsBy.{Beyond, WroteBelief, facts_by}
 use Rattle.proof_cubs.specs.Grounds.{HasHeard}
-use Rattle.proof_cubs.specs.Setting.{Setting}
-use Rattle.proof_cubs.proofs.Believing.{keeps_belief, silent_believes, written_when}
+use Rattle.proof_cubs.proofs.Setting.{Setting}
+use Rattle.proof_cubs.proofs.Believing.{keeps_belief, silent_believes}
 use Rattle.proof_cubs.proofs.Inserting.{believed_by}
 use Rattle.proof_cubs.proofs.Standing.{is_tick}
 
@@ -132,8 +133,9 @@ module _ (p : Params) (lives : Lives) (beyond : Beyond) (set : Setting p lives b
   silent {c} {b} w =
       let d = w.did in
       let h : Store = store_at p c (lives.input c) d.at in
-      let k = written_at p c h (lives.input c d.at) w.cub d.did in
-      let ticked = ticked_there p lives c d.at k.stamp d.small d.done k.is in
+      let was = was_put_out p lives c d.at (out.Act (what.Believed w.cub)) d.did in
+      let k = written_at p c h (lives.input c d.at) w.cub was in
+      let ticked = tick_there p lives c d.at k.stamp d.small d.done k.is in
       let timeout = timeout_at p c (lives.input c) d.at in
       let long = ltb-true _ _ k.silent in
       subst (λ n. IsSilence p R c n) d.in_beat (record {
@@ -189,6 +191,6 @@ module _ (p : Params) (lives : Lives) (beyond : Beyond) (set : Setting p lives b
       (λ (s : h.watch.heard + h.watch.timeout < l).
       let believes = silent_believes p c stamp h (lt-ltb _ _ s) in
       inl (subst (λ n. BelievedBy R c n) (ap (λ (i : Input Msg). (stamp_of i).beat) w.is)
-      (believed_by p lives beyond set c w.at w.small w.done (written_when p c inputs w.at stamp w.is believes))))
+      (believed_by p lives beyond set c w.at stamp w.small w.done w.is believes)))
       (λ (g : l ≤ h.watch.heard + h.watch.timeout). inr (heard_till w g))
       (cases_lt (h.watch.heard + h.watch.timeout) l)

@@ -1,18 +1,20 @@
 -- What the laws rest on: what holds along a cub's life, of its starts, its belief and its watch.
-use Rattle.std.specs.Prelude.{◌≡◌, ℕ, ◌+◌, ◌<◌, ◌≤◌, Bool, true, false, [], ◌⊎◌}
+use Rattle.std.specs.Prelude.{◌≡◌, ℕ, ◌+◌, ◌<◌, ◌≤◌, Bool, true, false, List, [], Option, ◌⊎◌}
 use Rattle.tiger_base.specs.declared.number.LinkNo.{LinkNo}
 use Rattle.tiger_base.specs.declared.number.Stamp.{Stamp}
 use Rattle.tiger_base.specs.declared.tenancy.Ask.{Ask}
+use Rattle.tiger_base.specs.declared.tenancy.Kind.{Kind}
+use Rattle.tiger_base.specs.declared.tenancy.Rec.{Rec}
 use Rattle.tiger_base.specs.declared.tenancy.Tenancy.{Tenancy}
 use Rattle.tiger_base.specs.declared.message.Msg.{Msg}
 use Rattle.tiger_base.specs.declared.message.Msg.TheVariants as msg
-use Rattle.tiger_base.specs.Records.{own_of}
 use Rattle.slot_plan.specs.declared.params.Params.{Params}
 use Rattle.slot_plan.specs.Conditions.{IsPlan}
 use Rattle.slot_plan.specs.Times.{cub_of}
 use Rattle.node_kit.specs.declared.journal.What.TheVariants as what
+use Rattle.node_kit.specs.declared.outbox.Out.{Out}
 use Rattle.node_kit.specs.declared.outbox.Out.TheVariants as out
-use Rattle.node_kit.specs.Steps.{Deed, Input}
+use Rattle.node_kit.specs.Steps.{Input}
 use Rattle.node_kit.specs.Steps.Input.{Take}
 use Rattle.node_kit.specs.Ways.{way_ahead, predecessor}
 use Rattle.partial_view.specs.declared.line.Line.{Line}
@@ -21,9 +23,9 @@ use Rattle.deschedule.specs.Holds.{is_held}
 use Rattle.cub_rules.specs.declared.store.Store.{Store}
 use Rattle.cub_rules.specs.State.{is_ask}
 use Rattle.cub_rules.specs.Messages.{shows}
-use Rattle.cub_rules.specs.Ticks.{inserting}
+use Rattle.cub_rules.specs.Ticks.{ticking}
 use Rattle.cub_changes.specs.Laws.{believed_out}
-use Rattle.proof_lives.specs.Lives.{store_at, outs_at}
+use Rattle.proof_lives.specs.Lives.{cut_outs, store_at, outs_at}
 use Rattle.lists.specs.Elements.{In}
 
 -- ---- starts
@@ -53,18 +55,31 @@ StartsAreLetIn = (p : Params) (c : ℕ) (inputs : ℕ → Input Msg) (i : ℕ) (
 
 -- ---- Puts
 
--- What a cub does takes the own record of the second visit of t, or leaves a line there.
-abbrev pub TakesSecond : Tenancy → Deed Msg Store → Type 0
-TakesSecond t d =
-    In (out.Act (what.Took (own_of t (t.first + 1)))) d.outs
-    ⊎ ((x : Line) × In x d.state.view.lines
-    × (x.rec.tenancy.slot.0 ≡ t.slot.0) × (x.rec.visit ≡ t.first + 1))
+-- A record stands at the second visit of t: a line of what the cub keeps has it, or it is taken by
+-- these outputs.
+pub record StandsSecond (t : Tenancy) (h : Store) (outs : List (Out Msg)) : Type 0 where
+  pub rec : Rec
+  pub slot : rec.tenancy.slot.0 ≡ t.slot.0
+  pub visit : rec.visit ≡ t.first + 1
+  pub how : ((x : Line) × In x h.view.lines × (x.rec ≡ rec)) ⊎ In (out.Act (what.Took rec)) outs
 
--- Insertion puts at a visit of the cub's own, or takes the tenancy's second visit too.
-abbrev pub PutsTakeSecond : Type 0
-PutsTakeSecond = (p : Params) (c : ℕ) (stamp : Stamp) (h : Store) (t : Tenancy)
-    → IsPlan p → c < p.cubs → In (out.Act (what.Put t)) (inserting p c stamp h).outs
-    → (c ≡ cub_of p t.first) ⊎ (t.first < t.last → TakesSecond t (inserting p c stamp h))
+-- Of outputs of a tick that begins with h the record of a Put's first visit goes out with it. If
+-- the visit is the cub's own, so does its state to the next cub; else it is the predecessor's, and
+-- a record stands at the second visit, if there is one.
+pub record GoesWhole (p : Params) (c : ℕ) (h : Store) (outs : List (Out Msg))
+    (t : Tenancy) : Type 0 where
+  pub kind : Kind
+  pub taken : In (out.Act (what.Took (record { tenancy = t; visit = t.first; kind = kind }))) outs
+  pub who : ((c ≡ cub_of p t.first)
+      × In (out.Send (way_ahead p c 1)
+      (msg.ViewerState (record { tenancy = t; visit = t.first }))) outs)
+      ⊎ ((c ≡ cub_of p (t.first + 1)) × (t.first < t.last → StandsSecond t h outs))
+
+-- Whether or not a death cuts off a tick, a Put goes out with all that belongs to it.
+abbrev pub PutsGoWhole : Type 0
+PutsGoWhole = (p : Params) (c : ℕ) (stamp : Stamp) (h : Store) (cut : Option ℕ) (t : Tenancy)
+    → IsPlan p → c < p.cubs → In (out.Act (what.Put t)) (cut_outs cut (ticking p c stamp h).outs)
+    → GoesWhole p c h (cut_outs cut (ticking p c stamp h).outs) t
 
 -- ---- belief
 

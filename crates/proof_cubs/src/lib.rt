@@ -2,7 +2,7 @@
 #![tactic(auto)]
 
 ghost use Rattle.proof_cubs.specs.Claims.{CubsMeetTheLaws};
-ghost use Rattle.proof_cubs.specs.Grounds.{BeliefIsWritten, PutsTakeSecond, StartsAreLetIn, WatchesShowHeartbeats};
+ghost use Rattle.proof_cubs.specs.Grounds.{BeliefIsWritten, PutsGoWhole, StartsAreLetIn, WatchesShowHeartbeats};
 
 /// Whatever befalls cubs whose messages are in form and in order, they meet the laws that one cub's rules can give.
 pub fn cubs_meet_the_laws()
@@ -14,9 +14,10 @@ pub fn starts_are_let_in()
     ensures { StartsAreLetIn }
 {}
 
-/// Each Put is at a visit of the cub's own, or takes the tenancy's second visit too.
-pub fn puts_take_the_second_visit()
-    ensures { PutsTakeSecond }
+/// A Put goes out with all that belongs to it, whether or not a death cuts its tick off: with its record, and with its state
+/// or what stands at the second visit.
+pub fn puts_go_out_whole()
+    ensures { PutsGoWhole }
 {}
 
 /// A cub that believes its predecessor dead wrote so, and has no redundant start.

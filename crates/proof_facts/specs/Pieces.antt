@@ -1,5 +1,5 @@
 -- The facts about whole blocks and mirror pieces, by what each cub kept when it split, asked and served.
-use Rattle.std.specs.Prelude.{◌≡◌, ℕ, ◌+◌, ◌<◌, ◌≤◌, true, false, Some, ◌⊎◌}
+use Rattle.std.specs.Prelude.{◌≡◌, ℕ, ◌+◌, ◌<◌, ◌≤◌, ◌==◌, true, false, Some, ◌⊎◌, if◌then◌else◌}
 use Rattle.tiger_base.specs.Span.{LibraryPart}
 use Rattle.tiger_base.specs.Records.{own_of, backup_of, want_of_piece}
 use Rattle.tiger_base.specs.declared.number.LinkNo.{LinkNo}
@@ -7,6 +7,7 @@ use Rattle.tiger_base.specs.declared.number.Stamp.{Stamp}
 use Rattle.tiger_base.specs.declared.tenancy.PieceState.{PieceState}
 use Rattle.tiger_base.specs.declared.tenancy.Tenancy.{Tenancy}
 use Rattle.tiger_base.specs.declared.tenancy.Want.{Want}
+use Rattle.tiger_base.specs.declared.message.Msg.{Msg}
 use Rattle.tiger_base.specs.declared.message.Msg.TheVariants as msg
 use Rattle.tiger_base.specs.Notes.{noted}
 use Rattle.slot_plan.specs.declared.params.Params.{Params}
@@ -17,13 +18,13 @@ use Rattle.mirror_schedule.specs.Pieces.{is_in}
 use Rattle.node_kit.specs.Form.{is_in_form}
 use Rattle.node_kit.specs.declared.outbox.Out.TheVariants as out
 use Rattle.node_kit.specs.Steps.Input.{Take}
-use Rattle.node_kit.specs.Ways.{way_ahead}
+use Rattle.node_kit.specs.Ways.{way_ahead, way_to_viewers}
 use Rattle.cub_rules.specs.declared.store.Store.{Store}
 use Rattle.cub_rules.specs.Records.{stored_for}
-use Rattle.cub_rules.specs.Ticks.{releasing, believing, inserting, splitting, forwarding, reading, must_split, must_read, leaves_by, is_served}
-use Rattle.proof_lives.specs.Lives.{Lives, store_at}
+use Rattle.cub_rules.specs.Ticks.{releasing, believing, inserting, splitting, forwarding, reading, must_split, must_read, leaves_by, is_served, sent_ahead}
+use Rattle.proof_lives.specs.Lives.{Lives, GoesOut, store_at}
 use Rattle.lists.specs.Elements.{In}
-use Rattle.proof_lives.specs.Facts.{TickedAt, DidAt}
+use Rattle.proof_lives.specs.Facts.{TickAt, DidAt}
 use Rattle.proof_pieces.specs.PieceFacts.{PieceFacts}
 
 -- What a cub keeps in a tick that began with h, before it splits visits.
@@ -44,7 +45,7 @@ before_serving p c stamp h = (reading p stamp (before_reading p c stamp h)).stat
 abbrev pub stamp_of : ℕ → ℕ → Stamp
 stamp_of b l = record { beat = b; reading = l }
 
-abbrev pub kept_at : {p : Params} {lives : Lives} {c b l : ℕ} → TickedAt p lives c b l → Store
+abbrev pub kept_at : {p : Params} {lives : Lives} {c b l : ℕ} → TickAt p lives c b l → Store
 kept_at {p} {lives} {c} {b} {l} tick = store_at p c (lives.input c) tick.at
 
 -- The piece record of piece j of visit n of t.
@@ -55,6 +56,10 @@ piece t n j = record { tenancy = t; visit = n; piece = j }
 abbrev pub want : Tenancy → ℕ → ℕ → Want
 want t n j = want_of_piece (piece t n j)
 
+-- The message in which a part leaves for the viewers: the whole block, or a piece of it.
+abbrev pub part_sent : Want → ℕ → LibraryPart → Msg
+part_sent w sent part = if w.piece == 0 then msg.Whole w sent part else msg.Piece w sent part
+
 -- A line of the view has the visit's own record, or its backup record.
 abbrev pub HasOwn : Store → Tenancy → ℕ → Line → Type 0
 HasOwn h t n x = In x h.view.lines × (x.rec ≡ own_of t n)
@@ -62,14 +67,17 @@ HasOwn h t n x = In x h.view.lines × (x.rec ≡ own_of t n)
 abbrev pub HasBackup : Store → Tenancy → ℕ → Line → Type 0
 HasBackup h t n x = In x h.view.lines × (x.rec ≡ backup_of t n)
 
--- At its tick of beat b cub c split visit n of t.
+-- At its tick of beat b cub c split visit n of t, and its death did not cut that off: the tick was
+-- whole, or a mirror state of the visit went out.
 pub record SplitAt (p : Params) (lives : Lives) (c : ℕ) (t : Tenancy) (n b : ℕ) : Type 0 where
   pub reading : ℕ
-  pub tick : TickedAt p lives c b reading
+  pub tick : TickAt p lives c b reading
   pub believes : (before_splitting p c (stamp_of b reading) (kept_at tick)).believes ≡ true
   pub line : Line
   pub there : HasBackup (before_splitting p c (stamp_of b reading) (kept_at tick)) t n line
   pub must : must_split p (stamp_of b reading) line ≡ true
+  pub number : ℕ
+  pub goes : GoesOut p lives c tick.at (sent_ahead p c (piece t n number))
 
 -- In beat b cub a sent the mirror state of piece j to the k-th cub after it.
 pub record MirrorSentAt (p : Params) (lives : Lives) (a k : ℕ) (t : Tenancy)
@@ -105,10 +113,11 @@ AsksFor p stamp h t n j =
     ⊎ ((1 ≤ j) × In (piece t n j) h.unasked.items
     × (leaves_by p (stamp.reading + p.read_lead) (piece t n j) ≡ true))
 
--- At its tick of beat b cub c asked a disk for piece j of visit n of t.
+-- At its tick of beat b cub c was to ask a disk for piece j of visit n of t, whether or not its death
+-- cut the tick off before it did.
 pub record AsksAt (p : Params) (lives : Lives) (c : ℕ) (t : Tenancy) (n j b : ℕ) : Type 0 where
   pub reading : ℕ
-  pub tick : TickedAt p lives c b reading
+  pub tick : TickAt p lives c b reading
   pub asks : AsksFor p (stamp_of b reading)
       (before_reading p c (stamp_of b reading) (kept_at tick)) t n j
 
@@ -120,15 +129,18 @@ IsToServe p stamp h t n j =
     ⊎ ((1 ≤ j) × In (piece t n j) h.pieces.items
     × (leaves_by p stamp.reading (piece t n j) ≡ true))
 
--- At its tick of beat b cub c sent the viewers a part as piece j of visit n of t.
+-- At its tick of beat b cub c sent the viewers a part as piece j of visit n of t, which its death did
+-- not cut off.
 pub record SendsPart (p : Params) (lives : Lives) (c : ℕ) (t : Tenancy) (n j b : ℕ)
     (part : LibraryPart) : Type 0 where
   pub reading : ℕ
-  pub tick : TickedAt p lives c b reading
+  pub tick : TickAt p lives c b reading
   pub serves : IsToServe p (stamp_of b reading)
       (before_serving p c (stamp_of b reading) (kept_at tick)) t n j
   pub stored : stored_for (want t n j)
       (before_serving p c (stamp_of b reading) (kept_at tick)).parts ≡ Some part
+  pub goes : GoesOut p lives c tick.at
+      (out.Send (way_to_viewers p c) (part_sent (want t n j) b part))
 
 -- At its tick of beat b cub c served piece j of visit n of t.
 pub record ServesAt (p : Params) (lives : Lives) (c : ℕ) (t : Tenancy) (n j b : ℕ) : Type 0 where

@@ -11,16 +11,16 @@ use Rattle.node_kit.specs.declared.course.Order.{Order}
 use Rattle.node_kit.specs.Links.{links_of, viewers_of}
 use Rattle.node_kit.specs.Steps.{Deed, Input}
 use Rattle.run_facts.specs.Events.{is_death}
-use Rattle.run_facts.specs.Histories.{History, outs, reading, ticks, living}
-use Rattle.run_facts.specs.Plain.{IsPlainRun}
+use Rattle.run_facts.specs.Histories.{History, outs, reading, ticks}
 use Rattle.disk_core.specs.State.{DiskState}
 use Rattle.disk_core.specs.Rules.{disk_step}
 use Rattle.controller_core.specs.Orders.{Starts}
-use Rattle.proof_lives.specs.Lives.{outs_at}
+use Rattle.proof_lives.specs.Lives.{outs_in}
+use Rattle.proof_lives.specs.OneLife.{IsOneLifeRun}
 use Rattle.proof_controller.specs.Controllers.{controller, commands_at}
 use Rattle.proof_controller.specs.Orders.{AreCounted}
 use Rattle.proof_service.specs.Files.{IsOfFile}
-use Rattle.proof_facts.specs.Lives.{lives_of}
+use Rattle.proof_facts.specs.Lives.{lives_of, acting}
 
 -- The cubs, the disks, the controller and the viewers of a plan.
 abbrev pub node_count : Params → ℕ
@@ -47,13 +47,13 @@ pub record IsDiskOf (p : Params) (d : ℕ) (s : DiskState) : Type 0 where
   pub params : s.params ≡ p
   pub number : s.disk ≡ d
 
--- What each node puts out is what its rules make of what befell it. A disk never changes, so its
--- state is one for all events.
+-- What each node puts out is what its rules make of what befell it, as far as its death lets it. A
+-- disk never changes, so its state is one for all events.
 pub record PutsOutByRules {S : Type 0} (step : S → Input Msg → Deed Msg S) (p : Params)
     (orders : List Order) (disk_at : ℕ → DiskState) (h : History Msg S) : Type 0 where
   pub cubs : (c i : ℕ)
-      → c < p.cubs → i < living h c
-      → outs noted step h c i ≡ outs_at p c ((lives_of h).input c) i
+      → c < p.cubs → i < acting h c
+      → outs noted step h c i ≡ outs_in p (lives_of h) c i
   pub disks : (d i : ℕ)
       → d < disk_count p → i < h.count (node_of_disk p d)
       → outs noted step h (node_of_disk p d) i
@@ -65,11 +65,11 @@ pub record PutsOutByRules {S : Type 0} (step : S → Input Msg → Deed Msg S) (
       ≡ commands_at p orders ((lives_of h).input (controller p)) i
   pub views : (i : ℕ) → i < h.count (viewers p) → outs noted step h (viewers p) i ≡ []
 
--- A history of which the record of a run holds, whose nodes put out what their rules say and of
--- which no two neighbours die. Time is not too long.
+-- A history of a run in which nobody returns, whose nodes put out what their rules say and of which
+-- no two neighbours die. A death may come in the middle of an event. Time is not too long.
 pub record IsRingHistory {S : Type 0} (step : S → Input Msg → Deed Msg S) (p : Params)
     (orders : List Order) (disk_at : ℕ → DiskState) (h : History Msg S) : Type 0 where
-  pub run : IsPlainRun noted step p (node_count p) h
+  pub run : IsOneLifeRun noted step p (node_count p) h
   pub deaths : DieAlone p h
   pub rules : PutsOutByRules step p orders disk_at h
   pub counted : AreCounted p orders

@@ -17,11 +17,13 @@ use Rattle.node_kit.specs.declared.journal.What.TheVariants as what
 use Rattle.node_kit.specs.declared.outbox.Out.{Out}
 use Rattle.node_kit.specs.declared.outbox.Out.TheVariants as out
 use Rattle.node_kit.specs.Steps.{Deed, Input, IsAllowed, IsOwnEntry, what_of, entry_of, stamp_of}
-use Rattle.run_facts.specs.Histories.{History, living, outs, past}
+use Rattle.run_facts.specs.Histories.{History, outs, past}
 use Rattle.run_facts.specs.Timed.{is_died}
 use Rattle.run_facts.proofs.Journals.{is_got}
 use Rattle.disk_core.specs.State.{DiskState}
-use Rattle.proof_lives.specs.Lives.{outs_at}
+use Rattle.proof_lives.specs.Lives.{cut_in, outs_at, outs_in}
+use Rattle.proof_lives.proofs.Going.{front_of_outs}
+use Rattle.proof_facts.specs.Lives.{lives_of, acting}
 use Rattle.lists.specs.Elements.{In}
 use Rattle.lists.proofs.Elements.{in_right, in_cases}
 use Rattle.lists.proofs.Each.{all_in}
@@ -30,7 +32,7 @@ use Rattle.proof_journals.proofs.Written.{acted, one_event_more}
 use Rattle.proof_journals.proofs.Notes as old
 use Rattle.proof_journals.proofs.Journals.{inputs_of, got_at, put_out, so_far, wrote, written, so_far_on}
 use Rattle.proof_facts.specs.Rings.{node_count}
-use Rattle.proof_journals.proofs.Events.{AreKept, journal_is, alive_if_out}
+use Rattle.proof_journals.proofs.Events.{AreKept, journal_is, fair, acts_if_out}
 use Rattle.proof_journals.proofs.Lists.{moved, tail_same}
 
 module _ {S : Type 0} {step : S → Input Msg → Deed Msg S} {p : Params} {orders : List Order}
@@ -48,9 +50,9 @@ module _ {S : Type 0} {step : S → Input Msg → Deed Msg S} {p : Params} {orde
     pub event_is : part ++ e ∷ rest ≡ wrote step h n at
     pub behind : (f : Entry) → In f ys → In f rest ⊎ ((k : ℕ) × (at < k) × (k < h.count n) × In f (wrote step h n k))
 
-  pub cut_in : (n : ℕ) (xs : List Entry) (e : Entry) (ys : List Entry) → slice_get journals n ≡ Some (xs ++ e ∷ ys)
+  pub cut_at_entry : (n : ℕ) (xs : List Entry) (e : Entry) (ys : List Entry) → slice_get journals n ≡ Some (xs ++ e ∷ ys)
       → IsCutIn n xs e ys
-  cut_in n xs e ys at =
+  cut_at_entry n xs e ys at =
       let j = journal_is kept n (xs ++ e ∷ ys) at in
       let w = written step h n (h.count n) xs e ys j.1 in
       let low = w.before in
@@ -84,40 +86,46 @@ module _ {S : Type 0} {step : S → Input Msg → Deed Msg S} {p : Params} {orde
   pub record IsOutputOf (c : ℕ) (front : List Entry) (e : Entry) (o : Out Msg) : Type 0 where
     pub at : ℕ
     pub done : at < h.count c
-    pub lives : at < living h c
+    pub lives : at < acting h c
     pub earlier : List (Out Msg)
     pub later : List (Out Msg)
     pub outs_are : outs_at p c (inputs_of h c) at ≡ earlier ++ o ∷ later
     pub front_is : front ≡ so_far step h c at
         ++ (got_at (inputs_of h c at) ++ map (entry_of noted (stamp_of (inputs_of h c at))) earlier)
     pub stamp_is : e.stamp ≡ stamp_of (inputs_of h c at)
+    pub goes : In o (outs_in p (lives_of h) c at)
 
   -- Each entry of a cub that tells neither of a message that was got nor of a death is so.
   cub_output : (c : ℕ) → c < p.cubs → (front : List Entry) (e : Entry) (back : List Entry)
       → slice_get journals c ≡ Some (front ++ e ∷ back) → is_got e.what ≡ false → is_died e.what ≡ false
       → (o : Out Msg) × (what_of noted o ≡ e.what) × IsAllowed noted p c o × IsOutputOf c front e o
   cub_output c small front e back at sent lives =
-      let w = cut_in c front e back at in
-      let o = put_out step (h.event c w.at) (past noted step h c w.at) w.part e w.rest
-      (kept.ring.run.plain c w.at w.known w.done) sent lives w.event_is in
+      let w = cut_at_entry c front e back at in
+      let fairly = fair kept c w.at w.known w.done in
+      let o = put_out step p c (h.event c w.at) (past noted step h c w.at) w.part e w.rest fairly sent lives w.event_is in
       let there : In o.output (outs noted step h c w.at) =
       moved o.output (sym o.outs_are) (in_right o.output o.earlier (o.output ∷ o.later) (inl refl)) in
-      let before = alive_if_out kept c w.at o.output w.known w.done there in
+      let before = acts_if_out kept c w.at o.output w.known w.done there in
+      let rule = kept.ring.rules.cubs c w.at small before in
+      let whole = front_of_outs (cut_in (lives_of h) c w.at) (outs_at p c (inputs_of h c) w.at) in
+      let cut_off : List (Out Msg) = whole.0 in
       let stamp = stamp_same (h.event c w.at) in (
         o.output,
         ap (λ (x : Entry). x.what) (sym o.is),
-        all_in (IsAllowed noted p c) o.output (outs noted step h c w.at)
-            (kept.ring.run.fair c w.at w.known w.done) there,
+        all_in (IsAllowed noted p c) o.output (outs noted step h c w.at) fairly there,
         record {
           at = w.at;
           done = w.done;
           lives = before;
           earlier = o.earlier;
-          later = o.later;
-          outs_are = sym (kept.ring.rules.cubs c w.at small before) ∙ o.outs_are;
+          later = o.later ++ cut_off;
+          outs_are = sym whole.1
+              ∙ ap (λ (os : List (Out Msg)). os ++ cut_off) (sym rule ∙ o.outs_are)
+              ∙ append_assoc o.earlier (o.output ∷ o.later) cut_off;
           front_is = w.front_is ∙ ap (λ (l : List Entry). so_far step h c w.at ++ l)
               (o.part_is ∙ ap (λ (s : Stamp). got_at (inputs_of h c w.at) ++ map (entry_of noted s) o.earlier) stamp);
           stamp_is = ap (λ (x : Entry). x.stamp) o.is ∙ stamp;
+          goes = moved o.output rule there;
         },
       )
 

@@ -1,7 +1,7 @@
 -- In which event of its node each entry of a ring's journals was written, and what its node put out then.
-use Rattle.std.proofs.Common.{◌≡◌, ℕ, ◌+◌, ◌*◌, ◌-◌, ◌<◌, ◌≤◌, List, [], true, false, Some, sym, ap, subst, ◌∙◌, arith, ⊎_elim, inl, inr}
+use Rattle.std.proofs.Common.{refl, ◌≡◌, ℕ, ◌+◌, ◌*◌, ◌-◌, ◌<◌, ◌≤◌, List, [], true, false, Some, sym, ap, subst, ◌∙◌, arith, ⊎_elim, inl, inr}
 use Rattle.std.specs.Prelude.{◌⊎◌, Option, unwrap_or, slice_get}
-use Rattle.std.proofs.lemmas.Bool.{cases_Bool, cases_lt, cases_eq}
+use Rattle.std.proofs.lemmas.Bool.{cases_lt, cases_eq}
 use Rattle.tiger_base.specs.declared.number.Instance.{Instance}
 use Rattle.tiger_base.specs.declared.number.LinkNo.{LinkNo}
 use Rattle.tiger_base.specs.declared.number.Stamp.{Stamp}
@@ -11,29 +11,32 @@ use Rattle.tiger_base.specs.declared.message.Msg.TheVariants as msg
 use Rattle.tiger_base.specs.Notes.{noted}
 use Rattle.slot_plan.specs.declared.params.Params.{Params}
 use Rattle.slot_plan.specs.Conditions.{IsPlan}
-use Rattle.slot_plan.specs.Times.{time_of}
 use Rattle.node_kit.specs.declared.course.Order.{Order}
 use Rattle.node_kit.specs.declared.journal.Entry.{Entry}
 use Rattle.node_kit.specs.declared.journal.What.{What}
 use Rattle.node_kit.specs.declared.journal.What.TheVariants as what
 use Rattle.node_kit.specs.declared.outbox.Out.{Out}
 use Rattle.node_kit.specs.declared.outbox.Out.TheVariants as out
-use Rattle.node_kit.specs.Steps.{Deed, Input, IsOwnEntry, stamp_of}
-use Rattle.run_facts.specs.Events.{NodeEvent, is_death, outs_of, stamp_at}
-use Rattle.run_facts.specs.Histories.{History, living, outs, past, last_of}
+use Rattle.std.specs.List.{AllByRecursion}
+use Rattle.node_kit.specs.Steps.{Deed, Input, IsAllowed, IsOwnEntry, entry_of, stamp_of}
+use Rattle.run_facts.specs.Events.{NodeEvent, Past, is_death, is_return, outs_of, stamp_at}
+use Rattle.run_facts.specs.Events.NodeEvent.{Does, Ends, Dies, Returns}
+use Rattle.run_facts.specs.Histories.{History, outs, past, last_of}
 use Rattle.disk_core.specs.State.{DiskState}
 use Rattle.disk_core.specs.Rules.{disk_step}
-use Rattle.proof_lives.specs.Lives.{IsLife, outs_at}
+use Rattle.proof_lives.specs.Histories.{has_input}
+use Rattle.proof_lives.specs.Lives.{IsLife, outs_in}
+use Rattle.proof_lives.proofs.Acting.{acts_at, among_acting, life_to}
 use Rattle.lists.specs.Elements.{In}
 use Rattle.proof_lives.proofs.Carrying.{stamp_same}
 use Rattle.proof_journals.proofs.Cuts.{numbered_below}
-use Rattle.proof_journals.proofs.Written.{WrittenAt, event_wrote, written_at, act_written}
+use Rattle.proof_journals.proofs.Written.{WrittenAt, event_wrote, written_at, out_written}
 use Rattle.proof_journals.proofs.Journals.{inputs_of}
 use Rattle.proof_controller.specs.Controllers.{controller, commands_at}
 use Rattle.proof_moments.specs.Ties.{StandsIn}
 use Rattle.proof_facts.specs.Rings.{IsRingHistory, node_count, node_of_disk, viewers}
 use Rattle.proof_journals.specs.Journals.{AreJournalsOf}
-use Rattle.proof_journals.proofs.Living.{alive, before_death, ticks_same, death_is, beat_same, reading_same}
+use Rattle.proof_facts.specs.Lives.{lives_of, acting}
 use Rattle.proof_journals.proofs.Others.{act_gone, disk_no_act, disk_no_state}
 use Rattle.proof_journals.proofs.Lists.{moved}
 
@@ -51,45 +54,41 @@ module _ {S : Type 0} {step : S → Input Msg → Deed Msg S} {p : Params} {orde
   pub cub_inside : (c : ℕ) → c < p.cubs → c < node_count p
   cub_inside c small = omega arith
 
-  -- ---- before its death
+  -- ---- up to its death
 
-  -- The events of a node's life are those that are no death.
-  pub is_alive : (n i : ℕ) → n < node_count p → i < living h n → (i < h.count n) × (is_death (h.event n i) ≡ false)
-  is_alive n i known low = let a = alive h n (λ k. kept.ring.run.ended n k known) i low in (a.done, a.lives)
+  -- No event of a node but the last is its death, and none is a return.
+  pub ended : (n : ℕ) → n < node_count p → (i : ℕ) → i < h.count n → is_death (h.event n i) ≡ true → i + 1 ≡ h.count n
+  ended n known i low died = kept.ring.run.ended n i known low died
 
-  pub is_before : (n i : ℕ) → n < node_count p → i < h.count n → is_death (h.event n i) ≡ false → i < living h n
-  is_before n i known low lives = before_death h n (λ k. kept.ring.run.ended n k known) i low lives
+  pub here : (n : ℕ) → n < node_count p → (i : ℕ) → i < h.count n → is_return (h.event n i) ≡ false
+  here n known i low = kept.ring.run.here n i known low
 
-  -- Who puts something out is alive.
-  pub alive_if_out : (n i : ℕ) (o : Out Msg) → n < node_count p → i < h.count n → In o (outs noted step h n i)
-      → i < living h n
-  alive_if_out n i o known low k = ⊎_elim
-      (λ (t : is_death (h.event n i) ≡ true).
-      let none = subst (λ (e : NodeEvent Msg). In o (outs_of step e (past noted step h n i)))
-      (death_is (h.event n i) (kept.ring.run.plain n i known low) t) k in
-      absurd none)
-      (λ (f : is_death (h.event n i) ≡ false). is_before n i known low f)
-      (cases_Bool (is_death (h.event n i)))
+  -- The events of a node's life are those that have an input.
+  pub is_acting : (n i : ℕ) → n < node_count p → i < acting h n → (i < h.count n) × (has_input (h.event n i) ≡ true)
+  is_acting n i known low = let a = acts_at h n (here n known) (ended n known) i low in (a.done, a.input)
+
+  pub is_before : (n i : ℕ) → n < node_count p → i < h.count n → has_input (h.event n i) ≡ true → i < acting h n
+  is_before n i known low acts = among_acting h n (here n known) (ended n known) i low acts
+
+  -- Who puts something out has one.
+  pub acts_if_out : (n i : ℕ) (o : Out Msg) → n < node_count p → i < h.count n → In o (outs noted step h n i)
+      → i < acting h n
+  acts_if_out n i o known low k = is_before n i known low (has_one (h.event n i) (past noted step h n i) k)
+    where
+      has_one : (e : NodeEvent Msg) (before : Past S) → In o (outs_of step e before) → has_input e ≡ true
+      has_one (Does x) before j = refl
+      has_one (Ends x sends) before j = refl
+      has_one (Dies stamp) before j = absurd j
+      has_one (Returns stamp) before j = absurd j
+
+  -- What a node puts out it may put out.
+  pub fair : (n i : ℕ) → n < node_count p → i < h.count n → AllByRecursion (IsAllowed noted p n) (outs noted step h n i)
+  fair n i known low = kept.ring.run.fair n i known low
 
   -- Each node has a life of inputs, among which its death counts as a tick.
   pub life_of : (n : ℕ) → n < node_count p → IsLife p (h.count n) (inputs_of h n)
-  life_of n known = record {
-    in_beat = λ i low. sym (beat_same h n i) ∙ kept.ring.run.in_beat n i known low
-        ∙ ticks_same h n (λ k. kept.ring.run.ended n k known) (λ k. kept.ring.run.plain n k known) i low;
-    reads = λ i low.
-        let r = kept.ring.run.reads n i known low in
-        let t = ap (λ (b : ℕ). time_of p b) (beat_same h n i) in
-        let l = reading_same h n i in
-        let r0 = r.0 in
-        let r1 = r.1 in
-        (omega arith, omega arith);
-    rising = λ j i le low.
-        let r = kept.ring.run.rising n j i known le low in
-        let a = reading_same h n j in
-        let b = reading_same h n i in
-        omega arith;
-    short = λ i low. let r = kept.ring.short n i known low in let b = reading_same h n i in omega arith;
-  }
+  life_of n known = life_to step p (node_count p) h kept.ring.run n (h.count n) known (omega arith)
+      (λ i low. kept.ring.short n i known low)
 
   -- ---- entries of a node's own
 
@@ -109,11 +108,11 @@ module _ {S : Type 0} {step : S → Input Msg → Deed Msg S} {p : Params} {orde
       let j = journal_is n s.journal s.at in
       (j.0, written_at step h n (h.count n) e (subst (λ (es : List Entry). In e es) j.1 s.there))
 
-  -- A node put an entry of its own out, in an event before its death.
+  -- A node put an entry of its own out, in an event of its life.
   pub record DidOwn (n : ℕ) (w : What) (stamp : Stamp) : Type 0 where
     pub known : n < node_count p
     pub at : ℕ
-    pub done : at < living h n
+    pub done : at < acting h n
     pub did : In (out.Act w) (outs noted step h n at)
     pub when : stamp ≡ stamp_of (inputs_of h n at)
 
@@ -123,27 +122,30 @@ module _ {S : Type 0} {step : S → Input Msg → Deed Msg S} {p : Params} {orde
   own_entry n e w s own is =
       let x = written_in n e s in
       let i : ℕ = x.1.at in
-      let r = event_wrote step (h.event n i) (past noted step h n i) e w
-      (kept.ring.run.plain n i x.0 x.1.before) own x.1.there is in
+      let r = event_wrote step p n (h.event n i) (past noted step h n i) e w
+      (fair n i x.0 x.1.before) own x.1.there is in
       record {
         known = x.0;
         at = i;
-        done = alive_if_out n i (out.Act w) x.0 x.1.before r.0;
+        done = acts_if_out n i (out.Act w) x.0 x.1.before r.0;
         did = r.0;
         when = r.1 ∙ stamp_same (h.event n i);
       }
 
   -- And what a node put out has its entry.
-  pub deed_logged : (n i : ℕ) (w : What) → n < node_count p → i < living h n → In (out.Act w) (outs noted step h n i)
-      → StandsIn journals n (record { stamp = stamp_at (h.event n i); what = w })
-  deed_logged n i w known low k =
-      let e : Entry = record { stamp = stamp_at (h.event n i); what = w } in
-      let done = (is_alive n i known low).0 in
+  pub out_logged : (n i : ℕ) (o : Out Msg) → n < node_count p → i < acting h n → In o (outs noted step h n i)
+      → StandsIn journals n (entry_of noted (stamp_at (h.event n i)) o)
+  out_logged n i o known low k =
+      let done = (is_acting n i known low).0 in
       record {
         journal = (last_of noted step h n).journal;
         at = kept.are.writes n known;
-        there = act_written step h n i w done (kept.ring.run.plain n i known done) k;
+        there = out_written step p h n i o done (fair n i known done) k;
       }
+
+  pub deed_logged : (n i : ℕ) (w : What) → n < node_count p → i < acting h n → In (out.Act w) (outs noted step h n i)
+      → StandsIn journals n (record { stamp = stamp_at (h.event n i); what = w })
+  deed_logged n i w known low k = out_logged n i (out.Act w) known low k
 
   -- ---- which node puts out what
 
@@ -180,14 +182,14 @@ module _ {S : Type 0} {step : S → Input Msg → Deed Msg S} {p : Params} {orde
       (cases_lt n (p.cubs + p.cubs * p.disks))
 
   -- An entry of its own is a cub's, or it is the controller's and tells of a stop.
-  pub who_acts : (n i : ℕ) (w : What) → n < node_count p → i < living h n → In (out.Act w) (outs noted step h n i)
-      → ((n < p.cubs) × In (out.Act w) (outs_at p n (inputs_of h n) i))
+  pub who_acts : (n i : ℕ) (w : What) → n < node_count p → i < acting h n → In (out.Act w) (outs noted step h n i)
+      → ((n < p.cubs) × In (out.Act w) (outs_in p (lives_of h) n i))
       ⊎ ((n ≡ controller p) × In (out.Act w) (commands_at p orders (inputs_of h (controller p)) i)
       × (v : Instance) × (w ≡ what.Gone v))
   who_acts n i w known low k = ⊎_elim
       (λ (small : n < p.cubs). inl (small, moved (out.Act w) (kept.ring.rules.cubs n i small low) k))
       (λ (high : p.cubs ≤ n).
-      let done = (is_alive n i known low).0 in
+      let done = (is_acting n i known low).0 in
       ⊎_elim
       (λ (e : n ≡ controller p).
       let there = subst (λ m. In (out.Act w) (outs noted step h m i)) e k in
@@ -200,6 +202,6 @@ module _ {S : Type 0} {step : S → Input Msg → Deed Msg S} {p : Params} {orde
 
   -- So what is no stop is a cub's.
   pub cub_acts : (n : ℕ) (w : What) (stamp : Stamp) → ((v : Instance) → w ≡ what.Gone v → ⊥) → (d : DidOwn n w stamp)
-      → (n < p.cubs) × In (out.Act w) (outs_at p n (inputs_of h n) d.at)
+      → (n < p.cubs) × In (out.Act w) (outs_in p (lives_of h) n d.at)
   cub_acts n w stamp no_stop d = ⊎_elim (λ c. c) (λ o. absurd (no_stop o.2 o.3))
       (who_acts n d.at w d.known d.done d.did)

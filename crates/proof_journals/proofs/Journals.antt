@@ -2,18 +2,14 @@
 use Rattle.std.proofs.Common.{◌≡◌, ℕ, zero, suc, ◌<◌, ◌≤◌, List, [], ◌∷◌, ◌++◌, map, false, refl, sym, ap, subst, ◌∙◌, arith, ⊎_elim, inl, append-nil, append_assoc, eq-or-lt_of_le}
 use Rattle.std.specs.List.{AllByRecursion}
 use Rattle.std.proofs.lemmas.Bool.{true≢false}
-use Rattle.tiger_base.specs.declared.number.LinkNo.{LinkNo}
 use Rattle.tiger_base.specs.declared.number.Stamp.{Stamp}
 use Rattle.tiger_base.specs.declared.message.Msg.{Msg}
 use Rattle.tiger_base.specs.Notes.{noted}
 use Rattle.slot_plan.specs.declared.params.Params.{Params}
-use Rattle.node_kit.specs.declared.journal.What.TheVariants as what
 use Rattle.node_kit.specs.declared.journal.Entry.{Entry}
 use Rattle.node_kit.specs.declared.outbox.Out.{Out}
-use Rattle.node_kit.specs.Steps.{Deed, Input, entry_of}
-use Rattle.node_kit.specs.Steps.Input.{Take, Tick}
-use Rattle.run_facts.specs.Events.{NodeEvent, Past, kept_outs, outs_of, stamp_at, entries_at, IsPlain}
-use Rattle.run_facts.specs.Events.NodeEvent.{Does, Ends, Dies, Returns}
+use Rattle.node_kit.specs.Steps.{Deed, Input, IsAllowed, entry_of}
+use Rattle.run_facts.specs.Events.{NodeEvent, Past, outs_of, stamp_at, entries_at}
 use Rattle.run_facts.specs.Histories.{History, past}
 use Rattle.run_facts.specs.Accounts.{Rising}
 use Rattle.run_facts.specs.Timed.{is_died}
@@ -25,7 +21,10 @@ use Rattle.lists.proofs.Elements.{in_right, in_cases}
 use Rattle.lists.proofs.Each.{all_in}
 use Rattle.proof_lives.proofs.Order.{beats_rise}
 use Rattle.proof_journals.proofs.Cuts.{all_from, IsAhead, two_cuts, rising_joined}
+use Rattle.proof_journals.proofs.Lists.{past_front, in_front}
 use Rattle.proof_journals.proofs.Written.{written_at, one_event_more, stamp_same}
+pub use Rattle.proof_journals.proofs.Wrote.{got_at, got_in}
+use Rattle.proof_journals.proofs.Wrote.{sent_in, died_in, entries_are, got_is, died_is}
 
 -- a list that was mapped, cut at an element
 pub record IsMapped {X Y : Type 0} (f : X → Y) (xs : List X) (front : List Y) (y : Y) : Type 0 where
@@ -52,14 +51,6 @@ mapped_cut f (x ∷ xs) (z ∷ zs) y back e =
       is = m.is;
     }
 
--- what an event writes before its outputs: the message that was taken
-abbrev pub got_at : Input Msg → List Entry
-got_at (Take stamp link m) = (record { stamp = stamp; what = what.Got link (noted m) }) ∷ []
-got_at (Tick stamp) = []
-
-abbrev pub got_in : NodeEvent Msg → List Entry
-got_in ev = got_at (input_of ev)
-
 -- an entry of an event is an output's, and what stands before it in the event are the entries of what was put out before
 pub record IsPutOut {S : Type 0} (step : S → Input Msg → Deed Msg S) (ev : NodeEvent Msg) (before : Past S) (part : List Entry) (e : Entry) : Type 0 where
   pub earlier : List (Out Msg)
@@ -69,39 +60,23 @@ pub record IsPutOut {S : Type 0} (step : S → Input Msg → Deed Msg S) (ev : N
   pub part_is : part ≡ got_in ev ++ map (entry_of noted (stamp_at ev)) earlier
   pub is : e ≡ entry_of noted (stamp_at ev) output
 
-pub put_out_behind : {S : Type 0} (step : S → Input Msg → Deed Msg S) (stamp : Stamp) (link : LinkNo) (m : Msg) (before : Past S) (part : List Entry) (e : Entry) (rest : List Entry)
-    → is_got e.what ≡ false → part ++ e ∷ rest ≡ entries_at noted step (Does (Take stamp link m)) before → IsPutOut step (Does (Take stamp link m)) before part e
-put_out_behind step stamp link m before [] e rest sent is =
-    let head : e ≡ record { stamp = stamp; what = what.Got link (noted m) } = cc in
-    absurd (true≢false (sym (ap (λ (x : Entry). is_got x.what) head) ∙ sent))
-put_out_behind step stamp link m before (g ∷ part) e rest sent is =
-    let first : Entry = record { stamp = stamp; what = what.Got link (noted m) } in
-    let head : g ≡ first = cc in
-    let tail : part ++ e ∷ rest ≡ map (entry_of noted stamp) (kept_outs step (Take stamp link m) before) = cc in
-    let c = mapped_cut (entry_of noted stamp) (kept_outs step (Take stamp link m) before) part e rest tail in
+pub put_out : {S : Type 0} (step : S → Input Msg → Deed Msg S) (p : Params) (n : ℕ) (ev : NodeEvent Msg) (before : Past S) (part : List Entry) (e : Entry) (rest : List Entry)
+    → AllByRecursion (IsAllowed noted p n) (outs_of step ev before) → is_got e.what ≡ false → is_died e.what ≡ false
+    → part ++ e ∷ rest ≡ entries_at noted step ev before → IsPutOut step ev before part e
+put_out step p n ev before part e rest fair sent lives is =
+    let one = past_front (got_in ev) (sent_in step ev before ++ died_in ev) part e rest (is ∙ entries_are step p n ev before fair)
+    (λ k. true≢false (sym (got_is (input_of ev) e k) ∙ sent)) in
+    let two = in_front (sent_in step ev before) (died_in ev) one.0 e rest one.2
+    (λ k. true≢false (sym (ap (λ (x : Entry). is_died x.what) (died_is ev e k).0) ∙ lives)) in
+    let c = mapped_cut (entry_of noted (stamp_at ev)) (outs_of step ev before) one.0 e two.0 two.1 in
     record {
       earlier = c.before;
       output = c.at;
       later = c.behind;
       outs_are = c.whole;
-      part_is = ap (λ l. g ∷ l) c.front_is ∙ ap (λ x. x ∷ map (entry_of noted stamp) c.before) head;
+      part_is = one.1 ∙ ap (λ l. got_in ev ++ l) c.front_is;
       is = c.is;
     }
-
-pub put_out : {S : Type 0} (step : S → Input Msg → Deed Msg S) (ev : NodeEvent Msg) (before : Past S) (part : List Entry) (e : Entry) (rest : List Entry)
-    → IsPlain ev → is_got e.what ≡ false → is_died e.what ≡ false → part ++ e ∷ rest ≡ entries_at noted step ev before → IsPutOut step ev before part e
-put_out step (Does (Take stamp link m)) before part e rest plain sent lives is = put_out_behind step stamp link m before part e rest sent is
-put_out step (Does (Tick stamp)) before part e rest plain sent lives is =
-    let c = mapped_cut (entry_of noted stamp) (kept_outs step (Tick stamp) before) part e rest is in
-    record { earlier = c.before; output = c.at; later = c.behind; outs_are = c.whole; part_is = c.front_is; is = c.is }
-put_out step (Ends i sends) before part e rest plain sent lives is = absurd plain
-put_out step (Returns stamp) before part e rest plain sent lives is = absurd plain
-put_out step (Dies stamp) before [] e rest plain sent lives is =
-    let head : e ≡ record { stamp = stamp; what = what.Died } = cc in
-    absurd (true≢false (sym (ap (λ (x : Entry). is_died x.what) head) ∙ lives))
-put_out step (Dies stamp) before (g ∷ part) e rest plain sent lives is =
-    let tail : part ++ e ∷ rest ≡ [] = cc in
-    absurd (subst (λ l. In e l) tail (in_right e part (e ∷ rest) (inl refl)))
 
 -- what befalls a node
 abbrev pub inputs_of : {S : Type 0} → History Msg S → ℕ → ℕ → Input Msg

@@ -1,5 +1,5 @@
 -- Elements of lists, and where lists are cut.
-use Rattle.std.proofs.Common.{◌≡◌, List, [], ◌∷◌, ◌++◌, Bool, true, refl, sym, subst, ◌∙◌, ⊎_elim, inl, inr, append-nil}
+use Rattle.std.proofs.Common.{ap, ◌≡◌, List, [], ◌∷◌, ◌++◌, Bool, true, refl, sym, subst, ◌∙◌, ⊎_elim, inl, inr, append-nil}
 use Rattle.lists.specs.Elements.{In}
 use Rattle.lists.proofs.Elements.{in_right}
 use Rattle.proof_journals.proofs.Ones.{IsOne}
@@ -20,6 +20,31 @@ none_more [] x rest z y e i = let none : rest ≡ [] = cc in moved y none i
 none_more (w ∷ ws) x rest z y e i =
     let none : ws ++ x ∷ rest ≡ [] = cc in
     moved x none (in_right x ws (x ∷ rest) (inl refl))
+
+-- Of two lists behind one another, an element that is none of the first stands in the second,
+pub past_front : {X : Type 0} (xs ys part : List X) (x : X) (back : List X) → part ++ x ∷ back ≡ xs ++ ys → (In x xs → ⊥)
+    → (mid : List X) × (part ≡ xs ++ mid) × (mid ++ x ∷ back ≡ ys)
+past_front [] ys part x back e outside = (part, refl, e)
+past_front (z ∷ zs) ys [] x back e outside = let head : x ≡ z = cc in absurd (outside (inl head))
+past_front (z ∷ zs) ys (w ∷ ws) x back e outside =
+    let head : w ≡ z = cc in
+    let tail : ws ++ x ∷ back ≡ zs ++ ys = cc in
+    let r = past_front zs ys ws x back tail (λ i. outside (inr i)) in
+    (r.0, ap (λ l. w ∷ l) r.1 ∙ ap (λ v. v ∷ zs ++ r.0) head, r.2)
+
+-- and one that is none of the second in the first.
+pub in_front : {X : Type 0} (xs ys part : List X) (x : X) (back : List X) → part ++ x ∷ back ≡ xs ++ ys → (In x ys → ⊥)
+    → (rest : List X) × (part ++ x ∷ rest ≡ xs) × (rest ++ ys ≡ back)
+in_front [] ys part x back e outside = absurd (outside (moved x e (in_right x part (x ∷ back) (inl refl))))
+in_front (z ∷ zs) ys [] x back e outside =
+    let head : x ≡ z = cc in
+    let tail : back ≡ zs ++ ys = cc in
+    (zs, ap (λ v. v ∷ zs) head, sym tail)
+in_front (z ∷ zs) ys (w ∷ ws) x back e outside =
+    let head : w ≡ z = cc in
+    let tail : ws ++ x ∷ back ≡ zs ++ ys = cc in
+    let r = in_front zs ys ws x back tail outside in
+    (r.0, ap (λ l. w ∷ l) r.1 ∙ ap (λ v. v ∷ zs) head, r.2)
 
 -- If at most one element passes, none behind one that passes does.
 pub one_behind : {X : Type 0} (test : X → Bool) (front : List X) (x : X) (back : List X) (y : X)

@@ -1,7 +1,7 @@
 -- What a cub takes and which viewer states it sends follow from what its journal had told.
-use Rattle.std.proofs.Common.{◌≡◌, ℕ, ◌+◌, ◌<◌, ◌≤◌, List, [], ◌∷◌, ◌++◌, map, true, false, Option, Some, IsTrue, refl, sym, ap, subst, ◌∙◌, arith, ⊎_elim, inl, append_assoc}
+use Rattle.std.proofs.Common.{◌≡◌, ℕ, ◌+◌, ◌<◌, ◌≤◌, List, ◌∷◌, ◌++◌, map, true, false, Option, Some, IsTrue, refl, sym, ap, subst, ◌∙◌, arith, ⊎_elim, inl, append_assoc}
 use Rattle.std.specs.Prelude.{slice_get}
-use Rattle.std.proofs.lemmas.Bool.{cases_Bool, cases_lt}
+use Rattle.std.proofs.lemmas.Bool.{cases_Bool, cases_lt, true≢false}
 use Rattle.tiger_base.specs.declared.number.LinkNo.{LinkNo}
 use Rattle.tiger_base.specs.declared.number.Stamp.{Stamp}
 use Rattle.tiger_base.specs.declared.tenancy.Rec.{Rec}
@@ -21,9 +21,8 @@ use Rattle.node_kit.specs.Links.{links_of, ends_of}
 use Rattle.node_kit.specs.Steps.{Deed, Input, entry_of, stamp_of}
 use Rattle.node_kit.specs.Steps.Input.{Take, Tick}
 use Rattle.node_kit.specs.Ways.{way_ahead}
-use Rattle.run_facts.specs.Events.{NodeEvent, entries_at, is_death, stamp_at}
-use Rattle.run_facts.specs.Events.NodeEvent.{Does}
-use Rattle.run_facts.specs.Histories.{History, living, outs, past}
+use Rattle.run_facts.specs.Events.{NodeEvent, is_death, stamp_at}
+use Rattle.run_facts.specs.Histories.{History, outs, past}
 use Rattle.run_facts.specs.Timed.{is_died}
 use Rattle.run_model.specs.Fronts.{AnyByRecursion}
 use Rattle.run_model.specs.Parts.{Brings, IsForCub, IsOwnRecordFor, is_from_before}
@@ -32,28 +31,27 @@ use Rattle.disk_core.specs.State.{DiskState}
 use Rattle.proof_lives.specs.Lives.{outs_at, beat_at, reading_at}
 use Rattle.lists.specs.Elements.{In}
 use Rattle.lists.proofs.Elements.{in_left, in_right, in_map}
-use Rattle.proof_lives.proofs.Carrying.{came_to, does_it, same_ends, stamp_same, way_ends}
+use Rattle.proof_lives.proofs.Carrying.{came_to, takes_it, same_ends, stamp_same, way_ends}
+use Rattle.proof_lives.proofs.Cuts.{was_put_out}
+use Rattle.proof_lives.specs.Histories.{input_of}
+use Rattle.proof_facts.specs.Lives.{lives_of, acting}
 use Rattle.proof_controller.specs.Controllers.{controller}
 use Rattle.proof_lives.specs.Records.{AreFromRecords}
 use Rattle.proof_lives.proofs.KeepingRecords.{keeps_records}
 use Rattle.proof_lives.proofs.Told.{any_in}
-use Rattle.proof_journals.proofs.Notes.{event_lives}
+use Rattle.proof_journals.proofs.Notes.{event_lives, outputs_live}
+use Rattle.proof_journals.proofs.Wrote.{got_in, sent_in, died_in, died_entry, entries_are, got_no_death, death_is}
 use Rattle.proof_journals.proofs.Journals.{inputs_of, got_at, so_far, wrote, stamped}
 use Rattle.proof_journals.proofs.Records.{from_before, state_record, records_after, input_recorded}
 use Rattle.proof_moments.specs.Ties.{StandsIn, Locals}
 use Rattle.lists.proofs.Cuts.{cut_by}
 use Rattle.proof_facts.specs.Rings.{node_count}
 use Rattle.proof_journals.specs.Journals.{JournalsAreLocal}
-use Rattle.proof_journals.proofs.Living.{death_is}
 use Rattle.proof_journals.proofs.Others.{commands_no_state}
-use Rattle.proof_journals.proofs.Events.{AreKept, is_alive, own_entry, cub_acts, other_node, written_in, life_of, alive_if_out, cub_inside}
-use Rattle.proof_journals.proofs.Cutting.{cut_in, own_output, sent_output}
-use Rattle.proof_journals.proofs.Views.{told_before}
-use Rattle.proof_journals.proofs.Lists.{moved, none_more}
-
--- The entry of a death.
-abbrev died_entry : Stamp → Entry
-died_entry stamp = record { stamp = stamp; what = what.Died }
+use Rattle.proof_journals.proofs.Events.{AreKept, is_acting, fair, own_entry, cub_acts, other_node, written_in, life_of, acts_if_out, cub_inside}
+use Rattle.proof_journals.proofs.Cutting.{cut_at_entry, own_output, sent_output}
+use Rattle.proof_journals.proofs.Views.{told_before, whole_below}
+use Rattle.proof_journals.proofs.Lists.{moved, past_front, none_more}
 
 module _ {S : Type 0} {step : S → Input Msg → Deed Msg S} {p : Params} {orders : List Order}
     {disk_at : ℕ → DiskState} {h : History Msg S} {journals : List (List Entry)}
@@ -63,7 +61,8 @@ module _ {S : Type 0} {step : S → Input Msg → Deed Msg S} {p : Params} {orde
   for_cub n e q small s is =
       let d = own_entry kept n e (what.Took q) s tt is in
       let c = cub_acts kept n (what.Took q) e.stamp (λ v k. absurd (cc)) d in
-      (keeps_records p n (inputs_of h n) d.at kept.plan small).for_cub q c.1
+      (keeps_records p n (inputs_of h n) d.at kept.plan small).for_cub q
+      (was_put_out p (lives_of h) n d.at (out.Act (what.Took q)) c.1)
 
   -- ---- how a record came
 
@@ -73,8 +72,11 @@ module _ {S : Type 0} {step : S → Input Msg → Deed Msg S} {p : Params} {orde
       → (n < p.cubs) × In (out.Send link (msg.ViewerState s)) (outs_at p n (inputs_of h n) i)
   state_sender n i link s known low k = ⊎_elim
       (λ (small : n < p.cubs).
-      let lives = alive_if_out kept n i (out.Send link (msg.ViewerState s)) known low k in
-      (small, moved (out.Send link (msg.ViewerState s)) (kept.ring.rules.cubs n i small lives) k))
+      let acts = acts_if_out kept n i (out.Send link (msg.ViewerState s)) known low k in (
+        small,
+        was_put_out p (lives_of h) n i (out.Send link (msg.ViewerState s))
+            (moved (out.Send link (msg.ViewerState s)) (kept.ring.rules.cubs n i small acts) k),
+      ))
       (λ (high : p.cubs ≤ n). ⊎_elim
       (λ (e : n ≡ controller p).
       let there = subst (λ m. In (out.Send link (msg.ViewerState s)) (outs noted step h m i)) e k in
@@ -86,15 +88,14 @@ module _ {S : Type 0} {step : S → Input Msg → Deed Msg S} {p : Params} {orde
       (cases_lt n p.cubs)
 
   -- A state that a cub took came from one of the two cubs before it.
-  state_came : (c i : ℕ) (stamp : Stamp) (link : LinkNo) (s : State) → c < p.cubs → i < living h c
+  state_came : (c i : ℕ) (stamp : Stamp) (link : LinkNo) (s : State) → c < p.cubs → i < acting h c
       → inputs_of h c i ≡ Take stamp link (msg.ViewerState s)
       → IsTrue (is_from_before p c (ends_of (links_of p) link.0))
   state_came c i stamp link s small low is =
       let known = cub_inside kept c small in
-      let lives = is_alive kept c i known low in
-      let event : h.event c i ≡ Does (Take stamp link (msg.ViewerState s)) =
-      does_it (h.event c i) (kept.ring.run.plain c i known lives.0) lives.1 ∙ ap (λ (q : Input Msg). Does q) is in
-      let f = came_to step p (node_count p) h kept.ring.run c i stamp link (msg.ViewerState s) known lives.0 event in
+      let acts = is_acting kept c i known low in
+      let took = takes_it (h.event c i) stamp link (msg.ViewerState s) acts.1 is in
+      let f = came_to step p (node_count p) h kept.ring.run c i stamp link (msg.ViewerState s) known acts.0 took in
       let from = state_sender f.from f.at f.way s f.known f.done f.sent in
       let w = (keeps_records p f.from (inputs_of h f.from) f.at kept.plan from.0).ways f.way s from.1 in
       let k : ℕ = w.0 in
@@ -113,7 +114,7 @@ module _ {S : Type 0} {step : S → Input Msg → Deed Msg S} {p : Params} {orde
   before_it c i earlier = so_far step h c i
       ++ (got_at (inputs_of h c i) ++ map (entry_of noted (stamp_of (inputs_of h c i))) earlier)
 
-  came_by : (c i : ℕ) (r : Rec) (earlier later : List (Out Msg)) (q : Input Msg) → c < p.cubs → i < living h c
+  came_by : (c i : ℕ) (r : Rec) (earlier later : List (Out Msg)) (q : Input Msg) → c < p.cubs → i < acting h c
       → inputs_of h c i ≡ q
       → outs_at p c (inputs_of h c) i ≡ earlier ++ out.Act (what.Took r) ∷ later
       → AnyByRecursion (λ (e : Entry). Brings p c r.tenancy r.visit e.what) (before_it c i earlier)
@@ -156,7 +157,7 @@ module _ {S : Type 0} {step : S → Input Msg → Deed Msg S} {p : Params} {orde
       let inputs : ℕ → Input Msg = inputs_of h n in
       let o = sent_output kept n small xs e ys link s at is in
       let old : List Rec = records_of (so_far step h n o.at) in
-      let told = told_before kept n o.at small (let l = o.lives in omega arith) in
+      let told = told_before kept n o.at small (let l = o.lives in omega arith) (whole_below kept n o.at o.lives) in
       let from = (keeps_records p n inputs o.at kept.plan small).states old told in
       let record_then = state_record o.earlier link s o.later old
       (subst (λ (os : List (Out Msg)). AreFromRecords os old) o.outs_are from) in
@@ -186,22 +187,25 @@ module _ {S : Type 0} {step : S → Input Msg → Deed Msg S} {p : Params} {orde
       let back : List Entry = k.back ++ e ∷ ys in
       let all : xs ++ e ∷ ys ≡ k.front ++ f ∷ back =
       ap (λ (es : List Entry). es ++ e ∷ ys) (sym k.is) ∙ append_assoc k.front (f ∷ k.back) (e ∷ ys) in
-      let c = cut_in kept n k.front f back (at ∙ ap (λ (es : List Entry). Some es) all) in
+      let c = cut_at_entry kept n k.front f back (at ∙ ap (λ (es : List Entry). Some es) all) in
       let event : NodeEvent Msg = h.event n c.at in
-      let plain = kept.ring.run.plain n c.at c.known c.done in
+      let before = past noted step h n c.at in
+      let fairly = fair kept n c.at c.known c.done in
       let there : In f (wrote step h n c.at) = moved f c.event_is (in_right f c.part (f ∷ c.rest) (inl refl)) in
       ⊎_elim
       (λ (t : is_death event ≡ true).
       let last = kept.ring.run.ended n c.at c.known c.done t in
-      let one : wrote step h n c.at ≡ died_entry (stamp_at event) ∷ [] =
-      ap (λ (x : NodeEvent Msg). entries_at noted step x (past noted step h n c.at)) (death_is event plain t) in
+      let got = past_front (got_in event) (sent_in step event before ++ died_in event) c.part f c.rest
+      (c.event_is ∙ entries_are step p n event before fairly)
+      (λ j. true≢false (sym (ap is_died is) ∙ got_no_death (input_of event) f j)) in
+      let sent = past_front (sent_in step event before) (died_in event) got.0 f c.rest got.2
+      (λ j. outputs_live p n (stamp_at event) (outs noted step h n c.at) f fairly j (ap is_died is)) in
       ⊎_elim
-      (λ j. none_more c.part f c.rest (died_entry (stamp_at event)) e (c.event_is ∙ one) j)
+      (λ j. none_more sent.0 f c.rest (died_entry (stamp_at event)) e (sent.2 ∙ death_is event t) j)
       (λ j. let low = j.1 in let high = j.2 in absurd (omega arith))
       (c.behind e (in_right e k.back (e ∷ ys) (inl refl))))
       (λ (l : is_death event ≡ false).
-      let fair = kept.ring.run.fair n c.at c.known c.done in
-      absurd (event_lives step p n event (past noted step h n c.at) f plain l fair there (ap is_died is)))
+      absurd (event_lives step p n event before f l fairly there (ap is_died is)))
       (cases_Bool (is_death event))
 
   pub locals : Locals p journals

@@ -15,13 +15,13 @@ use Rattle.node_kit.specs.declared.journal.Entry.{Entry}
 use Rattle.node_kit.specs.declared.outbox.Out.{Out}
 use Rattle.node_kit.specs.declared.outbox.Out.TheVariants as out
 use Rattle.node_kit.specs.Steps.{Deed, Input, IsAllowed, IsOwnEntry, what_of, entry_of}
-use Rattle.node_kit.specs.Steps.Input.{Take, Tick}
-use Rattle.run_facts.specs.Events.{NodeEvent, Past, kept_outs, outs_of, is_death, entries_at, IsPlain}
-use Rattle.run_facts.specs.Events.NodeEvent.{Does, Ends, Dies, Returns}
+use Rattle.run_facts.specs.Events.{NodeEvent, Past, outs_of, is_death, stamp_at, entries_at}
 use Rattle.run_facts.specs.Timed.{is_died}
 use Rattle.lists.specs.Elements.{In}
 use Rattle.lists.proofs.Elements.{from_map}
 use Rattle.lists.proofs.Each.{all_in}
+use Rattle.proof_lives.specs.Histories.{input_of}
+use Rattle.proof_journals.proofs.Wrote.{got_no_death, died_is, one_of}
 
 -- a viewer state that a journal says was sent went out
 pub state_back : (m : Msg) (s : State) → noted m ≡ note.ViewerState s → m ≡ msg.ViewerState s
@@ -47,13 +47,12 @@ outputs_live p c stamp os e fair i d =
     let r = from_map (entry_of noted stamp) e os i in
     output_lives p c r.0 (all_in (IsAllowed noted p c) r.0 os fair r.1) (ap (λ (x : Entry). is_died x.what) (sym r.2) ∙ d)
 
-pub event_lives : {S : Type 0} (step : S → Input Msg → Deed Msg S) (p : Params) (c : ℕ) (ev : NodeEvent Msg) (before : Past S) (e : Entry) → IsPlain ev
+pub event_lives : {S : Type 0} (step : S → Input Msg → Deed Msg S) (p : Params) (c : ℕ) (ev : NodeEvent Msg) (before : Past S) (e : Entry)
     → is_death ev ≡ false → AllByRecursion (IsAllowed noted p c) (outs_of step ev before) → In e (entries_at noted step ev before) → is_died e.what ≡ true → ⊥
-event_lives step p c (Does (Take stamp link m)) before e plain lives fair i d = ⊎_elim
-    (λ q. true≢false (sym d ∙ ap (λ (x : Entry). is_died x.what) q))
-    (λ k. outputs_live p c stamp (kept_outs step (Take stamp link m) before) e fair k d)
-    i
-event_lives step p c (Does (Tick stamp)) before e plain lives fair i d = outputs_live p c stamp (kept_outs step (Tick stamp) before) e fair i d
-event_lives step p c (Ends input sends) before e plain lives fair i d = plain
-event_lives step p c (Dies stamp) before e plain lives fair i d = absurd (cc)
-event_lives step p c (Returns stamp) before e plain lives fair i d = plain
+event_lives step p c ev before e lives fair i d = ⊎_elim
+    (λ k. true≢false (sym d ∙ got_no_death (input_of ev) e k))
+    (λ o. ⊎_elim
+    (λ k. outputs_live p c (stamp_at ev) (outs_of step ev before) e fair k d)
+    (λ k. true≢false (sym (died_is ev e k).1 ∙ lives))
+    o)
+    (one_of step p c ev before e fair i)

@@ -7,14 +7,16 @@ use Rattle.tiger_base.specs.Notes.{noted}
 use Rattle.node_kit.specs.declared.journal.Entry.{Entry}
 use Rattle.node_kit.specs.declared.outbox.Out.{Out}
 use Rattle.node_kit.specs.declared.outbox.Out.TheVariants as out
-use Rattle.node_kit.specs.Steps.{Deed, Input, entry_of, stamp_of}
+use Rattle.node_kit.specs.Steps.{Deed, Input, IsAllowed, entry_of, stamp_of}
+use Rattle.std.specs.List.{AllByRecursion}
 use Rattle.node_kit.specs.Steps.Input.{Take, Tick}
-use Rattle.run_facts.specs.Events.{NodeEvent, Past, kept_outs, outs_of, entries_at, IsPlain}
+use Rattle.run_facts.specs.Events.{NodeEvent, Past, outs_of, stamp_at, entries_at}
 use Rattle.run_facts.specs.Events.NodeEvent.{Does, Ends, Dies, Returns}
 use Rattle.run_model.specs.Views.{records_of, recorded}
 use Rattle.run_model.proofs.Moments.{records_more}
 use Rattle.proof_lives.specs.Records.{recorded_by}
-use Rattle.proof_journals.proofs.Journals.{got_at}
+use Rattle.proof_lives.specs.Histories.{input_of}
+use Rattle.proof_journals.proofs.Wrote.{got_at, got_in, sent_in, died_in, entries_are}
 use Rattle.std.proofs.Common.{◌≡◌, ℕ, ◌+◌, ◌<◌, ◌%◌, List, ◌∷◌, ◌++◌, Some, IsTrue, subst, ⊎_elim}
 use Rattle.std.specs.Prelude.{◌⊎◌, nat_lt}
 use Rattle.std.proofs.lemmas.Bool.{and_from, or_left, or_right, lt-ltb, eq-eqb}
@@ -46,13 +48,31 @@ outs_recorded stamp [] rs = refl
 outs_recorded stamp (out.Act w ∷ os) rs = outs_recorded stamp os (recorded rs w)
 outs_recorded stamp (out.Send link m ∷ os) rs = outs_recorded stamp os rs
 
-pub event_recorded : {S : Type 0} (step : S → Input Msg → Deed Msg S) (ev : NodeEvent Msg) (before : Past S) (rs : List Rec) → IsPlain ev
+recorded_on : (es fs : List Entry) (rs : List Rec) → recorded_in (es ++ fs) rs ≡ recorded_in fs (recorded_in es rs)
+recorded_on [] fs rs = refl
+recorded_on (e ∷ es) fs rs = recorded_on es fs (recorded rs e.what)
+
+got_recorded : (i : Input Msg) (rs : List Rec) → recorded_in (got_at i) rs ≡ rs
+got_recorded (Take stamp link m) rs = refl
+got_recorded (Tick stamp) rs = refl
+
+died_recorded : (ev : NodeEvent Msg) (rs : List Rec) → recorded_in (died_in ev) rs ≡ rs
+died_recorded (Does i) rs = refl
+died_recorded (Ends i sends) rs = refl
+died_recorded (Dies stamp) rs = refl
+died_recorded (Returns stamp) rs = refl
+
+pub event_recorded : {S : Type 0} (step : S → Input Msg → Deed Msg S) (p : Params) (n : ℕ) (ev : NodeEvent Msg) (before : Past S) (rs : List Rec)
+    → AllByRecursion (IsAllowed noted p n) (outs_of step ev before)
     → recorded_in (entries_at noted step ev before) rs ≡ recorded_by (outs_of step ev before) rs
-event_recorded step (Does (Take stamp link m)) before rs plain = outs_recorded stamp (kept_outs step (Take stamp link m) before) rs
-event_recorded step (Does (Tick stamp)) before rs plain = outs_recorded stamp (kept_outs step (Tick stamp) before) rs
-event_recorded step (Ends i sends) before rs plain = absurd plain
-event_recorded step (Dies stamp) before rs plain = refl
-event_recorded step (Returns stamp) before rs plain = refl
+event_recorded step p n ev before rs fair =
+    let sent : List Entry = sent_in step ev before in
+    ap (λ (es : List Entry). recorded_in es rs) (entries_are step p n ev before fair)
+    ∙ recorded_on (got_in ev) (sent ++ died_in ev) rs
+    ∙ ap (recorded_in (sent ++ died_in ev)) (got_recorded (input_of ev) rs)
+    ∙ recorded_on sent (died_in ev) rs
+    ∙ died_recorded ev (recorded_in sent rs)
+    ∙ outs_recorded (stamp_at ev) (outs_of step ev before) rs
 
 -- and so what stands before an output in its event
 pub input_recorded : (i : Input Msg) (os : List (Out Msg)) (rs : List Rec) → recorded_in (got_at i ++ map (entry_of noted (stamp_of i)) os) rs ≡ recorded_by os rs

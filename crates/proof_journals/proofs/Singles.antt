@@ -1,6 +1,7 @@
 -- What a cub puts out in one event has at most one Put of an instance.
-use Rattle.std.proofs.Common.{◌≡◌, ℕ, List, ◌++◌, Bool, true, refl, sym, ap, subst, ◌∙◌, inl}
-use Rattle.std.proofs.lemmas.Bool.{eqb-true}
+use Rattle.std.proofs.Common.{◌≡◌, ℕ, List, ◌++◌, Bool, true, refl, sym, ap, subst, ◌∙◌, ⊎_elim, inl}
+use Rattle.std.specs.List.{AllByRecursion}
+use Rattle.std.proofs.lemmas.Bool.{eqb-true, true≢false}
 use Rattle.tiger_base.specs.declared.number.Stamp.{Stamp}
 use Rattle.tiger_base.specs.declared.tenancy.Tenancy.{Tenancy}
 use Rattle.tiger_base.specs.declared.message.Msg.{Msg}
@@ -10,7 +11,7 @@ use Rattle.node_kit.specs.declared.journal.Entry.{Entry}
 use Rattle.node_kit.specs.declared.journal.What.TheVariants as what
 use Rattle.node_kit.specs.declared.outbox.Out.{Out}
 use Rattle.node_kit.specs.declared.outbox.Out.TheVariants as out
-use Rattle.node_kit.specs.Steps.{Deed, Input, what_of, entry_of}
+use Rattle.node_kit.specs.Steps.{Deed, Input, IsAllowed, what_of, entry_of}
 use Rattle.node_kit.specs.Steps.Input.{Take, Tick}
 use Rattle.cub_rules.specs.declared.store.Store.{Store}
 use Rattle.cub_rules.specs.Messages.{taking}
@@ -22,9 +23,9 @@ use Rattle.cub_changes.proofs.Closed.{IsClosed}
 use Rattle.cub_changes.proofs.Order.{AreOfStep, step_of, in_insertion}
 use Rattle.cub_changes.proofs.Outputs.{tells_of}
 use Rattle.cub_changes.proofs.Puts.{inserting_by}
-use Rattle.run_facts.specs.Events.{NodeEvent, Past, kept_outs, outs_of, entries_at, IsPlain}
-use Rattle.run_facts.specs.Events.NodeEvent.{Does, Ends, Dies, Returns}
+use Rattle.run_facts.specs.Events.{NodeEvent, Past, outs_of, stamp_at, entries_at}
 use Rattle.run_model.specs.Moments.{is_put_of}
+use Rattle.proof_lives.specs.Histories.{input_of}
 use Rattle.proof_lives.specs.Lives.{deed_of}
 use Rattle.lists.specs.Elements.{In}
 use Rattle.lists.proofs.Each.{all_in}
@@ -33,6 +34,7 @@ use Rattle.proof_lives.proofs.Taking.{IsNoPut, AreNoPuts, taking_hears}
 use Rattle.proof_lives.proofs.Seating.{Seats, seats_closed, seats_each}
 use Rattle.proof_lives.proofs.Ticking.{before_inserting}
 use Rattle.proof_lives.proofs.Waiting.{AreOnce, before_once}
+use Rattle.proof_journals.proofs.Wrote.{got_at, got_in, sent_in, died_in, entries_are, died_is}
 use Rattle.proof_journals.proofs.Ones.{IsNone, IsOne, none_one, one_append, one_map, one_of_part}
 
 -- whether an output puts an instance
@@ -101,12 +103,22 @@ deed_single p c v (Take stamp link m) h o = none_one (puts v) (taking p c stamp 
 deed_single p c v (Tick stamp) h o = ticking_single v p c stamp h o
 
 -- what an event writes has at most one Put of an instance where its outputs have
-pub entries_one : {S : Type 0} (step : S → Input Msg → Deed Msg S) (v : ℕ) (ev : NodeEvent Msg) (before : Past S) → IsPlain ev
-    → IsOne (puts v) (outs_of step ev before)
+pub entries_one : {S : Type 0} (step : S → Input Msg → Deed Msg S) (p : Params) (n v : ℕ) (ev : NodeEvent Msg) (before : Past S)
+    → AllByRecursion (IsAllowed noted p n) (outs_of step ev before) → IsOne (puts v) (outs_of step ev before)
     → IsOne (λ (e : Entry). is_put_of v e.what) (entries_at noted step ev before)
-entries_one step v (Does (Take stamp link m)) before plain one =
-    ((λ t. absurd (cc)), one_map (entry_of noted stamp) (λ (e : Entry). is_put_of v e.what) (kept_outs step (Take stamp link m) before) one)
-entries_one step v (Does (Tick stamp)) before plain one = one_map (entry_of noted stamp) (λ (e : Entry). is_put_of v e.what) (kept_outs step (Tick stamp) before) one
-entries_one step v (Ends i sends) before plain one = absurd plain
-entries_one step v (Dies stamp) before plain one = ((λ t. absurd (cc)), tt)
-entries_one step v (Returns stamp) before plain one = absurd plain
+entries_one step p n v ev before fair one =
+    let test : Entry → Bool = λ e. is_put_of v e.what in
+    let got : IsNone test (got_in ev) = got_none (input_of ev) in
+    let died : IsNone test (died_in ev) = λ e k t. true≢false (sym t ∙ ap test (died_is ev e k).0) in
+    let outs : IsOne test (sent_in step ev before) = one_map (entry_of noted (stamp_at ev)) test (outs_of step ev before) one in
+    subst (λ (es : List Entry). IsOne test es) (sym (entries_are step p n ev before fair))
+    (one_append test (got_in ev) (sent_in step ev before ++ died_in ev) (none_one test (got_in ev) got)
+    (one_append test (sent_in step ev before) (died_in ev) outs (none_one test (died_in ev) died) (λ x y i k t s. died y k s))
+    (λ x y i k t s. got x i t))
+  where
+    got_none : (i : Input Msg) (e : Entry) → In e (got_at i) → is_put_of v e.what ≡ true → ⊥
+    got_none (Take stamp link m) e k t = ⊎_elim
+        (λ q. true≢false (sym t ∙ ap (λ (x : Entry). is_put_of v x.what) q))
+        (λ q. q)
+        k
+    got_none (Tick stamp) e k t = k

@@ -25,15 +25,15 @@ use Rattle.node_kit.specs.Steps.Input.{Take}
 use Rattle.node_kit.specs.Ways.{predecessor}
 use Rattle.cub_changes.proofs.Numbers.{predecessor_below, next_own}
 use Rattle.run_facts.specs.Events.{is_death, is_tick_input}
-use Rattle.run_facts.specs.Events.NodeEvent.{Does}
-use Rattle.run_facts.specs.Histories.{History, living, past}
+use Rattle.run_facts.specs.Histories.{History, past}
 use Rattle.run_facts.specs.Timed.{is_died}
 use Rattle.run_model.specs.Orders as ordering
 use Rattle.disk_core.specs.State.{DiskState}
-use Rattle.proof_lives.specs.Lives.{outs_at, beat_at, reading_at}
+use Rattle.proof_lives.specs.Lives.{outs_in, beat_at, reading_at}
+use Rattle.proof_lives.proofs.Acting.{beat_same}
+use Rattle.proof_lives.proofs.Cuts.{was_put_out}
 use Rattle.lists.specs.Elements.{In}
 use Rattle.proof_lives.specs.Facts.{DidAt, TookMessage}
-use Rattle.proof_lives.specs.Histories.{input_of}
 use Rattle.proof_lives.proofs.Told.{any_in}
 use Rattle.proof_journals.proofs.Written.{event_took}
 use Rattle.proof_journals.proofs.Notes.{event_lives}
@@ -42,11 +42,10 @@ use Rattle.proof_controller.specs.Controllers.{GoneAt, IsOrdered}
 use Rattle.proof_schedule.specs.Facts.{Entered}
 use Rattle.proof_moments.specs.Ties.{StandsIn, IsPutAt, IsBeliefAt, Tells}
 use Rattle.proof_facts.specs.Facts.{facts_of}
-use Rattle.proof_facts.specs.Lives.{lives_of, DiedAt}
+use Rattle.proof_facts.specs.Lives.{lives_of, acting, DiedAt}
 use Rattle.proof_journals.specs.Journals.{AreStartsOrdered, JournalsTell}
-use Rattle.proof_journals.proofs.Living.{beat_same}
 use Rattle.proof_journals.proofs.Outputs.{put_seat, believes_predecessor, tells_no_stop}
-use Rattle.proof_journals.proofs.Events.{AreKept, DidOwn, own_entry, who_acts, cub_acts, written_in, life_of, is_alive, is_before}
+use Rattle.proof_journals.proofs.Events.{AreKept, DidOwn, own_entry, who_acts, cub_acts, written_in, life_of, is_acting, fair, is_before}
 use Rattle.std.proofs.Math.Nat.{mod-eq_of_lt}
 use Rattle.slot_plan.specs.Conditions.{IsPlan}
 
@@ -73,7 +72,7 @@ module _ {S : Type 0} {step : S → Input Msg → Deed Msg S} {p : Params} {orde
     (kept : AreKept step p orders disk_at h journals) where
   -- What a cub put out is a fact of its beat.
   pub did_at : (c : ℕ) (w : What) (stamp : Stamp) (d : DidOwn kept c w stamp) → c < p.cubs
-      → In (out.Act w) (outs_at p c (inputs_of h c) d.at) → DidAt p (lives_of h) c (out.Act w) stamp.beat
+      → In (out.Act w) (outs_in p (lives_of h) c d.at) → DidAt p (lives_of h) c (out.Act w) stamp.beat
   did_at c w stamp d small k = record {
     small = small;
     at = d.at;
@@ -87,8 +86,8 @@ module _ {S : Type 0} {step : S → Input Msg → Deed Msg S} {p : Params} {orde
   put_told n e t s is =
       let d = own_entry kept n e (what.Put t) s tt is in
       let c = cub_acts kept n (what.Put t) e.stamp (λ v q. absurd (cc)) d in
-      let seat = put_seat p n kept.plan (inputs_of h n) d.at t c.1 in
-      let reads = (life_of kept n d.known).reads d.at (is_alive kept n d.at d.known d.done).0 in
+      let seat = put_seat p n kept.plan (inputs_of h n) d.at t (was_put_out p (lives_of h) n d.at (out.Act (what.Put t)) c.1) in
+      let reads = (life_of kept n d.known).reads d.at (is_acting kept n d.at d.known d.done).0 in
       let same : e.stamp.reading ≡ reading_at (inputs_of h n) d.at = ap (λ (x : Stamp). x.reading) d.when in
       let beat : time_of p e.stamp.beat ≡ time_of p (beat_at (inputs_of h n) d.at) =
       ap (λ (x : Stamp). time_of p x.beat) d.when in
@@ -126,10 +125,11 @@ module _ {S : Type 0} {step : S → Input Msg → Deed Msg S} {p : Params} {orde
   gone_told n e v s is =
       let d = own_entry kept n e (what.Gone v) s tt is in
       ⊎_elim
-      (λ c. absurd (tells_no_stop p n (inputs_of h n) d.at v c.1))
+      (λ c. absurd (tells_no_stop p n (inputs_of h n) d.at v
+      (was_put_out p (lives_of h) n d.at (out.Act (what.Gone v)) c.1)))
       (λ k. record {
         at = d.at;
-        done = subst (λ m. d.at < living h m) k.0 d.done;
+        done = subst (λ m. d.at < acting h m) k.0 d.done;
         in_beat = ap (λ m. beat_at (inputs_of h m) d.at) (sym k.0) ∙ ap (λ (x : Stamp). x.beat) (sym d.when);
         instance = v;
         same = refl;
@@ -142,7 +142,8 @@ module _ {S : Type 0} {step : S → Input Msg → Deed Msg S} {p : Params} {orde
   believed_told n e d s is =
       let o = own_entry kept n e (what.Believed d) s tt is in
       let c = cub_acts kept n (what.Believed d) e.stamp (λ v k. absurd (cc)) o in
-      let who : d.0 ≡ predecessor p n = believes_predecessor p n (inputs_of h n) o.at d c.1 in
+      let who : d.0 ≡ predecessor p n = believes_predecessor p n (inputs_of h n) o.at d
+      (was_put_out p (lives_of h) n o.at (out.Act (what.Believed d)) c.1) in
       record {
         believed = record { cub = d; did = did_at n (what.Believed d) e.stamp o c.0 c.1 };
         known = subst (λ m. m < p.cubs) (sym who) (predecessor_below p n kept.plan);
@@ -153,14 +154,13 @@ module _ {S : Type 0} {step : S → Input Msg → Deed Msg S} {p : Params} {orde
   died_told n e small s is =
       let x = written_in kept n e s in
       let i : ℕ = x.1.at in
-      let plain = kept.ring.run.plain n i x.0 x.1.before in
       ⊎_elim
       (λ (t : is_death (h.event n i) ≡ true).
       let when = beat_same h n i ∙ sym (beat_is step h n i e x.1.there) in
       record { small = small; at = i; done = x.1.before; death = t; in_beat = when })
       (λ (f : is_death (h.event n i) ≡ false).
-      absurd (event_lives step p n (h.event n i) (past noted step h n i) e plain f
-      (kept.ring.run.fair n i x.0 x.1.before) x.1.there (ap is_died is)))
+      absurd (event_lives step p n (h.event n i) (past noted step h n i) e f
+      (fair kept n i x.0 x.1.before) x.1.there (ap is_died is)))
       (cases_Bool (is_death (h.event n i)))
 
   -- ---- starts
@@ -173,11 +173,10 @@ module _ {S : Type 0} {step : S → Input Msg → Deed Msg S} {p : Params} {orde
         let x = written_in kept n e s in
         let i : ℕ = x.1.at in
         let k = event_took step p n (h.event n i) (past noted step h n i) e link (note.Start redundant ask)
-        (kept.ring.run.plain n i x.0 x.1.before) (kept.ring.run.fair n i x.0 x.1.before) x.1.there is in
-        let event : h.event n i ≡ Does (Take e.stamp link (msg.Start redundant ask)) =
-        k.is ∙ ap (λ (m : Msg). Does (Take e.stamp link m)) (start_back k.message ask redundant k.same) in
-        let input : inputs_of h n i ≡ Take e.stamp link (msg.Start redundant ask) = ap input_of event in
-        let before : i < living h n = is_before kept n i x.0 x.1.before (ap is_death event) in (
+        (fair kept n i x.0 x.1.before) x.1.there is in
+        let input : inputs_of h n i ≡ Take e.stamp link (msg.Start redundant ask) =
+        k.is ∙ ap (λ (m : Msg). Take e.stamp link m) (start_back k.message ask redundant k.same) in
+        let before : i < acting h n = is_before kept n i x.0 x.1.before k.input in (
           record { small = small; at = i; done = before; reading = e.stamp.reading; link = link; is = input },
           ordered_among orders ask (starts n i e.stamp link ask redundant small before input),
         )

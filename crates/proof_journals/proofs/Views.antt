@@ -1,5 +1,5 @@
 -- After each tick of a cub its journal up to then tells exactly the records of its view.
-use Rattle.std.proofs.Common.{◌≡◌, ℕ, zero, suc, ◌<◌, ◌≤◌, List, ◌++◌, true, sym, ap, subst, ◌∙◌, arith}
+use Rattle.std.proofs.Common.{◌≡◌, ℕ, zero, suc, ◌<◌, ◌≤◌, List, ◌++◌, true, None, sym, ap, subst, ◌∙◌, arith, ⊎_elim, eq-or-lt_of_le}
 use Rattle.tiger_base.specs.declared.tenancy.Rec.{Rec}
 use Rattle.tiger_base.specs.declared.tenancy.Tenancy.{Tenancy}
 use Rattle.tiger_base.specs.declared.message.Msg.{Msg}
@@ -9,10 +9,11 @@ use Rattle.node_kit.specs.declared.course.Order.{Order}
 use Rattle.node_kit.specs.declared.journal.Entry.{Entry}
 use Rattle.node_kit.specs.declared.outbox.Out.{Out}
 use Rattle.node_kit.specs.Steps.{Deed, Input, stamp_of}
-use Rattle.run_facts.specs.Histories.{History, living, past}
+use Rattle.run_facts.specs.Histories.{History, past}
 use Rattle.run_model.specs.Views.{records_of}
 use Rattle.disk_core.specs.State.{DiskState}
-use Rattle.proof_lives.specs.Lives.{store_at, outs_at, beat_at}
+use Rattle.proof_lives.specs.Lives.{cut_in, store_at, outs_at, beat_at}
+use Rattle.proof_lives.proofs.Cuts.{whole_before, whole_outs}
 use Rattle.run_facts.specs.Events.{is_tick_input}
 use Rattle.proof_lives.specs.Facts.{TickedAt}
 use Rattle.proof_lives.proofs.Order.{beats_rise, behind}
@@ -24,34 +25,39 @@ use Rattle.proof_journals.proofs.Records.{records_after, event_recorded}
 use Rattle.lists.specs.Elements.{In}
 use Rattle.proof_moments.specs.Ties.{IsCutAt}
 use Rattle.proof_lives.specs.FactsBy.{ShowsAt}
-use Rattle.proof_facts.specs.Lives.{lives_of}
-use Rattle.proof_journals.proofs.Events.{AreKept, is_alive, journal_is, life_of, cub_inside}
+use Rattle.proof_facts.specs.Lives.{lives_of, acting}
+use Rattle.proof_journals.proofs.Events.{AreKept, is_acting, fair, journal_is, life_of, cub_inside}
 use Rattle.proof_journals.proofs.Lists.{same_cut}
 
 module _ {S : Type 0} {step : S → Input Msg → Deed Msg S} {p : Params} {orders : List Order}
     {disk_at : ℕ → DiskState} {h : History Msg S} {journals : List (List Entry)}
     (kept : AreKept step p orders disk_at h journals) where
-  records_next : (c i : ℕ) → c < p.cubs → i < living h c
+  records_next : (c i : ℕ) → c < p.cubs → i < acting h c → cut_in (lives_of h) c i ≡ None
       → records_of (so_far step h c (suc i)) ≡ recorded_by (outs_at p c (inputs_of h c) i)
       (records_of (so_far step h c i))
-  records_next c i small low =
+  records_next c i small low whole =
       let old : List Entry = so_far step h c i in
       let known = cub_inside kept c small in
-      let plain = kept.ring.run.plain c i known (is_alive kept c i known low).0 in
+      let done = (is_acting kept c i known low).0 in
       ap records_of (one_event_more step h c i)
       ∙ records_after old (wrote step h c i)
-      ∙ event_recorded step (h.event c i) (past noted step h c i) (records_of old) plain
-      ∙ ap (λ (os : List (Out Msg)). recorded_by os (records_of old)) (kept.ring.rules.cubs c i small low)
+      ∙ event_recorded step p c (h.event c i) (past noted step h c i) (records_of old) (fair kept c i known done)
+      ∙ ap (λ (os : List (Out Msg)). recorded_by os (records_of old))
+      (kept.ring.rules.cubs c i small low ∙ whole_outs p (lives_of h) c i whole)
 
-  -- Before each event of a cub that lives its journal tells the records of its view.
-  pub told_before : (c i : ℕ) → c < p.cubs → i ≤ living h c
+  -- The events before one of a cub's life are whole.
+  pub whole_below : (c i : ℕ) → i < acting h c → (j : ℕ) → j < i → cut_in (lives_of h) c j ≡ None
+  whole_below c i low j less = whole_before (lives_of h) c j i less low
+
+  -- Behind whole events of a cub its journal tells the records of its view.
+  pub told_before : (c i : ℕ) → c < p.cubs → i ≤ acting h c → ((j : ℕ) → j < i → cut_in (lives_of h) c j ≡ None)
       → AreRecordsOf (store_at p c (inputs_of h c) i).view.lines (records_of (so_far step h c i))
-  told_before c zero small low = record { seen = λ r k. absurd k; told = λ x k. absurd k }
-  told_before c (suc i) small low =
+  told_before c zero small low whole = record { seen = λ r k. absurd k; told = λ x k. absurd k }
+  told_before c (suc i) small low whole =
       subst (λ (rs : List Rec). AreRecordsOf (store_at p c (inputs_of h c) (suc i)).view.lines rs)
-      (sym (records_next c i small (omega arith)))
+      (sym (records_next c i small (omega arith) (whole i (omega arith))))
       ((keeps_records p c (inputs_of h c) i kept.plan small).records (records_of (so_far step h c i))
-      (told_before c i small (omega arith)))
+      (told_before c i small (omega arith) (λ j less. whole j (omega arith))))
 
   -- A journal that is cut behind a beat is cut behind that beat's tick.
   cut_is : (c b l : ℕ) (upper lower : List Entry) → IsCutAt journals c b upper lower
@@ -59,7 +65,7 @@ module _ {S : Type 0} {step : S → Input Msg → Deed Msg S} {p : Params} {orde
   cut_is c b l upper lower cut w =
       let known = cub_inside kept c w.small in
       let life = life_of kept c known in
-      let done = (is_alive kept c w.at known w.done).0 in
+      let done = (is_acting kept c w.at known w.done).0 in
       let more = so_far_on step h c (suc w.at) (h.count c) (omega arith) in
       let tick : is_tick_input (inputs_of h c w.at) ≡ true = ap is_tick_input w.is in
       let beat : beat_at (inputs_of h c) w.at ≡ b = ap (λ (i : Input Msg). (stamp_of i).beat) w.is in
@@ -85,8 +91,12 @@ module _ {S : Type 0} {step : S → Input Msg → Deed Msg S} {p : Params} {orde
       → AreRecordsOf (store_at p c (inputs_of h c) (suc w.at)).view.lines (records_of upper)
   told_after c b l upper lower cut w =
       let done = w.done in
+      let whole : (j : ℕ) → j < suc w.at → cut_in (lives_of h) c j ≡ None = λ j less. ⊎_elim
+      (λ (e : j ≡ w.at). subst (λ (k : ℕ). cut_in (lives_of h) c k ≡ None) (sym e) w.whole)
+      (λ (l : j < w.at). whole_below c w.at w.done j l)
+      (eq-or-lt_of_le (let z : j ≤ w.at = omega arith in z)) in
       subst (λ (es : List Entry). AreRecordsOf (store_at p c (inputs_of h c) (suc w.at)).view.lines (records_of es))
-      (sym (cut_is c b l upper lower cut w)) (told_before c (suc w.at) w.small (omega arith))
+      (sym (cut_is c b l upper lower cut w)) (told_before c (suc w.at) w.small (omega arith) whole)
 
   pub shows : (c b l : ℕ) (upper lower : List Entry) (q : Rec) → IsCutAt journals c b upper lower
       → TickedAt p (lives_of h) c b l → In q (records_of upper)

@@ -18,14 +18,12 @@ use Rattle.node_kit.specs.Links.{links_of, ends_of}
 use Rattle.node_kit.specs.Steps.{Deed, Input, stamp_of}
 use Rattle.node_kit.specs.Steps.Input.{Take}
 use Rattle.node_kit.specs.Ways.{way_to_disk, way_from_disk}
-use Rattle.run_facts.specs.Events.{NodeEvent, stamp_at}
 use Rattle.run_facts.specs.Histories.{History, beat, outs}
 use Rattle.disk_core.specs.State.{DiskState}
 use Rattle.disk_core.specs.Rules.{disk_step, asked, read_part}
 use Rattle.proof_lives.specs.Lives.{Lives}
 use Rattle.lists.specs.Elements.{In}
 use Rattle.proof_lives.specs.Facts.{DidAt, TookMessage}
-use Rattle.proof_lives.specs.Histories.{input_of}
 use Rattle.proof_lives.proofs.Carrying.{same_ends}
 use Rattle.proof_facts.specs.Carried.{AnswersAsk, AskedDisk, DisksAnswer, WasAnswered}
 use Rattle.proof_facts.specs.Lives.{lives_of, CameAt}
@@ -80,12 +78,12 @@ module _ {S : Type 0} {step : S → Input Msg → Deed Msg S} {p : Params} {orde
       let form =
       formed_at plan ring c a.ask.at (way_to_disk p disk) (msg.ReadAsk want) cub at.0 (did_it plan ring a.ask) in
       let said = answers_now s r.stamp (way_to_disk p disk) want (ring.rules.are_disks disk a.inside) form in
-      let input : lives.input n r.when ≡ Take r.stamp (way_to_disk p disk) (msg.ReadAsk want) = ap input_of r.is in
+      let input : lives.input n r.when ≡ Take r.stamp (way_to_disk p disk) (msg.ReadAsk want) = r.is in
       let there : In (out.Send (way_from_disk p disk) m) (outs noted step h n r.when) =
       subst (λ (os : List (Out Msg)). In (out.Send (way_from_disk p disk) m) os)
       (sym (ring.rules.disks disk r.when a.inside r.before))
       (subst (λ (i : Input Msg). In (out.Send (way_from_disk p disk) m) (disk_step s i).outs) (sym input) said) in
-      let when : beat h n r.when ≡ g = ap (λ (e : NodeEvent Msg). (stamp_at e).beat) r.is in
+      let when : beat h n r.when ≡ g = beat_same plan ring n r.when ∙ ap (λ (k : Input Msg). (stamp_of k).beat) r.is in
       let later = r.later in
       let soon = r.soon in
       let t = sent_there plan ring c g b

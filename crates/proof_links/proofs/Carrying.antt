@@ -16,20 +16,19 @@ use Rattle.node_kit.specs.Steps.{Deed, Input}
 use Rattle.node_kit.specs.Steps.Input.{Take}
 use Rattle.node_kit.specs.Ways.{way_ahead}
 use Rattle.run_facts.specs.Events.{Dated, is_tick, is_death, is_take_on, sends_of}
-use Rattle.run_facts.specs.Events.NodeEvent.{Does}
-use Rattle.run_facts.specs.Histories.{History, outs, beat, ticks, takes, sent, living}
+use Rattle.run_facts.specs.Histories.{History, outs, beat, ticks, takes, sent}
 use Rattle.run_facts.proofs.Counts.{count-numbered, sent-numbered, sent-stays}
 use Rattle.disk_core.specs.State.{DiskState}
 use Rattle.proof_lives.specs.Lives.{beat_at, Lives}
 use Rattle.lists.specs.Elements.{In}
 use Rattle.proof_lives.specs.Facts.{DidAt, TookMessage}
-use Rattle.proof_lives.specs.Histories.{input_of}
-use Rattle.proof_lives.proofs.Carrying.{count_rises, get_behind, is_take, same_dated, same_ends, sends_in, sends_place}
+use Rattle.proof_lives.specs.Histories.{acting}
+use Rattle.proof_lives.proofs.Carrying.{count_rises, get_behind, is_take, same_dated, same_ends, sends_in, sends_place, taken_input}
 use Rattle.proof_controller.proofs.Places.{get_below}
 use Rattle.proof_controller.specs.Controllers.{controller, commands_at}
 use Rattle.proof_facts.specs.Lives.{lives_of, CameAt}
 use Rattle.proof_facts.specs.Rings.{IsRingHistory, node_count}
-use Rattle.proof_links.proofs.Nodes.{after_tick, beat_same, before, by_rules, controller_inside, cub_inside, did_in, did_it, event_is, lives_on, sender, within}
+use Rattle.proof_links.proofs.Nodes.{after_tick, beat_same, before, by_rules, controller_inside, cub_inside, did_in, did_it, lives_on, sender, takes_at, within}
 use Rattle.proof_links.proofs.Sending.{IsOfCub, IsOfDisk, IsOfController, of_answer}
 use Rattle.proof_links.proofs.Ways.{way_leads}
 
@@ -37,7 +36,7 @@ use Rattle.proof_links.proofs.Ways.{way_leads}
 abbrev pub dated : ℕ → Msg → Dated Msg
 dated b m = record { beat = b; item = m }
 
-link_no : (a b : LinkNo) → a.0 ≡ b.0 → a ≡ b
+pub link_no : (a b : LinkNo) → a.0 ≡ b.0 → a ≡ b
 link_no a b e = ap (λ (n : ℕ). record { 0 = n }) e
 
 module _ {S : Type 0} {step : S → Input Msg → Deed Msg S} {p : Params} {orders : List Order} {disk_at : ℕ → DiskState}
@@ -96,12 +95,12 @@ module _ {S : Type 0} {step : S → Input Msg → Deed Msg S} {p : Params} {orde
     pub soon : b ≤ beat h from at + p.delay
 
   -- Each message that a node takes came so.
-  pub came_from : (n i : ℕ) (stamp : Stamp) (link : LinkNo) (m : Msg) → n < node_count p → i < living h n
+  pub came_from : (n i : ℕ) (stamp : Stamp) (link : LinkNo) (m : Msg) → n < node_count p → i < acting h n
       → lives.input n i ≡ Take stamp link m → Came n i stamp.beat link m
   came_from n i stamp link m inside low e =
       let l : ℕ = link.0 in
       let k = ring.run.carried n i stamp link m inside (before plan ring n i inside low).done
-      (event_is plan ring n i inside low ∙ ap (λ (x : Input Msg). Does x) e) in
+      (takes_at plan ring n i stamp link m inside low e) in
       let s = sent-numbered noted step l h k.from (h.count k.from) (takes l h n i)
       (dated k.when m) k.was_sent in
       let r = sends_in l (beat h k.from s.at) (outs noted step h k.from s.at)
@@ -170,7 +169,7 @@ module _ {S : Type 0} {step : S → Input Msg → Deed Msg S} {p : Params} {orde
 
   -- The controller sent a message in its event of number at, before beat y and at most the greatest delay before it.
   pub record CommandedBefore (at : ℕ) (link : LinkNo) (m : Msg) (y : ℕ) : Type 0 where
-    pub done : at < living h (controller p)
+    pub done : at < acting h (controller p)
     pub did : In (out.Send link m) (commands_at p orders (lives.input (controller p)) at)
     pub later : beat_at (lives.input (controller p)) at < y
     pub soon : y ≤ beat_at (lives.input (controller p)) at + p.delay
@@ -202,7 +201,8 @@ module _ {S : Type 0} {step : S → Input Msg → Deed Msg S} {p : Params} {orde
     pub when : ℕ
     pub before : when < i
     pub stamp : Stamp
-    pub is : h.event c when ≡ Does (Take stamp link m)
+    pub done : when < acting h c
+    pub is : lives.input c when ≡ Take stamp link m
     pub number : takes link.0 h c when ≡ number_of a at place link
     pub later : beat h a at < stamp.beat
     pub soon : stamp.beat ≤ beat h a at + p.delay
@@ -216,7 +216,8 @@ module _ {S : Type 0} {step : S → Input Msg → Deed Msg S} {p : Params} {orde
       let number : ℕ = number_of a at place link in
       let t = count-numbered (is_take_on l) h c i number below in
       let tb = t.before in
-      let e = is_take l (h.event c t.at) (ring.run.plain c t.at inside (omega arith)) t.passes in
+      let e = is_take l (h.event c t.at) t.passes in
+      let input = taken_input (h.event c t.at) e.0 e.1 e.2 e.3 in
       let k = ring.run.carried c t.at e.0 e.1 e.2 inside (omega arith) e.3 in
       let from_same : k.from ≡ a =
       (same_ends k.from c a c (sym k.ends ∙ ap (λ n. ends_of (links_of p) n) e.4 ∙ ends)).0 in
@@ -235,8 +236,9 @@ module _ {S : Type 0} {step : S → Input Msg → Deed Msg S} {p : Params} {orde
         when = t.at;
         before = tb;
         stamp = e.0;
-        is = e.3 ∙ ap (λ (w : LinkNo). Does (Take e.0 w e.2)) (link_no e.1 link e.4)
-            ∙ ap (λ (x : Msg). Does (Take e.0 link x)) (sym item);
+        done = within plan ring c t.at inside (omega arith) input.0;
+        is = input.1 ∙ ap (λ (w : LinkNo). Take e.0 w e.2) (link_no e.1 link e.4)
+            ∙ ap (λ (x : Msg). Take e.0 link x) (sym item);
         number = t.number;
         later = omega arith;
         soon = omega arith;
@@ -285,7 +287,6 @@ module _ {S : Type 0} {step : S → Input Msg → Deed Msg S} {p : Params} {orde
       let all = came_ticks c b w in
       let inside = cub_inside plan ring c w.small in
       let r = delivered c s known inside ends (omega arith) in
-      let alive = within plan ring c r.when inside r.before (ap is_death r.is) in
       let later = r.later in
       let soon = r.soon in
       record {
@@ -293,10 +294,10 @@ module _ {S : Type 0} {step : S → Input Msg → Deed Msg S} {p : Params} {orde
         took = record {
           small = w.small;
           at = r.when;
-          done = alive;
+          done = r.done;
           reading = r.stamp.reading;
           link = link;
-          is = ap input_of r.is;
+          is = r.is;
         };
         way = refl;
         number = r.number;

@@ -1,4 +1,4 @@
--- The controller meets the laws of stops: whom it stops, how and where, and that it knows of a Put in time.
+-- Whom the controller stops, how and where, and that whoever it stops was begun.
 use Rattle.std.proofs.Common.{◌≡◌, ℕ, suc, ◌+◌, ◌%◌, ◌<◌, ◌≤◌, List, true, false, Option, Some, None, refl, sym, ap, subst, ◌∙◌, arith, ⊎_elim, inl, inr, eq-or-lt_of_le}
 use Rattle.std.specs.Prelude.{◌⊎◌}
 use Rattle.std.proofs.lemmas.Bool.{cases_lt}
@@ -21,21 +21,19 @@ use Rattle.node_kit.specs.declared.outbox.Out.{Out}
 use Rattle.node_kit.specs.declared.outbox.Out.TheVariants as out
 use Rattle.node_kit.specs.Steps.{Deed, Input, stamp_of}
 use Rattle.node_kit.specs.Steps.Input.{Take, Tick}
-use Rattle.node_kit.specs.Ways.{way_to_cub, way_to_controller}
-use Rattle.run_facts.specs.Events.{stamp_at, is_tick}
-use Rattle.run_facts.specs.Events.NodeEvent.{Does}
-use Rattle.run_facts.specs.Histories.{History, beat, reading, ticks, living}
+use Rattle.node_kit.specs.Ways.{way_to_cub}
+use Rattle.run_facts.specs.Events.{stamp_at, is_tick, is_tick_input}
+use Rattle.run_facts.specs.Histories.{History, beat, reading, ticks}
 use Rattle.run_facts.proofs.Counts.{count-numbered}
-use Rattle.cub_rules.specs.Ticks.{told_placed}
 use Rattle.disk_core.specs.State.{DiskState}
 use Rattle.controller_core.specs.Orders.{start_of}
 use Rattle.controller_core.specs.State.{tenancy_of}
 use Rattle.controller_core.specs.Rules.{starts, visit_due}
-use Rattle.proof_lives.specs.Lives.{Lives, store_at, beat_at}
+use Rattle.proof_lives.specs.Lives.{Lives, cut_in, store_at, beat_at}
 use Rattle.lists.specs.Elements.{In}
 use Rattle.proof_lives.specs.Facts.{DidAt}
-use Rattle.proof_lives.specs.Histories.{input_of}
-use Rattle.proof_lives.proofs.Carrying.{stamp_same, count_rises, tick_same}
+use Rattle.proof_lives.specs.Histories.{acting}
+use Rattle.proof_lives.proofs.Carrying.{stamp_same, count_rises}
 use Rattle.proof_lives.proofs.Inserting.{put_out}
 use Rattle.proof_lives.proofs.Lines.{kept_at}
 use Rattle.proof_lives.proofs.Order.{tick_of}
@@ -43,17 +41,17 @@ use Rattle.proof_controller.specs.Controllers.{controller, command, commands_at,
 use Rattle.proof_controller.specs.Stops.{tag_at, IsStopOf}
 use Rattle.proof_controller.proofs.CommandedOnce.{StoppedIn, stopped_there, same_event, one_stop}
 use Rattle.proof_controller.proofs.Controllers.{same_instance, same_visit, tag_sent}
-use Rattle.proof_controller.proofs.Knowing.{start_from, told_before, known_told}
-use Rattle.proof_controller.proofs.Placings.{BringsFirst, first_put, first_state, put_tells, told_of}
+use Rattle.proof_controller.proofs.Knowing.{start_from, told_before}
+use Rattle.proof_controller.proofs.Placings.{BringsFirst, first_put, told_of}
+use Rattle.proof_controller.proofs.PutFirst.{first_state}
 use Rattle.proof_controller.proofs.Visits.{IsLastDue, last_due}
-use Rattle.proof_controller.proofs.Ends.{ends_controller}
 use Rattle.proof_schedule.specs.Facts.{Facts}
-use Rattle.proof_schedule.specs.StopLaws.{IsStopAt, IsStopWaiting, StopLaws}
+use Rattle.proof_schedule.specs.StopLaws.{IsStopAt, IsStopWaiting}
 use Rattle.proof_facts.specs.Facts.{BegunAt, facts_of}
 use Rattle.proof_facts.specs.Lives.{lives_of}
 use Rattle.proof_facts.specs.Rings.{IsRingHistory, node_count}
-use Rattle.proof_links.proofs.Carrying.{came_from, delivered, did_as, did_before, from_cub}
-use Rattle.proof_links.proofs.Nodes.{after_tick, beat_same, before, controller_inside, cub_inside, did_in, did_it, event_is, formed_at, lived, lives_on, rises}
+use Rattle.proof_links.proofs.Carrying.{came_from, did_before, from_cub}
+use Rattle.proof_links.proofs.Nodes.{after_tick, beat_same, controller_inside, cub_inside, lived, lives_on, rises, ticks_at}
 use Rattle.proof_links.proofs.Ordering.{both_start, finished_by, ordered_before}
 
 module _ {S : Type 0} {step : S → Input Msg → Deed Msg S} {p : Params} {orders : List Order} {disk_at : ℕ → DiskState}
@@ -77,28 +75,25 @@ module _ {S : Type 0} {step : S → Input Msg → Deed Msg S} {p : Params} {orde
   inside = controller_inside plan ring
 
   -- The controller does not die.
-  pub whole : living h (controller p) ≡ h.count (controller p)
+  pub whole : acting h (controller p) ≡ h.count (controller p)
   whole = lives_on plan ring (controller p) (controller_inside plan ring) (omega arith)
 
-  pub done_of : (i : ℕ) → i < living h (controller p) → i < h.count (controller p)
+  pub done_of : (i : ℕ) → i < acting h (controller p) → i < h.count (controller p)
   done_of i low = let w = whole in omega arith
 
-  pub alive_of : (i : ℕ) → i < h.count (controller p) → i < living h (controller p)
+  pub alive_of : (i : ℕ) → i < h.count (controller p) → i < acting h (controller p)
   alive_of i low = let w = whole in omega arith
 
-  event_of : (i : ℕ) (k : Input Msg) → i < living h ctrl → inputs i ≡ k → h.event ctrl i ≡ Does k
-  event_of i k low e = event_is plan ring ctrl i (controller_inside plan ring) low ∙ ap (λ (x : Input Msg). Does x) e
-
-  beat_of : (i : ℕ) → beat h ctrl i ≡ beat_at inputs i
+  pub beat_of : (i : ℕ) → beat h ctrl i ≡ beat_at inputs i
   beat_of i = beat_same plan ring ctrl i
 
   -- A tick ends its beat: a message that is taken in that beat or a lower one is taken before the tick.
-  tick_ends : (i : ℕ) (stamp : Stamp) → i < living h ctrl → inputs i ≡ Tick stamp
+  pub tick_ends : (i : ℕ) (stamp : Stamp) → i < acting h ctrl → inputs i ≡ Tick stamp
       → ticks h ctrl (suc i) ≡ beat h ctrl i + 1
   tick_ends i stamp low e = after_tick plan ring ctrl i (controller_inside plan ring) (done_of i low)
-      (ap is_tick (event_of i (Tick stamp) low e))
+      (ticks_at plan ring ctrl i (controller_inside plan ring) low ∙ ap is_tick_input e)
 
-  before_tick : (i j : ℕ) (stamp other : Stamp) (link : LinkNo) (m : Msg) → i < living h ctrl → j < living h ctrl
+  pub before_tick : (i j : ℕ) (stamp other : Stamp) (link : LinkNo) (m : Msg) → i < acting h ctrl → j < acting h ctrl
       → inputs i ≡ Tick stamp → inputs j ≡ Take other link m
       → beat h ctrl j ≤ beat h ctrl i → j < i
   before_tick i j stamp other link m low upper e f by = ⊎_elim
@@ -122,7 +117,7 @@ module _ {S : Type 0} {step : S → Input Msg → Deed Msg S} {p : Params} {orde
       stopped_there p orders inputs s.at v (out.Send (way_to_cub p (cub_of p n)) (msg.Deschedule v tag)) refl s.near
 
   -- It has the tag of its place.
-  stop_is : (v : Instance) (tag : Option Tag) (n b : ℕ) (s : Stops p orders lives v tag n b)
+  pub stop_is : (v : Instance) (tag : Option Tag) (n b : ℕ) (s : Stops p orders lives v tag n b)
       → (m : ℕ) × IsStopOf p orders (stop_in v tag n b s).stamp.reading (known_at p orders inputs s.at).placed v tag m
   stop_is v tag n b s =
       let i = stop_in v tag n b s in
@@ -139,7 +134,7 @@ module _ {S : Type 0} {step : S → Input Msg → Deed Msg S} {p : Params} {orde
       record { at = s.at; done = s.done; in_beat = s.in_beat; instance = v; same = same; gone = s.gone }
 
   -- An output that speaks of a stop is one of the facts.
-  pub stops_here : (i : ℕ) (v : Instance) (o : Out Msg) (b : ℕ) → i < living h ctrl → beat_at inputs i ≡ b
+  pub stops_here : (i : ℕ) (v : Instance) (o : Out Msg) (b : ℕ) → i < acting h ctrl → beat_at inputs i ≡ b
       → (s : StoppedIn p orders (inputs i) (known_at p orders inputs i) v o)
       → Stops p orders lives v s.stopped.tag s.stopped.number b
   unfolding cub_of
@@ -181,7 +176,7 @@ module _ {S : Type 0} {step : S → Input Msg → Deed Msg S} {p : Params} {orde
             (subst (λ (x : Instance). Stops p orders lives x tag n b) (sym (same_instance ask.instance w from.1)) s);
       }
 
-  how : {v z : ℕ} → GoneAt p orders lives v z
+  pub how : {v z : ℕ} → GoneAt p orders lives v z
       → ((s n : ℕ) × StoppedAt p orders lives v s n z) ⊎ ((d : ℕ) × StoppedWaiting p orders lives v d z)
   how {v} {z} g =
       let i = stopped_there p orders inputs g.at g.instance (out.Act (what.Gone g.instance)) refl g.gone in
@@ -206,7 +201,7 @@ module _ {S : Type 0} {step : S → Input Msg → Deed Msg S} {p : Params} {orde
   one_beat : (i j b c : ℕ) → i ≡ j → beat_at inputs i ≡ b → beat_at inputs j ≡ c → c ≡ b
   one_beat i j b c e f g = sym g ∙ (ap (λ n. beat_at inputs n) (sym e) ∙ f)
 
-  gone_once : {v y z : ℕ} → GoneAt p orders lives v y → GoneAt p orders lives v z → z ≡ y
+  pub gone_once : {v y z : ℕ} → GoneAt p orders lives v y → GoneAt p orders lives v z → z ≡ y
   gone_once {v} {y} {z} g k =
       let one = stopped_there p orders inputs g.at g.instance (out.Act (what.Gone g.instance)) refl g.gone in
       let two = stopped_there p orders inputs k.at k.instance (out.Act (what.Gone k.instance)) refl k.gone in
@@ -235,7 +230,7 @@ module _ {S : Type 0} {step : S → Input Msg → Deed Msg S} {p : Params} {orde
       (one_stop p orders (stop_in w b m z t).stamp.reading
       (known_at p orders inputs t.at).placed w a b one.0 two.0 moved two.1).0
 
-  one_place : {v s n y u m z : ℕ} → StoppedAt p orders lives v s n y → StoppedAt p orders lives v u m z
+  pub one_place : {v s n y u m z : ℕ} → StoppedAt p orders lives v s n y → StoppedAt p orders lives v u m z
       → (u ≡ s) × (m ≡ n)
   one_place {v} {s} {n} {y} {u} {m} {z} a b =
       let e = same_instance a.instance b.instance (a.same ∙ sym b.same) in
@@ -244,14 +239,14 @@ module _ {S : Type 0} {step : S → Input Msg → Deed Msg S} {p : Params} {orde
       let q = same_visit a.slot b.slot n m t in
       (sym b.number ∙ (ap (λ (x : SlotNo). x.0) (sym q.0) ∙ a.number), sym q.1)
 
-  one_way : {v s n y d z : ℕ} → StoppedAt p orders lives v s n y → StoppedWaiting p orders lives v d z → ⊥
+  pub one_way : {v s n y d z : ℕ} → StoppedAt p orders lives v s n y → StoppedWaiting p orders lives v d z → ⊥
   one_way {v} {s} {n} {y} {d} {z} a b =
       let e = same_instance a.instance b.ask.instance (a.same ∙ sym b.same) in
       let t = one_tag a.instance b.ask.instance (Some (tag_at a.slot n)) None n d y z e a.stops b.stops in
       absurd (cc)
 
   -- The reading of a stop is that of its beat.
-  read_at : (i b : ℕ) (stamp : Stamp) → i < living h ctrl → inputs i ≡ Tick stamp → beat_at inputs i ≡ b
+  read_at : (i b : ℕ) (stamp : Stamp) → i < acting h ctrl → inputs i ≡ Tick stamp → beat_at inputs i ≡ b
       → (time_of p b ≤ stamp.reading) × (stamp.reading ≤ time_of p b + p.skew)
   read_at i b stamp low e f =
       let r = ring.run.reads ctrl i (controller_inside plan ring) (done_of i low) in
@@ -288,7 +283,7 @@ module _ {S : Type 0} {step : S → Input Msg → Deed Msg S} {p : Params} {orde
       let done = did.done in
       let life = lived plan ring f.from small in
       let kept = kept_at p f.from plan small (lives.input f.from) did.at (λ k l. life.short k (omega arith)) in
-      let put = first_put p f.from plan small (lives.input f.from did.at)
+      let put = first_put p f.from plan small (cut_in lives f.from did.at) (lives.input f.from did.at)
       (store_at p f.from (lives.input f.from) did.at) s.link t kept (life.short did.at done) did.did in
       let got : s.stamp.beat ≡ b = sym (ap (λ (k : Input Msg). (stamp_of k).beat) s.is) ∙ d.in_beat in
       let later = g.later in
@@ -298,14 +293,14 @@ module _ {S : Type 0} {step : S → Input Msg → Deed Msg S} {p : Params} {orde
         put = record { small = small; at = did.at; done = done; in_beat = did.in_beat; did = put };
         before = omega arith;
       })
-      (told_of p a plan d.small (lives.input a d.at) (store_at p a (lives.input a) d.at) link t d.did)
+      (told_of p a plan d.small (cut_in lives a d.at) (lives.input a d.at) (store_at p a (lives.input a) d.at) link t d.did)
 
-  put_before : (i : ℕ) (v : Instance) (t : Tenancy) → i < living h ctrl
+  put_before : (i : ℕ) (v : Instance) (t : Tenancy) → i < acting h ctrl
       → tenancy_of (known_at p orders inputs i).placed v ≡ Some t → PutBefore t (beat h ctrl i)
   put_before i v t low e =
       let told = told_before p orders inputs i v t e in
       let before = told.before in
-      let done : told.at < living h ctrl = omega arith in
+      let done : told.at < acting h ctrl = omega arith in
       let f = came_from plan ring ctrl told.at told.stamp told.link (msg.Placed t)
       (controller_inside plan ring) done told.is in
       let small = from_cub plan ring f (λ q. q) (λ q. q) in
@@ -318,7 +313,7 @@ module _ {S : Type 0} {step : S → Input Msg → Deed Msg S} {p : Params} {orde
       let later = d.later in
       record { cub = put.cub; beat = put.beat; put = put.put; before = omega arith }
 
-  place : {v s n z : ℕ} → StoppedAt p orders lives v s n z → IsStopAt p facts v s n z
+  pub place : {v s n z : ℕ} → StoppedAt p orders lives v s n z → IsStopAt p facts v s n z
   place {v} {s} {n} {z} a =
       let tag : Option Tag = Some (tag_at a.slot n) in
       let i = stop_in a.instance tag n z a.stops in
@@ -357,60 +352,18 @@ module _ {S : Type 0} {step : S → Input Msg → Deed Msg S} {p : Params} {orde
       (λ q. let e = q.4 in absurd (cc))
       is.1
 
-  -- The controller is told of each Put, so it stops no instance at a disk a greatest delay after the Put.
-  unplaced : {c v d x z : ℕ} {t : Tenancy} → StoppedWaiting p orders lives v d z → DidAt p lives c (put_out t) x
-      → t.instance.0 ≡ v → z < x + p.delay
-  unplaced {c} {v} {d} {x} {z} {t} w put same = ⊎_elim
-      (λ (l : z < x + p.delay). l)
-      (λ (g : x + p.delay ≤ z).
-      let told : DidAt p lives c (told_placed p c t) x = record {
-        small = put.small;
-        at = put.at;
-        done = put.done;
-        in_beat = put.in_beat;
-        did = put_tells p c plan put.small (lives.input c put.at) (store_at p c (lives.input c) put.at) t put.did;
-      } in
-      let inside = cub_inside plan ring c put.small in
-      let way : LinkNo = way_to_controller p c in
-      let at = did_in plan ring told in
-      let xb = at.1 in
-      let i = stop_in w.ask.instance None d z w.stops in
-      let is = stop_is w.ask.instance None d z w.stops in
-      let zb : beat h ctrl w.stops.at ≡ z = beat_of w.stops.at ∙ w.stops.in_beat in
-      let next = tick_ends w.stops.at i.stamp w.stops.done i.tick in
-      let rise = count_rises is_tick h ctrl (suc w.stops.at) (h.count ctrl) (done_of w.stops.at w.stops.done) in
-      let r = delivered plan ring ctrl (did_as plan ring told).1 inside (controller_inside plan ring)
-      (ends_controller p c put.small) (omega arith) in
-      let took : inputs r.when ≡ Take r.stamp way (msg.Placed t) = ap input_of r.is in
-      let rb : beat h ctrl r.when ≡ r.stamp.beat = beat_of r.when ∙ ap (λ (k : Input Msg). (stamp_of k).beat) took in
-      let soon = r.soon in
-      let earlier = before_tick w.stops.at r.when i.stamp r.stamp way (msg.Placed t) w.stops.done
-      (alive_of r.when r.before) i.tick took (omega arith) in
-      let form = formed_at plan ring c told.at way (msg.Placed t) inside at.0 (did_it plan ring told) in
-      let known = known_told p orders inputs r.when w.stops.at r.stamp way t earlier took form in
-      let one : t.instance ≡ w.ask.instance = same_instance t.instance w.ask.instance (same ∙ sym w.same) in
-      let known2 : tenancy_of (known_at p orders inputs w.stops.at).placed w.ask.instance ≡ Some known.0 =
-      ap (λ (k : Instance). tenancy_of (known_at p orders inputs w.stops.at).placed k) (sym one) ∙ known.1 in
-      ⊎_elim
-      (λ q. let e = q.4 in absurd (cc))
-      (λ q. let e : None ≡ Some known.0 = sym q.1 ∙ known2 in absurd (cc))
-      is.1)
-      (cases_lt z (x + p.delay))
-
   -- An order of a beat that the controller has ended was begun in it.
   pub begun_by : (ask : Ask) (o i : ℕ) (stamp : Stamp) → In (record { beat = o; what = Begin ask }) orders
-      → i < living h ctrl → inputs i ≡ Tick stamp → o ≤ stamp.beat → BegunAt p orders lives ask o
+      → i < acting h ctrl → inputs i ≡ Tick stamp → o ≤ stamp.beat → BegunAt p orders lives ask o
   unfolding cub_of starts
   begun_by ask o i stamp ordered low e le =
       let after = tick_ends i stamp low e in
       let bi : beat h ctrl i ≡ stamp.beat = beat_of i ∙ ap (λ (k : Input Msg). (stamp_of k).beat) e in
       let t = count-numbered is_tick h ctrl (suc i) o (omega arith) in
       let tb = t.before in
-      let lt : t.at < living h ctrl = omega arith in
+      let lt : t.at < acting h ctrl = omega arith in
       let b = ring.run.in_beat ctrl t.at (controller_inside plan ring) (done_of t.at lt) ∙ t.number in
-      let alive = (before plan ring ctrl t.at (controller_inside plan ring) lt).alive in
-      let plain = ring.run.plain ctrl t.at (controller_inside plan ring) (done_of t.at lt) in
-      let s = tick_of (inputs t.at) (sym (tick_same (h.event ctrl t.at) plain alive) ∙ t.passes) in
+      let s = tick_of (inputs t.at) (sym (ticks_at plan ring ctrl t.at (controller_inside plan ring) lt) ∙ t.passes) in
       let ib : beat_at inputs t.at ≡ o = sym (beat_of t.at) ∙ b in
       let sb : o ≡ s.0.beat = sym ib ∙ ap (λ (k : Input Msg). (stamp_of k).beat) s.1 in
       let now : In (record { beat = s.0.beat; what = Begin ask }) orders =
@@ -429,7 +382,7 @@ module _ {S : Type 0} {step : S → Input Msg → Deed Msg S} {p : Params} {orde
       }
 
   -- An instance that is stopped was begun before or in the same beat.
-  waiting : {v d z : ℕ} → StoppedWaiting p orders lives v d z → IsStopWaiting facts v d
+  pub waiting : {v d z : ℕ} → StoppedWaiting p orders lives v d z → IsStopWaiting facts v d
   waiting {v} {d} {z} s =
       let f =
       finished_by p orders (inputs s.stops.at) (known_at p orders inputs s.stops.at) s.ask.instance s.stops.gone in
@@ -441,18 +394,3 @@ module _ {S : Type 0} {step : S → Input Msg → Deed Msg S} {p : Params} {orde
         same = s.same;
         disk = s.disk;
       }
-
-  -- The laws of stops.
-  pub stop_laws : StopLaws p facts
-  stop_laws = record {
-    how = how;
-    gone_at = λ s. gone_of s.instance _ _ _ _ s.same s.stops;
-    gone_waiting = λ s. gone_of s.ask.instance _ _ _ _ s.same s.stops;
-    gone_once = gone_once;
-    one_place = one_place;
-    one_way = one_way;
-    place = place;
-    waiting = λ s. waiting s;
-    unplaced =
-        λ {c} {v} {d} {x} {z} {t} w put same. let u = unplaced w put same in let d = plan.ranges.delay in omega arith;
-  }

@@ -14,9 +14,11 @@ use Rattle.node_kit.specs.declared.outbox.Out.{Out}
 use Rattle.node_kit.specs.declared.outbox.Out.TheVariants as out
 use Rattle.node_kit.specs.Steps.{Deed, Input}
 use Rattle.node_kit.specs.Ways.{way_ahead, way_to_cub}
-use Rattle.run_facts.specs.Histories.{History, living}
+use Rattle.run_facts.specs.Histories.{History}
 use Rattle.disk_core.specs.State.{DiskState}
+use Rattle.proof_lives.specs.Histories.{acting}
 use Rattle.proof_lives.specs.Lives.{Lives, store_at, beat_at}
+use Rattle.proof_lives.proofs.Cuts.{was_put_out}
 use Rattle.lists.specs.Elements.{In}
 use Rattle.proof_lives.specs.Facts.{DidAt, TookMessage}
 use Rattle.proof_lives.specs.StopFactsOf.{ToldAt, GotTagAt, GotBareAt}
@@ -131,7 +133,7 @@ module _ {S : Type 0} {step : S → Input Msg → Deed Msg S} {p : Params} {orde
   -- A deschedule came from the controller, which stopped the instance in its event of number at.
   pub record FromController (c y : ℕ) (v : Instance) (tag : Option Tag) : Type 0 where
     pub at : ℕ
-    pub done : at < living h ctrl
+    pub done : at < acting h ctrl
     pub output : Out Msg
     pub stops : StoppedIn p orders (inputs at) (known_at p orders inputs at) v output
     pub tagged : tag ≡ stops.stopped.tag
@@ -144,7 +146,8 @@ module _ {S : Type 0} {step : S → Input Msg → Deed Msg S} {p : Params} {orde
   by_cub {c} {i} {y} {link} {v} {tag} f small =
       let d = did_before plan ring f small in
       let pass = deschedule_out p f.from plan small (lives.input f.from d.did.at)
-      (store_at p f.from (lives.input f.from) d.did.at) link v tag d.did.did in
+      (store_at p f.from (lives.input f.from) d.did.at) link v tag
+      (was_put_out p lives f.from d.did.at (out.Send link (msg.Deschedule v tag)) d.did.did) in
       let n = sent_near plan ring f.from c link small f.ends pass.0 in
       record {
         from = f.from;

@@ -15,12 +15,13 @@ use Rattle.node_kit.specs.Links.{links_of, ends_of}
 use Rattle.node_kit.specs.Steps.{Deed, Input}
 use Rattle.node_kit.specs.Steps.Input.{Take}
 use Rattle.node_kit.specs.Ways.{way_ahead}
-use Rattle.run_facts.specs.Histories.{History, living, takes}
+use Rattle.run_facts.specs.Histories.{History, takes}
 use Rattle.disk_core.specs.State.{DiskState}
-use Rattle.proof_lives.specs.Lives.{store_at, outs_at, beat_at, Lives}
+use Rattle.proof_lives.specs.Lives.{store_at, outs_in, beat_at, Lives}
 use Rattle.run_facts.specs.Events.{is_tick_input}
 use Rattle.lists.specs.Elements.{In}
-use Rattle.proof_lives.specs.Histories.{input_of}
+use Rattle.proof_lives.specs.Histories.{acting}
+use Rattle.proof_lives.proofs.Cuts.{was_put_out}
 use Rattle.proof_lives.proofs.Order as order
 use Rattle.proof_lives.proofs.States.{state_at_tick, state_way}
 use Rattle.proof_lives.specs.HoldsHere.{AreAllFormed}
@@ -39,14 +40,14 @@ module _ {S : Type 0} {step : S → Input Msg → Deed Msg S} {p : Params} {orde
   abbrev lives : Lives
   lives = lives_of h
 
-  formed : AreAllFormed p lives
+  pub formed : AreAllFormed p lives
   formed c small i stamp link m low e =
       let f = came_from plan ring c i stamp link m (cub_inside plan ring c small) low e in
       formed_at plan ring f.from f.at link m f.known f.note.done f.sent
 
   -- A deschedule that the sender of a state sent before it on the same link was taken before the state.
   told_before : {c i b k v s q x : ℕ} {link : LinkNo} {t : State} (f : Came plan ring c i b link (msg.ViewerState t))
-      → c < p.cubs → i < living h c → link ≡ way_ahead p f.from k → f.at < living h f.from
+      → c < p.cubs → i < acting h c → link ≡ way_ahead p f.from k → f.at < acting h f.from
       → is_tick_input (lives.input f.from f.at) ≡ true → ToldAt p lives f.from k v s q x
       → x ≤ beat_at (lives.input f.from) f.at → GotTagBefore lives c i v s q
   told_before {c} {i} {b} {k} {v} {s} {q} {x} {link} {t} f small low way alive tick told le =
@@ -54,14 +55,15 @@ module _ {S : Type 0} {step : S → Input Msg → Deed Msg S} {p : Params} {orde
       let inputs : ℕ → Input Msg = lives.input a in
       let d = told.did in
       let db = d.in_beat in
-      let by = order.not_behind p (living h a) inputs (lived plan ring a d.small) d.at f.at alive d.done tick
+      let by = order.not_behind p (acting h a) inputs (lived plan ring a d.small) d.at f.at alive d.done tick
       (omega arith) in
       let earlier : d.at < f.at = ⊎_elim
       (λ (l : d.at < f.at). l)
       (λ (l : f.at ≤ d.at).
       let same : d.at ≡ f.at = omega arith in
+      let was = was_put_out p lives a d.at (out.Send (way_ahead p a k) (msg.Deschedule told.instance (Some told.tag))) d.did in
       absurd (no_input_stop p a plan d.small (inputs d.at) (store_at p a inputs d.at) (way_ahead p a k) told.instance
-      (Some told.tag) (ap (λ n. is_tick_input (inputs n)) same ∙ tick) d.did))
+      (Some told.tag) (ap (λ n. is_tick_input (inputs n)) same ∙ tick) was))
       (cases_lt d.at f.at) in
       let note = did_as plan ring d in
       let less = numbers_rise plan ring f.at f.place note.1 earlier in
@@ -80,10 +82,10 @@ module _ {S : Type 0} {step : S → Input Msg → Deed Msg S} {p : Params} {orde
         tag = told.tag;
         slot = told.slot;
         visit = told.visit;
-        is = ap input_of r.is;
+        is = r.is;
       }
 
-  states : (c i : ℕ) (stamp : Stamp) (link : LinkNo) (t : Tenancy) (m : ℕ) → c < p.cubs → i < living h c
+  states : (c i : ℕ) (stamp : Stamp) (link : LinkNo) (t : Tenancy) (m : ℕ) → c < p.cubs → i < acting h c
       → lives.input c i ≡ Take stamp link (msg.ViewerState (record { tenancy = t; visit = m }))
       → CameInOrder p lives c i t m stamp.beat
   states c i stamp link t m small low e =
@@ -92,9 +94,10 @@ module _ {S : Type 0} {step : S → Input Msg → Deed Msg S} {p : Params} {orde
       let own = from_cub plan ring f (λ q. q) (λ q. q) in
       let inputs : ℕ → Input Msg = lives.input f.from in
       let k = by_rules plan ring f.from f.at (out.Send link (msg.ViewerState s)) own f.note.done f.sent in
-      let tick = state_at_tick p f.from plan own (inputs f.at) (store_at p f.from inputs f.at) link s k.1 in
+      let was = was_put_out p lives f.from f.at (out.Send link (msg.ViewerState s)) k.1 in
+      let tick = state_at_tick p f.from plan own (inputs f.at) (store_at p f.from inputs f.at) link s was in
       let n = sent_near plan ring f.from c link own f.ends
-      (state_way p f.from plan own (inputs f.at) (store_at p f.from inputs f.at) link s k.1) in
+      (state_way p f.from plan own (inputs f.at) (store_at p f.from inputs f.at) link s was) in
       let same = beat_same plan ring f.from f.at in
       let later = f.later in
       let soon = f.soon in
@@ -109,7 +112,7 @@ module _ {S : Type 0} {step : S → Input Msg → Deed Msg S} {p : Params} {orde
             at = f.at;
             done = k.0;
             in_beat = refl;
-            did = subst (λ (w : LinkNo). In (out.Send w (msg.ViewerState s)) (outs_at p f.from inputs f.at)) n.way k.1;
+            did = subst (λ (w : LinkNo). In (out.Send w (msg.ViewerState s)) (outs_in p lives f.from f.at)) n.way k.1;
           };
         };
         to = n.to;

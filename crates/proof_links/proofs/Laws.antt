@@ -5,7 +5,7 @@ use Rattle.proof_links.specs.Statements.{CubsAreToldInOrder, DisksAnswerAsks, Li
 use Rattle.proof_links.proofs.Asking.{disks_answer}
 use Rattle.proof_links.proofs.InOrder.{in_order}
 use Rattle.proof_links.proofs.Running.{run_laws}
-use Rattle.proof_links.proofs.Controllers.{stop_laws}
+use Rattle.proof_links.proofs.Stops.{stop_laws}
 use Rattle.proof_links.proofs.Deschedules.{told_arrives, tag_arrives, bare_arrives, tag_from, bare_from}
 use Rattle.proof_links.proofs.Starts.{start_from, one_begun, gone_after}
 use Rattle.proof_links.proofs.States.{carried, arrives, heard, heard_from}

@@ -12,5 +12,6 @@ pub mod Running
 pub mod Sending
 pub mod Starts
 pub mod States
+pub mod Stops
 pub mod Telling
 pub mod Ways

@@ -1,5 +1,5 @@
 -- What the record of a run gives of nodes: their events before a death, cubs' lives, and who puts out what.
-use Rattle.std.proofs.Common.{◌≡◌, ℕ, zero, suc, ◌+◌, ◌-◌, ◌<◌, ◌≤◌, List, Bool, true, false, cond, refl, sym, ap, subst, ◌∙◌, arith, ⊎_elim, inl, inr, eq-or-lt_of_le}
+use Rattle.std.proofs.Common.{◌≡◌, ℕ, zero, suc, ◌+◌, ◌-◌, ◌<◌, ◌≤◌, List, Bool, true, false, None, cond, refl, sym, ap, subst, ◌∙◌, arith, ⊎_elim, inl, inr, eq-or-lt_of_le}
 use Rattle.std.specs.Prelude.{◌⊎◌}
 use Rattle.std.proofs.lemmas.Bool.{cases_Bool, cases_lt}
 use Rattle.tiger_base.specs.declared.number.LinkNo.{LinkNo}
@@ -8,25 +8,30 @@ use Rattle.tiger_base.specs.declared.message.Msg.{Msg}
 use Rattle.tiger_base.specs.Notes.{noted}
 use Rattle.slot_plan.specs.declared.params.Params.{Params}
 use Rattle.slot_plan.specs.Conditions.{IsPlan}
-use Rattle.slot_plan.specs.Times.{time_of, disk_count}
+use Rattle.slot_plan.specs.Times.{disk_count}
 use Rattle.node_kit.specs.declared.course.Order.{Order}
 use Rattle.node_kit.specs.declared.outbox.Out.{Out}
 use Rattle.node_kit.specs.declared.outbox.Out.TheVariants as out
 use Rattle.node_kit.specs.Form.{is_in_form}
 use Rattle.node_kit.specs.Steps.{Deed, Input, IsAllowed}
-use Rattle.run_facts.specs.Events.{NodeEvent, is_tick, is_death, outs_of, is_tick_input, IsPlain}
+use Rattle.node_kit.specs.Steps.Input.{Take}
+use Rattle.run_facts.specs.Events.{NodeEvent, is_tick, is_death, outs_of, is_tick_input}
 use Rattle.run_facts.specs.Events.NodeEvent.{Does, Ends, Dies, Returns}
-use Rattle.run_facts.specs.Histories.{History, outs, beat, reading, ticks, past, living}
+use Rattle.run_facts.specs.Histories.{History, TakesAt, outs, beat, ticks, past}
 use Rattle.disk_core.specs.State.{DiskState}
-use Rattle.proof_lives.specs.Lives.{Lives, AreLives, store_at, outs_at, ticks_at, beat_at, reading_at}
+use Rattle.proof_lives.specs.Histories.{has_input, acting}
+use Rattle.proof_lives.specs.Lives as life
+use Rattle.proof_lives.specs.Lives.{Lives, AreLives, store_at, outs_in, cut_in, beat_at}
 use Rattle.lists.specs.Elements.{In}
 use Rattle.proof_lives.specs.Facts.{DidAt}
-use Rattle.proof_lives.proofs.Carrying.{stamp_same, tick_same, does_it, count_rises}
+use Rattle.proof_lives.proofs.Acting.{acts_at, among_acting, alive_acts, alive_whole, cut_same, early, life_to, most_act}
+use Rattle.proof_lives.proofs.Carrying.{stamp_same, tick_same, takes_it, count_rises}
+use Rattle.proof_lives.proofs.Cuts.{was_put_out}
 use Rattle.lists.proofs.Each.{all_in}
 use Rattle.proof_controller.specs.Controllers.{controller, known_at}
-use Rattle.proof_facts.specs.Lives.{lives_of}
+use Rattle.proof_facts.specs.Lives.{lives_of, DiedAt}
 use Rattle.proof_facts.specs.Rings.{IsRingHistory, node_count, node_of_disk, viewers}
-use Rattle.proof_links.proofs.Lives.{EndsInDeath, LivesOn, lives_or_dies, counts_all}
+use Rattle.proof_links.proofs.Lives.{EndsInDeath, LivesOn, lives_or_dies}
 use Rattle.proof_links.proofs.Sending.{IsOfCub, IsOfController, IsAnswer, cub_sends, disk_sends, command_sends}
 
 module _ {S : Type 0} {step : S → Input Msg → Deed Msg S} {p : Params} {orders : List Order} {disk_at : ℕ → DiskState}
@@ -46,60 +51,99 @@ module _ {S : Type 0} {step : S → Input Msg → Deed Msg S} {p : Params} {orde
   pub controller_inside : controller p < node_count p
   controller_inside = omega arith
 
-  -- ---- events before a node's death
+  -- ---- the events of a node's life
 
   -- A node lives on or dies in its last event.
   pub how : (n : ℕ) → n < node_count p → LivesOn h n ⊎ EndsInDeath h n
   how n inside = lives_or_dies h n (λ i low e. ring.run.ended n i inside low e)
 
-  -- Event i of node n is no death.
+  -- Event i of node n has an input, perhaps with its death.
   pub record IsBefore (n i : ℕ) : Type 0 where
     pub done : i < h.count n
-    pub alive : is_death (h.event n i) ≡ false
+    pub acts : has_input (h.event n i) ≡ true
 
-  -- The events below the number of those in which the node is alive are no deaths.
-  pub before : (n i : ℕ) → n < node_count p → i < living h n → IsBefore n i
-  before n i inside low = ⊎_elim
-      (λ (l : LivesOn h n). let a = l.all in let d : i < h.count n = omega arith
-      in record { done = d; alive = l.none i d })
-      (λ (e : EndsInDeath h n). let a = e.last in record { done = omega arith; alive = e.none i low })
-      (how n inside)
+  -- So it is with the events of its life.
+  pub before : (n i : ℕ) → n < node_count p → i < acting h n → IsBefore n i
+  before n i inside low =
+      let a = acts_at h n (λ j l. ring.run.here n j inside l) (λ j l died. ring.run.ended n j inside l died) i low in
+      record { done = a.done; acts = a.input }
 
-  -- An event that is no death is before the death.
-  pub within : (n i : ℕ) → n < node_count p → i < h.count n → is_death (h.event n i) ≡ false → i < living h n
-  within n i inside low alive = ⊎_elim
-      (λ (l : LivesOn h n). let a = l.all in omega arith)
-      (λ (e : EndsInDeath h n).
-      let a = e.last in
-      ⊎_elim
-      (λ (q : i ≡ living h n). let z : true ≡ false = sym e.death
-      ∙ (ap (λ k. is_death (h.event n k)) (sym q) ∙ alive) in absurd (cc))
-      (λ (q : i < living h n). q)
-      (eq-or-lt_of_le (let z : i ≤ living h n = omega arith in z)))
-      (how n inside)
+  -- An event that has an input is of its life.
+  pub within : (n i : ℕ) → n < node_count p → i < h.count n → has_input (h.event n i) ≡ true → i < acting h n
+  within n i inside low acts =
+      among_acting h n (λ j l. ring.run.here n j inside l) (λ j l died. ring.run.ended n j inside l died) i low acts
+
+  -- And so is one that is no death.
+  pub within_alive : (n i : ℕ) → n < node_count p → i < h.count n → is_death (h.event n i) ≡ false → i < acting h n
+  within_alive n i inside low alive =
+      alive_acts h n (λ j l. ring.run.here n j inside l) (λ j l died. ring.run.ended n j inside l died) i low alive
+
+  -- At most one event of a node is not of its life: its last one.
+  pub up_to_acting : (n i : ℕ) → n < node_count p → i < h.count n → i ≤ acting h n
+  up_to_acting n i inside low =
+      let most = most_act h n (λ j l. ring.run.here n j inside l) (λ j l died. ring.run.ended n j inside l died) in
+      omega arith
+
+  -- All events of a node that lives on are of its life.
+  pub all_act : (n : ℕ) → n < node_count p → LivesOn h n → acting h n ≡ h.count n
+  all_act n inside lives = ⊎_elim
+      (λ (l : acting h n < h.count n).
+      let z = within_alive n (acting h n) inside l (lives.none (acting h n) l) in absurd (omega arith))
+      (λ (g : h.count n ≤ acting h n). ⊎_elim
+      (λ (l : h.count n < acting h n). let z = (before n (h.count n) inside l).done in absurd (omega arith))
+      (λ (le : acting h n ≤ h.count n). omega arith)
+      (cases_lt (h.count n) (acting h n)))
+      (cases_lt (acting h n) (h.count n))
 
   -- A node that is no cub lives on.
-  pub lives_on : (n : ℕ) → n < node_count p → p.cubs ≤ n → living h n ≡ h.count n
-  lives_on n inside other = counts_all h n (h.count n) (λ i low. ring.deaths.mortal n i inside other low)
+  pub lives_on : (n : ℕ) → n < node_count p → p.cubs ≤ n → acting h n ≡ h.count n
+  lives_on n inside other =
+      all_act n inside (record { none = λ i low. ring.deaths.mortal n i inside other low })
+
+  -- No death cuts off an event that is not the last one, nor one of a node that lives on.
+  whole_alive : (n i : ℕ) → n < node_count p → i < h.count n → is_death (h.event n i) ≡ false
+      → cut_in lives n i ≡ None
+  whole_alive n i inside low alive =
+      cut_same h n (λ j l. ring.run.here n j inside l) (λ j l died. ring.run.ended n j inside l died) i
+      (within_alive n i inside low alive)
+      ∙ alive_whole (h.event n i) alive
+
+  pub whole_early : (n i : ℕ) → n < node_count p → i + 1 < h.count n → cut_in lives n i ≡ None
+  whole_early n i inside more =
+      whole_alive n i inside (omega arith)
+      (early h n (λ j l. ring.run.here n j inside l) (λ j l died. ring.run.ended n j inside l died) i more)
+
+  pub whole_living : (n i : ℕ) → n < node_count p → i < h.count n → LivesOn h n → cut_in lives n i ≡ None
+  whole_living n i inside low lives = whole_alive n i inside low (lives.none i low)
+
+  -- What a cub put out went out whole, or its death came in that event.
+  pub whole_or_died : (c i : ℕ) → c < p.cubs → i < acting h c → (cut_in lives c i ≡ None) ⊎ DiedAt p h c (beat h c i)
+  whole_or_died c i small low =
+      let b = before c i (cub_inside c small) low in
+      ⊎_elim
+      (λ (t : is_death (h.event c i) ≡ true).
+      inr (record { small = small; at = i; done = b.done; death = t; in_beat = refl }))
+      (λ (f : is_death (h.event c i) ≡ false). inl (whole_alive c i (cub_inside c small) b.done f))
+      (cases_Bool (is_death (h.event c i)))
 
   -- ---- stamps
 
-  -- An event before the death is an input, with the same beat and reading.
-  pub event_is : (n i : ℕ) → n < node_count p → i < living h n → h.event n i ≡ Does (lives.input n i)
-  event_is n i inside low =
-      let b = before n i inside low in does_it (h.event n i) (ring.run.plain n i inside b.done) b.alive
+  -- An event of a life takes the message that is its input, or ticks if that is a tick.
+  pub takes_at : (n i : ℕ) (stamp : Stamp) (link : LinkNo) (m : Msg) → n < node_count p → i < acting h n
+      → lives.input n i ≡ Take stamp link m → TakesAt (h.event n i) stamp link m
+  takes_at n i stamp link m inside low e = takes_it (h.event n i) stamp link m (before n i inside low).acts e
+
+  pub ticks_at : (n i : ℕ) → n < node_count p → i < acting h n
+      → is_tick (h.event n i) ≡ is_tick_input (lives.input n i)
+  ticks_at n i inside low = tick_same (h.event n i) (before n i inside low).acts
 
   pub beat_same : (n i : ℕ) → beat h n i ≡ beat_at (lives.input n) i
   beat_same n i = ap (λ (s : Stamp). s.beat) (stamp_same (h.event n i))
 
-  reading_same : (n i : ℕ) → reading h n i ≡ reading_at (lives.input n) i
-  reading_same n i = ap (λ (s : Stamp). s.reading) (stamp_same (h.event n i))
-
-  pub ticks_same : (n i : ℕ) → n < node_count p → i ≤ living h n → ticks h n i ≡ ticks_at (lives.input n) i
+  pub ticks_same : (n i : ℕ) → n < node_count p → i ≤ acting h n → ticks h n i ≡ life.ticks_at (lives.input n) i
   ticks_same n zero inside low = refl
   ticks_same n (suc i) inside low =
-      let b = before n i inside (omega arith) in
-      let t = tick_same (h.event n i) (ring.run.plain n i inside b.done) b.alive in
+      let t = ticks_at n i inside (omega arith) in
       let rest = ticks_same n i inside (omega arith) in
       ap (λ (b : Bool). cond b (suc (ticks h n i)) (ticks h n i)) t
       ∙ ap (λ (k : ℕ). cond (is_tick_input (lives.input n i)) (suc k) k) rest
@@ -124,44 +168,34 @@ module _ {S : Type 0} {step : S → Input Msg → Deed Msg S} {p : Params} {orde
   pub lived : AreLives p lives
   lived c small =
       let inside = cub_inside c small in
-      record {
-        in_beat = λ i low. sym (beat_same c i) ∙ ring.run.in_beat c i inside (before c i inside low).done
-            ∙ ticks_same c i inside (omega arith);
-        reads = λ i low.
-            let r = ring.run.reads c i inside (before c i inside low).done in
-            let e = reading_same c i in
-            let t : time_of p (beat h c i) ≡ time_of p (beat_at (lives.input c) i) =
-            ap (λ n. time_of p n) (beat_same c i) in
-            let r0 = r.0 in
-            let r1 = r.1 in
-            (omega arith, omega arith);
-        rising = λ j i le low. let r = ring.run.rising c j i inside le (before c i inside low).done in let a =
-            reading_same c j in let b = reading_same c i in omega arith;
-        short = λ i low. let r =
-            ring.short c i inside (before c i inside low).done in let b = reading_same c i in omega arith;
-      }
+      let most : acting h c ≤ h.count c = ⊎_elim
+      (λ (l : h.count c < acting h c). let z = (before c (h.count c) inside l).done in absurd (omega arith))
+      (λ (le : acting h c ≤ h.count c). le)
+      (cases_lt (h.count c) (acting h c)) in
+      life_to step p (node_count p) h ring.run c (acting h c) inside most
+      (λ i low. ring.short c i inside (before c i inside low).done)
 
   -- ---- what nodes put out
 
-  -- An event that puts something out is no death.
-  outs_alive : (n i : ℕ) (o : Out Msg) → n < node_count p → i < h.count n → In o (outs noted step h n i)
-      → i < living h n
-  outs_alive n i o inside low k = ⊎_elim
-      (λ (t : is_death (h.event n i) ≡ true). absurd (silent (h.event n i) refl (ring.run.plain n i inside low) t))
-      (λ (f : is_death (h.event n i) ≡ false). within n i inside low f)
-      (cases_Bool (is_death (h.event n i)))
+  -- An event that puts something out has an input.
+  outs_act : (n i : ℕ) (o : Out Msg) → n < node_count p → i < h.count n → In o (outs noted step h n i)
+      → i < acting h n
+  outs_act n i o inside low k = ⊎_elim
+      (λ (t : has_input (h.event n i) ≡ true). within n i inside low t)
+      (λ (f : has_input (h.event n i) ≡ false). absurd (silent (h.event n i) refl f))
+      (cases_Bool (has_input (h.event n i)))
     where
-      silent : (e : NodeEvent Msg) → h.event n i ≡ e → IsPlain e → is_death e ≡ true → ⊥
-      silent (Does x) q plain t = absurd (cc)
-      silent (Ends x sends) q plain t = plain
-      silent (Returns stamp) q plain t = plain
-      silent (Dies stamp) q plain t = subst (λ (e : NodeEvent Msg). In o (outs_of step e (past noted step h n i))) q k
+      silent : (e : NodeEvent Msg) → h.event n i ≡ e → has_input e ≡ false → ⊥
+      silent (Does x) q f = absurd (cc)
+      silent (Ends x sends) q f = absurd (cc)
+      silent (Returns stamp) q f = subst (λ (e : NodeEvent Msg). In o (outs_of step e (past noted step h n i))) q k
+      silent (Dies stamp) q f = subst (λ (e : NodeEvent Msg). In o (outs_of step e (past noted step h n i))) q k
 
-  -- What a cub puts out is by its rules.
+  -- What a cub puts out is by its rules, as far as its death lets it.
   pub by_rules : (c i : ℕ) (o : Out Msg) → c < p.cubs → i < h.count c → In o (outs noted step h c i)
-      → (i < living h c) × In o (outs_at p c (lives.input c) i)
+      → (i < acting h c) × In o (outs_in p lives c i)
   by_rules c i o small low k =
-      let a = outs_alive c i o (cub_inside c small) low k in
+      let a = outs_act c i o (cub_inside c small) low k in
       (a, subst (λ (os : List (Out Msg)). In o os) (ring.rules.cubs c i small a) k)
 
   -- What a cub did is among what it put out in that event, which is in the beat.
@@ -196,7 +230,7 @@ module _ {S : Type 0} {step : S → Input Msg → Deed Msg S} {p : Params} {orde
       inl (
         small,
         cub_sends p n (lives.input n i) (store_at p n (lives.input n) i) way m
-            (by_rules n i (out.Send way m) small low k).1,
+            (was_put_out p lives n i (out.Send way m) (by_rules n i (out.Send way m) small low k).1),
       ))
       (λ (past : p.cubs ≤ n). inr (⊎_elim
       (λ (disk : n < controller p). inl (by_disk (omega arith) past disk))

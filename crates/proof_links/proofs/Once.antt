@@ -20,13 +20,13 @@ use Rattle.node_kit.specs.Links.{links_of, ends_of}
 use Rattle.node_kit.specs.Steps.{Deed, Input, stamp_of}
 use Rattle.node_kit.specs.Steps.Input.{Take, Tick}
 use Rattle.node_kit.specs.Ways.{way_to_cub}
-use Rattle.run_facts.specs.Events.{is_take_on, is_tick, sends_of}
-use Rattle.run_facts.specs.Events.NodeEvent.{Does}
-use Rattle.run_facts.specs.Histories.{History, beat, living, outs, takes}
+use Rattle.run_facts.specs.Events.{is_take_on, is_tick, is_tick_input, sends_of}
+use Rattle.run_facts.specs.Histories.{History, beat, outs, takes}
 use Rattle.disk_core.specs.State.{DiskState}
 use Rattle.controller_core.specs.declared.known.Known.{Known}
 use Rattle.controller_core.specs.Orders.{orders_in}
 use Rattle.controller_core.specs.Rules.{starts, commanding}
+use Rattle.proof_lives.specs.Histories.{acting}
 use Rattle.proof_lives.specs.Lives.{Lives}
 use Rattle.lists.specs.Elements.{In}
 use Rattle.proof_lives.specs.Facts.{AreStarts}
@@ -45,7 +45,7 @@ use Rattle.proof_facts.specs.Lives.{lives_of}
 use Rattle.proof_facts.specs.Rings.{IsRingHistory}
 use Rattle.proof_links.proofs.Carrying.{Came, SentAs, came_from, commanded_before, from_controller, from_either, number_of, numbers_rise, dated}
 use Rattle.proof_links.proofs.Deschedules.{by_cub}
-use Rattle.proof_links.proofs.Nodes.{after_tick, beat_same, before, controller_inside, cub_inside, event_is}
+use Rattle.proof_links.proofs.Nodes.{after_tick, beat_same, before, controller_inside, cub_inside, takes_at, ticks_at}
 use Rattle.proof_links.proofs.Ordering.{FinishedBy, StartedBy, at_beat, finished_by, ordered_before, ordered_once, place_of, started_by}
 
 -- In an event the controller sends on a link each start once.
@@ -126,7 +126,7 @@ module _ {S : Type 0} {step : S → Input Msg → Deed Msg S} {p : Params} {orde
   record IsFrom (c i : ℕ) (m : Msg) (at place : ℕ) : Type 0 where
     note : SentAs plan ring ctrl at place (way c) m
     number : takes c h c i ≡ number_of plan ring ctrl at place (way c)
-    alive : at < living h ctrl
+    alive : at < acting h ctrl
 
   is_from : {c i b : ℕ} {link : LinkNo} {m : Msg} (f : Came plan ring c i b link m) → f.from ≡ ctrl → link.0 < p.cubs
       → IsFrom c i m f.at f.place
@@ -149,7 +149,7 @@ module _ {S : Type 0} {step : S → Input Msg → Deed Msg S} {p : Params} {orde
     sent : IsFrom c i (msg.Start redundant ask) at place
     started : StartedBy p orders (inputs at) (way c) ask
 
-  start_came : (c i : ℕ) (stamp : Stamp) (link : LinkNo) (ask : Ask) (x : Bool) → c < p.cubs → i < living h c
+  start_came : (c i : ℕ) (stamp : Stamp) (link : LinkNo) (ask : Ask) (x : Bool) → c < p.cubs → i < acting h c
       → lives.input c i ≡ Take stamp link (msg.Start x ask) → StartCame c i link ask x
   start_came c i stamp link ask x small low e =
       let f = came_from plan ring c i stamp link (msg.Start x ask) (cub_inside plan ring c small) low e in
@@ -177,7 +177,7 @@ module _ {S : Type 0} {step : S → Input Msg → Deed Msg S} {p : Params} {orde
     redundant : Bool
     start : In (out.Send (way c) (msg.Start redundant ask)) (starts p ask)
 
-  stop_came : (c i : ℕ) (stamp : Stamp) (link : LinkNo) (v : Instance) → c < p.cubs → i < living h c
+  stop_came : (c i : ℕ) (stamp : Stamp) (link : LinkNo) (v : Instance) → c < p.cubs → i < acting h c
       → lives.input c i ≡ Take stamp link (msg.Deschedule v None) → StopCame c i v
   stop_came c i stamp link v small low e =
       let f = came_from plan ring c i stamp link (msg.Deschedule v None) (cub_inside plan ring c small) low e in
@@ -219,7 +219,7 @@ module _ {S : Type 0} {step : S → Input Msg → Deed Msg S} {p : Params} {orde
 
   -- The controller's event of number i is a tick.
   record TicksAt (i : ℕ) (stamp : Stamp) : Type 0 where
-    alive : i < living h ctrl
+    alive : i < acting h ctrl
     is : inputs i ≡ Tick stamp
 
   tick_of_start : {c i : ℕ} {link : LinkNo} {ask : Ask} {x : Bool} (s : StartCame c i link ask x)
@@ -233,7 +233,7 @@ module _ {S : Type 0} {step : S → Input Msg → Deed Msg S} {p : Params} {orde
   ticks_apart : {i j : ℕ} {a b : Stamp} → TicksAt i a → TicksAt j b → i < j → a.beat < b.beat
   ticks_apart {i} {j} {a} {b} s t less =
       let inside = controller_inside plan ring in
-      let tick = ap is_tick (event_is plan ring ctrl i inside s.alive ∙ ap (λ (x : Input Msg). Does x) s.is) in
+      let tick = ticks_at plan ring ctrl i inside s.alive ∙ ap is_tick_input s.is in
       let bi : beat h ctrl i ≡ a.beat = beat_same plan ring ctrl i ∙ ap (λ (x : Input Msg). (stamp_of x).beat) s.is in
       let bj : beat h ctrl j ≡ b.beat = beat_same plan ring ctrl j ∙ ap (λ (x : Input Msg). (stamp_of x).beat) t.is in
       let next = after_tick plan ring ctrl i inside (before plan ring ctrl i inside s.alive).done tick in
@@ -258,7 +258,7 @@ module _ {S : Type 0} {step : S → Input Msg → Deed Msg S} {p : Params} {orde
       (cases_order i j)
 
   -- what the controller puts out at a tick
-  outs_at_tick : (i : ℕ) (stamp : Stamp) → i < living h ctrl → inputs i ≡ Tick stamp
+  outs_at_tick : (i : ℕ) (stamp : Stamp) → i < acting h ctrl → inputs i ≡ Tick stamp
       → outs noted step h ctrl i ≡ (command p orders (Tick stamp) (known i)).outs
   outs_at_tick i stamp low e =
       ring.rules.controls i (before plan ring ctrl i (controller_inside plan ring) low).done
@@ -280,12 +280,13 @@ module _ {S : Type 0} {step : S → Input Msg → Deed Msg S} {p : Params} {orde
   -- ---- starts and deschedules of one instance
 
   -- An event in which a cub takes a message on a link counts as one more.
-  pub counts : (c i l : ℕ) (stamp : Stamp) (link : LinkNo) (m : Msg) → c < p.cubs → i < living h c
+  pub counts : (c i l : ℕ) (stamp : Stamp) (link : LinkNo) (m : Msg) → c < p.cubs → i < acting h c
       → lives.input c i ≡ Take stamp link m → link.0 ≡ l → takes l h c (suc i) ≡ takes l h c i + 1
   counts c i l stamp link m small low e same =
-      let t : is_take_on l (h.event c i) ≡ true = ap (is_take_on l)
-      (event_is plan ring c i (cub_inside plan ring c small) low ∙ ap (λ (q : Input Msg). Does q) e)
-      ∙ eq-eqb _ _ same in
+      let t : is_take_on l (h.event c i) ≡ true = ⊎_elim
+      (λ q. ap (is_take_on l) q ∙ eq-eqb _ _ same)
+      (λ q. ap (is_take_on l) q.1 ∙ eq-eqb _ _ same)
+      (takes_at plan ring c i stamp link m (cub_inside plan ring c small) low e) in
       rw t (omega arith)
 
   by_number : (c j k l : ℕ) → takes l h c j < takes l h c k → j < k
@@ -294,7 +295,7 @@ module _ {S : Type 0} {step : S → Input Msg → Deed Msg S} {p : Params} {orde
       (λ (q : k ≤ j). let r = count_rises (is_take_on l) h c k j q in absurd (omega arith))
       (cases_lt j k)
 
-  same_number : (c j k l : ℕ) (s t : Stamp) (w v : LinkNo) (m n : Msg) → c < p.cubs → j < living h c → k < living h c
+  same_number : (c j k l : ℕ) (s t : Stamp) (w v : LinkNo) (m n : Msg) → c < p.cubs → j < acting h c → k < acting h c
       → lives.input c j ≡ Take s w m → lives.input c k ≡ Take t v n
       → w.0 ≡ l → v.0 ≡ l → takes l h c j ≡ takes l h c k → j ≡ k
   same_number c j k l s t w v m n small low high e f wl vl same =
@@ -308,8 +309,8 @@ module _ {S : Type 0} {step : S → Input Msg → Deed Msg S} {p : Params} {orde
       (cases_order j k)
 
   -- A cub gets one start of an instance.
-  pub one_start : (c j k : ℕ) (s t : Stamp) (l m : LinkNo) (a b : Ask) (x y : Bool) → c < p.cubs → j < living h c
-      → k < living h c
+  pub one_start : (c j k : ℕ) (s t : Stamp) (l m : LinkNo) (a b : Ask) (x y : Bool) → c < p.cubs → j < acting h c
+      → k < acting h c
       → lives.input c j ≡ Take s l (msg.Start x a) → lives.input c k ≡ Take t m (msg.Start y b)
       → a.instance.0 ≡ b.instance.0 → j ≡ k
   one_start c j k s t l m a b x y small low high e f same =
@@ -341,7 +342,7 @@ module _ {S : Type 0} {step : S → Input Msg → Deed Msg S} {p : Params} {orde
 
   -- A deschedule without a tag comes behind the start of its instance.
   pub start_behind : (c j k : ℕ) (s t : Stamp) (l m : LinkNo) (v : Instance) (a : Ask) (x : Bool) → c < p.cubs
-      → j < living h c → k < living h c
+      → j < acting h c → k < acting h c
       → lives.input c j ≡ Take s l (msg.Deschedule v None) → lives.input c k ≡ Take t m (msg.Start x a)
       → a.instance.0 ≡ v.0 → k < j
   start_behind c j k s t l m v a x small low high e f same =

@@ -1,5 +1,5 @@
 -- The laws of the run: how far cubs are apart, and what a death ends.
-use Rattle.std.proofs.Common.{◌≡◌, ℕ, ◌+◌, ◌<◌, ◌≤◌, List, true, false, refl, sym, ap, ◌∙◌, arith, ⊎_elim, inl, inr}
+use Rattle.std.proofs.Common.{◌≡◌, ℕ, ◌+◌, ◌<◌, ◌≤◌, List, true, false, None, refl, sym, ap, ◌∙◌, arith, ⊎_elim, inl, inr}
 use Rattle.std.specs.Prelude.{◌⊎◌}
 use Rattle.std.proofs.lemmas.Bool.{cases_lt}
 use Rattle.tiger_base.specs.declared.number.Stamp.{Stamp}
@@ -10,12 +10,12 @@ use Rattle.slot_plan.specs.Times.{time_of}
 use Rattle.node_kit.specs.declared.course.Order.{Order}
 use Rattle.node_kit.specs.Steps.{Deed, Input, stamp_of}
 use Rattle.node_kit.specs.Steps.Input.{Tick}
-use Rattle.run_facts.specs.Events.{NodeEvent, stamp_at, is_tick, is_death, is_tick_input}
-use Rattle.run_facts.specs.Events.NodeEvent.{Does}
-use Rattle.run_facts.specs.Histories.{History, beat, ticks, living}
+use Rattle.run_facts.specs.Events.{is_death, is_tick_input}
+use Rattle.run_facts.specs.Histories.{History, beat, ticks}
 use Rattle.disk_core.specs.State.{DiskState}
-use Rattle.proof_lives.specs.Lives.{Lives, beat_at, reading_at}
-use Rattle.proof_lives.specs.Facts.{TickedAt, TookMessage}
+use Rattle.proof_lives.specs.Histories.{acting}
+use Rattle.proof_lives.specs.Lives.{Lives, beat_at, cut_in, reading_at}
+use Rattle.proof_lives.specs.Facts.{TickAt, TickedAt, TookMessage}
 use Rattle.proof_lives.proofs.Order as order
 use Rattle.proof_lives.proofs.Order.{tick_of, ticked_before}
 use Rattle.proof_lives.proofs.States.{stamp_made}
@@ -28,25 +28,28 @@ use Rattle.proof_facts.specs.Rings.{IsRingHistory, IsUpTo}
 use Rattle.proof_lives.proofs.NoReturns.{first_life, nobody}
 use Rattle.proof_links.proofs.Lives.{EndsInDeath, LivesOn}
 use Rattle.proof_links.proofs.Carrying.{not_behind}
-use Rattle.proof_links.proofs.Nodes.{before, cub_inside, event_is, how, lived, rises, ticks_same}
+use Rattle.proof_links.proofs.Nodes.{all_act, beat_same, before, cub_inside, how, lived, rises, ticks_at, ticks_same, up_to_acting, whole_early, whole_living}
 
 module _ {S : Type 0} {step : S → Input Msg → Deed Msg S} {p : Params} {orders : List Order} {disk_at : ℕ → DiskState}
     {h : History Msg S} (plan : IsPlan p) (ring : IsRingHistory step p orders disk_at h) where
   abbrev lives : Lives
   lives = lives_of h
 
-  -- A cub that ended a beat came to its tick.
-  pub came : {c b l : ℕ} → TickedAt p lives c b l → CameAt p h c b
-  came {c} {b} {l} w =
+  -- A cub came to the ticks of its life.
+  pub came_to : {c b l : ℕ} → TickAt p lives c b l → CameAt p h c b
+  came_to {c} {b} {l} w =
       let inside = cub_inside plan ring c w.small in
-      let e = event_is plan ring c w.at inside w.done ∙ ap (λ (x : Input Msg). Does x) w.is in
       record {
         small = w.small;
         at = w.at;
         done = (before plan ring c w.at inside w.done).done;
-        tick = ap is_tick e;
-        in_beat = ap (λ (x : NodeEvent Msg). (stamp_at x).beat) e;
+        tick = ticks_at plan ring c w.at inside w.done ∙ ap is_tick_input w.is;
+        in_beat = beat_same plan ring c w.at ∙ ap (λ (i : Input Msg). (stamp_of i).beat) w.is;
       }
+
+  -- A cub that ended a beat came to its tick.
+  pub came : {c b l : ℕ} → TickedAt p lives c b l → CameAt p h c b
+  came w = came_to (record { small = w.small; at = w.at; done = w.done; is = w.is })
 
   -- An event of a cub is in the beat of its death or before that.
   death_last : (c i a : ℕ) → i < h.count c → DiedAt p h c a → beat h c i ≤ a
@@ -62,7 +65,7 @@ module _ {S : Type 0} {step : S → Input Msg → Deed Msg S} {p : Params} {orde
   last {c} {b} {a} w d = let r = death_last c w.at a w.done d in let at = w.in_beat in omega arith
 
   -- A cub's readings never fall.
-  pub readings_rise : {c a b l m : ℕ} → TickedAt p lives c a l → TickedAt p lives c b m → a ≤ b → l ≤ m
+  pub readings_rise : {c a b l m : ℕ} → TickAt p lives c a l → TickAt p lives c b m → a ≤ b → l ≤ m
   readings_rise {c} {a} {b} {l} {m} v w le =
       let inputs : ℕ → Input Msg = lives.input c in
       let life = lived plan ring c v.small in
@@ -71,13 +74,14 @@ module _ {S : Type 0} {step : S → Input Msg → Deed Msg S} {p : Params} {orde
       let rv : reading_at inputs v.at ≡ l = ap (λ (i : Input Msg). (stamp_of i).reading) v.is in
       let wr : reading_at inputs w.at ≡ m = ap (λ (i : Input Msg). (stamp_of i).reading) w.is in
       let tick : is_tick_input (inputs w.at) ≡ true = ap is_tick_input w.is in
-      let before_it = order.not_behind p (living h c) inputs life v.at w.at w.done v.done tick (omega arith) in
+      let before_it = order.not_behind p (acting h c) inputs life v.at w.at w.done v.done tick (omega arith) in
       let rise = life.rising v.at w.at before_it w.done in
       omega arith
 
-  -- A cub ended the beats of the ticks among its first events.
-  pub ended_in : (d a i : ℕ) → d < p.cubs → i ≤ living h d → a < ticks h d i → Ended (facts_of p orders h) d a
-  ended_in d a i small low less =
+  -- A cub ended the beats of the ticks among its first events, if no death cuts these off.
+  ended_in : (d a i : ℕ) → d < p.cubs → i ≤ acting h d → ((j : ℕ) → j < i → cut_in lives d j ≡ None)
+      → a < ticks h d i → Ended (facts_of p orders h) d a
+  ended_in d a i small low whole less =
       let inputs : ℕ → Input Msg = lives.input d in
       let same = ticks_same plan ring d i (cub_inside plan ring d small) low in
       let t = ticked_before inputs i a (omega arith) in
@@ -93,8 +97,16 @@ module _ {S : Type 0} {step : S → Input Msg → Deed Msg S} {p : Params} {orde
           done = omega arith;
           is = s.1 ∙ ap (λ (q : Stamp). Tick q)
               (stamp_made s.0 a sb);
+          whole = whole t.at tb;
         };
       }
+
+  -- So it ended those of the ticks before any event.
+  ended_until : (d a i : ℕ) → d < p.cubs → i < h.count d → a < ticks h d i → Ended (facts_of p orders h) d a
+  ended_until d a i small low less =
+      let inside = cub_inside plan ring d small in
+      let most : i ≤ acting h d = up_to_acting plan ring d i inside low in
+      ended_in d a i small most (λ j l. whole_early plan ring d j inside (omega arith)) less
 
   -- No cub comes back, so that it ended each beat in its first life.
   lived_to : (d a : ℕ) → Ended (facts_of p orders h) d a → LivedTo (facts_of p orders h) d a
@@ -104,7 +116,7 @@ module _ {S : Type 0} {step : S → Input Msg → Deed Msg S} {p : Params} {orde
 
   -- If a cub is not behind beat b unless it dies, it has ended each lower beat in its first life, or
   -- died by then.
-  lived_or_died : (d a b : ℕ) → d < p.cubs → a < b
+  pub lived_or_died : (d a b : ℕ) → d < p.cubs → a < b
       → (((i : ℕ) → i < h.count d → is_death (h.event d i) ≡ false) → b ≤ ticks h d (h.count d))
       → LivedTo (facts_of p orders h) d a ⊎ DiedBy (facts_of p orders h) d a
   lived_or_died d a b small low up =
@@ -112,14 +124,16 @@ module _ {S : Type 0} {step : S → Input Msg → Deed Msg S} {p : Params} {orde
       ⊎_elim
       (λ (l : LivesOn h d).
       let r = up l.none in
-      let all : ticks h d (h.count d) ≡ ticks h d (living h d) = ap (λ n. ticks h d n) (sym l.all) in
-      inl (lived_to d a (ended_in d a (living h d) small (omega arith) (omega arith))))
+      let n : ℕ = h.count d in
+      let all = all_act plan ring d inside l in
+      inl (lived_to d a
+      (ended_in d a n small (omega arith) (λ j low. whole_living plan ring d j inside low l) (omega arith))))
       (λ (e : EndsInDeath h d).
       let end = e.last in
-      let n : ℕ = living h d in
+      let n : ℕ = e.at in
       let db = ring.run.in_beat d n inside (omega arith) in
       ⊎_elim
-      (λ (less : a < ticks h d n). inl (lived_to d a (ended_in d a n small (omega arith) less)))
+      (λ (less : a < ticks h d n). inl (lived_to d a (ended_until d a n small (omega arith) less)))
       (λ (more : ticks h d n ≤ a).
       inr (record {
         beat = beat h d n;
@@ -147,12 +161,11 @@ module _ {S : Type 0} {step : S → Input Msg → Deed Msg S} {p : Params} {orde
   -- A cub that takes a message has ended each lower beat.
   pub ended_before : {c b y : ℕ} {m : Msg} → TookMessage p lives c m y → b < y → Ended (facts_of p orders h) c b
   ended_before {c} {b} {y} {m} g low =
-      let done = g.done in
       let inside = cub_inside plan ring c g.small in
-      let e = event_is plan ring c g.at inside g.done ∙ ap (λ (x : Input Msg). Does x) g.is in
-      let yb : beat h c g.at ≡ y = ap (λ (x : NodeEvent Msg). (stamp_at x).beat) e in
-      let b0 = ring.run.in_beat c g.at inside (before plan ring c g.at inside g.done).done in
-      ended_in c b g.at g.small (omega arith) (omega arith)
+      let done = (before plan ring c g.at inside g.done).done in
+      let yb : beat h c g.at ≡ y = beat_same plan ring c g.at ∙ ap (λ (i : Input Msg). (stamp_of i).beat) g.is in
+      let b0 = ring.run.in_beat c g.at inside done in
+      ended_until c b g.at g.small done (omega arith)
 
   -- A reading is the true time of its beat, or at most the skew above it.
   pub reads : {c b l : ℕ} → TickedAt p lives c b l → (time_of p b ≤ l) × (l ≤ time_of p b + p.skew)

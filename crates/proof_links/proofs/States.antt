@@ -18,18 +18,20 @@ use Rattle.run_facts.specs.Histories.{History}
 use Rattle.disk_core.specs.State.{DiskState}
 use Rattle.proof_lives.specs.Lives.{store_at, Lives}
 use Rattle.proof_lives.specs.Facts.{DidAt, SentAt, TookMessage, HeardAt}
-use Rattle.proof_lives.proofs.Carrying.{before_next, same_ends, tick_same, way_ends, way_of}
+use Rattle.proof_lives.proofs.Carrying.{before_next, same_ends, way_ends, way_of}
+use Rattle.proof_lives.proofs.Cuts.{was_put_out}
 use Rattle.proof_lives.proofs.States.{state_way}
 use Rattle.proof_schedule.specs.Facts.{GotBy}
 use Rattle.proof_schedule.specs.LinkLaws.{WasSent, HeardIn}
 use Rattle.proof_service.specs.ServiceLaws.{WasUp}
+use Rattle.proof_facts.specs.Carried.{WasSentBy}
 use Rattle.proof_facts.specs.Facts.{beyond_of, facts_of}
 use Rattle.proof_facts.specs.Lives.{lives_of, CameAt}
 use Rattle.proof_facts.specs.Rings.{IsRingHistory}
 use Rattle.proof_lives.proofs.NoReturns.{first_life, same_life}
 use Rattle.proof_links.proofs.Sending.{beat_at_tick}
-use Rattle.proof_links.proofs.Carrying.{did_before, from_cub, reaches_near, took_from}
-use Rattle.proof_links.proofs.Nodes.{before, beat_same, cub_inside}
+use Rattle.proof_links.proofs.Carrying.{did_before, from_cub, link_no, reaches_near, took_from}
+use Rattle.proof_links.proofs.Nodes.{before, beat_same, cub_inside, ticks_at}
 
 module _ {S : Type 0} {step : S → Input Msg → Deed Msg S} {p : Params} {orders : List Order} {disk_at : ℕ → DiskState}
     {h : History Msg S} (plan : IsPlan p) (ring : IsRingHistory step p orders disk_at h) where
@@ -62,7 +64,8 @@ module _ {S : Type 0} {step : S → Input Msg → Deed Msg S} {p : Params} {orde
       let d = did_before plan ring f small in
       let inputs : ℕ → Input Msg = lives.input f.from in
       let n = sent_near f.from c g.link small f.ends
-      (state_way p f.from plan small (inputs d.did.at) (store_at p f.from inputs d.did.at) g.link s d.did.did) in
+      (state_way p f.from plan small (inputs d.did.at) (store_at p f.from inputs d.did.at) g.link s
+      (was_put_out p lives f.from d.did.at (out.Send g.link (msg.ViewerState s)) d.did.did)) in
       record {
         from = f.from;
         ahead = n.steps;
@@ -105,22 +108,21 @@ module _ {S : Type 0} {step : S → Input Msg → Deed Msg S} {p : Params} {orde
   -- A cub sends a heartbeat when it comes to a tick.
   pub beats_came : {c b : ℕ} {link : LinkNo} → DidAt p lives c (out.Send link msg.Heartbeat) b → CameAt p h c b
   beats_came {c} {b} {link} d =
-      let k = before plan ring c d.at (cub_inside plan ring c d.small) d.done in
-      let tick = beat_at_tick p c (lives.input c d.at) (store_at p c (lives.input c) d.at) link d.did in
+      let inside = cub_inside plan ring c d.small in
+      let sent = was_put_out p lives c d.at (out.Send link msg.Heartbeat) d.did in
       record {
         small = d.small;
         at = d.at;
-        done = k.done;
-        tick =
-            tick_same (h.event c d.at) (ring.run.plain c d.at (cub_inside plan ring c d.small) k.done) k.alive ∙ tick;
-        in_beat =
-            beat_same plan ring c d.at ∙ d.in_beat;
+        done = (before plan ring c d.at inside d.done).done;
+        tick = ticks_at plan ring c d.at inside d.done
+            ∙ beat_at_tick p c (lives.input c d.at) (store_at p c (lives.input c) d.at) link sent;
+        in_beat = beat_same plan ring c d.at ∙ d.in_beat;
       }
 
-  -- What a cub hears its predecessor sent at a tick.
-  pub heard_from : {c d y : ℕ} → HeardAt p lives c y → d < p.cubs → c ≡ cub_of p (d + 1)
-      → WasUp p (facts_of p orders h) d y
-  heard_from {c} {d} {y} g small to =
+  -- What a cub hears its predecessor sent.
+  pub heartbeat_from : {c d y : ℕ} → HeardAt p lives c y → d < p.cubs → c ≡ cub_of p (d + 1)
+      → WasSentBy p lives d (way_ahead p d 1) msg.Heartbeat y
+  heartbeat_from {c} {d} {y} g small to =
       let f = took_from plan ring g.took in
       let own = from_cub plan ring f (λ q. q) (λ q. q) in
       let b = did_before plan ring f own in
@@ -129,9 +131,24 @@ module _ {S : Type 0} {step : S → Input Msg → Deed Msg S} {p : Params} {orde
       let ends = sym (way_ends p d 1 plan small (omega arith) (omega arith)) ∙ ap (λ n. ends_of (links_of p) n)
       (sym link) ∙ f.ends in
       let from : d ≡ f.from = (same_ends d (cub_of p (d + 1)) f.from c ends).0 in
+      let sent : DidAt p lives d (out.Send g.took.link msg.Heartbeat) b.beat =
+      subst (λ n. DidAt p lives n (out.Send g.took.link msg.Heartbeat) b.beat) (sym from) b.did in
       record {
         beat = b.beat;
-        came = subst (λ n. CameAt p h n b.beat) (sym from) (beats_came b.did);
+        sent = subst (λ (w : LinkNo). DidAt p lives d (out.Send w msg.Heartbeat) b.beat)
+            (link_no g.took.link (way_ahead p d 1) link) sent;
+        later = b.later;
+        soon = b.soon;
+      }
+
+  -- It did so at a tick.
+  pub heard_from : {c d y : ℕ} → HeardAt p lives c y → d < p.cubs → c ≡ cub_of p (d + 1)
+      → WasUp p (facts_of p orders h) d y
+  heard_from {c} {d} {y} g small to =
+      let b = heartbeat_from g small to in
+      record {
+        beat = b.beat;
+        came = beats_came b.sent;
         first = first_life p lives (beyond_of p orders h) d b.beat;
         before = b.later;
         soon = b.soon;

@@ -13,8 +13,9 @@ use Rattle.node_kit.specs.declared.outbox.Out.TheVariants as out
 use Rattle.node_kit.specs.Steps.{Deed, Input}
 use Rattle.node_kit.specs.Steps.Input.{Take}
 use Rattle.run_facts.specs.Events.{is_take_on}
-use Rattle.run_facts.specs.Histories.{History, living, outs, takes}
+use Rattle.run_facts.specs.Histories.{History, outs, takes}
 use Rattle.disk_core.specs.State.{DiskState}
+use Rattle.proof_lives.specs.Histories.{acting}
 use Rattle.proof_lives.specs.Lives.{beat_at, Lives}
 use Rattle.lists.specs.Elements.{In}
 use Rattle.proof_lives.specs.Facts.{DidAt}
@@ -35,7 +36,7 @@ module _ {S : Type 0} {step : S → Input Msg → Deed Msg S} {p : Params} {orde
 
   -- What came on a link from a cub was sent by it.
   pub sent_by : (a c i : ℕ) (stamp : Stamp) (link : LinkNo) (m : Msg) → Leads p link a c → a < p.cubs → c < p.cubs
-      → i < living h c → lives.input c i ≡ Take stamp link m
+      → i < acting h c → lives.input c i ≡ Take stamp link m
       → WasSentBy p lives a link m stamp.beat
   sent_by a c i stamp link m leads own small low e =
       let f = came_from plan ring c i stamp link m (cub_inside plan ring c small) low e in
@@ -52,7 +53,7 @@ module _ {S : Type 0} {step : S → Input Msg → Deed Msg S} {p : Params} {orde
   since : (a c x i at place : ℕ) (stamp : Stamp) (link : LinkNo) (m o : Msg) → Leads p link a c → a < p.cubs
       → c < p.cubs → (d : DidAt p lives a (out.Send link m) x)
       → takes link.0 h c at ≡ number_of plan ring a d.at place link → SentAs plan ring a d.at place link m
-      → (t : Stamp) → lives.input c at ≡ Take t link m → at < i → i < living h c → lives.input c i ≡ Take stamp link o
+      → (t : Stamp) → lives.input c at ≡ Take t link m → at < i → i < acting h c → lives.input c i ≡ Take stamp link o
       → WasSentSince p lives a link o x
   since a c x i at place stamp link m o leads own small d number note t is less low e =
       let f = came_from plan ring c i stamp link o (cub_inside plan ring c small) low e in
@@ -99,7 +100,7 @@ module _ {S : Type 0} {step : S → Input Msg → Deed Msg S} {p : Params} {orde
 
   -- What only cubs may send came from a cub, which sent it some steps ahead.
   pub ahead : (c i : ℕ) (stamp : Stamp) (link : LinkNo) (m : Msg) → (IsOfDisk m → ⊥) → (IsOfController m → ⊥)
-      → c < p.cubs → i < living h c → lives.input c i ≡ Take stamp link m
+      → c < p.cubs → i < acting h c → lives.input c i ≡ Take stamp link m
       → CameAhead p lives c link m stamp.beat
   ahead c i stamp link m no_disk no_controller small low e =
       let f = came_from plan ring c i stamp link m (cub_inside plan ring c small) low e in

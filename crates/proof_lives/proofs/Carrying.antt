@@ -20,13 +20,13 @@ use Rattle.node_kit.specs.Steps.Input.{Take, Tick}
 use Rattle.node_kit.proofs.Ring.{ends_between}
 use Rattle.node_kit.specs.Ways.{way_ahead, predecessor}
 use Rattle.node_kit.proofs.Ways.{links_sound}
-use Rattle.run_facts.specs.Events.{NodeEvent, Dated, stamp_at, is_tick, is_death, is_take_on, sends_of, is_tick_input, IsPlain}
+use Rattle.run_facts.specs.Events.{NodeEvent, Dated, stamp_at, is_tick, is_take_on, sends_of, is_tick_input}
 use Rattle.run_facts.specs.Events.NodeEvent.{Does, Ends, Dies, Returns}
-use Rattle.run_facts.specs.Histories.{History, outs, beat, takes, count_of}
-use Rattle.run_facts.specs.Plain.{IsPlainRun}
+use Rattle.run_facts.specs.Histories.{History, TakesAt, outs, beat, takes, count_of}
 use Rattle.run_facts.proofs.Counts.{sent-numbered}
 use Rattle.lists.specs.Elements.{In}
-use Rattle.proof_lives.specs.Histories.{input_of}
+use Rattle.proof_lives.specs.Histories.{input_of, has_input, cut_of_event}
+use Rattle.proof_lives.specs.OneLife.{IsOneLifeRun}
 use Rattle.lists.proofs.Elements.{chosen}
 
 -- an event and what befell the node in it
@@ -36,18 +36,48 @@ stamp_same (Ends i sends) = refl
 stamp_same (Dies stamp) = refl
 stamp_same (Returns stamp) = refl
 
-pub tick_same : (e : NodeEvent Msg) → IsPlain e → is_death e ≡ false → is_tick e ≡ is_tick_input (input_of e)
-tick_same (Does (Take stamp link m)) plain d = refl
-tick_same (Does (Tick stamp)) plain d = refl
-tick_same (Ends i sends) plain d = absurd plain
-tick_same (Dies stamp) plain d = absurd (cc)
-tick_same (Returns stamp) plain d = absurd plain
+-- an event with an input is a whole step at it, or its node's death comes there
+pub tick_same : (e : NodeEvent Msg) → has_input e ≡ true → is_tick e ≡ is_tick_input (input_of e)
+tick_same (Does (Take stamp link m)) t = refl
+tick_same (Does (Tick stamp)) t = refl
+tick_same (Ends i sends) t = refl
+tick_same (Dies stamp) t = absurd (cc)
+tick_same (Returns stamp) t = absurd (cc)
 
-pub does_it : (e : NodeEvent Msg) → IsPlain e → is_death e ≡ false → e ≡ Does (input_of e)
-does_it (Does i) plain d = refl
-does_it (Ends i sends) plain d = absurd plain
-does_it (Dies stamp) plain d = absurd (cc)
-does_it (Returns stamp) plain d = absurd plain
+pub does_it : (e : NodeEvent Msg) → has_input e ≡ true
+    → (e ≡ Does (input_of e)) ⊎ ((k : ℕ) × (e ≡ Ends (input_of e) k))
+does_it (Does i) t = inl refl
+does_it (Ends i sends) t = inr (sends, refl)
+does_it (Dies stamp) t = absurd (cc)
+does_it (Returns stamp) t = absurd (cc)
+
+-- no death comes in the one, and in the other so many messages go out
+pub does_whole : (e : NodeEvent Msg) → has_input e ≡ true → cut_of_event e ≡ None → e ≡ Does (input_of e)
+does_whole (Does i) t whole = refl
+does_whole (Ends i sends) t whole = absurd (cc)
+does_whole (Dies stamp) t whole = absurd (cc)
+does_whole (Returns stamp) t whole = absurd (cc)
+
+pub ends_at : (e : NodeEvent Msg) (k : ℕ) → cut_of_event e ≡ Some k → e ≡ Ends (input_of e) k
+ends_at (Does i) k cut = absurd (cc)
+ends_at (Ends i sends) k cut = let z : sends ≡ k = cc in ap (λ (n : ℕ). Ends i n) z
+ends_at (Dies stamp) k cut = absurd (cc)
+ends_at (Returns stamp) k cut = absurd (cc)
+
+-- a message that is an event's input is taken in it
+pub takes_it : (e : NodeEvent Msg) (stamp : Stamp) (link : LinkNo) (m : Msg) → has_input e ≡ true
+    → input_of e ≡ Take stamp link m → TakesAt e stamp link m
+takes_it e stamp link m t is = ⊎_elim
+    (λ (q : e ≡ Does (input_of e)). inl (q ∙ ap (λ (i : Input Msg). Does i) is))
+    (λ (q : (k : ℕ) × (e ≡ Ends (input_of e) k)). inr (q.0, q.1 ∙ ap (λ (i : Input Msg). Ends i q.0) is))
+    (does_it e t)
+
+pub taken_input : (e : NodeEvent Msg) (stamp : Stamp) (link : LinkNo) (m : Msg) → TakesAt e stamp link m
+    → (has_input e ≡ true) × (input_of e ≡ Take stamp link m)
+taken_input e stamp link m took = ⊎_elim
+    (λ (q : e ≡ Does (Take stamp link m)). (ap has_input q, ap input_of q))
+    (λ (q : (sends : ℕ) × (e ≡ Ends (Take stamp link m) sends)). (ap has_input q.1, ap input_of q.1))
+    took
 
 -- what is sent on a link in an event
 -- an output that sends a message on a link
@@ -145,13 +175,14 @@ same_ends a b c d e =
 pub same_dated : (a b : Dated Msg) → Some a ≡ Some b → a ≡ b
 same_dated a b e = cc
 
-pub is_take : (l : ℕ) (e : NodeEvent Msg) → IsPlain e → is_take_on l e ≡ true
-    → (stamp : Stamp) × (link : LinkNo) × (m : Msg) × (e ≡ Does (Take stamp link m)) × (link.0 ≡ l)
-is_take l (Does (Take stamp link m)) plain t = (stamp, link, m, refl, eqb-true _ _ t)
-is_take l (Does (Tick stamp)) plain t = absurd (cc)
-is_take l (Ends i sends) plain t = absurd plain
-is_take l (Dies stamp) plain t = absurd (cc)
-is_take l (Returns stamp) plain t = absurd (cc)
+pub is_take : (l : ℕ) (e : NodeEvent Msg) → is_take_on l e ≡ true
+    → (stamp : Stamp) × (link : LinkNo) × (m : Msg) × TakesAt e stamp link m × (link.0 ≡ l)
+is_take l (Does (Take stamp link m)) t = (stamp, link, m, inl refl, eqb-true _ _ t)
+is_take l (Does (Tick stamp)) t = absurd (cc)
+is_take l (Ends (Take stamp link m) sends) t = (stamp, link, m, inr (sends, refl), eqb-true _ _ t)
+is_take l (Ends (Tick stamp) sends) t = absurd (cc)
+is_take l (Dies stamp) t = absurd (cc)
+is_take l (Returns stamp) t = absurd (cc)
 
 -- of more events as many or more pass a test
 pub count_rises : {S : Type 0} (test : NodeEvent Msg → Bool) (h : History Msg S) (n i j : ℕ) → i ≤ j → count_of test h n i ≤ count_of test h n j
@@ -165,7 +196,7 @@ count_rises test h n i (suc j) l = ⊎_elim
 
 -- what the record of a run gives of each link, whatever the nodes do
 module _ {S : Type 0} (step : S → Input Msg → Deed Msg S) (p : Params) (nodes : ℕ) (h : History Msg S)
-    (run : IsPlainRun noted step p nodes h) where
+    (run : IsOneLifeRun noted step p nodes h) where
   -- who sent what a node took
   pub record CameFrom (c i : ℕ) (b : ℕ) (link : LinkNo) (m : Msg) : Type 0 where
     pub from : ℕ
@@ -179,9 +210,9 @@ module _ {S : Type 0} (step : S → Input Msg → Deed Msg S) (p : Params) (node
     pub later : beat h from at < b
     pub soon : b ≤ beat h from at + p.delay
 
-  pub came_to : (c i : ℕ) (stamp : Stamp) (link : LinkNo) (m : Msg) → c < nodes → i < h.count c → h.event c i ≡ Does (Take stamp link m) → CameFrom c i stamp.beat link m
-  came_to c i stamp link m inside low e =
-      let k = run.carried c i stamp link m inside low e in
+  pub came_to : (c i : ℕ) (stamp : Stamp) (link : LinkNo) (m : Msg) → c < nodes → i < h.count c → TakesAt (h.event c i) stamp link m → CameFrom c i stamp.beat link m
+  came_to c i stamp link m inside low took =
+      let k = run.carried c i stamp link m inside low took in
       let s = sent-numbered noted step link.0 h k.from (h.count k.from) (takes link.0 h c i) (record { beat = k.when; item = m }) k.was_sent in
       let r = sends_in link.0 (beat h k.from s.at) (outs noted step h k.from s.at) (record { beat = k.when; item = m }) s.place s.sends in
       let when : k.when ≡ beat h k.from s.at = r.3 in

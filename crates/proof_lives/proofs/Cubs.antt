@@ -12,11 +12,13 @@ use Rattle.proof_schedule.specs.HoldLaws.{HoldLaws}
 use Rattle.proof_lives.specs.FactsBy.{Beyond, facts_by, cubs_alone}
 use Rattle.proof_lives.specs.HoldsHere.{AreAllFormed, CubsHold}
 use Rattle.proof_lives.specs.StopFactsOf.{GotTagAt, GotBareAt}
+use Rattle.proof_lives.proofs.Fitting.{Fits, alone_fits}
 use Rattle.proof_lives.proofs.HoldLaws.{pass_once, tag_passes, took}
 use Rattle.proof_lives.proofs.PassLaws.{pass, passes, told, told_next}
 use Rattle.proof_lives.proofs.RecordPasses.{record_passes}
 
-module _ (p : Params) (plan : IsPlan p) (lives : Lives) (are : AreLives p lives) (formed : AreAllFormed p lives) (beyond : Beyond) where
+module _ (p : Params) (plan : IsPlan p) (lives : Lives) (are : AreLives p lives) (formed : AreAllFormed p lives) (beyond : Beyond)
+    (fits : Fits p lives beyond) where
   -- a deschedule has a tag or none
   pub reached_with : (c v y : ℕ) (w : Instance) → w.0 ≡ v → (tag : Option Tag) → TookMessage p lives c (msg.Deschedule w tag) y → ((s q : ℕ) × GotTagAt p lives c v s q y) ⊎ GotBareAt p lives c v y
   reached_with c v y w same None took = inr (record { instance = w; same = same; took = took })
@@ -28,7 +30,8 @@ module _ (p : Params) (plan : IsPlan p) (lives : Lives) (are : AreLives p lives)
     reached_tag = λ r. record { instance = r.instance; tag = Some r.tag; same = r.same; took = r.took };
     reached_bare = λ r. record { instance = r.instance; tag = None; same = r.same; took = r.took };
     pass = λ a. pass p plan lives are formed beyond a;
-    passes = λ a came le life h. passes p plan lives are formed beyond a h;
+    passes = λ {c} {v} {s} {q} {y} {b} a came le life h.
+        passes p plan lives are formed beyond a (fits.ticks c b came).tick le h;
     told = λ a. told p plan lives are formed beyond a;
     told_next = λ a. told_next p plan lives are formed beyond a;
     tag_passes = λ a to. tag_passes p plan lives are formed beyond a to;
@@ -38,4 +41,4 @@ module _ (p : Params) (plan : IsPlan p) (lives : Lives) (are : AreLives p lives)
   }
 
 pub cubs_hold : CubsHold
-cubs_hold p lives plan are formed = hold_laws p plan lives are formed (cubs_alone p lives)
+cubs_hold p lives plan are formed = hold_laws p plan lives are formed (cubs_alone p lives) (alone_fits p lives)

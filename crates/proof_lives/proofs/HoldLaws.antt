@@ -30,6 +30,7 @@ use Rattle.run_facts.specs.Events.{is_tick_input}
 use Rattle.lists.specs.Elements.{In}
 use Rattle.proof_lives.specs.Facts.{TookAt, TookMessage, ReachedAt}
 use Rattle.lists.proofs.Elements.{chosen}
+use Rattle.proof_lives.proofs.Cuts.{was_put_out}
 use Rattle.proof_lives.proofs.Moves.{taken_out}
 use Rattle.proof_lives.proofs.Inputs.{got_message}
 use Rattle.proof_lives.proofs.Order.{beats_rise}
@@ -321,6 +322,8 @@ module _ (p : Params) (plan : IsPlan p) (lives : Lives) (are : AreLives p lives)
       (λ (q : r.at < d.at). q)
       (λ (q : d.at ≤ r.at). let rise = beats_rise p (lives.count c) inputs (are c d.small) d.at r.at q r.done in absurd (omega arith))
       (cases_lt r.at d.at) in
-      let free = input_free p c (inputs d.at) (store_at p c inputs d.at) (record { tenancy = t; visit = n; kind = w.kind }) w.message d.did in
+      let q : Rec = record { tenancy = t; visit = n; kind = w.kind } in
+      let did = was_put_out p lives c d.at (taken_out q) d.did in
+      let free = input_free p c (inputs d.at) (store_at p c inputs d.at) q w.message did in
       released_by c d.at r.at t.instance.0 x d.small low (omega arith)
       (unheld_released p c inputs (lives.count c) (formed c d.small) d.at r.at t.instance.0 before (omega arith) (stop_in p lives g) t.instance refl free)

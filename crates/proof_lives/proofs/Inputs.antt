@@ -1,5 +1,5 @@
 -- What befell a cub at an input, as facts of its beat: a message that was taken, a tick, a record that entered.
-use Rattle.std.proofs.Common.{◌≡◌, ℕ, ◌<◌, ◌≤◌, true, false, Option, refl, sym, ap, ◌∙◌, arith, ⊎_elim, inl, inr, eq-or-lt_of_le}
+use Rattle.std.proofs.Common.{◌≡◌, ℕ, ◌<◌, ◌≤◌, true, false, Option, None, refl, sym, ap, ◌∙◌, arith, ⊎_elim, inl, inr, eq-or-lt_of_le}
 use Rattle.std.specs.Prelude.{◌⊎◌}
 use Rattle.std.proofs.lemmas.Bool.{cases_Bool}
 use Rattle.tiger_base.specs.declared.number.Instance.{Instance}
@@ -14,10 +14,10 @@ use Rattle.tiger_base.specs.declared.message.Msg.TheVariants as msg
 use Rattle.slot_plan.specs.declared.params.Params.{Params}
 use Rattle.node_kit.specs.Steps.{Input, stamp_of}
 use Rattle.node_kit.specs.Steps.Input.{Take, Tick}
-use Rattle.proof_lives.specs.Lives.{Lives, AreLives, outs_at, beat_at}
+use Rattle.proof_lives.specs.Lives.{Lives, AreLives, cut_in, outs_in, beat_at}
 use Rattle.run_facts.specs.Events.{is_tick_input}
 use Rattle.lists.specs.Elements.{In}
-use Rattle.proof_lives.specs.Facts.{TickedAt, DidAt, TookAt, InsertedAt, EnteredAt, TookMessage}
+use Rattle.proof_lives.specs.Facts.{TickAt, TickedAt, DidAt, TookAt, InsertedAt, EnteredAt, TookMessage}
 use Rattle.proof_lives.proofs.Moves.{taken_out}
 use Rattle.proof_lives.proofs.Order.{beats_rise, not_behind, behind}
 use Rattle.proof_lives.proofs.States.{stamp_made}
@@ -49,19 +49,27 @@ module _ (p : Params) (lives : Lives) where
         is = is ∙ ap (λ (x : Stamp). Take x link m) made;
       }
 
-  abbrev pub ticked_there : (c i : ℕ) (stamp : Stamp) → c < p.cubs → i < lives.count c → lives.input c i ≡ Tick stamp
-      → TickedAt p lives c (beat_at (lives.input c) i) stamp.reading
-  ticked_there c i stamp small low is =
+  abbrev pub tick_there : (c i : ℕ) (stamp : Stamp) → c < p.cubs → i < lives.count c → lives.input c i ≡ Tick stamp
+      → TickAt p lives c (beat_at (lives.input c) i) stamp.reading
+  tick_there c i stamp small low is =
       let beats : beat_at (lives.input c) i ≡ stamp.beat = ap (λ (k : Input Msg). (stamp_of k).beat) is in
       let made = stamp_made stamp (beat_at (lives.input c) i) (sym beats) in
       record { small = small; at = i; done = low; is = is ∙ ap (λ (x : Stamp). Tick x) made }
 
-  -- A record that was taken at an input entered in its beat.
-  abbrev taken_at : (c i : ℕ) (r : Rec) → c < p.cubs → i < lives.count c → In (taken_out r) (outs_at p c (lives.input c) i)
+  -- A whole tick ended its beat.
+  abbrev pub ticked_there : (c i : ℕ) (stamp : Stamp) → c < p.cubs → i < lives.count c → lives.input c i ≡ Tick stamp
+      → cut_in lives c i ≡ None → TickedAt p lives c (beat_at (lives.input c) i) stamp.reading
+  ticked_there c i stamp small low is whole =
+      let beats : beat_at (lives.input c) i ≡ stamp.beat = ap (λ (k : Input Msg). (stamp_of k).beat) is in
+      let made = stamp_made stamp (beat_at (lives.input c) i) (sym beats) in
+      record { small = small; at = i; done = low; is = is ∙ ap (λ (x : Stamp). Tick x) made; whole = whole }
+
+  -- A record that was taken at an input entered in its beat, if that goes out.
+  abbrev taken_at : (c i : ℕ) (r : Rec) → c < p.cubs → i < lives.count c → In (taken_out r) (outs_in p lives c i)
       → DidAt p lives c (taken_out (record { tenancy = r.tenancy; visit = r.visit; kind = r.kind })) (beat_at (lives.input c) i)
   taken_at c i r small low k = record { small = small; at = i; done = low; in_beat = refl; did = k }
 
-  pub entered_at : (c i : ℕ) (r : Rec) → c < p.cubs → i < lives.count c → In (taken_out r) (outs_at p c (lives.input c) i)
+  pub entered_at : (c i : ℕ) (r : Rec) → c < p.cubs → i < lives.count c → In (taken_out r) (outs_in p lives c i)
       → EnteredAt p lives c r.tenancy r.visit (beat_at (lives.input c) i)
   entered_at c i r small low k = ⊎_elim
       (λ (e : is_tick_input (lives.input c i) ≡ true). inr (record { kind = r.kind; done = taken_at c i r small low k; tick = e }))
@@ -84,7 +92,7 @@ module _ (p : Params) (lives : Lives) (are : AreLives p lives) where
 
   -- A record that was taken at a message or before it entered by a state up to its beat, or by a Put in a lower one.
   pub entered_among : (c at i : ℕ) (r : Rec) → c < p.cubs → i < lives.count c → is_tick_input (lives.input c i) ≡ false → at ≤ i
-      → In (taken_out r) (outs_at p c (lives.input c) at)
+      → In (taken_out r) (outs_in p lives c at)
       → (TookAt p lives c r.tenancy r.visit (beat_at (lives.input c) at) × (beat_at (lives.input c) at ≤ beat_at (lives.input c) i))
       ⊎ (InsertedAt p lives c r.tenancy r.visit (beat_at (lives.input c) at) × (beat_at (lives.input c) at < beat_at (lives.input c) i))
   entered_among c at i r small low message by taken =

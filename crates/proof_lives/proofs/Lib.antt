@@ -1,8 +1,13 @@
+pub mod Acting
 pub mod Begun
+pub mod Beside
 pub mod Carrying
 pub mod Cubs
+pub mod Cuts
 pub mod Deeds
 pub mod Filling
+pub mod Fitting
+pub mod Going
 pub mod HoldLaws
 pub mod Holds
 pub mod Inputs
@@ -14,9 +19,11 @@ pub mod Ledger
 pub mod Lines
 pub mod Meeting
 pub mod Moves
+pub mod News
 pub mod NoReturns
 pub mod NoStops
 pub mod Once
+pub mod OneLife
 pub mod Order
 pub mod PassLaws
 pub mod Passing

@@ -22,10 +22,12 @@ use Rattle.cub_rules.specs.declared.store.Store.{Store}
 use Rattle.cub_rules.specs.Messages.{position_at, taking}
 use Rattle.proof_schedule.specs.Facts.{Facts, EnteredAmong, IsReleasedBy, IsBeside, IsGiven}
 use Rattle.proof_schedule.specs.StateLaws.{Found, Meeting, Taken}
-use Rattle.proof_lives.specs.Lives.{Lives, store_at, outs_at, deed_of, beat_at}
+use Rattle.proof_lives.specs.Lives.{Lives, store_at, outs_at, outs_in, deed_of, beat_at}
 use Rattle.run_facts.specs.Events.{is_tick_input}
 use Rattle.lists.specs.Elements.{In}
 use Rattle.proof_lives.specs.Facts.{TookAt, TookMessage}
+use Rattle.proof_lives.proofs.Cuts.{was_put_out, whole_before, goes_whole}
+use Rattle.proof_lives.proofs.Going.{message_goes}
 use Rattle.proof_lives.proofs.Moves.{taken_out}
 use Rattle.proof_lives.proofs.Inputs.{take_of, got_message, entered_among}
 use Rattle.proof_lives.proofs.Order.{beats_rise}
@@ -50,7 +52,7 @@ module _ (p : Params) (plan : IsPlan p) (lives : Lives) (beyond : Beyond) (order
 
   -- who has a place where a record of a state goes: one that was taken, behind each deschedule of its instance that came before
   found_at : (c i at y s n : ℕ) (t : Tenancy) (m : ℕ) (q : Rec) → (came : CameInOrder p lives c i t m y) → c < p.cubs → i < lives.count c → is_tick_input (lives.input c i) ≡ false
-      → beat_at (lives.input c) i ≡ y → at ≤ i → In (taken_out q) (outs_at p c (lives.input c) at) → q.tenancy.slot.0 ≡ s → q.visit ≡ n
+      → beat_at (lives.input c) i ≡ y → at ≤ i → In (taken_out q) (outs_in p lives c at) → q.tenancy.slot.0 ≡ s → q.visit ≡ n
       → ((j : ℕ) → j < i → IsStop p c (lives.input c) j q.tenancy.instance.0 → j < at)
       → Found p R c s n y came.from came.ahead came.beat
   found_at c i at y s n t m q came small low message eb by taken slot visit since =
@@ -58,7 +60,7 @@ module _ (p : Params) (plan : IsPlan p) (lives : Lives) (beyond : Beyond) (order
       let v : ℕ = q.tenancy.instance.0 in
       let entered = entered_among p lives order.lived c at i q small low message by taken in
       let gone : (j : ℕ) → j < i → IsStop p c inputs j v → IsReleasedBy p R c v (beat_at inputs at) = λ j l stop.
-      let_go p plan lives order.lived order.formed beyond c at j q small (omega arith) (since j l stop) taken stop in
+      let_go p plan lives order.lived order.formed beyond c at j q small (omega arith) (since j l stop) (was_put_out p lives c at (taken_out q) taken) stop in
       record {
         holder = q.tenancy;
         slot = slot;
@@ -137,10 +139,13 @@ module _ (p : Params) (plan : IsPlan p) (lives : Lives) (beyond : Beyond) (order
             (λ w.
             let d = standing p c plan g.small (lives.count c) inputs (order.formed c g.small) g.at (let gd = g.done in omega arith) w.0 w.1 in
             let before = d.before in
-            found_at c g.at d.at y t.slot.0 n t m w.0.rec came g.small g.done message eb (omega arith) d.taken w.2.0 w.2.1 d.since)
+            let whole = whole_before lives c d.at g.at d.before g.done in
+            found_at c g.at d.at y t.slot.0 n t m w.0.rec came g.small g.done message eb (omega arith)
+            (goes_whole p lives c d.at (taken_out w.0.rec) whole d.taken) w.2.0 w.2.1 d.since)
             (λ w.
             let taken : In (taken_out w.0) (outs_at p c inputs g.at) = subst (λ (i : Input Msg). In (taken_out w.0) (deed_of p c i h).outs) (sym g.is) w.1 in
-            found_at c g.at g.at y t.slot.0 n t m w.0 came g.small g.done message eb (omega arith) taken (ap (λ (u : Tenancy). u.slot.0) w.2) w.3 (λ j l stop. l))
+            found_at c g.at g.at y t.slot.0 n t m w.0 came g.small g.done message eb (omega arith)
+            (message_goes p lives c g.at w.0 message taken) (ap (λ (u : Tenancy). u.slot.0) w.2) w.3 (λ j l stop. l))
             (taking_places p c stamp g.link s n h plan form visit e given).how))
             (cases_Bool (is_held h.held t.instance));
       }
@@ -154,7 +159,7 @@ taken p lives beyond {c} {n} {y} {t} w =
     let h : Store = store_at p c inputs d.at in
     let q : Rec = record { tenancy = t; visit = n; kind = w.kind } in
     let k = take_of (inputs d.at) w.message in
-    let did = subst (λ (i : Input Msg). In (taken_out q) (deed_of p c i h).outs) k.3 d.did in
+    let did = subst (λ (i : Input Msg). In (taken_out q) (deed_of p c i h).outs) k.3 (was_put_out p lives c d.at (taken_out q) d.did) in
     let s = (taking_hears p c k.0 k.1 k.2 h).only_states q did in
     let told = taking_told p c k.0 k.1 s.0 q h (subst (λ (m : Msg). In (taken_out q) (taking p c k.0 k.1 m h).outs) s.1 did) in
     let state : State = record { tenancy = t; visit = s.0.visit } in

@@ -17,6 +17,7 @@ use Rattle.proof_lives.specs.Lives.{Lives, deed_of, store_at, beat_at}
 use Rattle.lists.specs.Elements.{In}
 use Rattle.proof_lives.specs.Facts.{DidAt, AreStarts}
 use Rattle.proof_lives.specs.Once.{CubsPutOnce}
+use Rattle.proof_lives.proofs.Cuts.{was_put_out}
 use Rattle.proof_lives.proofs.Inserting.{put_out, PutWell}
 use Rattle.proof_lives.proofs.TakingOver.{inserting_puts}
 use Rattle.proof_lives.proofs.Ticking.{before_inserting}
@@ -40,7 +41,8 @@ module _ (p : Params) (lives : Lives) (orders : List Order) (plan : IsPlan p) (s
   put_there {c} {x} {t} d =
       let inputs : ℕ → Input Msg = lives.input c in
       let h : Store = store_at p c inputs d.at in
-      let a = at_tick p c inputs d.at (put_out t) (put_at_tick p c plan d.small (inputs d.at) h t d.did) d.did in
+      let did = was_put_out p lives c d.at (put_out t) d.did in
+      let a = at_tick p c inputs d.at (put_out t) (put_at_tick p c plan d.small (inputs d.at) h t did) did in
       let k = put_inserted p c plan d.small a.stamp h t a.did in
       record { stamp = a.stamp; is = a.is; put = k; well = (inserting_puts p c a.stamp plan d.small (before_inserting p c a.stamp h)).put t k }
 

@@ -1,5 +1,5 @@
 -- Passing on, as laws: from where a cub passes a deschedule on, what it then sends, and that it sends no other.
-use Rattle.std.proofs.Common.{◌≡◌, ℕ, ◌+◌, ◌*◌, ◌<◌, ◌≤◌, List, [], ◌∷◌, find, true, Option, Some, None, refl, sym, ap, subst, ◌∙◌, arith, inl, inr, suc, false, ⊎_elim}
+use Rattle.std.proofs.Common.{◌≡◌, ℕ, ◌+◌, ◌*◌, ◌<◌, ◌≤◌, List, [], ◌∷◌, ◌++◌, find, true, Option, Some, None, refl, sym, ap, subst, ◌∙◌, arith, inl, inr, suc, false, ⊎_elim}
 use Rattle.std.proofs.lemmas.Bool.{eqb-true, leb-true, le-leb}
 use Rattle.std.specs.Prelude.{◌⊎◌, ◌==◌}
 use Rattle.tiger_base.specs.declared.message.Msg.{Msg}
@@ -31,14 +31,17 @@ use Rattle.cub_rules.specs.Messages.{position_at, position_by, position_of, is_r
 use Rattle.cub_rules.specs.State.{visit_here, IsRecordOf, IsLineOf}
 use Rattle.cub_rules.specs.declared.store.Store.{Store}
 use Rattle.cub_changes.specs.Causes.{PassesOn}
-use Rattle.proof_lives.specs.Facts.{TookMessage}
-use Rattle.proof_lives.specs.Lives.{Lives, AreLives, store_at, deed_of, outs_at, beat_at, reading_at}
+use Rattle.proof_lives.specs.Facts.{TickAt, TookMessage}
+use Rattle.proof_lives.specs.Lives.{Lives, AreLives, cut_in, cut_outs, store_at, deed_of, outs_in, beat_at, reading_at}
 use Rattle.run_facts.specs.Events.{is_tick_input}
 use Rattle.lists.specs.Elements.{In}
+use Rattle.proof_lives.proofs.Cuts.{from_cut_outs, was_put_out, whole_before, whole_by_tick, goes_whole}
+use Rattle.proof_lives.proofs.Going.{first_goes}
 use Rattle.proof_lives.proofs.Inputs.{entered_among}
 use Rattle.proof_lives.proofs.Lines.{line_taken, kept_at}
 use Rattle.lists.proofs.Elements.{chosen}
 use Rattle.lists.proofs.Each.{all_in}
+use Rattle.proof_lives.proofs.Moves.{taken_out}
 use Rattle.proof_lives.proofs.Order.{beats_rise}
 use Rattle.proof_lives.proofs.States.{stamp_made, tick_meek}
 use Rattle.proof_lives.specs.HoldsHere.{IsFormed}
@@ -52,7 +55,7 @@ use Rattle.proof_lives.proofs.Holds.{no_both, must_in}
 use Rattle.proof_lives.proofs.Ledger.{same_instance, hold_must}
 use Rattle.proof_lives.proofs.NoReturns.{same_life}
 use Rattle.proof_lives.proofs.Passing.{taking_passes}
-use Rattle.proof_lives.proofs.Tags.{tag_behind, pass_sends, sent_passes}
+use Rattle.proof_lives.proofs.Tags.{tag_behind, pass_sends, pass_first, sent_passes}
 
 pub reached_true : (p : Params) (stamp : Stamp) (s : SlotNo) (n : ℕ) → due p s.0 n ≤ stamp.reading + p.max_lead + 2 * p.play + p.skew → is_reached p stamp s n ≡ true
 unfolding is_reached
@@ -111,7 +114,7 @@ module _ (p : Params) (plan : IsPlan p) (lives : Lives) (are : AreLives p lives)
   R = facts_by p lives beyond
 
   -- a pass tells the next two cubs, where the states of the next visit may be on their way
-  pub told_one : {c v s q y : ℕ} (k : ℕ) → (k ≡ 1) ⊎ (k ≡ 2) → (a : PassedAt p lives c v s q y) → In (out.Send (way_ahead p c k) (msg.Deschedule a.instance (Some (tag_behind a.key)))) (outs_at p c (lives.input c) a.at)
+  pub told_one : {c v s q y : ℕ} (k : ℕ) → (k ≡ 1) ⊎ (k ≡ 2) → (a : PassedAt p lives c v s q y) → In (out.Send (way_ahead p c k) (msg.Deschedule a.instance (Some (tag_behind a.key)))) (outs_in p lives c a.at)
       → ToldAt p lives c k v s (q + 1) y
   told_one {c} {v} {s} {q} {y} k which a i = record {
     ahead = which;
@@ -123,9 +126,9 @@ module _ (p : Params) (plan : IsPlan p) (lives : Lives) (are : AreLives p lives)
     did = record { small = a.small; at = a.at; done = a.done; in_beat = ap (λ (x : Input Msg). (stamp_of x).beat) a.is; did = i };
   }
 
-  pub passes : {c v s q y : ℕ} → PassedAt p lives c v s q y → due p s (q + 1) ≤ horizon p (time_of p y)
+  pub passes : {c v s q y b l : ℕ} → PassedAt p lives c v s q y → TickAt p lives c b l → y ≤ b → due p s (q + 1) ≤ horizon p (time_of p y)
       → ToldAt p lives c 1 v s (q + 1) y × ToldAt p lives c 2 v s (q + 1) y
-  passes {c} {v} {s} {q} {y} a h =
+  passes {c} {v} {s} {q} {y} {b} {l} a tick le h =
       let inputs : ℕ → Input Msg = lives.input c in
       let stamp : Stamp = record { beat = y; reading = a.reading } in
       let beats : beat_at inputs a.at ≡ y = ap (λ (x : Input Msg). (stamp_of x).beat) a.is in
@@ -135,8 +138,10 @@ module _ (p : Params) (plan : IsPlan p) (lives : Lives) (are : AreLives p lives)
       let d : due p a.key.0.0 (a.key.1 + 1) ≡ due p s (q + 1) = ap (λ n. due p n (a.key.1 + 1)) a.slot ∙ ap (λ n. due p s (n + 1)) a.visit in
       let g = taking_passes p c stamp a.link a.message (store_at p c inputs a.at) a.instance a.key a.formed a.passes in
       let both = pass_sends p c stamp a.instance a.key g.before (reached_true p stamp a.key.0 (a.key.1 + 1) (omega arith)) in
-      let done : (o : Out Msg) → In o (passing_on p c stamp a.instance a.key g.before).outs → In o (outs_at p c inputs a.at) = λ o i.
-      subst (λ (x : Input Msg). In o (deed_of p c x (store_at p c inputs a.at)).outs) (sym a.is) (g.outs o i) in
+      let ends : beat_at inputs tick.at ≡ b = ap (λ (x : Input Msg). (stamp_of x).beat) tick.is in
+      let whole = whole_by_tick p lives are c a.at tick.at a.small a.done tick.done (ap is_tick_input a.is) (ap is_tick_input tick.is) (omega arith) in
+      let done : (o : Out Msg) → In o (passing_on p c stamp a.instance a.key g.before).outs → In o (outs_in p lives c a.at) = λ o i.
+      goes_whole p lives c a.at o whole (subst (λ (x : Input Msg). In o (deed_of p c x (store_at p c inputs a.at)).outs) (sym a.is) (g.outs o i)) in
       (told_one 1 (inl refl) a (done _ both.0), told_one 2 (inr refl) a (done _ both.1))
 
   -- and a cub tells of a stop only so
@@ -185,31 +190,42 @@ module _ (p : Params) (plan : IsPlan p) (lives : Lives) (are : AreLives p lives)
   pub told : {a k v s q x : ℕ} → ToldAt p lives a k v s q x → IsTold p R a k v s q x
   told {a} {k} {v} {s} {q} {x} h =
       let d = h.did in
-      told_by a d.at k v s q x d.small d.done h.ahead h.instance h.same h.tag h.slot h.visit (way_ahead p a k) (lives.input a d.at) refl d.in_beat d.did
+      told_by a d.at k v s q x d.small d.done h.ahead h.instance h.same h.tag h.slot h.visit (way_ahead p a k) (lives.input a d.at) refl d.in_beat
+      (was_put_out p lives a d.at (out.Send (way_ahead p a k) (msg.Deschedule h.instance (Some h.tag))) d.did)
 
-  -- It sends a deschedule to both in one event. So a cub that tells one of the next two cubs tells the next one.
-  next_out : (c i : ℕ) → c < p.cubs → i < lives.count c → (w : Instance) (tag : Tag) (link : LinkNo) (k : Input Msg)
-      → lives.input c i ≡ k → In (out.Send link (msg.Deschedule w (Some tag))) (deed_of p c k (store_at p c (lives.input c) i)).outs
-      → In (out.Send (way_ahead p c 1) (msg.Deschedule w (Some tag))) (deed_of p c k (store_at p c (lives.input c) i)).outs
-  next_out c i small low w tag link (Take stamp way m) is d =
+  -- It sends a deschedule to both in one event, to the next one first. So a cub that tells one of the next two cubs tells
+  -- the next one, even if its death cuts that event off.
+  next_out : (cut : Option ℕ) (c i : ℕ) → c < p.cubs → i < lives.count c → (w : Instance) (tag : Tag) (link : LinkNo) (k : Input Msg)
+      → lives.input c i ≡ k → In (out.Send link (msg.Deschedule w (Some tag))) (cut_outs cut (deed_of p c k (store_at p c (lives.input c) i)).outs)
+      → In (out.Send (way_ahead p c 1) (msg.Deschedule w (Some tag))) (cut_outs cut (deed_of p c k (store_at p c (lives.input c) i)).outs)
+  next_out cut c i small low w tag link (Take stamp way m) is goes =
       let h : Store = store_at p c (lives.input c) i in
-      let g = sent_passes p c stamp way link m h w (Some tag) d in
-      let tags : tag ≡ tag_behind g.key = some_is tag (tag_behind g.key) g.tag_is in
-      let o = taking_passes p c stamp way m h w g.key (formed c small i stamp way m low is) g.passes in
-      let near = o.outs _ (pass_sends p c stamp w g.key o.before g.reached).0 in
       let outs : List (Out Msg) = (deed_of p c (Take stamp way m) h).outs in
-      subst (λ (t : Tag). In (out.Send (way_ahead p c 1) (msg.Deschedule w (Some t))) outs) (sym tags) near
+      let o : Out Msg = out.Send link (msg.Deschedule w (Some tag)) in
+      let g = sent_passes p c stamp way link m h w (Some tag) (from_cut_outs cut o outs goes) in
+      let tags : tag ≡ tag_behind g.key = some_is tag (tag_behind g.key) g.tag_is in
+      let pass = taking_passes p c stamp way m h w g.key (formed c small i stamp way m low is) g.passes in
+      let near : Out Msg = out.Send (way_ahead p c 1) (msg.Deschedule w (Some (tag_behind g.key))) in
+      let sends = pass_first p c stamp w g.key pass.before g.reached in
+      let rest : List (Out Msg) = sends.0 ++ pass.first.0 in
+      let is_front : near ∷ rest ≡ outs = ap (λ (os : List (Out Msg)). os ++ pass.first.0) (sym sends.1) ∙ pass.first.1 in
+      let there : In near (cut_outs cut outs) =
+      subst (λ (os : List (Out Msg)). In near (cut_outs cut os)) is_front
+      (first_goes cut o near rest (subst (λ (os : List (Out Msg)). In o (cut_outs cut os)) (sym is_front) goes)) in
+      subst (λ (t : Tag). In (out.Send (way_ahead p c 1) (msg.Deschedule w (Some t))) (cut_outs cut outs)) (sym tags) there
     where
       some_is : (a b : Tag) → Some a ≡ Some b → a ≡ b
       some_is a b e = cc
-  next_out c i small low w tag link (Tick stamp) is d =
-      absurd (tick_meek p c plan small stamp (store_at p c (lives.input c) i) link (msg.Deschedule w (Some tag)) (λ n. n) (λ n. n) (λ n e. absurd (cc)) d)
+  next_out cut c i small low w tag link (Tick stamp) is goes =
+      let h : Store = store_at p c (lives.input c) i in
+      let d = from_cut_outs cut (out.Send link (msg.Deschedule w (Some tag))) (deed_of p c (Tick stamp) h).outs goes in
+      absurd (tick_meek p c plan small stamp h link (msg.Deschedule w (Some tag)) (λ n. n) (λ n. n) (λ n e. absurd (cc)) d)
 
   pub told_next : {a k v s q x : ℕ} → ToldAt p lives a k v s q x → ToldAt p lives a 1 v s q x
   told_next {a} {k} h =
       let d = h.did in
       let here : Input Msg = lives.input a d.at in
-      let next = next_out a d.at d.small d.done h.instance h.tag (way_ahead p a k) here (refl {a = here}) d.did in
+      let next = next_out (cut_in lives a d.at) a d.at d.small d.done h.instance h.tag (way_ahead p a k) here (refl {a = here}) d.did in
       record {
         ahead = inl refl;
         instance = h.instance;
@@ -270,7 +286,8 @@ module _ (p : Params) (plan : IsPlan p) (lives : Lives) (are : AreLives p lives)
           visit = rec.visit;
           beat = beat_at inputs t.at;
           entered = subst (λ b. EnteredAmong R c rec.tenancy rec.visit (beat_at inputs t.at) b) beats
-              (entered_among p lives are c t.at i rec small low (ap is_tick_input took.is) (omega arith) t.taken);
+              (entered_among p lives are c t.at i rec small low (ap is_tick_input took.is) (omega arith)
+              (goes_whole p lives c t.at (taken_out rec) (whole_before lives c t.at i t.before low) t.taken));
           life = same_life p lives beyond c (beat_at inputs t.at) y;
           which = ⊎_elim (λ e. inl (qs ∙ e)) (λ e. inr (qs ∙ e)) (here_visit rec.kind rec.visit);
         })),

@@ -1,5 +1,5 @@
 -- What a message does that passes a deschedule on: what the pass sends goes out, and all that is held of the instance is marked.
-use Rattle.std.proofs.Common.{◌≡◌, ℕ, true, false, Option, Some, refl, sym, ap, subst, ◌∙◌, inl}
+use Rattle.std.proofs.Common.{◌≡◌, ℕ, List, [], ◌++◌, append-nil, true, false, Option, Some, refl, sym, ap, subst, ◌∙◌, inl}
 use Rattle.std.specs.Prelude.{◌⊎◌}
 use Rattle.tiger_base.specs.declared.number.Instance.{Instance}
 use Rattle.tiger_base.specs.declared.number.LinkNo.{LinkNo}
@@ -57,15 +57,16 @@ pub stop_taking : (p : Params) (c : ℕ) (stamp : Stamp) (link : LinkNo) (v : In
 unfolding taking hearing
 stop_taking p c stamp link v tag h form = rw form refl
 
--- a deed does what passing on does with some store
+-- a deed does what passing on does with some store, and puts out first what that puts out
 pub record Passes (p : Params) (c : ℕ) (stamp : Stamp) (v : Instance) (k : Key) (d : Deed Msg Store) : Type 0 where
   pub before : Store
   pub outs : (o : Out Msg) → In o (passing_on p c stamp v k before).outs → In o d.outs
+  pub first : (rest : List (Out Msg)) × ((passing_on p c stamp v k before).outs ++ rest ≡ d.outs)
   pub held : d.state.held ≡ with_pass before.held v
 
 same_passes : (p : Params) (c : ℕ) (stamp : Stamp) (v : Instance) (k : Key) (h : Store) → Passes p c stamp v k (passing_on p c stamp v k h)
 unfolding passing_on
-same_passes p c stamp v k h = record { before = h; outs = λ o i. i; held = refl }
+same_passes p c stamp v k h = record { before = h; outs = λ o i. i; first = ([], append-nil _); held = refl }
 
 stop_passes : (p : Params) (c : ℕ) (stamp : Stamp) (v : Instance) (tag : Option Tag) (k : Key) (h : Store)
     → position p c v tag (holding p stamp v h).state.view.lines ≡ Some k → must_pass (holding p stamp v h).state.held v ≡ true
@@ -79,6 +80,10 @@ stop_passes p c stamp v tag k h at must =
       outs = λ o i.
           in_left o (passing p c stamp v tag g).outs (dropping_all p c v (passing p c stamp v tag g).state).outs
           (subst (λ (d : Deed Msg Store). In o d.outs) (sym e) i);
+      first = (
+        (dropping_all p c v (passing p c stamp v tag g).state).outs,
+        ap (λ (d : Deed Msg Store). d.outs ++ (dropping_all p c v (passing p c stamp v tag g).state).outs) (sym e),
+      );
       held = dropping_same p c stamp v (passing p c stamp v tag g).state ∙ ap (λ (d : Deed Msg Store). d.state.held) e;
     }
 

@@ -74,7 +74,7 @@ module _ (p : Params) (c : ℕ) (stamp : Stamp) where
       (λ q e. took_all Q (own_of t (t.first + 1)) (inr (refl, e)) q) (λ q. (refl, tt))
 
   -- ---- what it does to lines
-  fresh_took : (r : Rec) (h : Store) → Fresh p c h (took r h)
+  pub fresh_took : (r : Rec) (h : Store) → Fresh p c h (took r h)
   unfolding took
   fresh_took r h =
       chosen (λ (d : Deed Msg Store). Fresh p c h d) (is_taken r h) (nothing h) _ (λ _. (fresh_closed p c).none h)
@@ -88,7 +88,7 @@ module _ (p : Params) (c : ℕ) (stamp : Stamp) where
             i;
       })
 
-  fresh_same : (h : Store) (d : Deed Msg Store) → d.state.view.lines ≡ h.view.lines → ((r : Rec) → In (taken_out r) d.outs → ⊥) → Fresh p c h d
+  pub fresh_same : (h : Store) (d : Deed Msg Store) → d.state.view.lines ≡ h.view.lines → ((r : Rec) → In (taken_out r) d.outs → ⊥) → Fresh p c h d
   fresh_same h d e none = record { moves = untaken p c Never h.view.lines d e none; fresh = λ r x i. absurd (none r i) }
 
   first_none : (t : Tenancy) (h : Store) (r : Rec) → In (taken_out r) (did p c stamp (PutStart t) h).outs → ⊥

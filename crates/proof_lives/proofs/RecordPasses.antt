@@ -19,10 +19,11 @@ use Rattle.partial_view.specs.Lines as lines
 use Rattle.partial_view.specs.Views.{first_of}
 use Rattle.cub_rules.specs.declared.store.Store.{Store}
 use Rattle.cub_rules.specs.Messages.{position_by, position_of}
-use Rattle.proof_lives.specs.Lives.{Lives, AreLives, store_at, deed_of, outs_at, beat_at, reading_at}
+use Rattle.proof_lives.specs.Lives.{Lives, AreLives, store_at, deed_of, outs_at, outs_in, beat_at, reading_at}
 use Rattle.run_facts.specs.Events.{is_tick_input}
 use Rattle.lists.specs.Elements.{In}
 use Rattle.proof_lives.specs.Facts.{TookAt, InsertedAt}
+use Rattle.proof_lives.proofs.Cuts.{was_put_out}
 use Rattle.proof_lives.proofs.Inputs.{stop_of}
 use Rattle.proof_lives.proofs.Lines.{MayAt, stands}
 use Rattle.lists.proofs.Elements.{chosen}
@@ -138,13 +139,13 @@ module _ (p : Params) (plan : IsPlan p) (lives : Lives) (are : AreLives p lives)
       (λ (q : k.at ≤ d.at). absurd (⊎_elim
       (λ (e : k.at ≡ d.at).
       let stop : Msg = msg.Deschedule g.instance None in
-      let did = subst (λ (i : ℕ). In (taken_out r) (outs_at p c inputs i)) (sym e) d.did in
+      let did = subst (λ (i : ℕ). In (taken_out r) (outs_at p c inputs i)) (sym e) (was_put_out p lives c d.at (taken_out r) d.did) in
       let here = subst (λ (i : Input Msg). In (taken_out r) (deed_of p c i (h k.at)).outs) k.is did in
       let t = taken_free p c (record { beat = y; reading = k.reading }) k.link stop (h k.at) r here in
       let z : stop ≡ msg.ViewerState t.state = t.is in
       absurd (cc))
       (λ (l : k.at < d.at).
-      let free = input_free p c (inputs d.at) (h d.at) r w.message d.did in
+      let free = input_free p c (inputs d.at) (h d.at) r w.message (was_put_out p lives c d.at (taken_out r) d.did) in
       let u = unheld_released p c inputs (lives.count c) (formed c k.small) d.at k.at t.instance.0 l (omega arith) (bare_stop g) t.instance refl free in
       let before = u.before in
       let from = u.from in
@@ -165,7 +166,8 @@ module _ (p : Params) (plan : IsPlan p) (lives : Lives) (are : AreLives p lives)
       let beats : beat_at inputs k.at ≡ y = ap (λ (i : Input Msg). (stamp_of i).beat) k.is in
       let high = (life.reads k.at k.done).1 in
       let tm : time_of p (beat_at inputs k.at) ≡ time_of p y = ap (λ b. time_of p b) beats in
-      let told = λ (kind : Kind) (j : ℕ) (before : j < k.at) (did : In (taken_out (record { tenancy = t; visit = n; kind = kind })) (outs_at p c inputs j)).
+      let told = λ (kind : Kind) (j : ℕ) (before : j < k.at) (goes : In (taken_out (record { tenancy = t; visit = n; kind = kind })) (outs_in p lives c j)).
+      let did = was_put_out p lives c j (taken_out (record { tenancy = t; visit = n; kind = kind })) goes in
       subst (λ b. Told c t.instance.0 b) beats
       (by_stop c k.small k.at j (record { tenancy = t; visit = n; kind = kind }) before k.done (bare_stop g) did (omega arith)) in
       ⊎_elim

@@ -1,5 +1,5 @@
 -- Which deschedules a cub sends: at a pass, with the tag of the visit behind its position, to the next two cubs, if the states of that visit may be on their way.
-use Rattle.std.proofs.Common.{◌≡◌, ℕ, ◌+◌, true, Option, Some, refl, subst, inl, inr}
+use Rattle.std.proofs.Common.{◌≡◌, ℕ, ◌+◌, List, ◌∷◌, drop, true, Option, Some, refl, subst, inl, inr}
 use Rattle.std.specs.Prelude.{◌⊎◌}
 use Rattle.tiger_base.specs.declared.number.Instance.{Instance}
 use Rattle.tiger_base.specs.declared.number.LinkNo.{LinkNo}
@@ -9,10 +9,11 @@ use Rattle.tiger_base.specs.declared.message.Msg.{Msg}
 use Rattle.tiger_base.specs.declared.message.Msg.TheVariants as msg
 use Rattle.slot_plan.specs.declared.params.Params.{Params}
 use Rattle.slot_plan.specs.Keys.{Key}
+use Rattle.node_kit.specs.declared.outbox.Out.{Out}
 use Rattle.node_kit.specs.declared.outbox.Out.TheVariants as out
 use Rattle.node_kit.specs.Ways.{way_ahead}
 use Rattle.cub_rules.specs.declared.store.Store.{Store}
-use Rattle.cub_rules.specs.Messages.{is_reached, passing_on, taking}
+use Rattle.cub_rules.specs.Messages.{is_reached, passed_on, passing_on, taking}
 use Rattle.cub_changes.specs.Changes.{Change}
 use Rattle.cub_changes.specs.Causes.{PassesOn, Cause}
 use Rattle.cub_changes.specs.Causes.Stage.{OnMessage}
@@ -29,6 +30,13 @@ pub pass_sends : (p : Params) (c : ℕ) (stamp : Stamp) (v : Instance) (k : Key)
     × In (out.Send (way_ahead p c 2) (msg.Deschedule v (Some (tag_behind k)))) (passing_on p c stamp v k g).outs
 unfolding passing_on
 pass_sends p c stamp v k g e = rw e (inl refl, inr (inl refl))
+
+-- the first message that it sends goes to the next cub
+pub pass_first : (p : Params) (c : ℕ) (stamp : Stamp) (v : Instance) (k : Key) (g : Store) → is_reached p stamp k.0 (k.1 + 1) ≡ true
+    → (rest : List (Out Msg))
+    × ((passing_on p c stamp v k g).outs ≡ out.Send (way_ahead p c 1) (msg.Deschedule v (Some (tag_behind k))) ∷ rest)
+unfolding passing_on
+pass_first p c stamp v k g e = rw e (drop 1 (passed_on p c v (tag_behind k)), refl)
 
 -- a deschedule goes out at a pass
 pub record GoesOut (p : Params) (c : ℕ) (stamp : Stamp) (m : Msg) (h : Store) (link : LinkNo) (v : Instance) (tag : Option Tag) : Type 0 where

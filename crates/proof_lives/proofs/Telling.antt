@@ -145,7 +145,7 @@ pub takes_told : (p : Params) (c : ℕ) (stamp : Stamp) (link : LinkNo) (s : Sta
 unfolding taking hearing meeting_state
 takes_told p c stamp link s k h form visit position free = rw (form, visit, position, free) refl
 
-out_of_form : (p : Params) (c : ℕ) (stamp : Stamp) (link : LinkNo) (s : State) (h : Store) → is_in_form p (noted (msg.ViewerState s)) ≡ false
+pub out_of_form : (p : Params) (c : ℕ) (stamp : Stamp) (link : LinkNo) (s : State) (h : Store) → is_in_form p (noted (msg.ViewerState s)) ≡ false
     → taking p c stamp link (msg.ViewerState s) h ≡ nothing h
 unfolding taking
 out_of_form p c stamp link s h e = rw e refl

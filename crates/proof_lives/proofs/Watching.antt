@@ -19,8 +19,9 @@ use Rattle.cub_rules.specs.Ticks.{releasing, believing, inserting, splitting, fo
 use Rattle.proof_lives.specs.Lives.{Lives, IsLife, AreLives, deed_of, store_at, beat_at, reading_at}
 use Rattle.run_facts.specs.Events.{is_tick_input}
 use Rattle.lists.specs.Elements.{In}
-use Rattle.proof_lives.specs.Facts.{TickedAt, DidAt, HeardAt}
+use Rattle.proof_lives.specs.Facts.{TickAt, TickedAt, DidAt, HeardAt}
 use Rattle.lists.proofs.Elements.{in_right}
+use Rattle.proof_lives.proofs.Cuts.{goes_whole}
 use Rattle.proof_lives.proofs.Queuing.{taking_watch, takes_beat, beat_heard, ticking_watch}
 use Rattle.proof_lives.proofs.Order.{not_behind}
 use Rattle.proof_lives.proofs.States.{from_tick, tick_true}
@@ -93,10 +94,11 @@ module _ (p : Params) (lives : Lives) (are : AreLives p lives) where
         at = w.at;
         done = w.done;
         in_beat = ap (λ (i : Input Msg). (stamp_of i).beat) w.is;
-        did = from_tick p c inputs w.at stamp (out.Send (way_ahead p c 1) msg.Heartbeat) w.is (ticking_out p c stamp (store_at p c inputs w.at) e);
+        did = goes_whole p lives c w.at (out.Send (way_ahead p c 1) msg.Heartbeat) w.whole
+            (from_tick p c inputs w.at stamp (out.Send (way_ahead p c 1) msg.Heartbeat) w.is (ticking_out p c stamp (store_at p c inputs w.at) e));
       }
 
-  pub since : (c b l y : ℕ) (w : TickedAt p lives c b l) → is_silent (store_at p c (lives.input c) w.at).watch l ≡ true → HeardAt p lives c y → y ≤ b → time_of p y + p.deadman < l
+  pub since : (c b l y : ℕ) (w : TickAt p lives c b l) → is_silent (store_at p c (lives.input c) w.at).watch l ≡ true → HeardAt p lives c y → y ≤ b → time_of p y + p.deadman < l
   since c b l y w silent heard h =
       let inputs : ℕ → Input Msg = lives.input c in
       let life = are c w.small in

@@ -1,5 +1,5 @@
 -- The facts of a run of cubs, by what befell each of them; and the starts that they get.
-use Rattle.std.specs.Prelude.{◌≡◌, ℕ, ◌<◌, Bool, true, false, Option, List, ◌⊎◌}
+use Rattle.std.specs.Prelude.{◌≡◌, ℕ, ◌<◌, Bool, true, false, Option, Some, None, List, ◌⊎◌}
 use Rattle.tiger_base.specs.declared.number.Instance.{Instance}
 use Rattle.tiger_base.specs.declared.number.LinkNo.{LinkNo}
 use Rattle.tiger_base.specs.declared.number.Stamp.{Stamp}
@@ -18,24 +18,41 @@ use Rattle.node_kit.specs.declared.outbox.Out.TheVariants as out
 use Rattle.node_kit.specs.Steps.Input.{Take, Tick}
 use Rattle.node_kit.specs.Ways.{way_ahead, predecessor}
 use Rattle.cub_rules.specs.State.{IsAsk}
-use Rattle.proof_lives.specs.Lives.{Lives, outs_at, beat_at}
+use Rattle.proof_lives.specs.Lives.{Lives, cut_in, outs_in, beat_at}
 use Rattle.run_facts.specs.Events.{is_tick_input}
 use Rattle.lists.specs.Elements.{In}
 
--- a cub ticked in a beat at a reading
-pub record TickedAt (p : Params) (lives : Lives) (c b l : ℕ) : Type 0 where
+-- a cub came to its tick of a beat at a reading, of which its death may have cut off what it puts out
+pub record TickAt (p : Params) (lives : Lives) (c b l : ℕ) : Type 0 where
   pub small : c < p.cubs
   pub at : ℕ
   pub done : at < lives.count c
   pub is : lives.input c at ≡ Tick (record { beat = b; reading = l })
 
--- it put something out in a beat
+-- it ended the beat by a whole tick
+pub record TickedAt (p : Params) (lives : Lives) (c b l : ℕ) : Type 0 where
+  pub small : c < p.cubs
+  pub at : ℕ
+  pub done : at < lives.count c
+  pub is : lives.input c at ≡ Tick (record { beat = b; reading = l })
+  pub whole : cut_in lives c at ≡ None
+
+-- its death came in an input of a beat, and cut off what it put out there
+pub record DiedIn (p : Params) (lives : Lives) (c b : ℕ) : Type 0 where
+  pub small : c < p.cubs
+  pub at : ℕ
+  pub done : at < lives.count c
+  pub in_beat : beat_at (lives.input c) at ≡ b
+  pub sends : ℕ
+  pub cut : cut_in lives c at ≡ Some sends
+
+-- it put something out in a beat, which its death did not cut off
 pub record DidAt (p : Params) (lives : Lives) (c : ℕ) (o : Out Msg) (b : ℕ) : Type 0 where
   pub small : c < p.cubs
   pub at : ℕ
   pub done : at < lives.count c
   pub in_beat : beat_at (lives.input c) at ≡ b
-  pub did : In o (outs_at p c (lives.input c) at)
+  pub did : In o (outs_in p lives c at)
 
 -- it took a record in a beat, at a message or at its tick
 pub record TookAt (p : Params) (lives : Lives) (c : ℕ) (t : Tenancy) (n b : ℕ) : Type 0 where

@@ -11,7 +11,7 @@ use Rattle.node_kit.specs.declared.outbox.Out.TheVariants as out
 use Rattle.node_kit.specs.Ways.{way_ahead}
 use Rattle.proof_lives.specs.Lives.{Lives, store_at}
 use Rattle.lists.specs.Elements.{In}
-use Rattle.proof_lives.specs.Facts.{TickedAt, DidAt, TookAt, InsertedAt, SentAt, TookMessage, ReachedAt, HeardAt}
+use Rattle.proof_lives.specs.Facts.{TickAt, TickedAt, DiedIn, DidAt, TookAt, InsertedAt, SentAt, TookMessage, ReachedAt, HeardAt}
 use Rattle.proof_schedule.specs.Facts.{Facts}
 use Rattle.proof_lives.specs.StopFactsOf.{PassedAt, ToldAt, GotTagAt, GotBareAt}
 
@@ -70,16 +70,17 @@ facts_by p lives beyond = record {
 
 -- ---- cubs alone
 
--- In these lives cub c ended beat b by a tick.
-pub record HasTicked (p : Params) (lives : Lives) (c b : ℕ) : Type 0 where
+-- In these lives cub c came to its tick of beat b.
+pub record CameToTick (p : Params) (lives : Lives) (c b : ℕ) : Type 0 where
   pub reading : ℕ
-  pub ticked : TickedAt p lives c b reading
+  pub tick : TickAt p lives c b reading
 
--- Nothing is known but of cubs: each comes to the ticks of its life, and nobody dies or is stopped.
+-- Nothing is known but of cubs: each comes to the ticks of its life and dies where that is cut off,
+-- and nobody is stopped.
 abbrev pub cubs_alone : Params → Lives → Beyond
 cubs_alone p lives = record {
-  Came = HasTicked p lives;
-  Died = λ c b. ⊥;
+  Came = CameToTick p lives;
+  Died = DiedIn p lives;
   Begun = λ ask b. ⊥;
   Gone = λ v b. ⊥;
   StoppedAt = λ v s n b. ⊥;

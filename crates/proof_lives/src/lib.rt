@@ -5,6 +5,7 @@ ghost use Rattle.proof_lives.specs.Once.{CubsPutOnce};
 ghost use Rattle.proof_lives.specs.Records.{CubsKeepTheirRecords};
 ghost use Rattle.proof_lives.specs.InOrder.{StatesFindTheirPlaces};
 ghost use Rattle.proof_lives.specs.HoldsHere.{CubsHold};
+ghost use Rattle.proof_lives.specs.OneLife.{RunsOfOneLife};
 
 /// A cub to which each start comes once puts an instance once.
 pub fn cubs_put_once()
@@ -26,4 +27,9 @@ pub fn cubs_meet_the_laws_of_holding()
 /// instance is held, and passed on.
 pub fn states_find_their_places()
     ensures { StatesFindTheirPlaces }
+{}
+
+/// A run in which nobody returns is a run of one life for each node, whatever its messages and states are.
+pub fn runs_are_of_one_life<M, S>()
+    ensures { RunsOfOneLife M S }
 {}

@@ -21,10 +21,8 @@ use Rattle.node_kit.specs.declared.journal.Entry.{Entry}
 use Rattle.node_kit.specs.declared.journal.What.TheVariants as what
 use Rattle.node_kit.specs.declared.outbox.Out.TheVariants as out
 use Rattle.node_kit.specs.Steps.{Deed, Input, stamp_of}
-use Rattle.node_kit.specs.Steps.Input.{Take}
 use Rattle.node_kit.specs.Ways.{way_to_disk}
-use Rattle.run_facts.specs.Events.NodeEvent.{Does}
-use Rattle.run_facts.specs.Histories.{History, living, past, beat}
+use Rattle.run_facts.specs.Histories.{History, past, beat}
 use Rattle.run_model.specs.Fronts.{AnyByRecursion}
 use Rattle.run_model.proofs.Reflects.{and_left, and_right, any_found, equal, less, at_most}
 use Rattle.run_claims.specs.Truths.{Lasts}
@@ -38,14 +36,14 @@ use Rattle.proof_journals.proofs.Journals.{inputs_of}
 use Rattle.proof_moments.specs.Ties.{StandsIn}
 use Rattle.proof_service.specs.Disks.{disk_at, part_at}
 use Rattle.proof_facts.specs.Blocks.{AnsweredAt, blocks_by}
-use Rattle.proof_facts.specs.Lives.{lives_of}
+use Rattle.proof_facts.specs.Lives.{lives_of, acting}
 use Rattle.proof_facts.specs.Pieces.{want}
 use Rattle.proof_facts.specs.Rings.{HaveImages, node_of_disk}
 use Rattle.proof_links.proofs.Carrying.{Came, came_from, took_from, from_cub}
-use Rattle.proof_links.proofs.Nodes.{lived, sender, by_rules, event_is, lives_on, beat_same, SentByDisk}
+use Rattle.proof_links.proofs.Nodes.{lived, sender, by_rules, lives_on, beat_same, SentByDisk}
 use Rattle.proof_links.proofs.Ways.{is_to_disk}
 use Rattle.proof_parts.proofs.AskLives.{read_for}
-use Rattle.proof_journals.proofs.Events.{AreKept}
+use Rattle.proof_journals.proofs.Events.{AreKept, is_acting}
 use Rattle.proof_moments.specs.ParcelTies.{IsRefusedAt, DisksTell}
 use Rattle.proof_parcels.specs.Parcels.{HaveFaults}
 use Rattle.proof_parcels.proofs.Cubs as cubs
@@ -120,7 +118,7 @@ module _ {S : Type 0} {step : S → Input Msg → Deed Msg S} {p : Params} {orde
           let other : p.cubs ≤ f.from = subst (λ k. p.cubs ≤ k) (sym said.node) (omega arith) in
           let all = lives_on kept.plan kept.ring f.from f.known other in
           let done = f.note.done in
-          let alive : f.at < living h f.from = omega arith in
+          let alive : f.at < acting h f.from = omega arith in
           let asked = came_from kept.plan kept.ring f.from f.at a.stamp a.link (msg.ReadAsk a.want) f.known alive
           a.ask in
           let own = from_cub kept.plan kept.ring asked (λ q. q) (λ q. q) in
@@ -131,15 +129,14 @@ module _ {S : Type 0} {step : S → Input Msg → Deed Msg S} {p : Params} {orde
           let ask = read_for p kept.plan (lives_of h) (lived kept.plan kept.ring) asked.from
           (beat_at (inputs_of h asked.from) asked.at) a.link a.want
           (record { small = own; at = asked.at; done = rule.0; in_beat = refl; did = rule.1 }) in
-          let event : h.event f.from f.at ≡ Does (Take a.stamp a.link (msg.ReadAsk a.want)) = event_is kept.plan
-          kept.ring f.from f.at f.known alive ∙ ap (λ (x : Input Msg). Does x) a.ask in
+          let acts = (is_acting kept f.from f.at f.known alive).1 in
           let stands : StandsIn journals f.from (record {
             stamp = a.stamp;
             what = what.Got a.link
                 (note.ReadAsk a.want);
           }) =
           stands_written kept f.from f.at _ f.known f.note.done (event_writes_got step (h.event f.from f.at)
-          (past noted step h f.from f.at) a.stamp a.link (msg.ReadAsk a.want) event) in
+          (past noted step h f.from f.at) a.stamp a.link (msg.ReadAsk a.want) acts a.ask) in
           let when : beat h f.from f.at ≡ a.stamp.beat = beat_same kept.plan kept.ring f.from f.at
           ∙ ap (λ (k : Input Msg). (stamp_of k).beat) a.ask in
           let later = f.later in
@@ -169,7 +166,7 @@ module _ {S : Type 0} {step : S → Input Msg → Deed Msg S} {p : Params} {orde
         let few : j ≤ p.pieces = ⊎_elim
         (λ o. let z = o.0 in omega arith)
         (λ q. (cubs.numbered p k _ (all_in (IsPieceAt p k) _ g.pieces.items
-        (cubs.kept kept.plan (lived kept.plan kept.ring) k a.small a.at a.done).pieces q.1)).1)
+        (cubs.kept (lives_of h) kept.plan (lived kept.plan kept.ring) k a.small a.at a.done).pieces q.1)).1)
         a.there in
         let d : ℕ = disk_at p n j in
         let low : d < disk_count p = subst (λ (x : ℕ). x < disk_count p) r.is r.low in

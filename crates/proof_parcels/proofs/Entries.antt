@@ -1,6 +1,7 @@
 -- Which output an entry of a sent message tells of, and which entry an output has; and where the entries of later
 -- events stand.
-use Rattle.std.proofs.Common.{◌≡◌, ℕ, zero, suc, ◌<◌, ◌≤◌, List, [], ◌∷◌, ◌++◌, map, refl, sym, ap, subst, ◌∙◌, arith, ⊎_elim, inl, inr, append_assoc, eq-or-lt_of_le}
+use Rattle.std.proofs.Common.{◌≡◌, ℕ, zero, suc, ◌<◌, ◌≤◌, List, [], ◌∷◌, ◌++◌, map, true, refl, sym, ap, subst, ◌∙◌, arith, ⊎_elim, inl, append_assoc, eq-or-lt_of_le}
+use Rattle.std.proofs.lemmas.Bool.{true≢false}
 use Rattle.std.specs.List.{AllByRecursion}
 use Rattle.tiger_base.specs.declared.number.LinkNo.{LinkNo}
 use Rattle.tiger_base.specs.declared.number.Stamp.{Stamp}
@@ -17,11 +18,13 @@ use Rattle.node_kit.specs.declared.journal.Entry.{Entry}
 use Rattle.node_kit.specs.declared.journal.What.TheVariants as what
 use Rattle.node_kit.specs.declared.outbox.Out.{Out}
 use Rattle.node_kit.specs.declared.outbox.Out.TheVariants as out
-use Rattle.node_kit.specs.Steps.{Deed, Input, IsAllowed, IsOwnEntry, what_of, entry_of}
-use Rattle.node_kit.specs.Steps.Input.{Take, Tick}
-use Rattle.run_facts.specs.Events.{NodeEvent, Past, entries_at, kept_outs, outs_of, stamp_at, IsPlain}
+use Rattle.node_kit.specs.Outputs.{with_death}
+use Rattle.node_kit.specs.Steps.{Deed, Input, IsAllowed, IsOwnEntry, what_of, entry_of, entries_of}
+use Rattle.node_kit.specs.Steps.Input.{Take}
+use Rattle.run_facts.specs.Events.{NodeEvent, Past, entries_at, kept_outs, left_outs, outs_of, stamp_at}
 use Rattle.run_facts.specs.Events.NodeEvent.{Does, Ends, Dies, Returns}
 use Rattle.run_facts.specs.Histories.{History, outs, past, last_of}
+use Rattle.run_facts.proofs.Journals.{is_got}
 use Rattle.disk_core.specs.State.{DiskState}
 use Rattle.node_kit.specs.declared.course.Order.{Order}
 use Rattle.lists.specs.Elements.{In}
@@ -29,9 +32,12 @@ use Rattle.lists.proofs.Elements.{in_left, in_right, in_map, from_map}
 use Rattle.lists.proofs.Each.{all_in}
 use Rattle.proof_journals.proofs.Written.{journal_keeps, one_event_more}
 use Rattle.proof_journals.proofs.Journals.{so_far, wrote}
+use Rattle.proof_journals.proofs.Lists.{moved}
+use Rattle.proof_journals.proofs.Wrote.{got_in, died_in, sent_in as entries_sent, entries_are, got_is, died_is, one_of}
 use Rattle.proof_moments.specs.Ties.{StandsIn}
 use Rattle.proof_facts.specs.Rings.{node_count}
-use Rattle.proof_journals.proofs.Events.{AreKept, written_in}
+use Rattle.proof_lives.specs.Histories.{input_of, has_input}
+use Rattle.proof_journals.proofs.Events.{AreKept, fair, written_in}
 
 -- ---- messages by their notes
 
@@ -93,12 +99,20 @@ pub record StandsBehind (j : List Entry) (e f : Entry) : Type 0 where
   pub is : j ≡ before ++ e ∷ behind
   pub there : In f behind
 
-behind_more : (j more : List Entry) (e f : Entry) → StandsBehind j e f → StandsBehind (j ++ more) e f
+pub behind_more : (j more : List Entry) (e f : Entry) → StandsBehind j e f → StandsBehind (j ++ more) e f
 behind_more j more e f b = record {
   before = b.before;
   behind = b.behind ++ more;
   is = ap (λ (l : List Entry). l ++ more) b.is ∙ append_assoc b.before (e ∷ b.behind) more;
   there = in_left f b.behind more b.there;
+}
+
+pub behind_front : (front j : List Entry) (e f : Entry) → StandsBehind j e f → StandsBehind (front ++ j) e f
+behind_front front j e f b = record {
+  before = front ++ b.before;
+  behind = b.behind;
+  is = ap (λ (l : List Entry). front ++ l) b.is ∙ sym (append_assoc front b.before (e ∷ b.behind));
+  there = b.there;
 }
 
 cut_of : (e : Entry) (xs : List Entry) → In e xs → (front : List Entry) × (back : List Entry) × (xs ≡ front ++ e ∷ back)
@@ -120,40 +134,38 @@ behind_here j more e f i k =
 
 module _ {S : Type 0} (step : S → Input Msg → Deed Msg S) where
   pub event_sent : (p : Params) (n : ℕ) (ev : NodeEvent Msg) (before : Past S) (e : Entry) (link : LinkNo)
-      (m : Note) → IsPlain ev → AllByRecursion (IsAllowed noted p n) (outs_of step ev before)
+      (m : Note) → AllByRecursion (IsAllowed noted p n) (outs_of step ev before)
       → In e (entries_at noted step ev before) → e.what ≡ what.Sent link m → IsSend (outs_of step ev before) link m
-  event_sent p n (Does (Take stamp way x)) before e link m plain fair i is = ⊎_elim
-      (λ q. let both : what.Got way (noted x) ≡ what.Sent link m = ap (λ (z : Entry). z.what) (sym q)
+  event_sent p n ev before e link m fair i is = ⊎_elim
+      (λ k. absurd (true≢false (sym (got_is (input_of ev) e k) ∙ ap is_got is)))
+      (λ o. ⊎_elim
+      (λ k. outs_sent p n (stamp_at ev) (outs_of step ev before) e link m fair k is)
+      (λ k. let both : what.Died ≡ what.Sent link m = ap (λ (x : Entry). x.what) (sym (died_is ev e k).0)
       ∙ is in absurd (cc))
-      (λ k. outs_sent p n stamp (kept_outs step (Take stamp way x) before) e link m fair k is)
-      i
-  event_sent p n (Does (Tick stamp)) before e link m plain fair i is = outs_sent p n stamp
-      (kept_outs step (Tick stamp) before) e link m fair i is
-  event_sent p n (Ends input sends) before e link m plain fair i is = absurd plain
-  event_sent p n (Returns stamp) before e link m plain fair i is = absurd plain
-  event_sent p n (Dies stamp) before e link m plain fair i is = ⊎_elim
-      (λ q. let both : what.Died ≡ what.Sent link m = ap (λ (z : Entry). z.what) (sym q) ∙ is in absurd (cc))
-      (λ k. absurd k)
-      i
+      o)
+      (one_of step p n ev before e fair i)
 
-  pub event_writes_out : (ev : NodeEvent Msg) (before : Past S) (o : Out Msg) → IsPlain ev
-      → In o (outs_of step ev before)
+  pub event_writes_out : (p : Params) (n : ℕ) (ev : NodeEvent Msg) (before : Past S) (o : Out Msg)
+      → AllByRecursion (IsAllowed noted p n) (outs_of step ev before) → In o (outs_of step ev before)
       → In (entry_of noted (stamp_at ev) o) (entries_at noted step ev before)
-  event_writes_out (Does (Take stamp link m)) before o plain k = inr (in_map (entry_of noted stamp) o
-      (kept_outs step (Take stamp link m) before) k)
-  event_writes_out (Does (Tick stamp)) before o plain k = in_map (entry_of noted stamp) o
-      (kept_outs step (Tick stamp) before) k
-  event_writes_out (Ends i sends) before o plain k = absurd plain
-  event_writes_out (Dies stamp) before o plain k = absurd k
-  event_writes_out (Returns stamp) before o plain k = absurd k
+  event_writes_out p n ev before o fair k =
+      let e : Entry = entry_of noted (stamp_at ev) o in
+      moved e (sym (entries_are step p n ev before fair))
+      (in_right e (got_in ev) _ (in_left e (entries_sent step ev before) (died_in ev)
+      (in_map (entry_of noted (stamp_at ev)) o (outs_of step ev before) k)))
 
   -- what a node took it wrote
   pub event_writes_got : (ev : NodeEvent Msg) (before : Past S) (stamp : Stamp) (link : LinkNo) (m : Msg)
-      → ev ≡ Does (Take stamp link m)
+      → has_input ev ≡ true → input_of ev ≡ Take stamp link m
       → In (record { stamp = stamp; what = what.Got link (noted m) }) (entries_at noted step ev before)
-  event_writes_got ev before stamp link m e =
-      subst (λ (v : NodeEvent Msg). In (record { stamp = stamp; what = what.Got link (noted m) })
-      (entries_at noted step v before)) (sym e) (inl refl)
+  event_writes_got (Does i) before stamp link m acts e =
+      subst (λ (k : Input Msg). In (record { stamp = stamp; what = what.Got link (noted m) })
+      (entries_of noted k (kept_outs step i before))) (sym e) (inl refl)
+  event_writes_got (Ends i sends) before stamp link m acts e =
+      subst (λ (k : Input Msg). In (record { stamp = stamp; what = what.Got link (noted m) })
+      (entries_of noted k (with_death (left_outs step i sends before)))) (sym e) (inl refl)
+  event_writes_got (Dies now) before stamp link m acts e = absurd (cc)
+  event_writes_got (Returns now) before stamp link m acts e = absurd (cc)
 
   module _ (h : History Msg S) (n : ℕ) where
     -- what a later event wrote stands behind
@@ -173,18 +185,10 @@ module _ {S : Type 0} (step : S → Input Msg → Deed Msg S) where
     same_behind i zero e f low b = absurd (omega arith)
     same_behind i (suc j) e f low b = subst (λ (l : List Entry). StandsBehind l e f)
         (sym (one_event_more step h n j)) (⊎_elim
-        (λ (q : i ≡ j). behind_front (so_far step h n j) (wrote step h n j)
+        (λ (q : i ≡ j). behind_front (so_far step h n j) (wrote step h n j) e f
         (subst (λ (m : ℕ). StandsBehind (wrote step h n m) e f) q b))
         (λ (l : i < j). behind_more (so_far step h n j) (wrote step h n j) e f (same_behind i j e f l b))
         (eq-or-lt_of_le (let z : i ≤ j = omega arith in z)))
-      where
-        behind_front : (front j : List Entry) → StandsBehind j e f → StandsBehind (front ++ j) e f
-        behind_front front j b = record {
-          before = front ++ b.before;
-          behind = b.behind;
-          is = ap (λ (l : List Entry). front ++ l) b.is ∙ sym (append_assoc front b.before (e ∷ b.behind));
-          there = b.there;
-        }
 
 -- ---- a ring
 
@@ -209,7 +213,7 @@ module _ {S : Type 0} {step : S → Input Msg → Deed Msg S} {p : Params} {orde
         done = w.1.before;
         there = w.1.there;
         send = event_sent step p n (h.event n w.1.at) (past noted step h n w.1.at) e link m
-            (kept.ring.run.plain n w.1.at w.0 w.1.before) (kept.ring.run.fair n w.1.at w.0 w.1.before) w.1.there is;
+            (fair kept n w.1.at w.0 w.1.before) w.1.there is;
       }
 
   -- what an event wrote stands in the journal
@@ -224,4 +228,4 @@ module _ {S : Type 0} {step : S → Input Msg → Deed Msg S} {p : Params} {orde
   pub stands_out : (n i : ℕ) (o : Out Msg) → n < node_count p → i < h.count n → In o (outs noted step h n i)
       → StandsIn journals n (entry_of noted (stamp_at (h.event n i)) o)
   stands_out n i o known low k = stands_written n i (entry_of noted (stamp_at (h.event n i)) o) known low
-      (event_writes_out step (h.event n i) (past noted step h n i) o (kept.ring.run.plain n i known low) k)
+      (event_writes_out step p n (h.event n i) (past noted step h n i) o (fair kept n i known low) k)

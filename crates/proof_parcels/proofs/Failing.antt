@@ -46,7 +46,6 @@ use Rattle.lists.specs.Elements.{In}
 use Rattle.lists.proofs.Elements.{chosen}
 use Rattle.lists.proofs.Each.{all_in}
 use Rattle.proof_parts.proofs.Found.{one_want, same_self, wanted_piece}
-use Rattle.proof_parts.proofs.Storing.{answer_kept}
 use Rattle.proof_facts.specs.Pieces.{piece, want, HasOwn}
 use Rattle.proof_facts.specs.Blocks.{HasRecord}
 use Rattle.proof_parcels.proofs.Apart.{AreApart, OtherKey, IsOnce}
@@ -123,14 +122,6 @@ failed_read p c (Tick stamp) h w k =
     absurd (all_in Q (out.Act (what.ReadFailed w)) (ticking p c stamp h).outs
     (ticking_by (Puts p c stamp Q) (puts_closed p c stamp Q) p c stamp h
     (λ g from t. each p c stamp (λ v. ⊥) g from (none_in_tick g t))) k)
-
--- and such an event writes so
-pub writes_failure : (p : Params) (c : ℕ) (stamp : Stamp) (link : LinkNo) (w : Want) (h : Store)
-    → is_in_form p (noted (msg.ReadDone w None)) ≡ true → is_wanted w h ≡ true
-    → In (out.Act (what.ReadFailed w)) (taking p c stamp link (msg.ReadDone w None) h).outs
-writes_failure p c stamp link w h formed wanted =
-    subst (λ (d : Deed Msg Store). In (out.Act (what.ReadFailed w)) d.outs)
-    (sym (answer_kept p c stamp link w None h formed wanted)) (inl refl)
 
 -- ---- records and wants
 

@@ -1,7 +1,8 @@
 -- In one beat a cub sends a parcel once, and asks a disk for one thing once.
-use Rattle.std.proofs.Common.{◌≡◌, ℕ, suc, ◌<◌, List, [], ◌∷◌, map, Bool, true, false, refl, sym, ap, subst, ◌∙◌, arith, ⊎_elim, inl, inr}
+use Rattle.std.proofs.Common.{◌≡◌, ℕ, suc, ◌<◌, List, [], ◌∷◌, ◌++◌, Bool, true, false, refl, sym, ap, subst, ◌∙◌, arith, ⊎_elim, inl, inr}
 use Rattle.std.specs.Prelude.{◌==◌}
-use Rattle.std.proofs.lemmas.Bool.{cases_Bool}
+use Rattle.std.specs.List.{AllByRecursion}
+use Rattle.std.proofs.lemmas.Bool.{cases_Bool, true≢false}
 use Rattle.tiger_base.specs.declared.number.Stamp.{Stamp}
 use Rattle.tiger_base.specs.declared.tenancy.Want.{Want}
 use Rattle.tiger_base.specs.declared.message.Msg.{Msg}
@@ -17,32 +18,34 @@ use Rattle.node_kit.specs.declared.journal.What.TheVariants as what
 use Rattle.node_kit.specs.declared.outbox.Out.{Out}
 use Rattle.node_kit.specs.declared.outbox.Out.TheVariants as out
 use Rattle.node_kit.specs.Steps.{Deed, Input, IsAllowed, what_of, entry_of}
-use Rattle.node_kit.specs.Steps.Input.{Take, Tick}
-use Rattle.run_facts.specs.Events.{NodeEvent, Past, entries_at, outs_of, is_tick}
-use Rattle.run_facts.specs.Events.NodeEvent.{Does, Ends, Dies, Returns}
-use Rattle.run_facts.specs.Histories.{History, living, outs, past, beat}
+use Rattle.node_kit.specs.Steps.Input.{Tick}
+use Rattle.run_facts.specs.Events.{NodeEvent, Past, entries_at, outs_of, stamp_at, is_tick, is_tick_input}
+use Rattle.run_facts.specs.Histories.{History, outs, past, beat}
 use Rattle.disk_core.specs.State.{DiskState}
-use Rattle.proof_lives.specs.Lives.{outs_at}
+use Rattle.proof_lives.specs.Lives.{outs_in}
+use Rattle.proof_lives.specs.Histories.{input_of}
 use Rattle.lists.specs.Elements.{In}
-use Rattle.proof_lives.proofs.Carrying.{count_rises}
+use Rattle.proof_lives.proofs.Carrying.{count_rises, tick_same}
 use Rattle.lists.proofs.Elements.{in_right}
 use Rattle.lists.proofs.Each.{all_in}
-use Rattle.proof_journals.proofs.Ones.{IsOne, one_map}
+use Rattle.proof_journals.proofs.Ones.{IsNone, IsOne, none_one, one_append, one_map}
 use Rattle.proof_journals.proofs.Journals.{inputs_of, wrote, stamped}
 use Rattle.proof_pieces.specs.Pieces.{ArePiecesRight}
 use Rattle.proof_schedule.specs.Facts.{Facts}
-use Rattle.proof_facts.specs.Lives.{lives_of}
+use Rattle.proof_facts.specs.Lives.{lives_of, acting}
 use Rattle.proof_facts.specs.Pieces.{pieces_by}
 use Rattle.proof_facts.specs.Rings.{node_count}
 use Rattle.proof_parts.proofs.Found.{same_self}
-use Rattle.proof_links.proofs.Nodes.{lived, after_tick, event_is}
-use Rattle.proof_journals.proofs.Events.{AreKept}
-use Rattle.proof_journals.proofs.Lists.{one_behind}
-use Rattle.proof_journals.proofs.Cutting.{cut_in}
+use Rattle.proof_links.proofs.Nodes.{lived, after_tick}
+use Rattle.proof_journals.proofs.Events.{AreKept, fair, is_acting}
+use Rattle.proof_journals.proofs.Lists.{moved, one_behind}
+use Rattle.proof_journals.proofs.Cutting.{cut_at_entry}
+use Rattle.proof_journals.proofs.Wrote.{got_at, got_in, died_in, died_is, sent_in, entries_are}
 use Rattle.proof_moments.specs.ParcelTies.{SendsParcel, AsksDisk, AreOfBeats, KeepsParcels}
 use Rattle.proof_parcels.proofs.AskOuts.{asks}
 use Rattle.proof_parcels.proofs.ServeOuts.{sends}
 use Rattle.proof_parcels.proofs.Cubs as cubs
+use Rattle.proof_parcels.proofs.Forms.{formed}
 use Rattle.proof_parcels.proofs.Entries.{event_sent, ask_back, whole_back, piece_back}
 use Rattle.proof_parcels.proofs.Telling.{of_cub}
 
@@ -93,19 +96,24 @@ parcel_said w e a = ap (says_send w) a.is ∙ ⊎_elim
     (λ (f : (w.piece == 0) ≡ false). rw f (same_self w))
     (cases_Bool (w.piece == 0))
 
--- a tick writes its outputs
-tick_wrote : {S : Type 0} (step : S → Input Msg → Deed Msg S) (ev : NodeEvent Msg) (before : Past S) (stamp : Stamp)
-    → ev ≡ Does (Tick stamp)
-    → entries_at noted step ev before ≡ map (entry_of noted stamp) (outs_of step ev before)
-tick_wrote step (Does (Tick now)) before stamp e = let same : now ≡ stamp = cc in ap
-    (λ (s : Stamp). map (entry_of noted s) (outs_of step (Does (Tick now)) before)) same
-tick_wrote step (Does (Take now link m)) before stamp e = absurd (cc)
-tick_wrote step (Ends i sends) before stamp e = absurd (cc)
-tick_wrote step (Dies now) before stamp e = absurd (cc)
-tick_wrote step (Returns now) before stamp e = absurd (cc)
-
-tick_is : (ev : NodeEvent Msg) (stamp : Stamp) → ev ≡ Does (Tick stamp) → is_tick ev ≡ true
-tick_is ev stamp e = ap is_tick e
+-- at a tick at most one entry says a thing, if at most one of its outputs does
+tick_wrote : {S : Type 0} (step : S → Input Msg → Deed Msg S) (p : Params) (n : ℕ) (ev : NodeEvent Msg)
+    (before : Past S) (stamp : Stamp) (says : What → Bool)
+    → AllByRecursion (IsAllowed noted p n) (outs_of step ev before) → input_of ev ≡ Tick stamp
+    → says what.Died ≡ false → IsOne (λ (o : Out Msg). says (what_of noted o)) (outs_of step ev before)
+    → IsOne (λ (x : Entry). says x.what) (entries_at noted step ev before)
+tick_wrote step p n ev before stamp says fair tick no_death one =
+    let Says : Entry → Bool = λ x. says x.what in
+    let sent : List Entry = sent_in step ev before in
+    let no_got : IsNone Says (got_in ev) = λ x k t. absurd (moved x (ap got_at tick) k) in
+    let no_died : IsNone Says (died_in ev) = λ x k t.
+    true≢false (sym t ∙ ap Says (died_is ev x k).0 ∙ no_death) in
+    subst (λ (l : List Entry). IsOne Says l) (sym (entries_are step p n ev before fair))
+    (one_append Says (got_in ev) (sent ++ died_in ev) (none_one Says (got_in ev) no_got)
+    (one_append Says sent (died_in ev)
+    (one_map (entry_of noted (stamp_at ev)) Says (outs_of step ev before) one)
+    (none_one Says (died_in ev) no_died) (λ x y i k t s. no_died y k s))
+    (λ x y i k t s. no_got x i t))
 
 module _ {S : Type 0} {step : S → Input Msg → Deed Msg S} {p : Params} {orders : List Order} {disk_at : ℕ
     → DiskState} {h : History Msg S} {journals : List (List Entry)}
@@ -113,25 +121,24 @@ module _ {S : Type 0} {step : S → Input Msg → Deed Msg S} {p : Params} {orde
   -- an entry was written at a tick of a cub
   pub record IsOfTick (n i : ℕ) : Type 0 where
     pub small : n < p.cubs
-    pub lives : i < living h n
+    pub lives : i < acting h n
     pub stamp : Stamp
     pub tick : inputs_of h n i ≡ Tick stamp
 
   -- If an output at a tick is written once, and at most one passes a test, an entry that says so is of a later beat
   -- than one before it.
-  of_beats : (Is : Entry → Type 0) (says : What → Bool) (test : Out Msg → Bool)
+  of_beats : (Is : Entry → Type 0) (says : What → Bool) (test : Out Msg → Bool) → says what.Died ≡ false
       → ((e : Entry) → Is e → says e.what ≡ true)
       → ((n : ℕ) (o : Out Msg) → IsAllowed noted p n o → says (what_of noted o) ≡ true → test o ≡ true)
       → ((n i : ℕ) (e : Entry) → n < node_count p → i < h.count n → In e (wrote step h n i) → Is e → IsOfTick n i)
-      → ((n i : ℕ) → n < p.cubs → i < living h n → IsOne test (outs_at p n (inputs_of h n) i))
+      → ((n i : ℕ) → n < p.cubs → i < acting h n → IsOne test (outs_in p (lives_of h) n i))
       → AreOfBeats journals Is
-  of_beats Is says test said agrees at_tick one n xs ys e f at i is_e is_f =
-      let c = cut_in kept n xs e ys at in
+  of_beats Is says test no_death said agrees at_tick one n xs ys e f at i is_e is_f =
+      let c = cut_at_entry kept n xs e ys at in
       let here : In e (wrote step h n c.at) = subst (λ (l : List Entry). In e l) c.event_is
       (in_right e c.part (e ∷ c.rest) (inl refl)) in
       let t = at_tick n c.at e c.known c.done here is_e in
-      let event : h.event n c.at ≡ Does (Tick t.stamp) = event_is kept.plan kept.ring n c.at c.known t.lives
-      ∙ ap (λ (x : Input Msg). Does x) t.tick in
+      let acts = (is_acting kept n c.at c.known t.lives).1 in
       ⊎_elim
       (λ k.
       let os : List (Out Msg) = outs noted step h n c.at in
@@ -139,18 +146,18 @@ module _ {S : Type 0} {step : S → Input Msg → Deed Msg S} {p : Params} {orde
       (sym (kept.ring.rules.cubs n c.at t.small t.lives)) (one n c.at t.small t.lives) in
       let narrow : IsOne (λ (o : Out Msg). says (what_of noted o)) os = one_less test
       (λ (o : Out Msg). says (what_of noted o)) os
-      (λ o j s. agrees n o (all_in (IsAllowed noted p n) o os (kept.ring.run.fair n c.at c.known c.done) j) s) rule in
-      let whole : IsOne (λ (x : Entry). says x.what) (wrote step h n c.at) = subst (λ (l : List Entry). IsOne
-      (λ (x : Entry). says x.what) l)
-      (sym (tick_wrote step (h.event n c.at) (past noted step h n c.at) t.stamp event))
-      (one_map (entry_of noted t.stamp) (λ (x : Entry). says x.what) os narrow) in
+      (λ o j s. agrees n o (all_in (IsAllowed noted p n) o os (fair kept n c.at c.known c.done) j) s) rule in
+      let whole : IsOne (λ (x : Entry). says x.what) (wrote step h n c.at) =
+      tick_wrote step p n (h.event n c.at) (past noted step h n c.at) t.stamp says (fair kept n c.at c.known c.done)
+      t.tick no_death narrow in
       absurd (one_behind (λ (x : Entry). says x.what) c.part e c.rest f
       (subst (λ (l : List Entry). IsOne (λ (x : Entry). says x.what) l) (sym c.event_is) whole) (said e is_e) k
       (said f is_f)))
       (λ k.
       let later : c.at < k.0 = k.1 in
       let low : k.0 < h.count n = k.2 in
-      let tick = after_tick kept.plan kept.ring n c.at c.known c.done (tick_is (h.event n c.at) t.stamp event) in
+      let tick = after_tick kept.plan kept.ring n c.at c.known c.done
+      (tick_same (h.event n c.at) acts ∙ ap is_tick_input t.tick) in
       let rise = count_rises is_tick h n (suc c.at) k.0 (omega arith) in
       let beats = kept.ring.run.in_beat n k.0 c.known low in
       let first : e.stamp.beat ≡ beat h n c.at = ap (λ (x : Stamp). x.beat) (stamped step h n c.at e here) in
@@ -163,11 +170,11 @@ module _ {S : Type 0} {step : S → Input Msg → Deed Msg S} {p : Params} {orde
       → AsksDisk w e → IsOfTick n i
   ask_tick w n i e known low k a =
       let x = event_sent step p n (h.event n i) (past noted step h n i) e a.link (note.ReadAsk w)
-      (kept.ring.run.plain n i known low) (kept.ring.run.fair n i known low) k a.is in
+      (fair kept n i known low) k a.is in
       let m : x.message ≡ msg.ReadAsk w = ask_back x.message w x.same in
       let sent = subst (λ (y : Msg). In (out.Send a.link y) (outs noted step h n i)) m x.sent in
       let c = of_cub kept n i a.link (msg.ReadAsk w) (λ q. q) (λ q. q) known low sent in
-      let at = cubs.ask_tick kept.plan (lived kept.plan kept.ring) n c.small i a.link w c.did in
+      let at = cubs.ask_tick (lives_of h) kept.plan (lived kept.plan kept.ring) n c.small i a.link w c.did in
       record { small = c.small; lives = c.lives; stamp = at.stamp; tick = at.tick }
 
   parcel_tick : (w : Want) (n i : ℕ) (e : Entry) → n < node_count p → i < h.count n → In e (wrote step h n i)
@@ -176,29 +183,30 @@ module _ {S : Type 0} {step : S → Input Msg → Deed Msg S} {p : Params} {orde
       (λ (t : (w.piece == 0) ≡ true).
       let is : e.what ≡ what.Sent a.link (note.Whole w a.sent a.part) = a.is ∙ (rw t refl) in
       let x = event_sent step p n (h.event n i) (past noted step h n i) e a.link (note.Whole w a.sent a.part)
-      (kept.ring.run.plain n i known low) (kept.ring.run.fair n i known low) k is in
+      (fair kept n i known low) k is in
       let m = whole_back x.message w a.sent a.part x.same in
       let sent = subst (λ (y : Msg). In (out.Send a.link y) (outs noted step h n i)) m.1 x.sent in
       let c = of_cub kept n i a.link (msg.Whole w a.sent m.0) (λ q. q) (λ q. q) known low sent in
-      let at = (cubs.whole_at kept.plan (lived kept.plan kept.ring) n c.small i a.link w a.sent m.0 c.lives c.did).1 in
+      let at = (cubs.whole_at (lives_of h) kept.plan (lived kept.plan kept.ring) n c.small i a.link w a.sent m.0 c.lives c.did).1 in
       record { small = c.small; lives = c.lives; stamp = at.stamp; tick = at.tick })
       (λ (f : (w.piece == 0) ≡ false).
       let is : e.what ≡ what.Sent a.link (note.Piece w a.sent a.part) = a.is ∙ (rw f refl) in
       let x = event_sent step p n (h.event n i) (past noted step h n i) e a.link (note.Piece w a.sent a.part)
-      (kept.ring.run.plain n i known low) (kept.ring.run.fair n i known low) k is in
+      (fair kept n i known low) k is in
       let m = piece_back x.message w a.sent a.part x.same in
       let sent = subst (λ (y : Msg). In (out.Send a.link y) (outs noted step h n i)) m.1 x.sent in
       let c = of_cub kept n i a.link (msg.Piece w a.sent m.0) (λ q. q) (λ q. q) known low sent in
-      let at = (cubs.piece_at kept.plan (lived kept.plan kept.ring) n c.small i a.link w a.sent m.0 c.lives c.did).1 in
+      let at = (cubs.piece_at (lives_of h) kept.plan (lived kept.plan kept.ring) n c.small i a.link w a.sent m.0 c.lives c.did).1 in
       record { small = c.small; lives = c.lives; stamp = at.stamp; tick = at.tick })
       (cases_Bool (w.piece == 0))
 
   pub keeps : {r : Facts} → ArePiecesRight p r (pieces_by p (lives_of h)) → KeepsParcels journals
   keeps right = record {
-    one_parcel = λ w. of_beats (SendsParcel w) (says_send w) (sends w) (parcel_said w)
+    one_parcel = λ w. of_beats (SendsParcel w) (says_send w) (sends w) refl (parcel_said w)
         (λ n o fair t. sends_agree p n w o fair t) (parcel_tick w)
-        (λ n i small low. cubs.sends_one kept.plan (lived kept.plan kept.ring) n small right i w low);
-    one_ask = λ w. of_beats (AsksDisk w) (says_ask w) (asks w) (ask_said w) (λ n o fair t. asks_agree p n w o fair
+        (λ n i small low. cubs.sends_one (lives_of h) kept.plan (lived kept.plan kept.ring) n small right
+        (formed kept.plan kept.ring) i w low);
+    one_ask = λ w. of_beats (AsksDisk w) (says_ask w) (asks w) refl (ask_said w) (λ n o fair t. asks_agree p n w o fair
         t) (ask_tick w)
-        (λ n i small low. cubs.asks_one kept.plan (lived kept.plan kept.ring) n small right i w low);
+        (λ n i small low. cubs.asks_one (lives_of h) kept.plan (lived kept.plan kept.ring) n small right i w low);
   }

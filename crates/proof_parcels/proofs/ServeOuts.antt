@@ -1,7 +1,7 @@
 -- What a cub sends the viewers in a tick: each part is of a record that it serves, and each such record's part is
 -- sent once.
 use Rattle.std.proofs.Common.{◌≡◌, ℕ, zero, suc, ◌≤◌, List, [], ◌∷◌, ◌++◌, map, filter, Bool, true, false, Option, Some, None, refl, sym, ap, subst, ◌∙◌, arith, ⊎_elim, inl, inr}
-use Rattle.std.specs.Prelude.{◌&&◌, ◌==◌, if◌then◌else◌}
+use Rattle.std.specs.Prelude.{◌&&◌, ◌==◌}
 use Rattle.std.specs.List.{AllByRecursion, flat_map}
 use Rattle.std.proofs.lemmas.Bool.{ne_eqb}
 use Rattle.tiger_base.specs.declared.number.LinkNo.{LinkNo}
@@ -36,7 +36,7 @@ use Rattle.lists.specs.Elements.{In}
 use Rattle.lists.proofs.Elements.{in_left, in_right, in_filter, from_filter, in_flat_map}
 use Rattle.proof_journals.proofs.Ones.{IsOne, one_append, none_by}
 use Rattle.proof_parts.proofs.Found.{one_want}
-use Rattle.proof_facts.specs.Pieces.{piece, want, HasOwn, IsToServe}
+use Rattle.proof_facts.specs.Pieces.{piece, want, part_sent, HasOwn, IsToServe}
 use Rattle.proof_parcels.proofs.Apart.{Differ, IsOnce, apart_filter}
 use Rattle.proof_parcels.proofs.AskOuts.{one_alone, one_if, IsFor, one_of_records}
 
@@ -47,10 +47,6 @@ own_rec r e = by_kind r.kind refl e
     by_kind : (k : Kind) → r.kind ≡ k → is_own k ≡ true → r ≡ own_of r.tenancy r.visit
     by_kind Own q f = ap (λ (k : Kind). record { tenancy = r.tenancy; visit = r.visit; kind = k }) q
     by_kind Backup q f = absurd (cc)
-
--- the message by which a part goes to the viewers
-abbrev pub sends_as : Want → ℕ → LibraryPart → Msg
-sends_as w sent part = if w.piece == 0 then msg.Whole w sent part else msg.Piece w sent part
 
 -- an output sends what is wanted
 abbrev pub sends : Want → Out Msg → Bool
@@ -165,7 +161,7 @@ module _ (p : Params) (c : ℕ) (stamp : Stamp) (h : Store) where
 
   pub serves_out : (t : Tenancy) (n j : ℕ) (part : LibraryPart) → IsToServe p stamp h t n j
       → stored_for (want t n j) h.parts ≡ Some part
-      → In (out.Send (way_to_viewers p c) (sends_as (want t n j) stamp.beat part)) (serving p c stamp h).outs
+      → In (out.Send (way_to_viewers p c) (part_sent (want t n j) stamp.beat part)) (serving p c stamp h).outs
   unfolding serving serving_blocks dropping_backups serving_pieces
   serves_out t n zero part to_serve stored = ⊎_elim
       (λ l. in_left _ (flat_map (serve_outs p c stamp h.parts) h.view.lines) _
@@ -207,20 +203,17 @@ module _ (p : Params) (c : ℕ) (stamp : Stamp) (h : Store) where
   one_piece w v (Some part) =
       (one_alone (sends w) (out.Send (way_to_viewers p c) (msg.Piece v stamp.beat part)), (one_want w v, tt))
 
-  was_stored : (v : Want) (s : Option LibraryPart) (o : Out Msg) → In o (sent_piece p c stamp v s)
-      → (part : LibraryPart) × (s ≡ Some part)
-  was_stored v None o i = absurd i
-  was_stored v (Some part) o i = (part, refl)
-
   drops_none : (w : Want) (some : List Line) → AllByRecursion (λ o. sends w o ≡ false) (map dropped some)
   drops_none w [] = tt
   drops_none w (x ∷ xs) = (refl, drops_none w xs)
 
+  -- a piece record stands whose time to leave has come
+  abbrev pub Leaves : PieceState → Type 0
+  Leaves x = In x h.pieces.items × (leaves_by p stamp.reading x ≡ true)
+
   -- one thing is sent once, if for one piece of a visit there is one record
   pub serve_once : (w : Want) → IsOnce h → ((x : PieceState) → In x h.pieces.items → 1 ≤ x.piece)
-      → ((t u : Tenancy) (n j : ℕ) (a b : LibraryPart) → IsToServe p stamp h t n j → IsToServe p stamp h u n j
-      → stored_for (want t n j) h.parts ≡ Some a → stored_for (want u n j) h.parts ≡ Some b
-      → u.slot.0 ≡ t.slot.0 → u ≡ t)
+      → ((t u : Tenancy) (n j : ℕ) → Leaves (piece t n j) → Leaves (piece u n j) → u.slot.0 ≡ t.slot.0 → u ≡ t)
       → IsOne (sends w) (serving p c stamp h).outs
   unfolding serving serving_blocks dropping_backups serving_pieces
   serve_once w once low one_record =
@@ -243,10 +236,6 @@ module _ (p : Params) (c : ℕ) (stamp : Stamp) (h : Store) where
       (λ x y a b i j k l visits numbers slots.
       let f = from_filter leaves x h.pieces.items i in
       let g = from_filter leaves y h.pieces.items j in
-      let ra = was_stored (want_of_piece x) (stored_for (want_of_piece x) h.parts) a k in
-      let rb = was_stored (want_of_piece y) (stored_for (want_of_piece y) h.parts) b l in
-      one_record x.tenancy y.tenancy x.visit x.piece ra.0 rb.0 (inr (low x f.0, f.0, f.1))
-      (subst (λ (n : ℕ). IsToServe p stamp h y.tenancy n x.piece) visits
-      (subst (λ (m : ℕ). IsToServe p stamp h y.tenancy y.visit m) numbers (inr (low y g.0, g.0, g.1)))) ra.1
-      (ap (λ (n : ℕ). stored_for (want y.tenancy n x.piece) h.parts) (sym visits)
-      ∙ ap (λ (m : ℕ). stored_for (want y.tenancy y.visit m) h.parts) (sym numbers) ∙ rb.1) slots)
+      one_record x.tenancy y.tenancy x.visit x.piece f
+      (subst (λ (n : ℕ). Leaves (piece y.tenancy n x.piece)) visits
+      (subst (λ (m : ℕ). Leaves (piece y.tenancy y.visit m)) numbers g)) slots)

@@ -25,29 +25,31 @@ use Rattle.node_kit.specs.Steps.{Deed, Input, entry_of, stamp_of}
 use Rattle.node_kit.specs.Steps.Input.{Take, Tick}
 use Rattle.node_kit.specs.Ways.{way_to_viewers}
 use Rattle.run_facts.specs.Events.{stamp_at}
-use Rattle.run_facts.specs.Histories.{History, living, outs}
+use Rattle.run_facts.specs.Histories.{History, outs}
 use Rattle.run_model.specs.Served.{want_of_visit}
 use Rattle.cub_rules.specs.State.{IsPieceAt}
 use Rattle.disk_core.specs.State.{DiskState}
-use Rattle.proof_lives.specs.Lives.{deed_of, store_at, outs_at}
+use Rattle.proof_lives.specs.Lives.{store_at, outs_in}
+use Rattle.proof_lives.proofs.Cuts.{was_put_out}
 use Rattle.lists.specs.Elements.{In}
 use Rattle.proof_lives.proofs.Carrying.{stamp_same}
 use Rattle.lists.proofs.Each.{all_in}
 use Rattle.proof_journals.proofs.Journals.{inputs_of, wrote, stamped, beat_is}
 use Rattle.proof_moments.specs.Ties.{StandsIn, IsLogged}
 use Rattle.proof_facts.specs.Blocks.{AnsweredAt, blocks_by}
-use Rattle.proof_facts.specs.Lives.{lives_of}
-use Rattle.proof_facts.specs.Pieces.{want, SendsPart, ServesAt, pieces_by}
+use Rattle.proof_facts.specs.Lives.{lives_of, acting}
+use Rattle.proof_facts.specs.Pieces.{want, part_sent, SendsPart, ServesAt, pieces_by}
 use Rattle.proof_facts.specs.Rings.{node_count}
-use Rattle.proof_links.proofs.Nodes.{lived, sender, by_rules, cub_inside, before}
+use Rattle.proof_links.proofs.Nodes.{lived, sender, by_rules, cub_inside}
 use Rattle.proof_links.proofs.Sending.{IsOfDisk, IsOfController, of_answer}
+use Rattle.proof_parts.proofs.Answering.{kept as answer_kept}
 use Rattle.proof_parts.proofs.AskLives.{read_for}
-use Rattle.proof_journals.proofs.Events.{AreKept, own_entry, cub_acts, deed_logged}
+use Rattle.proof_journals.proofs.Events.{AreKept, is_acting, own_entry, cub_acts, deed_logged}
 use Rattle.proof_moments.specs.ParcelTies.{viewers, parcel, SendsParcel, AsksDisk, IsServing, IsAsking, IsFailure, TellsParcels, LogsParcels}
 use Rattle.proof_parcels.proofs.Apart.{always_once}
-use Rattle.proof_parcels.proofs.ServeOuts.{sends_as}
-use Rattle.proof_parcels.proofs.Failing.{failed_read, writes_failure, of_record, record_wanted}
+use Rattle.proof_parcels.proofs.Failing.{failed_read, of_record, record_wanted}
 use Rattle.proof_parcels.proofs.Cubs as cubs
+use Rattle.proof_parcels.proofs.Forms.{formed}
 use Rattle.proof_parcels.proofs.Entries.{sent_in, stands_out, ask_back, whole_back, piece_back}
 
 -- where a cub sends the viewers
@@ -61,7 +63,7 @@ to_viewers p c here =
     rw (past, past_controller, inside, from) refl
 
 -- a part that goes out is noted as a parcel
-pub noted_parcel : (w : Want) (sent : ℕ) (part : LibraryPart) → noted (sends_as w sent part) ≡ parcel w sent part.span
+pub noted_parcel : (w : Want) (sent : ℕ) (part : LibraryPart) → noted (part_sent w sent part) ≡ parcel w sent part.span
 noted_parcel w sent part = ⊎_elim
     (λ (t : (w.piece == 0) ≡ true). rw t refl)
     (λ (f : (w.piece == 0) ≡ false). rw f refl)
@@ -73,8 +75,8 @@ module _ {S : Type 0} {step : S → Input Msg → Deed Msg S} {p : Params} {orde
   -- a message that neither disks nor the controller send is a cub's
   pub record OfCub (n i : ℕ) (o : Out Msg) : Type 0 where
     pub small : n < p.cubs
-    pub lives : i < living h n
-    pub did : In o (outs_at p n (inputs_of h n) i)
+    pub lives : i < acting h n
+    pub did : In o (outs_in p (lives_of h) n i)
 
   pub of_cub : (n i : ℕ) (link : LinkNo) (m : Msg) → (IsOfDisk m → ⊥) → (IsOfController m → ⊥) → n < node_count p
       → i < h.count n → In (out.Send link m) (outs noted step h n i) → OfCub n i (out.Send link m)
@@ -112,14 +114,14 @@ module _ {S : Type 0} {step : S → Input Msg → Deed Msg S} {p : Params} {orde
       record { tenancy = asked.tenancy; wanted = sym asked.same; asks = asked.asks }
 
   serving_told : (n i : ℕ) (e : Entry) (link : LinkNo) (w : Want) (sent : ℕ) (part : LibraryPart) (span : Span)
-      → (small : n < p.cubs) → (low : i < living h n) → In e (wrote step h n i)
-      → cubs.IsServeAt kept.plan (lived kept.plan kept.ring) n small i link w sent part → part.span ≡ span
+      → (small : n < p.cubs) → (low : i < acting h n) → In e (wrote step h n i)
+      → cubs.IsServeAt (lives_of h) kept.plan (lived kept.plan kept.ring) n small i link w sent part → part.span ≡ span
       → IsServing p (pieces_by p (lives_of h)) (blocks_by p (lives_of h) disk_at) n link w sent span e.stamp.beat
   serving_told n i e link w sent part span small low there at is =
       let same = tick_stamp n i e at.stamp there at.tick in
       let when : at.stamp.beat ≡ e.stamp.beat = ap (λ (y : Stamp). y.beat) (sym same) in
       let fact = subst (λ (b : ℕ). SendsPart p (lives_of h) n at.serve.tenancy w.visit w.piece b part) when
-      (cubs.serves_fact kept.plan (lived kept.plan kept.ring) n small i link w sent part low at) in
+      (cubs.serves_fact (lives_of h) kept.plan (lived kept.plan kept.ring) n small i link w sent part low at) in
       record {
         tenancy = at.serve.tenancy;
         wanted = at.serve.same;
@@ -138,7 +140,7 @@ module _ {S : Type 0} {step : S → Input Msg → Deed Msg S} {p : Params} {orde
       let m = whole_back x.send.message w sent span x.send.same in
       let there = subst (λ (y : Msg). In (out.Send link y) (outs noted step h n x.at)) m.1 x.send.sent in
       let c = of_cub n x.at link (msg.Whole w sent m.0) (λ q. q) (λ q. q) x.known x.done there in
-      let at = cubs.whole_at kept.plan (lived kept.plan kept.ring) n c.small x.at link w sent m.0 c.lives c.did in
+      let at = cubs.whole_at (lives_of h) kept.plan (lived kept.plan kept.ring) n c.small x.at link w sent m.0 c.lives c.did in
       (at.0, serving_told n x.at e link w sent m.0 span c.small c.lives x.there at.1 m.2)
 
   piece_told : (n : ℕ) (e : Entry) (link : LinkNo) (w : Want) (sent : ℕ) (span : Span) → StandsIn journals n e
@@ -150,7 +152,7 @@ module _ {S : Type 0} {step : S → Input Msg → Deed Msg S} {p : Params} {orde
       let m = piece_back x.send.message w sent span x.send.same in
       let there = subst (λ (y : Msg). In (out.Send link y) (outs noted step h n x.at)) m.1 x.send.sent in
       let c = of_cub n x.at link (msg.Piece w sent m.0) (λ q. q) (λ q. q) x.known x.done there in
-      let at = cubs.piece_at kept.plan (lived kept.plan kept.ring) n c.small x.at link w sent m.0 c.lives c.did in
+      let at = cubs.piece_at (lives_of h) kept.plan (lived kept.plan kept.ring) n c.small x.at link w sent m.0 c.lives c.did in
       (at.0, serving_told n x.at e link w sent m.0 span c.small c.lives x.there at.1 m.2)
 
   failed_told : (n : ℕ) (e : Entry) (w : Want) → StandsIn journals n e → e.what ≡ what.ReadFailed w
@@ -159,9 +161,10 @@ module _ {S : Type 0} {step : S → Input Msg → Deed Msg S} {p : Params} {orde
       let d = own_entry kept n e (what.ReadFailed w) s tt is in
       let c = cub_acts kept n (what.ReadFailed w) e.stamp (λ v q. absurd (cc)) d in
       let g = store_at p n (inputs_of h n) d.at in
-      let f = failed_read p n (inputs_of h n d.at) g w c.1 in
+      let f = failed_read p n (inputs_of h n d.at) g w
+      (was_put_out p (lives_of h) n d.at (out.Act (what.ReadFailed w)) c.1) in
       let k = of_record g w (λ x i. (cubs.numbered p n x (all_in (IsPieceAt p n) x g.pieces.items
-      (cubs.kept kept.plan (lived kept.plan kept.ring) n c.0 d.at d.done).pieces i)).0) f.wanted in
+      (cubs.kept (lives_of h) kept.plan (lived kept.plan kept.ring) n c.0 d.at d.done).pieces i)).0) f.wanted in
       let when : f.stamp.beat ≡ e.stamp.beat = ap (λ (y : Stamp). y.beat)
       (sym (d.when ∙ ap (λ (x : Input Msg). stamp_of x) f.is)) in
       record {
@@ -190,9 +193,9 @@ module _ {S : Type 0} {step : S → Input Msg → Deed Msg S} {p : Params} {orde
       let k = s.sends in
       let small = k.tick.small in
       let known = cub_inside kept.plan kept.ring c small in
-      let done = (before kept.plan kept.ring c k.tick.at known k.tick.done).done in
-      let goes = cubs.serves_go kept.plan (lived kept.plan kept.ring) c small k in
-      let o : Out Msg = out.Send (way_to_viewers p c) (sends_as (want t n j) b s.part) in
+      let done = (is_acting kept c k.tick.at known k.tick.done).0 in
+      let goes = cubs.serves_go (lives_of h) kept.plan (lived kept.plan kept.ring) c small k in
+      let o : Out Msg = out.Send (way_to_viewers p c) (part_sent (want t n j) b s.part) in
       let there : In o (outs noted step h c k.tick.at) = subst (λ (os : List (Out Msg)). In o os)
       (sym (kept.ring.rules.cubs c k.tick.at small k.tick.done)) goes in
       record {
@@ -213,12 +216,11 @@ module _ {S : Type 0} {step : S → Input Msg → Deed Msg S} {p : Params} {orde
   failed_logged c n j b t a =
       let known = cub_inside kept.plan kept.ring c a.small in
       let g = store_at p c (inputs_of h c) a.at in
-      let stamp : Stamp = record { beat = b; reading = a.reading } in
       let wanted = record_wanted g (always_once p c (inputs_of h c) a.at) t n j a.there in
       let o : Out Msg = out.Act (what.ReadFailed (want t n j)) in
-      let out_taking = writes_failure p c stamp a.link (want t n j) g a.formed wanted in
-      let goes : In o (outs_at p c (inputs_of h c) a.at) = subst (λ (k : Input Msg). In o (deed_of p c k g).outs)
-      (sym a.is) out_taking in
+      let goes : In o (outs_in p (lives_of h) c a.at) = answer_kept p (lives_of h) (formed kept.plan kept.ring) c b
+      (want t n j) None
+      (record { small = a.small; at = a.at; done = a.done; reading = a.reading; link = a.link; is = a.is }) wanted in
       let there : In o (outs noted step h c a.at) = subst (λ (os : List (Out Msg)). In o os)
       (sym (kept.ring.rules.cubs c a.at a.small a.done)) goes in
       record {

@@ -1,7 +1,8 @@
 -- What the links bring to the viewers: what came was sent, what was sent in time came, and what came twice was sent
 -- twice.
-use Rattle.std.proofs.Common.{◌≡◌, ℕ, zero, suc, ◌+◌, ◌<◌, ◌≤◌, List, [], ◌∷◌, ◌++◌, map, Bool, true, cond, Some, refl, sym, ap, subst, ◌∙◌, arith, ⊎_elim, inl, eq-or-lt_of_le}
+use Rattle.std.proofs.Common.{◌≡◌, ℕ, zero, suc, ◌+◌, ◌<◌, ◌≤◌, List, [], ◌∷◌, ◌++◌, map, Bool, true, false, cond, Some, refl, sym, ap, subst, ◌∙◌, arith, ⊎_elim, inl, eq-or-lt_of_le}
 use Rattle.std.specs.Prelude.{◌==◌, slice_get}
+use Rattle.std.specs.List.{AllByRecursion}
 use Rattle.std.proofs.lemmas.Bool.{cases_lt, eqb-true, eq-eqb}
 use Rattle.std.proofs.lemmas.List.{map-append}
 use Rattle.std.proofs.lemmas.Option.{none-some}
@@ -17,27 +18,29 @@ use Rattle.node_kit.specs.declared.journal.What.TheVariants as what
 use Rattle.node_kit.specs.declared.outbox.Out.{Out}
 use Rattle.node_kit.specs.declared.outbox.Out.TheVariants as out
 use Rattle.node_kit.specs.Links.{links_of, ends_of}
-use Rattle.node_kit.specs.Steps.{Deed, Input, entry_of}
-use Rattle.node_kit.specs.Steps.Input.{Take, Tick}
-use Rattle.run_facts.specs.Events.{NodeEvent, Past, Dated, entries_at, kept_outs, outs_of, sends_of, stamp_at, is_take_on, IsPlain}
+use Rattle.node_kit.specs.Steps.{Deed, Input, IsAllowed, entry_of, entries_of}
+use Rattle.node_kit.specs.Steps.Input.{Take}
+use Rattle.run_facts.specs.Events.{NodeEvent, Past, Dated, entries_at, kept_outs, outs_of, sends_of, stamp_at, is_input_on, is_take_on, is_death}
 use Rattle.run_facts.specs.Events.NodeEvent.{Does, Ends, Dies, Returns}
-use Rattle.run_facts.specs.Histories.{History, living, outs, past, beat, takes}
+use Rattle.run_facts.specs.Histories.{History, outs, past, beat, takes}
 use Rattle.disk_core.specs.State.{DiskState}
 use Rattle.lists.specs.Elements.{In}
-use Rattle.proof_lives.specs.Histories.{input_of}
+use Rattle.proof_lives.specs.Histories.{input_of, has_input}
 use Rattle.proof_lives.proofs.Carrying.{count_rises, same_dated, same_ends, sends_in}
 use Rattle.lists.proofs.Elements.{chosen, in_map, in_right}
 use Rattle.proof_journals.proofs.Written.{event_took}
 use Rattle.proof_journals.proofs.Journals.{so_far, wrote, stamped}
 use Rattle.proof_moments.specs.Ties.{StandsIn}
+use Rattle.proof_facts.specs.Lives.{acting}
 use Rattle.proof_facts.specs.Rings.{IsUpTo, node_count}
 use Rattle.proof_links.proofs.Carrying.{Came, came_from, SentAs, sent_as, number_of, numbers_rise, delivered}
 use Rattle.proof_links.proofs.Nodes.{lives_on}
-use Rattle.proof_journals.proofs.Events.{AreKept, written_in}
+use Rattle.proof_journals.proofs.Events.{AreKept, fair, is_acting, written_in}
 use Rattle.proof_journals.proofs.Lists.{none_more}
-use Rattle.proof_journals.proofs.Cutting.{cut_in}
+use Rattle.proof_journals.proofs.Cutting.{cut_at_entry}
+use Rattle.proof_journals.proofs.Wrote.{got_in, died_in, sent_in as entries_sent, entries_are}
 use Rattle.proof_moments.specs.ParcelTies.{viewers, WasSentOn, IsGotOn, IsSentTwice, ViewersGet}
-use Rattle.proof_parcels.proofs.Entries.{sent_in, stands_out, stands_written, event_writes_got, event_writes_out, StandsBehind, later_behind, same_behind}
+use Rattle.proof_parcels.proofs.Entries.{behind_front, behind_more, sent_in, stands_out, stands_written, event_writes_got, event_writes_out, StandsBehind, later_behind, same_behind}
 
 -- two messages that are sent on a link in one event, one after the other
 pub record SentBehind (outs : List (Out Msg)) (link : LinkNo) (m o : Msg) : Type 0 where
@@ -112,33 +115,36 @@ mapped_behind stamp outs link m o s = record {
       s.there);
 }
 
-nothing_cut : (outs front back : List (Out Msg)) (x : Out Msg) → outs ≡ [] → outs ≡ front ++ x ∷ back → ⊥
-nothing_cut outs [] back x e f = let q : [] ≡ x ∷ back = sym e ∙ f in absurd (cc)
-nothing_cut outs (y ∷ ys) back x e f = let q : [] ≡ y ∷ (ys ++ x ∷ back) = sym e ∙ f in absurd (cc)
+-- a message is taken on a link in an event, if that is its input
+take_same : (l : ℕ) (ev : NodeEvent Msg) → has_input ev ≡ true → is_take_on l ev ≡ is_input_on l (input_of ev)
+take_same l (Does i) acts = refl
+take_same l (Ends i sends) acts = refl
+take_same l (Dies stamp) acts = absurd (cc)
+take_same l (Returns stamp) acts = absurd (cc)
 
 module _ {S : Type 0} (step : S → Input Msg → Deed Msg S) where
-  event_behind : (ev : NodeEvent Msg) (before : Past S) (link : LinkNo) (m o : Msg) → IsPlain ev
-      → SentBehind (outs_of step ev before) link m o
+  event_behind : (p : Params) (n : ℕ) (ev : NodeEvent Msg) (before : Past S) (link : LinkNo) (m o : Msg)
+      → AllByRecursion (IsAllowed noted p n) (outs_of step ev before) → SentBehind (outs_of step ev before) link m o
       → StandsBehind (entries_at noted step ev before) (entry_of noted (stamp_at ev) (out.Send link m))
       (entry_of noted (stamp_at ev) (out.Send link o))
-  event_behind (Does (Take stamp way n)) before link m o plain s =
-      let b = mapped_behind stamp (kept_outs step (Take stamp way n) before) link m o s in
-      let got : Entry = record { stamp = stamp; what = what.Got way (noted n) } in
-      record { before = got ∷ b.before; behind = b.behind; is = ap (λ (l : List Entry). got ∷ l) b.is; there = b.there }
-  event_behind (Does (Tick stamp)) before link m o plain s =
-      mapped_behind stamp (kept_outs step (Tick stamp) before) link m o s
-  event_behind (Ends i sends) before link m o plain s = absurd plain
-  event_behind (Returns stamp) before link m o plain s = absurd plain
-  event_behind (Dies stamp) before link m o plain s = absurd (nothing_cut [] s.front s.back (out.Send link m) refl s.is)
+  event_behind p n ev before link m o fair s =
+      let e : Entry = entry_of noted (stamp_at ev) (out.Send link m) in
+      let f : Entry = entry_of noted (stamp_at ev) (out.Send link o) in
+      subst (λ (l : List Entry). StandsBehind l e f) (sym (entries_are step p n ev before fair))
+      (behind_front (got_in ev) (entries_sent step ev before ++ died_in ev) e f
+      (behind_more (entries_sent step ev before) (died_in ev) e f
+      (mapped_behind (stamp_at ev) (outs_of step ev before) link m o s)))
 
-  -- a message that is taken is written first, and then the outputs
+  -- a node that puts nothing out, and does not die, writes what it takes
   take_wrote : (ev : NodeEvent Msg) (before : Past S) (stamp : Stamp) (link : LinkNo) (m : Msg)
-      → ev ≡ Does (Take stamp link m)
-      → entries_at noted step ev before ≡ record { stamp = stamp; what = what.Got link (noted m) } ∷ map
-      (entry_of noted stamp) (outs_of step ev before)
-  take_wrote ev before stamp link m e = subst (λ (v : NodeEvent Msg). entries_at noted step v before ≡ record
-      { stamp = stamp; what = what.Got link (noted m) } ∷ map (entry_of noted stamp) (outs_of step v before))
-      (sym e) refl
+      → has_input ev ≡ true → is_death ev ≡ false → input_of ev ≡ Take stamp link m → outs_of step ev before ≡ []
+      → entries_at noted step ev before ≡ record { stamp = stamp; what = what.Got link (noted m) } ∷ []
+  take_wrote (Does i) before stamp link m acts alive e none =
+      ap (λ (k : Input Msg). entries_of noted k (kept_outs step i before)) e
+      ∙ ap (λ (os : List (Out Msg)). entries_of noted (Take stamp link m) os) none
+  take_wrote (Ends i sends) before stamp link m acts alive e none = absurd (cc)
+  take_wrote (Dies now) before stamp link m acts alive e none = absurd (cc)
+  take_wrote (Returns now) before stamp link m acts alive e none = absurd (cc)
 
 module _ {S : Type 0} {step : S → Input Msg → Deed Msg S} {p : Params} {orders : List Order} {disk_at : ℕ
     → DiskState} {h : History Msg S} {journals : List (List Entry)}
@@ -146,7 +152,7 @@ module _ {S : Type 0} {step : S → Input Msg → Deed Msg S} {p : Params} {orde
   known : viewers p < node_count p
   known = omega arith
 
-  lives_all : living h (viewers p) ≡ h.count (viewers p)
+  lives_all : acting h (viewers p) ≡ h.count (viewers p)
   lives_all = lives_on kept.plan kept.ring (viewers p) known (omega arith)
 
   -- ---- what came was sent
@@ -154,7 +160,8 @@ module _ {S : Type 0} {step : S → Input Msg → Deed Msg S} {p : Params} {orde
   -- the event of an entry of what they got
   pub record IsTakenIn (i : ℕ) (e : Entry) (link : LinkNo) (m : Note) : Type 0 where
     pub message : Msg
-    pub event : h.event (viewers p) i ≡ Does (Take e.stamp link message)
+    pub acts : has_input (h.event (viewers p) i) ≡ true
+    pub is : input_of (h.event (viewers p) i) ≡ Take e.stamp link message
     pub same : noted message ≡ m
     pub came : Came kept.plan kept.ring (viewers p) i e.stamp.beat link message
 
@@ -162,14 +169,14 @@ module _ {S : Type 0} {step : S → Input Msg → Deed Msg S} {p : Params} {orde
       → In e (wrote step h (viewers p) i) → e.what ≡ what.Got link m → IsTakenIn i e link m
   taken_in i e link m low k is =
       let t = event_took step p (viewers p) (h.event (viewers p) i) (past noted step h (viewers p) i) e link m
-      (kept.ring.run.plain (viewers p) i known low) (kept.ring.run.fair (viewers p) i known low) k is in
+      (fair kept (viewers p) i known low) k is in
       let all = lives_all in
       record {
         message = t.message;
-        event = t.is;
+        acts = t.input;
+        is = t.is;
         same = t.same;
-        came = came_from kept.plan kept.ring (viewers p) i e.stamp link t.message known (omega arith)
-            (ap input_of t.is);
+        came = came_from kept.plan kept.ring (viewers p) i e.stamp link t.message known (omega arith) t.is;
       }
 
   came : (e : Entry) (link : LinkNo) (m : Note) → StandsIn journals (viewers p) e → e.what ≡ what.Got link m
@@ -204,7 +211,7 @@ module _ {S : Type 0} {step : S → Input Msg → Deed Msg S} {p : Params} {orde
           entry = record { stamp = t.stamp; what = what.Got link (noted x.send.message) };
           stands = stands_written kept (viewers p) t.when _ known t.before
               (event_writes_got step (h.event (viewers p) t.when) (past noted step h (viewers p) t.when) t.stamp
-              link x.send.message t.is);
+              link x.send.message (is_acting kept (viewers p) t.when known t.done).1 t.is);
           is = ap (λ (z : Note). what.Got link z) x.send.same;
         }
 
@@ -219,10 +226,10 @@ module _ {S : Type 0} {step : S → Input Msg → Deed Msg S} {p : Params} {orde
   sent_pair n i k a b link m x y inside one two first second less same_x same_y =
       let e : Entry = entry_of noted (stamp_at (h.event n i)) (out.Send link x) in
       let f : Entry = entry_of noted (stamp_at (h.event n k)) (out.Send link y) in
-      let there_e = event_writes_out step (h.event n i) (past noted step h n i) (out.Send link x)
-      (kept.ring.run.plain n i inside one.done) first in
-      let there_f = event_writes_out step (h.event n k) (past noted step h n k) (out.Send link y)
-      (kept.ring.run.plain n k inside two.done) second in
+      let there_e = event_writes_out step p n (h.event n i) (past noted step h n i) (out.Send link x)
+      (fair kept n i inside one.done) first in
+      let there_f = event_writes_out step p n (h.event n k) (past noted step h n k) (out.Send link y)
+      (fair kept n k inside two.done) second in
       let done_i = one.done in
       let done_k = two.done in
       let both : StandsBehind (so_far step h n (h.count n)) e f = ⊎_elim
@@ -237,8 +244,8 @@ module _ {S : Type 0} {step : S → Input Msg → Deed Msg S} {p : Params} {orde
       (record { beat = beat h n j; item = y })) q two.sends in
       let s = pair_sent (beat h n i) (outs noted step h n i) link x y a b places one.sends other in
       let here = same_behind step h n i (h.count n) e (entry_of noted (stamp_at (h.event n i)) (out.Send link y))
-      done_i (event_behind step (h.event n i) (past noted step h n i) link x y
-      (kept.ring.run.plain n i inside one.done) s) in
+      done_i (event_behind step p n (h.event n i) (past noted step h n i) link x y (fair kept n i inside one.done)
+      s) in
       subst (λ (j : ℕ). StandsBehind (so_far step h n (h.count n)) e (entry_of noted (stamp_at (h.event n j))
       (out.Send link y))) (sym q) here)
       (λ (l : k < i). let r = numbers_rise kept.plan kept.ring {n = n} {at = k} {place = b} {link = link} {m = y} i
@@ -262,16 +269,15 @@ module _ {S : Type 0} {step : S → Input Msg → Deed Msg S} {p : Params} {orde
       → e.what ≡ what.Got link m → f.what ≡ what.Got link m → IsSentTwice journals link m
   twice xs ys e f link m at i e_is f_is =
       let v : ℕ = viewers p in
-      let c = cut_in kept v xs e ys at in
+      let c = cut_at_entry kept v xs e ys at in
       let here : In e (wrote step h v c.at) = subst (λ (l : List Entry). In e l) c.event_is
       (in_right e c.part (e ∷ c.rest) (inl refl)) in
       let one = taken_in c.at e link m c.done here e_is in
       ⊎_elim
       (λ k.
       let whole : wrote step h v c.at ≡ record { stamp = e.stamp; what = what.Got link (noted one.message) } ∷ [] =
-      take_wrote step (h.event v c.at) (past noted step h v c.at) e.stamp link one.message one.event
-      ∙ ap (λ (os : List (Out Msg)). record { stamp = e.stamp; what = what.Got link (noted one.message) } ∷ map
-      (entry_of noted e.stamp) os) (kept.ring.rules.views c.at c.done) in
+      take_wrote step (h.event v c.at) (past noted step h v c.at) e.stamp link one.message one.acts
+      (kept.ring.deaths.mortal v c.at known (omega arith) c.done) one.is (kept.ring.rules.views c.at c.done) in
       absurd (none_more c.part e c.rest _ f (c.event_is ∙ whole) k))
       (λ k.
       let later : c.at < k.0 = k.1 in
@@ -283,7 +289,8 @@ module _ {S : Type 0} {step : S → Input Msg → Deed Msg S} {p : Params} {orde
       × In (out.Send link two.message) (outs noted step h n b.at)
       × (takes link.0 h v k.0 ≡ number_of kept.plan kept.ring n b.at b.place link)) from
       (b.note, b.sent, b.number) in
-      let takes_it : is_take_on link.0 (h.event v c.at) ≡ true = ap (is_take_on link.0) one.event ∙ eq-eqb _ _ refl in
+      let takes_it : is_take_on link.0 (h.event v c.at) ≡ true = take_same link.0 (h.event v c.at) one.acts
+      ∙ ap (is_input_on link.0) one.is ∙ eq-eqb _ _ refl in
       let next : takes link.0 h v (suc c.at) ≡ suc (takes link.0 h v c.at) = ap
       (λ (t : Bool). cond t (suc (takes link.0 h v c.at)) (takes link.0 h v c.at)) takes_it in
       let rise = count_rises (is_take_on link.0) h v (suc c.at) k.0 (omega arith) in

@@ -1,5 +1,5 @@
 -- Along the lives of cubs: for which record a read was asked of a disk, and that a read is asked for each record.
-use Rattle.std.proofs.Common.{◌≡◌, ℕ, ◌+◌, ◌<◌, List, map, filter, refl, sym, ap, subst, ◌∙◌, ⊎_elim, inl}
+use Rattle.std.proofs.Common.{◌≡◌, ℕ, ◌+◌, ◌<◌, List, map, filter, None, refl, sym, ap, subst, ◌∙◌, ⊎_elim, inl}
 use Rattle.std.specs.List.{flat_map}
 use Rattle.tiger_base.specs.declared.number.LinkNo.{LinkNo}
 use Rattle.tiger_base.specs.declared.number.Stamp.{Stamp}
@@ -21,11 +21,12 @@ use Rattle.partial_view.specs.declared.line.Line.{Line}
 use Rattle.cub_rules.specs.declared.store.Store.{Store}
 use Rattle.cub_rules.specs.Ticks.{releasing, believing, inserting, splitting, forwarding, ask_outs, asked_of_disk, leaves_by, reading_blocks, reading_pieces, reading, ticking}
 use Rattle.cub_changes.proofs.Numbers.{piece_disk_own}
-use Rattle.proof_lives.specs.Lives.{Lives, AreLives, store_at, deed_of}
+use Rattle.proof_lives.specs.Lives.{Lives, AreLives, cut_in, store_at, deed_of}
 use Rattle.lists.specs.Elements.{In}
 use Rattle.proof_lives.specs.Facts.{DidAt}
 use Rattle.lists.proofs.Elements.{in_left, in_right, in_map, in_filter, in_flat_map}
 use Rattle.lists.proofs.Each.{all_in}
+use Rattle.proof_lives.proofs.Cuts.{was_put_out, goes_whole}
 use Rattle.proof_facts.specs.Carried.{AskedDisk}
 use Rattle.proof_facts.specs.Pieces.{want, stamp_of as made_of, before_reading, AsksFor, AsksAt}
 use Rattle.proof_service.specs.Disks.{disk_at}
@@ -113,14 +114,16 @@ module _ (p : Params) (plan : IsPlan p) (lives : Lives) (are : AreLives p lives)
   -- each read that a cub asked of a disk was for a record
   pub read_for : (c b : ℕ) (link : LinkNo) (w : Want) → DidAt p lives c (out.Send link (msg.ReadAsk w)) b
       → AskedForRecord p lives c link w b
-  read_for c b link w d = read_at c d.at b link w (lives.input c d.at) d.small d.done refl d.in_beat d.did
+  read_for c b link w d =
+      read_at c d.at b link w (lives.input c d.at) d.small d.done refl d.in_beat
+      (was_put_out p lives c d.at (out.Send link (msg.ReadAsk w)) d.did)
 
--- who asks for a record asks the disk of the piece
+-- who is to ask for a record at a whole tick asks the disk of the piece
 pub asked_disk : (p : Params) → IsPlan p → (lives : Lives) {c : ℕ} {t : Tenancy} {n j b : ℕ}
-    → AsksAt p lives c t n j b → c ≡ cub_of p (n + j)
+    → (a : AsksAt p lives c t n j b) → cut_in lives c a.tick.at ≡ None → c ≡ cub_of p (n + j)
     → AskedDisk p lives c (disk_at p n j) (want t n j) b
 unfolding cub_of
-asked_disk p plan lives {c} {t} {n} {j} {b} a here =
+asked_disk p plan lives {c} {t} {n} {j} {b} a whole here =
     let own = piece_disk_own p c n j plan (sym here) in
     let stamp : Stamp = made_of b a.reading in
     let h : Store = store_at p c (lives.input c) a.tick.at in
@@ -134,6 +137,7 @@ asked_disk p plan lives {c} {t} {n} {j} {b} a here =
         at = a.tick.at;
         done = a.tick.done;
         in_beat = ap (λ (i : Input Msg). (stamp_of i).beat) a.tick.is;
-        did = subst (λ (i : Input Msg). In (read_of p t n j) (deed_of p c i h).outs) (sym a.tick.is) k;
+        did = goes_whole p lives c a.tick.at (read_of p t n j) whole
+            (subst (λ (i : Input Msg). In (read_of p t n j) (deed_of p c i h).outs) (sym a.tick.is) k);
       };
     }

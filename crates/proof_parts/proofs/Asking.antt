@@ -10,8 +10,9 @@ use Rattle.mirror_schedule.specs.Pieces.{leaving_of}
 use Rattle.node_kit.specs.Steps.{Input, stamp_of}
 use Rattle.cub_rules.specs.State.{IsPieceAt}
 use Rattle.cub_rules.specs.Ticks.{leaves_by}
-use Rattle.proof_lives.specs.Lives.{Lives, AreLives, beat_at}
-use Rattle.proof_lives.specs.Facts.{TickedAt}
+use Rattle.proof_lives.specs.Lives.{Lives, AreLives, store_at, beat_at}
+use Rattle.proof_lives.specs.Facts.{TickAt}
+use Rattle.proof_lives.proofs.Fitting.{Fits, whole_or_died}
 use Rattle.proof_lives.proofs.Order.{beats_rise}
 use Rattle.proof_lives.specs.HoldsHere.{AreAllFormed}
 use Rattle.proof_pieces.specs.PieceFacts.{leave}
@@ -25,26 +26,27 @@ use Rattle.proof_lives.proofs.NoReturns.{same_life}
 use Rattle.proof_splits.specs.PieceRecords.{KeepsPieces}
 use Rattle.proof_splits.proofs.Standing.{keeps_pieces}
 use Rattle.proof_splits.proofs.Backups.{is_tick}
-use Rattle.proof_parts.proofs.CutOff.{leave_is, leaves_to}
-use Rattle.proof_parts.proofs.Origins.{IsFrom, arises_at, from_standing, from_split}
-use Rattle.proof_parts.proofs.PieceForms.{numbered, piece_at, piece_within, unasked_within}
+use Rattle.proof_lives.proofs.Cuts.{whole_before}
+use Rattle.proof_parts.proofs.CutOff.{leave_is, leaves_to, split_early}
+use Rattle.proof_parts.proofs.Origins.{IsFrom, arises_at, from_standing}
+use Rattle.proof_parts.proofs.PieceForms.{numbered, piece_at, unasked_within}
 
 module _ (p : Params) (plan : IsPlan p) (lives : Lives) (are : AreLives p lives) (formed : AreAllFormed p lives)
-    (beyond : Beyond) (came : (c b l : ℕ) → TickedAt p lives c b l → beyond.Came c b) where
+    (beyond : Beyond) (fits : Fits p lives beyond) where
   pub keeps : (c : ℕ) → c < p.cubs → KeepsPieces p c (lives.count c) (lives.input c)
   keeps c small = keeps_pieces p c plan.ranges.pieces.0 (lives.count c) (lives.input c) (formed c small)
 
   -- a piece that is used at a tick, by a record that entered so, in form, and leaves within the lead
-  there : (c n j b l lead : ℕ) (t : Tenancy) → 1 ≤ j → TickedAt p lives c b l → IsPieceAt p c (piece t n j)
+  there : (c n j b l lead : ℕ) (t : Tenancy) → 1 ≤ j → TickAt p lives c b l → IsPieceAt p c (piece t n j)
       → leaves_by p (l + lead) (piece t n j) ≡ true
-      → IsFrom p plan lives are formed beyond came c (piece t n j) b lead
+      → IsFrom p plan lives are formed beyond fits c (piece t n j) b lead
       → IsThere p (facts_by p lives beyond) (pieces_by p lives) c t n j b lead
   there c n j b l lead t some tick form leaves f =
       let e : leave p t n j ≡ leaving_of p (piece t n j) = leave_is p t n j some in
       record {
         reading = l;
-        tick = is_tick p plan lives are formed beyond came c b l tick;
-        whole = inl tick;
+        tick = is_tick p plan lives are formed beyond fits.came c b l tick;
+        whole = ⊎_elim (λ w. inl w) (λ d. inr (fits.died c b d)) (whole_or_died tick);
         here = sym form.here;
         few = (numbered p c (piece t n j) form).1;
         beat = f.beat;
@@ -76,10 +78,10 @@ module _ (p : Params) (plan : IsPlan p) (lives : Lives) (are : AreLives p lives)
       (⊎_elim
       (λ u.
       let s = kp.entered i x (omega arith) (kp.within i x u) in
-      from_standing p plan lives are formed beyond came c i b p.read_lead stamp x small low a.tick.is beat s
+      from_standing p plan lives are formed beyond fits c i b p.read_lead stamp x small low a.tick.is beat s
       (λ k st from before is. kp.asked k st x is
       (kp.unasked_since i x (omega arith) u s (suc k) (omega arith) (omega arith))))
-      (λ w. from_split p plan lives are formed beyond came c i b p.read_lead stamp x small low a.tick.is beat w)
+      (λ w. absurd (split_early p c stamp (store_at p c (lives.input c) i) x p.read_lead plan w (omega arith) z.2))
       ((kp.in_tick i stamp x).unasked z.1)))
       a.asks
 
@@ -105,14 +107,11 @@ module _ (p : Params) (plan : IsPlan p) (lives : Lives) (are : AreLives p lives)
       (λ u.
       let d = kp.entered i x (omega arith) u in
       there c n j b s.reading 0 t some s.tick (piece_at p plan lives are c i x small (omega arith) u) leaves
-      (from_standing p plan lives are formed beyond came c i b 0 stamp x small low s.tick.is beat d
+      (from_standing p plan lives are formed beyond fits c i b 0 stamp x small low s.tick.is beat d
       (λ k st from before is.
       subst (λ m. leaves_by p m x ≡ false) (sym (zero_more st.reading))
       (kp.left k st x is (d.stands (suc k) (omega arith) (omega arith))))))
-      (λ w.
-      there c n j b s.reading 0 t some s.tick
-      (piece_within p plan lives are c i stamp x small low s.tick.is ((kp.in_tick i stamp x).split_off w)) leaves
-      (from_split p plan lives are formed beyond came c i b 0 stamp x small low s.tick.is beat w))
+      (λ w. absurd (split_early p c stamp (store_at p c (lives.input c) i) x 0 plan w (omega arith) leaves))
       ((kp.in_tick i stamp x).at_serving z.1))
       s.serves
 
@@ -133,8 +132,8 @@ module _ (p : Params) (plan : IsPlan p) (lives : Lives) (are : AreLives p lives)
       record {
         arises = record {
           beat = beat_at (lives.input c) s.at;
-          arises = arises_at p plan lives are formed beyond came c s.at x (lives.input c s.at) a.small
-              (omega arith) refl s.enters s.new;
+          arises = arises_at p plan lives are formed beyond fits c s.at x (lives.input c s.at) a.small
+              (omega arith) (whole_before lives c s.at a.at before low) refl s.enters s.new;
           by = omega arith;
           life = same_life p lives beyond c (beat_at (lives.input c) s.at) y;
         };

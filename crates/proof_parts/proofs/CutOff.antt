@@ -1,33 +1,41 @@
 -- Why what a cub keeps of a piece went: a deschedule or a kill came, or the time was over at a tick.
-use Rattle.std.proofs.Common.{◌≡◌, ℕ, zero, suc, ◌+◌, ◌<◌, ◌≤◌, true, false, Option, refl, sym, subst, ◌∙◌, arith, ⊎_elim, inl, inr}
-use Rattle.std.specs.Prelude.{◌⊎◌}
-use Rattle.std.proofs.lemmas.Bool.{cases_lt, leb-true, le-leb}
+use Rattle.std.proofs.Common.{◌≡◌, ℕ, zero, suc, ◌+◌, ◌*◌, ◌<◌, ◌≤◌, Bool, true, false, Option, refl, sym, ap, subst, ◌∙◌, arith, ⊎_elim, inl, inr}
+use Rattle.std.specs.Prelude.{◌⊎◌, ◌&&◌, not, nat_le}
+use Rattle.std.proofs.lemmas.Bool.{cases_lt, and_parts, leb-true, le-leb}
 use Rattle.tiger_base.specs.declared.number.Instance.{Instance}
 use Rattle.tiger_base.specs.declared.number.LinkNo.{LinkNo}
 use Rattle.tiger_base.specs.declared.number.SlotNo.{SlotNo}
 use Rattle.tiger_base.specs.declared.number.Stamp.{Stamp}
 use Rattle.tiger_base.specs.declared.tenancy.PieceState.{PieceState}
+use Rattle.tiger_base.specs.declared.tenancy.Rec.{Rec}
 use Rattle.tiger_base.specs.declared.tenancy.Tag.{Tag}
 use Rattle.tiger_base.specs.declared.tenancy.Tenancy.{Tenancy}
 use Rattle.tiger_base.specs.declared.message.Msg.{Msg}
 use Rattle.tiger_base.specs.declared.message.Msg.TheVariants as msg
+use Rattle.tiger_base.specs.Kinds.{is_own}
 use Rattle.slot_plan.specs.declared.params.Params.{Params}
+use Rattle.slot_plan.specs.Conditions.{IsPlan}
+use Rattle.slot_plan.specs.Keys.{due_of}
 use Rattle.slot_plan.specs.Times.{due}
+use Rattle.partial_view.specs.declared.line.Line.{Line}
+use Rattle.partial_view.specs.Lines.{key_of}
 use Rattle.mirror_schedule.specs.Pieces.{leaving_of}
 use Rattle.node_kit.specs.Steps.{Input, stamp_of}
 use Rattle.node_kit.specs.Steps.Input.{Take, Tick}
+use Rattle.cub_rules.specs.declared.store.Store.{Store}
 use Rattle.cub_rules.specs.declared.store.StoredPart.{StoredPart}
-use Rattle.cub_rules.specs.Ticks.{is_stale, leaves_by}
+use Rattle.cub_rules.specs.Ticks.{is_stale, leaves_by, must_split}
 use Rattle.disk_core.specs.State.{DiskState}
 use Rattle.proof_lives.specs.Lives.{Lives, AreLives, beat_at}
 use Rattle.proof_lives.proofs.Order.{beats_rise}
 use Rattle.proof_schedule.specs.Facts.{ReachedBy}
 use Rattle.proof_pieces.specs.PieceFacts.{leave}
+use Rattle.proof_pieces.proofs.Leaving.{leave_after}
 use Rattle.proof_service.specs.ServiceFacts.{KilledBy, IsCutOff}
 use Rattle.proof_facts.specs.Blocks.{blocks_by}
 use Rattle.proof_lives.specs.FactsBy.{Beyond, facts_by}
 use Rattle.proof_facts.specs.Pieces.{piece}
-use Rattle.proof_splits.specs.PieceRecords.{MayGo, MightGo}
+use Rattle.proof_splits.specs.PieceRecords.{IsSplitOff, MayGo, MightGo}
 use Rattle.proof_parts.specs.Parts.{MayCost, MayBeLost}
 
 -- ---- when a piece leaves, and when a part is stale
@@ -57,6 +65,25 @@ leaves_later p time x e = ⊎_elim
 pub stale_to : (p : Params) (l : ℕ) (x : StoredPart) → is_stale p l x ≡ true
     → due p x.want.slot.0 x.want.visit + p.play ≤ l
 stale_to p l x e = leb-true _ _ e
+
+-- a piece that is split off at a tick is neither asked for nor sent at that tick: it leaves later than the read lead
+pub split_early : (p : Params) (c : ℕ) (stamp : Stamp) (h : Store) (x : PieceState) (lead : ℕ) → IsPlan p
+    → IsSplitOff p c stamp h x → lead ≤ p.read_lead → leaves_by p (stamp.reading + lead) x ≡ true → ⊥
+unfolding must_split
+split_early p c stamp h x lead plan w inside leaves =
+    let y : Line = w.line in
+    let late : Bool = nat_le (stamp.reading + p.read_lead + p.skew + p.delay * p.beat + p.beat) (due_of p (key_of y)) in
+    let soon : stamp.reading + p.read_lead + p.skew + p.delay * p.beat + p.beat
+    ≤ due p y.rec.tenancy.slot.0 y.rec.visit =
+    leb-true _ _ (and_parts (not (is_own y.rec.kind) && not y.split) late w.must).1 in
+    let same : due p y.rec.tenancy.slot.0 y.rec.visit ≡ due p x.tenancy.slot.0 x.visit =
+    ap (λ (r : Rec). due p r.tenancy.slot.0 r.visit) w.there.1 in
+    let first = w.first in
+    let behind = leave_after p x.tenancy x.visit x.piece in
+    let is = leave_is p x.tenancy x.visit x.piece (omega arith) in
+    let to = leaves_to p (stamp.reading + lead) x leaves in
+    let some = plan.ranges.beat.0 in
+    omega arith
 
 -- ---- ticks at which the time was over
 

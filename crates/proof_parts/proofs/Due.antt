@@ -23,6 +23,8 @@ use Rattle.lists.specs.Elements.{In}
 use Rattle.proof_lives.specs.Facts.{TickedAt, TookMessage}
 use Rattle.proof_lives.proofs.Order.{beats_rise, behind, not_behind}
 use Rattle.proof_lives.proofs.Inputs.{message_before}
+use Rattle.proof_lives.proofs.Cuts.{whole_before, whole_by_beat}
+use Rattle.proof_lives.proofs.Fitting.{Fits, as_tick}
 use Rattle.proof_lives.specs.HoldsHere.{AreAllFormed}
 use Rattle.proof_pieces.specs.PieceFacts.{leave, Arises, AsksBy}
 use Rattle.proof_pieces.specs.PieceLaws.{WasUndue}
@@ -43,7 +45,7 @@ use Rattle.proof_parts.proofs.PartLives.{stays_until}
 use Rattle.proof_parts.proofs.Storing.{part_to_serving}
 
 module _ (p : Params) (plan : IsPlan p) (lives : Lives) (are : AreLives p lives) (formed : AreAllFormed p lives)
-    (beyond : Beyond) (came : (c b l : ℕ) → TickedAt p lives c b l → beyond.Came c b) (disk_at : ℕ → DiskState) where
+    (beyond : Beyond) (fits : Fits p lives beyond) (disk_at : ℕ → DiskState) where
   abbrev Cut : ℕ → ℕ → ℕ → ℕ → Type 0
   Cut c v n b = CutOff p lives beyond disk_at c v n b
 
@@ -121,7 +123,7 @@ module _ (p : Params) (plan : IsPlan p) (lives : Lives) (are : AreLives p lives)
       let small = tick.small in
       let stamp : Stamp = made_of b l in
       let life = are c small in
-      let kp : KeepsPieces p c (lives.count c) inputs = keeps p plan lives are formed beyond came c small in
+      let kp : KeepsPieces p c (lives.count c) inputs = keeps p plan lives are formed beyond fits c small in
       let e : leave p t n j ≡ leaving_of p x = leave_is p t n j some in
       let beat : beat_at inputs i ≡ b = ap (λ (k : Input Msg). (stamp_of k).beat) tick.is in
       let read : reading_at inputs i ≡ l = ap (λ (k : Input Msg). (stamp_of k).reading) tick.is in
@@ -151,7 +153,7 @@ module _ (p : Params) (plan : IsPlan p) (lives : Lives) (are : AreLives p lives)
         beat = b;
         asks = record {
           reading = l;
-          tick = tick;
+          tick = as_tick tick;
           asks = inr (some, u, leaves_from p (l + p.read_lead) x (omega arith));
         };
         by = omega arith;
@@ -192,11 +194,15 @@ module _ (p : Params) (plan : IsPlan p) (lives : Lives) (are : AreLives p lives)
         let low = a.tick.done in
         let life = are c small in
         let stamp : Stamp = made_of b a.reading in
-        let kp : KeepsPieces p c (lives.count c) inputs = keeps p plan lives are formed beyond came c small in
+        let kp : KeepsPieces p c (lives.count c) inputs = keeps p plan lives are formed beyond fits c small in
         let beat : beat_at inputs i ≡ b = ap (λ (k : Input Msg). (stamp_of k).beat) a.tick.is in
-        let there = asks_there p plan lives are formed beyond came some a in
+        let there = asks_there p plan lives are formed beyond fits some a in
+        let up = (fits.ticks c e come).tick in
+        let ub : beat_at inputs up.at ≡ e = ap (λ (k : Input Msg). (stamp_of k).beat) up.is in
+        let some_delay = plan.ranges.delay.0 in
+        let whole = whole_by_beat p lives are c i up.at small low up.done (omega arith) in
         let back = taken_back p lives formed disk_at beyond.Came disks c (disk_of_piece p n j) b e (want t n j)
-        (asked_disk p plan lives a there.here) come late in
+        (asked_disk p plan lives a whole there.here) come late in
         let took = back.took in
         let read = back.read in
         let before = back.before in
@@ -221,7 +227,13 @@ module _ (p : Params) (plan : IsPlan p) (lives : Lives) (are : AreLives p lives)
         inl (record {
           beat = w.stamp.beat;
           reading = w.stamp.reading;
-          ticked = record { small = small; at = w.at; done = omega arith; is = w.is };
+          ticked = record {
+            small = small;
+            at = w.at;
+            done = omega arith;
+            is = w.is;
+            whole = whole_before lives c w.at m wb done;
+          };
           before = omega arith;
           past = omega arith;
         }))
@@ -274,7 +286,7 @@ module _ (p : Params) (plan : IsPlan p) (lives : Lives) (are : AreLives p lives)
       let small = tick.small in
       let stamp : Stamp = made_of b l in
       let life = are c small in
-      let kp : KeepsPieces p c (lives.count c) inputs = keeps p plan lives are formed beyond came c small in
+      let kp : KeepsPieces p c (lives.count c) inputs = keeps p plan lives are formed beyond fits c small in
       let el : leave p t n j ≡ leaving_of p x = leave_is p t n j some in
       let beat : beat_at inputs i ≡ b = ap (λ (k : Input Msg). (stamp_of k).beat) tick.is in
       let read : reading_at inputs i ≡ l = ap (λ (k : Input Msg). (stamp_of k).reading) tick.is in
@@ -329,9 +341,10 @@ module _ (p : Params) (plan : IsPlan p) (lives : Lives) (are : AreLives p lives)
         part = f.part;
         sends = record {
           reading = l;
-          tick = tick;
+          tick = as_tick tick;
           serves = inr (some, (kp.in_tick i stamp x).to_serving one, leaves_from p l x (omega arith));
           stored = f.found;
+          goes = inl tick.whole;
         };
       }))
       (λ stale. let old = stale_to p l xp stale in absurd (omega arith))

@@ -1,5 +1,5 @@
 -- By which record a cub uses a piece: how it entered, when its instance was not held, and that it was not due before.
-use Rattle.std.proofs.Common.{◌≡◌, ℕ, ◌+◌, ◌-◌, ◌<◌, ◌≤◌, false, refl, sym, ap, subst, ◌∙◌, arith, ⊎_elim, inl, inr, eq-or-lt_of_le}
+use Rattle.std.proofs.Common.{◌≡◌, ℕ, ◌+◌, ◌-◌, ◌<◌, ◌≤◌, false, None, refl, sym, ap, subst, ◌∙◌, arith, ⊎_elim, inl, inr, eq-or-lt_of_le}
 use Rattle.std.specs.Prelude.{◌⊎◌}
 use Rattle.std.proofs.lemmas.Bool.{cases_lt}
 use Rattle.tiger_base.specs.declared.number.Stamp.{Stamp}
@@ -13,9 +13,11 @@ use Rattle.mirror_schedule.specs.Pieces.{is_in, leaving_of}
 use Rattle.node_kit.specs.Steps.{Input, stamp_of}
 use Rattle.node_kit.specs.Steps.Input.{Take, Tick}
 use Rattle.cub_rules.specs.Ticks.{leaves_by}
-use Rattle.proof_lives.specs.Lives.{Lives, AreLives, store_at, beat_at}
+use Rattle.proof_lives.specs.Lives.{Lives, AreLives, cut_in, store_at, beat_at}
 use Rattle.run_facts.specs.Events.{is_tick_input}
-use Rattle.proof_lives.specs.Facts.{TickedAt, ReachedAt}
+use Rattle.proof_lives.specs.Facts.{ReachedAt}
+use Rattle.proof_lives.proofs.Cuts.{whole_before}
+use Rattle.proof_lives.proofs.Fitting.{Fits}
 use Rattle.proof_lives.proofs.Order.{beats_rise, behind, tick_before, tick_of}
 use Rattle.proof_lives.proofs.Inputs.{message_before}
 use Rattle.proof_lives.specs.HoldsHere.{AreAllFormed}
@@ -32,7 +34,7 @@ use Rattle.proof_splits.proofs.Backups.{splits}
 use Rattle.proof_parts.proofs.CutOff.{leaves_later}
 
 module _ (p : Params) (plan : IsPlan p) (lives : Lives) (are : AreLives p lives) (formed : AreAllFormed p lives)
-    (beyond : Beyond) (came : (c b l : ℕ) → TickedAt p lives c b l → beyond.Came c b) where
+    (beyond : Beyond) (fits : Fits p lives beyond) where
   -- how the record of a piece entered by a tick of beat b, and that it is the first tick at which it may be used
   pub record IsFrom (c : ℕ) (x : PieceState) (b lead : ℕ) : Type 0 where
     pub beat : ℕ
@@ -41,11 +43,11 @@ module _ (p : Params) (plan : IsPlan p) (lives : Lives) (are : AreLives p lives)
     pub since : IsUnheld p (facts_by p lives beyond) c x.tenancy.instance.0 b beat
     pub fresh : (beat ≡ b) ⊎ WasUndue p (facts_by p lives beyond) c b (leaving_of p x) lead
 
-  -- what is split off at a tick is a split
-  split_at : (c a : ℕ) (stamp : Stamp) (x : PieceState) → c < p.cubs → a < lives.count c
+  -- what is split off at a whole tick is a split
+  split_at : (c a : ℕ) (stamp : Stamp) (x : PieceState) → c < p.cubs → a < lives.count c → cut_in lives c a ≡ None
       → lives.input c a ≡ Tick stamp → IsSplitOff p c stamp (store_at p c (lives.input c) a) x
       → SplitAt p lives c x.tenancy x.visit (beat_at (lives.input c) a)
-  split_at c a stamp x small low is w =
+  split_at c a stamp x small low whole is w =
       let e : stamp.beat ≡ beat_at (lives.input c) a = ap (λ (k : Input Msg). (stamp_of k).beat) (sym is) in
       subst (λ n. SplitAt p lives c x.tenancy x.visit n) e
       (record {
@@ -55,15 +57,19 @@ module _ (p : Params) (plan : IsPlan p) (lives : Lives) (are : AreLives p lives)
         line = w.line;
         there = w.there;
         must = w.must;
+        number = 0;
+        goes = inl whole;
       })
 
-  -- who enters arises
-  pub arises_at : (c a : ℕ) (x : PieceState) (k : Input Msg) → c < p.cubs → a < lives.count c → lives.input c a ≡ k
+  -- who enters at an input that no death cuts off arises
+  pub arises_at : (c a : ℕ) (x : PieceState) (k : Input Msg) → c < p.cubs → a < lives.count c
+      → cut_in lives c a ≡ None → lives.input c a ≡ k
       → Enters p c k (store_at p c (lives.input c) a) x
       → is_in x (store_at p c (lives.input c) a).pieces.items ≡ false
       → Arises (facts_by p lives beyond) (pieces_by p lives) c x.tenancy x.visit x.piece (beat_at (lives.input c) a)
-  arises_at c a x (Tick stamp) small low is w new = inr (inl (w.first, split_at c a stamp x small low is w))
-  arises_at c a x (Take stamp link m) small low is w new =
+  arises_at c a x (Tick stamp) small low whole is w new =
+      inr (inl (w.first, split_at c a stamp x small low whole is w))
+  arises_at c a x (Take stamp link m) small low whole is w new =
       let told : lives.input c a ≡ Take stamp link (msg.MirrorState x) =
       is ∙ ap (λ (o : Msg). Take stamp link o) w.is in
       let e : stamp.beat ≡ beat_at (lives.input c) a = ap (λ (k : Input Msg). (stamp_of k).beat) (sym is) in
@@ -90,19 +96,20 @@ module _ (p : Params) (plan : IsPlan p) (lives : Lives) (are : AreLives p lives)
       record { beat = k.beat; reached = k.reached; over = omega arith }
 
   -- who enters behind a deschedule of its instance was let go by then
-  let_go : (c a : ℕ) (x : PieceState) (k : Input Msg) → c < p.cubs → a < lives.count c → lives.input c a ≡ k
+  let_go : (c a : ℕ) (x : PieceState) (k : Input Msg) → c < p.cubs → a < lives.count c
+      → cut_in lives c a ≡ None → lives.input c a ≡ k
       → Enters p c k (store_at p c (lives.input c) a) x
       → (y : ℕ) (g : ReachedAt p lives c x.tenancy.instance.0 y) → g.took.at < a
       → IsReleasedBy p (facts_by p lives beyond) c x.tenancy.instance.0 (beat_at (lives.input c) a)
-  let_go c a x (Take stamp link m) small low is w y g less =
+  let_go c a x (Take stamp link m) small low whole is w y g less =
       let v : ℕ = x.tenancy.instance.0 in
       let t = g.took in
       released_by p plan lives are formed beyond c a t.at v (beat_at (lives.input c) a) small low (omega arith)
       (unheld_released p c (lives.input c) (lives.count c) (formed c small) a t.at v less (omega arith) (stop_in p lives g)
       x.tenancy.instance refl w.free)
-  let_go c a x (Tick stamp) small low is w y g less =
+  let_go c a x (Tick stamp) small low whole is w y g less =
       let t = g.took in
-      let s = splits p plan lives are formed beyond came (split_at c a stamp x small low is w) in
+      let s = splits p plan lives are formed beyond fits.came (split_at c a stamp x small low whole is w) in
       let rise = beats_rise p (lives.count c) (lives.input c) (are c small) t.at a (omega arith) low in
       let e : beat_at (lives.input c) t.at ≡ y = ap (λ (k : Input Msg). (stamp_of k).beat) t.is in
       let b : ℕ = beat_at (lives.input c) a in
@@ -111,16 +118,16 @@ module _ (p : Params) (plan : IsPlan p) (lives : Lives) (are : AreLives p lives)
 
   -- so of one that is there at a tick
   unheld : (c i b a : ℕ) (stamp : Stamp) (x : PieceState) → c < p.cubs → i < lives.count c
-      → lives.input c i ≡ Tick stamp → beat_at (lives.input c) i ≡ b → a ≤ i
+      → lives.input c i ≡ Tick stamp → beat_at (lives.input c) i ≡ b → a < i
       → Enters p c (lives.input c a) (store_at p c (lives.input c) a) x
       → ((j : ℕ) → j < i → CutsOff (lives.input c j) x → j < a)
       → IsUnheld p (facts_by p lives beyond) c x.tenancy.instance.0 b (beat_at (lives.input c) a)
-  unheld c i b a stamp x small low is beat le w since y g by life =
+  unheld c i b a stamp x small low is beat before_it w since y g by life =
       let t = g.took in
       let e : beat_at (lives.input c) t.at ≡ y = ap (λ (k : Input Msg). (stamp_of k).beat) t.is in
       let before = message_before p lives are c i t.at small low t.done (ap is_tick_input is) (ap is_tick_input t.is) (omega arith) in
       let less = since t.at before (subst (λ (k : Input Msg). CutsOff k x) (sym t.is) g.same) in
-      let_go c a x (lives.input c a) small (omega arith) refl w y g less
+      let_go c a x (lives.input c a) small (omega arith) (whole_before lives c a i before_it low) refl w y g less
 
   -- a record that stands at a tick, if at no tick before it was to be used
   pub from_standing : (c i b lead : ℕ) (stamp : Stamp) (x : PieceState) → c < p.cubs → i < lives.count c
@@ -136,9 +143,10 @@ module _ (p : Params) (plan : IsPlan p) (lives : Lives) (are : AreLives p lives)
       let rise = beats_rise p (lives.count c) inputs (are c small) s.at i (omega arith) low in
       record {
         beat = beat_at inputs s.at;
-        arises = arises_at c s.at x (inputs s.at) small low_at refl s.enters s.new;
+        arises = arises_at c s.at x (inputs s.at) small low_at (whole_before lives c s.at i before low) refl s.enters
+            s.new;
         by = omega arith;
-        since = unheld c i b s.at stamp x small low is beat (omega arith) s.enters s.behind;
+        since = unheld c i b s.at stamp x small low is beat before s.enters s.behind;
         fresh = ⊎_elim
             (λ (e : beat_at inputs s.at ≡ b). inl e)
             (λ (l : beat_at inputs s.at < b). inr (undue l))
@@ -167,22 +175,13 @@ module _ (p : Params) (plan : IsPlan p) (lives : Lives) (are : AreLives p lives)
           record {
             beat = t.0.beat;
             reading = t.0.reading;
-            ticked = record { small = small; at = k.at; done = low_k; is = t.1 };
+            ticked = record {
+              small = small;
+              at = k.at;
+              done = low_k;
+              is = t.1;
+              whole = whole_before lives c k.at i kb low;
+            };
             next = omega arith;
             undue = leaves_later p (t.0.reading + lead) x (late k.at t.0 from kb t.1);
           }
-
-  -- and a record that is split off in the tick
-  pub from_split : (c i b lead : ℕ) (stamp : Stamp) (x : PieceState) → c < p.cubs → i < lives.count c
-      → lives.input c i ≡ Tick stamp → beat_at (lives.input c) i ≡ b
-      → IsSplitOff p c stamp (store_at p c (lives.input c) i) x
-      → IsFrom c x b lead
-  from_split c i b lead stamp x small low is beat w = record {
-    beat = beat_at (lives.input c) i;
-    arises = inr (inl (w.first, split_at c i stamp x small low is w));
-    by = omega arith;
-    since = unheld c i b i stamp x small low is beat (omega arith)
-        (subst (λ (k : Input Msg). Enters p c k (store_at p c (lives.input c) i) x) (sym is) w)
-        (λ j l cut. l);
-    fresh = inl beat;
-  }

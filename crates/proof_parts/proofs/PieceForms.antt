@@ -23,10 +23,6 @@ forwarding_unasked : (p : Params) (c : ℕ) (stamp : Stamp) (h : Store)
 unfolding forwarding
 forwarding_unasked p c stamp h = refl
 
-forwarding_pieces : (p : Params) (c : ℕ) (stamp : Stamp) (h : Store) → (forwarding p c stamp h).state.pieces ≡ h.pieces
-unfolding forwarding
-forwarding_pieces p c stamp h = refl
-
 -- the number of a piece in form
 pub numbered : (p : Params) (c : ℕ) (x : PieceState) → IsPieceAt p c x → (1 ≤ x.piece) × (x.piece ≤ p.pieces)
 numbered p c x f = let q = piece_parts p x f.in_form in (q.low, q.high)
@@ -56,12 +52,3 @@ module _ (p : Params) (plan : IsPlan p) (lives : Lives) (are : AreLives p lives)
       let g : Store = before_forwarding p c stamp (store_at p c (lives.input c) i) in
       all_in (IsPieceAt p c) x g.unasked.items (kept_within c i stamp small low is).unasked
       (subst (λ s. In x s.items) (forwarding_unasked p c stamp g) there)
-
-  pub piece_within : (c i : ℕ) (stamp : Stamp) (x : PieceState) → c < p.cubs → i < lives.count c
-      → lives.input c i ≡ Tick stamp
-      → In x (before_reading p c stamp (store_at p c (lives.input c) i)).pieces.items
-      → IsPieceAt p c x
-  piece_within c i stamp x small low is there =
-      let g : Store = before_forwarding p c stamp (store_at p c (lives.input c) i) in
-      all_in (IsPieceAt p c) x g.pieces.items (kept_within c i stamp small low is).pieces
-      (subst (λ s. In x s.items) (forwarding_pieces p c stamp g) there)

@@ -5,10 +5,10 @@ use Rattle.slot_plan.specs.Conditions.{IsPlan}
 use Rattle.stripe_layout.specs.declared.catalogue.Catalogue.{Catalogue}
 use Rattle.disk_core.specs.State.{DiskState}
 use Rattle.proof_lives.specs.Lives.{Lives, AreLives}
-use Rattle.proof_lives.specs.Facts.{TickedAt}
 use Rattle.proof_lives.specs.HoldsHere.{AreAllFormed}
 use Rattle.proof_facts.specs.Blocks.{blocks_by}
 use Rattle.proof_lives.specs.FactsBy.{Beyond, facts_by, cubs_alone}
+use Rattle.proof_lives.proofs.Fitting.{Fits, alone_fits}
 use Rattle.proof_facts.specs.Laws.{ReadLaws}
 use Rattle.proof_facts.specs.Pieces.{pieces_by}
 use Rattle.proof_parts.specs.Asks.{HaveDisks}
@@ -17,23 +17,23 @@ use Rattle.proof_parts.proofs.Asking.{asks_there, serves_there, failed_there}
 use Rattle.proof_parts.proofs.Due.{due_is_asked, ask_is_answered, stored_is_sent}
 use Rattle.proof_parts.proofs.TrueReads.{sent_was_asked, failed_was_refused, sent_is_read}
 
--- They meet them whatever is beyond the cubs' lives, if each cub comes to the ticks of its life.
+-- They meet them whatever is beyond the cubs' lives, if that fits them.
 pub read_laws : (p : Params) (catalogue : Catalogue) (lives : Lives) (disk_at : ℕ → DiskState) → IsPlan p
     → AreLives p lives → AreAllFormed p lives
-    → (beyond : Beyond) → ((c b l : ℕ) → TickedAt p lives c b l → beyond.Came c b)
+    → (beyond : Beyond) → Fits p lives beyond
     → HaveDisks p catalogue lives disk_at beyond.Came
     → ReadLaws p catalogue (facts_by p lives beyond) (pieces_by p lives) (blocks_by p lives disk_at) (λ j. 1 ≤ j)
-read_laws p catalogue lives disk_at plan are formed beyond came disks = record {
-  asks = λ some a. asks_there p plan lives are formed beyond came some a;
-  serves = λ some s. serves_there p plan lives are formed beyond came some s;
+read_laws p catalogue lives disk_at plan are formed beyond fits disks = record {
+  asks = λ some a. asks_there p plan lives are formed beyond fits some a;
+  serves = λ some s. serves_there p plan lives are formed beyond fits some s;
   asked = λ some s. sent_was_asked p plan lives are formed disk_at beyond.Came disks.answer s;
   asks_due = λ some from here tick late soon.
-      due_is_asked p plan lives are formed beyond came disk_at some from tick late soon;
+      due_is_asked p plan lives are formed beyond fits disk_at some from tick late soon;
   answers = λ some a come late.
-      ask_is_answered p plan lives are formed beyond came disk_at disks.answer some a come late;
+      ask_is_answered p plan lives are formed beyond fits disk_at disks.answer some a come late;
   serves_due = λ some s le tick leaves fresh u.
-      stored_is_sent p plan lives are formed beyond came disk_at some s le tick leaves fresh u;
-  failed = λ some a. failed_there p plan lives are formed beyond came some a;
+      stored_is_sent p plan lives are formed beyond fits disk_at some s le tick leaves fresh u;
+  failed = λ some a. failed_there p plan lives are formed beyond fits some a;
   refused = λ some a.
       failed_was_refused p plan lives are formed disk_at beyond.Came disks.answer catalogue disks.are disks.images a;
   sends = λ some s.
@@ -43,5 +43,4 @@ read_laws p catalogue lives disk_at plan are formed beyond came disks = record {
 -- and so of cubs alone
 pub cubs_serve : CubsServePieces
 cubs_serve p catalogue lives disk_at plan are formed disks =
-    read_laws p catalogue lives disk_at plan are formed (cubs_alone p lives)
-    (λ c b l tick. record { reading = l; ticked = tick }) disks
+    read_laws p catalogue lives disk_at plan are formed (cubs_alone p lives) (alone_fits p lives) disks

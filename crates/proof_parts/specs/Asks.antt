@@ -17,11 +17,11 @@ use Rattle.cub_rules.specs.declared.store.Store.{Store}
 use Rattle.disk_core.specs.State.{DiskState}
 use Rattle.disk_core.specs.Rules.{read_part}
 use Rattle.proof_lives.specs.Facts.{DidAt}
-use Rattle.proof_lives.specs.Lives.{Lives, AreLives}
+use Rattle.proof_lives.specs.Lives.{Lives, AreLives, cut_in}
 use Rattle.proof_lives.specs.HoldsHere.{AreAllFormed}
 use Rattle.proof_facts.specs.Blocks.{AnsweredAt, SendsAt, blocks_by}
 use Rattle.proof_facts.specs.Carried.{AskedDisk, DisksAnswer}
-use Rattle.proof_lives.specs.FactsBy.{HasTicked}
+use Rattle.proof_lives.specs.FactsBy.{CameToTick}
 use Rattle.proof_facts.specs.Pieces.{want, AsksFor, AsksAt, ServesAt, pieces_by}
 use Rattle.proof_facts.specs.Rings.{IsDiskOf, HaveImages}
 use Rattle.proof_pieces.specs.PieceLaws.{WasAsked}
@@ -45,13 +45,13 @@ pub record AskedForRecord (p : Params) (lives : Lives) (c : ℕ) (link : LinkNo)
   pub same : want tenancy w.visit w.piece ≡ w
   pub way : link ≡ way_to_disk p (disk_of_piece p w.visit w.piece)
 
--- Each read that was asked for is for a record; and for each record that a cub was to ask for, it
--- asked the disk of the piece.
+-- Each read that was asked for is for a record; and for each record that a cub was to ask for at a
+-- tick that its death did not cut off, it asked the disk of the piece.
 pub record AreForRecords (p : Params) (lives : Lives) : Type 0 where
   pub reads : (c b : ℕ) (link : LinkNo) (w : Want)
       → DidAt p lives c (out.Send link (msg.ReadAsk w)) b → AskedForRecord p lives c link w b
   pub records : {c : ℕ} {t : Tenancy} {n j b : ℕ}
-      → AsksAt p lives c t n j b → c ≡ cub_of p (n + j)
+      → (a : AsksAt p lives c t n j b) → cut_in lives c a.tick.at ≡ None → c ≡ cub_of p (n + j)
       → AskedDisk p lives c (disk_of_piece p n j) (want t n j) b
 
 -- So it is in all lives of the cubs of a plan.
@@ -99,5 +99,5 @@ pub record HaveDisks (p : Params) (catalogue : Catalogue) (lives : Lives) (disk_
 abbrev pub ReadsAreTrue : Type 0
 ReadsAreTrue = (p : Params) (catalogue : Catalogue) (lives : Lives) (disk_at : ℕ → DiskState)
     → IsPlan p → AreLives p lives → AreAllFormed p lives
-    → HaveDisks p catalogue lives disk_at (HasTicked p lives)
+    → HaveDisks p catalogue lives disk_at (CameToTick p lives)
     → AreTrueReads p catalogue lives disk_at

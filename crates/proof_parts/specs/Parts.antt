@@ -19,12 +19,12 @@ use Rattle.cub_rules.specs.Records.{stored_for}
 use Rattle.cub_rules.specs.Ticks.{is_stale}
 use Rattle.disk_core.specs.State.{DiskState}
 use Rattle.disk_core.specs.Rules.{read_part}
-use Rattle.proof_lives.specs.Lives.{Lives, store_at, outs_at}
+use Rattle.proof_lives.specs.Lives.{Lives, store_at, outs_in}
 use Rattle.lists.specs.Elements.{In}
 use Rattle.proof_lives.specs.Facts.{TookMessage}
 use Rattle.proof_lives.specs.HoldsHere.{AreAllFormed}
 use Rattle.proof_facts.specs.Carried.{AskedDisk, AnswersAsk, DisksAnswer}
-use Rattle.proof_lives.specs.FactsBy.{HasTicked}
+use Rattle.proof_lives.specs.FactsBy.{CameToTick}
 
 -- A part that a cub keeps before its input of number i came by a disk's answer, in form, to its
 -- want, when the cub had a record for that; and the cub keeps it since.
@@ -70,10 +70,10 @@ pub record IsFound (want : Want) (parts : List StoredPart) : Type 0 where
 
 -- What a cub does at its input of number i with an answer for which it has a record: it stores the
 -- part, or writes down that the read failed.
-abbrev pub IsKept : Params → ℕ → (ℕ → Input Msg) → ℕ → Want → Option LibraryPart → Type 0
-IsKept p c inputs i want (Some part) =
-    In (record { want = want; part = part }) (store_at p c inputs (suc i)).parts
-IsKept p c inputs i want None = In (out.Act (what.ReadFailed want)) (outs_at p c inputs i)
+abbrev pub IsKept : Params → Lives → ℕ → ℕ → Want → Option LibraryPart → Type 0
+IsKept p lives c i want (Some part) =
+    In (record { want = want; part = part }) (store_at p c (lives.input c) (suc i)).parts
+IsKept p lives c i want None = In (out.Act (what.ReadFailed want)) (outs_in p lives c i)
 
 -- What cub c asked of a disk for a want in beat x was read in a later beat, and the cub took the
 -- answer in one after that, two ways later at the latest. If it had a record for it then, it kept
@@ -87,7 +87,7 @@ pub record IsTakenBack (p : Params) (lives : Lives) (s : DiskState) (c : ℕ) (w
   pub before : taken < beat
   pub soon : beat ≤ x + 2 * p.delay
   pub kept : is_wanted want (store_at p c (lives.input c) took.at) ≡ true
-      → IsKept p c (lives.input c) took.at want (read_part s taken want)
+      → IsKept p lives c took.at want (read_part s taken want)
 
 -- ---- what is claimed of every life
 
@@ -110,7 +110,7 @@ PartsAreFound = (want : Want) (x : StoredPart) (parts : List StoredPart)
 -- What a cub asks of a disk is taken back, and what a cub keeps was read by a disk that it asked.
 pub record AreRead (p : Params) (lives : Lives) (disk_at : ℕ → DiskState) : Type 0 where
   pub back : (c disk x b : ℕ) (want : Want)
-      → AskedDisk p lives c disk want x → HasTicked p lives c b → x + 2 * p.delay ≤ b
+      → AskedDisk p lives c disk want x → CameToTick p lives c b → x + 2 * p.delay ≤ b
       → IsTakenBack p lives (disk_at disk) c want x
   pub from : (c i : ℕ) (x : StoredPart)
       → c < p.cubs → i ≤ lives.count c → In x (store_at p c (lives.input c) i).parts
@@ -119,5 +119,5 @@ pub record AreRead (p : Params) (lives : Lives) (disk_at : ℕ → DiskState) : 
 -- So it is in all lives of cubs whose disks answer.
 abbrev pub PartsAreRead : Type 0
 PartsAreRead = (p : Params) (lives : Lives) (disk_at : ℕ → DiskState)
-    → AreAllFormed p lives → DisksAnswer p lives disk_at (HasTicked p lives)
+    → AreAllFormed p lives → DisksAnswer p lives disk_at (CameToTick p lives)
     → AreRead p lives disk_at

@@ -25,7 +25,8 @@ pub fn parts_are_read()
     ensures { PartsAreRead }
 {}
 
-/// Each read that a cub asks of a disk is for a record, and a read is asked for each record whose time has come.
+/// Each read that a cub asks of a disk is for a record, and a read is asked for each record whose time has come, unless
+/// the cub's death cuts the tick off.
 pub fn asks_are_for_records()
     ensures { AsksAreForRecords }
 {}

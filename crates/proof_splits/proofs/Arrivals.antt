@@ -1,5 +1,5 @@
 -- Mirror states and kills on their way: whence they come, that they arrive, and that none overtakes another on a link.
-use Rattle.std.proofs.Common.{◌≡◌, ℕ, ◌+◌, ◌-◌, ◌%◌, ◌<◌, ◌≤◌, max, true, false, Option, refl, sym, ap, subst, ◌∙◌, arith, ⊎_elim, inl, inr}
+use Rattle.std.proofs.Common.{◌≡◌, ℕ, ◌+◌, ◌-◌, ◌%◌, ◌<◌, ◌≤◌, max, true, false, Option, None, refl, sym, ap, subst, ◌∙◌, arith, ⊎_elim, inl, inr}
 use Rattle.std.specs.Prelude.{◌⊎◌}
 use Rattle.std.proofs.lemmas.Nat.{mod_below}
 use Rattle.std.proofs.lemmas.Bool.{cases_Bool, cases_lt}
@@ -34,11 +34,12 @@ use Rattle.cub_changes.specs.Laws.{HasCause}
 use Rattle.cub_changes.specs.Outputs.{Output, output, ComesOf}
 use Rattle.cub_changes.specs.Outputs.Output.{KillSent}
 use Rattle.cub_changes.proofs.Causing.{have_causes}
-use Rattle.proof_lives.specs.Lives.{Lives, AreLives, store_at, deed_of, beat_at}
+use Rattle.proof_lives.specs.Lives.{Lives, AreLives, cut_in, store_at, deed_of, beat_at}
 use Rattle.run_facts.specs.Events.{is_tick_input}
 use Rattle.lists.specs.Elements.{In}
-use Rattle.proof_lives.specs.Facts.{TickedAt, DidAt, ReachedAt}
+use Rattle.proof_lives.specs.Facts.{TickAt, DidAt, ReachedAt}
 use Rattle.proof_lives.proofs.Carrying.{steps_made}
+use Rattle.proof_lives.proofs.Cuts.{was_put_out, whole_before}
 use Rattle.proof_lives.proofs.Keeping.{held_stopped}
 use Rattle.lists.proofs.Each.{all_in}
 use Rattle.proof_lives.proofs.Order.{beats_rise}
@@ -138,7 +139,7 @@ kill_stops p c (Tick stamp) h link v s n i =
 
 module _ (p : Params) (plan : IsPlan p) (lives : Lives) (are : AreLives p lives) (formed : AreAllFormed p lives)
     (beyond : Beyond)
-    (came : (c b l : ℕ) → TickedAt p lives c b l → beyond.Came c b) (told : CubsAreTold p lives beyond.Came) where
+    (came : (c b l : ℕ) → TickAt p lives c b l → beyond.Came c b) (told : CubsAreTold p lives beyond.Came) where
   life : (c : ℕ) → c < p.cubs → KeepsPieces p c (lives.count c) (lives.input c)
   life c small = keeps_pieces p c plan.ranges.pieces.0 (lives.count c) (lives.input c) (formed c small)
 
@@ -179,7 +180,8 @@ module _ (p : Params) (plan : IsPlan p) (lives : Lives) (are : AreLives p lives)
       let a = told.kills c t.at (made_stamp y t.reading) t.link w.instance w.slot n t.small t.done t.is in
       let d = a.sent.sent in
       let s = kill_stops p a.from (lives.input a.from d.at)
-      (store_at p a.from (lives.input a.from) d.at) t.link w.instance w.slot n d.did in
+      (store_at p a.from (lives.input a.from) d.at) t.link w.instance w.slot n
+      (was_put_out p lives a.from d.at (out.Send t.link (msg.Kill w.instance w.slot n)) d.did) in
       let stop : IsStop p a.from (lives.input a.from) d.at v =
       record { stamp = s.stamp; link = s.link; instance = w.instance; tag = s.tag; is = s.is; same = w.same } in
       record {
@@ -190,11 +192,12 @@ module _ (p : Params) (plan : IsPlan p) (lives : Lives) (are : AreLives p lives)
         earlier = a.sent.later;
       }
 
-  -- a piece record entered as the facts say
-  arises : (c i : ℕ) (k : Input Msg) (x : PieceState) → (small : c < p.cubs) → i < lives.count c → lives.input c i ≡ k
+  -- a piece record entered at a whole input as the facts say
+  arises : (c i : ℕ) (k : Input Msg) (x : PieceState) → (small : c < p.cubs) → i < lives.count c
+      → cut_in lives c i ≡ None → lives.input c i ≡ k
       → Enters p c k (store_at p c (lives.input c) i) x → is_in x (store_at p c (lives.input c) i).pieces.items ≡ false
       → Arises (facts_by p lives beyond) (pieces_by p lives) c x.tenancy x.visit x.piece (stamp_of k).beat
-  arises c i (Take stamp link m) x small low e w new = inr (inr (record {
+  arises c i (Take stamp link m) x small low whole e w new = inr (inr (record {
     small = small;
     at = i;
     done = low;
@@ -206,7 +209,7 @@ module _ (p : Params) (plan : IsPlan p) (lives : Lives) (are : AreLives p lives)
     here = w.here;
     new = new;
   }))
-  arises c i (Tick stamp) x small low e w new = inr (inl (
+  arises c i (Tick stamp) x small low whole e w new = inr (inl (
     w.first,
     record {
       reading = stamp.reading;
@@ -215,6 +218,8 @@ module _ (p : Params) (plan : IsPlan p) (lives : Lives) (are : AreLives p lives)
       line = w.line;
       there = w.there;
       must = w.must;
+      number = 0;
+      goes = inl whole;
     },
   ))
 
@@ -279,7 +284,7 @@ module _ (p : Params) (plan : IsPlan p) (lives : Lives) (are : AreLives p lives)
           record {
             beat = beat_at inputs d.at;
             arises = arises c d.at
-                (inputs d.at) y small low refl d.enters d.new;
+                (inputs d.at) y small low (whole_before lives c d.at g.at before g.done) refl d.enters d.new;
             by = omega arith;
             life = same_life p lives beyond c (beat_at inputs d.at) (x + p.delay);
           })
@@ -411,7 +416,7 @@ module _ (p : Params) (plan : IsPlan p) (lives : Lives) (are : AreLives p lives)
       w.sends.serves))
       uses
     where
-      of_use : {l : ℕ} → (tick : TickedAt p lives c b l)
+      of_use : {l : ℕ} → (tick : TickAt p lives c b l)
           → In (piece t n j) (store_at p c (lives.input c) tick.at).pieces.items
           ⊎ IsSplitOff p c (made_stamp b l) (store_at p c (lives.input c) tick.at) (piece t n j)
           → MirrorSince (pieces_by p lives) a k t n j y

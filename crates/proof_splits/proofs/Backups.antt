@@ -1,5 +1,5 @@
 -- The records that a cub splits: each is of this cub, and entered when its instance was held no longer.
-use Rattle.std.proofs.Common.{◌≡◌, ℕ, ◌+◌, ◌*◌, ◌<◌, ◌≤◌, nat_le, List, Bool, true, not, refl, sym, ap, subst, ◌∙◌, arith, ⊎_elim}
+use Rattle.std.proofs.Common.{◌≡◌, ℕ, ◌+◌, ◌*◌, ◌<◌, ◌≤◌, nat_le, List, Bool, true, not, refl, sym, ap, subst, arith, ⊎_elim}
 use Rattle.std.specs.Prelude.{◌&&◌}
 use Rattle.std.proofs.lemmas.Bool.{and_parts, leb-true}
 use Rattle.tiger_base.specs.declared.number.Stamp.{Stamp}
@@ -13,24 +13,26 @@ use Rattle.slot_plan.specs.declared.params.Params.{Params}
 use Rattle.slot_plan.specs.Conditions.{IsPlan}
 use Rattle.slot_plan.specs.Times.{time_of, due}
 use Rattle.partial_view.specs.declared.line.Line.{Line}
+use Rattle.node_kit.specs.declared.outbox.Out.{Out}
 use Rattle.node_kit.specs.Steps.{Input, stamp_of}
 use Rattle.node_kit.specs.Steps.Input.{Tick}
 use Rattle.cub_rules.specs.declared.store.Store.{Store}
 use Rattle.cub_rules.specs.State.{IsLineOf, IsRecordOf, IsStoreOf}
 use Rattle.cub_rules.specs.Ticks.{releasing, believing, must_split}
 use Rattle.cub_changes.proofs.Rules.{inserting_right, releasing_right, believing_right}
-use Rattle.proof_lives.specs.Lives.{Lives, AreLives, store_at, outs_at, beat_at}
+use Rattle.proof_lives.specs.Lives.{Lives, AreLives, store_at, outs_at, outs_in, beat_at}
 use Rattle.run_facts.specs.Events.{is_tick_input}
 use Rattle.lists.specs.Elements.{In}
-use Rattle.proof_lives.specs.Facts.{TickedAt}
+use Rattle.proof_lives.specs.Facts.{TickAt}
 use Rattle.proof_lives.proofs.Lines.{kept_at}
 use Rattle.lists.proofs.Each.{all_in}
 use Rattle.proof_lives.proofs.Moves.{taken_out}
 use Rattle.proof_lives.proofs.Order.{beats_rise}
+use Rattle.proof_lives.proofs.Beside.{outs_of_insertion}
+use Rattle.proof_lives.proofs.Cuts.{was_put_out, whole_before, goes_whole}
 use Rattle.proof_lives.proofs.Inputs.{entered_at}
-use Rattle.proof_lives.proofs.States.{from_tick}
 use Rattle.proof_lives.proofs.TakingOver.{inserting_puts}
-use Rattle.proof_lives.proofs.Ticking.{before_inserting, same_before, inserted_out}
+use Rattle.proof_lives.proofs.Ticking.{before_inserting, same_before}
 use Rattle.proof_lives.specs.HoldsHere.{AreAllFormed}
 use Rattle.proof_lives.proofs.Begun.{IsStop}
 use Rattle.proof_lives.proofs.Reaching.{stop_by_tick, let_go}
@@ -41,6 +43,7 @@ use Rattle.proof_pieces.specs.PieceLaws.{IsSplit}
 use Rattle.proof_lives.specs.FactsBy.{Beyond, facts_by}
 use Rattle.proof_facts.specs.Pieces.{before_splitting, stamp_of as made_stamp, SplitAt}
 use Rattle.proof_splits.proofs.Beliefs.{believed_by}
+use Rattle.proof_splits.proofs.MirrorStates.{goes_with_split}
 
 -- ---- what stands when a cub splits
 
@@ -48,7 +51,7 @@ use Rattle.proof_splits.proofs.Beliefs.{believed_by}
 record HasEntered (p : Params) (lives : Lives) (c i : ℕ) (z : Rec) : Type 0 where
   at : ℕ
   by : at ≤ i
-  taken : In (taken_out z) (outs_at p c (lives.input c) at)
+  taken : In (taken_out z) (outs_in p lives c at)
   behind : (j : ℕ) → j < i → IsStop p c (lives.input c) j z.tenancy.instance.0 → j < at
 
 module _ (p : Params) (plan : IsPlan p) (lives : Lives) (are : AreLives p lives) (formed : AreAllFormed p lives) where
@@ -74,8 +77,9 @@ module _ (p : Params) (plan : IsPlan p) (lives : Lives) (are : AreLives p lives)
 
   line_entered : (c i : ℕ) (stamp : Stamp) (x : Line) → (small : c < p.cubs) → i < lives.count c
       → lives.input c i ≡ Tick stamp
+      → ((q : Out Msg) → In q (outs_of_insertion p c stamp (store_at p c (lives.input c) i)) → In q (outs_in p lives c i))
       → In x (before_splitting p c stamp (store_at p c (lives.input c) i)).view.lines → HasEntered p lives c i x.rec
-  line_entered c i stamp x small low tick there =
+  line_entered c i stamp x small low tick goes there =
       let inputs : ℕ → Input Msg = lives.input c in
       let h : Store = store_at p c inputs i in
       ⊎_elim
@@ -86,14 +90,14 @@ module _ (p : Params) (plan : IsPlan p) (lives : Lives) (are : AreLives p lives)
       record {
         at = d.at;
         by = omega arith;
-        taken = subst (λ (q : Rec). In (taken_out q) (outs_at p c inputs d.at)) (sym w.same) d.taken;
+        taken = goes_whole p lives c d.at (taken_out x.rec) (whole_before lives c d.at i b low)
+            (subst (λ (q : Rec). In (taken_out q) (outs_at p c inputs d.at)) (sym w.same) d.taken);
         behind = λ j l s. d.since j l (subst (λ (q : Rec). IsStop p c inputs j q.tenancy.instance.0) w.same s);
       })
       (λ w. record {
         at = i;
         by = omega arith;
-        taken = from_tick p c inputs i stamp (taken_out x.rec) tick
-            (inserted_out p c stamp h (taken_out x.rec) w.taken);
+        taken = goes (taken_out x.rec) w.taken;
         behind = λ j l s. l;
       })
       ((inserting_puts p c stamp plan small (before_inserting p c stamp h)).moves.back x there)
@@ -111,9 +115,9 @@ module _ (p : Params) (plan : IsPlan p) (lives : Lives) (are : AreLives p lives)
     unfolding time_of
     way_long = refl
 
-    module _ (came : (c b l : ℕ) → TickedAt p lives c b l → beyond.Came c b) where
+    module _ (came : (c b l : ℕ) → TickAt p lives c b l → beyond.Came c b) where
       -- a tick of a life
-      pub is_tick : (c b l : ℕ) → TickedAt p lives c b l → IsTick p (facts_by p lives beyond) c b l
+      pub is_tick : (c b l : ℕ) → TickAt p lives c b l → IsTick p (facts_by p lives beyond) c b l
       is_tick c b l w =
           let eb : beat_at (lives.input c) w.at ≡ b = ap (λ (k : Input Msg). (stamp_of k).beat) w.is in
           let er : (stamp_of (lives.input c w.at)).reading ≡ l = ap (λ (k : Input Msg). (stamp_of k).reading) w.is in
@@ -132,11 +136,11 @@ module _ (p : Params) (plan : IsPlan p) (lives : Lives) (are : AreLives p lives)
           let inputs : ℕ → Input Msg = lives.input c in
           let stamp : Stamp = made_stamp b w.reading in
           let eb : beat_at inputs i ≡ b = ap (λ (k : Input Msg). (stamp_of k).beat) w.tick.is in
-          let d = line_entered c i stamp w.line small w.tick.done w.tick.is w.there.0 in
+          let d = line_entered c i stamp w.line small w.tick.done w.tick.is (goes_with_split p lives c w) w.there.0 in
           let by = d.by in
           let low : d.at < lives.count c = (let e = w.tick.done in omega arith) in
           let rise = beats_rise p (lives.count c) inputs (are c small) d.at i by w.tick.done in
-          let taken = subst (λ (q : Rec). In (taken_out q) (outs_at p c inputs d.at)) w.there.1 d.taken in
+          let taken = subst (λ (q : Rec). In (taken_out q) (outs_in p lives c d.at)) w.there.1 d.taken in
           let here = subst (λ (q : Rec). IsRecordOf p c q) w.there.1
           (line_here c i stamp w.line small w.tick.done w.tick.is w.there.0) in
           let soon = subst (λ (q : Rec). w.reading + p.read_lead + p.skew + p.delay * p.beat + p.beat ≤ due p
@@ -155,6 +159,7 @@ module _ (p : Params) (plan : IsPlan p) (lives : Lives) (are : AreLives p lives)
                 let s = stop_by_tick p lives are c i t.instance.0 y w.tick.done (ap is_tick_input w.tick.is) g (omega arith) in
                 let stop = subst (λ (q : Rec). IsStop p c inputs s.at q.tenancy.instance.0) (sym w.there.1) s.stop in
                 let behind = d.behind s.at s.before stop in
-                let_go p plan lives are formed beyond c d.at s.at (backup_of t n) small low behind taken s.stop;
+                let_go p plan lives are formed beyond c d.at s.at (backup_of t n) small low behind
+                (was_put_out p lives c d.at (taken_out (backup_of t n)) taken) s.stop;
             soon = omega arith;
           }

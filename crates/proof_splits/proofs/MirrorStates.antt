@@ -1,5 +1,5 @@
 -- Mirror states go out at a split alone, one for each piece behind the first, to as many cubs ahead.
-use Rattle.std.proofs.Common.{◌≡◌, ℕ, zero, suc, ◌+◌, ◌-◌, ◌*◌, ◌<◌, ◌≤◌, max, List, [], map, drop, true, refl, sym, ap, subst, ◌∙◌, arith, ⊎_elim, inl, inr, eq-or-lt_of_le}
+use Rattle.std.proofs.Common.{◌≡◌, ℕ, zero, suc, ◌+◌, ◌-◌, ◌*◌, ◌<◌, ◌≤◌, max, List, [], map, drop, true, Option, None, refl, sym, ap, subst, ◌∙◌, arith, ⊎_elim, inl, inr, eq-or-lt_of_le}
 use Rattle.std.specs.List.{flat_map, range_with_len, AllByRecursion}
 use Rattle.tiger_base.specs.declared.number.LinkNo.{LinkNo}
 use Rattle.tiger_base.specs.declared.number.Stamp.{Stamp}
@@ -33,13 +33,17 @@ use Rattle.cub_changes.proofs.Messages.{taking_by}
 use Rattle.cub_changes.proofs.Outputs.{forms_of, Puts, puts_closed}
 use Rattle.cub_changes.proofs.Puts.{inserting_by}
 use Rattle.cub_changes.proofs.Ticks.{end_steps, IsOfEnd, splitting_from, forwarding_from, end_from, releasing_by, believing_by, tick_chain}
-use Rattle.proof_lives.specs.Lives.{Lives, store_at, deed_of}
+use Rattle.proof_lives.specs.Lives.{Lives, cut_in, cut_outs, store_at, deed_of, outs_in}
 use Rattle.lists.specs.Elements.{In}
 use Rattle.proof_lives.specs.Facts.{DidAt}
 use Rattle.lists.proofs.Elements.{chosen, in_left, in_right, in_map, from_map, in_flat_map}
 use Rattle.lists.proofs.Each.{all_in}
 use Rattle.proof_facts.specs.Pieces.{before_splitting, piece, stamp_of as made_stamp, SplitAt, MirrorSentAt}
+use Rattle.proof_lives.proofs.Beside.{outs_of_release, outs_of_belief, outs_of_insertion, inserted_go, tick_outs}
+use Rattle.proof_lives.proofs.Cuts.{was_put_out, goes_whole}
 use Rattle.proof_lives.proofs.HoldLaws.{no_both}
+use Rattle.proof_lives.proofs.States.{from_tick}
+use Rattle.proof_lives.proofs.Ticking.{inserted_out}
 use Rattle.proof_splits.proofs.PieceMoves.{backup_line}
 
 -- ---- the pieces of a record behind the first
@@ -217,6 +221,25 @@ module _ (p : Params) (c : ℕ) (stamp : Stamp) where
       (in_right o (believing p c stamp h1).outs _
       (in_right o (inserting p c stamp h2).outs _ (in_left o (splitting p c stamp h3).outs _ i)))
 
+  -- One that goes out goes out behind all that insertion puts out.
+  behind_insertion : (cut : Option ℕ) (h : Store) (link : LinkNo) (x : PieceState)
+      → In (out.Send link (msg.MirrorState x)) (cut_outs cut (ticking p c stamp h).outs)
+      → (q : Out Msg) → In q (outs_of_insertion p c stamp h) → In q (cut_outs cut (ticking p c stamp h).outs)
+  behind_insertion cut h link x i =
+      let o : Out Msg = out.Send link (msg.MirrorState x) in
+      let X : LinkNo → PieceState → Type 0 = λ l y. ⊥ in
+      let P : Store → Deed Msg Store → Type 0 = Puts p c stamp (OfMirror X) in
+      let closed = puts_closed p c stamp (OfMirror X) in
+      let h1 : Store = (releasing p stamp h).state in
+      let h2 : Store = (believing p c stamp h1).state in
+      inserted_go p c stamp h cut o i
+      (all_in (OfMirror X) o (outs_of_release p c stamp h)
+      (releasing_by P closed p c stamp h (unsplit p c stamp X OnRelease h (λ s. s))))
+      (all_in (OfMirror X) o (outs_of_belief p c stamp h)
+      (believing_by P closed p c stamp h1 (unsplit p c stamp X OnDeadman h1 (λ s. s))))
+      (all_in (OfMirror X) o (outs_of_insertion p c stamp h)
+      (inserting_by P closed p c stamp h2 (unsplit p c stamp X OnInsertion h2 (λ s. s))))
+
 -- ---- of lives
 
 -- A mirror state is of a split of its beat, of one of the plan's pieces behind the first, and goes as many steps ahead.
@@ -230,15 +253,17 @@ module _ (p : Params) (lives : Lives) (a : ℕ) where
   of_input : (i : ℕ) → i < lives.count a → a < p.cubs → (k : Input Msg) → lives.input a i ≡ k
       → (link : LinkNo) (x : PieceState)
       → In (out.Send link (msg.MirrorState x)) (deed_of p a k (store_at p a (lives.input a) i)).outs
+      → In (out.Send link (msg.MirrorState x)) (outs_in p lives a i)
       → IsOfSplit p lives a link x (stamp_of k).beat
-  of_input i low small (Take stamp way m) e link x w =
+  of_input i low small (Take stamp way m) e link x w goes =
       absurd (all_in (OfMirror (λ l y. ⊥)) (out.Send link (msg.MirrorState x)) _
       (taking_sent p a stamp (λ l y. ⊥) way m (store_at p a (lives.input a) i)) w)
-  of_input i low small (Tick stamp) e link x w =
+  of_input i low small (Tick stamp) e link x w goes =
       let s = tick_sends p a stamp (store_at p a (lives.input a) i) link x w in
       let number : x.piece ≡ s.number = ap (λ (z : PieceState). z.piece) s.is in
       let least = s.low in
       let most = s.high in
+      let steps = s.way ∙ ap (λ (n : ℕ). way_ahead p a (n - 1)) (sym number) in
       record {
         split = record {
           reading = stamp.reading;
@@ -251,10 +276,12 @@ module _ (p : Params) (lives : Lives) (a : ℕ) where
                 ∙ ap (λ (z : PieceState). backup_of z.tenancy z.visit) (sym s.is),
           );
           must = s.must;
+          number = x.piece;
+          goes = inr (subst (λ (l : LinkNo). In (out.Send l (msg.MirrorState x)) (outs_in p lives a i)) steps goes);
         };
         low = omega arith;
         high = omega arith;
-        way = s.way ∙ ap (λ (n : ℕ). way_ahead p a (n - 1)) (sym number);
+        way = steps;
       }
 
   -- each mirror state that goes out is of a split
@@ -262,12 +289,13 @@ module _ (p : Params) (lives : Lives) (a : ℕ) where
       → IsOfSplit p lives a link x b
   of_split {link} {x} {b} d =
       subst (λ (n : ℕ). IsOfSplit p lives a link x n) d.in_beat
-      (of_input d.at d.done d.small (lives.input a d.at) refl link x d.did)
+      (of_input d.at d.done d.small (lives.input a d.at) refl link x
+      (was_put_out p lives a d.at (out.Send link (msg.MirrorState x)) d.did) d.did)
 
-  -- who splits a visit sends all pieces behind the first
-  pub sends_all : {t : Tenancy} {n b : ℕ} (k : ℕ) → SplitAt p lives a t n b → 1 ≤ k → k < p.pieces
-      → MirrorSentAt p lives a k t n (k + 1) b
-  sends_all {t} {n} {b} k s low high =
+  -- who splits a visit in a whole tick sends all pieces behind the first
+  pub sends_all : {t : Tenancy} {n b : ℕ} (k : ℕ) → (s : SplitAt p lives a t n b) → cut_in lives a s.tick.at ≡ None
+      → 1 ≤ k → k < p.pieces → MirrorSentAt p lives a k t n (k + 1) b
+  sends_all {t} {n} {b} k s whole low high =
       let i : ℕ = s.tick.at in
       let h : Store = store_at p a (lives.input a) i in
       let stamp : Stamp = made_stamp b s.reading in
@@ -285,8 +313,26 @@ module _ (p : Params) (lives : Lives) (a : ℕ) where
           at = i;
           done = s.tick.done;
           in_beat = ap (λ (q : Input Msg). (stamp_of q).beat) s.tick.is;
-          did = subst (λ (q : Input Msg). In (out.Send (way_ahead p a k) (msg.MirrorState (piece t n (k + 1))))
+          did = goes_whole p lives a i (out.Send (way_ahead p a k) (msg.MirrorState (piece t n (k + 1)))) whole
+              (subst (λ (q : Input Msg). In (out.Send (way_ahead p a k) (msg.MirrorState (piece t n (k + 1))))
               (deed_of p a q h).outs) (sym s.tick.is)
-              (from_splitting p a stamp h (out.Send (way_ahead p a k) (msg.MirrorState (piece t n (k + 1)))) ahead);
+              (from_splitting p a stamp h (out.Send (way_ahead p a k) (msg.MirrorState (piece t n (k + 1)))) ahead));
         };
       }
+
+  -- All that insertion puts out in the tick of a split goes out.
+  pub goes_with_split : {t : Tenancy} {n b : ℕ} (s : SplitAt p lives a t n b) (q : Out Msg)
+      → In q (outs_of_insertion p a (made_stamp b s.reading) (store_at p a (lives.input a) s.tick.at))
+      → In q (outs_in p lives a s.tick.at)
+  goes_with_split {t} {n} {b} s q k =
+      let i : ℕ = s.tick.at in
+      let h : Store = store_at p a (lives.input a) i in
+      let stamp : Stamp = made_stamp b s.reading in
+      let o : Out Msg = sent_ahead p a (piece t n s.number) in
+      let all = tick_outs p lives a i stamp s.tick.is in
+      ⊎_elim
+      (λ whole. goes_whole p lives a i q whole (from_tick p a (lives.input a) i stamp q s.tick.is (inserted_out p a stamp h q k)))
+      (λ goes. subst (λ (os : List (Out Msg)). In q os) (sym all)
+      (behind_insertion p a stamp (cut_in lives a i) h _ (piece t n s.number)
+      (subst (λ (os : List (Out Msg)). In o os) all goes) q k))
+      s.goes

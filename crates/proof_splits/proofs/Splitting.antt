@@ -10,7 +10,10 @@ use Rattle.disk_core.specs.State.{DiskState}
 use Rattle.node_kit.specs.Steps.{Input, stamp_of}
 use Rattle.proof_lives.specs.Lives.{Lives, AreLives, beat_at}
 use Rattle.run_facts.specs.Events.{is_tick_input}
-use Rattle.proof_lives.specs.Facts.{TickedAt, ReachedAt}
+use Rattle.proof_lives.specs.Facts.{TickAt, ReachedAt}
+use Rattle.proof_lives.proofs.Beside.{whole_to, whole_tick}
+use Rattle.proof_lives.proofs.Cuts.{whole_before, whole_by_tick, goes_whole}
+use Rattle.proof_lives.proofs.Fitting.{Fits, alone_fits}
 use Rattle.proof_lives.proofs.Order.{beats_rise, behind}
 use Rattle.proof_lives.specs.HoldsHere.{AreAllFormed}
 use Rattle.proof_lives.proofs.HoldLaws.{reached_at}
@@ -30,11 +33,11 @@ use Rattle.proof_splits.proofs.Arrivals.{mirrors, mirrored, mirror_arrives, kill
 
 -- What a cub split before it was reached by a deschedule it has killed by then, or forgotten.
 kills : (p : Params) (lives : Lives) → IsPlan p → AreLives p lives → AreAllFormed p lives → (beyond : Beyond)
-    → {a : ℕ} {t : Tenancy} {n x y : ℕ} → SplitAt p lives a t n x
-    → ReachedAt p lives a t.instance.0 y → x < y
+    → {a : ℕ} {t : Tenancy} {n x y b l : ℕ} → SplitAt p lives a t n x
+    → ReachedAt p lives a t.instance.0 y → x < y → TickAt p lives a b l → y ≤ b
     → IsKilled p (facts_by p lives beyond) (pieces_by p lives) a t n x y
     ⊎ IsForgotten p (facts_by p lives beyond) a t n y
-kills p lives plan are formed beyond {a} {t} {n} {x} {y} w g less =
+kills p lives plan are formed beyond {a} {t} {n} {x} {y} {b} {l} w g less tick le =
     let small : a < p.cubs = w.tick.small in
     let count : ℕ = lives.count a in
     let inputs : ℕ → Input Msg = lives.input a in
@@ -46,6 +49,9 @@ kills p lives plan are formed beyond {a} {t} {n} {x} {y} w g less =
     (λ (l : i < j). l)
     (λ (q : j ≤ i). let rise = beats_rise p count inputs (are a small) j i q w.tick.done in absurd (omega arith))
     (cases_lt i j) in
+    let zb : beat_at inputs tick.at ≡ b = ap (λ (k : Input Msg). (stamp_of k).beat) tick.is in
+    let whole = whole_by_tick p lives are a j tick.at small g.took.done tick.done (ap is_tick_input g.took.is)
+    (ap is_tick_input tick.is) (omega arith) in
     let stop : IsStop p a inputs j t.instance.0 =
     record {
       stamp = made_stamp y g.took.reading;
@@ -71,8 +77,13 @@ kills p lives plan are formed beyond {a} {t} {n} {x} {y} w g less =
       by = omega arith;
       kills = λ k some few. record {
         some = some;
-        did =
-            record { small = small; at = o.at; done = done; in_beat = refl; did = o.kills k some few };
+        did = record {
+          small = small;
+          at = o.at;
+          done = done;
+          in_beat = refl;
+          did = goes_whole p lives a o.at _ (whole_to lives a o.at j o.by g.took.done whole) (o.kills k some few);
+        };
       };
     }))
     (λ o.
@@ -84,33 +95,33 @@ kills p lives plan are formed beyond {a} {t} {n} {x} {y} w g less =
     inr (record {
       beat = o.stamp.beat;
       reading = o.stamp.reading;
-      ticked = record { small = small; at = o.at; done = done; is = o.is };
+      ticked = record { small = small; at = o.at; done = done; is = o.is; whole = whole_before lives a o.at j o.before g.took.done };
       before = omega arith;
       past = o.past;
     }))
     (killed_by p a count inputs (formed a small) (t.instance, t.slot, n) i j g.took.done
     (split_remembered p lives w) later stop)
 
--- Whatever is known beyond the cubs' lives, if cubs come to the ticks of their lives and are told what other cubs send.
+-- Whatever is known beyond the cubs' lives, if it fits them and cubs are told what other cubs send.
 pub split_laws : (p : Params) (lives : Lives) → IsPlan p → AreLives p lives → AreAllFormed p lives → (beyond : Beyond)
-    → ((c b l : ℕ) → TickedAt p lives c b l → beyond.Came c b) → CubsAreTold p lives beyond.Came
+    → Fits p lives beyond → CubsAreTold p lives beyond.Came
     → (disk_at : ℕ → DiskState)
     → SplitLaws p (facts_by p lives beyond) (pieces_by p lives) (blocks_by p lives disk_at)
-split_laws p lives plan are formed beyond came told disk_at = record {
-  splits = λ w. splits p plan lives are formed beyond came w;
-  mirrors = λ w. mirrors p plan lives are formed beyond came told w;
-  mirrored = λ w. mirrored p plan lives are formed beyond came told w;
-  kills = λ w g less up le. kills p lives plan are formed beyond w g less;
-  killed = λ w to number uses late. killed p plan lives are formed beyond came told w to number uses late;
+split_laws p lives plan are formed beyond fits told disk_at = record {
+  splits = λ w. splits p plan lives are formed beyond fits.came w;
+  mirrors = λ w. mirrors p plan lives are formed beyond fits.came told w;
+  mirrored = λ w. mirrored p plan lives are formed beyond fits.came told w;
+  kills = λ {a} {t} {n} {x} {y} {b} w g less up le. kills p lives plan are formed beyond w g less (fits.ticks a b up).tick le;
+  killed = λ w to number uses late. killed p plan lives are formed beyond fits.came told w to number uses late;
   split_due = λ believed entered next tick time. split_due p plan lives are formed beyond believed entered next tick
       time;
-  mirrors_due = λ k w tick low high. sends_all p lives _ k w low high;
-  mirror_arrives = λ d b w to here up late. mirror_arrives p plan lives are formed beyond came told d b w to here up
+  mirrors_due = λ k w tick low high. sends_all p lives _ k w (whole_tick p lives are w.tick tick) low high;
+  mirror_arrives = λ d b w to here up late. mirror_arrives p plan lives are formed beyond fits.came told d b w to here up
       late;
-  dropped = λ w. dropped p plan lives are formed beyond came told w;
+  dropped = λ w. dropped p plan lives are formed beyond fits.came told w;
 }
 
 -- what is claimed of cubs alone
 pub split_rightly : CubsSplitRightly
 split_rightly p lives plan are formed told disk_at =
-    split_laws p lives plan are formed (cubs_alone p lives) (λ c b l w. record { reading = l; ticked = w }) told disk_at
+    split_laws p lives plan are formed (cubs_alone p lives) (alone_fits p lives) told disk_at

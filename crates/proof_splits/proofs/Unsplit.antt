@@ -1,5 +1,5 @@
 -- A backup record that is not yet split: it stands unsplit from its entry on until it is split, cut off, or due.
-use Rattle.std.proofs.Common.{◌≡◌, ℕ, suc, ◌+◌, ◌*◌, ◌<◌, ◌≤◌, List, map, filter, Bool, true, false, not, is_some, refl, sym, ap, subst, ◌∙◌, arith, ⊎_elim, inl, inr, eq-or-lt_of_le}
+use Rattle.std.proofs.Common.{◌≡◌, ℕ, suc, ◌+◌, ◌*◌, ◌<◌, ◌≤◌, List, map, filter, Bool, true, false, not, is_some, None, refl, sym, ap, subst, ◌∙◌, arith, ⊎_elim, inl, inr, eq-or-lt_of_le}
 use Rattle.std.specs.Prelude.{◌⊎◌}
 use Rattle.std.specs.List.{flat_map}
 use Rattle.std.proofs.lemmas.Bool.{cases_Bool, and_parts, and_from, leb-true, le-leb, eqb-true}
@@ -45,13 +45,14 @@ use Rattle.cub_changes.proofs.Messages.{taking_by}
 use Rattle.cub_changes.proofs.Outputs.{forms_of}
 use Rattle.cub_changes.proofs.Puts.{inserting_by}
 use Rattle.cub_changes.proofs.Ticks.{believing_by}
-use Rattle.proof_lives.specs.Lives.{Lives, AreLives, store_at, deed_of, outs_at, beat_at}
+use Rattle.proof_lives.specs.Lives.{Lives, AreLives, cut_in, store_at, deed_of, outs_at, beat_at}
 use Rattle.run_facts.specs.Events.{is_tick_input}
 use Rattle.lists.specs.Elements.{In}
 use Rattle.proof_lives.specs.Facts.{TickedAt, DidAt}
 use Rattle.lists.proofs.Elements.{chosen, in_cases, in_map, in_filter}
 use Rattle.lists.proofs.Each.{all_in}
 use Rattle.proof_lives.proofs.Moves.{taken_out, in_with_line, stays_with_line}
+use Rattle.proof_lives.proofs.Cuts.{was_put_out, whole_before}
 use Rattle.proof_lives.proofs.Order.{beats_rise, not_behind}
 use Rattle.proof_lives.proofs.States.{took_inserted}
 use Rattle.proof_lives.proofs.Steps.{same_with_pieces}
@@ -398,10 +399,10 @@ module _ (p : Params) (plan : IsPlan p) (lives : Lives) (are : AreLives p lives)
       (λ q. inr (record { at = e; from = omega arith; before = l; is = q }))
       (one_input e (inputs e) (inr t))
 
-  of_split : (i : ℕ) (stamp : Stamp) → i < lives.count c → inputs i ≡ Tick stamp
+  of_split : (i : ℕ) (stamp : Stamp) → i < lives.count c → cut_in lives c i ≡ None → inputs i ≡ Tick stamp
       → IsSplitNow p c stamp (store_at p c inputs i) r
       → SplitAt p lives c r.tenancy r.visit (beat_at inputs i)
-  of_split i stamp low e s =
+  of_split i stamp low whole e s =
       let eb : beat_at inputs i ≡ stamp.beat = ap (λ (k : Input Msg). (stamp_of k).beat) e in
       let split : SplitAt p lives c r.tenancy r.visit stamp.beat = record {
         reading = stamp.reading;
@@ -410,6 +411,8 @@ module _ (p : Params) (plan : IsPlan p) (lives : Lives) (are : AreLives p lives)
         line = s.line;
         there = (s.there, backup_line p stamp s.line s.must ∙ ap (λ (z : Rec). backup_of z.tenancy z.visit) s.is);
         must = s.must;
+        number = 0;
+        goes = inl whole;
       } in
       subst (λ (n : ℕ). SplitAt p lives c r.tenancy r.visit n) (sym eb) split
 
@@ -428,22 +431,23 @@ module _ (p : Params) (plan : IsPlan p) (lives : Lives) (are : AreLives p lives)
     })
     of_cut i stamp link other low e le cut = absurd cut
 
-    of_end : (i : ℕ) (k : Input Msg) → i < lives.count c → inputs i ≡ k → beat_at inputs i ≤ b
+    of_end : (i : ℕ) (k : Input Msg) → i < lives.count c → cut_in lives c i ≡ None → inputs i ≡ k → beat_at inputs i ≤ b
         → (stamp_of k).reading < due p r.tenancy.slot.0 r.visit → Ends k i → Wanted
-    of_end i (Take stamp link m) low e le early ends = of_cut i stamp link m low e le ends
-    of_end i (Tick stamp) low e le early ends = ⊎_elim
-        (λ s. inl (record { beat = beat_at inputs i; split = of_split i stamp low e s; by = le }))
+    of_end i (Take stamp link m) low whole e le early ends = of_cut i stamp link m low e le ends
+    of_end i (Tick stamp) low whole e le early ends = ⊎_elim
+        (λ s. inl (record { beat = beat_at inputs i; split = of_split i stamp low whole e s; by = le }))
         (λ d. absurd (omega arith))
         ends
 
     -- a backup record that stands unsplit when a cub that believes splits is split, if it is due late enough
-    of_standing : (i : ℕ) (stamp : Stamp) → i < lives.count c → inputs i ≡ Tick stamp → beat_at inputs i ≡ b
+    of_standing : (i : ℕ) (stamp : Stamp) → i < lives.count c → cut_in lives c i ≡ None → inputs i ≡ Tick stamp
+        → beat_at inputs i ≡ b
         → c ≡ cub_of p (r.visit + 1)
         → (before_splitting p c stamp (store_at p c inputs i)).believes ≡ true
         → stamp.reading + p.read_lead + p.skew + p.delay * p.beat + p.beat ≤ due p r.tenancy.slot.0 r.visit
         → HasUnsplit r (before_splitting p c stamp (store_at p c inputs i)) → Wanted
     unfolding must_split
-    of_standing i stamp low e eb next believes time u =
+    of_standing i stamp low whole e eb next believes time u =
         let line = line_here p plan lives are formed c i stamp u.line small low e u.there in
         let kind : is_own u.line.rec.kind ≡ false = backup_kind u.line.rec line.here
         (next ∙ ap (λ (z : Rec). cub_of p (z.visit + 1)) (sym u.is)) in
@@ -451,7 +455,7 @@ module _ (p : Params) (plan : IsPlan p) (lives : Lives) (are : AreLives p lives)
         z.tenancy.slot.0 z.visit) (sym u.is) time in
         inl (record {
           beat = beat_at inputs i;
-          split = of_split i stamp low e (record {
+          split = of_split i stamp low whole e (record {
             believes = believes;
             line = u.line;
             there = u.there;
@@ -494,16 +498,17 @@ split_due p plan lives are formed beyond {c} {t} {n} {b} {l} believed entry next
         let eb : beat_at ins i ≡ b = ap (λ (k : Input Msg). (stamp_of k).beat) tick.is in
         let er : (stamp_of (ins i)).reading ≡ l = ap (λ (k : Input Msg). (stamp_of k).reading) tick.is in
         let in_beat = d.in_beat in
+        let was = was_put_out p lives c d.at (taken_out r) d.did in
         let by = entry.by in
         let first = not_behind p (lives.count c) ins (are c small) d.at i tick.done d.done (ap is_tick_input tick.is)
         (omega arith) in
         let believes = believes_then p lives are beyond c i b stamp tick.done tick.is eb believed in
-        let stands = of_standing p plan lives are formed c small r beyond b i stamp tick.done tick.is eb next believes
+        let stands = of_standing p plan lives are formed c small r beyond b i stamp tick.done tick.whole tick.is eb next believes
         time in
         ⊎_elim
         (λ (same : d.at ≡ i).
         let now = subst (λ (k : Input Msg). In (taken_out r) (deed_of p c k (store_at p c ins i)).outs) tick.is
-        (subst (λ (m : ℕ). In (taken_out r) (outs_at p c ins m)) same d.did) in
+        (subst (λ (m : ℕ). In (taken_out r) (outs_at p c ins m)) same was) in
         stands (to_splitting r p c stamp (store_at p c ins i)
         (inr (took_inserted p c plan small stamp (store_at p c ins i) r now))))
         (λ (before : d.at < i). ⊎_elim
@@ -514,7 +519,8 @@ split_due p plan lives are formed beyond {c} {t} {n} {b} {l} believed entry next
         let rise = beats_rise p (lives.count c) ins (are c small) z.at i (omega arith) low in
         let rising = (are c small).rising z.at i (omega arith) low in
         let beat = plan.ranges.beat.0 in
-        of_end p plan lives are formed c small r beyond b z.at (ins z.at) (omega arith) refl (omega arith)
+        of_end p plan lives are formed c small r beyond b z.at (ins z.at) (omega arith) (whole_before lives c z.at i zb low)
+        refl (omega arith)
         (omega arith) z.is)
-        (unsplit_since p plan lives are formed c small r d.at i before d.did))
+        (unsplit_since p plan lives are formed c small r d.at i before was))
         (eq-or-lt_of_le first)

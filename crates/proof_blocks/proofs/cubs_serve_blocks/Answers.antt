@@ -1,8 +1,8 @@
 use Rattle.proof_lives.specs.FactsBy.{cubs_alone}
+use Rattle.proof_lives.proofs.Fitting.{alone_fits}
 use Rattle.proof_blocks.proofs.Laws.{read_laws}
 use Rattle.proof_blocks.proofs.cubs_serve_blocks.Goals as goal
 
 pub returns : goal.returns
 returns c = λ p catalogue lives disk_at plan are formed disks.
-    read_laws p catalogue lives disk_at plan are formed (cubs_alone p lives)
-    (λ c b l tick. record { reading = l; ticked = tick }) disks
+    read_laws p catalogue lives disk_at plan are formed (cubs_alone p lives) (alone_fits p lives) disks

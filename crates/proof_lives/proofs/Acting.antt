@@ -1,0 +1,176 @@
+-- Which events of a node have an input, in a run in which nobody returns: all, or all but the last one, its death.
+use Rattle.std.proofs.Common.{◌≡◌, ℕ, zero, suc, ◌+◌, ◌-◌, ◌<◌, ◌≤◌, ◌==◌, Bool, true, false, None, cond, refl, sym, ap, ◌∙◌, arith, ⊎_elim, eq-or-lt_of_le}
+use Rattle.std.proofs.lemmas.Bool.{cases_Bool, eq-eqb, ne_eqb}
+use Rattle.tiger_base.specs.declared.number.Stamp.{Stamp}
+use Rattle.tiger_base.specs.declared.message.Msg.{Msg}
+use Rattle.tiger_base.specs.Notes.{noted}
+use Rattle.tiger_base.specs.Limits.{most_reading}
+use Rattle.slot_plan.specs.declared.params.Params.{Params}
+use Rattle.slot_plan.specs.Times.{time_of}
+use Rattle.node_kit.specs.Steps.{Deed, Input}
+use Rattle.run_facts.specs.Events.{NodeEvent, is_death, is_return, is_tick_input}
+use Rattle.run_facts.specs.Events.NodeEvent.{Does, Ends, Dies, Returns}
+use Rattle.run_facts.specs.Histories.{History, count_of, ticks, beat, reading}
+use Rattle.proof_lives.specs.Lives.{ticks_at, beat_at, reading_at, cut_in, IsLife}
+use Rattle.proof_lives.specs.Histories.{input_of, has_input, cut_of_event, acting, lives_of}
+use Rattle.proof_lives.specs.OneLife.{IsOneLifeRun}
+use Rattle.proof_lives.proofs.Carrying.{stamp_same, tick_same}
+
+-- an event without an input is a death or a return
+pub without_input : (e : NodeEvent Msg) → has_input e ≡ false → is_return e ≡ false → is_death e ≡ true
+without_input (Does i) f back = absurd (cc)
+without_input (Ends i sends) f back = refl
+without_input (Dies stamp) f back = refl
+without_input (Returns stamp) f back = absurd (cc)
+
+-- one in which a node lives on is whole
+pub alive_whole : (e : NodeEvent Msg) → is_death e ≡ false → cut_of_event e ≡ None
+alive_whole (Does i) f = refl
+alive_whole (Ends i sends) f = absurd (cc)
+alive_whole (Dies stamp) f = refl
+alive_whole (Returns stamp) f = refl
+
+-- of a node's events none but the last is a death, and none is a return
+module _ {S : Type 0} (h : History Msg S) (n : ℕ)
+    (here : (i : ℕ) → i < h.count n → is_return (h.event n i) ≡ false)
+    (ended : (i : ℕ) → i < h.count n → is_death (h.event n i) ≡ true → i + 1 ≡ h.count n) where
+  -- an event before the last one is no death
+  pub early : (i : ℕ) → i + 1 < h.count n → is_death (h.event n i) ≡ false
+  early i low = ⊎_elim
+      (λ (t : is_death (h.event n i) ≡ true). let z = ended i (omega arith) t in absurd (omega arith))
+      (λ (f : is_death (h.event n i) ≡ false). f)
+      (cases_Bool (is_death (h.event n i)))
+
+  -- so it has an input
+  pub early_input : (i : ℕ) → i + 1 < h.count n → has_input (h.event n i) ≡ true
+  early_input i low = ⊎_elim
+      (λ (t : has_input (h.event n i) ≡ true). t)
+      (λ (f : has_input (h.event n i) ≡ false).
+      let died = without_input (h.event n i) f (here i (omega arith)) in
+      let z : true ≡ false = sym died ∙ early i low in absurd (cc))
+      (cases_Bool (has_input (h.event n i)))
+
+  all_act : (i : ℕ) → i < h.count n → count_of has_input h n i ≡ i
+  all_act zero low = refl
+  all_act (suc i) low =
+      ap (λ (b : Bool). cond b (suc (count_of has_input h n i)) (count_of has_input h n i)) (early_input i (omega arith))
+      ∙ ap (λ (k : ℕ). suc k) (all_act i (omega arith))
+
+  -- an event that counts, and has an input
+  pub record Acts (i : ℕ) : Type 0 where
+    pub done : i < h.count n
+    pub input : has_input (h.event n i) ≡ true
+
+  counts : (k : ℕ) → h.count n ≡ k
+      → ((i : ℕ) → i < count_of has_input h n k → Acts i)
+      × ((i : ℕ) → i < k → has_input (h.event n i) ≡ true → i < count_of has_input h n k)
+  counts zero e = (λ i low. absurd (omega arith), λ i low acts. low)
+  counts (suc m) e =
+      let before : count_of has_input h n m ≡ m = all_act m (omega arith) in
+      ⊎_elim
+      (λ (t : has_input (h.event n m) ≡ true).
+      let all : count_of has_input h n (suc m) ≡ suc m =
+      ap (λ (b : Bool). cond b (suc (count_of has_input h n m)) (count_of has_input h n m)) t
+      ∙ ap (λ (k : ℕ). suc k) before in (
+        λ i low. record {
+          done = omega arith;
+          input = ⊎_elim
+              (λ (q : i ≡ m). ap (λ (j : ℕ). has_input (h.event n j)) q ∙ t)
+              (λ (l : i < m). early_input i (omega arith))
+              (eq-or-lt_of_le (let z : i ≤ m = omega arith in z));
+        },
+        λ i low acts. let z : i < count_of has_input h n (suc m) = omega arith in z,
+      ))
+      (λ (f : has_input (h.event n m) ≡ false).
+      let all : count_of has_input h n (suc m) ≡ m =
+      ap (λ (b : Bool). cond b (suc (count_of has_input h n m)) (count_of has_input h n m)) f ∙ before in (
+        λ i low. record { done = omega arith; input = early_input i (omega arith) },
+        λ i low acts. ⊎_elim
+            (λ (q : i ≡ m).
+            let z : true ≡ false = sym acts ∙ ap (λ (j : ℕ). has_input (h.event n j)) q ∙ f in absurd (cc))
+            (λ (l : i < m). let z : i < count_of has_input h n (suc m) = omega arith in z)
+            (eq-or-lt_of_le (let z : i ≤ m = omega arith in z)),
+      ))
+      (cases_Bool (has_input (h.event n m)))
+
+  -- the events with an input are the first ones, and are as many as count
+  pub acts_at : (i : ℕ) → i < acting h n → Acts i
+  acts_at i low = (counts (h.count n) refl).0 i low
+
+  pub among_acting : (i : ℕ) → i < h.count n → has_input (h.event n i) ≡ true → i < acting h n
+  among_acting i low acts = (counts (h.count n) refl).1 i low acts
+
+  -- an event that is no death is one of them
+  pub alive_acts : (i : ℕ) → i < h.count n → is_death (h.event n i) ≡ false → i < acting h n
+  alive_acts i low lives = ⊎_elim
+      (λ (t : has_input (h.event n i) ≡ true). among_acting i low t)
+      (λ (f : has_input (h.event n i) ≡ false).
+      let died = without_input (h.event n i) f (here i low) in
+      let z : true ≡ false = sym died ∙ lives in absurd (cc))
+      (cases_Bool (has_input (h.event n i)))
+
+  -- they are all, or all but the last
+  pub most_act : h.count n ≤ acting h n + 1
+  most_act = go (h.count n) refl
+    where
+      go : (k : ℕ) → h.count n ≡ k → k ≤ acting h n + 1
+      go zero e = omega arith
+      go (suc zero) e = omega arith
+      go (suc (suc m)) e = let z = among_acting m (omega arith) (early_input m (omega arith)) in omega arith
+
+  -- up to an event the ticks are those of the inputs
+  pub ticks_same : (i : ℕ) → i < h.count n → ticks h n i ≡ ticks_at (λ k. input_of (h.event n k)) i
+  ticks_same zero low = refl
+  ticks_same (suc i) low =
+      let t = tick_same (h.event n i) (early_input i (omega arith)) in
+      let before = ticks_same i (omega arith) in
+      ap (λ (b : Bool). cond b (suc (ticks h n i)) (ticks h n i)) t
+      ∙ ap (λ (k : ℕ). cond (is_tick_input (input_of (h.event n i))) (suc k) k) before
+
+  -- a life is cut off where its node's death comes in an event
+  pub cut_same : (i : ℕ) → i < acting h n → cut_in (lives_of h) n i ≡ cut_of_event (h.event n i)
+  cut_same i low = ⊎_elim
+      (λ (last : suc i ≡ acting h n).
+      let e : (suc i == acting h n) ≡ true = eq-eqb (suc i) (acting h n) last in
+      let one : acting h n - 1 ≡ i = omega arith in
+      ap (λ (b : Bool). cond b ((lives_of h).cut n) None) e ∙ ap (λ (k : ℕ). cut_of_event (h.event n k)) one)
+      (λ (more : suc i < acting h n).
+      let e : (suc i == acting h n) ≡ false = ne_eqb (suc i) (acting h n) (λ q. omega arith) in
+      let next = (acts_at (suc i) more).done in
+      ap (λ (b : Bool). cond b ((lives_of h).cut n) None) e
+      ∙ sym (alive_whole (h.event n i) (early i (omega arith))))
+      (eq-or-lt_of_le (let z : suc i ≤ acting h n = omega arith in z))
+
+-- when an event happens, its input happens
+pub beat_same : {S : Type 0} (h : History Msg S) (n i : ℕ) → beat h n i ≡ beat_at (λ k. input_of (h.event n k)) i
+beat_same h n i = ap (λ (s : Stamp). s.beat) (stamp_same (h.event n i))
+
+pub reading_same : {S : Type 0} (h : History Msg S) (n i : ℕ)
+    → reading h n i ≡ reading_at (λ k. input_of (h.event n k)) i
+reading_same h n i = ap (λ (s : Stamp). s.reading) (stamp_same (h.event n i))
+
+-- so each node of such a run has a life, if no reading is too large
+module _ {S : Type 0} (step : S → Input Msg → Deed Msg S) (p : Params) (nodes : ℕ) (h : History Msg S)
+    (run : IsOneLifeRun noted step p nodes h) where
+  pub life_to : (n count : ℕ) → n < nodes → count ≤ h.count n
+      → ((i : ℕ) → i < count → reading h n i ≤ most_reading)
+      → IsLife p count (λ k. input_of (h.event n k))
+  life_to n count known few short = record {
+    in_beat = λ i low. sym (beat_same h n i) ∙ run.in_beat n i known (omega arith)
+        ∙ ticks_same h n (λ j below. run.here n j known below) (λ j below died. run.ended n j known below died) i
+        (omega arith);
+    reads = λ i low.
+        let r = run.reads n i known (omega arith) in
+        let e = reading_same h n i in
+        let t : time_of p (beat h n i) ≡ time_of p (beat_at (λ k. input_of (h.event n k)) i) =
+        ap (λ b. time_of p b) (beat_same h n i) in
+        let r0 = r.0 in
+        let r1 = r.1 in
+        (omega arith, omega arith);
+    rising = λ j i le low.
+        let r = run.rising n j i known le (omega arith) in
+        let a = reading_same h n j in
+        let b = reading_same h n i in
+        omega arith;
+    short = λ i low. let r = short i low in let b = reading_same h n i in omega arith;
+  }
