@@ -7,6 +7,7 @@ use Rattle.slot_plan.specs.declared.params.Params.{Params}
 use Rattle.slot_plan.specs.Conditions.{IsPlan}
 use Rattle.node_kit.specs.declared.course.Order.{Order}
 use Rattle.node_kit.specs.declared.journal.Entry.{Entry}
+use Rattle.node_kit.specs.declared.outbox.Out.TheVariants as out
 use Rattle.node_kit.specs.declared.journal.What.{What}
 use Rattle.node_kit.specs.declared.journal.What.TheVariants as what
 use Rattle.run_facts.specs.Commanded.{is_gone, StopsNone, IsCommanded, AreCommanded}
@@ -20,6 +21,8 @@ use Rattle.ring_nodes.specs.declared.nodes.AnyNode.TheVariants as node
 use Rattle.ring_nodes.specs.AllNodes.{any_step}
 use Rattle.proof_controller.specs.Controllers.{controller}
 use Rattle.lists.specs.Elements.{In}
+use Rattle.proof_facts.specs.Lives.{lives_of}
+use Rattle.proof_lives.proofs.Cuts.{was_put_out}
 use Rattle.proof_moments.specs.Ties.{StandsIn}
 use Rattle.proof_facts.specs.Rings.{node_count}
 use Rattle.proof_journals.specs.Journals.{AreJournalsOf}
@@ -52,7 +55,7 @@ module _ (G : Type 0) (p : Params) (orders : List Order) (disk_at : ℕ → Disk
   stop_is_controllers n e v stands is =
       let d = own_entry kept n e (what.Gone v) stands tt is in
       ⊎_elim
-      (λ cub. absurd (tells_no_stop p n (inputs_of h n) d.at v cub.1))
+      (λ cub. absurd (tells_no_stop p n (inputs_of h n) d.at v (was_put_out p (lives_of h) n d.at (out.Act (what.Gone v)) cub.1)))
       (λ other. other.0)
       (who_acts kept n d.at (what.Gone v) d.known d.done d.did)
 

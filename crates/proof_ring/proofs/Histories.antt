@@ -8,7 +8,6 @@ use Rattle.node_kit.specs.declared.course.Order.{Order}
 use Rattle.node_kit.specs.Steps.{Deed, Input}
 use Rattle.run_facts.specs.Histories.{History}
 use Rattle.disk_core.specs.State.{DiskState}
-use Rattle.proof_lives.specs.Facts.{TickedAt}
 use Rattle.proof_lives.specs.Lives.{AreLives}
 use Rattle.proof_lives.specs.HoldsHere.{AreAllFormed}
 use Rattle.proof_lives.specs.InOrder.{AreInOrder}
@@ -30,10 +29,11 @@ use Rattle.proof_facts.specs.Lives.{lives_of, CameAt}
 use Rattle.proof_facts.specs.Facts.{beyond_of, facts_of}
 use Rattle.proof_facts.specs.Laws.{CubLaws, RingLaws, SplitLaws, ReadLaws}
 use Rattle.proof_facts.specs.Rings.{IsRingHistory, IsUpTo}
+use Rattle.proof_lives.proofs.Fitting.{Fits, as_tick}
 use Rattle.proof_lives.proofs.NoReturns.{nobody}
 use Rattle.proof_cubs.proofs.Laws.{cub_laws}
 use Rattle.proof_links.proofs.Laws.{links_meet_the_laws, messages_come_in_order, cubs_are_told_in_order, disks_answer_asks}
-use Rattle.proof_links.proofs.Running.{came, readings_rise, ends}
+use Rattle.proof_links.proofs.Running.{readings_rise, ends}
 use Rattle.proof_links.proofs.Starts.{begun_place}
 use Rattle.proof_splits.proofs.Splitting.{split_laws}
 use Rattle.proof_parts.specs.Asks.{HaveDisks}
@@ -41,6 +41,7 @@ use Rattle.proof_parts.proofs.PieceReads as parts
 use Rattle.proof_blocks.specs.Blocks.{IsWhole}
 use Rattle.proof_blocks.proofs.Laws as blocks
 use Rattle.proof_ring.specs.Histories.{pieces_of, blocks_of, IsFiledHistory, HistoriesMeetTheLaws, HistoriesHaveOneSchedule, HistoriesAreRightlyRead, HistoriesServeTheirBlocks}
+use Rattle.proof_ring.proofs.Fitting.{ring_fits}
 use Rattle.proof_ring.proofs.Gathering.{IsPiece, laws_of, piece_laws_of, service_laws_of, disk_laws_of}
 
 module _ {S : Type 0} (step : S → Input Msg → Deed Msg S) (p : Params) (orders : List Order) (disk_at : ℕ → DiskState) (h : History Msg S)
@@ -52,7 +53,7 @@ module _ {S : Type 0} (step : S → Input Msg → Deed Msg S) (p : Params) (orde
   ring_laws = links_meet_the_laws S step p orders disk_at h plan ring
 
   pub cubs_laws : CubLaws p (facts_of p orders h)
-  cubs_laws = cub_laws p (lives_of h) (beyond_of p orders h) orders plan in_order (λ c b l w. came plan ring w)
+  cubs_laws = cub_laws p (lives_of h) (beyond_of p orders h) orders plan in_order (ring_fits plan ring)
 
   pub laws : Laws p (facts_of p orders h)
   laws = laws_of p (facts_of p orders h) ring_laws cubs_laws
@@ -79,8 +80,8 @@ module _ {S : Type 0} (step : S → Input Msg → Deed Msg S) (p : Params) (cata
   pub none : NobodyReturns R
   none = nobody p (lives_of h) (beyond_of p orders h)
 
-  pub came_by : (c b l : ℕ) → TickedAt p (lives_of h) c b l → CameAt p h c b
-  came_by c b l w = came plan ring w
+  pub fits : Fits p (lives_of h) (beyond_of p orders h)
+  fits = ring_fits plan ring
 
   pub formed : AreAllFormed p (lives_of h)
   formed = (in_order step p orders disk_at h plan ring).formed
@@ -90,17 +91,17 @@ module _ {S : Type 0} (step : S → Input Msg → Deed Msg S) (p : Params) (cata
 
   pub split_laws_hold : SplitLaws p R Q W
   split_laws_hold =
-      split_laws p (lives_of h) plan lived formed (beyond_of p orders h) came_by
+      split_laws p (lives_of h) plan lived formed (beyond_of p orders h) fits
       (cubs_are_told_in_order S step p orders disk_at h plan ring) disk_at
 
   pub have_disks : HaveDisks p catalogue (lives_of h) disk_at (CameAt p h)
   have_disks = record { answer = disks_answer_asks S step p orders disk_at h plan ring; are = ring.rules.are_disks; images = filed.images }
 
   pub whole_reads : ReadLaws p catalogue R Q W IsWhole
-  whole_reads = blocks.read_laws p catalogue (lives_of h) disk_at plan lived formed (beyond_of p orders h) came_by have_disks
+  whole_reads = blocks.read_laws p catalogue (lives_of h) disk_at plan lived formed (beyond_of p orders h) fits have_disks
 
   pub piece_reads : ReadLaws p catalogue R Q W IsPiece
-  piece_reads = parts.read_laws p catalogue (lives_of h) disk_at plan lived formed (beyond_of p orders h) came_by have_disks
+  piece_reads = parts.read_laws p catalogue (lives_of h) disk_at plan lived formed (beyond_of p orders h) fits have_disks
 
   pub schedule : Laws p R
   schedule = laws step p orders disk_at h plan ring
@@ -108,7 +109,7 @@ module _ {S : Type 0} (step : S → Input Msg → Deed Msg S) (p : Params) (cata
   pub pieces : PieceLaws p R Q
   pieces =
       piece_laws_of p catalogue R Q W whole_reads piece_reads none split_laws_hold
-      (λ c a b l m first then le. readings_rise plan ring first then le)
+      (λ c a b l m first then le. readings_rise plan ring (as_tick first) (as_tick then) le)
 
   pub service : (end : ℕ) → IsUpTo p end h → ServiceLaws p R Q W end
   service end up =

@@ -2,11 +2,12 @@ pub mod Beliefs
 pub mod Claims
 pub mod Commanded
 pub mod Counted
+pub mod Deaths
 pub mod Faults
+pub mod Fitting
 pub mod Gathering
 pub mod Histories
 pub mod Kept
-pub mod Living
 pub mod Nodes
 pub mod Opened
 pub mod Openings

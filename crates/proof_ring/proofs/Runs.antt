@@ -1,7 +1,7 @@
 -- What is kept of the run of a scenario is of a ring, to the end of its beats.
 use Rattle.std.proofs.Common.{◌≡◌, ℕ, ◌+◌, ◌<◌, ◌≤◌, ◌%◌, List, [], length, Bool, true, false, cond, Option, Some, None, refl, sym, ap, subst, ◌∙◌, arith, ⊎_elim}
 use Rattle.std.specs.Prelude.{slice_get, option_and_then}
-use Rattle.std.proofs.lemmas.Bool.{eqb-true, le-ltb, cases_Bool}
+use Rattle.std.proofs.lemmas.Bool.{le-ltb, cases_Bool}
 use Rattle.tiger_base.specs.declared.message.Msg.{Msg}
 use Rattle.tiger_base.specs.Notes.{noted}
 use Rattle.slot_plan.specs.declared.params.Params.{Params}
@@ -10,13 +10,10 @@ use Rattle.node_kit.specs.declared.course.Course.{Course}
 use Rattle.node_kit.specs.declared.course.Kept.{Kept}
 use Rattle.node_kit.specs.declared.course.Order.{Order}
 use Rattle.node_kit.specs.Courses.{IsCourse}
-use Rattle.node_kit.specs.Life.{Lifetime, mortal, dies, lifetime_of}
-use Rattle.node_kit.proofs.Whole.{dies-undying, dies-mortal}
-use Rattle.run_facts.specs.Events.{NodeEvent, IsPlain, is_death, stamp_at}
-use Rattle.run_facts.specs.Events.NodeEvent.{Does, Ends, Dies, Returns}
-use Rattle.run_facts.specs.Histories.{History, past, beat, reading, ticks}
-use Rattle.run_facts.specs.Plain.{HasWholeLives, IsPlainRun}
-use Rattle.run_facts.proofs.Plain.{life-kept, lived-plain, lived-run, until-end, whole-life}
+use Rattle.node_kit.specs.Life.{Lifetime, lifetime_of}
+use Rattle.run_facts.specs.Plain.{HasWholeLives}
+use Rattle.run_facts.specs.Events.{is_death}
+use Rattle.run_facts.specs.Histories.{History, beat, reading, ticks}
 use Rattle.run_facts.specs.Timed.{DieApart}
 use Rattle.scenario_read.specs.declared.scenario.Scenario.{Scenario}
 use Rattle.scenario_read.specs.Orders.{IsCatalogueOf, orders_from}
@@ -29,19 +26,17 @@ use Rattle.ring_facts.specs.Rings.{IsRingRun}
 use Rattle.ring_facts.specs.Steps.{HasRun, ring_of}
 use Rattle.proof_ring.proofs.Opened.{get_some, cubs_open, controller_opens, viewers_open, read_low}
 use Rattle.proof_controller.specs.Controllers.{controller}
+use Rattle.proof_lives.specs.OneLife.{IsWithoutReturns, IsOneLifeRun}
+use Rattle.proof_lives.proofs.OneLife.{one_life_run}
 use Rattle.proof_controller.specs.Orders.{AreCounted}
 use Rattle.proof_facts.specs.Rings.{node_count, node_of_disk, viewers, DieAlone, IsUpTo, AreOfCatalogue}
 use Rattle.proof_journals.specs.Journals.{AreJournalsOf}
+use Rattle.proof_ring.proofs.Deaths.{dies_at, stays_away, ticked_all}
 use Rattle.proof_ring.specs.Rings.{OpensAs, IsRing}
 use Rattle.proof_ring.specs.Runs.{disks_of, AreShort, IsKeptRing, KeptRunsAreRings}
 use Rattle.proof_ring.proofs.Openings.{disk_opens}
 use Rattle.proof_ring.proofs.Orders.{of_catalogue}
 use Rattle.proof_ring.proofs.Counted.{counted_orders}
-
--- A whole life that ends in a beat has its death there.
-pub dies_in : (d : Option ℕ) (b : ℕ) → dies (mortal d) b ≡ true → d ≡ Some b
-dies_in None b t = let q : true ≡ false = sym t ∙ dies-undying b in absurd (cc)
-dies_in (Some x) b t = ap (λ n. Some n) (sym (eqb-true b x (sym (dies-mortal x b) ∙ t)))
 
 -- In a course only cubs die.
 pub only_cubs : (c : Course) (n : ℕ) → c.plan.params.cubs ≤ n → (lifetime_of c n).death ≡ None
@@ -74,21 +69,31 @@ module _ (G : Type 0) (s : Scenario) (library : List (List ℕ)) (k : Kept) (sce
   pub course : IsCourse k.course
   course = subst IsCourse (sym run.course) scenario.course
 
-  -- In a course of whole lives the nodes lived through a plain run.
+  -- Each node has the life that the course gives it.
+  pub life_is : (n : ℕ) → n < length given → h.life n ≡ lifetime_of k.course n
+  life_is n low = let g = get_some given n low in (run.steps.kept.lived.theirs.opens n g.0 g.1).1
+
+  -- In a course of whole lives
   pub whole : HasWholeLives k.course
   whole = subst HasWholeLives (sym run.course) scenario.whole_lives
 
-  pub plain : (n i : ℕ) → n < length given → i < h.count n → IsPlain (h.event n i)
-  plain = lived-plain noted any_step p (lifetime_of k.course) k.course.beats given run.steps.nodes k.journals whole
-      run.steps.kept.lived
+  -- nobody returns.
+  pub returnless : (n : ℕ) → (lifetime_of k.course n).back ≡ None
+  returnless n = ap (λ (l : Lifetime). l.back) (whole n)
 
-  pub lived : IsPlainRun noted any_step p (length given) h
-  lived = lived-run noted any_step p (lifetime_of k.course) k.course.beats given run.steps.nodes k.journals whole
-      run.steps.kept.lived
+  never_back : (n : ℕ) → n < length given → (h.life n).back ≡ None
+  never_back n low =
+      ap (λ (l : Lifetime). l.back) (life_is n low) ∙ returnless n
+
+  pub here : IsWithoutReturns (length given) h
+  here n i low there = stays_away noted any_step (length given) k.course.beats h run.steps.kept.lived.complete n low (never_back n low) i there
+
+  pub lived : IsOneLifeRun noted any_step p (length given) h
+  lived = one_life_run noted any_step p (length given) h here run.steps.kept.lived.run
 
   pub ticked : (n : ℕ) → n < length given → ((i : ℕ) → i < h.count n → is_death (h.event n i) ≡ false)
       → ticks h n (h.count n) ≡ k.course.beats
-  ticked = until-end noted any_step (length given) k.course.beats h run.steps.kept.lived.complete plain
+  ticked n low alive = ticked_all noted any_step (length given) k.course.beats h run.steps.kept.lived.complete n low (never_back n low) alive
 
   pub all : length (images_of p k.catalogue library) ≡ disk_count p
   all = length-numbered (image_at p k.catalogue library) (disk_count p)
@@ -98,31 +103,10 @@ module _ (G : Type 0) (s : Scenario) (library : List (List ℕ)) (k : Kept) (sce
 
   -- A death stands in the beat that the course has for it.
   pub death_is : (n i : ℕ) → n < node_count p → i < h.count n → is_death (h.event n i) ≡ true → (lifetime_of k.course n).death ≡ Some (beat h n i)
-  death_is n i inside low t = by (h.event n i) refl (plain n i within low) t
-    where
-      within : n < length given
-      within = omega (arith, size, inside)
-
-      -- the node's life is the course's
-      same : (past noted any_step h n i).life ≡ mortal (lifetime_of k.course n).death
-      same =
-          let g = get_some given n within in
-          let own = whole-life noted any_step p (lifetime_of k.course) k.course.beats given run.steps.nodes k.journals
-          whole run.steps.kept.lived n within in
-          life-kept noted any_step (length given) k.course.beats h run.steps.kept.lived.complete n within own i
-          (omega (arith, low))
-          ∙ ap (λ (l : Lifetime). mortal l.death) (run.steps.kept.lived.theirs.opens n g.0 g.1).1
-
-      by : (e : NodeEvent Msg) → h.event n i ≡ e → IsPlain e → is_death e ≡ true
-          → (lifetime_of k.course n).death ≡ Some (beat h n i)
-      by (Does x) q plain t = absurd (cc)
-      by (Ends x sends) q plain t = absurd plain
-      by (Returns stamp) q plain t = absurd plain
-      by (Dies stamp) q plain t =
-          let d = (run.steps.kept.lived.complete.dying n i stamp within low q).1 in
-          let at : beat h n i ≡ stamp.beat = ap (λ (e : NodeEvent Msg). (stamp_at e).beat) q in
-          dies_in (lifetime_of k.course n).death stamp.beat (sym (ap (λ (l : Lifetime). dies l stamp.beat) same) ∙ d)
-          ∙ ap (λ b. Some b) (sym at)
+  death_is n i inside low t =
+      let within : n < length given = omega (arith, size, inside) in
+      ap (λ (l : Lifetime). l.death) (sym (life_is n within))
+      ∙ dies_at noted any_step (length given) k.course.beats h run.steps.kept.lived.complete n within i low t
 
   pub deaths : DieAlone p h
   unfolding cub_of
@@ -166,7 +150,7 @@ module _ (G : Type 0) (s : Scenario) (library : List (List ℕ)) (k : Kept) (sce
 
   pub is_ring : IsRing p k.orders (disks_of k library) h
   is_ring = record {
-    run = subst (λ n. IsPlainRun noted any_step p n h) size lived;
+    run = subst (λ n. IsOneLifeRun noted any_step p n h) size lived;
     opens = opens;
     deaths = deaths;
     counted = orders_counted;

@@ -1,14 +1,15 @@
 -- In a kept run a cub ticks in each beat in which it acts, and reads what its course says.
-use Rattle.std.proofs.Common.{◌≡◌, ℕ, ◌<◌, List, length, Some, true, sym, ap, subst, ◌∙◌, arith, ⊎_elim}
-use Rattle.std.proofs.lemmas.Bool.{ltb-true}
+use Rattle.std.proofs.Common.{◌≡◌, ℕ, zero, suc, ◌+◌, ◌<◌, ◌≤◌, List, length, Bool, Option, Some, None, true, false, sym, ap, subst, ◌∙◌, arith, ⊎_elim, inl, inr, eq-or-lt_of_le}
+use Rattle.std.specs.Prelude.{◌⊎◌}
+use Rattle.std.proofs.lemmas.Bool.{cases_Bool, ltb-true}
 use Rattle.tiger_base.specs.declared.message.Msg.{Msg}
 use Rattle.slot_plan.specs.declared.params.Params.{Params}
 use Rattle.node_kit.specs.declared.course.Kept.{Kept}
 use Rattle.node_kit.specs.Courses.{reading_of}
 use Rattle.node_kit.specs.Life.{Lifetime, IsWholeLife, mortal, acts, lifetime_of}
 use Rattle.node_kit.proofs.Whole.{acts-mortal}
-use Rattle.run_facts.specs.Events.{is_tick, stamp_at}
-use Rattle.run_facts.specs.Histories.{History, beat, reading, ticks, living}
+use Rattle.run_facts.specs.Events.{is_tick, is_death, is_return, stamp_at}
+use Rattle.run_facts.specs.Histories.{History, beat, reading, ticks}
 use Rattle.run_facts.proofs.Counts.{count-numbered}
 use Rattle.scenario_read.specs.declared.scenario.Scenario.{Scenario}
 use Rattle.scenario_read.specs.Sound.{IsScenario}
@@ -16,9 +17,8 @@ use Rattle.ring_nodes.specs.declared.nodes.AnyNode.{AnyNode}
 use Rattle.proof_lives.specs.Facts.{TickedAt}
 use Rattle.proof_facts.specs.Lives.{lives_of}
 use Rattle.proof_facts.specs.Rings.{node_count}
-use Rattle.proof_links.proofs.Lives.{LivesOn, EndsInDeath, lives_or_dies}
+use Rattle.proof_lives.proofs.Acting.{alive_acts, alive_whole, cut_same}
 use Rattle.proof_ring.specs.Runs.{AreShort}
-use Rattle.proof_ring.proofs.Living.{counts_few}
 use Rattle.proof_ring.proofs.Runs.{HasRing, death_is, lived, size, ticked, whole}
 use Rattle.std.proofs.Common.{◌≡◌, ℕ, true, refl, ap, ◌∙◌}
 use Rattle.tiger_base.specs.declared.number.Stamp.{Stamp}
@@ -51,6 +51,21 @@ acts_below d b life whole e t =
     let same : life ≡ mortal (Some d) = whole ∙ ap mortal e in
     ltb-true b d (sym (acts-mortal d b) ∙ sym (ap (λ (q : Lifetime). acts q b) same) ∙ t)
 
+-- None of the first events of a node is a death, or one is.
+dies_or_not : {S : Type 0} (h : History Msg S) (n top : ℕ)
+    → ((i : ℕ) → i < top → is_death (h.event n i) ≡ false) ⊎ ((i : ℕ) × (i < top) × (is_death (h.event n i) ≡ true))
+dies_or_not h n zero = inl (λ i low. absurd (omega arith))
+dies_or_not h n (suc top) = ⊎_elim
+    (λ (none : (i : ℕ) → i < top → is_death (h.event n i) ≡ false). ⊎_elim
+    (λ (t : is_death (h.event n top) ≡ true). inr (top, omega arith, t))
+    (λ (f : is_death (h.event n top) ≡ false). inl (λ i low. ⊎_elim
+    (λ (e : i ≡ top). ap (λ j. is_death (h.event n j)) e ∙ f)
+    (λ (less : i < top). none i less)
+    (eq-or-lt_of_le (let z : i ≤ top = omega arith in z))))
+    (cases_Bool (is_death (h.event n top))))
+    (λ (one : (i : ℕ) × (i < top) × (is_death (h.event n i) ≡ true)). let low = one.1 in inr (one.0, omega arith, one.2))
+    (dies_or_not h n top)
+
 module _ (G : Type 0) (s : Scenario) (library : List (List ℕ)) (k : Kept) (scenario : IsScenario s) (short : AreShort library) (run : HasRing G s library k) where
   abbrev pub p : Params
   p = k.course.plan.params
@@ -58,38 +73,63 @@ module _ (G : Type 0) (s : Scenario) (library : List (List ℕ)) (k : Kept) (sce
   abbrev pub h : History Msg (AnyNode G)
   h = run.steps.kept.lived.history
 
-  -- What a cub lived through has more ticks than the beats in which it acts.
-  pub ticks_above : (c b : ℕ) → c < p.cubs → b < k.course.beats → acts (lifetime_of k.course c) b ≡ true → b < ticks h c (living h c)
-  ticks_above c b small early acting =
+  -- The number of a tick that ended a beat: that of an event behind which more comes, or of one of a cub that lives on.
+  record TickOf (c b : ℕ) : Type 0 where
+    at : ℕ
+    before : at < h.count c
+    passes : is_tick (h.event c at) ≡ true
+    number : ticks h c at ≡ b
+    lives : is_death (h.event c at) ≡ false
+
+  -- A cub has one for each beat in which it acts.
+  ticks_there : (c b : ℕ) → c < p.cubs → b < k.course.beats → acts (lifetime_of k.course c) b ≡ true → TickOf c b
+  ticks_there c b small early acting =
       let inside : c < node_count p = omega (arith, small) in
       let within : c < length _ = subst (λ n. c < n) (sym (size G s library k scenario short run)) inside in
+      let run_is = lived G s library k scenario short run in
       ⊎_elim
-      (λ (on : LivesOn h c).
-      let all : ticks h c (h.count c) ≡ k.course.beats = ticked G s library k scenario short run c within on.none in
-      let same : ticks h c (living h c) ≡ k.course.beats = ap (λ n. ticks h c n) on.all ∙ all in
-      omega (arith, early, same))
-      (λ (dead : EndsInDeath h c).
-      let low : living h c < h.count c = let z = dead.last in omega (arith, z) in
-      let death = death_is G s library k scenario short run c (living h c) inside low dead.death in
-      let then : beat h c (living h c) ≡ ticks h c (living h c) =
-      (lived G s library k scenario short run).in_beat c (living h c) within low in
-      let before = acts_below (beat h c (living h c)) b (lifetime_of k.course c)
-      (whole G s library k scenario short run c) death acting in
-      omega (arith, before, then))
-      (lives_or_dies h c (λ i low t. (lived G s library k scenario short run).ended c i within low t))
+      (λ (on : (i : ℕ) → i < h.count c → is_death (h.event c i) ≡ false).
+      let all : ticks h c (h.count c) ≡ k.course.beats = ticked G s library k scenario short run c within on in
+      let q = count-numbered is_tick h c (h.count c) b (omega (arith, early, all)) in
+      record { at = q.at; before = q.before; passes = q.passes; number = q.number; lives = on q.at q.before })
+      (λ (dead : (i : ℕ) × (i < h.count c) × (is_death (h.event c i) ≡ true)).
+      let i = dead.0 in
+      let death = death_is G s library k scenario short run c i inside dead.1 dead.2 in
+      let then : beat h c i ≡ ticks h c i = run_is.in_beat c i within dead.1 in
+      let below = acts_below (beat h c i) b (lifetime_of k.course c) (whole G s library k scenario short run c) death acting in
+      let q = count-numbered is_tick h c i b (omega (arith, below, then)) in
+      let less = q.before in
+      record {
+        at = q.at;
+        before = omega (arith, less, dead.1);
+        passes = q.passes;
+        number = q.number;
+        lives = ⊎_elim
+            (λ (t : is_death (h.event c q.at) ≡ true).
+            let last = run_is.ended c q.at within (omega (arith, less, dead.1)) t in
+            let more = dead.1 in absurd (omega (arith, last, less, more)))
+            (λ (f : is_death (h.event c q.at) ≡ false). f)
+            (cases_Bool (is_death (h.event c q.at)));
+      })
+      (dies_or_not h c (h.count c))
 
   pub acts_ticks : (c b : ℕ) → c < p.cubs → b < k.course.beats → acts (lifetime_of k.course c) b ≡ true
       → TickedAt p (lives_of h) c b (reading_of k.course c b)
   acts_ticks c b small early acting =
       let inside : c < node_count p = omega (arith, small) in
       let within : c < length _ = subst (λ n. c < n) (sym (size G s library k scenario short run)) inside in
-      let q = count-numbered is_tick h c (living h c) b (ticks_above c b small early acting) in
-      let low : q.at < h.count c = omega (arith, q.before, counts_few h c (h.count c)) in
-      let then : beat h c q.at ≡ b = (lived G s library k scenario short run).in_beat c q.at within low ∙ q.number in
+      let run_is = lived G s library k scenario short run in
+      let here : (j : ℕ) → j < h.count c → is_return (h.event c j) ≡ false = λ j l. run_is.here c j within l in
+      let ended : (j : ℕ) → j < h.count c → is_death (h.event c j) ≡ true → j + 1 ≡ h.count c = λ j l d. run_is.ended c j within l d in
+      let q = ticks_there c b small early acting in
+      let low = q.before in
+      let then : beat h c q.at ≡ b = run_is.in_beat c q.at within low ∙ q.number in
       let shows : reading h c q.at ≡ reading_of k.course c b = run.steps.kept.keeps.stamped c q.at within low ∙ ap (reading_of k.course c) then in
+      let done = alive_acts h c here ended q.at low q.lives in
       record {
         small = small;
         at = q.at;
-        done = q.before;
+        done = done;
         is = tick_made (h.event c q.at) q.passes ∙ stamped (stamp_at (h.event c q.at)) b (reading_of k.course c b) then shows;
+        whole = cut_same h c here ended q.at done ∙ alive_whole (h.event c q.at) q.lives;
       }

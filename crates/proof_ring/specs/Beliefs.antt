@@ -2,6 +2,7 @@
 use Rattle.std.specs.Prelude.{◌≡◌, ℕ, ◌+◌, ◌<◌, ◌≤◌, List}
 use Rattle.std.specs.List.{AllByRecursion}
 use Rattle.tiger_base.specs.declared.message.Msg.{Msg}
+use Rattle.tiger_base.specs.declared.message.Note.TheVariants as note
 use Rattle.slot_plan.specs.declared.params.Params.{Params}
 use Rattle.slot_plan.specs.Conditions.{IsPlan, longest_way}
 use Rattle.slot_plan.specs.Times.{time_of, cub_of}
@@ -31,24 +32,33 @@ abbrev pub BelievesBy : List Noted → ℕ → ℕ → ℕ → Type 0
 BelievesBy log cub dead beat =
     AnyByRecursion (λ x. (x.node ≡ cub) × (beat_of x ≤ beat) × IsBelief dead x.entry.what) log
 
--- The silence of a cub that died in one beat is noticed at a tick of another one. It ticked for the last time in the beat
--- before its death; its heartbeat from there takes the longest way at most, is heard at a reading ahead by at most the skew,
--- and is good for the deadman time.
-abbrev pub IsNoticed : Params → ℕ → ℕ → Type 0
-IsNoticed p died beat = time_of p died + longest_way p + p.skew + p.deadman < time_of p beat + p.beat
+-- An entry says that a heartbeat was sent.
+abbrev pub SendsHeartbeat : What → Type 0
+SendsHeartbeat (what.Sent link note.Heartbeat) = Unit {0}
+SendsHeartbeat other = ⊥
 
--- If an entry says that a cub died, and the next cub ticks when that is noticed, then it says that it believes the cub dead,
--- in the beat of the tick or before.
-abbrev pub IsBelievedInTime : Params → (ℕ → ℕ → ℕ → Type 0) → List Noted → ℕ → ℕ → What → Type 0
-IsBelievedInTime p ticked log cub died what.Died =
-    (beat reading : ℕ) → cub < p.cubs → ticked (cub_of p (cub + 1)) beat reading
-    → IsNoticed p died beat → BelievesBy log (cub_of p (cub + 1)) cub beat
-IsBelievedInTime p ticked log cub died other = Unit {0}
+-- In a log a cub sends no heartbeat from this beat on.
+abbrev pub IsSilentFrom : List Noted → ℕ → ℕ → Type 0
+IsSilentFrom log cub quiet = AllByRecursion (λ x. x.node ≡ cub → SendsHeartbeat x.entry.what → beat_of x < quiet) log
+
+-- That a cub is silent from one beat on is noticed at a tick of another one. Its last heartbeat left in the beat before,
+-- or earlier; it takes the longest way at most, is heard at a reading ahead by at most the skew, and is good for the
+-- deadman time.
+abbrev pub IsNoticed : Params → ℕ → ℕ → Type 0
+IsNoticed p quiet beat = time_of p quiet + longest_way p + p.skew + p.deadman < time_of p beat + p.beat
+
+-- If an entry says that a cub died, and the next cub ticks when the silence is noticed, then it says that it believes the
+-- cub dead, in the beat of the tick or before. A cub that dies apart from an event is silent from the beat of its death on,
+-- and any other from the beat behind it.
+abbrev pub IsBelievedInTime : Params → (ℕ → ℕ → ℕ → Type 0) → List Noted → ℕ → What → Type 0
+IsBelievedInTime p ticked log cub what.Died =
+    (quiet beat reading : ℕ) → cub < p.cubs → IsSilentFrom log cub quiet → ticked (cub_of p (cub + 1)) beat reading
+    → IsNoticed p quiet beat → BelievesBy log (cub_of p (cub + 1)) cub beat
+IsBelievedInTime p ticked log cub other = Unit {0}
 
 -- And so for each entry of a log. Ticked tells which cub ticked in which beat, at which reading.
 abbrev pub BeliefsAreInTime : Params → (ℕ → ℕ → ℕ → Type 0) → List Noted → Type 0
-BeliefsAreInTime p ticked log =
-    AllByRecursion (λ x. IsBelievedInTime p ticked log x.node (beat_of x) x.entry.what) log
+BeliefsAreInTime p ticked log = AllByRecursion (λ x. IsBelievedInTime p ticked log x.node x.entry.what) log
 
 -- In an account of a run whoever dies is believed dead in time.
 abbrev pub BelievesInTime : Account → Type 0

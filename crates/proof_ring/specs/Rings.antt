@@ -8,13 +8,13 @@ use Rattle.slot_plan.specs.Conditions.{IsPlan}
 use Rattle.slot_plan.specs.Times.{disk_count}
 use Rattle.node_kit.specs.declared.course.Order.{Order}
 use Rattle.run_facts.specs.Histories.{History, reading}
-use Rattle.run_facts.specs.Plain.{IsPlainRun}
 use Rattle.disk_core.specs.State.{DiskState}
 use Rattle.ring_nodes.specs.declared.nodes.AnyNode.{AnyNode}
 use Rattle.ring_nodes.specs.declared.nodes.AnyNode.TheVariants as node
 use Rattle.ring_nodes.specs.AllNodes.{any_step, opening_cub, opening_controller}
 use Rattle.proof_controller.specs.Controllers.{controller}
 use Rattle.proof_controller.specs.Orders.{AreCounted}
+use Rattle.proof_lives.specs.OneLife.{IsOneLifeRun}
 use Rattle.proof_facts.specs.Rings.{node_count, node_of_disk, viewers, IsDiskOf, DieAlone, IsRingHistory}
 
 -- The nodes of a ring as they open: cubs that keep nothing, these disks, a controller that has the
@@ -27,10 +27,11 @@ pub record OpensAs {G : Type 0} (p : Params) (orders : List Order) (disk_at : �
   pub commands : h.first (controller p) ≡ opening_controller p orders
   pub views : h.first (viewers p) ≡ node.Viewers []
 
--- A history of a ring from its opening on, of which no two neighbours die. Time is not too long.
+-- A history of a ring from its opening on, in which nobody returns, and no two neighbours die. A death may come in the
+-- middle of an event. Time is not too long.
 pub record IsRing {G : Type 0} (p : Params) (orders : List Order) (disk_at : ℕ → DiskState)
     (h : History Msg (AnyNode G)) : Type 0 where
-  pub run : IsPlainRun noted any_step p (node_count p) h
+  pub run : IsOneLifeRun noted any_step p (node_count p) h
   pub opens : OpensAs p orders disk_at h
   pub deaths : DieAlone p h
   pub counted : AreCounted p orders

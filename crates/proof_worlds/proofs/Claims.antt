@@ -1,22 +1,21 @@
 -- What is claimed of a ring's histories holds of the lists that its machine accepts.
 use Rattle.std.proofs.Common.{◌≡◌, ℕ, ◌+◌, ◌<◌, List, length, filter, true, false, sym, ap, ◌∙◌, arith, ⊎_elim}
-use Rattle.std.proofs.lemmas.Bool.{cases_eq}
 use Rattle.tiger_base.specs.declared.message.Msg.{Msg}
 use Rattle.slot_plan.specs.declared.params.Params.{Params}
 use Rattle.stripe_layout.specs.declared.catalogue.Catalogue.{Catalogue}
 use Rattle.node_kit.specs.declared.course.Order.{Order}
 use Rattle.node_kit.specs.declared.course.ReadFault.{ReadFault}
-use Rattle.run_facts.specs.Events.{is_death}
-use Rattle.run_facts.specs.Histories.{History, living}
+use Rattle.run_facts.specs.Events.{is_death, is_return}
+use Rattle.run_facts.specs.Histories.{History}
 use Rattle.run_facts.specs.Order.{order_of}
 use Rattle.run_claims.specs.Accounts.{HasTick, is_tick_of, reading_at}
 use Rattle.disk_core.specs.State.{DiskState}
 use Rattle.ring_nodes.specs.declared.nodes.AnyNode.{AnyNode}
 use Rattle.proof_lives.specs.Histories.{input_of}
+use Rattle.proof_lives.proofs.Acting.{alive_acts, alive_whole, cut_same}
 use Rattle.proof_controller.specs.Controllers.{controller}
 use Rattle.proof_facts.specs.Facts.{facts_of}
 use Rattle.proof_facts.specs.Rings.{node_count}
-use Rattle.proof_links.proofs.Lives.{LivesOn, EndsInDeath, lives_or_dies}
 use Rattle.proof_moments.specs.Ties.{IsTickBelow}
 use Rattle.proof_ring.specs.Accounts.{account_in}
 use Rattle.proof_ring.specs.ClaimsOfRings.{IsStoredRing}
@@ -38,33 +37,24 @@ module _ (G : Type 0) (p : Params) (orders : List Order) (disk_at : ℕ → Disk
   abbrev pub h : History Msg (AnyNode G)
   h = rings.h G p orders disk_at beats events m k
 
-  -- A node is alive in each of its events that is no death.
-  pub lived : (n i : ℕ) → n < node_count p → i < h.count n → is_death (h.event n i) ≡ false → i < living h n
-  lived n i inside low alive =
-      let ring = rings.is_ring G p orders disk_at beats events m k in
-      ⊎_elim
-      (λ (on : LivesOn h n). let all = on.all in omega (arith, all, low))
-      (λ (dead : EndsInDeath h n).
-      let last = dead.last in
-      ⊎_elim
-      (λ (same : i ≡ living h n).
-      let q : true ≡ false = sym dead.death ∙ ap (λ j. is_death (h.event n j)) (sym same) ∙ alive in absurd (cc))
-      (λ (ne : i ≡ living h n → ⊥). let r = ne in omega (arith, last, low, ne))
-      (cases_eq i (living h n)))
-      (lives_or_dies h n (λ j there t. ring.run.ended n j inside there t))
-
-  -- The tick of a cub in the list is a tick of the cub's life.
+  -- The tick of a cub in the list is a whole tick of the cub's life.
   pub ticks : (top c b l : ℕ) → c < p.cubs → IsTickIn events top c b l → IsTickBelow (facts_of p orders h) top c b l
   ticks top c b l small tick =
       let inside : c < node_count p = omega (arith, small) in
       let come = rings.come G p orders disk_at beats events m k in
+      let run = (rings.is_ring G p orders disk_at beats events m k).run in
+      let here : (i : ℕ) → i < h.count c → is_return (h.event c i) ≡ false = λ i low. run.here c i inside low in
+      let ended : (i : ℕ) → i < h.count c → is_death (h.event c i) ≡ true → i + 1 ≡ h.count c = λ i low died. run.ended c i inside low died in
       let mine = tick_happened p _ beats h events come.merged (record { beat = b; reading = l }) c tick.at
-      (rings.within G p orders disk_at beats events m k c inside) tick.is in (
+      (rings.within G p orders disk_at beats events m k c inside) tick.is in
+      let alive : is_death (h.event c mine.0) ≡ false = ap is_death mine.2 in
+      let done = alive_acts h c here ended mine.0 mine.1 alive in (
         record {
           small = small;
           at = mine.0;
-          done = lived c mine.0 inside mine.1 (ap is_death mine.2);
+          done = done;
           is = ap input_of mine.2;
+          whole = cut_same h c here ended mine.0 done ∙ alive_whole (h.event c mine.0) alive;
         },
         tick.below,
       )

@@ -7,11 +7,12 @@ use Rattle.std.proofs.lemmas.Option.{none-some}
 use Rattle.tiger_base.specs.declared.number.Stamp.{Stamp}
 use Rattle.tiger_base.specs.declared.message.Note.{Note}
 use Rattle.slot_plan.specs.declared.params.Params.{Params}
+use Rattle.node_kit.specs.Links.{links_of, ends_of}
 use Rattle.node_kit.specs.Rows.{each_below}
 use Rattle.node_kit.specs.Steps.{Input, Deed}
 use Rattle.node_kit.specs.Steps.Input.{Take, Tick}
 use Rattle.node_kit.proofs.Rows.{length-each_below, get-each_below, get-below}
-use Rattle.run_facts.specs.Events.{NodeEvent, is_death, stamp_at}
+use Rattle.run_facts.specs.Events.{NodeEvent, is_return, stamp_at}
 use Rattle.run_facts.specs.Events.NodeEvent.{Does, Ends, Dies, Returns}
 use Rattle.run_facts.specs.Histories.{History}
 use Rattle.run_facts.proofs.Rows.{all-append, all-left, all-right, same-element}
@@ -20,9 +21,9 @@ use Rattle.ring_world.specs.declared.event.Act.TheVariants as act
 use Rattle.ring_world.specs.declared.event.Event.{Event}
 use Rattle.ring_world.specs.Machine.{Machine, happens}
 use Rattle.ring_world.specs.Faults.{Accepts, IsActOf, IsEventOf}
-use Rattle.ring_world.specs.Laws.{is_whole, HaveWholeDeaths}
 use Rattle.ring_world.specs.Merging.{Happening, IsMerged, act_of, added, own, told_as, told_from}
 use Rattle.ring_world.proofs.Accepting.{some-same}
+use Rattle.proof_worlds.specs.Accepted.{is_return_act, HaveNoReturns}
 
 -- Each event that is accepted is one that may be asked.
 pub accepted_events : {M S : Type 0} (note : M → Note) (step : S → Input M → Deed M S) (p : Params) (nodes beats : ℕ)
@@ -32,27 +33,44 @@ accepted_events note step p nodes beats m [] k a = tt
 accepted_events note step p nodes beats m (e ∷ es) k a =
     (a.0, accepted_events note step p nodes beats (happens note step p m e) es k a.2)
 
--- A death is told as the death of its node, and so is a cub's.
-death_of_cub : {M : Type 0} (p : Params) (nodes : ℕ) (lost : ℕ → ℕ) (es : List (NodeEvent M)) (n : ℕ) (x : NodeEvent M)
-    → IsActOf p nodes (act_of lost es n x) → is_whole (act_of lost es n x) ≡ true → is_death x ≡ true → n < p.cubs
-death_of_cub p nodes lost es n (Does (Take stamp link msg)) is whole t = absurd (cc)
-death_of_cub p nodes lost es n (Does (Tick stamp)) is whole t = absurd (cc)
-death_of_cub p nodes lost es n (Ends input sends) is whole t = absurd (cc)
-death_of_cub p nodes lost es n (Dies stamp) is whole t = is
-death_of_cub p nodes lost es n (Returns stamp) is whole t = absurd (cc)
+-- What a death must be, if the act that it is told as may be asked: of a cub, or at a message on a link to a cub.
+abbrev pub MayDie : {M : Type 0} → Params → ℕ → NodeEvent M → Type 0
+MayDie p n (Ends (Take stamp link msg) sends) =
+    (from : ℕ) × (to : ℕ) × (ends_of (links_of p) link.0 ≡ Some (from, to)) × (to < p.cubs)
+MayDie p n (Ends (Tick stamp) sends) = n < p.cubs
+MayDie p n (Dies stamp) = n < p.cubs
+MayDie p n other = Unit {0}
 
-deaths_of_cubs : {M : Type 0} (p : Params) (nodes beats n : ℕ) (lost : ℕ → ℕ) (es : ℕ → List (NodeEvent M))
-    (xs : List (Happening M)) → AllByRecursion (IsEventOf p nodes beats) (told_from lost es xs)
-    → HaveWholeDeaths (told_from lost es xs)
-    → AllByRecursion (λ (y : NodeEvent M). is_death y ≡ true → n < p.cubs) (own n xs)
-deaths_of_cubs p nodes beats n lost es [] all whole = tt
-deaths_of_cubs {M} p nodes beats n lost es (x ∷ xs) all whole =
-    let rest = deaths_of_cubs p nodes beats n lost (added x.node x.event es) xs all.1 whole.1 in
+may_die : {M : Type 0} (p : Params) (nodes : ℕ) (lost : ℕ → ℕ) (es : List (NodeEvent M)) (n : ℕ) (x : NodeEvent M)
+    → IsActOf p nodes (act_of lost es n x) → MayDie p n x
+may_die p nodes lost es n (Ends (Take stamp link msg) sends) is = is
+may_die p nodes lost es n (Ends (Tick stamp) sends) is = is
+may_die p nodes lost es n (Dies stamp) is = is
+may_die p nodes lost es n (Does input) is = tt
+may_die p nodes lost es n (Returns stamp) is = tt
+
+-- An event that is told as no return is none.
+stays : {M : Type 0} (lost : ℕ → ℕ) (es : List (NodeEvent M)) (n : ℕ) (x : NodeEvent M)
+    → is_return_act (act_of lost es n x) ≡ false → is_return x ≡ false
+stays lost es n (Does input) told = refl
+stays lost es n (Ends input sends) told = refl
+stays lost es n (Dies stamp) told = refl
+stays lost es n (Returns stamp) told = absurd (cc)
+
+-- What all that is told gives of what happens to a node, it gives of all of that.
+each_own : {M : Type 0} (Told : Event → Type 0) (P : NodeEvent M → Type 0) (n : ℕ) (lost : ℕ → ℕ)
+    → ((es : List (NodeEvent M)) (x : NodeEvent M)
+    → Told (record { stamp = stamp_at x; act = act_of lost es n x }) → P x)
+    → (es : ℕ → List (NodeEvent M)) (xs : List (Happening M)) → AllByRecursion Told (told_from lost es xs)
+    → AllByRecursion P (own n xs)
+each_own Told P n lost gives es [] all = tt
+each_own {M} Told P n lost gives es (x ∷ xs) all =
+    let rest = each_own Told P n lost gives (added x.node x.event es) xs all.1 in
     ⊎_elim
     (λ (t : (x.node == n) ≡ true).
-    let here : is_death x.event ≡ true → n < p.cubs =
-    λ d. subst (λ k. k < p.cubs) (eqb-true _ _ t) (death_of_cub p nodes lost (es x.node) x.node x.event all.0.1 whole.0 d) in
-    rw t (here, rest))
+    let told : Told (record { stamp = stamp_at x.event; act = act_of lost (es x.node) n x.event }) =
+    subst (λ (k : ℕ). Told (record { stamp = stamp_at x.event; act = act_of lost (es x.node) k x.event })) (eqb-true _ _ t) all.0 in
+    rw t (gives (es x.node) x.event told, rest))
     (λ (f : (x.node == n) ≡ false). rw f rest)
     (cases_Bool (x.node == n))
 
@@ -117,18 +135,28 @@ all_each P f (suc n) each =
     all-append P (each_below f n) (f n ∷ []) (all_each P f n (λ k low. each k (omega (arith, low))))
     (each n (omega arith), tt)
 
--- In the history of a list that is accepted only cubs die, and each tick of the list is its node's.
+-- In the history of a list that is accepted deaths are of cubs, nobody returns if nobody does in the list, and each tick of
+-- the list is its node's.
 module _ {M S : Type 0} (p : Params) (nodes beats : ℕ) (h : History M S) (events : List Event)
     (merged : IsMerged h nodes events) where
-  pub only_cubs_die : AllByRecursion (IsEventOf p nodes beats) events
-      → HaveWholeDeaths events
-      → (n i : ℕ) → n < nodes → i < h.count n → is_death (h.event n i) ≡ true → n < p.cubs
-  only_cubs_die all whole n i inside low =
-      let told = subst (AllByRecursion (IsEventOf p nodes beats)) merged.told all in
-      let told_whole = subst HaveWholeDeaths merged.told whole in
-      all_below (λ (y : NodeEvent M). is_death y ≡ true → n < p.cubs) (h.event n) (h.count n) i low
-      (subst (AllByRecursion (λ (y : NodeEvent M). is_death y ≡ true → n < p.cubs)) (merged.each n inside)
-      (deaths_of_cubs p nodes beats n h.before (λ _. []) merged.merged told told_whole))
+  -- What each event of the list gives of the event that it tells, it gives of all events of a node.
+  of_each : (Told : Event → Type 0) (P : NodeEvent M → Type 0) → (n : ℕ)
+      → ((es : List (NodeEvent M)) (x : NodeEvent M)
+      → Told (record { stamp = stamp_at x; act = act_of h.before es n x }) → P x)
+      → AllByRecursion Told events → (i : ℕ) → n < nodes → i < h.count n → P (h.event n i)
+  of_each Told P n gives all i inside low =
+      all_below P (h.event n) (h.count n) i low
+      (subst (AllByRecursion P) (merged.each n inside)
+      (each_own Told P n h.before gives (λ _. []) merged.merged (subst (AllByRecursion Told) merged.told all)))
+
+  pub dies_as : AllByRecursion (IsEventOf p nodes beats) events
+      → (n i : ℕ) → n < nodes → i < h.count n → MayDie p n (h.event n i)
+  dies_as all n i inside low =
+      of_each (IsEventOf p nodes beats) (MayDie p n) n (λ es x told. may_die p nodes h.before es n x told.1) all i inside low
+
+  pub nobody_returns : HaveNoReturns events → (n i : ℕ) → n < nodes → i < h.count n → is_return (h.event n i) ≡ false
+  nobody_returns final n i inside low =
+      of_each (λ e. is_return_act e.act ≡ false) (λ x. is_return x ≡ false) n (λ es x told. stays h.before es n x told) final i inside low
 
   pub tick_happened : (stamp : Stamp) (n k : ℕ) → n < nodes
       → slice_get events k ≡ Some (tick_event stamp n)

@@ -1,5 +1,5 @@
 -- A list of events that a machine of a ring's opening nodes accepts is a history of a ring.
-use Rattle.std.proofs.Common.{◌≡◌, ℕ, ◌+◌, ◌<◌, List, [], length, true, false, Some, None, sym, ap, subst, ◌∙◌, arith, ⊎_elim}
+use Rattle.std.proofs.Common.{◌≡◌, ℕ, ◌+◌, ◌<◌, List, [], length, true, false, Some, None, refl, sym, ap, subst, ◌∙◌, arith, ⊎_elim, inr}
 use Rattle.std.specs.Prelude.{slice_get}
 use Rattle.std.specs.List.{AllByRecursion}
 use Rattle.std.proofs.lemmas.Bool.{cases_Bool}
@@ -9,15 +9,19 @@ use Rattle.tiger_base.specs.Notes.{noted}
 use Rattle.slot_plan.specs.declared.params.Params.{Params}
 use Rattle.slot_plan.specs.Times.{cub_of}
 use Rattle.node_kit.specs.declared.course.Order.{Order}
-use Rattle.run_facts.specs.Events.{is_death}
+use Rattle.node_kit.specs.Steps.Input.{Take, Tick}
+use Rattle.run_facts.specs.Events.{NodeEvent, is_death}
+use Rattle.run_facts.specs.Events.NodeEvent.{Does, Ends, Dies, Returns}
 use Rattle.run_facts.specs.Histories.{History, IsUp}
-use Rattle.run_facts.specs.Plain.{IsPlainRun}
-use Rattle.run_facts.proofs.Plain.{ticked-to}
+use Rattle.run_facts.proofs.Recording.{open-ticked}
 use Rattle.disk_core.specs.State.{DiskState}
 use Rattle.ring_nodes.specs.declared.nodes.AnyNode.{AnyNode}
 use Rattle.ring_nodes.specs.declared.nodes.AnyNode.TheVariants as node
 use Rattle.ring_nodes.specs.AllNodes.{any_step, StandsAny, opening_cub, opening_controller}
 use Rattle.proof_ring.proofs.Opened.{get_some}
+use Rattle.proof_lives.specs.OneLife.{IsWithoutReturns, IsOneLifeRun}
+use Rattle.proof_lives.proofs.Carrying.{same_ends}
+use Rattle.proof_lives.proofs.OneLife.{one_life_run}
 use Rattle.proof_controller.specs.Controllers.{controller}
 use Rattle.proof_facts.specs.Rings.{node_count, node_of_disk, viewers, DieAlone, IsUpTo}
 use Rattle.proof_journals.specs.Journals.{AreJournalsOf}
@@ -29,7 +33,7 @@ use Rattle.ring_world.specs.Laws.{HasCome, HasDiedIn, IsPlace}
 use Rattle.ring_world.proofs.Places.{plans-places}
 use Rattle.ring_world.proofs.Runs.{accepted-runs}
 use Rattle.proof_worlds.specs.Accepted.{opening_ring, IsAccepted, AcceptedListsAreRings}
-use Rattle.proof_worlds.proofs.Events.{accepted_events, only_cubs_die}
+use Rattle.proof_worlds.proofs.Events.{MayDie, accepted_events, dies_as, nobody_returns}
 use Rattle.proof_worlds.proofs.Lawful.{nodes_are_lawful}
 use Rattle.proof_worlds.proofs.Openings as openings
 
@@ -56,8 +60,12 @@ module _ (G : Type 0) (p : Params) (orders : List Order) (disk_at : ℕ → Disk
   abbrev pub h : History Msg (AnyNode G)
   h = come.history
 
-  plain_run : IsPlainRun noted any_step p (length given) h
-  plain_run = come.plain k.whole
+  -- Nobody returns in it, so each node has one life.
+  here : IsWithoutReturns (length given) h
+  here = nobody_returns p (length given) beats h events come.merged k.final
+
+  one_life : IsOneLifeRun noted any_step p (length given) h
+  one_life = one_life_run noted any_step p (length given) h here come.run
 
   -- Each event that is accepted may be asked of the ring.
   pub asked : AllByRecursion (IsEventOf p (length given) beats) events
@@ -75,12 +83,27 @@ module _ (G : Type 0) (p : Params) (orders : List Order) (disk_at : ℕ → Disk
       let alive = subst (HasDiedIn h n) never (come.died n b (within n inside) at) i low in
       let q : true ≡ false = sym died ∙ alive in absurd (cc)
 
+  -- Who dies is a cub: a message is taken by the node to which its link leads.
+  only_cubs_die : (n i : ℕ) → n < node_count p → i < h.count n → is_death (h.event n i) ≡ true → n < p.cubs
+  only_cubs_die n i inside low t =
+      by (h.event n i) refl (dies_as p (length given) beats h events come.merged asked n i (within n inside) low) t
+    where
+      by : (e : NodeEvent Msg) → h.event n i ≡ e → MayDie p n e → is_death e ≡ true → n < p.cubs
+      by (Does input) is may died = absurd (cc)
+      by (Ends (Take stamp link msg) sends) is may died =
+          let came = come.run.carried n i stamp link msg (within n inside) low (inr (sends, is)) in
+          let same = (same_ends may.0 may.1 came.from n (sym may.2 ∙ came.ends)).1 in
+          subst (λ (c : ℕ). c < p.cubs) same may.3
+      by (Ends (Tick stamp) sends) is may died = may
+      by (Dies stamp) is may died = may
+      by (Returns stamp) is may died = absurd (cc)
+
   pub deaths : DieAlone p h
   unfolding cub_of
   deaths = record {
     mortal = λ n i inside other low. ⊎_elim
         (λ (t : is_death (h.event n i) ≡ true).
-        let cub = only_cubs_die p (length given) beats h events come.merged asked k.whole n i (within n inside) low t in
+        let cub = only_cubs_die n i inside low t in
         absurd (omega (arith, cub, other)))
         (λ (f : is_death (h.event n i) ≡ false). f)
         (cases_Bool (is_death (h.event n i)));
@@ -108,7 +131,7 @@ module _ (G : Type 0) (p : Params) (orders : List Order) (disk_at : ℕ → Disk
 
   pub is_ring : IsRing p orders disk_at h
   is_ring = record {
-    run = subst (λ n. IsPlainRun noted any_step p n h) size plain_run;
+    run = subst (λ n. IsOneLifeRun noted any_step p n h) size one_life;
     opens = opens;
     deaths = deaths;
     counted = k.counted;
@@ -126,7 +149,7 @@ module _ (G : Type 0) (p : Params) (orders : List Order) (disk_at : ℕ → Disk
     until = λ n inside alive.
         let up : IsUp h n = λ i low died. (let q : true ≡ false = sym died ∙ alive i low in absurd (cc)) in
         let ended = come.ticked n (within n inside) up in
-        let same = ticked-to noted any_step p (length given) h plain_run.plain n (h.count n) (within n inside) (omega arith) in
+        let same = open-ticked h n (h.count n) (λ j low. here n j (within n inside) low) in
         omega (arith, ended, same);
   }
 

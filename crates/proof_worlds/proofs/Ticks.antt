@@ -1,5 +1,5 @@
 -- The ticks of a list of events that is accepted are those of its history.
-use Rattle.std.proofs.Common.{◌≡◌, ℕ, zero, suc, ◌+◌, ◌<◌, List, [], ◌∷◌, ◌++◌, length, filter, Bool, true, false, cond, ◌&&◌, Option, Some, refl, sym, ap, subst, ◌∙◌, arith, ⊎_elim, inl, inr, length-append}
+use Rattle.std.proofs.Common.{◌≡◌, ℕ, zero, suc, ◌+◌, ◌<◌, ◌≤◌, List, [], ◌∷◌, ◌++◌, length, filter, Bool, true, false, cond, ◌&&◌, Option, Some, refl, sym, ap, subst, ◌∙◌, arith, ⊎_elim, inl, inr, length-append}
 use Rattle.std.specs.Prelude.{slice_get, find, option_map, unwrap_or, ◌==◌, ◌⊎◌}
 use Rattle.std.specs.List.{AllByRecursion}
 use Rattle.std.proofs.lemmas.Bool.{cases_Bool, eqb-true, eq-eqb}
@@ -12,7 +12,7 @@ use Rattle.node_kit.specs.declared.course.Order.{Order}
 use Rattle.node_kit.specs.Rows.{each_below}
 use Rattle.node_kit.specs.Steps.Input.{Take, Tick}
 use Rattle.node_kit.proofs.Rows.{get-each_below}
-use Rattle.run_facts.specs.Events.{NodeEvent, IsPlain, is_tick, stamp_at, is_tick_input}
+use Rattle.run_facts.specs.Events.{NodeEvent, IsPlain, is_tick, is_death, is_return, stamp_at, is_tick_input}
 use Rattle.run_facts.specs.Events.NodeEvent.{Does, Ends, Dies, Returns}
 use Rattle.run_facts.specs.Histories.{History, beat, reading, ticks}
 use Rattle.run_claims.specs.Accounts.{Ticking, HasTick, is_tick_of, is_tick_at, reading_at}
@@ -23,7 +23,7 @@ use Rattle.proof_controller.specs.Controllers.{controller}
 use Rattle.proof_facts.specs.Rings.{node_count}
 use Rattle.proof_journals.proofs.Events.{life_of}
 use Rattle.proof_journals.proofs.Journals.{inputs_of}
-use Rattle.proof_journals.proofs.Living.{beat_same}
+use Rattle.proof_lives.proofs.Acting.{beat_same}
 use Rattle.proof_ring.specs.Accounts.{IsControllersClock}
 use Rattle.proof_ring.proofs.Commanded.{kept}
 use Rattle.proof_ring.proofs.Ticks.{tick_made}
@@ -172,6 +172,13 @@ count_below h n (suc k) =
     (λ (f : is_tick (h.event n k) ≡ false). rw f (omega (arith, before)))
     (cases_Bool (is_tick (h.event n k)))
 
+-- A node that neither dies nor returns in an event does it whole.
+alive_plain : {M : Type 0} (e : NodeEvent M) → is_death e ≡ false → is_return e ≡ false → IsPlain e
+alive_plain (Does input) lives stays = tt
+alive_plain (Ends input sends) lives stays = absurd (cc)
+alive_plain (Dies stamp) lives stays = tt
+alive_plain (Returns stamp) lives stays = absurd (cc)
+
 tick_is : {M : Type 0} (e : NodeEvent M) → IsPlain e → is_tick e ≡ true → e ≡ Does (Tick (stamp_at e))
 tick_is (Does (Take stamp link msg)) plain t = absurd (cc)
 tick_is (Does (Tick stamp)) plain t = refl
@@ -186,8 +193,11 @@ module _ (G : Type 0) (p : Params) (orders : List Order) (disk_at : ℕ → Disk
   abbrev pub h : History Msg (AnyNode G)
   h = rings.h G p orders disk_at beats events m k
 
-  plain_at : (n i : ℕ) → n < node_count p → i < h.count n → IsPlain (h.event n i)
-  plain_at n i inside low = (rings.is_ring G p orders disk_at beats events m k).run.plain n i inside low
+  -- Only cubs die, so each event of another node is whole.
+  plain_at : (n i : ℕ) → n < node_count p → p.cubs ≤ n → i < h.count n → IsPlain (h.event n i)
+  plain_at n i inside other low =
+      let ring = rings.is_ring G p orders disk_at beats events m k in
+      alive_plain (h.event n i) (ring.deaths.mortal n i inside other low) (ring.run.here n i inside low)
 
   -- A node has one tick in a beat.
   one_tick : (n i j : ℕ) → n < node_count p → i < h.count n → j < h.count n → is_tick (h.event n i) ≡ true
@@ -224,12 +234,15 @@ module _ (G : Type 0) (p : Params) (orders : List Order) (disk_at : ℕ → Disk
   controller_inside : controller p < node_count p
   controller_inside = omega arith
 
+  controller_no_cub : p.cubs ≤ controller p
+  controller_no_cub = omega arith
+
   count : ticks h (controller p) (h.count (controller p)) ≡ length (filter (is_tick_of (controller p)) (ticks_of events))
   count =
       let merged = (rings.come G p orders disk_at beats events m k).merged in
       let own_events = merged.each (controller p) (rings.within G p orders disk_at beats events m k (controller p) controller_inside) in
       let plain : AllByRecursion IsPlain (own (controller p) merged.merged) = subst (AllByRecursion IsPlain) (sym own_events)
-      (all_each IsPlain (h.event (controller p)) (h.count (controller p)) (λ i low. plain_at (controller p) i controller_inside low)) in
+      (all_each IsPlain (h.event (controller p)) (h.count (controller p)) (λ i low. plain_at (controller p) i controller_inside controller_no_cub low)) in
       sym
       (ap (λ (es : List Event). length (filter (is_tick_of (controller p)) (ticks_of es))) merged.told
       ∙ own_count h.before (controller p) (λ _. []) merged.merged plain
@@ -243,7 +256,7 @@ module _ (G : Type 0) (p : Params) (orders : List Order) (disk_at : ℕ → Disk
       let merged = (rings.come G p orders disk_at beats events m k).merged in
       let at : slice_get (own n merged.merged) i ≡ Some (Does (Tick (stamp_at (h.event n i)))) =
       ap (λ (ys : List (NodeEvent Msg)). slice_get ys i) (merged.each n (rings.within G p orders disk_at beats events m k n controller_inside))
-      ∙ get-each_below (h.event n) (h.count n) i low ∙ ap (λ (y : NodeEvent Msg). Some y) (tick_is (h.event n i) (plain_at n i controller_inside low) tick) in
+      ∙ get-each_below (h.event n) (h.count n) i low ∙ ap (λ (y : NodeEvent Msg). Some y) (tick_is (h.event n i) (plain_at n i controller_inside controller_no_cub low) tick) in
       let there : HasTick (ticks_of events) n (beat h n i) (reading h n i) =
       subst (λ (es : List Event). HasTick (ticks_of es) n (beat h n i) (reading h n i)) (sym merged.told)
       (own_has h.before (stamp_at (h.event n i)) n (λ _. []) merged.merged i at) in

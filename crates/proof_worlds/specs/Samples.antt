@@ -9,6 +9,7 @@ use Rattle.ring_nodes.specs.declared.nodes.AnyNode.{AnyNode}
 use Rattle.ring_world.specs.declared.event.Act.{Act}
 use Rattle.ring_world.specs.declared.event.Act.TheVariants as act
 use Rattle.ring_world.specs.declared.event.Event.{Event}
+use Rattle.ring_world.specs.declared.event.Last.TheVariants as last
 use Rattle.ring_world.specs.Machine.{Machine}
 use Rattle.proof_worlds.specs.Accepted.{IsAccepted}
 
@@ -19,6 +20,13 @@ at_once what = record { stamp = record { beat = 0; reading = 0 }; act = what }
 -- Cub n dies, and node n ends its beat.
 abbrev pub dies : ℕ → Event
 dies n = at_once (act.Die (record { 0 = n }))
+
+-- Cub n dies in its tick, of which so many messages go out; and it comes back.
+abbrev pub dies_ticking : ℕ → ℕ → Event
+dies_ticking n sends = at_once (act.DieIn (last.Tick (record { 0 = n })) sends)
+
+abbrev pub comes_back : ℕ → Event
+comes_back n = at_once (act.Return (record { 0 = n }))
 
 abbrev pub ticks : ℕ → Event
 ticks n = at_once (act.Tick (record { 0 = n }))

@@ -1,5 +1,5 @@
 //! The claims of a run hold of every list of events that a ring's machine accepts, and of every world, as long as whoever
-//! dies in it dies apart from any other event, and for good.
+//! dies in it dies for good, in the middle of another event or apart from any.
 #![tactic(auto)]
 
 ghost use Rattle.proof_controller.specs.Orders.{AreCounted};

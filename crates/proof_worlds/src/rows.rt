@@ -4,9 +4,9 @@
 //! must be refused if a crate is checked without its tests.
 ghost use Rattle.std.specs.Prelude.{◌≡◌, ℕ, ◌∷◌, []};
 ghost use Rattle.disk_image.specs.Image.{Image};
-ghost use Rattle.proof_worlds.specs.Accepted.{IsTickIn};
+ghost use Rattle.proof_worlds.specs.Accepted.{HaveNoReturns, IsTickIn};
 ghost use Rattle.proof_worlds.specs.Accounts.{ticks_of};
-ghost use Rattle.proof_worlds.specs.Samples.{AreAccepted, dies, tick, ticks, ticks_at};
+ghost use Rattle.proof_worlds.specs.Samples.{AreAccepted, comes_back, dies, dies_ticking, tick, ticks, ticks_at};
 
 /// Cubs that are no neighbours may die in one beat. A cub beside a dead one may not, a dead one may not die
 /// once more, and there is no cub 8.
@@ -17,6 +17,15 @@ pub fn deaths()
     ensures beside { (image : ℕ → Image) → AreAccepted image (dies 3 ∷ dies 4 ∷ []) → ⊥ }
     ensures twice { (image : ℕ → Image) → AreAccepted image (dies 3 ∷ dies 3 ∷ []) → ⊥ }
     ensures no_cub { (image : ℕ → Image) → AreAccepted image (dies 8 ∷ []) → ⊥ }
+    ensures in_a_tick { (image : ℕ → Image) → AreAccepted image (dies_ticking 3 0 ∷ []) }
+{}
+
+/// Whoever dies in the middle of an event, or apart from any, may die for good; a cub that comes back does not.
+#[tactic(auto)]
+pub fn deaths_for_good()
+    ensures apart { HaveNoReturns (dies 3 ∷ ticks 2 ∷ []) }
+    ensures in_a_tick { HaveNoReturns (dies_ticking 3 1 ∷ ticks 2 ∷ []) }
+    ensures for_a_while { HaveNoReturns (dies 3 ∷ comes_back 3 ∷ []) → ⊥ }
 {}
 
 /// A tick is on a list with its own cub, beat and reading, if its beat is below the number.

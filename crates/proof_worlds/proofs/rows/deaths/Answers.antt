@@ -13,8 +13,7 @@ use Rattle.ring_nodes.specs.AllNodes.{any_step}
 use Rattle.ring_world.specs.declared.event.Event.{Event}
 use Rattle.ring_world.specs.Machine.{Machine, opening_machine}
 use Rattle.ring_world.specs.Faults.{Accepts}
-use Rattle.ring_world.specs.Laws.{HaveWholeDeaths}
-use Rattle.proof_worlds.specs.Accepted.{opening_ring}
+use Rattle.proof_worlds.specs.Accepted.{opening_ring, HaveNoReturns}
 use Rattle.proof_worlds.specs.Samples.{AreAccepted, disks_of}
 use Rattle.proof_worlds.proofs.rows.deaths.Goals as goal
 
@@ -31,8 +30,8 @@ no-orders = record {
 
 accepted : (image : ℕ → Image) (events : List Event) (m : Machine Msg (AnyNode ℕ))
     → Accepts noted any_step small (node_count small) 1 (opening_machine small (opening_ring small [] (disks_of image))) events m
-    → HaveWholeDeaths events → AreAccepted image events
-accepted image events m a whole = (
+    → HaveNoReturns events → AreAccepted image events
+accepted image events m a final = (
   m,
   record {
     plan = laws_met.0;
@@ -40,7 +39,7 @@ accepted image events m a whole = (
     disks = λ d l. record { params = refl; number = refl };
     few = omega arith;
     accepts = a;
-    whole = whole;
+    final = final;
   },
 )
 
@@ -62,3 +61,7 @@ returns-clause-twice c image a = absurd (none-some _ (sym a.1.accepts.2.1))
 
 pub returns-clause-no_cub : goal.returns-clause-no_cub
 returns-clause-no_cub c image a = omega (arith, a.1.accepts.0.1)
+
+pub returns-clause-in_a_tick : goal.returns-clause-in_a_tick
+unfolding time_of
+returns-clause-in_a_tick c image = accepted image _ _ ((omega arith, omega arith), refl, refl) (refl, tt)
