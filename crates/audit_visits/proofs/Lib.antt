@@ -1,0 +1,8 @@
+pub mod Tabling
+pub mod Counting
+pub mod Fronting
+pub mod Asking
+pub mod Stepping
+pub mod Judging
+pub mod Keeping
+pub mod Saying
