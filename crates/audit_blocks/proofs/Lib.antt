@@ -1,0 +1,15 @@
+pub mod Keyed
+pub mod Grouping
+pub mod Adding
+pub mod Keepings
+pub mod Carried
+pub mod Noting
+pub mod Opening
+pub mod Journals
+pub mod Bridging
+pub mod Sending
+pub mod Answering
+pub mod Choosing
+pub mod Righting
+pub mod Visiting
+pub mod Claiming

@@ -1,0 +1,11 @@
+pub mod Groups
+pub mod Parts
+pub mod Receipts
+pub mod Dispatches
+pub mod Entries
+pub mod Cargo
+pub mod Told
+pub mod Rightful
+pub mod Serving
+pub mod Verdicts
+pub mod Samples

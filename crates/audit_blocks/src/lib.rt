@@ -1,0 +1,23 @@
+//! Whether each block that was due to a viewer came, or is excused, and whether anything else came, decided by tables of
+//! what the journals of a run tell.
+#![tactic(auto)]
+
+mod cargo;
+mod delivered;
+mod dispatches;
+mod entries;
+mod excused;
+mod groups;
+mod keeping;
+pub mod laws;
+mod lookups;
+mod parts;
+mod receipts;
+mod rightful;
+pub mod rows;
+mod serving;
+mod tables;
+mod times;
+mod unserved;
+
+pub use unserved::first_unserved;
