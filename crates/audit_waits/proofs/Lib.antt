@@ -1,0 +1,13 @@
+pub mod Keyed
+pub mod Recorded
+pub mod Grouped
+pub mod Ordered
+pub mod Waiting
+pub mod Spotted
+pub mod Holding
+pub mod Excusing
+pub mod Windows
+pub mod Judged
+pub mod Passing
+pub mod Saying
+pub mod OnRuns

@@ -1,0 +1,82 @@
+//! Who died, whom cubs believe dead and which records they have, as far as the entries tell that a walk has passed.
+ghost use Rattle.std.specs.Prelude.{◌≡◌, ◌≤◌, ◌^◌, ℕ, [], OnOk};
+ghost use Rattle.run_model.specs.Moments.{Moment, next_moment};
+ghost use Rattle.audit_frame.specs.Lines.{noted_line};
+ghost use Rattle.audit_frame.specs.Tables.{has_pair};
+ghost use Rattle.audit_waits.specs.Cubs.{TellsCubs, excuses_in};
+
+use crate::holders::Holders;
+use crate::spots::Spots;
+use audit_frame::{Line, Numbers, Pairs};
+use node_kit::What;
+use slot_plan::Plan;
+use std::alloc::Global;
+use tiger_base::{Beat, NoMemory, NodeNo, SlotNo, Visit};
+
+/// Who died, whom the cubs believe dead, and the records that they took and did not drop.
+#[derive(Drop)]
+pub struct Cubs {
+    dead: Numbers,
+    believed: Pairs,
+    records: Spots,
+}
+
+impl Cubs {
+    /// Nothing is known yet.
+    pub fn new(alloc: Global) -> Cubs
+        ensures dead { result.dead ≡ [] }
+        ensures believed { result.believed ≡ [] }
+        ensures records { result.records ≡ [] }
+    {
+        Cubs {
+            dead: Numbers::new(alloc),
+            believed: Pairs::new(alloc),
+            records: Spots::new(alloc),
+        }
+    }
+
+    /// Whether a cub believes another one dead.
+    pub fn believes(&self, cub: NodeNo, other: NodeNo) -> bool
+        ensures { result ≡ has_pair cub.0 other.0 self.now.believed }
+    {
+        self.believed.has(cub.0, other.0)
+    }
+
+    /// Whether a cub that lives has a record of a visit of a slot whose instance was stopped a block play time before a
+    /// beat at most.
+    pub fn has_excuse(
+        &self,
+        plan: &Plan,
+        holders: &Holders,
+        beat: Beat,
+        cub: NodeNo,
+        slot: SlotNo,
+        visit: Visit,
+    ) -> bool
+        requires { visit ≤ 2 ^ 32 }
+        ensures { result ≡ excuses_in plan.now.params holders.now self.now cub.0 beat slot.0 visit }
+    {
+        if self.dead.has(cub.0) {
+            return false;
+        }
+        self.records
+            .has_excuse(plan, holders, beat, cub, slot, visit)
+    }
+
+    /// Takes one more entry.
+    pub fn take<'a>(&mut self, line: &Line<'a>) -> Result<(), NoMemory>
+        ensures { OnOk result ((m : Moment) → TellsCubs self.old m
+            → TellsCubs self.new (next_moment m (noted_line line.now))) }
+    {
+        match line.entry.what {
+            What::Took(r) => self.records.add(line.node, &r),
+            What::Dropped(r) => {
+                self.records.remove(line.node, &r);
+                Ok(())
+            }
+            What::Believed(other) => self.believed.add(line.node.0, other.0),
+            What::Died => self.dead.add(line.node.0),
+            _ => Ok(()),
+        }
+    }
+}
