@@ -1,9 +1,7 @@
-//! Tests of the calls that read a scenario, run it, judge what is kept of it and report it.
+//! Tests of the calls that read a scenario, run it, and judge and report what is kept of the run.
 
 #![tactic(auto)]
 
-#[cfg(test)]
-mod by_hand;
 #[cfg(test)]
 mod changes;
 #[cfg(test)]
@@ -11,11 +9,7 @@ mod claims;
 #[cfg(test)]
 mod gates;
 #[cfg(test)]
-mod journals;
-#[cfg(test)]
 mod made;
-#[cfg(test)]
-mod reports;
 #[cfg(test)]
 mod rings;
 #[cfg(test)]
