@@ -28,7 +28,7 @@ claims_are_the_nine k = (
     failures = claims.true_faults;
     blocks = claims.delivery;
     turns = claims.in_order;
-    patience = λ cub beat low early acts. claims.starts.patient cub beat _ low (early, acts, refl);
+    patience = λ cub beat low early ends. claims.starts.patient cub beat _ low (early, ends, refl);
     commands = claims.starts.commanded;
   }),
 )

@@ -1,5 +1,5 @@
 -- What a run is judged by: what it was given, what its nodes wrote, and which cub ticked when.
-use Rattle.std.specs.Prelude.{◌≡◌, ℕ, ◌+◌, ◌<◌, Bool, true, ◌&&◌, ◌==◌, List, length, filter, find, option_map, unwrap_or}
+use Rattle.std.specs.Prelude.{◌≡◌, ℕ, ◌+◌, ◌<◌, Bool, ◌&&◌, ◌==◌, List, length, filter, find, option_map, unwrap_or}
 use Rattle.slot_plan.specs.declared.params.Params.{Params}
 use Rattle.slot_plan.specs.Times.{time_of}
 use Rattle.stripe_layout.specs.declared.catalogue.Catalogue.{Catalogue}
@@ -9,10 +9,11 @@ use Rattle.node_kit.specs.declared.course.Order.{Order}
 use Rattle.node_kit.specs.declared.course.ReadFault.{ReadFault}
 use Rattle.node_kit.specs.declared.journal.Entry.{Entry}
 use Rattle.node_kit.specs.Courses.{reading_of}
-use Rattle.node_kit.specs.Life.{acts, lifetime_of}
+use Rattle.node_kit.specs.Life.{lifetime_of}
 use Rattle.node_kit.specs.Links.{links_of, controller_of}
 use Rattle.run_facts.specs.Order.{Noted, order_of}
 use Rattle.run_model.specs.Fronts.{AnyByRecursion}
+use Rattle.run_model.specs.Runs.{EndsBeat}
 
 -- An account of a run, whoever ran it: the plan, the catalogue, the read faults and the orders that it was given; one
 -- journal for each node, over a number of beats; which cub ticked in which beat at which reading; and in how many beats
@@ -38,10 +39,10 @@ end_of a = time_of a.plan a.beats
 
 -- ---- of a kept run
 
--- in a course a cub ticks in each beat of the run in which it acts, at the reading of its clock
+-- in a course a cub ticks in each beat of the run that it ends, at the reading of its clock
 abbrev pub ticks_in : Course → ℕ → ℕ → ℕ → Type 0
 ticks_in course cub beat reading =
-    (beat < course.beats) × (acts (lifetime_of course cub) beat ≡ true) × (reading ≡ reading_of course cub beat)
+    (beat < course.beats) × EndsBeat (lifetime_of course cub) beat × (reading ≡ reading_of course cub beat)
 
 -- the account of a kept run, in which the controller ticks in each beat
 abbrev pub account_of : Kept → Account

@@ -7,6 +7,7 @@ pub mod Bringing
 pub mod Complete
 pub mod Counting
 pub mod Dated
+pub mod Deaths
 pub mod Ending
 pub mod Entries
 pub mod Halves

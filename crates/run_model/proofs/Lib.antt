@@ -1,5 +1,6 @@
 pub mod Fronts
 pub mod Moments
+pub mod Ticking
 pub mod Ticks
 pub mod Lengths
 pub mod Bytes

@@ -15,7 +15,7 @@ ghost use Rattle.run_model.specs.Moments.{moment_at, view_of};
 ghost use Rattle.run_model.specs.Orders.{PutsAreFair, IsTaken, IsNotPassedOver, end_of_tick};
 ghost use Rattle.run_model.specs.Parts.{ViewsAreAlwaysPart, EntriesAreLocal};
 ghost use Rattle.run_model.specs.Runs.{NoneIsPassedOver, IsTimedRun, IsCarriedRun};
-ghost use Rattle.run_model.specs.Samples.{kept, dying, at_reading, gone, put, took, dropped, told, tells, starts, dies, believes, sends, gets, fails, later, later_at, seat, seat_in, three, want, block, piece, first_block, first_half, second_half, IsOfTen, ask_for, begins, ask, ordered, seated, IsDeliveredBy, IsExcusedBy};
+ghost use Rattle.run_model.specs.Samples.{kept, dying, at_reading, gone, put, took, dropped, told, tells, starts, dies, believes, sends, gets, fails, later, later_at, seat, seat_in, three, want, block, piece, first_block, first_half, second_half, IsOfTen, ask_for, begins, ask, ordered, seated, IsDeliveredBy, IsExcusedBy, kept_of_lives, of_none};
 
 /// Instance 0 has slot 1 for visits 0 to 2.
 pub fn free()
@@ -290,6 +290,12 @@ pub fn every_tick()
         (kept k p 1 (dying (Some 0) None None) ordered (starts 0 0 ask false ∷ [])) }
     ensures dies_later { (k : Kept) (p : IsPlan small) → NoneIsPassedOver
         (kept k p 2 (dying (Some 1) None None) ordered (starts 0 0 ask false ∷ dies 0 1 ∷ [])) → ⊥ }
+    ensures cut_off_then { (k : Kept) (p : IsPlan small) → NoneIsPassedOver
+        (kept_of_lives k p 1 (dying (Some 0) None None) (dying (Some 2) None None) of_none ordered
+        (starts 0 0 ask false ∷ [])) }
+    ensures cut_off_later { (k : Kept) (p : IsPlan small) → NoneIsPassedOver
+        (kept_of_lives k p 2 (dying (Some 1) None None) (dying (Some 2) None None) of_none ordered
+        (starts 0 0 ask false ∷ dies 0 1 ∷ [])) → ⊥ }
     ensures last_cub { (k : Kept) (p : IsPlan small) → NoneIsPassedOver
         (kept k p 651 (dying None None None) (begins (ask_for 0 0 3 7))
         (starts 7 1 (ask_for 0 0 3 7) false ∷ [])) → ⊥ }

@@ -1,5 +1,5 @@
 -- What stands at the end of a tick of a cub, and that it stays until the end of a later one.
-use Rattle.std.proofs.Common.{◌≡◌, ℕ, ◌<◌, ◌≤◌, true, List, filter, Option, Some, None, refl, sym, ap, subst, ◌∙◌, arith, ⊎_elim, inl, inr}
+use Rattle.std.proofs.Common.{◌≡◌, ℕ, ◌<◌, ◌≤◌, true, List, filter, Option, Some, refl, sym, ap, subst, ◌∙◌, arith, ⊎_elim, inl, inr, false}
 use Rattle.std.specs.Prelude.{◌==◌}
 use Rattle.std.proofs.lemmas.Bool.{eqb-true, eq-eqb, ltb-true, lt-ltb, cases_lt}
 use Rattle.tiger_base.specs.declared.number.Instance.{Instance}
@@ -7,12 +7,14 @@ use Rattle.tiger_base.specs.declared.tenancy.Tenancy.{Tenancy}
 use Rattle.node_kit.specs.declared.journal.What.{What}
 use Rattle.node_kit.specs.declared.journal.What.TheVariants as what
 use Rattle.node_kit.specs.declared.journal.Entry.{Entry}
-use Rattle.node_kit.specs.Life.{Lifetime, IsWholeLife, mortal, acts}
-use Rattle.node_kit.proofs.Whole.{acts-undying, acts-mortal}
+use Rattle.node_kit.specs.declared.course.Course.{Course}
+use Rattle.node_kit.specs.Life.{Lifetime, death_of, cut_of, lifetime_of}
 use Rattle.run_facts.specs.Order.{Noted, beat_of, journal_of}
 use Rattle.run_model.specs.Schedule.{Stop, schedule_of}
 use Rattle.run_model.specs.Moments.{moment_at, is_put_of, is_belief_of}
 use Rattle.run_model.specs.Orders.{is_up_to, end_of_tick}
+use Rattle.run_model.specs.Runs.{EndsBeat, HasNoReturns}
+use Rattle.run_model.proofs.Ticking.{ended_before}
 use Rattle.lists.specs.Elements.{In}
 use Rattle.proof_moments.proofs.Bridge.{put_is}
 use Rattle.proof_moments.proofs.Lists.{any_passes, any_passing}
@@ -137,17 +139,9 @@ belief_stays log b last c d h t =
     any_passes (λ (e : Entry). is_belief_of d e.what) (journal_of c (filter (is_up_to last c) log)) x.0.entry i
     (subst (λ (e : Entry). is_belief_of d e.what ≡ true) (sym x.3) q.2)
 
--- whose life is whole acts as by its death alone
-pub acts_by_death : (life : Lifetime) (b : ℕ) → IsWholeLife life → acts life b ≡ acts (mortal life.death) b
-acts_by_death life b whole = ap (λ (q : Lifetime). acts q b) whole
-
--- who acts in a beat acted in each before it
-acted_before : (death : Option ℕ) (b last : ℕ) → b ≤ last → acts (mortal death) last ≡ true → acts (mortal death) b ≡ true
-acted_before None b last h t = acts-undying b
-acted_before (Some d) b last h t =
-    let l = ltb-true last d (sym (acts-mortal d last) ∙ t) in
-    acts-mortal d b ∙ lt-ltb b d (omega arith)
-
-pub acted : (life : Lifetime) (b last : ℕ) → IsWholeLife life → b ≤ last → acts life last ≡ true → acts life b ≡ true
-acted life b last whole h t =
-    acts_by_death life b whole ∙ acted_before life.death b last h (sym (acts_by_death life last whole) ∙ t)
+-- a node of a course in which nobody returns that ends a beat ended each before it
+pub ended_each : (c : Course) (n b last : ℕ) → HasNoReturns c → b ≤ last → EndsBeat (lifetime_of c n) last → EndsBeat (lifetime_of c n) b
+ended_each c n b last none low ends =
+    let without : Option ℕ → Lifetime = λ back. record { death = death_of c n; left = cut_of c n; back = back; over = false } in
+    subst (λ (back : Option ℕ). EndsBeat (without back) b) (sym (none n))
+    (ended_before (death_of c n) (cut_of c n) b last low (subst (λ (back : Option ℕ). EndsBeat (without back) last) (none n) ends))

@@ -13,12 +13,11 @@ use Rattle.node_kit.specs.declared.course.Order.{Order}
 use Rattle.node_kit.specs.declared.course.OrderKind.{OrderKind}
 use Rattle.node_kit.specs.declared.course.OrderKind.TheVariants as kind
 use Rattle.node_kit.specs.declared.course.ReadFault.{ReadFault}
-use Rattle.node_kit.specs.Life.{Lifetime, acts}
 use Rattle.run_facts.specs.Commanded.{stop_ordered}
 use Rattle.run_facts.specs.Order.{beat_of}
-use Rattle.run_facts.specs.Plain.{HasWholeLives}
 use Rattle.run_model.specs.Orders.{IsOrdered, IsTenancyFor}
-use Rattle.run_model.specs.Runs.{order_in}
+use Rattle.run_model.specs.Runs.{HasNoReturns, order_in}
+use Rattle.run_model.proofs.Ticking.{ends_undying}
 use Rattle.lists.specs.Elements.{In}
 use Rattle.proof_moments.proofs.Lists.{any_by}
 use Rattle.lists.proofs.Elements.{in_filter}
@@ -90,10 +89,6 @@ room k a w ordered full =
 
 -- ---- the wait
 
-acts_always : (life : Lifetime) (beat : ℕ) → life.death ≡ None → acts life beat ≡ true
-unfolding acts
-acts_always life beat e = rw e refl
-
 turn_rises : (k : Kept) (from last : ℕ) → IsATurn k.course.plan.params from last → from ≤ last
 turn_rises k from last turn =
     let p = k.course.plan.params in
@@ -128,7 +123,7 @@ is_waiting k ask ordered last play turn ends nothing =
       came = omega arith;
       rises = turn_rises k (ordered + p.delay) last turn;
       ends = ends;
-      acts = acts_always _ last (nothing.deaths (ask.disk.0 % p.cubs) small);
+      ends_last = ends_undying _ last (nothing.deaths (ask.disk.0 % p.cubs) small);
     }
 
 -- ---- the blocks
@@ -151,8 +146,8 @@ block_comes k t n time w q nothing unstopped within soon ends =
     (λ death d. absurd (death_of_none _ death (nothing.deaths (cub_of p (t.first + n)) (cub_below p (t.first + n) k.course.plan.sound.ranges)) d))
     (subst (λ (fs : List ReadFault). AllByRecursion (λ (f : ReadFault). f.disk.0 ≢ disk_of p (t.first + n)) fs) (sym nothing.faults) tt)
 
-pub who_presses_play_is_served : (k : Kept) → IsKeptWell k → HasWholeLives k.course → WhoPressesPlayIsServed k
-who_presses_play_is_served k w whole ask ordered last wide play turn ends full nothing =
+pub who_presses_play_is_served : (k : Kept) → IsKeptWell k → HasNoReturns k.course → WhoPressesPlayIsServed k
+who_presses_play_is_served k w none ask ordered last wide play turn ends full nothing =
     let p = k.course.plan.params in
     let a = waiting k ask ordered last in
     let h = is_waiting k ask ordered last play turn ends nothing in
@@ -162,7 +157,7 @@ who_presses_play_is_served k w whole ask ordered last wide play turn ends full n
     (λ gone.
     let g = stopped_by_tick (order_in k) a.cub last ask.instance.0 gone in
     absurd (true≢false (sym (stop_was_ordered k ask.instance.0 w g) ∙ play.unstopped (beat_of g.entry))))
-    (who_finds_room_is_put k w whole a wide h turn (room k a w start full)) in
+    (who_finds_room_is_put k w none a wide h turn (room k a w start full)) in
     let place = the_first_block_is_due_soon k w a.cub last ask.instance.0 put in
     let t : Tenancy = place.0 in
     let q = put_in_order k t w place.1.put in

@@ -2,7 +2,7 @@
 use Rattle.std.proofs.Common.{◌≡◌, ℕ, ◌+◌, ◌<◌, ◌≤◌, Bool, true, false, List, [], ◌∷◌, cond, filter, Option, Some, None, refl, sym, ap, subst, ◌∙◌, arith, ⊎_elim, inl, inr}
 use Rattle.std.specs.Prelude.{◌⊎◌, ◌==◌, slice_get, option_map}
 use Rattle.std.specs.List.{flat_map}
-use Rattle.std.proofs.lemmas.Bool.{eqb-true, eq-eqb, lt-ltb, ltb-true, cases_lt}
+use Rattle.std.proofs.lemmas.Bool.{eqb-true, eq-eqb, lt-ltb, cases_lt}
 use Rattle.tiger_base.specs.declared.number.LinkNo.{LinkNo}
 use Rattle.tiger_base.specs.declared.tenancy.Ask.{Ask}
 use Rattle.tiger_base.specs.declared.message.Note.{Note}
@@ -14,18 +14,18 @@ use Rattle.node_kit.specs.declared.course.OrderKind.TheVariants as kind
 use Rattle.node_kit.specs.declared.journal.What.{What}
 use Rattle.node_kit.specs.declared.journal.What.TheVariants as what
 use Rattle.node_kit.specs.declared.journal.Entry.{Entry}
-use Rattle.node_kit.specs.Life.{Lifetime, IsWholeLife, mortal, lifetime_of, acts}
+use Rattle.node_kit.specs.declared.course.Course.{Course}
+use Rattle.node_kit.specs.Life.{Lifetime, death_of, cut_of, lifetime_of}
 use Rattle.node_kit.specs.Links.{links_of, ends_of, controller_of}
-use Rattle.node_kit.proofs.Whole.{acts-mortal}
 use Rattle.run_facts.specs.Events.{Dated}
 use Rattle.run_facts.specs.Order.{Noted, journal_of}
 use Rattle.run_facts.specs.Carried.{sent_by, got_by, sent_on, got_on, DiedBy, MayBeLost, AreFrontOn, AreCarriedBy, AreCarriedOn, IsAtItsEnd}
-use Rattle.run_facts.specs.Plain.{HasWholeLives}
 use Rattle.run_facts.specs.Commanded.{Dispatch, end_of, start_of, start_in, starts_sent, starts_for, starts_at, starts_ordered}
 use Rattle.run_model.specs.Fronts.{AnyByRecursion}
 use Rattle.run_model.specs.Moments.{moment_at}
 use Rattle.run_model.specs.Orders.{IsOrdered, IsStartOf, HasStart, is_up_to}
-use Rattle.run_model.specs.Runs.{order_in}
+use Rattle.run_model.specs.Runs.{EndsBeat, HasNoReturns, order_in}
+use Rattle.run_model.proofs.Ticking.{ends_below}
 use Rattle.lists.specs.Elements.{In}
 use Rattle.proof_moments.proofs.Lists.{any_by, any_with}
 use Rattle.lists.proofs.Elements.{in_filter, chosen}
@@ -34,7 +34,7 @@ use Rattle.proof_moments.proofs.Orders.{noted_at}
 use Rattle.proof_moments.proofs.Ticks.{up_to_by}
 use Rattle.run_promises.specs.Kept.{IsKeptWell, IsOrderedIn, after_tick}
 use Rattle.run_promises.specs.Waits.{Wait, IsWaiting}
-use Rattle.run_promises.proofs.Fronts.{into_front_journal, belief_stays, acts_by_death, acted}
+use Rattle.run_promises.proofs.Fronts.{into_front_journal, belief_stays, ended_each}
 use Rattle.run_promises.proofs.Journals.{from_flat_map, into_flat_map, journal_there, in_the_order}
 
 pub was_ordered : (orders : List Order) (ask : Ask) (beat : ℕ) → IsOrderedIn orders ask beat → IsOrdered orders ask
@@ -99,11 +99,11 @@ sent k beat d journal w at early ordered i =
 
 -- ---- the link brings it
 
--- to a receiver of a whole life what was got is a front of all that was sent
-front_on : (most beats : ℕ) (life : Lifetime) (ss gs : List (Dated Note)) → IsWholeLife life
+-- to a receiver that does not return what was got is a front of all that was sent
+front_on : (most beats : ℕ) (life : Lifetime) (ss gs : List (Dated Note)) → life.back ≡ None
     → AreCarriedOn most beats life ss gs → AreFrontOn most beats life ss gs
-front_on most beats life ss gs whole h =
-    subst (λ (back : Option ℕ). AreCarriedBy most beats life back ss gs) (ap (λ (q : Lifetime). q.back) whole) h
+front_on most beats life ss gs none h =
+    subst (λ (back : Option ℕ). AreCarriedBy most beats life back ss gs) none h
 
 -- what was sent was got, unless it may be lost
 got_or_lost : (most beats : ℕ) (life : Lifetime) (ss gs : List (Dated Note)) (s : Dated Note) → AreFrontOn most beats life ss gs → In s ss
@@ -118,16 +118,17 @@ got_or_lost most beats life (x ∷ ss) (g ∷ gs) s h i = ⊎_elim
     (λ k. ⊎_elim (λ l. inl l) (λ q. inr (q.0, inr q.1, q.2, q.3)) (got_or_lost most beats life ss gs s h.3 k))
     i
 
-died_too_late : (death : Option ℕ) (due beat : ℕ) → due ≤ beat → acts (mortal death) beat ≡ true → DiedBy death due → ⊥
-died_too_late None due beat h act d = d
-died_too_late (Some death) due beat h act d =
-    let l = ltb-true beat death (sym (acts-mortal death beat) ∙ act) in omega (arith, l, d, h)
+died_too_late : (death left : Option ℕ) (due beat : ℕ) → due ≤ beat
+    → EndsBeat (record { death = death; left = left; back = None; over = false }) beat → DiedBy death due → ⊥
+died_too_late None left due beat h ends d = d
+died_too_late (Some death) left due beat h ends d = let l = ends_below death left beat ends in omega (arith, l, d, h)
 
-not_lost : (most beats sent beat : ℕ) (life : Lifetime) → IsWholeLife life → sent + most ≤ beat → beat < beats → acts life beat ≡ true
-    → MayBeLost most beats life sent → ⊥
-not_lost most beats sent beat life whole low high act h = ⊎_elim
+not_lost : (most beats sent beat : ℕ) (c : Course) (n : ℕ) → HasNoReturns c → sent + most ≤ beat → beat < beats
+    → EndsBeat (lifetime_of c n) beat → MayBeLost most beats (lifetime_of c n) sent → ⊥
+not_lost most beats sent beat c n none low high ends h = ⊎_elim
     (λ l. omega arith)
-    (λ d. died_too_late life.death (sent + most) beat low (sym (acts_by_death life beat whole) ∙ act) d.0)
+    (λ d. died_too_late (death_of c n) (cut_of c n) (sent + most) beat low
+    (subst (λ (back : Option ℕ). EndsBeat (record { death = death_of c n; left = cut_of c n; back = back; over = false }) beat) (none n) ends) d.0)
     h
 
 sent_on_link : (l : ℕ) (e : Entry) (link : LinkNo) (n : Note) → e.what ≡ what.Sent link n → link.0 ≡ l
@@ -157,12 +158,12 @@ record IsGot (journal : List Entry) (high : ℕ) (ask : Ask) (redundant : Bool) 
   link : LinkNo
   is : entry.what ≡ what.Got link (note.Start redundant ask)
 
-got : (k : Kept) (ordered c beat : ℕ) (ask : Ask) (redundant : Bool) (sender receiver : List Entry) → IsKeptWell k → HasWholeLives k.course
+got : (k : Kept) (ordered c beat : ℕ) (ask : Ask) (redundant : Bool) (sender receiver : List Entry) → IsKeptWell k → HasNoReturns k.course
     → slice_get k.journals (controller_of (links_of k.course.plan.params)) ≡ Some sender → slice_get k.journals c ≡ Some receiver
     → IsSent k.course.plan.params sender ordered (start_to c ask redundant) → ordered + k.course.plan.params.delay ≤ beat → beat < k.course.beats
-    → acts (lifetime_of k.course c) beat ≡ true → IsGot receiver (ordered + k.course.plan.params.delay) ask redundant
+    → EndsBeat (lifetime_of k.course c) beat → IsGot receiver (ordered + k.course.plan.params.delay) ask redundant
 unfolding sent_on got_on
-got k ordered c beat ask redundant sender receiver w whole from to s low high act =
+got k ordered c beat ask redundant sender receiver w none from to s low high ends_it =
     let p = k.course.plan.params in
     let here : ℕ = controller_of (links_of p) in
     let most : ℕ = p.delay in
@@ -176,7 +177,7 @@ got k ordered c beat ask redundant sender receiver w whole from to s low high ac
     let on = into_flat_map (λ (e : Entry). sent_by s.link.0 e.stamp.beat e.what) item sender s.entry s.there
     (sent_on_link s.link.0 s.entry s.link message s.is refl) in
     ⊎_elim
-    (λ l. absurd (not_lost most k.course.beats ordered beat life (whole c) low high act (subst (λ (b : ℕ). MayBeLost most k.course.beats life b) s.in_beat l)))
+    (λ l. absurd (not_lost most k.course.beats ordered beat k.course c none low high ends_it (subst (λ (b : ℕ). MayBeLost most k.course.beats life b) s.in_beat l)))
     (λ g.
     let e = from_flat_map (λ (e : Entry). got_by s.link.0 e.stamp.beat e.what) g.0 receiver g.1 in
     let q = got_on_link s.link.0 e.0.stamp.beat e.0.what g.0 e.2 in
@@ -186,7 +187,7 @@ got k ordered c beat ask redundant sender receiver w whole from to s low high ac
     let sent_in = s.in_beat in
     record { entry = e.0; there = e.1; early = omega arith; link = q.0; is = q.1 ∙ ap (λ (n : Note). what.Got q.0 n) same })
     (got_or_lost most k.course.beats life (sent_on s.link.0 sender) (got_on s.link.0 receiver) item
-    (front_on most k.course.beats life _ _ (whole c) (w.carried.on_links s.link.0 here c sender receiver ends from to)) on)
+    (front_on most k.course.beats life _ _ (none c) (w.carried.on_links s.link.0 here c sender receiver ends from to)) on)
 
 -- ---- so it is there
 
@@ -194,10 +195,10 @@ is_start : (v : ℕ) (redundant : Bool) (ask : Ask) (w : What) (link : LinkNo) �
     → IsStartOf v redundant w
 is_start v redundant ask w link is same = subst (λ (z : What). IsStartOf v redundant z) (sym is) (same, refl)
 
-start_there : (k : Kept) (a : Wait) (beat : ℕ) (redundant : Bool) → IsKeptWell k → HasWholeLives k.course → IsWaiting k a → a.from ≤ beat → beat ≤ a.last
+start_there : (k : Kept) (a : Wait) (beat : ℕ) (redundant : Bool) → IsKeptWell k → HasNoReturns k.course → IsWaiting k a → a.from ≤ beat → beat ≤ a.last
     → In (start_to a.cub a.ask redundant) (starts_for k.course.plan.params (kind.Begin a.ask))
     → AnyByRecursion (λ (e : Entry). IsStartOf a.ask.instance.0 redundant e.what) (journal_of a.cub (filter (is_up_to beat a.cub) (order_in k)))
-start_there k a beat redundant w whole h low high to =
+start_there k a beat redundant w none h low high to =
     let p = k.course.plan.params in
     let c : ℕ = a.cub in
     let log = order_in k in
@@ -207,8 +208,8 @@ start_there k a beat redundant w whole h low high to =
     let sender = journal_there k (controller_of (links_of p)) w (omega arith) in
     let receiver = journal_there k c w (omega arith) in
     let out = sent k a.ordered (start_to c a.ask redundant) sender.0 w sender.1 (omega arith) h.asked to in
-    let g = got k a.ordered c beat a.ask redundant sender.0 receiver.0 w whole sender.1 receiver.1 out (omega arith) (omega arith)
-    (acted (lifetime_of k.course c) beat a.last (whole c) high h.acts) in
+    let g = got k a.ordered c beat a.ask redundant sender.0 receiver.0 w none sender.1 receiver.1 out (omega arith) (omega arith)
+    (ended_each k.course c beat a.last none high h.ends_last) in
     let early = g.early in
     let x : Noted = noted_at c g.entry in
     let there : In x log = in_the_order k c g.entry w (record { journal = receiver.0; at = receiver.1; there = g.there }) in
@@ -222,16 +223,16 @@ start_there k a beat redundant w whole h low high to =
     (is_start a.ask.instance.0 redundant a.ask g.entry.what g.link g.is refl)
 
 -- a start that waits is at its cub at each of the ticks
-pub has_start : (k : Kept) (a : Wait) (beat : ℕ) → IsKeptWell k → HasWholeLives k.course → IsWaiting k a → a.from ≤ beat → beat ≤ a.last
+pub has_start : (k : Kept) (a : Wait) (beat : ℕ) → IsKeptWell k → HasNoReturns k.course → IsWaiting k a → a.from ≤ beat → beat ≤ a.last
     → HasStart k.course.plan.params (after_tick k a.cub beat) a.cub a.ask
 unfolding moment_at
-has_start k a beat w whole h low high = ⊎_elim
-    (λ own. inl (own, start_there k a beat false w whole h low high (inl (ap (λ (n : ℕ). start_to n a.ask false) (sym own)))))
+has_start k a beat w none h low high = ⊎_elim
+    (λ own. inl (own, start_there k a beat false w none h low high (inl (ap (λ (n : ℕ). start_to n a.ask false) (sym own)))))
     (λ next. inr (
       next.0,
       (
         belief_stays (order_in k) a.from beat a.cub _ low next.1,
-        start_there k a beat true w whole h low high (inr (inl (ap (λ (n : ℕ). start_to n a.ask true) (sym next.0)))),
+        start_there k a beat true w none h low high (inr (inl (ap (λ (n : ℕ). start_to n a.ask true) (sym next.0)))),
       ),
     ))
     h.its_cub

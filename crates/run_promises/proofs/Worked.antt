@@ -18,11 +18,11 @@ use Rattle.node_kit.specs.declared.course.OrderKind.TheVariants as kind
 use Rattle.node_kit.specs.declared.journal.What.{What}
 use Rattle.node_kit.specs.declared.journal.What.TheVariants as what
 use Rattle.node_kit.specs.declared.journal.Entry.{Entry}
-use Rattle.node_kit.specs.Life.{Lifetime, IsWholeLife, lifetime_of, acts}
+use Rattle.node_kit.specs.Life.{Lifetime, back_of, lifetime_of, acts}
 use Rattle.node_kit.specs.Links.{links_of, ends_of}
 use Rattle.run_facts.specs.Carried.{AreFrontOn, AreCarriedBy, AreCarriedOn, sent_on, got_on}
 use Rattle.run_facts.specs.Events.{Dated}
-use Rattle.run_facts.specs.Plain.{HasWholeLives}
+use Rattle.run_model.specs.Runs.{HasNoReturns}
 use Rattle.run_facts.specs.Commanded.{IsCommanded, AreCommanded, is_finish_of, is_gone, starts_sent, starts_ordered, gone_in, gone_before, stop_ordered, places_got}
 use Rattle.run_facts.specs.Order.{Noted, beat_of, journal_of, order_of, IsInOrder}
 use Rattle.run_facts.proofs.Orders.{order_found}
@@ -327,13 +327,13 @@ front_on_link life l from to sender receiver e a b =
     (cases_eq 1 l))
     (cases_eq 0 l)
 
--- a receiver of a whole life does not return, so that what is carried is one front
-on_link : (life : Lifetime) (l from to : ℕ) (sender receiver : List Entry) → IsWholeLife life → ends_of (links_of small) l ≡ Some (from, to)
+-- what is carried to a receiver that does not return is one front
+on_link : (life : Lifetime) (l from to : ℕ) (sender receiver : List Entry) → life.back ≡ None → ends_of (links_of small) l ≡ Some (from, to)
     → slice_get journals from ≡ Some sender → slice_get journals to ≡ Some receiver → AreCarriedOn 2 1600 life (sent_on l sender) (got_on l receiver)
-on_link life l from to sender receiver whole e a b =
+on_link life l from to sender receiver none e a b =
     let ss : List (Dated Note) = sent_on l sender in
     let gs : List (Dated Note) = got_on l receiver in
-    subst (λ (back : Option ℕ). AreCarriedBy 2 1600 life back ss gs) (sym (ap (λ (q : Lifetime). q.back) whole))
+    subst (λ (back : Option ℕ). AreCarriedBy 2 1600 life back ss gs) (sym none)
     (front_on_link life l from to sender receiver e a b)
 
 -- ---- what is said of other entries than there are
@@ -378,10 +378,10 @@ meets_claims k plan s =
       };
     }
 
--- no death cuts a cub off, and none returns
-pub whole_lives : (k : Kept) (plan : IsPlan small) (s : IsOfTen) → HasWholeLives (one_viewer k plan s).course
-whole_lives k plan s n = ⊎_elim
-    (λ (low : n < 8). of-eight (λ n. IsWholeLife (lifetime_of (one_viewer k plan s).course n)) refl refl refl refl refl refl refl refl n low)
+-- nobody returns
+pub none_back : (k : Kept) (plan : IsPlan small) (s : IsOfTen) → HasNoReturns (one_viewer k plan s).course
+none_back k plan s n = ⊎_elim
+    (λ (low : n < 8). of-eight (λ n. back_of (one_viewer k plan s).course n ≡ None) refl refl refl refl refl refl refl refl n low)
     (λ (high : 8 ≤ n). let beyond : nat_lt n 8 ≡ false = grind (arith, nat_tests, high) in rw beyond refl)
     (cases_lt n 8)
 
@@ -391,7 +391,7 @@ one_viewer_is_kept_well k plan s =
     let run = one_viewer k plan s in
     record {
       count = refl;
-      carried = (endings.carried run (links_of small) refl (λ l from to sender receiver e a b. on_link (lifetime_of run.course to) l from to sender receiver (whole_lives k plan s to) e a b)).0 refl;
+      carried = (endings.carried run (links_of small) refl (λ l from to sender receiver e a b. on_link (lifetime_of run.course to) l from to sender receiver (none_back k plan s to) e a b)).0 refl;
       timed = ((timely.timed run).0 refl).timed;
       claims = meets_claims k plan s;
     }
@@ -458,7 +458,7 @@ sound k plan s = record {
 }
 
 pub promises : (k : Kept) (plan : IsPlan small) (s : IsOfTen) → KeepsPromises (one_viewer k plan s)
-promises k plan s = kept_runs_keep_promises (one_viewer k plan s) (one_viewer_is_kept_well k plan s) (whole_lives k plan s)
+promises k plan s = kept_runs_keep_promises (one_viewer k plan s) (one_viewer_is_kept_well k plan s) (none_back k plan s)
 
 turn : IsATurn small 2 1520
 unfolding time_of
@@ -511,7 +511,7 @@ waits_until k plan s last low high = record {
   came = omega arith;
   rises = low;
   ends = high;
-  acts = refl;
+  ends_last = (refl, refl);
 }
 
 pub over : (k : Kept) (plan : IsPlan small) (s : IsOfTen) → IsOver (one_viewer k plan s) (wait 0 2 1520) 2

@@ -2,7 +2,7 @@
 //! one number, of which it does not. They stand in contracts of functions without a body, and not
 //! in tests, since a weakened definition must be refused where a crate is checked without its
 //! tests.
-ghost use Rattle.std.specs.Prelude.{◌≡◌, ◌+◌, ◌≤◌, ◌⊎◌, ℕ, List, ◌∷◌, [], Some, None, IsTrue};
+ghost use Rattle.std.specs.Prelude.{◌≡◌, ◌+◌, ◌≤◌, ◌⊎◌, ℕ, List, ◌∷◌, [], Some, None, true, false, IsTrue};
 ghost use Rattle.tiger_base.specs.declared.tenancy.Tenancy.{Tenancy};
 ghost use Rattle.slot_plan.specs.Conditions.{IsPlan};
 ghost use Rattle.slot_plan.specs.Samples.{small};
@@ -15,7 +15,8 @@ ghost use Rattle.run_model.specs.Excuses.{LostInDeath};
 ghost use Rattle.run_model.specs.Moments.{moment_at, moment_time};
 ghost use Rattle.run_model.specs.Orders.{PutsAreFair};
 ghost use Rattle.run_model.specs.Parts.{ViewsAreAlwaysPart};
-ghost use Rattle.run_model.specs.Samples.{IsOfTen, all, at_reading, begins, dies, dying, fails, put, seat, seat_in, seated, ten, three, want};
+ghost use Rattle.run_model.specs.Runs.{EndsBeat, HasNoReturns};
+ghost use Rattle.run_model.specs.Samples.{IsOfTen, all, at_reading, begins, dies, dying, fails, kept_of_lives, of_none, put, seat, seat_in, seated, ten, three, want};
 ghost use Rattle.run_model.specs.Served.{IsPut};
 ghost use Rattle.run_claims.specs.Samples.{faulty};
 ghost use Rattle.run_report.specs.Outcomes.{kind_of};
@@ -100,6 +101,32 @@ pub fn waits()
         IsOver (silent k p s all_live [] (begins one_block)) (wait 0 2 1520) 1520 → ⊥ }
     ensures other_beat { (k : Kept) (p : IsPlan small) (s : IsOfTen) →
         PressesPlay (one_viewer k p s) one_block 1 → ⊥ }
+{}
+
+/// Cub 0 dies in beat 50, behind one message of that beat or before all: beat 49 is the last that it
+/// ends, and so the last of a wait there. A cub that returns ends the beat of its return.
+pub fn last_beats()
+    ensures before { EndsBeat (record { death = Some 50; left = Some 1; back = None; over = false })
+        49 }
+    ensures cut_off { EndsBeat
+        (record { death = Some 50; left = Some 1; back = None; over = false }) 50 → ⊥ }
+    ensures dead { EndsBeat (record { death = Some 50; left = Some 1; back = None; over = false })
+        51 → ⊥ }
+    ensures apart { EndsBeat (record { death = Some 50; left = None; back = None; over = false })
+        50 → ⊥ }
+    ensures back { EndsBeat
+        (record { death = Some 50; left = Some 1; back = Some 60; over = true }) 60 }
+    ensures waits { (k : Kept) (p : IsPlan small) → IsWaiting
+        (kept_of_lives k p 1600 (dying (Some 50) None None) (dying (Some 1) None None) of_none
+        (begins one_block) []) (wait 0 2 49) }
+    ensures waits_no_longer { (k : Kept) (p : IsPlan small) → IsWaiting
+        (kept_of_lives k p 1600 (dying (Some 50) None None) (dying (Some 1) None None) of_none
+        (begins one_block) []) (wait 0 2 50) → ⊥ }
+    ensures nobody_returns { (k : Kept) (p : IsPlan small) (s : IsOfTen) →
+        HasNoReturns (one_viewer k p s).course }
+    ensures last_returns { (k : Kept) (p : IsPlan small) → HasNoReturns
+        (kept_of_lives k p 1600 (dying None None (Some 50)) of_none (dying None None (Some 60))
+        [] []).course → ⊥ }
 {}
 
 /// There are 16 slots. A stop in beat 899 is more than the 100 beats of a block play time before

@@ -5,6 +5,7 @@ use Rattle.std.specs.Fmt.{decimal}
 use Rattle.std.specs.List.{All, count_by, range_with_len}
 use Rattle.std.proofs.lemmas.Bool.{eqb-true, ne_eqb, lt-ltb}
 use Rattle.std.proofs.lemmas.Fmt.{length-decimal-le}
+use Rattle.std.proofs.lemmas.List.{length-replicate, get_or-replicate}
 use Rattle.std.proofs.lemmas.List.Elements.{All-map, All-weaker}
 use Rattle.std.proofs.lemmas.List.FromFn.{length-range_with_len, get_or-range_with_len, length-map-range_with_len, get_or-map-range_with_len}
 use Rattle.std.proofs.lemmas.List.Sums.{count_by-le-length}
@@ -19,7 +20,8 @@ use Rattle.scenario_read.specs.declared.scenario.Scenario.{Scenario}
 use Rattle.scenario_read.specs.Events.{beat_of, starts_in, most_blocks}
 use Rattle.scenario_read.specs.Meaning.{Said, said_by, of_none}
 use Rattle.scenario_read.specs.Sound.{AreEvents, IsFile, IsReadFault, IsScenario}
-use Rattle.scenario_read.proofs.Sounds.{none-whole}
+use Rattle.scenario_read.specs.Deaths.{most_left}
+use Rattle.scenario_read.proofs.Sounds.{none_of, length_none}
 use Rattle.scenario_make.specs.Draws.{after, draw, generator_of}
 use Rattle.scenario_make.specs.Events.{at_start, beat_by, events_at, events_by}
 use Rattle.scenario_make.specs.Files.{at_file, line_by, bytes_of, length_by, lines_by, contents_by}
@@ -55,22 +57,29 @@ record IsSound (q : Said) : Type 0 where
   few_faults : length q.faults ≤ 1000
   faults : All (IsReadFault (disk_count q.plan) q.beats) q.faults
 
+-- a row that says nothing of each cub keeps to whatever its elements keep to
+few_of_none : (cubs : ℕ) → All (λ o. IfSome o (λ k. k ≤ most_left)) (of_none cubs)
+few_of_none cubs i d low = rw (get_or-replicate {A = Option ℕ} cubs i None d (omega (arith, low, length-replicate {A = Option ℕ} cubs None))) tt
+
 scenario-sound : (s : Scenario) → IsSound (said_by s) → IsScenario s
 scenario-sound s q =
-    let whole = none-whole s.course q.cuts q.backs in
+    let p = s.course.plan.params in
+    let cuts = none_of s.course s.course.cuts q.cuts in
+    let backs = none_of s.course s.course.backs q.backs in
     record {
       course = record {
         beats = q.high;
         offsets = q.offsets;
         skewed = q.skewed;
         deaths = q.by_cub;
-        cuts = whole.cuts;
-        backs = whole.backs;
-        cut_deaths = whole.cut_deaths;
-        returns_later = whole.returns_later;
+        cuts = length_none p.cubs s.course.cuts q.cuts;
+        backs = length_none p.cubs s.course.backs q.backs;
+        cut_deaths = λ n. rw (cuts n) tt;
+        returns_later = λ n. rw (backs n) tt;
         delay = q.delay;
       };
-      whole_lives = whole.lives;
+      few_after = subst (λ (row : List (Option ℕ)). All (λ o. IfSome o (λ k. k ≤ most_left)) row) q.cuts (few_of_none p.cubs);
+      no_returns = backs;
       beats = q.low;
       product = q.product;
       some_file = q.some_file;

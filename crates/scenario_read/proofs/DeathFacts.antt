@@ -12,17 +12,21 @@ use Rattle.std.proofs.lemmas.List.FromFn.{length-map-range_with_len, get_or-map-
 use Rattle.serde_json.specs.Data.{Data}
 use Rattle.serde_json.specs.Find.{get}
 use Rattle.scenario_read.specs.declared.deaths.Death.{Death}
+use Rattle.node_kit.specs.Courses.{CutsDeath}
 use Rattle.json_look.specs.Json.{below_at, has_only, is_one_of}
 use Rattle.scenario_read.specs.Items.{items_of}
-use Rattle.scenario_read.specs.Deaths.{are_close, death_after, deaths_given, death_in, by_cub, deaths_of}
+use Rattle.scenario_read.specs.declared.deaths.DeathRows.{DeathRows}
+use Rattle.scenario_read.specs.Deaths.{most_left, are_close, after_of, death_after, deaths_given, death_in, beat_of_death, cut_of_death, rows_of, by_cub, deaths_of}
 use Rattle.json_look.proofs.Inversions.{below_at-range}
 use Rattle.scenario_read.proofs.Inversions.{bind-ok, ok-same}
 use Rattle.scenario_read.proofs.ItemFacts.{AreRead, items_of-read, given_or-read}
 
 -- one more cub
-pub by_cub-more : (ds : List Death) (n : ℕ) (so_far : List (Option ℕ)) (x : Option ℕ) → so_far ≡ map (death_in ds) (range_with_len 0 n) → x ≡ death_in ds n
-    → so_far ++ x ∷ [] ≡ map (death_in ds) (range_with_len 0 (n + 1))
-by_cub-more ds n so_far x e f = rw (e, f) (sym (map-range_with_len_more (death_in ds) 0 n n (omega arith)))
+pub by_cub-more : (part : Death → Option ℕ) (ds : List Death) (n : ℕ) (so_far : List (Option ℕ)) (x : Option ℕ) → so_far ≡ by_cub part n ds
+    → x ≡ option_and_then part (death_in ds n)
+    → so_far ++ x ∷ [] ≡ by_cub part (n + 1) ds
+unfolding by_cub
+by_cub-more part ds n so_far x e f = rw (e, f) (sym (map-range_with_len_more (λ c. option_and_then part (death_in ds c)) 0 n n (omega arith)))
 
 -- no two of the deaths are close
 abbrev pub AreApart : ℕ → List Death → Type 0
@@ -31,6 +35,7 @@ AreApart cubs (d ∷ ds) = AllByRecursion (λ e. are_close cubs d.cub e.cub ≡ 
 
 pub record AreDeaths (cubs beats : ℕ) (ds : List Death) : Type 0 where
   pub early : AllByRecursion (λ d. d.beat < beats) ds
+  pub few : AllByRecursion (λ d. IfSome d.after (λ k. k ≤ most_left)) ds
   pub apart : AreApart cubs ds
 
 each-push : {X : Type 0} (P : X → Type 0) (xs : List X) (x : X) → AllByRecursion P xs → P x → AllByRecursion P (xs ++ x ∷ [])
@@ -52,33 +57,60 @@ passed-some : {A : Type 0} (b : Bool) (o : Option A) (y : A) → cond b None o �
 passed-some false o y e = (refl, e)
 passed-some true o y e = absurd (cc)
 
+-- a death whose beat and whose cut are in their ranges, and which is not close to one in front
+record IsDeathAfter (cubs beats : ℕ) (front : List Death) (x : Death) : Type 0 where
+  early : x.beat < beats
+  few : IfSome x.after (λ k. k ≤ most_left)
+  far : list_any (λ e. are_close cubs e.cub x.cub) front ≡ false
+
+-- what is told of a cut is in its range
+after-range : (d : Data) (o : Option ℕ) → after_of d ≡ Some o → IfSome o (λ k. k ≤ most_left)
+unfolding after_of
+after-range d o e = by (is_some (get (codes "after") d)) (below_at (codes "after") (most_left + 1) d) (λ n. below_at-range (codes "after") (most_left + 1) d n) e
+  where
+    by : (b : Bool) (given : Option ℕ) → ((n : ℕ) → given ≡ Some n → n < most_left + 1)
+        → cond b (option_map Some given) (Some None) ≡ Some o → IfSome o (λ k. k ≤ most_left)
+    by true (Some n) low e =
+        let below : n < most_left + 1 = low n refl in
+        let fits : n ≤ most_left = omega (arith, below) in
+        subst (λ (q : Option ℕ). IfSome q (λ k. k ≤ most_left)) (same_Some (Some n) o e) fits
+    by true None low e = absurd (cc)
+    by false given low e = subst (λ (q : Option ℕ). IfSome q (λ k. k ≤ most_left)) (same_Some None o e) tt
+
 -- a death by its parts
-death-by-parts : (b : Bool) (cubs beats : ℕ) (front : List Death) (cub beat : Option ℕ) (x : Death) → ((n : ℕ) → beat ≡ Some n → n < beats)
-    → cond b (option_and_then (λ c. cond (list_any (λ e. are_close cubs e.cub c) front) None (option_map {U = Death} (λ n. record { cub = c; beat = n }) beat)) cub) None ≡ Some x
-    → (x.beat < beats) × (list_any (λ e. are_close cubs e.cub x.cub) front ≡ false)
-death-by-parts true cubs beats front (Some c) (Some n) x early e =
-    let p = passed-some (list_any (λ (d : Death). are_close cubs d.cub c) front) (Some (record { cub = c; beat = n })) x e in
-    subst (λ (y : Death). (y.beat < beats) × (list_any (λ d. are_close cubs d.cub y.cub) front ≡ false)) (same_Some (record { cub = c; beat = n }) x p.1) (early n refl, p.0)
-death-by-parts true cubs beats front (Some c) None x early e =
+death-by-parts : (b : Bool) (cubs beats : ℕ) (front : List Death) (cub beat : Option ℕ) (after : Option (Option ℕ)) (x : Death) → ((n : ℕ) → beat ≡ Some n → n < beats)
+    → ((o : Option ℕ) → after ≡ Some o → IfSome o (λ k. k ≤ most_left))
+    → cond b (option_and_then (λ c. cond (list_any (λ e. are_close cubs e.cub c) front) None (option_and_then (λ n. option_map {U = Death} (λ a. record { cub = c; beat = n; after = a }) after) beat)) cub) None ≡ Some x
+    → IsDeathAfter cubs beats front x
+death-by-parts true cubs beats front (Some c) (Some n) (Some a) x early few e =
+    let p = passed-some (list_any (λ (d : Death). are_close cubs d.cub c) front) (Some (record { cub = c; beat = n; after = a })) x e in
+    subst (IsDeathAfter cubs beats front) (same_Some (record { cub = c; beat = n; after = a }) x p.1) (record { early = early n refl; few = few a refl; far = p.0 })
+death-by-parts true cubs beats front (Some c) (Some n) None x early few e =
     let p = passed-some (list_any (λ (d : Death). are_close cubs d.cub c) front) None x e in absurd (let f = p.1 in cc)
-death-by-parts true cubs beats front None beat x early e = absurd (cc)
-death-by-parts false cubs beats front cub beat x early e = absurd (cc)
+death-by-parts true cubs beats front (Some c) None after x early few e =
+    let p = passed-some (list_any (λ (d : Death). are_close cubs d.cub c) front) None x e in absurd (let f = p.1 in cc)
+death-by-parts true cubs beats front None beat after x early few e = absurd (cc)
+death-by-parts false cubs beats front cub beat after x early few e = absurd (cc)
 
 death_after-keeps : (cubs beats : ℕ) (front : List Death) (d : Data) (x : Death) → AreDeaths cubs beats front → death_after cubs beats front d ≡ Some x → AreDeaths cubs beats (front ++ x ∷ [])
 unfolding death_after
 death_after-keeps cubs beats front d x h e =
-    let p = death-by-parts (has_only (is_one_of (codes "cub" ∷ codes "beat" ∷ [])) d) cubs beats front (below_at (codes "cub") cubs d) (below_at (codes "beat") beats d) x
-    (λ n. below_at-range (codes "beat") beats d n) e in
-    record { early = each-push (λ (y : Death). y.beat < beats) front x h.early p.0; apart = apart-push cubs front x h.apart p.1 }
+    let p = death-by-parts (has_only (is_one_of (codes "cub" ∷ codes "beat" ∷ codes "after" ∷ [])) d) cubs beats front (below_at (codes "cub") cubs d) (below_at (codes "beat") beats d) (after_of d) x
+    (λ n. below_at-range (codes "beat") beats d n) (after-range d) e in
+    record {
+      early = each-push (λ (y : Death). y.beat < beats) front x h.early p.early;
+      few = each-push (λ (y : Death). IfSome y.after (λ k. k ≤ most_left)) front x h.few p.few;
+      apart = apart-push cubs front x h.apart p.far;
+    }
 
 given-sound : (cubs beats : ℕ) (d : Data) (ds : List Death) → items_of 11 0 32 32 (death_after cubs beats) d ≡ Ok ds → AreRead (AreDeaths cubs beats) 0 32 ds
-given-sound cubs beats d ds e = items_of-read 11 0 32 32 (death_after cubs beats) (AreDeaths cubs beats) d ds (death_after-keeps cubs beats) (record { early = tt; apart = tt }) e
+given-sound cubs beats d ds e = items_of-read 11 0 32 32 (death_after cubs beats) (AreDeaths cubs beats) d ds (death_after-keeps cubs beats) (record { early = tt; few = tt; apart = tt }) e
 
 deaths_given-sound : (cubs beats : ℕ) (d : Data) (ds : List Death) → deaths_given cubs beats d ≡ Ok ds → AreRead (AreDeaths cubs beats) 0 32 ds
 unfolding deaths_given
 deaths_given-sound cubs beats d ds e =
     given_or-read (AreRead (AreDeaths cubs beats) 0 32) [] (items_of 11 0 32 32 (death_after cubs beats)) (get (codes "deaths") d) ds
-    (record { kept = record { early = tt; apart = tt }; low = omega arith; high = omega arith })
+    (record { kept = record { early = tt; few = tt; apart = tt }; low = omega arith; high = omega arith })
     (λ f. given-sound cubs beats f ds) e
 
 -- ---- the deaths by cub
@@ -91,11 +123,12 @@ no_death : (ds : List Death) (c : ℕ) → AllByRecursion (λ e. (e.cub == c) �
 no_death [] c none = refl
 no_death (d ∷ ds) c none = other_cub d ds c none.0 ∙ no_death ds c none.1
 
-early_death : (beats : ℕ) (ds : List Death) (c : ℕ) → AllByRecursion (λ d. d.beat < beats) ds → IfSome (death_in ds c) (λ b. b < beats)
-early_death beats [] c all = tt
-early_death beats (d ∷ ds) c all = ⊎_elim
+-- what holds of each death holds of a cub's
+pub of_each : (P : Death → Type 0) (ds : List Death) (c : ℕ) → AllByRecursion P ds → IfSome (death_in ds c) P
+of_each P [] c all = tt
+of_each P (d ∷ ds) c all = ⊎_elim
     (λ (e : (d.cub == c) ≡ true). rw e all.0)
-    (λ (e : (d.cub == c) ≡ false). rw e (early_death beats ds c all.1))
+    (λ (e : (d.cub == c) ≡ false). rw e (of_each P ds c all.1))
     (cases_Bool (d.cub == c))
 
 differ : (a b : ℕ) → (a == b) ≡ false → a ≡ b → ⊥
@@ -143,11 +176,14 @@ one_lives cubs a b (d ∷ ds) ne next apart = ⊎_elim
     (cases_eq d.cub a)
 
 -- how many cubs from a on die
-abbrev dying : List Death → ℕ → ℕ → ℕ
-dying ds a n = count_by is_some (map (death_in ds) (range_with_len a n))
+abbrev beat_in : List Death → ℕ → Option ℕ
+beat_in ds c = option_and_then beat_of_death (death_in ds c)
 
-dying-suc : (ds : List Death) (a n : ℕ) → dying ds a (suc n) ≡ cond (is_some (death_in ds a)) 1 0 + dying ds (a + 1) n
-dying-suc ds a n = sum_by-cons (λ (o : Option ℕ). cond (is_some o) 1 0) (death_in ds a) (map (death_in ds) (range_with_len (a + 1) n))
+abbrev dying : List Death → ℕ → ℕ → ℕ
+dying ds a n = count_by is_some (map (beat_in ds) (range_with_len a n))
+
+dying-suc : (ds : List Death) (a n : ℕ) → dying ds a (suc n) ≡ cond (is_some (beat_in ds a)) 1 0 + dying ds (a + 1) n
+dying-suc ds a n = sum_by-cons (λ (o : Option ℕ). cond (is_some o) 1 0) (beat_in ds a) (map (beat_in ds) (range_with_len (a + 1) n))
 
 none_dying : (a n : ℕ) → dying [] a n ≡ 0
 none_dying a zero = refl
@@ -163,33 +199,64 @@ one_more d ds a zero = omega arith
 one_more d ds a (suc n) = ⊎_elim
     (λ (e : d.cub ≡ a).
     let rest = one_more d ds (a + 1) n in
-    let head = counted-most (death_in (d ∷ ds) a) in
+    let head = counted-most (beat_in (d ∷ ds) a) in
     omega (arith, rest, head, dying-suc (d ∷ ds) a n, dying-suc ds a n))
     (λ (ne : d.cub ≡ a → ⊥).
     let rest = one_more d ds (a + 1) n in
-    let head = ap {B = ℕ} (λ (o : Option ℕ). cond (is_some o) 1 0) (other_cub d ds a (ne_eqb d.cub a ne)) in
+    let head = ap {B = ℕ} (λ (o : Option Death). cond (is_some (option_and_then beat_of_death o)) 1 0) (other_cub d ds a (ne_eqb d.cub a ne)) in
     omega (arith, rest, head, dying-suc (d ∷ ds) a n, dying-suc ds a n))
     (cases_eq d.cub a)
 
-pub few_dying : (ds : List Death) (a n : ℕ) → count_by is_some (map (death_in ds) (range_with_len a n)) ≤ length ds
+pub few_dying : (ds : List Death) (a n : ℕ) → count_by is_some (map (beat_in ds) (range_with_len a n)) ≤ length ds
 few_dying [] a n = omega (arith, none_dying a n)
 few_dying (d ∷ ds) a n = omega (arith, one_more d ds a n, few_dying ds a n)
 
-all_early : (beats : ℕ) (ds : List Death) (n : ℕ) → AllByRecursion (λ d. d.beat < beats) ds → All (λ o. IfSome o (λ b. b < beats)) (map (death_in ds) (range_with_len 0 n))
-all_early beats ds n all =
-    All-map (λ (o : Option ℕ). IfSome o (λ b. b < beats)) (death_in ds) (range_with_len 0 n) (λ k d lt. early_death beats ds (get_or (range_with_len 0 n) k d) all)
+-- what a part of a death keeps to, a row of it keeps to
+part-kept : (part : Death → Option ℕ) (P : ℕ → Type 0) (o : Option Death) → IfSome o (λ d. IfSome (part d) P) → IfSome (option_and_then part o) P
+part-kept part P (Some d) h = h
+part-kept part P None h = tt
+
+all_kept : (part : Death → Option ℕ) (P : ℕ → Type 0) (ds : List Death) (n : ℕ) → AllByRecursion (λ d. IfSome (part d) P) ds
+    → All (λ o. IfSome o P) (by_cub part n ds)
+unfolding by_cub
+all_kept part P ds n all =
+    All-map (λ (o : Option ℕ). IfSome o P) (λ c. option_and_then part (death_in ds c)) (range_with_len 0 n)
+    (λ k d lt. part-kept part P (death_in ds (get_or (range_with_len 0 n) k d)) (of_each (λ d. IfSome (part d) P) ds (get_or (range_with_len 0 n) k d) all))
+
+pub row_at : (part : Death → Option ℕ) (ds : List Death) (cubs n : ℕ) → n < cubs → slice_get (by_cub part cubs ds) n ≡ Some (option_and_then part (death_in ds n))
+unfolding by_cub
+row_at part ds cubs n lt =
+    let at : ℕ → Option ℕ = λ c. option_and_then part (death_in ds c) in
+    slice_get-get_or (map at (range_with_len 0 cubs)) n None (omega (arith, length-map-range_with_len at 0 cubs))
+    ∙ ap Some (get_or-map-range_with_len at 0 cubs n n None lt (omega arith))
+
+row-length : (part : Death → Option ℕ) (ds : List Death) (cubs : ℕ) → length (by_cub part cubs ds) ≡ cubs
+unfolding by_cub
+row-length part ds cubs = length-map-range_with_len (λ c. option_and_then part (death_in ds c)) 0 cubs
+
+few-row : (ds : List Death) (cubs : ℕ) → count_by is_some (by_cub beat_of_death cubs ds) ≤ length ds
+unfolding by_cub
+few-row ds cubs = few_dying ds 0 cubs
+
+-- a cut of a cub that dies
+cut-by : (beat : ℕ) (after : Option ℕ) → CutsDeath (Some beat) after
+cut-by beat None = tt
+cut-by beat (Some left) = tt
+
+cut-with-death : (o : Option Death) → CutsDeath (option_and_then beat_of_death o) (option_and_then cut_of_death o)
+cut-with-death None = tt
+cut-with-death (Some d) = cut-by d.beat d.after
 
 -- what holds of the deaths by cub
-pub record AreByCub (cubs beats : ℕ) (deaths : List (Option ℕ)) : Type 0 where
+pub record AreByCub (cubs beats : ℕ) (deaths cuts : List (Option ℕ)) : Type 0 where
   pub count : length deaths ≡ cubs
+  pub cut_count : length cuts ≡ cubs
   pub few : count_by is_some deaths ≤ 32
   pub early : All (λ o. IfSome o (λ b. b < beats)) deaths
+  pub few_after : All (λ o. IfSome o (λ k. k ≤ most_left)) cuts
   pub apart : (n : ℕ) → n < cubs → (slice_get deaths n ≡ Some None) ⊎ (slice_get deaths ((n + 1) % cubs) ≡ Some None)
-
-death_at : (ds : List Death) (cubs n : ℕ) → n < cubs → slice_get (map (death_in ds) (range_with_len 0 cubs)) n ≡ Some (death_in ds n)
-death_at ds cubs n lt =
-    slice_get-get_or (map (death_in ds) (range_with_len 0 cubs)) n None (omega (arith, length-map-range_with_len (death_in ds) 0 cubs))
-    ∙ ap Some (get_or-map-range_with_len (death_in ds) 0 cubs n n None lt (omega arith))
+  pub cut_deaths : (n : ℕ) → n < cubs → (death cut : Option ℕ) → slice_get deaths n ≡ Some death → slice_get cuts n ≡ Some cut
+      → CutsDeath death cut
 
 next_differs : (cubs n : ℕ) → 2 ≤ cubs → n < cubs → n ≡ (n + 1) % cubs → ⊥
 next_differs cubs n some lt same = ⊎_elim
@@ -197,17 +264,32 @@ next_differs cubs n some lt same = ⊎_elim
     (λ (ne : n + 1 ≡ cubs → ⊥). let z : (n + 1) % cubs ≡ n + 1 = mod-eq_of_lt {n = n + 1} {m = cubs} (omega arith) in omega arith)
     (cases_eq (n + 1) cubs)
 
-pub deaths_of-sound : (cubs beats : ℕ) (d : Data) (deaths : List (Option ℕ)) → 2 ≤ cubs → deaths_of cubs beats d ≡ Ok deaths → AreByCub cubs beats deaths
-unfolding deaths_of by_cub
-deaths_of-sound cubs beats d deaths some e =
-    let a = bind-ok (deaths_given cubs beats d) (λ ds. Ok (by_cub cubs ds)) deaths e in
-    let r = deaths_given-sound cubs beats d a.0 a.1 in
-    subst (AreByCub cubs beats) (ok-same (map (death_in a.0) (range_with_len 0 cubs)) deaths a.2) (record {
-      count = length-map-range_with_len (death_in a.0) 0 cubs;
-      few = omega (arith, few_dying a.0 0 cubs, r.high);
-      early = all_early beats a.0 cubs r.kept.early;
+rows-sound : (cubs beats : ℕ) (ds : List Death) → 2 ≤ cubs → AreRead (AreDeaths cubs beats) 0 32 ds
+    → AreByCub cubs beats (by_cub beat_of_death cubs ds) (by_cub cut_of_death cubs ds)
+rows-sound cubs beats ds some r =
+    let none : (n : ℕ) → n < cubs → death_in ds n ≡ None → slice_get (by_cub beat_of_death cubs ds) n ≡ Some None =
+    λ n lt e. row_at beat_of_death ds cubs n lt ∙ ap (λ o. Some (option_and_then beat_of_death o)) e in
+    record {
+      count = row-length beat_of_death ds cubs;
+      cut_count = row-length cut_of_death ds cubs;
+      few = let high = r.high in omega (arith, few-row ds cubs, high);
+      early = all_kept beat_of_death (λ b. b < beats) ds cubs r.kept.early;
+      few_after = all_kept cut_of_death (λ k. k ≤ most_left) ds cubs r.kept.few;
       apart = λ n lt. ⊎_elim
-          (λ (x : death_in a.0 n ≡ None). inl (death_at a.0 cubs n lt ∙ ap Some x))
-          (λ (y : death_in a.0 ((n + 1) % cubs) ≡ None). inr (death_at a.0 cubs ((n + 1) % cubs) (mod-lt (n + 1) {m = cubs} (omega arith)) ∙ ap Some y))
-          (one_lives cubs n ((n + 1) % cubs) a.0 (next_differs cubs n some lt) refl r.kept.apart);
-    })
+          (λ (x : death_in ds n ≡ None). inl (none n lt x))
+          (λ (y : death_in ds ((n + 1) % cubs) ≡ None). inr (none ((n + 1) % cubs) (mod-lt (n + 1) {m = cubs} (omega arith)) y))
+          (one_lives cubs n ((n + 1) % cubs) ds (next_differs cubs n some lt) refl r.kept.apart);
+      cut_deaths = λ n lt death cut d k.
+          let at = row_at beat_of_death ds cubs n lt in
+          let there = row_at cut_of_death ds cubs n lt in
+          subst (λ (x : Option ℕ). CutsDeath x cut) (same_Some _ death (sym at ∙ d))
+          (subst (λ (y : Option ℕ). CutsDeath (option_and_then beat_of_death (death_in ds n)) y) (same_Some _ cut (sym there ∙ k)) (cut-with-death (death_in ds n)));
+    }
+
+pub deaths_of-sound : (cubs beats : ℕ) (d : Data) (rows : DeathRows) → 2 ≤ cubs → deaths_of cubs beats d ≡ Ok rows
+    → AreByCub cubs beats rows.deaths rows.cuts
+unfolding deaths_of
+deaths_of-sound cubs beats d rows some e =
+    let a = bind-ok (deaths_given cubs beats d) (λ ds. Ok (rows_of cubs ds)) rows e in
+    subst (λ (q : DeathRows). AreByCub cubs beats q.deaths q.cuts) (ok-same (rows_of cubs a.0) rows a.2)
+    (rows-sound cubs beats a.0 some (deaths_given-sound cubs beats d a.0 a.1))

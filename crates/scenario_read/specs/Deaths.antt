@@ -1,11 +1,12 @@
--- The deaths of cubs, of which no two may stand side by side in the ring.
-use Rattle.std.specs.Prelude.{ℕ, ◌+◌, ◌%◌, Bool, ◌||◌, ◌==◌, if◌then◌else◌, List, [], ◌∷◌, map, Option, Some, None, option_and_then, option_map, Result, Ok, codes}
+-- The deaths of cubs, of which no two may stand side by side in the ring, and what they cut off.
+use Rattle.std.specs.Prelude.{ℕ, ◌+◌, ◌%◌, Bool, ◌||◌, ◌==◌, if◌then◌else◌, is_some, List, [], ◌∷◌, map, Option, Some, None, option_and_then, option_map, Result, Ok, codes}
 use Rattle.std.specs.List.{list_any, range_with_len}
 use Rattle.std.specs.Option.{option_or}
 use Rattle.serde_json.specs.Data.{Data}
 use Rattle.serde_json.specs.Find.{get}
 use Rattle.scenario_read.specs.declared.stop.ScenarioFault.{ScenarioFault}
 use Rattle.scenario_read.specs.declared.deaths.Death.{Death}
+use Rattle.scenario_read.specs.declared.deaths.DeathRows.{DeathRows}
 use Rattle.scenario_read.specs.Fault.{◌>>=◌}
 use Rattle.json_look.specs.Json.{has_only, is_one_of, below_at}
 use Rattle.scenario_read.specs.Items.{items_of, given_or}
@@ -14,32 +15,52 @@ use Rattle.scenario_read.specs.Items.{items_of, given_or}
 unfoldable pub are_close : ℕ → ℕ → ℕ → Bool
 are_close cubs a b = (a == b) || ((a + 1) % cubs == b) || ((b + 1) % cubs == a)
 
+-- the greatest number of messages that a cub may still send in the beat in which its death cuts it off
+abbrev pub most_left : ℕ
+most_left = 1000
+
+-- after how many messages a death comes, if that is told
+unfoldable pub after_of : Data → Option (Option ℕ)
+after_of d = if is_some (get (codes "after") d) then option_map Some (below_at (codes "after") (most_left + 1) d) else Some None
+
 -- the death of a cub that is not close to one that dies in front
 unfoldable pub death_after : ℕ → ℕ → List Death → Data → Option Death
 death_after cubs beats front d =
-    if has_only (is_one_of (codes "cub" ∷ codes "beat" ∷ [])) d
+    if has_only (is_one_of (codes "cub" ∷ codes "beat" ∷ codes "after" ∷ [])) d
     then option_and_then (λ cub.
     if list_any (λ e. are_close cubs e.cub cub) front then None
-    else option_map (λ beat. record { cub = cub; beat = beat }) (below_at (codes "beat") beats d)) (below_at (codes "cub") cubs d)
+    else option_and_then (λ beat. option_map (λ after. record { cub = cub; beat = beat; after = after }) (after_of d))
+    (below_at (codes "beat") beats d)) (below_at (codes "cub") cubs d)
     else None
 
 -- at most 32 deaths; none where none are given
 unfoldable pub deaths_given : ℕ → ℕ → Data → Result (List Death) ScenarioFault
 deaths_given cubs beats d = given_or [] (items_of 11 0 32 32 (death_after cubs beats)) (get (codes "deaths") d)
 
--- the beat of a death, if it is this cub's
-abbrev pub beat_for : ℕ → Death → Option ℕ
-beat_for cub e = if e.cub == cub then Some e.beat else None
+-- a death, if it is this cub's
+abbrev pub death_for : ℕ → Death → Option Death
+death_for cub e = if e.cub == cub then Some e else None
 
--- the beat in which a cub dies, if it does
-abbrev pub death_in : List Death → ℕ → Option ℕ
+-- the death of a cub, if it dies
+abbrev pub death_in : List Death → ℕ → Option Death
 death_in [] cub = None
-death_in (e ∷ es) cub = option_or (beat_for cub e) (death_in es cub)
+death_in (e ∷ es) cub = option_or (death_for cub e) (death_in es cub)
 
--- the same for each cub
-unfoldable pub by_cub : ℕ → List Death → List (Option ℕ)
-by_cub cubs deaths = map (death_in deaths) (range_with_len 0 cubs)
+-- the beat of a death, and to how many messages it cuts its cub off there
+abbrev pub beat_of_death : Death → Option ℕ
+beat_of_death e = Some e.beat
 
--- the beat in which each cub dies, if it does
-unfoldable pub deaths_of : ℕ → ℕ → Data → Result (List (Option ℕ)) ScenarioFault
-deaths_of cubs beats d = deaths_given cubs beats d >>= λ deaths. Ok (by_cub cubs deaths)
+abbrev pub cut_of_death : Death → Option ℕ
+cut_of_death e = e.after
+
+-- one of these for each cub
+unfoldable pub by_cub : (Death → Option ℕ) → ℕ → List Death → List (Option ℕ)
+by_cub part cubs deaths = map (λ cub. option_and_then part (death_in deaths cub)) (range_with_len 0 cubs)
+
+-- and both
+abbrev pub rows_of : ℕ → List Death → DeathRows
+rows_of cubs deaths = record { deaths = by_cub beat_of_death cubs deaths; cuts = by_cub cut_of_death cubs deaths }
+
+-- the deaths that are given, by cub
+unfoldable pub deaths_of : ℕ → ℕ → Data → Result DeathRows ScenarioFault
+deaths_of cubs beats d = deaths_given cubs beats d >>= λ deaths. Ok (rows_of cubs deaths)

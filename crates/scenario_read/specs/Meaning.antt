@@ -61,7 +61,7 @@ has_keys d = has_only (is_one_of scenario_keys) d && has_key d (codes "plan") &&
 abbrev pub of_none : ℕ → List (Option ℕ)
 of_none cubs = replicate cubs None
 
--- what a scenario's object means: its rules in their order. No death cuts a cub off, and no cub returns
+-- what a scenario's object means: its rules in their order. No cub returns
 unfoldable pub scenario_of : Data → Result Said ScenarioFault
 scenario_of d = do
   keys ← keeps (has_keys d) (broken 2 0)
@@ -72,14 +72,14 @@ scenario_of d = do
   files ← files_of (disk_count plan) d
   events ← events_of beats (length files) d
   blocks ← few_blocks plan beats (starts_in events)
-  deaths ← deaths_of plan.cubs beats d
+  rows ← deaths_of plan.cubs beats d
   faults ← read_faults_of (disk_count plan) beats d
   Ok (record {
     plan = plan;
     beats = beats;
     offsets = offsets;
-    deaths = deaths;
-    cuts = of_none plan.cubs;
+    deaths = rows.deaths;
+    cuts = rows.cuts;
     backs = of_none plan.cubs;
     faults = faults;
     delay = delay;

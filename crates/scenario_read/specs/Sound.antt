@@ -1,17 +1,17 @@
 -- What holds of every scenario that breaks no rule. What a plan keeps stands in its type.
-use Rattle.std.specs.Prelude.{◌≡◌, ℕ, ◌*◌, ◌<◌, ◌≤◌, List, length, All, take, Some, IfSome, is_some, slice_get}
+use Rattle.std.specs.Prelude.{◌≡◌, ℕ, ◌*◌, ◌<◌, ◌≤◌, List, length, All, take, Some, None, IfSome, is_some, slice_get}
 use Rattle.std.specs.List.{count_by}
 use Rattle.std.specs.List.Sorted.{IsNonDecreasingBy}
 use Rattle.slot_plan.specs.Times.{disk_count}
 use Rattle.node_kit.specs.declared.course.ReadFault.{ReadFault}
 use Rattle.node_kit.specs.Courses.{IsCourse}
-use Rattle.node_kit.specs.Life.{lifetime_of}
+use Rattle.node_kit.specs.Life.{back_of, lifetime_of}
 use Rattle.run_facts.specs.Timed.{DieApart}
-use Rattle.run_facts.specs.Plain.{HasWholeLives}
 use Rattle.scenario_read.specs.declared.scenario.FileLine.{FileLine}
 use Rattle.scenario_read.specs.declared.scenario.ScEvent.{ScEvent}
 use Rattle.scenario_read.specs.declared.scenario.ScEvent.TheVariants.{Begin, Finish}
 use Rattle.scenario_read.specs.declared.scenario.Scenario.{Scenario}
+use Rattle.scenario_read.specs.Deaths.{most_left}
 use Rattle.scenario_read.specs.Events.{beat_of, starts_in, most_blocks}
 
 -- a start is of one of so many files
@@ -52,7 +52,8 @@ pub record IsScenario (s : Scenario) : Type 0 where
   pub blocks : most_blocks s.course.plan.params s.course.beats (starts_in s.events) ≤ 400000
   pub few_deaths : count_by is_some s.course.deaths ≤ 32
   pub deaths : All (λ d. IfSome d (λ beat. beat < s.course.beats)) s.course.deaths
+  pub few_after : All (λ c. IfSome c (λ after. after ≤ most_left)) s.course.cuts
   pub apart : DieApart s.course.plan.params (lifetime_of s.course)
-  pub whole_lives : HasWholeLives s.course
+  pub no_returns : (n : ℕ) → back_of s.course n ≡ None
   pub few_faults : length s.course.faults ≤ 1000
   pub faults : All (IsReadFault (disk_count s.course.plan.params) s.course.beats) s.course.faults

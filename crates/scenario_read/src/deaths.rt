@@ -5,7 +5,8 @@ ghost use Rattle.serde_json.specs.View.{view};
 ghost use Rattle.scenario_read.specs.Fault.{Gives, GivesAs};
 ghost use Rattle.scenario_read.specs.Items.{items_after};
 ghost use Rattle.scenario_read.specs.Meaning.{of_none};
-ghost use Rattle.scenario_read.specs.Deaths.{are_close, death_after, deaths_given, beat_for, death_in, by_cub, deaths_of};
+ghost use Rattle.std.specs.Prelude.{option_and_then};
+ghost use Rattle.scenario_read.specs.Deaths.{are_close, after_of, death_after, deaths_given, death_for, death_in, beat_of_death, cut_of_death, rows_of, deaths_of};
 
 use crate::stop::{ReadStop, broken};
 use json_look::{below, has_only, sized_array};
@@ -13,11 +14,22 @@ use serde_json::Value;
 use std::alloc::Global;
 use tiger_base::{Beat, NoMemory, Sequence};
 
-/// The death of a cub.
+/// The greatest number of messages that a cub may still send in the beat in which its death cuts it off.
+pub const MOST_LEFT: u64 = 1000;
+
+/// The death of a cub: its beat and, if it comes in the middle of that, after how many messages.
 #[derive(Clone, Copy, Debug, PartialEq, Eq)]
 pub struct Death {
     pub cub: u32,
     pub beat: Beat,
+    pub after: Option<u64>,
+}
+
+/// The deaths by cub: the beat of each, and to how many messages it cuts its cub off there, if it does.
+#[derive(Drop)]
+pub struct DeathRows {
+    pub deaths: Sequence<Option<Beat>>,
+    pub cuts: Sequence<Option<u64>>,
 }
 
 /// Whether two cubs of a ring of so many are the same, or stand side by side.
@@ -39,6 +51,18 @@ fn is_close_to_one(cubs: u64, deaths: &[Death], cub: u32) -> bool
     deaths.iter().any(|death| are_close(cubs, death.cub, cub))
 }
 
+/// After how many messages a death comes, if that is told; `None` if what is told is no such number.
+#[tactic(auto, unfolding(crate::specs::Deaths::after_of))]
+fn after_of(value: &Value) -> Option<Option<u64>>
+    ensures { result ≡ after_of (view value.now) }
+{
+    if value.get("after").is_none() {
+        return Some(None);
+    }
+    let after = below(value, "after", MOST_LEFT + 1)?;
+    Some(Some(after))
+}
+
 /// The death behind others.
 #[tactic(auto, unfolding(crate::specs::Deaths::death_after))]
 fn death_after(cubs: u64, beats: u64, front: &[Death], value: &Value) -> Option<Death>
@@ -46,7 +70,7 @@ fn death_after(cubs: u64, beats: u64, front: &[Death], value: &Value) -> Option<
     requires few { cubs ≤ 64 }
     ensures { result ≡ death_after cubs beats front.now (view value.now) }
 {
-    if !has_only(value, &["cub", "beat"]) {
+    if !has_only(value, &["cub", "beat", "after"]) {
         return None;
     }
     let cub = below(value, "cub", cubs)?;
@@ -55,7 +79,8 @@ fn death_after(cubs: u64, beats: u64, front: &[Death], value: &Value) -> Option<
         return None;
     }
     let beat = below(value, "beat", beats)?;
-    Some(Death { cub, beat })
+    let after = after_of(value)?;
+    Some(Death { cub, beat, after })
 }
 
 fn deaths_after(
@@ -95,60 +120,72 @@ fn deaths_given(alloc: Global, cubs: u64, beats: u64, top: &Value) -> Result<Vec
     deaths_after(alloc, cubs, beats, values)
 }
 
-/// The beat of a death, if it is this cub's.
-fn beat_for(cub: u32, death: &Death) -> Option<Beat>
-    ensures { result ≡ beat_for cub death.now }
+/// A death, if it is this cub's.
+fn death_for(cub: u32, death: &Death) -> Option<Death>
+    ensures { result ≡ death_for cub death.now }
 {
-    if death.cub == cub {
-        Some(death.beat)
-    } else {
-        None
-    }
+    if death.cub == cub { Some(*death) } else { None }
 }
 
-/// The beat in which a cub dies, if it does.
-fn death_in(deaths: &[Death], cub: u32) -> Option<Beat>
+/// The death of a cub, if it dies.
+fn death_in(deaths: &[Death], cub: u32) -> Option<Death>
     ensures { result ≡ death_in deaths.now cub }
 {
     for death in deaths {
-        if let Some(beat) = beat_for(cub, death) {
-            return Some(beat);
+        if let Some(own) = death_for(cub, death) {
+            return Some(own);
         }
     }
     None
 }
 
-#[tactic(auto, unfolding(crate::specs::Deaths::by_cub))]
-fn by_cub(alloc: Global, cubs: u32, deaths: &[Death]) -> Result<Vec<Option<Beat>>, NoMemory>
-    ensures { IfOk result (λ v. v.items ≡ by_cub cubs deaths.now) }
+/// The beat of a death.
+fn beat_of(death: Option<Death>) -> Option<Beat>
+    ensures { result ≡ option_and_then beat_of_death death }
 {
-    let mut beats = Vec::new(alloc);
-    for cub in 0..cubs {
-        beats.push(death_in(deaths, cub))?;
-    }
-    Ok(beats)
+    Some(death?.beat)
 }
 
-/// The beat in which each of so many cubs dies, if it does.
+/// To how many messages a death cuts its cub off.
+fn cut_of(death: Option<Death>) -> Option<u64>
+    ensures { result ≡ option_and_then cut_of_death death }
+{
+    death?.after
+}
+
+/// The deaths by cub.
+#[tactic(auto, unfolding(crate::specs::Deaths::by_cub))]
+fn rows_of(alloc: Global, cubs: u32, given: &[Death]) -> Result<DeathRows, NoMemory>
+    ensures { IfOk result (λ rows. rows ≡ rows_of cubs given.now) }
+{
+    let mut deaths = Vec::new(alloc);
+    let mut cuts = Vec::new(alloc);
+    for cub in 0..cubs {
+        let death = death_in(given, cub);
+        deaths.push(beat_of(death))?;
+        cuts.push(cut_of(death))?;
+    }
+    Ok(DeathRows {
+        deaths: Sequence::new(deaths),
+        cuts: Sequence::new(cuts),
+    })
+}
+
+/// The deaths that are given, by cub.
 #[tactic(auto, unfolding(crate::specs::Deaths::deaths_of))]
-pub fn deaths_of(
-    alloc: Global,
-    cubs: u64,
-    beats: u64,
-    top: &Value,
-) -> Result<Sequence<Option<Beat>>, ReadStop>
+pub fn deaths_of(alloc: Global, cubs: u64, beats: u64, top: &Value) -> Result<DeathRows, ReadStop>
     requires some { 1 ≤ cubs }
     requires cubs { cubs ≤ 64 }
     ensures { Gives result (deaths_of cubs beats (view top.now)) }
 {
-    let deaths = deaths_given(alloc, cubs, beats, top)?;
-    match by_cub(alloc, cubs as u32, &deaths) {
-        Ok(beats) => Ok(Sequence::new(beats)),
+    let given = deaths_given(alloc, cubs, beats, top)?;
+    match rows_of(alloc, cubs as u32, &given) {
+        Ok(rows) => Ok(rows),
         Err(NoMemory) => Err(ReadStop::NoMemory),
     }
 }
 
-/// A row that says nothing of each of so many cubs: neither that its death cuts it off, nor that it returns.
+/// A row that says nothing of each of so many cubs.
 pub fn of_none(alloc: Global, cubs: u64) -> Result<Sequence<Option<u64>>, NoMemory>
     ensures { IfOk result (λ row. row ≡ of_none cubs) }
 {

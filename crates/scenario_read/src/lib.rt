@@ -14,7 +14,7 @@ mod stop;
 mod timing;
 
 pub use catalogue::catalogue_of;
-pub use deaths::of_none;
+pub use deaths::{MOST_LEFT, of_none};
 pub use orders::orders_of;
 pub use reading::read_scenario;
 pub use scenario::{FileLine, Name, ScEvent, Scenario};
