@@ -7,11 +7,11 @@ use Rattle.std.proofs.lemmas.Bool.{cases_eq, eq-eqb, ne_eqb}
 use Rattle.tiger_base.specs.declared.message.Note.{Note}
 use Rattle.slot_plan.specs.declared.params.Params.{Params}
 use Rattle.node_kit.specs.Steps.{Input, Deed, IsAllowed}
-use Rattle.run_facts.specs.Events.{NodeEvent, Past, IsPlain, opening, after_all, outs_of, stamp_at}
+use Rattle.run_facts.specs.Events.{NodeEvent, Past, is_return, opening, after_all, outs_of, stamp_at}
 use Rattle.run_facts.specs.Events.NodeEvent.{Does, Ends, Dies, Returns}
 use Rattle.run_facts.specs.Accounts.{IsOpen}
 use Rattle.run_facts.specs.Histories.{History, beat, past}
-use Rattle.run_facts.specs.Plain.{IsPlainRun}
+use Rattle.proof_lives.specs.OneLife.{IsOneLifeRun}
 use Rattle.run_facts.proofs.Listed.{listed, listed-past}
 use Rattle.ring_world.specs.declared.event.Event.{Event}
 use Rattle.ring_world.specs.Machine.{Machine, Being, undying, node_event, lived, happened, happens, moved}
@@ -28,25 +28,26 @@ use Rattle.kept_worlds.proofs.Numbers.{listed-more}
 use Rattle.kept_worlds.proofs.Points.{anywhere, IsLatest, IsAt, IsNext, own, own-at, own-lives, own-ticked, own-read, reached, none-of_act}
 use Rattle.kept_worlds.proofs.Ready.{ready}
 
--- a plain event of a node that is not dead and has never died, in the open beat
-may-live : {M S : Type 0} (b : Being S) → (b.dead ≡ false) × (b.died ≡ None) → (x : NodeEvent M) → IsPlain x → MayLive b x
-may-live b alive (Does i) plain = alive.0
-may-live b alive (Ends i sends) plain = absurd plain
-may-live b alive (Dies stamp) plain = alive
-may-live b alive (Returns stamp) plain = absurd plain
+-- an event of a node that is not dead and has never died, in the open beat
+may-live : {M S : Type 0} (b : Being S) → (b.dead ≡ false) × (b.died ≡ None) → (x : NodeEvent M) → is_return x ≡ false
+    → MayLive b x
+may-live b alive (Does i) here = alive.0
+may-live b alive (Ends i sends) here = alive
+may-live b alive (Dies stamp) here = alive
+may-live b alive (Returns stamp) here = absurd (cc)
 
-is-open : {M : Type 0} (t : ℕ) (x : NodeEvent M) → IsPlain x → (stamp_at x).beat ≡ t → IsOpen t x
-is-open t (Does i) plain now = now
-is-open t (Ends i sends) plain now = absurd plain
-is-open t (Dies stamp) plain now = now
-is-open t (Returns stamp) plain now = absurd plain
+pub is-open : {M : Type 0} (t : ℕ) (x : NodeEvent M) → is_return x ≡ false → (stamp_at x).beat ≡ t → IsOpen t x
+is-open t (Does i) here now = now
+is-open t (Ends i sends) here now = now
+is-open t (Dies stamp) here now = now
+is-open t (Returns stamp) here now = absurd (cc)
 
 -- the numbers behind the next event of node n
 abbrev pub beyond : ℕ → (ℕ → ℕ) → ℕ → ℕ
 beyond n at k = if k == n then suc (at k) else at k
 
 module _ {M S : Type 0} (note : M → Note) (step : S → Input M → Deed M S) (p : Params) (nodes beats : ℕ) (h : History M S)
-    (place : IsPlace p nodes beats) (run : IsPlainRun note step p nodes h) (may : MayHappen p nodes beats h) where
+    (place : IsPlace p nodes beats) (run : IsOneLifeRun note step p nodes h) (may : MayHappen p nodes beats h) where
   -- an event of node n is no fault, and behind it the machine is beside the next numbers
   pub record IsStep (m : Machine M S) (es : ℕ → List (NodeEvent M)) (at : ℕ → ℕ) (n : ℕ) (y : NodeEvent M) : Type 0 where
     pub known : IsEventOf p nodes beats (told_as h.before (es n) (record { node = n; event = y }))
@@ -93,9 +94,9 @@ module _ {M S : Type 0} (note : M → Note) (step : S → Input M → Deed M S) 
         let high = shown.1 in
         record {
           lives = may-live b (own-lives note step p nodes beats h place run may m es at point n next) x
-              (run.plain n (at n) next.low next.here);
+              (run.here n (at n) next.low next.here);
           dated = refl;
-          open_here = is-open b.ticked x (run.plain n (at n) next.low next.here)
+          open_here = is-open b.ticked x (run.here n (at n) next.low next.here)
               (sym (own-ticked note step p nodes beats h place run may m es at point n next));
           shown = shown;
           later = own-read note step p nodes beats h place run may m es at point n next;
@@ -162,7 +163,8 @@ module _ {M S : Type 0} (note : M → Note) (step : S → Input M → Deed M S) 
         subst (IsLatest h k (beyond n at k)) is (⊎_elim
         (λ (same : k ≡ n).
         let t : (k == n) ≡ true = eq-eqb k n same in
-        rw t (subst (λ q. (suc (stamp_at x).beat ≡ suc (beat h q (at q))) × ((stamp_at x).reading ≡ (stamp_at (h.event q (at q))).reading)) (sym same) (refl, refl)))
+        rw t (subst (λ q. (suc (stamp_at x).beat ≡ suc (beat h q (at q)))
+        × ((stamp_at x).reading ≡ (stamp_at (h.event q (at q))).reading)) (sym same) (refl, refl)))
         (λ (other : k ≡ n → ⊥).
         let t : (k == n) ≡ false = ne_eqb k n other in
         rw t (point.last k theirs.0 low theirs.1))
@@ -174,7 +176,8 @@ module _ {M S : Type 0} (note : M → Note) (step : S → Input M → Deed M S) 
         let holds = holds-moved note step anywhere p nodes beats place h.first m es point.holds e n x b move in
         record {
           known = (may.early n (at n) next.low next.here, r.known);
-          free = none-of_act note step p nodes beats h place run may m es at point n next (act_of h.before (es n) n x) r.theirs r.life r.free r.take r.late r.death;
+          free = none-of_act note step p nodes beats h place run may m es at point n next (act_of h.before (es n) n x)
+              r.theirs r.life r.free r.take r.late r.death;
           dated = ap (λ (q : Machine M S). q.beat) is-moved;
           point = subst (λ (q : Machine M S). IsAt note step p nodes beats h place run may q (added n x es) (beyond n at)) (sym is-moved)
               (record { holds = holds; told = behind-told; within = behind-within; last = behind-last });

@@ -18,7 +18,7 @@ use Rattle.run_facts.proofs.Rows.{all-append, filter-same}
 use Rattle.ring_world.specs.declared.event.Act.{Act}
 use Rattle.ring_world.specs.declared.event.Act.TheVariants as act
 use Rattle.ring_world.specs.declared.event.Event.{Event}
-use Rattle.kept_worlds.specs.Events.{get_of, gets_behind, end_of_beat, event_in, events_in, events_of_beat, events_from, events_by}
+use Rattle.kept_worlds.specs.Events.{said_in, get_of, gets_behind, end_of_beat, event_in, events_in, events_of_beat, events_from, events_by}
 use Rattle.kept_worlds.specs.Telling.{told_in, gets_told, ends_told, node_told, nodes_told}
 
 -- a list whose keys do not fall, by index and by recursion
@@ -61,12 +61,14 @@ pub sorted-groups : {X : Type 0} (key : X → ℕ) (xs ys : List X) (k : ℕ) �
     → AllByRecursion (λ x. key x < k) xs → IsPermutation xs ys → IsSortedByKey key nat_cmp ys → IsStableByKey key nat_cmp xs ys
     → ys ≡ groups key 0 k xs
 sorted-groups {X} key xs ys k any early moved sorted stable =
-    let small = recursion_from_All (λ (x : X). key x < k) ys (All-permutation (λ (x : X). key x < k) xs ys moved (All-from_recursion (λ (x : X). key x < k) xs early)) in
+    let small = recursion_from_All (λ (x : X). key x < k) ys
+    (All-permutation (λ (x : X). key x < k) xs ys moved (All-from_recursion (λ (x : X). key x < k) xs early)) in
     let rises = rising-of key ys (IsNonDecreasingBy-from_sort key ys sorted) in
     let same : (b : ℕ) → filter (λ (x : X). key x == b) ys ≡ filter (λ x. key x == b) xs = λ b.
     (let x = any b in
     let tied = λ (zs : List X). filter-same (λ (y : X). key y == b) (ties (λ u v. is_lt (nat_cmp (key u) (key v))) x.0) zs
-    (all-at (λ (y : X). (key y == b) ≡ ties (λ u v. is_lt (nat_cmp (key u) (key v))) x.0 y) zs (λ j d low. sym (ties-is key x.0 (get_or zs j d) b x.1))) in
+    (all-at (λ (y : X). (key y == b) ≡ ties (λ u v. is_lt (nat_cmp (key u) (key v))) x.0 y) zs
+    (λ j d low. sym (ties-is key x.0 (get_or zs j d) b x.1))) in
     tied ys ∙ stable x.0 ∙ sym (tied xs)) in
     sym (by_key key k ys small rises) ∙ groups-same key xs ys same 0 k
 
@@ -84,21 +86,27 @@ told-all c n b acts = ⊎_elim
 gets-all : (c : Course) (n : ℕ) (before es : List Entry) → AllByRecursion (λ (e : Event). e.stamp.beat < c.beats) (gets_told c n before es)
 gets-all c n before [] = tt
 gets-all c n before (e ∷ es) =
-    all-append (λ (x : Event). x.stamp.beat < c.beats) (told_in c n e.stamp.beat (get_of before e.what)) (gets_told c n (before ++ e ∷ []) es)
-    (told-all c n e.stamp.beat (get_of before e.what)) (gets-all c n (before ++ e ∷ []) es)
+    all-append (λ (x : Event). x.stamp.beat < c.beats)
+    (told_in c n e.stamp.beat (get_of c n e.stamp.beat before e.what es)) (gets_told c n (before ++ e ∷ []) es)
+    (told-all c n e.stamp.beat (get_of c n e.stamp.beat before e.what es)) (gets-all c n (before ++ e ∷ []) es)
 
-ends-all : (c : Course) (n b k : ℕ) → b + k ≤ c.beats → AllByRecursion (λ (e : Event). e.stamp.beat < c.beats) (ends_told c n b k)
-ends-all c n b zero h = tt
-ends-all c n b (suc k) h =
-    all-append (λ (x : Event). x.stamp.beat < c.beats) (map (event_in c n b) (end_of_beat c n b)) (ends_told c n (b + 1) k)
-    (acts-all c n b (end_of_beat c n b) (omega (arith, h))) (ends-all c n (b + 1) k (omega (arith, h)))
+-- how node n ends a beat by its journal
+abbrev end_by : Course → ℕ → List Entry → ℕ → List Act
+end_by c n journal b = end_of_beat c n b (said_in b journal)
+
+ends-all : (c : Course) (n : ℕ) (journal : List Entry) (b k : ℕ) → b + k ≤ c.beats
+    → AllByRecursion (λ (e : Event). e.stamp.beat < c.beats) (ends_told c n journal b k)
+ends-all c n journal b zero h = tt
+ends-all c n journal b (suc k) h =
+    all-append (λ (x : Event). x.stamp.beat < c.beats) (map (event_in c n b) (end_by c n journal b)) (ends_told c n journal (b + 1) k)
+    (acts-all c n b (end_by c n journal b) (omega (arith, h))) (ends-all c n journal (b + 1) k (omega (arith, h)))
 
 pub nodes-all : (c : Course) (n : ℕ) (journals : List (List Entry)) → AllByRecursion (λ (e : Event). e.stamp.beat < c.beats) (nodes_told c n journals)
 nodes-all c n [] = tt
 nodes-all c n (journal ∷ rest) =
     all-append (λ (x : Event). x.stamp.beat < c.beats) (node_told c n journal) (nodes_told c (n + 1) rest)
-    (all-append (λ (x : Event). x.stamp.beat < c.beats) (gets_told c n [] journal) (ends_told c n 0 c.beats)
-    (gets-all c n [] journal) (ends-all c n 0 c.beats (omega arith)))
+    (all-append (λ (x : Event). x.stamp.beat < c.beats) (gets_told c n [] journal) (ends_told c n journal 0 c.beats)
+    (gets-all c n [] journal) (ends-all c n journal 0 c.beats (omega arith)))
     (nodes-all c (n + 1) rest)
 
 -- of a beat: what a node gets in it
@@ -130,7 +138,9 @@ told-beat : (c : Course) (n b x : ℕ) (acts : List Act) → b < c.beats
 told-beat c n b x acts low = ⊎_elim
     (λ (same : x ≡ b).
     let t : nat_lt x c.beats ≡ true = grind (arith, nat_tests, same, low) in
-    rw t (subst (λ q. of_beat b (map (event_in c n q) acts) ≡ map (event_in c n b) (map (λ (g : Dated Act). g.item) (filter (λ g. g.beat == b) (map (λ (a : Act). record { beat = q; item = a }) acts)))) (sym same)
+    rw t (subst (λ q. of_beat b (map (event_in c n q) acts)
+    ≡ map (event_in c n b) (map (λ (g : Dated Act). g.item)
+    (filter (λ g. g.beat == b) (map (λ (a : Act). record { beat = q; item = a }) acts)))) (sym same)
     (acts-here c n b acts ∙ sym (ap (map (event_in c n b)) (dated-here b acts)))))
     (λ (other : x ≡ b → ⊥).
     let none = ap (λ q. map (event_in c n b) (map (λ (g : Dated Act). g.item) q)) (dated-other b x acts other) in
@@ -141,54 +151,58 @@ told-beat c n b x acts low = ⊎_elim
     (cases_eq x b)
 
 gets-beat : (c : Course) (n b : ℕ) (before es : List Entry) → b < c.beats
-    → of_beat b (gets_told c n before es) ≡ map (event_in c n b) (map (λ (g : Dated Act). g.item) (filter (λ g. g.beat == b) (gets_behind before es)))
+    → of_beat b (gets_told c n before es)
+    ≡ map (event_in c n b) (map (λ (g : Dated Act). g.item) (filter (λ g. g.beat == b) (gets_behind c n before es)))
 gets-beat c n b before [] low = refl
 gets-beat c n b before (e ∷ es) low =
     let item = λ (g : Dated Act). g.item in
     let test = λ (g : Dated Act). g.beat == b in
-    let here = map (λ (a : Act). record { beat = e.stamp.beat; item = a }) (get_of before e.what) in
-    let rest = gets_behind (before ++ e ∷ []) es in
-    filter-append (λ (x : Event). x.stamp.beat == b) (told_in c n e.stamp.beat (get_of before e.what)) (gets_told c n (before ++ e ∷ []) es)
-    ∙ ap (λ q. q ++ of_beat b (gets_told c n (before ++ e ∷ []) es)) (told-beat c n b e.stamp.beat (get_of before e.what) low)
+    let here = map (λ (a : Act). record { beat = e.stamp.beat; item = a }) (get_of c n e.stamp.beat before e.what es) in
+    let rest = gets_behind c n (before ++ e ∷ []) es in
+    filter-append (λ (x : Event). x.stamp.beat == b)
+    (told_in c n e.stamp.beat (get_of c n e.stamp.beat before e.what es)) (gets_told c n (before ++ e ∷ []) es)
+    ∙ ap (λ q. q ++ of_beat b (gets_told c n (before ++ e ∷ []) es)) (told-beat c n b e.stamp.beat (get_of c n e.stamp.beat before e.what es) low)
     ∙ ap (λ q. map (event_in c n b) (map item (filter test here)) ++ q) (gets-beat c n b (before ++ e ∷ []) es low)
     ∙ sym (ap (λ q. map (event_in c n b) (map item q)) (filter-append test here rest)
     ∙ ap (map (event_in c n b)) (map-append item (filter test here) (filter test rest))
     ∙ map-append (event_in c n b) (map item (filter test here)) (map item (filter test rest)))
 
 -- and how it ends it
-ends-below : (c : Course) (n b a k : ℕ) → b < a → of_beat b (ends_told c n a k) ≡ []
-ends-below c n b a zero low = refl
-ends-below c n b a (suc k) low =
-    filter-append (λ (x : Event). x.stamp.beat == b) (map (event_in c n a) (end_of_beat c n a)) (ends_told c n (a + 1) k)
-    ∙ ap (λ q. q ++ of_beat b (ends_told c n (a + 1) k)) (acts-other c n b a (end_of_beat c n a) (λ e. omega (arith, e, low)))
-    ∙ ends-below c n b (a + 1) k (omega (arith, low))
+ends-below : (c : Course) (n : ℕ) (journal : List Entry) (b a k : ℕ) → b < a → of_beat b (ends_told c n journal a k) ≡ []
+ends-below c n journal b a zero low = refl
+ends-below c n journal b a (suc k) low =
+    filter-append (λ (x : Event). x.stamp.beat == b) (map (event_in c n a) (end_by c n journal a)) (ends_told c n journal (a + 1) k)
+    ∙ ap (λ q. q ++ of_beat b (ends_told c n journal (a + 1) k)) (acts-other c n b a (end_by c n journal a) (λ e. omega (arith, e, low)))
+    ∙ ends-below c n journal b (a + 1) k (omega (arith, low))
 
-ends-beat : (c : Course) (n b a k : ℕ) → a ≤ b → b < a + k → of_beat b (ends_told c n a k) ≡ map (event_in c n b) (end_of_beat c n b)
-ends-beat c n b a zero low high = absurd (omega (arith, low, high))
-ends-beat c n b a (suc k) low high =
-    let rest = ends_told c n (a + 1) k in
-    filter-append (λ (x : Event). x.stamp.beat == b) (map (event_in c n a) (end_of_beat c n a)) rest ∙ ⊎_elim
+ends-beat : (c : Course) (n : ℕ) (journal : List Entry) (b a k : ℕ) → a ≤ b → b < a + k
+    → of_beat b (ends_told c n journal a k) ≡ map (event_in c n b) (end_by c n journal b)
+ends-beat c n journal b a zero low high = absurd (omega (arith, low, high))
+ends-beat c n journal b a (suc k) low high =
+    let rest = ends_told c n journal (a + 1) k in
+    filter-append (λ (x : Event). x.stamp.beat == b) (map (event_in c n a) (end_by c n journal a)) rest ∙ ⊎_elim
     (λ (same : a ≡ b).
-    subst (λ q. of_beat b (map (event_in c n q) (end_of_beat c n q)) ++ of_beat b (ends_told c n (q + 1) k) ≡ map (event_in c n b) (end_of_beat c n b)) (sym same)
-    (ap (λ q. q ++ of_beat b (ends_told c n (b + 1) k)) (acts-here c n b (end_of_beat c n b))
-    ∙ ap (λ q. map (event_in c n b) (end_of_beat c n b) ++ q) (ends-below c n b (b + 1) k (omega arith))
-    ∙ append-nil (map (event_in c n b) (end_of_beat c n b))))
+    subst (λ q. of_beat b (map (event_in c n q) (end_by c n journal q))
+    ++ of_beat b (ends_told c n journal (q + 1) k) ≡ map (event_in c n b) (end_by c n journal b)) (sym same)
+    (ap (λ q. q ++ of_beat b (ends_told c n journal (b + 1) k)) (acts-here c n b (end_by c n journal b))
+    ∙ ap (λ q. map (event_in c n b) (end_by c n journal b) ++ q) (ends-below c n journal b (b + 1) k (omega arith))
+    ∙ append-nil (map (event_in c n b) (end_by c n journal b))))
     (λ (other : a ≡ b → ⊥).
-    ap (λ q. q ++ of_beat b rest) (acts-other c n b a (end_of_beat c n a) other)
-    ∙ ends-beat c n b (a + 1) k (omega (arith, low, other)) (omega (arith, high)))
+    ap (λ q. q ++ of_beat b rest) (acts-other c n b a (end_by c n journal a) other)
+    ∙ ends-beat c n journal b (a + 1) k (omega (arith, low, other)) (omega (arith, high)))
     (cases_eq a b)
 
 -- so a beat of the list is the beat
 nodes-beat : (c : Course) (n b : ℕ) (journals : List (List Entry)) → b < c.beats → of_beat b (nodes_told c n journals) ≡ events_of_beat c b n journals
 nodes-beat c n b [] low = refl
 nodes-beat c n b (journal ∷ rest) low =
-    let gets = map (λ (g : Dated Act). g.item) (filter (λ g. g.beat == b) (gets_behind [] journal)) in
+    let gets = map (λ (g : Dated Act). g.item) (filter (λ g. g.beat == b) (gets_behind c n [] journal)) in
     let test = λ (x : Event). x.stamp.beat == b in
     filter-append test (node_told c n journal) (nodes_told c (n + 1) rest)
-    ∙ ap (λ q. q ++ of_beat b (nodes_told c (n + 1) rest)) (filter-append test (gets_told c n [] journal) (ends_told c n 0 c.beats)
-    ∙ ap (λ q. q ++ of_beat b (ends_told c n 0 c.beats)) (gets-beat c n b [] journal low)
-    ∙ ap (λ q. map (event_in c n b) gets ++ q) (ends-beat c n b 0 c.beats (omega arith) (omega (arith, low)))
-    ∙ sym (map-append (event_in c n b) gets (end_of_beat c n b)))
+    ∙ ap (λ q. q ++ of_beat b (nodes_told c (n + 1) rest)) (filter-append test (gets_told c n [] journal) (ends_told c n journal 0 c.beats)
+    ∙ ap (λ q. q ++ of_beat b (ends_told c n journal 0 c.beats)) (gets-beat c n b [] journal low)
+    ∙ ap (λ q. map (event_in c n b) gets ++ q) (ends-beat c n journal b 0 c.beats (omega arith) (omega (arith, low)))
+    ∙ sym (map-append (event_in c n b) gets (end_by c n journal b)))
     ∙ ap (λ q. events_in c n b journal ++ q) (nodes-beat c (n + 1) b rest low)
 
 pub groups-told : (c : Course) (b k : ℕ) (journals : List (List Entry)) → b + k ≤ c.beats

@@ -1,4 +1,5 @@
 pub mod Counting
+pub mod Cuts
 pub mod Ends
 pub mod Faultless
 pub mod Gets
@@ -14,5 +15,11 @@ pub mod Points
 pub mod Pushing
 pub mod Ready
 pub mod Runs
+pub mod Said
+pub mod Shortened
+pub mod Shorter
+pub mod Told
+pub mod Turning
+pub mod Whole
 pub mod Worked
 pub mod Worlds

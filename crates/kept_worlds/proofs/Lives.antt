@@ -1,122 +1,264 @@
--- The lives that a course gives its nodes: who dies, when, and that no two neighbours do.
-use Rattle.std.proofs.Common.{◌≡◌, ℕ, ◌+◌, ◌%◌, ◌<◌, ◌≤◌, List, length, true, false, Option, Some, None, refl, ap, sym, ◌∙◌, subst, arith, ⊎_elim, inl, inr}
-use Rattle.std.specs.Prelude.{nat_lt, ◌==◌}
+-- What the events of a history say of the lives that its course gives the nodes, if nobody returns.
+use Rattle.std.proofs.Common.{◌≡◌, ℕ, zero, suc, ◌+◌, ◌%◌, ◌<◌, ◌≤◌, List, length, Bool, true, false, ◌&&◌, ◌||◌, Option, Some, None, refl, ap, sym, ◌∙◌, subst, arith, cond, ⊎_elim, inl, inr}
+use Rattle.std.specs.Prelude.{nat_lt, ◌==◌, is_some, min}
 use Rattle.std.proofs.Math.Nat.{mod-lt}
-use Rattle.std.proofs.lemmas.Bool.{cases_Bool}
+use Rattle.std.proofs.lemmas.Bool.{cases_Bool, cases_eq}
 use Rattle.std.proofs.lemmas.Bool.Decides.{nat_tests}
+use Rattle.tiger_base.specs.declared.number.Stamp.{Stamp}
 use Rattle.tiger_base.specs.declared.message.Note.{Note}
 use Rattle.node_kit.specs.declared.course.Course.{Course}
 use Rattle.node_kit.specs.declared.journal.Entry.{Entry}
-use Rattle.node_kit.specs.Life.{Lifetime, IsWholeLife, mortal, lifetime_of, death_of, acts, dies}
-use Rattle.node_kit.proofs.Whole.{acts-mortal, dies-undying, dies-mortal}
-use Rattle.node_kit.specs.Steps.{Input, Deed}
-use Rattle.run_facts.specs.Events.{NodeEvent, IsPlain, stamp_at, is_death}
+use Rattle.node_kit.specs.Life.{Lifetime, lifetime_of, death_of, cut_of, back_of, acts, ends_in, left_in, cut_by, cut_to}
+use Rattle.node_kit.specs.Outputs.{send_count}
+use Rattle.node_kit.specs.Steps.{Input, Deed, stamp_of}
+use Rattle.node_kit.specs.Steps.Input.{Take, Tick}
+use Rattle.run_facts.specs.Events.{NodeEvent, Past, event_of, event_to, is_tick, is_tick_input, stamp_at, is_death, is_return}
 use Rattle.run_facts.specs.Events.NodeEvent.{Does, Ends, Dies, Returns}
-use Rattle.run_facts.specs.Histories.{HaveHistory, beat, past}
-use Rattle.run_facts.specs.Plain.{HasWholeLives, IsPlainRun}
+use Rattle.run_facts.specs.Histories.{HaveHistory, History, beat, past}
 use Rattle.run_facts.specs.Timed.{DieApart}
-use Rattle.run_facts.proofs.Plain.{life-kept, lived-run}
-use Rattle.ring_world.specs.Laws.{IsPlace}
+use Rattle.run_lives.proofs.Alike.{over-event}
+use Rattle.proof_answer.proofs.Lifetimes.{life_of, IsLater, not-later, after-later, acts-later, dies-later, idle-later, returns-later, ended-later, returns-when}
 use Rattle.proof_answer.proofs.Lists.{element-of}
+use Rattle.proof_lives.specs.OneLife.{IsWithoutReturns}
+use Rattle.proof_lives.proofs.OneLife.{one_life_run}
+use Rattle.ring_world.specs.Laws.{IsPlace}
 use Rattle.kept_worlds.specs.Merges.{LivesThrough, MayHappen}
+use Rattle.kept_worlds.proofs.Ends.{IsOfLife, dies-in, cut-in}
+use Rattle.kept_worlds.proofs.Numbers.{count-grows}
 
--- who acts in a beat and dies in another does so later
-pub acts-dies : (death : Option ℕ) (a b : ℕ) → acts (mortal death) a ≡ true → dies (mortal death) b ≡ true → a < b
-acts-dies None a b live dead = let none : true ≡ false = sym dead ∙ dies-undying b in absurd (cc)
-acts-dies (Some x) a b live dead =
-    let l : nat_lt a x ≡ true = sym (acts-mortal x a) ∙ live in
-    let d : (b == x) ≡ true = sym (dies-mortal x b) ∙ dead in
-    grind (arith, nat_tests, l, d)
+-- ---- what a life makes of one input
 
--- who has no death does not die
-dies-never : (death : Option ℕ) (b : ℕ) → dies (mortal death) b ≡ true → death ≡ None → ⊥
-dies-never None b dead none = let never : true ≡ false = sym dead ∙ dies-undying b in absurd (cc)
-dies-never (Some x) b dead none = absurd (cc)
+or-true : (b : Bool) → (b || true) ≡ true
+or-true true = refl
+or-true false = refl
+
+-- a tick that is not cut off is in no beat in which the death is to cut one off
+pub uncut-tick : {M S : Type 0} (step : S → Input M → Deed M S) (s : Stamp) (x : Past S) → event_of step (Tick s) x ≡ Does (Tick s)
+    → ends_in x.life s.beat ≡ false
+unfolding event_of cut_to
+uncut-tick {M} step s x e = by-left (left_in x.life s.beat) refl e
+  where
+    by-left : (o : Option ℕ) → left_in x.life s.beat ≡ o
+        → event_to {M = M} (Tick s) (cut_by o true (step x.state (Tick s)).outs) ≡ Does (Tick s) → ends_in x.life s.beat ≡ false
+    by-left None q e = ap is_some q
+    by-left (Some k) q e =
+        let outs = (step x.state (Tick s)).outs in
+        let some : cut_by (Some k) true outs ≡ Some (min k (send_count outs)) =
+        ap (λ b. cond b (Some (min k (send_count outs))) None) (or-true (nat_lt k (send_count outs))) in
+        let z : ◌≡◌ {A = NodeEvent M} (Ends (Tick s) (min k (send_count outs))) (Does (Tick s)) =
+        sym (ap (event_to {M = M} (Tick s)) some) ∙ e in absurd (cc)
+
+least : (a b : ℕ) → min a b ≤ b
+least a b = grind (arith, nat_tests)
+
+abbrev pub sends_in : {M : Type 0} → NodeEvent M → ℕ
+sends_in (Does i) = 0
+sends_in (Ends i sends) = sends
+sends_in (Dies stamp) = 0
+sends_in (Returns stamp) = 0
+
+-- no more messages go out than there are
+pub few-sends : {M S : Type 0} (step : S → Input M → Deed M S) (i : Input M) (sends : ℕ) (x : Past S)
+    → event_of step i x ≡ Ends i sends → sends ≤ send_count (step x.state i).outs
+unfolding event_of cut_to
+few-sends {M} step i sends x e = by-left (left_in x.life (stamp_of i).beat) e
+  where
+    by-test : (k : ℕ) (t : Bool)
+        → event_to i (cond t (Some (min k (send_count (step x.state i).outs))) None) ≡ Ends i sends
+        → sends ≤ send_count (step x.state i).outs
+    by-test k true e =
+        let q : min k (send_count (step x.state i).outs) ≡ sends = ap (λ (y : NodeEvent M). sends_in y) e in
+        let low = least k (send_count (step x.state i).outs) in
+        omega (arith, q, low)
+    by-test k false e = absurd (cc)
+
+    by-left : (o : Option ℕ) → event_to i (cut_by o (is_tick_input i) (step x.state i).outs) ≡ Ends i sends
+        → sends ≤ send_count (step x.state i).outs
+    by-left None e = absurd (cc)
+    by-left (Some k) e = by-test k (nat_lt k (send_count (step x.state i).outs) || is_tick_input i) e
+
+-- as long as the death has not come it still is to cut the node off
+ends-back : (death left back : Option ℕ) (now : Lifetime) (b : ℕ) → IsLater death left back now → now.over ≡ false
+    → ends_in (life_of death left back) b ≡ true → ends_in now b ≡ true
+ends-back death left back now b later over h =
+    let same : ends_in now b ≡ ends_in (record { death = death; left = now.left; back = back; over = false }) b =
+    ap (λ (q : Lifetime). ends_in q b) (later.is ∙ ap (λ (o : Bool). record { death = death; left = now.left; back = back; over = o }) over) in
+    same ∙ by-death death h
+  where
+    some-same : (t : Bool) → is_some (cond t now.left None) ≡ is_some (cond t left None)
+    some-same true = later.cuts
+    some-same false = refl
+
+    by-death : (d : Option ℕ) → ends_in (life_of d left back) b ≡ true
+        → ends_in (record { death = d; left = now.left; back = back; over = false }) b ≡ true
+    by-death None h = absurd (cc)
+    by-death (Some d) h = some-same (b == d && true) ∙ h
 
 module _ {M S : Type 0} (note : M → Note) (step : S → Input M → Deed M S) (c : Course) (given nodes : List S)
-    (journals : List (List Entry)) (whole : HasWholeLives c)
+    (journals : List (List Entry)) (stays : (n : ℕ) → back_of c n ≡ None)
     (one : HaveHistory note step c.plan.params (lifetime_of c) c.beats given nodes journals) where
-  -- the run is a plain one
-  pub plain-of : IsPlainRun note step c.plan.params (length given) one.history
-  plain-of = lived-run note step c.plan.params (lifetime_of c) c.beats given nodes journals whole one
+  abbrev h : History M S
+  h = one.history
 
-  -- a life stays
-  pub life-is : (n i : ℕ) → n < length given → i ≤ one.history.count n
-      → (past note step one.history n i).life ≡ lifetime_of c n
-  life-is n i low at =
-      let s = element-of given n low in
-      let mine : one.history.life n ≡ lifetime_of c n = (one.theirs.opens n s.0 s.1).1 in
-      let own : IsWholeLife (one.history.life n) = subst IsWholeLife (sym mine) (whole n) in
-      life-kept note step (length given) c.beats one.history one.complete n low own i at ∙ sym own ∙ mine
+  pub life-is : (n : ℕ) → n < length given → h.life n ≡ lifetime_of c n
+  life-is n low = let s = element-of given n low in (one.theirs.opens n s.0 s.1).1
 
-  acts-mortally : (n b : ℕ) → acts (lifetime_of c n) b ≡ true → acts (mortal (death_of c n)) b ≡ true
-  acts-mortally n b h = sym (ap (λ (q : Lifetime). acts q b) (whole n)) ∙ h
+  later : (n i : ℕ) → n < length given → IsLater (death_of c n) (cut_of c n) (back_of c n) (past note step h n i).life
+  later n zero low =
+      subst (IsLater (death_of c n) (cut_of c n) (back_of c n)) (sym (life-is n low))
+      (not-later (death_of c n) (cut_of c n) (back_of c n))
+  later n (suc i) low =
+      after-later note step (death_of c n) (cut_of c n) (back_of c n) (h.event n i) (past note step h n i) (later n i low)
 
-  dies-mortally : (n b : ℕ) → dies (lifetime_of c n) b ≡ true → dies (mortal (death_of c n)) b ≡ true
-  dies-mortally n b h = sym (ap (λ (q : Lifetime). dies q b) (whole n)) ∙ h
+  -- nobody returns
+  pub none-back : IsWithoutReturns (length given) h
+  none-back n i low at = by_event (h.event n i) refl
+    where
+      by_event : (e : NodeEvent M) → h.event n i ≡ e → is_return e ≡ false
+      by_event (Does x) is = refl
+      by_event (Ends x sends) is = refl
+      by_event (Dies s) is = refl
+      by_event (Returns s) is =
+          let back = returns-when (death_of c n) (cut_of c n) (back_of c n) s.beat
+          (returns-later (death_of c n) (cut_of c n) (back_of c n) (past note step h n i).life (later n i low) s.beat
+          (one.complete.returning n i s low at is)) in
+          let none = stays n in
+          let q : ◌≡◌ {A = Option ℕ} None (Some s.beat) = sym none ∙ back in absurd (cc)
 
-  dies-cub : (n b : ℕ) → dies (lifetime_of c n) b ≡ true → n < c.plan.params.cubs
-  dies-cub n b dead = ⊎_elim
+  pub last-of : (n i : ℕ) → n < length given → i < h.count n → is_death (h.event n i) ≡ true → i + 1 ≡ h.count n
+  last-of n i low at died = ⊎_elim
+      (λ (e : i + 1 ≡ h.count n). e)
+      (λ (other : i + 1 ≡ h.count n → ⊥). ⊎_elim
+      (λ (e : i + 1 ≡ h.count n). e)
+      (λ (back : is_return (h.event n (i + 1)) ≡ true).
+      let q : true ≡ false = sym back ∙ none-back n (i + 1) low (omega (arith, at, other)) in absurd (cc))
+      (one.run.ended n i low at died))
+      (cases_eq (i + 1) (h.count n))
+
+  pub alive-before : (n j i : ℕ) → n < length given → j < i → i < h.count n → is_death (h.event n j) ≡ false
+  alive-before n j i low before at = ⊎_elim
+      (λ (t : is_death (h.event n j) ≡ true).
+      let end = last-of n j low (omega (arith, before, at)) t in absurd (omega (arith, end, before, at)))
+      (λ (t : is_death (h.event n j) ≡ false). t)
+      (cases_Bool (is_death (h.event n j)))
+
+  over-none : (n i : ℕ) → n < length given → ((j : ℕ) → j < i → is_death (h.event n j) ≡ false)
+      → (past note step h n i).life.over ≡ false
+  over-none n zero low alive = ap (λ (q : Lifetime). q.over) (life-is n low)
+  over-none n (suc i) low alive =
+      over-event note step (h.event n i) (past note step h n i) (alive i (omega arith))
+      ∙ over-none n i low (λ j before. alive j (omega (arith, before)))
+
+  -- each event is as the course has it
+  pub of-life : (n i : ℕ) → n < length given → i < h.count n → IsOfLife (lifetime_of c n) (h.event n i)
+  of-life n i low at = by_event (h.event n i) refl
+    where
+      now : IsLater (death_of c n) (cut_of c n) (back_of c n) (past note step h n i).life
+      now = later n i low
+
+      by_event : (e : NodeEvent M) → h.event n i ≡ e → IsOfLife (lifetime_of c n) e
+      by_event (Does (Take s k m)) is =
+          let dated : beat h n i ≡ s.beat = ap (λ (e : NodeEvent M). (stamp_at e).beat) is in
+          ap (acts (lifetime_of c n)) (sym dated)
+          ∙ acts-later (death_of c n) (cut_of c n) (back_of c n) (past note step h n i).life now (beat h n i)
+          (one.complete.acting n i (Take s k m) low at is).0
+      by_event (Does (Tick s)) is =
+          let dated : beat h n i ≡ s.beat = ap (λ (e : NodeEvent M). (stamp_at e).beat) is in
+          let both = one.complete.acting n i (Tick s) low at is in (
+            ap (acts (lifetime_of c n)) (sym dated)
+                ∙ acts-later (death_of c n) (cut_of c n) (back_of c n) (past note step h n i).life now (beat h n i) both.0,
+            ⊎_elim
+                (λ (t : ends_in (lifetime_of c n) s.beat ≡ true).
+                let over = over-none n i low (λ j before. alive-before n j i low before at) in
+                let a = ends-back (death_of c n) (cut_of c n) (back_of c n) (past note step h n i).life s.beat now over t in
+                let b = uncut-tick step s (past note step h n i) both.1 in
+                let q : true ≡ false = sym a ∙ b in absurd (cc))
+                (λ (t : ends_in (lifetime_of c n) s.beat ≡ false). t)
+                (cases_Bool (ends_in (lifetime_of c n) s.beat)),
+          )
+      by_event (Ends x sends) is =
+          ended-later step (death_of c n) (cut_of c n) (back_of c n) x sends (past note step h n i) now
+          (one.complete.ending n i sends x low at is).1
+      by_event (Dies s) is =
+          let both = one.complete.dying n i s low at is in (
+            idle-later (death_of c n) (cut_of c n) (back_of c n) (past note step h n i).life now s.beat both.0 both.1,
+            dies-later (death_of c n) (cut_of c n) (back_of c n) (past note step h n i).life now s.beat both.1,
+          )
+      by_event (Returns s) is =
+          let q : true ≡ false = sym (ap is_return is) ∙ none-back n i low at in absurd (cc)
+
+  pub cut-sends : (n i sends : ℕ) (x : Input M) → n < length given → i < h.count n → h.event n i ≡ Ends x sends
+      → sends ≤ send_count (step (past note step h n i).state x).outs
+  cut-sends n i sends x low at is =
+      few-sends step x sends (past note step h n i) (one.complete.ending n i sends x low at is).1
+
+  -- who dies has a death in that beat, and is a cub
+  pub death-at : (n i : ℕ) → n < length given → i < h.count n → is_death (h.event n i) ≡ true
+      → death_of c n ≡ Some (beat h n i)
+  death-at n i low at died = by_event (h.event n i) refl died (of-life n i low at)
+    where
+      by_event : (e : NodeEvent M) → h.event n i ≡ e → is_death e ≡ true → IsOfLife (lifetime_of c n) e
+          → death_of c n ≡ Some (beat h n i)
+      by_event (Does (Take s k m)) is t lives = absurd (cc)
+      by_event (Does (Tick s)) is t lives = absurd (cc)
+      by_event (Ends x sends) is t lives =
+          cut-in c n (stamp_at (Ends x sends)).beat lives ∙ ap (λ (e : NodeEvent M). Some (stamp_at e).beat) (sym is)
+      by_event (Dies s) is t lives =
+          (dies-in c n s.beat s.beat lives.1).0 ∙ ap (λ (e : NodeEvent M). Some (stamp_at e).beat) (sym is)
+      by_event (Returns s) is t lives = absurd (cc)
+
+  pub mortal-cub : (n b : ℕ) → death_of c n ≡ Some b → n < c.plan.params.cubs
+  mortal-cub n b death = ⊎_elim
       (λ (t : nat_lt n c.plan.params.cubs ≡ true). grind (arith, nat_tests, t))
       (λ (t : nat_lt n c.plan.params.cubs ≡ false).
-      let none : death_of c n ≡ None = rw t refl in absurd (dies-never (death_of c n) b (dies-mortally n b dead) none))
+      let none : death_of c n ≡ None = rw t refl in
+      let q : ◌≡◌ {A = Option ℕ} None (Some b) = sym none ∙ death in absurd (cc))
       (cases_Bool (nat_lt n c.plan.params.cubs))
 
-  -- an event that is a death, and one that is none
-  dies-at : (n i : ℕ) → n < length given → i < one.history.count n → is_death (one.history.event n i) ≡ true
-      → dies (lifetime_of c n) (beat one.history n i) ≡ true
-  dies-at n i low at died = by_event (one.history.event n i) refl died (plain-of.plain n i low at)
-    where
-      by_event : (e : NodeEvent M) → one.history.event n i ≡ e → is_death e ≡ true → IsPlain e
-          → dies (lifetime_of c n) (beat one.history n i) ≡ true
-      by_event (Does x) is d plain = absurd (cc)
-      by_event (Ends x sends) is d plain = absurd plain
-      by_event (Returns s) is d plain = absurd plain
-      by_event (Dies s) is d plain =
-          let both = one.complete.dying n i s low at is in
-          let now : beat one.history n i ≡ s.beat = ap (λ (e : NodeEvent M). (stamp_at e).beat) is in
-          ap (dies (lifetime_of c n)) now
-          ∙ sym (ap (λ (q : Lifetime). dies q s.beat) (life-is n i low (omega (arith, at)))) ∙ both.1
-
-  acts-at : (n i : ℕ) → n < length given → i < one.history.count n → is_death (one.history.event n i) ≡ false
-      → acts (lifetime_of c n) (beat one.history n i) ≡ true
-  acts-at n i low at lives = by_event (one.history.event n i) refl lives (plain-of.plain n i low at)
-    where
-      by_event : (e : NodeEvent M) → one.history.event n i ≡ e → is_death e ≡ false → IsPlain e
-          → acts (lifetime_of c n) (beat one.history n i) ≡ true
-      by_event (Does x) is d plain =
-          sym (ap (λ (q : Lifetime). acts q (beat one.history n i)) (life-is n i low (omega (arith, at))))
-          ∙ (one.complete.acting n i x low at is).0
-      by_event (Ends x sends) is d plain = absurd plain
-      by_event (Returns s) is d plain = absurd plain
-      by_event (Dies s) is d plain = absurd (cc)
-
-  lives-on : (n : ℕ) → n < length given → (lifetime_of c n).death ≡ None → LivesThrough one.history n
+  lives-on : (n : ℕ) → n < length given → (lifetime_of c n).death ≡ None → LivesThrough h n
   lives-on n low none i at = ⊎_elim
-      (λ (t : is_death (one.history.event n i) ≡ true).
-      absurd (dies-never (death_of c n) (beat one.history n i)
-      (dies-mortally n (beat one.history n i) (dies-at n i low at t)) none))
-      (λ (t : is_death (one.history.event n i) ≡ false). t)
-      (cases_Bool (is_death (one.history.event n i)))
+      (λ (t : is_death (h.event n i) ≡ true).
+      let q : ◌≡◌ {A = Option ℕ} None (Some (beat h n i)) = sym none ∙ death-at n i low at t in absurd (cc))
+      (λ (t : is_death (h.event n i) ≡ false). t)
+      (cases_Bool (is_death (h.event n i)))
 
-  not-before : (n j i : ℕ) → n < length given → j < i → i < one.history.count n
-      → is_death (one.history.event n j) ≡ false
-  not-before n j i low before at = ⊎_elim
-      (λ (t : is_death (one.history.event n j) ≡ true).
-      let last = plain-of.ended n j low (omega (arith, before, at)) t in absurd (omega (arith, last, before, at)))
-      (λ (t : is_death (one.history.event n j) ≡ false). t)
-      (cases_Bool (is_death (one.history.event n j)))
+  -- who dies apart from any event has had none in that beat
+  idle-before : (n j i : ℕ) (s : Stamp) → n < length given → j < i → i < h.count n → h.event n i ≡ Dies s
+      → beat h n j < beat h n i
+  idle-before n j i s low before at is =
+      let dead : IsOfLife {M = M} (lifetime_of c n) (Dies s) = subst (IsOfLife (lifetime_of c n)) is (of-life n i low at) in
+      let dated : beat h n i ≡ s.beat = ap (λ (e : NodeEvent M). (stamp_at e).beat) is in
+      let live = acts-at (h.event n j) (of-life n j low (omega (arith, before, at))) (alive-before n j i low before at) in
+      let up = rising-beats in
+      ⊎_elim
+      (λ (same : beat h n j ≡ beat h n i).
+      let q : true ≡ false = sym live ∙ ap (acts (lifetime_of c n)) (same ∙ dated) ∙ dead.0 in absurd (cc))
+      (λ (other : beat h n j ≡ beat h n i → ⊥). omega (arith, other, up))
+      (cases_eq (beat h n j) (beat h n i))
+    where
+      acts-at : (e : NodeEvent M) → IsOfLife (lifetime_of c n) e → is_death e ≡ false
+          → acts (lifetime_of c n) (stamp_at e).beat ≡ true
+      acts-at (Does (Take s k m)) lives t = lives
+      acts-at (Does (Tick s)) lives t = lives.0
+      acts-at (Ends x sends) lives t = absurd (cc)
+      acts-at (Dies s) lives t = absurd (cc)
+      acts-at (Returns s) lives t = absurd lives
+
+      rising-beats : beat h n j ≤ beat h n i
+      rising-beats =
+          let run = one_life_run note step c.plan.params (length given) one.history none-back one.run in
+          let a = run.in_beat n j low (omega (arith, before, at)) in
+          let b = run.in_beat n i low at in
+          let up = count-grows is_tick one.history n j i (omega (arith, before)) in
+          omega (arith, a, b, up)
 
   -- so the history may happen
   pub may-happen : IsPlace c.plan.params (length given) c.beats → DieApart c.plan.params (lifetime_of c)
-      → MayHappen c.plan.params (length given) c.beats one.history
+      → MayHappen c.plan.params (length given) c.beats h
   may-happen place apart = record {
     early = one.complete.early;
-    cubs = λ n i low at died. dies-cub n (beat one.history n i) (dies-at n i low at died);
-    idle = λ n j i low before at died.
-        acts-dies (death_of c n) (beat one.history n j) (beat one.history n i)
-        (acts-mortally n (beat one.history n j) (acts-at n j low (omega (arith, before, at)) (not-before n j i low before at)))
-        (dies-mortally n (beat one.history n i) (dies-at n i low at died));
+    cubs = λ n i low at died. mortal-cub n (beat h n i) (death-at n i low at died);
+    idle = λ n j i stamp low before at is. idle-before n j i stamp low before at is;
     apart = λ cub low.
         let cubs = place.cubs in
         let next : (cub + 1) % c.plan.params.cubs < c.plan.params.cubs = mod-lt (cub + 1) (omega (arith, low)) in

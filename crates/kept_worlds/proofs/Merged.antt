@@ -10,7 +10,7 @@ use Rattle.node_kit.specs.Steps.{Input, Deed}
 use Rattle.run_facts.specs.Events.{NodeEvent, Past, opening, after_all, stamp_at}
 use Rattle.run_facts.specs.Accounts.{Rising}
 use Rattle.run_facts.specs.Histories.{History, beat, last_of}
-use Rattle.run_facts.specs.Plain.{IsPlainRun}
+use Rattle.proof_lives.specs.OneLife.{IsOneLifeRun}
 use Rattle.run_facts.proofs.Rows.{all-given}
 use Rattle.run_facts.proofs.Listed.{listed, events_of, listed-last}
 use Rattle.ring_world.specs.declared.event.Event.{Event}
@@ -21,6 +21,7 @@ use Rattle.ring_world.specs.Merging.{Happening, added, beat_at, own, told_as, to
 use Rattle.ring_world.proofs.Accepting.{some-same}
 use Rattle.ring_world.proofs.Moving.{Holds}
 use Rattle.ring_world.proofs.Runs.{holds-opens}
+use Rattle.proof_lives.proofs.OneLife.{one_life_run}
 use Rattle.kept_worlds.specs.Merges.{MayHappen, HasLivedThrough, MergesAreAccepted}
 use Rattle.kept_worlds.proofs.Lifeless.{AreTwins, all-twin}
 use Rattle.kept_worlds.proofs.Numbers.{all-listed, listed-below}
@@ -47,7 +48,7 @@ heads : {X : Type 0} (x y : X) (xs ys : List X) → x ∷ xs ≡ y ∷ ys → (x
 heads x y xs ys e = (cc, cc)
 
 module _ {M S : Type 0} (note : M → Note) (step : S → Input M → Deed M S) (p : Params) (nodes beats : ℕ) (h : History M S)
-    (place : IsPlace p nodes beats) (run : IsPlainRun note step p nodes h) (may : MayHappen p nodes beats h) where
+    (place : IsPlace p nodes beats) (run : IsOneLifeRun note step p nodes h) (may : MayHappen p nodes beats h) where
   -- a list has what is left of a node's events, from a number on
   record IsLeft (k i : ℕ) (xs : List (Happening M)) : Type 0 where
     more : ℕ
@@ -175,7 +176,7 @@ mapped-at : {X Y : Type 0} (f : X → Y) (xs : List X) (k : ℕ) (x : X) (y : Y)
 mapped-at f xs k x y here is = slice_get-map f xs k ∙ ap (option_map f) here ∙ ap Some is
 
 module _ {M S : Type 0} (note : M → Note) (step : S → Input M → Deed M S) (p : Params) (beats : ℕ) (given : List S)
-    (h : History M S) (place : IsPlace p (length given) beats) (run : IsPlainRun note step p (length given) h)
+    (h : History M S) (place : IsPlace p (length given) beats) (run : IsOneLifeRun note step p (length given) h)
     (may : MayHappen p (length given) beats h) where
   -- before the first event
   starts-at : ((k : ℕ) → k < length given → slice_get given k ≡ Some (h.first k))
@@ -208,7 +209,8 @@ module _ {M S : Type 0} (note : M → Note) (step : S → Input M → Deed M S) 
       }
 
 pub merges-accepted : (M S : Type 0) → MergesAreAccepted M S
-merges-accepted M S note step p beats given h events place first run may merged =
+merges-accepted M S note step p beats given h events place first all here may merged =
+    let run = one_life_run note step p (length given) h here all in
     let opens : (k : ℕ) → k < length given → slice_get given k ≡ Some (h.first k) = λ k low.
     (let s = element-of given k low in s.1 ∙ ap Some (sym (first k s.0 s.1))) in
     let start = starts-at note step p beats given h place run may opens in

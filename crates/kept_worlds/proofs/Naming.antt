@@ -83,8 +83,10 @@ named-beat {M} lost b n before (e ∷ es) rising =
     rw (other, low) (rest ∙ ap (λ q. named lost n q (in_beat b es)) (append_assoc before (e ∷ []) (events_below b es))))
     (λ (high : nat_lt now b ≡ false).
     let none : in_beat b es ≡ [] = none-later b es
-    (all-weaker (λ (f : NodeEvent M). now ≤ (stamp_at f).beat) (λ f. b < (stamp_at f).beat) es (λ f h. grind (arith, nat_tests, h, other, high)) rising.0) in
-    rw (other, high) (rest ∙ ap (named lost n ((before ++ e ∷ []) ++ events_below b es)) none ∙ sym (ap (named lost n (before ++ events_below b es)) none)))
+    (all-weaker (λ (f : NodeEvent M). now ≤ (stamp_at f).beat) (λ f. b < (stamp_at f).beat) es
+    (λ f h. grind (arith, nat_tests, h, other, high)) rising.0) in
+    rw (other, high) (rest ∙ ap (named lost n ((before ++ e ∷ []) ++ events_below b es)) none
+    ∙ sym (ap (named lost n (before ++ events_below b es)) none)))
     (cases_Bool (nat_lt now b)))
     (cases_Bool (now == b))
 
@@ -142,7 +144,8 @@ module _ {M : Type 0} (lost : ℕ → ℕ) (nodes : ℕ) (all : ℕ → List (No
   told-row b n (suc j) ys zs f sum now done rest =
       let low : n < nodes = omega (arith, sum) in
       let row = row_from b (suc n) j all in
-      let more = told-node lost n (events_below b (all n)) (in_beat b (all n)) (row ++ ys) (named_row lost b (suc n) j all ++ zs) f (now n (omega arith) low)
+      let more = told-node lost n (events_below b (all n)) (in_beat b (all n)) (row ++ ys)
+      (named_row lost b (suc n) j all ++ zs) f (now n (omega arith) low)
       (λ g at others. told-row b (suc n) j ys zs g (omega (arith, sum))
       (λ k up high. others k (λ same. omega (arith, same, up)) ∙ now k (omega (arith, up)) high)
       (λ k below. ⊎_elim

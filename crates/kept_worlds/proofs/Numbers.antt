@@ -1,5 +1,5 @@
 -- The events of a run by their numbers: what was sent and taken by one of them, and which beats come behind it.
-use Rattle.std.proofs.Common.{◌≡◌, ℕ, zero, suc, ◌+◌, ◌<◌, ◌≤◌, List, [], ◌∷◌, ◌++◌, length, Bool, true, false, Option, Some, refl, ap, sym, ◌∙◌, subst, arith, cond, ⊎_elim, eq-or-lt_of_le, length-append}
+use Rattle.std.proofs.Common.{◌≡◌, ℕ, zero, suc, ◌+◌, ◌<◌, ◌≤◌, List, [], ◌∷◌, ◌++◌, length, Bool, true, false, Option, Some, refl, ap, sym, ◌∙◌, subst, arith, cond, ⊎_elim, inl, inr, eq-or-lt_of_le, length-append}
 use Rattle.std.specs.Prelude.{slice_get, ◌==◌}
 use Rattle.std.specs.List.{AllByRecursion}
 use Rattle.std.proofs.lemmas.Bool.{cases_Bool, cases_eq, cases_lt, eqb-true}
@@ -11,10 +11,10 @@ use Rattle.node_kit.specs.Links.{links_of, ends_of}
 use Rattle.node_kit.specs.Rows.{each_below}
 use Rattle.node_kit.specs.Steps.{Input, Deed}
 use Rattle.node_kit.specs.Steps.Input.{Take, Tick}
-use Rattle.run_facts.specs.Events.{NodeEvent, Dated, stamp_at, is_tick, is_death, is_take_on, sends_of, take_on, IsPlain}
+use Rattle.run_facts.specs.Events.{NodeEvent, Dated, stamp_at, is_tick, is_death, is_take_on, sends_of, take_on}
 use Rattle.run_facts.specs.Events.NodeEvent.{Does, Ends, Dies, Returns}
-use Rattle.run_facts.specs.Histories.{History, CameOn, beat, outs, count_of, takes, sent, taken}
-use Rattle.run_facts.specs.Plain.{IsPlainRun}
+use Rattle.run_facts.specs.Histories.{History, CameOn, TakesAt, beat, outs, count_of, takes, sent, taken}
+use Rattle.proof_lives.specs.OneLife.{IsOneLifeRun}
 use Rattle.run_facts.proofs.Rows.{same-element}
 use Rattle.run_facts.proofs.Along.{sends_of-dated}
 use Rattle.run_facts.proofs.Counts.{sent-numbered, sent-stays, count-numbered}
@@ -121,15 +121,24 @@ pub record IsTake {M : Type 0} (l : ℕ) (x : NodeEvent M) : Type 0 where
   pub stamp : Stamp
   pub link : LinkNo
   pub msg : M
-  pub is : x ≡ Does (Take stamp link msg)
+  pub is : TakesAt x stamp link msg
   pub on : link.0 ≡ l
 
-pub take-of : {M : Type 0} (l : ℕ) (x : NodeEvent M) → IsPlain x → is_take_on l x ≡ true → IsTake l x
-take-of l (Does (Take s k m)) plain t = record { stamp = s; link = k; msg = m; is = refl; on = eqb-true _ _ t }
-take-of l (Does (Tick s)) plain t = absurd (cc)
-take-of l (Ends i sends) plain t = absurd plain
-take-of l (Dies s) plain t = absurd (cc)
-take-of l (Returns s) plain t = absurd plain
+pub take-of : {M : Type 0} (l : ℕ) (x : NodeEvent M) → is_take_on l x ≡ true → IsTake l x
+take-of l (Does (Take s k m)) t = record { stamp = s; link = k; msg = m; is = inl refl; on = eqb-true _ _ t }
+take-of l (Does (Tick s)) t = absurd (cc)
+take-of l (Ends (Take s k m) sends) t =
+    record { stamp = s; link = k; msg = m; is = inr (sends, refl); on = eqb-true _ _ t }
+take-of l (Ends (Tick s) sends) t = absurd (cc)
+take-of l (Dies s) t = absurd (cc)
+take-of l (Returns s) t = absurd (cc)
+
+-- and when
+pub taken-in : {M : Type 0} (x : NodeEvent M) (s : Stamp) (k : LinkNo) (m : M) → TakesAt x s k m → (stamp_at x).beat ≡ s.beat
+taken-in {M} x s k m is = ⊎_elim
+    (λ (e : x ≡ Does (Take s k m)). ap (λ (y : NodeEvent M). (stamp_at y).beat) e)
+    (λ (e : (sends : ℕ) × (x ≡ Ends (Take s k m) sends)). ap (λ (y : NodeEvent M). (stamp_at y).beat) e.1)
+    is
 
 tick-or-take : {M : Type 0} (l : ℕ) (x : NodeEvent M) → is_tick x ≡ true → is_take_on l x ≡ true → ⊥
 tick-or-take l (Does (Take s k m)) t u = absurd (cc)
@@ -140,7 +149,7 @@ tick-or-take l (Dies s) t u = absurd (cc)
 tick-or-take l (Returns s) t u = absurd (cc)
 
 module _ {M S : Type 0} (note : M → Note) (step : S → Input M → Deed M S) (p : Params) (nodes : ℕ) (h : History M S)
-    (run : IsPlainRun note step p nodes h) where
+    (run : IsOneLifeRun note step p nodes h) where
   -- before its last event nobody died
   pub lives-before : (n j i : ℕ) → n < nodes → j < i → i < h.count n → is_death (h.event n j) ≡ false
   lives-before n j i low before high = ⊎_elim
@@ -154,7 +163,7 @@ module _ {M S : Type 0} (note : M → Note) (step : S → Input M → Deed M S) 
       → takes l h n i ≡ k → slice_get (sent note step l h from (h.count from)) k ≡ Some d
       → is_take_on l (h.event n i) ≡ true → beat h n i ≤ d.beat + p.delay
   came-as l from n i k d low at ends number was takes_it =
-      let t = take-of l (h.event n i) (run.plain n i low at) takes_it in
+      let t = take-of l (h.event n i) takes_it in
       let came : CameOn note step p nodes h n l (takes l h n i) t.stamp.beat t.msg =
       subst (λ q. CameOn note step p nodes h n q (takes q h n i) t.stamp.beat t.msg) t.on
       (run.carried n i t.stamp t.link t.msg low at t.is) in
@@ -162,11 +171,12 @@ module _ {M S : Type 0} (note : M → Note) (step : S → Input M → Deed M S) 
       let same : came.from ≡ from = first-same came.from from both in
       let was_sent : slice_get (sent note step l h from (h.count from)) k ≡ Some (record { beat = came.when; item = t.msg }) =
       subst (λ q. slice_get (sent note step l h q (h.count q)) k ≡ Some (record { beat = came.when; item = t.msg })) same
-      (subst (λ q. slice_get (sent note step l h came.from (h.count came.from)) q ≡ Some (record { beat = came.when; item = t.msg })) number came.was_sent) in
+      (subst (λ q. slice_get (sent note step l h came.from (h.count came.from)) q
+      ≡ Some (record { beat = came.when; item = t.msg })) number came.was_sent) in
       let one : record { beat = came.when; item = t.msg } ≡ d =
       same-element (sent note step l h from (h.count from)) k (record { beat = came.when; item = t.msg }) d was_sent was in
       let when : came.when ≡ d.beat = ap (λ (q : Dated M). q.beat) one in
-      let now : beat h n i ≡ t.stamp.beat = ap (λ (x : NodeEvent M). (stamp_at x).beat) t.is in
+      let now : beat h n i ≡ t.stamp.beat = taken-in (h.event n i) t.stamp t.link t.msg t.is in
       let soon = came.soon in
       omega (arith, when, now, soon)
     where

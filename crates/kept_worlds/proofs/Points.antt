@@ -7,16 +7,18 @@ use Rattle.std.proofs.lemmas.Option.{slice_get_within}
 use Rattle.std.proofs.lemmas.Bool.{cases_Bool, cases_lt}
 use Rattle.std.proofs.lemmas.Bool.Decides.{nat_tests}
 use Rattle.tiger_base.specs.declared.message.Note.{Note}
+use Rattle.tiger_base.specs.declared.number.Stamp.{Stamp}
 use Rattle.slot_plan.specs.declared.params.Params.{Params}
 use Rattle.node_kit.specs.Links.{links_of, ends_of}
 use Rattle.node_kit.specs.Steps.{Input, Deed}
 use Rattle.run_facts.specs.Events.{NodeEvent, opening, stamp_at, is_death, is_return, sends_along}
+use Rattle.run_facts.specs.Events.NodeEvent.{Dies}
 use Rattle.run_facts.specs.Accounts.{AreAlive, AreHere, event_at, open_after}
 use Rattle.run_facts.specs.Histories.{History, beat, reading, ticks, takes, sent}
-use Rattle.run_facts.specs.Plain.{IsPlainRun}
+use Rattle.proof_lives.specs.OneLife.{IsOneLifeRun}
 use Rattle.run_facts.proofs.Rows.{same-element}
 use Rattle.run_facts.proofs.Indexed.{all-at}
-use Rattle.run_facts.proofs.Timelines.{open-ticks, plain-here}
+use Rattle.run_facts.proofs.Timelines.{open-ticks}
 use Rattle.run_facts.proofs.Listed.{listed, listed-all, listed-length, listed-sends, listed-takes, listed-ticks}
 use Rattle.ring_world.specs.declared.event.Act.{Act}
 use Rattle.ring_world.specs.declared.event.Event.{Event}
@@ -88,7 +90,7 @@ never-died {M} dead death es h alive = (by_dead dead h, by_death death h)
     by_death (Some d) k = let one = k.when d refl in absurd (living one.0 one.1.low one.1.died)
 
 module _ {M S : Type 0} (note : M → Note) (step : S → Input M → Deed M S) (p : Params) (nodes beats : ℕ) (h : History M S)
-    (place : IsPlace p nodes beats) (run : IsPlainRun note step p nodes h) (may : MayHappen p nodes beats h) where
+    (place : IsPlace p nodes beats) (run : IsOneLifeRun note step p nodes h) (may : MayHappen p nodes beats h) where
   -- the machine has come through the events below these numbers
   pub record IsAt (m : Machine M S) (es : ℕ → List (NodeEvent M)) (at : ℕ → ℕ) : Type 0 where
     pub holds : Holds note step anywhere p nodes h.first m es
@@ -110,12 +112,12 @@ module _ {M S : Type 0} (note : M → Note) (step : S → Input M → Deed M S) 
       let up = run.rising n i (suc i) low (omega arith) here in
       omega (arith, same, up)
 
-  latest-acted : (n i : ℕ) (b : Being S) → n < nodes → i < h.count n → is_death (h.event n i) ≡ true → IsLatest h n i b
-      → b.acted ≤ beat h n i
-  latest-acted n zero b low here died latest = let none = latest.0 in omega (arith, none)
-  latest-acted n (suc i) b low here died latest =
+  latest-acted : (n i : ℕ) (stamp : Stamp) (b : Being S) → n < nodes → i < h.count n → h.event n i ≡ Dies stamp
+      → IsLatest h n i b → b.acted ≤ beat h n i
+  latest-acted n zero stamp b low here is latest = let none = latest.0 in omega (arith, none)
+  latest-acted n (suc i) stamp b low here is latest =
       let same = latest.0 in
-      let idle = may.idle n i (suc i) low (omega arith) here died in
+      let idle = may.idle n i (suc i) stamp low (omega arith) here is in
       omega (arith, same, idle)
 
   module _ (m : Machine M S) (es : ℕ → List (NodeEvent M)) (at : ℕ → ℕ) (point : IsAt m es at) where
@@ -132,7 +134,7 @@ module _ {M S : Type 0} (note : M → Note) (step : S → Input M → Deed M S) 
     here-listed k low =
         let within = point.within k low in
         listed-all h (λ e. is_return e ≡ false) k 0 (at k) (at k) (omega arith)
-        (λ j _ high. plain-here (h.event k j) (run.plain k j low (omega (arith, high, within))))
+        (λ j _ high. run.here k j low (omega (arith, high, within)))
 
     pub here-all : (k : ℕ) → k < nodes → AreHere (es k)
     here-all k low = subst AreHere (sym (point.told k low)) (here-listed k low)
@@ -182,8 +184,8 @@ module _ {M S : Type 0} (note : M → Note) (step : S → Input M → Deed M S) 
       pub own-read : own.reading ≤ reading h n (at n)
       own-read = latest-reading n (at n) own next.low next.here (point.last n own next.low own-at)
 
-      pub own-acted : is_death (h.event n (at n)) ≡ true → own.acted ≤ beat h n (at n)
-      own-acted died = latest-acted n (at n) own next.low next.here died (point.last n own next.low own-at)
+      pub own-acted : (stamp : Stamp) → h.event n (at n) ≡ Dies stamp → own.acted ≤ beat h n (at n)
+      own-acted stamp is = latest-acted n (at n) stamp own next.low next.here is (point.last n own next.low own-at)
 
       -- behind its last event who is not dead has not died
       last-dies : (k : ℕ) (c : Being S) (j : ℕ) → k < nodes → slice_get m.beings k ≡ Some c → c.dead ≡ false

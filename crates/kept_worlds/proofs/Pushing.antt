@@ -1,8 +1,8 @@
 -- One turn of each loop that pushes events.
-use Rattle.std.proofs.Common.{◌≡◌, ℕ, zero, suc, ◌+◌, ◌-◌, ◌<◌, ◌≤◌, List, [], ◌∷◌, ◌++◌, map, length, take, drop, get_or, true, false, refl, ap, sym, ◌∙◌, arith, append_assoc, append-nil, length-append, ⊎_elim}
+use Rattle.std.proofs.Common.{◌≡◌, ℕ, zero, suc, ◌+◌, ◌-◌, ◌<◌, ◌≤◌, List, [], ◌∷◌, ◌++◌, map, length, take, drop, get_or, true, false, Option, Some, refl, ap, sym, ◌∙◌, arith, append_assoc, append-nil, length-append, ⊎_elim}
 use Rattle.std.specs.Prelude.{◌==◌, nat_lt, if◌then◌else◌}
 use Rattle.std.proofs.lemmas.Bool.{cases_Bool, eqb-true}
-use Rattle.std.proofs.lemmas.List.{take_more, drop_more, length-take}
+use Rattle.std.proofs.lemmas.List.{take_more, take_rest, drop_more, length-take}
 use Rattle.tiger_base.specs.declared.message.Note.{Note}
 use Rattle.tiger_base.specs.declared.number.LinkNo.{LinkNo}
 use Rattle.node_kit.specs.declared.course.Course.{Course}
@@ -11,20 +11,20 @@ use Rattle.node_kit.specs.declared.journal.What.{What}
 use Rattle.node_kit.specs.declared.journal.What.TheVariants as what
 use Rattle.run_facts.specs.Carried.{got_by, got_on}
 use Rattle.run_facts.proofs.Along.{got_on-append}
-use Rattle.ring_world.specs.declared.event.Act.TheVariants as act
+use Rattle.ring_world.specs.declared.event.Act.{Act}
 use Rattle.ring_world.specs.declared.event.Event.{Event}
-use Rattle.kept_worlds.specs.Events.{get_of, end_of_beat, event_in}
-use Rattle.kept_worlds.specs.Telling.{Numbers, counted_on, told_in, gets_told, ends_told, node_told, nodes_told}
+use Rattle.kept_worlds.specs.Events.{said_in, get_told, get_of, end_of_beat, event_in}
+use Rattle.kept_worlds.specs.Telling.{Numbers, counted_on, listed_act, told_in, gets_told, ends_told, node_told, nodes_told}
 
-pub ends-next : (c : Course) (n b : ℕ) (old new all : List Event) → b < c.beats
-    → new ≡ old ++ map (event_in c n b) (end_of_beat c n b) → old ++ ends_told c n b (c.beats - b) ≡ all
-    → new ++ ends_told c n (b + 1) (c.beats - (b + 1)) ≡ all
-ends-next c n b old new all low pushed before =
-    let here = map (event_in c n b) (end_of_beat c n b) in
-    let rest = ends_told c n (b + 1) (c.beats - (b + 1)) in
+pub ends-next : (c : Course) (n : ℕ) (journal : List Entry) (b : ℕ) (old new all : List Event) → b < c.beats
+    → new ≡ old ++ map (event_in c n b) (end_of_beat c n b (said_in b journal)) → old ++ ends_told c n journal b (c.beats - b) ≡ all
+    → new ++ ends_told c n journal (b + 1) (c.beats - (b + 1)) ≡ all
+ends-next c n journal b old new all low pushed before =
+    let here = map (event_in c n b) (end_of_beat c n b (said_in b journal)) in
+    let rest = ends_told c n journal (b + 1) (c.beats - (b + 1)) in
     let left : c.beats - b ≡ suc (c.beats - (b + 1)) = omega (arith, low) in
     ap (λ q. q ++ rest) pushed ∙ append_assoc old here rest
-    ∙ ap (λ k. old ++ ends_told c n b k) (sym left) ∙ before
+    ∙ ap (λ k. old ++ ends_told c n journal b k) (sym left) ∙ before
 
 pub nodes-next : (c : Course) (n : ℕ) (journals : List (List Entry)) (journal : List Entry) (old new all : List Event)
     → n < length journals → journal ≡ get_or journals n journal → new ≡ old ++ node_told c n journal
@@ -37,25 +37,18 @@ nodes-next c n journals journal old new all low item pushed before =
     ∙ ap (λ j. old ++ (node_told c n j ++ rest)) item
     ∙ ap (λ q. old ++ nodes_told c n q) (sym (drop_more journals n journal low)) ∙ before
 
--- entries behind others
-told-append : (c : Course) (n : ℕ) (before xs ys : List Entry)
-    → gets_told c n before (xs ++ ys) ≡ gets_told c n before xs ++ gets_told c n (before ++ xs) ys
-told-append c n before [] ys = ap (λ q. gets_told c n q ys) (sym (append-nil before))
-told-append c n before (x ∷ xs) ys =
-    let here = told_in c n x.stamp.beat (get_of before x.what) in
-    let first = gets_told c n (before ++ x ∷ []) xs in
-    ap (λ q. here ++ q) (told-append c n (before ++ x ∷ []) xs ys)
-    ∙ ap (λ q. here ++ (first ++ gets_told c n q ys)) (append_assoc before (x ∷ []) xs)
-    ∙ sym (append_assoc here first (gets_told c n (before ++ x ∷ xs) ys))
-
--- one entry more
-told-more : (c : Course) (n i : ℕ) (journal : List Entry) (d : Entry) → i < length journal
-    → gets_told c n [] (take (i + 1) journal)
-    ≡ gets_told c n [] (take i journal) ++ told_in c n (get_or journal i d).stamp.beat (get_of (take i journal) (get_or journal i d).what)
-told-more c n i journal d low =
+-- what is left of entries is the first of them, and those behind it
+told-first : (c : Course) (n i : ℕ) (journal : List Entry) (d : Entry) → i < length journal
+    → let e = get_or journal i d in
+    gets_told c n (take i journal) (drop i journal)
+    ≡ told_in c n e.stamp.beat (get_of c n e.stamp.beat (take i journal) e.what (drop (i + 1) journal))
+    ++ gets_told c n (take (i + 1) journal) (drop (i + 1) journal)
+told-first c n i journal d low =
     let e = get_or journal i d in
-    ap (gets_told c n []) (take_more journal i d low) ∙ told-append c n [] (take i journal) (e ∷ [])
-    ∙ ap (λ q. gets_told c n [] (take i journal) ++ q) (append-nil (told_in c n e.stamp.beat (get_of (take i journal) e.what)))
+    ap (gets_told c n (take i journal)) (drop_more journal i d low)
+    ∙ ap (λ q. told_in c n e.stamp.beat (get_of c n e.stamp.beat (take i journal) e.what (drop (i + 1) journal))
+    ++ gets_told c n q (drop (i + 1) journal))
+    (sym (take_more journal i d low))
 
 got-one : (l : ℕ) (e : Entry) → got_on l (e ∷ []) ≡ got_by l e.stamp.beat e.what
 unfolding got_on
@@ -112,26 +105,32 @@ none-got l = refl
 
 -- a turn that finds a message, and one that finds none
 pub record IsTold (c : Course) (n i : ℕ) (journal : List Entry) (start new : List Event) (table : Numbers) : Type 0 where
-  pub told : new ≡ start ++ gets_told c n [] (take i journal)
+  pub told : new ++ gets_told c n (take i journal) (drop i journal) ≡ start ++ gets_told c n [] journal
   pub counts : (l : ℕ) → counted_on l table ≡ length (got_on l (take i journal))
 
-pub got-next : (c : Course) (n i : ℕ) (journal : List Entry) (d : Entry) (link : LinkNo) (note : Note) (number : ℕ)
+pub got-next : (c : Course) (n i : ℕ) (journal : List Entry) (d : Entry) (link : LinkNo) (note : Note) (number : ℕ) (act : Act)
     (start old new : List Event) (counts later : Numbers) → i < length journal
     → (get_or journal i d).what ≡ what.Got link note → number ≡ counted_on link.0 counts
     → ((l : ℕ) → counted_on l later ≡ (if link.0 == l then counted_on link.0 counts + 1 else counted_on l counts))
-    → new ≡ old ++ told_in c n (get_or journal i d).stamp.beat (act.Get link number ∷ [])
-    → old ≡ start ++ gets_told c n [] (take i journal)
+    → act ≡ get_told c n (get_or journal i d).stamp.beat link note number (take (length journal - (i + 1)) (drop (i + 1) journal))
+    → new ≡ old ++ told_in c n (get_or journal i d).stamp.beat (act ∷ [])
+    → old ++ gets_told c n (take i journal) (drop i journal) ≡ start ++ gets_told c n [] journal
     → ((l : ℕ) → counted_on l counts ≡ length (got_on l (take i journal)))
     → IsTold c n (i + 1) journal start new later
-got-next c n i journal d link note number start old new counts later low is next counted pushed told same =
+got-next c n i journal d link note number act start old new counts later low is next counted acts pushed told same =
     let e = get_or journal i d in
-    let get : get_of (take i journal) e.what ≡ act.Get link number ∷ [] =
-    ap (get_of (take i journal)) is ∙ ap (λ k. act.Get link k ∷ []) (sym (next ∙ same link.0)) in
+    let behind = drop (i + 1) journal in
+    let lent : act ≡ get_told c n e.stamp.beat link note number behind =
+    acts ∙ ap (get_told c n e.stamp.beat link note number) (take_rest journal (i + 1)) in
+    let get : get_of c n e.stamp.beat (take i journal) e.what behind ≡ act ∷ [] =
+    ap (λ w. get_of c n e.stamp.beat (take i journal) w behind) is
+    ∙ ap (λ k. get_told c n e.stamp.beat link note k behind ∷ []) (sym (next ∙ same link.0)) ∙ ap (λ a. a ∷ []) (sym lent) in
+    let here = told_in c n e.stamp.beat (act ∷ []) in
+    let rest = gets_told c n (take (i + 1) journal) behind in
     record {
-      told = pushed ∙ ap (λ q. q ++ told_in c n e.stamp.beat (act.Get link number ∷ [])) told
-          ∙ append_assoc start (gets_told c n [] (take i journal)) (told_in c n e.stamp.beat (act.Get link number ∷ []))
-          ∙ ap (λ q. start ++ (gets_told c n [] (take i journal) ++ told_in c n e.stamp.beat q)) (sym get)
-          ∙ ap (λ q. start ++ q) (sym (told-more c n i journal d low));
+      told = ap (λ q. q ++ rest) pushed ∙ append_assoc old here rest
+          ∙ ap (λ q. old ++ (told_in c n e.stamp.beat q ++ rest)) (sym get)
+          ∙ ap (λ q. old ++ q) (sym (told-first c n i journal d low)) ∙ told;
       counts = λ l.
           let more = got-more l i journal d low in
           let this : got_by l e.stamp.beat e.what ≡ got_by l e.stamp.beat (what.Got link note) = ap (got_by l e.stamp.beat) is in
@@ -151,17 +150,17 @@ got-next c n i journal d link note number start old new counts later low is next
 
 pub other-next : (c : Course) (n i : ℕ) (journal : List Entry) (d : Entry) (start old : List Event) (counts : Numbers)
     → i < length journal → ((link : LinkNo) (note : Note) → (get_or journal i d).what ≡ what.Got link note → ⊥)
-    → old ≡ start ++ gets_told c n [] (take i journal)
+    → old ++ gets_told c n (take i journal) (drop i journal) ≡ start ++ gets_told c n [] journal
     → ((l : ℕ) → counted_on l counts ≡ length (got_on l (take i journal)))
     → IsTold c n (i + 1) journal start old counts
 other-next c n i journal d start old counts low other told same =
     let e = get_or journal i d in
-    let none = none-of (take i journal) e.what other in
+    let behind = drop (i + 1) journal in
+    let rest = gets_told c n (take (i + 1) journal) behind in
+    let none = none-of e.stamp.beat (take i journal) e.what behind other in
     record {
-      told = told ∙ ap (λ q. start ++ q) (sym (append-nil (gets_told c n [] (take i journal))))
-          ∙ ap (λ q. start ++ (gets_told c n [] (take i journal) ++ q)) (sym (told-none e.stamp.beat))
-          ∙ ap (λ q. start ++ (gets_told c n [] (take i journal) ++ told_in c n e.stamp.beat q)) (sym none)
-          ∙ ap (λ q. start ++ q) (sym (told-more c n i journal d low));
+      told = sym (ap (λ q. old ++ (q ++ rest)) (ap (told_in c n e.stamp.beat) none ∙ told-none e.stamp.beat))
+          ∙ ap (λ q. old ++ q) (sym (told-first c n i journal d low)) ∙ told;
       counts = λ l.
           let more = got-more l i journal d low in
           let old_l = same l in
@@ -175,19 +174,10 @@ other-next c n i journal d start old counts low other told same =
         (λ (t : nat_lt b c.beats ≡ false). rw t refl)
         (cases_Bool (nat_lt b c.beats))
 
-    none-of : (before : List Entry) (w : What) → ((link : LinkNo) (note : Note) → w ≡ what.Got link note → ⊥) → get_of before w ≡ []
-    none-of before (what.Got link note) h = absurd (h link note refl)
-    none-of before (what.Sent link note) h = refl
-    none-of before (what.Took r) h = refl
-    none-of before (what.Dropped r) h = refl
-    none-of before (what.Queued v x) h = refl
-    none-of before (what.Unqueued v) h = refl
-    none-of before (what.Put t) h = refl
-    none-of before (what.Gone v) h = refl
-    none-of before (what.ReadFailed x) h = refl
-    none-of before (what.Believed x) h = refl
-    none-of before what.Died h = refl
-    none-of before what.Returned h = refl
+    none-of : (b : ℕ) (before : List Entry) (w : What) (es : List Entry)
+        → ((link : LinkNo) (note : Note) → w ≡ what.Got link note → ⊥) → get_of c n b before w es ≡ []
+    none-of b before (what.Got link note) es h = absurd (h link note refl)
+    none-of b before other es h = refl
 
     no-got : (l b : ℕ) (w : What) → ((link : LinkNo) (note : Note) → w ≡ what.Got link note → ⊥) → got_by l b w ≡ []
     no-got l b (what.Got link note) h = absurd (h link note refl)
@@ -204,10 +194,11 @@ other-next c n i journal d start old counts low other told same =
     no-got l b what.Returned h = refl
 
 pub node-next : (c : Course) (n : ℕ) (journal entries : List Entry) (old mid new : List Event) → entries ≡ journal
-    → mid ≡ old ++ gets_told c n [] entries → new ≡ mid ++ ends_told c n 0 c.beats → new ≡ old ++ node_told c n journal
+    → mid ≡ old ++ gets_told c n [] entries → new ≡ mid ++ ends_told c n entries 0 c.beats → new ≡ old ++ node_told c n journal
 node-next c n journal entries old mid new lent gets ends =
     let here : mid ≡ old ++ gets_told c n [] journal = gets ∙ ap (λ q. old ++ gets_told c n [] q) lent in
-    ends ∙ ap (λ q. q ++ ends_told c n 0 c.beats) here ∙ append_assoc old (gets_told c n [] journal) (ends_told c n 0 c.beats)
+    ends ∙ ap (λ q. mid ++ ends_told c n q 0 c.beats) lent ∙ ap (λ q. q ++ ends_told c n journal 0 c.beats) here
+    ∙ append_assoc old (gets_told c n [] journal) (ends_told c n journal 0 c.beats)
 
 pub nodes-end : (c : Course) (n : ℕ) (journals : List (List Entry)) (old all : List Event) → length journals ≤ n
     → old ++ nodes_told c n (drop n journals) ≡ all → old ≡ all
@@ -220,3 +211,22 @@ nodes-end c n journals old all over before =
     drop_all zero (x ∷ xs) h = absurd (omega (arith, h))
     drop_all (suc k) [] h = refl
     drop_all (suc k) (x ∷ xs) h = drop_all k xs (omega (arith, h))
+
+-- all entries are told
+pub gets-end : (c : Course) (n i : ℕ) (journal : List Entry) (start new : List Event) → length journal ≤ i
+    → new ++ gets_told c n (take i journal) (drop i journal) ≡ start ++ gets_told c n [] journal
+    → new ≡ start ++ gets_told c n [] journal
+gets-end c n i journal start new over told =
+    sym (append-nil new) ∙ ap (λ q. new ++ gets_told c n (take i journal) q) (sym (drop_all i journal over)) ∙ told
+  where
+    drop_all : (k : ℕ) (xs : List Entry) → length xs ≤ k → drop k xs ≡ []
+    drop_all zero [] h = refl
+    drop_all zero (x ∷ xs) h = absurd (omega (arith, h))
+    drop_all (suc k) [] h = refl
+    drop_all (suc k) (x ∷ xs) h = drop_all k xs (omega (arith, h))
+
+-- an act that ends a beat, if there is one
+pub ended-pushed : (c : Course) (n b : ℕ) (act : Act) (result : Option Act) (ends : List Act) (old new : List Event)
+    → ends ≡ listed_act result → result ≡ Some act → new ≡ old ++ event_in c n b act ∷ [] → new ≡ old ++ map (event_in c n b) ends
+ended-pushed c n b act result ends old new is some pushed =
+    pushed ∙ ap (λ q. old ++ map (event_in c n b) q) (sym (is ∙ ap listed_act some))

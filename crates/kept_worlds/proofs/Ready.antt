@@ -1,5 +1,5 @@
 -- The next event of a node may happen: nothing of it is missing, late, early or beside a cub that died.
-use Rattle.std.proofs.Common.{◌≡◌, ℕ, suc, ◌+◌, ◌-◌, ◌%◌, ◌<◌, List, [], ◌∷◌, length, true, false, Option, Some, None, refl, ap, sym, ◌∙◌, subst, arith, ⊎_elim}
+use Rattle.std.proofs.Common.{◌≡◌, ℕ, suc, ◌+◌, ◌-◌, ◌%◌, ◌<◌, List, [], ◌∷◌, length, true, false, Option, Some, None, refl, ap, sym, ◌∙◌, subst, arith, ⊎_elim, inl, inr}
 use Rattle.std.specs.Prelude.{slice_get, option_map, nat_lt, is_some, ◌==◌}
 use Rattle.std.specs.List.{AllByRecursion}
 use Rattle.std.proofs.Math.Nat.{mod_self, mod-eq_of_lt, mod-lt}
@@ -14,23 +14,24 @@ use Rattle.node_kit.specs.Links.{links_of, ends_of, leads_to}
 use Rattle.node_kit.specs.Steps.{Input, Deed}
 use Rattle.node_kit.specs.Steps.Input.{Take, Tick}
 use Rattle.run_facts.specs.Events.{NodeEvent, Dated, opening, stamp_at, is_tick, is_death, is_return, is_take_on}
-use Rattle.run_facts.specs.Events.{sends_along, IsPlain}
+use Rattle.run_facts.specs.Events.{sends_along, input_on, take_on}
 use Rattle.run_facts.specs.Events.NodeEvent.{Does, Ends, Dies, Returns}
 use Rattle.run_facts.specs.Accounts.{IsLed}
-use Rattle.run_facts.specs.Histories.{History, beat, takes, sent}
-use Rattle.run_facts.specs.Plain.{IsPlainRun}
+use Rattle.run_facts.specs.Histories.{History, TakesAt, beat, takes, sent}
+use Rattle.proof_lives.specs.OneLife.{IsOneLifeRun}
 use Rattle.run_facts.proofs.Rows.{same-element}
 use Rattle.run_facts.proofs.Counts.{sent-stays}
 use Rattle.run_facts.proofs.Indexed.{all-at}
+use Rattle.ring_world.specs.declared.event.Act.TheVariants as act
 use Rattle.ring_world.specs.Machine.{Machine, Being, Way, undying, oldest, receiver, node_of, node_event}
-use Rattle.ring_world.specs.Faults.{has_done, life_fault, take_fault, late_fault, death_fault, has_died, cub_before, cub_after, IsActOf}
+use Rattle.ring_world.specs.Faults.{has_done, life_fault, take_fault, late_fault, death_fault, has_died, cub_before, cub_after, neighbour_fault, IsActOf}
 use Rattle.ring_world.specs.Laws.{IsPlace}
 use Rattle.ring_world.proofs.Neighbours.{MayDie}
 use Rattle.ring_world.specs.Merging.{act_of, place_along}
 use Rattle.ring_world.proofs.Ways.{IsOnWay, IsTakenOff}
 use Rattle.kept_worlds.specs.Merges.{LivesThrough, MayHappen}
 use Rattle.kept_worlds.proofs.Faultless.{none-take, none-late, none-death}
-use Rattle.kept_worlds.proofs.Numbers.{get-after, sent-by, young-at_tick}
+use Rattle.kept_worlds.proofs.Numbers.{get-after, sent-by, taken-in, young-at_tick}
 use Rattle.kept_worlds.proofs.Points.{IsAt, IsNext, sent-here, here-all, taken-here, spared, own}
 use Rattle.kept_worlds.proofs.Points.{own-lives, own-acted, undone}
 
@@ -71,7 +72,7 @@ after-before p n low = ⊎_elim
     (cases_eq n 0)
 
 module _ {M S : Type 0} (note : M → Note) (step : S → Input M → Deed M S) (p : Params) (nodes beats : ℕ) (h : History M S)
-    (place : IsPlace p nodes beats) (run : IsPlainRun note step p nodes h) (may : MayHappen p nodes beats h)
+    (place : IsPlace p nodes beats) (run : IsOneLifeRun note step p nodes h) (may : MayHappen p nodes beats h)
     (m : Machine M S) (es : ℕ → List (NodeEvent M)) (at : ℕ → ℕ)
     (point : IsAt note step p nodes beats h place run may m es at)
     (n : ℕ) (next : IsNext note step p nodes beats h place run may m at n) where
@@ -125,7 +126,8 @@ module _ {M S : Type 0} (note : M → Note) (step : S → Input M → Deed M S) 
       let gone = gone-is l from theirs.0 on in
       let count = taken-here note step p nodes beats h place run may m es at point l (h.before l) n next.low in
       let behind : takes l h n (at n) + j ≡ length on.gone + j = omega (arith, gone, count, number) in
-      ap (λ ds. slice_get ds (takes l h n (at n) + j)) (sym (sent-here note step p nodes beats h place run may m es at point l from n ends) ∙ on.split)
+      ap (λ ds. slice_get ds (takes l h n (at n) + j))
+      (sym (sent-here note step p nodes beats h place run may m es at point l from n ends) ∙ on.split)
       ∙ get-after on.gone theirs.0.under_way (takes l h n (at n) + j) j behind
       ∙ ap (λ (v : Way M). slice_get v.under_way j) same ∙ there
 
@@ -147,12 +149,24 @@ module _ {M S : Type 0} (note : M → Note) (step : S → Input M → Deed M S) 
       let all = first-of theirs.0.under_way d head in
       (theirs.0, theirs.1, sym gone, all.0, all.1)
 
-  ready-take : (stamp : Stamp) (link : LinkNo) (msg : M) → h.event n (at n) ≡ Does (Take stamp link msg)
-      → IsReady (Does (Take stamp link msg))
-  ready-take stamp link msg is =
-      let y : NodeEvent M = Does (Take stamp link msg) in
+  -- a message is taken that is under way, and perhaps the death comes in that
+  record TakesOldest (stamp : Stamp) (link : LinkNo) (msg : M) (y : NodeEvent M) : Type 0 where
+    from : ℕ
+    ends : ends_of (links_of p) link.0 ≡ Some (from, n)
+    head : Dated M
+    item : head.item ≡ msg
+    earlier : head.beat < now
+    way : Way M
+    there : slice_get m.ways link.0 ≡ Some way
+    number : place_along link.0 (h.before link.0) 0 (es n) ≡ way.gone
+    old : oldest m.ways link.0 ≡ Some head
+    off : IsTakenOff now link.0 way y
+
+  takes-oldest : (stamp : Stamp) (link : LinkNo) (msg : M) (y : NodeEvent M) → TakesAt (h.event n (at n)) stamp link msg
+      → take_on link.0 y ≡ (record { beat = stamp.beat; item = msg }) ∷ [] → TakesOldest stamp link msg y
+  takes-oldest stamp link msg y is taking =
       let came = run.carried n (at n) stamp link msg next.low next.here is in
-      let dated : now ≡ stamp.beat = ap (λ (x : NodeEvent M). (stamp_at x).beat) is in
+      let dated : now ≡ stamp.beat = taken-in (h.event n (at n)) stamp link msg is in
       let later = came.later in
       let earlier : came.when < now = omega (arith, later, dated) in
       let d : Dated M = record { beat = came.when; item = msg } in
@@ -160,46 +174,79 @@ module _ {M S : Type 0} (note : M → Note) (step : S → Input M → Deed M S) 
       (λ e low high. next.first came.from e came.known low high) came.was_sent in
       let way = next-at link.0 came.from d came.ends was in
       let old : oldest m.ways link.0 ≡ Some d = rw (way.1, way.4) refl in
-      let hit : (link.0 == link.0) ≡ true = eq-eqb link.0 link.0 refl in
-      let off : IsTakenOff now link.0 way.0 y = record {
-        head = d;
-        tail = way.3;
-        all = way.4;
-        takes = rw (hit, dated) refl;
-        earlier = earlier;
-      } in
       record {
-        known = (came.from, n, came.ends);
-        theirs = ap receiver came.ends;
-        event = ap (λ o. option_map (λ (q : Dated M). Does (Take stamp link q.item)) o) old;
-        led = (came.from, came.ends);
+        from = came.from;
+        ends = came.ends;
+        head = d;
+        item = refl;
+        earlier = earlier;
+        way = way.0;
+        there = way.1;
+        number = sym way.2;
+        old = old;
+        off = record {
+          head = d;
+          tail = way.3;
+          all = way.4;
+          takes = taking ∙ ap (λ b. (record { beat = b; item = msg }) ∷ []) (sym dated);
+          earlier = earlier;
+        };
+      }
+
+  taken-there : (stamp : Stamp) (link : LinkNo) (msg : M) (y : NodeEvent M) (t : TakesOldest stamp link msg y)
+      → (l from to : ℕ) (w : Way M) → ends_of (links_of p) l ≡ Some (from, to) → slice_get m.ways l ≡ Some w
+      → link.0 ≡ l → (to ≡ n) × IsTakenOff now l w y
+  taken-there stamp link msg y t l from to w ends here same =
+      let both : ◌≡◌ {A = Option (ℕ × ℕ)} (Some (t.from, n)) (Some (from, to)) =
+      sym t.ends ∙ ap (ends_of (links_of p)) same ∙ ends in
+      let one : t.way ≡ w = same-element m.ways l t.way w (ap (slice_get m.ways) (sym same) ∙ t.there) here in
+      let theirs = subst (λ (v : Way M). IsTakenOff now link.0 v y) one t.off in
+      (end-same t.from from n to both, subst (λ q. IsTakenOff now q w y) same theirs)
+
+  take-of_it : (stamp : Stamp) (link : LinkNo) (msg : M)
+      → input_on link.0 (Take stamp link msg) ≡ (record { beat = stamp.beat; item = msg }) ∷ []
+  take-of_it stamp link msg = let hit : (link.0 == link.0) ≡ true = eq-eqb link.0 link.0 refl in rw hit refl
+
+  ready-take : (stamp : Stamp) (link : LinkNo) (msg : M) → h.event n (at n) ≡ Does (Take stamp link msg)
+      → IsReady (Does (Take stamp link msg))
+  ready-take stamp link msg is =
+      let y : NodeEvent M = Does (Take stamp link msg) in
+      let t = takes-oldest stamp link msg y (inl is) (take-of_it stamp link msg) in
+      record {
+        known = (t.from, n, t.ends);
+        theirs = ap receiver t.ends;
+        event = ap (λ o. option_map (λ (q : Dated M). Does (Take stamp link q.item)) o) t.old
+            ∙ ap (λ q. Some (Does (Take stamp link q))) t.item;
+        led = (t.from, t.ends);
         life = rw alive-here.0 refl;
         free = not-ticked;
-        take = none-take m.ways now link (place_along link.0 (h.before link.0) 0 (es n)) way.0 d way.1 (sym way.2) old earlier;
+        take = none-take m.ways now link (place_along link.0 (h.before link.0) 0 (es n)) t.way t.head t.there t.number t.old t.earlier;
         late = refl;
         death = refl;
-        takes = λ l from to w ends here takes_it.
-            let same : link.0 ≡ l = eqb-true _ _ takes_it in
-            let both : ◌≡◌ {A = Option (ℕ × ℕ)} (Some (came.from, n)) (Some (from, to)) =
-            sym came.ends ∙ ap (ends_of (links_of p)) same ∙ ends in
-            let one : way.0 ≡ w = same-element m.ways l way.0 w (ap (slice_get m.ways) (sym same) ∙ way.1) here in
-            let theirs = subst (λ (v : Way M). IsTakenOff now link.0 v y) one off in
-            (end-same came.from from n to both, subst (λ q. IsTakenOff now q w y) same theirs);
+        takes = λ l from to w ends here takes_it. taken-there stamp link msg y t l from to w ends here (eqb-true _ _ takes_it);
         dies = λ t. absurd (cc);
         aged = λ t l from w ends here. absurd (cc);
       }
 
-  ready-tick : (stamp : Stamp) → h.event n (at n) ≡ Does (Tick stamp) → IsReady (Does (Tick stamp))
-  ready-tick stamp is =
-      let ticks_it : is_tick (h.event n (at n)) ≡ true = ap is_tick is in
-      let young : (l from : ℕ) (w : Way M) → ends_of (links_of p) l ≡ Some (from, n) → slice_get m.ways l ≡ Some w
-      → AllByRecursion (λ (d : Dated M). now < d.beat + p.delay) w.under_way = λ l from w ends here.
-      (let low_from = (place.linked l from n ends).0 in
+  -- what is under way when the node ticks may still arrive in a later beat
+  young : is_tick (h.event n (at n)) ≡ true → (l from : ℕ) (w : Way M) → ends_of (links_of p) l ≡ Some (from, n)
+      → slice_get m.ways l ≡ Some w → AllByRecursion (λ (d : Dated M). now < d.beat + p.delay) w.under_way
+  young ticks_it l from w ends here =
+      let low_from = (place.linked l from n ends).0 in
       all-from_get (λ (d : Dated M). now < d.beat + p.delay) w.under_way (λ j d there.
       let k = takes l h n (at n) + j in
       let was = sent-stays note step l h from (at from) (h.count from) k d (point.within from low_from)
       (waiting-at l from j w d ends here there) in
-      young-at_tick note step p nodes h run l from n (at n) k d low_from next.low next.here ends ticks_it was (omega arith))) in
+      young-at_tick note step p nodes h run l from n (at n) k d low_from next.low next.here ends ticks_it was (omega arith))
+
+  late-none : is_tick (h.event n (at n)) ≡ true → late_fault p m.ways now (act.Tick (record { 0 = n })) ≡ None
+  late-none ticks_it =
+      none-late p n now m.ways (λ l w here leads.
+      let from = leads-from n (ends_of (links_of p) l) leads in young ticks_it l from.0 w from.1 here)
+
+  ready-tick : (stamp : Stamp) → h.event n (at n) ≡ Does (Tick stamp) → IsReady (Does (Tick stamp))
+  ready-tick stamp is =
+      let ticks_it : is_tick (h.event n (at n)) ≡ true = ap is_tick is in
       record {
         known = next.low;
         theirs = refl;
@@ -208,17 +255,16 @@ module _ {M S : Type 0} (note : M → Note) (step : S → Input M → Deed M S) 
         life = rw alive-here.0 refl;
         free = not-ticked;
         take = refl;
-        late = none-late p n now m.ways (λ l w here leads.
-            let from = leads-from n (ends_of (links_of p) l) leads in young l from.0 w from.1 here);
+        late = late-none ticks_it;
         death = refl;
         takes = λ l from to w ends here takes_it. absurd (cc);
         dies = λ t. absurd (cc);
-        aged = λ t. young;
+        aged = λ t. young ticks_it;
       }
 
-  ready-death : (stamp : Stamp) → h.event n (at n) ≡ Dies stamp → IsReady (Dies stamp)
-  ready-death stamp is =
-      let died : is_death (h.event n (at n)) ≡ true = ap is_death is in
+  -- who dies is a cub between two that have never died
+  may-die : is_death (h.event n (at n)) ≡ true → MayDie p m.beings n
+  may-die died =
       let low = may.cubs n (at n) next.low next.here died in
       let dead_here : LivesThrough h n → ⊥ = λ through. let q : true ≡ false = sym died ∙ through (at n) next.here in absurd (cc) in
       let spare : (k : ℕ) → k < p.cubs → LivesThrough h k → has_died (slice_get m.beings k) ≡ false = λ k low_k through.
@@ -237,10 +283,15 @@ module _ {M S : Type 0} (note : M → Note) (step : S → Input M → Deed M S) 
       (λ (through : LivesThrough h before). spare before (before-low p n low) through)
       (λ (through : LivesThrough h (cub_after p before)). absurd (dead_here (subst (LivesThrough h) (after-before p n low) through)))
       (may.apart before (before-low p n low)) in
-      let acted = own-acted note step p nodes beats h place run may m es at point n next died in
+      (low, before_lives, after_lives)
+
+  ready-death : (stamp : Stamp) → h.event n (at n) ≡ Dies stamp → IsReady (Dies stamp)
+  ready-death stamp is =
+      let free = may-die (ap is_death is) in
+      let acted = own-acted note step p nodes beats h place run may m es at point n next stamp is in
       let idle : nat_lt now mine.acted ≡ false = grind (arith, nat_tests, acted) in
       record {
-        known = low;
+        known = free.0;
         theirs = refl;
         event = refl;
         led = tt;
@@ -248,18 +299,64 @@ module _ {M S : Type 0} (note : M → Note) (step : S → Input M → Deed M S) 
         free = rw idle not-ticked;
         take = refl;
         late = refl;
-        death = none-death p m.beings n before_lives after_lives;
+        death = none-death p m.beings n free.1 free.2;
         takes = λ l from to w ends here takes_it. absurd (cc);
-        dies = λ _. (low, before_lives, after_lives);
+        dies = λ _. free;
         aged = λ t l from w ends here. absurd (cc);
       }
 
-  by-event : (y : NodeEvent M) → h.event n (at n) ≡ y → IsPlain y → IsReady y
-  by-event (Does (Take stamp link msg)) is plain = ready-take stamp link msg is
-  by-event (Does (Tick stamp)) is plain = ready-tick stamp is
-  by-event (Ends input sends) is plain = absurd plain
-  by-event (Dies stamp) is plain = ready-death stamp is
-  by-event (Returns stamp) is plain = absurd plain
+  -- a message in whose take the death comes
+  ready-last_take : (stamp : Stamp) (link : LinkNo) (msg : M) (sends : ℕ)
+      → h.event n (at n) ≡ Ends (Take stamp link msg) sends → IsReady (Ends (Take stamp link msg) sends)
+  ready-last_take stamp link msg sends is =
+      let y : NodeEvent M = Ends (Take stamp link msg) sends in
+      let t = takes-oldest stamp link msg y (inr (sends, is)) (take-of_it stamp link msg) in
+      let free = may-die (ap is_death is) in
+      let theirs : receiver (ends_of (links_of p) link.0) ≡ n = ap receiver t.ends in
+      record {
+        known = (t.from, n, t.ends, free.0);
+        theirs = theirs;
+        event = ap (λ o. option_map (λ (q : Dated M). Ends (Take stamp link q.item) sends) o) t.old
+            ∙ ap (λ q. Some (Ends (Take stamp link q) sends)) t.item;
+        led = (t.from, t.ends);
+        life = rw (alive-here.0, alive-here.1) refl;
+        free = not-ticked;
+        take = none-take m.ways now link (place_along link.0 (h.before link.0) 0 (es n)) t.way t.head t.there t.number t.old t.earlier;
+        late = refl;
+        death = ap (neighbour_fault p m.beings) theirs ∙ none-death p m.beings n free.1 free.2;
+        takes = λ l from to w ends here takes_it. taken-there stamp link msg y t l from to w ends here (eqb-true _ _ takes_it);
+        dies = λ _. free;
+        aged = λ t l from w ends here. absurd (cc);
+      }
+
+  -- and a tick in which it comes
+  ready-last_tick : (stamp : Stamp) (sends : ℕ) → h.event n (at n) ≡ Ends (Tick stamp) sends
+      → IsReady (Ends (Tick stamp) sends)
+  ready-last_tick stamp sends is =
+      let ticks_it : is_tick (h.event n (at n)) ≡ true = ap is_tick is in
+      let free = may-die (ap is_death is) in
+      record {
+        known = free.0;
+        theirs = refl;
+        event = refl;
+        led = tt;
+        life = rw (alive-here.0, alive-here.1) refl;
+        free = not-ticked;
+        take = refl;
+        late = late-none ticks_it;
+        death = none-death p m.beings n free.1 free.2;
+        takes = λ l from to w ends here takes_it. absurd (cc);
+        dies = λ _. free;
+        aged = λ t. young ticks_it;
+      }
+
+  by-event : (y : NodeEvent M) → h.event n (at n) ≡ y → is_return y ≡ false → IsReady y
+  by-event (Does (Take stamp link msg)) is here = ready-take stamp link msg is
+  by-event (Does (Tick stamp)) is here = ready-tick stamp is
+  by-event (Ends (Take stamp link msg) sends) is here = ready-last_take stamp link msg sends is
+  by-event (Ends (Tick stamp) sends) is here = ready-last_tick stamp sends is
+  by-event (Dies stamp) is here = ready-death stamp is
+  by-event (Returns stamp) is here = absurd (cc)
 
   pub ready : IsReady (h.event n (at n))
-  ready = by-event (h.event n (at n)) refl (run.plain n (at n) next.low next.here)
+  ready = by-event (h.event n (at n)) refl (run.here n (at n) next.low next.here)

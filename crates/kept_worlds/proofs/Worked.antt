@@ -2,18 +2,20 @@
 use Rattle.std.proofs.Common.{◌≡◌, ℕ, zero, suc, ◌<◌, ◌≤◌, true, false, ◌||◌, refl, sym, arith, subst, ⊎_elim, inl, inr}
 use Rattle.std.specs.Prelude.{◌⊎◌, ◌==◌}
 use Rattle.std.proofs.lemmas.Bool.{cases_Bool, cases_eq, ne_eqb}
+use Rattle.tiger_base.specs.declared.number.Stamp.{Stamp}
 use Rattle.slot_plan.specs.Samples.{small}
+use Rattle.run_facts.specs.Events.NodeEvent.{Dies}
 use Rattle.run_facts.specs.Histories.{beat}
 use Rattle.run_facts.specs.Samples.{ticking}
 use Rattle.ring_world.specs.Faults.{cub_after}
 use Rattle.kept_worlds.specs.Merges.{LivesThrough, MayHappen}
-use Rattle.kept_worlds.specs.MergeSamples.{takes_and_dies, two_die}
+use Rattle.kept_worlds.specs.MergeSamples.{takes_and_dies, takes_and_ends, two_die}
 
 pub all-early : MayHappen small 9 2 (ticking 2 0 0)
 all-early = record {
   early = λ n i low at. at;
   cubs = λ n i low at died. absurd (cc);
-  idle = λ n j i low before at died. absurd (cc);
+  idle = λ n j i stamp low before at is. absurd (cc);
   apart = λ cub low. inl (λ i at. refl);
 }
 
@@ -47,10 +49,11 @@ pub two-apart : MayHappen small 9 1 (two_die 3 5)
 two-apart = record {
   early = λ n i low at. omega arith;
   cubs = λ n i low at died. ⊎_elim
-      (λ (eight : n ≡ 8). let none = others-live 3 5 n (λ e. omega (arith, e, eight)) (λ e. omega (arith, e, eight)) in absurd (omega (arith, at, none)))
+      (λ (eight : n ≡ 8). let none = others-live 3 5 n (λ e. omega (arith, e, eight)) (λ e. omega (arith, e, eight)) in
+      absurd (omega (arith, at, none)))
       (λ (other : n ≡ 8 → ⊥). omega (arith, low, other))
       (cases_eq n 8);
-  idle = λ n j i low before at died. let one = one-event 3 5 n in absurd (omega (arith, before, at, one));
+  idle = λ n j i stamp low before at is. let one = one-event 3 5 n in absurd (omega (arith, before, at, one));
   apart = λ cub low. lives-beside cub;
 }
 
@@ -95,7 +98,7 @@ dies-later = record {
       (λ (three : n ≡ 3). omega (arith, three))
       (λ (other : n ≡ 3 → ⊥). let none = idle-count n 2 other in absurd (omega (arith, at, none)))
       (cases_eq n 3);
-  idle = λ n j i low before at died. let two = two-events n 2 in later-at n j i before (omega (arith, at, two));
+  idle = λ n j i stamp low before at is. let two = two-events n 2 in later-at n j i before (omega (arith, at, two));
   apart = λ cub low. ⊎_elim
       (λ (three : cub ≡ 3). inr (subst (λ q. LivesThrough (takes_and_dies 2) (cub_after small q)) (sym three) (λ i at. absurd (omega (arith, at)))))
       (λ (other : cub ≡ 3 → ⊥). inl (λ i at. let none = idle-count cub 2 other in absurd (omega (arith, at, none))))
@@ -103,4 +106,32 @@ dies-later = record {
 }
 
 pub dies-at_once : MayHappen small 9 3 (takes_and_dies 1) → ⊥
-dies-at_once may = let later = may.idle 3 0 1 (omega arith) (omega arith) (omega arith) refl in omega (arith, later)
+dies-at_once may =
+    let later = may.idle 3 0 1 (record { beat = 1; reading = 0 }) (omega arith) (omega arith) (omega arith) refl in
+    omega (arith, later)
+
+-- a death that comes in an event
+cut-count : (n : ℕ) → (n ≡ 3 → ⊥) → takes_and_ends.count n ≡ 0
+cut-count n other = let t : (n == 3) ≡ false = ne_eqb n 3 other in rw t refl
+
+cut-early : (n i : ℕ) → beat takes_and_ends n i < 3
+cut-early n zero = omega arith
+cut-early n (suc i) = omega arith
+
+never-apart : (n i : ℕ) (s : Stamp) → takes_and_ends.event n i ≡ Dies s → ⊥
+never-apart n zero s is = absurd (cc)
+never-apart n (suc i) s is = absurd (cc)
+
+pub dies-in_event : MayHappen small 9 3 takes_and_ends
+dies-in_event = record {
+  early = λ n i low at. cut-early n i;
+  cubs = λ n i low at died. ⊎_elim
+      (λ (three : n ≡ 3). omega (arith, three))
+      (λ (other : n ≡ 3 → ⊥). let none = cut-count n other in absurd (omega (arith, at, none)))
+      (cases_eq n 3);
+  idle = λ n j i stamp low before at is. absurd (never-apart n i stamp is);
+  apart = λ cub low. ⊎_elim
+      (λ (three : cub ≡ 3). inr (subst (λ q. LivesThrough takes_and_ends (cub_after small q)) (sym three) (λ i at. absurd (omega (arith, at)))))
+      (λ (other : cub ≡ 3 → ⊥). inl (λ i at. let none = cut-count cub other in absurd (omega (arith, at, none))))
+      (cases_eq cub 3);
+}

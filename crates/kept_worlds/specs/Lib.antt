@@ -4,4 +4,5 @@ pub mod MergeSamples
 pub mod Merges
 pub mod Samples
 pub mod Telling
+pub mod Turning
 pub mod Worlds

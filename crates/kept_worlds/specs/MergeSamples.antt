@@ -1,7 +1,8 @@
 -- Small histories in which nodes die, of which the worked rows speak.
 use Rattle.std.specs.Prelude.{ℕ, zero, suc, ◌==◌, ◌||◌, if◌then◌else◌}
+use Rattle.node_kit.specs.Steps.Input.{Tick}
 use Rattle.run_facts.specs.Events.{NodeEvent}
-use Rattle.run_facts.specs.Events.NodeEvent.{Dies}
+use Rattle.run_facts.specs.Events.NodeEvent.{Dies, Ends}
 use Rattle.run_facts.specs.Histories.{History}
 use Rattle.run_facts.specs.Samples.{with_events, take}
 
@@ -21,3 +22,12 @@ take_then beat (suc i) = death beat
 -- node 3 takes a message in beat 1, and dies in this beat
 abbrev pub takes_and_dies : ℕ → History ℕ ℕ
 takes_and_dies beat = with_events (λ n. if n == 3 then 2 else 0) (λ n i. take_then beat i)
+
+-- the second event of a node is its tick in beat 1, in which its death comes, and the first is a take in that beat
+abbrev take_then_cut : ℕ → NodeEvent ℕ
+take_then_cut zero = take 0
+take_then_cut (suc i) = Ends (Tick (record { beat = 1; reading = 0 })) 0
+
+-- node 3 takes a message in beat 1, and its death comes in the tick of that beat
+abbrev pub takes_and_ends : History ℕ ℕ
+takes_and_ends = with_events (λ n. if n == 3 then 2 else 0) (λ n i. take_then_cut i)

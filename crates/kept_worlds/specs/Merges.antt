@@ -1,11 +1,13 @@
 -- The events of a history, in one list in order of beats, are events that a machine accepts.
 use Rattle.std.specs.Prelude.{◌≡◌, ℕ, ◌<◌, ◌⊎◌, true, false, List, length, Some, slice_get}
 use Rattle.tiger_base.specs.declared.message.Note.{Note}
+use Rattle.tiger_base.specs.declared.number.Stamp.{Stamp}
 use Rattle.slot_plan.specs.declared.params.Params.{Params}
 use Rattle.node_kit.specs.Steps.{Input, Deed}
 use Rattle.run_facts.specs.Events.{is_death}
-use Rattle.run_facts.specs.Histories.{History, beat, last_of}
-use Rattle.run_facts.specs.Plain.{IsPlainRun}
+use Rattle.run_facts.specs.Events.NodeEvent.{Dies}
+use Rattle.run_facts.specs.Histories.{History, IsRun, beat, last_of}
+use Rattle.proof_lives.specs.OneLife.{IsWithoutReturns}
 use Rattle.ring_world.specs.declared.event.Event.{Event}
 use Rattle.ring_world.specs.Machine.{Machine, opening_machine, journals_of, states_of}
 use Rattle.ring_world.specs.Faults.{Accepts, cub_after}
@@ -16,13 +18,13 @@ use Rattle.ring_world.specs.Merging.{IsMerged}
 abbrev pub LivesThrough : {M S : Type 0} → History M S → ℕ → Type 0
 LivesThrough h n = (i : ℕ) → i < h.count n → is_death (h.event n i) ≡ false
 
--- What a machine asks of a history, besides the record of a plain run: its events are in beats below a
--- number; nobody but a cub dies, in a beat in which it has had no event; and of two neighbours in
--- the ring at least one lives through it.
+-- What a machine asks of a history, besides the record of a run: its events are in beats below a number; nobody but a cub
+-- dies; who dies apart from any other event does so in a beat in which it has had none; and of two neighbours in the ring
+-- at least one lives through it.
 pub record MayHappen {M S : Type 0} (p : Params) (nodes beats : ℕ) (h : History M S) : Type 0 where
   pub early : (n i : ℕ) → n < nodes → i < h.count n → beat h n i < beats
   pub cubs : (n i : ℕ) → n < nodes → i < h.count n → is_death (h.event n i) ≡ true → n < p.cubs
-  pub idle : (n j i : ℕ) → n < nodes → j < i → i < h.count n → is_death (h.event n i) ≡ true
+  pub idle : (n j i : ℕ) (stamp : Stamp) → n < nodes → j < i → i < h.count n → h.event n i ≡ Dies stamp
       → beat h n j < beat h n i
   pub apart : (cub : ℕ) → cub < p.cubs → LivesThrough h cub ⊎ LivesThrough h (cub_after p cub)
 
@@ -38,14 +40,14 @@ pub record HasLivedThrough {M S : Type 0} (note : M → Note) (step : S → Inpu
   pub ends : (n : ℕ) → n < length given
       → slice_get (states_of machine) n ≡ Some (last_of note step h n).state
 
--- If the nodes given are the first states of a history, of which the record of a plain run holds and
--- which may happen, then their machine accepts the history's events in any one list that never
--- falls in beats. Of the nodes nothing is asked.
+-- If the nodes given are the first states of a history of which the record of a run holds, in which nobody returns, and
+-- which may happen, then their machine accepts the history's events in any one list that never falls in beats. Of the
+-- nodes nothing is asked.
 abbrev pub MergesAreAccepted : (M S : Type 0) → Type 0
 MergesAreAccepted M S =
     (note : M → Note) (step : S → Input M → Deed M S) (p : Params) (beats : ℕ) (given : List S)
     (h : History M S) (events : List Event) → IsPlace p (length given) beats
     → ((n : ℕ) (s : S) → slice_get given n ≡ Some s → h.first n ≡ s)
-    → IsPlainRun note step p (length given) h → MayHappen p (length given) beats h
+    → IsRun note step p (length given) h → IsWithoutReturns (length given) h → MayHappen p (length given) beats h
     → IsMerged h (length given) events
     → HasLivedThrough note step p beats given h events

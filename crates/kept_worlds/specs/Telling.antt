@@ -7,7 +7,12 @@ use Rattle.node_kit.specs.declared.course.Course.{Course}
 use Rattle.node_kit.specs.declared.journal.Entry.{Entry}
 use Rattle.ring_world.specs.declared.event.Act.{Act}
 use Rattle.ring_world.specs.declared.event.Event.{Event}
-use Rattle.kept_worlds.specs.Events.{get_of, end_of_beat, event_in}
+use Rattle.kept_worlds.specs.Events.{get_of, said_in, end_of_beat, event_in}
+
+-- an act, or none, as a list
+abbrev pub listed_act : Option Act → List Act
+listed_act None = []
+listed_act (Some a) = a ∷ []
 
 -- numbers by link, in the order of the links
 abbrev pub Numbers : Type 0
@@ -29,15 +34,16 @@ told_in c n b acts = if nat_lt b c.beats then map (event_in c n b) acts else []
 abbrev pub gets_told : Course → ℕ → List Entry → List Entry → List Event
 gets_told c n before [] = []
 gets_told c n before (e ∷ es) =
-    told_in c n e.stamp.beat (get_of before e.what) ++ gets_told c n (before ++ e ∷ []) es
+    told_in c n e.stamp.beat (get_of c n e.stamp.beat before e.what es) ++ gets_told c n (before ++ e ∷ []) es
 
--- the ends of so many beats from beat b on
-abbrev pub ends_told : Course → ℕ → ℕ → ℕ → List Event
-ends_told c n b zero = []
-ends_told c n b (suc k) = map (event_in c n b) (end_of_beat c n b) ++ ends_told c n (b + 1) k
+-- the ends of so many beats from beat b on, by a journal
+abbrev pub ends_told : Course → ℕ → List Entry → ℕ → ℕ → List Event
+ends_told c n journal b zero = []
+ends_told c n journal b (suc k) =
+    map (event_in c n b) (end_of_beat c n b (said_in b journal)) ++ ends_told c n journal (b + 1) k
 
 abbrev pub node_told : Course → ℕ → List Entry → List Event
-node_told c n journal = gets_told c n [] journal ++ ends_told c n 0 c.beats
+node_told c n journal = gets_told c n [] journal ++ ends_told c n journal 0 c.beats
 
 -- all nodes, if the first journal is that of node n
 abbrev pub nodes_told : Course → ℕ → List (List Entry) → List Event

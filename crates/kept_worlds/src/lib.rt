@@ -9,8 +9,11 @@ mod counts;
 pub mod merge_rows;
 pub mod rows;
 mod telling;
+mod turn;
 
+use node_kit::Node;
 pub use telling::world_events;
+use tiger_base::Message;
 
 /// The events of a history in one list, each node's in their order and the beats never falling, are
 /// events that the machine of its opening nodes accepts, and the machine then has its journals.
@@ -24,9 +27,10 @@ pub fn runs_are_accepted<M, S>()
     ensures { RunsAreAccepted M S }
 {}
 
-/// The events that the journals of a run tell, beat for beat and node for node, are such a list.
-pub fn kept_runs_are_accepted<M, S>()
-    ensures { KeptRunsAreAccepted M S }
+/// The events that the journals of a run tell, beat for beat and node for node, are such a list, if
+/// what a cub's takes put out is told from what its ticks do.
+pub fn kept_runs_are_accepted<M: Message, T: Node<M>>()
+    ensures { KeptRunsAreAccepted M.note_of T.step T.stands_at }
 {}
 
 /// Whatever is kept of a run of a scenario, told as events by `world_events`, is accepted by the

@@ -4,7 +4,7 @@
 ghost use Rattle.slot_plan.specs.Samples.{small};
 ghost use Rattle.run_facts.specs.Samples.{ticking};
 ghost use Rattle.kept_worlds.specs.Merges.{MayHappen};
-ghost use Rattle.kept_worlds.specs.MergeSamples.{takes_and_dies, two_die};
+ghost use Rattle.kept_worlds.specs.MergeSamples.{takes_and_dies, takes_and_ends, two_die};
 
 /// Each event is in a beat below the number.
 pub fn beats()
@@ -20,8 +20,10 @@ pub fn deaths()
     ensures disk { MayHappen small 9 1 (two_die 3 8) → ⊥ }
 {}
 
-/// A cub dies in a beat in which nothing has happened to it.
+/// A cub that dies apart from any event does so in a beat in which nothing has happened to it; if
+/// its death comes in an event, something may have.
 pub fn idle_deaths()
     ensures later { MayHappen small 9 3 (takes_and_dies 2) }
     ensures same_beat { MayHappen small 9 3 (takes_and_dies 1) → ⊥ }
+    ensures in_event { MayHappen small 9 3 takes_and_ends }
 {}

@@ -4,24 +4,28 @@ ghost use Rattle.tiger_base.specs.Limits.{most_beats};
 ghost use Rattle.node_kit.specs.Courses.{IsCourse};
 ghost use Rattle.node_kit.specs.Life.{lifetime_of};
 ghost use Rattle.node_kit.specs.Links.{links_of, viewers_of};
-ghost use Rattle.kept_worlds.specs.Events.{end_of_beat, event_in, world_events_of};
-ghost use Rattle.kept_worlds.specs.Telling.{told_in, gets_told, ends_told, node_told, nodes_told};
+ghost use Rattle.kept_worlds.specs.Events.{said_in, get_told, end_of_beat, event_in, world_events_of};
+ghost use Rattle.kept_worlds.specs.Telling.{listed_act, told_in, gets_told, ends_told, node_told, nodes_told};
 
 use crate::counts::Counts;
+use crate::turn::{sends_in_take, sends_in_tick};
 use node_kit::{Course, Entry, Journal, Kept, Life, What};
-use ring_world::{Act, Event};
+use ring_world::{Act, Event, Last};
 use std::alloc::Global;
-use tiger_base::{Beat, CubNo, NoMemory, NodeNo};
+use tiger_base::{Beat, CubNo, LinkNo, NoMemory, NodeNo, Note};
 
 /// What is kept of a run, as a list of events: for each beat, and in it for each node by number,
 /// one get for each message that the node's journal says it got in the beat, in the journal's
-/// order, and then one tick, whether the tick wrote an entry or not. A cub has its death alone in
-/// the beat in which it dies, and nothing later.
+/// order, and then one tick, whether the tick wrote an entry or not. A cub that dies apart from any
+/// event has its death alone in that beat. If its death comes in an event, that is the last message
+/// it got in the beat, if all that it wrote behind may come of it, and else the tick, with as many
+/// messages as it says were sent in it. Nothing comes later.
 ///
 /// `NoMemory` is the only error.
 pub fn world_events(alloc: Global, kept: &Kept) -> Result<Vec<Event>, NoMemory>
     requires course { IsCourse kept.now.course }
-    requires journals { length kept.now.journals ≡ viewers_of (links_of kept.now.course.plan.params) + 1 }
+    requires journals { length kept.now.journals
+        ≡ viewers_of (links_of kept.now.course.plan.params) + 1 }
     ensures { IfOk result (λ events. events.items ≡ world_events_of kept.now) }
 {
     let mut events = Vec::new(alloc);
@@ -59,45 +63,76 @@ fn push_node(
     ensures { OnOk result (events.new.items
         ≡ events.old.items ++ node_told course.now node.0 journal.now) }
 {
-    push_gets(alloc, course, node, journal.as_slice(), events)?;
-    push_ends(course, node, events)
+    let life = Life::new(course, node);
+    let entries = journal.as_slice();
+    push_gets(alloc, course, node, &life, entries, events)?;
+    push_ends(course, node, &life, entries, events)
 }
 
 fn push_gets(
     alloc: Global,
     course: &Course,
     node: NodeNo,
+    life: &Life,
     journal: &[Entry],
     events: &mut Vec<Event>,
 ) -> Result<(), NoMemory>
-    requires { IsCourse course.now }
+    requires course { IsCourse course.now }
+    requires life { life.now ≡ lifetime_of course.now node.0 }
     ensures { OnOk result (events.new.items
         ≡ events.old.items ++ gets_told course.now node.0 [] journal.now) }
 {
     let mut counts = Counts::new(alloc);
-    for entry in journal {
-        if let What::Got(link, _) = entry.what {
+    for (place, entry) in journal.iter().enumerate() {
+        if let What::Got(link, message) = entry.what {
             let number = counts.next(link)?;
-            push_in(
-                course,
-                node,
-                entry.stamp.beat,
-                Act::Get { link, number },
-                events,
-            )?;
+            let beat = entry.stamp.beat;
+            let behind = &journal[place + 1..];
+            let act = get_act(course, node, life, beat, link, &message, number, behind);
+            push_in(course, node, beat, act, events)?;
         }
     }
     Ok(())
 }
 
-fn push_ends(course: &Course, node: NodeNo, events: &mut Vec<Event>) -> Result<(), NoMemory>
-    requires { IsCourse course.now }
-    ensures { OnOk result (events.new.items
-        ≡ events.old.items ++ ends_told course.now node.0 0 course.now.beats) }
+/// A message got, with these entries behind it: the death comes in its take if it comes in an event
+/// of the beat and all that they say in it may come of the take.
+fn get_act(
+    course: &Course,
+    node: NodeNo,
+    life: &Life,
+    beat: Beat,
+    link: LinkNo,
+    message: &Note,
+    number: u64,
+    behind: &[Entry],
+) -> Act
+    requires { life.now ≡ lifetime_of course.now node.0 }
+    ensures { result ≡ get_told course.now node.0 beat link message.now number behind.now }
 {
-    let life = Life::new(course, node);
+    if life.ends_in(beat) {
+        if let Some(sends) = sends_in_take(message, beat, behind) {
+            let last = Last::Get { link, number };
+            return Act::DieIn { last, sends };
+        }
+    }
+    Act::Get { link, number }
+}
+
+fn push_ends(
+    course: &Course,
+    node: NodeNo,
+    life: &Life,
+    journal: &[Entry],
+    events: &mut Vec<Event>,
+) -> Result<(), NoMemory>
+    requires course { IsCourse course.now }
+    requires life { life.now ≡ lifetime_of course.now node.0 }
+    ensures { OnOk result (events.new.items
+        ≡ events.old.items ++ ends_told course.now node.0 journal.now 0 course.now.beats) }
+{
     for beat in 0..course.beats {
-        push_end(course, node, &life, beat, events)?;
+        push_end(course, node, life, beat, journal, events)?;
     }
     Ok(())
 }
@@ -107,6 +142,7 @@ fn push_end(
     node: NodeNo,
     life: &Life,
     beat: Beat,
+    journal: &[Entry],
     events: &mut Vec<Event>,
 ) -> Result<(), NoMemory>
     requires course { IsCourse course.now }
@@ -114,18 +150,34 @@ fn push_end(
     requires life { life.now ≡ lifetime_of course.now node.0 }
     ensures { OnOk result (events.new.items
         ≡ events.old.items
-        ++ map (event_in course.now node.0 beat) (end_of_beat course.now node.0 beat)) }
+        ++ map (event_in course.now node.0 beat)
+        (end_of_beat course.now node.0 beat (said_in beat journal.now))) }
 {
-    let act = if life.acts(beat) {
-        Act::Tick(node)
-    } else if life.dies(beat) {
-        Act::Die(CubNo(node.0))
-    } else {
+    let Some(act) = end_act(course, node, life, beat, journal) else {
         return Ok(());
     };
     let stamp = course.stamp(node, beat);
     events.push(Event { stamp, act })?;
     Ok(())
+}
+
+/// How a node ends a beat, if it does not end in a take.
+fn end_act(course: &Course, node: NodeNo, life: &Life, beat: Beat, journal: &[Entry]) -> Option<Act>
+    requires { life.now ≡ lifetime_of course.now node.0 }
+    ensures { end_of_beat course.now node.0 beat (said_in beat journal.now) ≡ listed_act result }
+{
+    if life.ends_in(beat) {
+        let sends = sends_in_tick(beat, journal)?;
+        let last = Last::Tick(node);
+        return Some(Act::DieIn { last, sends });
+    }
+    if life.acts(beat) {
+        return Some(Act::Tick(node));
+    }
+    if life.dies(beat) {
+        return Some(Act::Die(CubNo(node.0)));
+    }
+    None
 }
 
 /// The event, unless its beat is none of the course's.

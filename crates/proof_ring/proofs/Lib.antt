@@ -2,7 +2,6 @@ pub mod Beliefs
 pub mod Claims
 pub mod Commanded
 pub mod Counted
-pub mod Deaths
 pub mod Faults
 pub mod Fitting
 pub mod Gathering

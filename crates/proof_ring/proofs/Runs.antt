@@ -10,8 +10,7 @@ use Rattle.node_kit.specs.declared.course.Course.{Course}
 use Rattle.node_kit.specs.declared.course.Kept.{Kept}
 use Rattle.node_kit.specs.declared.course.Order.{Order}
 use Rattle.node_kit.specs.Courses.{IsCourse}
-use Rattle.node_kit.specs.Life.{Lifetime, lifetime_of}
-use Rattle.run_facts.specs.Plain.{HasWholeLives}
+use Rattle.node_kit.specs.Life.{Lifetime, back_of, lifetime_of}
 use Rattle.run_facts.specs.Events.{is_death}
 use Rattle.run_facts.specs.Histories.{History, beat, reading, ticks}
 use Rattle.run_facts.specs.Timed.{DieApart}
@@ -31,7 +30,7 @@ use Rattle.proof_lives.proofs.OneLife.{one_life_run}
 use Rattle.proof_controller.specs.Orders.{AreCounted}
 use Rattle.proof_facts.specs.Rings.{node_count, node_of_disk, viewers, DieAlone, IsUpTo, AreOfCatalogue}
 use Rattle.proof_journals.specs.Journals.{AreJournalsOf}
-use Rattle.proof_ring.proofs.Deaths.{dies_at, stays_away, ticked_all}
+use Rattle.run_lives.proofs.Deaths.{dies_at, stays_away, ticked_all}
 use Rattle.proof_ring.specs.Rings.{OpensAs, IsRing}
 use Rattle.proof_ring.specs.Runs.{disks_of, AreShort, IsKeptRing, KeptRunsAreRings}
 use Rattle.proof_ring.proofs.Openings.{disk_opens}
@@ -73,13 +72,9 @@ module _ (G : Type 0) (s : Scenario) (library : List (List ℕ)) (k : Kept) (sce
   pub life_is : (n : ℕ) → n < length given → h.life n ≡ lifetime_of k.course n
   life_is n low = let g = get_some given n low in (run.steps.kept.lived.theirs.opens n g.0 g.1).1
 
-  -- In a course of whole lives
-  pub whole : HasWholeLives k.course
-  whole = subst HasWholeLives (sym run.course) scenario.whole_lives
-
-  -- nobody returns.
+  -- Nobody returns.
   pub returnless : (n : ℕ) → (lifetime_of k.course n).back ≡ None
-  returnless n = ap (λ (l : Lifetime). l.back) (whole n)
+  returnless n = subst (λ (c : Course). back_of c n ≡ None) (sym run.course) (scenario.no_returns n)
 
   never_back : (n : ℕ) → n < length given → (h.life n).back ≡ None
   never_back n low =

@@ -1,13 +1,12 @@
--- In a kept run a cub ticks in each beat in which it acts, and reads what its course says.
+-- In a kept run a cub ticks in each beat that it ends, and reads what its course says.
 use Rattle.std.proofs.Common.{◌≡◌, ℕ, zero, suc, ◌+◌, ◌<◌, ◌≤◌, List, length, Bool, Option, Some, None, true, false, sym, ap, subst, ◌∙◌, arith, ⊎_elim, inl, inr, eq-or-lt_of_le}
 use Rattle.std.specs.Prelude.{◌⊎◌}
-use Rattle.std.proofs.lemmas.Bool.{cases_Bool, ltb-true}
+use Rattle.std.proofs.lemmas.Bool.{cases_Bool}
 use Rattle.tiger_base.specs.declared.message.Msg.{Msg}
 use Rattle.slot_plan.specs.declared.params.Params.{Params}
 use Rattle.node_kit.specs.declared.course.Kept.{Kept}
 use Rattle.node_kit.specs.Courses.{reading_of}
-use Rattle.node_kit.specs.Life.{Lifetime, IsWholeLife, mortal, acts, lifetime_of}
-use Rattle.node_kit.proofs.Whole.{acts-mortal}
+use Rattle.node_kit.specs.Life.{Lifetime, lifetime_of}
 use Rattle.run_facts.specs.Events.{is_tick, is_death, is_return, stamp_at}
 use Rattle.run_facts.specs.Histories.{History, beat, reading, ticks}
 use Rattle.run_facts.proofs.Counts.{count-numbered}
@@ -18,8 +17,10 @@ use Rattle.proof_lives.specs.Facts.{TickedAt}
 use Rattle.proof_facts.specs.Lives.{lives_of}
 use Rattle.proof_facts.specs.Rings.{node_count}
 use Rattle.proof_lives.proofs.Acting.{alive_acts, alive_whole, cut_same}
+use Rattle.run_model.specs.Runs.{EndsBeat}
+use Rattle.run_model.proofs.Ticking.{ends_below}
 use Rattle.proof_ring.specs.Runs.{AreShort}
-use Rattle.proof_ring.proofs.Runs.{HasRing, death_is, lived, size, ticked, whole}
+use Rattle.proof_ring.proofs.Runs.{HasRing, death_is, lived, size, ticked, returnless}
 use Rattle.std.proofs.Common.{◌≡◌, ℕ, true, refl, ap, ◌∙◌}
 use Rattle.tiger_base.specs.declared.number.Stamp.{Stamp}
 use Rattle.node_kit.specs.Steps.{Input}
@@ -45,11 +46,14 @@ pub stamped : (s : Stamp) (b l : ℕ) → s.beat ≡ b → s.reading ≡ l → t
 stamped s b l e f =
     ap (λ (x : ℕ). tick (record { beat = x; reading = s.reading })) e ∙ ap (λ (x : ℕ). tick (record { beat = b; reading = x })) f
 
--- A node of a whole life acts below the beat of its death alone.
-pub acts_below : (d b : ℕ) (life : Lifetime) → IsWholeLife life → life.death ≡ Some d → acts life b ≡ true → b < d
-acts_below d b life whole e t =
-    let same : life ≡ mortal (Some d) = whole ∙ ap mortal e in
-    ltb-true b d (sym (acts-mortal d b) ∙ sym (ap (λ (q : Lifetime). acts q b) same) ∙ t)
+-- A cub of a course that does not return ends no beat from that of its death on.
+death_above : (life : Lifetime) (d b : ℕ) → life.back ≡ None → life.over ≡ false → life.death ≡ Some d → EndsBeat life b → b < d
+death_above life d b none whole e ends =
+    let same : life ≡ record { death = Some d; left = life.left; back = None; over = false } =
+    ap (λ (x : Option ℕ). record { death = x; left = life.left; back = life.back; over = life.over }) e
+    ∙ ap (λ (x : Option ℕ). record { death = Some d; left = life.left; back = x; over = life.over }) none
+    ∙ ap (λ (x : Bool). record { death = Some d; left = life.left; back = None; over = x }) whole in
+    ends_below d life.left b (subst (λ (l : Lifetime). EndsBeat l b) same ends)
 
 -- None of the first events of a node is a death, or one is.
 dies_or_not : {S : Type 0} (h : History Msg S) (n top : ℕ)
@@ -81,9 +85,9 @@ module _ (G : Type 0) (s : Scenario) (library : List (List ℕ)) (k : Kept) (sce
     number : ticks h c at ≡ b
     lives : is_death (h.event c at) ≡ false
 
-  -- A cub has one for each beat in which it acts.
-  ticks_there : (c b : ℕ) → c < p.cubs → b < k.course.beats → acts (lifetime_of k.course c) b ≡ true → TickOf c b
-  ticks_there c b small early acting =
+  -- A cub has one for each beat that it ends.
+  ticks_there : (c b : ℕ) → c < p.cubs → b < k.course.beats → EndsBeat (lifetime_of k.course c) b → TickOf c b
+  ticks_there c b small early ends =
       let inside : c < node_count p = omega (arith, small) in
       let within : c < length _ = subst (λ n. c < n) (sym (size G s library k scenario short run)) inside in
       let run_is = lived G s library k scenario short run in
@@ -96,7 +100,7 @@ module _ (G : Type 0) (s : Scenario) (library : List (List ℕ)) (k : Kept) (sce
       let i = dead.0 in
       let death = death_is G s library k scenario short run c i inside dead.1 dead.2 in
       let then : beat h c i ≡ ticks h c i = run_is.in_beat c i within dead.1 in
-      let below = acts_below (beat h c i) b (lifetime_of k.course c) (whole G s library k scenario short run c) death acting in
+      let below = death_above (lifetime_of k.course c) (beat h c i) b (returnless G s library k scenario short run c) refl death ends in
       let q = count-numbered is_tick h c i b (omega (arith, below, then)) in
       let less = q.before in
       record {
@@ -113,15 +117,15 @@ module _ (G : Type 0) (s : Scenario) (library : List (List ℕ)) (k : Kept) (sce
       })
       (dies_or_not h c (h.count c))
 
-  pub acts_ticks : (c b : ℕ) → c < p.cubs → b < k.course.beats → acts (lifetime_of k.course c) b ≡ true
+  pub acts_ticks : (c b : ℕ) → c < p.cubs → b < k.course.beats → EndsBeat (lifetime_of k.course c) b
       → TickedAt p (lives_of h) c b (reading_of k.course c b)
-  acts_ticks c b small early acting =
+  acts_ticks c b small early ends =
       let inside : c < node_count p = omega (arith, small) in
       let within : c < length _ = subst (λ n. c < n) (sym (size G s library k scenario short run)) inside in
       let run_is = lived G s library k scenario short run in
       let here : (j : ℕ) → j < h.count c → is_return (h.event c j) ≡ false = λ j l. run_is.here c j within l in
       let ended : (j : ℕ) → j < h.count c → is_death (h.event c j) ≡ true → j + 1 ≡ h.count c = λ j l d. run_is.ended c j within l d in
-      let q = ticks_there c b small early acting in
+      let q = ticks_there c b small early ends in
       let low = q.before in
       let then : beat h c q.at ≡ b = run_is.in_beat c q.at within low ∙ q.number in
       let shows : reading h c q.at ≡ reading_of k.course c b = run.steps.kept.keeps.stamped c q.at within low ∙ ap (reading_of k.course c) then in

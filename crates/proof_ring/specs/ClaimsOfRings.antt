@@ -25,7 +25,7 @@ use Rattle.proof_moments.specs.Ties.{IsTickBelow}
 use Rattle.proof_journals.specs.Journals.{AreJournalsOf}
 use Rattle.proof_facts.specs.Facts.{facts_of}
 use Rattle.proof_facts.specs.Rings.{IsUpTo, AreOfCatalogue, HaveImages}
-use Rattle.proof_parcels.specs.Parcels.{HaveFaults}
+pub use Rattle.proof_parcels.specs.Parcels.{HaveFaults}
 use Rattle.proof_ring.specs.Rings.{IsRing}
 
 -- At the moments of a log there is one schedule. Ticked tells which cub ticked in which beat, at

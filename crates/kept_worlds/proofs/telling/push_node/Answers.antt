@@ -4,4 +4,5 @@ use Rattle.kept_worlds.proofs.telling.push_node.Goals as goal
 
 pub returns : goal.returns
 returns c = on_ok_weaker c.push_ends.result
-    (λ e. node-next c.args.course.now c.args.node.0 c.args.journal.now _ _ _ _ c.as_slice.ensures c.in_ok-push_gets.ensures e) c.push_ends.ensures
+    (λ e. node-next c.args.course.now c.args.node.0 c.args.journal.now _ _ _ _ c.as_slice-entries.ensures
+    c.in_ok-push_gets.ensures e) c.push_ends.ensures
