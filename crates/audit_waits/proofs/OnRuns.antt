@@ -5,11 +5,11 @@ use Rattle.node_kit.specs.declared.course.Kept.{Kept}
 use Rattle.node_kit.specs.declared.course.Order.{Order}
 use Rattle.node_kit.specs.declared.journal.Entry.{Entry}
 use Rattle.node_kit.specs.Courses.{reading_of}
-use Rattle.node_kit.specs.Life.{acts, lifetime_of}
+use Rattle.node_kit.specs.Life.{lifetime_of}
 use Rattle.run_model.specs.Fronts.{AnyByRecursion}
 use Rattle.run_model.specs.Moments.{Moment}
 use Rattle.run_model.specs.Orders.{IsNotPassedOver, IsStartOf, end_of_tick}
-use Rattle.run_model.specs.Runs.{order_in}
+use Rattle.run_model.specs.Runs.{EndsBeat, order_in}
 use Rattle.run_model.proofs.OnSamples.{of-eight}
 use Rattle.run_claims.specs.Accounts.{ticks_in}
 use Rattle.audit_waits.specs.Samples.{IsDecidedOf}
@@ -28,7 +28,7 @@ idle p orders m cub beat reading e = record {
 
 -- a cub passes nobody over in a beat
 abbrev pub PassesNone : Kept → ℕ → ℕ → Type 0
-PassesNone k beat cub = acts (lifetime_of k.course cub) beat ≡ true
+PassesNone k beat cub = EndsBeat (lifetime_of k.course cub) beat
     → IsNotPassedOver k.course.plan.params k.orders (end_of_tick beat cub (order_in k)) cub beat (reading_of k.course cub beat)
 
 pub all_eight : (k : Kept) (beat : ℕ) → PassesNone k beat 0 → PassesNone k beat 1 → PassesNone k beat 2 → PassesNone k beat 3 → PassesNone k beat 4

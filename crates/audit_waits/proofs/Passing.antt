@@ -8,11 +8,12 @@ use Rattle.tiger_base.specs.declared.number.CubNo.{CubNo}
 use Rattle.node_kit.specs.declared.course.Course.{Course}
 use Rattle.node_kit.specs.declared.course.Order.{Order}
 use Rattle.node_kit.specs.Courses.{reading_of}
-use Rattle.node_kit.specs.Life.{acts, lifetime_of}
+use Rattle.node_kit.specs.Life.{lifetime_of}
 use Rattle.run_facts.specs.Order.{Noted, IsNotAfter, beat_of}
 use Rattle.run_facts.proofs.Rows.{all-append, all-weaker}
 use Rattle.run_model.specs.Moments.{Moment, moment_at, next_moment, opening}
 use Rattle.run_model.specs.Orders.{IsNotPassedOver, end_of_tick, is_up_to}
+use Rattle.run_model.specs.Runs.{EndsBeat}
 use Rattle.run_model.proofs.Moments.{moments_are_fronts}
 use Rattle.run_model.proofs.Reflects.{at_most, both, either, equal, less}
 use Rattle.run_claims.specs.Accounts.{ticks_in}
@@ -148,8 +149,8 @@ tick_says p orders ticked lines w beat cub answer h all judged =
 -- ---- a tick of a course is judged
 
 pub rests_then : (p : Params) (orders : List Order) (course : Course) (m : Moment) (cub beat count : ℕ) (r : Bool)
-    → r ≡ acts (lifetime_of course cub) beat → not r ≡ true → JudgesTick p orders (ticks_in course) m cub beat count None
-rests_then p orders course m cub beat count r is e reading t = absurd (go r (is ∙ t.1) e) where
+    → IsTrue r ↔ EndsBeat (lifetime_of course cub) beat → not r ≡ true → JudgesTick p orders (ticks_in course) m cub beat count None
+rests_then p orders course m cub beat count r is e reading t = absurd (go r (is.1 t.1) e) where
   go : (b : Bool) → b ≡ true → not b ≡ true → ⊥
   go true f g = false≢true g
   go false f g = false≢true f
@@ -161,11 +162,11 @@ patient_then p orders course m cub beat count shown r is e judged reading t =
     subst (λ (n : ℕ). IsNotPassedOver p orders m cub beat n) (is ∙ sym t.2) (judged.0 e)
 
 pub passed_then : (p : Params) (orders : List Order) (course : Course) (m : Moment) (cub : CubNo) (beat count shown : ℕ) (ticking r : Bool) (place : Option ℕ)
-    → beat < course.beats → ticking ≡ acts (lifetime_of course cub.0) beat → not ticking ≡ false → shown ≡ reading_of course cub.0 beat → r ≡ false
+    → beat < course.beats → IsTrue ticking ↔ EndsBeat (lifetime_of course cub.0) beat → not ticking ≡ false → shown ≡ reading_of course cub.0 beat → r ≡ false
     → place ≡ last_place count → IsTrue r ↔ IsNotPassedOver p orders m cub.0 beat shown
     → JudgesTick p orders (ticks_in course) m cub.0 beat count (Some (record { cub = cub; beat = beat; place = place }))
 passed_then p orders course m cub beat count shown ticking r place early is on shows e at judged =
-    (refl, refl, at, (shown, (early, sym is ∙ acting ticking on, shows), (λ patient. false≢true (sym e ∙ judged.1 patient)))) where
+    (refl, refl, at, (shown, (early, is.0 (acting ticking on), shows), (λ patient. false≢true (sym e ∙ judged.1 patient)))) where
       acting : (b : Bool) → not b ≡ false → b ≡ true
       acting true f = refl
       acting false f = absurd (false≢true (sym f))

@@ -1,9 +1,11 @@
 //! A walk along the log of a run, with the ticks of its cubs between the entries.
-ghost use Rattle.std.specs.Prelude.{◌≡◌, ◌<◌, ◌+◌, ℕ, List, IsTrue, filter, length, take, slice_index_or, IfOk, OnOk};
+ghost use Rattle.std.specs.Prelude.{◌≡◌, ◌↔◌, ◌<◌, ◌+◌, ℕ, List, IsTrue, filter, length, take, slice_index_or, IfOk, OnOk};
 ghost use Rattle.node_kit.specs.Courses.{IsCourse};
+ghost use Rattle.node_kit.specs.Life.{lifetime_of};
 ghost use Rattle.node_kit.specs.declared.course.Order.{Order};
 ghost use Rattle.run_model.specs.Moments.{Moment};
 ghost use Rattle.run_model.specs.Orders.{is_up_to};
+ghost use Rattle.run_model.specs.Runs.{EndsBeat};
 ghost use Rattle.run_claims.specs.Accounts.{ticks_in};
 ghost use Rattle.audit_frame.specs.Lines.{noted_line, told_by};
 ghost use Rattle.audit_waits.specs.Ticks.{DecidesPatience, IsNextLine, JudgesTick, NoneIsBehind, SaysBeat, SaysTick, StandsBefore, TellsWaits, last_place};
@@ -185,11 +187,10 @@ impl Walk {
             → JudgesTick course.now.plan.params orders (ticks_in course.now) m cub.0 beat
             self.now.place result }
     {
-        let node = NodeNo(cub.0);
-        if !Life::new(course, node).acts(beat) {
+        if !ends_beat(course, cub, beat) {
             return None;
         }
-        let reading = course.stamp(node, beat).reading;
+        let reading = course.stamp(NodeNo(cub.0), beat).reading;
         let tick = Tick { cub, beat, reading };
         if self.so_far.is_patient(&course.plan, tick) {
             return None;
@@ -197,6 +198,14 @@ impl Walk {
         let place = last_place(self.place);
         Some(PassedOver { cub, beat, place })
     }
+}
+
+/// Whether a cub ends a beat by a whole tick: it acts in the beat, and does not die in an event of it.
+fn ends_beat(course: &Course, cub: CubNo, beat: Beat) -> bool
+    ensures { IsTrue result ↔ EndsBeat (lifetime_of course.now cub.0) beat }
+{
+    let life = Life::new(course, NodeNo(cub.0));
+    life.acts(beat) && !life.ends_in(beat)
 }
 
 /// Whether an entry is one up to the end of the tick of a cub in a beat.

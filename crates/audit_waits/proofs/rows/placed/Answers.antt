@@ -18,16 +18,16 @@ unfolding on_samples
 returns-clause-at_once c k plan =
     let run = kept k plan 1 (dying None None None) ordered (starts 0 0 ask false ∷ put 0 0 three ∷ []) in
     in_one_beat run refl refl (all_eight run 0
-    (λ acts. record { taken = λ a slot visit o s p g l d w. let same = only-order ask a o in absurd (false≢true (sym (rw (← same) at p))) })
-    (λ acts. idle _ _ _ _ _ _ refl) (λ acts. idle _ _ _ _ _ _ refl) (λ acts. idle _ _ _ _ _ _ refl) (λ acts. idle _ _ _ _ _ _ refl)
-    (λ acts. idle _ _ _ _ _ _ refl) (λ acts. idle _ _ _ _ _ _ refl) (λ acts. idle _ _ _ _ _ _ refl))
+    (λ ends. record { taken = λ a slot visit o s p g l d w. let same = only-order ask a o in absurd (false≢true (sym (rw (← same) at p))) })
+    (λ ends. idle _ _ _ _ _ _ refl) (λ ends. idle _ _ _ _ _ _ refl) (λ ends. idle _ _ _ _ _ _ refl) (λ ends. idle _ _ _ _ _ _ refl)
+    (λ ends. idle _ _ _ _ _ _ refl) (λ ends. idle _ _ _ _ _ _ refl) (λ ends. idle _ _ _ _ _ _ refl))
 
 pub returns-clause-too_late : goal.returns-clause-too_late
 unfolding on_samples
 returns-clause-too_late c k plan = record {
   reading = 0;
   low = omega arith;
-  ticks = (omega arith, refl, refl);
+  ticks = (omega arith, (refl, refl), refl);
   passed_over = waits;
   before = λ cub beat reading low ticks comes. ⊎_elim (λ l. absurd (omega (arith, l))) (λ e. let none = e.1 in absurd (omega (arith, none))) comes;
   place = refl;
@@ -35,16 +35,16 @@ returns-clause-too_late c k plan = record {
 
 pub returns-clause-not_the_first : goal.returns-clause-not_the_first
 unfolding on_samples
-returns-clause-not_the_first c k plan h = waits (h.before 0 0 0 (omega arith) (omega arith, refl, refl) (inl (omega arith)))
+returns-clause-not_the_first c k plan h = waits (h.before 0 0 0 (omega arith) (omega arith, (refl, refl), refl) (inl (omega arith)))
 
 pub returns-clause-not_at_all : goal.returns-clause-not_at_all
 unfolding on_samples
-returns-clause-not_at_all c k plan h = waits (h 0 0 0 (omega arith) (omega arith, refl, refl))
+returns-clause-not_at_all c k plan h = waits (h 0 0 0 (omega arith) (omega arith, (refl, refl), refl))
 
 pub returns-clause-dies : goal.returns-clause-dies
 unfolding on_samples
 returns-clause-dies c k plan =
     let run = kept k plan 1 (dying (Some 0) None None) ordered (starts 0 0 ask false ∷ []) in
-    in_one_beat run refl refl (all_eight run 0 (λ acts. absurd (false≢true acts))
-    (λ acts. idle _ _ _ _ _ _ refl) (λ acts. idle _ _ _ _ _ _ refl) (λ acts. idle _ _ _ _ _ _ refl) (λ acts. idle _ _ _ _ _ _ refl)
-    (λ acts. idle _ _ _ _ _ _ refl) (λ acts. idle _ _ _ _ _ _ refl) (λ acts. idle _ _ _ _ _ _ refl))
+    in_one_beat run refl refl (all_eight run 0 (λ ends. absurd (false≢true ends.0))
+    (λ ends. idle _ _ _ _ _ _ refl) (λ ends. idle _ _ _ _ _ _ refl) (λ ends. idle _ _ _ _ _ _ refl) (λ ends. idle _ _ _ _ _ _ refl)
+    (λ ends. idle _ _ _ _ _ _ refl) (λ ends. idle _ _ _ _ _ _ refl) (λ ends. idle _ _ _ _ _ _ refl))

@@ -9,21 +9,21 @@ pub returns-clause-of_the_living : goal.returns-clause-of_the_living
 unfolding on_samples
 returns-clause-of_the_living c k plan =
     let run = kept k plan 1 (dying None None None) ordered (starts 1 0 ask true ∷ []) in
-    in_one_beat run refl refl (all_eight run 0 (λ acts. idle _ _ _ _ _ _ refl)
-    (λ acts. record {
+    in_one_beat run refl refl (all_eight run 0 (λ ends. idle _ _ _ _ _ _ refl)
+    (λ ends. record {
       taken = λ a slot visit o s p g l d w. ⊎_elim
           (λ own. ⊎_elim (λ x. absurd (false≢true (sym x.1))) (λ n. absurd n) own.1)
           (λ next. absurd (false≢true next.1.0)) s;
     })
-    (λ acts. idle _ _ _ _ _ _ refl) (λ acts. idle _ _ _ _ _ _ refl) (λ acts. idle _ _ _ _ _ _ refl)
-    (λ acts. idle _ _ _ _ _ _ refl) (λ acts. idle _ _ _ _ _ _ refl) (λ acts. idle _ _ _ _ _ _ refl))
+    (λ ends. idle _ _ _ _ _ _ refl) (λ ends. idle _ _ _ _ _ _ refl) (λ ends. idle _ _ _ _ _ _ refl)
+    (λ ends. idle _ _ _ _ _ _ refl) (λ ends. idle _ _ _ _ _ _ refl) (λ ends. idle _ _ _ _ _ _ refl))
 
 pub returns-clause-of_the_dead : goal.returns-clause-of_the_dead
 unfolding on_samples
 returns-clause-of_the_dead c k plan = record {
   reading = 0;
   low = omega arith;
-  ticks = (omega arith, refl, refl);
+  ticks = (omega arith, (refl, refl), refl);
   passed_over = λ h. ⊎_elim (λ t. let holder = t.1 in absurd (cc)) (λ n. n)
       (h.taken ask 1 0 (inl refl) (inr (refl, (refl, inl (refl, refl)))) refl refl (omega arith) refl refl);
   before = λ cub beat reading low ticks comes. ⊎_elim

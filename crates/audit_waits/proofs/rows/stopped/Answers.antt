@@ -16,12 +16,12 @@ returns-clause-cancelled c k plan =
     let run = kept k plan 2 (dying None None None) ordered (gone 0 0 ∷ starts 0 1 ask false ∷ []) in
     in_two_beats run refl refl
     (all_eight run 0
-    (λ acts. idle _ _ _ _ _ _ refl) (λ acts. idle _ _ _ _ _ _ refl) (λ acts. idle _ _ _ _ _ _ refl) (λ acts. idle _ _ _ _ _ _ refl)
-    (λ acts. idle _ _ _ _ _ _ refl) (λ acts. idle _ _ _ _ _ _ refl) (λ acts. idle _ _ _ _ _ _ refl) (λ acts. idle _ _ _ _ _ _ refl))
+    (λ ends. idle _ _ _ _ _ _ refl) (λ ends. idle _ _ _ _ _ _ refl) (λ ends. idle _ _ _ _ _ _ refl) (λ ends. idle _ _ _ _ _ _ refl)
+    (λ ends. idle _ _ _ _ _ _ refl) (λ ends. idle _ _ _ _ _ _ refl) (λ ends. idle _ _ _ _ _ _ refl) (λ ends. idle _ _ _ _ _ _ refl))
     (all_eight run 1
-    (λ acts. record { taken = λ a slot visit o s p g l d w. let same = only-order ask a o in absurd (false≢true (sym (rw (← same) at g))) })
-    (λ acts. idle _ _ _ _ _ _ refl) (λ acts. idle _ _ _ _ _ _ refl) (λ acts. idle _ _ _ _ _ _ refl) (λ acts. idle _ _ _ _ _ _ refl)
-    (λ acts. idle _ _ _ _ _ _ refl) (λ acts. idle _ _ _ _ _ _ refl) (λ acts. idle _ _ _ _ _ _ refl))
+    (λ ends. record { taken = λ a slot visit o s p g l d w. let same = only-order ask a o in absurd (false≢true (sym (rw (← same) at g))) })
+    (λ ends. idle _ _ _ _ _ _ refl) (λ ends. idle _ _ _ _ _ _ refl) (λ ends. idle _ _ _ _ _ _ refl) (λ ends. idle _ _ _ _ _ _ refl)
+    (λ ends. idle _ _ _ _ _ _ refl) (λ ends. idle _ _ _ _ _ _ refl) (λ ends. idle _ _ _ _ _ _ refl))
 
 -- visit 0 of slot 1 is the only one of disk 0 in the window
 only_one : (slot visit : ℕ) → slot < 16 → disk_of small visit ≡ 0 → IsTrue (in_window small 10000 slot visit) → (slot ≡ 1) × (visit ≡ 0)
@@ -37,30 +37,30 @@ returns-clause-in_the_way c k plan =
     let run = kept k plan 2 (dying None None None) ordered (gone 0 1 ∷ starts 0 1 ask false ∷ took 0 1 (own_of (seat 1 0 2) 0) ∷ []) in
     in_two_beats run refl refl
     (all_eight run 0
-    (λ acts. idle _ _ _ _ _ _ refl) (λ acts. idle _ _ _ _ _ _ refl) (λ acts. idle _ _ _ _ _ _ refl) (λ acts. idle _ _ _ _ _ _ refl)
-    (λ acts. idle _ _ _ _ _ _ refl) (λ acts. idle _ _ _ _ _ _ refl) (λ acts. idle _ _ _ _ _ _ refl) (λ acts. idle _ _ _ _ _ _ refl))
+    (λ ends. idle _ _ _ _ _ _ refl) (λ ends. idle _ _ _ _ _ _ refl) (λ ends. idle _ _ _ _ _ _ refl) (λ ends. idle _ _ _ _ _ _ refl)
+    (λ ends. idle _ _ _ _ _ _ refl) (λ ends. idle _ _ _ _ _ _ refl) (λ ends. idle _ _ _ _ _ _ refl) (λ ends. idle _ _ _ _ _ _ refl))
     (all_eight run 1
-    (λ acts. record {
+    (λ ends. record {
       taken = λ a slot visit o s p g low d window.
           let same = only-order ask a o in
           let first : 0 ≡ a.disk.0 = ap (λ (x : Ask). x.disk.0) same in
           let here = only_one slot visit low (d ∙ sym first) window in
           rw (here.0, here.1) (inr (inl (refl, refl, inl (refl, omega arith))));
     })
-    (λ acts. idle _ _ _ _ _ _ refl) (λ acts. idle _ _ _ _ _ _ refl) (λ acts. idle _ _ _ _ _ _ refl) (λ acts. idle _ _ _ _ _ _ refl)
-    (λ acts. idle _ _ _ _ _ _ refl) (λ acts. idle _ _ _ _ _ _ refl) (λ acts. idle _ _ _ _ _ _ refl))
+    (λ ends. idle _ _ _ _ _ _ refl) (λ ends. idle _ _ _ _ _ _ refl) (λ ends. idle _ _ _ _ _ _ refl) (λ ends. idle _ _ _ _ _ _ refl)
+    (λ ends. idle _ _ _ _ _ _ refl) (λ ends. idle _ _ _ _ _ _ refl) (λ ends. idle _ _ _ _ _ _ refl))
 
 pub returns-clause-free : goal.returns-clause-free
 unfolding on_samples
 returns-clause-free c k plan =
     let run = kept k plan 2 (dying None None None) ordered (gone 0 1 ∷ starts 0 1 ask false ∷ []) in
     let first = all_eight run 0
-    (λ acts. idle _ _ _ _ _ _ refl) (λ acts. idle _ _ _ _ _ _ refl) (λ acts. idle _ _ _ _ _ _ refl) (λ acts. idle _ _ _ _ _ _ refl)
-    (λ acts. idle _ _ _ _ _ _ refl) (λ acts. idle _ _ _ _ _ _ refl) (λ acts. idle _ _ _ _ _ _ refl) (λ acts. idle _ _ _ _ _ _ refl) in
+    (λ ends. idle _ _ _ _ _ _ refl) (λ ends. idle _ _ _ _ _ _ refl) (λ ends. idle _ _ _ _ _ _ refl) (λ ends. idle _ _ _ _ _ _ refl)
+    (λ ends. idle _ _ _ _ _ _ refl) (λ ends. idle _ _ _ _ _ _ refl) (λ ends. idle _ _ _ _ _ _ refl) (λ ends. idle _ _ _ _ _ _ refl) in
     record {
       reading = 10000;
       low = omega arith;
-      ticks = (omega arith, refl, refl);
+      ticks = (omega arith, (refl, refl), refl);
       passed_over = λ h. ⊎_elim (λ t. let holder = t.1 in absurd (cc)) (λ n. n)
           (h.taken ask 1 0 (inl refl) (inl (refl, inl (refl, refl))) refl refl (omega arith) refl refl);
       before = λ cub beat reading low ticks comes. ⊎_elim
