@@ -1,0 +1,2 @@
+pub mod Falses
+pub mod Mends
