@@ -1,0 +1,79 @@
+use Rattle.std.proofs.Common.{◌<◌, [], ◌∷◌, refl, arith}
+use Rattle.tiger_base.specs.declared.message.Note.TheVariants.{Heartbeat}
+use Rattle.slot_plan.specs.Conditions.{IsPlan}
+use Rattle.slot_plan.specs.Samples.{small}
+use Rattle.node_kit.specs.declared.course.Kept.{Kept}
+use Rattle.run_model.proofs.OnSamples.{on_samples}
+use Rattle.run_model.specs.Samples.{gets, kept, of_none, sends}
+use Rattle.audit_orders.specs.Carrying.{IsUncarriedAt}
+use Rattle.audit_orders.specs.Samples.{writes}
+use Rattle.audit_orders.specs.Timing.{IsUntimedAt}
+use Rattle.audit_orders.specs.declared.carrying.Uncarried.TheVariants as uncarried
+use Rattle.audit_orders.specs.declared.flaw.Flaw.TheVariants as flaw
+use Rattle.audit_orders.specs.declared.timing.Untimed.TheVariants as untimed
+use Rattle.audit_orders.proofs.Denying.{untimed_denies}
+use Rattle.audit_orders.proofs.Refuting.{uncarried_denies}
+use Rattle.audit_verdict.specs.Clauses.{MeetsClause, number_of_clause}
+use Rattle.audit_verdict.specs.declared.clause.Clause.{Clause}
+use Rattle.audit_verdict.specs.declared.clause.Clause.TheVariants as clause
+use Rattle.audit_verdict.proofs.Clauses.{none_before}
+use Rattle.audit_verdict.proofs.Silent.{silent}
+use Rattle.audit_verdict.proofs.rows.late.Goals as goal
+
+abbrev with_message : Kept → IsPlan small → Kept
+with_message k plan = kept k plan 10 of_none [] (sends 0 3 Heartbeat ∷ gets 0 6 Heartbeat ∷ [])
+
+abbrev with_entry : Kept → IsPlan small → Kept
+with_entry k plan = kept k plan 10 of_none [] (writes 2 20000 ∷ writes 3 34001 ∷ [])
+
+got_late : (k : Kept) (plan : IsPlan small)
+    → IsUncarriedAt (with_message k plan).course (with_message k plan).journals (uncarried.Got (record { 0 = 17 }) 0)
+unfolding on_samples
+got_late k plan = record {
+  journal = (gets 0 6 Heartbeat).entry ∷ [];
+  here = refl;
+  inside = omega arith;
+  stream = 32;
+  before = tt;
+  with_it = λ h. let late = h.2 in omega (arith, late);
+}
+
+pub returns-clause-message : goal.returns-clause-message
+returns-clause-message c k plan = record {
+  lower = none_before (with_message k plan) 1 (omega arith);
+  broken = λ h. uncarried_denies (with_message k plan) (uncarried.Got (record { 0 = 17 }) 0) refl (got_late k plan) h;
+  where_it_is = (uncarried.Got (record { 0 = 17 }) 0, refl, got_late k plan);
+}
+
+written_late : (k : Kept) (plan : IsPlan small)
+    → IsUntimedAt (with_entry k plan).course (with_entry k plan).journals (untimed.Journal (record { 0 = 0 }) (flaw.Entry 1))
+unfolding on_samples
+written_late k plan = record {
+  lower = λ m journal low at. absurd (omega (arith, low));
+  journal = (writes 2 20000).entry ∷ (writes 3 34001).entry ∷ [];
+  here = refl;
+  flawed = record {
+    inside = omega arith;
+    before = (
+      [],
+      record {
+        reads = (record { low = omega arith; high = omega arith }, tt);
+        rising = (tt, tt);
+        early = (omega arith, tt);
+        death = (refl, tt);
+      },
+    );
+    with_it = λ more. let high = more.1.reads.1.0.high in omega (arith, high);
+  };
+}
+
+carried_before : (k : Kept) (plan : IsPlan small) (d : Clause) → number_of_clause d < 2 → MeetsClause (with_entry k plan) d
+carried_before k plan clause.Carried low = silent (with_entry k plan) refl
+carried_before k plan other low = absurd (omega (arith, low))
+
+pub returns-clause-entry : goal.returns-clause-entry
+returns-clause-entry c k plan = record {
+  lower = carried_before k plan;
+  broken = λ h. untimed_denies (with_entry k plan) (untimed.Journal (record { 0 = 0 }) (flaw.Entry 1)) (written_late k plan) h;
+  where_it_is = (untimed.Journal (record { 0 = 0 }) (flaw.Entry 1), refl, written_late k plan);
+}

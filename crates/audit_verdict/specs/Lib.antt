@@ -1,0 +1,6 @@
+pub mod Clauses
+pub mod Places
+pub mod Verdicts
+pub mod Counting
+pub mod Telling
+pub mod Samples

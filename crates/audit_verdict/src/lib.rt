@@ -1,0 +1,20 @@
+//! One call over all walks of an auditor: whether what is kept of a run is what every run of a ring is, and if not, which of
+//! twelve clauses is false first, and where.
+#![tactic(auto)]
+
+mod clause;
+mod counts;
+mod ends;
+mod line;
+mod logged;
+mod orders;
+mod place;
+pub mod rows;
+mod schedule;
+mod verdict;
+
+pub use clause::Clause;
+pub use counts::{Counts, counts_of};
+pub use line::line_in_text;
+pub use place::{EntryPlace, Place};
+pub use verdict::{Verdict, audit};

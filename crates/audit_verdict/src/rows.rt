@@ -1,0 +1,41 @@
+//! Worked runs: one of which all clauses hold, and four that each break one. They stand in contracts of functions without a
+//! body, and not in tests, since a weakened definition must be refused where the crate is checked without its tests.
+ghost use Rattle.std.specs.Prelude.{[], ◌∷◌};
+ghost use Rattle.tiger_base.specs.declared.message.Note.TheVariants.{Heartbeat};
+ghost use Rattle.slot_plan.specs.Conditions.{IsPlan};
+ghost use Rattle.slot_plan.specs.Samples.{small};
+ghost use Rattle.node_kit.specs.declared.course.Kept.{Kept};
+ghost use Rattle.run_model.specs.Samples.{believes, gets, kept, of_none, ordered, sends};
+ghost use Rattle.audit_orders.specs.Samples.{writes};
+ghost use Rattle.audit_verdict.specs.Samples.{at_entry, at_order};
+ghost use Rattle.audit_verdict.specs.Verdicts.{IsVerdictOn};
+ghost use Rattle.audit_verdict.specs.declared.clause.Clause.TheVariants as clause;
+ghost use Rattle.audit_verdict.specs.declared.verdict.Verdict.TheVariants as verdict;
+
+/// In a run of a beat nobody writes anything.
+pub fn quiet()
+    ensures { (k : Kept) (p : IsPlan small) → IsVerdictOn (kept k p 1 of_none [] []) verdict.Yes }
+{}
+
+/// In runs of ten beats the viewers get a heartbeat a beat too late; or cub 0 writes its second entry a micro too late.
+pub fn late()
+    ensures message { (k : Kept) (p : IsPlan small) → IsVerdictOn
+        (kept k p 10 of_none [] (sends 0 3 Heartbeat ∷ gets 0 6 Heartbeat ∷ []))
+        (verdict.No clause.Carried (at_entry 17 0)) }
+    ensures entry { (k : Kept) (p : IsPlan small) → IsVerdictOn
+        (kept k p 10 of_none [] (writes 2 20000 ∷ writes 3 34001 ∷ []))
+        (verdict.No clause.Timed (at_entry 0 1)) }
+{}
+
+/// Instance 0 is to be started in the only beat, and the controller sends nothing.
+pub fn unsent()
+    ensures { (k : Kept) (p : IsPlan small) → IsVerdictOn (kept k p 1 of_none ordered [])
+        (verdict.No clause.Commanded (at_order 0)) }
+{}
+
+/// Cub 1 believes cub 0 dead, which is not.
+pub fn belief()
+    ensures { (k : Kept) (p : IsPlan small) → IsVerdictOn
+        (kept k p 1 of_none [] (believes 1 0 0 ∷ []))
+        (verdict.No clause.TrueBelief (at_entry 1 0)) }
+{}
