@@ -3,13 +3,13 @@ use Rattle.std.proofs.Common.{◌≡◌, ◌++◌, ℕ, List, arith, inl, inr}
 use Rattle.outside.specs.Memory.{MemoryFiles, MemorySink, Entries, told_of, source_of, sunk_in}
 use Rattle.net_read.specs.Plans.{NetSaid, IsNetPlan}
 use Rattle.net_run.specs.Text.{net_text}
-use Rattle.promises.proofs.Told.{is_told, is_absent, has_bytes}
+use Rattle.tiger_input.proofs.Told.{is_told, is_absent, has_bytes}
 use Rattle.tiger_net.specs.declared.stop.NetRule.{NetRule}
 use Rattle.tiger_net.specs.declared.stop.NetRule.TheVariants as rules
 use Rattle.tiger_net.specs.Lines.{HasLines}
 use Rattle.tiger_net.specs.Stops.{BreaksNetRule, rule_number}
-use Rattle.tiger_run.specs.declared.status.Status.TheVariants as statuses
-use Rattle.tiger_run.specs.Ending.{IsWritten}
+use Rattle.tiger_input.specs.declared.status.Status.TheVariants as statuses
+use Rattle.tiger_input.specs.Ending.{IsWritten}
 use Rattle.tiger_top.specs.declared.status.TopStatus.{TopStatus}
 use Rattle.tiger_top.specs.declared.status.TopStatus.TheVariants as tops
 use Rattle.tiger_top.specs.Ends.{NetCause, IsRunnableNet}
@@ -68,3 +68,6 @@ module _ (old new : MemoryFiles) (name : List ℕ) where
   plan_cause tops.Device cause = cause
   plan_cause (tops.Damaged disk at kept found) cause = cause
   plan_cause tops.ImageExists cause = cause
+  plan_cause (tops.Unsound fault) cause = cause
+  plan_cause (tops.Journal line) cause = cause
+  plan_cause (tops.Audit c here line) cause = cause

@@ -6,9 +6,9 @@ use Rattle.net_read.specs.declared.fault.NetFault.{NetFault}
 use Rattle.net_read.specs.declared.fault.NetFault.TheVariants as faults
 use Rattle.net_read.specs.Meaning.{net_meaning}
 use Rattle.net_read.specs.Plans.{NetSaid}
-use Rattle.promises.specs.Calls.{AreMoreThan}
+use Rattle.tiger_input.specs.Tellings.{AreMoreThan}
 use Rattle.tiger_net.specs.Lines.{most_plan}
-use Rattle.tiger_run.specs.declared.status.Status.TheVariants as statuses
+use Rattle.tiger_input.specs.declared.status.Status.TheVariants as statuses
 use Rattle.tiger_top.specs.declared.status.TopStatus.{TopStatus}
 use Rattle.tiger_top.specs.declared.status.TopStatus.TheVariants as tops
 
@@ -42,6 +42,9 @@ IsPlanCause old new name (tops.Net rule) =
 IsPlanCause old new name tops.Device = ⊥
 IsPlanCause old new name (tops.Damaged disk at kept found) = ⊥
 IsPlanCause old new name tops.ImageExists = ⊥
+IsPlanCause old new name (tops.Unsound fault) = ⊥
+IsPlanCause old new name (tops.Journal line) = ⊥
+IsPlanCause old new name (tops.Audit c here line) = ⊥
 IsPlanCause old new name (tops.Tiger statuses.Words) = ⊥
 IsPlanCause old new name (tops.Tiger (statuses.Scenario fault)) = ⊥
 IsPlanCause old new name _ = Unit {0}

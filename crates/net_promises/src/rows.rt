@@ -6,7 +6,7 @@ ghost use Rattle.net_schedule.specs.Samples.{entry, four};
 ghost use Rattle.net_run.specs.Samples.{full, own, overtaken};
 ghost use Rattle.net_run.specs.Text.{state_text};
 ghost use Rattle.tiger_net.specs.Samples.{net_name};
-ghost use Rattle.tiger_run.specs.declared.status.Status.TheVariants as statuses;
+ghost use Rattle.tiger_input.specs.declared.status.Status.TheVariants as statuses;
 ghost use Rattle.tiger_top.specs.declared.status.TopStatus.TheVariants as tops;
 ghost use Rattle.net_promises.specs.Calls.{IsToldPlan, IsPlanCause};
 ghost use Rattle.net_promises.specs.Promises.{AreNumberedFrom, line_for};

@@ -4,15 +4,16 @@ use Rattle.outside.specs.Told.{Told, bytes, absent}
 use Rattle.outside.specs.Memory.{MemoryFiles, Entries, source_of, told_of}
 use Rattle.scenario_read.specs.declared.stop.ScenarioFault.{ScenarioFault}
 use Rattle.scenario_read.specs.Meaning.{Said}
-use Rattle.tiger_run.specs.declared.status.Status.{Status}
-use Rattle.tiger_run.specs.declared.status.Status.TheVariants as statuses
-use Rattle.tiger_run.specs.Words.{IsRun}
-use Rattle.tiger_run.specs.Inputs.{names_of, ReadAs, Breaks, StopsAt, IsMissing, IsTooLong, HasEmptyFile, InputsCause}
-use Rattle.tiger_run.specs.Runnable.{IsRunnableCommand}
-use Rattle.tiger_run.specs.Ending.{InputCause}
-use Rattle.tiger_run.proofs.WordLists.{IsRun-name}
-use Rattle.promises.specs.Calls.{IsAllTold, IsToldScenario, IsFileOf, AreMoreThan, IsEmptyFile, IsBroken, IsCause}
-use Rattle.promises.proofs.Told.{is_told, is_absent, has_bytes, are_told}
+use Rattle.tiger_input.specs.declared.status.Status.{Status}
+use Rattle.tiger_input.specs.declared.status.Status.TheVariants as statuses
+use Rattle.tiger_input.specs.Words.{IsRun}
+use Rattle.tiger_input.specs.Inputs.{names_of, ReadAs, Breaks, StopsAt, IsMissing, IsTooLong, HasEmptyFile, InputsCause}
+use Rattle.tiger_input.specs.Runnable.{IsRunnableCommand}
+use Rattle.tiger_input.specs.Ending.{InputCause}
+use Rattle.tiger_input.proofs.WordLists.{IsRun-name}
+use Rattle.promises.specs.Calls.{IsAllTold, IsToldScenario, IsFileOf, IsEmptyFile, IsBroken, IsCause}
+use Rattle.tiger_input.specs.Tellings.{AreMoreThan}
+use Rattle.tiger_input.proofs.Told.{is_told, is_absent, has_bytes, are_told}
 
 -- what was read of a scenario is told of it
 told_scenario : (entries : Entries) (name : List ℕ) (P Q : Said → Type 0) → ((said : Said) → P said → Q said)

@@ -8,23 +8,22 @@ use Rattle.node_kit.specs.declared.course.Kept.{Kept}
 use Rattle.node_kit.specs.declared.gate.OpenGate.{OpenGate}
 use Rattle.outside.specs.Told.{Told}
 use Rattle.outside.specs.Memory.{MemoryFiles, source_of}
-use Rattle.run_facts.specs.Plain.{HasWholeLives}
+use Rattle.run_model.specs.Runs.{HasNoReturns}
 use Rattle.run_claims.specs.Accounts.{account_of}
 use Rattle.run_claims.specs.Claims.{MeetsClaims}
-use Rattle.proof_ring.specs.Beliefs.{BelievesInTime}
+use Rattle.tiger_run.specs.Ending.{BelievesInTime, IsRunOf, IsNamedRun, IsMadeRun, IsAskedRun}
 use Rattle.run_promises.specs.Kept.{IsKeptWell}
 use Rattle.run_promises.specs.Promises.{KeepsPromises}
 use Rattle.run_promises.proofs.Promises.{kept_runs_keep_promises}
 use Rattle.scenario_read.specs.declared.scenario.Scenario.{Scenario}
-use Rattle.tiger_run.specs.Words.{IsRun, IsMake}
-use Rattle.tiger_run.specs.Inputs.{names_of}
-use Rattle.tiger_run.specs.Ending.{IsRunOf, IsNamedRun, IsMadeRun, IsAskedRun}
-use Rattle.tiger_run.proofs.WordLists.{IsRun-name}
+use Rattle.tiger_input.specs.Words.{IsRun, IsMake}
+use Rattle.tiger_input.specs.Inputs.{names_of}
+use Rattle.tiger_input.proofs.WordLists.{IsRun-name}
 use Rattle.tiger_run.specs.Answers.{IsTheAnswer}
 use Rattle.tiger_run.proofs.Endings.{text_for-run}
 use Rattle.promises.specs.Kept.{IsRunFor, IsRunOfTold, IsRunOfNumber, IsOneAnswer}
 use Rattle.promises.proofs.Words.{run_of}
-use Rattle.promises.proofs.Told.{is_told, are_told}
+use Rattle.tiger_input.proofs.Told.{is_told, are_told}
 
 -- words do not name a scenario and a number at once, and name one number
 run_or_make : (words : List (List ℕ)) (name : List ℕ) (workers number : ℕ)
@@ -50,12 +49,12 @@ kept_well s library k run = record {
   claims = run.claims;
 }
 
--- no death of the scenario cuts a cub off, and no cub returns
-whole_lives : (s : Scenario) (library : List (List ℕ)) (k : Kept) → IsRunOf OpenGate s library k → HasWholeLives k.course
-whole_lives s library k run = subst HasWholeLives (sym run.ran.course) run.sound.whole_lives
+-- no cub of the scenario returns
+no_returns : (s : Scenario) (library : List (List ℕ)) (k : Kept) → IsRunOf OpenGate s library k → HasNoReturns k.course
+no_returns s library k run = subst HasNoReturns (sym run.ran.course) run.sound.no_returns
 
 keeps_promises : (s : Scenario) (library : List (List ℕ)) (k : Kept) → IsRunOf OpenGate s library k → KeepsPromises k
-keeps_promises s library k run = kept_runs_keep_promises k (kept_well s library k run) (whole_lives s library k run)
+keeps_promises s library k run = kept_runs_keep_promises k (kept_well s library k run) (no_returns s library k run)
 
 -- the run of a named scenario over files in memory
 abbrev IsNamed : MemoryFiles → MemoryFiles → List ℕ → Kept → Type 0

@@ -1,9 +1,9 @@
 -- What words ask for, and that a refusal is one, as the program's own words have it.
 use Rattle.std.proofs.Common.{◌≡◌, ℕ, List}
-use Rattle.tiger_run.specs.declared.status.Status.{Status}
-use Rattle.tiger_run.specs.declared.status.Status.TheVariants as statuses
-use Rattle.tiger_run.specs.Words.{IsRun, IsMake, IsNoRun, IsNoMake, IsNoCommand}
-use Rattle.tiger_run.specs.Ending.{IsRefusal}
+use Rattle.tiger_input.specs.declared.status.Status.{Status}
+use Rattle.tiger_input.specs.declared.status.Status.TheVariants as statuses
+use Rattle.tiger_input.specs.Words.{IsRun, IsMake, IsNoRun, IsNoMake, IsNoCommand}
+use Rattle.tiger_input.specs.Ending.{IsRefusal}
 use Rattle.promises.specs.Calls.{AskForRun, AskForMade, AskForNoRun, AskForNothing, IsRefused}
 
 pub run_of : (words : List (List ℕ)) (name : List ℕ) (workers : ℕ) → AskForRun words name workers → IsRun words name workers

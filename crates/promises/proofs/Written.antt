@@ -5,10 +5,11 @@ use Rattle.node_kit.specs.declared.course.Kept.{Kept}
 use Rattle.run_report.specs.Text.{report_text, summary_text}
 use Rattle.outside.specs.Written.{SinkState}
 use Rattle.outside.specs.Memory.{MemorySink, sunk_in}
-use Rattle.tiger_run.specs.declared.status.Status.{Status}
-use Rattle.tiger_run.specs.declared.status.Status.TheVariants as statuses
-use Rattle.tiger_run.specs.Words.{IsRun, IsMake}
-use Rattle.tiger_run.specs.Ending.{text_for, IsWritten, OutOfMemory, EndsSink}
+use Rattle.tiger_input.specs.declared.status.Status.{Status}
+use Rattle.tiger_input.specs.declared.status.Status.TheVariants as statuses
+use Rattle.tiger_input.specs.Words.{IsRun, IsMake}
+use Rattle.tiger_input.specs.Ending.{IsWritten, OutOfMemory, EndsSink}
+use Rattle.tiger_run.specs.Ending.{text_for}
 use Rattle.tiger_run.proofs.Endings.{text_for-run, text_for-make}
 use Rattle.promises.specs.Calls.{IsRefused}
 use Rattle.promises.specs.Kept.{IsFrontWritten}

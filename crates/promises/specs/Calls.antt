@@ -9,9 +9,10 @@ use Rattle.scenario_read.specs.Fault.{broken}
 use Rattle.scenario_read.specs.Meaning.{Said, meaning}
 use Rattle.outside.specs.Told.{Told, bytes, absent}
 use Rattle.outside.specs.Memory.{MemoryFiles, Entries, told_of}
-use Rattle.tiger_run.specs.declared.status.Status.{Status}
-use Rattle.tiger_run.specs.declared.status.Status.TheVariants as statuses
-use Rattle.tiger_run.specs.Inputs.{most_scenario, most_files, names_of}
+use Rattle.tiger_input.specs.declared.status.Status.{Status}
+use Rattle.tiger_input.specs.declared.status.Status.TheVariants as statuses
+use Rattle.tiger_input.specs.Inputs.{most_scenario, most_files, names_of}
+use Rattle.tiger_input.specs.Tellings.{AreMoreThan}
 
 -- ---- the words
 
@@ -69,10 +70,6 @@ pub record IsToldScenario (entries : Entries) (name : List ℕ) (P : Said → Ty
 abbrev pub IsFileOf : Entries → ℕ → (Told → Type 0) → Said → Type 0
 IsFileOf entries file P said =
     (name : List ℕ) × (slice_get (names_of said.files) file ≡ Some name) × P (told_of entries name)
-
--- more bytes are told than may be
-abbrev pub AreMoreThan : ℕ → Told → Type 0
-AreMoreThan most told = (content : List ℕ) × (told ≡ bytes content) × (most < length content)
 
 -- the bytes of the files are told, and the first empty one breaks the rule that no file is empty
 abbrev pub IsEmptyFile : Entries → ScenarioFault → Said → Type 0

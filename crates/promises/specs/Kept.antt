@@ -11,13 +11,11 @@ use Rattle.scenario_read.specs.declared.scenario.Scenario.{Scenario}
 use Rattle.scenario_read.specs.Meaning.{said_by, meaning}
 use Rattle.scenario_read.specs.Sound.{IsScenario}
 use Rattle.scenario_make.specs.Made.{made_scenario, made_library}
-use Rattle.ring_facts.specs.Rings.{IsRingRun}
-use Rattle.kept_worlds.specs.Worlds.{IsWorld}
+use Rattle.tiger_run.specs.Ending.{IsRingRun, IsWorld, IsAskedRun}
 use Rattle.run_report.specs.Text.{report_text}
 use Rattle.outside.specs.Told.{Told, bytes, FilesState}
 use Rattle.outside.specs.Memory.{MemoryFiles, MemorySink, told_of}
-use Rattle.tiger_run.specs.Inputs.{most_scenario, names_of}
-use Rattle.tiger_run.specs.Ending.{IsAskedRun}
+use Rattle.tiger_input.specs.Inputs.{most_scenario, names_of}
 use Rattle.promises.specs.Calls.{AskForRun}
 
 -- ---- what it says

@@ -21,7 +21,7 @@ use Rattle.proof_controller.specs.Orders.{AreCounted}
 use Rattle.proof_facts.specs.Rings.{node_count, IsDiskOf, IsUpTo}
 use Rattle.proof_facts.specs.Rings.{AreOfCatalogue, HaveImages}
 use Rattle.proof_journals.specs.Journals.{AreJournalsOf}
-use Rattle.proof_parcels.specs.Parcels.{HaveFaults}
+use Rattle.proof_ring.specs.ClaimsOfRings.{HaveFaults}
 use Rattle.proof_ring.specs.Rings.{IsRing}
 use Rattle.proof_ring.specs.Beliefs.{BeliefsAreInTime}
 use Rattle.proof_ring.specs.ClaimsOfRings.{HasOneSchedule, IsNeverWronglyServed}

@@ -1,6 +1,6 @@
 //! How calls over files, an output and a device in memory end, and what is said of it.
 ghost use Rattle.std.specs.Prelude.{◌≡◌, ◌≤◌, IfOk};
-ghost use Rattle.tiger_run.specs.Inputs.{most_earlier};
+ghost use Rattle.tiger_input.specs.Inputs.{most_earlier};
 
 use file_disk::{Device, MemDevice};
 use node_kit::Digest32;
@@ -9,7 +9,7 @@ use std::alloc::Global;
 use std::test::Fail;
 use tiger_base::DiskNo;
 use tiger_disks::{DisksStatus, disks_in, exit_of, line_of, write_disks};
-use tiger_run::Status;
+use tiger_input::Status;
 
 /// The scenario of the file `ten` from disk 0 of eight on, in blocks of four bytes that are cut into two pieces.
 const ONE: &str =

@@ -3,6 +3,8 @@
 #![tactic(auto)]
 
 #[cfg(test)]
+mod checks;
+#[cfg(test)]
 mod commands;
 #[cfg(test)]
 mod disks;
@@ -12,7 +14,5 @@ mod files;
 mod networks;
 #[cfg(test)]
 mod readings;
-#[cfg(test)]
-mod runs;
 #[cfg(test)]
 mod texts;

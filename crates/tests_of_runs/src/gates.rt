@@ -15,7 +15,8 @@ use std::test::Fail;
 use std::thread::Threads;
 use std::{hint, thread};
 use tiger_base::DiskNo;
-use tiger_run::{Status, tiger};
+use tiger_input::Status;
+use tiger_run::tiger;
 
 /// How often a hold looks whether it may end.
 const LOOKS: u64 = 10000000;

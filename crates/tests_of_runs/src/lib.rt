@@ -7,6 +7,8 @@ mod changes;
 #[cfg(test)]
 mod claims;
 #[cfg(test)]
+mod endings;
+#[cfg(test)]
 mod gates;
 #[cfg(test)]
 mod made;

@@ -15,7 +15,7 @@ use std::sync::Wait;
 use std::test::Fail;
 use std::thread::Threads;
 use tiger_base::{Library, MOST_FILE, Visit};
-use tiger_ring::run_ring;
+use tiger_run::run_ring;
 
 /// Eight cubs with sixteen slots.
 pub const SMALL: &str =

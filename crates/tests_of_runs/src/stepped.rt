@@ -14,7 +14,7 @@ use std::sync::Wait;
 use std::test::Fail;
 use std::thread::Threads;
 use tiger_base::{Library, NodeNo};
-use tiger_ring::run_ring;
+use tiger_run::run_ring;
 use world::World;
 
 /// Three workers.

@@ -10,11 +10,11 @@ use Rattle.scenario_disks.specs.Images.{OfScenario, AreInImage, all_lines}
 use Rattle.scenario_disks.specs.Stops.{KeepCause}
 use Rattle.scenario_disks.specs.declared.stop.DisksStop.{DisksStop}
 use Rattle.scenario_disks.specs.declared.stop.DisksStop.TheVariants as stops
-use Rattle.tiger_run.specs.declared.inputs.Inputs.{Inputs}
-use Rattle.tiger_run.specs.declared.status.Status.{Status}
-use Rattle.tiger_run.specs.declared.status.Status.TheVariants as statuses
-use Rattle.tiger_run.specs.Inputs.{AreInputs, InputsCause, MadeCalls}
-use Rattle.tiger_run.specs.Ending.{IsWritten, IsBegun, TextCause}
+use Rattle.tiger_input.specs.declared.inputs.Inputs.{Inputs}
+use Rattle.tiger_input.specs.declared.status.Status.{Status}
+use Rattle.tiger_input.specs.declared.status.Status.TheVariants as statuses
+use Rattle.tiger_input.specs.Inputs.{AreInputs, InputsCause, MadeCalls}
+use Rattle.tiger_input.specs.Ending.{IsWritten, IsBegun, TextCause}
 use Rattle.tiger_disks.specs.Statuses.{status_by_stop, status_by_sink}
 use Rattle.tiger_disks.specs.Ends.{OfInputs, InputEnd, RunEnd, DeviceEnd, SinkEnd, IsInputRefusal}
 use Rattle.tiger_disks.specs.declared.status.DisksStatus.TheVariants as ends

@@ -9,11 +9,11 @@ use Rattle.scenario_read.specs.Fault.{exceeded}
 use Rattle.scenario_read.specs.declared.stop.ScenarioFault.{ScenarioFault}
 use Rattle.scenario_disks.specs.Images.{OfScenario, AreInImage, all_lines, most_parts}
 use Rattle.scenario_disks.specs.Stops.{AreTooMany}
-use Rattle.tiger_run.specs.declared.inputs.Inputs.{Inputs}
-use Rattle.tiger_run.specs.declared.status.Status.{Status}
-use Rattle.tiger_run.specs.declared.status.Status.TheVariants as statuses
-use Rattle.tiger_run.specs.Inputs.{AreInputs, InputsCause, MadeCalls}
-use Rattle.tiger_run.specs.Ending.{IsBegun, PutFailed}
+use Rattle.tiger_input.specs.declared.inputs.Inputs.{Inputs}
+use Rattle.tiger_input.specs.declared.status.Status.{Status}
+use Rattle.tiger_input.specs.declared.status.Status.TheVariants as statuses
+use Rattle.tiger_input.specs.Inputs.{AreInputs, InputsCause, MadeCalls}
+use Rattle.tiger_input.specs.Ending.{IsBegun, PutFailed}
 use Rattle.tiger_disks.specs.Statuses.{parts_rule}
 use Rattle.tiger_disks.specs.declared.status.DisksStatus.{DisksStatus}
 use Rattle.tiger_disks.specs.declared.status.DisksStatus.TheVariants as ends

@@ -6,8 +6,8 @@ use Rattle.scenario_read.specs.Fault.{exceeded}
 use Rattle.scenario_disks.specs.Images.{most_parts}
 use Rattle.scenario_disks.specs.declared.stop.DisksStop.{DisksStop}
 use Rattle.scenario_disks.specs.declared.stop.DisksStop.TheVariants as stops
-use Rattle.tiger_run.specs.Statuses.{worded, line_of, exit_of}
-use Rattle.tiger_run.specs.declared.status.Status.TheVariants as statuses
+use Rattle.tiger_input.specs.Statuses.{worded, line_of, exit_of}
+use Rattle.tiger_input.specs.declared.status.Status.TheVariants as statuses
 use Rattle.tiger_disks.specs.declared.status.DisksStatus.{DisksStatus}
 use Rattle.tiger_disks.specs.declared.status.DisksStatus.TheVariants as ends
 

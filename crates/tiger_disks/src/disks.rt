@@ -3,8 +3,8 @@ ghost use Rattle.std.specs.Prelude.{◌≡◌, ◌+◌, ◌^◌, ◌≤◌, OnOk
 ghost use Rattle.outside.specs.Written.{most_faults};
 ghost use Rattle.file_disk.specs.Devices.{most_counted};
 ghost use Rattle.scenario_disks.specs.Images.{AreInImage, all_lines};
-ghost use Rattle.tiger_run.specs.Inputs.{most_earlier, most_reads};
-ghost use Rattle.tiger_run.specs.Ending.{IsWritten};
+ghost use Rattle.tiger_input.specs.Inputs.{most_earlier, most_reads};
+ghost use Rattle.tiger_input.specs.Ending.{IsWritten};
 ghost use Rattle.tiger_disks.specs.Ends.{OfInputs, InputEnd, DeviceEnd, SinkEnd, IsInputRefusal, IsSilent};
 
 use crate::status::DisksStatus;
@@ -12,7 +12,7 @@ use file_disk::Device;
 use outside::{Files, Sink};
 use scenario_disks::keep_disks;
 use std::alloc::Global;
-use tiger_run::{put_lines, read_inputs};
+use tiger_input::{put_lines, read_inputs};
 
 /// Reads the scenario of a name and its files, as `run` does, stores its disks in an image of the device, one behind the
 /// other, reads each of their parts once, and writes a line for each disk. An `Err` says why not all of that was done.

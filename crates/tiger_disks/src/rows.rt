@@ -3,7 +3,7 @@
 ghost use Rattle.std.specs.Prelude.{◌≡◌, ◌++◌, ◌∷◌, [], true, false, None, codes};
 ghost use Rattle.std.specs.Fmt.{decimal};
 ghost use Rattle.scenario_disks.specs.declared.stop.DisksStop.TheVariants as stops;
-ghost use Rattle.tiger_run.specs.declared.status.Status.TheVariants as statuses;
+ghost use Rattle.tiger_input.specs.declared.status.Status.TheVariants as statuses;
 ghost use Rattle.tiger_disks.specs.declared.status.DisksStatus.TheVariants as ends;
 ghost use Rattle.tiger_disks.specs.Words.{AsksDisks, IsNoDisks};
 ghost use Rattle.tiger_disks.specs.Statuses.{disks_exit, damaged_line, status_by_stop};

@@ -1,6 +1,6 @@
 //! How the command ended, as it is said on standard error and by the exit status.
 ghost use Rattle.std.specs.Prelude.{◌≡◌, ◌++◌, IfOk, OnOk, codes, string_bytes};
-ghost use Rattle.tiger_run.specs.Statuses.{IsPushed, worded};
+ghost use Rattle.tiger_input.specs.Statuses.{IsPushed, worded};
 ghost use Rattle.tiger_disks.specs.Statuses.{disks_line, disks_exit, damaged_line, status_by_stop, status_by_sink};
 ghost use Rattle.tiger_disks.specs.declared.status.DisksStatus.TheVariants as ends;
 
@@ -11,7 +11,7 @@ use scenario_read::ScenarioFault;
 use std::alloc::{AllocError, Global};
 use std::fmt::Write;
 use tiger_base::DiskNo;
-use tiger_run::Status;
+use tiger_input::Status;
 
 /// How the command ended.
 #[derive(Clone, Copy, Debug, PartialEq, Eq)]
@@ -112,7 +112,7 @@ pub fn line_of(alloc: Global, status: &DisksStatus) -> Result<String, AllocError
     ensures { IfOk result (λ line. string_bytes line ≡ disks_line status.now) }
 {
     match status {
-        DisksStatus::Run(status) => tiger_run::line_of(alloc, status),
+        DisksStatus::Run(status) => tiger_input::line_of(alloc, status),
         DisksStatus::Device => text_of(alloc, "tiger: device\n"),
         DisksStatus::Damaged { disk, at, .. } => damaged_line(alloc, disk.0, *at),
         DisksStatus::ImageExists => text_of(alloc, "tiger: image exists\n"),
@@ -124,7 +124,7 @@ pub fn exit_of(status: &DisksStatus) -> u8
     ensures { result ≡ disks_exit status.now }
 {
     match status {
-        DisksStatus::Run(status) => tiger_run::exit_of(status),
+        DisksStatus::Run(status) => tiger_input::exit_of(status),
         DisksStatus::Device => 11,
         DisksStatus::Damaged { .. } => 12,
         DisksStatus::ImageExists => 14,

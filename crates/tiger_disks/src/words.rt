@@ -1,6 +1,6 @@
 //! The words `disks NAME IMAGE`, and `--force` behind them.
 ghost use Rattle.std.specs.Prelude.{◌≡◌, ◌↔◌, MatchOption, IsTrue, true, false, codes};
-ghost use Rattle.tiger_run.specs.Words.{texts_of};
+ghost use Rattle.tiger_input.specs.Words.{texts_of};
 ghost use Rattle.tiger_disks.specs.Words.{AsksDisks, AsksNone, IsNoDisks};
 
 /// What the words ask for: the scenario's name, the image's, and whether one that exists is written over.

@@ -3,10 +3,10 @@ use Rattle.std.proofs.Common.{ℕ, List, None, refl}
 use Rattle.node_kit.specs.declared.course.Kept.{Kept}
 use Rattle.outside.specs.Told.{FilesState}
 use Rattle.outside.specs.Written.{SinkState}
-use Rattle.tiger_run.specs.declared.status.Status.{Status}
-use Rattle.tiger_run.specs.declared.status.Status.TheVariants as statuses
-use Rattle.tiger_run.specs.Inputs.{InputsCause}
-use Rattle.tiger_run.specs.Ending.{EndsInputs, EndsSink, Wrote}
+use Rattle.tiger_input.specs.declared.status.Status.{Status}
+use Rattle.tiger_input.specs.declared.status.Status.TheVariants as statuses
+use Rattle.tiger_input.specs.Inputs.{InputsCause}
+use Rattle.tiger_input.specs.Ending.{EndsInputs, EndsSink, Wrote}
 
 -- an input was refused, or there was no memory for the run
 pub refused_ends : (status : Status) (name : List ℕ) (old new : FilesState) → InputsCause name old new status → EndsInputs name old new status

@@ -2,11 +2,12 @@
 ghost use Rattle.std.specs.Prelude.{◌≡◌, ◌+◌, ◌≤◌, ◌⊎◌, IfSome};
 ghost use Rattle.outside.specs.Written.{most_faults};
 ghost use Rattle.audit_text.specs.Texts.{text_of};
-ghost use Rattle.tiger_run.specs.Inputs.{most_reads, most_earlier};
-ghost use Rattle.tiger_run.specs.Ending.{EndsInputs, EndsSink, IsNamedRun, IsRefusal};
-ghost use Rattle.tiger_run.specs.Answers.{TellsAll};
-ghost use Rattle.tiger_run.specs.Runnable.{IsRunnable, NoReadFailed, NoPutFailed};
-ghost use Rattle.tiger_run.specs.declared.status.Status.TheVariants as statuses;
+ghost use Rattle.tiger_input.specs.Inputs.{most_reads, most_earlier};
+ghost use Rattle.tiger_input.specs.Tellings.{TellsAll};
+ghost use Rattle.tiger_input.specs.Ending.{EndsInputs, EndsSink, IsRefusal};
+ghost use Rattle.tiger_run.specs.Ending.{IsNamedRun};
+ghost use Rattle.tiger_input.specs.Runnable.{IsRunnable, NoReadFailed, NoPutFailed};
+ghost use Rattle.tiger_input.specs.declared.status.Status.TheVariants as statuses;
 ghost use Rattle.tiger_journal.specs.Answers.{IsTheNamedRun};
 
 use audit_text::write_kept;
@@ -15,7 +16,8 @@ use outside::{Files, Sink};
 use std::alloc::Global;
 use std::sync::Wait;
 use std::thread::Threads;
-use tiger_run::{Ended, Status, named_run, refused, written};
+use tiger_input::{Status, written};
+use tiger_run::{Ended, named_run, refused};
 
 /// Runs the scenario of a name by so many workers, as `run` does, and writes what is kept of it as a text in the place of
 /// the report. The call may wait for a thread.

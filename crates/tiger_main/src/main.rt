@@ -9,7 +9,7 @@ use std::process::ExitCode;
 use std::sync::Wait;
 use std::thread::Threads;
 use std::{env, fs, io, rt};
-use tiger_run::Status;
+use tiger_input::Status;
 use tiger_top::{TopStatus, exit_of, line_of, tiger_top};
 
 const HELP: &str = "tiger: a video fileserver whose schedule no machine holds
@@ -21,6 +21,10 @@ usage: tiger run NAME W      run the scenario of the file NAME with W workers, 1
        tiger disks NAME IMAGE [--force]
                              store the disks of a scenario in the file IMAGE, and read
                              each of their parts; --force: over what IMAGE holds
+       tiger check NAME      run nothing, and say of a scenario its counts, the memory of
+                             its run and warnings, or all false conditions of its plan
+       tiger audit NAME      read the journals of a run from the file NAME, and say
+                             whether the run meets the twelve clauses
        tiger --help          this text
        tiger --version       the version
 
@@ -29,6 +33,8 @@ examples: tiger run one.json 2
           tiger journal one.json 2
           tiger net net.json
           tiger disks one.json one.img
+          tiger check one.json
+          tiger audit one.journal
 ";
 
 const VERSION: &str = "tiger 0.1.0\n";

@@ -1,23 +1,23 @@
 -- There is one answer to the same words over files of which the same is told.
 use Rattle.std.proofs.Common.{◌≡◌, ℕ, List, [], ◌∷◌, length, refl, ap, sym, subst, inl, inr, ◌∙◌, ⊎_elim, arith}
-use Rattle.std.specs.Prelude.{Result, Ok, ◌⊎◌, codes, Option, Some, None, IfSome}
+use Rattle.std.specs.Prelude.{codes, Option, Some, None, IfSome}
 use Rattle.std.specs.Fmt.{decimal}
 use Rattle.std.proofs.lemmas.Fmt.{decimal_injective}
 use Rattle.node_kit.specs.declared.course.Kept.{Kept}
 use Rattle.outside.specs.Told.{Told, FilesState, AreTold, bytes, absent, untold}
 use Rattle.scenario_read.specs.declared.scenario.Scenario.{Scenario}
-use Rattle.scenario_read.specs.declared.stop.ScenarioFault.{ScenarioFault}
-use Rattle.scenario_read.specs.Meaning.{Said, meaning}
-use Rattle.ring_facts.specs.Rings.{IsRingRun}
+use Rattle.scenario_read.specs.Meaning.{meaning}
+use Rattle.tiger_run.specs.Ending.{IsRingRun, IsRunOf, IsNamedRun, IsMadeRun, IsAskedRun, text_for}
 use Rattle.proof_answer.proofs.Scenarios.{scenarios_are_what_they_say}
 use Rattle.scenario_make.specs.Made.{made_library}
-use Rattle.tiger_run.specs.declared.inputs.Inputs.{Inputs}
-use Rattle.tiger_run.specs.Words.{IsRun, IsMake}
-use Rattle.tiger_run.specs.Inputs.{AreFirst, AreInputs, names_of}
-use Rattle.tiger_run.specs.Ending.{IsRunOf, IsNamedRun, IsMadeRun, IsAskedRun, text_for}
-use Rattle.tiger_run.specs.Answers.{TellsAll, AskTheSame, IsTheAnswer}
+use Rattle.tiger_input.specs.declared.inputs.Inputs.{Inputs}
+use Rattle.tiger_input.specs.Words.{IsRun, IsMake}
+use Rattle.tiger_input.specs.Inputs.{AreFirst, AreInputs, names_of}
+use Rattle.tiger_input.specs.Tellings.{TellsAll}
+use Rattle.tiger_run.specs.Answers.{AskTheSame, IsTheAnswer}
 use Rattle.tiger_run.proofs.Endings.{text_for-run, text_for-make}
-use Rattle.tiger_run.proofs.WordLists.{IsRun-name}
+use Rattle.tiger_input.proofs.Readings.{ok_said}
+use Rattle.tiger_input.proofs.WordLists.{IsRun-name}
 
 -- what is told of a name is one list of bytes, if something is told of it
 told_once : (t : Told) (a b : List ℕ) → (t ≡ untold → ⊥) → AreTold t a → AreTold t b → a ≡ b
@@ -35,12 +35,6 @@ first_once told (n ∷ ns) (a ∷ xs) (b ∷ ys) all one two same =
     rw (told_once (told n) a b (all n) one.0 two.0, first_once told ns xs ys all one.1 two.1 (omega (arith, same))) refl
 
 -- the inputs of one name are one
-abbrev pub said_ok : Said → Result Said ScenarioFault
-said_ok s = Ok s
-
-pub ok_said : (s t : Said) → said_ok s ≡ said_ok t → s ≡ t
-ok_said s t e = cc
-
 scenario_once : (told : List ℕ → Told) (name : List ℕ) (i j : Inputs) → TellsAll told → AreInputs told name i → AreInputs told name j → i.scenario ≡ j.scenario
 scenario_once told name i j all a b =
     let same : a.bytes ≡ b.bytes = told_once (told name) a.bytes b.bytes (all name) a.read.0 b.read.0 in

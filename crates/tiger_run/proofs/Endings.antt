@@ -7,14 +7,14 @@ use Rattle.scenario_read.specs.declared.scenario.ScEvent.TheVariants as event
 use Rattle.scenario_read.specs.declared.scenario.Scenario.{Scenario}
 use Rattle.scenario_read.specs.Orders.{orders_from}
 use Rattle.scenario_read.specs.Sound.{IsScenario}
-use Rattle.ring_facts.specs.Rings.{IsRingRun}
+use Rattle.tiger_run.specs.Ending.{IsRingRun, text_for}
 use Rattle.outside.specs.Told.{FilesState}
 use Rattle.outside.specs.Written.{SinkState}
-use Rattle.tiger_run.specs.declared.status.Status.TheVariants as statuses
+use Rattle.tiger_input.specs.declared.status.Status.TheVariants as statuses
 use Rattle.run_report.specs.Text.{report_text, summary_text}
-use Rattle.tiger_run.specs.declared.status.Status.{Status}
-use Rattle.tiger_run.specs.Words.{IsRun, IsMake, IsNoCommand}
-use Rattle.tiger_run.specs.Ending.{text_for, IsWritten, IsBegun, Wrote, EndsSink, EndsInputs}
+use Rattle.tiger_input.specs.declared.status.Status.{Status}
+use Rattle.tiger_input.specs.Words.{IsRun, IsMake, IsNoCommand}
+use Rattle.tiger_input.specs.Ending.{IsWritten, IsBegun, Wrote, EndsSink, EndsInputs}
 
 -- as many orders as events
 pub length-orders_from : (c : Catalogue) (n : ℕ) (events : List ScEvent) → length (orders_from c n events) ≡ length events

@@ -1,10 +1,3 @@
-pub mod DecimalLemmas
-pub mod WordLists
-pub mod Texts
-pub mod LastFeeds
-pub mod Puts
-pub mod Readings
 pub mod Endings
-pub mod Completeness
 pub mod Answering
 pub mod Samples

@@ -1,13 +1,9 @@
 -- That there is one answer: what the words and the files told determine, whoever runs the ring and with how many workers.
 use Rattle.std.specs.Prelude.{◌≡◌, ℕ, List, ◌⊎◌}
 use Rattle.node_kit.specs.declared.course.Kept.{Kept}
-use Rattle.outside.specs.Told.{Told, FilesState, untold}
-use Rattle.tiger_run.specs.Words.{IsRun, IsMake}
+use Rattle.outside.specs.Told.{Told, FilesState}
+use Rattle.tiger_input.specs.Words.{IsRun, IsMake}
 use Rattle.tiger_run.specs.Ending.{IsAskedRun, text_for}
-
--- of every name something is told: its bytes, or that there is no such file
-abbrev pub TellsAll : (List ℕ → Told) → Type 0
-TellsAll told = (name : List ℕ) → told name ≡ untold → ⊥
 
 -- words that ask for the same: for the scenario of one name, with whatever numbers of workers, or for that of one number
 abbrev pub AskTheSame : List (List ℕ) → List (List ℕ) → Type 0

@@ -2,16 +2,15 @@
 ghost use Rattle.std.specs.Prelude.{◌≡◌, ◌+◌, ◌≤◌, ◌<◌, length, IfOk, IfErr};
 ghost use Rattle.run_report.specs.Text.{kept_outcomes};
 ghost use Rattle.run_report.specs.declared.TheConstants.{ORDERS_LIMIT};
-ghost use Rattle.tiger_run.specs.Inputs.{InputsCause, most_reads, most_earlier};
+ghost use Rattle.tiger_input.specs.Inputs.{InputsCause, most_reads, most_earlier};
 ghost use Rattle.tiger_run.specs.Ending.{IsNamedRun};
 
-use crate::inputs::{Inputs, read_inputs};
-use crate::status::Status;
 use node_kit::Gate;
 use outside::Files;
 use std::alloc::Global;
 use std::sync::Wait;
 use std::thread::Threads;
+use tiger_input::{Inputs, Status, read_inputs};
 use tiger_ring::{RingRun, run_with_outcomes};
 
 /// Reads the scenario of a name and its files, and runs it by so many workers. Nothing of the run is written: that is

@@ -2,27 +2,23 @@
 ghost use Rattle.std.specs.Prelude.{◌≡◌, ◌+◌, ◌≤◌, ◌↔◌, ◌⊎◌, ℕ, IsSomeAnd, IfSome};
 ghost use Rattle.outside.specs.Written.{most_faults};
 ghost use Rattle.run_report.specs.Text.{report_text, summary_text};
-ghost use Rattle.tiger_run.specs.Words.{IsMake, IsNoRun, IsNoCommand, texts_of};
-ghost use Rattle.tiger_run.specs.Inputs.{most_reads, most_earlier};
-ghost use Rattle.tiger_run.specs.Runnable.{IsRunnableCommand, NoReadFailed, NoPutFailed};
-ghost use Rattle.tiger_run.specs.Ending.{IsNamedRun, IsMadeRun, IsAskedRun, IsRefusal};
-ghost use Rattle.tiger_run.specs.Ending.{text_for, IsWritten, Wrote, EndsSink};
-ghost use Rattle.tiger_run.specs.Ending.{EndsInputs, InputCause};
-ghost use Rattle.tiger_run.specs.Answers.{TellsAll, IsTheAnswer};
+ghost use Rattle.tiger_input.specs.Words.{IsMake, IsNoRun, IsNoCommand, texts_of};
+ghost use Rattle.tiger_input.specs.Inputs.{most_earlier, most_reads};
+ghost use Rattle.tiger_input.specs.Tellings.{TellsAll};
+ghost use Rattle.tiger_input.specs.Runnable.{IsRunnableCommand, NoReadFailed, NoPutFailed};
+ghost use Rattle.tiger_run.specs.Ending.{IsNamedRun, IsMadeRun, IsAskedRun, text_for};
+ghost use Rattle.tiger_input.specs.Ending.{EndsInputs, EndsSink, InputCause, IsRefusal, IsWritten};
+ghost use Rattle.tiger_run.specs.Answers.{IsTheAnswer};
 
 use crate::named::named_run;
-use crate::status::Status;
-use crate::words::{Command, command_in};
-use crate::writing::put_lines;
 use node_kit::{Gate, Kept};
-use outside::{Files, Sink, SinkFault};
+use outside::{Files, Sink};
 use run_report::{report_of, summary_of};
 use scenario_make::{Made, make};
-use scenario_read::Scenario;
 use std::alloc::Global;
 use std::sync::Wait;
 use std::thread::Threads;
-use tiger_base::Library;
+use tiger_input::{Command, Status, command_in, written};
 use tiger_ring::run_with_outcomes;
 
 /// How a run ended, and what was kept of it.
@@ -37,19 +33,6 @@ pub fn refused(status: Status) -> Ended
     ensures { result ≡ record { status = status; kept = None } }
 {
     Ended { status, kept: None }
-}
-
-/// Writes a text, and says how that ended.
-pub fn written<K: Sink>(out: &mut K, text: &[u8]) -> Status
-    requires { (K.state out.old).faults ≤ most_faults }
-    ensures wrote { Wrote (K.state out.old) (K.state out.new) text.now result }
-    ensures one_fault { (K.state out.new).faults ≤ (K.state out.old).faults + 1 }
-{
-    match put_lines(out, text) {
-        Ok(()) => Status::Done,
-        Err(SinkFault::Failed) => Status::WriteFault,
-        Err(SinkFault::NoMemory) => Status::NoMemory,
-    }
 }
 
 /// Runs the scenario of a name by so many workers, and writes its report.

@@ -1,6 +1,6 @@
 -- Which words are for `tiger` to answer, and which of them it refuses.
 use Rattle.std.proofs.Common.{◌≡◌, ℕ, List, [], length, get_or, refl, ap, arith}
-use Rattle.tiger_run.specs.Words.{IsNoCommand}
+use Rattle.tiger_input.specs.Words.{IsNoCommand}
 use Rattle.tiger_disks.proofs.Asked.{no_disks}
 use Rattle.tiger_top.specs.Commands.{AreTigers, AsksJournal, IsNoTopCommand}
 use Rattle.tiger_top.specs.Samples.{journal_words}
@@ -11,14 +11,17 @@ first_letter words = get_or (get_or words 0 []) 0 0
 abbrev count : List (List ℕ) → ℕ
 count words = length words
 
--- neither two words of which the first begins as `net` does, nor three of which it begins as `journal` does, nor any of which it begins
--- as `disks` does
+-- neither two words of which the first begins as `net`, as `check` or as `audit` does, nor three of which it begins as `journal` does, nor any
+-- of which it begins as `disks` does
 pub tigers_by : (words : List (List ℕ)) → (count words ≡ 2 → first_letter words ≡ 110 → ⊥) → (count words ≡ 3 → first_letter words ≡ 106 → ⊥)
-    → (first_letter words ≡ 100 → ⊥) → AreTigers words
-tigers_by words no_n no_j no_d = record {
+    → (first_letter words ≡ 100 → ⊥) → (count words ≡ 2 → first_letter words ≡ 99 → ⊥)
+    → (count words ≡ 2 → first_letter words ≡ 97 → ⊥) → AreTigers words
+tigers_by words no_n no_j no_d no_c no_a = record {
   no_net = λ name net. no_n (ap count net) (ap first_letter net);
   no_journal = λ name workers journal. no_j (ap count journal.form) (ap first_letter journal.form);
   no_disks = λ name image over disks. no_d (ap first_letter disks);
+  no_check = λ name check. no_c (ap count check) (ap first_letter check);
+  no_audit = λ name audit. no_a (ap count audit) (ap first_letter audit);
 }
 
 -- a word behind the image has the length of `--force`
@@ -34,6 +37,8 @@ refused_disks words d no_p no_f = record {
     no_journal = λ name workers journal. (let j = ap first_letter journal.form in omega (arith, j, d));
     no_disks = no_disks words (λ name image plain. no_p (ap count plain))
         (λ name image forced. no_f (ap count forced) (ap fourth_length forced));
+    no_check = λ name check. (let k = ap first_letter check in omega (arith, k, d));
+    no_audit = λ name audit. (let a = ap first_letter audit in omega (arith, a, d));
   };
   none = record {
     no_run = λ name workers run. (let r = ap first_letter run.form in omega (arith, r, d));

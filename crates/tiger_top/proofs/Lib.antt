@@ -1,2 +1,4 @@
 pub mod Asked
+pub mod Audits
+pub mod Checks
 pub mod Plans

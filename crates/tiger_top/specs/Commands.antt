@@ -2,8 +2,10 @@
 use Rattle.std.specs.Prelude.{◌≡◌, ℕ, ◌≤◌, Bool, List, [], ◌∷◌, codes, String, Vec}
 use Rattle.std.specs.Fmt.{decimal}
 use Rattle.std.specs.declared.alloc.Global.{Global}
-use Rattle.tiger_run.specs.Words.{IsNoCommand, most_workers, texts_of}
+use Rattle.tiger_input.specs.Words.{IsNoCommand, most_workers, texts_of}
 use Rattle.tiger_disks.specs.Words.{AsksDisks, IsNoDisks}
+use Rattle.tiger_audit.specs.Words.{AsksAudit, IsNoAudit}
+use Rattle.tiger_check.specs.Words.{AsksCheck, IsNoCheck}
 use Rattle.tiger_top.specs.declared.commands.TopCommand.{TopCommand}
 use Rattle.tiger_top.specs.declared.commands.TopCommand.TheVariants as command
 
@@ -28,6 +30,8 @@ pub record AreTigers (words : List (List ℕ)) : Type 0 where
   pub no_net : IsNoNet words
   pub no_journal : AsksNoJournal words
   pub no_disks : IsNoDisks words
+  pub no_check : IsNoCheck words
+  pub no_audit : IsNoAudit words
 
 -- the words are no command at all
 pub record IsNoTopCommand (words : List (List ℕ)) : Type 0 where
@@ -40,6 +44,8 @@ AsksTop words command.Tiger = AreTigers words
 AsksTop words (command.Net name) = IsNet words name.now
 AsksTop words (command.Journal name workers) = AsksJournal words name.now workers
 AsksTop words (command.Disks name image over) = AsksDisks words name.now image.now over
+AsksTop words (command.Check name) = AsksCheck words name.now
+AsksTop words (command.Audit name) = AsksAudit words name.now
 
 -- ---- what is said of a call by the command that its words ask for
 
@@ -61,6 +67,14 @@ abbrev pub IfDisks : Vec (String Global) Global → (List ℕ → Bool → Type 
 IfDisks words P =
     (name image : List ℕ) (over : Bool) → AsksDisks (texts_of words.items) name image over → P name over
 
--- if they are none of these, this holds
+-- if they are not so for any names, this holds
 abbrev pub IfNoDisks : Vec (String Global) Global → Type 0 → Type 0
 IfNoDisks words P = IsNoDisks (texts_of words.items) → P
+
+-- if they are `check NAME`, this holds of the name
+abbrev pub IfCheck : Vec (String Global) Global → (List ℕ → Type 0) → Type 0
+IfCheck words P = (name : List ℕ) → AsksCheck (texts_of words.items) name → P name
+
+-- if they are `audit NAME`, this holds of the name
+abbrev pub IfAudit : Vec (String Global) Global → (List ℕ → Type 0) → Type 0
+IfAudit words P = (name : List ℕ) → AsksAudit (texts_of words.items) name → P name

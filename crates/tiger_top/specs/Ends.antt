@@ -11,8 +11,8 @@ use Rattle.tiger_net.specs.Stops.{StopCause, BreaksNetRule, rule_number}
 use Rattle.file_disk.specs.Devices.{DeviceState}
 use Rattle.stored_disks.specs.Disks.{Disks}
 use Rattle.scenario_disks.specs.Images.{AreInImage, all_lines}
-use Rattle.tiger_run.specs.declared.status.Status.TheVariants as statuses
-use Rattle.tiger_run.specs.Ending.{IsWritten, IsBegun, PutFailed}
+use Rattle.tiger_input.specs.declared.status.Status.TheVariants as statuses
+use Rattle.tiger_input.specs.Ending.{IsWritten, IsBegun, PutFailed}
 use Rattle.tiger_top.specs.declared.status.TopStatus.{TopStatus}
 use Rattle.tiger_top.specs.declared.status.TopStatus.TheVariants as tops
 
@@ -32,6 +32,9 @@ NetCause name old new (tops.Net rule) = BreaksNumbered (old.told name) rule
 NetCause name old new tops.Device = ⊥
 NetCause name old new (tops.Damaged disk at kept found) = ⊥
 NetCause name old new tops.ImageExists = ⊥
+NetCause name old new (tops.Unsound fault) = ⊥
+NetCause name old new (tops.Journal line) = ⊥
+NetCause name old new (tops.Audit c here line) = ⊥
 NetCause name old new _ = Unit {0}
 
 -- What was written with each status: all lines of the plan that was read of its file, or a front of them, or nothing.

@@ -11,6 +11,14 @@ nets name = codes "net" ∷ name ∷ []
 abbrev pub journal_words : List ℕ → ℕ → List (List ℕ)
 journal_words name workers = codes "journal" ∷ name ∷ decimal workers ∷ []
 
+-- the words to check the scenario of a name
+abbrev pub check_words : List ℕ → List (List ℕ)
+check_words name = codes "check" ∷ name ∷ []
+
+-- the words to audit the text of a name
+abbrev pub audit_words : List ℕ → List (List ℕ)
+audit_words name = codes "audit" ∷ name ∷ []
+
 -- an output that tells these bytes, with this number of faults
 abbrev pub sunk : List ℕ → ℕ → SinkState
 sunk written faults = record { written = Some written; faults = faults }

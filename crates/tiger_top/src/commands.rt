@@ -1,11 +1,15 @@
 //! Which command the words are.
 ghost use Rattle.std.specs.Prelude.{◌≡◌, ◌↔◌, MatchOption, IsTrue, codes};
-ghost use Rattle.tiger_run.specs.Words.{texts_of};
+ghost use Rattle.tiger_input.specs.Words.{texts_of};
+ghost use Rattle.tiger_audit.specs.Words.{IsNoAudit};
+ghost use Rattle.tiger_check.specs.Words.{IsNoCheck};
 ghost use Rattle.tiger_disks.specs.Words.{IsNoDisks};
 ghost use Rattle.tiger_top.specs.Commands.{AsksTop, IsNet, IsNoNet, AsksJournal, AsksNoJournal};
 
+use tiger_audit::audit_in;
+use tiger_check::check_in;
 use tiger_disks::{DisksWords, disks_in};
-use tiger_run::workers_of;
+use tiger_input::workers_of;
 
 /// What the words ask for.
 #[derive(Clone, Copy, Debug)]
@@ -26,6 +30,14 @@ pub enum TopCommand<'a> {
         name: &'a str,
         image: &'a str,
         over: bool,
+    },
+    /// To say of the scenario of the file `name` what can be said before a run.
+    Check {
+        name: &'a str,
+    },
+    /// To judge the run that the text of the file `name` keeps.
+    Audit {
+        name: &'a str,
     },
 }
 
@@ -79,6 +91,8 @@ fn journal_in(words: &[String]) -> Option<(&str, u32)>
 /// The command that the words are, if they are `journal NAME W` or one of `tiger`.
 fn ring_command_in(words: &[String]) -> TopCommand<'_>
     requires no_net { IsNoNet (texts_of words.now) }
+    requires no_check { IsNoCheck (texts_of words.now) }
+    requires no_audit { IsNoAudit (texts_of words.now) }
     requires no_disks { IsNoDisks (texts_of words.now) }
     ensures { AsksTop (texts_of words.now) result }
 {
@@ -88,14 +102,39 @@ fn ring_command_in(words: &[String]) -> TopCommand<'_>
     }
 }
 
-/// The command that the words are, if they are not `net NAME`.
+/// The command that the words are, if they are none of `net NAME`, `check NAME` and `audit NAME`.
 fn disk_command_in(words: &[String]) -> TopCommand<'_>
-    requires { IsNoNet (texts_of words.now) }
+    requires no_net { IsNoNet (texts_of words.now) }
+    requires no_check { IsNoCheck (texts_of words.now) }
+    requires no_audit { IsNoAudit (texts_of words.now) }
     ensures { AsksTop (texts_of words.now) result }
 {
     match disks_in(words) {
         Some(DisksWords { name, image, over }) => TopCommand::Disks { name, image, over },
         None => ring_command_in(words),
+    }
+}
+
+/// The command that the words are, if they are neither `net NAME` nor `check NAME`.
+fn audit_command_in(words: &[String]) -> TopCommand<'_>
+    requires no_net { IsNoNet (texts_of words.now) }
+    requires no_check { IsNoCheck (texts_of words.now) }
+    ensures { AsksTop (texts_of words.now) result }
+{
+    match audit_in(words) {
+        Some(name) => TopCommand::Audit { name },
+        None => disk_command_in(words),
+    }
+}
+
+/// The command that the words are, if they are not `net NAME`.
+fn check_command_in(words: &[String]) -> TopCommand<'_>
+    requires { IsNoNet (texts_of words.now) }
+    ensures { AsksTop (texts_of words.now) result }
+{
+    match check_in(words) {
+        Some(name) => TopCommand::Check { name },
+        None => audit_command_in(words),
     }
 }
 
@@ -105,6 +144,6 @@ pub fn top_command_in(words: &[String]) -> TopCommand<'_>
 {
     match net_in(words) {
         Some(name) => TopCommand::Net { name },
-        None => disk_command_in(words),
+        None => check_command_in(words),
     }
 }

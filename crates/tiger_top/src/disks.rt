@@ -2,7 +2,7 @@
 ghost use Rattle.std.specs.Prelude.{◌≡◌, ◌+◌, ◌^◌, ◌≤◌};
 ghost use Rattle.outside.specs.Written.{most_faults};
 ghost use Rattle.file_disk.specs.Devices.{most_counted};
-ghost use Rattle.tiger_run.specs.Inputs.{most_earlier, most_reads};
+ghost use Rattle.tiger_input.specs.Inputs.{most_earlier, most_reads};
 ghost use Rattle.tiger_disks.specs.Ends.{OfInputs, InputEnd, DeviceEnd, SinkEnd, IsInputRefusal};
 ghost use Rattle.tiger_top.specs.Statuses.{IfDisksStopped, IsDone, IsTopRefusal, status_of};
 ghost use Rattle.tiger_top.specs.Ends.{AreStored};

@@ -1,6 +1,8 @@
 //! All commands of the program as one call: words, files and an output go in, and how the command ended comes out.
 #![tactic(auto)]
 
+mod audit;
+mod check;
 mod commands;
 mod disks;
 mod net;

@@ -1,15 +1,15 @@
 //! The command `net NAME`.
 ghost use Rattle.std.specs.Prelude.{◌≡◌, ◌+◌, ◌≤◌};
 ghost use Rattle.outside.specs.Written.{most_faults};
-ghost use Rattle.tiger_run.specs.Inputs.{MadeCalls, most_earlier};
+ghost use Rattle.tiger_input.specs.Inputs.{MadeCalls, most_earlier};
 ghost use Rattle.tiger_top.specs.Statuses.{IsTopRefusal, status_of};
 ghost use Rattle.tiger_top.specs.Ends.{NetCause, NetWrote};
 
 use crate::status::TopStatus;
 use outside::{Files, Sink};
 use std::alloc::Global;
+use tiger_input::put_lines;
 use tiger_net::net_lines;
-use tiger_run::put_lines;
 
 /// Reads the plan of a name, and writes the lines of its run. An `Err` says why not all of them were written.
 pub(crate) fn write_net<F: Files, K: Sink>(

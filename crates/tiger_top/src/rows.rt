@@ -9,22 +9,27 @@ ghost use Rattle.net_read.specs.declared.fault.NetFault.TheVariants as faults;
 ghost use Rattle.net_read.specs.Meaning.{net_meaning};
 ghost use Rattle.net_read.specs.Plans.{NetSaid};
 ghost use Rattle.net_run.specs.Text.{net_text};
+ghost use Rattle.scenario_read.specs.declared.stop.ScenarioFault.{ScenarioFault};
+ghost use Rattle.tiger_audit.specs.Samples.{that_entry, some_clause};
+ghost use Rattle.tiger_audit.specs.declared.status.AuditStatus.TheVariants as audits;
+ghost use Rattle.tiger_check.specs.declared.status.CheckStatus.TheVariants as checks;
 ghost use Rattle.tiger_net.specs.Lines.{most_plan};
 ghost use Rattle.tiger_net.specs.Samples.{net_name, net_source};
-ghost use Rattle.tiger_run.specs.Samples.{here, makes, runs};
-ghost use Rattle.tiger_run.specs.Words.{texts_of};
-ghost use Rattle.tiger_run.specs.declared.status.Status.TheVariants as statuses;
+ghost use Rattle.tiger_input.specs.Samples.{here, makes, runs};
+ghost use Rattle.tiger_input.specs.Words.{texts_of};
+ghost use Rattle.tiger_input.specs.declared.status.Status.TheVariants as statuses;
 ghost use Rattle.tiger_top.specs.declared.status.TopStatus.TheVariants as tops;
 ghost use Rattle.tiger_disks.specs.Samples.{disks_words, one_name};
 ghost use Rattle.tiger_disks.specs.declared.status.DisksStatus.TheVariants as ends;
-ghost use Rattle.tiger_top.specs.Commands.{AreTigers, IsNoTopCommand, IfTigers, IfJournal, IfNet, IfDisks, IfNoDisks};
+ghost use Rattle.tiger_top.specs.Commands.{AreTigers, IsNoTopCommand, IfTigers, IfJournal, IfNet, IfDisks, IfNoDisks, IfCheck, IfAudit};
 ghost use Rattle.tiger_top.specs.Ends.{IsRunnableNet, NetCause, NetWrote};
-ghost use Rattle.tiger_top.specs.Samples.{journal_words, nets, sunk};
-ghost use Rattle.tiger_top.specs.Statuses.{OfTiger, IfDisksStopped, IsDone, IsDoneOrNoMemory, IsTopRefusal};
+ghost use Rattle.tiger_top.specs.Samples.{journal_words, nets, check_words, audit_words, sunk};
+ghost use Rattle.tiger_top.specs.Statuses.{OfTiger, OfCheck, OfAudit, IfDisksStopped, IsDone, IsDoneOrNoMemory, IsTopRefusal};
+ghost use Rattle.tiger_input.specs.Statuses.{line_of};
 ghost use Rattle.tiger_top.specs.Statuses.{top_line, top_exit};
 
-/// Words are for `tiger`, or they are `net NAME`, `journal NAME W` or `disks NAME IMAGE`; and they may be no command of all
-/// these.
+/// Words are for `tiger`, or they are `net NAME`, `journal NAME W`, `disks NAME IMAGE`, `check NAME` or `audit NAME`; and they may be no
+/// command of all these.
 pub fn commands()
     ensures run { AreTigers (runs here 1) }
     ensures make { AreTigers (makes 7) }
@@ -32,6 +37,8 @@ pub fn commands()
     ensures journal { AreTigers (journal_words here 1) → ⊥ }
     ensures disks { AreTigers (disks_words []) → ⊥ }
     ensures forced { AreTigers (disks_words (codes "--force" ∷ [])) → ⊥ }
+    ensures check { AreTigers (check_words here) → ⊥ }
+    ensures audit { AreTigers (audit_words here) → ⊥ }
     ensures no_words { IsNoTopCommand [] }
     ensures no_name { IsNoTopCommand (codes "net" ∷ []) }
     ensures two_names { IsNoTopCommand (codes "net" ∷ here ∷ here ∷ []) }
@@ -40,6 +47,8 @@ pub fn commands()
     ensures no_refused_net { IsNoTopCommand (nets here) → ⊥ }
     ensures no_refused_journal { IsNoTopCommand (journal_words here 1) → ⊥ }
     ensures no_refused_run { IsNoTopCommand (runs here 1) → ⊥ }
+    ensures no_refused_check { IsNoTopCommand (check_words here) → ⊥ }
+    ensures no_refused_audit { IsNoTopCommand (audit_words here) → ⊥ }
 {}
 
 /// What is said of calls for a command is true of the name that the words have, or of their texts, and nothing is said
@@ -76,6 +85,18 @@ pub fn calls()
         IfTigers words (λ _. ⊥) }
     ensures tigers_texts { (words : Vec (String Global) Global) →
         texts_of words.items ≡ runs here 1 → IfTigers words (λ texts. texts ≡ []) → ⊥ }
+    ensures check { (words : Vec (String Global) Global) → texts_of words.items ≡ check_words here →
+        IfCheck words (λ name. name ≡ here) }
+    ensures no_check { (words : Vec (String Global) Global) → texts_of words.items ≡ nets here →
+        IfCheck words (λ _. ⊥) }
+    ensures check_name { (words : Vec (String Global) Global) →
+        texts_of words.items ≡ check_words here → IfCheck words (λ name. name ≡ []) → ⊥ }
+    ensures audit { (words : Vec (String Global) Global) → texts_of words.items ≡ audit_words here →
+        IfAudit words (λ name. name ≡ here) }
+    ensures no_audit { (words : Vec (String Global) Global) → texts_of words.items ≡ nets here →
+        IfAudit words (λ _. ⊥) }
+    ensures audit_name { (words : Vec (String Global) Global) →
+        texts_of words.items ≡ audit_words here → IfAudit words (λ name. name ≡ []) → ⊥ }
 {}
 
 /// A broken rule of a plan has its line and its exit status, is a refusal, and is no status of `tiger`.
@@ -99,6 +120,40 @@ pub fn images()
     ensures exit { top_exit tops.ImageExists ≡ 14 }
     ensures refuses { IsTopRefusal tops.Device }
     ensures no_tigers { OfTiger (λ status. status ≡ status) tops.Device → ⊥ }
+{}
+
+/// A plan whose false conditions were written has the line and the exit status of a broken rule, and is no refusal of which
+/// nothing is written; it is said of `check` alone.
+pub fn unsound_plans()
+    ensures line { (f : ScenarioFault) → top_line (tops.Unsound f) ≡ line_of (statuses.Scenario f) }
+    ensures exit { (f : ScenarioFault) → top_exit (tops.Unsound f) ≡ 5 }
+    ensures refuses { (f : ScenarioFault) → IsTopRefusal (tops.Unsound f) → ⊥ }
+    ensures check { (f : ScenarioFault) →
+        OfCheck (λ end. end ≡ checks.Unsound f) (tops.Unsound f) }
+    ensures run { OfCheck (λ end. end ≡ checks.Run statuses.Done) (tops.Tiger statuses.Done) }
+    ensures rule { OfCheck (λ end. end ≡ end) (tops.Net 2) → ⊥ }
+    ensures no_tigers { (f : ScenarioFault) → OfTiger (λ s. s ≡ s) (tops.Unsound f) → ⊥ }
+    ensures no_disks { (f : ScenarioFault) → IfDisksStopped (λ e. e ≡ e) (tops.Unsound f) → ⊥ }
+{}
+
+/// A broken clause has two lines and status 9, and a text that is none one line and status 10. Both are refusals, and are
+/// said of `audit` alone.
+pub fn audited_ends()
+    ensures lines { top_line (tops.Audit some_clause that_entry (Some 1749))
+        ≡ codes "tiger: audit clause " ++ decimal 4 ++ codes "\ntiger: at "
+        ++ (codes "node " ++ decimal 3 ++ (codes ", line " ++ decimal 1749) ++ codes "")
+        ++ codes "\n" }
+    ensures clause_exit { top_exit (tops.Audit some_clause that_entry (Some 1749)) ≡ 9 }
+    ensures text_line { top_line (tops.Journal 7) ≡ codes "tiger: journal line " ++ decimal 7 ++ codes "\n" }
+    ensures text_exit { top_exit (tops.Journal 7) ≡ 10 }
+    ensures refuses { IsTopRefusal (tops.Audit some_clause that_entry None) }
+    ensures refuses_text { IsTopRefusal (tops.Journal 7) }
+    ensures text { OfAudit (λ end. end ≡ audits.Journal 7) (tops.Journal 7) }
+    ensures run { OfAudit (λ end. end ≡ audits.Run statuses.Done) (tops.Tiger statuses.Done) }
+    ensures rule { OfAudit (λ end. end ≡ end) (tops.Net 2) → ⊥ }
+    ensures no_tigers { OfTiger (λ s. s ≡ s) (tops.Journal 7) → ⊥ }
+    ensures no_disks { IfDisksStopped (λ e. e ≡ e) (tops.Journal 7) → ⊥ }
+    ensures no_check { OfCheck (λ e. e ≡ e) (tops.Audit some_clause that_entry None) → ⊥ }
 {}
 
 /// All was done, or it was but for want of memory.

@@ -1,16 +1,19 @@
 //! How a command ended, as it is said on standard error and by the exit status.
 ghost use Rattle.std.specs.Prelude.{◌≡◌, ◌++◌, IfOk, OnOk, codes, string_bytes};
-ghost use Rattle.tiger_run.specs.Statuses.{IsPushed, worded};
-ghost use Rattle.tiger_top.specs.Statuses.{top_line, top_exit, top_by_sink, top_by_stop, top_by_disks};
+ghost use Rattle.tiger_input.specs.Statuses.{IsPushed, worded};
+ghost use Rattle.tiger_top.specs.Statuses.{top_line, top_exit, top_by_sink, top_by_stop, top_by_disks, top_by_check, top_by_audit};
 
 use node_kit::Digest32;
 use outside::SinkFault;
+use scenario_read::ScenarioFault;
 use std::alloc::{AllocError, Global};
 use std::fmt::Write;
+use tiger_audit::{AuditStatus, Clause, Place};
 use tiger_base::DiskNo;
+use tiger_check::CheckStatus;
 use tiger_disks::DisksStatus;
+use tiger_input::Status;
 use tiger_net::NetStop;
-use tiger_run::Status;
 
 /// How a command ended.
 #[derive(Clone, Copy, Debug, PartialEq, Eq)]
@@ -32,6 +35,18 @@ pub enum TopStatus {
     },
     /// The image exists, and was not to be written over.
     ImageExists,
+    /// A scenario that was checked is refused for a condition of its plan, and a line of each false one was written.
+    Unsound(ScenarioFault),
+    /// What was read of a file is the text of no run, and up to this line, from 1 on, it begins that of none.
+    Journal {
+        line: u64,
+    },
+    /// The run that a text keeps breaks this clause, and none of a lower number; where, and the line that tells it.
+    Audit {
+        clause: Clause,
+        place: Place,
+        line: Option<u64>,
+    },
 }
 
 impl From<SinkFault> for TopStatus {
@@ -88,6 +103,35 @@ impl From<DisksStatus> for TopStatus {
     }
 }
 
+/// How a check ended.
+pub(crate) fn of_check(end: CheckStatus) -> TopStatus
+    ensures { result ≡ top_by_check end }
+{
+    match end {
+        CheckStatus::Run(status) => TopStatus::Tiger(status),
+        CheckStatus::Unsound(fault) => TopStatus::Unsound(fault),
+    }
+}
+
+/// How an audit ended.
+pub(crate) fn of_audit(end: AuditStatus) -> TopStatus
+    ensures { result ≡ top_by_audit end }
+{
+    match end {
+        AuditStatus::Run(status) => TopStatus::Tiger(status),
+        AuditStatus::Journal { line } => TopStatus::Journal { line },
+        AuditStatus::Audit {
+            clause,
+            place,
+            line,
+        } => TopStatus::Audit {
+            clause,
+            place,
+            line,
+        },
+    }
+}
+
 fn push_rule(text: &mut String, rule: u32) -> Result<(), AllocError>
     ensures { OnOk result (IsPushed text.old text.new (worded (codes "tiger: net rule ") rule)) }
 {
@@ -106,12 +150,12 @@ fn rule_line(alloc: Global, rule: u32) -> Result<String, AllocError>
     Ok(text)
 }
 
-/// The line on standard error that says how a command ended; empty if everything was done.
+/// The lines on standard error that say how a command ended; empty if everything was done.
 pub fn line_of(alloc: Global, status: &TopStatus) -> Result<String, AllocError>
     ensures { IfOk result (λ line. string_bytes line ≡ top_line status.now) }
 {
     match status {
-        TopStatus::Tiger(status) => tiger_run::line_of(alloc, status),
+        TopStatus::Tiger(status) => tiger_input::line_of(alloc, status),
         TopStatus::Net { rule } => rule_line(alloc, *rule),
         TopStatus::Device => tiger_disks::line_of(alloc, &DisksStatus::Device),
         TopStatus::Damaged {
@@ -129,6 +173,22 @@ pub fn line_of(alloc: Global, status: &TopStatus) -> Result<String, AllocError>
             },
         ),
         TopStatus::ImageExists => tiger_disks::line_of(alloc, &DisksStatus::ImageExists),
+        TopStatus::Unsound(fault) => tiger_input::line_of(alloc, &Status::Scenario(*fault)),
+        TopStatus::Journal { line } => {
+            tiger_audit::line_of(alloc, &AuditStatus::Journal { line: *line })
+        }
+        TopStatus::Audit {
+            clause,
+            place,
+            line,
+        } => tiger_audit::line_of(
+            alloc,
+            &AuditStatus::Audit {
+                clause: *clause,
+                place: *place,
+                line: *line,
+            },
+        ),
     }
 }
 
@@ -137,7 +197,10 @@ pub fn exit_of(status: &TopStatus) -> u8
     ensures { result ≡ top_exit status.now }
 {
     match status {
-        TopStatus::Tiger(status) => tiger_run::exit_of(status),
+        TopStatus::Tiger(status) => tiger_input::exit_of(status),
+        TopStatus::Unsound(_) => 5,
+        TopStatus::Audit { .. } => 9,
+        TopStatus::Journal { .. } => 10,
         TopStatus::Device => 11,
         TopStatus::Damaged { .. } => 12,
         TopStatus::Net { .. } => 13,

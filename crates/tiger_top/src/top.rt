@@ -2,23 +2,27 @@
 ghost use Rattle.std.specs.Prelude.{◌≡◌, ◌+◌, ◌^◌, ◌≤◌, ◌↔◌, ℕ, None, IsSomeAnd, IfSome};
 ghost use Rattle.outside.specs.Written.{most_faults};
 ghost use Rattle.file_disk.specs.Devices.{most_counted};
+ghost use Rattle.tiger_audit.specs.Ends.{AuditCause, AuditSink, OfYesRun, IsJudged, IsSoundText, IsToldText};
+ghost use Rattle.tiger_check.specs.Ends.{CheckSink};
+ghost use Rattle.tiger_check.specs.Statuses.{as_run, NamesConditions};
 ghost use Rattle.tiger_disks.specs.Ends.{OfInputs, InputEnd, DeviceEnd, SinkEnd, IsInputRefusal};
 ghost use Rattle.tiger_net.specs.Lines.{HasLines};
-ghost use Rattle.tiger_run.specs.Words.{IsMake, IsNoRun, texts_of};
-ghost use Rattle.tiger_run.specs.Inputs.{MadeCalls, most_reads, most_earlier};
-ghost use Rattle.tiger_run.specs.Runnable.{IsRunnable, IsRunnableCommand, NoReadFailed, NoPutFailed};
-ghost use Rattle.tiger_run.specs.Ending.{IsAskedRun, IsNamedRun, text_for, IsWritten};
-ghost use Rattle.tiger_run.specs.Ending.{EndsInputs, EndsSink, InputCause};
-ghost use Rattle.tiger_journal.specs.Answers.{IsTheNamedRun};
+ghost use Rattle.tiger_input.specs.Words.{IsMake, IsNoRun, texts_of};
+ghost use Rattle.tiger_input.specs.Inputs.{MadeCalls, most_reads, most_earlier};
+ghost use Rattle.tiger_input.specs.Tellings.{TellsAll};
+ghost use Rattle.tiger_input.specs.Runnable.{IsRunnable, IsRunnableCommand, NoReadFailed, NoPutFailed};
+ghost use Rattle.tiger_input.specs.Ending.{IsWritten, EndsInputs, EndsSink, InputCause};
+ghost use Rattle.tiger_journal.specs.Answers.{IsAskedRun, IsNamedRun, IsTheAnswer, IsTheNamedRun, text_for};
 ghost use Rattle.audit_text.specs.Texts.{text_of};
-ghost use Rattle.tiger_run.specs.Answers.{TellsAll, IsTheAnswer};
-ghost use Rattle.tiger_run.specs.declared.status.Status.TheVariants as statuses;
+ghost use Rattle.tiger_input.specs.declared.status.Status.TheVariants as statuses;
 ghost use Rattle.tiger_top.specs.declared.status.TopStatus.TheVariants as tops;
-ghost use Rattle.tiger_top.specs.Commands.{IfTigers, IfJournal, IfNet, IfDisks, IfNoDisks, IsNoTopCommand};
-ghost use Rattle.tiger_top.specs.Statuses.{OfTiger, IfDisksStopped, IsDone, IsDoneOrNoMemory, IsTopRefusal};
+ghost use Rattle.tiger_top.specs.Commands.{IfTigers, IfJournal, IfNet, IfDisks, IfNoDisks, IfCheck, IfAudit, IsNoTopCommand};
+ghost use Rattle.tiger_top.specs.Statuses.{OfTiger, OfCheck, OfAudit, IfDisksStopped, IsDone, IsDoneOrNoMemory, IsTopRefusal};
 ghost use Rattle.tiger_top.specs.Statuses.{status_of};
 ghost use Rattle.tiger_top.specs.Ends.{IsRunnableNet, NetCause, NetWrote, AreStored};
 
+use crate::audit::audit_text;
+use crate::check::check_scenario;
 use crate::commands::{TopCommand, top_command_in};
 use crate::disks::write_image;
 use crate::net::write_net;
@@ -29,8 +33,8 @@ use outside::{Files, Sink};
 use std::alloc::Global;
 use std::sync::Wait;
 use std::thread::Threads;
-use tiger_journal::write_journal;
-use tiger_run::{Ended, Status, tiger};
+use tiger_input::Status;
+use tiger_journal::{Ended, tiger, write_journal};
 
 /// How a command ended, and what was kept of a run of the ring.
 #[derive(Drop)]
@@ -62,10 +66,18 @@ fn without_ring(done: Result<(), TopStatus>) -> TopEnded
     }
 }
 
+/// The end of a command with this status that keeps no run.
+fn unkept(status: TopStatus) -> TopEnded
+    ensures { result ≡ record { status = status; kept = None } }
+{
+    TopEnded { status, kept: None }
+}
+
 /// Does what the words say: as `tiger` does it; for `journal NAME W` runs the scenario as `run` does, and writes what is
 /// kept of the run as a text; for `net NAME` reads the plan of a network's schedule, runs it, and writes the lines that
 /// tell of its entries; for `disks NAME IMAGE` stores the disks of a scenario in an image of the device, and writes a line
-/// for each. The call may wait for a thread.
+/// for each; for `check NAME` says of a scenario what can be said before a run; for `audit NAME` judges the run that a text
+/// keeps by the twelve clauses. The call may wait for a thread.
 pub fn tiger_top<R: Threads + Wait + Sync, F: Files, K: Sink, V: Device, G: Gate + Sync>(
     rt: &R,
     alloc: Global,
@@ -87,7 +99,8 @@ pub fn tiger_top<R: Threads + Wait + Sync, F: Files, K: Sink, V: Device, G: Gate
     ensures words { (result.status ≡ tops.Tiger statuses.Words)
         ↔ IsNoTopCommand (texts_of words.now.items) }
 
-    // Nothing is put before words, inputs and the image are good.
+    // Nothing is put before words, inputs and the image are good, but for the false conditions of a
+    // plan by `check`.
     ensures silent { IsTopRefusal result.status → out.new ≡ out.old }
 
     // What is told of the files stays, few calls were made, and at most one put failed: so the
@@ -215,6 +228,59 @@ pub fn tiger_top<R: Threads + Wait + Sync, F: Files, K: Sink, V: Device, G: Gate
     // No image is opened before the inputs are good.
     ensures disks_untouched { IfDisks words.now (λ _ _. IfDisksStopped (λ end.
         IsInputRefusal end → V.state dev.new ≡ V.state dev.old) result.status) }
+
+    // ---- Of `check NAME`.
+
+    // Why an input was refused: as it is for the words that run the scenario of this name.
+    ensures check_input { let old = F.state files.old in IfCheck words.now (λ name.
+        OfCheck (λ end. EndsInputs name old (F.state files.new) (as_run end)) result.status) }
+
+    // What was written with each status: if all was done, the lines of the scenario and its files,
+    // which were read; and if the scenario is refused for a condition of its plan, a line of each
+    // false one.
+    ensures check_sink { let old = F.state files.old in let out_old = K.state out.old in
+        IfCheck words.now (λ name. OfCheck
+        (CheckSink name old (F.state files.new) out_old (K.state out.new)) result.status) }
+
+    // A scenario that is told is checked, unless something stands in its way.
+    ensures check_complete { let old = F.state files.old in IfCheck words.now (λ name.
+        IsRunnable old.told name → NoReadFailed old (F.state files.new) →
+        NoPutFailed (K.state out.old) (K.state out.new) → IsDoneOrNoMemory result.status) }
+
+    // No refusal for a condition of the plan leaves them out. No run of the ring is kept.
+    ensures check_conditions { IfCheck words.now (λ _. OfCheck NamesConditions result.status) }
+    ensures check_kept { IfCheck words.now (λ _. result.kept ≡ None) }
+
+    // ---- Of `audit NAME`.
+
+    // All was done: the text that was read keeps a run that meets all twelve clauses, and the lines
+    // that say so, with how much there is in it, were written.
+    ensures audit_done { let told = (F.state files.old).told in IfAudit words.now (λ name.
+        IsDone result.status →
+        OfYesRun (told name) (IsWritten (K.state out.old) (K.state out.new))) }
+
+    // Why there is no Yes: the file was not read; what was read of it is the text of no run, and
+    // this is the line to be named; or its run breaks this clause, and none of a lower number, here.
+    ensures audit_input { let old = F.state files.old in IfAudit words.now (λ name.
+        OfAudit (AuditCause name old (F.state files.new)) result.status) }
+
+    // What was written with each status. No run of the ring is kept.
+    ensures audit_sink { let told = (F.state files.old).told in IfAudit words.now (λ name.
+        OfAudit (AuditSink (told name) (K.state out.old) (K.state out.new)) result.status) }
+    ensures audit_kept { IfAudit words.now (λ _. result.kept ≡ None) }
+
+    // The file of the name was asked for once, and no other one.
+    ensures audit_counted { IfAudit words.now (λ _.
+        MadeCalls 1 (F.state files.old) (F.state files.new)) }
+
+    // A told text of a run that meets all clauses gets its Yes, and of whatever other bytes that
+    // are told it is said what they are, unless something stands in the way.
+    ensures audit_complete { let old = F.state files.old in IfAudit words.now (λ name.
+        IsSoundText (old.told name) → NoReadFailed old (F.state files.new) →
+        NoPutFailed (K.state out.old) (K.state out.new) → IsDoneOrNoMemory result.status) }
+    ensures audit_judged { let old = F.state files.old in IfAudit words.now (λ name.
+        IsToldText (old.told name) → NoReadFailed old (F.state files.new) →
+        NoPutFailed (K.state out.old) (K.state out.new) → OfAudit IsJudged result.status) }
 {
     match top_command_in(words.as_slice()) {
         TopCommand::Tiger => by_tiger(tiger(rt, alloc, words, files, out, gate)),
@@ -225,5 +291,7 @@ pub fn tiger_top<R: Threads + Wait + Sync, F: Files, K: Sink, V: Device, G: Gate
         TopCommand::Disks { name, image, over } => {
             without_ring(write_image(alloc, name, image, over, files, out, dev))
         }
+        TopCommand::Check { name } => unkept(check_scenario(alloc, name, files, out)),
+        TopCommand::Audit { name } => unkept(audit_text(alloc, name, files, out)),
     }
 }

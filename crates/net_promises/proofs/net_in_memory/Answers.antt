@@ -2,7 +2,7 @@ use Rattle.std.proofs.Common.{◌≡◌, ◌≤◌}
 use Rattle.net_read.specs.Plans.{NetSaid}
 use Rattle.net_run.specs.Runs.{standings}
 use Rattle.outside.specs.Memory.{sunk_in}
-use Rattle.tiger_run.specs.Ending.{IsWritten}
+use Rattle.tiger_input.specs.Ending.{IsWritten}
 use Rattle.net_promises.specs.Promises.{IsPrintedOf, NeverExceeds, peak_in, ring_at_end}
 use Rattle.net_promises.proofs.Causes.{lines_written, told_of_plan, runnable, plan_cause}
 use Rattle.net_promises.proofs.Lines.{printed, never_exceeds, few_peak}

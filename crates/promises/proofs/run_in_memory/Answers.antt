@@ -10,11 +10,11 @@ use Rattle.run_claims.specs.Served.{AreServed}
 use Rattle.run_claims.specs.Turns.{AreInTurn}
 use Rattle.run_claims.specs.Patience.{NobodyIsPassedOver}
 use Rattle.outside.specs.Memory.{sunk_in, told_of}
-use Rattle.tiger_run.specs.Words.{texts_of}
+use Rattle.tiger_input.specs.Words.{texts_of}
 use Rattle.tiger_run.specs.Ending.{text_for}
 use Rattle.promises.specs.Kept.{plan_in, log_in, end_in, clock_in}
 use Rattle.promises.proofs.Words.{run_of, made_of, no_run_of, words_refused, refusal_of}
-use Rattle.promises.proofs.Told.{tells_all}
+use Rattle.tiger_input.proofs.Told.{tells_all}
 use Rattle.promises.proofs.Causes.{why_refused, runnable}
 use Rattle.promises.proofs.Written.{report_written, summary_written, put_failed, no_memory, none_kept}
 use Rattle.promises.proofs.Runs.{if_run_named, if_run_made, if_answer, if_meets, if_believes, if_promises}

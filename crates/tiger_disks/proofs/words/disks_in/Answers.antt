@@ -1,4 +1,4 @@
-use Rattle.tiger_run.specs.Words.{texts_of}
+use Rattle.tiger_input.specs.Words.{texts_of}
 use Rattle.tiger_disks.proofs.Asked.{no_disks}
 use Rattle.tiger_disks.proofs.words.disks_in.Goals as goal
 

@@ -2,7 +2,7 @@ use Rattle.std.proofs.Common.{◌∙◌}
 use Rattle.std.specs.Prelude.{None, Some}
 use Rattle.audit_text.specs.Texts.{text_of}
 use Rattle.tiger_run.proofs.Answering.{named_once}
-use Rattle.tiger_run.proofs.Completeness.{run_completes}
+use Rattle.tiger_input.proofs.Completeness.{run_completes}
 use Rattle.tiger_run.proofs.Endings.{EndsSink-wrote}
 use Rattle.tiger_journal.proofs.Ends.{refused_ends, refused_sinks, wrote_ends}
 use Rattle.tiger_journal.proofs.journal.write_journal.Goals as goal

@@ -1,6 +1,7 @@
 use Rattle.std.proofs.Common.{refl, inl, inr, arith}
-use Rattle.tiger_run.specs.Samples.{here, there}
-use Rattle.tiger_run.proofs.Samples.{some_workers, two_names, same_name, same_number, not_both}
+use Rattle.tiger_input.specs.Samples.{here, there}
+use Rattle.tiger_input.proofs.Samples.{some_workers, two_names}
+use Rattle.tiger_run.proofs.Samples.{same_name, same_number, not_both}
 use Rattle.tiger_run.proofs.rows.the_same_is_asked.Goals as goal
 
 pub returns-clause-any_workers : goal.returns-clause-any_workers

@@ -1,10 +1,10 @@
 use Rattle.std.proofs.Common.{ℕ, List, subst}
 use Rattle.run_report.specs.Text.{report_text}
-use Rattle.tiger_run.specs.Words.{IsRun, IsMake, texts_of}
-use Rattle.tiger_run.specs.Ending.{EndsInputs}
-use Rattle.tiger_run.proofs.WordLists.{IsRun-name}
+use Rattle.tiger_input.specs.Words.{IsRun, IsMake, texts_of}
+use Rattle.tiger_input.specs.Ending.{EndsInputs}
+use Rattle.tiger_input.proofs.WordLists.{IsRun-name}
 use Rattle.tiger_run.proofs.Endings.{EndsSink-run, EndsSink-make, words-run}
-use Rattle.tiger_run.proofs.Completeness.{run_completes}
+use Rattle.tiger_input.proofs.Completeness.{run_completes}
 use Rattle.tiger_run.proofs.Answering.{one_answer, asked_by_name, asked_by_number}
 use Rattle.tiger_run.proofs.top.tiger.Goals as goal
 

@@ -1,5 +1,5 @@
 use Rattle.std.proofs.Common.{ℕ, true, false, List, [], length, get_or, sym, ap, subst, ◌∙◌, arith, refl}
-use Rattle.tiger_run.specs.Samples.{here}
+use Rattle.tiger_input.specs.Samples.{here}
 use Rattle.tiger_disks.specs.Samples.{image_name, one_name}
 use Rattle.tiger_top.specs.Commands.{AreTigers, AsksJournal}
 use Rattle.tiger_top.proofs.Asked.{tigers_by, one_worker}
@@ -44,7 +44,7 @@ returns-clause-no_tigers c words is tigers = tigers.no_net here is
 
 pub returns-clause-tigers_texts : goal.returns-clause-tigers_texts
 returns-clause-tigers_texts c words is h =
-    let tigers = subst AreTigers (sym is) (tigers_by _ (λ n f. omega (arith, n, f)) (λ n f. omega (arith, n, f)) (λ f. omega (arith, f))) in
+    let tigers = subst AreTigers (sym is) (tigers_by _ (λ n f. omega (arith, n, f)) (λ n f. omega (arith, n, f)) (λ f. omega (arith, f)) (λ n f. omega (arith, n, f)) (λ n f. omega (arith, n, f))) in
     let e = ap count (sym is ∙ h tigers) in
     omega (arith, e)
 
@@ -67,3 +67,21 @@ returns-clause-image c words is none = none one_name image_name false is
 
 pub returns-clause-no_image : goal.returns-clause-no_image
 returns-clause-no_image c words is h = h (λ name image over disks. (let e = ap first_letter (sym is ∙ disks) in omega (arith, e)))
+
+pub returns-clause-check : goal.returns-clause-check
+returns-clause-check c words is name check = ap second (sym check ∙ is)
+
+pub returns-clause-no_check : goal.returns-clause-no_check
+returns-clause-no_check c words is name check = let e = ap first_letter (sym is ∙ check) in absurd (omega (arith, e))
+
+pub returns-clause-check_name : goal.returns-clause-check_name
+returns-clause-check_name c words is h = let e = ap length (h here is) in omega (arith, e)
+
+pub returns-clause-audit : goal.returns-clause-audit
+returns-clause-audit c words is name audit = ap second (sym audit ∙ is)
+
+pub returns-clause-no_audit : goal.returns-clause-no_audit
+returns-clause-no_audit c words is name audit = let e = ap first_letter (sym is ∙ audit) in absurd (omega (arith, e))
+
+pub returns-clause-audit_name : goal.returns-clause-audit_name
+returns-clause-audit_name c words is h = let e = ap length (h here is) in omega (arith, e)

@@ -1,5 +1,5 @@
 use Rattle.std.proofs.Common.{◌≡◌, ℕ, List, [], get_or, sym, ap, ◌∙◌}
-use Rattle.tiger_run.specs.Words.{texts_of}
+use Rattle.tiger_input.specs.Words.{texts_of}
 use Rattle.tiger_disks.specs.Words.{AsksDisks}
 use Rattle.tiger_top.specs.Commands.{AsksJournal}
 use Rattle.tiger_top.proofs.top.tiger_top.Goals as goal

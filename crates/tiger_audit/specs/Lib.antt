@@ -1,0 +1,5 @@
+pub mod Words
+pub mod Lines
+pub mod Statuses
+pub mod Ends
+pub mod Samples

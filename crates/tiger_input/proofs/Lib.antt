@@ -1,0 +1,9 @@
+pub mod DecimalLemmas
+pub mod WordLists
+pub mod Texts
+pub mod LastFeeds
+pub mod Puts
+pub mod Readings
+pub mod Told
+pub mod Completeness
+pub mod Samples
