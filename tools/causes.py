@@ -7,8 +7,8 @@ import json
 import math
 
 from nets import OF_PLANS, OF_SCENARIOS, has_keys
-from scenarios import (KEYS, MOST_BEATS, MOST_DEATHS, MOST_EVENTS, MOST_FAULTS, MOST_FILES, MOST_PRODUCT, MOST_STARTS,
-                       RANGES, Raw, text_of)
+from scenarios import (KEYS, MOST_AFTER, MOST_BEATS, MOST_DEATHS, MOST_EVENTS, MOST_FAULTS, MOST_FILES, MOST_PRODUCT,
+                       MOST_STARTS, RANGES, Raw, text_of)
 
 NEEDED, OPTIONAL = ("plan", "beats", "links", "files", "events"), ("offsets", "deaths", "read_faults")
 NAME_MOST = 200  # bytes of a file's name
@@ -217,8 +217,9 @@ def death_cause(value, item):
     """What is wrong with a death, by itself or with one before it."""
     deaths, cubs = value["deaths"], value["plan"]["cubs"]
     death = deaths[item]
-    found = (keys_wrong("it", death, ("cub", "beat")) or outside("its cub", death["cub"], 0, cubs - 1)
-             or outside("its beat", death["beat"], 0, value["beats"] - 1))
+    found = (keys_wrong("it", death, ("cub", "beat"), ("after",)) or outside("its cub", death["cub"], 0, cubs - 1)
+             or outside("its beat", death["beat"], 0, value["beats"] - 1)
+             or "after" in death and outside("its after", death["after"], 0, MOST_AFTER) or "")
     for number, other in enumerate([] if found else deaths[:item]):
         apart = (death["cub"] - other["cub"]) % cubs
         if apart == 0:

@@ -22,17 +22,20 @@ STAND_INS = {  # programs that are not this one
 WRONG = (  # words that a tool does not take
     "stress 1 0", "stress 1 -1", "stress x 1", "stress 1 1 --program /nowhere", "stress 1 1 --wait 0", "draw 1 0",
     "draw 1 1 --jobs 0", "draw 1 1 --minutes 0", "draw 1 1 --minutes -1", "draw 1 1 --minutes nan", "draw 1",
-    "draw 1 1 --reference /nowhere", "draw-nets 1 0", "draw-nets x 1", "draw-nets 1 1 --program /nowhere", "conformance --cases /nowhere", "conformance run", "conformance --workers 65",
+    "draw 1 1 --reference /nowhere", "draw-nets 1 0", "draw-nets x 1", "draw-nets 1 1 --program /nowhere",
+    "conformance --cases /nowhere", "conformance run", "conformance --workers 65",
     "conformance --jobs 0", "conformance --program /nowhere", "deaths --jobs 0", "deaths --program /nowhere",
-    "deaths x",
+    "deaths x", "cuts --jobs 0", "cuts --program /nowhere", "cuts --reference /nowhere", "cuts --cub 8",
+    "cuts --cub x", "cuts --beats 0", "cuts x",
     "bench --rounds 0", "bench --workers 0", "bench nothing", "bench --beside /nowhere", "hostile 1 0", "hostile",
     "hostile --costs --tiger /nowhere", "hostile 1 1 --program /nowhere", "refuse-allocations --last 0",
     "refuse-allocations --workers 0", "refuse-rules --only nothing-of-this-name", "refuse-rules --libraries /nowhere",
     "wrong-bodies nothing", "plant-bugs 1 0", "plant-bugs 1 1 --crates nothing", "explain", "picture",
     "picture one.json --at x", "check-program --program /nowhere", "build x")
 TRIES = (  # the words of tools that try a program, whichever it is
-    "stress 1 1", "draw 1 2 --reference PROGRAM", "conformance made", "conformance net", "conformance disks", "deaths",
-    "bench made --rounds 1", "hostile 1 1", "refuse-allocations --last 1", "draw-nets 1 2")
+    "stress 1 1", "draw 1 2 --reference PROGRAM", "conformance made", "conformance net", "conformance disks", "conformance audit", "deaths",
+    "cuts --beats 2 --reference PROGRAM", "bench made --rounds 1", "hostile 1 1", "refuse-allocations --last 1",
+    "draw-nets 1 2", "audit-mutations 1 1")
 
 
 def tool(words, folder, stand_in):
@@ -64,7 +67,7 @@ def no_program(folder):
         os.chmod(file.name, 0o755)
     for words in TRIES:
         for name in STAND_INS:
-            if name == "hangs" and words in ("deaths", "conformance net"):
+            if name == "hangs" and words in ("deaths", "conformance net", "conformance audit"):
                 continue  # (hundreds of runs that hang)
             got = tool(words, folder, name)
             good = got.status in (1, program.NO_REFERENCE) and not has_traceback(got)
@@ -91,9 +94,10 @@ def interrupted(folder):
     with open(path, "w", encoding="ascii") as file:
         file.write(f"#!/bin/sh\necho $$ >>'{begun}'\nexec sleep 600\n")
     os.chmod(path, 0o755)
-    for words, said in (("stress 1 1", b"stress: 0 agreed, 0 differed\n"), ("deaths", b"deaths: 0 passed, 0 failed\n"),
-                        ("bench made", b"")):
-        name, *others = words.split()
+    for words, said in (("stress 1 1", b"stress: 0 agreed, 0 differed\n"),
+                        ("deaths", b"deaths: 0 passed, 0 failed\n"),
+                        ("cuts --reference PROGRAM", b"cuts: 0 passed, 0 failed\n"), ("bench made", b"")):
+        name, *others = words.replace("PROGRAM", path).split()
         running = subprocess.Popen([sys.executable, os.path.join(tool_checks.TOOLS, name), "--program", path, *others],
                                    cwd=folder, stdout=subprocess.PIPE, stderr=subprocess.PIPE, preexec_fn=heeds)
         processes = lines_of(begun)
@@ -191,6 +195,7 @@ def first_words(tiger, folder):
         copy.write("crates/tiger_main/src/main.rt", file.read())
     for words in (["--help"], ["--version"], [], ["help"], ["--help", "x"], ["run", "gone", "1"], ["run", "", "1"],
                   ["run", "crates", "1"], ["journal", "gone"], ["journal", "gone", "1"],
+                  ["check"], ["check", "gone"], ["check", ""], ["check", "crates"], ["check", "gone", "1"], ["check", b"\xff"],
                   ["journal", "gone", "0"], ["net"], ["net", "gone"], ["net", ""], ["net", "crates"], ["net", b"\xff"],
                   ["net", "gone", "1"], ["run", "gone", "65"], ["run", "gone", "01"], ["run", b"\xff", "1"],
                   ["make", "01"], ["make", "18446744073709551616"], ["make", "1", "1"],

@@ -20,8 +20,12 @@ JOURNAL, NO_JOURNAL = ["journal", "one.json", "1"], ["journal", "absent.json", "
 NET, NO_NET = ["net", "net.json"], ["net", "absent.json"]
 DISKS, NO_DISKS = ["disks", "one.json", "image", "--force"], ["disks", "absent.json", "image", "--force"]
 DISK_LINES = os.path.join(program.CASES, "disks", "one.stdout")
+CHECK, NO_CHECK = ["check", "one.json"], ["check", "absent.json"]
+AUDIT, NO_AUDIT = ["audit", "one.journal"], ["audit", "absent.json"]
+UNSOUND = ["check", "unsound.json"]  # a plan with false conditions
 PUT_MOST = 65536  # bytes of a put, unless a line has more
 TOO_LONG = refused(8, "too long scenario given 4194305 most 4194304")
+TOO_LONG_TEXT = refused(8, "too long scenario given 268435457 most 268435456")
 
 
 def in_child(closed, is_nobody):
@@ -74,13 +78,18 @@ def piped(tiger, words, folder, command):
 
 def streams(tiger, folder):
     """Faults of standard output and of standard error."""
+    with open(os.path.join(folder, UNSOUND[1]), "wb") as file:
+        file.write(content(folder, "one.json").replace(b'"play":1000000', b'"play":700000'))
     for what, words in (("run", RUN), ("made run", ["make", "0"]), ("journal", JOURNAL), ("plan", NET),
-                        ("line of disks", DISKS), ("usage", ["--help"]), ("version", ["--version"])):
+                        ("line of disks", DISKS), ("check", CHECK), ("check of a plan with false conditions", UNSOUND),
+                        ("verdict", AUDIT),
+                        ("usage", ["--help"]), ("version", ["--version"])):
         yield f"a {what} on a full disk", run(tiger, words, folder, out=full()), FAULT
         yield f"a {what} for a reader that is gone", run(tiger, words, folder, out=unread()), FAULT
         yield f"a {what} with no standard output", run(tiger, words, folder, closed=[1]), FAULT
     for words, absent, report in ((RUN, ABSENT, "one.stdout"), (JOURNAL, NO_JOURNAL, "one.journal"),
-                                  (NET, NO_NET, "net.stdout"), (DISKS, NO_DISKS, DISK_LINES)):
+                                  (NET, NO_NET, "net.stdout"), (DISKS, NO_DISKS, DISK_LINES),
+                                  (CHECK, NO_CHECK, "one.check"), (AUDIT, NO_AUDIT, "one.audit")):
         yield f"an output of {words} that is open for reading", run(tiger, words, folder, out=read_only()), FAULT
         yield f"{words} with neither input nor output", run(tiger, words, folder, closed=[0, 1]), FAULT
         yield f"{words} with no stream at all", run(tiger, words, folder, closed=[0, 1, 2]), Ended(6, b"", b"")
@@ -131,7 +140,8 @@ def inputs(tiger, folder):
     """Scenarios, plans and files that cannot be read, and some that do not end."""
     os.chmod(folder, 0o755)
     tiger, scenario = shutil.copy(tiger, folder), content(folder, "one.json")  # nobody may not get at the first one
-    for name, command in (("secret.json", RUN), ("secret-net.json", NET), ("secret-disks.json", DISKS)):
+    for name, command in (("secret.json", RUN), ("secret-net.json", NET), ("secret-disks.json", DISKS),
+                          ("secret-check.json", CHECK), ("secret-audit.json", AUDIT)):
         with open(os.path.join(folder, name), "wb") as file:
             file.write(content(folder, command[1]))
         os.chmod(file.name, 0)
@@ -142,18 +152,21 @@ def inputs(tiger, folder):
                                ("below-a-file", "one.json/x", refused(4, "read fault file 0"))):
         with open(os.path.join(folder, f"{name}-file.json"), "wb") as file:
             file.write(scenario.replace(b'"ten"', b'"%s"' % path.encode()))
-        for command in (RUN, DISKS):
+        for command in (RUN, DISKS, CHECK):
             words = [command[0], f"{name}-file.json", *command[2:]]
             yield f"the file {path} for {command[0]}", run(tiger, words, folder, is_nobody=True), wanted
     no_scenario = refused(5, "scenario rule 1 item 0 left 0 right 0")
     for command, no_json, report in ((RUN, no_scenario, "one.stdout"), (JOURNAL, no_scenario, "one.journal"),
-                                     (NET, refused(13, "net rule 1"), "net.stdout"), (DISKS, no_scenario, DISK_LINES)):
+                                     (NET, refused(13, "net rule 1"), "net.stdout"), (DISKS, no_scenario, DISK_LINES),
+                                     (CHECK, no_scenario, "one.check"),
+                                     (AUDIT, refused(10, "journal line 1"), "one.audit")):
         name, behind = command[0], command[2:]
-        for path, wanted in (("/dev/zero", TOO_LONG), ("/proc/self/mem", refused(4, "read fault scenario")),
+        too_long = TOO_LONG_TEXT if command is AUDIT else TOO_LONG
+        for path, wanted in (("/dev/zero", too_long), ("/proc/self/mem", refused(4, "read fault scenario")),
                              ("/dev/null", no_json)):
             yield f"{name} {path}", run(tiger, [name, path, *behind], folder), wanted
         words = [name, "/dev/stdin", *behind]
-        yield f"{name} of a pipe that does not end", piped(tiger, words, folder, ["cat", "/dev/zero"]), TOO_LONG
+        yield f"{name} of a pipe that does not end", piped(tiger, words, folder, ["cat", "/dev/zero"]), too_long
         whole = Ended(0, content(folder, report), b"")
         yield f"{name} of a pipe", piped(tiger, words, folder, ["cat", command[1]]), whole
 

@@ -24,7 +24,7 @@ def answer(words):
         return text and shows(text)
     if not is_command(words):
         return refuses(WORDS, "words")
-    return scenario_fault(words[1]) if words[0] in ("run", "journal", "net", "disks") else None
+    return scenario_fault(words[1]) if words[0] in ("run", "journal", "net", "disks", "check", "audit") else None
 
 
 def text_in_source(name):
@@ -55,7 +55,7 @@ def is_command(words):
         return is_number(words[2], 1, MOST_WORKERS)
     if words[:1] == ["disks"]:
         return len(words) == 3 or len(words) == 4 and words[3] == "--force"
-    return len(words) == 2 and (words[0] == "net" or words[0] == "make" and is_number(words[1], 0, MOST_NUMBER))
+    return len(words) == 2 and (words[0] in ("net", "check", "audit") or words[0] == "make" and is_number(words[1], 0, MOST_NUMBER))
 
 
 def is_text(word):

@@ -16,6 +16,7 @@ FILE_MOST, FILES_MOST = 16777216, 67108864  # bytes of a file, and of all files 
 NAME_MOST = 200  # bytes of a file's name
 PATTERN = bytes(range(251))  # of a prime length, so that blocks differ from those beside them
 LONGEST_FAULT = 2  # block play times that a read fault lasts at most
+MOST_SENT = 8  # messages that a cub which dies in the middle of a beat sends at most in it
 
 
 def scenario_of(given):
@@ -34,6 +35,7 @@ def scenario_of(given):
     scenario["events"] = events(rng, given, beats, plan)
     scenario["deaths"] = deaths(rng, given.deaths, plan["cubs"], beats)
     scenario["read_faults"] = faults(rng, given.faults, plan, beats)
+    cut(rng, given.cuts, scenario["deaths"])
     lengths = [number * plan["block"] for number in blocks]
     check(scenario, lengths)
     return scenario, lengths
@@ -97,6 +99,14 @@ def faults(rng, number, plan, beats):
     begins = [rng.randrange(beats) for _ in range(number)]
     return [{"disk": rng.randrange(plan["cubs"] * plan["disks"]), "from": begin,
              "until": min(beats, begin + rng.randint(1, longest))} for begin in begins]
+
+
+def cut(rng, number, dying):
+    """Has so many of the deaths come in the middle of their beats, each after a few messages."""
+    if number > len(dying):
+        raise Unfit(f"{number} cuts of {len(dying)} deaths: each of them is a death in the middle of its beat")
+    for at in sorted(distinct(rng, len(dying), number)):
+        dying[at]["after"] = rng.randint(0, MOST_SENT)
 
 
 def check(scenario, lengths):

@@ -6,14 +6,16 @@ The texts are those of the tables in docs/formats.md, and tools/check-program co
 STATUSES = {  # what happened
     0: "all was read, run and written",
     2: "the words are none of `run SCENARIO WORKERS`, `make NUMBER`, `journal SCENARIO WORKERS`, `net PLAN`, "
-       "`disks SCENARIO IMAGE` and `disks SCENARIO IMAGE --force`, or a number has a leading zero or is out of its "
-       "range",
+       "`disks SCENARIO IMAGE`, `disks SCENARIO IMAGE --force`, `check SCENARIO` and `audit TEXT`, or a number has a leading "
+       "zero or is out of its range",
     3: "a file is not there",
     4: "a file cannot be read, for any other cause",
     5: "the scenario breaks a rule",
     6: "a write failed",
     7: "there was no memory",
     8: "a file is longer than may be",
+    9: "the run that a text of journals keeps breaks a clause, and none of a lower number",
+    10: "what `audit` read is the text of no run",
     11: "the image of `disks` could not be opened, written or read",
     12: "what `disks` read of a part of the image has another SHA-256 than what it had stored there",
     13: "the plan of a network's schedule breaks a rule",
@@ -45,8 +47,8 @@ RULES = {  # what is wrong, and how to mend it
     10: ("the number of starts, times floor(`beats` \u00b7 `beat` / `play`) + 1, is above 400000: this is how many "
          "blocks might be due", "start fewer viewers, or run fewer beats"),
     11: ("`deaths` is not of its form",
-         "let each cub die once, within the run, and no two neighbours: the pieces of a dead cub's blocks lie with the "
-         "cubs behind it"),
+         "let each cub die once, within the run, after at most 1000 messages of its last beat if `after` says so, and "
+         "no two neighbours: the pieces of a dead cub's blocks lie with the cubs behind it"),
     12: ("`read_faults` is not of its form",
          "see that the disk is there, that `from` is below `until`, and that `until` is at most `beats`"),
     13: ("a file has no bytes", "name a file that is not empty"),
@@ -77,3 +79,18 @@ CONDITIONS = {  # rule 4 by its item: what may be at most what, and how to mend 
     12: ("2 \u00b7 `play` + `skew`", "`hold`", "a larger `hold`"),
 }
 
+CLAUSES = {  # what `audit` asks of a run, in this order
+    1: "what each node got was sent to it, comes in order and in time, and what was sent in time was got",
+    2: "each reading is from the true time of its beat to the skew later and never falls, and each death is as the text's "
+       "first lines have it",
+    3: "the controller does what the orders say, each once and in time",
+    4: "a slot is put only if it is free, by its cub, in its window, and for a start that was asked for",
+    5: "what a cub holds and sends is part of the schedule, and follows from what it has got",
+    6: "who was stopped does not come back",
+    7: "a visit is of one instance, and its reads are asked for once and rightly",
+    8: "a cub that is believed dead has died",
+    9: "a read that failed met a fault of its disk",
+    10: "each settled block of each viewer came whole or in pieces, or has an excuse, and nothing else came",
+    11: "the blocks of a viewer come in order",
+    12: "no start that waits is passed over",
+}

@@ -128,7 +128,9 @@ def are_same(data, run):
     """Whether a page's data tell of the same viewers, totals, deaths and read faults as a run."""
     viewers = [tuple(fields[:5]) for fields in data["viewers"]]
     return (viewers == [(it.file, it.asked, it.slot, it.first, it.stop) for it in run.viewers]
-            and data["totals"] == run.totals and dict(data["deaths"]) == run.scenario.deaths
+            and data["totals"] == run.totals
+            and {cub: beat for cub, beat, _ in data["deaths"]} == run.scenario.deaths
+            and {cub: after for cub, _, after in data["deaths"] if after is not None} == run.scenario.cuts
             and [tuple(it) for it in data["faults"]] == sorted(run.scenario.faults))
 
 
@@ -381,6 +383,18 @@ def excuses(shown, folder):
     yield "the excuses", "" if good else str(found)
 
 
+def cuts(shown, folder):
+    """On the page of the example with a death in the middle of a beat the two lists that tell of the death say so."""
+    ending.put(os.path.join(folder, "cut.html"), pages.page(dict(kept())["cut"], "cut.json"))
+    shown.open(os.path.join(folder, "cut.html"))
+    listed = shown.value("page.list.list.rows.map((row) => [row.time, row.which, row.what])")
+    good = [200000, "cub 2", "it dies in the middle of a beat, after 1 message"] in listed
+    yield "the list with a cut", "" if good else str(listed)
+    shown.value("page.choose({viewer: null, cub: 2})")
+    about = shown.value("page.list.list.about")
+    yield "the words for a cut", "" if "It dies at 0.20 s in the middle of a beat, after 1 message." in about else about
+
+
 def in_a_browser(folder):
     """The page of an example in Chromium: it complains of nothing, moves, and shows the blocks of what is clicked."""
     if browser.path() is None:
@@ -392,7 +406,8 @@ def in_a_browser(folder):
             shown.begin(1200, 900)
             shown.open(os.path.join(folder, "six.html"))
             for tried in (moves(shown), plays(shown), stands(shown, dict(kept())["six-viewers"]), tells(shown),
-                          shows(shown), reaches(shown), guides(shown), excuses(shown, folder)):
+                          shows(shown), reaches(shown), guides(shown), excuses(shown, folder),
+                          cuts(shown, folder)):
                 found.extend(tried)
             found.append(("what the browser complains of", "; ".join(shown.complaints)))
     except (browser.Fault, OSError, ValueError) as why:

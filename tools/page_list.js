@@ -61,7 +61,8 @@ function cubList(run, cub) {
     show: {viewer: part.viewer.number, cub: null}}));
   const disks = run.faults.filter(([disk]) => disk % run.cubs === cub).map(([disk, begin, until]) =>
     ` Disk ${disk} cannot be read from ${run.seconds(begin * run.beat)} to ${run.seconds(until * run.beat)}.`);
-  const death = run.deathOf.has(cub) ? ` It is dead from ${run.seconds(run.deathOf.get(cub))} on.` : "";
+  const time = run.deathOf.has(cub) ? run.seconds(run.deathOf.get(cub)) : "", cut = run.cutWords(cub);
+  const death = !time ? "" : cut ? ` It dies at ${time}${cut}.` : ` It is dead from ${time} on.`;
   const about = `Blocks due here: ${sumsOf(home)}. It sent ${pieces} of blocks of the cubs before it.${death}`;
   return {heading: `Cub ${cub}`, about: about + disks.slice(0, 3).join("") + (disks.length > 3
     ? ` It has ${disks.length - 3} more such times.` : ""), when: "Time", which: "Block", rows};
@@ -80,7 +81,7 @@ function wholeList(run) {
     which: `viewer ${part.viewer.number}, block ${part.block.number}`, what: `missing: ${run.why[part.kind]}`,
     show: {viewer: part.viewer.number, cub: null}}));
   const deaths = run.deaths.map(([cub, beat]) => ({time: beat * run.beat, kind: "dead", which: `cub ${cub}`,
-    what: "it dies", show: {viewer: null, cub}}));
+    what: `it dies${run.cutWords(cub)}`, show: {viewer: null, cub}}));
   const faults = run.faults.map(([disk, begin, until]) => ({time: begin * run.beat, kind: "fault",
     which: `disk ${disk} of cub ${disk % run.cubs}`, what: `it cannot be read until ${run.seconds(until * run.beat)}`,
     show: {viewer: null, cub: disk % run.cubs}}));

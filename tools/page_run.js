@@ -45,6 +45,7 @@ class Run {
     this.end = this.beats * this.beat;
     this.allDisks = this.cubs * this.disks;
     this.deathOf = new Map(this.deaths.map(([cub, beat]) => [cub, beat * this.beat]));
+    this.cutOf = new Map(this.deaths.filter(([, , after]) => after !== null).map(([cub, , after]) => [cub, after]));
     this.words = new Map();
     this.viewers = data.viewers.map((row, number) => this.viewerOf(row, number));
     this.placed = this.viewers.filter((viewer) => viewer.slot !== null);
@@ -175,6 +176,11 @@ class Run {
       return [this.excuseOfCub((cub + piece) % this.cubs, time), this.excuseOfDisk(of, time)];
     });
     return [...new Set(found.filter(Boolean))].join("; ");
+  }
+
+  /* How a cub dies that does so in the middle of a beat; nothing if it dies before the beat. */
+  cutWords(cub) {
+    return this.cutOf.has(cub) ? ` in the middle of a beat, after ${counted(this.cutOf.get(cub), "message")}` : "";
   }
 
   /* The death of a cub up to a time, in words; nothing if there was none. */

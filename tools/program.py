@@ -34,9 +34,13 @@ TOTAL = re.compile(rb"^total starts \d+ placed \d+ whole \d+ pieces \d+ missing 
 PEAK = re.compile(rb"^peak \d+ at \d+\n\Z", re.M)  # how the output of a network's schedule ends
 END = re.compile(rb"^end\n\Z", re.M)  # how the journals of a run end
 DISK = re.compile(rb"^disk \d+ parts \d+ bytes \d+\n\Z", re.M)  # how the lines of a scenario's disks end
-LAST = {"run": TOTAL, "make": TOTAL, "net": PEAK, "journal": END, "disks": DISK}  # how each command's output ends
+SAID = re.compile(rb"\Ascenario cubs \d+ slots \d+ starts \d+ beats \d+ memory \d+\n(?:warning [^\n]+\n)*\Z")  # of a scenario
+YES = re.compile(rb"\Aaudit yes\nentries \d+ puts \d+ stops \d+ deaths \d+ blocks \d+ pieces \d+\n\Z")  # of a kept run
+CONDITIONS = re.compile(rb"\A(?:condition \d+ left \d+ right \d+ needs [^\n]+\n)+\Z")  # of a plan, by `check`
+LAST = {"run": TOTAL, "make": TOTAL, "net": PEAK, "journal": END, "disks": DISK, "check": SAID, "audit": YES}  # of each command
 REFUSALS = (2, 3, 4, 5, 8, 13)  # the statuses of runs that write nothing but one line on standard error
 IMAGES = (11, 12, 14)  # those of `disks` that do so besides: the device, a damaged part, an image that exists
+AUDITS = (9, 10)  # those of `audit`: a broken clause, which has a second line for its place, and a text that is none
 
 
 class Ended:
@@ -160,11 +164,13 @@ def ended(process, seconds):
 
 def is_answer(one, last=TOTAL):
     """Whether a run ended as the program may: with a report that ends so and status 0, or with the line of a refusal
-    and its status."""
+    and its status, behind the false conditions of a plan that is checked."""
     if one.status == 0:
         return last.search(one.out) is not None and one.err == b""
-    statuses = REFUSALS + IMAGES if last is DISK else REFUSALS
-    return one.status in statuses and one.out == b"" and re.fullmatch(rb"tiger: [^\n]+\n", one.err) is not None
+    statuses = REFUSALS + {DISK: IMAGES, YES: AUDITS}.get(last, ())
+    says_all = last is SAID and one.err.startswith(b"tiger: scenario rule 4 ")
+    is_silent = CONDITIONS.search(one.out) is not None if says_all else one.out == b""
+    return one.status in statuses and is_silent and re.fullmatch(rb"tiger: [^\n]+\n", one.err) is not None
 
 
 def in_turn(work, items, jobs):

@@ -7,7 +7,7 @@ import json
 import re
 
 from drawing import counted, seconds
-from scenarios import KEYS, MOST_BEATS, out_of_range
+from scenarios import KEYS, MOST_AFTER, MOST_BEATS, out_of_range
 
 SECOND = 1000000  # microseconds
 START = re.compile(r"start (\d{1,9}) file (\d{1,9}) (?:slot (\d{1,9}) first (\d{1,9})|unplaced)")
@@ -42,7 +42,8 @@ class Viewer:
 
 
 class Scenario:
-    """The plan's numbers under their keys, the run's beats and end, and what happens in it."""
+    """The plan's numbers under their keys, the run's beats and end, and what happens in it. Deaths have their beats by
+    cub, and the cuts say after how many messages of that beat a cub dies, if it is in the middle of it."""
 
     def __init__(self, content):
         value = parsed(content)
@@ -53,6 +54,7 @@ class Scenario:
             self.starts = [(whole(event["beat"]), whole(event["start"])) for event in value["events"]
                            if "start" in event]
             self.deaths = {whole(death["cub"]): whole(death["beat"]) for death in value.get("deaths", [])}
+            self.cuts = {death["cub"]: whole(death["after"]) for death in value.get("deaths", []) if "after" in death}
             self.faults = [tuple(whole(fault[key]) for key in ("disk", "from", "until"))
                            for fault in value.get("read_faults", [])]
         except (KeyError, TypeError, AttributeError, ValueError):
@@ -68,6 +70,7 @@ class Scenario:
         cubs, disks = self.plan["cubs"], self.plan["cubs"] * self.plan["disks"]
         return (all(beat < self.beats and file < len(self.files) for beat, file in self.starts)
                 and all(cub < cubs and beat < self.beats for cub, beat in self.deaths.items())
+                and all(after <= MOST_AFTER for after in self.cuts.values())
                 and all(disk < disks and first < until <= self.beats for disk, first, until in self.faults))
 
     def words(self):
@@ -75,6 +78,12 @@ class Scenario:
         plan = self.plan
         return (f"{self.cubs} cubs with {counted(plan['disks'], 'disk')} each, {counted(plan['slots'], 'slot')}, block "
                 f"play time {seconds(self.play)} s, {counted(self.beats, 'beat')} of {seconds(self.beat)} s")
+
+    def death(self, cub):
+        """The death of a cub that dies, in words, with its beat."""
+        if cub not in self.cuts:
+            return f"dead from beat {self.deaths[cub]} on"
+        return f"dies in the middle of beat {self.deaths[cub]}, after {counted(self.cuts[cub], 'message')}"
 
     def due(self, slot, visit):
         """When a slot's visit is due, in microseconds."""

@@ -32,6 +32,7 @@ def draw_line(rng):
                "block": some(rng, 1, 7, 64, 1000), "batch": some(rng, 1, 1, 2, 5), "heart": some(rng, 1, 10, 50),
                "stops": some(rng, 0, 0, 1), "deaths": rng.randint(0, min(3, cubs // 2)), "faults": rng.randint(0, 4),
                "files": rng.randint(1, 5), "seed": rng.getrandbits(rng.randint(1, 64))}
+    numbers["cuts"] = rng.randint(0, numbers["deaths"])
     if rng.random() < 0.2:
         numbers["slots"] = some(rng, 1, 4096, rng.randint(1, 200))
     if rng.random() < 0.3:
@@ -98,7 +99,7 @@ def plan_faults(plan):
 
 def by_words(folder):
     """The same words make the same scenario and files, a narrow window is warned of, and what cannot be is refused."""
-    words = ["--seed", "7", "--seconds", "5", "--deaths", "2", "--skew", "30", "--files-to", "films"]
+    words = ["--seed", "7", "--seconds", "5", "--deaths", "2", "--skew", "30", "--files-to", "films", "--cuts", "1"]
     first, second = scenario(words, folder), scenario(words, folder)
     names = [file["name"] for file in json.loads(first.out)["files"]] if first.status == 0 else []
     sizes = {os.path.getsize(os.path.join(folder, name)) for name in names}
@@ -114,6 +115,7 @@ def by_words(folder):
 
 REFUSED = (  # words for which there is no scenario, each with a part of the line
     ("--cubs 6", "at least 7"), ("--cubs 65", "must be from 3 to 64"), ("--cubs 8 --deaths 5", "4 at most may die"),
+    ("--deaths 2 --cuts 3", "3 cuts of 2 deaths"),
     ("--cubs 64 --delay 16 --play-time 1000000", "at least 10880000"), ("--window-a 80000", "condition 1 of a plan"),
     ("--max-lead 5000000", "condition 7 of a plan"), ("--hold 1999999", "condition 12 of a plan"),
     ("--seconds 1001", "100100 beats, and 100000 are the most"), ("--files 65", "64 are the most"),

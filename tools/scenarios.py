@@ -11,7 +11,7 @@ KEYS = ("cubs", "disks", "slots", "play", "pieces", "block", "beat", "delay", "s
 RANGES = ((3, 64), (1, 8), (1, 4096), (10000, 10**8), (1, 8), (1, 1 << 20), (1, 10**6), (1, 16), (0, 10**6), (1, 10**9),
           (1, 10**9), (1, 10**9), (1, 10**9), (1, 10**10), (1, 10**5), (1, 10**5), (1, 10**9), (1, 10**9))
 MOST_BEATS, MOST_PRODUCT, MOST_VISITS, MOST_STARTS = 100000, 2000000, 400000, 2000
-MOST_FILES, MOST_EVENTS, MOST_DEATHS, MOST_FAULTS = 64, 4000, 32, 1000
+MOST_FILES, MOST_EVENTS, MOST_DEATHS, MOST_FAULTS, MOST_AFTER = 64, 4000, 32, 1000, 1000
 ODD = ('-1', '-0', '0.0', '1.0', '1e0', '1.5', '18446744073709551616', '"1"', '""', 'null', 'true', '[]', '[1]', '{}')
 
 
@@ -245,14 +245,21 @@ def draw_events(rng, beats, files, per_play):
 
 
 def draw_deaths(rng, cubs, beats):
-    """Some cubs that are no neighbours, each with a beat."""
+    """Some cubs that are no neighbours, each with a beat; half of them die there after some messages."""
     dead = []
     for cub in rng.sample(range(cubs), some(rng, 1, 3, 6)):
         if all((cub - other) % cubs not in (1, cubs - 1) for other in dead):
             dead.append(cub)
     last = beats - 1
-    return [{"cub": cub, "beat": some(rng, 0, min(1, last), *[rng.randint(0, last) for _ in range(6)])}
-            for cub in dead]
+    return [{"cub": cub, "beat": some(rng, 0, min(1, last), *[rng.randint(0, last) for _ in range(6)]),
+             **draw_after(rng)} for cub in dead]
+
+
+def draw_after(rng):
+    """In half of the deaths, after how many messages it comes: often after few, sometimes after more than there are."""
+    if rng.random() < 0.5:
+        return {}
+    return {"after": some(rng, 0, 0, 1, 1, 2, 3, rng.randint(0, 8), rng.randint(0, 40), MOST_AFTER)}
 
 
 def draw_faults(rng, disks, beats, number):

@@ -422,8 +422,8 @@ def draw_cubs(picture, y, sends):
     for fault in scenario.faults:
         cub = fault[0] % scenario.cubs
         draw_fault(picture, y + cub * tall, tall, fault, taken[cub])
-    for cub, beat in scenario.deaths.items():
-        draw_death(picture, y + cub * tall, tall, beat, taken[cub])
+    for cub in scenario.deaths:
+        draw_death(picture, y + cub * tall, tall, cub, taken[cub])
     if picture.is_merged:
         scale = picture.scale
         draw_merged(picture, y, tall, [(cub, scale.at(beat * scenario.beat)) for cub, beat, *_ in sends], MERGED)
@@ -473,19 +473,28 @@ def draw_fault(picture, y, tall, fault, taken):
         taken.extend(range(int(behind), int(behind + room), 5))
 
 
-def draw_death(picture, y, tall, beat, marks):
+def draw_death(picture, y, tall, cub, marks):
     """Draws the time in which a cub is dead, with words that keep clear of the marks across its row."""
     scenario, scale, drawing = picture.scenario, picture.scale, picture.drawing
-    x = scale.at(beat * scenario.beat)
-    drawing.box(x, y + 1, RIGHT - x, tall - 2, DEAD, f"dead from beat {beat} on")
+    x = scale.at(scenario.deaths[cub] * scenario.beat)
+    drawing.box(x, y + 1, RIGHT - x, tall - 2, DEAD, scenario.death(cub))
     drawing.path([f"M{number(x)} {number(y)}v{number(tall)}"], stroke=INK, stroke_width=2)
-    for words in (f"dead from {seconds(beat * scenario.beat)} s on", "dead"):
+    for words in death_words(scenario, cub):
         room = width_of(words, 11) + 6
         place = free_place(x + 5, room, marks)
         if tall >= 18 and place + room <= RIGHT:
             drawing.box(place, y + 2, room, tall - 4, "#fff", rx=3, fill_opacity="0.9")
             drawing.text(place + room / 2, y + tall / 2 + 4, words, 11, text_anchor="middle")
             break
+
+
+def death_words(scenario, cub):
+    """The words for a cub's death, the longest first."""
+    time = seconds(scenario.deaths[cub] * scenario.beat)
+    words = [f"dead from {time} s on", "dead"]
+    if cub in scenario.cuts:
+        words.insert(0, f"dies at {time} s in the middle of a beat, after {counted(scenario.cuts[cub], 'message')}")
+    return words
 
 
 def free_place(begin, wide, marks):

@@ -1,9 +1,10 @@
-"""Checks of tools/picture, tools/explain and tools/draw for tools/check-program, and of the line by which the launcher
-offers tools/explain."""
+"""Checks of tools/picture, tools/explain, tools/draw and tools/cuts for tools/check-program, and of the line by which
+the launcher offers tools/explain."""
 import json
 import os
 import pty
 import re
+import shlex
 import subprocess
 import sys
 import xml.etree.ElementTree
@@ -16,6 +17,7 @@ import scenarios
 EXAMPLES = os.path.join(program.TOP, "examples")
 TOOLS = os.path.join(program.TOP, "tools")
 KEPT = {  # the pictures of examples/, each with the words that make it from a scenario and its kept report there
+    "cut.svg": ("cut",),
     "dead-cub.svg": ("dead-cub",),
     "full-house.svg": ("full-house",),
     "net.svg": ("net",),
@@ -195,6 +197,8 @@ def same_tables():
     yield "the table of conditions", first_unlike(meanings.CONDITIONS, conditions)
     yield "the table of the plan's keys", first_unlike(ours, keys)
     yield "the table of statuses", first_unlike(meanings.STATUSES, statuses)
+    clauses = {int(row[0]): row[1] for row in numbered if len(row) == 2}
+    yield "the table of clauses", first_unlike(meanings.CLAUSES, clauses)
     net_rules = {int(row[0]): row[1:] for row in numbered if len(row) == 3 and not row[1].isdecimal()}
     yield "the table of a plan's rules", first_unlike(meanings.NET_RULES, net_rules)
 
@@ -221,6 +225,9 @@ def broken():
     yield 5, {**one, "events": [{"beat": 0, "stop": 0}]}, "nothing was started before it"
     yield 5, {**one, "beats": 20000, "events": [event] * 2000}, "The product is 402000, and may be at most 400000."
     yield 5, {**one, "deaths": [{"cub": 7, "beat": 1}, {"cub": 0, "beat": 1}]}, "a neighbour of cub 7"
+    for after, words in ((1001, "its after is 1001, and must be from 0 to 1000"), (None, "its after is null, which")):
+        yield 5, {**one, "deaths": [{"cub": 7, "beat": 1, "after": after}]}, words
+    yield 5, {**one, "deaths": [{"cub": 7, "beat": 1, "after": 1, "until": 2}]}, 'it has the key "until"'
     yield 5, {**one, "read_faults": [{"disk": 0, "from": 9, "until": 9}]}, "must be below its until, 9"
     yield 5, {**one, "files": [{"name": "nothing", "disk": 0}]}, 'files[0] names it "nothing"'
     tiny = {**one, "plan": {**small_plan(), "block": 1, "pieces": 6}, "files": [{"name": "most", "disk": 0}]}
@@ -240,7 +247,8 @@ def explained(tiger, folder):
         yield f"the words '{words}'", "" if good else f"status {said.status}, '{said.out.decode()}'"
     said = tool("explain", ["7"], folder)
     yield "the words for no memory", "" if b"run fewer beats, viewers or cubs" in said.out else said.out.decode()
-    for words, status, start in ((["tiger: words"], 0, b"Status 2: "), (["7"], 0, b"Status 7: "), (["9"], 1, b""),
+    for words, status, start in ((["tiger: words"], 0, b"Status 2: "), (["7"], 0, b"Status 7: "),
+                                 (["9"], 0, b"Status 9: "), (["15"], 1, b""),
                                  (["11"], 0, b"Status 11: "), (["tiger: device"], 0, b"Status 11: "),
                                  (["tiger: damaged disk 3 at 17"], 0, b"Status 12: "),
                                  (["12", "one.json"], 0, b"Status 12: "), (["14", "one.json"], 0, b"Status 14: "),
@@ -286,9 +294,18 @@ def offers(folder):
 
 # Drawn scenarios.
 
+def as_reference(tiger, folder):
+    """The path of a program that is the given one behind the two words that the reference takes first."""
+    path = os.path.join(folder, "as-reference")
+    with open(path, "w", encoding="utf-8") as file:
+        file.write(f'#!/bin/sh\nshift 2\nexec {shlex.quote(tiger)} "$@"\n')
+    os.chmod(path, 0o755)
+    return path
+
+
 def draws(tiger, folder):
     """A few scenarios are drawn and compared, with the program in the reference's place."""
-    words = ["--program", tiger, "--reference", tiger, "--jobs", "1", "7", "3"]
+    words = ["--program", tiger, "--reference", as_reference(tiger, folder), "--jobs", "1", "7", "3"]
     drawn = tool("draw", words, folder)
     good = drawn.status == 0 and drawn.out.endswith(b"draw: 3 agreed, 0 differed\n")
     yield "three drawn scenarios", "" if good else f"status {drawn.status}, '{drawn.out.decode()}'"
@@ -297,6 +314,24 @@ def draws(tiger, folder):
     is_empty = drawn.out.endswith(b"draw: 0 agreed, 0 differed\n")
     good = drawn.status == int(is_empty) and re.search(wanted, drawn.out)
     yield "a moment of drawing", "" if good else f"status {drawn.status}, '{drawn.out.decode()}'"
+
+
+def cuts(tiger, folder):
+    """Deaths in the middle of two beats are tried, with the program in the reference's place; and a program that is
+    wrong of one death is found."""
+    same = as_reference(tiger, folder)
+    wrong = os.path.join(folder, "wrong-of-one")
+    with open(wrong, "w", encoding="utf-8") as file:
+        file.write(f'#!/bin/sh\n[ "$2" = 1-3.json ] && set -- "$1" 1-2.json "$3"\nexec {shlex.quote(tiger)} "$@"\n')
+    os.chmod(wrong, 0o755)
+    for command in ([], ["--journal"]):
+        words = ["--reference", same, "--beats", "2", "--jobs", "1", *command]
+        tried = tool("cuts", ["--program", tiger, *words], folder)
+        yield f"cuts {command}", tried.differs(program.Ended(0, b"cuts: 18 passed, 0 failed\n", b""))
+    tried = tool("cuts", ["--program", wrong, *words], folder)
+    wanted = rb"cuts: beat 1, after 3: line [^\n]+\ncuts: 17 passed, 1 failed\n"
+    good = tried.status == 1 and re.fullmatch(wanted, tried.out)
+    yield "cuts that are wrong of one death", "" if good else f"status {tried.status}, '{tried.out.decode()}'"
 
 
 def all_of_them(tiger, folder):
@@ -309,3 +344,4 @@ def all_of_them(tiger, folder):
     yield from explained(tiger, folder)
     yield from offers(folder)
     yield from draws(tiger, folder)
+    yield from cuts(tiger, folder)

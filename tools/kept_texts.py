@@ -1,0 +1,76 @@
+"""Texts of kept runs that are changed line by line, and how `tiger audit` must end on them, for tools/conformance and
+tools/audit-mutations. It shares no code with the crates.
+
+A change is `drop N`, `double N`, `move N M` (line N is taken out, and put in as line M), `change N TEXT`, `put N TEXT`
+(as line N), or `front N`, the first N bytes. Lines count from 1, and behind the last line feed stands one more.
+
+Python 3.8 or later, and nothing but its standard library.
+"""
+import re
+
+from program import Ended, refused
+
+PLACE = re.compile(rb"tiger: at (?:(?:node|order|cub) \d+, line \d+(?:, whose (?:death is missing|neighbour dies too))?"
+                   rb"|the tick of cub \d+ in beat \d+(?:, behind line \d+)?)\n")
+WHOLE, PIECE = "9", "10"  # the notes of a block and of a piece
+
+
+def changed(text, change):
+    """The bytes of a text with one change."""
+    word, rest = change.encode("latin-1").split(b" ", 1)
+    if word == b"front":
+        return text[:int(rest)]
+    lines = text.split(b"\n")
+    number, _, behind = rest.partition(b" ")
+    at = int(number) - 1
+    if word in (b"drop", b"move"):
+        line = lines.pop(at)
+        if word == b"move":
+            lines.insert(int(behind) - 1, line)
+    elif word == b"double":
+        lines.insert(at, lines[at])
+    elif word == b"put":
+        lines.insert(at, behind)
+    else:
+        lines[at] = behind
+    return b"\n".join(lines)
+
+
+def counts(text):
+    """How much there is in a run, as `audit` counts it, by the run's text."""
+    lines = [line.split() for line in text.decode("latin-1").splitlines()]
+    nodes = [at for at, line in enumerate(lines) if line[0] == "node"]
+    entries = [line for line in lines[nodes[0]:] if line[0] not in ("node", "digest", "end")]
+    of_viewers = [line for line in lines[nodes[-1]:] if line[0] == "got"]
+    numbers = {
+        "entries": len(entries),
+        "puts": sum(line[0] == "put" for line in entries),
+        "stops": sum(line[0] == "gone" for line in entries),
+        "deaths": sum(line[0] == "died" for line in entries),
+        "blocks": sum(line[4] == WHOLE for line in of_viewers),
+        "pieces": sum(line[4] == PIECE for line in of_viewers),
+    }
+    return " ".join(f"{name} {number}" for name, number in numbers.items())
+
+
+def answered(answer, text):
+    """How `audit` must end on a text, by `yes`, `audit CLAUSE` or `journal LINE`; the place of a clause aside."""
+    if answer == "yes":
+        return Ended(0, f"audit yes\n{counts(text)}\n".encode(), b"")
+    word, number = answer.split()
+    return refused(10, f"journal line {number}") if word == "journal" else refused(9, f"audit clause {number}")
+
+
+def without_place(ended):
+    """How a call of `audit` ended, without the line of the place, if it has one as it may be."""
+    first, feed, second = ended.err.partition(b"\n")
+    place = ended.status == 9 and PLACE.fullmatch(second)
+    return Ended(ended.status, ended.out, first + feed) if place else ended
+
+
+def cases(path):
+    """Each line of a list of cases: its name, the name of its text, its answer and its changes."""
+    with open(path, encoding="ascii") as file:
+        for line in file:
+            name, text, answer, *changes = line.rstrip("\n").split("\t")
+            yield name, text, answer, [change.encode().decode("unicode_escape") for change in changes]
