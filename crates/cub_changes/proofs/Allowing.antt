@@ -1,5 +1,5 @@
 -- What a change puts out is a message in form on a link that leads from the cub, or an entry of a cub's own.
-use Rattle.std.proofs.Common.{◌≡◌, ℕ, ◌+◌, ◌-◌, ◌<◌, ◌≤◌, ◌&&◌, ◌||◌, nat_lt, not, true, zero, suc, List, map, drop, take, IsTrue, refl, subst, arith, ⊎_elim}
+use Rattle.std.proofs.Common.{◌≡◌, ℕ, ◌+◌, ◌-◌, ◌<◌, ◌≤◌, ◌&&◌, ◌||◌, nat_lt, not, true, zero, suc, List, Option, map, drop, take, IsTrue, refl, subst, arith, ⊎_elim}
 use Rattle.std.specs.List.{AllByRecursion, flat_map, range_with_len}
 use Rattle.std.proofs.lemmas.Bool.{and_parts, ltb-true}
 use Rattle.tiger_base.specs.declared.number.Stamp.{Stamp}
@@ -28,7 +28,8 @@ use Rattle.lists.specs.Elements.{In}
 use Rattle.cub_changes.specs.Outputs.{Output, output, IsNear, ComesOf}
 use Rattle.cub_changes.specs.Outputs.Output.{DescheduleSent, KillSent, StateSent, MirrorStateSent, PlacedSent, AskSent, BlockSent, PieceSent, HeartbeatSent}
 use Rattle.cub_changes.proofs.Keeping.{IsSound, change_keeps}
-use Rattle.lists.proofs.Each.{all_map, all_flat_map, all_if, all_in}
+use Rattle.lists.proofs.Each.{all_map, all_flat_map, all_in}
+use Rattle.cub_changes.proofs.Splitting.{all_off}
 use Rattle.cub_changes.proofs.Numbers.{in_range, tenancy_parts, place_from_parts, piece_parts, piece_from_parts, visit_in_form, state_in_form, disk_own, piece_disk_own}
 use Rattle.cub_changes.proofs.Outputs.{forms_of}
 use Rattle.cub_changes.proofs.Positions.{reached_small}
@@ -94,13 +95,13 @@ module _ (p : Params) (c : ℕ) (plan : IsPlan p) where
             (record { in_form = piece_at 1 (omega arith) (omega arith); here = backup_here p c x.rec.visit x.rec.kind backup own.here }, tt)
 
   -- the first pieces of visits that are split are the cub's
-  pub first_pieces_own : (stamp : Stamp) (xs : List Line) → AllByRecursion (IsLineOf p c) xs
-      → AllByRecursion (IsPieceAt p c) (flat_map (first_pieces p stamp) xs)
-  first_pieces_own stamp xs kept =
-      all_flat_map (IsPieceAt p c) (first_pieces p stamp) xs
+  pub first_pieces_own : (stamp : Stamp) (back : Option ℕ) (xs : List Line) → AllByRecursion (IsLineOf p c) xs
+      → AllByRecursion (IsPieceAt p c) (flat_map (first_pieces p stamp back) xs)
+  first_pieces_own stamp back xs kept =
+      all_flat_map (IsPieceAt p c) (first_pieces p stamp back) xs
       (λ x i.
-      all_if (IsPieceAt p c) (must_split p stamp x) (take 1 (pieces_of p x.rec))
-      (λ e. first_piece x (all_in (IsLineOf p c) x xs kept i) (split_backup p stamp x e)))
+      all_off (IsPieceAt p c) p stamp back x (take 1 (pieces_of p x.rec))
+      (λ _ e. first_piece x (all_in (IsLineOf p c) x xs kept i) (split_backup p stamp x e)))
 
   module _ (here : c < p.cubs) (stamp : Stamp) where
     near_leads : (steps : ℕ) → IsNear steps → IsOutLink p c (way_ahead p c steps).0

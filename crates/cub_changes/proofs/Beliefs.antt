@@ -183,17 +183,17 @@ module _ (p : Params) (c : ℕ) (stamp : Stamp) where
   ticking_parts h = ticking_by Parts parts_closed p c stamp h (λ g from t x q cause. parts_each g from x q cause)
 
 pub keep_belief : CubsKeepBelief
-keep_belief s (Take stamp link m) =
-    let u = taking_unmoved s.params s.cub stamp link m s.store in record {
+keep_belief p c (Take stamp link m) h =
+    let u = taking_unmoved p c stamp link m h in record {
       stays = λ b. u.believes ∙ b;
       written = λ b. inl (sym u.believes ∙ b);
       entry = λ who i. absurd (u.none who i);
-      none_apart = λ k. taking_parts s.params s.cub stamp link m s.store k;
+      none_apart = λ k. taking_parts p c stamp link m h k;
     }
-keep_belief s (Tick stamp) =
-    let t = ticking_minds s.params s.cub stamp s.store in record {
+keep_belief p c (Tick stamp) h =
+    let t = ticking_minds p c stamp h in record {
       stays = t.stays;
       written = t.written;
       entry = λ who i. let w = t.entry who i in (tt, w.0, w.1, w.2, w.3);
-      none_apart = λ k. ticking_parts s.params s.cub stamp s.store k;
+      none_apart = λ k. ticking_parts p c stamp h k;
     }

@@ -36,11 +36,11 @@ each p c i old g from of x h cause =
     })
 
 pub have_causes : OutputsHaveCauses
-have_causes s (Take stamp link m) =
-    let Q : Out Msg → Type 0 = HasCause s.params s.cub (Take stamp link m) s.store in
-    taking_by (Puts s.params s.cub stamp Q) (puts_closed s.params s.cub stamp Q) s.params s.cub stamp link m s.store
-    (each s.params s.cub (Take stamp link m) s.store (OnMessage link m) s.store (refl, refl))
-have_causes s (Tick stamp) =
-    let Q : Out Msg → Type 0 = HasCause s.params s.cub (Tick stamp) s.store in
-    ticking_by (Puts s.params s.cub stamp Q) (puts_closed s.params s.cub stamp Q) s.params s.cub stamp s.store
-    (λ g from t. each s.params s.cub (Tick stamp) s.store g from (of_tick stamp s.store g from t))
+have_causes p c (Take stamp link m) h =
+    let Q : Out Msg → Type 0 = HasCause p c (Take stamp link m) h in
+    taking_by (Puts p c stamp Q) (puts_closed p c stamp Q) p c stamp link m h
+    (each p c (Take stamp link m) h (OnMessage link m) h (refl, refl))
+have_causes p c (Tick stamp) h =
+    let Q : Out Msg → Type 0 = HasCause p c (Tick stamp) h in
+    ticking_by (Puts p c stamp Q) (puts_closed p c stamp Q) p c stamp h
+    (λ g from t. each p c (Tick stamp) h g from (of_tick stamp h g from t))

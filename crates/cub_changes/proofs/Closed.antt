@@ -1,5 +1,5 @@
 -- Relations between what a cub keeps and what it does, which hold of rules if they hold of what the rules are made of.
-use Rattle.std.proofs.Common.{◌≡◌, ℕ, List, [], ◌∷◌, ◌++◌, Bool, true, false, cond, refl, inl, inr}
+use Rattle.std.proofs.Common.{◌≡◌, ℕ, List, [], ◌∷◌, ◌++◌, Bool, true, false, cond, is_some, Option, Some, None, refl, inl, inr}
 use Rattle.std.proofs.lemmas.Bool.{cond_both}
 use Rattle.tiger_base.specs.declared.number.Stamp.{Stamp}
 use Rattle.tiger_base.specs.declared.message.Msg.{Msg}
@@ -19,6 +19,10 @@ pub record IsClosed (P : Store → Deed Msg Store → Type 0) : Type 0 where
 -- it holds of each change that is made in a stage, which began with this store
 abbrev pub OfEach : (Store → Deed Msg Store → Type 0) → Params → ℕ → Stamp → Stage → Store → Type 0
 OfEach P p c stamp g from = (x : Change) (h : Store) → Cause p c stamp g from x h → P h (did p c stamp x h)
+
+pub none_is : {X : Type 0} (o : Option X) → is_some o ≡ false → o ≡ None
+none_is None e = refl
+none_is (Some x) e = absurd (cc)
 
 module _ (P : Store → Deed Msg Store → Type 0) (closed : IsClosed P) where
   pub then_by : (f g : Store → Deed Msg Store) (h : Store) → P h (f h) → P (f h).state (g (f h).state) → P h (then_do f g h)

@@ -1,5 +1,5 @@
 -- A change keeps what the cub may keep, if what it takes in is the cub's.
-use Rattle.std.proofs.Common.{ℕ, ◌≤◌, ◌+◌, Bool, true, cond, not, List, [], ◌∷◌, map, filter, IsTrue}
+use Rattle.std.proofs.Common.{ℕ, ◌≤◌, ◌+◌, Bool, true, cond, not, List, Option, [], ◌∷◌, map, filter, IsTrue}
 use Rattle.std.specs.List.{AllByRecursion, flat_map}
 use Rattle.std.proofs.lemmas.Bool.{cond_both}
 use Rattle.tiger_base.specs.declared.number.Instance.{Instance}
@@ -26,10 +26,11 @@ use Rattle.cub_rules.specs.Records.{is_part_of}
 use Rattle.cub_rules.specs.Messages.{is_piece_part}
 use Rattle.cub_rules.specs.Ticks.{is_stale, must_split, split_visits, with_each, is_to_forward, must_read, leaves_by, is_served, is_past}
 use Rattle.cub_changes.specs.Changes.{Change, did}
-use Rattle.cub_changes.specs.Changes.Change.{Hold, PassOn, DropLines, DropStart, DropPieces, KillSplits, TakeRecord, Queue, QueueApart, AddPiece, DropKilled, StorePart, HearBeat, Release, Believe, PutStart, SendFirst, SendPlaced, SplitVisits, Forward, AskBlocks, AskPieces, ServeBlocks, DropBackups, ServePieces}
-use Rattle.lists.proofs.Each.{all_append, all_map, all_flat_map, all_if, all_in}
+use Rattle.cub_changes.specs.Changes.Change.{Hold, PassOn, DropLines, DropStart, DropPieces, KillSplits, TakeRecord, Queue, QueueApart, AddPiece, DropKilled, StorePart, HearBeat, HearBack, Release, Believe, PutStart, SendFirst, SendPlaced, SplitVisits, Forward, AskBlocks, AskPieces, ServeBlocks, DropBackups, ServePieces}
+use Rattle.lists.proofs.Each.{all_append, all_map, all_flat_map, all_in}
 use Rattle.cub_changes.proofs.Numbers.{visit_in_form}
 use Rattle.cub_changes.proofs.Positions.{IsInPlan}
+use Rattle.cub_changes.proofs.Splitting.{all_off}
 use Rattle.cub_changes.proofs.Stores.{with_lines, with_starts, with_others, with_pieces, with_splits, with_parts}
 
 -- what a change takes in is the cub's, and what it sends of a key or a tenancy is in form
@@ -84,14 +85,14 @@ module _ (p : Params) (c : ℕ) where
       let own = all_in (IsLineOf p c) x xs kept i in
       cond_both (test x) (lines.marked f x) x (IsLineOf p c) (λ _. marked_own f x own) (λ _. own))
 
-  split_visits_own : (stamp : Stamp) (xs : List Line) → AllByRecursion (IsLineOf p c) xs
-      → AllByRecursion (IsSplitHere p) (flat_map (split_visits p stamp) xs)
-  split_visits_own stamp xs kept =
-      all_flat_map (IsSplitHere p) (split_visits p stamp) xs
+  split_visits_own : (stamp : Stamp) (back : Option ℕ) (xs : List Line) → AllByRecursion (IsLineOf p c) xs
+      → AllByRecursion (IsSplitHere p) (flat_map (split_visits p stamp back) xs)
+  split_visits_own stamp back xs kept =
+      all_flat_map (IsSplitHere p) (split_visits p stamp back) xs
       (λ x i.
       let own = all_in (IsLineOf p c) x xs kept i in
-      all_if (IsSplitHere p) (must_split p stamp x) ((x.rec.tenancy.instance, x.rec.tenancy.slot, x.rec.visit) ∷ [])
-      (λ _. (visit_in_form p x.rec.tenancy x.rec.visit own.in_form own.not_over, tt)))
+      all_off (IsSplitHere p) p stamp back x ((x.rec.tenancy.instance, x.rec.tenancy.slot, x.rec.visit) ∷ [])
+      (λ _ _. (visit_in_form p x.rec.tenancy x.rec.visit own.in_form own.not_over, tt)))
 
   -- ---- what a change leaves out
   starts_but : (v : Instance) (h : Store) → IsStoreOf p c h → IsStoreOf p c (record h { starts = queues.without_start h.starts v })
@@ -115,9 +116,10 @@ module _ (p : Params) (c : ℕ) where
   pub change_keeps : (stamp : Stamp) (x : Change) (h : Store) → IsSound p c stamp x → IsStoreOf p c h
       → IsStoreOf p c (did p c stamp x h).state
   unfolding without_instance
-  change_keeps stamp (Hold v) h sound kept = with_others p c h _ _ _ kept
-  change_keeps stamp (PassOn v k) h sound kept = with_others p c h _ _ _ kept
-  change_keeps stamp HearBeat h sound kept = with_others p c h _ _ _ kept
+  change_keeps stamp (Hold v) h sound kept = with_others p c h _ _ _ _ kept
+  change_keeps stamp (PassOn v k) h sound kept = with_others p c h _ _ _ _ kept
+  change_keeps stamp HearBeat h sound kept = with_others p c h _ _ _ _ kept
+  change_keeps stamp (HearBack from) h sound kept = with_others p c h _ _ _ _ kept
   change_keeps stamp (DropLines v) h sound kept = lines_but (lines.is_of v) h kept
   change_keeps stamp ServeBlocks h sound kept = lines_but (is_served p stamp) h kept
   change_keeps stamp DropBackups h sound kept = lines_but (is_past p stamp) h kept
@@ -144,15 +146,15 @@ module _ (p : Params) (c : ℕ) where
       with_parts p c h _ kept (all_append (IsPartHere p) h.parts (record { want = want; part = part } ∷ []) kept.parts (form, tt))
   change_keeps stamp Release h sound kept =
       with_parts p c _ _
-      (with_splits p c _ _ (with_others p c h (holds_at h.held stamp.reading) h.watch h.believes kept)
+      (with_splits p c _ _ (with_others p c h (holds_at h.held stamp.reading) h.watch h.believes h.handback kept)
       (all_filter (IsSplitHere p) (λ x. not (splits.is_over p stamp.reading x)) h.splits kept.splits))
       (all_filter (IsPartHere p) (λ x. not (is_stale p stamp.reading x)) h.parts kept.parts)
   change_keeps stamp Believe h sound kept =
-      with_starts p c _ _ (with_others p c h h.held h.watch true kept)
+      with_starts p c _ _ (with_others p c h h.held h.watch true h.handback kept)
       (all_append IsAsk h.starts.waiting h.starts.redundant kept.waiting kept.redundant) tt
   change_keeps stamp SplitVisits h sound kept =
       with_splits p c _ _ (with_lines p c h _ kept (marked_kept (must_split p stamp) flag.Split h.view.lines kept.lines))
-      (with_splits_kept p (flat_map (split_visits p stamp) h.view.lines) (split_visits_own stamp h.view.lines kept.lines) h.splits kept.splits)
+      (with_splits_kept p (flat_map (split_visits p stamp h.handback) h.view.lines) (split_visits_own stamp h.handback h.view.lines kept.lines) h.splits kept.splits)
   change_keeps stamp Forward h sound kept =
       with_lines p c h _ kept (marked_kept (is_to_forward p stamp) flag.Forwarded h.view.lines kept.lines)
   change_keeps stamp AskBlocks h sound kept = with_lines p c h _ kept (marked_kept (must_read p stamp) flag.Asked h.view.lines kept.lines)

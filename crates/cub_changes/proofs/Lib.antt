@@ -2,6 +2,7 @@ pub mod Allowing
 pub mod Beliefs
 pub mod Causing
 pub mod Closed
+pub mod Coming
 pub mod Fits
 pub mod Keeping
 pub mod Listing
@@ -14,6 +15,7 @@ pub mod Puts
 pub mod Putting
 pub mod Rules
 pub mod Sound
+pub mod Splitting
 pub mod Stopping
 pub mod Stores
 pub mod Ticks

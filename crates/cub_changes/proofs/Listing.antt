@@ -147,13 +147,13 @@ none_comes other b apart h t may = may
 
 pub keep_starts : CubsKeepStarts
 unfolding Keeps
-keep_starts s (Take stamp link m) a =
-    taking_by (Keeps (Take stamp link m) a) (keeps_closed (Take stamp link m) a) s.params s.cub stamp link m s.store
-    (each (Take stamp link m) a s.params s.cub stamp (OnMessage link m) s.store
-    (λ v h may e. tells s.params s.cub stamp link m a v h may e)
+keep_starts p c (Take stamp link m) a h =
+    taking_by (Keeps (Take stamp link m) a) (keeps_closed (Take stamp link m) a) p c stamp link m h
+    (each (Take stamp link m) a p c stamp (OnMessage link m) h
+    (λ v h may e. tells p c stamp link m a v h may e)
     (λ b apart h may e. starts stamp link m a b apart h may e))
-keep_starts s (Tick stamp) a =
-    ticking_by (Keeps (Tick stamp) a) (keeps_closed (Tick stamp) a) s.params s.cub stamp s.store
-    (λ g from t. each (Tick stamp) a s.params s.cub stamp g from
-    (λ v h may e. none_told s.params s.cub g v h t may)
+keep_starts p c (Tick stamp) a h =
+    ticking_by (Keeps (Tick stamp) a) (keeps_closed (Tick stamp) a) p c stamp h
+    (λ g from t. each (Tick stamp) a p c stamp g from
+    (λ v h may e. none_told p c g v h t may)
     (λ b apart h may e. none_comes g b apart h t may))

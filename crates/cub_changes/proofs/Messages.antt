@@ -1,5 +1,5 @@
 -- A closed relation that holds of each change at a message holds of what the cub does with the message.
-use Rattle.std.proofs.Common.{◌≡◌, ℕ, ◌+◌, ◌&&◌, ◌||◌, ◌==◌, List, [], ◌∷◌, ◌++◌, Bool, true, false, not, cond, is_some, Option, Some, None, refl}
+use Rattle.std.proofs.Common.{◌≡◌, ℕ, ◌+◌, ◌&&◌, ◌||◌, ◌==◌, List, [], ◌∷◌, ◌++◌, Bool, true, false, not, nat_le, cond, is_some, Option, Some, None, refl}
 use Rattle.std.proofs.lemmas.Bool.{eqb-true, cond_both}
 use Rattle.tiger_base.specs.declared.number.Instance.{Instance}
 use Rattle.tiger_base.specs.declared.number.LinkNo.{LinkNo}
@@ -16,7 +16,7 @@ use Rattle.tiger_base.specs.declared.message.Msg.{Msg}
 use Rattle.tiger_base.specs.declared.message.Msg.TheVariants as msg
 use Rattle.tiger_base.specs.Notes.{noted}
 use Rattle.slot_plan.specs.declared.params.Params.{Params}
-use Rattle.slot_plan.specs.Times.{cub_of}
+use Rattle.slot_plan.specs.Times.{due, cub_of}
 use Rattle.slot_plan.specs.Keys.{Key}
 use Rattle.node_kit.specs.declared.journal.What.TheVariants as what
 use Rattle.node_kit.specs.declared.outbox.Out.{Out}
@@ -28,20 +28,39 @@ use Rattle.partial_view.specs.Views.{line_at}
 use Rattle.insert_queue.specs.Queues.{is_asked}
 use Rattle.deschedule.specs.Holds.{is_held, must_pass}
 use Rattle.mirror_schedule.specs.Pieces as pieces
+use Rattle.mirror_schedule.specs.Pieces.{leaving_of}
 use Rattle.viewer_state.specs.States.{is_visit_of}
 use Rattle.node_kit.specs.Deeds.{nothing, then_do, each_in_turn}
 use Rattle.node_kit.specs.Ways.{way_ahead, predecessor}
 use Rattle.cub_rules.specs.declared.store.Store.{Store}
-use Rattle.cub_rules.specs.State.{is_ask}
+use Rattle.cub_rules.specs.declared.comeback.Comeback.{Comeback}
+use Rattle.cub_rules.specs.Comebacks.{due_of_record, lets_in, records_let_in}
 use Rattle.cub_rules.specs.Records.{took, dropping_lines, dropping_start, dropping_pieces, with_piece_record}
-use Rattle.cub_rules.specs.Messages.{position_at, position, records_told, is_news, place_told, shows, is_wanted, passing_on, passing_from, told, met, meeting_state, queueing, queueing_redundant, meeting_start, holding, passing, killing_splits, dropping_all, descheduling, meeting_piece, meeting_kill, storing, meeting_answer, hearing_beat, hearing, taking}
+use Rattle.cub_rules.specs.Messages.{position_at, position, records_told, is_news, place_told, is_discarded, is_wanted, passing_on, passing_from, told, met, meeting_state, queueing, queueing_redundant, meeting_start, holding, passing, killing_splits, dropping_all, descheduling, meeting_piece, meeting_kill, storing, meeting_answer, hearing_beat, hearing_back, hearing, taking}
 use Rattle.cub_rules.specs.Ticks.{sending, told_placed}
 use Rattle.cub_changes.specs.Changes.{did}
-use Rattle.cub_changes.specs.Changes.Change.{Hold, PassOn, DropLines, DropStart, DropPieces, KillSplits, TakeRecord, Queue, QueueApart, AddPiece, DropKilled, StorePart, FailRead, HearBeat, SendPlaced}
+use Rattle.cub_changes.specs.Changes.Change.{Hold, PassOn, DropLines, DropStart, DropPieces, KillSplits, TakeRecord, Queue, QueueApart, AddPiece, DropKilled, StorePart, FailRead, HearBeat, HearBack, SendPlaced}
 use Rattle.cub_changes.specs.Causes.{Stage, IsPosition, MayPass, MayTake, MayQueue, MayAdd}
 use Rattle.lists.specs.Elements.{In}
+use Rattle.lists.proofs.Elements.{from_filter, in_filter}
 use Rattle.cub_changes.specs.Causes.Stage.{OnMessage}
 use Rattle.cub_changes.proofs.Closed.{IsClosed, OfEach, then_by, each_by, if_by}
+
+-- of the records that may enter each is one of those that come, and may enter
+pub of_let_in : (p : Params) (back : Option Comeback) (r : Rec) (rs : List Rec) → In r (records_let_in p back rs)
+    → In r rs × (lets_in back (due_of_record p r) ≡ true)
+of_let_in p None r rs i = (i, refl)
+of_let_in p (Some b) r rs i = from_filter (λ x. nat_le b.enters (due_of_record p x)) r rs i
+
+-- and each of those that come and may enter is there
+pub in_let_in : (p : Params) (back : Option Comeback) (r : Rec) (rs : List Rec) → In r rs
+    → lets_in back (due_of_record p r) ≡ true → In r (records_let_in p back rs)
+in_let_in p None r rs i e = i
+in_let_in p (Some b) r rs i e = in_filter (λ x. nat_le b.enters (due_of_record p x)) r rs i e
+
+passes : (b : Bool) → not b ≡ false → b ≡ true
+passes true e = refl
+passes false e = absurd (cc)
 
 module _ (P : Store → Deed Msg Store → Type 0) (closed : IsClosed P) (p : Params) (c : ℕ) (stamp : Stamp) where
   pub took_by : (g : Stage) (from : Store) → OfEach P p c stamp g from → (r : Rec) → MayTake p c stamp g from r → (h : Store)
@@ -60,22 +79,34 @@ module _ (P : Store → Deed Msg Store → Type 0) (closed : IsClosed P) (p : Pa
       (λ _. closed.none h)
 
   pub told_by : (s : State) (k : Key) (h : Store) → P h (did p c stamp (DropStart s.tenancy.instance) h)
-      → ((r : Rec) → In r (records_told s k) → (q : Store) → is_some (line_at (lines.visit_of r) q.view.lines) ≡ false → P q (did p c stamp (TakeRecord r) q))
-      → ((q : Store) → is_news s k h.view.lines ≡ true → P q (did p c stamp (SendPlaced s.tenancy) q))
+      → ((r : Rec) → In r (records_told s k) → lets_in h.comeback (due_of_record p r) ≡ true
+      → (q : Store) → is_some (line_at (lines.visit_of r) q.view.lines) ≡ false → P q (did p c stamp (TakeRecord r) q))
+      → ((q : Store) → is_news s k h.view.lines ≡ true → lets_in h.comeback (due p s.tenancy.slot.0 s.visit) ≡ true
+      → P q (did p c stamp (SendPlaced s.tenancy) q))
       → P h (told p c s k h)
   unfolding dropping_start took
   told_by s k h drop take place =
-      let telling : Store → Deed Msg Store = sending (place_told p c s k h.view.lines) in
-      let taking_all : Store → Deed Msg Store = each_in_turn took (records_told s k) in
+      let telling : Store → Deed Msg Store = sending (place_told p c s k h) in
+      let those : List Rec = records_let_in p h.comeback (records_told s k) in
+      let taking_all : Store → Deed Msg Store = each_in_turn took those in
       let g : Store = (dropping_start s.tenancy.instance h).state in
       let g1 : Store = (taking_all g).state in
       then_by P closed (dropping_start s.tenancy.instance) (then_do taking_all telling) h drop
       (then_by P closed taking_all telling g
-      (each_by P closed took (records_told s k)
-      (λ r i q. if_by P closed (is_some (line_at (lines.visit_of r) q.view.lines)) q (nothing q) _ (λ _. closed.none q) (λ e. take r i q e))
+      (each_by P closed took those
+      (λ r i q.
+      let m = of_let_in p h.comeback r (records_told s k) i in
+      if_by P closed (is_some (line_at (lines.visit_of r) q.view.lines)) q (nothing q) _ (λ _. closed.none q) (λ e. take r m.0 m.1 q e))
       g)
-      (cond_both (is_news s k h.view.lines) (told_placed p c s.tenancy ∷ []) [] (λ (outs : List (Out Msg)). P g1 (record { outs = outs; state = g1 }))
-      (λ e. place g1 e) (λ _. closed.none g1)))
+      (cond_both (lets_in h.comeback (due p s.tenancy.slot.0 s.visit)) (place_if s k h) [] (Sends g1)
+      (λ o. cond_both (is_news s k h.view.lines) (told_placed p c s.tenancy ∷ []) [] (Sends g1) (λ e. place g1 e o) (λ _. closed.none g1))
+      (λ _. closed.none g1)))
+    where
+      Sends : Store → List (Out Msg) → Type 0
+      Sends q outs = P q (record { outs = outs; state = q })
+
+      place_if : State → Key → Store → List (Out Msg)
+      place_if s k h = cond (is_news s k h.view.lines) (told_placed p c s.tenancy ∷ []) []
 
   pub state_by : (link : LinkNo) (s : State) (h : Store) → OfEach P p c stamp (OnMessage link (msg.ViewerState s)) h
       → P h (meeting_state p c stamp s h)
@@ -94,8 +125,8 @@ module _ (P : Store → Deed Msg Store → Type 0) (closed : IsClosed P) (p : Pa
           (λ held. passing_by g h each s.tenancy.instance (Some k) h (λ q e must. ((m q e).0, (m q e).1, refl, held, must)))
           (λ free.
           told_by s k h (each (DropStart s.tenancy.instance) h (refl, k, m k refl, free))
-          (λ r i q e. each (TakeRecord r) q ((k, m k refl, i, free), e))
-          (λ q e. each (SendPlaced s.tenancy) q (k, m k refl, refl, e, free)))
+          (λ r i o q e. each (TakeRecord r) q ((k, m k refl, i, free, o), e))
+          (λ q e o. each (SendPlaced s.tenancy) q (k, m k refl, refl, e, free, o)))
 
   queue_by : (g : Stage) (from : Store) → OfEach P p c stamp g from → (a : Ask) (h : Store) → MayQueue g a false h → (b : Bool)
       → is_asked h.starts a.instance ≡ b
@@ -116,7 +147,7 @@ module _ (P : Store → Deed Msg Store → Type 0) (closed : IsClosed P) (p : Pa
       → OfEach P p c stamp (OnMessage link (msg.Start redundant a)) h → P h (meeting_start a redundant h)
   unfolding meeting_start
   start_by link a redundant h each =
-      if_by P closed (not (is_ask a) || is_held h.held a.instance || shows h.view.lines a.instance) h (nothing h)
+      if_by P closed (is_discarded a h) h (nothing h)
       (cond (redundant && not h.believes) (queueing_redundant a h) (queueing a h)) (λ _. closed.none h)
       (λ e.
       if_by P closed (redundant && not h.believes) h (queueing_redundant a h) (queueing a h)
@@ -167,7 +198,9 @@ module _ (P : Store → Deed Msg Store → Type 0) (closed : IsClosed P) (p : Pa
   piece_by link x h each =
       if_by P closed (is_held h.held x.tenancy.instance || not (cub_of p (x.visit + x.piece) == c)) h (nothing h) _
       (λ _. closed.none h)
-      (λ e. add_by (OnMessage link (msg.MirrorState x)) h each x h (refl, e))
+      (λ e.
+      if_by P closed (not (lets_in h.comeback (leaving_of p x))) h (nothing h) _ (λ _. closed.none h)
+      (λ f. add_by (OnMessage link (msg.MirrorState x)) h each x h (refl, e, passes (lets_in h.comeback (leaving_of p x)) f)))
 
   pub kill_by : (link : LinkNo) (v : Instance) (slot : SlotNo) (visit : ℕ) (h : Store)
       → OfEach P p c stamp (OnMessage link (msg.Kill v slot visit)) h → P h (meeting_kill v visit h)
@@ -192,6 +225,13 @@ module _ (P : Store → Deed Msg Store → Type 0) (closed : IsClosed P) (p : Pa
       if_by P closed (link.0 == (way_ahead p (predecessor p c) 1).0) h _ (nothing h) (λ e. each HearBeat h (eqb-true _ _ e))
       (λ _. closed.none h)
 
+  pub back_by : (link : LinkNo) (at : ℕ) (h : Store) → OfEach P p c stamp (OnMessage link (msg.Back at)) h
+      → P h (hearing_back p c link at h)
+  unfolding hearing_back
+  back_by link at h each =
+      if_by P closed (link.0 == (way_ahead p (predecessor p c) 1).0) h _ (nothing h)
+      (λ e. each (HearBack at) h (refl, eqb-true _ _ e)) (λ _. closed.none h)
+
   pub hearing_by : (link : LinkNo) (m : Msg) (h : Store) → OfEach P p c stamp (OnMessage link m) h
       → P h (hearing p c stamp link m h)
   unfolding hearing
@@ -202,6 +242,7 @@ module _ (P : Store → Deed Msg Store → Type 0) (closed : IsClosed P) (p : Pa
   hearing_by link (msg.Kill v slot visit) h each = kill_by link v slot visit h each
   hearing_by link (msg.ReadDone want part) h each = answer_by link want part h each
   hearing_by link msg.Heartbeat h each = beat_by link h each
+  hearing_by link (msg.Back at) h each = back_by link at h each
   hearing_by link other h each = closed.none h
 
   -- what holds of each change that a message in form causes holds of what the cub does with the message

@@ -159,7 +159,7 @@ module _ (p : Params) (c : ℕ) (stamp : Stamp) where
         (λ q. none_of ServePieces q apart)
 
     beats : (h : Store) → (7 == n) ≡ false → AreNone test (beating p c stamp h).outs
-    beats h apart = beating_from Quiet quiet_closed p c stamp h (λ _. none_of Beat h apart)
+    beats h apart = beating_from Quiet quiet_closed p c stamp h (λ _ _. none_of Beat h apart)
 
     behind_reading : (h : Store) → (6 == n) ≡ false → (7 == n) ≡ false
         → AreNone test (then_do (serving p c stamp) (beating p c stamp) h).outs

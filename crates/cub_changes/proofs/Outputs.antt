@@ -16,7 +16,7 @@ use Rattle.tiger_base.specs.declared.message.Msg.TheVariants as msg
 use Rattle.tiger_base.specs.Records.{want_of, want_of_piece}
 use Rattle.slot_plan.specs.declared.params.Params.{Params}
 use Rattle.slot_plan.specs.Times.{disk_of, disk_count}
-use Rattle.slot_plan.specs.Keys.{Key}
+use Rattle.slot_plan.specs.Keys.{Key, due_of}
 use Rattle.mirror_pieces.specs.Pieces.{piece_disk}
 use Rattle.node_kit.specs.declared.journal.What.TheVariants as what
 use Rattle.node_kit.specs.declared.outbox.Out.{Out}
@@ -25,13 +25,15 @@ use Rattle.node_kit.specs.Ways.{way_ahead}
 use Rattle.node_kit.specs.Steps.{Deed}
 use Rattle.partial_view.specs.declared.line.Line.{Line}
 use Rattle.partial_view.specs.Lines as lines
+use Rattle.partial_view.specs.Lines.{key_of}
 use Rattle.insert_queue.specs.Queues.{has_start}
 use Rattle.mirror_schedule.specs.Splits as splits
 use Rattle.mirror_schedule.specs.Pieces.{pieces_of}
 use Rattle.cub_rules.specs.declared.store.Store.{Store}
+use Rattle.cub_rules.specs.Comebacks.{serves_at}
 use Rattle.cub_rules.specs.Records.{dropped, stored_for}
 use Rattle.cub_rules.specs.Messages.{is_reached, passed_on, kills}
-use Rattle.cub_rules.specs.Ticks.{queued, must_split, sent_ahead, split_outs, is_to_forward, forward_outs, must_read, ask_outs, asked_of_disk, leaves_by, is_served, is_past, sent_whole, serve_outs, sent_piece, piece_outs}
+use Rattle.cub_rules.specs.Ticks.{queued, sent_ahead, split_outs, is_to_forward, forward_outs, must_read, asked_block, ask_outs, asked_of_disk, leaves_by, is_served, is_past, sent_whole, served_whole, serve_outs, sent_piece, piece_outs}
 use Rattle.cub_changes.specs.Changes.{Change, did}
 use Rattle.cub_changes.specs.Changes.Change.{PassOn, DropLines, DropStart, KillSplits, TakeRecord, Queue, FailRead, Believe, PutStart, SendFirst, SendPlaced, SplitVisits, Forward, AskBlocks, AskPieces, ServeBlocks, DropBackups, ServePieces, Beat}
 use Rattle.lists.specs.Elements.{In}
@@ -39,6 +41,7 @@ use Rattle.cub_changes.specs.Outputs.{Output, output, IsNear, HasLine, ComesOf}
 use Rattle.cub_changes.specs.Outputs.Output.{Took, Dropped, Unqueued, Queued, Put, Believed, ReadFailed, DescheduleSent, KillSent, StateSent, MirrorStateSent, PlacedSent, AskSent, BlockSent, PieceSent, HeartbeatSent}
 use Rattle.cub_changes.proofs.Closed.{IsClosed}
 use Rattle.cub_changes.proofs.Numbers.{in_range}
+use Rattle.cub_changes.proofs.Splitting.{all_off}
 use Rattle.lists.proofs.Each.{all_append, all_map, all_flat_map, all_if, all_in, all_wider}
 use Rattle.lists.proofs.Elements.{from_filter}
 
@@ -59,11 +62,11 @@ module _ (p : Params) (c : ℕ) (stamp : Stamp) (Q : Out Msg → Type 0) where
   abbrev Forms : Change → Store → Type 0
   Forms x h = (o : Output) → ComesOf p c stamp x h o → Q (output p c stamp o)
 
-  whole : (h : Store) (y : Line) → Forms ServeBlocks h → In y h.view.lines → is_served p stamp y ≡ true → (o : Option LibraryPart)
-      → stored_for (want_of y.rec) h.parts ≡ o
+  whole : (h : Store) (y : Line) → Forms ServeBlocks h → In y h.view.lines → is_served p stamp y ≡ true
+      → serves_at h.comeback (due_of p (key_of y)) ≡ true → (o : Option LibraryPart) → stored_for (want_of y.rec) h.parts ≡ o
       → AllByRecursion Q (sent_whole p c stamp (want_of y.rec) o)
-  whole h y each i t None e = tt
-  whole h y each i t (Some part) e = (each (BlockSent (want_of y.rec) part) (y, refl, (i, t), refl, e), tt)
+  whole h y each i t serves None e = tt
+  whole h y each i t serves (Some part) e = (each (BlockSent (want_of y.rec) part) (y, refl, (i, t), refl, e, serves), tt)
 
   piece : (h : Store) (y : PieceState) → Forms ServePieces h → In y h.pieces.items → leaves_by p stamp.reading y ≡ true
       → (o : Option LibraryPart) → stored_for (want_of_piece y) h.parts ≡ o
@@ -98,11 +101,11 @@ module _ (p : Params) (c : ℕ) (stamp : Stamp) (Q : Out Msg → Type 0) where
       (each (StateSent 1 (record { tenancy = t; visit = t.first })) (inr (t, refl, refl, refl)), (each (PlacedSent t) (inl refl), tt))
   forms_of (SendPlaced t) h each = (each (PlacedSent t) (inr refl), tt)
   forms_of SplitVisits h each =
-      all_flat_map Q (split_outs p c stamp) h.view.lines
+      all_flat_map Q (split_outs p c stamp h.handback) h.view.lines
       (λ y i.
       let others : List PieceState = drop 1 (pieces_of p y.rec) in
-      all_if Q (must_split p stamp y) (map (sent_ahead p c) others)
-      (λ e. all_map Q (sent_ahead p c) others (λ z k. each (MirrorStateSent z) (y, refl, (i, e), k))))
+      all_off Q p stamp h.handback y (map (sent_ahead p c) others)
+      (λ left e. all_map Q (sent_ahead p c) others (λ z k. each (MirrorStateSent z) (y, refl, (i, e), k, left))))
   forms_of Forward h each =
       all_flat_map Q (forward_outs p c stamp) h.view.lines
       (λ y i.
@@ -110,21 +113,28 @@ module _ (p : Params) (c : ℕ) (stamp : Stamp) (Q : Out Msg → Type 0) where
       all_if Q (is_to_forward p stamp y) (output p c stamp (StateSent 1 s) ∷ output p c stamp (StateSent 2 s) ∷ [])
       (λ e. (each (StateSent 1 s) (inl (y, refl, (i, e), refl, inl refl)), (each (StateSent 2 s) (inl (y, refl, (i, e), refl, inr refl)), tt))))
   forms_of AskBlocks h each =
-      all_flat_map Q (ask_outs p stamp) h.view.lines
+      all_flat_map Q (ask_outs p stamp h.comeback) h.view.lines
       (λ y i.
       let o : Output = AskSent (disk_of p y.rec.visit) (want_of y.rec) in
-      all_if Q (must_read p stamp y) (output p c stamp o ∷ []) (λ e. (each o (inl (y, refl, (i, e), refl, refl)), tt)))
+      all_if Q (must_read p stamp y) (asked_block p h.comeback y)
+      (λ e.
+      all_if Q (serves_at h.comeback (due_of p (key_of y))) (output p c stamp o ∷ [])
+      (λ serves. (each o (inl (y, refl, (i, e), refl, refl, serves)), tt))))
   forms_of AskPieces h each =
       all_map Q (asked_of_disk p) (filter (leaves_by p (stamp.reading + p.read_lead)) h.unasked.items)
       (λ y i.
       let f = from_filter (leaves_by p (stamp.reading + p.read_lead)) y h.unasked.items i in
       each (AskSent (piece_disk (disk_of p y.visit) y.piece (disk_count p)) (want_of_piece y)) (inr (y, refl, f.0, f.1, refl, refl)))
   forms_of ServeBlocks h each =
-      all_flat_map Q (serve_outs p c stamp h.parts) h.view.lines
+      all_flat_map Q (serve_outs p c stamp h.comeback h.parts) h.view.lines
       (λ y i.
-      let sent : List (Out Msg) = sent_whole p c stamp (want_of y.rec) (stored_for (want_of y.rec) h.parts) in
+      let sent : List (Out Msg) = served_whole p c stamp h.comeback h.parts y in
       all_if Q (is_served p stamp y) (sent ++ dropped y ∷ [])
-      (λ e. all_append Q sent (dropped y ∷ []) (whole h y each i e (stored_for (want_of y.rec) h.parts) refl) (each (Dropped y) (inr (inl (refl, (i, e)))), tt)))
+      (λ e.
+      all_append Q sent (dropped y ∷ [])
+      (all_if Q (serves_at h.comeback (due_of p (key_of y))) (sent_whole p c stamp (want_of y.rec) (stored_for (want_of y.rec) h.parts))
+      (λ serves. whole h y each i e serves (stored_for (want_of y.rec) h.parts) refl))
+      (each (Dropped y) (inr (inl (refl, (i, e)))), tt)))
   forms_of DropBackups h each =
       all_map Q dropped (filter (is_past p stamp) h.view.lines)
       (λ y i. let f = from_filter (is_past p stamp) y h.view.lines i in each (Dropped y) (inr (inr (refl, f))))

@@ -23,13 +23,13 @@ use Rattle.node_kit.specs.Deeds.{nothing, then_do, each_in_turn}
 use Rattle.node_kit.specs.Ways.{way_ahead, predecessor}
 use Rattle.cub_rules.specs.declared.store.Store.{Store}
 use Rattle.cub_rules.specs.Records.{took}
-use Rattle.cub_rules.specs.Ticks.{disks_at, tenancy_from, sending, putting, told_placed, putting_own, putting_for_dead, put_or_wait, free_on, putting_each, is_for, putting_on, inserting_own, inserting_for_dead, inserting}
+use Rattle.cub_rules.specs.Ticks.{disks_at, tenancy_from, sending, putting, told_placed, putting_own, putting_for_dead, put_or_wait, free_on, putting_each, is_for, putting_on, inserting_own, inserting_all, inserting_for_dead, inserting}
 use Rattle.cub_changes.specs.Changes.{did}
 use Rattle.cub_changes.specs.Changes.Change.{PutStart, SendFirst, SendPlaced}
 use Rattle.cub_changes.specs.Causes.{IsRecordOfPut, Fills}
 use Rattle.lists.specs.Elements.{In}
 use Rattle.cub_changes.specs.Causes.Stage.{OnInsertion}
-use Rattle.cub_changes.proofs.Closed.{IsClosed, OfEach, then_by, if_by}
+use Rattle.cub_changes.proofs.Closed.{IsClosed, OfEach, none_is, then_by, if_by}
 use Rattle.lists.proofs.Elements.{from_filter, in_filter}
 use Rattle.cub_changes.proofs.Messages.{took_by}
 
@@ -144,7 +144,7 @@ MayPutOn p c from disk = In disk (disks_at p c) ⊎ (In disk (disks_at p (predec
 
 -- Starts that are put one after another: what holds of each Put holds of all, and what is known when each begins is known at the end.
 module _ (P : Store → Deed Msg Store → Type 0) (closed : IsClosed P) (p : Params) (c : ℕ) (stamp : Stamp) (from : Store)
-    (put : Tenancy → Store → Deed Msg Store) (drops : Drops put) (on : ℕ → Type 0) (may : (disk : ℕ) → on disk → MayPutOn p c from disk)
+    (first : from.comeback ≡ None) (put : Tenancy → Store → Deed Msg Store) (drops : Drops put) (on : ℕ → Type 0) (may : (disk : ℕ) → on disk → MayPutOn p c from disk)
     (one : (t : Tenancy) (h : Store) (o : Fills p c stamp from t h) → on o.disk → P h (put t h)) where
   -- what all these Puts are, from a store that insertion comes by
   abbrev Goes : Store → Deed Msg Store → Type 0
@@ -183,6 +183,7 @@ module _ (P : Store → Deed Msg Store → Type 0) (closed : IsClosed P) (p : Pa
         waits = mine.1;
         still = λ once. w.still once a (inl refl);
         free = e;
+        first_life = first;
         here = may disk here;
       } in
       (then_by P closed (put t) after h (one t h o here) next.0, next.1)
@@ -222,24 +223,30 @@ IsThere p c from disk = In disk (disks_at p (predecessor p c)) × (from.believes
 module _ (P : Store → Deed Msg Store → Type 0) (closed : IsClosed P) (p : Params) (c : ℕ) (stamp : Stamp) (from : Store)
     (own : (t : Tenancy) (h : Store) (o : Fills p c stamp from t h) → In o.disk (disks_at p c) → P h (putting_own p c t h)) where
   -- of insertion on the cub's own disks, and what it leaves
-  pub own_by : P from (inserting_own p c stamp from) × IsFewer from (inserting_own p c stamp from).state
-  own_by =
-      disks_by P closed p c stamp from (putting_own p c) (own_drops p c) (IsHere p c) (λ d i. inl i) own (disks_at p c)
+  own_by : from.comeback ≡ None → P from (inserting_own p c stamp from) × IsFewer from (inserting_own p c stamp from).state
+  own_by first =
+      disks_by P closed p c stamp from first (putting_own p c) (own_drops p c) (IsHere p c) (λ d i. inl i) own (disks_at p c)
       (λ d i. i) from (fewer_same from)
 
   -- of all insertion: what holds of each Put, of the cub's own and for its predecessor
   pub puts_by : ((t : Tenancy) (h : Store) (o : Fills p c stamp from t h) → from.believes ≡ true → In o.disk (disks_at p (predecessor p c)) → P h (putting_for_dead p c t h))
       → P from (inserting p c stamp from)
-  unfolding inserting
+  unfolding inserting inserting_all
   puts_by dead =
-      let g : Store = (inserting_own p c stamp from).state in
-      then_by P closed (inserting_own p c stamp) (inserting_for_dead p c stamp) from own_by.0
-      (if_by P closed g.believes g (each_in_turn (putting_on (putting_for_dead p c) p stamp.reading) (disks_at p (predecessor p c)) g) (nothing g)
-      (λ e.
-      let believed = sym own_by.1.believes ∙ e in
-      (disks_by P closed p c stamp from (putting_for_dead p c) (dead_drops p c) (IsThere p c from) (λ d i. inr i)
-      (λ t h o i. dead t h o believed i.0) (disks_at p (predecessor p c)) (λ d i. (i, believed)) g own_by.1).0)
-      (λ _. closed.none g))
+      if_by P closed (is_some from.comeback) from (nothing from) (inserting_all p c stamp from) (λ _. closed.none from)
+      (λ f. in_first_life (none_is from.comeback f))
+    where
+      in_first_life : from.comeback ≡ None → P from (inserting_all p c stamp from)
+      in_first_life first =
+          let g : Store = (inserting_own p c stamp from).state in
+          let mine = own_by first in
+          then_by P closed (inserting_own p c stamp) (inserting_for_dead p c stamp) from mine.0
+          (if_by P closed g.believes g (each_in_turn (putting_on (putting_for_dead p c) p stamp.reading) (disks_at p (predecessor p c)) g) (nothing g)
+          (λ e.
+          let believed = sym mine.1.believes ∙ e in
+          (disks_by P closed p c stamp from first (putting_for_dead p c) (dead_drops p c) (IsThere p c from) (λ d i. inr i)
+          (λ t h o i. dead t h o believed i.0) (disks_at p (predecessor p c)) (λ d i. (i, believed)) g mine.1).0)
+          (λ _. closed.none g))
 
 module _ (P : Store → Deed Msg Store → Type 0) (closed : IsClosed P) (p : Params) (c : ℕ) (stamp : Stamp) where
   pub inserting_by : (from : Store) → OfEach P p c stamp OnInsertion from → P from (inserting p c stamp from)

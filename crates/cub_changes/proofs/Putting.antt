@@ -116,13 +116,13 @@ module _ (p : Params) (c : ℕ) (stamp : Stamp) where
       }
 
 pub put_starts : CubsPutStarts
-put_starts s (Take stamp link m) t i =
-    let none = taking_puts s.params s.cub stamp link m s.store in
+put_starts p c (Take stamp link m) h t i =
+    let none = taking_puts p c stamp link m h in
     absurd
-    (all_in (OfPut s.params s.cub stamp (λ u. ⊥)) (out.Act (what.Put t)) (taking s.params s.cub stamp link m s.store).outs
+    (all_in (OfPut p c stamp (λ u. ⊥)) (out.Act (what.Put t)) (taking p c stamp link m h).outs
     none i t refl)
-put_starts s (Tick stamp) t i =
-    let Q : Out Msg → Type 0 = OfPut s.params s.cub stamp (WasPut s.params s.cub stamp (began s.params s.cub stamp s.store)) in
-    let puts = ticking_puts s.params s.cub stamp s.store in
-    put_of_start s.params s.cub stamp s.store t
-    (all_in Q (out.Act (what.Put t)) (ticking s.params s.cub stamp s.store).outs puts i t refl)
+put_starts p c (Tick stamp) h t i =
+    let Q : Out Msg → Type 0 = OfPut p c stamp (WasPut p c stamp (began p c stamp h)) in
+    let puts = ticking_puts p c stamp h in
+    put_of_start p c stamp h t
+    (all_in Q (out.Act (what.Put t)) (ticking p c stamp h).outs puts i t refl)

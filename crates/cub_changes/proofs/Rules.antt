@@ -1,6 +1,7 @@
 -- Each rule of a cub keeps what a cub may keep, and puts out only what it may: so does each event within the time of a run.
-use Rattle.std.proofs.Common.{ℕ, ◌<◌, ◌≤◌, List, subst, sym}
+use Rattle.std.proofs.Common.{ℕ, ◌+◌, ◌-◌, ◌<◌, ◌≤◌, List, Option, refl, subst, sym, arith}
 use Rattle.std.specs.List.{AllByRecursion}
+use Rattle.std.proofs.lemmas.Bool.{cond_both}
 use Rattle.tiger_base.specs.declared.number.LinkNo.{LinkNo}
 use Rattle.tiger_base.specs.declared.number.Stamp.{Stamp}
 use Rattle.tiger_base.specs.declared.message.Msg.{Msg}
@@ -9,20 +10,21 @@ use Rattle.tiger_base.specs.Limits.{most_reading}
 use Rattle.slot_plan.specs.declared.params.Params.{Params}
 use Rattle.slot_plan.specs.Conditions.{IsPlan}
 use Rattle.node_kit.specs.declared.outbox.Out.{Out}
-use Rattle.node_kit.specs.Deeds.{Did}
-use Rattle.node_kit.specs.Steps.{Input, IsAllowed, Acts, stamp_of}
+use Rattle.node_kit.specs.Deeds.{Did, then_do}
+use Rattle.node_kit.proofs.Ways.{ahead_leads}
+use Rattle.node_kit.specs.Steps.{Deed, Input, IsAllowed, Acts, stamp_of}
 use Rattle.node_kit.specs.Steps.Input.{Take, Tick}
 use Rattle.cub_rules.specs.declared.store.Store.{Store}
 use Rattle.cub_rules.specs.State.{CubState, IsCub, IsStoreOf}
 use Rattle.cub_rules.specs.Messages.{taking}
 use Rattle.cub_rules.specs.Ticks.{queued, releasing, believing, inserting, splitting, forwarding, reading, ticking}
-use Rattle.cub_rules.specs.Cubs.{cub_step}
+use Rattle.cub_rules.specs.Cubs.{was_away, coming_back, ending, cub_step}
 use Rattle.cub_changes.specs.Changes.Change.{Release, Believe}
 use Rattle.cub_changes.specs.Causes.{Stage}
 use Rattle.cub_changes.specs.Causes.Stage.{OnMessage, OnDeadman, OnInsertion, OnService}
 use Rattle.cub_changes.specs.Laws.{CubsStay, CubsPutOutWhatTheyMay}
 use Rattle.cub_changes.proofs.Allowing.{change_right}
-use Rattle.cub_changes.proofs.Closed.{OfEach}
+use Rattle.cub_changes.proofs.Closed.{OfEach, then_by}
 use Rattle.cub_changes.proofs.Fits.{fits}
 use Rattle.cub_changes.proofs.Keeping.{change_keeps}
 use Rattle.lists.proofs.Each.{all_map}
@@ -82,10 +84,38 @@ taking_right p c stamp link m plan here short h kept =
     (λ form. each_right p c stamp plan here (OnMessage link m) h (short, form) kept) kept
 
 -- ---- events of a cub
+pub coming_right : (p : Params) (c : ℕ) (stamp : Stamp) → IsPlan p → c < p.cubs → IsRule p c (coming_back p c stamp)
+coming_right p c stamp plan here h kept = record {
+  keeps = record {
+    view_plan = refl;
+    pieces_plan = refl;
+    unasked_plan = refl;
+    lines = tt;
+    waiting = tt;
+    redundant = tt;
+    pieces = tt;
+    unasked = tt;
+    splits = tt;
+    parts = tt;
+  };
+  allowed = (tt, ((ahead_leads p c 1 plan here (omega arith) (omega arith), refl), tt));
+}
+
+pub ending_right : (p : Params) (c : ℕ) (last : Option ℕ) (stamp : Stamp) → IsPlan p → c < p.cubs → stamp.reading ≤ most_reading
+    → IsRule p c (ending p c last stamp)
+unfolding ending
+ending_right p c last stamp plan here short h kept =
+    let back : Store → Deed Msg Store = coming_back p c stamp in
+    let tick : Store → Deed Msg Store = ticking p c stamp in
+    let goes : IsRule p c tick = ticking_right p c stamp plan here short in
+    cond_both (was_away last stamp.beat) (then_do back tick h) (tick h) (IsRight p c)
+    (λ _. then_by (Right p c) (right_closed p c) back tick h (coming_right p c stamp plan here h) (goes (back h).state) kept)
+    (λ _. goes h kept)
+
 step_right : (s : CubState) (i : Input Msg) (p : Params) (n : ℕ) → (stamp_of i).reading ≤ most_reading → IsCub s p n
     → IsRight s.params s.cub (record { outs = (cub_step s i).outs; state = (cub_step s i).state.store })
 step_right s (Take stamp link m) p n short at = taking_right s.params s.cub stamp link m at.plan at.inside short s.store at.store
-step_right s (Tick stamp) p n short at = ticking_right s.params s.cub stamp at.plan at.inside short s.store at.store
+step_right s (Tick stamp) p n short at = ending_right s.params s.cub s.last stamp at.plan at.inside short s.store at.store
 
 pub cub_stays : CubsStay
 cub_stays s (Take stamp link m) p n short at = record {

@@ -1,5 +1,5 @@
 -- By its cause a change is sound: what it takes in is the cub's, and what it sends is in form.
-use Rattle.std.proofs.Common.{◌≡◌, ℕ, ◌+◌, ◌<◌, ◌≤◌, ◌%◌, ◌==◌, ◌||◌, nat_le, not, Bool, true, false, Option, Some, IfSome, IsTrue, refl, subst, arith, ⊎_elim}
+use Rattle.std.proofs.Common.{◌≡◌, ℕ, ◌+◌, ◌<◌, ◌≤◌, ◌%◌, ◌==◌, ◌||◌, nat_le, not, is_some, Bool, true, false, Option, Some, IfSome, IsTrue, refl, subst, arith, ⊎_elim}
 use Rattle.std.specs.List.{flat_map}
 use Rattle.std.proofs.lemmas.Bool.{and_parts, ltb-true, leb-true, eqb-true}
 use Rattle.tiger_base.specs.declared.number.Instance.{Instance}
@@ -19,6 +19,7 @@ use Rattle.slot_plan.specs.Times.{due, cub_of}
 use Rattle.slot_plan.specs.Keys.{Key}
 use Rattle.slot_plan.proofs.Times.{window_parts}
 use Rattle.slot_plan.proofs.Windows.{least_visit_found}
+use Rattle.insert_queue.proofs.Once.{none_of}
 use Rattle.node_kit.specs.Form.{is_tenancy, is_place, IsInForm}
 use Rattle.node_kit.specs.Ways.{predecessor}
 use Rattle.partial_view.specs.Free.{is_free}
@@ -125,7 +126,7 @@ module _ (p : Params) (c : ℕ) (stamp : Stamp) (plan : IsPlan p) (from : Store)
     taken other r may known = absurd may
 
     queued : (g : Stage) (a : Ask) (apart : Bool) (h : Store) → MayQueue g a apart h → IsAsk a
-    queued (OnMessage link (msg.Start redundant b)) a apart h may = ask_passed (is_ask a) _ _ may.1
+    queued (OnMessage link (msg.Start redundant b)) a apart h may = ask_passed (is_ask a) _ _ (none_of (is_some h.comeback) _ may.1).1
     queued other a apart h may = absurd may
 
     added : (g : Stage) (x : PieceState) → MayAdd p c stamp g x from → IsKnown p stamp g → IsPieceAt p c x
@@ -134,7 +135,8 @@ module _ (p : Params) (c : ℕ) (stamp : Stamp) (plan : IsPlan p) (from : Store)
       here = eqb-true _ _ (here_passed _ (cub_of p (x.visit + x.piece) == c) may.1);
     }
     added OnService x may known =
-        all_in (IsPieceAt p c) x (flat_map (first_pieces p stamp) from.view.lines) (first_pieces_own p c plan stamp from.view.lines began.lines) may.1
+        all_in (IsPieceAt p c) x (flat_map (first_pieces p stamp from.handback) from.view.lines)
+        (first_pieces_own p c plan stamp from.handback from.view.lines began.lines) may.1
     added other x may known = absurd may
 
     stored : (g : Stage) (want : Want) (part : Option LibraryPart) (h : Store) → IsAnswer g want part h → IsKnown p stamp g

@@ -1,5 +1,5 @@
 -- A closed relation that holds of each change in a tick holds of the tick.
-use Rattle.std.proofs.Common.{◌≡◌, ℕ, ◌&&◌, ◌==◌, ◌%◌, List, [], ◌∷◌, ◌++◌, true, not, refl, subst, inl, inr}
+use Rattle.std.proofs.Common.{◌≡◌, ℕ, ◌&&◌, ◌==◌, ◌%◌, List, [], ◌∷◌, ◌++◌, true, not, is_some, None, refl, subst, inl, inr}
 use Rattle.std.specs.List.{flat_map}
 use Rattle.std.proofs.lemmas.List.{append-nil}
 use Rattle.tiger_base.specs.declared.number.Stamp.{Stamp}
@@ -18,7 +18,7 @@ use Rattle.cub_changes.specs.Changes.Change.{Release, Believe, SplitVisits, Forw
 use Rattle.cub_changes.specs.Causes.{Stage}
 use Rattle.lists.specs.Elements.{In}
 use Rattle.cub_changes.specs.Causes.Stage.{OnMessage, OnRelease, OnDeadman, OnInsertion, OnService}
-use Rattle.cub_changes.proofs.Closed.{IsClosed, OfEach, then_by, if_by}
+use Rattle.cub_changes.proofs.Closed.{IsClosed, OfEach, none_is, then_by, if_by}
 use Rattle.cub_changes.proofs.Messages.{add_by}
 use Rattle.cub_changes.proofs.Puts.{inserting_by}
 
@@ -80,19 +80,19 @@ module _ (P : Store → Deed Msg Store → Type 0) (closed : IsClosed P) (p : Pa
   -- each step from what holds of its own changes
   splitting_of : (h : Store) → (h.believes ≡ true → P h (did p c stamp SplitVisits h))
       → (h.believes ≡ true
-      → (x : PieceState) → In x (flat_map (first_pieces p stamp) h.view.lines)
+      → (x : PieceState) → In x (flat_map (first_pieces p stamp h.handback) h.view.lines)
       → (q : Store) → P q (record { outs = []; state = with_piece_record x q }))
       → P h (splitting p c stamp h)
   unfolding splitting
   splitting_of h split one =
-      let outs : List (Out Msg) = flat_map (split_outs p c stamp) h.view.lines in
+      let outs : List (Out Msg) = flat_map (split_outs p c stamp h.handback) h.view.lines in
       let g : Store = with_split_lines p stamp h in
-      let after : Store = with_each with_piece_record (flat_map (first_pieces p stamp) h.view.lines) g in
+      let after : Store = with_each with_piece_record (flat_map (first_pieces p stamp h.handback) h.view.lines) g in
       if_by P closed h.believes h (record { outs = outs; state = after }) (nothing h)
       (λ e.
       subst (λ (os : List (Out Msg)). P h (record { outs = os; state = after })) (append-nil outs)
       (closed.both h (did p c stamp SplitVisits h) (record { outs = []; state = after }) (split e)
-      (adding_from (flat_map (first_pieces p stamp) h.view.lines) (one e) g)))
+      (adding_from (flat_map (first_pieces p stamp h.handback) h.view.lines) (one e) g)))
       (λ _. closed.none h)
 
   pub splitting_from : (h : Store) → (h.believes ≡ true → P h (did p c stamp SplitVisits h))
@@ -118,9 +118,12 @@ module _ (P : Store → Deed Msg Store → Type 0) (closed : IsClosed P) (p : Pa
       then_by P closed (serving_blocks p c stamp) (then_do (dropping_backups p stamp) (serving_pieces p c stamp)) h (blocks h)
       (then_by P closed (dropping_backups p stamp) (serving_pieces p c stamp) h1 (backups h1) (pieces (dropping_backups p stamp h1).state))
 
-  pub beating_from : (h : Store) → (stamp.beat % p.heart == 0 ≡ true → P h (did p c stamp Beat h)) → P h (beating p c stamp h)
+  pub beating_from : (h : Store) → (stamp.beat % p.heart == 0 ≡ true → h.comeback ≡ None → P h (did p c stamp Beat h))
+      → P h (beating p c stamp h)
   unfolding beating
-  beating_from h one = if_by P closed (stamp.beat % p.heart == 0) h _ (nothing h) one (λ _. closed.none h)
+  beating_from h one =
+      if_by P closed (is_some h.comeback) h (nothing h) _ (λ _. closed.none h)
+      (λ f. if_by P closed (stamp.beat % p.heart == 0) h _ (nothing h) (λ e. one e (none_is h.comeback f)) (λ _. closed.none h))
 
   -- behind forwarding
   pub end_from : (h : Store) → ((x : Change) → IsOfEnd x → (q : Store) → P q (did p c stamp x q)) → P h (end_steps p c stamp h)
@@ -130,7 +133,7 @@ module _ (P : Store → Deed Msg Store → Type 0) (closed : IsClosed P) (p : Pa
       then_by P closed (reading p stamp) (then_do (serving p c stamp) (beating p c stamp)) h
       (reading_from h (one AskBlocks tt) (one AskPieces tt))
       (then_by P closed (serving p c stamp) (beating p c stamp) h1
-      (serving_from h1 (one ServeBlocks tt) (one DropBackups tt) (one ServePieces tt)) (beating_from h2 (λ _. one Beat tt h2)))
+      (serving_from h1 (one ServeBlocks tt) (one DropBackups tt) (one ServePieces tt)) (beating_from h2 (λ _ _. one Beat tt h2)))
 
   -- each step from what holds of all changes of its stage
   pub splitting_by : (h : Store) → OfEach P p c stamp OnService h → P h (splitting p c stamp h)
@@ -147,7 +150,7 @@ module _ (P : Store → Deed Msg Store → Type 0) (closed : IsClosed P) (p : Pa
   serving_by h each = serving_from h (λ q. each ServeBlocks q tt) (λ q. each DropBackups q tt) (λ q. each ServePieces q tt)
 
   pub beating_by : (h : Store) → OfEach P p c stamp OnService h → P h (beating p c stamp h)
-  beating_by h each = beating_from h (λ e. each Beat h (tt, e))
+  beating_by h each = beating_from h (λ e f. each Beat h (tt, e, f))
 
   -- ---- the tick: behind forwarding, from splitting on, from insertion on, and all of it
   pub end_by : (h : Store) → ((from : Store) → OfEach P p c stamp OnService from) → P h (end_steps p c stamp h)

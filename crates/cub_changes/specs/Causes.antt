@@ -15,7 +15,7 @@ use Rattle.tiger_base.specs.declared.message.Msg.{Msg}
 use Rattle.tiger_base.specs.declared.message.Msg.TheVariants as msg
 use Rattle.tiger_base.specs.Records.{own_of, backup_of}
 use Rattle.slot_plan.specs.declared.params.Params.{Params}
-use Rattle.slot_plan.specs.Times.{cub_of}
+use Rattle.slot_plan.specs.Times.{due, cub_of}
 use Rattle.slot_plan.specs.Keys.{Key}
 use Rattle.partial_view.specs.Lines as lines
 use Rattle.partial_view.specs.Views.{line_at}
@@ -23,16 +23,17 @@ use Rattle.insert_queue.specs.Queues.{is_asked, IsOnce}
 use Rattle.deschedule.specs.Holds.{is_held, must_pass}
 use Rattle.deadman.specs.Silence.{is_silent}
 use Rattle.mirror_schedule.specs.Pieces as pieces
+use Rattle.mirror_schedule.specs.Pieces.{leaving_of}
 use Rattle.viewer_state.specs.States.{is_visit_of}
 use Rattle.node_kit.specs.Steps.{Input}
 use Rattle.node_kit.specs.Steps.Input.{Take, Tick}
 use Rattle.node_kit.specs.Ways.{way_ahead, predecessor}
 use Rattle.cub_rules.specs.declared.store.Store.{Store}
-use Rattle.cub_rules.specs.State.{is_ask}
-use Rattle.cub_rules.specs.Messages.{position_at, position, holding, records_told, is_news, shows, is_wanted}
+use Rattle.cub_rules.specs.Comebacks.{due_of_record, lets_in}
+use Rattle.cub_rules.specs.Messages.{position_at, position, holding, records_told, is_news, is_discarded, is_wanted}
 use Rattle.cub_rules.specs.Ticks.{tenancy_from, free_on, is_for, disks_at, first_pieces}
 use Rattle.cub_changes.specs.Changes.{Change}
-use Rattle.cub_changes.specs.Changes.Change.{Hold, PassOn, DropLines, DropStart, DropPieces, KillSplits, TakeRecord, Queue, QueueApart, AddPiece, DropKilled, StorePart, FailRead, HearBeat, Release, Believe, PutStart, SendFirst, SendPlaced, SplitVisits, Forward, AskBlocks, AskPieces, ServeBlocks, DropBackups, ServePieces, Beat}
+use Rattle.cub_changes.specs.Changes.Change.{Hold, PassOn, DropLines, DropStart, DropPieces, KillSplits, TakeRecord, Queue, QueueApart, AddPiece, DropKilled, StorePart, FailRead, HearBeat, HearBack, Release, Believe, PutStart, SendFirst, SendPlaced, SplitVisits, Forward, AskBlocks, AskPieces, ServeBlocks, DropBackups, ServePieces, Beat}
 use Rattle.lists.specs.Elements.{In}
 
 -- In which step of an event a change is made: at a message, or in a tick at release, at the deadman step, at insertion, or
@@ -84,10 +85,19 @@ abbrev pub IsAnswer : Stage → Want → Option LibraryPart → Store → Type 0
 IsAnswer (OnMessage link (msg.ReadDone w found)) want part h = (want ≡ w) × (part ≡ found) × (is_wanted want h ≡ true)
 IsAnswer other want part h = ⊥
 
--- it is a heartbeat on the link on which the predecessor sends to its next cub
+-- the link is the one on which the predecessor sends to its next cub
+abbrev pub IsOfPredecessor : Params → ℕ → LinkNo → Type 0
+IsOfPredecessor p c link = link.0 ≡ (way_ahead p (predecessor p c) 1).0
+
+-- it is a heartbeat of the predecessor
 abbrev pub IsHeartbeat : Params → ℕ → Stage → Type 0
-IsHeartbeat p c (OnMessage link msg.Heartbeat) = link.0 ≡ (way_ahead p (predecessor p c) 1).0
+IsHeartbeat p c (OnMessage link msg.Heartbeat) = IsOfPredecessor p c link
 IsHeartbeat p c other = ⊥
+
+-- it is the message with which the predecessor, which came back, says from when on it serves
+abbrev pub IsToldBack : Params → ℕ → Stage → ℕ → Type 0
+IsToldBack p c (OnMessage link (msg.Back at)) from = (at ≡ from) × IsOfPredecessor p c link
+IsToldBack p c other from = ⊥
 
 -- ---- what lets a cub make a change
 
@@ -134,6 +144,8 @@ pub record Fills (p : Params) (c : ℕ) (stamp : Stamp) (from : Store) (t : Tena
   -- it still waits, if each instance had one start when insertion began
   pub still : IsOnce (from.starts.waiting ++ from.starts.redundant) → In ask h.starts.waiting
   pub free : free_on p stamp.reading disk h ≡ Some key
+  -- a cub that came back puts nobody
+  pub first_life : from.comeback ≡ None
   pub here : In disk (disks_at p c) ⊎ (In disk (disks_at p (predecessor p c)) × (from.believes ≡ true))
 
 -- the tenancy was put earlier in this insertion
@@ -154,15 +166,20 @@ IsRecordOfPut p c disk t r =
     ⊎ (In disk (disks_at p (predecessor p c))
     × ((r ≡ backup_of t t.first) ⊎ ((r ≡ own_of t (t.first + 1)) × (nat_lt t.first t.last ≡ true))))
 
--- A record is taken of a state whose instance was not held when the message came, or of a Put.
+-- A record is taken of a state whose instance was not held when the message came, if it may enter, or of a Put.
 abbrev pub MayTake : Params → ℕ → Stamp → Stage → Store → Rec → Type 0
 MayTake p c stamp (OnMessage link (msg.ViewerState s)) from r =
-    (k : Key) × IsPosition p c s k × In r (records_told s k) × (is_held from.held s.tenancy.instance ≡ false)
+    (k : Key)
+    × IsPosition p c s k
+    × In r (records_told s k)
+    × (is_held from.held s.tenancy.instance ≡ false)
+    × (lets_in from.comeback (due_of_record p r) ≡ true)
 MayTake p c stamp OnInsertion from r =
     (t : Tenancy) × (q : Store) × (o : Fills p c stamp from t q) × IsRecordOfPut p c o.disk t r
 MayTake p c stamp other from r = ⊥
 
--- A place is told of a Put, and of a state that is news to the next cub, whose instance was not held when the message came.
+-- A place is told of a Put, and of a state that is news to the next cub, whose record may enter, and whose instance was not
+-- held when the message came.
 abbrev pub MayTellPlace : Params → ℕ → Stamp → Stage → Store → Tenancy → Type 0
 MayTellPlace p c stamp (OnMessage link (msg.ViewerState s)) from t =
     (k : Key)
@@ -170,6 +187,7 @@ MayTellPlace p c stamp (OnMessage link (msg.ViewerState s)) from t =
     × (t ≡ s.tenancy)
     × (is_news s k from.view.lines ≡ true)
     × (is_held from.held s.tenancy.instance ≡ false)
+    × (lets_in from.comeback (due p s.tenancy.slot.0 s.visit) ≡ true)
 MayTellPlace p c stamp OnInsertion from t = WasPut p c stamp from t
 MayTellPlace p c stamp other from t = ⊥
 
@@ -177,16 +195,19 @@ MayTellPlace p c stamp other from t = ⊥
 abbrev pub MayQueue : Stage → Ask → Bool → Store → Type 0
 MayQueue (OnMessage link (msg.Start redundant b)) a apart h =
     (a ≡ b)
-    × ((not (is_ask a) || is_held h.held a.instance || shows h.view.lines a.instance) ≡ false)
+    × (is_discarded a h ≡ false)
     × ((redundant && not h.believes) ≡ apart)
 MayQueue other a apart h = ⊥
 
--- A piece record is added of a mirror state for this cub, and of a split: then the cub believed its predecessor dead, and it is
--- the first piece of a visit that was split.
+-- A piece record is added of a mirror state for this cub, if it may enter, and of a split: then the cub believed its
+-- predecessor dead, and it is the first piece of a visit that was split.
 abbrev pub MayAdd : Params → ℕ → Stamp → Stage → PieceState → Store → Type 0
 MayAdd p c stamp (OnMessage link (msg.MirrorState y)) x from =
-    (x ≡ y) × ((is_held from.held x.tenancy.instance || not (cub_of p (x.visit + x.piece) == c)) ≡ false)
-MayAdd p c stamp OnService x from = (from.believes ≡ true) × In x (flat_map (first_pieces p stamp) from.view.lines)
+    (x ≡ y)
+    × ((is_held from.held x.tenancy.instance || not (cub_of p (x.visit + x.piece) == c)) ≡ false)
+    × (lets_in from.comeback (leaving_of p x) ≡ true)
+MayAdd p c stamp OnService x from =
+    (from.believes ≡ true) × In x (flat_map (first_pieces p stamp from.handback) from.view.lines)
 MayAdd p c stamp other x from = ⊥
 
 -- why a change is made: from is what the cub kept when the stage began, and h what it keeps just before the change
@@ -205,6 +226,7 @@ Cause p c stamp g from (DropKilled v visit) h = IsKill g v visit
 Cause p c stamp g from (StorePart want part) h = IsAnswer g want (Some part) h
 Cause p c stamp g from (FailRead want) h = IsAnswer g want None h
 Cause p c stamp g from HearBeat h = IsHeartbeat p c g
+Cause p c stamp g from (HearBack at) h = IsToldBack p c g at
 Cause p c stamp g from Release h = IsRelease g
 Cause p c stamp g from Believe h = IsDeadman g × ((not h.believes && is_silent h.watch stamp.reading) ≡ true)
 Cause p c stamp g from (PutStart t) h = IsInsertion g × Fills p c stamp from t h
@@ -217,4 +239,4 @@ Cause p c stamp g from AskPieces h = IsService g
 Cause p c stamp g from ServeBlocks h = IsService g
 Cause p c stamp g from DropBackups h = IsService g
 Cause p c stamp g from ServePieces h = IsService g
-Cause p c stamp g from Beat h = IsService g × ((stamp.beat % p.heart == 0) ≡ true)
+Cause p c stamp g from Beat h = IsService g × ((stamp.beat % p.heart == 0) ≡ true) × (h.comeback ≡ None)

@@ -1,5 +1,5 @@
 -- The single changes that a cub's rules are made of: what each puts out, and what it makes of what the cub keeps.
-use Rattle.std.specs.Prelude.{ℕ, ◌+◌, ◌++◌, [], ◌∷◌, not, filter, map, true, if◌then◌else◌}
+use Rattle.std.specs.Prelude.{ℕ, ◌+◌, ◌++◌, [], ◌∷◌, not, filter, map, true, Some, if◌then◌else◌}
 use Rattle.std.specs.List.{flat_map}
 use Rattle.tiger_base.specs.declared.number.Instance.{Instance}
 use Rattle.tiger_base.specs.declared.number.Stamp.{Stamp}
@@ -49,8 +49,9 @@ pub data Change : Type 0 where
   -- a part is stored, or a failed read is written down
   StorePart : (want : Want) (part : LibraryPart) → Change
   FailRead : (want : Want) → Change
-  -- the predecessor is heard
+  -- the predecessor is heard, or says from when on it serves since it came back
   HearBeat : Change
+  HearBack : (from : ℕ) → Change
   -- what is over is released and forgotten
   Release : Change
   -- the predecessor is believed dead
@@ -118,6 +119,7 @@ did p c stamp (DropKilled v visit) h = record {
 did p c stamp (StorePart want part) h = record { outs = []; state = record h { parts = h.parts ++ record { want = want; part = part } ∷ [] } }
 did p c stamp (FailRead want) h = record { outs = out.Act (what.ReadFailed want) ∷ []; state = h }
 did p c stamp HearBeat h = record { outs = []; state = record h { watch = record h.watch { heard = stamp.reading } } }
+did p c stamp (HearBack from) h = record { outs = []; state = record h { handback = Some from } }
 did p c stamp Release h = record {
   outs = [];
   state = record h {
@@ -136,13 +138,13 @@ did p c stamp (SendFirst t) h = record {
   state = h;
 }
 did p c stamp (SendPlaced t) h = record { outs = told_placed p c t ∷ []; state = h }
-did p c stamp SplitVisits h = record { outs = flat_map (split_outs p c stamp) h.view.lines; state = with_split_lines p stamp h }
+did p c stamp SplitVisits h = record { outs = flat_map (split_outs p c stamp h.handback) h.view.lines; state = with_split_lines p stamp h }
 did p c stamp Forward h = record {
   outs = flat_map (forward_outs p c stamp) h.view.lines;
   state = record h { view = record h.view { lines = map (forward_line p stamp) h.view.lines } };
 }
 did p c stamp AskBlocks h = record {
-  outs = flat_map (ask_outs p stamp) h.view.lines;
+  outs = flat_map (ask_outs p stamp h.comeback) h.view.lines;
   state = record h { view = record h.view { lines = map (ask_line p stamp) h.view.lines } };
 }
 did p c stamp AskPieces h = record {
@@ -150,7 +152,7 @@ did p c stamp AskPieces h = record {
   state = record h { unasked = pieces_but (leaves_by p (stamp.reading + p.read_lead)) h.unasked };
 }
 did p c stamp ServeBlocks h = record {
-  outs = flat_map (serve_outs p c stamp h.parts) h.view.lines;
+  outs = flat_map (serve_outs p c stamp h.comeback h.parts) h.view.lines;
   state = record h { view = record h.view { lines = filter (λ x. not (is_served p stamp x)) h.view.lines } };
 }
 did p c stamp DropBackups h = record {

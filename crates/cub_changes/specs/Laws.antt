@@ -1,7 +1,8 @@
--- What holds of every event of a cub. Within the time of a run it stays the cub of its number. Whatever it keeps: it stops
--- nothing, each output comes of a change that has a cause, it writes down whom it believes dead, it puts starts that wait,
--- and it keeps starts until they are put or told of.
-use Rattle.std.specs.Prelude.{◌≡◌, ℕ, ◌≤◌, ◌⊎◌, true, false, List, []}
+-- What holds of every event of a cub. Within the time of a run it stays the cub of its number, and it stops nothing. And
+-- whatever it keeps, if it does not come back by the event: each output comes of a change that has a cause, it writes down
+-- whom it believes dead, it puts starts that wait, it keeps starts until they are put or told of, and it stays one that came
+-- back, or one that did not.
+use Rattle.std.specs.Prelude.{◌≡◌, ℕ, ◌≤◌, ◌⊎◌, true, false, List, [], None}
 use Rattle.std.specs.List.{AllByRecursion}
 use Rattle.tiger_base.specs.declared.number.CubNo.{CubNo}
 use Rattle.tiger_base.specs.declared.number.Instance.{Instance}
@@ -23,7 +24,7 @@ use Rattle.deadman.specs.Silence.{is_silent}
 use Rattle.cub_rules.specs.declared.store.Store.{Store}
 use Rattle.cub_rules.specs.State.{CubState, IsCub}
 use Rattle.cub_rules.specs.Ticks.{number, tenancy_from, is_for, disks_at}
-use Rattle.cub_rules.specs.Cubs.{cub_step}
+use Rattle.cub_rules.specs.Cubs.{cub_step, deed_of}
 use Rattle.cub_changes.specs.Changes.{Change}
 use Rattle.cub_changes.specs.Causes.{Stage, IsStageOf, Cause}
 use Rattle.lists.specs.Elements.{In}
@@ -66,7 +67,7 @@ pub record HasCause (p : Params) (c : ℕ) (i : Input Msg) (old : Store) (o : Ou
   pub is : o ≡ output p c (stamp_of i) form
 
 abbrev pub OutputsHaveCauses : Type 0
-OutputsHaveCauses = (s : CubState) (i : Input Msg) → AllByRecursion (HasCause s.params s.cub i s.store) (cub_step s i).outs
+OutputsHaveCauses = (p : Params) (c : ℕ) (i : Input Msg) (h : Store) → AllByRecursion (HasCause p c i h) (deed_of p c i h).outs
 
 -- ---- belief
 
@@ -94,8 +95,7 @@ pub record KeepsBelief (p : Params) (c : ℕ) (i : Input Msg) (old : Store) (d :
   pub none_apart : (old.believes ≡ true → old.starts.redundant ≡ []) → d.state.believes ≡ true → d.state.starts.redundant ≡ []
 
 abbrev pub CubsKeepBelief : Type 0
-CubsKeepBelief = (s : CubState) (i : Input Msg)
-    → KeepsBelief s.params s.cub i s.store (record { outs = (cub_step s i).outs; state = (cub_step s i).state.store })
+CubsKeepBelief = (p : Params) (c : ℕ) (i : Input Msg) (h : Store) → KeepsBelief p c i h (deed_of p c i h)
 
 -- ---- Puts
 
@@ -112,9 +112,9 @@ pub record IsPutOfStart (p : Params) (c : ℕ) (i : Input Msg) (old new : Store)
   pub here : In disk (disks_at p c) ⊎ (In disk (disks_at p (predecessor p c)) × (new.believes ≡ true))
 
 abbrev pub CubsPutStarts : Type 0
-CubsPutStarts = (s : CubState) (i : Input Msg) (t : Tenancy)
-    → In (out.Act (what.Put t)) (cub_step s i).outs
-    → IsPutOfStart s.params s.cub i s.store (cub_step s i).state.store t
+CubsPutStarts = (p : Params) (c : ℕ) (i : Input Msg) (h : Store) (t : Tenancy)
+    → In (out.Act (what.Put t)) (deed_of p c i h).outs
+    → IsPutOfStart p c i h (deed_of p c i h).state t
 
 -- ---- starts
 
@@ -145,5 +145,14 @@ pub record KeepsStart (i : Input Msg) (a : Ask) (old : Store) (d : Deed Msg Stor
   pub came : IsListed a d.state → IsListed a old ⊎ IsStartOf i a
 
 abbrev pub CubsKeepStarts : Type 0
-CubsKeepStarts = (s : CubState) (i : Input Msg) (a : Ask)
-    → KeepsStart i a s.store (record { outs = (cub_step s i).outs; state = (cub_step s i).state.store })
+CubsKeepStarts = (p : Params) (c : ℕ) (i : Input Msg) (a : Ask) (h : Store) → KeepsStart i a h (deed_of p c i h)
+
+-- ---- returns
+
+-- One that came back stays so, and puts nobody; and so does one that did not.
+pub record KeepsComeback (h : Store) (d : Deed Msg Store) : Type 0 where
+  pub same : d.state.comeback ≡ h.comeback
+  pub first_life : (t : Tenancy) → In (out.Act (what.Put t)) d.outs → h.comeback ≡ None
+
+abbrev pub CubsKeepComeback : Type 0
+CubsKeepComeback = (p : Params) (c : ℕ) (i : Input Msg) (h : Store) → KeepsComeback h (deed_of p c i h)

@@ -1,5 +1,5 @@
 -- The forms of what a cub puts out, and of which change an output of each form comes.
-use Rattle.std.specs.Prelude.{◌≡◌, ℕ, ◌+◌, ◌-◌, ◌<◌, ◌≤◌, ◌⊎◌, Bool, true, drop, Some}
+use Rattle.std.specs.Prelude.{◌≡◌, ℕ, ◌+◌, ◌-◌, ◌<◌, ◌≤◌, ◌⊎◌, Bool, true, false, drop, Some}
 use Rattle.tiger_base.specs.declared.number.Instance.{Instance}
 use Rattle.tiger_base.specs.declared.number.Stamp.{Stamp}
 use Rattle.tiger_base.specs.declared.tenancy.Ask.{Ask}
@@ -15,16 +15,18 @@ use Rattle.tiger_base.specs.declared.message.Msg.TheVariants as msg
 use Rattle.tiger_base.specs.Records.{want_of, want_of_piece}
 use Rattle.slot_plan.specs.declared.params.Params.{Params}
 use Rattle.slot_plan.specs.Times.{disk_of, disk_count}
-use Rattle.slot_plan.specs.Keys.{Key}
+use Rattle.slot_plan.specs.Keys.{Key, due_of}
 use Rattle.mirror_pieces.specs.Pieces.{piece_disk}
 use Rattle.node_kit.specs.declared.journal.What.TheVariants as what
 use Rattle.node_kit.specs.declared.outbox.Out.{Out}
 use Rattle.node_kit.specs.declared.outbox.Out.TheVariants as out
 use Rattle.partial_view.specs.declared.line.Line.{Line}
+use Rattle.partial_view.specs.Lines.{key_of}
 use Rattle.mirror_schedule.specs.Pieces.{pieces_of}
 use Rattle.mirror_schedule.specs.Splits.{Split}
 use Rattle.node_kit.specs.Ways.{way_ahead, way_to_controller, way_to_viewers, way_to_disk, predecessor}
 use Rattle.cub_rules.specs.declared.store.Store.{Store}
+use Rattle.cub_rules.specs.Comebacks.{is_handed_back, serves_at}
 use Rattle.cub_rules.specs.Records.{stored_for}
 use Rattle.cub_rules.specs.Messages.{is_reached}
 use Rattle.cub_rules.specs.Ticks.{number, must_split, is_to_forward, must_read, leaves_by, is_served, is_past}
@@ -106,7 +108,11 @@ ComesOf p c stamp x h (StateSent steps s) =
     × IsNear steps)
     ⊎ ((t : Tenancy) × (x ≡ SendFirst t) × (s ≡ record { tenancy = t; visit = t.first }) × (steps ≡ 1))
 ComesOf p c stamp x h (MirrorStateSent y) =
-    (l : Line) × (x ≡ SplitVisits) × HasLine (must_split p stamp) h l × In y (drop 1 (pieces_of p l.rec))
+    (l : Line)
+    × (x ≡ SplitVisits)
+    × HasLine (must_split p stamp) h l
+    × In y (drop 1 (pieces_of p l.rec))
+    × (is_handed_back p h.handback l.rec ≡ false)
 ComesOf p c stamp x h HeartbeatSent = x ≡ Beat
 ComesOf p c stamp x h (PlacedSent t) = (x ≡ SendFirst t) ⊎ (x ≡ SendPlaced t)
 ComesOf p c stamp x h (AskSent disk want) =
@@ -114,7 +120,8 @@ ComesOf p c stamp x h (AskSent disk want) =
     × (x ≡ AskBlocks)
     × HasLine (must_read p stamp) h l
     × (want ≡ want_of l.rec)
-    × (disk ≡ disk_of p l.rec.visit))
+    × (disk ≡ disk_of p l.rec.visit)
+    × (serves_at h.comeback (due_of p (key_of l)) ≡ true))
     ⊎ ((y : PieceState)
     × (x ≡ AskPieces)
     × In y h.unasked.items
@@ -127,6 +134,7 @@ ComesOf p c stamp x h (BlockSent want part) =
     × HasLine (is_served p stamp) h l
     × (want ≡ want_of l.rec)
     × (stored_for want h.parts ≡ Some part)
+    × (serves_at h.comeback (due_of p (key_of l)) ≡ true)
 ComesOf p c stamp x h (PieceSent want part) =
     (y : PieceState)
     × (x ≡ ServePieces)

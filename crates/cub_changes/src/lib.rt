@@ -1,7 +1,7 @@
 //! What a cub's rules are made of: single changes, each made for a cause; and laws that follow from all of them.
 #![tactic(auto)]
 
-ghost use Rattle.cub_changes.specs.Laws.{CubsKeepBelief, CubsKeepStarts, CubsPutOutWhatTheyMay, CubsPutStarts, CubsStay, CubsStopNothing, OutputsHaveCauses};
+ghost use Rattle.cub_changes.specs.Laws.{CubsKeepBelief, CubsKeepComeback, CubsKeepStarts, CubsPutOutWhatTheyMay, CubsPutStarts, CubsStay, CubsStopNothing, OutputsHaveCauses};
 
 /// In every event within the time of a run a cub stays the cub of its number.
 pub fn cubs_stay()
@@ -38,4 +38,9 @@ pub fn cubs_put_starts()
 /// A start stands in a cub's lists until its instance is put there, or a state or a deschedule tells of it.
 pub fn cubs_keep_starts()
     ensures { CubsKeepStarts }
+{}
+
+/// A cub that came back stays one that did, and puts nobody.
+pub fn cubs_keep_comeback()
+    ensures { CubsKeepComeback }
 {}

@@ -1,13 +1,12 @@
 //! A cub as a node.
-ghost use Rattle.std.specs.Prelude.{◌≡◌, ◌≤◌, ◌<◌, OnOk};
+ghost use Rattle.std.specs.Prelude.{◌≡◌, ◌≤◌, ◌<◌, None, OnOk};
 ghost use Rattle.tiger_base.specs.Limits.{most_reading};
 ghost use Rattle.node_kit.specs.Deeds.{Did};
 ghost use Rattle.cub_rules.specs.State.{opening_store};
 ghost use Rattle.cub_rules.specs.Messages.{taking};
-ghost use Rattle.cub_rules.specs.Ticks.{ticking};
-ghost use Rattle.cub_rules.specs.Cubs.{on_cub};
+ghost use Rattle.cub_rules.specs.Cubs.{on_cub, ticked_cub, ending};
 
-use crate::ticking::tick;
+use crate::ticking::end;
 use cub_messages::hear;
 use cub_rules::Store;
 use node_kit::{Node, Outbox, Site};
@@ -15,9 +14,9 @@ use partial_view::View;
 use slot_plan::Plan;
 use std::alloc::Global;
 use std::marker::Model;
-use tiger_base::{CubNo, LinkNo, Micros, Msg, NoMemory, Stamp};
+use tiger_base::{Beat, CubNo, LinkNo, Micros, Msg, NoMemory, Stamp};
 
-/// A cub of a plan, seen as its plan's numbers, its own number and what it keeps.
+/// A cub of a plan, seen as its plan's numbers, its own number, what it keeps, and the beat of its last tick.
 ///
 /// If it runs out of memory it keeps nothing from then on.
 #[derive(Drop)]
@@ -25,6 +24,7 @@ pub struct Cub<'a> {
     alloc: Global,
     site: Site,
     store: Store<'a>,
+    last: Option<Beat>,
 }
 
 impl<'a> Model for Cub<'a> {
@@ -32,7 +32,7 @@ impl<'a> Model for Cub<'a> {
 
     ghost Value = { CubState };
 
-    ghost view = { λ c. record { params = c.site.plan.params; cub = c.site.cub.0; store = c.store } };
+    ghost view = { λ c. record { params = c.site.plan.params; cub = c.site.cub.0; store = c.store; last = c.last } };
 
     ghost invariant = { λ c. IsStoreOf c.site.plan.params c.site.cub.0 c.store };
 }
@@ -46,12 +46,14 @@ impl<'a> Cub<'a> {
           params = plan.now.params;
           cub = cub.0;
           store = opening_store plan.now.params heard;
+          last = None;
         } }
     {
         Cub {
             alloc,
             site: Site { plan: *plan, cub },
             store: Store::new(alloc, plan, heard),
+            last: None,
         }
     }
 
@@ -83,14 +85,22 @@ impl<'a> Cub<'a> {
         done
     }
 
-    /// Ends a beat.
+    /// Ends a beat. If the cub has not ticked in the beat before, it comes back by this tick.
     pub fn end_beat(&mut self, stamp: Stamp, out: &mut Outbox<Msg<'a>>) -> Result<(), NoMemory>
         requires { stamp.reading ≤ most_reading }
         ensures { let s = self.old in
-            OnOk result (Did (on_cub s (ticking s.params s.cub stamp s.store))
+            OnOk result (Did (ticked_cub s stamp.beat (ending s.params s.cub s.last stamp s.store))
             out.old out.new self.new) }
     {
-        let done = tick(&self.site, stamp, &mut self.store, out);
+        let done = end(
+            self.alloc,
+            &self.site,
+            self.last,
+            stamp,
+            &mut self.store,
+            out,
+        );
+        self.last = Some(stamp.beat);
         // After an error nothing is known of the store; an empty one is a cub's.
         if done.is_err() {
             self.store = Store::new(self.alloc, &self.site.plan, stamp.reading);

@@ -1,4 +1,4 @@
-//! What a cub does with each message: the rules on viewer states, starts, deschedules, pieces, answers and heartbeats.
+//! What a cub does with each message: the rules on viewer states, starts, deschedules, pieces, answers, heartbeats and returns.
 #![tactic(auto)]
 
 mod answers;
@@ -13,7 +13,7 @@ mod states;
 
 pub use answers::take_answer;
 pub use deschedules::take_deschedule;
-pub use hearing::{hear, take_heartbeat};
+pub use hearing::{hear, take_back, take_heartbeat};
 pub use pieces::{take_kill, take_piece};
 pub use records::take_record;
 pub use starts::take_start;

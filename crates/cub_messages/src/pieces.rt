@@ -7,12 +7,13 @@ ghost use Rattle.cub_rules.specs.Records.{pieces_with, with_piece_record};
 ghost use Rattle.cub_rules.specs.Messages.{meeting_piece, meeting_kill};
 ghost use Rattle.cub_messages.specs.Rules.{DidQuietly};
 
-use cub_rules::Store;
-use mirror_schedule::PieceView;
+use cub_rules::{Store, lets_in};
+use mirror_schedule::{PieceView, leaving};
 use node_kit::Site;
 use tiger_base::{Instance, NoMemory, PieceState, Visit};
 
-/// A piece record is added, and is still to be asked for, unless its instance is held or it is for another cub.
+/// A piece record is added, and is still to be asked for, unless its instance is held, it is for another cub, or it may not
+/// enter.
 #[tactic(auto, unfolding(cub_rules::specs::Messages::meeting_piece, cub_rules::specs::Records::with_piece_record))]
 pub fn take_piece(site: &Site, piece: PieceState, store: &mut Store) -> Result<(), NoMemory>
     requires form { IsTrue (is_piece site.now.plan.params piece) }
@@ -24,6 +25,9 @@ pub fn take_piece(site: &Site, piece: PieceState, store: &mut Store) -> Result<(
         return Ok(());
     }
     if site.plan.cub_of(piece.visit + u64::from(piece.piece)) != site.cub {
+        return Ok(());
+    }
+    if !lets_in(store.comeback, leaving(&site.plan, &piece)) {
         return Ok(());
     }
     if add_new(piece, &mut store.pieces)? {

@@ -2,15 +2,14 @@
 ghost use Rattle.std.specs.Prelude.{◌≡◌, OnOk};
 ghost use Rattle.node_kit.specs.Deeds.{Did};
 ghost use Rattle.cub_rules.specs.State.{is_ask};
-ghost use Rattle.cub_rules.specs.Messages.{queueing, queueing_redundant, meeting_start, shows};
+ghost use Rattle.cub_rules.specs.Messages.{queueing, queueing_redundant, is_discarded, meeting_start, shows};
 
 use cub_rules::Store;
 use node_kit::{Out, Outbox, What};
 use partial_view::View;
 use tiger_base::{Ask, Instance, MOST_BLOCKS, Msg, NoMemory};
 
-/// A start waits, and a redundant one waits apart while the predecessor is not believed dead. One of a held instance, or of
-/// one that the view shows, is discarded, and so is one of no block or of too many.
+/// A start waits, unless it is discarded, and a redundant one waits apart while the predecessor is not believed dead.
 #[tactic(auto, unfolding(cub_rules::specs::Messages::meeting_start))]
 pub fn take_start<'a>(
     ask: Ask,
@@ -20,7 +19,7 @@ pub fn take_start<'a>(
 ) -> Result<(), NoMemory>
     ensures { OnOk result (Did (meeting_start ask redundant store.old) out.old out.new store.new) }
 {
-    if !is_ask(&ask) || store.held.is_held(ask.instance) || shows(store.view.view(), ask.instance) {
+    if is_discarded(&ask, store) {
         return Ok(());
     }
     if redundant && !store.believes {
@@ -29,6 +28,17 @@ pub fn take_start<'a>(
     } else {
         queue(ask, store, out)
     }
+}
+
+/// Whether a start is discarded: each is by a cub that came back, and one of a held instance, of one that the view shows,
+/// of no block or of too many.
+fn is_discarded(ask: &Ask, store: &Store) -> bool
+    ensures { result ≡ is_discarded ask.now store.now }
+{
+    store.comeback.is_some()
+        || (!is_ask(ask)
+            || store.held.is_held(ask.instance)
+            || shows(store.view.view(), ask.instance))
 }
 
 /// A start joins those that wait, with Queued, unless a start of its instance is there.

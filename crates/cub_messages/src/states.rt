@@ -1,18 +1,21 @@
 //! What a cub does with a viewer state.
-ghost use Rattle.std.specs.Prelude.{◌≡◌, ◌≤◌, IsTrue, OnOk};
+ghost use Rattle.std.specs.Prelude.{◌≡◌, ◌≤◌, ◌<◌, ◌^◌, ◌&&◌, ◌∷◌, [], IsTrue, OnOk};
 ghost use Rattle.tiger_base.specs.Limits.{most_reading};
 ghost use Rattle.slot_plan.specs.Keys.{IsKey};
+ghost use Rattle.slot_plan.specs.Times.{due};
 ghost use Rattle.node_kit.specs.Form.{is_tenancy};
+ghost use Rattle.partial_view.specs.Lines.{visit_of};
 ghost use Rattle.viewer_state.specs.States.{is_visit_of};
 ghost use Rattle.node_kit.specs.Deeds.{Did, each_in_turn};
 ghost use Rattle.cub_rules.specs.State.{IsStoreOf};
 ghost use Rattle.cub_rules.specs.Records.{took};
+ghost use Rattle.cub_rules.specs.Comebacks.{lets_in, records_let_in};
 ghost use Rattle.cub_rules.specs.Messages.{is_news, records_told, told, meeting_state};
 ghost use Rattle.cub_messages.specs.Rules.{IsNear};
 
 use crate::passing::{pass_from, position_at};
 use crate::records::{drop_start, take_record};
-use cub_rules::Store;
+use cub_rules::{Comeback, Store, due_of, lets_in};
 use node_kit::{Out, Outbox, Site};
 use partial_view::View;
 use tiger_base::{Msg, NoMemory, Rec, SlotNo, Stamp, State, Visit};
@@ -64,35 +67,75 @@ fn tell<'a>(
         (told site.now.plan.params site.now.cub.0 state place store.old)
         out.old out.new store.new) }
 {
-    let is_news = is_news(state, place, store.view.view());
+    let place_is_told = tells_place(site, state, place, store);
+    let comeback = store.comeback;
     drop_start(state.tenancy.instance, store, out)?;
-    take_told(state, place, store, out)?;
-    if is_news {
+    take_told(site, state, place, comeback, store, out)?;
+    if place_is_told {
         out.push(Out::Send(site.to_controller(), Msg::Placed(state.tenancy)))?;
     }
     Ok(())
 }
 
-/// The records are taken that a state tells a cub of.
+/// Whether the controller is told of a state: it is news, and its record may enter.
+fn tells_place(site: &Site, state: State, place: (SlotNo, Visit), store: &Store) -> bool
+    requires key { IsKey site.now.plan.params (state.tenancy.slot, state.visit) }
+    requires params { store.now.view.params ≡ site.now.plan.params }
+    ensures { result ≡ (lets_in store.now.comeback
+        (due site.now.plan.params state.tenancy.slot.0 state.visit)
+        && is_news state place store.now.view.lines) }
+{
+    lets_in(
+        store.comeback,
+        site.plan.due(state.tenancy.slot, state.visit),
+    ) && is_news(state, place, store.view.view())
+}
+
+/// The records are taken that a state tells a cub of, and that may enter.
 fn take_told<'a>(
+    site: &Site,
     state: State,
     place: (SlotNo, Visit),
+    comeback: Option<Comeback>,
     store: &mut Store<'a>,
     out: &mut Outbox<Msg<'a>>,
 ) -> Result<(), NoMemory>
-    requires form { IsTrue (is_tenancy store.old.view.params state.tenancy) }
+    requires params { store.old.view.params ≡ site.now.plan.params }
+    requires form { IsTrue (is_tenancy site.now.plan.params state.tenancy) }
     requires visit { IsTrue (is_visit_of state.tenancy state.visit) }
-    ensures { OnOk result (Did
-        (each_in_turn took (records_told state place) store.old)
+    ensures { let p = site.now.plan.params in
+        OnOk result (Did (each_in_turn took (records_let_in p comeback (records_told state place)) store.old)
         out.old out.new store.new) }
 {
     let (tenancy, visit) = (state.tenancy, state.visit);
     if place.1 == visit {
-        return take_record(Rec::own(tenancy, visit), store, out);
+        return let_in(site, Rec::own(tenancy, visit), comeback, store, out);
     }
-    take_record(Rec::backup(tenancy, visit), store, out)?;
+    let_in(site, Rec::backup(tenancy, visit), comeback, store, out)?;
     if visit < tenancy.last {
-        take_record(Rec::own(tenancy, visit + 1), store, out)?;
+        let_in(site, Rec::own(tenancy, visit + 1), comeback, store, out)?;
+    }
+    Ok(())
+}
+
+/// A record is taken, if it may enter.
+fn let_in<'a>(
+    site: &Site,
+    rec: Rec,
+    comeback: Option<Comeback>,
+    store: &mut Store<'a>,
+    out: &mut Outbox<Msg<'a>>,
+) -> Result<(), NoMemory>
+    requires params { store.old.view.params ≡ site.now.plan.params }
+    requires key { IsKey site.now.plan.params (visit_of rec) }
+    requires visit { rec.visit < 2 ^ 32 }
+    ensures did { let p = site.now.plan.params in
+        OnOk result (Did (each_in_turn took (records_let_in p comeback (rec ∷ [])) store.old)
+        out.old out.new store.new) }
+    ensures params { OnOk result (store.new.view.params ≡ site.now.plan.params) }
+{
+    if lets_in(comeback, due_of(&site.plan, &rec)) {
+        take_record(rec, store, out)?;
     }
     Ok(())
 }

@@ -1,3 +1,4 @@
+pub mod Comebacks
 pub mod Cubs
 pub mod Fresh
 pub mod Messages

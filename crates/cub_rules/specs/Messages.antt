@@ -31,12 +31,13 @@ use Rattle.partial_view.specs.declared.line.Line.{Line}
 use Rattle.partial_view.specs.Views.{line_at, first_of}
 use Rattle.insert_queue.specs.Queues.{is_asked, with_waiting, with_redundant}
 use Rattle.deschedule.specs.Holds.{is_held, must_pass, with_hold, with_pass}
-use Rattle.mirror_schedule.specs.Pieces.{is_of_visit}
+use Rattle.mirror_schedule.specs.Pieces.{is_of_visit, leaving_of}
 use Rattle.mirror_schedule.specs.Splits as splits
 use Rattle.node_kit.specs.Ways.{way_ahead, predecessor}
 use Rattle.node_kit.specs.Deeds.{nothing, then_do, each_in_turn}
 use Rattle.cub_rules.specs.declared.store.Store.{Store}
 use Rattle.cub_rules.specs.declared.store.StoredPart.{StoredPart}
+use Rattle.cub_rules.specs.Comebacks.{lets_in, records_let_in}
 use Rattle.cub_rules.specs.State.{visit_here, is_ask}
 use Rattle.cub_rules.specs.Records.{took, dropping_lines, dropping_start, dropping_pieces, pieces_but, with_piece_record}
 use Rattle.cub_rules.specs.Ticks.{sending, told_placed}
@@ -84,16 +85,19 @@ abbrev pub is_news : State → Key → List Line → Bool
 is_news s k lines =
     not (k.1 == s.visit) && (s.visit == s.tenancy.first && not (is_some (line_at (s.tenancy.slot, s.visit) lines)))
 
--- of news the controller is told, since the cub that put may have died before it did
-abbrev pub place_told : Params → ℕ → State → Key → List Line → List (Out Msg)
-place_told p cub s k lines = if is_news s k lines then told_placed p cub s.tenancy ∷ [] else []
+-- of news the controller is told, since the cub that put may have died before it did, if the record enters
+abbrev pub place_told : Params → ℕ → State → Key → Store → List (Out Msg)
+place_told p cub s k h =
+    if lets_in h.comeback (due p s.tenancy.slot.0 s.visit) then
+    (if is_news s k h.view.lines then told_placed p cub s.tenancy ∷ [] else [])
+    else []
 
--- a state of an instance that is not held: a start of it that waits is dropped, the records are taken, and of news the
--- controller is told; h is what the cub kept when the state came
+-- a state of an instance that is not held: a start of it that waits is dropped, the records that may enter are taken, and of
+-- news the controller is told; h is what the cub kept when the state came
 abbrev pub told : Params → ℕ → State → Key → Store → Deed Msg Store
 told p cub s k h =
     then_do (dropping_start s.tenancy.instance)
-    (then_do (each_in_turn took (records_told s k)) (sending (place_told p cub s k h.view.lines))) h
+    (then_do (each_in_turn took (records_let_in p h.comeback (records_told s k))) (sending (place_told p cub s k h))) h
 
 abbrev pub met : Params → ℕ → Stamp → State → Option Key → Store → Deed Msg Store
 met p cub stamp s None h = nothing h
@@ -120,11 +124,15 @@ queueing_redundant a h = record { outs = []; state = record h { starts = with_re
 abbrev pub shows : List Line → Instance → Bool
 shows lines v = is_some (first_of v lines)
 
--- Start: one of a held instance, or of one that the view shows, is discarded, and so is one of no block or of too many.
--- A redundant start waits apart while the predecessor is not believed dead.
+-- whether a start is discarded: each is by a cub that came back, and one of a held instance, of one that the view shows,
+-- of no block or of too many
+abbrev pub is_discarded : Ask → Store → Bool
+is_discarded a h = is_some h.comeback || (not (is_ask a) || is_held h.held a.instance || shows h.view.lines a.instance)
+
+-- Start: it waits, unless it is discarded. A redundant one waits apart while the predecessor is not believed dead.
 unfoldable pub meeting_start : Ask → Bool → Store → Deed Msg Store
 meeting_start a redundant h =
-    if not (is_ask a) || is_held h.held a.instance || shows h.view.lines a.instance then nothing h
+    if is_discarded a h then nothing h
     else if redundant && not h.believes then queueing_redundant a h
     else queueing a h
 
@@ -170,10 +178,11 @@ unfoldable pub descheduling : Params → ℕ → Stamp → Instance → Option T
 descheduling p cub stamp v tag =
     then_do (holding p stamp v) (then_do (passing p cub stamp v tag) (dropping_all p cub v))
 
--- Mirror state: a piece record is added, unless its instance is held or it is for another cub.
+-- Mirror state: a piece record is added, unless its instance is held, it is for another cub, or it may not enter.
 unfoldable pub meeting_piece : Params → ℕ → PieceState → Store → Deed Msg Store
 meeting_piece p cub x h =
     if is_held h.held x.tenancy.instance || not (cub_of p (x.visit + x.piece) == cub) then nothing h
+    else if not (lets_in h.comeback (leaving_of p x)) then nothing h
     else record { outs = []; state = with_piece_record x h }
 
 -- whether a stored part is one of the pieces of a visit of an instance
@@ -214,6 +223,12 @@ hearing_beat p cub stamp link h =
     if link.0 == (way_ahead p (predecessor p cub) 1).0 then record { outs = []; state = record h { watch = record h.watch { heard = stamp.reading } } }
     else nothing h
 
+-- What a predecessor that came back says of when it serves is kept.
+unfoldable pub hearing_back : Params → ℕ → LinkNo → ℕ → Store → Deed Msg Store
+hearing_back p cub link from h =
+    if link.0 == (way_ahead p (predecessor p cub) 1).0 then record { outs = []; state = record h { handback = Some from } }
+    else nothing h
+
 -- the rules on messages in form
 unfoldable pub hearing : Params → ℕ → Stamp → LinkNo → Msg → Store → Deed Msg Store
 hearing p cub stamp link (msg.ViewerState s) h = meeting_state p cub stamp s h
@@ -223,6 +238,7 @@ hearing p cub stamp link (msg.MirrorState x) h = meeting_piece p cub x h
 hearing p cub stamp link (msg.Kill v slot visit) h = meeting_kill v visit h
 hearing p cub stamp link (msg.ReadDone want part) h = meeting_answer want part h
 hearing p cub stamp link msg.Heartbeat h = hearing_beat p cub stamp link h
+hearing p cub stamp link (msg.Back from) h = hearing_back p cub link from h
 hearing p cub stamp link other h = nothing h
 
 -- what a cub does with a message: one that is not in form is ignored

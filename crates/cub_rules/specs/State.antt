@@ -1,5 +1,5 @@
 -- What a cub keeps, and what always holds of it.
-use Rattle.std.specs.Prelude.{◌≡◌, ℕ, ◌+◌, ◌≤◌, ◌<◌, [], false, Bool, ◌&&◌, nat_le, IsTrue}
+use Rattle.std.specs.Prelude.{◌≡◌, ℕ, ◌+◌, ◌≤◌, ◌<◌, [], false, Bool, ◌&&◌, nat_le, IsTrue, Option, Some, None}
 use Rattle.std.specs.List.{AllByRecursion}
 use Rattle.tiger_base.specs.declared.tenancy.Ask.{Ask}
 use Rattle.tiger_base.specs.declared.tenancy.Kind.{Kind}
@@ -15,6 +15,7 @@ use Rattle.partial_view.specs.declared.line.Line.{Line}
 use Rattle.mirror_schedule.specs.Splits.{Split}
 use Rattle.cub_rules.specs.declared.store.Store.{Store}
 use Rattle.cub_rules.specs.declared.store.StoredPart.{StoredPart}
+use Rattle.cub_rules.specs.Comebacks.{comeback_at}
 
 -- the visit that a record lets its cub care for itself: an own record's visit, and the one behind a backup record's
 abbrev pub visit_here : Kind → ℕ → ℕ
@@ -76,13 +77,20 @@ opening_store p heard = record {
   unasked = record { params = p; items = [] };
   splits = [];
   parts = [];
+  comeback = None;
+  handback = None;
 }
 
--- a cub: its plan, its number, and what it keeps
+-- what a cub keeps that came back at a reading: nothing but what is otherwise from then on
+abbrev pub returning_store : Params → ℕ → Store
+returning_store p reading = record (opening_store p reading) { comeback = Some (comeback_at p reading) }
+
+-- a cub: its plan, its number, what it keeps, and the beat of its last tick, if it has ticked
 pub record CubState : Type 0 where
   pub params : Params
   pub cub : ℕ
   pub store : Store
+  pub last : Option ℕ
 
 -- it is the cub of that number in a ring with these numbers
 pub record IsCub (s : CubState) (p : Params) (n : ℕ) : Type 0 where

@@ -1,5 +1,5 @@
 -- The eight steps of a cub's tick: release, deadman, insertion, splitting, forwarding, reading, serving, heartbeat.
-use Rattle.std.specs.Prelude.{ℕ, ◌+◌, ◌-◌, ◌*◌, ◌%◌, ◌==◌, List, [], ◌∷◌, ◌++◌, Bool, true, ◌&&◌, not, nat_lt, nat_le, filter, map, take, drop, Option, Some, None, if◌then◌else◌}
+use Rattle.std.specs.Prelude.{ℕ, ◌+◌, ◌-◌, ◌*◌, ◌%◌, ◌==◌, List, [], ◌∷◌, ◌++◌, Bool, true, ◌&&◌, not, nat_lt, nat_le, is_some, filter, map, take, drop, Option, Some, None, if◌then◌else◌}
 use Rattle.std.specs.List.{flat_map, range_with_len}
 use Rattle.tiger_base.specs.declared.number.CubNo.{CubNo}
 use Rattle.tiger_base.specs.declared.number.Stamp.{Stamp}
@@ -36,6 +36,8 @@ use Rattle.node_kit.specs.Ways.{way_ahead, way_to_controller, way_to_viewers, wa
 use Rattle.node_kit.specs.Deeds.{nothing, then_do, each_in_turn}
 use Rattle.cub_rules.specs.declared.store.Store.{Store}
 use Rattle.cub_rules.specs.declared.store.StoredPart.{StoredPart}
+use Rattle.cub_rules.specs.declared.comeback.Comeback.{Comeback}
+use Rattle.cub_rules.specs.Comebacks.{is_handed_back, serves_at}
 use Rattle.cub_rules.specs.Records.{took, dropped, stored_for, pieces_but, with_piece_record}
 
 -- whether the play time of a stored part's visit is over
@@ -135,11 +137,15 @@ inserting_for_dead p cub stamp h =
     if h.believes then each_in_turn (putting_on (putting_for_dead p cub) p stamp.reading) (disks_at p (predecessor p cub)) h
     else nothing h
 
--- Insertion: starts are put on each disk of its own and then, if the predecessor is believed dead, on each of that one's disks.
-unfoldable pub inserting : Params → ℕ → Stamp → Store → Deed Msg Store
-inserting p cub stamp = then_do (inserting_own p cub stamp) (inserting_for_dead p cub stamp)
+-- starts are put on each disk of its own and then, if the predecessor is believed dead, on each of that one's disks
+unfoldable pub inserting_all : Params → ℕ → Stamp → Store → Deed Msg Store
+inserting_all p cub stamp = then_do (inserting_own p cub stamp) (inserting_for_dead p cub stamp)
 
--- whether a line is split: a backup record's, not yet split, which is due late enough
+-- Insertion: starts are put, but not by a cub that came back.
+unfoldable pub inserting : Params → ℕ → Stamp → Store → Deed Msg Store
+inserting p cub stamp h = if is_some h.comeback then nothing h else inserting_all p cub stamp h
+
+-- whether it is a line's turn to be split: a backup record's, which has not had its turn, and which is due late enough
 unfoldable pub must_split : Params → Stamp → Line → Bool
 must_split p stamp x =
     not (is_own x.rec.kind) && not x.split && nat_le (stamp.reading + p.read_lead + p.skew + p.delay * p.beat + p.beat) (due_of p (key_of x))
@@ -148,17 +154,23 @@ must_split p stamp x =
 abbrev pub sent_ahead : Params → ℕ → PieceState → Out Msg
 sent_ahead p cub x = out.Send (way_ahead p cub (x.piece - 1)) (msg.MirrorState x)
 
--- of a split visit the first piece becomes the cub's own piece record, and the others are sent ahead
-abbrev pub split_outs : Params → ℕ → Stamp → Line → List (Out Msg)
-split_outs p cub stamp x = if must_split p stamp x then map (sent_ahead p cub) (drop 1 (pieces_of p x.rec)) else []
+-- Of a line whose turn it is, what is split off is split off if its visit is not left to the predecessor. Of a split visit
+-- the first piece becomes the cub's own piece record, and the others are sent ahead.
+abbrev pub split_off : {X : Type 0} → Params → Stamp → Option ℕ → Line → List X → List X
+split_off p stamp back x these =
+    if must_split p stamp x then (if is_handed_back p back x.rec then [] else these) else []
 
-abbrev pub first_pieces : Params → Stamp → Line → List PieceState
-first_pieces p stamp x = if must_split p stamp x then take 1 (pieces_of p x.rec) else []
+abbrev pub split_outs : Params → ℕ → Stamp → Option ℕ → Line → List (Out Msg)
+split_outs p cub stamp back x = split_off p stamp back x (map (sent_ahead p cub) (drop 1 (pieces_of p x.rec)))
 
-abbrev pub split_visits : Params → Stamp → Line → List Split
-split_visits p stamp x =
-    if must_split p stamp x then (x.rec.tenancy.instance, x.rec.tenancy.slot, x.rec.visit) ∷ [] else []
+abbrev pub first_pieces : Params → Stamp → Option ℕ → Line → List PieceState
+first_pieces p stamp back x = split_off p stamp back x (take 1 (pieces_of p x.rec))
 
+abbrev pub split_visits : Params → Stamp → Option ℕ → Line → List Split
+split_visits p stamp back x =
+    split_off p stamp back x ((x.rec.tenancy.instance, x.rec.tenancy.slot, x.rec.visit) ∷ [])
+
+-- a line that had its turn has no other one
 abbrev pub split_line : Params → Stamp → Line → Line
 split_line p stamp x = if must_split p stamp x then marked flag.Split x else x
 
@@ -170,16 +182,17 @@ with_each add (x ∷ xs) s = with_each add xs (add x s)
 abbrev pub with_split_lines : Params → Stamp → Store → Store
 with_split_lines p stamp h = record h {
   view = record h.view { lines = map (split_line p stamp) h.view.lines };
-  splits = with_each with_split (flat_map (split_visits p stamp) h.view.lines) h.splits;
+  splits = with_each with_split (flat_map (split_visits p stamp h.handback) h.view.lines) h.splits;
 }
 
--- Splitting: if the predecessor is believed dead, its visits are split into their pieces.
+-- Splitting: if the predecessor is believed dead, its visits are split into their pieces, but for those that are left to it
+-- since it came back.
 unfoldable pub splitting : Params → ℕ → Stamp → Store → Deed Msg Store
 splitting p cub stamp h =
     if h.believes then
     record {
-      outs = flat_map (split_outs p cub stamp) h.view.lines;
-      state = with_each with_piece_record (flat_map (first_pieces p stamp) h.view.lines) (with_split_lines p stamp h);
+      outs = flat_map (split_outs p cub stamp h.handback) h.view.lines;
+      state = with_each with_piece_record (flat_map (first_pieces p stamp h.handback) h.view.lines) (with_split_lines p stamp h);
     }
     else nothing h
 
@@ -206,20 +219,25 @@ forwarding p cub stamp h = record {
   state = record h { view = record h.view { lines = map (forward_line p stamp) h.view.lines } };
 }
 
--- whether a line's block is asked for
+-- whether it is a line's turn to have its block asked for
 unfoldable pub must_read : Params → Stamp → Line → Bool
 must_read p stamp x = is_own x.rec.kind && not x.asked && nat_le (due_of p (key_of x)) (stamp.reading + p.read_lead)
 
-abbrev pub ask_outs : Params → Stamp → Line → List (Out Msg)
-ask_outs p stamp x =
-    if must_read p stamp x then out.Send (way_to_disk p (disk_of p x.rec.visit)) (msg.ReadAsk (want_of x.rec)) ∷ [] else []
+-- the block of a line is asked of its disk, if the cub serves the visit
+abbrev pub asked_block : Params → Option Comeback → Line → List (Out Msg)
+asked_block p back x =
+    if serves_at back (due_of p (key_of x)) then out.Send (way_to_disk p (disk_of p x.rec.visit)) (msg.ReadAsk (want_of x.rec)) ∷ []
+    else []
+
+abbrev pub ask_outs : Params → Stamp → Option Comeback → Line → List (Out Msg)
+ask_outs p stamp back x = if must_read p stamp x then asked_block p back x else []
 
 abbrev pub ask_line : Params → Stamp → Line → Line
 ask_line p stamp x = if must_read p stamp x then marked flag.Asked x else x
 
 unfoldable pub reading_blocks : Params → Stamp → Store → Deed Msg Store
 reading_blocks p stamp h = record {
-  outs = flat_map (ask_outs p stamp) h.view.lines;
+  outs = flat_map (ask_outs p stamp h.comeback) h.view.lines;
   state = record h { view = record h.view { lines = map (ask_line p stamp) h.view.lines } };
 }
 
@@ -254,13 +272,18 @@ abbrev pub sent_whole : Params → ℕ → Stamp → Want → Option LibraryPart
 sent_whole p cub stamp want None = []
 sent_whole p cub stamp want (Some part) = out.Send (way_to_viewers p cub) (msg.Whole want stamp.beat part) ∷ []
 
-abbrev pub serve_outs : Params → ℕ → Stamp → List StoredPart → Line → List (Out Msg)
-serve_outs p cub stamp parts x =
-    if is_served p stamp x then sent_whole p cub stamp (want_of x.rec) (stored_for (want_of x.rec) parts) ++ dropped x ∷ [] else []
+-- the block of a line goes to the viewers, if the cub serves the visit
+abbrev pub served_whole : Params → ℕ → Stamp → Option Comeback → List StoredPart → Line → List (Out Msg)
+served_whole p cub stamp back parts x =
+    if serves_at back (due_of p (key_of x)) then sent_whole p cub stamp (want_of x.rec) (stored_for (want_of x.rec) parts) else []
+
+abbrev pub serve_outs : Params → ℕ → Stamp → Option Comeback → List StoredPart → Line → List (Out Msg)
+serve_outs p cub stamp back parts x =
+    if is_served p stamp x then served_whole p cub stamp back parts x ++ dropped x ∷ [] else []
 
 unfoldable pub serving_blocks : Params → ℕ → Stamp → Store → Deed Msg Store
 serving_blocks p cub stamp h = record {
-  outs = flat_map (serve_outs p cub stamp h.parts) h.view.lines;
+  outs = flat_map (serve_outs p cub stamp h.comeback h.parts) h.view.lines;
   state = record h { view = record h.view { lines = filter (λ x. not (is_served p stamp x)) h.view.lines } };
 }
 
@@ -291,10 +314,12 @@ serving_pieces p cub stamp h = record {
 unfoldable pub serving : Params → ℕ → Stamp → Store → Deed Msg Store
 serving p cub stamp = then_do (serving_blocks p cub stamp) (then_do (dropping_backups p stamp) (serving_pieces p cub stamp))
 
--- Heartbeat: in every beat that the plan's number divides, one goes to the successor.
+-- Heartbeat: in every beat that the plan's number divides, one goes to the successor, but of a cub that came back.
 unfoldable pub beating : Params → ℕ → Stamp → Store → Deed Msg Store
 beating p cub stamp h =
-    if stamp.beat % p.heart == 0 then record { outs = out.Send (way_ahead p cub 1) msg.Heartbeat ∷ []; state = h } else nothing h
+    if is_some h.comeback then nothing h
+    else if stamp.beat % p.heart == 0 then record { outs = out.Send (way_ahead p cub 1) msg.Heartbeat ∷ []; state = h }
+    else nothing h
 
 -- the steps of a tick, in their order
 unfoldable pub ticking : Params → ℕ → Stamp → Store → Deed Msg Store

@@ -1,8 +1,9 @@
 //! What a cub keeps.
 ghost use Rattle.std.specs.Prelude.{◌≡◌, ◌-◌, ◌≤◌};
 ghost use Rattle.tiger_base.specs.Limits.{most_reading};
-ghost use Rattle.cub_rules.specs.State.{opening_store};
+ghost use Rattle.cub_rules.specs.State.{opening_store, returning_store};
 
+use crate::comeback::Comeback;
 use crate::parts::StoredParts;
 use deadman::Watch;
 use deschedule::Held;
@@ -41,6 +42,10 @@ pub struct Store<'a> {
     pub splits: Splits,
     /// The parts that the disks gave.
     pub parts: StoredParts<'a>,
+    /// What is otherwise since it came back; none in its first life.
+    pub comeback: Option<Comeback>,
+    /// From when on its predecessor, which came back, serves its own visits; none until it was told so.
+    pub handback: Option<Micros>,
 }
 
 impl<'a> Store<'a> {
@@ -59,6 +64,19 @@ impl<'a> Store<'a> {
             unasked: PieceView::new(alloc, plan),
             splits: Splits::new(alloc, plan),
             parts: StoredParts::new(alloc, plan),
+            comeback: None,
+            handback: None,
+        }
+    }
+
+    /// What a cub keeps that came back at a reading: nothing but what is otherwise from then on.
+    pub fn returning(alloc: Global, plan: &Plan, reading: Micros) -> Store<'a>
+        requires { reading ≤ most_reading }
+        ensures { result ≡ returning_store plan.now.params reading }
+    {
+        Store {
+            comeback: Some(Comeback::at(plan, reading)),
+            ..Store::new(alloc, plan, reading)
         }
     }
 }

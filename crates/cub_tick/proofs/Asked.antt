@@ -23,6 +23,7 @@ use Rattle.partial_view.proofs.Calls.{record_of}
 use Rattle.partial_view.proofs.Order.{all_implies}
 use Rattle.mirror_schedule.specs.Pieces.{Pieces}
 use Rattle.node_kit.specs.Deeds.{Did}
+use Rattle.cub_rules.specs.declared.comeback.Comeback.{Comeback}
 use Rattle.cub_rules.specs.declared.store.Store.{Store}
 use Rattle.cub_rules.specs.Records.{pieces_but}
 use Rattle.cub_rules.specs.Ticks.{must_read, ask_line, ask_outs, reading, reading_blocks, reading_pieces, asked_of_disk, leaves_by}
@@ -93,9 +94,9 @@ asked_view p stamp view plan h =
     let lines : map (ask_line p stamp) view.lines ≡ view.lines = none_changed (must_read p stamp) (marked Asked) view.lines (all_stay p stamp view plan h) in
     ap (λ (ys : List Line). record_of view.params ys) (sym lines)
 
-pub asked_outs : (p : Params) (stamp : Stamp) (view : Seen) (outs : List (Out Msg)) → view.params ≡ p → IsAskedBefore view.params (stamp.reading + p.read_lead + 1) view.lines → outs ≡ outs ++ flat_map (ask_outs p stamp) view.lines
-asked_outs p stamp view outs plan h =
-    let none : flat_map (ask_outs p stamp) view.lines ≡ [] = none_given (must_read p stamp) _ view.lines (all_stay p stamp view plan h) in
+pub asked_outs : (p : Params) (stamp : Stamp) (back : Option Comeback) (view : Seen) (outs : List (Out Msg)) → view.params ≡ p → IsAskedBefore view.params (stamp.reading + p.read_lead + 1) view.lines → outs ≡ outs ++ flat_map (ask_outs p stamp back) view.lines
+asked_outs p stamp back view outs plan h =
+    let none : flat_map (ask_outs p stamp back) view.lines ≡ [] = none_given (must_read p stamp) _ view.lines (all_stay p stamp view plan h) in
     sym (ap (λ (zs : List (Out Msg)). outs ++ zs) none ∙ append-nil outs)
 
 -- after the walk all are asked for that are due so early
@@ -118,13 +119,13 @@ asked_then p stamp old view plan e =
 
 -- the reading of blocks, and then of pieces
 pub read_all : (p : Params) (stamp : Stamp) (old now : Store) (outs outs_then outs_now : List (Out Msg)) (view : Seen) (unasked : Pieces)
-    → view ≡ record old.view { lines = map (ask_line p stamp) old.view.lines } → outs_then ≡ outs ++ flat_map (ask_outs p stamp) old.view.lines
+    → view ≡ record old.view { lines = map (ask_line p stamp) old.view.lines } → outs_then ≡ outs ++ flat_map (ask_outs p stamp old.comeback) old.view.lines
     → unasked ≡ pieces_but (leaves_by p (stamp.reading + p.read_lead)) old.unasked
     → outs_now ≡ outs_then ++ map (asked_of_disk p) (filter (leaves_by p (stamp.reading + p.read_lead)) old.unasked.items)
     → now ≡ record old { view = view; unasked = unasked } → Did (reading p stamp old) outs outs_now now
 unfolding reading reading_blocks reading_pieces
 read_all p stamp old now outs outs_then outs_now view unasked v o q r n = (
-  r ∙ (ap (λ (zs : List (Out Msg)). zs ++ map (asked_of_disk p) (filter (leaves_by p (stamp.reading + p.read_lead)) old.unasked.items)) o ∙ append_assoc outs (flat_map (ask_outs p stamp) old.view.lines) _),
+  r ∙ (ap (λ (zs : List (Out Msg)). zs ++ map (asked_of_disk p) (filter (leaves_by p (stamp.reading + p.read_lead)) old.unasked.items)) o ∙ append_assoc outs (flat_map (ask_outs p stamp old.comeback) old.view.lines) _),
   n ∙ (ap (λ (w : Seen). record old { view = w; unasked = unasked }) v ∙ ap (λ (w : Pieces). record old { view = record old.view { lines = map (ask_line p stamp) old.view.lines }; unasked = w }) q),
 )
 

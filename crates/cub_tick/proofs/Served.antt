@@ -42,7 +42,7 @@ gone_out p stamp (x ∷ xs) =
 
 -- the serving of blocks, the dropping of backup records, and the serving of pieces
 pub serve_all : (p : Params) (cub : ℕ) (stamp : Stamp) (old now : Store) (outs outs_one outs_two outs_now : List (Out Msg)) (one two : Seen) (pieces unasked : Pieces)
-    → one ≡ record old.view { lines = filter (λ x. not (is_served p stamp x)) old.view.lines } → outs_one ≡ outs ++ flat_map (serve_outs p cub stamp old.parts) old.view.lines
+    → one ≡ record old.view { lines = filter (λ x. not (is_served p stamp x)) old.view.lines } → outs_one ≡ outs ++ flat_map (serve_outs p cub stamp old.comeback old.parts) old.view.lines
     → two ≡ record one { lines = filter (λ x. not (is_past p stamp x)) one.lines } → outs_two ≡ outs_one ++ map dropped (filter (is_past p stamp) one.lines)
     → pieces ≡ pieces_but (leaves_by p stamp.reading) old.pieces
     → outs_now ≡ outs_two ++ flat_map (piece_outs p cub stamp old.parts) (filter (leaves_by p stamp.reading) old.pieces.items)
@@ -50,8 +50,8 @@ pub serve_all : (p : Params) (cub : ℕ) (stamp : Stamp) (old now : Store) (outs
     → now ≡ record old { view = two; pieces = pieces; unasked = unasked } → Did (serving p cub stamp old) outs outs_now now
 unfolding serving serving_blocks dropping_backups serving_pieces
 serve_all p cub stamp old now outs outs_one outs_two outs_now one two pieces unasked a b c d e f g n = (
-  f ∙ (ap (λ (zs : List (Out Msg)). zs ++ flat_map (piece_outs p cub stamp old.parts) (filter (leaves_by p stamp.reading) old.pieces.items)) (d ∙ ap (λ (zs : List (Out Msg)). zs ++ map dropped (filter (is_past p stamp) one.lines)) b ∙ ap (λ (s : Seen). (outs ++ flat_map (serve_outs p cub stamp old.parts) old.view.lines) ++ map dropped (filter (is_past p stamp) s.lines)) a)
-      ∙ (append_assoc (outs ++ flat_map (serve_outs p cub stamp old.parts) old.view.lines) _ _ ∙ append_assoc outs (flat_map (serve_outs p cub stamp old.parts) old.view.lines) _)),
+  f ∙ (ap (λ (zs : List (Out Msg)). zs ++ flat_map (piece_outs p cub stamp old.parts) (filter (leaves_by p stamp.reading) old.pieces.items)) (d ∙ ap (λ (zs : List (Out Msg)). zs ++ map dropped (filter (is_past p stamp) one.lines)) b ∙ ap (λ (s : Seen). (outs ++ flat_map (serve_outs p cub stamp old.comeback old.parts) old.view.lines) ++ map dropped (filter (is_past p stamp) s.lines)) a)
+      ∙ (append_assoc (outs ++ flat_map (serve_outs p cub stamp old.comeback old.parts) old.view.lines) _ _ ∙ append_assoc outs (flat_map (serve_outs p cub stamp old.comeback old.parts) old.view.lines) _)),
   n ∙ (ap (λ (s : Seen). record old { view = s; pieces = pieces; unasked = unasked }) (c ∙ ap (λ (s : Seen). record_of s.params (filter (λ x. not (is_past p stamp x)) s.lines)) a)
       ∙ (ap (λ (q : Pieces). record old { view = record_of old.view.params (filter (λ x. not (is_past p stamp x)) (filter (λ x. not (is_served p stamp x)) old.view.lines)); pieces = q; unasked = unasked }) e
       ∙ ap (λ (q : Pieces). record old { view = record_of old.view.params (filter (λ x. not (is_past p stamp x)) (filter (λ x. not (is_served p stamp x)) old.view.lines)); pieces = pieces_but (leaves_by p stamp.reading) old.pieces; unasked = q }) g)),

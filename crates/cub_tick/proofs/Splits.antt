@@ -25,9 +25,10 @@ use Rattle.node_kit.specs.Deeds.{Did, nothing}
 use Rattle.cub_rules.specs.declared.store.Store.{Store}
 use Rattle.cub_rules.specs.Records.{with_piece_record, pieces_with}
 use Rattle.cub_rules.specs.Ticks.{must_split, split_line, split_outs, split_visits, first_pieces, with_each, sent_ahead, splitting}
+use Rattle.cub_rules.specs.Comebacks.{is_handed_back}
 use Rattle.cub_rules.specs.State.{IsLineOf}
 use Rattle.cub_tick.specs.Working.{WorkedOn}
-use Rattle.cub_tick.specs.Splitting.{with_split_of, sent_pieces, with_new, first_piece, split_of, with_split_visit, SplitOn}
+use Rattle.cub_tick.specs.Splitting.{with_split_of, sent_pieces, with_new, first_piece, split_of, with_split_visit, with_visit_settled, sent_settled, SplitOn}
 use Rattle.cub_tick.proofs.Steps.{none_given}
 use Rattle.cub_tick.proofs.Working.{Step, begun, first_passes, none_at, step_gives, marked_step, marked_fewer, marked_on, marked_done, outs_done}
 
@@ -139,34 +140,76 @@ piece_plan x h =
       | false ↦ (refl, refl)
     ]
 
-module _ (p : Params) (stamp : Stamp) where
-  pub view_then : (xs : List Line) (view : Seen) (h : Store) → (with_split_of p stamp xs view h).view ≡ view
+module _ (p : Params) (stamp : Stamp) (back : Option ℕ) where
+  pub view_then : (xs : List Line) (view : Seen) (h : Store) → (with_split_of p stamp back xs view h).view ≡ view
   view_then xs view h =
-      ap (λ (g : Store). g.view) (pieces_apart (flat_map (first_pieces p stamp) xs) h view (with_each with_split (flat_map (split_visits p stamp) xs) h.splits))
+      ap (λ (g : Store). g.view)
+      (pieces_apart (flat_map (first_pieces p stamp back) xs) h view (with_each with_split (flat_map (split_visits p stamp back) xs) h.splits))
 
   -- some lines, and then others
-  split_more : (xs ys : List Line) (between view : Seen) (h : Store) → with_split_of p stamp ys view (with_split_of p stamp xs between h) ≡ with_split_of p stamp (xs ++ ys) view h
+  split_more : (xs ys : List Line) (between view : Seen) (h : Store)
+      → with_split_of p stamp back ys view (with_split_of p stamp back xs between h) ≡ with_split_of p stamp back (xs ++ ys) view h
   split_more xs ys between view h =
-      let visits : List Line → List Split = λ zs. flat_map (split_visits p stamp) zs in
-      let firsts : List Line → List PieceState = λ zs. flat_map (first_pieces p stamp) zs in
+      let visits : List Line → List Split = λ zs. flat_map (split_visits p stamp back) zs in
+      let firsts : List Line → List PieceState = λ zs. flat_map (first_pieces p stamp back) zs in
       let one : List Split = with_each with_split (visits xs) h.splits in
       let two : List Split = with_each with_split (visits ys) one in
-      let done : with_split_of p stamp xs between h ≡ changed (with_each with_piece_record (firsts xs) h) between one = pieces_apart (firsts xs) h between one in
-      ap (λ (g : Store). with_split_of p stamp ys view g) done
+      let done : with_split_of p stamp back xs between h ≡ changed (with_each with_piece_record (firsts xs) h) between one = pieces_apart (firsts xs) h between one in
+      ap (λ (g : Store). with_split_of p stamp back ys view g) done
       ∙ (ap (λ (g : Store). with_each with_piece_record (firsts ys) g) (sym (pieces_apart (firsts xs) h view two))
       ∙ (sym (each_append with_piece_record (firsts xs) (firsts ys) (changed h view two))
-      ∙ (ap (λ (ps : List PieceState). with_each with_piece_record ps (changed h view two)) (sym (flat_map-append (first_pieces p stamp) xs ys))
+      ∙ (ap (λ (ps : List PieceState). with_each with_piece_record ps (changed h view two)) (sym (flat_map-append (first_pieces p stamp back) xs ys))
       ∙ ap (λ (s : List Split). with_each with_piece_record (firsts (xs ++ ys)) (changed h view s))
-      (sym (ap (λ (zs : List Split). with_each with_split zs h.splits) (flat_map-append (split_visits p stamp) xs ys) ∙ each_append with_split (visits xs) (visits ys) h.splits)))))
+      (sym (ap (λ (zs : List Split). with_each with_split zs h.splits) (flat_map-append (split_visits p stamp back) xs ys) ∙ each_append with_split (visits xs) (visits ys) h.splits)))))
+
+  -- what one line adds, by whether its visit is left to the predecessor
+  settled : (r : Rec) (h : Store) (view : Seen) → 1 ≤ p.pieces → (left : Bool)
+      → with_each with_piece_record (cond left [] (take 1 (pieces_of p r)) ++ [])
+      (changed h view (with_each with_split (cond left [] (split_of r ∷ []) ++ []) h.splits))
+      ≡ cond left (changed h view h.splits) (with_split_visit r (changed h view h.splits))
+  settled r h view some true = refl
+  settled r h view some false =
+      ap (λ (ps : List PieceState). with_each with_piece_record (ps ++ []) (changed h view (with_split (split_of r) h.splits))) (first_of p r some)
 
   -- what one line adds, by its test
   one_of : (x : Line) (h : Store) (view : Seen) → 1 ≤ p.pieces → must_split p stamp x ≡ true
-      → with_split_of p stamp (x ∷ []) view h ≡ with_piece_record (piece_at x.rec 1) (changed h view (with_split (x.rec.tenancy.instance, x.rec.tenancy.slot, x.rec.visit) h.splits))
+      → with_split_of p stamp back (x ∷ []) view h ≡ with_visit_settled p back x.rec (changed h view h.splits)
   one_of x h view some is =
-      let firsts : first_pieces p stamp x ≡ piece_at x.rec 1 ∷ [] = ap (λ (t : Bool). cond t (take 1 (pieces_of p x.rec)) []) is ∙ first_of p x.rec some in
-      let visits : split_visits p stamp x ≡ (x.rec.tenancy.instance, x.rec.tenancy.slot, x.rec.visit) ∷ [] = ap (λ (t : Bool). cond t ((x.rec.tenancy.instance, x.rec.tenancy.slot, x.rec.visit) ∷ []) []) is in
-      ap (λ (ps : List PieceState). with_each with_piece_record (ps ++ []) (changed h view (with_each with_split (split_visits p stamp x ++ []) h.splits))) firsts
-      ∙ ap (λ (ss : List Split). with_each with_piece_record (piece_at x.rec 1 ∷ []) (changed h view (with_each with_split (ss ++ []) h.splits))) visits
+      let left : Bool = is_handed_back p back x.rec in
+      let firsts : first_pieces p stamp back x ≡ cond left [] (take 1 (pieces_of p x.rec)) =
+      ap (λ (t : Bool). cond t (cond left [] (take 1 (pieces_of p x.rec))) []) is in
+      let visits : split_visits p stamp back x ≡ cond left [] (split_of x.rec ∷ []) = ap (λ (t : Bool). cond t (cond left [] (split_of x.rec ∷ [])) []) is in
+      ap (λ (ps : List PieceState). with_each with_piece_record (ps ++ []) (changed h view (with_each with_split (split_visits p stamp back x ++ []) h.splits))) firsts
+      ∙ (ap (λ (ss : List Split). with_each with_piece_record (cond left [] (take 1 (pieces_of p x.rec)) ++ []) (changed h view (with_each with_split (ss ++ []) h.splits))) visits
+      ∙ settled x.rec h view some left)
+
+-- a piece record leaves what was handed back
+piece_back : (x : PieceState) (h : Store) → (with_piece_record x h).handback ≡ h.handback
+unfolding with_piece_record
+piece_back x h =
+    elim (is_in x h.pieces.items) as (λ t. (cond t h (record h { pieces = pieces_with x h.pieces; unasked = pieces_with x h.unasked })).handback ≡ h.handback) [
+      | true ↦ refl
+      | false ↦ refl
+    ]
+
+-- what a visit that had its turn leaves as it was
+record IsSettled (h d : Store) : Type 0 where
+  view : d.view ≡ h.view
+  pieces : d.pieces.params ≡ h.pieces.params
+  unasked : d.unasked.params ≡ h.unasked.params
+  back : d.handback ≡ h.handback
+
+is_settled : (r : Rec) (h : Store) (left : Bool) → IsSettled h (cond left h (with_split_visit r h))
+is_settled r h true = record { view = refl; pieces = refl; unasked = refl; back = refl }
+is_settled r h false =
+    let visit : List Split = with_split (split_of r) h.splits in
+    let plan = piece_plan (first_piece r) (changed h h.view visit) in
+    record {
+      view = ap (λ (g : Store). g.view) (piece_apart (first_piece r) h h.view visit);
+      pieces = plan.0;
+      unasked = plan.1;
+      back = piece_back (first_piece r) (changed h h.view visit);
+    }
 
 -- the split of one visit
 pub split_one : (r : Rec) (h : Store) (splits : List Split) (pieces unasked : Pieces) → splits ≡ with_split (split_of r) h.splits
@@ -179,11 +222,12 @@ split_one r h splits pieces unasked s q u =
     ∙ sym (piece_fields (first_piece r) (record h { splits = with_split (split_of r) h.splits }))))
 
 -- lines that are not split leave the store and the outputs as they are
-store_still : (p : Params) (stamp : Stamp) (before : Store) (xs : List Line) → AllByRecursion (λ x. must_split p stamp x ≡ false) xs → before ≡ with_split_of p stamp xs before.view before
-store_still p stamp before xs h =
-    let firsts : flat_map (first_pieces p stamp) xs ≡ [] = none_given (must_split p stamp) _ xs h in
-    let visits : flat_map (split_visits p stamp) xs ≡ [] = none_given (must_split p stamp) _ xs h in
-    sym (ap (λ (ps : List PieceState). with_each with_piece_record ps (changed before before.view (with_each with_split (flat_map (split_visits p stamp) xs) before.splits))) firsts
+store_still : (p : Params) (stamp : Stamp) (back : Option ℕ) (before : Store) (xs : List Line) → AllByRecursion (λ x. must_split p stamp x ≡ false) xs
+    → before ≡ with_split_of p stamp back xs before.view before
+store_still p stamp back before xs h =
+    let firsts : flat_map (first_pieces p stamp back) xs ≡ [] = none_given (must_split p stamp) _ xs h in
+    let visits : flat_map (split_visits p stamp back) xs ≡ [] = none_given (must_split p stamp) _ xs h in
+    sym (ap (λ (ps : List PieceState). with_each with_piece_record ps (changed before before.view (with_each with_split (flat_map (split_visits p stamp back) xs) before.splits))) firsts
     ∙ ap (λ (ss : List Split). changed before before.view (with_each with_split ss before.splits)) visits)
 
 -- a visit is split once
@@ -198,40 +242,46 @@ split_once p stamp x = never (not (is_own x.rec.kind)) _
 module _ {p : Params} {cub : ℕ} {stamp : Stamp} {before : Store} {outs_before : List (Out Msg)} where
   -- the splitting begins
   pub split_begun : AllByRecursion (IsLineOf p cub) before.view.lines → SplitOn p cub stamp before outs_before before outs_before
-  split_begun all = record { work = begun all; store = λ view. refl; pieces = refl; unasked = refl }
+  split_begun all = record { work = begun all; store = λ view. refl; back = refl; pieces = refl; unasked = refl }
 
   module _ {now : Store} {outs_now : List (Out Msg)} (t : SplitOn p cub stamp before outs_before now outs_now) where
-    -- one line more is split
+    -- one line more has its turn
     module _ {x : Line} {view : Seen} {after : Store} (some : 1 ≤ p.pieces) (walk : IsWalk now.view.params now.view.lines) (first : Some x ≡ find (must_split p stamp) now.view.lines)
-        (step : view ≡ record now.view { lines = with_mark (key_of x) flag.Split now.view.lines }) (split : after ≡ with_split_visit x.rec (record now { view = view })) where
-      abbrev visit : List Split
-      visit = with_split (split_of x.rec) now.splits
+        (step : view ≡ record now.view { lines = with_mark (key_of x) flag.Split now.view.lines }) (split : after ≡ with_visit_settled p now.handback x.rec (record now { view = view })) where
+      settles : IsSettled (record now { view = view }) after
+      settles =
+          subst (λ (g : Store). IsSettled (record now { view = view }) g) (sym split)
+          (is_settled x.rec (record now { view = view }) (is_handed_back p now.handback x.rec))
 
       one_more : Step (must_split p stamp) x (marked flag.Split x ∷ []) now.view.lines view.lines
       one_more = marked_step (must_split p stamp) now.view walk first flag.Split (split_once p stamp) step
 
       view_after : after.view ≡ view
-      view_after = ap (λ (g : Store). g.view) (split ∙ piece_apart (first_piece x.rec) now view visit)
+      view_after = settles.view
 
-      after_is : after ≡ with_split_of p stamp (x ∷ []) view now
-      after_is = split ∙ sym (one_of p stamp x now view some (first_passes (must_split p stamp) x now.view.lines first))
+      after_is : after ≡ with_split_of p stamp before.handback (x ∷ []) view now
+      after_is =
+          subst (λ (b : Option ℕ). after ≡ with_visit_settled p b x.rec (record now { view = view })) t.back split
+          ∙ sym (one_of p stamp before.handback x now view some (first_passes (must_split p stamp) x now.view.lines first))
 
-      firsts : flat_map (first_pieces p stamp) now.view.lines ≡ flat_map (first_pieces p stamp) (x ∷ view.lines)
+      firsts : flat_map (first_pieces p stamp before.handback) now.view.lines ≡ flat_map (first_pieces p stamp before.handback) (x ∷ view.lines)
       firsts =
-          step_gives (must_split p stamp) one_more (first_pieces p stamp) (λ y is. ap (λ (b : Bool). cond b (take 1 (pieces_of p y.rec)) []) is)
-          (ap (λ (b : Bool). cond b (take 1 (pieces_of p x.rec)) [] ++ []) (split_once p stamp x))
+          step_gives (must_split p stamp) one_more (first_pieces p stamp before.handback)
+          (λ y is. ap (λ (b : Bool). cond b (cond (is_handed_back p before.handback y.rec) [] (take 1 (pieces_of p y.rec))) []) is)
+          (ap (λ (b : Bool). cond b (cond (is_handed_back p before.handback x.rec) [] (take 1 (pieces_of p x.rec))) [] ++ []) (split_once p stamp x))
 
-      visits : flat_map (split_visits p stamp) now.view.lines ≡ flat_map (split_visits p stamp) (x ∷ view.lines)
+      visits : flat_map (split_visits p stamp before.handback) now.view.lines ≡ flat_map (split_visits p stamp before.handback) (x ∷ view.lines)
       visits =
-          step_gives (must_split p stamp) one_more (split_visits p stamp) (λ y is. ap (λ (b : Bool). cond b (split_of y.rec ∷ []) []) is)
-          (ap (λ (b : Bool). cond b (split_of x.rec ∷ []) [] ++ []) (split_once p stamp x))
+          step_gives (must_split p stamp) one_more (split_visits p stamp before.handback)
+          (λ y is. ap (λ (b : Bool). cond b (cond (is_handed_back p before.handback y.rec) [] (split_of y.rec ∷ [])) []) is)
+          (ap (λ (b : Bool). cond b (cond (is_handed_back p before.handback x.rec) [] (split_of x.rec ∷ [])) [] ++ []) (split_once p stamp x))
 
-      store_after : (last : Seen) → with_split_of p stamp view.lines last after ≡ with_split_of p stamp before.view.lines last before
+      store_after : (last : Seen) → with_split_of p stamp before.handback view.lines last after ≡ with_split_of p stamp before.handback before.view.lines last before
       store_after last =
-          ap (λ (g : Store). with_split_of p stamp view.lines last g) after_is
-          ∙ (split_more p stamp (x ∷ []) view.lines view last now
-          ∙ (ap (λ (ps : List PieceState). with_each with_piece_record ps (changed now last (with_each with_split (flat_map (split_visits p stamp) (x ∷ view.lines)) now.splits))) (sym firsts)
-          ∙ (ap (λ (ss : List Split). with_each with_piece_record (flat_map (first_pieces p stamp) now.view.lines) (changed now last (with_each with_split ss now.splits))) (sym visits)
+          ap (λ (g : Store). with_split_of p stamp before.handback view.lines last g) after_is
+          ∙ (split_more p stamp before.handback (x ∷ []) view.lines view last now
+          ∙ (ap (λ (ps : List PieceState). with_each with_piece_record ps (changed now last (with_each with_split (flat_map (split_visits p stamp before.handback) (x ∷ view.lines)) now.splits))) (sym firsts)
+          ∙ (ap (λ (ss : List Split). with_each with_piece_record (flat_map (first_pieces p stamp before.handback) now.view.lines) (changed now last (with_each with_split ss now.splits))) (sym visits)
           ∙ t.store last)))
 
       pub split_fewer : length (filter (must_split p stamp) after.view.lines) < length (filter (must_split p stamp) now.view.lines)
@@ -239,26 +289,28 @@ module _ {p : Params} {cub : ℕ} {stamp : Stamp} {before : Store} {outs_before 
           subst (λ (v : Seen). length (filter (must_split p stamp) v.lines) < length (filter (must_split p stamp) now.view.lines)) (sym view_after)
           (marked_fewer (must_split p stamp) now.view walk first flag.Split (split_once p stamp) step)
 
-      pub split_on : {outs_after : List (Out Msg)} → outs_after ≡ outs_now ++ sent_pieces p cub x.rec → SplitOn p cub stamp before outs_before after outs_after
+      pub split_on : {outs_after : List (Out Msg)} → outs_after ≡ outs_now ++ sent_settled p cub now.handback x.rec → SplitOn p cub stamp before outs_before after outs_after
       split_on {outs_after} e = record {
         work =
-            subst (λ (v : Seen). WorkedOn (IsLineOf p cub) (split_outs p cub stamp) (λ y. split_line p stamp y ∷ []) before.view outs_before v outs_after) (sym view_after)
-            (marked_on (must_split p stamp) (λ y. sent_pieces p cub y.rec) flag.Split walk first (split_once p stamp) step (λ y h. h) t.work e);
+            subst (λ (v : Seen). WorkedOn (IsLineOf p cub) (split_outs p cub stamp before.handback) (λ y. split_line p stamp y ∷ []) before.view outs_before v outs_after) (sym view_after)
+            (marked_on (must_split p stamp) (λ y. sent_settled p cub before.handback y.rec) flag.Split walk first (split_once p stamp) step (λ y h. h) t.work
+            (subst (λ (b : Option ℕ). outs_after ≡ outs_now ++ sent_settled p cub b x.rec) t.back e));
         store =
-            λ last. ap (λ (v : Seen). with_split_of p stamp v.lines last after) view_after ∙ store_after last;
-        pieces = ap (λ (g : Store). g.pieces.params) split ∙ ((piece_plan (first_piece x.rec) (changed now view visit)).0 ∙ t.pieces);
-        unasked = ap (λ (g : Store). g.unasked.params) split ∙ ((piece_plan (first_piece x.rec) (changed now view visit)).1 ∙ t.unasked);
+            λ last. ap (λ (v : Seen). with_split_of p stamp before.handback v.lines last after) view_after ∙ store_after last;
+        back = settles.back ∙ t.back;
+        pieces = settles.pieces ∙ t.pieces;
+        unasked = settles.unasked ∙ t.unasked;
       }
 
     module _ (none : None ≡ find (must_split p stamp) now.view.lines) where
-      pub split_store : {view : Seen} → view ≡ now.view → record now { view = view } ≡ with_split_of p stamp before.view.lines (record before.view { lines = map (split_line p stamp) before.view.lines }) before
+      pub split_store : {view : Seen} → view ≡ now.view → record now { view = view } ≡ with_split_of p stamp before.handback before.view.lines (record before.view { lines = map (split_line p stamp) before.view.lines }) before
       split_store e =
-          ap (λ (v : Seen). record now { view = v }) e ∙ (store_still p stamp now now.view.lines (none_at (must_split p stamp) now.view.lines none)
+          ap (λ (v : Seen). record now { view = v }) e ∙ (store_still p stamp before.handback now now.view.lines (none_at (must_split p stamp) now.view.lines none)
           ∙ (t.store now.view
-          ∙ ap (λ (w : Seen). with_split_of p stamp before.view.lines w before) (marked_done (must_split p stamp) (λ y. sent_pieces p cub y.rec) flag.Split t.work none refl)))
+          ∙ ap (λ (w : Seen). with_split_of p stamp before.handback before.view.lines w before) (marked_done (must_split p stamp) (λ y. sent_settled p cub before.handback y.rec) flag.Split t.work none refl)))
 
-      pub split_sent : outs_now ≡ outs_before ++ flat_map (split_outs p cub stamp) before.view.lines
-      split_sent = outs_done (must_split p stamp) (λ y. sent_pieces p cub y.rec) t.work none
+      pub split_sent : outs_now ≡ outs_before ++ flat_map (split_outs p cub stamp before.handback) before.view.lines
+      split_sent = outs_done (must_split p stamp) (λ y. sent_settled p cub before.handback y.rec) t.work none
 
 -- the splitting, where the predecessor is believed dead and where it is not
 did_where : {S : Type 0} (t : Bool) (d e : Deed Msg S) (outs now : List (Out Msg)) (s : S) → t ≡ true → Did d outs now s → Did (cond t d e) outs now s
@@ -270,7 +322,8 @@ did_else true d e outs now s is done = absurd (cc)
 did_else false d e outs now s is done = done
 
 pub split_all : (p : Params) (cub : ℕ) (stamp : Stamp) (h now : Store) (outs outs_now : List (Out Msg)) → h.believes ≡ true
-    → now ≡ with_split_of p stamp h.view.lines (record h.view { lines = map (split_line p stamp) h.view.lines }) h → outs_now ≡ outs ++ flat_map (split_outs p cub stamp) h.view.lines
+    → now ≡ with_split_of p stamp h.handback h.view.lines (record h.view { lines = map (split_line p stamp) h.view.lines }) h
+    → outs_now ≡ outs ++ flat_map (split_outs p cub stamp h.handback) h.view.lines
     → Did (splitting p cub stamp h) outs outs_now now
 unfolding splitting
 split_all p cub stamp h now outs outs_now is e f = did_where h.believes _ (nothing h) outs outs_now now is (f, e)

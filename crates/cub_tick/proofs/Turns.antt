@@ -20,7 +20,7 @@ use Rattle.insert_queue.specs.Queues.{Queues, without_start, oldest_for, IsOnce}
 use Rattle.node_kit.specs.Deeds.{Did, nothing, each_in_turn}
 use Rattle.cub_rules.specs.declared.store.Store.{Store}
 use Rattle.cub_rules.specs.State.{IsAsk}
-use Rattle.cub_rules.specs.Ticks.{is_for, free_on, put_or_wait, putting_each, putting_on, putting_for_dead, tenancy_from, disks_at, inserting, inserting_own, inserting_for_dead}
+use Rattle.cub_rules.specs.Ticks.{is_for, free_on, put_or_wait, putting_each, putting_on, putting_for_dead, tenancy_from, disks_at, inserting_all, inserting_own, inserting_for_dead}
 use Rattle.cub_tick.specs.Placing.{putting_by, WaitForFull}
 use Rattle.cub_tick.proofs.FullDisks.{none_where_full}
 use Rattle.cub_tick.proofs.Waiting.{oldest_first, once_front}
@@ -154,8 +154,8 @@ module _ (p : Params) (cub : ℕ) (stamp : Stamp) where
 
   -- if nothing is done there behind what is done on the cub's own disks, that is all
   pub own_alone : (first : Store) (before out : List (Out Msg)) (h : Store) → Did (inserting_own p cub stamp first) before out h
-      → inserting_for_dead p cub stamp h ≡ nothing h → Did (inserting p cub stamp first) before out h
-  unfolding inserting
+      → inserting_for_dead p cub stamp h ≡ nothing h → Did (inserting_all p cub stamp first) before out h
+  unfolding inserting_all
   own_alone first before out h did dead =
       let own : Deed Msg Store = inserting_own p cub stamp first in
       let none : inserting_for_dead p cub stamp own.state ≡ nothing own.state = subst (λ (s : Store). inserting_for_dead p cub stamp s ≡ nothing s) did.1 dead in (
@@ -168,11 +168,11 @@ module _ (p : Params) (cub : ℕ) (stamp : Stamp) where
       (sym (ap (λ (d : Deed Msg Store). out ++ d.outs) all ∙ append-nil out), sym (ap (λ (d : Deed Msg Store). d.state) all))
 
   -- if none waits, insertion does nothing
-  pub none_inserted : (h : Store) (out : List (Out Msg)) (waits : Bool) → waits ≡ not (length h.starts.waiting == 0) → waits ≡ false → Did (inserting p cub stamp h) out out h
+  pub none_inserted : (h : Store) (out : List (Out Msg)) (waits : Bool) → waits ≡ not (length h.starts.waiting == 0) → waits ≡ false → Did (inserting_all p cub stamp h) out out h
   none_inserted h out waits is none =
       let no_start = none_in h.starts.waiting (sym is ∙ none) in
       own_alone h out out h (did_nothing out h _ (none_waits_at Own p cub stamp.reading cub h no_start)) (dead_none h no_start)
 
   -- if all that wait do so for full disks, neither
-  pub full_inserted : (h : Store) (out : List (Out Msg)) → IsPlan p → h.view.params ≡ p → WaitForFull stamp.reading h → Did (inserting p cub stamp h) out out h
+  pub full_inserted : (h : Store) (out : List (Out Msg)) → IsPlan p → h.view.params ≡ p → WaitForFull stamp.reading h → Did (inserting_all p cub stamp h) out out h
   full_inserted h out ok plan full = own_alone h out out h (did_nothing out h _ (full_waits_at Own p cub stamp.reading cub h ok plan full)) (dead_full h ok plan full)

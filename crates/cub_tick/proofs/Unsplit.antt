@@ -76,8 +76,8 @@ all_stay p stamp lines h =
 
 -- a cub did its splitting: by a walk, or without one where all is split from the limit on
 pub split_by_walk : (p : Params) (cub : ℕ) (stamp : Stamp) (old now : Store) (outs outs_now : List (Out Msg)) (view : Seen) → old.believes ≡ true
-    → now ≡ with_split_of p stamp old.view.lines (record old.view { lines = map (split_line p stamp) old.view.lines }) old
-    → outs_now ≡ outs ++ flat_map (split_outs p cub stamp) old.view.lines → view ≡ now.view → Did (splitting p cub stamp old) outs outs_now (record now { view = view })
+    → now ≡ with_split_of p stamp old.handback old.view.lines (record old.view { lines = map (split_line p stamp) old.view.lines }) old
+    → outs_now ≡ outs ++ flat_map (split_outs p cub stamp old.handback) old.view.lines → view ≡ now.view → Did (splitting p cub stamp old) outs outs_now (record now { view = view })
 split_by_walk p cub stamp old now outs outs_now view believes e f g =
     split_all p cub stamp old _ outs outs_now believes (ap (λ (v : Seen). record now { view = v }) g ∙ e) f
 
@@ -85,11 +85,11 @@ pub split_before : (p : Params) (cub : ℕ) (stamp : Stamp) (h : Store) (outs : 
 split_before p cub stamp h outs believes known =
     let stay = all_stay p stamp h.view.lines known in
     let lines : map (split_line p stamp) h.view.lines ≡ h.view.lines = none_changed (must_split p stamp) (marked flag.Split) h.view.lines stay in
-    let sent : flat_map (split_outs p cub stamp) h.view.lines ≡ [] = none_given (must_split p stamp) _ h.view.lines stay in
-    let firsts : flat_map (first_pieces p stamp) h.view.lines ≡ [] = none_given (must_split p stamp) _ h.view.lines stay in
-    let visits : flat_map (split_visits p stamp) h.view.lines ≡ [] = none_given (must_split p stamp) _ h.view.lines stay in
+    let sent : flat_map (split_outs p cub stamp h.handback) h.view.lines ≡ [] = none_given (must_split p stamp) _ h.view.lines stay in
+    let firsts : flat_map (first_pieces p stamp h.handback) h.view.lines ≡ [] = none_given (must_split p stamp) _ h.view.lines stay in
+    let visits : flat_map (split_visits p stamp h.handback) h.view.lines ≡ [] = none_given (must_split p stamp) _ h.view.lines stay in
     split_all p cub stamp h h outs outs believes
-    (sym (ap (λ (ps : List PieceState). with_each with_piece_record ps (record h { view = record_of h.view.params (map (split_line p stamp) h.view.lines); splits = with_each with_split (flat_map (split_visits p stamp) h.view.lines) h.splits })) firsts
+    (sym (ap (λ (ps : List PieceState). with_each with_piece_record ps (record h { view = record_of h.view.params (map (split_line p stamp) h.view.lines); splits = with_each with_split (flat_map (split_visits p stamp h.handback) h.view.lines) h.splits })) firsts
     ∙ ap (λ (ss : List Split). record h { view = record_of h.view.params (map (split_line p stamp) h.view.lines); splits = with_each with_split ss h.splits }) visits
     ∙ ap (λ (ys : List Line). record h { view = record_of h.view.params ys }) lines))
     (sym (ap (λ (zs : List (Out Msg)). outs ++ zs) sent ∙ append-nil outs))
@@ -109,10 +109,10 @@ all_split p stamp (x ∷ xs) = (split_here p stamp x (must_split p stamp x) refl
 
 -- and what it may keep in mind then
 pub split_then : (p : Params) (stamp : Stamp) (limit : ℕ) (old now : Store) → old.view.params ≡ p → limit ≡ split_limit p stamp
-    → now ≡ with_split_of p stamp old.view.lines (record old.view { lines = map (split_line p stamp) old.view.lines }) old → IsSplitBetween now.view.params is_unsplit limit None now.view.lines
+    → now ≡ with_split_of p stamp old.handback old.view.lines (record old.view { lines = map (split_line p stamp) old.view.lines }) old → IsSplitBetween now.view.params is_unsplit limit None now.view.lines
 split_then p stamp limit old now plan is e =
     let view : now.view ≡ record_of old.view.params (map (split_line p stamp) old.view.lines) =
-    ap (λ (g : Store). g.view) e ∙ view_then p stamp old.view.lines (record_of old.view.params (map (split_line p stamp) old.view.lines)) old in
+    ap (λ (g : Store). g.view) e ∙ view_then p stamp old.handback old.view.lines (record_of old.view.params (map (split_line p stamp) old.view.lines)) old in
     subst (λ (v : Seen). IsSplitBetween v.params is_unsplit limit None v.lines) (sym view)
     (subst (λ (q : Params). IsSplitBetween q is_unsplit limit None (map (split_line p stamp) old.view.lines)) (sym plan)
     (subst (λ (n : ℕ). IsSplitBetween p is_unsplit n None (map (split_line p stamp) old.view.lines)) (sym is) (all_split p stamp old.view.lines)))

@@ -1,7 +1,6 @@
 //! The steps that go by the clock alone: release, deadman, heartbeat.
 ghost use Rattle.std.specs.Prelude.{◌≡◌, ◌++◌, OnOk, map};
 ghost use Rattle.node_kit.specs.Deeds.{Did};
-ghost use Rattle.cub_rules.specs.declared.store.Store.{Store};
 ghost use Rattle.cub_rules.specs.State.{IsStoreOf};
 ghost use Rattle.cub_rules.specs.Ticks.{releasing, believing, beating, queued};
 
@@ -54,13 +53,22 @@ fn write_queued<'a>(asks: &[Ask], out: &mut Outbox<Msg<'a>>) -> Result<(), NoMem
     Ok(())
 }
 
-/// Heartbeat: in every beat that the plan's number divides, one goes to the successor, whatever the cub keeps. After
+/// Heartbeat: in every beat that the plan's number divides, one goes to the successor, unless the cub came back. After
 /// `NoMemory` nothing is claimed.
 #[tactic(auto, unfolding(cub_rules::specs::Ticks::beating))]
-pub fn beat<'a>(site: &Site, stamp: Stamp, out: &mut Outbox<Msg<'a>>) -> Result<(), NoMemory>
-    ensures { OnOk result ((h : Store) → Did
-        (beating site.now.plan.params site.now.cub.0 stamp h) out.old out.new h) }
+pub fn beat<'a>(
+    site: &Site,
+    stamp: Stamp,
+    store: &Store<'a>,
+    out: &mut Outbox<Msg<'a>>,
+) -> Result<(), NoMemory>
+    ensures { OnOk result (Did
+        (beating site.now.plan.params site.now.cub.0 stamp store.now)
+        out.old out.new store.now) }
 {
+    if store.comeback.is_some() {
+        return Ok(());
+    }
     if stamp.beat % site.plan.params.heart == 0 {
         out.push(Out::Send(site.ahead(1), Msg::Heartbeat))?;
     }

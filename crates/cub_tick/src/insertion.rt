@@ -11,7 +11,7 @@ ghost use Rattle.slot_plan.specs.Keys.{IsKey};
 ghost use Rattle.slot_plan.specs.Times.{disk_count};
 ghost use Rattle.cub_rules.specs.State.{IsStoreOf, IsAsk};
 ghost use Rattle.cub_rules.specs.Records.{took};
-ghost use Rattle.cub_rules.specs.Ticks.{inserting, free_on, putting_on, disks_at, putting, putting_own, putting_for_dead, tenancy_from, told_placed};
+ghost use Rattle.cub_rules.specs.Ticks.{inserting, inserting_all, free_on, putting_on, disks_at, putting, putting_own, putting_for_dead, tenancy_from, told_placed};
 ghost use Rattle.cub_tick.specs.Placing.{putting_by, WaitForFull};
 
 use cub_rules::Store;
@@ -22,9 +22,7 @@ use tiger_base::{
     Ask, CubNo, DiskNo, Kind, Micros, Msg, NoMemory, Rec, SlotNo, Stamp, State, Tenancy, Visit,
 };
 
-/// Insertion: on each disk of the cub's own and then, if the predecessor is believed dead, on each of that one's disks,
-/// the starts that wait are put, the oldest first, each into the first visit that is free. After `NoMemory` nothing is
-/// claimed.
+/// Insertion: the starts that wait are put, but not by a cub that came back. After `NoMemory` nothing is claimed.
 #[tactic(auto, unfolding(cub_rules::specs::Ticks::inserting))]
 pub fn insert<'a>(
     site: &Site,
@@ -36,6 +34,27 @@ pub fn insert<'a>(
     requires stored { IsStoreOf site.now.plan.params site.now.cub.0 store.old }
     ensures { OnOk result (Did
         (inserting site.now.plan.params site.now.cub.0 stamp store.old)
+        out.old out.new store.new) }
+{
+    if store.comeback.is_some() {
+        return Ok(());
+    }
+    insert_all(site, stamp, store, out)
+}
+
+/// On each disk of the cub's own and then, if the predecessor is believed dead, on each of that one's disks, the starts
+/// that wait are put, the oldest first, each into the first visit that is free.
+#[tactic(auto, unfolding(cub_rules::specs::Ticks::inserting_all))]
+fn insert_all<'a>(
+    site: &Site,
+    stamp: Stamp,
+    store: &mut Store<'a>,
+    out: &mut Outbox<Msg<'a>>,
+) -> Result<(), NoMemory>
+    requires reading { stamp.reading ≤ most_reading }
+    requires stored { IsStoreOf site.now.plan.params site.now.cub.0 store.old }
+    ensures { OnOk result (Did
+        (inserting_all site.now.plan.params site.now.cub.0 stamp store.old)
         out.old out.new store.new) }
 {
     // Most ticks end here: no start waits, or those that do wait for full disks.

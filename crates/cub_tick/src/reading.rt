@@ -5,15 +5,17 @@ ghost use Rattle.tiger_base.specs.Limits.{most_reading};
 ghost use Rattle.node_kit.specs.Deeds.{Did};
 ghost use Rattle.cub_rules.specs.State.{IsStoreOf, IsLineOf, IsPieceAt};
 ghost use Rattle.cub_rules.specs.Records.{pieces_but};
-ghost use Rattle.cub_rules.specs.Ticks.{reading, ask_line, ask_outs, asked_of_disk, leaves_by};
+ghost use Rattle.slot_plan.specs.Keys.{IsKey};
+ghost use Rattle.partial_view.specs.Lines.{key_of};
+ghost use Rattle.cub_rules.specs.Ticks.{reading, ask_line, asked_block, ask_outs, asked_of_disk, leaves_by};
 ghost use Rattle.cub_tick.specs.Limits.{asks};
 
 use crate::leaving::take_leaving;
-use cub_rules::Store;
+use cub_rules::{Comeback, Store, due_of, serves_at};
 use mirror_pieces::piece_disk;
 use mirror_schedule::PieceView;
 use node_kit::{Out, Outbox, Site};
-use partial_view::CubView;
+use partial_view::{CubView, Line};
 use tiger_base::{DiskNo, Msg, NoMemory, PieceState, Stamp, Want};
 
 /// Asks the disks for the block of each own record, and then for each piece, that leaves within the
@@ -32,7 +34,7 @@ pub fn read<'a>(
         (reading site.now.plan.params stamp store.old)
         out.old out.new store.new) }
 {
-    read_blocks(site, stamp, &mut store.view, out)?;
+    read_blocks(site, stamp, store.comeback, &mut store.view, out)?;
     read_pieces(site, stamp, &mut store.unasked, out)?;
     Ok(())
 }
@@ -41,6 +43,7 @@ pub fn read<'a>(
 fn read_blocks<'a>(
     site: &Site,
     stamp: Stamp,
+    comeback: Option<Comeback>,
     view: &mut CubView,
     out: &mut Outbox<Msg<'a>>,
 ) -> Result<(), NoMemory>
@@ -51,13 +54,13 @@ fn read_blocks<'a>(
       lines = map (ask_line site.now.plan.params stamp) view.old.lines;
     }) }
     ensures outs { OnOk result (out.new ≡ out.old
-        ++ flat_map (ask_outs site.now.plan.params stamp) view.old.lines) }
+        ++ flat_map (ask_outs site.now.plan.params stamp comeback) view.old.lines) }
 {
     let limit = stamp.reading + site.plan.params.read_lead + 1;
     if view.is_asked_before(limit) {
         return Ok(());
     }
-    read_lines(site, stamp, view, out)?;
+    read_lines(site, stamp, comeback, view, out)?;
     // All that is due before the limit is asked for: later beats look from there on.
     view.set_asked_before(limit);
     Ok(())
@@ -68,6 +71,7 @@ fn read_blocks<'a>(
 fn read_lines<'a>(
     site: &Site,
     stamp: Stamp,
+    comeback: Option<Comeback>,
     view: &mut CubView,
     out: &mut Outbox<Msg<'a>>,
 ) -> Result<(), NoMemory>
@@ -78,14 +82,32 @@ fn read_lines<'a>(
       lines = map (ask_line site.now.plan.params stamp) view.old.lines;
     }) }
     ensures outs { OnOk result (out.new ≡ out.old
-        ++ flat_map (ask_outs site.now.plan.params stamp) view.old.lines) }
+        ++ flat_map (ask_outs site.now.plan.params stamp comeback) view.old.lines) }
 {
     let time = stamp.reading + site.plan.params.read_lead;
     while let Some(line) = view.ask_next(time) {
-        let disk = site.plan.disk_of(line.rec.visit);
-        ask(site, disk, Want::of_block(&line.rec), out)?;
+        ask_block(site, comeback, &line, out)?;
     }
     Ok(())
+}
+
+/// Asks for the block of a line, if the cub serves the visit.
+fn ask_block<'a>(
+    site: &Site,
+    comeback: Option<Comeback>,
+    line: &Line,
+    out: &mut Outbox<Msg<'a>>,
+) -> Result<(), NoMemory>
+    requires key { IsKey site.now.plan.params (key_of line.now) }
+    requires begun { line.now.rec.tenancy.first ≤ line.now.rec.visit }
+    ensures { OnOk result (out.new
+        ≡ out.old ++ asked_block site.now.plan.params comeback line.now) }
+{
+    if !serves_at(comeback, due_of(&site.plan, &line.rec)) {
+        return Ok(());
+    }
+    let disk = site.plan.disk_of(line.rec.visit);
+    ask(site, disk, Want::of_block(&line.rec), out)
 }
 
 /// Asks a disk.

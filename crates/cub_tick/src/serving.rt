@@ -4,14 +4,16 @@ ghost use Rattle.std.specs.List.{AllByRecursion, flat_map};
 ghost use Rattle.tiger_base.specs.Limits.{most_reading};
 ghost use Rattle.node_kit.specs.Deeds.{Did};
 ghost use Rattle.cub_rules.specs.State.{IsStoreOf, IsLineOf, IsPieceAt};
+ghost use Rattle.slot_plan.specs.Keys.{IsKey};
+ghost use Rattle.partial_view.specs.Lines.{key_of};
 ghost use Rattle.cub_rules.specs.Records.{pieces_but, stored_for, dropped};
-ghost use Rattle.cub_rules.specs.Ticks.{serving, is_served, is_past, serve_outs, sent_whole, piece_outs, leaves_by};
+ghost use Rattle.cub_rules.specs.Ticks.{serving, is_served, is_past, served_whole, serve_outs, sent_whole, piece_outs, leaves_by};
 
 use crate::leaving::{drop_leaving, take_leaving};
-use cub_rules::{Store, StoredParts};
+use cub_rules::{Comeback, Store, StoredParts, due_of, serves_at};
 use mirror_schedule::PieceView;
 use node_kit::{Out, Outbox, Site, What};
-use partial_view::CubView;
+use partial_view::{CubView, Line};
 use slot_plan::Plan;
 use tiger_base::{Msg, NoMemory, PieceState, Stamp, Want};
 
@@ -30,7 +32,14 @@ pub fn serve<'a>(
         (serving site.now.plan.params site.now.cub.0 stamp store.old)
         out.old out.new store.new) }
 {
-    serve_blocks(site, stamp, &mut store.view, &store.parts, out)?;
+    serve_blocks(
+        site,
+        stamp,
+        store.comeback,
+        &mut store.view,
+        &store.parts,
+        out,
+    )?;
     drop_backups(site, stamp, &mut store.view, out)?;
     serve_pieces(site, stamp, &mut store.pieces, &store.parts, out)?;
     drop_leaving(&site.plan, &mut store.unasked, stamp.reading);
@@ -41,6 +50,7 @@ pub fn serve<'a>(
 fn serve_blocks<'a>(
     site: &Site,
     stamp: Stamp,
+    comeback: Option<Comeback>,
     view: &mut CubView,
     parts: &StoredParts<'a>,
     out: &mut Outbox<Msg<'a>>,
@@ -51,14 +61,35 @@ fn serve_blocks<'a>(
     ensures view { OnOk result (view.new ≡ record view.old {
       lines = filter (λ x. not (is_served site.now.plan.params stamp x)) view.old.lines;
     }) }
-    ensures outs { OnOk result (out.new ≡ out.old ++ flat_map
-        (serve_outs site.now.plan.params site.now.cub.0 stamp parts.now) view.old.lines) }
+    ensures outs { let serves = serve_outs site.now.plan.params site.now.cub.0 stamp comeback parts.now in
+        OnOk result (out.new ≡ out.old ++ flat_map serves view.old.lines) }
 {
     while let Some(line) = view.take_own(stamp.reading) {
-        send_whole(site, stamp, Want::of_block(&line.rec), parts, out)?;
+        serve_block(site, stamp, comeback, &line, parts, out)?;
         out.push(Out::Act(What::Dropped(line.rec)))?;
     }
     Ok(())
+}
+
+/// Sends the block of a line to the viewers, if the cub serves the visit and the part is stored.
+fn serve_block<'a>(
+    site: &Site,
+    stamp: Stamp,
+    comeback: Option<Comeback>,
+    line: &Line,
+    parts: &StoredParts<'a>,
+    out: &mut Outbox<Msg<'a>>,
+) -> Result<(), NoMemory>
+    requires key { IsKey site.now.plan.params (key_of line.now) }
+    requires begun { line.now.rec.tenancy.first ≤ line.now.rec.visit }
+    ensures { let p = site.now.plan.params in
+        OnOk result (out.new ≡ out.old
+        ++ served_whole p site.now.cub.0 stamp comeback parts.now line.now) }
+{
+    if !serves_at(comeback, due_of(&site.plan, &line.rec)) {
+        return Ok(());
+    }
+    send_whole(site, stamp, Want::of_block(&line.rec), parts, out)
 }
 
 /// Sends a block to the viewers, if its part is stored.

@@ -7,9 +7,11 @@ ghost use Rattle.node_kit.specs.Deeds.{Did};
 ghost use Rattle.cub_rules.specs.State.{IsStoreOf, IsLineOf};
 ghost use Rattle.cub_rules.specs.Ticks.{splitting, split_line, split_outs, sent_ahead};
 ghost use Rattle.cub_tick.specs.Limits.{split_limit};
-ghost use Rattle.cub_tick.specs.Splitting.{with_split_of, with_split_visit, sent_pieces, with_new};
+ghost use Rattle.slot_plan.specs.Keys.{IsKey};
+ghost use Rattle.partial_view.specs.Lines.{key_of};
+ghost use Rattle.cub_tick.specs.Splitting.{with_split_of, with_split_visit, with_visit_settled, sent_pieces, sent_settled, with_new};
 
-use cub_rules::Store;
+use cub_rules::{Store, is_handed_back};
 use mirror_schedule::PieceView;
 use node_kit::{Out, Outbox, Site};
 use partial_view::Line;
@@ -17,9 +19,9 @@ use slot_plan::Plan;
 use tiger_base::{Micros, Msg, NoMemory, PieceState, Rec, Stamp};
 
 /// If the predecessor is believed dead, splits the visit of each backup record that is due late
-/// enough and was not split yet: the first piece becomes the cub's own piece record, and the mirror
-/// states of the others go to the next cubs. The lines are looked at only if a visit may be left to
-/// split.
+/// enough and has not had its turn, unless it is left to the predecessor, which came back: the first
+/// piece becomes the cub's own piece record, and the mirror states of the others go to the next cubs.
+/// The lines are looked at only if a visit may be left to split.
 pub fn split<'a>(
     site: &Site,
     stamp: Stamp,
@@ -67,16 +69,39 @@ fn split_lines<'a>(
     requires reading { stamp.reading ≤ most_reading }
     requires stored { IsStoreOf site.now.plan.params site.now.cub.0 store.old }
     ensures store { let p = site.now.plan.params in let before = store.old.view in
-        OnOk result (store.new ≡ with_split_of p stamp before.lines
+        OnOk result (store.new ≡ with_split_of p stamp store.old.handback before.lines
         (record before { lines = map (split_line p stamp) before.lines }) store.old) }
-    ensures outs { OnOk result (out.new ≡ out.old
-        ++ flat_map (split_outs site.now.plan.params site.now.cub.0 stamp) store.old.view.lines) }
+    ensures outs { let splits = split_outs site.now.plan.params site.now.cub.0 stamp store.old.handback in
+        OnOk result (out.new ≡ out.old ++ flat_map splits store.old.view.lines) }
 {
     let limit = split_limit(&site.plan, stamp);
     while let Some(line) = store.view.split_next(limit, None) {
-        split_line(site, store, line, out)?;
+        settle_line(site, store, line, out)?;
     }
     Ok(())
+}
+
+/// Splits the visit of a line whose turn it is, unless it is left to the predecessor, which came back.
+fn settle_line<'a>(
+    site: &Site,
+    store: &mut Store<'a>,
+    line: Line,
+    out: &mut Outbox<Msg<'a>>,
+) -> Result<(), NoMemory>
+    requires pieces { store.old.pieces.params ≡ site.now.plan.params }
+    requires unasked { store.old.unasked.params ≡ site.now.plan.params }
+    requires line { IsLineOf site.now.plan.params site.now.cub.0 line }
+    requires key { IsKey site.now.plan.params (key_of line) }
+    ensures store { let p = site.now.plan.params in
+        OnOk result (store.new ≡ with_visit_settled p store.old.handback line.rec store.old) }
+    ensures outs { let p = site.now.plan.params in
+        OnOk result (out.new ≡ out.old
+        ++ sent_settled p site.now.cub.0 store.old.handback line.rec) }
+{
+    if is_handed_back(&site.plan, store.handback, &line.rec) {
+        return Ok(());
+    }
+    split_line(site, store, line, out)
 }
 
 /// Splits the visit of one line: sends the pieces but the first, adds that one, and keeps in mind

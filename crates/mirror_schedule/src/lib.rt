@@ -8,6 +8,7 @@ mod splits;
 mod splitting;
 mod times;
 
+pub use order::leaving;
 pub use pieces::PieceView;
 pub use splits::Splits;
 pub use splitting::split;

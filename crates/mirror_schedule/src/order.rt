@@ -12,9 +12,9 @@ use tiger_base::{Micros, PieceState, Visit};
 /// A piece, and the time at which it leaves.
 pub(crate) type TimedPiece = (PieceState, Micros);
 
-/// When a piece leaves.
+/// When a piece leaves, in microseconds.
 #[tactic(auto, unfolding(crate::specs::Pieces::leaving_of))]
-pub(crate) fn leaving(plan: &Plan, x: &PieceState) -> Micros
+pub fn leaving(plan: &Plan, x: &PieceState) -> Micros
     requires { IsPieceOf plan.now.params x.now }
     ensures { result ≡ leaving_of plan.now.params x.now }
 {

@@ -1,5 +1,5 @@
 -- The nodes of a run as they open stand at their numbers.
-use Rattle.std.proofs.Common.{◌≡◌, ℕ, zero, suc, ◌+◌, ◌<◌, List, [], ◌∷◌, ◌++◌, length, Some, arith, refl, ap, sym, ◌∙◌, subst, append_assoc, length-append, take}
+use Rattle.std.proofs.Common.{◌≡◌, ℕ, zero, suc, ◌+◌, ◌<◌, List, [], ◌∷◌, ◌++◌, length, Some, None, arith, refl, ap, sym, ◌∙◌, subst, append_assoc, length-append, take}
 use Rattle.std.specs.List.{slice_get}
 use Rattle.std.specs.Prelude.{IsTrue}
 use Rattle.std.proofs.lemmas.List.Elements.{All-nil}
@@ -41,7 +41,7 @@ each_numbered-more f first (suc i) (y ∷ ys) x e =
     rw at (ap (λ zs. f first y ∷ zs) (each_numbered-more f (first + 1) i ys x e))
 
 -- one more cub
-pub cubs-more : {G : Type 0} (before : List (AnyNode G)) (p : Params) (n : ℕ) (c : CubState) → c ≡ record { params = p; cub = n; store = opening_store p 0 }
+pub cubs-more : {G : Type 0} (before : List (AnyNode G)) (p : Params) (n : ℕ) (c : CubState) → c ≡ record { params = p; cub = n; store = opening_store p 0; last = None }
     → (before ++ numbered (opening_cub p) n) ++ node.Cub c ∷ [] ≡ before ++ numbered (opening_cub p) (n + 1)
 cubs-more {G} before p n c is = rw is (numbered-more (opening_cub {G = G} p) n before)
 

@@ -1,5 +1,5 @@
 -- The step of any node, where the nodes stand, and all nodes of a run as they open.
-use Rattle.std.specs.Prelude.{◌≡◌, ℕ, zero, suc, ◌+◌, ◌==◌, List, [], ◌∷◌, ◌++◌, Some, filter, slice_get}
+use Rattle.std.specs.Prelude.{◌≡◌, ℕ, zero, suc, ◌+◌, ◌==◌, List, [], ◌∷◌, ◌++◌, Some, None, filter, slice_get}
 use Rattle.tiger_base.specs.declared.message.Msg.{Msg}
 use Rattle.slot_plan.specs.declared.params.Params.{Params}
 use Rattle.slot_plan.specs.Times.{disk_count}
@@ -52,9 +52,9 @@ abbrev pub each_numbered : {A B : Type 0} → (ℕ → A → B) → ℕ → List
 each_numbered f first [] = []
 each_numbered f first (x ∷ xs) = f first x ∷ each_numbered f (first + 1) xs
 
--- a cub opens with nothing, its predecessor heard at reading 0
+-- a cub opens with nothing, its predecessor heard at reading 0, and has not ticked yet
 abbrev pub opening_cub : {G : Type 0} → Params → ℕ → AnyNode G
-opening_cub p cub = node.Cub (record { params = p; cub = cub; store = opening_store p 0 })
+opening_cub p cub = node.Cub (record { params = p; cub = cub; store = opening_store p 0; last = None })
 
 -- the read faults of a disk
 abbrev pub faults_of : ℕ → List ReadFault → List ReadFault

@@ -8,6 +8,7 @@ use crate::texts::{assert_text, push_first, push_outputs};
 use cub_core::Cub;
 use node_kit::{LinkTable, Node, Outbox, Site};
 use std::alloc::Global;
+use std::ops::Range;
 use std::test::Fail;
 use tiger_base::{
     Beat, Instance, Library, LinkNo, MOST_BEATS, MOST_READING, Micros, Msg, SlotNo, Stamp, State,
@@ -25,6 +26,8 @@ enum Input<'a> {
     /// The fourth block of the library's file, on visit 3.
     Block(LinkNo, &'a Library),
     End,
+    /// Its beat ends, and those before it that have not ended were spent dead.
+    ComeBack,
 }
 
 /// The stamp of a beat by a clock that is right.
@@ -116,7 +119,7 @@ fn feed<'a>(
             let want = want(3, 3, 0);
             give(site, stamp, link, Msg::ReadDone { want, part }, cub, out)
         }
-        Input::End => end(site, stamp, cub, out),
+        Input::End | Input::ComeBack => end(site, stamp, cub, out),
     }
 }
 
@@ -139,7 +142,42 @@ fn push_fed<'a>(
     Ok(text.push_str("\n")?)
 }
 
-/// What a cub puts out on inputs in beats, a line for each, and then its first record of instance 0.
+/// Ends the beats of a cub that lives from one beat up to another, and says nothing of what it puts out.
+fn end_quietly<'a>(
+    alloc: Global,
+    site: &Site,
+    beats: Range<Beat>,
+    cub: &mut Cub<'a>,
+) -> Result<(), Fail>
+    requires { IsCub cub.old site.now.plan.params site.now.cub.0 }
+    ensures { OnOk result (IsCub cub.new site.now.plan.params site.now.cub.0) }
+{
+    for beat in beats {
+        let stamp = stamp(beat)?;
+        end(site, stamp, cub, &mut Outbox::new(alloc))?;
+    }
+    Ok(())
+}
+
+/// The same, unless the cub was dead in these beats and comes back by the input behind them.
+fn live_up_to<'a>(
+    alloc: Global,
+    site: &Site,
+    beats: Range<Beat>,
+    input: Input<'a>,
+    cub: &mut Cub<'a>,
+) -> Result<(), Fail>
+    requires { IsCub cub.old site.now.plan.params site.now.cub.0 }
+    ensures { OnOk result (IsCub cub.new site.now.plan.params site.now.cub.0) }
+{
+    match input {
+        Input::ComeBack => Ok(()),
+        _ => end_quietly(alloc, site, beats, cub),
+    }
+}
+
+/// What a cub puts out on inputs in beats, a line for each, and then its first record of instance 0. It ends the beats
+/// between them, of which nothing is said, unless it comes back.
 fn told<'a>(
     alloc: Global,
     site: &Site,
@@ -149,11 +187,22 @@ fn told<'a>(
     requires { IsCub cub.old site.now.plan.params site.now.cub.0 }
 {
     let mut text = String::new(alloc);
+    let mut next = 0;
     for (beat, input) in inputs {
+        live_up_to(alloc, site, next..*beat, *input, cub)?;
         push_fed(alloc, site, *beat, *input, cub, &mut text)?;
+        next = next_beat(next, *beat, *input);
     }
     push_first(cub.view().first_of(Instance(0)), &mut text)?;
     Ok(text)
+}
+
+/// The first beat that has not ended behind an input, if it was `next` before.
+fn next_beat(next: Beat, beat: Beat, input: Input) -> Beat {
+    match input {
+        Input::End | Input::ComeBack => beat.saturating_add(1),
+        _ => next.max(beat),
+    }
 }
 
 /// The same of the cub of a number, which heard its predecessor at a reading.
@@ -244,4 +293,30 @@ fn a_block_goes_to_the_viewers_when_it_is_due(rt: HostRuntime) -> Result<(), Fai
                   19: whole (0, 12, 4) sent in 350 for (0, 1, 3, 0, 3, 0); \
                   dropped Own 3 of (0, 0, 1, 0, 3); 30: heartbeat; \n\n";
     assert_text(&rt, fed(rt.alloc(), 3, 3000000, &inputs), wanted)
+}
+
+/// A cub that comes back at 3000000 discards starts and sends no heartbeat. It lets in what is due from 10004000 on, and
+/// serves what is due from 13000000 on: its visits are due at 3500000, 11500000 and 19500000.
+#[test]
+fn a_cub_that_came_back_serves_later_than_it_lets_in(rt: HostRuntime) -> Result<(), Fail> {
+    let inputs = [
+        (200, Input::Start(LinkNo(3), false)),
+        (300, Input::ComeBack),
+        (301, Input::Start(LinkNo(3), false)),
+        (302, Input::State(LinkNo(28), 3, 63)),
+        (350, Input::End),
+        (700, Input::State(LinkNo(28), 11, 63)),
+        (1140, Input::End),
+        (1150, Input::End),
+        (1600, Input::State(LinkNo(28), 19, 63)),
+        (1940, Input::End),
+    ];
+    let wanted = "queued 0 on 0; \n\
+                  Returned; 30: Back { from: 13000000 }; \n\n\n\n\
+                  took Own 11 of (0, 0, 1, 0, 63); \n\n\
+                  dropped Own 11 of (0, 0, 1, 0, 63); \n\
+                  took Own 19 of (0, 0, 1, 0, 63); \n\
+                  43: read (0, 1, 19, 0, 19, 0); \n\
+                  Own 19 of (0, 0, 1, 0, 63); ";
+    assert_text(&rt, fed(rt.alloc(), 3, 0, &inputs), wanted)
 }

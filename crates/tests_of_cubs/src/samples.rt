@@ -3,14 +3,14 @@ ghost use Rattle.std.specs.Prelude.{◌≡◌, ◌≤◌, true, IfOk, OnOk};
 ghost use Rattle.node_kit.specs.Form.{is_place};
 ghost use Rattle.cub_rules.specs.State.{IsPieceAt, IsRecordOf, IsStoreOf};
 
-use cub_rules::{Store, StoredPart};
+use cub_rules::{Comeback, Store, StoredPart};
 use node_kit::{Site, in_form};
 use slot_plan::small_plan;
 use std::alloc::Global;
 use std::test::Fail;
 use tiger_base::{
-    Ask, CubNo, DiskNo, FileNo, Instance, Kind, Library, MOST_BLOCKS, Micros, Note, Part,
-    PieceState, Rec, SlotNo, Span, Tenancy, Visit, Want,
+    Ask, CubNo, DiskNo, FileNo, Instance, Kind, Library, MOST_BLOCKS, MOST_READING, Micros, Note,
+    Part, PieceState, Rec, SlotNo, Span, Tenancy, Visit, Want,
 };
 
 /// The cub of a number.
@@ -95,6 +95,10 @@ pub enum Keep<'a> {
     Split(Instance, SlotNo, Visit),
     /// That the predecessor is dead.
     Belief,
+    /// That the cub came back at a reading.
+    Comeback(Micros),
+    /// From when on the predecessor, which came back, serves.
+    Handback(Micros),
 }
 
 /// What a cub keeps with these things, if its predecessor was heard at 0.
@@ -127,7 +131,23 @@ fn put_in<'a>(site: &Site, keep: Keep<'a>, store: &mut Store<'a>) -> Result<(), 
             store.believes = true;
             Ok(())
         }
+        Keep::Comeback(reading) => come_back(site, reading, store),
+        Keep::Handback(from) => {
+            store.handback = Some(from);
+            Ok(())
+        }
     }
+}
+
+fn come_back(site: &Site, reading: Micros, store: &mut Store) -> Result<(), Fail>
+    requires { IsStoreOf site.now.plan.params site.now.cub.0 store.old }
+    ensures { OnOk result (IsStoreOf site.now.plan.params site.now.cub.0 store.new) }
+{
+    if MOST_READING < reading {
+        return Err(Fail::new("no reading of a run"));
+    }
+    store.comeback = Some(Comeback::at(&site.plan, reading));
+    Ok(())
 }
 
 fn add_record(site: &Site, rec: Rec, store: &mut Store) -> Result<(), Fail>

@@ -310,9 +310,11 @@ fn what_is_over_is_released(rt: HostRuntime) -> Result<(), Fail> {
 }
 
 /// What cub 7 sends at the end of a beat to tell that it is alive.
-fn beaten(alloc: Global, in_beat: Beat) -> Result<String, Fail> {
+fn beaten(alloc: Global, keeps: &[Keep], in_beat: Beat) -> Result<String, Fail> {
+    let site = site(7)?;
+    let store = keeping(alloc, &site, keeps)?;
     let mut out = Outbox::new(alloc);
-    beat(&site(7)?, tick(in_beat), &mut out)?;
+    beat(&site, tick(in_beat), &store, &mut out)?;
     let mut text = String::new(alloc);
     push_outputs(&mut out, &mut text)?;
     Ok(text)
@@ -322,7 +324,7 @@ fn beaten(alloc: Global, in_beat: Beat) -> Result<String, Fail> {
 fn heartbeats_go_in_every_fiftieth_beat(rt: HostRuntime) -> Result<(), Fail> {
     let sent = "38: heartbeat; ";
     for (beat, want) in [(0, sent), (1, ""), (49, ""), (50, sent)] {
-        assert_text(&rt, beaten(rt.alloc(), beat), want)?;
+        assert_text(&rt, beaten(rt.alloc(), &[], beat), want)?;
     }
-    Ok(())
+    assert_text(&rt, beaten(rt.alloc(), &[Keep::Comeback(0)], 50), "")
 }

@@ -176,7 +176,7 @@ fn mirrored(alloc: Global, keeps: &[Keep], reading: Micros) -> Result<String, Fa
 
 #[test]
 fn visit_of_a_dead_cub_is_split(rt: HostRuntime) -> Result<(), Fail> {
-    let cases: [(&[Keep], Micros, &str); 3] = [
+    let cases: [(&[Keep], Micros, &str); 5] = [
         (
             &[own(), backup(), Keep::Belief],
             2366000,
@@ -193,6 +193,18 @@ fn visit_of_a_dead_cub_is_split(rt: HostRuntime) -> Result<(), Fail> {
             &[own(), backup()],
             2366000,
             "| Backup 2 of (0, 0, 1, 1, 4); false ",
+        ),
+        (
+            &[own(), backup(), Keep::Belief, Keep::Handback(2500001)],
+            2366000,
+            "30: mirror state 2.2 of (0, 0, 1, 1, 4); \
+             | Backup 2 of (0, 0, 1, 1, 4); believes; piece 2.1 of (0, 0, 1, 1, 4); \
+             unasked 2.1 of (0, 0, 1, 1, 4); split 1/2; true ",
+        ),
+        (
+            &[own(), backup(), Keep::Belief, Keep::Handback(2500000)],
+            2366000,
+            "| Backup 2 of (0, 0, 1, 1, 4); believes; true ",
         ),
     ];
     for (keeps, reading, want) in cases {

@@ -48,5 +48,5 @@ returns c =
     on_ok_weaker c.beat.result
     (λ beats.
     tick_did c.args.site.now.plan.params c.args.site.now.cub.0 c.args.stamp c.args.store.now c.args.out.now c.release.ensures c.in_ok-watch.ensures c.in_ok-insert.ensures c.in_ok-split.ensures
-    c.in_ok-forward.ensures c.in_ok-read.ensures c.in_ok-serve.ensures (beats c.serve.new.store))
+    c.in_ok-forward.ensures c.in_ok-read.ensures c.in_ok-serve.ensures beats)
     c.beat.ensures

@@ -8,7 +8,7 @@ returns-then-is_asked_before-clause-view c =
 
 pub returns-then-is_asked_before-clause-outs : goal.returns-then-is_asked_before-clause-outs
 returns-then-is_asked_before-clause-outs c =
-    asked_outs c.args.site.now.plan.params c.args.stamp c.args.view.now c.args.out.now c.requires.plan (c.is_asked_before.ensures c.if-is_asked_before.true)
+    asked_outs c.args.site.now.plan.params c.args.stamp c.args.comeback c.args.view.now c.args.out.now c.requires.plan (c.is_asked_before.ensures c.if-is_asked_before.true)
 
 pub set_asked_before-requires : goal.set_asked_before-requires
 set_asked_before-requires c =

@@ -7,7 +7,7 @@ use Rattle.cub_tick.proofs.reading.read_lines.Given as goal
 
 abbrev pub invariant-loop-line : goal.invariant-loop-line
 invariant-loop-line l =
-    WorkedOn (IsLineOf l.fn.site.plan.params l.fn.site.cub.0) (ask_outs l.fn.site.plan.params l.fn.stamp) (λ x. ask_line l.fn.site.plan.params l.fn.stamp x ∷ []) l.fn.view l.fn.out l.view l.out
+    WorkedOn (IsLineOf l.fn.site.plan.params l.fn.site.cub.0) (ask_outs l.fn.site.plan.params l.fn.stamp l.fn.comeback) (λ x. ask_line l.fn.site.plan.params l.fn.stamp x ∷ []) l.fn.view l.fn.out l.view l.out
 
 abbrev pub decreases-loop-line : goal.decreases-loop-line
 decreases-loop-line l = length (filter (must_read l.fn.site.plan.params l.fn.stamp) l.view.lines)

@@ -1,6 +1,6 @@
 use Rattle.cub_tick.proofs.Turns.{none_inserted, full_inserted, own_alone, dead_full, not_dead}
-use Rattle.cub_tick.proofs.insertion.insert.Goals as goal
-use Rattle.cub_tick.proofs.insertion.insert.Goals.{then-not-waits-via-then-not-waits, then-not-waits-via-else-not-waits+then-all_full, else-store-via-then-store+else-not-all_full, else-store-via-else-store}
+use Rattle.cub_tick.proofs.insertion.insert_all.Goals as goal
+use Rattle.cub_tick.proofs.insertion.insert_all.Goals.{then-not-waits-via-then-not-waits, then-not-waits-via-else-not-waits+then-all_full, else-store-via-then-store+else-not-all_full, else-store-via-else-store}
 
 pub returns-then-not-waits : goal.returns-then-not-waits
 returns-then-not-waits c =
