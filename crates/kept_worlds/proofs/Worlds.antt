@@ -106,7 +106,7 @@ cubs-first : (G : Type 0) (k : Kept) (library : List (List ℕ))
 cubs-first G k library n s low here =
     let p = k.course.plan.params in
     let first = cubs-in {G = G} p k.course.faults (images_of p k.catalogue library) k.orders n low in
-    (record { params = p; cub = n; store = opening_store p 0 }, some-same s (opening_cub p n) (sym here ∙ first), refl)
+    (record { params = p; cub = n; store = opening_store p 0; last = None }, some-same s (opening_cub p n) (sym here ∙ first), refl)
   where
     some-same : (a b : AnyNode G) → Some a ≡ Some b → a ≡ b
     some-same a b e = cc

@@ -41,6 +41,7 @@ use Rattle.proof_facts.specs.Pieces as facts
 use Rattle.proof_facts.specs.Blocks.{blocks_by}
 use Rattle.proof_blocks.proofs.Tracing.{trail, trail_unread, marked}
 use Rattle.proof_blocks.proofs.Living.{AreCubs, store_of, beat_is, reading_is, kept_here, there_at}
+use Rattle.proof_blocks.proofs.FirstLife.{asks_for_all}
 
 -- what is to be read is an own record's, has no mark, and is due within the read lead
 pub read_parts : (p : Params) (stamp : Stamp) (x : Line) → must_read p stamp x ≡ true
@@ -114,7 +115,13 @@ module _ (p : Params) (lives : Lives) (cubs : AreCubs p lives) (disk_at : ℕ �
         asks = record {
           reading = m.stamp.reading;
           tick = record { small = tick.small; at = m.at; done = omega arith; is = m.is };
-          asks = inl (refl, m.line, (m.there, sym m.same ∙ s.same), m.must);
+          asks = inl (
+            refl,
+            m.line,
+            (m.there, sym m.same ∙ s.same),
+            m.must,
+            asks_for_all p c m.stamp (lives.input c) m.at (due_of p (key_of m.line)),
+          );
         };
         by = omega arith;
       })

@@ -172,14 +172,14 @@ unfolding splitting
 splitting_none p c stamp h =
     let g : Store = with_split_lines p stamp h in
     let done : Deed Msg Store = record {
-      outs = flat_map (split_outs p c stamp) h.view.lines;
-      state = with_each with_piece_record (flat_map (first_pieces p stamp) h.view.lines) g;
+      outs = flat_map (split_outs p c stamp h.handback) h.view.lines;
+      state = with_each with_piece_record (flat_map (first_pieces p stamp h.handback) h.view.lines) g;
     } in
     chosen (λ (d : Deed Msg Store). SetsNoMark h d) h.believes done (nothing h)
     (λ _.
     sets_none h done (λ y i.
     was_mapped (split_line p stamp) (split_same p stamp) h.view.lines y
-    (subst (λ (ls : List Line). In y ls) (same_with_pieces (flat_map (first_pieces p stamp) h.view.lines) g) i)))
+    (subst (λ (ls : List Line). In y ls) (same_with_pieces (flat_map (first_pieces p stamp h.handback) h.view.lines) g) i)))
     (λ _. none_closed.none h)
 
 forwarding_none : (p : Params) (c : ℕ) (stamp : Stamp) (h : Store) → SetsNoMark h (forwarding p c stamp h)

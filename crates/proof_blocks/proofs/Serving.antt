@@ -12,13 +12,13 @@ use Rattle.tiger_base.specs.declared.tenancy.Want.{Want}
 use Rattle.tiger_base.specs.declared.message.Msg.{Msg}
 use Rattle.tiger_base.specs.declared.message.Msg.TheVariants as msg
 use Rattle.slot_plan.specs.Conditions.{IsPlan}
-use Rattle.slot_plan.specs.Keys.{Key}
+use Rattle.slot_plan.specs.Keys.{Key, due_of}
 use Rattle.slot_plan.specs.declared.params.Params.{Params}
 use Rattle.slot_plan.specs.Times.{due}
 use Rattle.node_kit.specs.Steps.{Deed, Input}
 use Rattle.node_kit.specs.Steps.Input.{Take, Tick}
 use Rattle.partial_view.specs.declared.line.Line.{Line}
-use Rattle.partial_view.specs.Lines.{visit_of}
+use Rattle.partial_view.specs.Lines.{visit_of, key_of}
 use Rattle.partial_view.specs.Views.{line_at}
 use Rattle.cub_rules.specs.declared.store.Store.{Store}
 use Rattle.cub_rules.specs.declared.store.StoredPart.{StoredPart}
@@ -53,6 +53,7 @@ use Rattle.proof_blocks.proofs.Marks.{asked_line, served_from}
 use Rattle.proof_blocks.proofs.Single.{AreSingle, always_single, line_found}
 use Rattle.proof_blocks.proofs.Tracing.{trail, trail_undue}
 use Rattle.proof_lives.proofs.Leaving.{stays_or_gone}
+use Rattle.proof_blocks.proofs.FirstLife.{serves_all}
 
 -- ---- one store
 
@@ -208,7 +209,13 @@ module _ (p : Params) (lives : Lives) (cubs : AreCubs p lives) (beyond : Beyond)
         sends = record {
           reading = l;
           tick = as_tick tick;
-          serves = inl (refl, line.line, (line.there, line.same), due_served p stamp line.line t n line.same past);
+          serves = inl (
+            refl,
+            line.line,
+            (line.there, line.same),
+            due_served p stamp line.line t n line.same past,
+            serves_all p c stamp (lives.input c) tick.at (due_of p (key_of line.line)),
+          );
           stored = f.found;
           goes = inl tick.whole;
         };

@@ -1,4 +1,4 @@
--- What the mark of a line tells: whether a disk was asked for the block of the line's visit.
+-- What the mark of a line tells: whether it had its turn to have the block of its visit asked for.
 use Rattle.std.specs.Prelude.{◌≡◌, ℕ, ◌+◌, ◌<◌, ◌≤◌, true, false, ◌⊎◌}
 use Rattle.tiger_base.specs.declared.number.Stamp.{Stamp}
 use Rattle.tiger_base.specs.declared.message.Msg.{Msg}
@@ -15,7 +15,7 @@ use Rattle.proof_lives.specs.Lives.{store_at, outs_at}
 use Rattle.lists.specs.Elements.{In}
 use Rattle.proof_facts.specs.Pieces.{before_reading}
 
--- At a tick before its input of number i, cub c asked for the block of a line's record.
+-- At a tick before its input of number i it was the turn of a line's record to have its block asked for by cub c.
 pub record AskedBefore (p : Params) (c : ℕ) (inputs : ℕ → Input Msg) (i : ℕ)
     (y : Line) : Type 0 where
   pub at : ℕ
@@ -35,8 +35,8 @@ pub record WasEarly (p : Params) (c : ℕ) (inputs : ℕ → Input Msg) (i : ℕ
   pub early : (k : ℕ) (stamp : Stamp) → at ≤ k → k < i → inputs k ≡ Tick stamp
       → stamp.reading + p.read_lead < due p y.rec.tenancy.slot.0 y.rec.visit
 
--- Whatever befalls a cub, a line of an own record has its mark if the block was asked for, and else
--- it was too early for that.
+-- Whatever befalls a cub, a line of an own record has its mark if it had its turn, and else it was too early
+-- for that.
 abbrev pub MarksTellOfAsks : Type 0
 MarksTellOfAsks = (p : Params) (c : ℕ) (inputs : ℕ → Input Msg) (i : ℕ) (y : Line)
     → In y (store_at p c inputs i).view.lines → is_own y.rec.kind ≡ true

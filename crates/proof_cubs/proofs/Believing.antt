@@ -31,8 +31,8 @@ use Rattle.proof_lives.proofs.HoldLaws.{no_both}
 
 -- What one event makes of belief is as cub_changes proves it for the whole cub.
 pub keeps_belief : (p : Params) (c : ℕ) (i : Input Msg) (h : Store) → KeepsBelief p c i h (deed_of p c i h)
-keeps_belief p c (Take stamp link m) h = keep_belief (record { params = p; cub = c; store = h }) (Take stamp link m)
-keeps_belief p c (Tick stamp) h = keep_belief (record { params = p; cub = c; store = h }) (Tick stamp)
+keeps_belief p c (Take stamp link m) h = keep_belief p c (Take stamp link m) h
+keeps_belief p c (Tick stamp) h = keep_belief p c (Tick stamp) h
 
 -- No change but that of the deadman step changes belief.
 belief_same : (p : Params) (c : ℕ) (stamp : Stamp) (g : Stage) → (IsDeadman g → ⊥) → (from : Store) (x : Change) (h : Store)

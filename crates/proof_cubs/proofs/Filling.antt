@@ -1,6 +1,6 @@
 -- A start that waits for a disk of a predecessor that is believed dead is put, or all visits of the disk in the window
 -- have lines.
-use Rattle.std.proofs.Common.{◌≡◌, ℕ, ◌+◌, ◌-◌, ◌%◌, true, ap, ◌∙◌, arith}
+use Rattle.std.proofs.Common.{◌≡◌, ℕ, ◌+◌, ◌-◌, ◌%◌, true, ap, ◌∙◌, arith, None}
 use Rattle.std.specs.Prelude.{◌⊎◌}
 use Rattle.std.proofs.Math.Nat.{mod-add-mod, add-mod_right}
 use Rattle.tiger_base.specs.declared.number.Stamp.{Stamp}
@@ -25,9 +25,9 @@ before_own p c n plan e =
 
 -- A start that waits for such a disk is put by insertion, or the disk is full when insertion ends.
 pub inserting_full_apart : (p : Params) (c : ℕ) (stamp : Stamp) → IsPlan p
-    → (n : ℕ) (a : Ask) (h : Store) → c ≡ cub_of p (n + 1) → h.believes ≡ true → In a h.starts.waiting
+    → (n : ℕ) (a : Ask) (h : Store) → h.comeback ≡ None → c ≡ cub_of p (n + 1) → h.believes ≡ true → In a h.starts.waiting
     → a.disk.0 ≡ disk_of p n
     → PutOf a (inserting p c stamp h).outs
     ⊎ IsFull p stamp.reading (disk_of p n) (inserting p c stamp h).state.view.lines
-inserting_full_apart p c stamp plan n a h here believes i e =
-    served_there p c stamp plan (disk_of p n) a h i e believes (disk_there p (predecessor p c) n plan (before_own p c n plan here))
+inserting_full_apart p c stamp plan n a h first here believes i e =
+    served_there p c stamp plan (disk_of p n) a h i e first believes (disk_there p (predecessor p c) n plan (before_own p c n plan here))

@@ -1,6 +1,6 @@
 -- The starts that a cub lets in: their instance is then neither held nor shown, and while a start waits no state of its
 -- instance is taken and no deschedule comes.
-use Rattle.std.proofs.Common.{◌≡◌, ℕ, zero, suc, ◌<◌, List, [], ◌∷◌, Bool, true, false, not, refl, sym, ap, subst, ◌∙◌, arith, ⊎_elim, inl, inr, eq-or-lt_of_le}
+use Rattle.std.proofs.Common.{◌≡◌, ℕ, zero, suc, ◌<◌, List, [], ◌∷◌, Bool, true, false, not, refl, sym, ap, subst, ◌∙◌, arith, ⊎_elim, inl, inr, eq-or-lt_of_le, is_some}
 use Rattle.std.specs.Prelude.{◌⊎◌, ◌||◌}
 use Rattle.std.proofs.lemmas.Bool.{cases_Bool}
 use Rattle.tiger_base.specs.declared.number.Instance.{Instance}
@@ -22,7 +22,7 @@ use Rattle.node_kit.specs.Deeds.{each_in_turn}
 use Rattle.cub_rules.specs.declared.store.Store.{Store}
 use Rattle.cub_rules.specs.State.{is_ask}
 use Rattle.cub_rules.specs.Records.{took, dropping_start}
-use Rattle.cub_rules.specs.Messages.{records_told, told, shows, meeting_start, taking}
+use Rattle.cub_rules.specs.Messages.{records_told, told, shows, meeting_start, taking, is_discarded}
 use Rattle.proof_cubs.specs.Grounds.{IsLetIn}
 use Rattle.proof_lives.specs.Lives.{store_at, deed_of}
 use Rattle.run_facts.specs.Events.{is_tick_input}
@@ -33,18 +33,15 @@ use Rattle.proof_lives.proofs.Steps.{not_false}
 use Rattle.proof_lives.proofs.Taking.{taking_hears}
 use Rattle.proof_lives.proofs.Telling.{taking_told, took_told}
 use Rattle.proof_lives.proofs.Waiting.{IsQueued, queued_since}
+use Rattle.cub_rules.specs.Comebacks.{records_let_in}
 
 no_either : (a b : Bool) → (a || b) ≡ false → (a ≡ false) × (b ≡ false)
 no_either true b e = absurd (cc)
 no_either false b e = (refl, e)
 
--- A start is discarded if it has no blocks or too many, or its instance is held or shown.
-abbrev pub is_refused : Ask → Store → Bool
-is_refused a h = not (is_ask a) || is_held h.held a.instance || shows h.view.lines a.instance
-
 -- A start that is discarded leaves the lists as they are.
 start_refused : (p : Params) (c : ℕ) (stamp : Stamp) (link : LinkNo) (a : Ask) (redundant : Bool) (h : Store)
-    → is_refused a h ≡ true → (taking p c stamp link (msg.Start redundant a) h).state.starts ≡ h.starts
+    → is_discarded a h ≡ true → (taking p c stamp link (msg.Start redundant a) h).state.starts ≡ h.starts
 unfolding meeting_start
 start_refused p c stamp link a redundant h e =
     ap (λ (d : Deed Msg Store). d.state.starts) (takes_start p c stamp link a redundant h) ∙ rw e refl
@@ -60,7 +57,7 @@ drops v h = refl
 
 told_drops : (p : Params) (c : ℕ) (s : State) (k : Key) (h : Store) → (told p c s k h).state.starts ≡ without_start h.starts s.tenancy.instance
 told_drops p c s k h =
-    took_each (records_told s k) (dropping_start s.tenancy.instance h).state ∙ drops s.tenancy.instance h
+    took_each (records_let_in p h.comeback (records_told s k)) (dropping_start s.tenancy.instance h).state ∙ drops s.tenancy.instance h
 
 -- A message of which a record is taken is such a state.
 pub took_drops : (p : Params) (c : ℕ) (k : Input Msg) (r : Rec) (h : Store) → is_tick_input k ≡ false
@@ -88,11 +85,12 @@ module _ (p : Params) (c : ℕ) (inputs : ℕ → Input Msg) where
       let h : Store = store_at p c inputs i in
       let is : inputs i ≡ Take s.stamp s.link (msg.Start s.redundant a) = ap inputs (sym at) ∙ s.is in
       ⊎_elim
-      (λ (t : is_refused a h ≡ true).
+      (λ (t : is_discarded a h ≡ true).
       let now = subst (λ (x : Input Msg). IsQueued a (deed_of p c x h).state.starts) is q in
       inl (subst (λ (w : Queues). IsQueued a w) (start_refused p c s.stamp s.link a s.redundant h t) now))
-      (λ (t : is_refused a h ≡ false).
-      let one = no_either (not (is_ask a) || is_held h.held a.instance) (shows h.view.lines a.instance) t in
+      (λ (t : is_discarded a h ≡ false).
+      let may = no_either (is_some h.comeback) (not (is_ask a) || is_held h.held a.instance || shows h.view.lines a.instance) t in
+      let one = no_either (not (is_ask a) || is_held h.held a.instance) (shows h.view.lines a.instance) may.1 in
       let two = no_either (not (is_ask a)) (is_held h.held a.instance) one.0 in
       inr (record {
         at = i;
@@ -107,7 +105,7 @@ module _ (p : Params) (c : ℕ) (inputs : ℕ → Input Msg) where
         waits = λ k l m.
             let e : suc i ≡ k = omega arith in subst (λ n. IsQueued a (store_at p c inputs n).starts) e q;
       }))
-      (cases_Bool (is_refused a h)))
+      (cases_Bool (is_discarded a h)))
       (queued_since p c inputs (suc i) i a (omega arith) q)
 
   -- Each start in the lists was let in, and has waited since.

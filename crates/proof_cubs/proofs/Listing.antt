@@ -18,7 +18,7 @@ use Rattle.insert_queue.specs.Queues as queues
 use Rattle.insert_queue.specs.Queues.{Queues, is_asked, has_start}
 use Rattle.deschedule.specs.Holds.{is_held}
 use Rattle.cub_rules.specs.declared.store.Store.{Store}
-use Rattle.cub_rules.specs.Messages.{taking, shows, meeting_start, queueing, queueing_redundant}
+use Rattle.cub_rules.specs.Messages.{taking, shows, meeting_start, queueing, queueing_redundant, is_discarded}
 use Rattle.cub_changes.specs.Laws.{IsListed, TellsOf, HasPutOf, KeepsStart}
 use Rattle.cub_changes.proofs.Listing.{keep_starts}
 use Rattle.proof_schedule.specs.Facts.{Facts, ReachedBy}
@@ -41,13 +41,13 @@ use Rattle.proof_lives.proofs.Meeting.{taken}
 use Rattle.proof_lives.specs.FactsBy.{Beyond, facts_by}
 use Rattle.proof_cubs.proofs.Setting.{Setting}
 use Rattle.proof_cubs.proofs.Inserting.{inserted}
-use Rattle.proof_cubs.proofs.Letting.{is_refused}
+use Rattle.proof_lives.proofs.FirstLife.{first_life}
 use Rattle.proof_cubs.proofs.Standing.{come_before}
 
 -- What one event makes of a start that is listed is as cub_changes proves it for the whole cub.
 keeps_start : (p : Params) (c : ℕ) (i : Input Msg) (a : Ask) (h : Store) → KeepsStart i a h (deed_of p c i h)
-keeps_start p c (Take stamp link m) a h = keep_starts (record { params = p; cub = c; store = h }) (Take stamp link m) a
-keeps_start p c (Tick stamp) a h = keep_starts (record { params = p; cub = c; store = h }) (Tick stamp) a
+keeps_start p c (Take stamp link m) a h = keep_starts p c (Take stamp link m) a h
+keeps_start p c (Tick stamp) a h = keep_starts p c (Tick stamp) a h
 
 -- ---- both words for "it stands in one of the two lists" say the same
 is_listed : (a : Ask) (h : Store) → IsQueued a h.starts → IsListed a h
@@ -72,14 +72,14 @@ abbrev pub HasJoined : Ask → Bool → Queues → Type 0
 HasJoined a redundant q = In a q.waiting ⊎ ((redundant ≡ true) × In a q.redundant)
 
 start_queued : (p : Params) (c : ℕ) (stamp : Stamp) (link : LinkNo) (a : Ask) (redundant : Bool) (h : Store)
-    → is_refused a h ≡ false → is_asked h.starts a.instance ≡ false
+    → is_discarded a h ≡ false → is_asked h.starts a.instance ≡ false
     → HasJoined a redundant (taking p c stamp link (msg.Start redundant a) h).state.starts
 unfolding meeting_start
 start_queued p c stamp link a redundant h e none =
     let Q : Deed Msg Store → Type 0 = λ d. HasJoined a redundant d.state.starts in
     let q : Queues = h.starts in
     subst Q (sym (takes_start p c stamp link a redundant h))
-    (chosen Q (is_refused a h) _ (cond (redundant && not h.believes) (queueing_redundant a h) (queueing a h))
+    (chosen Q (is_discarded a h) _ (cond (redundant && not h.believes) (queueing_redundant a h) (queueing a h))
     (λ t. absurd (no_both t e))
     (λ _. chosen Q (redundant && not h.believes) (queueing_redundant a h) (queueing a h)
     (λ apart. chosen (HasJoined a redundant) (is_asked q a.instance) q (record q { redundant = q.redundant ++ a ∷ [] })
@@ -250,7 +250,7 @@ module _ (p : Params) (lives : Lives) (beyond : Beyond) (set : Setting p lives b
       let x = shown_line a.instance h.view.lines shown in
       inr (inl (line_out c i b a.instance.0 x.0 small low le x.1 x.2)))
       (λ (shown : shows h.view.lines a.instance ≡ false).
-      let free : is_refused a h ≡ false = rw (counted, held, shown) refl in
+      let free : is_discarded a h ≡ false = rw (first_life p c inputs i, counted, held, shown) refl in
       inl (subst (λ (k : Input Msg). HasJoined a redundant (deed_of p c k h).state.starts) (sym is)
       (start_queued p c stamp link a redundant h free (not_asked c i a stamp link redundant small low is))))
       (cases_Bool (shows h.view.lines a.instance)))

@@ -1,6 +1,6 @@
 -- While a start waits, a line stands at each visit of its disk in the window when insertion ends, and is shown after
 -- the tick.
-use Rattle.std.proofs.Common.{◌≡◌, ℕ, suc, ◌<◌, ◌≤◌, List, true, false, refl, sym, ap, subst, ◌∙◌, arith, ⊎_elim, inl, inr}
+use Rattle.std.proofs.Common.{◌≡◌, ℕ, suc, ◌<◌, ◌≤◌, List, true, false, refl, sym, ap, subst, ◌∙◌, arith, ⊎_elim, inl, inr, None}
 use Rattle.std.specs.Prelude.{◌⊎◌}
 use Rattle.tiger_base.specs.declared.number.Stamp.{Stamp}
 use Rattle.tiger_base.specs.declared.tenancy.Ask.{Ask}
@@ -42,6 +42,7 @@ use Rattle.proof_cubs.proofs.Believing.{none_apart, apart_at, believes_after, be
 use Rattle.proof_cubs.proofs.Filling.{inserting_full_apart}
 use Rattle.proof_cubs.proofs.Inserting.{line_stands}
 use Rattle.proof_cubs.proofs.Listing.{IsOut, put_out_by, queued_on, waits_on, start_joins}
+use Rattle.proof_lives.proofs.FirstLife.{first_life, inserting_first}
 
 -- A start that stands in a list when a tick begins stands in one when insertion begins.
 before_queued : (p : Params) (c : ℕ) (stamp : Stamp) (h : Store) (a : Ask) → IsQueued a h.starts
@@ -104,6 +105,10 @@ module _ (p : Params) (lives : Lives) (beyond : Beyond) (set : Setting p lives b
       false w.small g.done (omega arith) g.is)
 
   -- Belief that was written by a tick is there when insertion begins.
+  ready_first : {c b l : ℕ} (w : TickedAt p lives c b l) → (ready w).comeback ≡ None
+  ready_first {c} {b} {l} w =
+      inserting_first p c (record { beat = b; reading = l }) (store_at p c (lives.input c) w.at) (first_life p c (lives.input c) w.at)
+
   believes_at : {c b l : ℕ} (w : TickedAt p lives c b l) → BelievedBy R c b → (ready w).believes ≡ true
   believes_at {c} {b} {l} w k =
       let inputs : ℕ → Input Msg = lives.input c in
@@ -170,14 +175,14 @@ module _ (p : Params) (lives : Lives) (beyond : Beyond) (set : Setting p lives b
       ⊎_elim
       (λ q. ⊎_elim
       (λ v. line_or_out ask s n w slot window
-      (inserting_full p c stamp set.plan n ask (ready w) q.1 v k.disk))
+      (inserting_full p c stamp set.plan n ask (ready w) (ready_first w) q.1 v k.disk))
       (λ v. inr v)
       (plain_waits w q.0 le))
       (λ q.
       let believes = believes_at w q.2 in
       ⊎_elim
       (λ v. line_or_out ask s n w slot window
-      (inserting_full_apart p c stamp set.plan n ask (ready w) q.1 believes v k.disk))
+      (inserting_full_apart p c stamp set.plan n ask (ready w) (ready_first w) q.1 believes v k.disk))
       (λ v. inr v)
       (redundant_waits w q.0 le believes))
       k.how

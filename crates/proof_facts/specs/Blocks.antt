@@ -12,6 +12,7 @@ use Rattle.slot_plan.specs.declared.params.Params.{Params}
 use Rattle.partial_view.specs.declared.line.Line.{Line}
 use Rattle.node_kit.specs.Form.{is_in_form}
 use Rattle.node_kit.specs.Steps.Input.{Take}
+use Rattle.node_kit.specs.Ways.{way_ahead, predecessor}
 use Rattle.cub_rules.specs.declared.store.Store.{Store}
 use Rattle.disk_core.specs.State.{DiskState}
 use Rattle.disk_core.specs.Rules.{is_faulty}
@@ -58,8 +59,12 @@ pub record KilledAt (p : Params) (lives : Lives) (c v n b : ℕ) : Type 0 where
   pub slot : SlotNo
   pub took : TookMessage p lives c (msg.Kill instance slot n) b
 
--- The facts about blocks of these lives, over these disks. No cub comes back in a run, so that none
--- is told of a return.
+-- In beat b cub c was told by its predecessor that it is back, and from when on it serves.
+pub record TookBackAt (p : Params) (lives : Lives) (c from b : ℕ) : Type 0 where
+  pub took : TookMessage p lives c (msg.Back from) b
+  pub link : took.link.0 ≡ (way_ahead p (predecessor p c) 1).0
+
+-- The facts about blocks of these lives, over these disks.
 abbrev pub blocks_by : Params → Lives → (ℕ → DiskState) → ServiceFacts
 blocks_by p lives disk_at = record {
   Stored = StoredAt p lives;
@@ -67,5 +72,5 @@ blocks_by p lives disk_at = record {
   Sends = SendsAt p lives;
   Struck = λ disk b. is_faulty (disk_at disk).faults disk b ≡ true;
   Killed = KilledAt p lives;
-  TookBack = λ c from b. ⊥;
+  TookBack = TookBackAt p lives;
 }

@@ -16,7 +16,7 @@ use Rattle.proof_schedule.specs.StopLaws.{StopLaws}
 use Rattle.proof_schedule.specs.HoldLaws.{HoldLaws}
 use Rattle.proof_pieces.specs.PieceFacts.{PieceFacts, leave, AsksBy, Uses}
 use Rattle.proof_pieces.specs.PieceLaws.{IsSplit, IsMirror, WasMirrored, WasUndue, IsThere, WasAsked, IsKilled, IsForgotten, MirrorSince}
-use Rattle.proof_service.specs.ServiceFacts.{ServiceFacts, SplitBy, ArisesBy, IsCutOff}
+use Rattle.proof_service.specs.ServiceFacts.{ServiceFacts, SplitBy, ArisesBy, IsCutOff, IsLeftTo}
 use Rattle.proof_service.specs.ServiceLaws.{HeardTill, WasUp, IsAnswered, WasReached}
 use Rattle.proof_service.specs.Disks.{FailedThere, IsRefused, IsRead}
 
@@ -82,6 +82,7 @@ pub record SplitLaws (p : Params) (r : Facts) (q : PieceFacts) (w : ServiceFacts
       → MirrorSince q a k t n j y
   pub split_due : {c : ℕ} {t : Tenancy} {n b l : ℕ}
       → BelievedBy r c b → EnteredBy r c t n b → c ≡ cub_of p (n + 1) → r.Ticked c b l
+      → IsLeftTo p w c t n b
       → l + p.read_lead + p.skew + time_of p p.delay + p.beat ≤ due p t.slot.0 n
       → SplitBy q c t n b ⊎ ReachedBy r c t.instance.0 b
   pub mirrors_due : {c : ℕ} {t : Tenancy} {n b l : ℕ} (k : ℕ)

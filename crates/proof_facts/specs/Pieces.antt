@@ -12,14 +12,17 @@ use Rattle.tiger_base.specs.declared.message.Msg.TheVariants as msg
 use Rattle.tiger_base.specs.Notes.{noted}
 use Rattle.slot_plan.specs.declared.params.Params.{Params}
 use Rattle.slot_plan.specs.Times.{cub_of}
+use Rattle.slot_plan.specs.Keys.{due_of}
 use Rattle.partial_view.specs.declared.line.Line.{Line}
+use Rattle.partial_view.specs.Lines.{key_of}
 use Rattle.deschedule.specs.Holds.{is_held}
-use Rattle.mirror_schedule.specs.Pieces.{is_in}
+use Rattle.mirror_schedule.specs.Pieces.{is_in, leaving_of}
 use Rattle.node_kit.specs.Form.{is_in_form}
 use Rattle.node_kit.specs.declared.outbox.Out.TheVariants as out
 use Rattle.node_kit.specs.Steps.Input.{Take}
 use Rattle.node_kit.specs.Ways.{way_ahead, way_to_viewers}
 use Rattle.cub_rules.specs.declared.store.Store.{Store}
+use Rattle.cub_rules.specs.Comebacks.{is_handed_back, lets_in, serves_at}
 use Rattle.cub_rules.specs.Records.{stored_for}
 use Rattle.cub_rules.specs.Ticks.{releasing, believing, inserting, splitting, forwarding, reading, must_split, must_read, leaves_by, is_served, sent_ahead}
 use Rattle.proof_lives.specs.Lives.{Lives, GoesOut, store_at}
@@ -67,8 +70,8 @@ HasOwn h t n x = In x h.view.lines × (x.rec ≡ own_of t n)
 abbrev pub HasBackup : Store → Tenancy → ℕ → Line → Type 0
 HasBackup h t n x = In x h.view.lines × (x.rec ≡ backup_of t n)
 
--- At its tick of beat b cub c split visit n of t, and its death did not cut that off: the tick was
--- whole, or a mirror state of the visit went out.
+-- At its tick of beat b cub c split visit n of t, which was not left to its predecessor, and its death
+-- did not cut that off: the tick was whole, or a mirror state of the visit went out.
 pub record SplitAt (p : Params) (lives : Lives) (c : ℕ) (t : Tenancy) (n b : ℕ) : Type 0 where
   pub reading : ℕ
   pub tick : TickAt p lives c b reading
@@ -76,6 +79,7 @@ pub record SplitAt (p : Params) (lives : Lives) (c : ℕ) (t : Tenancy) (n b : �
   pub line : Line
   pub there : HasBackup (before_splitting p c (stamp_of b reading) (kept_at tick)) t n line
   pub must : must_split p (stamp_of b reading) line ≡ true
+  pub left : is_handed_back p (before_splitting p c (stamp_of b reading) (kept_at tick)).handback line.rec ≡ false
   pub number : ℕ
   pub goes : GoesOut p lives c tick.at (sent_ahead p c (piece t n number))
 
@@ -86,7 +90,7 @@ pub record MirrorSentAt (p : Params) (lives : Lives) (a k : ℕ) (t : Tenancy)
   pub did : DidAt p lives a (out.Send (way_ahead p a k) (msg.MirrorState (piece t n j))) b
 
 -- In beat b cub c took a mirror state, in form and for it, of an instance that it did not hold, and
--- of a piece of which it had no record.
+-- of a piece that may enter and of which it had no record.
 pub record MirroredAt (p : Params) (lives : Lives) (c : ℕ) (t : Tenancy) (n j b : ℕ) : Type 0 where
   pub small : c < p.cubs
   pub at : ℕ
@@ -97,6 +101,7 @@ pub record MirroredAt (p : Params) (lives : Lives) (c : ℕ) (t : Tenancy) (n j 
   pub formed : is_in_form p (noted (msg.MirrorState (piece t n j))) ≡ true
   pub free : is_held (store_at p c (lives.input c) at).held t.instance ≡ false
   pub here : cub_of p (n + j) ≡ c
+  pub lets : lets_in (store_at p c (lives.input c) at).comeback (leaving_of p (piece t n j)) ≡ true
   pub new : is_in (piece t n j) (store_at p c (lives.input c) at).pieces.items ≡ false
 
 -- In beat b cub a told the k-th cub after it to drop the pieces of visit n of instance v in slot s.
@@ -105,11 +110,12 @@ pub record KillSentAt (p : Params) (lives : Lives) (a k v s n b : ℕ) : Type 0 
   pub did : DidAt p lives a
       (out.Send (way_ahead p a k) (msg.Kill (record { 0 = v }) (record { 0 = s }) n)) b
 
--- Of what it keeps a cub asks for a block by the visit's own record, and for a piece by the piece's
--- record. A want does not name the tenancy's last visit, so the record tells what is asked for.
+-- Of what it keeps a cub asks for a block by the visit's own record, if it serves the visit, and for a
+-- piece by the piece's record. A want does not name the tenancy's last visit, so the record tells what is asked for.
 abbrev pub AsksFor : Params → Stamp → Store → Tenancy → ℕ → ℕ → Type 0
 AsksFor p stamp h t n j =
-    ((j ≡ 0) × (x : Line) × HasOwn h t n x × (must_read p stamp x ≡ true))
+    ((j ≡ 0) × (x : Line) × HasOwn h t n x × (must_read p stamp x ≡ true)
+    × (serves_at h.comeback (due_of p (key_of x)) ≡ true))
     ⊎ ((1 ≤ j) × In (piece t n j) h.unasked.items
     × (leaves_by p (stamp.reading + p.read_lead) (piece t n j) ≡ true))
 
@@ -121,11 +127,12 @@ pub record AsksAt (p : Params) (lives : Lives) (c : ℕ) (t : Tenancy) (n j b : 
   pub asks : AsksFor p (stamp_of b reading)
       (before_reading p c (stamp_of b reading) (kept_at tick)) t n j
 
--- Of what it keeps a cub serves a block by the visit's own record, and a piece by the piece's
--- record, if its part is stored.
+-- Of what it keeps a cub serves a block by the visit's own record, if it serves the visit, and a piece
+-- by the piece's record, if its part is stored.
 abbrev pub IsToServe : Params → Stamp → Store → Tenancy → ℕ → ℕ → Type 0
 IsToServe p stamp h t n j =
-    ((j ≡ 0) × (x : Line) × HasOwn h t n x × (is_served p stamp x ≡ true))
+    ((j ≡ 0) × (x : Line) × HasOwn h t n x × (is_served p stamp x ≡ true)
+    × (serves_at h.comeback (due_of p (key_of x)) ≡ true))
     ⊎ ((1 ≤ j) × In (piece t n j) h.pieces.items
     × (leaves_by p stamp.reading (piece t n j) ≡ true))
 

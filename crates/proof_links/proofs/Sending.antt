@@ -36,10 +36,11 @@ use Rattle.proof_lives.proofs.Wrapped.{cub_with, cub_outs}
 use Rattle.proof_controller.specs.Controllers.{command}
 use Rattle.proof_controller.proofs.Commands.{IsCommand, commanding_out}
 
--- messages that a cub, a disk and the controller may send
+-- messages that a cub may send in an event by which it does not come back, and a disk and the controller in any
 abbrev pub IsOfCub : Msg → Type 0
 IsOfCub (msg.Start redundant ask) = ⊥
 IsOfCub (msg.ReadDone want part) = ⊥
+IsOfCub (msg.Back from) = ⊥
 IsOfCub other = Unit {0}
 
 abbrev pub IsOfDisk : Msg → Type 0
@@ -65,8 +66,7 @@ form_of_cub p c stamp other = tt
 cause_of : (p : Params) (c : ℕ) (i : Input Msg) (h : Store) (o : Out Msg) → In o (deed_of p c i h).outs
     → HasCause p c i h o
 cause_of p c i h o k =
-    all_in (HasCause p c i h) o (cub_step (cub_with p c h) i).outs (have_causes (cub_with p c h) i)
-    (subst (λ (os : List (Out Msg)). In o os) (sym (cub_outs p c h i)) k)
+    all_in (HasCause p c i h) o (deed_of p c i h).outs (have_causes p c i h) k
 
 -- Whatever a cub sends is such a message.
 pub cub_sends : (p : Params) (c : ℕ) (i : Input Msg) (h : Store) (link : LinkNo) (m : Msg)

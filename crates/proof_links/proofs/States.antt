@@ -29,9 +29,11 @@ use Rattle.proof_facts.specs.Facts.{beyond_of, facts_of}
 use Rattle.proof_facts.specs.Lives.{lives_of, CameAt}
 use Rattle.proof_facts.specs.Rings.{IsRingHistory}
 use Rattle.proof_lives.proofs.NoReturns.{first_life, same_life}
-use Rattle.proof_links.proofs.Sending.{beat_at_tick}
+use Rattle.proof_links.proofs.Sending.{beat_at_tick, cub_sends}
 use Rattle.proof_links.proofs.Carrying.{did_before, from_cub, link_no, reaches_near, took_from}
 use Rattle.proof_links.proofs.Nodes.{before, beat_same, cub_inside, ticks_at}
+use Rattle.proof_facts.specs.Blocks.{TookBackAt}
+use Rattle.node_kit.specs.declared.outbox.Out.{Out}
 
 module _ {S : Type 0} {step : S → Input Msg → Deed Msg S} {p : Params} {orders : List Order} {disk_at : ℕ → DiskState}
     {h : History Msg S} (plan : IsPlan p) (ring : IsRingHistory step p orders disk_at h) where
@@ -140,6 +142,16 @@ module _ {S : Type 0} {step : S → Input Msg → Deed Msg S} {p : Params} {orde
         later = b.later;
         soon = b.soon;
       }
+
+  -- Nobody comes back, so no cub is told of that.
+  pub no_back : {c from y : ℕ} → TookBackAt p lives c from y → ⊥
+  no_back {c} {from} {y} g =
+      let f = took_from plan ring g.took in
+      let own = from_cub plan ring f (λ q. q) (λ q. q) in
+      let d = (did_before plan ring f own).did in
+      let o : Out Msg = out.Send g.took.link (msg.Back from) in
+      cub_sends p f.from (lives.input f.from d.at) (store_at p f.from (lives.input f.from) d.at) g.took.link (msg.Back from)
+      (was_put_out p lives f.from d.at o d.did)
 
   -- It did so at a tick.
   pub heard_from : {c d y : ℕ} → HeardAt p lives c y → d < p.cubs → c ≡ cub_of p (d + 1)

@@ -24,7 +24,7 @@ use Rattle.partial_view.specs.Views.{line_at, without_instance}
 use Rattle.state_forward.specs.Forwards.{must_forward}
 use Rattle.cub_rules.specs.declared.store.Store.{Store}
 use Rattle.cub_rules.specs.Records.{dropped, stored_for}
-use Rattle.cub_rules.specs.Ticks.{must_split, split_line, is_to_forward, forward_line, must_read, ask_line, is_served, is_past, sent_whole, serve_outs}
+use Rattle.cub_rules.specs.Ticks.{must_split, split_line, is_to_forward, forward_line, must_read, ask_line, is_served, is_past, sent_whole, serve_outs, served_whole}
 use Rattle.cub_changes.specs.Changes.{Change, did}
 use Rattle.cub_changes.specs.Changes.Change.{DropLines, TakeRecord, SendFirst, SplitVisits, Forward, AskBlocks, ServeBlocks, DropBackups}
 use Rattle.lists.specs.Elements.{In}
@@ -221,9 +221,9 @@ module _ (p : Params) (c : ℕ) (stamp : Stamp) where
 
   served_out : (h : Store) (x : Line) → In x h.view.lines → is_served p stamp x ≡ true → In (dropped x) (did p c stamp ServeBlocks h).outs
   served_out h x i e =
-      let sent : List (Out Msg) = sent_whole p c stamp (want_of x.rec) (stored_for (want_of x.rec) h.parts) in
-      let there : In (dropped x) (serve_outs p c stamp h.parts x) = rw e (in_right (dropped x) sent (dropped x ∷ []) (inl refl)) in
-      in_flat_map (serve_outs p c stamp h.parts) (dropped x) x h.view.lines i there
+      let sent : List (Out Msg) = served_whole p c stamp h.comeback h.parts x in
+      let there : In (dropped x) (serve_outs p c stamp h.comeback h.parts x) = rw e (in_right (dropped x) sent (dropped x ∷ []) (inl refl)) in
+      in_flat_map (serve_outs p c stamp h.comeback h.parts) (dropped x) x h.view.lines i there
 
   past_out : (test : Line → Bool) (h : Store) (x : Line) → In x h.view.lines → test x ≡ true → In (dropped x) (map dropped (filter test h.view.lines))
   past_out test h x i e = in_map dropped x (filter test h.view.lines) (in_filter test x h.view.lines i e)

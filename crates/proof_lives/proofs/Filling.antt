@@ -1,5 +1,5 @@
 -- A start that waits for a disk on which insertion puts is put, or all visits of the disk in the window have lines.
-use Rattle.std.proofs.Common.{◌≡◌, ℕ, zero, suc, ◌+◌, ◌*◌, ◌<◌, ◌≤◌, ◌/◌, List, [], ◌∷◌, filter, true, false, not, Option, Some, None, refl, sym, ap, subst, ◌∙◌, arith, ⊎_elim, inl, inr, eq-or-lt_of_le}
+use Rattle.std.proofs.Common.{◌≡◌, ℕ, zero, suc, ◌+◌, ◌*◌, ◌<◌, ◌≤◌, ◌/◌, List, [], ◌∷◌, filter, true, false, not, Option, Some, None, refl, sym, ap, subst, ◌∙◌, arith, ⊎_elim, inl, inr, eq-or-lt_of_le, cond, is_some}
 use Rattle.std.specs.Prelude.{◌⊎◌}
 use Rattle.std.specs.List.{range_with_len}
 use Rattle.std.proofs.Math.Nat.{div-add-mod}
@@ -19,7 +19,7 @@ use Rattle.node_kit.specs.Deeds.{nothing, each_in_turn}
 use Rattle.node_kit.specs.Ways.{predecessor}
 use Rattle.insert_queue.specs.Queues.{Queues, is_of}
 use Rattle.cub_rules.specs.declared.store.Store.{Store}
-use Rattle.cub_rules.specs.Ticks.{tenancy_from, putting_own, putting_for_dead, put_or_wait, free_on, putting_each, is_for, putting_on, disks_at, inserting_own, inserting_for_dead, inserting}
+use Rattle.cub_rules.specs.Ticks.{tenancy_from, putting_own, putting_for_dead, put_or_wait, free_on, putting_each, is_for, putting_on, disks_at, inserting_own, inserting_for_dead, inserting, inserting_all}
 use Rattle.cub_changes.proofs.Numbers.{disk_own}
 use Rattle.cub_changes.proofs.Closed.{IsClosed, then_by}
 use Rattle.cub_changes.proofs.Puts.{Drops, own_drops, dead_drops}
@@ -29,6 +29,7 @@ use Rattle.proof_lives.proofs.Moves.{Never, Moves, moves_closed}
 use Rattle.proof_lives.proofs.Inserting.{put_out}
 use Rattle.proof_lives.proofs.Putting.{own_there, dead_there, own_fresh, dead_fresh}
 use Rattle.proof_lives.proofs.Seating.{PutOf, IsFull, full_where, full_on}
+use Rattle.cub_rules.specs.declared.comeback.Comeback.{Comeback}
 
 -- starts that are put one after another: no record leaves, no belief changes, and a start waits on or is put
 pub record Goes (p : Params) (c : ℕ) (h : Store) (d : Deed Msg Store) : Type 0 where
@@ -146,8 +147,11 @@ disk_there p c n plan here =
     subst (λ k. In k (disks_at p c)) e (in_map (λ (r : ℕ). c + r * p.cubs) row (range_with_len 0 p.disks) (in_range 0 p.disks row (omega arith) (omega arith)))
 
 module _ (p : Params) (c : ℕ) (stamp : Stamp) (plan : IsPlan p) (disk : ℕ) (a : Ask) (h : Store) (waits : In a h.starts.waiting) (for : a.disk.0 ≡ disk) where
+  abbrev ServedBy : Deed Msg Store → Type 0
+  ServedBy d = PutOf a d.outs ⊎ IsFull p stamp.reading disk d.state.view.lines
+
   abbrev IsServed : Type 0
-  IsServed = PutOf a (inserting p c stamp h).outs ⊎ IsFull p stamp.reading disk (inserting p c stamp h).state.view.lines
+  IsServed = ServedBy (inserting p c stamp h)
 
   own_goes : Goes p c h (inserting_own p c stamp h)
   own_goes = disks_go p c stamp.reading plan (putting_own p c) (own_drops p c) (λ t g. (own_there p c t g).0) (λ t g. (own_fresh p c stamp t g).moves) (disks_at p c) h
@@ -159,9 +163,9 @@ module _ (p : Params) (c : ℕ) (stamp : Stamp) (plan : IsPlan p) (disk : ℕ) (
       (λ _. (goes_closed p c).none g)
 
   -- on a disk of the cub's own
-  pub served_here : In disk (disks_at p c) → IsServed
-  unfolding inserting
-  served_here there =
+  here_all : In disk (disks_at p c) → ServedBy (inserting_all p c stamp h)
+  unfolding inserting_all
+  here_all there =
       let g : Store = (inserting_own p c stamp h).state in
       let after : Deed Msg Store = inserting_for_dead p c stamp g in
       ⊎_elim
@@ -170,9 +174,9 @@ module _ (p : Params) (c : ℕ) (stamp : Stamp) (plan : IsPlan p) (disk : ℕ) (
       (disks_full p c stamp.reading plan (putting_own p c) (own_drops p c) (λ t g. (own_there p c t g).0) (λ t g. (own_fresh p c stamp t g).moves) (disks_at p c) disk a h there waits for)
 
   -- on one of its predecessor's, if it believes that one dead
-  pub served_there : h.believes ≡ true → In disk (disks_at p (predecessor p c)) → IsServed
-  unfolding inserting
-  served_there believes there =
+  there_all : h.believes ≡ true → In disk (disks_at p (predecessor p c)) → ServedBy (inserting_all p c stamp h)
+  unfolding inserting_all
+  there_all believes there =
       let g : Store = (inserting_own p c stamp h).state in
       let before : List (Out Msg) = (inserting_own p c stamp h).outs in
       let turn : Deed Msg Store = each_in_turn (putting_on (putting_for_dead p c) p stamp.reading) (disks_at p (predecessor p c)) g in
@@ -186,7 +190,20 @@ module _ (p : Params) (c : ℕ) (stamp : Stamp) (plan : IsPlan p) (disk : ℕ) (
       (λ w. inl (w.0, in_left (put_out w.0) before (inserting_for_dead p c stamp g).outs w.1, w.2))
       (own_goes.forth a waits)
 
+  -- a cub that did not come back puts them
+  in_first_life : h.comeback ≡ None → ServedBy (inserting_all p c stamp h) → IsServed
+  unfolding inserting
+  in_first_life first served =
+      subst (λ (o : Option Comeback). ServedBy (cond (is_some o) (nothing h) (inserting_all p c stamp h))) (sym first) served
+
+  pub served_here : h.comeback ≡ None → In disk (disks_at p c) → IsServed
+  served_here first there = in_first_life first (here_all there)
+
+  pub served_there : h.comeback ≡ None → h.believes ≡ true → In disk (disks_at p (predecessor p c)) → IsServed
+  served_there first believes there = in_first_life first (there_all believes there)
+
 -- insertion: a start that waits for a visit of the cub's own is put, or all such visits in the window have lines
-pub inserting_full : (p : Params) (c : ℕ) (stamp : Stamp) → IsPlan p → (n : ℕ) (a : Ask) (h : Store) → c ≡ cub_of p n → In a h.starts.waiting → a.disk.0 ≡ disk_of p n
+pub inserting_full : (p : Params) (c : ℕ) (stamp : Stamp) → IsPlan p → (n : ℕ) (a : Ask) (h : Store) → h.comeback ≡ None → c ≡ cub_of p n → In a h.starts.waiting → a.disk.0 ≡ disk_of p n
     → PutOf a (inserting p c stamp h).outs ⊎ IsFull p stamp.reading (disk_of p n) (inserting p c stamp h).state.view.lines
-inserting_full p c stamp plan n a h here i e = served_here p c stamp plan (disk_of p n) a h i e (disk_there p c n plan here)
+inserting_full p c stamp plan n a h first here i e =
+    served_here p c stamp plan (disk_of p n) a h i e first (disk_there p c n plan here)

@@ -32,6 +32,8 @@ use Rattle.proof_lives.proofs.Inputs.{take_of}
 use Rattle.proof_lives.proofs.Moves.{taken_out, is_taken}
 use Rattle.proof_lives.proofs.Taking.{taking_hears}
 use Rattle.proof_lives.proofs.Telling.{took_told}
+use Rattle.cub_rules.specs.Comebacks.{lets_in, records_let_in}
+use Rattle.slot_plan.specs.Times.{due}
 
 -- what goes out is a front of what was put out
 pub front_of_outs : {M : Type 0} (cut : Option ℕ) (os : List (Out M)) → (rest : List (Out M)) × (cut_outs cut os ++ rest ≡ os)
@@ -63,10 +65,14 @@ each_kept : (rs : List Rec) (h : Store) → AllByRecursion IsKept (each_in_turn 
 each_kept [] h = tt
 each_kept (r ∷ rs) h = all_append IsKept (took r h).outs _ (took_kept r h) (each_kept rs (took r h).state)
 
-place_untaken : (p : Params) (c : ℕ) (s : State) (k : Key) (lines : List Line) (r : Rec) → In (taken_out r) (place_told p c s k lines) → ⊥
-place_untaken p c s k lines r =
-    chosen (λ (os : List (Out Msg)). In (taken_out r) os → ⊥) (is_news s k lines) (told_placed p c s.tenancy ∷ []) []
+place_untaken : (p : Params) (c : ℕ) (s : State) (k : Key) (h : Store) (r : Rec) → In (taken_out r) (place_told p c s k h) → ⊥
+place_untaken p c s k h r =
+    let None : List (Out Msg) → Type 0 = λ os. In (taken_out r) os → ⊥ in
+    chosen None (lets_in h.comeback (due p s.tenancy.slot.0 s.visit)) _ []
+    (λ _.
+    chosen None (is_news s k h.view.lines) (told_placed p c s.tenancy ∷ []) []
     (λ _ i. ⊎_elim (λ (e : taken_out r ≡ told_placed p c s.tenancy). let z : ⊥ = absurd (cc) in z) (λ q. q) i)
+    (λ _ i. i))
     (λ _ i. i)
 
 told_goes : (cut : Option ℕ) (p : Params) (c : ℕ) (s : State) (k : Key) (r : Rec) (h : Store) → In (taken_out r) (told p c s k h).outs
@@ -75,8 +81,9 @@ told_goes cut p c s k r h i =
     let v : Instance = s.tenancy.instance in
     let g : Store = (dropping_start v h).state in
     let before : List (Out Msg) = (dropping_start v h).outs in
-    let after : List (Out Msg) = (each_in_turn took (records_told s k) g).outs in
-    let last : List (Out Msg) = place_told p c s k h.view.lines in
+    let those : List Rec = records_let_in p h.comeback (records_told s k) in
+    let after : List (Out Msg) = (each_in_turn took those g).outs in
+    let last : List (Out Msg) = place_told p c s k h in
     let o : Out Msg = taken_out r in
     ⊎_elim
     (λ b. kept_goes_out cut o before (after ++ last) (drop_kept v h) b)
@@ -84,8 +91,8 @@ told_goes cut p c s k r h i =
     (λ a.
     subst (λ (os : List (Out Msg)). In o (cut_outs cut os)) (append_assoc before after last)
     (kept_goes_out cut o (before ++ after) last
-    (all_append IsKept before after (drop_kept v h) (each_kept (records_told s k) g)) (in_right o before after a)))
-    (λ a. absurd (place_untaken p c s k h.view.lines r a))
+    (all_append IsKept before after (drop_kept v h) (each_kept those g)) (in_right o before after a)))
+    (λ a. absurd (place_untaken p c s k h r a))
     (in_cases o after last b))
     (in_cases o before (after ++ last) i)
 

@@ -124,10 +124,10 @@ module _ (p : Params) (c : ℕ) (inputs : ℕ → Input Msg) where
   believed_step : (i : ℕ) (k : Input Msg) → inputs i ≡ k → (deed_of p c k (store_at p c inputs i)).state.believes ≡ true
       → ((store_at p c inputs i).believes ≡ true) ⊎ BelievedBefore p c inputs (suc i)
   believed_step i (Take stamp link m) is e =
-      let k = keep_belief (record { params = p; cub = c; store = store_at p c inputs i }) (Take stamp link m) in
+      let k = keep_belief p c (Take stamp link m) (store_at p c inputs i) in
       ⊎_elim (λ f. inl f) (λ o. absurd (k.entry (number (predecessor p c)) o).0) (k.written e)
   believed_step i (Tick stamp) is e =
-      let k = keep_belief (record { params = p; cub = c; store = store_at p c inputs i }) (Tick stamp) in
+      let k = keep_belief p c (Tick stamp) (store_at p c inputs i) in
       ⊎_elim (λ f. inl f) (λ o. inr (record { at = i; before = omega arith; stamp = stamp; is = is; silent = (k.entry (number (predecessor p c)) o).3 })) (k.written e)
 
   pub believed_before : (i : ℕ) → (store_at p c inputs i).believes ≡ true → BelievedBefore p c inputs i

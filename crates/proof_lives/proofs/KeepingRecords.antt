@@ -1,5 +1,5 @@
 -- What a cub does at any input of its life keeps its journal and its view together.
-use Rattle.std.proofs.Common.{◌≡◌, ℕ, ◌<◌, ◌%◌, ◌==◌, nat_le, List, [], ◌∷◌, ◌++◌, filter, Bool, true, false, not, refl, sym, subst, ⊎_elim, inl}
+use Rattle.std.proofs.Common.{◌≡◌, ℕ, ◌<◌, ◌%◌, ◌==◌, nat_le, List, [], ◌∷◌, ◌++◌, filter, Bool, true, false, not, refl, sym, subst, ⊎_elim, inl, is_some}
 use Rattle.std.specs.Prelude.{◌⊎◌, ◌&&◌}
 use Rattle.std.specs.List.{AllByRecursion}
 use Rattle.std.proofs.lemmas.Bool.{cond_both, leb-false, not-true}
@@ -128,7 +128,9 @@ module _ (p : Params) (c : ℕ) where
   beating_keeps : (stamp : Stamp) (h : Store) → (beating p c stamp h).state ≡ h
   unfolding beating
   beating_keeps stamp h =
-      cond_both (stamp.beat % p.heart == 0) (did p c stamp Beat h) (nothing h) (λ (d : Deed Msg Store). d.state ≡ h) (λ _. refl) (λ _. refl)
+      let Keeps : Deed Msg Store → Type 0 = λ d. d.state ≡ h in
+      cond_both (is_some h.comeback) (nothing h) _ Keeps (λ _. refl)
+      (λ _. cond_both (stamp.beat % p.heart == 0) (did p c stamp Beat h) (nothing h) Keeps (λ _. refl) (λ _. refl))
 
   ticking_leaves : (stamp : Stamp) (h : Store) (x : Line) → In x (ticking p c stamp h).state.view.lines
       → stamp.reading < due p x.rec.tenancy.slot.0 x.rec.visit

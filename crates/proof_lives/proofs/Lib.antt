@@ -6,6 +6,7 @@ pub mod Cubs
 pub mod Cuts
 pub mod Deeds
 pub mod Filling
+pub mod FirstLife
 pub mod Fitting
 pub mod Going
 pub mod HoldLaws

@@ -11,7 +11,7 @@ use Rattle.tiger_base.specs.declared.message.Msg.{Msg}
 use Rattle.tiger_base.specs.declared.message.Msg.TheVariants as msg
 use Rattle.slot_plan.specs.declared.params.Params.{Params}
 use Rattle.slot_plan.specs.Conditions.{IsPlan}
-use Rattle.slot_plan.specs.Times.{cub_of}
+use Rattle.slot_plan.specs.Times.{cub_of, due}
 use Rattle.slot_plan.specs.Keys.{Key}
 use Rattle.node_kit.specs.declared.course.Order.{Order}
 use Rattle.node_kit.specs.Steps.{Input, stamp_of}
@@ -41,6 +41,7 @@ use Rattle.proof_lives.proofs.NoReturns.{same_life}
 use Rattle.proof_lives.specs.InOrder.{CameInOrder, AreInOrder}
 use Rattle.proof_lives.proofs.Standing.{standing}
 use Rattle.proof_lives.proofs.Reaching.{stop_below, let_go}
+use Rattle.proof_lives.proofs.FirstLife.{lets_all_in}
 
 -- who is given a record stands beside the state's visit
 pub given_beside : (p : Params) (c : ℕ) (t : Tenancy) (m n : ℕ) → IsGiven p c t m n → IsBeside p c m
@@ -146,7 +147,7 @@ module _ (p : Params) (plan : IsPlan p) (lives : Lives) (beyond : Beyond) (order
             let taken : In (taken_out w.0) (outs_at p c inputs g.at) = subst (λ (i : Input Msg). In (taken_out w.0) (deed_of p c i h).outs) (sym g.is) w.1 in
             found_at c g.at g.at y t.slot.0 n t m w.0 came g.small g.done message eb (omega arith)
             (message_goes p lives c g.at w.0 message taken) (ap (λ (u : Tenancy). u.slot.0) w.2) w.3 (λ j l stop. l))
-            (taking_places p c stamp g.link s n h plan form visit e given).how))
+            (taking_places p c stamp g.link s n h plan form visit e given (lets_all_in p c inputs g.at (due p t.slot.0 n))).how))
             (cases_Bool (is_held h.held t.instance));
       }
 

@@ -34,6 +34,8 @@ use Rattle.proof_lives.proofs.Moves.{taken_out}
 use Rattle.proof_lives.proofs.Putting.{fresh_same, fresh_took}
 use Rattle.proof_lives.proofs.Taking.{message_took, taking_hears}
 use Rattle.proof_lives.proofs.Telling.{found_in, out_of_form, takes_told}
+use Rattle.cub_rules.specs.Comebacks.{lets_in, records_let_in}
+use Rattle.slot_plan.specs.Times.{due}
 
 -- a state is of a tenancy's first visit, and the cub is the next one
 record IsFirstNext (s : State) (k : Key) (t : Tenancy) : Type 0 where
@@ -70,8 +72,8 @@ module _ (p : Params) (c : ℕ) (stamp : Stamp) (link : LinkNo) (h : Store) wher
   told_fresh s k =
       told_by (Fresh p c) (fresh_closed p c) p c stamp s k h
       (fresh_same p c stamp h _ refl (λ r i. let e : DropStart s.tenancy.instance ≡ TakeRecord r = tells_of p c stamp (DropStart s.tenancy.instance) h (taken_out r) i in absurd (cc)))
-      (λ r i q e. fresh_new r q e)
-      (λ q e. fresh_same p c stamp q _ refl (λ r i. let e : SendPlaced s.tenancy ≡ TakeRecord r = tells_of p c stamp (SendPlaced s.tenancy) q (taken_out r) i in absurd (cc)))
+      (λ r i o q e. fresh_new r q e)
+      (λ q e o. fresh_same p c stamp q _ refl (λ r i. let e : SendPlaced s.tenancy ≡ TakeRecord r = tells_of p c stamp (SendPlaced s.tenancy) q (taken_out r) i in absurd (cc)))
 
   -- so a first backup record that is taken is news
   is_new : (s : State) (k : Key) (t : Tenancy) → IsFirstNext s k t → In (taken_out (backup_of t t.first)) (told p c s k h).outs
@@ -86,15 +88,17 @@ module _ (p : Params) (c : ℕ) (stamp : Stamp) (link : LinkNo) (h : Store) wher
       (cases_Bool (is_some (line_at (s.tenancy.slot, s.visit) h.view.lines))) in
       rw (f.next, eq-eqb s.visit s.tenancy.first first, none) refl
 
-  news_there : (s : State) (k : Key) → is_news s k h.view.lines ≡ true → In (told_placed p c s.tenancy) (told p c s k h).outs
-  news_there s k e =
+  news_there : (s : State) (k : Key) → is_news s k h.view.lines ≡ true → lets_in h.comeback (due p s.tenancy.slot.0 s.visit) ≡ true
+      → In (told_placed p c s.tenancy) (told p c s k h).outs
+  news_there s k e may =
       let o : Out Msg = told_placed p c s.tenancy in
       let g : Store = (dropping_start s.tenancy.instance h).state in
       let before : List (Out Msg) = (dropping_start s.tenancy.instance h).outs in
-      let after : List (Out Msg) = (each_in_turn took (records_told s k) g).outs in
-      let last : List (Out Msg) = place_told p c s k h.view.lines in
+      let after : List (Out Msg) = (each_in_turn took (records_let_in p h.comeback (records_told s k)) g).outs in
+      let last : List (Out Msg) = place_told p c s k h in
       in_right o before (after ++ last) (in_right o after last
-      (subst (λ (b : Bool). In o (cond b (o ∷ []) [])) (sym e) (inl refl)))
+      (subst (λ (b : Bool). In o (cond b (cond (is_news s k h.view.lines) (o ∷ []) []) [])) (sym may)
+      (subst (λ (b : Bool). In o (cond b (o ∷ []) [])) (sym e) (inl refl))))
 
   state_told : (s : State) (t : Tenancy) → In (taken_out (backup_of t t.first)) (taking p c stamp link (msg.ViewerState s) h).outs
       → In (told_placed p c t) (taking p c stamp link (msg.ViewerState s) h).outs
@@ -107,9 +111,12 @@ module _ (p : Params) (c : ℕ) (stamp : Stamp) (link : LinkNo) (h : Store) wher
       ⊎_elim
       (λ (e : is_in_form p (noted m) ≡ true).
       let is = takes_told p c stamp link s k h e may.1.0 may.1.1 may.3 in
+      let at : due p t.slot.0 t.first ≡ due p s.tenancy.slot.0 s.visit =
+      ap (λ (u : Tenancy). due p u.slot.0 t.first) f.same ∙ ap (λ (n : ℕ). due p s.tenancy.slot.0 n) f.first in
+      let lets : lets_in h.comeback (due p s.tenancy.slot.0 s.visit) ≡ true = ap (λ (n : ℕ). lets_in h.comeback n) (sym at) ∙ may.4 in
       let news = is_new s k t f (subst (λ (d : Deed Msg Store). In (taken_out r) d.outs) is i) in
       subst (λ (d : Deed Msg Store). In (told_placed p c t) d.outs) (sym is)
-      (subst (λ (u : Tenancy). In (told_placed p c u) (told p c s k h).outs) (sym f.same) (news_there s k news)))
+      (subst (λ (u : Tenancy). In (told_placed p c u) (told p c s k h).outs) (sym f.same) (news_there s k news lets)))
       (λ (e : is_in_form p (noted m) ≡ false). absurd (subst (λ (d : Deed Msg Store). In (taken_out r) d.outs) (out_of_form p c stamp link s h e) i))
       (cases_Bool (is_in_form p (noted m)))
 

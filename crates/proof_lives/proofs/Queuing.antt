@@ -62,9 +62,10 @@ descheduling_after p c stamp v tag h =
     (ap (λ (q : Queues). without_start q v) passed.0, passed.1)
 
 -- a plain start that nothing stands against joins the waiting ones
-pub start_joins : (a : Ask) (h : Store) → is_ask a ≡ true → is_held h.held a.instance ≡ false → shows h.view.lines a.instance ≡ false → (meeting_start a false h).state.starts ≡ with_waiting h.starts a
+pub start_joins : (a : Ask) (h : Store) → h.comeback ≡ None → is_ask a ≡ true → is_held h.held a.instance ≡ false
+    → shows h.view.lines a.instance ≡ false → (meeting_start a false h).state.starts ≡ with_waiting h.starts a
 unfolding meeting_start
-start_joins a h ask held shown = rw (ask, held, shown) refl
+start_joins a h first ask held shown = rw (first, ask, held, shown) refl
 
 pub beat_heard : (p : Params) (c : ℕ) (stamp : Stamp) (link : LinkNo) (h : Store) → link.0 ≡ (way_ahead p (predecessor p c) 1).0 → (hearing_beat p c stamp link h).state.watch ≡ record h.watch { heard = stamp.reading }
 unfolding hearing_beat

@@ -1,5 +1,5 @@
 -- No start of an instance that is held stands in a cub's lists, so none is put and no record of it enters by a Put.
-use Rattle.std.proofs.Common.{◌≡◌, ℕ, suc, ◌<◌, ◌≤◌, Bool, true, false, cond, not, refl, sym, ap, subst, ◌∙◌, arith, ⊎_elim, inl, inr}
+use Rattle.std.proofs.Common.{◌≡◌, ℕ, suc, ◌<◌, ◌≤◌, Bool, true, false, cond, not, refl, sym, ap, subst, ◌∙◌, arith, ⊎_elim, inl, inr, is_some}
 use Rattle.std.specs.Prelude.{◌⊎◌, ◌&&◌, ◌||◌}
 use Rattle.std.proofs.lemmas.Bool.{cases_Bool, eq-eqb, or_left, or_right}
 use Rattle.tiger_base.specs.declared.number.Instance.{Instance}
@@ -18,7 +18,7 @@ use Rattle.deschedule.specs.Holds.{is_held}
 use Rattle.node_kit.specs.Deeds.{nothing}
 use Rattle.cub_rules.specs.declared.store.Store.{Store}
 use Rattle.cub_rules.specs.State.{is_ask}
-use Rattle.cub_rules.specs.Messages.{queueing, queueing_redundant, shows, meeting_start, descheduling, hearing, taking}
+use Rattle.cub_rules.specs.Messages.{queueing, queueing_redundant, shows, meeting_start, descheduling, hearing, taking, is_discarded}
 use Rattle.proof_lives.specs.Lives.{store_at, deed_of}
 use Rattle.lists.proofs.Elements.{chosen, from_filter}
 use Rattle.proof_lives.proofs.Queuing.{descheduling_after}
@@ -34,9 +34,11 @@ use Rattle.proof_lives.proofs.Persist.{IsOver, IsReleased, unheld_released}
 pub start_refused : (a : Ask) (redundant : Bool) (h : Store) → is_held h.held a.instance ≡ true → (meeting_start a redundant h).state.starts ≡ h.starts
 unfolding meeting_start
 start_refused a redundant h held =
-    chosen (λ (d : Deed Msg Store). d.state.starts ≡ h.starts) (not (is_ask a) || is_held h.held a.instance || shows h.view.lines a.instance) (nothing h)
+    chosen (λ (d : Deed Msg Store). d.state.starts ≡ h.starts) (is_discarded a h) (nothing h)
     (cond (redundant && not h.believes) (queueing_redundant a h) (queueing a h)) (λ _. refl)
-    (λ f. absurd (no_both (or_left (not (is_ask a) || is_held h.held a.instance) (shows h.view.lines a.instance) (or_right (not (is_ask a)) (is_held h.held a.instance) held)) f))
+    (λ f.
+    absurd (no_both (or_right (is_some h.comeback) (not (is_ask a) || is_held h.held a.instance || shows h.view.lines a.instance)
+    (or_left (not (is_ask a) || is_held h.held a.instance) (shows h.view.lines a.instance) (or_right (not (is_ask a)) (is_held h.held a.instance) held))) f))
 
 pub start_taken : (p : Params) (c : ℕ) (stamp : Stamp) (link : LinkNo) (a : Ask) (redundant : Bool) (h : Store) → is_held h.held a.instance ≡ true
     → (taking p c stamp link (msg.Start redundant a) h).state.starts ≡ h.starts

@@ -1,5 +1,5 @@
 -- What the single steps of a tick make of a view's lines, and which of them are silent of records, Puts and states.
-use Rattle.std.proofs.Common.{◌≡◌, ℕ, List, [], ◌∷◌, ◌&&◌, Bool, true, false, not, refl, sym, subst, ◌∙◌, ⊎_elim, inl, inr}
+use Rattle.std.proofs.Common.{◌≡◌, ℕ, List, [], ◌∷◌, ◌&&◌, Bool, true, false, not, refl, sym, subst, ◌∙◌, ⊎_elim, inl, inr, is_some}
 use Rattle.std.specs.Prelude.{◌⊎◌}
 use Rattle.tiger_base.specs.declared.number.Stamp.{Stamp}
 use Rattle.tiger_base.specs.declared.tenancy.PieceState.{PieceState}
@@ -111,7 +111,9 @@ believing_lines p c stamp h = chosen (λ (d : Deed Msg Store). d.state.view.line
 
 pub beating_lines : (p : Params) (c : ℕ) (stamp : Stamp) (h : Store) → (beating p c stamp h).state.view.lines ≡ h.view.lines
 unfolding beating
-beating_lines p c stamp h = chosen (λ (d : Deed Msg Store). d.state.view.lines ≡ h.view.lines) _ _ (nothing h) (λ _. refl) (λ _. refl)
+beating_lines p c stamp h =
+    let Same : Deed Msg Store → Type 0 = λ d. d.state.view.lines ≡ h.view.lines in
+    chosen Same (is_some h.comeback) (nothing h) _ (λ _. refl) (λ _. chosen Same _ _ (nothing h) (λ _. refl) (λ _. refl))
 
 same_with_piece : (x : PieceState) (h : Store) → (with_piece_record x h).view.lines ≡ h.view.lines
 unfolding with_piece_record

@@ -14,7 +14,7 @@ use Rattle.tiger_base.specs.declared.message.Msg.TheVariants as msg
 use Rattle.tiger_base.specs.Notes.{noted}
 use Rattle.slot_plan.specs.declared.params.Params.{Params}
 use Rattle.slot_plan.specs.Conditions.{IsPlan}
-use Rattle.slot_plan.specs.Times.{cub_of}
+use Rattle.slot_plan.specs.Times.{cub_of, due}
 use Rattle.slot_plan.specs.Keys.{Key}
 use Rattle.slot_plan.proofs.Times.{cub_apart, seven_cubs}
 use Rattle.node_kit.specs.declared.outbox.Out.{Out}
@@ -34,6 +34,8 @@ use Rattle.lists.specs.Elements.{In}
 use Rattle.lists.proofs.Elements.{chosen, in_left, in_right}
 use Rattle.proof_lives.proofs.Moves.{taken_out, is_taken, with_record_new, from_with_line, IsAt}
 use Rattle.proof_lives.proofs.Taking.{message_took}
+use Rattle.cub_rules.specs.Comebacks.{lets_in, records_let_in, due_of_record}
+use Rattle.cub_changes.proofs.Messages.{of_let_in, in_let_in}
 
 -- a line is found only where it is
 pub found_in : (k : Key) (lines : List Line) → is_some (line_at k lines) ≡ true → (x : Line) × In x lines × IsAt k.0.0 k.1 x
@@ -210,23 +212,27 @@ pub same_start : (v : Instance) (h : Store) → (dropping_start v h).state.view.
 unfolding dropping_start
 same_start v h = refl
 
-pub told_places : (p : Params) (c : ℕ) (s : State) (n : ℕ) (o : Position p c s n) (h : Store) → FindsIts s n h.view.lines (told p c s o.key h).outs
-told_places p c s n o h =
+pub told_places : (p : Params) (c : ℕ) (s : State) (n : ℕ) (o : Position p c s n) (h : Store)
+    → lets_in h.comeback (due p s.tenancy.slot.0 n) ≡ true → FindsIts s n h.view.lines (told p c s o.key h).outs
+told_places p c s n o h lets =
     let g : Store = (dropping_start s.tenancy.instance h).state in
-    let rs : List Rec = records_told s o.key in
+    let rs : List Rec = records_let_in p h.comeback (records_told s o.key) in
+    let at : due_of_record p o.rec ≡ due p s.tenancy.slot.0 n =
+    ap (λ (t : Tenancy). due p t.slot.0 o.rec.visit) o.tenancy ∙ ap (λ (m : ℕ). due p s.tenancy.slot.0 m) o.visit in
+    let may : lets_in h.comeback (due_of_record p o.rec) ≡ true = ap (λ (m : ℕ). lets_in h.comeback m) at ∙ lets in
     let before : List (Out Msg) = (dropping_start s.tenancy.instance h).outs in
     let after : List (Out Msg) = (each_in_turn took rs g).outs in
-    let last : List (Out Msg) = place_told p c s o.key h.view.lines in
+    let last : List (Out Msg) = place_told p c s o.key h in
     record {
       how = ⊎_elim
           (λ w. inl (w.0, subst (λ (ls : List Line). In w.0 ls) (same_start s.tenancy.instance h) w.1, (w.2.0 ∙ ap (λ (t : Tenancy). t.slot.0) o.tenancy, w.2.1 ∙ o.visit)))
-          (λ w. inr (w.0, in_right (taken_out w.0) before (after ++ last) (in_left (taken_out w.0) after last w.2), (position_told p c s o.key w.0 o.at w.1).tenancy, w.4 ∙ o.visit))
-          (each_place rs o.rec g o.told);
+          (λ w. inr (w.0, in_right (taken_out w.0) before (after ++ last) (in_left (taken_out w.0) after last w.2), (position_told p c s o.key w.0 o.at (of_let_in p h.comeback w.0 (records_told s o.key) w.1).0).tenancy, w.4 ∙ o.visit))
+          (each_place rs o.rec g (in_let_in p h.comeback o.rec (records_told s o.key) o.told may));
     }
 
 pub taking_places : (p : Params) (c : ℕ) (stamp : Stamp) (link : LinkNo) (s : State) (n : ℕ) (h : Store) → IsPlan p → is_in_form p (noted (msg.ViewerState s)) ≡ true
     → is_visit_of s.tenancy s.visit ≡ true → is_held h.held s.tenancy.instance ≡ false → IsGiven p c s.tenancy s.visit n
-    → FindsIts s n h.view.lines (taking p c stamp link (msg.ViewerState s) h).outs
-taking_places p c stamp link s n h plan form visit free given =
+    → lets_in h.comeback (due p s.tenancy.slot.0 n) ≡ true → FindsIts s n h.view.lines (taking p c stamp link (msg.ViewerState s) h).outs
+taking_places p c stamp link s n h plan form visit free given lets =
     let o = position_of p c s n plan given in
-    subst (λ (d : Deed Msg Store). FindsIts s n h.view.lines d.outs) (sym (takes_told p c stamp link s o.key h form visit o.at free)) (told_places p c s n o h)
+    subst (λ (d : Deed Msg Store). FindsIts s n h.view.lines d.outs) (sym (takes_told p c stamp link s o.key h form visit o.at free)) (told_places p c s n o h lets)

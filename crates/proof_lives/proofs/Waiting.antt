@@ -106,8 +106,8 @@ pub queue_step : (p : Params) (c : ℕ) (inputs : ℕ → Input Msg) (i : ℕ) (
 queue_step p c inputs i a (Take stamp link m) e q = ⊎_elim
     (λ w. inl w)
     (λ w. inr (started inputs i a (Take stamp link m) e w))
-    ((keep_starts (record { params = p; cub = c; store = store_at p c inputs i }) (Take stamp link m) a).came q)
-queue_step p c inputs i a (Tick stamp) e q = ⊎_elim (λ w. inl w) (λ w. absurd w) ((keep_starts (record { params = p; cub = c; store = store_at p c inputs i }) (Tick stamp) a).came q)
+    ((keep_starts p c (Take stamp link m) a (store_at p c inputs i)).came q)
+queue_step p c inputs i a (Tick stamp) e q = ⊎_elim (λ w. inl w) (λ w. absurd w) ((keep_starts p c (Tick stamp) a (store_at p c inputs i)).came q)
 
 -- what stands in the lists stood there at an earlier input, or came since
 pub queued_since : (p : Params) (c : ℕ) (inputs : ℕ → Input Msg) (i j : ℕ) (a : Ask) → j ≤ i → IsQueued a (store_at p c inputs i).starts → IsQueued a (store_at p c inputs j).starts ⊎ Started inputs a j i

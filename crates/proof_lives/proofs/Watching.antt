@@ -1,5 +1,5 @@
 -- The watch along a cub's life: it shows the last heartbeat heard, and who is believed dead was silent.
-use Rattle.std.proofs.Common.{◌≡◌, ℕ, zero, suc, ◌+◌, ◌<◌, ◌≤◌, ◌%◌, true, false, refl, sym, ap, subst, ◌∙◌, arith, ⊎_elim, inl, inr, eq-or-lt_of_le}
+use Rattle.std.proofs.Common.{◌≡◌, ℕ, zero, suc, ◌+◌, ◌<◌, ◌≤◌, ◌%◌, true, false, refl, sym, ap, subst, ◌∙◌, arith, ⊎_elim, inl, inr, eq-or-lt_of_le, None}
 use Rattle.std.specs.Prelude.{◌⊎◌}
 use Rattle.std.proofs.lemmas.Bool.{ltb-true, eq-eqb}
 use Rattle.tiger_base.specs.declared.number.LinkNo.{LinkNo}
@@ -25,6 +25,8 @@ use Rattle.proof_lives.proofs.Cuts.{goes_whole}
 use Rattle.proof_lives.proofs.Queuing.{taking_watch, takes_beat, beat_heard, ticking_watch}
 use Rattle.proof_lives.proofs.Order.{not_behind}
 use Rattle.proof_lives.proofs.States.{from_tick, tick_true}
+use Rattle.cub_changes.proofs.Coming.{releasing_same, believing_same, inserting_same, splitting_same, forwarding_same, reading_same, serving_same}
+use Rattle.proof_lives.proofs.FirstLife.{first_life}
 
 -- the watch after an input
 pub watch_after : (p : Params) (c : ℕ) (i : Input Msg) (h : Store) → ((deed_of p c i h).state.watch ≡ h.watch) ⊎ ((deed_of p c i h).state.watch ≡ record h.watch { heard = (stamp_of i).reading })
@@ -66,13 +68,13 @@ heard_by p c count inputs life (suc i) j low h b = ⊎_elim
     (eq-or-lt_of_le (let z : j ≤ i = omega arith in z))
 
 -- a heartbeat goes out in each beat of its number
-pub beating_out : (p : Params) (c : ℕ) (stamp : Stamp) (h : Store) → stamp.beat % p.heart ≡ 0 → In (out.Send (way_ahead p c 1) msg.Heartbeat) (beating p c stamp h).outs
+pub beating_out : (p : Params) (c : ℕ) (stamp : Stamp) (h : Store) → h.comeback ≡ None → stamp.beat % p.heart ≡ 0 → In (out.Send (way_ahead p c 1) msg.Heartbeat) (beating p c stamp h).outs
 unfolding beating
-beating_out p c stamp h e = rw (eq-eqb _ _ e) (inl refl)
+beating_out p c stamp h first e = rw (first, eq-eqb _ _ e) (inl refl)
 
-pub ticking_out : (p : Params) (c : ℕ) (stamp : Stamp) (h : Store) → stamp.beat % p.heart ≡ 0 → In (out.Send (way_ahead p c 1) msg.Heartbeat) (ticking p c stamp h).outs
+pub ticking_out : (p : Params) (c : ℕ) (stamp : Stamp) (h : Store) → h.comeback ≡ None → stamp.beat % p.heart ≡ 0 → In (out.Send (way_ahead p c 1) msg.Heartbeat) (ticking p c stamp h).outs
 unfolding ticking
-ticking_out p c stamp h e =
+ticking_out p c stamp h first e =
     let o : Out Msg = out.Send (way_ahead p c 1) msg.Heartbeat in
     let h1 : Store = (releasing p stamp h).state in
     let h2 : Store = (believing p c stamp h1).state in
@@ -81,8 +83,11 @@ ticking_out p c stamp h e =
     let h5 : Store = (forwarding p c stamp h4).state in
     let h6 : Store = (reading p stamp h5).state in
     let h7 : Store = (serving p c stamp h6).state in
+    let still : h7.comeback ≡ None =
+    serving_same p c stamp h6 ∙ (reading_same p c stamp h5 ∙ (forwarding_same p c stamp h4 ∙ (splitting_same p c stamp h3
+    ∙ (inserting_same p c stamp h2 ∙ (believing_same p c stamp h1 ∙ (releasing_same p c stamp h ∙ first)))))) in
     in_right o (releasing p stamp h).outs _ (in_right o (believing p c stamp h1).outs _ (in_right o (inserting p c stamp h2).outs _ (in_right o (splitting p c stamp h3).outs _
-    (in_right o (forwarding p c stamp h4).outs _ (in_right o (reading p stamp h5).outs _ (in_right o (serving p c stamp h6).outs _ (beating_out p c stamp h7 e)))))))
+    (in_right o (forwarding p c stamp h4).outs _ (in_right o (reading p stamp h5).outs _ (in_right o (serving p c stamp h6).outs _ (beating_out p c stamp h7 still e)))))))
 
 module _ (p : Params) (lives : Lives) (are : AreLives p lives) where
   pub beats : {c b l : ℕ} → TickedAt p lives c b l → b % p.heart ≡ 0 → DidAt p lives c (out.Send (way_ahead p c 1) msg.Heartbeat) b
@@ -95,7 +100,7 @@ module _ (p : Params) (lives : Lives) (are : AreLives p lives) where
         done = w.done;
         in_beat = ap (λ (i : Input Msg). (stamp_of i).beat) w.is;
         did = goes_whole p lives c w.at (out.Send (way_ahead p c 1) msg.Heartbeat) w.whole
-            (from_tick p c inputs w.at stamp (out.Send (way_ahead p c 1) msg.Heartbeat) w.is (ticking_out p c stamp (store_at p c inputs w.at) e));
+            (from_tick p c inputs w.at stamp (out.Send (way_ahead p c 1) msg.Heartbeat) w.is (ticking_out p c stamp (store_at p c inputs w.at) (first_life p c inputs w.at) e));
       }
 
   pub since : (c b l y : ℕ) (w : TickAt p lives c b l) → is_silent (store_at p c (lives.input c) w.at).watch l ≡ true → HeardAt p lives c y → y ≤ b → time_of p y + p.deadman < l

@@ -7,18 +7,11 @@ use Rattle.slot_plan.specs.Times.{time_of}
 use Rattle.node_kit.specs.declared.outbox.Out.{Out}
 use Rattle.node_kit.specs.Outputs.{cut_at}
 use Rattle.node_kit.specs.Steps.{Deed, Input, stamp_of}
-use Rattle.node_kit.specs.Steps.Input.{Take, Tick}
 use Rattle.run_facts.specs.Events.{is_tick_input}
 use Rattle.cub_rules.specs.declared.store.Store.{Store}
 use Rattle.cub_rules.specs.State.{opening_store}
-use Rattle.cub_rules.specs.Messages.{taking}
-use Rattle.cub_rules.specs.Ticks.{ticking}
+pub use Rattle.cub_rules.specs.Cubs.{deed_of}
 pub use Rattle.lists.specs.Elements.{In}
-
--- what cub c does with an input
-abbrev pub deed_of : Params → ℕ → Input Msg → Store → Deed Msg Store
-deed_of p c (Take stamp link m) h = taking p c stamp link m h
-deed_of p c (Tick stamp) h = ticking p c stamp h
 
 -- what it keeps before its input of number i, and what it puts out at that
 abbrev pub store_at : Params → ℕ → (ℕ → Input Msg) → ℕ → Store

@@ -15,7 +15,7 @@ use Rattle.node_kit.specs.declared.outbox.Out.TheVariants as out
 use Rattle.node_kit.specs.Ways.{way_to_disk}
 use Rattle.partial_view.specs.declared.line.Line.{Line}
 use Rattle.cub_rules.specs.declared.store.Store.{Store}
-use Rattle.cub_rules.specs.Ticks.{must_read, ask_outs, asked_of_disk, leaves_by, reading_blocks, reading_pieces, reading}
+use Rattle.cub_rules.specs.Ticks.{must_read, ask_outs, asked_of_disk, leaves_by, reading_blocks, reading_pieces, reading, asked_block}
 use Rattle.lists.specs.Elements.{In}
 use Rattle.lists.proofs.Elements.{chosen, from_filter, from_flat_map, in_cases}
 use Rattle.lists.proofs.Each.{all_in}
@@ -23,6 +23,9 @@ use Rattle.proof_journals.proofs.Ones.{IsNone, IsOne, none_one, one_append}
 use Rattle.proof_parts.proofs.Found.{one_want}
 use Rattle.proof_facts.specs.Pieces.{piece, AsksFor}
 use Rattle.proof_parcels.proofs.Apart.{AreApart, OtherKey, Differ, IsOnce, apart_filter}
+use Rattle.cub_rules.specs.Comebacks.{serves_at}
+use Rattle.slot_plan.specs.Keys.{due_of}
+use Rattle.partial_view.specs.Lines.{key_of}
 
 -- ---- lists
 
@@ -112,13 +115,18 @@ module _ (p : Params) (stamp : Stamp) (h : Store) where
       let soon : PieceState → Bool = leaves_by p (stamp.reading + p.read_lead) in
       let late : List PieceState = filter soon h.unasked.items in
       let line_ask : Line → Out Msg = λ x. out.Send (way_to_disk p (disk_of p x.rec.visit)) (msg.ReadAsk (want_of x.rec)) in
-      subst (λ (os : List (Out Msg)). IsOne (asks w) (flat_map (ask_outs p stamp) h.view.lines ++ os)) (one_by_one (asked_of_disk p) late)
-      (one_of_records (asks w) w h.view.lines late [] (ask_outs p stamp) (λ x. asked_of_disk p x ∷ []) once.lines_apart
+      subst (λ (os : List (Out Msg)). IsOne (asks w) (flat_map (ask_outs p stamp h.comeback) h.view.lines ++ os)) (one_by_one (asked_of_disk p) late)
+      (one_of_records (asks w) w h.view.lines late [] (ask_outs p stamp h.comeback) (λ x. asked_of_disk p x ∷ []) once.lines_apart
       (apart_filter Differ soon h.unasked.items once.unasked_apart)
-      (λ x. one_if (asks w) (must_read p stamp x) (line_ask x ∷ []) (one_alone (asks w) (line_ask x)))
+      (λ x. one_if (asks w) (must_read p stamp x) (asked_block p h.comeback x)
+      (one_if (asks w) (serves_at h.comeback (due_of p (key_of x))) (line_ask x ∷ []) (one_alone (asks w) (line_ask x))))
       (λ x. one_alone (asks w) (asked_of_disk p x)) (λ o i t. i)
-      (λ x. chosen (AllByRecursion (IsFor (asks w) w (want_of x.rec))) (must_read p stamp x) (line_ask x ∷ []) []
+      (λ x.
+      let Are : List (Out Msg) → Type 0 = AllByRecursion (IsFor (asks w) w (want_of x.rec)) in
+      chosen Are (must_read p stamp x) (asked_block p h.comeback x) []
+      (λ _. chosen Are (serves_at h.comeback (due_of p (key_of x))) (line_ask x ∷ []) []
       (λ _. (one_want w (want_of x.rec), tt)) (λ _. tt))
+      (λ _. tt))
       (λ x. (one_want w (want_of_piece x), tt)) (λ x i. low x (from_filter soon x h.unasked.items i).0)
       (λ x y a b i j k l visits numbers slots.
       let f = from_filter soon x h.unasked.items i in

@@ -25,7 +25,7 @@ use Rattle.partial_view.specs.declared.line.Line.{Line}
 use Rattle.cub_rules.specs.declared.store.Store.{Store}
 use Rattle.cub_rules.specs.declared.store.StoredPart.{StoredPart}
 use Rattle.cub_rules.specs.Records.{stored_for, dropped}
-use Rattle.cub_rules.specs.Ticks.{is_served, is_past, leaves_by, sent_whole, serve_outs, sent_piece, piece_outs, serving_blocks, dropping_backups, serving_pieces, serving}
+use Rattle.cub_rules.specs.Ticks.{is_served, is_past, leaves_by, sent_whole, serve_outs, sent_piece, piece_outs, serving_blocks, dropping_backups, serving_pieces, serving, served_whole}
 use Rattle.cub_changes.specs.Changes.{Change, did}
 use Rattle.cub_changes.specs.Changes.Change.{ServeBlocks, DropBackups, ServePieces}
 use Rattle.cub_changes.specs.Outputs.{Output, output, ComesOf}
@@ -39,6 +39,10 @@ use Rattle.proof_parts.proofs.Found.{one_want}
 use Rattle.proof_facts.specs.Pieces.{piece, want, part_sent, HasOwn, IsToServe}
 use Rattle.proof_parcels.proofs.Apart.{Differ, IsOnce, apart_filter}
 use Rattle.proof_parcels.proofs.AskOuts.{one_alone, one_if, IsFor, one_of_records}
+use Rattle.cub_rules.specs.declared.comeback.Comeback.{Comeback}
+use Rattle.cub_rules.specs.Comebacks.{serves_at}
+use Rattle.slot_plan.specs.Keys.{due_of}
+use Rattle.partial_view.specs.Lines.{key_of}
 
 -- an own record by its kind
 pub own_rec : (r : Rec) → is_own r.kind ≡ true → r ≡ own_of r.tenancy r.visit
@@ -81,11 +85,12 @@ module _ (p : Params) (c : ℕ) (stamp : Stamp) (h : Store) where
   IsOfRecord (out.Send link (msg.Piece w sent part)) = (1 ≤ w.piece) × IsServeOf p c stamp h link w sent part
   IsOfRecord other = Unit {0}
 
-  -- in serving, in which pieces and parts are those that were there when it began
+  -- in serving, in which pieces and parts are those that were there when it began, and so is whether the cub came back
   record IsInServing (x : Change) (q : Store) : Type 0 where
     lines : x ≡ ServeBlocks → q.view.lines ≡ h.view.lines
     pieces : q.pieces.items ≡ h.pieces.items
     parts : q.parts ≡ h.parts
+    comeback : q.comeback ≡ h.comeback
 
   of_record : ((x : PieceState) → In x h.pieces.items → 1 ≤ x.piece) → (x : Change) (q : Store) → IsInServing x q
       → AllByRecursion IsOfRecord (did p c stamp x q).outs
@@ -100,11 +105,13 @@ module _ (p : Params) (c : ℕ) (stamp : Stamp) (h : Store) where
           let l : Line = comes.0 in
           let is : w ≡ want_of l.rec = comes.3 in
           let there : In l h.view.lines =
-          subst (λ (ls : List Line). In l ls) (s.lines comes.1) comes.2.0 in (
+          subst (λ (ls : List Line). In l ls) (s.lines comes.1) comes.2.0 in
+          let serves : serves_at h.comeback (due_of p (key_of l)) ≡ true =
+          subst (λ (o : Option Comeback). serves_at o (due_of p (key_of l)) ≡ true) s.comeback comes.5 in (
             ap (λ (z : Want). z.piece) is,
             subst (λ (z : Want). IsServeOf p c stamp h (way_to_viewers p c) z stamp.beat part) (sym is) (record {
               tenancy = l.rec.tenancy;
-              serves = inl (refl, l, (there, own_rec l.rec (own_if_served p stamp l comes.2.1)), comes.2.1);
+              serves = inl (refl, l, (there, own_rec l.rec (own_if_served p stamp l comes.2.1)), comes.2.1, serves);
               same = refl;
               stored = stored w (want_of l.rec) part is comes.4;
               named = refl;
@@ -136,16 +143,16 @@ module _ (p : Params) (c : ℕ) (stamp : Stamp) (h : Store) where
       let h1 : Store = (serving_blocks p c stamp h).state in
       let h2 : Store = (dropping_backups p stamp h1).state in
       all_append IsOfRecord (serving_blocks p c stamp h).outs _
-      (of_record low ServeBlocks h (record { lines = λ _. refl; pieces = refl; parts = refl }))
+      (of_record low ServeBlocks h (record { lines = λ _. refl; pieces = refl; parts = refl; comeback = refl }))
       (all_append IsOfRecord (dropping_backups p stamp h1).outs (serving_pieces p c stamp h2).outs
-      (of_record low DropBackups h1 (record { lines = λ e. absurd (cc); pieces = refl; parts = refl }))
-      (of_record low ServePieces h2 (record { lines = λ e. absurd (cc); pieces = refl; parts = refl })))
+      (of_record low DropBackups h1 (record { lines = λ e. absurd (cc); pieces = refl; parts = refl; comeback = refl }))
+      (of_record low ServePieces h2 (record { lines = λ e. absurd (cc); pieces = refl; parts = refl; comeback = refl })))
 
   -- the other way round: what is to be served is sent, if its part is stored
   line_serves : (t : Tenancy) (n : ℕ) (x : Line) (part : LibraryPart) → HasOwn h t n x → is_served p stamp x ≡ true
-      → stored_for (want t n 0) h.parts ≡ Some part
-      → In (out.Send (way_to_viewers p c) (msg.Whole (want t n 0) stamp.beat part)) (serve_outs p c stamp h.parts x)
-  line_serves t n x part own served stored =
+      → serves_at h.comeback (due_of p (key_of x)) ≡ true → stored_for (want t n 0) h.parts ≡ Some part
+      → In (out.Send (way_to_viewers p c) (msg.Whole (want t n 0) stamp.beat part)) (serve_outs p c stamp h.comeback h.parts x)
+  line_serves t n x part own served serves stored =
       let is : want_of x.rec ≡ want t n 0 = ap want_of own.1 in
       let found : stored_for (want_of x.rec) h.parts ≡ Some part = ap (λ (z : Want). stored_for z h.parts) is
       ∙ stored in
@@ -154,19 +161,19 @@ module _ (p : Params) (c : ℕ) (stamp : Stamp) (h : Store) where
       subst (λ (s : Option LibraryPart). In (out.Send (way_to_viewers p c) (msg.Whole (want_of x.rec) stamp.beat
       part)) (sent_whole p c stamp (want_of x.rec) s)) (sym found) (inl refl) in
       let both : In (out.Send (way_to_viewers p c) (msg.Whole (want_of x.rec) stamp.beat part))
-      (serve_outs p c stamp h.parts x) =
-      (rw served (in_left _ sent (dropped x ∷ []) there)) in
+      (serve_outs p c stamp h.comeback h.parts x) =
+      (rw (served, serves) (in_left _ sent (dropped x ∷ []) there)) in
       subst (λ (z : Want). In (out.Send (way_to_viewers p c) (msg.Whole z stamp.beat part))
-      (serve_outs p c stamp h.parts x)) is both
+      (serve_outs p c stamp h.comeback h.parts x)) is both
 
   pub serves_out : (t : Tenancy) (n j : ℕ) (part : LibraryPart) → IsToServe p stamp h t n j
       → stored_for (want t n j) h.parts ≡ Some part
       → In (out.Send (way_to_viewers p c) (part_sent (want t n j) stamp.beat part)) (serving p c stamp h).outs
   unfolding serving serving_blocks dropping_backups serving_pieces
   serves_out t n zero part to_serve stored = ⊎_elim
-      (λ l. in_left _ (flat_map (serve_outs p c stamp h.parts) h.view.lines) _
-      (in_flat_map (serve_outs p c stamp h.parts) (out.Send (way_to_viewers p c)
-      (msg.Whole (want t n 0) stamp.beat part)) l.1 h.view.lines l.2.0 (line_serves t n l.1 part l.2 l.3 stored)))
+      (λ l. in_left _ (flat_map (serve_outs p c stamp h.comeback h.parts) h.view.lines) _
+      (in_flat_map (serve_outs p c stamp h.comeback h.parts) (out.Send (way_to_viewers p c)
+      (msg.Whole (want t n 0) stamp.beat part)) l.1 h.view.lines l.2.0 (line_serves t n l.1 part l.2 l.3 l.4 stored)))
       (λ l. let low = l.0 in absurd (omega arith))
       to_serve
   serves_out t n (suc k) part to_serve stored = ⊎_elim
@@ -179,7 +186,7 @@ module _ (p : Params) (c : ℕ) (stamp : Stamp) (h : Store) where
       subst (λ (s : Option LibraryPart). In (out.Send (way_to_viewers p c) (msg.Piece (want t n (suc k)) stamp.beat
       part)) (sent_piece p c stamp (want t n (suc k)) s)) (sym stored) (inl refl) in
       let left : List Line = (serving_blocks p c stamp h).state.view.lines in
-      let found = in_right _ (flat_map (serve_outs p c stamp h.parts) h.view.lines) _
+      let found = in_right _ (flat_map (serve_outs p c stamp h.comeback h.parts) h.view.lines) _
       (in_right _ (map dropped (filter (is_past p stamp) left)) (flat_map (piece_outs p c stamp h.parts) late)
       (in_flat_map (piece_outs p c stamp h.parts) (out.Send (way_to_viewers p c)
       (msg.Piece (want t n (suc k)) stamp.beat part)) x late (in_filter (leaves_by p stamp.reading) x
@@ -221,16 +228,19 @@ module _ (p : Params) (c : ℕ) (stamp : Stamp) (h : Store) where
       let late : List PieceState = filter leaves h.pieces.items in
       let left : List Line = filter (is_past p stamp) (serving_blocks p c stamp h).state.view.lines in
       let whole : Line → List (Out Msg) = λ x. sent_whole p c stamp (want_of x.rec) (stored_for (want_of x.rec) h.parts) in
-      one_of_records (sends w) w h.view.lines late (map dropped left) (serve_outs p c stamp h.parts) (piece_outs p c stamp h.parts)
+      let served : Line → List (Out Msg) = served_whole p c stamp h.comeback h.parts in
+      let serves : Line → Bool = λ x. serves_at h.comeback (due_of p (key_of x)) in
+      one_of_records (sends w) w h.view.lines late (map dropped left) (serve_outs p c stamp h.comeback h.parts) (piece_outs p c stamp h.parts)
       once.lines_apart (apart_filter Differ leaves h.pieces.items once.pieces_apart)
-      (λ x. one_if (sends w) (is_served p stamp x) (whole x ++ dropped x ∷ [])
-      (one_append (sends w) (whole x) (dropped x ∷ []) (one_whole w (want_of x.rec) (stored_for (want_of x.rec) h.parts)).0
+      (λ x. one_if (sends w) (is_served p stamp x) (served x ++ dropped x ∷ [])
+      (one_append (sends w) (served x) (dropped x ∷ []) (one_if (sends w) (serves x) (whole x) (one_whole w (want_of x.rec) (stored_for (want_of x.rec) h.parts)).0)
       (one_alone (sends w) (dropped x)) (λ a b i j t s. none_by (sends w) (dropped x ∷ []) (refl, tt) b j s)))
       (λ x. (one_piece w (want_of_piece x) (stored_for (want_of_piece x) h.parts)).0)
       (none_by (sends w) (map dropped left) (drops_none w left))
-      (λ x. all_if (IsFor (sends w) w (want_of x.rec)) (is_served p stamp x) (whole x ++ dropped x ∷ [])
-      (λ _. all_append (IsFor (sends w) w (want_of x.rec)) (whole x) (dropped x ∷ [])
-      (one_whole w (want_of x.rec) (stored_for (want_of x.rec) h.parts)).1 ((λ t. absurd (cc)), tt)))
+      (λ x. all_if (IsFor (sends w) w (want_of x.rec)) (is_served p stamp x) (served x ++ dropped x ∷ [])
+      (λ _. all_append (IsFor (sends w) w (want_of x.rec)) (served x) (dropped x ∷ [])
+      (all_if (IsFor (sends w) w (want_of x.rec)) (serves x) (whole x)
+      (λ _. (one_whole w (want_of x.rec) (stored_for (want_of x.rec) h.parts)).1)) ((λ t. absurd (cc)), tt)))
       (λ x. (one_piece w (want_of_piece x) (stored_for (want_of_piece x) h.parts)).1)
       (λ x i. low x (from_filter leaves x h.pieces.items i).0)
       (λ x y a b i j k l visits numbers slots.

@@ -44,7 +44,7 @@ read_goes : (p : Params) → IsPlan p → (stamp : Stamp) (g : Store) (t : Tenan
 unfolding reading reading_blocks reading_pieces
 read_goes p plan stamp g t n j asks =
     let soon = leaves_by p (stamp.reading + p.read_lead) in
-    let blocks : List (Out Msg) = flat_map (ask_outs p stamp) g.view.lines in
+    let blocks : List (Out Msg) = flat_map (ask_outs p stamp g.comeback) g.view.lines in
     let pieces : List (Out Msg) = map (asked_of_disk p) (filter soon g.unasked.items) in
     ⊎_elim
     (λ a.
@@ -54,9 +54,9 @@ read_goes p plan stamp g t n j asks =
     ap (λ r. out.Send (way_to_disk p (disk_of p r.visit)) (msg.ReadAsk (want_of r))) a.2.1
     ∙ (ap (λ d. out.Send (way_to_disk p d) (msg.ReadAsk (want t n 0))) (sym (whole_disk p plan n))
     ∙ ap (λ i. read_of p t n i) (sym a.0)) in
-    let out_of : In o (ask_outs p stamp x) = rw (a.3) (inl refl) in
+    let out_of : In o (ask_outs p stamp g.comeback x) = rw (a.3, a.4) (inl refl) in
     in_left (read_of p t n j) blocks pieces
-    (subst (λ q. In q blocks) same (in_flat_map (ask_outs p stamp) o x g.view.lines a.2.0 out_of)))
+    (subst (λ q. In q blocks) same (in_flat_map (ask_outs p stamp g.comeback) o x g.view.lines a.2.0 out_of)))
     (λ a.
     let y : PieceState = record { tenancy = t; visit = n; piece = j } in
     in_right (read_of p t n j) blocks pieces

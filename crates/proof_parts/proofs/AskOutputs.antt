@@ -24,7 +24,7 @@ use Rattle.node_kit.specs.Ways.{way_to_disk}
 use Rattle.partial_view.specs.declared.line.Line.{Line}
 use Rattle.cub_rules.specs.declared.store.Store.{Store}
 use Rattle.cub_rules.specs.Messages.{taking}
-use Rattle.cub_rules.specs.Ticks.{must_read, ask_outs, asked_of_disk, leaves_by, reading_blocks, reading_pieces, reading, ticking}
+use Rattle.cub_rules.specs.Ticks.{must_read, ask_outs, asked_of_disk, leaves_by, reading_blocks, reading_pieces, reading, ticking, asked_block}
 use Rattle.lists.specs.Elements.{In}
 use Rattle.lists.proofs.Each.{all_append, all_map, all_flat_map, all_if, all_wider}
 use Rattle.cub_changes.proofs.Order.{is_ask, all_of_part, asks_in_reading, no_ask_taken}
@@ -32,6 +32,9 @@ use Rattle.lists.proofs.Elements.{from_filter}
 use Rattle.proof_facts.specs.Pieces.{before_reading}
 use Rattle.proof_service.specs.Disks.{disk_at}
 use Rattle.proof_parts.specs.Asks.{IsAskOf}
+use Rattle.cub_rules.specs.Comebacks.{serves_at}
+use Rattle.slot_plan.specs.Keys.{due_of}
+use Rattle.partial_view.specs.Lines.{key_of}
 
 -- the whole block is asked of the visit's disk
 pub whole_disk : (p : Params) → IsPlan p → (n : ℕ) → disk_at p n 0 ≡ disk_of p n
@@ -78,19 +81,22 @@ pub reading_asks : (p : Params) → IsPlan p → (stamp : Stamp) (g : Store)
     → AllByRecursion (OfAsk (IsAskOf p stamp g)) (reading p stamp g).outs
 unfolding reading reading_blocks reading_pieces
 reading_asks p plan stamp g low =
-    all_append Q (flat_map (ask_outs p stamp) g.view.lines) (map (asked_of_disk p) (filter soon g.unasked.items))
-    (all_flat_map Q (ask_outs p stamp) g.view.lines
+    all_append Q (flat_map (ask_outs p stamp g.comeback) g.view.lines) (map (asked_of_disk p) (filter soon g.unasked.items))
+    (all_flat_map Q (ask_outs p stamp g.comeback) g.view.lines
     (λ x k.
-    all_if Q (must_read p stamp x) (out.Send (way_to_disk p (disk_of p x.rec.visit)) (msg.ReadAsk (want_of x.rec)) ∷ [])
-    (λ must. (
+    let o : Out Msg = out.Send (way_to_disk p (disk_of p x.rec.visit)) (msg.ReadAsk (want_of x.rec)) in
+    all_if Q (must_read p stamp x) (asked_block p g.comeback x)
+    (λ must.
+    all_if Q (serves_at g.comeback (due_of p (key_of x))) (o ∷ [])
+    (λ serves. (
       record {
         tenancy = x.rec.tenancy;
-        asks = inl (refl, x, (k, own_line p stamp x must), must);
+        asks = inl (refl, x, (k, own_line p stamp x must), must, serves);
         same = refl;
         way = ap (way_to_disk p) (sym (whole_disk p plan x.rec.visit));
       },
       tt,
-    ))))
+    )))))
     (all_map Q (asked_of_disk p) (filter soon g.unasked.items)
     (λ y k.
     let f = from_filter soon y g.unasked.items k in

@@ -69,7 +69,7 @@ module _ (p : Params) (plan : IsPlan p) (lives : Lives) (are : AreLives p lives)
       (λ s.
       let g : SplitAt p lives c t n e = s.1 in
       let split : IsSplitOff p c (made_of e g.reading) (store_at p c (lives.input c) g.tick.at) (piece t n j) =
-      record { believes = g.believes; line = g.line; there = g.there; must = g.must; first = s.0 } in
+      record { believes = g.believes; line = g.line; there = g.there; must = g.must; left = g.left; first = s.0 } in
       record {
         small = g.tick.small;
         at = g.tick.at;
@@ -80,7 +80,7 @@ module _ (p : Params) (plan : IsPlan p) (lives : Lives) (are : AreLives p lives)
       })
       (λ (m : MirroredAt p lives c t n j e).
       let told : IsMirrored p c (msg.MirrorState (piece t n j)) (store_at p c (lives.input c) m.at) (piece t n j) =
-      record { is = refl; free = m.free; here = m.here } in
+      record { is = refl; free = m.free; here = m.here; lets = m.lets } in
       record {
         small = m.small;
         at = m.at;

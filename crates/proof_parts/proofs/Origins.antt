@@ -57,6 +57,7 @@ module _ (p : Params) (plan : IsPlan p) (lives : Lives) (are : AreLives p lives)
         line = w.line;
         there = w.there;
         must = w.must;
+        left = w.left;
         number = 0;
         goes = inl whole;
       })
@@ -84,6 +85,7 @@ module _ (p : Params) (plan : IsPlan p) (lives : Lives) (are : AreLives p lives)
         formed = formed c small a stamp link (msg.MirrorState x) low told;
         free = w.free;
         here = w.here;
+        lets = w.lets;
         new = new;
       })))
 

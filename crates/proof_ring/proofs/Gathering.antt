@@ -127,7 +127,7 @@ module _ (p : Params) (catalogue : Catalogue) (r : Facts) (q : PieceFacts) (w : 
     watches = λ tick first. cubs.watches tick;
     heard_from = λ heard small next. ring.heard_from heard small next;
     split_due = λ believed entered next tick first left soon.
-        split.split_due believed entered next tick soon;
+        split.split_due believed entered next tick left soon;
     mirrors_due = λ k a tick low high. split.mirrors_due k a tick low high;
     mirror_arrives = λ c b a to here came life let_in late.
         split.mirror_arrives c b a to here came late;

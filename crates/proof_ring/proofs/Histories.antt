@@ -43,6 +43,7 @@ use Rattle.proof_blocks.proofs.Laws as blocks
 use Rattle.proof_ring.specs.Histories.{pieces_of, blocks_of, IsFiledHistory, HistoriesMeetTheLaws, HistoriesHaveOneSchedule, HistoriesAreRightlyRead, HistoriesServeTheirBlocks}
 use Rattle.proof_ring.proofs.Fitting.{ring_fits}
 use Rattle.proof_ring.proofs.Gathering.{IsPiece, laws_of, piece_laws_of, service_laws_of, disk_laws_of}
+use Rattle.proof_links.proofs.States.{no_back}
 
 module _ {S : Type 0} (step : S → Input Msg → Deed Msg S) (p : Params) (orders : List Order) (disk_at : ℕ → DiskState) (h : History Msg S)
     (plan : IsPlan p) (ring : IsRingHistory step p orders disk_at h) where
@@ -113,7 +114,7 @@ module _ {S : Type 0} (step : S → Input Msg → Deed Msg S) (p : Params) (cata
 
   pub service : (end : ℕ) → IsUpTo p end h → ServiceLaws p R Q W end
   service end up =
-      service_laws_of p catalogue R Q W whole_reads piece_reads none (λ c from b told. told)
+      service_laws_of p catalogue R Q W whole_reads piece_reads none (λ c from b told. no_back plan ring told)
       (ring_laws step p orders disk_at h plan ring)
       (cubs_laws step p orders disk_at h plan ring) split_laws_hold end (λ c b low small. ends plan ring up low small)
 

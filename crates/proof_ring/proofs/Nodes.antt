@@ -1,5 +1,5 @@
 -- Each node of a ring puts out what its rules say, as far as its death lets it.
-use Rattle.std.proofs.Common.{◌≡◌, ℕ, zero, suc, ◌+◌, ◌<◌, ◌≤◌, List, [], true, false, Option, None, refl, sym, ap, ◌∙◌, arith}
+use Rattle.std.proofs.Common.{◌≡◌, ℕ, zero, suc, ◌+◌, ◌<◌, ◌≤◌, List, [], true, false, Option, None, refl, sym, ap, ◌∙◌, arith, ⊎_elim}
 use Rattle.tiger_base.specs.declared.number.Stamp.{Stamp}
 use Rattle.tiger_base.specs.declared.message.Msg.{Msg}
 use Rattle.tiger_base.specs.declared.message.Msg.TheVariants as msg
@@ -22,14 +22,15 @@ use Rattle.viewer_core.specs.Rules.{viewers_step}
 use Rattle.ring_nodes.specs.declared.nodes.AnyNode.{AnyNode}
 use Rattle.ring_nodes.specs.declared.nodes.AnyNode.TheVariants as node
 use Rattle.ring_nodes.specs.AllNodes.{any_step, opening_cub, opening_controller}
-use Rattle.proof_lives.specs.Lives.{cut_outs, outs_in, store_at, outs_at}
+use Rattle.proof_lives.specs.Lives.{cut_outs, outs_in, store_at, outs_at, beat_at, ticks_at}
 use Rattle.proof_lives.specs.Histories.{input_of, has_input, cut_of_event, acting, lives_of}
-use Rattle.proof_lives.proofs.Acting.{acts_at, alive_acts, alive_whole, cut_same}
+use Rattle.proof_lives.proofs.Acting.{acts_at, alive_acts, alive_whole, cut_same, life_to}
 use Rattle.lists.proofs.Elements.{chosen}
-use Rattle.proof_lives.proofs.Wrapped.{cub_with, cub_state, cub_outs, after_state, event_outs}
+use Rattle.proof_lives.proofs.Wrapped.{cub_with, cub_state, cub_outs, after_state, event_outs, last_at, life_goes_on}
 use Rattle.proof_controller.specs.Controllers.{controller, command, known_at, commands_at}
 use Rattle.proof_facts.specs.Rings.{node_count, node_of_disk, viewers}
 use Rattle.proof_ring.specs.Rings.{IsRing, RingsAreHistories}
+use Rattle.std.proofs.lemmas.Bool.{cases_lt}
 
 -- A disk never changes.
 pub answers_stays : (stamp : Stamp) (m : Msg) (d : DiskState) → (answers stamp m d).state ≡ d
@@ -86,20 +87,24 @@ module _ {G : Type 0} (h : History Msg (AnyNode G)) (n top : ℕ) (acts : (i : �
   pub outs_are : (i : ℕ) → i < top → outs noted any_step h n i ≡ cut_outs (cut_of_event (h.event n i)) (any_step (state i) (inputs i)).outs
   outs_are i low = event_outs any_step (h.event n i) (past noted any_step h n i) (acts i low)
 
-  pub cub_keeps : (p : Params) → h.first n ≡ opening_cub p n → (i : ℕ) → i ≤ top → state i ≡ node.Cub (cub_with p n (store_at p n inputs i))
-  cub_keeps p first zero low = first
-  cub_keeps p first (suc i) low =
-      next_state i (omega arith)
-      ∙ ap (λ (s : AnyNode G). (any_step s (inputs i)).state) (cub_keeps p first i (omega arith))
-      ∙ ap (λ s. node.Cub s) (cub_state p n (store_at p n inputs i) (inputs i))
+  -- A cub that ends each beat by a tick comes back by none.
+  module _ (in_beat : (i : ℕ) → i < top → beat_at inputs i ≡ ticks_at inputs i) where
+    pub cub_keeps : (p : Params) → h.first n ≡ opening_cub p n → (i : ℕ) → i ≤ top
+        → state i ≡ node.Cub (cub_with p n (store_at p n inputs i) (last_at inputs i))
+    cub_keeps p first zero low = first
+    cub_keeps p first (suc i) low =
+        next_state i (omega arith)
+        ∙ ap (λ (s : AnyNode G). (any_step s (inputs i)).state) (cub_keeps p first i (omega arith))
+        ∙ ap (λ s. node.Cub s)
+        (cub_state p n (store_at p n inputs i) (last_at inputs i) (inputs i) (life_goes_on top inputs in_beat i (omega arith)))
 
-  pub cub_puts_out : (p : Params) → h.first n ≡ opening_cub p n → (i : ℕ) → i < top
-      → outs noted any_step h n i ≡ cut_outs (cut_of_event (h.event n i)) (outs_at p n inputs i)
-  cub_puts_out p first i low =
-      outs_are i low
-      ∙ ap (λ (os : List (Out Msg)). cut_outs (cut_of_event (h.event n i)) os)
-      (ap (λ (s : AnyNode G). (any_step s (inputs i)).outs) (cub_keeps p first i (omega arith))
-      ∙ cub_outs p n (store_at p n inputs i) (inputs i))
+    pub cub_puts_out : (p : Params) → h.first n ≡ opening_cub p n → (i : ℕ) → i < top
+        → outs noted any_step h n i ≡ cut_outs (cut_of_event (h.event n i)) (outs_at p n inputs i)
+    cub_puts_out p first i low =
+        outs_are i low
+        ∙ ap (λ (os : List (Out Msg)). cut_outs (cut_of_event (h.event n i)) os)
+        (ap (λ (s : AnyNode G). (any_step s (inputs i)).outs) (cub_keeps p first i (omega arith))
+        ∙ cub_outs p n (store_at p n inputs i) (last_at inputs i) (inputs i) (life_goes_on top inputs in_beat i low))
 
   -- ---- a node that does not die in these events
 
@@ -150,7 +155,14 @@ module _ {G : Type 0} {p : Params} {orders : List Order} {disk_at : ℕ → Disk
   of_cub c i small low =
       let here : (j : ℕ) → j < h.count c → is_return (h.event c j) ≡ false = λ j l. ring.run.here c j (omega arith) l in
       let ended : (j : ℕ) → j < h.count c → is_death (h.event c j) ≡ true → j + 1 ≡ h.count c = λ j l d. ring.run.ended c j (omega arith) l d in
-      cub_puts_out h c (acting h c) (λ j l. (acts_at h c here ended j l).input) p (ring.opens.cubs c small) i low
+      let inside : c < node_count p = omega arith in
+      let most : acting h c ≤ h.count c = ⊎_elim
+      (λ (l : h.count c < acting h c). let z = (acts_at h c here ended (h.count c) l).done in absurd (omega arith))
+      (λ (le : acting h c ≤ h.count c). le)
+      (cases_lt (h.count c) (acting h c)) in
+      let life = life_to any_step p (node_count p) h ring.run c (acting h c) inside most
+      (λ j l. ring.short c j inside (acts_at h c here ended j l).done) in
+      cub_puts_out h c (acting h c) (λ j l. (acts_at h c here ended j l).input) life.in_beat p (ring.opens.cubs c small) i low
       ∙ ap (λ (o : Option ℕ). cut_outs o (outs_at p c (λ k. input_of (h.event c k)) i)) (sym (cut_same h c here ended i low))
 
   module _ (n : ℕ) (known : n < node_count p) (high : p.cubs ≤ n) where

@@ -17,7 +17,7 @@ use Rattle.slot_plan.specs.Conditions.{IsPlan}
 use Rattle.slot_plan.specs.Times.{cub_of}
 use Rattle.slot_plan.proofs.Times.{cub_below, same_cub}
 use Rattle.deschedule.specs.Holds.{is_held}
-use Rattle.mirror_schedule.specs.Pieces.{is_in}
+use Rattle.mirror_schedule.specs.Pieces.{is_in, leaving_of}
 use Rattle.node_kit.specs.declared.outbox.Out.TheVariants as out
 use Rattle.node_kit.specs.Links.{links_of}
 use Rattle.node_kit.specs.Steps.{Input, stamp_of}
@@ -61,6 +61,7 @@ use Rattle.proof_splits.specs.PieceRecords.{IsSplitOff, Enters, CutsOff, StandsS
 use Rattle.proof_splits.proofs.PieceSets.{there_is_in}
 use Rattle.proof_splits.proofs.Standing.{keeps_pieces}
 use Rattle.proof_splits.proofs.MirrorStates.{of_split, one_way}
+use Rattle.proof_lives.proofs.FirstLife.{lets_all_in}
 
 -- ---- the links between cubs
 
@@ -131,11 +132,11 @@ kill_stops : (p : Params) (c : ℕ) (k : Input Msg) (h : Store) (link : LinkNo) 
 kill_stops p c (Take stamp way m) h link v s n i =
     kill_cause p c (Take stamp way m) h link v s n
     (all_in (HasCause p c (Take stamp way m) h) (out.Send link (msg.Kill v s n)) (deed_of p c (Take stamp way m) h).outs
-    (have_causes (record { params = p; cub = c; store = h }) (Take stamp way m)) i)
+    (have_causes p c (Take stamp way m) h) i)
 kill_stops p c (Tick stamp) h link v s n i =
     kill_cause p c (Tick stamp) h link v s n
     (all_in (HasCause p c (Tick stamp) h) (out.Send link (msg.Kill v s n)) (deed_of p c (Tick stamp) h).outs
-    (have_causes (record { params = p; cub = c; store = h }) (Tick stamp)) i)
+    (have_causes p c (Tick stamp) h) i)
 
 module _ (p : Params) (plan : IsPlan p) (lives : Lives) (are : AreLives p lives) (formed : AreAllFormed p lives)
     (beyond : Beyond)
@@ -207,6 +208,7 @@ module _ (p : Params) (plan : IsPlan p) (lives : Lives) (are : AreLives p lives)
     formed = formed c small i stamp link (msg.MirrorState x) low (e ∙ ap (λ (o : Msg). Take stamp link o) w.is);
     free = w.free;
     here = w.here;
+    lets = w.lets;
     new = new;
   }))
   arises c i (Tick stamp) x small low whole e w new = inr (inl (
@@ -218,6 +220,7 @@ module _ (p : Params) (plan : IsPlan p) (lives : Lives) (are : AreLives p lives)
       line = w.line;
       there = w.there;
       must = w.must;
+      left = w.left;
       number = 0;
       goes = inl whole;
     },
@@ -301,6 +304,7 @@ module _ (p : Params) (plan : IsPlan p) (lives : Lives) (are : AreLives p lives)
               formed = formed c small g.at stamp (way_ahead p a k) (msg.MirrorState y) g.done g.is;
               free = free;
               here = sym here;
+              lets = lets_all_in p c inputs g.at (leaving_of p y);
               new = e;
             }));
             by = soon;

@@ -68,8 +68,8 @@ module _ (p : Params) (c : ℕ) (stamp : Stamp) where
 
 -- The law of belief, of one input of a life.
 belief_of : (p : Params) (c : ℕ) (i : Input Msg) (h : Store) → KeepsBelief p c i h (deed_of p c i h)
-belief_of p c (Take stamp link m) h = keep_belief (record { params = p; cub = c; store = h }) (Take stamp link m)
-belief_of p c (Tick stamp) h = keep_belief (record { params = p; cub = c; store = h }) (Tick stamp)
+belief_of p c (Take stamp link m) h = keep_belief p c (Take stamp link m) h
+belief_of p c (Tick stamp) h = keep_belief p c (Tick stamp) h
 
 module _ (p : Params) (c : ℕ) (inputs : ℕ → Input Msg) where
   abbrev Believes : ℕ → Type 0

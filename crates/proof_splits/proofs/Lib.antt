@@ -1,6 +1,7 @@
 pub mod Arrivals
 pub mod Backups
 pub mod Beliefs
+pub mod Handing
 pub mod MirrorStates
 pub mod PieceMoves
 pub mod PieceSets

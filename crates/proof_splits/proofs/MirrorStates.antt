@@ -1,5 +1,5 @@
 -- Mirror states go out at a split alone, one for each piece behind the first, to as many cubs ahead.
-use Rattle.std.proofs.Common.{◌≡◌, ℕ, zero, suc, ◌+◌, ◌-◌, ◌*◌, ◌<◌, ◌≤◌, max, List, [], map, drop, true, Option, None, refl, sym, ap, subst, ◌∙◌, arith, ⊎_elim, inl, inr, eq-or-lt_of_le}
+use Rattle.std.proofs.Common.{◌≡◌, ℕ, zero, suc, ◌+◌, ◌-◌, ◌*◌, ◌<◌, ◌≤◌, max, List, [], map, drop, true, Option, None, refl, sym, ap, subst, ◌∙◌, arith, ⊎_elim, inl, inr, eq-or-lt_of_le, false}
 use Rattle.std.specs.List.{flat_map, range_with_len, AllByRecursion}
 use Rattle.tiger_base.specs.declared.number.LinkNo.{LinkNo}
 use Rattle.tiger_base.specs.declared.number.Stamp.{Stamp}
@@ -45,6 +45,8 @@ use Rattle.proof_lives.proofs.HoldLaws.{no_both}
 use Rattle.proof_lives.proofs.States.{from_tick}
 use Rattle.proof_lives.proofs.Ticking.{inserted_out}
 use Rattle.proof_splits.proofs.PieceMoves.{backup_line}
+use Rattle.cub_rules.specs.Comebacks.{is_handed_back}
+use Rattle.proof_splits.proofs.Handing.{in_split_off}
 
 -- ---- the pieces of a record behind the first
 
@@ -108,6 +110,7 @@ record IsSentAhead (p : Params) (c : ℕ) (stamp : Stamp) (link : LinkNo) (x : P
   line : Line
   there : In line h.view.lines
   must : must_split p stamp line ≡ true
+  left : is_handed_back p h.handback line.rec ≡ false
   number : ℕ
   low : 2 ≤ number
   high : number ≤ p.pieces
@@ -135,6 +138,7 @@ splitting_sent p c stamp h =
           line = comes.0;
           there = comes.2.0;
           must = comes.2.1;
+          left = comes.4;
           number = l.number;
           low = l.low;
           high = l.high;
@@ -145,24 +149,22 @@ splitting_sent p c stamp h =
 
 splitting_sends_all : (p : Params) (c : ℕ) (stamp : Stamp) (h : Store) (y : Line) (k : ℕ) → h.believes ≡ true
     → In y h.view.lines
-    → must_split p stamp y ≡ true → 2 ≤ k → k ≤ p.pieces
+    → must_split p stamp y ≡ true → is_handed_back p h.handback y.rec ≡ false → 2 ≤ k → k ≤ p.pieces
     → In (sent_ahead p c (piece y.rec.tenancy y.rec.visit k)) (splitting p c stamp h).outs
 unfolding splitting
-splitting_sends_all p c stamp h y k b there must low high =
+splitting_sends_all p c stamp h y k b there must left low high =
     let x : PieceState = piece y.rec.tenancy y.rec.visit k in
-    let here : In (sent_ahead p c x) (split_outs p c stamp y) =
-    chosen (λ (ls : List (Out Msg)). In (sent_ahead p c x) ls) (must_split p stamp y)
-    (map (sent_ahead p c) (drop 1 (pieces_of p y.rec))) []
-    (λ _. in_map (sent_ahead p c) x (drop 1 (pieces_of p y.rec)) (later_there p y.rec k low high))
-    (λ f. absurd (no_both must f)) in
+    let here : In (sent_ahead p c x) (split_outs p c stamp h.handback y) =
+    in_split_off p stamp h.handback y (sent_ahead p c x) (map (sent_ahead p c) (drop 1 (pieces_of p y.rec))) must left
+    (in_map (sent_ahead p c) x (drop 1 (pieces_of p y.rec)) (later_there p y.rec k low high)) in
     chosen (λ (d : Deed Msg Store). In (sent_ahead p c x) d.outs) h.believes
     (record {
-      outs = flat_map (split_outs p c stamp) h.view.lines;
+      outs = flat_map (split_outs p c stamp h.handback) h.view.lines;
       state = with_each with_piece_record
-          (flat_map (first_pieces p stamp) h.view.lines) (with_split_lines p stamp h);
+          (flat_map (first_pieces p stamp h.handback) h.view.lines) (with_split_lines p stamp h);
     })
     (nothing h)
-    (λ _. in_flat_map (split_outs p c stamp) (sent_ahead p c x) y h.view.lines there here) (λ f. absurd (no_both b f))
+    (λ _. in_flat_map (split_outs p c stamp h.handback) (sent_ahead p c x) y h.view.lines there here) (λ f. absurd (no_both b f))
 
 module _ (p : Params) (c : ℕ) (stamp : Stamp) (X : LinkNo → PieceState → Type 0) where
   -- only the change that splits visits sends mirror states
@@ -276,6 +278,7 @@ module _ (p : Params) (lives : Lives) (a : ℕ) where
                 ∙ ap (λ (z : PieceState). backup_of z.tenancy z.visit) (sym s.is),
           );
           must = s.must;
+          left = s.left;
           number = x.piece;
           goes = inr (subst (λ (l : LinkNo). In (out.Send l (msg.MirrorState x)) (outs_in p lives a i)) steps goes);
         };
@@ -299,7 +302,7 @@ module _ (p : Params) (lives : Lives) (a : ℕ) where
       let i : ℕ = s.tick.at in
       let h : Store = store_at p a (lives.input a) i in
       let stamp : Stamp = made_stamp b s.reading in
-      let sent = splitting_sends_all p a stamp (before_splitting p a stamp h) s.line (k + 1) s.believes s.there.0 s.must
+      let sent = splitting_sends_all p a stamp (before_splitting p a stamp h) s.line (k + 1) s.believes s.there.0 s.must s.left
       (omega arith) (omega arith) in
       let of_t = subst (λ (r : Rec). In (sent_ahead p a (piece r.tenancy r.visit (k + 1)))
       (splitting p a stamp (before_splitting p a stamp h)).outs) s.there.1 sent in

@@ -1,5 +1,5 @@
 -- What an input makes of a cub's piece records: a message, a tick, and a tick up to where the cub asks and serves.
-use Rattle.std.proofs.Common.{◌≡◌, ℕ, zero, suc, ◌+◌, List, [], map, take, Bool, true, false, not, refl, sym, ap, subst, ◌∙◌, arith, ⊎_elim, inl}
+use Rattle.std.proofs.Common.{◌≡◌, ℕ, zero, suc, ◌+◌, List, [], map, take, Bool, true, false, not, refl, sym, ap, subst, ◌∙◌, arith, ⊎_elim, inl, is_some}
 use Rattle.std.specs.Prelude.{◌≤◌, ◌||◌, ◌&&◌, ◌==◌, ◌%◌}
 use Rattle.std.specs.List.{flat_map, range_with_len}
 use Rattle.std.proofs.lemmas.Bool.{eqb-true, and_parts}
@@ -44,6 +44,8 @@ use Rattle.proof_splits.specs.PieceRecords.{IsMirrored, IsSplitOff, Enters, Cuts
 use Rattle.proof_lives.proofs.HoldLaws.{no_both}
 use Rattle.cub_changes.proofs.Beliefs.{not_true}
 use Rattle.proof_splits.proofs.PieceSets.{Moves, moves_same, moves_then, moves_more, moves_fewer, moves_asked, moves_with_each, with_each_there}
+use Rattle.cub_rules.specs.Comebacks.{is_handed_back}
+use Rattle.proof_splits.proofs.Handing.{from_split_off, in_split_off}
 
 -- ---- single changes
 
@@ -88,6 +90,7 @@ module _ (Why Go Asked : PieceState → Type 0) (p : Params) (c : ℕ) (stamp : 
         free = neither held
             (not mine) cause.0.1;
         here = eqb-true _ _ (is_not mine (other held (not mine) cause.0.1));
+        lets = cause.0.2;
       }))
       cause.1
     where
@@ -183,27 +186,21 @@ module _ (Why Go Asked : PieceState → Type 0) (p : Params) (c : ℕ) (stamp : 
       (λ x q cause. blind Why Go Asked p c stamp x q (insertion_blind x (fits p c stamp h OnInsertion x q cause)))
 
   splitting_moves : (h : Store) → ((x : PieceState) (y : Line) → h.believes ≡ true → In y h.view.lines
-      → must_split p stamp y ≡ true → In x (take 1 (pieces_of p y.rec)) → Why x)
+      → must_split p stamp y ≡ true → is_handed_back p h.handback y.rec ≡ false → In x (take 1 (pieces_of p y.rec)) → Why x)
       → Moves Why Go Asked h (splitting p c stamp h).state
   unfolding splitting
   splitting_moves h why =
-      let xs : List PieceState = flat_map (first_pieces p stamp) h.view.lines in
+      let xs : List PieceState = flat_map (first_pieces p stamp h.handback) h.view.lines in
       let g : Store = with_split_lines p stamp h in
       chosen (λ (d : Deed Msg Store). Moves Why Go Asked h d.state) h.believes
-      (record { outs = flat_map (split_outs p c stamp) h.view.lines; state = with_each with_piece_record xs g })
+      (record { outs = flat_map (split_outs p c stamp h.handback) h.view.lines; state = with_each with_piece_record xs g })
       (nothing h)
       (λ b. moves_then Why Go Asked h g (with_each with_piece_record xs g) (moves_same Why Go Asked h g refl refl)
       (moves_with_each Why Go Asked xs g (λ x i.
-      let o = from_flat_map (first_pieces p stamp) x h.view.lines i in
-      let f = first_of x o.0 o.2 in
-      why x o.0 b o.1 f.0 f.1)))
+      let o = from_flat_map (first_pieces p stamp h.handback) x h.view.lines i in
+      let f = from_split_off p stamp h.handback o.0 x (take 1 (pieces_of p o.0.rec)) o.2 in
+      why x o.0 b o.1 f.0 f.1 f.2)))
       (λ _. moves_same Why Go Asked h h refl refl)
-    where
-      first_of : (x : PieceState) (y : Line) → In x (first_pieces p stamp y) → (must_split p stamp y ≡ true)
-          × In x (take 1 (pieces_of p y.rec))
-      first_of x y i = chosen (λ (ls : List PieceState). In x ls → (must_split p stamp y ≡ true)
-          × In x (take 1 (pieces_of p y.rec))) (must_split p stamp y) (take 1 (pieces_of p y.rec)) []
-          (λ t k. (t, k)) (λ _ k. absurd k) i
 
   forwarding_moves : (h : Store) → Moves Why Go Asked h (forwarding p c stamp h).state
   unfolding forwarding
@@ -222,9 +219,11 @@ module _ (Why Go Asked : PieceState → Type 0) (p : Params) (c : ℕ) (stamp : 
 
   beating_moves : (h : Store) → Moves Why Go Asked h (beating p c stamp h).state
   unfolding beating
-  beating_moves h = chosen (λ (d : Deed Msg Store). Moves Why Go Asked h d.state) (stamp.beat % p.heart == 0) _
-      (nothing h)
-      (λ _. moves_same Why Go Asked h h refl refl) (λ _. moves_same Why Go Asked h h refl refl)
+  beating_moves h =
+      let Goes : Deed Msg Store → Type 0 = λ d. Moves Why Go Asked h d.state in
+      let same = moves_same Why Go Asked h h refl refl in
+      chosen Goes (is_some h.comeback) (nothing h) _ (λ _. same)
+      (λ _. chosen Goes (stamp.beat % p.heart == 0) _ (nothing h) (λ _. same) (λ _. same))
 
   -- from its beginning to where it splits, asks, and serves, and to its end
   pub to_splitting : (h : Store) → Moves Why Go Asked h (before_splitting p c stamp h)
@@ -244,13 +243,14 @@ module _ (Why Go Asked : PieceState → Type 0) (p : Params) (c : ℕ) (stamp : 
       let h5 : Store = before_reading p c stamp h in
       moves_then Why Go Asked h h3 h5 (to_splitting h)
       (moves_then Why Go Asked h3 h4 h5
-      (splitting_moves h3 (λ x y b i must f.
+      (splitting_moves h3 (λ x y b i must left f.
       let e = first_piece p y.rec x f in
       why x (record {
         believes = b;
         line = y;
         there = (i, backup_line p stamp y must ∙ ap (λ (z : PieceState). backup_of z.tenancy z.visit) (sym e));
         must = must;
+        left = left;
         first = ap (λ (z : PieceState). z.piece) e;
       })))
       (forwarding_moves h4))
@@ -290,21 +290,21 @@ module _ (Why Go Asked : PieceState → Type 0) (p : Params) (c : ℕ) (stamp : 
 module _ (p : Params) (c : ℕ) (stamp : Stamp) where
   -- what is split off stands before the reading
   splitting_there : (h : Store) (x : PieceState) (y : Line) → h.believes ≡ true → In y h.view.lines
-      → must_split p stamp y ≡ true → In x (take 1 (pieces_of p y.rec))
+      → must_split p stamp y ≡ true → is_handed_back p h.handback y.rec ≡ false → In x (take 1 (pieces_of p y.rec))
       → In x (splitting p c stamp h).state.pieces.items
   unfolding splitting
-  splitting_there h x y b i must f =
-      let xs : List PieceState = flat_map (first_pieces p stamp) h.view.lines in
-      let here : In x (first_pieces p stamp y) = chosen (λ (ls : List PieceState). In x ls) (must_split p stamp y)
-      (take 1 (pieces_of p y.rec)) [] (λ _. f) (λ f. absurd (no_both must f)) in
+  splitting_there h x y b i must left f =
+      let xs : List PieceState = flat_map (first_pieces p stamp h.handback) h.view.lines in
+      let here : In x (first_pieces p stamp h.handback y) =
+      in_split_off p stamp h.handback y x (take 1 (pieces_of p y.rec)) must left f in
       chosen (λ (d : Deed Msg Store). In x d.state.pieces.items) h.believes
       (record {
-        outs = flat_map (split_outs p c stamp) h.view.lines;
+        outs = flat_map (split_outs p c stamp h.handback) h.view.lines;
         state = with_each with_piece_record xs
             (with_split_lines p stamp h);
       }) (nothing h)
       (λ _. with_each_there x xs (with_split_lines p stamp h)
-      (in_flat_map (first_pieces p stamp) x y h.view.lines i here))
+      (in_flat_map (first_pieces p stamp h.handback) x y h.view.lines i here))
       (λ f. absurd (no_both b f))
 
   -- what is split off stands before the reading
@@ -315,7 +315,7 @@ module _ (p : Params) (c : ℕ) (stamp : Stamp) where
       let first = first_there p s.line.rec some in
       let e : piece s.line.rec.tenancy s.line.rec.visit 1 ≡ x = ap (λ (r : Rec). piece r.tenancy r.visit 1) s.there.1
       ∙ ap (λ (k : ℕ). piece x.tenancy x.visit k) (sym s.first) in
-      splitting_there (before_splitting p c stamp h) x s.line s.believes s.there.0 s.must
+      splitting_there (before_splitting p c stamp h) x s.line s.believes s.there.0 s.must s.left
       (subst (λ (z : PieceState). In z (take 1 (pieces_of p s.line.rec))) e first)
 
   -- what leaves by a tick is gone after it, and so is from those to be asked for what leaves within the lead
@@ -337,8 +337,10 @@ module _ (p : Params) (c : ℕ) (stamp : Stamp) where
   -- a heartbeat leaves what the cub keeps
   pub beating_same : (h : Store) → (beating p c stamp h).state ≡ h
   unfolding beating
-  beating_same h = chosen (λ (d : Deed Msg Store). d.state ≡ h) (stamp.beat % p.heart == 0) _ (nothing h) (λ _. refl)
-      (λ _. refl)
+  beating_same h =
+      let Same : Deed Msg Store → Type 0 = λ d. d.state ≡ h in
+      chosen Same (is_some h.comeback) (nothing h) _ (λ _. refl)
+      (λ _. chosen Same (stamp.beat % p.heart == 0) _ (nothing h) (λ _. refl) (λ _. refl))
 
   -- after a tick no record stands of a piece that leaves by then
   pub ticking_leaves : (h : Store) (x : PieceState) → In x (ticking p c stamp h).state.pieces.items

@@ -49,6 +49,8 @@ use Rattle.proof_lives.proofs.HoldLaws.{no_both}
 use Rattle.proof_splits.proofs.PieceSets.{one_more_stays, one_more_there}
 use Rattle.proof_splits.proofs.PieceMoves.{beating_same}
 use Rattle.proof_splits.proofs.MirrorStates.{in_range}
+use Rattle.cub_rules.specs.Comebacks.{is_handed_back}
+use Rattle.proof_splits.proofs.Handing.{in_split_off}
 
 -- the kills of a split went out
 abbrev pub AreKilled : Params → ℕ → Split → List (Out Msg) → Type 0
@@ -152,7 +154,7 @@ module _ (p : Params) (c : ℕ) (s : Split) where
         (in_filter (λ x. not (splits.is_over p stamp.reading x)) s h.splits k (ap not f)))
         (cases_Bool (splits.is_over p stamp.reading s))
     each stamp g from killed over SplitVisits h cause k = inl
-        (with_splits_stay s (flat_map (split_visits p stamp) h.view.lines) h.splits k)
+        (with_splits_stay s (flat_map (split_visits p stamp h.handback) h.view.lines) h.splits k)
     each stamp g from killed over other h cause k = inl k
 
   at_message : (stamp : Stamp) (link : LinkNo) (m : Msg) (from : Store) (v : Instance) (h : Store)
@@ -228,23 +230,22 @@ with_pieces_splits [] h = refl
 with_pieces_splits (x ∷ xs) h = with_pieces_splits xs (with_piece_record x h) ∙ with_piece_splits x h
 
 splitting_remembers : (p : Params) (c : ℕ) (stamp : Stamp) (h : Store) (y : Line) → h.believes ≡ true
-    → In y h.view.lines → must_split p stamp y ≡ true
+    → In y h.view.lines → must_split p stamp y ≡ true → is_handed_back p h.handback y.rec ≡ false
     → In (split_of y.rec) (splitting p c stamp h).state.splits
 unfolding splitting
-splitting_remembers p c stamp h y believes i must =
+splitting_remembers p c stamp h y believes i must left =
     let s : Split = split_of y.rec in
-    let xs : List PieceState = flat_map (first_pieces p stamp) h.view.lines in
-    let here : In s (split_visits p stamp y) = chosen (λ (ls : List Split). In s ls) (must_split p stamp y) (s ∷ []) []
-    (λ _. inl refl) (λ f. absurd (no_both must f)) in
+    let xs : List PieceState = flat_map (first_pieces p stamp h.handback) h.view.lines in
+    let here : In s (split_visits p stamp h.handback y) = in_split_off p stamp h.handback y s (s ∷ []) must left (inl refl) in
     chosen (λ (d : Deed Msg Store). In s d.state.splits) h.believes
     (record {
-      outs = flat_map (split_outs p c stamp) h.view.lines;
+      outs = flat_map (split_outs p c stamp h.handback) h.view.lines;
       state = with_each with_piece_record xs
           (with_split_lines p stamp h);
     }) (nothing h)
     (λ _. subst (λ (ls : List Split). In s ls) (sym (with_pieces_splits xs (with_split_lines p stamp h)))
-    (with_splits_there s (flat_map (split_visits p stamp) h.view.lines) h.splits
-    (in_flat_map (split_visits p stamp) s y h.view.lines i here)))
+    (with_splits_there s (flat_map (split_visits p stamp h.handback) h.view.lines) h.splits
+    (in_flat_map (split_visits p stamp h.handback) s y h.view.lines i here)))
     (λ f. absurd (no_both believes f))
 
 serving_splits : (p : Params) (c : ℕ) (stamp : Stamp) (h : Store)
@@ -255,15 +256,16 @@ serving_splits p c stamp h = refl
 ticking_remembers : (p : Params) (c : ℕ) (stamp : Stamp) (h : Store) (y : Line)
     → (before_splitting p c stamp h).believes ≡ true
     → In y (before_splitting p c stamp h).view.lines → must_split p stamp y ≡ true
+    → is_handed_back p (before_splitting p c stamp h).handback y.rec ≡ false
     → In (split_of y.rec) (ticking p c stamp h).state.splits
 unfolding ticking
-ticking_remembers p c stamp h y believes i must =
+ticking_remembers p c stamp h y believes i must left =
     let h3 : Store = before_splitting p c stamp h in
     let h4 : Store = (splitting p c stamp h3).state in
     let h7 : Store = (serving p c stamp (reading p stamp (forwarding p c stamp h4).state).state).state in
     subst (λ (k : Store). In (split_of y.rec) k.splits) (sym (beating_same p c stamp h7))
     (subst (λ (ls : List Split). In (split_of y.rec) ls) (sym (serving_splits p c stamp h4))
-    (splitting_remembers p c stamp h3 y believes i must))
+    (splitting_remembers p c stamp h3 y believes i must left))
 
 -- at the end of the tick at which a cub splits a visit it remembers that
 pub split_remembered : (p : Params) (lives : Lives) {c n x : ℕ} {t : Tenancy} → (w : SplitAt p lives c t n x)
@@ -272,7 +274,7 @@ pub split_remembered : (p : Params) (lives : Lives) {c n x : ℕ} {t : Tenancy} 
 split_remembered p lives {c} {n} {x} {t} w =
     let stamp : Stamp = stamp_of x w.reading in
     let h : Store = kept_at w.tick in
-    let there = ticking_remembers p c stamp h w.line w.believes w.there.0 w.must in
+    let there = ticking_remembers p c stamp h w.line w.believes w.there.0 w.must w.left in
     subst (λ (q : Input Msg). In (t.instance, t.slot, n) (deed_of p c q h).state.splits) (sym w.tick.is)
     (subst (λ (r : Rec). In (split_of r) (ticking p c stamp h).state.splits) w.there.1 there)
 

@@ -113,8 +113,8 @@ split_laws p lives plan are formed beyond fits told disk_at = record {
   mirrored = λ w. mirrored p plan lives are formed beyond fits.came told w;
   kills = λ {a} {t} {n} {x} {y} {b} w g less up le. kills p lives plan are formed beyond w g less (fits.ticks a b up).tick le;
   killed = λ w to number uses late. killed p plan lives are formed beyond fits.came told w to number uses late;
-  split_due = λ believed entered next tick time. split_due p plan lives are formed beyond believed entered next tick
-      time;
+  split_due = λ believed entered next tick left time. split_due p plan lives are formed beyond believed entered next tick
+      left time;
   mirrors_due = λ k w tick low high. sends_all p lives _ k w (whole_tick p lives are w.tick tick) low high;
   mirror_arrives = λ d b w to here up late. mirror_arrives p plan lives are formed beyond fits.came told d b w to here up
       late;

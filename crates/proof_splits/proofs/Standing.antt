@@ -14,7 +14,7 @@ use Rattle.slot_plan.specs.declared.params.Params.{Params}
 use Rattle.slot_plan.specs.Times.{cub_of}
 use Rattle.deschedule.specs.Holds.{is_held}
 use Rattle.mirror_schedule.specs.Pieces as pieces
-use Rattle.mirror_schedule.specs.Pieces.{is_in}
+use Rattle.mirror_schedule.specs.Pieces.{is_in, leaving_of}
 use Rattle.node_kit.specs.Form.{is_in_form}
 use Rattle.node_kit.specs.Deeds.{nothing}
 use Rattle.node_kit.specs.Steps.{Input}
@@ -33,6 +33,7 @@ use Rattle.proof_splits.specs.PieceRecords.{IsMirrored, IsSplitOff, Enters, Cuts
 use Rattle.proof_lives.proofs.HoldLaws.{no_both}
 use Rattle.proof_splits.proofs.PieceSets.{Moves, there_is_in, with_there}
 use Rattle.proof_splits.proofs.PieceMoves.{to_reading, to_serving, split_there, ticking_leaves, ticking_asks, rest_moves, deed_moves}
+use Rattle.cub_rules.specs.Comebacks.{lets_in}
 
 -- ---- what a deschedule, a kill and a mirror state leave
 
@@ -77,10 +78,10 @@ taking_cut p c stamp link (msg.Kill v slot n) h x form cut i =
 taking_cut p c stamp link other h x form cut i = absurd cut
 
 meeting_there : (p : Params) (c : ℕ) (x : PieceState) (h : Store) → is_held h.held x.tenancy.instance ≡ false
-    → cub_of p (x.visit + x.piece) ≡ c
+    → cub_of p (x.visit + x.piece) ≡ c → lets_in h.comeback (leaving_of p x) ≡ true
     → In x (meeting_piece p c x h).state.pieces.items
 unfolding meeting_piece
-meeting_there p c x h free here = rw (free, eq-eqb (cub_of p (x.visit + x.piece)) c here) (with_there x h)
+meeting_there p c x h free here lets = rw (free, eq-eqb (cub_of p (x.visit + x.piece)) c here, lets) (with_there x h)
 
 taking_there : (p : Params) (c : ℕ) (stamp : Stamp) (link : LinkNo) (m : Msg) (h : Store) (x : PieceState)
     → is_in_form p (noted m) ≡ true → IsMirrored p c m h x
@@ -91,7 +92,7 @@ taking_there p c stamp link m h x form w =
     (λ (o : Msg). is_in_form p (noted o) ≡ true) w.is form in
     subst (λ (o : Msg). In x (taking p c stamp link o h).state.pieces.items) (sym w.is)
     (subst (λ (b : Bool). In x (cond b (meeting_piece p c x h) (nothing h)).state.pieces.items) (sym f)
-    (meeting_there p c x h w.free w.here))
+    (meeting_there p c x h w.free w.here w.lets))
 
 -- ---- a life
 

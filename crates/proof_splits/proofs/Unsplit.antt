@@ -66,6 +66,8 @@ use Rattle.proof_facts.specs.Pieces.{before_splitting, stamp_of as made_stamp, S
 use Rattle.proof_splits.proofs.PieceMoves.{backup_line, beating_same}
 use Rattle.proof_splits.proofs.Beliefs.{believes_then}
 use Rattle.proof_splits.proofs.Backups.{line_here}
+use Rattle.cub_rules.specs.Comebacks.{is_handed_back}
+use Rattle.proof_splits.proofs.Handing.{IsLeftHere, left_here}
 
 -- ---- single changes
 
@@ -223,7 +225,7 @@ IsCutBy (msg.Deschedule v tag) r = v.0 ≡ r.tenancy.instance.0
 IsCutBy other r = ⊥
 
 -- At a tick that begins with h the cub splits the record's visit.
-record IsSplitNow (p : Params) (c : ℕ) (stamp : Stamp) (h : Store) (r : Rec) : Type 0 where
+record HasItsTurn (p : Params) (c : ℕ) (stamp : Stamp) (h : Store) (r : Rec) : Type 0 where
   believes : (before_splitting p c stamp h).believes ≡ true
   line : Line
   there : In line (before_splitting p c stamp h).view.lines
@@ -296,9 +298,9 @@ module _ (r : Rec) (p : Params) (c : ℕ) (stamp : Stamp) where
       ⊎ HasUnsplit r (splitting p c stamp h).state
   unfolding splitting
   at_splitting h u =
-      let xs : List PieceState = flat_map (first_pieces p stamp) h.view.lines in
+      let xs : List PieceState = flat_map (first_pieces p stamp h.handback) h.view.lines in
       let done : Deed Msg Store = record {
-        outs = flat_map (split_outs p c stamp) h.view.lines;
+        outs = flat_map (split_outs p c stamp h.handback) h.view.lines;
         state = with_each with_piece_record xs
             (with_split_lines p stamp h);
       } in
@@ -347,7 +349,7 @@ module _ (r : Rec) (p : Params) (c : ℕ) (stamp : Stamp) where
 
   at_tick : (h : Store) → HasUnsplit r h
       ⊎ In (taken_out r) (inserting p c stamp (believing p c stamp (releasing p stamp h).state).state).outs
-      → IsSplitNow p c stamp h r ⊎ (HasUnsplit r (ticking p c stamp h).state ⊎ IsDueBy)
+      → HasItsTurn p c stamp h r ⊎ (HasUnsplit r (ticking p c stamp h).state ⊎ IsDueBy)
   unfolding ticking
   at_tick h k =
       let h3 : Store = before_splitting p c stamp h in
@@ -373,7 +375,7 @@ module _ (p : Params) (plan : IsPlan p) (lives : Lives) (are : AreLives p lives)
   -- why a record stands unsplit no more after an input: it was split, cut off, or due
   abbrev Ends : Input Msg → ℕ → Type 0
   Ends (Take stamp link m) i = IsCutBy m r
-  Ends (Tick stamp) i = IsSplitNow p c stamp (store_at p c inputs i) r
+  Ends (Tick stamp) i = HasItsTurn p c stamp (store_at p c inputs i) r
       ⊎ (due p r.tenancy.slot.0 r.visit ≤ stamp.reading)
 
   one_input : (i : ℕ) (k : Input Msg) → HasUnsplit r (store_at p c inputs i)
@@ -399,10 +401,10 @@ module _ (p : Params) (plan : IsPlan p) (lives : Lives) (are : AreLives p lives)
       (λ q. inr (record { at = e; from = omega arith; before = l; is = q }))
       (one_input e (inputs e) (inr t))
 
-  of_split : (i : ℕ) (stamp : Stamp) → i < lives.count c → cut_in lives c i ≡ None → inputs i ≡ Tick stamp
-      → IsSplitNow p c stamp (store_at p c inputs i) r
+  of_split : (i b : ℕ) (stamp : Stamp) → i < lives.count c → cut_in lives c i ≡ None → inputs i ≡ Tick stamp
+      → beat_at inputs i ≤ b → IsLeftHere p lives c r b → HasItsTurn p c stamp (store_at p c inputs i) r
       → SplitAt p lives c r.tenancy r.visit (beat_at inputs i)
-  of_split i stamp low whole e s =
+  of_split i b stamp low whole e by left s =
       let eb : beat_at inputs i ≡ stamp.beat = ap (λ (k : Input Msg). (stamp_of k).beat) e in
       let split : SplitAt p lives c r.tenancy r.visit stamp.beat = record {
         reading = stamp.reading;
@@ -411,12 +413,14 @@ module _ (p : Params) (plan : IsPlan p) (lives : Lives) (are : AreLives p lives)
         line = s.line;
         there = (s.there, backup_line p stamp s.line s.must ∙ ap (λ (z : Rec). backup_of z.tenancy z.visit) s.is);
         must = s.must;
+        left = subst (λ (z : Rec). is_handed_back p (before_splitting p c stamp (store_at p c inputs i)).handback z ≡ false) (sym s.is)
+            (left_here p lives are c i b stamp r small low by left);
         number = 0;
         goes = inl whole;
       } in
       subst (λ (n : ℕ). SplitAt p lives c r.tenancy r.visit n) (sym eb) split
 
-  module _ (beyond : Beyond) (b : ℕ) where
+  module _ (beyond : Beyond) (b : ℕ) (left : IsLeftHere p lives c r b) where
     abbrev Wanted : Type 0
     Wanted = SplitBy (pieces_by p lives) c r.tenancy r.visit b
         ⊎ ReachedBy (facts_by p lives beyond) c r.tenancy.instance.0 b
@@ -435,7 +439,7 @@ module _ (p : Params) (plan : IsPlan p) (lives : Lives) (are : AreLives p lives)
         → (stamp_of k).reading < due p r.tenancy.slot.0 r.visit → Ends k i → Wanted
     of_end i (Take stamp link m) low whole e le early ends = of_cut i stamp link m low e le ends
     of_end i (Tick stamp) low whole e le early ends = ⊎_elim
-        (λ s. inl (record { beat = beat_at inputs i; split = of_split i stamp low whole e s; by = le }))
+        (λ s. inl (record { beat = beat_at inputs i; split = of_split i b stamp low whole e le left s; by = le }))
         (λ d. absurd (omega arith))
         ends
 
@@ -455,7 +459,7 @@ module _ (p : Params) (plan : IsPlan p) (lives : Lives) (are : AreLives p lives)
         z.tenancy.slot.0 z.visit) (sym u.is) time in
         inl (record {
           beat = beat_at inputs i;
-          split = of_split i stamp low whole e (record {
+          split = of_split i b stamp low whole e (omega arith) left (record {
             believes = believes;
             line = u.line;
             there = u.there;
@@ -480,11 +484,11 @@ module _ (p : Params) (plan : IsPlan p) (lives : Lives) (are : AreLives p lives)
 pub split_due : (p : Params) → IsPlan p → (lives : Lives) → AreLives p lives → AreAllFormed p lives → (beyond : Beyond)
     → {c : ℕ} {t : Tenancy} {n b l : ℕ}
     → BelievedBy (facts_by p lives beyond) c b → EnteredBy (facts_by p lives beyond) c t n b → c ≡ cub_of p (n + 1)
-    → TickedAt p lives c b l
+    → TickedAt p lives c b l → IsLeftHere p lives c (backup_of t n) b
     → l + p.read_lead + p.skew + time_of p p.delay + p.beat ≤ due p t.slot.0 n
     → SplitBy (pieces_by p lives) c t n b ⊎ ReachedBy (facts_by p lives beyond) c t.instance.0 b
 unfolding time_of
-split_due p plan lives are formed beyond {c} {t} {n} {b} {l} believed entry next tick time =
+split_due p plan lives are formed beyond {c} {t} {n} {b} {l} believed entry next tick left time =
     ⊎_elim (λ w. of_taken w.kind w.done) (λ w. of_taken w.kind w.done) entry.entered
   where
     of_taken : (kind : Kind) → DidAt p lives c (taken_out (record { tenancy = t; visit = n; kind = kind })) entry.beat
@@ -503,7 +507,7 @@ split_due p plan lives are formed beyond {c} {t} {n} {b} {l} believed entry next
         let first = not_behind p (lives.count c) ins (are c small) d.at i tick.done d.done (ap is_tick_input tick.is)
         (omega arith) in
         let believes = believes_then p lives are beyond c i b stamp tick.done tick.is eb believed in
-        let stands = of_standing p plan lives are formed c small r beyond b i stamp tick.done tick.whole tick.is eb next believes
+        let stands = of_standing p plan lives are formed c small r beyond b left i stamp tick.done tick.whole tick.is eb next believes
         time in
         ⊎_elim
         (λ (same : d.at ≡ i).
@@ -519,7 +523,7 @@ split_due p plan lives are formed beyond {c} {t} {n} {b} {l} believed entry next
         let rise = beats_rise p (lives.count c) ins (are c small) z.at i (omega arith) low in
         let rising = (are c small).rising z.at i (omega arith) low in
         let beat = plan.ranges.beat.0 in
-        of_end p plan lives are formed c small r beyond b z.at (ins z.at) (omega arith) (whole_before lives c z.at i zb low)
+        of_end p plan lives are formed c small r beyond b left z.at (ins z.at) (omega arith) (whole_before lives c z.at i zb low)
         refl (omega arith)
         (omega arith) z.is)
         (unsplit_since p plan lives are formed c small r d.at i before was))

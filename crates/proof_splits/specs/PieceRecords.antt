@@ -9,7 +9,7 @@ use Rattle.slot_plan.specs.Conditions.{IsPlan}
 use Rattle.slot_plan.specs.Times.{cub_of}
 use Rattle.partial_view.specs.declared.line.Line.{Line}
 use Rattle.deschedule.specs.Holds.{is_held}
-use Rattle.mirror_schedule.specs.Pieces.{is_in}
+use Rattle.mirror_schedule.specs.Pieces.{is_in, leaving_of}
 use Rattle.node_kit.specs.Steps.{Input}
 use Rattle.node_kit.specs.Steps.Input.{Take, Tick}
 use Rattle.cub_rules.specs.declared.store.Store.{Store}
@@ -18,6 +18,7 @@ use Rattle.proof_lives.specs.Lives.{Lives, store_at}
 use Rattle.lists.specs.Elements.{In}
 use Rattle.proof_lives.specs.HoldsHere.{AreAllFormed}
 use Rattle.proof_facts.specs.Pieces.{before_splitting, before_reading, before_serving, HasBackup}
+use Rattle.cub_rules.specs.Comebacks.{is_handed_back, lets_in}
 
 -- ---- one input
 
@@ -27,15 +28,17 @@ pub record IsMirrored (p : Params) (c : ℕ) (m : Msg) (h : Store) (x : PieceSta
   pub is : m ≡ msg.MirrorState x
   pub free : is_held h.held x.tenancy.instance ≡ false
   pub here : cub_of p (x.visit + x.piece) ≡ c
+  pub lets : lets_in h.comeback (leaving_of p x) ≡ true
 
 -- At a tick that begins with h the cub believes its predecessor dead, splits the backup record of
--- the visit, and the piece is the visit's first.
+-- the visit, which is not left to that one, and the piece is the visit's first.
 pub record IsSplitOff (p : Params) (c : ℕ) (stamp : Stamp) (h : Store)
     (x : PieceState) : Type 0 where
   pub believes : (before_splitting p c stamp h).believes ≡ true
   pub line : Line
   pub there : HasBackup (before_splitting p c stamp h) x.tenancy x.visit line
   pub must : must_split p stamp line ≡ true
+  pub left : is_handed_back p (before_splitting p c stamp h).handback line.rec ≡ false
   pub first : x.piece ≡ 1
 
 -- Why a piece record enters at an input: of a message, or of a tick.

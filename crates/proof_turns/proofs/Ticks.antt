@@ -1,5 +1,5 @@
 -- What a cub puts out first in a tick right behind a message may not come of the take of the message.
-use Rattle.std.proofs.Common.{◌≡◌, ℕ, List, [], ◌∷◌, ◌++◌, map, filter, not, Bool, true, false, refl, sym, ap, subst, ◌∙◌, ⊎_elim, inl, inr, cond}
+use Rattle.std.proofs.Common.{◌≡◌, ℕ, List, [], ◌∷◌, ◌++◌, map, filter, not, Bool, true, false, refl, sym, ap, subst, ◌∙◌, ⊎_elim, inl, inr, cond, Option}
 use Rattle.std.specs.Prelude.{◌⊎◌, ◌==◌, Option}
 use Rattle.std.specs.List.{AllByRecursion}
 use Rattle.std.proofs.lemmas.Bool.{cond_both}
@@ -22,7 +22,8 @@ use Rattle.slot_plan.specs.declared.params.Params.{Params}
 use Rattle.node_kit.specs.declared.outbox.Out.{Out}
 use Rattle.node_kit.specs.Form.{IsInForm}
 use Rattle.node_kit.specs.Steps.{Deed, what_of}
-use Rattle.node_kit.specs.Deeds.{nothing}
+use Rattle.node_kit.specs.declared.journal.What.TheVariants as what
+use Rattle.node_kit.specs.Deeds.{nothing, then_do}
 use Rattle.partial_view.specs.declared.line.Line.{Line}
 use Rattle.partial_view.specs.declared.line.Flag.TheVariants as flag
 use Rattle.partial_view.specs.Lines as lines
@@ -47,6 +48,7 @@ use Rattle.lists.proofs.Each.{all_in, all_by}
 use Rattle.lists.proofs.Elements.{from_filter, from_map}
 use Rattle.proof_turns.specs.Turns.{is_of_take}
 use Rattle.proof_turns.specs.Laws.{BeginsOtherwise, TicksBeginOtherwise}
+use Rattle.cub_rules.specs.Cubs.{was_away, coming_back, ending}
 
 -- no line is of the instance that a message stops
 abbrev AreApart : Note → List Line → Type 0
@@ -284,8 +286,25 @@ begun message (o ∷ os) A h = ⊎_elim
     (λ (q : IsOther message (o ∷ os)). q)
     h
 
+-- nor does a take write that the cub came back
+none-returned : (message : Note) → is_of_take message what.Returned ≡ false
+none-returned (note.Start redundant ask) = refl
+none-returned (note.ViewerState state) = refl
+none-returned (note.Deschedule v tag) = refl
+none-returned (note.ReadDone want part) = refl
+none-returned other = refl
+
+ending-other : (p : Params) (c : ℕ) (last : Option ℕ) (now : Stamp) (message : Note) (h : Store)
+    → BeginsOtherwise noted message (ticking p c now h).outs → BeginsOtherwise noted message (ending p c last now h).outs
+unfolding ending
+ending-other p c last now message h tick =
+    let Other : Deed Msg Store → Type 0 = λ d. BeginsOtherwise noted message d.outs in
+    cond_both (was_away last now.beat) (then_do (coming_back p c now) (ticking p c now) h) (ticking p c now h) Other
+    (λ _. none-returned message) (λ _. tick)
+
 pub ticks_other : TicksBeginOtherwise
 ticks_other s stamp now link m form =
     let h : Store = (taking s.params s.cub stamp link m s.store).state in
-    begun (noted m) (ticking s.params s.cub now h).outs _
-    (begins-ticking s.params s.cub now (noted m) h (apart-behind s.params s.cub stamp link m s.store form))
+    ending-other s.params s.cub s.last now (noted m) h
+    (begun (noted m) (ticking s.params s.cub now h).outs _
+    (begins-ticking s.params s.cub now (noted m) h (apart-behind s.params s.cub stamp link m s.store form)))
