@@ -21,8 +21,7 @@ use Rattle.run_facts.proofs.Rows.{all-append}
 use Rattle.run_model.specs.Runs.{IsCarriedRun}
 use Rattle.run_model.specs.Tests.{at_its_end}
 use Rattle.run_model.proofs.Reflects.{equal}
-use Rattle.audit_frame.specs.Tables.{MarkNumbers}
-use Rattle.audit_orders.specs.Carrying.{half_of, back_by, back_to, stream_of, sent_at, got_at, all_sent_at, all_got_at, all_entries, AreFirstSent, MayBeLostTo, MayBeLostOn, count_under, TellsGot, NoneIsLost, AreAtEnds, AllAtEnds, IsStrayIn, IsWrongIn, IsLostIn, IsStrayEntry, IsWrongGot, IsLost, IsUncarriedAt, DecidesCarried}
+use Rattle.audit_orders.specs.Carrying.{half_of, back_by, back_to, stream_of, sent_at, got_at, all_sent_at, all_got_at, all_entries, AreFirstSent, MayBeLostTo, MayBeLostOn, StreamCounts, count_under, TellsGot, NoneIsLost, AreAtEnds, AllAtEnds, IsStrayIn, IsWrongIn, IsLostIn, IsStrayEntry, IsWrongGot, IsLost, IsUncarriedAt, DecidesCarried}
 use Rattle.audit_orders.specs.declared.carrying.Uncarried.{Uncarried}
 use Rattle.audit_orders.proofs.Posting.{stream_is}
 use Rattle.audit_orders.proofs.Walks.{one_more}
@@ -278,7 +277,7 @@ got_in_link k l h from to receiver low at ends here =
     (λ n other is ne. got_none k.course l h from to n other low ends ne (at n other is))
     ∙ got_stream k.course l h receiver low ∙ ap (λ (b : Option ℕ). filter (in_half b h) (got_on l receiver)) (back_is k.course l from to ends)
 
-pub all_carried : (k : Kept) (got : MarkNumbers) → AllAtEnds k.course.plan.params k.journals
+pub all_carried : (k : Kept) (got : StreamCounts) → AllAtEnds k.course.plan.params k.journals
     → TellsGot k.course (all_entries k.journals) got (all_entries k.journals) → NoneIsLost k.course got (all_entries k.journals) → IsCarriedRun k
 all_carried k got at first lost = record {
   on_links = λ l from to sender receiver ends there here.
@@ -342,7 +341,7 @@ pub wrong_found : (c : Course) (journals : List (List Entry)) (n place : ℕ) (j
 wrong_found c journals n place journal here h =
     record { journal = journal; here = here; inside = h.inside; stream = h.stream; before = h.before; with_it = h.with_it }
 
-pub lost_found : (c : Course) (journals : List (List Entry)) (got : MarkNumbers) (n place : ℕ) (journal : List Entry)
+pub lost_found : (c : Course) (journals : List (List Entry)) (got : StreamCounts) (n place : ℕ) (journal : List Entry)
     → ((s : ℕ) → count_under s got ≡ length (all_got_at c s (all_entries journals))) → slice_get journals n ≡ Some journal
     → IsLostIn c got (all_entries (take n journals)) journal place → IsLost c journals n place
 lost_found c journals got n place journal counted here h = record {
@@ -377,7 +376,7 @@ all_ends p journals n over lower m other there =
 
 -- ---- the end of the walks
 
-pub lost_decides : (k : Kept) (journals : List (List Entry)) (got : MarkNumbers) (answer : Option Uncarried) → journals ≡ k.journals
+pub lost_decides : (k : Kept) (journals : List (List Entry)) (got : StreamCounts) (answer : Option Uncarried) → journals ≡ k.journals
     → AllAtEnds k.course.plan.params journals → TellsGot k.course (all_entries journals) got (all_entries journals)
     → MatchOption answer (NoneIsLost k.course got (all_entries journals)) (IsUncarriedAt k.course journals) → DecidesCarried k answer
 lost_decides k journals got None is at first lost =

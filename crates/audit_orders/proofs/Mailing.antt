@@ -1,10 +1,11 @@
 -- What the tables of messages and of numbers have after one more.
-use Rattle.std.proofs.Common.{◌≡◌, ℕ, Bool, ◌&&◌, ◌==◌, cond, Some, true, false, if◌then◌else◌, refl, ap, ◌∙◌}
+use Rattle.std.proofs.Common.{◌≡◌, ℕ, zero, suc, ◌<◌, Bool, ◌&&◌, ◌==◌, cond, true, false, [], ◌∷◌, length, Some, if◌then◌else◌, refl, ap, subst, ◌∙◌, arith}
+use Rattle.std.proofs.lemmas.Bool.{eqb-true, eqb-false}
+use Rattle.std.specs.Prelude.{slice_set}
 use Rattle.std.specs.Ordering.{is_eq, nat_cmp, ordering_then}
 use Rattle.std.specs.Cmp.{unsigned_tied}
-use Rattle.audit_frame.specs.Tables.{MarkNumbers, mark_under}
-use Rattle.audit_frame.proofs.Tabled.{both_equal, set_under}
-use Rattle.audit_orders.specs.Carrying.{KeptMail, mail_under, count_or_zero, count_under}
+use Rattle.audit_frame.proofs.Tabled.{both_equal}
+use Rattle.audit_orders.specs.Carrying.{KeptMail, StreamCounts, mail_under, count_under}
 use Rattle.audit_orders.specs.declared.mail.Mail.{Mail}
 
 both_same : (m n k l : ℕ) → is_eq (ordering_then (nat_cmp m k) (nat_cmp n l)) ≡ ((m == k) && (n == l))
@@ -21,12 +22,28 @@ mail_set stream place s n mail old mid new view e =
     ∙ (ap (λ (b : Bool). cond b (Some mail) (mail_under s n mid)) (both_same stream place s n)
     ∙ ap (λ (rows : KeptMail). cond ((stream == s) && (place == n)) (Some mail) (mail_under s n rows)) view)
 
-pub count_set : (stream s count : ℕ) (old mid new : MarkNumbers) → mid ≡ old
-    → mark_under s new ≡ cond (is_eq (nat_cmp stream s)) (Some count) (mark_under s mid)
-    → count_under s new ≡ (if stream == s then count else count_under s old)
-count_set stream s count old mid new view e =
-    ap count_or_zero (set_under stream s count old mid new view e) ∙ by (stream == s)
-  where
-    by : (t : Bool) → count_or_zero (cond t (Some count) (mark_under s old)) ≡ cond t count (count_or_zero (mark_under s old))
-    by true = refl
-    by false = refl
+-- the number of a stream that has a place is set, and the others stay
+put_here : (counts : StreamCounts) (i count : ℕ) → i < length counts → count_under i (slice_set counts i count) ≡ count
+put_here [] i count low = absurd (omega (arith, low))
+put_here (x ∷ xs) zero count low = refl
+put_here (x ∷ xs) (suc i) count low = put_here xs i count (omega (arith, low))
+
+put_beside : (counts : StreamCounts) (i n count : ℕ) → (i ≡ n → ⊥) → count_under n (slice_set counts i count) ≡ count_under n counts
+put_beside [] i n count e = refl
+put_beside (x ∷ xs) zero zero count e = absurd (e refl)
+put_beside (x ∷ xs) zero (suc n) count e = refl
+put_beside (x ∷ xs) (suc i) zero count e = refl
+put_beside (x ∷ xs) (suc i) (suc n) count e = put_beside xs i n count (λ q. e (ap suc q))
+
+put_count : (counts : StreamCounts) (stream s count : ℕ) → stream < length counts
+    → count_under s (slice_set counts stream count) ≡ (if stream == s then count else count_under s counts)
+put_count counts stream s count low = go (stream == s) refl where
+  go : (b : Bool) → (stream == s) ≡ b → count_under s (slice_set counts stream count) ≡ cond b count (count_under s counts)
+  go true e = subst (λ (n : ℕ). count_under n (slice_set counts stream count) ≡ count) (eqb-true stream s e) (put_here counts stream count low)
+  go false e = put_beside counts stream s count (eqb-false stream s e)
+
+pub count_set : (stream s count : ℕ) (old mid grown new : StreamCounts) → mid ≡ old → ((n : ℕ) → count_under n grown ≡ count_under n mid)
+    → stream < length grown → new ≡ slice_set grown stream count → count_under s new ≡ (if stream == s then count else count_under s old)
+count_set stream s count old mid grown new view same low is =
+    ap (count_under s) is ∙ put_count grown stream s count low
+    ∙ ap (λ (n : ℕ). cond (stream == s) count n) (same s ∙ ap (count_under s) view)

@@ -13,8 +13,7 @@ use Rattle.node_kit.specs.declared.journal.Entry.{Entry}
 use Rattle.node_kit.specs.declared.journal.What.{What}
 use Rattle.node_kit.specs.declared.journal.What.TheVariants as what
 use Rattle.run_facts.specs.Events.{Dated}
-use Rattle.audit_frame.specs.Tables.{MarkNumbers}
-use Rattle.audit_orders.specs.Carrying.{half_of, back_to, stream_of, sent_at, got_at, all_sent_at, all_got_at, AreFirstSent, MayBeLostOn, KeptMail, mail_under, count_under, mailed, mail_at, TellsPost, TellsSent, TellsGot, NoneIsLost, FitsMail, FitsNext, IsGotOrLost, sent_count, got_count, mail_after, all_entries, IsWrongIn, IsLostIn}
+use Rattle.audit_orders.specs.Carrying.{half_of, back_to, stream_of, sent_at, got_at, all_sent_at, all_got_at, AreFirstSent, MayBeLostOn, KeptMail, mail_under, StreamCounts, count_under, mailed, mail_at, TellsPost, TellsSent, TellsGot, NoneIsLost, FitsMail, FitsNext, IsGotOrLost, sent_count, got_count, mail_after, all_entries, IsWrongIn, IsLostIn}
 use Rattle.audit_orders.specs.declared.mail.Mail.{Mail}
 use Rattle.audit_orders.proofs.Walks.{one_more}
 use Rattle.audit_orders.proofs.Starting.{take_at}
@@ -68,7 +67,7 @@ mail_more xs x n = ap (option_map mailed) (slice_more xs x n) ∙ map_cond (leng
 
 -- ---- messages that were sent
 
-pub post_more : (c : Course) (old new : KeptMail) (counts : MarkNumbers) (front : List Entry) (e : Entry)
+pub post_more : (c : Course) (old new : KeptMail) (counts : StreamCounts) (front : List Entry) (e : Entry)
     → ((s n : ℕ) → mail_under s n new ≡ mail_after c counts e.stamp.beat e.what s n (mail_under s n old))
     → TellsPost c old front → TellsSent c counts front → TellsPost c new (front ++ e ∷ [])
 post_more c old new counts front e added h k s n =
@@ -94,7 +93,7 @@ one_longer : (t : Bool) (xs : List (Dated Note)) (d : Dated Note) → length (xs
 one_longer true xs d = length-append xs (d ∷ [])
 one_longer false xs d = ap length (append-nil xs)
 
-pub counts_more : (c : Course) (old new : MarkNumbers) (front : List Entry) (e : Entry)
+pub counts_more : (c : Course) (old new : StreamCounts) (front : List Entry) (e : Entry)
     → ((s : ℕ) → count_under s new ≡ sent_count c e.stamp.beat e.what s (count_under s old))
     → TellsSent c old front → TellsSent c new (front ++ e ∷ [])
 counts_more c old new front e added h s =
@@ -106,7 +105,7 @@ counts_more c old new front e added h s =
         ∙ sym (one_longer (stream_of c link.0 e.stamp.beat == s) (all_sent_at c s front) (record { beat = e.stamp.beat; item = note }))
     by other = h s ∙ sym (ap length (append-nil (all_sent_at c s front)))
 
-pub none_counted : (c : Course) (counts : MarkNumbers) → counts ≡ [] → TellsSent c counts []
+pub none_counted : (c : Course) (counts : StreamCounts) → counts ≡ [] → TellsSent c counts []
 none_counted c counts e s = ap (count_under s) e
 
 pub none_posted : (c : Course) (post : KeptMail) → post ≡ [] → TellsPost c post []
@@ -129,13 +128,13 @@ first_back most [] (f ∷ fs) g h = absurd h
 first_back most (s ∷ ss) (f ∷ fs) g h = first_back most ss fs g h.3
 
 -- the message that stands in the table for the next one got
-next_mail : (c : Course) (all front : List Entry) (post : KeptMail) (counts : MarkNumbers) (s : ℕ) → TellsPost c post all
+next_mail : (c : Course) (all front : List Entry) (post : KeptMail) (counts : StreamCounts) (s : ℕ) → TellsPost c post all
     → TellsGot c all counts front
     → mail_under s (count_under s counts) post ≡ mail_at (all_sent_at c s all) (length (all_got_at c s front))
 next_mail c all front post counts s told h =
     told s (count_under s counts) ∙ ap (mail_at (all_sent_at c s all)) (h s).count
 
-pub got_one_more : (c : Course) (all front : List Entry) (post : KeptMail) (old new : MarkNumbers) (e : Entry) → TellsPost c post all
+pub got_one_more : (c : Course) (all front : List Entry) (post : KeptMail) (old new : StreamCounts) (e : Entry) → TellsPost c post all
     → ((s : ℕ) → count_under s new ≡ got_count c e.stamp.beat e.what s (count_under s old))
     → FitsNext c post old e.stamp.beat e.what → TellsGot c all old front → TellsGot c all new (front ++ e ∷ [])
 got_one_more c all front post old new e told added fits h s = record {
@@ -165,7 +164,7 @@ got_one_more c all front post old new e told added fits h s = record {
   count_by other = (h s).count ∙ sym (ap length (append-nil (all_got_at c s front)))
 
 -- an entry that does not fit
-pub wrong_got : (c : Course) (all front journal : List Entry) (i : ℕ) (post : KeptMail) (counts : MarkNumbers) (e : Entry) → i < length journal
+pub wrong_got : (c : Course) (all front journal : List Entry) (i : ℕ) (post : KeptMail) (counts : StreamCounts) (e : Entry) → i < length journal
     → ((d : Entry) → slice_index_or journal i d ≡ e) → TellsPost c post all → TellsGot c all counts (front ++ take i journal)
     → (FitsNext c post counts e.stamp.beat e.what → ⊥) → IsWrongIn c all front journal i
 wrong_got c all front journal i post counts e low is told h wrong = by e.what refl wrong
@@ -192,7 +191,7 @@ wrong_got c all front journal i post counts e low is told h wrong = by e.what re
         }
     by other at no_fit = absurd (no_fit tt)
 
-pub none_got : (c : Course) (all : List Entry) (counts : MarkNumbers) → counts ≡ [] → TellsGot c all counts []
+pub none_got : (c : Course) (all : List Entry) (counts : StreamCounts) → counts ≡ [] → TellsGot c all counts []
 none_got c all counts e s = record { first = tt; count = ap (count_under s) e }
 
 -- ---- messages that were sent and not got
@@ -209,7 +208,7 @@ stream_is c a l beat h low e = let half = half_low (back_to c a) beat in omega (
         by true = omega arith
         by false = omega arith
 
-pub lost_more : (c : Course) (got sent : MarkNumbers) (front : List Entry) (e : Entry) → TellsSent c sent front
+pub lost_more : (c : Course) (got sent : StreamCounts) (front : List Entry) (e : Entry) → TellsSent c sent front
     → IsGotOrLost c got sent e.stamp.beat e.what → NoneIsLost c got front → NoneIsLost c got (front ++ e ∷ [])
 lost_more c got sent front e told fine h l half low n d at g =
     by e.what fine (sym (ap (λ (q : List (Dated Note)). slice_get q n) (sent_more c (2 * l + half) front e)) ∙ at)
@@ -246,10 +245,10 @@ lost_more c got sent front e told fine h l half low n d at g =
     by other f there =
         h l half low n d (ap (λ (q : List (Dated Note)). slice_get q n) (sym (append-nil (all_sent_at c (2 * l + half) front))) ∙ there) g
 
-pub none_lost : (c : Course) (got : MarkNumbers) → NoneIsLost c got []
+pub none_lost : (c : Course) (got : StreamCounts) → NoneIsLost c got []
 none_lost c got l half low n d at g = absurd (cc)
 
-pub lost_here : (c : Course) (got sent : MarkNumbers) (front journal : List Entry) (i : ℕ) (e : Entry) → i < length journal
+pub lost_here : (c : Course) (got sent : StreamCounts) (front journal : List Entry) (i : ℕ) (e : Entry) → i < length journal
     → ((d : Entry) → slice_index_or journal i d ≡ e) → TellsSent c sent (front ++ take i journal)
     → (IsGotOrLost c got sent e.stamp.beat e.what → ⊥) → IsLostIn c got front journal i
 lost_here c got sent front journal i e low is told wrong = by e.what refl wrong
@@ -306,7 +305,7 @@ front_none front journal = append-nil front
 
 -- ---- the test of one entry
 
-pub fits_is : (c : Course) (post : KeptMail) (got : MarkNumbers) (beat : ℕ) (w : What) (link : LinkNo) (note : Note) (stream count : ℕ)
+pub fits_is : (c : Course) (post : KeptMail) (got : StreamCounts) (beat : ℕ) (w : What) (link : LinkNo) (note : Note) (stream count : ℕ)
     (mail : Option Mail) (r : Bool) → w ≡ what.Got link note → stream ≡ stream_of c link.0 beat → count ≡ count_under stream got
     → mail ≡ mail_under stream count post → IsTrue r ↔ FitsMail c.plan.params.delay beat note mail → IsTrue r ↔ FitsNext c post got beat w
 fits_is c post got beat w link note stream count mail r is s n m h =

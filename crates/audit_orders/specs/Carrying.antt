@@ -1,6 +1,6 @@
 -- Where the messages that journals say were got are not those that were sent: a message at the wrong end of its link, one
 -- that was got and is not the next one sent, and one that was sent and may not be lost.
-use Rattle.std.specs.Prelude.{◌≡◌, ℕ, ◌+◌, ◌*◌, ◌<◌, ◌≤◌, ◌&&◌, ◌==◌, nat_le, List, [], ◌∷◌, ◌++◌, length, take, Option, Some, None, option_map, slice_get, ◌⊎◌, if◌then◌else◌}
+use Rattle.std.specs.Prelude.{◌≡◌, ℕ, ◌+◌, ◌*◌, ◌<◌, ◌≤◌, ◌&&◌, ◌==◌, nat_le, List, [], ◌∷◌, ◌++◌, length, take, Option, Some, None, option_map, get_or, slice_get, ◌⊎◌, if◌then◌else◌}
 use Rattle.std.specs.List.{AllByRecursion, flat_map}
 use Rattle.std.specs.Map.{lookup}
 use Rattle.std.specs.Ordering.{is_eq, nat_cmp, ordering_then}
@@ -17,7 +17,6 @@ use Rattle.node_kit.specs.Links.{links_of, ends_of}
 use Rattle.run_facts.specs.Events.{Dated}
 use Rattle.run_facts.specs.Carried.{MayBeLost, IsAtItsEnd}
 use Rattle.run_model.specs.Runs.{IsCarriedRun}
-use Rattle.audit_frame.specs.Tables.{MarkNumbers, mark_under}
 use Rattle.audit_orders.specs.declared.carrying.Uncarried.{Uncarried}
 use Rattle.audit_orders.specs.declared.carrying.Uncarried.TheVariants as un
 use Rattle.audit_orders.specs.declared.mail.Mail.{Mail}
@@ -89,13 +88,12 @@ KeptMail = List ((ℕ × ℕ) × Mail)
 abbrev pub mail_under : ℕ → ℕ → KeptMail → Option Mail
 mail_under s n mail = lookup (λ k. is_eq (ordering_then (nat_cmp s k.0) (nat_cmp n k.1))) mail
 
--- the number of a stream
-abbrev pub count_or_zero : Option ℕ → ℕ
-count_or_zero None = 0
-count_or_zero (Some n) = n
+-- the numbers of streams, each at the stream's place, and the number of one: 0 if it has no place
+abbrev pub StreamCounts : Type 0
+StreamCounts = List ℕ
 
-abbrev pub count_under : ℕ → MarkNumbers → ℕ
-count_under s counts = count_or_zero (mark_under s counts)
+abbrev pub count_under : ℕ → StreamCounts → ℕ
+count_under s counts = get_or counts s 0
 
 -- ---- flaws
 
@@ -148,7 +146,7 @@ pub record IsWrongIn (c : Course) (all front journal : List Entry) (i : ℕ) : T
   pub before : AreFirstSent c.plan.params.delay (all_sent_at c stream all) (all_got_at c stream (front ++ take i journal))
   pub with_it : AreFirstSent c.plan.params.delay (all_sent_at c stream all) (all_got_at c stream (front ++ take (i + 1) journal)) → ⊥
 
-pub record IsLostIn (c : Course) (got : MarkNumbers) (front journal : List Entry) (i : ℕ) : Type 0 where
+pub record IsLostIn (c : Course) (got : StreamCounts) (front journal : List Entry) (i : ℕ) : Type 0 where
   pub entry : Entry
   pub at : slice_get journal i ≡ Some entry
   pub link : LinkNo
@@ -180,22 +178,22 @@ mail_at ds n = option_map mailed (slice_get ds n)
 abbrev pub TellsPost : Course → KeptMail → List Entry → Type 0
 TellsPost c post entries = (s n : ℕ) → mail_under s n post ≡ mail_at (all_sent_at c s entries) n
 
-abbrev pub TellsSent : Course → MarkNumbers → List Entry → Type 0
+abbrev pub TellsSent : Course → StreamCounts → List Entry → Type 0
 TellsSent c counts entries = (s : ℕ) → count_under s counts ≡ length (all_sent_at c s entries)
 
 -- what was got by these entries is counted, and is the first of what all sent
-pub record IsGotOf (c : Course) (all : List Entry) (counts : MarkNumbers) (entries : List Entry) (s : ℕ) : Type 0 where
+pub record IsGotOf (c : Course) (all : List Entry) (counts : StreamCounts) (entries : List Entry) (s : ℕ) : Type 0 where
   pub first : AreFirstSent c.plan.params.delay (all_sent_at c s all) (all_got_at c s entries)
   pub count : count_under s counts ≡ length (all_got_at c s entries)
 
-abbrev pub TellsGot : Course → List Entry → MarkNumbers → List Entry → Type 0
+abbrev pub TellsGot : Course → List Entry → StreamCounts → List Entry → Type 0
 TellsGot c all counts entries = (s : ℕ) → IsGotOf c all counts entries s
 
 -- behind so many messages each may be lost
 abbrev pub MayBeLostBehind : Course → ℕ → ℕ → List (Dated Note) → Type 0
 MayBeLostBehind c l got sent = (n : ℕ) (d : Dated Note) → slice_get sent n ≡ Some d → got ≤ n → MayBeLostOn c l d.beat
 
-abbrev pub NoneIsLost : Course → MarkNumbers → List Entry → Type 0
+abbrev pub NoneIsLost : Course → StreamCounts → List Entry → Type 0
 NoneIsLost c got entries =
     (l h : ℕ) → h ≤ 1 → MayBeLostBehind c l (count_under (2 * l + h) got) (all_sent_at c (2 * l + h) entries)
 
@@ -206,14 +204,14 @@ abbrev pub FitsMail : ℕ → ℕ → Note → Option Mail → Type 0
 FitsMail most beat note None = ⊥
 FitsMail most beat note (Some m) = (note ≡ m.note) × (m.beat + 1 ≤ beat) × (beat ≤ m.beat + most)
 
-abbrev pub FitsNext : Course → KeptMail → MarkNumbers → ℕ → What → Type 0
+abbrev pub FitsNext : Course → KeptMail → StreamCounts → ℕ → What → Type 0
 FitsNext c post counts beat (what.Got link note) =
     FitsMail c.plan.params.delay beat note
     (mail_under (stream_of c link.0 beat) (count_under (stream_of c link.0 beat) counts) post)
 FitsNext c post counts beat other = Unit {0}
 
 -- a message that is sent was got, by the numbers of its stream, or it may be lost
-abbrev pub IsGotOrLost : Course → MarkNumbers → MarkNumbers → ℕ → What → Type 0
+abbrev pub IsGotOrLost : Course → StreamCounts → StreamCounts → ℕ → What → Type 0
 IsGotOrLost c got counts beat (what.Sent link note) =
     (count_under (stream_of c link.0 beat) counts < count_under (stream_of c link.0 beat) got) ⊎ MayBeLostOn c link.0 beat
 IsGotOrLost c got counts beat other = Unit {0}
@@ -228,7 +226,7 @@ got_count c beat (what.Got link note) s n = if stream_of c link.0 beat == s then
 got_count c beat other s n = n
 
 -- the table after an entry
-abbrev pub mail_after : Course → MarkNumbers → ℕ → What → ℕ → ℕ → Option Mail → Option Mail
+abbrev pub mail_after : Course → StreamCounts → ℕ → What → ℕ → ℕ → Option Mail → Option Mail
 mail_after c counts beat (what.Sent link note) s n mail =
     if (stream_of c link.0 beat == s) && (count_under (stream_of c link.0 beat) counts == n)
     then Some (record { beat = beat; note = note }) else mail

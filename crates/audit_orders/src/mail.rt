@@ -1,7 +1,6 @@
 //! What a walk over all journals keeps of the messages that were sent, and how many.
-ghost use Rattle.std.specs.Prelude.{◌≡◌, ℕ, ◌==◌, ◌&&◌, [], Some, OnOk, if◌then◌else◌};
+ghost use Rattle.std.specs.Prelude.{◌≡◌, ℕ, ◌<◌, ◌==◌, ◌&&◌, [], Some, OnOk, get_or, length, slice_set, if◌then◌else◌};
 ghost use Rattle.audit_orders.specs.Carrying.{mail_under, count_under};
-ghost use Rattle.audit_frame.specs.Tables.{mark_under};
 
 use std::alloc::Global;
 use std::collections::BTreeMap;
@@ -57,18 +56,18 @@ impl Post {
     }
 }
 
-/// A number for each stream, 0 if none was set, seen as the list of both.
+/// A number for each stream, 0 if none was set, seen as the list of them.
 #[derive(Drop)]
 pub(crate) struct Counts {
-    kept: BTreeMap<u64, u64>,
+    kept: Vec<u64>,
 }
 
 impl Model for Counts {
-    ghost use Rattle.audit_frame.specs.Tables.{MarkNumbers};
+    ghost use Rattle.audit_orders.specs.Carrying.{StreamCounts};
 
-    ghost Value = { MarkNumbers };
+    ghost Value = { StreamCounts };
 
-    ghost view = { λ s. s.kept.entries };
+    ghost view = { λ s. s.kept.items };
 }
 
 impl Counts {
@@ -77,7 +76,7 @@ impl Counts {
         ensures { result ≡ [] }
     {
         Counts {
-            kept: BTreeMap::new(alloc),
+            kept: Vec::new(alloc),
         }
     }
 
@@ -85,16 +84,7 @@ impl Counts {
     pub(crate) fn get(&self, stream: u64) -> u64
         ensures { result ≡ count_under stream self.now }
     {
-        match self.find(stream) {
-            Some(count) => count,
-            None => 0,
-        }
-    }
-
-    fn find(&self, stream: u64) -> Option<u64>
-        ensures { result ≡ mark_under stream self.now }
-    {
-        self.kept.get(&stream).copied()
+        count_at(&self.kept, stream)
     }
 
     /// Sets the number of a stream.
@@ -102,7 +92,36 @@ impl Counts {
         ensures { OnOk result ((s : ℕ) → count_under s self.new
             ≡ (if stream == s then count else count_under s self.old)) }
     {
-        self.kept.insert(stream, count)?;
+        make_place(&mut self.kept, stream)?;
+        set_at(&mut self.kept, stream, count);
         Ok(())
+    }
+}
+
+fn count_at(counts: &Vec<u64>, stream: u64) -> u64
+    ensures { result ≡ get_or counts.now.items stream 0 }
+{
+    counts.get(stream as usize).copied().unwrap_or(0)
+}
+
+/// Makes a place for the number of a stream. The numbers are as before.
+// The streams are of links that lead somewhere in the plan, so there are few.
+fn make_place(counts: &mut Vec<u64>, stream: u64) -> Result<(), NoMemory>
+    ensures same { OnOk result ((n : ℕ) → get_or counts.new.items n 0 ≡ get_or counts.old.items n 0) }
+    ensures place { OnOk result (stream < length counts.new.items) }
+{
+    while counts.len() as u64 <= stream {
+        counts.push(0)?;
+    }
+    Ok(())
+}
+
+/// Sets the number at a place.
+fn set_at(counts: &mut Vec<u64>, stream: u64, count: u64)
+    ensures { counts.new.items ≡ slice_set counts.old.items stream count }
+{
+    let place = stream as usize;
+    if place < counts.len() {
+        counts[place] = count;
     }
 }

@@ -1,4 +1,5 @@
 pub mod Again
+pub mod Digits
 pub mod Feeds
 pub mod Gathering
 mod Numbers

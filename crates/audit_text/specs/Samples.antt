@@ -1,5 +1,5 @@
 -- Values of worked lines: their fields are numbered in the order of the text.
-use Rattle.std.specs.Prelude.{ℕ, Option, Some, None}
+use Rattle.std.specs.Prelude.{ℕ, Option, None}
 use Rattle.node_kit.specs.declared.course.Order.{Order}
 use Rattle.node_kit.specs.declared.course.OrderKind.TheVariants.{Begin, Finish}
 use Rattle.tiger_base.specs.declared.message.Note.{Note}

@@ -10,7 +10,7 @@ use crate::parts::{
     ask_at, long_at, one_less_at, part_at, piece_at, record_at, short_at, some_at, span_at,
     state_at, tag_at, tenancy_at, want_at,
 };
-use crate::scan::Scan;
+use crate::scan::read_numbers;
 use crate::words::word_in;
 use crate::writing::push_item;
 use link_timing::Delay;
@@ -206,7 +206,7 @@ fn finish_by(ns: &[u64]) -> Order
 /// Room in which a line is read and written again.
 #[derive(Drop)]
 pub struct Desk {
-    scan: Scan,
+    numbers: Vec<u64>,
     spelled: Vec<u8>,
 }
 
@@ -214,7 +214,7 @@ impl Desk {
     /// Room in which nothing was read yet.
     pub fn new(alloc: Global) -> Desk {
         Desk {
-            scan: Scan::new(alloc),
+            numbers: Vec::new(alloc),
             spelled: Vec::new(alloc),
         }
     }
@@ -226,8 +226,8 @@ impl Desk {
         ensures only { IfOk result (λ o.
             (i : Item) → ItemFits i → line.now ≡ line_of i → o ≡ Some i) }
     {
-        self.scan.line(line)?;
-        let ns = self.scan.as_slice();
+        read_numbers(&mut self.numbers, line)?;
+        let ns = self.numbers.as_slice();
         let item = item_by(alloc, word_in(line), line, ns)?;
         self.spelled.clear();
         push_item(&mut self.spelled, &item)?;

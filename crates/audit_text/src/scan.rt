@@ -1,96 +1,67 @@
 //! The numbers of a line, whatever the line is.
-ghost use Rattle.std.specs.Prelude.{◌≡◌, ◌++◌, ◌∷◌, OnOk};
-ghost use Rattle.audit_text.specs.Scanning.{Scanned, scanned, closed, numbers_in};
+ghost use Rattle.std.specs.Prelude.{◌≡◌, ◌+◌, ◌-◌, ◌*◌, ◌%◌, ◌^◌, OnOk, IfOk};
+ghost use Rattle.audit_text.specs.Scanning.{closed, numbers_in, scanned, scanned_to};
 
-use std::alloc::{AllocError, Global};
-use std::marker::Model;
+use std::alloc::AllocError;
 
-/// The numbers that were read so far, and the one that is being read.
-#[derive(Drop)]
-pub struct Scan {
-    numbers: Vec<u64>,
+/// The number that is being read, and whether a space came before it.
+// It is apart from the numbers before it, so that a byte costs no look at memory.
+#[derive(Clone, Copy)]
+pub struct Number {
     begun: bool,
     current: u64,
 }
 
-impl Model for Scan {
-    ghost use Rattle.audit_text.specs.Scanning.{Scanned};
-
-    ghost Value = { Scanned };
-
-    ghost view = { λ s. record {
-      numbers = s.numbers.items;
-      begun = s.begun;
-      current = s.current;
-    } };
+/// Reads the numbers of a line in place of what was read before.
+#[tactic(auto, unfolding(crate::specs::Scanning::numbers_in))]
+pub fn read_numbers(numbers: &mut Vec<u64>, line: &[u8]) -> Result<(), AllocError>
+    ensures { OnOk result (numbers.new.items ≡ numbers_in line.now) }
+{
+    numbers.clear();
+    let mut number = Number {
+        begun: false,
+        current: 0,
+    };
+    for b in line {
+        number = next(numbers, number, *b)?;
+    }
+    close(numbers, number)
 }
 
-impl Scan {
-    ghost use Rattle.audit_text.specs.Scanning.{nothing};
-
-    /// Room for the numbers of a line, of which none is read.
-    pub fn new(alloc: Global) -> Scan
-        ensures { result ≡ nothing }
-    {
-        Scan {
-            numbers: Vec::new(alloc),
-            begun: false,
+/// Reads a byte.
+#[tactic(auto, unfolding(crate::specs::Scanning::scanned))]
+fn next(numbers: &mut Vec<u64>, number: Number, b: u8) -> Result<Number, AllocError>
+    ensures { IfOk result (λ next. scanned_to numbers.new.items next
+        ≡ scanned (scanned_to numbers.old.items number) b) }
+{
+    if b == b' ' {
+        close(numbers, number)?;
+        return Ok(Number {
+            begun: true,
             current: 0,
-        }
+        });
     }
+    Ok(Number {
+        begun: number.begun,
+        current: with_digit(number.current, b),
+    })
+}
 
-    /// Forgets what was read.
-    fn clear(&mut self)
-        ensures { self.new ≡ nothing }
-    {
-        self.numbers.clear();
-        self.begun = false;
-        self.current = 0;
+/// Ends the number that is being read, if there is one.
+fn close(numbers: &mut Vec<u64>, number: Number) -> Result<(), AllocError>
+    ensures { OnOk result (numbers.new.items ≡ closed (scanned_to numbers.old.items number)) }
+{
+    if number.begun {
+        numbers.push(number.current)?;
     }
+    Ok(())
+}
 
-    /// Ends the number that is being read, if there is one.
-    fn close(&mut self) -> Result<(), AllocError>
-        ensures { OnOk result (self.new ≡ record self.old { numbers = closed self.old }) }
-    {
-        if self.begun {
-            self.numbers.push(self.current)?;
-        }
-        Ok(())
-    }
-
-    /// Reads a byte.
-    #[tactic(auto, unfolding(crate::specs::Scanning::scanned))]
-    fn byte(&mut self, b: u8) -> Result<(), AllocError>
-        ensures { OnOk result (self.new ≡ scanned self.old b) }
-    {
-        if b == b' ' {
-            self.close()?;
-            self.begun = true;
-            self.current = 0;
-            return Ok(());
-        }
-        let digit = b.saturating_sub(b'0');
-        let next = self.current as u128 * 10 + digit as u128;
-        self.current = (next % 18446744073709551616) as u64;
-        Ok(())
-    }
-
-    /// Reads a line in place of what was read before.
-    #[tactic(auto, unfolding(crate::specs::Scanning::numbers_in))]
-    pub fn line(&mut self, line: &[u8]) -> Result<(), AllocError>
-        ensures { OnOk result (self.new.numbers ≡ numbers_in line.now) }
-    {
-        self.clear();
-        for b in line {
-            self.byte(*b)?;
-        }
-        self.close()
-    }
-
-    /// The numbers that were read.
-    pub fn as_slice(&self) -> &[u64]
-        ensures { result.now ≡ self.now.numbers }
-    {
-        self.numbers.as_slice()
-    }
+/// A number with a digit more, as far as it fits.
+fn with_digit(current: u64, b: u8) -> u64
+    ensures { result ≡ (current * 10 + (b - 48)) % 2 ^ 64 }
+{
+    let digit = b.saturating_sub(b'0');
+    let next = current as u128 * 10 + digit as u128;
+    (next % 18446744073709551616) as u64
 }

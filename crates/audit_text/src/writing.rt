@@ -1,5 +1,5 @@
 //! Writes the lines of the text.
-ghost use Rattle.std.specs.Prelude.{◌≡◌, ◌++◌, [], ◌∷◌, OnOk};
+ghost use Rattle.std.specs.Prelude.{◌≡◌, ◌<◌, ◌≤◌, ◌+◌, ◌++◌, [], ◌∷◌, OnOk};
 ghost use Rattle.node_kit.specs.declared.journal.Entry.{Entry};
 ghost use Rattle.audit_text.specs.declared.item.Item.TheVariants as item;
 ghost use Rattle.audit_text.specs.Fields.{flag_number, kind_number, tenancy_fields, record_fields, ask_fields, want_fields, span_fields, one_more, or_zero, tag_fields, part_fields, note_fields, what_fields, what_word, params_fields, order_fields};
@@ -18,8 +18,57 @@ use tiger_base::{Ask, Beat, Kind, Note, Rec, Span, Tag, Tenancy, Want};
 fn push_number(text: &mut Vec<u8>, n: u64) -> Result<(), AllocError>
     ensures { OnOk result (text.new.items ≡ text.old.items ++ spaced (n ∷ [])) }
 {
+    // Most numbers have few digits, and then all their bytes are pushed at once.
+    if n < 10 {
+        return push_one(text, n);
+    }
+    if n < 100 {
+        return push_two(text, n);
+    }
+    if n < 1000 {
+        return push_three(text, n);
+    }
+    push_long(text, n)
+}
+
+fn push_one(text: &mut Vec<u8>, n: u64) -> Result<(), AllocError>
+    requires { n < 10 }
+    ensures { OnOk result (text.new.items ≡ text.old.items ++ spaced (n ∷ [])) }
+{
+    text.extend_from_slice(&[b' ', digit(n)])
+}
+
+fn push_two(text: &mut Vec<u8>, n: u64) -> Result<(), AllocError>
+    requires from { 10 ≤ n }
+    requires below { n < 100 }
+    ensures { OnOk result (text.new.items ≡ text.old.items ++ spaced (n ∷ [])) }
+{
+    text.extend_from_slice(&[b' ', digit(n / 10), digit(n % 10)])
+}
+
+fn push_three(text: &mut Vec<u8>, n: u64) -> Result<(), AllocError>
+    requires from { 100 ≤ n }
+    requires below { n < 1000 }
+    ensures { OnOk result (text.new.items ≡ text.old.items ++ spaced (n ∷ [])) }
+{
+    let tens = n / 10;
+    text.extend_from_slice(&[b' ', digit(tens / 10), digit(tens % 10), digit(n % 10)])
+}
+
+/// Writes a space and a number of however many digits.
+fn push_long(text: &mut Vec<u8>, n: u64) -> Result<(), AllocError>
+    ensures { OnOk result (text.new.items ≡ text.old.items ++ spaced (n ∷ [])) }
+{
     text.extend_from_slice(b" ")?;
     text.extend_from_slice(Buffer::new().format(n).as_bytes())
+}
+
+/// A digit.
+fn digit(n: u64) -> u8
+    requires { n < 10 }
+    ensures { result ≡ 48 + n }
+{
+    b'0' + n as u8
 }
 
 /// Writes numbers, each behind a space.

@@ -14,18 +14,20 @@ use Rattle.slot_plan.proofs.Times.{time_mono}
 use Rattle.node_kit.specs.declared.journal.What.{What}
 use Rattle.node_kit.specs.declared.journal.What.TheVariants as what
 use Rattle.run_facts.specs.Order.{Noted}
+use Rattle.run_facts.proofs.Rows.{all-given}
 use Rattle.run_model.specs.Schedule.{Schedule, Stop}
 use Rattle.run_model.specs.Moments.{Moment, next_moment}
-use Rattle.run_model.specs.Parts.{HasVisit, ViewsArePart, was_just_stopped}
+use Rattle.run_model.specs.Parts.{HasVisit, IsPart, ViewsArePart, was_just_stopped}
 use Rattle.run_model.proofs.Reflects.{and_both, and_left, and_right, or_either, or_first, or_second, any_found, any_gives, at_most}
 use Rattle.audit_frame.specs.Tables.{MarkNumbers, Tenancies, mark_under, seat_under, unless_by}
 use Rattle.audit_frame.proofs.Added.{meet, not_below}
 use Rattle.audit_frame.proofs.Spans.{same_test, within_is}
-use Rattle.audit_views.specs.Standing.{held_by, held_cmp, record_of, tenancy_held}
-use Rattle.audit_views.specs.Views.{is_in_view, is_in_time, is_marked, is_of, is_held_visit, is_seated, are_seated, of_instance, IsInstancePart, IsLatestStop, LateArePart, RunsOut, RunsOutUpTo, Touches, TellsSchedule, TellsViews, told_stop, stops_of}
+use Rattle.audit_views.specs.Standing.{has_record, held_by, held_cmp, record_of, tenancy_held}
+use Rattle.audit_views.specs.Views.{is_in_view, is_in_time, is_marked, is_of, is_held_visit, is_seated, are_seated, of_instance, IsInstancePart, IsLatestStop, IsRecordTaken, IsTakenPart, LateArePart, RunsOut, RunsOutUpTo, Touches, TellsSchedule, TellsViews, told_stop, stops_of}
 use Rattle.audit_views.specs.declared.records.Held.{Held}
 use Rattle.audit_views.specs.declared.views.Stopped.{Stopped}
 use Rattle.audit_views.proofs.Kept.{held_again, held_itself, one_held}
+use Rattle.audit_views.proofs.Members.{all_part}
 use Rattle.audit_views.proofs.Steps.{is_stop_in_time, kept_part, part_of_all, late_of_all}
 
 -- ---- who was just stopped
@@ -243,12 +245,6 @@ seat_of : (marks : MarkNumbers) (seats : Tenancies) (s : Schedule) (slot : ℕ) 
     → ((k : ℕ) → s.holder k ≡ unless_by (is_marked marks) (seat_under k seats)) → s.holder slot ≡ Some u → seat_under slot seats ≡ Some u
 seat_of marks seats s slot u tells has = (nobody_seated marks (seat_under slot seats) u (sym (tells slot) ∙ has)).0
 
-pub took_touches : (s : Schedule) (w : What) (q : Rec) (v : ℕ) → w ≡ what.Took q → Touches s w v
-    → Some q.tenancy.instance ≡ Some (record { 0 = v })
-took_touches s w q v is t =
-    let own : q.tenancy.instance.0 ≡ v = subst (λ (k : What). Touches s k v) is t in
-    ap (λ (n : ℕ). Some (record { 0 = n })) own
-
 pub put_touches : (marks : MarkNumbers) (seats : Tenancies) (s : Schedule) (w : What) (t : Tenancy) (v : ℕ) (o : Option Instance)
     → w ≡ what.Put t → o ≡ option_map (λ u. u.instance) (seat_under t.slot.0 seats)
     → ((k : ℕ) → s.holder k ≡ unless_by (is_marked marks) (seat_under k seats)) → Touches s w v → o ≡ Some (record { 0 = v })
@@ -257,11 +253,10 @@ put_touches marks seats s w t v o is e tells touched =
     e ∙ ap (option_map (λ (q : Tenancy). q.instance)) (seat_of marks seats s t.slot.0 u.0 tells u.1)
     ∙ ap (λ (n : ℕ). Some (record { 0 = n })) u.2
 
-pub none_touched : (s : Schedule) (w : What) (v : ℕ) (o : Option Instance) → ((q : Rec) → w ≡ what.Took q → ⊥)
-    → ((t : Tenancy) → w ≡ what.Put t → ⊥) → Touches s w v → o ≡ Some (record { 0 = v })
-none_touched s (what.Took q) v o a b t = absurd (a q refl)
-none_touched s (what.Put q) v o a b t = absurd (b q refl)
-none_touched s other v o a b t = absurd t
+pub none_touched : (s : Schedule) (w : What) (v : ℕ) (o : Option Instance) → ((t : Tenancy) → w ≡ what.Put t → ⊥)
+    → Touches s w v → o ≡ Some (record { 0 = v })
+none_touched s (what.Put q) v o b t = absurd (b q refl)
+none_touched s other v o b t = absurd t
 
 pub touched_judged : (p : Params) (m : Moment) (touched : Option Instance) (v : Instance) (r : Bool) → touched ≡ Some v
     → IsTrue r ↔ IsInstancePart p m v.0 → IsTrue r ↔ ((u : Instance) → touched ≡ Some u → IsInstancePart p m u.0)
@@ -277,6 +272,75 @@ pub untouched_judged : (p : Params) (m : Moment) (touched : Option Instance) →
     → IsTrue true ↔ ((u : Instance) → touched ≡ Some u → IsInstancePart p m u.0)
 untouched_judged p m touched is = (
   (λ t u e. absurd (false≢true (ap is_some (sym is ∙ e)))),
+  (λ all. refl),
+)
+
+-- ---- what an entry takes
+
+-- a record of an instance that was stopped
+pub stopped_part : (p : Params) (seats : Tenancies) (marks : MarkNumbers) (kept : List Stopped) (gone : List ℕ) (held : List Held) (now : ℕ)
+    (m : Moment) (q : Rec) (stop : ℕ) (r : Bool) → mark_under q.tenancy.instance.0 marks ≡ Some stop → r ≡ is_in_time p now stop
+    → TellsViews p seats marks kept gone held now m → IsTrue r ↔ IsPart p m q.tenancy q.visit
+stopped_part p seats marks kept gone held now m q stop r marked judged h =
+    let v = q.tenancy.instance.0 in
+    let just : was_just_stopped p m v ≡ is_in_time p now stop =
+    just_by_latest p m v stop (subst (IsLatestStop v m.schedule.stops) marked (h.schedule.latest v))
+    ∙ ap (λ (b : ℕ). is_in_time p b stop) (sym h.beat) in (
+      (λ t. inr (just ∙ (sym judged ∙ t))),
+      (λ part. ⊎_elim
+          (λ has. absurd (stopped_holds_none p seats marks kept now m.schedule stop q.tenancy h.schedule marked has.holder))
+          (λ a. judged ∙ (sym just ∙ a))
+          part),
+    )
+
+-- and one of an instance that was not
+pub seated_part : (p : Params) (seats : Tenancies) (marks : MarkNumbers) (kept : List Stopped) (gone : List ℕ) (held : List Held) (now : ℕ)
+    (m : Moment) (c : ℕ) (q : Rec) (r : Bool) → mark_under q.tenancy.instance.0 marks ≡ None → r ≡ is_seated seats (held_by c q)
+    → TellsViews p seats marks kept gone held now m → IsTrue r ↔ IsPart p m q.tenancy q.visit
+seated_part p seats marks kept gone held now m c q r free judged h =
+    let slot = q.tenancy.slot.0 in (
+      (λ t. inl (seat_found m.schedule marks (seat_under slot seats) (held_by c q) (ap is_some free) (h.schedule.holder slot) (sym judged ∙ t))),
+      (λ part. ⊎_elim
+          (λ has. judged ∙ seat_given m.schedule marks (seat_under slot seats) (held_by c q) (h.schedule.holder slot) has)
+          (λ just. absurd (not_just p m q.tenancy.instance.0
+          (subst (IsLatestStop q.tenancy.instance.0 m.schedule.stops) free (h.schedule.latest q.tenancy.instance.0)) just))
+          part),
+    )
+
+-- a record counts if the node's view has it
+pub absent_part : (p : Params) (seats : Tenancies) (marks : MarkNumbers) (kept : List Stopped) (gone : List ℕ) (held : List Held) (now : ℕ)
+    (m : Moment) (c : ℕ) (q : Rec) (r : Bool) → r ≡ has_record c q held → r ≡ false → TellsViews p seats marks kept gone held now m
+    → IsTrue true ↔ (IsTrue (is_in_view p m c q) → IsPart p m q.tenancy q.visit)
+absent_part p seats marks kept gone held now m c q r is e h = (
+  (λ t seen. absurd (false≢true (sym e ∙ (is ∙ (h.records.records c q ∙ seen))))),
+  (λ all. refl),
+)
+
+pub present_part : (p : Params) (seats : Tenancies) (marks : MarkNumbers) (kept : List Stopped) (gone : List ℕ) (held : List Held) (now : ℕ)
+    (m : Moment) (c : ℕ) (q : Rec) (r a : Bool) → r ≡ has_record c q held → r ≡ true → TellsViews p seats marks kept gone held now m
+    → IsTrue a ↔ IsPart p m q.tenancy q.visit → IsTrue a ↔ (IsTrue (is_in_view p m c q) → IsPart p m q.tenancy q.visit)
+present_part p seats marks kept gone held now m c q r a is e h judged = (
+  (λ t seen. judged.0 t),
+  (λ all. judged.1 (all (sym (h.records.records c q) ∙ (sym is ∙ e)))),
+)
+
+pub took_judged : (p : Params) (m : Moment) (c : ℕ) (w : What) (q : Rec) (r : Bool) → w ≡ what.Took q
+    → IsTrue r ↔ (IsTrue (is_in_view p m c q) → IsPart p m q.tenancy q.visit) → IsTrue r ↔ IsTakenPart p m c w
+took_judged p m c w q r is judged = (
+  (λ t k taken seen.
+      let same : k ≡ q = subst (λ (x : What). IsRecordTaken x k) is taken in
+      subst (λ (z : Rec). IsPart p m z.tenancy z.visit) (sym same)
+      (judged.0 t (subst (λ (z : Rec). IsTrue (is_in_view p m c z)) same seen))),
+  (λ all. judged.1 (λ seen. all q (subst (λ (x : What). IsRecordTaken x q) (sym is) refl) seen)),
+)
+
+takes_none : (w : What) (k : Rec) → ((q : Rec) → w ≡ what.Took q → ⊥) → IsRecordTaken w k → ⊥
+takes_none (what.Took q) k other taken = other q refl
+takes_none w k other taken = taken
+
+pub other_judged : (p : Params) (m : Moment) (c : ℕ) (w : What) → ((q : Rec) → w ≡ what.Took q → ⊥) → IsTrue true ↔ IsTakenPart p m c w
+other_judged p m c w other = (
+  (λ t k taken seen. absurd (takes_none w k other taken)),
   (λ all. refl),
 )
 
@@ -318,6 +382,16 @@ late_judged p seats marks kept gone held now m before from to r fits first secon
           ))),
     )
 
+-- within a beat none runs out
+pub none_late : (p : Params) (seats : Tenancies) (marks : MarkNumbers) (kept : List Stopped) (gone : List ℕ) (held : List Held) (now : ℕ)
+    (m : Moment) (before : ℕ) → before ≡ now → TellsViews p seats marks kept gone held now m → IsTrue true ↔ LateArePart p m before
+none_late p seats marks kept gone held now m before same h = (
+  (λ t. all-given (λ (stop : Stop). RunsOut p before m.beat stop → IsInstancePart p m stop.instance) m.schedule.stops
+      (λ stop out. absurd (both_ways (is_in_time p m.beat stop.beat) out.1
+      (subst (λ (b : ℕ). IsTrue (is_in_time p b stop.beat)) (same ∙ h.beat) out.0)))),
+  (λ all. refl),
+)
+
 -- ---- one instance after another
 
 pub one_fails : (p : Params) (m : Moment) (kept : List Stopped) (from to at : ℕ) (s : Stopped) (r : Bool)
@@ -350,21 +424,27 @@ all_before p m kept from to at over before = (
 
 -- ---- a step
 
-pub step_judged : (p : Params) (m : Moment) (x : Noted) (before : ℕ) (touched : Option Instance) (a b r : Bool) → before ≡ m.beat → r ≡ (a && b)
+pub step_judged : (p : Params) (m : Moment) (x : Noted) (before : ℕ) (touched : Option Instance) (t a b r : Bool) → before ≡ m.beat
+    → r ≡ (t && (a && b))
     → ((v : ℕ) → Touches m.schedule x.entry.what v → touched ≡ Some (record { 0 = v }))
+    → IsTrue t ↔ IsTakenPart p (next_moment m x) x.node x.entry.what
     → IsTrue a ↔ ((v : Instance) → touched ≡ Some v → IsInstancePart p (next_moment m x) v.0)
     → IsTrue b ↔ LateArePart p (next_moment m x) before
     → ViewsArePart p m → IsTrue r ↔ ViewsArePart p (next_moment m x)
-step_judged p m x before touched a b r is e touches in_place in_time part = (
-  (λ t.
-      let both : IsTrue (a && b) = sym e ∙ t in
+step_judged p m x before touched t a b r is e touches taken in_place in_time part = (
+  (λ h.
+      let all : IsTrue (t && (a && b)) = sym e ∙ h in
+      let both = and_right t (a && b) all in
       kept_part p m x part (record {
+        taken = taken.0 (and_left t (a && b) all);
         touched = λ v q. in_place.0 (and_left a b both) (record { 0 = v }) (touches v q);
         late = subst (λ (n : ℕ). LateArePart p (next_moment m x) n) is (in_time.0 (and_right a b both));
       })),
-  (λ all. e ∙ and_both a b
+  (λ all. e ∙ and_both t (a && b)
+      (taken.1 (λ q own seen. all_part p (next_moment m x) all x.node q seen))
+      (and_both a b
       (in_place.1 (λ v q. part_of_all p (next_moment m x) v.0 all))
-      (in_time.1 (late_of_all p (next_moment m x) before all))),
+      (in_time.1 (late_of_all p (next_moment m x) before all)))),
 )
 
 -- ---- the first stop that has not run out

@@ -21,31 +21,31 @@ use Rattle.run_model.specs.Parts.{IsPart, ViewsArePart, ViewsAreAlwaysPart, was_
 use Rattle.run_model.proofs.Reflects.{and_both, and_left, and_right, or_either, or_first, or_second, at_most}
 use Rattle.audit_frame.proofs.Added.{or_false}
 use Rattle.audit_frame.proofs.Deciding.{GoesBySteps}
-use Rattle.audit_views.specs.Views.{is_in_view, IsInstancePart, Touches, KeepsPart, LateArePart, RunsOut, is_in_time}
+use Rattle.audit_views.specs.Views.{is_in_view, IsInstancePart, IsRecordTaken, Touches, KeepsPart, LateArePart, RunsOut, is_in_time}
 use Rattle.audit_views.proofs.Members.{one_record, kept_stood, lives, stands, all_part, from_part}
 
--- ---- a record that stands after an entry stood before it, or is touched by it
+-- ---- a record that stands after an entry stood before it, or is the one that it takes
 
-was_taken : (w : What) (r : Rec) (xs : List Rec) (s : Schedule) → IsTrue (list_any (same_record r) (recorded xs w))
-    → IsTrue (list_any (same_record r) xs) ⊎ Touches s w r.tenancy.instance.0
-was_taken (what.Took q) r xs s t = ⊎_elim
+was_taken : (w : What) (r : Rec) (xs : List Rec) → IsTrue (list_any (same_record r) (recorded xs w))
+    → IsTrue (list_any (same_record r) xs) ⊎ IsRecordTaken w r
+was_taken (what.Took q) r xs t = ⊎_elim
     (λ a. inl a)
-    (λ a. inr (ap (λ (k : Rec). k.tenancy.instance.0) (sym (one_record r q (sym (or_false (same_record r q)) ∙ a)))))
+    (λ a. inr (one_record r q (sym (or_false (same_record r q)) ∙ a)))
     (or_either (list_any (same_record r) xs) (same_record r q || false) (sym (list_any-append (same_record r) xs (q ∷ [])) ∙ t))
-was_taken (what.Dropped q) r xs s t = inl (kept_stood (same_record r) (λ k. not (same_record q k)) xs t)
-was_taken other r xs s t = inl t
+was_taken (what.Dropped q) r xs t = inl (kept_stood (same_record r) (λ k. not (same_record q k)) xs t)
+was_taken other r xs t = inl t
 
-taken_by : (b : Bool) (w : What) (r : Rec) (xs : List Rec) (s : Schedule) → IsTrue (list_any (same_record r) (cond b (recorded xs w) xs))
-    → IsTrue (list_any (same_record r) xs) ⊎ Touches s w r.tenancy.instance.0
-taken_by true w r xs s t = was_taken w r xs s t
-taken_by false w r xs s t = inl t
+taken_by : (b : Bool) (w : What) (r : Rec) (xs : List Rec) → IsTrue (list_any (same_record r) (cond b (recorded xs w) xs))
+    → IsTrue (list_any (same_record r) xs) ⊎ (IsTrue b × IsRecordTaken w r)
+taken_by true w r xs t = ⊎_elim (λ a. inl a) (λ a. inr (refl, a)) (was_taken w r xs t)
+taken_by false w r xs t = inl t
 
 neither : (a b : Bool) → (a || b) ≡ false → a ≡ false
 neither true b h = h
 neither false b h = refl
 
 stood : (p : Params) (m : Moment) (x : Noted) (c : ℕ) (r : Rec) → IsTrue (is_in_view p (next_moment m x) c r)
-    → IsTrue (is_in_view p m c r) ⊎ Touches m.schedule x.entry.what r.tenancy.instance.0
+    → IsTrue (is_in_view p m c r) ⊎ (IsTrue (x.node == c) × IsRecordTaken x.entry.what r)
 unfolding next_moment
 stood p m x c r t =
     let live = lives p (next_moment m x) c r t in
@@ -53,7 +53,7 @@ stood p m x c r t =
     ⊎_elim
     (λ a. inl (stands p m c r live.0 alive a))
     (λ a. inr a)
-    (taken_by (x.node == c) x.entry.what r (m.records c) m.schedule
+    (taken_by (x.node == c) x.entry.what r (m.records c)
     (and_right (nat_lt c p.cubs && not (m.dead c || ((x.node == c) && is_died x.entry.what)))
     (list_any (same_record r) (cond (x.node == c) (recorded (m.records c) x.entry.what) (m.records c))) t))
 
@@ -171,7 +171,7 @@ still_part p m x k c r t part = ⊎_elim
 pub kept_part : (p : Params) (m : Moment) (x : Noted) → ViewsArePart p m → KeepsPart p m x → ViewsArePart p (next_moment m x)
 kept_part p m x h k = from_part p (next_moment m x) (λ c r t. ⊎_elim
     (λ a. still_part p m x k c r t (all_part p m h c r a))
-    (λ a. k.touched r.tenancy.instance.0 a c r t refl)
+    (λ a. k.taken r a.1 (subst (λ (n : ℕ). IsTrue (is_in_view p (next_moment m x) n r)) (sym (eqb-true x.node c a.0)) t))
     (stood p m x c r t))
 
 pub part_of_all : (p : Params) (m : Moment) (v : ℕ) → ViewsArePart p m → IsInstancePart p m v

@@ -36,11 +36,19 @@ IsInstancePart p m v =
 
 -- ---- what an entry may take out of the schedule
 
--- an entry touches an instance if a record of it is taken, or if it had the slot into which another one is put
+-- an entry touches an instance if that had the slot into which another one is put
 abbrev pub Touches : Schedule → What → ℕ → Type 0
-Touches s (what.Took r) v = r.tenancy.instance.0 ≡ v
 Touches s (what.Put t) v = (u : Tenancy) × (s.holder t.slot.0 ≡ Some u) × (u.instance.0 ≡ v)
 Touches s other v = ⊥
+
+-- a record is that which an entry takes
+abbrev pub IsRecordTaken : What → Rec → Type 0
+IsRecordTaken (what.Took q) r = r ≡ q
+IsRecordTaken other r = ⊥
+
+-- the record that an entry of a node takes is part, if the node's view has it
+abbrev pub IsTakenPart : Params → Moment → ℕ → What → Type 0
+IsTakenPart p m c w = (r : Rec) → IsRecordTaken w r → IsTrue (is_in_view p m c r) → IsPart p m r.tenancy r.visit
 
 -- whether records of an instance that is stopped in one beat may stand in another
 abbrev pub is_in_time : Params → ℕ → ℕ → Bool
@@ -55,8 +63,9 @@ abbrev pub LateArePart : Params → Moment → ℕ → Type 0
 LateArePart p m before =
     AllByRecursion (λ stop. RunsOut p before m.beat stop → IsInstancePart p m stop.instance) m.schedule.stops
 
--- what an entry touches is part after it, and so is what runs out with it
+-- what an entry takes and what it touches is part after it, and so is what runs out with it
 pub record KeepsPart (p : Params) (m : Moment) (x : Noted) : Type 0 where
+  pub taken : IsTakenPart p (next_moment m x) x.node x.entry.what
   pub touched : (v : ℕ) → Touches m.schedule x.entry.what v → IsInstancePart p (next_moment m x) v
   pub late : LateArePart p (next_moment m x) m.beat
 

@@ -104,7 +104,7 @@ impl Records {
 }
 
 /// Whether a record is of a visit of the tenancy that has its slot.
-fn is_seated(seats: &Seats, held: &Held) -> bool
+pub(crate) fn is_seated(seats: &Seats, held: &Held) -> bool
     ensures { result ≡ is_seated seats.now held.now }
 {
     match seats.get(SlotNo(held.slot)) {
@@ -140,7 +140,7 @@ fn first_of(instance: u64) -> Held
     }
 }
 
-fn held_by(cub: NodeNo, r: &Rec) -> Held
+pub(crate) fn held_by(cub: NodeNo, r: &Rec) -> Held
     ensures { result ≡ held_by cub.0 r.now }
 {
     Held {

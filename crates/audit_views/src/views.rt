@@ -5,20 +5,20 @@ ghost use Rattle.tiger_base.specs.declared.number.Instance.{Instance};
 ghost use Rattle.run_facts.specs.Accounts.{Rising};
 ghost use Rattle.run_facts.specs.Order.{beat_of};
 ghost use Rattle.run_model.specs.Moments.{Moment, next_moment};
-ghost use Rattle.run_model.specs.Parts.{ViewsArePart, ViewsAreAlwaysPart};
+ghost use Rattle.run_model.specs.Parts.{IsPart, ViewsArePart, ViewsAreAlwaysPart};
 ghost use Rattle.audit_frame.specs.First.{Decides};
 ghost use Rattle.audit_frame.specs.Lines.{noted_line, told_by};
 ghost use Rattle.audit_frame.specs.Tables.{mark_under, seat_by, seat_under, unless_by};
-ghost use Rattle.audit_views.specs.Views.{TellsViews, IsInstancePart, LateArePart, RunsOutUpTo, Touches, is_in_time, is_marked, of_instance};
+ghost use Rattle.audit_views.specs.Views.{TellsViews, IsInstancePart, IsTakenPart, LateArePart, RunsOutUpTo, Touches, is_in_time, is_in_view, is_marked, of_instance};
 ghost use Rattle.audit_views.specs.declared.views.Stopped.{Stopped};
 
 use crate::cubs::{take_death, take_record};
-use crate::records::Records;
+use crate::records::{Records, held_by, is_seated};
 use audit_frame::{Line, Marks, Numbers, Seats, is_within, line_at};
 use node_kit::What;
 use slot_plan::Plan;
 use std::alloc::Global;
-use tiger_base::{Beat, Instance, NoMemory, SlotNo, Tenancy};
+use tiger_base::{Beat, Instance, NoMemory, NodeNo, Rec, SlotNo, Tenancy};
 
 /// A stop of an instance, in a beat.
 #[derive(Clone, Copy, Debug)]
@@ -43,8 +43,8 @@ struct SoFar {
 
 /// The first entry of a log after which some cub's view has a record that is no part of the schedule; `None` if there is
 /// none. No entry of the log stands behind one of a later beat. Each entry costs the logarithm of the number of records
-/// and of that of stops, and a look at each record of an instance that it touches or whose stop runs out with it; a death
-/// costs a look at each record.
+/// and of that of stops; a Put a look at each record of the instance that had its slot; a stop that runs out the logarithm of
+/// the number of records; and a death a look at each record.
 ///
 /// `NoMemory` is the only error.
 pub fn first_stray_view<'a>(
@@ -103,9 +103,10 @@ impl SoFar {
         let before = self.beat;
         let touched = self.touched_by(line);
         self.take(plan, line)?;
+        let taken = self.is_taken_part(plan, line);
         let in_place = self.is_touched_part(plan, touched);
         let in_time = self.are_late_part(plan, before);
-        Ok(are_both(in_place, in_time))
+        Ok(are_three(taken, in_place, in_time))
     }
 
     /// The instance that an entry touches, if it touches any.
@@ -116,7 +117,6 @@ impl SoFar {
             → Touches m.schedule line.now.entry.now.what v → result ≡ Some (record { 0 = v }) }
     {
         match line.entry.what {
-            What::Took(r) => Some(r.tenancy.instance),
             What::Put(t) => self.seated_in(t.slot),
             _ => None,
         }
@@ -155,6 +155,48 @@ impl SoFar {
         }
     }
 
+    /// Whether the record that an entry takes is part, if the node's view has it.
+    fn is_taken_part<'a>(&self, plan: &Plan, line: &Line<'a>) -> bool
+        ensures { (m : Moment)
+            → TellsViews plan.now.params self.now.seats self.now.latest self.now.stops.items
+            self.now.dead self.now.records self.now.beat m
+            → IsTrue result
+            ↔ IsTakenPart plan.now.params m line.now.node.0 line.now.entry.now.what }
+    {
+        match line.entry.what {
+            What::Took(r) => self.is_kept_part(plan, line.node, &r),
+            _ => true,
+        }
+    }
+
+    /// Whether a record is part, if a node's view has it.
+    fn is_kept_part(&self, plan: &Plan, node: NodeNo, r: &Rec) -> bool
+        ensures { (m : Moment)
+            → TellsViews plan.now.params self.now.seats self.now.latest self.now.stops.items
+            self.now.dead self.now.records self.now.beat m
+            → IsTrue result ↔ (IsTrue (is_in_view plan.now.params m node.0 r.now)
+            → IsPart plan.now.params m r.now.tenancy r.now.visit) }
+    {
+        if !self.records.has(node, r) {
+            return true;
+        }
+        self.is_record_part(plan, node, r)
+    }
+
+    /// Whether a record is part: one of an instance that was stopped for a block play time after it, and another one if
+    /// it is of a visit of the tenancy that has its slot.
+    fn is_record_part(&self, plan: &Plan, node: NodeNo, r: &Rec) -> bool
+        ensures { (m : Moment)
+            → TellsViews plan.now.params self.now.seats self.now.latest self.now.stops.items
+            self.now.dead self.now.records self.now.beat m
+            → IsTrue result ↔ IsPart plan.now.params m r.now.tenancy r.now.visit }
+    {
+        match self.latest.get(r.tenancy.instance.0) {
+            Some(stop) => is_within(plan, plan.params.play, self.beat, stop),
+            None => is_seated(&self.seats, &held_by(node, r)),
+        }
+    }
+
     /// Whether the records of an instance are part, if there is one.
     fn is_touched_part(&self, plan: &Plan, touched: Option<Instance>) -> bool
         ensures { (m : Moment)
@@ -176,6 +218,9 @@ impl SoFar {
             self.now.dead self.now.records self.now.beat m
             → IsTrue result ↔ LateArePart plan.now.params m before }
     {
+        if is_same_beat(before, self.beat) {
+            return true;
+        }
         let from = run_out_in(&self.stops, plan, before);
         let to = run_out_in(&self.stops, plan, self.beat);
         self.are_all_part(plan, from, to)
@@ -225,10 +270,17 @@ impl SoFar {
     }
 }
 
-fn are_both(left: bool, right: bool) -> bool
-    ensures { result ≡ (left && right) }
+/// Whether two beats are one: between them no stop runs out.
+fn is_same_beat(before: Beat, beat: Beat) -> bool
+    ensures { IsTrue result → before ≡ beat }
 {
-    left && right
+    before == beat
+}
+
+fn are_three(taken: bool, in_place: bool, in_time: bool) -> bool
+    ensures { result ≡ (taken && (in_place && in_time)) }
+{
+    taken && in_place && in_time
 }
 
 fn is_either(left: bool, right: bool) -> bool

@@ -17,12 +17,12 @@ use Rattle.run_model.specs.Schedule.{Stop}
 use Rattle.run_model.specs.Views.{same_record, recorded}
 use Rattle.run_model.specs.Moments.{Moment, next_moment, opening, is_belief_of, view_of}
 use Rattle.run_model.specs.Orders.{IsOfRecentlyStopped, IsRecentStop}
-use Rattle.run_model.proofs.Reflects.{and_both, and_left, and_right, or_either, or_first, or_second, any, any_found, any_gives, at_most, both, equal}
+use Rattle.run_model.proofs.Reflects.{and_both, and_left, and_right, or_either, or_first, or_second, any, any_found, at_most, both, equal}
 use Rattle.slot_plan.specs.Times.{time_of}
-use Rattle.audit_frame.specs.Tables.{has_number, has_pair, mark_under}
+use Rattle.audit_frame.specs.Tables.{has_number, has_pair}
 use Rattle.audit_frame.proofs.Added.{or_false, or_none}
 use Rattle.audit_waits.specs.Cubs.{TellsCubs, excuses_in, is_excusing}
-use Rattle.audit_waits.specs.Holders.{TellsHolders, is_latest_recent, is_recent_stop}
+use Rattle.audit_waits.specs.Holders.{TellsHolders, is_recent_stop}
 use Rattle.audit_waits.specs.Spots.{has_spot, is_one_spot, is_spot_of, record_on, spot_by, spot_cmp}
 use Rattle.audit_waits.specs.declared.cubs.Cubs.{Cubs}
 use Rattle.audit_waits.specs.declared.holders.Holders.{Holders}

@@ -1,20 +1,18 @@
 -- What a set of numbers in groups has after a change.
-use Rattle.std.proofs.Common.{◌≡◌, ℕ, ◌+◌, nat_le, arith, Bool, true, false, not, ◌&&◌, ◌||◌, ◌==◌, IsTrue, cond, List, [], ◌∷◌, filter, Option, Some, None, is_some, Bor, refl, sym, ap, subst, ◌∙◌}
-use Rattle.std.specs.declared.cmp.Ordering.{Ordering}
+use Rattle.std.proofs.Common.{◌≡◌, ℕ, ◌+◌, nat_le, arith, Bool, true, false, not, ◌&&◌, ◌||◌, ◌==◌, cond, List, [], ◌∷◌, filter, Option, Some, None, is_some, Bor, refl, sym, ap, ◌∙◌}
 use Rattle.std.specs.declared.ops.Bound.TheVariants.{Included, Excluded}
 use Rattle.std.specs.BTreeMap.Range.{range_contains}
 use Rattle.std.specs.Cmp.{unsigned_tied}
 use Rattle.std.specs.List.{list_any}
 use Rattle.std.specs.Map.Iter.{TakesFirst, deref}
 use Rattle.std.specs.Ordering.{is_eq, is_le, nat_cmp, ordering_then}
-use Rattle.std.proofs.lemmas.Bool.{eqb-true, eq-eqb, false≢true, both_ways}
+use Rattle.std.proofs.lemmas.Bool.{eqb-true, false≢true}
 use Rattle.std.proofs.lemmas.Bool.Decides.{nat_tests}
 use Rattle.run_model.proofs.Reflects.{and_right}
 use Rattle.slot_plan.specs.declared.params.Params.{Params}
 use Rattle.audit_frame.specs.Tables.{has_pair}
 use Rattle.audit_frame.proofs.Added.{or_false, turned}
-use Rattle.audit_frame.proofs.Tabled.{both_equal, pair_added}
-use Rattle.audit_waits.specs.Groups.{has_group}
+use Rattle.audit_frame.proofs.Tabled.{both_equal}
 use Rattle.audit_waits.specs.Starts.{cub_for}
 use Rattle.audit_waits.proofs.Keyed.{any_filtered, filter_alike, le_then, le_is, least_number}
 

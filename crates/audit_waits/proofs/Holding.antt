@@ -1,5 +1,5 @@
 -- Who holds each slot and whose stop is recent, after one entry more.
-use Rattle.std.proofs.Common.{◌≡◌, ℕ, ◌+◌, ◌≤◌, Bool, true, false, not, ◌&&◌, ◌||◌, ◌==◌, IsTrue, nat_lt, nat_le, cond, List, [], ◌∷◌, ◌++◌, Option, Some, None, is_some, refl, sym, ap, subst, ◌∙◌, arith}
+use Rattle.std.proofs.Common.{◌≡◌, ℕ, ◌+◌, ◌≤◌, Bool, true, false, not, ◌&&◌, ◌||◌, ◌==◌, IsTrue, nat_lt, nat_le, cond, List, [], ◌∷◌, Option, Some, None, is_some, refl, sym, ap, subst, ◌∙◌, arith}
 use Rattle.std.specs.List.{list_any}
 use Rattle.std.proofs.lemmas.Bool.{eqb-true, false≢true, ltb-true}
 use Rattle.std.proofs.lemmas.List.Folds.{list_any-append}
@@ -17,7 +17,8 @@ use Rattle.run_model.proofs.Reflects.{at_most}
 use Rattle.audit_frame.specs.Tables.{MarkNumbers, Tenancies, mark_under, seat_under, seat_by, unless_by}
 use Rattle.audit_frame.proofs.Added.{not_below, or_false}
 use Rattle.audit_frame.proofs.Seated.{gone_seat, put_holder, put_stops}
-use Rattle.audit_waits.specs.Holders.{TellsHolders, has_its_visit, has_mark, holder_in, is_latest_recent, is_recent_stop, is_soon_behind, later_stop}
+use Rattle.audit_waits.specs.Holders.{TellsHolders, has_its_visit, has_mark, is_latest_recent, is_recent_stop, is_soon_behind, later_stop}
+use Rattle.audit_waits.specs.Seen.{KeepsVisits}
 use Rattle.audit_waits.specs.declared.holders.Holders.{Holders}
 
 -- ---- a Put
@@ -160,3 +161,30 @@ seat_tells gone t visit seat r is e =
     go : (b : Bool) → (not b && (nat_le t.first visit && nat_le visit t.last)) ≡ has_its_visit (cond b None (Some t)) visit
     go true = refl
     go false = refl
+
+-- ---- who keeps what
+
+seat_stays : (gone : ℕ → Bool) (t : Tenancy) (slot visit : ℕ) (seats : Tenancies) → is_some (seat_under t.slot.0 seats) ≡ false
+    → IsTrue (has_its_visit (unless_by gone (seat_under slot seats)) visit)
+    → IsTrue (has_its_visit (unless_by gone (seat_by gone seats t slot)) visit)
+seat_stays gone t slot visit seats none had = go (gone t.instance.0) (t.slot.0 == slot) refl
+  where
+    nobody : (o : Option Tenancy) → is_some o ≡ false → IsTrue (has_its_visit (unless_by gone o) visit) → ⊥
+    nobody None e h = false≢true h
+    nobody (Some u) e h = false≢true (sym e)
+
+    go : (a b : Bool) → (t.slot.0 == slot) ≡ b
+        → IsTrue (has_its_visit (unless_by gone (cond a (seat_under slot seats) (cond b (Some t) (seat_under slot seats)))) visit)
+    go true b e = had
+    go false true e = absurd (nobody (seat_under slot seats)
+        (subst (λ (k : ℕ). is_some (seat_under k seats) ≡ false) (eqb-true t.slot.0 slot e) none) had)
+    go false false e = had
+
+-- where a Put finds that nobody had its slot, each visit that was had is had
+pub put_keeps : (old new : Holders) (t : Tenancy) (seat : Option Tenancy) (first : Bool) → seat ≡ seat_under t.slot.0 old.seats
+    → is_some seat ≡ not first → IsTrue first → new.stops ≡ old.stops
+    → ((k : ℕ) → seat_under k new.seats ≡ seat_by (has_mark old.stops) old.seats t k) → KeepsVisits old new
+put_keeps old new t seat first is e sure same seated k had =
+    subst (λ (o : Option Tenancy). IsTrue (has_its_visit (unless_by (has_mark new.stops) o) k.1)) (sym (seated k.0.0))
+    (subst (λ (marks : MarkNumbers). IsTrue (has_its_visit (unless_by (has_mark marks) (seat_by (has_mark old.stops) old.seats t k.0.0)) k.1)) (sym same)
+    (seat_stays (has_mark old.stops) t k.0.0 k.1 old.seats (ap is_some (sym is) ∙ e ∙ ap not sure) had))

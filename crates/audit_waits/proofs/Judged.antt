@@ -1,35 +1,33 @@
 -- A tick is judged by the tables.
-use Rattle.std.proofs.Common.{◌≡◌, ℕ, zero, suc, ◌+◌, ◌-◌, ◌*◌, ◌/◌, ◌%◌, ◌<◌, ◌≤◌, Bool, true, false, not, ◌&&◌, ◌||◌, ◌==◌, IsTrue, nat_le, List, [], ◌∷◌, Option, Some, None, refl, sym, ap, subst, ◌∙◌, ⊎_elim, inl, inr, arith}
+use Rattle.std.proofs.Common.{◌≡◌, ℕ, zero, suc, ◌+◌, ◌-◌, ◌*◌, ◌/◌, ◌%◌, ◌<◌, ◌≤◌, Bool, true, false, not, ◌&&◌, ◌==◌, IsTrue, nat_le, List, [], ◌∷◌, get_or, Option, Some, None, refl, sym, ap, subst, ◌∙◌, ⊎_elim, inl, inr, arith}
 use Rattle.std.specs.Prelude.{◌↔◌, ◌⊎◌}
-use Rattle.std.specs.List.{list_any}
 use Rattle.std.specs.Ordering.{is_eq, nat_cmp, ordering_then}
 use Rattle.std.proofs.lemmas.Bool.{eqb-true, eq-eqb, false≢true, cases_lt}
-use Rattle.std.proofs.lemmas.Nat.{div-add-mod', mod_below, mod-mul-add, div_below}
+use Rattle.std.proofs.lemmas.Nat.{div-add-mod', mod_below, mod-mul-add, div_below, mul-le}
 use Rattle.tiger_base.specs.declared.tenancy.Ask.{Ask}
 use Rattle.tiger_base.specs.declared.tenancy.Tenancy.{Tenancy}
 use Rattle.slot_plan.specs.declared.params.Params.{Params}
-use Rattle.slot_plan.specs.Conditions.{IsPlan, IsInRange}
+use Rattle.slot_plan.specs.Conditions.{IsPlan}
 use Rattle.slot_plan.specs.Keys.{Key}
 use Rattle.slot_plan.specs.Times.{disk_of, disk_count, in_window}
 use Rattle.slot_plan.specs.Windows.{IsOpen}
 use Rattle.slot_plan.proofs.Times.{disk_below}
 use Rattle.node_kit.specs.declared.course.Order.{Order}
-use Rattle.node_kit.specs.declared.journal.Entry.{Entry}
 use Rattle.run_model.specs.Fronts.{AnyByRecursion}
 use Rattle.run_model.specs.Moments.{Moment, view_of}
 use Rattle.run_model.specs.Schedule.{is_stopped}
 use Rattle.run_model.specs.Orders.{IsNotPassedOver, IsOfRecentlyStopped, IsOrdered, IsStartOf, IsTaken, HasStart}
-use Rattle.run_model.proofs.Reflects.{and_both, and_left, and_right, or_either, or_first, or_second, at_most, both, either, negated}
+use Rattle.run_model.proofs.Reflects.{and_both, and_left, and_right, or_either, or_first, or_second, at_most, either}
 use Rattle.audit_frame.specs.Tables.{has_pair}
 use Rattle.audit_waits.specs.Groups.{has_group}
-use Rattle.audit_waits.specs.Cubs.{TellsCubs, excuses_in}
-use Rattle.audit_waits.specs.Holders.{TellsHolders, has_its_visit, holder_in}
-use Rattle.audit_waits.specs.Starts.{AreDisksOf, TellsStarts, WaitsFor, cub_for, waiting_in, waits_for}
+use Rattle.audit_waits.specs.Cubs.{excuses_in}
+use Rattle.audit_waits.specs.Holders.{has_its_visit, holder_in}
+use Rattle.audit_waits.specs.Starts.{cub_for, waiting_in}
 use Rattle.audit_waits.specs.Ticks.{AreDisksServed, AreVisitsTaken, IsDiskServed, TellsWaits, is_missed_by, is_taken_by}
 use Rattle.audit_waits.specs.declared.so_far.SoFar.{SoFar}
-use Rattle.audit_waits.specs.declared.starts.Starts.{Starts}
 use Rattle.audit_waits.proofs.Excusing.{excuses_is}
 use Rattle.audit_waits.proofs.Grouped.{pair_is}
+use Rattle.audit_waits.proofs.Ordered.{asked_of}
 use Rattle.audit_waits.proofs.Waiting.{waits_is}
 
 -- ---- a visit
@@ -107,6 +105,18 @@ pub none_waits : (p : Params) (orders : List Order) (s : SoFar) (m : Moment) (c 
 none_waits p orders s m c beat reading redundant disk r tells is e v waits =
     absurd (false≢true (sym (sym is ∙ e)
     ∙ group_of disk v (waiting_in redundant s.starts) (tells.starts.waiting redundant disk v ∙ waits)))
+
+pub all_taken : (p : Params) (orders : List Order) (s : SoFar) (m : Moment) (c beat reading : ℕ) (redundant : Bool) (disk : ℕ)
+    → TellsWaits p orders s m → ((k : Key) → IsOpen p reading disk (is_missed_by p s c beat) k → ⊥)
+    → IsDiskServed p s.starts.disks m c beat reading redundant disk
+all_taken p orders s m c beat reading redundant disk tells none v waits = visits_are p orders s m c beat reading disk tells none
+
+pub none_asked : (p : Params) (orders : List Order) (s : SoFar) (m : Moment) (c beat reading : ℕ) (redundant : Bool) (disk : ℕ) (r : Bool)
+    → TellsWaits p orders s m → r ≡ get_or s.starts.asked.items disk true → r ≡ false
+    → IsDiskServed p s.starts.disks m c beat reading redundant disk
+none_asked p orders s m c beat reading redundant disk r tells is e v waits =
+    let there = and_left (has_pair v disk s.starts.disks) _ waits in
+    absurd (false≢true (sym e ∙ (is ∙ asked_of s.starts.asked.items orders v disk tells.asked ((tells.disks v disk).0 there))))
 
 pub some_wait : (p : Params) (orders : List Order) (s : SoFar) (m : Moment) (c beat reading : ℕ) (redundant : Bool) (disk : ℕ) (r q : Bool)
     → TellsWaits p orders s m → r ≡ has_group disk (waiting_in redundant s.starts) → r ≡ true
@@ -280,6 +290,11 @@ tick_judged p orders s m c beat reading before own other plan low early is tells
 )
 
 -- ---- the loop over the disks of a cub
+
+pub disk_inside : (p : Params) (cub k disk : ℕ) → cub < p.cubs → k < p.disks → disk ≡ cub + k * p.cubs → disk < disk_count p
+disk_inside p cub k disk low few is =
+    let most = mul-le (k + 1) p.cubs p.disks p.cubs (omega (arith, few)) (omega arith) in
+    omega (arith, low, is, most)
 
 pub disk_missed : (p : Params) (s : SoFar) (m : Moment) (c beat reading : ℕ) (redundant : Bool) (cub k disk : ℕ) (r : Bool) → k < p.disks
     → disk ≡ cub + k * p.cubs → r ≡ false → IsTrue r ↔ IsDiskServed p s.starts.disks m c beat reading redundant disk

@@ -7,6 +7,7 @@ pub mod Spotted
 pub mod Holding
 pub mod Excusing
 pub mod Windows
+pub mod Seeing
 pub mod Judged
 pub mod Passing
 pub mod Saying

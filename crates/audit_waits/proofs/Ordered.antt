@@ -1,6 +1,6 @@
 -- The table of the disks of the starts that were ordered.
-use Rattle.std.proofs.Common.{◌≡◌, ℕ, ◌+◌, ◌<◌, ◌≤◌, Bool, true, false, ◌&&◌, ◌||◌, ◌==◌, IsTrue, List, [], ◌∷◌, length, take, get_or, refl, sym, ap, subst, ◌∙◌, ⊎_elim, inl, inr}
-use Rattle.std.specs.Prelude.{◌↔◌}
+use Rattle.std.proofs.Common.{◌≡◌, ℕ, zero, suc, ◌+◌, ◌<◌, ◌≤◌, Bool, true, ◌&&◌, ◌||◌, ◌==◌, IsTrue, List, [], ◌∷◌, length, take, get_or, refl, sym, ap, subst, ◌∙◌, ⊎_elim, inl, inr}
+use Rattle.std.specs.Prelude.{◌↔◌, slice_set}
 use Rattle.std.specs.List.{list_any}
 use Rattle.std.proofs.lemmas.Bool.{eqb-true, eq-eqb, false≢true}
 use Rattle.std.proofs.lemmas.List.{take_more, take_all}
@@ -10,11 +10,10 @@ use Rattle.tiger_base.specs.declared.tenancy.Ask.{Ask}
 use Rattle.node_kit.specs.declared.course.Order.{Order}
 use Rattle.node_kit.specs.declared.course.OrderKind.{OrderKind}
 use Rattle.node_kit.specs.declared.course.OrderKind.TheVariants as kind
-use Rattle.run_model.specs.Fronts.{AnyByRecursion}
-use Rattle.run_model.proofs.Reflects.{and_both, and_left, and_right, or_either, any_gives}
+use Rattle.run_model.proofs.Reflects.{and_both, and_left, and_right, or_either, or_first, or_second, any_gives}
 use Rattle.audit_frame.specs.Tables.{has_pair}
 use Rattle.audit_frame.proofs.Added.{or_false}
-use Rattle.audit_waits.specs.Starts.{IsOrderedOn, begins_on, AreDisksOf}
+use Rattle.audit_waits.specs.Starts.{AreAsked, IsOrderedOn, begins_at, begins_on, AreDisksOf}
 
 -- ---- one order
 
@@ -77,3 +76,66 @@ disks_end i orders disks over so_far v disk =
     subst (λ (b : Bool). IsTrue b ↔ IsOrderedOn orders v disk)
     (sym (so_far v disk ∙ ap (list_any (λ (o : Order). begins_on v disk o.what)) (take_all i orders over)))
     (ordered_is v disk orders)
+
+-- ---- the disks on which starts begin
+
+at_disk : (v disk : ℕ) (k : OrderKind) → IsTrue (begins_on v disk k) → IsTrue (begins_at disk k)
+at_disk v disk (kind.Begin ask) h = and_right (ask.instance.0 == v) (ask.disk.0 == disk) h
+at_disk v disk (kind.Finish i) h = absurd (false≢true h)
+
+any_weaker : {X : Type 0} (f g : X → Bool) (xs : List X) → ((x : X) → IsTrue (f x) → IsTrue (g x)) → IsTrue (list_any f xs) → IsTrue (list_any g xs)
+any_weaker f g [] h a = absurd (false≢true a)
+any_weaker f g (x ∷ xs) h a = ⊎_elim
+    (λ b. or_first (g x) (list_any g xs) (h x b))
+    (λ b. or_second (g x) (list_any g xs) (any_weaker f g xs h b))
+    (or_either (f x) (list_any f xs) a)
+
+pub asked_of : (asked : List Bool) (orders : List Order) (v disk : ℕ) → AreAsked asked orders → IsOrderedOn orders v disk
+    → IsTrue (get_or asked disk true)
+asked_of asked orders v disk all on =
+    all disk (any_weaker (λ (o : Order). begins_on v disk o.what) (λ o. begins_at disk o.what) orders (λ o h. at_disk v disk o.what h)
+    ((ordered_is v disk orders).1 on))
+
+-- a mark is set, and the others stay
+mark_stays : (marks : List Bool) (place disk : ℕ) → IsTrue (get_or marks disk true) → IsTrue (get_or (slice_set marks place true) disk true)
+mark_stays [] place disk h = refl
+mark_stays (x ∷ xs) zero zero h = refl
+mark_stays (x ∷ xs) zero (suc j) h = h
+mark_stays (x ∷ xs) (suc i) zero h = h
+mark_stays (x ∷ xs) (suc i) (suc j) h = mark_stays xs i j h
+
+mark_there : (marks : List Bool) (place : ℕ) → IsTrue (get_or (slice_set marks place true) place true)
+mark_there [] place = refl
+mark_there (x ∷ xs) zero = refl
+mark_there (x ∷ xs) (suc i) = mark_there xs i
+
+pub begin_asks : (old new : List Bool) (w : OrderKind) (ask : Ask) → w ≡ kind.Begin ask → new ≡ slice_set old ask.disk.0 true → (disk : ℕ)
+    → IsTrue (get_or old disk true || begins_at disk w) → IsTrue (get_or new disk true)
+begin_asks old new w ask is set disk h =
+    subst (λ (marks : List Bool). IsTrue (get_or marks disk true)) (sym set)
+    (⊎_elim
+    (λ a. mark_stays old ask.disk.0 disk a)
+    (λ a. subst (λ (d : ℕ). IsTrue (get_or (slice_set old ask.disk.0 true) d true))
+    (eqb-true ask.disk.0 disk (subst (λ (k : OrderKind). IsTrue (begins_at disk k)) is a)) (mark_there old ask.disk.0))
+    (or_either (get_or old disk true) (begins_at disk w) h))
+
+pub finish_asks : (old : List Bool) (w : OrderKind) (i : Instance) → w ≡ kind.Finish i → (disk : ℕ)
+    → IsTrue (get_or old disk true || begins_at disk w) → IsTrue (get_or old disk true)
+finish_asks old w i is disk h = ⊎_elim
+    (λ a. a)
+    (λ a. absurd (false≢true (subst (λ (k : OrderKind). IsTrue (begins_at disk k)) is a)))
+    (or_either (get_or old disk true) (begins_at disk w) h)
+
+pub asked_next : (i : ℕ) (orders : List Order) (d : Order) (old new : List Bool) (disk : ℕ) → i < length orders
+    → (IsTrue (get_or old disk true || begins_at disk (get_or orders i d).what) → IsTrue (get_or new disk true))
+    → (IsTrue (list_any (λ o. begins_at disk o.what) (take i orders)) → IsTrue (get_or old disk true))
+    → IsTrue (list_any (λ o. begins_at disk o.what) (take (i + 1) orders)) → IsTrue (get_or new disk true)
+asked_next i orders d old new disk low step before h =
+    let o = get_or orders i d in
+    let test = λ (x : Order). begins_at disk x.what in
+    let split = ap (list_any test) (take_more orders i d low) ∙ list_any-append test (take i orders) (o ∷ [])
+    ∙ ap (λ (b : Bool). list_any test (take i orders) || b) (or_false (begins_at disk o.what)) in
+    step (⊎_elim
+    (λ a. or_first (get_or old disk true) (begins_at disk o.what) (before a))
+    (λ a. or_second (get_or old disk true) (begins_at disk o.what) a)
+    (or_either (list_any test (take i orders)) (begins_at disk o.what) (sym split ∙ h)))

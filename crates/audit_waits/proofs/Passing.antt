@@ -1,5 +1,5 @@
 -- A walk goes on from tick to tick, and knows at each what the entries up to it tell.
-use Rattle.std.proofs.Common.{◌≡◌, ℕ, zero, suc, ◌+◌, ◌<◌, ◌≤◌, Bool, true, false, not, ◌&&◌, ◌||◌, ◌==◌, IsTrue, nat_le, nat_lt, cond, List, [], ◌∷◌, ◌++◌, length, take, filter, Option, Some, None, is_some, refl, sym, ap, subst, ◌∙◌, ⊎_elim, inl, inr, arith}
+use Rattle.std.proofs.Common.{◌≡◌, ℕ, zero, suc, ◌+◌, ◌<◌, ◌≤◌, Bool, true, false, not, ◌&&◌, ◌==◌, IsTrue, nat_le, nat_lt, cond, List, [], ◌∷◌, length, take, filter, Option, Some, None, is_some, refl, sym, ap, subst, ◌∙◌, ⊎_elim, inl, inr, arith}
 use Rattle.std.specs.Prelude.{◌↔◌, ◌⊎◌, slice_index_or}
 use Rattle.std.specs.List.{AllByRecursion, fold}
 use Rattle.std.proofs.lemmas.Bool.{false≢true, cases_lt}
@@ -22,8 +22,9 @@ use Rattle.audit_frame.specs.Lines.{noted_line, told_by}
 use Rattle.audit_frame.specs.declared.lines.Line.{Line}
 use Rattle.audit_frame.proofs.Deciding.{line_more}
 use Rattle.audit_frame.proofs.Walking.{state_next}
-use Rattle.audit_waits.specs.Ticks.{ComesBefore, DecidesPatience, IsFirstPassedOver, IsNextLine, JudgesTick, NoneIsBehind, SaysBeat, SaysTick, StandsBefore, TellsWaits, last_place}
+use Rattle.audit_waits.specs.Ticks.{DecidesPatience, IsNextLine, JudgesTick, NoneIsBehind, SaysBeat, SaysTick, StandsBefore, TellsWaits, last_place}
 use Rattle.audit_waits.specs.declared.walk.PassedOver.{PassedOver}
+use Rattle.audit_waits.specs.declared.so_far.SoFar.{SoFar}
 use Rattle.audit_waits.specs.declared.walk.Walk.{Walk}
 
 -- ---- entries up to a tick
@@ -125,6 +126,16 @@ next_beat p orders lines w beat cub h = record {
   tells = h.tells;
   early = all-weaker (λ x. IsTrue (is_up_to beat cub x)) (λ x. IsTrue (is_up_to (beat + 1) 0 x)) (take w.place (told_by lines))
       (λ x up. up_to_next_beat beat cub x up) h.early;
+}
+
+-- a walk that differs in what ticks have seen alone
+pub stands_still : (p : Params) (orders : List Order) (lines : List Line) (old new : Walk) (beat cub : ℕ) → new.so_far ≡ old.so_far
+    → new.place ≡ old.place → StandsBefore p orders lines old beat cub → StandsBefore p orders lines new beat cub
+stands_still p orders lines old new beat cub same place h = record {
+  inside = subst (λ (i : ℕ). i ≤ length lines) (sym place) h.inside;
+  tells = subst (λ (i : ℕ). TellsWaits p orders new.so_far (fold next_moment opening (take i (told_by lines)))) (sym place)
+      (subst (λ (s : SoFar). TellsWaits p orders s (fold next_moment opening (take old.place (told_by lines)))) (sym same) h.tells);
+  early = subst (λ (i : ℕ). AllByRecursion (λ y. IsTrue (is_up_to beat cub y)) (take i (told_by lines))) (sym place) h.early;
 }
 
 taken_length : (lines : List Line) (i : ℕ) → i ≤ length lines → length (take i (told_by lines)) ≡ i

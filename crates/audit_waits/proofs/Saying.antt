@@ -12,7 +12,6 @@ use Rattle.run_model.specs.Runs.{order_in}
 use Rattle.run_claims.specs.Accounts.{account_of, ticks_in}
 use Rattle.run_claims.specs.Patience.{NobodyIsPassedOver}
 use Rattle.audit_frame.specs.Lines.{told_by}
-use Rattle.audit_frame.specs.declared.lines.Line.{Line}
 use Rattle.audit_waits.specs.Ticks.{DecidesPatience, IsFirstPassedOver, NoneIsBehind}
 use Rattle.audit_waits.specs.Verdicts.{LinesAreInOrder, PatienceOfAccounts, SaysPatience}
 use Rattle.audit_waits.specs.declared.walk.PassedOver.{PassedOver}

@@ -1,7 +1,6 @@
 -- Which starts wait after one entry more.
 use Rattle.std.proofs.Common.{◌≡◌, ℕ, Bool, true, false, not, ◌&&◌, ◌||◌, ◌==◌, IsTrue, cond, List, [], ◌∷◌, ◌++◌, refl, sym, ap, subst, ◌∙◌}
 use Rattle.std.specs.Prelude.{◌↔◌}
-use Rattle.std.specs.List.{list_any}
 use Rattle.std.proofs.lemmas.Bool.{eqb-true, eq-eqb, false≢true}
 use Rattle.std.proofs.lemmas.List.Folds.{list_any-append}
 use Rattle.tiger_base.specs.declared.message.Note.{Note}
@@ -16,14 +15,14 @@ use Rattle.node_kit.specs.declared.journal.Entry.{Entry}
 use Rattle.node_kit.specs.declared.journal.What.{What}
 use Rattle.node_kit.specs.declared.journal.What.TheVariants as what
 use Rattle.run_facts.specs.Order.{Noted, beat_of}
-use Rattle.run_model.specs.Schedule.{Schedule, Stop, after_entry, changed, is_stopped}
+use Rattle.run_model.specs.Schedule.{Stop, after_entry, changed, is_stopped}
 use Rattle.run_model.specs.Moments.{Moment, next_moment, opening, is_put_of}
 use Rattle.run_model.specs.Orders.{IsStartOf}
 use Rattle.run_model.proofs.Reflects.{and_both, and_left, and_right, negated, any}
 use Rattle.audit_frame.specs.Tables.{has_number, has_pair}
 use Rattle.audit_frame.proofs.Added.{or_false}
 use Rattle.audit_frame.proofs.Seated.{put_stops}
-use Rattle.audit_waits.specs.Starts.{AreDisksOf, HasEnded, HasLetIn, HasTakenNote, IsOrderedOn, TellsStarts, WaitsFor, cub_for, ends_wait, is_over, is_start_of, lets_in, note_lets_in, same_way, waiting_in, waits_for, was_got}
+use Rattle.audit_waits.specs.Starts.{AreDisksOf, HasEnded, HasLetIn, HasTakenNote, TellsStarts, WaitsFor, cub_for, ends_wait, is_over, is_start_of, note_lets_in, same_way, waiting_in, waits_for, was_got}
 use Rattle.audit_waits.specs.declared.starts.Starts.{Starts}
 
 -- ---- tests

@@ -1,8 +1,7 @@
 -- A search for a visit that is not taken, which goes from one visit of the disk in the window to the next.
-use Rattle.std.proofs.Common.{◌≡◌, ℕ, ◌+◌, ◌*◌, ◌-◌, ◌<◌, ◌≤◌, Bool, true, false, cond, not, IsTrue, Option, Some, None, ◌==◌, eq-eqb, refl, sym, ap, subst, ◌∙◌, arith}
-use Rattle.std.specs.Prelude.{◌↔◌}
+use Rattle.std.proofs.Common.{◌≡◌, ℕ, ◌+◌, ◌*◌, ◌-◌, ◌<◌, ◌≤◌, Bool, true, false, cond, Option, Some, None, ◌==◌, eq-eqb, refl, sym, subst, arith}
 use Rattle.std.specs.Option.{ForSome}
-use Rattle.std.proofs.lemmas.Bool.{both_ways, false_from_ne_true, eqb-true, false≢true}
+use Rattle.std.proofs.lemmas.Bool.{both_ways, false_from_ne_true, eqb-true}
 use Rattle.std.proofs.lemmas.Option.{same_Some}
 use Rattle.slot_plan.specs.declared.params.Params.{Params}
 use Rattle.slot_plan.specs.Conditions.{IsPlan}
@@ -12,14 +11,7 @@ use Rattle.slot_plan.specs.Windows.{IsOpen, IsLeastOpen}
 use Rattle.slot_plan.proofs.Times.{window_parts}
 use Rattle.slot_plan.proofs.Keys.{key_same, earlier_due, is_earlier-irreflexive, is_earlier-total}
 use Rattle.slot_plan.proofs.Turns.{one_due}
-
--- each visit of the disk that is in the window and missed comes behind a given one, if one is given
-abbrev pub IsSoughtBehind : Params → ℕ → ℕ → (Key → Bool) → Option Key → Type 0
-IsSoughtBehind p reading disk missed last = (k : Key) → IsOpen p reading disk missed k → is_behind p last k ≡ true
-
--- the visit has come into the window
-abbrev pub HasComeIn : Params → ℕ → Key → Type 0
-HasComeIn p reading k = IsKey p k × (due_of p k ≤ reading + p.window_a)
+use Rattle.audit_waits.specs.Seen.{IsIn, IsSoughtBehind}
 
 -- the time from the last visit's due time to the end of the window, doubled, and one more if the visit is of another disk, since the next one of the disk may be due with it
 abbrev pub time_behind : Params → ℕ → ℕ → Option Key → ℕ
@@ -58,19 +50,19 @@ pub one_missed : (p : Params) (reading disk : ℕ) (missed : Key → Bool) (last
 one_missed p reading disk missed last k next t none = none k (with_test p reading disk (is_behind p last) missed k next.here t)
 
 -- the next one has come in
-pub next_in : (p : Params) (reading disk : ℕ) (last : Option Key) (k : Key) → IsNextOpen p reading disk last k → IsKey p k → ForSome (Some k) (HasComeIn p reading)
+pub next_in : (p : Params) (reading disk : ℕ) (last : Option Key) (k : Key) → IsNextOpen p reading disk last k → IsKey p k → ForSome (Some k) (IsIn p reading)
 next_in p reading disk last k next key j e =
     let parts = window_parts p reading k.0.0 k.1 next.here.window in
-    subst (λ (x : Key). HasComeIn p reading x) (same_Some k j e) (key, parts.0)
+    subst (λ (x : Key). IsIn p reading x) (same_Some k j e) (key, parts.0)
 
 -- less time is left behind the next one
-pub time_goes : (p : Params) (reading disk : ℕ) (last : Option Key) (k : Key) → IsPlan p → ForSome last (HasComeIn p reading) → IsNextOpen p reading disk last k
+pub time_goes : (p : Params) (reading disk : ℕ) (last : Option Key) (k : Key) → IsPlan p → ForSome last (IsIn p reading) → IsNextOpen p reading disk last k
     → time_behind p reading disk (Some k) < time_behind p reading disk last
 unfolding is_behind
 time_goes p reading disk None k ok entered next = rw (eq-eqb (disk_of p k.1) disk next.here.on_disk) (omega arith)
 time_goes p reading disk (Some a) k ok entered next = rw (eq-eqb (disk_of p k.1) disk next.here.on_disk) (cases (disk_of p a.1 == disk) refl)
   where
-    a_entered : HasComeIn p reading a
+    a_entered : IsIn p reading a
     a_entered = entered a refl
 
     due_k : due_of p k ≤ reading + p.window_a

@@ -2,6 +2,7 @@ pub mod Groups
 pub mod Starts
 pub mod Spots
 pub mod Holders
+pub mod Seen
 pub mod Cubs
 pub mod Ticks
 pub mod Verdicts

@@ -1,5 +1,5 @@
 -- Which starts wait at a cub, in the claim's words, and what a walk keeps for that.
-use Rattle.std.specs.Prelude.{◌≡◌, ℕ, ◌+◌, ◌%◌, Bool, true, false, not, ◌&&◌, ◌||◌, ◌==◌, List, IsTrue, ◌↔◌}
+use Rattle.std.specs.Prelude.{◌≡◌, ℕ, ◌+◌, ◌%◌, Bool, true, false, not, ◌&&◌, ◌||◌, ◌==◌, List, IsTrue, get_or, ◌↔◌}
 use Rattle.std.specs.List.{list_any}
 use Rattle.tiger_base.specs.declared.message.Note.{Note}
 use Rattle.tiger_base.specs.declared.message.Note.TheVariants as note
@@ -70,6 +70,15 @@ is_over m v = m.put v || is_stopped v m.schedule.stops
 abbrev pub AreDisksOf : List (ℕ × ℕ) → List Order → Type 0
 AreDisksOf disks orders = (v disk : ℕ) → IsTrue (has_pair v disk disks) ↔ IsOrderedOn orders v disk
 
+-- whether an order begins a start on a disk
+abbrev pub begins_at : ℕ → OrderKind → Bool
+begins_at disk (kind.Begin ask) = ask.disk.0 == disk
+begins_at disk (kind.Finish i) = false
+
+-- a row marks each disk on which an order begins a start; a disk for which it has no place counts as marked
+abbrev pub AreAsked : List Bool → List Order → Type 0
+AreAsked asked orders = (disk : ℕ) → IsTrue (list_any (λ o. begins_at disk o.what) orders) → IsTrue (get_or asked disk true)
+
 -- whether the start of an instance waits for a disk, if the table has the disks of those that were ordered
 abbrev pub waits_for : Params → List (ℕ × ℕ) → Moment → Bool → ℕ → ℕ → Bool
 waits_for p disks m redundant disk v =
@@ -89,20 +98,20 @@ pub record TellsStarts (p : Params) (s : Starts) (m : Moment) : Type 0 where
 -- ---- what an entry changes
 
 -- whether a start of an instance that a node gets, the redundant one or the plain one, waits there for a disk
-abbrev pub lets_in : Params → Starts → Bool → ℕ → ℕ → Bool → ℕ → ℕ → Bool
-lets_in p s how node i redundant disk v =
+abbrev pub start_lets_in : Params → Starts → Bool → ℕ → ℕ → Bool → ℕ → ℕ → Bool
+start_lets_in p s how node i redundant disk v =
     ((i == v) && (has_pair v disk s.disks && (node == cub_for p redundant disk))) && (same_way how redundant && not (has_number v s.over))
 
 -- whether a note that a node gets is a start that waits there for a disk
 abbrev pub note_lets_in : Params → Starts → ℕ → Note → Bool → ℕ → ℕ → Bool
-note_lets_in p s node (note.Start how ask) redundant disk v = lets_in p s how node ask.instance.0 redundant disk v
+note_lets_in p s node (note.Start how ask) redundant disk v = start_lets_in p s how node ask.instance.0 redundant disk v
 note_lets_in p s node other redundant disk v = false
 
 -- what a node gets waits besides those that waited: the start of an instance, or whatever a note is
 abbrev pub HasLetIn : Params → Bool → ℕ → ℕ → Starts → Starts → Type 0
 HasLetIn p how node i old new = (redundant : Bool) (disk v : ℕ)
     → has_pair disk v (waiting_in redundant new)
-    ≡ (has_pair disk v (waiting_in redundant old) || lets_in p old how node i redundant disk v)
+    ≡ (has_pair disk v (waiting_in redundant old) || start_lets_in p old how node i redundant disk v)
 
 abbrev pub HasTakenNote : Params → ℕ → Note → Starts → Starts → Type 0
 HasTakenNote p node n old new = (redundant : Bool) (disk v : ℕ)

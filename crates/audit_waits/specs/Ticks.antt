@@ -13,7 +13,7 @@ use Rattle.audit_frame.specs.Lines.{noted_line, told_by}
 use Rattle.audit_frame.specs.declared.lines.Line.{Line}
 use Rattle.audit_waits.specs.Cubs.{TellsCubs, excuses_in}
 use Rattle.audit_waits.specs.Holders.{TellsHolders, has_its_visit, holder_in}
-use Rattle.audit_waits.specs.Starts.{TellsStarts, AreDisksOf, waits_for}
+use Rattle.audit_waits.specs.Starts.{TellsStarts, AreAsked, AreDisksOf, waits_for}
 use Rattle.audit_waits.specs.declared.so_far.SoFar.{SoFar}
 use Rattle.audit_waits.specs.declared.walk.PassedOver.{PassedOver}
 use Rattle.audit_waits.specs.declared.walk.Walk.{Walk}
@@ -54,6 +54,7 @@ NoneIsBehind (x ∷ xs) = AllByRecursion (IsNotAfter x) xs × NoneIsBehind xs
 -- tables tell all of a moment by which a tick is judged
 pub record TellsWaits (p : Params) (orders : List Order) (s : SoFar) (m : Moment) : Type 0 where
   pub disks : AreDisksOf s.starts.disks orders
+  pub asked : AreAsked s.starts.asked.items orders
   pub starts : TellsStarts p s.starts m
   pub holders : TellsHolders p s.holders m.schedule
   pub cubs : TellsCubs s.cubs m

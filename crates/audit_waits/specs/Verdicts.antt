@@ -1,5 +1,5 @@
 -- What the answer of a walk along the log of a kept run says of the first half of the ninth claim of its account.
-use Rattle.std.specs.Prelude.{◌≡◌, ℕ, List, Option, Some, None}
+use Rattle.std.specs.Prelude.{◌≡◌, List, Option, Some, None}
 use Rattle.node_kit.specs.declared.course.Kept.{Kept}
 use Rattle.run_model.specs.Runs.{order_in}
 use Rattle.run_claims.specs.Accounts.{Account, account_of, log_of, ticks_in}

@@ -1,10 +1,11 @@
 //! Who holds each slot, and whose stop is recent, as far as the entries tell that a walk along a log has passed.
-ghost use Rattle.std.specs.Prelude.{◌≡◌, ◌==◌, ◌&&◌, nat_le, not, ℕ, [], Some, OnOk, if◌then◌else◌};
+ghost use Rattle.std.specs.Prelude.{◌≡◌, ◌==◌, ◌&&◌, nat_le, not, ℕ, [], Some, OnOk, IfOk, IsTrue, if◌then◌else◌};
 ghost use Rattle.slot_plan.specs.declared.params.Params.{Params};
 ghost use Rattle.run_model.specs.Moments.{Moment, next_moment};
 ghost use Rattle.audit_frame.specs.Lines.{noted_line};
 ghost use Rattle.audit_frame.specs.Tables.{mark_under, seat_under, seat_by};
 ghost use Rattle.audit_waits.specs.Holders.{TellsHolders, has_its_visit, has_mark, holder_in, is_latest_recent, later_stop};
+ghost use Rattle.audit_waits.specs.Seen.{KeepsVisits};
 
 use audit_frame::{Line, Marks, Seats, is_within};
 use node_kit::What;
@@ -60,16 +61,33 @@ impl Holders {
         }
     }
 
-    /// Takes one more entry.
-    pub fn take<'a>(&mut self, line: &Line<'a>) -> Result<(), NoMemory>
-        ensures { OnOk result ((p : Params) (m : Moment) → TellsHolders p self.old m.schedule
+    /// Takes one more entry, and says whether each tenancy keeps the visits that it has. A Put into a slot that another
+    /// tenancy had before counts as if it did not.
+    pub fn take<'a>(&mut self, line: &Line<'a>) -> Result<bool, NoMemory>
+        ensures tells { OnOk result ((p : Params) (m : Moment) → TellsHolders p self.old m.schedule
             → TellsHolders p self.new (next_moment m (noted_line line.now)).schedule) }
+        ensures kept { IfOk result (λ kept. IsTrue kept → KeepsVisits self.old self.new) }
     {
         match line.entry.what {
-            What::Put(t) => self.seat(&t),
-            What::Gone(v) => self.keep_stop(v, line.entry.stamp.beat),
-            _ => Ok(()),
+            What::Put(t) => self.take_put(&t),
+            What::Gone(v) => {
+                self.keep_stop(v, line.entry.stamp.beat)?;
+                Ok(false)
+            }
+            _ => Ok(true),
         }
+    }
+
+    /// Takes a Put, and says whether no tenancy had its slot before.
+    fn take_put(&mut self, t: &Tenancy) -> Result<bool, NoMemory>
+        ensures stops { self.new.stops ≡ self.old.stops }
+        ensures seats { OnOk result ((k : ℕ) → seat_under k self.new.seats
+            ≡ seat_by (has_mark self.old.stops) self.old.seats t.now k) }
+        ensures kept { IfOk result (λ kept. IsTrue kept → KeepsVisits self.old self.new) }
+    {
+        let first = self.seats.get(t.slot).is_none();
+        self.seat(t)?;
+        Ok(first)
     }
 
     /// Gives a tenancy its seat, unless its instance was stopped.

@@ -1,8 +1,9 @@
 //! What a walk along a log keeps of the entries that it has passed.
-ghost use Rattle.std.specs.Prelude.{List, OnOk, IfOk};
+ghost use Rattle.std.specs.Prelude.{List, OnOk, IfOk, IsTrue};
 ghost use Rattle.node_kit.specs.declared.course.Order.{Order};
 ghost use Rattle.run_model.specs.Moments.{Moment, next_moment, opening};
 ghost use Rattle.audit_frame.specs.Lines.{noted_line};
+ghost use Rattle.audit_waits.specs.Seen.{KeepsVisits};
 ghost use Rattle.audit_waits.specs.Ticks.{TellsWaits};
 
 use crate::cubs::Cubs;
@@ -35,13 +36,15 @@ impl SoFar {
         })
     }
 
-    /// Takes one more entry.
-    pub fn take<'a>(&mut self, plan: &Plan, line: &Line<'a>) -> Result<(), NoMemory>
-        ensures { OnOk result ((orders : List Order) (m : Moment) → TellsWaits plan.now.params orders self.old m
+    /// Takes one more entry, and says whether each tenancy keeps the visits that it has.
+    pub fn take<'a>(&mut self, plan: &Plan, line: &Line<'a>) -> Result<bool, NoMemory>
+        ensures tells { OnOk result ((orders : List Order) (m : Moment) → TellsWaits plan.now.params orders self.old m
             → TellsWaits plan.now.params orders self.new (next_moment m (noted_line line.now))) }
+        ensures kept { IfOk result (λ kept. IsTrue kept → KeepsVisits self.old.holders self.new.holders) }
     {
         self.starts.take(plan, line)?;
-        self.holders.take(line)?;
-        self.cubs.take(line)
+        let kept = self.holders.take(line)?;
+        self.cubs.take(line)?;
+        Ok(kept)
     }
 }

@@ -8,8 +8,10 @@ ghost use Rattle.run_model.specs.Orders.{is_up_to};
 ghost use Rattle.run_model.specs.Runs.{EndsBeat};
 ghost use Rattle.run_claims.specs.Accounts.{ticks_in};
 ghost use Rattle.audit_frame.specs.Lines.{noted_line, told_by};
+ghost use Rattle.audit_waits.specs.Seen.{AreMarks};
 ghost use Rattle.audit_waits.specs.Ticks.{DecidesPatience, IsNextLine, JudgesTick, NoneIsBehind, SaysBeat, SaysTick, StandsBefore, TellsWaits, last_place};
 
+use crate::seen::{Mark, keep_marks, new_marks};
 use crate::so_far::SoFar;
 use crate::tick::Tick;
 use audit_frame::{Line, line_at};
@@ -27,17 +29,19 @@ pub struct PassedOver {
     pub place: Option<usize>,
 }
 
-/// How many entries a walk has passed, and what they tell.
+/// How many entries a walk has passed, what they tell, and what ticks have seen of each disk.
 #[derive(Drop)]
 pub struct Walk {
     so_far: SoFar,
+    marks: Vec<Mark>,
     place: usize,
 }
 
 /// The first tick of a course, by beat and then by cub, at the end of which a start that waits is passed over; `None` if
 /// there is none. The log is that of the course: its entries stand by beat, then by node. An entry costs the logarithm of
-/// what is kept, a Put and a stop a look at each start that waits, and a tick a look at the cub's disks, and at the visits in
-/// the window of those for which a start waits.
+/// what is kept, a Put and a stop a look at each start that waits, and a tick a look at the cub's disks. Of a disk for which
+/// a start waits each visit in the window costs the logarithm of what is kept once, and at each tick at which no tenancy has
+/// it or one before it; and once more after a stop, and after a Put into a slot that another tenancy had.
 ///
 /// `NoMemory` is the only error.
 pub fn first_passed_over<'a>(
@@ -64,11 +68,17 @@ pub fn first_passed_over<'a>(
 impl Walk {
     /// No entry is passed yet.
     fn new(alloc: Global, plan: &Plan, orders: &[Order]) -> Result<Walk, NoMemory>
-        ensures { IfOk result (λ w. (lines : List Line)
+        ensures marks { IfOk result (λ w. AreMarks plan.now.params w.so_far.holders w.marks.items) }
+        ensures stands { IfOk result (λ w. (lines : List Line)
             → StandsBefore plan.now.params orders.now lines w 0 0) }
     {
         let so_far = SoFar::new(alloc, plan, orders)?;
-        Ok(Walk { so_far, place: 0 })
+        let marks = new_marks(alloc, plan)?;
+        Ok(Walk {
+            so_far,
+            marks,
+            place: 0,
+        })
     }
 
     /// Goes on behind the ticks of a beat, or behind the first of them at which somebody is passed over.
@@ -81,6 +91,8 @@ impl Walk {
         requires course { IsCourse course.now }
         requires order { NoneIsBehind (told_by log.now) }
         requires beat { beat < course.now.beats }
+        requires marks { AreMarks course.now.plan.params self.old.so_far.holders self.old.marks.items }
+        ensures marks { OnOk result (AreMarks course.now.plan.params self.new.so_far.holders self.new.marks.items) }
         ensures stands { OnOk result ((orders : List Order)
             → StandsBefore course.now.plan.params orders log.now self.old beat 0
             → StandsBefore course.now.plan.params orders log.now self.new (beat + 1) 0) }
@@ -109,6 +121,8 @@ impl Walk {
         requires order { NoneIsBehind (told_by log.now) }
         requires beat { beat < course.now.beats }
         requires cub { cub.0 < course.now.plan.params.cubs }
+        requires marks { AreMarks course.now.plan.params self.old.so_far.holders self.old.marks.items }
+        ensures marks { OnOk result (AreMarks course.now.plan.params self.new.so_far.holders self.new.marks.items) }
         ensures stands { OnOk result ((orders : List Order)
             → StandsBefore course.now.plan.params orders log.now self.old beat cub.0
             → StandsBefore course.now.plan.params orders log.now self.new beat (cub.0 + 1)) }
@@ -128,7 +142,9 @@ impl Walk {
         cub: CubNo,
         beat: Beat,
     ) -> Result<(), NoMemory>
-        requires { NoneIsBehind (told_by log.now) }
+        requires order { NoneIsBehind (told_by log.now) }
+        requires marks { AreMarks plan.now.params self.old.so_far.holders self.old.marks.items }
+        ensures marks { OnOk result (AreMarks plan.now.params self.new.so_far.holders self.new.marks.items) }
         ensures stands { OnOk result ((orders : List Order)
             → StandsBefore plan.now.params orders log.now self.old beat cub.0
             → StandsBefore plan.now.params orders log.now self.new beat cub.0) }
@@ -166,33 +182,40 @@ impl Walk {
     ) -> Result<(), NoMemory>
         requires inside { self.now.place < length log.now }
         requires line { (d : Line) → slice_index_or log.now self.now.place d ≡ line.now }
+        requires marks { AreMarks plan.now.params self.old.so_far.holders self.old.marks.items }
+        ensures marks { OnOk result (AreMarks plan.now.params self.new.so_far.holders self.new.marks.items) }
         ensures place { OnOk result (self.new.place ≡ self.old.place + 1) }
         ensures stands { OnOk result ((orders : List Order) (beat cub : ℕ)
             → IsTrue (is_up_to beat cub (noted_line line.now))
             → StandsBefore plan.now.params orders log.now self.old beat cub
             → StandsBefore plan.now.params orders log.now self.new beat cub) }
     {
-        self.so_far.take(plan, line)?;
+        let kept = self.so_far.take(plan, line)?;
+        keep_marks(plan, &mut self.marks, kept)?;
         self.place += 1;
         Ok(())
     }
 
     /// The tick of a cub in a beat, if the cub ticks then and somebody is passed over, behind the entries so far.
-    fn judge(&self, course: &Course, cub: CubNo, beat: Beat) -> Option<PassedOver>
+    fn judge(&mut self, course: &Course, cub: CubNo, beat: Beat) -> Option<PassedOver>
         requires course { IsCourse course.now }
         requires beat { beat < course.now.beats }
         requires cub { cub.0 < course.now.plan.params.cubs }
-        ensures { (orders : List Order) (m : Moment)
-            → TellsWaits course.now.plan.params orders self.now.so_far m
+        requires marks { AreMarks course.now.plan.params self.old.so_far.holders self.old.marks.items }
+        ensures marks { AreMarks course.now.plan.params self.new.so_far.holders self.new.marks.items }
+        ensures so_far { self.new.so_far ≡ self.old.so_far }
+        ensures place { self.new.place ≡ self.old.place }
+        ensures found { (orders : List Order) (m : Moment)
+            → TellsWaits course.now.plan.params orders self.old.so_far m
             → JudgesTick course.now.plan.params orders (ticks_in course.now) m cub.0 beat
-            self.now.place result }
+            self.old.place result }
     {
         if !ends_beat(course, cub, beat) {
             return None;
         }
         let reading = course.stamp(NodeNo(cub.0), beat).reading;
         let tick = Tick { cub, beat, reading };
-        if self.so_far.is_patient(&course.plan, tick) {
+        if self.so_far.is_patient(&course.plan, tick, &mut self.marks) {
             return None;
         }
         let place = last_place(self.place);

@@ -1,4 +1,4 @@
-use Rattle.std.proofs.Common.{◌≡◌, false, refl, sym, ⊎_elim, inl, None, Some, [], ◌∷◌, arith}
+use Rattle.std.proofs.Common.{false, refl, sym, ⊎_elim, inl, None, Some, [], ◌∷◌, arith}
 use Rattle.std.proofs.lemmas.Bool.{false≢true}
 use Rattle.slot_plan.specs.Samples.{small}
 use Rattle.run_model.specs.Orders.{IsNotPassedOver, end_of_tick}

@@ -1,6 +1,6 @@
 use Rattle.std.proofs.Common.{◌≡◌, refl, sym, ⊎_elim, inl, inr, true, None, [], ◌∷◌, arith}
 use Rattle.std.proofs.lemmas.Bool.{false≢true}
-use Rattle.run_model.specs.Samples.{ask, believes, dying, kept, ordered, starts}
+use Rattle.run_model.specs.Samples.{ask, dying, kept, ordered, starts}
 use Rattle.run_model.proofs.OnSamples.{on_samples}
 use Rattle.audit_waits.proofs.OnRuns.{all_eight, idle, in_one_beat}
 use Rattle.audit_waits.proofs.rows.redundant.Goals as goal

@@ -1,17 +1,18 @@
-use Rattle.std.proofs.Common.{ℕ, ◌<◌, sym, ◌∙◌, arith}
+use Rattle.std.proofs.Common.{sym, ◌∙◌, arith}
 use Rattle.run_claims.specs.Accounts.{ticks_in}
 use Rattle.audit_frame.specs.Lines.{told_by}
 use Rattle.audit_waits.proofs.Passing.{all_say, beat_none, first_says, more_beats}
 use Rattle.audit_waits.proofs.walk.first_passed_over.Goals as goal
 
 pub loop-beat-init : goal.loop-beat-init
-loop-beat-init c = record { stands = c.in_ok-walk.ensures c.args.log.now; says = λ b low. absurd (omega (arith, low)) }
+loop-beat-init c = record { marks = c.in_ok-walk.ensures.marks; stands = c.in_ok-walk.ensures.stands c.args.log.now; says = λ b low. absurd (omega (arith, low)) }
 
 pub loop-beat-preserved : goal.loop-beat-preserved
 loop-beat-preserved c =
     let p = c.args.course.now.plan.params in
     let orders = c.args.orders.now in
     record {
+      marks = c.in_ok-found.ensures.marks;
       stands = c.in_ok-found.ensures.stands orders c.loop-beat.invariant.stands;
       says = more_beats p orders (ticks_in c.args.course.now) (told_by c.args.log.now) c.loop-beat.beat c.loop-beat.invariant.says
           (beat_none p orders (ticks_in c.args.course.now) (told_by c.args.log.now) c.loop-beat.beat c.in_ok-found.found

@@ -13,7 +13,7 @@ is_item : (c : In_ok-item) (i : Item) → ItemFits i → c.args.line.now ≡ lin
 is_item c i fits is =
     c.in_ok-item.ensures
     ∙ ap (λ w. item_by w c.args.line.now c.as_slice-ns.result.now) c.word_in.ensures
-    ∙ ap (item_by (word_in c.args.line.now) c.args.line.now) (c.as_slice-ns.ensures ∙ c.in_ok-line.ensures)
+    ∙ ap (item_by (word_in c.args.line.now) c.args.line.now) (c.as_slice-ns.ensures.value ∙ c.in_ok-read_numbers.ensures)
     ∙ line_again i c.args.line.now fits is
 
 pub returns-then-is_same-clause-only : goal.returns-then-is_same-clause-only

@@ -1,8 +1,5 @@
-use Rattle.audit_views.proofs.Judging.{took_touches, put_touches, none_touched}
+use Rattle.audit_views.proofs.Judging.{put_touches, none_touched}
 use Rattle.audit_views.proofs.views.SoFar.touched_by.Goals as goal
-
-pub returns-in-Took : goal.returns-in-Took
-returns-in-Took c = λ m v tells t. took_touches m.schedule _ c.in-Took.r v c.in-Took.is t
 
 pub returns-in-Put : goal.returns-in-Put
 returns-in-Put c = λ m v tells t.
@@ -10,4 +7,4 @@ returns-in-Put c = λ m v tells t.
     tells t
 
 pub returns-in_default : goal.returns-in_default
-returns-in_default c = λ m v tells t. none_touched m.schedule _ v _ c.in_default.not-Took c.in_default.not-Put t
+returns-in_default c = λ m v tells t. none_touched m.schedule _ v _ c.in_default.not-Put t

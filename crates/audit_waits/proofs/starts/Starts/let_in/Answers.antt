@@ -1,6 +1,5 @@
-use Rattle.std.proofs.Common.{refl, sym, ◌∙◌}
-use Rattle.std.proofs.lemmas.Result.{on_ok_weaker}
-use Rattle.audit_waits.proofs.Waiting.{over_lets_none, plain_let_in, spare_let_in}
+use Rattle.std.proofs.Common.{sym, ◌∙◌}
+use Rattle.audit_waits.proofs.Waiting.{over_lets_none}
 use Rattle.audit_waits.proofs.starts.Starts.let_in.Goals as goal
 
 pub returns-then-has-clause-waiting : goal.returns-then-has-clause-waiting

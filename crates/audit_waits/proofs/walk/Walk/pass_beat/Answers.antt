@@ -1,16 +1,17 @@
-use Rattle.std.proofs.Common.{ℕ, ◌<◌, sym, ◌∙◌, arith}
+use Rattle.std.proofs.Common.{sym, ◌∙◌, arith}
 use Rattle.run_claims.specs.Accounts.{ticks_in}
 use Rattle.audit_frame.specs.Lines.{told_by}
 use Rattle.audit_waits.proofs.Passing.{more_ticks, next_beat, none_says, some_says}
 use Rattle.audit_waits.proofs.walk.Walk.pass_beat.Goals as goal
 
 pub loop-cub-init : goal.loop-cub-init
-loop-cub-init c = record { stands = λ orders h. h; says = λ orders h cub low. absurd (omega (arith, low)) }
+loop-cub-init c = record { marks = c.requires.marks; stands = λ orders h. h; says = λ orders h cub low. absurd (omega (arith, low)) }
 
 pub loop-cub-preserved : goal.loop-cub-preserved
 loop-cub-preserved c =
     let p = c.args.course.now.plan.params in
     record {
+      marks = c.in_ok-found.ensures.marks;
       stands = λ orders h. c.in_ok-found.ensures.stands orders (c.loop-cub.invariant.stands orders h);
       says = λ orders h.
           more_ticks p orders (ticks_in c.args.course.now) (told_by c.args.log.now) c.loop-cub.cub c.args.beat (c.loop-cub.invariant.says orders h)

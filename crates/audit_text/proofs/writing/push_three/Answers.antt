@@ -1,0 +1,7 @@
+use Rattle.audit_text.proofs.Digits.{three_pushed}
+use Rattle.audit_text.proofs.writing.push_three.Goals as goal
+
+pub returns : goal.returns
+returns c =
+    three_pushed _ c.args.n _ _ _ _ _ c.requires.from c.requires.below c.digit.ensures c.digit-2.ensures c.digit-3.ensures
+    c.extend_from_slice.ensures.items
