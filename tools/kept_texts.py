@@ -36,6 +36,58 @@ def changed(text, change):
     return b"\n".join(lines)
 
 
+def told(lines):
+    """Of the split lines of a text, in microseconds and by cub and instance: the deaths, the stops and the reads that failed."""
+    deaths, stops, failed, node, beat = {}, {}, set(), 0, int(lines[1][7])
+    for line in lines[3:]:
+        node = int(line[1]) if line[0] == "node" else node
+        if line[0] == "died":
+            deaths.setdefault(node, []).append(int(line[1]) * beat)
+        elif line[0] == "gone":
+            stops.setdefault(line[3], []).append(int(line[1]) * beat)
+        elif line[0] == "readfailed":  # of an instance at a visit: a piece, or the whole block under 0
+            failed.add((node, line[3], int(line[5]), int(line[8])))
+    return deaths, stops, failed
+
+
+def settled(lines):
+    """Of the visits of the tenancies that a text puts, those that are settled: when each is due, its number, the instance."""
+    cubs, disks, slots, play = map(int, lines[1][1:5])
+    end = int(lines[2][1]) * int(lines[1][7])
+    for _, _, _, instance, _, slot, first, last in (line for line in lines if line[0] == "put"):
+        for visit in range(int(first), int(last) + 1):
+            due = int(slot) * cubs * disks * play // slots + visit * play
+            if due + 2 * play > end:
+                break
+            yield due, visit, instance
+
+
+def shares(lines):
+    """How many visits are settled, and how many of them have each excuse; those of who was stopped in time have no other."""
+    cubs, _, _, play, pieces, _, beat, delay, skew, _, _, read_lead, _, _, _, _, deadman, _ = map(int, lines[1][1:])
+    takeover = 2 * delay * beat + 3 * skew + deadman + read_lead + 2 * beat + 1
+    deaths, stops, failed = told(lines)
+    anywhere = {read[1:] for read in failed}
+
+    def lost(due, visit, instance, piece):
+        leaves = due + (piece - 1) * play // pieces
+        return (instance, visit, piece) in anywhere or any(d < leaves + beat for d in deaths.get((visit + piece) % cubs, ()))
+
+    numbers = dict.fromkeys(("settled", "read", "piece", "dead", "stopped"), 0)
+    for due, visit, instance in settled(lines):
+        cub = visit % cubs
+        dead = deaths.get(cub, ())
+        numbers["settled"] += 1
+        if any(stop < due + play for stop in stops.get(instance, ())):
+            numbers["stopped"] += 1
+            continue
+        numbers["read"] += (cub, instance, visit, 0) in failed
+        numbers["dead"] += any(due - takeover < death < due + beat for death in dead)
+        numbers["piece"] += any(death + takeover <= due for death in dead) and any(
+            lost(due, visit, instance, piece + 1) for piece in range(pieces))
+    return numbers
+
+
 def counts(text):
     """How much there is in a run, as `audit` counts it, by the run's text."""
     lines = [line.split() for line in text.decode("latin-1").splitlines()]
@@ -49,6 +101,7 @@ def counts(text):
         "deaths": sum(line[0] == "died" for line in entries),
         "blocks": sum(line[4] == WHOLE for line in of_viewers),
         "pieces": sum(line[4] == PIECE for line in of_viewers),
+        **shares(lines),
     }
     return " ".join(f"{name} {number}" for name, number in numbers.items())
 

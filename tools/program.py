@@ -35,7 +35,8 @@ PEAK = re.compile(rb"^peak \d+ at \d+\n\Z", re.M)  # how the output of a network
 END = re.compile(rb"^end\n\Z", re.M)  # how the journals of a run end
 DISK = re.compile(rb"^disk \d+ parts \d+ bytes \d+\n\Z", re.M)  # how the lines of a scenario's disks end
 SAID = re.compile(rb"\Ascenario cubs \d+ slots \d+ starts \d+ beats \d+ memory \d+\n(?:warning [^\n]+\n)*\Z")  # of a scenario
-YES = re.compile(rb"\Aaudit yes\nentries \d+ puts \d+ stops \d+ deaths \d+ blocks \d+ pieces \d+\n\Z")  # of a kept run
+YES = re.compile(rb"\Aaudit yes\nentries \d+ puts \d+ stops \d+ deaths \d+ blocks \d+ pieces \d+"
+                 rb" settled \d+ read \d+ piece \d+ dead \d+ stopped \d+\n\Z")  # of a kept run
 CONDITIONS = re.compile(rb"\A(?:condition \d+ left \d+ right \d+ needs [^\n]+\n)+\Z")  # of a plan, by `check`
 LAST = {"run": TOTAL, "make": TOTAL, "net": PEAK, "journal": END, "disks": DISK, "check": SAID, "audit": YES}  # of each command
 REFUSALS = (2, 3, 4, 5, 8, 13)  # the statuses of runs that write nothing but one line on standard error

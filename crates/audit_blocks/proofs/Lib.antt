@@ -12,4 +12,5 @@ pub mod Answering
 pub mod Choosing
 pub mod Righting
 pub mod Visiting
+pub mod Sharing
 pub mod Claiming

@@ -33,7 +33,7 @@ AreServedBelow k t visit =
 products_rise : (m n k : ℕ) → m ≤ n → m * k ≤ n * k
 products_rise m n k l = grind (arith, l)
 
-dues_rise : (p : Params) (slot m n : ℕ) → m ≤ n → due p slot m ≤ due p slot n
+pub dues_rise : (p : Params) (slot m n : ℕ) → m ≤ n → due p slot m ≤ due p slot n
 unfolding due
 dues_rise p slot m n l =
     let up = products_rise m n p.play l in
@@ -60,7 +60,7 @@ still_stopped p v s t le journals h =
     (lt-ltb (time_of p e.stamp.beat) t (omega (arith, low, le)))) journal)
     journals h
 
-stopped_later : (p : Params) (journals : List (List Entry)) (t : Tenancy) (m n : ℕ) → m ≤ n → IsTrue (was_stopped p journals t m)
+pub stopped_later : (p : Params) (journals : List (List Entry)) (t : Tenancy) (m n : ℕ) → m ≤ n → IsTrue (was_stopped p journals t m)
     → IsTrue (was_stopped p journals t n)
 unfolding was_stopped
 stopped_later p journals t m n le h =
@@ -79,7 +79,7 @@ stop_excuses p journals t n h =
 
 -- ---- from a visit on nothing is asked
 
-settled_is : (k : Kept) (t : Tenancy) (n : ℕ) → IsSettled k.course.plan.params (end_of_run k) t.slot.0 n → IsTrue (is_settled_at k t n)
+pub settled_is : (k : Kept) (t : Tenancy) (n : ℕ) → IsSettled k.course.plan.params (end_of_run k) t.slot.0 n → IsTrue (is_settled_at k t n)
 settled_is k t n h = le-leb _ _ h
 
 pub is_settled_by : (k : Kept) (t : Tenancy) (n : ℕ) → IsTrue (is_settled_at k t n) → IsSettled k.course.plan.params (end_of_run k) t.slot.0 n

@@ -7,5 +7,6 @@ pub mod Cargo
 pub mod Told
 pub mod Rightful
 pub mod Serving
+pub mod Shares
 pub mod Verdicts
 pub mod Samples

@@ -58,7 +58,7 @@ fn has_excuse(k: &Kept, tables: &Tables, t: &Tenancy, n: Visit) -> bool
 }
 
 #[tactic(auto, unfolding(run_model::specs::Tests::lost_in_pieces))]
-fn lost_in_pieces(k: &Kept, tables: &Tables, t: &Tenancy, n: Visit) -> bool
+pub fn lost_in_pieces(k: &Kept, tables: &Tables, t: &Tenancy, n: Visit) -> bool
     requires { AreTablesOf k.now tables.now }
     ensures { result ≡ lost_in_pieces k.now.course.plan.params k.now.journals t.now n }
 {
@@ -94,7 +94,7 @@ fn piece_is_lost(k: &Kept, tables: &Tables, t: &Tenancy, n: Visit, piece: u64) -
 }
 
 #[tactic(auto, unfolding(run_model::specs::Tests::lost_in_death))]
-fn lost_in_death(k: &Kept, tables: &Tables, t: &Tenancy, n: Visit) -> bool
+pub fn lost_in_death(k: &Kept, tables: &Tables, t: &Tenancy, n: Visit) -> bool
     requires { AreTablesOf k.now tables.now }
     ensures { result ≡ lost_in_death k.now.course.plan.params k.now.journals t.now n }
 {

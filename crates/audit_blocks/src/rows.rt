@@ -1,8 +1,8 @@
 //! Worked logs for the walk: where all are served, and which entry is the first that is not as it should be. They stand in
 //! contracts, and not in tests, since a weakened definition must be refused where the crate is checked without its tests.
 ghost use Rattle.std.specs.Prelude.{[], ◌∷◌, Some, None};
-ghost use Rattle.run_model.specs.Samples.{IsOfTen, seated, sends, gets, block, piece, gone};
-ghost use Rattle.audit_blocks.specs.Samples.{FindsUnserved};
+ghost use Rattle.run_model.specs.Samples.{IsOfTen, seated, sends, gets, block, piece, put, gone, dies, fails, three, want};
+ghost use Rattle.audit_blocks.specs.Samples.{FindsUnserved, HasShares, LacksShares, shares};
 
 /// Instance 0 is put for visit 0 alone, whose block has four bytes and which is settled from 2500000 micros on.
 pub fn deliveries()
@@ -34,3 +34,22 @@ pub fn strangers()
 {
     run_claims::rows::strangers()
 }
+
+/// Instance 0 is put for visit 0 alone, which is settled in 250 beats. Its instance is stopped while it lasts, or a beat later;
+/// its read fails at its cub, or elsewhere; its cub dies a beat before it is due, or a beat behind. Of three visits the cub of
+/// the last is dead for long, and one of its pieces is lost, or none; or the instance is stopped during the second one.
+pub fn shares()
+    ensures settled { HasShares 250 (seated ∷ []) (shares 1 0 0 0 0) }
+    ensures unsettled { HasShares 249 (seated ∷ []) (shares 0 0 0 0 0) }
+    ensures stopped { HasShares 250 (seated ∷ gone 149 0 ∷ []) (shares 1 0 0 0 1) }
+    ensures stopped_late { HasShares 250 (seated ∷ gone 150 0 ∷ []) (shares 1 0 0 0 0) }
+    ensures read { HasShares 250 (seated ∷ fails 0 49 (want 0 0 0) ∷ []) (shares 1 1 0 0 0) }
+    ensures read_elsewhere { HasShares 250 (seated ∷ fails 1 49 (want 0 0 0) ∷ []) (shares 1 0 0 0 0) }
+    ensures read_and_stopped { HasShares 250 (seated ∷ gone 149 0 ∷ fails 0 49 (want 0 0 0) ∷ []) (shares 1 0 0 0 1) }
+    ensures dead { HasShares 250 (seated ∷ dies 0 49 ∷ []) (shares 1 0 0 1 0) }
+    ensures dead_behind { HasShares 250 (seated ∷ dies 0 51 ∷ []) (shares 1 0 0 0 0) }
+    ensures piece { HasShares 450 (put 0 1 three ∷ dies 2 0 ∷ fails 3 260 (want 0 2 1) ∷ []) (shares 3 0 1 0 0) }
+    ensures no_piece { HasShares 450 (put 0 1 three ∷ dies 2 0 ∷ []) (shares 3 0 0 0 0) }
+    ensures stopped_later { HasShares 450 (put 0 1 three ∷ gone 200 0 ∷ []) (shares 3 0 0 0 2) }
+    ensures counted { LacksShares 250 (seated ∷ []) (shares 0 0 0 0 0) }
+{}

@@ -52,7 +52,7 @@ fn needs_none_from(k: &Kept, tables: &Tables, t: &Tenancy, visit: Visit) -> bool
 }
 
 /// Whether a visit is settled at the end of the run.
-fn is_settled_at(k: &Kept, t: &Tenancy, visit: Visit) -> bool
+pub fn is_settled_at(k: &Kept, t: &Tenancy, visit: Visit) -> bool
     ensures { result ≡ is_settled_at k.now t.now visit }
 {
     let plan = &k.course.plan;

@@ -37,7 +37,7 @@ pub fn first_unserved<'a>(
 }
 
 /// The tables of what the journals tell.
-fn tables_of(alloc: Global, kept: &Kept) -> Result<Tables, NoMemory>
+pub fn tables_of(alloc: Global, kept: &Kept) -> Result<Tables, NoMemory>
     requires { length kept.now.journals ≤ 1000 }
     ensures { IfOk result (λ tables. AreTablesOf kept.now tables) }
 {

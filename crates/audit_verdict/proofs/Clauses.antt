@@ -89,7 +89,8 @@ here_met k c answer is a = subst (λ (o : Option Place). AnswersClause k c o) is
 pub all_met : (k : Kept) (n : ℕ) → 13 ≤ n → MeetsBelow k n → MeetsAllClauses k
 all_met k n le met = record {
   carried = met clause.Carried (omega (arith, le));
-  timed = met clause.Timed (omega (arith, le));
+  timed = (met clause.Timed (omega (arith, le))).0;
+  clocks = (met clause.Timed (omega (arith, le))).1;
   commanded = met clause.Commanded (omega (arith, le));
   claims = record {
     free = met clause.FreePuts (omega (arith, le));
@@ -106,7 +107,7 @@ all_met k n le met = record {
 
 -- the second and the third hold before a later one
 pub timed_before : (k : Kept) (c : Clause) → MeetsBefore k c → 2 < number_of_clause c → IsTimedRun k
-timed_before k c before low = before clause.Timed low
+timed_before k c before low = (before clause.Timed low).0
 
 pub commanded_before : (k : Kept) (c : Clause) → MeetsBefore k c → 3 < number_of_clause c → FollowsOrders (account_of k)
 commanded_before k c before low = before clause.Commanded low

@@ -9,7 +9,7 @@ use Rattle.run_facts.specs.Order.{Noted}
 use Rattle.run_model.specs.Moments.{opening, next_moment}
 use Rattle.run_model.specs.Orders.{is_up_to}
 use Rattle.run_model.specs.Parts.{ViewsArePart, ViewsAreAlwaysPart, EntriesAreLocal, IsLocal}
-use Rattle.run_model.specs.Runs.{order_in}
+use Rattle.run_model.specs.Runs.{IsTimedRun, order_in}
 use Rattle.run_claims.specs.Accounts.{account_of, ticks_in}
 use Rattle.run_claims.specs.Claims.{PartViews}
 use Rattle.audit_frame.specs.First.{Decides, IsFirstFalse}
@@ -18,7 +18,7 @@ use Rattle.audit_frame.specs.declared.lines.Line.{Line}
 use Rattle.audit_frame.proofs.Deciding.{of_front}
 use Rattle.audit_orders.specs.Carrying.{DecidesCarried}
 use Rattle.audit_orders.specs.Commanding.{DecidesCommanded}
-use Rattle.audit_orders.specs.Timing.{DecidesTimed}
+use Rattle.audit_orders.specs.Timing.{IsUntimedAt}
 use Rattle.audit_orders.specs.Verdicts.{FollowsOrders}
 use Rattle.audit_orders.specs.declared.carrying.Uncarried.{Uncarried}
 use Rattle.audit_orders.specs.declared.commanding.Uncommanded.{Uncommanded}
@@ -33,6 +33,7 @@ use Rattle.audit_waits.specs.Ticks.{DecidesPatience, IsFirstPassedOver, last_pla
 use Rattle.audit_waits.specs.declared.walk.PassedOver.{PassedOver}
 use Rattle.audit_waits.proofs.Saying.{patience_of_accounts}
 use Rattle.audit_read.specs.Writable.{IsWritable}
+use Rattle.audit_verdict.specs.Clocks.{ShowClocks, ShowsClocks}
 use Rattle.audit_verdict.specs.Places.{ArePartAndLocal, IsWhereFalse, place_uncarried, place_untimed, place_uncommanded}
 use Rattle.audit_verdict.specs.Verdicts.{AnswersClaim, AnswersClause, IsInside, IsLoggedAnswer, IsTickInside, IsTickAnswer, earlier_of}
 use Rattle.audit_verdict.specs.declared.clause.Clause.TheVariants as clause
@@ -46,11 +47,6 @@ carried_decided : (k : Kept) (found : Option Uncarried) → IsWritable k → Dec
 carried_decided k None w d = d
 carried_decided k (Some f) w d = ((λ h. uncarried_denies k f (all_journals k w) d h), (f, refl, d))
 
-timed_decided : (k : Kept) (found : Option Untimed) → DecidesTimed k found
-    → AnswersClause k clause.Timed (option_map place_untimed found)
-timed_decided k None d = d
-timed_decided k (Some f) d = ((λ h. untimed_denies k f d h), (f, refl, d))
-
 commanded_decided : (k : Kept) (found : Option Uncommanded) → DecidesCommanded k found
     → AnswersClause k clause.Commanded (option_map (place_uncommanded k.course.plan.params) found)
 commanded_decided k None d = commands_of_accounts k d
@@ -61,9 +57,9 @@ pub carried_told : (k : Kept) (found : Option Uncarried) (answer : Option Place)
     → answer ≡ option_map place_uncarried found → AnswersClause k clause.Carried answer
 carried_told k found answer w d is = subst (λ (o : Option Place). AnswersClause k clause.Carried o) (sym is) (carried_decided k found w d)
 
-pub timed_told : (k : Kept) (found : Option Untimed) (answer : Option Place) → DecidesTimed k found
-    → answer ≡ option_map place_untimed found → AnswersClause k clause.Timed answer
-timed_told k found answer d is = subst (λ (o : Option Place). AnswersClause k clause.Timed o) (sym is) (timed_decided k found d)
+pub untimed_told : (k : Kept) (found : Untimed) (here : Place) → IsUntimedAt k.course k.journals found → here ≡ place_untimed found
+    → AnswersClause k clause.Timed (Some here)
+untimed_told k found here d is = ((λ h. untimed_denies k found d h.0), inl (found, is, d))
 
 pub commanded_told : (k : Kept) (found : Option Uncommanded) (answer : Option Place) → DecidesCommanded k found
     → answer ≡ option_map (place_uncommanded k.course.plan.params) found → AnswersClause k clause.Commanded answer
@@ -91,6 +87,18 @@ pub inside_log : (Claim : List Noted → Type 0) (lines : List Line) (answer : O
     → IsInside (length lines) answer
 inside_log Claim lines None d = tt
 inside_log Claim lines (Some i) d = let low = d.inside in omega (arith, length-map lines noted_line, low)
+
+-- ---- readings
+
+-- of a run that is timed the readings decide
+pub readings_told : (k : Kept) (told : List Noted) (answer : Option ℕ) (result : Option Place) → IsTimedRun k → told ≡ order_in k
+    → Decides (ShowClocks k.course) told answer → IsLoggedAnswer k answer result → AnswersClause k clause.Timed result
+readings_told k told answer result timed is d l = of_timed result (decided k (ShowClocks k.course) told answer result is d l)
+  where
+    of_timed : (result : Option Place) → AnswersClaim (ShowsClocks k) (IsWhereFalse k (ShowClocks k.course)) result
+        → AnswersClause k clause.Timed result
+    of_timed None a = (timed, a)
+    of_timed (Some here) a = ((λ h. a.0 h.1), inr (timed, a.1))
 
 -- ---- views
 

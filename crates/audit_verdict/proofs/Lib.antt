@@ -1,6 +1,7 @@
 pub mod Journals
 pub mod AtPlaces
 pub mod Needed
+pub mod Readings
 pub mod Decided
 pub mod Clauses
 pub mod Counted

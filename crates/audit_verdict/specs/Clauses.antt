@@ -5,6 +5,7 @@ use Rattle.run_model.specs.Runs.{IsCarriedRun, IsTimedRun}
 use Rattle.run_claims.specs.Accounts.{account_of}
 use Rattle.run_claims.specs.Claims.{FreePuts, PartViews, NoReturn, OnePerVisit, TrueBelief, TrueFaults, FullDelivery, VisitsInOrder, FairStarts, MeetsClaims}
 use Rattle.audit_orders.specs.Verdicts.{FollowsOrders}
+use Rattle.audit_verdict.specs.Clocks.{ShowsClocks}
 use Rattle.audit_verdict.specs.declared.clause.Clause.{Clause}
 use Rattle.audit_verdict.specs.declared.clause.Clause.TheVariants as clause
 
@@ -26,7 +27,7 @@ number_of_clause clause.FairStarts = 12
 -- a clause holds of a kept run: of the run itself, or of its account as one of the nine claims
 abbrev pub MeetsClause : Kept → Clause → Type 0
 MeetsClause k clause.Carried = IsCarriedRun k
-MeetsClause k clause.Timed = IsTimedRun k
+MeetsClause k clause.Timed = IsTimedRun k × ShowsClocks k
 MeetsClause k clause.Commanded = FollowsOrders (account_of k)
 MeetsClause k clause.FreePuts = FreePuts (account_of k)
 MeetsClause k clause.PartViews = PartViews (account_of k)
@@ -38,9 +39,10 @@ MeetsClause k clause.FullDelivery = FullDelivery (account_of k)
 MeetsClause k clause.VisitsInOrder = VisitsInOrder (account_of k)
 MeetsClause k clause.FairStarts = FairStarts (account_of k)
 
--- all of them hold: the run is carried, timed and commanded, and meets the nine claims
+-- all of them hold: the run is carried, timed by its clocks, and commanded, and meets the nine claims
 pub record MeetsAllClauses (k : Kept) : Type 0 where
   pub carried : IsCarriedRun k
   pub timed : IsTimedRun k
+  pub clocks : ShowsClocks k
   pub commanded : FollowsOrders (account_of k)
   pub claims : MeetsClaims (account_of k)

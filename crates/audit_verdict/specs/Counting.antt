@@ -9,7 +9,10 @@ use Rattle.run_facts.specs.Commanded.{is_gone}
 use Rattle.run_facts.specs.Order.{Noted}
 use Rattle.run_facts.specs.Timed.{is_died}
 use Rattle.run_model.specs.Runs.{order_in}
+use Rattle.audit_blocks.specs.Shares.{AreSharesOf}
+pub use Rattle.audit_blocks.specs.declared.shares.Shares.{Shares}
 use Rattle.audit_verdict.specs.declared.counts.Counts.{Counts}
+use Rattle.audit_verdict.specs.declared.counts.EntryCounts.{EntryCounts}
 
 -- whether an entry puts a tenancy
 abbrev pub is_any_put : What → Bool
@@ -34,14 +37,15 @@ abbrev pub is_viewed : ℕ → (What → Bool) → Noted → Bool
 is_viewed viewers test x = (x.node == viewers) && test x.entry.what
 
 -- what a log has of each, if the viewers are this node
-pub record AreCountsIn (viewers : ℕ) (log : List Noted) (c : Counts) : Type 0 where
-  pub entries : c.entries ≡ length log
+pub record AreCountsIn (viewers : ℕ) (log : List Noted) (c : EntryCounts) : Type 0 where
+  pub all : c.all ≡ length log
   pub puts : c.puts ≡ passing (λ x. is_any_put x.entry.what) log
   pub stops : c.stops ≡ passing (λ x. is_gone x.entry.what) log
   pub deaths : c.deaths ≡ passing (λ x. is_died x.entry.what) log
   pub blocks : c.blocks ≡ passing (is_viewed viewers gets_whole) log
   pub pieces : c.pieces ≡ passing (is_viewed viewers gets_piece) log
 
--- and what a kept run has: all entries of its beats are counted
-abbrev pub AreCountsOf : Kept → Counts → Type 0
-AreCountsOf k c = AreCountsIn (viewers_of (links_of k.course.plan.params)) (order_in k) c
+-- and what a kept run has: all entries of its beats are counted, and all visits of what they put
+pub record AreCountsOf (k : Kept) (c : Counts) : Type 0 where
+  pub entries : AreCountsIn (viewers_of (links_of k.course.plan.params)) (order_in k) c.entries
+  pub visits : AreSharesOf k (order_in k) c.visits

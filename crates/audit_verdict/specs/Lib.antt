@@ -1,3 +1,4 @@
+pub mod Clocks
 pub mod Clauses
 pub mod Places
 pub mod Verdicts

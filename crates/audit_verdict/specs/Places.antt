@@ -1,5 +1,5 @@
 -- Where a clause is broken, as the walk that decides it has it.
-use Rattle.std.specs.Prelude.{◌≡◌, ℕ, ◌==◌, List, length, take, filter, Option, Some, None, slice_get}
+use Rattle.std.specs.Prelude.{◌≡◌, ℕ, ◌==◌, List, length, take, filter, Option, Some, None, slice_get, ◌⊎◌}
 use Rattle.tiger_base.specs.declared.number.NodeNo.{NodeNo}
 use Rattle.slot_plan.specs.declared.params.Params.{Params}
 use Rattle.node_kit.specs.declared.course.Kept.{Kept}
@@ -8,7 +8,7 @@ use Rattle.node_kit.specs.Links.{links_of, controller_of}
 use Rattle.run_facts.specs.Order.{Noted}
 use Rattle.run_model.specs.Orders.{PutsAreFair}
 use Rattle.run_model.specs.Parts.{ViewsAreAlwaysPart, EntriesAreLocal}
-use Rattle.run_model.specs.Runs.{order_in}
+use Rattle.run_model.specs.Runs.{IsTimedRun, order_in}
 use Rattle.run_claims.specs.Accounts.{ticks_in}
 use Rattle.run_claims.specs.Returns.{NobodyComesBack}
 use Rattle.run_claims.specs.Visits.{AreServedOnce}
@@ -28,6 +28,7 @@ use Rattle.audit_orders.specs.declared.timing.Untimed.TheVariants as untimed
 use Rattle.audit_blocks.specs.Verdicts.{IsFirstWithout, IsServedIn}
 use Rattle.audit_waits.specs.Ticks.{IsFirstPassedOver}
 use Rattle.audit_waits.specs.declared.walk.PassedOver.{PassedOver}
+use Rattle.audit_verdict.specs.Clocks.{ShowClocks}
 use Rattle.audit_verdict.specs.declared.clause.Clause.{Clause}
 use Rattle.audit_verdict.specs.declared.clause.Clause.TheVariants as clause
 use Rattle.audit_verdict.specs.declared.place.EntryPlace.{EntryPlace}
@@ -111,12 +112,16 @@ pub record IsPassedTick (k : Kept) (here : Place) : Type 0 where
 abbrev pub ArePartAndLocal : Params → List Noted → Type 0
 ArePartAndLocal p log = ViewsAreAlwaysPart p log × EntriesAreLocal p log
 
--- a clause is broken here
+-- a run is not timed here
+abbrev pub IsUntimedPlace : Kept → Place → Type 0
+IsUntimedPlace k here = (found : Untimed) × (here ≡ place_untimed found) × IsUntimedAt k.course k.journals found
+
+-- A clause is broken here. The second one is broken at a reading that its clock does not show only if the run is timed.
 abbrev pub IsPlaceOf : Kept → Clause → Place → Type 0
 IsPlaceOf k clause.Carried here =
     (found : Uncarried) × (here ≡ place_uncarried found) × IsUncarriedAt k.course k.journals found
 IsPlaceOf k clause.Timed here =
-    (found : Untimed) × (here ≡ place_untimed found) × IsUntimedAt k.course k.journals found
+    IsUntimedPlace k here ⊎ (IsTimedRun k × IsWhereFalse k (ShowClocks k.course) here)
 IsPlaceOf k clause.Commanded here =
     (found : Uncommanded) × (here ≡ place_uncommanded k.course.plan.params found)
     × IsUncommandedAt k.course.plan.params k.course.beats (clock_of k.course) k.orders k.journals found

@@ -7,7 +7,7 @@ ghost use Rattle.audit_verdict.specs.Clauses.{number_of_clause};
 pub enum Clause {
     /// What each node got is what was sent to it, in time.
     Carried,
-    /// Each entry was written at its time, and each death is the course's.
+    /// Each entry was written at its time, by its node's clock, and each death is the course's.
     Timed,
     /// The controller's journal follows the orders.
     Commanded,

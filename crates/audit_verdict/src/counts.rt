@@ -8,6 +8,7 @@ ghost use Rattle.audit_frame.specs.Lines.{noted_line, told_by};
 ghost use Rattle.audit_read.specs.Writable.{IsWritable};
 ghost use Rattle.audit_verdict.specs.Counting.{AreCountsIn, AreCountsOf, gets_piece, gets_whole, is_any_put, is_viewed};
 
+use audit_blocks::{Shares, shares_of};
 use audit_frame::{Line, line_at, lines_of};
 use node_kit::{Kept, LinkTable, What};
 use slot_plan::Plan;
@@ -17,8 +18,15 @@ use tiger_base::{NoMemory, NodeNo, Note};
 /// How much there is in a kept run.
 #[derive(Clone, Copy, Debug, PartialEq, Eq)]
 pub struct Counts {
+    pub entries: EntryCounts,
+    pub visits: Shares,
+}
+
+/// How many entries it has.
+#[derive(Clone, Copy, Debug, PartialEq, Eq)]
+pub struct EntryCounts {
     /// The entries of all journals.
-    pub entries: u64,
+    pub all: u64,
     /// The entries in which a cub puts a tenancy.
     pub puts: u64,
     /// The entries in which an instance is stopped.
@@ -39,28 +47,31 @@ pub fn counts_of(alloc: Global, kept: &Kept) -> Result<Counts, NoMemory>
     ensures { IfOk result (AreCountsOf kept.now) }
 {
     let lines = lines_of(alloc, kept)?;
-    Ok(counted(&kept.course.plan, lines.as_slice()))
+    let log = lines.as_slice();
+    let visits = shares_of(alloc, kept, log)?;
+    let entries = counted(&kept.course.plan, log);
+    Ok(Counts { entries, visits })
 }
 
-/// What a log has of each.
-fn counted<'a>(plan: &Plan, log: &[Line<'a>]) -> Counts
+/// What a log has of each kind of entry.
+fn counted<'a>(plan: &Plan, log: &[Line<'a>]) -> EntryCounts
     ensures { AreCountsIn (viewers_of (links_of plan.now.params)) (told_by log.now) result }
 {
     let viewers = LinkTable::new(plan).viewers();
-    let mut counts = Counts::nothing();
+    let mut counts = EntryCounts::nothing();
     for i in 0..log.len() {
         counts = counts.with(viewers, &line_at(log, i), i + 1);
     }
     counts
 }
 
-impl Counts {
+impl EntryCounts {
     /// Those of no entries.
-    fn nothing() -> Counts
+    fn nothing() -> EntryCounts
         ensures { (viewers : ℕ) → AreCountsIn viewers [] result }
     {
-        Counts {
-            entries: 0,
+        EntryCounts {
+            all: 0,
             puts: 0,
             stops: 0,
             deaths: 0,
@@ -71,8 +82,8 @@ impl Counts {
 
     /// Those with one entry more; each is below the number of the entries then.
     #[tactic(auto, using(crate::proofs::Counted::counts_by))]
-    fn with<'a>(self, viewers: NodeNo, line: &Line<'a>, next: usize) -> Counts
-        requires entries { self.entries < next }
+    fn with<'a>(self, viewers: NodeNo, line: &Line<'a>, next: usize) -> EntryCounts
+        requires all { self.all < next }
         requires puts { self.puts < next }
         requires stops { self.stops < next }
         requires deaths { self.deaths < next }
@@ -82,8 +93,8 @@ impl Counts {
             → AreCountsIn viewers.0 (log ++ noted_line line.now ∷ []) result }
     {
         let what = &line.entry.what;
-        Counts {
-            entries: self.entries + 1,
+        EntryCounts {
+            all: self.all + 1,
             puts: self.puts + one_if(is_put(what)),
             stops: self.stops + one_if(is_stop(what)),
             deaths: self.deaths + one_if(is_death(what)),

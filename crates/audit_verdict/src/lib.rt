@@ -3,6 +3,7 @@
 #![tactic(auto)]
 
 mod clause;
+mod clocks;
 mod counts;
 mod ends;
 mod line;
@@ -13,8 +14,9 @@ pub mod rows;
 mod schedule;
 mod verdict;
 
+pub use audit_blocks::Shares;
 pub use clause::Clause;
-pub use counts::{Counts, counts_of};
+pub use counts::{Counts, EntryCounts, counts_of};
 pub use line::line_in_text;
 pub use place::{EntryPlace, Place};
 pub use verdict::{Verdict, audit};

@@ -1,12 +1,17 @@
 //! Whether a kept run is carried and timed, and follows its orders.
 ghost use Rattle.std.specs.Prelude.{◌≡◌, IfOk, option_map};
+ghost use Rattle.run_model.specs.Runs.{order_in};
+ghost use Rattle.audit_frame.specs.Lines.{told_by};
 ghost use Rattle.audit_read.specs.Writable.{IsWritable};
 ghost use Rattle.audit_verdict.specs.Places.{controller_in, entry_place, place_uncarried, place_uncommanded, place_untimed};
 ghost use Rattle.audit_verdict.specs.Verdicts.{AnswersClause, MeetsBefore};
 ghost use Rattle.audit_verdict.specs.declared.clause.Clause.TheVariants as clause;
 ghost use Rattle.audit_verdict.specs.declared.place.Place.TheVariants as place;
 
+use crate::clocks::first_false_reading;
+use crate::logged::logged;
 use crate::place::{EntryPlace, Place};
+use audit_frame::Line;
 use audit_orders::{
     Flaw, Uncarried, Uncommanded, Untimed, first_uncarried, first_uncommanded, first_untimed,
 };
@@ -24,12 +29,16 @@ pub(crate) fn uncarried(alloc: Global, kept: &Kept) -> Result<Option<Place>, NoM
     Ok(at_message(found))
 }
 
-/// Where it is not timed.
-pub(crate) fn untimed(kept: &Kept) -> Option<Place>
-    requires { IsWritable kept.now }
+/// Where it is not timed; and if it is, where a reading is not what its node's clock shows.
+pub(crate) fn untimed<'a>(kept: &Kept, log: &[Line<'a>]) -> Option<Place>
+    requires writable { IsWritable kept.now }
+    requires told { told_by log.now ≡ order_in kept.now }
     ensures { AnswersClause kept.now clause.Timed result }
 {
-    at_time(first_untimed(kept))
+    match first_untimed(kept) {
+        Some(found) => Some(at_time(found)),
+        None => logged(log, first_false_reading(&kept.course, log)),
+    }
 }
 
 /// Where it does not follow its orders.
@@ -55,24 +64,19 @@ fn at_message(found: Option<Uncarried>) -> Option<Place>
 }
 
 /// The place at which it is not timed.
-fn at_time(found: Option<Untimed>) -> Option<Place>
-    ensures { result ≡ option_map place_untimed found }
+fn at_time(found: Untimed) -> Place
+    ensures { result ≡ place_untimed found }
 {
     match found {
-        Some(
-            Untimed::Journal {
-                node,
-                flaw: Flaw::Entry(place),
-            },
-        ) => Some(entry(node, place)),
-        Some(
-            Untimed::Journal {
-                node,
-                flaw: Flaw::Missing,
-            },
-        ) => Some(Place::Death { node }),
-        Some(Untimed::Neighbours { cub }) => Some(Place::Neighbours { cub }),
-        None => None,
+        Untimed::Journal {
+            node,
+            flaw: Flaw::Entry(place),
+        } => entry(node, place),
+        Untimed::Journal {
+            node,
+            flaw: Flaw::Missing,
+        } => Place::Death { node },
+        Untimed::Neighbours { cub } => Place::Neighbours { cub },
     }
 }
 

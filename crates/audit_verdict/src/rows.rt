@@ -1,4 +1,4 @@
-//! Worked runs: one of which all clauses hold, and four that each break one. They stand in contracts of functions without a
+//! Worked runs: one of which all clauses hold, and five that each break one. They stand in contracts of functions without a
 //! body, and not in tests, since a weakened definition must be refused where the crate is checked without its tests.
 ghost use Rattle.std.specs.Prelude.{[], ◌∷◌};
 ghost use Rattle.tiger_base.specs.declared.message.Note.TheVariants.{Heartbeat};
@@ -7,6 +7,7 @@ ghost use Rattle.slot_plan.specs.Samples.{small};
 ghost use Rattle.node_kit.specs.declared.course.Kept.{Kept};
 ghost use Rattle.run_model.specs.Samples.{believes, gets, kept, of_none, ordered, sends};
 ghost use Rattle.audit_orders.specs.Samples.{writes};
+ghost use Rattle.audit_verdict.specs.Clocks.{ShowsClocks};
 ghost use Rattle.audit_verdict.specs.Samples.{at_entry, at_order};
 ghost use Rattle.audit_verdict.specs.Verdicts.{IsVerdictOn};
 ghost use Rattle.audit_verdict.specs.declared.clause.Clause.TheVariants as clause;
@@ -17,7 +18,8 @@ pub fn quiet()
     ensures { (k : Kept) (p : IsPlan small) → IsVerdictOn (kept k p 1 of_none [] []) verdict.Yes }
 {}
 
-/// In runs of ten beats the viewers get a heartbeat a beat too late; or cub 0 writes its second entry a micro too late.
+/// In runs of ten beats the viewers get a heartbeat a beat too late; or cub 0 writes its second entry a micro too late for the
+/// skew, or within the skew a micro later than its clock shows.
 pub fn late()
     ensures message { (k : Kept) (p : IsPlan small) → IsVerdictOn
         (kept k p 10 of_none [] (sends 0 3 Heartbeat ∷ gets 0 6 Heartbeat ∷ []))
@@ -25,6 +27,17 @@ pub fn late()
     ensures entry { (k : Kept) (p : IsPlan small) → IsVerdictOn
         (kept k p 10 of_none [] (writes 2 20000 ∷ writes 3 34001 ∷ []))
         (verdict.No clause.Timed (at_entry 0 1)) }
+    ensures reading { (k : Kept) (p : IsPlan small) → IsVerdictOn
+        (kept k p 10 of_none [] (writes 2 20000 ∷ writes 3 30001 ∷ []))
+        (verdict.No clause.Timed (at_entry 0 1)) }
+{}
+
+/// The clock of cub 0 shows the true time, which is 20000 in beat 2 and 30000 in beat 3.
+pub fn clocks()
+    ensures shown { (k : Kept) (p : IsPlan small) →
+        ShowsClocks (kept k p 10 of_none [] (writes 2 20000 ∷ writes 3 30000 ∷ [])) }
+    ensures ahead { (k : Kept) (p : IsPlan small) →
+        ShowsClocks (kept k p 10 of_none [] (writes 2 20001 ∷ writes 3 30000 ∷ [])) → ⊥ }
 {}
 
 /// Instance 0 is to be started in the only beat, and the controller sends nothing.

@@ -60,7 +60,7 @@ fn broken_at<'a>(
 {
     match clause {
         Clause::Carried => uncarried(alloc, kept),
-        Clause::Timed => Ok(untimed(kept)),
+        Clause::Timed => Ok(untimed(kept, log)),
         Clause::Commanded => uncommanded(alloc, kept),
         Clause::FreePuts => unfair_put(alloc, kept, log),
         Clause::PartViews => stray(alloc, kept, log),

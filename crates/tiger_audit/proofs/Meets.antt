@@ -6,7 +6,7 @@ use Rattle.audit_verdict.specs.declared.clause.Clause.TheVariants as clause
 
 pub meets_clause : (k : Kept) (c : Clause) → MeetsAllClauses k → MeetsClause k c
 meets_clause k clause.Carried all = all.carried
-meets_clause k clause.Timed all = all.timed
+meets_clause k clause.Timed all = (all.timed, all.clocks)
 meets_clause k clause.Commanded all = all.commanded
 meets_clause k clause.FreePuts all = all.claims.free
 meets_clause k clause.PartViews all = all.claims.part

@@ -40,4 +40,7 @@ that_tick = places.Tick (record { 0 = 2 }) 80 None
 -- how much there is in some run
 abbrev pub some_counts : Counts
 some_counts =
-    record { entries = 1749; puts = 3; stops = 1; deaths = 1; blocks = 40; pieces = 8 }
+    record {
+      entries = record { all = 1749; puts = 3; stops = 1; deaths = 1; blocks = 40; pieces = 8 };
+      visits = record { settled = 55; read = 2; piece = 1; dead = 3; stopped = 4 };
+    }

@@ -8,29 +8,40 @@ ghost use Rattle.tiger_input.specs.Statuses.{IsPushed, worded};
 ghost use Rattle.tiger_input.specs.declared.status.Status.TheVariants as statuses;
 ghost use Rattle.tiger_audit.specs.Ends.{AuditCause, AuditSink, IsSoundText, IsToldText, IsJudged};
 ghost use Rattle.tiger_audit.specs.Ends.{IsYesOf, JudgedCause, AnswerCause, AnswerSink};
-ghost use Rattle.tiger_audit.specs.Lines.{counts_line, yes_text};
+ghost use Rattle.tiger_audit.specs.Lines.{entries_line, visits_line, yes_text};
 ghost use Rattle.tiger_audit.specs.Statuses.{IsAuditRefusal};
 ghost use Rattle.tiger_audit.specs.declared.status.AuditStatus.TheVariants as ends;
 
 use crate::place::push_number;
 use crate::reading::read_run;
 use crate::status::AuditStatus;
-use audit_verdict::{Counts, Verdict, audit, counts_of, line_in_text};
+use audit_verdict::{Counts, EntryCounts, Shares, Verdict, audit, counts_of, line_in_text};
 use node_kit::Kept;
 use outside::{Files, Sink};
 use std::alloc::{AllocError, Global};
 use tiger_input::written;
 
-/// Pushes how much there is in a run.
-fn push_counts(text: &mut String, counts: &Counts) -> Result<(), AllocError>
-    ensures { OnOk result (IsPushed text.old text.new (counts_line counts.now)) }
+/// Pushes how many entries there are in a run.
+fn push_entries(text: &mut String, counts: &EntryCounts) -> Result<(), AllocError>
+    ensures { OnOk result (IsPushed text.old text.new (entries_line counts.now)) }
 {
-    push_number(text, "entries ", counts.entries)?;
+    push_number(text, "entries ", counts.all)?;
     push_number(text, " puts ", counts.puts)?;
     push_number(text, " stops ", counts.stops)?;
     push_number(text, " deaths ", counts.deaths)?;
     push_number(text, " blocks ", counts.blocks)?;
     push_number(text, " pieces ", counts.pieces)
+}
+
+/// Pushes how many of its visits are settled, and how many of them have which excuse.
+fn push_visits(text: &mut String, visits: &Shares) -> Result<(), AllocError>
+    ensures { OnOk result (IsPushed text.old text.new (visits_line visits.now)) }
+{
+    push_number(text, " settled ", visits.settled)?;
+    push_number(text, " read ", visits.read)?;
+    push_number(text, " piece ", visits.piece)?;
+    push_number(text, " dead ", visits.dead)?;
+    push_number(text, " stopped ", visits.stopped)
 }
 
 /// The two lines of a run that meets all clauses.
@@ -39,7 +50,8 @@ fn yes_text(alloc: Global, counts: &Counts) -> Result<String, AllocError>
 {
     let mut text = String::new(alloc);
     text.push_str("audit yes\n")?;
-    push_counts(&mut text, counts)?;
+    push_entries(&mut text, &counts.entries)?;
+    push_visits(&mut text, &counts.visits)?;
     text.push_str("\n")?;
     Ok(text)
 }

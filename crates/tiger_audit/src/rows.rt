@@ -11,7 +11,7 @@ ghost use Rattle.node_kit.specs.declared.course.Kept.{Kept};
 ghost use Rattle.tiger_input.specs.declared.status.Status.TheVariants as statuses;
 ghost use Rattle.tiger_audit.specs.Samples.{audits_a, text_name, text_source, that_entry, that_order, that_death, that_tick, some_counts};
 ghost use Rattle.tiger_audit.specs.Ends.{AuditCause, AuditSink, IsJudged, IsSoundText, IsToldText};
-ghost use Rattle.tiger_audit.specs.Lines.{yes_text};
+ghost use Rattle.tiger_audit.specs.Lines.{entries_line, visits_line, yes_text};
 ghost use Rattle.tiger_audit.specs.Statuses.{audit_line, audit_exit, IsAuditRefusal};
 ghost use Rattle.tiger_audit.specs.Words.{AsksAudit, IsNoAudit};
 ghost use Rattle.tiger_audit.specs.declared.status.AuditStatus.TheVariants as ends;
@@ -54,12 +54,17 @@ pub fn ends()
     ensures done { IsAuditRefusal (ends.Run statuses.Done) → ⊥ }
 {}
 
-/// The lines of a Yes.
+/// The lines of a Yes, and how the second one tells of entries and of visits.
 pub fn yes_lines()
-    ensures is { yes_text some_counts
-        ≡ codes "audit yes\nentries " ++ decimal 1749 ++ codes " puts " ++ decimal 3
-        ++ codes " stops " ++ decimal 1 ++ codes " deaths " ++ decimal 1 ++ codes " blocks "
-        ++ decimal 40 ++ codes " pieces " ++ decimal 8 ++ codes "\n" }
+    ensures is { yes_text some_counts ≡ codes "audit yes\n" ++ entries_line some_counts.entries
+        ++ visits_line some_counts.visits ++ codes "\n" }
+    ensures entries { entries_line some_counts.entries ≡ codes "entries " ++ decimal 1749
+        ++ (codes " puts " ++ decimal 3) ++ (codes " stops " ++ decimal 1)
+        ++ (codes " deaths " ++ decimal 1) ++ (codes " blocks " ++ decimal 40)
+        ++ (codes " pieces " ++ decimal 8) }
+    ensures visits { visits_line some_counts.visits ≡ codes " settled " ++ decimal 55
+        ++ (codes " read " ++ decimal 2) ++ (codes " piece " ++ decimal 1)
+        ++ (codes " dead " ++ decimal 3) ++ (codes " stopped " ++ decimal 4) }
 {}
 
 /// Why there is no Yes: the file is not there, or has too many bytes; and no scenario is ever the cause.

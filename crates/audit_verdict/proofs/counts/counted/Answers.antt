@@ -8,8 +8,8 @@ use Rattle.audit_verdict.proofs.counts.counted.Goals as goal
 pub loop-i-init : goal.loop-i-init
 loop-i-init c = record { counted = c.nothing-counts.ensures _ }
 
-pub with-counts-requires-clause-entries : goal.with-counts-requires-clause-entries
-with-counts-requires-clause-entries c = (are_below _ c.args.log.now c.loop-i.i c.loop-i.counts c.loop-i.invariant.counted).entries
+pub with-counts-requires-clause-all : goal.with-counts-requires-clause-all
+with-counts-requires-clause-all c = (are_below _ c.args.log.now c.loop-i.i c.loop-i.counts c.loop-i.invariant.counted).all
 
 pub with-counts-requires-clause-puts : goal.with-counts-requires-clause-puts
 with-counts-requires-clause-puts c = (are_below _ c.args.log.now c.loop-i.i c.loop-i.counts c.loop-i.invariant.counted).puts

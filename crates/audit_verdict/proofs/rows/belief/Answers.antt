@@ -35,7 +35,7 @@ always_part k plan = (opening_part small, (λ c low. none_held _ (1 == c)))
 met_before : (k : Kept) (plan : IsPlan small) (d : Clause) → number_of_clause d < 8 → MeetsClause (run k plan) d
 unfolding on_samples
 met_before k plan clause.Carried low = silent (run k plan) refl
-met_before k plan clause.Timed low = (timed (run k plan)).0 refl
+met_before k plan clause.Timed low = ((timed (run k plan)).0 refl, (refl, tt))
 met_before k plan clause.Commanded low = record {
   controller = λ journal at. none_ordered small 1 _ journal (sym (same_Some [] journal at));
   others = λ n journal other at. none_gone (run k plan).journals n journal refl at;

@@ -1,9 +1,12 @@
-use Rattle.std.proofs.Common.{◌<◌, [], ◌∷◌, refl, arith}
+use Rattle.std.proofs.Common.{◌≡◌, ℕ, zero, suc, ◌<◌, ◌≤◌, false, [], ◌∷◌, take, inl, inr, refl, arith}
+use Rattle.std.specs.List.{list_any}
 use Rattle.tiger_base.specs.declared.message.Note.TheVariants.{Heartbeat}
 use Rattle.slot_plan.specs.Conditions.{IsPlan}
 use Rattle.slot_plan.specs.Samples.{small}
 use Rattle.node_kit.specs.declared.course.Kept.{Kept}
 use Rattle.run_model.proofs.OnSamples.{on_samples}
+use Rattle.run_model.proofs.Timely.{timed}
+use Rattle.run_model.specs.Runs.{IsTimedRun, order_in}
 use Rattle.run_model.specs.Samples.{gets, kept, of_none, sends}
 use Rattle.audit_orders.specs.Carrying.{IsUncarriedAt}
 use Rattle.audit_orders.specs.Samples.{writes}
@@ -14,10 +17,11 @@ use Rattle.audit_orders.specs.declared.timing.Untimed.TheVariants as untimed
 use Rattle.audit_orders.proofs.Denying.{untimed_denies}
 use Rattle.audit_orders.proofs.Refuting.{uncarried_denies}
 use Rattle.audit_verdict.specs.Clauses.{MeetsClause, number_of_clause}
+use Rattle.audit_verdict.specs.Clocks.{ShowClocks, ShowsClocks}
 use Rattle.audit_verdict.specs.declared.clause.Clause.{Clause}
 use Rattle.audit_verdict.specs.declared.clause.Clause.TheVariants as clause
 use Rattle.audit_verdict.proofs.Clauses.{none_before}
-use Rattle.audit_verdict.proofs.Silent.{silent}
+use Rattle.audit_verdict.proofs.Silent.{has_message, silent}
 use Rattle.audit_verdict.proofs.rows.late.Goals as goal
 
 abbrev with_message : Kept → IsPlan small → Kept
@@ -67,13 +71,51 @@ written_late k plan = record {
   };
 }
 
-carried_before : (k : Kept) (plan : IsPlan small) (d : Clause) → number_of_clause d < 2 → MeetsClause (with_entry k plan) d
-carried_before k plan clause.Carried low = silent (with_entry k plan) refl
-carried_before k plan other low = absurd (omega (arith, low))
+carried_before : (run : Kept) → list_any has_message run.journals ≡ false → (d : Clause) → number_of_clause d < 2 → MeetsClause run d
+carried_before run none clause.Carried low = silent run none
+carried_before run none other low = absurd (omega (arith, low))
 
 pub returns-clause-entry : goal.returns-clause-entry
 returns-clause-entry c k plan = record {
-  lower = carried_before k plan;
-  broken = λ h. untimed_denies (with_entry k plan) (untimed.Journal (record { 0 = 0 }) (flaw.Entry 1)) (written_late k plan) h;
-  where_it_is = (untimed.Journal (record { 0 = 0 }) (flaw.Entry 1), refl, written_late k plan);
+  lower = carried_before (with_entry k plan) refl;
+  broken = λ h. untimed_denies (with_entry k plan) (untimed.Journal (record { 0 = 0 }) (flaw.Entry 1)) (written_late k plan) h.0;
+  where_it_is = inl (untimed.Journal (record { 0 = 0 }) (flaw.Entry 1), refl, written_late k plan);
+}
+
+abbrev with_reading : Kept → IsPlan small → Kept
+with_reading k plan = kept k plan 10 of_none [] (writes 2 20000 ∷ writes 3 30001 ∷ [])
+
+in_time : (k : Kept) (plan : IsPlan small) → IsTimedRun (with_reading k plan)
+unfolding on_samples
+in_time k plan = (timed (with_reading k plan)).0 refl
+
+shown_before : (k : Kept) (plan : IsPlan small) (j : ℕ) → j ≤ 1
+    → ShowClocks (with_reading k plan).course (take j (order_in (with_reading k plan)))
+shown_before k plan zero le = tt
+shown_before k plan (suc zero) le = (refl, tt)
+shown_before k plan (suc (suc j)) le = absurd (omega (arith, le))
+
+not_shown : (k : Kept) (plan : IsPlan small) → ShowsClocks (with_reading k plan) → ⊥
+not_shown k plan h = let ahead = h.1.0 in omega (arith, ahead)
+
+pub returns-clause-reading : goal.returns-clause-reading
+returns-clause-reading c k plan = record {
+  lower = carried_before (with_reading k plan) refl;
+  broken = λ h. not_shown k plan h.1;
+  where_it_is = inr (
+    in_time k plan,
+    (
+      1,
+      record {
+        noted = writes 3 30001;
+        in_log = refl;
+        node = refl;
+        journal = (writes 2 20000).entry ∷ (writes 3 30001).entry ∷ [];
+        here = refl;
+        in_journal = refl;
+        behind = refl;
+      },
+      record { inside = omega arith; before = shown_before k plan; with_it = not_shown k plan; whole = not_shown k plan },
+    ),
+  );
 }

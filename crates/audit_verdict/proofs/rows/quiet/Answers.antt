@@ -22,6 +22,7 @@ returns c k plan =
     record {
       carried = silent run refl;
       timed = (timed run).0 refl;
+      clocks = tt;
       commanded = orders;
       claims = record {
         free = tt;

@@ -37,7 +37,7 @@ not_sent k plan = (
 met_before : (k : Kept) (plan : IsPlan small) (d : Clause) → number_of_clause d < 3 → MeetsClause (run k plan) d
 unfolding on_samples
 met_before k plan clause.Carried low = silent (run k plan) refl
-met_before k plan clause.Timed low = (timed (run k plan)).0 refl
+met_before k plan clause.Timed low = ((timed (run k plan)).0 refl, tt)
 met_before k plan other low = absurd (omega (arith, low))
 
 pub returns : goal.returns

@@ -1,0 +1,223 @@
+//! How many visits of the Puts of a log are settled at the end of a run, and what may excuse them.
+ghost use Rattle.std.specs.Prelude.{◌≡◌, ℕ, ◌+◌, ◌-◌, ◌<◌, ◌≤◌, true, false, length, filter, IfOk, if◌then◌else◌};
+ghost use Rattle.std.specs.List.{range_with_len};
+ghost use Rattle.audit_frame.specs.Lines.{told_by};
+ghost use Rattle.audit_blocks.specs.Shares.{AreSharesOf, IsParted, is_excused_by, lies_past, share_of_entry, share_of_log, share_of_put};
+ghost use Rattle.audit_blocks.specs.Told.{AreTablesOf};
+
+use crate::excused::{lost_in_death, lost_in_pieces, was_stopped};
+use crate::lookups::block_failed;
+use crate::serving::is_settled_at;
+use crate::tables::Tables;
+use crate::unserved::tables_of;
+use audit_frame::{Line, line_at};
+use node_kit::{Kept, What};
+use std::alloc::Global;
+use tiger_base::{NoMemory, Tenancy, Visit};
+
+/// Which of the settled visits are counted.
+#[derive(Clone, Copy, Debug, PartialEq, Eq)]
+pub enum Share {
+    /// All of them.
+    All,
+    /// Those before whose end the instance was stopped.
+    Stopped,
+    /// Of the others those whose read failed at their cub.
+    Read,
+    /// Of the others those of which a piece was lost, behind the death of their cub.
+    Piece,
+    /// Of the others those whose cub died about that time.
+    Dead,
+}
+
+/// How many visits of tenancies that were put are settled at the end of a run, and how many of these have which excuse. A
+/// visit of an instance that was stopped in time counts as stopped alone; one that came may have an excuse all the same.
+#[derive(Clone, Copy, Debug, PartialEq, Eq)]
+pub struct Shares {
+    pub settled: u64,
+    pub read: u64,
+    pub piece: u64,
+    pub dead: u64,
+    pub stopped: u64,
+}
+
+/// How many each share has of a log. Each entry of the journals costs the logarithm of their number, and so does each visit of
+/// a Put up to the first that is not settled, or comes after the stop of its instance.
+///
+/// `NoMemory` is the only error.
+pub fn shares_of<'a>(alloc: Global, kept: &Kept, log: &[Line<'a>]) -> Result<Shares, NoMemory>
+    requires { length kept.now.journals ≤ 1000 }
+    ensures { IfOk result (AreSharesOf kept.now (told_by log.now)) }
+{
+    let tables = tables_of(alloc, kept)?;
+    let settled = share_of_log(kept, &tables, log, Share::All)?;
+    let read = share_of_log(kept, &tables, log, Share::Read)?;
+    let piece = share_of_log(kept, &tables, log, Share::Piece)?;
+    let dead = share_of_log(kept, &tables, log, Share::Dead)?;
+    let stopped = share_of_log(kept, &tables, log, Share::Stopped)?;
+    Ok(Shares {
+        settled,
+        read,
+        piece,
+        dead,
+        stopped,
+    })
+}
+
+/// How many visits a share has of the tenancies that a log puts.
+fn share_of_log<'a>(
+    k: &Kept,
+    tables: &Tables,
+    log: &[Line<'a>],
+    share: Share,
+) -> Result<u64, NoMemory>
+    requires { AreTablesOf k.now tables.now }
+    ensures { IfOk result (λ (n : ℕ). n ≡ share_of_log k.now share (told_by log.now)) }
+{
+    let mut count = 0;
+    for i in 0..log.len() {
+        let more = share_of_entry(k, tables, &line_at(log, i), share)?;
+        count = sum(count, more)?;
+    }
+    Ok(count)
+}
+
+fn sum(a: u64, b: u64) -> Result<u64, NoMemory>
+    ensures { IfOk result (λ (n : ℕ). n ≡ a + b) }
+{
+    a.checked_add(b).ok_or(NoMemory)
+}
+
+/// How many it has of the tenancy that an entry puts.
+fn share_of_entry<'a>(
+    k: &Kept,
+    tables: &Tables,
+    line: &Line<'a>,
+    share: Share,
+) -> Result<u64, NoMemory>
+    requires { AreTablesOf k.now tables.now }
+    ensures { IfOk result (λ (n : ℕ). n ≡ share_of_entry k.now share line.now.entry.now.what) }
+{
+    match line.entry.what {
+        What::Put(t) => share_of_put(k, tables, &t, share),
+        _ => Ok(0),
+    }
+}
+
+/// How many it has of a tenancy.
+fn share_of_put(k: &Kept, tables: &Tables, t: &Tenancy, share: Share) -> Result<u64, NoMemory>
+    requires { AreTablesOf k.now tables.now }
+    ensures { IfOk result (λ (n : ℕ). n ≡ share_of_put k.now share t.now) }
+{
+    let behind = sum(t.last, 1)?;
+    if behind < t.first {
+        return Ok(0);
+    }
+    let settled = first_past(k, tables, t, false, t.first, behind);
+    let asked = first_past(k, tables, t, true, t.first, settled);
+    Ok(share_between(k, tables, t, share, asked, settled))
+}
+
+/// How many it has, if the visits are settled up to one, and the instance is not yet stopped up to another.
+fn share_between(
+    k: &Kept,
+    tables: &Tables,
+    t: &Tenancy,
+    share: Share,
+    asked: Visit,
+    settled: Visit,
+) -> u64
+    requires told { AreTablesOf k.now tables.now }
+    requires first { t.now.first ≤ asked }
+    requires order { asked ≤ settled }
+    ensures { IsParted k.now t.now asked settled → result ≡ share_of_put k.now share t.now }
+{
+    match share {
+        Share::All => settled - t.first,
+        Share::Stopped => settled - asked,
+        _ => excused_between(k, tables, t, share, t.first, asked),
+    }
+}
+
+/// The first of some visits of a tenancy that is past, found by halving; the end of them if there is none.
+fn first_past(
+    k: &Kept,
+    tables: &Tables,
+    t: &Tenancy,
+    stops: bool,
+    first: Visit,
+    end: Visit,
+) -> Visit
+    requires told { AreTablesOf k.now tables.now }
+    requires order { first ≤ end }
+    ensures low { first ≤ result }
+    ensures high { result ≤ end }
+    ensures before { (n : ℕ) → first ≤ n → n < result → lies_past k.now stops t.now n ≡ false }
+    ensures behind { (n : ℕ) → result ≤ n → n < end → lies_past k.now stops t.now n ≡ true }
+{
+    let mut low = first;
+    let mut high = end;
+    while low < high {
+        let middle = low + (high - low) / 2;
+        if lies_past(k, tables, t, stops, middle) {
+            high = middle;
+        } else {
+            low = middle + 1;
+        }
+    }
+    low
+}
+
+/// Whether a visit is not settled, or one before whose end the instance was stopped.
+fn lies_past(k: &Kept, tables: &Tables, t: &Tenancy, stops: bool, n: Visit) -> bool
+    requires { AreTablesOf k.now tables.now }
+    ensures { result ≡ lies_past k.now stops t.now n }
+{
+    if stops {
+        was_stopped(k, tables, t, n)
+    } else {
+        !is_settled_at(k, t, n)
+    }
+}
+
+/// How many of some visits of a tenancy have an excuse.
+fn excused_between(
+    k: &Kept,
+    tables: &Tables,
+    t: &Tenancy,
+    share: Share,
+    first: Visit,
+    end: Visit,
+) -> u64
+    requires told { AreTablesOf k.now tables.now }
+    requires order { first ≤ end }
+    ensures { result
+        ≡ length (filter (is_excused_by k.now share t.now) (range_with_len first (end - first))) }
+{
+    let mut count = 0;
+    for n in first..end {
+        count = with_visit(count, is_excused_by(k, tables, t, share, n), n - first + 1);
+    }
+    count
+}
+
+/// A count with one visit more, if it is meant; before the next visit the count is that of the visits at most.
+fn with_visit(count: u64, meant: bool, next: u64) -> u64
+    requires { count < next }
+    ensures { result ≡ (if meant then count + 1 else count) }
+{
+    if meant { count + 1 } else { count }
+}
+
+/// Whether a visit of a tenancy has an excuse.
+fn is_excused_by(k: &Kept, tables: &Tables, t: &Tenancy, share: Share, n: Visit) -> bool
+    requires { AreTablesOf k.now tables.now }
+    ensures { result ≡ is_excused_by k.now share t.now n }
+{
+    match share {
+        Share::Read => block_failed(k, tables, t.instance, n),
+        Share::Piece => lost_in_pieces(k, tables, t, n),
+        Share::Dead => lost_in_death(k, tables, t, n),
+        _ => true,
+    }
+}
