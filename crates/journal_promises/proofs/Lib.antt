@@ -1,0 +1,12 @@
+pub mod Cubs
+pub mod Nodes
+pub mod Written
+pub mod Orders
+pub mod Openings
+pub mod Fitting
+pub mod Given
+pub mod Readings
+pub mod Same
+pub mod Kept
+pub mod Answering
+pub mod Places
