@@ -5,6 +5,7 @@ use Rattle.std.specs.Prelude.{◌⊎◌}
 use Rattle.std.proofs.lemmas.Option.{none-some}
 use Rattle.run_facts.specs.Accounts.{AreAlive, event_at}
 use Rattle.run_facts.specs.Events.{NodeEvent, stamp_at, is_death, is_return}
+use Rattle.run_facts.specs.Events.NodeEvent.{Does, Ends, Dies, Returns}
 use Rattle.run_facts.proofs.Indexed.{all-at}
 use Rattle.run_facts.proofs.Rows.{all-append}
 use Rattle.ring_world.proofs.Lists.{length-more, event-old, event-new, old-or-new}
@@ -34,6 +35,13 @@ pub record HasDied {M : Type 0} (dead : Bool) (death : Option ℕ) (es : List (N
   pub up : dead ≡ false → (i : ℕ) → IsDeathAt es i → i + 1 < length es
   pub final : dead ≡ true → (i : ℕ) × (i + 1 ≡ length es) × (is_death (event_at es i) ≡ true)
   pub when : (d : ℕ) → death ≡ Some d → (i : ℕ) × IsDeathAt es i × (beat_at es i ≡ d)
+
+-- a return is at its stamp
+pub return-is : {M : Type 0} (x : NodeEvent M) → is_return x ≡ true → x ≡ Returns (stamp_at x)
+return-is (Does i) h = absurd (cc)
+return-is (Ends i sends) h = absurd (cc)
+return-is (Dies s) h = absurd (cc)
+return-is (Returns s) h = refl
 
 pub died-opens : {M : Type 0} → HasDied {M = M} false None []
 died-opens = record {

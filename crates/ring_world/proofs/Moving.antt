@@ -1,5 +1,5 @@
 -- The machine after one event more, beside the events of its nodes.
-use Rattle.std.proofs.Common.{◌≡◌, ℕ, suc, ◌+◌, ◌<◌, ◌≤◌, List, [], ◌∷◌, ◌++◌, length, Bool, true, false, Some, ◌&&◌, refl}
+use Rattle.std.proofs.Common.{◌≡◌, ℕ, suc, ◌+◌, ◌<◌, ◌≤◌, List, [], ◌∷◌, ◌++◌, length, Bool, true, false, Some, ◌&&◌, refl, zero}
 use Rattle.std.proofs.Common.{ap, sym, ◌∙◌, subst, arith, cond, ⊎_elim, append-nil}
 use Rattle.std.specs.Prelude.{slice_get, option_map, ◌==◌, if◌then◌else◌}
 use Rattle.std.specs.List.{AllByRecursion}
@@ -12,7 +12,7 @@ use Rattle.node_kit.specs.Steps.Input.{Take, Tick}
 use Rattle.run_facts.specs.Events.{NodeEvent, Past, Dated, opening, after_all, behind, outs_of, stamp_at, is_tick, is_death}
 use Rattle.run_facts.specs.Events.{is_return, is_take_on, sends_of, sends_along}
 use Rattle.run_facts.specs.Events.NodeEvent.{Does, Ends, Dies, Returns}
-use Rattle.run_facts.specs.Accounts.{open_after, IsOpen, event_at}
+use Rattle.run_facts.specs.Accounts.{open_after, IsOpen, event_at, AreCounted, front}
 use Rattle.run_facts.proofs.Along.{sends-append, sends-none, sends_of-dated}
 use Rattle.run_facts.proofs.Indexed.{all-at}
 use Rattle.run_facts.proofs.Rows.{all-weaker, same-element}
@@ -21,6 +21,7 @@ use Rattle.ring_world.specs.declared.event.Event.{Event}
 use Rattle.ring_world.specs.Machine.{Machine, Being, Way, undying, lived, dropped, lost_on, gone_on, moved}
 use Rattle.ring_world.specs.Laws.{IsPlace}
 use Rattle.ring_world.specs.Merging.{added}
+use Rattle.ring_world.proofs.Deaths.{return-is}
 use Rattle.ring_world.proofs.Lists.{each-get, each-length}
 use Rattle.ring_world.proofs.Neighbours.{AreApart, MayDie, apart-moved}
 use Rattle.ring_world.proofs.Steps.{IsLifeline, IsDue, lifeline-more, lifeline-later}
@@ -61,13 +62,7 @@ tick-takes-none l (Ends (Tick s) sends) h = refl
 tick-takes-none l (Dies s) h = absurd (cc)
 tick-takes-none l (Returns s) h = absurd (cc)
 
--- a return is at a stamp, and takes nothing
-return-is : {M : Type 0} (x : NodeEvent M) → is_return x ≡ true → x ≡ Returns (stamp_at x)
-return-is (Does i) h = absurd (cc)
-return-is (Ends i sends) h = absurd (cc)
-return-is (Dies s) h = absurd (cc)
-return-is (Returns s) h = refl
-
+-- a return takes nothing
 return-takes-none : {M : Type 0} (l : ℕ) (x : NodeEvent M) → is_return x ≡ true → is_take_on l x ≡ false
 return-takes-none l (Does i) h = absurd (cc)
 return-takes-none l (Ends i sends) h = absurd (cc)
@@ -80,6 +75,19 @@ open-is (Does i) t h o = o
 open-is (Ends i sends) t h o = o
 open-is (Dies s) t h o = o
 open-is (Returns s) t h o = absurd (cc)
+
+-- no event is below the beat that is open before it
+open-low : {M : Type 0} (t : ℕ) (x : NodeEvent M) → IsOpen t x → t ≤ (stamp_at x).beat
+open-low t (Does i) o = omega (arith, o)
+open-low t (Ends i sends) o = omega (arith, o)
+open-low t (Dies s) o = omega (arith, o)
+open-low t (Returns s) o = o
+
+front-open : {M : Type 0} (t : ℕ) (es : List (NodeEvent M)) (i : ℕ) → i < length es → AreCounted t es
+    → open_after t (front i es) ≤ (stamp_at (event_at es i)).beat
+front-open t [] i low counted = absurd (omega (arith, low))
+front-open t (e ∷ es) zero low counted = open-low t e counted.0
+front-open t (e ∷ es) (suc i) low counted = front-open (behind e t) es i (omega (arith, low)) counted.1
 
 -- an event that takes nothing and is no tick leaves the beat open
 stays-open : {M : Type 0} (x : NodeEvent M) (t : ℕ) → is_return x ≡ false → is_tick x ≡ false → behind x t ≡ t
@@ -161,6 +169,15 @@ module _ {M S : Type 0} (note : M → Note) (step : S → Input M → Deed M S) 
   early-all k low i at =
       let after = node-after k low in
       all-at (λ (f : NodeEvent M). (stamp_at f).beat ≤ e.stamp.beat) (added n x es k) i at after.2.early
+
+  -- and no beat above that is open before one
+  opened-all : (k : ℕ) → k < nodes → (i : ℕ) → i < length (added n x es k)
+      → open_after 0 (front i (added n x es k)) ≤ e.stamp.beat
+  opened-all k low i at =
+      let after = node-after k low in
+      let early = early-all k low i at in
+      let opens = front-open 0 (added n x es k) i at after.2.counted in
+      omega (arith, early, opens)
 
   open-high : (k : ℕ) → k < nodes → open_after 0 (added n x es k) ≤ e.stamp.beat + 1
   open-high k low =
@@ -262,7 +279,7 @@ module _ {M S : Type 0} (note : M → Note) (step : S → Input M → Deed M S) 
       let high = open-high to low_to in
       let got = way-got l from to w old ends at own.2 in
       let on = way-sent p.delay beat l (taken_off l x (lost_on p n x l w)) old ds (added n x es to) dated (omega (arith, high, delay))
-      (early-all to low_to) got in (
+      (early-all to low_to) (opened-all to low_to) got in (
         new,
         get,
         subst (λ qs. IsOnWay p.delay beat l new qs (added n x es to)) (sym (sends-added l from to ends)) on,

@@ -80,6 +80,7 @@ holds-opens {M} {S} note step stands p given first all stand = record {
       rising = tt;
       place = λ lost is. refl;
       came = λ lost is i stamp link msg low. absurd (omega (arith, low));
+      timely = λ lost is i stamp k d low. absurd (omega (arith, low));
     },
   );
 }
@@ -192,6 +193,7 @@ module _ {M S : Type 0} (note : M → Note) (step : S → Input M → Deed M S) 
           number = omega (arith, number, next);
           young = on.young;
           came = on.came (lost_by note step p first es l) right;
+          timely = on.timely (lost_by note step p first es l) right;
           lost_is = right;
         };
   }

@@ -1,5 +1,5 @@
 -- Lists of events that tell of a run, though neither an end of its beats nor the clocks of its links are known.
-use Rattle.std.proofs.Common.{◌≡◌, ℕ, zero, suc, ◌+◌, ◌<◌, ◌≤◌, List, [], ◌∷◌, ◌++◌, length, Bool, false, Option}
+use Rattle.std.proofs.Common.{◌≡◌, ℕ, zero, suc, ◌+◌, ◌<◌, ◌≤◌, List, [], ◌∷◌, ◌++◌, length, Bool, true, false, Option}
 use Rattle.std.proofs.Common.{Some, refl, ap, sym, ◌∙◌, subst, arith, ⊎_elim}
 use Rattle.std.specs.Prelude.{slice_get}
 use Rattle.std.specs.List.{AllByRecursion}
@@ -20,9 +20,9 @@ use Rattle.run_facts.specs.Accounts.{Rising, AreCounted, IsLed, event_at, front,
 use Rattle.run_facts.proofs.Indexed.{past-front, open-front, open-all, sent-all, front-more, front-all, all-at, rising-at}
 use Rattle.run_facts.proofs.Indexed.{counted-at, fair-at}
 use Rattle.ring_world.specs.Merging.{place_along}
-use Rattle.ring_world.proofs.Deaths.{HasDied, IsDeathAt}
+use Rattle.ring_world.proofs.Deaths.{HasDied, IsDeathAt, return-is}
 use Rattle.ring_world.proofs.Lists.{get-cases}
-use Rattle.ring_world.proofs.Ways.{IsLost, AreCome, place-append}
+use Rattle.ring_world.proofs.Ways.{IsLost, AreCome, AreGone, place-append}
 
 -- an event's reading is the true time of its beat or later, by the skew at most
 abbrev pub IsShown : {M : Type 0} → Params → NodeEvent M → Type 0
@@ -38,6 +38,7 @@ pub record IsPassing {M : Type 0} (most l lost : ℕ) (sent : List (Dated M)) (e
   pub number : place_along l lost 0 es ≡ length gone
   pub young : AllByRecursion (λ (d : Dated M). open_after 0 es ≤ d.beat + most) left
   pub came : AreCome most l lost sent es
+  pub timely : AreGone most l lost sent es
   pub lost_is : IsLost lost sent es
 
 -- the events of all nodes by a beat
@@ -147,6 +148,20 @@ module _ {M S : Type 0} (note : M → Note) (step : S → Input M → Deed M S) 
       (get-cases (λ (d : Dated M). open_after 0 (es n) ≤ d.beat + p.delay) on.gone on.left k
       (record { beat = date; item = msg }) at on.young)
 
+  -- whoever returns had taken what was to arrive below the beat that was open to it
+  returned-in_time : (l from n i k date : ℕ) (msg : M) → from < nodes → n < nodes → ends_of (links_of p) l ≡ Some (from, n)
+      → i < length (es n) → is_return (event_at (es n) i) ≡ true
+      → slice_get (sent note step l (history_of first life lost es) from (length (es from))) k
+      ≡ Some (record { beat = date; item = msg })
+      → date + p.delay < open_beat (history_of first life lost es) n i → k < place l (history_of first life lost es) n i
+  returned-in_time l from n i k date msg low_from low ends at back was due =
+      let opens = open-front first life lost es n i (omega (arith, at)) in
+      let number = place-front l first life lost es n i (omega (arith, at)) in
+      let gone = (told.links l from n low_from low ends).timely i (stamp_at (event_at (es n) i)) k
+      (record { beat = date; item = msg }) at (return-is (event_at (es n) i) back)
+      (ap (λ q. slice_get q k) (sym (sent-all note step l first life lost es from)) ∙ was) (omega (arith, due, opens)) in
+      omega (arith, gone, number)
+
   pub run-of_told : IsRun note step p nodes (history_of first life lost es)
   run-of_told = record {
     in_beat = in-beat;
@@ -165,6 +180,7 @@ module _ {M S : Type 0} (note : M → Note) (step : S → Input M → Deed M S) 
         (fair-at note step p n (es n) (opening (first n) (life n)) i h (told.fair n low));
     carried = came;
     arrives = arrive;
+    in_time = returned-in_time;
     before = λ l from n i stamp low_from low ends h is.
         (told.links l from n low_from low ends).lost_is i stamp h is
         ∙ ap (below stamp.beat) (sym (sent-all note step l first life lost es from));

@@ -18,7 +18,7 @@ use Rattle.run_facts.proofs.Rows.{all-append, all-right, all-weaker, filter-all,
 use Rattle.run_facts.proofs.Timelines.{open-append}
 use Rattle.ring_world.specs.Machine.{Way, dropped, rest_of}
 use Rattle.ring_world.specs.Merging.{place_along}
-use Rattle.ring_world.proofs.Lists.{get-behind, event-old, event-new, front-old, length-more, old-or-new}
+use Rattle.ring_world.proofs.Lists.{get-behind, event-old, event-new, front-old, length-more, old-or-new, get-cases}
 use Rattle.ring_world.proofs.Lists.{split-rising, all-from, all-below, rising-both, rising-same}
 
 -- so many messages were sent below each return among the events
@@ -39,6 +39,12 @@ AreCome {M} most l lost sent es =
     (i : ℕ) (stamp : Stamp) (link : LinkNo) (msg : M) → i < length es → TakesAt (event_at es i) stamp link msg
     → link.0 ≡ l → IsCome most sent (place_along l lost 0 (front i es)) stamp.beat msg
 
+-- what was to arrive on link l below the beat that was open before a return had gone before it
+abbrev pub AreGone : {M : Type 0} → ℕ → ℕ → ℕ → List (Dated M) → List (NodeEvent M) → Type 0
+AreGone {M} most l lost sent es =
+    (i : ℕ) (stamp : Stamp) (k : ℕ) (d : Dated M) → i < length es → event_at es i ≡ Returns stamp → slice_get sent k ≡ Some d
+    → d.beat + most < open_after 0 (front i es) → k < place_along l lost 0 (front i es)
+
 -- link l by a beat: what was sent on it is gone or under way
 pub record IsOnWay {M : Type 0} (most now l : ℕ) (w : Way M) (sent : List (Dated M)) (es : List (NodeEvent M)) : Type 0 where
   pub gone : List (Dated M)
@@ -50,6 +56,7 @@ pub record IsOnWay {M : Type 0} (most now l : ℕ) (w : Way M) (sent : List (Dat
   pub rising : Rising (λ (d : Dated M). d.beat) w.under_way
   pub place : (lost : ℕ) → IsLost lost sent es → place_along l lost 0 es ≡ w.gone
   pub came : (lost : ℕ) → IsLost lost sent es → AreCome most l lost sent es
+  pub timely : (lost : ℕ) → IsLost lost sent es → AreGone most l lost sent es
 
 -- what an event takes from a link: nothing, or the oldest message under way, which was sent in an earlier beat
 pub record IsTakenOff {M : Type 0} (beat l : ℕ) (w : Way M) (x : NodeEvent M) : Type 0 where
@@ -170,14 +177,21 @@ way-later {M} most now beat l w sent es goes on = record {
   rising = on.rising;
   place = on.place;
   came = on.came;
+  timely = on.timely;
 }
+
+get-inside : {X : Type 0} (xs ys : List X) (k : ℕ) → k < length xs → slice_get (xs ++ ys) k ≡ slice_get xs k
+get-inside [] ys k low = absurd (omega (arith, low))
+get-inside (x ∷ xs) ys zero low = refl
+get-inside (x ∷ xs) ys (suc k) low = get-inside xs ys k (omega (arith, low))
 
 -- more is sent
 pub way-sent : {M : Type 0} (most beat l : ℕ) (w : Way M) (sent ds : List (Dated M)) (es : List (NodeEvent M))
     → AllByRecursion (λ (d : Dated M). d.beat ≡ beat) ds → open_after 0 es ≤ beat + most
     → ((i : ℕ) → i < length es → (stamp_at (event_at es i)).beat ≤ beat)
+    → ((i : ℕ) → i < length es → open_after 0 (front i es) ≤ beat)
     → IsOnWay most beat l w sent es → IsOnWay most beat l (put_on ds w) (sent ++ ds) es
-way-sent {M} most beat l w sent ds es dated high early on =
+way-sent {M} most beat l w sent ds es dated high early opened on =
     let from : AllByRecursion (λ (d : Dated M). beat ≤ d.beat) ds =
     all-weaker (λ (d : Dated M). d.beat ≡ beat) (λ d. beat ≤ d.beat) ds (λ d e. omega (arith, e)) dated in
     record {
@@ -201,6 +215,14 @@ way-sent {M} most beat l w sent ds es dated high early on =
             later = one.later;
             soon = one.soon;
           };
+      timely = λ lost is i stamp k d low back at due.
+          let opens = opened i low in
+          ⊎_elim
+          (λ (inner : k < length sent).
+          on.timely lost (lost-before lost beat sent ds es from early is) i stamp k d low back
+          (sym (get-inside sent ds k inner) ∙ at) due)
+          (λ (new : d.beat ≡ beat). absurd (omega (arith, new, opens, due)))
+          (get-cases (λ (q : Dated M). q.beat ≡ beat) sent ds k d at dated);
     }
 
 takes-none : {M : Type 0} (l : ℕ) (x : NodeEvent M) (stamp : Stamp) (link : LinkNo) (msg : M) → TakesAt x stamp link msg
@@ -236,6 +258,34 @@ module _ {M : Type 0} (most now beat l : ℕ) (w : Way M) (sent : List (Dated M)
       front-end (f ∷ fs) y zero end = absurd (omega (arith, end))
       front-end (f ∷ fs) y (suc k) end = ap (λ gs. f ∷ gs) (front-end fs y k (omega (arith, end)))
 
+  -- and if the further one is a return, what was to arrive before it had gone, since what is under way may arrive later
+  timely-more : (lost : ℕ) → IsLost lost sent (es ++ x ∷ []) → AreGone most l lost sent (es ++ x ∷ [])
+  timely-more lost is i stamp k d low back at due =
+      let before = lost-front lost sent es (x ∷ []) is in
+      ⊎_elim
+      (λ (old : i < length es).
+      let same = front-old es (x ∷ []) i (omega (arith, old)) in
+      subst (λ fs. k < place_along l lost 0 fs) (sym same)
+      (on.timely lost before i stamp k d old (sym (event-old es (x ∷ []) i old) ∙ back) at
+      (subst (λ fs. d.beat + most < open_after 0 fs) same due)))
+      (λ (end : i ≡ length es).
+      let same = front-old es (x ∷ []) i (omega (arith, end)) ∙ front-whole es i end in
+      let opened_by : d.beat + most < open_after 0 es = subst (λ fs. d.beat + most < open_after 0 fs) same due in
+      let number = on.number in
+      let next = on.place lost before in
+      subst (λ fs. k < place_along l lost 0 fs) (sym same) (⊎_elim
+      (λ (inner : k < length on.gone). omega (arith, inner, number, next))
+      (λ (young : open_after 0 es ≤ d.beat + most). absurd (omega (arith, young, opened_by)))
+      (get-cases (λ (q : Dated M). open_after 0 es ≤ q.beat + most) on.gone w.under_way k d
+      (ap (λ q. slice_get q k) (sym on.split) ∙ at) on.young)))
+      (old-or-new es x i low)
+    where
+      front-whole : (fs : List (NodeEvent M)) (j : ℕ) → j ≡ length fs → front j fs ≡ fs
+      front-whole [] zero end = refl
+      front-whole [] (suc j) end = refl
+      front-whole (f ∷ fs) zero end = absurd (omega (arith, end))
+      front-whole (f ∷ fs) (suc j) end = ap (λ gs. f ∷ gs) (front-whole fs j (omega (arith, end)))
+
   before-later : AllByRecursion (λ (d : Dated M). d.beat < beat) on.gone
   before-later = all-weaker (λ (d : Dated M). d.beat < now) (λ d. d.beat < beat) on.gone (λ d h. omega (arith, h, goes)) on.before
 
@@ -265,6 +315,7 @@ module _ {M : Type 0} (most now beat l : ℕ) (w : Way M) (sent : List (Dated M)
     came = λ lost is. came-more lost is (λ stamp link msg takes same.
         let q : ◌≡◌ {A = List (Dated M)} [] ((record { beat = stamp.beat; item = msg }) ∷ []) =
         sym (no-take l x idle) ∙ takes-none l x stamp link msg takes same in absurd (cc));
+    timely = timely-more;
   }
 
   -- it takes the oldest message
@@ -290,6 +341,7 @@ module _ {M : Type 0} (most now beat l : ℕ) (w : Way M) (sent : List (Dated M)
             (λ d. open_after 0 (es ++ x ∷ []) ≤ d.beat + most) off.tail
             (λ d h. omega (arith, h, now_open, still_open)) young.1;
         rising = rising.1;
+        timely = timely-more;
         place = λ lost is.
             let before = lost-front lost sent es (x ∷ []) is in
             place-append l lost 0 es (x ∷ [])
@@ -339,6 +391,7 @@ module _ {M : Type 0} (most now beat l : ℕ) (w : Way M) (sent : List (Dated M)
             (λ d h. omega (arith, h, opens)) high;
         rising = rising-right (λ (d : Dated M). d.beat) below_it from_it
             (subst (λ (ws : List (Dated M)). Rising (λ (d : Dated M). d.beat) ws) parts on.rising);
+        timely = timely-more;
         place = λ lost lost_is.
             let all = length-more es x in
             let known = lost_is (length es) stamp (omega (arith, all)) (event-new es x (length es) refl ∙ is) in

@@ -137,9 +137,11 @@ pub fn first_faults()
     ensures ticked_before_reading { refusal (machine 0 (node 1 1 0 false ∷ [])) 0 4001 (tick 0) ≡ ticked_node 0 }
     ensures reading_before_next { refusal (linked 1 (living 1) (way 0 ∷ [])) 1 14001 (get 1) ≡ Some (ReadingOff 14001) }
     ensures next_before_early { refusal (linked 1 (living 1) (way 1 ∷ [])) 1 10000 (get 1) ≡ not_next 0 }
-    ensures reading_before_late { refusal (linked 2 (living 2) (way 0 ∷ [])) 2 24001 (tick 0) ≡ Some (ReadingOff 24001) }
+    ensures reading_before_late { refusal (linked 2 (living 2) (way 0 ∷ [])) 2 24001 (tick 0)
+        ≡ Some (ReadingOff 24001) }
     ensures back_before_reading { refusal (machine 2 (living 2 ∷ [])) 2 24001 (come_back 0) ≡ not_back 0 }
-    ensures missed_before_back { refusal (machine 1 (dead_since 0 ∷ living 1 ∷ [])) 2 20000 (come_back 0) ≡ tick_missed 1 }
+    ensures missed_before_back { refusal (machine 1 (dead_since 0 ∷ living 1 ∷ [])) 2 20000 (come_back 0)
+        ≡ tick_missed 1 }
     ensures reading_before_neighbour { refusal (with_dead true false false) 0 4001 (die 4) ≡ Some (ReadingOff 4001) }
 {}
 
@@ -149,8 +151,10 @@ pub fn first_faults()
 #[tactic(auto, unfolding(slot_plan::specs::Times::time_of, run_facts::specs::Events::after_input, run_facts::specs::Events::kept_outs, node_kit::specs::Life::trimmed))]
 pub fn events()
     ensures sent { (after_act (linked 0 (living 0) (still ∷ [])) 0 0 (tick 0)).ways ≡ way 0 ∷ [] }
-    ensures taken { (after_act (linked 1 (living 1) (way 0 ∷ [])) 1 10000 (get 0)).ways ≡ (record { gone = 1; under_way = [] }) ∷ [] }
-    ensures acted { refusal (after_act (linked 1 (living 1) (way 0 ∷ [])) 1 10000 (get 0)) 1 10000 (die 0) ≡ ticked_node 0 }
+    ensures taken { let then = after_act (linked 1 (living 1) (way 0 ∷ [])) 1 10000 (get 0) in
+        then.ways ≡ (record { gone = 1; under_way = [] }) ∷ [] }
+    ensures acted { let then = after_act (linked 1 (living 1) (way 0 ∷ [])) 1 10000 (get 0) in
+        refusal then 1 10000 (die 0) ≡ ticked_node 0 }
     ensures not_acted { refusal (linked 1 (living 1) (way 0 ∷ [])) 1 10000 (die 0) ≡ None }
     ensures ticked { refusal (after_act (machine 0 (living 0 ∷ [])) 0 0 (tick 0)) 0 0 (tick 0) ≡ ticked_node 0 }
     ensures died { refusal (after_act (machine 0 (living 0 ∷ [])) 0 0 (die 0)) 0 0 (tick 0) ≡ dead_cub 0 }
@@ -179,28 +183,38 @@ pub fn cut_events()
 pub fn ends()
     ensures dead { refusal (cut_off 1) 0 0 (tick 0) ≡ dead_cub 0 }
     ensures too_soon { refusal (cut_off 1) 1 10000 (come_back 0) ≡ not_back 0 }
-    ensures ticked { refusal (after_act (linked 1 (living 1) (still ∷ [])) 1 10000 (die_in_tick 0 0)) 1 10000 (tick 0) ≡ dead_cub 0 }
-    ensures taken { (after_act (linked 1 (living 1) (way 0 ∷ [])) 1 10000 (die_in_get 0 0)).ways ≡ (record { gone = 1; under_way = [] }) ∷ [] }
+    ensures ticked { let then = after_act (linked 1 (living 1) (still ∷ [])) 1 10000 (die_in_tick 0 0) in
+        refusal then 1 10000 (tick 0) ≡ dead_cub 0 }
+    ensures taken { let then = after_act (linked 1 (living 1) (way 0 ∷ [])) 1 10000 (die_in_get 0 0) in
+        then.ways ≡ (record { gone = 1; under_way = [] }) ∷ [] }
 {}
 
 /// A cub that returns loses what was sent to it in lower beats, and on its links alone; what is sent later has the
 /// numbers behind that. It ticks in the beat of its return.
 #[tactic(auto, unfolding(slot_plan::specs::Times::time_of, run_facts::specs::Events::after_input, run_facts::specs::Events::kept_outs))]
 pub fn dropped_messages()
-    ensures dropped { (after_act (linked 2 (dead_since 0) (three_sent ∷ [])) 2 20000 (come_back 0)).ways ≡ one_left ∷ [] }
-    ensures other_link { (after_act (linked 2 (dead_since 0) (three_sent ∷ three_sent ∷ [])) 2 20000 (come_back 0)).ways ≡ one_left ∷ three_sent ∷ [] }
+    ensures dropped { let then = after_act (linked 2 (dead_since 0) (three_sent ∷ [])) 2 20000 (come_back 0) in
+        then.ways ≡ one_left ∷ [] }
+    ensures other_link { let then = after_act (linked 2 (dead_since 0) (three_sent ∷ three_sent ∷ [])) 2 20000 (come_back 0) in
+        then.ways ≡ one_left ∷ three_sent ∷ [] }
     ensures none_older { (after_act (linked 2 (dead_since 0) (way 2 ∷ [])) 2 20000 (come_back 0)).ways ≡ way 2 ∷ [] }
-    ensures not_first { refusal (after_act (linked 2 (dead_since 0) (three_sent ∷ [])) 2 20000 (come_back 0)) 2 20000 (get 0) ≡ not_next 0 }
-    ensures its_beat { refusal (after_act (linked 2 (dead_since 0) (three_sent ∷ [])) 2 20000 (come_back 0)) 2 20000 (get 2) ≡ Some (TooEarly 2) }
-    ensures ticks { refusal (after_act (linked 2 (dead_since 0) (three_sent ∷ [])) 2 20000 (come_back 0)) 2 20000 (tick 0) ≡ None }
-    ensures must_tick { refusal (after_act (linked 2 (dead_since 0) (three_sent ∷ [])) 2 20000 (come_back 0)) 3 30000 (tick 0) ≡ tick_missed 0 }
-    ensures once { refusal (after_act (linked 2 (dead_since 0) (three_sent ∷ [])) 2 20000 (come_back 0)) 2 20000 (come_back 0) ≡ not_back 0 }
+    ensures not_first { let then = after_act (linked 2 (dead_since 0) (three_sent ∷ [])) 2 20000 (come_back 0) in
+        refusal then 2 20000 (get 0) ≡ not_next 0 }
+    ensures its_beat { let then = after_act (linked 2 (dead_since 0) (three_sent ∷ [])) 2 20000 (come_back 0) in
+        refusal then 2 20000 (get 2) ≡ Some (TooEarly 2) }
+    ensures ticks { let then = after_act (linked 2 (dead_since 0) (three_sent ∷ [])) 2 20000 (come_back 0) in
+        refusal then 2 20000 (tick 0) ≡ None }
+    ensures must_tick { let then = after_act (linked 2 (dead_since 0) (three_sent ∷ [])) 2 20000 (come_back 0) in
+        refusal then 3 30000 (tick 0) ≡ tick_missed 0 }
+    ensures once { let then = after_act (linked 2 (dead_since 0) (three_sent ∷ [])) 2 20000 (come_back 0) in
+        refusal then 2 20000 (come_back 0) ≡ not_back 0 }
 {}
 
 /// Of the messages that a node takes on one link the first has number 0 and the next number 1; another
 /// link is counted by itself.
 pub fn numbers()
-    ensures { told_from (λ _. 0) (λ _. []) (took_on 0 ∷ took_on 3 ∷ took_on 0 ∷ []) ≡ get_of 0 0 ∷ get_of 3 0 ∷ get_of 0 1 ∷ [] }
+    ensures { told_from (λ _. 0) (λ _. []) (took_on 0 ∷ took_on 3 ∷ took_on 0 ∷ [])
+        ≡ get_of 0 0 ∷ get_of 3 0 ∷ get_of 0 1 ∷ [] }
 {}
 
 /// Behind its return the next one has the number of the first that was not sent below it.

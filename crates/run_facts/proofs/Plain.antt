@@ -149,6 +149,7 @@ module _ {M S : Type 0} (note : M → Note) (step : S → Input M → Deed M S) 
         let taken = taken-to note step p nodes h run.plain l n (h.count n) known (omega arith) in
         let got = run.arrives l from n k when msg sender known ends was (omega (arith, due, ticked)) in
         omega (arith, got, taken);
+    in_time = λ l from n i k when msg sender known ends low back was due. absurd (no-return n i known low back);
     before = λ l from n i stamp sender known ends low is. absurd (subst IsPlain is (run.plain n i known low));
   }
 

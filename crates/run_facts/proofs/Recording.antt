@@ -336,6 +336,8 @@ module _ {M S : Type 0} (note : M → Note) (step : S → Input M → Deed M S) 
         (fair-at note step p n (events n) (opening (first n) (life n)) i h (accounts.fair n low));
     carried = came;
     arrives = arrive;
+    in_time = λ l from n i k date msg low_from low ends h back was due.
+        let q : true ≡ false = sym back ∙ here-at n i low h in absurd (cc);
     before = λ l from n i stamp low_from low ends h is. absurd
         (subst IsPlain is (all-at IsPlain (events n) i h (plain n low)));
   }

@@ -308,6 +308,19 @@ module _ (p : Params) (pair : IsPair p) where
       ∙ was)))
       (cases_Bool (24 == l))
 
+  -- nothing comes to the second node in the one beat that it ends before its return
+  in-time : (l from n i k when msg : ℕ) → from < 2 → n < 2 → ends_of (links_of p) l ≡ Some (from, n)
+      → i < length (es n) → is_return (h.event n i) ≡ true
+      → slice_get (sent told sends_two l h from (h.count from)) k ≡ Some (record { beat = when; item = msg })
+      → when + p.delay < open_beat h n i → k < place l h n i
+  in-time l from n i k when msg sender known ends low back was due =
+      let there = back-of n i known low back in
+      let delay = pair.delay in
+      let soon : when + p.delay < open_beat h 1 2 =
+      subst (λ m. when + p.delay < open_beat h m 2) there.0 (subst (λ j. when + p.delay < open_beat h n j) there.1 due) in
+      let one : open_beat h 1 2 ≡ 1 = refl in
+      absurd (omega (arith, soon, one, delay))
+
   before : (l from n i : ℕ) (stamp : Stamp) → from < 2 → n < 2 → ends_of (links_of p) l ≡ Some (from, n)
       → i < length (es n)
       → h.event n i ≡ Returns stamp → h.before l ≡ below stamp.beat (sent told sends_two l h from (h.count from))
@@ -341,6 +354,7 @@ module _ (p : Params) (pair : IsPair p) where
         (fair-at told sends_two p n (es n) (opening (firsts n) (lives n)) i low (fair n known));
     carried = λ n i stamp link msg known low takes. came n i stamp link msg known low (took n i stamp link msg takes);
     arrives = arrives;
+    in_time = in-time;
     before = before;
   }
 

@@ -125,7 +125,8 @@ pub record CameOn {M S : Type 0} (note : M → Note) (step : S → Input M → D
 -- tick ends each beat, and a node that is up has ended each beat below that of any event; its readings are within the
 -- skew and never fall; it dies once at most, and its death is its last event or its return comes next; a return
 -- stands behind a death; it puts out what it may; what it takes was sent so, and what was sent was taken, or lost by
--- the return, before the tick that ends the last beat in which it may arrive.
+-- the return, before the tick that ends the last beat in which it may arrive; and if the node ended that beat before
+-- its death, it was taken by then.
 pub record IsRun {M S : Type 0} (note : M → Note) (step : S → Input M → Deed M S) (p : Params) (nodes : ℕ)
     (h : History M S) : Type 0 where
   pub in_beat : (n i : ℕ) → n < nodes → i < h.count n → is_return (h.event n i) ≡ false → beat h n i ≡ open_beat h n i
@@ -144,6 +145,10 @@ pub record IsRun {M S : Type 0} (note : M → Note) (step : S → Input M → De
   pub arrives : (l from n k when : ℕ) (msg : M) → from < nodes → n < nodes → ends_of (links_of p) l ≡ Some (from, n)
       → slice_get (sent note step l h from (h.count from)) k ≡ Some (record { beat = when; item = msg })
       → when + p.delay < open_beat h n (h.count n) → k < place l h n (h.count n)
+  pub in_time : (l from n i k when : ℕ) (msg : M) → from < nodes → n < nodes → ends_of (links_of p) l ≡ Some (from, n)
+      → i < h.count n → is_return (h.event n i) ≡ true
+      → slice_get (sent note step l h from (h.count from)) k ≡ Some (record { beat = when; item = msg })
+      → when + p.delay < open_beat h n i → k < place l h n i
   pub before : (l from n i : ℕ) (stamp : Stamp) → from < nodes → n < nodes → ends_of (links_of p) l ≡ Some (from, n)
       → i < h.count n → h.event n i ≡ Returns stamp
       → h.before l ≡ below stamp.beat (sent note step l h from (h.count from))

@@ -91,11 +91,12 @@ death-opens d left back (Returns s) h lives = absurd (cc)
 
 -- so nothing that arrives before the beat that is open behind it was missed in the first life
 pub first-missed : {M X : Type 0} (d : ℕ) (left back : Option ℕ) (later : ReturnsLater (Some d) back) (beats l : ℕ)
-    (es front : List (NodeEvent M)) (last : NodeEvent M)
-    → es ≡ front ++ last ∷ [] → AreAlive front → is_death last ≡ true → LivesBy (lived (Some d) left back) last
+    (es front more : List (NodeEvent M)) (last : NodeEvent M)
+    → es ≡ front ++ last ∷ more → AreAlive front → AreAlive more → is_death last ≡ true
+    → LivesBy (lived (Some d) left back) last
     → (f : Passage X) → f.arrival < beats → f.arrival < behind last d
     → IsNotFirst (Some d) left back later beats (HasCutIn l es) f → ⊥
-first-missed {M} d left back later beats l es front last parts alive died lives f soon opened why = ⊎_elim
+first-missed {M} d left back later beats l es front behind_it last parts alive on died lives f soon opened why = ⊎_elim
     (λ (out : is_first (Some d) left back later beats f ≡ false).
     let early : nat_lt f.arrival beats ≡ true = grind (arith, nat_tests, soon) in
     let not_there : lives_in (Some d) left f.arrival ≡ false =
@@ -117,7 +118,7 @@ first-missed {M} d left back later beats l es front last parts alive died lives 
     ⊎_elim
     (λ (same : behind last d ≡ d). absurd (omega (arith, opened, same, is, there)))
     (λ (more : (behind last d ≡ suc d) × (is_some left ≡ true) × ((k : ℕ) → IsCutUpTo k last → ⊥)).
-    more.2 l (cut-last l front [] last alive tt (subst (HasCutIn l) parts cut.0)))
+    more.2 l (cut-last l front behind_it last alive on (subst (HasCutIn l) parts cut.0)))
     (death-opens d left back last died lives))
     why
   where
@@ -135,16 +136,17 @@ first-missed {M} d left back later beats l es front last parts alive died lives 
 
 -- so with a death that is known by another name
 pub first-missed_of : {M X : Type 0} (death left back : Option ℕ) (later : ReturnsLater death back) (beats l d : ℕ)
-    → death ≡ Some d → (es front : List (NodeEvent M)) (last : NodeEvent M)
-    → es ≡ front ++ last ∷ [] → AreAlive front → is_death last ≡ true → LivesBy (lived death left back) last
+    → death ≡ Some d → (es front more : List (NodeEvent M)) (last : NodeEvent M)
+    → es ≡ front ++ last ∷ more → AreAlive front → AreAlive more → is_death last ≡ true
+    → LivesBy (lived death left back) last
     → (f : Passage X) → f.arrival < beats → f.arrival < behind last d
     → IsNotFirst death left back later beats (HasCutIn l es) f → ⊥
-first-missed_of None left back later beats l d is es front last parts alive died lives f soon opened why =
+first-missed_of None left back later beats l d is es front more last parts alive on died lives f soon opened why =
     absurd (let q : None ≡ Some d = is in cc)
-first-missed_of {M} (Some x) left back later beats l d is es front last parts alive died lives f soon opened why =
+first-missed_of {M} (Some x) left back later beats l d is es front more last parts alive on died lives f soon opened why =
     let one : Some x ≡ Some d = is in
     let same : x ≡ d = cc in
-    first-missed x left back later beats l es front last parts alive died lives f soon
+    first-missed x left back later beats l es front more last parts alive on died lives f soon
     (subst (λ k. f.arrival < behind last k) (sym same) opened) why
 
 -- and nothing was missed by a node that does not die within the beats

@@ -22,7 +22,7 @@ use Rattle.run_facts.proofs.Indexed.{open-front, open-all, all-at, rising-at}
 use Rattle.run_facts.proofs.Indexed.{counted-at}
 use Rattle.run_facts.proofs.Timelines.{rising-counted}
 use Rattle.run_lives.proofs.Around.{IsAround, around-of, end-of}
-use Rattle.run_lives.proofs.Returning.{HasReturned, returned-of, here-of, death-place, return-place}
+use Rattle.run_lives.proofs.Returning.{HasReturned, dies-before, returned-of, here-of, death-place, return-place}
 use Rattle.run_lives.proofs.Returning.{event-next}
 use Rattle.run_lives.proofs.Counting.{length-one}
 
@@ -74,11 +74,16 @@ module _ {M S : Type 0} (known : Known M S) where
       (known.accounts.timeline n low).counted
       (end-at n low (Some d) w is there)
 
-  pub two : (n : ℕ) → n < known.nodes → (w : ℕ) → again n ≡ Some w → (d : ℕ) × HasReturned
+  abbrev pub two : (n : ℕ) → n < known.nodes → (w : ℕ) → again n ≡ Some w → (d : ℕ) × HasReturned
       (known.when n) known.beats d w (known.events n)
   two n low w there = returned-of (known.when n) known.p n (known.death n) (known.left n) (known.back n)
       (known.later n) (dated n) known.beats (known.events n)
       (known.accounts.timeline n low) w there
+
+  -- it died in the beat of its death
+  pub two-died : (n : ℕ) (low : n < known.nodes) (w : ℕ) (there : again n ≡ Some w)
+      → death_within known.beats (known.death n) ≡ Some (two n low w there).0
+  two-died n low w there = (dies-before known.beats (known.death n) (known.back n) w (known.later n) there).1
 
   pub here : (n : ℕ) → n < known.nodes → again n ≡ None → AreHere (known.events n)
   here n low there = here-of (known.when n) known.p n (known.death n) (known.left n) (known.back n) (known.later n)

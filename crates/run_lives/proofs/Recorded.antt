@@ -1,7 +1,7 @@
 -- Nodes of any lives of which the events and the links' accounts are known have a history, of which the record of a run
 -- holds.
 use Rattle.std.proofs.Common.{◌≡◌, ℕ, ◌+◌, ◌<◌, ◌≤◌, List, [], ◌∷◌, ◌++◌, filter, length, true, false}
-use Rattle.std.proofs.Common.{Option, Some, None, refl, ap, sym, ◌∙◌, subst, arith, ⊎_elim}
+use Rattle.std.proofs.Common.{Option, Some, None, refl, ap, sym, ◌∙◌, subst, arith, ⊎_elim, append_assoc}
 use Rattle.std.specs.Prelude.{slice_get, nat_le}
 use Rattle.std.specs.List.{AllByRecursion}
 use Rattle.std.proofs.lemmas.Bool.{cases_lt, cases_eq}
@@ -23,7 +23,7 @@ use Rattle.run_facts.specs.Histories.{below}
 use Rattle.run_facts.specs.Paced.{Passage, passages, is_heard, brought, AreGot}
 use Rattle.run_facts.specs.Timed.{death_within}
 use Rattle.run_facts.proofs.Fronts.{lived}
-use Rattle.run_facts.proofs.Indexed.{past-front, passing, count-front, open-all, sent-all, all-at}
+use Rattle.run_facts.proofs.Indexed.{past-front, passing, count-front, open-all, open-front, sent-all, all-at}
 use Rattle.run_facts.proofs.Indexed.{fair-at, front-all, takes-counted, passage-at, sending-at, timely-at}
 use Rattle.run_facts.proofs.Keeping.{take-input}
 use Rattle.run_facts.proofs.Links.{link-ends}
@@ -36,13 +36,13 @@ use Rattle.run_lives.proofs.Missing.{event-first, length-both}
 use Rattle.run_lives.proofs.Numbers.{front-first, got-at, place-again, rest-at}
 use Rattle.run_lives.proofs.Picking.{is_below}
 use Rattle.run_lives.proofs.Returning.{HasReturned}
-use Rattle.run_lives.proofs.Returning.{event-next, taken-first, taken-since}
+use Rattle.run_lives.proofs.Returning.{event-next, return-place, taken-first, taken-since}
 use Rattle.run_lives.proofs.Sent.{rising-sends, IsParted, parted}
 use Rattle.run_lives.proofs.Since.{second-takes}
 use Rattle.run_lives.proofs.Standing.{within-of, behind-death}
 use Rattle.run_lives.proofs.Counting.{taken-get, taken-or, get-behind, first-missed_of, alive-missed, returns-at}
 use Rattle.run_lives.proofs.Counting.{led-by, above}
-use Rattle.run_lives.proofs.Lasting.{Known, end-at, around, two, here, returned-by, ended, death-is, shown}
+use Rattle.run_lives.proofs.Lasting.{Known, end-at, around, two, two-died, here, returned-by, ended, death-is, shown}
 use Rattle.run_lives.proofs.Lasting.{rises, level, in-beat, dated}
 
 module _ {M S : Type 0} (known : Known M S) where
@@ -260,6 +260,30 @@ module _ {M S : Type 0} (known : Known M S) where
       came-any None there = came-alone there
       came-any (Some w) there = came-back w there
 
+    module _ (k : ℕ) (f : Passage M) (there : slice_get (flights l from) k ≡ Some f) where
+      -- what arrives before the beat that is open before a return was taken by then
+      arrived-first : (w : ℕ) (there_is : again n ≡ Some w) → f.arrival < open_after 0 (one w there_is)
+          → k < length (takes_along l (one w there_is))
+      arrived-first w there_is early =
+          let t = its w there_is in
+          let d = (two known n way.to_low w there_is).0 in
+          let died = within-of known.beats d (known.death n) (two-died known n way.to_low w there_is) in
+          let low_d = died.1 in
+          let opened : open_after 0 (one w there_is) ≡ behind t.last d =
+          open-append 0 t.front (t.last ∷ []) ∙ ap (behind t.last) t.opens_first in
+          let up = behind-death t.last d t.died in
+          let all : known.events n ≡ t.front ++ t.last ∷ (Returns (known.when n w) ∷ t.rest) =
+          t.parts ∙ append_assoc t.front (t.last ∷ []) (Returns (known.when n w) ∷ t.rest) in
+          let lives = (all-right (LivesBy (life n)) t.front (t.last ∷ (Returns (known.when n w) ∷ t.rest))
+          (subst (AllByRecursion (LivesBy (life n))) all (known.accounts.timeline n way.to_low).lived)).0 in
+          ⊎_elim
+          (λ (low : k < length (takes_along l (one w there_is))). low)
+          (λ (why : NotFirst f). absurd (first-missed_of (known.death n) (known.left n) (known.back n)
+          (known.later n) known.beats l d died.0
+          (known.events n) t.front (Returns (known.when n w) ∷ t.rest) t.last all t.alive (refl, t.alive_rest) t.died lives f
+          (omega (arith, early, opened, up, low_d)) (omega (arith, early, opened)) why))
+          (taken-or (flights l from) (takes_along l (one w there_is)) NotFirst k f (of-first w there_is) there)
+
     -- a message that arrives before the beat that is open at the end was taken, or lost by the return
     module _ (k : ℕ) (f : Passage M) (there : slice_get (flights l from) k ≡ Some f)
         (soon : f.arrival < open_after 0 (known.events n)) where
@@ -294,7 +318,7 @@ module _ {M S : Type 0} (known : Known M S) where
           (λ (low : k < length (gets l n)). omega (arith, low, number))
           (λ (why : NotFirst f). absurd (first-missed_of (known.death n) (known.left n) (known.back n)
           (known.later n) known.beats l d died.0
-          (known.events n) a.front a.last parts a.alive a.died lives f (omega (arith, soon, opened, up, low_d))
+          (known.events n) a.front [] a.last parts a.alive tt a.died lives f (omega (arith, soon, opened, up, low_d))
           (omega (arith, soon, opened)) why))
           (taken-or (flights l from) (gets l n) NotFirst k f (alone none) there)
 
@@ -360,6 +384,44 @@ module _ {M S : Type 0} (known : Known M S) where
       let all = open-all known.first life known.lost known.events n in
       arrived l from n way k passage.0 passage.1 (omega (arith, soon, dated_so, due, all)) (again n) refl
 
+  in-time : (l from n i k date : ℕ) (msg : M) → from < known.nodes → n < known.nodes → ends_of
+      (links_of known.p) l ≡ Some (from, n)
+      → i < length (known.events n) → is_return (at n i) ≡ true
+      → slice_get (sent known.note known.step l h from (length (known.events from))) k ≡ Some
+      (record { beat = date; item = msg })
+      → date + known.p.delay < open_beat h n i → k < place l h n i
+  in-time l from n i k date msg low_from low ends hi back was due = by-return (again n) refl
+    where
+      by-return : (o : Option ℕ) → again n ≡ o → k < place l h n i
+      by-return None none =
+          let q : true ≡ false = sym back ∙ all-at (λ e. is_return e ≡ false) (known.events n) i hi (here known n low none) in
+          absurd (cc)
+      by-return (Some w) there =
+          let way : Way l from n = record { from_low = low_from; to_low = low; ends = ends } in
+          let t = its l from n way w there in
+          let es = one l from n way w there in
+          let more = Returns (known.when n w) ∷ t.rest in
+          let end = subst (λ qs. i < length qs → is_return (event_at qs i) ≡ true → i ≡ length es) (sym t.parts)
+          (return-place es t.rest (Returns (known.when n w)) i t.here_first t.here_rest) hi back in
+          let fronts : front i (known.events n) ≡ es =
+          ap (front i) t.parts ∙ front-first es more i (omega (arith, end)) ∙ ap (λ j. front j es) end ∙ front-all es in
+          let number = number-before l from n way i (omega (arith, hi)) (λ j below.
+          let lj : j < length es = omega (arith, below, end) in
+          ap (λ qs. is_return (event_at qs j)) t.parts ∙ ap (λ e. is_return e) (event-first es more j lj)
+          ∙ all-at (λ e. is_return e ≡ false) es j lj t.here_first) in
+          let taken : passing (is_take_on l) (front i (known.events n)) ≡ length (takes_along l es) =
+          ap (passing (is_take_on l)) fronts ∙ takes-counted l es in
+          let passage = sending-at (known.start l) (sends l from) k (record { beat = date; item = msg })
+          (ap (λ q. slice_get q k) (sym (sent-all known.note known.step l known.first life known.lost known.events from))
+          ∙ was) in
+          let timely = timely-at known.p.delay (flights l from) k passage.0 (link l from n way).2.timely passage.1 in
+          let soon = timely.1 in
+          let dated_so = passage.2 in
+          let opened : open_beat h n i ≡ open_after 0 es =
+          open-front known.first life known.lost known.events n i (omega (arith, hi)) ∙ ap (open_after 0) fronts in
+          let found = arrived-first l from n way k passage.0 passage.1 w there (omega (arith, soon, dated_so, due, opened)) in
+          omega (arith, found, number, taken)
+
   before : (l from n i : ℕ) (stamp : Stamp) → from < known.nodes → n < known.nodes → ends_of
       (links_of known.p) l ≡ Some (from, n)
       → i < length (known.events n) → at n i ≡ Returns stamp
@@ -390,5 +452,6 @@ module _ {M S : Type 0} (known : Known M S) where
         (known.accounts.fair n low));
     carried = came;
     arrives = arrive;
+    in_time = in-time;
     before = before;
   }

@@ -49,6 +49,7 @@ pub record HasReturned {M : Type 0} (when : ℕ → Stamp) (next death back : �
   pub rest : List (NodeEvent M)
   pub parts : es ≡ (front ++ last ∷ []) ++ Returns (when back) ∷ rest
   pub alive : AreAlive front
+  pub opens_first : open_after 0 front ≡ death
   pub died : is_death last ≡ true
   pub at : stamp_at last ≡ when death
   pub here_first : AreHere (front ++ last ∷ [])
@@ -65,11 +66,11 @@ module _ {M : Type 0} (when : ℕ → Stamp) (p : Params) (n : ℕ) (death left 
   abbrev its_life : Lifetime
   its_life = lived death left back
 
-  ends-by : (o w : Option ℕ) → death_within next death ≡ o → death_within next back ≡ w → EndAt when next o w es
+  pub ends-by : (o w : Option ℕ) → death_within next death ≡ o → death_within next back ≡ w → EndAt when next o w es
   ends-by o w is there = subst (λ q. EndAt {M = M} when next o q es) there
       (end-of when p n its_life next o es is timeline)
 
-  pub returned-of : (w : ℕ) → death_within next back ≡ Some w → (d : ℕ) × HasReturned when next d w es
+  abbrev pub returned-of : (w : ℕ) → death_within next back ≡ Some w → (d : ℕ) × HasReturned when next d w es
   returned-of w there =
       let died = dies-before next death back w later there in
       let d = died.0 in
@@ -85,6 +86,7 @@ module _ {M : Type 0} (when : ℕ → Stamp) (p : Params) (n : ℕ) (death left 
           parts = a.parts ∙ ap (λ qs. a.front ++ a.last ∷ qs) on.all
               ∙ sym (append_assoc a.front (a.last ∷ []) (Returns (when w) ∷ on.rest));
           alive = a.alive;
+          opens_first = a.opens;
           died = a.died;
           at = a.at;
           here_first = all-append (λ (e : NodeEvent M). is_return e ≡ false) a.front (a.last ∷ []) a.here
