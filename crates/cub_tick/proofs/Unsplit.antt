@@ -1,5 +1,5 @@
 -- Which visits are split in a beat, beside the time from which on they are.
-use Rattle.std.proofs.Common.{◌≡◌, ℕ, ◌<◌, ◌≤◌, Option, None, find, Bool, true, false, cond, not, ◌&&◌, List, [], ◌∷◌, ◌++◌, map, refl, sym, ap, subst, ◌∙◌, arith}
+use Rattle.std.proofs.Common.{◌≡◌, ℕ, ◌<◌, ◌≤◌, Option, find, Bool, true, false, cond, not, ◌&&◌, List, [], ◌∷◌, ◌++◌, map, refl, sym, ap, subst, ◌∙◌, arith}
 use Rattle.std.specs.List.{AllByRecursion, flat_map}
 use Rattle.std.proofs.lemmas.Bool.{both_ways, leb-true, leb-false}
 use Rattle.std.proofs.lemmas.List.{append-nil}
@@ -18,7 +18,7 @@ use Rattle.partial_view.proofs.Calls.{record_of}
 use Rattle.partial_view.proofs.Order.{all_implies}
 use Rattle.mirror_schedule.specs.Splits.{Split, with_split}
 use Rattle.node_kit.specs.Deeds.{Did}
-use Rattle.partial_view.specs.Pending.{is_unsplit, IsSplitBetween, is_due_in}
+use Rattle.partial_view.specs.Pending.{is_unsplit, IsSplitFrom, is_unsplit_from}
 use Rattle.cub_rules.specs.declared.store.Store.{Store}
 use Rattle.cub_rules.specs.Records.{with_piece_record}
 use Rattle.cub_rules.specs.Ticks.{must_split, split_line, split_outs, split_visits, first_pieces, with_each, splitting}
@@ -51,14 +51,14 @@ left_early p stamp x h unsplit = leb-false _ _ (bits (not (is_own x.rec.kind)) (
     bits false b c e g = absurd (cc)
 
 -- so those visits are split that are still to be and are due at the limit or later
-to_split : (p : Params) (stamp : Stamp) (x : Line) → is_due_in p is_unsplit (split_limit p stamp) None x ≡ must_split p stamp x
+to_split : (p : Params) (stamp : Stamp) (x : Line) → is_unsplit_from p (split_limit p stamp) x ≡ must_split p stamp x
 unfolding must_split split_limit
 to_split p stamp x = refl
 
-pub split_first : (p : Params) (stamp : Stamp) (limit : ℕ) → limit ≡ split_limit p stamp → (now : Seen) → now.params ≡ p → {o : Option Line} → o ≡ find (is_due_in now.params is_unsplit limit None) now.lines → o ≡ find (must_split p stamp) now.lines
+pub split_first : (p : Params) (stamp : Stamp) (limit : ℕ) → limit ≡ split_limit p stamp → (now : Seen) → now.params ≡ p → {o : Option Line} → o ≡ find (is_unsplit_from now.params limit) now.lines → o ≡ find (must_split p stamp) now.lines
 split_first p stamp limit is_limit now params e =
-    e ∙ (ap (λ (q : Params). find (is_due_in q is_unsplit limit None) now.lines) params ∙ (ap (λ (n : ℕ). find (is_due_in p is_unsplit n None) now.lines) is_limit
-    ∙ find_same (is_due_in p is_unsplit (split_limit p stamp) None) (must_split p stamp) (to_split p stamp) now.lines))
+    e ∙ (ap (λ (q : Params). find (is_unsplit_from q limit) now.lines) params ∙ (ap (λ (n : ℕ). find (is_unsplit_from p n) now.lines) is_limit
+    ∙ find_same (is_unsplit_from p (split_limit p stamp)) (must_split p stamp) (to_split p stamp) now.lines))
 
 -- where all is split from the limit on no visit is split
 stays_here : (p : Params) (stamp : Stamp) (x : Line) → (is_unsplit x ≡ true → due_of p (key_of x) < split_limit p stamp) → must_split p stamp x ≡ false
@@ -70,7 +70,7 @@ stays_here p stamp x h = by_test (must_split p stamp x) refl
         let late = split_late p stamp x e in
         absurd (omega (arith, late.1, h late.0))
 
-all_stay : (p : Params) (stamp : Stamp) (lines : List Line) → IsSplitBetween p is_unsplit (split_limit p stamp) None lines → AllByRecursion (λ x. must_split p stamp x ≡ false) lines
+all_stay : (p : Params) (stamp : Stamp) (lines : List Line) → IsSplitFrom p (split_limit p stamp) lines → AllByRecursion (λ x. must_split p stamp x ≡ false) lines
 all_stay p stamp lines h =
     all_implies (λ x. is_unsplit x ≡ true → due_of p (key_of x) < split_limit p stamp) (λ x. must_split p stamp x ≡ false) (λ x f. stays_here p stamp x f) lines h
 
@@ -81,7 +81,7 @@ pub split_by_walk : (p : Params) (cub : ℕ) (stamp : Stamp) (old now : Store) (
 split_by_walk p cub stamp old now outs outs_now view believes e f g =
     split_all p cub stamp old _ outs outs_now believes (ap (λ (v : Seen). record now { view = v }) g ∙ e) f
 
-pub split_before : (p : Params) (cub : ℕ) (stamp : Stamp) (h : Store) (outs : List (Out Msg)) → h.believes ≡ true → IsSplitBetween p is_unsplit (split_limit p stamp) None h.view.lines → Did (splitting p cub stamp h) outs outs h
+pub split_before : (p : Params) (cub : ℕ) (stamp : Stamp) (h : Store) (outs : List (Out Msg)) → h.believes ≡ true → IsSplitFrom p (split_limit p stamp) h.view.lines → Did (splitting p cub stamp h) outs outs h
 split_before p cub stamp h outs believes known =
     let stay = all_stay p stamp h.view.lines known in
     let lines : map (split_line p stamp) h.view.lines ≡ h.view.lines = none_changed (must_split p stamp) (marked flag.Split) h.view.lines stay in
@@ -103,20 +103,20 @@ split_here p stamp x true e unsplit = absurd (both_ways (is_unsplit (marked flag
     never false = refl
 split_here p stamp x false e unsplit = left_early p stamp x e unsplit
 
-all_split : (p : Params) (stamp : Stamp) (lines : List Line) → IsSplitBetween p is_unsplit (split_limit p stamp) None (map (split_line p stamp) lines)
+all_split : (p : Params) (stamp : Stamp) (lines : List Line) → IsSplitFrom p (split_limit p stamp) (map (split_line p stamp) lines)
 all_split p stamp [] = tt
 all_split p stamp (x ∷ xs) = (split_here p stamp x (must_split p stamp x) refl, all_split p stamp xs)
 
 -- and what it may keep in mind then
 pub split_then : (p : Params) (stamp : Stamp) (limit : ℕ) (old now : Store) → old.view.params ≡ p → limit ≡ split_limit p stamp
-    → now ≡ with_split_of p stamp old.handback old.view.lines (record old.view { lines = map (split_line p stamp) old.view.lines }) old → IsSplitBetween now.view.params is_unsplit limit None now.view.lines
+    → now ≡ with_split_of p stamp old.handback old.view.lines (record old.view { lines = map (split_line p stamp) old.view.lines }) old → IsSplitFrom now.view.params limit now.view.lines
 split_then p stamp limit old now plan is e =
     let view : now.view ≡ record_of old.view.params (map (split_line p stamp) old.view.lines) =
     ap (λ (g : Store). g.view) e ∙ view_then p stamp old.handback old.view.lines (record_of old.view.params (map (split_line p stamp) old.view.lines)) old in
-    subst (λ (v : Seen). IsSplitBetween v.params is_unsplit limit None v.lines) (sym view)
-    (subst (λ (q : Params). IsSplitBetween q is_unsplit limit None (map (split_line p stamp) old.view.lines)) (sym plan)
-    (subst (λ (n : ℕ). IsSplitBetween p is_unsplit n None (map (split_line p stamp) old.view.lines)) (sym is) (all_split p stamp old.view.lines)))
+    subst (λ (v : Seen). IsSplitFrom v.params limit v.lines) (sym view)
+    (subst (λ (q : Params). IsSplitFrom q limit (map (split_line p stamp) old.view.lines)) (sym plan)
+    (subst (λ (n : ℕ). IsSplitFrom p n (map (split_line p stamp) old.view.lines)) (sym is) (all_split p stamp old.view.lines)))
 
-pub split_known : (p : Params) (stamp : Stamp) (limit : ℕ) (view : Seen) → view.params ≡ p → limit ≡ split_limit p stamp → IsSplitBetween view.params is_unsplit limit None view.lines → IsSplitBetween p is_unsplit (split_limit p stamp) None view.lines
+pub split_known : (p : Params) (stamp : Stamp) (limit : ℕ) (view : Seen) → view.params ≡ p → limit ≡ split_limit p stamp → IsSplitFrom view.params limit view.lines → IsSplitFrom p (split_limit p stamp) view.lines
 split_known p stamp limit view plan is h =
-    subst (λ (n : ℕ). IsSplitBetween p is_unsplit n None view.lines) is (subst (λ (q : Params). IsSplitBetween q is_unsplit limit None view.lines) plan h)
+    subst (λ (n : ℕ). IsSplitFrom p n view.lines) is (subst (λ (q : Params). IsSplitFrom q limit view.lines) plan h)

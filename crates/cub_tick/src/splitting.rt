@@ -38,12 +38,12 @@ pub fn split<'a>(
         return Ok(());
     }
     let limit = split_limit(&site.plan, stamp);
-    if store.view.is_split_between(limit, None) {
+    if store.view.is_split_from(limit) {
         return Ok(());
     }
     split_lines(site, stamp, store, out)?;
     // All that is due from the limit on is split, and the limit only rises: a beat looks again only after a new record.
-    store.view.set_split_between(limit, None);
+    store.view.set_split_from(limit);
     Ok(())
 }
 
@@ -75,7 +75,7 @@ fn split_lines<'a>(
         OnOk result (out.new ≡ out.old ++ flat_map splits store.old.view.lines) }
 {
     let limit = split_limit(&site.plan, stamp);
-    while let Some(line) = store.view.split_next(limit, None) {
+    while let Some(line) = store.view.split_next(limit) {
         settle_line(site, store, line, out)?;
     }
     Ok(())

@@ -15,6 +15,5 @@ pub mod Removals
 pub mod Rounds
 pub mod Rows
 pub mod Soonest
-pub mod Splits
 pub mod Times
 pub mod Turns

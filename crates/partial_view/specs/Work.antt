@@ -8,9 +8,9 @@ use Rattle.slot_plan.specs.Keys.{due_of}
 use Rattle.partial_view.specs.declared.line.Line.{Line}
 use Rattle.partial_view.specs.declared.line.Flag.{Flag}
 use Rattle.partial_view.specs.declared.line.Work.{Work}
-use Rattle.partial_view.specs.declared.line.Work.TheVariants.{Forward, Ask, Split, SplitFirst, Serve, Drop}
+use Rattle.partial_view.specs.declared.line.Work.TheVariants.{Forward, Ask, Split, Serve, Drop}
 use Rattle.partial_view.specs.Lines.{key_of}
-use Rattle.partial_view.specs.Pending.{is_pending, is_unasked, is_unsplit, is_unsplit_first}
+use Rattle.partial_view.specs.Pending.{is_pending, is_unasked, is_unsplit}
 use Rattle.partial_view.specs.Views.{with_mark, without}
 
 -- whether a line is an own record's, and a backup record's
@@ -25,7 +25,6 @@ abbrev pub is_left : Work → Line → Bool
 is_left Forward = is_pending
 is_left Ask = is_unasked
 is_left Split = is_unsplit
-is_left SplitFirst = is_unsplit_first
 is_left Serve = is_whole
 is_left Drop = is_backup
 

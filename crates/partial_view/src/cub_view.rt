@@ -1,7 +1,7 @@
 //! A view that knows up to which time its states are forwarded, before which its blocks are asked
-//! for, at which times its visits are split, and which disks are full, so that a tick begins where
+//! for, from which on its visits are split, and which disks are full, so that a tick begins where
 //! something may be to do.
-ghost use Rattle.std.specs.Prelude.{◌≡◌, ℕ, ◌+◌, ◌^◌, ◌≤◌, ◌<◌, true, [], None, IfOk, OnOk, OnErr, IfSome, option_map, is_some, count_by, find};
+ghost use Rattle.std.specs.Prelude.{◌≡◌, ℕ, ◌+◌, ◌^◌, ◌≤◌, ◌<◌, true, [], IfOk, OnOk, OnErr, IfSome, option_map, is_some, count_by, find};
 ghost use Rattle.tiger_base.specs.Limits.{most_reading};
 ghost use Rattle.slot_plan.specs.Keys.{IsKey};
 ghost use Rattle.slot_plan.specs.Times.{disk_count};
@@ -13,11 +13,11 @@ ghost use Rattle.partial_view.specs.Work.{is_left, is_whole, is_backup, first_be
 ghost use Rattle.partial_view.specs.declared.line.Flag.TheVariants.{Forwarded, Asked, Split};
 ghost use Rattle.partial_view.specs.Adding.{answer_to};
 ghost use Rattle.partial_view.specs.Pending.{IsForwardedTo, is_pending, IsAskedBefore, is_unasked};
-ghost use Rattle.partial_view.specs.Pending.{is_unsplit, is_unsplit_first, is_due_in, IsSplitBetween};
+ghost use Rattle.partial_view.specs.Pending.{IsSplitFrom, IsSplitBetween};
+ghost use Rattle.partial_view.specs.Pending.{is_unsplit, is_unsplit_from};
 
 use crate::full_disks::{FullDisk, FullDisks};
 use crate::line::Work;
-use crate::split_times::{SplitTimes, end_of};
 use crate::turn::Place;
 use crate::{Added, Flag, Line, View};
 use slot_plan::Plan;
@@ -42,9 +42,12 @@ pub struct CubView {
     asked_before: Micros,
     // The same of the last line whose block was asked for.
     near_unasked: Place,
-    splits: SplitTimes,
-    // The times at which the first visits of tenancies are split.
-    first_splits: SplitTimes,
+    split_from: Micros,
+    // No visit that is still to be split is due at the first of these times or later, and before
+    // the second.
+    split_between: (Micros, Micros),
+    // The same of the last line whose visit was split.
+    near_unsplit: Place,
     full: FullDisks,
 }
 
@@ -54,7 +57,7 @@ impl Model for CubView {
     ghost use Rattle.partial_view.specs.Free.{AreFull};
     ghost use Rattle.partial_view.specs.Pending.{IsForwardedTo, IsForwardedBetween};
     ghost use Rattle.partial_view.specs.Pending.{IsAskedBefore};
-    ghost use Rattle.partial_view.specs.Pending.{is_unsplit, is_unsplit_first, AreSplitAt};
+    ghost use Rattle.partial_view.specs.Pending.{IsSplitFrom, IsSplitBetween};
     ghost use Rattle.partial_view.specs.Wheel.{IsTurn};
 
     ghost Value = { Seen };
@@ -63,15 +66,14 @@ impl Model for CubView {
 
     ghost invariant = { λ v. (v.view.params ≡ v.plan.params)
         × IsForwardedTo v.plan.params v.forwarded_to v.view.lines
-        × AreSplitAt v.plan.params is_unsplit v.splits v.view.lines
+        × IsSplitFrom v.plan.params v.split_from v.view.lines
         × IsAskedBefore v.plan.params v.asked_before v.view.lines
-        × AreSplitAt v.plan.params is_unsplit_first v.first_splits v.view.lines
+        × IsSplitBetween v.plan.params v.split_between.0 v.split_between.1 v.view.lines
         × AreFull v.plan.params v.full v.view.lines
         × IsForwardedBetween v.plan.params v.forwarded_between.0 v.forwarded_between.1 v.view.lines
         × IsTurn v.plan.params v.near_pending.turn
         × IsTurn v.plan.params v.near_unasked.turn
-        × IsTurn v.plan.params v.splits.near.turn
-        × IsTurn v.plan.params v.first_splits.near.turn };
+        × IsTurn v.plan.params v.near_unsplit.turn };
 }
 
 impl CubView {
@@ -88,8 +90,9 @@ impl CubView {
             near_pending: start,
             asked_before: 0,
             near_unasked: start,
-            splits: SplitTimes::always(plan),
-            first_splits: SplitTimes::always(plan),
+            split_from: 0,
+            split_between: (0, 0),
+            near_unsplit: start,
             full: FullDisks::new(alloc),
         }
     }
@@ -126,8 +129,8 @@ impl CubView {
                 self.forwarded_to = forwarded_before(self.forwarded_to, rec, next);
                 self.asked_before = self.asked_before.min(due);
             } else {
-                self.splits.leave(due, true);
-                self.first_splits.leave(due, rec.visit == rec.tenancy.first);
+                self.split_from = split_after(self.split_from, due);
+                self.split_between.1 = split_until(self.split_between, due);
             }
         }
         Ok(added)
@@ -259,73 +262,47 @@ impl CubView {
         self.asked_before = self.view.due_from(self.near_unasked, limit);
     }
 
-    /// Whether it is known that no visit of a backup record that is due at a time or later, and
-    /// before another if one is given, is still to be split. It is known for all times between those
-    /// that were set last, but not for one at which the visit of a backup record is due that was
-    /// added since; `false` says only that the lines have to be looked at.
-    pub fn is_split_between(&self, from: Micros, to: Option<Micros>) -> bool
-        ensures { result ≡ true → IsSplitBetween self.now.params is_unsplit from to self.now.lines }
+    /// Whether it is known that no visit of a backup record that is due at the limit or later is
+    /// still to be split. It is known for each limit from the one that was set last on, if no
+    /// backup record was added since that is due at it or later; `false` says only that the lines
+    /// have to be looked at.
+    pub fn is_split_from(&self, limit: Micros) -> bool
+        ensures { result ≡ true → IsSplitFrom self.now.params limit self.now.lines }
     {
-        self.view.are_in_order();
-        self.splits.has(from, end_of(to))
+        self.split_from <= limit
     }
 
-    /// Keeps in mind that all visits are split that are due at a time or later, and before another
-    /// if one is given.
-    pub fn set_split_between(&mut self, from: Micros, to: Option<Micros>)
-        requires { IsSplitBetween self.old.params is_unsplit from to self.old.lines }
+    /// Keeps in mind that the visits are split from a limit on, or from an earlier one on that is
+    /// known.
+    pub fn set_split_from(&mut self, limit: Micros)
+        requires { IsSplitFrom self.old.params limit self.old.lines }
         ensures { self.new ≡ self.old }
     {
-        self.splits.put(from, end_of(to));
+        if limit < self.split_from {
+            self.split_from = limit;
+            self.split_between = (limit, u64::MAX);
+        }
     }
 
-    /// Marks the first line as split whose visit is still to be split and which is due at a time or
-    /// later, and before another if one is given, and gives it as it was; `None` exactly if there is
-    /// none.
-    pub fn split_next(&mut self, from: Micros, to: Option<Micros>) -> Option<Line>
-        ensures first { result ≡
-            find (is_due_in self.old.params is_unsplit from to) self.old.lines }
+    /// Marks the first line as split whose visit is still to be split and which is due at a limit or
+    /// later, and gives it as it was; `None` exactly if there is none.
+    pub fn split_next(&mut self, limit: Micros) -> Option<Line>
+        ensures first { result ≡ find (is_unsplit_from self.old.params limit) self.old.lines }
         ensures marked { self.new ≡ record self.old {
           lines = with_mark_of Split result self.old.lines;
         } }
         ensures walk { IsWalk self.old.params self.old.lines }
     {
-        self.splits
-            .next(&self.plan, &mut self.view, Work::Split, from, to)
-    }
-
-    /// Whether it is known that no first visit of a tenancy is still to be split that is of a backup
-    /// record and due at a time or later. It is known as that of all visits is; `false` says only
-    /// that the lines have to be looked at.
-    pub fn is_first_split_from(&self, from: Micros) -> bool
-        ensures { result ≡ true →
-            IsSplitBetween self.now.params is_unsplit_first from None self.now.lines }
-    {
-        self.view.are_in_order();
-        self.first_splits.has(from, end_of(None))
-    }
-
-    /// Keeps in mind that all first visits of tenancies are split that are due at a time or later.
-    pub fn set_first_split_from(&mut self, from: Micros)
-        requires { IsSplitBetween self.old.params is_unsplit_first from None self.old.lines }
-        ensures { self.new ≡ self.old }
-    {
-        self.first_splits.put(from, end_of(None));
-    }
-
-    /// Marks the first line as split whose visit is still to be split and the first one of its
-    /// tenancy, and which is due at a time or later, and gives it as it was; `None` exactly if there
-    /// is none.
-    pub fn split_first_next(&mut self, from: Micros) -> Option<Line>
-        ensures first { result ≡
-            find (is_due_in self.old.params is_unsplit_first from None) self.old.lines }
-        ensures marked { self.new ≡ record self.old {
-          lines = with_mark_of Split result self.old.lines;
-        } }
-        ensures walk { IsWalk self.old.params self.old.lines }
-    {
-        self.first_splits
-            .next(&self.plan, &mut self.view, Work::SplitFirst, from, None)
+        let found = self.view.mark_first(
+            Work::Split,
+            self.near_unsplit,
+            unsplit_start(self.split_between, limit),
+            self.split_from,
+            Flag::Split,
+        )?;
+        self.near_unsplit = found.place;
+        self.split_between = (limit, found.due);
+        Some(found.line)
     }
 
     /// Removes the first own record that is due at a time or before it, and gives its line; `None`
@@ -445,6 +422,19 @@ fn pending_end(times: (Micros, Micros), limit: Micros) -> Micros
     }
 }
 
+/// The limit, or the second of two times if nothing is due between the two and the limit is between
+/// them.
+fn unsplit_start(times: (Micros, Micros), limit: Micros) -> Micros
+    ensures later { limit ≤ result }
+    ensures others { (due : ℕ) → limit ≤ due → (times.0 ≤ due → times.1 ≤ due) → result ≤ due }
+{
+    if times.0 <= limit && limit < times.1 {
+        times.1
+    } else {
+        limit
+    }
+}
+
 /// The limit, or the second of two times if all that is due after the limit is due after it too.
 fn forwarded_past(times: (Micros, Micros), limit: Micros) -> Micros
     ensures { (due : ℕ) → limit < due → (times.0 ≤ due → times.1 < due) → result < due }
@@ -498,5 +488,27 @@ fn longer(one: (Micros, Micros), other: (Micros, Micros)) -> (Micros, Micros)
         one
     } else {
         other
+    }
+}
+
+/// The given time, or the next one after a visit is due that is to be split, if this is later.
+fn split_after(time: Micros, due: Micros) -> Micros
+    requires { due ≤ 2 ^ 63 }
+    ensures later { time ≤ result }
+    ensures after { due < result }
+{
+    if due < time { time } else { due + 1 }
+}
+
+/// The second of two times, or that at which a visit is due that is to be split, if this is between
+/// them.
+fn split_until(times: (Micros, Micros), due: Micros) -> Micros
+    ensures earlier { result ≤ times.1 }
+    ensures until { times.0 ≤ due → result ≤ due }
+{
+    if times.0 <= due && due < times.1 {
+        due
+    } else {
+        times.1
     }
 }

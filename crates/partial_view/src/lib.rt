@@ -1,5 +1,5 @@
 //! A cub's view of the schedule: its records, in the order of their due times, how far its states
-//! are known to be forwarded and its blocks asked for, at which times its visits are known to be
+//! are known to be forwarded and its blocks asked for, from when on its visits are known to be
 //! split, and which disks are known to be full.
 #![tactic(auto)]
 
@@ -9,7 +9,6 @@ mod full_disks;
 mod line;
 mod row;
 mod search;
-mod split_times;
 mod timed;
 mod turn;
 mod view;

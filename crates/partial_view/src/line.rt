@@ -38,8 +38,6 @@ pub(crate) enum Work {
     Ask,
     /// The visit is to be split: a backup record.
     Split,
-    /// The same, if the visit is the first one of its tenancy.
-    SplitFirst,
     /// The block is to be sent: an own record.
     Serve,
     /// The record is to be dropped: a backup record.
@@ -57,9 +55,6 @@ impl Line {
             }
             Work::Ask => self.rec.kind.is_own() && !self.asked,
             Work::Split => !self.rec.kind.is_own() && !self.split,
-            Work::SplitFirst => {
-                !self.rec.kind.is_own() && !self.split && self.rec.visit == self.rec.tenancy.first
-            }
             Work::Serve => self.rec.kind.is_own(),
             Work::Drop => !self.rec.kind.is_own(),
         }

@@ -145,13 +145,6 @@ impl View {
         self.wheel.after(key)
     }
 
-    /// The lines stand in their order, with one line for each visit.
-    pub(crate) fn are_in_order(&self)
-        ensures { IsWalk self.now.params self.now.lines }
-    {
-        self.wheel.are_in_order();
-    }
-
     /// A time before which no line is due that is due at a given one or later. The line is looked
     /// for at a place first, and any place serves.
     pub(crate) fn due_from(&self, near: Place, time: Micros) -> Micros

@@ -31,11 +31,6 @@ pub enum Call {
     AskFor(u32),
     /// Gives the first line that is to be split from a limit on, and marks it.
     Split(u32),
-    /// Gives the first line that is to be split from a limit on and before a bound, and marks it; if
-    /// there is none, the view keeps that in mind.
-    SplitBelow(u32, u32),
-    /// The same of first visits, from a limit on.
-    SplitFirst(u32),
     /// Takes the first own record out that is due by a time, and the first backup record.
     Take(u32),
     /// Sets a limit up to which the states are known to be forwarded.
@@ -49,9 +44,6 @@ pub enum Call {
 /// What is asked of a view.
 #[derive(Clone, Copy)]
 pub enum Ask {
-    /// Whether all visits are known to be split from a limit on and before a bound, and whether all
-    /// first ones are from the limit on.
-    Split(u32, u32),
     /// Which instance has a slot and visit, and its line.
     Line(u32, u32),
     /// The first line.
@@ -129,9 +121,7 @@ fn make(view: &mut CubView, call: Call, text: &mut String) -> Result<(), NoMemor
         }
         Call::Forward(time) => push_visit(view.forward_next(u64::from(time)), text)?,
         Call::AskFor(time) => push_visit(view.ask_next(u64::from(time)), text)?,
-        Call::Split(limit) => push_visit(view.split_next(u64::from(limit), None), text)?,
-        Call::SplitBelow(limit, bound) => push_visit(split_below(view, limit, bound), text)?,
-        Call::SplitFirst(limit) => push_visit(split_first(view, limit), text)?,
+        Call::Split(limit) => push_visit(view.split_next(u64::from(limit)), text)?,
         Call::Take(time) => {
             push_visit(view.take_own(u64::from(time)), text)?;
             push_visit(view.take_backup(u64::from(time)), text)?;
@@ -175,38 +165,8 @@ fn set_forwarded(view: &mut CubView, limit: Micros)
 fn set_split(view: &mut CubView, limit: Micros)
     ensures { view.new ≡ view.old }
 {
-    if view.is_split_between(limit, None) {
-        view.set_split_between(limit, None);
-    }
-}
-
-/// Gives the first line that is to be split from a limit on and before a bound, and marks it; if
-/// there is none, the view keeps that in mind.
-fn split_below(view: &mut CubView, limit: u32, bound: u32) -> Option<Line>
-    ensures { view.new.params ≡ view.old.params }
-{
-    let limit = u64::from(limit);
-    let bound = u64::from(bound);
-    match view.split_next(limit, Some(bound)) {
-        Some(found) => Some(found),
-        None => {
-            view.set_split_between(limit, Some(bound));
-            None
-        }
-    }
-}
-
-/// The same of first visits, from a limit on.
-fn split_first(view: &mut CubView, limit: u32) -> Option<Line>
-    ensures { view.new.params ≡ view.old.params }
-{
-    let limit = u64::from(limit);
-    match view.split_first_next(limit) {
-        Some(found) => Some(found),
-        None => {
-            view.set_first_split_from(limit);
-            None
-        }
+    if view.is_split_from(limit) {
+        view.set_split_from(limit);
     }
 }
 
@@ -215,11 +175,6 @@ fn push_asked(view: &CubView, ask: Ask, text: &mut String) -> Result<(), AllocEr
     requires { view.now.params ≡ small }
 {
     match ask {
-        Ask::Split(limit, bound) => {
-            let all = view.is_split_between(u64::from(limit), Some(u64::from(bound)));
-            let firsts = view.is_first_split_from(u64::from(limit));
-            write!(text, "{all} {firsts}; ")
-        }
         Ask::Line(slot, visit) => push_line(view, key(slot, visit), text),
         Ask::First => write!(text, "{:?}; ", view.view().after(None)),
         Ask::Done(time) => push_done(view, time, text),
@@ -253,7 +208,7 @@ fn push_done(view: &CubView, time: Micros, text: &mut String) -> Result<(), Allo
     if view.is_asked_before(time) {
         text.push_str(" asked")?;
     }
-    if view.is_split_between(time, None) {
+    if view.is_split_from(time) {
         text.push_str(" split")?;
     }
     text.push_str("; ")

@@ -17,14 +17,14 @@ returns-in_err-found-clause-first c =
 
 pub invariant_of-self-2 : goal.invariant_of-self-2
 invariant_of-self-2 c =
-    kept_mark c.self.inside.plan.params c.self.inside.forwarded_to c.self.inside.splits c.in_ok-found.found.due c.self.inside.first_splits c.self.inside.forwarded_between.0 c.self.inside.forwarded_between.1
-    c.self.inside.full c.self.inside.near_pending.turn c.in_ok-found.found.place.turn c.self.inside.view c.mark_first.new.self (key_of c.in_ok-found.found.line) Asked c.self.invariant.0 c.in_ok-found.ensures.marked
+    kept_mark c.self.inside.plan.params c.self.inside.forwarded_to c.self.inside.split_from c.in_ok-found.found.due c.self.inside.split_between.0 c.self.inside.split_between.1 c.self.inside.forwarded_between.0 c.self.inside.forwarded_between.1
+    c.self.inside.full c.self.inside.near_pending.turn c.in_ok-found.found.place.turn c.self.inside.near_unsplit.turn c.self.inside.view c.mark_first.new.self (key_of c.in_ok-found.found.line) Asked c.self.invariant.0 c.in_ok-found.ensures.marked
     c.self.invariant.1 c.self.invariant.2
     (asked_found c.self.inside.plan.params c.self.inside.asked_before c.args.time c.in_ok-found.found.due c.self.inside.view.lines c.in_ok-found.found.line
     (subst (λ (q : Params). IsWalk q c.self.inside.view.lines) c.self.invariant.0 c.in_ok-found.ensures.walk)
     (subst (λ (q : Params). c.in_ok-found.found.due ≡ due_of q (key_of c.in_ok-found.found.line)) c.self.invariant.0 c.in_ok-found.ensures.due) c.self.invariant.3
     (subst (λ (q : Params). Some c.in_ok-found.found.line ≡ first_between q is_unasked c.self.inside.asked_before c.args.time c.self.inside.view.lines) c.self.invariant.0 c.in_ok-found.ensures.first))
-    c.self.invariant.4 c.self.invariant.5 c.self.invariant.6 c.self.invariant.7 (subst (λ (q : Params). IsTurn q c.in_ok-found.found.place.turn) c.self.invariant.0 c.in_ok-found.ensures.turn.0) c.self.invariant.9 c.self.invariant.10
+    c.self.invariant.4 c.self.invariant.5 c.self.invariant.6 c.self.invariant.7 (subst (λ (q : Params). IsTurn q c.in_ok-found.found.place.turn) c.self.invariant.0 c.in_ok-found.ensures.turn.0) c.self.invariant.9
 
 pub returns-clause-first : goal.returns-clause-first
 returns-clause-first c =

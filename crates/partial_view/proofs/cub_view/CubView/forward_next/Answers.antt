@@ -1,4 +1,4 @@
-use Rattle.std.proofs.Common.{◌≡◌, ◌∙◌, Some, None, sym, subst, arith}
+use Rattle.std.proofs.Common.{◌≡◌, ◌∙◌, Some, None, subst, arith}
 use Rattle.slot_plan.specs.declared.params.Params.{Params}
 use Rattle.slot_plan.specs.Keys.{due_of}
 use Rattle.partial_view.specs.declared.line.Flag.TheVariants.{Forwarded}
@@ -9,9 +9,6 @@ use Rattle.partial_view.specs.Wheel.{IsTurn}
 use Rattle.partial_view.specs.Work.{first_between}
 use Rattle.partial_view.proofs.Pending.{kept_mark, first_seen, pending_same, forwarded_found, found_fits}
 use Rattle.partial_view.proofs.cub_view.CubView.forward_next.Goals as goal
-
-pub mark_first-requires : goal.mark_first-requires
-mark_first-requires c = subst (λ (q : Params). IsTurn q c.self.inside.near_pending.turn) (sym c.self.invariant.0) c.self.invariant.7
 
 pub returns-in_err-found-clause-first : goal.returns-in_err-found-clause-first
 returns-in_err-found-clause-first c =
@@ -30,14 +27,14 @@ overflow_add-found c =
 
 pub invariant_of-self-2 : goal.invariant_of-self-2
 invariant_of-self-2 c =
-    kept_mark c.self.inside.plan.params c.max-self-inside.result c.self.inside.splits c.self.inside.asked_before c.self.inside.first_splits c.self.inside.forwarded_between.0 c.self.inside.forwarded_between.1
-    c.self.inside.full c.in_ok-found.found.place.turn c.self.inside.near_unasked.turn c.self.inside.view c.mark_first.new.self (key_of c.in_ok-found.found.line) Forwarded c.self.invariant.0 c.in_ok-found.ensures.marked
+    kept_mark c.self.inside.plan.params c.max-self-inside.result c.self.inside.split_from c.self.inside.asked_before c.self.inside.split_between.0 c.self.inside.split_between.1 c.self.inside.forwarded_between.0 c.self.inside.forwarded_between.1
+    c.self.inside.full c.in_ok-found.found.place.turn c.self.inside.near_unasked.turn c.self.inside.near_unsplit.turn c.self.inside.view c.mark_first.new.self (key_of c.in_ok-found.found.line) Forwarded c.self.invariant.0 c.in_ok-found.ensures.marked
     (forwarded_found c.self.inside.plan.params c.self.inside.forwarded_to c.saturating_sub-from.result c.saturating_sub.result c.in_ok-found.found.due c.max-self-inside.result c.self.inside.view.lines c.in_ok-found.found.line
     (subst (λ (q : Params). IsWalk q c.self.inside.view.lines) c.self.invariant.0 c.in_ok-found.ensures.walk)
     (omega (arith, c.self.inside.plan.sound.ranges.play.0)) (omega (arith, c.saturating_sub-from.ensures, c.saturating_add.ensures))
     (subst (λ (q : Params). c.in_ok-found.found.due ≡ due_of q (key_of c.in_ok-found.found.line)) c.self.invariant.0 c.in_ok-found.ensures.due) c.max-self-inside.ensures c.self.invariant.1
     (subst (λ (q : Params). Some c.in_ok-found.found.line ≡ first_between q is_pending c.saturating_sub-from.result c.saturating_sub.result c.self.inside.view.lines) c.self.invariant.0 c.in_ok-found.ensures.first))
-    c.self.invariant.2 c.self.invariant.3 c.self.invariant.4 c.self.invariant.5 c.self.invariant.6 (subst (λ (q : Params). IsTurn q c.in_ok-found.found.place.turn) c.self.invariant.0 c.in_ok-found.ensures.turn.0) c.self.invariant.8 c.self.invariant.9 c.self.invariant.10
+    c.self.invariant.2 c.self.invariant.3 c.self.invariant.4 c.self.invariant.5 c.self.invariant.6 (subst (λ (q : Params). IsTurn q c.in_ok-found.found.place.turn) c.self.invariant.0 c.in_ok-found.ensures.turn.0) c.self.invariant.8 c.self.invariant.9
 
 pub returns-clause-first : goal.returns-clause-first
 returns-clause-first c =
