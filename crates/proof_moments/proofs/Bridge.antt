@@ -108,14 +108,15 @@ module _ (p : Params) (r : Facts) (orders : List Order) (journals : List (List E
         let yb = y.beat in
         (y.entry, lower z y.entry i y.there (omega arith), y.is)
 
-    -- and so does a death
-    pub died_there : (c : ℕ) (z : Noted) → In z front → (a : ℕ) → r.Died c a → a < beat_of z → list_any (λ (e : Entry). is_died e.what) (journal_of c front) ≡ true
-    died_there c z i a d b =
+    -- and so does a death, in the journal of who died
+    pub death_in : (c : ℕ) (z : Noted) → In z front → (a : ℕ) → r.Died c a → a < beat_of z
+        → (e : Entry) × In e (journal_of c front) × ((e.what ≡ what.Died) × (e.stamp.beat ≡ a))
+    death_in c z i a d b =
         let l = below z (in_log z i) in
         let y = logged c a (λ e. e.what ≡ what.Died) (w.logged.died c a d) (omega arith) in
         let yb = y.beat in
         let there = lower z y.entry i y.there (omega arith) in
-        any_passes (λ (e : Entry). is_died e.what) (journal_of c front) y.entry.entry (in_journal c front y.entry there y.node) (ap is_died y.is)
+        (y.entry.entry, in_journal c front y.entry there y.node, (y.is, yb))
 
   -- an instance is put once: no Put of it stands behind another
   pub put_once : (front back : List Noted) (x y : Noted) (t u : Tenancy) → front ++ x ∷ back ≡ order_of beats journals → In y back → x.entry.what ≡ what.Put t → y.entry.what ≡ what.Put u → u.instance.0 ≡ t.instance.0 → ⊥

@@ -1,8 +1,7 @@
 -- The journals of the worked run meet all ties.
 use Rattle.std.proofs.Common.{◌≡◌, ℕ, zero, suc, ◌+◌, ◌*◌, ◌<◌, ◌≤◌, true, false, Some, refl, sym, ap, subst, ◌∙◌, arith, ⊎_elim, inl, inr}
-use Rattle.std.specs.Prelude.{◌⊎◌, List, [], ◌∷◌, ◌++◌, slice_get, Option, unwrap_or}
+use Rattle.std.specs.Prelude.{◌⊎◌, List, [], ◌∷◌, ◌++◌, slice_get}
 use Rattle.std.specs.List.{AllByRecursion}
-use Rattle.std.proofs.lemmas.Option.{none-some}
 use Rattle.tiger_base.specs.declared.number.CubNo.{CubNo}
 use Rattle.tiger_base.specs.declared.number.LinkNo.{LinkNo}
 use Rattle.tiger_base.specs.declared.number.Stamp.{Stamp}
@@ -15,12 +14,11 @@ use Rattle.node_kit.specs.declared.course.OrderKind.TheVariants as kind
 use Rattle.node_kit.specs.declared.journal.Entry.{Entry}
 use Rattle.node_kit.specs.declared.journal.What.{What}
 use Rattle.node_kit.specs.declared.journal.What.TheVariants as what
-use Rattle.run_facts.specs.Accounts.{Rising}
 use Rattle.run_model.specs.Orders.{IsOrdered}
 use Rattle.run_model.specs.Served.{want_of_visit}
 use Rattle.proof_schedule.specs.Facts.{Facts}
 use Rattle.proof_schedule.specs.Laws.{Laws}
-use Rattle.proof_schedule.specs.Logs.{Ticked, Put, Shows, Begun, Asked, AskedApart, Gone, Died, Believed}
+use Rattle.proof_schedule.specs.Logs.{Ticked, Put, Shows, Begun, Asked, AskedApart, Gone, Died, Returned, Believed}
 use Rattle.proof_schedule.proofs.Follows.{runs}
 use Rattle.proof_pieces.specs.PieceLogs.{Serves}
 use Rattle.proof_pieces.proofs.Right.{right}
@@ -41,7 +39,8 @@ use Rattle.proof_moments.specs.Recorded.{IsRecorded}
 use Rattle.lists.proofs.Elements.{in_left, in_right}
 use Rattle.lists.proofs.Each.{all_in, all_by}
 use Rattle.proof_moments.proofs.Records.{was_taken}
-use Rattle.proof_moments.proofs.Sorted.{Sorted}
+use Rattle.proof_moments.proofs.Plain.{EachFrom, rises, alone}
+use Rattle.proof_moments.proofs.Plain as written
 use Rattle.proof_moments.specs.ParcelTies.{IsServing, TellsParcels, LogsParcels, WasSentOn, IsGotOn, ViewersGet}
 use Rattle.proof_moments.specs.DeliveryExample.{sent_whole, got_whole, sent_first, got_first, sent_second, got_second, put, died, believed, journals, orders, ParcelTiesCanBeMet}
 
@@ -73,35 +72,11 @@ Says n b (what.Got link (note.Piece want sent part)) =
     × (b ≡ 201))
 Says n b other = ⊥
 
--- each journal of a list of them, by its number from one on
-abbrev EachFrom : (ℕ → List Entry → Type 0) → ℕ → List (List Entry) → Type 0
-EachFrom P n [] = Unit {0}
-EachFrom P n (j ∷ js) = P n j × EachFrom P (suc n) js
-
-each_at : (P : ℕ → List Entry → Type 0) (k : ℕ) (js : List (List Entry)) → EachFrom P k js
-    → (n : ℕ) (j : List Entry) → slice_get js n ≡ Some j → P (k + n) j
-each_at P k [] all n j at = absurd (none-some j at)
-each_at P k (x ∷ xs) all zero j at =
-    let same : x ≡ j = ap (λ (o : Option (List Entry)). unwrap_or o x) at in
-    let place : k ≡ k + 0 = omega arith in
-    subst (λ (m : ℕ). P m j) place (subst (λ (y : List Entry). P k y) same all.0)
-each_at P k (x ∷ xs) all (suc n) j at =
-    let place : suc k + n ≡ k + suc n = omega arith in
-    subst (λ (m : ℕ). P m j) place (each_at P (suc k) xs all.1 n j at)
-
-each : (P : ℕ → List Entry → Type 0) → EachFrom P 0 journals → (n : ℕ) (j : List Entry)
-    → slice_get journals n ≡ Some j → P n j
-each P all n j at = let place : 0 + n ≡ n = omega arith in subst (λ (m : ℕ). P m j) place
-    (each_at P 0 journals all n j at)
-
--- a journal's entries say so, and each is of a later beat than those before it, up to beat 201
-record IsPlain (n : ℕ) (j : List Entry) : Type 0 where
-  says : AllByRecursion (λ e. Says n e.stamp.beat e.what) j
-  apart : Sorted (λ (e f : Entry). e.stamp.beat < f.stamp.beat) j
-  low : AllByRecursion (λ e. (e.stamp.beat ≤ 201) × (e.stamp.reading ≡ e.stamp.beat * 10000)) j
+abbrev IsPlain : ℕ → List Entry → Type 0
+IsPlain = written.IsPlain Says 201
 
 empty : (n : ℕ) → IsPlain n []
-empty n = record { says = tt; apart = tt; low = tt }
+empty n = written.empty Says 201 n
 
 plain : EachFrom IsPlain 0 journals
 plain = (
@@ -184,32 +159,18 @@ plain = (
 )
 
 plain_at : (n : ℕ) (j : List Entry) → slice_get journals n ≡ Some j → IsPlain n j
-plain_at n j at = each IsPlain plain n j at
+plain_at n j at = written.plain_at Says 201 journals plain n j at
 
-says : (n : ℕ) (e : Entry) → StandsIn journals n e → Says n e.stamp.beat e.what
-says n e s = all_in (λ (x : Entry). Says n x.stamp.beat x.what) e s.journal (plain_at n s.journal s.at).says s.there
-
--- what an entry says, by what it is
+-- what an entry says, by what it is; and when it is written
 said : (n : ℕ) (e : Entry) (v : What) → StandsIn journals n e → e.what ≡ v → Says n e.stamp.beat v
-said n e v s is = subst (λ (x : What). Says n e.stamp.beat x) is (says n e s)
+said n e v s is = written.said Says 201 journals plain n e v s is
 
-behind : (xs ys : List Entry) (e f : Entry) → Sorted (λ (x y : Entry). x.stamp.beat < y.stamp.beat) (xs ++ e ∷ ys)
-    → In f ys → e.stamp.beat < f.stamp.beat
-behind [] ys e f s i = all_in (λ (y : Entry). e.stamp.beat < y.stamp.beat) f ys s.0 i
-behind (x ∷ xs) ys e f s i = behind xs ys e f s.1 i
+low : (n : ℕ) (e : Entry) → StandsIn journals n e → (e.stamp.beat ≤ 201) × (e.stamp.reading ≡ e.stamp.beat * 10000)
+low n e s = written.low Says 201 journals plain n e s
 
 later : (n : ℕ) (xs ys : List Entry) (e f : Entry) → slice_get journals n ≡ Some (xs ++ e ∷ ys) → In f ys
     → e.stamp.beat < f.stamp.beat
-later n xs ys e f at i = behind xs ys e f (plain_at n (xs ++ e ∷ ys) at).apart i
-
-rises : (j : List Entry) → Sorted (λ (x y : Entry). x.stamp.beat < y.stamp.beat) j
-    → Rising (λ (e : Entry). e.stamp.beat) j
-rises [] s = tt
-rises (x ∷ xs) s = (
-  all_by (λ (y : Entry). x.stamp.beat ≤ y.stamp.beat) xs
-      (λ y i. let l = all_in (λ (z : Entry). x.stamp.beat < z.stamp.beat) y xs s.0 i in omega arith),
-  rises xs s.1,
-)
+later n xs ys e f at i = written.later Says 201 journals plain n xs ys e f at i
 
 -- the entries, one by one
 stands : (n : ℕ) (j : List Entry) (e : Entry) → slice_get journals n ≡ Some j → In e j → StandsIn journals n e
@@ -244,10 +205,6 @@ is_put_at stamp one read =
       below = omega arith;
     }
 
-low : (n : ℕ) (e : Entry) → StandsIn journals n e → (e.stamp.beat ≤ 201) × (e.stamp.reading ≡ e.stamp.beat * 10000)
-low n e s = all_in (λ (x : Entry). (x.stamp.beat ≤ 201) × (x.stamp.reading ≡ x.stamp.beat * 10000)) e s.journal
-    (plain_at n s.journal s.at).low s.there
-
 died_in : r.Died 1 20
 died_in = log.worked.few (Died 1 20) (14, omega arith, refl)
 
@@ -275,6 +232,7 @@ tells = record {
   died = λ n e small s is.
       let k = said n e what.Died s is in
       subst (λ (m : ℕ). r.Died m e.stamp.beat) (sym k.0) (subst (λ (b : ℕ). r.Died 1 b) (sym k.1) died_in);
+  returned = λ n e small s is. absurd (said n e what.Returned s is);
   asked = λ n e link a small s is. absurd (said n e (what.Got link (note.Start false a)) s is);
   apart = λ n e link a small s is. absurd (said n e (what.Got link (note.Start true a)) s is);
 }
@@ -294,6 +252,10 @@ at_3 = refl
 
 at_viewers : slice_get journals 17 ≡ Some (got_whole ∷ got_first ∷ got_second ∷ [])
 at_viewers = refl
+
+-- nobody comes back
+none_back : (c b : ℕ) → r.Returned c b → ⊥
+none_back c b h = let k = log.worked.its (Returned c b) h in let late = k.2 in omega arith
 
 logged : Logged plan r orders journals
 logged = record {
@@ -319,6 +281,7 @@ logged = record {
         beat = sym k.1;
         is = refl;
       };
+  returned = λ c b h. absurd (none_back c b h);
   believed = λ c d b h next small.
       let k = log.worked.its (Believed c b) h in
       let same : d ≡ 1 = one_before d 1 small (omega arith) (sym next ∙ k.0 ∙ sym cub_2) in
@@ -336,6 +299,14 @@ logged = record {
   begun = λ ask b h. ordered ask (log.worked.its (Begun ask b) h).0;
 }
 
+-- nothing stands behind the death
+none_since : (n : ℕ) (xs ys : List Entry) (e f : Entry) → slice_get journals n ≡ Some (xs ++ e ∷ ys)
+    → e.what ≡ what.Died → In f ys → ⊥
+none_since n xs ys e f at is i =
+    let k = said n e what.Died (stands n (xs ++ e ∷ ys) e at (in_right e xs (e ∷ ys) (inl refl))) is in
+    let one : Some (xs ++ e ∷ ys) ≡ Some (died ∷ []) = sym at ∙ (ap (λ (m : ℕ). slice_get journals m) k.0 ∙ at_1) in
+    alone xs ys e f died (cc) i
+
 keeps : Keeps plan r orders journals
 keeps = record {
   rising = λ n j at. rises j (plain_at n j at).apart;
@@ -345,8 +316,10 @@ keeps = record {
       (in_right e xs (e ∷ ys) (inl refl))) is);
   ended = λ n c b e s less small.
       let l = (low n e s).0 in
-      ⊎_elim (λ k. inl (record { reading = k.reading; ticked = k.ticked })) (λ d. inr d)
+      ⊎_elim (λ k. inl (record { reading = k.reading; ticked = k.ticked }))
+      (λ d. inr (record { died = d; away = λ w back. absurd (none_back c w back) }))
       (goes_on 0 350 350 one_run log.timed log.worked c b small (omega arith));
+  since = λ n xs ys e f small at is i. absurd (none_since n xs ys e f at is i);
   shows = λ c b l upper lower q cut ticked i.
       let k = was_taken upper q i in
       absurd (said c k.0 (what.Took q) (stands c (upper ++ lower) k.0 cut.at (in_left k.0 upper lower k.1)) k.2);
@@ -364,10 +337,12 @@ besides = record {
       (λ o. ⊎_elim (λ k. let early = k.1 in omega arith) (λ k. absurd (k.0 one)) o)
       (λ k. let late = k.1 in let high = k.2 in absurd (omega arith))
       (log.worked.its (Ticked c b l) t).1;
+  returned = λ c x h. laws.run.returned h;
+  apart = λ c d a b h k next. laws.run.apart h k next;
   put = λ c x a t h d. let k = (log.worked.its (Put c t x) h).0 in let m = (log.worked.its (Died c a) d).0 in absurd (omega arith);
   reads = λ c b l t. laws.run.reads t;
   undue = λ c n b t s. absurd (log.worked.its (Shows c t n b) s);
-  waits = λ c y b l s n ask w by ticked slot window.
+  waits = λ c y b l s n ask w by ticked first slot window.
       let one : (ask ≡ order) × (y ≡ 1) = ⊎_elim
       (λ a. let k = log.worked.its (Asked c ask y) a.0 in (k.1, k.2))
       (λ a. let k = log.worked.its (AskedApart c ask y) a.0 in (k.1, k.2))

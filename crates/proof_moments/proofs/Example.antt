@@ -22,7 +22,7 @@ use Rattle.run_model.specs.Views.{records_of}
 use Rattle.proof_schedule.specs.Example.{order, viewer, first_beat, one_put}
 use Rattle.proof_schedule.specs.Facts.{Facts, Entered}
 use Rattle.proof_schedule.specs.Laws.{Laws}
-use Rattle.proof_schedule.specs.Logs.{Fact, facts_in, Ticked, Put, Took, Shows, Begun, Asked, AskedApart, Gone, Died, Believed}
+use Rattle.proof_schedule.specs.Logs.{Fact, facts_in, Ticked, Put, Took, Shows, Begun, Asked, AskedApart, Gone, Died, Returned, Believed}
 use Rattle.proof_schedule.proofs.Example as facts
 use Rattle.proof_schedule.proofs.Follows.{runs}
 use Rattle.lists.specs.Elements.{In}
@@ -51,6 +51,7 @@ Says (Asked c ask b) = (c ≡ 0) × (ask ≡ order) × (b ≡ 1)
 Says (AskedApart c ask b) = ⊥
 Says (Gone v b) = ⊥
 Says (Died c b) = ⊥
+Says (Returned c b) = ⊥
 Says (Believed c b) = ⊥
 Says other = Unit {0}
 
@@ -122,10 +123,12 @@ put_fact = facts.laws_met.2
 besides : Besides small r
 besides = record {
   ended = λ c b l a t first d. absurd (says (Died c a) d);
+  returned = λ c x h. law.run.returned h;
+  apart = λ c d a b h k next. law.run.apart h k next;
   put = λ c x a t _ d. absurd (says (Died c a) d);
   reads = λ c b l t. law.run.reads t;
   undue = λ c n b t s. let k = law.states.shows s in let low = (law.run.reads k.ticked).0 in let high = k.undue in omega arith;
-  waits = λ c y b l s n ask w by ticked slot window. ⊎_elim
+  waits = λ c y b l s n ask w by ticked first slot window. ⊎_elim
       (λ a.
       let asked = says (Asked c ask y) a.0 in
       let same = asked.1 in
@@ -169,6 +172,9 @@ tells = record {
       says_one (λ (x : Entry). x.what ≡ what.Believed d → IsBeliefAt small r n d.0 x.stamp.beat) e k.which (λ q. absurd (cc)) (λ q. absurd (cc)) (λ q. absurd (cc)) is;
   died = λ n e l s is. let k = is_entry n e s in
       says_one (λ (x : Entry). x.what ≡ what.Died → r.Died n x.stamp.beat) e k.which (λ q. absurd (cc)) (λ q. absurd (cc)) (λ q. absurd (cc)) is;
+  returned = λ n e l s is. let k = is_entry n e s in
+      says_one (λ (x : Entry). x.what ≡ what.Returned → r.Returned n x.stamp.beat × r.Ticked n x.stamp.beat x.stamp.reading) e k.which
+      (λ q. absurd (cc)) (λ q. absurd (cc)) (λ q. absurd (cc)) is;
   asked = λ n e link a l s is.
       let k = is_entry n e s in
       subst (λ (m : ℕ). r.Asked m a e.stamp.beat × IsOrdered orders a) (sym k.node)
@@ -190,6 +196,7 @@ logged = record {
       };
   gone = λ v b h. absurd (says (Gone v b) h);
   died = λ c b h. absurd (says (Died c b) h);
+  returned = λ c b h. absurd (says (Returned c b) h);
   believed = λ c d b h next low. absurd (says (Believed c b) h);
   begun = λ ask b h. ordered ask (says (Begun ask b) h);
 }
@@ -245,8 +252,11 @@ keeps = record {
       inl (put, subst (λ (z : List Entry). In put z) (sym k.0) (inr (inl refl)), ap (λ (z : Rec). what.Put z.tenancy) k.1);
   ended = λ n c b e s before low.
       let beat = beat_one e (is_entry n e s).which in
-      ⊎_elim (λ k. inl (record { reading = k.reading; ticked = k.ticked })) (λ d. inr d)
+      ⊎_elim (λ k. inl (record { reading = k.reading; ticked = k.ticked })) (λ d. absurd (says (Died c d.beat) d.died))
       (law.run.up {c = 0} {b = 1} {d = c} {a = b} came (omega arith) low);
+  since = λ n xs ys e f low at is i.
+      absurd (says_one (λ (x : Entry). x.what ≡ what.Died → ⊥) e (in_part n (xs ++ e ∷ ys) e at (in_right e xs (e ∷ ys) (inl refl)))
+      (λ q. absurd (cc)) (λ q. absurd (cc)) (λ q. absurd (cc)) is);
   shows = λ c b l upper lower q cut ticked i.
       let node = (one_journal c (upper ++ lower) cut.at).0 in
       let k = was_taken upper q i in
@@ -285,8 +295,6 @@ locals = record {
       says_one (λ (x : Entry). time_of small x.stamp.beat ≤ x.stamp.reading) e (is_entry n e s).which (omega arith) (omega arith) (omega arith);
   sent = λ n xs ys e link st low at is. absurd (
       says_one (λ (x : Entry). x.what ≡ what.Sent link (note.ViewerState st) → ⊥) e (in_part n (xs ++ e ∷ ys) e at (in_right e xs (e ∷ ys) (inl refl))) (λ q. absurd (cc)) (λ q. absurd (cc)) (λ q. absurd (cc)) is);
-  ends = λ n xs ys e f low at i is.
-      says_one (λ (x : Entry). x.what ≡ what.Died → ⊥) f (in_part n (xs ++ e ∷ ys) f at (in_left f xs (e ∷ ys) i)) (λ q. absurd (cc)) (λ q. absurd (cc)) (λ q. absurd (cc)) is;
 }
 
 in_time : ParcelsAreInTime small r journals

@@ -1,12 +1,13 @@
 -- An excuse of a visit by facts is one by the journals; and whether an instance was stopped in time is told by them.
 use Rattle.std.proofs.Common.{◌≡◌, ℕ, zero, suc, ◌+◌, ◌<◌, ◌≤◌, List, [], ◌∷◌, Bool, true, false, refl, sym, ap, subst, ◌∙◌, arith, ⊎_elim, inl, inr}
-use Rattle.std.specs.Prelude.{◌⊎◌, ◌&&◌, nat_lt, slice_get, Option, Some, unwrap_or}
+use Rattle.std.specs.Prelude.{◌⊎◌, ◌&&◌, nat_lt, slice_get, Option, Some, None, unwrap_or}
 use Rattle.std.specs.List.{list_any}
-use Rattle.std.proofs.lemmas.Bool.{cases_Bool, cases_lt, true≢false, eqb-true, eq-eqb}
+use Rattle.std.proofs.lemmas.Bool.{cases_Bool, cases_lt, cases_eq, true≢false, eqb-true, eq-eqb}
 use Rattle.std.proofs.lemmas.Option.{none-some}
 use Rattle.tiger_base.specs.declared.tenancy.Tenancy.{Tenancy}
 use Rattle.slot_plan.specs.declared.params.Params.{Params}
 use Rattle.slot_plan.specs.Times.{due, cub_of, time_of, takeover}
+use Rattle.slot_plan.proofs.Times.{cub_below}
 use Rattle.mirror_pieces.specs.Pieces.{leaving}
 use Rattle.node_kit.specs.declared.journal.What.{What}
 use Rattle.node_kit.specs.declared.journal.What.TheVariants as what
@@ -16,13 +17,13 @@ use Rattle.run_model.specs.Fronts.{AnyByRecursion}
 use Rattle.run_model.specs.Served.{journal_at, IsVisitOf}
 use Rattle.run_model.specs.Excuses as at_journals
 use Rattle.run_model.proofs.Reflects.{and_left, and_right, and_both, less, any_found}
-use Rattle.proof_schedule.specs.Facts.{Facts}
+use Rattle.proof_schedule.specs.Facts.{Facts, enters_from}
 use Rattle.proof_pieces.specs.PieceFacts.{PieceFacts}
-use Rattle.proof_service.specs.ServiceFacts.{ServiceFacts}
+use Rattle.proof_service.specs.ServiceFacts.{ServiceFacts, serves_from}
 use Rattle.proof_service.specs.Blocks as at_facts
 use Rattle.lists.specs.Elements.{In}
 use Rattle.proof_moments.specs.Ties.{StandsIn, IsLogged}
-use Rattle.proof_moments.proofs.Lists.{any_with, any_passes}
+use Rattle.proof_moments.proofs.Lists.{any_by, any_with, any_passes}
 use Rattle.proof_moments.specs.RecordedParcels.{Evidence, AreParcelsRecorded}
 use Rattle.proof_moments.proofs.Parcels.{journal_is}
 
@@ -44,6 +45,18 @@ pub own_journal : (js : List (List Entry)) (n : ℕ) (e : Entry) (P : Entry → 
 own_journal js n e P s h = any_with P (journal_at js n) e (subst (λ (j : List Entry). In e j)
     (sym (journal_is js n s.journal s.at)) s.there) h
 
+-- an entry of what stands at a node's place is one of that node's journal
+stands_at : (js : List (List Entry)) (n : ℕ) (e : Entry) → In e (journal_at js n) → StandsIn js n e
+unfolding journal_at
+stands_at js n e i = by (slice_get js n) refl i where
+  by : (o : Option (List Entry)) → slice_get js n ≡ o → In e (unwrap_or o []) → StandsIn js n e
+  by (Some j) at k = record { journal = j; at = at; there = k }
+  by None at k = absurd k
+
+return_is : (v : What) → at_journals.IsReturn v → v ≡ what.Returned
+return_is what.Returned h = refl
+return_is other h = absurd h
+
 module _ (p : Params) (a : Evidence) (r : Facts) (q : PieceFacts) (w : ServiceFacts) (end : ℕ)
     (g : AreParcelsRecorded p a r q w end) (t : Tenancy) (n : ℕ) where
   -- a death
@@ -52,6 +65,27 @@ module _ (p : Params) (a : Evidence) (r : Facts) (q : PieceFacts) (w : ServiceFa
       let k = g.schedule.logged.died c b d in
       own_journal a.journals c k.entry (λ e. at_journals.IsDeath e.what × When (time_of p e.stamp.beat)) k.stands
       (subst (λ (v : What). at_journals.IsDeath v) (sym k.is) tt, subst (λ (x : ℕ). When (time_of p x)) (sym k.beat) h)
+
+  -- who did not come back so early by the facts did not by the journals
+  not_back : (c span time : ℕ) → c < p.cubs → ((x l : ℕ) → r.Returned c x → r.Ticked c x l → time < l + span)
+      → at_journals.WasBackBy a.journals c span time → ⊥
+  not_back c span time small away b =
+      let e = any_by (λ (x : Entry). at_journals.IsReturn x.what × (x.stamp.reading + span ≤ time)) (journal_at a.journals c) b in
+      let k = g.schedule.tells.returned c e.0 small (stands_at a.journals c e.0 e.1) (return_is e.0.what e.2.0) in
+      let early = e.2.1 in
+      let late = away e.0.stamp.beat e.0.stamp.reading k.0 k.1 in
+      omega arith
+
+  unserved : at_facts.IsNotBackFor p r t n → at_journals.IsUnservedBack p a.journals t n
+  unserved away = ⊎_elim
+      (λ (first : n ≡ t.first). inl first)
+      (λ (later : n ≡ t.first → ⊥).
+      inr (not_back (cub_of p n) (at_journals.serves_after p) (due p t.slot.0 n) (cub_below p n g.schedule.plan.ranges)
+      (λ x l back ticked. ⊎_elim
+      (λ (soon : due p t.slot.0 n < serves_from p l). let z : due p t.slot.0 n < l + at_journals.serves_after p = omega arith in z)
+      (λ first. absurd (later first))
+      (away x l back ticked))))
+      (cases_eq n t.first)
 
   -- a read that failed
   failed_entry : (c j b : ℕ) → w.Failed c t n j b → IsLogged a.journals c b
@@ -74,8 +108,14 @@ module _ (p : Params) (a : Evidence) (r : Facts) (q : PieceFacts) (w : ServiceFa
       inl (some_journal a.journals (cub_of p (n + suc k)) l.entry (λ e. at_journals.IsFailedRead t.instance.0 n
       (suc k) e.what) l.stands l.is))
       (λ (d : at_facts.DiedBeforeLeaving p r end (cub_of p (n + suc k)) t n (suc k)).
-      inr (died (cub_of p (n + suc k)) d.beat (λ death. death < leaving (due p t.slot.0 n) (suc k) p.play p.pieces +
-      p.beat) d.died d.early))
+      let time : ℕ = leaving (due p t.slot.0 n) (suc k) p.play p.pieces in
+      inr (
+        died (cub_of p (n + suc k)) d.beat (λ death. death < time + p.beat) d.died d.early,
+        not_back (cub_of p (n + suc k)) (at_journals.lets_in_after p) time (cub_below p (n + suc k) g.schedule.plan.ranges)
+            (λ x l back ticked.
+            let late : time < enters_from p l = d.away x l back ticked in
+            let z : time < l + at_journals.lets_in_after p = omega arith in z),
+      ))
       h
 
   -- each excuse by facts
@@ -91,14 +131,18 @@ module _ (p : Params) (a : Evidence) (r : Facts) (q : PieceFacts) (w : ServiceFa
       (λ more. ⊎_elim
       (λ (l : at_facts.LostInPieces p r w end t n). inr (inl (record {
         died = died (cub_of p n) l.beat (λ death. death + takeover p ≤ due p t.slot.0 n) l.died l.long;
+        away = unserved l.away;
         piece = l.piece;
         low = l.low;
         high = l.high;
         lost = lost l.piece l.low l.lost;
       })))
       (λ (d : at_facts.LostInDeath p r end t n).
-      inr (inr (inl (died (cub_of p n) d.beat (λ death. (death < due p t.slot.0 n + p.beat)
-      × (due p t.slot.0 n < death + takeover p)) d.died (d.early, d.late)))))
+      inr (inr (inl (
+        died (cub_of p n) d.beat (λ death. (death < due p t.slot.0 n + p.beat)
+            × (due p t.slot.0 n < death + takeover p)) d.died (d.early, d.late),
+        unserved d.away,
+      ))))
       more)
       h
 

@@ -13,7 +13,9 @@ pub mod ParcelLists
 pub mod Parcels
 pub mod Parts
 pub mod Passing
+pub mod Plain
 pub mod Records
+pub mod ReturnExample
 pub mod Sends
 pub mod Served
 pub mod Sorted

@@ -1,7 +1,6 @@
 -- What a cub takes and sends is local.
 use Rattle.std.proofs.Common.{◌≡◌, ℕ, ◌<◌, List, [], ◌∷◌, ◌++◌, Some, refl, sym, ap, ◌∙◌, arith}
 use Rattle.std.specs.Prelude.{slice_get}
-use Rattle.std.specs.List.{list_any}
 use Rattle.tiger_base.specs.declared.number.LinkNo.{LinkNo}
 use Rattle.tiger_base.specs.declared.tenancy.Rec.{Rec}
 use Rattle.tiger_base.specs.declared.tenancy.State.{State}
@@ -12,17 +11,12 @@ use Rattle.node_kit.specs.declared.journal.What.{What}
 use Rattle.node_kit.specs.declared.journal.What.TheVariants as what
 use Rattle.node_kit.specs.declared.journal.Entry.{Entry}
 use Rattle.run_facts.specs.Order.{Noted, beat_of, journal_of, order_of}
-use Rattle.run_facts.specs.Timed.{is_died}
-use Rattle.run_model.specs.Fronts.{AnyByRecursion}
-use Rattle.run_model.specs.Views.{records_of}
 use Rattle.run_model.specs.Moments.{moment_at}
-use Rattle.run_model.specs.Parts.{IsLocalRecord, IsLocalEntry, IsOwnRecordFor, EntriesAreLocal}
+use Rattle.run_model.specs.Parts.{IsLocalRecord, IsLocalEntry, EntriesAreLocal}
 use Rattle.run_model.proofs.Moments.{local_at_fronts}
 use Rattle.proof_schedule.specs.Facts.{Facts}
 use Rattle.proof_moments.specs.Ties.{StandsIn, Locals}
 use Rattle.proof_moments.specs.Recorded.{IsRecorded}
-use Rattle.proof_moments.proofs.Lists.{any_passing}
-use Rattle.lists.proofs.Elements.{chosen}
 use Rattle.proof_moments.proofs.Bridge as bridge
 use Rattle.proof_moments.proofs.Free as free
 
@@ -52,9 +46,7 @@ module _ (p : Params) (r : Facts) (orders : List Order) (journals : List (List E
 
   local_sent : (link : LinkNo) (s : State) → x.entry.what ≡ what.Sent link (note.ViewerState s) → IsLocalEntry p (moment_at front) x.node x.entry.stamp.reading (what.Sent link (note.ViewerState s))
   unfolding moment_at
-  local_sent link s is = chosen (λ (rs : List Rec). AnyByRecursion (IsOwnRecordFor s) rs) (list_any (λ (e : Entry). is_died e.what) (journal_of x.node front)) [] (records_of (journal_of x.node front))
-      (λ d. let e = any_passing (λ (f : Entry). is_died f.what) (journal_of x.node front) d in absurd (locals.ends x.node (journal_of x.node front) cut.0 x.entry e.0 small cut.1 e.1 (bridge.died_is e.0.what e.2)))
-      (λ _. locals.sent x.node (journal_of x.node front) cut.0 x.entry link s small cut.1 is)
+  local_sent link s is = locals.sent x.node (journal_of x.node front) cut.0 x.entry link s small cut.1 is
 
   local_entry : (v : What) → x.entry.what ≡ v → IsLocalEntry p (moment_at front) x.node x.entry.stamp.reading v
   local_entry (what.Took q) is = local_record q is

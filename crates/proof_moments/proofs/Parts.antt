@@ -19,16 +19,16 @@ use Rattle.run_model.specs.Views.{records_of}
 use Rattle.run_model.specs.Moments.{moment_at, last_beat}
 use Rattle.run_model.specs.Parts.{IsPart, ViewsArePart, ViewsAreAlwaysPart, was_just_stopped}
 use Rattle.run_model.proofs.Moments.{part_at_fronts}
-use Rattle.proof_schedule.specs.Facts.{Facts, Entered, GoneBefore}
+use Rattle.proof_schedule.specs.Facts.{Facts, Entered, GoneBefore, IsFirstLife}
 use Rattle.lists.specs.Elements.{In}
-use Rattle.proof_moments.specs.Ties.{StandsIn, IsCutAt}
+use Rattle.proof_moments.specs.Ties.{StandsIn, IsCutAt, IsDeadIn}
 use Rattle.proof_moments.specs.Recorded.{IsRecorded}
 use Rattle.proof_moments.proofs.Lists.{any_passes, any_passing}
 use Rattle.lists.proofs.Elements.{chosen, in_left, in_right, in_cases}
 use Rattle.lists.proofs.Each.{all_by}
 use Rattle.lists.proofs.Cuts.{cut_by}
 use Rattle.proof_moments.proofs.Holders.{IsNeverGone, IsOnlyPut, IsReplaced, holder_or, stop_from, stop_in}
-use Rattle.proof_moments.proofs.Records.{was_taken, records_cut}
+use Rattle.proof_moments.proofs.Records.{was_taken, taken_since, records_cut}
 use Rattle.proof_moments.proofs.Sorted.{IsLast, last_is, split_at, rises_before, not_above}
 use Rattle.proof_moments.proofs.Truths.{wave_over}
 use Rattle.proof_moments.proofs.Bridge as bridge
@@ -118,9 +118,24 @@ module _ (p : Params) (r : Facts) (orders : List Order) (journals : List (List E
       let m = time_next p b in
       record { recent = (w.one.shown c n b t s).1; fresh = inr (omega arith) }
 
-  live : (c : ℕ) → c < p.cubs → list_any (λ (e : Entry). is_died e.what) (journal_of c front) ≡ false → (q : Rec) → In q (records_of (journal_of c front)) → (z : IsLast front (last_beat front))
+  -- what stands behind a death is written since the return: so a journal that goes up to a beat tells of no record, if
+  -- the cub is dead in the beat
+  none_told : (c b : ℕ) (lower rest : List Entry) (q : Rec) → c < p.cubs → slice_get journals c ≡ Some (lower ++ rest)
+      → ((e : Entry) → In e lower → e.stamp.beat ≤ b) → (d : Entry) → In d lower → d.what ≡ what.Died
+      → In q (records_of lower) → IsFirstLife r c b → ⊥
+  none_told c b lower rest q small at low d i is told away =
+      let death = cut_by d lower i in
+      let k = taken_since death.front death.back d q is (subst (λ (l : List Entry). In q (records_of l)) (sym death.is) told) in
+      let at_death : slice_get journals c ≡ Some (death.front ++ d ∷ (death.back ++ rest)) = at ∙ ap (λ (l : List Entry). Some l) (ap (λ (l : List Entry). l ++ rest) (sym death.is) ∙ append_assoc death.front (d ∷ death.back) rest) in
+      let v = w.keeps.since c death.front (death.back ++ rest) d k.0 small at_death is (in_left k.0 death.back rest k.1) in
+      let by = v.by in
+      let early = low k.0 (subst (λ (l : List Entry). In k.0 l) death.is (in_right k.0 death.front (d ∷ death.back) (inr k.1))) in
+      let late = away v.beat v.returned in
+      omega (arith, by, early, late)
+
+  live : (c : ℕ) → c < p.cubs → (q : Rec) → In q (records_of (journal_of c front)) → (z : IsLast front (last_beat front))
       → IsLive c q.visit (last_beat front) q.tenancy
-  live c small alive q i z =
+  live c small q i z =
       let b : ℕ = last_beat front in
       let zb : b ≡ beat_of z.entry = z.beat in
       let z_log = bridge.in_log p r orders journals w beats front back is_log z.entry z.there in
@@ -136,9 +151,9 @@ module _ (p : Params) (r : Facts) (orders : List Order) (journals : List (List E
       let k = was_taken s.lower q old in
       let kb = s.below k.0 k.1 in
       let next : b - 1 + 1 ≡ b = omega arith in
+      let at : slice_get journals c ≡ Some (s.lower ++ (s.upper ++ tail)) = taken.stands.at ∙ ap (λ (l : List Entry). Some l) (sym j.1 ∙ ap (λ (l : List Entry). l ++ tail) (sym s.is) ∙ append_assoc s.lower s.upper tail) in
       ⊎_elim
       (λ ended.
-      let at : slice_get journals c ≡ Some (s.lower ++ (s.upper ++ tail)) = taken.stands.at ∙ ap (λ (l : List Entry). Some l) (sym j.1 ∙ ap (λ (l : List Entry). l ++ tail) (sym s.is) ∙ append_assoc s.lower s.upper tail) in
       let cut : IsCutAt journals c (b - 1) s.lower (s.upper ++ tail) = record {
         at = at;
         early = λ e l. let h = s.below e l in omega arith;
@@ -155,7 +170,13 @@ module _ (p : Params) (r : Facts) (orders : List Order) (journals : List (List E
             (in_cases e s.upper tail l);
       } in
       subst (λ (n : ℕ). IsLive c q.visit n q.tenancy) next (live_shown c q.visit (b - 1) q.tenancy (w.keeps.shows c (b - 1) ended.reading s.lower (s.upper ++ tail) q cut ended.ticked old)))
-      (λ d. let by = d.by in absurd (true≢false (sym (bridge.died_there p r orders journals w beats front back is_log c z.entry z.there d.beat d.died (omega arith)) ∙ alive)))
+      (λ (d : IsDeadIn r c (b - 1)).
+      let by = d.died.by in
+      let y = bridge.death_in p r orders journals w beats front back is_log c z.entry z.there d.died.beat d.died.died (omega arith) in
+      let yb = y.2.1 in
+      let low : In y.0 s.lower = ⊎_elim (λ l. l) (λ u. let h = s.above y.0 u in absurd (omega arith)) (in_cases y.0 s.lower s.upper (subst (λ (l : List Entry). In y.0 l) (sym s.is) y.1)) in
+      absurd (none_told c (b - 1) s.lower (s.upper ++ tail) q small at
+      (λ e i. let h = s.below e i in let g : e.stamp.beat ≤ b - 1 = omega (arith, h) in g) y.0 low y.2.0 old d.away))
       (w.keeps.ended z.entry.node c (b - 1) z.entry.entry (bridge.stands p r orders journals w beats z.entry z_log) (omega arith) small))
       (λ k.
       let here : In k.0 mine = subst (λ (l : List Entry). In k.0 l) s.is (in_right k.0 s.lower s.upper k.1) in
@@ -191,15 +212,15 @@ module _ (p : Params) (r : Facts) (orders : List Order) (journals : List (List E
       l.fresh)
       (holder_or front y t front_rises never (only_put y t i is) i is)
 
-  record_part : (c : ℕ) → c < p.cubs → list_any (λ (e : Entry). is_died e.what) (journal_of c front) ≡ false → (q : Rec) → In q (records_of (journal_of c front)) → IsPart p (moment_at front) q.tenancy q.visit
+  record_part : (c : ℕ) → c < p.cubs → (q : Rec) → In q (records_of (journal_of c front)) → IsPart p (moment_at front) q.tenancy q.visit
   unfolding moment_at
-  record_part c small alive q i =
+  record_part c small q i =
       let took = was_taken (journal_of c front) q i in
       let taken = taken_here c q took.0 took.1 took.2 in
       let put = put_here c q took.0 took.1 took.2 in
       let held = w.one.held c q.visit (beat_of taken.noted) q.tenancy taken.enters in
       let z = last_is front taken.noted taken.there front_rises in
-      let l = live c small alive q i z in
+      let l = live c small q i z in
       ⊎_elim
       (λ (some : is_stopped q.tenancy.instance.0 (schedule_of front).stops ≡ true). inr (just_stopped q.tenancy.instance.0 some l.recent))
       (λ (none : is_stopped q.tenancy.instance.0 (schedule_of front).stops ≡ false).
@@ -208,10 +229,8 @@ module _ (p : Params) (r : Facts) (orders : List Order) (journals : List (List E
 
   views_part : ViewsArePart p (moment_at front)
   unfolding moment_at
-  views_part c small = chosen (λ (rs : List Rec). AllByRecursion (λ q. IsPart p (moment_at front) q.tenancy q.visit) rs)
-      (list_any (λ (e : Entry). is_died e.what) (journal_of c front)) [] (records_of (journal_of c front))
-      (λ _. tt)
-      (λ alive. all_by (λ q. IsPart p (moment_at front) q.tenancy q.visit) (records_of (journal_of c front)) (λ q i. record_part c small alive q i))
+  views_part c small =
+      all_by (λ q. IsPart p (moment_at front) q.tenancy q.visit) (records_of (journal_of c front)) (λ q i. record_part c small q i)
 
 pub views_are_part : (p : Params) (r : Facts) (orders : List Order) (journals : List (List Entry)) (beats : ℕ) → IsRecorded p r orders journals → ViewsAreAlwaysPart p (order_of beats journals)
 views_are_part p r orders journals beats w = (part_at_fronts p (order_of beats journals)).1

@@ -25,13 +25,13 @@ use Rattle.run_model.specs.Views.{records_of}
 use Rattle.run_model.specs.Moments.{is_belief_of, is_put_of, moment_at}
 use Rattle.run_model.specs.Orders.{IsOrdered, is_up_to, end_of_tick, IsStartOf, IsRecentStop, IsTaken, IsNotPassedOver}
 use Rattle.run_claims.specs.Patience.{NobodyIsPassedOver}
-use Rattle.proof_schedule.specs.Facts.{Facts, BelievedBy, PutBy, ReachedBy, GoneBefore, DiedLongBefore, IsFirstLife, NobodyReturns}
+use Rattle.proof_schedule.specs.Facts.{Facts, BelievedBy, PutBy, ReachedBy, GoneBefore, DiedLongBefore, IsFirstLife}
 use Rattle.proof_schedule.specs.StartLaws.{Waits}
 use Rattle.lists.specs.Elements.{In}
 use Rattle.proof_moments.specs.Ties.{IsTickBelow, StandsIn, IsCutAt, IsHeldAt, IsPutAt}
 use Rattle.proof_moments.specs.Recorded.{IsRecorded}
 use Rattle.proof_moments.proofs.Lists.{any_by, any_with, any_passes, any_passing}
-use Rattle.lists.proofs.Elements.{chosen, in_filter, from_filter, in_cases}
+use Rattle.lists.proofs.Elements.{in_filter, from_filter, in_cases}
 use Rattle.proof_moments.proofs.Holders.{IsReplaced, holder_or, stop_from, stop_in}
 use Rattle.proof_moments.proofs.Ticks.{up_to_parts, up_to_by, tick_front}
 use Rattle.proof_moments.proofs.Bridge as bridge
@@ -61,8 +61,7 @@ belief_is d (what.Believed cub) e = (cub, refl, eqb-true _ _ e)
 belief_is d other e = absurd (cc)
 
 module _ (p : Params) (r : Facts) (orders : List Order) (journals : List (List Entry)) (w : IsRecorded p r orders journals) (beats c beat reading : ℕ)
-    (small : c < p.cubs) (known : beat < beats) (ticked : r.Ticked c beat reading)
-    (first : IsFirstLife r c beat) where
+    (small : c < p.cubs) (known : beat < beats) (ticked : r.Ticked c beat reading) where
   abbrev log : List Noted
   log = order_of beats journals
 
@@ -120,8 +119,8 @@ module _ (p : Params) (r : Facts) (orders : List Order) (journals : List (List E
   IsHere n = (c ≡ cub_of p n) ⊎ ((c ≡ cub_of p (n + 1)) × BelievedBy r c beat)
 
   -- whoever puts in the tick's beat at a visit of these cubs is this cub
-  who_here : (d n : ℕ) (t : Tenancy) → IsHere n → cub_of p t.first ≡ cub_of p n → r.Put d t beat → d ≡ c
-  who_here d n t here same put =
+  who_here : IsFirstLife r c beat → (d n : ℕ) (t : Tenancy) → IsHere n → cub_of p t.first ≡ cub_of p n → r.Put d t beat → d ≡ c
+  who_here first d n t here same put =
       let next : cub_of p (t.first + 1) ≡ cub_of p (n + 1) = sym (cub_ahead p t.first 1) ∙ ap (λ (k : ℕ). cub_of p (k + 1)) same ∙ cub_ahead p n 1 in
       let dead : DiedLongBefore p r c beat → ⊥ =
       λ l. let by = l.died.by in let long = l.long in let e = w.more.ended c beat reading l.died.beat ticked first l.died.died in absurd (omega arith) in
@@ -143,15 +142,31 @@ module _ (p : Params) (r : Facts) (orders : List Order) (journals : List (List E
       (w.one.who d beat t put))
       here
 
-  -- it has not died in the front
-  alive : list_any (λ (e : Entry). is_died e.what) (journal_of c front) ≡ true → ⊥
-  alive t =
-      let e = any_passing (λ (x : Entry). is_died x.what) (journal_of c front) t in
-      let m = mine e.0 e.1 in
-      let l = m.1 in
-      let d = w.tells.died c e.0 small m.0 (bridge.died_is e.0.what e.2) in
-      let a = w.more.ended c beat reading e.0.stamp.beat ticked first d in
-      absurd (omega arith)
+  -- of whom the front tells no death, has not come back
+  undied_first : list_any (λ (e : Entry). is_died e.what) (journal_of c front) ≡ false → IsFirstLife r c beat
+  undied_first none v back = ⊎_elim
+      (λ (later : beat < v). later)
+      (λ (by : v ≤ beat).
+      let d = w.more.returned c v back in
+      let db = d.by in
+      let k = bridge.logged p r orders journals w beats c d.beat (λ e. e.what ≡ what.Died) (w.logged.died c d.beat d.died) (omega arith) in
+      let kb = k.beat in
+      let kn = k.node in
+      let before : (beat_of k.entry < beat) ⊎ ((beat_of k.entry ≡ beat) × (k.entry.node ≤ c)) = ⊎_elim
+      (λ (e : d.beat ≡ beat). let same : beat_of k.entry ≡ beat = omega arith in let node : k.entry.node ≤ c = omega arith in inr (same, node))
+      (λ (l : d.beat < beat). let low : beat_of k.entry < beat = omega arith in inl low)
+      (eq-or-lt_of_le (omega arith)) in
+      let here = bridge.in_journal c front k.entry (there k.entry k.there before) k.node in
+      absurd (true≢false (sym (any_passes (λ (e : Entry). is_died e.what) (journal_of c front) k.entry.entry here (ap is_died k.is)) ∙ none)))
+      (cases_lt beat v)
+
+  -- nor has a cub that believes its predecessor dead: that one has died, so this one has not
+  believer_first : (n : ℕ) → c ≡ cub_of p (n + 1) → BelievedBy r c beat → IsFirstLife r c beat
+  believer_first n next b v back =
+      let behind : c ≡ cub_of p (cub_of p n + 1) = next ∙ sym (cub_ahead p n 1) in
+      let dead = w.one.trust c (cub_of p n) b.beat b.believed behind (cub_below p n w.plan.ranges) in
+      let d = w.more.returned c v back in
+      absurd (w.more.apart (cub_of p n) c dead.died.beat d.beat dead.died.died d.died behind)
 
   -- what its view shows after the tick, its journal tells
   shown_there : (t : Tenancy) (n : ℕ) → r.Shows c t n beat → (j : List Entry) → slice_get journals c ≡ Some j → (q : Rec) × In q (records_of (journal_of c front)) × (q.tenancy ≡ t) × (q.visit ≡ n)
@@ -183,10 +198,10 @@ module _ (p : Params) (r : Facts) (orders : List Order) (journals : List (List E
       w.keeps.shown c beat reading n t (journal_of c front) tail cut ticked s
 
   -- a visit in the window that is held and shown is taken at the end of the tick
-  seated : (slot n : ℕ) → IsHere n → due p slot n ≤ reading + p.window_a → reading + p.window_b < due p slot n → (j : List Entry) → slice_get journals c ≡ Some j → IsHeldAt p r c slot n beat
+  seated : IsFirstLife r c beat → (slot n : ℕ) → IsHere n → due p slot n ≤ reading + p.window_a → reading + p.window_b < due p slot n → (j : List Entry) → slice_get journals c ≡ Some j → IsHeldAt p r c slot n beat
       → IsTaken p (moment_at front) c beat slot n
   unfolding moment_at
-  seated slot n here below above j at k =
+  seated first slot n here below above j at k =
       let t : Tenancy = k.taken.holder in
       let same = k.taken.slot in
       let held = k.taken.held in
@@ -211,10 +226,7 @@ module _ (p : Params) (r : Facts) (orders : List Order) (journals : List (List E
       let q = shown_there t n k.shows j at in
       let q_slot : q.0.tenancy.slot.0 ≡ slot = ap (λ (u : Tenancy). u.slot.0) q.2 ∙ same in
       let q_stopped : AnyByRecursion (IsRecentStop p beat q.0.tenancy.instance.0) (schedule_of front).stops = subst (λ (u : Tenancy). AnyByRecursion (IsRecentStop p beat u.instance.0) (schedule_of front).stops) (sym q.2) stopped in
-      inr (chosen (λ (rs : List Rec). AnyByRecursion (λ (y : Rec). (y.tenancy.slot.0 ≡ slot) × (y.visit ≡ n) × AnyByRecursion (IsRecentStop p beat y.tenancy.instance.0) (schedule_of front).stops) rs)
-      (list_any (λ (e : Entry). is_died e.what) (journal_of c front)) [] (records_of (journal_of c front))
-      (λ d. absurd (alive d))
-      (λ _. any_with (λ (y : Rec). (y.tenancy.slot.0 ≡ slot) × (y.visit ≡ n) × AnyByRecursion (IsRecentStop p beat y.tenancy.instance.0) (schedule_of front).stops) (records_of (journal_of c front)) q.0 q.1 (q_slot, q.3, q_stopped))))
+      inr (any_with (λ (y : Rec). (y.tenancy.slot.0 ≡ slot) × (y.visit ≡ n) × AnyByRecursion (IsRecentStop p beat y.tenancy.instance.0) (schedule_of front).stops) (records_of (journal_of c front)) q.0 q.1 (q_slot, q.3, q_stopped)))
       (λ (none : is_stopped t.instance.0 (schedule_of front).stops ≡ false).
       let put = put_there held.cub x t held.put by in
       let pb = put.beat_is in
@@ -228,7 +240,7 @@ module _ (p : Params) (r : Facts) (orders : List Order) (journals : List (List E
       (λ (e : t.first ≡ n). e)
       (λ (l : t.first < n). let later = due_later p slot t.first n l in absurd (omega arith))
       (eq-or-lt_of_le low) in
-      let own : held.cub ≡ c = who_here held.cub n t here (ap (λ m. cub_of p m) at_first) (subst (λ m. r.Put held.cub t m) q held.put) in
+      let own : held.cub ≡ c = who_here first held.cub n t here (ap (λ m. cub_of p m) at_first) (subst (λ m. r.Put held.cub t m) q held.put) in
       let le : held.cub ≤ c = omega arith in
       inr (q, le))
       (λ (l : x < beat). inl l)
@@ -258,11 +270,14 @@ module _ (p : Params) (r : Facts) (orders : List Order) (journals : List (List E
     by : start ≤ beat
     waits : Waits p r c ask n start beat
     here : IsHere n
+    first : IsFirstLife r c beat
     journal : List Entry
     at : slice_get journals c ≡ Some journal
 
-  waiting_own : (ask : Ask) (n : ℕ) → IsOrdered orders ask → disk_of p n ≡ ask.disk.0 → ask.disk.0 % p.cubs ≡ c → AnyByRecursion (λ (e : Entry). IsStartOf ask.instance.0 false e.what) (journal_of c front) → IsWaiting ask n
-  waiting_own ask n ordered on disk any =
+  waiting_own : (ask : Ask) (n : ℕ) → IsOrdered orders ask → disk_of p n ≡ ask.disk.0 → ask.disk.0 % p.cubs ≡ c
+      → list_any (λ (e : Entry). is_died e.what) (journal_of c front) ≡ false
+      → AnyByRecursion (λ (e : Entry). IsStartOf ask.instance.0 false e.what) (journal_of c front) → IsWaiting ask n
+  waiting_own ask n ordered on disk undied any =
       let e = any_by (λ (x : Entry). IsStartOf ask.instance.0 false x.what) (journal_of c front) any in
       let s = start_is ask.instance.0 false e.0.what e.2 in
       let m = mine e.0 e.1 in
@@ -274,6 +289,7 @@ module _ (p : Params) (r : Facts) (orders : List Order) (journals : List (List E
         by = m.1;
         waits = record { disk = sym on; how = inl (subst (λ (x : Ask). r.Asked c x e.0.stamp.beat) same a.0, here) };
         here = inl here;
+        first = undied_first undied;
         journal = m.0.journal;
         at = m.0.at;
       }
@@ -298,6 +314,7 @@ module _ (p : Params) (r : Facts) (orders : List Order) (journals : List (List E
         by = m.1;
         waits = record { disk = sym on; how = inr (subst (λ (x : Ask). r.AskedApart c x e.0.stamp.beat) same a.0, here, belief) };
         here = inr (here, belief);
+        first = believer_first n here belief;
         journal = m.0.journal;
         at = m.0.at;
       }
@@ -307,7 +324,7 @@ module _ (p : Params) (r : Facts) (orders : List Order) (journals : List (List E
   start_taken ask slot n ordered k unput unstopped in_plan on window =
       let parts = window_parts p reading slot n window in
       ⊎_elim
-      (λ taken. seated slot n k.here parts.0 parts.1 k.journal k.at taken)
+      (λ taken. seated k.first slot n k.here parts.0 parts.1 k.journal k.at taken)
       (λ other. absurd (⊎_elim
       (λ (q : PutBy r ask.instance.0 beat).
       let by = q.by in
@@ -318,7 +335,7 @@ module _ (p : Params) (r : Facts) (orders : List Order) (journals : List (List E
       let cubs : cub_of p q.tenancy.first ≡ cub_of p n = visit_own p (ask.disk.0 % p.cubs) ask.disk.0 q.tenancy.first disk refl ∙ sym (visit_own p (ask.disk.0 % p.cubs) ask.disk.0 n on refl) in
       let early : (q.beat < beat) ⊎ ((q.beat ≡ beat) × (q.cub ≤ c)) = ⊎_elim
       (λ (e : q.beat ≡ beat).
-      let own = who_here q.cub n q.tenancy k.here cubs (subst (λ m. r.Put q.cub q.tenancy m) e q.put) in
+      let own = who_here k.first q.cub n q.tenancy k.here cubs (subst (λ m. r.Put q.cub q.tenancy m) e q.put) in
       let le : q.cub ≤ c = omega arith in inr (e, le))
       (λ (l : q.beat < beat). inl l)
       (eq-or-lt_of_le by) in
@@ -332,19 +349,18 @@ module _ (p : Params) (r : Facts) (orders : List Order) (journals : List (List E
       let l : beat_of y.entry < beat = omega arith in
       true≢false (sym (any_passes (λ (stop : Stop). stop.instance == ask.instance.0) (schedule_of front).stops _ (stop_in front y.entry y.is.instance (there y.entry y.there (inl l)) y.is.is) (eq-eqb _ _ y.is.same)) ∙ unstopped))
       other))
-      (w.more.waits c k.start beat reading slot n ask k.waits k.by ticked in_plan parts)
+      (w.more.waits c k.start beat reading slot n ask k.waits k.by ticked k.first in_plan parts)
 
   passes_nobody : IsNotPassedOver p orders (end_of_tick beat c log) c beat reading
   unfolding moment_at
   passes_nobody = record {
     taken = λ ask slot n ordered has unput unstopped in_plan on window. ⊎_elim
-        (λ k. start_taken ask slot n ordered (waiting_own ask n ordered on k.0 k.1) unput unstopped in_plan on window)
+        (λ k. start_taken ask slot n ordered (waiting_own ask n ordered on k.0 k.1.0 k.1.1) unput unstopped in_plan on window)
         (λ k. start_taken ask slot n ordered (waiting_apart ask n ordered on k.0 k.1.0 k.1.1) unput unstopped in_plan on window)
         has;
   }
 
-pub nobody_is_passed_over : (p : Params) (r : Facts) (orders : List Order) (journals : List (List Entry)) (beats : ℕ) → IsRecorded p r orders journals → NobodyReturns r
+pub nobody_is_passed_over : (p : Params) (r : Facts) (orders : List Order) (journals : List (List Entry)) (beats : ℕ) → IsRecorded p r orders journals
     → NobodyIsPassedOver p orders (IsTickBelow r beats) (order_of beats journals)
-nobody_is_passed_over p r orders journals beats w nobody c b l small k =
+nobody_is_passed_over p r orders journals beats w c b l small k =
     passes_nobody p r orders journals w beats c b l small k.1 k.0
-    (λ x back. absurd (nobody c x back))

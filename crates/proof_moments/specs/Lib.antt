@@ -5,4 +5,5 @@ pub mod Moments
 pub mod ParcelTies
 pub mod Recorded
 pub mod RecordedParcels
+pub mod ReturnExample
 pub mod Ties

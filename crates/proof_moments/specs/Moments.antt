@@ -9,7 +9,6 @@ use Rattle.run_model.specs.Parts.{ViewsAreAlwaysPart, EntriesAreLocal}
 use Rattle.run_claims.specs.Patience.{NobodyIsPassedOver}
 use Rattle.run_claims.specs.Returns.{NobodyComesBack}
 use Rattle.run_claims.specs.Truths.{BeliefsAreTrue}
-use Rattle.proof_schedule.specs.Facts.{NobodyReturns}
 use Rattle.proof_schedule.specs.Logs.{Fact, facts_in}
 use Rattle.proof_moments.specs.Ties.{IsTickBelow, Locals}
 use Rattle.proof_moments.specs.Recorded.{IsRecorded, ParcelsAreInTime}
@@ -39,11 +38,11 @@ RecordedViewsArePart =
     (p : Params) (log : List Fact) (orders : List Order) (journals : List (List Entry)) (beats : ℕ)
     → IsRecorded p (facts_in log) orders journals → ViewsAreAlwaysPart p (order_of beats journals)
 
--- If no cub comes back, no start is passed over at the end of each tick of a cub.
+-- No start is passed over at the end of each tick of a cub.
 abbrev pub NoStartIsPassedOver : Type 0
 NoStartIsPassedOver =
     (p : Params) (log : List Fact) (orders : List Order) (journals : List (List Entry)) (beats : ℕ)
-    → IsRecorded p (facts_in log) orders journals → NobodyReturns (facts_in log)
+    → IsRecorded p (facts_in log) orders journals
     → NobodyIsPassedOver p orders (IsTickBelow (facts_in log) beats) (order_of beats journals)
 
 -- What a cub takes and which viewer states it sends follows from what it has.

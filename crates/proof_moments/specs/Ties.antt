@@ -78,6 +78,10 @@ pub record Tells (p : Params) (r : Facts) (orders : List Order)
   -- A cub of whose death an entry tells died then.
   pub died : (n : ℕ) (e : Entry)
       → n < p.cubs → StandsIn journals n e → e.what ≡ what.Died → r.Died n e.stamp.beat
+  -- A cub of whose return an entry tells came back then, by its tick at the entry's reading.
+  pub returned : (n : ℕ) (e : Entry)
+      → n < p.cubs → StandsIn journals n e → e.what ≡ what.Returned
+      → r.Returned n e.stamp.beat × r.Ticked n e.stamp.beat e.stamp.reading
   -- A plain start that a cub got is one that it was asked for then, and one that was ordered.
   pub asked : (n : ℕ) (e : Entry) (link : LinkNo) (a : Ask)
       → n < p.cubs → StandsIn journals n e → e.what ≡ what.Got link (note.Start false a)
@@ -96,6 +100,8 @@ pub record Logged (p : Params) (r : Facts) (orders : List Order)
   pub gone : (v b : ℕ) → r.Gone v b → (n : ℕ) × IsLogged journals n b (IsGoneOf v)
   -- A death stands in the journal of the cub that died.
   pub died : (c b : ℕ) → r.Died c b → IsLogged journals c b (λ e. e.what ≡ what.Died)
+  -- A return stands in the journal of the cub that came back.
+  pub returned : (c b : ℕ) → r.Returned c b → IsLogged journals c b (λ e. e.what ≡ what.Returned)
   -- A belief stands in the journal of the cub that believes, and names its predecessor.
   pub believed : (c d b : ℕ)
       → r.Believed c b → c ≡ cub_of p (d + 1) → d < p.cubs
@@ -109,6 +115,17 @@ pub record IsCutAt (journals : List (List Entry)) (c b : ℕ)
   pub at : slice_get journals c ≡ Some (upper ++ lower)
   pub early : (e : Entry) → In e upper → e.stamp.beat ≤ b
   pub late : (e : Entry) → In e lower → b < e.stamp.beat
+
+-- Cub c died by beat b and had not come back by then.
+pub record IsDeadIn (r : Facts) (c b : ℕ) : Type 0 where
+  pub died : DiedBy r c b
+  pub away : IsFirstLife r c b
+
+-- Cub c came back in beat b or before it.
+pub record ReturnedBy (r : Facts) (c b : ℕ) : Type 0 where
+  pub beat : ℕ
+  pub returned : r.Returned c beat
+  pub by : beat ≤ b
 
 -- What order the entries of a journal have among themselves, and what the journal tells at a tick.
 -- Each field speaks of the journal of one node, but for `ended` and `one_order`.
@@ -132,9 +149,13 @@ pub record Keeps (p : Params) (r : Facts) (orders : List Order)
       → slice_get journals n ≡ Some (xs ++ e ∷ ys) → e.what ≡ what.Took q
       → ((f : Entry) × In f xs × (f.what ≡ what.Put q.tenancy))
       ⊎ ((c x : ℕ) × r.Put c q.tenancy x × (x < e.stamp.beat))
-  -- If some entry is of a later beat, each cub has ended the beat, or died.
+  -- If some entry is of a later beat, each cub has ended the beat, or was dead in it.
   pub ended : (n c b : ℕ) (e : Entry)
-      → StandsIn journals n e → b < e.stamp.beat → c < p.cubs → Ended r c b ⊎ DiedBy r c b
+      → StandsIn journals n e → b < e.stamp.beat → c < p.cubs → Ended r c b ⊎ IsDeadIn r c b
+  -- What stands behind a cub's death is written since its return.
+  pub since : (n : ℕ) (xs ys : List Entry) (e f : Entry)
+      → n < p.cubs → slice_get journals n ≡ Some (xs ++ e ∷ ys) → e.what ≡ what.Died → In f ys
+      → ReturnedBy r n f.stamp.beat
   -- Each record that a cub's journal tells of after a tick is in its view.
   pub shows : (c b l : ℕ) (upper lower : List Entry) (q : Rec)
       → IsCutAt journals c b upper lower → r.Ticked c b l → In q (records_of upper)
@@ -157,16 +178,21 @@ pub record IsHeldAt (p : Params) (r : Facts) (c s n b : ℕ) : Type 0 where
 pub record Besides (p : Params) (r : Facts) : Type 0 where
   -- A cub that ended a beat of its first life by its tick dies, if at all, in a later one.
   pub ended : (c b l a : ℕ) → r.Ticked c b l → IsFirstLife r c b → r.Died c a → b < a
-  -- A cub puts nothing after the beat of its death.
+  -- Who comes back has died.
+  pub returned : (c w : ℕ) → r.Returned c w → DiedBy r c w
+  -- Of two neighbours at most one dies.
+  pub apart : (c d a b : ℕ) → r.Died c a → r.Died d b → d ≡ cub_of p (c + 1) → ⊥
+  -- A cub puts nothing after the beat of its death, nor when it has come back.
   pub put : (c x a : ℕ) (t : Tenancy) → r.Put c t x → r.Died c a → x ≤ a
   -- A reading is the true time of its beat, or at most the skew above it.
   pub reads : (c b l : ℕ) → r.Ticked c b l → (time_of p b ≤ l) × (l ≤ time_of p b + p.skew)
   -- A record in a view after a tick is not due when its beat begins.
   pub undue : (c n b : ℕ) (t : Tenancy) → r.Shows c t n b → time_of p b < due p t.slot.0 n
-  -- While a start waits, each visit of its disk in the window is taken, and the cub's view shows
-  -- that.
+  -- While a start waits at a cub in its first life, each visit of its disk in the window is taken,
+  -- and the cub's view shows that. A cub that has come back discards starts.
   pub waits : (c y b l s n : ℕ) (ask : Ask)
-      → Waits p r c ask n y b → y ≤ b → r.Ticked c b l → s < p.slots → IsInWindow p l s n
+      → Waits p r c ask n y b → y ≤ b → r.Ticked c b l → IsFirstLife r c b
+      → s < p.slots → IsInWindow p l s n
       → IsHeldAt p r c s n b ⊎ (PutBy r ask.instance.0 b ⊎ ReachedBy r c ask.instance.0 b)
 
 -- A cub ends a beat below a number by its tick, at a reading.
@@ -185,11 +211,9 @@ pub record Locals (p : Params) (journals : List (List Entry)) : Type 0 where
   -- No entry is stamped before its beat begins.
   pub read : (n : ℕ) (e : Entry)
       → n < p.cubs → StandsIn journals n e → time_of p e.stamp.beat ≤ e.stamp.reading
-  -- For a viewer state that a cub sends, the journal before it tells of an own record.
+  -- For a viewer state that a cub sends, the journal before it tells of an own record, which the
+  -- cub took in the same life.
   pub sent : (n : ℕ) (xs ys : List Entry) (e : Entry) (link : LinkNo) (s : State)
       → n < p.cubs → slice_get journals n ≡ Some (xs ++ e ∷ ys)
       → e.what ≡ what.Sent link (note.ViewerState s)
       → AnyByRecursion (IsOwnRecordFor s) (records_of xs)
-  -- Nothing stands behind a cub's death.
-  pub ends : (n : ℕ) (xs ys : List Entry) (e f : Entry)
-      → n < p.cubs → slice_get journals n ≡ Some (xs ++ e ∷ ys) → In f xs → f.what ≡ what.Died → ⊥

@@ -5,6 +5,7 @@ ghost use Rattle.proof_moments.specs.Delivered.{RecordedFailuresAreTrue, Recorde
 ghost use Rattle.proof_moments.specs.DeliveryExample.{ParcelTiesCanBeMet};
 ghost use Rattle.proof_moments.specs.Example.{TiesCanBeMet};
 ghost use Rattle.proof_moments.specs.Moments.{NoInstanceReturns, NoStartIsPassedOver, RecordedBeliefsAreTrue, RecordedEntriesAreLocal, RecordedPutsAreFair, RecordedViewsArePart};
+ghost use Rattle.proof_moments.specs.ReturnExample.{ReturnTiesCanBeMet};
 
 /// Each Put finds its slot free at the moment before it, and is rightly put, by whichever cub.
 pub fn puts_are_fair()
@@ -26,7 +27,7 @@ pub fn views_are_part()
     ensures { RecordedViewsArePart }
 {}
 
-/// If no cub comes back, no start is passed over at the end of each tick of a cub.
+/// No start is passed over at the end of each tick of a cub.
 pub fn nobody_is_passed_over()
     ensures { NoStartIsPassedOver }
 {}
@@ -69,4 +70,10 @@ pub fn parcels_are_in_time()
 /// The ties are not empty words: journals of a run in which a block comes whole and another in pieces meet them.
 pub fn parcel_ties_can_be_met()
     ensures { ParcelTiesCanBeMet }
+{}
+
+/// Nor are they of a run in which a cub comes back.
+#[tactic(auto, using(crate::proofs::ReturnExample::return_ties_met))]
+pub fn return_ties_can_be_met()
+    ensures { ReturnTiesCanBeMet }
 {}

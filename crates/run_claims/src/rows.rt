@@ -11,7 +11,7 @@ ghost use Rattle.run_claims.specs.Visits.{AreServedOnce};
 ghost use Rattle.run_claims.specs.Truths.{BeliefsAreTrue, FailuresAreTrue};
 ghost use Rattle.run_claims.specs.Turns.{AreInTurn};
 ghost use Rattle.run_claims.specs.Patience.{NobodyIsPassedOver};
-ghost use Rattle.run_model.specs.Samples.{three, gone, put, took, want, bytes, sends, gets, asks, asked, fails, dies, believes, IsOfTen, seated, block, piece, ask, ordered, starts, seat};
+ghost use Rattle.run_model.specs.Samples.{three, gone, put, took, want, bytes, sends, gets, asks, asked, fails, dies, is_back, believes, IsOfTen, seated, block, piece, ask, ordered, starts, seat};
 ghost use Rattle.run_claims.specs.Samples.{faulty, once, IsServedBy, two_beats};
 
 /// Instance 0 is stopped in beat 10. The longest way lasts two beats and a block plays for 100.
@@ -35,12 +35,17 @@ pub fn one_per_visit()
     ensures two_asks { AreServedOnce small (asks 0 40 (want 0 0 0) ∷ asks 0 41 (want 0 0 0) ∷ []) → ⊥ }
     ensures asks_of_two { AreServedOnce small (asks 0 40 (want 0 0 0) ∷ asks 0 41 (want 1 0 0) ∷ []) → ⊥ }
     ensures pieces_of_dead { AreServedOnce small (dies 0 30 ∷ asks 1 40 (want 0 0 1) ∷ asks 2 90 (want 0 0 2) ∷ []) }
+    ensures pieces_of_returned { AreServedOnce small
+        (dies 0 30 ∷ is_back 0 32 ∷ asks 1 40 (want 0 0 1) ∷ []) }
+    ensures returned_before_death { AreServedOnce small
+        (is_back 0 30 ∷ asks 1 40 (want 0 0 1) ∷ dies 0 50 ∷ []) → ⊥ }
     ensures piece_of_living { AreServedOnce small (dies 1 30 ∷ asks 1 40 (want 0 0 1) ∷ []) → ⊥ }
 {}
 
 /// Cub 1 believes cub 0 dead.
 pub fn true_belief()
     ensures of_dead { BeliefsAreTrue (dies 0 30 ∷ believes 1 150 0 ∷ []) }
+    ensures of_returned { BeliefsAreTrue (dies 0 30 ∷ is_back 0 60 ∷ believes 1 150 0 ∷ []) }
     ensures of_living { BeliefsAreTrue (dies 2 30 ∷ believes 1 150 0 ∷ []) → ⊥ }
     ensures too_soon { BeliefsAreTrue (believes 1 29 0 ∷ dies 0 30 ∷ []) → ⊥ }
 {}
@@ -68,6 +73,15 @@ pub fn excuses()
     ensures stopped { (s : IsOfTen) → IsServedBy s 2500000 (seated ∷ gone 149 0 ∷ []) }
     ensures stopped_late { (s : IsOfTen) → IsServedBy s 2500000 (seated ∷ gone 150 0 ∷ []) → ⊥ }
     ensures other_stopped { (s : IsOfTen) → IsServedBy s 2500000 (seated ∷ gone 149 1 ∷ []) → ⊥ }
+{}
+
+/// Visit 17 of instance 0 is cub 1's and due at 17500000, so it is settled from 19500000 on. Cub 1 has died,
+/// and a piece of the block is lost. A cub that came back at 7500000 has to serve the visit all the same.
+pub fn returns()
+    ensures too_late { (s : IsOfTen) → IsServedBy s 19500000 (put 0 1 (seat 0 16 17) ∷ dies 1 100
+        ∷ is_back 1 751 ∷ fails 0 1640 (want 0 16 0) ∷ fails 2 1740 (want 0 17 1) ∷ []) }
+    ensures in_time { (s : IsOfTen) → IsServedBy s 19500000 (put 0 1 (seat 0 16 17) ∷ dies 1 100
+        ∷ is_back 1 750 ∷ fails 0 1640 (want 0 16 0) ∷ fails 2 1740 (want 0 17 1) ∷ []) → ⊥ }
 {}
 
 /// What the viewers get is of a tenancy that was put, and has its block's bytes or a piece's.
@@ -100,6 +114,10 @@ pub fn patience()
     ensures stopped { NobodyIsPassedOver small ordered (once 2 20000) (starts 0 1 ask false ∷ gone 1 0 ∷ []) }
     ensures silent { NobodyIsPassedOver small ordered (once 780 7800000)
         (gone 600 1 ∷ starts 0 640 ask false ∷ took 0 650 (own_of (seat 1 8 10) 8) ∷ []) → ⊥ }
+    ensures returned { NobodyIsPassedOver small ordered (once 5 50000)
+        (dies 0 2 ∷ is_back 0 4 ∷ starts 0 4 ask false ∷ []) }
+    ensures other_returned { NobodyIsPassedOver small ordered (once 5 50000)
+        (dies 2 2 ∷ is_back 2 4 ∷ starts 0 4 ask false ∷ []) → ⊥ }
     ensures passed_over { NobodyIsPassedOver small ordered (once 1 10000) (starts 0 1 ask false ∷ []) → ⊥ }
 {}
 

@@ -26,6 +26,10 @@ or_false : (b : Bool) → (b || false) ≡ b
 or_false true = refl
 or_false false = refl
 
+or_true : (b : Bool) → (b || true) ≡ true
+or_true true = refl
+or_true false = refl
+
 -- an entry that drops none of what is taken leaves it
 taken_kept : (w : What) (e : Entry) (es : List Entry) → ((r : Rec) → drops r e.what ≡ false) → taken_by w (es ++ e ∷ []) ≡ taken_by w es
 taken_kept (what.Took r) e es h = rw (list_any-append (λ f. drops r f.what) es (e ∷ []), h r, or_false) refl
@@ -54,9 +58,20 @@ records_kept e [] h = append-nil (taken_by e.what [])
 records_kept e (d ∷ ds) h =
     rw (taken_kept d.what e ds h, records_kept e ds h) (sym (append_assoc (taken_by d.what ds) (records_of ds) (taken_by e.what [])))
 
+-- an entry that empties the view leaves none
+taken_gone : (w : What) (e : Entry) (es : List Entry) → ((r : Rec) → drops r e.what ≡ true) → taken_by w (es ++ e ∷ []) ≡ []
+taken_gone (what.Took r) e es h = rw (list_any-append (λ f. drops r f.what) es (e ∷ []), h r, or_true) refl
+taken_gone other e es h = refl
+
+records_gone : (e : Entry) (es : List Entry) → taken_by e.what [] ≡ [] → ((r : Rec) → drops r e.what ≡ true) → records_of (es ++ e ∷ []) ≡ []
+records_gone e [] none h = rw none refl
+records_gone e (d ∷ ds) none h = rw (taken_gone d.what e ds h, records_gone e ds none h) refl
+
 records_by : (w : What) (e : Entry) (es : List Entry) → e.what ≡ w → records_of (es ++ e ∷ []) ≡ recorded (records_of es) w
 records_by (what.Dropped r) e es h = records_dropped r e es h
 records_by (what.Took q) e es h = records_kept e es (λ r. rw h refl) ∙ rw h refl
+records_by what.Died e es h = records_gone e es (rw h refl) (λ r. rw h refl)
+records_by what.Returned e es h = records_gone e es (rw h refl) (λ r. rw h refl)
 records_by other e es h = records_kept e es (λ r. rw h refl) ∙ rw h (append-nil (records_of es))
 
 pub records_more : (e : Entry) (es : List Entry) → records_of (es ++ e ∷ []) ≡ recorded (records_of es) e.what

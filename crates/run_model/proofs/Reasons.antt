@@ -1,8 +1,8 @@
 -- The tests of what is excused are true exactly of what is.
-use Rattle.std.proofs.Common.{◌≡◌, ℕ, ◌+◌, ◌-◌, ◌<◌, ◌≤◌, Bool, ◌&&◌, ◌||◌, IsTrue, nat_lt, nat_le, List, refl, subst, arith}
+use Rattle.std.proofs.Common.{◌≡◌, ℕ, ◌+◌, ◌-◌, ◌<◌, ◌≤◌, Bool, true, false, not, ◌&&◌, ◌||◌, IsTrue, nat_lt, nat_le, List, refl, sym, ◌∙◌, subst, arith}
 use Rattle.std.specs.Prelude.{◌==◌, ◌↔◌, ◌⊎◌}
 use Rattle.std.specs.List.{list_any}
-use Rattle.std.proofs.lemmas.Bool.{false≢true}
+use Rattle.std.proofs.lemmas.Bool.{false≢true, true≢false, false_from_ne_true}
 use Rattle.tiger_base.specs.declared.tenancy.Tenancy.{Tenancy}
 use Rattle.slot_plan.specs.declared.params.Params.{Params}
 use Rattle.slot_plan.specs.Times.{due, cub_of, time_of, takeover}
@@ -11,12 +11,12 @@ use Rattle.node_kit.specs.declared.journal.What.{What}
 use Rattle.node_kit.specs.declared.journal.What.TheVariants as what
 use Rattle.node_kit.specs.declared.journal.Entry.{Entry}
 use Rattle.run_facts.specs.Commanded.{is_gone_of}
-use Rattle.run_facts.specs.Timed.{is_died}
+use Rattle.run_facts.specs.Timed.{is_died, is_returned}
 use Rattle.run_model.specs.Fronts.{AnyByRecursion}
 use Rattle.run_model.specs.Served.{journal_at}
-use Rattle.run_model.specs.Excuses.{IsFailedRead, IsDeath, IsStopOf, ReadFailed, PieceIsLost, LostInPieces, LostInDeath, WasStopped, IsExcused}
-use Rattle.run_model.specs.Tests.{some_below, is_failed_read, read_failed, died_between, died_before, piece_is_lost, lost_in_pieces, lost_in_death, stopped_before, was_stopped, has_excuse, some_tenancy}
-use Rattle.run_model.proofs.Reflects.{and_both, and_left, and_right, both, either, equal, less, at_most, any, some_found, some_gives}
+use Rattle.run_model.specs.Excuses.{IsFailedRead, IsDeath, IsReturn, IsStopOf, ReadFailed, serves_after, lets_in_after, WasBackBy, DiedBeforePiece, PieceIsLost, IsUnservedBack, LostInPieces, DiedTooLate, LostInDeath, WasStopped, IsExcused}
+use Rattle.run_model.specs.Tests.{some_below, is_failed_read, read_failed, died_between, died_before, was_back_by, died_before_piece, piece_is_lost, is_unserved_back, lost_in_pieces, lost_in_death, stopped_before, was_stopped, has_excuse, some_tenancy}
+use Rattle.run_model.proofs.Reflects.{and_both, and_left, and_right, both, either, equal, less, at_most, any, some_found, some_gives, negated}
 use Rattle.run_model.proofs.Deliveries.{tenancy_found, tenancy_gives}
 
 -- what an entry says
@@ -35,6 +35,17 @@ failed_read v n k other = ((λ h. absurd (false≢true h)), (λ e. absurd e))
 death : (w : What) → IsTrue (is_died w) ↔ IsDeath w
 death what.Died = ((λ h. tt), (λ g. refl))
 death other = ((λ h. absurd (false≢true h)), (λ e. absurd e))
+
+pub return_said : (w : What) → IsTrue (is_returned w) ↔ IsReturn w
+return_said what.Returned = ((λ h. tt), (λ g. refl))
+return_said other = ((λ h. absurd (false≢true h)), (λ e. absurd e))
+
+-- what a test denies is not so
+pub denied : (a : Bool) (P : Type 0) → IsTrue a ↔ P → IsTrue (not a) ↔ (P → ⊥)
+denied a P p = (
+  (λ h q. true≢false (sym (p.1 q) ∙ (negated a).0 h)),
+  (λ g. (negated a).1 (false_from_ne_true a (λ t. g (p.0 t)))),
+)
 
 pub stop_of : (v : ℕ) (w : What) → IsTrue (is_gone_of v w) ↔ IsStopOf v w
 stop_of v (what.Gone instance) = equal instance.0 v
@@ -86,18 +97,45 @@ stops_before p v time journal =
     (λ e. both (is_gone_of v e.what) (nat_lt (time_of p e.stamp.beat) time) (IsStopOf v e.what) (time_of p e.stamp.beat < time) (stop_of v e.what) (less (time_of p e.stamp.beat) time))
     journal
 
+pub comes_back_by : (span time : ℕ) (journal : List Entry)
+    → IsTrue (was_back_by span time journal) ↔ AnyByRecursion (λ e. IsReturn e.what × (e.stamp.reading + span ≤ time)) journal
+comes_back_by span time journal =
+    any (λ e. IsReturn e.what × (e.stamp.reading + span ≤ time)) (λ e. is_returned e.what && nat_le (e.stamp.reading + span) time)
+    (λ e. both (is_returned e.what) (nat_le (e.stamp.reading + span) time) (IsReturn e.what) (e.stamp.reading + span ≤ time) (return_said e.what) (at_most (e.stamp.reading + span) time))
+    journal
+
+pub piece_dead : (p : Params) (journals : List (List Entry)) (t : Tenancy) (n k : ℕ)
+    → IsTrue (died_before_piece p (leaving (due p t.slot.0 n) k p.play p.pieces) (journal_at journals (cub_of p (n + k))))
+    ↔ DiedBeforePiece p journals t n k
+piece_dead p journals t n k =
+    let time = leaving (due p t.slot.0 n) k p.play p.pieces in
+    let own = journal_at journals (cub_of p (n + k)) in
+    let back = WasBackBy journals (cub_of p (n + k)) (lets_in_after p) time in
+    both (died_before p 1 (time + p.beat) own) (not (was_back_by (lets_in_after p) time own))
+    (AnyByRecursion (λ e. IsDeath e.what × (time_of p e.stamp.beat < time + p.beat)) own) (back → ⊥)
+    (dies_below p (time + p.beat) own) (denied (was_back_by (lets_in_after p) time own) back (comes_back_by (lets_in_after p) time own))
+
+pub unserved_back : (p : Params) (journals : List (List Entry)) (t : Tenancy) (n : ℕ)
+    → IsTrue (is_unserved_back p journals t n) ↔ IsUnservedBack p journals t n
+unserved_back p journals t n =
+    let time = due p t.slot.0 n in
+    let own = journal_at journals (cub_of p n) in
+    let back = WasBackBy journals (cub_of p n) (serves_after p) time in
+    either (n == t.first) (not (was_back_by (serves_after p) time own)) (n ≡ t.first) (back → ⊥)
+    (equal n t.first) (denied (was_back_by (serves_after p) time own) back (comes_back_by (serves_after p) time own))
+
 -- the four excuses
 piece_loss : (p : Params) (journals : List (List Entry)) (t : Tenancy) (n k : ℕ) → IsTrue (piece_is_lost p journals t n k) ↔ PieceIsLost p journals t n k
 unfolding piece_is_lost
 piece_loss p journals t n k =
     let v = t.instance.0 in
-    let end = leaving (due p t.slot.0 n) k p.play p.pieces + p.beat in
+    let time = leaving (due p t.slot.0 n) k p.play p.pieces in
     let own = journal_at journals (cub_of p (n + k)) in
-    either (list_any (read_failed v n k) journals) (died_before p 1 end own)
+    either (list_any (read_failed v n k) journals) (died_before_piece p time own)
     (AnyByRecursion (λ journal. AnyByRecursion (λ e. IsFailedRead v n k e.what) journal) journals)
-    (AnyByRecursion (λ e. IsDeath e.what × (time_of p e.stamp.beat < end)) own)
+    (DiedBeforePiece p journals t n k)
     (any (λ journal. AnyByRecursion (λ e. IsFailedRead v n k e.what) journal) (read_failed v n k) (read_fails v n k) journals)
-    (dies_below p end own)
+    (piece_dead p journals t n k)
 
 pieces_loss : (p : Params) (journals : List (List Entry)) (t : Tenancy) (n : ℕ) → IsTrue (lost_in_pieces p journals t n) ↔ LostInPieces p journals t n
 unfolding lost_in_pieces
@@ -105,12 +143,15 @@ pieces_loss p journals t n =
     let own = journal_at journals (cub_of p n) in
     let a = died_before p (takeover p) (due p t.slot.0 n) own in
     let test : ℕ → Bool = λ before. piece_is_lost p journals t n (before + 1) in
-    let b = some_below test p.pieces in (
+    let b = some_below test p.pieces in
+    let away = is_unserved_back p journals t n in (
       (λ h.
-          let f = some_found test p.pieces (and_right a b h) in
+          let rest = and_right a (away && b) h in
+          let f = some_found test p.pieces (and_right away b rest) in
           let l : f.0 < p.pieces = f.1 in
           record {
-            died = (dies_before p (takeover p) (due p t.slot.0 n) own).0 (and_left a b h);
+            died = (dies_before p (takeover p) (due p t.slot.0 n) own).0 (and_left a (away && b) h);
+            away = (unserved_back p journals t n).0 (and_left away b rest);
             piece = f.0 + 1;
             low = omega arith;
             high = omega arith;
@@ -121,14 +162,21 @@ pieces_loss p journals t n =
           let high = g.high in
           let e : g.piece ≡ g.piece - 1 + 1 = omega arith in
           let lost = subst (λ (k : ℕ). PieceIsLost p journals t n k) e g.lost in
-          and_both a b ((dies_before p (takeover p) (due p t.slot.0 n) own).1 g.died)
-          (some_gives test p.pieces (g.piece - 1) (omega arith) ((piece_loss p journals t n (g.piece - 1 + 1)).1 lost))),
+          and_both a (away && b) ((dies_before p (takeover p) (due p t.slot.0 n) own).1 g.died)
+          (and_both away b ((unserved_back p journals t n).1 g.away)
+          (some_gives test p.pieces (g.piece - 1) (omega arith) ((piece_loss p journals t n (g.piece - 1 + 1)).1 lost)))),
     )
 
-pub death_loss : (p : Params) (journals : List (List Entry)) (t : Tenancy) (n : ℕ) → IsTrue (lost_in_death p journals t n) ↔ LostInDeath p journals t n
+pub late_death : (p : Params) (journals : List (List Entry)) (t : Tenancy) (n : ℕ) → IsTrue (lost_in_death p journals t n) ↔ DiedTooLate p journals t n
 unfolding lost_in_death
-death_loss p journals t n =
+late_death p journals t n =
     dies_between p (takeover p) (due p t.slot.0 n) (due p t.slot.0 n + p.beat) (journal_at journals (cub_of p n))
+
+pub death_loss : (p : Params) (journals : List (List Entry)) (t : Tenancy) (n : ℕ)
+    → IsTrue (lost_in_death p journals t n && is_unserved_back p journals t n) ↔ LostInDeath p journals t n
+death_loss p journals t n =
+    both (lost_in_death p journals t n) (is_unserved_back p journals t n) (DiedTooLate p journals t n) (IsUnservedBack p journals t n)
+    (late_death p journals t n) (unserved_back p journals t n)
 
 stop_loss : (p : Params) (journals : List (List Entry)) (t : Tenancy) (n : ℕ) → IsTrue (was_stopped p journals t n) ↔ WasStopped p journals t n
 unfolding was_stopped
@@ -147,7 +195,7 @@ excuse p journals t n =
     let own = journal_at journals (cub_of p n) in
     let a = read_failed t.instance.0 n 0 own in
     let b = lost_in_pieces p journals t n in
-    let c = lost_in_death p journals t n in
+    let c = lost_in_death p journals t n && is_unserved_back p journals t n in
     let d = was_stopped p journals t n in
     either a (b || (c || d)) (ReadFailed journals (cub_of p n) t.instance.0 n 0) (LostInPieces p journals t n ⊎ (LostInDeath p journals t n ⊎ WasStopped p journals t n))
     (read_fails t.instance.0 n 0 own)

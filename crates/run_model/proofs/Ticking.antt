@@ -1,4 +1,4 @@
--- In which beats a node that does not return ends a whole tick: in all, or in those below its death's.
+-- In which beats a node ends a whole tick: in all, or in those below its death's, and in no other if it does not return.
 use Rattle.std.proofs.Common.{◌≡◌, ℕ, ◌<◌, ◌≤◌, ◌==◌, ◌&&◌, ◌||◌, nat_lt, Bool, true, false, Option, Some, None, refl, sym, subst, ◌∙◌, arith}
 use Rattle.std.specs.Prelude.{is_some}
 use Rattle.std.proofs.lemmas.Bool.{lt-ltb, ltb-true, ne_eqb}
@@ -39,12 +39,3 @@ ends_below d left b ends = by (nat_lt b d) (b == d) refl refl
         let ended : ends_in (record { death = Some d; left = left; back = None; over = false }) b ≡ true = rw y left_some in
         let z : true ≡ false = sym ended ∙ ends.1 in absurd (cc)
     by false false x y = let z : false ≡ true = sym (acts_by d left b false false x y) ∙ ends.0 in absurd (cc)
-
--- so who ends a beat ended each before it
-pub ended_before : (death left : Option ℕ) (b last : ℕ) → b ≤ last
-    → EndsBeat (record { death = death; left = left; back = None; over = false }) last
-    → EndsBeat (record { death = death; left = left; back = None; over = false }) b
-ended_before None left b last low ends = ends_undying _ b refl
-ended_before (Some d) left b last low ends =
-    let end = ends_below d left last ends in
-    ends_before _ d b refl (omega (arith, end, low))

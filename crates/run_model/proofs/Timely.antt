@@ -1,7 +1,7 @@
 -- The tests of what is timed are true exactly of what is.
-use Rattle.std.proofs.Common.{◌≡◌, ℕ, zero, suc, ◌+◌, ◌%◌, ◌<◌, ◌≤◌, Bool, true, false, not, ◌&&◌, IsTrue, nat_lt, nat_le, List, [], ◌∷◌, ◌++◌, Option, Some, None, is_some, slice_get, refl, ap, subst, ⊎_elim, inl, inr, arith, add-zero}
+use Rattle.std.proofs.Common.{◌≡◌, ℕ, zero, suc, ◌+◌, ◌%◌, ◌<◌, ◌≤◌, Bool, true, false, not, ◌&&◌, IsTrue, nat_lt, nat_le, List, [], ◌∷◌, ◌++◌, Option, Some, None, is_some, slice_get, refl, sym, ap, subst, ⊎_elim, inl, inr, arith, add-zero}
 use Rattle.std.specs.Prelude.{◌==◌, ◌↔◌, ◌⊎◌, if◌then◌else◌}
-use Rattle.std.specs.List.{list_all, AllByRecursion}
+use Rattle.std.specs.List.{list_all, fold, AllByRecursion}
 use Rattle.std.proofs.lemmas.Bool.{false≢true}
 use Rattle.tiger_base.specs.declared.number.Stamp.{Stamp}
 use Rattle.slot_plan.specs.declared.params.Params.{Params}
@@ -11,11 +11,11 @@ use Rattle.node_kit.specs.declared.course.Kept.{Kept}
 use Rattle.node_kit.specs.declared.journal.What.{What}
 use Rattle.node_kit.specs.declared.journal.What.TheVariants as what
 use Rattle.node_kit.specs.declared.journal.Entry.{Entry}
-use Rattle.node_kit.specs.Life.{Lifetime, death_of, lifetime_of}
-use Rattle.run_facts.specs.Timed.{IsRead, IsNotBelow, AreRising, is_died, death_within, IsUntil, IsLater, EndsInDeath, IsDeathOf, IsTimed, AreTimed, DieApart}
-use Rattle.run_model.specs.Runs.{IsTimedRun}
+use Rattle.node_kit.specs.Life.{Lifetime, death_of, back_of, lifetime_of}
+use Rattle.run_facts.specs.Timed.{IsRead, IsNotBelow, AreRising, is_died, is_returned, death_within, AreReturned, IsUntil, IsLater, EndsInDeath, IsDeathOf, IsTimed, AreTimed, DieApart}
+use Rattle.run_model.specs.Runs.{TellsReturn, IsTimedRun}
 use Rattle.run_model.specs.declared.timing.End.{End}
-use Rattle.run_model.specs.Tests.{is_timed_run, each_from, all_below, is_read, rises_from, is_empty, is_until, stands_later, is_later, ends_in_death, dies_as, is_timed, timed_in, one_lives}
+use Rattle.run_model.specs.Tests.{is_timed_run, each_from, all_below, is_read, rises_from, is_empty, is_until, stands_later, is_later, ends_in_death, dies_as, is_timed, timed_in, is_in_beat, may_follow, returns_as, returns_in, one_lives}
 use Rattle.run_model.proofs.Reflects.{and_both, and_left, and_right, both, negated, equal, less, at_most, all, each_found, each_gives}
 
 reads : (p : Params) (e : Entry) → IsTrue (is_read p e) ↔ IsRead p e
@@ -244,11 +244,84 @@ all_apart c = (
   (λ g. each_gives (one_lives c) c.plan.params.cubs (λ n l. (none_or (death_of c n) (death_of c ((n + 1) % c.plan.params.cubs))).1 (g n l))),
 )
 
+-- returns
+backs : (back : Option ℕ) (beat : ℕ) → IsTrue (is_in_beat back beat) ↔ (back ≡ Some beat)
+backs None beat = ((λ h. absurd (false≢true h)), (λ e. absurd (cc)))
+backs (Some back) beat = (
+  (λ h. ap (λ (n : ℕ). Some n) ((equal back beat).0 h)),
+  (λ e. let same : back ≡ beat = cc in (equal back beat).1 same),
+)
+
+-- an entry may stand behind one that is a death, or is none
+abbrev pub Follows : Bool → Bool → Option ℕ → ℕ → Type 0
+Follows said died back beat = (said ≡ died) × (died ≡ true → back ≡ Some beat)
+
+pub follows : (said died : Bool) (back : Option ℕ) (beat : ℕ)
+    → IsTrue (if said then died && is_in_beat back beat else not died) ↔ Follows said died back beat
+follows true true back beat = ((λ h. (refl, λ t. (backs back beat).0 h)), (λ g. (backs back beat).1 (g.1 refl)))
+follows true false back beat = ((λ h. absurd (false≢true h)), (λ g. absurd (false≢true (sym g.0))))
+follows false true back beat = ((λ h. absurd (false≢true h)), (λ g. absurd (false≢true g.0)))
+follows false false back beat = ((λ h. (refl, λ t. absurd (false≢true t))), (λ g. refl))
+
+no_end : (died : Bool) (within : Option ℕ) → IsTrue (not (died && is_some within)) ↔ (died ≡ true → within ≡ None)
+no_end true None = ((λ h t. refl), (λ g. refl))
+no_end true (Some w) = ((λ h. absurd (false≢true h)), (λ g. let e : Some w ≡ None = g refl in absurd (cc)))
+no_end false within = ((λ h t. absurd (false≢true t)), (λ g. refl))
+
+-- whether the last of some entries behind one that is a death, or is none, is a death
+abbrev pub ends_behind : Bool → List Entry → Bool
+ends_behind died es = fold (λ d e. is_died e.what) died es
+
+pub tells_back : (back within : Option ℕ) (died : Bool) (es : List Entry)
+    → IsTrue (returns_as back within died es)
+    ↔ (AreReturned back died es × (ends_behind died es ≡ true → within ≡ None))
+tells_back back within died [] = ((λ h. (tt, (no_end died within).0 h)), (λ g. (no_end died within).1 g.1))
+tells_back back within died (e ∷ es) =
+    let a = may_follow died back e in
+    let b = returns_as back within (is_died e.what) es in
+    let first = follows (is_returned e.what) died back e.stamp.beat in
+    let rest = tells_back back within (is_died e.what) es in (
+      (λ h.
+          let f = first.0 (and_left a b h) in
+          let k = rest.0 (and_right a b h) in
+          ((f.0, f.1, k.0), k.1)),
+      (λ g. and_both a b (first.1 (g.0.0, g.0.1)) (rest.1 (g.0.2, g.1))),
+    )
+
+tells : (c : Course) (n : ℕ) (es : List Entry) → IsTrue (returns_in c n es) ↔ TellsReturn c.beats (back_of c n) es
+tells c n es =
+    let k = tells_back (back_of c n) (death_within c.beats (back_of c n)) false es in (
+      (λ h. let g = k.0 h in record { behind = g.0; comes = g.1 }),
+      (λ g. k.1 (g.behind, g.comes)),
+    )
+
+all_tell : (c : Course) (journals : List (List Entry))
+    → IsTrue (each_from (returns_in c) 0 journals)
+    ↔ ((n : ℕ) (journal : List Entry) → slice_get journals n ≡ Some journal → TellsReturn c.beats (back_of c n) journal)
+all_tell c journals = (
+  (λ h. λ n journal e.
+      let here = numbered_found (returns_in c) 0 journals h n journal e in
+      let same : 0 + n ≡ n = omega arith in
+      (tells c n journal).0 (subst (λ (k : ℕ). IsTrue (returns_in c k journal)) same here)),
+  (λ g. numbered_gives (returns_in c) 0 journals
+      (λ n journal e.
+      let same : n ≡ 0 + n = omega arith in
+      subst (λ (k : ℕ). IsTrue (returns_in c k journal)) same ((tells c n journal).1 (g n journal e)))),
+)
+
 -- the test of a timed run is true exactly of one
 pub timed : (k : Kept) → IsTrue (is_timed_run k) ↔ IsTimedRun k
 timed k =
     let a = each_from (timed_in k.course) 0 k.journals in
-    let b = all_below (one_lives k.course) k.course.plan.params.cubs in (
-      (λ h. record { timed = (all_times k.course k.journals).0 (and_left a b h); apart = (all_apart k.course).0 (and_right a b h) }),
-      (λ g. and_both a b ((all_times k.course k.journals).1 g.timed) ((all_apart k.course).1 g.apart)),
+    let b = all_below (one_lives k.course) k.course.plan.params.cubs in
+    let d = each_from (returns_in k.course) 0 k.journals in (
+      (λ h.
+          let bd = and_right a (b && d) h in
+          record {
+            timed = (all_times k.course k.journals).0 (and_left a (b && d) h);
+            apart = (all_apart k.course).0 (and_left b d bd);
+            returns = (all_tell k.course k.journals).0 (and_right b d bd);
+          }),
+      (λ g. and_both a (b && d) ((all_times k.course k.journals).1 g.timed)
+          (and_both b d ((all_apart k.course).1 g.apart) ((all_tell k.course k.journals).1 g.returns))),
     )

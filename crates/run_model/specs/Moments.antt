@@ -13,8 +13,8 @@ use Rattle.run_model.specs.Schedule.{Schedule, empty_schedule, after_entry, sche
 use Rattle.run_model.specs.Views.{records_of, recorded}
 use Rattle.run_model.specs.Fronts.{Always, AtEach}
 
--- The schedule; by node the journal so far, the records that were taken and not dropped, who died and whom a cub
--- believes dead; by instance who was put; and the beat of the last entry.
+-- The schedule; by node the journal so far, the records that were taken and are still there, who has ever died and whom
+-- a cub believes dead; by instance who was put; and the beat of the last entry.
 pub record Moment : Type 0 where
   pub schedule : Schedule
   pub journal : ℕ → List Entry
@@ -77,9 +77,9 @@ next_moment m x = record {
 abbrev pub moment_of : List Noted → Moment
 moment_of front = fold next_moment opening front
 
--- the view of a cub: none, once it has died
+-- the view of a cub: none since it died, unless it came back
 abbrev pub view_of : Moment → ℕ → List Rec
-view_of m c = if m.dead c then [] else m.records c
+view_of m c = m.records c
 
 -- the true time of a moment
 abbrev pub moment_time : Params → Moment → ℕ

@@ -70,11 +70,12 @@ abbrev pub IsStartOf : ℕ → Bool → What → Type 0
 IsStartOf v redundant (what.Got link (note.Start how ask)) = (ask.instance.0 ≡ v) × (how ≡ redundant)
 IsStartOf v redundant other = ⊥
 
--- a cub got the start and may put it: the plain one on the cub of the disk, or on the next one the redundant one,
--- where it believes the cub of the disk dead
+-- a cub got the start and may put it: the plain one on the cub of the disk, if it has never died, since a cub that came
+-- back puts nobody; or on the next one the redundant one, if it believes the cub of the disk dead
 abbrev pub HasStart : Params → Moment → ℕ → Ask → Type 0
 HasStart p m c ask =
-    ((ask.disk.0 % p.cubs ≡ c) × AnyByRecursion (λ e. IsStartOf ask.instance.0 false e.what) (m.journal c))
+    ((ask.disk.0 % p.cubs ≡ c) × ((m.dead c ≡ false)
+    × AnyByRecursion (λ e. IsStartOf ask.instance.0 false e.what) (m.journal c)))
     ⊎ (((ask.disk.0 + 1) % p.cubs ≡ c) × ((m.believed c (ask.disk.0 % p.cubs) ≡ true)
     × AnyByRecursion (λ e. IsStartOf ask.instance.0 true e.what) (m.journal c)))
 

@@ -62,9 +62,12 @@ tells cub beat link t visit =
 abbrev pub starts : ℕ → ℕ → Ask → Bool → Noted
 starts cub beat ask redundant = at cub beat (what.Got (record { 0 = cub }) (note.Start redundant ask))
 
--- a cub dies, and one believes another dead
+-- a cub dies, one comes back, and one believes another dead
 abbrev pub dies : ℕ → ℕ → Noted
 dies cub beat = at cub beat what.Died
+
+abbrev pub is_back : ℕ → ℕ → Noted
+is_back cub beat = at cub beat what.Returned
 
 abbrev pub believes : ℕ → ℕ → ℕ → Noted
 believes cub beat other = at cub beat (what.Believed (record { 0 = other }))
@@ -111,6 +114,10 @@ seat v first last = seat_in 1 v first last
 -- instance 0 has slot 1 for visits 0, 1 and 2, which are due at 500000, 1500000 and 2500000 micros
 abbrev pub three : Tenancy
 three = seat 0 0 2
+
+-- and for visits 0 to 20, of which visit 17 is cub 1's and due at 17500000
+abbrev pub long : Tenancy
+long = seat 0 0 20
 
 -- what such a tenancy wants at a visit, if its first visit is 0
 abbrev pub want : ℕ → ℕ → ℕ → Want

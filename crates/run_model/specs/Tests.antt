@@ -18,15 +18,16 @@ use Rattle.node_kit.specs.declared.journal.What.{What}
 use Rattle.node_kit.specs.declared.journal.What.TheVariants as what
 use Rattle.node_kit.specs.declared.journal.Entry.{Entry}
 use Rattle.run_facts.specs.Commanded.{is_gone_of}
-use Rattle.run_facts.specs.Timed.{is_died, death_within}
+use Rattle.run_facts.specs.Timed.{is_died, is_returned, death_within}
 use Rattle.node_kit.specs.declared.course.Course.{Course}
 use Rattle.node_kit.specs.declared.course.Kept.{Kept}
-use Rattle.node_kit.specs.Life.{Lifetime, death_of, lifetime_of}
+use Rattle.node_kit.specs.Life.{Lifetime, death_of, back_of, lifetime_of}
 use Rattle.node_kit.specs.Links.{Links, ends_of, leads_to, leads_from}
 use Rattle.run_model.specs.declared.parcels.Parcel.{Parcel}
 use Rattle.run_model.specs.declared.timing.End.{End}
 use Rattle.run_model.specs.declared.parcels.Form.{Form}
 use Rattle.run_model.specs.declared.parcels.Form.TheVariants.{Whole, Piece, AnyPiece}
+use Rattle.run_model.specs.Excuses.{serves_after, lets_in_after}
 use Rattle.run_model.specs.Served.{journal_at, whole_in, piece_in, wholes_got, pieces_got, pieces_numbered, want_of_visit}
 
 -- whether a test holds of each number below a bound, and of one of them
@@ -154,18 +155,33 @@ died_between p late time end journal =
 abbrev pub died_before : Params → ℕ → ℕ → List Entry → Bool
 died_before p early time journal = list_any (λ e. is_died e.what && nat_le (time_of p e.stamp.beat + early) time) journal
 
+-- whether a journal has a return so early that a time is a span behind its reading, or later
+abbrev pub was_back_by : ℕ → ℕ → List Entry → Bool
+was_back_by span time journal = list_any (λ e. is_returned e.what && nat_le (e.stamp.reading + span) time) journal
+
+-- whether a cub died before a piece had left, and was not back so early that it let the piece in
+abbrev pub died_before_piece : Params → ℕ → List Entry → Bool
+died_before_piece p time journal =
+    died_before p 1 (time + p.beat) journal && not (was_back_by (lets_in_after p) time journal)
+
 unfoldable pub piece_is_lost : Params → List (List Entry) → Tenancy → ℕ → ℕ → Bool
 piece_is_lost p journals t visit k =
     list_any (read_failed t.instance.0 visit k) journals
-    || died_before p 1 (leaving (due p t.slot.0 visit) k p.play p.pieces + p.beat) (journal_at journals (cub_of p (visit + k)))
+    || died_before_piece p (leaving (due p t.slot.0 visit) k p.play p.pieces) (journal_at journals (cub_of p (visit + k)))
 
 abbrev pub some_piece_is_lost : Params → List (List Entry) → Tenancy → ℕ → Bool
 some_piece_is_lost p journals t visit = some_below (λ before. piece_is_lost p journals t visit (before + 1)) p.pieces
 
+-- whether the cub of a visit was not back so early that it served the visit
+abbrev pub is_unserved_back : Params → List (List Entry) → Tenancy → ℕ → Bool
+is_unserved_back p journals t visit =
+    (visit == t.first)
+    || not (was_back_by (serves_after p) (due p t.slot.0 visit) (journal_at journals (cub_of p visit)))
+
 unfoldable pub lost_in_pieces : Params → List (List Entry) → Tenancy → ℕ → Bool
 lost_in_pieces p journals t visit =
     died_before p (takeover p) (due p t.slot.0 visit) (journal_at journals (cub_of p visit))
-    && some_piece_is_lost p journals t visit
+    && (is_unserved_back p journals t visit && some_piece_is_lost p journals t visit)
 
 unfoldable pub lost_in_death : Params → List (List Entry) → Tenancy → ℕ → Bool
 lost_in_death p journals t visit =
@@ -181,7 +197,8 @@ was_stopped p journals t visit = list_any (stopped_before p t.instance.0 (due p 
 unfoldable pub has_excuse : Params → List (List Entry) → ℕ → Tenancy → Bool
 has_excuse p journals visit t =
     read_failed t.instance.0 visit 0 (journal_at journals (cub_of p visit))
-    || (lost_in_pieces p journals t visit || (lost_in_death p journals t visit || was_stopped p journals t visit))
+    || (lost_in_pieces p journals t visit
+    || ((lost_in_death p journals t visit && is_unserved_back p journals t visit) || was_stopped p journals t visit))
 
 -- whether a reading is the true time of its beat or later, by the skew at most
 abbrev pub is_read : Params → Entry → Bool
@@ -242,10 +259,31 @@ at_ends t n journal = list_all (λ e. at_its_end t n e.what) journal
 abbrev pub timed_in : Course → ℕ → List Entry → Bool
 timed_in c n journal = is_timed c.plan.params c.beats (lifetime_of c n) journal
 
+-- whether a return, if there is one, is in a beat
+abbrev pub is_in_beat : Option ℕ → ℕ → Bool
+is_in_beat None beat = false
+is_in_beat (Some back) beat = back == beat
+
+-- whether an entry may stand behind one that is a death, or is none: it is the return, or is none
+abbrev pub may_follow : Bool → Option ℕ → Entry → Bool
+may_follow died back e = if is_returned e.what then died && is_in_beat back e.stamp.beat else not died
+
+-- whether each of these entries may, the first of them behind one that is a death, or is none; and the last one is a
+-- death only if no return is within the run
+abbrev pub returns_as : Option ℕ → Option ℕ → Bool → List Entry → Bool
+returns_as back within died [] = not (died && is_some within)
+returns_as back within died (e ∷ es) = may_follow died back e && returns_as back within (is_died e.what) es
+
+-- whether the journal of a node of a course tells its return
+abbrev pub returns_in : Course → ℕ → List Entry → Bool
+returns_in c n journal = returns_as (back_of c n) (death_within c.beats (back_of c n)) false journal
+
 -- whether a cub or the next one lives on
 abbrev pub one_lives : Course → ℕ → Bool
 one_lives c n = not (is_some (death_of c n) && is_some (death_of c ((n + 1) % c.plan.params.cubs)))
 
--- whether all entries of a run are timed, and no two cubs side by side die
+-- whether all entries of a run are timed, no two cubs side by side die, and all journals tell of returns
 abbrev pub is_timed_run : Kept → Bool
-is_timed_run k = each_from (timed_in k.course) 0 k.journals && all_below (one_lives k.course) k.course.plan.params.cubs
+is_timed_run k =
+    each_from (timed_in k.course) 0 k.journals
+    && (all_below (one_lives k.course) k.course.plan.params.cubs && each_from (returns_in k.course) 0 k.journals)

@@ -1,4 +1,5 @@
--- The view of a cub at a moment: the records that it took, less those that it dropped after that; a dead cub has none.
+-- The view of a cub at a moment: the records that it took, less those that it dropped after that. A death empties it, and
+-- it begins anew with a return.
 use Rattle.std.specs.Prelude.{Bool, true, false, not, ◌&&◌, ◌==◌, List, [], ◌∷◌, ◌++◌, filter, if◌then◌else◌}
 use Rattle.std.specs.List.{list_any}
 use Rattle.tiger_base.specs.declared.tenancy.Tenancy.{Tenancy}
@@ -22,9 +23,11 @@ same_tenancy t u =
 unfoldable pub same_record : Rec → Rec → Bool
 same_record r q = same_tenancy r.tenancy q.tenancy && (r.visit == q.visit) && same_kind r.kind q.kind
 
--- whether an entry drops a record
+-- whether an entry takes a record out of the view: it drops the record, or the cub dies, or is back with an empty view
 abbrev pub drops : Rec → What → Bool
 drops r (what.Dropped q) = same_record q r
+drops r what.Died = true
+drops r what.Returned = true
 drops r other = false
 
 -- the record that an entry took, unless one of the later entries drops it
@@ -32,7 +35,7 @@ abbrev pub taken_by : What → List Entry → List Rec
 taken_by (what.Took r) later = if list_any (λ e. drops r e.what) later then [] else r ∷ []
 taken_by other later = []
 
--- the records that a journal says were taken and not dropped after that
+-- the records that a journal says were taken and are still there
 abbrev pub records_of : List Entry → List Rec
 records_of [] = []
 records_of (e ∷ es) = taken_by e.what es ++ records_of es
@@ -41,4 +44,6 @@ records_of (e ∷ es) = taken_by e.what es ++ records_of es
 abbrev pub recorded : List Rec → What → List Rec
 recorded records (what.Took r) = records ++ r ∷ []
 recorded records (what.Dropped r) = filter (λ q. not (same_record r q)) records
+recorded records what.Died = []
+recorded records what.Returned = []
 recorded records other = records

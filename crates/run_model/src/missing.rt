@@ -3,8 +3,8 @@ ghost use Rattle.std.specs.Prelude.{◌≡◌, ◌↔◌, ◌^◌, ◌<◌, ◌�
 ghost use Rattle.std.specs.List.{list_any};
 ghost use Rattle.slot_plan.specs.Times.{due};
 ghost use Rattle.run_model.specs.Excuses.{IsExcused};
-ghost use Rattle.run_model.specs.Tests.{visited, is_failed_read, read_failed, died_before, died_between, piece_is_lost, some_piece_is_lost, lost_in_pieces, lost_in_death, stopped_before, was_stopped, has_excuse, some_tenancy};
-ghost use Rattle.run_facts.specs.Timed.{is_died};
+ghost use Rattle.run_model.specs.Tests.{visited, is_failed_read, read_failed, died_before, died_between, was_back_by, died_before_piece, is_unserved_back, piece_is_lost, some_piece_is_lost, lost_in_pieces, lost_in_death, stopped_before, was_stopped, has_excuse, some_tenancy};
+ghost use Rattle.run_facts.specs.Timed.{is_died, is_returned};
 ghost use Rattle.run_facts.specs.Commanded.{is_gone_of};
 
 use crate::parcels::journal_at;
@@ -54,7 +54,7 @@ fn has_excuse(k: &Kept, t: &Tenancy, n: Visit) -> bool
     let own = journal_at(k, cub_of(&k.course.plan, n, 0));
     read_failed(own, t.instance, n, 0)
         || lost_in_pieces(k, t, n)
-        || lost_in_death(k, t, n)
+        || (lost_in_death(k, t, n) && is_unserved_back(k, t, n))
         || was_stopped(k, t, n)
 }
 
@@ -65,7 +65,19 @@ fn lost_in_pieces(k: &Kept, t: &Tenancy, n: Visit) -> bool
     let plan = &k.course.plan;
     let own = journal_at(k, cub_of(plan, n, 0));
     let span = plan.takeover() as u128;
-    died_before(plan, span, due(plan, t.slot, n), own) && some_piece_is_lost(k, t, n)
+    died_before(plan, span, due(plan, t.slot, n), own)
+        && (is_unserved_back(k, t, n) && some_piece_is_lost(k, t, n))
+}
+
+/// Whether the cub of a visit was not back so early that it served the visit.
+fn is_unserved_back(k: &Kept, t: &Tenancy, n: Visit) -> bool
+    ensures { result ≡ is_unserved_back k.now.course.plan.params k.now.journals t.now n }
+{
+    let plan = &k.course.plan;
+    let p = &plan.params;
+    let span = p.max_lead as u128 + 6 * p.play as u128;
+    let own = journal_at(k, cub_of(plan, n, 0));
+    n == t.first || !was_back_by(span, due(plan, t.slot, n), own)
 }
 
 fn some_piece_is_lost(k: &Kept, t: &Tenancy, n: Visit) -> bool
@@ -86,9 +98,9 @@ fn piece_is_lost(k: &Kept, t: &Tenancy, n: Visit, piece: u64) -> bool
     ensures { result ≡ piece_is_lost k.now.course.plan.params k.now.journals t.now n piece }
 {
     let plan = &k.course.plan;
-    let end = leaving(plan, due(plan, t.slot, n), piece) + plan.params.beat as u128;
+    let time = leaving(plan, due(plan, t.slot, n), piece);
     failed_anywhere(k, t.instance, n, piece)
-        || died_before(plan, 1, end, journal_at(k, cub_of(plan, n, piece)))
+        || died_before_piece(plan, time, journal_at(k, cub_of(plan, n, piece)))
 }
 
 fn failed_anywhere(k: &Kept, v: Instance, n: Visit, piece: u64) -> bool
@@ -156,6 +168,32 @@ fn died_between(plan: &Plan, span: u128, time: u128, end: u128, journal: &[Entry
         let death = time_of(plan, e.stamp.beat);
         is_died(&e.what) && time < death + span && death < end
     })
+}
+
+/// Whether a journal says that its node died before a piece had left, and was not back so early that it let
+/// the piece in.
+fn died_before_piece(plan: &Plan, time: u128, journal: &[Entry]) -> bool
+    requires { time < 2 ^ 101 }
+    ensures { result ≡ died_before_piece plan.now.params time journal.now }
+{
+    let p = &plan.params;
+    let span = p.max_lead as u128 + 3 * p.play as u128 + p.skew as u128;
+    died_before(plan, 1, time + p.beat as u128, journal) && !was_back_by(span, time, journal)
+}
+
+/// Whether a journal says that its node came back, at a reading that is a span before a time or more.
+fn was_back_by(span: u128, time: u128, journal: &[Entry]) -> bool
+    requires { span < 2 ^ 101 }
+    ensures { result ≡ was_back_by span time journal.now }
+{
+    journal.iter().any(|e| is_returned(&e.what) && e.stamp.reading as u128 + span <= time)
+}
+
+/// Whether an entry says that its node came back.
+pub fn is_returned(what: &What) -> bool
+    ensures { result ≡ is_returned what.now }
+{
+    matches!(what, What::Returned)
 }
 
 /// Whether an entry says that its node died.

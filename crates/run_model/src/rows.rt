@@ -15,7 +15,7 @@ ghost use Rattle.run_model.specs.Moments.{moment_at, view_of};
 ghost use Rattle.run_model.specs.Orders.{PutsAreFair, IsTaken, IsNotPassedOver, end_of_tick};
 ghost use Rattle.run_model.specs.Parts.{ViewsAreAlwaysPart, EntriesAreLocal};
 ghost use Rattle.run_model.specs.Runs.{NoneIsPassedOver, IsTimedRun, IsCarriedRun};
-ghost use Rattle.run_model.specs.Samples.{kept, dying, at_reading, gone, put, took, dropped, told, tells, starts, dies, believes, sends, gets, fails, later, later_at, seat, seat_in, three, want, block, piece, first_block, first_half, second_half, IsOfTen, ask_for, begins, ask, ordered, seated, IsDeliveredBy, IsExcusedBy, kept_of_lives, of_none};
+ghost use Rattle.run_model.specs.Samples.{kept, dying, at_reading, gone, put, took, dropped, told, tells, starts, dies, is_back, believes, sends, gets, fails, later, later_at, seat, seat_in, three, long, want, block, piece, first_block, first_half, second_half, IsOfTen, ask_for, begins, ask, ordered, seated, IsDeliveredBy, IsExcusedBy, kept_of_lives, of_none, of_last};
 
 /// Instance 0 has slot 1 for visits 0 to 2.
 pub fn free()
@@ -46,6 +46,13 @@ pub fn views()
     ensures dead { view_of (moment_at (took 0 1 (own_of three 0) ∷ dies 0 2 ∷ [])) 0 ≡ [] }
     ensures other_dead { view_of (moment_at (took 0 1 (own_of three 0) ∷ dies 1 2 ∷ [])) 0
         ≡ own_of three 0 ∷ [] }
+    ensures back { view_of (moment_at (took 0 1 (own_of three 0) ∷ dies 0 2 ∷ is_back 0 4 ∷ [])) 0 ≡ [] }
+    ensures begins_anew { view_of (moment_at (took 0 1 (own_of three 0) ∷ is_back 0 4 ∷ [])) 0 ≡ [] }
+    ensures since_back { view_of (moment_at
+        (took 0 1 (own_of three 0) ∷ dies 0 2 ∷ is_back 0 4 ∷ took 0 5 (own_of three 8) ∷ [])) 0
+        ≡ own_of three 8 ∷ [] }
+    ensures other_back { view_of (moment_at (took 0 1 (own_of three 0) ∷ dies 1 2 ∷ is_back 1 4 ∷ [])) 0
+        ≡ own_of three 0 ∷ [] }
 {}
 
 /// Cub 0 has a record of instance 0, which has slot 1 for visits 0 to 2. A block plays for 100
@@ -67,6 +74,10 @@ pub fn part()
         (gone 20 1 ∷ took 0 120 (own_of three 0) ∷ []) → ⊥ }
     ensures stays { ViewsAreAlwaysPart small
         (gone 20 0 ∷ took 0 120 (own_of three 0) ∷ later 121 ∷ []) → ⊥ }
+    ensures forgotten { ViewsAreAlwaysPart small
+        (gone 20 0 ∷ took 0 118 (own_of three 0) ∷ dies 0 119 ∷ is_back 0 121 ∷ later 122 ∷ []) }
+    ensures taken_again { ViewsAreAlwaysPart small
+        (gone 20 0 ∷ dies 0 119 ∷ is_back 0 121 ∷ took 0 121 (own_of three 0) ∷ []) → ⊥ }
 {}
 
 /// Link 24 leads from cub 0 to cub 1, link 25 to cub 2, and link 37 from cub 6 to cub 0. Visit 9 of
@@ -109,6 +120,12 @@ pub fn sending()
     ensures has_other { EntriesAreLocal small
         (put 1 5 (seat 0 1 3) ∷ took 1 5 (own_of (seat 0 1 3) 1)
         ∷ tells 1 6 26 (seat 1 1 3) 2 ∷ []) → ⊥ }
+    ensures had_before_death { EntriesAreLocal small
+        (put 1 5 (seat 0 1 3) ∷ took 1 5 (own_of (seat 0 1 3) 1) ∷ dies 1 6 ∷ is_back 1 8
+        ∷ tells 1 8 26 (seat 0 1 3) 2 ∷ []) → ⊥ }
+    ensures has_since_back { EntriesAreLocal small
+        (put 1 5 (seat 0 1 3) ∷ dies 1 6 ∷ is_back 1 8 ∷ took 1 8 (own_of (seat 0 1 3) 1)
+        ∷ tells 1 8 26 (seat 0 1 3) 2 ∷ []) }
 {}
 
 /// Visit 0 of slot 1 is cub 0's and due at 500000; it is in the window above 200000 and up to
@@ -183,6 +200,10 @@ pub fn patience()
         (end_of_tick 1 1 (starts 1 1 ask true ∷ believes 1 1 0 ∷ [])) 1 1 10000 → ⊥ }
     ensures for_living { IsNotPassedOver small ordered
         (end_of_tick 1 1 (starts 1 1 ask true ∷ [])) 1 1 10000 }
+    ensures back { IsNotPassedOver small ordered
+        (end_of_tick 4 0 (dies 0 1 ∷ is_back 0 3 ∷ starts 0 4 ask false ∷ [])) 0 4 40000 }
+    ensures other_back { IsNotPassedOver small ordered
+        (end_of_tick 4 0 (dies 2 1 ∷ is_back 2 3 ∷ starts 0 4 ask false ∷ [])) 0 4 40000 → ⊥ }
 {}
 
 /// Visit 0 of instance 0 is due at 500000, in beat 50; its block has four bytes. Of its pieces, of
@@ -279,6 +300,27 @@ pub fn deaths()
     ensures piece_sent { IsExcusedBy 1 (put 0 1 three ∷ dies 1 32 ∷ dies 3 201 ∷ []) → ⊥ }
 {}
 
+/// Visit 17 is cub 1's and due at 17500000. A cub that came back at 7500000 serves it, unless it is the
+/// first one. Its second piece is cub 3's and leaves at 18000000: who came back at 10990000 lets it in.
+pub fn returns()
+    ensures in_time { IsExcusedBy 17
+        (put 0 1 long ∷ dies 1 100 ∷ is_back 1 750 ∷ fails 2 1740 (want 0 17 1) ∷ []) → ⊥ }
+    ensures too_late { IsExcusedBy 17
+        (put 0 1 long ∷ dies 1 100 ∷ is_back 1 751 ∷ fails 2 1740 (want 0 17 1) ∷ []) }
+    ensures at_first { IsExcusedBy 17
+        (put 0 1 (seat 0 17 20) ∷ dies 1 100 ∷ is_back 1 750 ∷ fails 2 1740 (want 0 17 1) ∷ []) }
+    ensures of_other { IsExcusedBy 17
+        (put 0 1 long ∷ dies 1 100 ∷ is_back 4 750 ∷ fails 2 1740 (want 0 17 1) ∷ []) }
+    ensures lets_piece_in { IsExcusedBy 17
+        (put 0 1 long ∷ dies 1 100 ∷ dies 3 200 ∷ is_back 3 1099 ∷ []) → ⊥ }
+    ensures loses_piece { IsExcusedBy 17
+        (put 0 1 long ∷ dies 1 100 ∷ dies 3 200 ∷ is_back 3 1100 ∷ []) }
+    ensures in_time_for_death { IsExcusedBy 17
+        (put 0 1 long ∷ is_back 1 750 ∷ dies 1 1740 ∷ []) → ⊥ }
+    ensures too_late_for_death { IsExcusedBy 17
+        (put 0 1 long ∷ is_back 1 751 ∷ dies 1 1740 ∷ []) }
+{}
+
 /// In beat 0 visit 0 of slot 1 is in the window, and in beat 650 visit 7 of slot 0, which is cub
 /// 7's.
 pub fn every_tick()
@@ -321,6 +363,21 @@ pub fn timed_run()
         (kept k p 10 (dying (Some 5) None (Some 4)) [] (dies 7 4 ∷ dies 0 5 ∷ [])) → ⊥ }
     ensures next_but_one_dead { (k : Kept) (p : IsPlan small) → IsTimedRun
         (kept k p 10 (dying None (Some 5) (Some 4)) [] (dies 7 4 ∷ dies 1 5 ∷ [])) }
+    ensures back { (k : Kept) (p : IsPlan small) → IsTimedRun
+        (kept_of_lives k p 10 (of_last 4) of_none (of_last 6) [] (dies 7 4 ∷ is_back 7 6 ∷ [])) }
+    ensures back_late { (k : Kept) (p : IsPlan small) → IsTimedRun
+        (kept_of_lives k p 10 (of_last 4) of_none (of_last 6) [] (dies 7 4 ∷ is_back 7 7 ∷ [])) → ⊥ }
+    ensures back_twice { (k : Kept) (p : IsPlan small) → IsTimedRun
+        (kept_of_lives k p 10 (of_last 4) of_none (of_last 6) []
+        (dies 7 4 ∷ is_back 7 6 ∷ is_back 7 6 ∷ [])) → ⊥ }
+    ensures back_unwritten { (k : Kept) (p : IsPlan small) → IsTimedRun
+        (kept_of_lives k p 10 (of_last 4) of_none (of_last 6) [] (dies 7 4 ∷ [])) → ⊥ }
+    ensures back_behind_the_end { (k : Kept) (p : IsPlan small) → IsTimedRun
+        (kept_of_lives k p 6 (of_last 4) of_none (of_last 6) [] (dies 7 4 ∷ [])) }
+    ensures back_unforeseen { (k : Kept) (p : IsPlan small) → IsTimedRun
+        (kept k p 10 (of_last 4) [] (dies 7 4 ∷ is_back 7 6 ∷ [])) → ⊥ }
+    ensures back_of_the_living { (k : Kept) (p : IsPlan small) → IsTimedRun
+        (kept k p 10 (dying None None None) [] (later 3 ∷ is_back 7 6 ∷ [])) → ⊥ }
 {}
 
 /// Runs of ten beats, in which cub 0 sends the viewers a heartbeat in beat 3.

@@ -4,17 +4,17 @@ ghost use Rattle.std.specs.List.{list_all};
 ghost use Rattle.node_kit.specs.Life.{of_cub, death_of, cut_of, back_of, lifetime_of};
 ghost use Rattle.run_facts.specs.Timed.{death_within};
 ghost use Rattle.run_model.specs.Runs.{IsTimedRun};
-ghost use Rattle.run_model.specs.Tests.{is_timed_run, each_from, all_below, timed_in, one_lives, is_read, rises_from, never_dies, dies_as, is_until, stands_later, is_later, ends_in_death};
+ghost use Rattle.run_model.specs.Tests.{is_timed_run, each_from, all_below, timed_in, one_lives, is_read, rises_from, never_dies, dies_as, is_until, stands_later, is_later, ends_in_death, is_in_beat, may_follow, returns_in};
 
-use crate::missing::is_died;
+use crate::missing::{is_died, is_returned};
 use crate::times::time_of;
 use node_kit::{Course, Entry, Kept};
 use slot_plan::Plan;
 use tiger_base::{Beat, Sequence, Stamp};
 
 /// Whether each entry was written in a beat of the run and at a reading within the skew, no reading and
-/// no beat falls along a journal, each death is that of the course, and no two cubs side by side die. It
-/// takes no memory.
+/// no beat falls along a journal, each death and each return is that of the course, and no two cubs side by
+/// side die. It takes no memory.
 pub fn timed(k: &Kept) -> bool
     ensures { IsTrue result ↔ IsTimedRun k.now }
 {
@@ -24,7 +24,7 @@ pub fn timed(k: &Kept) -> bool
 fn is_timed_run(k: &Kept) -> bool
     ensures { result ≡ is_timed_run k.now }
 {
-    all_timed(k) && die_apart(&k.course)
+    all_timed(k) && (die_apart(&k.course) && all_return(k))
 }
 
 fn all_timed(k: &Kept) -> bool
@@ -234,4 +234,54 @@ fn one_lives(course: &Course, n: u64) -> bool
 {
     let next = (n + 1) % course.plan.params.cubs;
     !(death_of(course, n).is_some() && death_of(course, next).is_some())
+}
+
+fn all_return(k: &Kept) -> bool
+    ensures { result ≡ each_from (returns_in k.now.course) 0 k.now.journals }
+{
+    let mut n = 0;
+    for journal in k.journals.as_slice() {
+        if !tells_return(&k.course, n, journal.as_slice()) {
+            return false;
+        }
+        n += 1;
+    }
+    true
+}
+
+/// Whether Returned is exactly the entry behind Died, in the beat of the return, and Died is the last entry
+/// only if no return is within the run.
+fn tells_return(course: &Course, n: u64, journal: &[Entry]) -> bool
+    ensures { result ≡ returns_in course.now n journal.now }
+{
+    let back = back_of(course, n);
+    let mut died = false;
+    for e in journal {
+        if !may_follow(died, back, e) {
+            return false;
+        }
+        died = is_died(&e.what);
+    }
+    !(died && death_within(course.beats, back).is_some())
+}
+
+/// Whether an entry may stand behind one that is a death, or is none: it is the return, or is none.
+fn may_follow(died: bool, back: Option<Beat>, e: &Entry) -> bool
+    ensures { result ≡ may_follow died back e.now }
+{
+    if is_returned(&e.what) {
+        died && is_in_beat(back, e.stamp.beat)
+    } else {
+        !died
+    }
+}
+
+/// Whether a return, if there is one, is in a beat.
+fn is_in_beat(back: Option<Beat>, beat: Beat) -> bool
+    ensures { result ≡ is_in_beat back beat }
+{
+    match back {
+        Some(back) => back == beat,
+        None => false,
+    }
 }

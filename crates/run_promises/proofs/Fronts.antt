@@ -1,5 +1,5 @@
 -- What stands at the end of a tick of a cub, and that it stays until the end of a later one.
-use Rattle.std.proofs.Common.{◌≡◌, ℕ, ◌<◌, ◌≤◌, true, List, filter, Option, Some, refl, sym, ap, subst, ◌∙◌, arith, ⊎_elim, inl, inr, false}
+use Rattle.std.proofs.Common.{◌≡◌, ℕ, ◌<◌, ◌≤◌, true, List, filter, Option, Some, None, refl, sym, ap, subst, ◌∙◌, arith, ⊎_elim, inl, inr, false}
 use Rattle.std.specs.Prelude.{◌==◌}
 use Rattle.std.proofs.lemmas.Bool.{eqb-true, eq-eqb, ltb-true, lt-ltb, cases_lt}
 use Rattle.tiger_base.specs.declared.number.Instance.{Instance}
@@ -7,14 +7,14 @@ use Rattle.tiger_base.specs.declared.tenancy.Tenancy.{Tenancy}
 use Rattle.node_kit.specs.declared.journal.What.{What}
 use Rattle.node_kit.specs.declared.journal.What.TheVariants as what
 use Rattle.node_kit.specs.declared.journal.Entry.{Entry}
-use Rattle.node_kit.specs.declared.course.Course.{Course}
-use Rattle.node_kit.specs.Life.{Lifetime, death_of, cut_of, lifetime_of}
+use Rattle.node_kit.specs.declared.course.Kept.{Kept}
+use Rattle.node_kit.specs.Life.{lifetime_of}
 use Rattle.run_facts.specs.Order.{Noted, beat_of, journal_of}
 use Rattle.run_model.specs.Schedule.{Stop, schedule_of}
 use Rattle.run_model.specs.Moments.{moment_at, is_put_of, is_belief_of}
 use Rattle.run_model.specs.Orders.{is_up_to, end_of_tick}
-use Rattle.run_model.specs.Runs.{EndsBeat, HasNoReturns}
-use Rattle.run_model.proofs.Ticking.{ended_before}
+use Rattle.run_model.specs.Runs.{EndsBeat}
+use Rattle.run_model.proofs.Ticking.{ends_undying, ends_before}
 use Rattle.lists.specs.Elements.{In}
 use Rattle.proof_moments.proofs.Bridge.{put_is}
 use Rattle.proof_moments.proofs.Lists.{any_passes, any_passing}
@@ -22,6 +22,7 @@ use Rattle.lists.proofs.Elements.{in_map, from_map, in_filter, from_filter}
 use Rattle.proof_moments.proofs.Ticks.{up_to_by, up_to_parts}
 use Rattle.proof_moments.proofs.Holders.{who_has, stop_from, stop_in}
 use Rattle.run_promises.specs.Kept.{WasPut, WasStopped}
+use Rattle.run_promises.specs.Waits.{LivesTo}
 
 -- ---- who was put, who has a slot, and who was stopped
 
@@ -139,9 +140,10 @@ belief_stays log b last c d h t =
     any_passes (λ (e : Entry). is_belief_of d e.what) (journal_of c (filter (is_up_to last c) log)) x.0.entry i
     (subst (λ (e : Entry). is_belief_of d e.what ≡ true) (sym x.3) q.2)
 
--- a node of a course in which nobody returns that ends a beat ended each before it
-pub ended_each : (c : Course) (n b last : ℕ) → HasNoReturns c → b ≤ last → EndsBeat (lifetime_of c n) last → EndsBeat (lifetime_of c n) b
-ended_each c n b last none low ends =
-    let without : Option ℕ → Lifetime = λ back. record { death = death_of c n; left = cut_of c n; back = back; over = false } in
-    subst (λ (back : Option ℕ). EndsBeat (without back) b) (sym (none n))
-    (ended_before (death_of c n) (cut_of c n) b last low (subst (λ (back : Option ℕ). EndsBeat (without back) last) (none n) ends))
+-- a cub that does not die by the end of a beat ends each beat up to it
+pub ends_each : (k : Kept) (c b last : ℕ) → b ≤ last → LivesTo k c last → EndsBeat (lifetime_of k.course c) b
+ends_each k c b last low lives = by (lifetime_of k.course c).death refl
+  where
+    by : (death : Option ℕ) → (lifetime_of k.course c).death ≡ death → EndsBeat (lifetime_of k.course c) b
+    by None e = ends_undying (lifetime_of k.course c) b e
+    by (Some d) e = let l = lives d e in ends_before (lifetime_of k.course c) d b e (omega (arith, low, l))

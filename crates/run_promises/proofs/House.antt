@@ -16,8 +16,7 @@ use Rattle.node_kit.specs.declared.course.ReadFault.{ReadFault}
 use Rattle.run_facts.specs.Commanded.{stop_ordered}
 use Rattle.run_facts.specs.Order.{beat_of}
 use Rattle.run_model.specs.Orders.{IsOrdered, IsTenancyFor}
-use Rattle.run_model.specs.Runs.{HasNoReturns, order_in}
-use Rattle.run_model.proofs.Ticking.{ends_undying}
+use Rattle.run_model.specs.Runs.{order_in}
 use Rattle.lists.specs.Elements.{In}
 use Rattle.proof_moments.proofs.Lists.{any_by}
 use Rattle.lists.proofs.Elements.{in_filter}
@@ -109,6 +108,9 @@ waiting k ask ordered last = record {
   last = last;
 }
 
+death_of_none : (death : Option ℕ) (d : ℕ) → death ≡ None → death ≡ Some d → ⊥
+death_of_none death d a b = absurd (cc)
+
 is_waiting : (k : Kept) (ask : Ask) (ordered last : ℕ) → PressesPlay k ask ordered → IsATurn k.course.plan.params (ordered + k.course.plan.params.delay) last
     → last < k.course.beats → NothingFails k → IsWaiting k (waiting k ask ordered last)
 is_waiting k ask ordered last play turn ends nothing =
@@ -123,13 +125,10 @@ is_waiting k ask ordered last play turn ends nothing =
       came = omega arith;
       rises = turn_rises k (ordered + p.delay) last turn;
       ends = ends;
-      ends_last = ends_undying _ last (nothing.deaths (ask.disk.0 % p.cubs) small);
+      lives = λ death d. absurd (death_of_none _ death (nothing.deaths (ask.disk.0 % p.cubs) small) d);
     }
 
 -- ---- the blocks
-
-death_of_none : (death : Option ℕ) (d : ℕ) → death ≡ None → death ≡ Some d → ⊥
-death_of_none death d a b = absurd (cc)
 
 block_comes : (k : Kept) (t : Tenancy) (n time : ℕ) → IsKeptWell k → IsPutBy (order_in k) t → NothingFails k
     → ((b : ℕ) → stop_ordered k.orders t.instance.0 b ≡ false) → t.first + n ≤ t.last
@@ -146,8 +145,8 @@ block_comes k t n time w q nothing unstopped within soon ends =
     (λ death d. absurd (death_of_none _ death (nothing.deaths (cub_of p (t.first + n)) (cub_below p (t.first + n) k.course.plan.sound.ranges)) d))
     (subst (λ (fs : List ReadFault). AllByRecursion (λ (f : ReadFault). f.disk.0 ≢ disk_of p (t.first + n)) fs) (sym nothing.faults) tt)
 
-pub who_presses_play_is_served : (k : Kept) → IsKeptWell k → HasNoReturns k.course → WhoPressesPlayIsServed k
-who_presses_play_is_served k w none ask ordered last wide play turn ends full nothing =
+pub who_presses_play_is_served : (k : Kept) → IsKeptWell k → WhoPressesPlayIsServed k
+who_presses_play_is_served k w ask ordered last wide play turn ends full nothing =
     let p = k.course.plan.params in
     let a = waiting k ask ordered last in
     let h = is_waiting k ask ordered last play turn ends nothing in
@@ -157,7 +156,7 @@ who_presses_play_is_served k w none ask ordered last wide play turn ends full no
     (λ gone.
     let g = stopped_by_tick (order_in k) a.cub last ask.instance.0 gone in
     absurd (true≢false (sym (stop_was_ordered k ask.instance.0 w g) ∙ play.unstopped (beat_of g.entry))))
-    (who_finds_room_is_put k w none a wide h turn (room k a w start full)) in
+    (who_finds_room_is_put k w a wide h turn (room k a w start full)) in
     let place = the_first_block_is_due_soon k w a.cub last ask.instance.0 put in
     let t : Tenancy = place.0 in
     let q = put_in_order k t w place.1.put in

@@ -1,12 +1,12 @@
 -- A block that is told to be missing neither came nor was stopped, so that its excuse is the printed reason.
 use Rattle.std.proofs.Common.{◌≡◌, ℕ, zero, suc, ◌+◌, ◌<◌, ◌≤◌, Bool, true, false, IsTrue, List, [], ◌∷◌, cond, map, Option, Some, None, refl, sym, ap, subst, ◌∙◌, arith, ⊎_elim, inl, inr}
-use Rattle.std.specs.Prelude.{◌↔◌, filter, find, option_map, slice_get, unwrap_or}
+use Rattle.std.specs.Prelude.{◌↔◌, ◌⊎◌, filter, find, option_map, slice_get, unwrap_or}
 use Rattle.std.specs.List.{list_any, range_with_len}
 use Rattle.std.specs.Option.{option_or}
 use Rattle.std.proofs.lemmas.Bool.{cases_Bool, lt-ltb, false≢true, true≢false}
 use Rattle.tiger_base.specs.declared.tenancy.Tenancy.{Tenancy}
 use Rattle.slot_plan.specs.declared.params.Params.{Params}
-use Rattle.slot_plan.specs.Times.{due, cub_of, time_of}
+use Rattle.slot_plan.specs.Times.{due, cub_of, time_of, takeover}
 use Rattle.node_kit.specs.declared.course.Kept.{Kept}
 use Rattle.node_kit.specs.declared.journal.Entry.{Entry}
 use Rattle.node_kit.specs.Links.{links_of, controller_of}
@@ -14,9 +14,9 @@ use Rattle.run_facts.specs.Commanded.{is_gone_of}
 use Rattle.run_model.specs.declared.parcels.Parcel.{Parcel}
 use Rattle.run_model.specs.Fronts.{AnyByRecursion}
 use Rattle.run_model.specs.Served.{journal_at, wholes_got, pieces_got, pieces_numbered, CameWhole, CameInPieces}
-use Rattle.run_model.specs.Excuses.{IsFailedRead, IsStopOf, ReadFailed, LostInPieces, WasStopped}
+use Rattle.run_model.specs.Excuses.{IsFailedRead, IsStopOf, ReadFailed, LostInPieces, DiedTooLate, LostInDeath, WasStopped}
 use Rattle.run_model.specs.Tests.{read_failed, lost_in_death}
-use Rattle.run_model.proofs.Reasons.{read_fails, stop_of, death_loss}
+use Rattle.run_model.proofs.Reasons.{read_fails, stop_of, late_death}
 use Rattle.run_model.proofs.Reflects.{any}
 use Rattle.run_report.specs.declared.outcome.BlockKind.{BlockKind}
 use Rattle.run_report.specs.declared.outcome.BlockKind.TheVariants as kind
@@ -31,7 +31,7 @@ use Rattle.run_promises.specs.Kept.{IsKeptWell}
 use Rattle.run_promises.specs.Served.{Came}
 use Rattle.run_promises.specs.Reports.{IsTrueReason, EachReasonIsTrue}
 use Rattle.run_promises.proofs.Journals.{stands_at, stands_some, some_stands, only_one}
-use Rattle.run_promises.proofs.Served.{came_or_excused}
+use Rattle.run_promises.proofs.Served.{came_or_excused, died_at}
 use Rattle.run_promises.proofs.Stops.{stop_is, gone_by, by_controller}
 
 -- ---- what came has another line
@@ -150,9 +150,9 @@ missing_is true r why h = absurd (cc)
 missing_is false r why h = let e : r ≡ why = cc in (refl, e)
 
 by_tests : (P : Reason → Type 0) (read dead : Bool) (why : Reason) → cond read reason.Read (cond dead reason.Dead reason.Piece) ≡ why
-    → (read ≡ true → P reason.Read) → (dead ≡ true → P reason.Dead) → (read ≡ false → dead ≡ false → P reason.Piece) → P why
+    → (read ≡ true → P reason.Read) → (read ≡ false → dead ≡ true → P reason.Dead) → (read ≡ false → dead ≡ false → P reason.Piece) → P why
 by_tests P true dead why e f g h = subst P e (f refl)
-by_tests P false true why e f g h = subst P e (g refl)
+by_tests P false true why e f g h = subst P e (g refl refl)
 by_tests P false false why e f g h = subst P e (h refl refl)
 
 pub reads_fail : (journals : List (List Entry)) (v visit : ℕ)
@@ -166,6 +166,20 @@ failed_somewhere journals v visit n h =
     let e = any_by Is (journal_at journals n) h in
     (reads_fail journals v visit).1 (some_stands Is journals n e.0 (stands_at journals n e.0 e.1) e.2)
 
+-- a cub that dies too late for its visit to be taken over did not die long before
+not_both : (k : Kept) (t : Tenancy) (visit : ℕ) → IsKeptWell k → LostInPieces k.course.plan.params k.journals t visit
+    → DiedTooLate k.course.plan.params k.journals t visit → ⊥
+not_both k t visit w pieces death =
+    let p = k.course.plan.params in
+    let d : ℕ = due p t.slot.0 visit in
+    let far = died_at k (cub_of p visit) (λ x. x + takeover p ≤ d) w pieces.died in
+    let near = died_at k (cub_of p visit) (λ x. (x < d + p.beat) × (d < x + takeover p)) w death in
+    let both : Some far.0 ≡ Some near.0 = sym far.1 ∙ near.1 in
+    let same : far.0 ≡ near.0 = cc in
+    let early : time_of p near.0 + takeover p ≤ d = subst (λ (b : ℕ). time_of p b + takeover p ≤ d) same far.2 in
+    let late = near.2.1 in
+    omega (arith, early, late)
+
 pub each_reason_is_true : (k : Kept) → IsKeptWell k → EachReasonIsTrue k
 unfolding kind_of missing_of reason_of
 each_reason_is_true k w t visit why put v h =
@@ -175,16 +189,19 @@ each_reason_is_true k w t visit why put v h =
     let miss = missing_is _ (reason_of p js t visit) why
     (is_missing (span_at k.catalogue t visit).len (whole_sent p js u visit) (pieces_sent p js u visit) (missing_of p js t visit) why h) in
     let unstopped : WasStopped p js t visit → ⊥ = λ s. true≢false (sym (stop_is_told k t visit w s) ∙ miss.0) in
-    let by_pieces : list_any (read_failed u visit 0) js ≡ false → lost_in_death p js t visit ≡ false → LostInPieces p js t visit = λ a b. ⊎_elim
+    let by_a_death : list_any (read_failed u visit 0) js ≡ false → LostInPieces p js t visit ⊎ LostInDeath p js t visit = λ a. ⊎_elim
     (λ came. absurd (did_not_come k t visit why h came))
     (λ x. ⊎_elim
     (λ read. absurd (false≢true (sym a ∙ failed_somewhere js u visit (cub_of p visit) read)))
-    (λ y. ⊎_elim (λ pieces. pieces)
-    (λ z. ⊎_elim (λ death. absurd (false≢true (sym b ∙ (death_loss p js t visit).1 death))) (λ stop. absurd (unstopped stop)) z) y) x)
+    (λ y. ⊎_elim (λ pieces. inl pieces) (λ z. ⊎_elim (λ death. inr death) (λ stop. absurd (unstopped stop)) z) y) x)
     (came_or_excused k t visit w put v) in (
       by_tests (IsTrueReason p js t visit) (list_any (read_failed u visit 0) js) (lost_in_death p js t visit) why miss.1
           (λ a. (reads_fail js u visit).0 a)
-          (λ b. (death_loss p js t visit).0 b)
-          by_pieces,
+          (λ a b. ⊎_elim
+          (λ pieces. absurd (not_both k t visit w pieces ((late_death p js t visit).0 b)))
+          (λ death. death) (by_a_death a))
+          (λ a b. ⊎_elim
+          (λ pieces. pieces)
+          (λ death. absurd (false≢true (sym b ∙ (late_death p js t visit).1 death.0))) (by_a_death a)),
       unstopped,
     )

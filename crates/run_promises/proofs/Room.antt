@@ -6,7 +6,6 @@ use Rattle.slot_plan.proofs.Times.{time_mono, window_parts}
 use Rattle.node_kit.specs.declared.course.Kept.{Kept}
 use Rattle.run_facts.specs.Commanded.{stop_ordered}
 use Rattle.run_facts.specs.Order.{beat_of}
-use Rattle.run_model.specs.Runs.{HasNoReturns}
 use Rattle.run_facts.specs.Timed.{IsRead}
 use Rattle.run_model.specs.Moments.{view_of}
 use Rattle.run_model.specs.Orders.{IsRecentStop, IsOfRecentlyStopped}
@@ -98,8 +97,8 @@ taken_by_another k a slot room w unput t = ⊎_elim
     absurd (none_recent k a.cub a.from a.last t.beat r.0.tenancy.instance.0 stop.0 w room.stops t.low t.high stop.1 stop.2))
     t.taken
 
-pub who_finds_room_is_put : (k : Kept) → IsKeptWell k → HasNoReturns k.course → WhoFindsRoomIsPut k
-who_finds_room_is_put k w none a wide h turn room = ⊎_elim
+pub who_finds_room_is_put : (k : Kept) → IsKeptWell k → WhoFindsRoomIsPut k
+who_finds_room_is_put k w a wide h turn room = ⊎_elim
     (λ over. over)
     (λ not. ⊎_elim
     (λ over. over)
@@ -108,7 +107,7 @@ who_finds_room_is_put k w none a wide h turn room = ⊎_elim
     let many : k.course.plan.params.slots ≤ length room.others = each_has_its_own k.course.plan.params.slots (Had k a.cub) room.others
     (λ slot low. taken_by_another k a slot room w not.0 (all slot low)) (one_slot k a.cub w) in
     absurd (omega arith))
-    (nobody_waits_beside_a_free_slot k w none a wide h turn))
+    (nobody_waits_beside_a_free_slot k w a wide h turn))
     (over_or_not k a a.last)
 
 -- ---- the first block

@@ -86,7 +86,7 @@ only_death life death j e q i d =
     (in_cases e q.before (q.last ∷ q.later) (subst (λ (es : List Entry). In e es) q.all i))
 
 -- a death that is written is one of the life
-death_is : (beats : ℕ) (life : Lifetime) (death : Option ℕ) (j : List Entry) (e : Entry) → IsDeathOf life (death_within beats death) j → In e j
+pub death_is : (beats : ℕ) (life : Lifetime) (death : Option ℕ) (j : List Entry) (e : Entry) → IsDeathOf life (death_within beats death) j → In e j
     → IsDeath e.what → death ≡ Some e.stamp.beat
 death_is beats life None j e h i d = absurd (lives_through j e h i d)
 death_is beats life (Some death) j e h i d = ⊎_elim
@@ -96,7 +96,7 @@ death_is beats life (Some death) j e h i d = ⊎_elim
     (λ (g : nat_lt death beats ≡ false). absurd (lives_through j e (subst (λ (b : Bool). IsDeathOf life (cond b (Some death) None) j) g h) i d))
     (cases_Bool (nat_lt death beats))
 
-died_at : (k : Kept) (cub : ℕ) (When : ℕ → Type 0) → IsKeptWell k → DiedAt k.course.plan.params k.journals cub When
+pub died_at : (k : Kept) (cub : ℕ) (When : ℕ → Type 0) → IsKeptWell k → DiedAt k.course.plan.params k.journals cub When
     → (death : ℕ) × ((lifetime_of k.course cub).death ≡ Some death) × When (time_of k.course.plan.params death)
 died_at k cub When w h =
     let e = any_by (λ (e : Entry). IsDeath e.what × When (time_of k.course.plan.params e.stamp.beat)) (journal_at k.journals cub) h in
@@ -188,7 +188,7 @@ what_nothing_hinders_comes k w t visit put v never lives sound =
     omega arith)
     (λ z. ⊎_elim
     (λ (death : LostInDeath p k.journals t visit).
-    let q = died_at k (cub_of p visit) (λ death. (death < d + p.beat) × (d < death + takeover p)) w death in
+    let q = died_at k (cub_of p visit) (λ death. (death < d + p.beat) × (d < death + takeover p)) w death.0 in
     let l = lives q.0 q.1 in
     let g = q.2.0 in
     omega arith)
@@ -211,7 +211,7 @@ no_lost_piece k t cub visit w none only h =
     let s = stands_some (λ (e : Entry). IsFailedRead t.instance.0 visit h.piece e.what) k.journals read in
     no_fault_no_failure k s.0 t.instance.0 visit h.piece s.1 w none s.2 s.3)
     (λ death.
-    let q = died_at k (cub_of p (visit + h.piece)) (λ death. death < leaving d h.piece p.play p.pieces + p.beat) w death in
+    let q = died_at k (cub_of p (visit + h.piece)) (λ death. death < leaving d h.piece p.play p.pieces + p.beat) w death.0 in
     let second = who_died k cub (cub_of p (visit + h.piece)) q.0 only (cub_below p (visit + h.piece) r) q.1 in
     let low = h.low in
     let high = h.high in
@@ -238,8 +238,8 @@ one_cost : (k : Kept) (t : Tenancy) (cub m n : ℕ) → IsKeptWell k → OnlyOne
 one_cost k t cub m n w only order lm ln =
     let p = k.course.plan.params in
     let r = k.course.plan.sound.ranges in
-    let dm = died_at k (cub_of p m) (λ death. (death < due p t.slot.0 m + p.beat) × (due p t.slot.0 m < death + takeover p)) w lm in
-    let dn = died_at k (cub_of p n) (λ death. (death < due p t.slot.0 n + p.beat) × (due p t.slot.0 n < death + takeover p)) w ln in
+    let dm = died_at k (cub_of p m) (λ death. (death < due p t.slot.0 m + p.beat) × (due p t.slot.0 m < death + takeover p)) w lm.0 in
+    let dn = died_at k (cub_of p n) (λ death. (death < due p t.slot.0 n + p.beat) × (due p t.slot.0 n < death + takeover p)) w ln.0 in
     let cm = who_died k cub (cub_of p m) dm.0 only (cub_below p m r) dm.1 in
     let cn = who_died k cub (cub_of p n) dn.0 only (cub_below p n r) dn.1 in
     let one : cub_of p m ≡ cub_of p n = cm ∙ sym cn in

@@ -1,8 +1,8 @@
 -- A start that was ordered is at its cub the greatest delay later.
 use Rattle.std.proofs.Common.{◌≡◌, ℕ, ◌+◌, ◌<◌, ◌≤◌, Bool, true, false, List, [], ◌∷◌, cond, filter, Option, Some, None, refl, sym, ap, subst, ◌∙◌, arith, ⊎_elim, inl, inr}
-use Rattle.std.specs.Prelude.{◌⊎◌, ◌==◌, slice_get, option_map}
-use Rattle.std.specs.List.{flat_map}
-use Rattle.std.proofs.lemmas.Bool.{eqb-true, eq-eqb, lt-ltb, cases_lt}
+use Rattle.std.specs.Prelude.{◌⊎◌, ◌==◌, nat_lt, nat_le, slice_get, option_map}
+use Rattle.std.specs.List.{flat_map, list_any}
+use Rattle.std.proofs.lemmas.Bool.{cases_Bool, eqb-true, eq-eqb, lt-ltb, le-leb, cases_lt}
 use Rattle.tiger_base.specs.declared.number.LinkNo.{LinkNo}
 use Rattle.tiger_base.specs.declared.tenancy.Ask.{Ask}
 use Rattle.tiger_base.specs.declared.message.Note.{Note}
@@ -14,28 +14,31 @@ use Rattle.node_kit.specs.declared.course.OrderKind.TheVariants as kind
 use Rattle.node_kit.specs.declared.journal.What.{What}
 use Rattle.node_kit.specs.declared.journal.What.TheVariants as what
 use Rattle.node_kit.specs.declared.journal.Entry.{Entry}
-use Rattle.node_kit.specs.declared.course.Course.{Course}
-use Rattle.node_kit.specs.Life.{Lifetime, death_of, cut_of, lifetime_of}
+use Rattle.node_kit.specs.Life.{Lifetime, lifetime_of}
 use Rattle.node_kit.specs.Links.{links_of, ends_of, controller_of}
 use Rattle.run_facts.specs.Events.{Dated}
 use Rattle.run_facts.specs.Order.{Noted, journal_of}
-use Rattle.run_facts.specs.Carried.{sent_by, got_by, sent_on, got_on, DiedBy, MayBeLost, AreFrontOn, AreCarriedBy, AreCarriedOn, IsAtItsEnd}
+use Rattle.run_facts.specs.Carried.{sent_by, got_by, sent_on, got_on, DiedBy, MayBeLost, AreFrontOn, AreCarriedBy, until, since, IsAtItsEnd}
+use Rattle.run_facts.specs.Timed.{is_died}
 use Rattle.run_facts.specs.Commanded.{Dispatch, end_of, start_of, start_in, starts_sent, starts_for, starts_at, starts_ordered}
 use Rattle.run_model.specs.Fronts.{AnyByRecursion}
 use Rattle.run_model.specs.Moments.{moment_at}
 use Rattle.run_model.specs.Orders.{IsOrdered, IsStartOf, HasStart, is_up_to}
-use Rattle.run_model.specs.Runs.{EndsBeat, HasNoReturns, order_in}
-use Rattle.run_model.proofs.Ticking.{ends_below}
+use Rattle.run_model.specs.Excuses.{IsDeath}
+use Rattle.run_model.specs.Runs.{order_in}
 use Rattle.lists.specs.Elements.{In}
-use Rattle.proof_moments.proofs.Lists.{any_by, any_with}
-use Rattle.lists.proofs.Elements.{in_filter, chosen}
+use Rattle.proof_moments.specs.Ties.{StandsIn}
+use Rattle.proof_moments.proofs.Bridge.{died_is}
+use Rattle.proof_moments.proofs.Lists.{any_by, any_with, any_passing}
+use Rattle.lists.proofs.Elements.{in_filter, from_filter, chosen}
 use Rattle.lists.proofs.Each.{all_in}
 use Rattle.proof_moments.proofs.Orders.{noted_at}
-use Rattle.proof_moments.proofs.Ticks.{up_to_by}
+use Rattle.proof_moments.proofs.Ticks.{up_to_by, up_to_parts}
 use Rattle.run_promises.specs.Kept.{IsKeptWell, IsOrderedIn, after_tick}
-use Rattle.run_promises.specs.Waits.{Wait, IsWaiting}
-use Rattle.run_promises.proofs.Fronts.{into_front_journal, belief_stays, ended_each}
-use Rattle.run_promises.proofs.Journals.{from_flat_map, into_flat_map, journal_there, in_the_order}
+use Rattle.run_promises.specs.Waits.{Wait, IsWaiting, LivesTo}
+use Rattle.run_promises.proofs.Fronts.{in_front_journal, into_front_journal, belief_stays}
+use Rattle.run_promises.proofs.Journals.{from_flat_map, into_flat_map, journal_there, in_the_order, from_the_order}
+use Rattle.run_promises.proofs.Served.{death_is}
 
 pub was_ordered : (orders : List Order) (ask : Ask) (beat : ℕ) → IsOrderedIn orders ask beat → IsOrdered orders ask
 was_ordered orders ask beat h =
@@ -99,12 +102,6 @@ sent k beat d journal w at early ordered i =
 
 -- ---- the link brings it
 
--- to a receiver that does not return what was got is a front of all that was sent
-front_on : (most beats : ℕ) (life : Lifetime) (ss gs : List (Dated Note)) → life.back ≡ None
-    → AreCarriedOn most beats life ss gs → AreFrontOn most beats life ss gs
-front_on most beats life ss gs none h =
-    subst (λ (back : Option ℕ). AreCarriedBy most beats life back ss gs) none h
-
 -- what was sent was got, unless it may be lost
 got_or_lost : (most beats : ℕ) (life : Lifetime) (ss gs : List (Dated Note)) (s : Dated Note) → AreFrontOn most beats life ss gs → In s ss
     → MayBeLost most beats life s.beat ⊎ ((g : Dated Note) × In g gs × (g.item ≡ s.item) × (g.beat ≤ s.beat + most))
@@ -118,18 +115,30 @@ got_or_lost most beats life (x ∷ ss) (g ∷ gs) s h i = ⊎_elim
     (λ k. ⊎_elim (λ l. inl l) (λ q. inr (q.0, inr q.1, q.2, q.3)) (got_or_lost most beats life ss gs s h.3 k))
     i
 
-died_too_late : (death left : Option ℕ) (due beat : ℕ) → due ≤ beat
-    → EndsBeat (record { death = death; left = left; back = None; over = false }) beat → DiedBy death due → ⊥
-died_too_late None left due beat h ends d = d
-died_too_late (Some death) left due beat h ends d = let l = ends_below death left beat ends in omega (arith, l, d, h)
+-- so it is if the receiver returns, too: what was sent below its return, and what was sent from there on, was got so
+carried_or_lost : (most beats : ℕ) (life : Lifetime) (back : Option ℕ) (ss gs : List (Dated Note)) (s : Dated Note) → AreCarriedBy most beats life back ss gs → In s ss
+    → MayBeLost most beats life s.beat ⊎ ((g : Dated Note) × In g gs × (g.item ≡ s.item) × (g.beat ≤ s.beat + most))
+carried_or_lost most beats life None ss gs s h i = got_or_lost most beats life ss gs s h i
+carried_or_lost most beats life (Some back) ss gs s h i =
+    let below : Dated Note → Bool = λ d. nat_lt d.beat back in
+    let behind : Dated Note → Bool = λ d. nat_le back d.beat in
+    ⊎_elim
+    (λ (l : s.beat < back). ⊎_elim (λ lost. inl lost)
+    (λ g. inr (g.0, (from_filter below g.0 gs g.1).0, g.2, g.3))
+    (got_or_lost most beats life (until back ss) (until back gs) s h.0 (in_filter below s ss i (lt-ltb s.beat back l))))
+    (λ (l : back ≤ s.beat). ⊎_elim (λ lost. inl lost)
+    (λ g. inr (g.0, (from_filter behind g.0 gs g.1).0, g.2, g.3))
+    (got_or_lost most beats life (since back ss) (since back gs) s h.1 (in_filter behind s ss i (le-leb back s.beat l))))
+    (cases_lt s.beat back)
 
-not_lost : (most beats sent beat : ℕ) (c : Course) (n : ℕ) → HasNoReturns c → sent + most ≤ beat → beat < beats
-    → EndsBeat (lifetime_of c n) beat → MayBeLost most beats (lifetime_of c n) sent → ⊥
-not_lost most beats sent beat c n none low high ends h = ⊎_elim
-    (λ l. omega arith)
-    (λ d. died_too_late (death_of c n) (cut_of c n) (sent + most) beat low
-    (subst (λ (back : Option ℕ). EndsBeat (record { death = death_of c n; left = cut_of c n; back = back; over = false }) beat) (none n) ends) d.0)
-    h
+-- nothing is lost that comes to a receiver before its death and before the end
+not_lost : (most beats sent beat : ℕ) (life : Lifetime) → ((death : ℕ) → life.death ≡ Some death → beat < death)
+    → sent + most ≤ beat → beat < beats → MayBeLost most beats life sent → ⊥
+not_lost most beats sent beat life lives low high h = ⊎_elim (λ l. omega (arith, l, low, high)) (λ d. died life.death refl d.0) h
+  where
+    died : (death : Option ℕ) → life.death ≡ death → DiedBy death (sent + most) → ⊥
+    died None e d = d
+    died (Some death) e d = let l = lives death e in omega (arith, l, d, low)
 
 sent_on_link : (l : ℕ) (e : Entry) (link : LinkNo) (n : Note) → e.what ≡ what.Sent link n → link.0 ≡ l
     → In (record { beat = e.stamp.beat; item = n }) (sent_by l e.stamp.beat e.what)
@@ -158,12 +167,12 @@ record IsGot (journal : List Entry) (high : ℕ) (ask : Ask) (redundant : Bool) 
   link : LinkNo
   is : entry.what ≡ what.Got link (note.Start redundant ask)
 
-got : (k : Kept) (ordered c beat : ℕ) (ask : Ask) (redundant : Bool) (sender receiver : List Entry) → IsKeptWell k → HasNoReturns k.course
+got : (k : Kept) (ordered c beat : ℕ) (ask : Ask) (redundant : Bool) (sender receiver : List Entry) → IsKeptWell k
     → slice_get k.journals (controller_of (links_of k.course.plan.params)) ≡ Some sender → slice_get k.journals c ≡ Some receiver
     → IsSent k.course.plan.params sender ordered (start_to c ask redundant) → ordered + k.course.plan.params.delay ≤ beat → beat < k.course.beats
-    → EndsBeat (lifetime_of k.course c) beat → IsGot receiver (ordered + k.course.plan.params.delay) ask redundant
+    → LivesTo k c beat → IsGot receiver (ordered + k.course.plan.params.delay) ask redundant
 unfolding sent_on got_on
-got k ordered c beat ask redundant sender receiver w none from to s low high ends_it =
+got k ordered c beat ask redundant sender receiver w from to s low high lives =
     let p = k.course.plan.params in
     let here : ℕ = controller_of (links_of p) in
     let most : ℕ = p.delay in
@@ -177,7 +186,7 @@ got k ordered c beat ask redundant sender receiver w none from to s low high end
     let on = into_flat_map (λ (e : Entry). sent_by s.link.0 e.stamp.beat e.what) item sender s.entry s.there
     (sent_on_link s.link.0 s.entry s.link message s.is refl) in
     ⊎_elim
-    (λ l. absurd (not_lost most k.course.beats ordered beat k.course c none low high ends_it (subst (λ (b : ℕ). MayBeLost most k.course.beats life b) s.in_beat l)))
+    (λ l. absurd (not_lost most k.course.beats ordered beat life lives low high (subst (λ (b : ℕ). MayBeLost most k.course.beats life b) s.in_beat l)))
     (λ g.
     let e = from_flat_map (λ (e : Entry). got_by s.link.0 e.stamp.beat e.what) g.0 receiver g.1 in
     let q = got_on_link s.link.0 e.0.stamp.beat e.0.what g.0 e.2 in
@@ -186,8 +195,8 @@ got k ordered c beat ask redundant sender receiver w none from to s low high end
     let in_time = g.3 in
     let sent_in = s.in_beat in
     record { entry = e.0; there = e.1; early = omega arith; link = q.0; is = q.1 ∙ ap (λ (n : Note). what.Got q.0 n) same })
-    (got_or_lost most k.course.beats life (sent_on s.link.0 sender) (got_on s.link.0 receiver) item
-    (front_on most k.course.beats life _ _ (none c) (w.carried.on_links s.link.0 here c sender receiver ends from to)) on)
+    (carried_or_lost most k.course.beats life life.back (sent_on s.link.0 sender) (got_on s.link.0 receiver) item
+    (w.carried.on_links s.link.0 here c sender receiver ends from to) on)
 
 -- ---- so it is there
 
@@ -195,10 +204,10 @@ is_start : (v : ℕ) (redundant : Bool) (ask : Ask) (w : What) (link : LinkNo) �
     → IsStartOf v redundant w
 is_start v redundant ask w link is same = subst (λ (z : What). IsStartOf v redundant z) (sym is) (same, refl)
 
-start_there : (k : Kept) (a : Wait) (beat : ℕ) (redundant : Bool) → IsKeptWell k → HasNoReturns k.course → IsWaiting k a → a.from ≤ beat → beat ≤ a.last
+start_there : (k : Kept) (a : Wait) (beat : ℕ) (redundant : Bool) → IsKeptWell k → IsWaiting k a → a.from ≤ beat → beat ≤ a.last
     → In (start_to a.cub a.ask redundant) (starts_for k.course.plan.params (kind.Begin a.ask))
     → AnyByRecursion (λ (e : Entry). IsStartOf a.ask.instance.0 redundant e.what) (journal_of a.cub (filter (is_up_to beat a.cub) (order_in k)))
-start_there k a beat redundant w none h low high to =
+start_there k a beat redundant w h low high to =
     let p = k.course.plan.params in
     let c : ℕ = a.cub in
     let log = order_in k in
@@ -208,8 +217,8 @@ start_there k a beat redundant w none h low high to =
     let sender = journal_there k (controller_of (links_of p)) w (omega arith) in
     let receiver = journal_there k c w (omega arith) in
     let out = sent k a.ordered (start_to c a.ask redundant) sender.0 w sender.1 (omega arith) h.asked to in
-    let g = got k a.ordered c beat a.ask redundant sender.0 receiver.0 w none sender.1 receiver.1 out (omega arith) (omega arith)
-    (ended_each k.course c beat a.last none high h.ends_last) in
+    let g = got k a.ordered c beat a.ask redundant sender.0 receiver.0 w sender.1 receiver.1 out (omega arith) (omega arith)
+    (λ death d. let l = h.lives death d in omega (arith, l, high)) in
     let early = g.early in
     let x : Noted = noted_at c g.entry in
     let there : In x log = in_the_order k c g.entry w (record { journal = receiver.0; at = receiver.1; there = g.there }) in
@@ -222,17 +231,40 @@ start_there k a beat redundant w none h low high to =
     (into_front_journal (filter (is_up_to beat c) log) c x front refl)
     (is_start a.ask.instance.0 redundant a.ask g.entry.what g.link g.is refl)
 
+-- a cub that does not die by the end of a beat has not died at the end of any tick up to it
+undead : (k : Kept) (c beat last : ℕ) → IsKeptWell k → beat ≤ last → LivesTo k c last → (after_tick k c beat).dead c ≡ false
+unfolding moment_at
+undead k c beat last w low lives =
+    let front : List Noted = filter (is_up_to beat c) (order_in k) in
+    ⊎_elim
+    (λ (t : list_any (λ (e : Entry). is_died e.what) (journal_of c front) ≡ true).
+    let e = any_passing (λ (e : Entry). is_died e.what) (journal_of c front) t in
+    let x = in_front_journal front c e.0 e.1 in
+    let f = from_filter (is_up_to beat c) x.0 (order_in k) x.1 in
+    let s = subst (λ (n : ℕ). StandsIn k.journals n x.0.entry) x.2 (from_the_order k x.0 f.0) in
+    let died : IsDeath x.0.entry.what = subst (λ (w : What). IsDeath w) (sym (ap (λ (y : Entry). y.what) x.3 ∙ died_is e.0.what e.2)) tt in
+    let late = lives x.0.entry.stamp.beat (death_is k.course.beats (lifetime_of k.course c) _ s.journal x.0.entry (w.timed c s.journal s.at).death s.there died) in
+    absurd (⊎_elim (λ l. omega (arith, l, late, low)) (λ q. let same = q.0 in omega (arith, same, late, low)) (up_to_parts beat c x.0 f.1)))
+    (λ (none : list_any (λ (e : Entry). is_died e.what) (journal_of c front) ≡ false). none)
+    (cases_Bool (list_any (λ (e : Entry). is_died e.what) (journal_of c front)))
+
 -- a start that waits is at its cub at each of the ticks
-pub has_start : (k : Kept) (a : Wait) (beat : ℕ) → IsKeptWell k → HasNoReturns k.course → IsWaiting k a → a.from ≤ beat → beat ≤ a.last
+pub has_start : (k : Kept) (a : Wait) (beat : ℕ) → IsKeptWell k → IsWaiting k a → a.from ≤ beat → beat ≤ a.last
     → HasStart k.course.plan.params (after_tick k a.cub beat) a.cub a.ask
 unfolding moment_at
-has_start k a beat w none h low high = ⊎_elim
-    (λ own. inl (own, start_there k a beat false w none h low high (inl (ap (λ (n : ℕ). start_to n a.ask false) (sym own)))))
+has_start k a beat w h low high = ⊎_elim
+    (λ own. inl (
+      own,
+      (
+        undead k a.cub beat a.last w high h.lives,
+        start_there k a beat false w h low high (inl (ap (λ (n : ℕ). start_to n a.ask false) (sym own))),
+      ),
+    ))
     (λ next. inr (
       next.0,
       (
         belief_stays (order_in k) a.from beat a.cub _ low next.1,
-        start_there k a beat true w none h low high (inr (inl (ap (λ (n : ℕ). start_to n a.ask true) (sym next.0)))),
+        start_there k a beat true w h low high (inr (inl (ap (λ (n : ℕ). start_to n a.ask true) (sym next.0)))),
       ),
     ))
     h.its_cub

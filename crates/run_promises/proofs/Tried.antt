@@ -9,14 +9,14 @@ use Rattle.slot_plan.proofs.Times.{product_le, time_mono, time_next, time_below}
 use Rattle.node_kit.specs.declared.course.Kept.{Kept}
 use Rattle.node_kit.specs.Courses.{reading_of, offset_of}
 use Rattle.run_model.specs.Schedule.{is_stopped}
-use Rattle.run_model.specs.Runs.{HasNoReturns, order_in}
+use Rattle.run_model.specs.Runs.{order_in}
 use Rattle.run_promises.specs.Windows.{IsWide}
 use Rattle.run_promises.specs.Kept.{IsKeptWell, after_tick}
 use Rattle.run_promises.specs.Waits.{Wait, IsWaiting, IsOver, IsInWindowAt, IsTakenAt, IsATurn}
 use Rattle.run_promises.specs.Placing.{EachVisitIsTried, ComesBy, AFreeVisitIsEnough, NobodyWaitsBesideAFreeSlot, AnEmptyRingPutsSoon}
 use Rattle.run_promises.proofs.Windows.{within, opening, opens, met}
 use Rattle.run_promises.proofs.Visits.{next, some_slot_comes_soon}
-use Rattle.run_promises.proofs.Fronts.{put_stays, stop_stays, ended_each}
+use Rattle.run_promises.proofs.Fronts.{put_stays, stop_stays, ends_each}
 use Rattle.run_promises.proofs.Starts.{was_ordered, has_start}
 
 -- ---- one visit
@@ -35,14 +35,14 @@ over_stays k a b last h over = ⊎_elim
     (λ t. inr (stop_stays (order_in k) b last a.cub a.ask.instance.0 h t))
     over
 
-pub each_visit_is_tried : (k : Kept) → IsKeptWell k → HasNoReturns k.course → EachVisitIsTried k
-each_visit_is_tried k w none a beat slot visit h low high in_plan on_disk window =
+pub each_visit_is_tried : (k : Kept) → IsKeptWell k → EachVisitIsTried k
+each_visit_is_tried k w a beat slot visit h low high in_plan on_disk window =
     let ends = h.ends in
     let ticked = (w.claims.starts.patient a.cub beat (reading_of k.course a.cub beat) h.small
-    (omega arith, ended_each k.course a.cub beat a.last none high h.ends_last, refl)) in
+    (omega arith, ends_each k a.cub beat a.last high h.lives, refl)) in
     ⊎_elim
     (λ over. inl over)
-    (λ not. inr (ticked.taken a.ask slot visit (was_ordered k.orders a.ask a.ordered h.asked) (has_start k a beat w none h low high)
+    (λ not. inr (ticked.taken a.ask slot visit (was_ordered k.orders a.ask a.ordered h.asked) (has_start k a beat w h low high)
     not.0 not.1 in_plan on_disk window))
     (over_or_not k a beat)
 
@@ -92,20 +92,20 @@ tried_at k a slot visit wide rises by =
     (cases_lt (time_of p a.from + o + p.window_a) (due p slot visit))
 
 -- and there its instance is over, or it is taken
-over_or_taken : (k : Kept) (a : Wait) (slot visit : ℕ) → IsKeptWell k → HasNoReturns k.course → IsWide k.course.plan.params → IsWaiting k a → ComesBy k a slot visit
+over_or_taken : (k : Kept) (a : Wait) (slot visit : ℕ) → IsKeptWell k → IsWide k.course.plan.params → IsWaiting k a → ComesBy k a slot visit
     → IsOver k a a.last ⊎ ((t : IsTriedAt k a slot visit) × IsTakenAt k a.cub t.beat slot visit)
-over_or_taken k a slot visit w none wide h by =
+over_or_taken k a slot visit w wide h by =
     let t = tried_at k a slot visit wide h.rises by in
     ⊎_elim
     (λ over. inl (over_stays k a t.beat a.last t.high over))
     (λ taken. inr (t, taken))
-    (each_visit_is_tried k w none a t.beat slot visit h t.low t.high by.in_plan by.on_disk t.window)
+    (each_visit_is_tried k w a t.beat slot visit h t.low t.high by.in_plan by.on_disk t.window)
 
-pub a_free_visit_is_enough : (k : Kept) → IsKeptWell k → HasNoReturns k.course → AFreeVisitIsEnough k
-a_free_visit_is_enough k w none a slot visit wide h by free = ⊎_elim
+pub a_free_visit_is_enough : (k : Kept) → IsKeptWell k → AFreeVisitIsEnough k
+a_free_visit_is_enough k w a slot visit wide h by free = ⊎_elim
     (λ over. over)
     (λ q. absurd (free q.0.beat q.0.low q.0.high q.1))
-    (over_or_taken k a slot visit w none wide h by)
+    (over_or_taken k a slot visit w wide h by)
 
 -- ---- a turn
 
@@ -129,8 +129,8 @@ comes_by k a slot h turn in_plan =
       },
     )
 
-pub nobody_waits_beside_a_free_slot : (k : Kept) → IsKeptWell k → HasNoReturns k.course → NobodyWaitsBesideAFreeSlot k
-nobody_waits_beside_a_free_slot k w none a wide h turn = ⊎_elim
+pub nobody_waits_beside_a_free_slot : (k : Kept) → IsKeptWell k → NobodyWaitsBesideAFreeSlot k
+nobody_waits_beside_a_free_slot k w a wide h turn = ⊎_elim
     (λ over. inl over)
     (λ not. inr (λ slot in_plan.
     let c = comes_by k a slot h turn in_plan in
@@ -145,7 +145,7 @@ nobody_waits_beside_a_free_slot k w none a wide h turn = ⊎_elim
       window = q.0.window;
       taken = q.1;
     })
-    (over_or_taken k a slot c.0 w none wide h c.1)))
+    (over_or_taken k a slot c.0 w wide h c.1)))
     (over_or_not k a a.last)
 
 -- ---- an empty ring
@@ -156,8 +156,8 @@ below_by_product n a b h = ⊎_elim (λ l. l) (λ g. absurd (omega (arith, produ
 sum_product : (n a b : ℕ) → n * (a + b) ≡ n * a + n * b
 sum_product n a b = omega arith
 
-pub an_empty_ring_puts_soon : (k : Kept) → IsKeptWell k → HasNoReturns k.course → AnEmptyRingPutsSoon k
-an_empty_ring_puts_soon k w none a wide h begun step empty =
+pub an_empty_ring_puts_soon : (k : Kept) → IsKeptWell k → AnEmptyRingPutsSoon k
+an_empty_ring_puts_soon k w a wide h begun step empty =
     let p = k.course.plan.params in
     let n : ℕ = p.slots in
     let first = reading_is k a.cub a.from in
@@ -173,6 +173,6 @@ an_empty_ring_puts_soon k w none a wide h begun step empty =
     let low_times : n * low ≡ n * (time_of p a.from + p.window_b) + n * o = ap (λ (x : ℕ). n * x) low_is ∙ sum_product n (time_of p a.from + p.window_b) o in
     let high_times : n * high ≡ n * (time_of p a.last + p.window_a) + n * o = ap (λ (x : ℕ). n * x) high_is ∙ sum_product n (time_of p a.last + p.window_a) o in
     let below : due p soon.slot soon.visit < high = below_by_product n (due p soon.slot soon.visit) high (omega (arith, low_times, high_times, early, step)) in
-    a_free_visit_is_enough k w none a soon.slot soon.visit wide h
+    a_free_visit_is_enough k w a soon.slot soon.visit wide h
     (record { in_plan = soon.in_plan; on_disk = soon.on_disk; ahead = omega (arith, late); in_time = omega (arith, below) })
     (empty soon.slot soon.visit)

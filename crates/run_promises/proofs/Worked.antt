@@ -22,7 +22,6 @@ use Rattle.node_kit.specs.Life.{Lifetime, back_of, lifetime_of, acts}
 use Rattle.node_kit.specs.Links.{links_of, ends_of}
 use Rattle.run_facts.specs.Carried.{AreFrontOn, AreCarriedBy, AreCarriedOn, sent_on, got_on}
 use Rattle.run_facts.specs.Events.{Dated}
-use Rattle.run_model.specs.Runs.{HasNoReturns}
 use Rattle.run_facts.specs.Commanded.{IsCommanded, AreCommanded, is_finish_of, is_gone, starts_sent, starts_ordered, gone_in, gone_before, stop_ordered, places_got}
 use Rattle.run_facts.specs.Order.{Noted, beat_of, journal_of, order_of, IsInOrder}
 use Rattle.run_facts.proofs.Orders.{order_found}
@@ -150,7 +149,7 @@ unfolding moment_at
 views_are_part = (part_at_fronts small one_log).1 (λ front back is c low.
     let m = moment_at front in
     all_by (λ (r : Rec). IsPart small m r.tenancy r.visit) (view_of m c) (λ r i.
-    absurd (chosen (λ (rs : List Rec). In r rs → ⊥) (m.dead c) [] (m.records c) (λ _ j. j) (λ _ j. no_record front back c r is j) i)))
+    absurd (no_record front back c r is i)))
 
 served_once : AreServedOnce small one_log
 unfolding on_samples
@@ -231,7 +230,7 @@ nobody_passed_over cub beat reading = record {
       let same = only-order one_block a o in
       let unput_one : (end_of_tick beat cub one_log).put 0 ≡ false = subst (λ b. (end_of_tick beat cub one_log).put b.instance.0 ≡ false) (sym same) unput in
       absurd (⊎_elim
-      (λ own. true≢false (sym (put_by_then cub beat false (subst (λ b. AnyByRecursion (λ (e : Entry). IsStartOf b.instance.0 false e.what) (journal_of cub (filter (is_up_to beat cub) one_log))) (sym same) own.1)) ∙ unput_one))
+      (λ own. true≢false (sym (put_by_then cub beat false (subst (λ b. AnyByRecursion (λ (e : Entry). IsStartOf b.instance.0 false e.what) (journal_of cub (filter (is_up_to beat cub) one_log))) (sym same) own.1.1)) ∙ unput_one))
       (λ next. true≢false (sym (put_by_then cub beat true (subst (λ b. AnyByRecursion (λ (e : Entry). IsStartOf b.instance.0 true e.what) (journal_of cub (filter (is_up_to beat cub) one_log))) (sym same) next.1.1)) ∙ unput_one))
       has);
 }
@@ -379,7 +378,7 @@ meets_claims k plan s =
     }
 
 -- nobody returns
-pub none_back : (k : Kept) (plan : IsPlan small) (s : IsOfTen) → HasNoReturns (one_viewer k plan s).course
+none_back : (k : Kept) (plan : IsPlan small) (s : IsOfTen) (n : ℕ) → back_of (one_viewer k plan s).course n ≡ None
 none_back k plan s n = ⊎_elim
     (λ (low : n < 8). of-eight (λ n. back_of (one_viewer k plan s).course n ≡ None) refl refl refl refl refl refl refl refl n low)
     (λ (high : 8 ≤ n). let beyond : nat_lt n 8 ≡ false = grind (arith, nat_tests, high) in rw beyond refl)
@@ -458,7 +457,7 @@ sound k plan s = record {
 }
 
 pub promises : (k : Kept) (plan : IsPlan small) (s : IsOfTen) → KeepsPromises (one_viewer k plan s)
-promises k plan s = kept_runs_keep_promises (one_viewer k plan s) (one_viewer_is_kept_well k plan s) (none_back k plan s)
+promises k plan s = kept_runs_keep_promises (one_viewer k plan s) (one_viewer_is_kept_well k plan s)
 
 turn : IsATurn small 2 1520
 unfolding time_of
@@ -502,7 +501,6 @@ pub nobody_believed : (k : Kept) (plan : IsPlan small) (s : IsOfTen) (c beat d :
 nobody_believed k plan s c beat d = subst (λ (log : List Noted). (end_of_tick beat c log).believed c d ≡ false) (sym order_is) (believes_none c beat d)
 
 pub waits_until : (k : Kept) (plan : IsPlan small) (s : IsOfTen) (last : ℕ) → 2 ≤ last → last < 1600 → IsWaiting (one_viewer k plan s) (wait 0 2 last)
-unfolding acts
 waits_until k plan s last low high = record {
   asked = inl (refl, refl);
   disk = omega arith;
@@ -511,7 +509,7 @@ waits_until k plan s last low high = record {
   came = omega arith;
   rises = low;
   ends = high;
-  ends_last = (refl, refl);
+  lives = λ death d. let none : None ≡ Some death = d in absurd (cc);
 }
 
 pub over : (k : Kept) (plan : IsPlan small) (s : IsOfTen) → IsOver (one_viewer k plan s) (wait 0 2 1520) 2

@@ -1,6 +1,5 @@
 -- All that is promised of a kept run to a user of the program, and what it follows from.
 use Rattle.node_kit.specs.declared.course.Kept.{Kept}
-use Rattle.run_model.specs.Runs.{HasNoReturns}
 use Rattle.run_promises.specs.Kept.{IsKeptWell}
 use Rattle.run_promises.specs.Placing.{EachVisitIsTried, AFreeVisitIsEnough, NobodyWaitsBesideAFreeSlot, WhoFindsRoomIsPut, AnEmptyRingPutsSoon, TheFirstBlockIsDueSoon}
 use Rattle.run_promises.specs.House.{WhoPressesPlayIsServed}
@@ -22,6 +21,6 @@ pub record KeepsPromises (k : Kept) : Type 0 where
   pub reasons : EachReasonIsTrue k
   pub stops : AStoppedViewerIsGone k
 
--- each kept run in which nobody returns keeps them
+-- each kept run keeps them
 abbrev pub KeptRunsKeepPromises : Type 0
-KeptRunsKeepPromises = (k : Kept) → IsKeptWell k → HasNoReturns k.course → KeepsPromises k
+KeptRunsKeepPromises = (k : Kept) → IsKeptWell k → KeepsPromises k

@@ -1,5 +1,5 @@
 -- One who waits for a slot: a start that was ordered, and the cub that may put it, over some beats.
-use Rattle.std.specs.Prelude.{◌≡◌, ℕ, ◌+◌, ◌*◌, ◌%◌, ◌<◌, ◌≤◌, true, IsTrue, ◌⊎◌}
+use Rattle.std.specs.Prelude.{◌≡◌, ℕ, ◌+◌, ◌*◌, ◌%◌, ◌<◌, ◌≤◌, true, IsTrue, Some, ◌⊎◌}
 use Rattle.tiger_base.specs.declared.tenancy.Ask.{Ask}
 use Rattle.slot_plan.specs.declared.params.Params.{Params}
 use Rattle.slot_plan.specs.Times.{disk_count, in_window, time_of}
@@ -8,7 +8,6 @@ use Rattle.node_kit.specs.Courses.{reading_of}
 use Rattle.node_kit.specs.Life.{lifetime_of}
 use Rattle.run_model.specs.Moments.{Moment}
 use Rattle.run_model.specs.Orders.{IsTaken}
-use Rattle.run_model.specs.Runs.{EndsBeat}
 use Rattle.run_promises.specs.Kept.{after_tick, WasPut, WasStopped, IsOrderedIn}
 
 -- what is asked, the beat in which it was ordered, a cub, and the first and the last of some beats of this cub
@@ -25,8 +24,13 @@ IsItsCub p m cub ask =
     (ask.disk.0 % p.cubs ≡ cub)
     ⊎ (((ask.disk.0 + 1) % p.cubs ≡ cub) × (m.believed cub (ask.disk.0 % p.cubs) ≡ true))
 
+-- a cub does not die by the end of a beat
+abbrev pub LivesTo : Kept → ℕ → ℕ → Type 0
+LivesTo k cub beat = (death : ℕ) → (lifetime_of k.course cub).death ≡ Some death → beat < death
+
 -- A start waits: it was ordered, the cub may put it at the first of these beats, which is the greatest delay after the
--- order or later, and the cub ends the last of them, in which the run has not ended.
+-- order or later, the run has not ended in the last of them, and the cub has not died by then. A cub that has died forgets
+-- its starts, and once it is back it discards them.
 pub record IsWaiting (k : Kept) (w : Wait) : Type 0 where
   pub asked : IsOrderedIn k.orders w.ask w.ordered
   pub disk : w.ask.disk.0 < disk_count k.course.plan.params
@@ -35,7 +39,7 @@ pub record IsWaiting (k : Kept) (w : Wait) : Type 0 where
   pub came : w.ordered + k.course.plan.params.delay ≤ w.from
   pub rises : w.from ≤ w.last
   pub ends : w.last < k.course.beats
-  pub ends_last : EndsBeat (lifetime_of k.course w.cub) w.last
+  pub lives : LivesTo k w.cub w.last
 
 -- by the end of the cub's tick of a beat its instance was put, or stopped
 abbrev pub IsOver : Kept → Wait → ℕ → Type 0

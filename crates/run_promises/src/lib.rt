@@ -1,10 +1,8 @@
 //! What follows of the nine claims for a user of the program: when a start is put, which blocks come, what a line
-//! `missing` stands for, and when a viewer that was stopped is gone. What a start that waits may rely on is proved if
-//! no cub returns.
+//! `missing` stands for, and when a viewer that was stopped is gone.
 #![tactic(auto)]
 
 ghost use Rattle.node_kit.specs.declared.course.Kept.{Kept};
-ghost use Rattle.run_model.specs.Runs.{HasNoReturns};
 ghost use Rattle.run_promises.specs.House.{WhoPressesPlayIsServed};
 ghost use Rattle.run_promises.specs.Kept.{IsKeptWell};
 ghost use Rattle.run_promises.specs.Placing.{AFreeVisitIsEnough, AnEmptyRingPutsSoon, EachVisitIsTried, NobodyWaitsBesideAFreeSlot, SomeSlotComesSoon, TheFirstBlockIsDueSoon, WhoFindsRoomIsPut};
@@ -31,31 +29,31 @@ pub fn some_slot_comes_soon()
 /// Each visit of its disk finds a start that waits put or stopped, or is taken.
 #[tactic(auto, using(crate::proofs::Tried::each_visit_is_tried))]
 pub fn each_visit_is_tried()
-    ensures { (k : Kept) → IsKeptWell k → HasNoReturns k.course → EachVisitIsTried k }
+    ensures { (k : Kept) → IsKeptWell k → EachVisitIsTried k }
 {}
 
 /// One visit that comes by and is never taken is enough for a start that waits.
 #[tactic(auto, using(crate::proofs::Tried::a_free_visit_is_enough))]
 pub fn a_free_visit_is_enough()
-    ensures { (k : Kept) → IsKeptWell k → HasNoReturns k.course → AFreeVisitIsEnough k }
+    ensures { (k : Kept) → IsKeptWell k → AFreeVisitIsEnough k }
 {}
 
 /// Who waits a turn is put or stopped, or each slot was taken as it came by.
 #[tactic(auto, using(crate::proofs::Tried::nobody_waits_beside_a_free_slot))]
 pub fn nobody_waits_beside_a_free_slot()
-    ensures { (k : Kept) → IsKeptWell k → HasNoReturns k.course → NobodyWaitsBesideAFreeSlot k }
+    ensures { (k : Kept) → IsKeptWell k → NobodyWaitsBesideAFreeSlot k }
 {}
 
 /// Who waits a turn with fewer others than slots is put or stopped.
 #[tactic(auto, using(crate::proofs::Room::who_finds_room_is_put))]
 pub fn who_finds_room_is_put()
-    ensures { (k : Kept) → IsKeptWell k → HasNoReturns k.course → WhoFindsRoomIsPut k }
+    ensures { (k : Kept) → IsKeptWell k → WhoFindsRoomIsPut k }
 {}
 
 /// On an empty ring a start is put or stopped as soon as the next slot comes by.
 #[tactic(auto, using(crate::proofs::Tried::an_empty_ring_puts_soon))]
 pub fn an_empty_ring_puts_soon()
-    ensures { (k : Kept) → IsKeptWell k → HasNoReturns k.course → AnEmptyRingPutsSoon k }
+    ensures { (k : Kept) → IsKeptWell k → AnEmptyRingPutsSoon k }
 {}
 
 /// The first block of a viewer is due soon after it is put.
@@ -67,7 +65,7 @@ pub fn the_first_block_is_due_soon()
 /// Who presses play in a house that is never full, in which nothing fails, gets every block.
 #[tactic(auto, using(crate::proofs::House::who_presses_play_is_served))]
 pub fn who_presses_play_is_served()
-    ensures { (k : Kept) → IsKeptWell k → HasNoReturns k.course → WhoPressesPlayIsServed k }
+    ensures { (k : Kept) → IsKeptWell k → WhoPressesPlayIsServed k }
 {}
 
 /// What no death, no read fault and no stop hinders comes.
@@ -92,7 +90,7 @@ pub fn a_stopped_viewer_is_gone()
     ensures { (k : Kept) → IsKeptWell k → AStoppedViewerIsGone k }
 {}
 
-/// A kept run in which nobody returns keeps all of these promises.
+/// A kept run keeps all of these promises.
 #[tactic(auto, using(crate::proofs::Promises::kept_runs_keep_promises))]
 pub fn kept_runs_keep_promises()
     ensures { KeptRunsKeepPromises }

@@ -15,7 +15,7 @@ ghost use Rattle.run_model.specs.Excuses.{LostInDeath};
 ghost use Rattle.run_model.specs.Moments.{moment_at, moment_time};
 ghost use Rattle.run_model.specs.Orders.{PutsAreFair};
 ghost use Rattle.run_model.specs.Parts.{ViewsAreAlwaysPart};
-ghost use Rattle.run_model.specs.Runs.{EndsBeat, HasNoReturns};
+ghost use Rattle.run_model.specs.Runs.{EndsBeat};
 ghost use Rattle.run_model.specs.Samples.{IsOfTen, all, at_reading, begins, dies, dying, fails, kept_of_lives, of_none, put, seat, seat_in, seated, ten, three, want};
 ghost use Rattle.run_model.specs.Served.{IsPut};
 ghost use Rattle.run_claims.specs.Samples.{faulty};
@@ -104,7 +104,8 @@ pub fn waits()
 {}
 
 /// Cub 0 dies in beat 50, behind one message of that beat or before all: beat 49 is the last that it
-/// ends, and so the last of a wait there. A cub that returns ends the beat of its return.
+/// ends, and so the last of a wait there. A cub that returns ends the beat of its return, but no start waits
+/// there again.
 pub fn last_beats()
     ensures before { EndsBeat (record { death = Some 50; left = Some 1; back = None; over = false })
         49 }
@@ -122,11 +123,12 @@ pub fn last_beats()
     ensures waits_no_longer { (k : Kept) (p : IsPlan small) → IsWaiting
         (kept_of_lives k p 1600 (dying (Some 50) None None) (dying (Some 1) None None) of_none
         (begins one_block) []) (wait 0 2 50) → ⊥ }
-    ensures nobody_returns { (k : Kept) (p : IsPlan small) (s : IsOfTen) →
-        HasNoReturns (one_viewer k p s).course }
-    ensures last_returns { (k : Kept) (p : IsPlan small) → HasNoReturns
-        (kept_of_lives k p 1600 (dying None None (Some 50)) of_none (dying None None (Some 60))
-        [] []).course → ⊥ }
+    ensures waits_before_return { (k : Kept) (p : IsPlan small) → IsWaiting
+        (kept_of_lives k p 1600 (dying (Some 50) None None) of_none (dying (Some 60) None None)
+        (begins one_block) []) (wait 0 2 49) }
+    ensures waits_behind_return { (k : Kept) (p : IsPlan small) → IsWaiting
+        (kept_of_lives k p 1600 (dying (Some 50) None None) of_none (dying (Some 60) None None)
+        (begins one_block) []) (wait 0 60 90) → ⊥ }
 {}
 
 /// There are 16 slots. A stop in beat 899 is more than the 100 beats of a block play time before

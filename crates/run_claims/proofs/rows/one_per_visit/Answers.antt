@@ -49,3 +49,15 @@ returns-clause-pieces_of_dead c = record {
 pub returns-clause-piece_of_living : goal.returns-clause-piece_of_living
 unfolding next_moment cub_of
 returns-clause-piece_of_living c h = let died = h.dead.1.0 (omega arith) in absurd (cc)
+
+pub returns-clause-pieces_of_returned : goal.returns-clause-pieces_of_returned
+unfolding next_moment cub_of
+returns-clause-pieces_of_returned c = record {
+  instance = tt;
+  ask = (tt, (tt, (omega arith, tt)));
+  dead = (tt, (tt, ((λ l. refl), tt)));
+}
+
+pub returns-clause-returned_before_death : goal.returns-clause-returned_before_death
+unfolding next_moment cub_of
+returns-clause-returned_before_death c h = let died = h.dead.1.0 (omega arith) in absurd (cc)

@@ -12,3 +12,7 @@ returns-clause-of_living c h = let died = h.1.0 in absurd (cc)
 
 pub returns-clause-too_soon : goal.returns-clause-too_soon
 returns-clause-too_soon c h = let died = h.0 in absurd (cc)
+
+pub returns-clause-of_returned : goal.returns-clause-of_returned
+unfolding next_moment
+returns-clause-of_returned c = (tt, (tt, (refl, tt)))

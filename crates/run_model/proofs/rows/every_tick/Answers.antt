@@ -22,7 +22,7 @@ no-start v redundant (x ∷ xs) e h = absurd (cc)
 idle : (p : Params) (orders : List Order) (m : Moment) (cub beat reading : ℕ) → m.journal cub ≡ [] → IsNotPassedOver p orders m cub beat reading
 idle p orders m cub beat reading e = record {
   taken = λ a slot visit o s put gone l d w. ⊎_elim
-      (λ own. absurd (no-start a.instance.0 false (m.journal cub) e own.1))
+      (λ own. absurd (no-start a.instance.0 false (m.journal cub) e own.1.1))
       (λ next. absurd (no-start a.instance.0 true (m.journal cub) e next.1.1)) s;
 }
 
@@ -43,7 +43,7 @@ returns-clause-put_then c k plan = in-one-beat (kept k plan 1 (dying None None N
 
 pub returns-clause-waits : goal.returns-clause-waits
 unfolding on_samples
-returns-clause-waits c k plan h = ⊎_elim (λ t. let holder = t.1 in absurd (cc)) (λ n. n) ((h 0 0 (omega arith) (omega arith) (refl, refl)).taken (ask) 1 0 (inl refl) (inl (refl, inl (refl, refl))) refl refl (omega arith) refl refl)
+returns-clause-waits c k plan h = ⊎_elim (λ t. let holder = t.1 in absurd (cc)) (λ n. n) ((h 0 0 (omega arith) (omega arith) (refl, refl)).taken (ask) 1 0 (inl refl) (inl (refl, (refl, inl (refl, refl)))) refl refl (omega arith) refl refl)
 
 pub returns-clause-dies_then : goal.returns-clause-dies_then
 unfolding on_samples
@@ -51,11 +51,11 @@ returns-clause-dies_then c k plan = in-one-beat (kept k plan 1 (dying (Some 0) N
 
 pub returns-clause-dies_later : goal.returns-clause-dies_later
 unfolding on_samples
-returns-clause-dies_later c k plan h = ⊎_elim (λ t. let holder = t.1 in absurd (cc)) (λ n. n) ((h 0 0 (omega arith) (omega arith) (refl, refl)).taken (ask) 1 0 (inl refl) (inl (refl, inl (refl, refl))) refl refl (omega arith) refl refl)
+returns-clause-dies_later c k plan h = ⊎_elim (λ t. let holder = t.1 in absurd (cc)) (λ n. n) ((h 0 0 (omega arith) (omega arith) (refl, refl)).taken (ask) 1 0 (inl refl) (inl (refl, (refl, inl (refl, refl)))) refl refl (omega arith) refl refl)
 
 pub returns-clause-last_cub : goal.returns-clause-last_cub
 unfolding on_samples
-returns-clause-last_cub c k plan h = ⊎_elim (λ t. let holder = t.1 in absurd (cc)) (λ n. n) ((h 7 650 (omega arith) (omega arith) (refl, refl)).taken (ask_for 0 0 3 7) 0 7 (inl refl) (inl (refl, inl (refl, refl))) refl refl (omega arith) refl refl)
+returns-clause-last_cub c k plan h = ⊎_elim (λ t. let holder = t.1 in absurd (cc)) (λ n. n) ((h 7 650 (omega arith) (omega arith) (refl, refl)).taken (ask_for 0 0 3 7) 0 7 (inl refl) (inl (refl, (refl, inl (refl, refl)))) refl refl (omega arith) refl refl)
 
 pub returns-clause-cut_off_then : goal.returns-clause-cut_off_then
 unfolding on_samples
@@ -63,4 +63,4 @@ returns-clause-cut_off_then c k plan = in-one-beat (kept_of_lives k plan 1 (dyin
 
 pub returns-clause-cut_off_later : goal.returns-clause-cut_off_later
 unfolding on_samples
-returns-clause-cut_off_later c k plan h = ⊎_elim (λ t. let holder = t.1 in absurd (cc)) (λ n. n) ((h 0 0 (omega arith) (omega arith) (refl, refl)).taken (ask) 1 0 (inl refl) (inl (refl, inl (refl, refl))) refl refl (omega arith) refl refl)
+returns-clause-cut_off_later c k plan h = ⊎_elim (λ t. let holder = t.1 in absurd (cc)) (λ n. n) ((h 0 0 (omega arith) (omega arith) (refl, refl)).taken (ask) 1 0 (inl refl) (inl (refl, (refl, inl (refl, refl)))) refl refl (omega arith) refl refl)

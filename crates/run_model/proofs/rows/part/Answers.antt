@@ -44,3 +44,11 @@ returns-clause-other_stopped c h = ⊎_elim (λ v. let holder = v.holder in absu
 pub returns-clause-stays : goal.returns-clause-stays
 unfolding on_samples
 returns-clause-stays c h = ⊎_elim (λ v. let holder = v.holder in absurd (cc)) (λ n. false≢true n) (h.1.1.1 0 (omega arith)).0
+
+pub returns-clause-forgotten : goal.returns-clause-forgotten
+unfolding on_samples
+returns-clause-forgotten c = (of-eight _ tt tt tt tt tt tt tt tt, (of-eight _ tt tt tt tt tt tt tt tt, (of-eight _ (inr refl, tt) tt tt tt tt tt tt tt, (of-eight _ tt tt tt tt tt tt tt tt, (of-eight _ tt tt tt tt tt tt tt tt, of-eight _ tt tt tt tt tt tt tt tt)))))
+
+pub returns-clause-taken_again : goal.returns-clause-taken_again
+unfolding on_samples
+returns-clause-taken_again c h = ⊎_elim (λ v. let holder = v.holder in absurd (cc)) (λ n. false≢true n) (h.1.1.1.1 0 (omega arith)).0

@@ -18,23 +18,23 @@ returns-clause-stopped c = record { taken = λ a slot visit o s p g l d w. let s
 
 pub returns-clause-waits : goal.returns-clause-waits
 unfolding on_samples
-returns-clause-waits c h = ⊎_elim (λ t. let holder = t.1 in absurd (cc)) (λ n. n) (h.taken ask 1 0 (inl refl) (inl (refl, inl (refl, refl))) refl refl (omega arith) refl refl)
+returns-clause-waits c h = ⊎_elim (λ t. let holder = t.1 in absurd (cc)) (λ n. n) (h.taken ask 1 0 (inl refl) (inl (refl, (refl, inl (refl, refl)))) refl refl (omega arith) refl refl)
 
 pub returns-clause-put_too_late : goal.returns-clause-put_too_late
 unfolding on_samples
-returns-clause-put_too_late c h = ⊎_elim (λ t. let holder = t.1 in absurd (cc)) (λ n. n) (h.taken ask 1 0 (inl refl) (inl (refl, inl (refl, refl))) refl refl (omega arith) refl refl)
+returns-clause-put_too_late c h = ⊎_elim (λ t. let holder = t.1 in absurd (cc)) (λ n. n) (h.taken ask 1 0 (inl refl) (inl (refl, (refl, inl (refl, refl)))) refl refl (omega arith) refl refl)
 
 pub returns-clause-other_put : goal.returns-clause-other_put
 unfolding on_samples
-returns-clause-other_put c h = ⊎_elim (λ t. let holder = t.1 in absurd (cc)) (λ n. n) (h.taken ask 1 0 (inl refl) (inl (refl, inl (refl, refl))) refl refl (omega arith) refl refl)
+returns-clause-other_put c h = ⊎_elim (λ t. let holder = t.1 in absurd (cc)) (λ n. n) (h.taken ask 1 0 (inl refl) (inl (refl, (refl, inl (refl, refl)))) refl refl (omega arith) refl refl)
 
 pub returns-clause-other_stopped : goal.returns-clause-other_stopped
 unfolding on_samples
-returns-clause-other_stopped c h = ⊎_elim (λ t. let holder = t.1 in absurd (cc)) (λ n. n) (h.taken ask 1 0 (inl refl) (inl (refl, inl (refl, refl))) refl refl (omega arith) refl refl)
+returns-clause-other_stopped c h = ⊎_elim (λ t. let holder = t.1 in absurd (cc)) (λ n. n) (h.taken ask 1 0 (inl refl) (inl (refl, (refl, inl (refl, refl)))) refl refl (omega arith) refl refl)
 
 pub returns-clause-last_slot : goal.returns-clause-last_slot
 unfolding on_samples
-returns-clause-last_slot c h = ⊎_elim (λ t. let holder = t.1 in absurd (cc)) (λ n. n) (h.taken ask 15 0 (inl refl) (inl (refl, inl (refl, refl))) refl refl (omega arith) refl refl)
+returns-clause-last_slot c h = ⊎_elim (λ t. let holder = t.1 in absurd (cc)) (λ n. n) (h.taken ask 15 0 (inl refl) (inl (refl, (refl, inl (refl, refl)))) refl refl (omega arith) refl refl)
 
 pub returns-clause-for_dead : goal.returns-clause-for_dead
 unfolding on_samples
@@ -42,14 +42,14 @@ returns-clause-for_dead c h = ⊎_elim (λ t. let holder = t.1 in absurd (cc)) (
 
 pub returns-clause-for_living : goal.returns-clause-for_living
 unfolding on_samples
-returns-clause-for_living c = record { taken = λ a slot visit o s p g l d w. ⊎_elim (λ own. ⊎_elim (λ x. absurd (false≢true (sym x.1))) (λ n. absurd n) own.1) (λ next. absurd (false≢true next.1.0)) s }
+returns-clause-for_living c = record { taken = λ a slot visit o s p g l d w. ⊎_elim (λ own. ⊎_elim (λ x. absurd (false≢true (sym x.1))) (λ n. absurd n) own.1.1) (λ next. absurd (false≢true next.1.0)) s }
 
 pub returns-clause-silent : goal.returns-clause-silent
 unfolding on_samples
 returns-clause-silent c h =
     ⊎_elim (λ t. let holder = t.1 in absurd (cc))
     (λ r. ⊎_elim (λ x. ⊎_elim (λ stop. let recent = stop.1 in omega (arith, recent)) (λ n. n) x.2) (λ n. n) r)
-    (h.taken ask 1 8 (inl refl) (inl (refl, inl (refl, refl))) refl refl (omega arith) refl refl)
+    (h.taken ask 1 8 (inl refl) (inl (refl, (refl, inl (refl, refl)))) refl refl (omega arith) refl refl)
 
 -- visit 0 of slot 1 is the only one of disk 0 in the window
 only-one : (slot visit : ℕ) → slot < 16 → disk_of small visit ≡ 0 → IsTrue (in_window small 10000 slot visit) → (slot ≡ 1) × (visit ≡ 0)
@@ -86,3 +86,16 @@ returns-clause-recent c = record {
       let here = only-eight slot visit low (d ∙ sym first) window in
       rw (here.0, here.1) (inr (inl (refl, refl, inl (refl, omega arith))));
 }
+
+-- who has died puts nobody
+pub returns-clause-back : goal.returns-clause-back
+unfolding on_samples
+returns-clause-back c = record {
+  taken = λ a slot visit o s p g l d w. ⊎_elim
+      (λ own. absurd (false≢true (sym own.1.0)))
+      (λ next. absurd (false≢true next.1.0)) s;
+}
+
+pub returns-clause-other_back : goal.returns-clause-other_back
+unfolding on_samples
+returns-clause-other_back c h = ⊎_elim (λ t. let holder = t.1 in absurd (cc)) (λ n. n) (h.taken ask 1 0 (inl refl) (inl (refl, (refl, inl (refl, refl)))) refl refl (omega arith) refl refl)

@@ -22,3 +22,11 @@ returns-clause-has_earlier c h = ⊎_elim (λ b. ⊎_elim (λ at. omega (arith, 
 pub returns-clause-has_other : goal.returns-clause-has_other
 unfolding on_samples
 returns-clause-has_other c h = ⊎_elim (λ b. let same : 0 ≡ 1 = ap (λ (t : Tenancy). t.instance.0) b.0 in omega (arith, same)) (λ n. n) (h.1.1.0 (omega arith))
+
+pub returns-clause-had_before_death : goal.returns-clause-had_before_death
+unfolding on_samples
+returns-clause-had_before_death c h = h.1.1.1.1.0 (omega arith)
+
+pub returns-clause-has_since_back : goal.returns-clause-has_since_back
+unfolding on_samples
+returns-clause-has_since_back c = ((λ n. tt), ((λ n. tt), ((λ n. tt), ((λ n. record { for_cub = refl; came = inl (refl, inl refl); soon = omega arith }), ((λ n. inl (refl, refl, inr refl)), tt)))))

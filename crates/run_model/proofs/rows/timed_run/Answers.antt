@@ -39,3 +39,31 @@ returns-clause-unforeseen c k plan h = false≢true ((timed _).1 h)
 pub returns-clause-next_dead : goal.returns-clause-next_dead
 unfolding on_samples
 returns-clause-next_dead c k plan h = false≢true ((timed _).1 h)
+
+pub returns-clause-back : goal.returns-clause-back
+unfolding on_samples
+returns-clause-back c k plan = (timed _).0 refl
+
+pub returns-clause-back_behind_the_end : goal.returns-clause-back_behind_the_end
+unfolding on_samples
+returns-clause-back_behind_the_end c k plan = (timed _).0 refl
+
+pub returns-clause-back_late : goal.returns-clause-back_late
+unfolding on_samples
+returns-clause-back_late c k plan h = false≢true ((timed _).1 h)
+
+pub returns-clause-back_twice : goal.returns-clause-back_twice
+unfolding on_samples
+returns-clause-back_twice c k plan h = false≢true ((timed _).1 h)
+
+pub returns-clause-back_unwritten : goal.returns-clause-back_unwritten
+unfolding on_samples
+returns-clause-back_unwritten c k plan h = false≢true ((timed _).1 h)
+
+pub returns-clause-back_unforeseen : goal.returns-clause-back_unforeseen
+unfolding on_samples
+returns-clause-back_unforeseen c k plan h = false≢true ((timed _).1 h)
+
+pub returns-clause-back_of_the_living : goal.returns-clause-back_of_the_living
+unfolding on_samples
+returns-clause-back_of_the_living c k plan h = false≢true ((timed _).1 h)

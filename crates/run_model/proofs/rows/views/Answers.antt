@@ -37,3 +37,19 @@ returns-clause-dead c = refl
 pub returns-clause-other_dead : goal.returns-clause-other_dead
 unfolding on_samples
 returns-clause-other_dead c = refl
+
+pub returns-clause-back : goal.returns-clause-back
+unfolding on_samples
+returns-clause-back c = refl
+
+pub returns-clause-since_back : goal.returns-clause-since_back
+unfolding on_samples
+returns-clause-since_back c = refl
+
+pub returns-clause-other_back : goal.returns-clause-other_back
+unfolding on_samples
+returns-clause-other_back c = refl
+
+pub returns-clause-begins_anew : goal.returns-clause-begins_anew
+unfolding on_samples
+returns-clause-begins_anew c = refl

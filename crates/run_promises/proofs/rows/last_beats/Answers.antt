@@ -2,7 +2,6 @@
 use Rattle.std.proofs.Common.{◌≡◌, refl, sym, arith, inl}
 use Rattle.std.proofs.lemmas.Bool.{false≢true}
 use Rattle.node_kit.specs.Life.{acts}
-use Rattle.run_promises.proofs.Worked as worked
 use Rattle.run_promises.proofs.rows.last_beats.Goals as goal
 
 pub returns-clause-before : goal.returns-clause-before
@@ -25,7 +24,6 @@ unfolding acts
 returns-clause-back c = (refl, refl)
 
 pub returns-clause-waits : goal.returns-clause-waits
-unfolding acts
 returns-clause-waits c k p = record {
   asked = inl (refl, refl);
   disk = omega arith;
@@ -34,14 +32,23 @@ returns-clause-waits c k p = record {
   came = omega arith;
   rises = omega arith;
   ends = omega arith;
-  ends_last = (refl, refl);
+  lives = λ death d. let same : 50 ≡ death = cc in omega (arith, same);
 }
 
 pub returns-clause-waits_no_longer : goal.returns-clause-waits_no_longer
-returns-clause-waits_no_longer c k p h = false≢true (sym h.ends_last.1)
+returns-clause-waits_no_longer c k p h = let late = h.lives 50 refl in omega (arith, late)
 
-pub returns-clause-nobody_returns : goal.returns-clause-nobody_returns
-returns-clause-nobody_returns c k p s = worked.none_back k p s
+pub returns-clause-waits_before_return : goal.returns-clause-waits_before_return
+returns-clause-waits_before_return c k p = record {
+  asked = inl (refl, refl);
+  disk = omega arith;
+  small = omega arith;
+  its_cub = inl refl;
+  came = omega arith;
+  rises = omega arith;
+  ends = omega arith;
+  lives = λ death d. let same : 50 ≡ death = cc in omega (arith, same);
+}
 
-pub returns-clause-last_returns : goal.returns-clause-last_returns
-returns-clause-last_returns c k p h = let none = h 7 in absurd (cc)
+pub returns-clause-waits_behind_return : goal.returns-clause-waits_behind_return
+returns-clause-waits_behind_return c k p h = let late = h.lives 50 refl in omega (arith, late)

@@ -22,11 +22,11 @@ returns-clause-dead c s = refl
 
 pub returns-clause-true_dead : goal.returns-clause-true_dead
 unfolding on_samples
-returns-clause-true_dead c = inr (inl (tt, (omega arith, omega arith)))
+returns-clause-true_dead c = (inr (inl (tt, (omega arith, omega arith))), inl refl)
 
 pub returns-clause-not_dead : goal.returns-clause-not_dead
 unfolding on_samples
-returns-clause-not_dead c h = ⊎_elim (λ n. n.0) (λ k. ⊎_elim (λ d. let late = d.1.0 in omega (arith, late)) (λ n. n) k) h
+returns-clause-not_dead c h = ⊎_elim (λ n. n.0) (λ k. ⊎_elim (λ d. let late = d.1.0 in omega (arith, late)) (λ n. n) k) h.0
 
 pub returns-clause-piece : goal.returns-clause-piece
 unfolding on_samples kind_of missing_of reason_of whole_sent pieces_sent piece_sent stop_of
@@ -36,6 +36,7 @@ pub returns-clause-true_piece : goal.returns-clause-true_piece
 unfolding on_samples
 returns-clause-true_piece c = record {
   died = inl (tt, omega arith);
+  away = inr (λ back. ⊎_elim (λ x. x.0) (λ n. n) back);
   piece = 1;
   low = omega arith;
   high = omega arith;
