@@ -12,18 +12,18 @@ use Rattle.node_kit.specs.declared.journal.What.TheVariants as what
 use Rattle.node_kit.specs.Links.{links_of, viewers_of}
 use Rattle.run_facts.specs.Commanded.{is_gone_of}
 use Rattle.run_facts.specs.Order.{Noted, beat_of}
-use Rattle.run_facts.specs.Timed.{is_died}
+use Rattle.run_facts.specs.Timed.{is_died, is_returned}
 use Rattle.run_model.specs.declared.parcels.Parcel.{Parcel}
 use Rattle.run_model.specs.Served.{journal_at, whole_in, piece_in, wholes_got, pieces_got, pieces_numbered}
 use Rattle.run_model.specs.Tests.{is_empty, is_failed_read, read_failed, stopped_before, visited, some_tenancy}
 use Rattle.audit_blocks.specs.declared.cargo.Cargo.{Cargo}
 use Rattle.audit_blocks.specs.Cargo.{cargo_taken, cargo_got, parcel_of, is_for, whole_for, piece_for, numbered_for}
-use Rattle.audit_blocks.specs.Entries.{journals_noted, put_for, puts_for, death_of_node, stops_below, fails_reading, fails_at_cub}
+use Rattle.audit_blocks.specs.Entries.{journals_noted, put_for, puts_for, death_of_node, return_of_node, stops_below, fails_reading, fails_at_cub}
 use Rattle.audit_blocks.specs.Told.{is_some_piece}
 use Rattle.audit_blocks.proofs.Adding.{or_false}
 use Rattle.audit_blocks.proofs.Journals.{any_at, any_anywhere, any_alike, any_flat, flat_at, flat_alike}
 
--- ---- reads, stops and deaths
+-- ---- reads, stops, deaths and returns
 
 pub failed_lines : (v n k : ℕ) (js : List (List Entry)) → list_any (fails_reading v n k) (journals_noted 0 js) ≡ list_any (read_failed v n k) js
 failed_lines v n k js = any_anywhere (fails_reading v n k) (λ e. is_failed_read v n k e.what) (λ m e. refl) 0 js
@@ -53,6 +53,23 @@ death_lines c q js =
     ∙ (any_alike (λ x. list_any q (death_of_node c x)) (λ x. (x.node == c) && (is_died x.entry.what && q (beat_of x))) (one_death c q)
     (journals_noted 0 js)
     ∙ any_at c (λ x. is_died x.entry.what && q (beat_of x)) (λ e. is_died e.what && q e.stamp.beat) js (λ e. refl))
+
+one_return : (c : ℕ) (q : ℕ → Bool) (x : Noted)
+    → list_any q (return_of_node c x) ≡ ((x.node == c) && (is_returned x.entry.what && q x.entry.stamp.reading))
+one_return c q x = go (x.node == c) (is_returned x.entry.what) where
+  go : (a d : Bool) → list_any q (cond (a && d) (x.entry.stamp.reading ∷ []) []) ≡ (a && (d && q x.entry.stamp.reading))
+  go true true = or_false (q x.entry.stamp.reading)
+  go true false = refl
+  go false d = refl
+
+pub return_lines : (c : ℕ) (q : ℕ → Bool) (js : List (List Entry))
+    → list_any q (flat_map (return_of_node c) (journals_noted 0 js))
+    ≡ list_any (λ e. is_returned e.what && q e.stamp.reading) (journal_at js c)
+return_lines c q js =
+    any_flat q (return_of_node c) (journals_noted 0 js)
+    ∙ (any_alike (λ x. list_any q (return_of_node c x)) (λ x. (x.node == c) && (is_returned x.entry.what && q x.entry.stamp.reading))
+    (one_return c q) (journals_noted 0 js)
+    ∙ any_at c (λ x. is_returned x.entry.what && q x.entry.stamp.reading) (λ e. is_returned e.what && q e.stamp.reading) js (λ e. refl))
 
 -- ---- Puts
 

@@ -10,9 +10,9 @@ use Rattle.node_kit.specs.declared.journal.What.{What}
 use Rattle.node_kit.specs.declared.journal.What.TheVariants as what
 use Rattle.run_facts.specs.Commanded.{is_gone_of}
 use Rattle.run_facts.specs.Order.{Noted, beat_of}
-use Rattle.run_facts.specs.Timed.{is_died}
+use Rattle.run_facts.specs.Timed.{is_died, is_returned}
 use Rattle.run_model.specs.Tests.{is_failed_read}
-use Rattle.audit_blocks.specs.Entries.{put_for, death_of_node, is_at_cub, is_whole_of}
+use Rattle.audit_blocks.specs.Entries.{put_for, death_of_node, return_of_node, is_at_cub, is_whole_of}
 use Rattle.audit_blocks.specs.Told.{is_stop_below, earlier_stop}
 use Rattle.audit_blocks.proofs.Adding.{or_false, and_true, and_false}
 
@@ -45,6 +45,23 @@ pub death_left : (n : ℕ) (x : Noted) (old : List ℕ) → (x.entry.what ≡ wh
 death_left n x old alive =
     sym (ap (λ (b : Bool). old ++ cond ((x.node == n) && b) (beat_of x ∷ []) []) (not_died x.entry.what alive)
     ∙ (ap (λ (b : Bool). old ++ cond b (beat_of x ∷ []) []) (and_false (x.node == n)) ∙ append-nil old))
+
+-- ---- returns
+
+pub return_kept : (n : ℕ) (x : Noted) (old new : List ℕ) → x.entry.what ≡ what.Returned
+    → new ≡ old ++ (if x.node == n then x.entry.stamp.reading ∷ [] else []) → new ≡ old ++ return_of_node n x
+return_kept n x old new is e =
+    e ∙ sym (ap (λ (w : What). old ++ cond ((x.node == n) && is_returned w) (x.entry.stamp.reading ∷ []) []) is
+    ∙ ap (λ (b : Bool). old ++ cond b (x.entry.stamp.reading ∷ []) []) (and_true (x.node == n)))
+
+not_returned : (w : What) → (w ≡ what.Returned → ⊥) → is_returned w ≡ false
+not_returned what.Returned h = absurd (h refl)
+not_returned other h = refl
+
+pub return_left : (n : ℕ) (x : Noted) (old : List ℕ) → (x.entry.what ≡ what.Returned → ⊥) → old ≡ old ++ return_of_node n x
+return_left n x old not_back =
+    sym (ap (λ (b : Bool). old ++ cond ((x.node == n) && b) (x.entry.stamp.reading ∷ []) []) (not_returned x.entry.what not_back)
+    ∙ (ap (λ (b : Bool). old ++ cond b (x.entry.stamp.reading ∷ []) []) (and_false (x.node == n)) ∙ append-nil old))
 
 -- ---- stops
 

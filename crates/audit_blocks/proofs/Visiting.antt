@@ -11,7 +11,7 @@ use Rattle.node_kit.specs.declared.journal.Entry.{Entry}
 use Rattle.run_facts.specs.Commanded.{is_gone_of}
 use Rattle.run_model.specs.Excuses.{IsExcused}
 use Rattle.run_model.specs.Served.{journal_at, IsPut, IsDelivered, IsSettled}
-use Rattle.run_model.specs.Tests.{read_failed, stopped_before, came, was_stopped, lost_in_pieces, lost_in_death, has_excuse, some_tenancy}
+use Rattle.run_model.specs.Tests.{read_failed, stopped_before, came, was_stopped, lost_in_pieces, lost_in_death, is_unserved_back, has_excuse, some_tenancy}
 use Rattle.run_model.proofs.Deliveries.{delivered, tenancy_gives}
 use Rattle.run_model.proofs.Reasons.{excused}
 use Rattle.run_model.proofs.Reflects.{and_both, and_left, and_right, or_either, or_first, or_second}
@@ -73,7 +73,7 @@ unfolding has_excuse
 stop_excuses p journals t n h =
     let a = read_failed t.instance.0 n 0 (journal_at journals (cub_of p n)) in
     let b = lost_in_pieces p journals t n in
-    let c = lost_in_death p journals t n in
+    let c = lost_in_death p journals t n && is_unserved_back p journals t n in
     let d = was_stopped p journals t n in
     or_second a (b || (c || d)) (or_second b (c || d) (or_second c d h))
 

@@ -9,7 +9,7 @@ use Rattle.node_kit.specs.declared.journal.What.{What}
 use Rattle.node_kit.specs.declared.journal.What.TheVariants as what
 use Rattle.run_facts.specs.Commanded.{is_gone_of}
 use Rattle.run_facts.specs.Order.{Noted, beat_of}
-use Rattle.run_facts.specs.Timed.{is_died}
+use Rattle.run_facts.specs.Timed.{is_died, is_returned}
 use Rattle.run_model.specs.Tests.{is_failed_read}
 use Rattle.audit_frame.specs.Lines.{noted_by}
 
@@ -34,6 +34,10 @@ puts_for v x = put_for v x.entry.what
 -- the beat in which a node died
 abbrev pub death_of_node : ℕ → Noted → List ℕ
 death_of_node n x = if (x.node == n) && is_died x.entry.what then beat_of x ∷ [] else []
+
+-- the reading at which a node came back
+abbrev pub return_of_node : ℕ → Noted → List ℕ
+return_of_node n x = if (x.node == n) && is_returned x.entry.what then x.entry.stamp.reading ∷ [] else []
 
 -- whether an instance is stopped below a time
 abbrev pub stops_below : Params → ℕ → ℕ → Noted → Bool

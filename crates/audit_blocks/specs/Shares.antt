@@ -9,7 +9,7 @@ use Rattle.node_kit.specs.declared.journal.What.{What}
 use Rattle.node_kit.specs.declared.journal.What.TheVariants as what
 use Rattle.run_facts.specs.Order.{Noted}
 use Rattle.run_model.specs.Served.{journal_at}
-use Rattle.run_model.specs.Tests.{read_failed, lost_in_pieces, lost_in_death, was_stopped}
+use Rattle.run_model.specs.Tests.{read_failed, lost_in_pieces, lost_in_death, is_unserved_back, was_stopped}
 use Rattle.audit_blocks.specs.Serving.{is_settled_at}
 use Rattle.audit_blocks.specs.declared.shares.Share.{Share}
 use Rattle.audit_blocks.specs.declared.shares.Share.TheVariants as share
@@ -23,11 +23,13 @@ settled_visits k t = filter (is_settled_at k t) (range_with_len t.first (t.last 
 abbrev pub is_stopped_at : Kept → Tenancy → ℕ → Bool
 is_stopped_at k t n = was_stopped k.course.plan.params k.journals t n
 
--- whether a visit of a tenancy has this excuse: the read of its block failed at its cub, a piece was lost, or its cub died
+-- whether a visit of a tenancy has this excuse: the read of its block failed at its cub; or its cub was not back in time, and
+-- a piece was lost behind its death, or it died about that time
 abbrev pub is_excused_by : Kept → Share → Tenancy → ℕ → Bool
 is_excused_by k share.Read t n = read_failed t.instance.0 n 0 (journal_at k.journals (cub_of k.course.plan.params n))
 is_excused_by k share.Piece t n = lost_in_pieces k.course.plan.params k.journals t n
-is_excused_by k share.Dead t n = lost_in_death k.course.plan.params k.journals t n
+is_excused_by k share.Dead t n =
+    lost_in_death k.course.plan.params k.journals t n && is_unserved_back k.course.plan.params k.journals t n
 is_excused_by k other t n = true
 
 -- whether it belongs to a share of the settled visits: to all, to those of stopped instances, or to those of the others

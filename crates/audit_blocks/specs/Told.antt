@@ -13,7 +13,7 @@ use Rattle.audit_blocks.specs.declared.receipts.Came.{Came}
 use Rattle.audit_blocks.specs.declared.receipts.Came.TheVariants.{Once, Again}
 use Rattle.audit_blocks.specs.declared.cargo.Cargo.{Cargo}
 use Rattle.audit_blocks.specs.declared.tables.Tables.{Tables}
-use Rattle.audit_blocks.specs.Entries.{journals_noted, puts_for, death_of_node, stops_below, fails_reading, fails_at_cub}
+use Rattle.audit_blocks.specs.Entries.{journals_noted, puts_for, death_of_node, return_of_node, stops_below, fails_reading, fails_at_cub}
 use Rattle.audit_blocks.specs.Cargo.{cargo_sent, cargo_got, parcel_of, is_for, whole_for, numbered_for}
 use Rattle.audit_blocks.specs.Groups.{group_under}
 use Rattle.audit_blocks.specs.Parts.{has_part}
@@ -62,6 +62,7 @@ sends_cargo cub whole r x = is_cargo x.node (beat_of x) cub whole r (cargo_sent 
 pub record AreToldBy (p : Params) (log : List Noted) (t : Tables) : Type 0 where
   pub put : (v : ℕ) → group_under v t.puts ≡ flat_map (puts_for v) log
   pub died : (n : ℕ) → group_under n t.deaths ≡ flat_map (death_of_node n) log
+  pub returned : (n : ℕ) → group_under n t.returns ≡ flat_map (return_of_node n) log
   pub stopped : (v time : ℕ) → is_stop_below p time (mark_under v t.stops) ≡ list_any (stops_below p v time) log
   pub failed : (v n k : ℕ) → has_part v n k t.failed ≡ list_any (fails_reading v n k) log
   pub failed_whole : (v n : ℕ) → has_part v n 0 t.failed_whole ≡ list_any (fails_at_cub p v n) log

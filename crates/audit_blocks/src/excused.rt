@@ -1,20 +1,22 @@
 //! Whether a visit's block may be missing.
-ghost use Rattle.std.specs.Prelude.{◌≡◌, ◌≤◌, ◌&&◌, nat_le};
+ghost use Rattle.std.specs.Prelude.{◌≡◌, ◌≤◌, ◌<◌, ◌^◌, ◌&&◌, nat_le};
 ghost use Rattle.std.specs.List.{list_any};
-ghost use Rattle.run_model.specs.Tests.{piece_is_lost, some_piece_is_lost, lost_in_pieces, lost_in_death, was_stopped, has_excuse, some_tenancy};
+ghost use Rattle.run_model.specs.Served.{journal_at};
+ghost use Rattle.run_model.specs.Tests.{died_before_piece, is_unserved_back, piece_is_lost, some_piece_is_lost, lost_in_pieces, lost_in_death, was_stopped, has_excuse, some_tenancy};
 ghost use Rattle.audit_blocks.specs.Told.{AreTablesOf};
 
 use crate::lookups::{
-    block_failed, is_dead_before, is_dead_between, is_stopped_below, piece_failed, puts_of,
+    block_failed, is_back_by, is_dead_before, is_dead_between, is_stopped_below, piece_failed,
+    puts_of,
 };
 use crate::tables::Tables;
-use crate::times::{cub_behind, cub_of, due, leaving};
+use crate::times::{cub_behind, cub_of, due, leaving, lets_in_after, serves_after};
 use node_kit::Kept;
 use tiger_base::{Instance, Tenancy, Visit};
 
 /// Whether the block of a visit of an instance may be missing, because of a read that failed, a death or a stop. It costs
-/// the logarithm of what the journals hold, and a look at each death of the cubs of the visit, for each tenancy of the
-/// instance.
+/// the logarithm of what the journals hold, and a look at each death and each return of the cubs of the visit, for each
+/// tenancy of the instance.
 pub fn is_excused(k: &Kept, tables: &Tables, v: Instance, n: Visit) -> bool
     requires { AreTablesOf k.now tables.now }
     ensures { result ≡ some_tenancy k.now.journals v.0 n
@@ -53,7 +55,7 @@ fn has_excuse(k: &Kept, tables: &Tables, t: &Tenancy, n: Visit) -> bool
 {
     block_failed(k, tables, t.instance, n)
         || lost_in_pieces(k, tables, t, n)
-        || lost_in_death(k, tables, t, n)
+        || lost_in_death(k, tables, t, n) && is_unserved_back(k, tables, t, n)
         || was_stopped(k, tables, t, n)
 }
 
@@ -65,7 +67,19 @@ pub fn lost_in_pieces(k: &Kept, tables: &Tables, t: &Tenancy, n: Visit) -> bool
     let plan = &k.course.plan;
     let span = plan.takeover() as u128;
     is_dead_before(k, tables, cub_of(plan, n), span, due(plan, t.slot, n))
+        && is_unserved_back(k, tables, t, n)
         && some_piece_is_lost(k, tables, t, n)
+}
+
+/// Whether the cub of a visit was not back so early that it served the visit.
+pub fn is_unserved_back(k: &Kept, tables: &Tables, t: &Tenancy, n: Visit) -> bool
+    requires { AreTablesOf k.now tables.now }
+    ensures { result
+        ≡ is_unserved_back k.now.course.plan.params k.now.journals t.now n }
+{
+    let plan = &k.course.plan;
+    let time = due(plan, t.slot, n);
+    n == t.first || !is_back_by(k, tables, cub_of(plan, n), serves_after(plan), time)
 }
 
 fn some_piece_is_lost(k: &Kept, tables: &Tables, t: &Tenancy, n: Visit) -> bool
@@ -88,9 +102,22 @@ fn piece_is_lost(k: &Kept, tables: &Tables, t: &Tenancy, n: Visit, piece: u64) -
     ensures { result ≡ piece_is_lost k.now.course.plan.params k.now.journals t.now n piece }
 {
     let plan = &k.course.plan;
-    let end = leaving(plan, due(plan, t.slot, n), piece) + plan.params.beat as u128;
+    let time = leaving(plan, due(plan, t.slot, n), piece);
     piece_failed(k, tables, t.instance, n, piece as u32)
-        || is_dead_before(k, tables, cub_behind(plan, n, piece), 1, end)
+        || died_before_piece(k, tables, cub_behind(plan, n, piece), time)
+}
+
+/// Whether a cub died before a piece had left that leaves at a time, and was not back so early that it let the piece in.
+fn died_before_piece(k: &Kept, tables: &Tables, node: u32, time: u128) -> bool
+    requires told { AreTablesOf k.now tables.now }
+    requires time { time < 2 ^ 101 }
+    ensures { result ≡ died_before_piece k.now.course.plan.params time
+        (journal_at k.now.journals node) }
+{
+    let plan = &k.course.plan;
+    let end = time + plan.params.beat as u128;
+    is_dead_before(k, tables, node, 1, end)
+        && !is_back_by(k, tables, node, lets_in_after(plan), time)
 }
 
 #[tactic(auto, unfolding(run_model::specs::Tests::lost_in_death))]

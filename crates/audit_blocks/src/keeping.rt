@@ -5,7 +5,7 @@ ghost use Rattle.run_model.specs.declared.parcels.Parcel.{Parcel};
 ghost use Rattle.audit_frame.specs.Lines.{noted_line};
 ghost use Rattle.audit_frame.specs.Tables.{mark_under};
 ghost use Rattle.audit_blocks.specs.declared.receipts.Receipt.{Receipt};
-ghost use Rattle.audit_blocks.specs.Entries.{puts_for, death_of_node, stops_below, fails_reading, fails_at_cub, is_at_cub, is_whole_of};
+ghost use Rattle.audit_blocks.specs.Entries.{puts_for, death_of_node, return_of_node, stops_below, fails_reading, fails_at_cub, is_at_cub, is_whole_of};
 ghost use Rattle.audit_blocks.specs.Cargo.{whole_for, numbered_for};
 ghost use Rattle.audit_blocks.specs.Groups.{group_under};
 ghost use Rattle.audit_blocks.specs.Parts.{has_part};
@@ -23,7 +23,7 @@ use audit_frame::{Line, Marks};
 use node_kit::What;
 use slot_plan::Plan;
 use std::alloc::Global;
-use tiger_base::{Beat, Instance, NoMemory, NodeNo, Tenancy, Want};
+use tiger_base::{Beat, Instance, Micros, NoMemory, NodeNo, Tenancy, Want};
 
 /// Keeps the tenancy of a Put.
 pub fn keep_put<'a>(
@@ -51,6 +51,21 @@ pub fn keep_death<'a>(
 {
     match line.entry.what {
         What::Died => deaths.push(alloc, line.node.0, line.entry.stamp.beat),
+        _ => Ok(()),
+    }
+}
+
+/// Keeps the reading of a return.
+pub fn keep_return<'a>(
+    alloc: Global,
+    returns: &mut Groups<Micros>,
+    line: &Line<'a>,
+) -> Result<(), NoMemory>
+    ensures { OnOk result ((n : ℕ) → group_under n returns.new
+        ≡ group_under n returns.old ++ return_of_node n (noted_line line.now)) }
+{
+    match line.entry.what {
+        What::Returned => returns.push(alloc, line.node.0, line.entry.stamp.reading),
         _ => Ok(()),
     }
 }

@@ -3,7 +3,7 @@ ghost use Rattle.std.specs.Prelude.{◌≡◌, ◌+◌, ◌^◌, ◌<◌, ◌&&�
 ghost use Rattle.std.specs.List.{list_any, flat_map};
 ghost use Rattle.slot_plan.specs.Times.{cub_of, time_of};
 ghost use Rattle.run_model.specs.Served.{journal_at, wholes_got, pieces_got, pieces_numbered};
-ghost use Rattle.run_model.specs.Tests.{only, is_empty, says_in, read_failed, stopped_before, died_before, died_between};
+ghost use Rattle.run_model.specs.Tests.{only, is_empty, says_in, read_failed, stopped_before, died_before, died_between, was_back_by};
 ghost use Rattle.audit_blocks.specs.Cargo.{parcel_of};
 ghost use Rattle.audit_blocks.specs.Entries.{journals_noted, puts_for};
 ghost use Rattle.audit_blocks.specs.Told.{AreTablesOf, as_parcel, only_came, is_stop_below};
@@ -13,7 +13,7 @@ use crate::tables::Tables;
 use crate::times::time_of;
 use node_kit::Kept;
 use slot_plan::Plan;
-use tiger_base::{Beat, Instance, Tenancy, Visit};
+use tiger_base::{Beat, Instance, Micros, Tenancy, Visit};
 
 /// The tenancies that were put for an instance.
 pub fn puts_of<'a>(k: &Kept, tables: &'a Tables, v: Instance) -> &'a [Tenancy]
@@ -130,6 +130,24 @@ fn some_before(plan: &Plan, span: u128, time: u128, deaths: &[Beat]) -> bool
     deaths
         .iter()
         .any(|beat| time_of(plan, *beat) + span <= time)
+}
+
+/// Whether a node came back so early that a time is a span behind the reading of its return, or later.
+pub fn is_back_by(k: &Kept, tables: &Tables, node: u32, span: u128, time: u128) -> bool
+    requires told { AreTablesOf k.now tables.now }
+    requires span { span < 2 ^ 101 }
+    ensures { result ≡ was_back_by span time (journal_at k.now.journals node) }
+{
+    some_back(span, time, tables.returns.under(node))
+}
+
+fn some_back(span: u128, time: u128, returns: &[Micros]) -> bool
+    requires { span < 2 ^ 101 }
+    ensures { result ≡ list_any (λ r. nat_le (r + span) time) returns.now }
+{
+    returns
+        .iter()
+        .any(|reading| *reading as u128 + span <= time)
 }
 
 /// Whether a node died less than a span before a time and below another one.

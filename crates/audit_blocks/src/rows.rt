@@ -1,7 +1,7 @@
 //! Worked logs for the walk: where all are served, and which entry is the first that is not as it should be. They stand in
 //! contracts, and not in tests, since a weakened definition must be refused where the crate is checked without its tests.
 ghost use Rattle.std.specs.Prelude.{[], ◌∷◌, Some, None};
-ghost use Rattle.run_model.specs.Samples.{IsOfTen, seated, sends, gets, block, piece, put, gone, dies, fails, three, want};
+ghost use Rattle.run_model.specs.Samples.{IsOfTen, seated, sends, gets, block, piece, put, seat, gone, dies, is_back, fails, three, want};
 ghost use Rattle.audit_blocks.specs.Samples.{FindsUnserved, HasShares, LacksShares, shares};
 
 /// Instance 0 is put for visit 0 alone, whose block has four bytes and which is settled from 2500000 micros on.
@@ -52,4 +52,29 @@ pub fn shares()
     ensures no_piece { HasShares 450 (put 0 1 three ∷ dies 2 0 ∷ []) (shares 3 0 0 0 0) }
     ensures stopped_later { HasShares 450 (put 0 1 three ∷ gone 200 0 ∷ []) (shares 3 0 0 0 2) }
     ensures counted { LacksShares 250 (seated ∷ []) (shares 0 0 0 0 0) }
+{}
+
+/// Of instance 0 visits 16 and 17 are settled. The read of the first one failed at its cub. The second one is due at 17500000
+/// micros, and a piece of it is lost: it is excused by the death of cub 1 long before, if that came back in beat 751, from which
+/// on it serves what is due 10 seconds later, and not if it came back in beat 750.
+pub fn returns()
+    ensures too_late { (s : IsOfTen) → FindsUnserved s 19500000
+        (put 0 1 (seat 0 16 17) ∷ dies 1 100 ∷ is_back 1 751 ∷ fails 0 1640 (want 0 16 0)
+        ∷ fails 2 1740 (want 0 17 1) ∷ []) None }
+    ensures in_time { (s : IsOfTen) → FindsUnserved s 19500000
+        (put 0 1 (seat 0 16 17) ∷ dies 1 100 ∷ is_back 1 750 ∷ fails 0 1640 (want 0 16 0)
+        ∷ fails 2 1740 (want 0 17 1) ∷ []) (Some 0) }
+{}
+
+/// The same two visits, of which the second one has an excuse, or has none: a piece of it was lost, or its cub dies just before
+/// it is due; and the cub came back a beat too late, or in time.
+pub fn shares_of_returned()
+    ensures piece { HasShares 1950 (put 0 1 (seat 0 16 17) ∷ dies 1 100 ∷ is_back 1 751
+        ∷ fails 2 1740 (want 0 17 1) ∷ []) (shares 2 0 1 0 0) }
+    ensures piece_in_time { HasShares 1950 (put 0 1 (seat 0 16 17) ∷ dies 1 100 ∷ is_back 1 750
+        ∷ fails 2 1740 (want 0 17 1) ∷ []) (shares 2 0 0 0 0) }
+    ensures dead { HasShares 1950 (put 0 1 (seat 0 16 17) ∷ is_back 1 751 ∷ dies 1 1740 ∷ [])
+        (shares 2 0 0 1 0) }
+    ensures dead_in_time { HasShares 1950 (put 0 1 (seat 0 16 17) ∷ is_back 1 750
+        ∷ dies 1 1740 ∷ []) (shares 2 0 0 0 0) }
 {}

@@ -5,7 +5,7 @@ ghost use Rattle.audit_frame.specs.Lines.{told_by};
 ghost use Rattle.audit_blocks.specs.Shares.{AreSharesOf, IsParted, is_excused_by, lies_past, share_of_entry, share_of_log, share_of_put};
 ghost use Rattle.audit_blocks.specs.Told.{AreTablesOf};
 
-use crate::excused::{lost_in_death, lost_in_pieces, was_stopped};
+use crate::excused::{is_unserved_back, lost_in_death, lost_in_pieces, was_stopped};
 use crate::lookups::block_failed;
 use crate::serving::is_settled_at;
 use crate::tables::Tables;
@@ -24,9 +24,9 @@ pub enum Share {
     Stopped,
     /// Of the others those whose read failed at their cub.
     Read,
-    /// Of the others those of which a piece was lost, behind the death of their cub.
+    /// Of the others those of which a piece was lost, behind the death of their cub, which was not back in time.
     Piece,
-    /// Of the others those whose cub died about that time.
+    /// Of the others those whose cub died about that time, and was not back in time.
     Dead,
 }
 
@@ -217,7 +217,7 @@ fn is_excused_by(k: &Kept, tables: &Tables, t: &Tenancy, share: Share, n: Visit)
     match share {
         Share::Read => block_failed(k, tables, t.instance, n),
         Share::Piece => lost_in_pieces(k, tables, t, n),
-        Share::Dead => lost_in_death(k, tables, t, n),
+        Share::Dead => lost_in_death(k, tables, t, n) && is_unserved_back(k, tables, t, n),
         _ => true,
     }
 }

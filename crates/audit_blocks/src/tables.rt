@@ -9,15 +9,15 @@ use crate::cargo::cargo_got;
 use crate::dispatches::Dispatches;
 use crate::groups::Groups;
 use crate::keeping::{
-    keep_death, keep_failed, keep_failed_whole, keep_piece, keep_put, keep_sent, keep_stop,
-    keep_visit, keep_whole,
+    keep_death, keep_failed, keep_failed_whole, keep_piece, keep_put, keep_return, keep_sent,
+    keep_stop, keep_visit, keep_whole,
 };
 use crate::parts::Parts;
 use crate::receipts::Arrivals;
 use audit_frame::{Line, Marks};
 use slot_plan::Plan;
 use std::alloc::Global;
-use tiger_base::{Beat, NoMemory, Tenancy};
+use tiger_base::{Beat, Micros, NoMemory, Tenancy};
 
 /// What entries tell, with a table for each question.
 #[derive(Drop)]
@@ -26,6 +26,8 @@ pub struct Tables {
     pub puts: Groups<Tenancy>,
     /// The beats of the deaths, by node.
     pub deaths: Groups<Beat>,
+    /// The readings of the returns, by node.
+    pub returns: Groups<Micros>,
     /// The beat of the earliest stop of each instance.
     pub stops: Marks,
     /// The blocks and pieces whose read failed.
@@ -61,6 +63,7 @@ impl Tables {
         Tables {
             puts: Groups::new(alloc),
             deaths: Groups::new(alloc),
+            returns: Groups::new(alloc),
             stops: Marks::new(alloc),
             failed: Parts::new(alloc),
             failed_whole: Parts::new(alloc),
@@ -78,6 +81,7 @@ impl Tables {
     {
         keep_put(alloc, &mut self.puts, line)?;
         keep_death(alloc, &mut self.deaths, line)?;
+        keep_return(alloc, &mut self.returns, line)?;
         keep_stop(&mut self.stops, line)?;
         keep_failed(&mut self.failed, line)?;
         keep_failed_whole(plan, &mut self.failed_whole, line)?;

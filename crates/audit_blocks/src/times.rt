@@ -2,6 +2,7 @@
 ghost use Rattle.std.specs.Prelude.{◌≡◌, ◌+◌, ◌*◌, ◌^◌, ◌<◌, ◌≤◌, nat_le};
 ghost use Rattle.slot_plan.specs.Times.{cub_of, time_of, due};
 ghost use Rattle.mirror_pieces.specs.Pieces.{leaving};
+ghost use Rattle.run_model.specs.Excuses.{serves_after, lets_in_after};
 
 use slot_plan::Plan;
 use tiger_base::{Beat, SlotNo, Visit};
@@ -53,6 +54,23 @@ pub fn leaving(plan: &Plan, due: u128, piece: u64) -> u128
 {
     let p = &plan.params;
     due + (piece as u128 - 1) * p.play as u128 / p.pieces as u128
+}
+
+/// How long after the reading of its return a cub serves what is due.
+pub fn serves_after(plan: &Plan) -> u128
+    ensures value { result ≡ serves_after plan.now.params }
+    ensures small { result < 2 ^ 101 }
+{
+    plan.params.max_lead as u128 + 6 * plan.params.play as u128
+}
+
+/// How long after it a cub lets in what leaves.
+pub fn lets_in_after(plan: &Plan) -> u128
+    ensures value { result ≡ lets_in_after plan.now.params }
+    ensures small { result < 2 ^ 101 }
+{
+    let p = &plan.params;
+    p.max_lead as u128 + 3 * p.play as u128 + p.skew as u128
 }
 
 /// Whether a visit of a slot is settled at a time: it is two block play times after the visit is due, or later.

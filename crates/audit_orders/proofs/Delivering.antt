@@ -21,7 +21,7 @@ use Rattle.run_facts.proofs.Rows.{all-append}
 use Rattle.run_model.specs.Runs.{IsCarriedRun}
 use Rattle.run_model.specs.Tests.{at_its_end}
 use Rattle.run_model.proofs.Reflects.{equal}
-use Rattle.audit_orders.specs.Carrying.{half_of, back_by, back_to, stream_of, sent_at, got_at, all_sent_at, all_got_at, all_entries, AreFirstSent, MayBeLostTo, MayBeLostOn, StreamCounts, count_under, TellsGot, NoneIsLost, AreAtEnds, AllAtEnds, IsStrayIn, IsWrongIn, IsLostIn, IsStrayEntry, IsWrongGot, IsLost, IsUncarriedAt, DecidesCarried}
+use Rattle.audit_orders.specs.Carrying.{half_of, back_at_end, back_to, stream_of, sent_at, got_at, all_sent_at, all_got_at, all_entries, AreFirstSent, MayBeLostTo, MayBeLostOn, StreamCounts, count_under, TellsGot, NoneIsLost, AreAtEnds, AllAtEnds, IsStrayIn, IsWrongIn, IsLostIn, IsStrayEntry, IsWrongGot, IsLost, IsUncarriedAt, DecidesCarried}
 use Rattle.audit_orders.specs.declared.carrying.Uncarried.{Uncarried}
 use Rattle.audit_orders.proofs.Posting.{stream_is}
 use Rattle.audit_orders.proofs.Walks.{one_more}
@@ -252,7 +252,7 @@ by_halves most beats life (Some back) sent got h = (
 back_is : (c : Course) (l from to : ℕ) → ends_of (links_of c.plan.params) l ≡ Some (from, to) → back_to c l ≡ back_of c to
 back_is c l from to ends = by (ends_of (links_of c.plan.params) l) ends
   where
-    by : (o : Option (ℕ × ℕ)) → o ≡ Some (from, to) → back_by c o ≡ back_of c to
+    by : (o : Option (ℕ × ℕ)) → o ≡ Some (from, to) → back_at_end c o ≡ back_of c to
     by None e = absurd (cc)
     by (Some x) e = ap (λ (o : Option (ℕ × ℕ)). back_of c (unwrap_or o (0, 0)).1) e
 

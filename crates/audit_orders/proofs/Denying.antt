@@ -14,6 +14,7 @@ use Rattle.node_kit.specs.declared.journal.What.TheVariants as what
 use Rattle.run_facts.specs.Commanded.{start_in, starts_sent, starts_at, starts_ordered, is_gone, is_gone_of, gone_in, StopsNone, IsCommanded}
 use Rattle.audit_orders.specs.Breaches.{DecidesList}
 use Rattle.audit_orders.specs.Commanding.{IsGoneAt, IsWrongStart, IsUnsent, IsWrongStop, IsStopMissing, takes_effect, clock_of}
+use Rattle.audit_orders.specs.Returning.{TellsReturnIn}
 use Rattle.audit_orders.specs.Timing.{IsTimedIn}
 use Rattle.audit_orders.specs.Verdicts.{UntimedDenies, CommandsOfAccounts, UncommandedDenies}
 use Rattle.audit_orders.specs.declared.commanding.Uncommanded.TheVariants as un
@@ -32,6 +33,13 @@ pub untimed_denies : UntimedDenies
 untimed_denies k (untimed.Journal node found) h timed =
     flaw_denies (IsTimedIn k.course node.0) h.journal found h.flawed (timed.timed node.0 h.journal h.here)
 untimed_denies k (untimed.Neighbours cub) h timed = h.1.both (timed.apart cub.0 h.1.cub)
+untimed_denies k (untimed.Return node i) h timed =
+    let first = h.1.1 in
+    let told = timed.returns node.0 first.journal first.here in
+    ⊎_elim
+    (λ a. flaw_denies (TellsReturnIn k.course node.0) first.journal (flaw.Entry i) a told)
+    (λ a. a.unfinished.not_yet told)
+    first.untold
 
 -- ---- orders
 

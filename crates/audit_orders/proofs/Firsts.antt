@@ -9,7 +9,8 @@ use Rattle.node_kit.specs.declared.journal.Entry.{Entry}
 use Rattle.node_kit.specs.Life.{death_of, lifetime_of}
 use Rattle.run_facts.specs.Timed.{DieApart}
 use Rattle.audit_orders.specs.Breaches.{DecidesList}
-use Rattle.audit_orders.specs.Timing.{IsTimedIn, AreTimedIn, AreTimedBelow, IsFirstFlaw, OneLives, IsFirstPair, IsPairAt, DecidesTimed, both_die}
+use Rattle.audit_orders.specs.Returning.{TellReturns}
+use Rattle.audit_orders.specs.Timing.{IsTimedIn, AreTimedIn, AreTimedBelow, IsFirstFlaw, OneLives, IsFirstPair, IsPairAt, IsReturnAt, DecidesTimed, both_die}
 use Rattle.audit_orders.specs.declared.flaw.Flaw.{Flaw}
 use Rattle.audit_orders.specs.declared.timing.Untimed.{Untimed}
 use Rattle.audit_orders.specs.declared.timing.Untimed.TheVariants as untimed
@@ -73,10 +74,17 @@ pair_found c n r cub lower is dead = record {
 pub all_apart : (c : Course) (n : ℕ) → c.plan.params.cubs ≤ n → ((m : ℕ) → m < n → OneLives c m) → DieApart c.plan.params (lifetime_of c)
 all_apart c n over lower m below = lower m (omega (arith, over, below))
 
--- ---- all journals, and then the cubs
+-- ---- all journals, then the cubs, and then the returns
 
-pub pair_decides : (k : Kept) (answer : Option Untimed) → AreTimedIn k.course k.journals
-    → MatchOption answer (DieApart k.course.plan.params (lifetime_of k.course)) (IsPairAt k.course) → DecidesTimed k answer
-pair_decides k None timed apart = record { timed = timed; apart = apart }
-pair_decides k (Some (untimed.Journal node found)) timed pair = absurd pair
-pair_decides k (Some (untimed.Neighbours cub)) timed pair = (timed, pair)
+pub pair_decides : (k : Kept) (found : Untimed) → AreTimedIn k.course k.journals → IsPairAt k.course found → DecidesTimed k (Some found)
+pair_decides k (untimed.Journal node found) timed pair = absurd pair
+pair_decides k (untimed.Neighbours cub) timed pair = (timed, pair)
+pair_decides k (untimed.Return node i) timed pair = absurd pair
+
+pub return_decides : (k : Kept) (answer : Option Untimed) → AreTimedIn k.course k.journals
+    → DieApart k.course.plan.params (lifetime_of k.course)
+    → MatchOption answer (TellReturns k.course k.journals) (IsReturnAt k.course k.journals) → DecidesTimed k answer
+return_decides k None timed apart told = record { timed = timed; apart = apart; returns = told }
+return_decides k (Some (untimed.Journal node found)) timed apart untold = absurd untold
+return_decides k (Some (untimed.Neighbours cub)) timed apart untold = absurd untold
+return_decides k (Some (untimed.Return node i)) timed apart untold = (timed, (apart, untold))

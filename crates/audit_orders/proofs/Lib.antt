@@ -1,6 +1,8 @@
 pub mod Walks
 pub mod Timely
 pub mod Firsts
+pub mod Untold
+pub mod OnRows
 pub mod Starting
 pub mod Sameness
 pub mod Placing

@@ -24,12 +24,12 @@ use Rattle.audit_orders.specs.declared.mail.Mail.{Mail}
 -- ---- streams: of a link, what is of beats below its receiver's return, or all, and what is of the others
 
 -- the return of the node to which a link leads
-abbrev pub back_by : Course → Option (ℕ × ℕ) → Option ℕ
-back_by c None = None
-back_by c (Some ends) = back_of c ends.1
+abbrev pub back_at_end : Course → Option (ℕ × ℕ) → Option ℕ
+back_at_end c None = None
+back_at_end c (Some ends) = back_of c ends.1
 
 abbrev pub back_to : Course → ℕ → Option ℕ
-back_to c l = back_by c (ends_of (links_of c.plan.params) l)
+back_to c l = back_at_end c (ends_of (links_of c.plan.params) l)
 
 -- 1 from the return on, and else 0
 abbrev pub half_of : Option ℕ → ℕ → ℕ

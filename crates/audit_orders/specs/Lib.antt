@@ -1,4 +1,5 @@
 pub mod Breaches
+pub mod Returning
 pub mod Timing
 pub mod Commanding
 pub mod Starts

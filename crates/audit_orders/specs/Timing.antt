@@ -5,10 +5,11 @@ use Rattle.node_kit.specs.declared.course.Course.{Course}
 use Rattle.node_kit.specs.declared.course.Kept.{Kept}
 use Rattle.node_kit.specs.declared.journal.Entry.{Entry}
 use Rattle.node_kit.specs.Life.{Lifetime, death_of, cut_of, back_of, lifetime_of}
-use Rattle.run_facts.specs.Timed.{IsTimed, AreTimed, is_died, death_within}
+use Rattle.run_facts.specs.Timed.{IsTimed, AreTimed, DieApart, is_died, death_within}
 use Rattle.run_model.specs.Runs.{IsTimedRun}
 use Rattle.run_model.specs.Tests.{is_read, is_until, stands_later}
 use Rattle.audit_orders.specs.Breaches.{DecidesList}
+use Rattle.audit_orders.specs.Returning.{IsFirstUntold}
 use Rattle.audit_orders.specs.declared.flaw.Flaw.{Flaw}
 use Rattle.audit_orders.specs.declared.timing.SoFar.{SoFar}
 use Rattle.audit_orders.specs.declared.timing.Term.{Term}
@@ -45,6 +46,13 @@ pub record IsFirstPair (c : Course) (n : ℕ) : Type 0 where
 abbrev pub IsPairAt : Course → Untimed → Type 0
 IsPairAt c (untimed.Journal node found) = ⊥
 IsPairAt c (untimed.Neighbours cub) = IsFirstPair c cub.0
+IsPairAt c (untimed.Return node i) = ⊥
+
+-- the journal of a node is the first that does not tell its return, and this says so
+abbrev pub IsReturnAt : Course → List (List Entry) → Untimed → Type 0
+IsReturnAt c journals (untimed.Journal node found) = ⊥
+IsReturnAt c journals (untimed.Neighbours cub) = ⊥
+IsReturnAt c journals (untimed.Return node i) = IsFirstUntold c journals node.0 i
 
 -- the journals of a course are timed
 abbrev pub AreTimedIn : Course → List (List Entry) → Type 0
@@ -54,6 +62,8 @@ AreTimedIn c journals = AreTimed c.plan.params c.beats (lifetime_of c) journals
 abbrev pub IsUntimedAt : Course → List (List Entry) → Untimed → Type 0
 IsUntimedAt c journals (untimed.Journal node found) = IsFirstFlaw c journals node.0 found
 IsUntimedAt c journals (untimed.Neighbours cub) = AreTimedIn c journals × IsFirstPair c cub.0
+IsUntimedAt c journals (untimed.Return node i) =
+    AreTimedIn c journals × (DieApart c.plan.params (lifetime_of c) × IsFirstUntold c journals node.0 i)
 
 -- an answer decides whether a kept run is timed
 abbrev pub DecidesTimed : Kept → Option Untimed → Type 0

@@ -9,6 +9,7 @@ mod flaw;
 mod foreign;
 pub mod laws;
 mod mail;
+mod returning;
 pub mod rows;
 mod starts;
 mod stops;

@@ -6,7 +6,7 @@ ghost use Rattle.slot_plan.specs.Samples.{small};
 ghost use Rattle.node_kit.specs.declared.course.Kept.{Kept};
 ghost use Rattle.tiger_base.specs.declared.message.Note.TheVariants.{Heartbeat};
 ghost use Rattle.node_kit.specs.declared.journal.What.TheVariants.{Got};
-ghost use Rattle.run_model.specs.Samples.{kept, dying, of_none, ordered, at, sends, gets, later, all};
+ghost use Rattle.run_model.specs.Samples.{kept, kept_of_lives, dying, of_none, ordered, at, sends, gets, dies, is_back, later, all};
 ghost use Rattle.audit_orders.specs.Carrying.{IsUncarriedAt};
 ghost use Rattle.audit_orders.specs.declared.carrying.Uncarried.TheVariants as uncarried;
 ghost use Rattle.audit_orders.specs.Commanding.{DecidesStarts, DecidesStops};
@@ -30,6 +30,26 @@ pub fn timing()
     ensures no_death { (k : Kept) (p : IsPlan small) → DecidesTimed
         (kept k p 10 (dying (Some 4) None None) [] [])
         (Some (untimed.Journal (record { 0 = 0 }) flaw.Missing)) }
+{}
+
+/// Runs of ten beats, in which cub 0 dies in beat 4 and is to come back in beat 6: it does so; it does a beat late; it does not,
+/// or the run ends before. Or it comes back in a run in which it is not to.
+pub fn returns()
+    ensures in_time { (k : Kept) (p : IsPlan small) → DecidesTimed
+        (kept_of_lives k p 10 (dying (Some 4) None None) of_none (dying (Some 6) None None) []
+        (dies 0 4 ∷ is_back 0 6 ∷ [])) None }
+    ensures late { (k : Kept) (p : IsPlan small) → DecidesTimed
+        (kept_of_lives k p 10 (dying (Some 4) None None) of_none (dying (Some 6) None None) []
+        (dies 0 4 ∷ is_back 0 7 ∷ [])) (Some (untimed.Return (record { 0 = 0 }) 1)) }
+    ensures missing { (k : Kept) (p : IsPlan small) → DecidesTimed
+        (kept_of_lives k p 10 (dying (Some 4) None None) of_none (dying (Some 6) None None) []
+        (dies 0 4 ∷ [])) (Some (untimed.Return (record { 0 = 0 }) 0)) }
+    ensures behind_the_end { (k : Kept) (p : IsPlan small) → DecidesTimed
+        (kept_of_lives k p 6 (dying (Some 4) None None) of_none (dying (Some 6) None None) []
+        (dies 0 4 ∷ [])) None }
+    ensures unforeseen { (k : Kept) (p : IsPlan small) → DecidesTimed
+        (kept k p 10 (dying (Some 4) None None) [] (dies 0 4 ∷ is_back 0 6 ∷ []))
+        (Some (untimed.Journal (record { 0 = 0 }) (flaw.Entry 1))) }
 {}
 
 /// Cub 0 dies, and cub 1 or cub 7 besides: cubs 7 and 0 stand side by side too.

@@ -1,4 +1,4 @@
-//! Whether each entry of a kept run was written at its time, and where a run is not timed.
+//! Whether each entry of a kept run was written at its time and each return is told, and where a run is not timed.
 ghost use Rattle.std.specs.Prelude.{◌≡◌, ◌^◌, ◌<◌, ◌≤◌, Some, None, true, false, is_some, MatchOption, length};
 ghost use Rattle.slot_plan.specs.Times.{time_of};
 ghost use Rattle.node_kit.specs.Life.{of_cub, death_of, lifetime_of};
@@ -10,6 +10,7 @@ ghost use Rattle.audit_orders.specs.Timing.{DecidesTimed, IsUntimedAt, IsPairAt,
 
 use crate::entries::entry_at;
 use crate::flaw::Flaw;
+use crate::returning::first_untold;
 use node_kit::{Course, Entry, Journal, Kept, What};
 use slot_plan::Plan;
 use tiger_base::{Beat, CubNo, NodeNo, Sequence, Stamp};
@@ -21,6 +22,10 @@ pub enum Untimed {
     Journal { node: NodeNo, flaw: Flaw },
     /// A cub that has a death, as the next one in the ring has, where all journals are timed.
     Neighbours { cub: CubNo },
+    /// The entry at which the journal of a node does not tell its return, where all journals are timed, no two cubs side
+    /// by side die and all journals of lower nodes tell theirs: it may not stand behind the entry before it, or it is a
+    /// death behind which the return is missing.
+    Return { node: NodeNo, place: usize },
 }
 
 /// When a node dies in a course, whether its death cuts it off, and when it returns.
@@ -38,14 +43,25 @@ struct SoFar {
     died: bool,
 }
 
-/// Where a kept run is not timed, first by node; `None` if it is timed. It takes no memory, and looks at each entry once.
+/// Where a kept run is not timed, first by node; `None` if it is timed. It takes no memory, and looks at each entry twice.
 pub fn first_untimed(k: &Kept) -> Option<Untimed>
     requires { length k.now.journals ≤ 1000 }
     ensures { DecidesTimed k.now result }
 {
     match first_flaw(&k.course, k.journals.as_slice()) {
         Some(found) => Some(found),
-        None => pair_found(&k.course),
+        None => pair_or_return(k),
+    }
+}
+
+/// Where a run is not timed whose journals are: where two cubs side by side die, and else where a return is not told.
+fn pair_or_return(k: &Kept) -> Option<Untimed>
+    requires { length k.now.journals ≤ 1000 }
+    ensures { AreTimedIn k.now.course k.now.journals → DecidesTimed k.now result }
+{
+    match pair_found(&k.course) {
+        Some(found) => Some(found),
+        None => first_untold(&k.course, k.journals.as_slice()),
     }
 }
 
@@ -184,7 +200,7 @@ fn stands(beats: Beat, term: &Term, died: bool, e: &Entry) -> bool
 }
 
 /// The death, if the run comes to its beat.
-fn death_within(beats: Beat, death: Option<Beat>) -> Option<Beat>
+pub(crate) fn death_within(beats: Beat, death: Option<Beat>) -> Option<Beat>
     ensures { result ≡ death_within beats death }
 {
     match death {
@@ -232,7 +248,7 @@ fn is_until(left: Option<u64>, death: Beat, beat: Beat) -> bool
     }
 }
 
-fn is_died(what: &What) -> bool
+pub(crate) fn is_died(what: &What) -> bool
     ensures { result ≡ is_died what.now }
 {
     matches!(what, What::Died)

@@ -25,13 +25,13 @@ use Rattle.audit_text.specs.declared.item.Item.TheVariants as item
 use Rattle.audit_text.specs.Fields.{params_fields}
 use Rattle.audit_text.specs.Fits.{ItemFits, DigestFits}
 use Rattle.audit_text.specs.Texts.{Parts, parts_of, row_at, node_items, head_items, items_in}
-use Rattle.audit_read.specs.Writable.{IsDeath, IsFault, IsFile, AreOrders, IsJournal, IsWritable, node_count, starts_in}
+use Rattle.audit_read.specs.Writable.{IsDeath, ReturnsIn, IsFault, IsFile, AreOrders, IsJournal, IsWritable, node_count, starts_in}
 use Rattle.audit_read.specs.Drafts.{given_parts, whole_parts, written, Admits, AreOffsets, AreBeats, TellsAll, padded, told_with, begun_told, opened, after, IsGiven, IsTold, IsWhole, IsSound}
 use Rattle.audit_read.specs.declared.draft.Draft.{Draft}
 use Rattle.audit_read.specs.declared.draft.Draft.TheVariants as draft
 use Rattle.audit_read.specs.declared.given.Given.{Given}
 use Rattle.audit_read.specs.declared.told.Told.{Told}
-use Rattle.audit_read.proofs.Lists.{all_push, padded_at, padded_items, padded_length, padded_all, length_push, bytes_from}
+use Rattle.audit_read.proofs.Lists.{all_push, padded_at, padded_items, padded_length, padded_all, padded_backs, length_push, bytes_from}
 use Rattle.audit_read.proofs.Steps.{step}
 
 -- ---- a whole text is that of a writable value
@@ -43,6 +43,7 @@ record AreWritable (q : Parts) : Type 0 where
   delay : FixedIsWithin q.delay q.params.delay
   cubs : length q.deaths ≡ q.params.cubs
   deaths : AllByRecursion (IsDeath q.beats) q.deaths
+  returns : AllByRecursion (ReturnsIn q.beats) q.backs
   cuts : length q.cuts ≡ q.params.cubs
   backs : length q.backs ≡ q.params.cubs
   cut_deaths : (n : ℕ) → CutsDeath (row_at q.deaths n) (row_at q.cuts n)
@@ -73,6 +74,7 @@ parts_are t w fits =
       delay = g.delay;
       cubs = padded_length t.given.deaths t.given.params.cubs g.cubs;
       deaths = padded_all t.given.beats t.given.deaths t.given.params.cubs g.deaths;
+      returns = padded_backs t.given.beats t.given.backs t.given.params.cubs g.returns;
       cuts = padded_length t.given.cuts t.given.params.cubs (omega (arith, g.cuts, g.cubs));
       backs = padded_length t.given.backs t.given.params.cubs (omega (arith, g.backs, g.cubs));
       cut_deaths = λ n. rw (padded_at t.given.deaths t.given.params.cubs n, padded_at t.given.cuts t.given.params.cubs n) (g.cut_deaths n);
@@ -115,6 +117,7 @@ kept_is k a block disks = record {
   };
   lasting = a.beats.0;
   deaths = a.deaths;
+  returns = a.returns;
   faults = a.faults;
   block = block;
   disks = disks;

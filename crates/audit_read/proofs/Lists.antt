@@ -12,7 +12,7 @@ use Rattle.audit_text.specs.declared.item.Item.{Item}
 use Rattle.audit_text.specs.declared.item.Item.TheVariants as item
 use Rattle.audit_text.specs.Texts.{row_at, death_items, entry_items, node_items}
 use Rattle.audit_read.specs.Drafts.{padded, padded_with}
-use Rattle.audit_read.specs.Writable.{IsDeath}
+use Rattle.audit_read.specs.Writable.{IsDeath, ReturnsIn}
 
 pub all_append : {X : Type 0} (P : X → Type 0) (xs ys : List X) → AllByRecursion P xs → AllByRecursion P ys → AllByRecursion P (xs ++ ys)
 all_append P [] ys f g = g
@@ -176,6 +176,15 @@ none_die beats (suc n) = (tt, none_die beats n)
 
 pub padded_all : (beats : ℕ) (ds : List (Option ℕ)) (c : ℕ) → AllByRecursion (IsDeath beats) ds → AllByRecursion (IsDeath beats) (padded ds c)
 padded_all beats ds c f = all_append (IsDeath beats) ds (replicate (c - length ds) None) f (none_die beats (c - length ds))
+
+none_return : (beats n : ℕ) → AllByRecursion (ReturnsIn beats) (replicate n None)
+none_return beats zero = tt
+none_return beats (suc n) = (tt, none_return beats n)
+
+pub padded_backs : (beats : ℕ) (backs : List (Option ℕ)) (c : ℕ) → AllByRecursion (ReturnsIn beats) backs
+    → AllByRecursion (ReturnsIn beats) (padded backs c)
+padded_backs beats backs c f =
+    all_append (ReturnsIn beats) backs (replicate (c - length backs) None) f (none_return beats (c - length backs))
 
 -- ---- who is cut off and who returns
 

@@ -11,13 +11,13 @@ use Rattle.node_kit.specs.declared.journal.Entry.{Entry}
 use Rattle.audit_text.specs.declared.item.Item.{Item}
 use Rattle.audit_text.specs.declared.item.Item.TheVariants as item
 use Rattle.audit_text.specs.Texts.{death_items, node_items, head_items}
-use Rattle.audit_read.specs.Writable.{IsDeath, IsFault, IsFile, IsOrder, AreOrders, IsEntry, IsJournal, start_in}
+use Rattle.audit_read.specs.Writable.{IsDeath, ReturnsIn, IsFault, IsFile, IsOrder, AreOrders, IsEntry, IsJournal, start_in}
 use Rattle.audit_read.specs.Drafts.{given_parts, written, Admits, BegunAdmits, PlannedAdmits, LastingAdmits, PacedAdmits, FirstAdmits, GivenAdmits, ToldAdmits, padded, given_with, after, IsGiven, IsTold, IsSound}
 use Rattle.audit_read.specs.declared.draft.Draft.{Draft}
 use Rattle.audit_read.specs.declared.draft.Draft.TheVariants as draft
 use Rattle.audit_read.specs.declared.given.Given.{Given}
 use Rattle.audit_read.specs.declared.told.Told.{Told}
-use Rattle.audit_read.proofs.Lists.{all_push, padded_with_length, padded_all, length_push, death_push, cut_with, back_with, mapped, before_nothing, node_push, entry_push}
+use Rattle.audit_read.proofs.Lists.{all_push, padded_with_length, padded_all, padded_backs, length_push, death_push, cut_with, back_with, mapped, before_nothing, node_push, entry_push}
 
 -- ---- the lines
 
@@ -135,6 +135,7 @@ step_paced p beats delay (item.Offsets offsets) h a = record {
     offsets = a;
     cubs = omega arith;
     deaths = tt;
+    returns = tt;
     cuts = refl;
     backs = refl;
     cut_deaths = λ n. tt;
@@ -163,6 +164,7 @@ step_given g (item.Death cub beat left back) h a =
         offsets = h.offsets;
         cubs = omega (arith, long, a.inside);
         deaths = all_push (IsDeath g.beats) (padded g.deaths cub.0) (Some beat) (padded_all g.beats g.deaths cub.0 h.deaths) a.early;
+        returns = all_push (ReturnsIn g.beats) (padded g.backs cub.0) back (padded_backs g.beats g.backs cub.0 h.returns) a.in_run;
         cuts = padded_with_length g.cuts cub.0 left cuts ∙ sym long;
         backs = padded_with_length g.backs cub.0 back backs ∙ sym long;
         cut_deaths = cut_with g.deaths g.cuts cub.0 beat left a.next cuts h.cut_deaths;
@@ -187,6 +189,7 @@ step_given g (item.Fault f) h a = record {
     offsets = h.offsets;
     cubs = h.cubs;
     deaths = h.deaths;
+    returns = h.returns;
     cuts = h.cuts;
     backs = h.backs;
     cut_deaths = h.cut_deaths;
@@ -208,6 +211,7 @@ step_given g (item.File f) h a = record {
     offsets = h.offsets;
     cubs = h.cubs;
     deaths = h.deaths;
+    returns = h.returns;
     cuts = h.cuts;
     backs = h.backs;
     cut_deaths = h.cut_deaths;
@@ -229,6 +233,7 @@ step_given g (item.Order o) h a = record {
     offsets = h.offsets;
     cubs = h.cubs;
     deaths = h.deaths;
+    returns = h.returns;
     cuts = h.cuts;
     backs = h.backs;
     cut_deaths = h.cut_deaths;

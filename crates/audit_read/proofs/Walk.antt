@@ -1,5 +1,5 @@
 -- The lines of a writable value are read in turn, and the text is whole behind the last one.
-use Rattle.std.proofs.Common.{◌≡◌, ℕ, suc, ◌+◌, ◌<◌, ◌≤◌, ◌^◌, true, List, [], ◌∷◌, ◌++◌, Option, Some, None, refl, sym, subst, ⊎_elim, arith, length}
+use Rattle.std.proofs.Common.{◌≡◌, ℕ, zero, suc, ◌+◌, ◌<◌, ◌≤◌, ◌^◌, true, List, [], ◌∷◌, ◌++◌, Option, Some, None, refl, sym, subst, ⊎_elim, arith, length}
 use Rattle.std.proofs.Common.{map, append_assoc, append-nil}
 use Rattle.std.specs.Prelude.{nat_lt}
 use Rattle.std.specs.List.{AllByRecursion, fold}
@@ -17,7 +17,7 @@ use Rattle.stripe_layout.specs.declared.catalogue.FileInfo.{FileInfo}
 use Rattle.audit_text.specs.declared.item.Item.{Item}
 use Rattle.audit_text.specs.declared.item.Item.TheVariants as item
 use Rattle.audit_text.specs.Texts.{parts_of, row_at, death_items, entry_items, node_items, items_in}
-use Rattle.audit_read.specs.Writable.{IsDeath, IsFault, IsFile, AreOrders, IsJournal, IsWritable, node_count, starts_in}
+use Rattle.audit_read.specs.Writable.{IsDeath, ReturnsIn, IsFault, IsFile, AreOrders, IsJournal, IsWritable, node_count, starts_in}
 use Rattle.audit_read.specs.Drafts.{Admits, TellsAll, given_with, told_with, begun_told, opened, after}
 use Rattle.audit_read.specs.declared.draft.Draft.{Draft}
 use Rattle.audit_read.specs.declared.draft.Draft.TheVariants as draft
@@ -48,14 +48,14 @@ from_next P c f m = subst (λ (k : ℕ). P (suc m) k) (shifted c m) (f (suc m)) 
 walk_deaths : (g : Given) (cuts backs : List (Option ℕ)) (c : ℕ) (ds : List (Option ℕ)) (rest : List Item)
     → length g.faults ≡ 0 → length g.files ≡ 0 → length g.orders ≡ 0
     → length g.deaths ≤ c → c + length ds ≤ g.params.cubs → AllByRecursion (IsDeath g.beats) ds
-    → ((m : ℕ) → ReturnsLater (row_at ds m) (row_at backs (c + m)))
+    → ((m : ℕ) → ReturnsLater (row_at ds m) (row_at backs (c + m))) → ((k : ℕ) → ReturnsIn g.beats (row_at backs k))
     → ((e f h : List (Option ℕ)) → ReadsOut (draft.Given (record g { deaths = e; cuts = f; backs = h })) rest)
     → ReadsOut (draft.Given g) (death_items cuts backs c ds ++ rest)
-walk_deaths g cuts backs c [] rest a b o le fit all later then = then g.deaths g.cuts g.backs
-walk_deaths g cuts backs c (None ∷ ds) rest a b o le fit all later then =
+walk_deaths g cuts backs c [] rest a b o le fit all later early then = then g.deaths g.cuts g.backs
+walk_deaths g cuts backs c (None ∷ ds) rest a b o le fit all later early then =
     walk_deaths g cuts backs (c + 1) ds rest a b o (omega (arith, le)) (omega (arith, fit)) all.1
-    (from_next (λ m k. ReturnsLater (row_at (None ∷ ds) m) (row_at backs k)) c later) then
-walk_deaths g cuts backs c (Some beat ∷ ds) rest a b o le fit all later then = (
+    (from_next (λ m k. ReturnsLater (row_at (None ∷ ds) m) (row_at backs k)) c later) early then
+walk_deaths g cuts backs c (Some beat ∷ ds) rest a b o le fit all later early then = (
   record {
     faults = a;
     files = b;
@@ -64,10 +64,11 @@ walk_deaths g cuts backs c (Some beat ∷ ds) rest a b o le fit all later then =
     inside = omega (arith, fit);
     early = all.0;
     later = subst (λ (k : ℕ). ReturnsLater (Some beat) (row_at backs k)) (here c) (later 0);
+    in_run = early c;
   },
   walk_deaths (given_with g (item.Death (record { 0 = c }) beat (row_at cuts c) (row_at backs c))) cuts backs (c + 1) ds rest a b o
       (omega (arith, padded_with_length g.deaths c (Some beat) le)) (omega (arith, fit)) all.1
-      (from_next (λ m k. ReturnsLater (row_at (Some beat ∷ ds) m) (row_at backs k)) c later) then,
+      (from_next (λ m k. ReturnsLater (row_at (Some beat ∷ ds) m) (row_at backs k)) c later) early then,
 ) where
   here : (c : ℕ) → c + 0 ≡ c
   here c = omega arith
@@ -190,6 +191,12 @@ rows_return c h m = ⊎_elim
     row-past : (row : List (Option ℕ)) (n : ℕ) → length row ≤ n → row_at row n ≡ None
     row-past row n le = rw (slice_get_past row n le) refl
 
+-- what each element of a row says holds of each place of it
+early_at : (beats : ℕ) (backs : List (Option ℕ)) → AllByRecursion (ReturnsIn beats) backs → (k : ℕ) → ReturnsIn beats (row_at backs k)
+early_at beats [] all k = tt
+early_at beats (b ∷ bs) all zero = all.0
+early_at beats (b ∷ bs) all (suc k) = early_at beats bs all.1 k
+
 pub walk : (k : Kept) → IsWritable k → ReadsOut draft.Empty (items_in (parts_of k))
 unfolding items_in
 walk k w =
@@ -209,7 +216,7 @@ walk k w =
                   (sym (spread (death_items c.cuts c.backs 0 c.deaths) (map (λ f. item.Fault f) c.faults) (map (λ f. item.File f) k.catalogue.files)
                   (map (λ o. item.Order o) k.orders) (node_items 0 k.journals) digests (item.End ∷ [])))
                   (walk_deaths first c.cuts c.backs 0 c.deaths _ refl refl refl (omega arith) (omega (arith, w.course.deaths)) w.deaths
-                  (λ m. rows_return c w.course m)
+                  (λ m. rows_return c w.course m) (early_at c.beats c.backs w.returns)
                   (λ deaths cuts backs. walk_faults (record first { deaths = deaths; cuts = cuts; backs = backs }) c.faults _ refl refl w.faults
                   (walk_files (record first { deaths = deaths; cuts = cuts; backs = backs; faults = c.faults }) k.catalogue.files _ refl (omega (arith, k.catalogue.sound.count)) w.files
                   (walk_orders (record first { deaths = deaths; cuts = cuts; backs = backs; faults = c.faults; files = k.catalogue.files }) k.orders _ w.orders

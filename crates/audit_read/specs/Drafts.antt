@@ -14,7 +14,7 @@ use Rattle.audit_text.specs.declared.item.Item.TheVariants as item
 use Rattle.audit_text.specs.Fits.{ItemFits}
 use Rattle.audit_text.specs.Lines.{line_of}
 use Rattle.audit_text.specs.Texts.{Parts, row_at, head_items, body_items}
-use Rattle.audit_read.specs.Writable.{node_count, starts_in, start_in, last_beat, IsDeath, IsFault, IsFile, IsOrder, AreOrders, IsEntry, IsJournal}
+use Rattle.audit_read.specs.Writable.{node_count, starts_in, start_in, last_beat, IsDeath, ReturnsIn, IsFault, IsFile, IsOrder, AreOrders, IsEntry, IsJournal}
 use Rattle.audit_read.specs.declared.draft.Draft.{Draft}
 use Rattle.audit_read.specs.declared.draft.Draft.TheVariants as draft
 use Rattle.audit_read.specs.declared.given.Given.{Given}
@@ -66,7 +66,7 @@ abbrev pub AreBeats : ℕ → Type 0
 AreBeats beats = (1 ≤ beats) × (beats ≤ most_beats)
 
 -- a death is told before all faults, files and orders, behind those of cubs with lower numbers; the cub returns late
--- enough, if it does
+-- enough and in the run, if it does
 pub record AdmitsDeath (g : Given) (cub beat : ℕ) (back : Option ℕ) : Type 0 where
   pub faults : length g.faults ≡ 0
   pub files : length g.files ≡ 0
@@ -75,6 +75,7 @@ pub record AdmitsDeath (g : Given) (cub beat : ℕ) (back : Option ℕ) : Type 0
   pub inside : cub < g.params.cubs
   pub early : beat < g.beats
   pub later : ReturnsLater (Some beat) back
+  pub in_run : ReturnsIn g.beats back
 
 abbrev pub FirstAdmits : Item → Type 0
 FirstAdmits item.Version = Unit {0}
@@ -221,6 +222,7 @@ pub record IsGiven (g : Given) : Type 0 where
   pub offsets : AreOffsets g.params g.offsets
   pub cubs : length g.deaths ≤ g.params.cubs
   pub deaths : AllByRecursion (IsDeath g.beats) g.deaths
+  pub returns : AllByRecursion (ReturnsIn g.beats) g.backs
   pub cuts : length g.cuts ≡ length g.deaths
   pub backs : length g.backs ≡ length g.deaths
   pub cut_deaths : (n : ℕ) → CutsDeath (row_at g.deaths n) (row_at g.cuts n)

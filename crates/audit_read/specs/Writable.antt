@@ -35,6 +35,11 @@ abbrev pub IsDeath : ℕ → Option ℕ → Type 0
 IsDeath beats None = Unit {0}
 IsDeath beats (Some beat) = beat < beats
 
+-- and it does not return, or does in one
+abbrev pub ReturnsIn : ℕ → Option ℕ → Type 0
+ReturnsIn beats None = Unit {0}
+ReturnsIn beats (Some back) = back < beats
+
 -- a fault is of a disk of the plan, in a beat or more of the run
 abbrev pub IsFault : Params → ℕ → ReadFault → Type 0
 IsFault p beats f = (f.disk.0 < disk_count p) × (f.from < f.until) × (f.until ≤ beats)
@@ -140,6 +145,7 @@ pub record IsWritable (k : Kept) : Type 0 where
   pub course : IsCourse k.course
   pub lasting : 1 ≤ k.course.beats
   pub deaths : AllByRecursion (IsDeath k.course.beats) k.course.deaths
+  pub returns : AllByRecursion (ReturnsIn k.course.beats) k.course.backs
   pub faults : AllByRecursion (IsFault k.course.plan.params k.course.beats) k.course.faults
   pub block : k.catalogue.block ≡ k.course.plan.params.block
   pub disks : k.catalogue.disks ≡ disk_count k.course.plan.params

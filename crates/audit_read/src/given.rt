@@ -4,7 +4,7 @@ ghost use Rattle.audit_text.specs.Texts.{parts_of};
 ghost use Rattle.slot_plan.specs.Times.{disk_count};
 ghost use Rattle.node_kit.specs.Courses.{ReturnsLater};
 ghost use Rattle.audit_text.specs.declared.item.Item.TheVariants as item;
-ghost use Rattle.audit_read.specs.Writable.{IsFault, IsFile, IsAskOf, IsOrder, MayBeOrdered, starts_in, last_beat, start_in};
+ghost use Rattle.audit_read.specs.Writable.{ReturnsIn, IsFault, IsFile, IsAskOf, IsOrder, MayBeOrdered, starts_in, last_beat, start_in};
 ghost use Rattle.audit_read.specs.Drafts.{AdmitsDeath, GivenAdmits, given_with, padded, padded_with, opened, IsGiven, IsNext, parts_with};
 ghost use Rattle.audit_read.specs.declared.draft.Draft.{Draft};
 ghost use Rattle.audit_read.specs.declared.draft.Draft.TheVariants as draft;
@@ -80,6 +80,7 @@ impl Given {
             && cub < self.params.cubs
             && beat < self.beats
             && returns_later(beat, back)
+            && returns_in(self.beats, back)
     }
 
     /// Reads that a cub dies, if that may stand next.
@@ -302,6 +303,16 @@ fn returns_later(death: Beat, back: Option<Beat>) -> bool
 {
     match back {
         Some(back) => death as u128 + 2 <= back as u128,
+        None => true,
+    }
+}
+
+/// Whether who returns does so in one of so many beats.
+fn returns_in(beats: Beat, back: Option<Beat>) -> bool
+    ensures { IsTrue result ↔ ReturnsIn beats back }
+{
+    match back {
+        Some(back) => back < beats,
         None => true,
     }
 }

@@ -5,13 +5,16 @@ ghost use Rattle.tiger_base.specs.Limits.{most_blocks};
 ghost use Rattle.slot_plan.specs.Samples.{small};
 ghost use Rattle.audit_read.specs.Begun.{IsFaultyAt, whole_lines};
 ghost use Rattle.audit_read.specs.Samples.{ask, begin, fault, file, finish, tenancy};
-ghost use Rattle.audit_read.specs.Writable.{AreOrders, IsAsk, IsDeath, IsFault, IsFile, IsPlace, IsTenancy, node_count, starts_in};
+ghost use Rattle.audit_read.specs.Writable.{AreOrders, IsAsk, IsDeath, IsFault, IsFile, IsPlace, IsTenancy, ReturnsIn, node_count, starts_in};
 
 /// What befalls a run lies in its beats and on its plan's disks.
 pub fn what_befalls()
     ensures lives { IsDeath 600 None }
     ensures dies { IsDeath 600 (Some 599) }
     ensures too_late { IsDeath 600 (Some 600) → ⊥ }
+    ensures stays_dead { ReturnsIn 600 None }
+    ensures returns { ReturnsIn 600 (Some 599) }
+    ensures back_too_late { ReturnsIn 600 (Some 600) → ⊥ }
     ensures faulty { IsFault small 600 (fault 7 130 600) }
     ensures no_such_disk { IsFault small 600 (fault 8 130 600) → ⊥ }
     ensures no_beat { IsFault small 600 (fault 7 130 130) → ⊥ }

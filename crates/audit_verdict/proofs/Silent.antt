@@ -1,5 +1,5 @@
 -- A run whose nodes send and get nothing is carried, and one of whose controller and orders there is nothing is commanded.
-use Rattle.std.proofs.Common.{◌≡◌, ℕ, zero, suc, Bool, true, false, ◌&&◌, ◌||◌, nat_lt, arith, List, [], ◌∷◌, ◌++◌, Option, Some, None, refl, sym, ap, subst, ◌∙◌}
+use Rattle.std.proofs.Common.{◌≡◌, ℕ, zero, suc, Bool, true, false, ◌&&◌, ◌||◌, ◌<◌, nat_lt, arith, List, [], ◌∷◌, ◌++◌, Option, Some, None, refl, sym, ap, subst, ◌∙◌}
 use Rattle.std.specs.Prelude.{slice_get, if◌then◌else◌}
 use Rattle.std.specs.List.{AllByRecursion, list_any}
 use Rattle.std.proofs.lemmas.Bool.{false≢true}
@@ -15,6 +15,9 @@ use Rattle.run_facts.specs.Carried.{AreCarriedBy, IsAtItsEnd, sent_by, got_by, s
 use Rattle.run_facts.specs.Commanded.{IsCommanded, StopsNone, is_gone, starts_sent, starts_ordered, gone_in, gone_before, stop_ordered, places_got}
 use Rattle.run_facts.specs.Events.{Dated}
 use Rattle.run_model.specs.Runs.{IsCarriedRun}
+use Rattle.audit_verdict.specs.Clauses.{MeetsClause, number_of_clause}
+use Rattle.audit_verdict.specs.declared.clause.Clause.{Clause}
+use Rattle.audit_verdict.specs.declared.clause.Clause.TheVariants as clause
 
 -- whether an entry is of a message
 abbrev pub speaks : What → Bool
@@ -84,6 +87,11 @@ silent k h = record {
       (none_carried k.course.plan.params.delay k.course.beats (lifetime_of k.course to) (lifetime_of k.course to).back);
   at_ends = λ n journal at. at_ends k.course.plan.params n journal (one_silent k.journals n journal h at);
 }
+
+-- so all clauses before the second one hold
+pub carried_before : (run : Kept) → list_any has_message run.journals ≡ false → (d : Clause) → number_of_clause d < 2 → MeetsClause run d
+carried_before run none clause.Carried low = silent run none
+carried_before run none other low = absurd (omega (arith, low))
 
 -- ---- orders
 

@@ -78,6 +78,7 @@ abbrev pub place_untimed : Untimed → Place
 place_untimed (untimed.Journal node (flaw.Entry i)) = place.Entry (entry_place node i)
 place_untimed (untimed.Journal node flaw.Missing) = place.Death node
 place_untimed (untimed.Neighbours cub) = place.Neighbours cub
+place_untimed (untimed.Return node i) = place.Entry (entry_place node i)
 
 -- the controller of a plan, as a node
 abbrev pub controller_in : Params → NodeNo

@@ -77,6 +77,7 @@ fn at_time(found: Untimed) -> Place
             flaw: Flaw::Missing,
         } => Place::Death { node },
         Untimed::Neighbours { cub } => Place::Neighbours { cub },
+        Untimed::Return { node, place } => entry(node, place),
     }
 }
 

@@ -1,11 +1,11 @@
 //! Worked runs: one of which all clauses hold, and five that each break one. They stand in contracts of functions without a
 //! body, and not in tests, since a weakened definition must be refused where the crate is checked without its tests.
-ghost use Rattle.std.specs.Prelude.{[], ◌∷◌};
+ghost use Rattle.std.specs.Prelude.{[], ◌∷◌, Some, None};
 ghost use Rattle.tiger_base.specs.declared.message.Note.TheVariants.{Heartbeat};
 ghost use Rattle.slot_plan.specs.Conditions.{IsPlan};
 ghost use Rattle.slot_plan.specs.Samples.{small};
 ghost use Rattle.node_kit.specs.declared.course.Kept.{Kept};
-ghost use Rattle.run_model.specs.Samples.{believes, gets, kept, of_none, ordered, sends};
+ghost use Rattle.run_model.specs.Samples.{believes, is_back, dies, dying, gets, kept, kept_of_lives, of_none, ordered, sends};
 ghost use Rattle.audit_orders.specs.Samples.{writes};
 ghost use Rattle.audit_verdict.specs.Clocks.{ShowsClocks};
 ghost use Rattle.audit_verdict.specs.Samples.{at_entry, at_order};
@@ -31,6 +31,18 @@ pub fn late()
         (kept k p 10 of_none [] (writes 2 20000 ∷ writes 3 30001 ∷ []))
         (verdict.No clause.Timed (at_entry 0 1)) }
 {}
+
+/// In runs of ten beats cub 0 dies in beat 4 and is to come back in beat 6. It does so a beat too late, or not at all.
+pub fn returns()
+    ensures late { (k : Kept) (p : IsPlan small) → IsVerdictOn
+        (kept_of_lives k p 10 (dying (Some 4) None None) of_none (dying (Some 6) None None) []
+        (dies 0 4 ∷ is_back 0 7 ∷ [])) (verdict.No clause.Timed (at_entry 0 1)) }
+    ensures missing { (k : Kept) (p : IsPlan small) → IsVerdictOn
+        (kept_of_lives k p 10 (dying (Some 4) None None) of_none (dying (Some 6) None None) []
+        (dies 0 4 ∷ [])) (verdict.No clause.Timed (at_entry 0 0)) }
+{
+    audit_orders::rows::returns()
+}
 
 /// The clock of cub 0 shows the true time, which is 20000 in beat 2 and 30000 in beat 3.
 pub fn clocks()

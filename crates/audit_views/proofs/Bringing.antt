@@ -21,16 +21,15 @@ use Rattle.run_model.specs.Views.{same_record}
 use Rattle.run_model.specs.Moments.{Moment, next_moment, opening, view_of}
 use Rattle.run_model.specs.Parts.{Brings, EntriesAreLocal, IsAtOrBefore, IsForCub, IsLocal, IsLocalEntry, IsLocalRecord, IsOwnRecordFor, is_from_before}
 use Rattle.run_model.proofs.Reflects.{and_both, and_left, and_right, or_either, or_first, or_second, any_found, any_gives, at_most, less}
-use Rattle.audit_frame.specs.Tables.{has_number}
 use Rattle.audit_frame.proofs.Added.{any_before, any_end, any_more}
 use Rattle.audit_frame.proofs.Deciding.{GoesBySteps}
 use Rattle.audit_frame.proofs.Spans.{same_test}
 use Rattle.audit_views.specs.Standing.{has_record, is_same}
 use Rattle.audit_views.specs.Local.{BringsAt, TellsBrought, TellsLocal, has_by, is_soon, state_brings, note_brings}
-use Rattle.audit_views.specs.Views.{is_in_view, is_living_cub, TellsRecords}
+use Rattle.audit_views.specs.Views.{is_in_view, TellsRecords}
 use Rattle.audit_views.specs.declared.records.Held.{Held}
-use Rattle.audit_views.proofs.Members.{lives, one_record, record_itself, stands}
-use Rattle.audit_views.proofs.Taking.{of_records, same_is, same_told, nothing_told, took_told, dropped_told, died_told}
+use Rattle.audit_views.proofs.Members.{one_record, record_itself, stands}
+use Rattle.audit_views.proofs.Taking.{empties, of_records, same_is, same_told, nothing_told, took_told, dropped_told, emptied_told}
 
 pub local_goes_by_steps : (p : Params) → GoesBySteps (EntriesAreLocal p) (IsLocal p) next_moment opening
 local_goes_by_steps p log = ((λ h. h), (λ h. h))
@@ -119,47 +118,43 @@ is_own_before : (s : State) (q : Rec) → 0 < s.visit → IsOwnAt s.tenancy (s.v
 is_own_before s q some e =
     (ap (λ (k : Rec). k.tenancy) e, ap (λ (k : Rec). k.kind) e, or_at q.visit s.visit some (ap (λ (k : Rec). k.visit) e))
 
-seen_there : (p : Params) (gone : List ℕ) (held : List Held) (m : Moment) (c : ℕ) (k : Rec) → TellsRecords p gone held m
+seen_there : (p : Params) (held : List Held) (m : Moment) (c : ℕ) (k : Rec) → TellsRecords p held m
     → IsTrue (has_record c k held) → AnyByRecursion (λ q. q ≡ k) (view_of m c)
-seen_there p gone held m c k h t =
-    let seen : IsTrue (is_in_view p m c k) = sym (h.records c k) ∙ t in
-    subst (λ (b : Bool). AnyByRecursion (λ (q : Rec). q ≡ k) (cond b [] (m.records c))) (sym (lives p m c k seen).1)
-    (any_found (λ q. q ≡ k) (same_record k) (λ q e. sym (one_record k q e)) (m.records c)
-    (and_right (is_living_cub p m c) (list_any (same_record k) (m.records c)) seen))
+seen_there p held m c k h t =
+    let seen : IsTrue (is_in_view p m c k) = sym (h c k) ∙ t in
+    any_found (λ q. q ≡ k) (same_record k) (λ q e. sym (one_record k q e)) (m.records c)
+    (and_right (nat_lt c p.cubs) (list_any (same_record k) (m.records c)) seen)
 
-there_seen : (p : Params) (gone : List ℕ) (held : List Held) (m : Moment) (c : ℕ) (k : Rec) → TellsRecords p gone held m → c < p.cubs
+there_seen : (p : Params) (held : List Held) (m : Moment) (c : ℕ) (k : Rec) → TellsRecords p held m → c < p.cubs
     → AnyByRecursion (λ q. q ≡ k) (view_of m c) → IsTrue (has_record c k held)
-there_seen p gone held m c k h low any = h.records c k ∙ go (m.dead c) refl any where
-  go : (b : Bool) → m.dead c ≡ b → AnyByRecursion (λ (q : Rec). q ≡ k) (cond b [] (m.records c)) → IsTrue (is_in_view p m c k)
-  go true e a = absurd a
-  go false e a = stands p m c k low e
-      (any_gives (λ q. q ≡ k) (same_record k) (λ q same. subst (λ (y : Rec). IsTrue (same_record k y)) (sym same) (record_itself k)) (m.records c) a)
+there_seen p held m c k h low any = h c k ∙ stands p m c k low
+    (any_gives (λ q. q ≡ k) (same_record k) (λ q same. subst (λ (y : Rec). IsTrue (same_record k y)) (sym same) (record_itself k)) (m.records c) any)
 
-sent_judged : (p : Params) (gone : List ℕ) (held : List Held) (m : Moment) (c : ℕ) (s : State) (r : Bool) → c < p.cubs
-    → r ≡ has_by c s.tenancy s.visit held → TellsRecords p gone held m → IsTrue r ↔ AnyByRecursion (IsOwnRecordFor s) (view_of m c)
-sent_judged p gone held m c s r low is h =
+sent_judged : (p : Params) (held : List Held) (m : Moment) (c : ℕ) (s : State) (r : Bool) → c < p.cubs
+    → r ≡ has_by c s.tenancy s.visit held → TellsRecords p held m → IsTrue r ↔ AnyByRecursion (IsOwnRecordFor s) (view_of m c)
+sent_judged p held m c s r low is h =
     let here = has_record c (own_of s.tenancy s.visit) held in
     let before = has_record c (own_of s.tenancy (s.visit - 1)) held in (
       (λ q. ⊎_elim
           (λ a. any_weaker (IsOwnAt s.tenancy s.visit) (IsOwnRecordFor s) (view_of m c) (is_own_now s)
-          (seen_there p gone held m c (own_of s.tenancy s.visit) h a))
+          (seen_there p held m c (own_of s.tenancy s.visit) h a))
           (λ a.
           let some = (less 0 s.visit).0 (and_left (nat_lt 0 s.visit) before a) in
           any_weaker (IsOwnAt s.tenancy (s.visit - 1)) (IsOwnRecordFor s) (view_of m c) (λ k e. is_own_before s k some e)
-          (seen_there p gone held m c (own_of s.tenancy (s.visit - 1)) h (and_right (nat_lt 0 s.visit) before a)))
+          (seen_there p held m c (own_of s.tenancy (s.visit - 1)) h (and_right (nat_lt 0 s.visit) before a)))
           (or_either here (nat_lt 0 s.visit && before) (sym is ∙ q))),
       (λ q. is ∙ ⊎_elim
-          (λ a. or_first here (nat_lt 0 s.visit && before) (there_seen p gone held m c (own_of s.tenancy s.visit) h low a))
+          (λ a. or_first here (nat_lt 0 s.visit && before) (there_seen p held m c (own_of s.tenancy s.visit) h low a))
           (λ a. or_second here (nat_lt 0 s.visit && before)
-          (and_both (nat_lt 0 s.visit) before ((less 0 s.visit).1 a.0) (there_seen p gone held m c (own_of s.tenancy (s.visit - 1)) h low a.1)))
+          (and_both (nat_lt 0 s.visit) before ((less 0 s.visit).1 a.0) (there_seen p held m c (own_of s.tenancy (s.visit - 1)) h low a.1)))
           (any_split (IsOwnRecordFor s) (IsOwnAt s.tenancy s.visit) (IsOwnAt s.tenancy (s.visit - 1)) (0 < s.visit) (view_of m c) (own_at s) q)),
     )
 
-pub state_judged : (p : Params) (gone : List ℕ) (held brought : List Held) (m : Moment) (c reading : ℕ) (link : LinkNo) (n : Note) (s : State)
-    (r : Bool) → n ≡ note.ViewerState s → c < p.cubs → r ≡ has_by c s.tenancy s.visit held → TellsLocal p gone held brought m
+pub state_judged : (p : Params) (held brought : List Held) (m : Moment) (c reading : ℕ) (link : LinkNo) (n : Note) (s : State)
+    (r : Bool) → n ≡ note.ViewerState s → c < p.cubs → r ≡ has_by c s.tenancy s.visit held → TellsLocal p held brought m
     → IsTrue r ↔ IsLocalEntry p m c reading (what.Sent link n)
-state_judged p gone held brought m c reading link n s r is low e h =
-    subst (λ (k : Note). IsTrue r ↔ IsLocalEntry p m c reading (what.Sent link k)) (sym is) (sent_judged p gone held m c s r low e h.views)
+state_judged p held brought m c reading link n s r is low e h =
+    subst (λ (k : Note). IsTrue r ↔ IsLocalEntry p m c reading (what.Sent link k)) (sym is) (sent_judged p held m c s r low e h.views)
 
 pub other_note_judged : (p : Params) (m : Moment) (c reading : ℕ) (link : LinkNo) (n : Note)
     → ((s : State) → n ≡ note.ViewerState s → ⊥) → IsTrue true ↔ IsLocalEntry p m c reading (what.Sent link n)
@@ -179,10 +174,10 @@ rest_is left right most fits = same_test (nat_le right (most - left)) (nat_le (l
     (λ h. let le = (at_most right (most - left)).0 h in (at_most (left + right) most).1 (omega (arith, le, fits)))
     (λ h. let le = (at_most (left + right) most).0 h in (at_most right (most - left)).1 (omega (arith, le, fits)))
 
-pub record_judged : (p : Params) (gone : List ℕ) (held brought : List Held) (m : Moment) (c reading : ℕ) (q : Rec) (mine came soon r : Bool)
+pub record_judged : (p : Params) (held brought : List Held) (m : Moment) (c reading : ℕ) (q : Rec) (mine came soon r : Bool)
     → r ≡ (mine && (came && soon)) → IsTrue mine ↔ IsForCub p c q.kind q.visit → came ≡ has_by c q.tenancy q.visit brought
-    → soon ≡ is_soon p reading q → TellsLocal p gone held brought m → IsTrue r ↔ IsLocalRecord p m c reading q
-record_judged p gone held brought m c reading q mine came soon r is own by early h =
+    → soon ≡ is_soon p reading q → TellsLocal p held brought m → IsTrue r ↔ IsLocalRecord p m c reading q
+record_judged p held brought m c reading q mine came soon r is own by early h =
     let judged = came_judged p brought m c q.tenancy q.visit came by h.came in (
       (λ t.
           let all : IsTrue (mine && (came && soon)) = sym is ∙ t in
@@ -325,75 +320,80 @@ brought_same p brought m x e h = brought_more p brought brought m x
 
 -- ---- all tables, for each kind of entry
 
-pub put_local : (p : Params) (gone : List ℕ) (held old new : List Held) (m : Moment) (x : Noted) (t : Tenancy) → x.entry.what ≡ what.Put t
+pub put_local : (p : Params) (held old new : List Held) (m : Moment) (x : Noted) (t : Tenancy) → x.entry.what ≡ what.Put t
     → ((c : ℕ) (q : Rec) → has_record c q new ≡ (has_record c q old || is_same x.node (own_of t t.first) c q))
-    → TellsLocal p gone held old m → TellsLocal p gone held new (next_moment m x)
-put_local p gone held old new m x t is added h = record {
-  views = same_told p gone held m x (ap of_records is) h.views;
+    → TellsLocal p held old m → TellsLocal p held new (next_moment m x)
+put_local p held old new m x t is added h = record {
+  views = same_told p held m x (ap of_records is) h.views;
   came = brought_more p old new m x (added_more p x.node x.entry.what old new (is_same x.node (own_of t t.first)) added
       (λ c u visit. put_brings p x.node c x.entry.what t u visit is)) h.came;
 }
 
-pub got_local : (p : Params) (gone : List ℕ) (held old new : List Held) (m : Moment) (x : Noted) (link : LinkNo) (k : Note)
+pub got_local : (p : Params) (held old new : List Held) (m : Moment) (x : Noted) (link : LinkNo) (k : Note)
     → x.entry.what ≡ what.Got link k
     → ((c : ℕ) (q : Rec) → has_record c q new ≡ (has_record c q old || note_brings p x.node link.0 k c q))
-    → TellsLocal p gone held old m → TellsLocal p gone held new (next_moment m x)
-got_local p gone held old new m x link k is added h = record {
-  views = same_told p gone held m x (ap of_records is) h.views;
+    → TellsLocal p held old m → TellsLocal p held new (next_moment m x)
+got_local p held old new m x link k is added h = record {
+  views = same_told p held m x (ap of_records is) h.views;
   came = brought_more p old new m x (added_more p x.node x.entry.what old new (note_brings p x.node link.0 k) added
       (λ c u visit. got_brings p x.node c x.entry.what link k u visit is)) h.came;
 }
 
-pub took_local : (p : Params) (gone : List ℕ) (held new brought : List Held) (m : Moment) (x : Noted) (q : Rec) → x.entry.what ≡ what.Took q
+pub took_local : (p : Params) (held new brought : List Held) (m : Moment) (x : Noted) (q : Rec) → x.entry.what ≡ what.Took q
     → ((c : ℕ) (r : Rec) → has_record c r new
-    ≡ (has_record c r held || ((nat_lt x.node p.cubs && not (has_number x.node gone)) && is_same x.node q c r)))
-    → TellsLocal p gone held brought m → TellsLocal p gone new brought (next_moment m x)
-took_local p gone held new brought m x q is added h = record {
-  views = took_told p gone held new m x q is added h.views;
+    ≡ (has_record c r held || (nat_lt x.node p.cubs && is_same x.node q c r)))
+    → TellsLocal p held brought m → TellsLocal p new brought (next_moment m x)
+took_local p held new brought m x q is added h = record {
+  views = took_told p held new m x q is added h.views;
   came = brought_same p brought m x (ap brings_some is) h.came;
 }
 
-pub dropped_local : (p : Params) (gone : List ℕ) (held new brought : List Held) (m : Moment) (x : Noted) (q : Rec)
+pub dropped_local : (p : Params) (held new brought : List Held) (m : Moment) (x : Noted) (q : Rec)
     → x.entry.what ≡ what.Dropped q → ((c : ℕ) (r : Rec) → has_record c r new ≡ (has_record c r held && not (is_same x.node q c r)))
-    → TellsLocal p gone held brought m → TellsLocal p gone new brought (next_moment m x)
-dropped_local p gone held new brought m x q is removed h = record {
-  views = dropped_told p gone held new m x q is removed h.views;
+    → TellsLocal p held brought m → TellsLocal p new brought (next_moment m x)
+dropped_local p held new brought m x q is removed h = record {
+  views = dropped_told p held new m x q is removed h.views;
   came = brought_same p brought m x (ap brings_some is) h.came;
 }
 
-pub died_local : (p : Params) (gone later : List ℕ) (held new brought : List Held) (m : Moment) (x : Noted) → x.entry.what ≡ what.Died
-    → ((n : ℕ) → has_number n later ≡ (has_number n gone || (x.node == n)))
+brings_none : (w : What) → empties w ≡ true → brings_some w ≡ false
+brings_none what.Died e = refl
+brings_none what.Returned e = refl
+brings_none other e = absurd (false≢true e)
+
+pub emptied_local : (p : Params) (held new brought : List Held) (m : Moment) (x : Noted) → empties x.entry.what ≡ true
     → ((c : ℕ) (r : Rec) → has_record c r new ≡ (has_record c r held && not (x.node == c)))
-    → TellsLocal p gone held brought m → TellsLocal p later new brought (next_moment m x)
-died_local p gone later held new brought m x is more cleared h = record {
-  views = died_told p gone later held new m x is more cleared h.views;
-  came = brought_same p brought m x (ap brings_some is) h.came;
+    → TellsLocal p held brought m → TellsLocal p new brought (next_moment m x)
+emptied_local p held new brought m x is cleared h = record {
+  views = emptied_told p held new m x is cleared h.views;
+  came = brought_same p brought m x (brings_none x.entry.what is) h.came;
 }
 
 other_kind : (w : What) → ((t : Tenancy) → w ≡ what.Put t → ⊥) → ((link : LinkNo) (k : Note) → w ≡ what.Got link k → ⊥)
     → ((r : Rec) → w ≡ what.Took r → ⊥) → ((r : Rec) → w ≡ what.Dropped r → ⊥) → (w ≡ what.Died → ⊥)
-    → (brings_some w ≡ false) × (of_records w ≡ false)
-other_kind (what.Put t) a b c d e = absurd (a t refl)
-other_kind (what.Got link k) a b c d e = absurd (b link k refl)
-other_kind (what.Took r) a b c d e = absurd (c r refl)
-other_kind (what.Dropped r) a b c d e = absurd (d r refl)
-other_kind what.Died a b c d e = absurd (e refl)
-other_kind other a b c d e = (refl, refl)
+    → (w ≡ what.Returned → ⊥) → (brings_some w ≡ false) × (of_records w ≡ false)
+other_kind (what.Put t) a b c d e f = absurd (a t refl)
+other_kind (what.Got link k) a b c d e f = absurd (b link k refl)
+other_kind (what.Took r) a b c d e f = absurd (c r refl)
+other_kind (what.Dropped r) a b c d e f = absurd (d r refl)
+other_kind what.Died a b c d e f = absurd (e refl)
+other_kind what.Returned a b c d e f = absurd (f refl)
+other_kind other a b c d e f = (refl, refl)
 
-pub other_local : (p : Params) (gone : List ℕ) (held brought : List Held) (m : Moment) (x : Noted)
+pub other_local : (p : Params) (held brought : List Held) (m : Moment) (x : Noted)
     → ((t : Tenancy) → x.entry.what ≡ what.Put t → ⊥) → ((link : LinkNo) (k : Note) → x.entry.what ≡ what.Got link k → ⊥)
     → ((r : Rec) → x.entry.what ≡ what.Took r → ⊥) → ((r : Rec) → x.entry.what ≡ what.Dropped r → ⊥) → (x.entry.what ≡ what.Died → ⊥)
-    → TellsLocal p gone held brought m → TellsLocal p gone held brought (next_moment m x)
-other_local p gone held brought m x a b c d e h =
-    let kind = other_kind x.entry.what a b c d e in
+    → (x.entry.what ≡ what.Returned → ⊥) → TellsLocal p held brought m → TellsLocal p held brought (next_moment m x)
+other_local p held brought m x a b c d e f h =
+    let kind = other_kind x.entry.what a b c d e f in
     record {
-      views = same_told p gone held m x kind.1 h.views;
+      views = same_told p held m x kind.1 h.views;
       came = brought_same p brought m x kind.0 h.came;
     }
 
-pub none_local : (p : Params) (gone : List ℕ) (held brought : List Held) → gone ≡ [] → held ≡ [] → brought ≡ []
-    → TellsLocal p gone held brought opening
-none_local p gone held brought a b c = rw (a, b, c) (record {
+pub none_local : (p : Params) (held brought : List Held) → held ≡ [] → brought ≡ []
+    → TellsLocal p held brought opening
+none_local p held brought a b = rw (a, b) (record {
   views = nothing_told p;
   came = λ n t visit. ((λ h. absurd (false≢true h)), (λ h. absurd h));
 })

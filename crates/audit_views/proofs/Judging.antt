@@ -92,14 +92,14 @@ none_given (x ∷ xs) t = absurd (false≢true t)
 
 -- ---- views and tables
 
-in_table : (p : Params) (seats : Tenancies) (marks : MarkNumbers) (kept : List Stopped) (gone : List ℕ) (held : List Held) (now : ℕ) (m : Moment)
-    → TellsViews p seats marks kept gone held now m → (c : ℕ) (r : Rec) → IsTrue (is_in_view p m c r) → IsAmong (held_by c r) held
-in_table p seats marks kept gone held now m h c r t = h.records.records c r ∙ t
+in_table : (p : Params) (seats : Tenancies) (marks : MarkNumbers) (kept : List Stopped) (held : List Held) (now : ℕ) (m : Moment)
+    → TellsViews p seats marks kept held now m → (c : ℕ) (r : Rec) → IsTrue (is_in_view p m c r) → IsAmong (held_by c r) held
+in_table p seats marks kept held now m h c r t = h.records c r ∙ t
 
-in_its_view : (p : Params) (seats : Tenancies) (marks : MarkNumbers) (kept : List Stopped) (gone : List ℕ) (held : List Held) (now : ℕ) (m : Moment)
-    → TellsViews p seats marks kept gone held now m → (k : Held) → IsAmong k held → IsTrue (is_in_view p m k.cub (record_of k))
-in_its_view p seats marks kept gone held now m h k among =
-    sym (h.records.records k.cub (record_of k)) ∙ subst (λ (q : Held). IsAmong q held) (sym (held_again k)) among
+in_its_view : (p : Params) (seats : Tenancies) (marks : MarkNumbers) (kept : List Stopped) (held : List Held) (now : ℕ) (m : Moment)
+    → TellsViews p seats marks kept held now m → (k : Held) → IsAmong k held → IsTrue (is_in_view p m k.cub (record_of k))
+in_its_view p seats marks kept held now m h k among =
+    sym (h.records k.cub (record_of k)) ∙ subst (λ (q : Held). IsAmong q held) (sym (held_again k)) among
 
 -- ---- an instance that was stopped
 
@@ -123,11 +123,11 @@ stopped_holds_none p seats marks kept now s stop t h marked has =
     let not_marked = (nobody_seated marks (seat_under t.slot.0 seats) t (sym (h.holder t.slot.0) ∙ has)).1 in
     both_ways (is_marked marks t.instance.0) not_marked (ap is_some marked)
 
-pub may_stand_judged : (p : Params) (seats : Tenancies) (marks : MarkNumbers) (kept : List Stopped) (gone : List ℕ) (held : List Held) (now : ℕ)
+pub may_stand_judged : (p : Params) (seats : Tenancies) (marks : MarkNumbers) (kept : List Stopped) (held : List Held) (now : ℕ)
     (m : Moment) (v stop : ℕ) (r : Bool) → mark_under v marks ≡ Some stop
     → IsTrue r ↔ (IsTrue (is_in_time p now stop) ⊎ (of_instance v held ≡ []))
-    → TellsViews p seats marks kept gone held now m → IsTrue r ↔ IsInstancePart p m v
-may_stand_judged p seats marks kept gone held now m v stop r marked judged h =
+    → TellsViews p seats marks kept held now m → IsTrue r ↔ IsInstancePart p m v
+may_stand_judged p seats marks kept held now m v stop r marked judged h =
     let latest : IsLatestStop v m.schedule.stops (Some stop) = subst (IsLatestStop v m.schedule.stops) marked (h.schedule.latest v) in
     let just : was_just_stopped p m v ≡ is_in_time p now stop =
     just_by_latest p m v stop latest ∙ ap (λ (b : ℕ). is_in_time p b stop) (sym h.beat) in (
@@ -135,7 +135,7 @@ may_stand_judged p seats marks kept gone held now m v stop r marked judged h =
           (λ a c q seen own. inr (subst (λ (k : ℕ). IsTrue (was_just_stopped p m k)) (sym own) (just ∙ a)))
           (λ none c q seen own. absurd (false≢true
           (all_found (λ k. false) (λ k. k.instance == v) held (none_found (of_instance v held) none) (held_by c q)
-          (in_table p seats marks kept gone held now m h c q seen) (eq-eqb q.tenancy.instance.0 v own))))
+          (in_table p seats marks kept held now m h c q seen) (eq-eqb q.tenancy.instance.0 v own))))
           (judged.0 t)),
       (λ part. judged.1 (go (is_in_time p now stop) refl part)),
     )
@@ -149,7 +149,7 @@ may_stand_judged p seats marks kept gone held now m v stop r marked judged h =
         (λ just. both_ways (is_in_time p now stop) late
         (sym (just_by_latest p m v stop (subst (IsLatestStop v m.schedule.stops) marked (h.schedule.latest v))
         ∙ ap (λ (b : ℕ). is_in_time p b stop) (sym h.beat)) ∙ subst (λ (n : ℕ). IsTrue (was_just_stopped p m n)) is just))
-        (part k.cub (record_of k) (in_its_view p seats marks kept gone held now m h k among) is)
+        (part k.cub (record_of k) (in_its_view p seats marks kept held now m h k among) is)
 
     go : (b : Bool) → is_in_time p now stop ≡ b → IsInstancePart p m v → IsTrue (is_in_time p now stop) ⊎ (of_instance v held ≡ [])
     go true e part = inl e
@@ -218,14 +218,14 @@ seat_given s marks o k holder h =
     (and_both (is_of (tenancy_held k) k) (nat_le k.first k.visit && nat_le k.visit k.last) (own_visit k)
     (and_both (nat_le k.first k.visit) (nat_le k.visit k.last) ((at_most k.first k.visit).1 h.first) ((at_most k.visit k.last).1 h.last)))
 
-pub seated_judged : (p : Params) (seats : Tenancies) (marks : MarkNumbers) (kept : List Stopped) (gone : List ℕ) (held : List Held) (now : ℕ)
+pub seated_judged : (p : Params) (seats : Tenancies) (marks : MarkNumbers) (kept : List Stopped) (held : List Held) (now : ℕ)
     (m : Moment) (v : ℕ) (r : Bool) → mark_under v marks ≡ None → r ≡ are_seated seats v held
-    → TellsViews p seats marks kept gone held now m → IsTrue r ↔ IsInstancePart p m v
-seated_judged p seats marks kept gone held now m v r free judged h = (
+    → TellsViews p seats marks kept held now m → IsTrue r ↔ IsInstancePart p m v
+seated_judged p seats marks kept held now m v r free judged h = (
   (λ t c q seen own.
       let k = held_by c q in
       let seated = all_found (is_seated seats) (λ e. e.instance == v) held (sym judged ∙ t) k
-      (in_table p seats marks kept gone held now m h c q seen) (eq-eqb q.tenancy.instance.0 v own) in
+      (in_table p seats marks kept held now m h c q seen) (eq-eqb q.tenancy.instance.0 v own) in
       inl (seat_found m.schedule marks (seat_under q.tenancy.slot.0 seats) k (not_marked q.tenancy.instance.0 own)
       (h.schedule.holder q.tenancy.slot.0) seated)),
   (λ part. judged ∙ all_given (is_seated seats) (λ e. e.instance == v) held (λ k among own.
@@ -234,7 +234,7 @@ seated_judged p seats marks kept gone held now m v r free judged h = (
       (λ has. seat_given m.schedule marks (seat_under k.slot seats) k (h.schedule.holder k.slot) has)
       (λ just. absurd (not_just p m v (subst (IsLatestStop v m.schedule.stops) free (h.schedule.latest v))
       (subst (λ (n : ℕ). IsTrue (was_just_stopped p m n)) is just)))
-      (part k.cub (record_of k) (in_its_view p seats marks kept gone held now m h k among) is))),
+      (part k.cub (record_of k) (in_its_view p seats marks kept held now m h k among) is))),
 ) where
   not_marked : (n : ℕ) → n ≡ v → is_marked marks n ≡ false
   not_marked n e = ap (is_marked marks) e ∙ ap is_some free
@@ -278,10 +278,10 @@ untouched_judged p m touched is = (
 -- ---- what an entry takes
 
 -- a record of an instance that was stopped
-pub stopped_part : (p : Params) (seats : Tenancies) (marks : MarkNumbers) (kept : List Stopped) (gone : List ℕ) (held : List Held) (now : ℕ)
+pub stopped_part : (p : Params) (seats : Tenancies) (marks : MarkNumbers) (kept : List Stopped) (held : List Held) (now : ℕ)
     (m : Moment) (q : Rec) (stop : ℕ) (r : Bool) → mark_under q.tenancy.instance.0 marks ≡ Some stop → r ≡ is_in_time p now stop
-    → TellsViews p seats marks kept gone held now m → IsTrue r ↔ IsPart p m q.tenancy q.visit
-stopped_part p seats marks kept gone held now m q stop r marked judged h =
+    → TellsViews p seats marks kept held now m → IsTrue r ↔ IsPart p m q.tenancy q.visit
+stopped_part p seats marks kept held now m q stop r marked judged h =
     let v = q.tenancy.instance.0 in
     let just : was_just_stopped p m v ≡ is_in_time p now stop =
     just_by_latest p m v stop (subst (IsLatestStop v m.schedule.stops) marked (h.schedule.latest v))
@@ -294,10 +294,10 @@ stopped_part p seats marks kept gone held now m q stop r marked judged h =
     )
 
 -- and one of an instance that was not
-pub seated_part : (p : Params) (seats : Tenancies) (marks : MarkNumbers) (kept : List Stopped) (gone : List ℕ) (held : List Held) (now : ℕ)
+pub seated_part : (p : Params) (seats : Tenancies) (marks : MarkNumbers) (kept : List Stopped) (held : List Held) (now : ℕ)
     (m : Moment) (c : ℕ) (q : Rec) (r : Bool) → mark_under q.tenancy.instance.0 marks ≡ None → r ≡ is_seated seats (held_by c q)
-    → TellsViews p seats marks kept gone held now m → IsTrue r ↔ IsPart p m q.tenancy q.visit
-seated_part p seats marks kept gone held now m c q r free judged h =
+    → TellsViews p seats marks kept held now m → IsTrue r ↔ IsPart p m q.tenancy q.visit
+seated_part p seats marks kept held now m c q r free judged h =
     let slot = q.tenancy.slot.0 in (
       (λ t. inl (seat_found m.schedule marks (seat_under slot seats) (held_by c q) (ap is_some free) (h.schedule.holder slot) (sym judged ∙ t))),
       (λ part. ⊎_elim
@@ -308,20 +308,20 @@ seated_part p seats marks kept gone held now m c q r free judged h =
     )
 
 -- a record counts if the node's view has it
-pub absent_part : (p : Params) (seats : Tenancies) (marks : MarkNumbers) (kept : List Stopped) (gone : List ℕ) (held : List Held) (now : ℕ)
-    (m : Moment) (c : ℕ) (q : Rec) (r : Bool) → r ≡ has_record c q held → r ≡ false → TellsViews p seats marks kept gone held now m
+pub absent_part : (p : Params) (seats : Tenancies) (marks : MarkNumbers) (kept : List Stopped) (held : List Held) (now : ℕ)
+    (m : Moment) (c : ℕ) (q : Rec) (r : Bool) → r ≡ has_record c q held → r ≡ false → TellsViews p seats marks kept held now m
     → IsTrue true ↔ (IsTrue (is_in_view p m c q) → IsPart p m q.tenancy q.visit)
-absent_part p seats marks kept gone held now m c q r is e h = (
-  (λ t seen. absurd (false≢true (sym e ∙ (is ∙ (h.records.records c q ∙ seen))))),
+absent_part p seats marks kept held now m c q r is e h = (
+  (λ t seen. absurd (false≢true (sym e ∙ (is ∙ (h.records c q ∙ seen))))),
   (λ all. refl),
 )
 
-pub present_part : (p : Params) (seats : Tenancies) (marks : MarkNumbers) (kept : List Stopped) (gone : List ℕ) (held : List Held) (now : ℕ)
-    (m : Moment) (c : ℕ) (q : Rec) (r a : Bool) → r ≡ has_record c q held → r ≡ true → TellsViews p seats marks kept gone held now m
+pub present_part : (p : Params) (seats : Tenancies) (marks : MarkNumbers) (kept : List Stopped) (held : List Held) (now : ℕ)
+    (m : Moment) (c : ℕ) (q : Rec) (r a : Bool) → r ≡ has_record c q held → r ≡ true → TellsViews p seats marks kept held now m
     → IsTrue a ↔ IsPart p m q.tenancy q.visit → IsTrue a ↔ (IsTrue (is_in_view p m c q) → IsPart p m q.tenancy q.visit)
-present_part p seats marks kept gone held now m c q r a is e h judged = (
+present_part p seats marks kept held now m c q r a is e h judged = (
   (λ t seen. judged.0 t),
-  (λ all. judged.1 (all (sym (h.records.records c q) ∙ (sym is ∙ e)))),
+  (λ all. judged.1 (all (sym (h.records c q) ∙ (sym is ∙ e)))),
 )
 
 pub took_judged : (p : Params) (m : Moment) (c : ℕ) (w : What) (q : Rec) (r : Bool) → w ≡ what.Took q
@@ -357,13 +357,13 @@ one_stop P [] j d h low = absurd (omega (arith, low))
 one_stop P (s ∷ ss) zero d h low = h.0
 one_stop P (s ∷ ss) (suc j) d h low = one_stop P ss j d h.1 (omega (arith, low))
 
-pub late_judged : (p : Params) (seats : Tenancies) (marks : MarkNumbers) (kept : List Stopped) (gone : List ℕ) (held : List Held) (now : ℕ)
+pub late_judged : (p : Params) (seats : Tenancies) (marks : MarkNumbers) (kept : List Stopped) (held : List Held) (now : ℕ)
     (m : Moment) (before from to : ℕ) (r : Bool) → to ≤ length kept
     → (IsNonDecreasingBy (λ s. s.beat) kept → RunsOutUpTo p before kept from)
     → (IsNonDecreasingBy (λ s. s.beat) kept → RunsOutUpTo p now kept to)
     → IsTrue r ↔ ((j : ℕ) (d : Stopped) → from ≤ j → j < to → IsInstancePart p m (slice_index_or kept j d).instance.0)
-    → TellsViews p seats marks kept gone held now m → IsTrue r ↔ LateArePart p m before
-late_judged p seats marks kept gone held now m before from to r fits first second judged h =
+    → TellsViews p seats marks kept held now m → IsTrue r ↔ LateArePart p m before
+late_judged p seats marks kept held now m before from to r fits first second judged h =
     let one = first h.schedule.rising in
     let other = second h.schedule.rising in
     let runs = λ (s : Stop). RunsOut p before m.beat s → IsInstancePart p m s.instance in (
@@ -383,9 +383,9 @@ late_judged p seats marks kept gone held now m before from to r fits first secon
     )
 
 -- within a beat none runs out
-pub none_late : (p : Params) (seats : Tenancies) (marks : MarkNumbers) (kept : List Stopped) (gone : List ℕ) (held : List Held) (now : ℕ)
-    (m : Moment) (before : ℕ) → before ≡ now → TellsViews p seats marks kept gone held now m → IsTrue true ↔ LateArePart p m before
-none_late p seats marks kept gone held now m before same h = (
+pub none_late : (p : Params) (seats : Tenancies) (marks : MarkNumbers) (kept : List Stopped) (held : List Held) (now : ℕ)
+    (m : Moment) (before : ℕ) → before ≡ now → TellsViews p seats marks kept held now m → IsTrue true ↔ LateArePart p m before
+none_late p seats marks kept held now m before same h = (
   (λ t. all-given (λ (stop : Stop). RunsOut p before m.beat stop → IsInstancePart p m stop.instance) m.schedule.stops
       (λ stop out. absurd (both_ways (is_in_time p m.beat stop.beat) out.1
       (subst (λ (b : ℕ). IsTrue (is_in_time p b stop.beat)) (same ∙ h.beat) out.0)))),

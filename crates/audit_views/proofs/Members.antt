@@ -1,5 +1,5 @@
 -- What stands in the view of a cub.
-use Rattle.std.proofs.Common.{◌≡◌, ℕ, ◌<◌, Bool, true, false, not, ◌&&◌, ◌||◌, IsTrue, nat_lt, cond, List, [], ◌∷◌, filter, refl, sym, subst, ⊎_elim}
+use Rattle.std.proofs.Common.{◌≡◌, ℕ, ◌<◌, Bool, true, false, ◌&&◌, ◌||◌, IsTrue, nat_lt, cond, List, [], ◌∷◌, filter, refl, sym, subst, ⊎_elim}
 use Rattle.std.specs.Prelude.{◌==◌}
 use Rattle.std.specs.List.{AllByRecursion, list_any}
 use Rattle.std.proofs.lemmas.Bool.{eqb-true, eq-eqb, false≢true}
@@ -11,8 +11,8 @@ use Rattle.slot_plan.specs.declared.params.Params.{Params}
 use Rattle.run_model.specs.Views.{same_kind, same_tenancy, same_record}
 use Rattle.run_model.specs.Moments.{Moment}
 use Rattle.run_model.specs.Parts.{IsPart, ViewsArePart}
-use Rattle.run_model.proofs.Reflects.{and_both, and_left, and_right, or_either, or_first, or_second, negated, less}
-use Rattle.audit_views.specs.Views.{is_living_cub, is_in_view}
+use Rattle.run_model.proofs.Reflects.{and_both, and_left, and_right, or_either, or_first, or_second, less}
+use Rattle.audit_views.specs.Views.{is_in_view}
 
 -- ---- one record
 
@@ -114,30 +114,21 @@ kept_stood t k (x ∷ xs) h = kept_one t k x xs (k x) (λ a. kept_stood t k xs a
 
 -- ---- views
 
--- the cub of a view lives
-pub lives : (p : Params) (m : Moment) (c : ℕ) (r : Rec) → IsTrue (is_in_view p m c r) → (c < p.cubs) × (m.dead c ≡ false)
-lives p m c r t =
-    let live = and_left (is_living_cub p m c) (list_any (same_record r) (m.records c)) t in (
-      (less c p.cubs).0 (and_left (nat_lt c p.cubs) (not (m.dead c)) live),
-      (negated (m.dead c)).0 (and_right (nat_lt c p.cubs) (not (m.dead c)) live),
-    )
+-- what a view has is a cub's
+pub of_cub : (p : Params) (m : Moment) (c : ℕ) (r : Rec) → IsTrue (is_in_view p m c r) → c < p.cubs
+of_cub p m c r t = (less c p.cubs).0 (and_left (nat_lt c p.cubs) (list_any (same_record r) (m.records c)) t)
 
-pub stands : (p : Params) (m : Moment) (c : ℕ) (r : Rec) → c < p.cubs → m.dead c ≡ false → IsTrue (list_any (same_record r) (m.records c))
+pub stands : (p : Params) (m : Moment) (c : ℕ) (r : Rec) → c < p.cubs → IsTrue (list_any (same_record r) (m.records c))
     → IsTrue (is_in_view p m c r)
-stands p m c r low alive t = and_both (is_living_cub p m c) (list_any (same_record r) (m.records c))
-    (and_both (nat_lt c p.cubs) (not (m.dead c)) ((less c p.cubs).1 low) ((negated (m.dead c)).1 alive)) t
+stands p m c r low t = and_both (nat_lt c p.cubs) (list_any (same_record r) (m.records c)) ((less c p.cubs).1 low) t
 
 pub all_part : (p : Params) (m : Moment) → ViewsArePart p m → (c : ℕ) (r : Rec) → IsTrue (is_in_view p m c r)
     → IsPart p m r.tenancy r.visit
 all_part p m h c r t =
-    let live = lives p m c r t in
-    of_members (λ q. IsPart p m q.tenancy q.visit) (m.records c)
-    (subst (λ (b : Bool). AllByRecursion (λ q. IsPart p m q.tenancy q.visit) (cond b [] (m.records c))) live.1 (h c live.0))
-    r (and_right (is_living_cub p m c) (list_any (same_record r) (m.records c)) t)
+    of_members (λ q. IsPart p m q.tenancy q.visit) (m.records c) (h c (of_cub p m c r t))
+    r (and_right (nat_lt c p.cubs) (list_any (same_record r) (m.records c)) t)
 
 pub from_part : (p : Params) (m : Moment) → ((c : ℕ) (r : Rec) → IsTrue (is_in_view p m c r) → IsPart p m r.tenancy r.visit)
     → ViewsArePart p m
-from_part p m f c low = go (m.dead c) refl where
-  go : (b : Bool) → m.dead c ≡ b → AllByRecursion (λ q. IsPart p m q.tenancy q.visit) (cond b [] (m.records c))
-  go true e = tt
-  go false e = to_members (λ q. IsPart p m q.tenancy q.visit) (m.records c) (λ r t. f c r (stands p m c r low e t))
+from_part p m f c low =
+    to_members (λ q. IsPart p m q.tenancy q.visit) (m.records c) (λ r t. f c r (stands p m c r low t))

@@ -11,7 +11,6 @@ use Rattle.slot_plan.specs.Times.{time_of}
 use Rattle.node_kit.specs.declared.journal.What.{What}
 use Rattle.node_kit.specs.declared.journal.What.TheVariants as what
 use Rattle.run_facts.specs.Order.{Noted, beat_of}
-use Rattle.run_facts.specs.Timed.{is_died}
 use Rattle.run_facts.proofs.Rows.{all-given, all-left}
 use Rattle.run_model.specs.Fronts.{Always, AtEach}
 use Rattle.run_model.specs.Schedule.{Schedule, Stop, is_stopped, unless_of, after_entry, changed}
@@ -22,7 +21,7 @@ use Rattle.run_model.proofs.Reflects.{and_both, and_left, and_right, or_either, 
 use Rattle.audit_frame.proofs.Added.{or_false}
 use Rattle.audit_frame.proofs.Deciding.{GoesBySteps}
 use Rattle.audit_views.specs.Views.{is_in_view, IsInstancePart, IsRecordTaken, Touches, KeepsPart, LateArePart, RunsOut, is_in_time}
-use Rattle.audit_views.proofs.Members.{one_record, kept_stood, lives, stands, all_part, from_part}
+use Rattle.audit_views.proofs.Members.{one_record, kept_stood, of_cub, stands, all_part, from_part}
 
 -- ---- a record that stands after an entry stood before it, or is the one that it takes
 
@@ -33,6 +32,8 @@ was_taken (what.Took q) r xs t = ⊎_elim
     (λ a. inr (one_record r q (sym (or_false (same_record r q)) ∙ a)))
     (or_either (list_any (same_record r) xs) (same_record r q || false) (sym (list_any-append (same_record r) xs (q ∷ [])) ∙ t))
 was_taken (what.Dropped q) r xs t = inl (kept_stood (same_record r) (λ k. not (same_record q k)) xs t)
+was_taken what.Died r xs t = absurd (false≢true t)
+was_taken what.Returned r xs t = absurd (false≢true t)
 was_taken other r xs t = inl t
 
 taken_by : (b : Bool) (w : What) (r : Rec) (xs : List Rec) → IsTrue (list_any (same_record r) (cond b (recorded xs w) xs))
@@ -40,21 +41,14 @@ taken_by : (b : Bool) (w : What) (r : Rec) (xs : List Rec) → IsTrue (list_any 
 taken_by true w r xs t = ⊎_elim (λ a. inl a) (λ a. inr (refl, a)) (was_taken w r xs t)
 taken_by false w r xs t = inl t
 
-neither : (a b : Bool) → (a || b) ≡ false → a ≡ false
-neither true b h = h
-neither false b h = refl
-
 stood : (p : Params) (m : Moment) (x : Noted) (c : ℕ) (r : Rec) → IsTrue (is_in_view p (next_moment m x) c r)
     → IsTrue (is_in_view p m c r) ⊎ (IsTrue (x.node == c) × IsRecordTaken x.entry.what r)
 unfolding next_moment
-stood p m x c r t =
-    let live = lives p (next_moment m x) c r t in
-    let alive = neither (m.dead c) ((x.node == c) && is_died x.entry.what) live.1 in
-    ⊎_elim
-    (λ a. inl (stands p m c r live.0 alive a))
+stood p m x c r t = ⊎_elim
+    (λ a. inl (stands p m c r (of_cub p (next_moment m x) c r t) a))
     (λ a. inr a)
     (taken_by (x.node == c) x.entry.what r (m.records c)
-    (and_right (nat_lt c p.cubs && not (m.dead c || ((x.node == c) && is_died x.entry.what)))
+    (and_right (nat_lt c p.cubs)
     (list_any (same_record r) (cond (x.node == c) (recorded (m.records c) x.entry.what) (m.records c))) t))
 
 -- ---- a tenancy that had its slot has it after an entry, or is touched by it, or is stopped

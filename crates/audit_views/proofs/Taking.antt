@@ -1,5 +1,5 @@
 -- What the tables tell after one entry more.
-use Rattle.std.proofs.Common.{◌≡◌, ℕ, ◌-◌, ◌≤◌, Bool, true, false, not, ◌&&◌, ◌||◌, IsTrue, nat_lt, cond, List, [], ◌∷◌, ◌++◌, length, filter, Option, Some, None, is_some, refl, sym, ap, subst, ◌∙◌, arith}
+use Rattle.std.proofs.Common.{◌≡◌, ℕ, ◌-◌, ◌≤◌, Bool, true, false, not, ◌&&◌, ◌||◌, IsTrue, nat_lt, cond, List, [], ◌∷◌, ◌++◌, length, Option, Some, None, is_some, refl, sym, ap, subst, ◌∙◌, arith}
 use Rattle.std.specs.Prelude.{◌==◌}
 use Rattle.std.specs.List.{AllByRecursion, list_any}
 use Rattle.std.proofs.lemmas.Bool.{eqb-true, eq-eqb, false≢true, both_ways}
@@ -13,14 +13,13 @@ use Rattle.slot_plan.specs.declared.params.Params.{Params}
 use Rattle.node_kit.specs.declared.journal.What.{What}
 use Rattle.node_kit.specs.declared.journal.What.TheVariants as what
 use Rattle.run_facts.specs.Order.{Noted, beat_of}
-use Rattle.run_facts.specs.Timed.{is_died}
 use Rattle.run_facts.proofs.Rows.{all-append, all-map, all-weaker}
 use Rattle.run_model.specs.Schedule.{Schedule, Stop, is_stopped, unless_of, after_entry, changed}
 use Rattle.run_model.specs.Views.{same_record, recorded}
 use Rattle.run_model.specs.Moments.{Moment, next_moment, opening}
 use Rattle.run_model.proofs.Reflects.{and_both, and_left, and_right, any_gives}
-use Rattle.audit_frame.specs.Tables.{MarkNumbers, Tenancies, has_number, mark_under, seat_under, seat_by, unless_by}
-use Rattle.audit_frame.proofs.Added.{any_before, any_end, or_false, or_none}
+use Rattle.audit_frame.specs.Tables.{MarkNumbers, Tenancies, mark_under, seat_under, seat_by, unless_by}
+use Rattle.audit_frame.proofs.Added.{any_before, any_end, or_none}
 use Rattle.audit_frame.proofs.Deciding.{each_at}
 use Rattle.audit_frame.proofs.Seated.{put_holder, put_stops, gone_seat}
 use Rattle.audit_frame.proofs.Spans.{same_test}
@@ -145,6 +144,7 @@ abbrev pub of_records : What → Bool
 of_records (what.Took r) = true
 of_records (what.Dropped r) = true
 of_records what.Died = true
+of_records what.Returned = true
 of_records other = false
 
 unchanged : (s : Schedule) (beat : ℕ) (w : What) → of_schedule w ≡ false → changed s beat w ≡ s
@@ -152,11 +152,12 @@ unchanged s beat (what.Put t) e = absurd (false≢true (sym e))
 unchanged s beat (what.Gone v) e = absurd (false≢true (sym e))
 unchanged s beat other e = refl
 
-unrecorded : (xs : List Rec) (w : What) → of_records w ≡ false → (recorded xs w ≡ xs) × (is_died w ≡ false)
+unrecorded : (xs : List Rec) (w : What) → of_records w ≡ false → recorded xs w ≡ xs
 unrecorded xs (what.Took r) e = absurd (false≢true (sym e))
 unrecorded xs (what.Dropped r) e = absurd (false≢true (sym e))
 unrecorded xs what.Died e = absurd (false≢true (sym e))
-unrecorded xs other e = (refl, refl)
+unrecorded xs what.Returned e = absurd (false≢true (sym e))
+unrecorded xs other e = refl
 
 -- ---- the records
 
@@ -178,255 +179,213 @@ same_turned r q = same_test (same_record r q) (same_record q r)
     (λ h. subst (λ (k : Rec). IsTrue (same_record k r)) (one_record r q h) (record_itself r))
     (λ h. subst (λ (k : Rec). IsTrue (same_record k q)) (one_record q r h) (record_itself q))
 
+-- what the view of a cub has after an entry of a node, if that is the cub, and if it is not
+abbrev seen_after : Params → Moment → ℕ → Rec → Bool → What → Bool
+seen_after p m c r here w = nat_lt c p.cubs && list_any (same_record r) (cond here (recorded (m.records c) w) (m.records c))
+
 -- ---- a record is taken
 
-taken_bits : (low dead a s : Bool) → (((low && not dead) && a) || ((low && not dead) && s)) ≡ ((low && not (dead || false)) && (a || (s || false)))
-taken_bits false dead a s = refl
-taken_bits true true a s = refl
-taken_bits true false true s = refl
-taken_bits true false false true = refl
-taken_bits true false false false = refl
-
-not_taken_bits : (low dead a other : Bool) → (((low && not dead) && a) || (other && false)) ≡ ((low && not (dead || false)) && a)
-not_taken_bits false dead a true = refl
-not_taken_bits false dead a false = refl
-not_taken_bits true true a true = refl
-not_taken_bits true true a false = refl
-not_taken_bits true false true other = refl
-not_taken_bits true false false true = refl
-not_taken_bits true false false false = refl
+taken_bits : (low a s : Bool) → ((low && a) || (low && s)) ≡ (low && (a || (s || false)))
+taken_bits false a s = refl
+taken_bits true true s = refl
+taken_bits true false true = refl
+taken_bits true false false = refl
 
 took_here : (p : Params) (m : Moment) (n c : ℕ) (q r : Rec) (b : Bool) → (n == c) ≡ b
-    → (is_in_view p m c r || ((nat_lt n p.cubs && not (m.dead n)) && (b && same_record q r)))
-    ≡ ((nat_lt c p.cubs && not (m.dead c || (b && false))) && list_any (same_record r) (cond b (m.records c ++ q ∷ []) (m.records c)))
+    → (is_in_view p m c r || (nat_lt n p.cubs && (b && same_record q r))) ≡ seen_after p m c r b (what.Took q)
 took_here p m n c q r true e =
-    ap (λ (k : ℕ). is_in_view p m c r || ((nat_lt k p.cubs && not (m.dead k)) && same_record q r)) (eqb-true n c e)
-    ∙ (taken_bits (nat_lt c p.cubs) (m.dead c) (list_any (same_record r) (m.records c)) (same_record q r)
-    ∙ (ap (λ (s : Bool). (nat_lt c p.cubs && not (m.dead c || false)) && (list_any (same_record r) (m.records c) || (s || false))) (same_turned q r)
-    ∙ ap (λ (s : Bool). (nat_lt c p.cubs && not (m.dead c || false)) && s)
-    (sym (list_any-append (same_record r) (m.records c) (q ∷ [])))))
-took_here p m n c q r false e =
-    not_taken_bits (nat_lt c p.cubs) (m.dead c) (list_any (same_record r) (m.records c)) (nat_lt n p.cubs && not (m.dead n))
+    ap (λ (k : ℕ). is_in_view p m c r || (nat_lt k p.cubs && same_record q r)) (eqb-true n c e)
+    ∙ (taken_bits (nat_lt c p.cubs) (list_any (same_record r) (m.records c)) (same_record q r)
+    ∙ (ap (λ (s : Bool). nat_lt c p.cubs && (list_any (same_record r) (m.records c) || (s || false))) (same_turned q r)
+    ∙ ap (λ (s : Bool). nat_lt c p.cubs && s) (sym (list_any-append (same_record r) (m.records c) (q ∷ [])))))
+took_here p m n c q r false e = or_none (is_in_view p m c r) (nat_lt n p.cubs)
 
-pub took_told : (p : Params) (gone : List ℕ) (old new : List Held) (m : Moment) (x : Noted) (q : Rec) → x.entry.what ≡ what.Took q
-    → ((c : ℕ) (r : Rec) → has_record c r new
-    ≡ (has_record c r old || ((nat_lt x.node p.cubs && not (has_number x.node gone)) && is_same x.node q c r)))
-    → TellsRecords p gone old m → TellsRecords p gone new (next_moment m x)
+pub took_told : (p : Params) (old new : List Held) (m : Moment) (x : Noted) (q : Rec) → x.entry.what ≡ what.Took q
+    → ((c : ℕ) (r : Rec) → has_record c r new ≡ (has_record c r old || (nat_lt x.node p.cubs && is_same x.node q c r)))
+    → TellsRecords p old m → TellsRecords p new (next_moment m x)
 unfolding next_moment
-took_told p gone old new m x q is added h = record {
-  dead = λ n. ap (λ (w : What). m.dead n || ((x.node == n) && is_died w)) is ∙ or_none (m.dead n) (x.node == n) ∙ h.dead n;
-  records = λ c r.
-      added c r
-      ∙ ap (λ (b : Bool). b || ((nat_lt x.node p.cubs && not (has_number x.node gone)) && is_same x.node q c r)) (h.records c r)
-      ∙ ap (λ (b : Bool). is_in_view p m c r || ((nat_lt x.node p.cubs && not b) && is_same x.node q c r)) (sym (h.dead x.node))
-      ∙ ap (λ (b : Bool). is_in_view p m c r || ((nat_lt x.node p.cubs && not (m.dead x.node)) && b)) (same_is x.node c q r)
-      ∙ took_here p m x.node c q r (x.node == c) refl
-      ∙ ap (λ (w : What). (nat_lt c p.cubs && not (m.dead c || ((x.node == c) && is_died w)))
-      && list_any (same_record r) (cond (x.node == c) (recorded (m.records c) w) (m.records c))) (sym is);
-}
+took_told p old new m x q is added h c r =
+    added c r
+    ∙ ap (λ (b : Bool). b || (nat_lt x.node p.cubs && is_same x.node q c r)) (h c r)
+    ∙ ap (λ (b : Bool). is_in_view p m c r || (nat_lt x.node p.cubs && b)) (same_is x.node c q r)
+    ∙ took_here p m x.node c q r (x.node == c) refl
+    ∙ ap (seen_after p m c r (x.node == c)) (sym is)
 
 -- ---- a record is dropped
 
-dropped_bits : (low dead a s : Bool) → (((low && not dead) && a) && s) ≡ ((low && not (dead || false)) && (a && s))
-dropped_bits false dead a s = refl
-dropped_bits true true a s = refl
-dropped_bits true false a s = refl
-
-not_dropped_bits : (low dead a : Bool) → (((low && not dead) && a) && true) ≡ ((low && not (dead || false)) && a)
-not_dropped_bits false dead a = refl
-not_dropped_bits true true a = refl
-not_dropped_bits true false true = refl
-not_dropped_bits true false false = refl
-
-dropped_here : (p : Params) (m : Moment) (n c : ℕ) (q r : Rec) (b : Bool)
-    → (is_in_view p m c r && not (b && same_record q r))
-    ≡ ((nat_lt c p.cubs && not (m.dead c || (b && false)))
-    && list_any (same_record r) (cond b (filter (λ k. not (same_record q k)) (m.records c)) (m.records c)))
-dropped_here p m n c q r true =
-    dropped_bits (nat_lt c p.cubs) (m.dead c) (list_any (same_record r) (m.records c)) (not (same_record q r))
-    ∙ ap (λ (s : Bool). (nat_lt c p.cubs && not (m.dead c || false)) && s)
-    (sym (any_filtered (same_record r) (λ k. not (same_record q k)) (not (same_record q r)) (m.records c)
-    (λ k e. ap (λ (y : Rec). not (same_record q y)) (sym (one_record r k e)))))
-dropped_here p m n c q r false = not_dropped_bits (nat_lt c p.cubs) (m.dead c) (list_any (same_record r) (m.records c))
-
-pub dropped_told : (p : Params) (gone : List ℕ) (old new : List Held) (m : Moment) (x : Noted) (q : Rec) → x.entry.what ≡ what.Dropped q
-    → ((c : ℕ) (r : Rec) → has_record c r new ≡ (has_record c r old && not (is_same x.node q c r)))
-    → TellsRecords p gone old m → TellsRecords p gone new (next_moment m x)
-unfolding next_moment
-dropped_told p gone old new m x q is removed h = record {
-  dead = λ n. ap (λ (w : What). m.dead n || ((x.node == n) && is_died w)) is ∙ or_none (m.dead n) (x.node == n) ∙ h.dead n;
-  records = λ c r.
-      removed c r
-      ∙ ap (λ (b : Bool). b && not (is_same x.node q c r)) (h.records c r)
-      ∙ ap (λ (b : Bool). is_in_view p m c r && not b) (same_is x.node c q r)
-      ∙ dropped_here p m x.node c q r (x.node == c)
-      ∙ ap (λ (w : What). (nat_lt c p.cubs && not (m.dead c || ((x.node == c) && is_died w)))
-      && list_any (same_record r) (cond (x.node == c) (recorded (m.records c) w) (m.records c))) (sym is);
-}
-
--- ---- a node dies
-
-died_bits : (low dead a : Bool) → (((low && not dead) && a) && false) ≡ ((low && not (dead || true)) && a)
-died_bits false dead a = refl
-died_bits true true a = refl
-died_bits true false true = refl
-died_bits true false false = refl
-
-died_here : (p : Params) (m : Moment) (c : ℕ) (r : Rec) (b : Bool)
-    → (is_in_view p m c r && not b)
-    ≡ ((nat_lt c p.cubs && not (m.dead c || (b && true))) && list_any (same_record r) (cond b (m.records c) (m.records c)))
-died_here p m c r true = died_bits (nat_lt c p.cubs) (m.dead c) (list_any (same_record r) (m.records c))
-died_here p m c r false = not_dropped_bits (nat_lt c p.cubs) (m.dead c) (list_any (same_record r) (m.records c))
+dropped_bits : (low a s : Bool) → ((low && a) && s) ≡ (low && (a && s))
+dropped_bits false a s = refl
+dropped_bits true a s = refl
 
 and_true : (b : Bool) → (b && true) ≡ b
 and_true true = refl
 and_true false = refl
 
-pub died_told : (p : Params) (gone later : List ℕ) (old new : List Held) (m : Moment) (x : Noted) → x.entry.what ≡ what.Died
-    → ((n : ℕ) → has_number n later ≡ (has_number n gone || (x.node == n)))
-    → ((c : ℕ) (r : Rec) → has_record c r new ≡ (has_record c r old && not (x.node == c)))
-    → TellsRecords p gone old m → TellsRecords p later new (next_moment m x)
+dropped_here : (p : Params) (m : Moment) (c : ℕ) (q r : Rec) (b : Bool)
+    → (is_in_view p m c r && not (b && same_record q r)) ≡ seen_after p m c r b (what.Dropped q)
+dropped_here p m c q r true =
+    dropped_bits (nat_lt c p.cubs) (list_any (same_record r) (m.records c)) (not (same_record q r))
+    ∙ ap (λ (s : Bool). nat_lt c p.cubs && s)
+    (sym (any_filtered (same_record r) (λ k. not (same_record q k)) (not (same_record q r)) (m.records c)
+    (λ k e. ap (λ (y : Rec). not (same_record q y)) (sym (one_record r k e)))))
+dropped_here p m c q r false = and_true (is_in_view p m c r)
+
+pub dropped_told : (p : Params) (old new : List Held) (m : Moment) (x : Noted) (q : Rec) → x.entry.what ≡ what.Dropped q
+    → ((c : ℕ) (r : Rec) → has_record c r new ≡ (has_record c r old && not (is_same x.node q c r)))
+    → TellsRecords p old m → TellsRecords p new (next_moment m x)
 unfolding next_moment
-died_told p gone later old new m x is more cleared h = record {
-  dead = λ n.
-      ap (λ (w : What). m.dead n || ((x.node == n) && is_died w)) is
-      ∙ ap (λ (b : Bool). m.dead n || b) (and_true (x.node == n))
-      ∙ ap (λ (b : Bool). b || (x.node == n)) (h.dead n) ∙ sym (more n);
-  records = λ c r.
-      cleared c r
-      ∙ ap (λ (b : Bool). b && not (x.node == c)) (h.records c r)
-      ∙ died_here p m c r (x.node == c)
-      ∙ ap (λ (w : What). (nat_lt c p.cubs && not (m.dead c || ((x.node == c) && is_died w)))
-      && list_any (same_record r) (cond (x.node == c) (recorded (m.records c) w) (m.records c))) (sym is);
-}
+dropped_told p old new m x q is removed h c r =
+    removed c r
+    ∙ ap (λ (b : Bool). b && not (is_same x.node q c r)) (h c r)
+    ∙ ap (λ (b : Bool). is_in_view p m c r && not b) (same_is x.node c q r)
+    ∙ dropped_here p m c q r (x.node == c)
+    ∙ ap (seen_after p m c r (x.node == c)) (sym is)
+
+-- ---- a node dies, or is back: its view is empty
+
+abbrev pub empties : What → Bool
+empties what.Died = true
+empties what.Returned = true
+empties other = false
+
+and_none : (b : Bool) → (b && false) ≡ false
+and_none true = refl
+and_none false = refl
+
+emptied_here : (p : Params) (m : Moment) (c : ℕ) (r : Rec) (w : What) (b : Bool) → empties w ≡ true
+    → (is_in_view p m c r && not b) ≡ seen_after p m c r b w
+emptied_here p m c r what.Died true e = and_none (is_in_view p m c r) ∙ sym (and_none (nat_lt c p.cubs))
+emptied_here p m c r what.Returned true e = and_none (is_in_view p m c r) ∙ sym (and_none (nat_lt c p.cubs))
+emptied_here p m c r w false e = and_true (is_in_view p m c r)
+emptied_here p m c r other true e = absurd (false≢true e)
+
+pub emptied_told : (p : Params) (old new : List Held) (m : Moment) (x : Noted) → empties x.entry.what ≡ true
+    → ((c : ℕ) (r : Rec) → has_record c r new ≡ (has_record c r old && not (x.node == c)))
+    → TellsRecords p old m → TellsRecords p new (next_moment m x)
+unfolding next_moment
+emptied_told p old new m x is cleared h c r =
+    cleared c r
+    ∙ ap (λ (b : Bool). b && not (x.node == c)) (h c r)
+    ∙ emptied_here p m c r x.entry.what (x.node == c) is
 
 -- ---- another entry
 
-other_here : (p : Params) (m : Moment) (c : ℕ) (r : Rec) (b : Bool)
-    → is_in_view p m c r
-    ≡ ((nat_lt c p.cubs && not (m.dead c || (b && false))) && list_any (same_record r) (cond b (m.records c) (m.records c)))
-other_here p m c r true = ap (λ (b : Bool). (nat_lt c p.cubs && not b) && list_any (same_record r) (m.records c)) (sym (or_false (m.dead c)))
-other_here p m c r false = ap (λ (b : Bool). (nat_lt c p.cubs && not b) && list_any (same_record r) (m.records c)) (sym (or_false (m.dead c)))
+other_here : (p : Params) (m : Moment) (c : ℕ) (r : Rec) (w : What) (b : Bool) → of_records w ≡ false
+    → is_in_view p m c r ≡ seen_after p m c r b w
+other_here p m c r w true e =
+    ap (λ (xs : List Rec). nat_lt c p.cubs && list_any (same_record r) xs) (sym (unrecorded (m.records c) w e))
+other_here p m c r w false e = refl
 
-pub same_told : (p : Params) (gone : List ℕ) (held : List Held) (m : Moment) (x : Noted) → of_records x.entry.what ≡ false
-    → TellsRecords p gone held m → TellsRecords p gone held (next_moment m x)
+pub same_told : (p : Params) (held : List Held) (m : Moment) (x : Noted) → of_records x.entry.what ≡ false
+    → TellsRecords p held m → TellsRecords p held (next_moment m x)
 unfolding next_moment
-same_told p gone held m x e h = record {
-  dead = λ n. ap (λ (b : Bool). m.dead n || ((x.node == n) && b)) (unrecorded [] x.entry.what e).1
-      ∙ or_none (m.dead n) (x.node == n) ∙ h.dead n;
-  records = λ c r.
-      h.records c r
-      ∙ other_here p m c r (x.node == c)
-      ∙ ap (λ (b : Bool). (nat_lt c p.cubs && not (m.dead c || ((x.node == c) && b)))
-      && list_any (same_record r) (cond (x.node == c) (m.records c) (m.records c))) (sym (unrecorded [] x.entry.what e).1)
-      ∙ ap (λ (xs : List Rec). (nat_lt c p.cubs && not (m.dead c || ((x.node == c) && is_died x.entry.what)))
-      && list_any (same_record r) (cond (x.node == c) xs (m.records c))) (sym (unrecorded (m.records c) x.entry.what e).0);
-}
+same_told p held m x e h c r = h c r ∙ other_here p m c r x.entry.what (x.node == c) e
 
 -- ---- all tables, for each kind of entry
 
-pub put_taken : (p : Params) (seats new : Tenancies) (marks : MarkNumbers) (kept : List Stopped) (gone : List ℕ) (held : List Held)
+pub put_taken : (p : Params) (seats new : Tenancies) (marks : MarkNumbers) (kept : List Stopped) (held : List Held)
     (now : ℕ) (m : Moment) (x : Noted) (t : Tenancy) → x.entry.what ≡ what.Put t
     → ((k : ℕ) → seat_under k new ≡ seat_by (is_marked marks) seats t k)
-    → TellsViews p seats marks kept gone held now m → m.beat ≤ beat_of x
-    → TellsViews p new marks kept gone held (beat_of x) (next_moment m x)
+    → TellsViews p seats marks kept held now m → m.beat ≤ beat_of x
+    → TellsViews p new marks kept held (beat_of x) (next_moment m x)
 unfolding next_moment after_entry
-put_taken p seats new marks kept gone held now m x t is seated h le = record {
+put_taken p seats new marks kept held now m x t is seated h le = record {
   beat = refl;
   schedule = subst (λ (w : What). TellsSchedule new marks kept (beat_of x) (changed m.schedule (beat_of x) w)) (sym is)
       (put_told seats new marks kept now (beat_of x) m.schedule t seated (let b = h.beat in omega (arith, b, le)) h.schedule);
-  records = same_told p gone held m x (ap of_records is) h.records;
+  records = same_told p held m x (ap of_records is) h.records;
 }
 
-pub gone_taken : (p : Params) (seats : Tenancies) (marks new : MarkNumbers) (kept more : List Stopped) (gone : List ℕ) (held : List Held)
+pub gone_taken : (p : Params) (seats : Tenancies) (marks new : MarkNumbers) (kept more : List Stopped) (held : List Held)
     (now : ℕ) (m : Moment) (x : Noted) (v : Instance) → x.entry.what ≡ what.Gone v
     → ((n : ℕ) → mark_under n new ≡ cond (v.0 == n) (Some (beat_of x)) (mark_under n marks))
     → more ≡ kept ++ stopped v (beat_of x) ∷ []
-    → TellsViews p seats marks kept gone held now m → m.beat ≤ beat_of x
-    → TellsViews p seats new more gone held (beat_of x) (next_moment m x)
+    → TellsViews p seats marks kept held now m → m.beat ≤ beat_of x
+    → TellsViews p seats new more held (beat_of x) (next_moment m x)
 unfolding next_moment after_entry
-gone_taken p seats marks new kept more gone held now m x v is set pushed h le = record {
+gone_taken p seats marks new kept more held now m x v is set pushed h le = record {
   beat = refl;
   schedule = subst (λ (w : What). TellsSchedule seats new more (beat_of x) (changed m.schedule (beat_of x) w)) (sym is)
       (subst (λ (ss : List Stopped). TellsSchedule seats new ss (beat_of x) (changed m.schedule (beat_of x) (what.Gone v))) (sym pushed)
       (gone_told seats marks new kept now (beat_of x) m.schedule v set (let b = h.beat in omega (arith, b, le)) h.schedule));
-  records = same_told p gone held m x (ap of_records is) h.records;
+  records = same_told p held m x (ap of_records is) h.records;
 }
 
-records_taken : (p : Params) (seats : Tenancies) (marks : MarkNumbers) (kept : List Stopped) (gone later : List ℕ) (held new : List Held)
+records_taken : (p : Params) (seats : Tenancies) (marks : MarkNumbers) (kept : List Stopped) (held new : List Held)
     (now : ℕ) (m : Moment) (x : Noted) → of_schedule x.entry.what ≡ false
-    → TellsRecords p later new (next_moment m x)
-    → TellsViews p seats marks kept gone held now m → m.beat ≤ beat_of x
-    → TellsViews p seats marks kept later new (beat_of x) (next_moment m x)
+    → TellsRecords p new (next_moment m x)
+    → TellsViews p seats marks kept held now m → m.beat ≤ beat_of x
+    → TellsViews p seats marks kept new (beat_of x) (next_moment m x)
 unfolding next_moment after_entry
-records_taken p seats marks kept gone later held new now m x e told h le = record {
+records_taken p seats marks kept held new now m x e told h le = record {
   beat = refl;
   schedule = still_told seats marks kept now (beat_of x) m.schedule (changed m.schedule (beat_of x) x.entry.what)
       (unchanged m.schedule (beat_of x) x.entry.what e) (let b = h.beat in omega (arith, b, le)) h.schedule;
   records = told;
 }
 
-pub took_taken : (p : Params) (seats : Tenancies) (marks : MarkNumbers) (kept : List Stopped) (gone : List ℕ) (held new : List Held)
+pub took_taken : (p : Params) (seats : Tenancies) (marks : MarkNumbers) (kept : List Stopped) (held new : List Held)
     (now : ℕ) (m : Moment) (x : Noted) (q : Rec) → x.entry.what ≡ what.Took q
     → ((c : ℕ) (r : Rec) → has_record c r new
-    ≡ (has_record c r held || ((nat_lt x.node p.cubs && not (has_number x.node gone)) && is_same x.node q c r)))
-    → TellsViews p seats marks kept gone held now m → m.beat ≤ beat_of x
-    → TellsViews p seats marks kept gone new (beat_of x) (next_moment m x)
-took_taken p seats marks kept gone held new now m x q is added h le =
-    records_taken p seats marks kept gone gone held new now m x (ap of_schedule is)
-    (took_told p gone held new m x q is added h.records) h le
+    ≡ (has_record c r held || (nat_lt x.node p.cubs && is_same x.node q c r)))
+    → TellsViews p seats marks kept held now m → m.beat ≤ beat_of x
+    → TellsViews p seats marks kept new (beat_of x) (next_moment m x)
+took_taken p seats marks kept held new now m x q is added h le =
+    records_taken p seats marks kept held new now m x (ap of_schedule is)
+    (took_told p held new m x q is added h.records) h le
 
-pub dropped_taken : (p : Params) (seats : Tenancies) (marks : MarkNumbers) (kept : List Stopped) (gone : List ℕ) (held new : List Held)
+pub dropped_taken : (p : Params) (seats : Tenancies) (marks : MarkNumbers) (kept : List Stopped) (held new : List Held)
     (now : ℕ) (m : Moment) (x : Noted) (q : Rec) → x.entry.what ≡ what.Dropped q
     → ((c : ℕ) (r : Rec) → has_record c r new ≡ (has_record c r held && not (is_same x.node q c r)))
-    → TellsViews p seats marks kept gone held now m → m.beat ≤ beat_of x
-    → TellsViews p seats marks kept gone new (beat_of x) (next_moment m x)
-dropped_taken p seats marks kept gone held new now m x q is removed h le =
-    records_taken p seats marks kept gone gone held new now m x (ap of_schedule is)
-    (dropped_told p gone held new m x q is removed h.records) h le
+    → TellsViews p seats marks kept held now m → m.beat ≤ beat_of x
+    → TellsViews p seats marks kept new (beat_of x) (next_moment m x)
+dropped_taken p seats marks kept held new now m x q is removed h le =
+    records_taken p seats marks kept held new now m x (ap of_schedule is)
+    (dropped_told p held new m x q is removed h.records) h le
 
-pub died_taken : (p : Params) (seats : Tenancies) (marks : MarkNumbers) (kept : List Stopped) (gone later : List ℕ) (held new : List Held)
-    (now : ℕ) (m : Moment) (x : Noted) → x.entry.what ≡ what.Died
-    → ((n : ℕ) → has_number n later ≡ (has_number n gone || (x.node == n)))
+no_schedule : (w : What) → empties w ≡ true → of_schedule w ≡ false
+no_schedule what.Died e = refl
+no_schedule what.Returned e = refl
+no_schedule other e = absurd (false≢true e)
+
+pub emptied_taken : (p : Params) (seats : Tenancies) (marks : MarkNumbers) (kept : List Stopped) (held new : List Held)
+    (now : ℕ) (m : Moment) (x : Noted) → empties x.entry.what ≡ true
     → ((c : ℕ) (r : Rec) → has_record c r new ≡ (has_record c r held && not (x.node == c)))
-    → TellsViews p seats marks kept gone held now m → m.beat ≤ beat_of x
-    → TellsViews p seats marks kept later new (beat_of x) (next_moment m x)
-died_taken p seats marks kept gone later held new now m x is more cleared h le =
-    records_taken p seats marks kept gone later held new now m x (ap of_schedule is)
-    (died_told p gone later held new m x is more cleared h.records) h le
+    → TellsViews p seats marks kept held now m → m.beat ≤ beat_of x
+    → TellsViews p seats marks kept new (beat_of x) (next_moment m x)
+emptied_taken p seats marks kept held new now m x is cleared h le =
+    records_taken p seats marks kept held new now m x (no_schedule x.entry.what is)
+    (emptied_told p held new m x is cleared h.records) h le
 
 other_kind : (w : What) → ((t : Tenancy) → w ≡ what.Put t → ⊥) → ((v : Instance) → w ≡ what.Gone v → ⊥)
     → ((r : Rec) → w ≡ what.Took r → ⊥) → ((r : Rec) → w ≡ what.Dropped r → ⊥) → (w ≡ what.Died → ⊥)
-    → (of_schedule w ≡ false) × (of_records w ≡ false)
-other_kind (what.Put t) a b c d e = absurd (a t refl)
-other_kind (what.Gone v) a b c d e = absurd (b v refl)
-other_kind (what.Took r) a b c d e = absurd (c r refl)
-other_kind (what.Dropped r) a b c d e = absurd (d r refl)
-other_kind what.Died a b c d e = absurd (e refl)
-other_kind other a b c d e = (refl, refl)
+    → (w ≡ what.Returned → ⊥) → (of_schedule w ≡ false) × (of_records w ≡ false)
+other_kind (what.Put t) a b c d e f = absurd (a t refl)
+other_kind (what.Gone v) a b c d e f = absurd (b v refl)
+other_kind (what.Took r) a b c d e f = absurd (c r refl)
+other_kind (what.Dropped r) a b c d e f = absurd (d r refl)
+other_kind what.Died a b c d e f = absurd (e refl)
+other_kind what.Returned a b c d e f = absurd (f refl)
+other_kind other a b c d e f = (refl, refl)
 
-pub other_taken : (p : Params) (seats : Tenancies) (marks : MarkNumbers) (kept : List Stopped) (gone : List ℕ) (held : List Held)
+pub other_taken : (p : Params) (seats : Tenancies) (marks : MarkNumbers) (kept : List Stopped) (held : List Held)
     (now : ℕ) (m : Moment) (x : Noted) → ((t : Tenancy) → x.entry.what ≡ what.Put t → ⊥)
     → ((v : Instance) → x.entry.what ≡ what.Gone v → ⊥) → ((r : Rec) → x.entry.what ≡ what.Took r → ⊥)
-    → ((r : Rec) → x.entry.what ≡ what.Dropped r → ⊥) → (x.entry.what ≡ what.Died → ⊥)
-    → TellsViews p seats marks kept gone held now m → m.beat ≤ beat_of x
-    → TellsViews p seats marks kept gone held (beat_of x) (next_moment m x)
-other_taken p seats marks kept gone held now m x a b c d e h le =
-    let kind = other_kind x.entry.what a b c d e in
-    records_taken p seats marks kept gone gone held held now m x kind.0 (same_told p gone held m x kind.1 h.records) h le
+    → ((r : Rec) → x.entry.what ≡ what.Dropped r → ⊥) → (x.entry.what ≡ what.Died → ⊥) → (x.entry.what ≡ what.Returned → ⊥)
+    → TellsViews p seats marks kept held now m → m.beat ≤ beat_of x
+    → TellsViews p seats marks kept held (beat_of x) (next_moment m x)
+other_taken p seats marks kept held now m x a b c d e f h le =
+    let kind = other_kind x.entry.what a b c d e f in
+    records_taken p seats marks kept held held now m x kind.0 (same_told p held m x kind.1 h.records) h le
 
 -- ---- before the first entry
 
-nowhere : (b : Bool) → false ≡ ((b && true) && false)
-nowhere true = refl
-nowhere false = refl
+pub nothing_told : (p : Params) → TellsRecords p [] opening
+nothing_told p c r = sym (and_none (nat_lt c p.cubs))
 
-pub nothing_told : (p : Params) → TellsRecords p [] [] opening
-nothing_told p = record { dead = λ n. refl; records = λ c r. nowhere (nat_lt c p.cubs) }
-
-pub tells_opening : (p : Params) (seats : Tenancies) (marks : MarkNumbers) (kept : List Stopped) (gone : List ℕ) (held : List Held) (now : ℕ)
-    → seats ≡ [] → marks ≡ [] → kept ≡ [] → gone ≡ [] → held ≡ [] → now ≡ 0 → TellsViews p seats marks kept gone held now opening
-tells_opening p seats marks kept gone held now a b c d e f = rw (a, b, c, d, e, f) (record {
+pub tells_opening : (p : Params) (seats : Tenancies) (marks : MarkNumbers) (kept : List Stopped) (held : List Held) (now : ℕ)
+    → seats ≡ [] → marks ≡ [] → kept ≡ [] → held ≡ [] → now ≡ 0 → TellsViews p seats marks kept held now opening
+tells_opening p seats marks kept held now a b c d e = rw (a, b, c, d, e) (record {
   beat = refl;
   schedule = record {
     holder = λ slot. refl;

@@ -50,8 +50,8 @@ TellsBrought p brought m =
     → IsTrue (has_record c (own_of t visit) brought) ↔ AnyByRecursion (λ e. BringsAt p c t visit e.what) (m.journal c)
 
 -- tables tell the views, and what was brought
-pub record TellsLocal (p : Params) (gone : List ℕ) (held brought : List Held) (m : Moment) : Type 0 where
-  pub views : TellsRecords p gone held m
+pub record TellsLocal (p : Params) (held brought : List Held) (m : Moment) : Type 0 where
+  pub views : TellsRecords p held m
   pub came : TellsBrought p brought m
 
 -- ---- how an entry is judged

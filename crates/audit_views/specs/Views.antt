@@ -1,5 +1,5 @@
 -- Views as they are judged entry by entry, and what a walk keeps for that.
-use Rattle.std.specs.Prelude.{◌≡◌, ℕ, ◌+◌, ◌<◌, ◌≤◌, Bool, false, not, ◌&&◌, ◌==◌, nat_le, nat_lt, List, Option, Some, None, map, filter, length, slice_index_or, is_some, IsTrue}
+use Rattle.std.specs.Prelude.{◌≡◌, ℕ, ◌+◌, ◌<◌, ◌≤◌, Bool, false, ◌&&◌, ◌==◌, nat_le, nat_lt, List, Option, Some, None, map, filter, length, slice_index_or, is_some, IsTrue}
 use Rattle.std.specs.List.{AllByRecursion, list_all, list_any}
 use Rattle.std.specs.List.Sorted.{IsNonDecreasingBy}
 use Rattle.tiger_base.specs.declared.tenancy.Rec.{Rec}
@@ -14,20 +14,16 @@ use Rattle.run_model.specs.Schedule.{Schedule, Stop}
 use Rattle.run_model.specs.Views.{same_record}
 use Rattle.run_model.specs.Moments.{Moment, next_moment}
 use Rattle.run_model.specs.Parts.{IsPart}
-use Rattle.audit_frame.specs.Tables.{MarkNumbers, Tenancies, has_number, mark_under, seat_under, unless_by}
+use Rattle.audit_frame.specs.Tables.{MarkNumbers, Tenancies, mark_under, seat_under, unless_by}
 use Rattle.audit_views.specs.Standing.{has_record}
 use Rattle.audit_views.specs.declared.records.Held.{Held}
 use Rattle.audit_views.specs.declared.views.Stopped.{Stopped}
 
 -- ---- views
 
--- whether a node is a cub that lives
-abbrev pub is_living_cub : Params → Moment → ℕ → Bool
-is_living_cub p m c = nat_lt c p.cubs && not (m.dead c)
-
--- whether the view of a cub has a record
+-- whether a node is a cub, and its view has a record
 abbrev pub is_in_view : Params → Moment → ℕ → Rec → Bool
-is_in_view p m c r = is_living_cub p m c && list_any (same_record r) (m.records c)
+is_in_view p m c r = nat_lt c p.cubs && list_any (same_record r) (m.records c)
 
 -- each record of an instance in a view is part of the schedule
 abbrev pub IsInstancePart : Params → Moment → ℕ → Type 0
@@ -102,17 +98,16 @@ pub record TellsSchedule (seats : Tenancies) (marks : MarkNumbers) (kept : List 
   pub early : AllByRecursion (λ stop. stop.beat ≤ now) kept
   pub latest : (v : ℕ) → IsLatestStop v s.stops (mark_under v marks)
 
--- tables tell who died, and what stands in the views
-pub record TellsRecords (p : Params) (gone : List ℕ) (held : List Held) (m : Moment) : Type 0 where
-  pub dead : (n : ℕ) → m.dead n ≡ has_number n gone
-  pub records : (c : ℕ) (r : Rec) → has_record c r held ≡ is_in_view p m c r
+-- a table tells what stands in the views
+abbrev pub TellsRecords : Params → List Held → Moment → Type 0
+TellsRecords p held m = (c : ℕ) (r : Rec) → has_record c r held ≡ is_in_view p m c r
 
 -- tables tell all of a moment by which views are judged
-pub record TellsViews (p : Params) (seats : Tenancies) (marks : MarkNumbers) (kept : List Stopped) (gone : List ℕ)
+pub record TellsViews (p : Params) (seats : Tenancies) (marks : MarkNumbers) (kept : List Stopped)
     (held : List Held) (now : ℕ) (m : Moment) : Type 0 where
   pub beat : now ≡ m.beat
   pub schedule : TellsSchedule seats marks kept now m.schedule
-  pub records : TellsRecords p gone held m
+  pub records : TellsRecords p held m
 
 -- ---- how instances are judged by what is kept
 

@@ -14,9 +14,9 @@ ghost use Rattle.audit_frame.specs.Lines.{noted_line, told_by};
 ghost use Rattle.audit_views.specs.Standing.{has_record, is_same};
 ghost use Rattle.audit_views.specs.Local.{TellsLocal, has_by, is_before, is_soon, note_brings, state_brings};
 
-use crate::cubs::{take_death, take_record};
+use crate::cubs::take_record;
 use crate::records::Records;
-use audit_frame::{Line, Numbers, line_at};
+use audit_frame::{Line, line_at};
 use node_kit::{LinkTable, What};
 use slot_plan::Plan;
 use std::alloc::Global;
@@ -24,17 +24,17 @@ use tiger_base::{
     Kind, LinkNo, Micros, NoMemory, NodeNo, Note, Rec, SlotNo, State, Tenancy, Visit,
 };
 
-/// What is kept of the entries so far: who died, the records in the views of those who live, and what was brought to each
-/// cub, as own records of the visits that were named.
+/// What is kept of the entries so far: the records in the views of the cubs, and what was brought to each cub, as own records
+/// of the visits that were named.
 #[derive(Drop)]
 struct SoFar {
-    dead: Numbers,
     records: Records,
     brought: Records,
 }
 
 /// The first entry of a log in which a cub takes a record that it may not take, or sends a viewer state of which it has no
-/// record; `None` if there is none. Each entry costs the logarithm of the number of records, and a death a look at each.
+/// record; `None` if there is none. Each entry costs the logarithm of the number of records, and a death or a return a look at
+/// each.
 ///
 /// `NoMemory` is the only error.
 pub fn first_not_local<'a>(
@@ -58,12 +58,10 @@ pub fn first_not_local<'a>(
 impl SoFar {
     /// Nothing is known yet.
     fn new(alloc: Global) -> SoFar
-        ensures dead { result.dead ≡ [] }
         ensures records { result.records ≡ [] }
         ensures brought { result.brought ≡ [] }
     {
         SoFar {
-            dead: Numbers::new(alloc),
             records: Records::new(alloc),
             brought: Records::new(alloc),
         }
@@ -72,7 +70,7 @@ impl SoFar {
     /// Whether an entry is local, behind those so far.
     fn allows<'a>(&self, plan: &Plan, line: &Line<'a>) -> bool
         ensures { (m : Moment)
-            → TellsLocal plan.now.params self.now.dead self.now.records self.now.brought m
+            → TellsLocal plan.now.params self.now.records self.now.brought m
             → IsTrue result ↔ IsLocal plan.now.params m (noted_line line.now) }
     {
         if line.node.0 as u64 >= plan.params.cubs {
@@ -89,7 +87,7 @@ impl SoFar {
     fn may_take(&self, plan: &Plan, cub: NodeNo, reading: Micros, r: &Rec) -> bool
         requires { cub.0 < plan.now.params.cubs }
         ensures { (m : Moment)
-            → TellsLocal plan.now.params self.now.dead self.now.records self.now.brought m
+            → TellsLocal plan.now.params self.now.records self.now.brought m
             → IsTrue result ↔ IsLocalRecord plan.now.params m cub.0 reading r.now }
     {
         let mine = is_for_cub(plan, cub, r);
@@ -98,10 +96,10 @@ impl SoFar {
         are_three(mine, came, soon)
     }
 
-    /// Whether a cub that lives or not may send a note.
+    /// Whether a cub may send a note.
     fn may_send(&self, cub: NodeNo, note: &Note) -> bool
         ensures { (p : Params) (m : Moment) (reading : ℕ) (link : LinkNo) → cub.0 < p.cubs
-            → TellsLocal p self.now.dead self.now.records self.now.brought m
+            → TellsLocal p self.now.records self.now.brought m
             → IsTrue result ↔ IsLocalEntry p m cub.0 reading (what.Sent link note.now) }
     {
         match note {
@@ -113,19 +111,22 @@ impl SoFar {
     /// Takes one more entry.
     fn take<'a>(&mut self, plan: &Plan, line: &Line<'a>) -> Result<(), NoMemory>
         ensures { OnOk result ((m : Moment)
-            → TellsLocal plan.now.params self.old.dead self.old.records self.old.brought m
-            → TellsLocal plan.now.params self.new.dead self.new.records self.new.brought
+            → TellsLocal plan.now.params self.old.records self.old.brought m
+            → TellsLocal plan.now.params self.new.records self.new.brought
             (next_moment m (noted_line line.now))) }
     {
         match line.entry.what {
             What::Put(t) => keep_own(&mut self.brought, line.node, &t, t.first),
             What::Got(link, note) => keep_note(&mut self.brought, plan, line.node, link, &note),
-            What::Took(r) => take_record(&mut self.records, &self.dead, plan, line.node, &r),
+            What::Took(r) => take_record(&mut self.records, plan, line.node, &r),
             What::Dropped(r) => {
                 self.records.remove(line.node, &r);
                 Ok(())
             }
-            What::Died => take_death(&mut self.dead, &mut self.records, line.node),
+            What::Died | What::Returned => {
+                self.records.clear(line.node);
+                Ok(())
+            }
             _ => Ok(()),
         }
     }

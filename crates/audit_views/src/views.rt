@@ -12,9 +12,9 @@ ghost use Rattle.audit_frame.specs.Tables.{mark_under, seat_by, seat_under, unle
 ghost use Rattle.audit_views.specs.Views.{TellsViews, IsInstancePart, IsTakenPart, LateArePart, RunsOutUpTo, Touches, is_in_time, is_in_view, is_marked, of_instance};
 ghost use Rattle.audit_views.specs.declared.views.Stopped.{Stopped};
 
-use crate::cubs::{take_death, take_record};
+use crate::cubs::take_record;
 use crate::records::{Records, held_by, is_seated};
-use audit_frame::{Line, Marks, Numbers, Seats, is_within, line_at};
+use audit_frame::{Line, Marks, Seats, is_within, line_at};
 use node_kit::What;
 use slot_plan::Plan;
 use std::alloc::Global;
@@ -28,7 +28,7 @@ pub struct Stopped {
 }
 
 /// What is kept of the entries so far: the last tenancy that was put into each slot, the latest stop of each instance,
-/// all stops, who died, the records in the views of those who live, and the beat of the last entry.
+/// all stops, the records in the views of the cubs, and the beat of the last entry.
 // A stop takes nobody out of the seats: who was stopped is never seated again, so that a seat counts unless its instance
 // was stopped.
 #[derive(Drop)]
@@ -36,7 +36,6 @@ struct SoFar {
     seats: Seats,
     latest: Marks,
     stops: Vec<Stopped>,
-    dead: Numbers,
     records: Records,
     beat: Beat,
 }
@@ -44,7 +43,7 @@ struct SoFar {
 /// The first entry of a log after which some cub's view has a record that is no part of the schedule; `None` if there is
 /// none. No entry of the log stands behind one of a later beat. Each entry costs the logarithm of the number of records
 /// and of that of stops; a Put a look at each record of the instance that had its slot; a stop that runs out the logarithm of
-/// the number of records; and a death a look at each record.
+/// the number of records; and a death or a return a look at each record.
 ///
 /// `NoMemory` is the only error.
 pub fn first_stray_view<'a>(
@@ -72,7 +71,6 @@ impl SoFar {
         ensures seats { result.seats ≡ [] }
         ensures latest { result.latest ≡ [] }
         ensures stops { result.stops.items ≡ [] }
-        ensures dead { result.dead ≡ [] }
         ensures records { result.records ≡ [] }
         ensures beat { result.beat ≡ 0 }
     {
@@ -80,7 +78,6 @@ impl SoFar {
             seats: Seats::new(alloc),
             latest: Marks::new(alloc),
             stops: Vec::new(alloc),
-            dead: Numbers::new(alloc),
             records: Records::new(alloc),
             beat: 0,
         }
@@ -90,13 +87,13 @@ impl SoFar {
     fn step<'a>(&mut self, plan: &Plan, line: &Line<'a>) -> Result<bool, NoMemory>
         ensures tells { OnOk result ((m : Moment)
             → TellsViews plan.now.params self.old.seats self.old.latest self.old.stops.items
-            self.old.dead self.old.records self.old.beat m
+            self.old.records self.old.beat m
             → m.beat ≤ line.now.entry.now.stamp.beat
             → TellsViews plan.now.params self.new.seats self.new.latest self.new.stops.items
-            self.new.dead self.new.records self.new.beat (next_moment m (noted_line line.now))) }
+            self.new.records self.new.beat (next_moment m (noted_line line.now))) }
         ensures part { IfOk result (λ part. (m : Moment)
             → TellsViews plan.now.params self.old.seats self.old.latest self.old.stops.items
-            self.old.dead self.old.records self.old.beat m
+            self.old.records self.old.beat m
             → m.beat ≤ line.now.entry.now.stamp.beat → ViewsArePart plan.now.params m
             → IsTrue part ↔ ViewsArePart plan.now.params (next_moment m (noted_line line.now))) }
     {
@@ -136,21 +133,24 @@ impl SoFar {
     fn take<'a>(&mut self, plan: &Plan, line: &Line<'a>) -> Result<(), NoMemory>
         ensures { OnOk result ((m : Moment)
             → TellsViews plan.now.params self.old.seats self.old.latest self.old.stops.items
-            self.old.dead self.old.records self.old.beat m
+            self.old.records self.old.beat m
             → m.beat ≤ line.now.entry.now.stamp.beat
             → TellsViews plan.now.params self.new.seats self.new.latest self.new.stops.items
-            self.new.dead self.new.records self.new.beat (next_moment m (noted_line line.now))) }
+            self.new.records self.new.beat (next_moment m (noted_line line.now))) }
     {
         self.beat = line.entry.stamp.beat;
         match line.entry.what {
             What::Put(t) => seat(&mut self.seats, &self.latest, &t),
             What::Gone(v) => keep_stop(&mut self.latest, &mut self.stops, v, line.entry.stamp.beat),
-            What::Took(r) => take_record(&mut self.records, &self.dead, plan, line.node, &r),
+            What::Took(r) => take_record(&mut self.records, plan, line.node, &r),
             What::Dropped(r) => {
                 self.records.remove(line.node, &r);
                 Ok(())
             }
-            What::Died => take_death(&mut self.dead, &mut self.records, line.node),
+            What::Died | What::Returned => {
+                self.records.clear(line.node);
+                Ok(())
+            }
             _ => Ok(()),
         }
     }
@@ -159,7 +159,7 @@ impl SoFar {
     fn is_taken_part<'a>(&self, plan: &Plan, line: &Line<'a>) -> bool
         ensures { (m : Moment)
             → TellsViews plan.now.params self.now.seats self.now.latest self.now.stops.items
-            self.now.dead self.now.records self.now.beat m
+            self.now.records self.now.beat m
             → IsTrue result
             ↔ IsTakenPart plan.now.params m line.now.node.0 line.now.entry.now.what }
     {
@@ -173,7 +173,7 @@ impl SoFar {
     fn is_kept_part(&self, plan: &Plan, node: NodeNo, r: &Rec) -> bool
         ensures { (m : Moment)
             → TellsViews plan.now.params self.now.seats self.now.latest self.now.stops.items
-            self.now.dead self.now.records self.now.beat m
+            self.now.records self.now.beat m
             → IsTrue result ↔ (IsTrue (is_in_view plan.now.params m node.0 r.now)
             → IsPart plan.now.params m r.now.tenancy r.now.visit) }
     {
@@ -188,7 +188,7 @@ impl SoFar {
     fn is_record_part(&self, plan: &Plan, node: NodeNo, r: &Rec) -> bool
         ensures { (m : Moment)
             → TellsViews plan.now.params self.now.seats self.now.latest self.now.stops.items
-            self.now.dead self.now.records self.now.beat m
+            self.now.records self.now.beat m
             → IsTrue result ↔ IsPart plan.now.params m r.now.tenancy r.now.visit }
     {
         match self.latest.get(r.tenancy.instance.0) {
@@ -201,7 +201,7 @@ impl SoFar {
     fn is_touched_part(&self, plan: &Plan, touched: Option<Instance>) -> bool
         ensures { (m : Moment)
             → TellsViews plan.now.params self.now.seats self.now.latest self.now.stops.items
-            self.now.dead self.now.records self.now.beat m
+            self.now.records self.now.beat m
             → IsTrue result ↔ ((v : Instance) → touched ≡ Some v
             → IsInstancePart plan.now.params m v.0) }
     {
@@ -215,7 +215,7 @@ impl SoFar {
     fn are_late_part(&self, plan: &Plan, before: Beat) -> bool
         ensures { (m : Moment)
             → TellsViews plan.now.params self.now.seats self.now.latest self.now.stops.items
-            self.now.dead self.now.records self.now.beat m
+            self.now.records self.now.beat m
             → IsTrue result ↔ LateArePart plan.now.params m before }
     {
         if is_same_beat(before, self.beat) {
@@ -231,7 +231,7 @@ impl SoFar {
         requires { to ≤ length self.now.stops.items }
         ensures { (m : Moment)
             → TellsViews plan.now.params self.now.seats self.now.latest self.now.stops.items
-            self.now.dead self.now.records self.now.beat m
+            self.now.records self.now.beat m
             → IsTrue result ↔ ((j : ℕ) (d : Stopped) → from ≤ j → j < to
             → IsInstancePart plan.now.params m
             (slice_index_or self.now.stops.items j d).instance.0) }
@@ -250,7 +250,7 @@ impl SoFar {
     fn are_part(&self, plan: &Plan, v: Instance) -> bool
         ensures { (m : Moment)
             → TellsViews plan.now.params self.now.seats self.now.latest self.now.stops.items
-            self.now.dead self.now.records self.now.beat m
+            self.now.records self.now.beat m
             → IsTrue result ↔ IsInstancePart plan.now.params m v.0 }
     {
         match self.latest.get(v.0) {

@@ -130,31 +130,73 @@ and_true true b = refl
 and_true false true = refl
 and_true false false = refl
 
-pub death_known : (old new : Cubs) (m : Moment) (x : Noted) → x.entry.what ≡ what.Died → new.believed ≡ old.believed → new.records ≡ old.records
+-- a death and a return empty a view
+abbrev empties : What → Bool
+empties what.Died = true
+empties what.Returned = true
+empties other = false
+
+emptied : (xs : List Rec) (w : What) → empties w ≡ true → recorded xs w ≡ []
+emptied xs what.Died e = refl
+emptied xs what.Returned e = refl
+emptied xs other e = absurd (false≢true e)
+
+emptied_here : (r : Rec) (b : Bool) (xs : List Rec) → (list_any (same_record r) xs && not b) ≡ list_any (same_record r) (cond b [] xs)
+emptied_here r true xs = none (list_any (same_record r) xs) where
+  none : (b : Bool) → (b && false) ≡ false
+  none true = refl
+  none false = refl
+emptied_here r false xs = same (list_any (same_record r) xs) where
+  same : (b : Bool) → (b && true) ≡ b
+  same true = refl
+  same false = refl
+
+records_emptied : (c : ℕ) (r : Rec) (old new : Cubs) (m : Moment) (x : Noted) → empties x.entry.what ≡ true
+    → ((d : ℕ) (q : Rec) → has_spot d q new.records ≡ (has_spot d q old.records && not (x.node == d)))
+    → TellsCubs old m → has_spot c r new.records ≡ list_any (same_record r) (cond (x.node == c) (recorded (m.records c) x.entry.what) (m.records c))
+records_emptied c r old new m x is cleared h =
+    cleared c r
+    ∙ ap (λ (b : Bool). b && not (x.node == c)) (h.records c r)
+    ∙ emptied_here r (x.node == c) (m.records c)
+    ∙ ap (λ (xs : List Rec). list_any (same_record r) (cond (x.node == c) xs (m.records c))) (sym (emptied (m.records c) x.entry.what is))
+
+pub return_known : (old new : Cubs) (m : Moment) (x : Noted) → x.entry.what ≡ what.Returned → new.dead ≡ old.dead → new.believed ≡ old.believed
+    → ((c : ℕ) (r : Rec) → has_spot c r new.records ≡ (has_spot c r old.records && not (x.node == c)))
+    → TellsCubs old m → TellsCubs new (next_moment m x)
+return_known old new m x is dead believed cleared h = cubs_told old new m x
+    (λ n. dead_still n old.dead new.dead x dead (ap is_died is))
+    (λ c d. belief_still c d old.believed new.believed x believed (ap (is_belief_of d) is))
+    (λ c r. records_emptied c r old new m x (ap empties is) cleared h)
+    h
+
+pub death_known : (old new : Cubs) (m : Moment) (x : Noted) → x.entry.what ≡ what.Died → new.believed ≡ old.believed
+    → ((c : ℕ) (r : Rec) → has_spot c r new.records ≡ (has_spot c r old.records && not (x.node == c)))
     → ((n : ℕ) → has_number n new.dead ≡ (has_number n old.dead || (x.node == n)))
     → TellsCubs old m → TellsCubs new (next_moment m x)
-death_known old new m x is believed records added h = cubs_told old new m x
+death_known old new m x is believed cleared added h = cubs_told old new m x
     (λ n. added n ∙ and_true (has_number n old.dead) (x.node == n)
     ∙ ap (λ (w : What). has_number n old.dead || ((x.node == n) && is_died w)) (sym is))
     (λ c d. belief_still c d old.believed new.believed x believed (ap (is_belief_of d) is))
-    (λ c r. records_still c r old new m x records (ap (recorded (m.records c)) is) h)
+    (λ c r. records_emptied c r old new m x (ap empties is) cleared h)
     h
 
 other_parts : (w : What) → ((r : Rec) → w ≡ what.Took r → ⊥) → ((r : Rec) → w ≡ what.Dropped r → ⊥) → ((c : CubNo) → w ≡ what.Believed c → ⊥)
-    → (w ≡ what.Died → ⊥) → (is_died w ≡ false) × (((d : ℕ) → is_belief_of d w ≡ false) × ((xs : List Rec) → recorded xs w ≡ xs))
-other_parts (what.Took r) a b c d = absurd (a r refl)
-other_parts (what.Dropped r) a b c d = absurd (b r refl)
-other_parts (what.Believed k) a b c d = absurd (c k refl)
-other_parts what.Died a b c d = absurd (d refl)
-other_parts other a b c d = (refl, ((λ k. refl), (λ xs. refl)))
+    → (w ≡ what.Died → ⊥) → (w ≡ what.Returned → ⊥) → (is_died w ≡ false) × (((d : ℕ) → is_belief_of d w ≡ false) × ((xs : List Rec) → recorded xs w ≡ xs))
+other_parts (what.Took r) a b c d e = absurd (a r refl)
+other_parts (what.Dropped r) a b c d e = absurd (b r refl)
+other_parts (what.Believed k) a b c d e = absurd (c k refl)
+other_parts what.Died a b c d e = absurd (d refl)
+other_parts what.Returned a b c d e = absurd (e refl)
+other_parts other a b c d e = (refl, ((λ k. refl), (λ xs. refl)))
 
 pub other_known : (s : Cubs) (m : Moment) (x : Noted) → ((r : Rec) → x.entry.what ≡ what.Took r → ⊥) → ((r : Rec) → x.entry.what ≡ what.Dropped r → ⊥)
-    → ((c : CubNo) → x.entry.what ≡ what.Believed c → ⊥) → (x.entry.what ≡ what.Died → ⊥) → TellsCubs s m → TellsCubs s (next_moment m x)
-other_known s m x a b c d h =
-    let parts = other_parts x.entry.what a b c d in
+    → ((c : CubNo) → x.entry.what ≡ what.Believed c → ⊥) → (x.entry.what ≡ what.Died → ⊥)
+    → (x.entry.what ≡ what.Returned → ⊥) → TellsCubs s m → TellsCubs s (next_moment m x)
+other_known s m x a b c d e h =
+    let parts = other_parts x.entry.what a b c d e in
     cubs_told s s m x
     (λ n. dead_still n s.dead s.dead x refl parts.0)
-    (λ k e. belief_still k e s.believed s.believed x refl (parts.1.0 e))
+    (λ k f. belief_still k f s.believed s.believed x refl (parts.1.0 f))
     (λ k r. records_still k r s s m x refl (parts.1.1 (m.records k)) h)
     h
 
@@ -247,15 +289,4 @@ spots_tell p h s m c beat slot visit holders cubs = (there, back) where
 
 pub excuses_is : (p : Params) (h : Holders) (s : Cubs) (m : Moment) (c beat slot visit : ℕ) → TellsHolders p h m.schedule → TellsCubs s m
     → IsTrue (excuses_in p h s c beat slot visit) ↔ AnyByRecursion (IsOfRecentlyStopped p m beat slot visit) (view_of m c)
-excuses_is p h s m c beat slot visit holders cubs =
-    let all = spots_tell p h s m c beat slot visit holders cubs in
-    subst (λ (b : Bool). IsTrue (not b && list_any (λ x. is_spot_of c slot visit x && is_excusing p h beat x) s.records)
-    ↔ AnyByRecursion (IsOfRecentlyStopped p m beat slot visit) (view_of m c)) (cubs.dead c) (go (m.dead c) all)
-  where
-    go : (b : Bool)
-        → IsTrue (list_any (λ x. is_spot_of c slot visit x && is_excusing p h beat x) s.records)
-        ↔ AnyByRecursion (IsOfRecentlyStopped p m beat slot visit) (m.records c)
-        → IsTrue (not b && list_any (λ x. is_spot_of c slot visit x && is_excusing p h beat x) s.records)
-        ↔ AnyByRecursion (IsOfRecentlyStopped p m beat slot visit) (cond b [] (m.records c))
-    go true all = ((λ t. absurd (false≢true t)), (λ t. absurd t))
-    go false all = all
+excuses_is p h s m c beat slot visit holders cubs = spots_tell p h s m c beat slot visit holders cubs

@@ -18,7 +18,7 @@ use Rattle.run_model.specs.Moments.{Moment, view_of}
 use Rattle.run_model.specs.Schedule.{is_stopped}
 use Rattle.run_model.specs.Orders.{IsNotPassedOver, IsOfRecentlyStopped, IsOrdered, IsStartOf, IsTaken, HasStart}
 use Rattle.run_model.proofs.Reflects.{and_both, and_left, and_right, or_either, or_first, or_second, at_most, either}
-use Rattle.audit_frame.specs.Tables.{has_pair}
+use Rattle.audit_frame.specs.Tables.{has_number, has_pair}
 use Rattle.audit_waits.specs.Groups.{has_group}
 use Rattle.audit_waits.specs.Cubs.{excuses_in}
 use Rattle.audit_waits.specs.Holders.{has_its_visit, holder_in}
@@ -221,12 +221,13 @@ served_for p orders s m c beat reading redundant cub tells patient has k low v w
     (ap m.put who ∙ w.put) (ap (λ (i : ℕ). is_stopped i m.schedule.stops) who ∙ w.stopped) in_plan (on ∙ sym disk) window
 
 tick_there : (p : Params) (orders : List Order) (s : SoFar) (m : Moment) (c beat reading before : ℕ) → IsPlan p → c < p.cubs
-    → before ≡ (c + p.cubs - 1) % p.cubs → TellsWaits p orders s m → AreDisksServed p s.starts.disks m c beat reading false c
+    → before ≡ (c + p.cubs - 1) % p.cubs → TellsWaits p orders s m
+    → (m.dead c ≡ false → AreDisksServed p s.starts.disks m c beat reading false c)
     → (m.believed c before ≡ true → AreDisksServed p s.starts.disks m c beat reading true before) → IsNotPassedOver p orders m c beat reading
 tick_there p orders s m c beat reading before plan low is tells own other = record {
   taken = λ ask slot visit ordered start put stopped in_plan on window. ⊎_elim
-      (λ a. taken_for p orders s m c beat reading false c ask plan tells own ordered
-      (subst (λ (n : ℕ). AnyByRecursion (λ e. IsStartOf ask.instance.0 false e.what) (m.journal n)) (sym a.0) a.1)
+      (λ a. taken_for p orders s m c beat reading false c ask plan tells (own a.1.0) ordered
+      (subst (λ (n : ℕ). AnyByRecursion (λ e. IsStartOf ask.instance.0 false e.what) (m.journal n)) (sym a.0) a.1.1)
       put stopped a.0 slot visit in_plan on window)
       (λ a.
       let back = cub_back p.cubs c before ask.disk.0 low is a.0 in
@@ -239,16 +240,16 @@ tick_there p orders s m c beat reading before plan low is tells own other = reco
 
 tick_back : (p : Params) (orders : List Order) (s : SoFar) (m : Moment) (c beat reading before : ℕ) → c < p.cubs → before < p.cubs
     → before ≡ (c + p.cubs - 1) % p.cubs → TellsWaits p orders s m → IsNotPassedOver p orders m c beat reading
-    → AreDisksServed p s.starts.disks m c beat reading false c
+    → (m.dead c ≡ false → AreDisksServed p s.starts.disks m c beat reading false c)
     × (m.believed c before ≡ true → AreDisksServed p s.starts.disks m c beat reading true before)
 tick_back p orders s m c beat reading before low early is tells patient = (
-  served_for p orders s m c beat reading false c tells patient
+  (λ lives. served_for p orders s m c beat reading false c tells patient
       (λ k ask disk got.
       let on = own_disk p.cubs c k low in
       inl (
         ap (λ (n : ℕ). n % p.cubs) disk ∙ on,
-        subst (λ (n : ℕ). AnyByRecursion (λ e. IsStartOf ask.instance.0 false e.what) (m.journal n)) on got,
-      )),
+        (lives, subst (λ (n : ℕ). AnyByRecursion (λ e. IsStartOf ask.instance.0 false e.what) (m.journal n)) on got),
+      ))),
   (λ believed. served_for p orders s m c beat reading true before tells patient
       (λ k ask disk got.
       let on = next_disk p.cubs c before k low is in
@@ -260,6 +261,21 @@ tick_back p orders s m c beat reading before low early is tells patient = (
           subst (λ (n : ℕ). AnyByRecursion (λ e. IsStartOf ask.instance.0 true e.what) (m.journal n)) on got,
         ),
       ))),
+)
+
+-- the plain starts of a cub count if it has never died
+pub not_living : (p : Params) (orders : List Order) (s : SoFar) (m : Moment) (c : ℕ) (died : Bool) (D : Type 0) → TellsWaits p orders s m
+    → died ≡ has_number c s.cubs.dead → died ≡ true → IsTrue true ↔ (m.dead c ≡ false → D)
+not_living p orders s m c died D tells told e = (
+  (λ t lives. absurd (false≢true (sym lives ∙ (tells.cubs.dead c ∙ (sym told ∙ e))))),
+  (λ f. refl),
+)
+
+pub is_living : (p : Params) (orders : List Order) (s : SoFar) (m : Moment) (c : ℕ) (died q : Bool) (D : Type 0) → TellsWaits p orders s m
+    → died ≡ has_number c s.cubs.dead → died ≡ false → IsTrue q ↔ D → IsTrue q ↔ (m.dead c ≡ false → D)
+is_living p orders s m c died q D tells told e judged = (
+  (λ t lives. judged.0 t),
+  (λ f. judged.1 (f (tells.cubs.dead c ∙ (sym told ∙ e)))),
 )
 
 -- the redundant starts of the cub before a cub count if that one is believed dead
@@ -279,7 +295,7 @@ is_believed p orders s m c before believes q D tells told e judged = (
 
 pub tick_judged : (p : Params) (orders : List Order) (s : SoFar) (m : Moment) (c beat reading before : ℕ) (own other : Bool) → IsPlan p
     → c < p.cubs → before < p.cubs → before ≡ (c + p.cubs - 1) % p.cubs → TellsWaits p orders s m
-    → IsTrue own ↔ AreDisksServed p s.starts.disks m c beat reading false c
+    → IsTrue own ↔ (m.dead c ≡ false → AreDisksServed p s.starts.disks m c beat reading false c)
     → IsTrue other ↔ (m.believed c before ≡ true → AreDisksServed p s.starts.disks m c beat reading true before)
     → IsTrue (own && other) ↔ IsNotPassedOver p orders m c beat reading
 tick_judged p orders s m c beat reading before own other plan low early is tells first second = (

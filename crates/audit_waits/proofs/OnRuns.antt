@@ -22,7 +22,7 @@ no_start v redundant (x ∷ xs) e h = absurd (cc)
 pub idle : (p : Params) (orders : List Order) (m : Moment) (cub beat reading : ℕ) → m.journal cub ≡ [] → IsNotPassedOver p orders m cub beat reading
 idle p orders m cub beat reading e = record {
   taken = λ a slot visit o s put gone l d w. ⊎_elim
-      (λ own. absurd (no_start a.instance.0 false (m.journal cub) e own.1))
+      (λ own. absurd (no_start a.instance.0 false (m.journal cub) e own.1.1))
       (λ next. absurd (no_start a.instance.0 true (m.journal cub) e next.1.1)) s;
 }
 
@@ -56,9 +56,33 @@ in_two_beats k eight two first second cub beat reading low t =
     go (suc zero) l p q = q
     go (suc (suc b)) l p q = absurd (omega (arith, l))
 
+pub in_three_beats : (k : Kept) → k.course.plan.params.cubs ≡ 8 → k.course.beats ≡ 3 → ((cub : ℕ) → cub < 8 → PassesNone k 0 cub)
+    → ((cub : ℕ) → cub < 8 → PassesNone k 1 cub) → ((cub : ℕ) → cub < 8 → PassesNone k 2 cub) → IsDecidedOf k None
+in_three_beats k eight three first second third cub beat reading low t =
+    let early = t.0 in
+    let inside : cub < 8 = omega (arith, eight, low) in
+    subst (λ (r : ℕ). IsNotPassedOver k.course.plan.params k.orders (end_of_tick beat cub (order_in k)) cub beat r) (sym t.2)
+    (go beat (omega (arith, three, early)) (first cub inside) (second cub inside) (third cub inside) t.1)
+  where
+    go : (b : ℕ) → b < 3 → PassesNone k 0 cub → PassesNone k 1 cub → PassesNone k 2 cub → PassesNone k b cub
+    go zero l p q r = p
+    go (suc zero) l p q r = q
+    go (suc (suc zero)) l p q r = r
+    go (suc (suc (suc b))) l p q r = absurd (omega (arith, l))
+
 -- what the cubs pass in beat 0 is all that comes before beat 1
 pub passes_before : (k : Kept) (cub beat reading : ℕ) → ((c : ℕ) → c < 8 → PassesNone k 0 c) → cub < 8 → beat < 1 → ticks_in k.course cub beat reading
     → IsNotPassedOver k.course.plan.params k.orders (end_of_tick beat cub (order_in k)) cub beat reading
 passes_before k cub zero reading first low l t =
     subst (λ (r : ℕ). IsNotPassedOver k.course.plan.params k.orders (end_of_tick 0 cub (order_in k)) cub 0 r) (sym t.2) (first cub low t.1)
 passes_before k cub (suc b) reading first low l t = absurd (omega (arith, l))
+
+-- and what they pass in beats 0 and 1 is all that comes before beat 2
+pub passes_before_two : (k : Kept) (cub beat reading : ℕ) → ((c : ℕ) → c < 8 → PassesNone k 0 c) → ((c : ℕ) → c < 8 → PassesNone k 1 c)
+    → cub < 8 → beat < 2 → ticks_in k.course cub beat reading
+    → IsNotPassedOver k.course.plan.params k.orders (end_of_tick beat cub (order_in k)) cub beat reading
+passes_before_two k cub zero reading first second low l t =
+    subst (λ (r : ℕ). IsNotPassedOver k.course.plan.params k.orders (end_of_tick 0 cub (order_in k)) cub 0 r) (sym t.2) (first cub low t.1)
+passes_before_two k cub (suc zero) reading first second low l t =
+    subst (λ (r : ℕ). IsNotPassedOver k.course.plan.params k.orders (end_of_tick 1 cub (order_in k)) cub 1 r) (sym t.2) (second cub low t.1)
+passes_before_two k cub (suc (suc b)) reading first second low l t = absurd (omega (arith, l))

@@ -15,7 +15,7 @@ use Rattle.audit_frame.proofs.Added.{turned}
 use Rattle.audit_frame.proofs.Spans.{same_test}
 use Rattle.audit_waits.specs.Spots.{has_spot, is_one_spot, is_spot_of, lowest_spot, record_on, spot_by, spot_cmp}
 use Rattle.audit_waits.specs.declared.spots.Spot.{Spot}
-use Rattle.audit_waits.proofs.Keyed.{one, flag, own_number, own_flag, or_turned, and_not, le_then, le_is, low, least_flag, filter_alike}
+use Rattle.audit_waits.proofs.Keyed.{one, flag, own_number, own_flag, or_turned, and_not, le_then, le_is, low, least_flag, any_filtered, filter_alike}
 use Rattle.audit_waits.proofs.Recorded.{kind_again, flag_again, one_record, record_itself}
 
 -- ---- numbers in one order are the same numbers
@@ -85,6 +85,15 @@ spot_removed n c r q key old mid new view is e =
     e ∙ ap (λ (k : Spot). cond (is_eq (spot_cmp k (spot_by c q))) false (has_spot c q mid)) is
     ∙ and_not (is_one_spot n r c q) (has_spot c q mid)
     ∙ ap (λ (rows : List Spot). has_spot c q rows && not (is_one_spot n r c q)) view
+
+-- none of one cub is left
+pub cub_cleared : (n c : ℕ) (q : Rec) (old mid new : List Spot) → mid ≡ old → new ≡ filter (λ s. not (n == s.cub)) mid
+    → has_spot c q new ≡ (has_spot c q old && not (n == c))
+cub_cleared n c q old mid new view is =
+    ap (has_spot c q) is
+    ∙ any_filtered (λ s. is_eq (spot_cmp (spot_by c q) s)) (λ s. not (n == s.cub)) (not (n == c)) mid
+    (λ s e. ap (λ (k : Spot). not (n == k.cub)) (sym (one_spot (spot_by c q) s e)))
+    ∙ ap (λ (rows : List Spot). has_spot c q rows && not (n == c)) view
 
 -- ---- the records of a visit stand between two numbers
 

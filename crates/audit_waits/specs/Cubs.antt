@@ -1,5 +1,5 @@
--- What a walk keeps of cubs: who died, whom they believe dead, and the records that they took and did not drop.
-use Rattle.std.specs.Prelude.{◌≡◌, ℕ, Bool, not, ◌&&◌}
+-- What a walk keeps of cubs: who has ever died, whom they believe dead, and the records in their views.
+use Rattle.std.specs.Prelude.{◌≡◌, ℕ, Bool, ◌&&◌}
 use Rattle.std.specs.List.{list_any}
 use Rattle.tiger_base.specs.declared.tenancy.Rec.{Rec}
 use Rattle.slot_plan.specs.declared.params.Params.{Params}
@@ -22,7 +22,7 @@ pub record TellsCubs (s : Cubs) (m : Moment) : Type 0 where
 abbrev pub is_excusing : Params → Holders → ℕ → Spot → Bool
 is_excusing p h beat s = is_latest_recent p beat (mark_under s.instance h.stops)
 
--- whether a cub that lives has such a record of a visit of a slot
+-- whether a cub has such a record of a visit of a slot
 abbrev pub excuses_in : Params → Holders → Cubs → ℕ → ℕ → ℕ → ℕ → Bool
 excuses_in p h s c beat slot visit =
-    not (has_number c s.dead) && list_any (λ x. is_spot_of c slot visit x && is_excusing p h beat x) s.records
+    list_any (λ x. is_spot_of c slot visit x && is_excusing p h beat x) s.records

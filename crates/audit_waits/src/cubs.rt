@@ -1,9 +1,11 @@
-//! Who died, whom cubs believe dead and which records they have, as far as the entries tell that a walk has passed.
-ghost use Rattle.std.specs.Prelude.{◌≡◌, ◌≤◌, ◌^◌, ℕ, [], OnOk};
+//! Who has ever died, whom cubs believe dead and which records they have, as far as the entries tell that a walk has passed.
+ghost use Rattle.std.specs.Prelude.{◌≡◌, ◌≤◌, ◌^◌, ◌==◌, ◌&&◌, ◌||◌, not, ℕ, [], OnOk};
+ghost use Rattle.tiger_base.specs.declared.tenancy.Rec.{Rec};
 ghost use Rattle.run_model.specs.Moments.{Moment, next_moment};
 ghost use Rattle.audit_frame.specs.Lines.{noted_line};
-ghost use Rattle.audit_frame.specs.Tables.{has_pair};
+ghost use Rattle.audit_frame.specs.Tables.{has_number, has_pair};
 ghost use Rattle.audit_waits.specs.Cubs.{TellsCubs, excuses_in};
+ghost use Rattle.audit_waits.specs.Spots.{has_spot};
 
 use crate::holders::Holders;
 use crate::spots::Spots;
@@ -13,7 +15,7 @@ use slot_plan::Plan;
 use std::alloc::Global;
 use tiger_base::{Beat, NoMemory, NodeNo, SlotNo, Visit};
 
-/// Who died, whom the cubs believe dead, and the records that they took and did not drop.
+/// Who has ever died, whom the cubs believe dead, and the records in their views.
 #[derive(Drop)]
 pub struct Cubs {
     dead: Numbers,
@@ -42,8 +44,14 @@ impl Cubs {
         self.believed.has(cub.0, other.0)
     }
 
-    /// Whether a cub that lives has a record of a visit of a slot whose instance was stopped a block play time before a
-    /// beat at most.
+    /// Whether a cub has ever died.
+    pub fn has_died(&self, cub: NodeNo) -> bool
+        ensures { result ≡ has_number cub.0 self.now.dead }
+    {
+        self.dead.has(cub.0)
+    }
+
+    /// Whether a cub has a record of a visit of a slot whose instance was stopped a block play time before a beat at most.
     pub fn has_excuse(
         &self,
         plan: &Plan,
@@ -56,9 +64,6 @@ impl Cubs {
         requires { visit ≤ 2 ^ 32 }
         ensures { result ≡ excuses_in plan.now.params holders.now self.now cub.0 beat slot.0 visit }
     {
-        if self.dead.has(cub.0) {
-            return false;
-        }
         self.records
             .has_excuse(plan, holders, beat, cub, slot, visit)
     }
@@ -75,8 +80,24 @@ impl Cubs {
                 Ok(())
             }
             What::Believed(other) => self.believed.add(line.node.0, other.0),
-            What::Died => self.dead.add(line.node.0),
+            What::Died => self.take_death(line.node),
+            What::Returned => {
+                self.records.clear(line.node);
+                Ok(())
+            }
             _ => Ok(()),
         }
+    }
+
+    /// Takes the death of a node, with which its records go.
+    fn take_death(&mut self, node: NodeNo) -> Result<(), NoMemory>
+        ensures believed { self.new.believed ≡ self.old.believed }
+        ensures records { OnOk result ((c : ℕ) (q : Rec) → has_spot c q self.new.records
+            ≡ (has_spot c q self.old.records && not (node.0 == c))) }
+        ensures dead { OnOk result ((n : ℕ) → has_number n self.new.dead
+            ≡ (has_number n self.old.dead || (node.0 == n))) }
+    {
+        self.records.clear(node);
+        self.dead.add(node.0)
     }
 }

@@ -5,7 +5,7 @@ ghost use Rattle.tiger_base.specs.Records.{own_of};
 ghost use Rattle.slot_plan.specs.Conditions.{IsPlan};
 ghost use Rattle.slot_plan.specs.Samples.{small};
 ghost use Rattle.node_kit.specs.declared.course.Kept.{Kept};
-ghost use Rattle.run_model.specs.Samples.{ask, believes, dying, gone, kept, ordered, put, seat, starts, three, took};
+ghost use Rattle.run_model.specs.Samples.{ask, believes, is_back, dies, dying, gone, kept, kept_of_lives, of_none, ordered, put, seat, starts, three, took};
 ghost use Rattle.audit_waits.specs.Samples.{IsDecidedOf, passed_at};
 
 /// In beat 0 visit 0 of slot 1 is in the window, which is disk 0's. Cub 0 gets the start of instance 0 in that beat, and puts it
@@ -45,4 +45,27 @@ pub fn redundant()
     ensures of_the_dead { (k : Kept) (p : IsPlan small) → IsDecidedOf
         (kept k p 1 (dying None None None) ordered (starts 1 0 ask true ∷ believes 1 0 0 ∷ []))
         (Some (passed_at 1 0 (Some 1))) }
+{}
+
+/// Cub 0 gets the start in beat 2, in which it comes back from its death in beat 0; or it has never died.
+pub fn returned()
+    ensures puts_nobody { (k : Kept) (p : IsPlan small) → IsDecidedOf
+        (kept_of_lives k p 3 (dying (Some 0) None None) of_none (dying (Some 2) None None) ordered
+        (dies 0 0 ∷ is_back 0 2 ∷ starts 0 2 ask false ∷ [])) None }
+    ensures never_died { (k : Kept) (p : IsPlan small) → IsDecidedOf
+        (kept k p 3 of_none ordered (starts 0 2 ask false ∷ []))
+        (Some (passed_at 0 2 (Some 0))) }
+{}
+
+/// Cub 1 comes back in beat 2 from its death in beat 0, believes cub 0 dead and gets the redundant start. A record of instance 1,
+/// which was stopped, is in the way, if the cub took it since, and not before.
+pub fn records_of_returned()
+    ensures since { (k : Kept) (p : IsPlan small) → IsDecidedOf
+        (kept_of_lives k p 3 (dying None (Some 0) None) of_none (dying None (Some 2) None) ordered
+        (dies 1 0 ∷ gone 0 1 ∷ is_back 1 2 ∷ believes 1 2 0 ∷ starts 1 2 ask true
+        ∷ took 1 2 (own_of (seat 1 0 2) 0) ∷ [])) None }
+    ensures of_a_former_life { (k : Kept) (p : IsPlan small) → IsDecidedOf
+        (kept_of_lives k p 3 (dying None (Some 0) None) of_none (dying None (Some 2) None) ordered
+        (took 1 0 (own_of (seat 1 0 2) 0) ∷ dies 1 0 ∷ gone 0 1 ∷ is_back 1 2 ∷ believes 1 2 0
+        ∷ starts 1 2 ask true ∷ [])) (Some (passed_at 1 2 (Some 5))) }
 {}

@@ -1,5 +1,5 @@
-//! The records that cubs took and did not drop, as a set in which those of one visit of a slot stand together.
-ghost use Rattle.std.specs.Prelude.{◌≡◌, ◌&&◌, ◌||◌, not, ◌≤◌, ◌^◌, ℕ, [], OnOk};
+//! The records in the views of cubs, as a set in which those of one visit of a slot stand together.
+ghost use Rattle.std.specs.Prelude.{◌≡◌, ◌==◌, ◌&&◌, ◌||◌, not, ◌≤◌, ◌^◌, ℕ, [], OnOk};
 ghost use Rattle.std.specs.List.{list_any};
 ghost use Rattle.tiger_base.specs.declared.tenancy.Rec.{Rec};
 ghost use Rattle.audit_waits.specs.Cubs.{is_excusing};
@@ -66,6 +66,14 @@ impl Spots {
     {
         let spot = spot_by(cub, r);
         self.kept.remove(&spot);
+    }
+
+    /// Takes all records from a cub.
+    pub fn clear(&mut self, cub: NodeNo)
+        ensures { (c : ℕ) (q : Rec) → has_spot c q self.new
+            ≡ (has_spot c q self.old && not (cub.0 == c)) }
+    {
+        self.kept.retain(|spot| cub.0 != spot.cub);
     }
 
     /// Whether a cub has a record of a visit of a slot whose instance was stopped a block play time before a beat at most.

@@ -1,5 +1,5 @@
 //! Whether no start that waits is passed over at the tick of a cub.
-ghost use Rattle.std.specs.Prelude.{◌≡◌, ◌↔◌, ◌<◌, ◌≤◌, ◌+◌, ◌*◌, ◌%◌, ◌-◌, ◌&&◌, true, ℕ, List, IsTrue};
+ghost use Rattle.std.specs.Prelude.{◌≡◌, ◌↔◌, ◌<◌, ◌≤◌, ◌+◌, ◌*◌, ◌%◌, ◌-◌, ◌&&◌, false, true, ℕ, List, IsTrue};
 ghost use Rattle.std.specs.Option.{ForSome};
 ghost use Rattle.tiger_base.specs.Limits.{most_reading};
 ghost use Rattle.slot_plan.specs.Keys.{Key, IsKey};
@@ -37,9 +37,27 @@ impl SoFar {
             ↔ IsNotPassedOver plan.now.params orders m tick.cub.0 tick.beat tick.reading }
     {
         let before = cub_before(plan, tick.cub);
-        let own = self.are_disks_served(plan, tick, false, tick.cub, marks);
+        let own = self.are_own_served(plan, tick, marks);
         let other = self.are_others_served(plan, tick, before, marks);
         are_both(own, other)
+    }
+
+    /// Whether the cub has ever died, or takes each visit in the window of each of its disks for which a plain start waits.
+    fn are_own_served(&self, plan: &Plan, tick: Tick, marks: &mut Vec<Mark>) -> bool
+        requires cub { tick.cub.0 < plan.now.params.cubs }
+        requires reading { tick.reading ≤ most_reading }
+        requires marks { AreMarks plan.now.params self.now.holders marks.old.items }
+        ensures marks { AreMarks plan.now.params self.now.holders marks.new.items }
+        ensures served { (orders : List Order) (m : Moment) → TellsWaits plan.now.params orders self.now m
+            → IsTrue result ↔ (m.dead tick.cub.0 ≡ false
+            → AreDisksServed plan.now.params self.now.starts.disks m
+            tick.cub.0 tick.beat tick.reading false tick.cub.0) }
+    {
+        let died = self.cubs.has_died(NodeNo(tick.cub.0));
+        if died {
+            return true;
+        }
+        self.are_disks_served(plan, tick, false, tick.cub, marks)
     }
 
     /// Whether the cub does not believe the cub before it dead, or takes each visit in the window of each disk of that cub for

@@ -1,4 +1,4 @@
-use Rattle.std.proofs.Common.{ℕ, zero, suc, ◌<◌, ◌≤◌, ◌==◌, ◌&&◌, ◌||◌, Bool, true, false, [], ◌∷◌, take, refl, sym, arith}
+use Rattle.std.proofs.Common.{ℕ, zero, suc, ◌<◌, ◌≤◌, ◌==◌, Bool, true, false, [], ◌∷◌, take, refl, sym, arith}
 use Rattle.std.specs.Prelude.{if◌then◌else◌}
 use Rattle.std.specs.List.{AllByRecursion}
 use Rattle.std.proofs.lemmas.Bool.{false≢true}
@@ -24,7 +24,7 @@ abbrev run : Kept → IsPlan small → Kept
 run k plan = kept k plan 1 of_none [] (believes 1 0 0 ∷ [])
 
 -- behind the entry a cub has no record, whether it wrote it or not
-none_held : (P : Rec → Type 0) (t : Bool) → AllByRecursion P (if false || (t && false) then [] else if t then [] else [])
+none_held : (P : Rec → Type 0) (t : Bool) → AllByRecursion P (if t then [] else [])
 none_held P true = tt
 none_held P false = tt
 

@@ -1,5 +1,4 @@
-use Rattle.std.proofs.Common.{◌≡◌, ℕ, zero, suc, ◌<◌, ◌≤◌, false, [], ◌∷◌, take, inl, inr, refl, arith}
-use Rattle.std.specs.List.{list_any}
+use Rattle.std.proofs.Common.{ℕ, zero, suc, ◌≤◌, [], ◌∷◌, take, inl, inr, refl, arith}
 use Rattle.tiger_base.specs.declared.message.Note.TheVariants.{Heartbeat}
 use Rattle.slot_plan.specs.Conditions.{IsPlan}
 use Rattle.slot_plan.specs.Samples.{small}
@@ -16,12 +15,9 @@ use Rattle.audit_orders.specs.declared.flaw.Flaw.TheVariants as flaw
 use Rattle.audit_orders.specs.declared.timing.Untimed.TheVariants as untimed
 use Rattle.audit_orders.proofs.Denying.{untimed_denies}
 use Rattle.audit_orders.proofs.Refuting.{uncarried_denies}
-use Rattle.audit_verdict.specs.Clauses.{MeetsClause, number_of_clause}
 use Rattle.audit_verdict.specs.Clocks.{ShowClocks, ShowsClocks}
-use Rattle.audit_verdict.specs.declared.clause.Clause.{Clause}
-use Rattle.audit_verdict.specs.declared.clause.Clause.TheVariants as clause
 use Rattle.audit_verdict.proofs.Clauses.{none_before}
-use Rattle.audit_verdict.proofs.Silent.{has_message, silent}
+use Rattle.audit_verdict.proofs.Silent.{carried_before}
 use Rattle.audit_verdict.proofs.rows.late.Goals as goal
 
 abbrev with_message : Kept → IsPlan small → Kept
@@ -70,10 +66,6 @@ written_late k plan = record {
     with_it = λ more. let high = more.1.reads.1.0.high in omega (arith, high);
   };
 }
-
-carried_before : (run : Kept) → list_any has_message run.journals ≡ false → (d : Clause) → number_of_clause d < 2 → MeetsClause run d
-carried_before run none clause.Carried low = silent run none
-carried_before run none other low = absurd (omega (arith, low))
 
 pub returns-clause-entry : goal.returns-clause-entry
 returns-clause-entry c k plan = record {

@@ -9,7 +9,7 @@ use Rattle.audit_views.proofs.local.first_not_local.Goals as goal
 
 pub loop-i-init : goal.loop-i-init
 loop-i-init c = record {
-  tells = none_local c.args.plan.now.params _ _ _ c.new-so_far.ensures.dead c.new-so_far.ensures.records c.new-so_far.ensures.brought;
+  tells = none_local c.args.plan.now.params _ _ c.new-so_far.ensures.records c.new-so_far.ensures.brought;
   right = tt;
 }
 
@@ -29,7 +29,7 @@ loop-i-preserved c =
     let now = state_at next_moment opening lines c.loop-i.i in
     let here = c.allows.ensures now c.loop-i.invariant.tells in
     record {
-      tells = subst (λ (m : Moment). TellsLocal p c.take.new.self.dead c.take.new.self.records c.take.new.self.brought m)
+      tells = subst (λ (m : Moment). TellsLocal p c.take.new.self.records c.take.new.self.brought m)
           (sym (state_next next_moment opening lines c.loop-i.i x c.loop-i-test.true c.line_at-line.ensures))
           (c.in_ok-take.ensures now c.loop-i.invariant.tells);
       right = right_here (IsLocal p) next_moment opening lines c.loop-i.i x c.loop-i-test.true c.line_at-line.ensures

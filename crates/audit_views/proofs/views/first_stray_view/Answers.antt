@@ -16,8 +16,8 @@ Is p m x = ViewsArePart p (next_moment m x)
 
 pub loop-i-init : goal.loop-i-init
 loop-i-init c = record {
-  tells = tells_opening c.args.plan.now.params _ _ _ _ _ _ c.new-so_far.ensures.seats c.new-so_far.ensures.latest
-      c.new-so_far.ensures.stops c.new-so_far.ensures.dead c.new-so_far.ensures.records c.new-so_far.ensures.beat;
+  tells = tells_opening c.args.plan.now.params _ _ _ _ _ c.new-so_far.ensures.seats c.new-so_far.ensures.latest
+      c.new-so_far.ensures.stops c.new-so_far.ensures.records c.new-so_far.ensures.beat;
   part = opening_part c.args.plan.now.params;
   right = tt;
 }
@@ -44,7 +44,7 @@ loop-i-preserved c =
     let fine = here.0 c.if-not-part.false in
     record {
       tells = subst (λ (m : Moment). TellsViews p c.step.new.self.seats c.step.new.self.latest c.step.new.self.stops.items
-          c.step.new.self.dead c.step.new.self.records c.step.new.self.beat m) next
+          c.step.new.self.records c.step.new.self.beat m) next
           (c.in_ok-part.ensures.tells now c.loop-i.invariant.tells early);
       part = subst (λ (m : Moment). ViewsArePart p m) next fine;
       right = right_here (Is p) next_moment opening lines c.loop-i.i x c.loop-i-test.true c.line_at-line.ensures c.loop-i.invariant.right fine;

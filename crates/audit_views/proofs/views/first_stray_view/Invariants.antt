@@ -7,7 +7,7 @@ use Rattle.audit_views.proofs.views.first_stray_view.Given as goal
 -- the tables tell the moment so far, at which and at each before it all views are part
 abbrev pub invariant-loop-i : goal.invariant-loop-i
 invariant-loop-i l = record {
-  tells : TellsViews l.plan.params l.so_far.seats l.so_far.latest l.so_far.stops.items l.so_far.dead l.so_far.records l.so_far.beat
+  tells : TellsViews l.plan.params l.so_far.seats l.so_far.latest l.so_far.stops.items l.so_far.records l.so_far.beat
       (state_at next_moment opening l.log l.i);
   part : ViewsArePart l.plan.params (state_at next_moment opening l.log l.i);
   right : AreRight (λ m x. ViewsArePart l.plan.params (next_moment m x)) next_moment opening l.log l.i;

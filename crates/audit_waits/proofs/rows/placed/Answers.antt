@@ -11,7 +11,7 @@ use Rattle.audit_waits.proofs.rows.placed.Goals as goal
 waits : IsNotPassedOver small ordered (end_of_tick 0 0 (starts 0 0 ask false ∷ [])) 0 0 0 → ⊥
 unfolding on_samples
 waits h = ⊎_elim (λ t. let holder = t.1 in absurd (cc)) (λ n. n)
-    (h.taken ask 1 0 (inl refl) (inl (refl, inl (refl, refl))) refl refl (omega arith) refl refl)
+    (h.taken ask 1 0 (inl refl) (inl (refl, (refl, inl (refl, refl)))) refl refl (omega arith) refl refl)
 
 pub returns-clause-at_once : goal.returns-clause-at_once
 unfolding on_samples

@@ -12,7 +12,7 @@ returns-clause-of_the_living c k plan =
     in_one_beat run refl refl (all_eight run 0 (λ ends. idle _ _ _ _ _ _ refl)
     (λ ends. record {
       taken = λ a slot visit o s p g l d w. ⊎_elim
-          (λ own. ⊎_elim (λ x. absurd (false≢true (sym x.1))) (λ n. absurd n) own.1)
+          (λ own. ⊎_elim (λ x. absurd (false≢true (sym x.1))) (λ n. absurd n) own.1.1)
           (λ next. absurd (false≢true next.1.0)) s;
     })
     (λ ends. idle _ _ _ _ _ _ refl) (λ ends. idle _ _ _ _ _ _ refl) (λ ends. idle _ _ _ _ _ _ refl)

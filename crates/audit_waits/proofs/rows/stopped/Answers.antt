@@ -62,7 +62,7 @@ returns-clause-free c k plan =
       low = omega arith;
       ticks = (omega arith, (refl, refl), refl);
       passed_over = λ h. ⊎_elim (λ t. let holder = t.1 in absurd (cc)) (λ n. n)
-          (h.taken ask 1 0 (inl refl) (inl (refl, inl (refl, refl))) refl refl (omega arith) refl refl);
+          (h.taken ask 1 0 (inl refl) (inl (refl, (refl, inl (refl, refl)))) refl refl (omega arith) refl refl);
       before = λ cub beat reading low ticks comes. ⊎_elim
           (λ l. passes_before run cub beat reading first low (omega (arith, l)) ticks)
           (λ e. let none = e.1 in absurd (omega (arith, none))) comes;

@@ -4,7 +4,7 @@ use Rattle.run_facts.specs.Order.{Noted}
 use Rattle.audit_frame.specs.Lines.{noted_line}
 use Rattle.audit_blocks.specs.declared.cargo.Cargo.{Cargo}
 use Rattle.audit_blocks.specs.Cargo.{cargo_got, whole_for, numbered_for}
-use Rattle.audit_blocks.specs.Entries.{puts_for, death_of_node, stops_below, fails_reading, fails_at_cub}
+use Rattle.audit_blocks.specs.Entries.{puts_for, death_of_node, return_of_node, stops_below, fails_reading, fails_at_cub}
 use Rattle.audit_blocks.specs.Parts.{has_part}
 use Rattle.audit_blocks.specs.Told.{is_some_piece, sends_cargo}
 use Rattle.audit_blocks.proofs.Adding.{grown, noticed, came_grown}
@@ -17,6 +17,7 @@ returns c =
     on_ok_weaker c.keep_visit.result (λ kept log told. record {
       put = λ v. grown (puts_for v) log x _ _ (c.in_ok-keep_put.ensures v) (told.put v);
       died = λ n. grown (death_of_node n) log x _ _ (c.in_ok-keep_death.ensures n) (told.died n);
+      returned = λ n. grown (return_of_node n) log x _ _ (c.in_ok-keep_return.ensures n) (told.returned n);
       stopped = λ v time. noticed (stops_below p v time) log x _ _ (c.in_ok-keep_stop.ensures p v time) (told.stopped v time);
       failed = λ v n k. noticed (fails_reading v n k) log x _ _ (c.in_ok-keep_failed.ensures v n k) (told.failed v n k);
       failed_whole = λ v n. noticed (fails_at_cub p v n) log x _ _ (c.in_ok-keep_failed_whole.ensures v n) (told.failed_whole v n);

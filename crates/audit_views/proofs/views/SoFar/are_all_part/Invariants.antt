@@ -10,7 +10,7 @@ abbrev pub invariant-loop-at : goal.invariant-loop-at
 invariant-loop-at l = record {
   up : l.from ≤ l.at;
   part : (m : Moment)
-      → TellsViews l.plan.params l.self.seats l.self.latest l.self.stops.items l.self.dead l.self.records l.self.beat m
+      → TellsViews l.plan.params l.self.seats l.self.latest l.self.stops.items l.self.records l.self.beat m
       → (j : ℕ) (d : Stopped) → l.from ≤ j → j < l.at
       → IsInstancePart l.plan.params m (slice_index_or l.self.stops.items j d).instance.0;
 }
