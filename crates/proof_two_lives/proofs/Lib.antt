@@ -1,0 +1,11 @@
+pub mod Cubs
+pub mod Forward
+pub mod Gathering
+pub mod Holding
+pub mod Joined
+pub mod JoinedPieces
+pub mod Numbers
+pub mod OneLife
+pub mod PiecesOf
+pub mod Rows
+pub mod Serving

@@ -1,0 +1,4 @@
+pub mod Laws
+pub mod Samples
+pub mod Statements
+pub mod TwoLives
