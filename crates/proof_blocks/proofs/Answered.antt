@@ -31,7 +31,7 @@ use Rattle.proof_service.specs.Disks.{FailedThere, disk_at as disk_of_piece}
 use Rattle.proof_parts.proofs.AskLives.{asked_disk}
 use Rattle.proof_facts.specs.Blocks.{AnsweredAt, blocks_by}
 use Rattle.proof_facts.specs.Carried.{DisksAnswer}
-use Rattle.proof_lives.specs.FactsBy.{Beyond, facts_by}
+use Rattle.proof_lives.specs.FactsBy.{Beyond, CameToTick, facts_by}
 use Rattle.proof_facts.specs.Pieces.{AsksAt, want, pieces_by, before_reading}
 use Rattle.proof_facts.specs.Pieces as facts
 use Rattle.proof_blocks.proofs.Living.{AreCubs, store_of, asking_kept, beat_is, kept_here, own_here}
@@ -40,7 +40,7 @@ use Rattle.proof_blocks.proofs.Tracing.{asking_trail, Trail}
 use Rattle.proof_blocks.proofs.Leaving.{own_arises}
 
 module _ (p : Params) (lives : Lives) (cubs : AreCubs p lives) (disk_at : ℕ → DiskState) (beyond : Beyond)
-    (fits : Fits p lives beyond) (disks : DisksAnswer p lives disk_at beyond.Came) where
+    (fits : Fits p lives beyond) (disks : DisksAnswer p lives beyond disk_at) where
   abbrev r : Facts
   r = facts_by p lives beyond
 
@@ -105,7 +105,7 @@ module _ (p : Params) (lives : Lives) (cubs : AreCubs p lives) (disk_at : ℕ �
       (stays_or_gone p cubs.plan lives c d.at k (own_of t n) small (omega arith) (omega arith) taken)
 
   -- the answer to what an own record asked for
-  answer_to : {c : ℕ} {t : Tenancy} {n b e : ℕ} (a : AsksAt p lives c t n 0 b) (x : Line) → beyond.Came c e
+  answer_to : {c : ℕ} {t : Tenancy} {n b e : ℕ} (a : AsksAt p lives c t n 0 b) (x : Line) → CameToTick p lives c e
       → b + 2 * p.delay ≤ e
       → In x (before_reading p c (facts.stamp_of b a.reading) (store_of p lives c a.tick.at)).view.lines
       → x.rec ≡ own_of t n → IsAnswered p r w c t n 0 b
@@ -118,8 +118,8 @@ module _ (p : Params) (lives : Lives) (cubs : AreCubs p lives) (disk_at : ℕ �
       let may = asking_kept p lives cubs c small i stamp low a.tick.is in
       let disk : ℕ = disk_of_piece p n 0 in
       let ei = beat_is p lives cubs c small i (Tick stamp) a.tick.is in
-      let up = (fits.ticks c e came).tick in
-      let eu = beat_is p lives cubs c small up.at (Tick (facts.stamp_of e (fits.ticks c e came).reading)) up.is in
+      let up = came.tick in
+      let eu = beat_is p lives cubs c small up.at (Tick (facts.stamp_of e came.reading)) up.is in
       let some_delay = cubs.plan.ranges.delay.0 in
       let whole = whole_by_beat p lives cubs.lived c i up.at small low up.done (omega arith) in
       let ask = asked_disk p cubs.plan lives a whole (own_here p lives cubs c small t n x h may there same) in
@@ -147,7 +147,7 @@ module _ (p : Params) (lives : Lives) (cubs : AreCubs p lives) (disk_at : ℕ �
       }
 
   -- asks are answered
-  pub answers : {c : ℕ} {t : Tenancy} {n b e : ℕ} → AsksAt p lives c t n 0 b → beyond.Came c e → b + 2 * p.delay ≤ e
+  pub answers : {c : ℕ} {t : Tenancy} {n b e : ℕ} → AsksAt p lives c t n 0 b → CameToTick p lives c e → b + 2 * p.delay ≤ e
       → IsAnswered p r w c t n 0 b
   answers {c} {t} {n} {b} {e} a came late = ⊎_elim
       (λ k. answer_to a k.1 came late k.2.0 k.2.1)
@@ -165,7 +165,7 @@ module _ (p : Params) (lives : Lives) (cubs : AreCubs p lives) (disk_at : ℕ �
       let ea = beat_is p lives cubs k a.small a.at (Take (facts.stamp_of y a.reading) a.link m) a.is in
       let kept = kept_here p lives cubs k a.small a.at (omega arith) in
       record {
-        arises = own_arises p lives cubs beyond k a.at y t n x.0 a.small low (omega arith) x.1 x.2;
+        arises = own_arises p lives cubs beyond fits k a.at y t n x.0 a.small low (omega arith) x.1 x.2;
         here = own_here p lives cubs k a.small t n x.0 h kept x.1 x.2;
         few = omega arith;
       }

@@ -1,7 +1,7 @@
 -- The laws of asking for whole blocks: what is asked for is due within the read lead, and what is due so is asked for.
 use Rattle.std.proofs.Common.{◌≡◌, ℕ, suc, ◌+◌, ◌<◌, ◌≤◌, true, false, refl, sym, ap, subst, ◌∙◌, ⊎_elim, inl, inr, arith}
-use Rattle.std.specs.Prelude.{◌⊎◌, ◌&&◌, not, nat_le}
-use Rattle.std.proofs.lemmas.Bool.{cases_Bool, and_parts, leb-true}
+use Rattle.std.specs.Prelude.{◌⊎◌}
+use Rattle.std.proofs.lemmas.Bool.{cases_Bool}
 use Rattle.tiger_base.specs.Kinds.{is_own}
 use Rattle.tiger_base.specs.Records.{own_of}
 use Rattle.tiger_base.specs.declared.number.Stamp.{Stamp}
@@ -13,47 +13,33 @@ use Rattle.slot_plan.specs.declared.params.Params.{Params}
 use Rattle.slot_plan.specs.Times.{due, cub_of}
 use Rattle.node_kit.specs.Steps.Input.{Tick}
 use Rattle.partial_view.specs.declared.line.Line.{Line}
-use Rattle.partial_view.specs.Lines.{key_of}
-use Rattle.slot_plan.specs.Keys.{due_of}
 use Rattle.disk_core.specs.State.{DiskState}
 use Rattle.cub_rules.specs.State.{IsRecordOf, IsLineOf}
-use Rattle.cub_rules.specs.Ticks.{must_read}
 use Rattle.proof_lives.specs.Lives.{Lives}
 use Rattle.run_facts.specs.Events.{is_tick_input}
 use Rattle.proof_lives.specs.Facts.{TickedAt}
 use Rattle.proof_lives.proofs.Cuts.{was_put_out}
 use Rattle.proof_lives.proofs.Fitting.{Fits}
-use Rattle.cub_changes.proofs.Beliefs.{not_true}
 use Rattle.cub_changes.proofs.Numbers.{piece_parts}
 use Rattle.proof_lives.proofs.Inputs.{entered_did}
 use Rattle.proof_lives.proofs.Leaving.{stays_or_stopped}
 use Rattle.lists.proofs.Each.{all_in}
 use Rattle.proof_lives.proofs.Moves.{Stays, taken_out}
 use Rattle.proof_lives.proofs.Order.{beats_rise, not_behind}
+use Rattle.proof_lives.proofs.SameLife.{same_life}
 use Rattle.proof_lives.proofs.States.{own_kind}
 use Rattle.proof_schedule.specs.Facts.{Facts, Entered}
-use Rattle.proof_pieces.specs.PieceFacts.{PieceFacts, AsksBy}
+use Rattle.proof_pieces.specs.PieceFacts.{PieceFacts}
 use Rattle.proof_pieces.specs.PieceLaws.{IsThere}
-use Rattle.proof_service.specs.ServiceFacts.{ServiceFacts, ArisesBy, IsCutOff}
+use Rattle.proof_service.specs.ServiceFacts.{ServiceFacts, ArisesBy, AsksInLife, IsCutOff, MayServe}
 use Rattle.proof_lives.specs.FactsBy.{Beyond, facts_by}
 use Rattle.proof_facts.specs.Pieces.{piece, AsksAt, pieces_by}
 use Rattle.proof_facts.specs.Pieces as facts
 use Rattle.proof_facts.specs.Blocks.{blocks_by}
 use Rattle.proof_blocks.proofs.Tracing.{trail, trail_unread, marked}
 use Rattle.proof_blocks.proofs.Living.{AreCubs, store_of, beat_is, reading_is, kept_here, there_at}
-use Rattle.proof_blocks.proofs.FirstLife.{asks_for_all}
-
--- what is to be read is an own record's, has no mark, and is due within the read lead
-pub read_parts : (p : Params) (stamp : Stamp) (x : Line) → must_read p stamp x ≡ true
-    → (is_own x.rec.kind ≡ true)
-    × (x.asked ≡ false)
-    × (due p x.rec.tenancy.slot.0 x.rec.visit ≤ stamp.reading + p.read_lead)
-unfolding must_read
-read_parts p stamp x e =
-    let both = and_parts (is_own x.rec.kind && not x.asked)
-    (nat_le (due_of p (key_of x)) (stamp.reading + p.read_lead)) e in
-    let first = and_parts (is_own x.rec.kind) (not x.asked) both.0 in
-    (first.0, not_true x.asked first.1, leb-true _ _ both.1)
+use Rattle.proof_parts.proofs.AskOutputs.{read_parts}
+use Rattle.proof_blocks.proofs.Comebacks.{may_ask}
 
 -- an own record, by its parts
 pub own_record : (t : Tenancy) (n : ℕ) (kind : Kind) → is_own kind ≡ true
@@ -95,8 +81,8 @@ module _ (p : Params) (lives : Lives) (cubs : AreCubs p lives) (disk_at : ℕ �
   -- a line that is there after a tick, due within the read lead, was asked for
   asked_by_tick : (c b l : ℕ) (t : Tenancy) (n : ℕ) (tick : TickedAt p lives c b l)
       → Stays (own_of t n) (store_of p lives c (suc tick.at)).view.lines
-      → due p t.slot.0 n ≤ l + p.read_lead → AsksBy q c t n 0 b
-  asked_by_tick c b l t n tick s soon =
+      → due p t.slot.0 n ≤ l + p.read_lead → MayServe p r c t n 0 b → AsksInLife r q c t n 0 b
+  asked_by_tick c b l t n tick s soon may =
       let i : ℕ = tick.at in
       let low = tick.done in
       let stamp : Stamp = facts.stamp_of b l in
@@ -120,10 +106,13 @@ module _ (p : Params) (lives : Lives) (cubs : AreCubs p lives) (disk_at : ℕ �
             m.line,
             (m.there, sym m.same ∙ s.same),
             m.must,
-            asks_for_all p c m.stamp (lives.input c) m.at (due_of p (key_of m.line)),
+            may_ask p lives cubs beyond fits c b l m.at m.stamp t n m.line tick (sym m.same ∙ s.same) may,
           );
         };
         by = omega arith;
+        life = λ v back le.
+            let one = same_life p lives beyond cubs.lived fits c m.at i tick.small (omega arith) low v back (omega arith) in
+            omega arith;
       })
       (λ (mark : y.asked ≡ false).
       let t = trail p c (lives.input c) (suc i) y s.there in
@@ -148,9 +137,9 @@ module _ (p : Params) (lives : Lives) (cubs : AreCubs p lives) (disk_at : ℕ �
 
   -- what is due within the read lead is asked for
   entered_asked : (c b l : ℕ) (t : Tenancy) (n e : ℕ) → Entered r c t n e → e ≤ b → c ≡ cub_of p (n + 0)
-      → TickedAt p lives c b l → l < due p t.slot.0 n → due p t.slot.0 n ≤ l + p.read_lead
-      → AsksBy q c t n 0 b ⊎ IsCutOff r w c t.instance.0 n b
-  entered_asked c b l t n e entered by here tick undue soon =
+      → TickedAt p lives c b l → l < due p t.slot.0 n → due p t.slot.0 n ≤ l + p.read_lead → MayServe p r c t n 0 b
+      → AsksInLife r q c t n 0 b ⊎ IsCutOff r w c t.instance.0 n b
+  entered_asked c b l t n e entered by here tick undue soon may =
       let small = tick.small in
       let k = entered_did p lives entered in
       let z : Rec = record { tenancy = t; visit = n; kind = k.0 } in
@@ -164,16 +153,16 @@ module _ (p : Params) (lives : Lives) (cubs : AreCubs p lives) (disk_at : ℕ �
       let first : j ≤ i =
       not_behind p (lives.count c) (lives.input c) life j i low k.1.done (ap is_tick_input tick.is) (omega arith) in
       ⊎_elim
-      (λ s. inl (asked_by_tick c b l t n tick (own_stays c (suc i) t n k.0 small (omega arith) here s) soon))
+      (λ s. inl (asked_by_tick c b l t n tick (own_stays c (suc i) t n k.0 small (omega arith) here s) soon may))
       (λ m. let by = m.2 in inr (inl (record { beat = m.0; reached = m.1; by = omega arith })))
       (stays_or_stopped p cubs.plan lives cubs.lived c j (suc i) i z small (omega arith) (omega arith) low (omega arith)
       (was_put_out p lives c j (taken_out z) k.1.did))
 
   pub asks_due : {c : ℕ} {t : Tenancy} {n b l : ℕ} → ArisesBy r q c t n 0 b → c ≡ cub_of p (n + 0)
-      → TickedAt p lives c b l → l < due p t.slot.0 n → due p t.slot.0 n ≤ l + p.read_lead
-      → AsksBy q c t n 0 b ⊎ IsCutOff r w c t.instance.0 n b
-  asks_due {c} {t} {n} {b} {l} a here tick undue soon = ⊎_elim
-      (λ k. entered_asked c b l t n a.beat k.1 a.by here tick undue soon)
+      → TickedAt p lives c b l → l < due p t.slot.0 n → due p t.slot.0 n ≤ l + p.read_lead → MayServe p r c t n 0 b
+      → AsksInLife r q c t n 0 b ⊎ IsCutOff r w c t.instance.0 n b
+  asks_due {c} {t} {n} {b} {l} a here tick undue soon may = ⊎_elim
+      (λ k. entered_asked c b l t n a.beat k.1 a.by here tick undue soon may)
       (λ k. ⊎_elim
       (λ s. let e = s.0 in absurd (omega arith))
       (λ s. let some = (piece_parts p (piece t n 0) s.formed).low in absurd (omega arith))

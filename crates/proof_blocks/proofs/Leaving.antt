@@ -1,5 +1,5 @@
 -- An own record that stands has entered.
-use Rattle.std.proofs.Common.{◌≡◌, ℕ, ◌<◌, ◌≤◌, refl, subst, inl, arith}
+use Rattle.std.proofs.Common.{◌≡◌, ℕ, ◌<◌, refl, subst, inl, arith}
 use Rattle.tiger_base.specs.Records.{own_of}
 use Rattle.tiger_base.specs.declared.tenancy.Rec.{Rec}
 use Rattle.tiger_base.specs.declared.tenancy.Tenancy.{Tenancy}
@@ -12,7 +12,8 @@ use Rattle.proof_lives.proofs.Cuts.{goes_whole, whole_before}
 use Rattle.proof_lives.proofs.Moves.{taken_out}
 use Rattle.proof_lives.proofs.Order.{beats_rise}
 use Rattle.proof_lives.specs.FactsBy.{Beyond, facts_by}
-use Rattle.proof_lives.proofs.NoReturns.{same_life}
+use Rattle.proof_lives.proofs.Fitting.{Fits}
+use Rattle.proof_lives.proofs.SameLife.{same_life}
 use Rattle.proof_service.specs.ServiceFacts.{ArisesBy}
 use Rattle.proof_facts.specs.Pieces.{pieces_by}
 use Rattle.proof_blocks.proofs.Living.{AreCubs, store_of}
@@ -20,11 +21,11 @@ use Rattle.proof_blocks.proofs.Tracing.{trail}
 
 module _ (p : Params) (lives : Lives) (cubs : AreCubs p lives) where
   -- an own record that is there has entered
-  pub own_arises : (beyond : Beyond) (c i b : ℕ) (t : Tenancy) (n : ℕ) (x : Line) → (small : c < p.cubs)
+  pub own_arises : (beyond : Beyond) → Fits p lives beyond → (c i b : ℕ) (t : Tenancy) (n : ℕ) (x : Line) → (small : c < p.cubs)
       → i < lives.count c
-      → beat_at (lives.input c) i ≤ b → In x (store_of p lives c i).view.lines → x.rec ≡ own_of t n
+      → beat_at (lives.input c) i ≡ b → In x (store_of p lives c i).view.lines → x.rec ≡ own_of t n
       → ArisesBy (facts_by p lives beyond) (pieces_by p lives) c t n 0 b
-  own_arises beyond c i b t n x small low le there same =
+  own_arises beyond fits c i b t n x small low eb there same =
       let d = trail p c (lives.input c) i x there in
       let before = d.before in
       let rise = beats_rise p (lives.count c) (lives.input c) (cubs.lived c small) d.at i (omega arith) low in
@@ -34,5 +35,5 @@ module _ (p : Params) (lives : Lives) (cubs : AreCubs p lives) where
         beat = beat_at (lives.input c) d.at;
         arises = inl (refl, entered_at p lives c d.at (own_of t n) small (omega arith) taken);
         by = omega arith;
-        life = same_life p lives beyond c (beat_at (lives.input c) d.at) b;
+        life = λ u back by. same_life p lives beyond cubs.lived fits c d.at i small (omega arith) low u back (omega arith);
       }

@@ -1,6 +1,6 @@
 pub mod Answered
 pub mod Asking
-pub mod FirstLife
+pub mod Comebacks
 pub mod Laws
 pub mod Leaving
 pub mod Living

@@ -38,7 +38,7 @@ use Rattle.proof_pieces.specs.PieceLaws.{IsThere, WasUndue}
 use Rattle.proof_lives.specs.FactsBy.{Beyond, facts_by}
 use Rattle.proof_facts.specs.Pieces.{before_reading, pieces_by}
 use Rattle.proof_facts.specs.Pieces as facts
-use Rattle.proof_lives.proofs.NoReturns.{same_life}
+use Rattle.proof_lives.proofs.SameLife.{same_life}
 use Rattle.proof_blocks.proofs.Tracing.{Trail, asking_trail}
 use Rattle.proof_blocks.proofs.Window.{taken_above}
 
@@ -120,12 +120,12 @@ module _ (p : Params) (lives : Lives) (cubs : AreCubs p lives) (c : ℕ) (small 
       let ei = beat_is i (Tick stamp) is in
       let first : ℕ = d.at in
       let by = d.before in
-      let u = tick_before p (lives.count c) (lives.input c) life i (b - 1) low (omega arith) in
+      let began = beats_rise p (lives.count c) (lives.input c) life 0 first (omega arith) (omega arith) in
+      let u = tick_before p (lives.count c) (lives.input c) life i (b - 1) low (omega arith) (omega arith) in
       let k : ℕ = u.at in
       let before = u.before in
-      let number = u.number in
       let s = tick_of (lives.input c k) u.tick in
-      let beat : beat_at (lives.input c) k ≡ b - 1 = life.in_beat k (omega arith) ∙ number in
+      let beat : beat_at (lives.input c) k ≡ b - 1 = u.beat in
       let from : first ≤ k = not_behind p (lives.count c) (lives.input c) life first k (omega arith)
       (omega arith) u.tick (omega arith) in
       record {
@@ -185,7 +185,7 @@ module _ (p : Params) (lives : Lives) (cubs : AreCubs p lives) (c : ℕ) (small 
               (subst (λ (r : Rec). In (taken_out r) (outs_at p c (lives.input c) d.at)) same d.taken)),
         );
         by = omega arith;
-        life = same_life p lives beyond c (beat_at (lives.input c) d.at) b;
+        life = λ u back le. same_life p lives beyond cubs.lived fits c d.at at small (omega arith) low u back (omega arith);
         since = subst (λ (r : Rec). IsUnheld p (facts_by p lives beyond) c r.tenancy.instance.0 b
             (beat_at (lives.input c) d.at)) same
             (unheld beyond at stamp x d low tick.is);

@@ -12,13 +12,13 @@ use Rattle.tiger_base.specs.declared.tenancy.Want.{Want}
 use Rattle.tiger_base.specs.declared.message.Msg.{Msg}
 use Rattle.tiger_base.specs.declared.message.Msg.TheVariants as msg
 use Rattle.slot_plan.specs.Conditions.{IsPlan}
-use Rattle.slot_plan.specs.Keys.{Key, due_of}
+use Rattle.slot_plan.specs.Keys.{Key}
 use Rattle.slot_plan.specs.declared.params.Params.{Params}
 use Rattle.slot_plan.specs.Times.{due}
 use Rattle.node_kit.specs.Steps.{Deed, Input}
 use Rattle.node_kit.specs.Steps.Input.{Take, Tick}
 use Rattle.partial_view.specs.declared.line.Line.{Line}
-use Rattle.partial_view.specs.Lines.{visit_of, key_of}
+use Rattle.partial_view.specs.Lines.{visit_of}
 use Rattle.partial_view.specs.Views.{line_at}
 use Rattle.cub_rules.specs.declared.store.Store.{Store}
 use Rattle.cub_rules.specs.declared.store.StoredPart.{StoredPart}
@@ -36,7 +36,7 @@ use Rattle.proof_lives.proofs.Order.{beats_rise, behind, not_behind}
 use Rattle.proof_lives.proofs.Steps.{forwarding_moves, reading_moves, served_due}
 use Rattle.proof_lives.proofs.Ticking.{before_forwarding, early, early_moves}
 use Rattle.proof_pieces.specs.PieceLaws.{IsThere, WasUndue}
-use Rattle.proof_service.specs.ServiceFacts.{IsCutOff}
+use Rattle.proof_service.specs.ServiceFacts.{IsCutOff, MayServe}
 use Rattle.proof_parts.proofs.Answering.{kept}
 use Rattle.proof_parts.proofs.Found.{found, same_self}
 use Rattle.proof_parts.proofs.PartLives.{stays_until}
@@ -53,7 +53,7 @@ use Rattle.proof_blocks.proofs.Marks.{asked_line, served_from}
 use Rattle.proof_blocks.proofs.Single.{AreSingle, always_single, line_found}
 use Rattle.proof_blocks.proofs.Tracing.{trail, trail_undue}
 use Rattle.proof_lives.proofs.Leaving.{stays_or_gone}
-use Rattle.proof_blocks.proofs.FirstLife.{serves_all}
+use Rattle.proof_blocks.proofs.Comebacks.{may_send}
 
 -- ---- one store
 
@@ -189,11 +189,12 @@ module _ (p : Params) (lives : Lives) (cubs : AreCubs p lives) (beyond : Beyond)
   why_lost c i x (Tick stamp) small low is whole costs = inr (record { stamp = stamp; is = is; stale = costs })
 
   -- an own record that is due is served if its block is stored and not stale
-  sent_now : (c b l : ℕ) (t : Tenancy) (n : ℕ) (part : LibraryPart) (tick : TickedAt p lives c b l)
+  sent_now : Fits p lives beyond → (c b l : ℕ) (t : Tenancy) (n : ℕ) (part : LibraryPart) (tick : TickedAt p lives c b l)
       → Stays (own_of t n) (store_of p lives c tick.at).view.lines
       → In (record { want = want t n 0; part = part }) (store_of p lives c tick.at).parts
-      → due p t.slot.0 n ≤ l → l < due p t.slot.0 n + p.play → ServesAt p lives c t n 0 b
-  sent_now c b l t n part tick s stored past late =
+      → due p t.slot.0 n ≤ l → l < due p t.slot.0 n + p.play → MayServe p (facts_by p lives beyond) c t n 0 b
+      → ServesAt p lives c t n 0 b
+  sent_now fits c b l t n part tick s stored past late may =
       let stamp : Stamp = facts.stamp_of b l in
       let h : Store = store_of p lives c tick.at in
       let g : Store = before_serving p c stamp h in
@@ -214,7 +215,7 @@ module _ (p : Params) (lives : Lives) (cubs : AreCubs p lives) (beyond : Beyond)
             line.line,
             (line.there, line.same),
             due_served p stamp line.line t n line.same past,
-            serves_all p c stamp (lives.input c) tick.at (due_of p (key_of line.line)),
+            may_send p lives cubs beyond fits c b l tick.at stamp t n line.line tick line.same may,
           );
           stored = f.found;
           goes = inl tick.whole;
@@ -232,11 +233,12 @@ module _ (p : Params) (lives : Lives) (cubs : AreCubs p lives) (beyond : Beyond)
       inl (record { beat = beat_at (lives.input c) k; reached = g; by = omega arith })
 
   -- what is stored is sent when it is due
-  pub serves_due : {c : ℕ} {t : Tenancy} {n y b l : ℕ} → StoredAt p lives c t n 0 y → y ≤ b → TickedAt p lives c b l
+  pub serves_due : {c : ℕ} {t : Tenancy} {n y b l : ℕ} → Fits p lives beyond → StoredAt p lives c t n 0 y → y ≤ b
+      → TickedAt p lives c b l → MayServe p (facts_by p lives beyond) c t n 0 b
       → due p t.slot.0 n ≤ l → l < due p t.slot.0 n + p.play
       → WasUndue p (facts_by p lives beyond) c b (due p t.slot.0 n) 0
       → ServesAt p lives c t n 0 b ⊎ IsCutOff (facts_by p lives beyond) (blocks_by p lives disk_at) c t.instance.0 n b
-  serves_due {c} {t} {n} {y} {b} {l} s le tick past late u =
+  serves_due {c} {t} {n} {y} {b} {l} fits s le tick may past late u =
       let a = s.answered in
       let small = a.small in
       let j : ℕ = a.at in
@@ -255,7 +257,7 @@ module _ (p : Params) (lives : Lives) (cubs : AreCubs p lives) (beyond : Beyond)
       let taken = subst (λ (r : Rec). In (taken_out r) (outs_at p c (lives.input c) d.at)) x.2 d.taken in
       ⊎_elim
       (λ line. ⊎_elim
-      (λ stored. inl (sent_now c b l t n s.part tick line stored past late))
+      (λ stored. inl (sent_now fits c b l t n s.part tick line stored past late may))
       (λ m.
       let before = m.before in
       ⊎_elim

@@ -21,6 +21,6 @@ IsWhole j = j ≡ 0
 abbrev pub CubsServeBlocks : Type 0
 CubsServeBlocks = (p : Params) (catalogue : Catalogue) (lives : Lives) (disk_at : ℕ → DiskState)
     → IsPlan p → AreLives p lives → AreAllFormed p lives
-    → HaveDisks p catalogue lives disk_at (CameToTick p lives)
+    → HaveDisks p catalogue lives (cubs_alone p lives) disk_at
     → ReadLaws p catalogue (facts_by p lives (cubs_alone p lives)) (pieces_by p lives)
-    (blocks_by p lives disk_at) IsWhole
+    (blocks_by p lives disk_at) (CameToTick p lives) IsWhole

@@ -37,7 +37,7 @@ use Rattle.proof_lives.proofs.Seats.{AreSeated, seated_at, ticking_seats}
 use Rattle.proof_lives.proofs.States.{put_at_tick, put_inserted, took_inserted, at_tick, at_tick_same, from_tick}
 use Rattle.proof_lives.proofs.Ticking.{before_inserting, same_before, inserted_out}
 use Rattle.proof_lives.specs.FactsBy.{Beyond, facts_by}
-use Rattle.proof_lives.proofs.NoReturns.{first_life}
+use Rattle.proof_lives.proofs.SameLife.{put_in_first}
 use Rattle.proof_cubs.specs.Grounds.{StandsSecond}
 use Rattle.proof_cubs.proofs.Setting.{Setting}
 use Rattle.proof_cubs.proofs.Believing.{written}
@@ -205,7 +205,7 @@ module _ (p : Params) (lives : Lives) (beyond : Beyond) (set : Setting p lives b
         below = w.below;
         within = w.within;
         entered = record { kind = goes.kind; done = also _ goes.taken; tick = tick };
-        first = first_life p lives beyond c x;
+        first = put_in_first p lives beyond set.lived set.fits d;
         who = ⊎_elim
             (λ q. inl (record { own = q.0; sent = record { ahead = inl refl; did = also (state_out p c t) q.1 } }))
             (λ q.

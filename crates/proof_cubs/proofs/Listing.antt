@@ -41,7 +41,6 @@ use Rattle.proof_lives.proofs.Meeting.{taken}
 use Rattle.proof_lives.specs.FactsBy.{Beyond, facts_by}
 use Rattle.proof_cubs.proofs.Setting.{Setting}
 use Rattle.proof_cubs.proofs.Inserting.{inserted}
-use Rattle.proof_lives.proofs.FirstLife.{first_life}
 use Rattle.proof_cubs.proofs.Standing.{come_before}
 
 -- What one event makes of a start that is listed is as cub_changes proves it for the whole cub.
@@ -89,7 +88,7 @@ start_queued p c stamp link a redundant h e none =
     (λ t. absurd (no_both t none)) (λ _. inl (in_right a q.waiting (a ∷ []) (inl refl))))))
 
 module _ (p : Params) (lives : Lives) (beyond : Beyond) (set : Setting p lives beyond) (orders : List Order)
-    (order : AreInOrder p lives orders) where
+    (order : AreInOrder p lives beyond orders) where
   abbrev R : Facts
   R = facts_by p lives beyond
 
@@ -220,12 +219,12 @@ module _ (p : Params) (lives : Lives) (beyond : Beyond) (set : Setting p lives b
       (cases_Bool (has_start q.redundant a.instance)))
       (cases_Bool (has_start q.waiting a.instance))
 
-  -- A start that comes joins the lists, or its instance is out.
+  -- A start that comes in a first life joins the lists, or its instance is out.
   pub start_joins : (c i b : ℕ) (a : Ask) (stamp : Stamp) (link : LinkNo) (redundant : Bool) → c < p.cubs
       → i < lives.count c → beat_at (lives.input c) i ≤ b
-      → lives.input c i ≡ Take stamp link (msg.Start redundant a)
+      → lives.input c i ≡ Take stamp link (msg.Start redundant a) → (store_at p c (lives.input c) i).comeback ≡ None
       → HasJoined a redundant (store_at p c (lives.input c) (suc i)).starts ⊎ IsOut c a.instance.0 b
-  start_joins c i b a stamp link redundant small low le is =
+  start_joins c i b a stamp link redundant small low le is first =
       let inputs : ℕ → Input Msg = lives.input c in
       let h : Store = store_at p c inputs i in
       let counted = order.started.counted a (order.started.ordered c i stamp link a redundant small low is) in
@@ -250,7 +249,7 @@ module _ (p : Params) (lives : Lives) (beyond : Beyond) (set : Setting p lives b
       let x = shown_line a.instance h.view.lines shown in
       inr (inl (line_out c i b a.instance.0 x.0 small low le x.1 x.2)))
       (λ (shown : shows h.view.lines a.instance ≡ false).
-      let free : is_discarded a h ≡ false = rw (first_life p c inputs i, counted, held, shown) refl in
+      let free : is_discarded a h ≡ false = rw (first, counted, held, shown) refl in
       inl (subst (λ (k : Input Msg). HasJoined a redundant (deed_of p c k h).state.starts) (sym is)
       (start_queued p c stamp link a redundant h free (not_asked c i a stamp link redundant small low is))))
       (cases_Bool (shows h.view.lines a.instance)))

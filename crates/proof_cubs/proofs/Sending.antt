@@ -57,7 +57,7 @@ use Rattle.proof_lives.proofs.HoldLaws.{no_both}
 use Rattle.proof_lives.proofs.Reaching.{stop_by_tick, let_go}
 use Rattle.proof_lives.proofs.Standing.{standing}
 use Rattle.proof_lives.specs.FactsBy.{Beyond, facts_by}
-use Rattle.proof_lives.proofs.NoReturns.{same_life}
+use Rattle.proof_lives.proofs.SameLife.{same_life}
 use Rattle.proof_cubs.proofs.Setting.{Setting}
 use Rattle.proof_cubs.proofs.Standing.{is_tick}
 use Rattle.proof_cubs.proofs.Together.{first_own, state_goes_behind}
@@ -134,11 +134,12 @@ module _ (p : Params) (lives : Lives) (beyond : Beyond) (set : Setting p lives b
       let life = set.lived c small in
       let b : ℕ = beat_at inputs i - 1 in
       let last : beat_at inputs i ≡ b + 1 = omega arith in
-      let t = tick_before p (lives.count c) inputs life i b low last in
+      let rise = beats_rise p (lives.count c) inputs life 0 at (omega arith) (omega arith) in
+      let t = tick_before p (lives.count c) inputs life i b low (omega arith) (omega arith) in
       let tb = t.before in
       let done : t.at < lives.count c = omega arith in
       let s = tick_of (inputs t.at) t.tick in
-      let eb : beat_at inputs t.at ≡ b = life.in_beat t.at done ∙ t.number in
+      let eb : beat_at inputs t.at ≡ b = t.beat in
       let from = not_behind p (lives.count c) inputs life at t.at done (omega arith) t.tick (omega arith) in
       record {
         beat = b;
@@ -212,7 +213,7 @@ module _ (p : Params) (lives : Lives) (beyond : Beyond) (set : Setting p lives b
             let w = stop_by_tick p lives set.lived a i z.tenancy.instance.0 y low is g le in
             let_go p set.plan lives set.lived set.formed beyond a c.at w.at z small done (c.since w.at w.before w.stop)
             (was_put_out p lives a c.at (taken_out z) c.taken) w.stop;
-        life = same_life p lives beyond a (beat_at inputs c.at) (beat_at inputs i);
+        life = same_life p lives beyond set.lived set.fits a c.at i small done low;
       }
 
   pub sends : {a k m x : ℕ} {t : Tenancy} → SentAt p lives a k t m x → SendsFirst p R a k t m x ⊎ Forwards p R a t m x

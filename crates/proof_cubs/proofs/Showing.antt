@@ -11,7 +11,7 @@ use Rattle.partial_view.specs.declared.line.Line.{Line}
 use Rattle.tiger_base.specs.Kinds.{is_own}
 use Rattle.cub_rules.specs.declared.store.Store.{Store}
 use Rattle.cub_rules.specs.Ticks.{releasing, believing, inserting, splitting, forwarding, reading, is_served, is_past, serving_blocks, dropping_backups, serving_pieces, serving, ticking}
-use Rattle.proof_schedule.specs.Facts.{Facts}
+use Rattle.proof_schedule.specs.Facts.{Facts, IsSameLife}
 use Rattle.proof_schedule.specs.StateLaws.{IsShown}
 use Rattle.proof_lives.specs.Lives.{Lives, deed_of, store_at, beat_at}
 use Rattle.lists.specs.Elements.{In}
@@ -21,7 +21,6 @@ use Rattle.proof_lives.proofs.States.{tick_true}
 use Rattle.proof_lives.proofs.Ticking.{not_true}
 use Rattle.proof_lives.proofs.HoldLaws.{no_both}
 use Rattle.proof_lives.specs.FactsBy.{Beyond, ShowsAt, facts_by}
-use Rattle.proof_lives.proofs.NoReturns.{same_life}
 use Rattle.proof_lives.proofs.Reaching.{stop_by_tick}
 use Rattle.proof_cubs.proofs.Setting.{Setting}
 use Rattle.proof_cubs.proofs.Standing.{come_after}
@@ -91,7 +90,7 @@ module _ (p : Params) (lives : Lives) (beyond : Beyond) (set : Setting p lives b
             let tick = tick_true inputs k.at stamp k.is in
             let s = stop_by_tick p lives set.lived c k.at w.line.rec.tenancy.instance.0 y k.done tick g (omega arith) in
             come.since s.at s.before s.stop;
-        life = same_life p lives beyond c come.beat b;
+        life = subst (λ m. IsSameLife R c come.beat m) eb come.life;
       } in
       subst (λ (m : ℕ). IsShown p R c t m b) w.visit
       (subst (λ (u : Tenancy). IsShown p R c u w.line.rec.visit b) w.tenancy all)

@@ -6,7 +6,7 @@ use Rattle.slot_plan.specs.declared.params.Params.{Params}
 use Rattle.slot_plan.specs.Times.{time_of}
 use Rattle.node_kit.specs.Steps.{Input, stamp_of}
 use Rattle.partial_view.specs.declared.line.Line.{Line}
-use Rattle.proof_schedule.specs.Facts.{Facts, IsReleasedBy, Entered}
+use Rattle.proof_schedule.specs.Facts.{Facts, IsReleasedBy, IsSameLife, Entered}
 use Rattle.proof_schedule.specs.RunLaws.{IsTick}
 use Rattle.proof_schedule.specs.StateLaws.{Stands}
 use Rattle.proof_lives.specs.Facts.{TickAt}
@@ -22,7 +22,7 @@ use Rattle.proof_lives.proofs.Begun.{IsStop}
 use Rattle.proof_lives.proofs.Reaching.{stop_by_tick, let_go}
 use Rattle.proof_lives.proofs.Standing.{standing}
 use Rattle.proof_lives.specs.FactsBy.{Beyond, facts_by}
-use Rattle.proof_lives.proofs.NoReturns.{same_life}
+use Rattle.proof_lives.proofs.SameLife.{same_life}
 use Rattle.proof_cubs.proofs.Setting.{Setting}
 
 module _ (p : Params) (lives : Lives) (beyond : Beyond) (set : Setting p lives beyond) where
@@ -48,6 +48,7 @@ module _ (p : Params) (lives : Lives) (beyond : Beyond) (set : Setting p lives b
     pub by : beat ≤ beat_at (lives.input c) i
     pub since : (j : ℕ) → j < i → IsStop p c (lives.input c) j r.tenancy.instance.0
         → IsReleasedBy p R c r.tenancy.instance.0 beat
+    pub life : IsSameLife R c beat (beat_at (lives.input c) i)
 
   abbrev come_at : (c i at : ℕ) (r : Rec) → c < p.cubs → i < lives.count c → at ≤ i
       → In (taken_out r) (outs_in p lives c at)
@@ -61,6 +62,7 @@ module _ (p : Params) (lives : Lives) (beyond : Beyond) (set : Setting p lives b
         since = λ j l s.
             let_go p set.plan lives set.lived set.formed beyond c at j r small (omega arith) (since j l s)
             (was_put_out p lives c at (taken_out r) k) s;
+        life = same_life p lives beyond set.lived set.fits c at i small (omega arith) low;
       }
 
   -- What is taken at an input has come, if that goes out.
@@ -102,5 +104,5 @@ module _ (p : Params) (lives : Lives) (beyond : Beyond) (set : Setting p lives b
         since = λ y g le life.
             let k = stop_by_tick p lives set.lived c i r.tenancy.instance.0 y low tick g (omega arith) in
             h.since k.at k.before k.stop;
-        life = same_life p lives beyond c h.beat b;
+        life = subst (λ m. IsSameLife R c h.beat m) eb h.life;
       }

@@ -1,5 +1,5 @@
--- While a start waits, a line stands at each visit of its disk in the window when insertion ends, and is shown after
--- the tick.
+-- While a start waits in a first life, a line stands at each visit of its disk in the window when insertion ends, and is
+-- shown after the tick.
 use Rattle.std.proofs.Common.{◌≡◌, ℕ, suc, ◌<◌, ◌≤◌, List, true, false, refl, sym, ap, subst, ◌∙◌, arith, ⊎_elim, inl, inr, None}
 use Rattle.std.specs.Prelude.{◌⊎◌}
 use Rattle.tiger_base.specs.declared.number.Stamp.{Stamp}
@@ -17,7 +17,7 @@ use Rattle.insert_queue.specs.Queues.{Queues}
 use Rattle.partial_view.specs.declared.line.Line.{Line}
 use Rattle.cub_rules.specs.declared.store.Store.{Store}
 use Rattle.cub_rules.specs.Ticks.{inserting}
-use Rattle.proof_schedule.specs.Facts.{Facts, BelievedBy}
+use Rattle.proof_schedule.specs.Facts.{Facts, BelievedBy, IsFirstLife}
 use Rattle.proof_schedule.specs.StateLaws.{Stands}
 use Rattle.proof_schedule.specs.StartLaws.{IsInWindow, Waits}
 use Rattle.proof_lives.specs.Facts.{TickedAt, TookMessage}
@@ -42,7 +42,8 @@ use Rattle.proof_cubs.proofs.Believing.{none_apart, apart_at, believes_after, be
 use Rattle.proof_cubs.proofs.Filling.{inserting_full_apart}
 use Rattle.proof_cubs.proofs.Inserting.{line_stands}
 use Rattle.proof_cubs.proofs.Listing.{IsOut, put_out_by, queued_on, waits_on, start_joins}
-use Rattle.proof_lives.proofs.FirstLife.{first_life, inserting_first}
+use Rattle.proof_lives.proofs.FirstLife.{inserting_first}
+use Rattle.proof_lives.proofs.SameLife.{not_back}
 
 -- A start that stands in a list when a tick begins stands in one when insertion begins.
 before_queued : (p : Params) (c : ℕ) (stamp : Stamp) (h : Store) (a : Ask) → IsQueued a h.starts
@@ -56,7 +57,7 @@ before_queued p c stamp h a k = ⊎_elim
     (before_starts p c stamp h)
 
 module _ (p : Params) (lives : Lives) (beyond : Beyond) (set : Setting p lives beyond)
-    (orders : List Order) (order : AreInOrder p lives orders) where
+    (orders : List Order) (order : AreInOrder p lives beyond orders) where
   abbrev R : Facts
   R = facts_by p lives beyond
 
@@ -83,10 +84,17 @@ module _ (p : Params) (lives : Lives) (beyond : Beyond) (set : Setting p lives b
       let tick = tick_true (lives.input c) w.at (record { beat = b; reading = l }) w.is in
       message_before p lives set.lived c w.at g.at w.small w.done g.done tick (ap is_tick_input g.is) (omega arith)
 
+  -- A cub that is in its first life at a tick had not come back before any input.
+  first_at : {c b l : ℕ} (w : TickedAt p lives c b l) → IsFirstLife R c b → (k : ℕ)
+      → (store_at p c (lives.input c) k).comeback ≡ None
+  first_at {c} {b} {l} w first k =
+      not_back p lives beyond set.lived set.fits c w.at k w.small w.done (subst (λ n. IsFirstLife R c n) (sym (in_beat w)) first)
+
   -- A plain start waits when insertion begins, or its instance is out.
-  plain_waits : {c b l y : ℕ} {ask : Ask} (w : TickedAt p lives c b l) → TookMessage p lives c (msg.Start false ask) y
+  plain_waits : {c b l y : ℕ} {ask : Ask} (w : TickedAt p lives c b l) → IsFirstLife R c b
+      → TookMessage p lives c (msg.Start false ask) y
       → y ≤ b → In ask (ready w).starts.waiting ⊎ Out c ask.instance.0 b
-  plain_waits {c} {b} {l} {y} {ask} w g le =
+  plain_waits {c} {b} {l} {y} {ask} w first g le =
       let stamp : Stamp = record { beat = b; reading = l } in
       let wb = in_beat w in
       let gb : beat_at (lives.input c) g.at ≡ y = ap (λ (i : Input Msg). (stamp_of i).beat) g.is in
@@ -102,13 +110,14 @@ module _ (p : Params) (lives : Lives) (beyond : Beyond) (set : Setting p lives b
       q)
       (λ q. inr q)
       (start_joins p lives beyond set orders order c g.at b ask (record { beat = y; reading = g.reading }) g.link
-      false w.small g.done (omega arith) g.is)
+      false w.small g.done (omega arith) g.is (first_at w first g.at))
+
+  -- In a first life the cub has not come back when insertion begins.
+  ready_first : {c b l : ℕ} (w : TickedAt p lives c b l) → IsFirstLife R c b → (ready w).comeback ≡ None
+  ready_first {c} {b} {l} w first =
+      inserting_first p c (record { beat = b; reading = l }) (store_at p c (lives.input c) w.at) (first_at w first w.at)
 
   -- Belief that was written by a tick is there when insertion begins.
-  ready_first : {c b l : ℕ} (w : TickedAt p lives c b l) → (ready w).comeback ≡ None
-  ready_first {c} {b} {l} w =
-      inserting_first p c (record { beat = b; reading = l }) (store_at p c (lives.input c) w.at) (first_life p c (lives.input c) w.at)
-
   believes_at : {c b l : ℕ} (w : TickedAt p lives c b l) → BelievedBy R c b → (ready w).believes ≡ true
   believes_at {c} {b} {l} w k =
       let inputs : ℕ → Input Msg = lives.input c in
@@ -124,10 +133,10 @@ module _ (p : Params) (lives : Lives) (beyond : Beyond) (set : Setting p lives b
       (was_put_out p lives c d.at (out.Act (what.Believed k.believed.cub)) d.did))
 
   -- A redundant start waits then too if the cub believes its predecessor dead, or its instance is out.
-  redundant_waits : {c b l y : ℕ} {ask : Ask} (w : TickedAt p lives c b l)
+  redundant_waits : {c b l y : ℕ} {ask : Ask} (w : TickedAt p lives c b l) → IsFirstLife R c b
       → TookMessage p lives c (msg.Start true ask) y → y ≤ b → (ready w).believes ≡ true
       → In ask (ready w).starts.waiting ⊎ Out c ask.instance.0 b
-  redundant_waits {c} {b} {l} {y} {ask} w g le believes =
+  redundant_waits {c} {b} {l} {y} {ask} w first g le believes =
       let inputs : ℕ → Input Msg = lives.input c in
       let stamp : Stamp = record { beat = b; reading = l } in
       let store : Store = store_at p c inputs w.at in
@@ -146,7 +155,7 @@ module _ (p : Params) (lives : Lives) (beyond : Beyond) (set : Setting p lives b
       (omega arith) (omega arith) (⊎_elim (λ v. inl v) (λ v. inr v.1) q)))
       (λ q. inr q)
       (start_joins p lives beyond set orders order c g.at b ask (record { beat = y; reading = g.reading }) g.link
-      true w.small g.done (omega arith) g.is)
+      true w.small g.done (omega arith) g.is (first_at w first g.at))
 
   -- A line stands at visit n of slot s when insertion ends.
   abbrev HasLine : {c b l : ℕ} → TickedAt p lives c b l → ℕ → ℕ → Type 0
@@ -169,32 +178,32 @@ module _ (p : Params) (lives : Lives) (beyond : Beyond) (set : Setting p lives b
 
   -- While a start waits a line stands at each visit of its disk in the window, or the instance is out.
   has_line : {c : ℕ} {ask : Ask} {y b l : ℕ} (s n : ℕ) (w : TickedAt p lives c b l) → Waits p R c ask n y b → y ≤ b
-      → s < p.slots → IsInWindow p l s n → HasLine w s n ⊎ Out c ask.instance.0 b
-  has_line {c} {ask} {y} {b} {l} s n w k le slot window =
+      → IsFirstLife R c b → s < p.slots → IsInWindow p l s n → HasLine w s n ⊎ Out c ask.instance.0 b
+  has_line {c} {ask} {y} {b} {l} s n w k le first slot window =
       let stamp : Stamp = record { beat = b; reading = l } in
       ⊎_elim
       (λ q. ⊎_elim
       (λ v. line_or_out ask s n w slot window
-      (inserting_full p c stamp set.plan n ask (ready w) (ready_first w) q.1 v k.disk))
+      (inserting_full p c stamp set.plan n ask (ready w) (ready_first w first) q.1 v k.disk))
       (λ v. inr v)
-      (plain_waits w q.0 le))
+      (plain_waits w first q.0 le))
       (λ q.
       let believes = believes_at w q.2 in
       ⊎_elim
       (λ v. line_or_out ask s n w slot window
-      (inserting_full_apart p c stamp set.plan n ask (ready w) (ready_first w) q.1 believes v k.disk))
+      (inserting_full_apart p c stamp set.plan n ask (ready w) (ready_first w first) q.1 believes v k.disk))
       (λ v. inr v)
-      (redundant_waits w q.0 le believes))
+      (redundant_waits w first q.0 le believes))
       k.how
 
   -- The record of that line stands there, as the laws have it.
   pub waits : {c : ℕ} {ask : Ask} {y b l : ℕ} (s n : ℕ) → Waits p R c ask n y b → y ≤ b → TickedAt p lives c b l
-      → s < p.slots → IsInWindow p l s n → Stands p R c s n b ⊎ Out c ask.instance.0 b
-  waits {c} {ask} {y} {b} {l} s n k le w slot window = ⊎_elim
+      → IsFirstLife R c b → s < p.slots → IsInWindow p l s n → Stands p R c s n b ⊎ Out c ask.instance.0 b
+  waits {c} {ask} {y} {b} {l} s n k le w first slot window = ⊎_elim
       (λ x. inl (line_stands p lives beyond set c w.at b s n (record { beat = b; reading = l }) x.0 w.small w.done w.is
       w.whole (in_beat w) x.1 x.2))
       (λ o. inr o)
-      (has_line s n w k le slot window)
+      (has_line s n w k le first slot window)
 
   -- Since a visit in the window is not due yet, its line is shown after the tick.
   line_shown : {c b l : ℕ} (s n : ℕ) (w : TickedAt p lives c b l) → IsInWindow p l s n → HasLine w s n
@@ -224,8 +233,8 @@ module _ (p : Params) (lives : Lives) (beyond : Beyond) (set : Setting p lives b
 
   -- So the cub's view shows such a record.
   pub waits_shown : {c : ℕ} {ask : Ask} {y b l : ℕ} (s n : ℕ) → Waits p R c ask n y b → y ≤ b
-      → TickedAt p lives c b l → s < p.slots → IsInWindow p l s n → ShowsSlot R c s n b ⊎ Out c ask.instance.0 b
-  waits_shown s n k le w slot window = ⊎_elim
+      → TickedAt p lives c b l → IsFirstLife R c b → s < p.slots → IsInWindow p l s n → ShowsSlot R c s n b ⊎ Out c ask.instance.0 b
+  waits_shown s n k le w first slot window = ⊎_elim
       (λ x. inl (line_shown s n w window x))
       (λ o. inr o)
-      (has_line s n w k le slot window)
+      (has_line s n w k le first slot window)

@@ -1,5 +1,6 @@
--- Heartbeats and belief along a cub's life: what its watch shows was heard, and whom it believes dead was silent.
-use Rattle.std.proofs.Common.{◌≡◌, ℕ, zero, suc, ◌+◌, ◌<◌, ◌≤◌, true, refl, ap, subst, ◌∙◌, arith, ⊎_elim, inl, inr}
+-- Heartbeats and belief along a cub's life: what its watch shows was heard, or is what it showed when the life began, and whom
+-- the cub believes dead was silent.
+use Rattle.std.proofs.Common.{◌≡◌, ℕ, zero, suc, ◌+◌, ◌<◌, ◌≤◌, true, refl, sym, ap, subst, ◌∙◌, arith, ⊎_elim, inl, inr}
 use Rattle.std.specs.Prelude.{◌⊎◌}
 use Rattle.std.proofs.lemmas.Bool.{cases_lt, lt-ltb, ltb-true}
 use Rattle.tiger_base.specs.declared.number.CubNo.{CubNo}
@@ -22,17 +23,18 @@ use Rattle.cub_changes.specs.Causes.{IsHeartbeat, Cause}
 use Rattle.cub_changes.specs.Causes.Stage.{OnMessage}
 use Rattle.cub_changes.proofs.Closed.{IsClosed}
 use Rattle.cub_changes.proofs.Messages.{taking_by}
-use Rattle.proof_schedule.specs.Facts.{Facts, BelievedBy}
+use Rattle.proof_schedule.specs.Facts.{Facts, BelievedBy, IsFirstLife}
 use Rattle.proof_schedule.specs.WatchLaws.{IsSilence, WatchLaws}
 use Rattle.proof_service.specs.ServiceLaws.{HeardTill}
 use Rattle.proof_lives.specs.Facts.{TickedAt}
-use Rattle.proof_lives.specs.Lives.{Lives, deed_of, store_at, beat_at}
+use Rattle.proof_lives.specs.Lives.{Lives, heard_first, deed_of, store_at, beat_at}
 use Rattle.lists.specs.Elements.{In}
 use Rattle.proof_lives.proofs.Order.{beats_rise}
+use Rattle.proof_lives.proofs.SameLife.{begins_first}
 use Rattle.proof_lives.proofs.Queuing.{ticking_watch}
 use Rattle.proof_lives.proofs.Cuts.{was_put_out}
 use Rattle.proof_lives.proofs.Inputs.{got_message, tick_there}
-use Rattle.proof_lives.proofs.Watching.{IsBeat, heard_now, timeout_at, beats, since}
+use Rattle.proof_lives.proofs.Watching.{IsBeat, heard_now, timeout_at, beats, since, back_before}
 use Rattle.proof_lives.specs.FactsBy.{Beyond, WroteBelief, facts_by}
 use Rattle.proof_cubs.specs.Grounds.{HasHeard}
 use Rattle.proof_cubs.proofs.Setting.{Setting}
@@ -74,8 +76,8 @@ module _ (p : Params) (c : ℕ) (inputs : ℕ → Input Msg) where
       (taking_hears p c stamp link m (store_at p c inputs i))
   watch_step i (Tick stamp) is = inl (ticking_watch p c stamp (store_at p c inputs i))
 
-  -- What the watch shows before an input is 0, or the reading of a heartbeat that was taken.
-  pub shown : (i : ℕ) → ((store_at p c inputs i).watch.heard ≡ 0) ⊎ HasHeard p c inputs i
+  -- What the watch shows before an input is what it showed at first, or the reading of a heartbeat that was taken.
+  pub shown : (i : ℕ) → ((store_at p c inputs i).watch.heard ≡ heard_first (stamp_of (inputs 0))) ⊎ HasHeard p c inputs i
   shown zero = inl refl
   shown (suc i) = ⊎_elim
       (λ e.
@@ -144,26 +146,33 @@ module _ (p : Params) (lives : Lives) (beyond : Beyond) (set : Setting p lives b
         long = omega arith;
         since = λ y heard le.
             since p lives set.lived c (beat_at (lives.input c) d.at) k.stamp.reading y ticked k.silent heard le;
-        back = λ w back le. absurd back;
+        back = λ y back le.
+            back_before p lives set.lived beyond set.fits c (beat_at (lives.input c) d.at) k.stamp.reading y ticked k.silent back le;
       })
+
+  -- The first life of a cub began in beat 0.
+  began_first : {c b l : ℕ} (w : TickedAt p lives c b l) → IsFirstLife R c b → beat_at (lives.input c) 0 ≡ 0
+  began_first {c} {b} {l} w first =
+      let wb : beat_at (lives.input c) w.at ≡ b = ap (λ (i : Input Msg). (stamp_of i).beat) w.is in
+      begins_first p lives beyond set.lived set.fits c w.at w.small w.done (subst (λ n. IsFirstLife R c n) (sym wb) first)
 
   -- The laws of heartbeats and belief.
   pub watch_laws : WatchLaws p R
   watch_laws = record {
-    beats = λ w first e. beats p lives set.lived w e;
+    beats = λ w first e. beats p lives set.lived beyond set.fits w first e;
     silent = λ w. silent w;
   }
 
-  -- A cub whose watch is not silent has heard its predecessor, or the run has just begun.
-  heard_till : {c b l : ℕ} (w : TickedAt p lives c b l)
+  -- In a first life a cub whose watch is not silent has heard its predecessor, or the run has just begun.
+  heard_till : {c b l : ℕ} (w : TickedAt p lives c b l) → beat_at (lives.input c) 0 ≡ 0
       → l ≤ (store_at p c (lives.input c) w.at).watch.heard + (store_at p c (lives.input c) w.at).watch.timeout
       → HeardTill p R c b l ⊎ (l ≤ p.deadman)
-  heard_till {c} {b} {l} w late =
+  heard_till {c} {b} {l} w first late =
       let inputs : ℕ → Input Msg = lives.input c in
       let life = set.lived c w.small in
       let timeout = timeout_at p c inputs w.at in
       ⊎_elim
-      (λ z. inr (omega arith))
+      (λ z. let none : heard_first (stamp_of (inputs 0)) ≡ 0 = rw first refl in inr (omega arith))
       (λ q.
       let before = q.before in
       let done = w.done in
@@ -181,9 +190,9 @@ module _ (p : Params) (lives : Lives) (beyond : Beyond) (set : Setting p lives b
       }))
       (shown p c inputs w.at)
 
-  -- So has a cub that does not believe its predecessor dead.
-  pub watches : {c b l : ℕ} → TickedAt p lives c b l → BelievedBy R c b ⊎ (HeardTill p R c b l ⊎ (l ≤ p.deadman))
-  watches {c} {b} {l} w =
+  -- So has a cub in its first life that does not believe its predecessor dead.
+  pub watches : {c b l : ℕ} → TickedAt p lives c b l → IsFirstLife R c b → BelievedBy R c b ⊎ (HeardTill p R c b l ⊎ (l ≤ p.deadman))
+  watches {c} {b} {l} w first =
       let inputs : ℕ → Input Msg = lives.input c in
       let stamp : Stamp = record { beat = b; reading = l } in
       let h : Store = store_at p c inputs w.at in
@@ -192,5 +201,5 @@ module _ (p : Params) (lives : Lives) (beyond : Beyond) (set : Setting p lives b
       let believes = silent_believes p c stamp h (lt-ltb _ _ s) in
       inl (subst (λ n. BelievedBy R c n) (ap (λ (i : Input Msg). (stamp_of i).beat) w.is)
       (believed_by p lives beyond set c w.at stamp w.small w.done w.is believes)))
-      (λ (g : l ≤ h.watch.heard + h.watch.timeout). inr (heard_till w g))
+      (λ (g : l ≤ h.watch.heard + h.watch.timeout). inr (heard_till w (began_first w first) g))
       (cases_lt (h.watch.heard + h.watch.timeout) l)

@@ -14,7 +14,7 @@ use Rattle.slot_plan.specs.Times.{cub_of}
 use Rattle.node_kit.specs.declared.journal.What.TheVariants as what
 use Rattle.node_kit.specs.declared.outbox.Out.{Out}
 use Rattle.node_kit.specs.declared.outbox.Out.TheVariants as out
-use Rattle.node_kit.specs.Steps.{Input}
+use Rattle.node_kit.specs.Steps.{Input, stamp_of}
 use Rattle.node_kit.specs.Steps.Input.{Take}
 use Rattle.node_kit.specs.Ways.{way_ahead, predecessor}
 use Rattle.partial_view.specs.declared.line.Line.{Line}
@@ -25,7 +25,7 @@ use Rattle.cub_rules.specs.State.{is_ask}
 use Rattle.cub_rules.specs.Messages.{shows}
 use Rattle.cub_rules.specs.Ticks.{ticking}
 use Rattle.cub_changes.specs.Laws.{believed_out}
-use Rattle.proof_lives.specs.Lives.{cut_outs, store_at, outs_at}
+use Rattle.proof_lives.specs.Lives.{heard_first, cut_outs, store_at, outs_at}
 use Rattle.lists.specs.Elements.{In}
 
 -- ---- starts
@@ -110,7 +110,9 @@ pub record HasHeard (p : Params) (c : ℕ) (inputs : ℕ → Input Msg) (i : ℕ
   pub from : link.0 ≡ (way_ahead p (predecessor p c) 1).0
   pub reading : (store_at p c inputs i).watch.heard ≡ stamp.reading
 
--- A watch shows 0, as at the opening, or the reading of a heartbeat.
+-- A watch shows what it showed when the life began, which is 0 or the reading of a return, or the
+-- reading of a heartbeat.
 abbrev pub WatchesShowHeartbeats : Type 0
 WatchesShowHeartbeats = (p : Params) (c : ℕ) (inputs : ℕ → Input Msg) (i : ℕ)
-    → ((store_at p c inputs i).watch.heard ≡ 0) ⊎ HasHeard p c inputs i
+    → ((store_at p c inputs i).watch.heard ≡ heard_first (stamp_of (inputs 0)))
+    ⊎ HasHeard p c inputs i

@@ -1,10 +1,11 @@
-//! That the cubs' own rules meet the laws of records, starts, heartbeats and deschedules, whatever befalls the cubs.
+//! That the cubs' own rules meet the laws of records, starts, heartbeats and deschedules, whatever befalls the cubs in a life.
 #![tactic(auto)]
 
 ghost use Rattle.proof_cubs.specs.Claims.{CubsMeetTheLaws};
 ghost use Rattle.proof_cubs.specs.Grounds.{BeliefIsWritten, PutsGoWhole, StartsAreLetIn, WatchesShowHeartbeats};
 
-/// Whatever befalls cubs whose messages are in form and in order, they meet the laws that one cub's rules can give.
+/// Whatever befalls cubs in a life, from beat 0 or from a return on, if their messages are in form and in order, they meet
+/// the laws that one cub's rules can give.
 pub fn cubs_meet_the_laws()
     ensures { CubsMeetTheLaws }
 {}
@@ -25,7 +26,7 @@ pub fn belief_is_written()
     ensures { BeliefIsWritten }
 {}
 
-/// What a cub's watch shows is the reading of a heartbeat that it took, or 0.
+/// What a cub's watch shows is the reading of a heartbeat that it took, or what it showed when the life began.
 pub fn watches_show_heartbeats()
     ensures { WatchesShowHeartbeats }
 {}

@@ -5,3 +5,4 @@ pub mod Laws
 pub mod Lives
 pub mod Pieces
 pub mod Rings
+pub mod TwoLives

@@ -1,5 +1,5 @@
--- Histories of a ring in which cubs may die: cubs, disks, a controller and the viewers, each by its rules.
-use Rattle.std.specs.Prelude.{◌≡◌, ℕ, ◌+◌, ◌<◌, ◌≤◌, true, false, List, []}
+-- Histories of a ring in which cubs may die and return: cubs, disks, a controller and the viewers, each by its rules.
+use Rattle.std.specs.Prelude.{◌≡◌, ℕ, zero, suc, ◌+◌, ◌<◌, ◌≤◌, true, false, List, [], ◌++◌}
 use Rattle.tiger_base.specs.Limits.{most_reading}
 use Rattle.tiger_base.specs.declared.tenancy.Ask.{Ask}
 use Rattle.tiger_base.specs.declared.message.Msg.{Msg}
@@ -9,18 +9,19 @@ use Rattle.slot_plan.specs.Times.{cub_of, disk_count}
 use Rattle.stripe_layout.specs.declared.catalogue.Catalogue.{Catalogue}
 use Rattle.node_kit.specs.declared.course.Order.{Order}
 use Rattle.node_kit.specs.Links.{links_of, viewers_of}
-use Rattle.node_kit.specs.Steps.{Deed, Input}
+use Rattle.node_kit.specs.Steps.{Deed, Input, stamp_of as input_stamp}
+use Rattle.node_kit.specs.declared.outbox.Out.{Out}
+use Rattle.cub_rules.specs.Cubs.{coming_back}
 use Rattle.run_facts.specs.Events.{is_death}
-use Rattle.run_facts.specs.Histories.{History, outs, reading, ticks}
+use Rattle.run_facts.specs.Histories.{History, IsRun, IsUp, open_beat, outs, reading}
 use Rattle.disk_core.specs.State.{DiskState}
 use Rattle.disk_core.specs.Rules.{disk_step}
 use Rattle.controller_core.specs.Orders.{Starts}
-use Rattle.proof_lives.specs.Lives.{outs_in}
-use Rattle.proof_lives.specs.OneLife.{IsOneLifeRun}
+use Rattle.proof_lives.specs.Lives.{outs_in, store_at}
 use Rattle.proof_controller.specs.Controllers.{controller, commands_at}
 use Rattle.proof_controller.specs.Orders.{AreCounted}
 use Rattle.proof_service.specs.Files.{IsOfFile}
-use Rattle.proof_facts.specs.Lives.{lives_of, acting}
+use Rattle.proof_facts.specs.Lives.{lives_of, later_lives_of, acting, later_from}
 
 -- The cubs, the disks, the controller and the viewers of a plan.
 abbrev pub node_count : Params → ℕ
@@ -47,6 +48,11 @@ pub record IsDiskOf (p : Params) (d : ℕ) (s : DiskState) : Type 0 where
   pub params : s.params ≡ p
   pub number : s.disk ≡ d
 
+-- What tells of a return goes out at the first input of the life that begins with it, before all else.
+abbrev pub return_outs : Params → ℕ → (ℕ → Input Msg) → ℕ → List (Out Msg)
+return_outs p c inputs zero = (coming_back p c (input_stamp (inputs 0)) (store_at p c inputs 0)).outs
+return_outs p c inputs (suc i) = []
+
 -- What each node puts out is what its rules make of what befell it, as far as its death lets it. A
 -- disk never changes, so its state is one for all events.
 pub record PutsOutByRules {S : Type 0} (step : S → Input Msg → Deed Msg S) (p : Params)
@@ -54,6 +60,10 @@ pub record PutsOutByRules {S : Type 0} (step : S → Input Msg → Deed Msg S) (
   pub cubs : (c i : ℕ)
       → c < p.cubs → i < acting h c
       → outs noted step h c i ≡ outs_in p (lives_of h) c i
+  pub back : (c i : ℕ)
+      → c < p.cubs → i < (later_lives_of h).count c
+      → outs noted step h c (later_from h c + i)
+      ≡ return_outs p c ((later_lives_of h).input c) i ++ outs_in p (later_lives_of h) c i
   pub disks : (d i : ℕ)
       → d < disk_count p → i < h.count (node_of_disk p d)
       → outs noted step h (node_of_disk p d) i
@@ -65,21 +75,19 @@ pub record PutsOutByRules {S : Type 0} (step : S → Input Msg → Deed Msg S) (
       ≡ commands_at p orders ((lives_of h).input (controller p)) i
   pub views : (i : ℕ) → i < h.count (viewers p) → outs noted step h (viewers p) i ≡ []
 
--- A history of a run in which nobody returns, whose nodes put out what their rules say and of which
--- no two neighbours die. A death may come in the middle of an event. Time is not too long.
+-- A history of a run whose nodes put out what their rules say and of which no two neighbours die. A
+-- death may come in the middle of an event, and a cub that died may return. Time is not too long.
 pub record IsRingHistory {S : Type 0} (step : S → Input Msg → Deed Msg S) (p : Params)
     (orders : List Order) (disk_at : ℕ → DiskState) (h : History Msg S) : Type 0 where
-  pub run : IsOneLifeRun noted step p (node_count p) h
+  pub run : IsRun noted step p (node_count p) h
   pub deaths : DieAlone p h
   pub rules : PutsOutByRules step p orders disk_at h
   pub counted : AreCounted p orders
   pub short : (n i : ℕ) → n < node_count p → i < h.count n → reading h n i ≤ most_reading
 
--- Each node has ended each beat below a number, or died.
+-- Each node that is up has ended each beat below a number.
 pub record IsUpTo {S : Type 0} (p : Params) (end : ℕ) (h : History Msg S) : Type 0 where
-  pub until : (n : ℕ)
-      → n < node_count p → ((i : ℕ) → i < h.count n → is_death (h.event n i) ≡ false)
-      → end ≤ ticks h n (h.count n)
+  pub until : (n : ℕ) → n < node_count p → IsUp h n → end ≤ open_beat h n (h.count n)
 
 -- Each order is for a whole file of the catalogue, which has the plan's disks and blocks.
 pub record AreOfCatalogue (p : Params) (catalogue : Catalogue) (orders : List Order) : Type 0 where

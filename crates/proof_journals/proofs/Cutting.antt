@@ -1,5 +1,5 @@
 -- What stands before an entry of a journal and behind it: by its event, and by the outputs of that.
-use Rattle.std.proofs.Common.{◌≡◌, ℕ, suc, ◌<◌, List, ◌∷◌, ◌++◌, map, false, Some, refl, sym, ap, subst, ◌∙◌, arith, ⊎_elim, inl, inr, append_assoc}
+use Rattle.std.proofs.Common.{◌≡◌, ℕ, suc, ◌+◌, ◌<◌, List, ◌∷◌, ◌++◌, map, false, Some, refl, sym, ap, subst, ◌∙◌, arith, ⊎_elim, inl, inr, append_assoc}
 use Rattle.std.specs.Prelude.{◌⊎◌, slice_get}
 use Rattle.std.proofs.lemmas.List.{append_cancel_left}
 use Rattle.tiger_base.specs.declared.number.LinkNo.{LinkNo}
@@ -23,17 +23,21 @@ use Rattle.run_facts.proofs.Journals.{is_got}
 use Rattle.disk_core.specs.State.{DiskState}
 use Rattle.proof_lives.specs.Lives.{cut_in, outs_at, outs_in}
 use Rattle.proof_lives.proofs.Going.{front_of_outs}
-use Rattle.proof_facts.specs.Lives.{lives_of, acting}
+use Rattle.proof_lives.specs.Histories.{input_of}
+use Rattle.run_facts.specs.Events.{stamp_at}
 use Rattle.lists.specs.Elements.{In}
 use Rattle.lists.proofs.Elements.{in_right, in_cases}
 use Rattle.lists.proofs.Each.{all_in}
 use Rattle.proof_lives.proofs.Carrying.{stamp_same}
 use Rattle.proof_journals.proofs.Written.{acted, one_event_more}
 use Rattle.proof_journals.proofs.Notes as old
-use Rattle.proof_journals.proofs.Journals.{inputs_of, got_at, put_out, so_far, wrote, written, so_far_on}
+use Rattle.proof_journals.proofs.Journals.{got_at, got_in, put_out, so_far, wrote, written, so_far_on}
 use Rattle.proof_facts.specs.Rings.{node_count}
-use Rattle.proof_journals.proofs.Events.{AreKept, journal_is, fair, acts_if_out}
-use Rattle.proof_journals.proofs.Lists.{moved, tail_same}
+use Rattle.proof_journals.proofs.BothLives.{IsNoReturn, before_it, not_returning}
+use Rattle.proof_lives.specs.TwoLifeRun.{WhichLife, IsOfLife, life_in, event_in}
+use Rattle.proof_lives.proofs.TwoLives.{input_in}
+use Rattle.proof_journals.proofs.Events.{AreKept, journal_is, fair, acts_if_out, input_of_life, outs_of_input}
+use Rattle.proof_journals.proofs.Lists.{moved, past_front, tail_same}
 
 module _ {S : Type 0} {step : S → Input Msg → Deed Msg S} {p : Params} {orders : List Order}
     {disk_at : ℕ → DiskState} {h : History Msg S} {journals : List (List Entry)}
@@ -82,60 +86,87 @@ module _ {S : Type 0} {step : S → Input Msg → Deed Msg S} {p : Params} {orde
             (in_cases f w.rest more.rest (moved f (sym tail) i));
       }
 
-  -- An entry of a cub is that of an output, behind those of what was put out before in its event.
+  -- An entry of a cub is that of an output of its rules at an input of one of its lives, behind those of what was put
+  -- out before in its event.
   pub record IsOutputOf (c : ℕ) (front : List Entry) (e : Entry) (o : Out Msg) : Type 0 where
-    pub at : ℕ
-    pub done : at < h.count c
-    pub lives : at < acting h c
+    pub which : WhichLife
+    pub input : ℕ
+    pub done : input < (life_in h which).count c
     pub earlier : List (Out Msg)
     pub later : List (Out Msg)
-    pub outs_are : outs_at p c (inputs_of h c) at ≡ earlier ++ o ∷ later
-    pub front_is : front ≡ so_far step h c at
-        ++ (got_at (inputs_of h c at) ++ map (entry_of noted (stamp_of (inputs_of h c at))) earlier)
-    pub stamp_is : e.stamp ≡ stamp_of (inputs_of h c at)
-    pub goes : In o (outs_in p (lives_of h) c at)
+    pub outs_are : outs_at p c ((life_in h which).input c) input ≡ earlier ++ o ∷ later
+    pub front_is : front ≡ so_far step h c (event_in h which c input)
+        ++ (got_at ((life_in h which).input c input) ++ map
+        (entry_of noted (stamp_of ((life_in h which).input c input))) (before_it h p which c input ++ earlier))
+    pub stamp_is : e.stamp ≡ stamp_of ((life_in h which).input c input)
+    pub goes : In o (outs_in p (life_in h which) c input)
 
-  -- Each entry of a cub that tells neither of a message that was got nor of a death is so.
-  cub_output : (c : ℕ) → c < p.cubs → (front : List Entry) (e : Entry) (back : List Entry)
+  -- What goes out in an event of a cub and does not tell of a return is so.
+  of_rules : (c at : ℕ) (k : IsOfLife h c at) → c < p.cubs → at < h.count c → (o : Out Msg) → IsNoReturn o
+      → (front : List Entry) (e : Entry) (earlier later : List (Out Msg))
+      → outs noted step h c at ≡ earlier ++ o ∷ later → e ≡ entry_of noted (stamp_at (h.event c at)) o
+      → front ≡ so_far step h c at ++ (got_in (h.event c at) ++ map (entry_of noted (stamp_at (h.event c at))) earlier)
+      → IsOutputOf c front e o
+  of_rules c at k small low o other front e earlier later all is front_is =
+      let w : WhichLife = k.which in
+      let i : ℕ = k.at in
+      let inputs : ℕ → Input Msg = (life_in h w).input c in
+      let past_it = past_front (before_it h p w c i) (outs_in p (life_in h w) c i) earlier o later
+      (sym all ∙ outs_of_input kept c at k small) (λ b. not_returning h p w c i o other b) in
+      let mid : List (Out Msg) = past_it.0 in
+      let whole = front_of_outs (cut_in (life_in h w) c i) (outs_at p c inputs i) in
+      let cut_off : List (Out Msg) = whole.0 in
+      let same : input_of (h.event c at) ≡ inputs i = ap (λ (j : ℕ). input_of (h.event c j)) k.is ∙ sym (input_in h w c i) in
+      let stamp : stamp_at (h.event c at) ≡ stamp_of (inputs i) =
+      stamp_same (h.event c at) ∙ ap (λ (x : Input Msg). stamp_of x) same in
+      record {
+        which = w;
+        input = i;
+        done = k.done;
+        earlier = mid;
+        later = later ++ cut_off;
+        outs_are = sym whole.1
+            ∙ ap (λ (os : List (Out Msg)). os ++ cut_off) (sym past_it.2)
+            ∙ append_assoc mid (o ∷ later) cut_off;
+        front_is = front_is
+            ∙ ap (λ (j : ℕ). so_far step h c j ++ (got_in (h.event c at)
+            ++ map (entry_of noted (stamp_at (h.event c at))) earlier)) k.is
+            ∙ ap (λ (x : Input Msg). so_far step h c (event_in h w c i) ++ (got_at x
+            ++ map (entry_of noted (stamp_at (h.event c at))) earlier)) same
+            ∙ ap (λ (s : Stamp). so_far step h c (event_in h w c i) ++ (got_at (inputs i)
+            ++ map (entry_of noted s) earlier)) stamp
+            ∙ ap (λ (os : List (Out Msg)). so_far step h c (event_in h w c i) ++ (got_at (inputs i)
+            ++ map (entry_of noted (stamp_of (inputs i))) os)) past_it.1;
+        stamp_is = ap (λ (x : Entry). x.stamp) is ∙ stamp;
+        goes = moved o past_it.2 (in_right o mid (o ∷ later) (inl refl));
+      }
+
+  -- So is each entry of a cub that tells neither of a message that was got, nor of a death or a return.
+  pub cub_output : (c : ℕ) → c < p.cubs → (front : List Entry) (e : Entry) (back : List Entry)
       → slice_get journals c ≡ Some (front ++ e ∷ back) → is_got e.what ≡ false → is_died e.what ≡ false
-      → (o : Out Msg) × (what_of noted o ≡ e.what) × IsAllowed noted p c o × IsOutputOf c front e o
+      → (o : Out Msg) × (what_of noted o ≡ e.what) × IsAllowed noted p c o × (IsNoReturn o → IsOutputOf c front e o)
   cub_output c small front e back at sent lives =
       let w = cut_at_entry c front e back at in
       let fairly = fair kept c w.at w.known w.done in
       let o = put_out step p c (h.event c w.at) (past noted step h c w.at) w.part e w.rest fairly sent lives w.event_is in
       let there : In o.output (outs noted step h c w.at) =
       moved o.output (sym o.outs_are) (in_right o.output o.earlier (o.output ∷ o.later) (inl refl)) in
-      let before = acts_if_out kept c w.at o.output w.known w.done there in
-      let rule = kept.ring.rules.cubs c w.at small before in
-      let whole = front_of_outs (cut_in (lives_of h) c w.at) (outs_at p c (inputs_of h c) w.at) in
-      let cut_off : List (Out Msg) = whole.0 in
-      let stamp = stamp_same (h.event c w.at) in (
+      let k = input_of_life kept c w.at w.known w.done (acts_if_out kept c w.at o.output there) in (
         o.output,
         ap (λ (x : Entry). x.what) (sym o.is),
         all_in (IsAllowed noted p c) o.output (outs noted step h c w.at) fairly there,
-        record {
-          at = w.at;
-          done = w.done;
-          lives = before;
-          earlier = o.earlier;
-          later = o.later ++ cut_off;
-          outs_are = sym whole.1
-              ∙ ap (λ (os : List (Out Msg)). os ++ cut_off) (sym rule ∙ o.outs_are)
-              ∙ append_assoc o.earlier (o.output ∷ o.later) cut_off;
-          front_is = w.front_is ∙ ap (λ (l : List Entry). so_far step h c w.at ++ l)
-              (o.part_is ∙ ap (λ (s : Stamp). got_at (inputs_of h c w.at) ++ map (entry_of noted s) o.earlier) stamp);
-          stamp_is = ap (λ (x : Entry). x.stamp) o.is ∙ stamp;
-          goes = moved o.output rule there;
-        },
+        λ other. of_rules c w.at k small w.done o.output other front e o.earlier o.later o.outs_are o.is
+            (w.front_is ∙ ap (λ (l : List Entry). so_far step h c w.at ++ l) o.part_is),
       )
 
   -- That of a cub's own is.
   pub own_output : (c : ℕ) → c < p.cubs → (front : List Entry) (e : Entry) (back : List Entry) (w : What)
-      → IsOwnEntry w → is_got w ≡ false → is_died w ≡ false
+      → IsOwnEntry w → IsNoReturn (out.Act w) → is_got w ≡ false → is_died w ≡ false
       → slice_get journals c ≡ Some (front ++ e ∷ back) → e.what ≡ w → IsOutputOf c front e (out.Act w)
-  own_output c small front e back w own sent lives at is =
+  own_output c small front e back w own other sent lives at is =
       let o = cub_output c small front e back at (ap is_got is ∙ sent) (ap is_died is ∙ lives) in
-      subst (λ (x : Out Msg). IsOutputOf c front e x) (acted o.0 w own (o.1 ∙ is)) o.3
+      let same : o.0 ≡ out.Act w = acted o.0 w own (o.1 ∙ is) in
+      subst (λ (x : Out Msg). IsOutputOf c front e x) same (o.3 (subst IsNoReturn (sym same) other))
 
   -- And that of a viewer state that was sent.
   pub sent_output : (c : ℕ) → c < p.cubs
@@ -144,9 +175,5 @@ module _ {S : Type 0} {step : S → Input Msg → Deed Msg S} {p : Params} {orde
       → e.what ≡ what.Sent link (note.ViewerState s) → IsOutputOf c front e (out.Send link (msg.ViewerState s))
   sent_output c small front e back link s at is =
       let o = cub_output c small front e back at (ap is_got is) (ap is_died is) in
-      subst (λ (x : Out Msg). IsOutputOf c front e x) (old.state_sent p c o.0 link s o.2 (o.1 ∙ is)) o.3
-
-  -- The cub put it out in the event.
-  pub did : (c : ℕ) (front : List Entry) (e : Entry) (o : Out Msg) → (q : IsOutputOf c front e o)
-      → In o (outs_at p c (inputs_of h c) q.at)
-  did c front e o q = moved o (sym q.outs_are) (in_right o q.earlier (o ∷ q.later) (inl refl))
+      let same : o.0 ≡ out.Send link (msg.ViewerState s) = old.state_sent p c o.0 link s o.2 (o.1 ∙ is) in
+      subst (λ (x : Out Msg). IsOutputOf c front e x) same (o.3 (subst IsNoReturn (sym same) tt))

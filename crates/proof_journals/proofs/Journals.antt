@@ -10,19 +10,17 @@ use Rattle.node_kit.specs.declared.journal.Entry.{Entry}
 use Rattle.node_kit.specs.declared.outbox.Out.{Out}
 use Rattle.node_kit.specs.Steps.{Deed, Input, IsAllowed, entry_of}
 use Rattle.run_facts.specs.Events.{NodeEvent, Past, outs_of, stamp_at, entries_at}
-use Rattle.run_facts.specs.Histories.{History, past}
+use Rattle.run_facts.specs.Histories.{History, past, beat}
 use Rattle.run_facts.specs.Accounts.{Rising}
 use Rattle.run_facts.specs.Timed.{is_died}
 use Rattle.run_facts.proofs.Journals.{is_got, stamped-written, rising-append}
-use Rattle.proof_lives.specs.Lives.{IsLife, beat_at}
 use Rattle.lists.specs.Elements.{In}
 use Rattle.proof_lives.specs.Histories.{input_of, lives_of}
 use Rattle.lists.proofs.Elements.{in_right, in_cases}
 use Rattle.lists.proofs.Each.{all_in}
-use Rattle.proof_lives.proofs.Order.{beats_rise}
 use Rattle.proof_journals.proofs.Cuts.{all_from, IsAhead, two_cuts, rising_joined}
 use Rattle.proof_journals.proofs.Lists.{past_front, in_front}
-use Rattle.proof_journals.proofs.Written.{written_at, one_event_more, stamp_same}
+use Rattle.proof_journals.proofs.Written.{written_at, one_event_more}
 pub use Rattle.proof_journals.proofs.Wrote.{got_at, got_in}
 use Rattle.proof_journals.proofs.Wrote.{sent_in, died_in, entries_are, got_is, died_is}
 
@@ -125,26 +123,27 @@ module _ {S : Type 0} (step : S → Input Msg → Deed Msg S) (h : History Msg S
       all_in (λ (x : Entry). x.stamp ≡ stamp_at ev) e (wrote i) (subst (λ (l : List Entry). AllByRecursion (λ (x : Entry). x.stamp ≡ stamp_at ev) l) (append-nil (wrote i)) all) k
 
   -- and so its beat
-  pub beat_is : (i : ℕ) (e : Entry) → In e (wrote i) → e.stamp.beat ≡ beat_at (inputs_of h n) i
-  beat_is i e k = ap (λ (s : Stamp). s.beat) (stamped i e k ∙ stamp_same (h.event n i))
+  pub beat_is : (i : ℕ) (e : Entry) → In e (wrote i) → e.stamp.beat ≡ beat h n i
+  beat_is i e k = ap (λ (s : Stamp). s.beat) (stamped i e k)
 
   -- entries of one beat have beats that never fall
   pub level : (b : ℕ) (es : List Entry) → ((e : Entry) → In e es → e.stamp.beat ≡ b) → Rising (λ (e : Entry). e.stamp.beat) es
   level b es same = subst (Rising (λ (e : Entry). e.stamp.beat)) (append-nil es)
       (rising-append (λ (e : Entry). e.stamp.beat) b es [] (all_from (λ (e : Entry). e.stamp.beat ≡ b) es same) tt tt)
 
-  -- the beats of a journal never fall
-  pub rising_so_far : (p : Params) → IsLife p (h.count n) (inputs_of h n) → (i : ℕ) → i ≤ h.count n → Rising (λ (e : Entry). e.stamp.beat) (so_far i)
-  rising_so_far p life zero low = tt
-  rising_so_far p life (suc i) low =
+  -- the beats of a journal never fall, if those of the node's events do not
+  pub rising_so_far : ((j i : ℕ) → j ≤ i → i < h.count n → beat h n j ≤ beat h n i) → (i : ℕ) → i ≤ h.count n
+      → Rising (λ (e : Entry). e.stamp.beat) (so_far i)
+  rising_so_far rise zero low = tt
+  rising_so_far rise (suc i) low =
       subst (Rising (λ (e : Entry). e.stamp.beat)) (sym (one_event_more step h n i))
-      (rising_joined (λ (e : Entry). e.stamp.beat) (so_far i) (wrote i) (rising_so_far p life i (omega arith)) (level (beat_at (inputs_of h n) i) (wrote i) (beat_is i))
+      (rising_joined (λ (e : Entry). e.stamp.beat) (so_far i) (wrote i) (rising_so_far rise i (omega arith)) (level (beat h n i) (wrote i) (beat_is i))
       (λ x y k l.
       let w = written_at step h n i x k in
       let b = w.before in
       let one = beat_is w.at x w.there in
       let two = beat_is i y l in
-      let r = beats_rise p (h.count n) (inputs_of h n) life w.at i (omega arith) (omega arith) in
+      let r = rise w.at i (omega arith) (omega arith) in
       omega arith))
 
   -- what later events have written stands behind

@@ -23,43 +23,47 @@ use Rattle.node_kit.specs.Steps.{Deed, Input, IsAllowed, entry_of, stamp_of}
 use Rattle.node_kit.specs.Steps.Input.{Take, Tick}
 use Rattle.cub_rules.specs.declared.store.Store.{Store}
 use Rattle.run_facts.specs.Accounts.{Rising}
-use Rattle.run_facts.specs.Events.{NodeEvent, Past, entries_at, outs_of, stamp_at, is_tick_input}
+use Rattle.run_facts.specs.Events.{NodeEvent, Past, entries_at, outs_of, stamp_at, is_tick, is_tick_input}
 use Rattle.run_facts.specs.Histories.{History, outs, past, beat}
 use Rattle.run_model.specs.Moments.{is_put_of}
 use Rattle.run_model.specs.Orders as ordering
 use Rattle.disk_core.specs.State.{DiskState}
 use Rattle.controller_core.specs.Orders.{Starts}
-use Rattle.proof_lives.specs.Lives.{cut_in, deed_of, store_at, outs_at}
-use Rattle.proof_lives.proofs.Acting.{beat_same}
+use Rattle.proof_lives.specs.Lives.{Lives, cut_in, deed_of, store_at, outs_at, outs_in}
+use Rattle.proof_lives.specs.TwoLifeRun.{WhichLife, IsOfLife, life_in, event_in}
+use Rattle.proof_lives.proofs.TwoLives.{input_in}
+use Rattle.proof_lives.proofs.Carrying.{tick_same}
 use Rattle.proof_lives.proofs.Cuts.{was_put_out}
 use Rattle.proof_lives.proofs.Going.{front_of_outs}
 use Rattle.lists.specs.Elements.{In}
-use Rattle.proof_lives.specs.Facts.{DidAt, TookAt}
+use Rattle.proof_lives.specs.Facts.{TookAt}
 use Rattle.proof_lives.specs.Histories.{input_of}
 use Rattle.lists.proofs.Elements.{in_left, in_right, in_cases, from_map, in_map}
 use Rattle.lists.proofs.Each.{all_in}
 use Rattle.proof_lives.proofs.Inserting.{put_out}
-use Rattle.proof_lives.proofs.Order.{behind, tick_of}
+use Rattle.proof_lives.proofs.Order.{tick_of}
 use Rattle.proof_lives.proofs.States.{put_at_tick}
 use Rattle.proof_lives.proofs.Waiting.{once_at}
 use Rattle.proof_lives.proofs.KeepingRecords.{keeps_records}
-use Rattle.proof_journals.proofs.Singles.{entries_one, puts, deed_single}
-use Rattle.proof_journals.proofs.Ones.{IsOne, one_front}
+use Rattle.proof_journals.proofs.Singles.{entries_one, puts, put_found, deed_single}
+use Rattle.proof_journals.proofs.Ones.{IsNone, IsOne, none_one, one_append, one_front}
 use Rattle.proof_journals.proofs.Written.{acted, event_wrote}
-use Rattle.proof_journals.proofs.Journals.{inputs_of, got_at, so_far, wrote, beat_is, rising_so_far}
-use Rattle.proof_schedule.specs.Facts.{Ended, DiedBy}
+use Rattle.proof_journals.proofs.Journals.{got_at, so_far, wrote, beat_is, rising_so_far}
+use Rattle.proof_schedule.specs.Facts.{Ended}
 use Rattle.proof_schedule.specs.Laws.{Laws}
 use Rattle.proof_schedule.proofs.Origins.{took_held}
-use Rattle.proof_moments.specs.Ties.{StandsIn, Keeps}
+use Rattle.proof_moments.specs.Ties.{StandsIn, IsDeadIn, Keeps}
 use Rattle.proof_facts.specs.Facts.{facts_of}
-use Rattle.proof_facts.specs.Lives.{lives_of, acting}
 use Rattle.proof_facts.specs.Rings.{node_count}
 use Rattle.proof_journals.specs.Journals.{JournalsKeepOrder}
 use Rattle.proof_journals.proofs.Wrote.{sent_in, died_in, entries_are, died_not_own}
 use Rattle.proof_journals.proofs.Outputs.{OfPut, IsNoBelief, believes_first}
-use Rattle.proof_journals.proofs.Events.{AreKept, acts_if_out, is_acting, fair, journal_is, life_of, own_entry, cub_acts, who_acts, written_in}
+use Rattle.proof_journals.proofs.BothLives.{before_it, not_returning, in_life}
+use Rattle.proof_journals.proofs.Living.{tick_is}
+use Rattle.proof_journals.proofs.Events.{AreKept, acts_if_out, fair, journal_is, cub_entry, input_of_life, outs_of_input, rules_did, beats_rise, behind_tick, who_acts, written_in}
 use Rattle.proof_journals.proofs.Cutting.{IsCutIn, cut_at_entry, own_output}
-use Rattle.proof_journals.proofs.Ending.{ended_or_died}
+use Rattle.proof_journals.proofs.Ending.{ended_or_dead}
+use Rattle.proof_journals.proofs.Since.{since}
 use Rattle.proof_journals.proofs.Views.{shows, shown}
 use Rattle.proof_journals.proofs.Lists.{moved, in_front, one_behind, none_behind}
 
@@ -75,6 +79,10 @@ tick_wrote step n p e before t fair =
     got_none : (i : Input Msg) → is_tick_input i ≡ true → got_at i ≡ []
     got_none (Tick stamp) q = refl
     got_none (Take stamp link m) q = absurd (cc)
+
+-- A tick's input is one.
+tick_input : (e : NodeEvent Msg) → is_tick e ≡ true → is_tick_input (input_of e) ≡ true
+tick_input e t = ap is_tick_input (tick_is e t).0
 
 -- ---- one order
 
@@ -100,7 +108,7 @@ module _ {S : Type 0} {step : S → Input Msg → Deed Msg S} {p : Params} {orde
   rising n j at =
       let k = journal_is kept n j at in
       subst (Rising (λ (e : Entry). e.stamp.beat)) (sym k.1)
-      (rising_so_far step h n p (life_of kept n k.0) (h.count n) (omega arith))
+      (rising_so_far step h n (λ i m le low. beats_rise kept n i m k.0 le low) (h.count n) (omega arith))
 
   one_order : (a b : Ask) → ordering.IsOrdered orders a → ordering.IsOrdered orders b → a.instance.0 ≡ b.instance.0
       → a ≡ b
@@ -115,24 +123,26 @@ module _ {S : Type 0} {step : S → Input Msg → Deed Msg S} {p : Params} {orde
   -- The event of a Put is a tick of a cub.
   record IsPutIn (n i : ℕ) (t : Tenancy) : Type 0 where
     small : n < p.cubs
-    before : i < acting h n
-    tick : is_tick_input (inputs_of h n i) ≡ true
+    place : IsOfLife h n i
+    tick : is_tick (h.event n i) ≡ true
 
   put_in : (n i : ℕ) (e : Entry) (t : Tenancy) → n < node_count p → i < h.count n → In e (wrote step h n i)
       → e.what ≡ what.Put t → IsPutIn n i t
   put_in n i e t known low k is =
       let r = event_wrote step p n (h.event n i) (past noted step h n i) e (what.Put t)
       (fair kept n i known low) tt k is in
-      let before = acts_if_out kept n i (put_out t) known low r.0 in
+      let acts = acts_if_out kept n i (put_out t) r.0 in
+      let l = input_of_life kept n i known low acts in
       ⊎_elim
-      (λ c. record {
-        small = c.0;
-        before = before;
-        tick = put_at_tick p n kept.plan c.0 (inputs_of h n i) (store_at p n (inputs_of h n) i) t
-            (was_put_out p (lives_of h) n i (put_out t) c.1);
-      })
+      (λ small.
+      let inputs : ℕ → Input Msg = (life_in h l.which).input n in
+      let did = was_put_out p (life_in h l.which) n l.at (put_out t) (rules_did kept n i (put_out t) l small tt r.0) in
+      let tick = put_at_tick p n kept.plan small (inputs l.at) (store_at p n inputs l.at) t did in
+      let same : input_of (h.event n i) ≡ inputs l.at =
+      ap (λ (j : ℕ). input_of (h.event n j)) l.is ∙ sym (input_in h l.which n l.at) in
+      record { small = small; place = l; tick = tick_same (h.event n i) acts ∙ ap is_tick_input same ∙ tick })
       (λ o. let stop : what.Put t ≡ what.Gone o.2 = o.3 in absurd (cc))
-      (who_acts kept n i (what.Put t) known before r.0)
+      (who_acts kept n i (what.Put t) known low r.0)
 
   event_there : (n : ℕ) (xs : List Entry) (e : Entry) (ys : List Entry) → (c : IsCutIn kept n xs e ys)
       → In e (wrote step h n c.at)
@@ -148,16 +158,39 @@ module _ {S : Type 0} {step : S → Input Msg → Deed Msg S} {p : Params} {orde
       let put = put_in n c.at e t c.known c.done (event_there n xs e ys c) is in
       let one = beat_is step h n c.at e (event_there n xs e ys c) in
       let two = beat_is step h n k.0 f k.3 in
-      let l = behind p (h.count n) (inputs_of h n) (life_of kept n c.known) c.at k.0 k.1 k.2 put.tick in
+      let l = behind_tick kept n c.at k.0 c.known k.1 k.2 put.tick in
       omega arith)
       (c.behind f i)
 
-  -- What goes out in an event of a cub is a front of what its rules put out.
-  outs_are : (n i : ℕ) → n < p.cubs → i < acting h n
-      → (rest : List (Out Msg)) × (outs noted step h n i ++ rest ≡ outs_at p n (inputs_of h n) i)
-  outs_are n i small low =
-      let front = front_of_outs (cut_in (lives_of h) n i) (outs_at p n (inputs_of h n) i) in
-      (front.0, ap (λ (os : List (Out Msg)). os ++ front.0) (kept.ring.rules.cubs n i small low) ∙ front.1)
+  -- What goes out in an event of a cub is a front of what its rules put out, behind what tells of a return.
+  outs_are : (n i : ℕ) → n < p.cubs → (l : IsOfLife h n i)
+      → (rest : List (Out Msg)) × (outs noted step h n i ++ rest
+      ≡ before_it h p l.which n l.at ++ outs_at p n ((life_in h l.which).input n) l.at)
+  outs_are n i small l =
+      let lives : Lives = life_in h l.which in
+      let before : List (Out Msg) = before_it h p l.which n l.at in
+      let front = front_of_outs (cut_in lives n l.at) (outs_at p n (lives.input n) l.at) in (
+        front.0,
+        ap (λ (os : List (Out Msg)). os ++ front.0) (outs_of_input kept n i l small)
+            ∙ append_assoc before (outs_in p lives n l.at) front.0
+            ∙ ap (λ (os : List (Out Msg)). before ++ os) front.1,
+      )
+
+  -- What tells of a return is no Put.
+  return_no_put : (w : WhichLife) (n i v : ℕ) → IsNone (puts v) (before_it h p w n i)
+  return_no_put w n i v o k e =
+      let f = put_found v o e in
+      not_returning h p w n i (put_out f.0) tt (subst (λ (x : Out Msg). In x (before_it h p w n i)) f.1 k)
+
+  outs_single : (w : WhichLife) (n i v : ℕ)
+      → IsOne (puts v) (before_it h p w n i ++ outs_at p n ((life_in h w).input n) i)
+  outs_single w n i v =
+      let inputs : ℕ → Input Msg = (life_in h w).input n in
+      let none = return_no_put w n i v in
+      one_append (puts v) (before_it h p w n i) (outs_at p n inputs i)
+      (none_one (puts v) (before_it h p w n i) none)
+      (deed_single p n v (inputs i) (store_at p n inputs i) (once_at p n inputs i))
+      (λ x y k l s u. none x k s)
 
   one_put : (n : ℕ) (xs ys : List Entry) (e f : Entry) (t u : Tenancy) → slice_get journals n ≡ Some (xs ++ e ∷ ys)
       → e.what ≡ what.Put t → In f ys → f.what ≡ what.Put u
@@ -166,12 +199,11 @@ module _ {S : Type 0} {step : S → Input Msg → Deed Msg S} {p : Params} {orde
       let c = cut_at_entry kept n xs e ys at in
       let put = put_in n c.at e t c.known c.done (event_there n xs e ys c) is in
       let v : ℕ = t.instance.0 in
-      let inputs : ℕ → Input Msg = inputs_of h n in
-      let front = outs_are n c.at put.small put.before in
+      let front = outs_are n c.at put.small put.place in
       let outs_one : IsOne (puts v) (outs noted step h n c.at) =
       one_front (puts v) (outs noted step h n c.at) front.0
       (subst (λ (os : List (Out Msg)). IsOne (puts v) os) (sym front.1)
-      (deed_single p n v (inputs c.at) (store_at p n inputs c.at) (once_at p n inputs c.at))) in
+      (outs_single put.place.which n put.place.at v)) in
       let one : IsOne (λ (x : Entry). is_put_of v x.what) (c.part ++ e ∷ c.rest) =
       subst (λ (es : List Entry). IsOne (λ (x : Entry). is_put_of v x.what) es) (sym c.event_is)
       (entries_one step p n v (h.event n c.at) (past noted step h n c.at) (fair kept n c.at c.known c.done) outs_one) in
@@ -181,40 +213,52 @@ module _ {S : Type 0} {step : S → Input Msg → Deed Msg S} {p : Params} {orde
 
   -- In the tick of a Put no belief is written behind it.
   no_belief : (n i : ℕ) (part : List Entry) (e : Entry) (rest : List Entry) (f : Entry) (t : Tenancy) (d : CubNo)
-      → IsPutIn n i t → n < node_count p → part ++ e ∷ rest ≡ wrote step h n i
+      → IsPutIn n i t → n < node_count p → i < h.count n → part ++ e ∷ rest ≡ wrote step h n i
       → e.what ≡ what.Put t → In f rest → f.what ≡ what.Believed d → ⊥
-  no_belief n i part e rest f t d put known event is k told =
-      let inputs : ℕ → Input Msg = inputs_of h n in
+  no_belief n i part e rest f t d put known done event is k told =
+      let w : WhichLife = put.place.which in
+      let at : ℕ = put.place.at in
+      let inputs : ℕ → Input Msg = (life_in h w).input n in
       let stamp : Stamp = stamp_at (h.event n i) in
-      let input = tick_of (inputs i) put.tick in
-      let store : Store = store_at p n inputs i in
+      let same : input_of (h.event n i) ≡ inputs at =
+      ap (λ (j : ℕ). input_of (h.event n j)) put.place.is ∙ sym (input_in h w n at) in
+      let ticks : is_tick_input (input_of (h.event n i)) ≡ true = tick_input (h.event n i) put.tick in
+      let input = tick_of (inputs at) (ap is_tick_input (sym same) ∙ ticks) in
+      let store : Store = store_at p n inputs at in
       let b = believes_first p n input.0 store in
-      let done = (is_acting kept n i known put.before).0 in
-      let front = outs_are n i put.small put.before in
+      let back : List (Out Msg) = before_it h p w n at in
+      let first : List (Out Msg) = back ++ b.first in
+      let front = outs_are n i put.small put.place in
       let event_outs : List (Out Msg) = outs noted step h n i in
       let wrote_is : wrote step h n i ≡ map (entry_of noted stamp) event_outs ++ died_in (h.event n i) =
-      tick_wrote step n p (h.event n i) (past noted step h n i) put.tick (fair kept n i known done) in
+      tick_wrote step n p (h.event n i) (past noted step h n i) ticks (fair kept n i known done) in
       let inside = in_front (map (entry_of noted stamp) event_outs) (died_in (h.event n i)) part e rest (event ∙ wrote_is)
       (λ k. died_not_own (h.event n i) e (what.Put t) k is tt) in
       let more : List Entry = map (entry_of noted stamp) front.0 in
-      let outs_is : event_outs ++ front.0 ≡ b.first ++ b.rest =
-      front.1 ∙ ap (λ (q : Input Msg). (deed_of p n q store).outs) input.1 ∙ b.is in
-      let all : part ++ e ∷ (inside.0 ++ more) ≡ map (entry_of noted stamp) b.first ++ map (entry_of noted stamp) b.rest =
+      let outs_is : event_outs ++ front.0 ≡ first ++ b.rest =
+      front.1
+      ∙ ap (λ (q : Input Msg). back ++ (deed_of p n q store).outs) input.1
+      ∙ ap (λ (os : List (Out Msg)). back ++ os) b.is
+      ∙ sym (append_assoc back b.first b.rest) in
+      let all : part ++ e ∷ (inside.0 ++ more) ≡ map (entry_of noted stamp) first ++ map (entry_of noted stamp) b.rest =
       sym (append_assoc part (e ∷ inside.0) more)
       ∙ ap (λ (es : List Entry). es ++ more) inside.1
       ∙ sym (map-append (entry_of noted stamp) event_outs front.0)
       ∙ ap (λ (os : List (Out Msg)). map (entry_of noted stamp) os) outs_is
-      ∙ map-append (entry_of noted stamp) b.first b.rest in
+      ∙ map-append (entry_of noted stamp) first b.rest in
       let behind_it : In f (inside.0 ++ more) = ⊎_elim
       (λ j. in_left f inside.0 more j)
       (λ j. absurd (died_not_own (h.event n i) f (what.Believed d) j told tt))
       (in_cases f inside.0 (died_in (h.event n i)) (moved f (sym inside.2) k)) in
       none_behind (λ (x : Entry). x.what ≡ what.Put t) (λ (x : Entry). x.what ≡ what.Believed d)
-      (map (entry_of noted stamp) b.first) (map (entry_of noted stamp) b.rest) part e (inside.0 ++ more) f
+      (map (entry_of noted stamp) first) (map (entry_of noted stamp) b.rest) part e (inside.0 ++ more) f
       (λ x j q.
-      let m = from_map (entry_of noted stamp) x b.first j in
+      let m = from_map (entry_of noted stamp) x first j in
       let o : m.0 ≡ put_out t = acted m.0 (what.Put t) tt (ap (λ (y : Entry). y.what) (sym m.2) ∙ q) in
-      all_in (OfPut (λ u. ⊥)) (put_out t) b.first b.puts_none (subst (λ (y : Out Msg). In y b.first) o m.1))
+      ⊎_elim
+      (λ y. not_returning h p w n at (put_out t) tt y)
+      (λ y. all_in (OfPut (λ u. ⊥)) (put_out t) b.first b.puts_none y)
+      (in_cases (put_out t) back b.first (subst (λ (y : Out Msg). In y first) o m.1)))
       (λ x j q.
       let m = from_map (entry_of noted stamp) x b.rest j in
       let o : m.0 ≡ out.Act (what.Believed d) =
@@ -229,7 +273,7 @@ module _ {S : Type 0} {step : S → Input Msg → Deed Msg S} {p : Params} {orde
       let c = cut_at_entry kept n xs e ys at in
       let put = put_in n c.at e t c.known c.done (event_there n xs e ys c) is in
       later n xs e ys f t c is i
-      (λ k. no_belief n c.at c.part e c.rest f t d put c.known c.event_is is k told)
+      (λ k. no_belief n c.at c.part e c.rest f t d put c.known c.done c.event_is is k told)
 
   -- ---- a record that is taken
 
@@ -237,50 +281,54 @@ module _ {S : Type 0} {step : S → Input Msg → Deed Msg S} {p : Params} {orde
     put_first : (n : ℕ) (xs ys : List Entry) (e : Entry) (q : Rec) → slice_get journals n ≡ Some (xs ++ e ∷ ys)
         → e.what ≡ what.Took q
         → ((f : Entry) × In f xs × (f.what ≡ what.Put q.tenancy))
-        ⊎ ((c x : ℕ) × DidAt p (lives_of h) c (put_out q.tenancy) x × (x < e.stamp.beat))
+        ⊎ ((c x : ℕ) × (facts_of p orders h).Put c q.tenancy x × (x < e.stamp.beat))
     put_first n xs ys e q at is =
         let s : StandsIn journals n e = record {
           journal = xs ++ e ∷ ys;
           at = at;
           there = in_right e xs (e ∷ ys) (inl refl);
         } in
-        let d = own_entry kept n e (what.Took q) s tt is in
-        let small = (cub_acts kept n (what.Took q) e.stamp (λ v k. absurd (cc)) d).0 in
-        let o = own_output kept n small xs e ys (what.Took q) tt refl refl at is in
-        let inputs : ℕ → Input Msg = inputs_of h n in
+        let small = (cub_entry kept n e (what.Took q) s tt tt (λ v k. absurd (cc)) is).small in
+        let o = own_output kept n small xs e ys (what.Took q) tt tt refl refl at is in
+        let lives : Lives = life_in h o.which in
+        let inputs : ℕ → Input Msg = lives.input n in
+        let back : List (Out Msg) = before_it h p o.which n o.input in
+        let stamp : Stamp = stamp_of (inputs o.input) in
         ⊎_elim
-        (λ (t : is_tick_input (inputs o.at) ≡ true).
-        let tick = tick_of (inputs o.at) t in
-        let put = ((keeps_records p n inputs o.at kept.plan small).put q tick.0 o.earlier o.later tick.1
+        (λ (t : is_tick_input (inputs o.input) ≡ true).
+        let tick = tick_of (inputs o.input) t in
+        let put = ((keeps_records p n inputs o.input kept.plan small).put q tick.0 o.earlier o.later tick.1
         o.outs_are).0 in
-        let f : Entry = entry_of noted (stamp_of (inputs o.at)) (put_out q.tenancy) in
+        let f : Entry = entry_of noted stamp (put_out q.tenancy) in
         let inside : In f xs = moved f (sym o.front_is)
-        (in_right f (so_far step h n o.at) _
-        (in_right f (got_at (inputs o.at)) _
-        (in_map (entry_of noted (stamp_of (inputs o.at))) (put_out q.tenancy) o.earlier put))) in
+        (in_right f (so_far step h n (event_in h o.which n o.input)) _
+        (in_right f (got_at (inputs o.input)) _
+        (in_map (entry_of noted stamp) (put_out q.tenancy) (back ++ o.earlier)
+        (in_right (put_out q.tenancy) back o.earlier put)))) in
         inl (f, inside, refl))
-        (λ (f : is_tick_input (inputs o.at) ≡ false).
-        let took : TookAt p (lives_of h) n q.tenancy q.visit e.stamp.beat = record {
+        (λ (f : is_tick_input (inputs o.input) ≡ false).
+        let took : TookAt p lives n q.tenancy q.visit e.stamp.beat = record {
           kind = q.kind;
           done = record {
             small = small;
-            at = o.at;
-            done = o.lives;
+            at = o.input;
+            done = o.done;
             in_beat = ap (λ (x : Stamp). x.beat) (sym o.stamp_is);
             did = o.goes;
           };
           message = f;
         } in
-        let k = took_held p (facts_of p orders h) law took in
+        let k = took_held p (facts_of p orders h) law {c = n} {n = q.visit} {y = e.stamp.beat} {t = q.tenancy}
+        (in_life h (λ l. TookAt p l n q.tenancy q.visit e.stamp.beat) o.which took) in
         inr (k.cub, k.beat, k.put, k.before))
-        (cases_Bool (is_tick_input (inputs o.at)))
+        (cases_Bool (is_tick_input (inputs o.input)))
 
     ended : (n c b : ℕ) (e : Entry) → StandsIn journals n e → b < e.stamp.beat → c < p.cubs
-        → Ended (facts_of p orders h) c b ⊎ DiedBy (facts_of p orders h) c b
+        → Ended (facts_of p orders h) c b ⊎ IsDeadIn (facts_of p orders h) c b
     ended n c b e s l small =
         let x = written_in kept n e s in
-        let when : e.stamp.beat ≡ beat h n x.1.at = beat_is step h n x.1.at e x.1.there ∙ sym (beat_same h n x.1.at) in
-        ended_or_died kept.ring n x.1.at c b x.0 x.1.before (omega arith) small
+        let when : e.stamp.beat ≡ beat h n x.1.at = beat_is step h n x.1.at e x.1.there in
+        ended_or_dead kept.ring n x.1.at c b x.0 x.1.before (omega arith) small
 
     pub keeps : Keeps p (facts_of p orders h) orders journals
     keeps = record {
@@ -289,8 +337,9 @@ module _ {S : Type 0} {step : S → Input Msg → Deed Msg S} {p : Params} {orde
       belief_first = belief_first;
       put_first = put_first;
       ended = ended;
+      since = λ n xs ys e f small at is i. since kept n xs ys e f small at is i;
       shows = λ c b l upper lower q cut w i. shows kept c b l upper lower q cut w i;
-      shown = λ c b l n t upper lower cut w s. shown kept c b l n t upper lower cut w s;
+      shown = λ c b l n t upper lower cut w s. shown kept c b n t upper lower cut s;
       one_order = one_order;
     }
 

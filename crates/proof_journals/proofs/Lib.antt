@@ -1,4 +1,5 @@
 pub mod Besides
+pub mod BothLives
 pub mod Cuts
 pub mod Cutting
 pub mod Ending
@@ -15,6 +16,7 @@ pub mod Others
 pub mod Outputs
 pub mod Recorded
 pub mod Records
+pub mod Since
 pub mod Singles
 pub mod Telling
 pub mod Views

@@ -35,10 +35,11 @@ use Rattle.lists.proofs.Each.{all_in}
 
 -- ---- beliefs and stops
 
--- A cub believes no other dead than its predecessor, and tells of no stop.
+-- By its rules a cub believes no other dead than its predecessor, and tells of no stop and of no return.
 abbrev IsBelief : Params → ℕ → Out Msg → Type 0
 IsBelief p c (out.Act (what.Believed d)) = d.0 ≡ predecessor p c
 IsBelief p c (out.Act (what.Gone v)) = ⊥
+IsBelief p c (out.Act what.Returned) = ⊥
 IsBelief p c other = Unit {0}
 
 module _ (p : Params) (c : ℕ) where
@@ -66,6 +67,11 @@ pub tells_no_stop : (p : Params) (c : ℕ) (inputs : ℕ → Input Msg) (i : ℕ
     → In (out.Act (what.Gone v)) (outs_at p c inputs i) → ⊥
 tells_no_stop p c inputs i v k =
     all_in (IsBelief p c) (out.Act (what.Gone v)) _ (believes p c (inputs i) (store_at p c inputs i)) k
+
+pub tells_no_return : (p : Params) (c : ℕ) (inputs : ℕ → Input Msg) (i : ℕ)
+    → In (out.Act what.Returned) (outs_at p c inputs i) → ⊥
+tells_no_return p c inputs i k =
+    all_in (IsBelief p c) (out.Act what.Returned) _ (believes p c (inputs i) (store_at p c inputs i)) k
 
 -- ---- Puts
 

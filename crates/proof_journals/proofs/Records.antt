@@ -1,5 +1,5 @@
 -- That the journal of a cub tells the records of its view, and that each state it sends follows from one of them.
-use Rattle.std.proofs.Common.{◌≡◌, List, [], ◌∷◌, ◌++◌, map, refl, sym, ap, ◌∙◌, append_assoc, append-nil}
+use Rattle.std.proofs.Common.{◌≡◌, List, [], ◌∷◌, ◌++◌, map, true, false, refl, sym, ap, ◌∙◌, append_assoc, append-nil}
 use Rattle.tiger_base.specs.declared.number.Stamp.{Stamp}
 use Rattle.tiger_base.specs.declared.tenancy.Rec.{Rec}
 use Rattle.tiger_base.specs.declared.message.Msg.{Msg}
@@ -10,7 +10,7 @@ use Rattle.node_kit.specs.declared.outbox.Out.TheVariants as out
 use Rattle.node_kit.specs.Steps.{Deed, Input, IsAllowed, entry_of, stamp_of}
 use Rattle.std.specs.List.{AllByRecursion}
 use Rattle.node_kit.specs.Steps.Input.{Take, Tick}
-use Rattle.run_facts.specs.Events.{NodeEvent, Past, outs_of, stamp_at, entries_at}
+use Rattle.run_facts.specs.Events.{NodeEvent, Past, outs_of, stamp_at, is_death, entries_at}
 use Rattle.run_facts.specs.Events.NodeEvent.{Does, Ends, Dies, Returns}
 use Rattle.run_model.specs.Views.{records_of, recorded}
 use Rattle.run_model.proofs.Moments.{records_more}
@@ -19,7 +19,7 @@ use Rattle.proof_lives.specs.Histories.{input_of}
 use Rattle.proof_journals.proofs.Wrote.{got_at, got_in, sent_in, died_in, entries_are}
 use Rattle.std.proofs.Common.{◌≡◌, ℕ, ◌+◌, ◌<◌, ◌%◌, List, ◌∷◌, ◌++◌, Some, IsTrue, subst, ⊎_elim}
 use Rattle.std.specs.Prelude.{◌⊎◌, nat_lt}
-use Rattle.std.proofs.lemmas.Bool.{and_from, or_left, or_right, lt-ltb, eq-eqb}
+use Rattle.std.proofs.lemmas.Bool.{true≢false, and_from, or_left, or_right, lt-ltb, eq-eqb}
 use Rattle.tiger_base.specs.declared.number.LinkNo.{LinkNo}
 use Rattle.tiger_base.specs.declared.tenancy.State.{State}
 use Rattle.tiger_base.specs.declared.message.Msg.TheVariants as msg
@@ -56,22 +56,28 @@ got_recorded : (i : Input Msg) (rs : List Rec) → recorded_in (got_at i) rs ≡
 got_recorded (Take stamp link m) rs = refl
 got_recorded (Tick stamp) rs = refl
 
-died_recorded : (ev : NodeEvent Msg) (rs : List Rec) → recorded_in (died_in ev) rs ≡ rs
-died_recorded (Does i) rs = refl
-died_recorded (Ends i sends) rs = refl
-died_recorded (Dies stamp) rs = refl
-died_recorded (Returns stamp) rs = refl
+none_died : (ev : NodeEvent Msg) (rs : List Rec) → is_death ev ≡ false → recorded_in (died_in ev) rs ≡ rs
+none_died (Does i) rs lives = refl
+none_died (Ends i sends) rs lives = absurd (true≢false lives)
+none_died (Dies stamp) rs lives = absurd (true≢false lives)
+none_died (Returns stamp) rs lives = refl
+
+pub recorded_by_more : (os ps : List (Out Msg)) (rs : List Rec)
+    → recorded_by (os ++ ps) rs ≡ recorded_by ps (recorded_by os rs)
+recorded_by_more [] ps rs = refl
+recorded_by_more (out.Act w ∷ os) ps rs = recorded_by_more os ps (recorded rs w)
+recorded_by_more (out.Send link m ∷ os) ps rs = recorded_by_more os ps rs
 
 pub event_recorded : {S : Type 0} (step : S → Input Msg → Deed Msg S) (p : Params) (n : ℕ) (ev : NodeEvent Msg) (before : Past S) (rs : List Rec)
-    → AllByRecursion (IsAllowed noted p n) (outs_of step ev before)
+    → AllByRecursion (IsAllowed noted p n) (outs_of step ev before) → is_death ev ≡ false
     → recorded_in (entries_at noted step ev before) rs ≡ recorded_by (outs_of step ev before) rs
-event_recorded step p n ev before rs fair =
+event_recorded step p n ev before rs fair lives =
     let sent : List Entry = sent_in step ev before in
     ap (λ (es : List Entry). recorded_in es rs) (entries_are step p n ev before fair)
     ∙ recorded_on (got_in ev) (sent ++ died_in ev) rs
     ∙ ap (recorded_in (sent ++ died_in ev)) (got_recorded (input_of ev) rs)
     ∙ recorded_on sent (died_in ev) rs
-    ∙ died_recorded ev (recorded_in sent rs)
+    ∙ none_died ev (recorded_in sent rs) lives
     ∙ outs_recorded (stamp_at ev) (outs_of step ev before) rs
 
 -- and so what stands before an output in its event

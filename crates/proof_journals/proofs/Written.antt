@@ -12,7 +12,7 @@ use Rattle.node_kit.specs.declared.journal.What.TheVariants as what
 use Rattle.node_kit.specs.declared.journal.Entry.{Entry}
 use Rattle.node_kit.specs.declared.outbox.Out.{Out}
 use Rattle.node_kit.specs.declared.outbox.Out.TheVariants as out
-use Rattle.node_kit.specs.Steps.{Deed, Input, IsAllowed, IsOwnEntry, what_of, entry_of, stamp_of}
+use Rattle.node_kit.specs.Steps.{Deed, Input, IsAllowed, IsOwnEntry, what_of, entry_of}
 use Rattle.node_kit.specs.Steps.Input.{Take, Tick}
 use Rattle.run_facts.specs.Events.{NodeEvent, Past, outs_of, stamp_at, entries_at}
 use Rattle.run_facts.specs.Events.NodeEvent.{Does, Ends, Dies, Returns}
@@ -151,10 +151,3 @@ module _ {S : Type 0} (step : S → Input Msg → Deed Msg S) where
       (λ k. absurd (true≢false (sym (ap is_got is) ∙ died_not_got ev e k)))
       o)
       (one_of step p c ev before e fair i)
-
--- an event's stamp is its input's
-pub stamp_same : (ev : NodeEvent Msg) → stamp_at ev ≡ stamp_of (input_of ev)
-stamp_same (Does i) = refl
-stamp_same (Ends i sends) = refl
-stamp_same (Dies stamp) = refl
-stamp_same (Returns stamp) = refl

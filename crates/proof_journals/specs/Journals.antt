@@ -1,4 +1,4 @@
--- What it means that the journals of a ring tell its facts.
+-- What it means that the journals of a ring, whose cubs may die and return, tell its facts.
 use Rattle.std.specs.Prelude.{◌≡◌, ℕ, ◌<◌, Bool, List, length, Some, slice_get}
 use Rattle.tiger_base.specs.declared.number.LinkNo.{LinkNo}
 use Rattle.tiger_base.specs.declared.number.Stamp.{Stamp}
@@ -21,7 +21,7 @@ use Rattle.proof_moments.specs.Recorded.{IsRecorded}
 use Rattle.proof_moments.specs.Ties.{Besides, Keeps, Locals, Logged, Tells}
 use Rattle.proof_facts.specs.Facts.{facts_of}
 use Rattle.proof_facts.specs.Laws.{CubLaws}
-use Rattle.proof_facts.specs.Lives.{lives_of}
+use Rattle.proof_facts.specs.Lives.{lives_of, later_lives_of}
 use Rattle.proof_facts.specs.Rings.{IsRingHistory, node_count}
 
 -- Each node of the ring has one journal: what its events of the history wrote.
@@ -44,10 +44,10 @@ JournalsTell S =
     (step : S → Input Msg → Deed Msg S) (p : Params) (orders : List Order)
     (disk_at : ℕ → DiskState) (h : History Msg S) (journals : List (List Entry))
     → IsPlan p → IsRingHistory step p orders disk_at h → AreJournalsOf step p h journals
-    → AreStartsOrdered p orders (lives_of h)
+    → AreStartsOrdered p orders (lives_of h) → AreStartsOrdered p orders (later_lives_of h)
     → Tells p (facts_of p orders h) orders journals
 
--- Each Put, stop, death and belief of a ring has its entry, and whatever the controller began was
+-- Each Put, stop, death, return and belief of a ring has its entry, and whatever the controller began was
 -- ordered.
 abbrev pub FactsAreLogged : (S : Type 0) → Type 0
 FactsAreLogged S =
@@ -90,6 +90,6 @@ RingsAreRecorded S =
     (step : S → Input Msg → Deed Msg S) (p : Params) (orders : List Order)
     (disk_at : ℕ → DiskState) (h : History Msg S) (journals : List (List Entry))
     → IsPlan p → IsRingHistory step p orders disk_at h → AreJournalsOf step p h journals
-    → AreStartsOrdered p orders (lives_of h)
+    → AreStartsOrdered p orders (lives_of h) → AreStartsOrdered p orders (later_lives_of h)
     → Laws p (facts_of p orders h) → CubLaws p (facts_of p orders h)
     → IsRecorded p (facts_of p orders h) orders journals

@@ -1,4 +1,4 @@
-//! The journals of a ring whose cubs may die tell its facts: each entry a fact, each fact an entry, in their order.
+//! The journals of a ring whose cubs may die and return tell its facts: each entry a fact, each fact an entry, in their order.
 #![tactic(auto)]
 
 ghost use Rattle.proof_journals.specs.Journals.{FactsAreLogged, JournalsAreLocal, JournalsKeepOrder, JournalsTell, LawsGiveBesides, RingsAreRecorded};
@@ -8,7 +8,7 @@ pub fn journals_tell<S>()
     ensures { JournalsTell S }
 {}
 
-/// Each Put, stop, death and belief has its entry, and each order that the controller sent was ordered.
+/// Each Put, stop, death, return and belief has its entry, and each order that the controller sent was ordered.
 pub fn facts_are_logged<S>()
     ensures { FactsAreLogged S }
 {}

@@ -1,5 +1,5 @@
 -- Whom the controller stops, how and where, and that whoever it stops was begun.
-use Rattle.std.proofs.Common.{◌≡◌, ℕ, suc, ◌+◌, ◌%◌, ◌<◌, ◌≤◌, List, true, false, Option, Some, None, refl, sym, ap, subst, ◌∙◌, arith, ⊎_elim, inl, inr, eq-or-lt_of_le}
+use Rattle.std.proofs.Common.{◌≡◌, ℕ, suc, ◌+◌, ◌%◌, ◌<◌, ◌≤◌, List, Bool, true, false, cond, Option, Some, None, refl, sym, ap, subst, ◌∙◌, arith, ⊎_elim, inl, inr, eq-or-lt_of_le}
 use Rattle.std.specs.Prelude.{◌⊎◌}
 use Rattle.std.proofs.lemmas.Bool.{cases_lt}
 use Rattle.tiger_base.specs.declared.number.Instance.{Instance}
@@ -23,7 +23,7 @@ use Rattle.node_kit.specs.Steps.{Deed, Input, stamp_of}
 use Rattle.node_kit.specs.Steps.Input.{Take, Tick}
 use Rattle.node_kit.specs.Ways.{way_to_cub}
 use Rattle.run_facts.specs.Events.{stamp_at, is_tick, is_tick_input}
-use Rattle.run_facts.specs.Histories.{History, beat, reading, ticks}
+use Rattle.run_facts.specs.Histories.{History, beat, open_beat, reading, ticks}
 use Rattle.run_facts.proofs.Counts.{count-numbered}
 use Rattle.disk_core.specs.State.{DiskState}
 use Rattle.controller_core.specs.Orders.{start_of}
@@ -33,10 +33,14 @@ use Rattle.proof_lives.specs.Lives.{Lives, cut_in, store_at, beat_at}
 use Rattle.lists.specs.Elements.{In}
 use Rattle.proof_lives.specs.Facts.{DidAt}
 use Rattle.proof_lives.specs.Histories.{acting}
-use Rattle.proof_lives.proofs.Carrying.{stamp_same, count_rises}
+use Rattle.proof_lives.specs.TwoLifeRun.{WhichLife, life_in}
+use Rattle.proof_lives.specs.TwoLifeRun.WhichLife.{First, Later}
+use Rattle.proof_lives.proofs.Carrying.{stamp_same}
 use Rattle.proof_lives.proofs.Inserting.{put_out}
 use Rattle.proof_lives.proofs.Lines.{kept_at}
 use Rattle.proof_lives.proofs.Order.{tick_of}
+use Rattle.proof_lives.proofs.Returns.{opens_by, opens_rise}
+use Rattle.proof_lives.proofs.TwoLives.{beat_in}
 use Rattle.proof_controller.specs.Controllers.{controller, command, commands_at, known_at, GoneAt, Stops, StoppedAt, StoppedWaiting}
 use Rattle.proof_controller.specs.Stops.{tag_at, IsStopOf}
 use Rattle.proof_controller.proofs.CommandedOnce.{StoppedIn, stopped_there, same_event, one_stop}
@@ -51,7 +55,7 @@ use Rattle.proof_facts.specs.Facts.{BegunAt, facts_of}
 use Rattle.proof_facts.specs.Lives.{lives_of}
 use Rattle.proof_facts.specs.Rings.{IsRingHistory, node_count}
 use Rattle.proof_links.proofs.Carrying.{came_from, did_before, from_cub}
-use Rattle.proof_links.proofs.Nodes.{after_tick, beat_same, controller_inside, cub_inside, lived, lives_on, rises, ticks_at}
+use Rattle.proof_links.proofs.Nodes.{after_tick, clock, controller_inside, cub_inside, lived, lives_on, rises, ticks_at}
 use Rattle.proof_links.proofs.Ordering.{both_start, finished_by, ordered_before}
 
 module _ {S : Type 0} {step : S → Input Msg → Deed Msg S} {p : Params} {orders : List Order} {disk_at : ℕ → DiskState}
@@ -85,13 +89,13 @@ module _ {S : Type 0} {step : S → Input Msg → Deed Msg S} {p : Params} {orde
   alive_of i low = let w = whole in omega arith
 
   pub beat_of : (i : ℕ) → beat h ctrl i ≡ beat_at inputs i
-  beat_of i = beat_same plan ring ctrl i
+  beat_of i = beat_in h First ctrl i
 
   -- A tick ends its beat: a message that is taken in that beat or a lower one is taken before the tick.
   pub tick_ends : (i : ℕ) (stamp : Stamp) → i < acting h ctrl → inputs i ≡ Tick stamp
-      → ticks h ctrl (suc i) ≡ beat h ctrl i + 1
+      → open_beat h ctrl (suc i) ≡ beat h ctrl i + 1
   tick_ends i stamp low e = after_tick plan ring ctrl i (controller_inside plan ring) (done_of i low)
-      (ticks_at plan ring ctrl i (controller_inside plan ring) low ∙ ap is_tick_input e)
+      (ticks_at plan ring First ctrl i (controller_inside plan ring) low ∙ ap is_tick_input e)
 
   pub before_tick : (i j : ℕ) (stamp other : Stamp) (link : LinkNo) (m : Msg) → i < acting h ctrl → j < acting h ctrl
       → inputs i ≡ Tick stamp → inputs j ≡ Take other link m
@@ -103,8 +107,9 @@ module _ {S : Type 0} {step : S → Input Msg → Deed Msg S} {p : Params} {orde
       ∙ (ap inputs same ∙ f) in absurd (cc))
       (λ (less : i < j).
       let t = tick_ends i stamp low e in
-      let r = count_rises is_tick h ctrl (suc i) j less in
-      let b = ring.run.in_beat ctrl j (controller_inside plan ring) (done_of j upper) in
+      let done = done_of j upper in
+      let r = opens_rise ring.run ctrl (controller_inside plan ring) (suc i) j less (omega arith) in
+      let b = opens_by ring.run ctrl (controller_inside plan ring) j done in
       absurd (omega arith))
       (eq-or-lt_of_le g))
       (cases_lt j i)
@@ -259,41 +264,47 @@ module _ {S : Type 0} {step : S → Input Msg → Deed Msg S} {p : Params} {orde
 
   -- A tenancy that the controller knows was put in a lower beat.
   record PutBefore (t : Tenancy) (z : ℕ) : Type 0 where
+    which : WhichLife
     cub : ℕ
     beat : ℕ
-    put : DidAt p lives cub (put_out t) beat
+    put : DidAt p (life_in h which) cub (put_out t) beat
     before : beat < z
 
   -- So was one whose place a cub tells: it was put just then, or its first state had come, which was sent at the Put.
-  put_told : (a b : ℕ) (link : LinkNo) (t : Tenancy) → DidAt p lives a (out.Send link (msg.Placed t)) b
-      → PutBefore t (suc b)
-  put_told a b link t d = ⊎_elim
+  put_told : (w : WhichLife) (a b : ℕ) (link : LinkNo) (t : Tenancy)
+      → DidAt p (life_in h w) a (out.Send link (msg.Placed t)) b → PutBefore t (suc b)
+  put_told w a b link t d =
+      let ls : Lives = life_in h w in
+      ⊎_elim
       (λ put. record {
+        which = w;
         cub = a;
         beat = b;
         put = record { small = d.small; at = d.at; done = d.done; in_beat = d.in_beat; did = put };
         before = omega arith;
       })
-      (λ (s : BringsFirst (lives.input a d.at) t).
-      let f = came_from plan ring a d.at s.stamp s.link (msg.ViewerState (first_state t))
+      (λ (s : BringsFirst (ls.input a d.at) t).
+      let f = came_from plan ring w a d.at s.stamp s.link (msg.ViewerState (first_state t))
       (cub_inside plan ring a d.small) d.done s.is in
       let small = from_cub plan ring f (λ q. q) (λ q. q) in
-      let g = did_before plan ring f small in
+      let g = (did_before plan ring f small (λ q. q)).0 in
+      let sender : Lives = life_in h g.which in
       let did = g.did in
       let done = did.done in
-      let life = lived plan ring f.from small in
-      let kept = kept_at p f.from plan small (lives.input f.from) did.at (λ k l. life.short k (omega arith)) in
-      let put = first_put p f.from plan small (cut_in lives f.from did.at) (lives.input f.from did.at)
-      (store_at p f.from (lives.input f.from) did.at) s.link t kept (life.short did.at done) did.did in
+      let life = lived plan ring g.which f.from small in
+      let kept = kept_at p f.from plan small (sender.input f.from) did.at (λ k l. life.short k (omega arith)) in
+      let put = first_put p f.from plan small (cut_in sender f.from did.at) (sender.input f.from did.at)
+      (store_at p f.from (sender.input f.from) did.at) s.link t kept (life.short did.at done) did.did in
       let got : s.stamp.beat ≡ b = sym (ap (λ (k : Input Msg). (stamp_of k).beat) s.is) ∙ d.in_beat in
       let later = g.later in
       record {
+        which = g.which;
         cub = f.from;
         beat = g.beat;
         put = record { small = small; at = did.at; done = done; in_beat = did.in_beat; did = put };
         before = omega arith;
       })
-      (told_of p a plan d.small (cut_in lives a d.at) (lives.input a d.at) (store_at p a (lives.input a) d.at) link t d.did)
+      (told_of p a plan d.small (cut_in ls a d.at) (ls.input a d.at) (store_at p a (ls.input a) d.at) link t d.did)
 
   put_before : (i : ℕ) (v : Instance) (t : Tenancy) → i < acting h ctrl
       → tenancy_of (known_at p orders inputs i).placed v ≡ Some t → PutBefore t (beat h ctrl i)
@@ -301,17 +312,22 @@ module _ {S : Type 0} {step : S → Input Msg → Deed Msg S} {p : Params} {orde
       let told = told_before p orders inputs i v t e in
       let before = told.before in
       let done : told.at < acting h ctrl = omega arith in
-      let f = came_from plan ring ctrl told.at told.stamp told.link (msg.Placed t)
+      let f = came_from plan ring First ctrl told.at told.stamp told.link (msg.Placed t)
       (controller_inside plan ring) done told.is in
       let small = from_cub plan ring f (λ q. q) (λ q. q) in
-      let d = did_before plan ring f small in
-      let put = put_told f.from d.beat told.link t d.did in
+      let d = (did_before plan ring f small (λ q. q)).0 in
+      let put = put_told d.which f.from d.beat told.link t d.did in
       let by = put.before in
       let taken : beat h ctrl told.at ≡ told.stamp.beat =
       beat_of told.at ∙ ap (λ (k : Input Msg). (stamp_of k).beat) told.is in
       let rise = rises plan ring ctrl told.at i (controller_inside plan ring) (omega arith) (done_of i low) in
       let later = d.later in
-      record { cub = put.cub; beat = put.beat; put = put.put; before = omega arith }
+      record { which = put.which; cub = put.cub; beat = put.beat; put = put.put; before = omega arith }
+
+  -- A Put of either life is one of the facts.
+  joined_put : (w : WhichLife) {c b : ℕ} {t : Tenancy} → DidAt p (life_in h w) c (put_out t) b → facts.Put c t b
+  joined_put First d = inl d
+  joined_put Later d = inr d
 
   pub place : {v s n z : ℕ} → StoppedAt p orders lives v s n z → IsStopAt p facts v s n z
   place {v} {s} {n} {z} a =
@@ -339,7 +355,7 @@ module _ {S : Type 0} {step : S → Input Msg → Deed Msg S} {p : Params} {orde
         cub = put.cub;
         tenancy = t;
         beat = put.beat;
-        put = put.put;
+        put = joined_put put.which put.put;
         before = omega arith;
         same = told.same ∙ a.same;
         slot = slot;
@@ -352,6 +368,13 @@ module _ {S : Type 0} {step : S → Input Msg → Deed Msg S} {p : Params} {orde
       (λ q. let e = q.4 in absurd (cc))
       is.1
 
+  -- A tick counts as one.
+  takes_one : (i : ℕ) → is_tick (h.event ctrl i) ≡ true → ticks h ctrl (suc i) ≡ ticks h ctrl i + 1
+  takes_one i t =
+      let q : ticks h ctrl (suc i) ≡ suc (ticks h ctrl i) =
+      ap (λ (b : Bool). cond b (suc (ticks h ctrl i)) (ticks h ctrl i)) t in
+      omega arith
+
   -- An order of a beat that the controller has ended was begun in it.
   pub begun_by : (ask : Ask) (o i : ℕ) (stamp : Stamp) → In (record { beat = o; what = Begin ask }) orders
       → i < acting h ctrl → inputs i ≡ Tick stamp → o ≤ stamp.beat → BegunAt p orders lives ask o
@@ -359,18 +382,26 @@ module _ {S : Type 0} {step : S → Input Msg → Deed Msg S} {p : Params} {orde
   begun_by ask o i stamp ordered low e le =
       let after = tick_ends i stamp low e in
       let bi : beat h ctrl i ≡ stamp.beat = beat_of i ∙ ap (λ (k : Input Msg). (stamp_of k).beat) e in
+      let done = done_of i low in
+      let ticked = clock plan ring ctrl (suc i) (controller_inside plan ring) (omega arith) (omega arith) in
       let t = count-numbered is_tick h ctrl (suc i) o (omega arith) in
       let tb = t.before in
       let lt : t.at < acting h ctrl = omega arith in
-      let b = ring.run.in_beat ctrl t.at (controller_inside plan ring) (done_of t.at lt) ∙ t.number in
-      let s = tick_of (inputs t.at) (sym (ticks_at plan ring ctrl t.at (controller_inside plan ring) lt) ∙ t.passes) in
+      let at_done = done_of t.at lt in
+      let now = clock plan ring ctrl t.at (controller_inside plan ring) (omega arith) (omega arith) in
+      let next = clock plan ring ctrl (suc t.at) (controller_inside plan ring) (omega arith) (omega arith) in
+      let one = takes_one t.at t.passes in
+      let ends = after_tick plan ring ctrl t.at (controller_inside plan ring) at_done t.passes in
+      let number = t.number in
+      let b : beat h ctrl t.at ≡ o = omega arith in
+      let s = tick_of (inputs t.at) (sym (ticks_at plan ring First ctrl t.at (controller_inside plan ring) lt) ∙ t.passes) in
       let ib : beat_at inputs t.at ≡ o = sym (beat_of t.at) ∙ b in
       let sb : o ≡ s.0.beat = sym ib ∙ ap (λ (k : Input Msg). (stamp_of k).beat) s.1 in
-      let now : In (record { beat = s.0.beat; what = Begin ask }) orders =
+      let here : In (record { beat = s.0.beat; what = Begin ask }) orders =
       subst (λ n. In (record { beat = n; what = Begin ask }) orders) sb ordered in
       let put : (q : Out Msg) → In q (starts p ask) → In q (commands_at p orders inputs t.at) = λ q k.
       subst (λ (x : Input Msg). In q (command p orders x (known_at p orders inputs t.at)).outs) (sym s.1)
-      (both_start p orders s.0 (known_at p orders inputs t.at) ask q now k) in
+      (both_start p orders s.0 (known_at p orders inputs t.at) ask q here k) in
       record {
         at = t.at;
         done = lt;

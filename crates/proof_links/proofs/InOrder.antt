@@ -1,5 +1,5 @@
 -- What cubs take is in form, and a state comes behind the deschedules that its sender sent before it.
-use Rattle.std.proofs.Common.{◌≡◌, ℕ, ◌<◌, ◌≤◌, List, true, Some, refl, ap, subst, ◌∙◌, arith, ⊎_elim}
+use Rattle.std.proofs.Common.{◌≡◌, ℕ, suc, ◌<◌, ◌≤◌, List, true, Some, sym, ap, subst, ◌∙◌, arith, ⊎_elim, inl, inr, eq-or-lt_of_le}
 use Rattle.std.proofs.lemmas.Bool.{cases_lt}
 use Rattle.tiger_base.specs.declared.number.LinkNo.{LinkNo}
 use Rattle.tiger_base.specs.declared.number.Stamp.{Stamp}
@@ -12,69 +12,98 @@ use Rattle.slot_plan.specs.Conditions.{IsPlan}
 use Rattle.node_kit.specs.declared.course.Order.{Order}
 use Rattle.node_kit.specs.declared.outbox.Out.TheVariants as out
 use Rattle.node_kit.specs.Links.{links_of, ends_of}
-use Rattle.node_kit.specs.Steps.{Deed, Input}
+use Rattle.node_kit.specs.Steps.{Deed, Input, stamp_of}
 use Rattle.node_kit.specs.Steps.Input.{Take}
 use Rattle.node_kit.specs.Ways.{way_ahead}
-use Rattle.run_facts.specs.Histories.{History, takes}
+use Rattle.run_facts.specs.Histories.{History, beat, place}
 use Rattle.disk_core.specs.State.{DiskState}
-use Rattle.proof_lives.specs.Lives.{store_at, outs_in, beat_at, Lives}
-use Rattle.run_facts.specs.Events.{is_tick_input}
-use Rattle.lists.specs.Elements.{In}
-use Rattle.proof_lives.specs.Histories.{acting}
+use Rattle.proof_lives.specs.Lives.{store_at, beat_at, Lives}
+use Rattle.run_facts.specs.Events.{is_tick, is_tick_input}
 use Rattle.proof_lives.proofs.Cuts.{was_put_out}
-use Rattle.proof_lives.proofs.Order as order
+use Rattle.proof_lives.specs.Facts.{DidAt, SentAt}
+use Rattle.proof_lives.specs.FactsBy.{IsInOneLife}
+use Rattle.proof_lives.specs.TwoLifeRun.{WhichLife, event_in, life_in}
+use Rattle.proof_lives.specs.TwoLifeRun.WhichLife.{First, Later}
+use Rattle.proof_lives.proofs.Returns.{opens_by, opens_rise}
 use Rattle.proof_lives.proofs.States.{state_at_tick, state_way}
 use Rattle.proof_lives.specs.HoldsHere.{AreAllFormed}
 use Rattle.proof_lives.specs.StopFactsOf.{ToldAt}
 use Rattle.proof_lives.specs.InOrder.{AreInOrder, CameInOrder, GotTagBefore}
 use Rattle.proof_lives.proofs.NoStops.{no_input_stop}
-use Rattle.proof_facts.specs.Lives.{lives_of}
+use Rattle.proof_facts.specs.Facts.{beyond_of}
 use Rattle.proof_facts.specs.Rings.{IsRingHistory}
-use Rattle.proof_links.proofs.Carrying.{Came, came_from, did_as, from_cub, number_of, numbers_rise, taken_as}
-use Rattle.proof_links.proofs.Nodes.{beat_same, before, by_rules, cub_inside, formed_at, lived}
+use Rattle.proof_links.proofs.Carrying.{Came, came_from, did_as, did_before, did_there, from_cub, is_out, number_of, numbers_rise, opens_below, taken_as}
+use Rattle.proof_links.proofs.Nodes.{after_tick, before, cub_inside, formed_at, lived, ticks_at}
 use Rattle.proof_links.proofs.Once.{are_starts, start_behind}
 use Rattle.proof_links.proofs.States.{sent_near}
 
 module _ {S : Type 0} {step : S → Input Msg → Deed Msg S} {p : Params} {orders : List Order} {disk_at : ℕ → DiskState}
     {h : History Msg S} (plan : IsPlan p) (ring : IsRingHistory step p orders disk_at h) where
-  abbrev lives : Lives
-  lives = lives_of h
-
-  pub formed : AreAllFormed p lives
-  formed c small i stamp link m low e =
-      let f = came_from plan ring c i stamp link m (cub_inside plan ring c small) low e in
+  pub formed : (w : WhichLife) → AreAllFormed p (life_in h w)
+  formed w c small i stamp link m low e =
+      let f = came_from plan ring w c i stamp link m (cub_inside plan ring c small) low e in
       formed_at plan ring f.from f.at link m f.known f.note.done f.sent
 
-  -- A deschedule that the sender of a state sent before it on the same link was taken before the state.
-  told_before : {c i b k v s q x : ℕ} {link : LinkNo} {t : State} (f : Came plan ring c i b link (msg.ViewerState t))
-      → c < p.cubs → i < acting h c → link ≡ way_ahead p f.from k → f.at < acting h f.from
-      → is_tick_input (lives.input f.from f.at) ≡ true → ToldAt p lives f.from k v s q x
-      → x ≤ beat_at (lives.input f.from) f.at → GotTagBefore lives c i v s q
-  told_before {c} {i} {b} {k} {v} {s} {q} {x} {link} {t} f small low way alive tick told le =
+  -- Of two events of a life the one with the lower number is the earlier input.
+  earlier_input : (w : WhichLife) (c j i : ℕ) → event_in h w c j < event_in h w c i → j < i
+  earlier_input First c j i less = less
+  earlier_input Later c j i less = omega arith
+
+  -- A deschedule that a cub sent by the beat of a tick of it was sent before the tick.
+  sent_earlier : (u : WhichLife) {a k v s q x : ℕ} (e : ℕ) (told : ToldAt p (life_in h u) a k v s q x) → e < h.count a
+      → is_tick (h.event a e) ≡ true → x ≤ beat h a e → (did_as plan ring u told.did).at < e
+  sent_earlier u {a} {k} {v} {s} {q} {x} e told low tick le =
+      let sent = did_as plan ring u told.did in
+      let small = told.did.small in
+      let inside = cub_inside plan ring a small in
+      let when = sent.in_beat in
+      let done = sent.note.done in
+      ⊎_elim
+      (λ (l : sent.at < e). l)
+      (λ (l : e ≤ sent.at). ⊎_elim
+      (λ (same : e ≡ sent.at).
+      let d = did_there plan ring a sent.at (way_ahead p a k) (msg.Deschedule told.instance (Some told.tag)) small done
+      (is_out plan ring sent.note) (λ z. z) in
+      let ls : Lives = life_in h d.which in
+      let ticks : is_tick_input (ls.input a d.did.at) ≡ true =
+      sym (ticks_at plan ring d.which a d.did.at inside d.did.done)
+      ∙ ap (λ n. is_tick (h.event a n)) (sym (same ∙ d.is)) ∙ tick in
+      absurd (no_input_stop p a plan small (ls.input a d.did.at) (store_at p a (ls.input a) d.did.at) (way_ahead p a k)
+      told.instance (Some told.tag) ticks
+      (was_put_out p ls a d.did.at (out.Send (way_ahead p a k) (msg.Deschedule told.instance (Some told.tag))) d.did.did)))
+      (λ (less : e < sent.at).
+      let ends = after_tick plan ring a e inside low tick in
+      let rise = opens_rise ring.run a inside (suc e) sent.at less (omega arith) in
+      let by = opens_by ring.run a inside sent.at done in
+      absurd (omega arith))
+      (eq-or-lt_of_le l))
+      (cases_lt sent.at e)
+
+  -- A deschedule that the sender of a state sent before it on the same link was taken before the state, in the life in which
+  -- both were sent.
+  told_before : (w u : WhichLife) {c i b k v s q x : ℕ} {link : LinkNo} {t : State}
+      (f : Came plan ring c (event_in h w c i) b link (msg.ViewerState t))
+      → c < p.cubs → i < (life_in h w).count c → link ≡ way_ahead p f.from k → is_tick (h.event f.from f.at) ≡ true
+      → ToldAt p (life_in h u) f.from k v s q x → x ≤ beat h f.from f.at
+      → IsInOneLife (beyond_of p orders h) c x (beat_at ((life_in h w).input c) i)
+      → GotTagBefore (life_in h w) c i v s q
+  told_before w u {c} {i} {b} {k} {v} {s} {q} {x} {link} {t} f small low way tick told le one =
       let a : ℕ = f.from in
-      let inputs : ℕ → Input Msg = lives.input a in
-      let d = told.did in
-      let db = d.in_beat in
-      let by = order.not_behind p (acting h a) inputs (lived plan ring a d.small) d.at f.at alive d.done tick
-      (omega arith) in
-      let earlier : d.at < f.at = ⊎_elim
-      (λ (l : d.at < f.at). l)
-      (λ (l : f.at ≤ d.at).
-      let same : d.at ≡ f.at = omega arith in
-      let was = was_put_out p lives a d.at (out.Send (way_ahead p a k) (msg.Deschedule told.instance (Some told.tag))) d.did in
-      absurd (no_input_stop p a plan d.small (inputs d.at) (store_at p a inputs d.at) (way_ahead p a k) told.instance
-      (Some told.tag) (ap (λ n. is_tick_input (inputs n)) same ∙ tick) was))
-      (cases_lt d.at f.at) in
-      let note = did_as plan ring d in
-      let less = numbers_rise plan ring f.at f.place note.1 earlier in
-      let number = subst (λ (w : LinkNo). takes w.0 h c i ≡ number_of plan ring a f.at f.place w) way f.number in
-      let ends = subst (λ (w : LinkNo). ends_of (links_of p) w.0 ≡ Some (a, c)) way f.ends in
+      let sent = did_as plan ring u told.did in
+      let earlier = sent_earlier u f.at told f.note.done tick le in
+      let less = numbers_rise plan ring f.at f.place_there sent.note earlier in
+      let number =
+      subst (λ (x : LinkNo). place x.0 h c (event_in h w c i) ≡ number_of plan ring a f.at f.place_there x) way f.number in
+      let ends = subst (λ (x : LinkNo). ends_of (links_of p) x.0 ≡ Some (a, c)) way f.ends in
       let inside = cub_inside plan ring c small in
-      let high = (before plan ring c i inside low).done in
-      let r = taken_as plan ring c i note.1 inside (omega arith) ends (omega arith) in
+      let here = before plan ring w c i inside low in
+      let high = here.low in
+      let opens = opens_below plan ring w c i sent.note f.known ends small low
+      (subst (λ y. IsInOneLife (beyond_of p orders h) c y (beat_at ((life_in h w).input c) i)) (sym sent.in_beat) one) in
+      let r = taken_as plan ring w c (event_in h w c i) sent.note inside here.from (omega arith) ends opens (omega arith) in
       record {
         at = r.when;
-        before = r.before;
+        before = earlier_input w c r.when i r.before_it;
         stamp = r.stamp;
         link = way_ahead p a k;
         instance = told.instance;
@@ -85,48 +114,57 @@ module _ {S : Type 0} {step : S → Input Msg → Deed Msg S} {p : Params} {orde
         is = r.is;
       }
 
-  states : (c i : ℕ) (stamp : Stamp) (link : LinkNo) (t : Tenancy) (m : ℕ) → c < p.cubs → i < acting h c
-      → lives.input c i ≡ Take stamp link (msg.ViewerState (record { tenancy = t; visit = m }))
-      → CameInOrder p lives c i t m stamp.beat
-  states c i stamp link t m small low e =
+  joined_sent : (w : WhichLife) {a k m x : ℕ} {t : Tenancy} → SentAt p (life_in h w) a k t m x
+      → (beyond_of p orders h).Sent a k t m x
+  joined_sent First s = inl s
+  joined_sent Later s = inr s
+
+  states : (w : WhichLife) (c i : ℕ) (stamp : Stamp) (link : LinkNo) (t : Tenancy) (m : ℕ) → c < p.cubs
+      → i < (life_in h w).count c
+      → (life_in h w).input c i ≡ Take stamp link (msg.ViewerState (record { tenancy = t; visit = m }))
+      → CameInOrder p (life_in h w) (beyond_of p orders h) c i t m stamp.beat
+  states w c i stamp link t m small low e =
       let s : State = record { tenancy = t; visit = m } in
-      let f = came_from plan ring c i stamp link (msg.ViewerState s) (cub_inside plan ring c small) low e in
+      let f = came_from plan ring w c i stamp link (msg.ViewerState s) (cub_inside plan ring c small) low e in
       let own = from_cub plan ring f (λ q. q) (λ q. q) in
-      let inputs : ℕ → Input Msg = lives.input f.from in
-      let k = by_rules plan ring f.from f.at (out.Send link (msg.ViewerState s)) own f.note.done f.sent in
-      let was = was_put_out p lives f.from f.at (out.Send link (msg.ViewerState s)) k.1 in
-      let tick = state_at_tick p f.from plan own (inputs f.at) (store_at p f.from inputs f.at) link s was in
+      let b = did_before plan ring f own (λ q. q) in
+      let d = b.0 in
+      let ls : Lives = life_in h d.which in
+      let inputs : ℕ → Input Msg = ls.input f.from in
+      let was = was_put_out p ls f.from d.did.at (out.Send link (msg.ViewerState s)) d.did.did in
+      let tick = state_at_tick p f.from plan own (inputs d.did.at) (store_at p f.from inputs d.did.at) link s was in
+      let ticks : is_tick (h.event f.from f.at) ≡ true =
+      ap (λ n. is_tick (h.event f.from n)) b.2
+      ∙ ticks_at plan ring d.which f.from d.did.at (cub_inside plan ring f.from own) d.did.done ∙ tick in
       let n = sent_near plan ring f.from c link own f.ends
-      (state_way p f.from plan own (inputs f.at) (store_at p f.from inputs f.at) link s was) in
-      let same = beat_same plan ring f.from f.at in
-      let later = f.later in
-      let soon = f.soon in
+      (state_way p f.from plan own (inputs d.did.at) (store_at p f.from inputs d.did.at) link s was) in
+      let now : beat_at ((life_in h w).input c) i ≡ stamp.beat = ap (λ (k : Input Msg). (stamp_of k).beat) e in
       record {
         from = f.from;
         ahead = n.steps;
-        beat = beat_at inputs f.at;
-        sent = record {
+        beat = beat h f.from f.at;
+        sent = joined_sent d.which (record {
           ahead = n.near;
-          did = record {
-            small = own;
-            at = f.at;
-            done = k.0;
-            in_beat = refl;
-            did = subst (λ (w : LinkNo). In (out.Send w (msg.ViewerState s)) (outs_in p lives f.from f.at)) n.way k.1;
-          };
-        };
+          did = subst (λ (x : LinkNo). DidAt p ls f.from (out.Send x (msg.ViewerState s)) (beat h f.from f.at)) n.way
+              (subst (λ y. DidAt p ls f.from (out.Send link (msg.ViewerState s)) y) b.1 d.did);
+        });
         to = n.to;
-        later = omega arith;
-        soon = omega arith;
-        behind = λ v s q x told le. told_before f small low n.way k.0 tick told le;
+        later = f.later;
+        soon = f.soon;
+        behind = λ v s q x told le one.
+            let here = subst (λ y. IsInOneLife (beyond_of p orders h) c x y) (sym now) one in
+            ⊎_elim
+            (λ k. told_before w First f small low n.way ticks k le here)
+            (λ k. told_before w Later f small low n.way ticks k le here)
+            told;
       }
 
   -- What cubs take is in form and in order.
-  pub in_order : AreInOrder p lives orders
-  in_order = record {
-    lived = lived plan ring;
-    started = are_starts plan ring;
-    formed = formed;
-    states = states;
-    starts = start_behind plan ring;
+  pub in_order : (w : WhichLife) → AreInOrder p (life_in h w) (beyond_of p orders h) orders
+  in_order w = record {
+    lived = lived plan ring w;
+    started = are_starts plan ring w;
+    formed = formed w;
+    states = states w;
+    starts = start_behind plan ring w;
   }

@@ -20,8 +20,8 @@ use Rattle.node_kit.specs.Links.{links_of, ends_of}
 use Rattle.node_kit.specs.Steps.{Deed, Input, stamp_of}
 use Rattle.node_kit.specs.Steps.Input.{Take, Tick}
 use Rattle.node_kit.specs.Ways.{way_to_cub}
-use Rattle.run_facts.specs.Events.{is_take_on, is_tick, is_tick_input, sends_of}
-use Rattle.run_facts.specs.Histories.{History, beat, outs, takes}
+use Rattle.run_facts.specs.Events.{is_take_on, is_tick_input, sends_of}
+use Rattle.run_facts.specs.Histories.{History, beat, outs, place}
 use Rattle.disk_core.specs.State.{DiskState}
 use Rattle.controller_core.specs.declared.known.Known.{Known}
 use Rattle.controller_core.specs.Orders.{orders_in}
@@ -30,7 +30,12 @@ use Rattle.proof_lives.specs.Histories.{acting}
 use Rattle.proof_lives.specs.Lives.{Lives}
 use Rattle.lists.specs.Elements.{In}
 use Rattle.proof_lives.specs.Facts.{AreStarts}
-use Rattle.proof_lives.proofs.Carrying.{count_rises, same_ends}
+use Rattle.proof_lives.specs.TwoLifeRun.{WhichLife, event_in, life_in}
+use Rattle.proof_lives.specs.TwoLifeRun.WhichLife.{First, Later}
+use Rattle.proof_lives.proofs.Carrying.{same_ends}
+use Rattle.proof_lives.proofs.Numbers.{places_rise, takes_next}
+use Rattle.proof_lives.proofs.Returns.{opens_by, opens_rise}
+use Rattle.proof_lives.proofs.TwoLives.{beat_in, events_rise}
 use Rattle.proof_controller.specs.Controllers.{controller, command, known_at, IsOrdered}
 use Rattle.proof_controller.specs.Stops.{tag_at}
 use Rattle.proof_controller.proofs.CommandedOnce.{stopped_there}
@@ -43,9 +48,9 @@ use Rattle.proof_controller.specs.Orders.{IsOnce, StartAt, AreCounted}
 use Rattle.proof_controller.proofs.Commands.{commanding_once, way_low}
 use Rattle.proof_facts.specs.Lives.{lives_of}
 use Rattle.proof_facts.specs.Rings.{IsRingHistory}
-use Rattle.proof_links.proofs.Carrying.{Came, SentAs, came_from, commanded_before, from_controller, from_either, number_of, numbers_rise, dated}
+use Rattle.proof_links.proofs.Carrying.{Came, SentAs, came_from, commanded_before, from_controller, from_either, number_of, numbers_rise, dated, sent_in_life}
 use Rattle.proof_links.proofs.Deschedules.{by_cub}
-use Rattle.proof_links.proofs.Nodes.{after_tick, beat_same, before, controller_inside, cub_inside, takes_at, ticks_at}
+use Rattle.proof_links.proofs.Nodes.{after_tick, before, controller_inside, cub_inside, stays, takes_at, ticks_at}
 use Rattle.proof_links.proofs.Ordering.{FinishedBy, StartedBy, at_beat, finished_by, ordered_before, ordered_once, place_of, started_by}
 
 -- In an event the controller sends on a link each start once.
@@ -123,43 +128,44 @@ module _ {S : Type 0} {step : S → Input Msg → Deed Msg S} {p : Params} {orde
   way c = record { 0 = c }
 
   -- What cub c took in its event of number i the controller sent it in one of its own, at a place on that link.
-  record IsFrom (c i : ℕ) (m : Msg) (at place : ℕ) : Type 0 where
-    note : SentAs plan ring ctrl at place (way c) m
-    number : takes c h c i ≡ number_of plan ring ctrl at place (way c)
+  record IsFrom (c i : ℕ) (m : Msg) (at there : ℕ) : Type 0 where
+    note : SentAs plan ring ctrl at there (way c) m
+    number : place c h c i ≡ number_of plan ring ctrl at there (way c)
     alive : at < acting h ctrl
 
   is_from : {c i b : ℕ} {link : LinkNo} {m : Msg} (f : Came plan ring c i b link m) → f.from ≡ ctrl → link.0 < p.cubs
-      → IsFrom c i m f.at f.place
+      → IsFrom c i m f.at f.place_there
   is_from {c} {i} {b} {link} {m} f e low =
       let d = commanded_before plan ring f e in
       let link_is : link ≡ way c = ap way (low_link p link.0 f.from c low f.ends) in
       record {
-        note = subst (λ (w : LinkNo). SentAs plan ring ctrl f.at f.place w m) link_is
-            (subst (λ n. SentAs plan ring n f.at f.place link m) e f.note);
-        number = subst (λ (w : LinkNo). takes w.0 h c i ≡ number_of plan ring ctrl f.at f.place w) link_is
-            (subst (λ n. takes link.0 h c i ≡ number_of plan ring n f.at f.place link) e f.number);
+        note = subst (λ (w : LinkNo). SentAs plan ring ctrl f.at f.place_there w m) link_is
+            (subst (λ n. SentAs plan ring n f.at f.place_there link m) e f.note);
+        number = subst (λ (w : LinkNo). place w.0 h c i ≡ number_of plan ring ctrl f.at f.place_there w) link_is
+            (subst (λ n. place link.0 h c i ≡ number_of plan ring n f.at f.place_there link) e f.number);
         alive = d.done;
       }
 
   -- A start that a cub took came on the link from the controller.
   record StartCame (c i : ℕ) (link : LinkNo) (ask : Ask) (redundant : Bool) : Type 0 where
     at : ℕ
-    place : ℕ
+    there : ℕ
     own : link.0 ≡ c
-    sent : IsFrom c i (msg.Start redundant ask) at place
+    sent : IsFrom c i (msg.Start redundant ask) at there
     started : StartedBy p orders (inputs at) (way c) ask
 
-  start_came : (c i : ℕ) (stamp : Stamp) (link : LinkNo) (ask : Ask) (x : Bool) → c < p.cubs → i < acting h c
-      → lives.input c i ≡ Take stamp link (msg.Start x ask) → StartCame c i link ask x
-  start_came c i stamp link ask x small low e =
-      let f = came_from plan ring c i stamp link (msg.Start x ask) (cub_inside plan ring c small) low e in
-      let k = from_controller plan ring f (λ q. q) (λ q. q) in
+  start_came : (w : WhichLife) (c i : ℕ) (stamp : Stamp) (link : LinkNo) (ask : Ask) (x : Bool) → c < p.cubs
+      → i < (life_in h w).count c
+      → (life_in h w).input c i ≡ Take stamp link (msg.Start x ask) → StartCame c (event_in h w c i) link ask x
+  start_came w c i stamp link ask x small low e =
+      let f = came_from plan ring w c i stamp link (msg.Start x ask) (cub_inside plan ring c small) low e in
+      let k = from_controller plan ring f (λ q. q) (λ q. q) (λ q. q) in
       let d = commanded_before plan ring f k in
       let s = started_by p orders (inputs f.at) (known f.at) link ask x plan d.did in
       let own = low_link p link.0 f.from c s.low f.ends in
       record {
         at = f.at;
-        place = f.place;
+        there = f.place_there;
         own = own;
         sent = is_from f k s.low;
         started = subst (λ (w : LinkNo). StartedBy p orders (inputs f.at) w ask) (ap way own) s;
@@ -168,8 +174,8 @@ module _ {S : Type 0} {step : S → Input Msg → Deed Msg S} {p : Params} {orde
   -- A deschedule without a tag that a cub took stops an instance one of whose starts goes out on the same link.
   record StopCame (c i : ℕ) (v : Instance) : Type 0 where
     at : ℕ
-    place : ℕ
-    sent : IsFrom c i (msg.Deschedule v None) at place
+    there : ℕ
+    sent : IsFrom c i (msg.Deschedule v None) at there
     finished : FinishedBy orders (inputs at) v
     ask : Ask
     ordered : IsOrdered orders ask
@@ -177,41 +183,44 @@ module _ {S : Type 0} {step : S → Input Msg → Deed Msg S} {p : Params} {orde
     redundant : Bool
     start : In (out.Send (way c) (msg.Start redundant ask)) (starts p ask)
 
-  stop_came : (c i : ℕ) (stamp : Stamp) (link : LinkNo) (v : Instance) → c < p.cubs → i < acting h c
-      → lives.input c i ≡ Take stamp link (msg.Deschedule v None) → StopCame c i v
-  stop_came c i stamp link v small low e =
-      let f = came_from plan ring c i stamp link (msg.Deschedule v None) (cub_inside plan ring c small) low e in
+  stop_came : (w : WhichLife) (c i : ℕ) (stamp : Stamp) (link : LinkNo) (v : Instance) → c < p.cubs
+      → i < (life_in h w).count c
+      → (life_in h w).input c i ≡ Take stamp link (msg.Deschedule v None) → StopCame c (event_in h w c i) v
+  stop_came w c i stamp link v small low e =
+      let f = came_from plan ring w c i stamp link (msg.Deschedule v None) (cub_inside plan ring c small) low e in
+      let one = sent_in_life plan ring w small low (ap (λ (q : Input Msg). (stamp_of q).beat) e) f in
       ⊎_elim
-      (λ q. let b = by_cub plan ring f q.0 in let t = b.tagged.1 in absurd (cc))
+      (λ q. let b = by_cub plan ring f q.0 one in let t = b.tagged.1 in absurd (cc))
       (λ q. by_controller f q.0)
       (from_either plan ring f (λ q. q))
     where
-      by_controller : (f : Came plan ring c i stamp.beat link (msg.Deschedule v None)) → f.from ≡ ctrl → StopCame c i v
-      by_controller f k =
-          let d = commanded_before plan ring f k in
+      by_controller : (f : Came plan ring c (event_in h w c i) stamp.beat link (msg.Deschedule v None)) → f.from ≡ ctrl
+          → StopCame c (event_in h w c i) v
+      by_controller f e =
+          let d = commanded_before plan ring f e in
           let s = stopped_there p orders inputs f.at v (out.Send link (msg.Deschedule v None)) refl d.did in
           let t = tag_sent p link v v None s.stopped.tag s.stopped.number s.stopped.which in
           let link_low : link.0 < p.cubs = ⊎_elim
-          (λ q. subst (λ (w : LinkNo). w.0 < p.cubs) (sym q) (way_low p s.stopped.number plan))
-          (λ q. subst (λ (w : LinkNo). w.0 < p.cubs) (sym q) (way_low p (s.stopped.number + 1) plan))
+          (λ q. subst (λ (x : LinkNo). x.0 < p.cubs) (sym q) (way_low p s.stopped.number plan))
+          (λ q. subst (λ (x : LinkNo). x.0 < p.cubs) (sym q) (way_low p (s.stopped.number + 1) plan))
           t.1 in
           let link_is : link ≡ way c = ap way (low_link p link.0 f.from c link_low f.ends) in
           ⊎_elim
-          (λ w. let z : None ≡ Some (tag_at w.0.slot s.stopped.number) = t.0 ∙ w.4 in absurd (cc))
-          (λ w.
-          let from = start_from orders v w.0 w.2 in
-          let near = start_near p w.0 link s.stopped.number w.3 t.1 in
+          (λ k. let z : None ≡ Some (tag_at k.0.slot s.stopped.number) = t.0 ∙ k.4 in absurd (cc))
+          (λ k.
+          let from = start_from orders v k.0 k.2 in
+          let near = start_near p k.0 link s.stopped.number k.3 t.1 in
           record {
             at = f.at;
-            place = f.place;
-            sent = is_from f k link_low;
+            there = f.place_there;
+            sent = is_from f e link_low;
             finished =
                 finished_by p orders (inputs f.at) (known f.at) v (s.stopped.all (out.Act (what.Gone v)) (inl refl));
-            ask = w.0;
+            ask = k.0;
             ordered = from.0;
             same = from.1;
             redundant = near.0;
-            start = subst (λ (x : LinkNo). In (out.Send x (msg.Start near.0 w.0)) (starts p w.0)) link_is near.1;
+            start = subst (λ (x : LinkNo). In (out.Send x (msg.Start near.0 k.0)) (starts p k.0)) link_is near.1;
           })
           s.stopped.is
 
@@ -233,12 +242,13 @@ module _ {S : Type 0} {step : S → Input Msg → Deed Msg S} {p : Params} {orde
   ticks_apart : {i j : ℕ} {a b : Stamp} → TicksAt i a → TicksAt j b → i < j → a.beat < b.beat
   ticks_apart {i} {j} {a} {b} s t less =
       let inside = controller_inside plan ring in
-      let tick = ticks_at plan ring ctrl i inside s.alive ∙ ap is_tick_input s.is in
-      let bi : beat h ctrl i ≡ a.beat = beat_same plan ring ctrl i ∙ ap (λ (x : Input Msg). (stamp_of x).beat) s.is in
-      let bj : beat h ctrl j ≡ b.beat = beat_same plan ring ctrl j ∙ ap (λ (x : Input Msg). (stamp_of x).beat) t.is in
-      let next = after_tick plan ring ctrl i inside (before plan ring ctrl i inside s.alive).done tick in
-      let rise = count_rises is_tick h ctrl (suc i) j less in
-      let now = ring.run.in_beat ctrl j inside (before plan ring ctrl j inside t.alive).done in
+      let tick = ticks_at plan ring First ctrl i inside s.alive ∙ ap is_tick_input s.is in
+      let bi : beat h ctrl i ≡ a.beat = beat_in h First ctrl i ∙ ap (λ (x : Input Msg). (stamp_of x).beat) s.is in
+      let bj : beat h ctrl j ≡ b.beat = beat_in h First ctrl j ∙ ap (λ (x : Input Msg). (stamp_of x).beat) t.is in
+      let next = after_tick plan ring ctrl i inside (before plan ring First ctrl i inside s.alive).done tick in
+      let done = (before plan ring First ctrl j inside t.alive).done in
+      let rise = opens_rise ring.run ctrl inside (suc i) j less (omega arith) in
+      let now = opens_by ring.run ctrl inside j done in
       omega arith
 
   same_tick : {i j : ℕ} {a b : Stamp} → TicksAt i a → TicksAt j b → a.beat ≡ b.beat → i ≡ j
@@ -261,7 +271,7 @@ module _ {S : Type 0} {step : S → Input Msg → Deed Msg S} {p : Params} {orde
   outs_at_tick : (i : ℕ) (stamp : Stamp) → i < acting h ctrl → inputs i ≡ Tick stamp
       → outs noted step h ctrl i ≡ (command p orders (Tick stamp) (known i)).outs
   outs_at_tick i stamp low e =
-      ring.rules.controls i (before plan ring ctrl i (controller_inside plan ring) low).done
+      ring.rules.controls i (before plan ring First ctrl i (controller_inside plan ring) low).done
       ∙ ap (λ (x : Input Msg). (command p orders x (known i)).outs) e
 
   -- On a link a start of an instance goes out once in an event.
@@ -272,82 +282,110 @@ module _ {S : Type 0} {step : S → Input Msg → Deed Msg S} {p : Params} {orde
       subst (λ (os : List (Out Msg)). IsOnce (sends_of l (beat h ctrl at) os)) (sym (ring.rules.controls at done))
       (command_once plan ring.counted (inputs at) (known at) l (beat h ctrl at)) v j k s t
 
-  start_at : {c i at place : ℕ} {ask : Ask} {x : Bool} → IsFrom c i (msg.Start x ask) at place
-      → StartAt (sends_of c (beat h ctrl at) (outs noted step h ctrl at)) place ask.instance.0
-  start_at {c} {i} {at} {place} {ask} {x} s =
+  start_at : {c i at there : ℕ} {ask : Ask} {x : Bool} → IsFrom c i (msg.Start x ask) at there
+      → StartAt (sends_of c (beat h ctrl at) (outs noted step h ctrl at)) there ask.instance.0
+  start_at {c} {i} {at} {there} {ask} {x} s =
       record { beat = beat h ctrl at; ask = ask; redundant = x; at = s.note.sends; same = refl }
 
   -- ---- starts and deschedules of one instance
 
   -- An event in which a cub takes a message on a link counts as one more.
-  pub counts : (c i l : ℕ) (stamp : Stamp) (link : LinkNo) (m : Msg) → c < p.cubs → i < acting h c
-      → lives.input c i ≡ Take stamp link m → link.0 ≡ l → takes l h c (suc i) ≡ takes l h c i + 1
-  counts c i l stamp link m small low e same =
-      let t : is_take_on l (h.event c i) ≡ true = ⊎_elim
+  pub counts : (w : WhichLife) (c i l : ℕ) (stamp : Stamp) (link : LinkNo) (m : Msg) → c < p.cubs
+      → i < (life_in h w).count c → (life_in h w).input c i ≡ Take stamp link m → link.0 ≡ l
+      → place l h c (suc (event_in h w c i)) ≡ place l h c (event_in h w c i) + 1
+  counts w c i l stamp link m small low e same =
+      let t : is_take_on l (h.event c (event_in h w c i)) ≡ true = ⊎_elim
       (λ q. ap (is_take_on l) q ∙ eq-eqb _ _ same)
       (λ q. ap (is_take_on l) q.1 ∙ eq-eqb _ _ same)
-      (takes_at plan ring c i stamp link m (cub_inside plan ring c small) low e) in
-      rw t (omega arith)
+      (takes_at plan ring w c i stamp link m (cub_inside plan ring c small) low e) in
+      takes_next l h c (event_in h w c i) t
 
-  by_number : (c j k l : ℕ) → takes l h c j < takes l h c k → j < k
-  by_number c j k l less = ⊎_elim
+  -- Within a life the numbers never fall.
+  pub numbers_stay : (w : WhichLife) (c l from j : ℕ) → c < p.cubs → j < (life_in h w).count c → event_in h w c 0 ≤ from
+      → from ≤ event_in h w c j → place l h c from ≤ place l h c (event_in h w c j)
+  numbers_stay w c l from j small low above le =
+      let inside = cub_inside plan ring c small in
+      let first = before plan ring w c 0 inside (omega arith) in
+      let opens = first.from in
+      let last = before plan ring w c j inside low in
+      let closes = last.low in
+      places_rise l h c from (event_in h w c j) (λ k x y. stays plan ring w c k inside (omega arith) (omega arith)) le
+
+  by_number : (w : WhichLife) (c j k l : ℕ) → c < p.cubs → j < (life_in h w).count c
+      → place l h c (event_in h w c j) < place l h c (event_in h w c k) → j < k
+  by_number w c j k l small low less = ⊎_elim
       (λ (q : j < k). q)
-      (λ (q : k ≤ j). let r = count_rises (is_take_on l) h c k j q in absurd (omega arith))
+      (λ (q : k ≤ j).
+      let r = numbers_stay w c l (event_in h w c k) j small low (events_rise h w c 0 k (omega arith))
+      (events_rise h w c k j q) in
+      absurd (omega arith))
       (cases_lt j k)
 
-  same_number : (c j k l : ℕ) (s t : Stamp) (w v : LinkNo) (m n : Msg) → c < p.cubs → j < acting h c → k < acting h c
-      → lives.input c j ≡ Take s w m → lives.input c k ≡ Take t v n
-      → w.0 ≡ l → v.0 ≡ l → takes l h c j ≡ takes l h c k → j ≡ k
-  same_number c j k l s t w v m n small low high e f wl vl same =
-      let one = counts c j l s w m small low e wl in
-      let two = counts c k l t v n small high f vl in
-      ⊎_elim
+  -- the next event of a life stands behind one
+  pub next_event : (w : WhichLife) (c j k : ℕ) → j < k → suc (event_in h w c j) ≤ event_in h w c k
+  next_event First c j k less = less
+  next_event Later c j k less = omega arith
+
+  pub behind_it : (w : WhichLife) (c j k l : ℕ) (s : Stamp) (x : LinkNo) (m : Msg) → c < p.cubs → j < k
+      → k < (life_in h w).count c → (life_in h w).input c j ≡ Take s x m → x.0 ≡ l
+      → place l h c (event_in h w c j) < place l h c (event_in h w c k)
+  behind_it w c j k l s x m small less high e on =
+      let one = counts w c j l s x m small (omega arith) e on in
+      let from = events_rise h w c 0 j (omega arith) in
+      let r = numbers_stay w c l (suc (event_in h w c j)) k small high (omega arith) (next_event w c j k less) in
+      omega arith
+
+  same_number : (w : WhichLife) (c j k l : ℕ) (s t : Stamp) (x y : LinkNo) (m n : Msg) → c < p.cubs
+      → j < (life_in h w).count c → k < (life_in h w).count c
+      → (life_in h w).input c j ≡ Take s x m → (life_in h w).input c k ≡ Take t y n
+      → x.0 ≡ l → y.0 ≡ l → place l h c (event_in h w c j) ≡ place l h c (event_in h w c k) → j ≡ k
+  same_number w c j k l s t x y m n small low high e f xl yl same = ⊎_elim
       (λ (q : j ≡ k). q)
       (⊎_elim
-      (λ (q : j < k). let r = count_rises (is_take_on l) h c (suc j) k q in absurd (omega arith))
-      (λ (q : k < j). let r = count_rises (is_take_on l) h c (suc k) j q in absurd (omega arith)))
+      (λ (q : j < k). let r = behind_it w c j k l s x m small q high e xl in absurd (omega arith))
+      (λ (q : k < j). let r = behind_it w c k j l t y n small q low f yl in absurd (omega arith)))
       (cases_order j k)
 
-  -- A cub gets one start of an instance.
-  pub one_start : (c j k : ℕ) (s t : Stamp) (l m : LinkNo) (a b : Ask) (x y : Bool) → c < p.cubs → j < acting h c
-      → k < acting h c
-      → lives.input c j ≡ Take s l (msg.Start x a) → lives.input c k ≡ Take t m (msg.Start y b)
+  -- A cub gets one start of an instance in a life.
+  pub one_start : (w : WhichLife) (c j k : ℕ) (s t : Stamp) (l m : LinkNo) (a b : Ask) (x y : Bool) → c < p.cubs
+      → j < (life_in h w).count c → k < (life_in h w).count c
+      → (life_in h w).input c j ≡ Take s l (msg.Start x a) → (life_in h w).input c k ≡ Take t m (msg.Start y b)
       → a.instance.0 ≡ b.instance.0 → j ≡ k
-  one_start c j k s t l m a b x y small low high e f same =
-      let one = start_came c j s l a x small low e in
-      let two = start_came c k t m b y small high f in
+  one_start w c j k s t l m a b x y small low high e f same =
+      let one = start_came w c j s l a x small low e in
+      let two = start_came w c k t m b y small high f in
       let order = ordered_once ring.counted a b one.started.stamp.beat two.started.stamp.beat one.started.ordered
       two.started.ordered same in
       let event : two.at ≡ one.at = same_tick (tick_of_start two) (tick_of_start one) order.1 in
-      let there : IsFrom c k (msg.Start y b) one.at two.place =
-      subst (λ n. IsFrom c k (msg.Start y b) n two.place) event two.sent in
-      let starts : StartAt (sends_of c (beat h ctrl one.at) (outs noted step h ctrl one.at)) two.place a.instance.0 =
-      subst (λ v. StartAt (sends_of c (beat h ctrl one.at) (outs noted step h ctrl one.at)) two.place v) (sym same)
+      let there : IsFrom c (event_in h w c k) (msg.Start y b) one.at two.there =
+      subst (λ n. IsFrom c (event_in h w c k) (msg.Start y b) n two.there) event two.sent in
+      let starts : StartAt (sends_of c (beat h ctrl one.at) (outs noted step h ctrl one.at)) two.there a.instance.0 =
+      subst (λ v. StartAt (sends_of c (beat h ctrl one.at) (outs noted step h ctrl one.at)) two.there v) (sym same)
       (start_at there) in
-      let places = one_place one.at c a.instance.0 one.place two.place one.sent.note.done (start_at one.sent) starts in
-      let numbers : takes c h c j ≡ takes c h c k =
+      let places = one_place one.at c a.instance.0 one.there two.there one.sent.note.done (start_at one.sent) starts in
+      let numbers : place c h c (event_in h w c j) ≡ place c h c (event_in h w c k) =
       one.sent.number ∙ ap (λ n. number_of plan ring ctrl one.at n (way c)) places ∙ sym there.number in
-      same_number c j k c s t l m (msg.Start x a) (msg.Start y b) small low high e f one.own two.own numbers
+      same_number w c j k c s t l m (msg.Start x a) (msg.Start y b) small low high e f one.own two.own numbers
 
   -- The starts that cubs get are those of the orders.
-  pub are_starts : AreStarts p lives orders
-  are_starts = record {
-    one_start = one_start;
+  pub are_starts : (w : WhichLife) → AreStarts p (life_in h w) orders
+  are_starts w = record {
+    one_start = one_start w;
     ordered = λ c i s l a x small low e.
-        let r = start_came c i s l a x small low e in
+        let r = start_came w c i s l a x small low e in
         (r.started.stamp.beat, r.started.ordered);
     one_order = λ a b i j same. sym (ordered_once ring.counted a b i.0 j.0 i.1 j.1 same).0;
     counted = λ a i. let k = place_of ring.counted a i.0 i.1 in ring.counted.counted k.0 a k.1;
   }
 
   -- A deschedule without a tag comes behind the start of its instance.
-  pub start_behind : (c j k : ℕ) (s t : Stamp) (l m : LinkNo) (v : Instance) (a : Ask) (x : Bool) → c < p.cubs
-      → j < acting h c → k < acting h c
-      → lives.input c j ≡ Take s l (msg.Deschedule v None) → lives.input c k ≡ Take t m (msg.Start x a)
+  pub start_behind : (w : WhichLife) (c j k : ℕ) (s t : Stamp) (l m : LinkNo) (v : Instance) (a : Ask) (x : Bool)
+      → c < p.cubs → j < (life_in h w).count c → k < (life_in h w).count c
+      → (life_in h w).input c j ≡ Take s l (msg.Deschedule v None) → (life_in h w).input c k ≡ Take t m (msg.Start x a)
       → a.instance.0 ≡ v.0 → k < j
-  start_behind c j k s t l m v a x small low high e f same =
-      let stop = stop_came c j s l v small low e in
-      let start = start_came c k t m a x small high f in
+  start_behind w c j k s t l m v a x small low high e f same =
+      let stop = stop_came w c j s l v small low e in
+      let start = start_came w c k t m a x small high f in
       let z : ℕ = stop.finished.stamp.beat in
       let o : ℕ = start.started.stamp.beat in
       let le = ordered_before ring.counted a v o z start.started.ordered stop.finished.ordered same in
@@ -356,29 +394,29 @@ module _ {S : Type 0} {step : S → Input Msg → Deed Msg S} {p : Params} {orde
       ⊎_elim
       (λ (less : o < z).
       let event = sooner_tick (tick_of_start start) (tick_of_stop stop) less in
-      let numbers = numbers_rise plan ring stop.at stop.place start.sent.note event in
-      by_number c k j c (omega arith))
+      let numbers = numbers_rise plan ring stop.at stop.there start.sent.note event in
+      by_number w c k j c small high (omega arith))
       (λ (more : z ≤ o).
       let beats : o ≡ z = omega arith in
       let event : start.at ≡ stop.at = same_tick (tick_of_start start) (tick_of_stop stop) beats in
-      let there : IsFrom c k (msg.Start x a) stop.at start.place =
-      subst (λ n. IsFrom c k (msg.Start x a) n start.place) event start.sent in
-      let places = in_one_event c j k v a x stop there
+      let there : IsFrom c (event_in h w c k) (msg.Start x a) stop.at start.there =
+      subst (λ n. IsFrom c (event_in h w c k) (msg.Start x a) n start.there) event start.sent in
+      let places = in_one_event c (event_in h w c j) (event_in h w c k) v a x stop there
       (subst (λ n. In (at_beat n (Begin a)) orders) beats start.started.ordered) same in
       let number = there.number in
-      by_number c k j c (omega arith))
+      by_number w c k j c small high (omega arith))
       (cases_lt o z)
     where
-      in_one_event : (c j k : ℕ) (v : Instance) (a : Ask) (x : Bool) (stop : StopCame c j v) {place : ℕ}
-          → IsFrom c k (msg.Start x a) stop.at place
-          → In (at_beat stop.finished.stamp.beat (Begin a)) orders → a.instance.0 ≡ v.0 → place < stop.place
-      in_one_event c j k v a x stop {place} there ordered same =
+      in_one_event : (c j k : ℕ) (v : Instance) (a : Ask) (x : Bool) (stop : StopCame c j v) {place_there : ℕ}
+          → IsFrom c k (msg.Start x a) stop.at place_there
+          → In (at_beat stop.finished.stamp.beat (Begin a)) orders → a.instance.0 ≡ v.0 → place_there < stop.there
+      in_one_event c j k v a x stop {place_there} there ordered same =
           let b : ℕ = beat h ctrl stop.at in
           let os : List (Out Msg) = outs noted step h ctrl stop.at in
           let stamp : Stamp = stop.finished.stamp in
           let ticked = outs_at_tick stop.at stamp stop.sent.alive stop.finished.tick in
           let seen = subst (λ (ys : List (Out Msg)). slice_get
-          (sends_of c b ys) stop.place ≡ Some (dated b (msg.Deschedule v None))) ticked stop.sent.note.sends in
+          (sends_of c b ys) stop.there ≡ Some (dated b (msg.Deschedule v None))) ticked stop.sent.note.sends in
           let ask : a ≡ stop.ask =
           (ordered_once ring.counted stop.ask a stop.ordered.0 stamp.beat stop.ordered.1 ordered
           (stop.same ∙ sym same)).0 in
@@ -386,7 +424,7 @@ module _ {S : Type 0} {step : S → Input Msg → Deed Msg S} {p : Params} {orde
           (starts p a) = subst (λ (q : Ask). In (out.Send (way c) (msg.Start stop.redundant q)) (starts p q))
           (sym ask) stop.start in
           let r = start_ahead p orders stamp (known stop.at)
-          (way c) b stop.place v a stop.redundant ring.counted seen ordered same start in
+          (way c) b stop.there v a stop.redundant ring.counted seen ordered same start in
           let first : StartAt (sends_of c b os) r.0 a.instance.0 = record {
             beat = b;
             ask = a;
@@ -395,6 +433,6 @@ module _ {S : Type 0} {step : S → Input Msg → Deed Msg S} {p : Params} {orde
                 (sends_of c b ys) r.0 ≡ Some (dated b (msg.Start stop.redundant a))) (sym ticked) r.2;
             same = refl;
           } in
-          let one = one_place stop.at c a.instance.0 place r.0 stop.sent.note.done (start_at there) first in
+          let one = one_place stop.at c a.instance.0 place_there r.0 stop.sent.note.done (start_at there) first in
           let less = r.1 in
           omega arith

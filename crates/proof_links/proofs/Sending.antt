@@ -17,7 +17,6 @@ use Rattle.node_kit.specs.Steps.Input.{Take, Tick}
 use Rattle.node_kit.specs.Ways.{way_from_disk}
 use Rattle.node_kit.specs.Deeds.{nothing}
 use Rattle.cub_rules.specs.declared.store.Store.{Store}
-use Rattle.cub_rules.specs.Cubs.{cub_step}
 use Rattle.cub_changes.specs.Causes.{Cause, IsService}
 use Rattle.cub_changes.specs.Changes.{Change}
 use Rattle.cub_changes.specs.Outputs.{Output, output, ComesOf}
@@ -32,7 +31,6 @@ use Rattle.run_facts.specs.Events.{is_tick_input}
 use Rattle.lists.specs.Elements.{In}
 use Rattle.lists.proofs.Elements.{chosen}
 use Rattle.lists.proofs.Each.{all_in}
-use Rattle.proof_lives.proofs.Wrapped.{cub_with, cub_outs}
 use Rattle.proof_controller.specs.Controllers.{command}
 use Rattle.proof_controller.proofs.Commands.{IsCommand, commanding_out}
 
@@ -42,6 +40,11 @@ IsOfCub (msg.Start redundant ask) = ⊥
 IsOfCub (msg.ReadDone want part) = ⊥
 IsOfCub (msg.Back from) = ⊥
 IsOfCub other = Unit {0}
+
+-- and what it sends at a return
+abbrev pub IsBack : Msg → Type 0
+IsBack (msg.Back from) = Unit {0}
+IsBack other = ⊥
 
 abbrev pub IsOfDisk : Msg → Type 0
 IsOfDisk (msg.ReadDone want part) = Unit {0}

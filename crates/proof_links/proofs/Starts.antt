@@ -16,6 +16,7 @@ use Rattle.controller_core.specs.Orders.{Starts}
 use Rattle.proof_lives.specs.Lives.{Lives}
 use Rattle.lists.specs.Elements.{In}
 use Rattle.proof_lives.specs.Facts.{TookMessage}
+use Rattle.proof_lives.specs.TwoLifeRun.{WhichLife, life_in}
 use Rattle.proof_controller.specs.Controllers.{controller, known_at, GoneAt}
 use Rattle.proof_schedule.specs.LinkLaws.{WasBegun}
 use Rattle.proof_facts.specs.Facts.{BegunAt, facts_of}
@@ -34,11 +35,12 @@ module _ {S : Type 0} {step : S → Input Msg → Deed Msg S} {p : Params} {orde
   inputs = lives.input (controller p)
 
   -- A start that came was begun by the controller.
-  pub start_from : {c y : ℕ} {ask : Ask} {redundant : Bool} → TookMessage p lives c (msg.Start redundant ask) y
+  pub start_from : (w : WhichLife) {c y : ℕ} {ask : Ask} {redundant : Bool}
+      → TookMessage p (life_in h w) c (msg.Start redundant ask) y
       → WasBegun p (facts_of p orders h) ask y
-  start_from {c} {y} {ask} {redundant} g =
-      let f = took_from plan ring g in
-      let d = commanded_before plan ring f (from_controller plan ring f (λ q. q) (λ q. q)) in
+  start_from w {c} {y} {ask} {redundant} g =
+      let f = took_from plan ring w g in
+      let d = commanded_before plan ring f (from_controller plan ring f (λ q. q) (λ q. q) (λ q. q)) in
       let s = started_by p orders (inputs f.at) (known_at p orders inputs f.at) g.link ask redundant plan d.did in
       let b = begun_by plan ring ask s.stamp.beat f.at s.stamp s.ordered d.done s.tick (omega arith) in
       let beat = ap (λ (i : Input Msg). (stamp_of i).beat) s.tick in

@@ -17,7 +17,6 @@ use Rattle.slot_plan.proofs.Times.{cub_apart}
 use Rattle.node_kit.specs.declared.course.Order.{Order}
 use Rattle.node_kit.specs.Steps.{Deed, Input, stamp_of}
 use Rattle.node_kit.specs.Ways.{way_to_controller}
-use Rattle.run_facts.specs.Events.{is_tick}
 use Rattle.run_facts.specs.Histories.{History, beat}
 use Rattle.run_model.specs.Parts.{IsForCub}
 use Rattle.cub_rules.specs.Ticks.{told_placed}
@@ -26,7 +25,10 @@ use Rattle.controller_core.specs.State.{tenancy_of}
 use Rattle.lists.specs.Elements.{In}
 use Rattle.proof_lives.specs.Lives.{Lives, beat_at, deed_of, outs_at, store_at}
 use Rattle.proof_lives.specs.Facts.{DidAt, TookAt}
-use Rattle.proof_lives.proofs.Carrying.{count_rises}
+use Rattle.proof_lives.specs.TwoLifeRun.{WhichLife, event_in, life_in}
+use Rattle.proof_lives.specs.TwoLifeRun.WhichLife.{First, Later}
+use Rattle.proof_lives.proofs.Returns.{opens_rise}
+use Rattle.proof_lives.proofs.TwoLives.{beat_in}
 use Rattle.proof_lives.proofs.Cuts.{goes_whole, was_put_out}
 use Rattle.proof_lives.proofs.Inputs.{take_of}
 use Rattle.proof_lives.proofs.Inserting.{put_out}
@@ -45,7 +47,7 @@ use Rattle.proof_facts.specs.Lives.{lives_of, DiedAt}
 use Rattle.proof_facts.specs.Rings.{IsRingHistory}
 use Rattle.proof_links.proofs.Carrying.{delivered, did_as}
 use Rattle.proof_links.proofs.Controllers.{beat_of, before_tick, done_of, gone_of, gone_once, how, one_place, one_way, place, stop_in, stop_is, tick_ends, waiting}
-use Rattle.proof_links.proofs.Nodes.{beat_same, controller_inside, cub_inside, did_in, did_it, formed_at, whole_or_died}
+use Rattle.proof_links.proofs.Nodes.{controller_inside, cub_inside, did_in, did_it, formed_at, immortal, is_up, whole_or_died}
 use Rattle.proof_links.proofs.Running.{lived_or_died}
 
 -- The backup record of a visit is that of a cub which is not the visit's own.
@@ -67,27 +69,29 @@ module _ {S : Type 0} {step : S → Input Msg → Deed Msg S} {p : Params} {orde
 
   -- Of an instance whose place a cub tells it in beat x the controller knows a greatest delay later, so it stops it at a
   -- disk before that.
-  told_early : {c v d x z : ℕ} {t : Tenancy} → StoppedWaiting p orders lives v d z → DidAt p lives c (told_placed p c t) x
-      → t.instance.0 ≡ v → z < x + p.delay
-  told_early {c} {v} {d} {x} {z} {t} w told same = ⊎_elim
+  told_early : (u : WhichLife) {c v d x z : ℕ} {t : Tenancy} → StoppedWaiting p orders lives v d z
+      → DidAt p (life_in h u) c (told_placed p c t) x → t.instance.0 ≡ v → z < x + p.delay
+  told_early u {c} {v} {d} {x} {z} {t} w told same = ⊎_elim
       (λ (l : z < x + p.delay). l)
       (λ (g : x + p.delay ≤ z).
       let inside = cub_inside plan ring c told.small in
       let way : LinkNo = way_to_controller p c in
-      let at = did_in plan ring told in
-      let xb = at.1 in
+      let at = did_in plan ring u told in
+      let sent = did_as plan ring u told in
+      let xb = sent.in_beat in
       let i = stop_in plan ring w.ask.instance None d z w.stops in
       let is = stop_is plan ring w.ask.instance None d z w.stops in
       let zb : beat h ctrl w.stops.at ≡ z = beat_of plan ring w.stops.at ∙ w.stops.in_beat in
       let next = tick_ends plan ring w.stops.at i.stamp w.stops.done i.tick in
-      let rise = count_rises is_tick h ctrl (suc w.stops.at) (h.count ctrl) (done_of plan ring w.stops.at w.stops.done) in
-      let r = delivered plan ring ctrl (did_as plan ring told).1 inside (controller_inside plan ring)
-      (ends_controller p c told.small) (omega arith) in
+      let rise = opens_rise ring.run ctrl (controller_inside plan ring) (suc w.stops.at) (h.count ctrl)
+      (done_of plan ring w.stops.at w.stops.done) (omega arith) in
+      let r = delivered plan ring ctrl sent.note inside (controller_inside plan ring)
+      (immortal plan ring ctrl (controller_inside plan ring) (omega arith)) (ends_controller p c told.small) (omega arith) in
       let rb : beat h ctrl r.when ≡ r.stamp.beat = beat_of plan ring r.when ∙ ap (λ (k : Input Msg). (stamp_of k).beat) r.is in
       let soon = r.soon in
       let earlier = before_tick plan ring w.stops.at r.when i.stamp r.stamp way (msg.Placed t) w.stops.done r.done i.tick r.is
       (omega arith) in
-      let form = formed_at plan ring c told.at way (msg.Placed t) inside at.0 (did_it plan ring told) in
+      let form = formed_at plan ring c (event_in h u c told.at) way (msg.Placed t) inside at.0 (did_it plan ring u told) in
       let known = known_told p orders inputs r.when w.stops.at r.stamp way t earlier r.is form in
       let one : t.instance ≡ w.ask.instance = same_instance t.instance w.ask.instance (same ∙ sym w.same) in
       let known2 : tenancy_of (known_at p orders inputs w.stops.at).placed w.ask.instance ≡ Some known.0 =
@@ -99,57 +103,61 @@ module _ {S : Type 0} {step : S → Input Msg → Deed Msg S} {p : Params} {orde
       (cases_lt z (x + p.delay))
 
   -- What a cub puts out in an event goes out, or it died in that beat.
-  all_or_died : {c x : ℕ} (at : ℕ) → c < p.cubs → at < lives.count c → beat_at (lives.input c) at ≡ x
-      → (t : Tenancy) → In (told_placed p c t) (outs_at p c (lives.input c) at)
-      → DidAt p lives c (told_placed p c t) x ⊎ DiedAt p h c x
-  all_or_died {c} {x} at small done in_beat t told = ⊎_elim
+  all_or_died : (u : WhichLife) {c x : ℕ} (at : ℕ) → c < p.cubs → at < (life_in h u).count c
+      → beat_at ((life_in h u).input c) at ≡ x
+      → (t : Tenancy) → In (told_placed p c t) (outs_at p c ((life_in h u).input c) at)
+      → DidAt p (life_in h u) c (told_placed p c t) x ⊎ DiedAt p h c x
+  all_or_died u {c} {x} at small done in_beat t told = ⊎_elim
       (λ whole. inl (record {
         small = small;
         at = at;
         done = done;
         in_beat = in_beat;
-        did = goes_whole p lives c at (told_placed p c t) whole told;
+        did = goes_whole p (life_in h u) c at (told_placed p c t) whole told;
       }))
-      (λ died. inr (subst (λ b. DiedAt p h c b) (beat_same plan ring c at ∙ in_beat) died))
-      (whole_or_died plan ring c at small done)
+      (λ died. inr (subst (λ b. DiedAt p h c b) (beat_in h u c at ∙ in_beat) died))
+      (whole_or_died plan ring u c at small done)
 
   -- The cub that puts tells it so, unless it dies in that tick.
-  unplaced : {c v d x z : ℕ} {t : Tenancy} → StoppedWaiting p orders lives v d z → DidAt p lives c (put_out t) x
-      → t.instance.0 ≡ v → (z < x + p.delay) ⊎ DiedAt p h c x
-  unplaced {c} {v} {d} {x} {z} {t} w put same =
-      let was = was_put_out p lives c put.at (put_out t) put.did in
-      let told = put_tells p c plan put.small (lives.input c put.at) (store_at p c (lives.input c) put.at) t was in
+  unplaced : (u : WhichLife) {c v d x z : ℕ} {t : Tenancy} → StoppedWaiting p orders lives v d z
+      → DidAt p (life_in h u) c (put_out t) x → t.instance.0 ≡ v → (z < x + p.delay) ⊎ DiedAt p h c x
+  unplaced u {c} {v} {d} {x} {z} {t} w put same =
+      let own : ℕ → Input Msg = (life_in h u).input c in
+      let was = was_put_out p (life_in h u) c put.at (put_out t) put.did in
+      let told = put_tells p c plan put.small (own put.at) (store_at p c own put.at) t was in
       ⊎_elim
-      (λ did. inl (told_early w did same))
+      (λ did. inl (told_early u w did same))
       (λ died. inr died)
-      (all_or_died put.at put.small put.done put.in_beat t told)
+      (all_or_died u put.at put.small put.done put.in_beat t told)
 
   -- The next cub tells it of a first visit of which it takes the backup record, unless it dies then.
-  next_tells : {c y : ℕ} {t : Tenancy} (took : TookAt p lives c t t.first y) → c ≡ cub_of p (t.first + 1)
-      → In (told_placed p c t) (outs_at p c (lives.input c) took.done.at)
-  next_tells {c} {y} {t} took next =
+  next_tells : (u : WhichLife) {c y : ℕ} {t : Tenancy} (took : TookAt p (life_in h u) c t t.first y)
+      → c ≡ cub_of p (t.first + 1) → In (told_placed p c t) (outs_at p c ((life_in h u).input c) took.done.at)
+  next_tells u {c} {y} {t} took next =
+      let own : ℕ → Input Msg = (life_in h u).input c in
       let k = took.done in
       let i : ℕ = k.at in
-      let g = store_at p c (lives.input c) i in
+      let g = store_at p c own i in
       let r : Rec = record { tenancy = t; visit = t.first; kind = took.kind } in
-      let was = was_put_out p lives c i (taken_out r) k.did in
-      let mine = (keeps_records p c (lives.input c) i plan k.small).for_cub r was in
+      let was = was_put_out p (life_in h u) c i (taken_out r) k.did in
+      let mine = (keeps_records p c own i plan k.small).for_cub r was in
       let backup = is_backup p c took.kind t.first plan mine next in
-      let there : In (taken_out (record { tenancy = t; visit = t.first; kind = Backup })) (outs_at p c (lives.input c) i) =
-      subst (λ (q : Kind). In (taken_out (record { tenancy = t; visit = t.first; kind = q })) (outs_at p c (lives.input c) i)) backup was in
-      let m = take_of (lives.input c i) took.message in
+      let there : In (taken_out (record { tenancy = t; visit = t.first; kind = Backup })) (outs_at p c own i) =
+      subst (λ (q : Kind). In (taken_out (record { tenancy = t; visit = t.first; kind = q })) (outs_at p c own i)) backup was in
+      let m = take_of (own i) took.message in
       subst (λ (q : Input Msg). In (told_placed p c t) (deed_of p c q g).outs) (sym m.3)
       (news_told p c m.0 m.1 g m.2 t
       (subst (λ (q : Input Msg). In (taken_out (record { tenancy = t; visit = t.first; kind = Backup })) (deed_of p c q g).outs) m.3 there))
 
-  unheard : {c v d y z : ℕ} {t : Tenancy} → StoppedWaiting p orders lives v d z → TookAt p lives c t t.first y
-      → c ≡ cub_of p (t.first + 1) → t.instance.0 ≡ v → (z < y + p.delay) ⊎ DiedAt p h c y
-  unheard {c} {v} {d} {y} {z} {t} w took next same =
+  unheard : (u : WhichLife) {c v d y z : ℕ} {t : Tenancy} → StoppedWaiting p orders lives v d z
+      → TookAt p (life_in h u) c t t.first y → c ≡ cub_of p (t.first + 1) → t.instance.0 ≡ v
+      → (z < y + p.delay) ⊎ DiedAt p h c y
+  unheard u {c} {v} {d} {y} {z} {t} w took next same =
       let k = took.done in
       ⊎_elim
-      (λ did. inl (told_early w did same))
+      (λ did. inl (told_early u w did same))
       (λ died. inr died)
-      (all_or_died k.at k.small k.done k.in_beat t (next_tells took next))
+      (all_or_died u k.at k.small k.done k.in_beat t (next_tells u took next))
 
   -- Before the controller stops an instance, each cub has ended each lower beat, or died.
   up : {v d z c a : ℕ} → StoppedWaiting p orders lives v d z → a < z → c < p.cubs
@@ -157,9 +165,9 @@ module _ {S : Type 0} {step : S → Input Msg → Deed Msg S} {p : Params} {orde
   up {v} {d} {z} {c} {a} w low small =
       let zb : beat h ctrl w.stops.at ≡ z = beat_of plan ring w.stops.at ∙ w.stops.in_beat in
       lived_or_died plan ring c a z small low
-      (λ alive.
+      (λ lives.
       let level = ring.run.level ctrl c w.stops.at (controller_inside plan ring) (cub_inside plan ring c small)
-      (done_of plan ring w.stops.at w.stops.done) alive in
+      (done_of plan ring w.stops.at w.stops.done) (is_up plan ring c lives) in
       omega arith)
 
   -- The laws of stops.
@@ -173,7 +181,8 @@ module _ {S : Type 0} {step : S → Input Msg → Deed Msg S} {p : Params} {orde
     one_way = one_way plan ring;
     place = place plan ring;
     waiting = λ s. waiting plan ring s;
-    unplaced = λ w put same. unplaced w put same;
-    unheard = λ w took next same. unheard w took next same;
+    unplaced = λ w put same. ⊎_elim (λ q. unplaced First w q same) (λ q. unplaced Later w q same) put;
+    unheard = λ w took next same.
+        ⊎_elim (λ q. unheard First w q next same) (λ q. unheard Later w q next same) took;
     up = λ w low small. up w low small;
   }

@@ -1,19 +1,13 @@
--- Which events of a node have an input, in a run in which nobody returns: all, or all but the last one, its death.
-use Rattle.std.proofs.Common.{◌≡◌, ℕ, zero, suc, ◌+◌, ◌-◌, ◌<◌, ◌≤◌, ◌==◌, Bool, true, false, None, cond, refl, sym, ap, ◌∙◌, arith, ⊎_elim, eq-or-lt_of_le}
+-- Which events of a node before its return have an input: all, or all but the last one, its death.
+use Rattle.std.proofs.Common.{◌≡◌, ℕ, zero, suc, ◌+◌, ◌-◌, ◌<◌, ◌≤◌, ◌==◌, Bool, true, false, None, cond, refl, sym, ap, subst, ◌∙◌, arith, ⊎_elim, eq-or-lt_of_le}
 use Rattle.std.proofs.lemmas.Bool.{cases_Bool, eq-eqb, ne_eqb}
 use Rattle.tiger_base.specs.declared.number.Stamp.{Stamp}
 use Rattle.tiger_base.specs.declared.message.Msg.{Msg}
-use Rattle.tiger_base.specs.Notes.{noted}
-use Rattle.tiger_base.specs.Limits.{most_reading}
-use Rattle.slot_plan.specs.declared.params.Params.{Params}
-use Rattle.slot_plan.specs.Times.{time_of}
-use Rattle.node_kit.specs.Steps.{Deed, Input}
 use Rattle.run_facts.specs.Events.{NodeEvent, is_death, is_return, is_tick_input}
 use Rattle.run_facts.specs.Events.NodeEvent.{Does, Ends, Dies, Returns}
 use Rattle.run_facts.specs.Histories.{History, count_of, ticks, beat, reading}
-use Rattle.proof_lives.specs.Lives.{ticks_at, beat_at, reading_at, cut_in, IsLife}
-use Rattle.proof_lives.specs.Histories.{input_of, has_input, cut_of_event, acting, lives_of}
-use Rattle.proof_lives.specs.OneLife.{IsOneLifeRun}
+use Rattle.proof_lives.specs.Lives.{ticks_at, beat_at, reading_at, cut_in}
+use Rattle.proof_lives.specs.Histories.{input_of, has_input, cut_of_event, acting, before_return, first_events, lives_of}
 use Rattle.proof_lives.proofs.Carrying.{stamp_same, tick_same}
 
 -- an event without an input is a death or a return
@@ -30,19 +24,66 @@ alive_whole (Ends i sends) f = absurd (cc)
 alive_whole (Dies stamp) f = refl
 alive_whole (Returns stamp) f = refl
 
--- of a node's events none but the last is a death, and none is a return
+-- ---- the events before a return
+
+-- of the first i events of a node the first k stand before its return, if that is one of them
+abbrev pub IsFront : {S : Type 0} → History Msg S → ℕ → ℕ → ℕ → Type 0
+IsFront h n i k =
+    (k ≤ i) × ((j : ℕ) → j < k → is_return (h.event n j) ≡ false) × (k < i → is_return (h.event n k) ≡ true)
+
+one_more : {S : Type 0} (h : History Msg S) (n i : ℕ) → before_return h n i ≡ i
+    → before_return h n (suc i) ≡ cond (is_return (h.event n i)) i (suc i)
+one_more h n i same =
+    ap (λ (b : Bool). cond b (cond (is_return (h.event n i)) i (suc i)) (before_return h n i))
+    (eq-eqb (before_return h n i) i same)
+
+no_more : {S : Type 0} (h : History Msg S) (n i : ℕ) → before_return h n i < i
+    → before_return h n (suc i) ≡ before_return h n i
+no_more h n i less =
+    ap (λ (b : Bool). cond b (cond (is_return (h.event n i)) i (suc i)) (before_return h n i))
+    (ne_eqb (before_return h n i) i (λ q. omega arith))
+
+pub front_is : {S : Type 0} (h : History Msg S) (n i : ℕ) → IsFront h n i (before_return h n i)
+front_is h n zero = (omega arith, λ j low. absurd (omega arith), λ low. absurd (omega arith))
+front_is h n (suc i) =
+    let before = front_is h n i in
+    let low = before.0 in
+    ⊎_elim
+    (λ (same : before_return h n i ≡ i).
+    let here : (j : ℕ) → j < i → is_return (h.event n j) ≡ false = λ j less. before.1 j (omega arith) in
+    ⊎_elim
+    (λ (t : is_return (h.event n i) ≡ true).
+    let is : before_return h n (suc i) ≡ i = one_more h n i same ∙ ap (λ (b : Bool). cond b i (suc i)) t in
+    subst (IsFront h n (suc i)) (sym is) (omega arith, here, λ less. t))
+    (λ (f : is_return (h.event n i) ≡ false).
+    let is : before_return h n (suc i) ≡ suc i = one_more h n i same ∙ ap (λ (b : Bool). cond b i (suc i)) f in
+    subst (IsFront h n (suc i)) (sym is) (
+      omega arith,
+      λ j less. ⊎_elim
+          (λ (q : j ≡ i). ap (λ k. is_return (h.event n k)) q ∙ f)
+          (λ (l : j < i). here j l)
+          (eq-or-lt_of_le (let z : j ≤ i = omega arith in z)),
+      λ less. absurd (omega arith),
+    ))
+    (cases_Bool (is_return (h.event n i))))
+    (λ (less : before_return h n i < i).
+    subst (IsFront h n (suc i)) (sym (no_more h n i less))
+    (omega arith, before.1, λ more. before.2 less))
+    (eq-or-lt_of_le low)
+
+-- of a node's events before its return none but the last is a death
 module _ {S : Type 0} (h : History Msg S) (n : ℕ)
-    (here : (i : ℕ) → i < h.count n → is_return (h.event n i) ≡ false)
-    (ended : (i : ℕ) → i < h.count n → is_death (h.event n i) ≡ true → i + 1 ≡ h.count n) where
+    (here : (i : ℕ) → i < first_events h n → is_return (h.event n i) ≡ false)
+    (ended : (i : ℕ) → i < first_events h n → is_death (h.event n i) ≡ true → i + 1 ≡ first_events h n) where
   -- an event before the last one is no death
-  pub early : (i : ℕ) → i + 1 < h.count n → is_death (h.event n i) ≡ false
+  pub early : (i : ℕ) → i + 1 < first_events h n → is_death (h.event n i) ≡ false
   early i low = ⊎_elim
       (λ (t : is_death (h.event n i) ≡ true). let z = ended i (omega arith) t in absurd (omega arith))
       (λ (f : is_death (h.event n i) ≡ false). f)
       (cases_Bool (is_death (h.event n i)))
 
   -- so it has an input
-  pub early_input : (i : ℕ) → i + 1 < h.count n → has_input (h.event n i) ≡ true
+  pub early_input : (i : ℕ) → i + 1 < first_events h n → has_input (h.event n i) ≡ true
   early_input i low = ⊎_elim
       (λ (t : has_input (h.event n i) ≡ true). t)
       (λ (f : has_input (h.event n i) ≡ false).
@@ -50,7 +91,7 @@ module _ {S : Type 0} (h : History Msg S) (n : ℕ)
       let z : true ≡ false = sym died ∙ early i low in absurd (cc))
       (cases_Bool (has_input (h.event n i)))
 
-  all_act : (i : ℕ) → i < h.count n → count_of has_input h n i ≡ i
+  all_act : (i : ℕ) → i < first_events h n → count_of has_input h n i ≡ i
   all_act zero low = refl
   all_act (suc i) low =
       ap (λ (b : Bool). cond b (suc (count_of has_input h n i)) (count_of has_input h n i)) (early_input i (omega arith))
@@ -58,10 +99,10 @@ module _ {S : Type 0} (h : History Msg S) (n : ℕ)
 
   -- an event that counts, and has an input
   pub record Acts (i : ℕ) : Type 0 where
-    pub done : i < h.count n
+    pub done : i < first_events h n
     pub input : has_input (h.event n i) ≡ true
 
-  counts : (k : ℕ) → h.count n ≡ k
+  counts : (k : ℕ) → first_events h n ≡ k
       → ((i : ℕ) → i < count_of has_input h n k → Acts i)
       × ((i : ℕ) → i < k → has_input (h.event n i) ≡ true → i < count_of has_input h n k)
   counts zero e = (λ i low. absurd (omega arith), λ i low acts. low)
@@ -95,13 +136,13 @@ module _ {S : Type 0} (h : History Msg S) (n : ℕ)
 
   -- the events with an input are the first ones, and are as many as count
   pub acts_at : (i : ℕ) → i < acting h n → Acts i
-  acts_at i low = (counts (h.count n) refl).0 i low
+  acts_at i low = (counts (first_events h n) refl).0 i low
 
-  pub among_acting : (i : ℕ) → i < h.count n → has_input (h.event n i) ≡ true → i < acting h n
-  among_acting i low acts = (counts (h.count n) refl).1 i low acts
+  pub among_acting : (i : ℕ) → i < first_events h n → has_input (h.event n i) ≡ true → i < acting h n
+  among_acting i low acts = (counts (first_events h n) refl).1 i low acts
 
   -- an event that is no death is one of them
-  pub alive_acts : (i : ℕ) → i < h.count n → is_death (h.event n i) ≡ false → i < acting h n
+  pub alive_acts : (i : ℕ) → i < first_events h n → is_death (h.event n i) ≡ false → i < acting h n
   alive_acts i low lives = ⊎_elim
       (λ (t : has_input (h.event n i) ≡ true). among_acting i low t)
       (λ (f : has_input (h.event n i) ≡ false).
@@ -110,22 +151,25 @@ module _ {S : Type 0} (h : History Msg S) (n : ℕ)
       (cases_Bool (has_input (h.event n i)))
 
   -- they are all, or all but the last
-  pub most_act : h.count n ≤ acting h n + 1
-  most_act = go (h.count n) refl
+  pub most_act : first_events h n ≤ acting h n + 1
+  most_act = go (first_events h n) refl
     where
-      go : (k : ℕ) → h.count n ≡ k → k ≤ acting h n + 1
+      go : (k : ℕ) → first_events h n ≡ k → k ≤ acting h n + 1
       go zero e = omega arith
       go (suc zero) e = omega arith
       go (suc (suc m)) e = let z = among_acting m (omega arith) (early_input m (omega arith)) in omega arith
 
-  -- up to an event the ticks are those of the inputs
-  pub ticks_same : (i : ℕ) → i < h.count n → ticks h n i ≡ ticks_at (λ k. input_of (h.event n k)) i
-  ticks_same zero low = refl
-  ticks_same (suc i) low =
-      let t = tick_same (h.event n i) (early_input i (omega arith)) in
-      let before = ticks_same i (omega arith) in
+  -- the ticks of these events are those of the inputs
+  pub ticks_acting : (i : ℕ) → i ≤ acting h n → ticks h n i ≡ ticks_at (λ k. input_of (h.event n k)) i
+  ticks_acting zero low = refl
+  ticks_acting (suc i) low =
+      let t = tick_same (h.event n i) (acts_at i (omega arith)).input in
+      let before = ticks_acting i (omega arith) in
       ap (λ (b : Bool). cond b (suc (ticks h n i)) (ticks h n i)) t
       ∙ ap (λ (k : ℕ). cond (is_tick_input (input_of (h.event n i))) (suc k) k) before
+
+  pub ticks_same : (i : ℕ) → i < first_events h n → ticks h n i ≡ ticks_at (λ k. input_of (h.event n k)) i
+  ticks_same i low = let most = most_act in ticks_acting i (omega arith)
 
   -- a life is cut off where its node's death comes in an event
   pub cut_same : (i : ℕ) → i < acting h n → cut_in (lives_of h) n i ≡ cut_of_event (h.event n i)
@@ -148,29 +192,3 @@ beat_same h n i = ap (λ (s : Stamp). s.beat) (stamp_same (h.event n i))
 pub reading_same : {S : Type 0} (h : History Msg S) (n i : ℕ)
     → reading h n i ≡ reading_at (λ k. input_of (h.event n k)) i
 reading_same h n i = ap (λ (s : Stamp). s.reading) (stamp_same (h.event n i))
-
--- so each node of such a run has a life, if no reading is too large
-module _ {S : Type 0} (step : S → Input Msg → Deed Msg S) (p : Params) (nodes : ℕ) (h : History Msg S)
-    (run : IsOneLifeRun noted step p nodes h) where
-  pub life_to : (n count : ℕ) → n < nodes → count ≤ h.count n
-      → ((i : ℕ) → i < count → reading h n i ≤ most_reading)
-      → IsLife p count (λ k. input_of (h.event n k))
-  life_to n count known few short = record {
-    in_beat = λ i low. sym (beat_same h n i) ∙ run.in_beat n i known (omega arith)
-        ∙ ticks_same h n (λ j below. run.here n j known below) (λ j below died. run.ended n j known below died) i
-        (omega arith);
-    reads = λ i low.
-        let r = run.reads n i known (omega arith) in
-        let e = reading_same h n i in
-        let t : time_of p (beat h n i) ≡ time_of p (beat_at (λ k. input_of (h.event n k)) i) =
-        ap (λ b. time_of p b) (beat_same h n i) in
-        let r0 = r.0 in
-        let r1 = r.1 in
-        (omega arith, omega arith);
-    rising = λ j i le low.
-        let r = run.rising n j i known le (omega arith) in
-        let a = reading_same h n j in
-        let b = reading_same h n i in
-        omega arith;
-    short = λ i low. let r = short i low in let b = reading_same h n i in omega arith;
-  }

@@ -22,11 +22,10 @@ use Rattle.node_kit.specs.Ways.{way_ahead, predecessor}
 use Rattle.node_kit.proofs.Ways.{links_sound}
 use Rattle.run_facts.specs.Events.{NodeEvent, Dated, stamp_at, is_tick, is_take_on, sends_of, is_tick_input}
 use Rattle.run_facts.specs.Events.NodeEvent.{Does, Ends, Dies, Returns}
-use Rattle.run_facts.specs.Histories.{History, TakesAt, outs, beat, takes, count_of}
+use Rattle.run_facts.specs.Histories.{History, IsRun, TakesAt, outs, beat, place, count_of}
 use Rattle.run_facts.proofs.Counts.{sent-numbered}
 use Rattle.lists.specs.Elements.{In}
 use Rattle.proof_lives.specs.Histories.{input_of, has_input, cut_of_event}
-use Rattle.proof_lives.specs.OneLife.{IsOneLifeRun}
 use Rattle.lists.proofs.Elements.{chosen}
 
 -- an event and what befell the node in it
@@ -196,7 +195,7 @@ count_rises test h n i (suc j) l = ⊎_elim
 
 -- what the record of a run gives of each link, whatever the nodes do
 module _ {S : Type 0} (step : S → Input Msg → Deed Msg S) (p : Params) (nodes : ℕ) (h : History Msg S)
-    (run : IsOneLifeRun noted step p nodes h) where
+    (run : IsRun noted step p nodes h) where
   -- who sent what a node took
   pub record CameFrom (c i : ℕ) (b : ℕ) (link : LinkNo) (m : Msg) : Type 0 where
     pub from : ℕ
@@ -213,7 +212,7 @@ module _ {S : Type 0} (step : S → Input Msg → Deed Msg S) (p : Params) (node
   pub came_to : (c i : ℕ) (stamp : Stamp) (link : LinkNo) (m : Msg) → c < nodes → i < h.count c → TakesAt (h.event c i) stamp link m → CameFrom c i stamp.beat link m
   came_to c i stamp link m inside low took =
       let k = run.carried c i stamp link m inside low took in
-      let s = sent-numbered noted step link.0 h k.from (h.count k.from) (takes link.0 h c i) (record { beat = k.when; item = m }) k.was_sent in
+      let s = sent-numbered noted step link.0 h k.from (h.count k.from) (place link.0 h c i) (record { beat = k.when; item = m }) k.was_sent in
       let r = sends_in link.0 (beat h k.from s.at) (outs noted step h k.from s.at) (record { beat = k.when; item = m }) s.place s.sends in
       let when : k.when ≡ beat h k.from s.at = r.3 in
       let later = k.later in

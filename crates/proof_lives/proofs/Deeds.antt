@@ -99,6 +99,8 @@ weaker_drops P Q less (o ∷ os) h = (one o h.0, weaker_drops P Q less os h.1)
     one : (o : Out Msg) → IsDrop P o → IsDrop Q o
     one (out.Act (what.Took r)) k = k
     one (out.Act (what.Dropped r)) k = less r k
+    one (out.Act what.Died) k = k
+    one (out.Act what.Returned) k = k
     one (out.Act other) k = tt
     one (out.Send link (msg.ViewerState s)) k = k
     one (out.Send link other) k = tt

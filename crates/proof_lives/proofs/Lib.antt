@@ -21,10 +21,9 @@ pub mod Lines
 pub mod Meeting
 pub mod Moves
 pub mod News
-pub mod NoReturns
 pub mod NoStops
+pub mod Numbers
 pub mod Once
-pub mod OneLife
 pub mod Order
 pub mod PassLaws
 pub mod Passing
@@ -33,6 +32,8 @@ pub mod Putting
 pub mod Queuing
 pub mod Reaching
 pub mod RecordPasses
+pub mod Returns
+pub mod SameLife
 pub mod Seating
 pub mod Seats
 pub mod Standing
@@ -47,6 +48,7 @@ pub mod Telling
 pub mod Ticking
 pub mod Told
 pub mod Trails
+pub mod TwoLives
 pub mod Waiting
 pub mod Watching
 pub mod Wrapped

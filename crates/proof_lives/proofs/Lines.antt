@@ -11,9 +11,9 @@ use Rattle.node_kit.specs.Steps.{Input, stamp_of}
 use Rattle.node_kit.specs.Steps.Input.{Take, Tick}
 use Rattle.partial_view.specs.declared.line.Line.{Line}
 use Rattle.cub_rules.specs.declared.store.Store.{Store}
-use Rattle.cub_rules.specs.State.{IsStoreOf, opening_store}
+use Rattle.cub_rules.specs.State.{IsStoreOf}
 use Rattle.cub_changes.proofs.Rules.{taking_right, ticking_right}
-use Rattle.proof_lives.specs.Lives.{deed_of, store_at, outs_at}
+use Rattle.proof_lives.specs.Lives.{deed_of, beginning, store_at, outs_at}
 use Rattle.lists.specs.Elements.{In}
 use Rattle.proof_lives.proofs.Moves.{Moves, Stays, NextSent, taken_out}
 use Rattle.proof_lives.proofs.Steps.{IsDueAt, IsSettled}
@@ -114,8 +114,8 @@ module _ (p : Params) (c : ℕ) (plan : IsPlan p) (here : c < p.cubs) (inputs : 
       ticking_settles p c stamp (store_at p c inputs i) y (subst (λ (k : Input Msg). In y (deed_of p c k (store_at p c inputs i)).state.view.lines) e h)
 
   -- what a cub keeps is always what this cub may keep
-  pub opening_kept : IsStoreOf p c (opening_store p 0)
-  opening_kept = record {
+  pub beginning_kept : (stamp : Stamp) → IsStoreOf p c (beginning p stamp)
+  beginning_kept stamp = record {
     view_plan = refl;
     pieces_plan = refl;
     unasked_plan = refl;
@@ -133,5 +133,5 @@ module _ (p : Params) (c : ℕ) (plan : IsPlan p) (here : c < p.cubs) (inputs : 
   deed_kept (Tick stamp) h short kept = (ticking_right p c stamp plan here short h kept).keeps
 
   pub kept_at : (i : ℕ) → ((k : ℕ) → k < i → (stamp_of (inputs k)).reading ≤ most_reading) → IsStoreOf p c (store_at p c inputs i)
-  kept_at zero short = opening_kept
+  kept_at zero short = beginning_kept (stamp_of (inputs 0))
   kept_at (suc i) short = deed_kept (inputs i) (store_at p c inputs i) (short i (omega arith)) (kept_at i (λ k l. short k (omega arith)))

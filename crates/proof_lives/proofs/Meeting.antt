@@ -11,7 +11,7 @@ use Rattle.tiger_base.specs.declared.message.Msg.{Msg}
 use Rattle.tiger_base.specs.declared.message.Msg.TheVariants as msg
 use Rattle.slot_plan.specs.declared.params.Params.{Params}
 use Rattle.slot_plan.specs.Conditions.{IsPlan}
-use Rattle.slot_plan.specs.Times.{cub_of, due}
+use Rattle.slot_plan.specs.Times.{cub_of, due, time_of}
 use Rattle.slot_plan.specs.Keys.{Key}
 use Rattle.node_kit.specs.declared.course.Order.{Order}
 use Rattle.node_kit.specs.Steps.{Input, stamp_of}
@@ -20,9 +20,12 @@ use Rattle.viewer_state.specs.States.{is_visit_of}
 use Rattle.deschedule.specs.Holds.{is_held, must_pass}
 use Rattle.cub_rules.specs.declared.store.Store.{Store}
 use Rattle.cub_rules.specs.Messages.{position_at, taking}
-use Rattle.proof_schedule.specs.Facts.{Facts, EnteredAmong, IsReleasedBy, IsBeside, IsGiven}
+use Rattle.cub_rules.specs.Comebacks.{lets_in, due_of_record}
+use Rattle.cub_changes.specs.Causes.{MayTake}
+use Rattle.cub_changes.specs.Causes.Stage.{OnMessage}
+use Rattle.proof_schedule.specs.Facts.{Facts, EnteredAmong, IsReleasedBy, PassedBy, IsBeside, IsGiven, IsSameLife, IsOpenTo, enters_from}
 use Rattle.proof_schedule.specs.StateLaws.{Found, Meeting, Taken}
-use Rattle.proof_lives.specs.Lives.{Lives, store_at, outs_at, outs_in, deed_of, beat_at}
+use Rattle.proof_lives.specs.Lives.{Lives, AreLives, store_at, outs_at, outs_in, deed_of, beat_at}
 use Rattle.run_facts.specs.Events.{is_tick_input}
 use Rattle.lists.specs.Elements.{In}
 use Rattle.proof_lives.specs.Facts.{TookAt, TookMessage}
@@ -31,28 +34,40 @@ use Rattle.proof_lives.proofs.Going.{message_goes}
 use Rattle.proof_lives.proofs.Moves.{taken_out}
 use Rattle.proof_lives.proofs.Inputs.{take_of, got_message, entered_among}
 use Rattle.proof_lives.proofs.Order.{beats_rise}
-use Rattle.proof_lives.proofs.Taking.{taking_hears}
+use Rattle.proof_lives.proofs.Taking.{message_took, taking_hears}
 use Rattle.proof_lives.proofs.Telling.{taking_told, taking_places}
-use Rattle.proof_lives.specs.FactsBy.{Beyond, facts_by}
+use Rattle.proof_lives.specs.FactsBy.{Beyond, facts_by, facts_among}
 use Rattle.proof_lives.proofs.Begun.{IsStop, IsPassing, passed_since}
 use Rattle.proof_lives.proofs.Holds.{held_in, all_passed}
 use Rattle.proof_lives.proofs.HoldLaws.{beside_position, PassingBy, passed_by}
-use Rattle.proof_lives.proofs.NoReturns.{same_life}
+use Rattle.proof_lives.proofs.SameLife.{same_life, lets_in_open, let_in_late}
 use Rattle.proof_lives.specs.InOrder.{CameInOrder, AreInOrder}
 use Rattle.proof_lives.proofs.Standing.{standing}
 use Rattle.proof_lives.proofs.Reaching.{stop_below, let_go}
-use Rattle.proof_lives.proofs.FirstLife.{lets_all_in}
+use Rattle.proof_lives.proofs.Fitting.{Fits, alone_fits}
 
 -- who is given a record stands beside the state's visit
 pub given_beside : (p : Params) (c : ℕ) (t : Tenancy) (m n : ℕ) → IsGiven p c t m n → IsBeside p c m
 given_beside p c t m n given = ⊎_elim (λ g. g.1) (λ g. inr (g.2 ∙ ap (λ k. cub_of p k) g.0)) given
 
-module _ (p : Params) (plan : IsPlan p) (lives : Lives) (beyond : Beyond) (orders : List Order) (order : AreInOrder p lives orders) where
+module _ (p : Params) (plan : IsPlan p) (lives : Lives) (beyond : Beyond) (orders : List Order)
+    (order : AreInOrder p lives beyond orders) (fits : Fits p lives beyond) where
+  -- the facts of one life of each cub, and the same with what is sent in any of their lives
+  abbrev Here : Facts
+  Here = facts_by p lives beyond
+
   abbrev R : Facts
-  R = facts_by p lives beyond
+  R = facts_among p lives beyond
+
+  -- what is said of a cub's own deeds is the same of both
+  among_released : {c v b : ℕ} → IsReleasedBy p Here c v b → IsReleasedBy p R c v b
+  among_released r = record { beat = r.beat; reached = r.reached; over = r.over }
+
+  among_passed : {c v b : ℕ} → PassedBy Here c v b → PassedBy R c v b
+  among_passed r = record { slot = r.slot; visit = r.visit; beat = r.beat; passed = r.passed; by = r.by }
 
   -- who has a place where a record of a state goes: one that was taken, behind each deschedule of its instance that came before
-  found_at : (c i at y s n : ℕ) (t : Tenancy) (m : ℕ) (q : Rec) → (came : CameInOrder p lives c i t m y) → c < p.cubs → i < lives.count c → is_tick_input (lives.input c i) ≡ false
+  found_at : (c i at y s n : ℕ) (t : Tenancy) (m : ℕ) (q : Rec) → (came : CameInOrder p lives beyond c i t m y) → c < p.cubs → i < lives.count c → is_tick_input (lives.input c i) ≡ false
       → beat_at (lives.input c) i ≡ y → at ≤ i → In (taken_out q) (outs_in p lives c at) → q.tenancy.slot.0 ≡ s → q.visit ≡ n
       → ((j : ℕ) → j < i → IsStop p c (lives.input c) j q.tenancy.instance.0 → j < at)
       → Found p R c s n y came.from came.ahead came.beat
@@ -61,7 +76,7 @@ module _ (p : Params) (plan : IsPlan p) (lives : Lives) (beyond : Beyond) (order
       let v : ℕ = q.tenancy.instance.0 in
       let entered = entered_among p lives order.lived c at i q small low message by taken in
       let gone : (j : ℕ) → j < i → IsStop p c inputs j v → IsReleasedBy p R c v (beat_at inputs at) = λ j l stop.
-      let_go p plan lives order.lived order.formed beyond c at j q small (omega arith) (since j l stop) (was_put_out p lives c at (taken_out q) taken) stop in
+      among_released (let_go p plan lives order.lived order.formed beyond c at j q small (omega arith) (since j l stop) (was_put_out p lives c at (taken_out q) taken) stop) in
       record {
         holder = q.tenancy;
         slot = slot;
@@ -69,10 +84,11 @@ module _ (p : Params) (plan : IsPlan p) (lives : Lives) (beyond : Beyond) (order
         entered = subst (λ k. EnteredAmong R c q.tenancy k (beat_at inputs at) y) visit
             (subst (λ b. EnteredAmong R c q.tenancy q.visit (beat_at inputs at) b) eb entered);
         behind = λ u w x told le life.
-            let b = came.behind v u w x told le in
+            let b = came.behind v u w x told le life in
             gone b.at b.before (record { stamp = b.stamp; link = b.link; instance = b.instance; tag = Some b.tag; is = b.is; same = b.same });
         since = λ b g less life. let w = stop_below p lives order.lived c i v b low g (omega arith) in gone w.at w.before w.stop;
-        life = same_life p lives beyond c (beat_at inputs at) y;
+        life = subst (λ b. IsSameLife R c (beat_at inputs at) b) eb
+            (same_life p lives beyond order.lived fits c at i small (omega arith) low);
       }
 
   -- a state of an instance that is held passes it on, or it was passed on in this hold
@@ -105,7 +121,7 @@ module _ (p : Params) (plan : IsPlan p) (lives : Lives) (beyond : Beyond) (order
       let message : is_tick_input (inputs g.at) ≡ false = ap is_tick_input g.is in
       let visit : is_visit_of t m ≡ true = and_from _ _ (le-leb t.first m low) (le-leb m t.last high) in
       let form = order.formed c g.small g.at stamp g.link (msg.ViewerState s) g.done g.is in
-      let came : CameInOrder p lives c g.at t m y = order.states c g.at stamp g.link t m g.small g.done g.is in
+      let came : CameInOrder p lives beyond c g.at t m y = order.states c g.at stamp g.link t m g.small g.done g.is in
       record {
         from = came.from;
         ahead = came.ahead;
@@ -115,7 +131,7 @@ module _ (p : Params) (plan : IsPlan p) (lives : Lives) (beyond : Beyond) (order
         later = came.later;
         soon = came.soon;
         tags = λ v u q x told le life.
-            let b = came.behind v u q x told le in
+            let b = came.behind v u q x told le life in
             let before = b.before in
             let gd = g.done in
             let rise = beats_rise p (lives.count c) inputs (order.lived c g.small) b.at g.at (omega arith) g.done in
@@ -134,7 +150,7 @@ module _ (p : Params) (plan : IsPlan p) (lives : Lives) (beyond : Beyond) (order
         places = λ n given open_here. ⊎_elim
             (λ (e : is_held h.held t.instance ≡ true).
             let k = beside_position p c t.slot m (given_beside p c t m n given) in
-            inr (passed_by p plan lives order.lived order.formed beyond g.small g.done eb (held_passing c g.at stamp g.link s k.0 g.small g.done g.is visit k.1 e)))
+            inr (among_passed (passed_by p plan lives order.lived order.formed beyond g.small g.done eb (held_passing c g.at stamp g.link s k.0 g.small g.done g.is visit k.1 e))))
             (λ (e : is_held h.held t.instance ≡ false).
             inl (⊎_elim
             (λ w.
@@ -147,9 +163,19 @@ module _ (p : Params) (plan : IsPlan p) (lives : Lives) (beyond : Beyond) (order
             let taken : In (taken_out w.0) (outs_at p c inputs g.at) = subst (λ (i : Input Msg). In (taken_out w.0) (deed_of p c i h).outs) (sym g.is) w.1 in
             found_at c g.at g.at y t.slot.0 n t m w.0 came g.small g.done message eb (omega arith)
             (message_goes p lives c g.at w.0 message taken) (ap (λ (u : Tenancy). u.slot.0) w.2) w.3 (λ j l stop. l))
-            (taking_places p c stamp g.link s n h plan form visit e given (lets_all_in p c inputs g.at (due p t.slot.0 n))).how))
+            (taking_places p c stamp g.link s n h plan form visit e given (lets_in_open p lives beyond order.lived fits c g.at g.at (due p t.slot.0 n) g.small g.done
+            (subst (λ b. IsOpenTo p R c (due p t.slot.0 n) b) (sym eb) open_here))).how))
             (cases_Bool (is_held h.held t.instance));
       }
+
+-- what is taken at a message is let in
+taken_let_in : (p : Params) (c : ℕ) (stamp : Stamp) (link : LinkNo) (m : Msg) (h : Store) (r : Rec)
+    → In (taken_out r) (taking p c stamp link m h).outs → lets_in h.comeback (due_of_record p r) ≡ true
+taken_let_in p c stamp link m h r i = may_take m (message_took p c stamp link m h r i)
+  where
+    may_take : (n : Msg) → MayTake p c stamp (OnMessage link n) h r → lets_in h.comeback (due_of_record p r) ≡ true
+    may_take (msg.ViewerState s) may = may.4
+    may_take other may = absurd may
 
 -- a record that is taken is one that a state gives, which came in this beat
 pub taken : (p : Params) (lives : Lives) (beyond : Beyond) {c n y : ℕ} {t : Tenancy} → TookAt p lives c t n y
@@ -172,3 +198,17 @@ taken p lives beyond {c} {n} {y} {t} w =
           (got_message p lives c d.at k.0 k.1 (msg.ViewerState state) d.small d.done is);
       given = subst (λ (u : Tenancy). IsGiven p c u s.0.visit n) (sym told.tenancy) told.given;
     }
+
+-- a record that is taken is let in, so it is due late enough after a return
+pub late : (p : Params) (lives : Lives) (beyond : Beyond) → AreLives p lives → Fits p lives beyond → {c n y w : ℕ} {t : Tenancy}
+    → TookAt p lives c t n y → beyond.Returned c w → w ≤ y → enters_from p (time_of p w) ≤ due p t.slot.0 n
+late p lives beyond are fits {c} {n} {y} {w} {t} took back le =
+    let d = took.done in
+    let eb = d.in_beat in
+    let inputs : ℕ → Input Msg = lives.input c in
+    let q : Rec = record { tenancy = t; visit = n; kind = took.kind } in
+    let k = take_of (inputs d.at) took.message in
+    let h : Store = store_at p c inputs d.at in
+    let did = subst (λ (i : Input Msg). In (taken_out q) (deed_of p c i h).outs) k.3 (was_put_out p lives c d.at (taken_out q) d.did) in
+    let lets = taken_let_in p c k.0 k.1 k.2 h q did in
+    let_in_late p lives beyond are fits c d.at d.at (due p t.slot.0 n) w d.small d.done lets back (omega arith)

@@ -1,5 +1,5 @@
 -- The order of a cub's inputs and their beats: a tick is the last of its beat.
-use Rattle.std.proofs.Common.{◌≡◌, ℕ, zero, suc, ◌+◌, ◌<◌, ◌≤◌, true, false, cond, refl, sym, subst, arith, ⊎_elim, eq-or-lt_of_le}
+use Rattle.std.proofs.Common.{◌≡◌, ℕ, zero, suc, ◌+◌, ◌-◌, ◌<◌, ◌≤◌, true, false, cond, refl, sym, subst, arith, ⊎_elim, eq-or-lt_of_le}
 use Rattle.std.proofs.lemmas.Bool.{cases_Bool, cases_lt}
 use Rattle.tiger_base.specs.declared.number.Stamp.{Stamp}
 use Rattle.tiger_base.specs.declared.message.Msg.{Msg}
@@ -25,14 +25,14 @@ ticks_rise inputs i (suc j) h = ⊎_elim
 pub after_tick : (inputs : ℕ → Input Msg) (i : ℕ) → is_tick_input (inputs i) ≡ true → ticks_at inputs (suc i) ≡ ticks_at inputs i + 1
 after_tick inputs i e = rw e (omega arith)
 
--- the tick of each beat below that of an input stands before it
-pub record TickBefore (inputs : ℕ → Input Msg) (i b : ℕ) : Type 0 where
+-- each tick that is counted up to an input stands before it
+pub record TickCounted (inputs : ℕ → Input Msg) (i b : ℕ) : Type 0 where
   pub at : ℕ
   pub before : at < i
   pub tick : is_tick_input (inputs at) ≡ true
   pub number : ticks_at inputs at ≡ b
 
-pub ticked_before : (inputs : ℕ → Input Msg) (i b : ℕ) → b < ticks_at inputs i → TickBefore inputs i b
+pub ticked_before : (inputs : ℕ → Input Msg) (i b : ℕ) → b < ticks_at inputs i → TickCounted inputs i b
 ticked_before inputs zero b h = absurd (omega arith)
 ticked_before inputs (suc i) b h = ⊎_elim
     (λ (l : b < ticks_at inputs i). let t = ticked_before inputs i b l in let tb = t.before in record { at = t.at; before = omega arith; tick = t.tick; number = t.number })
@@ -45,6 +45,13 @@ ticked_before inputs (suc i) b h = ⊎_elim
 pub tick_of : (i : Input Msg) → is_tick_input i ≡ true → (stamp : Stamp) × (i ≡ Tick stamp)
 tick_of (Tick stamp) e = (stamp, refl)
 tick_of (Take stamp link m) e = absurd (cc)
+
+-- before an input stands the tick of a lower beat
+pub record TickBefore (inputs : ℕ → Input Msg) (i b : ℕ) : Type 0 where
+  pub at : ℕ
+  pub before : at < i
+  pub tick : is_tick_input (inputs at) ≡ true
+  pub beat : beat_at inputs at ≡ b
 
 module _ (p : Params) (count : ℕ) (inputs : ℕ → Input Msg) (life : IsLife p count inputs) where
   -- earlier inputs have lower beats or the same
@@ -72,6 +79,13 @@ module _ (p : Params) (count : ℕ) (inputs : ℕ → Input Msg) (life : IsLife 
       let r = ticks_rise inputs (suc j) i (omega arith) in
       omega arith
 
-  -- the tick that ended the beat before
-  pub tick_before : (i b : ℕ) → i < count → beat_at inputs i ≡ b + 1 → TickBefore inputs i b
-  tick_before i b low e = let a = life.in_beat i low in ticked_before inputs i b (omega arith)
+  -- the tick that ended a lower beat, from the one on in which the life began
+  pub tick_before : (i b : ℕ) → i < count → beat_at inputs 0 ≤ b → b < beat_at inputs i → TickBefore inputs i b
+  tick_before i b low from below =
+      let first : ℕ = beat_at inputs 0 in
+      let a = life.in_beat i low in
+      let t = ticked_before inputs i (b - first) (omega arith) in
+      let tb = t.before in
+      let tn = t.number in
+      let d = life.in_beat t.at (omega arith) in
+      record { at = t.at; before = t.before; tick = t.tick; beat = omega arith }

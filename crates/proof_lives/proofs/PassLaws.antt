@@ -45,7 +45,7 @@ use Rattle.proof_lives.proofs.Moves.{taken_out}
 use Rattle.proof_lives.proofs.Order.{beats_rise}
 use Rattle.proof_lives.proofs.States.{stamp_made, tick_meek}
 use Rattle.proof_lives.specs.HoldsHere.{IsFormed}
-use Rattle.proof_schedule.specs.Facts.{Facts, ReachedBy, EnteredAmong}
+use Rattle.proof_schedule.specs.Facts.{Facts, ReachedBy, EnteredAmong, IsSameLife}
 use Rattle.proof_schedule.specs.HoldLaws.{horizon, IsTold, ForTag, ForRecord, ForState, GotBareInLife, IsStray, IsPass}
 use Rattle.proof_lives.specs.FactsBy.{Beyond, facts_by}
 use Rattle.proof_lives.specs.StopFactsOf.{PassedAt, ToldAt}
@@ -53,7 +53,8 @@ use Rattle.proof_lives.proofs.Begun.{stop_as, IsPassing, unpassed_since, passing
 use Rattle.proof_lives.proofs.HoldLaws.{stop_of_passing, reached_at, passing_at, beat_of, beside_position, got_stop}
 use Rattle.proof_lives.proofs.Holds.{no_both, must_in}
 use Rattle.proof_lives.proofs.Ledger.{same_instance, hold_must}
-use Rattle.proof_lives.proofs.NoReturns.{same_life}
+use Rattle.proof_lives.proofs.Fitting.{Fits}
+use Rattle.proof_lives.proofs.SameLife.{same_life}
 use Rattle.proof_lives.proofs.Passing.{taking_passes}
 use Rattle.proof_lives.proofs.Tags.{tag_behind, pass_sends, pass_first, sent_passes}
 
@@ -109,7 +110,8 @@ pub here_visit : (kind : Kind) (n : ℕ) → (visit_here kind n ≡ n) ⊎ (visi
 here_visit Own n = inl refl
 here_visit Backup n = inr refl
 
-module _ (p : Params) (plan : IsPlan p) (lives : Lives) (are : AreLives p lives) (formed : (c : ℕ) → c < p.cubs → IsFormed p (lives.count c) (lives.input c)) (beyond : Beyond) where
+module _ (p : Params) (plan : IsPlan p) (lives : Lives) (are : AreLives p lives) (formed : (c : ℕ) → c < p.cubs → IsFormed p (lives.count c) (lives.input c)) (beyond : Beyond)
+    (fits : Fits p lives beyond) where
   abbrev pub R : Facts
   R = facts_by p lives beyond
 
@@ -288,7 +290,8 @@ module _ (p : Params) (plan : IsPlan p) (lives : Lives) (are : AreLives p lives)
           entered = subst (λ b. EnteredAmong R c rec.tenancy rec.visit (beat_at inputs t.at) b) beats
               (entered_among p lives are c t.at i rec small low (ap is_tick_input took.is) (omega arith)
               (goes_whole p lives c t.at (taken_out rec) (whole_before lives c t.at i t.before low) t.taken));
-          life = same_life p lives beyond c (beat_at inputs t.at) y;
+          life = subst (λ b. IsSameLife R c (beat_at inputs t.at) b) beats
+              (same_life p lives beyond are fits c t.at i small (omega arith) low);
           which = ⊎_elim (λ e. inl (qs ∙ e)) (λ e. inr (qs ∙ e)) (here_visit rec.kind rec.visit);
         })),
       )
@@ -304,7 +307,12 @@ module _ (p : Params) (plan : IsPlan p) (lives : Lives) (are : AreLives p lives)
       let s = b.came.begins.stop in
       let rise = beats_rise p (lives.count c) inputs (are c small) b.at i (omega arith) low in
       ⊎_elim
-      (λ g. inl (record { beat = beat_at inputs b.at; got = g.1; by = omega arith; life = same_life p lives beyond c (beat_at inputs b.at) y }))
+      (λ g. inl (record {
+        beat = beat_at inputs b.at;
+        got = g.1;
+        by = omega arith;
+        life = subst (λ n. IsSameLife R c (beat_at inputs b.at) n) eb (same_life p lives beyond are fits c b.at i small (omega arith) low);
+      }))
       (λ g. inr (record {
         slot = g.0.slot.0;
         visit = g.0.visit;

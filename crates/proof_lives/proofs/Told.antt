@@ -91,10 +91,12 @@ any_in P x (y ∷ ys) i h = ⊎_elim (λ e. inl (subst P e h)) (λ k. inr (any_i
 
 -- ---- outputs that leave the records as they are
 
--- an output takes and drops no record, and if it is a state, that follows from one of these records
+-- an output takes and drops no record, tells of no death or return, and if it is a state, that follows from one of these records
 abbrev pub IsQuiet : List Rec → Out Msg → Type 0
 IsQuiet rs (out.Act (what.Took r)) = ⊥
 IsQuiet rs (out.Act (what.Dropped r)) = ⊥
+IsQuiet rs (out.Act what.Died) = ⊥
+IsQuiet rs (out.Act what.Returned) = ⊥
 IsQuiet rs (out.Send link (msg.ViewerState s)) = AnyByRecursion (IsOwnRecordFor s) rs
 IsQuiet rs other = Unit {0}
 
@@ -102,6 +104,8 @@ pub quiet_recorded : (outs : List (Out Msg)) (rs : List Rec) → AllByRecursion 
 quiet_recorded [] rs h = refl
 quiet_recorded (out.Act (what.Took r) ∷ os) rs h = absurd h.0
 quiet_recorded (out.Act (what.Dropped r) ∷ os) rs h = absurd h.0
+quiet_recorded (out.Act what.Died ∷ os) rs h = absurd h.0
+quiet_recorded (out.Act what.Returned ∷ os) rs h = absurd h.0
 quiet_recorded (out.Act other ∷ os) rs h = quiet_recorded os rs h.1
 quiet_recorded (out.Send link m ∷ os) rs h = quiet_recorded os rs h.1
 
@@ -109,16 +113,20 @@ pub quiet_from : (outs : List (Out Msg)) (rs : List Rec) → AllByRecursion (IsQ
 quiet_from [] rs h = tt
 quiet_from (out.Act (what.Took r) ∷ os) rs h = absurd h.0
 quiet_from (out.Act (what.Dropped r) ∷ os) rs h = absurd h.0
+quiet_from (out.Act what.Died ∷ os) rs h = absurd h.0
+quiet_from (out.Act what.Returned ∷ os) rs h = absurd h.0
 quiet_from (out.Act other ∷ os) rs h = quiet_from os rs h.1
 quiet_from (out.Send link (msg.ViewerState s) ∷ os) rs h = (h.0, quiet_from os rs h.1)
 quiet_from (out.Send link other ∷ os) rs h = quiet_from os rs h.1
 
--- ---- outputs that drop records, and neither take any nor send states
+-- ---- outputs that drop records, and neither take any nor send states nor tell of a death or a return
 
 -- if an output drops a record, this holds of it
 abbrev pub IsDrop : (Rec → Type 0) → Out Msg → Type 0
 IsDrop P (out.Act (what.Took r)) = ⊥
 IsDrop P (out.Act (what.Dropped r)) = P r
+IsDrop P (out.Act what.Died) = ⊥
+IsDrop P (out.Act what.Returned) = ⊥
 IsDrop P (out.Send link (msg.ViewerState s)) = ⊥
 IsDrop P other = Unit {0}
 
@@ -138,6 +146,8 @@ IsOther q r = same_record r q ≡ false
 pub stays_told : (q : Rec) (outs : List (Out Msg)) (rs : List Rec) → In q rs → AreDrops (IsOther q) outs → In q (recorded_by outs rs)
 stays_told q [] rs i h = i
 stays_told q (out.Act (what.Took r) ∷ os) rs i h = absurd h.0
+stays_told q (out.Act what.Died ∷ os) rs i h = absurd h.0
+stays_told q (out.Act what.Returned ∷ os) rs i h = absurd h.0
 stays_told q (out.Act (what.Dropped r) ∷ os) rs i h = stays_told q os _ (in_filter (λ x. not (same_record r x)) q rs i (ap not h.0)) h.1
 stays_told q (out.Act other ∷ os) rs i h = stays_told q os rs i h.1
 stays_told q (out.Send link m ∷ os) rs i h = stays_told q os rs i h.1
@@ -147,6 +157,8 @@ pub was_told : (P : Rec → Type 0) (q : Rec) (outs : List (Out Msg)) (rs : List
     → In q rs × AreDrops (IsOther q) outs
 was_told P q [] rs i h = (i, tt)
 was_told P q (out.Act (what.Took r) ∷ os) rs i h = absurd h.0
+was_told P q (out.Act what.Died ∷ os) rs i h = absurd h.0
+was_told P q (out.Act what.Returned ∷ os) rs i h = absurd h.0
 was_told P q (out.Act (what.Dropped r) ∷ os) rs i h =
     let w = was_told P q os _ i h.1 in
     let f = from_filter (λ x. not (same_record r x)) q rs w.0 in

@@ -1,15 +1,17 @@
 -- The facts of cubs' lives, and of whatever is known beyond them, as proof_schedule speaks of a run.
-use Rattle.std.specs.Prelude.{◌≡◌, ℕ, suc, true, false}
+use Rattle.std.specs.Prelude.{◌≡◌, ℕ, suc, ◌≤◌, true, false}
 use Rattle.tiger_base.specs.declared.number.CubNo.{CubNo}
+use Rattle.tiger_base.specs.declared.number.LinkNo.{LinkNo}
 use Rattle.tiger_base.specs.declared.tenancy.Ask.{Ask}
 use Rattle.tiger_base.specs.declared.tenancy.Tenancy.{Tenancy}
+use Rattle.tiger_base.specs.declared.message.Msg.{Msg}
 use Rattle.tiger_base.specs.declared.message.Msg.TheVariants as msg
 use Rattle.slot_plan.specs.declared.params.Params.{Params}
 use Rattle.partial_view.specs.declared.line.Line.{Line}
 use Rattle.node_kit.specs.declared.journal.What.TheVariants as what
 use Rattle.node_kit.specs.declared.outbox.Out.TheVariants as out
 use Rattle.node_kit.specs.Ways.{way_ahead}
-use Rattle.proof_lives.specs.Lives.{Lives, store_at}
+use Rattle.proof_lives.specs.Lives.{Lives, BeganLate, store_at}
 use Rattle.lists.specs.Elements.{In}
 use Rattle.proof_lives.specs.Facts.{TickAt, TickedAt, DiedIn, DidAt, TookAt, InsertedAt, SentAt, TookMessage, ReachedAt, HeardAt}
 use Rattle.proof_schedule.specs.Facts.{Facts}
@@ -29,17 +31,22 @@ pub record WroteBelief (p : Params) (lives : Lives) (c b : ℕ) : Type 0 where
   pub cub : CubNo
   pub did : DidAt p lives c (out.Act (what.Believed cub)) b
 
--- What is not told by the cubs' lives: when they came to their ticks, their deaths, and what the
--- controller did.
+-- What is not told by one life of each cub: when they came to their ticks, their deaths and their
+-- returns, what they sent in whichever of their lives (a message, a state, a deschedule), and what
+-- the controller did.
 pub record Beyond : Type 1 where
   pub Came : (c b : ℕ) → Type 0
   pub Died : (c b : ℕ) → Type 0
+  pub Returned : (c b : ℕ) → Type 0
+  pub Sends : (a : ℕ) (link : LinkNo) (m : Msg) (b : ℕ) → Type 0
+  pub Sent : (a k : ℕ) (t : Tenancy) (m b : ℕ) → Type 0
+  pub Told : (a k v s q b : ℕ) → Type 0
   pub Begun : (ask : Ask) (b : ℕ) → Type 0
   pub Gone : (v b : ℕ) → Type 0
   pub StoppedAt : (v s n b : ℕ) → Type 0
   pub StoppedWaiting : (v d b : ℕ) → Type 0
 
--- The facts of these lives, and of what is beyond them. No cub comes back in a run.
+-- The facts of these lives, and of what is beyond them. What a cub sends is what it sends in its life.
 abbrev pub facts_by : Params → Lives → Beyond → Facts
 facts_by p lives beyond = record {
   Came = beyond.Came;
@@ -62,11 +69,21 @@ facts_by p lives beyond = record {
   GotBare = GotBareAt p lives;
   Passed = PassedAt p lives;
   Died = beyond.Died;
-  Returned = λ c w. ⊥;
+  Returned = beyond.Returned;
   Beat = λ c b. DidAt p lives c (out.Send (way_ahead p c 1) msg.Heartbeat) b;
   Heard = HeardAt p lives;
   Believed = WroteBelief p lives;
 }
+
+-- The same, but that what a cub sends is what it sends in any of its lives: of these facts are those
+-- that tell where a message came from.
+abbrev pub facts_among : Params → Lives → Beyond → Facts
+facts_among p lives beyond =
+    record (facts_by p lives beyond) { Sent = beyond.Sent; Told = beyond.Told }
+
+-- Beats x and b are of one life of cub c.
+abbrev pub IsInOneLife : Beyond → ℕ → ℕ → ℕ → Type 0
+IsInOneLife beyond c x b = (w : ℕ) → beyond.Returned c w → w ≤ b → w ≤ x
 
 -- ---- cubs alone
 
@@ -75,12 +92,16 @@ pub record CameToTick (p : Params) (lives : Lives) (c b : ℕ) : Type 0 where
   pub reading : ℕ
   pub tick : TickAt p lives c b reading
 
--- Nothing is known but of cubs: each comes to the ticks of its life and dies where that is cut off,
--- and nobody is stopped.
+-- Nothing is known but of one life of each cub: it comes to the ticks of its life, comes back where
+-- that begins late, and dies where it is cut off; and nobody is stopped.
 abbrev pub cubs_alone : Params → Lives → Beyond
 cubs_alone p lives = record {
   Came = CameToTick p lives;
   Died = DiedIn p lives;
+  Returned = BeganLate p lives;
+  Sends = λ a link m b. DidAt p lives a (out.Send link m) b;
+  Sent = SentAt p lives;
+  Told = ToldAt p lives;
   Begun = λ ask b. ⊥;
   Gone = λ v b. ⊥;
   StoppedAt = λ v s n b. ⊥;

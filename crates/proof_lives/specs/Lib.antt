@@ -5,6 +5,6 @@ pub mod HoldsHere
 pub mod InOrder
 pub mod Lives
 pub mod Once
-pub mod OneLife
 pub mod Records
 pub mod StopFactsOf
+pub mod TwoLifeRun

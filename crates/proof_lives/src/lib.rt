@@ -5,7 +5,7 @@ ghost use Rattle.proof_lives.specs.Once.{CubsPutOnce};
 ghost use Rattle.proof_lives.specs.Records.{CubsKeepTheirRecords};
 ghost use Rattle.proof_lives.specs.InOrder.{StatesFindTheirPlaces};
 ghost use Rattle.proof_lives.specs.HoldsHere.{CubsHold};
-ghost use Rattle.proof_lives.specs.OneLife.{RunsOfOneLife};
+ghost use Rattle.proof_lives.specs.TwoLifeRun.{RunsOfTwoLives};
 
 /// A cub to which each start comes once puts an instance once.
 pub fn cubs_put_once()
@@ -29,7 +29,8 @@ pub fn states_find_their_places()
     ensures { StatesFindTheirPlaces }
 {}
 
-/// A run in which nobody returns is a run of one life for each node, whatever its messages and states are.
-pub fn runs_are_of_one_life<M, S>()
-    ensures { RunsOfOneLife M S }
+/// A run gives each node two lives at most: one up to its death, and one from its return on, which begins with the tick of
+/// that beat.
+pub fn runs_are_of_two_lives<S>()
+    ensures { RunsOfTwoLives S }
 {}

@@ -37,9 +37,7 @@ use Rattle.proof_lives.proofs.Lines.{kept_at}
 use Rattle.lists.proofs.Each.{all_in}
 use Rattle.proof_lives.proofs.Ticking.{kept_before}
 use Rattle.proof_journals.proofs.Ones.{IsOne, none_one, none_by, in_part, of_part, one_front, one_of_part}
-use Rattle.proof_schedule.specs.Facts.{Facts}
-use Rattle.proof_pieces.specs.Pieces.{ArePiecesRight}
-use Rattle.proof_facts.specs.Pieces.{piece, want, part_sent, before_reading, before_serving, stamp_of, AsksFor, AsksAt, SendsPart, pieces_by}
+use Rattle.proof_facts.specs.Pieces.{piece, want, part_sent, before_reading, before_serving, stamp_of, AsksFor, AsksAt, SendsPart}
 use Rattle.proof_splits.specs.PieceRecords.{WasAskedFor}
 use Rattle.proof_splits.proofs.Standing.{keeps_pieces}
 use Rattle.proof_parts.proofs.CutOff.{leaves_from, leaves_to}
@@ -244,7 +242,9 @@ module _ {p : Params} (lives : Lives) (plan : IsPlan p) (lived : AreLives p live
 
   -- ---- once
 
-  module _ {r : Facts} (right : ArePiecesRight p r (pieces_by p lives)) where
+  -- if what is asked for one piece of a visit of a slot is of one tenancy
+  module _ (one_tenancy : (t u : Tenancy) (n j a b : ℕ) → AsksAt p lives c t n j a → AsksAt p lives c u n j b
+      → u.slot.0 ≡ t.slot.0 → u ≡ t) where
     pub asks_one : (i : ℕ) (w : Want) → i < lives.count c → IsOne (asks w) (outs_in p lives c i)
     asks_one i w low = once_out i (asks w) (by_input (lives.input c i) refl)
       where
@@ -262,8 +262,7 @@ module _ {p : Params} (lives : Lives) (plan : IsPlan p) (lived : AreLives p live
             (one_of_part is_ask (asks w) (ask_is_ask w) _ _ (asks_in_reading p c stamp g)
             (ask_once p stamp h w (once_reading p c stamp g (always_once p c (lives.input c) i))
             (low_unasked i low stamp e)
-            (λ t u n j a b slots. (right.one_ask c c n j stamp.beat stamp.beat t u (fact t n j a) (fact u n j b)
-            slots).1)))
+            (λ t u n j a b slots. one_tenancy t u n j stamp.beat stamp.beat (fact t n j a) (fact u n j b) slots)))
 
     pub sends_one : AreAllFormed p lives → (i : ℕ) (w : Want) → i < lives.count c
         → IsOne (sends w) (outs_in p lives c i)
@@ -284,4 +283,4 @@ module _ {p : Params} (lives : Lives) (plan : IsPlan p) (lived : AreLives p live
             (λ t u n j one two slots.
             let a = was_asked formed i stamp t n j low e one in
             let b = was_asked formed i stamp u n j low e two in
-            (right.one_ask c c n j a.0 b.0 t u a.1 b.1 slots).1)))
+            one_tenancy t u n j a.0 b.0 a.1 b.1 slots)))

@@ -19,7 +19,6 @@ use Rattle.node_kit.specs.declared.course.Order.{Order}
 use Rattle.node_kit.specs.declared.course.ReadFault.{ReadFault}
 use Rattle.node_kit.specs.declared.journal.Entry.{Entry}
 use Rattle.node_kit.specs.declared.journal.What.TheVariants as what
-use Rattle.node_kit.specs.declared.outbox.Out.TheVariants as out
 use Rattle.node_kit.specs.Steps.{Deed, Input, stamp_of}
 use Rattle.node_kit.specs.Ways.{way_to_disk}
 use Rattle.run_facts.specs.Histories.{History, past, beat}
@@ -29,21 +28,26 @@ use Rattle.run_claims.specs.Truths.{Lasts}
 use Rattle.cub_rules.specs.State.{IsPieceAt}
 use Rattle.disk_core.specs.State.{DiskState}
 use Rattle.disk_core.specs.Rules.{strikes, is_faulty, part_for, read_part}
-use Rattle.proof_lives.specs.Lives.{store_at, beat_at}
+use Rattle.proof_lives.specs.Lives.{store_at}
+use Rattle.proof_lives.specs.TwoLifeRun.{WhichLife, event_in, life_in}
+use Rattle.proof_lives.specs.TwoLifeRun.WhichLife.{First}
+use Rattle.proof_lives.proofs.TwoLives.{beat_in}
 use Rattle.proof_lives.specs.Facts.{TookMessage}
 use Rattle.lists.proofs.Each.{all_in}
-use Rattle.proof_journals.proofs.Journals.{inputs_of}
+use Rattle.proof_journals.proofs.BothLives.{by_life}
 use Rattle.proof_moments.specs.Ties.{StandsIn}
 use Rattle.proof_service.specs.Disks.{disk_at, part_at}
-use Rattle.proof_facts.specs.Blocks.{AnsweredAt, blocks_by}
-use Rattle.proof_facts.specs.Lives.{lives_of, acting}
+use Rattle.proof_facts.specs.Blocks.{AnsweredAt}
+use Rattle.proof_facts.specs.Facts.{blocks_of}
+use Rattle.proof_facts.specs.Lives.{acting}
 use Rattle.proof_facts.specs.Pieces.{want}
 use Rattle.proof_facts.specs.Rings.{HaveImages, node_of_disk}
-use Rattle.proof_links.proofs.Carrying.{Came, came_from, took_from, from_cub}
-use Rattle.proof_links.proofs.Nodes.{lived, sender, by_rules, lives_on, beat_same, SentByDisk}
+use Rattle.proof_links.proofs.Carrying.{Came, came_from, did_there, took_from, from_cub}
+use Rattle.proof_links.proofs.Sending.{IsBack, IsOfCub}
+use Rattle.proof_links.proofs.Nodes.{lived, sender, lives_on, SentByDisk}
 use Rattle.proof_links.proofs.Ways.{is_to_disk}
 use Rattle.proof_parts.proofs.AskLives.{read_for}
-use Rattle.proof_journals.proofs.Events.{AreKept, is_acting}
+use Rattle.proof_journals.proofs.Events.{AreKept, event_of_life}
 use Rattle.proof_moments.specs.ParcelTies.{IsRefusedAt, DisksTell}
 use Rattle.proof_parcels.specs.Parcels.{HaveFaults}
 use Rattle.proof_parcels.proofs.Cubs as cubs
@@ -98,38 +102,40 @@ module _ {S : Type 0} {step : S → Input Msg → Deed Msg S} {p : Params} {orde
     pub before : stamp.beat < y
     pub gives : part ≡ read_part (disks disk) stamp.beat w
 
-  pub is_read : {c y : ℕ} {w : Want} {part : Option LibraryPart} → TookMessage p (lives_of h) c
-      (msg.ReadDone w part) y → IsRead w part y
-  is_read {c} {y} {w} {part} g =
-      let f = took_from kept.plan kept.ring g in
+  pub is_read : (w : WhichLife) {c y : ℕ} {v : Want} {part : Option LibraryPart} → TookMessage p (life_in h w) c
+      (msg.ReadDone v part) y → IsRead v part y
+  is_read w {c} {y} {v} {part} g =
+      let f = took_from kept.plan kept.ring w g in
       ⊎_elim
-      (λ q. absurd q.1)
+      (λ q. absurd (of_no_cub q.1))
       (λ q. ⊎_elim (λ said. by_disk f said) (λ k. absurd k.1) q)
-      (sender kept.plan kept.ring f.from f.at g.link (msg.ReadDone w part) f.known f.note.done f.sent)
+      (sender kept.plan kept.ring f.from f.at g.link (msg.ReadDone v part) f.known f.note.done f.sent)
     where
-      by_disk : (f : Came kept.plan kept.ring c g.at y g.link (msg.ReadDone w part))
-          → SentByDisk kept.plan kept.ring f.from f.at g.link (msg.ReadDone w part) → IsRead w part y
+      of_no_cub : IsOfCub (msg.ReadDone v part) ⊎ IsBack (msg.ReadDone v part) → ⊥
+      of_no_cub o = ⊎_elim (λ k. k) (λ k. k) o
+
+      by_disk : (f : Came kept.plan kept.ring c (event_in h w c g.at) y g.link (msg.ReadDone v part))
+          → SentByDisk kept.plan kept.ring f.from f.at g.link (msg.ReadDone v part) → IsRead v part y
       by_disk f said =
           let d : ℕ = said.disk in
           let a = said.answer in
-          let both : msg.ReadDone w part ≡ msg.ReadDone a.want (read_part (disks d) a.stamp.beat a.want) = a.is in
-          let wants : w ≡ a.want = cc in
+          let both : msg.ReadDone v part ≡ msg.ReadDone a.want (read_part (disks d) a.stamp.beat a.want) = a.is in
+          let wants : v ≡ a.want = cc in
           let parts : part ≡ read_part (disks d) a.stamp.beat a.want = cc in
           let other : p.cubs ≤ f.from = subst (λ k. p.cubs ≤ k) (sym said.node) (omega arith) in
           let all = lives_on kept.plan kept.ring f.from f.known other in
           let done = f.note.done in
           let alive : f.at < acting h f.from = omega arith in
-          let asked = came_from kept.plan kept.ring f.from f.at a.stamp a.link (msg.ReadAsk a.want) f.known alive
+          let asked = came_from kept.plan kept.ring First f.from f.at a.stamp a.link (msg.ReadAsk a.want) f.known alive
           a.ask in
           let own = from_cub kept.plan kept.ring asked (λ q. q) (λ q. q) in
           let to = is_to_disk p asked.from d a.link kept.plan said.low (asked.ends
           ∙ ap (λ k. Some (asked.from, k)) said.node) in
-          let rule = by_rules kept.plan kept.ring asked.from asked.at (out.Send a.link (msg.ReadAsk a.want)) own
-          asked.note.done asked.sent in
-          let ask = read_for p kept.plan (lives_of h) (lived kept.plan kept.ring) asked.from
-          (beat_at (inputs_of h asked.from) asked.at) a.link a.want
-          (record { small = own; at = asked.at; done = rule.0; in_beat = refl; did = rule.1 }) in
-          let acts = (is_acting kept f.from f.at f.known alive).1 in
+          let did = did_there kept.plan kept.ring asked.from asked.at a.link (msg.ReadAsk a.want) own asked.note.done
+          asked.sent (λ q. q) in
+          let ask = read_for p kept.plan (life_in h did.which) (lived kept.plan kept.ring did.which) asked.from
+          (beat h asked.from asked.at) a.link a.want did.did in
+          let acts = (event_of_life kept First f.from f.at f.known alive).1 in
           let stands : StandsIn journals f.from (record {
             stamp = a.stamp;
             what = what.Got a.link
@@ -137,7 +143,7 @@ module _ {S : Type 0} {step : S → Input Msg → Deed Msg S} {p : Params} {orde
           }) =
           stands_written kept f.from f.at _ f.known f.note.done (event_writes_got step (h.event f.from f.at)
           (past noted step h f.from f.at) a.stamp a.link (msg.ReadAsk a.want) acts a.ask) in
-          let when : beat h f.from f.at ≡ a.stamp.beat = beat_same kept.plan kept.ring f.from f.at
+          let when : beat h f.from f.at ≡ a.stamp.beat = beat_in h First f.from f.at
           ∙ ap (λ (k : Input Msg). (stamp_of k).beat) a.ask in
           let later = f.later in
           subst (λ (z : Want). IsRead z part y) (sym wants) (record {
@@ -156,17 +162,17 @@ module _ {S : Type 0} {step : S → Input Msg → Deed Msg S} {p : Params} {orde
           })
 
   module _ (c : Catalogue) (faults : List ReadFault) (images : HaveImages p c disks) (fault : HaveFaults p faults disks) where
-    refused : (k n j y : ℕ) (t : Tenancy) → AnsweredAt p (lives_of h) k t n j y None
-        → IsRefusedAt p c (blocks_by p (lives_of h) disks) journals t n j y
-    refused k n j y t a =
+    refused_in : (l : WhichLife) (k n j y : ℕ) (t : Tenancy) → AnsweredAt p (life_in h l) k t n j y None
+        → IsRefusedAt p c (blocks_of p h disks) journals t n j y
+    refused_in l k n j y t a =
         let w : Want = want t n j in
-        let r = is_read {c = k} {y = y} {w = w} {part = None}
+        let r = is_read l {c = k} {y = y} {v = w} {part = None}
         (record { small = a.small; at = a.at; done = a.done; reading = a.reading; link = a.link; is = a.is }) in
-        let g = store_at p k (inputs_of h k) a.at in
+        let g = store_at p k ((life_in h l).input k) a.at in
         let few : j ≤ p.pieces = ⊎_elim
         (λ o. let z = o.0 in omega arith)
         (λ q. (cubs.numbered p k _ (all_in (IsPieceAt p k) _ g.pieces.items
-        (cubs.kept (lives_of h) kept.plan (lived kept.plan kept.ring) k a.small a.at a.done).pieces q.1)).1)
+        (cubs.kept (life_in h l) kept.plan (lived kept.plan kept.ring l) k a.small a.at a.done).pieces q.1)).1)
         a.there in
         let d : ℕ = disk_at p n j in
         let low : d < disk_count p = subst (λ (x : ℕ). x < disk_count p) r.is r.low in
@@ -195,11 +201,15 @@ module _ {S : Type 0} {step : S → Input Msg → Deed Msg S} {p : Params} {orde
               (refuses (disks d) r.stamp.beat w gives);
         }
 
+    refused : (k n j y : ℕ) (t : Tenancy) → (blocks_of p h disks).Failed k t n j y
+        → IsRefusedAt p c (blocks_of p h disks) journals t n j y
+    refused k n j y t a = by_life h (λ x. AnsweredAt p x k t n j y None) (λ l q. refused_in l k n j y t q) a
+
     struck : (disk b : ℕ) → disk < disk_count p → is_faulty (disks disk).faults disk b ≡ true
         → AnyByRecursion (Lasts disk b) faults
     unfolding is_faulty
     struck disk b low t =
         any_found (Lasts disk b) (strikes disk b) (strikes_last disk b) faults (fault disk b low t)
 
-    pub tell : DisksTell p c faults (blocks_by p (lives_of h) disks) journals
+    pub tell : DisksTell p c faults (blocks_of p h disks) journals
     tell = record { refused = refused; struck = struck }

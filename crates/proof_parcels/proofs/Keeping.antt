@@ -1,5 +1,5 @@
 -- In one beat a cub sends a parcel once, and asks a disk for one thing once.
-use Rattle.std.proofs.Common.{◌≡◌, ℕ, suc, ◌<◌, List, [], ◌∷◌, ◌++◌, Bool, true, false, refl, sym, ap, subst, ◌∙◌, arith, ⊎_elim, inl, inr}
+use Rattle.std.proofs.Common.{◌≡◌, ℕ, ◌<◌, List, [], ◌∷◌, ◌++◌, Bool, true, false, refl, sym, ap, subst, ◌∙◌, arith, ⊎_elim, inl, inr}
 use Rattle.std.specs.Prelude.{◌==◌}
 use Rattle.std.specs.List.{AllByRecursion}
 use Rattle.std.proofs.lemmas.Bool.{cases_Bool, true≢false}
@@ -19,25 +19,28 @@ use Rattle.node_kit.specs.declared.outbox.Out.{Out}
 use Rattle.node_kit.specs.declared.outbox.Out.TheVariants as out
 use Rattle.node_kit.specs.Steps.{Deed, Input, IsAllowed, what_of, entry_of}
 use Rattle.node_kit.specs.Steps.Input.{Tick}
-use Rattle.run_facts.specs.Events.{NodeEvent, Past, entries_at, outs_of, stamp_at, is_tick, is_tick_input}
-use Rattle.run_facts.specs.Histories.{History, outs, past, beat}
+use Rattle.run_facts.specs.Events.{NodeEvent, Past, entries_at, outs_of, stamp_at, is_tick_input}
+use Rattle.run_facts.specs.Histories.{History, outs, past}
 use Rattle.disk_core.specs.State.{DiskState}
 use Rattle.proof_lives.specs.Lives.{outs_in}
-use Rattle.proof_lives.specs.Histories.{input_of}
+use Rattle.proof_lives.specs.Histories.{has_input, input_of}
+use Rattle.proof_lives.specs.TwoLifeRun.{WhichLife, IsOfLife, life_in}
+use Rattle.tiger_base.specs.declared.tenancy.Tenancy.{Tenancy}
 use Rattle.lists.specs.Elements.{In}
-use Rattle.proof_lives.proofs.Carrying.{count_rises, tick_same}
+use Rattle.proof_lives.proofs.Carrying.{tick_same}
 use Rattle.lists.proofs.Elements.{in_right}
 use Rattle.lists.proofs.Each.{all_in}
 use Rattle.proof_journals.proofs.Ones.{IsNone, IsOne, none_one, one_append, one_map}
-use Rattle.proof_journals.proofs.Journals.{inputs_of, wrote, stamped}
+use Rattle.proof_journals.proofs.Journals.{beat_is, wrote}
 use Rattle.proof_pieces.specs.Pieces.{ArePiecesRight}
 use Rattle.proof_schedule.specs.Facts.{Facts}
-use Rattle.proof_facts.specs.Lives.{lives_of, acting}
-use Rattle.proof_facts.specs.Pieces.{pieces_by}
+use Rattle.proof_facts.specs.Facts.{pieces_of}
+use Rattle.proof_facts.specs.Pieces.{AsksAt}
 use Rattle.proof_facts.specs.Rings.{node_count}
 use Rattle.proof_parts.proofs.Found.{same_self}
-use Rattle.proof_links.proofs.Nodes.{lived, after_tick}
-use Rattle.proof_journals.proofs.Events.{AreKept, fair, is_acting}
+use Rattle.proof_links.proofs.Nodes.{lived}
+use Rattle.proof_journals.proofs.BothLives.{IsNoReturn, before_it, in_life, not_returning}
+use Rattle.proof_journals.proofs.Events.{AreKept, behind_tick, event_of_life, fair, outs_of_input}
 use Rattle.proof_journals.proofs.Lists.{moved, one_behind}
 use Rattle.proof_journals.proofs.Cutting.{cut_at_entry}
 use Rattle.proof_journals.proofs.Wrote.{got_at, got_in, died_in, died_is, sent_in, entries_are}
@@ -47,7 +50,7 @@ use Rattle.proof_parcels.proofs.ServeOuts.{sends}
 use Rattle.proof_parcels.proofs.Cubs as cubs
 use Rattle.proof_parcels.proofs.Forms.{formed}
 use Rattle.proof_parcels.proofs.Entries.{event_sent, ask_back, whole_back, piece_back}
-use Rattle.proof_parcels.proofs.Telling.{of_cub}
+use Rattle.proof_parcels.proofs.Telling.{input_there, of_cub}
 
 -- ---- lists
 
@@ -87,6 +90,18 @@ sends_agree p n w (out.Send link other) fair t = absurd (cc)
 sends_agree p n w (out.Act (what.Sent link m)) fair t = absurd fair
 sends_agree p n w (out.Act other) fair t = absurd (cc)
 
+-- what is asked for, or sent, tells of no return
+ask_no_return : (w : Want) (o : Out Msg) → asks w o ≡ true → IsNoReturn o
+ask_no_return w (out.Send link (msg.ReadAsk v)) t = tt
+ask_no_return w (out.Send link other) t = absurd (cc)
+ask_no_return w (out.Act v) t = absurd (cc)
+
+parcel_no_return : (w : Want) (o : Out Msg) → sends w o ≡ true → IsNoReturn o
+parcel_no_return w (out.Send link (msg.Whole v sent part)) t = tt
+parcel_no_return w (out.Send link (msg.Piece v sent part)) t = tt
+parcel_no_return w (out.Send link other) t = absurd (cc)
+parcel_no_return w (out.Act v) t = absurd (cc)
+
 ask_said : (w : Want) (e : Entry) → AsksDisk w e → says_ask w e.what ≡ true
 ask_said w e a = ap (says_ask w) a.is ∙ same_self w
 
@@ -121,29 +136,40 @@ module _ {S : Type 0} {step : S → Input Msg → Deed Msg S} {p : Params} {orde
   -- an entry was written at a tick of a cub
   pub record IsOfTick (n i : ℕ) : Type 0 where
     pub small : n < p.cubs
-    pub lives : i < acting h n
+    pub place : IsOfLife h n i
     pub stamp : Stamp
-    pub tick : inputs_of h n i ≡ Tick stamp
+    pub tick : input_of (h.event n i) ≡ Tick stamp
+
+  -- If at most one output of an input passes a test, and none that tells of a return does, at most one of the event does.
+  one_out : (test : Out Msg → Bool) → ((o : Out Msg) → test o ≡ true → IsNoReturn o) → (n i : ℕ) → n < p.cubs
+      → (l : IsOfLife h n i) → IsOne test (outs_in p (life_in h l.which) n l.at) → IsOne test (outs noted step h n i)
+  one_out test other n i small l one =
+      let before : List (Out Msg) = before_it h p l.which n l.at in
+      let none : IsNone test before = λ o k t. not_returning h p l.which n l.at o (other o t) k in
+      subst (λ (os : List (Out Msg)). IsOne test os) (sym (outs_of_input kept n i l small))
+      (one_append test before (outs_in p (life_in h l.which) n l.at) (none_one test before none) one
+      (λ x y j k t s. none x j t))
 
   -- If an output at a tick is written once, and at most one passes a test, an entry that says so is of a later beat
   -- than one before it.
   of_beats : (Is : Entry → Type 0) (says : What → Bool) (test : Out Msg → Bool) → says what.Died ≡ false
       → ((e : Entry) → Is e → says e.what ≡ true)
       → ((n : ℕ) (o : Out Msg) → IsAllowed noted p n o → says (what_of noted o) ≡ true → test o ≡ true)
+      → ((o : Out Msg) → test o ≡ true → IsNoReturn o)
       → ((n i : ℕ) (e : Entry) → n < node_count p → i < h.count n → In e (wrote step h n i) → Is e → IsOfTick n i)
-      → ((n i : ℕ) → n < p.cubs → i < acting h n → IsOne test (outs_in p (lives_of h) n i))
+      → ((w : WhichLife) (n i : ℕ) → n < p.cubs → i < (life_in h w).count n → IsOne test (outs_in p (life_in h w) n i))
       → AreOfBeats journals Is
-  of_beats Is says test no_death said agrees at_tick one n xs ys e f at i is_e is_f =
+  of_beats Is says test no_death said agrees other at_tick one n xs ys e f at i is_e is_f =
       let c = cut_at_entry kept n xs e ys at in
       let here : In e (wrote step h n c.at) = subst (λ (l : List Entry). In e l) c.event_is
       (in_right e c.part (e ∷ c.rest) (inl refl)) in
       let t = at_tick n c.at e c.known c.done here is_e in
-      let acts = (is_acting kept n c.at c.known t.lives).1 in
+      let l = t.place in
+      let acts = acts_there n c.at c.known l in
       ⊎_elim
       (λ k.
       let os : List (Out Msg) = outs noted step h n c.at in
-      let rule : IsOne test os = subst (λ (l : List (Out Msg)). IsOne test l)
-      (sym (kept.ring.rules.cubs n c.at t.small t.lives)) (one n c.at t.small t.lives) in
+      let rule : IsOne test os = one_out test other n c.at t.small l (one l.which n l.at t.small l.done) in
       let narrow : IsOne (λ (o : Out Msg). says (what_of noted o)) os = one_less test
       (λ (o : Out Msg). says (what_of noted o)) os
       (λ o j s. agrees n o (all_in (IsAllowed noted p n) o os (fair kept n c.at c.known c.done) j) s) rule in
@@ -154,16 +180,16 @@ module _ {S : Type 0} {step : S → Input Msg → Deed Msg S} {p : Params} {orde
       (subst (λ (l : List Entry). IsOne (λ (x : Entry). says x.what) l) (sym c.event_is) whole) (said e is_e) k
       (said f is_f)))
       (λ k.
-      let later : c.at < k.0 = k.1 in
-      let low : k.0 < h.count n = k.2 in
-      let tick = after_tick kept.plan kept.ring n c.at c.known c.done
+      let later = behind_tick kept n c.at k.0 c.known k.1 k.2
       (tick_same (h.event n c.at) acts ∙ ap is_tick_input t.tick) in
-      let rise = count_rises is_tick h n (suc c.at) k.0 (omega arith) in
-      let beats = kept.ring.run.in_beat n k.0 c.known low in
-      let first : e.stamp.beat ≡ beat h n c.at = ap (λ (x : Stamp). x.beat) (stamped step h n c.at e here) in
-      let second : f.stamp.beat ≡ beat h n k.0 = ap (λ (x : Stamp). x.beat) (stamped step h n k.0 f k.3) in
+      let first = beat_is step h n c.at e here in
+      let second = beat_is step h n k.0 f k.3 in
       omega arith)
       (c.behind f i)
+    where
+      acts_there : (n i : ℕ) → n < node_count p → (l : IsOfLife h n i) → has_input (h.event n i) ≡ true
+      acts_there n i known l = subst (λ (j : ℕ). has_input (h.event n j) ≡ true) (sym l.is)
+          (event_of_life kept l.which n l.at known l.done).1
 
   -- the tick of an ask, and of a parcel
   ask_tick : (w : Want) (n i : ℕ) (e : Entry) → n < node_count p → i < h.count n → In e (wrote step h n i)
@@ -173,9 +199,10 @@ module _ {S : Type 0} {step : S → Input Msg → Deed Msg S} {p : Params} {orde
       (fair kept n i known low) k a.is in
       let m : x.message ≡ msg.ReadAsk w = ask_back x.message w x.same in
       let sent = subst (λ (y : Msg). In (out.Send a.link y) (outs noted step h n i)) m x.sent in
-      let c = of_cub kept n i a.link (msg.ReadAsk w) (λ q. q) (λ q. q) known low sent in
-      let at = cubs.ask_tick (lives_of h) kept.plan (lived kept.plan kept.ring) n c.small i a.link w c.did in
-      record { small = c.small; lives = c.lives; stamp = at.stamp; tick = at.tick }
+      let c = of_cub kept n i a.link (msg.ReadAsk w) (λ q. q) (λ q. q) tt known low sent in
+      let l = c.place in
+      let at = cubs.ask_tick (life_in h l.which) kept.plan (lived kept.plan kept.ring l.which) n c.small l.at a.link w c.did in
+      record { small = c.small; place = l; stamp = at.stamp; tick = sym (input_there kept n i l) ∙ at.tick }
 
   parcel_tick : (w : Want) (n i : ℕ) (e : Entry) → n < node_count p → i < h.count n → In e (wrote step h n i)
       → SendsParcel w e → IsOfTick n i
@@ -186,27 +213,39 @@ module _ {S : Type 0} {step : S → Input Msg → Deed Msg S} {p : Params} {orde
       (fair kept n i known low) k is in
       let m = whole_back x.message w a.sent a.part x.same in
       let sent = subst (λ (y : Msg). In (out.Send a.link y) (outs noted step h n i)) m.1 x.sent in
-      let c = of_cub kept n i a.link (msg.Whole w a.sent m.0) (λ q. q) (λ q. q) known low sent in
-      let at = (cubs.whole_at (lives_of h) kept.plan (lived kept.plan kept.ring) n c.small i a.link w a.sent m.0 c.lives c.did).1 in
-      record { small = c.small; lives = c.lives; stamp = at.stamp; tick = at.tick })
+      let c = of_cub kept n i a.link (msg.Whole w a.sent m.0) (λ q. q) (λ q. q) tt known low sent in
+      let l = c.place in
+      let at = (cubs.whole_at (life_in h l.which) kept.plan (lived kept.plan kept.ring l.which) n c.small l.at a.link w a.sent
+      m.0 l.done c.did).1 in
+      record { small = c.small; place = l; stamp = at.stamp; tick = sym (input_there kept n i l) ∙ at.tick })
       (λ (f : (w.piece == 0) ≡ false).
       let is : e.what ≡ what.Sent a.link (note.Piece w a.sent a.part) = a.is ∙ (rw f refl) in
       let x = event_sent step p n (h.event n i) (past noted step h n i) e a.link (note.Piece w a.sent a.part)
       (fair kept n i known low) k is in
       let m = piece_back x.message w a.sent a.part x.same in
       let sent = subst (λ (y : Msg). In (out.Send a.link y) (outs noted step h n i)) m.1 x.sent in
-      let c = of_cub kept n i a.link (msg.Piece w a.sent m.0) (λ q. q) (λ q. q) known low sent in
-      let at = (cubs.piece_at (lives_of h) kept.plan (lived kept.plan kept.ring) n c.small i a.link w a.sent m.0 c.lives c.did).1 in
-      record { small = c.small; lives = c.lives; stamp = at.stamp; tick = at.tick })
+      let c = of_cub kept n i a.link (msg.Piece w a.sent m.0) (λ q. q) (λ q. q) tt known low sent in
+      let l = c.place in
+      let at = (cubs.piece_at (life_in h l.which) kept.plan (lived kept.plan kept.ring l.which) n c.small l.at a.link w a.sent
+      m.0 l.done c.did).1 in
+      record { small = c.small; place = l; stamp = at.stamp; tick = sym (input_there kept n i l) ∙ at.tick })
       (cases_Bool (w.piece == 0))
 
-  pub keeps : {r : Facts} → ArePiecesRight p r (pieces_by p (lives_of h)) → KeepsParcels journals
-  keeps right = record {
+  -- What is asked for one piece of a visit of a slot in a life is of one tenancy, since that holds of both lives.
+  one_in_life : {r : Facts} → ArePiecesRight p r (pieces_of p h) → (w : WhichLife) (c : ℕ) (t u : Tenancy) (n j a b : ℕ)
+      → AsksAt p (life_in h w) c t n j a → AsksAt p (life_in h w) c u n j b → u.slot.0 ≡ t.slot.0 → u ≡ t
+  one_in_life right w c t u n j a b x y slots =
+      (right.one_ask c c n j a b t u (in_life h (λ l. AsksAt p l c t n j a) w x)
+      (in_life h (λ l. AsksAt p l c u n j b) w y) slots).1
+
+  pub keeps : {r : Facts} → ArePiecesRight p r (pieces_of p h) → KeepsParcels journals
+  keeps {r} right = record {
     one_parcel = λ w. of_beats (SendsParcel w) (says_send w) (sends w) refl (parcel_said w)
-        (λ n o fair t. sends_agree p n w o fair t) (parcel_tick w)
-        (λ n i small low. cubs.sends_one (lives_of h) kept.plan (lived kept.plan kept.ring) n small right
-        (formed kept.plan kept.ring) i w low);
-    one_ask = λ w. of_beats (AsksDisk w) (says_ask w) (asks w) refl (ask_said w) (λ n o fair t. asks_agree p n w o fair
-        t) (ask_tick w)
-        (λ n i small low. cubs.asks_one (lives_of h) kept.plan (lived kept.plan kept.ring) n small right i w low);
+        (λ n o fair t. sends_agree p n w o fair t) (parcel_no_return w) (parcel_tick w)
+        (λ k n i small low. cubs.sends_one (life_in h k) kept.plan (lived kept.plan kept.ring k) n small
+        (one_in_life {r = r} right k n) (formed kept.plan kept.ring k) i w low);
+    one_ask = λ w. of_beats (AsksDisk w) (says_ask w) (asks w) refl (ask_said w)
+        (λ n o fair t. asks_agree p n w o fair t) (ask_no_return w) (ask_tick w)
+        (λ k n i small low. cubs.asks_one (life_in h k) kept.plan (lived kept.plan kept.ring k) n small
+        (one_in_life {r = r} right k n) i w low);
   }

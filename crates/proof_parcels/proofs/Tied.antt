@@ -7,9 +7,7 @@ use Rattle.run_facts.specs.Histories.{History}
 use Rattle.disk_core.specs.State.{DiskState}
 use Rattle.proof_schedule.specs.Facts.{Facts}
 use Rattle.proof_pieces.specs.Pieces.{ArePiecesRight}
-use Rattle.proof_facts.specs.Blocks.{blocks_by}
-use Rattle.proof_facts.specs.Lives.{lives_of}
-use Rattle.proof_facts.specs.Pieces.{pieces_by}
+use Rattle.proof_facts.specs.Facts.{blocks_of, pieces_of}
 use Rattle.proof_moments.specs.RecordedParcels.{Evidence, TiesParcels}
 use Rattle.proof_journals.proofs.Events.{AreKept}
 use Rattle.proof_parcels.specs.Parcels.{IsRingOf, ParcelsAreTied}
@@ -21,8 +19,7 @@ use Rattle.proof_parcels.proofs.Viewing as viewing
 -- Whatever else is known of the ring, if its pieces are right.
 pub ties : {S : Type 0} (step : S → Input Msg → Deed Msg S) (p : Params) (a : Evidence) (disk_at : ℕ → DiskState)
     (h : History Msg S) (end : ℕ) → IsRingOf step p a disk_at h end
-    → {r : Facts} → ArePiecesRight p r (pieces_by p (lives_of h)) → TiesParcels p a (pieces_by p (lives_of h))
-    (blocks_by p (lives_of h) disk_at) end
+    → {r : Facts} → ArePiecesRight p r (pieces_of p h) → TiesParcels p a (pieces_of p h) (blocks_of p h disk_at) end
 ties step p a disk_at h end ring right =
     let kept : AreKept step p a.orders disk_at h a.journals = record {
       plan = ring.plan;

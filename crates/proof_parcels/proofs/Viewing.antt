@@ -20,13 +20,15 @@ use Rattle.node_kit.specs.declared.outbox.Out.TheVariants as out
 use Rattle.node_kit.specs.Links.{links_of, ends_of}
 use Rattle.node_kit.specs.Steps.{Deed, Input, IsAllowed, entry_of, entries_of}
 use Rattle.node_kit.specs.Steps.Input.{Take}
-use Rattle.run_facts.specs.Events.{NodeEvent, Past, Dated, entries_at, kept_outs, outs_of, sends_of, stamp_at, is_input_on, is_take_on, is_death}
+use Rattle.run_facts.specs.Events.{NodeEvent, Past, Dated, entries_at, kept_outs, outs_of, sends_of, stamp_at, is_input_on, is_take_on, is_death, is_return}
 use Rattle.run_facts.specs.Events.NodeEvent.{Does, Ends, Dies, Returns}
-use Rattle.run_facts.specs.Histories.{History, outs, past, beat, takes}
+use Rattle.run_facts.specs.Histories.{History, outs, past, beat, place}
 use Rattle.disk_core.specs.State.{DiskState}
 use Rattle.lists.specs.Elements.{In}
 use Rattle.proof_lives.specs.Histories.{input_of, has_input}
-use Rattle.proof_lives.proofs.Carrying.{count_rises, same_dated, same_ends, sends_in}
+use Rattle.proof_lives.proofs.Carrying.{same_dated, same_ends, sends_in}
+use Rattle.proof_lives.proofs.Numbers.{places_rise}
+use Rattle.proof_lives.specs.TwoLifeRun.WhichLife.{First}
 use Rattle.lists.proofs.Elements.{chosen, in_map, in_right}
 use Rattle.proof_journals.proofs.Written.{event_took}
 use Rattle.proof_journals.proofs.Journals.{so_far, wrote, stamped}
@@ -34,8 +36,8 @@ use Rattle.proof_moments.specs.Ties.{StandsIn}
 use Rattle.proof_facts.specs.Lives.{acting}
 use Rattle.proof_facts.specs.Rings.{IsUpTo, node_count}
 use Rattle.proof_links.proofs.Carrying.{Came, came_from, SentAs, sent_as, number_of, numbers_rise, delivered}
-use Rattle.proof_links.proofs.Nodes.{lives_on}
-use Rattle.proof_journals.proofs.Events.{AreKept, fair, is_acting, written_in}
+use Rattle.proof_links.proofs.Nodes.{immortal, is_up, lives_on}
+use Rattle.proof_journals.proofs.Events.{AreKept, event_of_life, fair, written_in}
 use Rattle.proof_journals.proofs.Lists.{none_more}
 use Rattle.proof_journals.proofs.Cutting.{cut_at_entry}
 use Rattle.proof_journals.proofs.Wrote.{got_in, died_in, sent_in as entries_sent, entries_are}
@@ -122,6 +124,13 @@ take_same l (Ends i sends) acts = refl
 take_same l (Dies stamp) acts = absurd (cc)
 take_same l (Returns stamp) acts = absurd (cc)
 
+-- an event with an input is no return
+acts_here : (ev : NodeEvent Msg) → has_input ev ≡ true → is_return ev ≡ false
+acts_here (Does i) acts = refl
+acts_here (Ends i sends) acts = refl
+acts_here (Dies stamp) acts = absurd (cc)
+acts_here (Returns stamp) acts = absurd (cc)
+
 module _ {S : Type 0} (step : S → Input Msg → Deed Msg S) where
   event_behind : (p : Params) (n : ℕ) (ev : NodeEvent Msg) (before : Past S) (link : LinkNo) (m o : Msg)
       → AllByRecursion (IsAllowed noted p n) (outs_of step ev before) → SentBehind (outs_of step ev before) link m o
@@ -155,6 +164,12 @@ module _ {S : Type 0} {step : S → Input Msg → Deed Msg S} {p : Params} {orde
   lives_all : acting h (viewers p) ≡ h.count (viewers p)
   lives_all = lives_on kept.plan kept.ring (viewers p) known (omega arith)
 
+  -- No event of theirs is a return.
+  viewers_stay : (i : ℕ) → i < h.count (viewers p) → is_return (h.event (viewers p) i) ≡ false
+  viewers_stay i low =
+      let all = lives_all in
+      acts_here (h.event (viewers p) i) (event_of_life kept First (viewers p) i known (omega arith)).1
+
   -- ---- what came was sent
 
   -- the event of an entry of what they got
@@ -176,7 +191,7 @@ module _ {S : Type 0} {step : S → Input Msg → Deed Msg S} {p : Params} {orde
         acts = t.input;
         is = t.is;
         same = t.same;
-        came = came_from kept.plan kept.ring (viewers p) i e.stamp link t.message known (omega arith) t.is;
+        came = came_from kept.plan kept.ring First (viewers p) i e.stamp link t.message known (omega arith) t.is;
       }
 
   came : (e : Entry) (link : LinkNo) (m : Note) → StandsIn journals (viewers p) e → e.what ≡ what.Got link m
@@ -204,14 +219,14 @@ module _ {S : Type 0} {step : S → Input Msg → Deed Msg S} {p : Params} {orde
         let x = sent_in kept n e link m s is in
         let place = sent_as kept.plan kept.ring n x.at link x.send.message x.done x.send.sent in
         let when : e.stamp.beat ≡ beat h n x.at = ap (λ (z : Stamp). z.beat) (stamped step h n x.at e x.there) in
-        let all = until.until (viewers p) known (λ i low. kept.ring.deaths.mortal (viewers p) i known (omega arith)
-        low) in
-        let t = delivered kept.plan kept.ring (viewers p) place.1 x.known known ends (omega arith) in
+        let alive = immortal kept.plan kept.ring (viewers p) known (omega arith) in
+        let all = until.until (viewers p) known (is_up kept.plan kept.ring (viewers p) alive) in
+        let t = delivered kept.plan kept.ring (viewers p) place.1 x.known known alive ends (omega arith) in
         record {
           entry = record { stamp = t.stamp; what = what.Got link (noted x.send.message) };
-          stands = stands_written kept (viewers p) t.when _ known t.before
+          stands = stands_written kept (viewers p) t.when _ known t.before_it
               (event_writes_got step (h.event (viewers p) t.when) (past noted step h (viewers p) t.when) t.stamp
-              link x.send.message (is_acting kept (viewers p) t.when known t.done).1 t.is);
+              link x.send.message (event_of_life kept First (viewers p) t.when known t.done).1 t.is);
           is = ap (λ (z : Note). what.Got link z) x.send.same;
         }
 
@@ -285,18 +300,21 @@ module _ {S : Type 0} {step : S → Input Msg → Deed Msg S} {p : Params} {orde
       let a = one.came in
       let b = two.came in
       let from : b.from ≡ a.from = (same_ends b.from v a.from v (sym b.ends ∙ a.ends)).0 in
-      let moved = subst (λ (n : ℕ). SentAs kept.plan kept.ring n b.at b.place link two.message
+      let moved = subst (λ (n : ℕ). SentAs kept.plan kept.ring n b.at b.place_there link two.message
       × In (out.Send link two.message) (outs noted step h n b.at)
-      × (takes link.0 h v k.0 ≡ number_of kept.plan kept.ring n b.at b.place link)) from
+      × (place link.0 h v k.0 ≡ number_of kept.plan kept.ring n b.at b.place_there link)) from
       (b.note, b.sent, b.number) in
       let takes_it : is_take_on link.0 (h.event v c.at) ≡ true = take_same link.0 (h.event v c.at) one.acts
       ∙ ap (is_input_on link.0) one.is ∙ eq-eqb _ _ refl in
-      let next : takes link.0 h v (suc c.at) ≡ suc (takes link.0 h v c.at) = ap
-      (λ (t : Bool). cond t (suc (takes link.0 h v c.at)) (takes link.0 h v c.at)) takes_it in
-      let rise = count_rises (is_take_on link.0) h v (suc c.at) k.0 (omega arith) in
+      let stays : is_return (h.event v c.at) ≡ false = acts_here (h.event v c.at) one.acts in
+      let next : place link.0 h v (suc c.at) ≡ suc (place link.0 h v c.at) =
+      ap (λ (t : Bool). cond t (h.before link.0)
+      (cond (is_take_on link.0 (h.event v c.at)) (suc (place link.0 h v c.at)) (place link.0 h v c.at))) stays
+      ∙ ap (λ (t : Bool). cond t (suc (place link.0 h v c.at)) (place link.0 h v c.at)) takes_it in
+      let rise = places_rise link.0 h v (suc c.at) k.0 (λ i _ low. viewers_stay i (let z = k.2 in omega arith)) (omega arith) in
       let first = a.number in
       let second = moved.2 in
-      sent_pair a.from a.at b.at a.place b.place link m one.message two.message a.known a.note moved.0 a.sent
+      sent_pair a.from a.at b.at a.place_there b.place_there link m one.message two.message a.known a.note moved.0 a.sent
       moved.1 (omega arith) one.same two.same)
       (c.behind f i)
 

@@ -10,10 +10,7 @@ use Rattle.run_facts.specs.Histories.{History}
 use Rattle.disk_core.specs.State.{DiskState}
 use Rattle.disk_core.specs.Rules.{is_faulty}
 use Rattle.proof_pieces.specs.Pieces.{ArePiecesRight}
-use Rattle.proof_facts.specs.Blocks.{blocks_by}
-use Rattle.proof_facts.specs.Facts.{facts_of}
-use Rattle.proof_facts.specs.Lives.{lives_of}
-use Rattle.proof_facts.specs.Pieces.{pieces_by}
+use Rattle.proof_facts.specs.Facts.{blocks_of, facts_of, pieces_of}
 use Rattle.proof_facts.specs.Rings.{IsRingHistory, IsUpTo, HaveImages}
 use Rattle.proof_moments.specs.RecordedParcels.{Evidence, TiesParcels}
 use Rattle.proof_journals.specs.Journals.{AreJournalsOf}
@@ -43,5 +40,5 @@ ParcelsAreTied S =
     (step : S → Input Msg → Deed Msg S) (p : Params) (a : Evidence) (disk_at : ℕ → DiskState)
     (h : History Msg S) (end : ℕ)
     → IsRingOf step p a disk_at h end
-    → ArePiecesRight p (facts_of p a.orders h) (pieces_by p (lives_of h))
-    → TiesParcels p a (pieces_by p (lives_of h)) (blocks_by p (lives_of h) disk_at) end
+    → ArePiecesRight p (facts_of p a.orders h) (pieces_of p h)
+    → TiesParcels p a (pieces_of p h) (blocks_of p h disk_at) end

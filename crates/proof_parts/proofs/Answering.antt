@@ -20,6 +20,7 @@ use Rattle.lists.specs.Elements.{In}
 use Rattle.proof_lives.specs.Facts.{TookMessage}
 use Rattle.lists.proofs.Elements.{in_right}
 use Rattle.proof_lives.proofs.Cuts.{kept_goes_out}
+use Rattle.proof_lives.specs.FactsBy.{Beyond, CameToTick}
 use Rattle.proof_lives.specs.HoldsHere.{AreAllFormed}
 use Rattle.proof_facts.specs.Carried.{AskedDisk, DisksAnswer}
 use Rattle.proof_parts.specs.Parts.{CameFromDisk, IsKept, IsTakenBack}
@@ -61,9 +62,9 @@ module _ (p : Params) (lives : Lives) (formed : AreAllFormed p lives) where
       (subst (λ (i : Input Msg). deed_of p c i h ≡ storing want part h) (sym took.is)
       (answer_kept p c stamp took.link want part h form wanted))
 
-  module _ (disk_at : ℕ → DiskState) (Came : ℕ → ℕ → Type 0) (disks : DisksAnswer p lives disk_at Came) where
+  module _ (beyond : Beyond) (disk_at : ℕ → DiskState) (disks : DisksAnswer p lives beyond disk_at) where
     -- who asks a disk takes the answer, and keeps it if it has a record for it then
-    pub taken_back : (c disk x b : ℕ) (want : Want) → AskedDisk p lives c disk want x → Came c b → x + 2 * p.delay ≤ b
+    pub taken_back : (c disk x b : ℕ) (want : Want) → AskedDisk p lives c disk want x → CameToTick p lives c b → x + 2 * p.delay ≤ b
         → IsTakenBack p lives (disk_at disk) c want x
     taken_back c disk x b want ask came late =
         let a = disks.answered c disk x b want ask came late in
@@ -84,7 +85,7 @@ module _ (p : Params) (lives : Lives) (formed : AreAllFormed p lives) where
     -- what is stored came by an answer, and is what a disk read that the cub had asked for it
     pub came_from_disk : (c i : ℕ) (x : StoredPart) → In x (store_at p c (lives.input c) i).parts → c < p.cubs
         → i ≤ lives.count c
-        → CameFromDisk p lives disk_at c i x
+        → CameFromDisk p lives beyond disk_at c i x
     came_from_disk c i x k small low =
         let a = came_by_answer p c (lives.input c) i x k in
         let before = a.before in

@@ -1,8 +1,9 @@
 -- Each read that a cub asks of a disk goes out at a tick, for a record that the cub keeps before it reads.
-use Rattle.std.proofs.Common.{◌≡◌, ℕ, ◌+◌, ◌%◌, ◌≤◌, [], ◌∷◌, map, filter, Bool, true, false, refl, sym, ap, ◌∙◌, arith, ⊎_elim, inl, inr}
-use Rattle.std.specs.Prelude.{◌&&◌}
+use Rattle.std.proofs.Common.{◌≡◌, ℕ, ◌+◌, ◌%◌, ◌≤◌, [], ◌∷◌, map, filter, Bool, true, false, refl, sym, ap, ◌∙◌, arith, inl, inr}
+use Rattle.std.specs.Prelude.{◌&&◌, not, nat_le}
 use Rattle.std.specs.List.{AllByRecursion, flat_map}
 use Rattle.std.proofs.Math.Nat.{mod-eq_of_lt}
+use Rattle.std.proofs.lemmas.Bool.{and_parts, leb-true}
 use Rattle.tiger_base.specs.declared.number.LinkNo.{LinkNo}
 use Rattle.tiger_base.specs.declared.number.Stamp.{Stamp}
 use Rattle.tiger_base.specs.declared.tenancy.Kind.{Kind}
@@ -15,7 +16,7 @@ use Rattle.tiger_base.specs.Kinds.{is_own}
 use Rattle.tiger_base.specs.Records.{own_of, want_of}
 use Rattle.slot_plan.specs.declared.params.Params.{Params}
 use Rattle.slot_plan.specs.Conditions.{IsPlan}
-use Rattle.slot_plan.specs.Times.{disk_of, disk_count}
+use Rattle.slot_plan.specs.Times.{disk_of, disk_count, due}
 use Rattle.slot_plan.proofs.Times.{disk_below}
 use Rattle.mirror_pieces.specs.Pieces.{piece_disk}
 use Rattle.node_kit.specs.declared.outbox.Out.{Out}
@@ -27,6 +28,7 @@ use Rattle.cub_rules.specs.Messages.{taking}
 use Rattle.cub_rules.specs.Ticks.{must_read, ask_outs, asked_of_disk, leaves_by, reading_blocks, reading_pieces, reading, ticking, asked_block}
 use Rattle.lists.specs.Elements.{In}
 use Rattle.lists.proofs.Each.{all_append, all_map, all_flat_map, all_if, all_wider}
+use Rattle.cub_changes.proofs.Beliefs.{not_true}
 use Rattle.cub_changes.proofs.Order.{is_ask, all_of_part, asks_in_reading, no_ask_taken}
 use Rattle.lists.proofs.Elements.{from_filter}
 use Rattle.proof_facts.specs.Pieces.{before_reading}
@@ -53,6 +55,18 @@ own_line p stamp x e = kind_is x.rec.kind _ _ refl e
         → x.rec ≡ own_of x.rec.tenancy x.rec.visit
     kind_is Own a b q f = ap (λ (k : Kind). record { tenancy = x.rec.tenancy; visit = x.rec.visit; kind = k }) q
     kind_is Backup a b q f = absurd (cc)
+
+-- what is read is an own record's, has no mark, and is due within the read lead
+pub read_parts : (p : Params) (stamp : Stamp) (x : Line) → must_read p stamp x ≡ true
+    → (is_own x.rec.kind ≡ true)
+    × (x.asked ≡ false)
+    × (due p x.rec.tenancy.slot.0 x.rec.visit ≤ stamp.reading + p.read_lead)
+unfolding must_read
+read_parts p stamp x e =
+    let both = and_parts (is_own x.rec.kind && not x.asked)
+    (nat_le (due_of p (key_of x)) (stamp.reading + p.read_lead)) e in
+    let first = and_parts (is_own x.rec.kind) (not x.asked) both.0 in
+    (first.0, not_true x.asked first.1, leb-true _ _ both.1)
 
 -- What is claimed of each read among some outputs.
 module _ (Asked : LinkNo → Want → Type 0) where

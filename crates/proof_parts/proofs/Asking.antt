@@ -22,7 +22,7 @@ use Rattle.proof_facts.specs.Blocks.{AnsweredAt}
 use Rattle.proof_lives.specs.FactsBy.{Beyond, facts_by}
 use Rattle.proof_facts.specs.Pieces.{piece, AsksAt, ServesAt, pieces_by}
 use Rattle.proof_facts.specs.Pieces.{stamp_of as made_of}
-use Rattle.proof_lives.proofs.NoReturns.{same_life}
+use Rattle.proof_lives.proofs.SameLife.{same_life}
 use Rattle.proof_splits.specs.PieceRecords.{KeepsPieces}
 use Rattle.proof_splits.proofs.Standing.{keeps_pieces}
 use Rattle.proof_splits.proofs.Backups.{is_tick}
@@ -52,7 +52,7 @@ module _ (p : Params) (plan : IsPlan p) (lives : Lives) (are : AreLives p lives)
         beat = f.beat;
         arises = f.arises;
         by = f.by;
-        life = same_life p lives beyond c f.beat b;
+        life = f.life;
         since = f.since;
         soon = subst (λ m. m ≤ l + lead) (sym e) (leaves_to p (l + lead) (piece t n j) leaves);
         fresh = ⊎_elim (λ q. inl q) (λ q. inr
@@ -135,7 +135,7 @@ module _ (p : Params) (plan : IsPlan p) (lives : Lives) (are : AreLives p lives)
           arises = arises_at p plan lives are formed beyond fits c s.at x (lives.input c s.at) a.small
               (omega arith) (whole_before lives c s.at a.at before low) refl s.enters s.new;
           by = omega arith;
-          life = same_life p lives beyond c (beat_at (lives.input c) s.at) y;
+          life = λ u back by. same_life p lives beyond are fits c s.at a.at a.small (omega arith) low u back (omega arith);
         };
         here = sym form.here;
         few = (numbered p c x form).1;

@@ -1,5 +1,5 @@
 -- Why what a cub keeps of a piece went: a deschedule or a kill came, or the time was over at a tick.
-use Rattle.std.proofs.Common.{◌≡◌, ℕ, zero, suc, ◌+◌, ◌*◌, ◌<◌, ◌≤◌, Bool, true, false, Option, refl, sym, ap, subst, ◌∙◌, arith, ⊎_elim, inl, inr}
+use Rattle.std.proofs.Common.{◌≡◌, ℕ, ◌+◌, ◌*◌, ◌<◌, ◌≤◌, Bool, true, false, Option, refl, sym, subst, ◌∙◌, arith, ⊎_elim, inl, inr}
 use Rattle.std.specs.Prelude.{◌⊎◌, ◌&&◌, not, nat_le}
 use Rattle.std.proofs.lemmas.Bool.{cases_lt, and_parts, leb-true, le-leb}
 use Rattle.tiger_base.specs.declared.number.Instance.{Instance}
@@ -9,7 +9,6 @@ use Rattle.tiger_base.specs.declared.number.Stamp.{Stamp}
 use Rattle.tiger_base.specs.declared.tenancy.PieceState.{PieceState}
 use Rattle.tiger_base.specs.declared.tenancy.Rec.{Rec}
 use Rattle.tiger_base.specs.declared.tenancy.Tag.{Tag}
-use Rattle.tiger_base.specs.declared.tenancy.Tenancy.{Tenancy}
 use Rattle.tiger_base.specs.declared.message.Msg.{Msg}
 use Rattle.tiger_base.specs.declared.message.Msg.TheVariants as msg
 use Rattle.tiger_base.specs.Kinds.{is_own}
@@ -29,22 +28,15 @@ use Rattle.disk_core.specs.State.{DiskState}
 use Rattle.proof_lives.specs.Lives.{Lives, AreLives, beat_at}
 use Rattle.proof_lives.proofs.Order.{beats_rise}
 use Rattle.proof_schedule.specs.Facts.{ReachedBy}
-use Rattle.proof_pieces.specs.PieceFacts.{leave}
 use Rattle.proof_pieces.proofs.Leaving.{leave_after}
 use Rattle.proof_service.specs.ServiceFacts.{KilledBy, IsCutOff}
 use Rattle.proof_facts.specs.Blocks.{blocks_by}
 use Rattle.proof_lives.specs.FactsBy.{Beyond, facts_by}
-use Rattle.proof_facts.specs.Pieces.{piece}
 use Rattle.proof_splits.specs.PieceRecords.{IsSplitOff, MayGo, MightGo}
+pub use Rattle.proof_splits.proofs.Returning.{leave_is}
 use Rattle.proof_parts.specs.Parts.{MayCost, MayBeLost}
 
 -- ---- when a piece leaves, and when a part is stale
-
--- a piece leaves when its record does
-pub leave_is : (p : Params) (t : Tenancy) (n j : ℕ) → 1 ≤ j → leave p t n j ≡ leaving_of p (piece t n j)
-unfolding leaving_of
-leave_is p t n zero some = absurd (omega arith)
-leave_is p t n (suc k) some = refl
 
 -- the test of leaving is that the time has come
 pub leaves_from : (p : Params) (time : ℕ) (x : PieceState) → leaving_of p x ≤ time → leaves_by p time x ≡ true
@@ -66,18 +58,22 @@ pub stale_to : (p : Params) (l : ℕ) (x : StoredPart) → is_stale p l x ≡ tr
     → due p x.want.slot.0 x.want.visit + p.play ≤ l
 stale_to p l x e = leb-true _ _ e
 
+-- what is split off at a tick is due late enough to be asked for and mirrored
+pub split_soon : (p : Params) (c : ℕ) (stamp : Stamp) (h : Store) (x : PieceState) → IsSplitOff p c stamp h x
+    → stamp.reading + p.read_lead + p.skew + p.delay * p.beat + p.beat ≤ due p x.tenancy.slot.0 x.visit
+unfolding must_split
+split_soon p c stamp h x w =
+    let y : Line = w.line in
+    let late : Bool = nat_le (stamp.reading + p.read_lead + p.skew + p.delay * p.beat + p.beat) (due_of p (key_of y)) in
+    subst (λ (r : Rec). stamp.reading + p.read_lead + p.skew + p.delay * p.beat + p.beat ≤ due p r.tenancy.slot.0 r.visit)
+    w.there.1
+    (leb-true _ _ (and_parts (not (is_own y.rec.kind) && not y.split) late w.must).1)
+
 -- a piece that is split off at a tick is neither asked for nor sent at that tick: it leaves later than the read lead
 pub split_early : (p : Params) (c : ℕ) (stamp : Stamp) (h : Store) (x : PieceState) (lead : ℕ) → IsPlan p
     → IsSplitOff p c stamp h x → lead ≤ p.read_lead → leaves_by p (stamp.reading + lead) x ≡ true → ⊥
-unfolding must_split
 split_early p c stamp h x lead plan w inside leaves =
-    let y : Line = w.line in
-    let late : Bool = nat_le (stamp.reading + p.read_lead + p.skew + p.delay * p.beat + p.beat) (due_of p (key_of y)) in
-    let soon : stamp.reading + p.read_lead + p.skew + p.delay * p.beat + p.beat
-    ≤ due p y.rec.tenancy.slot.0 y.rec.visit =
-    leb-true _ _ (and_parts (not (is_own y.rec.kind) && not y.split) late w.must).1 in
-    let same : due p y.rec.tenancy.slot.0 y.rec.visit ≡ due p x.tenancy.slot.0 x.visit =
-    ap (λ (r : Rec). due p r.tenancy.slot.0 r.visit) w.there.1 in
+    let soon = split_soon p c stamp h x w in
     let first = w.first in
     let behind = leave_after p x.tenancy x.visit x.piece in
     let is = leave_is p x.tenancy x.visit x.piece (omega arith) in

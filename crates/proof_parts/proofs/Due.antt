@@ -25,15 +25,16 @@ use Rattle.proof_lives.proofs.Order.{beats_rise, behind, not_behind}
 use Rattle.proof_lives.proofs.Inputs.{message_before}
 use Rattle.proof_lives.proofs.Cuts.{whole_before, whole_by_beat}
 use Rattle.proof_lives.proofs.Fitting.{Fits, as_tick}
+use Rattle.proof_lives.proofs.SameLife.{same_life}
 use Rattle.proof_lives.specs.HoldsHere.{AreAllFormed}
-use Rattle.proof_pieces.specs.PieceFacts.{leave, Arises, AsksBy}
+use Rattle.proof_pieces.specs.PieceFacts.{leave, Arises}
 use Rattle.proof_pieces.specs.PieceLaws.{WasUndue}
 use Rattle.proof_service.specs.Disks.{disk_at as disk_of_piece}
-use Rattle.proof_service.specs.ServiceFacts.{ArisesBy}
+use Rattle.proof_service.specs.ServiceFacts.{ArisesBy, AsksInLife}
 use Rattle.proof_service.specs.ServiceLaws.{HasLeft, IsAnswered}
 use Rattle.proof_facts.specs.Blocks.{AnsweredAt, StoredAt, blocks_by}
 use Rattle.proof_facts.specs.Carried.{DisksAnswer}
-use Rattle.proof_lives.specs.FactsBy.{Beyond, facts_by}
+use Rattle.proof_lives.specs.FactsBy.{Beyond, CameToTick, facts_by}
 use Rattle.proof_facts.specs.Pieces.{piece, want, before_reading, before_serving, SplitAt, MirroredAt, AsksAt, ServesAt, pieces_by, stamp_of as made_of}
 use Rattle.proof_splits.specs.PieceRecords.{IsMirrored, IsSplitOff, Enters, MayGo, MightGo, KeepsPieces}
 use Rattle.proof_parts.proofs.Answering.{taken_back, kept}
@@ -114,7 +115,7 @@ module _ (p : Params) (plan : IsPlan p) (lives : Lives) (are : AreLives p lives)
   pub due_is_asked : {c : ℕ} {t : Tenancy} {n j b l : ℕ} → 1 ≤ j
       → ArisesBy (facts_by p lives beyond) (pieces_by p lives) c t n j b → TickedAt p lives c b l
       → l < leave p t n j → leave p t n j ≤ l + p.read_lead
-      → AsksBy (pieces_by p lives) c t n j b ⊎ Cut c t.instance.0 n b
+      → AsksInLife (facts_by p lives beyond) (pieces_by p lives) c t n j b ⊎ Cut c t.instance.0 n b
   due_is_asked {c} {t} {n} {j} {b} {l} some from tick late soon =
       let x : PieceState = piece t n j in
       let inputs : ℕ → Input Msg = lives.input c in
@@ -157,6 +158,7 @@ module _ (p : Params) (plan : IsPlan p) (lives : Lives) (are : AreLives p lives)
           asks = inr (some, u, leaves_from p (l + p.read_lead) x (omega arith));
         };
         by = omega arith;
+        life = λ v back le. le;
       }))
       (λ a.
       let before = a.before in
@@ -170,6 +172,8 @@ module _ (p : Params) (plan : IsPlan p) (lives : Lives) (are : AreLives p lives)
           asks = inr (some, a.asked.unasked, a.asked.soon);
         };
         by = omega arith;
+        life = λ v back le.
+            let one = same_life p lives beyond are fits c a.at i small (omega arith) low v back (omega arith) in omega arith;
       }))
       (kp.at_reading i stamp x s))
       (λ q. inr q)
@@ -181,9 +185,9 @@ module _ (p : Params) (plan : IsPlan p) (lives : Lives) (are : AreLives p lives)
   met c n j y t (Some part) a = inl (record { part = part; answered = a })
   met c n j y t None a = inr a
 
-  module _ (disks : DisksAnswer p lives disk_at beyond.Came) where
+  module _ (disks : DisksAnswer p lives beyond disk_at) where
     -- What was asked for is answered.
-    pub ask_is_answered : {c : ℕ} {t : Tenancy} {n j b e : ℕ} → 1 ≤ j → AsksAt p lives c t n j b → beyond.Came c e
+    pub ask_is_answered : {c : ℕ} {t : Tenancy} {n j b e : ℕ} → 1 ≤ j → AsksAt p lives c t n j b → CameToTick p lives c e
         → b + 2 * p.delay ≤ e
         → IsAnswered p (facts_by p lives beyond) (blocks_by p lives disk_at) c t n j b
     ask_is_answered {c} {t} {n} {j} {b} {e} some a come late =
@@ -197,11 +201,11 @@ module _ (p : Params) (plan : IsPlan p) (lives : Lives) (are : AreLives p lives)
         let kp : KeepsPieces p c (lives.count c) inputs = keeps p plan lives are formed beyond fits c small in
         let beat : beat_at inputs i ≡ b = ap (λ (k : Input Msg). (stamp_of k).beat) a.tick.is in
         let there = asks_there p plan lives are formed beyond fits some a in
-        let up = (fits.ticks c e come).tick in
+        let up = come.tick in
         let ub : beat_at inputs up.at ≡ e = ap (λ (k : Input Msg). (stamp_of k).beat) up.is in
         let some_delay = plan.ranges.delay.0 in
         let whole = whole_by_beat p lives are c i up.at small low up.done (omega arith) in
-        let back = taken_back p lives formed disk_at beyond.Came disks c (disk_of_piece p n j) b e (want t n j)
+        let back = taken_back p lives formed beyond disk_at disks c (disk_of_piece p n j) b e (want t n j)
         (asked_disk p plan lives a whole there.here) come late in
         let took = back.took in
         let read = back.read in

@@ -4,7 +4,9 @@ pub mod AskOutputs
 pub mod Asking
 pub mod CutOff
 pub mod Due
+pub mod Former
 pub mod Found
+pub mod KnownAsks
 pub mod Origins
 pub mod PartLives
 pub mod PieceForms

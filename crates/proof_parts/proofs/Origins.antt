@@ -23,12 +23,12 @@ use Rattle.proof_lives.proofs.Inputs.{message_before}
 use Rattle.proof_lives.specs.HoldsHere.{AreAllFormed}
 use Rattle.proof_lives.proofs.HoldLaws.{stop_in, released_by}
 use Rattle.proof_lives.proofs.Persist.{unheld_released}
-use Rattle.proof_schedule.specs.Facts.{IsReleasedBy, IsUnheld}
+use Rattle.proof_schedule.specs.Facts.{IsReleasedBy, IsSameLife, IsUnheld}
 use Rattle.proof_pieces.specs.PieceFacts.{Arises}
 use Rattle.proof_pieces.specs.PieceLaws.{WasUndue}
 use Rattle.proof_lives.specs.FactsBy.{Beyond, facts_by}
 use Rattle.proof_facts.specs.Pieces.{SplitAt, pieces_by}
-use Rattle.proof_lives.proofs.NoReturns.{same_life}
+use Rattle.proof_lives.proofs.SameLife.{same_life}
 use Rattle.proof_splits.specs.PieceRecords.{IsSplitOff, Enters, CutsOff, StandsSince}
 use Rattle.proof_splits.proofs.Backups.{splits}
 use Rattle.proof_parts.proofs.CutOff.{leaves_later}
@@ -40,6 +40,7 @@ module _ (p : Params) (plan : IsPlan p) (lives : Lives) (are : AreLives p lives)
     pub beat : ℕ
     pub arises : Arises (facts_by p lives beyond) (pieces_by p lives) c x.tenancy x.visit x.piece beat
     pub by : beat ≤ b
+    pub life : IsSameLife (facts_by p lives beyond) c beat b
     pub since : IsUnheld p (facts_by p lives beyond) c x.tenancy.instance.0 b beat
     pub fresh : (beat ≡ b) ⊎ WasUndue p (facts_by p lives beyond) c b (leaving_of p x) lead
 
@@ -115,8 +116,10 @@ module _ (p : Params) (plan : IsPlan p) (lives : Lives) (are : AreLives p lives)
       let rise = beats_rise p (lives.count c) (lives.input c) (are c small) t.at a (omega arith) low in
       let e : beat_at (lives.input c) t.at ≡ y = ap (λ (k : Input Msg). (stamp_of k).beat) t.is in
       let b : ℕ = beat_at (lives.input c) a in
-      let life = same_life p lives beyond c y b in
-      later c x.tenancy.instance.0 s.beat b s.by (s.since y g (omega arith) life)
+      later c x.tenancy.instance.0 s.beat b s.by
+      (s.since y g (omega arith) (λ u back by.
+      let one = same_life p lives beyond are fits c t.at a small (omega arith) low u back by in
+      omega arith))
 
   -- so of one that is there at a tick
   unheld : (c i b a : ℕ) (stamp : Stamp) (x : PieceState) → c < p.cubs → i < lives.count c
@@ -148,6 +151,7 @@ module _ (p : Params) (plan : IsPlan p) (lives : Lives) (are : AreLives p lives)
         arises = arises_at c s.at x (inputs s.at) small low_at (whole_before lives c s.at i before low) refl s.enters
             s.new;
         by = omega arith;
+        life = λ u back by. same_life p lives beyond are fits c s.at i small low_at low u back (omega arith);
         since = unheld c i b s.at stamp x small low is beat before s.enters s.behind;
         fresh = ⊎_elim
             (λ (e : beat_at inputs s.at ≡ b). inl e)
@@ -160,14 +164,14 @@ module _ (p : Params) (plan : IsPlan p) (lives : Lives) (are : AreLives p lives)
           let inputs : ℕ → Input Msg = lives.input c in
           let life = are c small in
           let before = s.before in
-          let k = tick_before p (lives.count c) inputs life i (b - 1) low
-          (let z : beat_at inputs i ≡ (b - 1) + 1 = omega arith in z) in
+          let before = s.before in
+          let began = beats_rise p (lives.count c) inputs life 0 s.at (omega arith) (omega arith) in
+          let k = tick_before p (lives.count c) inputs life i (b - 1) low (omega arith) (omega arith) in
           let kb = k.before in
-          let number = k.number in
+          let in_beat = k.beat in
           let low_k : k.at < lives.count c = omega arith in
           let t = tick_of (inputs k.at) k.tick in
           let e : beat_at inputs k.at ≡ t.0.beat = ap (λ (i : Input Msg). (stamp_of i).beat) t.1 in
-          let in_beat = life.in_beat k.at low_k in
           let from : s.at ≤ k.at = ⊎_elim
           (λ (less : k.at < s.at).
           let q = behind p (lives.count c) inputs life k.at s.at less (omega arith) k.tick in

@@ -1,5 +1,5 @@
 -- What a cub sends, or writes down as failed, is what the disk of the piece read for it: of whole blocks and pieces.
-use Rattle.std.proofs.Common.{◌≡◌, ℕ, zero, suc, ◌+◌, ◌*◌, ◌<◌, ◌-◌, ◌==◌, max, Bool, true, cond, Option, Some, None, refl, sym, ap, subst, ◌∙◌, arith, ⊎_elim, inl, inr}
+use Rattle.std.proofs.Common.{◌≡◌, ℕ, zero, suc, ◌+◌, ◌*◌, ◌<◌, ◌≤◌, ◌-◌, ◌==◌, max, Bool, true, cond, Option, Some, None, refl, sym, ap, subst, ◌∙◌, arith, ⊎_elim, inl, inr}
 use Rattle.std.specs.Prelude.{◌⊎◌, ◌&&◌, option_and_then}
 use Rattle.std.proofs.lemmas.Bool.{eqb-true}
 use Rattle.tiger_base.specs.Span.{LibraryPart}
@@ -18,17 +18,20 @@ use Rattle.stripe_layout.specs.declared.place.Place.{Place}
 use Rattle.stripe_layout.specs.Places.{place_of}
 use Rattle.mirror_pieces.specs.Pieces.{piece_of, piece_disk}
 use Rattle.disk_image.specs.Image.{Image, block_part, piece_part, is_piece}
+use Rattle.node_kit.specs.declared.outbox.Out.TheVariants as out
 use Rattle.node_kit.specs.Steps.{Input, stamp_of}
 use Rattle.node_kit.specs.Ways.{way_to_disk}
 use Rattle.cub_rules.specs.declared.store.Store.{Store}
 use Rattle.cub_rules.specs.declared.store.StoredPart.{StoredPart}
 use Rattle.disk_core.specs.State.{DiskState}
 use Rattle.disk_core.specs.Rules.{is_faulty, part_for, read_part}
-use Rattle.proof_lives.specs.Lives.{Lives, AreLives, store_at, beat_at}
-use Rattle.proof_lives.specs.Facts.{TookMessage}
+use Rattle.proof_lives.specs.Lives.{Lives, AreLives, store_at, beat_at, reading_at}
+use Rattle.proof_lives.specs.Facts.{DidAt, TookMessage}
+use Rattle.proof_lives.specs.FactsBy.{Beyond}
 use Rattle.lists.proofs.Elements.{chosen}
 use Rattle.proof_lives.proofs.Order.{beats_rise}
 use Rattle.proof_lives.specs.HoldsHere.{AreAllFormed}
+use Rattle.proof_pieces.specs.PieceFacts.{leave}
 use Rattle.proof_pieces.specs.PieceLaws.{WasAsked}
 use Rattle.proof_service.specs.Disks.{part_at, IsImageFor, IsRefused, IsRead, disk_at as disk_of_piece}
 use Rattle.proof_facts.specs.Blocks.{AnsweredAt, SendsAt, blocks_by}
@@ -38,7 +41,9 @@ use Rattle.proof_facts.specs.Rings.{IsDiskOf, HaveImages}
 use Rattle.proof_parts.specs.Asks.{WasRead}
 use Rattle.proof_parts.proofs.Answering.{came_from_disk}
 use Rattle.proof_parts.proofs.AskLives.{read_for}
+use Rattle.proof_parts.proofs.Former.{not_formerly, record_late, wanted_late}
 use Rattle.proof_parts.proofs.Found.{found_there}
+use Rattle.proof_parts.proofs.KnownAsks.{AsksAreKnown}
 use Rattle.proof_parts.proofs.Storing.{part_before_serving}
 
 -- ---- what a disk reads
@@ -106,13 +111,29 @@ unfolding way_to_disk
 same_disk p d e q = cancel (3 * p.cubs + p.cubs * max 2 p.pieces) d e (ap (λ (l : LinkNo). l.0) q)
 
 module _ (p : Params) (plan : IsPlan p) (lives : Lives) (are : AreLives p lives) (formed : AreAllFormed p lives)
-    (disk_at : ℕ → DiskState) (Came : ℕ → ℕ → Type 0) (disks : DisksAnswer p lives disk_at Came) where
+    (beyond : Beyond) (known : AsksAreKnown p lives beyond) (disk_at : ℕ → DiskState)
+    (disks : DisksAnswer p lives beyond disk_at) where
+  -- an ask whose answer comes by an input of the life is one of that life, if what was asked for leaves late after a return
+  asked_here : (c i b : ℕ) (link : LinkNo) (t : Tenancy) (n j : ℕ) → c < p.cubs → i < lives.count c
+      → b ≤ beat_at (lives.input c) i
+      → (0 < beat_at (lives.input c) 0 → reading_at (lives.input c) 0 + p.read_lead + p.skew < leave p t n j)
+      → beyond.Sends c link (msg.ReadAsk (want t n j)) b → DidAt p lives c (out.Send link (msg.ReadAsk (want t n j))) b
+  asked_here c i b link t n j small low le late s = ⊎_elim
+      (λ d. d)
+      (λ w. absurd (not_formerly p lives are c b t n j small (omega arith) late w))
+      (known.asks c i b link (want t n j) small low le s)
+
   -- an answer to the want of a piece is what the piece's disk read for a record of the same instance
-  pub was_read : {c : ℕ} {t : Tenancy} {n j y : ℕ} (part : Option LibraryPart)
-      → AnswersAsk p lives disk_at c (want t n j) part y
+  pub was_read : {c : ℕ} {t : Tenancy} {n j y : ℕ} (part : Option LibraryPart) (i : ℕ) → c < p.cubs → i < lives.count c
+      → beat_at (lives.input c) i ≡ y
+      → (0 < beat_at (lives.input c) 0 → reading_at (lives.input c) 0 + p.read_lead + p.skew < leave p t n j)
+      → AnswersAsk p beyond disk_at c (want t n j) part y
       → WasRead p lives disk_at c t n j part y
-  was_read {c} {t} {n} {j} {y} part a =
-      let q = read_for p plan lives are c a.asked (way_to_disk p a.disk) (want t n j) a.ask.ask in
+  was_read {c} {t} {n} {j} {y} part i small low eb late a =
+      let after = a.after in
+      let later = a.later in
+      let did = asked_here c i a.asked (way_to_disk p a.disk) t n j small low (omega arith) late a.ask.ask in
+      let q = read_for p plan lives are c a.asked (way_to_disk p a.disk) (want t n j) did in
       let e : a.disk ≡ disk_of_piece p n j = same_disk p a.disk (disk_of_piece p n j) q.way in
       record {
         tenancy = q.tenancy;
@@ -138,14 +159,15 @@ module _ (p : Params) (plan : IsPlan p) (lives : Lives) (are : AreLives p lives)
       let low = s.tick.done in
       let there = part_before_serving p c stamp h x
       (found_there (want t n j) part (before_serving p c stamp h).parts s.stored) in
-      let from = came_from_disk p lives formed disk_at Came disks c i x there s.tick.small (omega arith) in
+      let from = came_from_disk p lives formed beyond disk_at disks c i x there s.tick.small (omega arith) in
       let came = from.came in
       let before = came.before in
+      let one : beat_at inputs came.at ≡ came.stamp.beat = ap (λ (k : Input Msg). (stamp_of k).beat) came.is in
       let w : WasRead p lives disk_at c t n j (Some part) came.stamp.beat =
-      was_read {t = t} {n = n} {j = j} (Some part) from.read in
+      was_read {t = t} {n = n} {j = j} (Some part) came.at s.tick.small (omega arith) one
+      (λ late. wanted_late p plan lives are formed c s.tick.small late came.at t n j (omega arith) came.wanted) from.read in
       let taken = w.before in
       let rise = beats_rise p (lives.count c) inputs (are c s.tick.small) came.at i (omega arith) s.tick.done in
-      let one : beat_at inputs came.at ≡ came.stamp.beat = ap (λ (k : Input Msg). (stamp_of k).beat) came.is in
       let two : beat_at inputs i ≡ b = ap (λ (k : Input Msg). (stamp_of k).beat) s.tick.is in
       record {
         tenancy = w.tenancy;
@@ -186,8 +208,12 @@ module _ (p : Params) (plan : IsPlan p) (lives : Lives) (are : AreLives p lives)
         let d : ℕ = disk_of_piece p n j in
         let took : TookMessage p lives c (msg.ReadDone (want t n j) None) y =
         record { small = a.small; at = a.at; done = a.done; reading = a.reading; link = a.link; is = a.is } in
+        let low = a.done in
+        let eb : beat_at (lives.input c) a.at ≡ y = ap (λ (k : Input Msg). (stamp_of k).beat) a.is in
         let w : WasRead p lives disk_at c t n j None y =
-        was_read {t = t} {n = n} {j = j} None (disks.of_asks c y (want t n j) None took) in
+        was_read {t = t} {n = n} {j = j} None a.at a.small low eb
+        (λ late. record_late p plan lives are formed c a.small late a.at t n j (omega arith) a.there)
+        (disks.of_asks c y (want t n j) None took) in
         record {
           beat = w.taken;
           before = w.before;

@@ -21,7 +21,7 @@ use Rattle.proof_lives.specs.Lives.{Lives, AreLives, cut_in}
 use Rattle.proof_lives.specs.HoldsHere.{AreAllFormed}
 use Rattle.proof_facts.specs.Blocks.{AnsweredAt, SendsAt, blocks_by}
 use Rattle.proof_facts.specs.Carried.{AskedDisk, DisksAnswer}
-use Rattle.proof_lives.specs.FactsBy.{CameToTick}
+use Rattle.proof_lives.specs.FactsBy.{Beyond, cubs_alone}
 use Rattle.proof_facts.specs.Pieces.{want, AsksFor, AsksAt, ServesAt, pieces_by}
 use Rattle.proof_facts.specs.Rings.{IsDiskOf, HaveImages}
 use Rattle.proof_pieces.specs.PieceLaws.{WasAsked}
@@ -88,10 +88,10 @@ pub record AreTrueReads (p : Params) (catalogue : Catalogue) (lives : Lives)
       → ServesAt p lives c t n j y × IsRead p catalogue t n j span
 
 -- The disks answer what cubs ask of them; they are those of the plan, and have the images of a
--- catalogue. Came tells which cub came to its tick of which beat.
-pub record HaveDisks (p : Params) (catalogue : Catalogue) (lives : Lives) (disk_at : ℕ → DiskState)
-    (Came : ℕ → ℕ → Type 0) : Type 0 where
-  pub answer : DisksAnswer p lives disk_at Came
+-- catalogue.
+pub record HaveDisks (p : Params) (catalogue : Catalogue) (lives : Lives) (beyond : Beyond)
+    (disk_at : ℕ → DiskState) : Type 0 where
+  pub answer : DisksAnswer p lives beyond disk_at
   pub are : (d : ℕ) → d < disk_count p → IsDiskOf p d (disk_at d)
   pub images : HaveImages p catalogue disk_at
 
@@ -99,5 +99,5 @@ pub record HaveDisks (p : Params) (catalogue : Catalogue) (lives : Lives) (disk_
 abbrev pub ReadsAreTrue : Type 0
 ReadsAreTrue = (p : Params) (catalogue : Catalogue) (lives : Lives) (disk_at : ℕ → DiskState)
     → IsPlan p → AreLives p lives → AreAllFormed p lives
-    → HaveDisks p catalogue lives disk_at (CameToTick p lives)
+    → HaveDisks p catalogue lives (cubs_alone p lives) disk_at
     → AreTrueReads p catalogue lives disk_at

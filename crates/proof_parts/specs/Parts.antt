@@ -24,7 +24,7 @@ use Rattle.lists.specs.Elements.{In}
 use Rattle.proof_lives.specs.Facts.{TookMessage}
 use Rattle.proof_lives.specs.HoldsHere.{AreAllFormed}
 use Rattle.proof_facts.specs.Carried.{AskedDisk, AnswersAsk, DisksAnswer}
-use Rattle.proof_lives.specs.FactsBy.{CameToTick}
+use Rattle.proof_lives.specs.FactsBy.{Beyond, CameToTick, cubs_alone}
 
 -- A part that a cub keeps before its input of number i came by a disk's answer, in form, to its
 -- want, when the cub had a record for that; and the cub keeps it since.
@@ -40,10 +40,10 @@ pub record CameByAnswer (p : Params) (c : ℕ) (inputs : ℕ → Input Msg) (i :
   pub stays : (k : ℕ) → at < k → k ≤ i → In x (store_at p c inputs k).parts
 
 -- It came so, and is what a disk read that the cub had asked for it.
-pub record CameFromDisk (p : Params) (lives : Lives) (disk_at : ℕ → DiskState) (c i : ℕ)
-    (x : StoredPart) : Type 0 where
+pub record CameFromDisk (p : Params) (lives : Lives) (beyond : Beyond) (disk_at : ℕ → DiskState)
+    (c i : ℕ) (x : StoredPart) : Type 0 where
   pub came : CameByAnswer p c (lives.input c) i x
-  pub read : AnswersAsk p lives disk_at c x.want (Some x.part) came.stamp.beat
+  pub read : AnswersAsk p beyond disk_at c x.want (Some x.part) came.stamp.beat
 
 -- An input may cost a cub a part: a deschedule of its instance, a kill of its visit if it is a
 -- piece, or a tick at which it is stale.
@@ -114,10 +114,10 @@ pub record AreRead (p : Params) (lives : Lives) (disk_at : ℕ → DiskState) : 
       → IsTakenBack p lives (disk_at disk) c want x
   pub from : (c i : ℕ) (x : StoredPart)
       → c < p.cubs → i ≤ lives.count c → In x (store_at p c (lives.input c) i).parts
-      → CameFromDisk p lives disk_at c i x
+      → CameFromDisk p lives (cubs_alone p lives) disk_at c i x
 
 -- So it is in all lives of cubs whose disks answer.
 abbrev pub PartsAreRead : Type 0
 PartsAreRead = (p : Params) (lives : Lives) (disk_at : ℕ → DiskState)
-    → AreAllFormed p lives → DisksAnswer p lives disk_at (CameToTick p lives)
+    → AreAllFormed p lives → DisksAnswer p lives (cubs_alone p lives) disk_at
     → AreRead p lives disk_at

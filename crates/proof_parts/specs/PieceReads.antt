@@ -17,6 +17,6 @@ use Rattle.proof_parts.specs.Asks.{HaveDisks}
 abbrev pub CubsServePieces : Type 0
 CubsServePieces = (p : Params) (catalogue : Catalogue) (lives : Lives) (disk_at : ℕ → DiskState)
     → IsPlan p → AreLives p lives → AreAllFormed p lives
-    → HaveDisks p catalogue lives disk_at (CameToTick p lives)
+    → HaveDisks p catalogue lives (cubs_alone p lives) disk_at
     → ReadLaws p catalogue (facts_by p lives (cubs_alone p lives)) (pieces_by p lives)
-    (blocks_by p lives disk_at) (λ j. 1 ≤ j)
+    (blocks_by p lives disk_at) (CameToTick p lives) (λ j. 1 ≤ j)

@@ -1,5 +1,5 @@
 -- In a ring's history whoever dies is believed dead in time, counted from its last heartbeat.
-use Rattle.std.proofs.Common.{◌≡◌, ℕ, ◌+◌, ◌<◌, ◌≤◌, List, refl, sym, subst, ◌∙◌, arith, ⊎_elim}
+use Rattle.std.proofs.Common.{◌≡◌, ℕ, ◌+◌, ◌<◌, ◌≤◌, List, refl, sym, subst, arith, ⊎_elim, inl, inr}
 use Rattle.std.specs.Prelude.{◌⊎◌}
 use Rattle.tiger_base.specs.declared.number.CubNo.{CubNo}
 use Rattle.tiger_base.specs.declared.message.Msg.{Msg}
@@ -13,6 +13,7 @@ use Rattle.node_kit.specs.declared.course.Order.{Order}
 use Rattle.node_kit.specs.declared.journal.Entry.{Entry}
 use Rattle.node_kit.specs.declared.journal.What.{What}
 use Rattle.node_kit.specs.declared.journal.What.TheVariants as what
+use Rattle.node_kit.specs.declared.outbox.Out.{Out}
 use Rattle.node_kit.specs.declared.outbox.Out.TheVariants as out
 use Rattle.node_kit.specs.Ways.{way_ahead}
 use Rattle.run_facts.specs.Histories.{History}
@@ -21,8 +22,10 @@ use Rattle.run_facts.proofs.Rows.{all-weaker}
 use Rattle.disk_core.specs.State.{DiskState}
 use Rattle.ring_nodes.specs.declared.nodes.AnyNode.{AnyNode}
 use Rattle.ring_nodes.specs.AllNodes.{any_step}
-use Rattle.proof_lives.specs.Facts.{DidAt, TickedAt}
-use Rattle.proof_schedule.specs.Facts.{Facts, BelievedBy}
+use Rattle.proof_lives.specs.Facts.{DidAt}
+use Rattle.proof_lives.specs.TwoLifeRun.{WhichLife, life_in}
+use Rattle.proof_lives.specs.TwoLifeRun.WhichLife.{First, Later}
+use Rattle.proof_schedule.specs.Facts.{Facts, BelievedBy, IsFirstLife}
 use Rattle.proof_service.specs.ServiceLaws.{HeardTill}
 use Rattle.lists.specs.Elements.{In}
 use Rattle.proof_moments.specs.Recorded.{IsRecorded}
@@ -32,9 +35,9 @@ use Rattle.proof_moments.proofs.Lists.{any_with}
 use Rattle.lists.proofs.Each.{all_by, all_in}
 use Rattle.proof_moments.proofs.Truths.{ways_after}
 use Rattle.proof_facts.specs.Facts.{facts_of}
-use Rattle.proof_facts.specs.Lives.{lives_of}
+use Rattle.proof_facts.specs.Lives.{later_lives_of, lives_of}
 use Rattle.proof_facts.specs.Rings.{IsRingHistory}
-use Rattle.proof_links.proofs.States.{heartbeat_from}
+use Rattle.proof_links.proofs.States.{BeatBefore, heartbeat_from}
 use Rattle.proof_ring.proofs.Histories.{cubs_laws}
 use Rattle.proof_journals.specs.Journals.{AreJournalsOf}
 use Rattle.proof_journals.proofs.Events.{AreKept}
@@ -57,8 +60,14 @@ module _ (G : Type 0) (p : Params) (orders : List Order) (disk_at : ℕ → Disk
   w : IsRecorded p r orders journals
   w = recorded.recorded G p orders disk_at h journals plan is_ring are
 
+  -- What a cub did in a life it did in one of two.
+  either : (w : WhichLife) {c b : ℕ} {o : Out Msg} → DidAt p (life_in h w) c o b
+      → DidAt p (lives_of h) c o b ⊎ DidAt p (later_lives_of h) c o b
+  either First d = inl d
+  either Later d = inr d
+
   -- Nor is it still the beginning of the run.
-  not_first : (c x b l : ℕ) → TickedAt p (lives_of h) c b l → IsNoticed p x b → l ≤ p.deadman → ⊥
+  not_first : (c x b l : ℕ) → r.Ticked c b l → IsNoticed p x b → l ≤ p.deadman → ⊥
   not_first c x b l tick long early =
       let delay = plan.ranges.delay in
       let delayed = delay.0 in
@@ -73,25 +82,26 @@ module _ (G : Type 0) (p : Params) (orders : List Order) (disk_at : ℕ → Disk
     log = order_of beats journals
 
     -- A heartbeat that a cub sent and the next one heard stands in the log.
-    sent_before : (c d y x quiet : ℕ) → IsSilentFrom log d quiet → DidAt p (lives_of h) d (out.Send (way_ahead p d 1) msg.Heartbeat) x
-        → x < beats → x < quiet
-    sent_before c d y x quiet silent did low =
-        let l = sent_logged kept d x (way_ahead p d 1) msg.Heartbeat did in
+    sent_before : (one : WhichLife) (d x quiet until : ℕ) → IsSilentFrom log d quiet until
+        → DidAt p (life_in h one) d (out.Send (way_ahead p d 1) msg.Heartbeat) x → x < until → x < beats → x < quiet
+    sent_before one d x quiet until silent did before low =
+        let l = sent_logged kept d x (way_ahead p d 1) msg.Heartbeat (either one did) in
         let e = bridge.logged p r orders journals w beats d x (λ (e : Entry). e.what ≡ what.Sent (way_ahead p d 1) note.Heartbeat) l low in
-        let before = all_in (λ (q : Noted). q.node ≡ d → SendsHeartbeat q.entry.what → beat_of q < quiet) e.entry log silent e.there
-        e.node (subst SendsHeartbeat (sym e.is) tt) in
         let when = e.beat in
+        let quieter = all_in (λ (q : Noted). q.node ≡ d → SendsHeartbeat q.entry.what → beat_of q < until → beat_of q < quiet) e.entry log
+        silent e.there e.node (subst SendsHeartbeat (sym e.is) tt) (omega arith) in
         omega arith
 
     -- The heartbeat that a cub heard of a silent one says nothing of a tick at which the silence is noticed.
-    not_heard : (c d quiet b l : ℕ) → c ≡ cub_of p (d + 1) → d < p.cubs → IsSilentFrom log d quiet → IsTickBelow r beats c b l
+    not_heard : (c d quiet b l : ℕ) → c ≡ cub_of p (d + 1) → d < p.cubs → IsSilentFrom log d quiet b → IsTickBelow r beats c b l
         → IsNoticed p quiet b → HeardTill p r c b l → ⊥
     not_heard c d quiet b l next small silent tick long heard =
-        let s = heartbeat_from plan ring heard.heard small next in
+        let s : BeatBefore plan ring d heard.beat =
+        ⊎_elim (λ g. heartbeat_from plan ring First g small next) (λ g. heartbeat_from plan ring Later g small next) heard.heard in
         let later = s.later in
         let by = heard.by in
         let early = tick.1 in
-        let before = sent_before c d heard.beat s.beat quiet silent s.sent (omega arith) in
+        let before = sent_before s.which d s.beat quiet b silent s.sent (omega arith) (omega arith) in
         let soon = s.soon in
         let way = ways_after p quiet (heard.beat + 1) 1 (omega arith) in
         let more = time_next p heard.beat in
@@ -99,20 +109,20 @@ module _ (G : Type 0) (p : Params) (orders : List Order) (disk_at : ℕ → Disk
         let low = (w.more.reads c b l tick.0).0 in
         omega arith
 
-    noticed : (c d quiet b l : ℕ) → c ≡ cub_of p (d + 1) → d < p.cubs → IsSilentFrom log d quiet → IsTickBelow r beats c b l
-        → IsNoticed p quiet b → BelievedBy r c b
-    noticed c d quiet b l next small silent tick long = ⊎_elim
+    noticed : (c d quiet b l : ℕ) → c ≡ cub_of p (d + 1) → d < p.cubs → IsFirstLife r c b → IsSilentFrom log d quiet b
+        → IsTickBelow r beats c b l → IsNoticed p quiet b → BelievedBy r c b
+    noticed c d quiet b l next small first silent tick long = ⊎_elim
         (λ (k : BelievedBy r c b). k)
         (λ (other : HeardTill p r c b l ⊎ (l ≤ p.deadman)). ⊎_elim
         (λ (heard : HeardTill p r c b l). absurd (not_heard c d quiet b l next small silent tick long heard))
         (λ (early : l ≤ p.deadman). absurd (not_first c quiet b l tick.0 long early))
         other)
-        ((cubs_laws any_step p orders disk_at h plan ring).watches tick.0)
+        ((cubs_laws any_step p orders disk_at h plan ring).rest.watches tick.0 first)
 
-    believed : (c d quiet b l : ℕ) → c ≡ cub_of p (d + 1) → d < p.cubs → IsSilentFrom log d quiet → IsTickBelow r beats c b l
-        → IsNoticed p quiet b → BelievesBy log c d b
-    believed c d quiet b l next small silent tick long =
-        let k = noticed c d quiet b l next small silent tick long in
+    believed : (c d quiet b l : ℕ) → c ≡ cub_of p (d + 1) → d < p.cubs → IsFirstLife r c b → IsSilentFrom log d quiet b
+        → IsTickBelow r beats c b l → IsNoticed p quiet b → BelievesBy log c d b
+    believed c d quiet b l next small first silent tick long =
+        let k = noticed c d quiet b l next small first silent tick long in
         let by = k.by in
         let below = tick.1 in
         let e = bridge.logged p r orders journals w beats c k.beat (λ (e : Entry). (cub : CubNo) × (e.what ≡ what.Believed cub) × (cub.0 ≡ d))
@@ -122,17 +132,25 @@ module _ (G : Type 0) (p : Params) (orders : List Order) (disk_at : ℕ → Disk
         any_with (λ (x : Noted). (x.node ≡ c) × (beat_of x ≤ b) × IsBelief d x.entry.what) log e.entry e.there
         (e.node, early, subst (IsBelief d) (sym e.is.1) e.is.2)
 
-    pub in_time : (x : Noted) (v : What) → IsBelievedInTime p (IsTickBelow r beats) log x.node v
-    in_time x what.Died = λ quiet beat reading small silent tick long.
-        believed (cub_of p (x.node + 1)) x.node quiet beat reading refl small silent tick long
-    in_time x other = tt
+    -- Of two neighbours one dies at most, so the next cub of one that dies does not come back.
+    next_stays : (x : Noted) → In x log → x.entry.what ≡ what.Died → x.node < p.cubs → (b : ℕ)
+        → IsFirstLife r (cub_of p (x.node + 1)) b
+    next_stays x there dies small b v back =
+        let died = w.tells.died x.node x.entry small (bridge.stands p r orders journals w beats x there) dies in
+        let other = w.more.returned (cub_of p (x.node + 1)) v back in
+        absurd (w.more.apart x.node (cub_of p (x.node + 1)) (beat_of x) other.beat died other.died refl)
+
+    pub in_time : (x : Noted) → In x log → (v : What) → x.entry.what ≡ v → IsBelievedInTime p (IsTickBelow r beats) log x.node v
+    in_time x there what.Died is = λ quiet beat reading small silent tick long.
+        believed (cub_of p (x.node + 1)) x.node quiet beat reading refl small (next_stays x there is small beat) silent tick long
+    in_time x there other is = tt
 
 pub rings_believe_in_time : (G : Type 0) → RingsBelieveInTime G
 rings_believe_in_time G p orders disk_at h journals beats plan is_ring are =
     let r = facts_of p orders h in
     let log = order_of beats journals in
     all_by (λ (x : Noted). IsBelievedInTime p (IsTickBelow r beats) log x.node x.entry.what) log
-    (λ x there. in_time G p orders disk_at h journals plan is_ring are beats x x.entry.what)
+    (λ x there. in_time G p orders disk_at h journals plan is_ring are beats x there x.entry.what refl)
 
 -- And so with fewer ticks.
 pub with_ticks : (p : Params) (ticked some : ℕ → ℕ → ℕ → Type 0) (log : List Noted) → IsPlan p

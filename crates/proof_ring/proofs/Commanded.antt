@@ -1,5 +1,5 @@
 -- In a ring's history the controller follows its orders, and no other node writes that an instance was stopped.
-use Rattle.std.proofs.Common.{◌≡◌, ◌≢◌, ℕ, ◌<◌, List, [], ◌∷◌, false, refl, sym, subst, arith, ⊎_elim, inl, inr}
+use Rattle.std.proofs.Common.{◌≡◌, ℕ, ◌<◌, List, [], ◌∷◌, false, refl, sym, subst, ◌∙◌, arith, ⊎_elim, inl, inr}
 use Rattle.tiger_base.specs.declared.number.Instance.{Instance}
 use Rattle.tiger_base.specs.declared.message.Msg.{Msg}
 use Rattle.tiger_base.specs.Notes.{noted}
@@ -12,6 +12,7 @@ use Rattle.node_kit.specs.declared.journal.What.{What}
 use Rattle.node_kit.specs.declared.journal.What.TheVariants as what
 use Rattle.run_facts.specs.Commanded.{is_gone, StopsNone, IsCommanded, AreCommanded}
 use Rattle.run_facts.specs.Histories.{History, last_of}
+use Rattle.run_facts.proofs.Recording.{open-ticked}
 use Rattle.run_facts.proofs.Rows.{same-element}
 use Rattle.disk_core.specs.State.{DiskState}
 use Rattle.proof_controller.specs.Follows.{IsControllersRun}
@@ -21,16 +22,16 @@ use Rattle.ring_nodes.specs.declared.nodes.AnyNode.TheVariants as node
 use Rattle.ring_nodes.specs.AllNodes.{any_step}
 use Rattle.proof_controller.specs.Controllers.{controller}
 use Rattle.lists.specs.Elements.{In}
-use Rattle.proof_facts.specs.Lives.{lives_of}
+use Rattle.proof_lives.specs.Lives.{Lives}
+use Rattle.proof_lives.specs.TwoLifeRun.{life_in}
 use Rattle.proof_lives.proofs.Cuts.{was_put_out}
 use Rattle.proof_moments.specs.Ties.{StandsIn}
 use Rattle.proof_facts.specs.Rings.{node_count}
 use Rattle.proof_journals.specs.Journals.{AreJournalsOf}
-use Rattle.proof_journals.proofs.Events.{AreKept, own_entry, who_acts}
-use Rattle.proof_journals.proofs.Journals.{inputs_of}
+use Rattle.proof_journals.proofs.Events.{AreKept, did_in_life, own_entry, who_acts}
 use Rattle.proof_journals.proofs.Outputs.{tells_no_stop}
 use Rattle.proof_ring.specs.Rings.{IsRing}
-use Rattle.proof_ring.proofs.Nodes.{rings_are_histories}
+use Rattle.proof_ring.proofs.CubLives.{rings_are_histories, stays_here}
 use Rattle.proof_ring.specs.Accounts.{IsControllersClock}
 
 -- An entry that tells of no stop does not pass the test for one.
@@ -55,7 +56,10 @@ module _ (G : Type 0) (p : Params) (orders : List Order) (disk_at : ℕ → Disk
   stop_is_controllers n e v stands is =
       let d = own_entry kept n e (what.Gone v) stands tt is in
       ⊎_elim
-      (λ cub. absurd (tells_no_stop p n (inputs_of h n) d.at v (was_put_out p (lives_of h) n d.at (out.Act (what.Gone v)) cub.1)))
+      (λ small.
+      let k = did_in_life kept n d.at (out.Act (what.Gone v)) small d.done tt d.did in
+      let ls : Lives = life_in h k.which in
+      absurd (tells_no_stop p n (ls.input n) k.input v (was_put_out p ls n k.input (out.Act (what.Gone v)) k.did)))
       (λ other. other.0)
       (who_acts kept n d.at (what.Gone v) d.known d.done d.did)
 
@@ -63,7 +67,9 @@ module _ (G : Type 0) (p : Params) (orders : List Order) (disk_at : ℕ → Disk
     controls : IsControllersRun commands clock h (controller p)
     controls = record {
       lives = λ i low. ring.deaths.mortal (controller p) i controller_inside (omega arith) low;
-      in_beat = λ i low. ring.run.in_beat (controller p) i controller_inside low;
+      in_beat = λ i low.
+          ring.run.in_beat (controller p) i controller_inside low (stays_here ring (controller p) controller_inside (omega arith) i low)
+          ∙ open-ticked h (controller p) i (λ j less. stays_here ring (controller p) controller_inside (omega arith) j (omega arith));
       all_beats = shown.beats;
       reads = shown.shows;
     }

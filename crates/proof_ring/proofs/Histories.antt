@@ -1,5 +1,5 @@
 -- The laws hold of every history of a ring, and so there is one schedule in it.
-use Rattle.std.proofs.Common.{ℕ, List}
+use Rattle.std.proofs.Common.{ℕ, ◌<◌, List, arith}
 use Rattle.tiger_base.specs.declared.message.Msg.{Msg}
 use Rattle.slot_plan.specs.declared.params.Params.{Params}
 use Rattle.slot_plan.specs.Conditions.{IsPlan}
@@ -8,56 +8,90 @@ use Rattle.node_kit.specs.declared.course.Order.{Order}
 use Rattle.node_kit.specs.Steps.{Deed, Input}
 use Rattle.run_facts.specs.Histories.{History}
 use Rattle.disk_core.specs.State.{DiskState}
-use Rattle.proof_lives.specs.Lives.{AreLives}
-use Rattle.proof_lives.specs.HoldsHere.{AreAllFormed}
-use Rattle.proof_lives.specs.InOrder.{AreInOrder}
-use Rattle.proof_schedule.specs.Facts.{Facts, NobodyReturns}
+use Rattle.proof_schedule.specs.Facts.{Facts}
 use Rattle.proof_schedule.specs.Laws.{Laws}
 use Rattle.proof_schedule.specs.Schedule.{IsOneSchedule}
 use Rattle.proof_schedule.proofs.Follows.{runs}
 use Rattle.proof_pieces.specs.PieceFacts.{PieceFacts}
-use Rattle.proof_pieces.specs.PieceLaws.{PieceLaws}
 use Rattle.proof_pieces.proofs.Right.{right}
-use Rattle.proof_service.specs.ServiceFacts.{ServiceFacts}
-use Rattle.proof_service.specs.ServiceLaws.{ServiceLaws}
-use Rattle.proof_service.proofs.Follows.{runs_serve}
-use Rattle.proof_service.specs.Disks.{DiskLaws}
 use Rattle.proof_service.specs.Files.{AreOfFiles}
+use Rattle.proof_service.specs.ServiceFacts.{ServiceFacts}
+use Rattle.proof_service.proofs.Follows.{runs_serve}
 use Rattle.proof_service.proofs.Places.{stored}
 use Rattle.proof_service.proofs.TrueReads.{true_reads}
-use Rattle.proof_facts.specs.Lives.{lives_of, CameAt}
-use Rattle.proof_facts.specs.Facts.{beyond_of, facts_of}
-use Rattle.proof_facts.specs.Laws.{CubLaws, RingLaws, SplitLaws, ReadLaws}
+use Rattle.proof_lives.specs.Lives.{beat_at}
+use Rattle.proof_lives.specs.FactsBy.{Beyond, CameToTick, facts_among, facts_by}
+use Rattle.proof_lives.specs.InOrder.{AreInOrder}
+use Rattle.proof_lives.specs.TwoLifeRun.{WhichLife, life_in}
+use Rattle.proof_lives.specs.TwoLifeRun.WhichLife.{First, Later}
+use Rattle.proof_facts.specs.Blocks.{blocks_by}
+use Rattle.proof_facts.specs.Facts.{beyond_of, blocks_of, facts_of, first_facts, later_facts, pieces_of}
+use Rattle.proof_facts.specs.Laws.{CubLaws, LifeLaws, ReturnLaws, RingLaws}
+use Rattle.proof_facts.specs.Lives.{lives_of, later_lives_of}
+use Rattle.proof_facts.specs.Pieces.{pieces_by}
 use Rattle.proof_facts.specs.Rings.{IsRingHistory, IsUpTo}
-use Rattle.proof_lives.proofs.Fitting.{Fits, as_tick}
-use Rattle.proof_lives.proofs.NoReturns.{nobody}
-use Rattle.proof_cubs.proofs.Laws.{cub_laws}
-use Rattle.proof_links.proofs.Laws.{links_meet_the_laws, messages_come_in_order, cubs_are_told_in_order, disks_answer_asks}
-use Rattle.proof_links.proofs.Running.{readings_rise, ends}
+use Rattle.proof_two_lives.specs.Statements.{AreUp, LawsOfParts, PartLaws, ScheduleOfLives, ServiceOfLives}
+use Rattle.proof_two_lives.proofs.Gathering as gathering
+use Rattle.proof_cubs.proofs.Laws.{life_laws}
+use Rattle.proof_links.specs.Statements.{HasTwoLives}
+use Rattle.proof_links.proofs.Fitting.{before_return, fits, since_return}
+use Rattle.proof_links.proofs.Laws.{cubs_are_told_in_order, disks_answer_asks, histories_have_two_lives, links_meet_the_laws, messages_come_in_order, returns_meet_the_laws}
+use Rattle.proof_links.proofs.Nodes.{began_late}
+use Rattle.proof_links.proofs.Running.{ends}
 use Rattle.proof_links.proofs.Starts.{begun_place}
+use Rattle.proof_links.proofs.Staying.{rising, stays}
+use Rattle.proof_splits.proofs.Among.{history_known}
 use Rattle.proof_splits.proofs.Splitting.{split_laws}
 use Rattle.proof_parts.specs.Asks.{HaveDisks}
+use Rattle.proof_parts.proofs.KnownAsks.{AsksAreKnown, history_first_asks, history_later_asks}
 use Rattle.proof_parts.proofs.PieceReads as parts
-use Rattle.proof_blocks.specs.Blocks.{IsWhole}
 use Rattle.proof_blocks.proofs.Laws as blocks
-use Rattle.proof_ring.specs.Histories.{pieces_of, blocks_of, IsFiledHistory, HistoriesMeetTheLaws, HistoriesHaveOneSchedule, HistoriesAreRightlyRead, HistoriesServeTheirBlocks}
-use Rattle.proof_ring.proofs.Fitting.{ring_fits}
-use Rattle.proof_ring.proofs.Gathering.{IsPiece, laws_of, piece_laws_of, service_laws_of, disk_laws_of}
-use Rattle.proof_links.proofs.States.{no_back}
+use Rattle.proof_ring.specs.Histories.{IsFiledHistory, HistoriesMeetTheLaws, HistoriesHaveOneSchedule, HistoriesAreRightlyRead, HistoriesServeTheirBlocks}
 
 module _ {S : Type 0} (step : S → Input Msg → Deed Msg S) (p : Params) (orders : List Order) (disk_at : ℕ → DiskState) (h : History Msg S)
     (plan : IsPlan p) (ring : IsRingHistory step p orders disk_at h) where
-  pub in_order : AreInOrder p (lives_of h) orders
-  in_order = messages_come_in_order S step p orders disk_at h plan ring
+  abbrev pub B : Beyond
+  B = beyond_of p orders h
+
+  pub in_order : (w : WhichLife) → AreInOrder p (life_in h w) B orders
+  in_order w = messages_come_in_order S step p orders disk_at h plan ring w
 
   pub ring_laws : RingLaws p (facts_of p orders h)
   ring_laws = links_meet_the_laws S step p orders disk_at h plan ring
 
+  pub return_laws : ReturnLaws p (facts_of p orders h) (blocks_of p h disk_at)
+  return_laws = returns_meet_the_laws S step p orders disk_at h plan ring
+
+  pub two : HasTwoLives p orders disk_at h
+  two = histories_have_two_lives S step p orders disk_at h plan ring
+
+  -- Each input of a first life is of a lower beat than any of the later one.
+  pub apart : (c i j : ℕ) → c < p.cubs → i < (lives_of h).count c → j < (later_lives_of h).count c
+      → beat_at ((lives_of h).input c) i < beat_at ((later_lives_of h).input c) j
+  apart c i j small low high =
+      let back = began_late plan ring c small (omega arith) in
+      let early = before_return plan ring small low back in
+      let since = since_return plan ring small high back in
+      omega arith
+
+  pub all_up : (end : ℕ) → IsUpTo p end h → AreUp p (facts_of p orders h) end
+  all_up end up = record {
+    ends = λ c b low small. ends plan ring up low small;
+    stays = λ c x b back le low. stays plan ring up back le low;
+  }
+
+  -- The cubs' laws of each life.
+  pub laws_in : (w : WhichLife) → LifeLaws p (facts_by p (life_in h w) B) (facts_among p (life_in h w) B)
+  laws_in w = life_laws p (life_in h w) B orders plan (in_order w) (fits plan ring w)
+
+  pub of_lives : ScheduleOfLives p (first_facts p orders h) (later_facts p orders h) (CameToTick p (lives_of h)) (CameToTick p (later_lives_of h))
+  of_lives = record { two = two.facts; first = laws_in First; later = laws_in Later; ring = ring_laws }
+
   pub cubs_laws : CubLaws p (facts_of p orders h)
-  cubs_laws = cub_laws p (lives_of h) (beyond_of p orders h) orders plan in_order (ring_fits plan ring)
+  cubs_laws = gathering.cubs of_lives
 
   pub laws : Laws p (facts_of p orders h)
-  laws = laws_of p (facts_of p orders h) ring_laws cubs_laws
+  laws = gathering.schedule of_lives
 
   pub one_schedule : IsOneSchedule p (facts_of p orders h)
   one_schedule = runs p (facts_of p orders h) plan laws
@@ -75,48 +109,48 @@ module _ {S : Type 0} (step : S → Input Msg → Deed Msg S) (p : Params) (cata
   Q = pieces_of p h
 
   abbrev pub W : ServiceFacts
-  W = blocks_of p disk_at h
+  W = blocks_of p h disk_at
 
-  -- No cub comes back in a run.
-  pub none : NobodyReturns R
-  none = nobody p (lives_of h) (beyond_of p orders h)
+  abbrev order_in : (w : WhichLife) → AreInOrder p (life_in h w) (beyond_of p orders h) orders
+  order_in w = in_order step p orders disk_at h plan ring w
 
-  pub fits : Fits p (lives_of h) (beyond_of p orders h)
-  fits = ring_fits plan ring
+  have_disks : (w : WhichLife) → HaveDisks p catalogue (life_in h w) (beyond_of p orders h) disk_at
+  have_disks w = record { answer = disks_answer_asks S step p orders disk_at h plan ring w; are = ring.rules.are_disks; images = filed.images }
 
-  pub formed : AreAllFormed p (lives_of h)
-  formed = (in_order step p orders disk_at h plan ring).formed
+  asks_known : (w : WhichLife) → AsksAreKnown p (life_in h w) (beyond_of p orders h)
+  asks_known First = history_first_asks p plan orders h (order_in First).lived (apart step p orders disk_at h plan ring)
+  asks_known Later = history_later_asks p plan orders h (order_in First).lived (apart step p orders disk_at h plan ring)
 
-  pub lived : AreLives p (lives_of h)
-  lived = (in_order step p orders disk_at h plan ring).lived
+  -- The laws of splits, asks and blocks of each life.
+  parts_in : (w : WhichLife)
+      → PartLaws p catalogue (facts_by p (life_in h w) (beyond_of p orders h)) (pieces_by p (life_in h w)) Q
+      (blocks_by p (life_in h w) disk_at) (CameToTick p (life_in h w))
+  parts_in w =
+      let order = order_in w in
+      record {
+        splits = split_laws p (life_in h w) plan order.lived order.formed (beyond_of p orders h) (fits plan ring w)
+            (cubs_are_told_in_order S step p orders disk_at h plan ring w) Q
+            (history_known p orders h (fits plan ring First) (fits plan ring Later)) disk_at;
+        whole = blocks.read_laws p catalogue (life_in h w) disk_at plan order.lived order.formed (beyond_of p orders h) (fits plan ring w)
+            (asks_known w) (have_disks w);
+        parts = parts.read_laws p catalogue (life_in h w) disk_at plan order.lived order.formed (beyond_of p orders h) (fits plan ring w)
+            (asks_known w) (have_disks w);
+      }
 
-  pub split_laws_hold : SplitLaws p R Q W
-  split_laws_hold =
-      split_laws p (lives_of h) plan lived formed (beyond_of p orders h) fits
-      (cubs_are_told_in_order S step p orders disk_at h plan ring) disk_at
+  of_all : ServiceOfLives p catalogue (first_facts p orders h) (later_facts p orders h) (pieces_by p (lives_of h)) (pieces_by p (later_lives_of h))
+      (blocks_by p (lives_of h) disk_at) (blocks_by p (later_lives_of h) disk_at) (CameToTick p (lives_of h)) (CameToTick p (later_lives_of h))
+  of_all = record {
+    schedule = of_lives step p orders disk_at h plan ring;
+    pieces = (two step p orders disk_at h plan ring).pieces;
+    blocks = (two step p orders disk_at h plan ring).blocks;
+    first = parts_in First;
+    later = parts_in Later;
+    returns = return_laws step p orders disk_at h plan ring;
+    rising = rising plan ring;
+  }
 
-  pub have_disks : HaveDisks p catalogue (lives_of h) disk_at (CameAt p h)
-  have_disks = record { answer = disks_answer_asks S step p orders disk_at h plan ring; are = ring.rules.are_disks; images = filed.images }
-
-  pub whole_reads : ReadLaws p catalogue R Q W IsWhole
-  whole_reads = blocks.read_laws p catalogue (lives_of h) disk_at plan lived formed (beyond_of p orders h) fits have_disks
-
-  pub piece_reads : ReadLaws p catalogue R Q W IsPiece
-  piece_reads = parts.read_laws p catalogue (lives_of h) disk_at plan lived formed (beyond_of p orders h) fits have_disks
-
-  pub schedule : Laws p R
-  schedule = laws step p orders disk_at h plan ring
-
-  pub pieces : PieceLaws p R Q
-  pieces =
-      piece_laws_of p catalogue R Q W whole_reads piece_reads none split_laws_hold
-      (λ c a b l m first then le. readings_rise plan ring (as_tick first) (as_tick then) le)
-
-  pub service : (end : ℕ) → IsUpTo p end h → ServiceLaws p R Q W end
-  service end up =
-      service_laws_of p catalogue R Q W whole_reads piece_reads none (λ c from b told. no_back plan ring told)
-      (ring_laws step p orders disk_at h plan ring)
-      (cubs_laws step p orders disk_at h plan ring) split_laws_hold end (λ c b low small. ends plan ring up low small)
+  pub of_parts : LawsOfParts p catalogue R Q W
+  of_parts = gathering.parts of_all plan
 
   pub are_of_files : AreOfFiles p catalogue R
   are_of_files = record {
@@ -124,15 +158,12 @@ module _ {S : Type 0} (step : S → Input Msg → Deed Msg S) (p : Params) (cata
     orders = λ {ask} {b} begun. let k = begun_place plan ring begun in filed.files.files k.0 ask k.1;
   }
 
-  pub disks : DiskLaws p catalogue R Q W
-  disks = disk_laws_of p catalogue R Q W whole_reads piece_reads are_of_files
-
 pub histories_meet_the_laws : (S : Type 0) → HistoriesMeetTheLaws S
 histories_meet_the_laws S step p catalogue orders disk_at h plan filed = record {
-  schedule = schedule step p catalogue orders disk_at h plan filed;
-  pieces = pieces step p catalogue orders disk_at h plan filed;
-  blocks = λ end up. service step p catalogue orders disk_at h plan filed end up;
-  disks = disks step p catalogue orders disk_at h plan filed;
+  schedule = laws step p orders disk_at h plan filed.ring;
+  pieces = (of_parts step p catalogue orders disk_at h plan filed).pieces;
+  blocks = λ end up. (of_parts step p catalogue orders disk_at h plan filed).blocks end (all_up step p orders disk_at h plan filed.ring end up);
+  disks = (of_parts step p catalogue orders disk_at h plan filed).disks (are_of_files step p catalogue orders disk_at h plan filed);
 }
 
 pub histories_have_one_schedule : (S : Type 0) → HistoriesHaveOneSchedule S
@@ -142,18 +173,15 @@ pub histories_are_rightly_read : (S : Type 0) → HistoriesAreRightlyRead S
 histories_are_rightly_read S step p catalogue orders disk_at h plan filed =
     let r = facts_of p orders h in
     let q = pieces_of p h in
-    let w = blocks_of p disk_at h in
-    let law = schedule step p catalogue orders disk_at h plan filed in
-    let cut = pieces step p catalogue orders disk_at h plan filed in
+    let w = blocks_of p h disk_at in
+    let all = histories_meet_the_laws S step p catalogue orders disk_at h plan filed in
     record {
-      pieces = right p r q plan law cut;
-      stored = stored p catalogue r plan law (are_of_files step p catalogue orders disk_at h plan filed);
-      reads = true_reads p catalogue r q w plan law cut (disks step p catalogue orders disk_at h plan filed);
+      pieces = right p r q plan all.schedule all.pieces;
+      stored = stored p catalogue r plan all.schedule (are_of_files step p catalogue orders disk_at h plan filed);
+      reads = true_reads p catalogue r q w plan all.schedule all.pieces all.disks;
     }
 
 pub histories_serve_their_blocks : (S : Type 0) → HistoriesServeTheirBlocks S
 histories_serve_their_blocks S step p catalogue orders disk_at h end plan filed up =
-    runs_serve p (facts_of p orders h) (pieces_of p h) (blocks_of p disk_at h) end plan
-    (schedule step p catalogue orders disk_at h plan filed)
-    (pieces step p catalogue orders disk_at h plan filed)
-    (service step p catalogue orders disk_at h plan filed end up)
+    let all = histories_meet_the_laws S step p catalogue orders disk_at h plan filed in
+    runs_serve p (facts_of p orders h) (pieces_of p h) (blocks_of p h disk_at) end plan all.schedule all.pieces (all.blocks end up)

@@ -19,10 +19,8 @@ use Rattle.scenario_read.specs.Orders.{IsCatalogueOf, orders_from}
 use Rattle.scenario_read.specs.Sound.{IsScenario}
 use Rattle.ring_nodes.specs.declared.nodes.AnyNode.{AnyNode}
 use Rattle.ring_facts.specs.Steps.{HasRun, FollowOrders}
-use Rattle.proof_lives.specs.Facts.{TickedAt}
 use Rattle.proof_controller.specs.Controllers.{controller}
 use Rattle.proof_moments.specs.Ties.{IsTickBelow}
-use Rattle.proof_facts.specs.Lives.{lives_of}
 use Rattle.proof_facts.specs.Facts.{facts_of}
 use Rattle.proof_facts.specs.Rings.{node_count}
 use Rattle.proof_ring.specs.Runs.{AreShort, disks_of}
@@ -47,8 +45,10 @@ module _ (G : Type 0) (s : Scenario) (library : List (List ℕ)) (k : Kept) (sce
 
   -- A tick of the course is one of the history.
   pub tick_below : (c b l : ℕ) → c < p.cubs → ticks_in k.course c b l → IsTickBelow (facts_of p k.orders h) k.course.beats c b l
-  tick_below c b l small w =
-      (subst (λ n. TickedAt p (lives_of h) c b n) (sym w.2) (acts_ticks G s library k scenario short run c b small w.0 w.1), w.0)
+  tick_below c b l small w = (
+    subst (λ n. (facts_of p k.orders h).Ticked c b n) (sym w.2) (acts_ticks G s library k scenario short run c small b w.0 w.1),
+    w.0,
+  )
 
   -- So are the beats and the clock of its controller.
   controlled : IsControllersClock p h k.course.beats (reading_of k.course (controller p))
@@ -56,7 +56,7 @@ module _ (G : Type 0) (s : Scenario) (library : List (List ℕ)) (k : Kept) (sce
       let low : controller p < node_count p = omega arith in
       let inside : controller p < length _ = subst (λ n. controller p < n) (sym (size G s library k scenario short run)) low in
       record {
-        beats = ticked G s library k scenario short run (controller p) inside
+        beats = ticked G s library k scenario short run (controller p) inside (omega arith)
             (λ i there. (deaths G s library k scenario short run).mortal (controller p) i low (omega arith) there);
         shows = λ i there tick. run.steps.kept.keeps.stamped (controller p) i inside there;
       }

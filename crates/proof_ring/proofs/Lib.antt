@@ -2,9 +2,8 @@ pub mod Beliefs
 pub mod Claims
 pub mod Commanded
 pub mod Counted
+pub mod CubLives
 pub mod Faults
-pub mod Fitting
-pub mod Gathering
 pub mod Histories
 pub mod Kept
 pub mod Nodes

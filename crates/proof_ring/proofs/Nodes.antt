@@ -1,5 +1,6 @@
--- Each node of a ring puts out what its rules say, as far as its death lets it.
-use Rattle.std.proofs.Common.{◌≡◌, ℕ, zero, suc, ◌+◌, ◌<◌, ◌≤◌, List, [], true, false, Option, None, refl, sym, ap, ◌∙◌, arith, ⊎_elim}
+-- What nodes of a ring put out in events that each have an input: what the rules of their kind say.
+use Rattle.std.proofs.Common.{◌≡◌, ℕ, zero, suc, ◌<◌, ◌≤◌, List, [], true, Option, None, refl, sym, ap, ◌∙◌, arith}
+use Rattle.std.specs.Prelude.{◌++◌}
 use Rattle.tiger_base.specs.declared.number.Stamp.{Stamp}
 use Rattle.tiger_base.specs.declared.message.Msg.{Msg}
 use Rattle.tiger_base.specs.declared.message.Msg.TheVariants as msg
@@ -10,27 +11,24 @@ use Rattle.node_kit.specs.Form.{is_in_form}
 use Rattle.node_kit.specs.Steps.{Deed, Input}
 use Rattle.node_kit.specs.Steps.Input.{Take, Tick}
 use Rattle.node_kit.specs.Deeds.{nothing}
-use Rattle.run_facts.specs.Events.{is_death, is_return}
 use Rattle.run_facts.specs.Histories.{History, past, outs}
 use Rattle.node_kit.specs.declared.outbox.Out.{Out}
 use Rattle.disk_core.specs.State.{DiskState}
 use Rattle.disk_core.specs.Rules.{asked, answers, disk_step}
 use Rattle.controller_core.specs.declared.known.Known.{Known}
 use Rattle.controller_core.specs.State.{ControllerState}
+use Rattle.cub_rules.specs.declared.store.Store.{Store}
 use Rattle.viewer_core.specs.Parts.{KeptParts}
 use Rattle.viewer_core.specs.Rules.{viewers_step}
 use Rattle.ring_nodes.specs.declared.nodes.AnyNode.{AnyNode}
 use Rattle.ring_nodes.specs.declared.nodes.AnyNode.TheVariants as node
-use Rattle.ring_nodes.specs.AllNodes.{any_step, opening_cub, opening_controller}
-use Rattle.proof_lives.specs.Lives.{cut_outs, outs_in, store_at, outs_at, beat_at, ticks_at}
-use Rattle.proof_lives.specs.Histories.{input_of, has_input, cut_of_event, acting, lives_of}
-use Rattle.proof_lives.proofs.Acting.{acts_at, alive_acts, alive_whole, cut_same, life_to}
+use Rattle.ring_nodes.specs.AllNodes.{any_step, opening_controller}
+use Rattle.proof_lives.specs.Lives.{cut_outs, store_at, outs_at}
+use Rattle.proof_lives.specs.Histories.{input_of, has_input, cut_of_event}
 use Rattle.lists.proofs.Elements.{chosen}
-use Rattle.proof_lives.proofs.Wrapped.{cub_with, cub_state, cub_outs, after_state, event_outs, last_at, life_goes_on}
-use Rattle.proof_controller.specs.Controllers.{controller, command, known_at, commands_at}
-use Rattle.proof_facts.specs.Rings.{node_count, node_of_disk, viewers}
-use Rattle.proof_ring.specs.Rings.{IsRing, RingsAreHistories}
-use Rattle.std.proofs.lemmas.Bool.{cases_lt}
+use Rattle.proof_lives.proofs.Wrapped.{ActsBack, GoesOn, cub_with, cub_state, cub_outs, after_state, event_outs, last_behind, last_from}
+use Rattle.proof_controller.specs.Controllers.{command, known_at, commands_at}
+use Rattle.proof_facts.specs.Rings.{return_outs}
 
 -- A disk never changes.
 pub answers_stays : (stamp : Stamp) (m : Msg) (d : DiskState) → (answers stamp m d).state ≡ d
@@ -73,56 +71,82 @@ pub controller_outs : (G : Type 0) (p : Params) (orders : List Order) (known : K
 controller_outs G p orders known (Take stamp link m) = refl
 controller_outs G p orders known (Tick stamp) = refl
 
--- The events of node n below a number, each of which has an input.
-module _ {G : Type 0} (h : History Msg (AnyNode G)) (n top : ℕ) (acts : (i : ℕ) → i < top → has_input (h.event n i) ≡ true) where
+-- So many events of node n that stand one behind another, each of which has an input: their numbers are `at`.
+module _ {G : Type 0} (h : History Msg (AnyNode G)) (n : ℕ) (at : ℕ → ℕ) (in_row : (i : ℕ) → at (suc i) ≡ suc (at i)) (top : ℕ)
+    (acts : (i : ℕ) → i < top → has_input (h.event n (at i)) ≡ true) where
   abbrev pub inputs : ℕ → Input Msg
-  inputs i = input_of (h.event n i)
+  inputs i = input_of (h.event n (at i))
 
   abbrev pub state : ℕ → AnyNode G
-  state i = (past noted any_step h n i).state
+  state i = (past noted any_step h n (at i)).state
 
   pub next_state : (i : ℕ) → i < top → state (suc i) ≡ (any_step (state i) (inputs i)).state
-  next_state i low = after_state any_step (h.event n i) (past noted any_step h n i) (acts i low)
+  next_state i low =
+      ap (λ (k : ℕ). (past noted any_step h n k).state) (in_row i)
+      ∙ after_state any_step (h.event n (at i)) (past noted any_step h n (at i)) (acts i low)
 
-  pub outs_are : (i : ℕ) → i < top → outs noted any_step h n i ≡ cut_outs (cut_of_event (h.event n i)) (any_step (state i) (inputs i)).outs
-  outs_are i low = event_outs any_step (h.event n i) (past noted any_step h n i) (acts i low)
+  pub outs_are : (i : ℕ) → i < top → outs noted any_step h n (at i) ≡ cut_outs (cut_of_event (h.event n (at i))) (any_step (state i) (inputs i)).outs
+  outs_are i low = event_outs any_step (h.event n (at i)) (past noted any_step h n (at i)) (acts i low)
 
-  -- A cub that ends each beat by a tick comes back by none.
-  module _ (in_beat : (i : ℕ) → i < top → beat_at inputs i ≡ ticks_at inputs i) where
-    pub cub_keeps : (p : Params) → h.first n ≡ opening_cub p n → (i : ℕ) → i ≤ top
-        → state i ≡ node.Cub (cub_with p n (store_at p n inputs i) (last_at inputs i))
-    cub_keeps p first zero low = first
-    cub_keeps p first (suc i) low =
-        next_state i (omega arith)
-        ∙ ap (λ (s : AnyNode G). (any_step s (inputs i)).state) (cub_keeps p first i (omega arith))
+  -- ---- a cub
+
+  -- Before each event it is known in which beat it ticked last.
+  module _ (p : Params) (last : ℕ → Option ℕ) (counts : (i : ℕ) → last (suc i) ≡ last_behind (inputs i) (last i)) where
+    abbrev pub IsCubAt : ℕ → Type 0
+    IsCubAt i = state i ≡ node.Cub (cub_with p n (store_at p n inputs i) (last i))
+
+    -- It stays what its rules make of it as long as it does not come back.
+    pub cub_goes : (i : ℕ) → i < top → GoesOn (last i) (inputs i) → IsCubAt i → IsCubAt (suc i)
+    cub_goes i low on is =
+        next_state i low
+        ∙ ap (λ (s : AnyNode G). (any_step s (inputs i)).state) is
         ∙ ap (λ s. node.Cub s)
-        (cub_state p n (store_at p n inputs i) (last_at inputs i) (inputs i) (life_goes_on top inputs in_beat i (omega arith)))
+        (cub_state p n (store_at p n inputs i) (last i) (inputs i) on
+        ∙ ap (cub_with p n (store_at p n inputs (suc i))) (sym (counts i)))
 
-    pub cub_puts_out : (p : Params) → h.first n ≡ opening_cub p n → (i : ℕ) → i < top
-        → outs noted any_step h n i ≡ cut_outs (cut_of_event (h.event n i)) (outs_at p n inputs i)
-    cub_puts_out p first i low =
+    pub cub_puts : (i : ℕ) → i < top → GoesOn (last i) (inputs i) → IsCubAt i
+        → outs noted any_step h n (at i) ≡ cut_outs (cut_of_event (h.event n (at i))) (outs_at p n inputs i)
+    cub_puts i low on is =
         outs_are i low
-        ∙ ap (λ (os : List (Out Msg)). cut_outs (cut_of_event (h.event n i)) os)
-        (ap (λ (s : AnyNode G). (any_step s (inputs i)).outs) (cub_keeps p first i (omega arith))
-        ∙ cub_outs p n (store_at p n inputs i) (last_at inputs i) (inputs i) (life_goes_on top inputs in_beat i low))
+        ∙ ap (λ (os : List (Out Msg)). cut_outs (cut_of_event (h.event n (at i))) os)
+        (ap (λ (s : AnyNode G). (any_step s (inputs i)).outs) is
+        ∙ cub_outs p n (store_at p n inputs i) (last i) (inputs i) on)
+
+  -- One that comes back begins anew, whatever it kept, and tells of that first.
+  module _ (p : Params) (kept : Store) (before : Option ℕ) (was : state 0 ≡ node.Cub (cub_with p n kept before))
+      (acts_then : ActsBack p n top inputs kept before) (low : 0 < top) where
+    pub cub_begins : state 1 ≡ node.Cub (cub_with p n (store_at p n inputs 1) (last_from before inputs 1))
+    cub_begins =
+        next_state 0 low
+        ∙ ap (λ (s : AnyNode G). (any_step s (inputs 0)).state) was
+        ∙ ap (λ s. node.Cub s) acts_then.state
+
+    pub cub_tells : cut_of_event (h.event n (at 0)) ≡ None
+        → outs noted any_step h n (at 0) ≡ return_outs p n inputs 0 ++ outs_at p n inputs 0
+    cub_tells whole =
+        outs_are 0 low
+        ∙ ap (λ (o : Option ℕ). cut_outs o (any_step (state 0) (inputs 0)).outs) whole
+        ∙ ap (λ (s : AnyNode G). (any_step s (inputs 0)).outs) was
+        ∙ acts_then.outs
 
   -- ---- a node that does not die in these events
 
-  module _ (whole : (i : ℕ) → i < top → cut_of_event (h.event n i) ≡ None) where
-    pub all_out : (i : ℕ) → i < top → outs noted any_step h n i ≡ (any_step (state i) (inputs i)).outs
+  module _ (whole : (i : ℕ) → i < top → cut_of_event (h.event n (at i)) ≡ None) where
+    pub all_out : (i : ℕ) → i < top → outs noted any_step h n (at i) ≡ (any_step (state i) (inputs i)).outs
     all_out i low = outs_are i low ∙ ap (λ (o : Option ℕ). cut_outs o (any_step (state i) (inputs i)).outs) (whole i low)
 
-    pub disk_is : (d : DiskState) → h.first n ≡ node.Disk d → (i : ℕ) → i ≤ top → state i ≡ node.Disk d
+    pub disk_is : (d : DiskState) → state 0 ≡ node.Disk d → (i : ℕ) → i ≤ top → state i ≡ node.Disk d
     disk_is d first zero low = first
     disk_is d first (suc i) low =
         next_state i (omega arith)
         ∙ ap (λ (s : AnyNode G). (any_step s (inputs i)).state) (disk_is d first i (omega arith))
         ∙ ap (λ s. node.Disk s) (disk_stays d (inputs i))
 
-    pub disk_puts_out : (d : DiskState) → h.first n ≡ node.Disk d → (i : ℕ) → i < top → outs noted any_step h n i ≡ (disk_step d (inputs i)).outs
+    pub disk_puts_out : (d : DiskState) → state 0 ≡ node.Disk d → (i : ℕ) → i < top
+        → outs noted any_step h n (at i) ≡ (disk_step d (inputs i)).outs
     disk_puts_out d first i low = all_out i low ∙ ap (λ (s : AnyNode G). (any_step s (inputs i)).outs) (disk_is d first i (omega arith))
 
-    pub controller_knows : (p : Params) (orders : List Order) → h.first n ≡ opening_controller p orders → (i : ℕ) → i ≤ top
+    pub controller_knows : (p : Params) (orders : List Order) → state 0 ≡ opening_controller p orders → (i : ℕ) → i ≤ top
         → state i ≡ node.Controller (with_known p orders (known_at p orders inputs i))
     controller_knows p orders first zero low = first
     controller_knows p orders first (suc i) low =
@@ -130,71 +154,20 @@ module _ {G : Type 0} (h : History Msg (AnyNode G)) (n top : ℕ) (acts : (i : �
         ∙ ap (λ (s : AnyNode G). (any_step s (inputs i)).state) (controller_knows p orders first i (omega arith))
         ∙ controller_state p orders (known_at p orders inputs i) (inputs i)
 
-    pub controller_puts_out : (p : Params) (orders : List Order) → h.first n ≡ opening_controller p orders → (i : ℕ) → i < top
-        → outs noted any_step h n i ≡ commands_at p orders inputs i
+    pub controller_puts_out : (p : Params) (orders : List Order) → state 0 ≡ opening_controller p orders → (i : ℕ) → i < top
+        → outs noted any_step h n (at i) ≡ commands_at p orders inputs i
     controller_puts_out p orders first i low =
         all_out i low
         ∙ ap (λ (s : AnyNode G). (any_step s (inputs i)).outs) (controller_knows p orders first i (omega arith))
         ∙ controller_outs G p orders (known_at p orders inputs i) (inputs i)
 
-    pub viewers_are : h.first n ≡ node.Viewers [] → (i : ℕ) → i ≤ top → (v : KeptParts) × (state i ≡ node.Viewers v)
+    pub viewers_are : state 0 ≡ node.Viewers [] → (i : ℕ) → i ≤ top → (v : KeptParts) × (state i ≡ node.Viewers v)
     viewers_are first zero low = ([], first)
     viewers_are first (suc i) low =
         let v = viewers_are first i (omega arith) in
         ((viewers_step v.0 (inputs i)).state, next_state i (omega arith) ∙ ap (λ (s : AnyNode G). (any_step s (inputs i)).state) v.1)
 
-    pub viewers_put_out : h.first n ≡ node.Viewers [] → (i : ℕ) → i < top → outs noted any_step h n i ≡ []
+    pub viewers_put_out : state 0 ≡ node.Viewers [] → (i : ℕ) → i < top → outs noted any_step h n (at i) ≡ []
     viewers_put_out first i low =
         let v = viewers_are first i (omega arith) in
         all_out i low ∙ ap (λ (s : AnyNode G). (any_step s (inputs i)).outs) v.1 ∙ viewers_silent v.0 (inputs i)
-
--- What a ring's node lived through: its events with an input are the first ones, and those of a node that does not die
--- are whole.
-module _ {G : Type 0} {p : Params} {orders : List Order} {disk_at : ℕ → DiskState} {h : History Msg (AnyNode G)} (ring : IsRing p orders disk_at h) where
-  of_cub : (c i : ℕ) → c < p.cubs → i < acting h c → outs noted any_step h c i ≡ outs_in p (lives_of h) c i
-  of_cub c i small low =
-      let here : (j : ℕ) → j < h.count c → is_return (h.event c j) ≡ false = λ j l. ring.run.here c j (omega arith) l in
-      let ended : (j : ℕ) → j < h.count c → is_death (h.event c j) ≡ true → j + 1 ≡ h.count c = λ j l d. ring.run.ended c j (omega arith) l d in
-      let inside : c < node_count p = omega arith in
-      let most : acting h c ≤ h.count c = ⊎_elim
-      (λ (l : h.count c < acting h c). let z = (acts_at h c here ended (h.count c) l).done in absurd (omega arith))
-      (λ (le : acting h c ≤ h.count c). le)
-      (cases_lt (h.count c) (acting h c)) in
-      let life = life_to any_step p (node_count p) h ring.run c (acting h c) inside most
-      (λ j l. ring.short c j inside (acts_at h c here ended j l).done) in
-      cub_puts_out h c (acting h c) (λ j l. (acts_at h c here ended j l).input) life.in_beat p (ring.opens.cubs c small) i low
-      ∙ ap (λ (o : Option ℕ). cut_outs o (outs_at p c (λ k. input_of (h.event c k)) i)) (sym (cut_same h c here ended i low))
-
-  module _ (n : ℕ) (known : n < node_count p) (high : p.cubs ≤ n) where
-    has : (i : ℕ) → i < h.count n → has_input (h.event n i) ≡ true
-    has i low =
-        let here : (j : ℕ) → j < h.count n → is_return (h.event n j) ≡ false = λ j l. ring.run.here n j known l in
-        let ended : (j : ℕ) → j < h.count n → is_death (h.event n j) ≡ true → j + 1 ≡ h.count n = λ j l d. ring.run.ended n j known l d in
-        (acts_at h n here ended i (alive_acts h n here ended i low (ring.deaths.mortal n i known high low))).input
-
-    whole : (i : ℕ) → i < h.count n → cut_of_event (h.event n i) ≡ None
-    whole i low = alive_whole (h.event n i) (ring.deaths.mortal n i known high low)
-
-pub rings_are_histories : (G : Type 0) → RingsAreHistories G
-rings_are_histories G p orders disk_at h plan ring = record {
-  run = ring.run;
-  deaths = ring.deaths;
-  counted = ring.counted;
-  short = ring.short;
-  rules = record {
-    cubs = λ c i small low. of_cub ring c i small low;
-    disks = λ d i small low.
-        let n : ℕ = node_of_disk p d in
-        disk_puts_out h n (h.count n) (has ring n (omega arith) (omega arith)) (whole ring n (omega arith) (omega arith))
-        (disk_at d) (ring.opens.disks d small) i low;
-    are_disks = ring.opens.numbered;
-    controls = λ i low.
-        let n : ℕ = controller p in
-        controller_puts_out h n (h.count n) (has ring n (omega arith) (omega arith)) (whole ring n (omega arith) (omega arith))
-        p orders ring.opens.commands i low;
-    views = λ i low.
-        let n : ℕ = viewers p in
-        viewers_put_out h n (h.count n) (has ring n (omega arith) (omega arith)) (whole ring n (omega arith) (omega arith))
-        ring.opens.views i low;
-  };
-}

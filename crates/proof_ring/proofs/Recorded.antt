@@ -17,16 +17,15 @@ use Rattle.proof_moments.proofs.Truths.{beliefs_are_true}
 use Rattle.proof_moments.proofs.Parts.{views_are_part}
 use Rattle.proof_moments.proofs.Passing.{nobody_is_passed_over}
 use Rattle.proof_moments.proofs.Local.{entries_are_local}
-use Rattle.proof_facts.specs.Facts.{beyond_of, facts_of}
-use Rattle.proof_facts.specs.Lives.{lives_of}
+use Rattle.proof_facts.specs.Facts.{facts_of}
 use Rattle.proof_facts.specs.Rings.{IsRingHistory}
-use Rattle.proof_lives.proofs.NoReturns.{nobody}
+use Rattle.proof_lives.specs.TwoLifeRun.WhichLife.{First, Later}
 use Rattle.proof_ring.proofs.Histories.{in_order, laws, cubs_laws}
 use Rattle.proof_journals.specs.Journals.{AreJournalsOf}
 use Rattle.proof_journals.proofs.Recorded.{rings_are_recorded}
 use Rattle.proof_journals.proofs.Local.{journals_are_local}
 use Rattle.proof_ring.specs.Rings.{IsRing}
-use Rattle.proof_ring.proofs.Nodes.{rings_are_histories}
+use Rattle.proof_ring.proofs.CubLives.{rings_are_histories}
 use Rattle.proof_ring.specs.ClaimsOfRings.{RingsHaveOneSchedule}
 
 module _ (G : Type 0) (p : Params) (orders : List Order) (disk_at : ℕ → DiskState) (h : History Msg (AnyNode G)) (journals : List (List Entry))
@@ -40,7 +39,8 @@ module _ (G : Type 0) (p : Params) (orders : List Order) (disk_at : ℕ → Disk
   pub recorded : IsRecorded p R orders journals
   recorded =
       rings_are_recorded (AnyNode G) any_step p orders disk_at h journals plan ring are
-      (in_order any_step p orders disk_at h plan ring).started.ordered
+      (in_order any_step p orders disk_at h plan ring First).started.ordered
+      (in_order any_step p orders disk_at h plan ring Later).started.ordered
       (laws any_step p orders disk_at h plan ring) (cubs_laws any_step p orders disk_at h plan ring)
 
   pub locals : Locals p journals
@@ -55,6 +55,5 @@ rings_have_one_schedule G p orders disk_at h journals beats plan is_ring are =
       part = views_are_part p r orders journals beats w;
       local = entries_are_local p r orders journals beats w (locals G p orders disk_at h journals plan is_ring are);
       belief = beliefs_are_true p r orders journals beats w;
-      patient = nobody_is_passed_over p r orders journals beats w
-          (nobody p (lives_of h) (beyond_of p orders h));
+      patient = nobody_is_passed_over p r orders journals beats w;
     }

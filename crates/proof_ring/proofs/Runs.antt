@@ -1,7 +1,7 @@
 -- What is kept of the run of a scenario is of a ring, to the end of its beats.
 use Rattle.std.proofs.Common.{◌≡◌, ℕ, ◌+◌, ◌<◌, ◌≤◌, ◌%◌, List, [], length, Bool, true, false, cond, Option, Some, None, refl, sym, ap, subst, ◌∙◌, arith, ⊎_elim}
 use Rattle.std.specs.Prelude.{slice_get, option_and_then}
-use Rattle.std.proofs.lemmas.Bool.{le-ltb, cases_Bool}
+use Rattle.std.proofs.lemmas.Bool.{le-ltb, cases_Bool, eqb-true}
 use Rattle.tiger_base.specs.declared.message.Msg.{Msg}
 use Rattle.tiger_base.specs.Notes.{noted}
 use Rattle.slot_plan.specs.declared.params.Params.{Params}
@@ -10,9 +10,10 @@ use Rattle.node_kit.specs.declared.course.Course.{Course}
 use Rattle.node_kit.specs.declared.course.Kept.{Kept}
 use Rattle.node_kit.specs.declared.course.Order.{Order}
 use Rattle.node_kit.specs.Courses.{IsCourse}
-use Rattle.node_kit.specs.Life.{Lifetime, back_of, lifetime_of}
-use Rattle.run_facts.specs.Events.{is_death}
-use Rattle.run_facts.specs.Histories.{History, beat, reading, ticks}
+use Rattle.node_kit.specs.Life.{Lifetime, back_of, lifetime_of, returns}
+use Rattle.run_facts.specs.Events.{NodeEvent, is_death, is_return, stamp_at}
+use Rattle.run_facts.specs.Events.NodeEvent.{Does, Ends, Dies, Returns}
+use Rattle.run_facts.specs.Histories.{History, IsComplete, IsRun, beat, past, reading, ticks}
 use Rattle.run_facts.specs.Timed.{DieApart}
 use Rattle.scenario_read.specs.declared.scenario.Scenario.{Scenario}
 use Rattle.scenario_read.specs.Orders.{IsCatalogueOf, orders_from}
@@ -25,21 +26,29 @@ use Rattle.ring_facts.specs.Rings.{IsRingRun}
 use Rattle.ring_facts.specs.Steps.{HasRun, ring_of}
 use Rattle.proof_ring.proofs.Opened.{get_some, cubs_open, controller_opens, viewers_open, read_low}
 use Rattle.proof_controller.specs.Controllers.{controller}
-use Rattle.proof_lives.specs.OneLife.{IsWithoutReturns, IsOneLifeRun}
-use Rattle.proof_lives.proofs.OneLife.{one_life_run}
 use Rattle.proof_controller.specs.Orders.{AreCounted}
 use Rattle.proof_facts.specs.Rings.{node_count, node_of_disk, viewers, DieAlone, IsUpTo, AreOfCatalogue}
 use Rattle.proof_journals.specs.Journals.{AreJournalsOf}
-use Rattle.run_lives.proofs.Deaths.{dies_at, stays_away, ticked_all}
+use Rattle.run_lives.proofs.Deaths.{along, dies_at, ticked_all}
 use Rattle.proof_ring.specs.Rings.{OpensAs, IsRing}
 use Rattle.proof_ring.specs.Runs.{disks_of, AreShort, IsKeptRing, KeptRunsAreRings}
 use Rattle.proof_ring.proofs.Openings.{disk_opens}
 use Rattle.proof_ring.proofs.Orders.{of_catalogue}
 use Rattle.proof_ring.proofs.Counted.{counted_orders}
 
--- In a course only cubs die.
+-- In a course only cubs die, and return.
 pub only_cubs : (c : Course) (n : ℕ) → c.plan.params.cubs ≤ n → (lifetime_of c n).death ≡ None
 only_cubs c n high = ap (λ (b : Bool). cond b (option_and_then (λ d. d) (slice_get c.deaths n)) None) (le-ltb n c.plan.params.cubs high)
+
+pub none_back : (c : Course) (n : ℕ) → c.plan.params.cubs ≤ n → (lifetime_of c n).back ≡ None
+none_back c n high = ap (λ (b : Bool). cond b (option_and_then (λ d. d) (slice_get c.backs n)) None) (le-ltb n c.plan.params.cubs high)
+
+-- A return is in the beat that the life has for it.
+returns_by : (death left back : Option ℕ) (over : Bool) (b : ℕ)
+    → returns (record { death = death; left = left; back = back; over = over }) b ≡ true → back ≡ Some b
+unfolding returns
+returns_by death left None over b t = absurd (cc)
+returns_by death left (Some w) over b t = ap Some (sym (eqb-true b w t))
 
 -- What of a kept run makes a ring of it: nodes lived for the scenario, and no two neighbours die. That its journals follow the
 -- orders is shown of the ring.
@@ -72,23 +81,18 @@ module _ (G : Type 0) (s : Scenario) (library : List (List ℕ)) (k : Kept) (sce
   pub life_is : (n : ℕ) → n < length given → h.life n ≡ lifetime_of k.course n
   life_is n low = let g = get_some given n low in (run.steps.kept.lived.theirs.opens n g.0 g.1).1
 
-  -- Nobody returns.
-  pub returnless : (n : ℕ) → (lifetime_of k.course n).back ≡ None
-  returnless n = subst (λ (c : Course). back_of c n ≡ None) (sym run.course) (scenario.no_returns n)
+  abbrev pub lived : IsRun noted any_step p (length given) h
+  lived = run.steps.kept.lived.run
 
-  never_back : (n : ℕ) → n < length given → (h.life n).back ≡ None
-  never_back n low =
-      ap (λ (l : Lifetime). l.back) (life_is n low) ∙ returnless n
+  abbrev pub complete : IsComplete noted any_step (length given) k.course.beats h
+  complete = run.steps.kept.lived.complete
 
-  pub here : IsWithoutReturns (length given) h
-  here n i low there = stays_away noted any_step (length given) k.course.beats h run.steps.kept.lived.complete n low (never_back n low) i there
-
-  pub lived : IsOneLifeRun noted any_step p (length given) h
-  lived = one_life_run noted any_step p (length given) h here run.steps.kept.lived.run
-
-  pub ticked : (n : ℕ) → n < length given → ((i : ℕ) → i < h.count n → is_death (h.event n i) ≡ false)
+  -- A node that is no cub has a life without a death and a return, and so ticks in each beat.
+  pub ticked : (n : ℕ) → n < length given → p.cubs ≤ n → ((i : ℕ) → i < h.count n → is_death (h.event n i) ≡ false)
       → ticks h n (h.count n) ≡ k.course.beats
-  ticked n low alive = ticked_all noted any_step (length given) k.course.beats h run.steps.kept.lived.complete n low (never_back n low) alive
+  ticked n low high alive =
+      ticked_all noted any_step (length given) k.course.beats h complete n low
+      (ap (λ (l : Lifetime). l.back) (life_is n low) ∙ none_back k.course n high) alive
 
   pub all : length (images_of p k.catalogue library) ≡ disk_count p
   all = length-numbered (image_at p k.catalogue library) (disk_count p)
@@ -101,7 +105,22 @@ module _ (G : Type 0) (s : Scenario) (library : List (List ℕ)) (k : Kept) (sce
   death_is n i inside low t =
       let within : n < length given = omega (arith, size, inside) in
       ap (λ (l : Lifetime). l.death) (sym (life_is n within))
-      ∙ dies_at noted any_step (length given) k.course.beats h run.steps.kept.lived.complete n within i low t
+      ∙ dies_at noted any_step (length given) k.course.beats h complete n within i low t
+
+  -- And a return in that which it has for it.
+  pub back_is : (n i : ℕ) → n < length given → i < h.count n → is_return (h.event n i) ≡ true → back_of k.course n ≡ Some (beat h n i)
+  back_is n i within low t = by (h.event n i) refl
+    where
+      by : (e : NodeEvent Msg) → h.event n i ≡ e → back_of k.course n ≡ Some (beat h n i)
+      by (Does x) is = let z : true ≡ false = sym t ∙ ap is_return is in absurd (cc)
+      by (Ends x sends) is = let z : true ≡ false = sym t ∙ ap is_return is in absurd (cc)
+      by (Dies stamp) is = let z : true ≡ false = sym t ∙ ap is_return is in absurd (cc)
+      by (Returns stamp) is =
+          let now : Lifetime = (past noted any_step h n i).life in
+          sym (ap (λ (l : Lifetime). l.back) (life_is n within))
+          ∙ sym (along noted any_step (length given) k.course.beats h complete n within i).back
+          ∙ returns_by now.death now.left now.back now.over stamp.beat (complete.returning n i stamp within low is)
+          ∙ ap (λ (e : NodeEvent Msg). Some (stamp_at e).beat) (sym is)
 
   pub deaths : DieAlone p h
   unfolding cub_of
@@ -145,19 +164,19 @@ module _ (G : Type 0) (s : Scenario) (library : List (List ℕ)) (k : Kept) (sce
 
   pub is_ring : IsRing p k.orders (disks_of k library) h
   is_ring = record {
-    run = subst (λ n. IsOneLifeRun noted any_step p n h) size lived;
+    run = subst (λ n. IsRun noted any_step p n h) size lived;
     opens = opens;
     deaths = deaths;
     counted = orders_counted;
     short = λ n i inside low.
         let within : n < length given = omega (arith, size, inside) in
-        read_low k.course (beat h n i) (reading h n i) course (run.steps.kept.lived.complete.early n i within low) (run.steps.kept.lived.run.reads n i within low).1;
+        read_low k.course (beat h n i) (reading h n i) course (complete.early n i within low) (lived.reads n i within low).1;
   }
 
   pub up_to : IsUpTo p k.course.beats h
   up_to = record {
-    until = λ n inside alive.
-        let all = ticked n (omega (arith, size, inside)) alive in
+    until = λ n inside up.
+        let all = complete.until_end n (omega (arith, size, inside)) up in
         omega (arith, all);
   }
 

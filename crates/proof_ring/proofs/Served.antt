@@ -16,9 +16,9 @@ use Rattle.proof_moments.proofs.Failures.{failures_are_true}
 use Rattle.proof_moments.proofs.Served.{are_served}
 use Rattle.proof_moments.proofs.Turns.{are_in_turn}
 use Rattle.proof_moments.proofs.Visits.{in_time, served_once}
-use Rattle.proof_facts.specs.Facts.{facts_of}
+use Rattle.proof_facts.specs.Facts.{facts_of, pieces_of, blocks_of}
 use Rattle.proof_facts.specs.Rings.{IsRingHistory, IsUpTo}
-use Rattle.proof_ring.specs.Histories.{pieces_of, blocks_of, IsFiledHistory}
+use Rattle.proof_ring.specs.Histories.{IsFiledHistory}
 use Rattle.proof_ring.proofs.Histories.{histories_are_rightly_read, histories_serve_their_blocks}
 use Rattle.proof_parcels.proofs.Tied.{parcels_are_tied}
 use Rattle.proof_ring.specs.ClaimsOfRings.{IsStoredRing, RingsAreNeverWronglyServed, RingsAreRightlyServed}
@@ -36,7 +36,7 @@ module _ (G : Type 0) (p : Params) (catalogue : Catalogue) (faults : List ReadFa
   filed = record { ring = ring; files = k.files; images = k.images }
 
   -- All that is known of its blocks and pieces, up to a beat to which the history goes.
-  pub parcels : (end : ℕ) → IsUpTo p end h → AreParcelsRecorded p evidence (facts_of p orders h) (pieces_of p h) (blocks_of p disk_at h) end
+  pub parcels : (end : ℕ) → IsUpTo p end h → AreParcelsRecorded p evidence (facts_of p orders h) (pieces_of p h) (blocks_of p h disk_at) end
   parcels end up =
       let read = histories_are_rightly_read (AnyNode G) any_step p catalogue orders disk_at h k.plan filed in
       record {
@@ -58,7 +58,7 @@ rings_are_never_wrongly_served G p catalogue faults orders disk_at h journals be
     let a : Evidence = evidence G p catalogue faults orders disk_at h journals k in
     let r = facts_of p orders h in
     let q = pieces_of p h in
-    let w = blocks_of p disk_at h in
+    let w = blocks_of p h disk_at in
     let all = parcels G p catalogue faults orders disk_at h journals k 0 (from_the_start G p catalogue faults orders disk_at h journals k) in
     record {
       return = nobody_comes_back p r orders journals beats all.schedule (in_time p a r q w 0 all);
@@ -70,5 +70,5 @@ rings_are_never_wrongly_served G p catalogue faults orders disk_at h journals be
 pub rings_are_rightly_served : (G : Type 0) → RingsAreRightlyServed G
 rings_are_rightly_served G p catalogue faults orders disk_at h journals end beats k up low =
     let a : Evidence = evidence G p catalogue faults orders disk_at h journals k in
-    are_served p a (facts_of p orders h) (pieces_of p h) (blocks_of p disk_at h) end
+    are_served p a (facts_of p orders h) (pieces_of p h) (blocks_of p h disk_at) end
     (parcels G p catalogue faults orders disk_at h journals k end up) beats low

@@ -1,34 +1,41 @@
--- In a kept run a cub ticks in each beat that it ends, and reads what its course says.
-use Rattle.std.proofs.Common.{◌≡◌, ℕ, zero, suc, ◌+◌, ◌<◌, ◌≤◌, List, length, Bool, Option, Some, None, true, false, sym, ap, subst, ◌∙◌, arith, ⊎_elim, inl, inr, eq-or-lt_of_le}
-use Rattle.std.specs.Prelude.{◌⊎◌}
-use Rattle.std.proofs.lemmas.Bool.{cases_Bool}
+-- In a kept run a cub ticks in each beat that it ends, in its first life or behind its return, and reads what its course says.
+use Rattle.std.proofs.Common.{◌≡◌, ℕ, ◌+◌, ◌<◌, ◌≤◌, List, length, Option, Some, None, true, false, refl, sym, ap, subst, ◌∙◌, arith, ⊎_elim, inl, inr, eq-or-lt_of_le}
+use Rattle.std.specs.Prelude.{◌⊎◌, nat_le}
+use Rattle.std.proofs.lemmas.Bool.{cases_Bool, cases_lt, leb-true}
 use Rattle.tiger_base.specs.declared.message.Msg.{Msg}
+use Rattle.tiger_base.specs.Notes.{noted}
 use Rattle.slot_plan.specs.declared.params.Params.{Params}
 use Rattle.node_kit.specs.declared.course.Kept.{Kept}
 use Rattle.node_kit.specs.Courses.{reading_of}
-use Rattle.node_kit.specs.Life.{Lifetime, lifetime_of}
-use Rattle.run_facts.specs.Events.{is_tick, is_death, is_return, stamp_at}
-use Rattle.run_facts.specs.Histories.{History, beat, reading, ticks}
-use Rattle.run_facts.proofs.Counts.{count-numbered}
+use Rattle.node_kit.specs.Life.{Lifetime, acts, back_of, cut_of, death_of, lifetime_of}
+use Rattle.node_kit.specs.Steps.{Input, stamp_of}
+use Rattle.node_kit.specs.Steps.Input.{Take, Tick}
+use Rattle.run_facts.specs.Events.{NodeEvent, is_death, is_return, is_tick, stamp_at}
+use Rattle.run_facts.specs.Events.NodeEvent.{Does, Ends, Dies, Returns}
+use Rattle.run_facts.specs.Histories.{History, IsUp, beat, open_beat, past}
+use Rattle.run_facts.proofs.Fronts.{lived as mortal}
+use Rattle.run_lives.proofs.Deaths.{along}
+use Rattle.run_model.specs.Runs.{EndsBeat}
+use Rattle.run_model.proofs.Ticking.{ends_below}
 use Rattle.scenario_read.specs.declared.scenario.Scenario.{Scenario}
 use Rattle.scenario_read.specs.Sound.{IsScenario}
 use Rattle.ring_nodes.specs.declared.nodes.AnyNode.{AnyNode}
+use Rattle.ring_nodes.specs.AllNodes.{any_step}
+use Rattle.proof_schedule.specs.Facts.{DiedBy, Ended, LivedTo}
 use Rattle.proof_lives.specs.Facts.{TickedAt}
-use Rattle.proof_facts.specs.Lives.{lives_of}
-use Rattle.proof_facts.specs.Rings.{node_count}
-use Rattle.proof_lives.proofs.Acting.{alive_acts, alive_whole, cut_same}
-use Rattle.run_model.specs.Runs.{EndsBeat}
-use Rattle.run_model.proofs.Ticking.{ends_below}
-use Rattle.proof_ring.specs.Runs.{AreShort}
-use Rattle.proof_ring.proofs.Runs.{HasRing, death_is, lived, size, ticked, returnless}
-use Rattle.std.proofs.Common.{◌≡◌, ℕ, true, refl, ap, ◌∙◌}
-use Rattle.tiger_base.specs.declared.number.Stamp.{Stamp}
-use Rattle.node_kit.specs.Steps.{Input}
-use Rattle.node_kit.specs.Steps.Input.{Take, Tick}
-use Rattle.run_facts.specs.Events.{NodeEvent, is_tick, stamp_at}
-use Rattle.run_facts.specs.Events.NodeEvent.{Does, Ends, Dies, Returns}
-use Rattle.run_facts.specs.Histories.{beat, reading}
-use Rattle.proof_lives.specs.Histories.{input_of}
+use Rattle.proof_lives.specs.Histories.{first_events, input_of, later_from, later_lives_of}
+use Rattle.proof_lives.specs.TwoLifeRun.{WhichLife, event_in, life_in}
+use Rattle.proof_lives.specs.TwoLifeRun.WhichLife.{First, Later}
+use Rattle.proof_lives.proofs.Returns.{open_back}
+use Rattle.proof_lives.proofs.TwoLives.{beat_in, reading_in, within_run}
+use Rattle.proof_facts.specs.Facts.{facts_of}
+use Rattle.proof_facts.specs.Rings.{IsRingHistory, node_count}
+use Rattle.proof_links.proofs.Nodes.{began_late}
+use Rattle.proof_links.proofs.Running as running
+use Rattle.proof_links.proofs.Staying.{stays}
+use Rattle.proof_ring.specs.Runs.{AreShort, disks_of}
+use Rattle.proof_ring.proofs.CubLives.{rings_are_histories}
+use Rattle.proof_ring.proofs.Runs.{HasRing, back_is, complete, death_is, given, is_ring, life_is, size, up_to}
 
 pub tick_made : (e : NodeEvent Msg) → is_tick e ≡ true → input_of e ≡ Tick (stamp_at e)
 tick_made (Does (Take stamp link m)) t = absurd (cc)
@@ -38,37 +45,24 @@ tick_made (Ends (Tick stamp) sends) t = refl
 tick_made (Dies stamp) t = absurd (cc)
 tick_made (Returns stamp) t = absurd (cc)
 
--- a tick at a stamp, by the stamp's beat and its reading
-abbrev pub tick : Stamp → Input Msg
-tick s = Tick s
+-- A cub ends a beat if it does not die, or dies in a later one, or returned in that or an earlier one.
+abbrev EndsAs : Option ℕ → Option ℕ → ℕ → Type 0
+EndsAs death back b =
+    (death ≡ None) ⊎ (((d : ℕ) × (death ≡ Some d) × (b < d)) ⊎ ((w : ℕ) × (back ≡ Some w) × (w ≤ b)))
 
-pub stamped : (s : Stamp) (b l : ℕ) → s.beat ≡ b → s.reading ≡ l → tick s ≡ tick (record { beat = b; reading = l })
-stamped s b l e f =
-    ap (λ (x : ℕ). tick (record { beat = x; reading = s.reading })) e ∙ ap (λ (x : ℕ). tick (record { beat = b; reading = x })) f
+acts_alone : (d : ℕ) (left : Option ℕ) (w b : ℕ) → nat_le w b ≡ false
+    → acts (mortal (Some d) left (Some w)) b ≡ acts (mortal (Some d) left None) b
+unfolding acts
+acts_alone d left w b late = rw late refl
 
--- A cub of a course that does not return ends no beat from that of its death on.
-death_above : (life : Lifetime) (d b : ℕ) → life.back ≡ None → life.over ≡ false → life.death ≡ Some d → EndsBeat life b → b < d
-death_above life d b none whole e ends =
-    let same : life ≡ record { death = Some d; left = life.left; back = None; over = false } =
-    ap (λ (x : Option ℕ). record { death = x; left = life.left; back = life.back; over = life.over }) e
-    ∙ ap (λ (x : Option ℕ). record { death = Some d; left = life.left; back = x; over = life.over }) none
-    ∙ ap (λ (x : Bool). record { death = Some d; left = life.left; back = None; over = x }) whole in
-    ends_below d life.left b (subst (λ (l : Lifetime). EndsBeat l b) same ends)
-
--- None of the first events of a node is a death, or one is.
-dies_or_not : {S : Type 0} (h : History Msg S) (n top : ℕ)
-    → ((i : ℕ) → i < top → is_death (h.event n i) ≡ false) ⊎ ((i : ℕ) × (i < top) × (is_death (h.event n i) ≡ true))
-dies_or_not h n zero = inl (λ i low. absurd (omega arith))
-dies_or_not h n (suc top) = ⊎_elim
-    (λ (none : (i : ℕ) → i < top → is_death (h.event n i) ≡ false). ⊎_elim
-    (λ (t : is_death (h.event n top) ≡ true). inr (top, omega arith, t))
-    (λ (f : is_death (h.event n top) ≡ false). inl (λ i low. ⊎_elim
-    (λ (e : i ≡ top). ap (λ j. is_death (h.event n j)) e ∙ f)
-    (λ (less : i < top). none i less)
-    (eq-or-lt_of_le (let z : i ≤ top = omega arith in z))))
-    (cases_Bool (is_death (h.event n top))))
-    (λ (one : (i : ℕ) × (i < top) × (is_death (h.event n i) ≡ true)). let low = one.1 in inr (one.0, omega arith, one.2))
-    (dies_or_not h n top)
+ends_as : (death left back : Option ℕ) (b : ℕ) → EndsBeat (mortal death left back) b → EndsAs death back b
+ends_as None left back b ends = inl refl
+ends_as (Some d) left None b ends = inr (inl (d, refl, ends_below d left b ends))
+ends_as (Some d) left (Some w) b ends = ⊎_elim
+    (λ (t : nat_le w b ≡ true). inr (inr (w, refl, leb-true w b t)))
+    (λ (f : nat_le w b ≡ false).
+    inr (inl (d, refl, ends_below d left b (sym (acts_alone d left w b f) ∙ ends.0, ends.1))))
+    (cases_Bool (nat_le w b))
 
 module _ (G : Type 0) (s : Scenario) (library : List (List ℕ)) (k : Kept) (scenario : IsScenario s) (short : AreShort library) (run : HasRing G s library k) where
   abbrev pub p : Params
@@ -77,63 +71,108 @@ module _ (G : Type 0) (s : Scenario) (library : List (List ℕ)) (k : Kept) (sce
   abbrev pub h : History Msg (AnyNode G)
   h = run.steps.kept.lived.history
 
-  -- The number of a tick that ended a beat: that of an event behind which more comes, or of one of a cub that lives on.
-  record TickOf (c b : ℕ) : Type 0 where
-    at : ℕ
-    before : at < h.count c
-    passes : is_tick (h.event c at) ≡ true
-    number : ticks h c at ≡ b
-    lives : is_death (h.event c at) ≡ false
+  pub ring : IsRingHistory any_step p k.orders (disks_of k library) h
+  ring =
+      rings_are_histories G p k.orders (disks_of k library) h k.course.plan.sound (is_ring G s library k scenario short run)
 
-  -- A cub has one for each beat that it ends.
-  ticks_there : (c b : ℕ) → c < p.cubs → b < k.course.beats → EndsBeat (lifetime_of k.course c) b → TickOf c b
-  ticks_there c b small early ends =
-      let inside : c < node_count p = omega (arith, small) in
-      let within : c < length _ = subst (λ n. c < n) (sym (size G s library k scenario short run)) inside in
-      let run_is = lived G s library k scenario short run in
-      ⊎_elim
-      (λ (on : (i : ℕ) → i < h.count c → is_death (h.event c i) ≡ false).
-      let all : ticks h c (h.count c) ≡ k.course.beats = ticked G s library k scenario short run c within on in
-      let q = count-numbered is_tick h c (h.count c) b (omega (arith, early, all)) in
-      record { at = q.at; before = q.before; passes = q.passes; number = q.number; lives = on q.at q.before })
-      (λ (dead : (i : ℕ) × (i < h.count c) × (is_death (h.event c i) ≡ true)).
-      let i = dead.0 in
-      let death = death_is G s library k scenario short run c i inside dead.1 dead.2 in
-      let then : beat h c i ≡ ticks h c i = run_is.in_beat c i within dead.1 in
-      let below = death_above (lifetime_of k.course c) (beat h c i) b (returnless G s library k scenario short run c) refl death ends in
-      let q = count-numbered is_tick h c i b (omega (arith, below, then)) in
-      let less = q.before in
-      record {
-        at = q.at;
-        before = omega (arith, less, dead.1);
-        passes = q.passes;
-        number = q.number;
-        lives = ⊎_elim
-            (λ (t : is_death (h.event c q.at) ≡ true).
-            let last = run_is.ended c q.at within (omega (arith, less, dead.1)) t in
-            let more = dead.1 in absurd (omega (arith, last, less, more)))
-            (λ (f : is_death (h.event c q.at) ≡ false). f)
-            (cases_Bool (is_death (h.event c q.at)));
-      })
-      (dies_or_not h c (h.count c))
+  module _ (c : ℕ) (small : c < p.cubs) where
+    inside : c < node_count p
+    inside = omega arith
 
-  pub acts_ticks : (c b : ℕ) → c < p.cubs → b < k.course.beats → EndsBeat (lifetime_of k.course c) b
-      → TickedAt p (lives_of h) c b (reading_of k.course c b)
-  acts_ticks c b small early ends =
-      let inside : c < node_count p = omega (arith, small) in
-      let within : c < length _ = subst (λ n. c < n) (sym (size G s library k scenario short run)) inside in
-      let run_is = lived G s library k scenario short run in
-      let here : (j : ℕ) → j < h.count c → is_return (h.event c j) ≡ false = λ j l. run_is.here c j within l in
-      let ended : (j : ℕ) → j < h.count c → is_death (h.event c j) ≡ true → j + 1 ≡ h.count c = λ j l d. run_is.ended c j within l d in
-      let q = ticks_there c b small early ends in
-      let low = q.before in
-      let then : beat h c q.at ≡ b = run_is.in_beat c q.at within low ∙ q.number in
-      let shows : reading h c q.at ≡ reading_of k.course c b = run.steps.kept.keeps.stamped c q.at within low ∙ ap (reading_of k.course c) then in
-      let done = alive_acts h c here ended q.at low q.lives in
-      record {
-        small = small;
-        at = q.at;
-        done = done;
-        is = tick_made (h.event c q.at) q.passes ∙ stamped (stamp_at (h.event c q.at)) b (reading_of k.course c b) then shows;
-        whole = cut_same h c here ended q.at done ∙ alive_whole (h.event c q.at) q.lives;
-      }
+    within : c < length (given G s library k scenario short run)
+    within = subst (λ n. c < n) (sym (size G s library k scenario short run)) inside
+
+    -- What it reads at a tick is what its course says.
+    reads : (w : WhichLife) {b l : ℕ} → TickedAt p (life_in h w) c b l → l ≡ reading_of k.course c b
+    reads w {b} {l} t =
+        let e : ℕ = event_in h w c t.at in
+        let done = within_run ring.run c inside w t.at t.done in
+        let when : beat h c e ≡ b = beat_in h w c t.at ∙ ap (λ (i : Input Msg). (stamp_of i).beat) t.is in
+        sym (ap (λ (i : Input Msg). (stamp_of i).reading) t.is) ∙ sym (reading_in h w c t.at)
+        ∙ run.steps.kept.keeps.stamped c e within done ∙ ap (reading_of k.course c) when
+
+    ticks_so : {b l : ℕ} → (facts_of p k.orders h).Ticked c b l → (facts_of p k.orders h).Ticked c b (reading_of k.course c b)
+    ticks_so {b} {l} t =
+        let is : l ≡ reading_of k.course c b = ⊎_elim (λ q. reads First q) (λ q. reads Later q) t in
+        subst (λ n. (facts_of p k.orders h).Ticked c b n) is t
+
+    -- One that died in its event of number i, and whose return is in the run, has returned, and has come to a tick since.
+    module _ (i w b : ℕ) (low : i < h.count c) (dies : is_death (h.event c i) ≡ true) (back : back_of k.course c ≡ Some w)
+        (by : w ≤ b) (early : b < k.course.beats) where
+      not_last : i + 1 ≡ h.count c → ⊥
+      not_last last =
+          let all = complete G s library k scenario short run in
+          let life : (past noted any_step h c i).life.back ≡ Some w =
+          (along noted any_step (length (given G s library k scenario short run)) k.course.beats h all c within i).back
+          ∙ ap (λ (x : Lifetime). x.back) (life_is G s library k scenario short run c within) ∙ back in
+          let late = all.comes_back c i w within last dies life in
+          omega arith
+
+      returns : is_return (h.event c (i + 1)) ≡ true
+      returns = ⊎_elim (λ last. absurd (not_last last)) (λ t. t) (ring.run.ended c i inside low dies)
+
+      more : i + 1 < h.count c
+      more = ⊎_elim (λ last. absurd (not_last last)) (λ less. less) (eq-or-lt_of_le (let z : i + 1 ≤ h.count c = omega arith in z))
+
+      first : i + 1 ≡ first_events h c
+      first =
+          running.death_is k.course.plan.sound ring
+          (record { small = small; at = i; done = low; death = dies; in_beat = refl })
+
+      is_up : IsUp h c
+      is_up j below death =
+          let same = ring.run.once c j i inside below low death dies in
+          let m = more in
+          omega arith
+
+      back_then : w ≡ beat h c (first_events h c)
+      back_then =
+          let there = back_is G s library k scenario short run c (i + 1) within more returns in
+          let one : Some w ≡ Some (beat h c (i + 1)) = sym back ∙ there in
+          let same : w ≡ beat h c (i + 1) = cc in
+          same ∙ ap (beat h c) first
+
+      behind_it : 0 < (later_lives_of h).count c
+      behind_it =
+          let m = more in
+          let f = first in
+          let is = back_then in
+          ⊎_elim
+          (λ (some : later_from h c < h.count c). omega arith)
+          (λ (none : h.count c ≤ later_from h c).
+          let all : h.count c ≡ later_from h c = omega arith in
+          let ends = (complete G s library k scenario short run).until_end c within is_up in
+          let opened = open_back ring.run c inside (omega arith) in
+          let same : open_beat h c (h.count c) ≡ open_beat h c (later_from h c) = ap (open_beat h c) all in
+          absurd (omega arith))
+          (cases_lt (later_from h c) (h.count c))
+
+      ended_since : Ended (facts_of p k.orders h) c b
+      ended_since =
+          let is = back_then in
+          stays k.course.plan.sound ring (up_to G s library k scenario short run)
+          (began_late k.course.plan.sound ring c small behind_it) (omega arith) early
+
+    pub acts_ticks : (b : ℕ) → b < k.course.beats → EndsBeat (lifetime_of k.course c) b
+        → (facts_of p k.orders h).Ticked c b (reading_of k.course c b)
+    acts_ticks b early ends = ⊎_elim
+        (λ (l : LivedTo (facts_of p k.orders h) c b). ticks_so l.ticked)
+        (λ (d : DiedBy (facts_of p k.orders h) c b).
+        let dead = d.died in
+        let by = d.by in
+        let when = dead.in_beat in
+        let death = death_is G s library k scenario short run c dead.at inside dead.done dead.death in
+        ⊎_elim
+        (λ (none : death_of k.course c ≡ None).
+        let z : None ≡ Some (beat h c dead.at) = sym none ∙ death in absurd (cc))
+        (λ more. ⊎_elim
+        (λ (q : (d : ℕ) × (death_of k.course c ≡ Some d) × (b < d)).
+        let one : Some q.0 ≡ Some (beat h c dead.at) = sym q.1 ∙ death in
+        let same : q.0 ≡ beat h c dead.at = cc in
+        let less = q.2 in
+        absurd (omega arith))
+        (λ (q : (w : ℕ) × (back_of k.course c ≡ Some w) × (w ≤ b)).
+        ticks_so (ended_since dead.at q.0 b dead.done dead.death q.1 q.2 early).ticked)
+        more)
+        (ends_as (death_of k.course c) (cut_of k.course c) (back_of k.course c) b ends))
+        (running.ends k.course.plan.sound ring (up_to G s library k scenario short run) early small)

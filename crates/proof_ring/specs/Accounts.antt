@@ -42,7 +42,7 @@ account_in p catalogue faults orders h journals beats commands clock = record {
   clock = clock;
 }
 
--- The account of every history of a ring, up to a beat below which each node has ended all beats, or died, meets all claims.
+-- The account of every history of a ring, up to a beat below which each node that is up has ended all beats, meets all claims.
 abbrev pub RingsMeetTheClaims : (G : Type 0) → Type 0
 RingsMeetTheClaims G =
     (p : Params) (catalogue : Catalogue) (faults : List ReadFault) (orders : List Order)

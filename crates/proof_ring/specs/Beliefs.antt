@@ -37,9 +37,10 @@ abbrev pub SendsHeartbeat : What → Type 0
 SendsHeartbeat (what.Sent link note.Heartbeat) = Unit {0}
 SendsHeartbeat other = ⊥
 
--- In a log a cub sends no heartbeat from this beat on.
-abbrev pub IsSilentFrom : List Noted → ℕ → ℕ → Type 0
-IsSilentFrom log cub quiet = AllByRecursion (λ x. x.node ≡ cub → SendsHeartbeat x.entry.what → beat_of x < quiet) log
+-- In a log a cub sends no heartbeat from one beat on and before another.
+abbrev pub IsSilentFrom : List Noted → ℕ → ℕ → ℕ → Type 0
+IsSilentFrom log cub quiet until =
+    AllByRecursion (λ x. x.node ≡ cub → SendsHeartbeat x.entry.what → beat_of x < until → beat_of x < quiet) log
 
 -- That a cub is silent from one beat on is noticed at a tick of another one. Its last heartbeat left in the beat before,
 -- or earlier; it takes the longest way at most, is heard at a reading ahead by at most the skew, and is good for the
@@ -47,12 +48,12 @@ IsSilentFrom log cub quiet = AllByRecursion (λ x. x.node ≡ cub → SendsHeart
 abbrev pub IsNoticed : Params → ℕ → ℕ → Type 0
 IsNoticed p quiet beat = time_of p quiet + longest_way p + p.skew + p.deadman < time_of p beat + p.beat
 
--- If an entry says that a cub died, and the next cub ticks when the silence is noticed, then it says that it believes the
--- cub dead, in the beat of the tick or before. A cub that dies apart from an event is silent from the beat of its death on,
--- and any other from the beat behind it.
+-- If an entry says that a cub died, and the next cub ticks when its silence until then is noticed, then it says that it
+-- believes the cub dead, in the beat of the tick or before. A cub that dies apart from an event is silent from the beat of
+-- its death on, and any other from the beat behind it; one that returns is so until then.
 abbrev pub IsBelievedInTime : Params → (ℕ → ℕ → ℕ → Type 0) → List Noted → ℕ → What → Type 0
 IsBelievedInTime p ticked log cub what.Died =
-    (quiet beat reading : ℕ) → cub < p.cubs → IsSilentFrom log cub quiet → ticked (cub_of p (cub + 1)) beat reading
+    (quiet beat reading : ℕ) → cub < p.cubs → IsSilentFrom log cub quiet beat → ticked (cub_of p (cub + 1)) beat reading
     → IsNoticed p quiet beat → BelievesBy log (cub_of p (cub + 1)) cub beat
 IsBelievedInTime p ticked log cub other = Unit {0}
 

@@ -1,4 +1,4 @@
--- What is claimed of every history of a ring in which cubs may die: one schedule, and viewers rightly served.
+-- What is claimed of every history of a ring in which cubs may die and return: one schedule, and viewers rightly served.
 use Rattle.std.specs.Prelude.{ℕ, ◌+◌, ◌≤◌, List}
 use Rattle.tiger_base.specs.declared.message.Msg.{Msg}
 use Rattle.slot_plan.specs.declared.params.Params.{Params}
@@ -85,7 +85,7 @@ RingsAreNeverWronglyServed G =
     → IsNeverWronglyServed p faults (order_of beats journals)
 
 -- And each settled block of each viewer that was put came or is excused, and nothing else came, if
--- each node has ended each beat below the end, or died.
+-- each node that is up has ended each beat below the end.
 abbrev pub RingsAreRightlyServed : (G : Type 0) → Type 0
 RingsAreRightlyServed G =
     (p : Params) (catalogue : Catalogue) (faults : List ReadFault) (orders : List Order)

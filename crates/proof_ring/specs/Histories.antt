@@ -1,4 +1,4 @@
--- What holds of every history of a ring in which cubs may die: one schedule, right pieces, served blocks, true reads.
+-- What holds of every history of a ring in which cubs may die and return: one schedule, right pieces, served blocks, true reads.
 use Rattle.std.specs.Prelude.{ℕ, List}
 use Rattle.tiger_base.specs.declared.message.Msg.{Msg}
 use Rattle.slot_plan.specs.declared.params.Params.{Params}
@@ -10,26 +10,14 @@ use Rattle.run_facts.specs.Histories.{History}
 use Rattle.disk_core.specs.State.{DiskState}
 use Rattle.proof_schedule.specs.Laws.{Laws}
 use Rattle.proof_schedule.specs.Schedule.{IsOneSchedule}
-use Rattle.proof_pieces.specs.PieceFacts.{PieceFacts}
 use Rattle.proof_pieces.specs.PieceLaws.{PieceLaws}
 use Rattle.proof_pieces.specs.Pieces.{ArePiecesRight}
-use Rattle.proof_service.specs.ServiceFacts.{ServiceFacts}
 use Rattle.proof_service.specs.ServiceLaws.{ServiceLaws}
 use Rattle.proof_service.specs.Blocks.{AreBlocksServed}
 use Rattle.proof_service.specs.Disks.{DiskLaws, AreReadsTrue}
 use Rattle.proof_service.specs.Files.{AreStored}
-use Rattle.proof_facts.specs.Lives.{lives_of}
-use Rattle.proof_facts.specs.Facts.{facts_of}
-use Rattle.proof_facts.specs.Pieces.{pieces_by}
-use Rattle.proof_facts.specs.Blocks.{blocks_by}
+use Rattle.proof_facts.specs.Facts.{blocks_of, facts_of, pieces_of}
 use Rattle.proof_facts.specs.Rings.{IsRingHistory, IsUpTo, AreOfCatalogue, HaveImages}
-
--- The facts about pieces of a history, and those about blocks over its disks.
-abbrev pub pieces_of : {S : Type 0} → Params → History Msg S → PieceFacts
-pieces_of p h = pieces_by p (lives_of h)
-
-abbrev pub blocks_of : {S : Type 0} → Params → (ℕ → DiskState) → History Msg S → ServiceFacts
-blocks_of p disk_at h = blocks_by p (lives_of h) disk_at
 
 -- A ring's history over a catalogue: its orders are for whole files of it, and its disks have its
 -- images.
@@ -47,8 +35,8 @@ pub record MeetsLaws {S : Type 0} (p : Params) (catalogue : Catalogue) (orders :
   pub schedule : Laws p (facts_of p orders h)
   pub pieces : PieceLaws p (facts_of p orders h) (pieces_of p h)
   pub blocks : (end : ℕ) → IsUpTo p end h
-      → ServiceLaws p (facts_of p orders h) (pieces_of p h) (blocks_of p disk_at h) end
-  pub disks : DiskLaws p catalogue (facts_of p orders h) (pieces_of p h) (blocks_of p disk_at h)
+      → ServiceLaws p (facts_of p orders h) (pieces_of p h) (blocks_of p h disk_at) end
+  pub disks : DiskLaws p catalogue (facts_of p orders h) (pieces_of p h) (blocks_of p h disk_at)
 
 abbrev pub HistoriesMeetTheLaws : (S : Type 0) → Type 0
 HistoriesMeetTheLaws S =
@@ -69,7 +57,7 @@ pub record IsRightlyRead {S : Type 0} (p : Params) (catalogue : Catalogue) (orde
     (disk_at : ℕ → DiskState) (h : History Msg S) : Type 0 where
   pub pieces : ArePiecesRight p (facts_of p orders h) (pieces_of p h)
   pub stored : AreStored p catalogue (facts_of p orders h)
-  pub reads : AreReadsTrue p catalogue (blocks_of p disk_at h)
+  pub reads : AreReadsTrue p catalogue (blocks_of p h disk_at)
 
 abbrev pub HistoriesAreRightlyRead : (S : Type 0) → Type 0
 HistoriesAreRightlyRead S =
@@ -79,10 +67,10 @@ HistoriesAreRightlyRead S =
     → IsRightlyRead p catalogue orders disk_at h
 
 -- And each settled block is served, or there is an excuse, up to a beat that every node has come to
--- or has not lived to see.
+-- that is up.
 abbrev pub HistoriesServeTheirBlocks : (S : Type 0) → Type 0
 HistoriesServeTheirBlocks S =
     (step : S → Input Msg → Deed Msg S) (p : Params) (catalogue : Catalogue) (orders : List Order)
     (disk_at : ℕ → DiskState) (h : History Msg S) (end : ℕ)
     → IsPlan p → IsFiledHistory step p catalogue orders disk_at h → IsUpTo p end h
-    → AreBlocksServed p (facts_of p orders h) (pieces_of p h) (blocks_of p disk_at h) end
+    → AreBlocksServed p (facts_of p orders h) (pieces_of p h) (blocks_of p h disk_at) end

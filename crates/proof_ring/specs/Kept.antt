@@ -9,8 +9,8 @@ use Rattle.ring_facts.specs.Rings.{IsRingRun}
 use Rattle.proof_ring.specs.Runs.{AreShort}
 use Rattle.proof_ring.specs.Beliefs.{BelievesInTime}
 
--- Whatever a scenario starts, stops, lets die and fails to read, whatever its delays and clocks are:
--- what is kept of its run over its files meets all claims.
+-- Whatever a scenario starts, stops, lets die, lets return and fails to read, whatever its delays and
+-- clocks are: what is kept of its run over its files meets all claims.
 abbrev pub KeptRunsMeetTheClaims : (G : Type 0) → Type 0
 KeptRunsMeetTheClaims G =
     (s : Scenario) (library : List (List ℕ)) (k : Kept)

@@ -41,13 +41,13 @@ pub fn histories_serve_their_blocks<S>()
     ensures { HistoriesServeTheirBlocks S }
 {}
 
-/// At each moment of a ring's history, whatever is stopped and whichever cubs die, each Put finds its slot free, every view
-/// is part of the schedule, beliefs are true and nobody is passed over.
+/// At each moment of a ring's history, whatever is stopped and whichever cubs die and return, each Put finds its slot free,
+/// every view is part of the schedule, beliefs are true and nobody is passed over.
 pub fn rings_have_one_schedule<G>()
     ensures { RingsHaveOneSchedule G }
 {}
 
-/// In it nobody comes back, nobody is served twice or out of order, and a read fails only in a read fault.
+/// In it no stopped viewer comes back, nobody is served twice or out of order, and a read fails only in a read fault.
 pub fn rings_are_never_wrongly_served<G>()
     ensures { RingsAreNeverWronglyServed G }
 {}

@@ -22,7 +22,8 @@ pub fn clocks()
 
 /// Cub 0 dies in beat 30. If its last heartbeat left in beat 29, that is heard in beat 31 at the latest, at a reading up
 /// to 314000. It is good for a million micros, so cub 1 notices the silence at its tick of beat 132 at the latest. If a
-/// heartbeat left in the beat of the death, the silence is noticed a beat later.
+/// heartbeat left in the beat of the death, the silence is noticed a beat later. A heartbeat that it sends when it has come
+/// back, at that tick or behind it, does not excuse cub 1.
 #[tactic(auto)]
 pub fn beliefs_in_time()
     ensures in_time { BeliefsAreInTime small (HasTick (ticks 1 132 1320000 ∷ []))
@@ -42,4 +43,6 @@ pub fn beliefs_in_time()
         (sends 0 29 Heartbeat ∷ dies 0 30 ∷ []) → ⊥ }
     ensures noticed_later { BeliefsAreInTime small (HasTick (ticks 1 133 1330000 ∷ []))
         (sends 0 30 Heartbeat ∷ dies 0 30 ∷ []) → ⊥ }
+    ensures beats_again { BeliefsAreInTime small (HasTick (ticks 1 132 1320000 ∷ []))
+        (dies 0 30 ∷ sends 0 132 Heartbeat ∷ []) → ⊥ }
 {}

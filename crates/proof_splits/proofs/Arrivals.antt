@@ -14,7 +14,7 @@ use Rattle.tiger_base.specs.declared.message.Msg.{Msg}
 use Rattle.tiger_base.specs.declared.message.Msg.TheVariants as msg
 use Rattle.slot_plan.specs.declared.params.Params.{Params}
 use Rattle.slot_plan.specs.Conditions.{IsPlan}
-use Rattle.slot_plan.specs.Times.{cub_of}
+use Rattle.slot_plan.specs.Times.{time_of, cub_of}
 use Rattle.slot_plan.proofs.Times.{cub_below, same_cub}
 use Rattle.deschedule.specs.Holds.{is_held}
 use Rattle.mirror_schedule.specs.Pieces.{is_in, leaving_of}
@@ -37,7 +37,7 @@ use Rattle.cub_changes.proofs.Causing.{have_causes}
 use Rattle.proof_lives.specs.Lives.{Lives, AreLives, cut_in, store_at, deed_of, beat_at}
 use Rattle.run_facts.specs.Events.{is_tick_input}
 use Rattle.lists.specs.Elements.{In}
-use Rattle.proof_lives.specs.Facts.{TickAt, DidAt, ReachedAt}
+use Rattle.proof_lives.specs.Facts.{TickAt, ReachedAt}
 use Rattle.proof_lives.proofs.Carrying.{steps_made}
 use Rattle.proof_lives.proofs.Cuts.{was_put_out, whole_before}
 use Rattle.proof_lives.proofs.Keeping.{held_stopped}
@@ -47,21 +47,24 @@ use Rattle.proof_lives.proofs.Inputs.{message_before}
 use Rattle.proof_lives.specs.HoldsHere.{AreAllFormed}
 use Rattle.proof_lives.proofs.HoldLaws.{reached_at}
 use Rattle.proof_lives.proofs.Begun.{IsStop}
-use Rattle.proof_schedule.specs.Facts.{ReachedBy}
-use Rattle.proof_pieces.specs.PieceFacts.{Arises, Uses}
+use Rattle.proof_schedule.specs.Facts.{ReachedBy, IsSameLife, enters_from}
+use Rattle.proof_pieces.specs.PieceFacts.{PieceFacts, Arises, Uses, leave}
 use Rattle.proof_pieces.specs.PieceLaws.{IsMirror, WasMirrored, MirrorSince}
-use Rattle.proof_service.specs.ServiceFacts.{ArisesBy}
-use Rattle.proof_service.specs.ServiceLaws.{WasReached}
+use Rattle.proof_service.specs.ServiceFacts.{ArisesBy, LetsIn}
 use Rattle.proof_facts.specs.Blocks.{KilledAt}
-use Rattle.proof_facts.specs.Carried.{Leads, CubsAreTold, TookInOrder}
-use Rattle.proof_lives.specs.FactsBy.{Beyond, facts_by}
+use Rattle.proof_facts.specs.Carried.{Leads, CubsAreTold, TookInOrder, WasSentBy}
+use Rattle.proof_facts.specs.Laws.{KillBefore}
+use Rattle.proof_lives.specs.FactsBy.{Beyond, CameToTick, IsInOneLife, facts_by}
 use Rattle.proof_facts.specs.Pieces.{piece, stamp_of as made_stamp, MirrorSentAt, MirroredAt, KillSentAt, AsksAt, ServesAt, pieces_by}
-use Rattle.proof_lives.proofs.NoReturns.{same_life}
+use Rattle.cub_rules.specs.Comebacks.{lets_in}
+use Rattle.proof_lives.proofs.Fitting.{Fits}
+use Rattle.proof_lives.proofs.SameLife.{back_in_life, let_in_late, returned, same_life}
+use Rattle.proof_splits.proofs.Among.{IsKillSend, SendsAreKnown}
+use Rattle.proof_splits.proofs.Returning.{leave_is, lets_in_now, whole_first}
 use Rattle.proof_splits.specs.PieceRecords.{IsSplitOff, Enters, CutsOff, StandsSince, KeepsPieces}
 use Rattle.proof_splits.proofs.PieceSets.{there_is_in}
 use Rattle.proof_splits.proofs.Standing.{keeps_pieces}
 use Rattle.proof_splits.proofs.MirrorStates.{of_split, one_way}
-use Rattle.proof_lives.proofs.FirstLife.{lets_all_in}
 
 -- ---- the links between cubs
 
@@ -138,12 +141,9 @@ kill_stops p c (Tick stamp) h link v s n i =
     (all_in (HasCause p c (Tick stamp) h) (out.Send link (msg.Kill v s n)) (deed_of p c (Tick stamp) h).outs
     (have_causes p c (Tick stamp) h) i)
 
-module _ (p : Params) (plan : IsPlan p) (lives : Lives) (are : AreLives p lives) (formed : AreAllFormed p lives)
-    (beyond : Beyond)
-    (came : (c b l : ℕ) → TickAt p lives c b l → beyond.Came c b) (told : CubsAreTold p lives beyond.Came) where
-  life : (c : ℕ) → c < p.cubs → KeepsPieces p c (lives.count c) (lives.input c)
-  life c small = keeps_pieces p c plan.ranges.pieces.0 (lives.count c) (lives.input c) (formed c small)
+-- ---- of one life
 
+module _ (p : Params) (lives : Lives) (are : AreLives p lives) where
   -- a mirror state is of a split of its beat
   pub mirrors : {a k : ℕ} {t : Tenancy} {n j b : ℕ} → MirrorSentAt p lives a k t n j b
       → IsMirror p (pieces_by p lives) a k t n j b
@@ -154,43 +154,68 @@ module _ (p : Params) (plan : IsPlan p) (lives : Lives) (are : AreLives p lives)
       let steps = one_way p a k (j - 1) w.some (omega arith) s.way in
       record { split = s.split; piece = omega arith; some = w.some }
 
-  -- one that was got was sent
-  pub mirrored : {c : ℕ} {t : Tenancy} {n j y : ℕ} → MirroredAt p lives c t n j y
-      → WasMirrored p (pieces_by p lives) c t n j y
+  -- who sends a kill was reached by a deschedule in that beat
+  pub kill_reached : {a k v s n b : ℕ} → KillSentAt p lives a k v s n b → ReachedAt p lives a v b
+  kill_reached {a} {k} {v} {s} {n} {b} w =
+      let d = w.did in
+      let instance : Instance = record { 0 = v } in
+      let slot : SlotNo = record { 0 = s } in
+      let q = kill_stops p a (lives.input a d.at) (store_at p a (lives.input a) d.at) (way_ahead p a k) instance slot n
+      (was_put_out p lives a d.at (out.Send (way_ahead p a k) (msg.Kill instance slot n)) d.did) in
+      let stop : IsStop p a (lives.input a) d.at v =
+      record { stamp = q.stamp; link = q.link; instance = instance; tag = q.tag; is = q.is; same = refl } in
+      subst (λ (x : ℕ). ReachedAt p lives a v x) d.in_beat (reached_at p lives a d.at v d.small d.done stop)
+
+-- ---- between lives
+
+module _ (p : Params) (plan : IsPlan p) (lives : Lives) (are : AreLives p lives) (formed : AreAllFormed p lives)
+    (beyond : Beyond) (fits : Fits p lives beyond) (told : CubsAreTold p lives beyond)
+    (among : PieceFacts) (known : SendsAreKnown p beyond among) where
+  life : (c : ℕ) → c < p.cubs → KeepsPieces p c (lives.count c) (lives.input c)
+  life c small = keeps_pieces p c plan.ranges.pieces.0 (lives.count c) (lives.input c) (formed c small)
+
+  -- a mirror state that was got was sent
+  pub mirrored : {c : ℕ} {t : Tenancy} {n j y : ℕ} → MirroredAt p lives c t n j y → WasMirrored p among c t n j y
   mirrored {c} {t} {n} {j} {y} w =
       let a = told.mirrors c w.at (made_stamp y w.reading) w.link (piece t n j) w.small w.done w.is in
+      let x : PieceState = piece t n j in
       record {
         from = a.from;
         ahead = a.ahead;
         beat = a.sent.beat;
-        sent = record {
-          some = a.some;
-          did = subst
-              (λ (l : LinkNo). DidAt p lives a.from (out.Send l (msg.MirrorState (piece t n j))) a.sent.beat) a.way
-              a.sent.sent;
-        };
+        sent = known.mirror a.from a.ahead t n j a.sent.beat a.small a.some
+            (subst (λ (l : LinkNo). beyond.Sends a.from l (msg.MirrorState x) a.sent.beat) a.way a.sent.sent);
         to = a.to;
         later = a.sent.later;
         soon = a.sent.soon;
       }
 
-  -- who tells a cub to drop pieces was reached by a deschedule before
-  pub dropped : {c v n y : ℕ} → KilledAt p lives c v n y → WasReached (facts_by p lives beyond) v y
+  -- what enters after a return leaves late enough after it
+  pub late : {c : ℕ} {t : Tenancy} {n j y w : ℕ} → MirroredAt p lives c t n j y → beyond.Returned c w → w ≤ y
+      → enters_from p (time_of p w) ≤ leave p t n j
+  late {c} {t} {n} {j} {y} {w} m back le =
+      let s = known.mirror_sent (mirrored m).sent in
+      let number = s.number in
+      let eb : beat_at (lives.input c) m.at ≡ y = ap (λ (k : Input Msg). (stamp_of k).beat) m.is in
+      let enters = let_in_late p lives beyond are fits c m.at m.at (leaving_of p (piece t n j)) w m.small m.done m.lets back
+      (omega arith) in
+      let is = leave_is p t n j (omega arith) in
+      omega arith
+
+  -- who is told to drop pieces was told so by a kill
+  pub dropped : {c v n y : ℕ} → KilledAt p lives c v n y → KillBefore among v n y
   dropped {c} {v} {n} {y} w =
       let t = w.took in
       let a = told.kills c t.at (made_stamp y t.reading) t.link w.instance w.slot n t.small t.done t.is in
-      let d = a.sent.sent in
-      let s = kill_stops p a.from (lives.input a.from d.at)
-      (store_at p a.from (lives.input a.from) d.at) t.link w.instance w.slot n
-      (was_put_out p lives a.from d.at (out.Send t.link (msg.Kill w.instance w.slot n)) d.did) in
-      let stop : IsStop p a.from (lives.input a.from) d.at v =
-      record { stamp = s.stamp; link = s.link; instance = w.instance; tag = s.tag; is = s.is; same = w.same } in
+      let sends = subst (λ (l : LinkNo). beyond.Sends a.from l (msg.Kill w.instance w.slot n) a.sent.beat) a.way a.sent.sent in
       record {
-        cub = a.from;
+        from = a.from;
+        ahead = a.ahead;
+        slot = w.slot.0;
         beat = a.sent.beat;
-        reached = subst (λ (b : ℕ). ReachedAt p lives a.from v b) d.in_beat
-            (reached_at p lives a.from d.at v d.small d.done stop);
-        earlier = a.sent.later;
+        sent = subst (λ (u : ℕ). among.KillSent a.from a.ahead u w.slot.0 n a.sent.beat) w.same
+            (known.kill a.from a.ahead w.instance w.slot n a.sent.beat a.small a.some sends);
+        before = a.sent.later;
       }
 
   -- a piece record entered at a whole input as the facts say
@@ -226,33 +251,44 @@ module _ (p : Params) (plan : IsPlan p) (lives : Lives) (are : AreLives p lives)
     },
   ))
 
+  -- the beat of an input is of the life of a later tick, and so of each beat in between
+  life_until : (c i y b : ℕ) → c < p.cubs → i < lives.count c → y ≤ b → CameToTick p lives c b
+      → IsSameLife (facts_by p lives beyond) c (beat_at (lives.input c) i) y
+  life_until c i y b small low le up w back by =
+      let eb : beat_at (lives.input c) up.tick.at ≡ b = ap (λ (k : Input Msg). (stamp_of k).beat) up.tick.is in
+      same_life p lives beyond are fits c i up.tick.at small low up.tick.done w back (omega arith)
+
   -- a mirror state arrives, and its record enters then, or stands already, unless the instance is held there
-  pub mirror_arrives : {a k : ℕ} {t : Tenancy} {n j x : ℕ} (c b : ℕ) → MirrorSentAt p lives a k t n j x
+  pub mirror_arrives : {a k : ℕ} {t : Tenancy} {n j x : ℕ} (c b : ℕ) → among.MirrorSent a k t n j x
       → c ≡ cub_of p (a + k) → c ≡ cub_of p (n + j)
-      → beyond.Came c b → x + p.delay ≤ b
+      → CameToTick p lives c b → IsInOneLife beyond c x b → LetsIn p (facts_by p lives beyond) c (leave p t n j) b
+      → x + p.delay ≤ b
       → ArisesBy (facts_by p lives beyond) (pieces_by p lives) c t n j (x + p.delay)
       ⊎ ReachedBy (facts_by p lives beyond) c t.instance.0 (x + p.delay)
-  mirror_arrives {a} {k} {t} {n} {j} {x} c b w to here up late =
-      let s = of_split p lives a w.did in
-      let m = mirrors w in
-      let number = m.piece in
-      let few = s.high in
+  mirror_arrives {a} {k} {t} {n} {j} {x} c b w to here up one_life lets late =
+      let m = known.mirror_sent w in
+      let number = m.number in
+      let few = m.few in
       let small : c < p.cubs = subst (λ (d : ℕ). d < p.cubs) (sym to) (cub_below p (a + k) plan.ranges) in
       let leads : Leads p (way_ahead p a k) a c = subst (λ (d : ℕ). Leads p (way_ahead p a k) a d) (sym to)
-      (ahead_ends p a k plan w.did.small w.some (omega arith)) in
-      let g = told.to a c x b (way_ahead p a k) (msg.MirrorState (piece t n j)) w.did leads small up late in
-      of_taken g small
+      (ahead_ends p a k plan m.small m.some (omega arith)) in
+      let g = told.to a c x b (way_ahead p a k) (msg.MirrorState (piece t n j)) m.sends leads small up one_life late in
+      of_taken g small (omega arith)
     where
-      of_taken : TookInOrder p lives a c (way_ahead p a k) (msg.MirrorState (piece t n j)) x → c < p.cubs
+      of_taken : TookInOrder p lives beyond a c (way_ahead p a k) (msg.MirrorState (piece t n j)) x → c < p.cubs → 1 ≤ j
           → ArisesBy (facts_by p lives beyond) (pieces_by p lives) c t n j (x + p.delay)
           ⊎ ReachedBy (facts_by p lives beyond) c t.instance.0 (x + p.delay)
-      of_taken g small =
+      of_taken g small some =
           let inputs : ℕ → Input Msg = lives.input c in
           let h : Store = store_at p c inputs g.at in
           let y : PieceState = piece t n j in
           let stamp : Stamp = made_stamp g.beat g.reading in
           let soon = g.soon in
           let eb : beat_at inputs g.at ≡ g.beat = ap (λ (q : Input Msg). (stamp_of q).beat) g.is in
+          let may_enter : lets_in h.comeback (leaving_of p y) ≡ true =
+          subst (λ (time : ℕ). lets_in h.comeback time ≡ true) (leave_is p t n j some)
+          (lets_in_now p lives beyond are fits c g.at g.at (leave p t n j) b small g.done
+          (λ l. whole_first p lives are c g.at small g.done (ap is_tick_input g.is) l) (omega arith) lets) in
           let held_or : ReachedBy (facts_by p lives beyond) c t.instance.0 (x + p.delay)
           ⊎ (is_held h.held t.instance ≡ false) = ⊎_elim
           (λ (e : is_held h.held t.instance ≡ true).
@@ -289,7 +325,7 @@ module _ (p : Params) (plan : IsPlan p) (lives : Lives) (are : AreLives p lives)
             arises = arises c d.at
                 (inputs d.at) y small low (whole_before lives c d.at g.at before g.done) refl d.enters d.new;
             by = omega arith;
-            life = same_life p lives beyond c (beat_at inputs d.at) (x + p.delay);
+            life = life_until c d.at (x + p.delay) b small low late up;
           })
           (λ (e : is_in y h.pieces.items ≡ false).
           record {
@@ -304,11 +340,11 @@ module _ (p : Params) (plan : IsPlan p) (lives : Lives) (are : AreLives p lives)
               formed = formed c small g.at stamp (way_ahead p a k) (msg.MirrorState y) g.done g.is;
               free = free;
               here = sym here;
-              lets = lets_all_in p c inputs g.at (leaving_of p y);
+              lets = may_enter;
               new = e;
             }));
             by = soon;
-            life = same_life p lives beyond c g.beat (x + p.delay);
+            life = λ v back by. let one = life_until c g.at (x + p.delay) b small g.done late up v back by in omega arith;
           })
           (cases_Bool (is_in y h.pieces.items))))
           held_or
@@ -317,48 +353,58 @@ module _ (p : Params) (plan : IsPlan p) (lives : Lives) (are : AreLives p lives)
 
   -- a kill that was taken by the beat of a tick cuts off what stands at the tick: so that entered behind it
   cut_before : (a c y i : ℕ) (stamp : Stamp) (link : LinkNo) (v : Instance) (s : SlotNo) (n : ℕ) (x : PieceState)
-      → (g : TookInOrder p lives a c link (msg.Kill v s n) y) → (d : StandsSince p c (lives.input c) x i)
+      → (g : TookInOrder p lives beyond a c link (msg.Kill v s n) y) → (d : StandsSince p c (lives.input c) x i)
       → c < p.cubs → i < lives.count c → lives.input c i ≡ Tick stamp → g.beat ≤ stamp.beat
       → v.0 ≡ x.tenancy.instance.0 → n ≡ x.visit → g.at < d.at
   cut_before a c y i stamp link v s n x g d small low tick le same visit =
       let gb : beat_at (lives.input c) g.at ≡ g.beat = ap (λ (k : Input Msg). (stamp_of k).beat) g.is in
       let ib : beat_at (lives.input c) i ≡ stamp.beat = ap (λ (k : Input Msg). (stamp_of k).beat) tick in
-      let first = message_before p lives are c i g.at small low g.done (ap is_tick_input tick) (ap is_tick_input g.is) (omega arith) in
+      let first = message_before p lives are c i g.at small low g.done (ap is_tick_input tick) (ap is_tick_input g.is)
+      (omega arith) in
       d.behind g.at first (subst (λ (k : Input Msg). CutsOff k x) (sym g.is) (same, visit))
 
   -- a mirror state that came on whatever link was sent by the cub as many steps before as its piece says
-  record CameFrom (c i : ℕ) (x : PieceState) (link : LinkNo) : Type 0 where
+  record CameFrom (c : ℕ) (x : PieceState) (link : LinkNo) (y : ℕ) : Type 0 where
     from : ℕ
     small : from < p.cubs
-    low : 2 ≤ x.piece
-    high : x.piece ≤ p.pieces
+    few : x.piece ≤ p.pieces
     way : link ≡ way_ahead p from (x.piece - 1)
     to : c ≡ cub_of p (from + (x.piece - 1))
+    sent : WasSentBy p beyond from c link (msg.MirrorState x) y
 
   came_from : (c i : ℕ) (stamp : Stamp) (link : LinkNo) (x : PieceState) → c < p.cubs → i < lives.count c
       → lives.input c i ≡ Take stamp link (msg.MirrorState x)
-      → CameFrom c i x link
+      → CameFrom c x link stamp.beat
   came_from c i stamp link x small low e =
       let a = told.mirrors c i stamp link x small low e in
-      let some = a.some in
-      let s = of_split p lives a.from a.sent.sent in
-      let least = s.low in
-      let steps = one_way p a.from a.ahead (x.piece - 1) a.some (omega arith) (sym a.way ∙ s.way) in
+      let sends = subst (λ (l : LinkNo). beyond.Sends a.from l (msg.MirrorState x) a.sent.beat) a.way a.sent.sent in
+      let s = known.mirror_sent (known.mirror a.from a.ahead x.tenancy x.visit x.piece a.sent.beat a.small a.some sends) in
+      let number = s.number in
+      let steps : a.ahead ≡ x.piece - 1 = omega arith in
       record {
         from = a.from;
         small = a.small;
-        low = s.low;
-        high = s.high;
-        way = s.way;
+        few = s.few;
+        way = a.way ∙ ap (λ (k : ℕ). way_ahead p a.from k) steps;
         to = a.to ∙ ap (λ (k : ℕ). cub_of p (a.from + k)) steps;
+        sent = a.sent;
       }
 
-  -- what stands at a tick that a kill must have come before entered by a mirror state that was sent behind it
+  -- from a beat of the life on a cub has not come back by its tick of a later one
+  since_life : (c i y b : ℕ) → c < p.cubs → i < lives.count c → beat_at (lives.input c) i ≡ b → beat_at (lives.input c) 0 ≤ y
+      → IsInOneLife beyond c y b
+  since_life c i y b small low eb le w back by =
+      let began = back_in_life p lives beyond are fits c i w small low back (omega arith) in
+      let eb0 = began.in_beat in
+      omega arith
+
+  -- what stands at a tick that a kill must have come before entered by a mirror state that was sent behind it: behind it on the
+  -- link, or since the cub came back
   behind_kill : (a k c : ℕ) (t : Tenancy) (n j y b i : ℕ) (stamp : Stamp)
-      → KillSentAt p lives a k t.instance.0 t.slot.0 n y → c ≡ cub_of p (a + k) → j ≡ k + 1
+      → IsKillSend p beyond a k t.instance.0 t.slot.0 n y → c ≡ cub_of p (a + k) → j ≡ k + 1
       → y + p.delay ≤ b → c < p.cubs → i < lives.count c → lives.input c i ≡ Tick stamp → stamp.beat ≡ b
-      → beyond.Came c b
-      → In (piece t n j) (store_at p c (lives.input c) i).pieces.items → MirrorSince (pieces_by p lives) a k t n j y
+      → CameToTick p lives c b
+      → In (piece t n j) (store_at p c (lives.input c) i).pieces.items → MirrorSince among a k t n j y
   behind_kill a k c t n j y b i stamp kill to number late small low tick eb up there =
       let d = (life c small).entered i (piece t n j) (omega arith) there in
       of_entry d (lives.input c d.at) refl d.enters
@@ -368,45 +414,67 @@ module _ (p : Params) (plan : IsPlan p) (lives : Lives) (are : AreLives p lives)
 
       of_entry : (d : StandsSince p c (lives.input c) (piece t n j) i) → (q : Input Msg) → lives.input c d.at ≡ q
           → Enters p c q (store_at p c (lives.input c) d.at) (piece t n j)
-          → MirrorSince (pieces_by p lives) a k t n j y
+          → MirrorSince among a k t n j y
       of_entry d (Tick at) e w = let first = w.first in let some = kill.some in absurd (omega arith)
       of_entry d (Take at link m) e w =
+          let x : PieceState = piece t n j in
           let before = d.before in
           let done : d.at < lives.count c = omega arith in
-          let is : lives.input c d.at ≡ Take at link (msg.MirrorState (piece t n j)) = e
+          let is : lives.input c d.at ≡ Take at link (msg.MirrorState x) = e
           ∙ ap (λ (o : Msg). Take at link o) w.is in
-          let f = came_from c d.at at link (piece t n j) small done is in
-          let least = f.low in
-          let most = f.high in
+          let f = came_from c d.at at link x small done is in
+          let some = kill.some in
+          let most = f.few in
           let steps : j - 1 ≡ k = omega arith in
-          let from : f.from ≡ a = one_before p f.from a k f.small kill.did.small
+          let from : f.from ≡ a = one_before p f.from a k f.small kill.small
           (ap (λ (s : ℕ). cub_of p (f.from + s)) (sym steps) ∙ sym f.to ∙ to) in
           let way : link ≡ way_ahead p a k = f.way ∙ ap (λ (s : ℕ). way_ahead p f.from s) steps
           ∙ ap (λ (s : ℕ). way_ahead p s k) from in
+          let ib : beat_at (lives.input c) i ≡ stamp.beat = ap (λ (q : Input Msg). (stamp_of q).beat) tick in
+          let db : beat_at (lives.input c) d.at ≡ at.beat = ap (λ (q : Input Msg). (stamp_of q).beat) e in
+          ⊎_elim
+          (λ (l : y < beat_at (lives.input c) 0).
+          let rise = beats_rise p (lives.count c) (lives.input c) (are c small) 0 d.at (omega arith) done in
+          let back = returned p lives beyond are fits c small (omega arith) (omega arith) in
+          let since = f.sent.life (beat_at (lives.input c) 0) back (omega arith) in
+          let by_a = subst (λ (s : ℕ). beyond.Sends s link (msg.MirrorState x) f.sent.beat) from f.sent.sent in
+          let on_way = subst (λ (q : LinkNo). beyond.Sends a q (msg.MirrorState x) f.sent.beat) way by_a in
+          record {
+            beat = f.sent.beat;
+            sent = known.mirror a k t n j f.sent.beat kill.small kill.some on_way;
+            after = omega arith;
+          })
+          (λ (l : beat_at (lives.input c) 0 ≤ y).
           let leads : Leads p (way_ahead p a k) a c = subst (λ (s : ℕ). Leads p (way_ahead p a k) a s) (sym to)
-          (ahead_ends p a k plan kill.did.small kill.some (omega arith)) in
+          (ahead_ends p a k plan kill.small kill.some (omega arith)) in
           let g = told.to a c y b (way_ahead p a k)
-          (msg.Kill (record { 0 = t.instance.0 }) (record { 0 = t.slot.0 }) n) kill.did leads small up late in
+          (msg.Kill (record { 0 = t.instance.0 }) (record { 0 = t.slot.0 }) n) kill.sends leads small up
+          (since_life c i y b small low (omega arith) l) late in
           let soon = g.soon in
           let later = cut_before a c y i stamp (way_ahead p a k) (record { 0 = t.instance.0 })
-          (record { 0 = t.slot.0 }) n
-          (piece t n j) g d small low tick (omega arith) refl refl in
-          let s = g.behind d.at at (msg.MirrorState (piece t n j)) later done
-          (is ∙ ap (λ (l : LinkNo). Take at l (msg.MirrorState (piece t n j))) way) in
-          record { beat = s.beat; sent = record { some = kill.some; did = s.sent }; after = s.since }
+          (record { 0 = t.slot.0 }) n x g d small low tick (omega arith) refl refl in
+          let s = g.behind d.at at (msg.MirrorState x) later done
+          (is ∙ ap (λ (q : LinkNo). Take at q (msg.MirrorState x)) way) in
+          record {
+            beat = s.beat;
+            sent = known.mirror a k t n j s.beat kill.small kill.some s.sent;
+            after = s.since;
+          })
+          (cases_lt y (beat_at (lives.input c) 0))
 
-  -- what is used when a kill must have come was sent behind it, on the same link
-  pub killed : {a k c : ℕ} {t : Tenancy} {n j y b : ℕ} → KillSentAt p lives a k t.instance.0 t.slot.0 n y
+  -- what is used when a kill must have come was sent behind it
+  pub killed : {a k c : ℕ} {t : Tenancy} {n j y b : ℕ} → among.KillSent a k t.instance.0 t.slot.0 n y
       → c ≡ cub_of p (a + k) → j ≡ k + 1
-      → Uses (pieces_by p lives) c t n j b → y + p.delay ≤ b → MirrorSince (pieces_by p lives) a k t n j y
-  killed {a} {k} {c} {t} {n} {j} {y} {b} kill to number uses late =
+      → Uses (pieces_by p lives) c t n j b → y + p.delay ≤ b → MirrorSince among a k t n j y
+  killed {a} {k} {c} {t} {n} {j} {y} {b} sent to number uses late =
+      let kill = known.kill_sent sent in
       let some = kill.some in
       ⊎_elim
       (λ (w : AsksAt p lives c t n j b).
       let tick = w.tick in
       let stamp : Stamp = made_stamp b w.reading in
       let inner = (life c tick.small).in_tick tick.at stamp (piece t n j) in
-      of_use tick (⊎_elim
+      of_use kill tick (⊎_elim
       (λ q. let zero = q.0 in absurd (omega arith))
       (λ q. ⊎_elim (λ u. inl ((life c tick.small).within tick.at (piece t n j) u)) (λ u. inr u) (inner.unasked q.1))
       w.asks))
@@ -414,18 +482,18 @@ module _ (p : Params) (plan : IsPlan p) (lives : Lives) (are : AreLives p lives)
       let tick = w.sends.tick in
       let stamp : Stamp = made_stamp b w.sends.reading in
       let inner = (life c tick.small).in_tick tick.at stamp (piece t n j) in
-      of_use tick (⊎_elim
+      of_use kill tick (⊎_elim
       (λ q. let zero = q.0 in absurd (omega arith))
       (λ q. inner.at_serving q.1)
       w.sends.serves))
       uses
     where
-      of_use : {l : ℕ} → (tick : TickAt p lives c b l)
+      of_use : {l : ℕ} → IsKillSend p beyond a k t.instance.0 t.slot.0 n y → (tick : TickAt p lives c b l)
           → In (piece t n j) (store_at p c (lives.input c) tick.at).pieces.items
           ⊎ IsSplitOff p c (made_stamp b l) (store_at p c (lives.input c) tick.at) (piece t n j)
-          → MirrorSince (pieces_by p lives) a k t n j y
-      of_use {l} tick how = ⊎_elim
+          → MirrorSince among a k t n j y
+      of_use {l} kill tick how = ⊎_elim
           (λ u. behind_kill a k c t n j y b tick.at
-          (made_stamp b l) kill to number late tick.small tick.done tick.is refl (came c b l tick) u)
+          (made_stamp b l) kill to number late tick.small tick.done tick.is refl (record { reading = l; tick = tick }) u)
           (λ u. let first = u.first in let some = kill.some in absurd (omega arith))
           how

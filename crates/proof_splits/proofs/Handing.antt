@@ -1,6 +1,6 @@
 -- Which visits of a cub are left to its predecessor, which came back: what is split off and what is not, and that the cub was
 -- told of what it keeps of that.
-use Rattle.std.proofs.Common.{◌≡◌, ℕ, zero, suc, ◌<◌, ◌≤◌, ◌==◌, ◌&&◌, nat_le, List, [], Bool, true, false, not, cond, Option, Some, None, refl, sym, ap, subst, ◌∙◌, arith, ⊎_elim, inl, inr}
+use Rattle.std.proofs.Common.{◌≡◌, ℕ, zero, suc, ◌<◌, ◌≤◌, ◌==◌, ◌&&◌, nat_le, List, [], Bool, true, false, not, cond, Option, Some, None, refl, sym, ap, ◌∙◌, arith, ⊎_elim}
 use Rattle.std.specs.Prelude.{◌⊎◌}
 use Rattle.std.proofs.lemmas.Bool.{eq-eqb, lt-leb}
 use Rattle.tiger_base.specs.declared.number.LinkNo.{LinkNo}
@@ -49,18 +49,18 @@ in_split_off {X} p stamp back y x these must left i =
 
 -- ---- along a life
 
-some_is : (a b : ℕ) → Some a ≡ Some b → a ≡ b
+pub some_is : (a b : ℕ) → Some a ≡ Some b → a ≡ b
 some_is a b e = let same : a ≡ b = cc in same
 
 module _ (p : Params) (c : ℕ) (inputs : ℕ → Input Msg) where
   -- before input i a message of the predecessor told from when on it serves
-  record WasToldBack (from i : ℕ) : Type 0 where
-    at : ℕ
-    before : at < i
-    stamp : Stamp
-    link : LinkNo
-    is : inputs at ≡ Take stamp link (msg.Back from)
-    of : IsOfPredecessor p c link
+  pub record WasToldBack (from i : ℕ) : Type 0 where
+    pub at : ℕ
+    pub before : at < i
+    pub stamp : Stamp
+    pub link : LinkNo
+    pub is : inputs at ≡ Take stamp link (msg.Back from)
+    pub of : IsOfPredecessor p c link
 
   -- it was told by the last input, if not before
   at_input : (i from : ℕ) → ((store_at p c inputs i).handback ≡ Some from → WasToldBack from (suc i)) → (k : Input Msg)
@@ -81,7 +81,7 @@ module _ (p : Params) (c : ℕ) (inputs : ℕ → Input Msg) where
       (taking_hears_back p c stamp link m (store_at p c inputs i))
   at_input i from earlier (Tick stamp) is after = earlier (sym (ticking_handback p c stamp (store_at p c inputs i)) ∙ after)
 
-  told_back : (i from : ℕ) → (store_at p c inputs i).handback ≡ Some from → WasToldBack from i
+  pub told_back : (i from : ℕ) → (store_at p c inputs i).handback ≡ Some from → WasToldBack from i
   told_back zero from e = absurd (cc)
   told_back (suc i) from e = at_input i from (λ before. later (told_back i from before)) (inputs i) refl e
     where

@@ -1,11 +1,14 @@
+pub mod Among
 pub mod Arrivals
 pub mod Backups
 pub mod Beliefs
 pub mod Handing
+pub mod LeftVisits
 pub mod MirrorStates
 pub mod PieceMoves
 pub mod PieceSets
 pub mod Remembered
+pub mod Returning
 pub mod Splitting
 pub mod Standing
 pub mod Unsplit

@@ -21,7 +21,7 @@ use Rattle.proof_lives.proofs.Begun.{IsStop}
 use Rattle.proof_pieces.specs.PieceLaws.{IsKilled, IsForgotten}
 use Rattle.proof_facts.specs.Blocks.{blocks_by}
 use Rattle.proof_facts.specs.Carried.{CubsAreTold}
-use Rattle.proof_lives.specs.FactsBy.{Beyond, facts_by, cubs_alone}
+use Rattle.proof_lives.specs.FactsBy.{Beyond, CameToTick, facts_by, cubs_alone}
 use Rattle.proof_facts.specs.Laws.{SplitLaws}
 use Rattle.proof_facts.specs.Pieces.{stamp_of as made_stamp, SplitAt, pieces_by}
 use Rattle.proof_splits.specs.Splitting.{CubsSplitRightly}
@@ -29,7 +29,10 @@ use Rattle.proof_splits.proofs.MirrorStates.{sends_all}
 use Rattle.proof_splits.proofs.Remembered.{split_remembered, killed_by}
 use Rattle.proof_splits.proofs.Backups.{splits}
 use Rattle.proof_splits.proofs.Unsplit.{split_due}
-use Rattle.proof_splits.proofs.Arrivals.{mirrors, mirrored, mirror_arrives, killed, dropped}
+use Rattle.proof_pieces.specs.PieceFacts.{PieceFacts}
+use Rattle.proof_splits.proofs.Among.{SendsAreKnown, alone_known}
+use Rattle.proof_splits.proofs.Arrivals.{mirrors, mirrored, late, kill_reached, mirror_arrives, killed, dropped}
+use Rattle.proof_splits.proofs.LeftVisits.{left}
 
 -- What a cub split before it was reached by a deschedule it has killed by then, or forgotten.
 kills : (p : Params) (lives : Lives) → IsPlan p → AreLives p lives → AreAllFormed p lives → (beyond : Beyond)
@@ -102,26 +105,30 @@ kills p lives plan are formed beyond {a} {t} {n} {x} {y} {b} {l} w g less tick l
     (killed_by p a count inputs (formed a small) (t.instance, t.slot, n) i j g.took.done
     (split_remembered p lives w) later stop)
 
--- Whatever is known beyond the cubs' lives, if it fits them and cubs are told what other cubs send.
+-- Whatever is known beyond the cubs' lives, if it fits them, cubs are told what other cubs send, and these facts know of that.
 pub split_laws : (p : Params) (lives : Lives) → IsPlan p → AreLives p lives → AreAllFormed p lives → (beyond : Beyond)
-    → Fits p lives beyond → CubsAreTold p lives beyond.Came
+    → Fits p lives beyond → CubsAreTold p lives beyond → (among : PieceFacts) → SendsAreKnown p beyond among
     → (disk_at : ℕ → DiskState)
-    → SplitLaws p (facts_by p lives beyond) (pieces_by p lives) (blocks_by p lives disk_at)
-split_laws p lives plan are formed beyond fits told disk_at = record {
+    → SplitLaws p (facts_by p lives beyond) (pieces_by p lives) among (blocks_by p lives disk_at) (CameToTick p lives)
+split_laws p lives plan are formed beyond fits told among known disk_at = record {
   splits = λ w. splits p plan lives are formed beyond fits.came w;
-  mirrors = λ w. mirrors p plan lives are formed beyond fits.came told w;
-  mirrored = λ w. mirrored p plan lives are formed beyond fits.came told w;
-  kills = λ {a} {t} {n} {x} {y} {b} w g less up le. kills p lives plan are formed beyond w g less (fits.ticks a b up).tick le;
-  killed = λ w to number uses late. killed p plan lives are formed beyond fits.came told w to number uses late;
-  split_due = λ believed entered next tick left time. split_due p plan lives are formed beyond believed entered next tick
-      left time;
+  left = λ w. left p plan lives are formed beyond told among known disk_at w;
+  mirrors = λ w. mirrors p lives are w;
+  mirrored = λ w. mirrored p plan lives are formed beyond fits told among known w;
+  late = λ m back le. late p plan lives are formed beyond fits told among known m back le;
+  kills = λ w g less up le. kills p lives plan are formed beyond w g less up.tick le;
+  kill_reached = λ w. kill_reached p lives are w;
+  killed = λ w to number uses after. killed p plan lives are formed beyond fits told among known w to number uses after;
+  split_due = λ believed entered next tick first left time.
+      split_due p plan lives are formed beyond believed entered next tick left time;
   mirrors_due = λ k w tick low high. sends_all p lives _ k w (whole_tick p lives are w.tick tick) low high;
-  mirror_arrives = λ d b w to here up late. mirror_arrives p plan lives are formed beyond fits.came told d b w to here up
-      late;
-  dropped = λ w. dropped p plan lives are formed beyond fits.came told w;
+  mirror_arrives = λ d b w to here up life lets after.
+      mirror_arrives p plan lives are formed beyond fits told among known d b w to here up life lets after;
+  dropped = λ w. dropped p plan lives are formed beyond fits told among known w;
 }
 
 -- what is claimed of cubs alone
 pub split_rightly : CubsSplitRightly
 split_rightly p lives plan are formed told disk_at =
-    split_laws p lives plan are formed (cubs_alone p lives) (alone_fits p lives) told disk_at
+    split_laws p lives plan are formed (cubs_alone p lives) (alone_fits p lives) told (pieces_by p lives)
+    (alone_known p lives) disk_at

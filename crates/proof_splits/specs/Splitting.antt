@@ -15,7 +15,7 @@ use Rattle.proof_facts.specs.Pieces.{pieces_by}
 -- the links between them meet the laws of splits, mirror states and kills.
 abbrev pub CubsSplitRightly : Type 0
 CubsSplitRightly = (p : Params) (lives : Lives)
-    → IsPlan p → AreLives p lives → AreAllFormed p lives → CubsAreTold p lives (CameToTick p lives)
+    → IsPlan p → AreLives p lives → AreAllFormed p lives → CubsAreTold p lives (cubs_alone p lives)
     → (disk_at : ℕ → DiskState)
-    → SplitLaws p (facts_by p lives (cubs_alone p lives)) (pieces_by p lives)
-    (blocks_by p lives disk_at)
+    → SplitLaws p (facts_by p lives (cubs_alone p lives)) (pieces_by p lives) (pieces_by p lives)
+    (blocks_by p lives disk_at) (CameToTick p lives)

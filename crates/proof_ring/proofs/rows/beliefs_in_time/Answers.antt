@@ -15,7 +15,7 @@ pub returns-clause-too_late : goal.returns-clause-too_late
 unfolding time_of cub_of
 returns-clause-too_late c h =
     ⊎_elim (λ own. own.2) (λ rest. ⊎_elim (λ late. let when = late.1 in omega (arith, when)) (λ none. none) rest)
-    (h.0 30 132 1320000 (omega arith) (λ own beats. absurd beats, (λ own beats. absurd beats, tt)) (inl (refl, refl, refl)) (omega arith))
+    (h.0 30 132 1320000 (omega arith) (λ own beats before. absurd beats, (λ own beats before. absurd beats, tt)) (inl (refl, refl, refl)) (omega arith))
 
 pub returns-clause-not_yet : goal.returns-clause-not_yet
 unfolding time_of
@@ -23,7 +23,7 @@ returns-clause-not_yet c = (
   tt,
   (
     λ quiet beat reading small silent tick long. ⊎_elim
-        (λ t. let when = t.1 in let later = silent.0 refl tt in absurd (omega (arith, when, long, later)))
+        (λ t. let when = t.1 in let later = silent.0 refl tt (omega (arith, when)) in absurd (omega (arith, when, long, later)))
         (λ none. absurd none) tick,
     tt,
   ),
@@ -36,13 +36,13 @@ pub returns-clause-of_other : goal.returns-clause-of_other
 unfolding time_of cub_of
 returns-clause-of_other c h =
     ⊎_elim (λ own. own.2) (λ rest. ⊎_elim (λ other. let cub = other.2 in omega (arith, cub)) (λ none. none) rest)
-    (h.0 30 132 1320000 (omega arith) (λ own beats. absurd beats, (λ own beats. absurd beats, tt)) (inl (refl, refl, refl)) (omega arith))
+    (h.0 30 132 1320000 (omega arith) (λ own beats before. absurd beats, (λ own beats before. absurd beats, tt)) (inl (refl, refl, refl)) (omega arith))
 
 pub returns-clause-by_other : goal.returns-clause-by_other
 unfolding time_of cub_of
 returns-clause-by_other c h =
     ⊎_elim (λ own. own.2) (λ rest. ⊎_elim (λ other. let node = other.0 in omega (arith, node)) (λ none. none) rest)
-    (h.0 30 132 1320000 (omega arith) (λ own beats. absurd beats, (λ own beats. absurd beats, tt)) (inl (refl, refl, refl)) (omega arith))
+    (h.0 30 132 1320000 (omega arith) (λ own beats before. absurd beats, (λ own beats before. absurd beats, tt)) (inl (refl, refl, refl)) (omega arith))
 
 pub returns-clause-beats_at_death : goal.returns-clause-beats_at_death
 unfolding time_of
@@ -50,7 +50,7 @@ returns-clause-beats_at_death c = (
   tt,
   (
     λ quiet beat reading small silent tick long. ⊎_elim
-        (λ t. let when = t.1 in let later = silent.0 refl tt in absurd (omega (arith, when, long, later)))
+        (λ t. let when = t.1 in let later = silent.0 refl tt (omega (arith, when)) in absurd (omega (arith, when, long, later)))
         (λ none. absurd none) tick,
     tt,
   ),
@@ -60,10 +60,17 @@ pub returns-clause-beats_before : goal.returns-clause-beats_before
 unfolding time_of cub_of
 returns-clause-beats_before c h =
     ⊎_elim (λ own. own.2) (λ rest. ⊎_elim (λ other. other.2) (λ none. none) rest)
-    (h.1.0 30 132 1320000 (omega arith) (λ own beats. omega arith, (λ own beats. absurd beats, tt)) (inl (refl, refl, refl)) (omega arith))
+    (h.1.0 30 132 1320000 (omega arith) (λ own beats before. omega arith, (λ own beats before. absurd beats, tt)) (inl (refl, refl, refl)) (omega arith))
 
 pub returns-clause-noticed_later : goal.returns-clause-noticed_later
 unfolding time_of cub_of
 returns-clause-noticed_later c h =
     ⊎_elim (λ own. own.2) (λ rest. ⊎_elim (λ other. other.2) (λ none. none) rest)
-    (h.1.0 31 133 1330000 (omega arith) (λ own beats. omega arith, (λ own beats. absurd beats, tt)) (inl (refl, refl, refl)) (omega arith))
+    (h.1.0 31 133 1330000 (omega arith) (λ own beats before. omega arith, (λ own beats before. absurd beats, tt)) (inl (refl, refl, refl)) (omega arith))
+
+pub returns-clause-beats_again : goal.returns-clause-beats_again
+unfolding time_of cub_of
+returns-clause-beats_again c h =
+    ⊎_elim (λ own. own.2) (λ rest. ⊎_elim (λ other. other.2) (λ none. none) rest)
+    (h.0 30 132 1320000 (omega arith)
+    (λ own beats before. absurd beats, (λ own beats before. omega arith, tt)) (inl (refl, refl, refl)) (omega arith))
