@@ -31,3 +31,12 @@ counted-next l link number old mid new view is e =
     (λ (t : (link == l) ≡ true). rw t (ap (λ k. k + 1) is))
     (λ (t : (link == l) ≡ false). rw t (ap (counted_on l) view))
     (cases_Bool (link == l))
+
+-- so if the number with one more is known by another name
+pub counted-more : (l link number more : ℕ) (old mid new : Numbers) → mid ≡ old → number ≡ counted_on link old → more ≡ number + 1
+    → lookup (λ q. is_eq (nat_cmp l q)) new
+    ≡ cond (is_eq (nat_cmp link l)) (Some more) (lookup (λ q. is_eq (nat_cmp l q)) mid)
+    → counted_on l new ≡ (if link == l then counted_on link old + 1 else counted_on l old)
+counted-more l link number more old mid new seen is next updates =
+    counted-next l link number old mid new seen is
+    (updates ∙ ap (λ k. cond (is_eq (nat_cmp link l)) (Some k) (lookup (λ q. is_eq (nat_cmp l q)) mid)) next)

@@ -1,5 +1,5 @@
 -- The next event happens to the machine, which is then beside the numbers behind it.
-use Rattle.std.proofs.Common.{◌≡◌, ℕ, suc, ◌<◌, ◌≤◌, List, [], ◌∷◌, ◌++◌, true, false, Some, None, refl, ap, sym, ◌∙◌, subst, arith, ⊎_elim}
+use Rattle.std.proofs.Common.{◌≡◌, ℕ, suc, ◌+◌, ◌<◌, ◌≤◌, List, [], ◌∷◌, ◌++◌, true, false, Some, None, refl, ap, sym, ◌∙◌, subst, arith, ⊎_elim}
 use Rattle.std.specs.Prelude.{slice_get, option_map, ◌==◌, if◌then◌else◌}
 use Rattle.std.specs.List.{AllByRecursion}
 use Rattle.std.proofs.lemmas.Option.{slice_get_within}
@@ -7,11 +7,10 @@ use Rattle.std.proofs.lemmas.Bool.{cases_eq, eq-eqb, ne_eqb}
 use Rattle.tiger_base.specs.declared.message.Note.{Note}
 use Rattle.slot_plan.specs.declared.params.Params.{Params}
 use Rattle.node_kit.specs.Steps.{Input, Deed, IsAllowed}
-use Rattle.run_facts.specs.Events.{NodeEvent, Past, is_return, opening, after_all, outs_of, stamp_at}
+use Rattle.run_facts.specs.Events.{NodeEvent, Past, is_death, is_return, opening, after_all, outs_of, stamp_at}
 use Rattle.run_facts.specs.Events.NodeEvent.{Does, Ends, Dies, Returns}
 use Rattle.run_facts.specs.Accounts.{IsOpen}
-use Rattle.run_facts.specs.Histories.{History, beat, past}
-use Rattle.proof_lives.specs.OneLife.{IsOneLifeRun}
+use Rattle.run_facts.specs.Histories.{History, IsRun, beat, past}
 use Rattle.run_facts.proofs.Listed.{listed, listed-past}
 use Rattle.ring_world.specs.declared.event.Event.{Event}
 use Rattle.ring_world.specs.Machine.{Machine, Being, undying, node_event, lived, happened, happens, moved}
@@ -25,16 +24,17 @@ use Rattle.ring_world.proofs.Steps.{MayLive, IsDue}
 use Rattle.kept_worlds.specs.Merges.{MayHappen}
 use Rattle.kept_worlds.proofs.Lifeless.{all-twin, outs-twin}
 use Rattle.kept_worlds.proofs.Numbers.{listed-more}
-use Rattle.kept_worlds.proofs.Points.{anywhere, IsLatest, IsAt, IsNext, own, own-at, own-lives, own-ticked, own-read, reached, none-of_act}
+use Rattle.kept_worlds.proofs.Points.{anywhere, IsLatest, IsAt, IsNext, own, own-at, own-dead, own-done, own-lives, own-ticked, own-undied, own-read, reached, none-of_act}
 use Rattle.kept_worlds.proofs.Ready.{ready}
 
--- an event of a node that is not dead and has never died, in the open beat
-may-live : {M S : Type 0} (b : Being S) → (b.dead ≡ false) × (b.died ≡ None) → (x : NodeEvent M) → is_return x ≡ false
-    → MayLive b x
-may-live b alive (Does i) here = alive.0
-may-live b alive (Ends i sends) here = alive
-may-live b alive (Dies stamp) here = alive
-may-live b alive (Returns stamp) here = absurd (cc)
+-- an event of a node that is not dead, unless it returns, and has never died, if it dies
+may-live : {M S : Type 0} (b : Being S) (x : NodeEvent M) → (is_return x ≡ false → b.dead ≡ false)
+    → (is_death x ≡ true → b.died ≡ None)
+    → (is_return x ≡ true → (b.dead ≡ true) × (d : ℕ) × (b.died ≡ Some d) × (d + 2 ≤ (stamp_at x).beat)) → MayLive b x
+may-live b (Does i) up undied dead = up refl
+may-live b (Ends i sends) up undied dead = (up refl, undied refl)
+may-live b (Dies stamp) up undied dead = (up refl, undied refl)
+may-live b (Returns stamp) up undied dead = dead refl
 
 pub is-open : {M : Type 0} (t : ℕ) (x : NodeEvent M) → is_return x ≡ false → (stamp_at x).beat ≡ t → IsOpen t x
 is-open t (Does i) here now = now
@@ -42,12 +42,20 @@ is-open t (Ends i sends) here now = now
 is-open t (Dies stamp) here now = now
 is-open t (Returns stamp) here now = absurd (cc)
 
+-- an event in the open beat, and a return in that or a later one
+pub may-open : {M : Type 0} (t : ℕ) (x : NodeEvent M) → (is_return x ≡ false → t ≡ (stamp_at x).beat) → t ≤ (stamp_at x).beat
+    → IsOpen t x
+may-open t (Does i) now low = sym (now refl)
+may-open t (Ends i sends) now low = sym (now refl)
+may-open t (Dies stamp) now low = sym (now refl)
+may-open t (Returns stamp) now low = low
+
 -- the numbers behind the next event of node n
 abbrev pub beyond : ℕ → (ℕ → ℕ) → ℕ → ℕ
 beyond n at k = if k == n then suc (at k) else at k
 
 module _ {M S : Type 0} (note : M → Note) (step : S → Input M → Deed M S) (p : Params) (nodes beats : ℕ) (h : History M S)
-    (place : IsPlace p nodes beats) (run : IsOneLifeRun note step p nodes h) (may : MayHappen p nodes beats h) where
+    (place : IsPlace p nodes beats) (run : IsRun note step p nodes h) (may : MayHappen p nodes beats h) where
   -- an event of node n is no fault, and behind it the machine is beside the next numbers
   pub record IsStep (m : Machine M S) (es : ℕ → List (NodeEvent M)) (at : ℕ → ℕ) (n : ℕ) (y : NodeEvent M) : Type 0 where
     pub known : IsEventOf p nodes beats (told_as h.before (es n) (record { node = n; event = y }))
@@ -93,11 +101,12 @@ module _ {M S : Type 0} (note : M → Note) (step : S → Input M → Deed M S) 
         let short = place.short (beat h n (at n)) early in
         let high = shown.1 in
         record {
-          lives = may-live b (own-lives note step p nodes beats h place run may m es at point n next) x
-              (run.here n (at n) next.low next.here);
+          lives = may-live b x (own-lives note step p nodes beats h place run may m es at point n next)
+              (own-undied note step p nodes beats h place run may m es at point n next)
+              (own-dead note step p nodes beats h place run may m es at point n next);
           dated = refl;
-          open_here = is-open b.ticked x (run.here n (at n) next.low next.here)
-              (sym (own-ticked note step p nodes beats h place run may m es at point n next));
+          open_here = may-open b.ticked x (own-ticked note step p nodes beats h place run may m es at point n next)
+              (own-done note step p nodes beats h place run may m es at point n next);
           shown = shown;
           later = own-read note step p nodes beats h place run may m es at point n next;
           brief = omega (arith, high, short);
@@ -170,6 +179,29 @@ module _ {M S : Type 0} (note : M → Note) (step : S → Input M → Deed M S) 
         rw t (point.last k theirs.0 low theirs.1))
         (cases_eq k n))
 
+    behind-away : (k : ℕ) (c : Being S) → k < nodes → slice_get (moved note step p m e n x b.past).beings k ≡ Some c
+        → ((j : ℕ) → j < beyond n at k → is_return (h.event k j) ≡ false) → c.returned ≡ false
+    behind-away k c low here all =
+        let theirs = point.holds.node k low in
+        let change = λ (j : ℕ) (a : Being S). if j == n then lived note step x a else a in
+        let there : slice_get (moved note step p m e n x b.past).beings k ≡ Some (change k theirs.0) =
+        each-get change 0 m.beings k k (omega arith) ∙ ap (option_map (change k)) theirs.1 in
+        let is : change k theirs.0 ≡ c = some-same (change k theirs.0) c (sym there ∙ here) in
+        subst (λ (a : Being S). a.returned ≡ false) is (⊎_elim
+        (λ (same : k ≡ n).
+        let t : (k == n) ≡ true = eq-eqb k n same in
+        let count : beyond n at k ≡ suc (at k) = rw t refl in
+        let old = point.away k theirs.0 low theirs.1 (λ j high. all j (omega (arith, high, count))) in
+        let new : is_return x ≡ false =
+        subst (λ q. is_return (h.event q (at q)) ≡ false) same (all (at k) (omega (arith, count))) in
+        rw (t, old, new) refl)
+        (λ (other : k ≡ n → ⊥).
+        let t : (k == n) ≡ false = ne_eqb k n other in
+        let count : beyond n at k ≡ at k = rw t refl in
+        let old = point.away k theirs.0 low theirs.1 (λ j high. all j (omega (arith, high, count))) in
+        rw (t, old) refl)
+        (cases_eq k n))
+
     pub stepped : IsStep m es at n x
     stepped =
         let r = ready note step p nodes beats h place run may m es at point n next in
@@ -180,5 +212,5 @@ module _ {M S : Type 0} (note : M → Note) (step : S → Input M → Deed M S) 
               r.theirs r.life r.free r.take r.late r.death;
           dated = ap (λ (q : Machine M S). q.beat) is-moved;
           point = subst (λ (q : Machine M S). IsAt note step p nodes beats h place run may q (added n x es) (beyond n at)) (sym is-moved)
-              (record { holds = holds; told = behind-told; within = behind-within; last = behind-last });
+              (record { holds = holds; told = behind-told; within = behind-within; last = behind-last; away = behind-away });
         }

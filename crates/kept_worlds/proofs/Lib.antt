@@ -1,7 +1,9 @@
+pub mod Again
 pub mod Counting
 pub mod Cuts
 pub mod Ends
 pub mod Faultless
+pub mod Forgotten
 pub mod Gets
 pub mod Going
 pub mod Grouping
@@ -14,8 +16,10 @@ pub mod Numbers
 pub mod Points
 pub mod Pushing
 pub mod Ready
+pub mod Returning
 pub mod Runs
 pub mod Said
+pub mod SentBelow
 pub mod Shortened
 pub mod Shorter
 pub mod Told

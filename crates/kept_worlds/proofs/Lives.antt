@@ -1,4 +1,4 @@
--- What the events of a history say of the lives that its course gives the nodes, if nobody returns.
+-- What the events of a history say of the lives that its course gives the nodes.
 use Rattle.std.proofs.Common.{◌≡◌, ℕ, zero, suc, ◌+◌, ◌%◌, ◌<◌, ◌≤◌, List, length, Bool, true, false, ◌&&◌, ◌||◌, Option, Some, None, refl, ap, sym, ◌∙◌, subst, arith, cond, ⊎_elim, inl, inr}
 use Rattle.std.specs.Prelude.{nat_lt, ◌==◌, is_some, min}
 use Rattle.std.proofs.Math.Nat.{mod-lt}
@@ -8,23 +8,21 @@ use Rattle.tiger_base.specs.declared.number.Stamp.{Stamp}
 use Rattle.tiger_base.specs.declared.message.Note.{Note}
 use Rattle.node_kit.specs.declared.course.Course.{Course}
 use Rattle.node_kit.specs.declared.journal.Entry.{Entry}
-use Rattle.node_kit.specs.Life.{Lifetime, lifetime_of, death_of, cut_of, back_of, acts, ends_in, left_in, cut_by, cut_to}
+use Rattle.node_kit.specs.Life.{Lifetime, lifetime_of, death_of, cut_of, back_of, acts, ends_in, returns, left_in, cut_by, cut_to}
 use Rattle.node_kit.specs.Outputs.{send_count}
 use Rattle.node_kit.specs.Steps.{Input, Deed, stamp_of}
 use Rattle.node_kit.specs.Steps.Input.{Take, Tick}
-use Rattle.run_facts.specs.Events.{NodeEvent, Past, event_of, event_to, is_tick, is_tick_input, stamp_at, is_death, is_return}
+use Rattle.run_facts.specs.Events.{NodeEvent, Past, event_of, event_to, is_tick_input, stamp_at, is_death, is_return}
 use Rattle.run_facts.specs.Events.NodeEvent.{Does, Ends, Dies, Returns}
 use Rattle.run_facts.specs.Histories.{HaveHistory, History, beat, past}
 use Rattle.run_facts.specs.Timed.{DieApart}
 use Rattle.run_lives.proofs.Alike.{over-event}
-use Rattle.proof_answer.proofs.Lifetimes.{life_of, IsLater, not-later, after-later, acts-later, dies-later, idle-later, returns-later, ended-later, returns-when}
+use Rattle.proof_answer.proofs.Lifetimes.{life_of, IsLater, not-later, after-later, acts-later, dies-later, idle-later, returns-later, ended-later}
 use Rattle.proof_answer.proofs.Lists.{element-of}
-use Rattle.proof_lives.specs.OneLife.{IsWithoutReturns}
-use Rattle.proof_lives.proofs.OneLife.{one_life_run}
 use Rattle.ring_world.specs.Laws.{IsPlace}
 use Rattle.kept_worlds.specs.Merges.{LivesThrough, MayHappen}
 use Rattle.kept_worlds.proofs.Ends.{IsOfLife, dies-in, cut-in}
-use Rattle.kept_worlds.proofs.Numbers.{count-grows}
+use Rattle.kept_worlds.proofs.Returning.{beats-rise, one-death}
 
 -- ---- what a life makes of one input
 
@@ -95,7 +93,7 @@ ends-back death left back now b later over h =
     by-death (Some d) h = some-same (b == d && true) ∙ h
 
 module _ {M S : Type 0} (note : M → Note) (step : S → Input M → Deed M S) (c : Course) (given nodes : List S)
-    (journals : List (List Entry)) (stays : (n : ℕ) → back_of c n ≡ None)
+    (journals : List (List Entry))
     (one : HaveHistory note step c.plan.params (lifetime_of c) c.beats given nodes journals) where
   abbrev h : History M S
   h = one.history
@@ -103,44 +101,41 @@ module _ {M S : Type 0} (note : M → Note) (step : S → Input M → Deed M S) 
   pub life-is : (n : ℕ) → n < length given → h.life n ≡ lifetime_of c n
   life-is n low = let s = element-of given n low in (one.theirs.opens n s.0 s.1).1
 
-  later : (n i : ℕ) → n < length given → IsLater (death_of c n) (cut_of c n) (back_of c n) (past note step h n i).life
+  pub later : (n i : ℕ) → n < length given → IsLater (death_of c n) (cut_of c n) (back_of c n) (past note step h n i).life
   later n zero low =
       subst (IsLater (death_of c n) (cut_of c n) (back_of c n)) (sym (life-is n low))
       (not-later (death_of c n) (cut_of c n) (back_of c n))
   later n (suc i) low =
       after-later note step (death_of c n) (cut_of c n) (back_of c n) (h.event n i) (past note step h n i) (later n i low)
 
-  -- nobody returns
-  pub none-back : IsWithoutReturns (length given) h
-  none-back n i low at = by_event (h.event n i) refl
+  -- who returns does so in the beat of its return
+  pub back-at : (n i : ℕ) → n < length given → i < h.count n → is_return (h.event n i) ≡ true
+      → returns (lifetime_of c n) (beat h n i) ≡ true
+  back-at n i low at back = by_event (h.event n i) refl back
     where
-      by_event : (e : NodeEvent M) → h.event n i ≡ e → is_return e ≡ false
-      by_event (Does x) is = refl
-      by_event (Ends x sends) is = refl
-      by_event (Dies s) is = refl
-      by_event (Returns s) is =
-          let back = returns-when (death_of c n) (cut_of c n) (back_of c n) s.beat
-          (returns-later (death_of c n) (cut_of c n) (back_of c n) (past note step h n i).life (later n i low) s.beat
-          (one.complete.returning n i s low at is)) in
-          let none = stays n in
-          let q : ◌≡◌ {A = Option ℕ} None (Some s.beat) = sym none ∙ back in absurd (cc)
+      by_event : (e : NodeEvent M) → h.event n i ≡ e → is_return e ≡ true → returns (lifetime_of c n) (beat h n i) ≡ true
+      by_event (Does x) is t = absurd (cc)
+      by_event (Ends x sends) is t = absurd (cc)
+      by_event (Dies s) is t = absurd (cc)
+      by_event (Returns s) is t =
+          ap (returns (lifetime_of c n)) (ap (λ (e : NodeEvent M). (stamp_at e).beat) is)
+          ∙ returns-later (death_of c n) (cut_of c n) (back_of c n) (past note step h n i).life (later n i low) s.beat
+          (one.complete.returning n i s low at is)
 
-  pub last-of : (n i : ℕ) → n < length given → i < h.count n → is_death (h.event n i) ≡ true → i + 1 ≡ h.count n
-  last-of n i low at died = ⊎_elim
-      (λ (e : i + 1 ≡ h.count n). e)
-      (λ (other : i + 1 ≡ h.count n → ⊥). ⊎_elim
-      (λ (e : i + 1 ≡ h.count n). e)
-      (λ (back : is_return (h.event n (i + 1)) ≡ true).
-      let q : true ≡ false = sym back ∙ none-back n (i + 1) low (omega (arith, at, other)) in absurd (cc))
-      (one.run.ended n i low at died))
-      (cases_eq (i + 1) (h.count n))
-
-  pub alive-before : (n j i : ℕ) → n < length given → j < i → i < h.count n → is_death (h.event n j) ≡ false
-  alive-before n j i low before at = ⊎_elim
-      (λ (t : is_death (h.event n j) ≡ true).
-      let end = last-of n j low (omega (arith, before, at)) t in absurd (omega (arith, end, before, at)))
-      (λ (t : is_death (h.event n j) ≡ false). t)
-      (cases_Bool (is_death (h.event n j)))
+  -- behind a death comes nothing in the two beats from it on
+  behind-death : (n j i : ℕ) → n < length given → j < i → i < h.count n → is_death (h.event n j) ≡ true
+      → beat h n j + 2 ≤ beat h n i
+  behind-death n j i low before at died = ⊎_elim
+      (λ (end : j + 1 ≡ h.count n). absurd (omega (arith, end, before, at)))
+      (λ (back : is_return (h.event n (j + 1)) ≡ true).
+      let r = one.run.returned n (j + 1) low (omega (arith, before, at)) back in
+      let next = r.next in
+      let apart = r.apart in
+      let same : beat h n r.last ≡ beat h n j =
+      ap (beat h n) (let q : r.last ≡ j = omega (arith, next) in q) in
+      let up = beats-rise note step c.plan.params (length given) one.history one.run n low (j + 1) i (omega (arith, before)) at in
+      omega (arith, apart, same, up))
+      (one.run.ended n j low (omega (arith, before, at)) died)
 
   over-none : (n i : ℕ) → n < length given → ((j : ℕ) → j < i → is_death (h.event n j) ≡ false)
       → (past note step h n i).life.over ≡ false
@@ -148,6 +143,52 @@ module _ {M S : Type 0} (note : M → Note) (step : S → Input M → Deed M S) 
   over-none n (suc i) low alive =
       over-event note step (h.event n i) (past note step h n i) (alive i (omega arith))
       ∙ over-none n i low (λ j before. alive j (omega (arith, before)))
+
+  -- a death is as the course has it, in the beat of the death
+  of-death : (n i : ℕ) → n < length given → i < h.count n → is_death (h.event n i) ≡ true
+      → IsOfLife (lifetime_of c n) (h.event n i) × (death_of c n ≡ Some (beat h n i))
+  of-death n i low at died = by_event (h.event n i) refl died
+    where
+      now : IsLater (death_of c n) (cut_of c n) (back_of c n) (past note step h n i).life
+      now = later n i low
+
+      by_event : (e : NodeEvent M) → h.event n i ≡ e → is_death e ≡ true
+          → IsOfLife (lifetime_of c n) e × (death_of c n ≡ Some (beat h n i))
+      by_event (Does x) is t = absurd (cc)
+      by_event (Ends x sends) is t =
+          let lives = ended-later step (death_of c n) (cut_of c n) (back_of c n) x sends (past note step h n i) now
+          (one.complete.ending n i sends x low at is).1 in (
+            lives,
+            cut-in c n (stamp_at (Ends x sends)).beat lives ∙ ap (λ (e : NodeEvent M). Some (stamp_at e).beat) (sym is),
+          )
+      by_event (Dies s) is t =
+          let both = one.complete.dying n i s low at is in
+          let idle = idle-later (death_of c n) (cut_of c n) (back_of c n) (past note step h n i).life now s.beat both.0 both.1 in
+          let dead = dies-later (death_of c n) (cut_of c n) (back_of c n) (past note step h n i).life now s.beat both.1 in (
+            (idle, dead),
+            (dies-in c n s.beat s.beat dead).0 ∙ ap (λ (e : NodeEvent M). Some (stamp_at e).beat) (sym is),
+          )
+      by_event (Returns s) is t = absurd (cc)
+
+  pub death-at : (n i : ℕ) → n < length given → i < h.count n → is_death (h.event n i) ≡ true
+      → death_of c n ≡ Some (beat h n i)
+  death-at n i low at died = (of-death n i low at died).1
+
+  -- in the beat of the death nobody has died before
+  none-before : (n i : ℕ) → n < length given → i < h.count n → death_of c n ≡ Some (beat h n i) → (j : ℕ) → j < i
+      → is_death (h.event n j) ≡ false
+  none-before n i low at now j before = ⊎_elim
+      (λ (t : is_death (h.event n j) ≡ true).
+      let gap = behind-death n j i low before at t in
+      let both : ◌≡◌ {A = Option ℕ} (Some (beat h n j)) (Some (beat h n i)) =
+      sym (death-at n j low (omega (arith, before, at)) t) ∙ now in
+      let same : beat h n j ≡ beat h n i = some-number (beat h n j) (beat h n i) both in
+      absurd (omega (arith, gap, same)))
+      (λ (t : is_death (h.event n j) ≡ false). t)
+      (cases_Bool (is_death (h.event n j)))
+    where
+      some-number : (x y : ℕ) → Some x ≡ Some y → x ≡ y
+      some-number x y e = cc
 
   -- each event is as the course has it
   pub of-life : (n i : ℕ) → n < length given → i < h.count n → IsOfLife (lifetime_of c n) (h.event n i)
@@ -169,7 +210,8 @@ module _ {M S : Type 0} (note : M → Note) (step : S → Input M → Deed M S) 
                 ∙ acts-later (death_of c n) (cut_of c n) (back_of c n) (past note step h n i).life now (beat h n i) both.0,
             ⊎_elim
                 (λ (t : ends_in (lifetime_of c n) s.beat ≡ true).
-                let over = over-none n i low (λ j before. alive-before n j i low before at) in
+                let death = cut-in c n s.beat t ∙ ap (λ (b : ℕ). Some b) (sym dated) in
+                let over = over-none n i low (none-before n i low at death) in
                 let a = ends-back (death_of c n) (cut_of c n) (back_of c n) (past note step h n i).life s.beat now over t in
                 let b = uncut-tick step s (past note step h n i) both.1 in
                 let q : true ≡ false = sym a ∙ b in absurd (cc))
@@ -177,36 +219,18 @@ module _ {M S : Type 0} (note : M → Note) (step : S → Input M → Deed M S) 
                 (cases_Bool (ends_in (lifetime_of c n) s.beat)),
           )
       by_event (Ends x sends) is =
-          ended-later step (death_of c n) (cut_of c n) (back_of c n) x sends (past note step h n i) now
-          (one.complete.ending n i sends x low at is).1
-      by_event (Dies s) is =
-          let both = one.complete.dying n i s low at is in (
-            idle-later (death_of c n) (cut_of c n) (back_of c n) (past note step h n i).life now s.beat both.0 both.1,
-            dies-later (death_of c n) (cut_of c n) (back_of c n) (past note step h n i).life now s.beat both.1,
-          )
+          subst (IsOfLife (lifetime_of c n)) is (of-death n i low at (ap is_death is)).0
+      by_event (Dies s) is = subst (IsOfLife (lifetime_of c n)) is (of-death n i low at (ap is_death is)).0
       by_event (Returns s) is =
-          let q : true ≡ false = sym (ap is_return is) ∙ none-back n i low at in absurd (cc)
+          ap (returns (lifetime_of c n)) (sym (ap (λ (e : NodeEvent M). (stamp_at e).beat) is))
+          ∙ back-at n i low at (ap is_return is)
 
   pub cut-sends : (n i sends : ℕ) (x : Input M) → n < length given → i < h.count n → h.event n i ≡ Ends x sends
       → sends ≤ send_count (step (past note step h n i).state x).outs
   cut-sends n i sends x low at is =
       few-sends step x sends (past note step h n i) (one.complete.ending n i sends x low at is).1
 
-  -- who dies has a death in that beat, and is a cub
-  pub death-at : (n i : ℕ) → n < length given → i < h.count n → is_death (h.event n i) ≡ true
-      → death_of c n ≡ Some (beat h n i)
-  death-at n i low at died = by_event (h.event n i) refl died (of-life n i low at)
-    where
-      by_event : (e : NodeEvent M) → h.event n i ≡ e → is_death e ≡ true → IsOfLife (lifetime_of c n) e
-          → death_of c n ≡ Some (beat h n i)
-      by_event (Does (Take s k m)) is t lives = absurd (cc)
-      by_event (Does (Tick s)) is t lives = absurd (cc)
-      by_event (Ends x sends) is t lives =
-          cut-in c n (stamp_at (Ends x sends)).beat lives ∙ ap (λ (e : NodeEvent M). Some (stamp_at e).beat) (sym is)
-      by_event (Dies s) is t lives =
-          (dies-in c n s.beat s.beat lives.1).0 ∙ ap (λ (e : NodeEvent M). Some (stamp_at e).beat) (sym is)
-      by_event (Returns s) is t lives = absurd (cc)
-
+  -- and is a cub
   pub mortal-cub : (n b : ℕ) → death_of c n ≡ Some b → n < c.plan.params.cubs
   mortal-cub n b death = ⊎_elim
       (λ (t : nat_lt n c.plan.params.cubs ≡ true). grind (arith, nat_tests, t))
@@ -228,29 +252,32 @@ module _ {M S : Type 0} (note : M → Note) (step : S → Input M → Deed M S) 
   idle-before n j i s low before at is =
       let dead : IsOfLife {M = M} (lifetime_of c n) (Dies s) = subst (IsOfLife (lifetime_of c n)) is (of-life n i low at) in
       let dated : beat h n i ≡ s.beat = ap (λ (e : NodeEvent M). (stamp_at e).beat) is in
-      let live = acts-at (h.event n j) (of-life n j low (omega (arith, before, at))) (alive-before n j i low before at) in
-      let up = rising-beats in
+      let death = death-at n i low at (ap is_death is) in
+      let alive = none-before n i low at death in
+      let live = acts-at (h.event n j) (of-life n j low (omega (arith, before, at))) (alive j before) here in
+      let up = beats-rise note step c.plan.params (length given) one.history one.run n low j i (omega (arith, before)) at in
       ⊎_elim
       (λ (same : beat h n j ≡ beat h n i).
       let q : true ≡ false = sym live ∙ ap (acts (lifetime_of c n)) (same ∙ dated) ∙ dead.0 in absurd (cc))
       (λ (other : beat h n j ≡ beat h n i → ⊥). omega (arith, other, up))
       (cases_eq (beat h n j) (beat h n i))
     where
-      acts-at : (e : NodeEvent M) → IsOfLife (lifetime_of c n) e → is_death e ≡ false
+      acts-at : (e : NodeEvent M) → IsOfLife (lifetime_of c n) e → is_death e ≡ false → is_return e ≡ false
           → acts (lifetime_of c n) (stamp_at e).beat ≡ true
-      acts-at (Does (Take s k m)) lives t = lives
-      acts-at (Does (Tick s)) lives t = lives.0
-      acts-at (Ends x sends) lives t = absurd (cc)
-      acts-at (Dies s) lives t = absurd (cc)
-      acts-at (Returns s) lives t = absurd lives
+      acts-at (Does (Take s k m)) lives t f = lives
+      acts-at (Does (Tick s)) lives t f = lives.0
+      acts-at (Ends x sends) lives t f = absurd (cc)
+      acts-at (Dies s) lives t f = absurd (cc)
+      acts-at (Returns s) lives t f = absurd (cc)
 
-      rising-beats : beat h n j ≤ beat h n i
-      rising-beats =
-          let run = one_life_run note step c.plan.params (length given) one.history none-back one.run in
-          let a = run.in_beat n j low (omega (arith, before, at)) in
-          let b = run.in_beat n i low at in
-          let up = count-grows is_tick one.history n j i (omega (arith, before)) in
-          omega (arith, a, b, up)
+      here : is_return (h.event n j) ≡ false
+      here = ⊎_elim
+          (λ (t : is_return (h.event n j) ≡ true).
+          let one_more = one-death note step c.plan.params (length given) one.history one.run n low i j at (omega (arith, before, at))
+          (ap is_death is) t in
+          absurd (omega (arith, one_more, before)))
+          (λ (f : is_return (h.event n j) ≡ false). f)
+          (cases_Bool (is_return (h.event n j)))
 
   -- so the history may happen
   pub may-happen : IsPlace c.plan.params (length given) c.beats → DieApart c.plan.params (lifetime_of c)

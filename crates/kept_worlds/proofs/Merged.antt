@@ -9,8 +9,7 @@ use Rattle.slot_plan.specs.declared.params.Params.{Params}
 use Rattle.node_kit.specs.Steps.{Input, Deed}
 use Rattle.run_facts.specs.Events.{NodeEvent, Past, opening, after_all, stamp_at}
 use Rattle.run_facts.specs.Accounts.{Rising}
-use Rattle.run_facts.specs.Histories.{History, beat, last_of}
-use Rattle.proof_lives.specs.OneLife.{IsOneLifeRun}
+use Rattle.run_facts.specs.Histories.{History, IsRun, beat, last_of}
 use Rattle.run_facts.proofs.Rows.{all-given}
 use Rattle.run_facts.proofs.Listed.{listed, events_of, listed-last}
 use Rattle.ring_world.specs.declared.event.Event.{Event}
@@ -21,7 +20,6 @@ use Rattle.ring_world.specs.Merging.{Happening, added, beat_at, own, told_as, to
 use Rattle.ring_world.proofs.Accepting.{some-same}
 use Rattle.ring_world.proofs.Moving.{Holds}
 use Rattle.ring_world.proofs.Runs.{holds-opens}
-use Rattle.proof_lives.proofs.OneLife.{one_life_run}
 use Rattle.kept_worlds.specs.Merges.{MayHappen, HasLivedThrough, MergesAreAccepted}
 use Rattle.kept_worlds.proofs.Lifeless.{AreTwins, all-twin}
 use Rattle.kept_worlds.proofs.Numbers.{all-listed, listed-below}
@@ -48,7 +46,8 @@ heads : {X : Type 0} (x y : X) (xs ys : List X) → x ∷ xs ≡ y ∷ ys → (x
 heads x y xs ys e = (cc, cc)
 
 module _ {M S : Type 0} (note : M → Note) (step : S → Input M → Deed M S) (p : Params) (nodes beats : ℕ) (h : History M S)
-    (place : IsPlace p nodes beats) (run : IsOneLifeRun note step p nodes h) (may : MayHappen p nodes beats h) where
+    (place : IsPlace p nodes beats) (run : IsRun note step p nodes h)
+    (may : MayHappen p nodes beats h) where
   -- a list has what is left of a node's events, from a number on
   record IsLeft (k i : ℕ) (xs : List (Happening M)) : Type 0 where
     more : ℕ
@@ -176,7 +175,7 @@ mapped-at : {X Y : Type 0} (f : X → Y) (xs : List X) (k : ℕ) (x : X) (y : Y)
 mapped-at f xs k x y here is = slice_get-map f xs k ∙ ap (option_map f) here ∙ ap Some is
 
 module _ {M S : Type 0} (note : M → Note) (step : S → Input M → Deed M S) (p : Params) (beats : ℕ) (given : List S)
-    (h : History M S) (place : IsPlace p (length given) beats) (run : IsOneLifeRun note step p (length given) h)
+    (h : History M S) (place : IsPlace p (length given) beats) (run : IsRun note step p (length given) h)
     (may : MayHappen p (length given) beats h) where
   -- before the first event
   starts-at : ((k : ℕ) → k < length given → slice_get given k ≡ Some (h.first k))
@@ -188,6 +187,9 @@ module _ {M S : Type 0} (note : M → Note) (step : S → Input M → Deed M S) 
     last = λ k c low here.
         let is = sym (mapped-at being given k (h.first k) (being (h.first k)) (opens k low) refl) ∙ here in
         subst (IsLatest h k 0) (some-same (being (h.first k)) c is) (refl, refl);
+    away = λ k c low here _.
+        let is = sym (mapped-at being given k (h.first k) (being (h.first k)) (opens k low) refl) ∙ here in
+        subst (λ (a : Being S). a.returned ≡ false) (some-same (being (h.first k)) c is) refl;
   }
 
   -- behind the last
@@ -209,8 +211,7 @@ module _ {M S : Type 0} (note : M → Note) (step : S → Input M → Deed M S) 
       }
 
 pub merges-accepted : (M S : Type 0) → MergesAreAccepted M S
-merges-accepted M S note step p beats given h events place first all here may merged =
-    let run = one_life_run note step p (length given) h here all in
+merges-accepted M S note step p beats given h events place first run may merged =
     let opens : (k : ℕ) → k < length given → slice_get given k ≡ Some (h.first k) = λ k low.
     (let s = element-of given k low in s.1 ∙ ap Some (sym (first k s.0 s.1))) in
     let start = starts-at note step p beats given h place run may opens in

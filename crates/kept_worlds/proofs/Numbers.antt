@@ -1,6 +1,6 @@
 -- The events of a run by their numbers: what was sent and taken by one of them, and which beats come behind it.
-use Rattle.std.proofs.Common.{◌≡◌, ℕ, zero, suc, ◌+◌, ◌<◌, ◌≤◌, List, [], ◌∷◌, ◌++◌, length, Bool, true, false, Option, Some, refl, ap, sym, ◌∙◌, subst, arith, cond, ⊎_elim, inl, inr, eq-or-lt_of_le, length-append}
-use Rattle.std.specs.Prelude.{slice_get, ◌==◌}
+use Rattle.std.proofs.Common.{◌≡◌, ℕ, zero, suc, ◌+◌, ◌-◌, ◌<◌, ◌≤◌, List, [], ◌∷◌, ◌++◌, length, Bool, true, false, Option, Some, refl, ap, sym, ◌∙◌, subst, arith, ⊎_elim, inl, inr, eq-or-lt_of_le}
+use Rattle.std.specs.Prelude.{slice_get}
 use Rattle.std.specs.List.{AllByRecursion}
 use Rattle.std.proofs.lemmas.Bool.{cases_Bool, cases_eq, cases_lt, eqb-true}
 use Rattle.tiger_base.specs.declared.number.Stamp.{Stamp}
@@ -11,15 +11,16 @@ use Rattle.node_kit.specs.Links.{links_of, ends_of}
 use Rattle.node_kit.specs.Rows.{each_below}
 use Rattle.node_kit.specs.Steps.{Input, Deed}
 use Rattle.node_kit.specs.Steps.Input.{Take, Tick}
-use Rattle.run_facts.specs.Events.{NodeEvent, Dated, stamp_at, is_tick, is_death, is_take_on, sends_of, take_on}
+use Rattle.run_facts.specs.Events.{NodeEvent, Dated, stamp_at, is_tick, is_return, is_take_on, sends_of}
 use Rattle.run_facts.specs.Events.NodeEvent.{Does, Ends, Dies, Returns}
-use Rattle.run_facts.specs.Histories.{History, CameOn, TakesAt, beat, outs, count_of, takes, sent, taken}
-use Rattle.proof_lives.specs.OneLife.{IsOneLifeRun}
+use Rattle.run_facts.specs.Histories.{History, CameOn, IsRun, TakesAt, beat, below, open_beat, outs, count_of, place, sent}
 use Rattle.run_facts.proofs.Rows.{same-element}
 use Rattle.run_facts.proofs.Along.{sends_of-dated}
-use Rattle.run_facts.proofs.Counts.{sent-numbered, sent-stays, count-numbered}
+use Rattle.run_facts.proofs.Counts.{sent-numbered, sent-stays}
 use Rattle.run_facts.proofs.Listed.{listed, next-sum}
 use Rattle.ring_world.proofs.Lists.{get-all}
+use Rattle.ring_world.proofs.Ways.{below-later}
+use Rattle.kept_worlds.proofs.Returning.{next-back, taken-between, opens-rise, ends-beat}
 
 -- an element behind others
 pub get-after : {X : Type 0} (xs ys : List X) (k j : ℕ) → k ≡ length xs + j → slice_get (xs ++ ys) k ≡ slice_get ys j
@@ -64,41 +65,6 @@ count-grows test h n i (suc j) low = ⊎_elim
     (cases_Bool (test (h.event n j))))
     (eq-or-lt_of_le low)
 
-pub count-passed : {M S : Type 0} (test : NodeEvent M → Bool) (h : History M S) (n i : ℕ) → test (h.event n i) ≡ true
-    → count_of test h n (suc i) ≡ suc (count_of test h n i)
-count-passed test h n i t = rw t refl
-
--- what was taken has as many messages as takes
-one-take : {M : Type 0} (l : ℕ) (x : NodeEvent M) → length (take_on l x) ≡ cond (is_take_on l x) 1 0
-one-take l (Does (Take s k m)) = ⊎_elim
-    (λ (t : (k.0 == l) ≡ true). rw t refl)
-    (λ (t : (k.0 == l) ≡ false). rw t refl)
-    (cases_Bool (k.0 == l))
-one-take l (Does (Tick s)) = refl
-one-take l (Ends (Take s k m) sends) = ⊎_elim
-    (λ (t : (k.0 == l) ≡ true). rw t refl)
-    (λ (t : (k.0 == l) ≡ false). rw t refl)
-    (cases_Bool (k.0 == l))
-one-take l (Ends (Tick s) sends) = refl
-one-take l (Dies s) = refl
-one-take l (Returns s) = refl
-
-pub length-taken : {M S : Type 0} (l : ℕ) (h : History M S) (n i : ℕ) → length (taken l h n i) ≡ takes l h n i
-length-taken l h n zero = refl
-length-taken l h n (suc i) =
-    let x = h.event n i in
-    let both = length-append (taken l h n i) (take_on l x) in
-    let one = one-take l x in
-    let before = length-taken l h n i in
-    ⊎_elim
-    (λ (t : is_take_on l x ≡ true).
-    let this : length (take_on l x) ≡ 1 = one ∙ ap (λ b. cond b 1 0) t in
-    rw t (omega (arith, both, this, before)))
-    (λ (t : is_take_on l x ≡ false).
-    let this : length (take_on l x) ≡ 0 = one ∙ ap (λ b. cond b 1 0) t in
-    rw t (omega (arith, both, this, before)))
-    (cases_Bool (is_take_on l x))
-
 -- what was sent before a beat was sent before each event from which on the beats are no lower
 pub sent-by : {M S : Type 0} (note : M → Note) (step : S → Input M → Deed M S) (l : ℕ) (h : History M S)
     (from j m k b : ℕ) (d : Dated M) → d.beat < b → ((e : ℕ) → j ≤ e → e < m → b ≤ beat h from e)
@@ -115,6 +81,22 @@ sent-by {M} note step l h from j m k b d earlier later at =
     (λ (low : s.at < j). sent-stays note step l h from (suc s.at) j k d (omega (arith, low)) there)
     (λ (high : j ≤ s.at). let c = later s.at high s.before in absurd (omega (arith, c, dated, earlier)))
     (cases_lt s.at j)
+
+-- what is sent from an event on, if the beats are no lower than one there, is not below that beat
+pub sent-below : {M S : Type 0} (note : M → Note) (step : S → Input M → Deed M S) (l : ℕ) (h : History M S)
+    (from b j m : ℕ) → j ≤ m → ((e : ℕ) → j ≤ e → e < m → b ≤ beat h from e)
+    → below b (sent note step l h from j) ≡ below b (sent note step l h from m)
+sent-below note step l h from b j zero low later =
+    let z : j ≡ 0 = omega (arith, low) in ap (λ k. below b (sent note step l h from k)) z
+sent-below {M} note step l h from b j (suc m) low later = ⊎_elim
+    (λ (e : j ≡ suc m). ap (λ k. below b (sent note step l h from k)) e)
+    (λ (more : j < suc m).
+    let now = beat h from m in
+    let up = later m (omega (arith, more)) (omega arith) in
+    sent-below note step l h from b j m (omega (arith, more)) (λ e a c. later e a (omega (arith, c)))
+    ∙ sym (below-later b (sent note step l h from m) (sends_of l now (outs note step h from m))
+    (sends_of-dated (λ q. b ≤ q) l now (outs note step h from m) up)))
+    (eq-or-lt_of_le low)
 
 -- an event that takes something on a link
 pub record IsTake {M : Type 0} (l : ℕ) (x : NodeEvent M) : Type 0 where
@@ -140,6 +122,12 @@ taken-in {M} x s k m is = ⊎_elim
     (λ (e : (sends : ℕ) × (x ≡ Ends (Take s k m) sends)). ap (λ (y : NodeEvent M). (stamp_at y).beat) e.1)
     is
 
+tick-here : {M : Type 0} (x : NodeEvent M) → is_tick x ≡ true → is_return x ≡ false
+tick-here (Does i) t = refl
+tick-here (Ends i sends) t = refl
+tick-here (Dies s) t = absurd (cc)
+tick-here (Returns s) t = absurd (cc)
+
 tick-or-take : {M : Type 0} (l : ℕ) (x : NodeEvent M) → is_tick x ≡ true → is_take_on l x ≡ true → ⊥
 tick-or-take l (Does (Take s k m)) t u = absurd (cc)
 tick-or-take l (Does (Tick s)) t u = absurd (cc)
@@ -149,23 +137,15 @@ tick-or-take l (Dies s) t u = absurd (cc)
 tick-or-take l (Returns s) t u = absurd (cc)
 
 module _ {M S : Type 0} (note : M → Note) (step : S → Input M → Deed M S) (p : Params) (nodes : ℕ) (h : History M S)
-    (run : IsOneLifeRun note step p nodes h) where
-  -- before its last event nobody died
-  pub lives-before : (n j i : ℕ) → n < nodes → j < i → i < h.count n → is_death (h.event n j) ≡ false
-  lives-before n j i low before high = ⊎_elim
-      (λ (died : is_death (h.event n j) ≡ true).
-      let last = run.ended n j low (omega (arith, before, high)) died in absurd (omega (arith, last, before, high)))
-      (λ (lives : is_death (h.event n j) ≡ false). lives)
-      (cases_Bool (is_death (h.event n j)))
-
+    (run : IsRun note step p nodes h) where
   -- what a node takes on a link was sent there with the number of the take
   came-as : (l from n i k : ℕ) (d : Dated M) → n < nodes → i < h.count n → ends_of (links_of p) l ≡ Some (from, n)
-      → takes l h n i ≡ k → slice_get (sent note step l h from (h.count from)) k ≡ Some d
+      → place l h n i ≡ k → slice_get (sent note step l h from (h.count from)) k ≡ Some d
       → is_take_on l (h.event n i) ≡ true → beat h n i ≤ d.beat + p.delay
   came-as l from n i k d low at ends number was takes_it =
       let t = take-of l (h.event n i) takes_it in
-      let came : CameOn note step p nodes h n l (takes l h n i) t.stamp.beat t.msg =
-      subst (λ q. CameOn note step p nodes h n q (takes q h n i) t.stamp.beat t.msg) t.on
+      let came : CameOn note step p nodes h n l (place l h n i) t.stamp.beat t.msg =
+      subst (λ q. CameOn note step p nodes h n q (place q h n i) t.stamp.beat t.msg) t.on
       (run.carried n i t.stamp t.link t.msg low at t.is) in
       let both : ◌≡◌ {A = Option (ℕ × ℕ)} (Some (came.from, n)) (Some (from, n)) = sym came.ends ∙ ends in
       let same : came.from ≡ from = first-same came.from from both in
@@ -186,29 +166,50 @@ module _ {M S : Type 0} (note : M → Note) (step : S → Input M → Deed M S) 
   -- what is not taken by a tick may still arrive in a later beat
   pub young-at_tick : (l from n i k : ℕ) (d : Dated M) → from < nodes → n < nodes → i < h.count n
       → ends_of (links_of p) l ≡ Some (from, n) → is_tick (h.event n i) ≡ true
-      → slice_get (sent note step l h from (h.count from)) k ≡ Some d → takes l h n i ≤ k
+      → slice_get (sent note step l h from (h.count from)) k ≡ Some d → place l h n i ≤ k
       → beat h n i < d.beat + p.delay
   young-at_tick l from n i k d low_from low at ends ticks_it was waits = ⊎_elim
       (λ (young : beat h n i < d.beat + p.delay). young)
-      (λ (old : d.beat + p.delay ≤ beat h n i).
-      let more = count-passed is_tick h n i ticks_it in
-      let here = run.in_beat n i low at in
-      let all = count-grows is_tick h n (suc i) (h.count n) (omega (arith, at)) in
-      let few = run.arrives l from n k d.beat d.item low_from low ends was (omega (arith, old, more, here, all)) in
-      let c = count-numbered (is_take_on l) h n (h.count n) k few in
-      let soon = came-as l from n c.at k d low c.before ends c.number was c.passes in
-      absurd (⊎_elim
-      (λ (before : c.at < i).
-      let up = count-grows (is_take_on l) h n (suc c.at) i (omega (arith, before)) in
-      let one = count-passed (is_take_on l) h n c.at c.passes in
-      let number = c.number in
-      omega (arith, up, one, number, waits))
-      (λ (behind : i ≤ c.at). ⊎_elim
-      (λ (same : i ≡ c.at). tick-or-take l (h.event n c.at) (subst (λ q. is_tick (h.event n q) ≡ true) same ticks_it) c.passes)
-      (λ (later : i < c.at).
-      let then_on = count-grows is_tick h n (suc i) c.at (omega (arith, later)) in
-      let there = run.in_beat n c.at low c.before in
-      omega (arith, then_on, there, more, here, soon, old))
-      (eq-or-lt_of_le behind))
-      (cases_lt c.at i)))
+      (λ (old : d.beat + p.delay ≤ beat h n i). absurd (late old))
       (cases_lt (beat h n i) (d.beat + p.delay))
+    where
+      rises : (a b : ℕ) → a ≤ b → b ≤ h.count n → open_beat h n a ≤ open_beat h n b
+      rises = opens-rise note step p nodes h run n low
+
+      -- by the next return, or by the end, it was taken
+      late : d.beat + p.delay ≤ beat h n i → ⊥
+      late old =
+          let back = next-back h n i (h.count n - i) (h.count n) (omega (arith, at)) in
+          let from_here = back.from in
+          let up = back.low in
+          let ended = ends-beat note step p nodes h run n low i at ticks_it in
+          let tick_here = tick-here (h.event n i) ticks_it in
+          let past_it : suc i ≤ back.at = ⊎_elim
+          (λ (same : i ≡ back.at). ⊎_elim
+          (λ (end : back.at ≡ h.count n). absurd (omega (arith, same, end, at)))
+          (λ (ret : (back.at < h.count n) × (is_return (h.event n back.at) ≡ true)).
+          let q : true ≡ false = sym ret.1 ∙ subst (λ q. is_return (h.event n q) ≡ false) same tick_here in absurd (cc))
+          back.ends)
+          (λ (more : i < back.at). more)
+          (eq-or-lt_of_le from_here) in
+          let opened = rises (suc i) back.at past_it up in
+          let due : d.beat + p.delay < open_beat h n back.at = omega (arith, ended, opened, old) in
+          let taken : k < place l h n back.at = ⊎_elim
+          (λ (end : back.at ≡ h.count n).
+          let few = run.arrives l from n k d.beat d.item low_from low ends was
+          (subst (λ q. d.beat + p.delay < open_beat h n q) end due) in
+          subst (λ q. k < place l h n q) (sym end) few)
+          (λ (ret : (back.at < h.count n) × (is_return (h.event n back.at) ≡ true)).
+          run.in_time l from n back.at k d.beat d.item low_from low ends ret.0 ret.1 was due)
+          back.ends in
+          let c = taken-between l h n i back.at k back.here from_here waits taken in
+          let after = c.from in
+          let below_it = c.before in
+          let soon = came-as l from n c.at k d low (omega (arith, below_it, up)) ends c.is was c.takes in
+          ⊎_elim
+          (λ (same : i ≡ c.at). tick-or-take l (h.event n c.at) (subst (λ q. is_tick (h.event n q) ≡ true) same ticks_it) c.takes)
+          (λ (later : i < c.at).
+          let then_on = rises (suc i) c.at later (omega (arith, below_it, up)) in
+          let there = run.in_beat n c.at low (omega (arith, below_it, up)) (back.here c.at after below_it) in
+          omega (arith, then_on, there, ended, soon, old))
+          (eq-or-lt_of_le after)

@@ -1,5 +1,5 @@
 -- A machine beside the numbers of the events that come next, and what of it is known before the next one.
-use Rattle.std.proofs.Common.{◌≡◌, ℕ, zero, suc, ◌+◌, ◌%◌, ◌<◌, ◌≤◌, List, length, Bool, true, false, Option, Some, None}
+use Rattle.std.proofs.Common.{◌≡◌, ℕ, zero, suc, ◌+◌, ◌%◌, ◌<◌, ◌≤◌, List, [], ◌∷◌, length, Bool, true, false, Option, Some, None}
 use Rattle.std.proofs.Common.{refl, ap, sym, ◌∙◌, subst, arith, ⊎_elim}
 use Rattle.std.specs.Prelude.{slice_get, nat_lt}
 use Rattle.std.proofs.Math.Nat.{mod-lt}
@@ -11,29 +11,29 @@ use Rattle.tiger_base.specs.declared.number.Stamp.{Stamp}
 use Rattle.slot_plan.specs.declared.params.Params.{Params}
 use Rattle.node_kit.specs.Links.{links_of, ends_of}
 use Rattle.node_kit.specs.Steps.{Input, Deed}
-use Rattle.run_facts.specs.Events.{NodeEvent, opening, stamp_at, is_death, is_return, sends_along}
+use Rattle.run_facts.specs.Events.{NodeEvent, behind, opening, stamp_at, is_death, is_return, sends_along}
 use Rattle.run_facts.specs.Events.NodeEvent.{Dies}
-use Rattle.run_facts.specs.Accounts.{AreAlive, AreHere, event_at, open_after}
-use Rattle.run_facts.specs.Histories.{History, beat, reading, ticks, takes, sent}
-use Rattle.proof_lives.specs.OneLife.{IsOneLifeRun}
+use Rattle.run_facts.specs.Accounts.{AreAlive, event_at, open_after}
+use Rattle.run_facts.specs.Histories.{History, IsBack, IsRun, beat, open_beat, place, place_behind, reading, sent}
 use Rattle.run_facts.proofs.Rows.{same-element}
 use Rattle.run_facts.proofs.Indexed.{all-at}
-use Rattle.run_facts.proofs.Timelines.{open-ticks}
-use Rattle.run_facts.proofs.Listed.{listed, listed-all, listed-length, listed-sends, listed-takes, listed-ticks}
+use Rattle.run_facts.proofs.Timelines.{open-append}
+use Rattle.run_facts.proofs.Listed.{listed, listed-all, listed-length, listed-sends}
 use Rattle.ring_world.specs.declared.event.Act.{Act}
 use Rattle.ring_world.specs.declared.event.Event.{Event}
 use Rattle.ring_world.specs.Machine.{Machine, Being, undying, node_of}
 use Rattle.ring_world.specs.Faults.{has_done, life_fault, node_fault, missed_fault, take_fault, late_fault, death_fault, fault_of}
 use Rattle.ring_world.specs.Laws.{IsPlace}
 use Rattle.ring_world.specs.Merging.{place_along}
-use Rattle.ring_world.proofs.Deaths.{HasDied}
-use Rattle.ring_world.proofs.Ways.{place-taken}
+use Rattle.ring_world.proofs.Deaths.{HasDied, IsDeathAt, beat_at}
+use Rattle.ring_world.proofs.Ways.{place-append}
 use Rattle.ring_world.proofs.Steps.{IsLifeline}
 use Rattle.ring_world.proofs.Moving.{Holds}
 use Rattle.kept_worlds.specs.Merges.{LivesThrough, MayHappen}
 use Rattle.kept_worlds.proofs.Lifeless.{sends-twin}
 use Rattle.kept_worlds.proofs.Faultless.{none-beat, none-missed, none-node, none-all}
-use Rattle.kept_worlds.proofs.Numbers.{length-taken, lives-before}
+use Rattle.kept_worlds.proofs.Numbers.{listed-more}
+use Rattle.kept_worlds.proofs.Returning.{number_of, opens-by}
 
 -- a node of whatever state may stand anywhere: what is asked of nodes is a run's own record
 abbrev pub anywhere : {S : Type 0} → S → Params → ℕ → Type 0
@@ -52,18 +52,20 @@ sends-listed note step l h n i =
     (record { state = refl; journal = refl })
     ∙ sym (listed-sends note step l h n 0 i i (omega arith))
 
-pub takes-listed : {M S : Type 0} (l lost : ℕ) (h : History M S) (n i : ℕ) → AreHere (listed h n 0 i)
-    → place_along l lost 0 (listed h n 0 i) ≡ takes l h n i
-takes-listed l lost h n i here =
-    place-taken l lost (listed h n 0 i) here
-    ∙ ap length (sym (listed-takes l h n 0 i i (omega arith))) ∙ length-taken l h n i
+pub place-listed : {M S : Type 0} (l : ℕ) (h : History M S) (n i : ℕ)
+    → place_along l (h.before l) 0 (listed h n 0 i) ≡ place l h n i
+place-listed l h n zero = refl
+place-listed l h n (suc i) =
+    ap (place_along l (h.before l) 0) (listed-more h n 0 i i (omega arith))
+    ∙ place-append l (h.before l) 0 (listed h n 0 i) (h.event n i ∷ [])
+    ∙ ap (λ (k : ℕ). place_behind l (h.before l) (h.event n i) k) (place-listed l h n i)
 
-ticks-listed : {M S : Type 0} (h : History M S) (n i : ℕ) → AreHere (listed h n 0 i)
-    → open_after 0 (listed h n 0 i) ≡ ticks h n i
-ticks-listed h n i here =
-    let all = listed-ticks h n 0 i i (omega arith) in
-    let opens = open-ticks 0 (listed h n 0 i) here in
-    omega (arith, all, opens)
+pub open-listed : {M S : Type 0} (h : History M S) (n i : ℕ) → open_after 0 (listed h n 0 i) ≡ open_beat h n i
+open-listed h n zero = refl
+open-listed h n (suc i) =
+    ap (open_after 0) (listed-more h n 0 i i (omega arith))
+    ∙ open-append 0 (listed h n 0 i) (h.event n i ∷ [])
+    ∙ ap (behind (h.event n i)) (open-listed h n i)
 
 -- the event of a number is the history's
 listed-at : {M S : Type 0} (h : History M S) (n i k j m : ℕ) → i + j ≡ m → j < k
@@ -90,13 +92,15 @@ never-died {M} dead death es h alive = (by_dead dead h, by_death death h)
     by_death (Some d) k = let one = k.when d refl in absurd (living one.0 one.1.low one.1.died)
 
 module _ {M S : Type 0} (note : M → Note) (step : S → Input M → Deed M S) (p : Params) (nodes beats : ℕ) (h : History M S)
-    (place : IsPlace p nodes beats) (run : IsOneLifeRun note step p nodes h) (may : MayHappen p nodes beats h) where
+    (place : IsPlace p nodes beats) (run : IsRun note step p nodes h) (may : MayHappen p nodes beats h) where
   -- the machine has come through the events below these numbers
   pub record IsAt (m : Machine M S) (es : ℕ → List (NodeEvent M)) (at : ℕ → ℕ) : Type 0 where
     pub holds : Holds note step anywhere p nodes h.first m es
     pub told : (k : ℕ) → k < nodes → es k ≡ listed h k 0 (at k)
     pub within : (k : ℕ) → k < nodes → at k ≤ h.count k
     pub last : (k : ℕ) (c : Being S) → k < nodes → slice_get m.beings k ≡ Some c → IsLatest h k (at k) c
+    pub away : (k : ℕ) (c : Being S) → k < nodes → slice_get m.beings k ≡ Some c
+        → ((j : ℕ) → j < at k → is_return (h.event k j) ≡ false) → c.returned ≡ false
 
   -- the next event of node n comes before all that are left, and is no earlier than those of the machine
   pub record IsNext (m : Machine M S) (at : ℕ → ℕ) (n : ℕ) : Type 0 where
@@ -129,19 +133,31 @@ module _ {M S : Type 0} (note : M → Note) (step : S → Input M → Deed M S) 
         let same : own.0 ≡ c = same-element m.beings k own.0 c own.1 here in
         subst (λ (a : Being S). IsLifeline note step anywhere p k m.beat (h.first k) a (es k)) same own.2
 
-    -- nobody has returned
-    here-listed : (k : ℕ) → k < nodes → AreHere (listed h k 0 (at k))
-    here-listed k low =
-        let within = point.within k low in
-        listed-all h (λ e. is_return e ≡ false) k 0 (at k) (at k) (omega arith)
-        (λ j _ high. run.here k j low (omega (arith, high, within)))
+    -- its events by their numbers
+    pub size-of : (k : ℕ) → k < nodes → length (es k) ≡ at k
+    size-of k low = ap length (point.told k low) ∙ listed-length h k 0 (at k)
 
-    pub here-all : (k : ℕ) → k < nodes → AreHere (es k)
-    here-all k low = subst AreHere (sym (point.told k low)) (here-listed k low)
+    pub event-of : (k j : ℕ) → k < nodes → j < at k → event_at (es k) j ≡ h.event k j
+    event-of k j low high =
+        ap (λ q. event_at q j) (point.told k low) ∙ listed-at h k 0 (at k) j j (omega arith) high
 
-    pub ticked-at : (k : ℕ) (c : Being S) → k < nodes → slice_get m.beings k ≡ Some c → c.ticked ≡ ticks h k (at k)
+    -- a death among them
+    death-of : (k j : ℕ) → k < nodes → j < at k → is_death (h.event k j) ≡ true → IsDeathAt (es k) j
+    death-of k j low high died =
+        let size = size-of k low in
+        record { low = omega (arith, size, high); died = ap is_death (event-of k j low high) ∙ died }
+
+    -- and one that is found there
+    death-is : (k j : ℕ) → k < nodes → IsDeathAt (es k) j → (j < at k) × (is_death (h.event k j) ≡ true)
+    death-is k j low one =
+        let size = size-of k low in
+        let here = one.low in
+        let high : j < at k = omega (arith, here, size) in
+        (high, ap is_death (sym (event-of k j low high)) ∙ one.died)
+
+    pub ticked-at : (k : ℕ) (c : Being S) → k < nodes → slice_get m.beings k ≡ Some c → c.ticked ≡ open_beat h k (at k)
     ticked-at k c low here =
-        (line-of k c low here).ticked ∙ ap (open_after 0) (point.told k low) ∙ ticks-listed h k (at k) (here-listed k low)
+        (line-of k c low here).ticked ∙ ap (open_after 0) (point.told k low) ∙ open-listed h k (at k)
 
     -- who lives through the history is not dead, and has never died
     pub spared : (k : ℕ) (c : Being S) → k < nodes → slice_get m.beings k ≡ Some c → LivesThrough h k
@@ -158,9 +174,8 @@ module _ {M S : Type 0} (note : M → Note) (step : S → Input M → Deed M S) 
         ap (λ q. sends_along note step l q (opening (h.first from) undying)) (point.told from (place.linked l from to ends).0)
         ∙ sends-listed note step l h from (at from)
 
-    pub taken-here : (l lost k : ℕ) → k < nodes → place_along l lost 0 (es k) ≡ takes l h k (at k)
-    taken-here l lost k low =
-        ap (place_along l lost 0) (point.told k low) ∙ takes-listed l lost h k (at k) (here-listed k low)
+    pub taken-here : (l k : ℕ) → k < nodes → place_along l (h.before l) 0 (es k) ≡ number_of l h k (at k)
+    taken-here l k low = ap (place_along l (h.before l) 0) (point.told k low) ∙ place-listed l h k (at k)
 
     module _ (n : ℕ) (next : IsNext m at n) where
       -- the being of the node
@@ -170,16 +185,100 @@ module _ {M S : Type 0} (note : M → Note) (step : S → Input M → Deed M S) 
       pub own-at : slice_get m.beings n ≡ Some own
       own-at = (point.holds.node n next.low).1
 
-      pub own-lives : (own.dead ≡ false) × (own.died ≡ None)
-      own-lives =
-          let here = next.here in
-          let alive : AreAlive (es n) = subst AreAlive (sym (point.told n next.low))
-          (listed-all h (λ e. is_death e ≡ false) n 0 (at n) (at n) (omega arith)
-          (λ j _ high. lives-before note step p nodes h run n j (at n) next.low high here)) in
-          never-died own.dead own.died (es n) (line-of n own next.low own-at).deaths alive
+      own-line : IsLifeline note step anywhere p n m.beat (h.first n) own (es n)
+      own-line = line-of n own next.low own-at
 
-      pub own-ticked : own.ticked ≡ beat h n (at n)
-      own-ticked = ticked-at n own next.low own-at ∙ sym (run.in_beat n (at n) next.low next.here)
+      -- it lives, if its next event is no return
+      pub own-lives : is_return (h.event n (at n)) ≡ false → own.dead ≡ false
+      own-lives here = ⊎_elim
+          (λ (dead : own.dead ≡ true).
+          let last = own-line.deaths.final dead in
+          let end = last.1 in
+          let size = size-of n next.low in
+          let one = death-is n last.0 next.low (record { low = omega (arith, end); died = last.2 }) in
+          let more = next.here in
+          let next_one : last.0 + 1 ≡ at n = omega (arith, end, size) in
+          ⊎_elim
+          (λ (over : last.0 + 1 ≡ h.count n). absurd (omega (arith, over, next_one, more)))
+          (λ (back : is_return (h.event n (last.0 + 1)) ≡ true).
+          let q : true ≡ false = sym back ∙ subst (λ k. is_return (h.event n k) ≡ false) (sym next_one) here in absurd (cc))
+          (run.ended n last.0 next.low (omega (arith, next_one, more)) one.1))
+          (λ (lives : own.dead ≡ false). lives)
+          (cases_Bool own.dead)
+
+      -- and has never died, if that is a death
+      pub own-undied : is_death (h.event n (at n)) ≡ true → own.died ≡ None
+      own-undied died = by_death own.died refl
+        where
+          by_death : (d : Option ℕ) → own.died ≡ d → d ≡ None
+          by_death None e = refl
+          by_death (Some d) e =
+              let one = own-line.deaths.when d e in
+              let there = death-is n one.0 next.low one.1 in
+              let before = there.0 in
+              let here = next.here in
+              let same = run.once n one.0 (at n) next.low (omega (arith, before, here)) here there.1 died in
+              absurd (omega (arith, same, before))
+
+      -- a node that returns is dead, since two beats or more, and has not returned before
+      pub own-dead : is_return (h.event n (at n)) ≡ true
+          → (own.dead ≡ true) × (d : ℕ) × (own.died ≡ Some d) × (d + 2 ≤ beat h n (at n))
+      own-dead back =
+          let dead = ⊎_elim
+          (λ (dead : own.dead ≡ true). dead)
+          (λ (lives : own.dead ≡ false).
+          let more = own-line.deaths.up lives behind_it.last last-death in
+          let size = size-of n next.low in
+          absurd (omega (arith, more, size, next_one)))
+          (cases_Bool own.dead) in
+          let died = by_death own.died refl in
+          (dead, died.0, died.1, died.2)
+        where
+          behind_it : IsBack h n (at n)
+          behind_it = run.returned n (at n) next.low next.here back
+
+          next_one : at n ≡ suc behind_it.last
+          next_one = behind_it.next
+
+          last-death : IsDeathAt (es n) behind_it.last
+          last-death = death-of n behind_it.last next.low (omega (arith, next_one)) behind_it.died
+
+          by_death : (o : Option ℕ) → own.died ≡ o → (d : ℕ) × (o ≡ Some d) × (d + 2 ≤ beat h n (at n))
+          by_death None e =
+              let q : true ≡ false = sym last-death.died
+              ∙ all-at (λ (x : NodeEvent M). is_death x ≡ false) (es n) behind_it.last last-death.low (own-line.deaths.never e) in
+              absurd (cc)
+          by_death (Some d) e =
+              let one = own-line.deaths.when d e in
+              let same = own-line.deaths.once one.0 behind_it.last one.1 last-death in
+              let dated : beat_at (es n) behind_it.last ≡ d = ap (beat_at (es n)) (sym same) ∙ one.2 in
+              let theirs : beat_at (es n) behind_it.last ≡ beat h n behind_it.last =
+              ap (λ (x : NodeEvent M). (stamp_at x).beat) (event-of n behind_it.last next.low (omega (arith, next_one))) in
+              let apart = behind_it.apart in
+              (d, refl, omega (arith, dated, theirs, apart))
+
+      pub own-first : is_return (h.event n (at n)) ≡ true → own.returned ≡ false
+      own-first back = point.away n own next.low own-at (λ j low. ⊎_elim
+          (λ (t : is_return (h.event n j) ≡ true).
+          let here = next.here in
+          let one = run.returned n j next.low (omega (arith, low, here)) t in
+          let two = run.returned n (at n) next.low here back in
+          let next_one = one.next in
+          let next_two = two.next in
+          let same = run.once n one.last two.last next.low (omega (arith, next_one, low, here)) (omega (arith, next_two, here))
+          one.died two.died in
+          absurd (omega (arith, same, next_one, next_two, low)))
+          (λ (f : is_return (h.event n j) ≡ false). f)
+          (cases_Bool (is_return (h.event n j))))
+
+      own-open : own.ticked ≡ open_beat h n (at n)
+      own-open = ticked-at n own next.low own-at
+
+      pub own-ticked : is_return (h.event n (at n)) ≡ false → own.ticked ≡ beat h n (at n)
+      own-ticked here = own-open ∙ sym (run.in_beat n (at n) next.low next.here here)
+
+      pub own-done : own.ticked ≤ beat h n (at n)
+      own-done = let a = own-open in let b = opens-by note step p nodes h run n next.low (at n) next.here in omega (arith, a, b)
 
       pub own-read : own.reading ≤ reading h n (at n)
       own-read = latest-reading n (at n) own next.low next.here (point.last n own next.low own-at)
@@ -187,17 +286,13 @@ module _ {M S : Type 0} (note : M → Note) (step : S → Input M → Deed M S) 
       pub own-acted : (stamp : Stamp) → h.event n (at n) ≡ Dies stamp → own.acted ≤ beat h n (at n)
       own-acted stamp is = latest-acted n (at n) stamp own next.low next.here is (point.last n own next.low own-at)
 
-      -- behind its last event who is not dead has not died
-      last-dies : (k : ℕ) (c : Being S) (j : ℕ) → k < nodes → slice_get m.beings k ≡ Some c → c.dead ≡ false
-          → at k ≡ h.count k → j < h.count k → is_death (h.event k j) ≡ true → ⊥
-      last-dies k c j low here lives all high died =
-          let last = run.ended k j low high died in
-          let size : length (es k) ≡ at k = ap length (point.told k low) ∙ listed-length h k 0 (at k) in
-          let inside : j < length (es k) = omega (arith, size, all, high) in
-          let is : event_at (es k) j ≡ h.event k j = ap (λ q. event_at q j) (point.told k low)
-          ∙ listed-at h k 0 (at k) j j (omega arith) (omega (arith, all, high)) in
-          let more = (line-of k c low here).deaths.up lives j (record { low = inside; died = ap is_death is ∙ died }) in
-          omega (arith, more, size, all, last)
+      -- a death of who is not dead is followed by more
+      goes-on : (k : ℕ) (c : Being S) (j : ℕ) → k < nodes → slice_get m.beings k ≡ Some c → c.dead ≡ false → j < at k
+          → is_death (h.event k j) ≡ true → j + 1 < at k
+      goes-on k c j low here lives high died =
+          let more = (line-of k c low here).deaths.up lives j (death-of k j low high died) in
+          let size = size-of k low in
+          omega (arith, more, size)
 
       -- who lives has ticked in each beat before
       pub reached : (k : ℕ) (c : Being S) → k < nodes → slice_get m.beings k ≡ Some c → c.dead ≡ false
@@ -207,16 +302,22 @@ module _ {M S : Type 0} (note : M → Note) (step : S → Input M → Deed M S) 
           ⊎_elim
           (λ (more : at k < h.count k).
           let later = next.first k (at k) low (omega arith) more in
-          let counted = run.in_beat k (at k) low more in
+          let up : is_return (h.event k (at k)) ≡ false = ⊎_elim
+          (λ (back : is_return (h.event k (at k)) ≡ true).
+          let one = run.returned k (at k) low more back in
+          let after = one.next in
+          let on = goes-on k c one.last low here lives (omega (arith, after)) one.died in
+          absurd (omega (arith, on, after)))
+          (λ (f : is_return (h.event k (at k)) ≡ false). f)
+          (cases_Bool (is_return (h.event k (at k)))) in
+          let counted = run.in_beat k (at k) low more up in
           omega (arith, later, counted, ticked))
           (λ (none : h.count k ≤ at k).
           let within = point.within k low in
           let all : at k ≡ h.count k = omega (arith, none, within) in
-          let level = run.level n k (at n) next.low low next.here (λ j high. ⊎_elim
-          (λ (died : is_death (h.event k j) ≡ true). absurd (last-dies k c j low here lives all high died))
-          (λ (alive : is_death (h.event k j) ≡ false). alive)
-          (cases_Bool (is_death (h.event k j)))) in
-          let same : ticks h k (h.count k) ≡ ticks h k (at k) = ap (ticks h k) (sym all) in
+          let level = run.level n k (at n) next.low low next.here (λ j high died.
+          let on = goes-on k c j low here lives (omega (arith, high, all)) died in omega (arith, on, all)) in
+          let same : open_beat h k (h.count k) ≡ open_beat h k (at k) = ap (open_beat h k) (sym all) in
           omega (arith, level, same, ticked))
           (cases_lt (at k) (h.count k))
 
@@ -246,7 +347,7 @@ module _ {M S : Type 0} (note : M → Note) (step : S → Input M → Deed M S) 
           reached k c (omega (arith, within, size)) here lives)
 
       pub undone : nat_lt (beat h n (at n)) own.ticked ≡ false
-      undone = let same = own-ticked in grind (arith, nat_tests, same)
+      undone = let low = own-done in grind (arith, nat_tests, low)
 
       -- an act of the node has no fault, if its kind has none
       pub none-of_act : (a : Act) → node_of p a ≡ n → life_fault n a (beat h n (at n)) own ≡ None → has_done a (beat h n (at n)) own ≡ false

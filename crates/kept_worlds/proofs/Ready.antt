@@ -1,6 +1,6 @@
 -- The next event of a node may happen: nothing of it is missing, late, early or beside a cub that died.
 use Rattle.std.proofs.Common.{◌≡◌, ℕ, suc, ◌+◌, ◌-◌, ◌%◌, ◌<◌, List, [], ◌∷◌, length, true, false, Option, Some, None, refl, ap, sym, ◌∙◌, subst, arith, ⊎_elim, inl, inr}
-use Rattle.std.specs.Prelude.{slice_get, option_map, nat_lt, is_some, ◌==◌}
+use Rattle.std.specs.Prelude.{slice_get, option_map, nat_lt, nat_le, is_some, ◌==◌}
 use Rattle.std.specs.List.{AllByRecursion}
 use Rattle.std.proofs.Math.Nat.{mod_self, mod-eq_of_lt, mod-lt}
 use Rattle.std.proofs.lemmas.Option.{none-some}
@@ -17,11 +17,9 @@ use Rattle.run_facts.specs.Events.{NodeEvent, Dated, opening, stamp_at, is_tick,
 use Rattle.run_facts.specs.Events.{sends_along, input_on, take_on}
 use Rattle.run_facts.specs.Events.NodeEvent.{Does, Ends, Dies, Returns}
 use Rattle.run_facts.specs.Accounts.{IsLed}
-use Rattle.run_facts.specs.Histories.{History, TakesAt, beat, takes, sent}
-use Rattle.proof_lives.specs.OneLife.{IsOneLifeRun}
+use Rattle.run_facts.specs.Histories.{History, IsRun, TakesAt, beat, below, sent}
 use Rattle.run_facts.proofs.Rows.{same-element}
 use Rattle.run_facts.proofs.Counts.{sent-stays}
-use Rattle.run_facts.proofs.Indexed.{all-at}
 use Rattle.ring_world.specs.declared.event.Act.TheVariants as act
 use Rattle.ring_world.specs.Machine.{Machine, Being, Way, undying, oldest, receiver, node_of, node_event}
 use Rattle.ring_world.specs.Faults.{has_done, life_fault, take_fault, late_fault, death_fault, has_died, cub_before, cub_after, neighbour_fault, IsActOf}
@@ -31,9 +29,10 @@ use Rattle.ring_world.specs.Merging.{act_of, place_along}
 use Rattle.ring_world.proofs.Ways.{IsOnWay, IsTakenOff}
 use Rattle.kept_worlds.specs.Merges.{LivesThrough, MayHappen}
 use Rattle.kept_worlds.proofs.Faultless.{none-take, none-late, none-death}
-use Rattle.kept_worlds.proofs.Numbers.{get-after, sent-by, taken-in, young-at_tick}
-use Rattle.kept_worlds.proofs.Points.{IsAt, IsNext, sent-here, here-all, taken-here, spared, own}
-use Rattle.kept_worlds.proofs.Points.{own-lives, own-acted, undone}
+use Rattle.kept_worlds.proofs.Numbers.{get-after, sent-below, sent-by, taken-in, young-at_tick}
+use Rattle.kept_worlds.proofs.Points.{IsAt, IsNext, sent-here, size-of, event-of, taken-here, spared, own}
+use Rattle.kept_worlds.proofs.Points.{own-acted, own-dead, own-first, own-lives, own-undied, undone}
+use Rattle.kept_worlds.proofs.Returning.{beats-rise, death-here, number_of}
 
 -- a list that has a first element
 first-of : {X : Type 0} (xs : List X) (x : X) → slice_get xs 0 ≡ Some x → (tail : List X) × (xs ≡ x ∷ tail)
@@ -72,7 +71,8 @@ after-before p n low = ⊎_elim
     (cases_eq n 0)
 
 module _ {M S : Type 0} (note : M → Note) (step : S → Input M → Deed M S) (p : Params) (nodes beats : ℕ) (h : History M S)
-    (place : IsPlace p nodes beats) (run : IsOneLifeRun note step p nodes h) (may : MayHappen p nodes beats h)
+    (place : IsPlace p nodes beats) (run : IsRun note step p nodes h)
+    (may : MayHappen p nodes beats h)
     (m : Machine M S) (es : ℕ → List (NodeEvent M)) (at : ℕ → ℕ)
     (point : IsAt note step p nodes beats h place run may m es at)
     (n : ℕ) (next : IsNext note step p nodes beats h place run may m at n) where
@@ -103,48 +103,65 @@ module _ {M S : Type 0} (note : M → Note) (step : S → Input M → Deed M S) 
   not-ticked : nat_lt now mine.ticked ≡ false
   not-ticked = undone note step p nodes beats h place run may m es at point n next
 
-  alive-here : (mine.dead ≡ false) × (mine.died ≡ None)
-  alive-here = own-lives note step p nodes beats h place run may m es at point n next
+  lives-here : is_return (h.event n (at n)) ≡ false → mine.dead ≡ false
+  lives-here = own-lives note step p nodes beats h place run may m es at point n next
 
-  -- nothing is lost, so that what is gone was taken
-  gone-is : (l from : ℕ) (w : Way M)
+  -- who dies lives, and has never died
+  alive-here : is_death (h.event n (at n)) ≡ true → (mine.dead ≡ false) × (mine.died ≡ None)
+  alive-here died = (
+    lives-here (death-here (h.event n (at n)) died),
+    own-undied note step p nodes beats h place run may m es at point n next died,
+  )
+
+  -- what is gone was taken, or lost by a return: below that all is sent that is sent at all
+  gone-is : (l from : ℕ) (w : Way M) → ends_of (links_of p) l ≡ Some (from, n)
       → IsOnWay p.delay m.beat l w (sends_along note step l (es from) (opening (h.first from) undying)) (es n)
       → place_along l (h.before l) 0 (es n) ≡ w.gone
-  gone-is l from w on = on.place (h.before l) (λ i stamp low is.
-      let here = all-at (λ (e : NodeEvent M). is_return e ≡ false) (es n) i low
-      (here-all note step p nodes beats h place run may m es at point n next.low) in
-      let q : true ≡ false = sym (ap is_return is) ∙ here in absurd (cc))
+  gone-is l from w ends on = on.place (h.before l) (λ i stamp low is.
+      let low_from = (place.linked l from n ends).0 in
+      let size = size-of note step p nodes beats h place run may m es at point n next.low in
+      let high : i < at n = omega (arith, low, size) in
+      let here = next.here in
+      let theirs : h.event n i ≡ Returns stamp =
+      sym (event-of note step p nodes beats h place run may m es at point n i next.low high) ∙ is in
+      let rise = beats-rise note step p nodes h run n next.low i (at n) (omega (arith, high)) here in
+      let dated : beat h n i ≡ stamp.beat = ap (λ (e : NodeEvent M). (stamp_at e).beat) theirs in
+      run.before l from n i stamp low_from next.low ends (omega (arith, high, here)) theirs
+      ∙ sym (sent-below note step l h from stamp.beat (at from) (h.count from)
+      (point.within from low_from) (λ e up below_it.
+      let first = next.first from e low_from up below_it in omega (arith, first, rise, dated)))
+      ∙ ap (below stamp.beat) (sym (sent-here note step p nodes beats h place run may m es at point l from n ends)))
 
   -- what is under way on a link to the node stands behind what was taken there
   waiting-at : (l from j : ℕ) (w : Way M) (d : Dated M) → ends_of (links_of p) l ≡ Some (from, n) → slice_get m.ways l ≡ Some w
-      → slice_get w.under_way j ≡ Some d → slice_get (sent note step l h from (at from)) (takes l h n (at n) + j) ≡ Some d
+      → slice_get w.under_way j ≡ Some d → slice_get (sent note step l h from (at from)) (number_of l h n (at n) + j) ≡ Some d
   waiting-at l from j w d ends here there =
       let theirs = point.holds.way l from n ends in
       let same : theirs.0 ≡ w = same-element m.ways l theirs.0 w theirs.1 here in
       let on = theirs.2 in
       let number = on.number in
-      let gone = gone-is l from theirs.0 on in
-      let count = taken-here note step p nodes beats h place run may m es at point l (h.before l) n next.low in
-      let behind : takes l h n (at n) + j ≡ length on.gone + j = omega (arith, gone, count, number) in
-      ap (λ ds. slice_get ds (takes l h n (at n) + j))
+      let gone = gone-is l from theirs.0 ends on in
+      let count = taken-here note step p nodes beats h place run may m es at point l n next.low in
+      let behind : number_of l h n (at n) + j ≡ length on.gone + j = omega (arith, gone, count, number) in
+      ap (λ ds. slice_get ds (number_of l h n (at n) + j))
       (sym (sent-here note step p nodes beats h place run may m es at point l from n ends) ∙ on.split)
-      ∙ get-after on.gone theirs.0.under_way (takes l h n (at n) + j) j behind
+      ∙ get-after on.gone theirs.0.under_way (number_of l h n (at n) + j) j behind
       ∙ ap (λ (v : Way M). slice_get v.under_way j) same ∙ there
 
   -- and the other way round: what is sent with the number of the next take is the oldest under way
   next-at : (l from : ℕ) (d : Dated M) → ends_of (links_of p) l ≡ Some (from, n)
-      → slice_get (sent note step l h from (at from)) (takes l h n (at n)) ≡ Some d
+      → slice_get (sent note step l h from (at from)) (number_of l h n (at n)) ≡ Some d
       → (w : Way M) × (slice_get m.ways l ≡ Some w) × (w.gone ≡ place_along l (h.before l) 0 (es n)) × (tail : List (Dated M))
       × (w.under_way ≡ d ∷ tail)
   next-at l from d ends was =
       let theirs = point.holds.way l from n ends in
       let on = theirs.2 in
       let number = on.number in
-      let gone = gone-is l from theirs.0 on in
-      let count = taken-here note step p nodes beats h place run may m es at point l (h.before l) n next.low in
-      let behind : takes l h n (at n) ≡ length on.gone + 0 = omega (arith, gone, count, number) in
-      let head : slice_get theirs.0.under_way 0 ≡ Some d = sym (get-after on.gone theirs.0.under_way (takes l h n (at n)) 0 behind)
-      ∙ ap (λ ds. slice_get ds (takes l h n (at n))) (sym on.split ∙ sent-here note step p nodes beats h place run may m es at point l from n ends)
+      let gone = gone-is l from theirs.0 ends on in
+      let count = taken-here note step p nodes beats h place run may m es at point l n next.low in
+      let behind : number_of l h n (at n) ≡ length on.gone + 0 = omega (arith, gone, count, number) in
+      let head : slice_get theirs.0.under_way 0 ≡ Some d = sym (get-after on.gone theirs.0.under_way (number_of l h n (at n)) 0 behind)
+      ∙ ap (λ ds. slice_get ds (number_of l h n (at n))) (sym on.split ∙ sent-here note step p nodes beats h place run may m es at point l from n ends)
       ∙ was in
       let all = first-of theirs.0.under_way d head in
       (theirs.0, theirs.1, sym gone, all.0, all.1)
@@ -170,7 +187,7 @@ module _ {M S : Type 0} (note : M → Note) (step : S → Input M → Deed M S) 
       let later = came.later in
       let earlier : came.when < now = omega (arith, later, dated) in
       let d : Dated M = record { beat = came.when; item = msg } in
-      let was = sent-by note step link.0 h came.from (at came.from) (h.count came.from) (takes link.0 h n (at n)) now d earlier
+      let was = sent-by note step link.0 h came.from (at came.from) (h.count came.from) (number_of link.0 h n (at n)) now d earlier
       (λ e low high. next.first came.from e came.known low high) came.was_sent in
       let way = next-at link.0 came.from d came.ends was in
       let old : oldest m.ways link.0 ≡ Some d = rw (way.1, way.4) refl in
@@ -218,7 +235,7 @@ module _ {M S : Type 0} (note : M → Note) (step : S → Input M → Deed M S) 
         event = ap (λ o. option_map (λ (q : Dated M). Does (Take stamp link q.item)) o) t.old
             ∙ ap (λ q. Some (Does (Take stamp link q))) t.item;
         led = (t.from, t.ends);
-        life = rw alive-here.0 refl;
+        life = (let up = lives-here (ap is_return is) in rw up refl);
         free = not-ticked;
         take = none-take m.ways now link (place_along link.0 (h.before link.0) 0 (es n)) t.way t.head t.there t.number t.old t.earlier;
         late = refl;
@@ -234,7 +251,7 @@ module _ {M S : Type 0} (note : M → Note) (step : S → Input M → Deed M S) 
   young ticks_it l from w ends here =
       let low_from = (place.linked l from n ends).0 in
       all-from_get (λ (d : Dated M). now < d.beat + p.delay) w.under_way (λ j d there.
-      let k = takes l h n (at n) + j in
+      let k = number_of l h n (at n) + j in
       let was = sent-stays note step l h from (at from) (h.count from) k d (point.within from low_from)
       (waiting-at l from j w d ends here there) in
       young-at_tick note step p nodes h run l from n (at n) k d low_from next.low next.here ends ticks_it was (omega arith))
@@ -252,7 +269,7 @@ module _ {M S : Type 0} (note : M → Note) (step : S → Input M → Deed M S) 
         theirs = refl;
         event = refl;
         led = tt;
-        life = rw alive-here.0 refl;
+        life = (let up = lives-here (ap is_return is) in rw up refl);
         free = not-ticked;
         take = refl;
         late = late-none ticks_it;
@@ -295,7 +312,7 @@ module _ {M S : Type 0} (note : M → Note) (step : S → Input M → Deed M S) 
         theirs = refl;
         event = refl;
         led = tt;
-        life = rw (alive-here.0, alive-here.1) refl;
+        life = (let up = alive-here (ap is_death is) in rw (up.0, up.1) refl);
         free = rw idle not-ticked;
         take = refl;
         late = refl;
@@ -319,7 +336,7 @@ module _ {M S : Type 0} (note : M → Note) (step : S → Input M → Deed M S) 
         event = ap (λ o. option_map (λ (q : Dated M). Ends (Take stamp link q.item) sends) o) t.old
             ∙ ap (λ q. Some (Ends (Take stamp link q) sends)) t.item;
         led = (t.from, t.ends);
-        life = rw (alive-here.0, alive-here.1) refl;
+        life = (let up = alive-here (ap is_death is) in rw (up.0, up.1) refl);
         free = not-ticked;
         take = none-take m.ways now link (place_along link.0 (h.before link.0) 0 (es n)) t.way t.head t.there t.number t.old t.earlier;
         late = refl;
@@ -340,7 +357,7 @@ module _ {M S : Type 0} (note : M → Note) (step : S → Input M → Deed M S) 
         theirs = refl;
         event = refl;
         led = tt;
-        life = rw (alive-here.0, alive-here.1) refl;
+        life = (let up = alive-here (ap is_death is) in rw (up.0, up.1) refl);
         free = not-ticked;
         take = refl;
         late = late-none ticks_it;
@@ -350,13 +367,39 @@ module _ {M S : Type 0} (note : M → Note) (step : S → Input M → Deed M S) 
         aged = λ t. young ticks_it;
       }
 
-  by-event : (y : NodeEvent M) → h.event n (at n) ≡ y → is_return y ≡ false → IsReady y
-  by-event (Does (Take stamp link msg)) is here = ready-take stamp link msg is
-  by-event (Does (Tick stamp)) is here = ready-tick stamp is
-  by-event (Ends (Take stamp link msg) sends) is here = ready-last_take stamp link msg sends is
-  by-event (Ends (Tick stamp) sends) is here = ready-last_tick stamp sends is
-  by-event (Dies stamp) is here = ready-death stamp is
-  by-event (Returns stamp) is here = absurd (cc)
+  -- a return of a cub that is dead, since two beats or more, and has not returned before
+  ready-return : (stamp : Stamp) → h.event n (at n) ≡ Returns stamp → IsReady (Returns stamp)
+  ready-return stamp is =
+      let back : is_return (h.event n (at n)) ≡ true = ap is_return is in
+      let dead = own-dead note step p nodes beats h place run may m es at point n next back in
+      let away = own-first note step p nodes beats h place run may m es at point n next back in
+      let one = run.returned n (at n) next.low next.here back in
+      let after = one.next in
+      let here = next.here in
+      let apart = dead.3 in
+      let long : nat_le (dead.1 + 2) now ≡ true = grind (arith, nat_tests, apart) in
+      record {
+        known = may.cubs n one.last next.low (omega (arith, after, here)) one.died;
+        theirs = refl;
+        event = refl;
+        led = tt;
+        life = rw (dead.0, dead.2, long, away) refl;
+        free = not-ticked;
+        take = refl;
+        late = refl;
+        death = refl;
+        takes = λ l from to w ends here takes_it. absurd (cc);
+        dies = λ t. absurd (cc);
+        aged = λ t l from w ends here. absurd (cc);
+      }
+
+  by-event : (y : NodeEvent M) → h.event n (at n) ≡ y → IsReady y
+  by-event (Does (Take stamp link msg)) is = ready-take stamp link msg is
+  by-event (Does (Tick stamp)) is = ready-tick stamp is
+  by-event (Ends (Take stamp link msg) sends) is = ready-last_take stamp link msg sends is
+  by-event (Ends (Tick stamp) sends) is = ready-last_tick stamp sends is
+  by-event (Dies stamp) is = ready-death stamp is
+  by-event (Returns stamp) is = ready-return stamp is
 
   pub ready : IsReady (h.event n (at n))
-  ready = by-event (h.event n (at n)) refl (run.here n (at n) next.low next.here)
+  ready = by-event (h.event n (at n)) refl

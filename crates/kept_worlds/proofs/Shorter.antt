@@ -1,28 +1,25 @@
 -- A history in which a death comes in a tick of which nothing goes out, and the same one in which it comes in the take before.
-use Rattle.std.proofs.Common.{◌≡◌, ℕ, zero, suc, ◌+◌, ◌<◌, ◌≤◌, List, [], ◌++◌, true, false, refl, ap, sym, ◌∙◌, subst, arith, ⊎_elim, inl, inr, append-nil}
-use Rattle.std.specs.Prelude.{◌⊎◌, slice_get}
-use Rattle.std.specs.List.{AllByRecursion}
+use Rattle.std.proofs.Common.{◌≡◌, ℕ, zero, suc, ◌<◌, ◌≤◌, [], Bool, true, false, refl, ap, sym, ◌∙◌, subst, arith, ⊎_elim, inl, inr, cond}
+use Rattle.std.specs.Prelude.{◌⊎◌, nat_le, if◌then◌else◌}
 use Rattle.std.proofs.lemmas.Bool.{cases_eq, cases_lt}
+use Rattle.std.proofs.lemmas.Bool.Decides.{nat_tests}
 use Rattle.tiger_base.specs.declared.number.LinkNo.{LinkNo}
 use Rattle.tiger_base.specs.declared.number.Stamp.{Stamp}
 use Rattle.tiger_base.specs.declared.message.Note.{Note}
-use Rattle.slot_plan.specs.declared.params.Params.{Params}
-use Rattle.node_kit.specs.declared.outbox.Out.{Out}
 use Rattle.node_kit.specs.Outputs.{send_count}
-use Rattle.node_kit.specs.Steps.{Input, Deed, IsAllowed}
+use Rattle.node_kit.specs.Steps.{Input, Deed}
 use Rattle.node_kit.specs.Steps.Input.{Take, Tick}
-use Rattle.run_facts.specs.Events.{NodeEvent, Past, Dated, after, behind, outs_of, kept_outs, left_outs, stamp_at, is_death, is_return, sends_of}
+use Rattle.run_facts.specs.Events.{NodeEvent, Past, after, behind, outs_of, kept_outs, left_outs, stamp_at, is_return}
 use Rattle.run_facts.specs.Events.NodeEvent.{Does, Ends}
-use Rattle.run_facts.specs.Histories.{History, CameOn, IsRun, IsUp, TakesAt, past, outs, beat, reading, open_beat, place, place_behind, sent}
-use Rattle.proof_lives.specs.OneLife.{IsWithoutReturns}
+use Rattle.run_facts.specs.Histories.{History, TakesAt, past, beat, reading, place, place_behind}
 use Rattle.kept_worlds.proofs.Whole.{left-all}
 
--- the first is the second but for its last two events, a take and a tick of which nothing goes out, in which the death
--- comes: in the second the death comes in the take, with all that this sends
-pub record IsShorter {M S : Type 0} (note : M → Note) (step : S → Input M → Deed M S) (h g : History M S) (n : ℕ) : Type 0 where
-  pub last : ℕ
-  pub count_before : h.count n ≡ suc (suc last)
-  pub count : g.count n ≡ suc last
+-- the first has one event more, a tick behind a take, of which nothing goes out and in which the death comes: in the second
+-- the death comes in the take, with all that this sends
+pub record IsCut {M S : Type 0} (note : M → Note) (step : S → Input M → Deed M S) (h g : History M S) (n last : ℕ)
+    : Type 0 where
+  pub size : h.count n ≡ suc (g.count n)
+  pub inside : last < g.count n
   pub stamp : Stamp
   pub link : LinkNo
   pub msg : M
@@ -32,18 +29,63 @@ pub record IsShorter {M S : Type 0} (note : M → Note) (step : S → Input M �
   pub ticks : h.event n (suc last) ≡ Ends (Tick now) sends
   pub none : left_outs step (Tick now) sends (past note step h n (suc last)) ≡ []
   pub ends : g.event n last ≡ Ends (Take stamp link msg) (send_count (step (past note step h n last).state (Take stamp link msg)).outs)
-  pub same : (i : ℕ) → i < last → g.event n i ≡ h.event n i
+  pub later : (i : ℕ) → last < i → i < g.count n → g.event n i ≡ h.event n (suc i)
 
--- two histories in which the events of a node are the same, or so
-pub record IsSame {M S : Type 0} (h g : History M S) (n : ℕ) : Type 0 where
-  pub count : g.count n ≡ h.count n
-  pub event : (i : ℕ) → i < h.count n → g.event n i ≡ h.event n i
+-- two histories in which the events of a node are the same below a number, and all of them are, or there is such a tick
+pub record IsAlike {M S : Type 0} (note : M → Note) (step : S → Input M → Deed M S) (h g : History M S) (n : ℕ) : Type 0 where
+  pub last : ℕ
+  pub same : (i : ℕ) → i < last → g.event n i ≡ h.event n i
+  pub kind : ((g.count n ≡ h.count n) × (h.count n ≤ last)) ⊎ IsCut note step h g n last
 
 pub record AreAlike {M S : Type 0} (note : M → Note) (step : S → Input M → Deed M S) (h g : History M S) : Type 0 where
   pub first : (n : ℕ) → g.first n ≡ h.first n
   pub life : (n : ℕ) → g.life n ≡ h.life n
   pub before : (l : ℕ) → g.before l ≡ h.before l
-  pub each : (n : ℕ) → IsSame h g n ⊎ IsShorter note step h g n
+  pub each : (n : ℕ) → IsAlike note step h g n
+
+-- the number in the first history of the event that has number i in the second
+abbrev pub old_of : ℕ → ℕ → ℕ
+old_of last i = if nat_le i last then i else suc i
+
+pub old-low : (last i : ℕ) → i ≤ last → old_of last i ≡ i
+old-low last i low = let t : nat_le i last ≡ true = grind (arith, nat_tests, low) in rw t refl
+
+pub old-high : (last i : ℕ) → last < i → old_of last i ≡ suc i
+old-high last i high = let t : nat_le i last ≡ false = grind (arith, nat_tests, high) in rw t refl
+
+pub old-rises : (last i j : ℕ) → i ≤ j → old_of last i ≤ old_of last j
+old-rises last i j up = ⊎_elim
+    (λ (low : j < suc last).
+    let a = old-low last i (omega (arith, up, low)) in
+    let b = old-low last j (omega (arith, low)) in
+    omega (arith, a, b, up))
+    (λ (high : suc last ≤ j).
+    let b = old-high last j high in
+    let a : old_of last i ≤ suc i = at_most (nat_le i last) in
+    omega (arith, a, b, up))
+    (cases_lt j (suc last))
+  where
+    at_most : (t : Bool) → cond t i (suc i) ≤ suc i
+    at_most true = omega arith
+    at_most false = omega arith
+
+pub old-strict : (last i j : ℕ) → i < j → old_of last i < old_of last j
+old-strict last i j less =
+    let a = old-rises last (suc i) j less in
+    ⊎_elim
+    (λ (low : i < last).
+    let b = old-low last i (omega (arith, low)) in
+    let c = old-low last (suc i) low in
+    omega (arith, a, b, c))
+    (λ (high : last ≤ i).
+    let b : old_of last i ≤ suc i = most (nat_le i last) in
+    let c = old-high last (suc i) (omega (arith, high)) in
+    omega (arith, a, b, c))
+    (cases_lt i last)
+  where
+    most : (t : Bool) → cond t i (suc i) ≤ suc i
+    most true = omega arith
+    most false = omega arith
 
 -- ---- an event of the second, beside that of the first with its number
 
@@ -61,7 +103,7 @@ module _ {M S : Type 0} (step : S → Input M → Deed M S) (s : S) (e f : NodeE
       (λ q. ap stamp_at q.4 ∙ sym (ap stamp_at q.3))
       b
 
-  return-same : is_return f ≡ is_return e
+  pub return-same : is_return f ≡ is_return e
   return-same = ⊎_elim (λ (q : f ≡ e). ap is_return q) (λ q. ap is_return q.4 ∙ sym (ap is_return q.3)) b
 
   behind-same : (t : ℕ) → behind f t ≡ behind e t
@@ -94,7 +136,7 @@ module _ {M S : Type 0} (step : S → Input M → Deed M S) (s : S) (e f : NodeE
           t
 
   -- and it puts the same out
-  outs-same : (x y : Past S) → x.state ≡ s → y ≡ x → outs_of step f y ≡ outs_of step e x
+  pub outs-same : (x y : Past S) → x.state ≡ s → y ≡ x → outs_of step f y ≡ outs_of step e x
   unfolding kept_outs left_outs
   outs-same x y state same = ⊎_elim
       (λ (q : f ≡ e). ap (λ (z : NodeEvent M). outs_of step z y) q ∙ ap (outs_of step e) same)
@@ -112,31 +154,61 @@ module _ {M S : Type 0} (step : S → Input M → Deed M S) (s : S) (e f : NodeE
 
 module _ {M S : Type 0} (note : M → Note) (step : S → Input M → Deed M S) (h g : History M S)
     (alike : AreAlike note step h g) (n : ℕ) where
-  pub inside : (i : ℕ) → i < g.count n → i < h.count n
+  abbrev pub last_in : ℕ
+  last_in = (alike.each n).last
+
+  abbrev pub old : ℕ → ℕ
+  old i = old_of last_in i
+
+  -- behind the last number below which all is the same there is such a tick
+  pub far : (i : ℕ) → i < g.count n → last_in ≤ i → IsCut note step h g n last_in
+  far i low high = ⊎_elim
+      (λ (s : (g.count n ≡ h.count n) × (h.count n ≤ last_in)). let a = s.0 in let b = s.1 in absurd (omega (arith, low, high, a, b)))
+      (λ (s : IsCut note step h g n last_in). s)
+      (alike.each n).kind
+
+  pub old-count : old (g.count n) ≡ h.count n
+  old-count = ⊎_elim
+      (λ (s : (g.count n ≡ h.count n) × (h.count n ≤ last_in)).
+      let a = s.0 in let b = s.1 in old-low last_in (g.count n) (omega (arith, a, b)) ∙ a)
+      (λ (s : IsCut note step h g n last_in). old-high last_in (g.count n) s.inside ∙ sym s.size)
+      (alike.each n).kind
+
+  pub inside : (i : ℕ) → i < g.count n → old i < h.count n
   inside i low = ⊎_elim
-      (λ (s : IsSame h g n). let same = s.count in omega (arith, low, same))
-      (λ (s : IsShorter note step h g n). let a = s.count in let b = s.count_before in omega (arith, low, a, b))
-      (alike.each n)
+      (λ (s : (g.count n ≡ h.count n) × (h.count n ≤ last_in)).
+      let a = s.0 in let b = s.1 in
+      let same = old-low last_in i (omega (arith, a, b, low)) in omega (arith, same, a, low))
+      (λ (s : IsCut note step h g n last_in).
+      let rises = old-rises last_in i (g.count n) (omega (arith, low)) in
+      let size = s.size in
+      ⊎_elim
+      (λ (up : i < suc last_in). let same = old-low last_in i (omega (arith, up)) in omega (arith, same, low, size))
+      (λ (high : suc last_in ≤ i). let same = old-high last_in i high in omega (arith, same, low, size))
+      (cases_lt i (suc last_in)))
+      (alike.each n).kind
 
-  pub beside : (i : ℕ) → i < g.count n → IsBeside step (past note step h n i).state (h.event n i) (g.event n i)
+  -- the event of that number, in each of the three places
+  pub beside : (i : ℕ) → i < g.count n → IsBeside step (past note step h n (old i)).state (h.event n (old i)) (g.event n i)
   beside i low = ⊎_elim
-      (λ (s : IsSame h g n). inl (s.event i (inside i low)))
-      (λ (s : IsShorter note step h g n). ⊎_elim
-      (λ (before : i < s.last). inl (s.same i before))
-      (λ (behind_it : s.last ≤ i).
-      let all = s.count in
-      let is : s.last ≡ i = omega (arith, behind_it, all, low) in
-      subst (λ (k : ℕ). IsBeside step (past note step h n k).state (h.event n k) (g.event n k)) is
-      (inr (s.stamp, s.link, s.msg, s.takes, s.ends)))
-      (cases_lt i s.last))
-      (alike.each n)
+      (λ (below_it : i < last_in).
+      subst (λ k. IsBeside step (past note step h n k).state (h.event n k) (g.event n i)) (sym (old-low last_in i (omega (arith, below_it))))
+      (inl ((alike.each n).same i below_it)))
+      (λ (high : last_in ≤ i).
+      let s = far i low high in
+      ⊎_elim
+      (λ (is : last_in ≡ i).
+      subst (λ k. IsBeside step (past note step h n (old k)).state (h.event n (old k)) (g.event n k)) is
+      (subst (λ k. IsBeside step (past note step h n k).state (h.event n k) (g.event n last_in))
+      (sym (old-low last_in last_in (omega arith))) (inr (s.stamp, s.link, s.msg, s.takes, s.ends))))
+      (λ (other : last_in ≡ i → ⊥).
+      subst (λ k. IsBeside step (past note step h n k).state (h.event n k) (g.event n i)) (sym (old-high last_in i (omega (arith, other, high))))
+      (inl (s.later i (omega (arith, other, high)) low)))
+      (cases_eq last_in i))
+      (cases_lt i last_in)
 
-  -- but for the last event they are the same
-  pub event-same : (i : ℕ) → suc i < g.count n → g.event n i ≡ h.event n i
-  event-same i low = ⊎_elim
-      (λ (s : IsSame h g n). s.event i (inside i (omega (arith, low))))
-      (λ (s : IsShorter note step h g n). let all = s.count in s.same i (omega (arith, low, all)))
-      (alike.each n)
+  pub back-same : (i : ℕ) → i < g.count n → is_return (g.event n i) ≡ is_return (h.event n (old i))
+  back-same i low = return-same step _ (h.event n (old i)) (g.event n i) (beside i low)
 
   start-same : past note step g n 0 ≡ past note step h n 0
   start-same =
@@ -144,193 +216,42 @@ module _ {M S : Type 0} (note : M → Note) (step : S → Input M → Deed M S) 
       let life = alike.life n in
       rw (first, life) refl
 
-  pub past-same : (i : ℕ) → i < g.count n → past note step g n i ≡ past note step h n i
+  pub past-same : (i : ℕ) → i ≤ last_in → past note step g n i ≡ past note step h n i
   past-same zero low = start-same
   past-same (suc i) low =
-      ap (λ (e : NodeEvent M). after note step e (past note step g n i)) (event-same i low)
+      ap (λ (e : NodeEvent M). after note step e (past note step g n i)) ((alike.each n).same i (omega (arith, low)))
       ∙ ap (after note step (h.event n i)) (past-same i (omega (arith, low)))
 
-  pub beat-same : (i : ℕ) → i < g.count n → beat g n i ≡ beat h n i
-  beat-same i low = ap (λ (s : Stamp). s.beat) (stamp-same step _ (h.event n i) (g.event n i) (beside i low))
+  pub beat-same : (i : ℕ) → i < g.count n → beat g n i ≡ beat h n (old i)
+  beat-same i low = ap (λ (s : Stamp). s.beat) (stamp-same step _ (h.event n (old i)) (g.event n i) (beside i low))
 
-  pub reading-same : (i : ℕ) → i < g.count n → reading g n i ≡ reading h n i
-  reading-same i low = ap (λ (s : Stamp). s.reading) (stamp-same step _ (h.event n i) (g.event n i) (beside i low))
+  pub reading-same : (i : ℕ) → i < g.count n → reading g n i ≡ reading h n (old i)
+  reading-same i low = ap (λ (s : Stamp). s.reading) (stamp-same step _ (h.event n (old i)) (g.event n i) (beside i low))
 
-  pub open-same : (i : ℕ) → i ≤ g.count n → open_beat g n i ≡ open_beat h n i
-  open-same zero low = refl
-  open-same (suc i) low =
-      ap (behind (g.event n i)) (open-same i (omega (arith, low)))
-      ∙ behind-same step _ (h.event n i) (g.event n i) (beside i (omega (arith, low))) (open_beat h n i)
+  -- the tick takes nothing
+  place-cut : (l : ℕ) → IsCut note step h g n last_in → place l h n (suc (suc last_in)) ≡ place l h n (suc last_in)
+  place-cut l s = ap (λ (e : NodeEvent M). place_behind l (h.before l) e (place l h n (suc last_in))) s.ticks
 
-  place-to : (l i : ℕ) → i ≤ g.count n → place l g n i ≡ place l h n i
-  place-to l zero low = refl
+  pub place-to : (l i : ℕ) → i ≤ g.count n → place l g n i ≡ place l h n (old i)
+  place-to l zero low = ap (place l h n) (sym (old-low last_in 0 (omega arith)))
   place-to l (suc i) low =
-      ap (place_behind l (g.before l) (g.event n i)) (place-to l i (omega (arith, low)))
-      ∙ ap (λ (k : ℕ). place_behind l k (g.event n i) (place l h n i)) (alike.before l)
-      ∙ place-same step _ (h.event n i) (g.event n i) (beside i (omega (arith, low))) l (h.before l) (place l h n i)
-
-  pub outs-to : (i : ℕ) → i < g.count n → outs note step g n i ≡ outs note step h n i
-  outs-to i low =
-      outs-same step (past note step h n i).state (h.event n i) (g.event n i) (beside i low) (past note step h n i)
-      (past note step g n i) refl (past-same i low)
-
-  sent-to : (l i : ℕ) → i ≤ g.count n → sent note step l g n i ≡ sent note step l h n i
-  sent-to l zero low = refl
-  sent-to l (suc i) low =
       let at : i < g.count n = omega (arith, low) in
-      ap (λ (ds : List (Dated M)). ds ++ sends_of l (beat g n i) (outs note step g n i)) (sent-to l i (omega (arith, low)))
-      ∙ ap (λ (b : ℕ). sent note step l h n i ++ sends_of l b (outs note step g n i)) (beat-same i at)
-      ∙ ap (λ (os : List (Out M)). sent note step l h n i ++ sends_of l (beat h n i) os) (outs-to i at)
-
-  -- in all the same is sent and taken, and the beats that are open go no further
-  pub sent-all : (l : ℕ) → sent note step l g n (g.count n) ≡ sent note step l h n (h.count n)
-  sent-all l = ⊎_elim
-      (λ (s : IsSame h g n). sent-to l (g.count n) (omega arith) ∙ ap (sent note step l h n) s.count)
-      (λ (s : IsShorter note step h g n).
-      let nothing : outs note step h n (suc s.last) ≡ [] =
-      ap (λ (e : NodeEvent M). outs_of step e (past note step h n (suc s.last))) s.ticks ∙ s.none in
-      sent-to l (g.count n) (omega arith) ∙ ap (sent note step l h n) s.count
-      ∙ sym (ap (λ (os : List (Out M)). sent note step l h n (suc s.last) ++ sends_of l (beat h n (suc s.last)) os) nothing
-      ∙ append-nil (sent note step l h n (suc s.last)))
-      ∙ sym (ap (sent note step l h n) s.count_before))
-      (alike.each n)
+      let one : place l g n (suc i) ≡ place l h n (suc (old i)) =
+      ap (place_behind l (g.before l) (g.event n i)) (place-to l i (omega (arith, low)))
+      ∙ ap (λ (k : ℕ). place_behind l k (g.event n i) (place l h n (old i))) (alike.before l)
+      ∙ place-same step _ (h.event n (old i)) (g.event n i) (beside i at) l (h.before l) (place l h n (old i)) in
+      one ∙ ⊎_elim
+      (λ (below_it : i < last_in).
+      ap (place l h n) (ap suc (old-low last_in i (omega (arith, below_it))) ∙ sym (old-low last_in (suc i) (omega (arith, below_it)))))
+      (λ (high : last_in ≤ i). ⊎_elim
+      (λ (is : last_in ≡ i).
+      let s = far i at high in
+      ap (λ k. place l h n (suc k)) (old-low last_in i (omega (arith, is)) ∙ sym is) ∙ sym (place-cut l s)
+      ∙ ap (place l h n) (ap (λ k. suc (suc k)) is ∙ sym (old-high last_in (suc i) (omega (arith, is)))))
+      (λ (other : last_in ≡ i → ⊥).
+      ap (place l h n) (ap suc (old-high last_in i (omega (arith, other, high))) ∙ sym (old-high last_in (suc i) (omega (arith, other, high)))))
+      (cases_eq last_in i))
+      (cases_lt i last_in)
 
   pub place-all : (l : ℕ) → place l g n (g.count n) ≡ place l h n (h.count n)
-  place-all l = ⊎_elim
-      (λ (s : IsSame h g n). place-to l (g.count n) (omega arith) ∙ ap (place l h n) s.count)
-      (λ (s : IsShorter note step h g n).
-      place-to l (g.count n) (omega arith) ∙ ap (place l h n) s.count
-      ∙ sym (ap (λ (e : NodeEvent M). place_behind l (h.before l) e (place l h n (suc s.last))) s.ticks)
-      ∙ sym (ap (place l h n) s.count_before))
-      (alike.each n)
-
-  open-all : open_beat g n (g.count n) ≤ open_beat h n (h.count n)
-  open-all = ⊎_elim
-      (λ (s : IsSame h g n).
-      let all = open-same (g.count n) (omega arith) ∙ ap (open_beat h n) s.count in omega (arith, all))
-      (λ (s : IsShorter note step h g n).
-      let to = open-same (g.count n) (omega arith) ∙ ap (open_beat h n) s.count in
-      let more : open_beat h n (suc (suc s.last)) ≡ suc (open_beat h n (suc s.last)) =
-      ap (λ (e : NodeEvent M). behind e (open_beat h n (suc s.last))) s.ticks in
-      let whole = ap (open_beat h n) s.count_before in
-      omega (arith, to, more, whole))
-      (alike.each n)
-
-  -- who is up is up in both, with the same events
-  pub up-same : IsUp g n → IsSame h g n
-  up-same up = ⊎_elim
-      (λ (s : IsSame h g n). s)
-      (λ (s : IsShorter note step h g n).
-      let all = s.count in
-      let more = up s.last (omega (arith, all)) (ap is_death s.ends) in absurd (omega (arith, more, all)))
-      (alike.each n)
-
-  pub alive-same : ((i : ℕ) → i < h.count n → is_death (h.event n i) ≡ false) → IsSame h g n
-  alive-same alive = ⊎_elim
-      (λ (s : IsSame h g n). s)
-      (λ (s : IsShorter note step h g n).
-      let all = s.count_before in
-      let q : true ≡ false = sym (ap is_death s.ticks) ∙ alive (suc s.last) (omega (arith, all)) in absurd (cc))
-      (alike.each n)
-
-  -- a death of the second is its last event, if those of the first are
-  pub ended-same : ((i : ℕ) → i < h.count n → is_death (h.event n i) ≡ true → i + 1 ≡ h.count n)
-      → (i : ℕ) → i < g.count n → is_death (g.event n i) ≡ true → i + 1 ≡ g.count n
-  ended-same ended i low died = ⊎_elim
-      (λ (s : IsSame h g n).
-      let end = ended i (inside i low) (sym (ap is_death (s.event i (inside i low))) ∙ died) in
-      let same = s.count in
-      omega (arith, end, same))
-      (λ (s : IsShorter note step h g n). ⊎_elim
-      (λ (before : i < s.last).
-      let end = ended i (inside i low) (sym (ap is_death (s.same i before)) ∙ died) in
-      let all = s.count_before in absurd (omega (arith, end, all, before)))
-      (λ (behind_it : s.last ≤ i). let all = s.count in omega (arith, behind_it, all, low))
-      (cases_lt i s.last))
-      (alike.each n)
-
-module _ {M S : Type 0} (note : M → Note) (step : S → Input M → Deed M S) (p : Params) (nodes : ℕ) (h g : History M S)
-    (alike : AreAlike note step h g) (run : IsRun note step p nodes h) (here : IsWithoutReturns nodes h) where
-  pub here-same : IsWithoutReturns nodes g
-  here-same n i low at =
-      return-same step _ (h.event n i) (g.event n i) (beside note step h g alike n i at)
-      ∙ here n i low (inside note step h g alike n i at)
-
-  last-of : (n i : ℕ) → n < nodes → i < h.count n → is_death (h.event n i) ≡ true → i + 1 ≡ h.count n
-  last-of n i low at died = ⊎_elim
-      (λ (e : i + 1 ≡ h.count n). e)
-      (λ (other : i + 1 ≡ h.count n → ⊥). ⊎_elim
-      (λ (e : i + 1 ≡ h.count n). e)
-      (λ (back : is_return (h.event n (i + 1)) ≡ true).
-      let q : true ≡ false = sym back ∙ here n (i + 1) low (omega (arith, at, other)) in absurd (cc))
-      (run.ended n i low at died))
-      (cases_eq (i + 1) (h.count n))
-
-  pub ended-to : (n i : ℕ) → n < nodes → i < g.count n → is_death (g.event n i) ≡ true → i + 1 ≡ g.count n
-  ended-to n i low = ended-same note step h g alike n (λ j. last-of n j low) i
-
-  came-same : (n l k : ℕ) (now : ℕ) (msg : M) → CameOn note step p nodes h n l k now msg
-      → CameOn note step p nodes g n l k now msg
-  came-same n l k now msg came = record {
-    from = came.from;
-    known = came.known;
-    ends = came.ends;
-    when = came.when;
-    was_sent = ap (λ (ds : List (Dated M)). slice_get ds k) (sent-all note step h g alike came.from l) ∙ came.was_sent;
-    later = came.later;
-    soon = came.soon;
-  }
-
-  up-to : (m : ℕ) → IsUp g m → IsUp h m
-  up-to m up =
-      let s = up-same note step h g alike m up in
-      let same = s.count in
-      λ i low died.
-      let more = up i (omega (arith, low, same)) (ap is_death (s.event i low) ∙ died) in omega (arith, more, same)
-
-  pub run-same : IsRun note step p nodes g
-  run-same = record {
-    in_beat = λ n i low at back.
-        beat-same note step h g alike n i at
-        ∙ run.in_beat n i low (inside note step h g alike n i at) (here n i low (inside note step h g alike n i at))
-        ∙ sym (open-same note step h g alike n i (omega (arith, at)));
-    returned = λ n i low at back. let q : true ≡ false = sym back ∙ here-same n i low at in absurd (cc);
-    reads = λ n i low at.
-        let b = beat-same note step h g alike n i at in
-        let r = reading-same note step h g alike n i at in
-        let in_h = run.reads n i low (inside note step h g alike n i at) in
-        rw (b, r) in_h;
-    rising = λ n j i low up at.
-        let one = reading-same note step h g alike n j (omega (arith, up, at)) in
-        let two = reading-same note step h g alike n i at in
-        let in_h = run.rising n j i low up (inside note step h g alike n i at) in
-        omega (arith, one, two, in_h);
-    level = λ n m i low other at up.
-        let s = up-same note step h g alike m up in
-        let in_h = run.level n m i low other (inside note step h g alike n i at) (up-to m up) in
-        let b = beat-same note step h g alike n i at in
-        let o = open-same note step h g alike m (g.count m) (omega arith) ∙ ap (open_beat h m) s.count in
-        omega (arith, in_h, b, o);
-    ended = λ n i low at died. inl (ended-to n i low at died);
-    once = λ n j i low one two died also.
-        let a = ended-to n j low one died in
-        let b = ended-to n i low two also in
-        omega (arith, a, b);
-    fair = λ n i low at.
-        subst (AllByRecursion (IsAllowed note p n)) (sym (outs-to note step h g alike n i at))
-        (run.fair n i low (inside note step h g alike n i at));
-    carried = λ n i stamp link msg low at takes.
-        let in_h = run.carried n i stamp link msg low (inside note step h g alike n i at)
-        (takes-same step _ (h.event n i) (g.event n i) (beside note step h g alike n i at) stamp link msg takes) in
-        subst (λ (k : ℕ). CameOn note step p nodes g n link.0 k stamp.beat msg)
-        (sym (place-to note step h g alike n link.0 i (omega (arith, at))))
-        (came-same n link.0 (place link.0 h n i) stamp.beat msg in_h);
-    arrives = λ l from n k when msg sender low ends was due.
-        let in_h = run.arrives l from n k when msg sender low ends
-        (ap (λ (ds : List (Dated M)). slice_get ds k) (sym (sent-all note step h g alike from l)) ∙ was)
-        (let far = open-all note step h g alike n in omega (arith, due, far)) in
-        let all = place-all note step h g alike n l in
-        omega (arith, in_h, all);
-    before = λ l from n i stamp sender low ends at is.
-        let q : true ≡ false = sym (ap is_return is) ∙ here-same n i low at in absurd (cc);
-  }
+  place-all l = place-to l (g.count n) (omega arith) ∙ ap (place l h n) old-count

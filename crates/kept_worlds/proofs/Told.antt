@@ -38,28 +38,28 @@ abbrev pub IsOtherwise : {M : Type 0} → (M → Note) → Note → List (Out M)
 IsOtherwise note message [] = ⊥
 IsOtherwise note message (o ∷ os) = is_of_take message (what_of note o) ≡ false
 
--- What is known of the events of node n of a history: each is in the open beat, one of the run's, and as the course has it;
+-- What is known of the events of node n of a history below a number, if it returns in none of them: each is in the open beat, one of the run's, and as the course has it;
 -- a death is the last; a node that lives goes on to the end; what a take puts out in the beat of such a death may come of
 -- it, and what the tick behind it puts out first is there and may not; and of an event in which the death comes as many
 -- messages go out as it says.
 pub record IsTellable {M S : Type 0} (note : M → Note) (step : S → Input M → Deed M S) (c : Course) (n : ℕ)
-    (g : History M S) : Type 0 where
-  pub in_beat : (i : ℕ) → i < g.count n → beat g n i ≡ open_beat g n i
-  pub here : (i : ℕ) → i < g.count n → is_return (g.event n i) ≡ false
-  pub early : (i : ℕ) → i < g.count n → beat g n i < c.beats
-  pub lived : (i : ℕ) → i < g.count n → IsOfLife (lifetime_of c n) (g.event n i)
-  pub ended : (i : ℕ) → i < g.count n → is_death (g.event n i) ≡ true → i + 1 ≡ g.count n
-  pub fair : (i : ℕ) → i < g.count n → AllByRecursion (IsAllowed note c.plan.params n) (outs note step g n i)
-  pub finish : ((i : ℕ) → i < g.count n → is_death (g.event n i) ≡ false) → open_beat g n (g.count n) ≡ c.beats
-  pub last_take : (i : ℕ) (stamp : Stamp) (link : LinkNo) (msg : M) (sends : ℕ) → i < g.count n
+    (g : History M S) (upto : ℕ) : Type 0 where
+  pub in_beat : (i : ℕ) → i < upto → beat g n i ≡ open_beat g n i
+  pub here : (i : ℕ) → i < upto → is_return (g.event n i) ≡ false
+  pub early : (i : ℕ) → i < upto → beat g n i < c.beats
+  pub lived : (i : ℕ) → i < upto → IsOfLife (lifetime_of c n) (g.event n i)
+  pub ended : (i : ℕ) → i < upto → is_death (g.event n i) ≡ true → i + 1 ≡ upto
+  pub fair : (i : ℕ) → i < upto → AllByRecursion (IsAllowed note c.plan.params n) (outs note step g n i)
+  pub finish : ((i : ℕ) → i < upto → is_death (g.event n i) ≡ false) → open_beat g n (upto) ≡ c.beats
+  pub last_take : (i : ℕ) (stamp : Stamp) (link : LinkNo) (msg : M) (sends : ℕ) → i < upto
       → g.event n i ≡ Ends (Take stamp link msg) sends → AreOfTake note (note msg) (outs note step g n i)
-  pub whole_take : (i : ℕ) (stamp : Stamp) (link : LinkNo) (msg : M) → i < g.count n
+  pub whole_take : (i : ℕ) (stamp : Stamp) (link : LinkNo) (msg : M) → i < upto
       → ends_in (lifetime_of c n) stamp.beat ≡ true → g.event n i ≡ Does (Take stamp link msg)
       → AreOfTake note (note msg) (outs note step g n i)
-  pub last_tick : (i : ℕ) (stamp now : Stamp) (link : LinkNo) (msg : M) (sends : ℕ) → suc i < g.count n
+  pub last_tick : (i : ℕ) (stamp now : Stamp) (link : LinkNo) (msg : M) (sends : ℕ) → suc i < upto
       → g.event n i ≡ Does (Take stamp link msg) → g.event n (suc i) ≡ Ends (Tick now) sends
       → IsOtherwise note (note msg) (outs note step g n (suc i))
-  pub sends : (i k : ℕ) (x : Input M) → i < g.count n → g.event n i ≡ Ends x k → send_count (outs note step g n i) ≡ k
+  pub sends : (i k : ℕ) (x : Input M) → i < upto → g.event n i ≡ Ends x k → send_count (outs note step g n i) ≡ k
 
 -- entries of which one stays behind the front that may come of a take
 record Stays (message : Note) (ws : List What) : Type 0 where
@@ -93,7 +93,7 @@ input-dated : {M : Type 0} (note : M → Note) (P : ℕ → Type 0) (i : Input M
 input-dated note P (Take s l m) os h = (h, outs-dated note P s os h)
 input-dated note P (Tick s) os h = outs-dated note P s os h
 
-event-dated : {M S : Type 0} (note : M → Note) (step : S → Input M → Deed M S) (P : ℕ → Type 0) (e : NodeEvent M) (x : Past S)
+pub event-dated : {M S : Type 0} (note : M → Note) (step : S → Input M → Deed M S) (P : ℕ → Type 0) (e : NodeEvent M) (x : Past S)
     → P (stamp_at e).beat → AllByRecursion (λ (f : Entry). P f.stamp.beat) (entries_at note step e x)
 event-dated note step P (Does i) x h = input-dated note P i (kept_outs step i x) h
 event-dated note step P (Ends i sends) x h = input-dated note P i (with_death (left_outs step i sends x)) h
@@ -106,7 +106,7 @@ input_said note (Take stamp link msg) = what.Got link (note msg) ∷ []
 input_said note (Tick stamp) = []
 
 module _ {M S : Type 0} (note : M → Note) (step : S → Input M → Deed M S) (c : Course) (n : ℕ) (g : History M S)
-    (run : IsTellable note step c n g) where
+    (upto : ℕ) (run : IsTellable note step c n g upto) where
   -- a node's journal behind so many events
   abbrev pub journal_to : ℕ → List Entry
   journal_to i = written note step (listed g n 0 i) (past note step g n 0)
@@ -125,7 +125,7 @@ module _ {M S : Type 0} (note : M → Note) (step : S → Input M → Deed M S) 
       ∙ said-append b (journal_to i) (entries_at note step (g.event n i) (past note step g n i))
 
   -- what an event says in its beat
-  said-take : (i : ℕ) (b : ℕ) (s : Stamp) (l : LinkNo) (m : M) → i < g.count n → (s.beat == b) ≡ true
+  said-take : (i : ℕ) (b : ℕ) (s : Stamp) (l : LinkNo) (m : M) → i < upto → (s.beat == b) ≡ true
       → g.event n i ≡ Does (Take s l m)
       → said_in b (entries_at note step (g.event n i) (past note step g n i))
       ≡ what.Got l (note m) ∷ map (what_of note) (outs note step g n i)
@@ -139,7 +139,7 @@ module _ {M S : Type 0} (note : M → Note) (step : S → Input M → Deed M S) 
       ∙ ap (λ ws. what.Got l (note m) ∷ ws) (said-outs note c.plan.params n b s (kept_outs step (Take s l m) x) hit fair)
       ∙ sym (ap (λ (e : NodeEvent M). what.Got l (note m) ∷ map (what_of note) (outs_of step e x)) is)
 
-  said-last_take : (i : ℕ) (b : ℕ) (s : Stamp) (l : LinkNo) (m : M) (k : ℕ) → i < g.count n → (s.beat == b) ≡ true
+  said-last_take : (i : ℕ) (b : ℕ) (s : Stamp) (l : LinkNo) (m : M) (k : ℕ) → i < upto → (s.beat == b) ≡ true
       → g.event n i ≡ Ends (Take s l m) k
       → said_in b (entries_at note step (g.event n i) (past note step g n i))
       ≡ what.Got l (note m) ∷ map (what_of note) (outs note step g n i)
@@ -154,7 +154,7 @@ module _ {M S : Type 0} (note : M → Note) (step : S → Input M → Deed M S) 
       ∙ ap (λ ws. what.Got l (note m) ∷ ws) (said-cut note c.plan.params n b s left hit fair)
       ∙ sym (ap (λ (e : NodeEvent M). what.Got l (note m) ∷ map (what_of note) (outs_of step e x)) is)
 
-  said-last_tick : (i : ℕ) (b : ℕ) (s : Stamp) (k : ℕ) → i < g.count n → (s.beat == b) ≡ true
+  said-last_tick : (i : ℕ) (b : ℕ) (s : Stamp) (k : ℕ) → i < upto → (s.beat == b) ≡ true
       → g.event n i ≡ Ends (Tick s) k
       → said_in b (entries_at note step (g.event n i) (past note step g n i)) ≡ map (what_of note) (outs note step g n i)
   said-last_tick i b s k low hit is =
@@ -167,11 +167,11 @@ module _ {M S : Type 0} (note : M → Note) (step : S → Input M → Deed M S) 
       ∙ sym (ap (λ (e : NodeEvent M). map (what_of note) (outs_of step e x)) is)
 
   -- behind a take the beat goes on, and behind a tick the next begins
-  next-beat : (i : ℕ) → suc i < g.count n → beat g n (suc i) ≡ behind (g.event n i) (beat g n i)
+  next-beat : (i : ℕ) → suc i < upto → beat g n (suc i) ≡ behind (g.event n i) (beat g n i)
   next-beat i low =
       run.in_beat (suc i) low ∙ ap (behind (g.event n i)) (sym (run.in_beat i (omega (arith, low))))
 
-  beats-rise : (j i : ℕ) → j ≤ i → i < g.count n → beat g n j ≤ beat g n i
+  beats-rise : (j i : ℕ) → j ≤ i → i < upto → beat g n j ≤ beat g n i
   beats-rise j i up low =
       let a = run.in_beat j (omega (arith, up, low)) ∙ open-ticked g n j (λ k before. run.here k (omega (arith, before, up, low))) in
       let b = run.in_beat i low ∙ open-ticked g n i (λ k before. run.here k (omega (arith, before, low))) in
@@ -179,7 +179,7 @@ module _ {M S : Type 0} (note : M → Note) (step : S → Input M → Deed M S) 
       omega (arith, a, b, grows)
 
   -- no more is said in a beat by the events of lower ones
-  none-said : (b i : ℕ) → i ≤ g.count n → ((j : ℕ) → j < i → beat g n j < b) → said_in b (journal_to i) ≡ []
+  none-said : (b i : ℕ) → i ≤ upto → ((j : ℕ) → j < i → beat g n j < b) → said_in b (journal_to i) ≡ []
   none-said b zero low before = refl
   none-said b (suc i) low before =
       let here = before i (omega arith) in
@@ -193,12 +193,12 @@ module _ {M S : Type 0} (note : M → Note) (step : S → Input M → Deed M S) 
   -- ---- takes
 
   -- a take in the beat of such a death is not the last event of the node, and what comes next says what is not of the take
-  module _ (i : ℕ) (s : Stamp) (l : LinkNo) (m : M) (low : i < g.count n) (is : g.event n i ≡ Does (Take s l m))
+  module _ (i : ℕ) (s : Stamp) (l : LinkNo) (m : M) (low : i < upto) (is : g.event n i ≡ Does (Take s l m))
       (cut : ends_in (lifetime_of c n) s.beat ≡ true) where
     dated : beat g n i ≡ s.beat
     dated = ap (λ (e : NodeEvent M). (stamp_at e).beat) is
 
-    alive-to : (j : ℕ) → j < suc i → suc i ≡ g.count n → is_death (g.event n j) ≡ false
+    alive-to : (j : ℕ) → j < suc i → suc i ≡ upto → is_death (g.event n j) ≡ false
     alive-to j before all = ⊎_elim
         (λ (t : is_death (g.event n j) ≡ true).
         let end = run.ended j (omega (arith, before, all)) t in
@@ -207,16 +207,16 @@ module _ {M S : Type 0} (note : M → Note) (step : S → Input M → Deed M S) 
         (λ (t : is_death (g.event n j) ≡ false). t)
         (cases_Bool (is_death (g.event n j)))
 
-    goes-on : suc i ≡ g.count n → ⊥
+    goes-on : suc i ≡ upto → ⊥
     goes-on all =
         let end = run.finish (λ j before. alive-to j (omega (arith, before, all)) all) in
         let opens : open_beat g n (suc i) ≡ open_beat g n i = ap (λ (e : NodeEvent M). behind e (open_beat g n i)) is in
-        let same : open_beat g n (suc i) ≡ open_beat g n (g.count n) = ap (open_beat g n) all in
+        let same : open_beat g n (suc i) ≡ open_beat g n (upto) = ap (open_beat g n) all in
         let here = run.in_beat i low in
         let early = run.early i low in
         omega (arith, end, opens, same, here, early)
 
-    module _ (more : suc i < g.count n) where
+    module _ (more : suc i < upto) where
       same-beat : beat g n (suc i) ≡ s.beat
       same-beat = next-beat i more ∙ ap (λ (e : NodeEvent M). behind e (beat g n i)) is ∙ dated
 
@@ -262,12 +262,12 @@ module _ {M S : Type 0} (note : M → Note) (step : S → Input M → Deed M S) 
       next-said (Returns s2) at =
           let q : true ≡ false = sym (ap is_return at) ∙ run.here (suc i) more in absurd (cc)
 
-  told-whole : (i k : ℕ) (s : Stamp) (l : LinkNo) (m : M) → i + suc k ≡ g.count n → g.event n i ≡ Does (Take s l m)
+  told-whole : (i k : ℕ) (s : Stamp) (l : LinkNo) (m : M) → i + suc k ≡ upto → g.event n i ≡ Does (Take s l m)
       → ends_in (lifetime_of c n) s.beat ≡ true
       → Stays (note m) (said_in s.beat (written note step (listed g n (suc i) k) (past note step g n (suc i))))
   told-whole i zero s l m sum is cut = absurd (goes-on i s l m (omega (arith, sum)) is cut (omega (arith, sum)))
   told-whole i (suc k) s l m sum is cut =
-      let more : suc i < g.count n = omega (arith, sum) in
+      let more : suc i < upto = omega (arith, sum) in
       let next = next-said i s l m (omega (arith, sum)) is cut more (g.event n (suc i)) refl in
       let first = entries_at note step (g.event n (suc i)) (past note step g n (suc i)) in
       let rest = written note step (listed g n (suc (suc i)) k) (past note step g n (suc (suc i))) in
@@ -284,12 +284,12 @@ module _ {M S : Type 0} (note : M → Note) (step : S → Input M → Deed M S) 
       }
 
   -- so each take is told as it is
-  told-one : (i k : ℕ) → i + suc k ≡ g.count n
+  told-one : (i k : ℕ) → i + suc k ≡ upto
       → IsToldAs note step c n (g.event n i)
       (written note step (listed g n (suc i) k) (past note step g n (suc i))) (past note step g n i)
   told-one i k sum = by (g.event n i) refl
     where
-      low : i < g.count n
+      low : i < upto
       low = omega (arith, sum)
 
       last-none : is_death (g.event n i) ≡ true → written note step (listed g n (suc i) k) (past note step g n (suc i)) ≡ []
@@ -339,20 +339,20 @@ module _ {M S : Type 0} (note : M → Note) (step : S → Input M → Deed M S) 
       by (Dies s) is = tt
       by (Returns s) is = tt
 
-  pub told-from : (i k : ℕ) → i + k ≡ g.count n
+  pub told-from : (i k : ℕ) → i + k ≡ upto
       → AreToldAs note step c n (listed g n i k) (past note step g n i)
   told-from i zero sum = tt
-  told-from i (suc k) sum = (told-one i k sum, told-from (suc i) k (next-sum i k (g.count n) sum))
+  told-from i (suc k) sum = (told-one i k sum, told-from (suc i) k (next-sum i k (upto) sum))
 
   -- ---- ends
 
   abbrev journal : List Entry
-  journal = journal_to (g.count n)
+  journal = journal_to (upto)
 
-  said-all : (b i : ℕ) → i + 1 ≡ g.count n → said_in b journal
+  said-all : (b i : ℕ) → i + 1 ≡ upto → said_in b journal
       ≡ said_in b (journal_to i) ++ said_in b (entries_at note step (g.event n i) (past note step g n i))
   said-all b i end =
-      let last_one : suc i ≡ g.count n = omega (arith, end) in
+      let last_one : suc i ≡ upto = omega (arith, end) in
       ap (λ q. said_in b (journal_to q)) (sym last_one) ∙ said-more b i
 
   -- the tick said all, or what is left behind a take
@@ -363,10 +363,10 @@ module _ {M S : Type 0} (note : M → Note) (step : S → Input M → Deed M S) 
       ∙ ap (λ (q : List What). act.DieIn (last.Tick (record { 0 = n })) (sends_said q) ∷ []) part
       ∙ ap (λ (q : ℕ). act.DieIn (last.Tick (record { 0 = n })) q ∷ []) count
 
-  alone-end : (b i : ℕ) (s : Stamp) (k : ℕ) → i + 1 ≡ g.count n → (s.beat == b) ≡ true → g.event n i ≡ Ends (Tick s) k
+  alone-end : (b i : ℕ) (s : Stamp) (k : ℕ) → i + 1 ≡ upto → (s.beat == b) ≡ true → g.event n i ≡ Ends (Tick s) k
       → said_in b (journal_to i) ≡ [] → cut_end n (said_in b journal) ≡ act.DieIn (last.Tick (record { 0 = n })) k ∷ []
   alone-end b i s k end hit is none =
-      let low : i < g.count n = omega (arith, end) in
+      let low : i < upto = omega (arith, end) in
       let os = outs note step g n i in
       let ws = map (what_of note) os in
       let gots = none-got note c.plan.params n os (run.fair i low) in
@@ -383,13 +383,13 @@ module _ {M S : Type 0} (note : M → Note) (step : S → Input M → Deed M S) 
   otherwise-left message [] h = absurd h
   otherwise-left message (o ∷ os) h = (rw h refl, refl)
 
-  behind-end : (b j : ℕ) (s t : Stamp) (l : LinkNo) (m : M) (k : ℕ) → suc j + 1 ≡ g.count n → (s.beat == b) ≡ true
+  behind-end : (b j : ℕ) (s t : Stamp) (l : LinkNo) (m : M) (k : ℕ) → suc j + 1 ≡ upto → (s.beat == b) ≡ true
       → (t.beat == b) ≡ true → ends_in (lifetime_of c n) t.beat ≡ true
       → g.event n j ≡ Does (Take t l m) → g.event n (suc j) ≡ Ends (Tick s) k
       → cut_end n (said_in b journal) ≡ act.DieIn (last.Tick (record { 0 = n })) k ∷ []
   behind-end b j s t l m k end hit hit_take cut takes is =
-      let low : suc j < g.count n = omega (arith, end) in
-      let before : j < g.count n = omega (arith, end) in
+      let low : suc j < upto = omega (arith, end) in
+      let before : j < upto = omega (arith, end) in
       let os = outs note step g n (suc j) in
       let own = outs note step g n j in
       let ws = map (what_of note) os in
@@ -420,12 +420,12 @@ module _ {M S : Type 0} (note : M → Note) (step : S → Input M → Deed M S) 
       and-false true = refl
       and-false false = refl
 
-  tick-as : (i : ℕ) (s : Stamp) (k : ℕ) → i + 1 ≡ g.count n → g.event n i ≡ Ends (Tick s) k
+  tick-as : (i : ℕ) (s : Stamp) (k : ℕ) → i + 1 ≡ upto → g.event n i ≡ Ends (Tick s) k
       → cut_end n (said_in s.beat journal) ≡ act.DieIn (last.Tick (record { 0 = n })) k ∷ []
   tick-as zero s k end is = alone-end s.beat 0 s k end (eq-eqb s.beat s.beat refl) is refl
   tick-as (suc j) s k end is = by (g.event n j) refl
     where
-      low : suc j < g.count n
+      low : suc j < upto
       low = omega (arith, end)
 
       now : beat g n (suc j) ≡ s.beat
@@ -435,7 +435,7 @@ module _ {M S : Type 0} (note : M → Note) (step : S → Input M → Deed M S) 
       no-death died = let at = run.ended j (omega (arith, end)) died in omega (arith, at, end)
 
       by : (e : NodeEvent M) → g.event n j ≡ e
-          → cut_end n (said_in s.beat (journal_to (g.count n))) ≡ act.DieIn (last.Tick (record { 0 = n })) k ∷ []
+          → cut_end n (said_in s.beat (journal_to (upto))) ≡ act.DieIn (last.Tick (record { 0 = n })) k ∷ []
       by (Does (Take t l m)) at =
           let dated : t.beat ≡ s.beat =
           sym (ap (λ (e : NodeEvent M). (stamp_at e).beat) at)
@@ -455,10 +455,10 @@ module _ {M S : Type 0} (note : M → Note) (step : S → Input M → Deed M S) 
       by (Returns t) at =
           let q : true ≡ false = sym (ap is_return at) ∙ run.here j (omega (arith, end)) in absurd (cc)
 
-  take-as : (i : ℕ) (s : Stamp) (l : LinkNo) (m : M) (k : ℕ) → i + 1 ≡ g.count n → g.event n i ≡ Ends (Take s l m) k
+  take-as : (i : ℕ) (s : Stamp) (l : LinkNo) (m : M) (k : ℕ) → i + 1 ≡ upto → g.event n i ≡ Ends (Take s l m) k
       → cut_end n (said_in s.beat journal) ≡ []
   take-as i s l m k end is =
-      let low : i < g.count n = omega (arith, end) in
+      let low : i < upto = omega (arith, end) in
       let os = outs note step g n i in
       let ws = map (what_of note) os in
       let front = said_in s.beat (journal_to i) in
@@ -474,10 +474,10 @@ module _ {M S : Type 0} (note : M → Note) (step : S → Input M → Deed M S) 
       ap (cut_end n) says
       ∙ ap (λ b. cond b [] (act.DieIn (last.Tick (record { 0 = n })) (sends_said (tick_part all all)) ∷ [])) inside
 
-  pub ends-as : (i : ℕ) → i < g.count n → IsEndAs n (λ b. said_in b journal) (g.event n i)
+  pub ends-as : (i : ℕ) → i < upto → IsEndAs n (λ b. said_in b journal) (g.event n i)
   ends-as i low = by (g.event n i) refl
     where
-      by : (e : NodeEvent M) → g.event n i ≡ e → IsEndAs n (λ b. said_in b (journal_to (g.count n))) e
+      by : (e : NodeEvent M) → g.event n i ≡ e → IsEndAs n (λ b. said_in b (journal_to (upto))) e
       by (Does x) is = tt
       by (Ends (Take s l m) k) is = take-as i s l m k (run.ended i low (ap is_death is)) is
       by (Ends (Tick s) k) is = tick-as i s k (run.ended i low (ap is_death is)) is

@@ -9,7 +9,7 @@ use Rattle.run_facts.specs.Histories.{beat}
 use Rattle.run_facts.specs.Samples.{ticking}
 use Rattle.ring_world.specs.Faults.{cub_after}
 use Rattle.kept_worlds.specs.Merges.{LivesThrough, MayHappen}
-use Rattle.kept_worlds.specs.MergeSamples.{takes_and_dies, takes_and_ends, two_die}
+use Rattle.kept_worlds.specs.MergeSamples.{dies_and_returns, takes_and_dies, takes_and_ends, two_die}
 
 pub all-early : MayHappen small 9 2 (ticking 2 0 0)
 all-early = record {
@@ -135,3 +135,32 @@ dies-in_event = record {
       (λ (other : cub ≡ 3 → ⊥). inl (λ i at. let none = cut-count cub other in absurd (omega (arith, at, none))))
       (cases_eq cub 3);
 }
+
+-- a death and the return behind it
+back-count : (n : ℕ) → (n ≡ 3 → ⊥) → dies_and_returns.count n ≡ 0
+back-count n other = let t : (n == 3) ≡ false = ne_eqb n 3 other in rw t refl
+
+back-early : (n i : ℕ) → beat dies_and_returns n i < 4
+back-early n zero = omega arith
+back-early n (suc i) = omega arith
+
+back-idle : (n j i : ℕ) (s : Stamp) → j < i → dies_and_returns.event n i ≡ Dies s → ⊥
+back-idle n j zero s before is = omega (arith, before)
+back-idle n j (suc i) s before is = absurd (cc)
+
+pub dies-returns : MayHappen small 9 4 dies_and_returns
+dies-returns = record {
+  early = λ n i low at. back-early n i;
+  cubs = λ n i low at died. ⊎_elim
+      (λ (three : n ≡ 3). omega (arith, three))
+      (λ (other : n ≡ 3 → ⊥). let none = back-count n other in absurd (omega (arith, at, none)))
+      (cases_eq n 3);
+  idle = λ n j i stamp low before at is. absurd (back-idle n j i stamp before is);
+  apart = λ cub low. ⊎_elim
+      (λ (three : cub ≡ 3). inr (subst (λ q. LivesThrough dies_and_returns (cub_after small q)) (sym three) (λ i at. absurd (omega (arith, at)))))
+      (λ (other : cub ≡ 3 → ⊥). inl (λ i at. let none = back-count cub other in absurd (omega (arith, at, none))))
+      (cases_eq cub 3);
+}
+
+pub returns-late : MayHappen small 9 3 dies_and_returns → ⊥
+returns-late may = let low = may.early 3 1 (omega arith) (omega arith) in omega (arith, low)

@@ -1,23 +1,27 @@
 -- What is kept of a run of the ring is a run of nodes that have their place in a machine.
-use Rattle.std.proofs.Common.{◌≡◌, ℕ, zero, suc, ◌+◌, ◌<◌, ◌≤◌, List, [], ◌∷◌, ◌++◌, length, Some, None, refl, sym, ap, ◌∙◌, subst, arith, ⊎_elim, length-append}
-use Rattle.std.specs.Prelude.{slice_get}
+use Rattle.std.proofs.Common.{◌≡◌, ℕ, zero, suc, ◌+◌, ◌<◌, ◌≤◌, List, [], ◌∷◌, ◌++◌, length, Bool, true, false, Option, Some, None, refl, sym, ap, ◌∙◌, subst, arith, ⊎_elim, length-append}
+use Rattle.std.specs.Prelude.{nat_le, slice_get}
 use Rattle.std.proofs.lemmas.Bool.{cases_lt}
+use Rattle.std.proofs.lemmas.Bool.Decides.{nat_tests}
 use Rattle.tiger_base.specs.declared.message.Msg.{Msg}
+use Rattle.tiger_base.specs.declared.number.Stamp.{Stamp}
 use Rattle.tiger_base.specs.Notes.{noted}
 use Rattle.slot_plan.specs.declared.params.Params.{Params}
 use Rattle.slot_plan.specs.Times.{disk_count}
 use Rattle.node_kit.specs.declared.course.Kept.{Kept}
 use Rattle.node_kit.specs.Courses.{IsCourse}
 use Rattle.node_kit.specs.Form.{IsInForm}
-use Rattle.node_kit.specs.Life.{back_of}
 use Rattle.node_kit.specs.Links.{links_of, viewers_of}
 use Rattle.node_kit.specs.declared.course.Order.{Order}
 use Rattle.node_kit.specs.declared.course.ReadFault.{ReadFault}
-use Rattle.node_kit.specs.Steps.{Input}
+use Rattle.node_kit.specs.Deeds.{then_do, wrapped}
+use Rattle.node_kit.specs.Steps.{Deed, Input}
 use Rattle.node_kit.specs.Steps.Input.{Take, Tick}
 use Rattle.disk_image.specs.Image.{Image}
-use Rattle.cub_rules.specs.Cubs.{cub_step}
+use Rattle.cub_rules.specs.Cubs.{coming_back, cub_step, ending, ticked_cub, was_away}
 use Rattle.cub_rules.specs.State.{CubState, opening_store}
+use Rattle.cub_rules.specs.Ticks.{ticking}
+use Rattle.cub_rules.specs.declared.store.Store.{Store}
 use Rattle.ring_nodes.specs.declared.nodes.AnyNode.{AnyNode}
 use Rattle.ring_nodes.specs.declared.nodes.AnyNode.TheVariants as node
 use Rattle.ring_nodes.specs.AllNodes.{any_step, image_at, images_of, numbered, each_numbered, opening_cub, opening_disk, opening_controller, opening_nodes}
@@ -28,7 +32,7 @@ use Rattle.proof_turns.proofs.Takes.{takes_own}
 use Rattle.proof_turns.proofs.Ticks.{ticks_other}
 use Rattle.ring_world.specs.Laws.{IsPlace}
 use Rattle.ring_world.proofs.Places.{plans-places}
-use Rattle.kept_worlds.specs.Laws.{CubsStand}
+use Rattle.kept_worlds.specs.Laws.{CubsStand, ForgetsTicks}
 use Rattle.kept_worlds.proofs.Kept.{kept-accepted}
 use Rattle.kept_worlds.specs.Worlds.{KeptRunsAreWorlds}
 
@@ -111,11 +115,66 @@ cubs-first G k library n s low here =
     some-same : (a b : AnyNode G) → Some a ≡ Some b → a ≡ b
     some-same a b e = cc
 
+-- ---- a cub that comes back
+
+-- a cub has ticked in a beat or later
+abbrev ticked_since : Option ℕ → ℕ → Bool
+ticked_since None beat = false
+ticked_since (Some last) beat = nat_le beat last
+
+abbrev since : {G : Type 0} → AnyNode G → ℕ → Bool
+since (node.Cub q) beat = ticked_since q.last beat
+since (node.Disk q) beat = false
+since (node.Controller q) beat = false
+since (node.Viewers q) beat = false
+
+-- what it does hangs on nothing that it kept
+ending-away : (p : Params) (cub : ℕ) (last : Option ℕ) (stamp : Stamp) (a b : Store) → was_away last stamp.beat ≡ true
+    → ending p cub last stamp a ≡ then_do (coming_back p cub stamp) (ticking p cub stamp) b
+unfolding ending
+ending-away p cub last stamp a b away = rw away refl
+
+away-by : (last : Option ℕ) (now later : ℕ) → ticked_since last now ≡ false → now + 2 ≤ later → was_away last later ≡ true
+away-by None now later fresh apart = grind (arith, nat_tests, apart)
+away-by (Some last) now later fresh apart = grind (arith, nat_tests, fresh, apart)
+
+cub-anew : (q : CubState) (now later : Stamp) → ticked_since q.last now.beat ≡ false → now.beat + 2 ≤ later.beat
+    → cub_step (cub_step q (Tick now)).state (Tick later) ≡ cub_step q (Tick later)
+cub-anew q now later fresh apart =
+    let one = (cub_step q (Tick now)).state in
+    let away : was_away one.last later.beat ≡ true = grind (arith, nat_tests, apart) in
+    ap (λ (d : Deed Msg Store). ticked_cub q later.beat d)
+    (ending-away q.params q.cub one.last later one.store q.store away
+    ∙ sym (ending-away q.params q.cub q.last later q.store q.store (away-by q.last now.beat later.beat fresh apart)))
+
+forgets-cub : (G : Type 0) (k : Kept) (library : List (List ℕ))
+    → ForgetsTicks (any_step {G = G}) IsCubOf k.course.plan.params (ring_of G k.course k.catalogue library k.orders)
+forgets-cub G k library = record {
+  since = since;
+  opens = λ n s low here.
+      let p = k.course.plan.params in
+      let first = cubs-in {G = G} p k.course.faults (images_of p k.catalogue library) k.orders n low in
+      let is : s ≡ opening_cub p n = some-same s (opening_cub p n) (sym here ∙ first) in
+      subst (λ (t : AnyNode G). since t 0 ≡ false) (sym is) refl;
+  takes = λ n s stamp link msg beat at fresh.
+      let mine : ticked_since at.0.last beat ≡ false = subst (λ (t : AnyNode G). since t beat ≡ false) at.1 fresh in
+      subst (λ (t : AnyNode G). since (any_step t (Take stamp link msg)).state beat ≡ false) (sym at.1) mine;
+  ticks = λ n s stamp beat at early.
+      let none : nat_le beat stamp.beat ≡ false = grind (arith, nat_tests, early) in
+      subst (λ (t : AnyNode G). since (any_step t (Tick stamp)).state beat ≡ false) (sym at.1) none;
+  anew = λ n s now later at fresh apart.
+      let mine : ticked_since at.0.last now.beat ≡ false = subst (λ (t : AnyNode G). since t now.beat ≡ false) at.1 fresh in
+      subst (λ (t : AnyNode G). any_step (any_step t (Tick now)).state (Tick later) ≡ any_step t (Tick later)) (sym at.1)
+      (ap (λ (d : Deed Msg CubState). wrapped node.Cub d) (cub-anew at.0 now later mine apart));
+}
+  where
+    some-same : (a b : AnyNode G) → Some a ≡ Some b → a ≡ b
+    some-same a b e = cc
+
 pub kept-worlds : (G : Type 0) → KeptRunsAreWorlds G
 kept-worlds G s library k sound ran =
     let p = k.course.plan.params in
     let course : IsCourse k.course = subst IsCourse (sym ran.course) sound.course in
-    let stays : (n : ℕ) → back_of k.course n ≡ None = λ n. ap (λ c. back_of c n) ran.course ∙ sound.no_returns n in
     let count = ring-count G k library in
     let place = subst (λ n. IsPlace p n k.course.beats) (sym count)
     (plans-places p k.course.beats k.course.plan.sound course.beats) in
@@ -124,6 +183,6 @@ kept-worlds G s library k sound ran =
       course = course;
       each_has_journal = kept.each_has_journal ∙ count;
       world = kept-accepted noted (any_step {G = G}) IsCubOf k.course
-          (ring_of G k.course k.catalogue library k.orders) ran.steps.nodes k.journals place ran.apart stays (cubs-apart G p)
-          (cubs-first G k library) kept;
+          (ring_of G k.course k.catalogue library k.orders) ran.steps.nodes k.journals place ran.apart course.returns_later
+          (λ n back is. forgets-cub G k library) (cubs-apart G p) (cubs-first G k library) kept;
     }

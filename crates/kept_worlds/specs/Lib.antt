@@ -2,6 +2,7 @@ pub mod Events
 pub mod Laws
 pub mod MergeSamples
 pub mod Merges
+pub mod Numbering
 pub mod Samples
 pub mod Telling
 pub mod Turning

@@ -2,7 +2,7 @@
 use Rattle.std.specs.Prelude.{ℕ, zero, suc, ◌==◌, ◌||◌, if◌then◌else◌}
 use Rattle.node_kit.specs.Steps.Input.{Tick}
 use Rattle.run_facts.specs.Events.{NodeEvent}
-use Rattle.run_facts.specs.Events.NodeEvent.{Dies, Ends}
+use Rattle.run_facts.specs.Events.NodeEvent.{Dies, Ends, Returns}
 use Rattle.run_facts.specs.Histories.{History}
 use Rattle.run_facts.specs.Samples.{with_events, take}
 
@@ -31,3 +31,12 @@ take_then_cut (suc i) = Ends (Tick (record { beat = 1; reading = 0 })) 0
 -- node 3 takes a message in beat 1, and its death comes in the tick of that beat
 abbrev pub takes_and_ends : History ℕ ℕ
 takes_and_ends = with_events (λ n. if n == 3 then 2 else 0) (λ n i. take_then_cut i)
+
+-- the first event of a node is its death in beat 1, and the second its return in beat 3
+abbrev death_then : ℕ → NodeEvent ℕ
+death_then zero = death 1
+death_then (suc i) = Returns (record { beat = 3; reading = 0 })
+
+-- node 3 dies in beat 1 and returns in beat 3, and nothing else happens
+abbrev pub dies_and_returns : History ℕ ℕ
+dies_and_returns = with_events (λ n. if n == 3 then 2 else 0) (λ n i. death_then i)

@@ -7,7 +7,6 @@ use Rattle.node_kit.specs.Steps.{Input, Deed}
 use Rattle.run_facts.specs.Events.{is_death}
 use Rattle.run_facts.specs.Events.NodeEvent.{Dies}
 use Rattle.run_facts.specs.Histories.{History, IsRun, beat, last_of}
-use Rattle.proof_lives.specs.OneLife.{IsWithoutReturns}
 use Rattle.ring_world.specs.declared.event.Event.{Event}
 use Rattle.ring_world.specs.Machine.{Machine, opening_machine, journals_of, states_of}
 use Rattle.ring_world.specs.Faults.{Accepts, cub_after}
@@ -40,14 +39,12 @@ pub record HasLivedThrough {M S : Type 0} (note : M → Note) (step : S → Inpu
   pub ends : (n : ℕ) → n < length given
       → slice_get (states_of machine) n ≡ Some (last_of note step h n).state
 
--- If the nodes given are the first states of a history of which the record of a run holds, in which nobody returns, and
--- which may happen, then their machine accepts the history's events in any one list that never falls in beats. Of the
--- nodes nothing is asked.
+-- If the nodes given are the first states of a history of which the record of a run holds and which may happen, then their
+-- machine accepts the history's events in any one list that never falls in beats. Of the nodes nothing is asked.
 abbrev pub MergesAreAccepted : (M S : Type 0) → Type 0
 MergesAreAccepted M S =
     (note : M → Note) (step : S → Input M → Deed M S) (p : Params) (beats : ℕ) (given : List S)
     (h : History M S) (events : List Event) → IsPlace p (length given) beats
     → ((n : ℕ) (s : S) → slice_get given n ≡ Some s → h.first n ≡ s)
-    → IsRun note step p (length given) h → IsWithoutReturns (length given) h → MayHappen p (length given) beats h
-    → IsMerged h (length given) events
+    → IsRun note step p (length given) h → MayHappen p (length given) beats h → IsMerged h (length given) events
     → HasLivedThrough note step p beats given h events

@@ -21,7 +21,15 @@ abbrev pub sent : ℕ → ℕ → Entry
 sent beat link =
     record { stamp = record { beat = beat; reading = 0 }; what = what.Sent (record { 0 = link }) Heartbeat }
 
--- the message of a number is got on a link; node n ticks; cub n dies
+-- nothing is lost on any link
+abbrev pub none_lost : ℕ → ℕ
+none_lost l = 0
+
+-- four messages are lost on each link
+abbrev pub four_lost : ℕ → ℕ
+four_lost l = 4
+
+-- the message of a number is got on a link; node n ticks; cub n dies, or returns
 abbrev pub get : ℕ → ℕ → Act
 get link number = act.Get (record { 0 = link }) number
 
@@ -30,6 +38,9 @@ tick n = act.Tick (record { 0 = n })
 
 abbrev pub die : ℕ → Act
 die n = act.Die (record { 0 = n })
+
+abbrev pub back : ℕ → Act
+back n = act.Return (record { 0 = n })
 
 -- and in a beat
 abbrev pub get_in : ℕ → ℕ → ℕ → Dated Act
@@ -45,6 +56,10 @@ DiesIn c n beat = lifetime_of c n ≡ mortal (Some beat)
 
 abbrev pub LivesOn : Course → ℕ → Type 0
 LivesOn c n = lifetime_of c n ≡ mortal None
+
+-- node n dies in a beat of the course apart from any event, and returns in another one
+abbrev pub ReturnsFrom : Course → ℕ → ℕ → ℕ → Type 0
+ReturnsFrom c n death back = (death_of c n ≡ Some death) × (cut_of c n ≡ None) × (back_of c n ≡ Some back)
 
 -- its death comes in an event of a beat of the course, and it does not return
 abbrev pub IsCutIn : Course → ℕ → ℕ → Type 0

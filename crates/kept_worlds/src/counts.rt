@@ -1,5 +1,5 @@
-//! How many messages were got on each link.
-ghost use Rattle.std.specs.Prelude.{◌≡◌, ◌+◌, ◌<◌, ◌==◌, [], IfOk, OnOk, if◌then◌else◌};
+//! How many messages were got, or sent, on each link.
+ghost use Rattle.std.specs.Prelude.{◌≡◌, ◌+◌, ◌==◌, [], IfOk, OnOk, if◌then◌else◌};
 ghost use Rattle.kept_worlds.specs.Telling.{counted_on};
 
 use std::alloc::Global;
@@ -34,7 +34,7 @@ impl Counts {
     }
 
     /// How many messages were counted on a link.
-    fn on(&self, link: LinkNo) -> u64
+    pub fn on(&self, link: LinkNo) -> u64
         ensures { result ≡ counted_on link.0 self.now }
     {
         match self.map.get(&link.0) {
@@ -45,13 +45,19 @@ impl Counts {
 
     /// Counts a message on a link, and gives the number of those before it.
     pub fn next(&mut self, link: LinkNo) -> Result<u64, NoMemory>
-        requires { counted_on link.0 self.old < 18446744073709551615 }
         ensures number { IfOk result (λ number. number ≡ counted_on link.0 self.old) }
         ensures counted { OnOk result ((l : ℕ) → counted_on l self.new
             ≡ (if link.0 == l then counted_on link.0 self.old + 1 else counted_on l self.old)) }
     {
         let number = self.on(link);
-        self.map.insert(link.0, number + 1)?;
+        let more = one_more(number)?;
+        self.map.insert(link.0, more)?;
         Ok(number)
     }
+}
+
+fn one_more(number: u64) -> Result<u64, NoMemory>
+    ensures { IfOk result (λ more. more ≡ number + 1) }
+{
+    number.checked_add(1).ok_or(NoMemory)
 }

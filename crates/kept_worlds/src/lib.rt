@@ -6,6 +6,8 @@ ghost use Rattle.kept_worlds.specs.Worlds.{KeptRunsAreWorlds};
 ghost use Rattle.kept_worlds.specs.Merges.{MergesAreAccepted};
 
 mod counts;
+mod life_counts;
+mod losing;
 pub mod merge_rows;
 pub mod rows;
 mod telling;

@@ -4,7 +4,7 @@
 ghost use Rattle.slot_plan.specs.Samples.{small};
 ghost use Rattle.run_facts.specs.Samples.{ticking};
 ghost use Rattle.kept_worlds.specs.Merges.{MayHappen};
-ghost use Rattle.kept_worlds.specs.MergeSamples.{takes_and_dies, takes_and_ends, two_die};
+ghost use Rattle.kept_worlds.specs.MergeSamples.{dies_and_returns, takes_and_dies, takes_and_ends, two_die};
 
 /// Each event is in a beat below the number.
 pub fn beats()
@@ -26,4 +26,10 @@ pub fn idle_deaths()
     ensures later { MayHappen small 9 3 (takes_and_dies 2) }
     ensures same_beat { MayHappen small 9 3 (takes_and_dies 1) → ⊥ }
     ensures in_event { MayHappen small 9 3 takes_and_ends }
+{}
+
+/// A cub that died may return, in a beat below the number as any other event.
+pub fn returns()
+    ensures back { MayHappen small 9 4 dies_and_returns }
+    ensures late { MayHappen small 9 3 dies_and_returns → ⊥ }
 {}

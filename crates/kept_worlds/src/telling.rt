@@ -4,10 +4,11 @@ ghost use Rattle.tiger_base.specs.Limits.{most_beats};
 ghost use Rattle.node_kit.specs.Courses.{IsCourse};
 ghost use Rattle.node_kit.specs.Life.{lifetime_of};
 ghost use Rattle.node_kit.specs.Links.{links_of, viewers_of};
-ghost use Rattle.kept_worlds.specs.Events.{said_in, get_told, end_of_beat, event_in, world_events_of};
-ghost use Rattle.kept_worlds.specs.Telling.{listed_act, told_in, gets_told, ends_told, node_told, nodes_told};
+ghost use Rattle.kept_worlds.specs.Events.{begin_of_beat, said_in, get_told, end_of_beat, event_in, lost_told, world_events_of};
+ghost use Rattle.kept_worlds.specs.Telling.{listed_act, told_in, backs_told, gets_told, ends_told, node_told, nodes_told};
 
-use crate::counts::Counts;
+use crate::life_counts::Lives;
+use crate::losing::{back_of, sent_before};
 use crate::turn::{sends_in_take, sends_in_tick};
 use node_kit::{Course, Entry, Journal, Kept, Life, What};
 use ring_world::{Act, Event, Last};
@@ -15,11 +16,13 @@ use std::alloc::Global;
 use tiger_base::{Beat, CubNo, LinkNo, NoMemory, NodeNo, Note};
 
 /// What is kept of a run, as a list of events: for each beat, and in it for each node by number,
-/// one get for each message that the node's journal says it got in the beat, in the journal's
-/// order, and then one tick, whether the tick wrote an entry or not. A cub that dies apart from any
-/// event has its death alone in that beat. If its death comes in an event, that is the last message
-/// it got in the beat, if all that it wrote behind may come of it, and else the tick, with as many
-/// messages as it says were sent in it. Nothing comes later.
+/// its return, if that is the beat of it, one get for each message that the node's journal says it
+/// got in the beat, in the journal's order, and then one tick, whether the tick wrote an entry or
+/// not. A cub that dies apart from any event has its death alone in that beat. If its death comes
+/// in an event, that is the last message it got in the beat, if all that it wrote behind may come
+/// of it, and else the tick, with as many messages as it says were sent in it. Nothing comes until
+/// its return. A message that it gets behind that has as its number how many the journals say were
+/// sent on the link in lower beats, and how many it got there since.
 ///
 /// `NoMemory` is the only error.
 pub fn world_events(alloc: Global, kept: &Kept) -> Result<Vec<Event>, NoMemory>
@@ -44,10 +47,11 @@ fn push_nodes(
     requires course { IsCourse course.now }
     requires few { length journals.now ≤ 1000 }
     ensures { OnOk result (events.new.items
-        ≡ events.old.items ++ nodes_told course.now 0 journals.now) }
+        ≡ events.old.items
+        ++ nodes_told course.now (lost_told course.now journals.now) 0 journals.now) }
 {
     for (n, journal) in journals.iter().enumerate() {
-        push_node(alloc, course, NodeNo(n as u32), journal, events)?;
+        push_node(alloc, course, NodeNo(n as u32), journals, journal, events)?;
     }
     Ok(())
 }
@@ -56,17 +60,60 @@ fn push_node(
     alloc: Global,
     course: &Course,
     node: NodeNo,
+    journals: &[Journal],
     journal: &Journal,
     events: &mut Vec<Event>,
 ) -> Result<(), NoMemory>
     requires { IsCourse course.now }
     ensures { OnOk result (events.new.items
-        ≡ events.old.items ++ node_told course.now node.0 journal.now) }
+        ≡ events.old.items
+        ++ node_told course.now node.0 (lost_told course.now journals.now node.0) journal.now) }
 {
     let life = Life::new(course, node);
     let entries = journal.as_slice();
-    push_gets(alloc, course, node, &life, entries, events)?;
+    push_backs(course, node, &life, events)?;
+    push_gets(alloc, course, node, &life, journals, entries, events)?;
     push_ends(course, node, &life, entries, events)
+}
+
+fn push_backs(
+    course: &Course,
+    node: NodeNo,
+    life: &Life,
+    events: &mut Vec<Event>,
+) -> Result<(), NoMemory>
+    requires course { IsCourse course.now }
+    requires life { life.now ≡ lifetime_of course.now node.0 }
+    ensures { OnOk result (events.new.items
+        ≡ events.old.items ++ backs_told course.now node.0 0 course.now.beats) }
+{
+    for beat in 0..course.beats {
+        push_back(course, node, life, beat, events)?;
+    }
+    Ok(())
+}
+
+fn push_back(
+    course: &Course,
+    node: NodeNo,
+    life: &Life,
+    beat: Beat,
+    events: &mut Vec<Event>,
+) -> Result<(), NoMemory>
+    requires course { IsCourse course.now }
+    requires early { beat ≤ most_beats }
+    requires life { life.now ≡ lifetime_of course.now node.0 }
+    ensures { OnOk result (events.new.items
+        ≡ events.old.items
+        ++ map (event_in course.now node.0 beat) (begin_of_beat course.now node.0 beat)) }
+{
+    if !life.returns(beat) {
+        return Ok(());
+    }
+    let stamp = course.stamp(node, beat);
+    let act = Act::Return(CubNo(node.0));
+    events.push(Event { stamp, act })?;
+    Ok(())
 }
 
 fn push_gets(
@@ -74,19 +121,23 @@ fn push_gets(
     course: &Course,
     node: NodeNo,
     life: &Life,
+    journals: &[Journal],
     journal: &[Entry],
     events: &mut Vec<Event>,
 ) -> Result<(), NoMemory>
     requires course { IsCourse course.now }
     requires life { life.now ≡ lifetime_of course.now node.0 }
     ensures { OnOk result (events.new.items
-        ≡ events.old.items ++ gets_told course.now node.0 [] journal.now) }
+        ≡ events.old.items
+        ++ gets_told course.now node.0 (lost_told course.now journals.now node.0) [] journal.now) }
 {
-    let mut counts = Counts::new(alloc);
+    let back = back_of(course, node);
+    let lost = sent_before(alloc, back, journals)?;
+    let mut lives = Lives::new(alloc, back, lost);
     for (place, entry) in journal.iter().enumerate() {
         if let What::Got(link, message) = entry.what {
-            let number = counts.next(link)?;
             let beat = entry.stamp.beat;
+            let number = lives.next(link, beat)?;
             let behind = &journal[place + 1..];
             let act = get_act(course, node, life, beat, link, &message, number, behind);
             push_in(course, node, beat, act, events)?;

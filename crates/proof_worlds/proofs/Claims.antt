@@ -1,27 +1,33 @@
 -- What is claimed of a ring's histories holds of the lists that its machine accepts.
-use Rattle.std.proofs.Common.{◌≡◌, ℕ, ◌+◌, ◌<◌, List, length, filter, true, false, sym, ap, ◌∙◌, arith, ⊎_elim}
+use Rattle.std.proofs.Common.{◌≡◌, ℕ, ◌+◌, ◌<◌, List, length, filter, sym, ap, ◌∙◌, arith, inl, inr}
 use Rattle.tiger_base.specs.declared.message.Msg.{Msg}
 use Rattle.slot_plan.specs.declared.params.Params.{Params}
 use Rattle.stripe_layout.specs.declared.catalogue.Catalogue.{Catalogue}
 use Rattle.node_kit.specs.declared.course.Order.{Order}
 use Rattle.node_kit.specs.declared.course.ReadFault.{ReadFault}
-use Rattle.run_facts.specs.Events.{is_death, is_return}
+use Rattle.node_kit.specs.Steps.Input.{Tick}
+use Rattle.run_facts.specs.Events.NodeEvent.{Does}
 use Rattle.run_facts.specs.Histories.{History}
 use Rattle.run_facts.specs.Order.{order_of}
 use Rattle.run_claims.specs.Accounts.{HasTick, is_tick_of, reading_at}
 use Rattle.disk_core.specs.State.{DiskState}
 use Rattle.ring_nodes.specs.declared.nodes.AnyNode.{AnyNode}
-use Rattle.proof_lives.specs.Histories.{input_of}
-use Rattle.proof_lives.proofs.Acting.{alive_acts, alive_whole, cut_same}
+use Rattle.proof_lives.specs.Facts.{TickedAt}
+use Rattle.proof_lives.specs.Histories.{cut_of_event, has_input, input_of}
+use Rattle.proof_lives.specs.TwoLifeRun.{WhichLife, event_in, life_in}
+use Rattle.proof_lives.specs.TwoLifeRun.WhichLife.{First, Later}
+use Rattle.proof_lives.proofs.TwoLives.{input_in}
 use Rattle.proof_controller.specs.Controllers.{controller}
 use Rattle.proof_facts.specs.Facts.{facts_of}
 use Rattle.proof_facts.specs.Rings.{node_count}
+use Rattle.proof_journals.proofs.Events.{cut_of_input, input_of_life}
 use Rattle.proof_moments.specs.Ties.{IsTickBelow}
 use Rattle.proof_ring.specs.Accounts.{account_in}
 use Rattle.proof_ring.specs.ClaimsOfRings.{IsStoredRing}
 use Rattle.proof_ring.proofs.Beliefs.{rings_believe_in_time}
 use Rattle.proof_ring.proofs.Beliefs as beliefs
 use Rattle.proof_ring.proofs.Claims.{rings_meet_the_claims, with_ticks}
+use Rattle.proof_ring.proofs.Commanded.{kept}
 use Rattle.proof_ring.proofs.Recorded.{rings_have_one_schedule}
 use Rattle.proof_ring.proofs.Served.{rings_are_never_wrongly_served, rings_are_rightly_served}
 use Rattle.ring_world.specs.declared.event.Event.{Event}
@@ -37,25 +43,30 @@ module _ (G : Type 0) (p : Params) (orders : List Order) (disk_at : ℕ → Disk
   abbrev pub h : History Msg (AnyNode G)
   h = rings.h G p orders disk_at beats events m k
 
-  -- The tick of a cub in the list is a whole tick of the cub's life.
+  -- A tick of either life is one of the facts.
+  either : (w : WhichLife) {c b l : ℕ} → TickedAt p (life_in h w) c b l → (facts_of p orders h).Ticked c b l
+  either First t = inl t
+  either Later t = inr t
+
+  -- The tick of a cub in the list is a whole tick of one of the cub's lives.
   pub ticks : (top c b l : ℕ) → c < p.cubs → IsTickIn events top c b l → IsTickBelow (facts_of p orders h) top c b l
   ticks top c b l small tick =
       let inside : c < node_count p = omega (arith, small) in
       let come = rings.come G p orders disk_at beats events m k in
-      let run = (rings.is_ring G p orders disk_at beats events m k).run in
-      let here : (i : ℕ) → i < h.count c → is_return (h.event c i) ≡ false = λ i low. run.here c i inside low in
-      let ended : (i : ℕ) → i < h.count c → is_death (h.event c i) ≡ true → i + 1 ≡ h.count c = λ i low died. run.ended c i inside low died in
+      let all = kept G p orders disk_at h (journals_of m) k.plan (rings.is_ring G p orders disk_at beats events m k)
+      (rings.written G p orders disk_at beats events m k) in
       let mine = tick_happened p _ beats h events come.merged (record { beat = b; reading = l }) c tick.at
       (rings.within G p orders disk_at beats events m k c inside) tick.is in
-      let alive : is_death (h.event c mine.0) ≡ false = ap is_death mine.2 in
-      let done = alive_acts h c here ended mine.0 mine.1 alive in (
-        record {
+      let life = input_of_life all c mine.0 inside mine.1 (ap has_input mine.2) in
+      let is : h.event c (event_in h life.which c life.at) ≡ Does (Tick (record { beat = b; reading = l })) =
+      ap (h.event c) (sym life.is) ∙ mine.2 in (
+        either life.which (record {
           small = small;
-          at = mine.0;
-          done = done;
-          is = ap input_of mine.2;
-          whole = cut_same h c here ended mine.0 done ∙ alive_whole (h.event c mine.0) alive;
-        },
+          at = life.at;
+          done = life.done;
+          is = input_in h life.which c life.at ∙ ap input_of is;
+          whole = cut_of_input all life.which c life.at inside life.done ∙ ap cut_of_event is;
+        }),
         tick.below,
       )
 

@@ -12,7 +12,7 @@ use Rattle.node_kit.specs.Rows.{each_below}
 use Rattle.node_kit.specs.Steps.{Input, Deed}
 use Rattle.node_kit.specs.Steps.Input.{Take, Tick}
 use Rattle.node_kit.proofs.Rows.{length-each_below, get-each_below, get-below}
-use Rattle.run_facts.specs.Events.{NodeEvent, is_return, stamp_at}
+use Rattle.run_facts.specs.Events.{NodeEvent, stamp_at}
 use Rattle.run_facts.specs.Events.NodeEvent.{Does, Ends, Dies, Returns}
 use Rattle.run_facts.specs.Histories.{History}
 use Rattle.run_facts.proofs.Rows.{all-append, all-left, all-right, same-element}
@@ -23,7 +23,6 @@ use Rattle.ring_world.specs.Machine.{Machine, happens}
 use Rattle.ring_world.specs.Faults.{Accepts, IsActOf, IsEventOf}
 use Rattle.ring_world.specs.Merging.{Happening, IsMerged, act_of, added, own, told_as, told_from}
 use Rattle.ring_world.proofs.Accepting.{some-same}
-use Rattle.proof_worlds.specs.Accepted.{is_return_act, HaveNoReturns}
 
 -- Each event that is accepted is one that may be asked.
 pub accepted_events : {M S : Type 0} (note : M → Note) (step : S → Input M → Deed M S) (p : Params) (nodes beats : ℕ)
@@ -48,14 +47,6 @@ may_die p nodes lost es n (Ends (Tick stamp) sends) is = is
 may_die p nodes lost es n (Dies stamp) is = is
 may_die p nodes lost es n (Does input) is = tt
 may_die p nodes lost es n (Returns stamp) is = tt
-
--- An event that is told as no return is none.
-stays : {M : Type 0} (lost : ℕ → ℕ) (es : List (NodeEvent M)) (n : ℕ) (x : NodeEvent M)
-    → is_return_act (act_of lost es n x) ≡ false → is_return x ≡ false
-stays lost es n (Does input) told = refl
-stays lost es n (Ends input sends) told = refl
-stays lost es n (Dies stamp) told = refl
-stays lost es n (Returns stamp) told = absurd (cc)
 
 -- What all that is told gives of what happens to a node, it gives of all of that.
 each_own : {M : Type 0} (Told : Event → Type 0) (P : NodeEvent M → Type 0) (n : ℕ) (lost : ℕ → ℕ)
@@ -153,10 +144,6 @@ module _ {M S : Type 0} (p : Params) (nodes beats : ℕ) (h : History M S) (even
       → (n i : ℕ) → n < nodes → i < h.count n → MayDie p n (h.event n i)
   dies_as all n i inside low =
       of_each (IsEventOf p nodes beats) (MayDie p n) n (λ es x told. may_die p nodes h.before es n x told.1) all i inside low
-
-  pub nobody_returns : HaveNoReturns events → (n i : ℕ) → n < nodes → i < h.count n → is_return (h.event n i) ≡ false
-  nobody_returns final n i inside low =
-      of_each (λ e. is_return_act e.act ≡ false) (λ x. is_return x ≡ false) n (λ es x told. stays h.before es n x told) final i inside low
 
   pub tick_happened : (stamp : Stamp) (n k : ℕ) → n < nodes
       → slice_get events k ≡ Some (tick_event stamp n)

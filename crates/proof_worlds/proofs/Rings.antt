@@ -12,16 +12,13 @@ use Rattle.node_kit.specs.declared.course.Order.{Order}
 use Rattle.node_kit.specs.Steps.Input.{Take, Tick}
 use Rattle.run_facts.specs.Events.{NodeEvent, is_death}
 use Rattle.run_facts.specs.Events.NodeEvent.{Does, Ends, Dies, Returns}
-use Rattle.run_facts.specs.Histories.{History, IsUp}
-use Rattle.run_facts.proofs.Recording.{open-ticked}
+use Rattle.run_facts.specs.Histories.{History, IsRun}
 use Rattle.disk_core.specs.State.{DiskState}
 use Rattle.ring_nodes.specs.declared.nodes.AnyNode.{AnyNode}
 use Rattle.ring_nodes.specs.declared.nodes.AnyNode.TheVariants as node
 use Rattle.ring_nodes.specs.AllNodes.{any_step, StandsAny, opening_cub, opening_controller}
 use Rattle.proof_ring.proofs.Opened.{get_some}
-use Rattle.proof_lives.specs.OneLife.{IsWithoutReturns, IsOneLifeRun}
 use Rattle.proof_lives.proofs.Carrying.{same_ends}
-use Rattle.proof_lives.proofs.OneLife.{one_life_run}
 use Rattle.proof_controller.specs.Controllers.{controller}
 use Rattle.proof_facts.specs.Rings.{node_count, node_of_disk, viewers, DieAlone, IsUpTo}
 use Rattle.proof_journals.specs.Journals.{AreJournalsOf}
@@ -33,7 +30,7 @@ use Rattle.ring_world.specs.Laws.{HasCome, HasDiedIn, IsPlace}
 use Rattle.ring_world.proofs.Places.{plans-places}
 use Rattle.ring_world.proofs.Runs.{accepted-runs}
 use Rattle.proof_worlds.specs.Accepted.{opening_ring, IsAccepted, AcceptedListsAreRings}
-use Rattle.proof_worlds.proofs.Events.{MayDie, accepted_events, dies_as, nobody_returns}
+use Rattle.proof_worlds.proofs.Events.{MayDie, accepted_events, dies_as}
 use Rattle.proof_worlds.proofs.Lawful.{nodes_are_lawful}
 use Rattle.proof_worlds.proofs.Openings as openings
 
@@ -59,13 +56,6 @@ module _ (G : Type 0) (p : Params) (orders : List Order) (disk_at : ℕ → Disk
 
   abbrev pub h : History Msg (AnyNode G)
   h = come.history
-
-  -- Nobody returns in it, so each node has one life.
-  here : IsWithoutReturns (length given) h
-  here = nobody_returns p (length given) beats h events come.merged k.final
-
-  one_life : IsOneLifeRun noted any_step p (length given) h
-  one_life = one_life_run noted any_step p (length given) h here come.run
 
   -- Each event that is accepted may be asked of the ring.
   pub asked : AllByRecursion (IsEventOf p (length given) beats) events
@@ -131,7 +121,7 @@ module _ (G : Type 0) (p : Params) (orders : List Order) (disk_at : ℕ → Disk
 
   pub is_ring : IsRing p orders disk_at h
   is_ring = record {
-    run = subst (λ n. IsOneLifeRun noted any_step p n h) size one_life;
+    run = subst (λ n. IsRun noted any_step p n h) size come.run;
     opens = opens;
     deaths = deaths;
     counted = k.counted;
@@ -145,13 +135,7 @@ module _ (G : Type 0) (p : Params) (orders : List Order) (disk_at : ℕ → Disk
   }
 
   pub up_to : IsUpTo p m.beat h
-  up_to = record {
-    until = λ n inside alive.
-        let up : IsUp h n = λ i low died. (let q : true ≡ false = sym died ∙ alive i low in absurd (cc)) in
-        let ended = come.ticked n (within n inside) up in
-        let same = open-ticked h n (h.count n) (λ j low. here n j (within n inside) low) in
-        omega (arith, ended, same);
-  }
+  up_to = record { until = λ n inside up. come.ticked n (within n inside) up }
 
 pub accepted_lists_are_rings : (G : Type 0) → AcceptedListsAreRings G
 accepted_lists_are_rings G p orders disk_at beats events m k = record {

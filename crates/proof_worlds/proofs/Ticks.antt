@@ -2,7 +2,7 @@
 use Rattle.std.proofs.Common.{◌≡◌, ℕ, zero, suc, ◌+◌, ◌<◌, ◌≤◌, List, [], ◌∷◌, ◌++◌, length, filter, Bool, true, false, cond, ◌&&◌, Option, Some, refl, sym, ap, subst, ◌∙◌, arith, ⊎_elim, inl, inr, length-append}
 use Rattle.std.specs.Prelude.{slice_get, find, option_map, unwrap_or, ◌==◌, ◌⊎◌}
 use Rattle.std.specs.List.{AllByRecursion}
-use Rattle.std.proofs.lemmas.Bool.{cases_Bool, eqb-true, eq-eqb}
+use Rattle.std.proofs.lemmas.Bool.{cases_Bool, cases_lt, eqb-true, eq-eqb}
 use Rattle.std.proofs.lemmas.List.Elements.{filter-append}
 use Rattle.std.proofs.lemmas.Option.{none-some}
 use Rattle.tiger_base.specs.declared.number.Stamp.{Stamp}
@@ -12,21 +12,18 @@ use Rattle.node_kit.specs.declared.course.Order.{Order}
 use Rattle.node_kit.specs.Rows.{each_below}
 use Rattle.node_kit.specs.Steps.Input.{Take, Tick}
 use Rattle.node_kit.proofs.Rows.{get-each_below}
-use Rattle.run_facts.specs.Events.{NodeEvent, IsPlain, is_tick, is_death, is_return, stamp_at, is_tick_input}
+use Rattle.run_facts.specs.Events.{NodeEvent, IsPlain, is_tick, is_death, is_return, stamp_at}
 use Rattle.run_facts.specs.Events.NodeEvent.{Does, Ends, Dies, Returns}
 use Rattle.run_facts.specs.Histories.{History, beat, reading, ticks}
 use Rattle.run_claims.specs.Accounts.{Ticking, HasTick, is_tick_of, is_tick_at, reading_at}
 use Rattle.disk_core.specs.State.{DiskState}
 use Rattle.ring_nodes.specs.declared.nodes.AnyNode.{AnyNode}
-use Rattle.proof_lives.proofs.Order.{not_behind}
 use Rattle.proof_controller.specs.Controllers.{controller}
 use Rattle.proof_facts.specs.Rings.{node_count}
-use Rattle.proof_journals.proofs.Events.{life_of}
-use Rattle.proof_journals.proofs.Journals.{inputs_of}
-use Rattle.proof_lives.proofs.Acting.{beat_same}
+use Rattle.proof_journals.proofs.Events.{behind_tick}
 use Rattle.proof_ring.specs.Accounts.{IsControllersClock}
 use Rattle.proof_ring.proofs.Commanded.{kept}
-use Rattle.proof_ring.proofs.Ticks.{tick_made}
+use Rattle.proof_ring.proofs.CubLives.{stays_here}
 use Rattle.ring_world.specs.declared.event.Act.{Act}
 use Rattle.ring_world.specs.declared.event.Act.TheVariants as act
 use Rattle.ring_world.specs.declared.event.Event.{Event}
@@ -193,25 +190,26 @@ module _ (G : Type 0) (p : Params) (orders : List Order) (disk_at : ℕ → Disk
   abbrev pub h : History Msg (AnyNode G)
   h = rings.h G p orders disk_at beats events m k
 
-  -- Only cubs die, so each event of another node is whole.
+  -- Only cubs die and return, so each event of another node is whole.
   plain_at : (n i : ℕ) → n < node_count p → p.cubs ≤ n → i < h.count n → IsPlain (h.event n i)
   plain_at n i inside other low =
       let ring = rings.is_ring G p orders disk_at beats events m k in
-      alive_plain (h.event n i) (ring.deaths.mortal n i inside other low) (ring.run.here n i inside low)
+      alive_plain (h.event n i) (ring.deaths.mortal n i inside other low) (stays_here ring n inside other i low)
 
-  -- A node has one tick in a beat.
+  -- A node has one tick in a beat, since its beats are later behind a tick.
   one_tick : (n i j : ℕ) → n < node_count p → i < h.count n → j < h.count n → is_tick (h.event n i) ≡ true
       → is_tick (h.event n j) ≡ true → beat h n i ≡ beat h n j → i ≡ j
   one_tick n i j inside low high one two same =
       let all = kept G p orders disk_at h (journals_of m) k.plan (rings.is_ring G p orders disk_at beats events m k)
       (rings.written G p orders disk_at beats events m k) in
-      let life = life_of all n inside in
-      let first : is_tick_input (inputs_of h n i) ≡ true = ap is_tick_input (tick_made (h.event n i) one) in
-      let second : is_tick_input (inputs_of h n j) ≡ true = ap is_tick_input (tick_made (h.event n j) two) in
-      let here = beat_same h n i in
-      let there = beat_same h n j in
-      let up = not_behind p (h.count n) (inputs_of h n) life i j high low second (omega (arith, here, there, same)) in
-      let down = not_behind p (h.count n) (inputs_of h n) life j i low high first (omega (arith, here, there, same)) in
+      let up : i ≤ j = ⊎_elim
+      (λ (less : j < i). let later = behind_tick all n j i inside less low two in absurd (omega (arith, later, same)))
+      (λ (le : i ≤ j). le)
+      (cases_lt j i) in
+      let down : j ≤ i = ⊎_elim
+      (λ (less : i < j). let later = behind_tick all n i j inside less high one in absurd (omega (arith, later, same)))
+      (λ (le : j ≤ i). le)
+      (cases_lt i j) in
       omega (arith, up, down)
 
   -- A tick of the list is an event of its node, in a beat up to the machine's.

@@ -1,5 +1,5 @@
 -- A world's events are a list that the machine of a ring's opening nodes accepts.
-use Rattle.std.proofs.Common.{◌≡◌, ℕ, zero, suc, ◌+◌, ◌≤◌, List, [], ◌∷◌, ◌++◌, length, refl, ap, sym, ◌∙◌, subst, arith}
+use Rattle.std.proofs.Common.{◌≡◌, ℕ, zero, suc, ◌+◌, List, [], ◌∷◌, ◌++◌, length, refl, ap, sym, ◌∙◌, subst, arith}
 use Rattle.tiger_base.specs.Notes.{noted}
 use Rattle.slot_plan.specs.Times.{disk_count, time_of}
 use Rattle.node_kit.specs.declared.journal.Entry.{Entry}
@@ -21,7 +21,7 @@ use Rattle.proof_ring.specs.Beliefs.{BeliefsAreInTime}
 use Rattle.proof_ring.specs.ClaimsOfRings.{HasOneSchedule, IsNeverWronglyServed}
 use Rattle.proof_ring.proofs.Faults.{have_faults}
 use Rattle.world.specs.Worlds.{Opening, Worldly, opening_of, IsWorld}
-use Rattle.proof_worlds.specs.Accepted.{opening_ring, HaveNoReturns, IsAccepted, IsStored, IsTickIn, AcceptedListsBelieveInTime, AcceptedListsHaveOneSchedule, AcceptedListsAreNeverWronglyServed, AcceptedListsAreRightlyServed}
+use Rattle.proof_worlds.specs.Accepted.{opening_ring, IsAccepted, IsStored, IsTickIn, AcceptedListsBelieveInTime, AcceptedListsHaveOneSchedule, AcceptedListsAreNeverWronglyServed, AcceptedListsAreRightlyServed}
 use Rattle.proof_worlds.specs.Accounts.{ticks_of, AcceptedListsMeetTheClaims}
 use Rattle.proof_worlds.specs.Claims.{HasOneScheduleThroughout, BelievesInTimeThroughout, IsNeverWronglyServedThroughout, IsRightlyServedThroughout, MeetsTheClaims}
 
@@ -53,16 +53,15 @@ module _ (G : Type 0) (w : Worldly G) (is : IsWorld w) where
       ap (λ (ds : List (AnyNode G)). numbered (opening_cub o.params) o.params.cubs ++ ds ++ opening_controller o.params o.orders ∷ node.Viewers [] ∷ [])
       (numbered_once (opening_disk {G = G} o.params o.faults) (image_at o.params o.catalogue o.library) (disk_count o.params))
 
-  accepted : AreCounted o.params o.orders → HaveNoReturns w.running.machine.events
+  accepted : AreCounted o.params o.orders
       → IsAccepted o.params o.orders disk_at o.beats w.running.machine.events is.machine
-  accepted counted final = record {
+  accepted counted = record {
     plan = is.plan;
     counted = counted;
     disks = λ d low. record { params = refl; number = refl };
     few = is.few;
     accepts = subst (λ (ns : List (AnyNode G)). Accepts noted any_step o.params (node_count o.params) o.beats (opening_machine o.params ns) w.running.machine.events is.machine)
         opens_as_ring is.accepted;
-    final = final;
   }
 
   stored : AreOfCatalogue o.params o.catalogue o.orders → IsStored o.params o.catalogue o.faults o.orders disk_at
@@ -73,32 +72,32 @@ module _ (G : Type 0) (w : Worldly G) (is : IsWorld w) where
   }
 
   pub one_schedule : AcceptedListsHaveOneSchedule G → AreCounted o.params o.orders → HasOneScheduleThroughout w
-  one_schedule law counted final top =
+  one_schedule law counted top =
       subst (λ (js : List (List Entry)). HasOneSchedule o.params o.orders (IsTickIn w.running.machine.events top) (order_of top js)) (sym is.journals)
-      (law o.params o.orders disk_at o.beats w.running.machine.events is.machine top (accepted counted final))
+      (law o.params o.orders disk_at o.beats w.running.machine.events is.machine top (accepted counted))
 
   pub believes_in_time : AcceptedListsBelieveInTime G → AreCounted o.params o.orders → BelievesInTimeThroughout w
-  believes_in_time law counted final top =
+  believes_in_time law counted top =
       subst (λ (js : List (List Entry)). BeliefsAreInTime o.params (IsTickIn w.running.machine.events top) (order_of top js)) (sym is.journals)
-      (law o.params o.orders disk_at o.beats w.running.machine.events is.machine top (accepted counted final))
+      (law o.params o.orders disk_at o.beats w.running.machine.events is.machine top (accepted counted))
 
   pub never_wrongly : AcceptedListsAreNeverWronglyServed G → AreCounted o.params o.orders → AreOfCatalogue o.params o.catalogue o.orders
       → IsNeverWronglyServedThroughout w
-  never_wrongly law counted files final top =
+  never_wrongly law counted files top =
       subst (λ (js : List (List Entry)). IsNeverWronglyServed o.params o.faults (order_of top js)) (sym is.journals)
-      (law o.params o.catalogue o.faults o.orders disk_at o.beats w.running.machine.events is.machine top (accepted counted final) (stored files))
+      (law o.params o.catalogue o.faults o.orders disk_at o.beats w.running.machine.events is.machine top (accepted counted) (stored files))
 
   pub rightly : AcceptedListsAreRightlyServed G → AreCounted o.params o.orders → AreOfCatalogue o.params o.catalogue o.orders
       → IsRightlyServedThroughout w
-  rightly law counted files final top low =
+  rightly law counted files top low =
       let same = is.beat in
       subst (λ (js : List (List Entry)). AreServed o.params o.catalogue js (time_of o.params top) (order_of top js)) (sym is.journals)
-      (law o.params o.catalogue o.faults o.orders disk_at o.beats w.running.machine.events is.machine top (accepted counted final) (stored files) (omega (arith, low, same)))
+      (law o.params o.catalogue o.faults o.orders disk_at o.beats w.running.machine.events is.machine top (accepted counted) (stored files) (omega (arith, low, same)))
 
   pub meets : AcceptedListsMeetTheClaims G → AreCounted o.params o.orders → AreOfCatalogue o.params o.catalogue o.orders → MeetsTheClaims w
-  meets law counted files final =
+  meets law counted files =
       subst (λ (b : ℕ). MeetsClaims (account_by o.params o.catalogue o.faults o.orders (journals_of w.running.machine) b (ticks_of w.running.machine.events)))
       (sym is.beat)
       (subst (λ (js : List (List Entry)). MeetsClaims (account_by o.params o.catalogue o.faults o.orders js is.machine.beat (ticks_of w.running.machine.events)))
       (sym is.journals)
-      (law o.params o.catalogue o.faults o.orders disk_at o.beats w.running.machine.events is.machine (accepted counted final) (stored files)))
+      (law o.params o.catalogue o.faults o.orders disk_at o.beats w.running.machine.events is.machine (accepted counted) (stored files)))

@@ -1,6 +1,5 @@
 -- What is claimed of every list of events that a machine of a ring's opening nodes accepts.
-use Rattle.std.specs.Prelude.{◌≡◌, ℕ, ◌+◌, ◌<◌, ◌≤◌, Bool, true, false, List, [], ◌∷◌, ◌++◌, Some, slice_get}
-use Rattle.std.specs.List.{AllByRecursion}
+use Rattle.std.specs.Prelude.{◌≡◌, ℕ, ◌+◌, ◌<◌, ◌≤◌, List, [], ◌∷◌, ◌++◌, Some, slice_get}
 use Rattle.tiger_base.specs.Limits.{most_beats}
 use Rattle.tiger_base.specs.declared.message.Msg.{Msg}
 use Rattle.tiger_base.specs.Notes.{noted}
@@ -25,7 +24,6 @@ use Rattle.proof_ring.specs.ClaimsOfRings.{HaveFaults}
 use Rattle.proof_ring.specs.Rings.{IsRing}
 use Rattle.proof_ring.specs.Beliefs.{BeliefsAreInTime}
 use Rattle.proof_ring.specs.ClaimsOfRings.{HasOneSchedule, IsNeverWronglyServed}
-use Rattle.ring_world.specs.declared.event.Act.{Act}
 use Rattle.ring_world.specs.declared.event.Act.TheVariants as act
 use Rattle.ring_world.specs.declared.event.Event.{Event}
 use Rattle.ring_world.specs.Machine.{Machine, journals_of, opening_machine}
@@ -46,17 +44,9 @@ opening_ring p orders disk_at =
     ∷ node.Viewers []
     ∷ []
 
-abbrev pub is_return_act : Act → Bool
-is_return_act (act.Return cub) = true
-is_return_act other = false
-
--- Whoever dies in these events dies for good.
-abbrev pub HaveNoReturns : List Event → Type 0
-HaveNoReturns events = AllByRecursion (λ e. is_return_act e.act ≡ false) events
-
--- A machine of such nodes accepts the events, each in a beat below a number, and is then this one; and whoever dies in
--- them dies for good, in the middle of another event or apart from any. Its numbers are a plan's, its orders can be given,
--- and each disk has its own number.
+-- A machine of such nodes accepts the events, each in a beat below a number, and is then this one. Cubs die in them in the
+-- middle of another event or apart from any, and may return. Its numbers are a plan's, its orders can be given, and each
+-- disk has its own number.
 pub record IsAccepted {G : Type 0} (p : Params) (orders : List Order) (disk_at : ℕ → DiskState)
     (beats : ℕ) (events : List Event) (m : Machine Msg (AnyNode G)) : Type 0 where
   pub plan : IsPlan p
@@ -65,10 +55,9 @@ pub record IsAccepted {G : Type 0} (p : Params) (orders : List Order) (disk_at :
   pub few : beats ≤ most_beats
   pub accepts : Accepts noted any_step p (node_count p) beats
       (opening_machine p (opening_ring p orders disk_at)) events m
-  pub final : HaveNoReturns events
 
 -- By these events a machine has come through a history of a ring, in which each node ended each
--- beat before the machine's, or died; and the machine has the journals of the history.
+-- beat before the machine's, if it is up; and the machine has the journals of the history.
 pub record HasComeAsRing {G : Type 0} (p : Params) (orders : List Order) (disk_at : ℕ → DiskState)
     (events : List Event) (m : Machine Msg (AnyNode G)) : Type 0 where
   pub come : HasCome noted any_step p (opening_ring p orders disk_at) events m

@@ -1,5 +1,5 @@
-//! The claims of a run hold of every list of events that a ring's machine accepts, and of every world, as long as whoever
-//! dies in it dies for good, in the middle of another event or apart from any.
+//! The claims of a run hold of every list of events that a ring's machine accepts, and of every world, whoever dies and
+//! returns in it.
 #![tactic(auto)]
 
 ghost use Rattle.proof_controller.specs.Orders.{AreCounted};
@@ -19,7 +19,7 @@ pub fn nodes_are_lawful<G>()
 {}
 
 /// A list of events that a machine of a ring's opening nodes accepts is a history of a ring, in which only cubs die and of
-/// two neighbours at most one, up to the machine's beat; and the machine has its journals.
+/// two neighbours at most one, whether or not it returns, up to the machine's beat; and the machine has its journals.
 pub fn accepted_lists_are_rings<G>()
     ensures { AcceptedListsAreRings G }
 {}
@@ -35,7 +35,7 @@ pub fn accepted_lists_believe_in_time<G>()
     ensures { AcceptedListsBelieveInTime G }
 {}
 
-/// In it nobody comes back, nobody is served twice or out of order, and a read fails only in a read fault.
+/// In it no stopped instance comes back, nobody is served twice or out of order, and a read fails only in a read fault.
 pub fn accepted_lists_are_never_wrongly_served<G>()
     ensures { AcceptedListsAreNeverWronglyServed G }
 {}
@@ -70,9 +70,9 @@ pub fn believes_in_time<'a, G: Gate>(world: &World<'a, G>)
     accepted_lists_believe_in_time::<G>();
 }
 
-/// In a world whose orders are for files of its catalogue nobody comes back, nobody is served twice or out of order, and
-/// a read fails only in a read fault; and each settled block of each viewer that was put came, or is excused, and nothing
-/// else came.
+/// In a world whose orders are for files of its catalogue no stopped instance comes back, nobody is served twice or out of
+/// order, and a read fails only in a read fault; and each settled block of each viewer that was put came, or is excused,
+/// and nothing else came.
 pub fn is_rightly_served<'a, G: Gate>(world: &World<'a, G>)
     requires counted { AreCounted world.now.opening.params world.now.opening.orders }
     requires files { AreOfCatalogue world.now.opening.params world.now.opening.catalogue

@@ -4,7 +4,7 @@
 //! must be refused if a crate is checked without its tests.
 ghost use Rattle.std.specs.Prelude.{◌≡◌, ℕ, ◌∷◌, []};
 ghost use Rattle.disk_image.specs.Image.{Image};
-ghost use Rattle.proof_worlds.specs.Accepted.{HaveNoReturns, IsTickIn};
+ghost use Rattle.proof_worlds.specs.Accepted.{IsTickIn};
 ghost use Rattle.proof_worlds.specs.Accounts.{ticks_of};
 ghost use Rattle.proof_worlds.specs.Samples.{AreAccepted, comes_back, dies, dies_ticking, tick, ticks, ticks_at};
 
@@ -20,12 +20,11 @@ pub fn deaths()
     ensures in_a_tick { (image : ℕ → Image) → AreAccepted image (dies_ticking 3 0 ∷ []) }
 {}
 
-/// Whoever dies in the middle of an event, or apart from any, may die for good; a cub that comes back does not.
+/// A cub that lives does not return, nor does one in the beat of its death.
 #[tactic(auto)]
-pub fn deaths_for_good()
-    ensures apart { HaveNoReturns (dies 3 ∷ ticks 2 ∷ []) }
-    ensures in_a_tick { HaveNoReturns (dies_ticking 3 1 ∷ ticks 2 ∷ []) }
-    ensures for_a_while { HaveNoReturns (dies 3 ∷ comes_back 3 ∷ []) → ⊥ }
+pub fn returns()
+    ensures alive { (image : ℕ → Image) → AreAccepted image (comes_back 3 ∷ []) → ⊥ }
+    ensures at_once { (image : ℕ → Image) → AreAccepted image (dies 3 ∷ comes_back 3 ∷ []) → ⊥ }
 {}
 
 /// A tick is on a list with its own cub, beat and reading, if its beat is below the number.

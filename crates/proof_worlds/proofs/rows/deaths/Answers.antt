@@ -13,7 +13,7 @@ use Rattle.ring_nodes.specs.AllNodes.{any_step}
 use Rattle.ring_world.specs.declared.event.Event.{Event}
 use Rattle.ring_world.specs.Machine.{Machine, opening_machine}
 use Rattle.ring_world.specs.Faults.{Accepts}
-use Rattle.proof_worlds.specs.Accepted.{opening_ring, HaveNoReturns}
+use Rattle.proof_worlds.specs.Accepted.{opening_ring}
 use Rattle.proof_worlds.specs.Samples.{AreAccepted, disks_of}
 use Rattle.proof_worlds.proofs.rows.deaths.Goals as goal
 
@@ -30,8 +30,8 @@ no-orders = record {
 
 accepted : (image : ℕ → Image) (events : List Event) (m : Machine Msg (AnyNode ℕ))
     → Accepts noted any_step small (node_count small) 1 (opening_machine small (opening_ring small [] (disks_of image))) events m
-    → HaveNoReturns events → AreAccepted image events
-accepted image events m a final = (
+    → AreAccepted image events
+accepted image events m a = (
   m,
   record {
     plan = laws_met.0;
@@ -39,17 +39,16 @@ accepted image events m a final = (
     disks = λ d l. record { params = refl; number = refl };
     few = omega arith;
     accepts = a;
-    final = final;
   },
 )
 
 pub returns-clause-nothing : goal.returns-clause-nothing
-returns-clause-nothing c image = accepted image [] _ refl tt
+returns-clause-nothing c image = accepted image [] _ refl
 
 pub returns-clause-apart : goal.returns-clause-apart
 unfolding time_of
 returns-clause-apart c image =
-    accepted image _ _ ((omega arith, omega arith), refl, ((omega arith, omega arith), refl, refl)) (refl, (refl, tt))
+    accepted image _ _ ((omega arith, omega arith), refl, ((omega arith, omega arith), refl, refl))
 
 pub returns-clause-beside : goal.returns-clause-beside
 unfolding time_of
@@ -64,4 +63,4 @@ returns-clause-no_cub c image a = omega (arith, a.1.accepts.0.1)
 
 pub returns-clause-in_a_tick : goal.returns-clause-in_a_tick
 unfolding time_of
-returns-clause-in_a_tick c image = accepted image _ _ ((omega arith, omega arith), refl, refl) (refl, tt)
+returns-clause-in_a_tick c image = accepted image _ _ ((omega arith, omega arith), refl, refl)
