@@ -21,7 +21,6 @@ use Rattle.scenario_read.specs.Events.{beat_of, starts_in, most_blocks}
 use Rattle.scenario_read.specs.Meaning.{Said, said_by, of_none}
 use Rattle.scenario_read.specs.Sound.{AreEvents, IsFile, IsReadFault, IsScenario}
 use Rattle.scenario_read.specs.Deaths.{most_left}
-use Rattle.scenario_read.proofs.Sounds.{none_of, length_none}
 use Rattle.scenario_make.specs.Draws.{after, draw, generator_of}
 use Rattle.scenario_make.specs.Events.{at_start, beat_by, events_at, events_by}
 use Rattle.scenario_make.specs.Files.{at_file, line_by, bytes_of, length_by, lines_by, contents_by}
@@ -30,6 +29,9 @@ use Rattle.scenario_make.specs.Troubles.{offsets_by, death_among, two_deaths, fi
 use Rattle.scenario_make.proofs.Drawing.{draw-below}
 use Rattle.scenario_make.proofs.EventLists.{AreGood, good-nil, good-weaker, good-begin, good-finish}
 use Rattle.scenario_make.proofs.Growing.{events_by-none, events_by-more, beat_by-none, beat_by-more}
+use Rattle.node_kit.specs.declared.course.Course.{Course}
+use Rattle.node_kit.specs.Life.{of_cub}
+use Rattle.std.proofs.lemmas.Bool.Decides.{nat_tests}
 
 -- the beat in which a cub dies
 abbrev death_in : Said → ℕ → Option ℕ
@@ -57,9 +59,27 @@ record IsSound (q : Said) : Type 0 where
   few_faults : length q.faults ≤ 1000
   faults : All (IsReadFault (disk_count q.plan) q.beats) q.faults
 
--- a row that says nothing of each cub keeps to whatever its elements keep to
-few_of_none : (cubs : ℕ) → All (λ o. IfSome o (λ k. k ≤ most_left)) (of_none cubs)
-few_of_none cubs i d low = rw (get_or-replicate {A = Option ℕ} cubs i None d (omega (arith, low, length-replicate {A = Option ℕ} cubs None))) tt
+-- a row that says nothing of each cub has as many elements, and none for any node
+none_in : (c : Course) (n : ℕ) → of_cub c (of_none c.plan.params.cubs) n ≡ None
+none_in c n = by (nat_lt n c.plan.params.cubs) refl
+  where
+    by : (b : Bool) → nat_lt n c.plan.params.cubs ≡ b → of_cub c (of_none c.plan.params.cubs) n ≡ None
+    by false e = rw e refl
+    by true e =
+        let cubs = c.plan.params.cubs in
+        let low : n < cubs = grind (arith, nat_tests, e) in
+        let inside : n < length (of_none cubs) = rw (length-replicate {A = Option ℕ} cubs None) low in
+        rw (e, slice_get-get_or (of_none cubs) n None inside, get_or-replicate {A = Option ℕ} cubs n None None low) refl
+
+none_of : (c : Course) (row : List (Option ℕ)) → of_none c.plan.params.cubs ≡ row → (n : ℕ) → of_cub c row n ≡ None
+none_of c row e n = subst (λ (row : List (Option ℕ)). of_cub c row n ≡ None) e (none_in c n)
+
+length_none : (cubs : ℕ) (row : List (Option ℕ)) → of_none cubs ≡ row → length row ≡ cubs
+length_none cubs row e = rw (← e) (length-replicate {A = Option ℕ} cubs None)
+
+-- and keeps to whatever its elements keep to
+all_of_none : (P : ℕ → Type 0) (cubs : ℕ) → All (λ o. IfSome o P) (of_none cubs)
+all_of_none P cubs i d low = rw (get_or-replicate {A = Option ℕ} cubs i None d (omega (arith, low, length-replicate {A = Option ℕ} cubs None))) tt
 
 scenario-sound : (s : Scenario) → IsSound (said_by s) → IsScenario s
 scenario-sound s q =
@@ -78,8 +98,8 @@ scenario-sound s q =
         returns_later = λ n. rw (backs n) tt;
         delay = q.delay;
       };
-      few_after = subst (λ (row : List (Option ℕ)). All (λ o. IfSome o (λ k. k ≤ most_left)) row) q.cuts (few_of_none p.cubs);
-      no_returns = backs;
+      few_after = subst (λ (row : List (Option ℕ)). All (λ o. IfSome o (λ k. k ≤ most_left)) row) q.cuts (all_of_none (λ k. k ≤ most_left) p.cubs);
+      backs = subst (λ (row : List (Option ℕ)). All (λ o. IfSome o (λ b. b < s.course.beats)) row) q.backs (all_of_none (λ b. b < s.course.beats) p.cubs);
       beats = q.low;
       product = q.product;
       some_file = q.some_file;

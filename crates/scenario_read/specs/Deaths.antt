@@ -1,5 +1,5 @@
--- The deaths of cubs, of which no two may stand side by side in the ring, and what they cut off.
-use Rattle.std.specs.Prelude.{ℕ, ◌+◌, ◌%◌, Bool, ◌||◌, ◌==◌, if◌then◌else◌, is_some, List, [], ◌∷◌, map, Option, Some, None, option_and_then, option_map, Result, Ok, codes}
+-- The deaths of cubs, of which no two may stand side by side in the ring: what they cut off, and who comes back.
+use Rattle.std.specs.Prelude.{ℕ, ◌+◌, ◌%◌, Bool, ◌||◌, ◌==◌, nat_le, if◌then◌else◌, is_some, List, [], ◌∷◌, map, Option, Some, None, option_and_then, option_map, Result, Ok, codes}
 use Rattle.std.specs.List.{list_any, range_with_len}
 use Rattle.std.specs.Option.{option_or}
 use Rattle.serde_json.specs.Data.{Data}
@@ -23,14 +23,30 @@ most_left = 1000
 unfoldable pub after_of : Data → Option (Option ℕ)
 after_of d = if is_some (get (codes "after") d) then option_map Some (below_at (codes "after") (most_left + 1) d) else Some None
 
+-- a beat, if it is two beats behind a death or later
+abbrev pub if_behind : ℕ → ℕ → Option ℕ
+if_behind death beat = if nat_le (death + 2) beat then Some beat else None
+
+-- in which of so many beats a cub comes back that dies in this one, if that is told
+unfoldable pub return_of : ℕ → ℕ → Data → Option (Option ℕ)
+return_of beats death d =
+    if is_some (get (codes "back") d)
+    then option_map Some (option_and_then (if_behind death) (below_at (codes "back") beats d))
+    else Some None
+
+-- the death of a cub in this beat, with what else is told of it
+unfoldable pub death_in_beat : ℕ → ℕ → Data → ℕ → Option Death
+death_in_beat beats cub d beat =
+    option_and_then (λ after. option_map (λ back. record { cub = cub; beat = beat; after = after; back = back })
+    (return_of beats beat d)) (after_of d)
+
 -- the death of a cub that is not close to one that dies in front
 unfoldable pub death_after : ℕ → ℕ → List Death → Data → Option Death
 death_after cubs beats front d =
-    if has_only (is_one_of (codes "cub" ∷ codes "beat" ∷ codes "after" ∷ [])) d
+    if has_only (is_one_of (codes "cub" ∷ codes "beat" ∷ codes "after" ∷ codes "back" ∷ [])) d
     then option_and_then (λ cub.
     if list_any (λ e. are_close cubs e.cub cub) front then None
-    else option_and_then (λ beat. option_map (λ after. record { cub = cub; beat = beat; after = after }) (after_of d))
-    (below_at (codes "beat") beats d)) (below_at (codes "cub") cubs d)
+    else option_and_then (death_in_beat beats cub d) (below_at (codes "beat") beats d)) (below_at (codes "cub") cubs d)
     else None
 
 -- at most 32 deaths; none where none are given
@@ -46,20 +62,27 @@ abbrev pub death_in : List Death → ℕ → Option Death
 death_in [] cub = None
 death_in (e ∷ es) cub = option_or (death_for cub e) (death_in es cub)
 
--- the beat of a death, and to how many messages it cuts its cub off there
+-- the beat of a death, to how many messages it cuts its cub off there, and the beat of the return
 abbrev pub beat_of_death : Death → Option ℕ
 beat_of_death e = Some e.beat
 
 abbrev pub cut_of_death : Death → Option ℕ
 cut_of_death e = e.after
 
+abbrev pub return_of_death : Death → Option ℕ
+return_of_death e = e.back
+
 -- one of these for each cub
 unfoldable pub by_cub : (Death → Option ℕ) → ℕ → List Death → List (Option ℕ)
 by_cub part cubs deaths = map (λ cub. option_and_then part (death_in deaths cub)) (range_with_len 0 cubs)
 
--- and both
+-- and all three
 abbrev pub rows_of : ℕ → List Death → DeathRows
-rows_of cubs deaths = record { deaths = by_cub beat_of_death cubs deaths; cuts = by_cub cut_of_death cubs deaths }
+rows_of cubs deaths = record {
+  deaths = by_cub beat_of_death cubs deaths;
+  cuts = by_cub cut_of_death cubs deaths;
+  backs = by_cub return_of_death cubs deaths;
+}
 
 -- the deaths that are given, by cub
 unfoldable pub deaths_of : ℕ → ℕ → Data → Result DeathRows ScenarioFault

@@ -9,3 +9,4 @@ pub mod ReadFaults
 pub mod Meaning
 pub mod Sound
 pub mod Orders
+pub mod Samples

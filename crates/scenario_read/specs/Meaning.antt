@@ -61,7 +61,7 @@ has_keys d = has_only (is_one_of scenario_keys) d && has_key d (codes "plan") &&
 abbrev pub of_none : ℕ → List (Option ℕ)
 of_none cubs = replicate cubs None
 
--- what a scenario's object means: its rules in their order. No cub returns
+-- what a scenario's object means: its rules in their order
 unfoldable pub scenario_of : Data → Result Said ScenarioFault
 scenario_of d = do
   keys ← keeps (has_keys d) (broken 2 0)
@@ -80,7 +80,7 @@ scenario_of d = do
     offsets = offsets;
     deaths = rows.deaths;
     cuts = rows.cuts;
-    backs = of_none plan.cubs;
+    backs = rows.backs;
     faults = faults;
     delay = delay;
     files = files;

@@ -1,11 +1,11 @@
 -- What holds of every scenario that breaks no rule. What a plan keeps stands in its type.
-use Rattle.std.specs.Prelude.{◌≡◌, ℕ, ◌*◌, ◌<◌, ◌≤◌, List, length, All, take, Some, None, IfSome, is_some, slice_get}
+use Rattle.std.specs.Prelude.{◌≡◌, ℕ, ◌*◌, ◌<◌, ◌≤◌, List, length, All, take, Some, IfSome, is_some, slice_get}
 use Rattle.std.specs.List.{count_by}
 use Rattle.std.specs.List.Sorted.{IsNonDecreasingBy}
 use Rattle.slot_plan.specs.Times.{disk_count}
 use Rattle.node_kit.specs.declared.course.ReadFault.{ReadFault}
 use Rattle.node_kit.specs.Courses.{IsCourse}
-use Rattle.node_kit.specs.Life.{back_of, lifetime_of}
+use Rattle.node_kit.specs.Life.{lifetime_of}
 use Rattle.run_facts.specs.Timed.{DieApart}
 use Rattle.scenario_read.specs.declared.scenario.FileLine.{FileLine}
 use Rattle.scenario_read.specs.declared.scenario.ScEvent.{ScEvent}
@@ -40,7 +40,7 @@ pub record IsReadFault (disks beats : ℕ) (f : ReadFault) : Type 0 where
   pub some : f.from < f.until
   pub early : f.until ≤ beats
 
--- no rule is broken
+-- no rule is broken. What holds of a course has that only who dies is cut off or comes back, and how much later.
 pub record IsScenario (s : Scenario) : Type 0 where
   pub course : IsCourse s.course
   pub beats : 1 ≤ s.course.beats
@@ -54,6 +54,6 @@ pub record IsScenario (s : Scenario) : Type 0 where
   pub deaths : All (λ d. IfSome d (λ beat. beat < s.course.beats)) s.course.deaths
   pub few_after : All (λ c. IfSome c (λ after. after ≤ most_left)) s.course.cuts
   pub apart : DieApart s.course.plan.params (lifetime_of s.course)
-  pub no_returns : (n : ℕ) → back_of s.course n ≡ None
+  pub backs : All (λ b. IfSome b (λ beat. beat < s.course.beats)) s.course.backs
   pub few_faults : length s.course.faults ≤ 1000
   pub faults : All (IsReadFault (disk_count s.course.plan.params) s.course.beats) s.course.faults

@@ -6,7 +6,7 @@ ghost use Rattle.scenario_read.specs.Fault.{Gives, GivesAs};
 ghost use Rattle.scenario_read.specs.Items.{items_after};
 ghost use Rattle.scenario_read.specs.Meaning.{of_none};
 ghost use Rattle.std.specs.Prelude.{option_and_then};
-ghost use Rattle.scenario_read.specs.Deaths.{are_close, after_of, death_after, deaths_given, death_for, death_in, beat_of_death, cut_of_death, rows_of, deaths_of};
+ghost use Rattle.scenario_read.specs.Deaths.{are_close, after_of, if_behind, return_of, death_in_beat, death_after, deaths_given, death_for, death_in, beat_of_death, cut_of_death, return_of_death, rows_of, deaths_of};
 
 use crate::stop::{ReadStop, broken};
 use json_look::{below, has_only, sized_array};
@@ -17,19 +17,23 @@ use tiger_base::{Beat, NoMemory, Sequence};
 /// The greatest number of messages that a cub may still send in the beat in which its death cuts it off.
 pub const MOST_LEFT: u64 = 1000;
 
-/// The death of a cub: its beat and, if it comes in the middle of that, after how many messages.
+/// The death of a cub: its beat; if it comes in the middle of that, after how many messages; and the
+/// beat in which the cub comes back, if it does.
 #[derive(Clone, Copy, Debug, PartialEq, Eq)]
 pub struct Death {
     pub cub: u32,
     pub beat: Beat,
     pub after: Option<u64>,
+    pub back: Option<Beat>,
 }
 
-/// The deaths by cub: the beat of each, and to how many messages it cuts its cub off there, if it does.
+/// The deaths by cub: the beat of each, to how many messages it cuts its cub off there, if it does, and
+/// the beat in which the cub comes back, if it does.
 #[derive(Drop)]
 pub struct DeathRows {
     pub deaths: Sequence<Option<Beat>>,
     pub cuts: Sequence<Option<u64>>,
+    pub backs: Sequence<Option<Beat>>,
 }
 
 /// Whether two cubs of a ring of so many are the same, or stand side by side.
@@ -63,6 +67,43 @@ fn after_of(value: &Value) -> Option<Option<u64>>
     Some(Some(after))
 }
 
+/// The beat, if it is two beats behind a death or later.
+fn if_behind(death: Beat, beat: Beat) -> Option<Beat>
+    ensures { result ≡ if_behind death beat }
+{
+    let earliest = death.checked_add(2)?;
+    if earliest <= beat { Some(beat) } else { None }
+}
+
+/// In which of so many beats a cub comes back that dies in this one, if that is told; `None` if what is told is no
+/// such beat.
+#[tactic(auto, unfolding(crate::specs::Deaths::return_of))]
+fn return_of(beats: u64, death: Beat, value: &Value) -> Option<Option<Beat>>
+    ensures { result ≡ return_of beats death (view value.now) }
+{
+    if value.get("back").is_none() {
+        return Some(None);
+    }
+    let beat = below(value, "back", beats)?;
+    let back = if_behind(death, beat)?;
+    Some(Some(back))
+}
+
+/// The death of a cub in this beat, with what else is told of it.
+#[tactic(auto, unfolding(crate::specs::Deaths::death_in_beat))]
+fn death_in_beat(beats: u64, cub: u32, value: &Value, beat: Beat) -> Option<Death>
+    ensures { result ≡ death_in_beat beats cub (view value.now) beat }
+{
+    let after = after_of(value)?;
+    let back = return_of(beats, beat, value)?;
+    Some(Death {
+        cub,
+        beat,
+        after,
+        back,
+    })
+}
+
 /// The death behind others.
 #[tactic(auto, unfolding(crate::specs::Deaths::death_after))]
 fn death_after(cubs: u64, beats: u64, front: &[Death], value: &Value) -> Option<Death>
@@ -70,7 +111,7 @@ fn death_after(cubs: u64, beats: u64, front: &[Death], value: &Value) -> Option<
     requires few { cubs ≤ 64 }
     ensures { result ≡ death_after cubs beats front.now (view value.now) }
 {
-    if !has_only(value, &["cub", "beat", "after"]) {
+    if !has_only(value, &["cub", "beat", "after", "back"]) {
         return None;
     }
     let cub = below(value, "cub", cubs)?;
@@ -79,8 +120,7 @@ fn death_after(cubs: u64, beats: u64, front: &[Death], value: &Value) -> Option<
         return None;
     }
     let beat = below(value, "beat", beats)?;
-    let after = after_of(value)?;
-    Some(Death { cub, beat, after })
+    death_in_beat(beats, cub, value, beat)
 }
 
 fn deaths_after(
@@ -153,6 +193,13 @@ fn cut_of(death: Option<Death>) -> Option<u64>
     death?.after
 }
 
+/// The beat in which a cub comes back.
+fn back_of(death: Option<Death>) -> Option<Beat>
+    ensures { result ≡ option_and_then return_of_death death }
+{
+    death?.back
+}
+
 /// The deaths by cub.
 #[tactic(auto, unfolding(crate::specs::Deaths::by_cub))]
 fn rows_of(alloc: Global, cubs: u32, given: &[Death]) -> Result<DeathRows, NoMemory>
@@ -160,14 +207,17 @@ fn rows_of(alloc: Global, cubs: u32, given: &[Death]) -> Result<DeathRows, NoMem
 {
     let mut deaths = Vec::new(alloc);
     let mut cuts = Vec::new(alloc);
+    let mut backs = Vec::new(alloc);
     for cub in 0..cubs {
         let death = death_in(given, cub);
         deaths.push(beat_of(death))?;
         cuts.push(cut_of(death))?;
+        backs.push(back_of(death))?;
     }
     Ok(DeathRows {
         deaths: Sequence::new(deaths),
         cuts: Sequence::new(cuts),
+        backs: Sequence::new(backs),
     })
 }
 

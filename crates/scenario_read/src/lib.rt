@@ -9,6 +9,7 @@ mod orders;
 mod planning;
 mod read_faults;
 mod reading;
+pub mod rows;
 mod scenario;
 mod stop;
 mod timing;

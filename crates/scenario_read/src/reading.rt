@@ -5,7 +5,7 @@ ghost use Rattle.scenario_read.specs.Fault.{GivesAs};
 ghost use Rattle.scenario_read.specs.Meaning.{has_keys, scenario_of, meaning, said_by};
 ghost use Rattle.scenario_read.specs.Sound.{IsScenario};
 
-use crate::deaths::{DeathRows, deaths_of, of_none};
+use crate::deaths::{DeathRows, deaths_of};
 use crate::events::{events_of, few_blocks};
 use crate::files::files_of;
 use crate::planning::plan_of;
@@ -60,7 +60,11 @@ fn scenario_of(alloc: Global, top: &Value) -> Result<Scenario, ReadStop>
     let files = files_of(alloc, disks, top)?;
     let events = events_of(alloc, beats, files.len() as u64, top)?;
     few_blocks(&plan, beats, events.as_slice())?;
-    let DeathRows { deaths, cuts } = deaths_of(alloc, cubs, beats, top)?;
+    let DeathRows {
+        deaths,
+        cuts,
+        backs,
+    } = deaths_of(alloc, cubs, beats, top)?;
     let faults = read_faults_of(alloc, disks, beats, top)?;
     Ok(Scenario {
         course: Course {
@@ -69,7 +73,7 @@ fn scenario_of(alloc: Global, top: &Value) -> Result<Scenario, ReadStop>
             offsets,
             deaths,
             cuts,
-            backs: of_none(alloc, cubs)?,
+            backs,
             faults,
             delay,
         },

@@ -88,7 +88,7 @@ fn push_known(view: &CubView, known: &[Known], text: &mut String) -> Result<(), 
         let is_known = match *x {
             Known::Full(reading) => view.is_full(DiskNo(0), reading),
             Known::AskedBefore(time) => view.is_asked_before(time),
-            Known::SplitFrom(time) => view.is_split_between(time, None),
+            Known::SplitFrom(time) => view.is_split_from(time),
         };
         write!(text, "{is_known} ")?;
     }

@@ -12,7 +12,7 @@ use stripe_layout::Catalogue;
 use tiger_base::NoMemory;
 
 const BASE: &str =
-    r#"{"plan":{"cubs":21,"disks":2,"slots":42,"play":1000000,"pieces":2,"block":4,"beat":10000,"delay":2,"skew":4000,"window_a":800000,"window_b":200000,"read_lead":100000,"min_lead":3000000,"max_lead":4000000,"batch":20,"heart":50,"deadman":1000000,"hold":3000000},"beats":600,"links":{"fixed":1},"files":[{"name":"ten","disk":0},{"name":"two","disk":41}],"events":[{"beat":0,"start":0},{"beat":7,"start":1},{"beat":7,"stop":0}],"deaths":[{"cub":3,"beat":70},{"cub":20,"beat":599,"after":1000}],"read_faults":[{"disk":41,"from":3,"until":600}]}"#;
+    r#"{"plan":{"cubs":21,"disks":2,"slots":42,"play":1000000,"pieces":2,"block":4,"beat":10000,"delay":2,"skew":4000,"window_a":800000,"window_b":200000,"read_lead":100000,"min_lead":3000000,"max_lead":4000000,"batch":20,"heart":50,"deadman":1000000,"hold":3000000},"beats":600,"links":{"fixed":1},"files":[{"name":"ten","disk":0},{"name":"two","disk":41}],"events":[{"beat":0,"start":0},{"beat":7,"start":1},{"beat":7,"stop":0}],"deaths":[{"cub":3,"beat":70,"back":72},{"cub":20,"beat":599,"after":1000}],"read_faults":[{"disk":41,"from":3,"until":600}]}"#;
 
 // Each row is a refusal, as its rule, item, left and right, a part of the base text, and what stands in its place.
 const ROWS: &str = r#"(1, 0, 0, 0) | {"plan": | "plan":
@@ -54,14 +54,18 @@ const ROWS: &str = r#"(1, 0, 0, 0) | {"plan": | "plan":
 (9, 2, 0, 0) | "beat":7,"stop":0 | "beat":7,"stop":2
 (9, 2, 0, 0) | "beat":7,"stop":0 | "beat":600,"stop":0
 (9, 2, 0, 0) | "beat":7,"stop":0 | "beat":7,"stop":0,"start":0
-(11, 0, 0, 0) | [{"cub":3,"beat":70} | [{"cub":21,"beat":70}
+(11, 0, 0, 0) | [{"cub":3, | [{"cub":21,
 (11, 1, 0, 0) | "cub":20,"beat":599 | "cub":3,"beat":599
 (11, 1, 0, 0) | "cub":20,"beat":599 | "cub":4,"beat":599
 (11, 1, 0, 0) | "cub":3 | "cub":0
 (11, 1, 0, 0) | "cub":20,"beat":599 | "cub":20,"beat":600
 (11, 1, 0, 0) | "after":1000 | "after":1001
 (11, 1, 0, 0) | "after":1000 | "after":null
-(11, 1, 0, 0) | "after":1000 | "after":1000,"back":1
+(11, 1, 0, 0) | "after":1000 | "after":1000,"back":601
+(11, 0, 0, 0) | "back":72 | "back":71
+(11, 0, 0, 0) | "back":72 | "back":600
+(11, 0, 0, 0) | "back":72 | "back":"72"
+(11, 0, 0, 0) | "back":72 | "back":72,"until":73
 (11, 1, 0, 0) | "beat":599,"after":1000 | "after":599
 (11, 0, 0, 0) | "cub":3,"beat":70 | "cub":3,"beat":70,"after":-1
 (11, 32, 0, 0) | "deaths":[ | "deaths":[0,0,0,0,0,0,0,0,0,0,0,0,0,0,0,0,0,0,0,0,0,0,0,0,0,0,0,0,0,0,0,
@@ -91,6 +95,7 @@ fn push_said(scenario: &Scenario, extent: Extent, answer: &mut String) -> Result
             let befalls = (
                 course.deaths.as_slice(),
                 course.cuts.as_slice(),
+                course.backs.as_slice(),
                 course.faults.as_slice(),
             );
             let clocks = (course.beats, course.delay, course.offsets.as_slice());
@@ -146,7 +151,7 @@ fn the_first_broken_rule_is_named(rt: HostRuntime) {
 
 const SAYS: &str =
     r#"(600, Fixed(1), [0, 0, 0, 0, 0, 0, 0, 0, 0, 0, 0, 0, 0, 0, 0, 0, 0, 0, 0, 0, 0, 0])
-([None, None, None, Some(70), None, None, None, None, None, None, None, None, None, None, None, None, None, None, None, None, Some(599)], [None, None, None, None, None, None, None, None, None, None, None, None, None, None, None, None, None, None, None, None, Some(1000)], [ReadFault { disk: DiskNo(41), from: 3, until: 600 }])
+([None, None, None, Some(70), None, None, None, None, None, None, None, None, None, None, None, None, None, None, None, None, Some(599)], [None, None, None, None, None, None, None, None, None, None, None, None, None, None, None, None, None, None, None, None, Some(1000)], [None, None, None, Some(72), None, None, None, None, None, None, None, None, None, None, None, None, None, None, None, None, None], [ReadFault { disk: DiskNo(41), from: 3, until: 600 }])
 ([FileLine { name: Name("ten"), disk: DiskNo(0) }, FileLine { name: Name("two"), disk: DiskNo(41) }], [Begin { beat: 0, file: FileNo(0) }, Begin { beat: 7, file: FileNo(1) }, Finish { beat: 7, instance: Instance(0) }])"#;
 
 #[test]
