@@ -1,10 +1,11 @@
 -- The numbers of all lines fit their types, if those of a kept value do: those of deaths and of nodes are small.
-use Rattle.std.proofs.Common.{◌≡◌, ℕ, zero, suc, ◌+◌, ◌*◌, ◌<◌, ◌≤◌, List, [], ◌∷◌, ◌++◌, length, map, Bool, cond, Option, Some, None, sym, ap, ◌∙◌, subst, arith}
+use Rattle.std.proofs.Common.{◌≡◌, ℕ, zero, suc, ◌+◌, ◌*◌, ◌<◌, ◌≤◌, List, [], ◌∷◌, ◌++◌, length, map, Bool, cond, Option, Some, None, ap, subst, arith}
 use Rattle.std.specs.Prelude.{IfSome}
 use Rattle.std.specs.List.{All, AllByRecursion}
 use Rattle.std.proofs.lemmas.Bool.{lt-ltb}
 use Rattle.std.proofs.lemmas.List.Elements.{All-from_recursion}
 use Rattle.std.proofs.Math.Nat.{mul-le-mul}
+use Rattle.tiger_base.specs.Limits.{most_beats}
 use Rattle.slot_plan.specs.declared.params.Params.{Params}
 use Rattle.slot_plan.specs.Conditions.{IsPlan}
 use Rattle.node_kit.specs.declared.course.Course.{Course}
@@ -13,8 +14,8 @@ use Rattle.node_kit.specs.declared.course.Kept.{Kept}
 use Rattle.node_kit.specs.declared.course.Order.{Order}
 use Rattle.node_kit.specs.declared.course.ReadFault.{ReadFault}
 use Rattle.node_kit.specs.declared.journal.Entry.{Entry}
-use Rattle.node_kit.specs.Courses.{IsCourse}
-use Rattle.node_kit.specs.Life.{back_of}
+use Rattle.node_kit.specs.Courses.{IsCourse, ReturnsLater}
+use Rattle.node_kit.specs.Life.{back_of, death_of}
 use Rattle.stripe_layout.specs.declared.catalogue.FileInfo.{FileInfo}
 use Rattle.run_facts.proofs.Rows.{all-append, all-map}
 use Rattle.audit_text.specs.declared.item.Item.{Item}
@@ -22,7 +23,7 @@ use Rattle.audit_text.specs.declared.item.Item.TheVariants as item
 use Rattle.audit_text.specs.Fields.{params_fields}
 use Rattle.audit_text.specs.Fits.{IsLong, LeftFits, BackFits, ItemFits}
 use Rattle.audit_text.specs.Texts.{parts_of, row_at, death_items, entry_items, node_items, head_items, body_items, items_in}
-use Rattle.audit_read.specs.Writable.{IsDeath, node_count}
+use Rattle.audit_read.specs.Writable.{IsDeath, ReturnsIn, node_count}
 use Rattle.journal_promises.specs.Numbers.{AreEntriesFit, HasNumbers}
 
 -- ---- deaths
@@ -40,11 +41,24 @@ lefts_fit [] n few = tt
 lefts_fit (o ∷ row) zero few = left_fits o few.0
 lefts_fit (o ∷ row) (suc n) few = lefts_fit row n few.1
 
-module _ (c : Course) (course : IsCourse c) (few : AllByRecursion IsFewLeft c.cuts) (stays : (n : ℕ) → back_of c n ≡ None) where
+-- a return comes behind a death, and is in the run
+later_fits : (death : Option ℕ) (beats : ℕ) (back : Option ℕ) → beats ≤ most_beats → ReturnsLater death back → ReturnsIn beats back
+    → BackFits back
+later_fits death beats None most later early = tt
+later_fits None beats (Some back) most later early = absurd later
+later_fits (Some death) beats (Some back) most later early = (omega (arith, later), omega (arith, early, most))
+
+returns_at : (beats : ℕ) (row : List (Option ℕ)) (n : ℕ) → AllByRecursion (ReturnsIn beats) row → ReturnsIn beats (row_at row n)
+returns_at beats [] n all = tt
+returns_at beats (o ∷ row) zero all = all.0
+returns_at beats (o ∷ row) (suc n) all = returns_at beats row n all.1
+
+module _ (c : Course) (course : IsCourse c) (few : AllByRecursion IsFewLeft c.cuts) (returns : AllByRecursion (ReturnsIn c.beats) c.backs) where
   back_fits : (n : ℕ) → n < c.plan.params.cubs → BackFits (row_at c.backs n)
   back_fits n low =
       let here : back_of c n ≡ row_at c.backs n = ap (λ (b : Bool). cond b (row_at c.backs n) None) (lt-ltb n c.plan.params.cubs low) in
-      subst BackFits (sym (sym here ∙ stays n)) tt
+      later_fits (death_of c n) c.beats (row_at c.backs n) course.beats
+      (subst (λ (o : Option ℕ). ReturnsLater (death_of c n) o) here (course.returns_later n)) (returns_at c.beats c.backs n returns)
 
   deaths_fit : (cub : ℕ) (deaths : List (Option ℕ)) → cub + length deaths ≤ c.plan.params.cubs → AllByRecursion (IsDeath c.beats) deaths
       → AllByRecursion ItemFits (death_items c.cuts c.backs cub deaths)
@@ -79,9 +93,9 @@ nodes_fit n (j ∷ js) few fit = (
 
 pub all_numbers : (k : Kept) → IsCourse k.course → length k.journals ≡ node_count k.course.plan.params
     → AllByRecursion (IsDeath k.course.beats) k.course.deaths → AllByRecursion IsFewLeft k.course.cuts
-    → ((n : ℕ) → back_of k.course n ≡ None) → HasNumbers k → All ItemFits (items_in (parts_of k))
+    → AllByRecursion (ReturnsIn k.course.beats) k.course.backs → HasNumbers k → All ItemFits (items_in (parts_of k))
 unfolding items_in
-all_numbers k course nodes deaths few stays numbers =
+all_numbers k course nodes deaths few returns numbers =
     let q = parts_of k in
     let dying : List Item = death_items q.cuts q.backs 0 q.deaths in
     let faults : List Item = map (λ f. item.Fault f) q.faults in
@@ -96,7 +110,7 @@ all_numbers k course nodes deaths few stays numbers =
     let given : AllByRecursion ItemFits (dying ++ faults ++ files ++ orders) =
     all-append ItemFits (dying ++ faults ++ files) orders
     (all-append ItemFits (dying ++ faults) files
-    (all-append ItemFits dying faults (deaths_fit k.course course few stays 0 q.deaths (omega (arith, cubs)) deaths)
+    (all-append ItemFits dying faults (deaths_fit k.course course few returns 0 q.deaths (omega (arith, cubs)) deaths)
     (all-map ItemFits (λ (f : ReadFault). item.Fault f) q.faults numbers.faults))
     (all-map ItemFits (λ (f : FileInfo). item.File f) q.files numbers.files))
     (all-map ItemFits (λ (o : Order). item.Order o) q.orders numbers.orders) in

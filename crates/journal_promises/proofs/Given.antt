@@ -1,4 +1,4 @@
--- What a run of a ring was given is writable, and so is all that is kept of it.
+-- What a run of a ring was given is writable, and so is all that is kept of it; and its journals tell its returns.
 use Rattle.std.proofs.Common.{◌≡◌, ℕ, zero, suc, ◌<◌, ◌≤◌, List, [], ◌∷◌, length, map, option_map, Option, Some, None, refl, sym, ap, ◌∙◌, subst, arith}
 use Rattle.std.specs.Prelude.{slice_get, IfSome}
 use Rattle.std.specs.List.{All, AllByRecursion}
@@ -20,9 +20,10 @@ use Rattle.node_kit.specs.declared.course.Order.{Order}
 use Rattle.node_kit.specs.declared.course.ReadFault.{ReadFault}
 use Rattle.node_kit.specs.declared.journal.Entry.{Entry}
 use Rattle.node_kit.specs.Courses.{IsCourse}
-use Rattle.node_kit.specs.Life.{back_of}
+use Rattle.node_kit.specs.Life.{back_of, lifetime_of}
 use Rattle.run_facts.specs.Histories.{History, beat, reading, last_of}
 use Rattle.run_facts.proofs.Rows.{all-both, all-weaker}
+use Rattle.run_model.specs.Runs.{TellsReturn}
 use Rattle.scenario_read.specs.declared.scenario.FileLine.{FileLine}
 use Rattle.scenario_read.specs.declared.scenario.Scenario.{Scenario}
 use Rattle.scenario_read.specs.Orders.{IsCatalogueOf, orders_from}
@@ -32,15 +33,16 @@ use Rattle.ring_nodes.specs.AllNodes.{any_step, image_at, images_of}
 use Rattle.ring_nodes.proofs.Numbered.{length-numbered, opening_count}
 use Rattle.ring_facts.specs.Rings.{IsRingRun}
 use Rattle.ring_facts.specs.Steps.{ring_of}
-use Rattle.audit_read.specs.Writable.{AreOrders, IsDeath, IsEntry, IsFault, IsJournal, IsWritable, node_count, starts_in}
+use Rattle.audit_read.specs.Writable.{AreOrders, IsDeath, ReturnsIn, IsEntry, IsFault, IsJournal, IsWritable, node_count, starts_in}
 use Rattle.audit_read.specs.Writable as writable
 use Rattle.journal_promises.specs.Numbers.{HasNumbers}
-use Rattle.journal_promises.specs.Runs.{KeptRunsAreWritable}
-use Rattle.journal_promises.proofs.Nodes.{AreOrdersWithin, IsSteady}
-use Rattle.journal_promises.proofs.Written.{IsEntryWritable, all_at, journal_writable}
+use Rattle.journal_promises.specs.Runs.{KeptRunsAreWritable, KeptRunsTellReturns}
+use Rattle.journal_promises.proofs.Nodes.{AreOrdersWithin, IsACub, IsSteady, TickedLast}
+use Rattle.journal_promises.proofs.Written.{IsEntryWritable, all_at, journal_writable, steady}
 use Rattle.journal_promises.proofs.Orders.{HasFile, digests_count, events_writable, orders_within}
-use Rattle.journal_promises.proofs.Openings.{opens_steady, reading_low}
+use Rattle.journal_promises.proofs.Openings.{opens_cubs, opens_fresh, opens_steady, reading_low}
 use Rattle.journal_promises.proofs.Fitting.{IsFewLeft, all_numbers}
+use Rattle.journal_promises.proofs.Returning.{tells}
 
 -- ---- lists
 
@@ -58,13 +60,17 @@ all_here P xs k x all at = all_at P xs k x (recursion_from_All P xs all) at
 
 -- ---- what is given
 
--- a death that is given is of a beat of the run
+-- a death and a return that are given are of a beat of the run
 abbrev IsEarly : ℕ → Option ℕ → Type 0
 IsEarly beats o = IfSome o (λ beat. beat < beats)
 
 death_given : (beats : ℕ) (o : Option ℕ) → IsEarly beats o → IsDeath beats o
 death_given beats None early = tt
 death_given beats (Some beat) early = early
+
+return_given : (beats : ℕ) (o : Option ℕ) → IsEarly beats o → ReturnsIn beats o
+return_given beats None early = tt
+return_given beats (Some beat) early = early
 
 fault_given : (p : Params) (beats : ℕ) (f : ReadFault) → IsReadFault (disk_count p) beats f → IsFault p beats f
 fault_given p beats f is = (is.of_disk, is.some, is.early)
@@ -144,19 +150,56 @@ module _ (G : Type 0) (s : Scenario) (library : List (List ℕ)) (k : Kept) (sce
       subst (λ (s : AnyNode G). IsSteady p n s) (sym is)
       (opens_steady G p k.course.faults (images_of p k.catalogue library) k.orders within k.course.plan.sound images n g.0 g.1)
 
-  early : (n i : ℕ) → n < length given → i < h.count n → reading h n i ≤ most_reading
-  early n i inside low =
+  short_readings : (n i : ℕ) → n < length given → i < h.count n → reading h n i ≤ most_reading
+  short_readings n i inside low =
       reading_low k.course (beat h n i) (reading h n i) course (run.steps.kept.lived.complete.early n i inside low) (run.steps.kept.lived.run.reads n i inside low).1
 
-  journal_given : (n : ℕ) (journal : List Entry) → slice_get k.journals n ≡ Some journal → IsJournal p k.course.beats journal
-  journal_given n journal at =
+  -- the journal of a node is what its events wrote
+  record WroteAll (n : ℕ) (journal : List Entry) : Type 0 where
+    inside : n < length given
+    wrote : (last_of noted any_step h n).journal ≡ journal
+
+  wrote_all : (n : ℕ) (journal : List Entry) → slice_get k.journals n ≡ Some journal → WroteAll n journal
+  wrote_all n journal at =
       let there = slice_get_within k.journals n journal at in
       let all = run.steps.kept.each_has_journal in
       let inside : n < length given = omega (arith, there, all) in
-      let wrote : (last_of noted any_step h n).journal ≡ journal =
-      same_Some (last_of noted any_step h n).journal journal (sym (run.steps.kept.lived.theirs.writes n inside) ∙ at) in
+      record {
+        inside = inside;
+        wrote = same_Some (last_of noted any_step h n).journal journal (sym (run.steps.kept.lived.theirs.writes n inside) ∙ at);
+      }
+
+  journal_given : (n : ℕ) (journal : List Entry) → slice_get k.journals n ≡ Some journal → IsJournal p k.course.beats journal
+  journal_given n journal at =
+      let all = wrote_all n journal at in
       all-both (λ (e : Entry). e.stamp.beat < k.course.beats) (IsEntryWritable p) journal (run.timed n journal at).early
-      (subst (λ (j : List Entry). AllByRecursion (IsEntryWritable p) j) wrote (journal_writable p h (length given) run.steps.kept.lived.run opens early n inside))
+      (subst (λ (j : List Entry). AllByRecursion (IsEntryWritable p) j) all.wrote
+      (journal_writable p h (length given) run.steps.kept.lived.run opens short_readings n all.inside))
+
+  -- ---- returns
+
+  lives : (n : ℕ) → n < length given → h.life n ≡ lifetime_of k.course n
+  lives n low = let g = some_at given n low in (run.steps.kept.lived.theirs.opens n g.0 g.1).1
+
+  fresh : (n : ℕ) → n < length given → TickedLast None (h.first n)
+  fresh n low =
+      let g = some_at given n low in
+      subst (TickedLast None) (sym (run.steps.kept.lived.theirs.opens n g.0 g.1).0)
+      (opens_fresh G p k.course.faults (images_of p k.catalogue library) k.orders within n g.0 g.1)
+
+  cubs : (n : ℕ) → n < length given → n < p.cubs → IsACub (h.first n)
+  cubs n low cub =
+      let g = some_at given n low in
+      subst (λ (s : AnyNode G). IsACub s) (sym (run.steps.kept.lived.theirs.opens n g.0 g.1).0)
+      (opens_cubs G p k.course.faults (images_of p k.catalogue library) k.orders within k.course.plan.sound images n g.0 g.1 cub)
+
+  pub returns_told : (n : ℕ) (journal : List Entry) → slice_get k.journals n ≡ Some journal
+      → TellsReturn k.course.beats (back_of k.course n) journal
+  returns_told n journal at =
+      let all = wrote_all n journal at in
+      subst (TellsReturn k.course.beats (back_of k.course n)) all.wrote
+      (tells k.course h (length given) run.steps.kept.lived.run run.steps.kept.lived.complete lives
+      (steady p h (length given) run.steps.kept.lived.run opens short_readings) short_readings cubs fresh n all.inside)
 
   -- ---- all of it
 
@@ -165,6 +208,12 @@ module _ (G : Type 0) (s : Scenario) (library : List (List ℕ)) (k : Kept) (sce
       of_course (λ c. AllByRecursion (IsDeath c.beats) c.deaths)
       (all-weaker (IsEarly s.course.beats) (IsDeath s.course.beats) s.course.deaths (λ o early. death_given s.course.beats o early)
       (recursion_from_All (IsEarly s.course.beats) s.course.deaths scenario.deaths))
+
+  returns : AllByRecursion (ReturnsIn k.course.beats) k.course.backs
+  returns =
+      of_course (λ c. AllByRecursion (ReturnsIn c.beats) c.backs)
+      (all-weaker (IsEarly s.course.beats) (ReturnsIn s.course.beats) s.course.backs (λ o early. return_given s.course.beats o early)
+      (recursion_from_All (IsEarly s.course.beats) s.course.backs scenario.backs))
 
   faults : AllByRecursion (IsFault p k.course.beats) k.course.faults
   faults =
@@ -191,6 +240,7 @@ module _ (G : Type 0) (s : Scenario) (library : List (List ℕ)) (k : Kept) (sce
     course = course;
     lasting = of_course (λ c. 1 ≤ c.beats) scenario.beats;
     deaths = deaths;
+    returns = returns;
     faults = faults;
     block = block;
     disks = of_course (λ c. k.catalogue.disks ≡ disk_count c.plan.params) run.catalogue.disks;
@@ -199,8 +249,11 @@ module _ (G : Type 0) (s : Scenario) (library : List (List ℕ)) (k : Kept) (sce
     nodes = nodes;
     journals = all_by_place (IsJournal p k.course.beats) k.journals journal_given;
     digests = ap length run.digests ∙ digests_count library k.course k.catalogue k.orders k.journals;
-    numbers = all_numbers k course nodes deaths few_left (λ n. of_course (λ c. back_of c n ≡ None) (scenario.no_returns n)) numbers;
+    numbers = all_numbers k course nodes deaths few_left returns numbers;
   }
 
 pub kept_runs_are_writable : (G : Type 0) → KeptRunsAreWritable G
 kept_runs_are_writable G s library k scenario short run numbers = kept_writable G s library k scenario short run numbers
+
+pub kept_runs_tell_returns : (G : Type 0) → KeptRunsTellReturns G
+kept_runs_tell_returns G s library k scenario short run n journal at = returns_told G s library k scenario short run n journal at

@@ -16,7 +16,7 @@ use Rattle.tiger_audit.proofs.Meets.{meets_clause}
 use Rattle.journal_promises.specs.Numbers.{HasNumbers}
 use Rattle.journal_promises.specs.Runs.{HasReadings}
 use Rattle.journal_promises.specs.Promises.{IsReadBack, GetsYes, PassesAudit}
-use Rattle.journal_promises.proofs.Given.{kept_runs_are_writable}
+use Rattle.journal_promises.proofs.Given.{kept_runs_are_writable, kept_runs_tell_returns}
 use Rattle.journal_promises.proofs.Readings.{kept_runs_have_readings, readings_in_log}
 use Rattle.journal_promises.proofs.Same.{same_kept}
 
@@ -24,7 +24,12 @@ use Rattle.journal_promises.proofs.Same.{same_kept}
 pub named_meets : (G : Type 0) (old new : FilesState) (name : List ℕ) (k : Kept) → IsNamedRun G old new name k → MeetsAllClauses k
 named_meets G old new name k named = record {
   carried = named.run.ran.carried;
-  timed = record { timed = named.run.ran.timed; apart = named.run.ran.apart };
+  timed = record {
+    timed = named.run.ran.timed;
+    apart = named.run.ran.apart;
+    returns =
+        kept_runs_tell_returns G named.inputs.scenario named.inputs.library k named.run.sound named.read.files.0.short named.run.ran;
+  };
   clocks = readings_in_log k (kept_runs_have_readings G named.inputs.scenario named.inputs.library k named.run.ran);
   commanded = named.run.ran.commanded;
   claims = named.run.claims;

@@ -1,8 +1,10 @@
 pub mod Cubs
+pub mod Quiet
 pub mod Nodes
 pub mod Written
 pub mod Orders
 pub mod Openings
+pub mod Returning
 pub mod Fitting
 pub mod Given
 pub mod Readings

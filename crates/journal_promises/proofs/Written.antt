@@ -73,7 +73,7 @@ outs_writable p n [] allowed fine = tt
 outs_writable p n (o ∷ os) allowed fine = (out_writable p n o allowed.0 fine.0, outs_writable p n os allowed.1 fine.1)
 
 -- what a death leaves of outputs
-cut_all : (P : Out Msg → Type 0) (k : ℕ) (os : List (Out Msg)) → AllByRecursion P os → AllByRecursion P (cut_at k os)
+pub cut_all : (P : Out Msg → Type 0) (k : ℕ) (os : List (Out Msg)) → AllByRecursion P os → AllByRecursion P (cut_at k os)
 cut_all P k [] all = tt
 cut_all P k (o ∷ os) all =
     cond_both ((k == 0) && begins_lost (o ∷ os)) [] (o ∷ cut_at (fewer_behind k o) os) (AllByRecursion P)
@@ -126,7 +126,7 @@ module _ {G : Type 0} (p : Params) (h : History Msg (AnyNode G)) (nodes : ℕ) (
   steady_after n (Dies stamp) q early steady = steady
   steady_after n (Returns stamp) q early steady = steady
 
-  steady : (n i : ℕ) → n < nodes → i ≤ h.count n → IsSteady p n (before n i).state
+  pub steady : (n i : ℕ) → n < nodes → i ≤ h.count n → IsSteady p n (before n i).state
   steady n zero inside low = opens n inside
   steady n (suc i) inside low =
       steady_after n (h.event n i) (before n i) (short n i inside (omega (arith, low))) (steady n i inside (omega (arith, low)))

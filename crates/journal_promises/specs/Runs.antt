@@ -1,11 +1,13 @@
--- What holds of whatever is kept of the run of a scenario: it is writable, and its readings are those of its course.
+-- What holds of whatever is kept of the run of a scenario: it is writable, its journals tell its returns, and its readings are
+-- those of its course.
 use Rattle.std.specs.Prelude.{◌≡◌, ℕ, ◌≤◌, List, Some, length, slice_get}
 use Rattle.std.specs.List.{All, AllByRecursion}
 use Rattle.tiger_base.specs.Limits.{most_file}
 use Rattle.node_kit.specs.declared.course.Kept.{Kept}
 use Rattle.node_kit.specs.declared.journal.Entry.{Entry}
 use Rattle.node_kit.specs.Courses.{reading_of}
-use Rattle.run_model.specs.Runs.{order_in}
+use Rattle.node_kit.specs.Life.{back_of}
+use Rattle.run_model.specs.Runs.{TellsReturn, order_in}
 use Rattle.scenario_read.specs.declared.scenario.Scenario.{Scenario}
 use Rattle.scenario_read.specs.Sound.{IsScenario}
 use Rattle.ring_facts.specs.Rings.{IsRingRun}
@@ -23,6 +25,14 @@ KeptRunsAreWritable G =
     (s : Scenario) (library : List (List ℕ)) (k : Kept)
     → IsScenario s → All (λ bytes. length bytes ≤ most_file) library → IsRingRun G s library k
     → HasNumbers k → IsWritable k
+
+-- and the journal of each of its nodes tells the node's return, if it has one
+abbrev pub KeptRunsTellReturns : (G : Type 0) → Type 0
+KeptRunsTellReturns G =
+    (s : Scenario) (library : List (List ℕ)) (k : Kept)
+    → IsScenario s → All (λ bytes. length bytes ≤ most_file) library → IsRingRun G s library k
+    → (n : ℕ) (journal : List Entry) → slice_get k.journals n ≡ Some journal
+    → TellsReturn k.course.beats (back_of k.course n) journal
 
 -- and its readings are those of its course
 abbrev pub KeptRunsHaveReadings : (G : Type 0) → Type 0

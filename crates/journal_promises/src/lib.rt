@@ -23,7 +23,7 @@ ghost use Rattle.journal_promises.specs.Promises.{GetsYes, IsReadBack, PassesAud
 ghost use Rattle.journal_promises.specs.Runs.{HasReadings};
 
 pub use again::{judge_again, read_again};
-pub use laws::{kept_runs_are_writable, kept_runs_have_readings};
+pub use laws::{kept_runs_are_writable, kept_runs_have_readings, kept_runs_tell_returns};
 use node_kit::OpenGate;
 use numbers::numbers_fit;
 use outside::{MemFiles, MemSink};

@@ -8,7 +8,6 @@ use Rattle.node_kit.specs.declared.course.Kept.{Kept}
 use Rattle.node_kit.specs.declared.gate.OpenGate.{OpenGate}
 use Rattle.outside.specs.Told.{Told}
 use Rattle.outside.specs.Memory.{MemoryFiles, source_of}
-use Rattle.run_model.specs.Runs.{HasNoReturns}
 use Rattle.run_claims.specs.Accounts.{account_of}
 use Rattle.run_claims.specs.Claims.{MeetsClaims}
 use Rattle.tiger_run.specs.Ending.{BelievesInTime, IsRunOf, IsNamedRun, IsMadeRun, IsAskedRun}
@@ -49,12 +48,8 @@ kept_well s library k run = record {
   claims = run.claims;
 }
 
--- no cub of the scenario returns
-no_returns : (s : Scenario) (library : List (List ℕ)) (k : Kept) → IsRunOf OpenGate s library k → HasNoReturns k.course
-no_returns s library k run = subst HasNoReturns (sym run.ran.course) run.sound.no_returns
-
 keeps_promises : (s : Scenario) (library : List (List ℕ)) (k : Kept) → IsRunOf OpenGate s library k → KeepsPromises k
-keeps_promises s library k run = kept_runs_keep_promises k (kept_well s library k run) (no_returns s library k run)
+keeps_promises s library k run = kept_runs_keep_promises k (kept_well s library k run)
 
 -- the run of a named scenario over files in memory
 abbrev IsNamed : MemoryFiles → MemoryFiles → List ℕ → Kept → Type 0

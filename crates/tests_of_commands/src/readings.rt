@@ -15,7 +15,7 @@ offsets 0 0 0 0 0 0 0 0 4
 death 1 3 0 0
 death 3 2 7 4
 death 5 8 1 0
-death 7 8 0 10
+death 7 6 0 8
 fault 7 0 1
 file 10 5
 begin 0 0 0 3 5
@@ -60,6 +60,7 @@ death 1 3 0 0 0
 death 1 3 00 0
 death 1 3 18446744073709551616 0
 death 1 3 0 4
+death 1 3 0 9
 death 1 3 1 3
 death 1 3 0 18446744073709551616
 fault 7 1 1
