@@ -7,7 +7,7 @@ import json
 import math
 
 from nets import OF_PLANS, OF_SCENARIOS, has_keys
-from scenarios import (KEYS, MOST_AFTER, MOST_BEATS, MOST_DEATHS, MOST_EVENTS, MOST_FAULTS, MOST_FILES, MOST_PRODUCT,
+from scenarios import (BEHIND, KEYS, MOST_AFTER, MOST_BEATS, MOST_DEATHS, MOST_EVENTS, MOST_FAULTS, MOST_FILES, MOST_PRODUCT,
                        MOST_STARTS, RANGES, Raw, text_of)
 
 NEEDED, OPTIONAL = ("plan", "beats", "links", "files", "events"), ("offsets", "deaths", "read_faults")
@@ -217,9 +217,10 @@ def death_cause(value, item):
     """What is wrong with a death, by itself or with one before it."""
     deaths, cubs = value["deaths"], value["plan"]["cubs"]
     death = deaths[item]
-    found = (keys_wrong("it", death, ("cub", "beat"), ("after",)) or outside("its cub", death["cub"], 0, cubs - 1)
-             or outside("its beat", death["beat"], 0, value["beats"] - 1)
-             or "after" in death and outside("its after", death["after"], 0, MOST_AFTER) or "")
+    found = (keys_wrong("it", death, ("cub", "beat"), ("after", "back"))
+             or outside("its cub", death["cub"], 0, cubs - 1) or outside("its beat", death["beat"], 0, value["beats"] - 1)
+             or "after" in death and outside("its after", death["after"], 0, MOST_AFTER)
+             or "back" in death and return_cause(death, value["beats"] - 1) or "")
     for number, other in enumerate([] if found else deaths[:item]):
         apart = (death["cub"] - other["cub"]) % cubs
         if apart == 0:
@@ -227,6 +228,14 @@ def death_cause(value, item):
         if apart in (1, cubs - 1):
             return f"its cub is a neighbour of cub {other['cub']}, that of deaths[{number}]"
     return found
+
+
+def return_cause(death, last):
+    """What is wrong with a return in a run with this last beat."""
+    first = death["beat"] + BEHIND
+    if first > last:
+        return f"its back would have to be {first} at least, and the last beat of the run is {last}"
+    return outside("its back", death["back"], first, last)
 
 
 def fault_cause(value, item):

@@ -26,7 +26,8 @@ WRONG = (  # words that a tool does not take
     "conformance --cases /nowhere", "conformance run", "conformance --workers 65",
     "conformance --jobs 0", "conformance --program /nowhere", "deaths --jobs 0", "deaths --program /nowhere",
     "deaths x", "cuts --jobs 0", "cuts --program /nowhere", "cuts --reference /nowhere", "cuts --cub 8",
-    "cuts --cub x", "cuts --beats 0", "cuts x",
+    "cuts --cub x", "cuts --beats 0", "cuts x", "returns --jobs 0", "returns --reference /nowhere", "returns --cub 8",
+    "returns --beats 0", "returns x",
     "bench --rounds 0", "bench --workers 0", "bench nothing", "bench --beside /nowhere", "hostile 1 0", "hostile",
     "hostile --costs --tiger /nowhere", "hostile 1 1 --program /nowhere", "refuse-allocations --last 0",
     "refuse-allocations --workers 0", "refuse-rules --only nothing-of-this-name", "refuse-rules --libraries /nowhere",
@@ -34,7 +35,8 @@ WRONG = (  # words that a tool does not take
     "picture one.json --at x", "check-program --program /nowhere", "build x")
 TRIES = (  # the words of tools that try a program, whichever it is
     "stress 1 1", "draw 1 2 --reference PROGRAM", "conformance made", "conformance net", "conformance disks", "conformance audit", "deaths",
-    "cuts --beats 2 --reference PROGRAM", "bench made --rounds 1", "hostile 1 1", "refuse-allocations --last 1",
+    "cuts --beats 2 --reference PROGRAM", "returns --beats 1 --reference PROGRAM",
+    "bench made --rounds 1", "hostile 1 1", "refuse-allocations --last 1",
     "draw-nets 1 2", "audit-mutations 1 1")
 
 

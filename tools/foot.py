@@ -185,7 +185,7 @@ def draw_bytes(picture, y, sent):
 
 
 def draw_bands(picture, y, sent):
-    """Draws a band for each cub, hatched from when on it is dead; all of them have one scale."""
+    """Draws a band for each cub, hatched while it is dead; all of them have one scale."""
     scenario, scale = picture.scenario, picture.scale
     picture.bands = y
     for cub, its in enumerate(sent.cubs):
@@ -194,8 +194,8 @@ def draw_bands(picture, y, sent):
         picture.drawing.shape("path", behind=True, stroke=PALE,
                               d=f"M{number(scale.left)} {number(top + BAND)}H{number(scale.right)}")
         if cub in scenario.deaths:
-            x = scale.at(scenario.deaths[cub] * scenario.beat)
-            picture.drawing.box(x, top + 1, scale.right - x, BAND - 2, DEAD)
+            x, end = map(scale.at, scenario.dead_time(cub))
+            picture.drawing.box(x, top + 1, end - x, BAND - 2, DEAD)
         draw_bars(picture, top + BAND, BAR, its, sent.most[0])
     return y + BAND * scenario.cubs
 

@@ -37,21 +37,25 @@ def changed(text, change):
 
 
 def told(lines):
-    """Of the split lines of a text, in microseconds and by cub and instance: the deaths, the stops and the reads that failed."""
-    deaths, stops, failed, node, beat = {}, {}, set(), 0, int(lines[1][7])
+    """Of the split lines of a text, in microseconds and by cub and instance: the deaths, what the clocks showed at returns,
+    the stops and the reads that failed."""
+    deaths, returns, stops, failed, node, beat = {}, {}, {}, set(), 0, int(lines[1][7])
     for line in lines[3:]:
         node = int(line[1]) if line[0] == "node" else node
         if line[0] == "died":
             deaths.setdefault(node, []).append(int(line[1]) * beat)
+        elif line[0] == "returned":
+            returns[node] = int(line[2])
         elif line[0] == "gone":
             stops.setdefault(line[3], []).append(int(line[1]) * beat)
         elif line[0] == "readfailed":  # of an instance at a visit: a piece, or the whole block under 0
             failed.add((node, line[3], int(line[5]), int(line[8])))
-    return deaths, stops, failed
+    return deaths, returns, stops, failed
 
 
 def settled(lines):
-    """Of the visits of the tenancies that a text puts, those that are settled: when each is due, its number, the instance."""
+    """Of the visits of the tenancies that a text puts, those that are settled: when each is due, its number, the instance,
+    and whether it is the tenancy's first."""
     cubs, disks, slots, play = map(int, lines[1][1:5])
     end = int(lines[2][1]) * int(lines[1][7])
     for _, _, _, instance, _, slot, first, last in (line for line in lines if line[0] == "put"):
@@ -59,24 +63,28 @@ def settled(lines):
             due = int(slot) * cubs * disks * play // slots + visit * play
             if due + 2 * play > end:
                 break
-            yield due, visit, instance
+            yield due, visit, instance, visit == int(first)
 
 
 def shares(lines):
     """How many visits are settled, and how many of them have each excuse; those of who was stopped in time have no other."""
-    cubs, _, _, play, pieces, _, beat, delay, skew, _, _, read_lead, _, _, _, _, deadman, _ = map(int, lines[1][1:])
+    cubs, _, _, play, pieces, _, beat, delay, skew, _, _, read_lead, _, most, _, _, deadman, _ = map(int, lines[1][1:])
     takeover = 2 * delay * beat + 3 * skew + deadman + read_lead + 2 * beat + 1
-    deaths, stops, failed = told(lines)
+    deaths, returns, stops, failed = told(lines)
     anywhere = {read[1:] for read in failed}
 
+    def is_back(cub, ahead, time):
+        return cub in returns and returns[cub] + most + ahead <= time
+
     def lost(due, visit, instance, piece):
-        leaves = due + (piece - 1) * play // pieces
-        return (instance, visit, piece) in anywhere or any(d < leaves + beat for d in deaths.get((visit + piece) % cubs, ()))
+        leaves, cub = due + (piece - 1) * play // pieces, (visit + piece) % cubs
+        is_gone = any(d < leaves + beat for d in deaths.get(cub, ())) and not is_back(cub, 3 * play + skew, leaves)
+        return (instance, visit, piece) in anywhere or is_gone
 
     numbers = dict.fromkeys(("settled", "read", "piece", "dead", "stopped"), 0)
-    for due, visit, instance in settled(lines):
+    for due, visit, instance, is_first in settled(lines):
         cub = visit % cubs
-        dead = deaths.get(cub, ())
+        dead = () if not is_first and is_back(cub, 6 * play, due) else deaths.get(cub, ())
         numbers["settled"] += 1
         if any(stop < due + play for stop in stops.get(instance, ())):
             numbers["stopped"] += 1

@@ -1,4 +1,4 @@
-"""Makes a scenario from some numbers: a plan, files, and viewers, stops, deaths and read faults that are drawn.
+"""Makes a scenario from some numbers: a plan, files, and viewers, stops, deaths, returns and read faults, all drawn.
 
 All is drawn from one generator that the seed starts, in the order of this file, so a scenario is a function of the
 numbers. What is made breaks no rule; numbers for which there is no such scenario are refused in one line.
@@ -9,7 +9,7 @@ import random
 
 from plans import least_plan
 from reports import Unfit
-from scenarios import (KEYS, MOST_BEATS, MOST_DEATHS, MOST_EVENTS, MOST_FAULTS, MOST_FILES, MOST_PRODUCT, MOST_STARTS,
+from scenarios import (BEHIND, KEYS, MOST_BEATS, MOST_DEATHS, MOST_EVENTS, MOST_FAULTS, MOST_FILES, MOST_PRODUCT, MOST_STARTS,
                        MOST_VISITS)
 
 FILE_MOST, FILES_MOST = 16777216, 67108864  # bytes of a file, and of all files together
@@ -36,6 +36,7 @@ def scenario_of(given):
     scenario["deaths"] = deaths(rng, given.deaths, plan["cubs"], beats)
     scenario["read_faults"] = faults(rng, given.faults, plan, beats)
     cut(rng, given.cuts, scenario["deaths"])
+    bring_back(rng, given.returns, scenario["deaths"], beats - 1)
     lengths = [number * plan["block"] for number in blocks]
     check(scenario, lengths)
     return scenario, lengths
@@ -107,6 +108,19 @@ def cut(rng, number, dying):
         raise Unfit(f"{number} cuts of {len(dying)} deaths: each of them is a death in the middle of its beat")
     for at in sorted(distinct(rng, len(dying), number)):
         dying[at]["after"] = rng.randint(0, MOST_SENT)
+
+
+def bring_back(rng, number, dying, last):
+    """Has so many of the cubs that die come back, each in a beat that is drawn, up to a last one. They die as early as
+    that needs."""
+    if number > len(dying):
+        raise Unfit(f"{number} returns of {len(dying)} deaths: each of them is of a cub that dies")
+    if number and last < BEHIND:
+        raise Unfit(f"{number} returns in {last + 1} beats: a cub comes back in beat {BEHIND} at the earliest")
+    for at in sorted(distinct(rng, len(dying), number)):
+        death = dying[at]
+        death["beat"] = min(death["beat"], last - BEHIND)
+        death["back"] = rng.randint(death["beat"] + BEHIND, last)
 
 
 def check(scenario, lengths):

@@ -47,8 +47,9 @@ RULES = {  # what is wrong, and how to mend it
     10: ("the number of starts, times floor(`beats` \u00b7 `beat` / `play`) + 1, is above 400000: this is how many "
          "blocks might be due", "start fewer viewers, or run fewer beats"),
     11: ("`deaths` is not of its form",
-         "let each cub die once, within the run, after at most 1000 messages of its last beat if `after` says so, and "
-         "no two neighbours: the pieces of a dead cub's blocks lie with the cubs behind it"),
+         "let each cub die once, within the run, after at most 1000 messages of its last beat if `after` says so, come "
+         "back within the run and two beats behind its death at the earliest if `back` says so, and no two neighbours: "
+         "the pieces of a dead cub's blocks lie with the cubs behind it"),
     12: ("`read_faults` is not of its form",
          "see that the disk is there, that `from` is below `until`, and that `until` is at most `beats`"),
     13: ("a file has no bytes", "name a file that is not empty"),

@@ -129,8 +129,9 @@ def are_same(data, run):
     viewers = [tuple(fields[:5]) for fields in data["viewers"]]
     return (viewers == [(it.file, it.asked, it.slot, it.first, it.stop) for it in run.viewers]
             and data["totals"] == run.totals
-            and {cub: beat for cub, beat, _ in data["deaths"]} == run.scenario.deaths
-            and {cub: after for cub, _, after in data["deaths"] if after is not None} == run.scenario.cuts
+            and {cub: beat for cub, beat, *_ in data["deaths"]} == run.scenario.deaths
+            and {cub: after for cub, _, after, _ in data["deaths"] if after is not None} == run.scenario.cuts
+            and {cub: back for cub, *_, back in data["deaths"] if back is not None} == run.scenario.returns
             and [tuple(it) for it in data["faults"]] == sorted(run.scenario.faults))
 
 
@@ -395,6 +396,20 @@ def cuts(shown, folder):
     yield "the words for a cut", "" if "It dies at 0.20 s in the middle of a beat, after 1 message." in about else about
 
 
+def returns(shown, folder):
+    """On the page of the example with a return the cub is dead until then, and the two lists say so."""
+    ending.put(os.path.join(folder, "back.html"), pages.page(dict(kept())["back"], "back.json"))
+    shown.open(os.path.join(folder, "back.html"))
+    dead = shown.value("[1999999, 2000000, 2999999, 3000000].map((time) => page.run.isDead(3, time))")
+    yield "when a cub that returns is dead", "" if dead == [False, True, True, False] else str(dead)
+    listed = shown.value("page.list.list.rows.map((row) => [row.time, row.which, row.what])")
+    good = [2000000, "cub 3", "it dies"] in listed and [3000000, "cub 3", "it comes back"] in listed
+    yield "the list with a return", "" if good else str(listed)
+    shown.value("page.choose({viewer: null, cub: 3})")
+    about = shown.value("page.list.list.about")
+    yield "the words for a return", "" if "It is dead from 2.00 s to 3.00 s." in about else about
+
+
 def in_a_browser(folder):
     """The page of an example in Chromium: it complains of nothing, moves, and shows the blocks of what is clicked."""
     if browser.path() is None:
@@ -407,7 +422,7 @@ def in_a_browser(folder):
             shown.open(os.path.join(folder, "six.html"))
             for tried in (moves(shown), plays(shown), stands(shown, dict(kept())["six-viewers"]), tells(shown),
                           shows(shown), reaches(shown), guides(shown), excuses(shown, folder),
-                          cuts(shown, folder)):
+                          cuts(shown, folder), returns(shown, folder)):
                 found.extend(tried)
             found.append(("what the browser complains of", "; ".join(shown.complaints)))
     except (browser.Fault, OSError, ValueError) as why:

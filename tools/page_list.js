@@ -62,7 +62,8 @@ function cubList(run, cub) {
   const disks = run.faults.filter(([disk]) => disk % run.cubs === cub).map(([disk, begin, until]) =>
     ` Disk ${disk} cannot be read from ${run.seconds(begin * run.beat)} to ${run.seconds(until * run.beat)}.`);
   const time = run.deathOf.has(cub) ? run.seconds(run.deathOf.get(cub)) : "", cut = run.cutWords(cub);
-  const death = !time ? "" : cut ? ` It dies at ${time}${cut}.` : ` It is dead from ${time} on.`;
+  const back = run.backOf.has(cub) ? ` It is back at ${run.seconds(run.backOf.get(cub))}.` : "";
+  const death = !time ? "" : cut ? ` It dies at ${time}${cut}.${back}` : ` It is dead ${run.deadWords(cub)}.`;
   const about = `Blocks due here: ${sumsOf(home)}. It sent ${pieces} of blocks of the cubs before it.${death}`;
   return {heading: `Cub ${cub}`, about: about + disks.slice(0, 3).join("") + (disks.length > 3
     ? ` It has ${disks.length - 3} more such times.` : ""), when: "Time", which: "Block", rows};
@@ -82,12 +83,14 @@ function wholeList(run) {
     show: {viewer: part.viewer.number, cub: null}}));
   const deaths = run.deaths.map(([cub, beat]) => ({time: beat * run.beat, kind: "dead", which: `cub ${cub}`,
     what: `it dies${run.cutWords(cub)}`, show: {viewer: null, cub}}));
+  const backs = [...run.backOf].map(([cub, time]) => ({time, kind: "back", which: `cub ${cub}`, what: "it comes back",
+    show: {viewer: null, cub}}));
   const faults = run.faults.map(([disk, begin, until]) => ({time: begin * run.beat, kind: "fault",
     which: `disk ${disk} of cub ${disk % run.cubs}`, what: `it cannot be read until ${run.seconds(until * run.beat)}`,
     show: {viewer: null, cub: disk % run.cubs}}));
-  const rows = [...deaths, ...faults, ...missing].sort((one, other) => one.time - other.time);
-  const sums = [counted(deaths.length, "death"), counted(faults.length, "read fault"),
-    counted(missing.length, "missing block")].join(", ");
+  const rows = [...deaths, ...backs, ...faults, ...missing].sort((one, other) => one.time - other.time);
+  const sums = [counted(deaths.length, "death"), ...(backs.length ? [counted(backs.length, "return")] : []),
+    counted(faults.length, "read fault"), counted(missing.length, "missing block")].join(", ");
   const help = "A click on a slot, a block, a cub or a row of the timeline, or a choice above, shows its blocks.";
   return {heading: "What goes wrong", when: "Time", which: "Where", rows, about: `${sums}. ${help}`};
 }

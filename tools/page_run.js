@@ -46,6 +46,8 @@ class Run {
     this.allDisks = this.cubs * this.disks;
     this.deathOf = new Map(this.deaths.map(([cub, beat]) => [cub, beat * this.beat]));
     this.cutOf = new Map(this.deaths.filter(([, , after]) => after !== null).map(([cub, , after]) => [cub, after]));
+    this.backOf = new Map(this.deaths.filter(([, , , back]) => back !== null)
+      .map(([cub, , , back]) => [cub, back * this.beat]));
     this.words = new Map();
     this.viewers = data.viewers.map((row, number) => this.viewerOf(row, number));
     this.placed = this.viewers.filter((viewer) => viewer.slot !== null);
@@ -103,7 +105,7 @@ class Run {
 
   /* Whether a cub is dead at a time. */
   isDead(cub, now) {
-    return this.deathOf.has(cub) && this.deathOf.get(cub) <= now;
+    return this.deathOf.has(cub) && this.deathOf.get(cub) <= now && !(this.backOf.get(cub) <= now);
   }
 
   /* The disks of which every read fails at a time. */
@@ -183,9 +185,16 @@ class Run {
     return this.cutOf.has(cub) ? ` in the middle of a beat, after ${counted(this.cutOf.get(cub), "message")}` : "";
   }
 
-  /* The death of a cub up to a time, in words; nothing if there was none. */
+  /* When a cub that dies is dead, in words. */
+  deadWords(cub) {
+    const from = `from ${this.seconds(this.deathOf.get(cub))}`;
+    return this.backOf.has(cub) ? `${from} to ${this.seconds(this.backOf.get(cub))}` : `${from} on`;
+  }
+
+  /* The death of a cub up to a time, in words, whether or not it came back since; nothing if there was none. */
   excuseOfCub(cub, time) {
-    return this.isDead(cub, time) ? `cub ${cub} is dead from ${this.seconds(this.deathOf.get(cub))} on` : "";
+    const died = this.deathOf.has(cub) && this.deathOf.get(cub) <= time;
+    return died ? `cub ${cub} is dead ${this.deadWords(cub)}` : "";
   }
 
   /* The faults of a disk in the time in which it was to be read for something that leaves at a time, in words. */

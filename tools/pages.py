@@ -67,7 +67,8 @@ def data_of(run, name, picture):
         "beats": scenario.beats, "readLead": plan["read_lead"],
         "files": [printable(file) for file in scenario.files],
         "zero": [scenario.due(slot, 0) for slot in range(plan["slots"])],
-        "deaths": [(cub, beat, scenario.cuts.get(cub)) for cub, beat in sorted(scenario.deaths.items())],
+        "deaths": [(cub, beat, scenario.cuts.get(cub), scenario.returns.get(cub))
+                   for cub, beat in sorted(scenario.deaths.items())],
         "faults": sorted(scenario.faults), "totals": run.totals,
         "why": {LETTERS[reason]: words for reason, words in timeline.WORDS.items()},
         "fields": FIELDS, "viewers": [viewer_of(run, viewer) for viewer in run.viewers],

@@ -1,7 +1,7 @@
 """Breaks one rule of a drawn scenario, mostly by as little as can be."""
 import re
 
-from scenarios import (KEYS, MOST_AFTER, MOST_BEATS, MOST_DEATHS, MOST_EVENTS, MOST_FAULTS, MOST_FILES, MOST_PRODUCT,
+from scenarios import (BEHIND, KEYS, MOST_AFTER, MOST_BEATS, MOST_DEATHS, MOST_EVENTS, MOST_FAULTS, MOST_FILES, MOST_PRODUCT,
                        MOST_STARTS, MOST_VISITS, ODD, RANGES, Pairs, Raw, draw_offsets, draw_plan, draw_scenario,
                        out_of_range, some)
 
@@ -141,13 +141,15 @@ def many_visits(rng, scenario, over):
 
 
 def deaths_broken(rng, scenario):
-    """Rule 11: a cub, a beat or a number of messages out of its range, a cub twice, two neighbours, too many."""
+    """Rule 11: a cub, a beat, a number of messages or a return out of its range, a cub twice, two neighbours, too
+    many."""
     cubs, beats = scenario["plan"]["cubs"], scenario["beats"]
     cub, beat = rng.randrange(cubs), rng.randrange(beats)
     one, far = {"cub": cub, "beat": beat}, {"cub": (cub + 3) % cubs, "beat": 0}
     near = {"cub": some(rng, cub, (cub + 1) % cubs, (cub - 1) % cubs), "beat": 0}
     bad = some(rng, {**one, "cub": cubs}, {**one, "beat": beats}, misshapen(rng, one), {**one, "later": 1},
-               {**one, "after": some(rng, MOST_AFTER + 1, -1, "1", None, 0.5, 2**64)})
+               {**one, "after": some(rng, MOST_AFTER + 1, -1, "1", None, 0.5, 2**64)},
+               {**one, "back": some(rng, beat + BEHIND - 1, beat, 0, beats, beats, -1, "1", None, beat + 2.5, 2**64)})
     return {**scenario, "deaths": some(
         rng, [one, near], [one, far, near], [{"cub": 0, "beat": 0}, {"cub": cubs - 1, "beat": 0}], [bad], [far, bad],
         [far] * (MOST_DEATHS + 1), {}, odd(rng))}

@@ -7,7 +7,7 @@ import json
 import re
 
 from drawing import counted, seconds
-from scenarios import KEYS, MOST_AFTER, MOST_BEATS, out_of_range
+from scenarios import BEHIND, KEYS, MOST_AFTER, MOST_BEATS, out_of_range
 
 SECOND = 1000000  # microseconds
 START = re.compile(r"start (\d{1,9}) file (\d{1,9}) (?:slot (\d{1,9}) first (\d{1,9})|unplaced)")
@@ -43,7 +43,8 @@ class Viewer:
 
 class Scenario:
     """The plan's numbers under their keys, the run's beats and end, and what happens in it. Deaths have their beats by
-    cub, and the cuts say after how many messages of that beat a cub dies, if it is in the middle of it."""
+    cub; the cuts say after how many messages of that beat a cub dies, if it is in the middle of it, and the returns in
+    which beat it comes back, if it does."""
 
     def __init__(self, content):
         value = parsed(content)
@@ -55,6 +56,7 @@ class Scenario:
                            if "start" in event]
             self.deaths = {whole(death["cub"]): whole(death["beat"]) for death in value.get("deaths", [])}
             self.cuts = {death["cub"]: whole(death["after"]) for death in value.get("deaths", []) if "after" in death}
+            self.returns = {death["cub"]: whole(death["back"]) for death in value.get("deaths", []) if "back" in death}
             self.faults = [tuple(whole(fault[key]) for key in ("disk", "from", "until"))
                            for fault in value.get("read_faults", [])]
         except (KeyError, TypeError, AttributeError, ValueError):
@@ -71,6 +73,7 @@ class Scenario:
         return (all(beat < self.beats and file < len(self.files) for beat, file in self.starts)
                 and all(cub < cubs and beat < self.beats for cub, beat in self.deaths.items())
                 and all(after <= MOST_AFTER for after in self.cuts.values())
+                and all(self.deaths[cub] + BEHIND <= beat < self.beats for cub, beat in self.returns.items())
                 and all(disk < disks and first < until <= self.beats for disk, first, until in self.faults))
 
     def words(self):
@@ -80,10 +83,25 @@ class Scenario:
                 f"play time {seconds(self.play)} s, {counted(self.beats, 'beat')} of {seconds(self.beat)} s")
 
     def death(self, cub):
-        """The death of a cub that dies, in words, with its beat."""
+        """The death of a cub that dies, in words, with its beat, and that of its return."""
+        beat, back = self.deaths[cub], self.returns.get(cub)
         if cub not in self.cuts:
-            return f"dead from beat {self.deaths[cub]} on"
-        return f"dies in the middle of beat {self.deaths[cub]}, after {counted(self.cuts[cub], 'message')}"
+            return f"dead from beat {beat} on" if back is None else f"dead from beat {beat} to beat {back - 1}"
+        words = f"dies in the middle of beat {beat}, after {counted(self.cuts[cub], 'message')}"
+        return words if back is None else f"{words}, and is back from beat {back} on"
+
+    def is_dead(self, cub, beat):
+        """Whether a cub is dead in a beat."""
+        return cub in self.deaths and self.deaths[cub] <= beat < self.returns.get(cub, self.beats + 1)
+
+    def dead_time(self, cub):
+        """When a cub that dies is dead: from a time on, and to another one, that of its return or the run's end."""
+        return self.deaths[cub] * self.beat, self.returns.get(cub, self.beats) * self.beat
+
+    def enters_from(self, cub):
+        """From which due time on a cub that comes back surely has its records again."""
+        plan = self.plan
+        return self.returns[cub] * self.beat + 2 * plan["skew"] + plan["max_lead"] + 3 * self.play
 
     def due(self, slot, visit):
         """When a slot's visit is due, in microseconds."""

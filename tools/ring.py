@@ -57,8 +57,13 @@ class Moment:
 
     def is_dead(self, cub):
         """Whether a cub is dead."""
-        beat = self.scenario.deaths.get(cub)
-        return beat is not None and beat * self.scenario.beat <= self.now
+        return self.scenario.is_dead(cub, self.now // self.scenario.beat)
+
+    def has_records(self, cub, due):
+        """Whether a cub that lives surely has its record of a visit that is due at this time: one that came back takes
+        none that is due too soon."""
+        back = self.scenario.returns.get(cub)
+        return back is None or self.now < back * self.scenario.beat or due >= self.scenario.enters_from(cub)
 
     def cannot_be_read(self, disk):
         """Whether every read of a disk fails."""
@@ -196,9 +201,10 @@ def draw_table(moment, drawing, middle):
     """Draws which cub has which records, beside the ring; where that ends below."""
     scenario = moment.scenario
     own, backup = collections.defaultdict(list), collections.defaultdict(list)
-    for _, slot, visit, viewer in moment.records:
-        own[visit % scenario.cubs].append((slot, viewer))
-        backup[(visit + 1) % scenario.cubs].append((slot, viewer))
+    for due, slot, visit, viewer in moment.records:
+        for has, cub in ((own, visit % scenario.cubs), (backup, (visit + 1) % scenario.cubs)):
+            if moment.has_records(cub, due):
+                has[cub].append((slot, viewer))
     tall = table_height(scenario) // scenario.cubs
     y = middle - table_height(scenario) / 2
     drawing.text(OWN, y, "records by slot", 12, font_weight="bold")

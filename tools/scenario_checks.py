@@ -41,6 +41,8 @@ def draw_line(rng):
     seconds = rng.randint(1, 600) / second + 0.0001
     words = [f"--{key}={value}" for key, value in numbers.items()]
     words += [f"--seconds={seconds:.4f}", f"--viewers-per-second={rng.randint(4, 20) / seconds:.3f}"]
+    if seconds * second >= 3:  # beats, which a return needs
+        words.append(f"--returns={rng.randint(0, numbers['deaths'])}")
     words += [f"--length={some(rng, '1', '4', '1..9')}", "--links=" + some(rng, "fixed", "drawn")]
     return words + (["--starting=" + f"{seconds / 2:.4f}"] if rng.random() < 0.2 else [])
 
@@ -99,7 +101,7 @@ def plan_faults(plan):
 
 def by_words(folder):
     """The same words make the same scenario and files, a narrow window is warned of, and what cannot be is refused."""
-    words = ["--seed", "7", "--seconds", "5", "--deaths", "2", "--skew", "30", "--files-to", "films", "--cuts", "1"]
+    words = ["--seed", "7", "--seconds", "5", "--deaths", "2", "--skew", "30", "--files-to", "films", "--cuts", "1", "--returns", "1"]
     first, second = scenario(words, folder), scenario(words, folder)
     names = [file["name"] for file in json.loads(first.out)["files"]] if first.status == 0 else []
     sizes = {os.path.getsize(os.path.join(folder, name)) for name in names}
@@ -115,7 +117,8 @@ def by_words(folder):
 
 REFUSED = (  # words for which there is no scenario, each with a part of the line
     ("--cubs 6", "at least 7"), ("--cubs 65", "must be from 3 to 64"), ("--cubs 8 --deaths 5", "4 at most may die"),
-    ("--deaths 2 --cuts 3", "3 cuts of 2 deaths"),
+    ("--deaths 2 --cuts 3", "3 cuts of 2 deaths"), ("--deaths 2 --returns 3", "3 returns of 2 deaths"),
+    ("--deaths 2 --returns 1 --seconds 0.02", "1 returns in 2 beats"),
     ("--cubs 64 --delay 16 --play-time 1000000", "at least 10880000"), ("--window-a 80000", "condition 1 of a plan"),
     ("--max-lead 5000000", "condition 7 of a plan"), ("--hold 1999999", "condition 12 of a plan"),
     ("--seconds 1001", "100100 beats, and 100000 are the most"), ("--files 65", "64 are the most"),

@@ -12,6 +12,7 @@ RANGES = ((3, 64), (1, 8), (1, 4096), (10000, 10**8), (1, 8), (1, 1 << 20), (1, 
           (1, 10**9), (1, 10**9), (1, 10**9), (1, 10**10), (1, 10**5), (1, 10**5), (1, 10**9), (1, 10**9))
 MOST_BEATS, MOST_PRODUCT, MOST_VISITS, MOST_STARTS = 100000, 2000000, 400000, 2000
 MOST_FILES, MOST_EVENTS, MOST_DEATHS, MOST_FAULTS, MOST_AFTER = 64, 4000, 32, 1000, 1000
+BEHIND = 2  # beats from a death to the earliest return
 ODD = ('-1', '-0', '0.0', '1.0', '1e0', '1.5', '18446744073709551616', '"1"', '""', 'null', 'true', '[]', '[1]', '{}')
 
 
@@ -245,14 +246,16 @@ def draw_events(rng, beats, files, per_play):
 
 
 def draw_deaths(rng, cubs, beats):
-    """Some cubs that are no neighbours, each with a beat; half of them die there after some messages."""
+    """Some cubs that are no neighbours, each with a beat; half of them die there after some messages, and half come
+    back."""
     dead = []
     for cub in rng.sample(range(cubs), some(rng, 1, 3, 6)):
         if all((cub - other) % cubs not in (1, cubs - 1) for other in dead):
             dead.append(cub)
     last = beats - 1
-    return [{"cub": cub, "beat": some(rng, 0, min(1, last), *[rng.randint(0, last) for _ in range(6)]),
-             **draw_after(rng)} for cub in dead]
+    drawn = [{"cub": cub, "beat": some(rng, 0, min(1, last), *[rng.randint(0, last) for _ in range(6)]),
+              **draw_after(rng)} for cub in dead]
+    return [{**death, **draw_back(rng, death["beat"] + BEHIND, last)} for death in drawn]
 
 
 def draw_after(rng):
@@ -260,6 +263,15 @@ def draw_after(rng):
     if rng.random() < 0.5:
         return {}
     return {"after": some(rng, 0, 0, 1, 1, 2, 3, rng.randint(0, 8), rng.randint(0, 40), MOST_AFTER)}
+
+
+def draw_back(rng, first, last):
+    """In half of the deaths, in which beat from a first one to a last one the cub comes back: often soon."""
+    if first > last or rng.random() < 0.5:
+        return {}
+    soon, later = min(last, first + 50), min(last, first + 200)
+    return {"back": some(rng, first, last, rng.randint(first, soon), rng.randint(first, later),
+                         rng.randint(first, last), rng.randint(first, last))}
 
 
 def draw_faults(rng, disks, beats, number):

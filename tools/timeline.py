@@ -444,14 +444,15 @@ def unsent_by_cub(picture):
 
 
 def taken_by_cub(picture, sends, unsent):
-    """Where the row of each cub has a mark across: a send, a block that is not sent, a death or the beginning of a
-    read fault."""
+    """Where the row of each cub has a mark across: a send, a block that is not sent, a death, a return or the beginning
+    of a read fault."""
     scenario, scale = picture.scenario, picture.scale
     taken = collections.defaultdict(list)
     for cub, x, _ in unsent:
         taken[cub].append(x)
     beats = [] if picture.is_merged else [(cub, beat) for cub, beat, *_ in sends]
-    beats += [*scenario.deaths.items(), *((disk % scenario.cubs, begin) for disk, begin, _ in scenario.faults)]
+    beats += [*scenario.deaths.items(), *scenario.returns.items()]
+    beats += [(disk % scenario.cubs, begin) for disk, begin, _ in scenario.faults]
     for cub, beat in beats:
         taken[cub].append(scale.at(beat * scenario.beat))
     return taken
@@ -476,9 +477,10 @@ def draw_fault(picture, y, tall, fault, taken):
 def draw_death(picture, y, tall, cub, marks):
     """Draws the time in which a cub is dead, with words that keep clear of the marks across its row."""
     scenario, scale, drawing = picture.scenario, picture.scale, picture.drawing
-    x = scale.at(scenario.deaths[cub] * scenario.beat)
-    drawing.box(x, y + 1, RIGHT - x, tall - 2, DEAD, scenario.death(cub))
-    drawing.path([f"M{number(x)} {number(y)}v{number(tall)}"], stroke=INK, stroke_width=2)
+    x, end = map(scale.at, scenario.dead_time(cub))
+    drawing.box(x, y + 1, end - x, tall - 2, DEAD, scenario.death(cub))
+    sides = [x, end] if cub in scenario.returns else [x]
+    drawing.path([f"M{number(side)} {number(y)}v{number(tall)}" for side in sides], stroke=INK, stroke_width=2)
     for words in death_words(scenario, cub):
         room = width_of(words, 11) + 6
         place = free_place(x + 5, room, marks)
@@ -490,10 +492,11 @@ def draw_death(picture, y, tall, cub, marks):
 
 def death_words(scenario, cub):
     """The words for a cub's death, the longest first."""
-    time = seconds(scenario.deaths[cub] * scenario.beat)
-    words = [f"dead from {time} s on", "dead"]
+    time, back = map(seconds, scenario.dead_time(cub))
+    words = [f"dead from {time} s to {back} s" if cub in scenario.returns else f"dead from {time} s on", "dead"]
     if cub in scenario.cuts:
-        words.insert(0, f"dies at {time} s in the middle of a beat, after {counted(scenario.cuts[cub], 'message')}")
+        cut = f"dies at {time} s in the middle of a beat, after {counted(scenario.cuts[cub], 'message')}"
+        words.insert(0, f"{cut}; back at {back} s" if cub in scenario.returns else cut)
     return words
 
 

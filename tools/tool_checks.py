@@ -1,5 +1,5 @@
-"""Checks of tools/picture, tools/explain, tools/draw and tools/cuts for tools/check-program, and of the line by which
-the launcher offers tools/explain."""
+"""Checks of tools/picture, tools/explain, tools/draw, tools/cuts and tools/returns for tools/check-program, and of the
+line by which the launcher offers tools/explain."""
 import json
 import os
 import pty
@@ -17,6 +17,7 @@ import scenarios
 EXAMPLES = os.path.join(program.TOP, "examples")
 TOOLS = os.path.join(program.TOP, "tools")
 KEPT = {  # the pictures of examples/, each with the words that make it from a scenario and its kept report there
+    "back.svg": ("back",),
     "cut.svg": ("cut",),
     "dead-cub.svg": ("dead-cub",),
     "full-house.svg": ("full-house",),
@@ -227,7 +228,12 @@ def broken():
     yield 5, {**one, "deaths": [{"cub": 7, "beat": 1}, {"cub": 0, "beat": 1}]}, "a neighbour of cub 7"
     for after, words in ((1001, "its after is 1001, and must be from 0 to 1000"), (None, "its after is null, which")):
         yield 5, {**one, "deaths": [{"cub": 7, "beat": 1, "after": after}]}, words
-    yield 5, {**one, "deaths": [{"cub": 7, "beat": 1, "after": 1, "until": 2}]}, 'it has the key "until"'
+    for back, words in ((2, "its back is 2, and must be from 3 to 599"), (600, "its back is 600, and must be from 3"),
+                        ("3", 'its back is "3", which')):
+        yield 5, {**one, "deaths": [{"cub": 7, "beat": 1, "back": back}]}, words
+    late = {"cub": 7, "beat": 598, "back": 599}
+    yield 5, {**one, "deaths": [late]}, "its back would have to be 600 at least, and the last beat of the run is 599"
+    yield 5, {**one, "deaths": [{"cub": 7, "beat": 1, "after": 1, "back": 3, "until": 2}]}, 'it has the key "until"'
     yield 5, {**one, "read_faults": [{"disk": 0, "from": 9, "until": 9}]}, "must be below its until, 9"
     yield 5, {**one, "files": [{"name": "nothing", "disk": 0}]}, 'files[0] names it "nothing"'
     tiny = {**one, "plan": {**small_plan(), "block": 1, "pieces": 6}, "files": [{"name": "most", "disk": 0}]}
@@ -334,6 +340,14 @@ def cuts(tiger, folder):
     yield "cuts that are wrong of one death", "" if good else f"status {tried.status}, '{tried.out.decode()}'"
 
 
+def returns(tiger, folder):
+    """Returns from deaths in two beats are tried in the same way."""
+    same = as_reference(tiger, folder)
+    for command in ([], ["--journal"]):
+        tried = tool("returns", ["--program", tiger, "--reference", same, "--beats", "2", *command], folder)
+        yield f"returns {command}", tried.differs(program.Ended(0, b"returns: 22 passed, 0 failed\n", b""))
+
+
 def all_of_them(tiger, folder):
     """Each check's name, and what it found; nothing if all is well. The folder has the examples and their files."""
     yield from kept_pictures()
@@ -345,3 +359,4 @@ def all_of_them(tiger, folder):
     yield from offers(folder)
     yield from draws(tiger, folder)
     yield from cuts(tiger, folder)
+    yield from returns(tiger, folder)
