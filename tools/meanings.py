@@ -82,8 +82,8 @@ CONDITIONS = {  # rule 4 by its item: what may be at most what, and how to mend 
 
 CLAUSES = {  # what `audit` asks of a run, in this order
     1: "what each node got was sent to it, comes in order and in time, and what was sent in time was got",
-    2: "each reading is what its node's clock shows in that beat, beats never fall along a journal, and each death is as the "
-       "text's first lines have it",
+    2: "each reading is what its node's clock shows in that beat, beats never fall along a journal, and each death and "
+       "each return is as the text's first lines have it",
     3: "the controller does what the orders say, each once and in time",
     4: "a slot is put only if it is free, by its cub, in its window, and for a start that was asked for",
     5: "what a cub holds and sends is part of the schedule, and follows from what it has got",

@@ -322,14 +322,19 @@ def draws(tiger, folder):
     yield "a moment of drawing", "" if good else f"status {drawn.status}, '{drawn.out.decode()}'"
 
 
+def wrong_of_one(tiger, folder, name, other):
+    """The path of a program that is the given one, but takes another scenario in the place of one."""
+    path = os.path.join(folder, f"wrong-of-{name}")
+    with open(path, "w", encoding="utf-8") as file:
+        file.write(f'#!/bin/sh\n[ "$2" = {name} ] && set -- "$1" {other} "$3"\nexec {shlex.quote(tiger)} "$@"\n')
+    os.chmod(path, 0o755)
+    return path
+
+
 def cuts(tiger, folder):
     """Deaths in the middle of two beats are tried, with the program in the reference's place; and a program that is
     wrong of one death is found."""
-    same = as_reference(tiger, folder)
-    wrong = os.path.join(folder, "wrong-of-one")
-    with open(wrong, "w", encoding="utf-8") as file:
-        file.write(f'#!/bin/sh\n[ "$2" = 1-3.json ] && set -- "$1" 1-2.json "$3"\nexec {shlex.quote(tiger)} "$@"\n')
-    os.chmod(wrong, 0o755)
+    same, wrong = as_reference(tiger, folder), wrong_of_one(tiger, folder, "0-1-3.json", "0-1-2.json")
     for command in ([], ["--journal"]):
         words = ["--reference", same, "--beats", "2", "--jobs", "1", *command]
         tried = tool("cuts", ["--program", tiger, *words], folder)
@@ -342,10 +347,15 @@ def cuts(tiger, folder):
 
 def returns(tiger, folder):
     """Returns from deaths in two beats are tried in the same way."""
-    same = as_reference(tiger, folder)
+    same, wrong = as_reference(tiger, folder), wrong_of_one(tiger, folder, "3-10-13.json", "3-10-12.json")
     for command in ([], ["--journal"]):
-        tried = tool("returns", ["--program", tiger, "--reference", same, "--beats", "2", *command], folder)
+        words = ["--reference", same, "--beats", "2", "--jobs", "1", *command]
+        tried = tool("returns", ["--program", tiger, *words], folder)
         yield f"returns {command}", tried.differs(program.Ended(0, b"returns: 22 passed, 0 failed\n", b""))
+    tried = tool("returns", ["--program", wrong, *words], folder)
+    wanted = rb"returns: beat 10, back in beat 13: line [^\n]+\nreturns: 21 passed, 1 failed\n"
+    good = tried.status == 1 and re.fullmatch(wanted, tried.out)
+    yield "returns that are wrong of one death", "" if good else f"status {tried.status}, '{tried.out.decode()}'"
 
 
 def all_of_them(tiger, folder):
