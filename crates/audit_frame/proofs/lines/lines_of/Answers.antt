@@ -15,4 +15,4 @@ returns c =
     ∙ ap (λ (q : List Line). told_by q ++ journals_told beats 0 c.as_slice.result.now) c.new-lines.ensures.items
     ∙ ap (λ (js : List (List Entry)). journals_told beats 0 js) c.as_slice.ensures in
     sorted_lines beats c.args.kept.now.journals _ _ told
-    c.in_ok-sort_by_key.ensures.permutation (c.in_ok-sort_by_key.ensures.sorted key calls) (c.in_ok-sort_by_key.ensures.stable key calls)
+    c.in_ok-sort_by_cached_key.ensures.permutation (c.in_ok-sort_by_cached_key.ensures.sorted key calls) (c.in_ok-sort_by_cached_key.ensures.stable key calls)
