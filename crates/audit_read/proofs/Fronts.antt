@@ -16,6 +16,7 @@ use Rattle.audit_text.specs.Lines.{line_of}
 use Rattle.audit_text.specs.Texts.{parts_of, items_in, text_in, text_of}
 use Rattle.audit_text.proofs.Feeds.{line_free, one_line}
 use Rattle.audit_read.specs.Begun.{HasNoFeed, whole_lines, lines_of, Begins, IsFaultyAt}
+use Rattle.audit_read.specs.Reached.{Reached}
 use Rattle.audit_read.specs.Drafts.{written, Admits, after, IsSound, IsRead, IsReadAs, whole_parts}
 use Rattle.audit_read.specs.Writable.{IsWritable}
 use Rattle.audit_read.specs.declared.draft.Draft.{Draft}
@@ -123,13 +124,6 @@ same_items (x ∷ xs) (i ∷ is) f g e =
     ∙ ap (λ (q : List Item). i ∷ q) (same_items xs is f.1 g.1 (ap tail_lines e))
 
 -- ---- where the reading stands
-
-pub record Reached (bytes : List ℕ) (d : Draft) (line : ℕ) (rest : List ℕ) : Type 0 where
-  pub sound : IsSound d
-  pub fits : AllByRecursion ItemFits (written d)
-  pub same : fold after draft.Empty (written d) ≡ d
-  pub text : bytes ≡ text_in (written d) ++ rest
-  pub count : line ≡ length (written d) + 1
 
 pub at_start : (bytes : List ℕ) → Reached bytes draft.Empty 1 bytes
 at_start bytes = record { sound = tt; fits = tt; same = refl; text = refl; count = refl }
@@ -269,11 +263,13 @@ at_whole bytes t line rest k r ended same =
 
 -- ---- what the reading goes by
 
-pub none_read : (d : Draft) (line : List ℕ) (o : Option Draft) → IsRead d line o → o ≡ None → (i : Item) → ItemFits i → line ≡ line_of i → Admits d i → ⊥
-none_read d line o r e = subst (IsRead d line) e r
+pub none_read : (d : Draft) (line : List ℕ) (e : Draft) (taken : Bool) → IsRead d line (cond taken (Some e) None) → taken ≡ false
+    → (i : Item) → ItemFits i → line ≡ line_of i → Admits d i → ⊥
+none_read d line e taken r isnt = subst (λ (b : Bool). IsRead d line (cond b (Some e) None)) isnt r
 
-pub some_read : (d : Draft) (line : List ℕ) (o : Option Draft) (e : Draft) → IsRead d line o → o ≡ Some e → (i : Item) × IsReadAs d line e i
-some_read d line o e r same = subst (IsRead d line) same r
+pub some_read : (d : Draft) (line : List ℕ) (e : Draft) (taken : Bool) → IsRead d line (cond taken (Some e) None) → taken ≡ true
+    → (i : Item) × IsReadAs d line e i
+some_read d line e taken r is = subst (λ (b : Bool). IsRead d line (cond b (Some e) None)) is r
 
 pub shorter : (rest first behind : List ℕ) → rest ≡ first ++ 10 ∷ behind → length behind + 1 ≤ length rest
 shorter rest first behind e = omega (arith, ap (λ (q : List ℕ). length q) e, length-append first (10 ∷ behind))

@@ -1,3 +1,4 @@
+mod Cutting
 mod Ends
 mod Fronts
 mod Lists

@@ -1,5 +1,6 @@
 //! What was read of a text so far.
-ghost use Rattle.std.specs.Prelude.{◌≡◌, ◌↔◌, ◌+◌, IfOk, IsTrue, length};
+ghost use Rattle.std.specs.Prelude.{◌≡◌, ◌↔◌, ◌+◌, IfOk, IsTrue, length, if◌then◌else◌, Some, None};
+ghost use Rattle.audit_text.specs.declared.item.Item.TheVariants as item;
 ghost use Rattle.link_timing.specs.Clock.{FixedIsWithin};
 ghost use Rattle.audit_read.specs.Drafts.{IsNext, IsSound, AreOffsets};
 ghost use Rattle.audit_read.specs.declared.draft.Draft.TheVariants as draft;
@@ -9,8 +10,10 @@ use crate::plans::is_plan;
 use crate::told::Told;
 use audit_text::Item;
 use link_timing::Delay;
+use node_kit::Entry;
 use slot_plan::Params;
 use std::alloc::Global;
+use std::mem;
 use tiger_base::{Micros, NoMemory, Sequence};
 
 /// The number of beats of the longest run.
@@ -123,8 +126,54 @@ fn after_delay(alloc: Global, p: Params, beats: u64, delay: Delay, line: Item) -
 }
 
 impl Draft {
+    /// Reads this line, if it may stand next; nothing is said of the draft if it may not.
+    pub fn take(&mut self, alloc: Global, line: Item) -> Result<bool, NoMemory>
+        requires { IsSound self.old }
+        ensures { IfOk result (λ yes.
+            IsNext self.old line (if yes then Some self.new else None)) }
+    {
+        match line {
+            Item::Entry(e) => self.entry(e),
+            other => self.turn(alloc, other),
+        }
+    }
+
+    /// Reads an entry, which nearly all lines are: so the draft stays where it is.
+    fn entry(&mut self, e: Entry) -> Result<bool, NoMemory>
+        requires { IsSound self.old }
+        ensures { IfOk result (λ yes.
+            IsNext self.old (item.Entry e) (if yes then Some self.new else None)) }
+    {
+        match self {
+            Draft::Told(told) => told.entry(e),
+            Draft::Empty => Ok(false),
+            Draft::Begun => Ok(false),
+            Draft::Planned(_) => Ok(false),
+            Draft::Lasting(_, _) => Ok(false),
+            Draft::Paced(_, _, _) => Ok(false),
+            Draft::Given(_) => Ok(false),
+            Draft::Whole(_) => Ok(false),
+        }
+    }
+
+    /// Reads a line of any kind.
+    fn turn(&mut self, alloc: Global, line: Item) -> Result<bool, NoMemory>
+        requires { IsSound self.old }
+        ensures { IfOk result (λ yes.
+            IsNext self.old line (if yes then Some self.new else None)) }
+    {
+        let before = mem::replace(self, Draft::Empty);
+        match before.grown(alloc, line)? {
+            Some(longer) => {
+                *self = longer;
+                Ok(true)
+            }
+            None => Ok(false),
+        }
+    }
+
     /// What was read with this line, if it may stand next.
-    pub fn take(self, alloc: Global, line: Item) -> Result<Option<Draft>, NoMemory>
+    fn grown(self, alloc: Global, line: Item) -> Result<Option<Draft>, NoMemory>
         requires { IsSound self }
         ensures { IfOk result (λ o. IsNext self line o) }
     {

@@ -1,8 +1,10 @@
 //! Reads a text line by line.
-ghost use Rattle.std.specs.Prelude.{◌≡◌, IfOk, IfErr};
+ghost use Rattle.std.specs.Prelude.{◌≡◌, IfOk, IfErr, if◌then◌else◌, Some, None};
 ghost use Rattle.audit_text.specs.Texts.{text_of};
-ghost use Rattle.audit_read.specs.Begun.{HasCause};
+ghost use Rattle.audit_read.specs.Begun.{HasCause, HasNoFeed};
 ghost use Rattle.audit_read.specs.Drafts.{IsSound, IsRead};
+ghost use Rattle.audit_read.specs.Reached.{Reached};
+ghost use Rattle.audit_read.specs.declared.draft.Draft.TheVariants as fronts;
 ghost use Rattle.audit_read.specs.Writable.{IsWritable};
 
 use crate::draft::Draft;
@@ -35,25 +37,51 @@ impl From<NoMemory> for TextStop {
     }
 }
 
-/// What was read with this line, if it may stand next.
-fn next(
+/// Reads this line, if it may stand next.
+fn read_next(
     alloc: Global,
     desk: &mut Desk,
-    draft: Draft,
+    draft: &mut Draft,
     line: &[u8],
-) -> Result<Option<Draft>, NoMemory>
-    requires { IsSound draft }
-    ensures { IfOk result (λ o. IsRead draft line.now o) }
+) -> Result<bool, NoMemory>
+    requires { IsSound draft.old }
+    ensures { IfOk result (λ yes.
+        IsRead draft.old line.now (if yes then Some draft.new else None)) }
 {
     match desk.read(alloc, line)? {
         Some(item) => {
             if !item_fits(&item) {
-                return Ok(None);
+                return Ok(false);
             }
             draft.take(alloc, item)
         }
-        None => Ok(None),
+        None => Ok(false),
     }
+}
+
+/// Reads all lines that end with a line feed. Gives the number of the line behind them, and what stands there.
+fn read_lines<'a>(
+    alloc: Global,
+    draft: &mut Draft,
+    bytes: &'a [u8],
+) -> Result<(u64, &'a [u8]), TextStop>
+    requires { draft.old ≡ fronts.Empty }
+    ensures reached { IfOk result (λ x. Reached bytes.now draft.new x.0 x.1.now) }
+    ensures last { IfOk result (λ x. HasNoFeed x.1.now) }
+    ensures cause { IfErr result (HasCause bytes.now) }
+{
+    let mut desk = Desk::new(alloc);
+    let mut rest = bytes;
+    let mut line = 1;
+    while let Some((first, behind)) = split_line(rest) {
+        let yes = read_next(alloc, &mut desk, draft, first)?;
+        if !yes {
+            return Err(TextStop::Fault { line });
+        }
+        rest = behind;
+        line += 1;
+    }
+    Ok((line, rest))
 }
 
 /// The value whose text these bytes are. It is read from exactly the texts of writable values; a `Fault` names the line
@@ -63,19 +91,11 @@ pub fn read_kept(alloc: Global, bytes: &[u8]) -> Result<Kept, TextStop>
     ensures exact { IfOk result (λ k. bytes.now ≡ text_of k) }
     ensures cause { IfErr result (HasCause bytes.now) }
 {
-    let mut desk = Desk::new(alloc);
     let mut draft = Draft::Empty;
-    let mut rest = bytes;
-    let mut line = 1;
-    while let Some((first, behind)) = split_line(rest) {
-        match next(alloc, &mut desk, draft, first)? {
-            Some(longer) => draft = longer,
-            None => return Err(TextStop::Fault { line }),
-        }
-        rest = behind;
-        line += 1;
-    }
-    match draft {
+    let read = read_lines(alloc, &mut draft, bytes)?;
+    let (line, rest) = read;
+    let front = draft;
+    match front {
         Draft::Whole(told) if rest.is_empty() => Ok(told.finish()?),
         _ => Err(TextStop::Fault { line }),
     }

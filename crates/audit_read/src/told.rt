@@ -74,7 +74,7 @@ impl Told {
     }
 
     /// Reads an entry of the journal, if it may stand next.
-    fn entry(&mut self, e: Entry) -> Result<bool, NoMemory>
+    pub fn entry(&mut self, e: Entry) -> Result<bool, NoMemory>
         ensures admits { IfOk result (λ yes. IsTrue yes ↔ ToldAdmits self.old (item.Entry e)) }
         ensures with { IfOk result (λ yes.
             IsTrue yes → self.new ≡ told_with self.old (item.Entry e)) }

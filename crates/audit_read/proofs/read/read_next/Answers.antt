@@ -5,7 +5,7 @@ use Rattle.audit_text.specs.Fits.{ItemFits}
 use Rattle.audit_text.specs.Lines.{line_of}
 use Rattle.audit_read.specs.Drafts.{IsRead}
 use Rattle.audit_read.specs.declared.draft.Draft.{Draft}
-use Rattle.audit_read.proofs.read.next.Goals as goal
+use Rattle.audit_read.proofs.read.read_next.Goals as goal
 
 -- a line that says what does not fit is the line of nothing that fits
 not_fitting : (d : Draft) (line : List ℕ) (o : Option Item) (i : Item) (whole : Bool)
@@ -19,5 +19,5 @@ not_fitting d line o i whole only is fits not = λ x fit said admits.
 
 pub returns-then-not-item_fits : goal.returns-then-not-item_fits
 returns-then-not-item_fits c =
-    not_fitting c.args.draft c.args.line.now c.in_ok-item.field-0 c.in-Some.item c.item_fits.result
+    not_fitting c.args.draft.now c.args.line.now c.in_ok-item.field-0 c.in-Some.item c.item_fits.result
     c.in_ok-item.ensures.only c.in-Some.is c.item_fits.ensures c.if-not-item_fits.true

@@ -1,6 +1,6 @@
 use Rattle.std.proofs.Common.{◌+◌, ◌≤◌, length}
-use Rattle.audit_read.proofs.Fronts.{Reached}
-use Rattle.audit_read.proofs.read.read_kept.Given as goal
+use Rattle.audit_read.specs.Reached.{Reached}
+use Rattle.audit_read.proofs.read.read_lines.Given as goal
 
 -- the lines so far are read, and each has a line feed
 abbrev pub invariant-loop-first : goal.invariant-loop-first
