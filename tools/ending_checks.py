@@ -28,6 +28,7 @@ WRONG = (  # words that a tool does not take
     "deaths x", "cuts --jobs 0", "cuts --program /nowhere", "cuts --reference /nowhere", "cuts --cub 8",
     "cuts --cub x", "cuts --beats 0", "cuts x", "returns --jobs 0", "returns --reference /nowhere", "returns --cub 8",
     "returns --beats 0", "returns x",
+    "audit-mutations 1 0", "audit-mutations 1", "audit-mutations 1 1 --drawn x", "audit-mutations 1 1 --texts /nowhere",
     "bench --rounds 0", "bench --workers 0", "bench nothing", "bench --beside /nowhere", "hostile 1 0", "hostile",
     "hostile --costs --tiger /nowhere", "hostile 1 1 --program /nowhere", "refuse-allocations --last 0",
     "refuse-allocations --workers 0", "refuse-rules --only nothing-of-this-name", "refuse-rules --libraries /nowhere",

@@ -1,5 +1,5 @@
-"""Checks of tools/picture, tools/explain, tools/draw, tools/cuts and tools/returns for tools/check-program, and of the
-line by which the launcher offers tools/explain."""
+"""Checks of tools/picture, tools/explain, tools/draw, tools/cuts, tools/returns and tools/audit-mutations for
+tools/check-program, and of the line by which the launcher offers tools/explain."""
 import json
 import os
 import pty
@@ -358,8 +358,29 @@ def returns(tiger, folder):
     yield "returns that are wrong of one death", "" if good else f"status {tried.status}, '{tried.out.decode()}'"
 
 
+def changed_runs(tiger, folder):
+    """A few changes of kept runs are answered as the definitions say, though too few for a pass; and a program that is wrong of
+    one clause is found."""
+    wrong = os.path.join(folder, "wrong-of-a-clause")
+    with open(wrong, "w", encoding="utf-8") as file:
+        file.write(f"#!/bin/sh\nexec 3>&1\n{{ {shlex.quote(tiger)} \"$@\" 2>&1 >&3; echo $? >status; }} | "
+                   "sed 's/clause 8/clause 9/' >&2\nexit $(cat status)\n")
+    os.chmod(wrong, 0o755)
+    words = ["1", "2", "--drawn", "0"]
+    tried = tool("audit-mutations", ["--program", tiger, *words], folder)
+    seldom = rb"(?:audit-mutations: clause \d+ was the first false one fewer than 20 times\n)+"
+    good = tried.status == 1 and re.fullmatch(rb"[^\n]+\n" + seldom + rb"audit-mutations: \d+ passed, 0 failed\n", tried.out)
+    yield "a few changed runs", "" if good else f"status {tried.status}, '{tried.out.decode()}'"
+    tried = tool("audit-mutations", ["--program", wrong, *words], folder)
+    told = re.findall(rb"audit-mutations: .*: clause 9 for clause 8; kept as (.*)\n", tried.out)
+    kept = all(content(path.decode()).endswith(b"\nend\n") for path in told)
+    good = tried.status == 1 and told and kept and tried.out.endswith(b" passed, %d failed\n" % len(told))
+    yield "a program that is wrong of a clause", "" if good else f"status {tried.status}, '{tried.out.decode()}'"
+
+
 def all_of_them(tiger, folder):
     """Each check's name, and what it found; nothing if all is well. The folder has the examples and their files."""
+    yield from changed_runs(tiger, folder)
     yield from kept_pictures()
     yield from drawn_pictures(tiger, folder)
     yield from told_pictures(folder)
