@@ -1,3 +1,4 @@
 pub mod Filters
 pub mod Finding
 pub mod Fresh
+pub mod Noted

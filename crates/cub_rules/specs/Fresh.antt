@@ -1,10 +1,11 @@
 -- Parts that a cub has stored, beside the ends of their visits' play times and when they leave, and which of them are
 -- not forgotten.
 use Rattle.std.specs.Prelude.{◌≡◌, ℕ, ◌+◌, ◌≤◌, Bool, true, ◌==◌, ◌&&◌, List, Option, nat_le, nat_lt, filter, map, find, option_map}
-use Rattle.std.specs.List.{All}
+use Rattle.std.specs.List.{All, AllByRecursion}
 use Rattle.std.specs.List.Sorted.{IsNonDecreasingBy}
 use Rattle.tiger_base.specs.declared.tenancy.Want.{Want}
 use Rattle.tiger_base.specs.Span.{LibraryPart}
+use Rattle.instance_marks.specs.Marks.{IsNoted}
 use Rattle.slot_plan.specs.declared.params.Params.{Params}
 use Rattle.slot_plan.specs.Times.{due}
 use Rattle.mirror_pieces.specs.Pieces.{leaving}
@@ -42,6 +43,15 @@ pub record IsTimed (p : Params) (k : KeptPart) : Type 0 where
 pub record AreKept (p : Params) (timed : Bool) (ks : List KeptPart) : Type 0 where
   pub exact : timed ≡ true → All (IsTimed p) ks
   pub order : IsNonDecreasingBy (λ k. k.top) ks
+
+-- each instance that a part is of is noted
+abbrev pub ArePartsNoted : List Bool → List KeptPart → Type 0
+ArePartsNoted marks ks = AllByRecursion (λ k. IsNoted marks k.stored.want.instance) ks
+
+-- parts that are kept so, and whose instances are noted
+pub record AreKeptPartsNoted (p : Params) (timed : Bool) (marks : List Bool) (ks : List KeptPart) : Type 0 where
+  pub kept : AreKept p timed ks
+  pub noted : ArePartsNoted marks ks
 
 -- the first part that passes a test, which may look at what stands beside it
 abbrev pub first_part : (KeptPart → Bool) → List KeptPart → Option LibraryPart

@@ -6,13 +6,14 @@ ghost use Rattle.std.specs.List.Sorted.{IsNonDecreasingBy};
 ghost use Rattle.tiger_base.specs.Records.{same_want};
 ghost use Rattle.mirror_schedule.specs.Timed.{has_same_times};
 ghost use Rattle.node_kit.specs.Form.{is_place};
-ghost use Rattle.cub_rules.specs.Fresh.{end_of, leaves_at, leaves_alike, is_fresh, first_part, is_stale_here};
+ghost use Rattle.cub_rules.specs.Fresh.{ArePartsNoted, end_of, leaves_at, leaves_alike, is_fresh, first_part, is_stale_here};
 ghost use Rattle.cub_rules.specs.Messages.{is_piece_part};
 ghost use Rattle.cub_rules.specs.Records.{is_part_of, stored_for};
 ghost use Rattle.cub_rules.specs.State.{IsPartHere};
 ghost use Rattle.cub_rules.specs.Ticks.{is_stale};
 
 use crate::store::StoredPart;
+use instance_marks::{forget, forget_all, may_be_noted, note, note_there};
 use mirror_schedule::has_same_times;
 use slot_plan::Plan;
 use std::alloc::Global;
@@ -38,6 +39,8 @@ pub(crate) struct KeptPart<'a> {
 #[derive(Drop)]
 pub struct StoredParts<'a> {
     items: Vec<KeptPart<'a>>,
+    // Noted is each instance that a part is of: of most, none is stored, and then none is looked for to be dropped.
+    marks: Vec<bool>,
     plan: Plan,
     // The ends and the tops are those under the plan: under each that a part came under, all leave at the same times.
     timed: bool,
@@ -51,13 +54,13 @@ pub struct StoredParts<'a> {
 impl<'a> Model for StoredParts<'a> {
     ghost use Rattle.std.specs.Prelude.{List};
     ghost use Rattle.cub_rules.specs.declared.store.StoredPart.{StoredPart};
-    ghost use Rattle.cub_rules.specs.Fresh.{AreKept, fresh_parts};
+    ghost use Rattle.cub_rules.specs.Fresh.{AreKeptPartsNoted, fresh_parts};
 
     ghost Value = { List StoredPart };
 
     ghost view = { λ s. fresh_parts s.forgotten_to s.items.items };
 
-    ghost invariant = { λ s. AreKept s.plan.params s.timed s.items.items };
+    ghost invariant = { λ s. AreKeptPartsNoted s.plan.params s.timed s.marks.items s.items.items };
 }
 
 impl<'a> StoredParts<'a> {
@@ -67,6 +70,7 @@ impl<'a> StoredParts<'a> {
     {
         StoredParts {
             items: Vec::new(alloc),
+            marks: Vec::new(alloc),
             plan: *plan,
             timed: true,
             forgotten_to: 0,
@@ -96,6 +100,7 @@ impl<'a> StoredParts<'a> {
         ensures ok { OnOk result (self.new ≡ self.old ++ stored.entry ∷ []) }
         ensures err { OnErr result (self.new ≡ self.old) }
     {
+        note(&mut self.marks, stored.want.instance)?;
         let end = end_of(stored.want, plan);
         if end <= self.forgotten_to {
             sweep(&mut self.items, &mut self.forgotten_to);
@@ -119,6 +124,7 @@ impl<'a> StoredParts<'a> {
         self.forgotten_to = self.forgotten_to.max(reading);
         if self.sweep_at <= self.items.len() {
             sweep(&mut self.items, &mut self.forgotten_to);
+            note_again(&mut self.marks, &self.items);
             self.sweep_at = self.items.len() + self.items.len().max(LEAST_ADDED);
         }
     }
@@ -127,14 +133,19 @@ impl<'a> StoredParts<'a> {
     pub fn drop_instance(&mut self, instance: Instance)
         ensures { self.new ≡ filter (λ x. not (is_part_of instance x)) self.old }
     {
-        drop_instance(instance, &mut self.items);
+        if may_be_noted(&self.marks, instance) {
+            drop_instance(instance, &mut self.items);
+            forget(&mut self.marks, instance);
+        }
     }
 
     /// Drops the parts of the pieces of a visit.
     pub fn drop_pieces(&mut self, instance: Instance, visit: Visit)
         ensures { self.new ≡ filter (λ x. not (is_piece_part instance visit x)) self.old }
     {
-        drop_pieces(instance, visit, &mut self.items);
+        if may_be_noted(&self.marks, instance) {
+            drop_pieces(instance, visit, &mut self.items);
+        }
     }
 }
 
@@ -298,4 +309,15 @@ fn is_piece_part<'a>(instance: Instance, visit: Visit, x: &StoredPart<'a>) -> bo
     ensures { result ≡ is_piece_part instance visit x.now }
 {
     x.want.instance.0 == instance.0 && x.want.visit == visit && 0 < x.want.piece
+}
+
+/// Notes the instances that parts are of, and no others.
+fn note_again<'a>(marks: &mut Vec<bool>, items: &[KeptPart<'a>])
+    requires { ArePartsNoted marks.old.items items.now }
+    ensures { ArePartsNoted marks.new.items items.now }
+{
+    forget_all(marks);
+    for i in 0..items.len() {
+        note_there(marks, items[i].stored.want.instance);
+    }
 }

@@ -1,10 +1,13 @@
 //! The instances that are held, with the reading until which each is held.
-ghost use Rattle.std.specs.Prelude.{◌≡◌, ◌+◌, [], IfOk, OnOk, OnErr, length, not};
-ghost use Rattle.deschedule.specs.Holds.{IsOnce, AreFrom, is_held, with_hold, must_pass, with_pass, holds_at};
+ghost use Rattle.std.specs.Prelude.{◌≡◌, ◌+◌, ◌++◌, ◌∷◌, [], IfOk, OnOk, OnErr, length, not, true};
+ghost use Rattle.deschedule.specs.Holds.{IsOnce, is_held, with_hold, must_pass, with_pass, holds_at};
+ghost use Rattle.deschedule.specs.Order.{EndInOrder};
+ghost use Rattle.deschedule.specs.declared.held.Holding.{Holding};
 
-use crate::marks::unmark_ended;
+use crate::releases::release;
 use instance_marks::{MOST_MARKED, is_marked, make_place, set_mark};
 use std::alloc::Global;
+use std::collections::VecDeque;
 use std::marker::Model;
 use tiger_base::{Instance, Micros, NoMemory};
 
@@ -20,7 +23,10 @@ pub struct Holding {
 /// in which they came.
 #[derive(Drop)]
 pub struct Held {
-    holds: Vec<Holding>,
+    // Those that ended mostly stand in front, and their release moves no other.
+    holds: VecDeque<Holding>,
+    // None ends before the one that came before it. Then those that have ended do stand in front.
+    in_order: bool,
     // None ends before it: until then a tick goes through none.
     none_ends_before: Micros,
     // Which instances are held, and which are to be passed on, of those that have marks: the list
@@ -32,13 +38,13 @@ pub struct Held {
 impl Model for Held {
     ghost use Rattle.std.specs.Prelude.{List};
     ghost use Rattle.deschedule.specs.declared.held.Holding.{Holding};
-    ghost use Rattle.deschedule.specs.Holds.{AreHeld};
+    ghost use Rattle.deschedule.specs.Order.{AreHeldInOrder};
 
     ghost Value = { List Holding };
 
     ghost view = { λ h. h.holds.items };
 
-    ghost invariant = { λ h. AreHeld h.none_ends_before
+    ghost invariant = { λ h. AreHeldInOrder h.in_order h.none_ends_before
         h.held.items h.unpassed.items h.holds.items };
 }
 
@@ -48,7 +54,8 @@ impl Held {
         ensures { result ≡ [] }
     {
         Held {
-            holds: Vec::new(alloc),
+            holds: VecDeque::new(alloc),
+            in_order: true,
             none_ends_before: u64::MAX,
             held: Vec::new(alloc),
             unpassed: Vec::new(alloc),
@@ -67,11 +74,13 @@ impl Held {
         }
         make_place(&mut self.held, instance)?;
         make_place(&mut self.unpassed, instance)?;
-        self.holds.push(Holding {
+        let in_order = stay_in_order(self.in_order, &self.holds, until);
+        self.holds.push_back(Holding {
             instance,
             until,
             passed: false,
         })?;
+        self.in_order = in_order;
         set_mark(&mut self.held, instance, true);
         set_mark(&mut self.unpassed, instance, true);
         if until < self.none_ends_before {
@@ -124,30 +133,46 @@ impl Held {
             return 0;
         }
         let before = self.holds.len();
-        unmark_ended(&mut self.held, &self.holds, reading);
-        unmark_ended(&mut self.unpassed, &self.holds, reading);
-        release(&mut self.holds, reading);
-        self.none_ends_before = first_end(&self.holds);
+        self.none_ends_before = release(
+            &mut self.holds,
+            &mut self.held,
+            &mut self.unpassed,
+            self.in_order,
+            reading,
+        );
         (before - self.holds.len()) as u64
     }
 }
 
-fn contains(holds: &[Holding], instance: Instance) -> bool
-    ensures { result ≡ is_held holds.now instance }
+fn contains(holds: &VecDeque<Holding>, instance: Instance) -> bool
+    ensures { result ≡ is_held holds.now.items instance }
 {
     holds.iter().any(|h| h.instance.0 == instance.0)
 }
 
-fn must_pass(holds: &[Holding], instance: Instance) -> bool
-    ensures { result ≡ must_pass holds.now instance }
+fn must_pass(holds: &VecDeque<Holding>, instance: Instance) -> bool
+    ensures { result ≡ must_pass holds.now.items instance }
 {
     holds
         .iter()
         .any(|h| h.instance.0 == instance.0 && !h.passed)
 }
 
+// Whether none ends before the one before it, once one comes behind some that is held until a
+// reading.
+fn stay_in_order(in_order: bool, holds: &VecDeque<Holding>, until: Micros) -> bool
+    requires { in_order ≡ true → EndInOrder holds.now.items }
+    ensures { result ≡ true → (h : Holding) → h.until ≡ until
+        → EndInOrder (holds.now.items ++ h ∷ []) }
+{
+    match holds.back() {
+        Some(last) => in_order && last.until <= until,
+        None => true,
+    }
+}
+
 // A deschedule is mostly passed on as soon as it is held, so it stands near the end.
-fn pass_on(holds: &mut Vec<Holding>, instance: Instance)
+fn pass_on(holds: &mut VecDeque<Holding>, instance: Instance)
     requires { IsOnce holds.old.items }
     ensures { holds.new.items ≡ with_pass holds.old.items instance }
 {
@@ -158,24 +183,4 @@ fn pass_on(holds: &mut Vec<Holding>, instance: Instance)
             return;
         }
     }
-}
-
-fn release(holds: &mut Vec<Holding>, reading: Micros)
-    ensures { holds.new.items ≡ holds_at holds.old.items reading }
-{
-    holds.retain(|h| h.until > reading);
-}
-
-// A time before which none ends: the least until which one is held, or the greatest that there is
-// if none is held.
-fn first_end(holds: &[Holding]) -> Micros
-    ensures { AreFrom result holds.now }
-{
-    let mut first = u64::MAX;
-    for hold in holds {
-        if hold.until < first {
-            first = hold.until;
-        }
-    }
-    first
 }

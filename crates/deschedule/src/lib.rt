@@ -4,5 +4,6 @@
 
 mod held;
 mod marks;
+mod releases;
 
 pub use held::{Held, Holding};

@@ -103,6 +103,3 @@ removed-at (a ∷ rest) (suc i) d v o h e = cases (is_of v a) refl (removed-at r
     cases : (t : Bool) → is_of v a ≡ t → remove rest i ≡ without rest v → has_start rest v ≡ true → remove (a ∷ rest) (suc i) ≡ without (a ∷ rest) v
     cases true t ih there = let none = others_absent a rest v o.0 t in absurd (cc)
     cases false t ih there = rw t (ap (λ (xs : List Ask). a ∷ xs) ih)
-
-pub has_start-there : (asks : List Ask) (i : ℕ) (d : Ask) (v : Instance) → i < length asks → is_of v (get_or asks i d) ≡ true → true ≡ has_start asks v
-has_start-there asks i d v h e = sym (has_start-at asks i d v h e)

@@ -2,9 +2,9 @@
 use Rattle.std.proofs.Common.{◌≡◌, ◌∙◌, ℕ, ◌<◌, suc, zero, List, [], ◌∷◌, Bool, true, false, not, ◌||◌, ◌&&◌, ◌==◌, length, get_or, refl, sym, ap, subst, arith}
 use Rattle.std.specs.Prelude.{slice_set}
 use Rattle.std.proofs.Math.Bool.{or-false, and-true}
-use Rattle.std.proofs.lemmas.Bool.{eqb-true, eqb-false}
+use Rattle.std.proofs.lemmas.Bool.{both_ways, eqb-true, eqb-false, false_from_ne_true}
 use Rattle.tiger_base.specs.declared.number.Instance.{Instance}
-use Rattle.instance_marks.specs.Marks.{AreMarked, most_marked}
+use Rattle.instance_marks.specs.Marks.{AreMarked, IsNoted, most_marked}
 
 -- a mark is set, or taken away
 put-mark : (marks : List Bool) (i : ℕ) → i < length marks → get_or (slice_set marks i true) i false ≡ true
@@ -62,3 +62,41 @@ pub marked_less : (old after : List Bool) (test now : Instance → Bool) (v : In
     → ((w : Instance) → now w ≡ (test w && not (v.0 == w.0))) → AreMarked after now
 marked_less old after test now v h is less w small =
     ap (λ (marks : List Bool). get_or marks w.0 false) is ∙ dropped-mark old v.0 w.0 ∙ ap (λ b. b && not (v.0 == w.0)) (h w small) ∙ sym (less w)
+
+-- an instance whose mark is not set is no other one that is noted
+pub not_noted : (marks : List Bool) (v w : Instance) → v.0 < most_marked → get_or marks v.0 false ≡ false → IsNoted marks w → (w.0 == v.0) ≡ false
+not_noted marks v w small none noted =
+    false_from_ne_true (w.0 == v.0) (λ e.
+    let same : w.0 ≡ v.0 = eqb-true w.0 v.0 e in
+    both_ways (get_or marks v.0 false) none (subst (λ (n : ℕ). get_or marks n false ≡ true) same (noted (omega (arith, same, small)))))
+
+-- what is noted once one more is
+pub noted_one : (grown after : List Bool) (v : Instance) → (v.0 < most_marked → v.0 < length grown) → after ≡ slice_set grown v.0 true → IsNoted after v
+noted_one grown after v place is small = ap (λ (ms : List Bool). get_or ms v.0 false) is ∙ put-mark grown v.0 (place small)
+
+pub length-mark : (marks : List Bool) (i : ℕ) → length (slice_set marks i true) ≡ length marks
+length-mark [] i = refl
+length-mark (x ∷ xs) zero = refl
+length-mark (x ∷ xs) (suc i) = ap suc (length-mark xs i)
+
+-- one that is noted has a place
+pub noted_place : (marks : List Bool) (n : ℕ) → get_or marks n false ≡ true → n < length marks
+noted_place [] n e = absurd (cc)
+noted_place (x ∷ xs) zero e = omega arith
+noted_place (x ∷ xs) (suc n) e = let rest = noted_place xs n e in omega (arith, rest)
+
+noted_still : (marks : List Bool) (i n : ℕ) → get_or marks n false ≡ true → get_or (slice_set marks i true) n false ≡ true
+noted_still [] i n e = e
+noted_still (x ∷ xs) zero zero e = refl
+noted_still (x ∷ xs) zero (suc n) e = e
+noted_still (x ∷ xs) (suc i) zero e = e
+noted_still (x ∷ xs) (suc i) (suc n) e = noted_still xs i n e
+
+pub noted_more : (old grown after : List Bool) (v w : Instance) → ((n : ℕ) → get_or grown n false ≡ get_or old n false) → after ≡ slice_set grown v.0 true → IsNoted old w → IsNoted after w
+noted_more old grown after v w same is noted small =
+    ap (λ (ms : List Bool). get_or ms w.0 false) is ∙ noted_still grown v.0 w.0 (same w.0 ∙ noted small)
+
+-- and once another one's note is taken away
+pub noted_less : (old after : List Bool) (v w : Instance) → after ≡ slice_set old v.0 false → IsNoted old w → (w.0 == v.0) ≡ false → IsNoted after w
+noted_less old after v w is noted other small =
+    ap (λ (ms : List Bool). get_or ms w.0 false) is ∙ (keep-mark old v.0 w.0 false (λ e. eqb-false w.0 v.0 other (sym e)) ∙ noted small)

@@ -154,7 +154,7 @@ module _ {X : Type 0} (before : X → X → Bool) (order : IsOrder before) (tota
     left_there x vs true = sym (there x vs)
     left_there x vs false = refl
 
-    filter_put : (x : X) (xs : List X) → IsSorted before xs → filter keep (put x xs) ≡ cond (keep x) (put x (filter keep xs)) (filter keep xs)
+    pub filter_put : (x : X) (xs : List X) → IsSorted before xs → filter keep (put x xs) ≡ cond (keep x) (put x (filter keep xs)) (filter keep xs)
     filter_put x [] s = refl
     filter_put x (z ∷ zs) s = at (filter_put x zs s.1)
       where

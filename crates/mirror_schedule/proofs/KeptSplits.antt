@@ -172,7 +172,7 @@ module _ (p : Params) (instance : Instance) (items : List (Split × ℕ)) (found
   found_seen = ap (find (is_of instance)) as_put ∙ least.found
 
   module _ {Y : Type 0} (o : Option Y) (n : ℕ) (now : List (Split × ℕ)) (long : n ≡ length items) (there : IsSome o ↔ (found.1 < n)) (at : OnSome o (now ≡ remove items found.1)) where
-    taken : now ≡ remove items found.1
+    pub taken : now ≡ remove items found.1
     taken = removed_at o n found.1 items now long there is.inside at
 
     pub kept_fewer : AreKept p now

@@ -1,12 +1,15 @@
+pub mod Agendas
 pub mod Endings
 pub mod Firsts
+pub mod InRows
 pub mod Insertions
 pub mod KeptSplits
+pub mod Listings
 pub mod Members
+pub mod NotedSplits
 pub mod Numbers
 pub mod Orders
 pub mod PieceLists
-pub mod PlaceRemovals
 pub mod Places
 pub mod Ranks
 pub mod Removals

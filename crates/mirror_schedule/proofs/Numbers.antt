@@ -1,5 +1,6 @@
 -- The order of lists of numbers.
-use Rattle.std.proofs.Common.{◌≡◌, ℕ, Bool, true, false, ◌||◌, ◌&&◌, ◌==◌, nat_lt, List, [], ◌∷◌, length, refl, arith}
+use Rattle.std.proofs.Common.{◌≡◌, ℕ, Bool, true, false, ◌||◌, ◌&&◌, ◌==◌, nat_lt, List, [], ◌∷◌, length, ap, refl, ◌∙◌, arith}
+use Rattle.std.proofs.lemmas.Bool.{and_parts, eqb-true}
 use Rattle.std.proofs.lemmas.Bool.Decides.{nat_tests}
 use Rattle.mirror_schedule.specs.Sorted.{is_less, are_same}
 
@@ -58,3 +59,14 @@ is_less-neither [] (y ∷ ys) l e f = absurd (omega arith)
 is_less-neither (x ∷ xs) [] l e f = absurd (omega arith)
 is_less-neither (x ∷ xs) (y ∷ ys) l e f =
     less-neither x y (is_less xs ys) (is_less ys xs) (are_same xs ys) (is_less-neither xs ys (omega arith)) e f
+
+-- numbers that are the same are one list
+pub same_numbers : (ms ns : List ℕ) → are_same ms ns ≡ true → ms ≡ ns
+same_numbers [] [] e = refl
+same_numbers [] (n ∷ ns) e = absurd (cc)
+same_numbers (m ∷ ms) [] e = absurd (cc)
+same_numbers (m ∷ ms) (n ∷ ns) e =
+    let both = and_parts (m == n) (are_same ms ns) e in
+    let first : m ≡ n = eqb-true _ _ both.0 in
+    let rest : ms ≡ ns = same_numbers ms ns both.1 in
+    ap (λ (k : ℕ). k ∷ ms) first ∙ ap (λ (ks : List ℕ). n ∷ ks) rest

@@ -52,14 +52,6 @@ module _ {X : Type 0} (before : X → X → Bool) where
         | false ↦ sorted_filter test xs h.1
       ]
 
-  pub sorted_without_first : (test : X → Bool) (xs : List X) → IsSorted before xs → IsSorted before (without_first test xs)
-  sorted_without_first test [] h = tt
-  sorted_without_first test (x ∷ xs) h =
-      elim (test x) as (λ t. IsSorted before (cond t xs (x ∷ without_first test xs))) [
-        | true ↦ h.1
-        | false ↦ (all_without_first (λ y. before x y ≡ true) test xs h.0, sorted_without_first test xs h.1)
-      ]
-
   pub sorted_remove : (xs : List X) (i : ℕ) → IsSorted before xs → IsSorted before (remove xs i)
   sorted_remove [] zero h = tt
   sorted_remove [] (suc i) h = tt
@@ -130,6 +122,3 @@ module _ {X : Type 0} (before : X → X → Bool) where
       let new : gap_from before x 0 ys ≡ Some place = sym (e ∙ ap (λ (zs : List X). gap_from before x 0 zs) same) in
       let at : place - 0 ≡ place = omega arith in
       sym (ap (λ (n : ℕ). insert ys n x) at) ∙ sym (with_one-new x 0 place ys new).put
-
-  pub put_none : (x : X) (xs ys : List X) → None ≡ gap_from before x 0 xs → xs ≡ ys → ys ≡ with_one before x ys
-  put_none x xs ys e same = sym (with_one-there x 0 ys (sym (e ∙ ap (λ (zs : List X). gap_from before x 0 zs) same)))

@@ -73,14 +73,6 @@ module _ {X : Type 0} (test : X → Bool) where
       let at : place - 0 ≡ place = omega arith in
       (some_from 0 place xs d (sym (position_from-zero test xs) ∙ h)).found ∙ ap (λ (n : ℕ). Some (get_or xs n d)) at
 
-  pub some_left : (place : ℕ) (xs : List X) (d : X) → position test xs ≡ Some place → without_first test xs ≡ remove xs place
-  some_left place xs d h =
-      let at : place - 0 ≡ place = omega arith in
-      (some_from 0 place xs d (sym (position_from-zero test xs) ∙ h)).left ∙ ap (λ (n : ℕ). remove xs n) at
-
-  pub some_inside : (place : ℕ) (xs : List X) (d : X) → position test xs ≡ Some place → place < length xs
-  some_inside place xs d h = omega (arith, (some_from 0 place xs d (sym (position_from-zero test xs) ∙ h)).high)
-
 -- the pieces of a visit up to a number
 abbrev pub pieces_to : Tenancy → ℕ → ℕ → List PieceState
 pieces_to t visit n = map (λ k. record { tenancy = t; visit = visit; piece = k }) (range_with_len 1 n)

@@ -99,13 +99,3 @@ module _ {X : Type 0} (before : X → X → Bool) where
           gap_step order x y ys n is ∙ rest i less (omega arith) h
       cases rest false is zero e l h = rw (h, is) refl
       cases rest false is (suc i) e l h = absurd (cc)
-
-  -- what comes behind the given one is not found ahead of the place
-  pub find_from : IsOrder before → (x : X) (xs : List X) → find (before x) (drop (place_of before x xs) xs) ≡ find (before x) xs
-  find_from order x [] = refl
-  find_from order x (y ∷ ys) = cases (find_from order x ys) (before y x) refl
-    where
-      cases : find (before x) (drop (place_of before x ys) ys) ≡ find (before x) ys → (t : Bool) → before y x ≡ t
-          → find (before x) (drop (cond t (suc (place_of before x ys)) zero) (y ∷ ys)) ≡ find (before x) (y ∷ ys)
-      cases rest true is = rw (asymmetric order y x is) rest
-      cases rest false is = refl

@@ -1,12 +1,10 @@
 -- Things beside their times: what is left of them; what holds of all elements; and plans under which play times end alike.
-use Rattle.std.proofs.Common.{◌≡◌, ℕ, ◌+◌, ◌*◌, ◌/◌, ◌==◌, ◌&&◌, ◌||◌, Bool, true, false, cond, not, List, [], ◌∷◌, ◌++◌, suc, zero, take, drop, find, Option, Some, is_some, refl, ap, sym, ◌∙◌}
-use Rattle.std.specs.List.{AllByRecursion, list_any, filter, insert, remove, position, position_from}
+use Rattle.std.proofs.Common.{◌≡◌, ℕ, ◌+◌, ◌*◌, ◌/◌, ◌==◌, ◌&&◌, ◌||◌, Bool, true, false, cond, not, List, [], ◌∷◌, ◌++◌, suc, zero, take, drop, find, Some, is_some, refl, ap}
+use Rattle.std.specs.List.{AllByRecursion, list_any, filter, insert, remove}
 use Rattle.std.proofs.lemmas.Bool.{and_parts, eqb-true}
-use Rattle.std.proofs.lemmas.Iterator.Adapters.{position_from-zero}
 use Rattle.slot_plan.specs.declared.params.Params.{Params}
 use Rattle.slot_plan.specs.Times.{due, first_due}
 use Rattle.slot_plan.specs.Keys.{Key}
-use Rattle.mirror_schedule.specs.Sorted.{without_first}
 use Rattle.mirror_schedule.specs.Timed.{untimed, end_of, has_same_times}
 
 module _ {X : Type 0} where
@@ -23,14 +21,6 @@ module _ {X : Type 0} where
         | false ↦ untimed-filter test xs
       ]
 
-  pub untimed-without_first : (test : X → Bool) (xs : List (X × ℕ)) → untimed (without_first (λ x. test x.0) xs) ≡ without_first test (untimed xs)
-  untimed-without_first test [] = refl
-  untimed-without_first test (x ∷ xs) =
-      elim (test x.0) as (λ t. untimed (cond t xs (x ∷ without_first (λ x. test x.0) xs)) ≡ cond t (untimed xs) (x.0 ∷ without_first test (untimed xs))) [
-        | true ↦ refl
-        | false ↦ ap (λ ys. x.0 ∷ ys) (untimed-without_first test xs)
-      ]
-
   pub untimed-any : (test : X → Bool) (xs : List (X × ℕ)) → is_some (find (λ x. test x.0) xs) ≡ list_any test (untimed xs)
   untimed-any test [] = refl
   untimed-any test (x ∷ xs) =
@@ -38,13 +28,6 @@ module _ {X : Type 0} where
         | true ↦ refl
         | false ↦ untimed-any test xs
       ]
-
-  position_along : (test : X → Bool) (n : ℕ) (xs : List (X × ℕ)) → position_from (λ x. test x.0) n xs ≡ position_from test n (untimed xs)
-  position_along test n [] = refl
-  position_along test n (x ∷ xs) = ap (λ (o : Option ℕ). cond (test x.0) (Some n) o) (position_along test (n + 1) xs)
-
-  pub untimed-position : (test : X → Bool) (xs : List (X × ℕ)) → position (λ x. test x.0) xs ≡ position test (untimed xs)
-  untimed-position test xs = position_from-zero (λ x. test x.0) xs ∙ (position_along test 0 xs ∙ sym (position_from-zero test (untimed xs)))
 
 module _ {X : Type 0} (P : X → Type 0) where
   all_front : (i : ℕ) (xs : List X) → AllByRecursion P xs → AllByRecursion P (take i xs)

@@ -1,15 +1,15 @@
 -- Pieces beside the times at which they leave, and the pieces alone.
-use Rattle.std.proofs.Common.{◌≡◌, ℕ, ◌+◌, Bool, true, false, cond, List, [], ◌∷◌, find, filter, Option, Some, None, option_map, refl, ap, subst, sym, ◌∙◌}
-use Rattle.std.specs.List.{AllByRecursion, insert}
+use Rattle.std.proofs.Common.{◌≡◌, ℕ, ◌+◌, Bool, true, false, cond, List, [], ◌∷◌, find, filter, Option, Some, None, is_some, not, option_map, refl, ap, subst, sym, ◌∙◌}
+use Rattle.std.specs.List.{AllByRecursion}
 use Rattle.tiger_base.specs.declared.tenancy.PieceState.{PieceState}
 use Rattle.slot_plan.specs.declared.params.Params.{Params}
-use Rattle.mirror_schedule.specs.Sorted.{is_less, IsSorted, with_one, gap_from, without_first}
-use Rattle.mirror_schedule.specs.Pieces.{IsPieces, IsPieceOf, Pieces, comes_before, is_behind, leaving_of, numbers_of}
+use Rattle.mirror_schedule.specs.Sorted.{is_less, IsSorted, with_one, gap_from}
+use Rattle.mirror_schedule.specs.Pieces.{IsPieces, IsPieceOf, Pieces, comes_before, is_behind, is_in, leaving_of, numbers_of, with_piece}
 use Rattle.mirror_schedule.specs.Timed.{untimed}
 use Rattle.mirror_schedule.specs.TimedPieces.{timed, timed_rank, timed_before, timed_behind, IsTimed, AreTimed}
 use Rattle.mirror_schedule.proofs.Numbers.{is_less-irreflexive, is_less-transitive}
-use Rattle.mirror_schedule.proofs.Orders.{IsOrder, all_filter, all_with_one, all_without_first, put_at, sorted_filter, sorted_with_one, sorted_without_first}
-use Rattle.mirror_schedule.proofs.PieceLists.{seen}
+use Rattle.mirror_schedule.proofs.Orders.{IsOrder, all_filter, all_with_one, sorted_filter, sorted_with_one}
+use Rattle.mirror_schedule.proofs.PieceLists.{answer_new, answer_there, seen, seen_with}
 use Rattle.mirror_schedule.proofs.Timed.{untimed-filter}
 
 -- their times order them
@@ -49,9 +49,6 @@ module _ (p : Params) where
   -- some are left
   pub timed_filter : (test : PieceState × ℕ → Bool) (xs : List (PieceState × ℕ)) → AreTimed p xs → AreTimed p (filter test xs)
   timed_filter test xs h = record { order = sorted_filter timed_before test xs h.order; each = all_filter (IsTimed p) test xs h.each }
-
-  pub timed_without : (test : PieceState × ℕ → Bool) (xs : List (PieceState × ℕ)) → AreTimed p xs → AreTimed p (without_first test xs)
-  timed_without test xs h = record { order = sorted_without_first timed_before test xs h.order; each = all_without_first timed_before (IsTimed p) test xs h.each }
 
   -- one is put in
   pub timed_put : (x : PieceState) (xs : List (PieceState × ℕ)) → AreTimed p xs → IsPieceOf p x → AreTimed p (with_one timed_before (timed p x) xs)
@@ -124,13 +121,25 @@ seen_left p test items ys m v e =
     ap (λ (zs : List (PieceState × ℕ)). seen p (untimed zs)) e
     ∙ (ap (λ (zs : List PieceState). seen p zs) (untimed-filter test items) ∙ ap (λ (r : Pieces). seen r.params (filter test r.items)) v)
 
--- a piece that is put in at the place that was found for it
-module _ (p : Params) (x : PieceState) (time : ℕ) (is : time ≡ leaving_of p x) (items : List (PieceState × ℕ)) where
-  pub gap_told : AreTimed p items → gap_from timed_before (x, time) 0 items ≡ gap_from (comes_before p) x 0 (untimed items)
-  gap_told h = ap (λ (n : ℕ). gap_from timed_before (x, n) 0 items) is ∙ gap_seen p x 0 items h.each
+-- a piece that is put in, or there
+module _ (p : Params) (x : PieceState) (time : ℕ) (is : time ≡ leaving_of p x) (items now : List (PieceState × ℕ)) (h : AreTimed p items) (put : now ≡ with_one timed_before (x, time) items) where
+  put_timed : now ≡ with_one timed_before (timed p x) items
+  put_timed = put ∙ ap (λ (n : ℕ). with_one timed_before (x, n) items) is
 
-  pub put_timed : (place : ℕ) (ys : List (PieceState × ℕ)) → Some place ≡ gap_from timed_before (x, time) 0 items → ys ≡ insert items place (x, time) → ys ≡ with_one timed_before (timed p x) items
-  put_timed place ys gap e = e ∙ (put_at timed_before (x, time) items items place gap refl ∙ ap (λ (n : ℕ). with_one timed_before (x, n) items) is)
+  pub added_timed : IsPieceOf p x → AreTimed p now
+  added_timed own = subst (λ (ys : List (PieceState × ℕ)). AreTimed p ys) (sym put_timed) (timed_put p x items h own)
 
-  pub put_is_seen : (place : ℕ) (ys : List (PieceState × ℕ)) → AreTimed p items → Some place ≡ gap_from timed_before (x, time) 0 items → ys ≡ insert items place (x, time) → untimed ys ≡ with_one (comes_before p) x (untimed items)
-  put_is_seen place ys h gap e = ap (λ (zs : List (PieceState × ℕ)). untimed zs) (put_timed place ys gap e) ∙ put_seen p x items h.each
+  pub added_seen : (m : Pieces) → seen p (untimed items) ≡ m → seen p (untimed now) ≡ seen m.params (with_piece m.params x m.items)
+  added_seen m v = seen_with p (untimed items) (untimed now) m x v (ap (λ (zs : List (PieceState × ℕ)). untimed zs) put_timed ∙ put_seen p x items h.each)
+
+-- whether it is there is told by whether there is a place for it
+pub added_answer : (p : Params) (x : PieceState) (time : ℕ) → time ≡ leaving_of p x → (items : List (PieceState × ℕ)) (m : Pieces) → AreTimed p items → seen p (untimed items) ≡ m
+    → is_some (gap_from timed_before (x, time) 0 items) ≡ not (is_in x m.items)
+added_answer p x time is items m h v = at (gap_from (comes_before p) x 0 (untimed items)) refl
+  where
+    told : gap_from timed_before (x, time) 0 items ≡ gap_from (comes_before p) x 0 (untimed items)
+    told = ap (λ (n : ℕ). gap_from timed_before (x, n) 0 items) is ∙ gap_seen p x 0 items h.each
+
+    at : (o : Option ℕ) → gap_from (comes_before p) x 0 (untimed items) ≡ o → is_some (gap_from timed_before (x, time) 0 items) ≡ not (is_in x m.items)
+    at None e = ap is_some (told ∙ e) ∙ answer_there p (untimed items) m x v e
+    at (Some place) e = ap is_some (told ∙ e) ∙ answer_new p (untimed items) m x place v (pieces_seen p items h) e

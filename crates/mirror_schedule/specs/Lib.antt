@@ -1,5 +1,8 @@
+pub mod Agendas
 pub mod Choices
+pub mod Listings
 pub mod Pieces
+pub mod Rows
 pub mod Sorted
 pub mod Splits
 pub mod Timed

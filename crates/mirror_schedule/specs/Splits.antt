@@ -3,6 +3,7 @@ use Rattle.std.specs.Prelude.{◌≡◌, ℕ, ◌+◌, ◌^◌, ◌<◌, ◌&&�
 use Rattle.std.specs.List.{AllByRecursion}
 use Rattle.tiger_base.specs.declared.number.Instance.{Instance}
 use Rattle.tiger_base.specs.declared.number.SlotNo.{SlotNo}
+use Rattle.instance_marks.specs.Marks.{IsNoted}
 use Rattle.slot_plan.specs.declared.params.Params.{Params}
 use Rattle.slot_plan.specs.Keys.{Key, IsKey, due_of}
 use Rattle.mirror_schedule.specs.Sorted.{is_less, IsSorted, with_one, in_order}
@@ -52,6 +53,15 @@ ends_before a b = is_less (a.1 ∷ a.0.1.0 ∷ a.0.2 ∷ a.0.0.0 ∷ []) (b.1 �
 pub record AreKept (p : Params) (items : List (Split × ℕ)) : Type 0 where
   pub order : IsSorted ends_before items
   pub ends : AllByRecursion (λ x. x.1 ≡ kept_end p (key_of x.0)) items
+
+-- each instance that one of them is of is noted
+abbrev pub AreNoted : List Bool → List (Split × ℕ) → Type 0
+AreNoted marks items = AllByRecursion (λ x. IsNoted marks x.0.0) items
+
+-- split visits that are kept so, and whose instances are noted
+pub record AreKeptNoted (p : Params) (marks : List Bool) (items : List (Split × ℕ)) : Type 0 where
+  pub kept : AreKept p items
+  pub noted : AreNoted marks items
 
 -- whether a visit comes before one that was found, if one was
 abbrev pub is_sooner : Split → Option (Split × ℕ) → Bool

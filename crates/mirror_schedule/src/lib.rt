@@ -2,8 +2,12 @@
 //! split; and whether plans give visits the same times.
 #![tactic(auto)]
 
+mod agenda;
+mod listing;
 mod order;
 mod pieces;
+mod row;
+mod rows;
 mod splits;
 mod splitting;
 mod times;

@@ -1,18 +1,18 @@
 //! The pieces that a cub is to send.
-ghost use Rattle.std.specs.Prelude.{◌≡◌, ◌≤◌, [], length, nat_le, not, filter, drop, count_by, find, position, option_map, IfOk, OnOk, OnErr, IfSome};
+ghost use Rattle.std.specs.Prelude.{◌≡◌, [], not, filter, count_by, find, option_map, IfOk, OnOk, OnErr, IfSome};
 ghost use Rattle.std.specs.Option.{ForSome};
-ghost use Rattle.std.specs.List.{insert, list_any};
+ghost use Rattle.std.specs.List.{list_any};
 ghost use Rattle.tiger_base.specs.Records.{same_want, want_of_piece};
 ghost use Rattle.mirror_schedule.specs.Pieces.{IsPieceOf, IsPieces, is_same, is_in, is_behind, with_piece, is_of_visit, is_of, leaves_by};
 ghost use Rattle.mirror_schedule.specs.Choices.{covers};
-ghost use Rattle.mirror_schedule.specs.Sorted.{IsSorted, first_if, but_first_if};
-ghost use Rattle.mirror_schedule.specs.Timed.{untimed};
-ghost use Rattle.mirror_schedule.specs.TimedPieces.{timed, timed_before, timed_behind};
+ghost use Rattle.mirror_schedule.specs.Sorted.{first_if, but_first_if};
+ghost use Rattle.mirror_schedule.specs.TimedPieces.{timed};
 
-use crate::order::{TimedPiece, first_not_before, gap_for, is_behind, leaving};
+use crate::listing::Listing;
+use crate::order::{TimedPiece, leaving};
+use crate::row::Wanted;
 use slot_plan::Plan;
 use std::alloc::Global;
-use std::collections::VecDeque;
 use std::marker::Model;
 use tiger_base::{Instance, Micros, NoMemory, PieceState, Visit, Want};
 
@@ -22,8 +22,7 @@ use tiger_base::{Instance, Micros, NoMemory, PieceState, Visit, Want};
 #[derive(Drop)]
 pub struct PieceView {
     plan: Plan,
-    // The first piece leaves again and again, and its removal here moves no other.
-    items: VecDeque<TimedPiece>,
+    items: Listing,
 }
 
 impl Model for PieceView {
@@ -33,9 +32,9 @@ impl Model for PieceView {
 
     ghost Value = { Pieces };
 
-    ghost view = { λ v. record { params = v.plan.params; items = untimed v.items.items } };
+    ghost view = { λ v. record { params = v.plan.params; items = untimed v.items } };
 
-    ghost invariant = { λ v. AreTimed v.plan.params v.items.items };
+    ghost invariant = { λ v. AreTimed v.plan.params v.items };
 }
 
 impl PieceView {
@@ -45,7 +44,7 @@ impl PieceView {
     {
         PieceView {
             plan: *plan,
-            items: VecDeque::new(alloc),
+            items: Listing::new(alloc),
         }
     }
 
@@ -59,13 +58,8 @@ impl PieceView {
         ensures err { OnErr result (self.new ≡ self.old) }
     {
         let timed = (piece, leaving(&self.plan, &piece));
-        match gap_for(&self.items, &timed) {
-            Some(place) => {
-                put_in(&mut self.items, place, timed)?;
-                Ok(true)
-            }
-            None => Ok(false),
-        }
+        let new = self.items.add(timed)?;
+        Ok(new)
     }
 
     /// The next piece behind the given one, or the first if none is given; `None` exactly if there
@@ -76,7 +70,7 @@ impl PieceView {
         ensures piece { IfSome result (IsPieceOf self.now.params) }
         ensures order { IsPieces self.now.params self.now.items }
     {
-        let (piece, _) = next_behind(&self.items, timed(&self.plan, given))?;
+        let (piece, _) = self.items.next_behind(timed(&self.plan, given))?;
         Some(piece)
     }
 
@@ -89,7 +83,7 @@ impl PieceView {
         ensures piece { IfSome result (IsPieceOf self.old.params) }
         ensures order { IsPieces self.old.params self.old.items }
     {
-        let (piece, _) = take_first(&mut self.items, time)?;
+        let (piece, _) = self.items.take_first(time)?;
         Some(piece)
     }
 
@@ -97,7 +91,7 @@ impl PieceView {
     pub fn has_for(&self, want: &Want) -> bool
         ensures { result ≡ list_any (λ x. same_want want.now (want_of_piece x)) self.now.items }
     {
-        has_for(&self.items, want)
+        self.items.has_for(want)
     }
 
     /// Removes a piece; `false` exactly if it is not there.
@@ -107,10 +101,7 @@ impl PieceView {
           items = filter (λ x. not (is_same piece x)) self.old.items;
         } }
     {
-        match position_of(&self.items, piece) {
-            Some(place) => self.items.remove(place).is_some(),
-            None => false,
-        }
+        self.leave_out(&Wanted::Just(piece)) > 0
     }
 
     /// Removes the pieces of an instance's visit, and answers how many.
@@ -140,78 +131,8 @@ impl PieceView {
           items = filter (λ x. not (covers wanted.now x)) self.old.items;
         } }
     {
-        leave_out(&mut self.items, wanted)
+        self.items.leave_out(wanted)
     }
-}
-
-/// Puts a piece in at a place among some. Without memory for it nothing changes.
-fn put_in(items: &mut VecDeque<TimedPiece>, place: usize, x: TimedPiece) -> Result<(), NoMemory>
-    requires { place ≤ length items.old.items }
-    ensures ok { OnOk result (items.new.items ≡ insert items.old.items place x) }
-    ensures err { OnErr result (items.new.items ≡ items.old.items) }
-{
-    // A new piece mostly comes behind all others, and `push_back` looks for none to move.
-    if place == items.len() {
-        items.push_back(x)?;
-    } else {
-        items.insert(place, x)?;
-    }
-    Ok(())
-}
-
-/// Which pieces are to be removed.
-#[derive(Clone, Copy)]
-enum Wanted {
-    OfVisit(Instance, Visit),
-    Of(Instance),
-}
-
-impl Wanted {
-    /// Whether a piece is among them.
-    fn covers(&self, x: &PieceState) -> bool
-        ensures { result ≡ covers self.now x.now }
-    {
-        match self {
-            Wanted::OfVisit(instance, visit) => {
-                x.tenancy.instance == *instance && x.visit == *visit
-            }
-            Wanted::Of(instance) => x.tenancy.instance == *instance,
-        }
-    }
-}
-
-/// Whether a want asks for one of some pieces.
-fn has_for(items: &VecDeque<TimedPiece>, want: &Want) -> bool
-    ensures { result
-        ≡ list_any (λ x. same_want want.now (want_of_piece x)) (untimed items.now.items) }
-{
-    for i in 0..items.len() {
-        let x = items[i];
-        if asks_for(want, &x.0) {
-            return true;
-        }
-    }
-    false
-}
-
-/// Whether a want asks for a piece.
-fn asks_for(want: &Want, x: &PieceState) -> bool
-    ensures { result ≡ same_want want.now (want_of_piece x.now) }
-{
-    let t = &x.tenancy;
-    want.instance == t.instance
-        && want.slot == t.slot
-        && want.visit == x.visit
-        && want.file == t.file
-        && want.block == x.visit.saturating_sub(t.first)
-        && want.piece == x.piece
-}
-
-/// The place of a piece among some, looked for from the first on.
-fn position_of(items: &VecDeque<TimedPiece>, piece: PieceState) -> Option<usize>
-    ensures { result ≡ position (λ x. is_same piece x.0) items.now.items }
-{
-    items.iter().position(|x| piece == x.0)
 }
 
 /// The piece beside the time at which it leaves, if one is given.
@@ -223,64 +144,4 @@ fn timed(plan: &Plan, given: Option<PieceState>) -> Option<TimedPiece>
         None => None,
         Some(piece) => Some((piece, leaving(plan, &piece))),
     }
-}
-
-/// Takes out the first piece if it leaves by a time.
-fn take_first(items: &mut VecDeque<TimedPiece>, time: Micros) -> Option<TimedPiece>
-    ensures first { result ≡ first_if (λ x. nat_le x.1 time) items.old.items }
-    ensures left { items.new.items ≡ but_first_if (λ x. nat_le x.1 time) items.old.items }
-{
-    let first = items.front()?;
-    if first.1 <= time {
-        items.pop_front()
-    } else {
-        None
-    }
-}
-
-/// Removes what is wanted from some pieces, and answers how many that are.
-fn leave_out(items: &mut VecDeque<TimedPiece>, wanted: &Wanted) -> u64
-    ensures count { result ≡ count_by (λ x. covers wanted.now x.0) items.old.items }
-    ensures left { items.new.items ≡ filter (λ x. not (covers wanted.now x.0)) items.old.items }
-{
-    let mut count = 0;
-    for i in (0..items.len()).rev() {
-        if wanted.covers(&items[i].0) {
-            items.remove(i);
-            count += 1;
-        }
-    }
-    count
-}
-
-/// The first piece behind the given one, or of all if none is given, of some in their order.
-fn next_behind(items: &VecDeque<TimedPiece>, given: Option<TimedPiece>) -> Option<TimedPiece>
-    requires { IsSorted timed_before items.now.items }
-    ensures { result ≡ find (timed_behind given) items.now.items }
-{
-    match given {
-        None => first_behind(items, 0, given),
-        Some(piece) => {
-            let place = first_not_before(items, &piece);
-            first_behind(items, place, given)
-        }
-    }
-}
-
-/// The same of any pieces, seen one after another from a place on.
-fn first_behind(
-    items: &VecDeque<TimedPiece>,
-    start: usize,
-    given: Option<TimedPiece>,
-) -> Option<TimedPiece>
-    requires { start ≤ length items.now.items }
-    ensures { result ≡ find (timed_behind given) (drop start items.now.items) }
-{
-    for i in start..items.len() {
-        let x = items[i];
-        if is_behind(&given, &x) {
-            return Some(x);
-        }
-    }
-    None
 }

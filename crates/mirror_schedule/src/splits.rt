@@ -1,10 +1,11 @@
 //! The visits that a cub has split and still remembers.
 ghost use Rattle.std.specs.Prelude.{◌≡◌, ◌≤◌, [], length, nat_le, not, filter, count_by, find, option_map, OnOk, OnErr};
 ghost use Rattle.std.specs.List.{AllByRecursion};
-ghost use Rattle.mirror_schedule.specs.Splits.{IsSplitOf, IsSoonestOf, key_of, is_of, is_over, is_sooner, with_split, split_before, ends_before, kept_end};
+ghost use Rattle.mirror_schedule.specs.Splits.{AreNoted, IsSplitOf, IsSoonestOf, key_of, is_of, is_over, is_sooner, with_split, split_before, ends_before, kept_end};
 ghost use Rattle.mirror_schedule.specs.Sorted.{IsSorted, gap_from, place_of, without_first, first_if, but_first_if};
 
 use crate::times::has_same_times;
+use instance_marks::{forget, may_be_noted, note};
 use slot_plan::Plan;
 use std::alloc::Global;
 use std::collections::VecDeque;
@@ -25,18 +26,20 @@ pub struct Splits {
     // Beside the ends of their play times under the plan, and in the order of these ends: a new one nearly always
     // comes last, and those that are over come first, so neither moves the others.
     items: VecDeque<Ending>,
+    // Noted is each instance that one of them is of: most have none, and then none is looked for.
+    marks: Vec<bool>,
 }
 
 impl Model for Splits {
     ghost use Rattle.std.specs.Prelude.{List};
-    ghost use Rattle.mirror_schedule.specs.Splits.{Split, AreKept, by_slot};
+    ghost use Rattle.mirror_schedule.specs.Splits.{Split, AreKeptNoted, by_slot};
     ghost use Rattle.mirror_schedule.specs.Timed.{untimed};
 
     ghost Value = { List Split };
 
     ghost view = { λ s. by_slot (untimed s.items.items) };
 
-    ghost invariant = { λ s. AreKept s.plan.params s.items.items };
+    ghost invariant = { λ s. AreKeptNoted s.plan.params s.marks.items s.items.items };
 }
 
 impl Splits {
@@ -47,6 +50,7 @@ impl Splits {
         Splits {
             plan: *plan,
             items: VecDeque::new(alloc),
+            marks: Vec::new(alloc),
         }
     }
 
@@ -63,6 +67,7 @@ impl Splits {
         let ending = ((instance, slot, visit), end_of(&self.plan, slot, visit));
         match gap_for(&self.items, &ending) {
             Some(place) => {
+                note(&mut self.marks, instance)?;
                 self.items.insert(place, ending)?;
                 Ok(())
             }
@@ -76,12 +81,15 @@ impl Splits {
         ensures first { result ≡ option_map key_of (find (is_of instance) self.old) }
         ensures left { self.new ≡ without_first (is_of instance) self.old }
     {
-        match first_of(&self.items, instance) {
+        match find_first(&self.items, &self.marks, instance) {
             Some((x, place)) => {
                 self.items.remove(place);
                 Some((x.1, x.2))
             }
-            None => None,
+            None => {
+                forget(&mut self.marks, instance);
+                None
+            }
         }
     }
 
@@ -164,7 +172,24 @@ fn first_not_before(items: &VecDeque<Ending>, x: &Ending) -> usize
     low
 }
 
-/// The place of the first of an instance's visits, by slot and then visit, and the visit.
+/// The place of the first of an instance's visits, by slot and then visit, and the visit. It is
+/// looked for only if one may be there.
+fn find_first(
+    items: &VecDeque<Ending>,
+    marks: &Vec<bool>,
+    instance: Instance,
+) -> Option<(Split, usize)>
+    requires { AreNoted marks.now.items items.now.items }
+    ensures { IsSoonestOf instance items.now.items (length items.now.items) result }
+{
+    if may_be_noted(marks, instance) {
+        first_of(items, instance)
+    } else {
+        None
+    }
+}
+
+/// The same of any instance.
 fn first_of(items: &VecDeque<Ending>, instance: Instance) -> Option<(Split, usize)>
     ensures { IsSoonestOf instance items.now.items (length items.now.items) result }
 {

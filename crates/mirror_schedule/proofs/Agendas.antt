@@ -1,0 +1,109 @@
+-- The order of numbers, by which a set of them is kept, is that of the pieces.
+use Rattle.std.proofs.Common.{◌≡◌, ◌∙◌, ℕ, ◌<◌, ◌||◌, ◌&&◌, ◌==◌, nat_lt, Bool, true, false, cond, List, [], ◌∷◌, length, drop, map, find, Option, Some, None, option_map, refl, ap, sym, subst, eq-eqb, arith}
+use Rattle.std.specs.declared.cmp.Ordering.{Ordering}
+use Rattle.std.specs.declared.cmp.Ordering.TheVariants.{Less, Equal, Greater}
+use Rattle.std.specs.Prelude.{◌↔◌, IfNone, IfSome, IsSome, slice_get}
+use Rattle.std.specs.BTreeSet.{insert_key}
+use Rattle.std.specs.Ordering.{match_ordering, nat_cmp, ordering_then}
+use Rattle.std.proofs.lemmas.Bool.{eqb-true, le-ltb, lt-ltb, ltb-false, eqb-false}
+use Rattle.mirror_schedule.specs.Agendas.{rank_cmp, timed_of}
+use Rattle.mirror_schedule.specs.Sorted.{but_first_if, first_if, is_less, with_one}
+use Rattle.mirror_schedule.specs.TimedPieces.{timed_before}
+use Rattle.mirror_schedule.specs.declared.agenda.Rank.{Rank}
+
+-- what a comparison tells of which of two comes before the other
+abbrev Tells : Ordering → Bool → Bool → Type 0
+Tells Less ahead behind = ahead ≡ true
+Tells Equal ahead behind = (ahead ≡ false) × (behind ≡ false)
+Tells Greater ahead behind = (ahead ≡ false) × (behind ≡ true)
+
+-- one number further
+told_then : (m k : ℕ) (o : Ordering) (ahead behind : Bool) → Tells o ahead behind → Tells (ordering_then (nat_cmp m k) o) (nat_lt m k || (m == k && ahead)) (nat_lt k m || (k == m && behind))
+told_then m k o ahead behind h = at (nat_lt m k) (m == k) refl refl
+  where
+    at : (s t : Bool) → nat_lt m k ≡ s → (m == k) ≡ t → Tells (ordering_then (cond s Less (cond t Equal Greater)) o) (s || (t && ahead)) (nat_lt k m || (k == m && behind))
+    at true t e f = refl
+    at false true e f =
+        let same : m ≡ k = eqb-true m k f in
+        rw (le-ltb k m (omega (arith, same)), eq-eqb k m (sym same)) h
+    at false false e f =
+        let more : nat_lt k m ≡ true = lt-ltb k m (omega (arith, ltb-false m k e, eqb-false m k f)) in
+        (refl, rw more refl)
+
+then_equal : (o : Ordering) → ordering_then o Equal ≡ o
+then_equal Less = refl
+then_equal Equal = refl
+then_equal Greater = refl
+
+told_last : (m k : ℕ) → Tells (nat_cmp m k) (is_less (m ∷ []) (k ∷ [])) (is_less (k ∷ []) (m ∷ []))
+told_last m k = subst (λ (o : Ordering). Tells o (is_less (m ∷ []) (k ∷ [])) (is_less (k ∷ []) (m ∷ []))) (then_equal (nat_cmp m k)) (told_then m k Equal false false (refl, refl))
+
+told : (a b : Rank) → Tells (rank_cmp a b) (timed_before (timed_of a) (timed_of b)) (timed_before (timed_of b) (timed_of a))
+unfolding timed_before
+told a b =
+    told_then a.time b.time _ _ _ (told_then a.slot b.slot _ _ _ (told_then a.visit b.visit _ _ _ (told_then a.piece b.piece _ _ _
+    (told_then a.instance b.instance _ _ _ (told_then a.file b.file _ _ _ (told_then a.first b.first _ _ _ (told_last a.last b.last)))))))
+
+-- so a number that is put in among some is a piece that is put in
+pub put_rank : (ks : List Rank) (k : Rank) → map timed_of (insert_key rank_cmp ks k) ≡ with_one timed_before (timed_of k) (map timed_of ks)
+put_rank [] k = refl
+put_rank (x ∷ xs) k = at (rank_cmp k x) (timed_before (timed_of k) (timed_of x)) (timed_before (timed_of x) (timed_of k)) (told k x) (put_rank xs k)
+  where
+    at : (o : Ordering) (ahead behind : Bool) → Tells o ahead behind → map timed_of (insert_key rank_cmp xs k) ≡ with_one timed_before (timed_of k) (map timed_of xs)
+        → map timed_of (match_ordering o (k ∷ x ∷ xs) (x ∷ xs) (x ∷ insert_key rank_cmp xs k))
+        ≡ cond ahead (timed_of k ∷ timed_of x ∷ map timed_of xs) (cond behind (timed_of x ∷ with_one timed_before (timed_of k) (map timed_of xs)) (timed_of x ∷ map timed_of xs))
+    at Less ahead behind h rest = rw h refl
+    at Equal ahead behind h rest = rw (h.0, h.1) refl
+    at Greater ahead behind h rest = rw (h.0, h.1) (ap (λ ys. timed_of x ∷ ys) rest)
+
+-- what is found of things that come of others
+pub find_mapped : {X Y : Type 0} (f : X → Y) (test : Y → Bool) (xs : List X) → option_map f (find (λ x. test (f x)) xs) ≡ find test (map f xs)
+find_mapped f test [] = refl
+find_mapped f test (x ∷ xs) =
+    elim (test (f x)) as (λ t. option_map f (cond t (Some x) (find (λ y. test (f y)) xs)) ≡ cond t (Some (f x)) (find test (map f xs))) [
+      | true ↦ refl
+      | false ↦ find_mapped f test xs
+    ]
+
+-- the first of some numbers
+pub first_mapped : (ks : List Rank) (k : Rank) → slice_get ks 0 ≡ Some k → Some (timed_of k) ≡ first_if (λ x. true) (map timed_of ks)
+first_mapped [] k e = absurd (cc)
+first_mapped (x ∷ xs) k e = let same : x ≡ k = cc in ap (λ (r : Rank). Some (timed_of r)) (sym same)
+
+pub none_mapped : (ks : List Rank) → (0 < length ks → ⊥) → None ≡ first_if (λ x. true) (map timed_of ks)
+none_mapped [] none = refl
+none_mapped (x ∷ xs) none = absurd (none (omega arith))
+
+-- and the others
+pub others_mapped : (o : Option Rank) (ks ls : List Rank) → IfSome o (λ k. ks ≡ k ∷ ls) → IfNone o (ls ≡ ks) → IsSome o ↔ (0 < length ks) → map timed_of ls ≡ drop 1 (map timed_of ks)
+others_mapped (Some k) ks ls e f there = sym (ap (λ (rs : List Rank). drop 1 (map timed_of rs)) e)
+others_mapped None [] ls e f there = ap (λ (rs : List Rank). map timed_of rs) f
+others_mapped None (x ∷ xs) ls e f there = absurd (cc (there.1 (omega arith)))
+
+-- the first of some things is taken if it passes a test
+module _ {X : Type 0} (test : X → Bool) where
+  pub record IsTaken (x : X) (xs : List X) : Type 0 where
+    pub first : Some x ≡ first_if test xs
+    pub left : drop 1 xs ≡ but_first_if test xs
+
+  pub taken_first : (x : X) (xs : List X) → Some x ≡ first_if (λ y. true) xs → test x ≡ true → IsTaken x xs
+  taken_first x [] e t = absurd (cc)
+  taken_first x (y ∷ ys) e t =
+      let same : x ≡ y = cc in
+      let own : test y ≡ true = ap test (sym same) ∙ t in
+      record { first = rw own e; left = rw own refl }
+
+  pub record IsLeft (xs : List X) : Type 0 where
+    pub first : None ≡ first_if test xs
+    pub left : xs ≡ but_first_if test xs
+
+  pub left_first : (x : X) (xs : List X) → Some x ≡ first_if (λ y. true) xs → test x ≡ false → IsLeft xs
+  left_first x [] e t = absurd (cc)
+  left_first x (y ∷ ys) e t =
+      let same : x ≡ y = cc in
+      let own : test y ≡ false = ap test (sym same) ∙ t in
+      record { first = rw own refl; left = rw own refl }
+
+  pub left_none : (xs : List X) → None ≡ first_if (λ y. true) xs → IsLeft xs
+  left_none [] e = record { first = refl; left = refl }
+  left_none (y ∷ ys) e = absurd (cc)

@@ -1,0 +1,168 @@
+//! All pieces that came to a listing, in the order in which they leave.
+ghost use Rattle.std.specs.Prelude.{◌≡◌, ◌&&◌, [], nat_le, true, drop, find, OnOk, OnErr};
+ghost use Rattle.mirror_schedule.specs.Agendas.{rank_of, timed_of};
+ghost use Rattle.mirror_schedule.specs.Listings.{piece_stands};
+ghost use Rattle.mirror_schedule.specs.Sorted.{with_one, first_if, but_first_if};
+ghost use Rattle.mirror_schedule.specs.TimedPieces.{timed_before, timed_behind};
+
+use crate::order::{TimedPiece, is_behind};
+use crate::row::Row;
+use crate::rows::is_standing;
+use std::alloc::Global;
+use std::collections::BTreeSet;
+use std::marker::Model;
+use tiger_base::{FileNo, Instance, Micros, NoMemory, PieceState, SlotNo, Tenancy, Visit};
+
+/// The numbers of a piece beside the time at which it leaves, in the order in which pieces leave.
+#[derive(Clone, Copy, Debug, PartialEq, Eq, PartialOrd, Ord)]
+pub(crate) struct Rank {
+    time: u64,
+    slot: u32,
+    visit: u64,
+    piece: u32,
+    instance: u32,
+    file: u32,
+    first: u64,
+    last: u64,
+}
+
+/// Pieces beside the times at which they leave, seen as the list of them in their order. A new one
+/// moves few others, wherever its place is: after deaths, many come that leave between others.
+#[derive(Drop)]
+pub(crate) struct Agenda {
+    ranks: BTreeSet<Rank>,
+}
+
+impl Model for Agenda {
+    ghost use Rattle.std.specs.Prelude.{ℕ, List, map};
+    ghost use Rattle.tiger_base.specs.declared.tenancy.PieceState.{PieceState};
+    ghost use Rattle.mirror_schedule.specs.Agendas.{timed_of};
+
+    ghost Value = { List (PieceState × ℕ) };
+
+    ghost view = { λ a. map timed_of a.ranks.keys };
+}
+
+impl Agenda {
+    /// No piece yet. It takes no memory.
+    pub(crate) fn new(alloc: Global) -> Agenda
+        ensures { result ≡ [] }
+    {
+        Agenda {
+            ranks: BTreeSet::new(alloc),
+        }
+    }
+
+    /// Puts a piece in, unless it is there. Without memory for it nothing changes.
+    pub(crate) fn note(&mut self, x: TimedPiece) -> Result<(), NoMemory>
+        ensures ok { OnOk result (self.new ≡ with_one timed_before x self.old) }
+        ensures err { OnErr result (self.new ≡ self.old) }
+    {
+        self.ranks.insert(rank_of(&x))?;
+        Ok(())
+    }
+
+    /// The first piece; `None` if there is none.
+    pub(crate) fn first(&self) -> Option<TimedPiece>
+        ensures { result ≡ first_if (λ x. true) self.now }
+    {
+        match self.ranks.first() {
+            Some(rank) => Some(timed_of(rank)),
+            None => None,
+        }
+    }
+
+    /// Drops the first piece, if there is one.
+    pub(crate) fn drop_first(&mut self)
+        ensures { self.new ≡ drop 1 self.old }
+    {
+        self.ranks.pop_first();
+    }
+
+    /// Takes out the first piece if it leaves by a time.
+    pub(crate) fn take_first(&mut self, time: Micros) -> Option<TimedPiece>
+        ensures first { result ≡ first_if (λ x. nat_le x.1 time) self.old }
+        ensures left { self.new ≡ but_first_if (λ x. nat_le x.1 time) self.old }
+    {
+        let first = self.first()?;
+        if first.1 <= time {
+            self.drop_first();
+            Some(first)
+        } else {
+            None
+        }
+    }
+
+    /// The first piece that stands behind the given one, or of all if none is given.
+    pub(crate) fn next_standing(
+        &self,
+        rows: &Vec<Row>,
+        given: Option<TimedPiece>,
+    ) -> Option<TimedPiece>
+        ensures { result
+            ≡ find (λ x. timed_behind given x && piece_stands rows.now.items x) self.now }
+    {
+        match next_standing(&self.ranks, rows, &given) {
+            Some(rank) => Some(timed_of(&rank)),
+            None => None,
+        }
+    }
+}
+
+/// The first of some numbers whose piece stands behind the given one, or of all if none is given.
+fn next_standing(
+    ranks: &BTreeSet<Rank>,
+    rows: &Vec<Row>,
+    given: &Option<TimedPiece>,
+) -> Option<Rank>
+    ensures { result ≡ find (λ r. timed_behind given.now (timed_of r)
+        && piece_stands rows.now.items (timed_of r)) ranks.now.keys }
+{
+    ranks.iter().find(|r| is_wanted(rows, given, r)).copied()
+}
+
+/// The numbers of a piece.
+fn rank_of(x: &TimedPiece) -> Rank
+    ensures { result ≡ rank_of x.now }
+{
+    let piece = &x.0;
+    let t = &piece.tenancy;
+    Rank {
+        time: x.1,
+        slot: t.slot.0,
+        visit: piece.visit,
+        piece: piece.piece,
+        instance: t.instance.0,
+        file: t.file.0,
+        first: t.first,
+        last: t.last,
+    }
+}
+
+/// The piece of some numbers.
+fn timed_of(rank: &Rank) -> TimedPiece
+    ensures { result ≡ timed_of rank.now }
+{
+    let tenancy = Tenancy {
+        instance: Instance(rank.instance),
+        file: FileNo(rank.file),
+        slot: SlotNo(rank.slot),
+        first: rank.first,
+        last: rank.last,
+    };
+    let piece = PieceState {
+        tenancy,
+        visit: rank.visit,
+        piece: rank.piece,
+    };
+    (piece, rank.time)
+}
+
+/// Whether the piece of some numbers stands and comes behind the given one, if one is given.
+fn is_wanted(rows: &Vec<Row>, given: &Option<TimedPiece>, rank: &Rank) -> bool
+    ensures { result ≡ (timed_behind given.now (timed_of rank.now)
+        && piece_stands rows.now.items (timed_of rank.now)) }
+{
+    let x = timed_of(rank);
+    is_behind(given, &x) && is_standing(rows, &x)
+}
