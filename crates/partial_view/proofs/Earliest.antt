@@ -7,9 +7,11 @@ use Rattle.slot_plan.specs.Keys.{Key, IsKey, due_of}
 use Rattle.partial_view.specs.declared.line.Line.{Line}
 use Rattle.partial_view.specs.declared.line.Flag.{Flag}
 use Rattle.partial_view.specs.declared.turn.Turn.{Turn}
+use Rattle.partial_view.specs.declared.spread.Span.{Span}
 use Rattle.partial_view.specs.Lines.{key_of, visit_of}
 use Rattle.partial_view.specs.Views.{Seen, IsWalk, next_behind, line_due, due_by, with_mark, with_record}
 use Rattle.partial_view.specs.Wheel.{IsTurn}
+use Rattle.partial_view.specs.Spread.{AreSpread}
 use Rattle.partial_view.specs.Work.{first_between, with_mark_of, without_of, NoneBefore}
 use Rattle.partial_view.proofs.Calls.{due-there}
 use Rattle.partial_view.proofs.Firsts.{first_same}
@@ -19,9 +21,13 @@ use Rattle.partial_view.proofs.Soonest.{found-key}
 use Rattle.partial_view.proofs.Pending.{all_with_record}
 
 -- what is known of a wheel whose lines have become others
-pub begun_by : (begin : ℕ) (turn : Turn) (s now : Seen) (lines : List Line) → now ≡ record s { lines = lines } → NoneBefore s.params begin lines → IsTurn s.params turn
-    → NoneBefore now.params begin now.lines × IsTurn now.params turn
-begun_by begin turn s now lines is h t = (subst (λ (r : Seen). NoneBefore r.params begin r.lines) (sym is) h, subst (λ (r : Seen). IsTurn r.params turn) (sym is) t)
+pub begun_by : (begin : ℕ) (turn : Turn) (spans : List Span) (s now : Seen) (lines : List Line) → now ≡ record s { lines = lines } → NoneBefore s.params begin lines → IsTurn s.params turn → AreSpread s.params spans lines
+    → NoneBefore now.params begin now.lines × IsTurn now.params turn × AreSpread now.params spans now.lines
+begun_by begin turn spans s now lines is h t spread = (
+  subst (λ (r : Seen). NoneBefore r.params begin r.lines) (sym is) h,
+  subst (λ (r : Seen). IsTurn r.params turn) (sym is) t,
+  subst (λ (r : Seen). AreSpread r.params spans r.lines) (sym is) spread,
+)
 
 before_earlier : (p : Params) (low high : ℕ) (lines : List Line) → low ≤ high → NoneBefore p high lines → NoneBefore p low lines
 before_earlier p low high lines le h = all_implies (λ x. high ≤ due_of p (key_of x)) (λ x. low ≤ due_of p (key_of x)) (λ x g. omega (arith, le, g)) lines h

@@ -7,6 +7,7 @@ pub mod Frees
 pub mod Gone
 pub mod Halving
 pub mod Laws
+pub mod Lefts
 pub mod Merged
 pub mod Order
 pub mod Pending
@@ -17,3 +18,4 @@ pub mod Rows
 pub mod Soonest
 pub mod Times
 pub mod Turns
+pub mod Within

@@ -59,7 +59,7 @@ pub between_earlier : (p : Params) (from low high : ℕ) (lines : List Line) →
 between_earlier p from low high lines e h =
     all_implies (λ x. is_unsplit x ≡ true → from ≤ due_of p (key_of x) → high ≤ due_of p (key_of x)) (λ x. is_unsplit x ≡ true → from ≤ due_of p (key_of x) → low ≤ due_of p (key_of x)) (λ x f unsplit late. omega (arith, f unsplit late)) lines h
 
-rec_marked : (flag : Flag) (x : Line) → (marked flag x).rec ≡ x.rec
+pub rec_marked : (flag : Flag) (x : Line) → (marked flag x).rec ≡ x.rec
 rec_marked Forwarded x = refl
 rec_marked Asked x = refl
 rec_marked Split x = refl
@@ -180,11 +180,6 @@ pub kept_without : (q : Params) (forwarded split asked from to since until gone 
 kept_without q forwarded split asked from to since until gone full pending unasked unsplit s now k same is later out f g h i j l =
     kept_by q forwarded split asked from to since until (record full { from = gone }) pending unasked unsplit s now (without k s.lines) same is
     (all_without _ k s.lines f) (all_without _ k s.lines g) (all_without _ k s.lines h) (all_without _ k s.lines i) (full_without q gone full k s.lines later out j) (all_without _ k s.lines l)
-
--- so what is asked before the one time is asked before the other
-pub asked_on : (p : Params) (time due : ℕ) (lines : List Line) → AllByRecursion (λ x. time ≤ due_of p (key_of x) → due ≤ due_of p (key_of x)) lines → IsAskedBefore p time lines → IsAskedBefore p due lines
-asked_on p time due [] h g = tt
-asked_on p time due (x ∷ xs) h g = (λ unasked. h.0 (g.0 unasked), asked_on p time due xs h.1 g.1)
 
 -- the first line for which something is left to do, looked for between times that serve as well
 pub first_seen : (q : Params) (s now : Seen) (test : Line → Bool) (from to time : ℕ) (o : Option Line) → s.params ≡ q → s ≡ now → first_between q test from to s.lines ≡ first_between q test 0 time s.lines

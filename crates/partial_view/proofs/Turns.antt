@@ -122,7 +122,7 @@ unfolding first_between
 first-soon p test from soon to x lines le w e = soon-all p test from soon to x lines le w e
 
 -- if none is found up to a time, the search goes on behind it
-none-passes : (test : Line → Bool) (lines : List Line) → find test lines ≡ None → AllByRecursion (λ y. test y ≡ false) lines
+pub none-passes : (test : Line → Bool) (lines : List Line) → find test lines ≡ None → AllByRecursion (λ y. test y ≡ false) lines
 none-passes test [] e = tt
 none-passes test (y ∷ ys) e = at_test (test y) refl e (none-passes test ys)
   where

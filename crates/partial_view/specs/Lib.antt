@@ -2,7 +2,9 @@ pub mod Adding
 pub mod Dues
 pub mod Free
 pub mod Lines
+pub mod Passing
 pub mod Pending
+pub mod Spread
 pub mod Views
 pub mod Wheel
 pub mod Work

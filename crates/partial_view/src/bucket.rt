@@ -70,6 +70,12 @@ impl Bucket {
         self.lines.dues()[row]
     }
 
+    /// When the line is due that stands behind a number of others, or the last time of all if there
+    /// is none.
+    pub(crate) fn due_or_last(&self, row: usize) -> Micros {
+        self.lines.dues().get(row).copied().unwrap_or(u64::MAX)
+    }
+
     /// Adds a record whose due time is at hand, with no flag set, if its slot and visit have none;
     /// else, and without memory for it, nothing changes.
     pub(crate) fn add(&mut self, rec: Rec, due: Micros) -> Result<Added, NoMemory>

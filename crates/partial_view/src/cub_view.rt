@@ -170,10 +170,11 @@ impl CubView {
         self.view.remove_instance(instance)
     }
 
-    /// Whether it is known that no state of a visit that is due at the limit or before it is still
-    /// to be forwarded. It is known for each limit up to the last one that was set, but if a record
-    /// is added whose next visit is due by then, only up to that visit until a limit behind it is
-    /// set; `false` says only that the lines have to be looked at.
+    /// Whether it is known that no state of a visit that is due at the limit or before it is
+    /// still to be forwarded. It is known for each limit up to the last one that was set, and
+    /// mostly up to before the visit of the next such state, but at most for a block play time;
+    /// but if a record is added whose next visit is due by then, only up to that visit until a
+    /// limit behind it is set; `false` says only that the lines have to be looked at.
     pub fn is_forwarded_to(&self, limit: Micros) -> bool
         ensures { result ≡ true → IsForwardedTo self.now.params limit self.now.lines }
     {
@@ -190,6 +191,18 @@ impl CubView {
             return;
         }
         self.forwarded_to = forwarded_past(self.forwarded_between, limit);
+        self.forwarded_on();
+    }
+
+    /// Keeps in mind that the states are forwarded up to before that of the next line which is
+    /// still to be forwarded, as far as lines are looked through for it.
+    fn forwarded_on(&mut self)
+        ensures { self.new ≡ self.old }
+    {
+        let play = self.plan.params.play;
+        let from = self.forwarded_to.saturating_add(1).saturating_sub(play);
+        let next = self.view.left_from(Work::Forward, self.near_pending, from);
+        self.forwarded_to = self.forwarded_to.max(next.saturating_add(play - 1));
     }
 
     /// Marks the first line as forwarded whose state is still to be forwarded and which is due at a
@@ -204,6 +217,10 @@ impl CubView {
     {
         // The state is of the next visit, which is due a block play time after the line's own.
         let play = self.plan.params.play;
+        if time + play <= self.forwarded_to {
+            self.view.are_in_order();
+            return None;
+        }
         let from = self.forwarded_to.saturating_add(1).saturating_sub(play);
         let end = pending_end(self.forwarded_between, time + play);
         let found = self.view.mark_first(
@@ -215,14 +232,15 @@ impl CubView {
         )?;
         self.near_pending = found.place;
         self.forwarded_to = self.forwarded_to.max(found.due + play - 1);
+        self.forwarded_on();
         Some(found.line)
     }
 
     /// Whether it is known that no visit whose block is still to be asked for is due before the
-    /// limit. It is known for each limit up to the one that was set last, and from there up to when
-    /// the next line was due, but at most to the end of the limit's block play time, unless an own
-    /// record was added since that is due before; `false` says only that the lines have to be looked
-    /// at.
+    /// limit. It is known for each limit up to the one that was set last, and mostly up to when
+    /// the next such visit was due, but at most to the end of the limit's block play time, unless
+    /// an own record was added since that is due before; `false` says only that the lines have to
+    /// be looked at.
     pub fn is_asked_before(&self, limit: Micros) -> bool
         ensures { result ≡ true → IsAskedBefore self.now.params limit self.now.lines }
     {
@@ -238,6 +256,10 @@ impl CubView {
         } }
         ensures walk { IsWalk self.old.params self.old.lines }
     {
+        if time < self.asked_before {
+            self.view.are_in_order();
+            return None;
+        }
         let found = self.view.mark_first(
             Work::Ask,
             self.near_unasked,
@@ -247,6 +269,7 @@ impl CubView {
         )?;
         self.near_unasked = found.place;
         self.asked_before = found.due;
+        self.asked_on();
         Some(found.line)
     }
 
@@ -259,7 +282,17 @@ impl CubView {
         if limit <= self.asked_before {
             return;
         }
-        self.asked_before = self.view.due_from(self.near_unasked, limit);
+        self.asked_before = limit;
+        self.asked_on();
+    }
+
+    /// Keeps in mind that the blocks of all visits are asked for that are due before the next one
+    /// whose block is still to be asked for, as far as lines are looked through for it.
+    fn asked_on(&mut self)
+        ensures { self.new ≡ self.old }
+    {
+        let from = self.asked_before;
+        self.asked_before = self.view.left_from(Work::Ask, self.near_unasked, from);
     }
 
     /// Whether it is known that no visit of a backup record that is due at the limit or later is

@@ -9,6 +9,7 @@ mod full_disks;
 mod line;
 mod row;
 mod search;
+mod spread;
 mod timed;
 mod turn;
 mod view;

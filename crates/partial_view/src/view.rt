@@ -9,9 +9,11 @@ ghost use Rattle.partial_view.specs.Lines.{key_of, visit_of, instance_of, is_of}
 ghost use Rattle.partial_view.specs.Views.{Seen, IsWalk, line_at, first_of, next_behind, line_due, with_mark, without, without_instance, with_record};
 ghost use Rattle.partial_view.specs.Adding.{answer_to};
 ghost use Rattle.partial_view.specs.Wheel.{bucket_lines, IsTurn, IsTurnOf};
-ghost use Rattle.partial_view.specs.Work.{is_left, first_between, with_mark_of, without_of, NoneBetween};
+ghost use Rattle.partial_view.specs.Passing.{NonePasses};
+ghost use Rattle.partial_view.specs.Work.{is_left, first_between, with_mark_of, without_of};
 
 use crate::line::{Flag, Line, Work};
+use crate::spread::Spread;
 use crate::turn::{Found, Place};
 use crate::wheel::Wheel;
 use slot_plan::Plan;
@@ -38,9 +40,13 @@ pub struct View {
     begin: Micros,
     // Before the lines of the turn of that time.
     front: Place,
+    // A cub's lines of one instance stand in two buckets, side by side, and what looks for them
+    // looks into no others.
+    spread: Spread,
 }
 
 impl Model for View {
+    ghost use Rattle.partial_view.specs.Spread.{AreSpread};
     ghost use Rattle.partial_view.specs.Views.{Seen};
     ghost use Rattle.partial_view.specs.Wheel.{IsTurn};
     ghost use Rattle.partial_view.specs.Work.{NoneBefore};
@@ -50,7 +56,8 @@ impl Model for View {
     ghost view = { λ v. v.wheel };
 
     ghost invariant = { λ v. NoneBefore v.wheel.params v.begin v.wheel.lines
-        × IsTurn v.wheel.params v.front.turn };
+        × IsTurn v.wheel.params v.front.turn
+        × AreSpread v.wheel.params v.spread.spans.items v.wheel.lines };
 }
 
 impl View {
@@ -62,6 +69,7 @@ impl View {
             wheel: Wheel::new(alloc, plan),
             begin: u64::MAX,
             front: Place::start(plan, 0),
+            spread: Spread::new(alloc),
         }
     }
 
@@ -98,7 +106,10 @@ impl View {
         }) }
         ensures err { OnErr result (self.new ≡ self.old) }
     {
+        self.spread.make_place(rec.tenancy.instance)?;
         let added = self.wheel.add(rec, due)?;
+        self.spread
+            .widen(rec.tenancy.instance, self.wheel.bucket_at(due));
         if due < self.begin {
             self.begin = due;
             self.front = self.wheel.start(due);
@@ -130,7 +141,8 @@ impl View {
     pub fn first_of(&self, instance: Instance) -> Option<Rec>
         ensures { result ≡ option_map (λ x. x.rec) (first_of instance self.now.lines) }
     {
-        Some(self.wheel.first_of(instance)?.rec)
+        let span = self.spread.span(instance);
+        Some(self.wheel.first_of(instance, span)?.rec)
     }
 
     /// The next line behind a slot and visit, or the first if none is given; `None` exactly if
@@ -145,13 +157,20 @@ impl View {
         self.wheel.after(key)
     }
 
-    /// A time before which no line is due that is due at a given one or later. The line is looked
-    /// for at a place first, and any place serves.
-    pub(crate) fn due_from(&self, near: Place, time: Micros) -> Micros
+    /// A time before which no line is due for which some work is left to do and which is due at a
+    /// given time or later. The line is looked for at a place first, and any place serves.
+    pub(crate) fn left_from(&self, work: Work, near: Place, from: Micros) -> Micros
         requires { IsTurn self.now.params near.turn }
-        ensures { NoneBetween self.now.params time result self.now.lines }
+        ensures { NonePasses self.now.params (is_left work) from result self.now.lines }
     {
-        self.wheel.due_in_turn(near, time)
+        self.wheel.left_in_turn(work, near, from)
+    }
+
+    /// The lines stand in their order, with one line for each visit.
+    pub(crate) fn are_in_order(&self)
+        ensures { IsWalk self.now.params self.now.lines }
+    {
+        self.wheel.are_in_order();
     }
 
     /// The first record that is due at a reading; `None` exactly if none is.

@@ -1,22 +1,30 @@
 //! A wheel of buckets, one for each cub, which the block play times fill in turn: a search looks
 //! into as few of them as it can.
-ghost use Rattle.std.specs.Prelude.{◌≡◌, ◌==◌, ◌+◌, ◌^◌, ◌≤◌, ◌<◌, [], None, Some, IfOk, OnOk, OnErr, IfSome, option_map, is_some, count_by, length, min, slice_get};
+ghost use Rattle.std.specs.Prelude.{◌≡◌, ◌==◌, ◌+◌, ◌^◌, ◌≤◌, ◌<◌, [], true, None, Some, IfOk, OnOk, OnErr, IfSome, option_map, is_some, count_by, length, min, slice_get};
+ghost use Rattle.std.specs.List.{AllByRecursion};
 ghost use Rattle.std.specs.Option.{ForSome};
 ghost use Rattle.slot_plan.specs.Keys.{IsKey, due_of};
 ghost use Rattle.partial_view.specs.Adding.{answer_to};
 ghost use Rattle.partial_view.specs.Lines.{key_of, visit_of, is_of};
+ghost use Rattle.partial_view.specs.Passing.{NonePasses};
+ghost use Rattle.partial_view.specs.Spread.{IsInSpan, AreInSpan};
 ghost use Rattle.partial_view.specs.Views.{Seen, IsWalk, line_at, first_of, next_behind, with_mark, without, without_instance, with_record};
-ghost use Rattle.partial_view.specs.Wheel.{bucket_lines, all_lines, IsTurn, IsTurnOf, IsWheel, IsThere, sooner};
+ghost use Rattle.partial_view.specs.Wheel.{bucket_at, bucket_lines, all_lines, IsTurn, IsTurnOf, IsWheel, IsThere, sooner};
 ghost use Rattle.partial_view.specs.Work.{is_left, first_between, with_mark_of, without_of, NoneBetween};
 
 use crate::bucket::Bucket;
 use crate::line::{Flag, Line, Work};
+use crate::spread::{Span, is_in};
 use crate::turn::{Found, Place, Turn};
 use crate::view::Added;
 use slot_plan::Plan;
 use std::alloc::Global;
 use std::marker::Model;
 use tiger_base::{Instance, Micros, NoMemory, Rec, SlotNo, Visit};
+
+/// How many lines are looked through for the next one for which some work is left to do. While a
+/// cub's predecessor is dead, its own lines come in one by one before many for which all is done.
+const FEW: usize = 16;
 
 /// Lines of a plan's visits, by slot and visit, walked by due time, then slot, then visit.
 #[derive(Drop)]
@@ -88,6 +96,13 @@ impl Wheel {
         }
     }
 
+    /// The bucket of what is due at a time.
+    pub(crate) fn bucket_at(&self, time: Micros) -> usize
+        ensures { result ≡ bucket_at self.now.params time }
+    {
+        self.recent.at(&self.plan, time).bucket
+    }
+
     /// The lines stand in their order, with one line for each visit.
     pub(crate) fn are_in_order(&self)
         ensures { IsWalk self.now.params self.now.lines }
@@ -123,11 +138,13 @@ impl Wheel {
         Some(bucket.line_at(row))
     }
 
-    /// The first line of an instance; `None` exactly if it has none.
-    pub(crate) fn first_of(&self, instance: Instance) -> Option<Line>
+    /// The first line of an instance; `None` exactly if it has none. Only the buckets of a span are
+    /// looked into, if one is given.
+    pub(crate) fn first_of(&self, instance: Instance, span: Option<Span>) -> Option<Line>
+        requires { AreInSpan self.now.params instance span self.now.lines }
         ensures { result ≡ first_of instance self.now.lines }
     {
-        first_of(&self.plan, self.buckets.as_slice(), instance)
+        first_of(&self.plan, self.buckets.as_slice(), instance, span)
     }
 
     /// The next line behind a slot and visit, or the first if none is given; `None` exactly if
@@ -152,6 +169,35 @@ impl Wheel {
         match self.buckets.get(turn.bucket) {
             Some(bucket) => bucket.next_due(near.row, time).min(end),
             None => end,
+        }
+    }
+
+    /// A time before which no line is due for which some work is left to do and which is due at a
+    /// given time or later: when the first of these lines is due, but at most the end of the
+    /// given time's turn, and only some lines are looked through for it. It is looked for at a
+    /// place first, and any place serves.
+    pub(crate) fn left_in_turn(&self, work: Work, near: Place, from: Micros) -> Micros
+        requires { IsTurn self.now.params near.turn }
+        ensures { NonePasses self.now.params (is_left work) from result self.now.lines }
+    {
+        let turn = near.turn.at(&self.plan, from);
+        let place = Place {
+            turn,
+            row: near.row,
+        };
+        let end = self.due_behind(place).max(from).min(turn.last);
+        match first_in_turn(&self.plan, self.buckets.as_slice(), work, place, from, end) {
+            Some(found) => found.due,
+            None => end.saturating_add(1),
+        }
+    }
+
+    /// When the line is due that stands so many lines behind a place as are looked through, or the
+    /// last time of all if there is none.
+    fn due_behind(&self, place: Place) -> Micros {
+        match self.buckets.get(place.turn.bucket) {
+            Some(bucket) => bucket.due_or_last(place.row.saturating_add(FEW)),
+            None => u64::MAX,
         }
     }
 
@@ -373,16 +419,31 @@ fn soonest_behind(plan: &Plan, buckets: &[Bucket], key: Option<(SlotNo, Visit)>)
     best
 }
 
-/// The first line of an instance: the soonest one of all buckets.
-fn first_of(plan: &Plan, buckets: &[Bucket], instance: Instance) -> Option<Line>
+/// The first line of an instance: the soonest one of the buckets of a span, or of all if none is
+/// given.
+fn first_of(plan: &Plan, buckets: &[Bucket], instance: Instance, span: Option<Span>) -> Option<Line>
     requires wheel { IsWheel plan.now.params buckets.now }
+    requires span { let p = plan.now.params in
+        AreInSpan p instance span (all_lines p buckets.now) }
     ensures { result ≡ first_of instance (all_lines plan.now.params buckets.now) }
 {
     let mut best = None;
     for i in (0..buckets.len()).rev() {
-        best = sooner(plan, buckets[i].first_of(instance), best);
+        best = sooner(plan, first_in(&buckets[i], i, instance, span), best);
     }
     best
+}
+
+/// The first line of an instance in a bucket, which is looked into only if its number is in a span.
+fn first_in(bucket: &Bucket, i: usize, instance: Instance, span: Option<Span>) -> Option<Line>
+    requires { AllByRecursion (λ x. is_of instance x ≡ true → IsInSpan span i) bucket.now.lines }
+    ensures { result ≡ first_of instance bucket.now.lines }
+{
+    if is_in(span, i) {
+        bucket.first_of(instance)
+    } else {
+        None
+    }
 }
 
 /// The one of two lines that comes first, if both are there.

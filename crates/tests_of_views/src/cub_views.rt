@@ -90,7 +90,8 @@ fn limit_stands_until_an_earlier_state_comes(rt: HostRuntime) -> Result<(), Fail
     let calls = [
         Call::SetForwarded(2000000),
         done(4600000),
-        done(4600001),
+        done(4999999),
+        done(5000000),
         add(Kind::Own, 3),
         done(4499999),
         done(4500000),
@@ -98,7 +99,8 @@ fn limit_stands_until_an_earlier_state_comes(rt: HostRuntime) -> Result<(), Fail
     assert_told(
         &rt,
         answers_after(rt.alloc(), 4600000, 0, &calls),
-        "4600000 forwarded split; 4600001 split; New; 4499999 forwarded split; 4500000 split; ",
+        "4600000 forwarded split; 4999999 forwarded split; 5000000 split; \
+         New; 4499999 forwarded split; 4500000 split; ",
     )
 }
 
@@ -176,9 +178,29 @@ fn answers_of_backups(
 
 #[test]
 fn blocks_are_asked_for_before_the_next_line(rt: HostRuntime) -> Result<(), Fail> {
-    let calls = [done(1500000), done(1500001)];
+    let calls = [
+        Call::Add(Kind::Own, 0, 0, 1),
+        Call::Add(Kind::Own, 0, 1, 1),
+        Call::AskFor(1000000),
+        done(1500000),
+        done(1500001),
+    ];
+    assert_told(
+        &rt,
+        answers_after(rt.alloc(), 0, 0, &calls),
+        "New; New; visit 1; 1500000 asked split; 1500001 split; ",
+    )
+}
+
+#[test]
+fn lines_with_no_block_to_ask_for_are_passed_over(rt: HostRuntime) -> Result<(), Fail> {
+    let calls = [done(1500000), done(2000000), done(2000001)];
     let text = answers_of_backups(rt.alloc(), 1000001, &calls);
-    assert_told(&rt, text, "1500000 asked; 1500001 split; ")
+    assert_told(
+        &rt,
+        text,
+        "1500000 asked; 2000000 asked split; 2000001 split; ",
+    )
 }
 
 #[test]
@@ -200,14 +222,14 @@ fn states_are_forwarded_in_order(rt: HostRuntime) -> Result<(), Fail> {
         Call::Forward(3499999),
         Call::Forward(9500000),
         Call::Forward(9500000),
-        done(4499999),
-        done(4500000),
+        done(4999999),
+        done(5000000),
     ];
     assert_told(
         &rt,
         answers_after(rt.alloc(), 0, 0, &calls),
         "New; New; New; New; none; visit 1; none; visit 3; none; \
-         4499999 forwarded split; 4500000 split; ",
+         4999999 forwarded split; 5000000 split; ",
     )
 }
 

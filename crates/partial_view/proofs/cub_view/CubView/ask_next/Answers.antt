@@ -8,7 +8,13 @@ use Rattle.partial_view.specs.Views.{IsWalk}
 use Rattle.partial_view.specs.Wheel.{IsTurn}
 use Rattle.partial_view.specs.Work.{first_between}
 use Rattle.partial_view.proofs.Pending.{kept_mark, first_seen, unasked_same, asked_found}
+use Rattle.partial_view.proofs.Lefts.{first_inside, passes_none}
 use Rattle.partial_view.proofs.cub_view.CubView.ask_next.Goals as goal
+
+pub returns-then-time-self-clause-first : goal.returns-then-time-self-clause-first
+returns-then-time-self-clause-first c =
+    passes_none c.self.inside.plan.params is_unasked c.self.inside.asked_before c.args.time c.self.inside.view.lines c.if-time-self.true c.self.invariant.3
+    ∙ first_inside c.self.inside.plan.params c.self.inside.view c.args.self.now is_unasked c.args.time c.self.invariant.0 c.self.view_is
 
 pub returns-in_err-found-clause-first : goal.returns-in_err-found-clause-first
 returns-in_err-found-clause-first c =

@@ -1,4 +1,4 @@
-use Rattle.std.proofs.Common.{◌≡◌, ◌∙◌, Some, None, subst, arith}
+use Rattle.std.proofs.Common.{◌≡◌, ◌+◌, ◌∙◌, Some, None, sym, subst, arith}
 use Rattle.slot_plan.specs.declared.params.Params.{Params}
 use Rattle.slot_plan.specs.Keys.{due_of}
 use Rattle.partial_view.specs.declared.line.Flag.TheVariants.{Forwarded}
@@ -8,7 +8,17 @@ use Rattle.partial_view.specs.Views.{IsWalk}
 use Rattle.partial_view.specs.Wheel.{IsTurn}
 use Rattle.partial_view.specs.Work.{first_between}
 use Rattle.partial_view.proofs.Pending.{kept_mark, first_seen, pending_same, forwarded_found, found_fits}
+use Rattle.partial_view.proofs.Lefts.{first_inside, passes_none, pending_later}
 use Rattle.partial_view.proofs.cub_view.CubView.forward_next.Goals as goal
+
+pub returns-then-time-play-clause-first : goal.returns-then-time-play-clause-first
+returns-then-time-play-clause-first c =
+    passes_none c.self.inside.plan.params is_pending (c.args.time + 1) c.args.time c.self.inside.view.lines (omega arith)
+    (pending_later c.self.inside.plan.params c.self.inside.forwarded_to c.args.time c.self.inside.view.lines (omega (arith, c.if-time-play.true)) c.self.invariant.1)
+    ∙ first_inside c.self.inside.plan.params c.self.inside.view c.args.self.now is_pending c.args.time c.self.invariant.0 c.self.view_is
+
+pub mark_first-requires : goal.mark_first-requires
+mark_first-requires c = subst (λ (q : Params). IsTurn q c.self.inside.near_pending.turn) (sym c.self.invariant.0) c.self.invariant.7
 
 pub returns-in_err-found-clause-first : goal.returns-in_err-found-clause-first
 returns-in_err-found-clause-first c =
