@@ -16,7 +16,7 @@ use Rattle.run_facts.proofs.Links.{arriving-waiting, arriving-low, arriving-now,
 use Rattle.run_facts.proofs.Rows.{all-append, all-filter, all-weaker, rising-right}
 use Rattle.ring_links.specs.Ends.{LineId}
 use Rattle.ring_links.specs.Flights.{AllFollow, IsOrdered, AllFrom}
-use Rattle.ring_cells.specs.Flows.{Inflow, HasReceived, IsClosedTo, emptied}
+use Rattle.ring_cells.specs.Flows.{Inflow, HasReceived, emptied}
 use Rattle.ring_cells.specs.Kept.{IsInflow}
 
 module _ {M : Type 0} where
@@ -66,7 +66,7 @@ module _ {M : Type 0} (line_of : ℕ → LineId) (life : Lifetime) where
         far = omega (arith, far, rises);
       }
 
-  pub inflow-passes : (next : ℕ) (events es : List (NodeEvent M)) (i : Inflow M) → (h : IsInflow line_of life next events i) → IsClosedTo next i
+  pub inflow-passes : (next : ℕ) (events es : List (NodeEvent M)) (i : Inflow M) → (h : IsInflow line_of life next events i) → next ≤ i.closed
       → AreGot life (HasCutIn i.link.0 (events ++ es)) (filter (is_caught life) (h.gone ++ arriving next (map pass i.waiting))) (takes_along i.link.0 (events ++ es))
       → IsInflow line_of life (next + 1) (events ++ es) (emptied next i)
   inflow-passes next events es i h closed got =

@@ -1,101 +1,134 @@
--- A whole beat of a node, over its links.
-use Rattle.std.proofs.Common.{◌≡◌, ℕ, List, [], ◌∷◌, ◌++◌, map, true, false, refl, ap, sym, ◌∙◌, subst, ⊎_elim}
-use Rattle.std.proofs.lemmas.Bool.{cases_Bool}
-use Rattle.std.specs.List.{AllByRecursion}
+-- The turns of members with out-ports and of those without, and the members that are passed over.
+use Rattle.std.proofs.Common.{◌≡◌, ◌≢◌, ℕ, zero, suc, ◌+◌, ◌-◌, ◌<◌, ◌≤◌, List, [], ◌∷◌, length, Some, refl, ap, sym, ◌∙◌, subst, arith}
+use Rattle.std.specs.Prelude.{slice_get, slice_set}
+use Rattle.std.proofs.lemmas.Option.{none-some}
+use Rattle.tiger_base.specs.Limits.{most_beats}
+use Rattle.tiger_base.specs.declared.number.NodeNo.{NodeNo}
 use Rattle.tiger_base.specs.declared.number.Stamp.{Stamp}
-use Rattle.tiger_base.specs.declared.number.LinkNo.{LinkNo}
 use Rattle.tiger_base.specs.declared.message.Note.{Note}
 use Rattle.slot_plan.specs.declared.params.Params.{Params}
-use Rattle.node_kit.specs.Life.{returns}
-use Rattle.node_kit.specs.Links.{IsInLink}
+use Rattle.node_kit.specs.declared.course.Course.{Course}
+use Rattle.node_kit.specs.declared.journal.Entry.{Entry}
+use Rattle.node_kit.specs.Courses.{Setting, setting_of, stamp_by}
+use Rattle.node_kit.specs.Life.{Lifetime}
+use Rattle.node_kit.specs.Links.{Links, in_links_of}
 use Rattle.node_kit.specs.Steps.{Input, Deed}
-use Rattle.run_facts.specs.declared.mail.Letter.{Letter}
-use Rattle.run_facts.specs.Beats.{return_events, letter_events, end_events, beat_events}
-use Rattle.run_facts.specs.Events.{NodeEvent, Past, after_all, AreFair}
-use Rattle.run_facts.proofs.Along.{fair-append}
-use Rattle.run_facts.proofs.Beats.{arrived-link}
-use Rattle.run_facts.proofs.Rows.{all-append}
-use Rattle.ring_cells.specs.Flows.{Inflow, emptied, letters_from, letters_of, done, AreOpen, links_of_ins}
-use Rattle.ring_cells.specs.Stages.{Stage, happen, links_of_letters, events_of, IsSetFor, KeepsSet, HasPassed}
-use Rattle.ring_cells.proofs.Acting.{happen-append, happen-past}
+use Rattle.node_kit.proofs.Rows.{get-below}
+use Rattle.run_facts.specs.Beats.{beat_events}
+use Rattle.run_facts.specs.Rings.{Traffic, Ring}
+use Rattle.run_facts.proofs.Rows.{same-element}
+use Rattle.ring_engine.specs.Idle.{IsIdle}
+use Rattle.ring_engine.specs.Traffic.{collected}
+use Rattle.ring_engine.specs.Turns.{Scene, scene, turn, KeepsReady}
+use Rattle.ring_engine.specs.Whole.{with_node}
+use Rattle.ring_engine.proofs.Happening.{idle-turned, idle-turned-keeps}
+use Rattle.ring_engine.proofs.Idling.{with-same}
+use Rattle.ring_engine.proofs.Running.{get-set_same, get-set_other, length-set_at}
+use Rattle.ring_links.specs.Ends.{LineId}
+use Rattle.ring_cells.specs.Moves.{HaveLived}
+use Rattle.ring_cells.specs.Shares.{Entrance, Exit, IsLeaving, AreClosedTo, HasEnded}
+use Rattle.ring_cells.proofs.Ending.{ended-open}
+use Rattle.ring_cells.proofs.Pouring.{get-map, get-there}
+use Rattle.ring_cells.proofs.Working.{At, work-turn, lived-turn}
 
--- what holds of the links of a row holds of the links on which its letters came
-pub letters-lead : {M : Type 0} (P : LinkNo → Type 0) (beat : ℕ) (is : List (Inflow M)) → AllByRecursion P (links_of_ins is)
-    → AllByRecursion (λ (x : Letter M). P x.link) (letters_of beat is)
-letters-lead P beat [] h = tt
-letters-lead {M} P beat (i ∷ is) h =
-    all-append (λ (x : Letter M). P x.link) (letters_from beat i) (letters_of beat is) (arrived-link P i.link beat i.waiting h.0) (letters-lead P beat is h.1)
+no-row : {A : Type 0} (xs : List A) (q : ℕ) (x : A) → length xs ≤ q → slice_get xs q ≡ Some x → ⊥
+no-row xs q x long e = let low = get-below xs q x e in omega (arith, low, long)
 
-links-mapped : {M : Type 0} (P : LinkNo → Type 0) (ls : List (Letter M)) → AllByRecursion (λ (x : Letter M). P x.link) ls → AllByRecursion P (links_of_letters ls)
-links-mapped P [] h = tt
-links-mapped P (x ∷ xs) h = (h.0, links-mapped P xs h.1)
+module _ {M S : Type 0} (note : M → Note) (step : S → Input M → Deed M S) (stands : S → Params → ℕ → Type 0) (courses : List Course) (opened : List S) (line_of : ℕ → LineId)
+    (numbers : List NodeNo) (dials : List Setting) (links : Links) (b : ℕ) where
+  -- a turn more
+  pub record GoesOn (q q' : ℕ) (ring ring' : Ring M S) (ins : List (Entrance M)) (outs' : List (List (Exit M))) : Type 0 where
+    pub work : At note step stands courses opened line_of numbers dials links b q' ring' ins outs'
+    pub lived : (old : Ring M S) → HaveLived note step dials b q old ring → HaveLived note step dials b q' old ring'
 
-module _ {M S : Type 0} (note : M → Note) (step : S → Input M → Deed M S) (stands : S → Params → ℕ → Type 0) (stamp : Stamp) where
-  -- a return changes nothing
-  happen-back : (es : List (NodeEvent M)) (s : Stage M S)
-      → happen note step (return_events stamp s.past ++ es) s ≡ happen note step es s
-  happen-back es s = ⊎_elim
-      (λ (e : returns s.past.life stamp.beat ≡ true). rw e refl)
-      (λ (e : returns s.past.life stamp.beat ≡ false). rw e refl)
-      (cases_Bool (returns s.past.life stamp.beat))
+  module _ (q : ℕ) (ring : Ring M S) (ins : List (Entrance M)) (outs : List (List (Exit M))) (h : At note step stands courses opened line_of numbers dials links b q ring ins outs)
+      (early : b ≤ most_beats) (shut : AreClosedTo b ins)
+      (m : NodeNo) (d : Setting) (stamp : Stamp) (s s' : S) (life life' : Lifetime) (j j' : List Entry) (ts : List (Traffic M))
+      (seat : slice_get numbers q ≡ Some m) (its_dial : slice_get dials q ≡ Some d) (shown : stamp ≡ stamp_by d b)
+      (node_is : slice_get ring.nodes q ≡ Some s) (life_is : slice_get ring.lives q ≡ Some life) (journal_is : slice_get ring.journals q ≡ Some j)
+      (turned : ◌≡◌ {A = Scene M S} (scene s' life' j' ts) (turn note step stamp (in_links_of links m.0) (scene s life j ring.channels)))
+      (keeps : KeepsReady note step stands stamp.beat
+      (beat_events note step stamp (collected stamp.beat (in_links_of links m.0) ring.channels) (record { state = s; life = life; journal = j })) (scene s life j ring.channels) (scene s' life' j' ts)) where
+    -- of a member with out-ports, which has then ended at them
+    pub sender-turn : (row row' : List (Exit M)) (channels' : List (Traffic M)) → slice_get outs q ≡ Some row → HasEnded b row ts row' channels'
+        → GoesOn q (q + 1) ring (with_node ring q s' life' j' channels') ins (slice_set outs q row')
+    sender-turn row row' channels' there ended =
+        let outs' = slice_set outs q row' in
+        let its_row : (r : List (Exit M)) → slice_get outs q ≡ Some r → r ≡ row = λ r e. same-element outs q r row e there in
+        let row_leads : (r : ℕ) (o : Exit M) → slice_get row r ≡ Some o → IsLeaving h.course.plan.params numbers m o.link = λ r o e.
+        (let w = h.seated.outs_lead q r row o there e in
+        let is : w.0 ≡ m = same-element numbers q w.0 m w.1 seat in
+        subst (λ (x : NodeNo). IsLeaving h.course.plan.params numbers x o.link) is w.2) in
+        let then_row : slice_get outs q ≡ Some row → slice_get outs' q ≡ Some row' = λ e. get-set_same outs q row' row e in
+        let other_rows : (r : ℕ) → r ≢ q → slice_get outs' r ≡ slice_get outs r = λ r other. get-set_other outs q r row' other in
+        record {
+          work = work-turn note step stands courses opened line_of numbers dials links b q ring ins outs h early shut m d stamp s s' life life' j j' ts channels' seat its_dial shown node_is life_is journal_is turned keeps
+              row row' outs' its_row row_leads ended then_row other_rows (length-set_at outs q row');
+          lived = lived-turn note step stands courses opened line_of numbers dials links b q ring ins outs h early shut m d stamp s s' life life' j j' ts channels' seat its_dial shown node_is life_is journal_is turned keeps
+              row row' outs' its_row row_leads ended then_row other_rows (length-set_at outs q row');
+        }
 
-  fair-back : (p : Params) (n : ℕ) (es : List (NodeEvent M)) (past : Past S) → AreFair note step p n es past
-      → AreFair note step p n (return_events stamp past ++ es) past
-  fair-back p n es past h = ⊎_elim
-      (λ (e : returns past.life stamp.beat ≡ true). rw e (tt, h))
-      (λ (e : returns past.life stamp.beat ≡ false). rw e h)
-      (cases_Bool (returns past.life stamp.beat))
+    -- of a member without
+    pub other-turn : length outs ≤ q → GoesOn q (q + 1) ring (with_node ring q s' life' j' ts) ins outs
+    other-turn long =
+        let none : List (Exit M) = [] in
+        let its_row : (r : List (Exit M)) → slice_get outs q ≡ Some r → r ≡ none = λ r e. absurd (no-row outs q r long e) in
+        let row_leads : (r : ℕ) (o : Exit M) → slice_get none r ≡ Some o → IsLeaving h.course.plan.params numbers m o.link = λ r o e. absurd (none-some o e) in
+        let then_row : slice_get outs q ≡ Some none → slice_get outs q ≡ Some none = λ e. e in
+        let other_rows : (r : ℕ) → r ≢ q → slice_get outs r ≡ slice_get outs r = λ r other. refl in
+        record {
+          work = work-turn note step stands courses opened line_of numbers dials links b q ring ins outs h early shut m d stamp s s' life life' j j' ts ts seat its_dial shown node_is life_is journal_is turned keeps
+              none none outs its_row row_leads (ended-open b none ts) then_row other_rows refl;
+          lived = lived-turn note step stands courses opened line_of numbers dials links b q ring ins outs h early shut m d stamp s s' life life' j j' ts ts seat its_dial shown node_is life_is journal_is turned keeps
+              none none outs its_row row_leads (ended-open b none ts) then_row other_rows refl;
+        }
 
-  pub lived : (letters : List (Letter M)) (old mid new : Stage M S) → mid ≡ happen note step (letter_events note step stamp letters old.past) old
-      → new ≡ happen note step (end_events step stamp mid.past) mid → new ≡ happen note step (beat_events note step stamp letters old.past) old
-  unfolding beat_events
-  lived letters old mid new took ends =
-      let all = letter_events note step stamp letters old.past in
-      let same : mid.past ≡ after_all note step all old.past = ap (λ (q : Stage M S). q.past) took ∙ happen-past note step all old in
-      ends
-      ∙ ap (λ (q : Stage M S). happen note step (end_events step stamp mid.past) q) took
-      ∙ ap (λ (q : Past S). happen note step (end_events step stamp q) (happen note step all old)) same
-      ∙ sym (happen-append note step all (end_events step stamp (after_all note step all old.past)) old)
-      ∙ sym (happen-back (all ++ end_events step stamp (after_all note step all old.past)) old)
+  -- of an idle member without out-ports
+  idle-turn : (q : ℕ) (ring : Ring M S) (ins : List (Entrance M)) (outs : List (List (Exit M))) → At note step stands courses opened line_of numbers dials links b q ring ins outs
+      → b ≤ most_beats → AreClosedTo b ins → length outs ≤ q
+      → (m : NodeNo) (d : Setting) (s : S) (life : Lifetime) (j : List Entry) → slice_get numbers q ≡ Some m → slice_get dials q ≡ Some d
+      → slice_get ring.nodes q ≡ Some s → slice_get ring.lives q ≡ Some life → slice_get ring.journals q ≡ Some j
+      → IsIdle step (stamp_by d b) (in_links_of links m.0) s life ring.channels → GoesOn q (q + 1) ring ring ins outs
+  idle-turn q ring ins outs h early shut long m d s life j seat its_dial hs hl hj is =
+      let here : Scene M S = scene s life j ring.channels in
+      let stamp = stamp_by d b in
+      let row = in_links_of links m.0 in
+      let turned = idle-turned note step stamp row here is.none is.left is.acts_then is.unended is.rests in
+      let keeps = idle-turned-keeps note step stands stamp row here is.none is.left is.acts_then is.unended is.rests in
+      subst (λ (r : Ring M S). GoesOn q (q + 1) ring r ins outs) (with-same ring q s life j hs hl hj)
+      (other-turn q ring ins outs h early shut m d stamp s s life life j j ring.channels seat its_dial refl hs hl hj turned keeps long)
 
-  pub lived-keeps : (letters : List (Letter M)) (old mid new : Stage M S) → mid ≡ happen note step (letter_events note step stamp letters old.past) old
-      → KeepsSet note step stands stamp.beat (letter_events note step stamp letters old.past) old mid → KeepsSet note step stands stamp.beat (end_events step stamp mid.past) mid new
-      → KeepsSet note step stands stamp.beat (beat_events note step stamp letters old.past) old new
-  unfolding beat_events
-  lived-keeps letters old mid new took keeps ends p n r =
-      let all = letter_events note step stamp letters old.past in
-      let same : mid.past ≡ after_all note step all old.past = ap (λ (q : Stage M S). q.past) took ∙ happen-past note step all old in
-      let first = keeps p n r in
-      let second = ends p n first.0 in
-      let end = end_events step stamp (after_all note step all old.past) in
-      let tail : AreFair note step p n end (after_all note step all old.past) =
-      subst (λ (q : Past S). AreFair note step p n (end_events step stamp q) q) same second.1 in
-      (second.0, fair-back p n (all ++ end) old.past (fair-append note step p n all end old.past first.1 tail))
+  -- the members from a place up to another are idle
+  abbrev pub AreIdleTo : ℕ → ℕ → Ring M S → Type 0
+  AreIdleTo from to ring =
+      (k : ℕ) (n : NodeNo) (d : Setting) (s : S) (life : Lifetime) → from ≤ k → k < to → slice_get numbers k ≡ Some n
+      → slice_get dials k ≡ Some d → slice_get ring.nodes k ≡ Some s → slice_get ring.lives k ≡ Some life
+      → IsIdle step (stamp_by d b) (in_links_of links n.0) s life ring.channels
 
-  pub set-letters : (s : Stage M S) (is : List (Inflow M)) (letters : List (Letter M)) → letters ≡ letters_of stamp.beat is → IsSetFor stands stamp.beat (links_of_ins is) s
-      → IsSetFor stands stamp.beat (links_of_letters letters) s
-  set-letters s is letters e r = record {
-    params = r.params;
-    number = r.number;
-    set = r.set;
-    lead = subst (λ ls. AllByRecursion (λ (l : LinkNo). IsInLink r.params r.number l.0) (links_of_letters ls)) (sym e)
-        (links-mapped (λ (l : LinkNo). IsInLink r.params r.number l.0) (letters_of stamp.beat is) (letters-lead (λ (l : LinkNo). IsInLink r.params r.number l.0) stamp.beat is r.lead));
-  }
+  idle-turns : (more q : ℕ) (ring : Ring M S) (ins : List (Entrance M)) (outs : List (List (Exit M))) → At note step stands courses opened line_of numbers dials links b q ring ins outs
+      → b ≤ most_beats → AreClosedTo b ins → length outs ≤ q → q + more ≤ length numbers → AreIdleTo q (q + more) ring → GoesOn q (q + more) ring ring ins outs
+  idle-turns zero q ring ins outs h early shut long inside idle =
+      let e : q ≡ q + 0 = omega arith in
+      subst (λ x. GoesOn q x ring ring ins outs) e (record { work = h; lived = λ old l. l })
+  idle-turns (suc more) q ring ins outs h early shut long inside idle =
+      let nodes = h.manned.nodes in
+      let lives = h.manned.lives in
+      let journals = h.manned.journals in
+      let m = get-there numbers q (omega (arith, inside)) in
+      let s = get-there ring.nodes q (omega (arith, inside, nodes)) in
+      let life = get-there ring.lives q (omega (arith, inside, lives)) in
+      let j = get-there ring.journals q (omega (arith, inside, journals)) in
+      let k : Setting = setting_of h.course m.0.0 in
+      let d : slice_get dials q ≡ Some k = ap (λ (ds : List Setting). slice_get ds q) h.dialled ∙ get-map (λ (n : NodeNo). setting_of h.course n.0) numbers q m.0 m.1 in
+      let one = idle-turn q ring ins outs h early shut long m.0 k s.0 life.0 j.0 m.1 d s.1 life.1 j.1 (idle q m.0 k s.0 life.0 (omega arith) (omega arith) m.1 d s.1 life.1) in
+      let e : q + 1 + more ≡ q + suc more = omega arith in
+      let rest = idle-turns more (q + 1) ring ins outs one.work early shut (omega (arith, long)) (omega (arith, inside))
+      (λ k n d x life low high. idle k n d x life (omega (arith, low)) (omega (arith, high))) in
+      subst (λ x. GoesOn q x ring ring ins outs) e (record { work = rest.work; lived = λ old l. rest.lived old (one.lived old l) })
 
-  pub open-kept : (es : List (NodeEvent M)) (links : List LinkNo) (old new : Stage M S) → KeepsSet note step stands stamp.beat es old new → IsSetFor stands stamp.beat links old
-      → AreOpen stamp.beat new.outs
-  open-kept es links old new keeps r = (keeps r.params r.number r.set).0.unsent
-
-  pub passed : (letters : List (Letter M)) (old mid new : Stage M S) (ins ins' : List (Inflow M)) → letters ≡ letters_of stamp.beat ins → ins' ≡ map (emptied stamp.beat) ins
-      → mid ≡ happen note step (beat_events note step stamp letters old.past) old → KeepsSet note step stands stamp.beat (beat_events note step stamp letters old.past) old mid
-      → new.past ≡ mid.past → new.outs ≡ map (done stamp.beat) mid.outs → HasPassed note step stands stamp old new ins ins'
-  passed letters old mid new ins ins' found rest turn keeps same outs =
-      let turned : mid ≡ happen note step (events_of note step stamp ins old.past) old = turn ∙ ap (λ ls. happen note step (beat_events note step stamp ls old.past) old) found in
-      let keeping : KeepsSet note step stands stamp.beat (events_of note step stamp ins old.past) old mid =
-      subst (λ ls. KeepsSet note step stands stamp.beat (beat_events note step stamp ls old.past) old mid) found keeps in
-      record {
-        rest = rest;
-        past_is = same ∙ ap (λ (q : Stage M S). q.past) turned ∙ happen-past note step (events_of note step stamp ins old.past) old;
-        outs_are = outs ∙ ap (λ (q : Stage M S). map (done stamp.beat) q.outs) turned;
-        keeps = λ p n r. let k = keeping p n r in (subst (λ (q : Past S). stands q.state p n) (sym same) k.0.stands_here, k.1);
-      }
+  pub idle-to : (q q' : ℕ) (ring : Ring M S) (ins : List (Entrance M)) (outs : List (List (Exit M))) → At note step stands courses opened line_of numbers dials links b q ring ins outs
+      → b ≤ most_beats → AreClosedTo b ins → length outs ≤ q → q ≤ q' → q' ≤ length numbers → AreIdleTo q q' ring → GoesOn q q' ring ring ins outs
+  idle-to q q' ring ins outs h early shut long low high idle =
+      let e : q + (q' - q) ≡ q' = omega (arith, low) in
+      subst (λ x. GoesOn q x ring ring ins outs) e
+      (idle-turns (q' - q) q ring ins outs h early shut long (omega (arith, low, high)) (subst (λ x. AreIdleTo q x ring) (sym e) idle))

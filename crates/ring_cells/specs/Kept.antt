@@ -1,21 +1,18 @@
--- What a cell keeps of its node's run: that all of it is what some events of the node made.
-use Rattle.std.specs.Prelude.{◌≡◌, ℕ, ◌+◌, ◌<◌, ◌≤◌, List, [], ◌++◌, map, filter, Some, slice_get}
+-- What one end of a link shows of the events of the node that it leads to or from.
+use Rattle.std.specs.Prelude.{◌≡◌, ℕ, ◌+◌, ◌<◌, ◌≤◌, List, [], ◌++◌, map, filter}
 use Rattle.std.specs.List.{AllByRecursion}
 use Rattle.tiger_base.specs.declared.message.Note.{Note}
-use Rattle.slot_plan.specs.declared.params.Params.{Params}
 use Rattle.link_timing.specs.Clock.{new_clock}
 use Rattle.node_kit.specs.declared.course.Course.{Course}
-use Rattle.node_kit.specs.Courses.{IsCourse, stamp_in}
 use Rattle.node_kit.specs.Life.{Lifetime, lifetime_of}
-use Rattle.node_kit.specs.Links.{links_of, in_links_of, out_links_of}
 use Rattle.node_kit.specs.Steps.{Input, Deed}
-use Rattle.run_facts.specs.Accounts.{is_caught, HasCutIn, AreWhole, IsTimeline, OnLink}
+use Rattle.run_facts.specs.Accounts.{is_caught, HasCutIn, OnLink}
 use Rattle.run_facts.specs.Beats.{pass, opening_of}
-use Rattle.run_facts.specs.Events.{NodeEvent, Past, after_all, AreFair, sends_along, takes_along}
+use Rattle.run_facts.specs.Events.{NodeEvent, sends_along, takes_along}
 use Rattle.run_facts.specs.Paced.{Passage, AreGot}
 use Rattle.ring_links.specs.Ends.{LineId}
 use Rattle.ring_links.specs.Flights.{IsOrdered}
-use Rattle.ring_cells.specs.Flows.{Inflow, Outflow, links_of_ins, links_of_outs}
+use Rattle.ring_cells.specs.Flows.{Inflow, Outflow}
 
 -- An in-link of a node with this life that has come through the beats below one: what arrived in them is gone, each
 -- message that the node hears was taken in the beat of its arrival, unless the node's death came before its turn, and
@@ -40,21 +37,3 @@ pub record IsOutflow {M S : Type 0} (line_of : ℕ → LineId) (note : M → Not
   pub calm : o.clock.last_send ≤ next
   pub account : OnLink (lifetime_of c n) ⊥ c.plan.params.delay (new_clock o.link.0 c.delay c.plan.params.delay)
       (sends_along note step o.link.0 events (opening_of c n first)) [] o.clock (map pass o.flights) 0
-
--- Node n of a course, begun as the opening says, has come through the beats below one: there are events of which it,
--- its journal and its life are what they make, and its in-links and out-links what they took and sent.
-pub record Kept {M S : Type 0} (note : M → Note) (step : S → Input M → Deed M S) (stands : S → Params → ℕ → Type 0) (c : Course)
-    (opened : List S) (line_of : ℕ → LineId) (n next : ℕ) (past : Past S) (ins : List (Inflow M)) (outs : List (Outflow M)) : Type 0 where
-  pub course : IsCourse c
-  pub first : S
-  pub opens : slice_get opened n ≡ Some first
-  pub stands_here : stands past.state c.plan.params n
-  pub events : List (NodeEvent M)
-  pub here : past ≡ after_all note step events (opening_of c n first)
-  pub fair : AreFair note step c.plan.params n events (opening_of c n first)
-  pub whole : AreWhole note step events (opening_of c n first)
-  pub timeline : IsTimeline (stamp_in c n) c.plan.params n (lifetime_of c n) next events
-  pub in_row : links_of_ins ins ≡ in_links_of (links_of c.plan.params) n
-  pub out_row : links_of_outs outs ≡ out_links_of (links_of c.plan.params) n
-  pub each_in : AllByRecursion (IsInflow line_of (lifetime_of c n) next events) ins
-  pub each_out : AllByRecursion (IsOutflow line_of note step c n first next events) outs

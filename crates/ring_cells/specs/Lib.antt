@@ -1,8 +1,9 @@
 pub mod Cells
 pub mod Flows
 pub mod Kept
-pub mod Lists
+pub mod Meets
 pub mod Moves
 pub mod Opens
+pub mod Rest
 pub mod Samples
-pub mod Stages
+pub mod Shares

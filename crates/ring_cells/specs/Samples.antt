@@ -1,4 +1,4 @@
--- Small links and cells, of which the worked rows speak. Messages and states are numbers.
+-- Small links and shares, of which the worked rows speak. Messages and states are numbers.
 use Rattle.std.specs.Prelude.{ℕ, zero, suc, ◌+◌, false, List, [], ◌∷◌, None}
 use Rattle.tiger_base.specs.declared.number.LinkNo.{LinkNo}
 use Rattle.tiger_base.specs.declared.message.Note.{Note}
@@ -83,19 +83,24 @@ abbrev pub CannotGoOut : ℕ → List (NodeEvent ℕ) → ((ℕ → LineId) → 
 CannotGoOut next events o =
     (line_of : ℕ → LineId) (note : ℕ → Note) (c : Course) → IsOutflow line_of note sends_five c 0 7 next events (o line_of c) → ⊥
 
--- a cell of three beats before one of them, with one in-link, which is closed below a beat
+-- a share of three beats before one of them, with one member and one in-port, which is closed below a beat
 abbrev pub dial : Setting
 dial = record { step = 10; offset = 0 }
 
-abbrev pub cell : LineId → ℕ → ℕ → Past ℕ → Seen ℕ ℕ
-cell line next closed past = record {
+abbrev pub worked_share : LineId → ℕ → ℕ → Past ℕ → Seen ℕ ℕ
+worked_share line next closed past = record {
   number = 0;
-  dial = dial;
   beats = 3;
   next = next;
   spoilt = false;
-  past = past;
-  ins = (record { link = wire; line = line; flights = []; closed = closed; waiting = [] }) ∷ [];
+  numbers = (record { 0 = 0 }) ∷ [];
+  dials = dial ∷ [];
+  nodes = past.state ∷ [];
+  lives = past.life ∷ [];
+  journals = past.journal ∷ [];
+  links = record { cubs = 8; disks = 8; reach = 2 };
+  channels = [];
+  ins = (record { link = wire; line = line; flights = []; closed = closed }) ∷ [];
   outs = [];
 }
 
@@ -104,13 +109,13 @@ abbrev pub silent : ℕ → List (List (Letter ℕ))
 silent zero = []
 silent (suc k) = [] ∷ silent k
 
--- the answer of such a cell that does this many beats, whatever its node is
+-- the answer of such a share that does this many beats, whatever its member is
 abbrev pub Answers : Moved → ℕ → ℕ → ℕ → Type 0
 Answers m next closed k =
     (line : LineId) (note : ℕ → Note) (step : ℕ → Input ℕ → Deed ℕ ℕ) (past : Past ℕ)
-    → HasMoved note step m (cell line next closed past) (cell line (next + k) closed (after_beats_by note step dial next (silent k) past))
+    → HasMoved note step m (worked_share line next closed past) (worked_share line (next + k) closed (after_beats_by note step dial next (silent k) past))
 
 abbrev pub CannotAnswer : Moved → ℕ → ℕ → ℕ → Type 0
 CannotAnswer m next closed k =
     (line : LineId) (note : ℕ → Note) (step : ℕ → Input ℕ → Deed ℕ ℕ) (past : Past ℕ)
-    → HasMoved note step m (cell line next closed past) (cell line (next + k) closed (after_beats_by note step dial next (silent k) past)) → ⊥
+    → HasMoved note step m (worked_share line next closed past) (worked_share line (next + k) closed (after_beats_by note step dial next (silent k) past)) → ⊥

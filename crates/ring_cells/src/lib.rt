@@ -1,19 +1,18 @@
-//! What one lock holds: a node of a ring, its journal, and the ends of all its links; and how it moves as far as they
-//! let it.
+//! What one lock holds: a share of the nodes of a ring, their journals, the links among them, and the ports of those that
+//! enter or leave it; and how it moves as far as they let it.
 #![tactic(auto)]
 
-mod beats;
-mod cell;
-mod delivery;
-mod inlet;
 mod moved;
 mod named;
-mod outlet;
-mod rows;
+mod opening;
+mod ports;
+mod receiving;
+mod sending;
+mod share;
+mod turns;
 pub mod worked;
 
-pub use cell::{Cell, CellParts};
-pub use inlet::Inlet;
 pub use moved::Moved;
 pub use named::Named;
-pub use outlet::Outlet;
+pub use ports::{InPort, OutPort};
+pub use share::{Share, ShareParts};

@@ -1,8 +1,8 @@
-//! The answer of a call that moves a cell.
+//! The answer of a call that moves a share.
 
 use tiger_base::LinkNo;
 
-/// What has come of a call that moves a cell.
+/// What has come of a call that moves a share.
 #[derive(Clone, Copy, Debug, PartialEq, Eq)]
 pub enum Moved {
     /// It did this number of beats, at least one.

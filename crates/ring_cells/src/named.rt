@@ -2,8 +2,8 @@
 
 use std::marker::Brand;
 
-/// Names a run by its course, the openings of its nodes, and the line of each link. The course is in a list of one,
-/// since there is no course to be the name's without a run.
+/// Names a run by its course, the openings of its nodes, the line of each link, and the share in which each node is. The
+/// course is in a list of one, since there is no course to be the name's without a run.
 pub trait Named<T> {
     ghost use Rattle.std.specs.Prelude.{ℕ, List};
     ghost use Rattle.node_kit.specs.declared.course.Course.{Course};
@@ -14,6 +14,8 @@ pub trait Named<T> {
     ghost opening: { List T };
 
     ghost line: { ℕ → LineId };
+
+    ghost home: { ℕ → ℕ };
 }
 
 impl<T> Named<T> for Brand {
@@ -25,4 +27,6 @@ impl<T> Named<T> for Brand {
     ghost opening = { [] };
 
     ghost line = { λ l. no_line };
+
+    ghost home = { λ n. 0 };
 }

@@ -43,20 +43,20 @@ use Rattle.run_lives.proofs.Standing.{StandsAs, stands}
 use Rattle.run_lives.proofs.Wholes.{whole-append, beat-is_whole, beat-stamped}
 
 -- the events that node k has besides, where node n has its turn
-abbrev more : {M : Type 0} → ℕ → List (NodeEvent M) → ℕ → List (NodeEvent M)
+abbrev pub more : {M : Type 0} → ℕ → List (NodeEvent M) → ℕ → List (NodeEvent M)
 more n es k = cond (k == n) es []
 
-more-here : {M : Type 0} (n : ℕ) (es : List (NodeEvent M)) (k : ℕ) → k ≡ n → more n es k ≡ es
+pub more-here : {M : Type 0} (n : ℕ) (es : List (NodeEvent M)) (k : ℕ) → k ≡ n → more n es k ≡ es
 more-here n es k same = ap (λ b. cond b es []) (eq-eqb k n same)
 
 more-other : {M : Type 0} (n : ℕ) (es : List (NodeEvent M)) (k : ℕ) → k ≢ n → more n es k ≡ []
 more-other n es k other = ap (λ b. cond b es []) (ne_eqb k n other)
 
-with-more : {M : Type 0} (n : ℕ) (es old : List (NodeEvent M)) (k : ℕ) → k ≢ n → old ≡ old ++ more n es k
+pub with-more : {M : Type 0} (n : ℕ) (es old : List (NodeEvent M)) (k : ℕ) → k ≢ n → old ≡ old ++ more n es k
 with-more n es old k other = sym (append-nil old) ∙ ap (λ q. old ++ q) (sym (more-other n es k other))
 
 -- the links in a turn
-channels-turn : {M S : Type 0} (note : M → Note) (step : S → Input M → Deed M S) (stamp : Stamp) (links : List LinkNo) (past : Past S) (ts : List (Traffic M)) (l : ℕ) (t : Traffic M)
+pub channels-turn : {M S : Type 0} (note : M → Note) (step : S → Input M → Deed M S) (stamp : Stamp) (links : List LinkNo) (past : Past S) (ts : List (Traffic M)) (l : ℕ) (t : Traffic M)
     → slice_get ts l ≡ Some t
     → slice_get (turn note step stamp links (record { past = past; channels = ts })).channels l
     ≡ Some (sent_all (sends_along note step l (beat_events note step stamp (collected stamp.beat links ts) past) past) (cond (has_link l links) (after_arrivals stamp.beat t) t))
@@ -66,7 +66,7 @@ channels-turn note step stamp links past ts l t h =
     (cond (has_link l links) (after_arrivals stamp.beat t) t) (emptied-at stamp.beat l links ts t h)
 
 -- the receiver's part
-receives-own : {M S : Type 0} (note : M → Note) (step : S → Input M → Deed M S) (c : Course) (b n l : ℕ) (start : Clock) (sent : List (Dated M)) (old : List (NodeEvent M))
+pub receives-own : {M S : Type 0} (note : M → Note) (step : S → Input M → Deed M S) (c : Course) (b n l : ℕ) (start : Clock) (sent : List (Dated M)) (old : List (NodeEvent M))
     (past : Past S) (ts : List (Traffic M)) (t : Traffic M) → slice_get ts l ≡ Some t → IsCourse c → StandsAs (lifetime_of c n) past.life b
     → has_link l (in_links_of (links_of c.plan.params) n) ≡ true → IsTimeline (stamp_in c n) c.plan.params n (lifetime_of c n) b old
     → OnLink (lifetime_of c n) (HasCutIn l old) c.plan.params.delay start sent (takes_along l old) t.clock (map pass t.flights) b
@@ -121,7 +121,7 @@ receives {M} {S} note step c b n l to start sent old past ts t here course stand
     (cases_eq to n)
 
 -- the sender's part
-sends-more : {M S : Type 0} (note : M → Note) (step : S → Input M → Deed M S) (c : Course) (first : ℕ → S) (events : ℕ → List (NodeEvent M)) (n l from to : ℕ) (es : List (NodeEvent M)) (past : Past S)
+pub sends-more : {M S : Type 0} (note : M → Note) (step : S → Input M → Deed M S) (c : Course) (first : ℕ → S) (events : ℕ → List (NodeEvent M)) (n l from to : ℕ) (es : List (NodeEvent M)) (past : Past S)
     → past ≡ after_all note step (events n) (opening_of c n (first n)) → AreFair note step c.plan.params n es past → ends_of (links_of c.plan.params) l ≡ Some (from, to)
     → sends_along note step l (events from) (opening_of c from (first from)) ++ sends_along note step l es past
     ≡ sends_along note step l (events from ++ more n es from) (opening_of c from (first from))
@@ -237,7 +237,7 @@ turn-made {M} {S} note step c count first b n old st past course early below is 
           (link-turn note step c first st.events b n l from to past old.channels early course stood is (st.timeline to low_to) dated fair ends (st.links l from to low_from low_to ends));
     }
 
-same-past : {M S : Type 0} (r : Ring M S) (n : ℕ) (x y : Past S) → IsAt r n x → IsAt r n y → x ≡ y
+pub same-past : {M S : Type 0} (r : Ring M S) (n : ℕ) (x y : Past S) → IsAt r n x → IsAt r n y → x ≡ y
 same-past {M} {S} r n x y h g =
     let es : x.state ≡ y.state = same-element r.nodes n x.state y.state h.state g.state in
     let el : x.life ≡ y.life = same-element r.lives n x.life y.life h.life g.life in

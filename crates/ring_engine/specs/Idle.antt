@@ -2,6 +2,7 @@
 use Rattle.std.specs.Prelude.{◌≡◌, ℕ, ◌<◌, ◌≤◌, List, [], Some, true, false, slice_get}
 use Rattle.tiger_base.specs.declared.number.Stamp.{Stamp}
 use Rattle.tiger_base.specs.declared.number.LinkNo.{LinkNo}
+use Rattle.tiger_base.specs.declared.number.NodeNo.{NodeNo}
 use Rattle.node_kit.specs.Courses.{Setting, stamp_by}
 use Rattle.node_kit.specs.Life.{Lifetime, acts, ends_in}
 use Rattle.node_kit.specs.Links.{Links, in_links_of}
@@ -18,8 +19,9 @@ pub record IsIdle {M S : Type 0} (step : S → Input M → Deed M S) (stamp : St
   pub unended : ends_in life stamp.beat ≡ false
   pub rests : Rests step stamp s
 
--- so it is with the nodes from the one number up to but not with the other
-abbrev pub AreIdle : {M S : Type 0} → (S → Input M → Deed M S) → ℕ → ℕ → ℕ → Links → List Setting → List S → List Lifetime → List (Traffic M) → Type 0
-AreIdle {M} {S} step beat from to links dials nodes lives ts =
-    (k : ℕ) (d : Setting) (s : S) (life : Lifetime) → from ≤ k → k < to → slice_get dials k ≡ Some d → slice_get nodes k ≡ Some s → slice_get lives k ≡ Some life
-    → IsIdle step (stamp_by d beat) (in_links_of links k) s life ts
+-- so it is with the nodes from the one place up to but not with the other, each of the number at its place
+abbrev pub AreIdle : {M S : Type 0} → (S → Input M → Deed M S) → ℕ → ℕ → ℕ → Links → List NodeNo → List Setting → List S → List Lifetime → List (Traffic M) → Type 0
+AreIdle {M} {S} step beat from to links numbers dials nodes lives ts =
+    (k : ℕ) (n : NodeNo) (d : Setting) (s : S) (life : Lifetime) → from ≤ k → k < to → slice_get numbers k ≡ Some n
+    → slice_get dials k ≡ Some d → slice_get nodes k ≡ Some s → slice_get lives k ≡ Some life
+    → IsIdle step (stamp_by d beat) (in_links_of links n.0) s life ts

@@ -1,5 +1,5 @@
 //! Which nodes are idle in a beat.
-ghost use Rattle.std.specs.Prelude.{◌≡◌, ◌≤◌, [], length, true, false};
+ghost use Rattle.std.specs.Prelude.{◌≡◌, ◌<◌, ◌≤◌, [], length, true, false, Some, slice_get};
 ghost use Rattle.std.specs.Bool.{OnTrue};
 ghost use Rattle.tiger_base.specs.Limits.{most_beats};
 ghost use Rattle.node_kit.specs.Links.{in_links_of};
@@ -12,12 +12,14 @@ use crate::mail::Mail;
 use node_kit::{Dial, Life, Node};
 use tiger_base::{Beat, Message, NodeNo, Stamp};
 
-/// The first node from a number on that is not idle in a beat; their count if there is none.
+/// The place of the first node from a place on that is not idle in a beat; their count if there is
+/// none. At each place stands the node of the number at that place.
 // Most nodes are idle in most beats. In a loop that calls nothing for them, all that is looked at
 // stays in registers.
 pub fn next_busy<M: Message, T: Node<M>>(
     beat: Beat,
     from: usize,
+    numbers: &[NodeNo],
     dials: &[Dial],
     nodes: &[T],
     lives: &[Life],
@@ -25,23 +27,32 @@ pub fn next_busy<M: Message, T: Node<M>>(
 ) -> usize
     requires early { beat ≤ most_beats }
     requires from { from ≤ length nodes.now }
-    requires few { length nodes.now ≤ 1000 }
+    requires numbers { length numbers.now ≡ length nodes.now }
     requires dials { length dials.now ≡ length nodes.now }
     requires lives { length lives.now ≡ length nodes.now }
     ensures from { from ≤ result }
     ensures inside { result ≤ length nodes.now }
     ensures idle { AreIdle T.step beat from result mail.now.links
-        dials.now nodes.now lives.now mail.now.channels }
+        numbers.now dials.now nodes.now lives.now mail.now.channels }
 {
     let mut n = from;
     while n < nodes.len() {
         let stamp = dials[n].stamp(beat);
-        if !is_idle(stamp, NodeNo(n as u32), &nodes[n], &lives[n], mail) {
+        let number = number_at(numbers, n);
+        if !is_idle(stamp, number, &nodes[n], &lives[n], mail) {
             return n;
         }
         n += 1;
     }
     n
+}
+
+/// The number at a place.
+pub fn number_at(numbers: &[NodeNo], place: usize) -> NodeNo
+    requires { place < length numbers.now }
+    ensures { Some result ≡ slice_get numbers.now place }
+{
+    numbers[place]
 }
 
 /// Whether a node's beat is idle: nothing arrives at it, no death is to cut it off, and its tick would

@@ -10,13 +10,13 @@ ghost use Rattle.run_facts.specs.Paced.{ArePaced};
 ghost use Rattle.run_facts.specs.Timed.{AreTimed};
 ghost use Rattle.ring_engine.specs.Runs.{EachHasEnded};
 ghost use Rattle.ring_engine.specs.Whole.{IsWholeRun, HaveTurns};
-ghost use Rattle.ring_engine.specs.Places.{ring, IsSound, AllHaveLived};
+ghost use Rattle.ring_engine.specs.Places.{ring, IsSound, AllHaveLived, numbered};
 ghost use Rattle.node_kit.specs.Rows.{AllStand, each_below};
 
 use crate::events::live;
-use crate::idle::next_busy;
+use crate::idle::{next_busy, number_at};
 use crate::mail::Mail;
-use crate::opening::{all_dials, all_lives, new_journals};
+use crate::opening::{all_dials, all_lives, all_numbers, new_journals};
 use node_kit::{Course, Dial, Journal, Life, LinkTable, Node, Outbox, Ran};
 use std::alloc::Global;
 use tiger_base::{Beat, Message, NoMemory, NodeNo, Sequence};
@@ -49,6 +49,7 @@ pub fn run_plain<M: Message, T: Node<M>>(
     ensures whole { IfOk result (λ r.
         IsWholeRun M.note_of T.step course.now nodes.items r.nodes.items r.journals) }
 {
+    let numbers = all_numbers(alloc, links)?;
     // A node's clock is set once: to find its offset in each beat would cost a division.
     let dials = all_dials(alloc, course, links)?;
     let mut lives = all_lives(alloc, course, links)?;
@@ -60,6 +61,7 @@ pub fn run_plain<M: Message, T: Node<M>>(
         run_beat(
             course,
             beat,
+            numbers.as_slice(),
             dials.as_slice(),
             &mut nodes,
             &mut lives,
@@ -79,6 +81,7 @@ pub fn run_plain<M: Message, T: Node<M>>(
 fn run_beat<M: Message, T: Node<M>>(
     course: &Course,
     beat: Beat,
+    numbers: &[NodeNo],
     dials: &[Dial],
     nodes: &mut Vec<T>,
     lives: &mut Vec<Life>,
@@ -89,9 +92,9 @@ fn run_beat<M: Message, T: Node<M>>(
     requires course { IsCourse course.now }
     requires early { beat ≤ most_beats }
     requires outputs { outputs.old ≡ [] }
-    requires few { vec_len nodes.old ≤ 1000 }
     requires links { mail.old.links ≡ links_of course.now.plan.params }
     requires count { vec_len nodes.old ≡ viewers_of mail.old.links + 1 }
+    requires numbers { numbers.now ≡ each_below numbered (vec_len nodes.old) }
     requires dials { dials.now ≡ each_below (setting_of course.now) (vec_len nodes.old) }
     requires sound { IsSound T.stands_at course.now.plan.params (vec_len nodes.old) beat
         (ring nodes.old.items lives.old.items journals.old.items mail.old.channels) }
@@ -106,19 +109,36 @@ fn run_beat<M: Message, T: Node<M>>(
     ensures links { OnOk result (mail.new.links ≡ mail.old.links) }
     ensures outputs { OnOk result (outputs.new ≡ []) }
 {
-    let mut n = next_busy(beat, 0, dials, nodes.as_slice(), lives.as_slice(), mail);
+    let mut n = next_busy(
+        beat,
+        0,
+        numbers,
+        dials,
+        nodes.as_slice(),
+        lives.as_slice(),
+        mail,
+    );
     while n < nodes.len() {
         let stamp = dials[n].stamp(beat);
+        let number = number_at(numbers, n);
         live(
             stamp,
-            NodeNo(n as u32),
+            number,
             &mut nodes[n],
             &mut lives[n],
             &mut journals[n],
             mail,
             outputs,
         )?;
-        n = next_busy(beat, n + 1, dials, nodes.as_slice(), lives.as_slice(), mail);
+        n = next_busy(
+            beat,
+            n + 1,
+            numbers,
+            dials,
+            nodes.as_slice(),
+            lives.as_slice(),
+            mail,
+        );
     }
     Ok(())
 }

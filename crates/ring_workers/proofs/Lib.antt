@@ -1,8 +1,9 @@
+pub mod Members
 pub mod Opening
+pub mod Crossing
 pub mod Places
 pub mod Walks
 pub mod InRows
 pub mod Parting
 pub mod Closed
-pub mod Meeting
 pub mod Whole

@@ -1,5 +1,5 @@
 -- Lists that are walked through, one element after another.
-use Rattle.std.proofs.Common.{◌≡◌, ℕ, List, [], ◌∷◌, ◌++◌, length, map, Some, refl, ap, sym, ◌∙◌, subst, arith, append-nil, append_assoc}
+use Rattle.std.proofs.Common.{◌≡◌, ℕ, ◌+◌, List, [], ◌∷◌, ◌++◌, length, map, Option, Some, SomeIff, refl, ap, sym, ◌∙◌, subst, arith, append-nil, append_assoc, length-append}
 use Rattle.std.specs.Prelude.{slice_get}
 use Rattle.std.proofs.lemmas.List.{map-append}
 
@@ -31,3 +31,11 @@ mapped-on f done x ys ys' h e = e ∙ ap (λ l. l ++ f x ∷ []) h ∙ sym (map-
 -- and what each was made of
 pub made-on : {A B : Type 0} (f : A → B) (xs xs' : List A) (x : A) (done : List B) (y : B) → map f xs ≡ done → xs' ≡ xs ++ x ∷ [] → f x ≡ y → map f xs' ≡ done ++ y ∷ []
 made-on f xs xs' x done y h e same = ap (map f) e ∙ map-append f xs (x ∷ []) ∙ ap (λ l. l ++ f x ∷ []) h ∙ ap (λ z. done ++ z ∷ []) same
+
+-- a counter of those that are done goes up
+pub place-on : {A : Type 0} (o : Option ℕ) (place place' : ℕ) (P : Type 0) (done : List A) (x : A) → SomeIff o P (place + 1) → o ≡ Some place' → place ≡ length done
+    → place' ≡ length (done ++ x ∷ [])
+place-on o place place' P done x h is at =
+    let got : P × (place' ≡ place + 1) = subst (λ q. SomeIff q P (place + 1)) is h in
+    let more = got.1 in
+    let size = length-append done (x ∷ []) in omega (arith, more, at, size)

@@ -1,8 +1,11 @@
-//! The ends of all links by link number, of which some may have been taken out.
-ghost use Rattle.std.specs.Prelude.{◌≡◌, ◌⊎◌, IfOk, OnOk};
+//! The ends of the links between shares by link number, of which some may have been taken out.
+ghost use Rattle.std.specs.Prelude.{◌≡◌, ◌∷◌, [], ◌⊎◌, length, IfOk, OnOk};
 ghost use Rattle.ring_links.specs.Ends.{AreNewLinks};
 ghost use Rattle.ring_workers.specs.Ends.{HasEnd, AreLeft, AreOpened};
+ghost use Rattle.ring_workers.specs.Sharing.{goes_between};
 
+use crate::sharing::home_at;
+use node_kit::LinkTable;
 use ring_links::{InEnd, OutEnd, open_links};
 use std::alloc::Global;
 use std::sync::Wait;
@@ -14,38 +17,77 @@ pub(crate) type Outs<M> = Vec<Option<OutEnd<M>>>;
 /// The ends that receive, by link number.
 pub(crate) type Ins<M> = Vec<Option<InEnd<M>>>;
 
-/// Opens as many links.
+type Pairs<M> = Vec<(OutEnd<M>, InEnd<M>)>;
+
+/// Whether a link leads from one share to another.
+pub(crate) fn goes_between(links: &LinkTable, homes: &[u32], link: LinkNo) -> bool
+    ensures { result ≡ goes_between links.now homes.now link.0 }
+{
+    match links.ends(link) {
+        Some((from, to)) => home_at(homes, from) != home_at(homes, to),
+        None => false,
+    }
+}
+
+/// Opens the links between shares.
 pub(crate) fn open_all<M: Drop, R: Wait>(
     rt: &R,
     alloc: Global,
-    count: u32,
+    links: &LinkTable,
+    homes: &[u32],
 ) -> Result<(Outs<M>, Ins<M>), NoMemory>
     ensures { IfOk result (λ e. AreOpened e.0.items e.1.items) }
 {
-    let links = open_links(rt, alloc, count)?;
-    in_rows(alloc, links)
+    let mut count = 0u32;
+    for link in 0..links.count() {
+        if goes_between(links, homes, LinkNo(link)) {
+            count = count.saturating_add(1);
+        }
+    }
+    let opened = open_links(rt, alloc, count)?;
+    in_rows(alloc, links, homes, opened)
 }
 
 fn in_rows<M: Drop>(
     alloc: Global,
-    links: Vec<(OutEnd<M>, InEnd<M>)>,
+    links: &LinkTable,
+    homes: &[u32],
+    mut opened: Pairs<M>,
 ) -> Result<(Outs<M>, Ins<M>), NoMemory>
-    requires { AreNewLinks links.items }
+    requires { AreNewLinks opened.items }
     ensures { IfOk result (λ e. AreOpened e.0.items e.1.items) }
 {
     let mut outs = Vec::new(alloc);
     let mut ins = Vec::new(alloc);
-    for link in links {
-        let (out, into) = link;
-        outs.push(Some(out))?;
-        ins.push(Some(into))?;
+    for link in 0..links.count() {
+        let wanted = goes_between(links, homes, LinkNo(link));
+        let (out, into) = next_ends(wanted, &mut opened)?;
+        outs.push(out)?;
+        ins.push(into)?;
     }
     Ok((outs, ins))
 }
 
-/// A row with a place for an end of each of as many links, and no end in it.
+// The ends of one of some new links, if they are wanted.
+fn next_ends<M: Drop>(
+    wanted: bool,
+    opened: &mut Pairs<M>,
+) -> Result<(Option<OutEnd<M>>, Option<InEnd<M>>), NoMemory>
+    requires { AreNewLinks opened.old.items }
+    ensures ends { IfOk result (λ e. AreOpened (e.0 ∷ []) (e.1 ∷ [])) }
+    ensures left { OnOk result (AreNewLinks opened.new.items) }
+{
+    if !wanted {
+        return Ok((None, None));
+    }
+    let (out, into) = opened.pop().ok_or(NoMemory)?;
+    Ok((Some(out), Some(into)))
+}
+
+/// A row with a place for each of as many things, and nothing in it.
 pub(crate) fn no_ends<E: Drop>(alloc: Global, count: u32) -> Result<Vec<Option<E>>, NoMemory>
-    ensures { IfOk result (λ r. (l : _) (e : _) → HasEnd r.items l e → ⊥) }
+    ensures none { IfOk result (λ r. (l : _) (e : _) → HasEnd r.items l e → ⊥) }
+    ensures size { IfOk result (λ r. length r.items ≡ count) }
 {
     let mut ends = Vec::new(alloc);
     for _link in 0..count {
@@ -54,25 +96,22 @@ pub(crate) fn no_ends<E: Drop>(alloc: Global, count: u32) -> Result<Vec<Option<E
     Ok(ends)
 }
 
-/// Takes out the end of a link. `NoMemory` if it is not there.
-pub(crate) fn take_end<E: Drop>(ends: &mut Vec<Option<E>>, link: LinkNo) -> Result<E, NoMemory>
-    ensures took { IfOk result (HasEnd ends.old.items link.0) }
+/// Takes out what stands at a place. `NoMemory` if nothing does.
+pub(crate) fn take_at<E: Drop>(ends: &mut Vec<Option<E>>, place: u32) -> Result<E, NoMemory>
+    ensures took { IfOk result (HasEnd ends.old.items place) }
     ensures left { OnOk result (AreLeft ends.old.items ends.new.items) }
 {
-    let place = ends.get_mut(link.0 as usize).ok_or(NoMemory)?;
-    place.take().ok_or(NoMemory)
+    let at = ends.get_mut(place as usize).ok_or(NoMemory)?;
+    at.take().ok_or(NoMemory)
 }
 
-/// Puts in the end of a link. `NoMemory` if there is no place for it.
-pub(crate) fn put_end<E: Drop>(
-    ends: &mut Vec<Option<E>>,
-    link: LinkNo,
-    end: E,
-) -> Result<(), NoMemory>
-    ensures { OnOk result ((l : _) (e : _) → HasEnd ends.new.items l e
-        → (HasEnd ends.old.items l e ⊎ ((link.0 ≡ l) × (e ≡ end)))) }
+/// Puts something in at a place. `NoMemory` if there is no such place.
+pub(crate) fn put_at<E: Drop>(ends: &mut Vec<Option<E>>, place: u32, end: E) -> Result<(), NoMemory>
+    ensures put { OnOk result ((l : _) (e : _) → HasEnd ends.new.items l e
+        → (HasEnd ends.old.items l e ⊎ ((place ≡ l) × (e ≡ end)))) }
+    ensures size { OnOk result (length ends.new.items ≡ length ends.old.items) }
 {
-    let place = ends.get_mut(link.0 as usize).ok_or(NoMemory)?;
-    *place = Some(end);
+    let at = ends.get_mut(place as usize).ok_or(NoMemory)?;
+    *at = Some(end);
     Ok(())
 }

@@ -7,6 +7,7 @@ mod ends;
 mod making;
 mod rows;
 mod run;
+mod sharing;
 mod working;
 
 pub use run::run_workers;

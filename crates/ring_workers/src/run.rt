@@ -10,12 +10,14 @@ ghost use Rattle.run_facts.specs.Paced.{ArePaced};
 ghost use Rattle.run_facts.specs.Timed.{AreTimed};
 ghost use Rattle.ring_workers.specs.Ends.{AreNamed};
 ghost use Rattle.ring_workers.specs.Runs.{IsRunOf};
+ghost use Rattle.ring_workers.specs.Sharing.{home_by};
 
 use crate::closing::{Sorted, close_all, sort};
 use crate::ending::{apart, finish};
 use crate::ends::{Ins, Outs, open_all};
-use crate::making::{Locks, make_cells};
-use crate::working::{order_of_visits, share_begin, work};
+use crate::making::{Locks, make_shares};
+use crate::sharing::{homes_of, share_count};
+use crate::working::{first_of, work};
 use node_kit::{Course, LinkTable, Node, Ran};
 use ring_cells::Named;
 use std::alloc::Global;
@@ -52,17 +54,33 @@ pub fn run_workers<M: Message + Send, T: Node<M> + Send, R: Threads + Wait + Syn
     ensures timed { IfOk result (λ r.
         AreTimed course.now.plan.params course.now.beats (lifetime_of course.now) r.journals) }
 {
-    let (outs, ins) = open_all(rt, alloc, links.count())?;
-    run_named::<M, T, Brand, R>(rt, alloc, nodes, links, course, outs, ins, workers)
+    let cubs = course.plan.params.cubs as u32;
+    let shares = share_count(workers, cubs);
+    let homes = homes_of(alloc, cubs, links, shares)?;
+    let (outs, ins) = open_all(rt, alloc, links, homes.as_slice())?;
+    run_named::<M, T, Brand, R>(
+        rt,
+        alloc,
+        nodes,
+        links,
+        course,
+        homes.as_slice(),
+        shares,
+        outs,
+        ins,
+        workers,
+    )
 }
 
-// Runs the nodes of a course that is named, over links that are open.
+// Runs the nodes of a course that is named, over links that are open between shares.
 fn run_named<M: Message + Send, T: Node<M> + Send, W: Named<T> + Send, R: Threads + Wait + Sync>(
     rt: &R,
     alloc: Global,
     nodes: Vec<T>,
     links: &LinkTable,
     course: &Course,
+    homes: &[u32],
+    shares: u32,
     outs: Outs<M>,
     ins: Ins<M>,
     workers: u32,
@@ -74,54 +92,42 @@ fn run_named<M: Message + Send, T: Node<M> + Send, W: Named<T> + Send, R: Thread
     requires workers { (1 ≤ workers) × (workers ≤ 64) }
     requires named { W.course ≡ course.now ∷ [] }
     requires opening { W.opening ≡ nodes.items }
+    requires homes { W.home ≡ home_by homes.now }
     requires outs { AreNamed W.line outs.items }
     requires ins { AreNamed W.line ins.items }
     ensures { IfOk result (λ r.
         IsRunOf M.note_of T.step course.now nodes.items r.nodes.items r.journals) }
 {
-    let cells: Locks<M, T, W> = make_cells(alloc, course, links, nodes, outs, ins)?;
-    work_all(
-        rt,
-        alloc,
-        &cells,
-        course.plan.params.cubs as usize,
-        workers as usize,
-    )?;
-    let done = finish(rt, alloc, cells)?;
-    let parts = apart(alloc, course, done)?;
+    let made: Locks<M, T, W> = make_shares(alloc, course, links, homes, shares, nodes, outs, ins)?;
+    work_all(rt, alloc, &made, workers as usize)?;
+    let done = finish(rt, alloc, made)?;
+    let parts = apart(alloc, done)?;
     let Sorted {
         nodes,
         journals,
         outs,
         ins,
-    } = sort(alloc, links.count(), parts)?;
-    close_all(rt, links.count(), outs, ins)?;
+    } = sort(alloc, links, parts)?;
+    close_all(rt, links, homes, outs, ins)?;
     Ok(Ran {
         journals: Sequence::new(journals),
         nodes,
     })
 }
 
-// Lets all workers work, each with its own share of the cells.
+// Lets all workers work, each from its own place among the shares on.
 fn work_all<M: Message + Send, T: Node<M> + Send, W: Named<T> + Send, R: Threads + Wait + Sync>(
     rt: &R,
     alloc: Global,
-    cells: &Locks<M, T, W>,
-    cubs: usize,
+    shares: &Locks<M, T, W>,
     workers: usize,
 ) -> Result<(), NoMemory> {
-    let visits = order_of_visits(alloc, cubs, cells.len())?;
-    let order = visits.as_slice();
-    let places = order.len();
+    let count = shares.len();
     thread::map_indices(
         rt,
         alloc,
         workers,
-        &|w| {
-            let first = share_begin(w, workers, places);
-            let last = share_begin(w.saturating_add(1), workers, places);
-            work(rt, cells, order, first, last)
-        },
+        &|w| work(rt, shares, first_of(w, workers, count)),
     )?;
     Ok(())
 }

@@ -1,13 +1,12 @@
--- A course of eight cubs of which two rows say nothing is one of whole lives.
+-- A course whose two rows on cuts and returns say nothing has such rows as a course needs.
 use Rattle.std.proofs.Common.{◌≡◌, ℕ, ◌<◌, nat_lt, Bool, true, false, List, length, Option, None, refl, sym, subst, arith, ap, ◌∙◌}
-use Rattle.std.specs.Prelude.{replicate, slice_get}
+use Rattle.std.specs.Prelude.{replicate}
 use Rattle.std.proofs.lemmas.Bool.Decides.{nat_tests}
 use Rattle.std.proofs.lemmas.List.{length-replicate, get_or-replicate}
 use Rattle.std.proofs.lemmas.Option.{slice_get-get_or}
 use Rattle.node_kit.specs.declared.course.Course.{Course}
 use Rattle.node_kit.specs.Courses.{CutsDeath, ReturnsLater}
 use Rattle.node_kit.specs.Life.{of_cub, death_of, cut_of, back_of}
-use Rattle.run_facts.specs.Plain.{HasWholeLives}
 
 none_in : (c : Course) (cubs n : ℕ) → c.plan.params.cubs ≡ cubs → of_cub c (replicate {A = Option ℕ} cubs None) n ≡ None
 none_in c cubs n count = by (nat_lt n c.plan.params.cubs) refl
@@ -21,7 +20,6 @@ none_in c cubs n count = by (nat_lt n c.plan.params.cubs) refl
 
 -- what a course has of such rows
 pub record AreWhole (c : Course) : Type 0 where
-  pub lives : HasWholeLives c
   pub cuts : length c.cuts ≡ c.plan.params.cubs
   pub backs : length c.backs ≡ c.plan.params.cubs
   pub cut_deaths : (n : ℕ) → CutsDeath (death_of c n) (cut_of c n)
@@ -29,7 +27,6 @@ pub record AreWhole (c : Course) : Type 0 where
 
 pub none-whole : (c : Course) (cubs : ℕ) → c.plan.params.cubs ≡ cubs → c.cuts ≡ replicate cubs None → c.backs ≡ replicate cubs None → AreWhole c
 none-whole c cubs count cut back = record {
-  lives = λ n. rw (no_cut n, no_back n) refl;
   cuts = ap length cut ∙ length-replicate {A = Option ℕ} cubs None ∙ sym count;
   backs = ap length back ∙ length-replicate {A = Option ℕ} cubs None ∙ sym count;
   cut_deaths = λ n. rw (no_cut n) tt;

@@ -4,8 +4,6 @@
 #![tactic(auto)]
 
 #[cfg(test)]
-mod cells;
-#[cfg(test)]
 mod delays;
 #[cfg(test)]
 mod endings;
@@ -25,6 +23,8 @@ mod returns;
 mod rings;
 #[cfg(test)]
 mod scripts;
+#[cfg(test)]
+mod shares;
 #[cfg(test)]
 mod texts;
 #[cfg(test)]

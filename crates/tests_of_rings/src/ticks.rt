@@ -3,7 +3,6 @@
 ghost use Rattle.std.specs.Prelude.{◌≡◌, ◌+◌, [], ⊤, IfOk, vec_len};
 ghost use Rattle.node_kit.specs.Links.{viewers_of};
 ghost use Rattle.node_kit.specs.Courses.{IsCourse};
-ghost use Rattle.run_facts.specs.Plain.{HasWholeLives};
 
 use crate::toys::toy_course;
 use link_timing::Delay;
@@ -79,7 +78,6 @@ fn run_told<G: Watch + Sync, R: Threads + Wait + Sync>(
     workers: u32,
 ) -> Result<(), Fail>
     requires course { IsCourse course.now }
-    requires plain { HasWholeLives course.now }
 {
     if workers == 0 || workers > 64 {
         return Err(Fail::new("no such number of workers"));
@@ -260,11 +258,11 @@ fn two_disks() -> Plan
     }
 }
 
-/// The cubs are nodes 0 to 7, their disks 8 to 23, the controller 24 and the viewers 25. Nothing
-/// keeps a node from its first beat, so one worker does it when it comes to the node for the first
-/// time.
+/// The cubs are nodes 0 to 7, their disks 8 to 23, the controller 24 and the viewers 25. One worker
+/// has one share of all nodes, whose members have their turns in this order: what leaves a share is
+/// sent by cubs and the controller, so that no other share waits for a disk.
 #[test]
-fn a_cub_is_visited_with_its_disks(rt: HostRuntime) -> Result<(), Fail> {
+fn the_senders_of_a_share_have_their_turns_first(rt: HostRuntime) -> Result<(), Fail> {
     let alloc = rt.alloc();
     let order = Order {
         numbers: Mutex::new(String::new(alloc)),
@@ -273,7 +271,7 @@ fn a_cub_is_visited_with_its_disks(rt: HostRuntime) -> Result<(), Fail> {
     let numbers = order.numbers.into_inner();
     assert_eq!(rt;
         numbers.as_str(),
-        "0 8 16 1 9 17 2 10 18 3 11 19 4 12 20 5 13 21 6 14 22 7 15 23 24 25 "
+        "0 1 2 3 4 5 6 7 24 8 9 10 11 12 13 14 15 16 17 18 19 20 21 22 23 25 "
     );
     Ok(())
 }

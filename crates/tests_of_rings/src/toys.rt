@@ -7,7 +7,6 @@ ghost use Rattle.link_timing.specs.Clock.{FixedIsWithin};
 ghost use Rattle.node_kit.specs.Links.{ends_of, viewers_of};
 ghost use Rattle.node_kit.specs.Steps.{Rests};
 ghost use Rattle.node_kit.specs.Courses.{IsCourse};
-ghost use Rattle.run_facts.specs.Plain.{HasWholeLives};
 ghost use Rattle.tests_of_rings.specs.declared.toys.Toy.{Toy};
 ghost use Rattle.tests_of_rings.specs.Toys.{beat_on, beats_on, toy_step, LeadFrom};
 
@@ -107,7 +106,6 @@ pub fn toy_course(
     requires beats { beats ≤ most_beats }
     requires delay { FixedIsWithin delay 2 }
     ensures course { IfOk result IsCourse }
-    ensures plain { IfOk result HasWholeLives }
     ensures params { IfOk result (λ c. c.plan.params ≡ plan.params) }
 {
     let offsets: Vec<u64> = vec![in alloc; 300, 0, 0, 0, 0, 0, 0, 0, 7]?;
@@ -145,35 +143,17 @@ pub fn broken_course(
     ensures params { IfOk result (λ c. c.plan.params ≡ plan.params) }
 {
     let mut course = toy_course(alloc, plan, beats, delay, None)?;
+    let cut_off = Some(5);
+    let early = Some(2);
+    let late = Some(6);
+    let sends = Some(left);
+    let returned = Some(4);
     let deaths: Vec<Option<Beat>> = vec![in alloc;
-        Some(5),
-        Some(2),
-        Some(6),
-        None,
-        None,
-        None,
-        None,
-        None,
+        cut_off, early, late, None, None, None, None, None,
     ]?;
-    let cuts: Vec<Option<u64>> = vec![in alloc;
-        Some(left),
-        None,
-        None,
-        None,
-        None,
-        None,
-        None,
-        None,
-    ]?;
+    let cuts: Vec<Option<u64>> = vec![in alloc; sends, None, None, None, None, None, None, None]?;
     let backs: Vec<Option<Beat>> = vec![in alloc;
-        None,
-        Some(4),
-        None,
-        None,
-        None,
-        None,
-        None,
-        None,
+        None, returned, None, None, None, None, None, None,
     ]?;
     course.deaths = Sequence::new(deaths);
     course.cuts = Sequence::new(cuts);

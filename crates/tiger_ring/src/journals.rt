@@ -1,26 +1,22 @@
 //! The run of the nodes.
-ghost use Rattle.std.specs.Prelude.{◌≡◌, ◌+◌, ◌≤◌, IfOk, vec_len};
+ghost use Rattle.std.specs.Prelude.{◌≡◌, ◌≤◌, IfOk};
 ghost use Rattle.controller_core.specs.Orders.{AreOrders};
 ghost use Rattle.disk_image.specs.Image.{HasLengths};
 ghost use Rattle.node_kit.specs.Courses.{IsCourse};
 ghost use Rattle.node_kit.specs.Life.{lifetime_of};
-ghost use Rattle.node_kit.specs.Links.{links_of, viewers_of};
-ghost use Rattle.node_kit.specs.Rows.{AllStand};
 ghost use Rattle.run_facts.specs.Carried.{AreCarried};
-ghost use Rattle.run_facts.specs.Kept.{HaveKept};
 ghost use Rattle.run_facts.specs.Paced.{ArePaced};
 ghost use Rattle.run_facts.specs.Timed.{AreTimed};
 ghost use Rattle.ring_facts.specs.Steps.{HasRun};
 
-use node_kit::{Course, Gate, Journal, LinkTable, Node, Order, Ran};
-use ring_engine::run_plain;
+use node_kit::{Course, Gate, Journal, LinkTable, Order};
 use ring_nodes::{AnyNode, make_images, make_nodes};
 use ring_workers::run_workers;
 use std::alloc::Global;
 use std::sync::Wait;
 use std::thread::Threads;
 use stripe_layout::Catalogue;
-use tiger_base::{Library, Message, Msg, NoMemory, Sequence};
+use tiger_base::{Library, Msg, NoMemory, Sequence};
 
 /// The journals of the nodes of a course, after so many workers ran them to the end of its beats.
 pub fn journals_of<R: Threads + Wait + Sync, G: Gate + Sync>(
@@ -48,36 +44,8 @@ pub fn journals_of<R: Threads + Wait + Sync, G: Gate + Sync>(
     let given = copied(alloc, orders)?;
     let nodes = make_nodes(alloc, course, images.as_slice(), given, gate)?;
     let links = LinkTable::new(&course.plan);
-    let ran = ran_by::<Msg<'_>, AnyNode<'_, G>, R>(rt, alloc, nodes, &links, course, workers)?;
+    let ran = run_workers::<Msg<'_>, AnyNode<'_, G>, R>(rt, alloc, nodes, &links, course, workers)?;
     Ok(ran.journals)
-}
-
-/// Runs the nodes of a course by so many workers. One worker needs no links to share, and no thread.
-fn ran_by<M: Message + Send, T: Node<M> + Send, R: Threads + Wait + Sync>(
-    rt: &R,
-    alloc: Global,
-    nodes: Vec<T>,
-    links: &LinkTable,
-    course: &Course,
-    workers: u32,
-) -> Result<Ran<T>, NoMemory>
-    requires links { links.now ≡ links_of course.now.plan.params }
-    requires course { IsCourse course.now }
-    requires count { vec_len nodes ≡ viewers_of links.now + 1 }
-    requires stand { AllStand T.stands_at course.now.plan.params nodes.items }
-    requires workers { (1 ≤ workers) × (workers ≤ 64) }
-    ensures kept { IfOk result (λ r.
-        HaveKept M.note_of T.step course.now nodes.items r.nodes.items r.journals) }
-    ensures carried { IfOk result (λ r.
-        AreCarried course.now.plan.params course.now.beats (lifetime_of course.now) r.journals) }
-    ensures paced { IfOk result (λ r. ArePaced course.now r.journals) }
-    ensures timed { IfOk result (λ r.
-        AreTimed course.now.plan.params course.now.beats (lifetime_of course.now) r.journals) }
-{
-    if workers == 1 {
-        return run_plain(alloc, nodes, links, course);
-    }
-    run_workers(rt, alloc, nodes, links, course, workers)
 }
 
 /// The same orders again.

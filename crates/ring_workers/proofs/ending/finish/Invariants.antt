@@ -5,4 +5,4 @@ abbrev pub invariant-rounds : goal.invariant-rounds
 invariant-rounds g l =
     (goal.iterator-rounds g).can_next l.iterator' ×
     (goal.iterator-rounds g).is_finite l.iterator' ×
-    (length l.cells.items ≡ length l.fn.locks.items)
+    (length l.shares.items ≡ length l.fn.locks.items)

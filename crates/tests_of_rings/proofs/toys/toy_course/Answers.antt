@@ -49,6 +49,3 @@ returns-clause-course c =
       returns_later = (whole c).returns_later;
       delay = subst (FixedIsWithin c.args.delay) (sym c.requires.most) c.requires.delay;
     }
-
-pub returns-clause-plain : goal.returns-clause-plain
-returns-clause-plain c = (whole c).lives
