@@ -1,5 +1,5 @@
 -- A cub that came back stays one that did, and puts nobody.
-use Rattle.std.proofs.Common.{◌≡◌, ℕ, ◌++◌, Option, None, refl, sym, subst, ◌∙◌, ⊎_elim, Some, ap, inl, inr}
+use Rattle.std.proofs.Common.{◌≡◌, ℕ, Option, None, refl, sym, subst, ◌∙◌, ⊎_elim, Some, ap, inl, inr}
 use Rattle.tiger_base.specs.declared.number.Stamp.{Stamp}
 use Rattle.tiger_base.specs.declared.tenancy.Tenancy.{Tenancy}
 use Rattle.tiger_base.specs.declared.message.Msg.{Msg}

@@ -35,7 +35,7 @@ use Rattle.node_kit.specs.Ways.{way_ahead, predecessor}
 use Rattle.cub_rules.specs.declared.store.Store.{Store}
 use Rattle.cub_rules.specs.declared.comeback.Comeback.{Comeback}
 use Rattle.cub_rules.specs.Comebacks.{due_of_record, lets_in, records_let_in}
-use Rattle.cub_rules.specs.Records.{took, dropping_lines, dropping_start, dropping_pieces, with_piece_record}
+use Rattle.cub_rules.specs.Records.{took, view_with, dropping_lines, dropping_start, dropping_pieces, with_piece_record}
 use Rattle.cub_rules.specs.Messages.{position_at, position, records_told, is_news, place_told, is_discarded, is_wanted, passing_on, passing_from, told, met, meeting_state, queueing, queueing_redundant, meeting_start, holding, passing, killing_splits, dropping_all, descheduling, meeting_piece, meeting_kill, storing, meeting_answer, hearing_beat, hearing_back, hearing, taking}
 use Rattle.cub_rules.specs.Ticks.{sending, told_placed}
 use Rattle.cub_changes.specs.Changes.{did}
@@ -62,13 +62,20 @@ passes : (b : Bool) → not b ≡ false → b ≡ true
 passes true e = refl
 passes false e = absurd (cc)
 
+-- a record is taken if no line stands at its place, and nothing happens if one does
+abbrev pub taken_in : Rec → Store → Deed Msg Store
+taken_in r h = record { outs = out.Act (what.Took r) ∷ []; state = record h { view = view_with r h.view } }
+
+pub took_of : (P : Deed Msg Store → Type 0) (r : Rec) (h : Store)
+    → (is_some (line_at (lines.visit_of r) h.view.lines) ≡ true → P (nothing h))
+    → (is_some (line_at (lines.visit_of r) h.view.lines) ≡ false → P (taken_in r h)) → P (took r h)
+unfolding took
+took_of P r h there new = cond_both (is_some (line_at (lines.visit_of r) h.view.lines)) (nothing h) (taken_in r h) P there new
+
 module _ (P : Store → Deed Msg Store → Type 0) (closed : IsClosed P) (p : Params) (c : ℕ) (stamp : Stamp) where
   pub took_by : (g : Stage) (from : Store) → OfEach P p c stamp g from → (r : Rec) → MayTake p c stamp g from r → (h : Store)
       → P h (took r h)
-  unfolding took
-  took_by g from each r may h =
-      if_by P closed (is_some (line_at (lines.visit_of r) h.view.lines)) h (nothing h) _ (λ _. closed.none h)
-      (λ e. each (TakeRecord r) h (may, e))
+  took_by g from each r may h = took_of (P h) r h (λ _. closed.none h) (λ e. each (TakeRecord r) h (may, e))
 
   passing_by : (g : Stage) (from : Store) → OfEach P p c stamp g from → (v : Instance) (o : Option Key) (h : Store)
       → ((k : Key) → o ≡ Some k → must_pass h.held v ≡ true → MayPass p c stamp g from v k) → P h (passing_from p c stamp v o h)

@@ -15,8 +15,6 @@ use Rattle.slot_plan.specs.declared.params.Params.{Params}
 use Rattle.slot_plan.specs.Keys.{Key}
 use Rattle.node_kit.specs.declared.outbox.Out.TheVariants as out
 use Rattle.node_kit.specs.Steps.{Deed}
-use Rattle.partial_view.specs.Lines as lines
-use Rattle.partial_view.specs.Views.{line_at}
 use Rattle.insert_queue.specs.Queues.{Queues, is_of, has_start, without_start, IsOnce}
 use Rattle.insert_queue.proofs.Once.{none_of, IsOnce-without}
 use Rattle.node_kit.specs.Deeds.{nothing, then_do, each_in_turn}
@@ -31,7 +29,7 @@ use Rattle.lists.specs.Elements.{In}
 use Rattle.cub_changes.specs.Causes.Stage.{OnInsertion}
 use Rattle.cub_changes.proofs.Closed.{IsClosed, OfEach, none_is, then_by, if_by}
 use Rattle.lists.proofs.Elements.{from_filter, in_filter}
-use Rattle.cub_changes.proofs.Messages.{took_by}
+use Rattle.cub_changes.proofs.Messages.{took_by, took_of}
 
 module _ (P : Store → Deed Msg Store → Type 0) (closed : IsClosed P) (p : Params) (c : ℕ) (stamp : Stamp) where
   -- ---- what a Put is made of
@@ -68,10 +66,9 @@ Drops put = (t : Tenancy) (h : Store)
     → ((put t h).state.believes ≡ h.believes) × ((put t h).state.starts ≡ without_start h.starts t.instance)
 
 took_same : (r : Rec) (h : Store) → ((took r h).state.believes ≡ h.believes) × ((took r h).state.starts ≡ h.starts)
-unfolding took
 took_same r h =
-    cond_both (is_some (line_at (lines.visit_of r) h.view.lines)) (nothing h) _
-    (λ (d : Deed Msg Store). (d.state.believes ≡ h.believes) × (d.state.starts ≡ h.starts)) (λ _. (refl, refl)) (λ _. (refl, refl))
+    took_of (λ (d : Deed Msg Store). (d.state.believes ≡ h.believes) × (d.state.starts ≡ h.starts)) r h
+    (λ _. (refl, refl)) (λ _. (refl, refl))
 
 second_same : (t : Tenancy) (h : Store) → let d = cond (nat_lt t.first t.last) (took (own_of t (t.first + 1))) nothing h in
     (d.state.believes ≡ h.believes) × (d.state.starts ≡ h.starts)

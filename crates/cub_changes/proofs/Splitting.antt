@@ -1,5 +1,5 @@
 -- What holds of all that is split off a line whose turn it is holds of all that is split off lines.
-use Rattle.std.proofs.Common.{◌≡◌, ℕ, List, [], Bool, true, false, cond, Option}
+use Rattle.std.proofs.Common.{◌≡◌, ℕ, List, [], true, false, cond, Option}
 use Rattle.std.specs.List.{AllByRecursion}
 use Rattle.std.proofs.lemmas.Bool.{cond_both}
 use Rattle.tiger_base.specs.declared.number.Stamp.{Stamp}

@@ -1,6 +1,7 @@
 -- A closed relation that holds of each change in a tick holds of the tick.
 use Rattle.std.proofs.Common.{◌≡◌, ℕ, ◌&&◌, ◌==◌, ◌%◌, List, [], ◌∷◌, ◌++◌, true, not, is_some, None, refl, subst, inl, inr}
 use Rattle.std.specs.List.{flat_map}
+use Rattle.std.proofs.lemmas.Bool.{cond_both}
 use Rattle.std.proofs.lemmas.List.{append-nil}
 use Rattle.tiger_base.specs.declared.number.Stamp.{Stamp}
 use Rattle.tiger_base.specs.declared.tenancy.PieceState.{PieceState}
@@ -56,6 +57,14 @@ IsOfEnd other = ⊥
 abbrev pub IsOfTick : Stage → Type 0
 IsOfTick (OnMessage link m) = ⊥
 IsOfTick other = Unit {0}
+
+-- a heartbeat leaves what the cub keeps
+pub beating_same : (p : Params) (c : ℕ) (stamp : Stamp) (h : Store) → (beating p c stamp h).state ≡ h
+unfolding beating
+beating_same p c stamp h =
+    let Same : Deed Msg Store → Type 0 = λ d. d.state ≡ h in
+    cond_both (is_some h.comeback) (nothing h) _ Same (λ _. refl)
+    (λ _. cond_both (stamp.beat % p.heart == 0) (did p c stamp Beat h) (nothing h) Same (λ _. refl) (λ _. refl))
 
 module _ (P : Store → Deed Msg Store → Type 0) (closed : IsClosed P) (p : Params) (c : ℕ) (stamp : Stamp) where
   pub releasing_by : (h : Store) → OfEach P p c stamp OnRelease h → P h (releasing p stamp h)

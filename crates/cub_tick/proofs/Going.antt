@@ -1,12 +1,11 @@
 -- A deed that is done in parts: what was put out so far, and the deed that is still to be done.
-use Rattle.std.proofs.Common.{◌≡◌, ℕ, ◌+◌, ◌-◌, ◌<◌, ◌*◌, suc, List, [], ◌∷◌, ◌++◌, map, refl, sym, ap, ◌∙◌, append_assoc, append-nil, arith}
+use Rattle.std.proofs.Common.{◌≡◌, ℕ, ◌+◌, ◌-◌, ◌<◌, ◌*◌, suc, List, ◌∷◌, ◌++◌, map, refl, sym, ap, ◌∙◌, append_assoc, append-nil, arith}
 use Rattle.std.specs.List.{range_with_len}
 use Rattle.tiger_base.specs.declared.message.Msg.{Msg}
 use Rattle.slot_plan.specs.declared.params.Params.{Params}
 use Rattle.node_kit.specs.declared.outbox.Out.{Out}
 use Rattle.node_kit.specs.Steps.{Deed}
 use Rattle.node_kit.specs.Deeds.{Did, nothing, then_do}
-use Rattle.cub_rules.specs.Ticks.{disks_at}
 
 -- the outputs now and those of the rest are the outputs before and those of the whole, and the rest ends where the whole does
 pub record ComesTo {S : Type 0} (whole : Deed Msg S) (before : List (Out Msg)) (rest : Deed Msg S) (now : List (Out Msg)) : Type 0 where
@@ -31,17 +30,7 @@ comes_done whole before rest now s comes is = (
 abbrev pub disks_from : Params → ℕ → ℕ → List ℕ
 disks_from p cub row = map (λ r. cub + r * p.cubs) (range_with_len row (p.disks - row))
 
-pub disks_all : (p : Params) (cub : ℕ) → disks_at p cub ≡ disks_from p cub 0
-disks_all p cub =
-    let e : p.disks ≡ p.disks - 0 = omega arith in
-    ap (λ n. map (λ r. cub + r * p.cubs) (range_with_len 0 n)) e
-
 pub disks_next : (p : Params) (cub row : ℕ) → row < p.disks → disks_from p cub row ≡ (cub + row * p.cubs) ∷ disks_from p cub (row + 1)
 disks_next p cub row more =
     let e : p.disks - row ≡ suc (p.disks - (row + 1)) = omega arith in
-    rw e refl
-
-pub disks_none : (p : Params) (cub : ℕ) → disks_from p cub p.disks ≡ []
-disks_none p cub =
-    let e : p.disks - p.disks ≡ 0 = omega arith in
     rw e refl

@@ -102,11 +102,6 @@ module _ (p : Params) (time : ℕ) (x : PieceState) where
           }
 
 module _ {X : Type 0} {p : Params} {time : ℕ} {outs_of : PieceState → List X} {before : Pieces} {outs_before : List X} where
-  -- at first none is taken out
-  pub taken_none : before.params ≡ p → TakenOut p time outs_of before outs_before before outs_before
-  taken_none plan =
-      record { done = []; parts = refl; leave = tt; params = plan; params_now = plan; outs = sym (append-nil outs_before) }
-
   module _ {now after : Pieces} {outs_now : List X} (t : TakenOut p time outs_of before outs_before now outs_now) {x : PieceState}
       (first : Some x ≡ first_leaving p time now.items) (step : after ≡ record now { items = but_first_leaving p time now.items }) where
     items_after : after.items ≡ (next p time x now.items first).back

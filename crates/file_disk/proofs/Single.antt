@@ -1,28 +1,15 @@
 -- One part that was stored, or none.
-use Rattle.std.proofs.Common.{◌≡◌, ℕ, ◌+◌, ◌^◌, ◌≤◌, List, [], ◌∷◌, ◌++◌, length, take, drop, All, Option, Some, None, Result, Ok, Err, OnOk, IfErr, unwrap_or, ap, sym, ◌∙◌, subst, arith}
-use Rattle.std.proofs.lemmas.List.{append-nil}
+use Rattle.std.proofs.Common.{◌≡◌, ℕ, ◌^◌, ◌≤◌, List, [], ◌∷◌, length, take, drop, All, Option, Some, None, Result, Ok, Err, OnOk, IfErr, unwrap_or, ap, sym, ◌∙◌, subst, arith}
 use Rattle.tiger_base.specs.Span.{LibraryPart, IsCut}
 use Rattle.stripe_layout.specs.declared.catalogue.FileInfo.{FileInfo}
 use Rattle.disk_image.specs.Image.{Image}
-use Rattle.file_disk.specs.Devices.{AreWrittenAt}
-use Rattle.file_disk.specs.Extents.{NamedPart, all_bytes, extent_at, placed, Rise, above_ranks, IsDirectory}
+use Rattle.file_disk.specs.Extents.{NamedPart, all_bytes, placed, Rise, above_ranks, IsDirectory}
 use Rattle.file_disk.specs.Parts.{part_bytes, image_part, named, part_here, disk_parts}
-use Rattle.file_disk.specs.Storing.{Progress, Stored}
 use Rattle.file_disk.specs.declared.directory.PartName.{PartName}
 use Rattle.file_disk.specs.declared.putting.StoreFault.{StoreFault}
 use Rattle.file_disk.proofs.Finding.{ends-placed, total-placed}
 use Rattle.file_disk.proofs.Order.{names-placed, disk-rises}
 use Rattle.file_disk.proofs.Sizes.{AreFew, AreFew-blocks, disk-fits}
-
--- a part was written, and is kept
-pub stored-one : (a b : Progress) (p : NamedPart) → b.extents ≡ a.extents ++ extent_at a.next p ∷ [] → b.next ≡ a.next + length p.bytes
-    → AreWrittenAt a.device b.device a.next p.bytes → Stored a b (p ∷ [])
-stored-one a b p kept next written =
-    record {
-      extents = kept;
-      next = omega (arith, next, ap length (append-nil p.bytes));
-      written = subst (λ (bs : List ℕ). AreWrittenAt a.device b.device a.next bs) (sym (append-nil p.bytes)) written;
-    }
 
 -- the bytes that are lent of a part
 cut-bytes : (p : LibraryPart) (bytes : List ℕ) → IsCut p.library p.span bytes → bytes ≡ part_bytes p

@@ -524,7 +524,7 @@ module _ {M S : Type 0} (note : M → Note) (step : S → Input M → Deed M S) 
         ∙ ap (λ q. map (event_in c n b) (begin_of_beat c n b) ++ q) (sym theirs)
         ∙ sym (named-all b ∙ ap (λ q. q ++ in_b b (named k.before n first (ret ∷ second))) none ∙ ret-named b up)
 
-    pub tells-both : (b : ℕ) → b < c.beats
+    tells-both : (b : ℕ) → b < c.beats
         → events_in c n numbers b whole ≡ in_b b (named k.before n [] (first ++ ret ∷ second))
     tells-both b early = ⊎_elim
         (λ (down : b < w). tells-low b down early)
@@ -532,15 +532,22 @@ module _ {M S : Type 0} (note : M → Note) (step : S → Input M → Deed M S) 
         (cases_lt b w)
 
     -- all events of the node, and all that they write
-    pub all-are : listed k n 0 (k.count n) ≡ first ++ ret ∷ second
+    all-are : listed k n 0 (k.count n) ≡ first ++ ret ∷ second
     all-are =
         let whole_sum : k.count n ≡ u + suc more = omega (arith, sum) in
         ap (λ q. listed k n 0 q) whole_sum ∙ listed-split k n 0 u (suc more) u (omega arith)
         ∙ ap (λ e. first ++ e ∷ second) ret-is
 
-    pub writes-whole : written note step (listed k n 0 (k.count n)) start ≡ whole
+    writes-whole : written note step (listed k n 0 (k.count n)) start ≡ whole
     writes-whole =
         ap (λ es. written note step es start) all-are
         ∙ written-append note step first (ret ∷ second) start
         ∙ ap (λ (x : Past S). mine ++ written note step second x) (listed-past note step k n 0 u u (omega arith)
         ∙ sym (ap (λ (e : NodeEvent M). after note step e (past note step k n u)) ret-is))
+
+    -- so what is written tells of all events
+    pub tells-again : (b : ℕ) → b < c.beats
+        → events_in c n numbers b (written note step (listed k n 0 (k.count n)) start)
+        ≡ named_in k.before b n (listed k n 0 (k.count n))
+    tells-again b early =
+        ap (events_in c n numbers b) writes-whole ∙ tells-both b early ∙ sym (ap (named_in k.before b n) all-are)

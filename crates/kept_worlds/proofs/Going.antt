@@ -36,12 +36,6 @@ may-live b (Ends i sends) up undied dead = (up refl, undied refl)
 may-live b (Dies stamp) up undied dead = (up refl, undied refl)
 may-live b (Returns stamp) up undied dead = dead refl
 
-pub is-open : {M : Type 0} (t : ℕ) (x : NodeEvent M) → is_return x ≡ false → (stamp_at x).beat ≡ t → IsOpen t x
-is-open t (Does i) here now = now
-is-open t (Ends i sends) here now = now
-is-open t (Dies stamp) here now = now
-is-open t (Returns stamp) here now = absurd (cc)
-
 -- an event in the open beat, and a return in that or a later one
 pub may-open : {M : Type 0} (t : ℕ) (x : NodeEvent M) → (is_return x ≡ false → t ≡ (stamp_at x).beat) → t ≤ (stamp_at x).beat
     → IsOpen t x

@@ -1,76 +1,24 @@
 -- Events node for node, sorted by their beats and else left in their order, are the events beat for beat.
-use Rattle.std.proofs.Common.{append-nil, ◌≡◌, ℕ, zero, suc, ◌+◌, ◌<◌, ◌≤◌, List, [], ◌∷◌, ◌++◌, map, filter, length, Bool, true, false, not, ◌&&◌, get_or, refl, ap, sym, ◌∙◌, subst, arith, cond, ⊎_elim, Less, Equal, Greater}
+use Rattle.std.proofs.Common.{append-nil, ◌≡◌, ℕ, zero, suc, ◌+◌, ◌<◌, ◌≤◌, List, [], ◌∷◌, ◌++◌, map, filter, true, false, refl, ap, sym, ◌∙◌, subst, arith, ⊎_elim}
 use Rattle.std.specs.Prelude.{◌==◌, nat_lt}
 use Rattle.std.specs.List.{AllByRecursion}
-use Rattle.std.specs.List.Sorted.{IsPermutation, IsNonDecreasingBy, IsSortedByKey, IsStableByKey, ties}
-use Rattle.std.specs.Ordering.{is_lt, nat_cmp}
+use Rattle.std.specs.List.Sorted.{IsPermutation, IsSortedByKey, IsStableByKey}
+use Rattle.std.specs.Ordering.{nat_cmp}
 use Rattle.std.proofs.lemmas.Bool.{cases_Bool, cases_eq, eq-eqb, ne_eqb}
 use Rattle.std.proofs.lemmas.Bool.Decides.{nat_tests}
 use Rattle.std.proofs.lemmas.List.{map-append}
-use Rattle.std.proofs.lemmas.List.Elements.{filter-append, All-from_recursion, recursion_from_All}
-use Rattle.std.proofs.lemmas.List.Sorted.{IsNonDecreasingBy-from_sort, All-permutation}
+use Rattle.std.proofs.lemmas.List.Elements.{filter-append}
 use Rattle.node_kit.specs.declared.course.Course.{Course}
 use Rattle.node_kit.specs.declared.journal.Entry.{Entry}
-use Rattle.run_facts.specs.Accounts.{Rising}
 use Rattle.run_facts.specs.Events.{Dated}
-use Rattle.run_facts.proofs.Orders.{groups, by_key}
-use Rattle.run_facts.proofs.Rows.{all-append, filter-same}
+use Rattle.run_facts.proofs.Grouped.{sorted_groups}
+use Rattle.run_facts.proofs.Orders.{groups}
+use Rattle.run_facts.proofs.Rows.{all-append}
 use Rattle.ring_world.specs.declared.event.Act.{Act}
 use Rattle.ring_world.specs.declared.event.Act.TheVariants as act
 use Rattle.ring_world.specs.declared.event.Event.{Event}
 use Rattle.kept_worlds.specs.Events.{begin_of_beat, lost_told, said_in, get_of, gets_behind, end_of_beat, event_in, events_in, events_of_beat, events_from, events_by}
 use Rattle.kept_worlds.specs.Telling.{backs_told, told_in, gets_told, ends_told, node_told, nodes_told}
-
--- a list whose keys do not fall, by index and by recursion
-all-at : {X : Type 0} (P : X → Type 0) (xs : List X) → ((j : ℕ) (d : X) → j < length xs → P (get_or xs j d)) → AllByRecursion P xs
-all-at P [] f = tt
-all-at P (x ∷ xs) f = (f 0 x (omega arith), all-at P xs (λ j d low. f (suc j) d (omega (arith, low))))
-
-rising-of : {X : Type 0} (key : X → ℕ) (xs : List X) → IsNonDecreasingBy key xs → Rising key xs
-rising-of key [] h = tt
-rising-of {X} key (x ∷ xs) h = (
-  all-at (λ (y : X). key x ≤ key y) xs (λ j d low. h 0 (suc j) d (omega arith) (omega (arith, low))),
-  rising-of key xs (λ i j d up low. h (suc i) (suc j) d (omega (arith, up)) (omega (arith, low))),
-)
-
--- what ties with an element has its key
-lt-is : (a b : ℕ) → is_lt (nat_cmp a b) ≡ nat_lt a b
-lt-is a b = by_tests (nat_lt a b) (a == b)
-  where
-    by_tests : (x y : Bool) → is_lt (cond x Less (cond y Equal Greater)) ≡ x
-    by_tests true y = refl
-    by_tests false true = refl
-    by_tests false false = refl
-
-ties-is : {X : Type 0} (key : X → ℕ) (x y : X) (b : ℕ) → key x ≡ b → ties (λ u v. is_lt (nat_cmp (key u) (key v))) x y ≡ (key y == b)
-ties-is key x y b is =
-    let one = lt-is (key x) (key y) in
-    let other = lt-is (key y) (key x) in
-    rw (one, other, is) (alike (key y) b)
-  where
-    alike : (m n : ℕ) → not (nat_lt n m) && not (nat_lt m n) ≡ (m == n)
-    alike m n = grind (arith, nat_tests)
-
-groups-same : {X : Type 0} (key : X → ℕ) (xs ys : List X)
-    → ((b : ℕ) → filter (λ x. key x == b) ys ≡ filter (λ x. key x == b) xs) → (b k : ℕ) → groups key b k ys ≡ groups key b k xs
-groups-same key xs ys same b zero = refl
-groups-same {X} key xs ys same b (suc k) =
-    ap (λ q. q ++ groups key (b + 1) k ys) (same b) ∙ ap (λ q. filter (λ (x : X). key x == b) xs ++ q) (groups-same key xs ys same (b + 1) k)
-
-pub sorted-groups : {X : Type 0} (key : X → ℕ) (xs ys : List X) (k : ℕ) → ((b : ℕ) → (x : X) × (key x ≡ b))
-    → AllByRecursion (λ x. key x < k) xs → IsPermutation xs ys → IsSortedByKey key nat_cmp ys → IsStableByKey key nat_cmp xs ys
-    → ys ≡ groups key 0 k xs
-sorted-groups {X} key xs ys k any early moved sorted stable =
-    let small = recursion_from_All (λ (x : X). key x < k) ys
-    (All-permutation (λ (x : X). key x < k) xs ys moved (All-from_recursion (λ (x : X). key x < k) xs early)) in
-    let rises = rising-of key ys (IsNonDecreasingBy-from_sort key ys sorted) in
-    let same : (b : ℕ) → filter (λ (x : X). key x == b) ys ≡ filter (λ x. key x == b) xs = λ b.
-    (let x = any b in
-    let tied = λ (zs : List X). filter-same (λ (y : X). key y == b) (ties (λ u v. is_lt (nat_cmp (key u) (key v))) x.0) zs
-    (all-at (λ (y : X). (key y == b) ≡ ties (λ u v. is_lt (nat_cmp (key u) (key v))) x.0 y) zs
-    (λ j d low. sym (ties-is key x.0 (get_or zs j d) b x.1))) in
-    tied ys ∙ stable x.0 ∙ sym (tied xs)) in
-    sym (by_key key k ys small rises) ∙ groups-same key xs ys same 0 k
 
 -- all that is told is in a beat of the course
 acts-all : (c : Course) (n b : ℕ) (acts : List Act) → b < c.beats → AllByRecursion (λ (e : Event). e.stamp.beat < c.beats) (map (event_in c n b) acts)
@@ -252,5 +200,5 @@ pub sorted-events : (c : Course) (journals : List (List Entry)) (told sorted : L
 sorted-events c journals told sorted is moved up stable =
     let key = λ (e : Event). e.stamp.beat in
     let early = subst (AllByRecursion (λ (e : Event). e.stamp.beat < c.beats)) (sym is) (nodes-all c (lost_told c journals) 0 journals) in
-    sorted-groups key told sorted c.beats (λ b. (event_in c 0 b (act.Tick (record { 0 = 0 })), refl)) early moved up stable
+    sorted_groups key told sorted c.beats (λ b. (event_in c 0 b (act.Tick (record { 0 = 0 })), refl)) early moved up stable
     ∙ ap (groups key 0 c.beats) is ∙ groups-told c (lost_told c journals) 0 c.beats journals (omega arith)

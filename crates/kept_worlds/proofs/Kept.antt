@@ -36,12 +36,13 @@ use Rattle.kept_worlds.proofs.Numbers.{listed-below}
 use Rattle.kept_worlds.specs.Events.{events_in, events_of_beat, events_from, events_by, lost_told, sent_before, sent_below}
 use Rattle.kept_worlds.specs.Laws.{CubsStand, ForgetsTicks, KeptRunsAreAccepted}
 use Rattle.kept_worlds.proofs.Ends.{cut-in}
-use Rattle.kept_worlds.proofs.Again.{all-are, back-life, return-event, tells-both, tells-first, writes-whole}
+use Rattle.kept_worlds.proofs.Again.{back-life, return-event, tells-again, tells-first}
 use Rattle.kept_worlds.proofs.Going.{may-open}
 use Rattle.kept_worlds.proofs.Naming.{named_in, named_row, named_rows, rows_from, told-rows, own-each, rows-all, rows-rising}
 use Rattle.kept_worlds.proofs.Cuts.{g, death-told, early-told, front, later-told, life-told, away-told, run-told, tellable, may-told, writes-told, stamped-told}
 use Rattle.kept_worlds.proofs.Merged.{merges-accepted}
-use Rattle.kept_worlds.proofs.Returning.{IsNextBack, beats-rise, opens-by, return-opens, up-again}
+use Rattle.run_facts.proofs.Passing.{beats_never_fall, opens_by, return_opens}
+use Rattle.kept_worlds.proofs.Returning.{IsNextBack, up-again}
 
 -- no event is below beat 0
 below-none : {M : Type 0} (es : List (NodeEvent M)) → events_below 0 es ≡ []
@@ -141,7 +142,7 @@ module _ {M S : Type 0} (note : M → Note) (step : S → Input M → Deed M S) 
   opens : (n i : ℕ) → n < length given → i < k.count n → IsOpen (open_beat k n i) (k.event n i)
   opens n i low at =
       may-open (open_beat k n i) (k.event n i) (λ here. sym (runs.in_beat n i low at here))
-      (opens-by note step c.plan.params (length given) k runs n low i at)
+      (opens_by runs n low i at)
 
   led-to : (n i : ℕ) → n < length given → i < k.count n → IsLed c.plan.params n (k.event n i)
   led-to n i low at = by_event (k.event n i) refl
@@ -236,43 +237,19 @@ module _ {M S : Type 0} (note : M → Note) (step : S → Input M → Deed M S) 
       let course : back_of c n ≡ Some w =
       returns-when (death_of c n) (cut_of c n) (back_of c n) w (back-life (k.event n u) (lifetime_of c n) life back) in
       let up = up-again note step c.plan.params (length given) k runs n low in
-      let opened : open_beat k n (suc u) ≡ w = return-opens (k.event n u) (open_beat k n u) back in
-      let tells = tells-both note step c n k u (lives n).low (tellable note step stands c given nodes journals forgets apart cubs kept n low)
+      let opened : open_beat k n (suc u) ≡ w = return_opens (k.event n u) (open_beat k n u) back in
+      let tells = tells-again note step c n k u (lives n).low (tellable note step stands c given nodes journals forgets apart cubs kept n low)
       (λ i. stamps n i low) (fair n low) (λ i. led-to n i low) (λ i high. (opens n i low high, tt)) (numbers n)
       inner w (beat k n r.last) back refl course died apart_by
-      (λ i less. (let rise = beats-rise note step c.plan.params (length given) k runs n low i r.last (omega (arith, less, next)) (omega (arith, next, inner)) in
+      (λ i less. (let rise = beats_never_fall runs n low i r.last (omega (arith, less, next)) (omega (arith, next, inner)) in
       omega (arith, rise, apart_by)))
       (λ i more high. (up u i inner high back more).0) (λ i more high. (up u i inner high back more).1)
-      (λ i more high. beats-rise note step c.plan.params (length given) k runs n low u i (omega (arith, more)) high)
+      (λ i more high. beats_never_fall runs n low u i (omega (arith, more)) high)
       (λ i high. life-told note step stands c given nodes journals forgets apart cubs kept n i low high)
       opened (later-told note step stands c given nodes journals forgets apart cubs kept n low u inner back)
       (λ x cut. (let both : ◌≡◌ {A = Option ℕ} (Some x) (Some (beat k n r.last)) = sym (cut-in c n x cut) ∙ died in let q : x ≡ beat k n r.last = cc in q))
       (right n u w low inner back refl course) in
-      let is = wrote n journal low at ∙ writes-whole note step c n k u (lives n).low
-      (tellable note step stands c given nodes journals forgets apart cubs kept n low)
-      (λ i. stamps n i low) (fair n low) (λ i. led-to n i low) (λ i high. (opens n i low high, tt)) (numbers n)
-      inner w (beat k n r.last) back refl course died apart_by
-      (λ i less. (let rise = beats-rise note step c.plan.params (length given) k runs n low i r.last (omega (arith, less, next)) (omega (arith, next, inner)) in
-      omega (arith, rise, apart_by)))
-      (λ i more high. (up u i inner high back more).0) (λ i more high. (up u i inner high back more).1)
-      (λ i more high. beats-rise note step c.plan.params (length given) k runs n low u i (omega (arith, more)) high)
-      (λ i high. life-told note step stands c given nodes journals forgets apart cubs kept n i low high)
-      opened (later-told note step stands c given nodes journals forgets apart cubs kept n low u inner back)
-      (λ x cut. (let both : ◌≡◌ {A = Option ℕ} (Some x) (Some (beat k n r.last)) = sym (cut-in c n x cut) ∙ died in let q : x ≡ beat k n r.last = cc in q))
-      (right n u w low inner back refl course) in
-      let events = all-are note step c n k u (lives n).low
-      (tellable note step stands c given nodes journals forgets apart cubs kept n low)
-      (λ i. stamps n i low) (fair n low) (λ i. led-to n i low) (λ i high. (opens n i low high, tt)) (numbers n)
-      inner w (beat k n r.last) back refl course died apart_by
-      (λ i less. (let rise = beats-rise note step c.plan.params (length given) k runs n low i r.last (omega (arith, less, next)) (omega (arith, next, inner)) in
-      omega (arith, rise, apart_by)))
-      (λ i more high. (up u i inner high back more).0) (λ i more high. (up u i inner high back more).1)
-      (λ i more high. beats-rise note step c.plan.params (length given) k runs n low u i (omega (arith, more)) high)
-      (λ i high. life-told note step stands c given nodes journals forgets apart cubs kept n i low high)
-      opened (later-told note step stands c given nodes journals forgets apart cubs kept n low u inner back)
-      (λ x cut. (let both : ◌≡◌ {A = Option ℕ} (Some x) (Some (beat k n r.last)) = sym (cut-in c n x cut) ∙ died in let q : x ≡ beat k n r.last = cc in q))
-      (right n u w low inner back refl course) in
-      ap (λ q. events_in c n (numbers n) b q) is ∙ tells b early ∙ sym (ap (λ q. named_in k.before b n q) events)
+      ap (λ q. events_in c n (numbers n) b q) (wrote n journal low at) ∙ tells b early
 
   -- and of one that does not
   tell-once : (n : ℕ) (journal : List Entry) (low : n < length given) → slice_get journals n ≡ Some journal

@@ -22,7 +22,8 @@ use Rattle.proof_answer.proofs.Lists.{element-of}
 use Rattle.ring_world.specs.Laws.{IsPlace}
 use Rattle.kept_worlds.specs.Merges.{LivesThrough, MayHappen}
 use Rattle.kept_worlds.proofs.Ends.{IsOfLife, dies-in, cut-in}
-use Rattle.kept_worlds.proofs.Returning.{beats-rise, one-death}
+use Rattle.run_facts.proofs.Passing.{beats_never_fall}
+use Rattle.kept_worlds.proofs.Returning.{one-death}
 
 -- ---- what a life makes of one input
 
@@ -133,7 +134,7 @@ module _ {M S : Type 0} (note : M → Note) (step : S → Input M → Deed M S) 
       let apart = r.apart in
       let same : beat h n r.last ≡ beat h n j =
       ap (beat h n) (let q : r.last ≡ j = omega (arith, next) in q) in
-      let up = beats-rise note step c.plan.params (length given) one.history one.run n low (j + 1) i (omega (arith, before)) at in
+      let up = beats_never_fall one.run n low (j + 1) i (omega (arith, before)) at in
       omega (arith, apart, same, up))
       (one.run.ended n j low (omega (arith, before, at)) died)
 
@@ -255,7 +256,7 @@ module _ {M S : Type 0} (note : M → Note) (step : S → Input M → Deed M S) 
       let death = death-at n i low at (ap is_death is) in
       let alive = none-before n i low at death in
       let live = acts-at (h.event n j) (of-life n j low (omega (arith, before, at))) (alive j before) here in
-      let up = beats-rise note step c.plan.params (length given) one.history one.run n low j i (omega (arith, before)) at in
+      let up = beats_never_fall one.run n low j i (omega (arith, before)) at in
       ⊎_elim
       (λ (same : beat h n j ≡ beat h n i).
       let q : true ≡ false = sym live ∙ ap (acts (lifetime_of c n)) (same ∙ dated) ∙ dead.0 in absurd (cc))

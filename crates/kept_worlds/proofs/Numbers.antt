@@ -20,7 +20,8 @@ use Rattle.run_facts.proofs.Counts.{sent-numbered, sent-stays}
 use Rattle.run_facts.proofs.Listed.{listed, next-sum}
 use Rattle.ring_world.proofs.Lists.{get-all}
 use Rattle.ring_world.proofs.Ways.{below-later}
-use Rattle.kept_worlds.proofs.Returning.{next-back, taken-between, opens-rise, ends-beat}
+use Rattle.run_facts.proofs.Passing.{taken_between, opens_rise, ends_beat}
+use Rattle.kept_worlds.proofs.Returning.{next-back}
 
 -- an element behind others
 pub get-after : {X : Type 0} (xs ys : List X) (k j : ℕ) → k ≡ length xs + j → slice_get (xs ++ ys) k ≡ slice_get ys j
@@ -174,7 +175,7 @@ module _ {M S : Type 0} (note : M → Note) (step : S → Input M → Deed M S) 
       (cases_lt (beat h n i) (d.beat + p.delay))
     where
       rises : (a b : ℕ) → a ≤ b → b ≤ h.count n → open_beat h n a ≤ open_beat h n b
-      rises = opens-rise note step p nodes h run n low
+      rises = opens_rise run n low
 
       -- by the next return, or by the end, it was taken
       late : d.beat + p.delay ≤ beat h n i → ⊥
@@ -182,7 +183,7 @@ module _ {M S : Type 0} (note : M → Note) (step : S → Input M → Deed M S) 
           let back = next-back h n i (h.count n - i) (h.count n) (omega (arith, at)) in
           let from_here = back.from in
           let up = back.low in
-          let ended = ends-beat note step p nodes h run n low i at ticks_it in
+          let ended = ends_beat run n low i at ticks_it in
           let tick_here = tick-here (h.event n i) ticks_it in
           let past_it : suc i ≤ back.at = ⊎_elim
           (λ (same : i ≡ back.at). ⊎_elim
@@ -202,7 +203,7 @@ module _ {M S : Type 0} (note : M → Note) (step : S → Input M → Deed M S) 
           (λ (ret : (back.at < h.count n) × (is_return (h.event n back.at) ≡ true)).
           run.in_time l from n back.at k d.beat d.item low_from low ends ret.0 ret.1 was due)
           back.ends in
-          let c = taken-between l h n i back.at k back.here from_here waits taken in
+          let c = taken_between l h n i back.at k back.here from_here waits taken in
           let after = c.from in
           let below_it = c.before in
           let soon = came-as l from n c.at k d low (omega (arith, below_it, up)) ends c.is was c.takes in

@@ -33,7 +33,8 @@ use Rattle.kept_worlds.specs.Merges.{LivesThrough, MayHappen}
 use Rattle.kept_worlds.proofs.Lifeless.{sends-twin}
 use Rattle.kept_worlds.proofs.Faultless.{none-beat, none-missed, none-node, none-all}
 use Rattle.kept_worlds.proofs.Numbers.{listed-more}
-use Rattle.kept_worlds.proofs.Returning.{number_of, opens-by}
+use Rattle.run_facts.proofs.Passing.{opens_by}
+use Rattle.kept_worlds.proofs.Returning.{number_of}
 
 -- a node of whatever state may stand anywhere: what is asked of nodes is a run's own record
 abbrev pub anywhere : {S : Type 0} → S → Params → ℕ → Type 0
@@ -278,7 +279,7 @@ module _ {M S : Type 0} (note : M → Note) (step : S → Input M → Deed M S) 
       own-ticked here = own-open ∙ sym (run.in_beat n (at n) next.low next.here here)
 
       pub own-done : own.ticked ≤ beat h n (at n)
-      own-done = let a = own-open in let b = opens-by note step p nodes h run n next.low (at n) next.here in omega (arith, a, b)
+      own-done = let a = own-open in let b = opens_by run n next.low (at n) next.here in omega (arith, a, b)
 
       pub own-read : own.reading ≤ reading h n (at n)
       own-read = latest-reading n (at n) own next.low next.here (point.last n own next.low own-at)

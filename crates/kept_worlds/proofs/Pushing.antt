@@ -22,7 +22,7 @@ use Rattle.ring_world.specs.declared.event.Event.{Event}
 use Rattle.kept_worlds.specs.Events.{begin_of_beat, said_in, get_told, get_of, end_of_beat, event_in, in_life, lost_in, lost_told, number_told, sent_before}
 use Rattle.kept_worlds.specs.Numbering.{IsOneMore, by_life, got_in, is_back_by, number_next}
 use Rattle.kept_worlds.specs.declared.life_counts.Lives.{Lives}
-use Rattle.kept_worlds.specs.Telling.{Numbers, backs_told, counted_on, listed_act, told_in, gets_told, ends_told, node_told, nodes_told}
+use Rattle.kept_worlds.specs.Telling.{Numbers, backs_told, counted_on, told_in, gets_told, ends_told, node_told, nodes_told}
 
 pub ends-next : (c : Course) (n : ℕ) (journal : List Entry) (b : ℕ) (old new all : List Event) → b < c.beats
     → new ≡ old ++ map (event_in c n b) (end_of_beat c n b (said_in b journal)) → old ++ ends_told c n journal b (c.beats - b) ≡ all
@@ -274,17 +274,7 @@ other-next c n lost i journal d start old s low other told same =
 
     no-got : (l b : ℕ) (w : What) → ((link : LinkNo) (note : Note) → w ≡ what.Got link note → ⊥) → got_by l b w ≡ []
     no-got l b (what.Got link note) h = absurd (h link note refl)
-    no-got l b (what.Sent link note) h = refl
-    no-got l b (what.Took r) h = refl
-    no-got l b (what.Dropped r) h = refl
-    no-got l b (what.Queued v x) h = refl
-    no-got l b (what.Unqueued v) h = refl
-    no-got l b (what.Put t) h = refl
-    no-got l b (what.Gone v) h = refl
-    no-got l b (what.ReadFailed x) h = refl
-    no-got l b (what.Believed x) h = refl
-    no-got l b what.Died h = refl
-    no-got l b what.Returned h = refl
+    no-got l b other h = refl
 
 pub node-next : (c : Course) (n : ℕ) (lost : ℕ → ℕ) (journal entries : List Entry) (old returned mid new : List Event) → entries ≡ journal
     → returned ≡ old ++ backs_told c n 0 c.beats
@@ -322,9 +312,3 @@ gets-end c n lost i journal start new over told =
     drop_all zero (x ∷ xs) h = absurd (omega (arith, h))
     drop_all (suc k) [] h = refl
     drop_all (suc k) (x ∷ xs) h = drop_all k xs (omega (arith, h))
-
--- an act that ends a beat, if there is one
-pub ended-pushed : (c : Course) (n b : ℕ) (act : Act) (result : Option Act) (ends : List Act) (old new : List Event)
-    → ends ≡ listed_act result → result ≡ Some act → new ≡ old ++ event_in c n b act ∷ [] → new ≡ old ++ map (event_in c n b) ends
-ended-pushed c n b act result ends old new is some pushed =
-    pushed ∙ ap (λ q. old ++ map (event_in c n b) q) (sym (is ∙ ap listed_act some))

@@ -32,7 +32,8 @@ use Rattle.kept_worlds.proofs.Faultless.{none-take, none-late, none-death}
 use Rattle.kept_worlds.proofs.Numbers.{get-after, sent-below, sent-by, taken-in, young-at_tick}
 use Rattle.kept_worlds.proofs.Points.{IsAt, IsNext, sent-here, size-of, event-of, taken-here, spared, own}
 use Rattle.kept_worlds.proofs.Points.{own-acted, own-dead, own-first, own-lives, own-undied, undone}
-use Rattle.kept_worlds.proofs.Returning.{beats-rise, death-here, number_of}
+use Rattle.run_facts.proofs.Passing.{beats_never_fall, death_here}
+use Rattle.kept_worlds.proofs.Returning.{number_of}
 
 -- a list that has a first element
 first-of : {X : Type 0} (xs : List X) (x : X) → slice_get xs 0 ≡ Some x → (tail : List X) × (xs ≡ x ∷ tail)
@@ -109,7 +110,7 @@ module _ {M S : Type 0} (note : M → Note) (step : S → Input M → Deed M S) 
   -- who dies lives, and has never died
   alive-here : is_death (h.event n (at n)) ≡ true → (mine.dead ≡ false) × (mine.died ≡ None)
   alive-here died = (
-    lives-here (death-here (h.event n (at n)) died),
+    lives-here (death_here (h.event n (at n)) died),
     own-undied note step p nodes beats h place run may m es at point n next died,
   )
 
@@ -124,7 +125,7 @@ module _ {M S : Type 0} (note : M → Note) (step : S → Input M → Deed M S) 
       let here = next.here in
       let theirs : h.event n i ≡ Returns stamp =
       sym (event-of note step p nodes beats h place run may m es at point n i next.low high) ∙ is in
-      let rise = beats-rise note step p nodes h run n next.low i (at n) (omega (arith, high)) here in
+      let rise = beats_never_fall run n next.low i (at n) (omega (arith, high)) here in
       let dated : beat h n i ≡ stamp.beat = ap (λ (e : NodeEvent M). (stamp_at e).beat) theirs in
       run.before l from n i stamp low_from next.low ends (omega (arith, high, here)) theirs
       ∙ sym (sent-below note step l h from stamp.beat (at from) (h.count from)

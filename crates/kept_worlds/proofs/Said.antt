@@ -110,10 +110,6 @@ stays-behind m (x ∷ xs) v vs other = ⊎_elim
     (λ (t : is_of_take m x ≡ false). rw t refl)
     (cases_Bool (is_of_take m x))
 
-pub got-stays : (m : Note) (xs : List What) (link : LinkNo) (message : Note) (vs : List What)
-    → is_none (behind_take m (xs ++ what.Got link message ∷ vs)) ≡ false
-got-stays m xs link message vs = stays-behind m xs (what.Got link message) vs (got-apart m link message)
-
 pub take-gone : (m : Note) (xs vs : List What) → AllByRecursion (λ (w : What). is_of_take m w ≡ true) xs
     → behind_take m (xs ++ vs) ≡ behind_take m vs
 take-gone m [] vs h = refl

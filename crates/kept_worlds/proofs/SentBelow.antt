@@ -52,48 +52,18 @@ by-what back l b (what.Sent k note) link low is =
     (λ (t : (k.0 == l) ≡ true). rw (t, low) refl)
     (λ (t : (k.0 == l) ≡ false). rw t refl)
     (cases_Bool (k.0 == l)))
-by-what back l b (what.Got k note) link low is = absurd (cc)
-by-what back l b (what.Took r) link low is = absurd (cc)
-by-what back l b (what.Dropped r) link low is = absurd (cc)
-by-what back l b (what.Queued v x) link low is = absurd (cc)
-by-what back l b (what.Unqueued v) link low is = absurd (cc)
-by-what back l b (what.Put t) link low is = absurd (cc)
-by-what back l b (what.Gone v) link low is = absurd (cc)
-by-what back l b (what.ReadFailed x) link low is = absurd (cc)
-by-what back l b (what.Believed x) link low is = absurd (cc)
-by-what back l b what.Died link low is = absurd (cc)
-by-what back l b what.Returned link low is = absurd (cc)
+by-what back l b other link low is = absurd (cc)
 
 no-what : (back l b : ℕ) (w : What) → link_sent w ≡ None → below back (sent_by l b w) ≡ 0
 no-what back l b (what.Sent k note) is = absurd (cc)
-no-what back l b (what.Got k note) is = refl
-no-what back l b (what.Took r) is = refl
-no-what back l b (what.Dropped r) is = refl
-no-what back l b (what.Queued v x) is = refl
-no-what back l b (what.Unqueued v) is = refl
-no-what back l b (what.Put t) is = refl
-no-what back l b (what.Gone v) is = refl
-no-what back l b (what.ReadFailed x) is = refl
-no-what back l b (what.Believed x) is = refl
-no-what back l b what.Died is = refl
-no-what back l b what.Returned is = refl
+no-what back l b other is = refl
 
 late-what : (back l b : ℕ) (w : What) → nat_lt b back ≡ false → below back (sent_by l b w) ≡ 0
 late-what back l b (what.Sent k note) late = ⊎_elim
     (λ (t : (k.0 == l) ≡ true). rw (t, late) refl)
     (λ (t : (k.0 == l) ≡ false). rw t refl)
     (cases_Bool (k.0 == l))
-late-what back l b (what.Got k note) late = refl
-late-what back l b (what.Took r) late = refl
-late-what back l b (what.Dropped r) late = refl
-late-what back l b (what.Queued v x) late = refl
-late-what back l b (what.Unqueued v) late = refl
-late-what back l b (what.Put t) late = refl
-late-what back l b (what.Gone v) late = refl
-late-what back l b (what.ReadFailed x) late = refl
-late-what back l b (what.Believed x) late = refl
-late-what back l b what.Died late = refl
-late-what back l b what.Returned late = refl
+late-what back l b other late = refl
 
 early-some : (back l : ℕ) (e : Entry) (link : LinkNo) → early_send back e ≡ Some link
     → below back (sent_by l e.stamp.beat e.what) ≡ cond (link.0 == l) 1 0

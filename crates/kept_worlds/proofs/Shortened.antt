@@ -87,10 +87,6 @@ module _ {M S : Type 0} (note : M → Note) (step : S → Input M → Deed M S) 
       else if i == last then cut_off step (past note step h n last).state (h.event n last)
       else h.event n (suc i)
 
-  abbrev last_by : ℕ → Option ℕ → ℕ
-  last_by n None = h.count n
-  last_by n (Some last) = last
-
   abbrev pub shortened : History M S
   shortened = record {
     first = h.first;

@@ -9,7 +9,7 @@ use Rattle.tiger_base.specs.declared.message.Note.{Note}
 use Rattle.node_kit.specs.Outputs.{send_count}
 use Rattle.node_kit.specs.Steps.{Input, Deed}
 use Rattle.node_kit.specs.Steps.Input.{Take, Tick}
-use Rattle.run_facts.specs.Events.{NodeEvent, Past, after, behind, outs_of, kept_outs, left_outs, stamp_at, is_return}
+use Rattle.run_facts.specs.Events.{NodeEvent, Past, after, outs_of, kept_outs, left_outs, stamp_at, is_return}
 use Rattle.run_facts.specs.Events.NodeEvent.{Does, Ends}
 use Rattle.run_facts.specs.Histories.{History, TakesAt, past, beat, reading, place, place_behind}
 use Rattle.kept_worlds.proofs.Whole.{left-all}
@@ -105,12 +105,6 @@ module _ {M S : Type 0} (step : S → Input M → Deed M S) (s : S) (e f : NodeE
 
   pub return-same : is_return f ≡ is_return e
   return-same = ⊎_elim (λ (q : f ≡ e). ap is_return q) (λ q. ap is_return q.4 ∙ sym (ap is_return q.3)) b
-
-  behind-same : (t : ℕ) → behind f t ≡ behind e t
-  behind-same t = ⊎_elim
-      (λ (q : f ≡ e). ap (λ (x : NodeEvent M). behind x t) q)
-      (λ q. ap (λ (x : NodeEvent M). behind x t) q.4 ∙ sym (ap (λ (x : NodeEvent M). behind x t) q.3))
-      b
 
   place-same : (l before k : ℕ) → place_behind l before f k ≡ place_behind l before e k
   place-same l before k = ⊎_elim

@@ -100,11 +100,6 @@ event-dated note step P (Ends i sends) x h = input-dated note P i (with_death (l
 event-dated note step P (Dies s) x h = (h, tt)
 event-dated note step P (Returns s) x h = tt
 
--- what is said of an input in its beat
-input_said : {M : Type 0} → (M → Note) → Input M → List What
-input_said note (Take stamp link msg) = what.Got link (note msg) ∷ []
-input_said note (Tick stamp) = []
-
 module _ {M S : Type 0} (note : M → Note) (step : S → Input M → Deed M S) (c : Course) (n : ℕ) (g : History M S)
     (upto : ℕ) (run : IsTellable note step c n g upto) where
   -- a node's journal behind so many events

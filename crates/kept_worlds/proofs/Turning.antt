@@ -42,28 +42,6 @@ said-over b i es over = ap (said_in b) (drop_all i es over)
 some-same : (a b : ℕ) → Some a ≡ Some b → a ≡ b
 some-same a b e = cc
 
-pub take-next : (m : Note) (sends more : ℕ) (xs ys : List What) → sends_of_take m sends xs ≡ Some more
-    → sends_of_take m sends (xs ++ ys) ≡ sends_of_take m more ys
-take-next m sends more [] ys h = ap (λ k. sends_of_take m k ys) (some-same sends more h)
-take-next m sends more (x ∷ xs) ys h = ⊎_elim
-    (λ (t : is_of_take m x ≡ true).
-    let q : sends_of_take m sends (x ∷ xs) ≡ sends_of_take m (sent_more sends x) xs = rw t refl in
-    rw t (take-next m (sent_more sends x) more xs ys (sym q ∙ h)))
-    (λ (t : is_of_take m x ≡ false).
-    let q : sends_of_take m sends (x ∷ xs) ≡ None = rw t refl in
-    let z : ◌≡◌ {A = Option ℕ} None (Some more) = sym q ∙ h in absurd (cc))
-    (cases_Bool (is_of_take m x))
-
-pub take-none : (m : Note) (sends : ℕ) (xs ys : List What) → sends_of_take m sends xs ≡ None
-    → sends_of_take m sends (xs ++ ys) ≡ None
-take-none m sends [] ys h = absurd (cc)
-take-none m sends (x ∷ xs) ys h = ⊎_elim
-    (λ (t : is_of_take m x ≡ true).
-    let q : sends_of_take m sends (x ∷ xs) ≡ sends_of_take m (sent_more sends x) xs = rw t refl in
-    rw t (take-none m (sent_more sends x) xs ys (sym q ∙ h)))
-    (λ (t : is_of_take m x ≡ false). rw t refl)
-    (cases_Bool (is_of_take m x))
-
 more-by : (b : Bool) (n k : ℕ) → cond b (suc n) n + k ≡ n + cond b (suc k) k
 more-by true n k = omega arith
 more-by false n k = refl
@@ -267,59 +245,7 @@ few-turn t b e = ⊎_elim
     (λ (q : (e.stamp.beat == b && not (is_died e.what)) ≡ false). rw q (omega arith))
     (cases_Bool (e.stamp.beat == b && not (is_died e.what)))
 
-few-take : (m : Note) (sends more : ℕ) (w : What) → sends_of_take m sends (w ∷ []) ≡ Some more → more ≤ sends + 1
-few-take m sends more w h = ⊎_elim
-    (λ (t : is_of_take m w ≡ true).
-    let q : sends_of_take m sends (w ∷ []) ≡ Some (sent_more sends w) = rw t refl in
-    let same = some-same (sent_more sends w) more (sym q ∙ h) in
-    let one = one-more (is_sent w) sends in
-    omega (arith, same, one))
-    (λ (t : is_of_take m w ≡ false).
-    let q : sends_of_take m sends (w ∷ []) ≡ None = rw t refl in
-    let z : ◌≡◌ {A = Option ℕ} None (Some more) = sym q ∙ h in absurd (cc))
-    (cases_Bool (is_of_take m w))
-
-pub few-said : (m : Note) (sends more b : ℕ) (e : Entry) → sends_of_take m sends (said_in b (e ∷ [])) ≡ Some more
-    → more ≤ sends + 1
-few-said m sends more b e h = ⊎_elim
-    (λ (q : (e.stamp.beat == b && not (is_died e.what)) ≡ true).
-    let is : said_in b (e ∷ []) ≡ e.what ∷ [] = rw q refl in
-    few-take m sends more e.what (sym (ap (sends_of_take m sends) is) ∙ h))
-    (λ (q : (e.stamp.beat == b && not (is_died e.what)) ≡ false).
-    let is : said_in b (e ∷ []) ≡ [] = rw q refl in
-    let same = some-same sends more (sym (ap (sends_of_take m sends) is) ∙ h) in omega (arith, same))
-    (cases_Bool (e.stamp.beat == b && not (is_died e.what)))
-
 -- ---- one turn of each loop
-
-pub record TakeLeft (m : Note) (b i : ℕ) (es : List Entry) (sends : ℕ) : Type 0 where
-  pub left : sends_of_take m sends (said_in b (drop i es)) ≡ sends_of_take m 0 (said_in b es)
-  pub few : sends ≤ i
-
-pub take-turn : (m : Note) (b i : ℕ) (es : List Entry) (d : Entry) (sends more : ℕ) → i < length es
-    → sends_of_take m sends (said_in b (get_or es i d ∷ [])) ≡ Some more
-    → sends_of_take m sends (said_in b (drop i es)) ≡ sends_of_take m 0 (said_in b es) → sends ≤ i
-    → TakeLeft m b (i + 1) es more
-take-turn m b i es d sends more low here left few =
-    let up = few-said m sends more b (get_or es i d) here in
-    record {
-      left = sym (take-next m sends more (said_in b (get_or es i d ∷ [])) (said_in b (drop (i + 1) es)) here)
-          ∙ sym (ap (sends_of_take m sends) (said-next b i es d low)) ∙ left;
-      few = omega (arith, up, few);
-    }
-
-pub take-stops : (m : Note) (b i : ℕ) (es : List Entry) (d : Entry) (sends : ℕ) → i < length es
-    → sends_of_take m sends (said_in b (get_or es i d ∷ [])) ≡ None
-    → sends_of_take m sends (said_in b (drop i es)) ≡ sends_of_take m 0 (said_in b es)
-    → None ≡ sends_of_take m 0 (said_in b es)
-take-stops m b i es d sends low here left =
-    sym (take-none m sends (said_in b (get_or es i d ∷ [])) (said_in b (drop (i + 1) es)) here)
-    ∙ sym (ap (sends_of_take m sends) (said-next b i es d low)) ∙ left
-
-pub take-ends : (m : Note) (b i : ℕ) (es : List Entry) (sends : ℕ) → length es ≤ i
-    → sends_of_take m sends (said_in b (drop i es)) ≡ sends_of_take m 0 (said_in b es)
-    → Some sends ≡ sends_of_take m 0 (said_in b es)
-take-ends m b i es sends over left = sym (ap (sends_of_take m sends) (said-over b i es over)) ∙ left
 
 pub record TurnLeft (b i : ℕ) (es : List Entry) (t : Turn) : Type 0 where
   pub left : turns t (said_in b (drop i es)) ≡ turns (record { taking = None; sends = 0 }) (said_in b es)

@@ -1,12 +1,12 @@
 -- The arrivals on a link, one send after the other.
-use Rattle.std.proofs.Common.{◌≡◌, ℕ, ◌+◌, ◌%◌, ◌<◌, ◌≤◌, max, List, [], ◌∷◌, ◌++◌, refl, ap, arith}
+use Rattle.std.proofs.Common.{ℕ, ◌+◌, ◌%◌, ◌<◌, ◌≤◌, max, List, [], ◌∷◌, arith}
 use Rattle.tiger_base.specs.Limits.{most_beats}
 use Rattle.rand_pcg.specs.Pcg.{pcg32}
 use Rattle.link_timing.specs.declared.Delay.{Delay}
 use Rattle.link_timing.specs.declared.Delay.TheVariants as delays
 use Rattle.link_timing.specs.declared.clock.Pace.{Pace}
 use Rattle.link_timing.specs.declared.clock.Pace.TheVariants as paces
-use Rattle.link_timing.specs.Clock.{Clock, pace_of, new_clock, arrival_at, pace_after, after_send, after_sends, arrivals_of, FixedIsWithin, IsPace, IsClock, AreSends, AreArrivals, KeepsOrder}
+use Rattle.link_timing.specs.Clock.{Clock, pace_of, new_clock, arrival_at, pace_after, after_send, arrivals_of, FixedIsWithin, IsPace, IsClock, AreSends, AreArrivals, KeepsOrder}
 
 -- what one send in order gives
 pub record GoesOn (c : Clock) (sent : ℕ) : Type 0 where
@@ -59,12 +59,3 @@ AreArrivals-arrivals_of c (sent ∷ sends) k s =
 pub KeepsOrder-holds : KeepsOrder
 KeepsOrder-holds link most delay sends positive small within s =
     AreArrivals-arrivals_of (new_clock link delay most) sends (IsClock-new_clock link delay most positive small within) s
-
--- one send more
-pub after_sends-push : (c : Clock) (sends : List ℕ) (sent : ℕ) → after_sends c (sends ++ sent ∷ []) ≡ after_send (after_sends c sends) sent
-after_sends-push c [] sent = refl
-after_sends-push c (first ∷ sends) sent = after_sends-push (after_send c first) sends sent
-
-pub arrivals_of-push : (c : Clock) (sends : List ℕ) (sent : ℕ) → arrivals_of c (sends ++ sent ∷ []) ≡ arrivals_of c sends ++ arrival_at (after_sends c sends) sent ∷ []
-arrivals_of-push c [] sent = refl
-arrivals_of-push c (first ∷ sends) sent = ap (λ arrivals. arrival_at c first ∷ arrivals) (arrivals_of-push (after_send c first) sends sent)

@@ -13,13 +13,6 @@ use Rattle.net_read.specs.Meaning.{order_in, orders_from}
 pub record IsLeft (r : NetRing) (n latest asks : ℕ) (front : List NetOrder) (vs : List Value) (i : ℕ) : Type 0 where
   pub same : orders_from r n 0 0 (map view vs) ≡ option_map (λ os. front ++ os) (orders_from r n latest asks (map view (drop i vs)))
 
-nothing_behind : (o : Option (List NetOrder)) → o ≡ option_map (λ (os : List NetOrder). [] ++ os) o
-nothing_behind None = refl
-nothing_behind (Some os) = refl
-
-pub IsLeft-first : (r : NetRing) (n : ℕ) (vs : List Value) → IsLeft r n 0 0 [] vs 0
-IsLeft-first r n vs = record { same = nothing_behind (orders_from r n 0 0 (map view vs)) }
-
 split : (vs : List Value) (i : ℕ) (v : Value) → i < length vs → v ≡ get_or vs i v → drop i vs ≡ v ∷ drop (i + 1) vs
 split vs i v lt is = rw (add-one, drop-cons vs i v) (ap (λ (w : Value). w ∷ drop (suc i) vs) (sym is))
 

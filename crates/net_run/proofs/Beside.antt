@@ -175,10 +175,6 @@ passed_beside left vs r s c h low idle =
       asked = all_asked r.scene.world (event.Renew (record { 0 = c })) vs h.world low refl h.asked;
     }
 
-either_true : (a b : Bool) → a ≡ false → (a || b) ≡ true → b ≡ true
-either_true true b e g = absurd (cc)
-either_true false b e g = g
-
 one_beside : (left : ℕ) (vs : List Instance) (r s : Running) (c : ℕ) → IsBeside left vs r s → c < r.scene.world.ring.cubs → IsBeside left vs (done r (event.Renew (record { 0 = c }))) (renewed_by left s c)
 one_beside left vs r s c h low = cases (has_enough left s) (is_quiet (cub_at s.scene.world c)) refl refl
   where

@@ -5,7 +5,6 @@ pub mod Loads
 pub mod Packets
 pub mod Ranges
 pub mod Scenes
-pub mod Spans
 pub mod Steps
 pub mod Sums
 pub mod Turned

@@ -52,9 +52,6 @@ pub record IsAmid (w : WorldState) (orders : List NetOrder) (step next : ℕ) : 
   pub possible : AreOrdersFrom w.ring steps step asks (drop next orders)
   pub new : OnlyBelow w asks
 
-pub amid_first : (w : WorldState) (orders : List NetOrder) (step first : ℕ) → IsAtStep w orders step first → IsAmid w orders step first
-amid_first w orders step first h = record { rest = λ j low. h.rest j (omega (arith, low)); steps = h.steps; asks = h.asks; possible = h.possible; new = h.new }
-
 -- the next order may be done
 pub head : (w : WorldState) (n step asks : ℕ) (o : NetOrder) → IsOrderIn w.ring n step asks o → OnlyBelow w asks → IsPossible w.ring (event_of o) × (fault_of w (event_of o) ≡ None)
 head w n step asks (order.Ask at entry) h new =

@@ -1,7 +1,7 @@
 -- What an event changes of the sums of placed rates: the entry at its place alone, if it has one.
 use Rattle.std.proofs.Common.{◌≡◌, ◌∙◌, ℕ, zero, suc, ◌+◌, ◌/◌, ◌<◌, ◌&&◌, Bool, true, false, cond, List, [], ◌∷◌, length, get_or, Some, None, Option, refl, sym, ap, subst, arith, eq-eqb}
 use Rattle.std.proofs.Math.ListN.{set}
-use Rattle.std.specs.Prelude.{find, sum_by, slice_get, unwrap_or, IfSome}
+use Rattle.std.specs.Prelude.{find, sum_by, slice_get, unwrap_or}
 use Rattle.std.specs.List.{flat_map}
 use Rattle.std.specs.Option.{is_some}
 use Rattle.std.proofs.lemmas.List.{get_or-set_same}
@@ -26,7 +26,6 @@ use Rattle.net_schedule.proofs.Lists.{sum_put}
 use Rattle.net_schedule.proofs.Finds.{none_any, put_found, state_found}
 use Rattle.net_schedule.proofs.Dominated.{sum_of_parts}
 use Rattle.net_schedule.proofs.Worldly.{can_take, ask_low, ask_can, asked_low}
-use Rattle.net_run.specs.declared.place.Place.{Place}
 use Rattle.net_run.specs.Peaks.{place_by, place_for, place_of, if_placed, placed_at, rate_of}
 
 -- ---- one list
@@ -221,23 +220,3 @@ event_changes w (event.Deliver n) h can none =
     let there = subst (λ (m : ℕ). (goal_of p.0).0 < m) (sym h.count) (can_take w n p.0 h p.1).0 in
     subst (λ (q : Option Packet). Changes w (came w n q) (placed_at w (place_for q)) (placed_at (came w n q) (place_for q))) (sym p.1)
     (packet_changes w n p.0 there)
-
--- a place is at a cub of the ring
-abbrev IsLow : WorldState → Option Place → Type 0
-IsLow w p = IfSome p (λ q. q.cub < w.ring.cubs)
-
-by_low : (w : WorldState) (p : Packet) → (goal_of p).0 < w.ring.cubs → IsLow w (place_by p)
-by_low w (packet.Reserve v at rate to) low = tt
-by_low w (packet.Confirm v to) low = low
-by_low w (packet.Refuse v quantum sum to) low = tt
-by_low w (packet.Release v to) low = tt
-
-pub place_low : (w : WorldState) (e : NetEvent) → IsWorld w → IsPossible w.ring e → IsLow w (place_of w e)
-place_low w (event.Ask v at rate) h can = (ask_low w at h can.0).0
-place_low w (event.Stop v) h can = asked_low w v h
-place_low w (event.Renew c) h can = tt
-place_low w (event.Deliver n) h can = cases (slice_get w.sent n) refl
-  where
-    cases : (p : Option Packet) → slice_get w.sent n ≡ p → IsLow w (place_for p)
-    cases None e = tt
-    cases (Some p) e = by_low w p (can_take w n p h e).0

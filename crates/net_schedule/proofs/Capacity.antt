@@ -106,10 +106,6 @@ sum_none : {X : Type 0} (f : X → ℕ) (xs : List X) → AllByRecursion (λ x. 
 sum_none f [] h = refl
 sum_none f (x ∷ xs) h = omega (arith, h.0, sum_none f xs h.1, sum_by-cons f x xs)
 
--- the placed entries of cub i that take quantum k of cub c: as many as count there, as are kept there, or none
-placed_at : WorldState → ℕ → ℕ → ℕ
-placed_at w k i = sum_by (placed_rate w.ring k) (cub_at w i).own
-
 own_entry : (w : WorldState) (i : ℕ) (o : Own) → IsSeated w i → find (is_of o.entry.instance) (cub_at w i).own ≡ Some o → IsOwnQuantum w.ring i o.entry.at
 own_entry w i o seat f =
     subst (λ (q : NetRing). IsOwnQuantum q i o.entry.at) seat.ring

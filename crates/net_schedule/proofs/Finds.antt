@@ -37,14 +37,6 @@ some_any p (x ∷ xs) e = cases (p x) e (λ g. some_any p xs g)
     cases true g ih = (x, refl)
     cases false g ih = ih g
 
-pub passes : {X : Type 0} (p : X → Bool) (xs : List X) (x : X) → find p xs ≡ Some x → p x ≡ true
-passes p [] x e = absurd (cc)
-passes p (y ∷ ys) x e = cases (p y) refl e (λ g. passes p ys x g)
-  where
-    cases : (b : Bool) → p y ≡ b → cond b (Some y) (find p ys) ≡ Some x → (find p ys ≡ Some x → p x ≡ true) → p x ≡ true
-    cases true t g ih = let same : y ≡ x = cc in subst (λ z. p z ≡ true) same t
-    cases false t g ih = ih g
-
 -- a further element is found, and those of other tests as before
 pub put_found : {X : Type 0} (number : X → ℕ) (p : X → Bool) (x : X) (ys : List X) → p x ≡ true → find p ys ≡ None → find p (put_in number x ys) ≡ Some x
 put_found number p x [] t none = rw t refl

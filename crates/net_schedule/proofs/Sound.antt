@@ -1,5 +1,5 @@
 -- A cub stays sound, and its row right, as entries come, end and go.
-use Rattle.std.proofs.Common.{◌≡◌, ◌∙◌, ℕ, zero, suc, ◌+◌, ◌-◌, ◌*◌, ◌<◌, ◌≤◌, ◌&&◌, ◌==◌, Bool, true, false, not, cond, List, [], ◌∷◌, length, get_or, replicate, Some, None, Option, refl, sym, ap, subst, arith, nat_lt, add-mul, one-mul, ⊎_elim, eq-or-lt_of_le}
+use Rattle.std.proofs.Common.{◌≡◌, ◌∙◌, ℕ, zero, suc, ◌+◌, ◌-◌, ◌*◌, ◌<◌, ◌≤◌, ◌&&◌, ◌==◌, Bool, true, false, not, cond, List, [], ◌∷◌, length, get_or, Some, None, Option, refl, sym, ap, subst, arith, nat_lt, add-mul, one-mul, ⊎_elim, eq-or-lt_of_le}
 use Rattle.std.specs.Prelude.{filter, find, sum_by, option_map}
 use Rattle.std.specs.List.{AllByRecursion, range_with_len}
 use Rattle.std.proofs.lemmas.Bool.{ltb-false}
@@ -10,7 +10,7 @@ use Rattle.net_schedule.specs.declared.ring.Entry.{Entry}
 use Rattle.net_schedule.specs.declared.ring.NetState.{NetState}
 use Rattle.net_schedule.specs.declared.ring.NetState.TheVariants as state
 use Rattle.net_schedule.specs.declared.ring.Own.{Own}
-use Rattle.net_schedule.specs.Rings.{IsRing, IsOwnQuantum, IsEntryOf, takes, before, most_quanta, most_capacity}
+use Rattle.net_schedule.specs.Rings.{IsRing, IsOwnQuantum, IsEntryOf, takes, before, most_quanta}
 use Rattle.net_schedule.specs.Cubs.{waits, CubState, IsSound, HasLoads, IsOwnOf, IsKeptOf, IsMoreBy, is_live, is_waiting, is_of, is_for, is_asked, is_kept, number_of, put_in, with_state, own_rate, kept_rate, carried, first_over, is_over, over_at}
 use Rattle.net_schedule.proofs.Lists.{all_put, sum_put, rises_put, all_state, rises_state, sum_ended, sum_same, all_filter, rises_filter, sum_released, not_there}
 
@@ -62,12 +62,6 @@ own_low s e h is = few_quanta s.ring s.no e.at h.ring h.no is.at.1
 
 pub kept_low : (s : CubState) (e : Entry) → IsSound s → IsKeptOf s.ring s.no e → e.at < most_quanta
 kept_low s e h is = few_quanta s.ring (before s.ring s.no) e.at h.ring (few_before s.ring s.no h.ring h.no) is.entry.at.1
-
--- no number of the row is above the greatest capacity
-pub low_loads : (s : CubState) (loads : List ℕ) → HasLoads s loads → (i : ℕ) → i < length loads → get_or loads i 0 ≤ most_capacity
-low_loads s loads h i low =
-    let less : i < s.ring.quanta = omega (arith, low, h.len) in
-    omega (arith, h.is i less, h.sound.fits (s.no * s.ring.quanta + i) (omega arith, omega (arith, less)), h.sound.ring.few)
 
 -- a row that an entry was added to, and one that it was taken out of
 loads_up : (q first : ℕ) (r : NetRing) (e : Entry) (low high : List ℕ) (f g : ℕ → ℕ) → length low ≡ q → ((i : ℕ) → i < q → get_or low i 0 ≡ f (first + i))
@@ -239,12 +233,6 @@ released_row s loads new v e kept h f is more =
       len = row.0;
       is = row.1;
     }
-
--- a row of a cub of which nothing was asked
-pub zeros : (n i : ℕ) → ◌≡◌ {A = ℕ} (get_or (replicate n 0) i 0) 0
-zeros zero i = refl
-zeros (suc n) zero = refl
-zeros (suc n) (suc i) = zeros n i
 
 -- what is found is one of them
 pub found_all : {X : Type 0} (P : X → Type 0) (p : X → Bool) (xs : List X) (o : X) → AllByRecursion P xs → find p xs ≡ Some o → P o

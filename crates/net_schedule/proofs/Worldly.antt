@@ -297,15 +297,6 @@ acted w x t e old new cubs sent events h low can was eo en sound ec es ee ex et 
     let now : new ≡ turned (cub_at w x) t = en ∙ ap (λ (y : CubState). turned y t) here in
     rw (ec, es ∙ ap (λ (y : CubState). w.sent ++ telling y t) here, ee) (rw now (world_moved w x t e h low can was (subst IsSound now sound) ex et))
 
-pub acted_is : (w : WorldState) (x : ℕ) (t : Turn) (e : NetEvent) (old new : CubState) (cubs : List CubState) (sent : List Packet) (events : List NetEvent) → IsWorld w
-    → x < w.ring.cubs → old ≡ get_or w.cubs x old → new ≡ turned old t
-    → cubs ≡ slice_set w.cubs x new → sent ≡ w.sent ++ telling old t → events ≡ w.events ++ e ∷ []
-    → ◌≡◌ {A = WorldState} (record { ring = w.ring; cubs = cubs; sent = sent; events = events }) (moved w x t e)
-acted_is w x t e old new cubs sent events h low eo en ec es ee =
-    let here : old ≡ cub_at w x = eo ∙ same_at w.cubs x old (fresh_cub w.ring 0) (subst (λ (n : ℕ). x < n) (sym h.count) low) in
-    let now : new ≡ turned (cub_at w x) t = en ∙ ap (λ (y : CubState). turned y t) here in
-    rw (ec, es ∙ ap (λ (y : CubState). w.sent ++ telling y t) here, ee) (rw now refl)
-
 -- Which cub has a turn, and that it may.
 pub ask_low : (w : WorldState) (at : ℕ) → IsWorld w → at < w.ring.cubs * w.ring.quanta → (at / w.ring.quanta < w.ring.cubs) × IsOwnQuantum w.ring (at / w.ring.quanta) at
 ask_low w at h low =

@@ -10,7 +10,7 @@ abbrev pub most_own : ℕ
 most_own = 1000
 
 abbrev pub most_quanta : ℕ
-most_quanta = 64000
+most_quanta = most_cubs * most_own
 
 abbrev pub most_capacity : ℕ
 most_capacity = 1000000000000

@@ -1,11 +1,11 @@
 -- Outputs that are cut off.
 use Rattle.std.proofs.Common.{◌≡◌, ℕ, zero, suc, ◌+◌, ◌-◌, ◌<◌, ◌≤◌, List, [], ◌∷◌, ◌++◌, length, get_or, take, drop}
-use Rattle.std.proofs.Common.{Bool, true, false, refl, ap, sym, ◌∙◌, arith, cond, ⊎_elim, append-nil}
+use Rattle.std.proofs.Common.{Bool, true, false, refl, ap, sym, ◌∙◌, arith, cond, ⊎_elim}
 use Rattle.std.specs.Prelude.{◌==◌, ◌&&◌, ◌||◌}
 use Rattle.std.specs.List.{AllByRecursion}
 use Rattle.std.proofs.lemmas.Bool.{cases_Bool, eqb-true}
 use Rattle.std.proofs.lemmas.Bool.Decides.{nat_tests}
-use Rattle.std.proofs.lemmas.List.{drop_more, drop_all, take_all}
+use Rattle.std.proofs.lemmas.List.{drop_more, take_all}
 use Rattle.node_kit.specs.declared.journal.What.TheVariants.{Died}
 use Rattle.node_kit.specs.declared.outbox.Out.{Out}
 use Rattle.node_kit.specs.declared.outbox.Out.TheVariants.{Act}
@@ -33,17 +33,6 @@ pub cut-goes_on : {M : Type 0} (k : ℕ) (os : List (Out M)) (i : ℕ) → i < l
 cut-goes_on k [] i low on = absurd (omega (arith, low))
 cut-goes_on k (o ∷ os) zero low on = rw on refl
 cut-goes_on k (o ∷ os) (suc i) low on = ap (λ xs. o ∷ xs) (cut-goes_on k os i (omega (arith, low)) on)
-
-pub cut-ends : {M : Type 0} (k : ℕ) (os : List (Out M)) (i : ℕ) → i < length os
-    → (k == 0 && begins_lost (drop i os)) ≡ true
-    → take i os ≡ take i os ++ cut_at k (drop i os)
-cut-ends k [] i low on = absurd (omega (arith, low))
-cut-ends k (o ∷ os) zero low on = rw on refl
-cut-ends k (o ∷ os) (suc i) low on = ap (λ xs. o ∷ xs) (cut-ends k os i (omega (arith, low)) on)
-
-pub cut-past : {M : Type 0} (k : ℕ) (os : List (Out M)) (i : ℕ) → length os ≤ i
-    → take i os ≡ take i os ++ cut_at k (drop i os)
-cut-past k os i low = rw (drop_all i os low) (sym (append-nil (take i os)))
 
 -- Died behind outputs
 taking-same : {M : Type 0} (os : List (Out M)) → begins_taking (os ++ Act Died ∷ []) ≡ begins_taking os

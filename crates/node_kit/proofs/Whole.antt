@@ -1,46 +1,11 @@
 -- Whole lives, whose death cuts no event off and which have no return; and what a life leaves whole.
 use Rattle.std.proofs.Common.{◌≡◌, ℕ, List, [], ◌-◌, Bool, true, false, arith, Option, Some, None, refl, ap}
 use Rattle.std.proofs.Common.{cond}
-use Rattle.std.specs.Prelude.{◌==◌, ◌&&◌, ◌||◌, nat_lt, is_some}
+use Rattle.std.specs.Prelude.{◌==◌, ◌&&◌, is_some}
 use Rattle.tiger_base.specs.declared.number.Stamp.{Stamp}
 use Rattle.node_kit.specs.declared.outbox.Out.{Out}
-use Rattle.node_kit.specs.Life.{Lifetime, mortal, acts, dies, returns, hears, left_in, ends_in, cut_by, cut_to, spent}
-use Rattle.node_kit.specs.Life.{fewer, trimmed}
-
-or-false : (a b : Bool) → (a || (b && false) || false) ≡ a
-or-false true true = refl
-or-false true false = refl
-or-false false true = refl
-or-false false false = refl
-
-and-true : (b : Bool) → (b && true) ≡ b
-and-true true = refl
-and-true false = refl
-
--- who never dies acts in each beat, and who dies in those below its death
-pub acts-undying : (b : ℕ) → acts (mortal None) b ≡ true
-unfolding acts
-acts-undying b = refl
-
-pub acts-mortal : (d b : ℕ) → acts (mortal (Some d)) b ≡ nat_lt b d
-unfolding acts
-acts-mortal d b = or-false (nat_lt b d) (b == d)
-
-pub dies-undying : (b : ℕ) → dies (mortal None) b ≡ false
-unfolding dies
-dies-undying b = refl
-
-pub dies-mortal : (d b : ℕ) → dies (mortal (Some d)) b ≡ (b == d)
-unfolding dies
-dies-mortal d b = and-true (b == d)
-
-pub returns-never : (o : Option ℕ) (b : ℕ) → returns (mortal o) b ≡ false
-unfolding returns
-returns-never o b = refl
-
-pub hears-all : (o : Option ℕ) (sent now : ℕ) → hears (mortal o) sent now ≡ true
-unfolding hears
-hears-all o sent now = refl
+use Rattle.node_kit.specs.Life.{Lifetime, mortal, left_in, ends_in, cut_by, cut_to, spent}
+use Rattle.node_kit.specs.Life.{fewer}
 
 either : {A : Type 0} (t : Bool) (a : A) → cond t a a ≡ a
 either true a = refl
@@ -52,22 +17,6 @@ left-none (Some d) b = either (b == d && true) None
 
 pub ends-never : (o : Option ℕ) (b : ℕ) → ends_in (mortal o) b ≡ false
 ends-never o b = ap (λ (q : Option ℕ). is_some q) (left-none o b)
-
-pub cut-never : {M : Type 0} (o : Option ℕ) (stamp : Stamp) (ticked : Bool) (outs : List (Out M))
-    → cut_to (mortal o) stamp ticked outs ≡ None
-unfolding cut_to
-cut-never o stamp ticked outs = rw (left-none o stamp.beat) refl
-
-pub spent-stays : {M : Type 0} (o : Option ℕ) (stamp : Stamp) (outs : List (Out M))
-    → spent (mortal o) stamp outs ≡ mortal o
-spent-stays None stamp outs = refl
-spent-stays (Some d) stamp outs = either (stamp.beat == d) (mortal (Some d))
-
--- it stays, and its death cuts nothing off
-pub trimmed-stays : {M : Type 0} (o : Option ℕ) (stamp : Stamp) (ticked : Bool) (outs : List (Out M))
-    → trimmed (mortal o) stamp ticked outs ≡ record { life = mortal o; outs = outs }
-unfolding trimmed
-trimmed-stays o stamp ticked outs = rw (cut-never o stamp ticked outs) (rw (spent-stays o stamp outs) refl)
 
 -- in a beat in which no death is to cut the node off, nothing is cut off
 unended-by : {M : Type 0} (o : Option ℕ) (ticked : Bool) (outs : List (Out M)) → is_some o ≡ false

@@ -1,6 +1,6 @@
 -- When a node acts: a cub until it dies, and again from its return on; every other node always. And what a death that
 -- comes in the middle of a beat leaves of an event.
-use Rattle.std.specs.Prelude.{◌≡◌, ℕ, ◌-◌, ◌==◌, nat_lt, nat_le, min, Bool, true, false, not, ◌&&◌, ◌||◌, List, Option}
+use Rattle.std.specs.Prelude.{ℕ, ◌-◌, ◌==◌, nat_lt, nat_le, min, Bool, true, false, not, ◌&&◌, ◌||◌, List, Option}
 use Rattle.std.specs.Prelude.{Some, None, is_some, slice_get, option_and_then, if◌then◌else◌}
 use Rattle.tiger_base.specs.declared.number.Stamp.{Stamp}
 use Rattle.node_kit.specs.declared.course.Course.{Course}
@@ -18,9 +18,6 @@ pub record Lifetime : Type 0 where
 -- a whole life: its death, if it has one, cuts no event off, and it does not return
 abbrev pub mortal : Option ℕ → Lifetime
 mortal death = record { death = death; left = None; back = None; over = false }
-
-abbrev pub IsWholeLife : Lifetime → Type 0
-IsWholeLife life = life ≡ mortal life.death
 
 -- what a course has for node n in a row with one element for each cub
 abbrev pub of_cub : Course → List (Option ℕ) → ℕ → Option ℕ

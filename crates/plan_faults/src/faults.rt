@@ -86,44 +86,26 @@ fn conditions(alloc: Global, p: Params) -> Result<Vec<Condition>, NoMemory>
     ensures { IfOk result (λ v. v.items ≡ conditions p) }
 {
     let way = p.delay * p.beat;
+    let opens = p.window_a + p.skew + p.beat;
+    let answered = p.beat + 2 * way + p.skew;
     let lead = p.read_lead + p.skew + way + p.beat;
+    let soonest = p.window_a + 2 * p.play + p.skew;
+    let latest = p.min_lead + p.batch * p.beat;
+    let told = (p.cubs + 4) * way;
+    let split = p.pieces * (p.beat + way + p.skew);
+    let heard = p.heart * p.beat + way + p.skew;
     Ok(vec![in alloc;
         opens_before(p),
-        at_most(2, p.window_a + p.skew + p.beat, p.play, PlanField::Play),
-        at_most(
-            3,
-            p.beat + 2 * way + p.skew,
-            p.read_lead,
-            PlanField::ReadLead
-        ),
+        at_most(2, opens, p.play, PlanField::Play),
+        at_most(3, answered, p.read_lead, PlanField::ReadLead),
         at_most(4, lead, p.window_b, PlanField::WindowB),
-        at_most(
-            5,
-            p.window_a + 2 * p.play + p.skew,
-            p.min_lead,
-            PlanField::MinLead
-        ),
-        at_most(
-            6,
-            p.min_lead + p.batch * p.beat,
-            p.max_lead,
-            PlanField::MaxLead
-        ),
+        at_most(5, soonest, p.min_lead, PlanField::MinLead),
+        at_most(6, latest, p.max_lead, PlanField::MaxLead),
         within_a_round(p),
-        at_most(8, (p.cubs + 4) * way, p.play, PlanField::Play),
-        at_most(
-            9,
-            p.pieces * (p.beat + way + p.skew),
-            p.play,
-            PlanField::Play
-        ),
+        at_most(8, told, p.play, PlanField::Play),
+        at_most(9, split, p.play, PlanField::Play),
         at_most(10, p.pieces + 2, p.cubs, PlanField::Cubs),
-        at_most(
-            11,
-            p.heart * p.beat + way + p.skew,
-            p.deadman,
-            PlanField::Deadman
-        ),
+        at_most(11, heard, p.deadman, PlanField::Deadman),
         at_most(12, 2 * p.play + p.skew, p.hold, PlanField::Hold),
     ]?)
 }

@@ -9,10 +9,8 @@ pub mod Left
 pub mod Lifetimes
 pub mod Lists
 pub mod Lived
-pub mod Living
 pub mod Missing
 pub mod One
-pub mod Resting
 pub mod Scenarios
 pub mod Sending
 pub mod Stages

@@ -21,7 +21,7 @@ use Rattle.partial_view.specs.Views.{line_at, with_line, with_record, without_in
 use Rattle.cub_rules.specs.declared.store.Store.{Store}
 use Rattle.cub_rules.specs.Records.{with_piece_record}
 use Rattle.cub_rules.specs.Messages.{taking}
-use Rattle.cub_rules.specs.Ticks.{releasing, believing, inserting, must_split, split_outs, split_line, first_pieces, with_each, with_split_lines, splitting, is_to_forward, forward_line, forwarding, must_read, ask_line, reading_blocks, reading_pieces, reading, is_served, is_past, serving_blocks, dropping_backups, serving_pieces, serving, ticking}
+use Rattle.cub_rules.specs.Ticks.{releasing, believing, inserting, split_outs, split_line, first_pieces, with_each, with_split_lines, splitting, forward_line, forwarding, must_read, ask_line, reading_blocks, reading_pieces, reading, is_served, is_past, serving_blocks, dropping_backups, serving_pieces, serving, ticking}
 use Rattle.cub_changes.specs.Changes.{Change, did}
 use Rattle.cub_changes.specs.Changes.Change.{DropLines, TakeRecord, SplitVisits, Forward, AskBlocks, ServeBlocks, DropBackups}
 use Rattle.cub_changes.specs.Causes.{Stage, Cause}
@@ -34,7 +34,7 @@ use Rattle.cub_changes.proofs.Puts.{inserting_by}
 use Rattle.cub_changes.proofs.Ticks.{releasing_by, believing_by}
 use Rattle.lists.specs.Elements.{In}
 use Rattle.lists.proofs.Elements.{chosen, in_left, in_right, in_cases, from_map, from_filter}
-use Rattle.proof_lives.proofs.Moves.{taken_out, from_with_line}
+use Rattle.proof_lives.proofs.Moves.{taken_out, from_with_line, forward_keeps, split_same}
 use Rattle.proof_lives.proofs.Steps.{same_with_pieces, beating_lines}
 use Rattle.proof_facts.specs.Pieces.{before_reading, before_serving}
 
@@ -98,18 +98,6 @@ was_mapped f same lines y i =
 was_filtered : (keep : Line → Bool) (lines : List Line) (y : Line) → In y (filter keep lines) → WasLine lines y
 was_filtered keep lines y i = itself lines y (from_filter keep y lines i).0
 
-split_same : (p : Params) (stamp : Stamp) (x : Line)
-    → ((split_line p stamp x).rec ≡ x.rec) × ((split_line p stamp x).asked ≡ x.asked)
-split_same p stamp x =
-    chosen (λ (y : Line). (y.rec ≡ x.rec) × (y.asked ≡ x.asked)) (must_split p stamp x) (marked flag.Split x) x
-    (λ _. (refl, refl)) (λ _. (refl, refl))
-
-forward_same : (p : Params) (stamp : Stamp) (x : Line)
-    → ((forward_line p stamp x).rec ≡ x.rec) × ((forward_line p stamp x).asked ≡ x.asked)
-forward_same p stamp x =
-    chosen (λ (y : Line). (y.rec ≡ x.rec) × (y.asked ≡ x.asked)) (is_to_forward p stamp x) (marked flag.Forwarded x) x
-    (λ _. (refl, refl)) (λ _. (refl, refl))
-
 without_back : (v : Instance) (lines : List Line) (y : Line) → In y (without_instance v lines) → WasLine lines y
 unfolding without_instance
 without_back v lines y i = was_filtered (λ x. not (is_of v x)) lines y i
@@ -139,10 +127,10 @@ change_none p c stamp (DropLines v) h never =
     sets_none h (did p c stamp (DropLines v) h) (λ y i. without_back v h.view.lines y i)
 change_none p c stamp SplitVisits h never =
     sets_none h (did p c stamp SplitVisits h)
-    (λ y i. was_mapped (split_line p stamp) (split_same p stamp) h.view.lines y i)
+    (λ y i. was_mapped (split_line p stamp) (λ x. ((split_same p stamp x).0, (split_same p stamp x).2)) h.view.lines y i)
 change_none p c stamp Forward h never =
     sets_none h (did p c stamp Forward h)
-    (λ y i. was_mapped (forward_line p stamp) (forward_same p stamp) h.view.lines y i)
+    (λ y i. was_mapped (forward_line p stamp) (forward_keeps p stamp) h.view.lines y i)
 change_none p c stamp ServeBlocks h never =
     sets_none h (did p c stamp ServeBlocks h) (λ y i. was_filtered (λ x. not (is_served p stamp x)) h.view.lines y i)
 change_none p c stamp DropBackups h never =
@@ -178,7 +166,7 @@ splitting_none p c stamp h =
     chosen (λ (d : Deed Msg Store). SetsNoMark h d) h.believes done (nothing h)
     (λ _.
     sets_none h done (λ y i.
-    was_mapped (split_line p stamp) (split_same p stamp) h.view.lines y
+    was_mapped (split_line p stamp) (λ x. ((split_same p stamp x).0, (split_same p stamp x).2)) h.view.lines y
     (subst (λ (ls : List Line). In y ls) (same_with_pieces (flat_map (first_pieces p stamp h.handback) h.view.lines) g) i)))
     (λ _. none_closed.none h)
 
@@ -186,7 +174,7 @@ forwarding_none : (p : Params) (c : ℕ) (stamp : Stamp) (h : Store) → SetsNoM
 unfolding forwarding
 forwarding_none p c stamp h =
     sets_none h (forwarding p c stamp h)
-    (λ y i. was_mapped (forward_line p stamp) (forward_same p stamp) h.view.lines y i)
+    (λ y i. was_mapped (forward_line p stamp) (forward_keeps p stamp) h.view.lines y i)
 
 -- the steps of a tick before it asks
 abbrev pub before_asking : Params → ℕ → Stamp → Store → Deed Msg Store

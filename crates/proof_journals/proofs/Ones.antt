@@ -1,9 +1,9 @@
 -- Lists of which at most one element passes a test, and lists of which a part alone has what passes.
-use Rattle.std.proofs.Common.{◌≡◌, List, [], ◌∷◌, ◌++◌, map, filter, Bool, true, false, refl, sym, ap, subst, ◌∙◌, ⊎_elim, inl, inr}
+use Rattle.std.proofs.Common.{◌≡◌, List, [], ◌∷◌, ◌++◌, map, Bool, true, false, refl, sym, ap, subst, ◌∙◌, ⊎_elim, inl, inr}
 use Rattle.std.proofs.lemmas.Bool.{true≢false}
 use Rattle.cub_changes.proofs.Order.{AreNone, IsOnlyIn}
 use Rattle.lists.specs.Elements.{In}
-use Rattle.lists.proofs.Elements.{chosen, in_left, in_right, in_cases, from_map, from_filter}
+use Rattle.lists.proofs.Elements.{in_left, in_right, in_cases, from_map}
 use Rattle.lists.proofs.Each.{all_in}
 
 -- none passes, and at most one does
@@ -29,12 +29,6 @@ one_append test (x ∷ xs) ys one two apart = (
 pub one_front : {X : Type 0} (test : X → Bool) (xs ys : List X) → IsOne test (xs ++ ys) → IsOne test xs
 one_front test [] ys one = tt
 one_front test (x ∷ xs) ys one = ((λ t. λ y i s. one.0 t y (in_left y xs ys i) s), one_front test xs ys one.1)
-
-pub one_filter : {X : Type 0} (test keep : X → Bool) (xs : List X) → IsOne test xs → IsOne test (filter keep xs)
-one_filter test keep [] one = tt
-one_filter {X} test keep (x ∷ xs) one = chosen (λ (ys : List X). IsOne test ys) (keep x) (x ∷ filter keep xs) (filter keep xs)
-    (λ _. ((λ t. λ y i s. one.0 t y (from_filter keep y xs i).0 s), one_filter test keep xs one.1))
-    (λ _. one_filter test keep xs one.1)
 
 pub one_map : {X Y : Type 0} (f : X → Y) (test : Y → Bool) (xs : List X) → IsOne (λ x. test (f x)) xs → IsOne test (map f xs)
 one_map f test [] one = tt

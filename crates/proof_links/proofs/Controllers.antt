@@ -53,7 +53,7 @@ use Rattle.proof_schedule.specs.Facts.{Facts}
 use Rattle.proof_schedule.specs.StopLaws.{IsStopAt, IsStopWaiting}
 use Rattle.proof_facts.specs.Facts.{BegunAt, facts_of}
 use Rattle.proof_facts.specs.Lives.{lives_of}
-use Rattle.proof_facts.specs.Rings.{IsRingHistory, node_count}
+use Rattle.proof_facts.specs.Rings.{IsRingHistory}
 use Rattle.proof_links.proofs.Carrying.{came_from, did_before, from_cub}
 use Rattle.proof_links.proofs.Nodes.{after_tick, clock, controller_inside, cub_inside, lived, lives_on, rises, ticks_at}
 use Rattle.proof_links.proofs.Ordering.{both_start, finished_by, ordered_before}
@@ -75,18 +75,12 @@ module _ {S : Type 0} {step : S → Input Msg → Deed Msg S} {p : Params} {orde
 
   -- ---- the controller's events
 
-  abbrev inside : controller p < node_count p
-  inside = controller_inside plan ring
-
   -- The controller does not die.
   pub whole : acting h (controller p) ≡ h.count (controller p)
   whole = lives_on plan ring (controller p) (controller_inside plan ring) (omega arith)
 
   pub done_of : (i : ℕ) → i < acting h (controller p) → i < h.count (controller p)
   done_of i low = let w = whole in omega arith
-
-  pub alive_of : (i : ℕ) → i < h.count (controller p) → i < acting h (controller p)
-  alive_of i low = let w = whole in omega arith
 
   pub beat_of : (i : ℕ) → beat h ctrl i ≡ beat_at inputs i
   beat_of i = beat_in h First ctrl i

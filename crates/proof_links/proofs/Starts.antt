@@ -1,5 +1,5 @@
 -- Starts on their links and in the orders: one that came was begun by the controller, and what is begun is ordered.
-use Rattle.std.proofs.Common.{◌≡◌, ℕ, ◌+◌, ◌<◌, ◌≤◌, List, Bool, false, sym, ap, subst, ◌∙◌, arith}
+use Rattle.std.proofs.Common.{◌≡◌, ℕ, ◌≤◌, List, Bool, false, sym, ap, subst, ◌∙◌, arith}
 use Rattle.tiger_base.specs.declared.tenancy.Ask.{Ask}
 use Rattle.tiger_base.specs.declared.message.Msg.{Msg}
 use Rattle.tiger_base.specs.declared.message.Msg.TheVariants as msg
@@ -58,15 +58,6 @@ module _ {S : Type 0} {step : S → Input Msg → Deed Msg S} {p : Params} {orde
 
   pub begun_place : {ask : Ask} {b : ℕ} → BegunAt p orders lives ask b → (k : ℕ) × Starts orders k ask
   begun_place {ask} {b} g = place_of ring.counted ask b (begun_ordered g)
-
-  -- The order of a start that a cub took in beat y, and its place among the orders.
-  pub record TookStart (ask : Ask) (y : ℕ) : Type 0 where
-    pub beat : ℕ
-    pub ordered : In (at_beat beat (Begin ask)) orders
-    pub place : ℕ
-    pub starts : Starts orders place ask
-    pub later : beat < y
-    pub soon : y ≤ beat + p.delay
 
   -- An instance has one order, of one beat, and is stopped in it or after it.
   pub one_begun : {a b : Ask} {x y : ℕ} → BegunAt p orders lives a x → BegunAt p orders lives b y

@@ -29,7 +29,7 @@ use Rattle.proof_schedule.specs.Facts.{GotBy, IsFirstLife}
 use Rattle.proof_schedule.specs.LinkLaws.{WasSent, HeardIn}
 use Rattle.proof_service.specs.ServiceLaws.{WasUp}
 use Rattle.proof_facts.specs.Facts.{beyond_of, facts_of}
-use Rattle.proof_facts.specs.Lives.{lives_of, CameAt}
+use Rattle.proof_facts.specs.Lives.{CameAt}
 use Rattle.proof_facts.specs.Rings.{IsRingHistory}
 use Rattle.proof_lives.proofs.TwoLives.{beat_in}
 use Rattle.proof_links.proofs.Beating.{beats_first}
@@ -40,9 +40,6 @@ use Rattle.proof_links.proofs.Fitting.{fits}
 
 module _ {S : Type 0} {step : S → Input Msg → Deed Msg S} {p : Params} {orders : List Order} {disk_at : ℕ → DiskState}
     {h : History Msg S} (plan : IsPlan p) (ring : IsRingHistory step p orders disk_at h) where
-  abbrev lives : Lives
-  lives = lives_of h
-
   -- What a cub sent on the link to one of the next two cubs came to that cub.
   pub record SentNear (a c : ℕ) (link : LinkNo) : Type 0 where
     pub steps : ℕ

@@ -1,14 +1,13 @@
 -- Which events of a node before its return have an input: all, or all but the last one, its death.
 use Rattle.std.proofs.Common.{◌≡◌, ℕ, zero, suc, ◌+◌, ◌-◌, ◌<◌, ◌≤◌, ◌==◌, Bool, true, false, None, cond, refl, sym, ap, subst, ◌∙◌, arith, ⊎_elim, eq-or-lt_of_le}
 use Rattle.std.proofs.lemmas.Bool.{cases_Bool, eq-eqb, ne_eqb}
-use Rattle.tiger_base.specs.declared.number.Stamp.{Stamp}
 use Rattle.tiger_base.specs.declared.message.Msg.{Msg}
 use Rattle.run_facts.specs.Events.{NodeEvent, is_death, is_return, is_tick_input}
 use Rattle.run_facts.specs.Events.NodeEvent.{Does, Ends, Dies, Returns}
-use Rattle.run_facts.specs.Histories.{History, count_of, ticks, beat, reading}
-use Rattle.proof_lives.specs.Lives.{ticks_at, beat_at, reading_at, cut_in}
+use Rattle.run_facts.specs.Histories.{History, count_of, ticks}
+use Rattle.proof_lives.specs.Lives.{ticks_at, cut_in}
 use Rattle.proof_lives.specs.Histories.{input_of, has_input, cut_of_event, acting, before_return, first_events, lives_of}
-use Rattle.proof_lives.proofs.Carrying.{stamp_same, tick_same}
+use Rattle.proof_lives.proofs.Carrying.{tick_same}
 
 -- an event without an input is a death or a return
 pub without_input : (e : NodeEvent Msg) → has_input e ≡ false → is_return e ≡ false → is_death e ≡ true
@@ -184,11 +183,3 @@ module _ {S : Type 0} (h : History Msg S) (n : ℕ)
       ap (λ (b : Bool). cond b ((lives_of h).cut n) None) e
       ∙ sym (alive_whole (h.event n i) (early i (omega arith))))
       (eq-or-lt_of_le (let z : suc i ≤ acting h n = omega arith in z))
-
--- when an event happens, its input happens
-pub beat_same : {S : Type 0} (h : History Msg S) (n i : ℕ) → beat h n i ≡ beat_at (λ k. input_of (h.event n k)) i
-beat_same h n i = ap (λ (s : Stamp). s.beat) (stamp_same (h.event n i))
-
-pub reading_same : {S : Type 0} (h : History Msg S) (n i : ℕ)
-    → reading h n i ≡ reading_at (λ k. input_of (h.event n k)) i
-reading_same h n i = ap (λ (s : Stamp). s.reading) (stamp_same (h.event n i))

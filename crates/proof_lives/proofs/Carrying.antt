@@ -1,10 +1,10 @@
 -- What the record of a run gives of the cubs of a history: clocks, carrying, and that nobody is a whole beat behind.
-use Rattle.std.proofs.Common.{◌≡◌, ℕ, zero, suc, ◌+◌, ◌-◌, ◌<◌, ◌≤◌, ◌%◌, ◌==◌, List, [], ◌∷◌, ◌++◌, length, Bool, true, false, Option, Some, None, refl, sym, ap, subst, ◌∙◌, arith, ⊎_elim, inl, inr, eq-or-lt_of_le}
+use Rattle.std.proofs.Common.{◌≡◌, ℕ, zero, suc, ◌+◌, ◌-◌, ◌<◌, ◌≤◌, ◌%◌, ◌==◌, List, [], ◌∷◌, ◌++◌, length, true, false, Option, Some, None, refl, sym, ap, subst, ◌∙◌, arith, ⊎_elim, inl, inr}
 use Rattle.std.specs.Prelude.{◌⊎◌, slice_get}
-use Rattle.std.proofs.lemmas.Bool.{cases_lt, eqb-true, eq-eqb}
+use Rattle.std.proofs.lemmas.Bool.{eqb-true, eq-eqb}
 use Rattle.std.proofs.lemmas.Nat.{mod_below}
 use Rattle.std.proofs.lemmas.Option.{none-some}
-use Rattle.std.proofs.Math.Nat.{mod-eq_of_lt, add-mod_left, add-mod_right, mod-add-mod}
+use Rattle.std.proofs.Math.Nat.{mod-eq_of_lt, add-mod_right, mod-add-mod}
 use Rattle.tiger_base.specs.declared.number.LinkNo.{LinkNo}
 use Rattle.tiger_base.specs.declared.number.Stamp.{Stamp}
 use Rattle.tiger_base.specs.declared.message.Msg.{Msg}
@@ -12,6 +12,7 @@ use Rattle.tiger_base.specs.Notes.{noted}
 use Rattle.slot_plan.specs.declared.params.Params.{Params}
 use Rattle.slot_plan.specs.Conditions.{IsPlan}
 use Rattle.slot_plan.specs.Times.{cub_of}
+pub use Rattle.node_kit.proofs.Ring.{steps_made}
 use Rattle.node_kit.specs.declared.outbox.Out.{Out}
 use Rattle.node_kit.specs.declared.outbox.Out.TheVariants as out
 use Rattle.node_kit.specs.Links.{links_of, ends_of}
@@ -22,7 +23,7 @@ use Rattle.node_kit.specs.Ways.{way_ahead, predecessor}
 use Rattle.node_kit.proofs.Ways.{links_sound}
 use Rattle.run_facts.specs.Events.{NodeEvent, Dated, stamp_at, is_tick, is_take_on, sends_of, is_tick_input}
 use Rattle.run_facts.specs.Events.NodeEvent.{Does, Ends, Dies, Returns}
-use Rattle.run_facts.specs.Histories.{History, IsRun, TakesAt, outs, beat, place, count_of}
+use Rattle.run_facts.specs.Histories.{History, IsRun, TakesAt, outs, beat, place}
 use Rattle.run_facts.proofs.Counts.{sent-numbered}
 use Rattle.lists.specs.Elements.{In}
 use Rattle.proof_lives.specs.Histories.{input_of, has_input, cut_of_event}
@@ -129,24 +130,6 @@ get_behind [] ys k x e = let z : 0 + k ≡ k = omega arith in subst (λ n. slice
 get_behind (z ∷ zs) ys k x e = let w : suc (length zs + k) ≡ suc (length zs) + k = omega arith in subst (λ n. slice_get (z ∷ zs ++ ys) n ≡ Some x) w (get_behind zs ys k x e)
 
 -- the links from a cub to those ahead
-pub once_round : (x n : ℕ) → n ≤ x → x < n + n → x % n ≡ x - n
-once_round x n low high =
-    let e : x ≡ n + (x - n) = omega arith in
-    let rest : x - n < n = omega arith in
-    ap (λ y. y % n) e ∙ (add-mod_left n (x - n) ∙ mod-eq_of_lt rest)
-
-pub steps_made : (a k n : ℕ) → a < n → k < n → ((a + k) % n + n - a) % n ≡ k
-steps_made a k n a_in k_in =
-    ⊎_elim
-    (λ (low : a + k < n).
-    let e : (a + k) % n ≡ a + k = mod-eq_of_lt low in
-    rw e (once_round (a + k + n - a) n (omega arith) (omega arith) ∙ omega arith))
-    (λ (high : n ≤ a + k).
-    let e : (a + k) % n ≡ a + k - n = once_round (a + k) n high (omega arith) in
-    let f : a + k - n + n - a ≡ k = omega arith in
-    rw e (rw f (mod-eq_of_lt k_in)))
-    (cases_lt (a + k) n)
-
 pub way_ends : (p : Params) (c k : ℕ) → IsPlan p → c < p.cubs → 1 ≤ k → k ≤ 2 → ends_of (links_of p) (way_ahead p c k).0 ≡ Some (c, cub_of p (c + k))
 unfolding way_ahead cub_of
 way_ends p c k plan here low high =
@@ -182,16 +165,6 @@ is_take l (Ends (Take stamp link m) sends) t = (stamp, link, m, inr (sends, refl
 is_take l (Ends (Tick stamp) sends) t = absurd (cc)
 is_take l (Dies stamp) t = absurd (cc)
 is_take l (Returns stamp) t = absurd (cc)
-
--- of more events as many or more pass a test
-pub count_rises : {S : Type 0} (test : NodeEvent Msg → Bool) (h : History Msg S) (n i j : ℕ) → i ≤ j → count_of test h n i ≤ count_of test h n j
-count_rises test h n i zero l = let e : i ≡ 0 = omega arith in subst (λ k. count_of test h n k ≤ 0) (sym e) (omega arith)
-count_rises test h n i (suc j) l = ⊎_elim
-    (λ (e : i ≡ suc j). subst (λ k. count_of test h n k ≤ count_of test h n (suc j)) (sym e) (omega arith))
-    (λ (g : i < suc j).
-    let r = count_rises test h n i j (omega arith) in
-    chosen (λ (m : ℕ). count_of test h n i ≤ m) (test (h.event n j)) (suc (count_of test h n j)) (count_of test h n j) (λ _. omega arith) (λ _. r))
-    (eq-or-lt_of_le l)
 
 -- what the record of a run gives of each link, whatever the nodes do
 module _ {S : Type 0} (step : S → Input Msg → Deed Msg S) (p : Params) (nodes : ℕ) (h : History Msg S)

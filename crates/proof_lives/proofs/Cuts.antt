@@ -1,8 +1,8 @@
 -- What a death leaves of outputs: what goes out was put out, and what stands before it goes out too.
 use Rattle.std.proofs.Common.{◌≡◌, ℕ, suc, ◌-◌, ◌<◌, ◌≤◌, List, [], ◌∷◌, ◌++◌, Bool, true, false, Option, Some, None, cond, refl, sym, ap, subst, ◌∙◌, arith, ⊎_elim, inl, inr, eq-or-lt_of_le}
-use Rattle.std.specs.Prelude.{◌⊎◌, ◌==◌, ◌&&◌, ◌||◌}
+use Rattle.std.specs.Prelude.{◌==◌, ◌&&◌, ◌||◌}
 use Rattle.std.specs.List.{AllByRecursion}
-use Rattle.std.proofs.lemmas.Bool.{cases_Bool, cases_lt, eqb-true, eq-eqb}
+use Rattle.std.proofs.lemmas.Bool.{cases_lt}
 use Rattle.std.proofs.lemmas.Bool.Decides.{nat_tests}
 use Rattle.tiger_base.specs.declared.message.Msg.{Msg}
 use Rattle.slot_plan.specs.declared.params.Params.{Params}
@@ -97,20 +97,6 @@ module _ (lives : Lives) where
   pub whole_before : (c i j : ℕ) → i < j → j < lives.count c → cut_in lives c i ≡ None
   whole_before c i j l low =
       ap (λ b. cond b (lives.cut c) None) (differ (suc i) (lives.count c) (omega (arith, l, low)))
-
-  -- an input is whole, or it is the last one and cut off
-  pub whole_or_last : (c i : ℕ) → (cut_in lives c i ≡ None) ⊎ ((suc i ≡ lives.count c) × (k : ℕ) × (lives.cut c ≡ Some k) × (cut_in lives c i ≡ Some k))
-  whole_or_last c i = ⊎_elim
-      (λ (e : (suc i == lives.count c) ≡ true).
-      let is : cut_in lives c i ≡ lives.cut c = ap (λ b. cond b (lives.cut c) None) e in
-      by (lives.cut c) refl (eqb-true _ _ e) is)
-      (λ (e : (suc i == lives.count c) ≡ false). inl (ap (λ b. cond b (lives.cut c) None) e))
-      (cases_Bool (suc i == lives.count c))
-    where
-      by : (o : Option ℕ) → lives.cut c ≡ o → suc i ≡ lives.count c → cut_in lives c i ≡ lives.cut c
-          → (cut_in lives c i ≡ None) ⊎ ((suc i ≡ lives.count c) × (k : ℕ) × (lives.cut c ≡ Some k) × (cut_in lives c i ≡ Some k))
-      by None e last is = inl (is ∙ e)
-      by (Some k) e last is = inr (last, k, e, is ∙ e)
 
 module _ (p : Params) (lives : Lives) where
   -- what goes out at an input was put out there

@@ -1,7 +1,7 @@
 -- What a cub does to its view its outputs tell: of one deed after another, and of each change.
 use Rattle.std.proofs.Common.{◌≡◌, ℕ, ◌+◌, List, [], ◌∷◌, ◌++◌, map, filter, Bool, true, false, not, is_some, refl, sym, ap, subst, ◌∙◌, ⊎_elim, inl, inr}
 use Rattle.std.specs.List.{AllByRecursion}
-use Rattle.std.proofs.lemmas.Bool.{cases_Bool, cond_both, eq-eqb, and_parts, not-true}
+use Rattle.std.proofs.lemmas.Bool.{cases_Bool, eq-eqb, and_parts, not-true}
 use Rattle.tiger_base.specs.declared.number.Stamp.{Stamp}
 use Rattle.tiger_base.specs.declared.tenancy.Kind.{Kind}
 use Rattle.tiger_base.specs.declared.tenancy.Kind.TheVariants.{Own, Backup}
@@ -11,20 +11,18 @@ use Rattle.tiger_base.specs.declared.tenancy.Tenancy.{Tenancy}
 use Rattle.tiger_base.specs.declared.message.Msg.{Msg}
 use Rattle.tiger_base.specs.declared.message.Msg.TheVariants as msg
 use Rattle.tiger_base.specs.Kinds.{is_own}
-use Rattle.tiger_base.specs.Records.{want_of}
 use Rattle.slot_plan.specs.declared.params.Params.{Params}
 use Rattle.node_kit.specs.declared.journal.What.TheVariants as what
 use Rattle.node_kit.specs.declared.outbox.Out.{Out}
 use Rattle.node_kit.specs.declared.outbox.Out.TheVariants as out
 use Rattle.node_kit.specs.Steps.{Deed}
 use Rattle.partial_view.specs.declared.line.Line.{Line}
-use Rattle.partial_view.specs.declared.line.Flag.TheVariants as flag
-use Rattle.partial_view.specs.Lines.{is_of, marked, unmarked, visit_of}
+use Rattle.partial_view.specs.Lines.{is_of, unmarked, visit_of}
 use Rattle.partial_view.specs.Views.{line_at, without_instance}
 use Rattle.state_forward.specs.Forwards.{must_forward}
 use Rattle.cub_rules.specs.declared.store.Store.{Store}
-use Rattle.cub_rules.specs.Records.{dropped, stored_for}
-use Rattle.cub_rules.specs.Ticks.{must_split, split_line, is_to_forward, forward_line, must_read, ask_line, is_served, is_past, sent_whole, serve_outs, served_whole}
+use Rattle.cub_rules.specs.Records.{dropped}
+use Rattle.cub_rules.specs.Ticks.{split_line, is_to_forward, forward_line, ask_line, is_served, is_past, serve_outs, served_whole}
 use Rattle.cub_changes.specs.Changes.{Change, did}
 use Rattle.cub_changes.specs.Changes.Change.{DropLines, TakeRecord, SendFirst, SplitVisits, Forward, AskBlocks, ServeBlocks, DropBackups}
 use Rattle.lists.specs.Elements.{In}
@@ -37,7 +35,7 @@ use Rattle.run_model.specs.Fronts.{AnyByRecursion}
 use Rattle.run_model.specs.Views.{same_record}
 use Rattle.lists.proofs.Elements.{in_left, in_right, in_cases, in_map, from_map, in_filter, from_filter, in_flat_map}
 use Rattle.lists.proofs.Each.{all_in}
-use Rattle.proof_lives.proofs.Moves.{from_with_line, in_with_line, stays_with_line, with_record_new}
+use Rattle.proof_lives.proofs.Moves.{from_with_line, in_with_line, stays_with_line, with_record_new, ask_same, forward_same, split_same}
 use Rattle.proof_lives.specs.Records.{recorded_by, AreRecordsOf, AreFromRecords}
 use Rattle.proof_lives.proofs.Told.{record_is, record_same, recorded_append, from_append, any_in, IsQuiet, quiet_recorded, quiet_from, IsDrop, AreDrops, drops_from, IsOther, stays_told, was_told}
 
@@ -247,15 +245,6 @@ module _ (p : Params) (c : ℕ) (stamp : Stamp) where
     states = λ rs a. tt;
   }
 
-  split_same : (x : Line) → (split_line p stamp x).rec ≡ x.rec
-  split_same x = cond_both (must_split p stamp x) (marked flag.Split x) x (λ (y : Line). y.rec ≡ x.rec) (λ _. refl) (λ _. refl)
-
-  forward_same : (x : Line) → (forward_line p stamp x).rec ≡ x.rec
-  forward_same x = cond_both (is_to_forward p stamp x) (marked flag.Forwarded x) x (λ (y : Line). y.rec ≡ x.rec) (λ _. refl) (λ _. refl)
-
-  ask_same : (x : Line) → (ask_line p stamp x).rec ≡ x.rec
-  ask_same x = cond_both (must_read p stamp x) (marked flag.Asked x) x (λ (y : Line). y.rec ≡ x.rec) (λ _. refl) (λ _. refl)
-
   -- each change tells what it does, but for a first state, which follows from a record that was taken before
   pub each : (x : Change) (h : Store) → ((r : Rec) → x ≡ TakeRecord r → is_some (line_at (visit_of r) h.view.lines) ≡ false)
       → ((t : Tenancy) → x ≡ SendFirst t → ⊥) → Tells h (did p c stamp x h)
@@ -279,7 +268,7 @@ module _ (p : Params) (c : ℕ) (stamp : Stamp) where
     each = past_out (is_past p stamp) h;
     only = only_drops DropBackups h (λ r e. absurd (cc)) later (λ e. absurd (cc));
   })
-  each SplitVisits h new later = keeps_quiet SplitVisits h tt later (λ rs a. same_records (split_line p stamp) h.view.lines rs split_same a)
-  each Forward h new later = keeps_quiet Forward h tt later (λ rs a. same_records (forward_line p stamp) h.view.lines rs forward_same a)
-  each AskBlocks h new later = keeps_quiet AskBlocks h tt later (λ rs a. same_records (ask_line p stamp) h.view.lines rs ask_same a)
+  each SplitVisits h new later = keeps_quiet SplitVisits h tt later (λ rs a. same_records (split_line p stamp) h.view.lines rs (λ x. (split_same p stamp x).0) a)
+  each Forward h new later = keeps_quiet Forward h tt later (λ rs a. same_records (forward_line p stamp) h.view.lines rs (forward_same p stamp) a)
+  each AskBlocks h new later = keeps_quiet AskBlocks h tt later (λ rs a. same_records (ask_line p stamp) h.view.lines rs (λ x. (ask_same p stamp x).0) a)
   each other h new later = keeps_quiet other h tt later (λ rs a. a)

@@ -13,10 +13,9 @@ use Rattle.slot_plan.specs.Keys.{Key}
 use Rattle.node_kit.specs.declared.journal.What.TheVariants as what
 use Rattle.node_kit.specs.declared.outbox.Out.{Out}
 use Rattle.node_kit.specs.declared.outbox.Out.TheVariants as out
-use Rattle.node_kit.specs.Deeds.{nothing, each_in_turn}
+use Rattle.node_kit.specs.Deeds.{each_in_turn}
 use Rattle.node_kit.specs.Outputs.{cut_at, fewer_behind}
 use Rattle.node_kit.specs.Steps.{Deed, Input}
-use Rattle.partial_view.specs.declared.line.Line.{Line}
 use Rattle.insert_queue.specs.Queues.{has_start}
 use Rattle.cub_rules.specs.declared.store.Store.{Store}
 use Rattle.cub_rules.specs.Messages.{records_told, is_news, place_told, told, taking}
@@ -24,12 +23,13 @@ use Rattle.cub_rules.specs.Records.{took, dropping_start}
 use Rattle.cub_rules.specs.Ticks.{told_placed}
 use Rattle.run_facts.specs.Events.{is_tick_input}
 use Rattle.lists.specs.Elements.{In}
+use Rattle.cub_changes.proofs.Messages.{took_of}
 use Rattle.lists.proofs.Each.{all_append, all_if}
 use Rattle.lists.proofs.Elements.{chosen, in_right, in_cases}
 use Rattle.proof_lives.specs.Lives.{Lives, cut_in, cut_outs, deed_of, outs_at, outs_in, store_at}
 use Rattle.proof_lives.proofs.Cuts.{is_end, cut_front, IsKept, kept_goes_out}
 use Rattle.proof_lives.proofs.Inputs.{take_of}
-use Rattle.proof_lives.proofs.Moves.{taken_out, is_taken}
+use Rattle.proof_lives.proofs.Moves.{taken_out}
 use Rattle.proof_lives.proofs.Taking.{taking_hears}
 use Rattle.proof_lives.proofs.Telling.{took_told}
 use Rattle.cub_rules.specs.Comebacks.{lets_in, records_let_in}
@@ -57,9 +57,8 @@ unfolding dropping_start
 drop_kept v h = all_if IsKept (has_start h.starts.waiting v) (out.Act (what.Unqueued v) ∷ []) (λ _. ((refl, refl), tt))
 
 took_kept : (r : Rec) (h : Store) → AllByRecursion IsKept (took r h).outs
-unfolding took
 took_kept r h =
-    chosen (λ (d : Deed Msg Store). AllByRecursion IsKept d.outs) (is_taken r h) (nothing h) _ (λ _. tt) (λ _. ((refl, refl), tt))
+    took_of (λ (d : Deed Msg Store). AllByRecursion IsKept d.outs) r h (λ _. tt) (λ _. ((refl, refl), tt))
 
 each_kept : (rs : List Rec) (h : Store) → AllByRecursion IsKept (each_in_turn took rs h).outs
 each_kept [] h = tt

@@ -11,16 +11,12 @@ use Rattle.tiger_base.specs.declared.message.Msg.TheVariants as msg
 use Rattle.slot_plan.specs.declared.params.Params.{Params}
 use Rattle.node_kit.specs.Steps.{Deed, Input}
 use Rattle.node_kit.specs.Steps.Input.{Take, Tick}
-use Rattle.node_kit.specs.Ways.{predecessor}
 use Rattle.deschedule.specs.declared.held.Holding.{Holding}
 use Rattle.deschedule.specs.Holds.{is_of, is_held, with_hold, with_pass, is_kept, holds_at}
-use Rattle.deadman.specs.Silence.{is_silent}
 use Rattle.cub_rules.specs.declared.store.Store.{Store}
-use Rattle.cub_rules.specs.Ticks.{number}
 use Rattle.cub_changes.specs.Changes.Change.{Hold, PassOn, Release}
 use Rattle.cub_changes.specs.Causes.{Stage, IsDeschedule}
 use Rattle.cub_changes.specs.Causes.Stage.{OnMessage}
-use Rattle.cub_changes.proofs.Beliefs.{keep_belief}
 use Rattle.cub_changes.proofs.Closed.{IsClosed, OfEach}
 use Rattle.cub_changes.proofs.Messages.{taking_by}
 use Rattle.cub_changes.proofs.Ticks.{IsOfTick, ticking_by}
@@ -102,14 +98,6 @@ held_from p c (Tick stamp) h =
 
 -- ---- who is believed dead
 
--- ---- along a life
-pub record BelievedBefore (p : Params) (c : ℕ) (inputs : ℕ → Input Msg) (i : ℕ) : Type 0 where
-  pub at : ℕ
-  pub before : at < i
-  pub stamp : Stamp
-  pub is : inputs at ≡ Tick stamp
-  pub silent : is_silent (store_at p c inputs at).watch stamp.reading ≡ true
-
 pub record StoppedBefore (inputs : ℕ → Input Msg) (v : Instance) (i : ℕ) : Type 0 where
   pub at : ℕ
   pub before : at < i
@@ -121,22 +109,6 @@ pub record StoppedBefore (inputs : ℕ → Input Msg) (v : Instance) (i : ℕ) :
   pub same : instance.0 ≡ v.0
 
 module _ (p : Params) (c : ℕ) (inputs : ℕ → Input Msg) where
-  believed_step : (i : ℕ) (k : Input Msg) → inputs i ≡ k → (deed_of p c k (store_at p c inputs i)).state.believes ≡ true
-      → ((store_at p c inputs i).believes ≡ true) ⊎ BelievedBefore p c inputs (suc i)
-  believed_step i (Take stamp link m) is e =
-      let k = keep_belief p c (Take stamp link m) (store_at p c inputs i) in
-      ⊎_elim (λ f. inl f) (λ o. absurd (k.entry (number (predecessor p c)) o).0) (k.written e)
-  believed_step i (Tick stamp) is e =
-      let k = keep_belief p c (Tick stamp) (store_at p c inputs i) in
-      ⊎_elim (λ f. inl f) (λ o. inr (record { at = i; before = omega arith; stamp = stamp; is = is; silent = (k.entry (number (predecessor p c)) o).3 })) (k.written e)
-
-  pub believed_before : (i : ℕ) → (store_at p c inputs i).believes ≡ true → BelievedBefore p c inputs i
-  believed_before zero e = absurd (cc)
-  believed_before (suc i) e = ⊎_elim
-      (λ f. let b = believed_before i f in let l = b.before in record { at = b.at; before = omega arith; stamp = b.stamp; is = b.is; silent = b.silent })
-      (λ k. k)
-      (believed_step i (inputs i) refl e)
-
   stopped_now : (i : ℕ) (v : Instance) (k : Input Msg) → inputs i ≡ k → IsStopOf k v → StoppedBefore inputs v (suc i)
   stopped_now i v (Take stamp link (msg.Deschedule w tag)) e k =
       record { at = i; before = omega arith; stamp = stamp; link = link; instance = w; tag = tag; is = e; same = k }

@@ -1,8 +1,8 @@
 -- What a cub does at any input of its life keeps its journal and its view together.
-use Rattle.std.proofs.Common.{◌≡◌, ℕ, ◌<◌, ◌%◌, ◌==◌, nat_le, List, [], ◌∷◌, ◌++◌, filter, Bool, true, false, not, refl, sym, subst, ⊎_elim, inl, is_some}
+use Rattle.std.proofs.Common.{◌≡◌, ℕ, ◌<◌, nat_le, List, [], ◌∷◌, ◌++◌, filter, Bool, true, false, not, refl, sym, subst, ⊎_elim, inl}
 use Rattle.std.specs.Prelude.{◌⊎◌, ◌&&◌}
 use Rattle.std.specs.List.{AllByRecursion}
-use Rattle.std.proofs.lemmas.Bool.{cond_both, leb-false, not-true}
+use Rattle.std.proofs.lemmas.Bool.{leb-false, not-true}
 use Rattle.tiger_base.specs.declared.number.LinkNo.{LinkNo}
 use Rattle.tiger_base.specs.declared.number.Stamp.{Stamp}
 use Rattle.tiger_base.specs.declared.tenancy.Rec.{Rec}
@@ -17,17 +17,15 @@ use Rattle.slot_plan.specs.Keys.{due_of}
 use Rattle.node_kit.specs.declared.journal.What.TheVariants as what
 use Rattle.node_kit.specs.declared.outbox.Out.{Out}
 use Rattle.node_kit.specs.declared.outbox.Out.TheVariants as out
-use Rattle.node_kit.specs.Deeds.{nothing}
-use Rattle.node_kit.specs.Steps.{Deed, Input}
+use Rattle.node_kit.specs.Steps.{Input}
 use Rattle.node_kit.specs.Steps.Input.{Take, Tick}
 use Rattle.node_kit.specs.Ways.{way_ahead}
 use Rattle.partial_view.specs.declared.line.Line.{Line}
 use Rattle.partial_view.specs.Lines.{key_of}
 use Rattle.cub_rules.specs.declared.store.Store.{Store}
 use Rattle.cub_rules.specs.Messages.{taking}
-use Rattle.cub_rules.specs.Ticks.{is_served, is_past, reading, serving_blocks, dropping_backups, serving_pieces, serving, beating, ticking}
+use Rattle.cub_rules.specs.Ticks.{is_served, is_past, reading, serving_blocks, dropping_backups, serving_pieces, serving, ticking}
 use Rattle.cub_changes.specs.Changes.{Change, did}
-use Rattle.cub_changes.specs.Changes.Change.{Beat}
 use Rattle.cub_changes.specs.Causes.{Cause}
 use Rattle.cub_changes.specs.Causes.Stage.{OnMessage}
 use Rattle.cub_changes.specs.Outputs.{Output, output, ComesOf}
@@ -35,7 +33,7 @@ use Rattle.cub_changes.specs.Outputs.Output.{StateSent}
 use Rattle.cub_changes.proofs.Messages.{taking_by}
 use Rattle.cub_changes.proofs.Order.{from_reading}
 use Rattle.cub_changes.proofs.Outputs.{forms_of, Puts, puts_closed}
-use Rattle.cub_changes.proofs.Ticks.{ticking_by}
+use Rattle.cub_changes.proofs.Ticks.{ticking_by, beating_same}
 use Rattle.run_model.specs.Parts.{IsAtOrBefore, IsForCub}
 use Rattle.proof_lives.specs.Lives.{deed_of, store_at}
 use Rattle.lists.specs.Elements.{In}
@@ -125,20 +123,13 @@ module _ (p : Params) (c : ℕ) where
       let served = from_filter (λ y. not (is_served p stamp y)) x h.view.lines past.0 in
       not_due stamp x (not-true _ served.1) (not-true _ past.1)
 
-  beating_keeps : (stamp : Stamp) (h : Store) → (beating p c stamp h).state ≡ h
-  unfolding beating
-  beating_keeps stamp h =
-      let Keeps : Deed Msg Store → Type 0 = λ d. d.state ≡ h in
-      cond_both (is_some h.comeback) (nothing h) _ Keeps (λ _. refl)
-      (λ _. cond_both (stamp.beat % p.heart == 0) (did p c stamp Beat h) (nothing h) Keeps (λ _. refl) (λ _. refl))
-
   ticking_leaves : (stamp : Stamp) (h : Store) (x : Line) → In x (ticking p c stamp h).state.view.lines
       → stamp.reading < due p x.rec.tenancy.slot.0 x.rec.visit
   unfolding ticking
   ticking_leaves stamp h x i =
       let h6 : Store = (reading p stamp (from_reading p c stamp h)).state in
       serving_leaves stamp h6 x
-      (subst (λ (s : Store). In x s.view.lines) (beating_keeps stamp (serving p c stamp h6).state) i)
+      (subst (λ (s : Store). In x s.view.lines) (beating_same p c stamp (serving p c stamp h6).state) i)
 
 pub keeps_records : CubsKeepTheirRecords
 keeps_records p c inputs i plan here =

@@ -44,7 +44,7 @@ use Rattle.proof_lives.proofs.SameLife.{same_life, lets_in_open, let_in_late}
 use Rattle.proof_lives.specs.InOrder.{CameInOrder, AreInOrder}
 use Rattle.proof_lives.proofs.Standing.{standing}
 use Rattle.proof_lives.proofs.Reaching.{stop_below, let_go}
-use Rattle.proof_lives.proofs.Fitting.{Fits, alone_fits}
+use Rattle.proof_lives.proofs.Fitting.{Fits}
 
 -- who is given a record stands beside the state's visit
 pub given_beside : (p : Params) (c : ℕ) (t : Tenancy) (m n : ℕ) → IsGiven p c t m n → IsBeside p c m

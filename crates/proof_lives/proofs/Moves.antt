@@ -125,9 +125,6 @@ untaken p c May lines d e none = record {
   took = λ r h. absurd (none r h);
 }
 
-pub still : (p : Params) (c : ℕ) (May : Rec → Type 0) (lines : List Line) (d : Deed Msg Store) → d.state.view.lines ≡ lines → AreQuiet d.outs → Moves p c May lines d
-still p c May lines d e q = untaken p c May lines d e (λ r h. quiet_took r d.outs q h)
-
 -- one deed, and then another
 module _ (p : Params) (c : ℕ) (May : Rec → Type 0) (lines : List Line) (d e : Deed Msg Store) (one : Moves p c May lines d) (two : Moves p c May d.state.view.lines e) where
   pub back_was : (y z : Line) → y.rec ≡ z.rec → (y.forwarded ≡ z.forwarded) ⊎ IsMarked p c e.outs y → WasThere p c lines d.outs z → WasThere p c lines (d.outs ++ e.outs) y
@@ -264,16 +261,23 @@ past_due : (p : Params) (stamp : Stamp) (x : Line) → is_past p stamp x ≡ tru
 unfolding is_past
 past_due p stamp x e = leb-true _ _ (and_parts (not (is_own x.rec.kind)) (nat_le (due_of p (key_of x)) stamp.reading) e).1
 
-pub split_same : (p : Params) (stamp : Stamp) (x : Line) → ((split_line p stamp x).rec ≡ x.rec) × ((split_line p stamp x).forwarded ≡ x.forwarded)
+-- a mark leaves a line's record and its other marks
+pub split_same : (p : Params) (stamp : Stamp) (x : Line) → ((split_line p stamp x).rec ≡ x.rec)
+    × ((split_line p stamp x).forwarded ≡ x.forwarded) × ((split_line p stamp x).asked ≡ x.asked)
 split_same p stamp x =
-    chosen (λ (y : Line). (y.rec ≡ x.rec) × (y.forwarded ≡ x.forwarded)) (must_split p stamp x) (marked flag.Split x) x (λ _. (refl, refl)) (λ _. (refl, refl))
+    chosen (λ (y : Line). (y.rec ≡ x.rec) × (y.forwarded ≡ x.forwarded) × (y.asked ≡ x.asked)) (must_split p stamp x)
+    (marked flag.Split x) x (λ _. (refl, refl, refl)) (λ _. (refl, refl, refl))
 
 pub ask_same : (p : Params) (stamp : Stamp) (x : Line) → ((ask_line p stamp x).rec ≡ x.rec) × ((ask_line p stamp x).forwarded ≡ x.forwarded)
 ask_same p stamp x =
     chosen (λ (y : Line). (y.rec ≡ x.rec) × (y.forwarded ≡ x.forwarded)) (must_read p stamp x) (marked flag.Asked x) x (λ _. (refl, refl)) (λ _. (refl, refl))
 
+pub forward_keeps : (p : Params) (stamp : Stamp) (x : Line) → ((forward_line p stamp x).rec ≡ x.rec) × ((forward_line p stamp x).asked ≡ x.asked)
+forward_keeps p stamp x =
+    chosen (λ (y : Line). (y.rec ≡ x.rec) × (y.asked ≡ x.asked)) (is_to_forward p stamp x) (marked flag.Forwarded x) x (λ _. (refl, refl)) (λ _. (refl, refl))
+
 pub forward_same : (p : Params) (stamp : Stamp) (x : Line) → (forward_line p stamp x).rec ≡ x.rec
-forward_same p stamp x = chosen (λ (y : Line). y.rec ≡ x.rec) (is_to_forward p stamp x) (marked flag.Forwarded x) x (λ _. refl) (λ _. refl)
+forward_same p stamp x = (forward_keeps p stamp x).0
 
 forward_sent : (p : Params) (c : ℕ) (stamp : Stamp) (x : Line) → is_to_forward p stamp x ≡ true → NextSent p c x.rec (forward_outs p c stamp x)
 forward_sent p c stamp x e = rw e (inl refl, inr (inl refl))

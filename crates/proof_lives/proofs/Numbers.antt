@@ -1,96 +1,18 @@
 -- The numbers of messages on a link, in a life of the node that takes them: which event takes which, and what a return loses.
-use Rattle.std.proofs.Common.{◌≡◌, ℕ, zero, suc, ◌+◌, ◌<◌, ◌≤◌, ◌==◌, List, [], ◌∷◌, ◌++◌, length, filter, nat_lt, Bool, true, false, cond, refl, sym, ap, subst, arith, ⊎_elim, eq-or-lt_of_le, length-append}
+use Rattle.std.proofs.Common.{◌≡◌, ℕ, zero, suc, ◌+◌, ◌<◌, ◌≤◌, ◌==◌, List, [], ◌∷◌, ◌++◌, length, filter, nat_lt, true, false, refl, ap, subst, arith, ⊎_elim, eq-or-lt_of_le, length-append}
 use Rattle.std.specs.Prelude.{◌⊎◌}
-use Rattle.std.proofs.lemmas.Bool.{cases_Bool, cases_lt, lt-ltb, le-ltb}
+use Rattle.std.proofs.lemmas.Bool.{cases_Bool, lt-ltb, le-ltb}
 use Rattle.tiger_base.specs.declared.message.Msg.{Msg}
 use Rattle.tiger_base.specs.Notes.{noted}
 use Rattle.slot_plan.specs.declared.params.Params.{Params}
 use Rattle.node_kit.specs.declared.outbox.Out.{Out}
 use Rattle.node_kit.specs.declared.outbox.Out.TheVariants as out
 use Rattle.node_kit.specs.Steps.{Deed, Input}
-use Rattle.run_facts.specs.Events.{NodeEvent, Dated, is_return, is_take_on, sends_of}
-use Rattle.run_facts.specs.Events.NodeEvent.{Does, Ends, Dies, Returns}
+use Rattle.run_facts.specs.Events.{Dated, sends_of}
 use Rattle.run_facts.specs.Histories.{History, IsRun, below, beat, outs, place, sent}
 use Rattle.lists.proofs.Elements.{chosen}
+pub use Rattle.run_facts.proofs.Passing.{places_rise, taken_between, takes_next}
 use Rattle.proof_lives.proofs.Returns.{beats_never_fall}
-
--- ---- what is taken
-
--- an event that is no return takes the next number of a link, or none
-going_on : {S : Type 0} (l : ℕ) (h : History Msg S) (n i : ℕ) → is_return (h.event n i) ≡ false
-    → place l h n (suc i) ≡ cond (is_take_on l (h.event n i)) (suc (place l h n i)) (place l h n i)
-going_on l h n i here =
-    ap (λ (b : Bool). cond b (h.before l) (cond (is_take_on l (h.event n i)) (suc (place l h n i)) (place l h n i))) here
-
-no_return : (l : ℕ) (e : NodeEvent Msg) → is_take_on l e ≡ true → is_return e ≡ false
-no_return l (Does i) t = refl
-no_return l (Ends i sends) t = refl
-no_return l (Dies stamp) t = refl
-no_return l (Returns stamp) t = absurd (cc)
-
-module _ {S : Type 0} (l : ℕ) (h : History Msg S) (n : ℕ) where
-  pub takes_next : (i : ℕ) → is_take_on l (h.event n i) ≡ true → place l h n (suc i) ≡ place l h n i + 1
-  takes_next i t =
-      let q = going_on l h n i (no_return l (h.event n i) t) in
-      let r : cond (is_take_on l (h.event n i)) (suc (place l h n i)) (place l h n i) ≡ suc (place l h n i) =
-      ap (λ (b : Bool). cond b (suc (place l h n i)) (place l h n i)) t in
-      omega arith
-
-  -- the numbers never fall while the node does not return
-  pub places_rise : (i j : ℕ) → ((k : ℕ) → i ≤ k → k < j → is_return (h.event n k) ≡ false) → i ≤ j
-      → place l h n i ≤ place l h n j
-  places_rise i zero here le =
-      let z : i ≡ 0 = omega arith in subst (λ k. place l h n k ≤ place l h n 0) (sym z) (omega arith)
-  places_rise i (suc j) here le = ⊎_elim
-      (λ (e : i ≡ suc j). subst (λ k. place l h n k ≤ place l h n (suc j)) (sym e) (omega arith))
-      (λ (less : i < suc j).
-      let r = places_rise i j (λ k low high. here k low (omega arith)) (omega arith) in
-      let q = going_on l h n j (here j (omega arith) (omega arith)) in
-      ⊎_elim
-      (λ (t : is_take_on l (h.event n j) ≡ true). let next = takes_next j t in omega arith)
-      (λ (f : is_take_on l (h.event n j) ≡ false).
-      let s : cond (is_take_on l (h.event n j)) (suc (place l h n j)) (place l h n j) ≡ place l h n j =
-      ap (λ (b : Bool). cond b (suc (place l h n j)) (place l h n j)) f in
-      omega arith)
-      (cases_Bool (is_take_on l (h.event n j))))
-      (eq-or-lt_of_le le)
-
-  -- an event between two others takes the message of a number
-  pub record TakenBetween (i j number : ℕ) : Type 0 where
-    pub at : ℕ
-    pub from : i ≤ at
-    pub before : at < j
-    pub takes : is_take_on l (h.event n at) ≡ true
-    pub is : place l h n at ≡ number
-
-  -- each number between those of the two events is taken so
-  pub taken_between : (i j number : ℕ) → ((k : ℕ) → i ≤ k → k < j → is_return (h.event n k) ≡ false) → i ≤ j
-      → place l h n i ≤ number → number < place l h n j → TakenBetween i j number
-  taken_between i zero number here le low high =
-      let z : i ≡ 0 = omega arith in
-      let q : place l h n i ≡ place l h n 0 = ap (place l h n) z in
-      absurd (omega arith)
-  taken_between i (suc j) number here le low high = ⊎_elim
-      (λ (e : i ≡ suc j).
-      let q : place l h n i ≡ place l h n (suc j) = ap (place l h n) e in absurd (omega arith))
-      (λ (less : i < suc j). ⊎_elim
-      (λ (early : number < place l h n j).
-      let r = taken_between i j number (λ k a b. here k a (omega arith)) (omega arith) low early in
-      let before = r.before in
-      record { at = r.at; from = r.from; before = omega arith; takes = r.takes; is = r.is })
-      (λ (late : place l h n j ≤ number).
-      let q = going_on l h n j (here j (omega arith) (omega arith)) in
-      ⊎_elim
-      (λ (t : is_take_on l (h.event n j) ≡ true).
-      let next = takes_next j t in
-      record { at = j; from = omega arith; before = omega arith; takes = t; is = omega arith })
-      (λ (f : is_take_on l (h.event n j) ≡ false).
-      let s : cond (is_take_on l (h.event n j)) (suc (place l h n j)) (place l h n j) ≡ place l h n j =
-      ap (λ (b : Bool). cond b (suc (place l h n j)) (place l h n j)) f in
-      absurd (omega arith))
-      (cases_Bool (is_take_on l (h.event n j))))
-      (cases_lt number (place l h n j)))
-      (eq-or-lt_of_le le)
 
 -- ---- what was sent below a beat
 

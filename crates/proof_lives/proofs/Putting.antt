@@ -21,7 +21,6 @@ use Rattle.node_kit.specs.declared.outbox.Out.TheVariants as out
 use Rattle.node_kit.specs.Steps.{Deed}
 use Rattle.partial_view.specs.Lines.{visit_of}
 use Rattle.node_kit.specs.Ways.{way_ahead, predecessor}
-use Rattle.node_kit.specs.Deeds.{nothing}
 use Rattle.cub_rules.specs.declared.store.Store.{Store}
 use Rattle.cub_rules.specs.Records.{took}
 use Rattle.cub_rules.specs.Ticks.{disks_at, putting, told_placed, putting_own, putting_for_dead}
@@ -34,7 +33,8 @@ use Rattle.cub_changes.proofs.Outputs as outputs
 use Rattle.cub_changes.proofs.Puts.{own_from, dead_from}
 use Rattle.proof_schedule.specs.Facts.{IsGiven}
 use Rattle.lists.specs.Elements.{In}
-use Rattle.lists.proofs.Elements.{chosen, in_left, in_right}
+use Rattle.cub_changes.proofs.Messages.{took_of}
+use Rattle.lists.proofs.Elements.{in_left, in_right}
 use Rattle.proof_lives.proofs.Moves.{Never, IsMeek, taken_out, is_taken, took_new, untaken, take_moves}
 use Rattle.proof_lives.proofs.Inserting.{Nobody, put_out, state_out, none_at, PutWell, Fresh, fresh_closed, Puts, opening}
 
@@ -58,8 +58,7 @@ abbrev pub TakesForDead : Tenancy → Rec → Type 0
 TakesForDead t r = (r ≡ backup_of t t.first) ⊎ ((r ≡ own_of t (t.first + 1)) × (nat_lt t.first t.last ≡ true))
 
 took_all : (Q : Out Msg → Type 0) (r : Rec) → Q (taken_out r) → (h : Store) → AllByRecursion Q (took r h).outs
-unfolding took
-took_all Q r one h = chosen (λ (d : Deed Msg Store). AllByRecursion Q d.outs) (is_taken r h) (nothing h) _ (λ _. tt) (λ _. (one, tt))
+took_all Q r one h = took_of (λ (d : Deed Msg Store). AllByRecursion Q d.outs) r h (λ _. tt) (λ _. (one, tt))
 
 module _ (p : Params) (c : ℕ) (stamp : Stamp) where
   pub own_outs : (t : Tenancy) (h : Store) → AllByRecursion (OfPut p c t (TakesOwn t)) (putting_own p c t h).outs
@@ -75,9 +74,8 @@ module _ (p : Params) (c : ℕ) (stamp : Stamp) where
 
   -- ---- what it does to lines
   pub fresh_took : (r : Rec) (h : Store) → Fresh p c h (took r h)
-  unfolding took
   fresh_took r h =
-      chosen (λ (d : Deed Msg Store). Fresh p c h d) (is_taken r h) (nothing h) _ (λ _. (fresh_closed p c).none h)
+      took_of (λ (d : Deed Msg Store). Fresh p c h d) r h (λ _. (fresh_closed p c).none h)
       (λ e. record {
         moves = take_moves p c stamp Never r h e;
         fresh = λ s x i j at. ⊎_elim

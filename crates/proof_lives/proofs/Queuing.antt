@@ -1,5 +1,5 @@
 -- The starts that a cub keeps, and when it last heard its predecessor: which messages and steps change that.
-use Rattle.std.proofs.Common.{◌≡◌, ℕ, ◌++◌, Bool, true, false, not, Option, Some, None, refl, sym, ap, subst, ◌∙◌, ⊎_elim, inl, inr, append-nil}
+use Rattle.std.proofs.Common.{◌≡◌, ℕ, ◌++◌, Bool, not, Option, Some, None, refl, sym, ap, subst, ◌∙◌, ⊎_elim, inl, inr, append-nil}
 use Rattle.std.specs.Prelude.{◌⊎◌, ◌&&◌}
 use Rattle.std.proofs.lemmas.Bool.{eq-eqb}
 use Rattle.tiger_base.specs.declared.number.Instance.{Instance}
@@ -12,17 +12,16 @@ use Rattle.tiger_base.specs.declared.message.Msg.{Msg}
 use Rattle.tiger_base.specs.declared.message.Msg.TheVariants as msg
 use Rattle.slot_plan.specs.declared.params.Params.{Params}
 use Rattle.slot_plan.specs.Keys.{Key}
-use Rattle.insert_queue.specs.Queues.{Queues, with_waiting, without_start, after_take_over, IsOnce}
+use Rattle.insert_queue.specs.Queues.{Queues, without_start, after_take_over, IsOnce}
 use Rattle.insert_queue.proofs.Once.{IsOnce-more, IsOnce-end, IsOnce-without}
-use Rattle.deschedule.specs.Holds.{is_held, must_pass}
+use Rattle.deschedule.specs.Holds.{must_pass}
 use Rattle.deadman.specs.Silence.{Silence, is_silent}
 use Rattle.node_kit.specs.Steps.{Deed}
 use Rattle.node_kit.specs.Ways.{way_ahead, predecessor}
 use Rattle.node_kit.specs.Deeds.{nothing}
 use Rattle.cub_rules.specs.declared.store.Store.{Store}
-use Rattle.cub_rules.specs.State.{is_ask}
 use Rattle.cub_rules.specs.Records.{took, dropping_lines, dropping_start, dropping_pieces}
-use Rattle.cub_rules.specs.Messages.{passing_on, passing_from, shows, meeting_start, position, holding, killing_splits, descheduling, hearing_beat, hearing, taking}
+use Rattle.cub_rules.specs.Messages.{passing_on, passing_from, meeting_start, position, holding, killing_splits, descheduling, hearing_beat, hearing, taking}
 use Rattle.cub_rules.specs.Ticks.{releasing, believing, inserting, ticking}
 use Rattle.cub_changes.specs.Changes.{Change, did}
 use Rattle.cub_changes.specs.Changes.Change.{DropStart, Queue, QueueApart, HearBeat, Believe, PutStart}
@@ -31,10 +30,9 @@ use Rattle.cub_changes.specs.Causes.Stage.{OnMessage, OnService}
 use Rattle.cub_changes.proofs.Closed.{IsClosed, OfEach}
 use Rattle.cub_changes.proofs.Beliefs.{Minds, minds_closed, minds_each}
 use Rattle.cub_changes.proofs.Fits.{IsOfService, fits}
-use Rattle.cub_changes.proofs.Messages.{taking_by}
+use Rattle.cub_changes.proofs.Messages.{taking_by, took_of}
 use Rattle.cub_changes.proofs.Ticks.{before_inserting, before_splitting, service_by, ticking_by}
 use Rattle.lists.proofs.Elements.{chosen}
-use Rattle.proof_lives.proofs.Moves.{is_taken}
 
 -- ---- single rules
 
@@ -43,8 +41,7 @@ abbrev pub Steady : Store → Deed Msg Store → Type 0
 Steady h d = (d.state.starts ≡ h.starts) × (d.state.watch ≡ h.watch)
 
 pub took_steady : (r : Rec) (h : Store) → Steady h (took r h)
-unfolding took
-took_steady r h = chosen (λ (d : Deed Msg Store). Steady h d) (is_taken r h) (nothing h) _ (λ _. (refl, refl)) (λ _. (refl, refl))
+took_steady r h = took_of (Steady h) r h (λ _. (refl, refl)) (λ _. (refl, refl))
 
 passing_steady : (p : Params) (c : ℕ) (stamp : Stamp) (v : Instance) (o : Option Key) (h : Store) → Steady h (passing_from p c stamp v o h)
 unfolding passing_on
@@ -60,12 +57,6 @@ descheduling_after p c stamp v tag h =
     let h1 : Store = (holding p stamp v h).state in
     let passed = passing_steady p c stamp v (position p c v tag h1.view.lines) h1 in
     (ap (λ (q : Queues). without_start q v) passed.0, passed.1)
-
--- a plain start that nothing stands against joins the waiting ones
-pub start_joins : (a : Ask) (h : Store) → h.comeback ≡ None → is_ask a ≡ true → is_held h.held a.instance ≡ false
-    → shows h.view.lines a.instance ≡ false → (meeting_start a false h).state.starts ≡ with_waiting h.starts a
-unfolding meeting_start
-start_joins a h first ask held shown = rw (first, ask, held, shown) refl
 
 pub beat_heard : (p : Params) (c : ℕ) (stamp : Stamp) (link : LinkNo) (h : Store) → link.0 ≡ (way_ahead p (predecessor p c) 1).0 → (hearing_beat p c stamp link h).state.watch ≡ record h.watch { heard = stamp.reading }
 unfolding hearing_beat
@@ -110,12 +101,6 @@ once_each p c stamp g from Believe h cause = λ o. subst IsOnce (sym (append-nil
 once_each p c stamp g from other h cause = λ o. o
 
 -- ---- what a message makes of the starts that wait, and of the watch
-
--- a message tells of an instance
-abbrev pub Tells : Msg → Instance → Type 0
-Tells (msg.ViewerState s) v = s.tenancy.instance ≡ v
-Tells (msg.Deschedule w tag) v = w ≡ v
-Tells other v = ⊥
 
 -- a heartbeat of the predecessor is heard
 abbrev pub IsHeard : Params → ℕ → Stamp → LinkNo → Msg → Silence → Silence → Type 0

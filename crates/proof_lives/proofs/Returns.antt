@@ -1,24 +1,19 @@
 -- What a run gives of a node before its return and behind it: which events are deaths, and how its beats rise.
-use Rattle.std.proofs.Common.{◌≡◌, ℕ, zero, suc, ◌+◌, ◌<◌, ◌≤◌, Bool, true, false, None, cond, refl, sym, ap, subst, ◌∙◌, arith, ⊎_elim, eq-or-lt_of_le}
+use Rattle.std.proofs.Common.{◌≡◌, ℕ, zero, suc, ◌+◌, ◌<◌, ◌≤◌, Bool, true, false, None, cond, refl, sym, ap, ◌∙◌, arith, ⊎_elim}
 use Rattle.std.proofs.lemmas.Bool.{cases_Bool, cases_lt}
 use Rattle.tiger_base.specs.declared.message.Msg.{Msg}
 use Rattle.tiger_base.specs.Notes.{noted}
 use Rattle.slot_plan.specs.declared.params.Params.{Params}
 use Rattle.node_kit.specs.Steps.{Deed, Input}
-use Rattle.run_facts.specs.Events.{NodeEvent, behind, is_death, is_return, is_tick, is_tick_input, stamp_at}
+use Rattle.run_facts.specs.Events.{NodeEvent, behind, is_death, is_return, is_tick_input}
 use Rattle.run_facts.specs.Events.NodeEvent.{Does, Ends, Dies, Returns}
 use Rattle.run_facts.specs.Histories.{History, IsRun, beat, open_beat, ticks}
+pub use Rattle.run_facts.proofs.Passing.{beats_never_fall, ends_beat, opens_after, opens_by, opens_rise}
+use Rattle.run_facts.proofs.Passing.{death_here, return_opens}
 use Rattle.run_facts.proofs.Recording.{open-ticked}
 use Rattle.proof_lives.specs.Lives.{ticks_at}
 use Rattle.proof_lives.specs.Histories.{cut_of_event, first_events, has_input, input_of, later_from}
 use Rattle.proof_lives.proofs.Acting.{alive_whole, front_is, without_input}
-
--- the beat of a return is open behind it
-pub return_opens : (e : NodeEvent Msg) (b : ℕ) → is_return e ≡ true → behind e b ≡ (stamp_at e).beat
-return_opens (Does i) b t = absurd (cc)
-return_opens (Ends i sends) b t = absurd (cc)
-return_opens (Dies stamp) b t = absurd (cc)
-return_opens (Returns stamp) b t = refl
 
 -- a tick ends its beat, and no other event but a return opens one
 pub input_opens : (e : NodeEvent Msg) (b : ℕ) → has_input e ≡ true
@@ -28,33 +23,8 @@ input_opens (Ends i sends) b t = refl
 input_opens (Dies stamp) b t = absurd (cc)
 input_opens (Returns stamp) b t = absurd (cc)
 
-pub tick_opens : (e : NodeEvent Msg) (b : ℕ) → is_tick e ≡ true → behind e b ≡ suc b
-tick_opens (Does i) b t = ap (λ (x : Bool). cond x (suc b) b) t
-tick_opens (Ends i sends) b t = ap (λ (x : Bool). cond x (suc b) b) t
-tick_opens (Dies stamp) b t = absurd (cc)
-tick_opens (Returns stamp) b t = absurd (cc)
-
-opens_least : (e : NodeEvent Msg) (b : ℕ) → is_return e ≡ false → b ≤ behind e b
-opens_least (Does i) b f = ⊎_elim (λ (t : is_tick_input i ≡ true). rw t (omega arith))
-    (λ (t : is_tick_input i ≡ false). rw t (omega arith)) (cases_Bool (is_tick_input i))
-opens_least (Ends i sends) b f = ⊎_elim (λ (t : is_tick_input i ≡ true). rw t (omega arith))
-    (λ (t : is_tick_input i ≡ false). rw t (omega arith)) (cases_Bool (is_tick_input i))
-opens_least (Dies stamp) b f = omega arith
-opens_least (Returns stamp) b f = absurd (cc)
-
-opens_most : (e : NodeEvent Msg) (b : ℕ) → is_return e ≡ false → behind e b ≤ b + 1
-opens_most (Does i) b f = ⊎_elim (λ (t : is_tick_input i ≡ true). rw t (omega arith))
-    (λ (t : is_tick_input i ≡ false). rw t (omega arith)) (cases_Bool (is_tick_input i))
-opens_most (Ends i sends) b f = ⊎_elim (λ (t : is_tick_input i ≡ true). rw t (omega arith))
-    (λ (t : is_tick_input i ≡ false). rw t (omega arith)) (cases_Bool (is_tick_input i))
-opens_most (Dies stamp) b f = omega arith
-opens_most (Returns stamp) b f = absurd (cc)
-
 pub no_death_back : (e : NodeEvent Msg) → is_death e ≡ true → is_return e ≡ true → ⊥
-no_death_back (Does i) d b = absurd (cc)
-no_death_back (Ends i sends) d b = absurd (cc)
-no_death_back (Dies stamp) d b = absurd (cc)
-no_death_back (Returns stamp) d b = absurd (cc)
+no_death_back e d b = let here = death_here e d in absurd (cc)
 
 module _ {S : Type 0} {step : S → Input Msg → Deed Msg S} {p : Params} {nodes : ℕ} {h : History Msg S}
     (run : IsRun noted step p nodes h) (n : ℕ) (known : n < nodes) where
@@ -131,80 +101,6 @@ module _ {S : Type 0} {step : S → Input Msg → Deed Msg S} {p : Params} {node
   later_whole i more low = alive_whole (h.event n i) (later_alive i more low)
 
   -- ---- beats
-
-  -- no beat is open above that of an event before it, and none below it behind the event
-  pub opens_by : (i : ℕ) → i < h.count n → open_beat h n i ≤ beat h n i
-  opens_by i low = ⊎_elim
-      (λ (t : is_return (h.event n i) ≡ true). back i low t)
-      (λ (f : is_return (h.event n i) ≡ false).
-      let b = run.in_beat n i known low f in omega arith)
-      (cases_Bool (is_return (h.event n i)))
-    where
-      back : (i : ℕ) → i < h.count n → is_return (h.event n i) ≡ true → open_beat h n i ≤ beat h n i
-      back i low t =
-          let b = run.returned n i known low t in
-          let next = b.next in
-          let here : is_return (h.event n b.last) ≡ false = ⊎_elim
-          (λ (u : is_return (h.event n b.last) ≡ true). absurd (no_death_back (h.event n b.last) b.died u))
-          (λ (f : is_return (h.event n b.last) ≡ false). f)
-          (cases_Bool (is_return (h.event n b.last))) in
-          let in_it = run.in_beat n b.last known (omega arith) here in
-          let most = opens_most (h.event n b.last) (open_beat h n b.last) here in
-          let same : open_beat h n i ≡ behind (h.event n b.last) (open_beat h n b.last) = ap (open_beat h n) next in
-          let apart = b.apart in
-          omega arith
-
-  pub opens_behind : (i : ℕ) → i < h.count n → beat h n i ≤ open_beat h n (suc i)
-  opens_behind i low = ⊎_elim
-      (λ (t : is_return (h.event n i) ≡ true). let o = return_opens (h.event n i) (open_beat h n i) t in omega arith)
-      (λ (f : is_return (h.event n i) ≡ false).
-      let b = run.in_beat n i known low f in
-      let least = opens_least (h.event n i) (open_beat h n i) f in
-      omega arith)
-      (cases_Bool (is_return (h.event n i)))
-
-  -- an event that is no return opens the next beat at most
-  pub opens_after : (i : ℕ) → i < h.count n → is_return (h.event n i) ≡ false → open_beat h n (suc i) ≤ beat h n i + 1
-  opens_after i low here =
-      let b = run.in_beat n i known low here in
-      let most = opens_most (h.event n i) (open_beat h n i) here in
-      omega arith
-
-  pub opens_rise : (i j : ℕ) → i ≤ j → j ≤ h.count n → open_beat h n i ≤ open_beat h n j
-  opens_rise i zero le low =
-      let z : i ≡ 0 = omega arith in subst (λ k. open_beat h n k ≤ open_beat h n 0) (sym z) (omega arith)
-  opens_rise i (suc j) le low = ⊎_elim
-      (λ (e : i ≡ suc j). subst (λ k. open_beat h n k ≤ open_beat h n (suc j)) (sym e) (omega arith))
-      (λ (l : i < suc j).
-      let r = opens_rise i j (omega arith) (omega arith) in
-      let by = opens_by j (omega arith) in
-      let more = opens_behind j (omega arith) in
-      omega arith)
-      (eq-or-lt_of_le le)
-
-  -- beats never fall
-  pub beats_never_fall : (i j : ℕ) → i ≤ j → j < h.count n → beat h n i ≤ beat h n j
-  beats_never_fall i j le low = ⊎_elim
-      (λ (e : i ≡ j). subst (λ k. beat h n k ≤ beat h n j) (sym e) (omega arith))
-      (λ (l : i < j).
-      let first = opens_behind i (omega arith) in
-      let rise = opens_rise (suc i) j l (omega arith) in
-      let by = opens_by j low in
-      omega arith)
-      (eq-or-lt_of_le le)
-
-  -- a tick ends its beat
-  pub ends_beat : (i : ℕ) → i < h.count n → is_tick (h.event n i) ≡ true → open_beat h n (suc i) ≡ beat h n i + 1
-  ends_beat i low t =
-      let o = tick_opens (h.event n i) (open_beat h n i) t in
-      let b = run.in_beat n i known low (no_tick_back (h.event n i) t) in
-      omega arith
-    where
-      no_tick_back : (e : NodeEvent Msg) → is_tick e ≡ true → is_return e ≡ false
-      no_tick_back (Does i) t = refl
-      no_tick_back (Ends i sends) t = refl
-      no_tick_back (Dies stamp) t = refl
-      no_tick_back (Returns stamp) t = absurd (cc)
 
   -- before a return the open beat is the number of ticks
   pub open_first : (i : ℕ) → i ≤ first_events h n → open_beat h n i ≡ ticks h n i

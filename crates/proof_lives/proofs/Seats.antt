@@ -27,11 +27,12 @@ use Rattle.cub_rules.specs.declared.store.Store.{Store}
 use Rattle.cub_rules.specs.Records.{took}
 use Rattle.cub_rules.specs.Ticks.{disks_at, free_on, sending, putting, told_placed, putting_own, putting_for_dead, releasing, ticking}
 use Rattle.cub_changes.specs.Changes.{did}
-use Rattle.cub_changes.specs.Changes.Change.{TakeRecord, PutStart, SendFirst, SendPlaced}
+use Rattle.cub_changes.specs.Changes.Change.{PutStart, SendFirst, SendPlaced}
 use Rattle.lists.specs.Elements.{In}
 use Rattle.cub_changes.specs.Causes.{Stage, IsInsertion, MayTake, Fills, Cause}
 use Rattle.cub_changes.specs.Causes.Stage.{OnRelease, OnDeadman, OnService}
-use Rattle.cub_changes.proofs.Closed.{IsClosed, OfEach, then_by, if_by}
+use Rattle.cub_changes.proofs.Closed.{IsClosed, OfEach, then_by}
+use Rattle.cub_changes.proofs.Messages.{took_of}
 use Rattle.lists.proofs.Each.{all_in}
 use Rattle.cub_changes.proofs.Puts.{dead_from, puts_by}
 use Rattle.cub_changes.proofs.Ticks.{before_inserting, before_splitting, releasing_by, believing_by, service_by, tick_chain}
@@ -124,17 +125,12 @@ module _ (p : Params) (c : ℕ) where
 
     -- a record is taken
     taking : (r : Rec) (h : Store) → Tells h (took r h)
-    unfolding took
-    taking r h =
-        if_by Tells tells_closed (is_some (line_at (visit_of r) h.view.lines)) h (nothing h) (did p c stamp (TakeRecord r) h)
-        (λ _. tells_closed.none h) (λ e. takes p c stamp r h e)
+    taking r h = took_of (Tells h) r h (λ _. tells_closed.none h) (λ e. takes p c stamp r h e)
 
     took_seated : (r : Rec) (h : Store) (before : List (Out Msg)) → In (out.Act (what.Put r.tenancy)) before
         → IsAtOrBefore r.tenancy.first r.visit → IsForCub p c r.kind r.visit → AreSeated before (took r h).outs
-    unfolding took
     took_seated r h before put at mine =
-        cond_both (is_some (line_at (visit_of r) h.view.lines)) (nothing h) (did p c stamp (TakeRecord r) h)
-        (λ (d : Deed Msg Store). AreSeated before d.outs) (λ _. tt) (λ _. ((put, at, mine), tt))
+        took_of (λ (d : Deed Msg Store). AreSeated before d.outs) r h (λ _. tt) (λ _. ((put, at, mine), tt))
 
     took_there : (r : Rec) (h : Store) → is_some (line_at (visit_of r) h.view.lines) ≡ false
         → In (unmarked r) (took r h).state.view.lines

@@ -1,5 +1,5 @@
 -- What the single steps of a tick make of a view's lines, and which of them are silent of records, Puts and states.
-use Rattle.std.proofs.Common.{◌≡◌, ℕ, List, [], ◌∷◌, ◌&&◌, Bool, true, false, not, refl, sym, subst, ◌∙◌, ⊎_elim, inl, inr, is_some}
+use Rattle.std.proofs.Common.{◌≡◌, ℕ, List, [], ◌∷◌, ◌&&◌, Bool, true, false, not, refl, ap, sym, subst, ◌∙◌, ⊎_elim, inl, inr}
 use Rattle.std.specs.Prelude.{◌⊎◌}
 use Rattle.tiger_base.specs.declared.number.Stamp.{Stamp}
 use Rattle.tiger_base.specs.declared.tenancy.PieceState.{PieceState}
@@ -26,7 +26,7 @@ use Rattle.cub_changes.specs.Causes.Stage.{OnDeadman, OnService}
 use Rattle.cub_changes.proofs.Closed.{IsClosed}
 use Rattle.cub_changes.proofs.Fits.{IsOfDeadman, fits}
 use Rattle.cub_changes.proofs.Outputs.{Puts, puts_closed, Tells, outs_of, tells_of}
-use Rattle.cub_changes.proofs.Ticks.{IsOfEnd, end_steps, believing_by, splitting_from, reading_from, end_from}
+use Rattle.cub_changes.proofs.Ticks.{IsOfEnd, end_steps, believing_by, splitting_from, reading_from, end_from, beating_same}
 use Rattle.lists.specs.Elements.{In}
 use Rattle.lists.proofs.Elements.{chosen, from_map}
 use Rattle.proof_lives.proofs.Moves.{Moves, taken_out, IsQuiet, AreQuiet, MovesOn, moves_closed, moves_of, untaken}
@@ -110,10 +110,7 @@ unfolding believing
 believing_lines p c stamp h = chosen (λ (d : Deed Msg Store). d.state.view.lines ≡ h.view.lines) _ _ (nothing h) (λ _. refl) (λ _. refl)
 
 pub beating_lines : (p : Params) (c : ℕ) (stamp : Stamp) (h : Store) → (beating p c stamp h).state.view.lines ≡ h.view.lines
-unfolding beating
-beating_lines p c stamp h =
-    let Same : Deed Msg Store → Type 0 = λ d. d.state.view.lines ≡ h.view.lines in
-    chosen Same (is_some h.comeback) (nothing h) _ (λ _. refl) (λ _. chosen Same _ _ (nothing h) (λ _. refl) (λ _. refl))
+beating_lines p c stamp h = ap (λ (s : Store). s.view.lines) (beating_same p c stamp h)
 
 same_with_piece : (x : PieceState) (h : Store) → (with_piece_record x h).view.lines ≡ h.view.lines
 unfolding with_piece_record

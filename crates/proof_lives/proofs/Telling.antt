@@ -32,10 +32,10 @@ use Rattle.cub_rules.specs.Messages.{position_at, records_told, place_told, told
 use Rattle.proof_schedule.specs.Facts.{IsGiven}
 use Rattle.lists.specs.Elements.{In}
 use Rattle.lists.proofs.Elements.{chosen, in_left, in_right}
-use Rattle.proof_lives.proofs.Moves.{taken_out, is_taken, with_record_new, from_with_line, IsAt}
+use Rattle.proof_lives.proofs.Moves.{taken_out, with_record_new, from_with_line, IsAt}
 use Rattle.proof_lives.proofs.Taking.{message_took}
 use Rattle.cub_rules.specs.Comebacks.{lets_in, records_let_in, due_of_record}
-use Rattle.cub_changes.proofs.Messages.{of_let_in, in_let_in}
+use Rattle.cub_changes.proofs.Messages.{of_let_in, in_let_in, took_of}
 
 -- a line is found only where it is
 pub found_in : (k : Key) (lines : List Line) → is_some (line_at k lines) ≡ true → (x : Line) × In x lines × IsAt k.0.0 k.1 x
@@ -52,16 +52,14 @@ abbrev pub FindsPlace : Rec → List Line → List (Out Msg) → Type 0
 FindsPlace r lines outs = ((x : Line) × In x lines × IsAt r.tenancy.slot.0 r.visit x) ⊎ In (taken_out r) outs
 
 pub one_place : (r : Rec) (h : Store) → FindsPlace r h.view.lines (took r h).outs
-unfolding took
 one_place r h =
-    chosen (λ (d : Deed Msg Store). FindsPlace r h.view.lines d.outs) (is_taken r h) (nothing h) _ (λ e. inl (found_in (visit_of r) h.view.lines e))
+    took_of (λ (d : Deed Msg Store). FindsPlace r h.view.lines d.outs) r h (λ e. inl (found_in (visit_of r) h.view.lines e))
     (λ _. inr (inl refl))
 
 -- a line that was not there before a record was taken is the record's
 new_line : (r : Rec) (h : Store) (x : Line) → In x (took r h).state.view.lines → In x h.view.lines ⊎ ((x.rec ≡ r) × In (taken_out r) (took r h).outs)
-unfolding took
 new_line r h x =
-    chosen (λ (d : Deed Msg Store). In x d.state.view.lines → In x h.view.lines ⊎ ((x.rec ≡ r) × In (taken_out r) d.outs)) (is_taken r h) (nothing h) _
+    took_of (λ (d : Deed Msg Store). In x d.state.view.lines → In x h.view.lines ⊎ ((x.rec ≡ r) × In (taken_out r) d.outs)) r h
     (λ _ i. inl i)
     (λ e i. ⊎_elim
     (λ q. inr (ap (λ (y : Line). y.rec) q, inl refl))

@@ -7,7 +7,7 @@ use Rattle.slot_plan.specs.declared.params.Params.{Params}
 use Rattle.slot_plan.specs.Times.{time_of}
 use Rattle.node_kit.specs.declared.outbox.Out.{Out}
 use Rattle.node_kit.specs.Outputs.{cut_at}
-use Rattle.node_kit.specs.Steps.{Deed, Input, stamp_of}
+use Rattle.node_kit.specs.Steps.{Input, stamp_of}
 use Rattle.run_facts.specs.Events.{is_tick_input}
 use Rattle.cub_rules.specs.declared.store.Store.{Store}
 use Rattle.cub_rules.specs.declared.comeback.Comeback.{Comeback}

@@ -1,7 +1,6 @@
 -- The order of all entries and the facts: what each entry tells, and where each fact has its entry.
 use Rattle.std.proofs.Common.{◌≡◌, ℕ, ◌<◌, ◌≤◌, List, ◌∷◌, ◌++◌, filter, length, true, Some, refl, sym, ap, subst, ◌∙◌, arith, ⊎_elim, inl, inr, append_assoc}
 use Rattle.std.specs.Prelude.{◌==◌, slice_get}
-use Rattle.std.specs.List.{list_any}
 use Rattle.std.proofs.lemmas.Bool.{eqb-true, eq-eqb}
 use Rattle.tiger_base.specs.declared.tenancy.Tenancy.{Tenancy}
 use Rattle.slot_plan.specs.declared.params.Params.{Params}
@@ -17,7 +16,7 @@ use Rattle.proof_schedule.specs.Facts.{Facts, GoneBefore}
 use Rattle.lists.specs.Elements.{In}
 use Rattle.proof_moments.specs.Ties.{StandsIn, IsLogged, IsGoneOf}
 use Rattle.proof_moments.specs.Recorded.{IsRecorded}
-use Rattle.proof_moments.proofs.Lists.{any_passes, one_passes}
+use Rattle.proof_moments.proofs.Lists.{one_passes}
 use Rattle.lists.proofs.Elements.{in_left, in_right, in_cases, in_map, from_map, in_filter, from_filter}
 use Rattle.proof_moments.proofs.Sorted.{sorted_rises, not_above}
 use Rattle.proof_moments.proofs.Orders.{noted_at, of_order, into_order, order_sorted, journal_joined, order_has_front}

@@ -1,7 +1,6 @@
 -- The journals of the worked run meet all ties.
-use Rattle.std.proofs.Common.{◌≡◌, ℕ, zero, suc, ◌+◌, ◌*◌, ◌<◌, ◌≤◌, true, false, Some, refl, sym, ap, subst, ◌∙◌, arith, ⊎_elim, inl, inr}
+use Rattle.std.proofs.Common.{◌≡◌, ℕ, ◌+◌, ◌*◌, ◌<◌, ◌≤◌, true, false, Some, refl, sym, ap, subst, ◌∙◌, arith, ⊎_elim, inl, inr}
 use Rattle.std.specs.Prelude.{◌⊎◌, List, [], ◌∷◌, ◌++◌, slice_get}
-use Rattle.std.specs.List.{AllByRecursion}
 use Rattle.tiger_base.specs.declared.number.CubNo.{CubNo}
 use Rattle.tiger_base.specs.declared.number.LinkNo.{LinkNo}
 use Rattle.tiger_base.specs.declared.number.Stamp.{Stamp}
@@ -37,7 +36,6 @@ use Rattle.lists.specs.Elements.{In}
 use Rattle.proof_moments.specs.Ties.{StandsIn, IsPutAt, Tells, Logged, Keeps, Besides}
 use Rattle.proof_moments.specs.Recorded.{IsRecorded}
 use Rattle.lists.proofs.Elements.{in_left, in_right}
-use Rattle.lists.proofs.Each.{all_in, all_by}
 use Rattle.proof_moments.proofs.Records.{was_taken}
 use Rattle.proof_moments.proofs.Plain.{EachFrom, rises, alone}
 use Rattle.proof_moments.proofs.Plain as written

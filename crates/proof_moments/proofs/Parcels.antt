@@ -76,10 +76,6 @@ piece_is v n (what.Got link (note.Piece want sent part)) x i = chosen (λ (l : L
 piece_is v n (what.Got link other) x i = absurd i
 piece_is v n other x i = absurd i
 
--- the other way round
-self : (n : ℕ) → (n == n) ≡ true
-self n = eq-eqb n n refl
-
 whole_there : (t : Tenancy) (n : ℕ) (x : Parcel) (w : What) → x.want ≡ want_of_visit t n 0
     → w ≡ what.Got x.link (note.Whole x.want x.sent x.span)
     → whole_in t.instance.0 n w ≡ x ∷ []

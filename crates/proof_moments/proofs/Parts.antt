@@ -1,7 +1,6 @@
 -- Every record of every view is part of the schedule.
-use Rattle.std.proofs.Common.{◌≡◌, ℕ, ◌+◌, ◌-◌, ◌<◌, ◌≤◌, List, [], ◌∷◌, ◌++◌, true, false, IsTrue, Some, sym, ap, subst, ◌∙◌, arith, ⊎_elim, inl, inr, append_assoc}
+use Rattle.std.proofs.Common.{◌≡◌, ℕ, ◌+◌, ◌-◌, ◌<◌, ◌≤◌, List, ◌∷◌, ◌++◌, true, false, IsTrue, Some, sym, ap, subst, ◌∙◌, arith, ⊎_elim, inl, inr, append_assoc}
 use Rattle.std.specs.Prelude.{◌⊎◌, ◌==◌, ◌&&◌, nat_le, slice_get}
-use Rattle.std.specs.List.{AllByRecursion, list_any}
 use Rattle.std.proofs.lemmas.Bool.{cases_Bool, eqb-true, eq-eqb, and_from, le-leb, true≢false}
 use Rattle.tiger_base.specs.declared.tenancy.Rec.{Rec}
 use Rattle.tiger_base.specs.declared.tenancy.Tenancy.{Tenancy}
@@ -12,7 +11,6 @@ use Rattle.node_kit.specs.declared.course.Order.{Order}
 use Rattle.node_kit.specs.declared.journal.What.TheVariants as what
 use Rattle.node_kit.specs.declared.journal.Entry.{Entry}
 use Rattle.run_facts.specs.Order.{Noted, beat_of, journal_of, order_of}
-use Rattle.run_facts.specs.Timed.{is_died}
 use Rattle.run_facts.specs.Accounts.{Rising}
 use Rattle.run_model.specs.Schedule.{Stop, schedule_of, is_stopped}
 use Rattle.run_model.specs.Views.{records_of}
@@ -24,7 +22,7 @@ use Rattle.lists.specs.Elements.{In}
 use Rattle.proof_moments.specs.Ties.{StandsIn, IsCutAt, IsDeadIn}
 use Rattle.proof_moments.specs.Recorded.{IsRecorded}
 use Rattle.proof_moments.proofs.Lists.{any_passes, any_passing}
-use Rattle.lists.proofs.Elements.{chosen, in_left, in_right, in_cases}
+use Rattle.lists.proofs.Elements.{in_left, in_right, in_cases}
 use Rattle.lists.proofs.Each.{all_by}
 use Rattle.lists.proofs.Cuts.{cut_by}
 use Rattle.proof_moments.proofs.Holders.{IsNeverGone, IsOnlyPut, IsReplaced, holder_or, stop_from, stop_in}

@@ -25,7 +25,7 @@ use Rattle.proof_service.proofs.ExamplePlan.{plan_is, time_is, due_is, cub_2, on
 use Rattle.proof_service.proofs.ExampleSchedule as schedule
 use Rattle.proof_service.proofs.ReturnLog as log
 use Rattle.lists.specs.Elements.{In}
-use Rattle.lists.proofs.Elements.{in_left, in_right, in_cases}
+use Rattle.lists.proofs.Elements.{in_left, in_right}
 use Rattle.proof_moments.specs.Ties.{StandsIn, IsPutAt, IsDeadIn, ReturnedBy, Tells, Logged, Keeps, Besides}
 use Rattle.proof_moments.specs.Recorded.{IsRecorded}
 use Rattle.proof_moments.specs.ReturnExample.{put, died, came_back, believed, journals, orders, ReturnTiesCanBeMet}

@@ -48,7 +48,7 @@ use Rattle.proof_moments.specs.ParcelTies.{SendsParcel, AsksDisk, AreOfBeats, Ke
 use Rattle.proof_parcels.proofs.AskOuts.{asks}
 use Rattle.proof_parcels.proofs.ServeOuts.{sends}
 use Rattle.proof_parcels.proofs.Cubs as cubs
-use Rattle.proof_parcels.proofs.Forms.{formed}
+use Rattle.proof_links.proofs.InOrder.{formed}
 use Rattle.proof_parcels.proofs.Entries.{event_sent, ask_back, whole_back, piece_back}
 use Rattle.proof_parcels.proofs.Telling.{input_there, of_cub}
 

@@ -5,7 +5,6 @@ pub mod Failing
 pub mod Cubs
 pub mod Entries
 pub mod Telling
-pub mod Forms
 pub mod Keeping
 pub mod Disks
 pub mod Viewing

@@ -53,7 +53,7 @@ use Rattle.proof_moments.specs.ParcelTies.{viewers, parcel, SendsParcel, AsksDis
 use Rattle.proof_parcels.proofs.Apart.{always_once}
 use Rattle.proof_parcels.proofs.Failing.{failed_read, of_record, record_wanted}
 use Rattle.proof_parcels.proofs.Cubs as cubs
-use Rattle.proof_parcels.proofs.Forms.{formed}
+use Rattle.proof_links.proofs.InOrder.{formed}
 use Rattle.proof_parcels.proofs.Entries.{sent_in, ask_back, whole_back, piece_back}
 
 -- where a cub sends the viewers

@@ -9,8 +9,7 @@ use Rattle.slot_plan.specs.declared.params.Params.{Params}
 use Rattle.node_kit.specs.declared.course.Order.{Order}
 use Rattle.node_kit.specs.declared.outbox.Out.{Out}
 use Rattle.node_kit.specs.Steps.{Input, stamp_of}
-use Rattle.run_facts.specs.Events.{NodeEvent, is_return}
-use Rattle.run_facts.specs.Events.NodeEvent.{Does, Ends, Dies, Returns}
+use Rattle.run_facts.specs.Events.{is_return}
 use Rattle.run_facts.specs.Histories.{History, IsRun, outs, past}
 use Rattle.cub_rules.specs.declared.store.Store.{Store}
 use Rattle.cub_rules.specs.Cubs.{was_away}
@@ -39,13 +38,6 @@ from_zero p stamp e = rw e refl
 -- the numbers of all events
 abbrev each : ℕ → ℕ
 each i = i
-
--- an event with an input is no return
-acts_here : (e : NodeEvent Msg) → has_input e ≡ true → is_return e ≡ false
-acts_here (Does i) t = refl
-acts_here (Ends i sends) t = refl
-acts_here (Dies stamp) t = refl
-acts_here (Returns stamp) t = absurd (cc)
 
 module _ {G : Type 0} {p : Params} {orders : List Order} {disk_at : ℕ → DiskState} {h : History Msg (AnyNode G)} (ring : IsRing p orders disk_at h) where
   abbrev run_is : IsRun noted any_step p (node_count p) h

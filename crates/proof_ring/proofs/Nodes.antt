@@ -33,17 +33,7 @@ use Rattle.proof_facts.specs.Rings.{return_outs}
 -- A disk never changes.
 pub answers_stays : (stamp : Stamp) (m : Msg) (d : DiskState) → (answers stamp m d).state ≡ d
 answers_stays stamp (msg.ReadAsk want) d = refl
-answers_stays stamp (msg.ViewerState s) d = refl
-answers_stays stamp (msg.Start redundant a) d = refl
-answers_stays stamp (msg.Deschedule v tag) d = refl
-answers_stays stamp (msg.MirrorState x) d = refl
-answers_stays stamp (msg.Kill v slot visit) d = refl
-answers_stays stamp (msg.ReadDone want part) d = refl
-answers_stays stamp msg.Heartbeat d = refl
-answers_stays stamp (msg.Placed t) d = refl
-answers_stays stamp (msg.Whole want at part) d = refl
-answers_stays stamp (msg.Piece want at part) d = refl
-answers_stays stamp (msg.Back from) d = refl
+answers_stays stamp other d = refl
 
 pub disk_stays : (d : DiskState) (k : Input Msg) → (disk_step d k).state ≡ d
 unfolding asked

@@ -31,9 +31,6 @@ module _ (G : Type 0) (p : Params) (faults : List ReadFault) (catalogue : Catalo
   abbrev pub images : List Image
   images = images_of p catalogue library
 
-  pub all : length images ≡ disk_count p
-  all = length-numbered (image_at p catalogue library) (disk_count p)
-
   abbrev pub cubs : List (AnyNode G)
   cubs = numbered (opening_cub p) p.cubs
 

@@ -9,9 +9,7 @@ use Rattle.node_kit.specs.declared.course.Kept.{Kept}
 use Rattle.node_kit.specs.Courses.{reading_of}
 use Rattle.node_kit.specs.Life.{Lifetime, acts, back_of, cut_of, death_of, lifetime_of}
 use Rattle.node_kit.specs.Steps.{Input, stamp_of}
-use Rattle.node_kit.specs.Steps.Input.{Take, Tick}
-use Rattle.run_facts.specs.Events.{NodeEvent, is_death, is_return, is_tick, stamp_at}
-use Rattle.run_facts.specs.Events.NodeEvent.{Does, Ends, Dies, Returns}
+use Rattle.run_facts.specs.Events.{is_death, is_return}
 use Rattle.run_facts.specs.Histories.{History, IsUp, beat, open_beat, past}
 use Rattle.run_facts.proofs.Fronts.{lived as mortal}
 use Rattle.run_lives.proofs.Deaths.{along}
@@ -23,7 +21,7 @@ use Rattle.ring_nodes.specs.declared.nodes.AnyNode.{AnyNode}
 use Rattle.ring_nodes.specs.AllNodes.{any_step}
 use Rattle.proof_schedule.specs.Facts.{DiedBy, Ended, LivedTo}
 use Rattle.proof_lives.specs.Facts.{TickedAt}
-use Rattle.proof_lives.specs.Histories.{first_events, input_of, later_from, later_lives_of}
+use Rattle.proof_lives.specs.Histories.{first_events, later_from, later_lives_of}
 use Rattle.proof_lives.specs.TwoLifeRun.{WhichLife, event_in, life_in}
 use Rattle.proof_lives.specs.TwoLifeRun.WhichLife.{First, Later}
 use Rattle.proof_lives.proofs.Returns.{open_back}
@@ -36,14 +34,6 @@ use Rattle.proof_links.proofs.Staying.{stays}
 use Rattle.proof_ring.specs.Runs.{AreShort, disks_of}
 use Rattle.proof_ring.proofs.CubLives.{rings_are_histories}
 use Rattle.proof_ring.proofs.Runs.{HasRing, back_is, complete, death_is, given, is_ring, life_is, size, up_to}
-
-pub tick_made : (e : NodeEvent Msg) → is_tick e ≡ true → input_of e ≡ Tick (stamp_at e)
-tick_made (Does (Take stamp link m)) t = absurd (cc)
-tick_made (Does (Tick stamp)) t = refl
-tick_made (Ends (Take stamp link m) sends) t = absurd (cc)
-tick_made (Ends (Tick stamp) sends) t = refl
-tick_made (Dies stamp) t = absurd (cc)
-tick_made (Returns stamp) t = absurd (cc)
 
 -- A cub ends a beat if it does not die, or dies in a later one, or returned in that or an earlier one.
 abbrev EndsAs : Option ℕ → Option ℕ → ℕ → Type 0

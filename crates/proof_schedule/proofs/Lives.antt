@@ -15,10 +15,6 @@ use Rattle.proof_schedule.proofs.Room.{Room}
 pub nobody_first : (r : Facts) (c b : ℕ) → NobodyReturns r → IsFirstLife r c b
 nobody_first r c b none = λ w back. absurd (none c w back)
 
--- If nobody comes back, any two beats are of one life.
-pub nobody_same : (r : Facts) (c x b : ℕ) → NobodyReturns r → IsSameLife r c x b
-nobody_same r c x b none = λ w back le. absurd (none c w back)
-
 -- If nobody comes back, the law on the last return holds.
 pub nobody_returns : (r : Facts) (c b : ℕ) → NobodyReturns r → IsFirstLife r c b ⊎ LastReturn r c b
 nobody_returns r c b none = inl (nobody_first r c b none)

@@ -1,6 +1,6 @@
 -- What an input makes of a cub's piece records: a message, a tick, and a tick up to where the cub asks and serves.
-use Rattle.std.proofs.Common.{◌≡◌, ℕ, zero, suc, ◌+◌, List, map, take, Bool, true, false, not, refl, sym, ap, subst, ◌∙◌, arith, ⊎_elim, inl, is_some}
-use Rattle.std.specs.Prelude.{◌≤◌, ◌||◌, ◌&&◌, ◌==◌, ◌%◌}
+use Rattle.std.proofs.Common.{◌≡◌, ℕ, zero, suc, ◌+◌, List, map, take, Bool, true, false, not, refl, sym, ap, subst, ◌∙◌, arith, ⊎_elim, inl}
+use Rattle.std.specs.Prelude.{◌≤◌, ◌||◌, ◌&&◌, ◌==◌}
 use Rattle.std.specs.List.{flat_map, range_with_len}
 use Rattle.std.proofs.lemmas.Bool.{eqb-true, and_parts}
 use Rattle.tiger_base.specs.declared.number.Instance.{Instance}
@@ -31,6 +31,7 @@ use Rattle.cub_changes.specs.Changes.{Change, did}
 use Rattle.cub_changes.specs.Changes.Change.{DropPieces, TakeRecord, AddPiece, DropKilled, Believe, PutStart, SendFirst, SendPlaced, AskPieces, ServePieces}
 use Rattle.cub_changes.specs.Causes.{Cause}
 use Rattle.cub_changes.specs.Causes.Stage.{OnMessage, OnDeadman, OnInsertion}
+pub use Rattle.cub_changes.proofs.Ticks.{beating_same}
 use Rattle.cub_changes.proofs.Closed.{IsClosed}
 use Rattle.cub_changes.proofs.Fits.{IsOfInsertion, IsOfDeadman, fits}
 use Rattle.cub_changes.proofs.Messages.{taking_by}
@@ -218,12 +219,9 @@ module _ (Why Go Asked : PieceState → Type 0) (p : Params) (c : ℕ) (stamp : 
   serving_moves h go = moves_fewer Why Go Asked (leaves_by p stamp.reading) h _ refl refl go
 
   beating_moves : (h : Store) → Moves Why Go Asked h (beating p c stamp h).state
-  unfolding beating
   beating_moves h =
-      let Goes : Deed Msg Store → Type 0 = λ d. Moves Why Go Asked h d.state in
-      let same = moves_same Why Go Asked h h refl refl in
-      chosen Goes (is_some h.comeback) (nothing h) _ (λ _. same)
-      (λ _. chosen Goes (stamp.beat % p.heart == 0) _ (nothing h) (λ _. same) (λ _. same))
+      let same = beating_same p c stamp h in
+      moves_same Why Go Asked h _ (ap (λ (k : Store). k.pieces) same) (ap (λ (k : Store). k.unasked) same)
 
   -- from its beginning to where it splits, asks, and serves, and to its end
   pub to_splitting : (h : Store) → Moves Why Go Asked h (before_splitting p c stamp h)
@@ -334,14 +332,6 @@ module _ (p : Params) (c : ℕ) (stamp : Stamp) where
   unfolding serving serving_blocks dropping_backups serving_pieces
   serving_unasked h x i = (from_filter (λ y. not (leaves_by p stamp.reading y)) x h.unasked.items i).0
 
-  -- a heartbeat leaves what the cub keeps
-  pub beating_same : (h : Store) → (beating p c stamp h).state ≡ h
-  unfolding beating
-  beating_same h =
-      let Same : Deed Msg Store → Type 0 = λ d. d.state ≡ h in
-      chosen Same (is_some h.comeback) (nothing h) _ (λ _. refl)
-      (λ _. chosen Same (stamp.beat % p.heart == 0) _ (nothing h) (λ _. refl) (λ _. refl))
-
   -- after a tick no record stands of a piece that leaves by then
   pub ticking_leaves : (h : Store) (x : PieceState) → In x (ticking p c stamp h).state.pieces.items
       → leaves_by p stamp.reading x ≡ false
@@ -349,7 +339,7 @@ module _ (p : Params) (c : ℕ) (stamp : Stamp) where
   ticking_leaves h x i =
       let h6 : Store = before_serving p c stamp h in
       let h7 : Store = (serving p c stamp h6).state in
-      serving_leaves h6 x (subst (λ (k : Store). In x k.pieces.items) (beating_same h7) i)
+      serving_leaves h6 x (subst (λ (k : Store). In x k.pieces.items) (beating_same p c stamp h7) i)
 
   -- and none is to be asked for that leaves within the read lead
   pub ticking_asks : (h : Store) (x : PieceState) → In x (ticking p c stamp h).state.unasked.items
@@ -359,7 +349,7 @@ module _ (p : Params) (c : ℕ) (stamp : Stamp) where
       let h6 : Store = before_serving p c stamp h in
       let h7 : Store = (serving p c stamp h6).state in
       reading_leaves (before_reading p c stamp h) x
-      (serving_unasked h6 x (subst (λ (k : Store). In x k.unasked.items) (beating_same h7) i))
+      (serving_unasked h6 x (subst (λ (k : Store). In x k.unasked.items) (beating_same p c stamp h7) i))
 
 -- ---- any input
 

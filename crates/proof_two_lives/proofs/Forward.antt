@@ -3,7 +3,7 @@ use Rattle.std.proofs.Common.{ℕ, ⊎_elim, inl, inr}
 use Rattle.tiger_base.specs.declared.tenancy.Ask.{Ask}
 use Rattle.tiger_base.specs.declared.tenancy.Tenancy.{Tenancy}
 use Rattle.slot_plan.specs.declared.params.Params.{Params}
-use Rattle.proof_schedule.specs.Facts.{Facts, Entered, EnteredBy, EnteredAmong, GotTagBy, ReachedBy, PassedBy, BelievedBy, IsReleasedBy}
+use Rattle.proof_schedule.specs.Facts.{Facts, Entered, EnteredAmong, GotTagBy, ReachedBy, PassedBy, BelievedBy, IsReleasedBy}
 use Rattle.proof_schedule.specs.RunLaws.{IsTick}
 use Rattle.proof_schedule.specs.StateLaws.{PutsOwn, Taken, WasEarly, SendsFirst, Sends}
 use Rattle.proof_schedule.specs.StartLaws.{HadLeft, IsPlacedBy}
@@ -43,10 +43,6 @@ module _ {x j : Facts} (of : AreFactsOf x j) where
 
   pub entered_of : {c n y : ℕ} {t : Tenancy} → Entered X c t n y → Entered j c t n y
   entered_of h = ⊎_elim (λ a. inl (of.took a)) (λ a. inr (of.inserted a)) h
-
-  pub entered_by_of : {c n y : ℕ} {t : Tenancy} → EnteredBy X c t n y → EnteredBy j c t n y
-  entered_by_of h =
-      record { beat = h.beat; entered = entered_of h.entered; by = h.by; life = h.life }
 
   pub entered_among_of : {c n b y : ℕ} {t : Tenancy} → EnteredAmong X c t n b y
       → EnteredAmong j c t n b y

@@ -1,15 +1,15 @@
 -- What an end keeps, through its calls.
-use Rattle.std.proofs.Common.{◌≡◌, ℕ, ◌+◌, ◌*◌, ◌/◌, ◌%◌, ◌<◌, ◌≤◌, Bool, true, false, true≢false, ◌⊎◌, inl, inr, List, [], ◌∷◌, ◌++◌, length, take, drop, sym, refl, ap, ◌∙◌, subst, append_assoc, length-append, div-add-mod', mod-lt, not-le_of_lt, arith}
+use Rattle.std.proofs.Common.{◌≡◌, ℕ, ◌+◌, ◌*◌, ◌/◌, ◌%◌, ◌<◌, ◌≤◌, Bool, true, false, true≢false, ◌⊎◌, inl, inr, List, [], ◌∷◌, ◌++◌, length, take, drop, sym, refl, ap, ◌∙◌, subst, append_assoc, length-append, div-add-mod', mod-lt, arith}
 use mathlib.Core.List.{IsPrefix}
 use Rattle.std.specs.List.{AllByRecursion}
 use Rattle.run_facts.specs.declared.mail.Flight.{Flight}
 use Rattle.ring_links.specs.declared.line.Side.{Side}
 use Rattle.ring_links.specs.declared.board.Knows.{Knows}
 use Rattle.ring_links.specs.Flights.{IsOrdered, AllFrom, IsFront}
-use Rattle.ring_links.specs.Linked.{side, most, Takes}
+use Rattle.ring_links.specs.Linked.{side, most}
 use Rattle.ring_links.specs.Marked.{knows, given_by, below_of, IsLast}
 use Rattle.ring_links.specs.Ends.{IsTrueOf, IsSender, IsReceiver}
-use Rattle.ring_links.proofs.Orders.{from_drop, from_next, from_lower, from_front, from_last, take_rest}
+use Rattle.ring_links.proofs.Orders.{from_drop, from_next, from_lower, from_front, take_rest}
 
 given_is : (k r n : ℕ) (x : ℕ) → x < 1048576 → k * 1048576 + r ≡ n * 1048576 + x → r < 1048576 → k ≡ n
 given_is k r n x small e low = omega arith
@@ -152,52 +152,6 @@ module _ {M : Type 0} where
         reached = moves.0;
         closed_is = moves.1;
         lost = λ e all. h.lost e (from_lower closed after (drop count v.got) rises all);
-      }
-
-  -- a message was received, and given out
-  pub receiver-takes : (v w : Side M) (k : Knows) (count closed : ℕ) (p : Flight M) → IsReceiver v k count closed false → Takes v p w → IsReceiver w k (count + 1) closed false
-  receiver-takes v w k count closed p h t =
-      let got : w.got ≡ v.got ++ p ∷ [] = ap (λ (x : Side M). x.got) t.0 in
-      let long : length w.got ≡ length v.got + 1 = ap length got ∙ length-append v.got (p ∷ []) in
-      record {
-        sends = ap (λ (x : Side M). x.sends) t.0 ∙ h.sends;
-        takes = ap (λ (x : Side M). x.takes) t.0 ∙ h.takes;
-        sent = ap (λ (x : Side M). x.sent) t.0 ∙ h.sent;
-        all = λ e. omega (arith, h.all e, long);
-        within = omega (arith, h.within, long);
-        short = t.2;
-        ordered = t.1;
-        writes = h.writes;
-        word = h.word;
-        front = h.front;
-        back = h.back;
-        known = h.known;
-        reached = omega (arith, h.reached);
-        closed_is = h.closed_is;
-        lost = λ e _. true≢false (sym e);
-      }
-
-  -- a message was received, and not given out
-  pub receiver-spoils : (v w : Side M) (k : Knows) (count closed : ℕ) (p : Flight M) → IsReceiver v k count closed false → Takes v p w → p.sent < closed → IsReceiver w k count closed true
-  receiver-spoils v w k count closed p h t low =
-      let got : w.got ≡ v.got ++ p ∷ [] = ap (λ (x : Side M). x.got) t.0 in
-      let long : length w.got ≡ length v.got + 1 = ap length got ∙ length-append v.got (p ∷ []) in
-      record {
-        sends = ap (λ (x : Side M). x.sends) t.0 ∙ h.sends;
-        takes = ap (λ (x : Side M). x.takes) t.0 ∙ h.takes;
-        sent = ap (λ (x : Side M). x.sent) t.0 ∙ h.sent;
-        all = λ e. absurd (true≢false e);
-        within = omega (arith, h.within, long);
-        short = t.2;
-        ordered = t.1;
-        writes = h.writes;
-        word = h.word;
-        front = h.front;
-        back = h.back;
-        known = h.known;
-        reached = h.reached;
-        closed_is = h.closed_is;
-        lost = λ _ all. not-le_of_lt low (from_last closed count v.got p (h.all refl) (subst (λ xs. AllFrom closed (drop count xs)) got all));
       }
 
   not_spoilt : (spoilt : Bool) (count : ℕ) (got : List (Flight M)) → (spoilt ≡ false → count ≡ length got) → (spoilt ≡ true → ⊥) → count ≡ length got

@@ -1,6 +1,5 @@
 -- A front of messages in order is in order, and of messages from a beat on is from that beat on.
-use Rattle.std.proofs.Common.{◌≡◌, ℕ, zero, suc, ◌+◌, ◌≤◌, List, [], ◌∷◌, ◌++◌, length, take, drop, inl, inr, ⊎_elim, sym, refl, ap, ◌∙◌, subst, le_trans, not-le_of_lt, ◌<◌, arith}
-use Rattle.std.proofs.Math.Numerals.{add-one}
+use Rattle.std.proofs.Common.{◌≡◌, ℕ, zero, suc, ◌≤◌, List, [], ◌∷◌, ◌++◌, length, take, drop, inl, inr, ⊎_elim, sym, refl, ap, subst, le_trans, not-le_of_lt, ◌<◌, arith}
 use Rattle.run_facts.specs.declared.mail.Flight.{Flight}
 use Rattle.ring_links.specs.Flights.{MayFollow, AllFollow, IsOrdered, AllFrom, AllBy, Has, IsFront, AreGiven}
 
@@ -52,12 +51,6 @@ module _ {M : Type 0} where
   from_front beat (suc n) [] ys h = tt
   from_front beat (suc n) (x ∷ xs) ys h = from_front beat n xs ys h
 
-  pub from_last : (beat n : ℕ) (xs : List (Flight M)) (p : Flight M) → n ≡ length xs → AllFrom beat (drop n (xs ++ p ∷ [])) → beat ≤ p.sent
-  from_last beat zero [] p e h = h.0
-  from_last beat zero (x ∷ xs) p e h = absurd (omega arith)
-  from_last beat (suc n) [] p e h = absurd (omega arith)
-  from_last beat (suc n) (x ∷ xs) p e h = from_last beat n xs p (omega arith) h
-
   later_has : (beat : ℕ) (xs : List (Flight M)) (p : Flight M) → AllFrom beat xs → Has p xs → beat ≤ p.sent
   later_has beat [] p h at = absurd at
   later_has beat (x ∷ xs) p h at = ⊎_elim (λ (e : p ≡ x). subst (λ (q : Flight M). beat ≤ q.sent) (sym e) h.0) (λ (r : Has p xs). later_has beat xs p h.1 r) at
@@ -90,27 +83,8 @@ module _ {M : Type 0} where
   by_later sent arrival later after (p ∷ ps) s a h = (le_trans h.0 s, le_trans h.1 a, by_later sent arrival later after ps s a h.2)
 
 module _ {A : Type 0} where
-  pub take_front : (n : ℕ) (xs ys : List A) → n ≤ length xs → take n (xs ++ ys) ≡ take n xs
-  take_front zero xs ys h = refl
-  take_front (suc n) [] ys h = absurd (omega arith)
-  take_front (suc n) (x ∷ xs) ys h = ap (λ l. x ∷ l) (take_front n xs ys (omega arith))
-
-  take_one_more : (n : ℕ) (xs : List A) (y : A) → n ≡ length xs → take (suc n) (xs ++ y ∷ []) ≡ take n xs ++ y ∷ []
-  take_one_more zero [] y e = refl
-  take_one_more zero (x ∷ xs) y e = absurd (omega arith)
-  take_one_more (suc n) [] y e = absurd (omega arith)
-  take_one_more (suc n) (x ∷ xs) y e = ap (λ l. x ∷ l) (take_one_more n xs y (omega arith))
-
-  pub take_next : (n : ℕ) (xs : List A) (y : A) → n ≡ length xs → take (n + 1) (xs ++ y ∷ []) ≡ take n xs ++ y ∷ []
-  take_next n xs y e = ap (λ k. take k (xs ++ y ∷ [])) (add-one n) ∙ take_one_more n xs y e
-
   -- the front of a front, and what is left of the whole behind it
   pub take_rest : (n : ℕ) (xs ys : List A) → n ≤ length xs → xs ++ ys ≡ take n xs ++ drop n (xs ++ ys)
   take_rest zero xs ys h = refl
   take_rest (suc n) [] ys h = absurd (omega arith)
   take_rest (suc n) (x ∷ xs) ys h = ap (λ l. x ∷ l) (take_rest n xs ys (omega arith))
-
-  pub length_take : (n : ℕ) (xs : List A) → n ≤ length xs → length (take n xs) ≡ n
-  length_take zero xs h = refl
-  length_take (suc n) [] h = absurd (omega arith)
-  length_take (suc n) (x ∷ xs) h = ap suc (length_take n xs (omega arith))

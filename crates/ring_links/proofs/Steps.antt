@@ -90,6 +90,3 @@ module _ {M : Type 0} where
       let Now : ℕ → Side M → Type 0 = λ j y. j ≢ other → Fits h.0 port h.2 h.3 j y in
       let now : All Now vs = all_set Now views port both (λ _. ((λ _. mine.0 a), λ _. (refl, theirs.1))) (λ j y _ e apart. ((h.7 j y e).0, λ p. absurd (apart (((h.7 j y e).1 p).0 ∙ sym theirs.0)))) in
       (h.0, port, h.2, h.3, h.4, h.5, h.6, all_set (Fits h.0 port h.2 h.3) vs other (side false false [] []) ((λ p. absurd (true≢false (sym p))), λ p. absurd (true≢false (sym p))) (λ j y apart e. now j y e apart))
-
-  pub totals : (port : ℕ) (v : Side M) → v.sends ≡ true → v.takes ≡ true → Learns Linked port v (λ items. v.sent ≡ v.got ++ items)
-  totals port v a b items views h at = let mine = h.7 port v at in (mine.0 a).1 ∙ h.4 ∙ ap (λ l. l ++ items) (sym (mine.1 b).1)

@@ -10,8 +10,6 @@ use Rattle.disk_core.specs.State.{DiskState, IsDisk}
 use Rattle.disk_core.specs.Rules.{disk_step}
 use Rattle.controller_core.specs.State.{ControllerState, IsController}
 use Rattle.controller_core.specs.Rules.{controller_step}
-use Rattle.viewer_core.specs.Parts.{KeptParts, AreViewers}
-use Rattle.viewer_core.specs.Rules.{viewers_step}
 use Rattle.ring_nodes.specs.declared.nodes.AnyNode.{AnyNode}
 use Rattle.ring_nodes.specs.declared.nodes.AnyNode.TheVariants as node
 use Rattle.ring_nodes.specs.AllNodes.{any_step, StandsAny}
@@ -28,7 +26,3 @@ module _ {G : Type 0} {i : Input Msg} {before after : List (Out Msg)} where
   pub controller_acts : {old new : ControllerState} → Acts noted controller_step IsController i old new before after
       → Acts {S = AnyNode G} noted any_step StandsAny i (node.Controller old) (node.Controller new) before after
   controller_acts a = record { appended = a.appended; moved = ap (λ s. node.Controller s) a.moved; stays = a.stays; allowed = a.allowed }
-
-  pub viewers_act : {old new : KeptParts} → Acts noted viewers_step AreViewers i old new before after
-      → Acts {S = AnyNode G} noted any_step StandsAny i (node.Viewers old) (node.Viewers new) before after
-  viewers_act a = record { appended = a.appended; moved = ap (λ s. node.Viewers s) a.moved; stays = a.stays; allowed = a.allowed }

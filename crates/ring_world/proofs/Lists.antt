@@ -72,16 +72,6 @@ old-or-new es x i low = ⊎_elim
     (λ (end : length es ≤ i). let all = length-more es x in inr (omega (arith, end, low, all)))
     (cases_lt i (length es))
 
--- what holds of each event by its number holds with one more of which it holds
-pub each-more : {M : Type 0} (P : ℕ → NodeEvent M → Type 0) (es : List (NodeEvent M)) (x : NodeEvent M)
-    → ((i : ℕ) → i < length es → P i (event_at es i)) → P (length es) x
-    → (i : ℕ) → i < length (es ++ x ∷ []) → P i (event_at (es ++ x ∷ []) i)
-each-more {M} P es x old new i low = ⊎_elim
-    (λ (below : i < length es). subst (λ (e : NodeEvent M). P i e) (sym (event-old es (x ∷ []) i below)) (old i below))
-    (λ (end : i ≡ length es).
-    subst (λ (e : NodeEvent M). P i e) (sym (event-new es x i end)) (subst (λ j. P j x) (sym end) new))
-    (old-or-new es x i low)
-
 -- keys that never fall are below a number first, and then no longer
 pub split-rising : {X : Type 0} (f : X → ℕ) (b : ℕ) (xs : List X) → Rising f xs
     → xs ≡ filter (λ x. nat_lt (f x) b) xs ++ filter (λ x. nat_le b (f x)) xs

@@ -54,14 +54,6 @@ added-here n x es = let q : (n == n) ≡ true = eq-eqb n n refl in rw q refl
 added-other : {M : Type 0} (n : ℕ) (x : NodeEvent M) (es : ℕ → List (NodeEvent M)) (k : ℕ) → (k ≡ n → ⊥) → added n x es k ≡ es k
 added-other n x es k ne = let q : (k == n) ≡ false = ne_eqb k n ne in rw q refl
 
-tick-takes-none : {M : Type 0} (l : ℕ) (x : NodeEvent M) → is_tick x ≡ true → is_take_on l x ≡ false
-tick-takes-none l (Does (Take s k m)) h = absurd (cc)
-tick-takes-none l (Does (Tick s)) h = refl
-tick-takes-none l (Ends (Take s k m) sends) h = absurd (cc)
-tick-takes-none l (Ends (Tick s) sends) h = refl
-tick-takes-none l (Dies s) h = absurd (cc)
-tick-takes-none l (Returns s) h = absurd (cc)
-
 -- a return takes nothing
 return-takes-none : {M : Type 0} (l : ℕ) (x : NodeEvent M) → is_return x ≡ true → is_take_on l x ≡ false
 return-takes-none l (Does i) h = absurd (cc)
@@ -100,12 +92,6 @@ take-no-tick l (Ends (Take s k m) sends) h = refl
 take-no-tick l (Ends (Tick s) sends) h = absurd (cc)
 take-no-tick l (Dies s) h = refl
 take-no-tick l (Returns s) h = absurd (cc)
-
-take-no-return : {M : Type 0} (l : ℕ) (x : NodeEvent M) → is_take_on l x ≡ true → is_return x ≡ false
-take-no-return l (Does i) h = refl
-take-no-return l (Ends i sends) h = refl
-take-no-return l (Dies s) h = refl
-take-no-return l (Returns s) h = absurd (cc)
 
 module _ {M S : Type 0} (note : M → Note) (step : S → Input M → Deed M S) (stands : S → Params → ℕ → Type 0) (p : Params) (nodes beats : ℕ) (place : IsPlace p nodes beats) (first : ℕ → S)
     (m : Machine M S) (es : ℕ → List (NodeEvent M)) (h : Holds note step stands p nodes first m es) (e : Event) (n : ℕ) (x : NodeEvent M) (b : Being S) (move : IsMove note step stands p nodes m e n x b) where

@@ -10,8 +10,8 @@ use Rattle.tiger_base.specs.declared.number.Stamp.{Stamp}
 use Rattle.tiger_base.specs.declared.number.LinkNo.{LinkNo}
 use Rattle.node_kit.specs.Steps.Input.{Take, Tick}
 use Rattle.node_kit.proofs.Rows.{get-front}
-use Rattle.run_facts.specs.Accounts.{Rising, AreHere, open_after, event_at, front}
-use Rattle.run_facts.specs.Events.{NodeEvent, Dated, stamp_at, is_return, is_take_on, take_on, takes_along}
+use Rattle.run_facts.specs.Accounts.{Rising, open_after, event_at, front}
+use Rattle.run_facts.specs.Events.{NodeEvent, Dated, stamp_at, is_return, is_take_on, take_on}
 use Rattle.run_facts.specs.Events.NodeEvent.{Does, Ends, Dies, Returns}
 use Rattle.run_facts.specs.Histories.{TakesAt, below, place_behind}
 use Rattle.run_facts.proofs.Rows.{all-append, all-right, all-weaker, filter-all, filter-none, rising-right}
@@ -107,19 +107,6 @@ place-one l lost k e here = ⊎_elim
     take-length l (Ends (Tick s) sends) h = absurd (cc)
     take-length l (Dies s) h = absurd (cc)
     take-length l (Returns s) h = absurd (cc)
-
-place-from : {M : Type 0} (l lost k : ℕ) (es : List (NodeEvent M)) → AreHere es
-    → place_along l lost k es ≡ k + length (takes_along l es)
-place-from l lost k [] here = omega arith
-place-from l lost k (e ∷ es) here =
-    let one = place-one l lost k e here.0 in
-    let rest = place-from l lost (place_behind l lost e k) es here.1 in
-    let both = length-append (take_on l e) (takes_along l es) in
-    omega (arith, one, rest, both)
-
-pub place-taken : {M : Type 0} (l lost : ℕ) (es : List (NodeEvent M)) → AreHere es
-    → place_along l lost 0 es ≡ length (takes_along l es)
-place-taken l lost es here = let q = place-from l lost 0 es here in omega (arith, q)
 
 -- how many were sent below a beat, with more sent
 below-append : {X : Type 0} (b : ℕ) (xs ys : List (Dated X)) → below b (xs ++ ys) ≡ below b xs + below b ys

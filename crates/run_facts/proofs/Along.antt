@@ -1,5 +1,5 @@
 -- Events one after another: what they write, send and take.
-use Rattle.std.proofs.Common.{◌≡◌, ℕ, List, [], ◌∷◌, ◌++◌, map, true, false, Option, Some, None, refl, ap, sym, ◌∙◌}
+use Rattle.std.proofs.Common.{◌≡◌, ℕ, List, [], ◌∷◌, ◌++◌, map, true, false, Some, None, refl, ap, sym, ◌∙◌}
 use Rattle.std.proofs.Common.{⊎_elim, append_assoc, append-nil}
 use Rattle.std.specs.Prelude.{◌==◌}
 use Rattle.std.specs.List.{AllByRecursion}
@@ -14,13 +14,13 @@ use Rattle.node_kit.specs.declared.journal.What.TheVariants as what
 use Rattle.node_kit.specs.declared.journal.Entry.{Entry}
 use Rattle.node_kit.specs.declared.outbox.Out.{Out}
 use Rattle.node_kit.specs.declared.outbox.Out.TheVariants as out
-use Rattle.node_kit.specs.Life.{Lifetime, mortal, ends_in, spent, cut_to}
+use Rattle.node_kit.specs.Life.{ends_in}
 use Rattle.node_kit.specs.Outputs.{with_death, ends_in_death}
-use Rattle.node_kit.proofs.Whole.{spent-stays, cut-never, cut-unended}
+use Rattle.node_kit.proofs.Whole.{cut-unended}
 use Rattle.node_kit.specs.Links.{links_of, ends_of}
 use Rattle.node_kit.specs.Steps.{Input, Deed, IsAllowed, IsOwnEntry, entry_of, stamp_of}
 use Rattle.node_kit.specs.Steps.Input.{Take, Tick}
-use Rattle.run_facts.specs.Events.{NodeEvent, Past, Dated, IsPlain, after, after_all, after_input, after_cut, event_to}
+use Rattle.run_facts.specs.Events.{NodeEvent, Past, Dated, after, after_all, after_input, after_cut, event_to}
 use Rattle.run_facts.specs.Events.{event_of, kept_outs, left_outs, is_tick_input, outs_of, stamp_at, AreFair, sends_of}
 use Rattle.run_facts.specs.Events.{sends_along, take_on, takes_along, entries_at, written, noted_as}
 use Rattle.run_facts.specs.Events.NodeEvent.{Does, Ends, Dies, Returns}
@@ -44,38 +44,12 @@ journal-after note step (e ∷ es) past =
     ∙ ap (λ j. j ++ written note step es (after note step e past)) (journal-at note step e past)
     ∙ append_assoc past.journal (entries_at note step e past) (written note step es (after note step e past))
 
--- a whole life stays, and each input of it is a whole step
-pub life-at : {M S : Type 0} (note : M → Note) (step : S → Input M → Deed M S) (o : Option ℕ) (e : NodeEvent M)
-    (past : Past S) → past.life ≡ mortal o → IsPlain e
-    → (after note step e past).life ≡ mortal o
-unfolding after_input
-life-at note step o (Does i) past same plain =
-    ap (λ (q : Lifetime). spent q (stamp_of i) (step past.state i).outs) same
-    ∙ spent-stays o (stamp_of i) (step past.state i).outs
-life-at note step o (Ends i sends) past same plain = absurd plain
-life-at note step o (Dies stamp) past same plain = same
-life-at note step o (Returns stamp) past same plain = absurd plain
-
-pub life-after : {M S : Type 0} (note : M → Note) (step : S → Input M → Deed M S) (o : Option ℕ)
-    (es : List (NodeEvent M)) (past : Past S)
-    → past.life ≡ mortal o → AllByRecursion IsPlain es → (after_all note step es past).life ≡ mortal o
-life-after note step o [] past same plain = same
-life-after note step o (e ∷ es) past same plain =
-    life-after note step o es (after note step e past) (life-at note step o e past same plain.0) plain.1
-
 -- an input in a beat in which no death is to cut its node off is a whole step
 pub event-unended : {M S : Type 0} (step : S → Input M → Deed M S) (i : Input M) (past : Past S)
     → ends_in past.life (stamp_of i).beat ≡ false → event_of step i past ≡ Does i
 unfolding event_of
 event-unended step i past h =
     ap (event_to i) (cut-unended past.life (stamp_of i) (is_tick_input i) (step past.state i).outs h)
-
-pub event-whole : {M S : Type 0} (step : S → Input M → Deed M S) (o : Option ℕ) (i : Input M) (past : Past S)
-    → past.life ≡ mortal o → event_of step i past ≡ Does i
-unfolding event_of
-event-whole step o i past same =
-    ap (λ (q : Lifetime). event_to i (cut_to q (stamp_of i) (is_tick_input i) (step past.state i).outs)) same
-    ∙ ap (event_to i) (cut-never o (stamp_of i) (is_tick_input i) (step past.state i).outs)
 
 -- events behind others
 pub after_all-append : {M S : Type 0} (note : M → Note) (step : S → Input M → Deed M S) (es fs : List (NodeEvent M))
@@ -177,30 +151,14 @@ sends-none note step p n from to l (e ∷ es) past ends other h =
 own-sent : (l beat : ℕ) (w : What) → IsOwnEntry w → sent_by l beat w ≡ []
 own-sent l beat (what.Got link note) h = absurd h
 own-sent l beat (what.Sent link note) h = absurd h
-own-sent l beat (what.Took r) h = refl
-own-sent l beat (what.Dropped r) h = refl
-own-sent l beat (what.Queued v d) h = refl
-own-sent l beat (what.Unqueued v) h = refl
-own-sent l beat (what.Put t) h = refl
-own-sent l beat (what.Gone v) h = refl
-own-sent l beat (what.ReadFailed w) h = refl
-own-sent l beat (what.Believed c) h = refl
 own-sent l beat what.Died h = absurd h
-own-sent l beat what.Returned h = refl
+own-sent l beat other h = refl
 
 own-got : (l beat : ℕ) (w : What) → IsOwnEntry w → got_by l beat w ≡ []
 own-got l beat (what.Got link note) h = absurd h
 own-got l beat (what.Sent link note) h = absurd h
-own-got l beat (what.Took r) h = refl
-own-got l beat (what.Dropped r) h = refl
-own-got l beat (what.Queued v d) h = refl
-own-got l beat (what.Unqueued v) h = refl
-own-got l beat (what.Put t) h = refl
-own-got l beat (what.Gone v) h = refl
-own-got l beat (what.ReadFailed w) h = refl
-own-got l beat (what.Believed c) h = refl
 own-got l beat what.Died h = absurd h
-own-got l beat what.Returned h = refl
+own-got l beat other h = refl
 
 sent-outs : {M : Type 0} (note : M → Note) (p : Params) (n l : ℕ) (stamp : Stamp) (os : List (Out M))
     → AllByRecursion (IsAllowed note p n) os

@@ -1,33 +1,28 @@
 -- A node's beat, to which letters come: which events it has, when, and what they take.
-use Rattle.std.proofs.Common.{◌≡◌, ℕ, List, [], ◌∷◌, ◌++◌, map, true, false, Option, refl, ap, sym, ◌∙◌, subst, arith}
-use Rattle.std.proofs.Common.{◌+◌, ◌≤◌, filter, ◌&&◌, ⊎_elim, append-nil}
+use Rattle.std.proofs.Common.{◌≡◌, ℕ, List, [], ◌∷◌, ◌++◌, map, true, false, refl, ap, ◌∙◌, arith}
+use Rattle.std.proofs.Common.{◌≤◌, filter, ⊎_elim, append-nil}
 use Rattle.std.specs.Prelude.{nat_le, ◌==◌, if◌then◌else◌}
 use Rattle.std.specs.List.{AllByRecursion}
 use Rattle.tiger_base.specs.declared.number.Stamp.{Stamp}
 use Rattle.tiger_base.specs.declared.number.LinkNo.{LinkNo}
 use Rattle.tiger_base.specs.declared.message.Note.{Note}
 use Rattle.slot_plan.specs.declared.params.Params.{Params}
-use Rattle.node_kit.specs.Life.{Lifetime, mortal, acts, dies, returns, hears, lifetime_of, death_of, spent}
-use Rattle.node_kit.proofs.Whole.{returns-never, spent-nothing}
+use Rattle.node_kit.specs.Life.{Lifetime, acts, dies, spent}
+use Rattle.node_kit.proofs.Whole.{spent-nothing}
 use Rattle.node_kit.specs.Links.{IsInLink}
 use Rattle.node_kit.specs.Steps.{Input, Deed, Rests, entry_of}
 use Rattle.node_kit.specs.Steps.Input.{Take, Tick}
 use Rattle.run_facts.specs.declared.mail.Flight.{Flight}
 use Rattle.run_facts.specs.declared.mail.Letter.{Letter}
-use Rattle.run_facts.specs.Beats.{arrived, is_taken, letter_events, end_events, beat_events, under_way}
+use Rattle.run_facts.specs.Beats.{arrived, is_taken, end_events, under_way}
 use Rattle.run_facts.specs.Beats.{pass, bring, on_link}
-use Rattle.run_facts.specs.Events.{NodeEvent, Past, IsPlain, after, after_all, after_input, event_of, kept_outs}
-use Rattle.run_facts.specs.Events.{outs_of, stamp_at, takes_along}
-use Rattle.run_facts.specs.Events.NodeEvent.{Does, Ends, Dies, Returns}
+use Rattle.run_facts.specs.Events.{NodeEvent, Past, after, after_all, after_input, event_of, kept_outs}
+use Rattle.run_facts.specs.Events.{outs_of, takes_along}
+use Rattle.run_facts.specs.Events.NodeEvent.{Does, Dies}
 use Rattle.std.proofs.lemmas.Bool.{cases_Bool}
 use Rattle.std.proofs.lemmas.Bool.Decides.{nat_tests}
-use Rattle.run_facts.specs.Paced.{Passage, brought}
-use Rattle.run_facts.specs.Accounts.{Rising, is_caught, arriving, waiting, IsInTurn, AreInTurn, IsTakeAt, IsTimeline}
-use Rattle.run_facts.proofs.Rows.{all-append, all-weaker}
-use Rattle.run_facts.proofs.Along.{life-at, event-whole, takes-append, life-after}
-use Rattle.node_kit.specs.declared.course.Course.{Course}
-use Rattle.node_kit.specs.Courses.{stamp_in}
-use Rattle.run_facts.proofs.Timelines.{timeline-acts, timeline-dies, timeline-idle}
+use Rattle.run_facts.specs.Paced.{Passage}
+use Rattle.run_facts.specs.Accounts.{Rising, arriving, waiting, IsInTurn, AreInTurn, IsTakeAt}
 
 -- the events of a node's beat, if its life is whole: each message that it takes is one step, and so is its tick
 abbrev pub whole_letters : {M S : Type 0} → (M → Note) → (S → Input M → Deed M S) → Stamp → List (Letter M) → Past S
@@ -48,48 +43,6 @@ unfoldable pub whole_beat : {M S : Type 0} → (M → Note) → (S → Input M �
 whole_beat note step stamp letters past =
     whole_letters note step stamp letters past
     ++ whole_end stamp (after_all note step (whole_letters note step stamp letters past) past).life
-
--- they are the events of its beat
-pub letters-whole : {M S : Type 0} (note : M → Note) (step : S → Input M → Deed M S) (o : Option ℕ) (stamp : Stamp)
-    (ls : List (Letter M)) (past : Past S) → past.life ≡ mortal o
-    → letter_events note step stamp ls past ≡ whole_letters note step stamp ls past
-letters-whole note step o stamp [] past same = refl
-letters-whole {M} note step o stamp (x ∷ xs) past same =
-    let one : NodeEvent M = Does (Take stamp x.link x.msg) in
-    let is = event-whole step o (Take stamp x.link x.msg) past same in
-    ⊎_elim
-    (λ (e : is_taken past.life x.sent stamp.beat ≡ true). rw (e, is)
-    (ap (λ es. one ∷ es) (letters-whole note step o stamp xs (after note step one past)
-    (life-at note step o one past same tt))))
-    (λ (e : is_taken past.life x.sent stamp.beat ≡ false). rw e (letters-whole note step o stamp xs past same))
-    (cases_Bool (is_taken past.life x.sent stamp.beat))
-
-letters-plain : {M S : Type 0} (note : M → Note) (step : S → Input M → Deed M S) (stamp : Stamp) (ls : List (Letter M))
-    (past : Past S) → AllByRecursion IsPlain (whole_letters note step stamp ls past)
-letters-plain note step stamp [] past = tt
-letters-plain note step stamp (x ∷ xs) past = ⊎_elim
-    (λ (e : is_taken past.life x.sent stamp.beat ≡ true). rw e
-    (tt, letters-plain note step stamp xs (after note step (Does (Take stamp x.link x.msg)) past)))
-    (λ (e : is_taken past.life x.sent stamp.beat ≡ false). rw e (letters-plain note step stamp xs past))
-    (cases_Bool (is_taken past.life x.sent stamp.beat))
-
-end-whole : {M S : Type 0} (step : S → Input M → Deed M S) (o : Option ℕ) (stamp : Stamp) (past : Past S)
-    → past.life ≡ mortal o → end_events step stamp past ≡ whole_end stamp past.life
-unfolding end_events whole_end
-end-whole step o stamp past same = rw (event-whole step o (Tick stamp) past same) refl
-
-pub beat-whole : {M S : Type 0} (note : M → Note) (step : S → Input M → Deed M S) (o : Option ℕ) (stamp : Stamp)
-    (ls : List (Letter M)) (past : Past S) → past.life ≡ mortal o
-    → beat_events note step stamp ls past ≡ whole_beat note step stamp ls past
-unfolding beat_events whole_beat
-beat-whole note step o stamp ls past same =
-    let here : returns past.life stamp.beat ≡ false = ap (λ q. returns q stamp.beat) same
-    ∙ returns-never o stamp.beat in
-    let still = life-after note step o (whole_letters note step stamp ls past) past same
-    (letters-plain note step stamp ls past) in
-    rw (here, letters-whole note step o stamp ls past same)
-    (ap (λ es. whole_letters note step stamp ls past ++ es)
-    (end-whole step o stamp (after_all note step (whole_letters note step stamp ls past) past) still))
 
 -- the end of a beat, cut off or not
 pub last-acting : {M S : Type 0} (step : S → Input M → Deed M S) (stamp : Stamp) (past : Past S)
@@ -114,16 +67,6 @@ pub end-acting : {M : Type 0} (stamp : Stamp) (life : Lifetime) → acts life st
     → whole_end {M = M} stamp life ≡ Does (Tick stamp) ∷ []
 unfolding whole_end
 end-acting stamp life live = rw live refl
-
-pub end-dying : {M : Type 0} (stamp : Stamp) (life : Lifetime) → acts life stamp.beat ≡ false
-    → dies life stamp.beat ≡ true → whole_end {M = M} stamp life ≡ Dies stamp ∷ []
-unfolding whole_end
-end-dying stamp life idle dead = rw (idle, dead) refl
-
-pub end-idle : {M : Type 0} (stamp : Stamp) (life : Lifetime) → acts life stamp.beat ≡ false
-    → dies life stamp.beat ≡ false → whole_end {M = M} stamp life ≡ []
-unfolding whole_end
-end-idle stamp life idle undead = rw (idle, undead) refl
 
 -- the tick of a node that rests leaves no trace
 pub rests-past : {M S : Type 0} (note : M → Note) (step : S → Input M → Deed M S) (stamp : Stamp) (past : Past S)
@@ -247,40 +190,6 @@ events-in_turn note step stamp (x ∷ xs) past r = ⊎_elim
     (λ (e : is_taken past.life x.sent stamp.beat ≡ false). rw e (events-in_turn note step stamp xs past r.1))
     (cases_Bool (is_taken past.life x.sent stamp.beat))
 
--- a node that does not act takes nothing
-pub events-idle : {M S : Type 0} (note : M → Note) (step : S → Input M → Deed M S) (stamp : Stamp)
-    (ls : List (Letter M)) (past : Past S)
-    → acts past.life stamp.beat ≡ false → whole_letters note step stamp ls past ≡ []
-events-idle note step stamp [] past h = refl
-events-idle note step stamp (x ∷ xs) past h =
-    let e : is_taken past.life x.sent stamp.beat ≡ false = ap (λ b. b && hears past.life x.sent stamp.beat) h in
-    rw e (events-idle note step stamp xs past h)
-
--- what it takes on a link is what that brings and it hears
-pub events-on : {M S : Type 0} (note : M → Note) (step : S → Input M → Deed M S) (o : Option ℕ) (stamp : Stamp) (l : ℕ)
-    (life : Lifetime) (ls : List (Letter M)) (past : Past S)
-    → life ≡ mortal o → past.life ≡ life → takes_along l (whole_letters note step stamp ls past) ≡ map brought
-    (filter (is_caught life) (map (bring stamp.beat) (filter (on_link l) ls)))
-events-on note step o stamp l life [] past w same = refl
-events-on note step o stamp l life (x ∷ xs) past w same =
-    let taken = after note step (Does (Take stamp x.link x.msg)) past in
-    let was : is_taken past.life x.sent stamp.beat ≡ is_taken life x.sent stamp.beat =
-    ap (λ q. is_taken q x.sent stamp.beat) same in
-    let later = events-on note step o stamp l life xs taken w
-    (life-at note step o (Does (Take stamp x.link x.msg)) past (same ∙ w) tt ∙ sym w) in
-    let lost = events-on note step o stamp l life xs past w same in
-    ⊎_elim
-    (λ (e : is_taken life x.sent stamp.beat ≡ true). ⊎_elim
-    (λ (q : (x.link.0 == l) ≡ true). rw (was, e, q, e)
-    (ap (λ ds. (record { beat = stamp.beat; item = x.msg }) ∷ ds) later))
-    (λ (q : (x.link.0 == l) ≡ false). rw (was, e, q) later)
-    (cases_Bool (x.link.0 == l)))
-    (λ (e : is_taken life x.sent stamp.beat ≡ false). ⊎_elim
-    (λ (q : (x.link.0 == l) ≡ true). rw (was, e, q, e) lost)
-    (λ (q : (x.link.0 == l) ≡ false). rw (was, e, q) lost)
-    (cases_Bool (x.link.0 == l)))
-    (cases_Bool (is_taken life x.sent stamp.beat))
-
 pub end-takes : {M : Type 0} (stamp : Stamp) (life : Lifetime) (l : ℕ)
     → takes_along {M = M} l (whole_end stamp life) ≡ []
 unfolding whole_end
@@ -291,88 +200,3 @@ end-takes stamp life l = ⊎_elim
     (λ (q : dies life stamp.beat ≡ false). rw (e, q) refl)
     (cases_Bool (dies life stamp.beat)))
     (cases_Bool (acts life stamp.beat))
-
--- and so in its whole beat
-pub beat-takes : {M S : Type 0} (note : M → Note) (step : S → Input M → Deed M S) (o : Option ℕ) (stamp : Stamp) (l : ℕ)
-    (life : Lifetime) (ls : List (Letter M)) (past : Past S)
-    → life ≡ mortal o → past.life ≡ life → takes_along l (whole_beat note step stamp ls past) ≡ map brought
-    (filter (is_caught life) (map (bring stamp.beat) (filter (on_link l) ls)))
-unfolding whole_beat
-beat-takes {M} note step o stamp l life ls past w same =
-    let es = whole_letters note step stamp ls past in
-    let end : List (NodeEvent M) = whole_end stamp (after_all note step es past).life in
-    takes-append l es end ∙ ap (λ ds. takes_along l es ++ ds)
-    (end-takes {M = M} stamp (after_all note step es past).life l)
-    ∙ append-nil (takes_along l es) ∙ events-on note step o stamp l life ls past w same
-
--- a node's part of its beat
-pub beat-timeline : {M S : Type 0} (note : M → Note) (step : S → Input M → Deed M S) (c : Course) (n b : ℕ)
-    (ls : List (Letter M)) (past : Past S) (es : List (NodeEvent M))
-    → lifetime_of c n ≡ mortal (death_of c n) → past.life ≡ lifetime_of c n
-    → AllByRecursion (IsTakeAt (stamp_in c n b) c.plan.params n) (whole_letters note step (stamp_in c n b) ls past)
-    → AreInTurn (whole_letters note step (stamp_in c n b) ls past)
-    → IsTimeline (stamp_in c n) c.plan.params n (lifetime_of c n) b es
-    → IsTimeline (stamp_in c n) c.plan.params n (lifetime_of c n) (b + 1)
-    (es ++ whole_beat note step (stamp_in c n b) ls past)
-unfolding whole_beat
-beat-timeline {M} note step c n b ls past es w same takes turn timeline =
-    let p = c.plan.params in
-    let stamp = stamp_in c n b in
-    let life = lifetime_of c n in
-    let taken = whole_letters note step stamp ls past in
-    let still : (after_all note step taken past).life ≡ life = life-after note step (death_of c n) taken past (same ∙ w)
-    (letters-plain note step stamp ls past) ∙ sym w in
-    let whole : (end : List (NodeEvent M)) → whole_end stamp life ≡ end
-    → IsTimeline (stamp_in c n) p n life (b + 1) (es ++ (taken ++ end))
-    → IsTimeline (stamp_in c n) p n life (b + 1)
-    (es ++ (taken ++ whole_end stamp (after_all note step taken past).life)) =
-    λ end is done. subst (λ q. IsTimeline (stamp_in c n) p n life (b + 1) (es ++ (taken ++ q)))
-    (sym (ap (whole_end stamp) still ∙ is)) done in
-    ⊎_elim
-    (λ (live : acts life b ≡ true).
-    whole (Does (Tick stamp) ∷ []) (end-acting stamp life live)
-    (timeline-acts (stamp_in c n) p n life b es taken w (λ k. refl) live takes turn timeline))
-    (λ (idle : acts life b ≡ false).
-    let none : taken ≡ [] = events-idle note step stamp ls past (ap (λ (q : Lifetime). acts q b) same ∙ idle) in
-    ⊎_elim
-    (λ (dead : dies life b ≡ true).
-    whole (Dies stamp ∷ []) (end-dying stamp life idle dead)
-    (subst (λ q. IsTimeline (stamp_in c n) p n life (b + 1) (es ++ (q ++ Dies stamp ∷ []))) (sym none)
-    (timeline-dies (stamp_in c n) p n life b es w (λ k. refl) idle dead timeline)))
-    (λ (undead : dies life b ≡ false).
-    whole [] (end-idle stamp life idle undead)
-    (subst (λ q. IsTimeline (stamp_in c n) p n life (b + 1) q) (sym (ap (λ q. es ++ (q ++ [])) none ∙ append-nil es))
-    (timeline-idle (stamp_in c n) p n life b es w idle undead timeline)))
-    (cases_Bool (dies life b)))
-    (cases_Bool (acts life b))
-
-pub take-beat : {M : Type 0} (stamp : Stamp) (p : Params) (n : ℕ) (e : NodeEvent M) → IsTakeAt stamp p n e
-    → (stamp_at e).beat ≡ stamp.beat
-take-beat stamp p n (Does (Take s l m)) h = ap (λ (q : Stamp). q.beat) h.0
-take-beat stamp p n (Does (Tick s)) h = absurd h
-take-beat stamp p n (Ends i k) h = absurd h
-take-beat stamp p n (Dies s) h = absurd h
-take-beat stamp p n (Returns s) h = absurd h
-
-pub end-beat : (M : Type 0) (stamp : Stamp) (life : Lifetime)
-    → AllByRecursion (λ (e : NodeEvent M). (stamp_at e).beat ≡ stamp.beat) (whole_end stamp life)
-unfolding whole_end
-end-beat M stamp life = ⊎_elim
-    (λ (e : acts life stamp.beat ≡ true). rw e (refl, tt))
-    (λ (e : acts life stamp.beat ≡ false). ⊎_elim
-    (λ (q : dies life stamp.beat ≡ true). rw (e, q) (refl, tt))
-    (λ (q : dies life stamp.beat ≡ false). rw (e, q) tt)
-    (cases_Bool (dies life stamp.beat)))
-    (cases_Bool (acts life stamp.beat))
-
-pub events-dated : {M S : Type 0} (note : M → Note) (step : S → Input M → Deed M S) (stamp : Stamp) (p : Params) (n : ℕ)
-    (ls : List (Letter M)) (past : Past S)
-    → AllByRecursion (IsTakeAt stamp p n) (whole_letters note step stamp ls past)
-    → AllByRecursion (λ e. (stamp_at e).beat ≡ stamp.beat) (whole_beat note step stamp ls past)
-unfolding whole_beat
-events-dated {M} note step stamp p n ls past takes =
-    all-append (λ (e : NodeEvent M). (stamp_at e).beat ≡ stamp.beat) (whole_letters note step stamp ls past)
-    (whole_end stamp (after_all note step (whole_letters note step stamp ls past) past).life)
-    (all-weaker (IsTakeAt stamp p n) (λ (e : NodeEvent M). (stamp_at e).beat ≡ stamp.beat)
-    (whole_letters note step stamp ls past) (λ e h. take-beat stamp p n e h) takes)
-    (end-beat M stamp (after_all note step (whole_letters note step stamp ls past) past).life)

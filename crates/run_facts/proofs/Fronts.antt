@@ -633,11 +633,6 @@ module _ (d : ℕ) (left : Option ℕ) (w : ℕ) (later : d + 2 ≤ w) (most bea
       (λ gs r. front-since (after_send clock s.beat) ss gs timely.1 rising.1 r) got k h))
       (cases_Bool (nat_le w s.beat))
 
--- who does not return does not return too early
-pub none-later : (death : Option ℕ) → ReturnsLater death None
-none-later None = tt
-none-later (Some d) = tt
-
 all-kept : (ds : List (Dated Note)) → kept_of None ds ≡ ds
 all-kept ds = filter-all (λ (d : Dated Note). keeps None d.beat) ds
     (all-given (λ (d : Dated Note). keeps None d.beat ≡ true) ds (λ d. refl))

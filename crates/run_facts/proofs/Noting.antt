@@ -1,18 +1,14 @@
 -- What holds of messages on a link holds of their notes.
-use Rattle.std.proofs.Common.{◌≡◌, ℕ, ◌≤◌, List, [], ◌∷◌, ◌++◌, map, filter, true, false, Option, None, refl, ap, sym}
+use Rattle.std.proofs.Common.{◌≡◌, ℕ, List, [], ◌∷◌, ◌++◌, map, filter, true, false, refl, ap, sym}
 use Rattle.std.proofs.Common.{◌∙◌, subst, ⊎_elim, inl, inr}
 use Rattle.std.proofs.lemmas.List.{map-append}
-use Rattle.std.specs.List.{AllByRecursion}
 use Rattle.std.proofs.lemmas.Bool.{cases_Bool}
 use Rattle.tiger_base.specs.declared.message.Note.{Note}
 use Rattle.link_timing.specs.Clock.{Clock, arrival_at, after_send}
-use Rattle.node_kit.specs.Life.{Lifetime, mortal, ends_in}
+use Rattle.node_kit.specs.Life.{Lifetime, ends_in}
 use Rattle.run_facts.specs.Events.{Dated, noted_as}
 use Rattle.run_facts.specs.Paced.{Passage, passages, is_heard, brought, AreMissed, AreGot, ArePacedOn}
 use Rattle.run_facts.proofs.Rows.{all-map}
-use Rattle.run_facts.specs.Carried.{AreCarriedOn}
-use Rattle.run_facts.specs.Accounts.{Rising, IsTimely}
-use Rattle.run_facts.proofs.Fronts.{paced-carries, none-later}
 
 abbrev pub noted_pass : {M : Type 0} → (M → Note) → Passage M → Passage Note
 noted_pass note f = record { sent = f.sent; arrival = f.arrival; item = note f.item }
@@ -65,36 +61,3 @@ paced-noted {M} note clock life beats Came sent got h =
     (λ (all : got ≡ map brought heard). inl (ap (map (noted_as note)) all ∙ brought-noted note heard))
     (λ (some : Came × AreMissed life heard got). inr (some.0, missed-noted note life heard got some.1))
     h)
-
-timely-noted : {M : Type 0} (note : M → Note) (most : ℕ) (fs : List (Passage M)) → AllByRecursion (IsTimely most) fs
-    → AllByRecursion (IsTimely most) (map (noted_pass note) fs)
-timely-noted note most [] h = tt
-timely-noted note most (f ∷ fs) h = (h.0, timely-noted note most fs h.1)
-
-above-noted : {M : Type 0} (note : M → Note) (low : ℕ) (fs : List (Passage M))
-    → AllByRecursion (λ (f : Passage M). low ≤ f.arrival) fs
-    → AllByRecursion (λ (f : Passage Note). low ≤ f.arrival) (map (noted_pass note) fs)
-above-noted note low [] h = tt
-above-noted note low (f ∷ fs) h = (h.0, above-noted note low fs h.1)
-
-rising-noted : {M : Type 0} (note : M → Note) (fs : List (Passage M)) → Rising (λ (f : Passage M). f.arrival) fs
-    → Rising (λ (f : Passage Note). f.arrival) (map (noted_pass note) fs)
-rising-noted note [] r = tt
-rising-noted note (f ∷ fs) r = (above-noted note f.arrival fs r.0, rising-noted note fs r.1)
-
-pub carried-noted : {M : Type 0} (note : M → Note) (o : Option ℕ) (life : Lifetime) → life ≡ mortal o
-    → (most beats : ℕ) (clock : Clock) (Came : Type 0) (sent got : List (Dated M))
-    → AllByRecursion (IsTimely most) (passages clock sent)
-    → Rising (λ (f : Passage M). f.arrival) (passages clock sent) → ArePacedOn clock life beats Came sent got
-    → AreCarriedOn most beats life (map (noted_as note) sent) (map (noted_as note) got)
-carried-noted {M} note o life same most beats clock Came sent got timely rising paced =
-    let sends = map (noted_as note) sent in
-    let gets = map (noted_as note) got in
-    subst (λ (q : Lifetime). AreCarriedOn most beats q sends gets) (sym same)
-    (paced-carries o None None (none-later o) most beats clock Came sends gets
-    (subst (AllByRecursion (IsTimely most)) (sym (passages-noted note clock sent))
-    (timely-noted note most (passages clock sent) timely))
-    (subst (Rising (λ (f : Passage Note). f.arrival)) (sym (passages-noted note clock sent))
-    (rising-noted note (passages clock sent) rising))
-    (subst (λ (q : Lifetime). ArePacedOn clock q beats Came sends gets) same
-    (paced-noted note clock life beats Came sent got paced)))

@@ -22,7 +22,7 @@ use Rattle.run_facts.specs.Events.NodeEvent.{Does, Ends, Dies, Returns}
 use Rattle.run_facts.specs.Histories.{History, TakesAt, IsUp, CameOn, IsBack, IsRun, IsComplete, past, beat, open_beat}
 use Rattle.run_facts.specs.Histories.{place, sent, below}
 use Rattle.run_facts.specs.Returning.{IsPair, IsCompleteRun, told, way, sends_two, at, ticks_at, takes_at, lives}
-use Rattle.run_facts.specs.Returning.{firsts, lost, events_of, history, ender, returner, ends_and_returns, returns_at_once}
+use Rattle.run_facts.specs.Returning.{firsts, lost, events_of, ender, returner, ends_and_returns, returns_at_once}
 use Rattle.run_facts.specs.Returning.{takes_what_was_lost, ends_whole, sends_one_more, goes_on_behind_its_end}
 use Rattle.run_facts.proofs.Indexed.{all-at, rising-at, counted-at, fair-at, open-front, past-front}
 use Rattle.run_facts.proofs.Keeping.{take-input}

@@ -2,7 +2,6 @@
 use Rattle.std.specs.Prelude.{◌≡◌, ℕ, List, length, Some, slice_get}
 use Rattle.tiger_base.specs.declared.number.Stamp.{Stamp}
 use Rattle.tiger_base.specs.declared.message.Note.{Note}
-use Rattle.slot_plan.specs.declared.params.Params.{Params}
 use Rattle.link_timing.specs.Clock.{new_clock}
 use Rattle.node_kit.specs.declared.course.Course.{Course}
 use Rattle.node_kit.specs.declared.journal.Entry.{Entry}
@@ -13,10 +12,8 @@ use Rattle.node_kit.specs.Steps.{Input, Deed}
 use Rattle.run_facts.specs.Accounts.{history_of, AreAccounted}
 use Rattle.run_facts.specs.Carried.{AreCarriedOn, sent_on, got_on}
 use Rattle.run_facts.specs.Events.{NodeEvent}
-use Rattle.run_facts.specs.Histories.{History, HaveHistory, IsRun}
-use Rattle.run_facts.specs.Kept.{KeepsCourse}
+use Rattle.run_facts.specs.Kept.{HaveKept, KeepsCourse}
 use Rattle.run_facts.specs.Paced.{ArePaced}
-use Rattle.run_facts.specs.Plain.{HasWholeLives, IsPlainRun}
 use Rattle.run_facts.specs.Timed.{AreTimed}
 
 -- journals that are paced and timed as a course has it are carried on each link
@@ -39,15 +36,9 @@ AccountsKeep M S =
     (λ l. new_clock l c.delay c.plan.params.delay) nodes c.beats first lost events
     → KeepsCourse note step c nodes (history_of first (lifetime_of c) lost events)
 
--- nodes that have lived through whole lives have lived through a plain run
-abbrev pub WholeIsPlain : (M S : Type 0) → Type 0
-WholeIsPlain M S =
+-- a run that is kept has a journal for each node, and its history keeps the course
+abbrev pub KeptRunsKeep : (M S : Type 0) → Type 0
+KeptRunsKeep M S =
     (note : M → Note) (step : S → Input M → Deed M S) (c : Course) (given nodes : List S) (journals : List (List Entry))
-    → HasWholeLives c → (lived : HaveHistory note step c.plan.params (lifetime_of c) c.beats given nodes journals)
-    → IsPlainRun note step c.plan.params (length given) lived.history
-
--- and a plain run is a run
-abbrev pub PlainIsRun : (M S : Type 0) → Type 0
-PlainIsRun M S =
-    (note : M → Note) (step : S → Input M → Deed M S) (p : Params) (nodes : ℕ) (h : History M S)
-    → IsPlainRun note step p nodes h → IsRun note step p nodes h
+    → (kept : HaveKept note step c given nodes journals)
+    → (length journals ≡ length given) × KeepsCourse note step c (length given) kept.lived.history

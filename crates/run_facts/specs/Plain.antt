@@ -1,4 +1,4 @@
--- Runs in which every life is whole: no event is cut off, and nobody returns.
+-- Runs in which no event is cut off, and nobody returns.
 use Rattle.std.specs.Prelude.{◌≡◌, ℕ, ◌+◌, ◌<◌, ◌≤◌, true, false, Some, slice_get}
 use Rattle.std.specs.List.{AllByRecursion}
 use Rattle.tiger_base.specs.declared.number.Stamp.{Stamp}
@@ -6,18 +6,12 @@ use Rattle.tiger_base.specs.declared.number.LinkNo.{LinkNo}
 use Rattle.tiger_base.specs.declared.message.Note.{Note}
 use Rattle.slot_plan.specs.declared.params.Params.{Params}
 use Rattle.slot_plan.specs.Times.{time_of}
-use Rattle.node_kit.specs.declared.course.Course.{Course}
-use Rattle.node_kit.specs.Life.{IsWholeLife, lifetime_of}
 use Rattle.node_kit.specs.Links.{links_of, ends_of}
 use Rattle.node_kit.specs.Steps.{Input, Deed, IsAllowed}
 use Rattle.node_kit.specs.Steps.Input.{Take}
 use Rattle.run_facts.specs.Events.{IsPlain, is_death}
 use Rattle.run_facts.specs.Events.NodeEvent.{Does}
 use Rattle.run_facts.specs.Histories.{History, CameOn, beat, reading, outs, sent, takes, ticks}
-
--- in this course no death cuts a node off, and no node returns
-abbrev pub HasWholeLives : Course → Type 0
-HasWholeLives c = (n : ℕ) → IsWholeLife (lifetime_of c n)
 
 -- What carrying, the clocks and the runner give, if all events are plain, and nothing of the nodes' rules: for nodes
 -- of these numbers, one tick ends each beat, and a node that lives has ended each beat below that of any event; its

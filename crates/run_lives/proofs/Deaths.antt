@@ -1,6 +1,6 @@
 -- What the events of a complete history tell of its nodes' lives: who does not return, when a death comes, and who
 -- acts till then.
-use Rattle.std.proofs.Common.{◌≡◌, ℕ, zero, suc, ◌<◌, Bool, true, false, not, Option, Some, None, refl, sym, ap, ◌∙◌, arith, cond}
+use Rattle.std.proofs.Common.{◌≡◌, ℕ, zero, suc, ◌<◌, Bool, true, false, not, Option, Some, None, refl, sym, ap, ◌∙◌, cond}
 use Rattle.std.specs.Prelude.{◌==◌, is_some, ◌&&◌}
 use Rattle.std.proofs.lemmas.Bool.{eqb-true}
 use Rattle.tiger_base.specs.declared.message.Note.{Note}
@@ -10,7 +10,7 @@ use Rattle.run_facts.specs.Events.{NodeEvent, Past, event_of, event_to, is_death
 use Rattle.run_facts.specs.Events.NodeEvent.{Does, Ends, Dies, Returns}
 use Rattle.run_facts.specs.Histories.{History, IsComplete, IsUp, past, beat, ticks}
 use Rattle.run_facts.proofs.Recording.{open-ticked}
-use Rattle.run_lives.proofs.Alike.{IsOfLife, of-itself, life-of-event, over-event}
+use Rattle.run_lives.proofs.Alike.{IsOfLife, of-itself, life-of-event}
 
 -- who may still send messages before its death cuts it off may do so in the beat of its death
 in-beat : (death left back : Option ℕ) (over : Bool) (b k : ℕ)
@@ -87,14 +87,6 @@ module _ {M S : Type 0} (note : M → Note) (step : S → Input M → Deed M S) 
           sym (along i).death ∙ dies-in (past note step h n i).life stamp.beat gone
           ∙ ap (λ (e : NodeEvent M). Some (stamp_at e).beat) (sym is)
       by (Returns stamp) is t = absurd (cc)
-
-  -- as long as it lives its death has come in no event, so that it acts by the life that it was given
-  pub lives-on : (i : ℕ) → ((j : ℕ) → j < i → is_death (h.event n j) ≡ false)
-      → (past note step h n i).life.over ≡ (h.life n).over
-  lives-on zero alive = refl
-  lives-on (suc i) alive =
-      over-event note step (h.event n i) (past note step h n i) (alive i (omega arith))
-      ∙ lives-on i (λ j low. alive j (omega arith))
 
   -- who lives to the end has ticked in each beat, if it does not return
   pub ticked_all : (h.life n).back ≡ None → ((i : ℕ) → i < h.count n → is_death (h.event n i) ≡ false)

@@ -5,13 +5,12 @@ use Rattle.std.proofs.lemmas.List.{map-append}
 use Rattle.tiger_base.specs.declared.number.Stamp.{Stamp}
 use Rattle.tiger_base.specs.declared.message.Note.{Note}
 use Rattle.slot_plan.specs.declared.params.Params.{Params}
-use Rattle.node_kit.specs.declared.journal.What.{What}
 use Rattle.node_kit.specs.declared.journal.What.TheVariants as what
 use Rattle.node_kit.specs.declared.journal.Entry.{Entry}
 use Rattle.node_kit.specs.declared.outbox.Out.{Out}
 use Rattle.node_kit.specs.declared.outbox.Out.TheVariants as out
 use Rattle.node_kit.specs.Outputs.{with_death, ends_in_death, is_death}
-use Rattle.node_kit.specs.Steps.{Input, Deed, IsAllowed, IsOwnEntry, entry_of, entries_of, stamp_of}
+use Rattle.node_kit.specs.Steps.{Input, Deed, IsAllowed, entry_of, entries_of, stamp_of}
 use Rattle.node_kit.specs.Steps.Input.{Take, Tick}
 use Rattle.run_facts.specs.Accounts.{AreAlive}
 use Rattle.run_facts.specs.Events.{NodeEvent, Past, after, after_all, kept_outs, left_outs, AreFair, entries_at}
@@ -19,21 +18,8 @@ use Rattle.run_facts.specs.Events.{written}
 use Rattle.run_facts.specs.Events.NodeEvent.{Does, Ends, Dies, Returns}
 use Rattle.run_facts.specs.Paced.{is_got}
 use Rattle.run_facts.specs.Timed.{is_died}
+use Rattle.run_facts.proofs.Journals.{plain-outs}
 use Rattle.run_facts.proofs.Rows.{all-append, all-weaker}
-
--- a node's own entry tells of neither
-own-tells : (w : What) → IsOwnEntry w → (is_got w ≡ false) × (is_died w ≡ false)
-own-tells (what.Got link note) h = absurd h
-own-tells what.Died h = absurd h
-own-tells other h = (refl, refl)
-
--- what a node puts out tells of neither
-pub outs-tell : {M : Type 0} (note : M → Note) (p : Params) (n : ℕ) (stamp : Stamp) (os : List (Out M))
-    → AllByRecursion (IsAllowed note p n) os
-    → AllByRecursion (λ (x : Entry). (is_got x.what ≡ false) × (is_died x.what ≡ false)) (map (entry_of note stamp) os)
-outs-tell note p n stamp [] h = tt
-outs-tell note p n stamp (out.Send link msg ∷ os) h = ((refl, refl), outs-tell note p n stamp os h.1)
-outs-tell note p n stamp (out.Act w ∷ os) h = (own-tells w h.0, outs-tell note p n stamp os h.1)
 
 -- what was got, and what stands behind it
 abbrev pub got_of : {M : Type 0} → (M → Note) → Input M → List Entry
@@ -101,7 +87,7 @@ cut-undied note step p n i k past h =
     all-append (λ (x : Entry). is_died x.what ≡ false) (got_of note i) (map (entry_of note (stamp_of i)) os)
     (got-undied note i)
     (all-weaker (λ (x : Entry). (is_got x.what ≡ false) × (is_died x.what ≡ false)) (λ x. is_died x.what ≡ false)
-    (map (entry_of note (stamp_of i)) os) (λ x g. g.1) (outs-tell note p n (stamp_of i) os h))
+    (map (entry_of note (stamp_of i)) os) (λ x g. g.1) (plain-outs note p n (stamp_of i) os h))
 
 pub cut-stamped : {M S : Type 0} (note : M → Note) (step : S → Input M → Deed M S) (i : Input M) (k : ℕ) (past : Past S)
     → AllByRecursion (λ (x : Entry). x.stamp ≡ stamp_of i) (before_cut note step i k past)
@@ -109,20 +95,6 @@ cut-stamped note step i k past =
     all-append (λ (x : Entry). x.stamp ≡ stamp_of i) (got_of note i)
     (map (entry_of note (stamp_of i)) (left_outs step i k past)) (got-stamped note i)
     (outs-stamped note (stamp_of i) (left_outs step i k past))
-
--- behind what it took stands no message that was got
-pub cut-ungot : {M S : Type 0} (note : M → Note) (step : S → Input M → Deed M S) (p : Params) (n : ℕ) (stamp : Stamp)
-    (i : Input M) (k : ℕ) (past : Past S) → AllByRecursion (IsAllowed note p n) (left_outs step i k past)
-    → AllByRecursion (λ (x : Entry). is_got x.what ≡ false)
-    (map (entry_of note stamp) (with_death (left_outs step i k past)))
-cut-ungot note step p n stamp i k past h =
-    let os = left_outs step i k past in
-    subst (λ qs. AllByRecursion (λ (x : Entry). is_got x.what ≡ false) qs)
-    (sym (ap (map (entry_of note stamp)) (death-behind note p n os h)
-    ∙ map-append (entry_of note stamp) os (out.Act what.Died ∷ [])))
-    (all-append (λ (x : Entry). is_got x.what ≡ false) (map (entry_of note stamp) os) (died_at stamp ∷ [])
-    (all-weaker (λ (x : Entry). (is_got x.what ≡ false) × (is_died x.what ≡ false)) (λ x. is_got x.what ≡ false)
-    (map (entry_of note stamp) os) (λ x g. g.0) (outs-tell note p n stamp os h)) (refl, tt))
 
 module _ {M S : Type 0} (note : M → Note) (step : S → Input M → Deed M S) (p : Params) (n : ℕ) where
   pub fair-left : (es fs : List (NodeEvent M)) (past : Past S) → AreFair note step p n (es ++ fs) past
@@ -144,7 +116,7 @@ module _ {M S : Type 0} (note : M → Note) (step : S → Input M → Deed M S) 
       (all-append (λ (x : Entry). is_died x.what ≡ false) (got_of note i) (map (entry_of note (stamp_of i)) os)
       (got-undied note i)
       (all-weaker (λ (x : Entry). (is_got x.what ≡ false) × (is_died x.what ≡ false)) (λ x. is_died x.what ≡ false)
-      (map (entry_of note (stamp_of i)) os) (λ x g. g.1) (outs-tell note p n (stamp_of i) os h)))
+      (map (entry_of note (stamp_of i)) os) (λ x g. g.1) (plain-outs note p n (stamp_of i) os h)))
 
   pub undied-written : (es : List (NodeEvent M)) (past : Past S) → AreAlive es → AreFair note step p n es past
       → AllByRecursion (λ (x : Entry). is_died x.what ≡ false) (written note step es past)

@@ -19,11 +19,11 @@ use Rattle.run_facts.specs.Events.NodeEvent.{Does, Ends, Dies, Returns}
 use Rattle.run_facts.specs.Paced.{DiedInTurn, TurnCameTo, is_got}
 use Rattle.run_facts.specs.Timed.{death_within}
 use Rattle.run_facts.proofs.Along.{written-append}
-use Rattle.run_facts.proofs.Journals.{stamped-written}
+use Rattle.run_facts.proofs.Journals.{stamped-written, ungot-death}
 use Rattle.run_facts.proofs.Rows.{all-append, all-weaker}
 use Rattle.run_lives.proofs.Around.{around-of, end-of}
 use Rattle.run_lives.proofs.Bringing.{alive-uncut}
-use Rattle.run_lives.proofs.Entries.{cut-ungot, fair-right}
+use Rattle.run_lives.proofs.Entries.{fair-right}
 use Rattle.run_lives.proofs.Standing.{within-of}
 
 -- among events around a death only that is cut off
@@ -65,7 +65,7 @@ module _ {M S : Type 0} (note : M → Note) (step : S → Input M → Deed M S) 
         none = all-append (λ (e : Entry). e.stamp.beat ≡ death → is_got e.what ≡ false) outs rest
             (all-weaker (λ (e : Entry). is_got e.what ≡ false)
             (λ e. e.stamp.beat ≡ death → is_got e.what ≡ false) outs
-            (λ e h q. h) (cut-ungot note step p n s (Take s link msg) k then_past allowed))
+            (λ e h q. h) (ungot-death note p n s (left_outs step (Take s link msg) k then_past) allowed))
             (all-weaker (λ (e : Entry). death + 2 ≤ e.stamp.beat)
             (λ e. e.stamp.beat ≡ death → is_got e.what ≡ false) rest
             (λ e h q. absurd (omega (arith, h, q)))

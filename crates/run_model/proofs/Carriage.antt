@@ -7,11 +7,11 @@ use Rattle.std.proofs.lemmas.List.Elements.{filter-append}
 use Rattle.tiger_base.specs.declared.message.Note.{Note}
 use Rattle.node_kit.specs.declared.journal.Entry.{Entry}
 use Rattle.run_facts.specs.Events.{Dated}
-use Rattle.run_facts.specs.Carried.{sent_on, got_on, MayBeLost, AreFrontOn, AreCarriedBy}
+use Rattle.run_facts.specs.Carried.{sent_on, got_on, AreFrontOn, AreCarriedBy}
 use Rattle.run_model.specs.declared.carrying.Half.TheVariants.{All}
 use Rattle.run_model.specs.declared.carrying.Way.{Way}
 use Rattle.run_model.specs.declared.carrying.Arrival.{Arrival}
-use Rattle.run_model.specs.Ways.{life_by, is_of, halved, sent_in, got_in, CarriesOn, HalfCarries, BothCarry, WayCarries, got_from, IsNext, IsInTime}
+use Rattle.run_model.specs.Ways.{life_by, is_of, halved, sent_in, got_in, CarriesOn, HalfCarries, BothCarry, WayCarries, got_from, IsNext}
 
 -- of what was sent or got, and then more, that of the beats that are compared
 halved_more : (way : Way) (whole here then : List (Dated Note)) → whole ≡ here ++ then
@@ -78,24 +78,6 @@ by-return way (Some x) back sender receiver e =
 pub some_back : (way : Way) (back : ℕ) (sender receiver : List Entry) → way.back ≡ Some back
     → BothCarry way back sender receiver ↔ WayCarries way sender receiver
 some_back way back sender receiver e = by-return way way.back back sender receiver e
-
--- a note that was got in time leaves what is left
-pub on_in_time : (way : Way) (beat : ℕ) (note : Note) (a : Arrival) (ss gs : List (Dated Note)) → IsInTime way beat note a
-    → CarriesOn way (record { beat = beat; item = note } ∷ ss) (record { beat = a.beat; item = a.note } ∷ gs) ↔ CarriesOn way ss gs
-on_in_time way beat note a ss gs h = ((λ g. g.3), (λ g. (h.0, h.1, h.2, g)))
-
-pub not_in_time : (way : Way) (beat : ℕ) (note : Note) (a : Arrival) (ss gs : List (Dated Note)) → ¬ IsInTime way beat note a
-    → ¬ CarriesOn way (record { beat = beat; item = note } ∷ ss) (record { beat = a.beat; item = a.note } ∷ gs)
-not_in_time way beat note a ss gs h = λ g. h (g.0, g.1, g.2)
-
--- one that was not got may be lost
-pub on_lost : (way : Way) (beat : ℕ) (note : Note) (ss : List (Dated Note)) → MayBeLost way.most way.beats (life_by way) beat
-    → CarriesOn way (record { beat = beat; item = note } ∷ ss) [] ↔ CarriesOn way ss []
-on_lost way beat note ss h = ((λ g. g.1), (λ g. (h, g)))
-
-pub not_lost : (way : Way) (beat : ℕ) (note : Note) (ss : List (Dated Note)) → ¬ MayBeLost way.most way.beats (life_by way) beat
-    → ¬ CarriesOn way (record { beat = beat; item = note } ∷ ss) []
-not_lost way beat note ss h = λ g. h g.0
 
 -- nothing more was sent, so nothing more may be got
 pub on_end : (way : Way) (gs : List (Dated Note)) → gs ≡ [] → CarriesOn way [] gs

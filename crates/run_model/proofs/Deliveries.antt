@@ -157,9 +157,6 @@ record Fits {A B : Type 0} (o : Option A) (q : Option B) (test : A → B → Boo
   some_second : q ≡ Some second
   holds : IsTrue (test first second)
 
-whole_test : Params → List (List Entry) → Tenancy → ℕ → Place → Parcel → Bool
-whole_test p journals t n block x = whole_fits p journals t n (Some block) (Some x)
-
 whole_found : (p : Params) (journals : List (List Entry)) (t : Tenancy) (n : ℕ) (o : Option Place) (q : Option Parcel)
     → IsTrue (whole_fits p journals t n o q) → Fits o q (λ block x. whole_fits p journals t n (Some block) (Some x))
 whole_found p journals t n (Some block) (Some x) h = record { first = block; second = x; some_first = refl; some_second = refl; holds = h }

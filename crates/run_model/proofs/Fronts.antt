@@ -22,11 +22,6 @@ pub at_each_from : {S X : Type 0} (R : S → X → Type 0) (f : S → X → S) (
 at_each_from R f s [] h = tt
 at_each_from R f s (x ∷ xs) h = (h [] x xs refl, at_each_from R f (f s x) xs (λ front y back e. h (x ∷ front) y back (ap (λ ys. x ∷ ys) e)))
 
--- one more element, as an induction on the events of a run wants it
-pub always_more : {S X : Type 0} (P : S → Type 0) (f : S → X → S) (s : S) (xs : List X) (x : X) → Always P f s xs → P (f (fold f s xs) x) → Always P f s (xs ++ x ∷ [])
-always_more P f s [] x h p = (h, p)
-always_more P f s (y ∷ ys) x h p = (h.0, always_more P f (f s y) ys x h.1 p)
-
 pub at_each_more : {S X : Type 0} (R : S → X → Type 0) (f : S → X → S) (s : S) (xs ys : List X) → AtEach R f s xs → AtEach R f (fold f s xs) ys → AtEach R f s (xs ++ ys)
 at_each_more R f s [] ys h g = g
 at_each_more R f s (x ∷ xs) ys h g = (h.0, at_each_more R f (f s x) xs ys h.1 g)

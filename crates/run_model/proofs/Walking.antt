@@ -1,5 +1,5 @@
 -- A walk along the order shows the schedule.
-use Rattle.std.proofs.Common.{◌≡◌, ℕ, zero, suc, ◌+◌, ◌-◌, ◌<◌, ◌≤◌, Bool, true, false, not, ◌||◌, List, [], ◌∷◌, ◌++◌, length, take, drop, filter, get_or, refl, sym, ap, subst, ◌∙◌, append_assoc, append-nil, arith}
+use Rattle.std.proofs.Common.{◌≡◌, ℕ, zero, suc, ◌+◌, ◌-◌, ◌<◌, ◌≤◌, Bool, true, false, not, List, [], ◌∷◌, ◌++◌, length, take, drop, filter, get_or, refl, sym, ap, subst, ◌∙◌, append_assoc, append-nil, arith}
 use Rattle.std.specs.Prelude.{◌==◌}
 use Rattle.std.specs.List.{list_any, fold}
 use Rattle.std.proofs.lemmas.Bool.{eq-eqb, ne_eqb}
@@ -43,11 +43,6 @@ walks_on a b c xs ys f g = record {
       (g.shows (fold after_entry s (take a.left xs)) (f.shows s h)));
   left = omega (arith, f.left, g.left, length-append xs ys);
 }
-
--- a walk shows the schedule after a Put and after a stop
-or_false : (b : Bool) → (b || false) ≡ b
-or_false true = refl
-or_false false = refl
 
 pub shows_put : (w new : Walk) (s : Schedule) (beat : ℕ) (t : Tenancy) → list_any (λ instance. instance.0 == t.instance.0) w.stopped.items ≡ false
     → new.slots.items ≡ seated t w.slots.items → new.stopped.items ≡ w.stopped.items → Shows w s → Shows new (changed s beat (what.Put t))
@@ -96,13 +91,6 @@ walks_past w new x some left f = record {
   first : (n : ℕ) → 0 < n → take n (x ∷ []) ≡ x ∷ []
   first zero l = absurd (omega arith)
   first (suc n) l = ap (λ zs. x ∷ zs) (take_none {X = Noted} n)
-
-pub walks_still : (w : Walk) (x : Noted) → w.left ≡ 0 → Walks w w (x ∷ [])
-walks_still w x none = record {
-  shows = λ s h. let e : take w.left (x ∷ []) ≡ [] = ap (λ (n : ℕ). take n (x ∷ [])) none in
-      subst (λ (zs : List Noted). Shows w (fold after_entry s zs)) (sym e) h;
-  left = omega arith;
-}
 
 -- what is shown does not depend on how many entries are left
 shows_fewer : (w : Walk) (n : ℕ) (s : Schedule) → Shows w s → Shows (record { slots = w.slots; stopped = w.stopped; left = n }) s

@@ -14,13 +14,6 @@ use Rattle.run_report.specs.Tables.{death_by, deaths_in, deaths_of}
 abbrev pub with_rest : (ℕ → Option ℕ) → List ℕ → ℕ → ℕ → Option (List ℕ)
 with_rest f found k n = option_map (λ rest. found ++ rest) (all_there (map f (range_with_len k n)))
 
-pub none_yet : (f : ℕ → Option ℕ) (k n : ℕ) → with_rest f [] k n ≡ all_there (map f (range_with_len k n))
-none_yet f k n = same (all_there (map f (range_with_len k n)))
-  where
-    same : (o : Option (List ℕ)) → option_map (λ rest. [] ++ rest) o ≡ o
-    same None = refl
-    same (Some xs) = refl
-
 one_of : (f : ℕ → Option ℕ) (found : List ℕ) (k n : ℕ) (o : Option ℕ) → f k ≡ o
     → with_rest f found k (suc n) ≡ option_map (λ rest. found ++ rest) (all_there (o ∷ map f (range_with_len (k + 1) n)))
 one_of f found k n o e = ap (λ x. option_map (λ rest. found ++ rest) (all_there (x ∷ map f (range_with_len (k + 1) n)))) e
@@ -41,9 +34,6 @@ one_more f found new k m n beat count e step =
         joined : (xs : List ℕ) (y : ℕ) (zs : List ℕ) → xs ++ y ∷ zs ≡ (xs ++ y ∷ []) ++ zs
         joined [] y zs = refl
         joined (x ∷ xs) y zs = ap (λ rest. x ∷ rest) (joined xs y zs)
-
-pub one_missing : (f : ℕ → Option ℕ) (found : List ℕ) (k m n : ℕ) → m ≡ suc n → f k ≡ None → with_rest f found k m ≡ None
-one_missing f found k m n count e = ap (λ j. with_rest f found k j) count ∙ one_of f found k n None e
 
 -- the deaths that a journal tells of
 abbrev pub is_about : Params → ℕ → ℕ → ℕ → ℕ → Bool

@@ -6,7 +6,7 @@ use Rattle.std.proofs.lemmas.List.{length-map, map-append, get_or-map, take_all,
 use Rattle.std.proofs.lemmas.List.Elements.{All-from_get_or, All-get_or, All-more, All-weaker}
 use Rattle.std.proofs.lemmas.List.FromFn.{length-range_with_len, get_or-range_with_len, map-range_with_len_more}
 use Rattle.std.proofs.lemmas.List.Sorted.{IsPermutation-map, IsPermutation-sym, All-permutation}
-use Rattle.std.proofs.lemmas.Option.{slice_get-get_or, unwrap_or-slice_get}
+use Rattle.std.proofs.lemmas.Option.{unwrap_or-slice_get}
 use Rattle.run_report.specs.declared.turns.Turn.{Turn}
 use Rattle.run_report.specs.Turns.{AreTurns, AreFilled}
 

@@ -1,7 +1,7 @@
 -- Hashes of spans by the states behind their fronts.
-use Rattle.std.proofs.Common.{◌≡◌, ℕ, zero, suc, ◌+◌, ◌-◌, ◌<◌, ◌≤◌, List, [], ◌∷◌, ◌++◌, ◌⊎◌, inl, inr, ⊎_elim, Bool, true, false, ◌&&◌, ◌==◌, Option, Some, None, length, take, map, get_or, refl, sym, ap, ◌∙◌, subst, arith}
+use Rattle.std.proofs.Common.{◌≡◌, ℕ, zero, suc, ◌+◌, ◌-◌, ◌<◌, List, [], ◌∷◌, ◌++◌, ◌⊎◌, inl, inr, ⊎_elim, Bool, true, false, ◌&&◌, ◌==◌, Some, None, length, take, map, get_or, refl, sym, ap, ◌∙◌, subst, arith}
 use Rattle.std.specs.Prelude.{slice_get, if◌then◌else◌, IfOk, Result}
-use Rattle.std.specs.List.{flat_map, filter}
+use Rattle.std.specs.List.{filter}
 use Rattle.std.proofs.lemmas.Bool.{eqb-true, false≢true}
 use Rattle.std.proofs.lemmas.List.{take_more, take_all, take-map, length-map, get_or-map, map-append, append-nil, flat_map_more}
 use Rattle.std.proofs.lemmas.List.Elements.{filter-append}
@@ -14,7 +14,7 @@ use Rattle.node_kit.specs.declared.course.Digest32.{Digest32}
 use Rattle.run_report.specs.declared.digest.Front.{Front}
 use Rattle.run_report.specs.declared.outcome.BlockOut.{BlockOut}
 use Rattle.run_report.specs.declared.outcome.Outcome.{Outcome}
-use Rattle.run_report.specs.Digests.{is_got, span_bytes, block_bytes, got_bytes, digest_of, digests_of, got_spans, spans_bytes, digest_of_spans, Hashed, spans_of, AreFronts}
+use Rattle.run_report.specs.Digests.{is_got, span_bytes, got_bytes, digest_of, digests_of, got_spans, spans_bytes, digest_of_spans, Hashed, spans_of, AreFronts}
 
 and_left : (a b : Bool) → (a && b) ≡ true → a ≡ true
 and_left true b e = refl

@@ -1,5 +1,5 @@
 -- The digests of what the viewers got.
-use Rattle.std.specs.Prelude.{◌≡◌, ℕ, suc, Bool, true, false, List, [], Option, Some, take, drop, map, slice_get, unwrap_or, if◌then◌else◌}
+use Rattle.std.specs.Prelude.{◌≡◌, ℕ, suc, Bool, true, false, List, [], Some, take, drop, map, slice_get, unwrap_or, if◌then◌else◌}
 use Rattle.std.specs.List.{flat_map, filter}
 use Rattle.sha2.specs.Sha256.{sha256}
 use Rattle.sha2.specs.Hashers.{Holds256}

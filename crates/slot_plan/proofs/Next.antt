@@ -5,7 +5,7 @@ use Rattle.slot_plan.specs.declared.params.Params.{Params}
 use Rattle.slot_plan.specs.Conditions.{IsInRange, IsPlan}
 use Rattle.slot_plan.specs.Times.{disk_count, in_window}
 use Rattle.slot_plan.specs.Keys.{Key, due_of, is_earlier, is_behind}
-use Rattle.slot_plan.specs.Searches.{from_of, IsBetween, IsFirstBetween, IsFirstFrom}
+use Rattle.slot_plan.specs.Searches.{from_of, IsBetween, IsFirstBetween}
 use Rattle.slot_plan.specs.Windows.{IsOpen, IsLeastOpen, least_visit}
 use Rattle.slot_plan.proofs.Times.{window_parts, disk_below}
 use Rattle.slot_plan.proofs.Keys.{is_earlier-irreflexive, key_same, earlier_due, due_earlier}
@@ -103,16 +103,6 @@ no_such_disk p d e low high r same h k b = omega (arith, disk_below p k.1 r, b.o
 
 pub no_such_time : (p : Params) (d low high : ℕ) → high < low → (k : Key) → ¬ IsBetween p d low high k
 no_such_time p d low high h k b = omega (arith, b.from, b.last)
-
--- the first one from a time on is the first between two times, or there is none between them
-pub first_is_between : (p : Params) (d low high : ℕ) (k : Key) → IsFirstFrom p d low k → due_of p k ≤ high → IsFirstBetween p d low high k
-first_is_between p d low high k f h = record {
-  here = record { in_plan = f.in_plan; on_disk = f.on_disk; from = f.from; last = h };
-  first = λ j b. f.first j b.in_plan b.on_disk b.from;
-}
-
-pub first_is_late : (p : Params) (d low high : ℕ) (k : Key) → IsFirstFrom p d low k → high < due_of p k → (j : Key) → ¬ IsBetween p d low high j
-first_is_late p d low high k f h j b = omega (arith, f.first j b.in_plan b.on_disk b.from, b.last)
 
 -- what is the next visit is what the function finds
 pub found_is_least : (p : Params) (reading disk : ℕ) (test : Key → Bool) (o : Option Key) → IsPlan p

@@ -83,10 +83,6 @@ due_later p s n m h = omega (arith, due_mono p s (n + 1) m (omega arith), due_ne
 pub due_pos : (p : Params) (s n : ℕ) → 1 ≤ n → p.play ≤ due p s n
 due_pos p s n h = omega (arith, due_later p s 0 n (omega arith))
 
--- of two visits of a slot the one that is due earlier has the smaller number
-pub due_below : (p : Params) (s n m : ℕ) → due p s n < due p s m → n < m
-due_below p s n m h = ⊎_elim (λ l. l) (λ g. absurd (omega (arith, due_mono p s m n g))) (cases_lt n m)
-
 -- the whole play times since a slot's first visit give its last one
 pub latest : (p : Params) (s time : ℕ) → 0 < p.play → due p s 0 ≤ time → IsLatest p s time ((time - due p s 0) / p.play)
 latest p s time h b =

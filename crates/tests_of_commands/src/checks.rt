@@ -1,14 +1,15 @@
 //! How calls that check a scenario over files and an output in memory end, and which conditions of plans are false.
 ghost use Rattle.std.specs.Prelude.{◌≡◌, IfOk};
 
+use crate::commands::{ending, plan_sink};
 use file_disk::MemDevice;
 use node_kit::OpenGate;
-use outside::{MemFiles, MemSink};
+use outside::MemFiles;
 use std::alloc::Global;
 use std::sync::Wait;
 use std::test::Fail;
 use std::thread::Threads;
-use tiger_top::{TopEnded, exit_of, line_of, tiger_top};
+use tiger_top::tiger_top;
 
 /// A scenario of the small ring, in which `SLOTS`, `PLAY`, `WINDOW`, `CUBS` and `EVENTS` stand for what a story has there.
 const SCENARIO: &str =
@@ -50,26 +51,6 @@ fn one_file(alloc: Global, scenario: Vec<u8>) -> Result<MemFiles, Fail>
     Ok(files)
 }
 
-fn sink_of(alloc: Global, fails: bool) -> Result<MemSink, Fail>
-    ensures { IfOk result (λ m. m.faults ≡ 0) }
-{
-    let mut out = MemSink::new(alloc);
-    if fails {
-        out.fail_at(0, 3)?;
-    }
-    Ok(out)
-}
-
-/// The exit status, the line on standard error, and what was written; a run that is kept is told of.
-fn ending(alloc: Global, ended: &TopEnded, written: &[u8]) -> Result<Vec<u8>, Fail> {
-    let kept = if ended.kept.is_some() { "kept " } else { "" };
-    let line = line_of(alloc, &ended.status)?;
-    let front = format!(in alloc; "{} {kept}{}", exit_of(&ended.status), line.as_str())?;
-    let mut text = front.into_bytes();
-    text.extend_from_slice(written)?;
-    Ok(text)
-}
-
 /// How the check of a scenario ends, of which a put fails if that is said.
 fn ending_of<R: Threads + Wait + Sync>(
     rt: &R,
@@ -78,7 +59,7 @@ fn ending_of<R: Threads + Wait + Sync>(
     fails: bool,
 ) -> Result<Vec<u8>, Fail> {
     let mut files = one_file(alloc, scenario)?;
-    let mut out = sink_of(alloc, fails)?;
+    let mut out = plan_sink(alloc, if fails { Some(0) } else { None })?;
     let mut words = Vec::new(alloc);
     words.push(String::from_str(alloc, "check")?)?;
     words.push(String::from_str(alloc, "scenario")?)?;

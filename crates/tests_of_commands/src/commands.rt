@@ -60,7 +60,8 @@ fn plan_files(alloc: Global, plan: Vec<u8>, fails: bool) -> Result<MemFiles, Fai
     Ok(files)
 }
 
-fn plan_sink(alloc: Global, failing: Option<u64>) -> Result<MemSink, Fail>
+/// An output, of which the put of this number fails once it kept three bytes, if there is one.
+pub(super) fn plan_sink(alloc: Global, failing: Option<u64>) -> Result<MemSink, Fail>
     ensures { IfOk result (λ m. m.faults ≡ 0) }
 {
     let mut out = MemSink::new(alloc);
@@ -79,7 +80,7 @@ fn split_words(alloc: Global, line: &str) -> Result<Vec<String>, Fail> {
 }
 
 /// The exit status, the line on standard error, and what was written; a run that is kept is told of.
-fn ending(alloc: Global, ended: &TopEnded, written: &[u8]) -> Result<Vec<u8>, Fail> {
+pub(super) fn ending(alloc: Global, ended: &TopEnded, written: &[u8]) -> Result<Vec<u8>, Fail> {
     let kept = if ended.kept.is_some() { "kept " } else { "" };
     let line = line_of(alloc, &ended.status)?;
     let front = format!(in alloc; "{} {kept}{}", exit_of(&ended.status), line.as_str())?;

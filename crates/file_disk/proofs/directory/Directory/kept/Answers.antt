@@ -1,4 +1,4 @@
-use Rattle.std.proofs.Common.{◌≡◌, ◌∙◌, List, ap, slice_get, arith}
+use Rattle.std.proofs.Common.{◌∙◌, List, ap, slice_get}
 use Rattle.file_disk.specs.declared.directory.Extent.{Extent}
 use Rattle.file_disk.proofs.Finding.{get-end}
 use Rattle.file_disk.proofs.directory.Directory.kept.Goals as goal
