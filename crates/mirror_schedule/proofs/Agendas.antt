@@ -1,12 +1,13 @@
 -- The order of numbers, by which a set of them is kept, is that of the pieces.
-use Rattle.std.proofs.Common.{◌≡◌, ◌∙◌, ℕ, ◌<◌, ◌||◌, ◌&&◌, ◌==◌, nat_lt, Bool, true, false, cond, List, [], ◌∷◌, length, drop, map, find, Option, Some, None, option_map, refl, ap, sym, subst, eq-eqb, arith}
+use Rattle.std.proofs.Common.{◌≡◌, ◌∙◌, ℕ, ◌<◌, ◌||◌, ◌&&◌, ◌==◌, nat_lt, nat_le, Bool, true, false, cond, List, [], ◌∷◌, length, drop, map, find, Option, Some, None, is_some, option_map, refl, ap, sym, subst, eq-eqb, arith}
 use Rattle.std.specs.declared.cmp.Ordering.{Ordering}
 use Rattle.std.specs.declared.cmp.Ordering.TheVariants.{Less, Equal, Greater}
 use Rattle.std.specs.Prelude.{◌↔◌, IfNone, IfSome, IsSome, slice_get}
+use Rattle.std.specs.List.{AllByRecursion}
 use Rattle.std.specs.BTreeSet.{insert_key}
 use Rattle.std.specs.Ordering.{match_ordering, nat_cmp, ordering_then}
 use Rattle.std.proofs.lemmas.Bool.{eqb-true, le-ltb, lt-ltb, ltb-false, eqb-false}
-use Rattle.mirror_schedule.specs.Agendas.{rank_cmp, timed_of}
+use Rattle.mirror_schedule.specs.Agendas.{front_of, rank_cmp, timed_of}
 use Rattle.mirror_schedule.specs.Sorted.{but_first_if, first_if, is_less, with_one}
 use Rattle.mirror_schedule.specs.TimedPieces.{timed_before}
 use Rattle.mirror_schedule.specs.declared.agenda.Rank.{Rank}
@@ -107,3 +108,32 @@ module _ {X : Type 0} (test : X → Bool) where
   pub left_none : (xs : List X) → None ≡ first_if (λ y. true) xs → IsLeft xs
   left_none [] e = record { first = refl; left = refl }
   left_none (y ∷ ys) e = absurd (cc)
+
+  pub left_all : (xs : List X) → AllByRecursion (λ x. test x ≡ false) xs → IsLeft xs
+  left_all [] h = record { first = refl; left = refl }
+  left_all (x ∷ xs) h = record {
+    first = sym (ap (λ t. cond t (Some x) None) h.0);
+    left = sym (ap (λ t. cond t xs (x ∷ xs)) h.0);
+  }
+
+-- the time of the first tells whether it leaves by another
+pub front_due : (time : ℕ) (ks : List Rank) (front : ℕ) → Some front ≡ front_of ks → nat_le front time ≡ is_some (first_if (λ x. nat_le x.1 time) (map timed_of ks))
+front_due time [] front e = absurd (cc)
+front_due time (k ∷ ks) front e = let same : front ≡ k.time = cc in rw same (at (nat_le k.time time))
+  where
+    at : (t : Bool) → t ≡ is_some (cond t (Some (timed_of k)) None)
+    at true = refl
+    at false = refl
+
+pub front_none_due : (time : ℕ) (ks : List Rank) → None ≡ front_of ks → false ≡ is_some (first_if (λ x. nat_le x.1 time) (map timed_of ks))
+front_none_due time [] e = refl
+front_none_due time (k ∷ ks) e = absurd (cc)
+
+-- the time of the first one found
+pub front_first : (ks : List Rank) (k : Rank) → slice_get ks 0 ≡ Some k → Some k.time ≡ front_of ks
+front_first [] k e = absurd (cc)
+front_first (x ∷ xs) k e = let same : x ≡ k = cc in ap (λ (r : Rank). Some r.time) (sym same)
+
+pub front_empty : (ks : List Rank) → (0 < length ks → ⊥) → None ≡ front_of ks
+front_empty [] none = refl
+front_empty (x ∷ xs) none = absurd (none (omega arith))

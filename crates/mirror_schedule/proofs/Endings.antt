@@ -9,7 +9,7 @@ use Rattle.slot_plan.specs.declared.params.Params.{Params}
 use Rattle.mirror_schedule.specs.Sorted.{IsSorted, first_if, but_first_if}
 use Rattle.mirror_schedule.specs.Splits.{Split, IsSplitOf, ends_before, is_over, kept_end, key_of}
 use Rattle.mirror_schedule.specs.Timed.{end_of, has_same_times}
-use Rattle.mirror_schedule.proofs.Orders.{all_more}
+use Rattle.mirror_schedule.proofs.Orders.{none_pass}
 use Rattle.mirror_schedule.proofs.Ranks.{ends_rise}
 use Rattle.mirror_schedule.proofs.Timed.{all_stay, ends_alike}
 
@@ -25,12 +25,7 @@ module _ (reading : ℕ) where
       grind (arith, nat_tests)
 
   none_ended : (xs : List (Split × ℕ)) → IsSorted ends_before xs → is_some (first_if ended xs) ≡ false → AllByRecursion (λ x. ended x ≡ false) xs
-  none_ended [] s none = tt
-  none_ended (x ∷ xs) s none = at (ended x) refl none
-    where
-      at : (t : Bool) → ended x ≡ t → is_some (cond t (Some x) None) ≡ false → AllByRecursion (λ y. ended y ≡ false) (x ∷ xs)
-      at true is none = absurd (cc)
-      at false is none = (is, all_more (λ y. ends_before x y ≡ true) (λ y. ended y ≡ false) (λ y f. later x y is f) xs s.0)
+  none_ended xs s none = none_pass ends_before ended later xs s none
 
   none_taken : (xs : List (Split × ℕ)) → is_some (first_if ended xs) ≡ false → but_first_if ended xs ≡ xs
   none_taken [] none = refl

@@ -1,8 +1,9 @@
 -- The pieces of a listing, as some come, leave and are taken out.
-use Rattle.std.proofs.Common.{◌≡◌, ◌∙◌, ℕ, ◌<◌, ◌≤◌, ◌||◌, ◌==◌, Bool, true, false, cond, not, List, [], ◌∷◌, length, get_or, drop, count_by, Some, None, is_some, refl, ap, sym, subst, eq-eqb, ⊎_elim}
+use Rattle.std.proofs.Common.{◌≡◌, ◌∙◌, ℕ, ◌<◌, ◌≤◌, ◌||◌, ◌&&◌, ◌==◌, nat_le, nat_lt, Bool, true, false, cond, not, List, [], ◌∷◌, length, get_or, drop, count_by, Some, None, is_some, refl, ap, sym, subst, eq-eqb, arith, ⊎_elim}
 use Rattle.std.specs.Prelude.{slice_set}
 use Rattle.std.specs.List.{filter, insert, list_any}
 use Rattle.std.proofs.lemmas.Bool.{and_parts, cases_eq, eqb-true, false_from_ne_true, not-false, not_from_false}
+use Rattle.std.proofs.lemmas.Bool.Decides.{nat_tests}
 use Rattle.std.proofs.lemmas.List.{get_or_default, get_or_past}
 use Rattle.tiger_base.specs.Records.{same_want, want_of_piece}
 use Rattle.tiger_base.specs.declared.tenancy.PieceState.{PieceState}
@@ -16,8 +17,9 @@ use Rattle.mirror_schedule.specs.Timed.{untimed}
 use Rattle.mirror_schedule.specs.TimedPieces.{timed_before, timed_rank}
 use Rattle.mirror_schedule.specs.declared.row.Wanted.{Wanted}
 use Rattle.mirror_schedule.specs.declared.row.Wanted.TheVariants.{OfVisit, Of, Just}
+use Rattle.mirror_schedule.proofs.Agendas.{IsLeft, left_all}
 use Rattle.mirror_schedule.proofs.Numbers.{is_less-neither, same_numbers}
-use Rattle.mirror_schedule.proofs.Orders.{put_at, put_high, sorted_with_one}
+use Rattle.mirror_schedule.proofs.Orders.{all_filter, none_pass, put_at, put_high, sorted_with_one}
 use Rattle.mirror_schedule.proofs.InRows.{any_within, count_within, first_taken, gone_by_row, new_answered, noted_rows, noted_seen, old_answered, row_else, row_here, rows_left, rows_put, rows_rest, rows_same, sorted_row, standing_left, standing_more, standing_same, stays_old}
 use Rattle.mirror_schedule.proofs.TimedPieces.{timed_order}
 
@@ -100,6 +102,20 @@ front_told rows (y ∷ ys) x e = let same : x ≡ y = cc in ap (λ (z : Pair). n
 pub front_none : (rows : List (List Pair)) (agenda : List Pair) → None ≡ first_if (λ y. true) agenda → false ≡ is_front_gone rows agenda
 front_none rows [] e = refl
 front_none rows (y ∷ ys) e = absurd (cc)
+
+-- one that comes before another leaves no later
+later : (time : ℕ) (x y : Pair) → nat_le x.1 time ≡ false → timed_before x y ≡ true → nat_le y.1 time ≡ false
+unfolding timed_before
+later time x y e f = at _ f
+  where
+    at : (b : Bool) → (nat_lt x.1 y.1 || (x.1 == y.1 && b)) ≡ true → nat_le y.1 time ≡ false
+    at b h = grind (arith, nat_tests)
+
+-- if the first of all that came does not leave by a time, none of those that stand does
+pub none_due : (time : ℕ) (rows : List (List Pair)) (agenda : List Pair) → IsListing rows agenda → is_some (first_if (λ x. nat_le x.1 time) agenda) ≡ false → IsLeft (λ x. nat_le x.1 time) (pieces_standing rows agenda)
+none_due time rows agenda h none =
+    left_all (λ x. nat_le x.1 time) (pieces_standing rows agenda)
+    (all_filter (λ x. nat_le x.1 time ≡ false) (piece_stands rows) agenda (none_pass timed_before (λ x. nat_le x.1 time) (later time) agenda h.order none))
 
 -- the first one leaves, or stays: the front of all that came stands
 module _ (test : Pair → Bool) (rows : List (List Pair)) where

@@ -1,7 +1,7 @@
 -- Lists in an order, and what is put into them.
-use Rattle.std.proofs.Common.{◌≡◌, ℕ, ◌+◌, ◌-◌, ◌≤◌, Bool, true, false, cond, List, [], ◌∷◌, length, zero, suc, Some, None, refl, ap, sym, ◌∙◌, arith}
+use Rattle.std.proofs.Common.{◌≡◌, ℕ, ◌+◌, ◌-◌, ◌≤◌, Bool, true, false, cond, List, [], ◌∷◌, length, zero, suc, Some, None, is_some, refl, ap, sym, ◌∙◌, arith}
 use Rattle.std.specs.List.{AllByRecursion, filter, insert, remove}
-use Rattle.mirror_schedule.specs.Sorted.{IsSorted, with_one, gap_from, without_first}
+use Rattle.mirror_schedule.specs.Sorted.{IsSorted, first_if, with_one, gap_from, without_first}
 use Rattle.mirror_schedule.proofs.Timed.{all_remove}
 
 -- what a comparison is to do: nothing comes before itself, and what comes before a second that comes before a third comes before that
@@ -57,6 +57,16 @@ module _ {X : Type 0} (before : X → X → Bool) where
   sorted_remove [] (suc i) h = tt
   sorted_remove (x ∷ xs) zero h = h.1
   sorted_remove (x ∷ xs) (suc i) h = (all_remove (λ y. before x y ≡ true) xs i h.0, sorted_remove xs i h.1)
+
+  -- if what comes behind one that fails a test fails it, and the first one does, all do
+  pub none_pass : (test : X → Bool) → ((x y : X) → test x ≡ false → before x y ≡ true → test y ≡ false) → (xs : List X) → IsSorted before xs → is_some (first_if test xs) ≡ false
+      → AllByRecursion (λ x. test x ≡ false) xs
+  none_pass test later [] s none = tt
+  none_pass test later (x ∷ xs) s none = at (test x) refl none
+    where
+      at : (t : Bool) → test x ≡ t → is_some (cond t (Some x) None) ≡ false → AllByRecursion (λ y. test y ≡ false) (x ∷ xs)
+      at true is none = absurd (cc)
+      at false is none = (is, all_more (λ y. before x y ≡ true) (λ y. test y ≡ false) (λ y f. later x y is f) xs s.0)
 
   -- an element put into a list in order, by what the two tests give at the first one
   sorted_put : IsOrder before → (x y : X) (ys : List X) (a b : Bool) → before x y ≡ a → before y x ≡ b → IsSorted before (y ∷ ys) → IsSorted before (with_one before x ys)

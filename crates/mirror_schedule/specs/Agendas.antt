@@ -1,5 +1,5 @@
 -- The numbers of pieces beside the times at which they leave.
-use Rattle.std.specs.Prelude.{ℕ}
+use Rattle.std.specs.Prelude.{ℕ, List, [], ◌∷◌, Option, Some, None}
 use Rattle.std.specs.declared.cmp.Ordering.{Ordering}
 use Rattle.std.specs.Ordering.{nat_cmp, ordering_then}
 use Rattle.tiger_base.specs.declared.tenancy.PieceState.{PieceState}
@@ -42,3 +42,8 @@ rank_cmp a b =
     (ordering_then (nat_cmp a.visit b.visit) (ordering_then (nat_cmp a.piece b.piece)
     (ordering_then (nat_cmp a.instance b.instance) (ordering_then (nat_cmp a.file b.file)
     (ordering_then (nat_cmp a.first b.first) (nat_cmp a.last b.last)))))))
+
+-- the time of the first of some numbers
+abbrev pub front_of : List Rank → Option ℕ
+front_of [] = None
+front_of (r ∷ rs) = Some r.time

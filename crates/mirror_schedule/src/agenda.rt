@@ -1,6 +1,6 @@
 //! All pieces that came to a listing, in the order in which they leave.
-ghost use Rattle.std.specs.Prelude.{◌≡◌, ◌&&◌, [], nat_le, true, drop, find, OnOk, OnErr};
-ghost use Rattle.mirror_schedule.specs.Agendas.{rank_of, timed_of};
+ghost use Rattle.std.specs.Prelude.{◌≡◌, ◌&&◌, [], nat_le, true, drop, find, is_some, OnOk, OnErr};
+ghost use Rattle.mirror_schedule.specs.Agendas.{front_of, rank_of, timed_of};
 ghost use Rattle.mirror_schedule.specs.Listings.{piece_stands};
 ghost use Rattle.mirror_schedule.specs.Sorted.{with_one, first_if, but_first_if};
 ghost use Rattle.mirror_schedule.specs.TimedPieces.{timed_before, timed_behind};
@@ -31,16 +31,21 @@ pub(crate) struct Rank {
 #[derive(Drop)]
 pub(crate) struct Agenda {
     ranks: BTreeSet<Rank>,
+    // When the first of them leaves. It is asked for in each tick, and a walk down the tree would
+    // cost more than the rest of a tick in which nothing leaves.
+    front: Option<Micros>,
 }
 
 impl Model for Agenda {
-    ghost use Rattle.std.specs.Prelude.{ℕ, List, map};
+    ghost use Rattle.std.specs.Prelude.{◌≡◌, ℕ, List, map};
     ghost use Rattle.tiger_base.specs.declared.tenancy.PieceState.{PieceState};
-    ghost use Rattle.mirror_schedule.specs.Agendas.{timed_of};
+    ghost use Rattle.mirror_schedule.specs.Agendas.{front_of, timed_of};
 
     ghost Value = { List (PieceState × ℕ) };
 
     ghost view = { λ a. map timed_of a.ranks.keys };
+
+    ghost invariant = { λ a. a.front ≡ front_of a.ranks.keys };
 }
 
 impl Agenda {
@@ -50,6 +55,7 @@ impl Agenda {
     {
         Agenda {
             ranks: BTreeSet::new(alloc),
+            front: None,
         }
     }
 
@@ -59,7 +65,18 @@ impl Agenda {
         ensures err { OnErr result (self.new ≡ self.old) }
     {
         self.ranks.insert(rank_of(&x))?;
+        self.front = front_of(&self.ranks);
         Ok(())
+    }
+
+    /// Whether the first piece leaves by a time.
+    pub(crate) fn is_due(&self, time: Micros) -> bool
+        ensures { result ≡ is_some (first_if (λ x. nat_le x.1 time) self.now) }
+    {
+        match self.front {
+            Some(front) => front <= time,
+            None => false,
+        }
     }
 
     /// The first piece; `None` if there is none.
@@ -77,6 +94,7 @@ impl Agenda {
         ensures { self.new ≡ drop 1 self.old }
     {
         self.ranks.pop_first();
+        self.front = front_of(&self.ranks);
     }
 
     /// Takes out the first piece if it leaves by a time.
@@ -106,6 +124,16 @@ impl Agenda {
             Some(rank) => Some(timed_of(&rank)),
             None => None,
         }
+    }
+}
+
+/// The time of the first of some numbers, if there is one.
+fn front_of(ranks: &BTreeSet<Rank>) -> Option<Micros>
+    ensures { result ≡ front_of ranks.now.keys }
+{
+    match ranks.first() {
+        Some(rank) => Some(rank.time),
+        None => None,
     }
 }
 

@@ -81,6 +81,10 @@ impl Listing {
         ensures first { result ≡ first_if (λ x. nat_le x.1 time) self.old }
         ensures left { self.new ≡ but_first_if (λ x. nat_le x.1 time) self.old }
     {
+        // In most ticks nothing leaves, gone or not.
+        if !self.agenda.is_due(time) {
+            return None;
+        }
         drop_gone(&self.rows, &mut self.agenda);
         let first = self.agenda.take_first(time)?;
         drop_first(&mut self.rows, &first);

@@ -1,8 +1,9 @@
-use Rattle.std.proofs.Common.{ℕ, List, Bool, ◌∙◌, ap, nat_le, subst, sym}
+use Rattle.std.proofs.Common.{ℕ, List, Bool, ◌≡◌, false, ◌∙◌, ap, is_some, nat_le, subst, sym}
 use Rattle.tiger_base.specs.declared.tenancy.PieceState.{PieceState}
 use Rattle.mirror_schedule.specs.Listings.{IsListing, pieces_standing}
 use Rattle.mirror_schedule.specs.Sorted.{but_first_if, first_if}
-use Rattle.mirror_schedule.proofs.Listings.{none_leaves, one_leaves}
+use Rattle.mirror_schedule.proofs.Agendas.{IsLeft}
+use Rattle.mirror_schedule.proofs.Listings.{none_due, none_leaves, one_leaves}
 use Rattle.mirror_schedule.proofs.listing.Listing.take_first.Goals as goal
 
 abbrev leaves : ℕ → PieceState × ℕ → Bool
@@ -10,6 +11,18 @@ leaves time x = nat_le x.1 time
 
 pub drop_gone-requires : goal.drop_gone-requires
 drop_gone-requires c = c.self.invariant
+
+-- no piece is due
+none : (time : ℕ) (rows : List (List (PieceState × ℕ))) (agenda seen : List (PieceState × ℕ)) → IsListing rows agenda → pieces_standing rows agenda ≡ seen → is_some (first_if (leaves time) agenda) ≡ false → IsLeft (leaves time) seen
+none time rows agenda seen h is off = subst (IsLeft (leaves time)) is (none_due time rows agenda h off)
+
+pub returns-then-not-is_due-clause-first : goal.returns-then-not-is_due-clause-first
+returns-then-not-is_due-clause-first c =
+    (none c.args.time c.self.inside.rows.items c.self.inside.agenda c.args.self.now c.self.invariant c.self.view_is (sym c.is_due.ensures ∙ c.if-not-is_due.true)).first
+
+pub returns-then-not-is_due-clause-left : goal.returns-then-not-is_due-clause-left
+returns-then-not-is_due-clause-left c =
+    (none c.args.time c.self.inside.rows.items c.self.inside.agenda c.args.self.now c.self.invariant c.self.view_is (sym c.is_due.ensures ∙ c.if-not-is_due.true)).left
 
 -- none leaves
 pub invariant_of-self : goal.invariant_of-self
