@@ -23,7 +23,8 @@ use Rattle.disk_core.specs.State.{DiskState}
 use Rattle.proof_facts.specs.Blocks.{blocks_by}
 use Rattle.proof_facts.specs.Lives.{lives_of, later_lives_of, CameAt, DiedAt}
 use Rattle.proof_facts.specs.Pieces.{pieces_by}
-use Rattle.proof_facts.specs.TwoLives.{joined_facts, joined_pieces, joined_blocks}
+use Rattle.proof_facts.specs.Beside.{Additions, AddedAt, beside_by, nothing_added}
+use Rattle.proof_facts.specs.TwoLives.{joined_facts, joined_pieces, joined_blocks, with_beside}
 
 -- In beat b the controller sent both starts of an order: the plain one to the cub of its disk, the
 -- redundant one to the next cub.
@@ -44,15 +45,17 @@ pub record ToldBack (p : Params) (lives : Lives) (a : ℕ) (link : LinkNo) (m : 
   pub is : m ≡ msg.Back (serves_from p (reading_at (lives.input a) 0))
 
 -- What a history tells beyond one life of each of its cubs: what they send they send in either, or at
--- their return.
-abbrev pub beyond_of : {S : Type 0} → Params → List Order → History Msg S → Beyond
-beyond_of p orders h = record {
+-- their return, or it is added.
+abbrev pub beyond_with : {S : Type 0} → Params → List Order → Additions → History Msg S → Beyond
+beyond_with p orders added h = record {
   Came = CameAt p h;
   Died = DiedAt p h;
   Returned = BeganLate p (later_lives_of h);
   Sends = λ a link m b.
       DidAt p (lives_of h) a (out.Send link m) b
-      ⊎ (DidAt p (later_lives_of h) a (out.Send link m) b ⊎ ToldBack p (later_lives_of h) a link m b);
+      ⊎ (DidAt p (later_lives_of h) a (out.Send link m) b
+      ⊎ (ToldBack p (later_lives_of h) a link m b
+      ⊎ AddedAt p (lives_of h) added a (out.Send link m) b));
   Sent = λ a k t m b. SentAt p (lives_of h) a k t m b ⊎ SentAt p (later_lives_of h) a k t m b;
   Told = λ a k v s q b. ToldAt p (lives_of h) a k v s q b ⊎ ToldAt p (later_lives_of h) a k v s q b;
   Begun = BegunAt p orders (lives_of h);
@@ -60,6 +63,9 @@ beyond_of p orders h = record {
   StoppedAt = StoppedAt p orders (lives_of h);
   StoppedWaiting = StoppedWaiting p orders (lives_of h);
 }
+
+abbrev pub beyond_of : {S : Type 0} → Params → List Order → History Msg S → Beyond
+beyond_of p orders h = beyond_with p orders nothing_added h
 
 -- The facts of a history whose controller has these orders, in the first life of each cub and in the
 -- life from its return on.
@@ -73,8 +79,13 @@ later_facts p orders h = facts_by p (later_lives_of h) (beyond_of p orders h)
 abbrev pub facts_of : {S : Type 0} → Params → List Order → History Msg S → Facts
 facts_of p orders h = joined_facts (first_facts p orders h) (later_facts p orders h)
 
+abbrev pub pieces_beside : {S : Type 0} → Params → Additions → History Msg S → PieceFacts
+pieces_beside p added h =
+    with_beside (joined_pieces (pieces_by p (lives_of h)) (pieces_by p (later_lives_of h)))
+    (beside_by p (lives_of h) added)
+
 abbrev pub pieces_of : {S : Type 0} → Params → History Msg S → PieceFacts
-pieces_of p h = joined_pieces (pieces_by p (lives_of h)) (pieces_by p (later_lives_of h))
+pieces_of p h = pieces_beside p nothing_added h
 
 abbrev pub blocks_of : {S : Type 0} → Params → History Msg S → (ℕ → DiskState) → ServiceFacts
 blocks_of p h disk_at =

@@ -1,3 +1,4 @@
+pub mod Beside
 pub mod Blocks
 pub mod Carried
 pub mod Facts

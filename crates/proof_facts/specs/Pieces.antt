@@ -28,7 +28,7 @@ use Rattle.cub_rules.specs.Ticks.{releasing, believing, inserting, splitting, fo
 use Rattle.proof_lives.specs.Lives.{Lives, GoesOut, store_at}
 use Rattle.lists.specs.Elements.{In}
 use Rattle.proof_lives.specs.Facts.{TickAt, DidAt}
-use Rattle.proof_pieces.specs.PieceFacts.{PieceFacts}
+pub use Rattle.proof_pieces.specs.PieceFacts.{PieceFacts}
 
 -- What a cub keeps in a tick that began with h, before it splits visits.
 abbrev pub before_splitting : Params → ℕ → Stamp → Store → Store
@@ -158,6 +158,7 @@ pub record ServesAt (p : Params) (lives : Lives) (c : ℕ) (t : Tenancy) (n j b 
 abbrev pub pieces_by : Params → Lives → PieceFacts
 pieces_by p lives = record {
   Split = SplitAt p lives;
+  Spared = λ c t n b. ⊥;
   MirrorSent = MirrorSentAt p lives;
   Mirrored = MirroredAt p lives;
   KillSent = KillSentAt p lives;

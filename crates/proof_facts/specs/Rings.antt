@@ -1,5 +1,6 @@
 -- Histories of a ring in which cubs may die and return: cubs, disks, a controller and the viewers, each by its rules.
 use Rattle.std.specs.Prelude.{◌≡◌, ℕ, zero, suc, ◌+◌, ◌<◌, ◌≤◌, true, false, List, [], ◌++◌}
+use Rattle.std.specs.List.{AllByRecursion}
 use Rattle.tiger_base.specs.Limits.{most_reading}
 use Rattle.tiger_base.specs.declared.tenancy.Ask.{Ask}
 use Rattle.tiger_base.specs.declared.message.Msg.{Msg}
@@ -21,6 +22,7 @@ use Rattle.proof_lives.specs.Lives.{outs_in, store_at}
 use Rattle.proof_controller.specs.Controllers.{controller, commands_at}
 use Rattle.proof_controller.specs.Orders.{AreCounted}
 use Rattle.proof_service.specs.Files.{IsOfFile}
+use Rattle.proof_facts.specs.Beside.{Additions, IsAddition, nothing_added}
 use Rattle.proof_facts.specs.Lives.{lives_of, later_lives_of, acting, later_from}
 
 -- The cubs, the disks, the controller and the viewers of a plan.
@@ -53,13 +55,16 @@ abbrev pub return_outs : Params → ℕ → (ℕ → Input Msg) → ℕ → List
 return_outs p c inputs zero = (coming_back p c (input_stamp (inputs 0)) (store_at p c inputs 0)).outs
 return_outs p c inputs (suc i) = []
 
--- What each node puts out is what its rules make of what befell it, as far as its death lets it. A
--- disk never changes, so its state is one for all events.
-pub record PutsOutByRules {S : Type 0} (step : S → Input Msg → Deed Msg S) (p : Params)
-    (orders : List Order) (disk_at : ℕ → DiskState) (h : History Msg S) : Type 0 where
+-- What each node puts out is what its rules make of what befell it, as far as its death lets it; and
+-- for a cub, in its first life, what is added at the input. A disk never changes, so its state is one
+-- for all events.
+pub record PutsOutWith {S : Type 0} (step : S → Input Msg → Deed Msg S) (p : Params)
+    (orders : List Order) (disk_at : ℕ → DiskState) (added : Additions) (h : History Msg S)
+    : Type 0 where
   pub cubs : (c i : ℕ)
       → c < p.cubs → i < acting h c
-      → outs noted step h c i ≡ outs_in p (lives_of h) c i
+      → outs noted step h c i ≡ outs_in p (lives_of h) c i ++ added c i
+  pub few : (c i : ℕ) → c < p.cubs → i < acting h c → AllByRecursion (IsAddition p c) (added c i)
   pub back : (c i : ℕ)
       → c < p.cubs → i < (later_lives_of h).count c
       → outs noted step h c (later_from h c + i)
@@ -75,15 +80,27 @@ pub record PutsOutByRules {S : Type 0} (step : S → Input Msg → Deed Msg S) (
       ≡ commands_at p orders ((lives_of h).input (controller p)) i
   pub views : (i : ℕ) → i < h.count (viewers p) → outs noted step h (viewers p) i ≡ []
 
--- A history of a run whose nodes put out what their rules say and of which no two neighbours die. A
--- death may come in the middle of an event, and a cub that died may return. Time is not too long.
-pub record IsRingHistory {S : Type 0} (step : S → Input Msg → Deed Msg S) (p : Params)
-    (orders : List Order) (disk_at : ℕ → DiskState) (h : History Msg S) : Type 0 where
+-- Nothing is added.
+abbrev pub PutsOutByRules : {S : Type 0} → (S → Input Msg → Deed Msg S) → Params → List Order
+    → (ℕ → DiskState) → History Msg S → Type 0
+PutsOutByRules step p orders disk_at h = PutsOutWith step p orders disk_at nothing_added h
+
+-- A history of a run whose nodes put out what their rules say, and cubs what is added, and of which no
+-- two neighbours die. A death may come in the middle of an event, and a cub that died may return. Time
+-- is not too long.
+pub record IsRingWith {S : Type 0} (step : S → Input Msg → Deed Msg S) (p : Params)
+    (orders : List Order) (disk_at : ℕ → DiskState) (added : Additions) (h : History Msg S)
+    : Type 0 where
   pub run : IsRun noted step p (node_count p) h
   pub deaths : DieAlone p h
-  pub rules : PutsOutByRules step p orders disk_at h
+  pub rules : PutsOutWith step p orders disk_at added h
   pub counted : AreCounted p orders
   pub short : (n i : ℕ) → n < node_count p → i < h.count n → reading h n i ≤ most_reading
+
+-- The same, and nothing is added.
+abbrev pub IsRingHistory : {S : Type 0} → (S → Input Msg → Deed Msg S) → Params → List Order
+    → (ℕ → DiskState) → History Msg S → Type 0
+IsRingHistory step p orders disk_at h = IsRingWith step p orders disk_at nothing_added h
 
 -- Each node that is up has ended each beat below a number.
 pub record IsUpTo {S : Type 0} (p : Params) (end : ℕ) (h : History Msg S) : Type 0 where

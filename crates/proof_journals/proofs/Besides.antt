@@ -63,5 +63,5 @@ module _ (p : Params) (r : Facts) (plan : IsPlan p) (law : Laws p r) (cubs : Cub
   }
 
 pub laws_give_besides : (S : Type 0) → LawsGiveBesides S
-laws_give_besides S step p orders disk_at h plan ring law cubs =
+laws_give_besides S step p orders disk_at added h plan ring law cubs =
     besides p (facts_of p orders h) plan law cubs (tick_below_death ring)

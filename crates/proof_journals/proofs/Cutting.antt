@@ -32,16 +32,17 @@ use Rattle.proof_lives.proofs.Carrying.{stamp_same}
 use Rattle.proof_journals.proofs.Written.{acted, one_event_more}
 use Rattle.proof_journals.proofs.Notes as old
 use Rattle.proof_journals.proofs.Journals.{got_at, got_in, put_out, so_far, wrote, written, so_far_on}
+use Rattle.proof_facts.specs.Beside.{Additions}
 use Rattle.proof_facts.specs.Rings.{node_count}
-use Rattle.proof_journals.proofs.BothLives.{IsNoReturn, before_it, not_returning}
+use Rattle.proof_journals.proofs.BothLives.{IsByRules, before_it, beside_it, not_returning}
 use Rattle.proof_lives.specs.TwoLifeRun.{WhichLife, IsOfLife, life_in, event_in}
 use Rattle.proof_lives.proofs.TwoLives.{input_in}
-use Rattle.proof_journals.proofs.Events.{AreKept, journal_is, fair, acts_if_out, input_of_life, outs_of_input}
-use Rattle.proof_journals.proofs.Lists.{moved, past_front, tail_same}
+use Rattle.proof_journals.proofs.Events.{AreKept, acts_if_out, adds_none, fair, input_of_life, journal_is, outs_of_input}
+use Rattle.proof_journals.proofs.Lists.{in_front, moved, past_front, tail_same}
 
 module _ {S : Type 0} {step : S → Input Msg → Deed Msg S} {p : Params} {orders : List Order}
-    {disk_at : ℕ → DiskState} {h : History Msg S} {journals : List (List Entry)}
-    (kept : AreKept step p orders disk_at h journals) where
+    {disk_at : ℕ → DiskState} {added : Additions} {h : History Msg S} {journals : List (List Entry)}
+    (kept : AreKept step p orders disk_at added h journals) where
   -- An entry is written in an event of its node, behind what the earlier events and the event itself had
   -- written; and what stands behind it is of that event or of later ones.
   pub record IsCutIn (n : ℕ) (xs : List Entry) (e : Entry) (ys : List Entry) : Type 0 where
@@ -101,8 +102,8 @@ module _ {S : Type 0} {step : S → Input Msg → Deed Msg S} {p : Params} {orde
     pub stamp_is : e.stamp ≡ stamp_of ((life_in h which).input c input)
     pub goes : In o (outs_in p (life_in h which) c input)
 
-  -- What goes out in an event of a cub and does not tell of a return is so.
-  of_rules : (c at : ℕ) (k : IsOfLife h c at) → c < p.cubs → at < h.count c → (o : Out Msg) → IsNoReturn o
+  -- What goes out in an event of a cub, and neither tells of a return nor may be added, is so.
+  of_rules : (c at : ℕ) (k : IsOfLife h c at) → c < p.cubs → at < h.count c → (o : Out Msg) → IsByRules o
       → (front : List Entry) (e : Entry) (earlier later : List (Out Msg))
       → outs noted step h c at ≡ earlier ++ o ∷ later → e ≡ entry_of noted (stamp_at (h.event c at)) o
       → front ≡ so_far step h c at ++ (got_in (h.event c at) ++ map (entry_of noted (stamp_at (h.event c at))) earlier)
@@ -111,9 +112,11 @@ module _ {S : Type 0} {step : S → Input Msg → Deed Msg S} {p : Params} {orde
       let w : WhichLife = k.which in
       let i : ℕ = k.at in
       let inputs : ℕ → Input Msg = (life_in h w).input c in
-      let past_it = past_front (before_it h p w c i) (outs_in p (life_in h w) c i) earlier o later
+      let past_it = past_front (before_it h p w c i) (outs_in p (life_in h w) c i ++ beside_it added w c i) earlier o later
       (sym all ∙ outs_of_input kept c at k small) (λ b. not_returning h p w c i o other b) in
       let mid : List (Out Msg) = past_it.0 in
+      let inside = in_front (outs_in p (life_in h w) c i) (beside_it added w c i) mid o later past_it.2
+      (λ b. adds_none kept w c i o small k.done other b) in
       let whole = front_of_outs (cut_in (life_in h w) c i) (outs_at p c inputs i) in
       let cut_off : List (Out Msg) = whole.0 in
       let same : input_of (h.event c at) ≡ inputs i = ap (λ (j : ℕ). input_of (h.event c j)) k.is ∙ sym (input_in h w c i) in
@@ -124,10 +127,10 @@ module _ {S : Type 0} {step : S → Input Msg → Deed Msg S} {p : Params} {orde
         input = i;
         done = k.done;
         earlier = mid;
-        later = later ++ cut_off;
+        later = inside.0 ++ cut_off;
         outs_are = sym whole.1
-            ∙ ap (λ (os : List (Out Msg)). os ++ cut_off) (sym past_it.2)
-            ∙ append_assoc mid (o ∷ later) cut_off;
+            ∙ ap (λ (os : List (Out Msg)). os ++ cut_off) (sym inside.1)
+            ∙ append_assoc mid (o ∷ inside.0) cut_off;
         front_is = front_is
             ∙ ap (λ (j : ℕ). so_far step h c j ++ (got_in (h.event c at)
             ++ map (entry_of noted (stamp_at (h.event c at))) earlier)) k.is
@@ -138,13 +141,13 @@ module _ {S : Type 0} {step : S → Input Msg → Deed Msg S} {p : Params} {orde
             ∙ ap (λ (os : List (Out Msg)). so_far step h c (event_in h w c i) ++ (got_at (inputs i)
             ++ map (entry_of noted (stamp_of (inputs i))) os)) past_it.1;
         stamp_is = ap (λ (x : Entry). x.stamp) is ∙ stamp;
-        goes = moved o past_it.2 (in_right o mid (o ∷ later) (inl refl));
+        goes = moved o inside.1 (in_right o mid (o ∷ inside.0) (inl refl));
       }
 
   -- So is each entry of a cub that tells neither of a message that was got, nor of a death or a return.
   pub cub_output : (c : ℕ) → c < p.cubs → (front : List Entry) (e : Entry) (back : List Entry)
       → slice_get journals c ≡ Some (front ++ e ∷ back) → is_got e.what ≡ false → is_died e.what ≡ false
-      → (o : Out Msg) × (what_of noted o ≡ e.what) × IsAllowed noted p c o × (IsNoReturn o → IsOutputOf c front e o)
+      → (o : Out Msg) × (what_of noted o ≡ e.what) × IsAllowed noted p c o × (IsByRules o → IsOutputOf c front e o)
   cub_output c small front e back at sent lives =
       let w = cut_at_entry c front e back at in
       let fairly = fair kept c w.at w.known w.done in
@@ -161,12 +164,12 @@ module _ {S : Type 0} {step : S → Input Msg → Deed Msg S} {p : Params} {orde
 
   -- That of a cub's own is.
   pub own_output : (c : ℕ) → c < p.cubs → (front : List Entry) (e : Entry) (back : List Entry) (w : What)
-      → IsOwnEntry w → IsNoReturn (out.Act w) → is_got w ≡ false → is_died w ≡ false
+      → IsOwnEntry w → IsByRules (out.Act w) → is_got w ≡ false → is_died w ≡ false
       → slice_get journals c ≡ Some (front ++ e ∷ back) → e.what ≡ w → IsOutputOf c front e (out.Act w)
   own_output c small front e back w own other sent lives at is =
       let o = cub_output c small front e back at (ap is_got is ∙ sent) (ap is_died is ∙ lives) in
       let same : o.0 ≡ out.Act w = acted o.0 w own (o.1 ∙ is) in
-      subst (λ (x : Out Msg). IsOutputOf c front e x) same (o.3 (subst IsNoReturn (sym same) other))
+      subst (λ (x : Out Msg). IsOutputOf c front e x) same (o.3 (subst IsByRules (sym same) other))
 
   -- And that of a viewer state that was sent.
   pub sent_output : (c : ℕ) → c < p.cubs
@@ -176,4 +179,4 @@ module _ {S : Type 0} {step : S → Input Msg → Deed Msg S} {p : Params} {orde
   sent_output c small front e back link s at is =
       let o = cub_output c small front e back at (ap is_got is) (ap is_died is) in
       let same : o.0 ≡ out.Send link (msg.ViewerState s) = old.state_sent p c o.0 link s o.2 (o.1 ∙ is) in
-      subst (λ (x : Out Msg). IsOutputOf c front e x) same (o.3 (subst IsNoReturn (sym same) tt))
+      subst (λ (x : Out Msg). IsOutputOf c front e x) same (o.3 (subst IsByRules (sym same) tt))

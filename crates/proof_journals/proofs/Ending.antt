@@ -27,9 +27,10 @@ use Rattle.proof_lives.proofs.States.{stamp_made}
 use Rattle.proof_lives.proofs.TwoLives.{beat_in, begins_anew, cut_in_run, has_acted, input_in, lived_in, of_life, within_run}
 use Rattle.proof_schedule.specs.Facts.{Ended, IsFirstLife}
 use Rattle.proof_moments.specs.Ties.{IsDeadIn}
+use Rattle.proof_facts.specs.Beside.{Additions}
 use Rattle.proof_facts.specs.Facts.{facts_of}
 use Rattle.proof_facts.specs.Lives.{later_from, later_lives_of, lives_of, DiedAt}
-use Rattle.proof_facts.specs.Rings.{IsRingHistory, node_count}
+use Rattle.proof_facts.specs.Rings.{IsRingWith, node_count}
 use Rattle.proof_journals.proofs.BothLives.{by_life, in_life}
 use Rattle.proof_journals.proofs.Living.{tick_is, whole_lives}
 
@@ -41,8 +42,8 @@ apart_from_return (Dies stamp) d b = absurd (cc)
 apart_from_return (Returns stamp) d b = absurd (cc)
 
 module _ {S : Type 0} {step : S → Input Msg → Deed Msg S} {p : Params} {orders : List Order}
-    {disk_at : ℕ → DiskState} {h : History Msg S}
-    (ring : IsRingHistory step p orders disk_at h) where
+    {disk_at : ℕ → DiskState} {added : Additions} {h : History Msg S}
+    (ring : IsRingWith step p orders disk_at added h) where
   -- ---- deaths and returns
 
   -- A node dies in one of its first events, or in none of them.

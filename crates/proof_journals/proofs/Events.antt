@@ -1,5 +1,5 @@
 -- In which event of its node each entry of a ring's journals was written, and what its node put out then.
-use Rattle.std.proofs.Common.{◌≡◌, ℕ, suc, ◌+◌, ◌*◌, ◌-◌, ◌<◌, ◌≤◌, List, [], ◌++◌, true, false, Some, refl, sym, ap, subst, ◌∙◌, arith, ⊎_elim, inl, inr}
+use Rattle.std.proofs.Common.{◌≡◌, ℕ, suc, ◌+◌, ◌*◌, ◌-◌, ◌<◌, ◌≤◌, List, [], ◌++◌, true, false, Some, refl, sym, ap, subst, ◌∙◌, arith, ⊎_elim, inl, inr, append-nil}
 use Rattle.std.specs.Prelude.{◌⊎◌, Option, unwrap_or, slice_get}
 use Rattle.std.proofs.lemmas.Bool.{cases_lt, cases_eq, true≢false}
 use Rattle.tiger_base.specs.declared.number.Instance.{Instance}
@@ -29,35 +29,36 @@ use Rattle.proof_lives.specs.Histories.{input_of, has_input, cut_of_event, first
 use Rattle.proof_lives.specs.Lives.{IsLife, cut_in, outs_in}
 use Rattle.proof_lives.specs.Facts.{DidAt}
 use Rattle.lists.specs.Elements.{In}
-use Rattle.lists.proofs.Elements.{in_right, in_cases}
+use Rattle.lists.proofs.Elements.{in_left, in_right, in_cases}
 use Rattle.proof_lives.proofs.Carrying.{stamp_same, tick_same}
 use Rattle.proof_journals.proofs.Cuts.{numbered_below}
 use Rattle.proof_journals.proofs.Written.{WrittenAt, event_wrote, written_at, out_written}
 use Rattle.proof_journals.proofs.Journals.{inputs_of}
 use Rattle.proof_controller.specs.Controllers.{controller, commands_at}
 use Rattle.proof_moments.specs.Ties.{StandsIn}
-use Rattle.proof_facts.specs.Rings.{IsRingHistory, node_count, node_of_disk, viewers}
+use Rattle.proof_facts.specs.Beside.{Additions, IsAddition}
+use Rattle.proof_facts.specs.Rings.{IsRingWith, node_count, node_of_disk, viewers}
 use Rattle.proof_journals.specs.Journals.{AreJournalsOf}
-use Rattle.proof_journals.proofs.BothLives.{IsNoReturn, before_it, not_returning}
+use Rattle.proof_journals.proofs.BothLives.{IsByRules, before_it, beside_it, not_added, not_returning}
 use Rattle.proof_lives.specs.TwoLifeRun.{WhichLife, IsOfLife, life_in, event_in}
 use Rattle.proof_lives.specs.TwoLifeRun.WhichLife.{First, Later}
 use Rattle.proof_lives.proofs.Returns.{beats_never_fall, died, ends_beat, first_ended, first_here, opens_by, opens_rise}
 use Rattle.proof_lives.proofs.Acting.{alive_acts}
-use Rattle.proof_facts.specs.Lives.{acting}
+use Rattle.proof_facts.specs.Lives.{acting, later_lives_of}
 use Rattle.proof_lives.proofs.TwoLives.{cut_in_run, has_acted, input_in, lived_in, of_life, within_run}
 use Rattle.proof_journals.proofs.Others.{act_gone, disk_no_act, disk_no_state}
 use Rattle.proof_journals.proofs.Lists.{moved}
 
 -- A plan, a history of its ring, and the ring's journals: the setting of all that follows.
 pub record AreKept {S : Type 0} (step : S → Input Msg → Deed Msg S) (p : Params) (orders : List Order)
-    (disk_at : ℕ → DiskState) (h : History Msg S) (journals : List (List Entry)) : Type 0 where
+    (disk_at : ℕ → DiskState) (added : Additions) (h : History Msg S) (journals : List (List Entry)) : Type 0 where
   pub plan : IsPlan p
-  pub ring : IsRingHistory step p orders disk_at h
+  pub ring : IsRingWith step p orders disk_at added h
   pub are : AreJournalsOf step p h journals
 
 module _ {S : Type 0} {step : S → Input Msg → Deed Msg S} {p : Params} {orders : List Order}
-    {disk_at : ℕ → DiskState} {h : History Msg S} {journals : List (List Entry)}
-    (kept : AreKept step p orders disk_at h journals) where
+    {disk_at : ℕ → DiskState} {added : Additions} {h : History Msg S} {journals : List (List Entry)}
+    (kept : AreKept step p orders disk_at added h journals) where
   -- A cub is one of the nodes.
   pub cub_inside : (c : ℕ) → c < p.cubs → c < node_count p
   cub_inside c small = omega arith
@@ -183,14 +184,30 @@ module _ {S : Type 0} {step : S → Input Msg → Deed Msg S} {p : Params} {orde
 
   -- ---- what cubs put out
 
-  -- At an input of one of its lives a cub puts out what its rules say, behind what tells of a return.
+  -- At an input of one of its lives a cub puts out what its rules say, behind what tells of a return and before what is
+  -- added.
   pub outs_at_input : (w : WhichLife) (c i : ℕ) → c < p.cubs → i < (life_in h w).count c
-      → outs noted step h c (event_in h w c i) ≡ before_it h p w c i ++ outs_in p (life_in h w) c i
+      → outs noted step h c (event_in h w c i)
+      ≡ before_it h p w c i ++ (outs_in p (life_in h w) c i ++ beside_it added w c i)
   outs_at_input First c i small low = kept.ring.rules.cubs c i small low
-  outs_at_input Later c i small low = kept.ring.rules.back c i small low
+  outs_at_input Later c i small low =
+      kept.ring.rules.back c i small low
+      ∙ ap (λ (os : List (Out Msg)). before_it h p Later c i ++ os) (sym (append-nil (outs_in p (later_lives_of h) c i)))
+
+  -- What is added is as an addition may be.
+  pub adds_few : (w : WhichLife) (c i : ℕ) → c < p.cubs → i < (life_in h w).count c
+      → AllByRecursion (IsAddition p c) (beside_it added w c i)
+  adds_few First c i small low = kept.ring.rules.few c i small low
+  adds_few Later c i small low = tt
+
+  -- So it is nothing that is by the rules alone.
+  pub adds_none : (w : WhichLife) (c i : ℕ) (o : Out Msg) → c < p.cubs → i < (life_in h w).count c → IsByRules o
+      → In o (beside_it added w c i) → ⊥
+  adds_none w c i o small low by k = not_added p c (beside_it added w c i) o (adds_few w c i small low) by k
 
   pub outs_of_input : (c at : ℕ) (k : IsOfLife h c at) → c < p.cubs
-      → outs noted step h c at ≡ before_it h p k.which c k.at ++ outs_in p (life_in h k.which) c k.at
+      → outs noted step h c at
+      ≡ before_it h p k.which c k.at ++ (outs_in p (life_in h k.which) c k.at ++ beside_it added k.which c k.at)
   outs_of_input c at k small =
       ap (λ (i : ℕ). outs noted step h c i) k.is ∙ outs_at_input k.which c k.at small k.done
 
@@ -198,7 +215,8 @@ module _ {S : Type 0} {step : S → Input Msg → Deed Msg S} {p : Params} {orde
   pub goes_in_event : (w : WhichLife) (c i : ℕ) (o : Out Msg) → c < p.cubs → i < (life_in h w).count c
       → In o (outs_in p (life_in h w) c i) → In o (outs noted step h c (event_in h w c i))
   goes_in_event w c i o small low k =
-      moved o (sym (outs_at_input w c i small low)) (in_right o (before_it h p w c i) (outs_in p (life_in h w) c i) k)
+      moved o (sym (outs_at_input w c i small low)) (in_right o (before_it h p w c i) _
+      (in_left o (outs_in p (life_in h w) c i) (beside_it added w c i) k))
 
   -- A cub's rules put an output out at an input of one of its lives, of that stamp.
   pub record DidInLife (c : ℕ) (o : Out Msg) (stamp : Stamp) : Type 0 where
@@ -209,16 +227,19 @@ module _ {S : Type 0} {step : S → Input Msg → Deed Msg S} {p : Params} {orde
     pub did : In o (outs_in p (life_in h which) c input)
     pub when : stamp ≡ stamp_of ((life_in h which).input c input)
 
-  -- At an input, each output but those that tell of a return is one of the rules.
-  pub rules_did : (c at : ℕ) (o : Out Msg) (k : IsOfLife h c at) → c < p.cubs → IsNoReturn o
+  -- At an input, each output but those that tell of a return or may be added is one of the rules.
+  pub rules_did : (c at : ℕ) (o : Out Msg) (k : IsOfLife h c at) → c < p.cubs → IsByRules o
       → In o (outs noted step h c at) → In o (outs_in p (life_in h k.which) c k.at)
   rules_did c at o k small other there = ⊎_elim
       (λ b. absurd (not_returning h p k.which c k.at o other b))
-      (λ r. r)
+      (λ r. ⊎_elim
+      (λ q. q)
+      (λ q. absurd (adds_none k.which c k.at o small k.done other q))
+      (in_cases o (outs_in p (life_in h k.which) c k.at) (beside_it added k.which c k.at) r))
       (in_cases o (before_it h p k.which c k.at) _ (moved o (outs_of_input c at k small) there))
 
   -- So each output of a cub but those is put out in one of its lives.
-  pub did_in_life : (c at : ℕ) (o : Out Msg) → c < p.cubs → at < h.count c → IsNoReturn o
+  pub did_in_life : (c at : ℕ) (o : Out Msg) → c < p.cubs → at < h.count c → IsByRules o
       → In o (outs noted step h c at) → DidInLife c o (stamp_at (h.event c at))
   did_in_life c at o small low other k =
       let i = input_of_life c at (cub_inside c small) low (acts_if_out c at o k) in
@@ -302,7 +323,7 @@ module _ {S : Type 0} {step : S → Input Msg → Deed Msg S} {p : Params} {orde
       (who_acts n d.at w d.known d.done d.did)
 
   -- Its rules put it out in one of its lives, if it tells of no return either.
-  pub cub_entry : (n : ℕ) (e : Entry) (w : What) → StandsIn journals n e → IsOwnEntry w → IsNoReturn (out.Act w)
+  pub cub_entry : (n : ℕ) (e : Entry) (w : What) → StandsIn journals n e → IsOwnEntry w → IsByRules (out.Act w)
       → ((v : Instance) → w ≡ what.Gone v → ⊥) → e.what ≡ w → DidInLife n (out.Act w) e.stamp
   cub_entry n e w s own other no_stop is =
       let d = own_entry n e w s own is in

@@ -15,11 +15,12 @@ use Rattle.node_kit.specs.declared.course.Order.{Order}
 use Rattle.node_kit.specs.declared.course.OrderKind.{OrderKind}
 use Rattle.node_kit.specs.declared.course.OrderKind.TheVariants.{Begin}
 use Rattle.node_kit.specs.declared.journal.Entry.{Entry}
+use Rattle.node_kit.specs.declared.journal.What.{What}
 use Rattle.node_kit.specs.declared.journal.What.TheVariants as what
 use Rattle.node_kit.specs.declared.outbox.Out.{Out}
 use Rattle.node_kit.specs.declared.outbox.Out.TheVariants as out
 use Rattle.std.specs.List.{AllByRecursion}
-use Rattle.node_kit.specs.Steps.{Deed, Input, IsAllowed, entry_of, stamp_of}
+use Rattle.node_kit.specs.Steps.{Deed, Input, IsAllowed, IsOwnEntry, entry_of, stamp_of}
 use Rattle.node_kit.specs.Steps.Input.{Take, Tick}
 use Rattle.cub_rules.specs.declared.store.Store.{Store}
 use Rattle.run_facts.specs.Accounts.{Rising}
@@ -53,14 +54,15 @@ use Rattle.proof_schedule.specs.Facts.{Ended}
 use Rattle.proof_schedule.specs.Laws.{Laws}
 use Rattle.proof_schedule.proofs.Origins.{took_held}
 use Rattle.proof_moments.specs.Ties.{StandsIn, IsDeadIn, Keeps}
+use Rattle.proof_facts.specs.Beside.{Additions}
 use Rattle.proof_facts.specs.Facts.{facts_of}
 use Rattle.proof_facts.specs.Rings.{node_count}
 use Rattle.proof_journals.specs.Journals.{JournalsKeepOrder}
 use Rattle.proof_journals.proofs.Wrote.{sent_in, died_in, entries_are, died_not_own}
 use Rattle.proof_journals.proofs.Outputs.{OfPut, IsNoBelief, believes_first}
-use Rattle.proof_journals.proofs.BothLives.{before_it, not_returning, in_life}
+use Rattle.proof_journals.proofs.BothLives.{IsByRules, before_it, beside_it, not_returning, in_life}
 use Rattle.proof_journals.proofs.Living.{tick_is}
-use Rattle.proof_journals.proofs.Events.{AreKept, acts_if_out, fair, journal_is, cub_entry, input_of_life, outs_of_input, rules_did, beats_rise, behind_tick, who_acts, written_in}
+use Rattle.proof_journals.proofs.Events.{AreKept, acts_if_out, adds_none, fair, journal_is, cub_entry, input_of_life, outs_of_input, rules_did, beats_rise, behind_tick, who_acts, written_in}
 use Rattle.proof_journals.proofs.Cutting.{IsCutIn, cut_at_entry, own_output}
 use Rattle.proof_journals.proofs.Ending.{ended_or_dead}
 use Rattle.proof_journals.proofs.Since.{since}
@@ -102,8 +104,8 @@ same_start b c x y e =
     cc
 
 module _ {S : Type 0} {step : S → Input Msg → Deed Msg S} {p : Params} {orders : List Order}
-    {disk_at : ℕ → DiskState} {h : History Msg S} {journals : List (List Entry)}
-    (kept : AreKept step p orders disk_at h journals) where
+    {disk_at : ℕ → DiskState} {added : Additions} {h : History Msg S} {journals : List (List Entry)}
+    (kept : AreKept step p orders disk_at added h journals) where
   rising : (n : ℕ) (j : List Entry) → slice_get journals n ≡ Some j → Rising (λ (e : Entry). e.stamp.beat) j
   rising n j at =
       let k = journal_is kept n j at in
@@ -162,19 +164,35 @@ module _ {S : Type 0} {step : S → Input Msg → Deed Msg S} {p : Params} {orde
       omega arith)
       (c.behind f i)
 
-  -- What goes out in an event of a cub is a front of what its rules put out, behind what tells of a return.
+  -- What goes out at an input of a cub before what is added,
+  abbrev ahead_of_added : (w : WhichLife) (n i : ℕ) → List (Out Msg)
+  ahead_of_added w n i = before_it h p w n i ++ outs_in p (life_in h w) n i
+
   outs_are : (n i : ℕ) → n < p.cubs → (l : IsOfLife h n i)
-      → (rest : List (Out Msg)) × (outs noted step h n i ++ rest
-      ≡ before_it h p l.which n l.at ++ outs_at p n ((life_in h l.which).input n) l.at)
+      → outs noted step h n i ≡ ahead_of_added l.which n l.at ++ beside_it added l.which n l.at
   outs_are n i small l =
-      let lives : Lives = life_in h l.which in
-      let before : List (Out Msg) = before_it h p l.which n l.at in
-      let front = front_of_outs (cut_in lives n l.at) (outs_at p n (lives.input n) l.at) in (
+      outs_of_input kept n i l small
+      ∙ sym (append_assoc (before_it h p l.which n l.at) (outs_in p (life_in h l.which) n l.at)
+      (beside_it added l.which n l.at))
+
+  -- is a front of what its rules put out, behind what tells of a return.
+  front_of_rules : (w : WhichLife) (n i : ℕ)
+      → (rest : List (Out Msg)) × (ahead_of_added w n i ++ rest
+      ≡ before_it h p w n i ++ outs_at p n ((life_in h w).input n) i)
+  front_of_rules w n i =
+      let lives : Lives = life_in h w in
+      let before : List (Out Msg) = before_it h p w n i in
+      let front = front_of_outs (cut_in lives n i) (outs_at p n (lives.input n) i) in (
         front.0,
-        ap (λ (os : List (Out Msg)). os ++ front.0) (outs_of_input kept n i l small)
-            ∙ append_assoc before (outs_in p lives n l.at) front.0
-            ∙ ap (λ (os : List (Out Msg)). before ++ os) front.1,
+        append_assoc before (outs_in p lives n i) front.0 ∙ ap (λ (os : List (Out Msg)). before ++ os) front.1,
       )
+
+  -- Nothing that is added is a Put.
+  added_no_put : (n i v : ℕ) → n < p.cubs → (l : IsOfLife h n i) → IsNone (puts v) (beside_it added l.which n l.at)
+  added_no_put n i v small l o k e =
+      let f = put_found v o e in
+      adds_none kept l.which n l.at (put_out f.0) small l.done tt
+      (subst (λ (x : Out Msg). In x (beside_it added l.which n l.at)) f.1 k)
 
   -- What tells of a return is no Put.
   return_no_put : (w : WhichLife) (n i v : ℕ) → IsNone (puts v) (before_it h p w n i)
@@ -199,17 +217,39 @@ module _ {S : Type 0} {step : S → Input Msg → Deed Msg S} {p : Params} {orde
       let c = cut_at_entry kept n xs e ys at in
       let put = put_in n c.at e t c.known c.done (event_there n xs e ys c) is in
       let v : ℕ = t.instance.0 in
-      let front = outs_are n c.at put.small put.place in
+      let w : WhichLife = put.place.which in
+      let front = front_of_rules w n put.place.at in
+      let ahead : List (Out Msg) = ahead_of_added w n put.place.at in
+      let behind : List (Out Msg) = beside_it added w n put.place.at in
+      let none = added_no_put n c.at v put.small put.place in
       let outs_one : IsOne (puts v) (outs noted step h n c.at) =
-      one_front (puts v) (outs noted step h n c.at) front.0
-      (subst (λ (os : List (Out Msg)). IsOne (puts v) os) (sym front.1)
-      (outs_single put.place.which n put.place.at v)) in
+      subst (λ (os : List (Out Msg)). IsOne (puts v) os) (sym (outs_are n c.at put.small put.place))
+      (one_append (puts v) ahead behind
+      (one_front (puts v) ahead front.0
+      (subst (λ (os : List (Out Msg)). IsOne (puts v) os) (sym front.1) (outs_single w n put.place.at v)))
+      (none_one (puts v) behind none)
+      (λ x y j k s u. none y k u)) in
       let one : IsOne (λ (x : Entry). is_put_of v x.what) (c.part ++ e ∷ c.rest) =
       subst (λ (es : List Entry). IsOne (λ (x : Entry). is_put_of v x.what) es) (sym c.event_is)
       (entries_one step p n v (h.event n c.at) (past noted step h n c.at) (fair kept n c.at c.known c.done) outs_one) in
       later n xs e ys f t c is i
       (λ k. one_behind (λ (x : Entry). is_put_of v x.what) c.part e c.rest f one
       (ap (is_put_of v) is ∙ eq-eqb _ _ refl) k (ap (is_put_of v) puts_too ∙ eq-eqb _ _ same))
+
+  -- What is written behind what the rules put out, of what is added and of a death, is no entry of the cub's own.
+  last_not_own : (n i : ℕ) {t : Tenancy} (put : IsPutIn n i t) (e : Entry) (w : What) → IsOwnEntry w → IsByRules (out.Act w)
+      → In e (map (entry_of noted (stamp_at (h.event n i))) (beside_it added put.place.which n put.place.at)
+      ++ died_in (h.event n i)) → e.what ≡ w → ⊥
+  last_not_own n i put e w own by k is =
+      let extra : List (Out Msg) = beside_it added put.place.which n put.place.at in
+      ⊎_elim
+      (λ j.
+      let m = from_map (entry_of noted (stamp_at (h.event n i))) e extra j in
+      let o : m.0 ≡ out.Act w = acted m.0 w own (ap (λ (y : Entry). y.what) (sym m.2) ∙ is) in
+      adds_none kept put.place.which n put.place.at (out.Act w) put.small put.place.done by
+      (subst (λ (y : Out Msg). In y extra) o m.1))
+      (λ j. died_not_own (h.event n i) e w j is own)
+      (in_cases e (map (entry_of noted (stamp_at (h.event n i))) extra) (died_in (h.event n i)) k)
 
   -- In the tick of a Put no belief is written behind it.
   no_belief : (n i : ℕ) (part : List Entry) (e : Entry) (rest : List Entry) (f : Entry) (t : Tenancy) (d : CubNo)
@@ -228,12 +268,17 @@ module _ {S : Type 0} {step : S → Input Msg → Deed Msg S} {p : Params} {orde
       let b = believes_first p n input.0 store in
       let back : List (Out Msg) = before_it h p w n at in
       let first : List (Out Msg) = back ++ b.first in
-      let front = outs_are n i put.small put.place in
-      let event_outs : List (Out Msg) = outs noted step h n i in
-      let wrote_is : wrote step h n i ≡ map (entry_of noted stamp) event_outs ++ died_in (h.event n i) =
-      tick_wrote step n p (h.event n i) (past noted step h n i) ticks (fair kept n i known done) in
-      let inside = in_front (map (entry_of noted stamp) event_outs) (died_in (h.event n i)) part e rest (event ∙ wrote_is)
-      (λ k. died_not_own (h.event n i) e (what.Put t) k is tt) in
+      let front = front_of_rules w n at in
+      let event_outs : List (Out Msg) = ahead_of_added w n at in
+      let last : List Entry = map (entry_of noted stamp) (beside_it added w n at) ++ died_in (h.event n i) in
+      let wrote_is : wrote step h n i ≡ map (entry_of noted stamp) event_outs ++ last =
+      tick_wrote step n p (h.event n i) (past noted step h n i) ticks (fair kept n i known done)
+      ∙ ap (λ (os : List (Out Msg)). map (entry_of noted stamp) os ++ died_in (h.event n i)) (outs_are n i put.small put.place)
+      ∙ ap (λ (es : List Entry). es ++ died_in (h.event n i))
+      (map-append (entry_of noted stamp) event_outs (beside_it added w n at))
+      ∙ append_assoc (map (entry_of noted stamp) event_outs) _ (died_in (h.event n i)) in
+      let inside = in_front (map (entry_of noted stamp) event_outs) last part e rest (event ∙ wrote_is)
+      (λ k. last_not_own n i put e (what.Put t) tt tt k is) in
       let more : List Entry = map (entry_of noted stamp) front.0 in
       let outs_is : event_outs ++ front.0 ≡ first ++ b.rest =
       front.1
@@ -248,8 +293,8 @@ module _ {S : Type 0} {step : S → Input Msg → Deed Msg S} {p : Params} {orde
       ∙ map-append (entry_of noted stamp) first b.rest in
       let behind_it : In f (inside.0 ++ more) = ⊎_elim
       (λ j. in_left f inside.0 more j)
-      (λ j. absurd (died_not_own (h.event n i) f (what.Believed d) j told tt))
-      (in_cases f inside.0 (died_in (h.event n i)) (moved f (sym inside.2) k)) in
+      (λ j. absurd (last_not_own n i put f (what.Believed d) tt tt j told))
+      (in_cases f inside.0 last (moved f (sym inside.2) k)) in
       none_behind (λ (x : Entry). x.what ≡ what.Put t) (λ (x : Entry). x.what ≡ what.Believed d)
       (map (entry_of noted stamp) first) (map (entry_of noted stamp) b.rest) part e (inside.0 ++ more) f
       (λ x j q.
@@ -344,5 +389,5 @@ module _ {S : Type 0} {step : S → Input Msg → Deed Msg S} {p : Params} {orde
     }
 
 pub journals_keep_order : (S : Type 0) → JournalsKeepOrder S
-journals_keep_order S step p orders disk_at h journals plan ring are law =
+journals_keep_order S step p orders disk_at added h journals plan ring are law =
     keeps (record { plan = plan; ring = ring; are = are }) law

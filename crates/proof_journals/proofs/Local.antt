@@ -34,6 +34,7 @@ use Rattle.lists.specs.Elements.{In}
 use Rattle.lists.proofs.Elements.{in_left, in_right, in_map}
 use Rattle.proof_lives.proofs.Carrying.{came_to, takes_it, same_ends, way_ends}
 use Rattle.proof_lives.proofs.Cuts.{was_put_out}
+use Rattle.proof_facts.specs.Beside.{Additions}
 use Rattle.proof_facts.specs.Lives.{lives_of}
 use Rattle.proof_controller.specs.Controllers.{controller}
 use Rattle.proof_lives.specs.Records.{AreFromRecords, recorded_by}
@@ -52,8 +53,8 @@ use Rattle.proof_journals.proofs.Views.{told_before, whole_below}
 use Rattle.proof_journals.proofs.Lists.{moved}
 
 module _ {S : Type 0} {step : S → Input Msg → Deed Msg S} {p : Params} {orders : List Order}
-    {disk_at : ℕ → DiskState} {h : History Msg S} {journals : List (List Entry)}
-    (kept : AreKept step p orders disk_at h journals) where
+    {disk_at : ℕ → DiskState} {added : Additions} {h : History Msg S} {journals : List (List Entry)}
+    (kept : AreKept step p orders disk_at added h journals) where
   for_cub : (n : ℕ) (e : Entry) (q : Rec) → n < p.cubs → StandsIn journals n e → e.what ≡ what.Took q
       → IsForCub p n q.kind q.visit
   for_cub n e q small s is =
@@ -184,5 +185,5 @@ module _ {S : Type 0} {step : S → Input Msg → Deed Msg S} {p : Params} {orde
   locals = record { for_cub = for_cub; brings = brings; read = read; sent = sent }
 
 pub journals_are_local : (S : Type 0) → JournalsAreLocal S
-journals_are_local S step p orders disk_at h journals plan ring are =
+journals_are_local S step p orders disk_at added h journals plan ring are =
     locals (record { plan = plan; ring = ring; are = are })

@@ -31,6 +31,7 @@ use Rattle.proof_journals.proofs.Journals.{inputs_of}
 use Rattle.proof_controller.specs.Controllers.{controller, GoneAt}
 use Rattle.proof_moments.specs.Ties.{IsLogged, IsGoneOf, Logged}
 use Rattle.proof_lives.specs.FactsBy.{WroteBelief}
+use Rattle.proof_facts.specs.Beside.{Additions}
 use Rattle.proof_facts.specs.Facts.{facts_of, BegunAt}
 use Rattle.proof_facts.specs.Lives.{lives_of, later_lives_of, DiedAt}
 use Rattle.proof_facts.specs.Rings.{node_count}
@@ -45,8 +46,8 @@ use Rattle.proof_journals.proofs.Telling.{ordered_among}
 use Rattle.proof_journals.proofs.Lists.{moved}
 
 module _ {S : Type 0} {step : S → Input Msg → Deed Msg S} {p : Params} {orders : List Order}
-    {disk_at : ℕ → DiskState} {h : History Msg S} {journals : List (List Entry)}
-    (kept : AreKept step p orders disk_at h journals) where
+    {disk_at : ℕ → DiskState} {added : Additions} {h : History Msg S} {journals : List (List Entry)}
+    (kept : AreKept step p orders disk_at added h journals) where
   -- What a node put out has an entry of the beat of the event.
   out_logged_in : (n i b : ℕ) (o : Out Msg) → n < node_count p → i < h.count n → In o (outs noted step h n i)
       → beat h n i ≡ b → IsLogged journals n b (λ e. e.what ≡ what_of noted o)
@@ -152,5 +153,5 @@ module _ {S : Type 0} {step : S → Input Msg → Deed Msg S} {p : Params} {orde
   }
 
 pub facts_are_logged : (S : Type 0) → FactsAreLogged S
-facts_are_logged S step p orders disk_at h journals plan ring are =
+facts_are_logged S step p orders disk_at added h journals plan ring are =
     logged (record { plan = plan; ring = ring; are = are })

@@ -9,11 +9,11 @@ use Rattle.proof_journals.proofs.Logging.{facts_are_logged}
 use Rattle.proof_journals.proofs.Keeping.{journals_keep_order}
 
 pub rings_are_recorded : (S : Type 0) → RingsAreRecorded S
-rings_are_recorded S step p orders disk_at h journals plan ring are first later law cubs = record {
+rings_are_recorded S step p orders disk_at added h journals plan ring are first later law cubs = record {
   plan = plan;
   one = runs p (facts_of p orders h) plan law;
   more = besides p (facts_of p orders h) plan law cubs (tick_below_death ring);
-  tells = journals_tell S step p orders disk_at h journals plan ring are first later;
-  logged = facts_are_logged S step p orders disk_at h journals plan ring are;
-  keeps = journals_keep_order S step p orders disk_at h journals plan ring are law;
+  tells = journals_tell S step p orders disk_at added h journals plan ring are first later;
+  logged = facts_are_logged S step p orders disk_at added h journals plan ring are;
+  keeps = journals_keep_order S step p orders disk_at added h journals plan ring are law;
 }

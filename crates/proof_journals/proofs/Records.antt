@@ -29,6 +29,8 @@ use Rattle.run_model.specs.Fronts.{AnyByRecursion}
 use Rattle.run_model.specs.Views.{recorded}
 use Rattle.run_model.specs.Parts.{is_from_before, IsOwnRecordFor}
 use Rattle.proof_lives.specs.Records.{recorded_by, AreFromRecords}
+use Rattle.proof_facts.specs.Beside.{IsAddition}
+use Rattle.proof_journals.proofs.BothLives.{act_not_added}
 
 -- what entries make of the records
 abbrev pub recorded_in : List Entry → List Rec → List Rec
@@ -67,6 +69,13 @@ pub recorded_by_more : (os ps : List (Out Msg)) (rs : List Rec)
 recorded_by_more [] ps rs = refl
 recorded_by_more (out.Act w ∷ os) ps rs = recorded_by_more os ps (recorded rs w)
 recorded_by_more (out.Send link m ∷ os) ps rs = recorded_by_more os ps rs
+
+-- what is added makes nothing of them
+pub additions_recorded : (p : Params) (c : ℕ) (os : List (Out Msg)) (rs : List Rec) → AllByRecursion (IsAddition p c) os
+    → recorded_by os rs ≡ rs
+additions_recorded p c [] rs few = refl
+additions_recorded p c (out.Act w ∷ os) rs few = absurd (act_not_added p c w few.0)
+additions_recorded p c (out.Send link m ∷ os) rs few = additions_recorded p c os rs few.1
 
 pub event_recorded : {S : Type 0} (step : S → Input Msg → Deed Msg S) (p : Params) (n : ℕ) (ev : NodeEvent Msg) (before : Past S) (rs : List Rec)
     → AllByRecursion (IsAllowed noted p n) (outs_of step ev before) → is_death ev ≡ false

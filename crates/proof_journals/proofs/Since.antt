@@ -22,6 +22,7 @@ use Rattle.proof_lives.specs.TwoLifeRun.{event_in}
 use Rattle.proof_lives.specs.TwoLifeRun.WhichLife.{Later}
 use Rattle.proof_lives.proofs.TwoLives.{beat_in}
 use Rattle.proof_moments.specs.Ties.{ReturnedBy}
+use Rattle.proof_facts.specs.Beside.{Additions}
 use Rattle.proof_facts.specs.Facts.{facts_of}
 use Rattle.proof_facts.specs.Lives.{later_lives_of}
 use Rattle.proof_journals.proofs.Cutting.{IsCutIn, cut_at_entry}
@@ -41,8 +42,8 @@ return_writes_none step (Dies stamp) before t = absurd (cc)
 return_writes_none step (Returns stamp) before t = refl
 
 module _ {S : Type 0} {step : S → Input Msg → Deed Msg S} {p : Params} {orders : List Order}
-    {disk_at : ℕ → DiskState} {h : History Msg S} {journals : List (List Entry)}
-    (kept : AreKept step p orders disk_at h journals) where
+    {disk_at : ℕ → DiskState} {added : Additions} {h : History Msg S} {journals : List (List Entry)}
+    (kept : AreKept step p orders disk_at added h journals) where
   -- The entry of a death is of the event of the death, and is the last one there.
   record IsDeathIn (n : ℕ) (xs : List Entry) (e : Entry) (ys : List Entry) (c : IsCutIn kept n xs e ys) : Type 0 where
     death : is_death (h.event n c.at) ≡ true

@@ -1,5 +1,5 @@
 -- Each entry of a ring's journals tells a fact.
-use Rattle.std.proofs.Common.{◌≡◌, ℕ, zero, suc, ◌+◌, ◌<◌, ◌≤◌, None, Bool, List, true, false, refl, sym, ap, subst, ◌∙◌, arith, ⊎_elim, inl, inr}
+use Rattle.std.proofs.Common.{◌≡◌, ℕ, zero, suc, ◌+◌, ◌<◌, ◌≤◌, None, Bool, List, ◌++◌, true, false, refl, sym, ap, subst, ◌∙◌, arith, ⊎_elim, inl, inr}
 use Rattle.std.proofs.lemmas.Bool.{cases_Bool}
 use Rattle.tiger_base.specs.declared.number.CubNo.{CubNo}
 use Rattle.tiger_base.specs.declared.number.Instance.{Instance}
@@ -38,6 +38,7 @@ use Rattle.proof_lives.proofs.TwoLives.{beat_in, begins_anew, input_in, stamp_in
 use Rattle.proof_lives.proofs.Cuts.{was_put_out}
 use Rattle.lists.specs.Elements.{In}
 use Rattle.lists.proofs.Elements.{in_cases}
+use Rattle.lists.proofs.Each.{all_in}
 use Rattle.std.specs.Prelude.{◌⊎◌}
 use Rattle.proof_lives.specs.Facts.{DidAt, InsertedAt, TickedAt, TookAt, TookMessage}
 use Rattle.proof_lives.specs.FactsBy.{WroteBelief}
@@ -45,17 +46,18 @@ use Rattle.proof_lives.proofs.Told.{any_in}
 use Rattle.proof_journals.proofs.Written.{event_took}
 use Rattle.proof_journals.proofs.Notes.{event_lives}
 use Rattle.proof_journals.proofs.Journals.{inputs_of, beat_is}
-use Rattle.proof_journals.proofs.BothLives.{before_it, each_life, in_life}
+use Rattle.proof_journals.proofs.BothLives.{act_not_added, before_it, beside_it, each_life, in_life}
 use Rattle.proof_journals.proofs.Ending.{came_back}
 use Rattle.proof_journals.proofs.Lists.{moved}
 use Rattle.proof_controller.specs.Controllers.{GoneAt, IsOrdered}
 use Rattle.proof_schedule.specs.Facts.{Entered}
 use Rattle.proof_moments.specs.Ties.{StandsIn, IsPutAt, IsBeliefAt, Tells}
+use Rattle.proof_facts.specs.Beside.{Additions, IsAddition}
 use Rattle.proof_facts.specs.Facts.{facts_of}
 use Rattle.proof_facts.specs.Lives.{lives_of, later_lives_of, later_from, acting, DiedAt}
 use Rattle.proof_journals.specs.Journals.{AreStartsOrdered, JournalsTell}
 use Rattle.proof_journals.proofs.Outputs.{put_seat, believes_predecessor, tells_no_return, tells_no_stop}
-use Rattle.proof_journals.proofs.Events.{AreKept, acts_alone, acts_if_out, cub_entry, cub_inside, cut_of_input, did_at, did_in_life, fair, input_of_life, life_of, outs_of_input, own_entry, who_acts, written_in}
+use Rattle.proof_journals.proofs.Events.{AreKept, acts_alone, acts_if_out, adds_few, cub_entry, cub_inside, cut_of_input, did_at, did_in_life, fair, input_of_life, life_of, outs_of_input, own_entry, who_acts, written_in}
 use Rattle.std.proofs.Math.Nat.{mod-eq_of_lt}
 use Rattle.slot_plan.specs.Conditions.{IsPlan}
 
@@ -78,8 +80,8 @@ start_back (msg.Start r a) ask redundant e =
 start_back other ask redundant e = absurd (cc)
 
 module _ {S : Type 0} {step : S → Input Msg → Deed Msg S} {p : Params} {orders : List Order}
-    {disk_at : ℕ → DiskState} {h : History Msg S} {journals : List (List Entry)}
-    (kept : AreKept step p orders disk_at h journals) where
+    {disk_at : ℕ → DiskState} {added : Additions} {h : History Msg S} {journals : List (List Entry)}
+    (kept : AreKept step p orders disk_at added h journals) where
   put_told : (n : ℕ) (e : Entry) (t : Tenancy) → StandsIn journals n e → e.what ≡ what.Put t
       → IsPutAt p (facts_of p orders h) n e.stamp t
   put_told n e t s is =
@@ -210,9 +212,13 @@ module _ {S : Type 0} {step : S → Input Msg → Deed Msg S} {p : Params} {orde
       let lives : Lives = life_in h l.which in
       let r = ⊎_elim
       (λ k. came_with l.which n l.at d.at small l.done l.is k)
+      (λ q. ⊎_elim
       (λ k. absurd (tells_no_return p n (lives.input n) l.at
       (was_put_out p lives n l.at (out.Act what.Returned) k)))
-      (in_cases (out.Act what.Returned) (before_it h p l.which n l.at) (outs_in p lives n l.at)
+      (λ k. absurd (act_not_added p n what.Returned (all_in (IsAddition p n) (out.Act what.Returned)
+      (beside_it added l.which n l.at) (adds_few kept l.which n l.at small l.done) k)))
+      (in_cases (out.Act what.Returned) (outs_in p lives n l.at) (beside_it added l.which n l.at) q))
+      (in_cases (out.Act what.Returned) (before_it h p l.which n l.at) (outs_in p lives n l.at ++ beside_it added l.which n l.at)
       (moved (out.Act what.Returned) (outs_of_input kept n d.at l small) d.did)) in
       subst (λ (x : Stamp). (facts_of p orders h).Returned n x.beat × (facts_of p orders h).Ticked n x.beat x.reading)
       (sym d.when) (r.0, inr r.1)
@@ -252,5 +258,5 @@ module _ {S : Type 0} {step : S → Input Msg → Deed Msg S} {p : Params} {orde
     }
 
 pub journals_tell : (S : Type 0) → JournalsTell S
-journals_tell S step p orders disk_at h journals plan ring are first later =
+journals_tell S step p orders disk_at added h journals plan ring are first later =
     tells (record { plan = plan; ring = ring; are = are }) (each_life h (AreStartsOrdered p orders) first later)

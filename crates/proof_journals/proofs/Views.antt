@@ -19,21 +19,22 @@ use Rattle.proof_lives.specs.Records.{recorded_by, AreRecordsOf}
 use Rattle.proof_lives.proofs.KeepingRecords.{keeps_records}
 use Rattle.proof_journals.proofs.Written.{written_at, one_event_more}
 use Rattle.proof_journals.proofs.Journals.{so_far, wrote, beat_is, so_far_on}
-use Rattle.proof_journals.proofs.Records.{records_after, event_recorded, recorded_by_more}
+use Rattle.proof_journals.proofs.Records.{additions_recorded, records_after, event_recorded, recorded_by_more}
 use Rattle.lists.specs.Elements.{In}
 use Rattle.proof_moments.specs.Ties.{IsCutAt}
 use Rattle.proof_lives.specs.FactsBy.{ShowsAt}
+use Rattle.proof_facts.specs.Beside.{Additions}
 use Rattle.proof_facts.specs.Facts.{facts_of}
-use Rattle.proof_journals.proofs.BothLives.{before_it, nothing_later, in_life, by_life}
+use Rattle.proof_journals.proofs.BothLives.{before_it, beside_it, nothing_later, in_life, by_life}
 use Rattle.proof_lives.specs.TwoLifeRun.{WhichLife, life_in, event_in}
 use Rattle.proof_lives.specs.TwoLifeRun.WhichLife.{First, Later}
 use Rattle.proof_journals.proofs.Living.{whole_lives}
-use Rattle.proof_journals.proofs.Events.{AreKept, fair, journal_is, cub_inside, event_of_life, cut_of_input, outs_at_input, tick_event, beats_rise, behind_tick}
+use Rattle.proof_journals.proofs.Events.{AreKept, adds_few, fair, journal_is, cub_inside, event_of_life, cut_of_input, outs_at_input, tick_event, beats_rise, behind_tick}
 use Rattle.proof_journals.proofs.Lists.{same_cut}
 
 module _ {S : Type 0} {step : S → Input Msg → Deed Msg S} {p : Params} {orders : List Order}
-    {disk_at : ℕ → DiskState} {h : History Msg S} {journals : List (List Entry)}
-    (kept : AreKept step p orders disk_at h journals) where
+    {disk_at : ℕ → DiskState} {added : Additions} {h : History Msg S} {journals : List (List Entry)}
+    (kept : AreKept step p orders disk_at added h journals) where
   -- What the journal tells of the view when the outputs of the cub's rules begin, at an input of one of its lives.
   abbrev pub records_at : WhichLife → ℕ → ℕ → List Rec
   records_at w c i = recorded_by (before_it h p w c i) (records_of (so_far step h c (event_in h w c i)))
@@ -51,7 +52,9 @@ module _ {S : Type 0} {step : S → Input Msg → Deed Msg S} {p : Params} {orde
       (fair kept c at (cub_inside kept c small) event.0)
       (whole_lives (h.event c at) event.1 (sym (cut_of_input kept w c i (cub_inside kept c small) low) ∙ whole))
       ∙ ap (λ (os : List (Out Msg)). recorded_by os (records_of old)) (outs_at_input kept w c i small low)
-      ∙ recorded_by_more (before_it h p w c i) (outs_in p (life_in h w) c i) (records_of old)
+      ∙ recorded_by_more (before_it h p w c i) (outs_in p (life_in h w) c i ++ beside_it added w c i) (records_of old)
+      ∙ recorded_by_more (outs_in p (life_in h w) c i) (beside_it added w c i) (records_at w c i)
+      ∙ additions_recorded p c (beside_it added w c i) _ (adds_few kept w c i small low)
       ∙ ap (λ (os : List (Out Msg)). recorded_by os (records_at w c i)) (whole_outs p (life_in h w) c i whole)
 
   next_event : (w : WhichLife) (c i : ℕ) → event_in h w c (suc i) ≡ suc (event_in h w c i)

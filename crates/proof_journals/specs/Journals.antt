@@ -1,4 +1,5 @@
--- What it means that the journals of a ring, whose cubs may die and return, tell its facts.
+-- What it means that a ring's journals tell its facts, if cubs may die, return, and put out more
+-- than their rules say.
 use Rattle.std.specs.Prelude.{◌≡◌, ℕ, ◌<◌, Bool, List, length, Some, slice_get}
 use Rattle.tiger_base.specs.declared.number.LinkNo.{LinkNo}
 use Rattle.tiger_base.specs.declared.number.Stamp.{Stamp}
@@ -19,10 +20,11 @@ use Rattle.proof_controller.specs.Controllers.{IsOrdered}
 use Rattle.proof_schedule.specs.Laws.{Laws}
 use Rattle.proof_moments.specs.Recorded.{IsRecorded}
 use Rattle.proof_moments.specs.Ties.{Besides, Keeps, Locals, Logged, Tells}
+use Rattle.proof_facts.specs.Beside.{Additions}
 use Rattle.proof_facts.specs.Facts.{facts_of}
 use Rattle.proof_facts.specs.Laws.{CubLaws}
 use Rattle.proof_facts.specs.Lives.{lives_of, later_lives_of}
-use Rattle.proof_facts.specs.Rings.{IsRingHistory, node_count}
+use Rattle.proof_facts.specs.Rings.{IsRingWith, node_count}
 
 -- Each node of the ring has one journal: what its events of the history wrote.
 pub record AreJournalsOf {S : Type 0} (step : S → Input Msg → Deed Msg S) (p : Params)
@@ -42,8 +44,8 @@ AreStartsOrdered p orders lives =
 abbrev pub JournalsTell : (S : Type 0) → Type 0
 JournalsTell S =
     (step : S → Input Msg → Deed Msg S) (p : Params) (orders : List Order)
-    (disk_at : ℕ → DiskState) (h : History Msg S) (journals : List (List Entry))
-    → IsPlan p → IsRingHistory step p orders disk_at h → AreJournalsOf step p h journals
+    (disk_at : ℕ → DiskState) (added : Additions) (h : History Msg S) (journals : List (List Entry))
+    → IsPlan p → IsRingWith step p orders disk_at added h → AreJournalsOf step p h journals
     → AreStartsOrdered p orders (lives_of h) → AreStartsOrdered p orders (later_lives_of h)
     → Tells p (facts_of p orders h) orders journals
 
@@ -52,8 +54,8 @@ JournalsTell S =
 abbrev pub FactsAreLogged : (S : Type 0) → Type 0
 FactsAreLogged S =
     (step : S → Input Msg → Deed Msg S) (p : Params) (orders : List Order)
-    (disk_at : ℕ → DiskState) (h : History Msg S) (journals : List (List Entry))
-    → IsPlan p → IsRingHistory step p orders disk_at h → AreJournalsOf step p h journals
+    (disk_at : ℕ → DiskState) (added : Additions) (h : History Msg S) (journals : List (List Entry))
+    → IsPlan p → IsRingWith step p orders disk_at added h → AreJournalsOf step p h journals
     → Logged p (facts_of p orders h) orders journals
 
 -- The entries of each journal are in their order, and tell the cub's view at each tick. That a
@@ -62,8 +64,8 @@ FactsAreLogged S =
 abbrev pub JournalsKeepOrder : (S : Type 0) → Type 0
 JournalsKeepOrder S =
     (step : S → Input Msg → Deed Msg S) (p : Params) (orders : List Order)
-    (disk_at : ℕ → DiskState) (h : History Msg S) (journals : List (List Entry))
-    → IsPlan p → IsRingHistory step p orders disk_at h → AreJournalsOf step p h journals
+    (disk_at : ℕ → DiskState) (added : Additions) (h : History Msg S) (journals : List (List Entry))
+    → IsPlan p → IsRingWith step p orders disk_at added h → AreJournalsOf step p h journals
     → Laws p (facts_of p orders h)
     → Keeps p (facts_of p orders h) orders journals
 
@@ -71,16 +73,16 @@ JournalsKeepOrder S =
 abbrev pub JournalsAreLocal : (S : Type 0) → Type 0
 JournalsAreLocal S =
     (step : S → Input Msg → Deed Msg S) (p : Params) (orders : List Order)
-    (disk_at : ℕ → DiskState) (h : History Msg S) (journals : List (List Entry))
-    → IsPlan p → IsRingHistory step p orders disk_at h → AreJournalsOf step p h journals
+    (disk_at : ℕ → DiskState) (added : Additions) (h : History Msg S) (journals : List (List Entry))
+    → IsPlan p → IsRingWith step p orders disk_at added h → AreJournalsOf step p h journals
     → Locals p journals
 
 -- The laws of a ring give what its moments need beside one schedule.
 abbrev pub LawsGiveBesides : (S : Type 0) → Type 0
 LawsGiveBesides S =
     (step : S → Input Msg → Deed Msg S) (p : Params) (orders : List Order)
-    (disk_at : ℕ → DiskState) (h : History Msg S)
-    → IsPlan p → IsRingHistory step p orders disk_at h
+    (disk_at : ℕ → DiskState) (added : Additions) (h : History Msg S)
+    → IsPlan p → IsRingWith step p orders disk_at added h
     → Laws p (facts_of p orders h) → CubLaws p (facts_of p orders h)
     → Besides p (facts_of p orders h)
 
@@ -88,8 +90,8 @@ LawsGiveBesides S =
 abbrev pub RingsAreRecorded : (S : Type 0) → Type 0
 RingsAreRecorded S =
     (step : S → Input Msg → Deed Msg S) (p : Params) (orders : List Order)
-    (disk_at : ℕ → DiskState) (h : History Msg S) (journals : List (List Entry))
-    → IsPlan p → IsRingHistory step p orders disk_at h → AreJournalsOf step p h journals
+    (disk_at : ℕ → DiskState) (added : Additions) (h : History Msg S) (journals : List (List Entry))
+    → IsPlan p → IsRingWith step p orders disk_at added h → AreJournalsOf step p h journals
     → AreStartsOrdered p orders (lives_of h) → AreStartsOrdered p orders (later_lives_of h)
     → Laws p (facts_of p orders h) → CubLaws p (facts_of p orders h)
     → IsRecorded p (facts_of p orders h) orders journals

@@ -30,10 +30,11 @@ use Rattle.proof_lives.specs.Facts.{DidAt, TookMessage}
 use Rattle.proof_lives.proofs.Carrying.{same_ends}
 use Rattle.proof_lives.proofs.SameLife.{same_life}
 use Rattle.proof_lives.proofs.TwoLives.{beat_in}
+use Rattle.proof_facts.specs.Beside.{Additions}
 use Rattle.proof_facts.specs.Carried.{AnswersAsk, AskedDisk, DisksAnswer, WasAnswered}
-use Rattle.proof_facts.specs.Facts.{beyond_of}
+use Rattle.proof_facts.specs.Facts.{beyond_with}
 use Rattle.proof_facts.specs.Lives.{lives_of}
-use Rattle.proof_facts.specs.Rings.{IsRingHistory, IsDiskOf, node_count, node_of_disk}
+use Rattle.proof_facts.specs.Rings.{IsRingWith, IsDiskOf, node_count, node_of_disk}
 use Rattle.proof_links.proofs.Carrying.{beyond_sends, came_from, came_to, delivered, did_as, from_cub, is_out, not_behind, reaches, sent_out, took_from}
 use Rattle.proof_links.proofs.Fitting.{fits}
 use Rattle.proof_links.proofs.Nodes.{SentByDisk, cub_inside, disk_inside, formed_at, immortal, is_up, lived, lives_on, sender}
@@ -59,18 +60,18 @@ same_answer : (a b : Want) (x y : Option LibraryPart) → msg.ReadDone a x ≡ m
 same_answer a b x y e = let q : a ≡ b = cc in let r : x ≡ y = cc in (q, r)
 
 module _ {S : Type 0} {step : S → Input Msg → Deed Msg S} {p : Params} {orders : List Order} {disk_at : ℕ → DiskState}
-    {h : History Msg S} (plan : IsPlan p) (ring : IsRingHistory step p orders disk_at h) where
+    {added : Additions} {h : History Msg S} (plan : IsPlan p) (ring : IsRingWith step p orders disk_at added h) where
   abbrev lives : Lives
   lives = lives_of h
 
   -- What a cub did and its tick are of one life.
   one_life_of : (w : WhichLife) {c x b : ℕ} {o : Out Msg} → DidAt p (life_in h w) c o x → CameToTick p (life_in h w) c b
-      → IsInOneLife (beyond_of p orders h) c x b
+      → IsInOneLife (beyond_with p orders added h) c x b
   one_life_of w {c} {x} {b} d t v back le =
       let k = t.tick in
       let is : beat_at ((life_in h w).input c) k.at ≡ b = ap (λ (i : Input Msg). (stamp_of i).beat) k.is in
       let db = d.in_beat in
-      let same = same_life p (life_in h w) (beyond_of p orders h) (lived plan ring w) (fits plan ring w) c d.at k.at d.small
+      let same = same_life p (life_in h w) (beyond_with p orders added h) (lived plan ring w) (fits plan ring w) c d.at k.at d.small
       d.done k.done v back (omega arith) in
       omega arith
 
@@ -124,7 +125,7 @@ module _ {S : Type 0} {step : S → Input Msg → Deed Msg S} {p : Params} {orde
       (g : TookMessage p (life_in h w) c (msg.ReadDone want part) y) (n i : ℕ) → n < node_count p → i < h.count n
       → ends_of (links_of p) g.link.0 ≡ Some (n, c) → beat h n i < y → y ≤ beat h n i + p.delay
       → SentByDisk plan ring n i g.link (msg.ReadDone want part)
-      → AnswersAsk p (beyond_of p orders h) disk_at c want part y
+      → AnswersAsk p (beyond_with p orders added h) disk_at c want part y
   asked_by w {c} {y} {want} {part} g n i inside done ends later soon said =
       let d : ℕ = said.disk in
       let a = said.answer in
@@ -142,10 +143,10 @@ module _ {S : Type 0} {step : S → Input Msg → Deed Msg S} {p : Params} {orde
       (sym ends ∙ ap (λ (l : LinkNo). ends_of (links_of p) l.0) way ∙ ends_from_disk p d said.low)).1 in
       let when : beat h n i ≡ a.stamp.beat =
       beat_in h First n i ∙ ap (λ (k : Input Msg). (stamp_of k).beat) a.ask in
-      let ask : (beyond_of p orders h).Sends c (way_to_disk p d) (msg.ReadAsk want) asked_in =
-      subst (λ (v : Want). (beyond_of p orders h).Sends c (way_to_disk p d) (msg.ReadAsk v) asked_in) (sym same.0)
-      (subst (λ (l : LinkNo). (beyond_of p orders h).Sends c l (msg.ReadAsk a.want) asked_in) to.0
-      (subst (λ k. (beyond_of p orders h).Sends k a.link (msg.ReadAsk a.want) asked_in) (to.1 ∙ sym home) sent)) in
+      let ask : (beyond_with p orders added h).Sends c (way_to_disk p d) (msg.ReadAsk want) asked_in =
+      subst (λ (v : Want). (beyond_with p orders added h).Sends c (way_to_disk p d) (msg.ReadAsk v) asked_in) (sym same.0)
+      (subst (λ (l : LinkNo). (beyond_with p orders added h).Sends c l (msg.ReadAsk a.want) asked_in) to.0
+      (subst (λ k. (beyond_with p orders added h).Sends k a.link (msg.ReadAsk a.want) asked_in) (to.1 ∙ sym home) sent)) in
       record {
         disk = d;
         asked = asked_in;
@@ -159,7 +160,7 @@ module _ {S : Type 0} {step : S → Input Msg → Deed Msg S} {p : Params} {orde
       }
 
   -- What the disks and the links to them give.
-  pub disks_answer : (w : WhichLife) → DisksAnswer p (life_in h w) (beyond_of p orders h) disk_at
+  pub disks_answer : (w : WhichLife) → DisksAnswer p (life_in h w) (beyond_with p orders added h) disk_at
   disks_answer w = record {
     answered = answered w;
     of_asks = λ c y want part g.

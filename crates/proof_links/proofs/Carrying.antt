@@ -36,12 +36,13 @@ use Rattle.proof_lives.proofs.TwoLives.{beat_in, begins_anew, input_in, lost_by_
 use Rattle.proof_lives.proofs.Order.{tick_of}
 use Rattle.proof_lives.proofs.States.{stamp_made}
 use Rattle.proof_controller.specs.Controllers.{controller, commands_at}
-use Rattle.proof_facts.specs.Facts.{ToldBack, beyond_of}
+use Rattle.proof_facts.specs.Beside.{AddedAt, Additions}
+use Rattle.proof_facts.specs.Facts.{ToldBack, beyond_with}
 use Rattle.proof_facts.specs.Lives.{lives_of, CameAt}
-use Rattle.proof_facts.specs.Rings.{IsRingHistory, node_count}
+use Rattle.proof_facts.specs.Rings.{IsRingWith, node_count}
 use Rattle.proof_links.proofs.Lives.{LivesOn}
-use Rattle.proof_links.proofs.Nodes.{after_tick, back_out, before, began_late, by_rules, closes_low, controller_inside, cub_inside, did_in, did_it, input_there, lives_on, one_life, rises, sender, stays, takes_at, ticks_at, told_back}
-use Rattle.proof_links.proofs.Sending.{IsBack, IsOfCub, IsOfDisk, IsOfController, of_answer}
+use Rattle.proof_links.proofs.Nodes.{added_is, added_out, after_tick, back_out, before, began_late, by_rules, closes_low, controller_inside, cub_inside, did_in, did_it, input_there, lives_on, one_life, rises, sender, stays, takes_at, ticks_at, told_back}
+use Rattle.proof_links.proofs.Sending.{IsBack, IsBesideLives, IsOfCub, IsOfDisk, IsOfController, is_added, of_added, of_answer, of_back}
 use Rattle.proof_links.proofs.Ways.{way_leads}
 
 -- a message and the beat in which it was sent
@@ -66,7 +67,7 @@ returns_at (Dies stamp) t = absurd (cc)
 returns_at (Returns stamp) t = refl
 
 module _ {S : Type 0} {step : S → Input Msg → Deed Msg S} {p : Params} {orders : List Order} {disk_at : ℕ → DiskState}
-    {h : History Msg S} (plan : IsPlan p) (ring : IsRingHistory step p orders disk_at h) where
+    {added : Additions} {h : History Msg S} (plan : IsPlan p) (ring : IsRingWith step p orders disk_at added h) where
   abbrev lives : Lives
   lives = lives_of h
 
@@ -194,10 +195,11 @@ module _ {S : Type 0} {step : S → Input Msg → Deed Msg S} {p : Params} {orde
     pub did : DidAt p (life_in h which) c (out.Send link m) (beat h c e)
     pub is : e ≡ event_in h which c did.at
 
-  -- What a cub sends in an event it sends in one of its lives, or at its return.
+  -- What a cub sends in an event it sends in one of its lives, or at its return, or it is added there.
   pub sends_there : (c e : ℕ) (link : LinkNo) (m : Msg) → c < p.cubs → e < h.count c
       → In (out.Send link m) (outs noted step h c e)
-      → DidThere c e link m ⊎ ToldBack p (later_lives_of h) c link m (beat h c e)
+      → DidThere c e link m
+      ⊎ (ToldBack p (later_lives_of h) c link m (beat h c e) ⊎ AddedAt p lives added c (out.Send link m) (beat h c e))
   sends_there c e link m small low k = ⊎_elim
       (λ q.
       let w : WhichLife = q.0 in
@@ -208,28 +210,31 @@ module _ {S : Type 0} {step : S → Input Msg → Deed Msg S} {p : Params} {orde
         did = record { small = small; at = x.at; done = x.done; in_beat = sym same; did = x.did };
         is = x.is;
       }))
-      (λ b. inr (told_back plan ring c e link m small b))
+      (λ q. inr (⊎_elim (λ b. inl (told_back plan ring c e link m small b)) (λ a. inr a) q))
       (by_rules plan ring c e (out.Send link m) small low k)
 
   -- So it is among what is known beyond one life, of which life it may be.
   pub beyond_sends : (c e : ℕ) (link : LinkNo) (m : Msg) → c < p.cubs → e < h.count c
-      → In (out.Send link m) (outs noted step h c e) → (beyond_of p orders h).Sends c link m (beat h c e)
+      → In (out.Send link m) (outs noted step h c e) → (beyond_with p orders added h).Sends c link m (beat h c e)
   beyond_sends c e link m small low k = ⊎_elim
       (λ q. by_life q.which q.did)
-      (λ b. inr (inr b))
+      (λ q. inr (inr q))
       (sends_there c e link m small low k)
     where
       by_life : (w : WhichLife) → DidAt p (life_in h w) c (out.Send link m) (beat h c e)
-          → (beyond_of p orders h).Sends c link m (beat h c e)
+          → (beyond_with p orders added h).Sends c link m (beat h c e)
       by_life First d = inl d
       by_life Later d = inr (inl d)
 
-  -- A message that tells of no return was sent in a life.
+  -- A message that tells of no return, and that cannot be added, was sent in a life.
   pub did_there : (c e : ℕ) (link : LinkNo) (m : Msg) → c < p.cubs → e < h.count c
-      → In (out.Send link m) (outs noted step h c e) → (IsBack m → ⊥) → DidThere c e link m
-  did_there c e link m small low k no_back = ⊎_elim
+      → In (out.Send link m) (outs noted step h c e) → (IsBesideLives m → ⊥) → DidThere c e link m
+  did_there c e link m small low k in_lives = ⊎_elim
       (λ q. q)
-      (λ b. absurd (no_back (subst IsBack (sym b.is) tt)))
+      (λ q. absurd (in_lives (⊎_elim
+      (λ b. of_back m (subst IsBack (sym b.is) tt))
+      (λ a. (of_added m (is_added p c link m (added_is plan ring a))).1)
+      q)))
       (sends_there c e link m small low k)
 
   -- Cub a sent a message in one of its lives, before beat y, and at most the greatest delay before it.
@@ -241,11 +246,11 @@ module _ {S : Type 0} {step : S → Input Msg → Deed Msg S} {p : Params} {orde
     pub soon : y ≤ beat + p.delay
 
   -- A message that came from a cub was sent so.
-  pub did_before : {n i b : ℕ} {link : LinkNo} {m : Msg} (f : Came n i b link m) → f.from < p.cubs → (IsBack m → ⊥)
+  pub did_before : {n i b : ℕ} {link : LinkNo} {m : Msg} (f : Came n i b link m) → f.from < p.cubs → (IsBesideLives m → ⊥)
       → (d : DidBefore f.from link m b) × (d.beat ≡ beat h f.from f.at)
       × (f.at ≡ event_in h d.which f.from d.did.at)
-  did_before {n} {i} {b} {link} {m} f small no_back =
-      let d = did_there f.from f.at link m small f.note.done f.sent no_back in
+  did_before {n} {i} {b} {link} {m} f small in_lives =
+      let d = did_there f.from f.at link m small f.note.done f.sent in_lives in
       (record { which = d.which; beat = beat h f.from f.at; did = d.did; later = f.later; soon = f.soon }, refl, d.is)
 
   -- The controller sent a message in its event of number at, before beat y and at most the greatest delay before it.
@@ -292,7 +297,7 @@ module _ {S : Type 0} {step : S → Input Msg → Deed Msg S} {p : Params} {orde
   -- What a cub takes in a life was sent in that life of it.
   pub sent_in_life : (w : WhichLife) {c i b : ℕ} {link : LinkNo} {m : Msg} → c < p.cubs → i < (life_in h w).count c
       → beat_at ((life_in h w).input c) i ≡ b → (f : Came c (event_in h w c i) b link m)
-      → IsInOneLife (beyond_of p orders h) c (beat h f.from f.at) b
+      → IsInOneLife (beyond_with p orders added h) c (beat h f.from f.at) b
   sent_in_life First {c} {i} {b} {link} {m} small low now f v back le =
       let inside = cub_inside plan ring c small in
       let a = begins_anew ring.run c inside back.done in
@@ -326,7 +331,7 @@ module _ {S : Type 0} {step : S → Input Msg → Deed Msg S} {p : Params} {orde
   pub opens_below : (w : WhichLife) {a at place_there : ℕ} {link : LinkNo} {m : Msg} (c i : ℕ)
       → SentAs a at place_there link m
       → a < node_count p → ends_of (links_of p) link.0 ≡ Some (a, c) → c < p.cubs → i < (life_in h w).count c
-      → IsInOneLife (beyond_of p orders h) c (beat h a at) (beat_at ((life_in h w).input c) i)
+      → IsInOneLife (beyond_with p orders added h) c (beat h a at) (beat_at ((life_in h w).input c) i)
       → place link.0 h c (opens_with h w c) ≤ number_of a at place_there link
   opens_below First c i s known ends small low one = omega arith
   opens_below Later {a} {at} {place_there} {link} {m} c i s known ends small low one =
@@ -487,24 +492,29 @@ module _ {S : Type 0} {step : S → Input Msg → Deed Msg S} {p : Params} {orde
       let at = did_in plan ring w d in
       sent_out c (event_in h w c d.at) link m x (cub_inside plan ring c d.small) at.0 at.1 (did_it plan ring w d)
 
-  pub sends_as : {c x : ℕ} {link : LinkNo} {m : Msg} → (beyond_of p orders h).Sends c link m x → SentIn c link m x
+  pub sends_as : {c x : ℕ} {link : LinkNo} {m : Msg} → (beyond_with p orders added h).Sends c link m x → SentIn c link m x
   sends_as {c} {x} {link} {m} s = ⊎_elim
       (λ d. did_as First d)
       (⊎_elim
       (λ d. did_as Later d)
+      (⊎_elim
       (λ (b : ToldBack p (later_lives_of h) c link m x).
       let l = b.late in
       let q = back_out plan ring b in
-      sent_out c (event_in h Later c 0) link m x (cub_inside plan ring c l.small) q.0 q.1 q.2))
+      sent_out c (event_in h Later c 0) link m x (cub_inside plan ring c l.small) q.0 q.1 q.2)
+      (λ (a : AddedAt p lives added c (out.Send link m) x).
+      let q = added_out plan ring a in
+      sent_out c (event_in h First c a.at) link m x (cub_inside plan ring c a.small) q.0 q.1 q.2)))
       s
 
-  pub sends_small : {c x : ℕ} {link : LinkNo} {m : Msg} → (beyond_of p orders h).Sends c link m x → c < p.cubs
-  sends_small s = ⊎_elim (λ d. d.small) (⊎_elim (λ d. d.small) (λ b. b.late.small)) s
+  pub sends_small : {c x : ℕ} {link : LinkNo} {m : Msg} → (beyond_with p orders added h).Sends c link m x → c < p.cubs
+  sends_small s =
+      ⊎_elim (λ d. d.small) (⊎_elim (λ d. d.small) (⊎_elim (λ b. b.late.small) (λ a. a.small))) s
 
   -- What is sent to a cub in a life is taken in it, if the cub comes to its tick of the last beat in which it may come.
   pub reaches : (w : WhichLife) {a x : ℕ} {link : LinkNo} {m : Msg} (c b : ℕ) (s : SentIn a link m x)
       → ends_of (links_of p) link.0 ≡ Some (a, c) → CameToTick p (life_in h w) c b
-      → IsInOneLife (beyond_of p orders h) c x b → x + p.delay ≤ b
+      → IsInOneLife (beyond_with p orders added h) c x b → x + p.delay ≤ b
       → TakenThere w a s.at s.place_there c x link m
   reaches w {a} {x} {link} {m} c b s ends t one late =
       let small = t.tick.small in
@@ -514,8 +524,8 @@ module _ {S : Type 0} {step : S → Input Msg → Deed Msg S} {p : Params} {orde
       let same = s.in_beat in
       let now : beat_at ((life_in h w).input c) t.tick.at ≡ b = ap (λ (i : Input Msg). (stamp_of i).beat) t.tick.is in
       let low = opens_below w c t.tick.at s.note s.known ends small t.tick.done
-      (subst (λ y. IsInOneLife (beyond_of p orders h) c (beat h a s.at) y) (sym now)
-      (subst (λ y. IsInOneLife (beyond_of p orders h) c y b) (sym same) one)) in
+      (subst (λ y. IsInOneLife (beyond_with p orders added h) c (beat h a s.at) y) (sym now)
+      (subst (λ y. IsInOneLife (beyond_with p orders added h) c y b) (sym same) one)) in
       let taken = in_time w c s.note s.known inside ends (omega arith) in
       let r = taken_as w c (closes_before h w c) s.note inside ticks.opens (omega arith) ends low taken in
       let later = r.later in
@@ -539,7 +549,7 @@ module _ {S : Type 0} {step : S → Input Msg → Deed Msg S} {p : Params} {orde
   -- So is what a cub sends to one of the next two cubs.
   pub reaches_near : (w : WhichLife) {a k x : ℕ} {m : Msg} (c b : ℕ) (s : SentIn a (way_ahead p a k) m x)
       → a < p.cubs → (k ≡ 1) ⊎ (k ≡ 2) → c ≡ cub_of p (a + k) → CameToTick p (life_in h w) c b
-      → IsInOneLife (beyond_of p orders h) c x b → x + p.delay ≤ b
+      → IsInOneLife (beyond_with p orders added h) c x b → x + p.delay ≤ b
       → TakenThere w a s.at s.place_there c x (way_ahead p a k) m
   reaches_near w {a} {k} {x} {m} c b s small near to t one late =
       let some : 1 ≤ k = ⊎_elim (λ e. omega arith) (λ e. omega arith) near in

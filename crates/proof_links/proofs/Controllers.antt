@@ -51,15 +51,16 @@ use Rattle.proof_controller.proofs.PutFirst.{first_state}
 use Rattle.proof_controller.proofs.Visits.{IsLastDue, last_due}
 use Rattle.proof_schedule.specs.Facts.{Facts}
 use Rattle.proof_schedule.specs.StopLaws.{IsStopAt, IsStopWaiting}
+use Rattle.proof_facts.specs.Beside.{Additions}
 use Rattle.proof_facts.specs.Facts.{BegunAt, facts_of}
 use Rattle.proof_facts.specs.Lives.{lives_of}
-use Rattle.proof_facts.specs.Rings.{IsRingHistory}
+use Rattle.proof_facts.specs.Rings.{IsRingWith}
 use Rattle.proof_links.proofs.Carrying.{came_from, did_before, from_cub}
 use Rattle.proof_links.proofs.Nodes.{after_tick, clock, controller_inside, cub_inside, lived, lives_on, rises, ticks_at}
 use Rattle.proof_links.proofs.Ordering.{both_start, finished_by, ordered_before}
 
 module _ {S : Type 0} {step : S → Input Msg → Deed Msg S} {p : Params} {orders : List Order} {disk_at : ℕ → DiskState}
-    {h : History Msg S} (plan : IsPlan p) (ring : IsRingHistory step p orders disk_at h) where
+    {added : Additions} {h : History Msg S} (plan : IsPlan p) (ring : IsRingWith step p orders disk_at added h) where
   -- the lives, the controller's number and its inputs, and the facts
   abbrev pub lives : Lives
   lives = lives_of h

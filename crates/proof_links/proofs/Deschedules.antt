@@ -36,16 +36,17 @@ use Rattle.proof_controller.proofs.Knowing.{some_same}
 use Rattle.proof_controller.proofs.Ways.{led}
 use Rattle.proof_schedule.specs.Facts.{Facts, IsBeside, GotTagBy, GotBareBy}
 use Rattle.proof_schedule.specs.LinkLaws.{TagFromController, TagFromCub, BareFrom}
-use Rattle.proof_facts.specs.Facts.{beyond_of, facts_of}
+use Rattle.proof_facts.specs.Beside.{Additions}
+use Rattle.proof_facts.specs.Facts.{beyond_with, facts_of}
 use Rattle.proof_facts.specs.Lives.{lives_of, CameAt}
-use Rattle.proof_facts.specs.Rings.{IsRingHistory}
+use Rattle.proof_facts.specs.Rings.{IsRingWith}
 use Rattle.proof_links.proofs.Carrying.{Came, SentIn, TakenThere, commanded_before, did_as, did_before, from_either, reaches, reaches_near, sent_out, tick_in, took_from}
 use Rattle.proof_links.proofs.Nodes.{controller_inside}
 use Rattle.proof_links.proofs.Controllers.{done_of, stops_here, stopped_waiting}
 use Rattle.proof_links.proofs.States.{in_life, sent_near}
 
 module _ {S : Type 0} {step : S → Input Msg → Deed Msg S} {p : Params} {orders : List Order} {disk_at : ℕ → DiskState}
-    {h : History Msg S} (plan : IsPlan p) (ring : IsRingHistory step p orders disk_at h) where
+    {added : Additions} {h : History Msg S} (plan : IsPlan p) (ring : IsRingWith step p orders disk_at added h) where
   abbrev lives : Lives
   lives = lives_of h
 
@@ -62,7 +63,7 @@ module _ {S : Type 0} {step : S → Input Msg → Deed Msg S} {p : Params} {orde
 
   -- Whether beats of cub c are of one life.
   abbrev One : ℕ → ℕ → ℕ → Type 0
-  One = IsInOneLife (beyond_of p orders h)
+  One = IsInOneLife (beyond_with p orders added h)
 
   joined_tag : (w : WhichLife) {c v s q b : ℕ} → GotTagAt p (life_in h w) c v s q b → ring_facts.GotTag c v s q b
   joined_tag First g = inl g

@@ -22,15 +22,16 @@ use Rattle.proof_lives.specs.TwoLifeRun.WhichLife.{First, Later}
 use Rattle.proof_lives.proofs.Carrying.{ends_at}
 use Rattle.proof_lives.proofs.Fitting.{Fits}
 use Rattle.proof_lives.proofs.TwoLives.{beat_in, begins_anew, cut_in_run}
-use Rattle.proof_facts.specs.Facts.{beyond_of}
+use Rattle.proof_facts.specs.Beside.{Additions}
+use Rattle.proof_facts.specs.Facts.{beyond_with}
 use Rattle.proof_facts.specs.Lives.{lives_of, DiedAt}
-use Rattle.proof_facts.specs.Rings.{IsRingHistory}
+use Rattle.proof_facts.specs.Rings.{IsRingWith}
 use Rattle.proof_links.proofs.Carrying.{came_to, tick_in}
 use Rattle.proof_links.proofs.Nodes.{before, began_late, cub_inside, rises}
 use Rattle.proof_links.proofs.Running.{first_opens, return_is}
 
 module _ {S : Type 0} {step : S → Input Msg → Deed Msg S} {p : Params} {orders : List Order} {disk_at : ℕ → DiskState}
-    {h : History Msg S} (plan : IsPlan p) (ring : IsRingHistory step p orders disk_at h) where
+    {added : Additions} {h : History Msg S} (plan : IsPlan p) (ring : IsRingWith step p orders disk_at added h) where
   -- ---- beats of a life and returns
 
   -- An input of a first life is of a lower beat than each return, and one of a later life of no lower one.
@@ -59,7 +60,7 @@ module _ {S : Type 0} {step : S → Input Msg → Deed Msg S} {p : Params} {orde
   -- A tick that is of one life with an input is a tick of that life.
   ticks_of : (w v : WhichLife) (c i b : ℕ) → c < p.cubs → i < (life_in h w).count c → CameToTick p (life_in h v) c b
       → beat_at ((life_in h w).input c) i ≤ b
-      → IsInOneLife (beyond_of p orders h) c (beat_at ((life_in h w).input c) i) b → CameToTick p (life_in h w) c b
+      → IsInOneLife (beyond_with p orders added h) c (beat_at ((life_in h w).input c) i) b → CameToTick p (life_in h w) c b
   ticks_of First First c i b small low t le one = t
   ticks_of Later Later c i b small low t le one = t
   ticks_of First Later c i b small low t le one =
@@ -107,21 +108,21 @@ module _ {S : Type 0} {step : S → Input Msg → Deed Msg S} {p : Params} {orde
   apart_from Later c i v small low back = inr back
 
   sends_so : (w : WhichLife) (a : ℕ) (link : LinkNo) (m : Msg) (b : ℕ) → DidAt p (life_in h w) a (out.Send link m) b
-      → (beyond_of p orders h).Sends a link m b
+      → (beyond_with p orders added h).Sends a link m b
   sends_so First a link m b d = inl d
   sends_so Later a link m b d = inr (inl d)
 
   sent_so : (w : WhichLife) (a k : ℕ) (t : Tenancy) (m b : ℕ) → SentAt p (life_in h w) a k t m b
-      → (beyond_of p orders h).Sent a k t m b
+      → (beyond_with p orders added h).Sent a k t m b
   sent_so First a k t m b d = inl d
   sent_so Later a k t m b d = inr d
 
-  told_so : (w : WhichLife) (a k v s q b : ℕ) → ToldAt p (life_in h w) a k v s q b → (beyond_of p orders h).Told a k v s q b
+  told_so : (w : WhichLife) (a k v s q b : ℕ) → ToldAt p (life_in h w) a k v s q b → (beyond_with p orders added h).Told a k v s q b
   told_so First a k v s q b d = inl d
   told_so Later a k v s q b d = inr d
 
   -- What is known beyond a life fits it.
-  pub fits : (w : WhichLife) → Fits p (life_in h w) (beyond_of p orders h)
+  pub fits : (w : WhichLife) → Fits p (life_in h w) (beyond_with p orders added h)
   fits w = record {
     came = λ c b l t. came_to plan ring w t;
     ticks = λ c i b small low t le one.

@@ -30,15 +30,16 @@ use Rattle.proof_lives.specs.HoldsHere.{AreAllFormed}
 use Rattle.proof_lives.specs.StopFactsOf.{ToldAt}
 use Rattle.proof_lives.specs.InOrder.{AreInOrder, CameInOrder, GotTagBefore}
 use Rattle.proof_lives.proofs.NoStops.{no_input_stop}
-use Rattle.proof_facts.specs.Facts.{beyond_of}
-use Rattle.proof_facts.specs.Rings.{IsRingHistory}
+use Rattle.proof_facts.specs.Beside.{Additions}
+use Rattle.proof_facts.specs.Facts.{beyond_with}
+use Rattle.proof_facts.specs.Rings.{IsRingWith}
 use Rattle.proof_links.proofs.Carrying.{Came, came_from, did_as, did_before, did_there, from_cub, is_out, number_of, numbers_rise, opens_below, taken_as}
 use Rattle.proof_links.proofs.Nodes.{after_tick, before, cub_inside, formed_at, lived, ticks_at}
 use Rattle.proof_links.proofs.Once.{are_starts, start_behind}
 use Rattle.proof_links.proofs.States.{sent_near}
 
 module _ {S : Type 0} {step : S → Input Msg → Deed Msg S} {p : Params} {orders : List Order} {disk_at : ℕ → DiskState}
-    {h : History Msg S} (plan : IsPlan p) (ring : IsRingHistory step p orders disk_at h) where
+    {added : Additions} {h : History Msg S} (plan : IsPlan p) (ring : IsRingWith step p orders disk_at added h) where
   pub formed : (w : WhichLife) → AreAllFormed p (life_in h w)
   formed w c small i stamp link m low e =
       let f = came_from plan ring w c i stamp link m (cub_inside plan ring c small) low e in
@@ -85,7 +86,7 @@ module _ {S : Type 0} {step : S → Input Msg → Deed Msg S} {p : Params} {orde
       (f : Came plan ring c (event_in h w c i) b link (msg.ViewerState t))
       → c < p.cubs → i < (life_in h w).count c → link ≡ way_ahead p f.from k → is_tick (h.event f.from f.at) ≡ true
       → ToldAt p (life_in h u) f.from k v s q x → x ≤ beat h f.from f.at
-      → IsInOneLife (beyond_of p orders h) c x (beat_at ((life_in h w).input c) i)
+      → IsInOneLife (beyond_with p orders added h) c x (beat_at ((life_in h w).input c) i)
       → GotTagBefore (life_in h w) c i v s q
   told_before w u {c} {i} {b} {k} {v} {s} {q} {x} {link} {t} f small low way tick told le one =
       let a : ℕ = f.from in
@@ -99,7 +100,7 @@ module _ {S : Type 0} {step : S → Input Msg → Deed Msg S} {p : Params} {orde
       let here = before plan ring w c i inside low in
       let high = here.low in
       let opens = opens_below plan ring w c i sent.note f.known ends small low
-      (subst (λ y. IsInOneLife (beyond_of p orders h) c y (beat_at ((life_in h w).input c) i)) (sym sent.in_beat) one) in
+      (subst (λ y. IsInOneLife (beyond_with p orders added h) c y (beat_at ((life_in h w).input c) i)) (sym sent.in_beat) one) in
       let r = taken_as plan ring w c (event_in h w c i) sent.note inside here.from (omega arith) ends opens (omega arith) in
       record {
         at = r.when;
@@ -115,14 +116,14 @@ module _ {S : Type 0} {step : S → Input Msg → Deed Msg S} {p : Params} {orde
       }
 
   joined_sent : (w : WhichLife) {a k m x : ℕ} {t : Tenancy} → SentAt p (life_in h w) a k t m x
-      → (beyond_of p orders h).Sent a k t m x
+      → (beyond_with p orders added h).Sent a k t m x
   joined_sent First s = inl s
   joined_sent Later s = inr s
 
   states : (w : WhichLife) (c i : ℕ) (stamp : Stamp) (link : LinkNo) (t : Tenancy) (m : ℕ) → c < p.cubs
       → i < (life_in h w).count c
       → (life_in h w).input c i ≡ Take stamp link (msg.ViewerState (record { tenancy = t; visit = m }))
-      → CameInOrder p (life_in h w) (beyond_of p orders h) c i t m stamp.beat
+      → CameInOrder p (life_in h w) (beyond_with p orders added h) c i t m stamp.beat
   states w c i stamp link t m small low e =
       let s : State = record { tenancy = t; visit = m } in
       let f = came_from plan ring w c i stamp link (msg.ViewerState s) (cub_inside plan ring c small) low e in
@@ -152,7 +153,7 @@ module _ {S : Type 0} {step : S → Input Msg → Deed Msg S} {p : Params} {orde
         later = f.later;
         soon = f.soon;
         behind = λ v s q x told le one.
-            let here = subst (λ y. IsInOneLife (beyond_of p orders h) c x y) (sym now) one in
+            let here = subst (λ y. IsInOneLife (beyond_with p orders added h) c x y) (sym now) one in
             ⊎_elim
             (λ k. told_before w First f small low n.way ticks k le here)
             (λ k. told_before w Later f small low n.way ticks k le here)
@@ -160,7 +161,7 @@ module _ {S : Type 0} {step : S → Input Msg → Deed Msg S} {p : Params} {orde
       }
 
   -- What cubs take is in form and in order.
-  pub in_order : (w : WhichLife) → AreInOrder p (life_in h w) (beyond_of p orders h) orders
+  pub in_order : (w : WhichLife) → AreInOrder p (life_in h w) (beyond_with p orders added h) orders
   in_order w = record {
     lived = lived plan ring w;
     started = are_starts plan ring w;

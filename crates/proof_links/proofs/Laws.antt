@@ -3,9 +3,11 @@ use Rattle.std.proofs.Common.{⊎_elim}
 use Rattle.proof_facts.specs.Facts.{facts_of}
 use Rattle.proof_lives.specs.TwoLifeRun.WhichLife.{First, Later}
 use Rattle.proof_schedule.specs.LinkLaws.{LinkLaws}
-use Rattle.proof_links.specs.Statements.{CubsAreToldInOrder, DisksAnswerAsks, HistoriesHaveTwoLives, LinksMeetTheLaws, MessagesComeInOrder, ReturnsMeetTheLaws}
+use Rattle.proof_links.specs.Statements.{CubsAreToldInOrder, DisksAnswerAsks, HistoriesCarryAdditions, HistoriesHaveTwoLives, LinksMeetTheLaws, MessagesComeInOrder, ReturnsMeetTheLaws}
+use Rattle.proof_links.proofs.Added.{pieces_are_carried}
 use Rattle.proof_links.proofs.Asking.{disks_answer}
 use Rattle.proof_links.proofs.InOrder.{in_order}
+use Rattle.proof_links.proofs.Nodes.{added_is}
 use Rattle.proof_links.proofs.Returning.{return_laws}
 use Rattle.proof_links.proofs.Running.{run_laws}
 use Rattle.proof_links.proofs.Stops.{stop_laws}
@@ -16,7 +18,7 @@ use Rattle.proof_links.proofs.Telling.{cubs_are_told}
 use Rattle.proof_links.proofs.TwoLives.{blocks_of_two_lives, pieces_of_two_lives, two_lives}
 
 pub links_meet_the_laws : (S : Type 0) → LinksMeetTheLaws S
-links_meet_the_laws S step p orders disk_at h plan ring =
+links_meet_the_laws S step p orders disk_at added h plan ring =
     let links : LinkLaws p (facts_of p orders h) = record {
       carried = λ g. carried plan ring g;
       arrives = λ c b s to w life late. arrives plan ring c b s to w life late;
@@ -39,20 +41,24 @@ links_meet_the_laws S step p orders disk_at h plan ring =
     }
 
 pub returns_meet_the_laws : (S : Type 0) → ReturnsMeetTheLaws S
-returns_meet_the_laws S step p orders disk_at h plan ring = return_laws plan ring
+returns_meet_the_laws S step p orders disk_at added h plan ring = return_laws plan ring
 
 pub messages_come_in_order : (S : Type 0) → MessagesComeInOrder S
-messages_come_in_order S step p orders disk_at h plan ring = in_order plan ring
+messages_come_in_order S step p orders disk_at added h plan ring = in_order plan ring
 
 pub cubs_are_told_in_order : (S : Type 0) → CubsAreToldInOrder S
-cubs_are_told_in_order S step p orders disk_at h plan ring = cubs_are_told plan ring
+cubs_are_told_in_order S step p orders disk_at added h plan ring = cubs_are_told plan ring
 
 pub disks_answer_asks : (S : Type 0) → DisksAnswerAsks S
-disks_answer_asks S step p orders disk_at h plan ring = disks_answer plan ring
+disks_answer_asks S step p orders disk_at added h plan ring = disks_answer plan ring
 
 pub histories_have_two_lives : (S : Type 0) → HistoriesHaveTwoLives S
-histories_have_two_lives S step p orders disk_at h plan ring = record {
+histories_have_two_lives S step p orders disk_at added h plan ring = record {
   facts = two_lives plan ring;
   pieces = pieces_of_two_lives plan ring;
   blocks = blocks_of_two_lives plan ring disk_at;
 }
+
+pub histories_carry_additions : (S : Type 0) → HistoriesCarryAdditions S
+histories_carry_additions S step p orders disk_at added h plan ring =
+    record { are = λ a. added_is plan ring a; carried = pieces_are_carried plan ring }

@@ -1,3 +1,4 @@
+pub mod Added
 pub mod Asking
 pub mod Beating
 pub mod Carrying

@@ -37,14 +37,15 @@ use Rattle.proof_lives.proofs.TwoLives.{beat_in, begins_anew, cut_in_run, has_ac
 use Rattle.lists.proofs.Each.{all_in}
 use Rattle.proof_service.specs.ServiceFacts.{serves_from}
 use Rattle.proof_controller.specs.Controllers.{controller, known_at}
+use Rattle.proof_facts.specs.Beside.{AddedAt, Additions, IsAddition}
 use Rattle.proof_facts.specs.Facts.{ToldBack}
 use Rattle.proof_facts.specs.Lives.{lives_of, DiedAt}
-use Rattle.proof_facts.specs.Rings.{IsRingHistory, node_count, node_of_disk, return_outs, viewers}
+use Rattle.proof_facts.specs.Rings.{IsRingWith, node_count, node_of_disk, return_outs, viewers}
 use Rattle.proof_links.proofs.Lives.{EndsInDeath, LivesOn, lives_or_dies}
-use Rattle.proof_links.proofs.Sending.{IsBack, IsOfCub, IsOfController, IsAnswer, cub_sends, disk_sends, command_sends}
+use Rattle.proof_links.proofs.Sending.{IsBack, IsOfCub, IsOfController, IsAnswer, cub_sends, disk_sends, command_sends, is_added, of_added}
 
 module _ {S : Type 0} {step : S → Input Msg → Deed Msg S} {p : Params} {orders : List Order} {disk_at : ℕ → DiskState}
-    {h : History Msg S} (plan : IsPlan p) (ring : IsRingHistory step p orders disk_at h) where
+    {added : Additions} {h : History Msg S} (plan : IsPlan p) (ring : IsRingWith step p orders disk_at added h) where
   abbrev lives : Lives
   lives = lives_of h
 
@@ -231,8 +232,9 @@ module _ {S : Type 0} {step : S → Input Msg → Deed Msg S} {p : Params} {orde
     pub is : e ≡ event_in h Later c 0
     pub did : In o (return_outs p c ((later_lives_of h).input c) 0)
 
+  -- Else it was added there.
   pub by_rules : (c e : ℕ) (o : Out Msg) → c < p.cubs → e < h.count c → In o (outs noted step h c e)
-      → ((w : WhichLife) × PutOut w c e o) ⊎ PutOutBack c e o
+      → ((w : WhichLife) × PutOut w c e o) ⊎ (PutOutBack c e o ⊎ AddedAt p lives added c o (beat h c e))
   by_rules c e o small low k =
       let q = of_life ring.run c (cub_inside c small) e low (outs_act c e o k) in
       by_life q.which q.at q.done q.is
@@ -243,22 +245,20 @@ module _ {S : Type 0} {step : S → Input Msg → Deed Msg S} {p : Params} {orde
       behind (suc at) done is i = absurd i
 
       by_life : (w : WhichLife) (at : ℕ) → at < (life_in h w).count c → e ≡ event_in h w c at
-          → ((w : WhichLife) × PutOut w c e o) ⊎ PutOutBack c e o
-      by_life First at done is = inl (
-        First,
-        record {
-          at = at;
-          done = done;
-          is = is;
-          did = subst (λ (os : List (Out Msg)). In o os) (ring.rules.cubs c at small done)
-              (subst (λ n. In o (outs noted step h c n)) is k);
-        },
-      )
+          → ((w : WhichLife) × PutOut w c e o) ⊎ (PutOutBack c e o ⊎ AddedAt p lives added c o (beat h c e))
+      by_life First at done is =
+          let both = subst (λ (os : List (Out Msg)). In o os) (ring.rules.cubs c at small done)
+          (subst (λ n. In o (outs noted step h c n)) is k) in
+          let same : beat h c e ≡ beat_at (lives.input c) at = ap (beat h c) is ∙ beat_in h First c at in
+          ⊎_elim
+          (λ i. inl (First, record { at = at; done = done; is = is; did = i }))
+          (λ i. inr (inr (record { small = small; at = at; done = done; in_beat = sym same; did = i })))
+          (in_cases o (outs_in p lives c at) (added c at) both)
       by_life Later at done is =
           let both = subst (λ (os : List (Out Msg)). In o os) (ring.rules.back c at small done)
           (subst (λ n. In o (outs noted step h c n)) is k) in
           ⊎_elim
-          (λ i. inr (behind at done is i))
+          (λ i. inr (inl (behind at done is i)))
           (λ i. inl (Later, record { at = at; done = done; is = is; did = i }))
           (in_cases o (return_outs p c ((later_lives_of h).input c) at) (outs_in p (later_lives_of h) c at) both)
 
@@ -266,7 +266,8 @@ module _ {S : Type 0} {step : S → Input Msg → Deed Msg S} {p : Params} {orde
   pub did_it : (w : WhichLife) {c x : ℕ} {o : Out Msg} (d : DidAt p (life_in h w) c o x)
       → In o (outs noted step h c (event_in h w c d.at))
   did_it First {c} {x} {o} d =
-      subst (λ (os : List (Out Msg)). In o os) (sym (ring.rules.cubs c d.at d.small d.done)) d.did
+      subst (λ (os : List (Out Msg)). In o os) (sym (ring.rules.cubs c d.at d.small d.done))
+      (in_left o (outs_in p lives c d.at) (added c d.at) d.did)
   did_it Later {c} {x} {o} d =
       subst (λ (os : List (Out Msg)). In o os) (sym (ring.rules.back c d.at d.small d.done))
       (in_right o (return_outs p c ((later_lives_of h).input c) d.at) (outs_in p (later_lives_of h) c d.at) d.did)
@@ -274,6 +275,21 @@ module _ {S : Type 0} {step : S → Input Msg → Deed Msg S} {p : Params} {orde
   pub did_in : (w : WhichLife) {c x : ℕ} {o : Out Msg} (d : DidAt p (life_in h w) c o x)
       → (event_in h w c d.at < h.count c) × (beat h c (event_in h w c d.at) ≡ x)
   did_in w {c} d = ((before w c d.at (cub_inside c d.small) d.done).done, beat_in h w c d.at ∙ d.in_beat)
+
+  -- So is what was added, which is a mirror state or a kill that goes ahead.
+  pub added_is : {c x : ℕ} {o : Out Msg} → AddedAt p lives added c o x → IsAddition p c o
+  added_is {c} {x} {o} a =
+      all_in (IsAddition p c) o (added c a.at) (ring.rules.few c a.at a.small a.done) a.did
+
+  pub added_out : {c x : ℕ} {o : Out Msg} (a : AddedAt p lives added c o x)
+      → (event_in h First c a.at < h.count c) × (beat h c (event_in h First c a.at) ≡ x)
+      × In o (outs noted step h c (event_in h First c a.at))
+  added_out {c} {x} {o} a = (
+    (before First c a.at (cub_inside c a.small) a.done).done,
+    beat_in h First c a.at ∙ a.in_beat,
+    subst (λ (os : List (Out Msg)). In o os) (sym (ring.rules.cubs c a.at a.small a.done))
+        (in_right o (outs_in p lives c a.at) (added c a.at) a.did),
+  )
 
   -- What it puts out at a return tells its successor of that.
   pub told_back : (c e : ℕ) (link : LinkNo) (m : Msg) → c < p.cubs → PutOutBack c e (out.Send link m)
@@ -340,8 +356,12 @@ module _ {S : Type 0} {step : S → Input Msg → Deed Msg S} {p : Params} {orde
       let x = q.1 in
       inl (cub_sends p n (ls.input n x.at) (store_at p n (ls.input n) x.at) way m
       (was_put_out p ls n x.at (out.Send way m) x.did)))
+      (λ q. ⊎_elim
       (λ (b : PutOutBack n i (out.Send way m)).
       inr (subst IsBack (sym (told_back n i way m small b).is) tt))
+      (λ (a : AddedAt p lives added n (out.Send way m) (beat h n i)).
+      inl (of_added m (is_added p n way m (added_is a))).0)
+      q)
       (by_rules n i (out.Send way m) small low k)
 
   -- Each message that a node sends is sent so.

@@ -46,8 +46,9 @@ use Rattle.proof_controller.proofs.Places.{place_in}
 use Rattle.proof_controller.proofs.StartsOnce.{once_nothing}
 use Rattle.proof_controller.specs.Orders.{IsOnce, StartAt, AreCounted}
 use Rattle.proof_controller.proofs.Commands.{commanding_once, way_low}
+use Rattle.proof_facts.specs.Beside.{Additions}
 use Rattle.proof_facts.specs.Lives.{lives_of}
-use Rattle.proof_facts.specs.Rings.{IsRingHistory}
+use Rattle.proof_facts.specs.Rings.{IsRingWith}
 use Rattle.proof_links.proofs.Carrying.{Came, SentAs, came_from, commanded_before, from_controller, from_either, number_of, numbers_rise, dated, sent_in_life}
 use Rattle.proof_links.proofs.Deschedules.{by_cub}
 use Rattle.proof_links.proofs.Nodes.{after_tick, before, controller_inside, cub_inside, stays, takes_at, ticks_at}
@@ -110,7 +111,7 @@ start_ahead p orders stamp known way b place v a x counted seen ordered same sta
     g.ahead q.0 (at_beat stamp.beat (Begin a)) a way x q.1 q.2 refl start refl
 
 module _ {S : Type 0} {step : S → Input Msg → Deed Msg S} {p : Params} {orders : List Order} {disk_at : ℕ → DiskState}
-    {h : History Msg S} (plan : IsPlan p) (ring : IsRingHistory step p orders disk_at h) where
+    {added : Additions} {h : History Msg S} (plan : IsPlan p) (ring : IsRingWith step p orders disk_at added h) where
   abbrev lives : Lives
   lives = lives_of h
 

@@ -32,19 +32,20 @@ use Rattle.proof_lives.proofs.States.{stamp_made}
 use Rattle.proof_lives.proofs.TwoLives.{begins_anew}
 use Rattle.proof_service.specs.ServiceFacts.{serves_from}
 use Rattle.proof_service.specs.ServiceLaws.{TookBackBy, WasBack}
+use Rattle.proof_facts.specs.Beside.{AddedAt, Additions}
 use Rattle.proof_facts.specs.Blocks.{TookBackAt}
-use Rattle.proof_facts.specs.Facts.{ToldBack, beyond_of, blocks_of, facts_of}
+use Rattle.proof_facts.specs.Facts.{ToldBack, beyond_with, blocks_of, facts_of}
 use Rattle.proof_facts.specs.Laws.{ReturnLaws}
 use Rattle.proof_facts.specs.Lives.{lives_of, CameAt}
-use Rattle.proof_facts.specs.Rings.{IsRingHistory}
+use Rattle.proof_facts.specs.Rings.{IsRingWith}
 use Rattle.proof_links.proofs.Carrying.{from_cub, reaches_near, sends_as, sends_there, tick_in, took_from}
 use Rattle.proof_links.proofs.Fitting.{before_return}
-use Rattle.proof_links.proofs.Nodes.{cub_inside, lived}
+use Rattle.proof_links.proofs.Nodes.{added_is, cub_inside, lived}
 use Rattle.proof_links.proofs.Running.{return_is}
-use Rattle.proof_links.proofs.Sending.{cub_sends}
+use Rattle.proof_links.proofs.Sending.{cub_sends, is_added}
 
 module _ {S : Type 0} {step : S → Input Msg → Deed Msg S} {p : Params} {orders : List Order} {disk_at : ℕ → DiskState}
-    {h : History Msg S} (plan : IsPlan p) (ring : IsRingHistory step p orders disk_at h) where
+    {added : Additions} {h : History Msg S} (plan : IsPlan p) (ring : IsRingWith step p orders disk_at added h) where
   -- ---- the tick of a return
 
   -- No death cuts off an event of a later life.
@@ -104,14 +105,14 @@ module _ {S : Type 0} {step : S → Input Msg → Deed Msg S} {p : Params} {orde
 
   -- A cub that comes back tells its successor in time from when on it serves.
   back_arrives : {d x l : ℕ} (c b : ℕ) → BeganLate p (later_lives_of h) d x → (facts_of p orders h).Ticked d x l
-      → c ≡ cub_of p (d + 1) → CameAt p h c b → IsInOneLife (beyond_of p orders h) c x b → x + p.delay ≤ b
+      → c ≡ cub_of p (d + 1) → CameAt p h c b → IsInOneLife (beyond_with p orders added h) c x b → x + p.delay ≤ b
       → TookBackBy (blocks_of p h disk_at) c (serves_from p l) (x + p.delay)
   back_arrives {d} {x} {l} c b back ticked to came one late =
       let from : ℕ = serves_from p (reading_at ((later_lives_of h).input d) 0) in
       let told : ToldBack p (later_lives_of h) d (way_ahead p d 1) (msg.Back from) x =
       record { late = back; way = refl; is = refl } in
       let t = tick_in plan ring came in
-      let r = reaches_near plan ring t.which c b (sends_as plan ring (inr (inr told))) back.small (inl refl) to t.tick one late in
+      let r = reaches_near plan ring t.which c b (sends_as plan ring (inr (inr (inl told)))) back.small (inl refl) to t.tick one late in
       let same : from ≡ serves_from p l = ap (λ n. serves_from p n) (sym (same_reading back ticked)) in
       record {
         beat = r.beat;
@@ -138,6 +139,7 @@ module _ {S : Type 0} {step : S → Input Msg → Deed Msg S} {p : Params} {orde
       let ls : Lives = life_in h q.which in
       absurd (cub_sends p f.from (ls.input f.from q.did.at) (store_at p f.from (ls.input f.from) q.did.at) g.took.link
       (msg.Back from) (was_put_out p ls f.from q.did.at (out.Send g.took.link (msg.Back from)) q.did.did)))
+      (λ r. ⊎_elim
       (λ (b : ToldBack p (later_lives_of h) f.from g.took.link (msg.Back from) (beat h f.from f.at)).
       let told : ToldBack p (later_lives_of h) d g.took.link (msg.Back from) (beat h f.from f.at) =
       subst (λ n. ToldBack p (later_lives_of h) n g.took.link (msg.Back from) (beat h f.from f.at)) (sym who) b in
@@ -149,6 +151,9 @@ module _ {S : Type 0} {step : S → Input Msg → Deed Msg S} {p : Params} {orde
         is_from = same_back from (serves_from p (reading_at ((later_lives_of h).input d) 0)) told.is;
         later = f.later;
       })
+      (λ (a : AddedAt p (lives_of h) added f.from (out.Send g.took.link (msg.Back from)) (beat h f.from f.at)).
+      absurd (is_added p f.from g.took.link (msg.Back from) (added_is plan ring a)))
+      r)
       (sends_there plan ring f.from f.at g.took.link (msg.Back from) own f.note.done f.sent)
     where
       same_back : (a b : ℕ) → msg.Back a ≡ msg.Back b → a ≡ b

@@ -28,9 +28,10 @@ use Rattle.proof_lives.proofs.States.{stamp_made}
 use Rattle.proof_lives.proofs.TwoLives.{beat_in, begins_anew, reading_in}
 use Rattle.proof_schedule.specs.Facts.{Ended, IsFirstLife, LastReturn, LivedTo, DiedBy}
 use Rattle.proof_schedule.specs.RunLaws.{RunLaws}
-use Rattle.proof_facts.specs.Facts.{beyond_of, facts_of}
+use Rattle.proof_facts.specs.Beside.{Additions}
+use Rattle.proof_facts.specs.Facts.{beyond_with, facts_of}
 use Rattle.proof_facts.specs.Lives.{lives_of, CameAt, DiedAt}
-use Rattle.proof_facts.specs.Rings.{IsRingHistory, IsUpTo}
+use Rattle.proof_facts.specs.Rings.{IsRingWith, IsUpTo}
 use Rattle.proof_links.proofs.Lives.{EndsInDeath, LivesOn}
 use Rattle.proof_links.proofs.Carrying.{came_to, not_behind}
 use Rattle.proof_links.proofs.Nodes.{after_tick, all_act, before, began_late, cub_inside, how, is_up, lived, one_life, rises, ticks_at as tick_event, whole_alive}
@@ -43,7 +44,7 @@ no_back (Dies stamp) t b = absurd (cc)
 no_back (Returns stamp) t b = absurd (cc)
 
 module _ {S : Type 0} {step : S → Input Msg → Deed Msg S} {p : Params} {orders : List Order} {disk_at : ℕ → DiskState}
-    {h : History Msg S} (plan : IsPlan p) (ring : IsRingHistory step p orders disk_at h) where
+    {added : Additions} {h : History Msg S} (plan : IsPlan p) (ring : IsRingWith step p orders disk_at added h) where
   abbrev lives : Lives
   lives = lives_of h
 
@@ -239,7 +240,7 @@ module _ {S : Type 0} {step : S → Input Msg → Deed Msg S} {p : Params} {orde
   -- A life began by each beat that is of one life with an input of it.
   pub opened_by : (w : WhichLife) (c i b : ℕ) → c < p.cubs → i < (life_in h w).count c
       → b ≤ beat_at ((life_in h w).input c) i
-      → IsInOneLife (beyond_of p orders h) c b (beat_at ((life_in h w).input c) i)
+      → IsInOneLife (beyond_with p orders added h) c b (beat_at ((life_in h w).input c) i)
       → beat_at ((life_in h w).input c) 0 ≤ b
   opened_by First c i b small low le one = let z = first_opens c small (omega arith) in omega arith
   opened_by Later c i b small low le one =
@@ -253,13 +254,13 @@ module _ {S : Type 0} {step : S → Input Msg → Deed Msg S} {p : Params} {orde
 
   -- A cub that takes a message has ended each lower beat of that life.
   pub ended_before : (w : WhichLife) {c b y : ℕ} {m : Msg} → TookMessage p (life_in h w) c m y → b < y
-      → IsInOneLife (beyond_of p orders h) c b y → EndedIn w c b
+      → IsInOneLife (beyond_with p orders added h) c b y → EndedIn w c b
   ended_before w {c} {b} {y} {m} g low one =
       let inputs : ℕ → Input Msg = (life_in h w).input c in
       let yb : beat_at inputs g.at ≡ y = ap (λ (i : Input Msg). (stamp_of i).beat) g.is in
       let in_it = (lived plan ring w c g.small).in_beat g.at g.done in
       let from = opened_by w c g.at b g.small g.done (omega arith)
-      (subst (λ x. IsInOneLife (beyond_of p orders h) c b x) (sym yb) one) in
+      (subst (λ x. IsInOneLife (beyond_with p orders added h) c b x) (sym yb) one) in
       let done = g.done in
       ended_in w c b g.at g.small (omega arith) (λ j less. whole_early w c j (omega arith)) from (omega arith)
 

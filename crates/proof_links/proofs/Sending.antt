@@ -1,7 +1,10 @@
 -- Which messages each kind of node sends: cubs, disks and the controller.
 use Rattle.std.proofs.Common.{◌≡◌, ℕ, List, true, refl, sym, subst, ⊎_elim}
+use Rattle.tiger_base.specs.declared.number.Instance.{Instance}
 use Rattle.tiger_base.specs.declared.number.LinkNo.{LinkNo}
+use Rattle.tiger_base.specs.declared.number.SlotNo.{SlotNo}
 use Rattle.tiger_base.specs.declared.number.Stamp.{Stamp}
+use Rattle.tiger_base.specs.declared.tenancy.PieceState.{PieceState}
 use Rattle.tiger_base.specs.declared.tenancy.Want.{Want}
 use Rattle.tiger_base.specs.declared.message.Msg.{Msg}
 use Rattle.tiger_base.specs.declared.message.Msg.TheVariants as msg
@@ -14,7 +17,7 @@ use Rattle.node_kit.specs.declared.outbox.Out.TheVariants as out
 use Rattle.node_kit.specs.Form.{is_in_form}
 use Rattle.node_kit.specs.Steps.{Deed, Input, stamp_of}
 use Rattle.node_kit.specs.Steps.Input.{Take, Tick}
-use Rattle.node_kit.specs.Ways.{way_from_disk}
+use Rattle.node_kit.specs.Ways.{way_ahead, way_from_disk}
 use Rattle.node_kit.specs.Deeds.{nothing}
 use Rattle.cub_rules.specs.declared.store.Store.{Store}
 use Rattle.cub_changes.specs.Causes.{Cause, IsService}
@@ -33,6 +36,7 @@ use Rattle.lists.proofs.Elements.{chosen}
 use Rattle.lists.proofs.Each.{all_in}
 use Rattle.proof_controller.specs.Controllers.{command}
 use Rattle.proof_controller.proofs.Commands.{IsCommand, commanding_out}
+use Rattle.proof_facts.specs.Beside.{GoesAhead, IsAddition}
 
 -- messages that a cub may send in an event by which it does not come back, and a disk and the controller in any
 abbrev pub IsOfCub : Msg → Type 0
@@ -45,6 +49,19 @@ IsOfCub other = Unit {0}
 abbrev pub IsBack : Msg → Type 0
 IsBack (msg.Back from) = Unit {0}
 IsBack other = ⊥
+
+-- and what may be added
+abbrev pub IsAdded : Msg → Type 0
+IsAdded (msg.MirrorState x) = Unit {0}
+IsAdded (msg.Kill v s n) = Unit {0}
+IsAdded other = ⊥
+
+-- what it may send, though none of its lives tells of that: at a return, or as an addition
+abbrev pub IsBesideLives : Msg → Type 0
+IsBesideLives (msg.Back from) = Unit {0}
+IsBesideLives (msg.MirrorState x) = Unit {0}
+IsBesideLives (msg.Kill v s n) = Unit {0}
+IsBesideLives other = ⊥
 
 abbrev pub IsOfDisk : Msg → Type 0
 IsOfDisk (msg.ReadDone want part) = Unit {0}
@@ -77,6 +94,32 @@ pub cub_sends : (p : Params) (c : ℕ) (i : Input Msg) (h : Store) (link : LinkN
 cub_sends p c i h link m k =
     let why = cause_of p c i h (out.Send link m) k in
     subst IsOutOfCub (sym why.is) (form_of_cub p c (stamp_of i) why.form)
+
+-- What is added is sent ahead, and is such a message.
+ahead_added : (p : Params) (c : ℕ) (link : LinkNo) (m k : Msg) → GoesAhead p c (out.Send link m) k → IsAdded k → IsAdded m
+ahead_added p c link m k g may =
+    let goes : out.Send link m ≡ out.Send (way_ahead p c g.ahead) k = g.is in
+    let same : m ≡ k = cc in
+    subst IsAdded (sym same) may
+
+pub is_added : (p : Params) (c : ℕ) (link : LinkNo) (m : Msg) → IsAddition p c (out.Send link m) → IsAdded m
+is_added p c link m a = ⊎_elim
+    (λ (q : (x : PieceState) × GoesAhead p c (out.Send link m) (msg.MirrorState x)).
+    ahead_added p c link m (msg.MirrorState q.0) q.1 tt)
+    (λ (q : (v : Instance) × (s : SlotNo) × (n : ℕ) × GoesAhead p c (out.Send link m) (msg.Kill v s n)).
+    ahead_added p c link m (msg.Kill q.0 q.1 q.2) q.3 tt)
+    a
+
+-- A cub may send it, and no life need tell of that.
+pub of_added : (m : Msg) → IsAdded m → IsOfCub m × IsBesideLives m
+of_added (msg.MirrorState x) a = (tt, tt)
+of_added (msg.Kill v s n) a = (tt, tt)
+of_added other a = absurd a
+
+-- Nor need one tell of what is sent at a return.
+pub of_back : (m : Msg) → IsBack m → IsBesideLives m
+of_back (msg.Back from) b = tt
+of_back other b = absurd b
 
 beat_form : (p : Params) (c : ℕ) (stamp : Stamp) (f : Output) (link : LinkNo)
     → out.Send link msg.Heartbeat ≡ output p c stamp f → f ≡ HeartbeatSent

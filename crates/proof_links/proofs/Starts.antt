@@ -19,15 +19,16 @@ use Rattle.proof_lives.specs.Facts.{TookMessage}
 use Rattle.proof_lives.specs.TwoLifeRun.{WhichLife, life_in}
 use Rattle.proof_controller.specs.Controllers.{controller, known_at, GoneAt}
 use Rattle.proof_schedule.specs.LinkLaws.{WasBegun}
+use Rattle.proof_facts.specs.Beside.{Additions}
 use Rattle.proof_facts.specs.Facts.{BegunAt, facts_of}
 use Rattle.proof_facts.specs.Lives.{lives_of}
-use Rattle.proof_facts.specs.Rings.{IsRingHistory}
+use Rattle.proof_facts.specs.Rings.{IsRingWith}
 use Rattle.proof_links.proofs.Carrying.{commanded_before, from_controller, took_from}
 use Rattle.proof_links.proofs.Controllers.{begun_by}
 use Rattle.proof_links.proofs.Ordering.{at_beat, started_by, finished_by, ordered_once, ordered_before, place_of}
 
 module _ {S : Type 0} {step : S → Input Msg → Deed Msg S} {p : Params} {orders : List Order} {disk_at : ℕ → DiskState}
-    {h : History Msg S} (plan : IsPlan p) (ring : IsRingHistory step p orders disk_at h) where
+    {added : Additions} {h : History Msg S} (plan : IsPlan p) (ring : IsRingWith step p orders disk_at added h) where
   abbrev lives : Lives
   lives = lives_of h
 

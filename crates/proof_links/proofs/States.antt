@@ -28,9 +28,10 @@ use Rattle.proof_lives.proofs.States.{state_way}
 use Rattle.proof_schedule.specs.Facts.{GotBy, IsFirstLife}
 use Rattle.proof_schedule.specs.LinkLaws.{WasSent, HeardIn}
 use Rattle.proof_service.specs.ServiceLaws.{WasUp}
-use Rattle.proof_facts.specs.Facts.{beyond_of, facts_of}
+use Rattle.proof_facts.specs.Beside.{Additions}
+use Rattle.proof_facts.specs.Facts.{beyond_with, facts_of}
 use Rattle.proof_facts.specs.Lives.{CameAt}
-use Rattle.proof_facts.specs.Rings.{IsRingHistory}
+use Rattle.proof_facts.specs.Rings.{IsRingWith}
 use Rattle.proof_lives.proofs.TwoLives.{beat_in}
 use Rattle.proof_links.proofs.Beating.{beats_first}
 use Rattle.proof_links.proofs.Sending.{beat_at_tick}
@@ -39,7 +40,7 @@ use Rattle.proof_links.proofs.Nodes.{before, cub_inside, lived, ticks_at}
 use Rattle.proof_links.proofs.Fitting.{fits}
 
 module _ {S : Type 0} {step : S → Input Msg → Deed Msg S} {p : Params} {orders : List Order} {disk_at : ℕ → DiskState}
-    {h : History Msg S} (plan : IsPlan p) (ring : IsRingHistory step p orders disk_at h) where
+    {added : Additions} {h : History Msg S} (plan : IsPlan p) (ring : IsRingWith step p orders disk_at added h) where
   -- What a cub sent on the link to one of the next two cubs came to that cub.
   pub record SentNear (a c : ℕ) (link : LinkNo) : Type 0 where
     pub steps : ℕ
@@ -57,7 +58,7 @@ module _ {S : Type 0} {step : S → Input Msg → Deed Msg S} {p : Params} {orde
 
   -- What a cub took in a beat of a life was sent in that life of it.
   pub in_life : (w : WhichLife) {c y : ℕ} {m : Msg} (g : TookMessage p (life_in h w) c m y)
-      → IsInOneLife (beyond_of p orders h) c (beat h (took_from plan ring w g).from (took_from plan ring w g).at) y
+      → IsInOneLife (beyond_with p orders added h) c (beat h (took_from plan ring w g).from (took_from plan ring w g).at) y
   in_life w {c} {y} {m} g =
       sent_in_life plan ring w g.small g.done (ap (λ (i : Input Msg). (stamp_of i).beat) g.is) (took_from plan ring w g)
 
@@ -92,7 +93,7 @@ module _ {S : Type 0} {step : S → Input Msg → Deed Msg S} {p : Params} {orde
         to = n.to;
         later = d.later;
         soon = d.soon;
-        life = subst (λ x. IsInOneLife (beyond_of p orders h) c x y) (sym b.1) (in_life w g);
+        life = subst (λ x. IsInOneLife (beyond_with p orders added h) c x y) (sym b.1) (in_life w g);
       }
 
   pub carried : {c : ℕ} {t : Tenancy} {m y : ℕ} → (facts_of p orders h).Got c t m y → WasSent p (facts_of p orders h) c t m y
@@ -100,7 +101,7 @@ module _ {S : Type 0} {step : S → Input Msg → Deed Msg S} {p : Params} {orde
 
   -- A state that is sent comes in time.
   arrives_in : (v w : WhichLife) {a k : ℕ} {t : Tenancy} {m x : ℕ} (c b : ℕ) → SentAt p (life_in h v) a k t m x
-      → c ≡ cub_of p (a + k) → CameToTick p (life_in h w) c b → IsInOneLife (beyond_of p orders h) c x b → x + p.delay ≤ b
+      → c ≡ cub_of p (a + k) → CameToTick p (life_in h w) c b → IsInOneLife (beyond_with p orders added h) c x b → x + p.delay ≤ b
       → GotBy (facts_of p orders h) c t m (x + p.delay)
   arrives_in v w {a} {k} {t} {m} {x} c b s to tick one late =
       let r = reaches_near plan ring w c b (did_as plan ring v s.did) s.did.small s.ahead to tick one late in
@@ -113,7 +114,7 @@ module _ {S : Type 0} {step : S → Input Msg → Deed Msg S} {p : Params} {orde
       joined_got Later g = inr g
 
   pub arrives : {a k : ℕ} {t : Tenancy} {m x : ℕ} (c b : ℕ) → (facts_of p orders h).Sent a k t m x → c ≡ cub_of p (a + k)
-      → CameAt p h c b → IsInOneLife (beyond_of p orders h) c x b → x + p.delay ≤ b
+      → CameAt p h c b → IsInOneLife (beyond_with p orders added h) c x b → x + p.delay ≤ b
       → GotBy (facts_of p orders h) c t m (x + p.delay)
   arrives c b s to came one late =
       let t = tick_in plan ring came in
@@ -124,7 +125,7 @@ module _ {S : Type 0} {step : S → Input Msg → Deed Msg S} {p : Params} {orde
 
   -- A heartbeat that is sent comes in time.
   heard_in : (v w : WhichLife) {a x : ℕ} (c b : ℕ) → DidAt p (life_in h v) a (out.Send (way_ahead p a 1) msg.Heartbeat) x
-      → c ≡ cub_of p (a + 1) → CameToTick p (life_in h w) c b → IsInOneLife (beyond_of p orders h) c x b → x + p.delay ≤ b
+      → c ≡ cub_of p (a + 1) → CameToTick p (life_in h w) c b → IsInOneLife (beyond_with p orders added h) c x b → x + p.delay ≤ b
       → HeardIn (facts_of p orders h) c x (x + p.delay)
   heard_in v w {a} {x} c b d to tick one late =
       let r = reaches_near plan ring w c b (did_as plan ring v d) d.small (inl refl) to tick one late in
@@ -144,7 +145,7 @@ module _ {S : Type 0} {step : S → Input Msg → Deed Msg S} {p : Params} {orde
       joined_heard Later g = inr g
 
   pub heard : {a x : ℕ} (c b : ℕ) → (facts_of p orders h).Beat a x → c ≡ cub_of p (a + 1) → CameAt p h c b
-      → IsInOneLife (beyond_of p orders h) c x b → x + p.delay ≤ b
+      → IsInOneLife (beyond_with p orders added h) c x b → x + p.delay ≤ b
       → HeardIn (facts_of p orders h) c x (x + p.delay)
   heard c b d to came one late =
       let t = tick_in plan ring came in
@@ -161,7 +162,7 @@ module _ {S : Type 0} {step : S → Input Msg → Deed Msg S} {p : Params} {orde
       let inputs : ℕ → Input Msg = (life_in h w).input c in
       let sent = was_put_out p (life_in h w) c d.at (out.Send link msg.Heartbeat) d.did in
       let none = beats_first p c (inputs d.at) (store_at p c inputs d.at) link sent in
-      let first = first_by_store p (life_in h w) (beyond_of p orders h) (lived plan ring w) (fits plan ring w) c d.at d.at d.small
+      let first = first_by_store p (life_in h w) (beyond_with p orders added h) (lived plan ring w) (fits plan ring w) c d.at d.at d.small
       d.done none in (
         record {
           small = d.small;

@@ -14,13 +14,14 @@ use Rattle.proof_lives.proofs.Fitting.{as_tick}
 use Rattle.proof_lives.proofs.Returns.{died, later_whole, open_later}
 use Rattle.proof_lives.proofs.TwoLives.{cut_in_run}
 use Rattle.proof_schedule.specs.Facts.{Ended}
+use Rattle.proof_facts.specs.Beside.{Additions}
 use Rattle.proof_facts.specs.Facts.{facts_of}
-use Rattle.proof_facts.specs.Rings.{IsRingHistory, IsUpTo}
+use Rattle.proof_facts.specs.Rings.{IsRingWith, IsUpTo}
 use Rattle.proof_links.proofs.Nodes.{cub_inside}
 use Rattle.proof_links.proofs.Running.{ended_in, readings_rise, return_is}
 
 module _ {S : Type 0} {step : S → Input Msg → Deed Msg S} {p : Params} {orders : List Order} {disk_at : ℕ → DiskState}
-    {h : History Msg S} (plan : IsPlan p) (ring : IsRingHistory step p orders disk_at h) where
+    {added : Additions} {h : History Msg S} (plan : IsPlan p) (ring : IsRingWith step p orders disk_at added h) where
   -- ---- ticks
 
   -- A node that came back is up: it dies once.

@@ -42,9 +42,10 @@ use Rattle.proof_controller.proofs.Knowing.{known_told}
 use Rattle.proof_controller.proofs.Placings.{put_tells}
 use Rattle.proof_schedule.specs.Facts.{DiedBy, LivedTo}
 use Rattle.proof_schedule.specs.StopLaws.{StopLaws}
+use Rattle.proof_facts.specs.Beside.{Additions}
 use Rattle.proof_facts.specs.Facts.{facts_of}
 use Rattle.proof_facts.specs.Lives.{lives_of, DiedAt}
-use Rattle.proof_facts.specs.Rings.{IsRingHistory}
+use Rattle.proof_facts.specs.Rings.{IsRingWith}
 use Rattle.proof_links.proofs.Carrying.{delivered, did_as}
 use Rattle.proof_links.proofs.Controllers.{beat_of, before_tick, done_of, gone_of, gone_once, how, one_place, one_way, place, stop_in, stop_is, tick_ends, waiting}
 use Rattle.proof_links.proofs.Nodes.{controller_inside, cub_inside, did_in, did_it, formed_at, immortal, is_up, whole_or_died}
@@ -57,7 +58,7 @@ is_backup p c Own n plan mine next =
 is_backup p c Backup n plan mine next = refl
 
 module _ {S : Type 0} {step : S → Input Msg → Deed Msg S} {p : Params} {orders : List Order} {disk_at : ℕ → DiskState}
-    {h : History Msg S} (plan : IsPlan p) (ring : IsRingHistory step p orders disk_at h) where
+    {added : Additions} {h : History Msg S} (plan : IsPlan p) (ring : IsRingWith step p orders disk_at added h) where
   abbrev lives : Lives
   lives = lives_of h
 

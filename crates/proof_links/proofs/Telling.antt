@@ -18,9 +18,10 @@ use Rattle.proof_lives.specs.TwoLifeRun.{WhichLife, event_in, life_in}
 use Rattle.lists.specs.Elements.{In}
 use Rattle.proof_lives.specs.FactsBy.{CameToTick, IsInOneLife}
 use Rattle.proof_lives.proofs.Carrying.{same_ends}
+use Rattle.proof_facts.specs.Beside.{Additions}
 use Rattle.proof_facts.specs.Carried.{CameAhead, CubsAreTold, Leads, TookInOrder, WasSentBy, WasSentSince}
-use Rattle.proof_facts.specs.Facts.{beyond_of}
-use Rattle.proof_facts.specs.Rings.{IsRingHistory}
+use Rattle.proof_facts.specs.Facts.{beyond_with}
+use Rattle.proof_facts.specs.Rings.{IsRingWith}
 use Rattle.proof_links.proofs.Carrying.{SentIn, beyond_sends, came_from, from_cub, number_of, numbers_rise, reaches, sends_as, sends_small, sent_in_life}
 use Rattle.proof_links.proofs.Nodes.{cub_inside, rises}
 use Rattle.proof_links.proofs.Once.{behind_it}
@@ -28,18 +29,18 @@ use Rattle.proof_links.proofs.Sending.{IsOfController, IsOfDisk}
 use Rattle.proof_links.proofs.Ways.{is_ahead}
 
 module _ {S : Type 0} {step : S → Input Msg → Deed Msg S} {p : Params} {orders : List Order} {disk_at : ℕ → DiskState}
-    {h : History Msg S} (plan : IsPlan p) (ring : IsRingHistory step p orders disk_at h) where
+    {added : Additions} {h : History Msg S} (plan : IsPlan p) (ring : IsRingWith step p orders disk_at added h) where
   -- What came on a link from a cub was sent by it.
   sent_by : (w : WhichLife) (a c i : ℕ) (stamp : Stamp) (link : LinkNo) (m : Msg) → Leads p link a c → a < p.cubs
       → c < p.cubs → i < (life_in h w).count c → (life_in h w).input c i ≡ Take stamp link m
-      → WasSentBy p (beyond_of p orders h) a c link m stamp.beat
+      → WasSentBy p (beyond_with p orders added h) a c link m stamp.beat
   sent_by w a c i stamp link m leads own small low e =
       let f = came_from plan ring w c i stamp link m (cub_inside plan ring c small) low e in
       let who : f.from ≡ a = (same_ends f.from c a c (sym f.ends ∙ leads)).0 in
       let from : f.from < p.cubs = subst (λ n. n < p.cubs) (sym who) own in
       record {
         beat = beat h f.from f.at;
-        sent = subst (λ n. (beyond_of p orders h).Sends n link m (beat h f.from f.at)) who
+        sent = subst (λ n. (beyond_with p orders added h).Sends n link m (beat h f.from f.at)) who
             (beyond_sends plan ring f.from f.at link m from f.note.done f.sent);
         later = f.later;
         soon = f.soon;
@@ -52,7 +53,7 @@ module _ {S : Type 0} {step : S → Input Msg → Deed Msg S} {p : Params} {orde
       → place link.0 h c (event_in h w c at) ≡ number_of plan ring a s.at s.place_there link
       → (t : Stamp) → (life_in h w).input c at ≡ Take t link m → at < i → i < (life_in h w).count c
       → (life_in h w).input c i ≡ Take stamp link o
-      → WasSentSince (beyond_of p orders h) a link o x
+      → WasSentSince (beyond_with p orders added h) a link o x
   since w a c x i at stamp link m o leads own small s number t is less low e =
       let f = came_from plan ring w c i stamp link o (cub_inside plan ring c small) low e in
       let who : f.from ≡ a = (same_ends f.from c a c (sym f.ends ∙ leads)).0 in
@@ -77,10 +78,10 @@ module _ {S : Type 0} {step : S → Input Msg → Deed Msg S} {p : Params} {orde
       }
 
   -- What a cub sends another comes in time and in order.
-  told_in_order : (w : WhichLife) (a c x b : ℕ) (link : LinkNo) (m : Msg) → (beyond_of p orders h).Sends a link m x
-      → Leads p link a c → c < p.cubs → CameToTick p (life_in h w) c b → IsInOneLife (beyond_of p orders h) c x b
+  told_in_order : (w : WhichLife) (a c x b : ℕ) (link : LinkNo) (m : Msg) → (beyond_with p orders added h).Sends a link m x
+      → Leads p link a c → c < p.cubs → CameToTick p (life_in h w) c b → IsInOneLife (beyond_with p orders added h) c x b
       → x + p.delay ≤ b
-      → TookInOrder p (life_in h w) (beyond_of p orders h) a c link m x
+      → TookInOrder p (life_in h w) (beyond_with p orders added h) a c link m x
   told_in_order w a c x b link m sends leads small tick one late =
       let s = sends_as plan ring sends in
       let r = reaches plan ring w c b s leads tick one late in
@@ -101,7 +102,7 @@ module _ {S : Type 0} {step : S → Input Msg → Deed Msg S} {p : Params} {orde
   -- What only cubs may send came from a cub, which sent it some steps ahead.
   ahead : (w : WhichLife) (c i : ℕ) (stamp : Stamp) (link : LinkNo) (m : Msg) → (IsOfDisk m → ⊥) → (IsOfController m → ⊥)
       → c < p.cubs → i < (life_in h w).count c → (life_in h w).input c i ≡ Take stamp link m
-      → CameAhead p (beyond_of p orders h) c link m stamp.beat
+      → CameAhead p (beyond_with p orders added h) c link m stamp.beat
   ahead w c i stamp link m no_disk no_controller small low e =
       let f = came_from plan ring w c i stamp link m (cub_inside plan ring c small) low e in
       let own = from_cub plan ring f no_disk no_controller in
@@ -117,7 +118,7 @@ module _ {S : Type 0} {step : S → Input Msg → Deed Msg S} {p : Params} {orde
       }
 
   -- What the links between cubs bring.
-  pub cubs_are_told : (w : WhichLife) → CubsAreTold p (life_in h w) (beyond_of p orders h)
+  pub cubs_are_told : (w : WhichLife) → CubsAreTold p (life_in h w) (beyond_with p orders added h)
   cubs_are_told w = record {
     from = sent_by w;
     to = told_in_order w;

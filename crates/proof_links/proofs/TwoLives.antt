@@ -19,11 +19,12 @@ use Rattle.proof_lives.specs.TwoLifeRun.WhichLife.{First, Later}
 use Rattle.proof_lives.proofs.Order.{behind}
 use Rattle.proof_lives.proofs.TwoLives.{begins_anew}
 use Rattle.proof_schedule.specs.Facts.{IsFirstLife}
+use Rattle.proof_facts.specs.Beside.{Additions}
 use Rattle.proof_facts.specs.Blocks.{blocks_by}
 use Rattle.proof_facts.specs.Facts.{beyond_of, first_facts, later_facts}
 use Rattle.proof_facts.specs.Lives.{lives_of, CameAt}
 use Rattle.proof_facts.specs.Pieces.{pieces_by}
-use Rattle.proof_facts.specs.Rings.{IsRingHistory}
+use Rattle.proof_facts.specs.Rings.{IsRingWith}
 use Rattle.proof_facts.specs.TwoLives.{AreBlocksOfLives, AreBlocksOfTwoLives, AreOfLives, ArePiecesOfLives, ArePiecesOfTwoLives, AreTwoLives, CameBackBefore, CameBackBy}
 use Rattle.proof_links.proofs.Carrying.{tick_in}
 use Rattle.proof_links.proofs.Fitting.{before_return, since_return}
@@ -84,7 +85,7 @@ blocks_in_lives p lives disk_at In each = record {
 }
 
 module _ {S : Type 0} {step : S → Input Msg → Deed Msg S} {p : Params} {orders : List Order} {disk_at : ℕ → DiskState}
-    {h : History Msg S} (plan : IsPlan p) (ring : IsRingHistory step p orders disk_at h) where
+    {added : Additions} {h : History Msg S} (plan : IsPlan p) (ring : IsRingWith step p orders disk_at added h) where
   first_in : (c i : ℕ) → c < p.cubs → i < (lives_of h).count c
       → IsFirstLife (first_facts p orders h) c (beat_at ((lives_of h).input c) i)
   first_in c i small low w back = let early = before_return plan ring small low back in omega arith

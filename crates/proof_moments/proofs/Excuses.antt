@@ -24,7 +24,7 @@ use Rattle.proof_service.specs.Blocks as at_facts
 use Rattle.lists.specs.Elements.{In}
 use Rattle.proof_moments.specs.Ties.{StandsIn, IsLogged}
 use Rattle.proof_moments.proofs.Lists.{any_by, any_with, any_passes}
-use Rattle.proof_moments.specs.RecordedParcels.{Evidence, AreParcelsRecorded}
+use Rattle.proof_moments.specs.RecordedParcels.{Evidence, AreParcelsRecordedBut}
 use Rattle.proof_moments.proofs.Parcels.{journal_is}
 
 -- the list of a node of a number has its journal
@@ -57,8 +57,10 @@ return_is : (v : What) → at_journals.IsReturn v → v ≡ what.Returned
 return_is what.Returned h = refl
 return_is other h = absurd h
 
+-- Whatever the facts excuse.
 module _ (p : Params) (a : Evidence) (r : Facts) (q : PieceFacts) (w : ServiceFacts) (end : ℕ)
-    (g : AreParcelsRecorded p a r q w end) (t : Tenancy) (n : ℕ) where
+    {Excused : Tenancy → ℕ → Type 0}
+    (g : AreParcelsRecordedBut p a r q w end Excused) (t : Tenancy) (n : ℕ) where
   -- a death
   died : (c b : ℕ) (When : ℕ → Type 0) → r.Died c b → When (time_of p b) → at_journals.DiedAt p a.journals c When
   died c b When d h =
@@ -100,6 +102,13 @@ module _ (p : Params) (a : Evidence) (r : Facts) (q : PieceFacts) (w : ServiceFa
             t.instance.0 n j v) (sym k.is) (refl, refl, refl);
       }
 
+  -- stands in the journal of the cub
+  pub read_failed : (c j : ℕ) → at_facts.ReadFailed w end c t n j
+      → at_journals.ReadFailed a.journals c t.instance.0 n j
+  read_failed c j f =
+      let l = failed_entry c j f.beat f.failed in
+      own_journal a.journals c l.entry (λ e. at_journals.IsFailedRead t.instance.0 n j e.what) l.stands l.is
+
   lost : (j : ℕ) → 1 ≤ j → at_facts.PieceIsLost p r w end t n j → at_journals.PieceIsLost p a.journals t n j
   lost zero some h = absurd (omega arith)
   lost (suc k) some h = ⊎_elim
@@ -124,10 +133,7 @@ module _ (p : Params) (a : Evidence) (r : Facts) (q : PieceFacts) (w : ServiceFa
       ⊎ (at_journals.LostInPieces p a.journals t n ⊎ (at_journals.LostInDeath p a.journals t n
       ⊎ at_journals.WasStopped p a.journals t n))
   excuse h = ⊎_elim
-      (λ (f : at_facts.ReadFailed w end (cub_of p n) t n 0).
-      let l = failed_entry (cub_of p n) 0 f.beat f.failed in
-      inl (own_journal a.journals (cub_of p n) l.entry (λ e. at_journals.IsFailedRead t.instance.0 n 0 e.what)
-      l.stands l.is))
+      (λ (f : at_facts.ReadFailed w end (cub_of p n) t n 0). inl (read_failed (cub_of p n) 0 f))
       (λ more. ⊎_elim
       (λ (l : at_facts.LostInPieces p r w end t n). inr (inl (record {
         died = died (cub_of p n) l.beat (λ death. death + takeover p ≤ due p t.slot.0 n) l.died l.long;

@@ -27,7 +27,7 @@ use Rattle.proof_moments.proofs.Lists.{any_with}
 use Rattle.proof_moments.proofs.Orders.{noted_at}
 use Rattle.proof_moments.proofs.Bridge as bridge
 use Rattle.proof_moments.proofs.Free as free
-use Rattle.proof_moments.specs.RecordedParcels.{Evidence, AreParcelsRecorded}
+use Rattle.proof_moments.specs.RecordedParcels.{Evidence, AreParcelsRecordedBut}
 
 -- the disk of a piece is one of the plan's
 disk_inside : (p : Params) (n j : ℕ) → IsInRange p → disk_at p n j < disk_count p
@@ -47,7 +47,8 @@ has_part p c t n (suc k) m s few i none =
     absurd (cc)
 
 module _ (p : Params) (a : Evidence) (r : Facts) (q : PieceFacts) (w : ServiceFacts) (end : ℕ)
-    (g : AreParcelsRecorded p a r q w end) (beats : ℕ)
+    {Excused : Tenancy → ℕ → Type 0}
+    (g : AreParcelsRecordedBut p a r q w end Excused) (beats : ℕ)
     (front : List Noted) (x : Noted) (back : List Noted) (is_log : front ++ x ∷ back ≡ order_of beats a.journals) where
   true_failure : (v : What) → x.entry.what ≡ v → IsTrueFailure p a.faults (moment_at front) v
   unfolding moment_at
@@ -80,7 +81,7 @@ module _ (p : Params) (a : Evidence) (r : Facts) (q : PieceFacts) (w : ServiceFa
   true_failure other is = tt
 
 pub failures_are_true : (p : Params) (a : Evidence) (r : Facts) (q : PieceFacts) (w : ServiceFacts) (end : ℕ)
-    → AreParcelsRecorded p a r q w end → (beats : ℕ)
+    {Excused : Tenancy → ℕ → Type 0} → AreParcelsRecordedBut p a r q w end Excused → (beats : ℕ)
     → FailuresAreTrue p a.faults (order_of beats a.journals)
 failures_are_true p a r q w end g beats = (each_is_each_entry (λ m x. IsTrueFailure p a.faults m x.entry.what)
     (order_of beats a.journals)).1

@@ -26,7 +26,7 @@ use Rattle.proof_moments.specs.Ties.{StandsIn}
 use Rattle.proof_moments.proofs.Lists.{any_with}
 use Rattle.lists.proofs.Elements.{chosen, in_right, from_filter}
 use Rattle.proof_moments.specs.ParcelTies.{viewers, parcel}
-use Rattle.proof_moments.specs.RecordedParcels.{Evidence, AreParcelsRecorded}
+use Rattle.proof_moments.specs.RecordedParcels.{Evidence, AreParcelsRecordedBut}
 use Rattle.proof_moments.proofs.ParcelLists.{none_given, only_given, filter_given}
 use Rattle.proof_moments.proofs.Notes.{IsPart, whole_parcel, piece_parcel, parcel_is}
 use Rattle.proof_moments.proofs.Sends as sends
@@ -101,7 +101,8 @@ unfolding journal_at
 journal_is js n j at = ap (λ (o : Option (List Entry)). unwrap_or o []) at
 
 module _ (p : Params) (a : Evidence) (r : Facts) (q : PieceFacts) (w : ServiceFacts) (end : ℕ)
-    (g : AreParcelsRecorded p a r q w end) where
+    {Excused : Tenancy → ℕ → Type 0}
+    (g : AreParcelsRecordedBut p a r q w end Excused) where
   -- what the viewers got whole is piece 0, and a piece has a number from 1 on
   pub got_whole : (e : Entry) (x : Parcel) → StandsIn a.journals (viewers p) e → e.what ≡ what.Got x.link
       (note.Whole x.want x.sent x.span) → x.want.piece ≡ 0

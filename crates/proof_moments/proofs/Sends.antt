@@ -17,7 +17,7 @@ use Rattle.lists.specs.Elements.{In}
 use Rattle.proof_moments.specs.Ties.{StandsIn}
 use Rattle.lists.proofs.Elements.{in_right}
 use Rattle.proof_moments.specs.ParcelTies.{viewers, parcel, SendsParcel, IsServing}
-use Rattle.proof_moments.specs.RecordedParcels.{Evidence, AreParcelsRecorded}
+use Rattle.proof_moments.specs.RecordedParcels.{Evidence, AreParcelsRecordedBut}
 use Rattle.lists.proofs.Cuts.{which_first}
 use Rattle.proof_moments.proofs.Notes.{IsPart, whole_parcel, piece_parcel, numbered_parcel}
 
@@ -37,7 +37,8 @@ stands_behind : (js : List (List Entry)) (n : ℕ) (xs ys : List Entry) (e f : E
 stands_behind js n xs ys e f at i = record { journal = xs ++ e ∷ ys; at = at; there = in_right f xs (e ∷ ys) (inr i) }
 
 module _ (p : Params) (a : Evidence) (r : Facts) (q : PieceFacts) (w : ServiceFacts) (end : ℕ)
-    (g : AreParcelsRecorded p a r q w end) where
+    {Excused : Tenancy → ℕ → Type 0}
+    (g : AreParcelsRecordedBut p a r q w end Excused) where
   -- a note that was sent and carries a part was served
   pub serving : (n : ℕ) (e : Entry) (link : LinkNo) (m : Note) (want : Want) → StandsIn a.journals n e
       → e.what ≡ what.Sent link m → (k : IsPart m want)

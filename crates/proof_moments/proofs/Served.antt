@@ -1,6 +1,7 @@
 -- Each settled visit of a tenancy that was put is delivered or excused, and what the viewers got is of such a visit.
 use Rattle.std.proofs.Common.{◌≡◌, ℕ, zero, suc, ◌+◌, ◌*◌, ◌≤◌, false, refl, sym, ap, subst, ◌∙◌, arith, ⊎_elim, inl, inr}
 use Rattle.std.specs.Prelude.{◌==◌, ◌⊎◌, if◌then◌else◌}
+use Rattle.std.specs.List.{AllByRecursion}
 use Rattle.std.proofs.lemmas.Bool.{ne_eqb}
 use Rattle.tiger_base.specs.declared.number.LinkNo.{LinkNo}
 use Rattle.tiger_base.specs.declared.part.Span.{Span}
@@ -19,7 +20,7 @@ use Rattle.node_kit.specs.declared.journal.Entry.{Entry}
 use Rattle.run_facts.specs.Order.{Noted, order_of}
 use Rattle.run_model.specs.declared.parcels.Parcel.{Parcel}
 use Rattle.run_model.specs.Served.{IsPut, IsVisitOf, want_of_visit, WasSent, IsDelivered}
-use Rattle.run_model.specs.Excuses.{IsExcused}
+use Rattle.run_model.specs.Excuses.{IsExcused, WasStopped}
 use Rattle.run_claims.specs.Served.{IsServedIfPut, IsOfVisit, IsOfPutTenancy, IsOfPutIfViewers, AreServed}
 use Rattle.proof_schedule.specs.Facts.{Facts}
 use Rattle.proof_pieces.specs.PieceFacts.{PieceFacts, leave}
@@ -31,7 +32,7 @@ use Rattle.proof_moments.specs.Ties.{StandsIn}
 use Rattle.lists.proofs.Each.{all_by}
 use Rattle.proof_moments.proofs.Bridge as bridge
 use Rattle.proof_moments.specs.ParcelTies.{viewers, parcel}
-use Rattle.proof_moments.specs.RecordedParcels.{Evidence, AreParcelsRecorded}
+use Rattle.proof_moments.specs.RecordedParcels.{Evidence, AreParcelsRecorded, AreParcelsRecordedBut}
 use Rattle.proof_moments.proofs.Notes.{IsPart, whole_parcel, piece_parcel}
 use Rattle.proof_moments.proofs.Sends as sends
 use Rattle.proof_moments.proofs.Parcels as parcels
@@ -47,8 +48,15 @@ span_piece : (p : Params) (block : Span) (k : ℕ) → 1 ≤ k → span_at p blo
 span_piece p block zero some = absurd (omega arith)
 span_piece p block (suc k) some = refl
 
+-- A visit of a tenancy that was put was delivered, or the facts excuse it, or it was stopped.
+pub record IsServedBut (p : Params) (a : Evidence) (Excused : Tenancy → ℕ → Type 0) (t : Tenancy) (n : ℕ) : Type 0 where
+  pub visited : IsVisitOf a.journals t.instance.0 n t
+  pub how : IsDelivered p a.catalogue a.journals t.instance.0 n ⊎ (Excused t n ⊎ WasStopped p a.journals t n)
+
+-- Whatever the facts excuse.
 module _ (p : Params) (a : Evidence) (r : Facts) (q : PieceFacts) (w : ServiceFacts) (end : ℕ)
-    (g : AreParcelsRecorded p a r q w end) where
+    {Excused : Tenancy → ℕ → Type 0}
+    (g : AreParcelsRecordedBut p a r q w end Excused) where
   sent_piece : (k : ℕ) (t : Tenancy) (n : ℕ) (x : Parcel) → x.want ≡ want_of_visit t n k → 1 ≤ k
       → WasSent p a.journals (cub_of p (n + k)) x.link (parcel x.want x.sent x.span) x.sent (leave p t n k)
       → WasSent p a.journals (cub_of p (n + k)) x.link (note.Piece x.want x.sent x.span) x.sent
@@ -120,17 +128,19 @@ module _ (p : Params) (a : Evidence) (r : Facts) (q : PieceFacts) (w : ServiceFa
           });
         }
 
-    served : (beats : ℕ) → beats ≤ end + 1 → due p t.slot.0 n + 2 * p.play ≤ time_of p beats
-        → IsDelivered p a.catalogue a.journals t.instance.0 n ⊎ IsExcused p a.journals t.instance.0 n
-    served beats low settled = ⊎_elim
-        (λ stopped. inr (stop_excuses p a r q w end g t n visited stopped))
-        (λ on.
-        let mono = time_mono p beats (end + 1) low in
-        ⊎_elim
-        (λ d. inl (⊎_elim came_whole came_in_pieces d))
-        (λ e. inr (is_excused p a r q w end g t n visited e))
-        (g.blocks.served c x n t put first last (omega arith) on))
-        (stopped_or_not p a r q w end g t n)
+    served : (beats : ℕ) → beats ≤ end + 1 → due p t.slot.0 n + 2 * p.play ≤ time_of p beats → IsServedBut p a Excused t n
+    served beats low settled = record {
+      visited = visited;
+      how = ⊎_elim
+          (λ stopped. inr (inr stopped))
+          (λ on.
+          let mono = time_mono p beats (end + 1) low in
+          ⊎_elim
+          (λ d. inl (⊎_elim came_whole came_in_pieces d))
+          (λ e. inr (inl e))
+          (g.blocks.served c x n t put first last (omega arith) on))
+          (stopped_or_not p a r q w end g t n);
+    }
 
   -- what the viewers got is of a visit of what was put
   of_visit : (e : Entry) (link : LinkNo) (m : Note) (want : Want) → StandsIn a.journals (viewers p) e
@@ -163,12 +173,13 @@ module _ (p : Params) (a : Evidence) (r : Facts) (q : PieceFacts) (w : ServiceFa
     stands : (x : Noted) → In x (order_of beats a.journals) → StandsIn a.journals x.node x.entry
     stands x i = bridge.stands p r a.orders a.journals g.schedule beats x i
 
-    if_put : beats ≤ end + 1 → (x : Noted) → In x (order_of beats a.journals) → (v : What) → x.entry.what ≡ v
-        → IsServedIfPut p a.catalogue a.journals (time_of p beats) v
-    if_put low x i (what.Put t) is =
+    -- Each settled visit of a tenancy that the order puts is served, whatever the facts excuse.
+    pub served_if_put : beats ≤ end + 1 → (x : Noted) → In x (order_of beats a.journals) → (t : Tenancy)
+        → x.entry.what ≡ what.Put t → (n : ℕ) → t.first ≤ n → n ≤ t.last
+        → due p t.slot.0 n + 2 * p.play ≤ time_of p beats → IsServedBut p a Excused t n
+    served_if_put low x i t is n first last settled =
         let k = g.schedule.tells.put x.node x.entry t (stands x i) is in
-        λ n first last settled. served x.node x.entry.stamp.beat n t k.put first last beats low settled
-    if_put low x i other is = tt
+        served x.node x.entry.stamp.beat n t k.put first last beats low settled
 
     if_got : (x : Noted) → In x (order_of beats a.journals) → x.node ≡ viewers p → (v : What) → x.entry.what ≡ v
         → IsOfPutTenancy p a.catalogue a.journals v
@@ -187,10 +198,30 @@ module _ (p : Params) (a : Evidence) (r : Facts) (q : PieceFacts) (w : ServiceFa
     if_got x i node (what.Got link other) is = tt
     if_got x i node other is = tt
 
-    pub are_served : beats ≤ end + 1 → AreServed p a.catalogue a.journals (time_of p beats) (order_of beats a.journals)
-    are_served low = record {
-      settled = all_by (λ (x : Noted). IsServedIfPut p a.catalogue a.journals (time_of p beats) x.entry.what)
-          (order_of beats a.journals) (λ x i. if_put low x i x.entry.what refl);
-      got = all_by (IsOfPutIfViewers p a.catalogue a.journals) (order_of beats a.journals)
-          (λ x i node. if_got x i node x.entry.what refl);
-    }
+    -- All that the viewers got is of a tenancy that was put.
+    pub got_of_puts : AllByRecursion (IsOfPutIfViewers p a.catalogue a.journals) (order_of beats a.journals)
+    got_of_puts = all_by (IsOfPutIfViewers p a.catalogue a.journals) (order_of beats a.journals)
+        (λ x i node. if_got x i node x.entry.what refl)
+
+-- In a run in which cubs may die.
+module _ (p : Params) (a : Evidence) (r : Facts) (q : PieceFacts) (w : ServiceFacts) (end : ℕ)
+    (g : AreParcelsRecorded p a r q w end) (beats : ℕ) (low : beats ≤ end + 1) where
+  excused : (t : Tenancy) (n : ℕ) → IsServedBut p a (at_facts.IsExcused p r w end) t n
+      → IsDelivered p a.catalogue a.journals t.instance.0 n ⊎ IsExcused p a.journals t.instance.0 n
+  excused t n s = ⊎_elim
+      (λ d. inl d)
+      (λ e. inr (⊎_elim (is_excused p a r q w end g t n s.visited) (stop_excuses p a r q w end g t n s.visited) e))
+      s.how
+
+  if_put : (x : Noted) → In x (order_of beats a.journals) → (v : What) → x.entry.what ≡ v
+      → IsServedIfPut p a.catalogue a.journals (time_of p beats) v
+  if_put x i (what.Put t) is = λ n first last settled.
+      excused t n (served_if_put p a r q w end g beats low x i t is n first last settled)
+  if_put x i other is = tt
+
+  pub are_served : AreServed p a.catalogue a.journals (time_of p beats) (order_of beats a.journals)
+  are_served = record {
+    settled = all_by (λ (x : Noted). IsServedIfPut p a.catalogue a.journals (time_of p beats) x.entry.what)
+        (order_of beats a.journals) (λ x i. if_put x i x.entry.what refl);
+    got = got_of_puts p a r q w end g beats;
+  }

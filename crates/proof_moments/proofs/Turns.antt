@@ -4,6 +4,7 @@ use Rattle.std.specs.Prelude.{◌==◌, if◌then◌else◌}
 use Rattle.std.specs.List.{AllByRecursion}
 use Rattle.std.proofs.lemmas.Bool.{eqb-true}
 use Rattle.tiger_base.specs.declared.tenancy.Want.{Want}
+use Rattle.tiger_base.specs.declared.tenancy.Tenancy.{Tenancy}
 use Rattle.slot_plan.specs.declared.params.Params.{Params}
 use Rattle.run_facts.specs.Events.{Dated}
 use Rattle.run_facts.specs.Order.{Noted, beat_of, order_of}
@@ -18,13 +19,14 @@ use Rattle.lists.proofs.Elements.{chosen, from_flat_map}
 use Rattle.lists.proofs.Each.{all_by}
 use Rattle.proof_moments.proofs.Bridge as bridge
 use Rattle.proof_moments.specs.ParcelTies.{viewers}
-use Rattle.proof_moments.specs.RecordedParcels.{Evidence, AreParcelsRecorded}
+use Rattle.proof_moments.specs.RecordedParcels.{Evidence, AreParcelsRecordedBut}
 use Rattle.proof_moments.proofs.Notes.{got_is}
 use Rattle.proof_moments.proofs.Sends as sends
 use Rattle.proof_moments.proofs.Visits as visits
 
 module _ (p : Params) (a : Evidence) (r : Facts) (q : PieceFacts) (w : ServiceFacts) (end : ℕ)
-    (g : AreParcelsRecorded p a r q w end) (beats : ℕ) where
+    {Excused : Tenancy → ℕ → Type 0}
+    (g : AreParcelsRecordedBut p a r q w end Excused) (beats : ℕ) where
   -- what the viewers got
   got_of : (z : Noted) (x : Dated Want) → In x (if z.node == viewers p then got_by (beat_of z) z.entry.what else [])
       → (z.node ≡ viewers p) × In x (got_by (beat_of z) z.entry.what)

@@ -1,6 +1,6 @@
 -- A visit of a slot is of one instance, each read is asked for once, and a piece only after a death; and what is
 -- sent is sent in time.
-use Rattle.std.proofs.Common.{◌≡◌, ℕ, ◌+◌, ◌≤◌, List, ◌∷◌, ◌++◌, true, Some, refl, sym, ap, subst, ◌∙◌, arith, inl, inr}
+use Rattle.std.proofs.Common.{◌≡◌, ℕ, ◌+◌, ◌≤◌, List, ◌∷◌, ◌++◌, true, Some, refl, sym, ap, subst, ◌∙◌, arith, inl, inr, ⊎_elim}
 use Rattle.std.specs.List.{AllByRecursion}
 use Rattle.tiger_base.specs.declared.number.LinkNo.{LinkNo}
 use Rattle.tiger_base.specs.declared.part.Span.{Span}
@@ -21,7 +21,7 @@ use Rattle.run_model.proofs.Moments.{each_is_each_entry}
 use Rattle.run_claims.specs.Deliveries.{sent_by, sent_in}
 use Rattle.run_claims.specs.Visits.{AreOfOne, asks_same, IsOnlyAsk, IsAskForDead, AreServedOnce}
 use Rattle.proof_schedule.specs.Facts.{Facts}
-use Rattle.proof_pieces.specs.PieceFacts.{PieceFacts}
+use Rattle.proof_pieces.specs.PieceFacts.{NothingIsSpared, PieceFacts}
 use Rattle.proof_service.specs.ServiceFacts.{ServiceFacts}
 use Rattle.lists.specs.Elements.{In}
 use Rattle.proof_moments.specs.Ties.{StandsIn}
@@ -32,12 +32,13 @@ use Rattle.lists.proofs.Each.{all_by}
 use Rattle.proof_moments.proofs.Bridge as bridge
 use Rattle.proof_moments.proofs.Free as free
 use Rattle.proof_moments.specs.ParcelTies.{AsksDisk, IsServing, IsAsking}
-use Rattle.proof_moments.specs.RecordedParcels.{Evidence, AreParcelsRecorded}
+use Rattle.proof_moments.specs.RecordedParcels.{Evidence, AreParcelsRecordedBut}
 use Rattle.proof_moments.proofs.Notes.{sent_is, asks_same_is}
 use Rattle.proof_moments.proofs.Sends as sends
 
 module _ (p : Params) (a : Evidence) (r : Facts) (q : PieceFacts) (w : ServiceFacts) (end : ℕ)
-    (g : AreParcelsRecorded p a r q w end) (beats : ℕ) where
+    {Excused : Tenancy → ℕ → Type 0}
+    (g : AreParcelsRecordedBut p a r q w end Excused) (beats : ℕ) where
   stands : (z : Noted) → In z (order_of beats a.journals) → StandsIn a.journals z.node z.entry
   stands z i = bridge.stands p r a.orders a.journals g.schedule beats z i
 
@@ -143,11 +144,14 @@ module _ (p : Params) (a : Evidence) (r : Facts) (q : PieceFacts) (w : ServiceFa
     here : In x (order_of beats a.journals)
     here = free.here p r a.orders a.journals g.schedule beats front x back is_log
 
-    ask_for_dead : (v : What) → x.entry.what ≡ v → IsAskForDead p (moment_at front) v
+    ask_for_dead : NothingIsSpared q → (v : What) → x.entry.what ≡ v → IsAskForDead p (moment_at front) v
     unfolding moment_at
-    ask_for_dead (what.Sent link (note.ReadAsk want)) is = λ some.
+    ask_for_dead none (what.Sent link (note.ReadAsk want)) is = λ some.
         let k = asked_in x want here (record { link = link; is = is }) in
-        let long = g.pieces.asked_dead x.node want.visit want.piece (beat_of x) k.tenancy k.asks some in
+        let long = ⊎_elim
+        (λ h. h)
+        (λ h. absurd (none (cub_of p want.visit) k.tenancy want.visit h.beat h.spared))
+        (g.pieces.asked_dead x.node want.visit want.piece (beat_of x) k.tenancy k.asks some) in
         let l = long.long in
         let by = long.died.by in
         let high = bridge.below p r a.orders a.journals g.schedule beats x here in
@@ -159,21 +163,31 @@ module _ (p : Params) (a : Evidence) (r : Facts) (q : PieceFacts) (w : ServiceFa
         (omega arith) in
         any_passes (λ (e : Entry). is_died e.what) _ y.entry.entry (bridge.in_journal d front y.entry there y.node)
         (ap is_died y.is)
-    ask_for_dead other is = tt
+    ask_for_dead none other is = tt
 
-  pub served_once : AreServedOnce p (order_of beats a.journals)
-  served_once = record {
-    instance = all_by (λ x. AllByRecursion (AreOfOne x) (sent_in (order_of beats a.journals)))
-        (sent_in (order_of beats a.journals))
-        (λ x i. all_by (AreOfOne x) (sent_in (order_of beats a.journals)) (λ y k. of_one x y i k));
-    ask = all_by (λ (x : Noted). IsOnlyAsk (order_of beats a.journals) x.entry.what) (order_of beats a.journals)
-        (λ x i. only_ask x.entry.what);
+  -- What leaves for the viewers of a visit of a slot is of one instance.
+  pub visits_of_one : AllByRecursion (λ x. AllByRecursion (AreOfOne x) (sent_in (order_of beats a.journals)))
+      (sent_in (order_of beats a.journals))
+  visits_of_one = all_by (λ x. AllByRecursion (AreOfOne x) (sent_in (order_of beats a.journals)))
+      (sent_in (order_of beats a.journals))
+      (λ x i. all_by (AreOfOne x) (sent_in (order_of beats a.journals)) (λ y k. of_one x y i k))
+
+  -- Each piece of a visit, and each whole block, is asked of a disk at most once.
+  pub asks_once : AllByRecursion (λ (x : Noted). IsOnlyAsk (order_of beats a.journals) x.entry.what)
+      (order_of beats a.journals)
+  asks_once = all_by (λ (x : Noted). IsOnlyAsk (order_of beats a.journals) x.entry.what) (order_of beats a.journals)
+      (λ x i. only_ask x.entry.what)
+
+  pub served_once : NothingIsSpared q → AreServedOnce p (order_of beats a.journals)
+  served_once none = record {
+    instance = visits_of_one;
+    ask = asks_once;
     dead = (each_is_each_entry (λ m x. IsAskForDead p m x.entry.what) (order_of beats a.journals)).1
-        (λ front x back is_log. ask_for_dead front x back is_log x.entry.what refl);
+        (λ front x back is_log. ask_for_dead front x back is_log none x.entry.what refl);
   }
 
 pub in_time : (p : Params) (a : Evidence) (r : Facts) (q : PieceFacts) (w : ServiceFacts) (end : ℕ)
-    → AreParcelsRecorded p a r q w end → ParcelsAreInTime p r a.journals
+    {Excused : Tenancy → ℕ → Type 0} → AreParcelsRecordedBut p a r q w end Excused → ParcelsAreInTime p r a.journals
 in_time p a r q w end g = record {
   whole = λ n e link want sent part z s is gone.
       after n e want z (sends.serving p a r q w end g n e link (note.Whole want sent part) want s is

@@ -8,18 +8,20 @@ use Rattle.run_claims.specs.Truths.{FailuresAreTrue}
 use Rattle.run_claims.specs.Served.{AreServed}
 use Rattle.run_claims.specs.Turns.{AreInTurn}
 use Rattle.proof_schedule.specs.Logs.{Fact, facts_in}
+use Rattle.proof_pieces.specs.PieceFacts.{NothingIsSpared}
 use Rattle.proof_pieces.specs.PieceLogs.{PieceFact, pieces_in}
 use Rattle.proof_service.specs.ServiceLogs.{ServiceFact, service_in}
 use Rattle.proof_moments.specs.Recorded.{ParcelsAreInTime}
 use Rattle.proof_moments.specs.RecordedParcels.{Evidence, AreParcelsRecorded}
 
 -- A visit of a slot is of one instance, each read is asked for once, and a piece only after the
--- death of the block's cub.
+-- death of the block's cub, if no cub splits a visit of its own.
 abbrev pub RecordedVisitsAreServedOnce : Type 0
 RecordedVisitsAreServedOnce =
     (p : Params) (a : Evidence) (log : List Fact) (more : List PieceFact) (rest : List ServiceFact)
     (end beats : ℕ)
     → AreParcelsRecorded p a (facts_in log) (pieces_in more) (service_in rest) end
+    → NothingIsSpared (pieces_in more)
     → AreServedOnce p (order_of beats a.journals)
 
 -- A read that is reported to have failed met a fault of its disk.

@@ -1,5 +1,6 @@
 -- Facts of a run whose blocks are served, with journals that tell them.
 use Rattle.std.specs.Prelude.{ℕ, List}
+use Rattle.tiger_base.specs.declared.tenancy.Tenancy.{Tenancy}
 use Rattle.slot_plan.specs.declared.params.Params.{Params}
 use Rattle.stripe_layout.specs.declared.catalogue.Catalogue.{Catalogue}
 use Rattle.node_kit.specs.declared.course.Order.{Order}
@@ -8,7 +9,7 @@ use Rattle.node_kit.specs.declared.journal.Entry.{Entry}
 use Rattle.proof_schedule.specs.Facts.{Facts}
 use Rattle.proof_pieces.specs.PieceFacts.{PieceFacts}
 use Rattle.proof_pieces.specs.Pieces.{ArePiecesRight}
-use Rattle.proof_service.specs.Blocks.{AreBlocksServed}
+use Rattle.proof_service.specs.Blocks.{AreServedBut, IsExcused}
 use Rattle.proof_service.specs.ServiceFacts.{ServiceFacts}
 use Rattle.proof_service.specs.Disks.{AreReadsTrue}
 use Rattle.proof_moments.specs.Recorded.{IsRecorded}
@@ -37,11 +38,15 @@ pub record TiesParcels (p : Params) (a : Evidence) (q : PieceFacts) (w : Service
   pub viewers : ViewersGet p a.journals end
 
 -- The facts of a plan are one schedule, its pieces are right and its blocks are served up to beat
--- end; and these journals are a record of all that.
-pub record AreParcelsRecorded (p : Params) (a : Evidence) (r : Facts) (q : PieceFacts)
-    (w : ServiceFacts) (end : ℕ) : Type 0 where
+-- end, but for what is excused; and these journals are a record of all that.
+pub record AreParcelsRecordedBut (p : Params) (a : Evidence) (r : Facts) (q : PieceFacts)
+    (w : ServiceFacts) (end : ℕ) (Excused : Tenancy → ℕ → Type 0) : Type 0 where
   pub schedule : IsRecorded p r a.orders a.journals
   pub pieces : ArePiecesRight p r q
-  pub blocks : AreBlocksServed p r q w end
+  pub blocks : AreServedBut p r q end Excused
   pub reads : AreReadsTrue p a.catalogue w
   pub ties : TiesParcels p a q w end
+
+-- The excuses are those of a run in which cubs may die.
+abbrev pub AreParcelsRecorded : Params → Evidence → Facts → PieceFacts → ServiceFacts → ℕ → Type 0
+AreParcelsRecorded p a r q w end = AreParcelsRecordedBut p a r q w end (IsExcused p r w end)

@@ -19,6 +19,7 @@ use Rattle.node_kit.specs.declared.course.Order.{Order}
 use Rattle.node_kit.specs.declared.course.ReadFault.{ReadFault}
 use Rattle.node_kit.specs.declared.journal.Entry.{Entry}
 use Rattle.node_kit.specs.declared.journal.What.TheVariants as what
+use Rattle.node_kit.specs.declared.outbox.Out.TheVariants as out
 use Rattle.node_kit.specs.Steps.{Deed, Input, stamp_of}
 use Rattle.node_kit.specs.Ways.{way_to_disk}
 use Rattle.run_facts.specs.Histories.{History, past, beat}
@@ -37,17 +38,18 @@ use Rattle.lists.proofs.Each.{all_in}
 use Rattle.proof_journals.proofs.BothLives.{by_life}
 use Rattle.proof_moments.specs.Ties.{StandsIn}
 use Rattle.proof_service.specs.Disks.{disk_at, part_at}
+use Rattle.proof_facts.specs.Beside.{Additions}
 use Rattle.proof_facts.specs.Blocks.{AnsweredAt}
 use Rattle.proof_facts.specs.Facts.{blocks_of}
 use Rattle.proof_facts.specs.Lives.{acting}
 use Rattle.proof_facts.specs.Pieces.{want}
 use Rattle.proof_facts.specs.Rings.{HaveImages, node_of_disk}
-use Rattle.proof_links.proofs.Carrying.{Came, came_from, did_there, took_from, from_cub}
+use Rattle.proof_links.proofs.Carrying.{Came, came_from, took_from, from_cub}
 use Rattle.proof_links.proofs.Sending.{IsBack, IsOfCub}
 use Rattle.proof_links.proofs.Nodes.{lived, sender, lives_on, SentByDisk}
 use Rattle.proof_links.proofs.Ways.{is_to_disk}
 use Rattle.proof_parts.proofs.AskLives.{read_for}
-use Rattle.proof_journals.proofs.Events.{AreKept, event_of_life}
+use Rattle.proof_journals.proofs.Events.{AreKept, did_at, did_in_life, event_of_life}
 use Rattle.proof_moments.specs.ParcelTies.{IsRefusedAt, DisksTell}
 use Rattle.proof_parcels.specs.Parcels.{HaveFaults}
 use Rattle.proof_parcels.proofs.Cubs as cubs
@@ -88,8 +90,8 @@ same_disk p d e q = let n : 3 * p.cubs + p.cubs * max 2 p.pieces + d ≡ 3 * p.c
     (λ (l : LinkNo). l.0) q in omega arith
 
 module _ {S : Type 0} {step : S → Input Msg → Deed Msg S} {p : Params} {orders : List Order} {disks : ℕ → DiskState}
-    {h : History Msg S} {journals : List (List Entry)}
-    (kept : AreKept step p orders disks h journals) where
+    {added : Additions} {h : History Msg S} {journals : List (List Entry)}
+    (kept : AreKept step p orders disks added h journals) where
   -- what a disk answered it was asked for by a cub, on the way of what was wanted
   pub record IsRead (w : Want) (part : Option LibraryPart) (y : ℕ) : Type 0 where
     pub disk : ℕ
@@ -131,10 +133,10 @@ module _ {S : Type 0} {step : S → Input Msg → Deed Msg S} {p : Params} {orde
           let own = from_cub kept.plan kept.ring asked (λ q. q) (λ q. q) in
           let to = is_to_disk p asked.from d a.link kept.plan said.low (asked.ends
           ∙ ap (λ k. Some (asked.from, k)) said.node) in
-          let did = did_there kept.plan kept.ring asked.from asked.at a.link (msg.ReadAsk a.want) own asked.note.done
-          asked.sent (λ q. q) in
+          let did = did_in_life kept asked.from asked.at (out.Send a.link (msg.ReadAsk a.want)) own asked.note.done tt
+          asked.sent in
           let ask = read_for p kept.plan (life_in h did.which) (lived kept.plan kept.ring did.which) asked.from
-          (beat h asked.from asked.at) a.link a.want did.did in
+          (beat h asked.from asked.at) a.link a.want (did_at kept did) in
           let acts = (event_of_life kept First f.from f.at f.known alive).1 in
           let stands : StandsIn journals f.from (record {
             stamp = a.stamp;

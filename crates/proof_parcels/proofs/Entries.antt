@@ -35,6 +35,7 @@ use Rattle.proof_journals.proofs.Journals.{so_far, wrote}
 use Rattle.proof_journals.proofs.Lists.{moved}
 use Rattle.proof_journals.proofs.Wrote.{got_in, died_in, sent_in as entries_sent, entries_are, got_is, died_is, one_of}
 use Rattle.proof_moments.specs.Ties.{StandsIn}
+use Rattle.proof_facts.specs.Beside.{Additions}
 use Rattle.proof_facts.specs.Rings.{node_count}
 use Rattle.proof_lives.specs.Histories.{input_of, has_input}
 use Rattle.proof_journals.proofs.Events.{AreKept, fair, written_in}
@@ -193,8 +194,8 @@ module _ {S : Type 0} (step : S → Input Msg → Deed Msg S) where
 -- ---- a ring
 
 module _ {S : Type 0} {step : S → Input Msg → Deed Msg S} {p : Params} {orders : List Order} {disk_at : ℕ
-    → DiskState} {h : History Msg S} {journals : List (List Entry)}
-    (kept : AreKept step p orders disk_at h journals) where
+    → DiskState} {added : Additions} {h : History Msg S} {journals : List (List Entry)}
+    (kept : AreKept step p orders disk_at added h journals) where
   -- a message that an entry says was sent was put out in an event of its node
   pub record SentIn (n : ℕ) (e : Entry) (link : LinkNo) (m : Note) : Type 0 where
     pub known : n < node_count p

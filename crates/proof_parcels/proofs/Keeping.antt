@@ -34,13 +34,14 @@ use Rattle.proof_journals.proofs.Ones.{IsNone, IsOne, none_one, one_append, one_
 use Rattle.proof_journals.proofs.Journals.{beat_is, wrote}
 use Rattle.proof_pieces.specs.Pieces.{ArePiecesRight}
 use Rattle.proof_schedule.specs.Facts.{Facts}
-use Rattle.proof_facts.specs.Facts.{pieces_of}
+use Rattle.proof_facts.specs.Beside.{Additions}
+use Rattle.proof_facts.specs.Facts.{pieces_beside}
 use Rattle.proof_facts.specs.Pieces.{AsksAt}
 use Rattle.proof_facts.specs.Rings.{node_count}
 use Rattle.proof_parts.proofs.Found.{same_self}
 use Rattle.proof_links.proofs.Nodes.{lived}
-use Rattle.proof_journals.proofs.BothLives.{IsNoReturn, before_it, in_life, not_returning}
-use Rattle.proof_journals.proofs.Events.{AreKept, behind_tick, event_of_life, fair, outs_of_input}
+use Rattle.proof_journals.proofs.BothLives.{IsByRules, before_it, beside_it, in_life, not_returning}
+use Rattle.proof_journals.proofs.Events.{AreKept, adds_none, behind_tick, event_of_life, fair, outs_of_input}
 use Rattle.proof_journals.proofs.Lists.{moved, one_behind}
 use Rattle.proof_journals.proofs.Cutting.{cut_at_entry}
 use Rattle.proof_journals.proofs.Wrote.{got_at, got_in, died_in, died_is, sent_in, entries_are}
@@ -90,13 +91,13 @@ sends_agree p n w (out.Send link other) fair t = absurd (cc)
 sends_agree p n w (out.Act (what.Sent link m)) fair t = absurd fair
 sends_agree p n w (out.Act other) fair t = absurd (cc)
 
--- what is asked for, or sent, tells of no return
-ask_no_return : (w : Want) (o : Out Msg) → asks w o ≡ true → IsNoReturn o
+-- what is asked for, or sent, tells of no return, and is not added
+ask_no_return : (w : Want) (o : Out Msg) → asks w o ≡ true → IsByRules o
 ask_no_return w (out.Send link (msg.ReadAsk v)) t = tt
 ask_no_return w (out.Send link other) t = absurd (cc)
 ask_no_return w (out.Act v) t = absurd (cc)
 
-parcel_no_return : (w : Want) (o : Out Msg) → sends w o ≡ true → IsNoReturn o
+parcel_no_return : (w : Want) (o : Out Msg) → sends w o ≡ true → IsByRules o
 parcel_no_return w (out.Send link (msg.Whole v sent part)) t = tt
 parcel_no_return w (out.Send link (msg.Piece v sent part)) t = tt
 parcel_no_return w (out.Send link other) t = absurd (cc)
@@ -131,8 +132,8 @@ tick_wrote step p n ev before stamp says fair tick no_death one =
     (λ x y i k t s. no_got x i t))
 
 module _ {S : Type 0} {step : S → Input Msg → Deed Msg S} {p : Params} {orders : List Order} {disk_at : ℕ
-    → DiskState} {h : History Msg S} {journals : List (List Entry)}
-    (kept : AreKept step p orders disk_at h journals) where
+    → DiskState} {added : Additions} {h : History Msg S} {journals : List (List Entry)}
+    (kept : AreKept step p orders disk_at added h journals) where
   -- an entry was written at a tick of a cub
   pub record IsOfTick (n i : ℕ) : Type 0 where
     pub small : n < p.cubs
@@ -140,14 +141,19 @@ module _ {S : Type 0} {step : S → Input Msg → Deed Msg S} {p : Params} {orde
     pub stamp : Stamp
     pub tick : input_of (h.event n i) ≡ Tick stamp
 
-  -- If at most one output of an input passes a test, and none that tells of a return does, at most one of the event does.
-  one_out : (test : Out Msg → Bool) → ((o : Out Msg) → test o ≡ true → IsNoReturn o) → (n i : ℕ) → n < p.cubs
+  -- If at most one output of an input passes a test, and none that tells of a return or may be added does, at most one of
+  -- the event does.
+  one_out : (test : Out Msg → Bool) → ((o : Out Msg) → test o ≡ true → IsByRules o) → (n i : ℕ) → n < p.cubs
       → (l : IsOfLife h n i) → IsOne test (outs_in p (life_in h l.which) n l.at) → IsOne test (outs noted step h n i)
   one_out test other n i small l one =
       let before : List (Out Msg) = before_it h p l.which n l.at in
+      let behind : List (Out Msg) = beside_it added l.which n l.at in
       let none : IsNone test before = λ o k t. not_returning h p l.which n l.at o (other o t) k in
+      let no_more : IsNone test behind = λ o k t. adds_none kept l.which n l.at o small l.done (other o t) k in
       subst (λ (os : List (Out Msg)). IsOne test os) (sym (outs_of_input kept n i l small))
-      (one_append test before (outs_in p (life_in h l.which) n l.at) (none_one test before none) one
+      (one_append test before (outs_in p (life_in h l.which) n l.at ++ behind) (none_one test before none)
+      (one_append test (outs_in p (life_in h l.which) n l.at) behind one (none_one test behind no_more)
+      (λ x y j k t s. no_more y k s))
       (λ x y j k t s. none x j t))
 
   -- If an output at a tick is written once, and at most one passes a test, an entry that says so is of a later beat
@@ -155,7 +161,7 @@ module _ {S : Type 0} {step : S → Input Msg → Deed Msg S} {p : Params} {orde
   of_beats : (Is : Entry → Type 0) (says : What → Bool) (test : Out Msg → Bool) → says what.Died ≡ false
       → ((e : Entry) → Is e → says e.what ≡ true)
       → ((n : ℕ) (o : Out Msg) → IsAllowed noted p n o → says (what_of noted o) ≡ true → test o ≡ true)
-      → ((o : Out Msg) → test o ≡ true → IsNoReturn o)
+      → ((o : Out Msg) → test o ≡ true → IsByRules o)
       → ((n i : ℕ) (e : Entry) → n < node_count p → i < h.count n → In e (wrote step h n i) → Is e → IsOfTick n i)
       → ((w : WhichLife) (n i : ℕ) → n < p.cubs → i < (life_in h w).count n → IsOne test (outs_in p (life_in h w) n i))
       → AreOfBeats journals Is
@@ -232,13 +238,13 @@ module _ {S : Type 0} {step : S → Input Msg → Deed Msg S} {p : Params} {orde
       (cases_Bool (w.piece == 0))
 
   -- What is asked for one piece of a visit of a slot in a life is of one tenancy, since that holds of both lives.
-  one_in_life : {r : Facts} → ArePiecesRight p r (pieces_of p h) → (w : WhichLife) (c : ℕ) (t u : Tenancy) (n j a b : ℕ)
+  one_in_life : {r : Facts} → ArePiecesRight p r (pieces_beside p added h) → (w : WhichLife) (c : ℕ) (t u : Tenancy) (n j a b : ℕ)
       → AsksAt p (life_in h w) c t n j a → AsksAt p (life_in h w) c u n j b → u.slot.0 ≡ t.slot.0 → u ≡ t
   one_in_life right w c t u n j a b x y slots =
       (right.one_ask c c n j a b t u (in_life h (λ l. AsksAt p l c t n j a) w x)
       (in_life h (λ l. AsksAt p l c u n j b) w y) slots).1
 
-  pub keeps : {r : Facts} → ArePiecesRight p r (pieces_of p h) → KeepsParcels journals
+  pub keeps : {r : Facts} → ArePiecesRight p r (pieces_beside p added h) → KeepsParcels journals
   keeps {r} right = record {
     one_parcel = λ w. of_beats (SendsParcel w) (says_send w) (sends w) refl (parcel_said w)
         (λ n o fair t. sends_agree p n w o fair t) (parcel_no_return w) (parcel_tick w)

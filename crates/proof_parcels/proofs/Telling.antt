@@ -38,15 +38,16 @@ use Rattle.proof_lives.proofs.Carrying.{stamp_same}
 use Rattle.lists.proofs.Each.{all_in}
 use Rattle.proof_journals.proofs.Journals.{inputs_of, wrote, stamped, beat_is}
 use Rattle.proof_moments.specs.Ties.{StandsIn, IsLogged}
+use Rattle.proof_facts.specs.Beside.{Additions}
 use Rattle.proof_facts.specs.Blocks.{AnsweredAt, SendsAt}
-use Rattle.proof_facts.specs.Facts.{blocks_of, pieces_of}
+use Rattle.proof_facts.specs.Facts.{blocks_of, pieces_beside}
 use Rattle.proof_facts.specs.Pieces.{want, part_sent, AsksAt, SendsPart, ServesAt}
 use Rattle.proof_facts.specs.Rings.{node_count}
 use Rattle.proof_links.proofs.Nodes.{lived, sender}
 use Rattle.proof_links.proofs.Sending.{IsOfDisk, IsOfController, of_answer}
 use Rattle.proof_parts.proofs.Answering.{kept as answer_kept}
 use Rattle.proof_parts.proofs.AskLives.{read_for}
-use Rattle.proof_journals.proofs.BothLives.{IsNoReturn, by_life, in_life}
+use Rattle.proof_journals.proofs.BothLives.{IsByRules, by_life, in_life}
 use Rattle.proof_journals.proofs.Events.{AreKept, acts_if_out, cub_entry, input_of_life, rules_did}
 use Rattle.proof_journals.proofs.Logging.{did_logged}
 use Rattle.proof_moments.specs.ParcelTies.{viewers, parcel, SendsParcel, AsksDisk, IsServing, IsAsking, IsFailure, TellsParcels, LogsParcels}
@@ -74,16 +75,16 @@ noted_parcel w sent part = ⊎_elim
     (cases_Bool (w.piece == 0))
 
 module _ {S : Type 0} {step : S → Input Msg → Deed Msg S} {p : Params} {orders : List Order} {disk_at : ℕ
-    → DiskState} {h : History Msg S} {journals : List (List Entry)}
-    (kept : AreKept step p orders disk_at h journals) where
-  -- a message that neither disks nor the controller send, and that tells of no return, is by a cub's rules
+    → DiskState} {added : Additions} {h : History Msg S} {journals : List (List Entry)}
+    (kept : AreKept step p orders disk_at added h journals) where
+  -- a message that neither disks nor the controller send, and that tells of no return and is not added, is by a cub's rules
   pub record OfCub (n i : ℕ) (o : Out Msg) : Type 0 where
     pub small : n < p.cubs
     pub place : IsOfLife h n i
     pub did : In o (outs_in p (life_in h place.which) n place.at)
 
   pub of_cub : (n i : ℕ) (link : LinkNo) (m : Msg) → (IsOfDisk m → ⊥) → (IsOfController m → ⊥)
-      → IsNoReturn (out.Send link m) → n < node_count p
+      → IsByRules (out.Send link m) → n < node_count p
       → i < h.count n → In (out.Send link m) (outs noted step h n i) → OfCub n i (out.Send link m)
   of_cub n i link m no_disk no_controller other known low k =
       let l = input_of_life kept n i known low (acts_if_out kept n i (out.Send link m) k) in
@@ -108,7 +109,7 @@ module _ {S : Type 0} {step : S → Input Msg → Deed Msg S} {p : Params} {orde
   -- ---- what entries tell
 
   asks_told : (n : ℕ) (e : Entry) (w : Want) → StandsIn journals n e → AsksDisk w e
-      → IsAsking (pieces_of p h) n w e.stamp.beat
+      → IsAsking (pieces_beside p added h) n w e.stamp.beat
   asks_told n e w s a =
       let x = sent_in kept n e a.link (note.ReadAsk w) s a.is in
       let m : x.send.message ≡ msg.ReadAsk w = ask_back x.send.message w x.send.same in
@@ -128,7 +129,7 @@ module _ {S : Type 0} {step : S → Input Msg → Deed Msg S} {p : Params} {orde
   serving_told : (n i : ℕ) (e : Entry) (link : LinkNo) (w : Want) (sent : ℕ) (part : LibraryPart) (span : Span)
       → (small : n < p.cubs) → (l : IsOfLife h n i) → In e (wrote step h n i)
       → cubs.IsServeAt (life_in h l.which) kept.plan (lived kept.plan kept.ring l.which) n small l.at link w sent part
-      → part.span ≡ span → IsServing p (pieces_of p h) (blocks_of p h disk_at) n link w sent span e.stamp.beat
+      → part.span ≡ span → IsServing p (pieces_beside p added h) (blocks_of p h disk_at) n link w sent span e.stamp.beat
   serving_told n i e link w sent part span small l there at is =
       let lives : Lives = life_in h l.which in
       let same = tick_stamp n i e at.stamp l there at.tick in
@@ -148,7 +149,7 @@ module _ {S : Type 0} {step : S → Input Msg → Deed Msg S} {p : Params} {orde
 
   whole_told : (n : ℕ) (e : Entry) (link : LinkNo) (w : Want) (sent : ℕ) (span : Span) → StandsIn journals n e
       → e.what ≡ what.Sent link (note.Whole w sent span)
-      → (w.piece ≡ 0) × IsServing p (pieces_of p h) (blocks_of p h disk_at) n link w sent span e.stamp.beat
+      → (w.piece ≡ 0) × IsServing p (pieces_beside p added h) (blocks_of p h disk_at) n link w sent span e.stamp.beat
   whole_told n e link w sent span s is =
       let x = sent_in kept n e link (note.Whole w sent span) s is in
       let m = whole_back x.send.message w sent span x.send.same in
@@ -161,7 +162,7 @@ module _ {S : Type 0} {step : S → Input Msg → Deed Msg S} {p : Params} {orde
 
   piece_told : (n : ℕ) (e : Entry) (link : LinkNo) (w : Want) (sent : ℕ) (span : Span) → StandsIn journals n e
       → e.what ≡ what.Sent link (note.Piece w sent span)
-      → (1 ≤ w.piece) × IsServing p (pieces_of p h) (blocks_of p h disk_at) n link w sent span e.stamp.beat
+      → (1 ≤ w.piece) × IsServing p (pieces_beside p added h) (blocks_of p h disk_at) n link w sent span e.stamp.beat
   piece_told n e link w sent span s is =
       let x = sent_in kept n e link (note.Piece w sent span) s is in
       let m = piece_back x.send.message w sent span x.send.same in
@@ -201,7 +202,7 @@ module _ {S : Type 0} {step : S → Input Msg → Deed Msg S} {p : Params} {orde
         failed = in_life h (λ y. AnsweredAt p y n k.tenancy w.visit w.piece e.stamp.beat None) d.which answered;
       }
 
-  pub tells : TellsParcels p (pieces_of p h) (blocks_of p h disk_at) journals
+  pub tells : TellsParcels p (pieces_beside p added h) (blocks_of p h disk_at) journals
   tells = record { whole = whole_told; piece = piece_told; asks = asks_told; failed = failed_told }
 
   -- ---- which facts have entries
@@ -248,7 +249,7 @@ module _ {S : Type 0} {step : S → Input Msg → Deed Msg S} {p : Params} {orde
         did = goes;
       })
 
-  pub logs : LogsParcels (pieces_of p h) (blocks_of p h disk_at) journals
+  pub logs : LogsParcels (pieces_beside p added h) (blocks_of p h disk_at) journals
   logs = record {
     served = λ c n j b t s. by_life h (λ y. ServesAt p y c t n j b) (λ w k. served_in w c n j b t k) s;
     failed = λ c n j b t a. by_life h (λ y. AnsweredAt p y c t n j b None) (λ w k. failed_in w c n j b t k) a;

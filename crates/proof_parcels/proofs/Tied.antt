@@ -7,7 +7,8 @@ use Rattle.run_facts.specs.Histories.{History}
 use Rattle.disk_core.specs.State.{DiskState}
 use Rattle.proof_schedule.specs.Facts.{Facts}
 use Rattle.proof_pieces.specs.Pieces.{ArePiecesRight}
-use Rattle.proof_facts.specs.Facts.{blocks_of, pieces_of}
+use Rattle.proof_facts.specs.Beside.{Additions}
+use Rattle.proof_facts.specs.Facts.{blocks_of, pieces_beside}
 use Rattle.proof_moments.specs.RecordedParcels.{Evidence, TiesParcels}
 use Rattle.proof_journals.proofs.Events.{AreKept}
 use Rattle.proof_parcels.specs.Parcels.{IsRingOf, ParcelsAreTied}
@@ -18,10 +19,10 @@ use Rattle.proof_parcels.proofs.Viewing as viewing
 
 -- Whatever else is known of the ring, if its pieces are right.
 pub ties : {S : Type 0} (step : S → Input Msg → Deed Msg S) (p : Params) (a : Evidence) (disk_at : ℕ → DiskState)
-    (h : History Msg S) (end : ℕ) → IsRingOf step p a disk_at h end
-    → {r : Facts} → ArePiecesRight p r (pieces_of p h) → TiesParcels p a (pieces_of p h) (blocks_of p h disk_at) end
-ties step p a disk_at h end ring right =
-    let kept : AreKept step p a.orders disk_at h a.journals = record {
+    (added : Additions) (h : History Msg S) (end : ℕ) → IsRingOf step p a disk_at added h end
+    → {r : Facts} → ArePiecesRight p r (pieces_beside p added h) → TiesParcels p a (pieces_beside p added h) (blocks_of p h disk_at) end
+ties step p a disk_at added h end ring right =
+    let kept : AreKept step p a.orders disk_at added h a.journals = record {
       plan = ring.plan;
       ring = ring.ring;
       are =
@@ -36,4 +37,4 @@ ties step p a disk_at h end ring right =
     }
 
 pub parcels_are_tied : (S : Type 0) → ParcelsAreTied S
-parcels_are_tied S step p a disk_at h end ring right = ties step p a disk_at h end ring right
+parcels_are_tied S step p a disk_at added h end ring right = ties step p a disk_at added h end ring right

@@ -33,6 +33,7 @@ use Rattle.lists.proofs.Elements.{chosen, in_map, in_right}
 use Rattle.proof_journals.proofs.Written.{event_took}
 use Rattle.proof_journals.proofs.Journals.{so_far, wrote, stamped}
 use Rattle.proof_moments.specs.Ties.{StandsIn}
+use Rattle.proof_facts.specs.Beside.{Additions}
 use Rattle.proof_facts.specs.Lives.{acting}
 use Rattle.proof_facts.specs.Rings.{IsUpTo, node_count}
 use Rattle.proof_links.proofs.Carrying.{Came, came_from, SentAs, sent_as, number_of, numbers_rise, delivered}
@@ -156,8 +157,8 @@ module _ {S : Type 0} (step : S → Input Msg → Deed Msg S) where
   take_wrote (Returns now) before stamp link m acts alive e none = absurd (cc)
 
 module _ {S : Type 0} {step : S → Input Msg → Deed Msg S} {p : Params} {orders : List Order} {disk_at : ℕ
-    → DiskState} {h : History Msg S} {journals : List (List Entry)}
-    (kept : AreKept step p orders disk_at h journals) where
+    → DiskState} {added : Additions} {h : History Msg S} {journals : List (List Entry)}
+    (kept : AreKept step p orders disk_at added h journals) where
   known : viewers p < node_count p
   known = omega arith
 

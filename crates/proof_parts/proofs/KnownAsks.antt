@@ -21,7 +21,8 @@ use Rattle.proof_lives.specs.Lives.{Lives, AreLives, beat_at, reading_at}
 use Rattle.proof_lives.specs.Facts.{DidAt}
 use Rattle.proof_lives.specs.FactsBy.{Beyond, cubs_alone}
 use Rattle.proof_pieces.specs.PieceFacts.{leave}
-use Rattle.proof_facts.specs.Facts.{beyond_of}
+use Rattle.proof_facts.specs.Beside.{AddedAt, Additions}
+use Rattle.proof_facts.specs.Facts.{beyond_with}
 use Rattle.proof_facts.specs.Lives.{lives_of, later_lives_of}
 use Rattle.proof_facts.specs.Pieces.{piece, want, before_reading, kept_at, AsksFor, stamp_of as made_of}
 use Rattle.proof_parts.proofs.AskLives.{read_for}
@@ -123,17 +124,25 @@ module _ (p : Params) (plan : IsPlan p) (first later : Lives) (are : AreLives p 
 
 -- ---- of a history
 
-module _ {S : Type 0} (p : Params) (plan : IsPlan p) (orders : List Order) (h : History Msg S) (are : AreLives p (lives_of h))
+module _ {S : Type 0} (p : Params) (plan : IsPlan p) (orders : List Order) (added : Additions) (h : History Msg S)
+    (none : (c : ℕ) (link : LinkNo) (w : Want) (b : ℕ) → AddedAt p (lives_of h) added c (out.Send link (msg.ReadAsk w)) b → ⊥)
+    (are : AreLives p (lives_of h))
     (apart : (c i j : ℕ) → c < p.cubs → i < (lives_of h).count c → j < (later_lives_of h).count c
     → beat_at ((lives_of h).input c) i < beat_at ((later_lives_of h).input c) j) where
-  -- a cub asks in its first life, or in the one from its return on
-  asked_in : (c : ℕ) (link : LinkNo) (w : Want) (b : ℕ) → (beyond_of p orders h).Sends c link (msg.ReadAsk w) b
+  -- a cub asks in its first life, or in the one from its return on, if nothing that is added asks
+  asked_in : (c : ℕ) (link : LinkNo) (w : Want) (b : ℕ) → (beyond_with p orders added h).Sends c link (msg.ReadAsk w) b
       → DidAt p (lives_of h) c (out.Send link (msg.ReadAsk w)) b ⊎ DidAt p (later_lives_of h) c (out.Send link (msg.ReadAsk w)) b
-  asked_in c link w b s = ⊎_elim (λ d. inl d) (λ q. ⊎_elim (λ d. inr d) (λ k. let is = k.is in absurd (cc)) q) s
+  asked_in c link w b s = ⊎_elim
+      (λ d. inl d)
+      (λ q. ⊎_elim
+      (λ d. inr d)
+      (λ v. ⊎_elim (λ k. let is = k.is in absurd (cc)) (λ k. absurd (none c link w b k)) v)
+      q)
+      s
 
   -- So in a history what cubs asked for is known by both lives of each.
-  pub history_first_asks : AsksAreKnown p (lives_of h) (beyond_of p orders h)
-  history_first_asks = first_asks p plan (lives_of h) (later_lives_of h) are (beyond_of p orders h) asked_in apart
+  pub history_first_asks : AsksAreKnown p (lives_of h) (beyond_with p orders added h)
+  history_first_asks = first_asks p plan (lives_of h) (later_lives_of h) are (beyond_with p orders added h) asked_in apart
 
-  pub history_later_asks : AsksAreKnown p (later_lives_of h) (beyond_of p orders h)
-  history_later_asks = later_asks p plan (lives_of h) (later_lives_of h) are (beyond_of p orders h) asked_in apart
+  pub history_later_asks : AsksAreKnown p (later_lives_of h) (beyond_with p orders added h)
+  history_later_asks = later_asks p plan (lives_of h) (later_lives_of h) are (beyond_with p orders added h) asked_in apart

@@ -138,6 +138,7 @@ module _ (p : Params) (plan : IsPlan p) (lives : Lives) (are : AreLives p lives)
       record {
         tenancy = q.tenancy;
         same = ap (λ (w : Want). w.instance.0) q.same;
+        slot = ap (λ (w : Want). w.slot.0) q.same;
         asked = a.asked;
         asks = q.asks;
         taken = a.taken;
@@ -172,6 +173,7 @@ module _ (p : Params) (plan : IsPlan p) (lives : Lives) (are : AreLives p lives)
       record {
         tenancy = w.tenancy;
         same = w.same;
+        slot = w.slot;
         asked = w.asked;
         asks = w.asks;
         taken = w.taken;

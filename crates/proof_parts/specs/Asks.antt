@@ -61,11 +61,12 @@ AsksAreForRecords = (p : Params) (lives : Lives)
 
 -- What cub c has of piece j of visit n by beat y, a part or a failure, is what the disk of that
 -- piece read in a lower beat; the cub had asked for it in a beat below that, for a record of the
--- same instance.
+-- same instance and slot.
 pub record WasRead (p : Params) (lives : Lives) (disk_at : ℕ → DiskState) (c : ℕ) (t : Tenancy)
     (n j : ℕ) (part : Option LibraryPart) (y : ℕ) : Type 0 where
   pub tenancy : Tenancy
   pub same : tenancy.instance.0 ≡ t.instance.0
+  pub slot : tenancy.slot.0 ≡ t.slot.0
   pub asked : ℕ
   pub asks : AsksAt p lives c tenancy n j asked
   pub taken : ℕ

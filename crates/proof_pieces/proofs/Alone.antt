@@ -1,5 +1,5 @@
 -- All that is asked for at a visit of a slot is of one tenancy, and each piece once.
-use Rattle.std.proofs.Common.{◌≡◌, ◌≢◌, ℕ, ◌+◌, ◌-◌, ◌<◌, ◌≤◌, sym, ap, subst, ◌∙◌, arith, ⊎_elim, inl, inr, eq-or-lt_of_le}
+use Rattle.std.proofs.Common.{◌≡◌, ◌≢◌, ℕ, ◌+◌, ◌-◌, ◌<◌, ◌≤◌, refl, sym, ap, subst, ◌∙◌, arith, ⊎_elim, inl, inr, eq-or-lt_of_le}
 use Rattle.std.specs.Prelude.{◌⊎◌}
 use Rattle.std.proofs.lemmas.Bool.{cases_lt, cases_eq}
 use Rattle.tiger_base.specs.declared.tenancy.Tenancy.{Tenancy}
@@ -16,11 +16,11 @@ use Rattle.proof_schedule.proofs.Ends.{IsEnd, end_of, one_put}
 use Rattle.proof_schedule.proofs.Reach.{enters, told_at_once}
 use Rattle.proof_schedule.proofs.Waves.{reached_after, bare}
 use Rattle.proof_schedule.proofs.Lives.{first_same_life, same_life_later, same_life_since_stop}
-use Rattle.proof_schedule.proofs.Silence.{all_heard}
+use Rattle.proof_schedule.proofs.Silence.{all_heard, believed_died}
 use Rattle.proof_schedule.proofs.Timely.{put_in_time}
 use Rattle.proof_schedule.proofs.Invariant.{Setting}
 use Rattle.proof_pieces.specs.PieceFacts.{PieceFacts}
-use Rattle.proof_pieces.specs.PieceLaws.{PieceLaws, IsThere}
+use Rattle.proof_pieces.specs.PieceLaws.{PieceLaws, IsThere, IsForgotten}
 use Rattle.proof_pieces.proofs.Entries.{Origin, origin, kind_of, split_first_life, arises_held, asks_once}
 use Rattle.proof_pieces.proofs.Leaving.{leave_after, lead}
 use Rattle.proof_pieces.proofs.Stopped.{split_unreached, there_unreached, used_forgotten, not_late}
@@ -189,6 +189,27 @@ module _ (p : Params) (r : Facts) (g : Setting p r) (q : PieceFacts) (m : PieceL
           (λ (far : base + p.cubs ≤ n + 1). absurd (too_late f (far_ahead f far)))
           (cases_lt (n + 1) (base + p.cubs))
 
+  -- No cub had forgotten a split of the visit by that Put, since the visit was not yet over.
+  not_forgotten : {a h : ℕ} → t.first ≡ n → IsForgotten p r a u n h → h ≤ xt → ⊥
+  not_forgotten {a} {h} f o le =
+      let past = o.past in
+      let before = o.before in
+      let reads = (g.law.run.reads o.ticked).1 in
+      let mono = time_mono p o.beat xt (omega arith) in
+      let d = same_due n in
+      let df = ap (λ v. due p t.slot.0 v) f in
+      let timely = put_in_time p g.room r g.law it in
+      let room = g.room in
+      omega (arith, room)
+
+  -- A cub puts for a dead one only in a run in which that died.
+  nobody_for_dead : t.first ≡ n → PutsForDead p r ct t xt → ((c y : ℕ) → ¬ r.Died c y) → ⊥
+  nobody_for_dead f w calm =
+      let small = cub_below p n g.ok.ranges in
+      let next = w.next ∙ ap (λ v. cub_of p (v + 1)) f ∙ sym (cub_ahead p n 1) in
+      let o = believed_died p g.ok g.room r g.law (cub_of p n) small next w.believed.believed in
+      calm (cub_of p n) o.died.beat o.died.died
+
   -- The newer one was not put by the visit's own cub. That one was reached, so it does not ask; nor
   -- does a cub ask for a piece, since the deschedule came to the cub that would split ahead of the
   -- newer one's state.
@@ -205,16 +226,16 @@ module _ (p : Params) (r : Facts) (g : Setting p r) (q : PieceFacts) (m : PieceL
       let own_reached = subst (λ v. r.Reached v u.instance.0 k.beat) (sym here) k.reached in
       let one_life = same_life_later r d z k.beat b (omega arith) (own_since whole there) in
       there_unreached p r g q m u xu z base e there own_reached (omega arith) one_life)
-      (λ (some : 0 < j). by_split f own (origin p r g q m some there.arises))
+      (λ (some : 0 < j). by_split f own k (origin p r g q m some there.arises))
       (eq-or-lt_of_le (let s : 0 ≤ j = omega arith in s))
     where
-      -- No cub has split the older one's visit after that state came.
-      by_split : {y : ℕ} → t.first ≡ n → PutsOwn p r ct t xt → Origin p q d u n j y → ⊥
-      by_split {y} f own s =
-          let k = m.splits s.split in
+      -- No next cub has split the older one's visit after that state came.
+      by_neighbour : {a y : ℕ} → t.first ≡ n → PutsOwn p r ct t xt → q.Split a u n y → ⊥
+      by_neighbour {a} {y} f own split =
+          let k = m.splits split in
           let kb = k.believed.by in
           let mine : ct ≡ cub_of p n = own.own ∙ ap (λ v. cub_of p v) f in
-          let next : s.cub ≡ cub_of p (cub_of p n + 1) = k.next ∙ sym (cub_ahead p n 1) in
+          let next : a ≡ cub_of p (cub_of p n + 1) = k.next ∙ sym (cub_ahead p n 1) in
           let small = cub_below p n g.ok.ranges in
           let first = (g.law.states.inserts it).first in
           let believed = k.believed.believed in
@@ -224,12 +245,12 @@ module _ (p : Params) (r : Facts) (g : Setting p r) (q : PieceFacts) (m : PieceL
           (λ w.
           let wb = w.by in
           let to = next ∙ ap (λ v. cub_of p (v + 1)) (sym mine) in
-          let always = split_first_life p r g q m s.split s.beat in
-          let same = first_same_life r s.cub s.beat always w.beat in
+          let always = split_first_life p r g q m {gap = 1} (inl (refl, split)) y in
+          let same = first_same_life r a y always w.beat in
           let came = k.tick.came in
-          let got = g.law.links.told_arrives s.cub s.beat w.told to came same (omega arith) in
+          let got = g.law.links.told_arrives a y w.told to came same (omega arith) in
           let gb = got.by in
-          split_unreached p r g q m u xu z base e s.split (g.law.holds.reached_tag got.got) (omega arith))
+          split_unreached p r g q m u xu z base e {gap = 1} (inl (refl, split)) (g.law.holds.reached_tag got.got) (omega arith))
           (λ w. ⊎_elim
           (λ (far : horizon p (time_of p z) < due p u.slot.0 t.first).
           let within = (enters p r g u xu z base e k.entered).within in
@@ -238,6 +259,20 @@ module _ (p : Params) (r : Facts) (g : Setting p r) (q : PieceFacts) (m : PieceL
           (λ late. too_late f late)
           w)
           (is_ahead p r g u xu z base e t ct xt it le sl zx cut own.sent)
+
+      -- Nor has the own one: it would not have forgotten that when it was reached.
+      by_split : {y : ℕ} → t.first ≡ n → PutsOwn p r ct t xt → ReachedBy r ct u.instance.0 xt
+          → Origin p q d u n j y → ⊥
+      by_split {y} f own k s = ⊎_elim
+          (λ a. by_neighbour f own a.1)
+          (λ a.
+          let h = behind f in
+          let by = k.by in
+          let mine : ct ≡ cub_of p n = own.own ∙ ap (λ v. cub_of p v) f in
+          let same : ct ≡ s.cub = mine ∙ sym (m.spares a.1).own in
+          let reached = subst (λ v. r.Reached v u.instance.0 k.beat) same k.reached in
+          not_forgotten f (used_forgotten p r g q m u xu z base e (inl asks) s reached (omega arith)) by)
+          s.split
 
   -- Nor was it put by the next cub for a dead one. If that came back before the stop, it was
   -- reached too; if after it, it would not let the record in. And the next one, which would have
@@ -262,16 +297,13 @@ module _ (p : Params) (r : Facts) (g : Setting p r) (q : PieceFacts) (m : PieceL
       let one_life = same_life_later r d z got.beat b (omega arith) since in
       there_unreached p r g q m u xu z base e there own_reached (omega arith) one_life)
       (λ (some : 0 < j).
-      let o = used_forgotten p r g q m u xu z base e (inl asks) some (subst (λ v. r.Reached v u.instance.0 k.beat) next k.reached) (omega arith) in
-      let past = o.past in
-      let before = o.before in
-      let reads = (g.law.run.reads o.ticked).1 in
-      let mono = time_mono p o.beat xt (omega arith) in
-      let d = same_due n in
-      let df = ap (λ v. due p t.slot.0 v) f in
-      let timely = put_in_time p g.room r g.law it in
-      let room = g.room in
-      omega (arith, room))
+      let s = origin p r g q m some there.arises in
+      let at : s.cub ≡ cub_of p (n + 1) = ⊎_elim
+      (λ a. (m.splits a.1).next)
+      (λ a. absurd (nobody_for_dead f w (m.spares a.1).calm))
+      s.split in
+      let reached = subst (λ v. r.Reached v u.instance.0 k.beat) (next ∙ sym at) k.reached in
+      not_forgotten f (used_forgotten p r g q m u xu z base e (inl asks) s reached (omega arith)) by)
       (eq-or-lt_of_le (let s : 0 ≤ j = omega arith in s))
 
   -- So the visit is not the newer one's first.

@@ -1,11 +1,12 @@
 -- Where the records come from by which pieces are asked for, and that they enter before any ask.
-use Rattle.std.proofs.Common.{◌≡◌, ℕ, ◌+◌, ◌<◌, ◌≤◌, refl, sym, ap, ◌∙◌, arith, ⊎_elim, inl, inr, eq-or-lt_of_le}
+use Rattle.std.proofs.Common.{◌≡◌, ℕ, ◌+◌, ◌<◌, ◌≤◌, refl, sym, ap, subst, ◌∙◌, arith, ⊎_elim, inl, inr, eq-or-lt_of_le}
 use Rattle.std.specs.Prelude.{◌⊎◌}
 use Rattle.tiger_base.specs.declared.tenancy.Tenancy.{Tenancy}
 use Rattle.slot_plan.specs.declared.params.Params.{Params}
 use Rattle.slot_plan.specs.Times.{time_of, due, cub_of}
 use Rattle.slot_plan.proofs.Times.{time_next, time_mono, time_below, cub_below, cub_ahead}
-use Rattle.proof_schedule.specs.Facts.{Facts, DiedLongBefore, Entered, IsFirstLife, enters_from}
+use Rattle.proof_schedule.specs.Facts.{Facts, DiedLongBefore, Entered, IsBeside, IsUnheld, IsFirstLife, enters_from}
+use Rattle.proof_schedule.specs.RunLaws.{IsTick}
 use Rattle.proof_schedule.specs.Schedule.{IsHeld}
 use Rattle.proof_schedule.proofs.Origins.{entered_held}
 use Rattle.proof_schedule.proofs.Room.{soon_after}
@@ -13,47 +14,126 @@ use Rattle.proof_schedule.proofs.Silence.{believed_died}
 use Rattle.proof_schedule.proofs.Lives.{entered_late, next_first_life}
 use Rattle.proof_schedule.proofs.Timely.{entered_in_time}
 use Rattle.proof_schedule.proofs.Invariant.{Setting}
-use Rattle.proof_pieces.specs.PieceFacts.{PieceFacts, leave, Arises, Uses}
-use Rattle.proof_pieces.specs.PieceLaws.{PieceLaws, IsThere}
+use Rattle.proof_pieces.specs.PieceFacts.{PieceFacts, leave, Arises, SparedBefore, Uses}
+use Rattle.proof_pieces.specs.PieceLaws.{PieceLaws, WasMirrored, IsThere}
 use Rattle.proof_pieces.proofs.Leaving.{leave_after, lead}
 
+-- Cub c split visit n of t: if gap is 1, in the place of its predecessor, and if gap is 0, one of
+-- its own.
+abbrev pub Splits : PieceFacts → ℕ → ℕ → Tenancy → ℕ → ℕ → Type 0
+Splits q gap c t n b = ((gap ≡ 1) × q.Split c t n b) ⊎ ((gap ≡ 0) × q.Spared c t n b)
+
+-- What splits of both kinds have: the cub is as far behind the visit's as gap says, and has a record
+-- of the visit, which entered when its instance was not held, and it splits the visit early.
+pub record Divides (p : Params) (r : Facts) (gap c : ℕ) (t : Tenancy) (n b : ℕ) : Type 0 where
+  pub reading : ℕ
+  pub tick : IsTick p r c b reading
+  pub at : c ≡ cub_of p (n + gap)
+  pub beside : IsBeside p c n
+  pub beat : ℕ
+  pub entered : Entered r c t n beat
+  pub by : beat ≤ b
+  pub since : IsUnheld p r c t.instance.0 b beat
+  pub soon : reading + p.read_lead + p.skew + time_of p p.delay + p.beat ≤ due p t.slot.0 n
+
 -- A record of piece j came by a mirror state, which cub a sent at its split in beat x.
-pub record ByMirror (p : Params) (q : PieceFacts) (c a : ℕ) (t : Tenancy) (n j x e : ℕ) : Type 0 where
+pub record ByMirror (p : Params) (q : PieceFacts) (gap c a : ℕ) (t : Tenancy)
+    (n j x e : ℕ) : Type 0 where
   pub ahead : ℕ
   pub sent : q.MirrorSent a ahead t n j x
-  pub piece : j ≡ ahead + 1
+  pub piece : j ≡ ahead + gap
   pub some : 1 ≤ ahead
   pub to : c ≡ cub_of p (a + ahead)
 
--- A record of piece j, which entered in beat e, comes of a split: of a split by the same cub, if j
--- is 1, or else by the mirror state of the cub that split.
+-- A record of piece j, which entered in beat e, comes of a split: of one by the same cub in the
+-- place of its predecessor, if j is 1, or else by the mirror state of the cub that split.
 pub record Origin (p : Params) (q : PieceFacts) (c : ℕ) (t : Tenancy) (n j e : ℕ) : Type 0 where
+  pub gap : ℕ
   pub cub : ℕ
   pub beat : ℕ
-  pub split : q.Split cub t n beat
+  pub split : Splits q gap cub t n beat
   pub by : beat ≤ e
   pub soon : e ≤ beat + p.delay
-  pub how : ((c ≡ cub) × (j ≡ 1)) ⊎ ByMirror p q c cub t n j beat e
+  pub how : ((gap ≡ 1) × (c ≡ cub) × (j ≡ 1)) ⊎ ByMirror p q gap c cub t n j beat e
 
 module _ (p : Params) (r : Facts) (g : Setting p r) (q : PieceFacts) (m : PieceLaws p r q) where
+  -- A split of either kind is such a one.
+  pub divides : {gap c n b : ℕ} {t : Tenancy} → Splits q gap c t n b → Divides p r gap c t n b
+  divides {gap} {c} {n} {b} {t} w = ⊎_elim
+      (λ a.
+      let k = m.splits a.1 in
+      record {
+        reading = k.reading;
+        tick = k.tick;
+        at = k.next ∙ ap (λ v. cub_of p (n + v)) (sym a.0);
+        beside = inr k.next;
+        beat = k.beat;
+        entered = k.entered;
+        by = k.by;
+        since = k.since;
+        soon = k.soon;
+      })
+      (λ a.
+      let k = m.spares a.1 in
+      let sum : n ≡ n + gap = let z = a.0 in omega arith in
+      record {
+        reading = k.reading;
+        tick = k.tick;
+        at = k.own ∙ ap (λ v. cub_of p v) sum;
+        beside = inl k.own;
+        beat = k.beat;
+        entered = k.entered;
+        by = k.by;
+        since = k.since;
+        soon = k.soon;
+      })
+      w
+
+  -- A mirror state goes out at a split of the kind that its piece tells.
+  pub mirror_split : {gap a k n j b : ℕ} {t : Tenancy} → q.MirrorSent a k t n j b → j ≡ k + gap
+      → Splits q gap a t n b
+  mirror_split {gap} {a} {k} {n} {j} {b} {t} w piece = ⊎_elim
+      (λ o. let at = o.piece in inl (omega arith, o.split))
+      (λ o. let at = o.piece in inr (omega arith, o.spared))
+      (m.mirrors w)
+
   -- Each record of a piece has its origin.
   origin_of : {c n j e : ℕ} {t : Tenancy} → ((j ≡ 1) × q.Split c t n e) ⊎ q.Mirrored c t n j e
       → Origin p q c t n j e
   origin_of {c} {n} {j} {e} {t} w = ⊎_elim
-      (λ a. record { cub = c; beat = e; split = a.1; by = omega arith; soon = omega arith; how = inl (refl, a.0) })
       (λ a.
-      let s = m.mirrored a in
-      let o = m.mirrors s.sent in
-      let later = s.later in
       record {
-        cub = s.from;
-        beat = s.beat;
-        split = o.split;
+        gap = 1;
+        cub = c;
+        beat = e;
+        split = inl (refl, a.1);
         by = omega arith;
-        soon = s.soon;
-        how = inr (record { ahead = s.ahead; sent = s.sent; piece = o.piece; some = o.some; to = s.to });
+        soon = omega arith;
+        how = inl (refl, refl, a.0);
       })
+      (λ a. let s = m.mirrored a in ⊎_elim
+      (λ o. by_state s 1 (inl (refl, o.split)) o.piece o.some)
+      (λ o.
+      let at = o.piece in
+      by_state s 0 (inr (refl, o.spared)) (omega arith) o.some)
+      (m.mirrors s.sent))
       w
+    where
+      -- A mirror state has the split at which it went out.
+      by_state : {c n j e : ℕ} {t : Tenancy} (s : WasMirrored p q c t n j e) (gap : ℕ)
+          → Splits q gap s.from t n s.beat → j ≡ s.ahead + gap → 1 ≤ s.ahead
+          → Origin p q c t n j e
+      by_state s gap split piece some =
+          let later = s.later in
+          record {
+            gap = gap;
+            cub = s.from;
+            beat = s.beat;
+            split = split;
+            by = omega arith;
+            soon = s.soon;
+            how = inr (record { ahead = s.ahead; sent = s.sent; piece = piece; some = some; to = s.to });
+          }
 
   -- What arises is a record of the block, or has an origin.
   pub kind_of : {c n j e : ℕ} {t : Tenancy} → Arises r q c t n j e
@@ -65,9 +145,9 @@ module _ (p : Params) (r : Facts) (g : Setting p r) (q : PieceFacts) (m : PieceL
   origin some w = ⊎_elim (λ a. let a0 = a.0 in absurd (omega arith)) (λ a. a) (kind_of w)
 
   -- A split is of a tenancy that was put.
-  pub split_held : {c n b : ℕ} {t : Tenancy} → q.Split c t n b → IsHeld r t n b
+  pub split_held : {gap c n b : ℕ} {t : Tenancy} → Splits q gap c t n b → IsHeld r t n b
   split_held w =
-      let k = m.splits w in
+      let k = divides w in
       let o = entered_held p r g.law k.entered in
       let by = k.by in
       let ob = o.by in
@@ -103,7 +183,7 @@ module _ (p : Params) (r : Facts) (g : Setting p r) (q : PieceFacts) (m : PieceL
   arises_early {c} {n} {j} {e} {t} w = ⊎_elim
       (λ a. own_early a.1)
       (λ o.
-      let z = m.splits o.split in
+      let z = divides o.split in
       let soon = z.soon in
       let reads = z.tick.low in
       let after = soon_after p o.beat e o.soon in
@@ -145,11 +225,18 @@ module _ (p : Params) (r : Facts) (g : Setting p r) (q : PieceFacts) (m : PieceL
       let long = o.long in
       record { until = o.until; died = o.died; long = omega arith }
 
-  -- So the cub that splits is in its first life for ever.
-  pub split_first_life : {c n b : ℕ} {t : Tenancy} → q.Split c t n b → (d : ℕ) → IsFirstLife r c d
-  split_first_life {c} {n} w d =
-      let next = (m.splits w).next ∙ sym (cub_ahead p n 1) in
-      next_first_life p r g.law c d (split_dead w).died.died next
+  -- So the cub that splits is in its first life for ever. If it splits one of its own, nobody dies,
+  -- so nobody comes back.
+  pub split_first_life : {gap c n b : ℕ} {t : Tenancy} → Splits q gap c t n b → (d : ℕ)
+      → IsFirstLife r c d
+  split_first_life {gap} {c} {n} w d = ⊎_elim
+      (λ a.
+      let next = (m.splits a.1).next ∙ sym (cub_ahead p n 1) in
+      next_first_life p r g.law c d (split_dead a.1).died.died next)
+      (λ a. λ v back.
+      let o = g.law.run.returned back in
+      absurd ((m.spares a.1).calm c o.beat o.died))
+      w
 
   -- The piece of a record that enters a cub which has come back leaves late enough after its
   -- return.
@@ -160,7 +247,7 @@ module _ (p : Params) (r : Facts) (g : Setting p r) (q : PieceFacts) (m : PieceL
       ⊎_elim
       (λ o. let late = entered_late p r g.law w o.1 back le in omega arith)
       (λ o. ⊎_elim
-      (λ s. let l = split_first_life s.1 y w back in absurd (omega arith))
+      (λ s. let l = split_first_life {gap = 1} (inl (refl, s.1)) y w back in absurd (omega arith))
       (λ s. m.late s back le)
       o)
       a
@@ -221,14 +308,22 @@ module _ (p : Params) (r : Facts) (g : Setting p r) (q : PieceFacts) (m : PieceL
       → (lead : ℕ) × IsThere p r q c t n j b lead
   used_there w = ⊎_elim (λ a. (p.read_lead, m.asks a)) (λ a. (0, m.serves a)) w
 
-  -- So has the cub of a visit of which a piece is asked for.
+  -- The cub of a visit of which a piece is asked for has died long before, or split it.
   pub asked_dead : {c n j b : ℕ} {t : Tenancy} → q.Asks c t n j b → 1 ≤ j
-      → DiedLongBefore p r (cub_of p n) b
+      → DiedLongBefore p r (cub_of p n) b ⊎ SparedBefore q (cub_of p n) t n b
   asked_dead {c} {n} {j} {b} {t} w some =
       let o = m.asks w in
       let s = origin some o.arises in
-      let d = split_dead s.split in
       let by = o.by in
       let sb = s.by in
+      let before = entered_before w o.arises in
+      ⊎_elim
+      (λ a.
+      let d = split_dead a.1 in
       let long = d.long in
-      record { until = d.until; died = d.died; long = omega arith }
+      inl (record { until = d.until; died = d.died; long = omega arith }))
+      (λ a.
+      let own = (m.spares a.1).own in
+      let spared = subst (λ v. q.Spared v t n s.beat) own a.1 in
+      inr (record { beat = s.beat; spared = spared; before = omega arith }))
+      s.split

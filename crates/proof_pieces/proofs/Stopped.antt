@@ -1,11 +1,12 @@
 -- Nothing of an instance is used later than a block play time after its stop.
 use Rattle.std.proofs.Common.{◌≡◌, ℕ, ◌+◌, ◌*◌, ◌<◌, ◌≤◌, sym, ap, subst, ◌∙◌, arith, ⊎_elim, inl, inr}
+use Rattle.std.specs.Prelude.{◌⊎◌}
 use Rattle.std.proofs.lemmas.Bool.{cases_lt}
 use Rattle.tiger_base.specs.declared.tenancy.Tenancy.{Tenancy}
 use Rattle.slot_plan.specs.declared.params.Params.{Params}
 use Rattle.slot_plan.specs.Times.{time_of, due, cub_of}
 use Rattle.slot_plan.proofs.Times.{time_mono, time_below, cub_below, cub_ahead}
-use Rattle.proof_schedule.specs.Facts.{Facts, Entered, IsReleasedBy, Ended, IsFirstLife, IsSameLife}
+use Rattle.proof_schedule.specs.Facts.{Facts, Entered, IsReleasedBy, IsFirstLife, IsSameLife}
 use Rattle.proof_schedule.proofs.Conflicts.{not_released, record_reached}
 use Rattle.proof_schedule.proofs.Ends.{IsEnd}
 use Rattle.proof_schedule.proofs.Kept.{over_before}
@@ -15,25 +16,36 @@ use Rattle.proof_schedule.proofs.Waves.{reached_after}
 use Rattle.proof_schedule.proofs.Lives.{first_same_life, same_life_later, same_life_since_stop}
 use Rattle.proof_schedule.proofs.Invariant.{Setting}
 use Rattle.proof_pieces.specs.PieceFacts.{PieceFacts, Arises, Uses}
-use Rattle.proof_pieces.specs.PieceLaws.{PieceLaws, IsThere, IsKilled, IsForgotten}
-use Rattle.proof_pieces.proofs.Entries.{Origin, ByMirror, origin, split_dead, split_first_life, there_soon, used_there, kind_of, split_held, arises_held}
+use Rattle.proof_pieces.specs.PieceLaws.{PieceLaws, IsThere, IsForgotten, MirrorSince}
+use Rattle.proof_pieces.proofs.Entries.{Splits, Origin, ByMirror, divides, mirror_split, split_dead, split_first_life, there_soon, used_there, kind_of, split_held, arises_held}
 use Rattle.proof_pieces.proofs.Leaving.{leave_until}
+
+-- Cub a, which was reached by a deschedule between two beats, told the cubs of all pieces of visit
+-- n that it had sent mirror states of to drop them.
+record Killing (p : Params) (r : Facts) (q : PieceFacts) (gap a : ℕ) (t : Tenancy)
+    (n from until : ℕ) : Type 0 where
+  pub beat : ℕ
+  pub reached : r.Reached a t.instance.0 beat
+  pub after : from < beat
+  pub by : beat ≤ until
+  pub kills : (k : ℕ) → 1 ≤ k → k + gap ≤ p.pieces → q.KillSent a k t.instance.0 t.slot.0 n beat
 
 -- Of a tenancy t that was put and stopped, with its end.
 module _ (p : Params) (r : Facts) (g : Setting p r) (q : PieceFacts) (m : PieceLaws p r q)
     (t : Tenancy) (x z base : ℕ) (e : IsEnd p r t x z base) where
   -- A cub that was reached splits nothing of it.
-  pub split_unreached : {a n y h : ℕ} → q.Split a t n y → r.Reached a t.instance.0 h → h ≤ y → ⊥
-  split_unreached {a} {n} {y} {h} w reached le =
-      let k = m.splits w in
+  pub split_unreached : {gap a n y h : ℕ} → Splits q gap a t n y → r.Reached a t.instance.0 h
+      → h ≤ y → ⊥
+  split_unreached {gap} {a} {n} {y} {h} w reached le =
+      let k = divides p r g q m w in
       let same = first_same_life r a y (split_first_life p r g q m w y) h in
       not_released p r g t x z base e k.entered (k.since h reached le same)
 
   -- So nothing of it is split after its wave: the cub that splits has been reached by then.
-  pub split_over : {a n y : ℕ} → q.Split a t n y → y ≤ z + (p.cubs + 1) * p.delay
-  split_over {a} {n} {y} w = ⊎_elim
+  pub split_over : {gap a n y : ℕ} → Splits q gap a t n y → y ≤ z + (p.cubs + 1) * p.delay
+  split_over {gap} {a} {n} {y} w = ⊎_elim
       (λ (late : z + (p.cubs + 1) * p.delay < y).
-      let k = m.splits w in
+      let k = divides p r g q m w in
       let soon = k.soon in
       let reads = k.tick.low in
       let low = (split_held p r g q m w).low in
@@ -41,9 +53,8 @@ module _ (p : Params) (r : Facts) (g : Setting p r) (q : PieceFacts) (m : PieceL
       let play = g.room.play in
       let from = from_base p r g t x z base e n low (omega arith) in
       let same = first_same_life r a y (split_first_life p r g q m w y) k.beat in
-      let near = inr k.next in
       let came = k.tick.came in
-      let h = record_reached p r g t x z base e k.entered same near from came (omega arith) in
+      let h = record_reached p r g t x z base e k.entered same k.beside from came (omega arith) in
       let by = h.by in
       absurd (split_unreached w h.reached (omega arith)))
       (λ (fine : y ≤ z + (p.cubs + 1) * p.delay). fine)
@@ -77,17 +88,22 @@ module _ (p : Params) (r : Facts) (g : Setting p r) (q : PieceFacts) (m : PieceL
   there_unreached {c} {n} {j} {b} {h} w reached le one_life =
       not_released_piece w.arises (w.since h reached le one_life)
 
-  -- The cub after a visit's lives, if a piece of the visit is there: it splits, so the visit's own
-  -- is dead.
-  ended_split : {c n b y j lead : ℕ} → IsThere p r q c t n j b lead → 1 ≤ j → y < b
-      → Ended r (cub_of p (n + 1)) y
-  ended_split {c} {n} {b} {y} {j} {lead} w some l =
-      let o = origin p r g q m some w.arises in
-      let d = split_dead p r g q m o.split in
+  -- The cub that split a visit lives, if a piece of the visit is there: the one before it is dead,
+  -- or nobody dies.
+  ended_split : {gap a c n b s y j lead : ℕ} → IsThere p r q c t n j b lead → Splits q gap a t n s
+      → y < b → r.Came a y
+  ended_split {gap} {a} {c} {n} {b} {s} {y} {j} {lead} w split l =
+      let at = (divides p r g q m split).at in
       ⊎_elim
-      (λ k. record { reading = k.reading; ticked = k.ticked })
-      (λ k. absurd (g.law.run.apart d.died.died k.died (sym (cub_ahead p n 1))))
-      (g.law.run.up w.tick.came l (cub_below p (n + 1) g.ok.ranges))
+      (λ k. subst (λ v. r.Came v y) (sym at) (g.law.run.came k.ticked))
+      (λ k. absurd (⊎_elim
+      (λ v.
+      let d = split_dead p r g q m v.1 in
+      let next = ap (λ i. cub_of p (n + i)) v.0 ∙ sym (cub_ahead p n 1) in
+      g.law.run.apart d.died.died k.died next)
+      (λ v. (m.spares v.1).calm (cub_of p (n + gap)) k.beat k.died)
+      split))
+      (g.law.run.up w.tick.came l (cub_below p (n + gap) g.ok.ranges))
 
   -- The first piece is not used after that cub was reached.
   by_first : {c a n j b h : ℕ} → Uses q c t n j b → c ≡ a → IsFirstLife r a b
@@ -97,40 +113,75 @@ module _ (p : Params) (r : Facts) (g : Setting p r) (q : PieceFacts) (m : PieceL
       let one_life = first_same_life r c b (subst (λ v. IsFirstLife r v b) (sym same) first) h in
       there_unreached (used_there p r g q m w).1 here le one_life
 
+  -- Its kills go to the cubs of all pieces, whatever its kind, or it was forgotten.
+  killed_by : {gap a n x y b : ℕ} → Splits q gap a t n x → r.Reached a t.instance.0 y → x < y
+      → r.Came a b → y ≤ b → IsSameLife r a x b
+      → Killing p r q gap a t n x y ⊎ IsForgotten p r a t n y
+  killed_by {gap} {a} {n} {x} {y} {b} w reached l came by one_life = ⊎_elim
+      (λ s. ⊎_elim
+      (λ k. inl (record {
+        beat = k.beat;
+        reached = k.reached;
+        after = k.after;
+        by = k.by;
+        kills = λ i some few. let one = s.0 in k.kills i some (omega arith);
+      }))
+      (λ k. inr k)
+      (m.kills s.1 reached l came by one_life))
+      (λ s. ⊎_elim
+      (λ k. inl (record {
+        beat = k.beat;
+        reached = k.reached;
+        after = k.after;
+        by = k.by;
+        kills = λ i some few. k.kills i some (omega arith);
+      }))
+      (λ k. inr k)
+      (m.spare_kills s.1 reached l))
+      w
+
+  -- A piece that is used when its kill must have come was sent behind that.
+  sent_again : {gap a k c n j x y b : ℕ} → Splits q gap a t n x
+      → q.KillSent a k t.instance.0 t.slot.0 n y → c ≡ cub_of p (a + k) → j ≡ k + gap
+      → Uses q c t n j b → y + p.delay ≤ b → MirrorSince q a k t n j y
+  sent_again {gap} {a} {k} {c} {n} {j} {x} {y} {b} split kill to piece w late = ⊎_elim
+      (λ s. let one = s.0 in m.killed s.1 kill to (omega arith) w late)
+      (λ s.
+      let none = s.0 in
+      let same : j ≡ k = omega arith in
+      let used = subst (λ v. Uses q c t n v b) same w in
+      subst (λ v. MirrorSince q a k t n v y) (sym same) (m.spare_killed s.1 kill to used late))
+      split
+
   -- Another piece is not used a way after the kill: it would have been sent behind it, so split
   -- after the deschedule came.
-  by_mirror : {c a n j b y s k h : ℕ} → Uses q c t n j b → ByMirror p q c a t n j s k
-      → IsKilled p r q a t n y h → h + p.delay ≤ b → ⊥
-  by_mirror {c} {a} {n} {j} {b} {y} {s} {k} {h} w o kill late =
+  by_mirror : {gap c a n j b y s k h : ℕ} → Uses q c t n j b → Splits q gap a t n s
+      → ByMirror p q gap c a t n j s k → Killing p r q gap a t n y h → h + p.delay ≤ b → ⊥
+  by_mirror {gap} {c} {a} {n} {j} {b} {y} {s} {k} {h} w split o kill late =
       let some = o.some in
       let piece = o.piece in
       let few = (used_there p r g q m w).1.few in
       let by = kill.by in
       let sent = kill.kills o.ahead some (omega arith) in
-      let again = m.killed sent o.to piece w (omega arith) in
-      split_unreached (m.mirrors again.sent).split kill.reached again.after
+      let again = sent_again split sent o.to piece w (omega arith) in
+      split_unreached (mirror_split p r g q m again.sent piece) kill.reached again.after
 
-  -- So if a piece is used a way after the splitting cub was reached, that cub had forgotten the
-  -- split.
-  pub used_forgotten : {c n j b h : ℕ} → Uses q c t n j b → 1 ≤ j
-      → r.Reached (cub_of p (n + 1)) t.instance.0 h → h + p.delay ≤ b
-      → IsForgotten p r (cub_of p (n + 1)) t n h
-  used_forgotten {c} {n} {j} {b} {h} w some reached late =
-      let o = origin p r g q m some (used_there p r g q m w).1.arises in
-      let a = (m.splits o.split).next in
-      let here : r.Reached o.cub t.instance.0 h = subst (λ v. r.Reached v t.instance.0 h) (sym a) reached in
+  -- So if a piece is used a way after the cub that split its visit was reached, that cub had
+  -- forgotten the split.
+  pub used_forgotten : {c n j b e h : ℕ} → Uses q c t n j b → (o : Origin p q c t n j e)
+      → r.Reached o.cub t.instance.0 h → h + p.delay ≤ b → IsForgotten p r o.cub t n h
+  used_forgotten {c} {n} {j} {b} {e} {h} w o here late =
       let delay = g.turn.delay in
-      let up = ended_split {y = h} (used_there p r g q m w).1 some (omega arith) in
-      let came = subst (λ v. r.Came v h) (sym a) (g.law.run.came up.ticked) in
+      let came = ended_split {y = h} (used_there p r g q m w).1 o.split (omega arith) in
       let one_life = first_same_life r o.cub h (split_first_life p r g q m o.split h) o.beat in
       ⊎_elim
       (λ (l : o.beat < h). ⊎_elim
       (λ kill. absurd (⊎_elim
-      (λ f. by_first w f.0 (split_first_life p r g q m o.split b) here (omega arith))
-      (λ f. by_mirror w f kill late)
+      (λ f. by_first w f.1 (split_first_life p r g q m o.split b) here (omega arith))
+      (λ f. by_mirror w o.split f kill late)
       o.how))
-      (λ k. subst (λ v. IsForgotten p r v t n h) a k)
-      (m.kills o.split here l came (omega arith) one_life))
+      (λ k. k)
+      (killed_by o.split here l came (omega arith) one_life))
       (λ (l : h ≤ o.beat). absurd (split_unreached o.split here l))
       (cases_lt o.beat h)
 
@@ -172,22 +223,19 @@ module _ (p : Params) (r : Facts) (g : Setting p r) (q : PieceFacts) (m : PieceL
           → Origin p q c t n j o.beat → base ≤ n → z + (p.cubs + 1) * p.delay < b
           → time_of p z + p.play < time_of p b → time_of p z + way p + p.skew < due p t.slot.0 n → ⊥
       late_piece {c} {n} {j} {b} {lead} w o s from over late after =
-          let split = m.splits s.split in
+          let split = divides p r g q m s.split in
           let until = z + (p.cubs + 1) * p.delay in
-          let some : 1 ≤ j = ⊎_elim (λ a. let a1 = a.1 in omega arith) (λ a. let k = a.piece in omega arith) s.how in
-          let up = ended_split {y = until} o some over in
+          let came = ended_split {y = until} o s.split over in
           let first = split_first_life p r g q m s.split until in
           let same = first_same_life r s.cub until first split.beat in
-          let came = subst (λ v. r.Came v until) (sym split.next) (g.law.run.came up.ticked) in
-          let near = inr split.next in
           let h =
-          record_reached p r g t x z base e split.entered same near from came (omega arith) in
+          record_reached p r g t x z base e split.entered same split.beside from came (omega arith) in
           let by = h.by in
           let far = wave_after p g.turn z (z + (p.cubs + 2) * p.delay) (p.cubs + 2) (omega arith) (omega arith) in
           let arrived = time_below p (z + (p.cubs + 2) * p.delay) b (omega arith) in
-          let f = used_forgotten w some (subst (λ v. r.Reached v t.instance.0 h.beat) split.next h.reached) (omega arith) in
+          let f = used_forgotten w s h.reached (omega arith) in
           let past = f.past in
           let before = f.before in
-          let reads = (g.law.run.reads f.ticked).1 in
+          let reads = (g.law.run.reads {b = f.beat} {l = f.reading} f.ticked).1 in
           let a = wave_after p g.turn z f.beat (p.cubs + 1) (omega arith) (omega arith) in
           omega arith

@@ -21,11 +21,30 @@ pub record IsSplit (p : Params) (r : Facts) (c : ℕ) (t : Tenancy) (n b : ℕ) 
   pub since : IsUnheld p r c t.instance.0 b beat
   pub soon : reading + p.read_lead + p.skew + time_of p p.delay + p.beat ≤ due p t.slot.0 n
 
+-- A visit is split by its own cub, which has the visit's own record, that entered when its instance
+-- was not held, and splits it as early. Only in a run in which no cub dies is that ever so.
+pub record IsSpared (p : Params) (r : Facts) (c : ℕ) (t : Tenancy) (n b : ℕ) : Type 0 where
+  pub reading : ℕ
+  pub tick : IsTick p r c b reading
+  pub own : c ≡ cub_of p n
+  pub beat : ℕ
+  pub entered : Entered r c t n beat
+  pub by : beat ≤ b
+  pub since : IsUnheld p r c t.instance.0 b beat
+  pub soon : reading + p.read_lead + p.skew + time_of p p.delay + p.beat ≤ due p t.slot.0 n
+  pub calm : (d x : ℕ) → ¬ r.Died d x
+
 -- The mirror state of piece j goes out at a split, to the cub that stands j - 1 after the one that
 -- splits.
 pub record IsMirror (p : Params) (q : PieceFacts) (a k : ℕ) (t : Tenancy) (n j b : ℕ) : Type 0 where
   pub split : q.Split a t n b
   pub piece : j ≡ k + 1
+  pub some : 1 ≤ k
+
+-- It goes out at a split of a visit of its own, to the cub that stands j after that.
+pub record IsSpareMirror (q : PieceFacts) (a k : ℕ) (t : Tenancy) (n j b : ℕ) : Type 0 where
+  pub spared : q.Spared a t n b
+  pub piece : j ≡ k
   pub some : 1 ≤ k
 
 -- A mirror state that cub c got in beat y was sent to it: at least one beat before, and at most the
@@ -85,6 +104,15 @@ pub record IsKilled (p : Params) (r : Facts) (q : PieceFacts) (a : ℕ) (t : Ten
   pub by : beat ≤ until
   pub kills : (k : ℕ) → 1 ≤ k → k < p.pieces → q.KillSent a k t.instance.0 t.slot.0 n beat
 
+-- Cub a told, between two beats, the cubs of all pieces of visit n of its own to drop them.
+pub record IsSpareKilled (p : Params) (r : Facts) (q : PieceFacts) (a : ℕ) (t : Tenancy)
+    (n from until : ℕ) : Type 0 where
+  pub beat : ℕ
+  pub reached : r.Reached a t.instance.0 beat
+  pub after : from < beat
+  pub by : beat ≤ until
+  pub kills : (k : ℕ) → 1 ≤ k → k ≤ p.pieces → q.KillSent a k t.instance.0 t.slot.0 n beat
+
 -- Cub a had forgotten the split of visit n before a beat, since the next visit was due at a tick.
 pub record IsForgotten (p : Params) (r : Facts) (a : ℕ) (t : Tenancy) (n until : ℕ) : Type 0 where
   pub beat : ℕ
@@ -103,9 +131,11 @@ pub record MirrorSince (q : PieceFacts) (a k : ℕ) (t : Tenancy) (n j y : ℕ) 
 pub record PieceLaws (p : Params) (r : Facts) (q : PieceFacts) : Type 0 where
   -- Splitting: who splits a visit, and when.
   pub splits : {c : ℕ} {t : Tenancy} {n b : ℕ} → q.Split c t n b → IsSplit p r c t n b
-  -- Splitting: a mirror state goes out only at a split.
+  -- Splitting: who splits a visit of its own, and when.
+  pub spares : {c : ℕ} {t : Tenancy} {n b : ℕ} → q.Spared c t n b → IsSpared p r c t n b
+  -- Splitting: a mirror state goes out only at a split of either kind.
   pub mirrors : {a k : ℕ} {t : Tenancy} {n j b : ℕ}
-      → q.MirrorSent a k t n j b → IsMirror p q a k t n j b
+      → q.MirrorSent a k t n j b → IsMirror p q a k t n j b ⊎ IsSpareMirror q a k t n j b
   -- Link: a mirror state that was got was sent.
   pub mirrored : {c : ℕ} {t : Tenancy} {n j y : ℕ}
       → q.Mirrored c t n j y → WasMirrored p q c t n j y
@@ -127,9 +157,18 @@ pub record PieceLaws (p : Params) (r : Facts) (q : PieceFacts) : Type 0 where
       → q.Split a t n x → r.Reached a t.instance.0 y → x < y → r.Came a b → y ≤ b
       → IsSameLife r a x b
       → IsKilled p r q a t n x y ⊎ IsForgotten p r a t n y
-  -- Kill, and order on the link: a piece that is used when a kill must have come was sent behind
-  -- it.
-  pub killed : {a k c : ℕ} {t : Tenancy} {n j y b : ℕ}
-      → q.KillSent a k t.instance.0 t.slot.0 n y → c ≡ cub_of p (a + k) → j ≡ k + 1
-      → Uses q c t n j b → y + p.delay ≤ b
+  -- Deschedule: so it kills what it split of its own.
+  pub spare_kills : {a : ℕ} {t : Tenancy} {n x y : ℕ}
+      → q.Spared a t n x → r.Reached a t.instance.0 y → x < y
+      → IsSpareKilled p r q a t n x y ⊎ IsForgotten p r a t n y
+  -- And a piece of it that is used when the kill must have come was sent behind that.
+  pub spare_killed : {a k c : ℕ} {t : Tenancy} {n x y b : ℕ}
+      → q.Spared a t n x → q.KillSent a k t.instance.0 t.slot.0 n y → c ≡ cub_of p (a + k)
+      → Uses q c t n k b → y + p.delay ≤ b
+      → MirrorSince q a k t n k y
+  -- Kill, and order on the link: a piece of a split that is used when a kill must have come was sent
+  -- behind it.
+  pub killed : {a k c : ℕ} {t : Tenancy} {n j x y b : ℕ}
+      → q.Split a t n x → q.KillSent a k t.instance.0 t.slot.0 n y → c ≡ cub_of p (a + k)
+      → j ≡ k + 1 → Uses q c t n j b → y + p.delay ≤ b
       → MirrorSince q a k t n j y

@@ -15,12 +15,12 @@ use Rattle.node_kit.specs.declared.journal.What.{What}
 use Rattle.node_kit.specs.declared.journal.What.TheVariants as what
 use Rattle.node_kit.specs.declared.outbox.Out.{Out}
 use Rattle.node_kit.specs.declared.outbox.Out.TheVariants as out
+use Rattle.node_kit.specs.Steps.{Deed, Input}
 use Rattle.node_kit.specs.Ways.{way_ahead}
 use Rattle.run_facts.specs.Histories.{History}
 use Rattle.run_facts.specs.Order.{Noted, beat_of, order_of}
 use Rattle.run_facts.proofs.Rows.{all-weaker}
 use Rattle.disk_core.specs.State.{DiskState}
-use Rattle.ring_nodes.specs.declared.nodes.AnyNode.{AnyNode}
 use Rattle.ring_nodes.specs.AllNodes.{any_step}
 use Rattle.proof_lives.specs.Facts.{DidAt}
 use Rattle.proof_lives.specs.TwoLifeRun.{WhichLife, life_in}
@@ -34,31 +34,30 @@ use Rattle.proof_moments.proofs.Bridge as bridge
 use Rattle.proof_moments.proofs.Lists.{any_with}
 use Rattle.lists.proofs.Each.{all_by, all_in}
 use Rattle.proof_moments.proofs.Truths.{ways_after}
+use Rattle.proof_facts.specs.Beside.{Additions, nothing_added}
 use Rattle.proof_facts.specs.Facts.{facts_of}
 use Rattle.proof_facts.specs.Lives.{later_lives_of, lives_of}
-use Rattle.proof_facts.specs.Rings.{IsRingHistory}
+use Rattle.proof_facts.specs.Rings.{IsRingWith}
 use Rattle.proof_links.proofs.States.{BeatBefore, heartbeat_from}
 use Rattle.proof_ring.proofs.Histories.{cubs_laws}
 use Rattle.proof_journals.specs.Journals.{AreJournalsOf}
 use Rattle.proof_journals.proofs.Events.{AreKept}
 use Rattle.proof_journals.proofs.Logging.{sent_logged}
-use Rattle.proof_ring.specs.Rings.{IsRing}
+use Rattle.proof_ring.proofs.CubLives.{rings_are_histories}
 use Rattle.proof_ring.specs.Beliefs.{IsBelief, SendsHeartbeat, IsSilentFrom, IsNoticed, BelievesBy, IsBelievedInTime, BeliefsAreInTime, RingsBelieveInTime}
 use Rattle.proof_ring.proofs.Recorded as recorded
 
-module _ (G : Type 0) (p : Params) (orders : List Order) (disk_at : ℕ → DiskState) (h : History Msg (AnyNode G)) (journals : List (List Entry))
-    (plan : IsPlan p) (is_ring : IsRing p orders disk_at h) (are : AreJournalsOf any_step p h journals) where
+module _ {S : Type 0} (step : S → Input Msg → Deed Msg S) (p : Params) (orders : List Order) (disk_at : ℕ → DiskState) (added : Additions)
+    (h : History Msg S) (journals : List (List Entry)) (plan : IsPlan p) (ring : IsRingWith step p orders disk_at added h)
+    (are : AreJournalsOf step p h journals) where
   abbrev pub r : Facts
   r = facts_of p orders h
 
-  pub ring : IsRingHistory any_step p orders disk_at h
-  ring = recorded.ring G p orders disk_at h journals plan is_ring are
-
-  kept : AreKept any_step p orders disk_at h journals
+  kept : AreKept step p orders disk_at added h journals
   kept = record { plan = plan; ring = ring; are = are }
 
   w : IsRecorded p r orders journals
-  w = recorded.recorded G p orders disk_at h journals plan is_ring are
+  w = recorded.recorded step p orders disk_at added h journals plan ring are
 
   -- What a cub did in a life it did in one of two.
   either : (w : WhichLife) {c b : ℕ} {o : Out Msg} → DidAt p (life_in h w) c o b
@@ -117,7 +116,7 @@ module _ (G : Type 0) (p : Params) (orders : List Order) (disk_at : ℕ → Disk
         (λ (heard : HeardTill p r c b l). absurd (not_heard c d quiet b l next small silent tick long heard))
         (λ (early : l ≤ p.deadman). absurd (not_first c quiet b l tick.0 long early))
         other)
-        ((cubs_laws any_step p orders disk_at h plan ring).rest.watches tick.0 first)
+        ((cubs_laws step p orders disk_at added h plan ring).rest.watches tick.0 first)
 
     believed : (c d quiet b l : ℕ) → c ≡ cub_of p (d + 1) → d < p.cubs → IsFirstLife r c b → IsSilentFrom log d quiet b
         → IsTickBelow r beats c b l → IsNoticed p quiet b → BelievesBy log c d b
@@ -145,12 +144,21 @@ module _ (G : Type 0) (p : Params) (orders : List Order) (disk_at : ℕ → Disk
         believed (cub_of p (x.node + 1)) x.node quiet beat reading refl small (next_stays x there is small beat) silent tick long
     in_time x there other is = tt
 
-pub rings_believe_in_time : (G : Type 0) → RingsBelieveInTime G
-rings_believe_in_time G p orders disk_at h journals beats plan is_ring are =
+-- Whoever dies in a history is believed dead in time, whatever cubs add.
+pub histories_believe_in_time : {S : Type 0} (step : S → Input Msg → Deed Msg S) (p : Params) (orders : List Order) (disk_at : ℕ → DiskState)
+    (added : Additions) (h : History Msg S) (journals : List (List Entry)) (beats : ℕ)
+    → IsPlan p → IsRingWith step p orders disk_at added h → AreJournalsOf step p h journals
+    → BeliefsAreInTime p (IsTickBelow (facts_of p orders h) beats) (order_of beats journals)
+histories_believe_in_time step p orders disk_at added h journals beats plan ring are =
     let r = facts_of p orders h in
     let log = order_of beats journals in
     all_by (λ (x : Noted). IsBelievedInTime p (IsTickBelow r beats) log x.node x.entry.what) log
-    (λ x there. in_time G p orders disk_at h journals plan is_ring are beats x there x.entry.what refl)
+    (λ x there. in_time step p orders disk_at added h journals plan ring are beats x there x.entry.what refl)
+
+pub rings_believe_in_time : (G : Type 0) → RingsBelieveInTime G
+rings_believe_in_time G p orders disk_at h journals beats plan is_ring are =
+    histories_believe_in_time (any_step {G = G}) p orders disk_at nothing_added h journals beats plan
+    (rings_are_histories G p orders disk_at h plan is_ring) are
 
 -- And so with fewer ticks.
 pub with_ticks : (p : Params) (ticked some : ℕ → ℕ → ℕ → Type 0) (log : List Noted) → IsPlan p

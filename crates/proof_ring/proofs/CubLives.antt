@@ -1,5 +1,5 @@
 -- Each node of a ring puts out what its rules say, as far as its death lets it: a cub in its first life, and from its return on.
-use Rattle.std.proofs.Common.{◌≡◌, ℕ, zero, suc, ◌+◌, ◌<◌, ◌≤◌, List, true, false, Option, None, refl, sym, ap, ◌∙◌, arith, ⊎_elim}
+use Rattle.std.proofs.Common.{◌≡◌, ℕ, zero, suc, ◌+◌, ◌<◌, ◌≤◌, List, true, false, Option, None, refl, sym, ap, ◌∙◌, arith, ⊎_elim, append-nil}
 use Rattle.std.specs.Prelude.{◌++◌}
 use Rattle.std.proofs.lemmas.Bool.{cases_Bool, cases_lt}
 use Rattle.tiger_base.specs.declared.number.Stamp.{Stamp}
@@ -221,7 +221,8 @@ rings_are_histories G p orders disk_at h plan ring = record {
   counted = ring.counted;
   short = ring.short;
   rules = record {
-    cubs = λ c i small low. puts_first ring c small i low;
+    cubs = λ c i small low. puts_first ring c small i low ∙ sym (append-nil (outs_in p (lives_of h) c i));
+    few = λ c i small low. tt;
     back = λ c i small low. puts_later ring c small (omega arith) i low;
     disks = λ d i small low.
         let n : ℕ = node_of_disk p d in

@@ -1,4 +1,5 @@
 pub mod Beliefs
+pub mod Below
 pub mod Claims
 pub mod Commanded
 pub mod Counted

@@ -1,5 +1,6 @@
 pub mod Accounts
 pub mod Beliefs
+pub mod ClaimsOfHistories
 pub mod ClaimsOfRings
 pub mod Histories
 pub mod Kept

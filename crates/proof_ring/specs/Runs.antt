@@ -14,7 +14,7 @@ use Rattle.ring_nodes.specs.declared.nodes.AnyNode.{AnyNode}
 use Rattle.ring_nodes.specs.AllNodes.{any_step, faults_of, image_at}
 use Rattle.ring_facts.specs.Rings.{IsRingRun}
 use Rattle.proof_facts.specs.Rings.{IsUpTo, AreOfCatalogue, HaveImages}
-use Rattle.proof_journals.specs.Journals.{AreJournalsOf}
+pub use Rattle.proof_journals.specs.Journals.{AreJournalsOf}
 use Rattle.proof_ring.specs.Rings.{IsRing}
 
 -- Disk number d of a plan as it opens: it has its image of the library, and its own read faults.

@@ -11,7 +11,7 @@ use Rattle.proof_schedule.proofs.Lives.{first_same_life}
 use Rattle.proof_schedule.proofs.Origins.{entered_held, got_held}
 use Rattle.proof_schedule.proofs.Soon.{soon}
 use Rattle.proof_pieces.specs.PieceFacts.{PieceFacts}
-use Rattle.proof_pieces.proofs.Entries.{split_first_life}
+use Rattle.proof_pieces.proofs.Entries.{Splits, divides, split_first_life}
 use Rattle.proof_service.specs.Blocks.{IsNotBackFor}
 use Rattle.proof_service.specs.ServiceFacts.{ServiceFacts, IsLeftTo, MayServe, LetsIn, serves_from}
 use Rattle.proof_service.proofs.Lives.{Lives}
@@ -180,15 +180,18 @@ module _ (p : Params) (r : Facts) (q : PieceFacts) (w : ServiceFacts) (end : ℕ
       e.1)
       (λ e. ⊎_elim
       (λ split. let one = split.0 in omega arith)
-      (λ m. let one = (s.pieces.mirrors (s.pieces.mirrored m).sent).piece in omega arith)
+      (λ m. ⊎_elim
+      (λ i. let one = i.piece in omega arith)
+      (λ i. let one = i.piece in let some = i.some in omega arith)
+      (s.pieces.mirrors (s.pieces.mirrored m).sent))
       e)
       o.arises
 
   -- What is split is due soon.
-  pub split_near : {c n b : ℕ} {t : Tenancy} → q.Split c t n b
+  pub split_near : {gap c n b : ℕ} {t : Tenancy} → Splits q gap c t n b
       → due p t.slot.0 n ≤ time_of p b + p.max_lead + p.play + p.skew
-  split_near {c} {n} {b} {t} split =
-      let k = s.pieces.splits split in
+  split_near {gap} {c} {n} {b} {t} split =
+      let k = divides p r s.setting q s.pieces split in
       let by = k.by in
       let near = soon p s.setting.room r s.setting.law k.entered in
       let m = time_mono p k.beat b by in
@@ -203,12 +206,12 @@ module _ (p : Params) (r : Facts) (q : PieceFacts) (w : ServiceFacts) (end : ℕ
       (λ (early : due p t.slot.0 n < serves_from p l). inl early)
       (λ (late : serves_from p l ≤ due p t.slot.0 n).
       let k = s.pieces.splits split in
-      let near = split_near split in
+      let near = split_near {gap = 1} (inl (refl, split)) in
       let low = (s.setting.law.run.reads tick).0 in
       let sum = time_add p x p.delay in
       let arrived = time_below p (x + p.delay) b (omega (arith, s.setting.room)) in
       let next = k.next ∙ sym (ap (λ y. cub_of p (y + 1)) here ∙ cub_ahead p n 1) in
-      let first = split_first_life p r s.setting q s.pieces split b in
+      let first = split_first_life p r s.setting q s.pieces {gap = 1} (inl (refl, split)) b in
       let same = first_same_life r c b first x in
       let took = s.laws.back_arrives c b back tick next k.tick.came same (omega arith) in
       let took_by = took.by in

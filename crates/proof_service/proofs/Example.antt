@@ -9,7 +9,7 @@ use Rattle.slot_plan.specs.Times.{due, cub_of}
 use Rattle.proof_schedule.specs.Facts.{BelievedBy, EnteredBy, Entered, IsSameLife}
 use Rattle.proof_schedule.specs.Logs.{Inserted, Took, Believed}
 use Rattle.proof_pieces.specs.PieceFacts.{leave, Arises}
-use Rattle.proof_pieces.specs.PieceLogs.{Split, MirrorSent, Mirrored, Asks}
+use Rattle.proof_pieces.specs.PieceLogs.{Split, Spared, MirrorSent, Mirrored, Asks}
 use Rattle.proof_service.specs.Blocks.{LeftInTime}
 use Rattle.proof_service.specs.Example.{plan, viewer, bytes, one_run, its_blocks, IsAwaited, IsMetWithDeath}
 use Rattle.proof_service.specs.ServiceFacts.{ArisesBy, AsksInLife, SplitBy}
@@ -167,6 +167,7 @@ blocks = record {
   back_from = λ {c} {d} {from} {y} h small next. absurd (is_block (TookBack c from y) h);
   left = λ {c} {t} {n} {b} h from y took le. absurd (is_block (TookBack c from y) took);
   may_serve = λ {c} {t} {n} {j} {b} h x l back tick le whole. absurd (nobody back);
+  unread = λ {c} {d} {t} {n} {x} {b} h k. absurd (is_piece (Spared c t n x) h);
   watches = λ {c} {b} {l} h always. watches 0 350 350 one_run timed worked h;
   heard_from = λ {c} {d} {y} h small next. heard_from 0 350 350 one_run timed worked h small next;
   split_due = λ {c} {t} {n} {b} {l} believed h next up always left soon.

@@ -7,7 +7,7 @@ use Rattle.slot_plan.specs.Times.{first_due, due, cub_of}
 use Rattle.mirror_pieces.specs.Pieces.{leaving}
 use Rattle.proof_pieces.specs.PieceFacts.{PieceFacts, leave, Arises}
 use Rattle.proof_pieces.specs.PieceLaws.{PieceLaws, IsSplit}
-use Rattle.proof_pieces.specs.PieceLogs.{PieceFact, pieces_in, Split, MirrorSent, Mirrored, KillSent, Asks, Serves}
+use Rattle.proof_pieces.specs.PieceLogs.{PieceFact, pieces_in, Split, Spared, MirrorSent, Mirrored, KillSent, Asks, Serves}
 use Rattle.proof_service.specs.Example.{plan, viewer, one_run, its_pieces, its_blocks}
 use Rattle.proof_service.specs.ServiceFacts.{ServiceFacts}
 use Rattle.proof_service.specs.ServiceLogs.{service_in}
@@ -27,6 +27,7 @@ IsPart c n j s = ((c ≡ 0) × (n ≡ 0) × (j ≡ 0) × (s ≡ 50))
 -- Each fact about pieces is one of these.
 abbrev pub IsPiece : PieceFact → Type 0
 IsPiece (Split c t n b) = (c ≡ 2) × (t ≡ viewer) × (n ≡ 1) × (b ≡ 121)
+IsPiece (Spared c t n b) = ⊥
 IsPiece (MirrorSent a k t n j b) = (a ≡ 2) × (k ≡ 1) × (t ≡ viewer) × (n ≡ 1) × (j ≡ 2) × (b ≡ 121)
 IsPiece (Mirrored c t n j b) = (c ≡ 3) × (t ≡ viewer) × (n ≡ 1) × (j ≡ 2) × (b ≡ 122)
 IsPiece (KillSent a k v s n b) = ⊥
@@ -194,9 +195,10 @@ pieces = record {
   splits = λ {c} {t} {n} {b} h.
       let k = is_piece (Split c t n b) h in
       rw (k.0, k.1, k.2, k.3) split_is;
+  spares = λ {c} {t} {n} {b} h. absurd (is_piece (Spared c t n b) h);
   mirrors = λ {a} {k = s} {t} {n} {j} {b} h.
       let k = is_piece (MirrorSent a s t n j b) h in
-      rw (k.0, k.1, k.2, k.3, k.4, k.5) (record { split = split_in; piece = refl; some = omega arith });
+      rw (k.0, k.1, k.2, k.3, k.4, k.5) (inl (record { split = split_in; piece = refl; some = omega arith }));
   mirrored = λ {c} {t} {n} {j} {y} h.
       let k = is_piece (Mirrored c t n j y) h in
       rw (k.0, k.1, k.2, k.3, k.4) (record {
@@ -221,6 +223,9 @@ pieces = record {
   rising = λ {c} {a} {b} {l} {m} h k le. rising 0 350 350 one_run timed worked h k le;
   kills = λ {a} {t} {n} {x} {y} {b} h k l came le same.
       absurd ((none 0 350 350 one_run timed worked).reached a t.instance.0 y k);
-  killed = λ {a} {k = s} {c} {t} {n} {j} {y} {b} h to e u le.
-      absurd (is_piece (KillSent a s t.instance.0 t.slot.0 n y) h);
+  spare_kills = λ {a} {t} {n} {x} {y} h k l. absurd (is_piece (Spared a t n x) h);
+  spare_killed = λ {a} {k = s} {c} {t} {n} {x} {y} {b} h kill to e u.
+      absurd (is_piece (Spared a t n x) h);
+  killed = λ {a} {k = s} {c} {t} {n} {j} {x} {y} {b} h kill to e u le.
+      absurd (is_piece (KillSent a s t.instance.0 t.slot.0 n y) kill);
 }

@@ -21,6 +21,7 @@ pub mod Sent
 pub mod Served
 pub mod Service
 pub mod Serving
+pub mod Spares
 pub mod Takeover
 pub mod Ticks
 pub mod TrueReads

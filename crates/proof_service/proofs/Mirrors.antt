@@ -8,7 +8,8 @@ use Rattle.slot_plan.specs.Times.{time_of, due, cub_of}
 use Rattle.slot_plan.proofs.Times.{time_below, time_mono, cub_below, cub_ahead}
 use Rattle.proof_schedule.specs.Facts.{Facts, enters_from}
 use Rattle.proof_schedule.proofs.Room.{way, soon_after}
-use Rattle.proof_pieces.specs.PieceFacts.{PieceFacts, leave}
+use Rattle.proof_pieces.specs.PieceFacts.{PieceFacts, Arises, leave}
+use Rattle.proof_pieces.proofs.Entries.{Splits, divides}
 use Rattle.proof_pieces.proofs.Leaving.{leave_after, leave_until}
 use Rattle.proof_service.specs.Blocks.{LeftInTime, DiedBeforeLeaving, PieceIsLost}
 use Rattle.proof_service.specs.ServiceFacts.{ServiceFacts, ArisesBy, LetsIn}
@@ -16,42 +17,47 @@ use Rattle.proof_service.proofs.Back.{first_life, second_life, one_return, first
 use Rattle.proof_service.proofs.Lives.{Lives, in_life, since_life}
 use Rattle.proof_service.proofs.Service.{Service}
 use Rattle.proof_service.proofs.Serving.{Awaited, LeftOrFailed, in_run, not_reached, there_left}
-use Rattle.proof_service.proofs.Takeover.{goes_on}
 use Rattle.proof_service.proofs.Ticks.{turn}
 
 module _ (p : Params) (r : Facts) (q : PieceFacts) (w : ServiceFacts) (end : ℕ) (s : Service p r q w end) where
   -- A visit is split so early that its pieces can still be sent ahead and read.
-  pub split_soon : {c n b : ℕ} {t : Tenancy} → q.Split c t n b
+  pub split_soon : {gap c n b : ℕ} {t : Tenancy} → Splits q gap c t n b
       → time_of p b + p.read_lead + p.skew + way p + p.beat ≤ due p t.slot.0 n
-  split_soon k = let o = s.pieces.splits k in let soon = o.soon in let low = o.tick.low in omega arith
+  split_soon k =
+      let o = divides p r s.setting q s.pieces k in
+      let soon = o.soon in
+      let low = o.tick.low in
+      omega arith
 
--- Of an awaited visit n of t, which the next cub split in beat b since the visit's own died in beat
--- e.
+-- The mirror state of piece j of visit n went out to the piece's cub in beat b.
+pub record GoesOut (p : Params) (q : PieceFacts) (t : Tenancy) (n j b : ℕ) : Type 0 where
+  pub from : ℕ
+  pub ahead : ℕ
+  pub sent : q.MirrorSent from ahead t n j b
+  pub to : cub_of p (n + j) ≡ cub_of p (from + ahead)
+
+-- Of an awaited visit n of t, which was split in beat b: each piece's record arose with the split,
+-- or its mirror state went out.
 module _ (p : Params) (r : Facts) (q : PieceFacts) (w : ServiceFacts) (end : ℕ) (s : Service p r q w end)
-    (t : Tenancy) (n : ℕ) (v : Awaited p r end t n) (e : ℕ) (died : r.Died (cub_of p n) e)
-    (b : ℕ) (split : q.Split (cub_of p (n + 1)) t n b) where
-  -- The record of another piece than the first comes with its mirror state, if its cub lives from
-  -- the split on and lets the piece in.
-  mirror_comes : {from f : ℕ} (k : ℕ) → 1 ≤ k → k < p.pieces
-      → Lives r (cub_of p (n + (k + 1))) from f → from ≤ b
-      → LetsIn p r (cub_of p (n + (k + 1))) (leave p t n (k + 1)) f
+    (t : Tenancy) (n : ℕ) (v : Awaited p r end t n) (b gap splitter : ℕ)
+    (split : Splits q gap splitter t n b)
+    (out : (j : ℕ) → 1 ≤ j → j ≤ p.pieces → Arises r q (cub_of p (n + j)) t n j b ⊎ GoesOut p q t n j b) where
+  -- The record of a piece comes with its mirror state, if its cub lives from the split on and lets
+  -- the piece in.
+  mirror_comes : {j from f : ℕ} → GoesOut p q t n j b → Lives r (cub_of p (n + j)) from f
+      → from ≤ b → LetsIn p r (cub_of p (n + j)) (leave p t n j) f
       → due p t.slot.0 n ≤ time_of p f
-      → ArisesBy r q (cub_of p (n + (k + 1))) t n (k + 1) f
-  mirror_comes {from} {f} k some few lives low lets late =
+      → ArisesBy r q (cub_of p (n + j)) t n j f
+  mirror_comes {j} {from} {f} sent lives low lets late =
       let early = split_soon p r q w end s split in
       let room = s.setting.room in
-      let far = in_run p r q w end s t n v b (omega (arith, room)) in
-      let here = goes_on p r q w end s b n died (omega arith) in
-      let sent = s.laws.mirrors_due k split here.ticked some few in
-      let sum : n + 1 + k ≡ n + (k + 1) = omega arith in
-      let to : cub_of p (n + (k + 1)) ≡ cub_of p (cub_of p (n + 1) + k) = sym (cub_ahead p (n + 1) k ∙ ap (λ m. cub_of p m) sum) in
       let soon = soon_after p b (b + p.delay) (omega arith) in
       let before = time_below p (b + p.delay) f (omega (arith, room)) in
       let there = lives.ended (b + p.delay) (omega arith) (omega arith) in
-      let c : ℕ = cub_of p (n + (k + 1)) in
+      let c : ℕ = cub_of p (n + j) in
       let came = s.setting.law.run.came there.ticked in
       let since = in_life lives b (b + p.delay) low (omega arith) in
-      let then : LetsIn p r c (leave p t n (k + 1)) (b + p.delay) =
+      let then : LetsIn p r c (leave p t n j) (b + p.delay) =
       λ x l back tick le. lets x l back tick (omega arith) in
       ⊎_elim
       (λ h.
@@ -60,7 +66,7 @@ module _ (p : Params) (r : Facts) (q : PieceFacts) (w : ServiceFacts) (end : ℕ
       let same = in_life lives h.beat f after (omega arith) in
       record { beat = h.beat; arises = h.arises; by = omega arith; life = same })
       (λ h. absurd (not_reached p r q w end s t n v h (omega (arith, room))))
-      (s.laws.mirror_arrives c (b + p.delay) sent to refl came since then (omega arith))
+      (s.laws.mirror_arrives c (b + p.delay) sent.sent sent.to refl came since then (omega arith))
 
   -- So the record of each piece is there in time, if its cub lives from the split on and lets the
   -- piece in.
@@ -68,20 +74,14 @@ module _ (p : Params) (r : Facts) (q : PieceFacts) (w : ServiceFacts) (end : ℕ
       → from ≤ b → LetsIn p r (cub_of p (n + j)) (leave p t n j) f
       → due p t.slot.0 n ≤ time_of p f
       → ArisesBy r q (cub_of p (n + j)) t n j f
-  piece_comes zero some few lives low lets late = absurd (omega arith)
-  piece_comes {from} {f} (suc zero) some few lives low lets late =
+  piece_comes {from} {f} j some few lives low lets late = ⊎_elim
+      (λ arises.
       let early = split_soon p r q w end s split in
       let before = time_below p b f (omega (arith, s.setting.room)) in
       let same = in_life lives b f low (omega arith) in
-      record { beat = b; arises = inr (inl (refl, split)); by = omega arith; life = same }
-  piece_comes {from} {f} (suc (suc k)) some few lives low lets late =
-      let sum : k + 1 + 1 ≡ suc (suc k) = omega arith in
-      subst
-      (λ i. Lives r (cub_of p (n + i)) from f → LetsIn p r (cub_of p (n + i)) (leave p t n i) f
-      → ArisesBy r q (cub_of p (n + i)) t n i f)
-      sum
-      (λ lives lets. mirror_comes (k + 1) (omega arith) (omega arith) lives low lets late)
-      lives lets
+      record { beat = b; arises = arises; by = omega arith; life = same })
+      (λ sent. mirror_comes sent lives low lets late)
+      (out j some few)
 
   -- What is split is due soon, so if a cub that came back lets a piece in, that was split after its
   -- return.

@@ -7,7 +7,7 @@ use Rattle.slot_plan.specs.Times.{due, cub_of}
 use Rattle.proof_schedule.specs.Facts.{BelievedBy, EnteredBy, Entered}
 use Rattle.proof_schedule.specs.Logs.{Inserted, Took, Believed}
 use Rattle.proof_pieces.specs.PieceFacts.{leave}
-use Rattle.proof_pieces.specs.PieceLogs.{Split, MirrorSent, Mirrored, Asks, Serves}
+use Rattle.proof_pieces.specs.PieceLogs.{Split, Spared, MirrorSent, Mirrored, Asks, Serves}
 use Rattle.proof_service.specs.Blocks.{LeftInTime}
 use Rattle.proof_service.specs.Example.{plan}
 use Rattle.proof_service.specs.ReturnExample.{viewer, one_run, its_blocks, IsAwaited, IsMetWithReturn, LawsCanBeMet}
@@ -189,6 +189,7 @@ blocks = record {
       let due_then : due plan t.slot.0 n ≡ due plan 1 17 =
       ap (λ (x : Tenancy). due plan x.slot.0 n) k.0 ∙ ap (λ x. due plan 1 x) at in
       omega arith;
+  unread = λ {c} {d} {t} {n} {x} {b} h k. absurd (is_piece (Spared c t n x) h);
   watches = λ {c} {b} {l} h always. watches 16 1950 60 one_run timed worked h;
   heard_from = λ {c} {d} {y} h small next.
       heard_from 16 1950 60 one_run timed worked h small next;

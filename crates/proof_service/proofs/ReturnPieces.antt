@@ -6,7 +6,7 @@ use Rattle.std.proofs.lemmas.List.Elements.{All-from_recursion, All-contains}
 use Rattle.slot_plan.specs.Times.{first_due, due}
 use Rattle.proof_pieces.specs.PieceFacts.{PieceFacts, leave}
 use Rattle.proof_pieces.specs.PieceLaws.{PieceLaws}
-use Rattle.proof_pieces.specs.PieceLogs.{PieceFact, pieces_in, Split, MirrorSent, Mirrored, KillSent, Asks, Serves}
+use Rattle.proof_pieces.specs.PieceLogs.{PieceFact, pieces_in, Split, Spared, MirrorSent, Mirrored, KillSent, Asks, Serves}
 use Rattle.proof_service.specs.Example.{plan}
 use Rattle.proof_service.specs.ReturnExample.{viewer, one_run, its_pieces, its_blocks}
 use Rattle.proof_service.specs.ServiceFacts.{ServiceFacts}
@@ -24,6 +24,7 @@ IsPart c n j s = ((c ≡ 0) × (n ≡ 16) × (j ≡ 0) × (s ≡ 1650))
 -- Each fact about pieces is one of these.
 abbrev pub IsPiece : PieceFact → Type 0
 IsPiece (Split c t n b) = ⊥
+IsPiece (Spared c t n b) = ⊥
 IsPiece (MirrorSent a k t n j b) = ⊥
 IsPiece (Mirrored c t n j b) = ⊥
 IsPiece (KillSent a k v s n b) = ⊥
@@ -111,6 +112,7 @@ parts = record {
 pub pieces : PieceLaws plan r q
 pieces = record {
   splits = λ {c} {t} {n} {b} h. absurd (is_piece (Split c t n b) h);
+  spares = λ {c} {t} {n} {b} h. absurd (is_piece (Spared c t n b) h);
   mirrors = λ {a} {k = s} {t} {n} {j} {b} h. absurd (is_piece (MirrorSent a s t n j b) h);
   mirrored = λ {c} {t} {n} {j} {y} h. absurd (is_piece (Mirrored c t n j y) h);
   late = λ {c} {t} {n} {j} {y} {w} h again le. absurd (is_piece (Mirrored c t n j y) h);
@@ -125,6 +127,9 @@ pieces = record {
       rw k.0 (was_asked 16 1950 60 one_run timed worked q w IsPart parts k.1);
   rising = λ {c} {a} {b} {l} {m} h k le. rising 16 1950 60 one_run timed worked h k le;
   kills = λ {a} {t} {n} {x} {y} {b} h k l came le same. absurd (is_piece (Split a t n x) h);
-  killed = λ {a} {k = s} {c} {t} {n} {j} {y} {b} h to e u le.
-      absurd (is_piece (KillSent a s t.instance.0 t.slot.0 n y) h);
+  spare_kills = λ {a} {t} {n} {x} {y} h k l. absurd (is_piece (Spared a t n x) h);
+  spare_killed = λ {a} {k = s} {c} {t} {n} {x} {y} {b} h kill to e u.
+      absurd (is_piece (Spared a t n x) h);
+  killed = λ {a} {k = s} {c} {t} {n} {j} {x} {y} {b} h kill to e u le.
+      absurd (is_piece (KillSent a s t.instance.0 t.slot.0 n y) kill);
 }

@@ -1,5 +1,5 @@
 -- What is sent to the viewers is sent in time, once, and in the order of the visits.
-use Rattle.std.proofs.Common.{◌≡◌, ℕ, zero, suc, ◌+◌, ◌<◌, ◌≤◌, refl, sym, ap, subst, ◌∙◌, arith, ⊎_elim, inr}
+use Rattle.std.proofs.Common.{◌≡◌, ℕ, zero, suc, ◌+◌, ◌<◌, ◌≤◌, refl, sym, ap, subst, ◌∙◌, arith, ⊎_elim, inl, inr}
 use Rattle.tiger_base.specs.declared.tenancy.Tenancy.{Tenancy}
 use Rattle.slot_plan.specs.declared.params.Params.{Params}
 use Rattle.slot_plan.specs.Times.{time_of, cub_of}
@@ -62,21 +62,20 @@ module _ (p : Params) (r : Facts) (q : PieceFacts) (w : ServiceFacts) (end : ℕ
       let e = same_tenancy k l same in
       s.right.one_sent c d n j a b t u k l (ap (λ (x : Tenancy). x.slot.0) e)
 
-  -- The whole block is sent by a cub that goes on until the visit is due, and a piece only if that
-  -- cub died before and did not come back in time: then it does not send the whole block.
-  not_both : {c d n a b : ℕ} {t : Tenancy} (j : ℕ) → q.Serves c t n 0 a → q.Serves d t n (suc j) b
-      → ⊥
-  not_both {c} {d} {n} {a} {b} {t} j k l =
+  -- The whole block is sent by a cub that goes on until the visit is due, and the visit is split by
+  -- the next one only if that cub died before and did not come back in time: then it does not send
+  -- the whole block.
+  not_split : {c d n a b : ℕ} {t : Tenancy} → q.Serves c t n 0 a → q.Split d t n b → ⊥
+  not_split {c} {d} {n} {a} {b} {t} k split =
       let o = s.pieces.serves k in
       let low = (sent_in_time k).0 in
-      let split = (origin p r s.setting q s.pieces (omega arith) (s.pieces.serves l).arises).split in
-      let early = split_soon p r q w end s split in
+      let early = split_soon p r q w end s {gap = 1} (inl (refl, split)) in
       let dead = split_dead p r s.setting q s.pieces split in
       let by = dead.died.by in
       let long = dead.long in
       let none : n + 0 ≡ n = omega arith in
       let here : cub_of p n ≡ c = sym (o.here ∙ ap (λ m. cub_of p m) none) in
-      let before = time_mono p (dead.until + p.delay + 2) (origin p r s.setting q s.pieces (omega arith) (s.pieces.serves l).arises).beat long in
+      let before = time_mono p (dead.until + p.delay + 2) b long in
       ⊎_elim
       (λ first.
       let died = subst (λ x. r.Died x dead.died.beat) here dead.died.died in
@@ -91,6 +90,14 @@ module _ (p : Params) (r : Facts) (q : PieceFacts) (w : ServiceFacts) (end : ℕ
       (λ first. served_later p r q w end s k back.returned back.by first)
       (split_not_back p r q w end s split (sym here) back.returned e.ticked))
       (s.setting.law.run.returns c a)
+
+  -- So a piece is not sent with the whole block: what its own cub split, it does not send whole.
+  not_both : {c d n a b : ℕ} {t : Tenancy} (j : ℕ) → q.Serves c t n 0 a → q.Serves d t n (suc j) b
+      → ⊥
+  not_both j k l = ⊎_elim
+      (λ a. not_split k a.1)
+      (λ a. s.laws.unread a.1 k)
+      (origin p r s.setting q s.pieces (omega arith) (s.pieces.serves l).arises).split
 
   pub alone : {c d n a b : ℕ} {t u : Tenancy} (j : ℕ) → q.Serves c t n 0 a → q.Serves d u n j b
       → u.instance.0 ≡ t.instance.0 → j ≡ 0

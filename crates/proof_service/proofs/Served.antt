@@ -1,23 +1,23 @@
 -- Each settled visit is served, whole or in pieces, or there is an excuse.
-use Rattle.std.proofs.Common.{◌≡◌, ℕ, ◌+◌, ◌<◌, ◌≤◌, refl, ap, subst, arith, ⊎_elim, inl, inr, eq-or-lt_of_le}
+use Rattle.std.proofs.Common.{◌≡◌, ℕ, zero, suc, ◌+◌, ◌<◌, ◌≤◌, refl, sym, ap, subst, ◌∙◌, arith, ⊎_elim, inl, inr, eq-or-lt_of_le}
 use Rattle.std.specs.Prelude.{◌⊎◌}
 use Rattle.std.proofs.lemmas.Bool.{cases_lt}
 use Rattle.tiger_base.specs.declared.tenancy.Tenancy.{Tenancy}
 use Rattle.slot_plan.specs.declared.params.Params.{Params}
 use Rattle.slot_plan.specs.Times.{time_of, due, cub_of, takeover}
-use Rattle.slot_plan.proofs.Times.{time_below, time_mono, due_mono, cub_below}
+use Rattle.slot_plan.proofs.Times.{time_below, time_mono, due_mono, cub_below, cub_ahead}
 use Rattle.proof_schedule.specs.Facts.{Facts, LivedTo, Entered, EnteredBy, IsOpenTo}
 use Rattle.proof_schedule.proofs.Lives.{first_same_life, first_is_open, open_before}
 use Rattle.proof_schedule.proofs.Timely.{put_in_time}
-use Rattle.proof_pieces.specs.PieceFacts.{PieceFacts}
+use Rattle.proof_pieces.specs.PieceFacts.{PieceFacts, Arises}
 use Rattle.proof_service.specs.Blocks.{IsDelivered, IsExcused, IsNotBackFor}
 use Rattle.proof_service.specs.ServiceFacts.{ServiceFacts, MayServe}
 use Rattle.proof_service.proofs.Back.{IsBackFor, first_life, second_life, first_may_serve, back_may_serve, back_or_not, left_to_next}
 use Rattle.proof_service.proofs.Lives.{Lives, in_life, since_life}
-use Rattle.proof_service.proofs.Mirrors.{all_or_one}
+use Rattle.proof_service.proofs.Mirrors.{GoesOut, all_or_one, split_soon}
 use Rattle.proof_service.proofs.Service.{Service}
 use Rattle.proof_service.proofs.Serving.{Awaited, LeftOrFailed, in_run, not_cut, there_left}
-use Rattle.proof_service.proofs.Takeover.{opening, is_split}
+use Rattle.proof_service.proofs.Takeover.{goes_on, opening, is_split}
 use Rattle.proof_service.proofs.Ticks.{turn}
 
 module _ (p : Params) (r : Facts) (q : PieceFacts) (w : ServiceFacts) (end : ℕ) (s : Service p r q w end) where
@@ -72,7 +72,7 @@ module _ (p : Params) (r : Facts) (q : PieceFacts) (w : ServiceFacts) (end : ℕ
       (s.one.who c x t i)
 
   -- So the cub of a visit has its record, if it goes on in its first life until the visit is due.
-  comes : {c x f n : ℕ} {t : Tenancy} → r.Put c t x → t.first ≤ n → n ≤ t.last
+  pub comes : {c x f n : ℕ} {t : Tenancy} → r.Put c t x → t.first ≤ n → n ≤ t.last
       → Awaited p r end t n → LivedTo r (cub_of p n) f → due p t.slot.0 n ≤ time_of p f
       → EnteredBy r (cub_of p n) t n f
   comes {c} {x} {f} {n} {t} i low high v ended late = ⊎_elim
@@ -88,7 +88,7 @@ module _ (p : Params) (r : Facts) (q : PieceFacts) (w : ServiceFacts) (end : ℕ
       (eq-or-lt_of_le low)
 
   -- And the block leaves whole from a cub that lives and may serve it, or its read fails.
-  whole_left : {from f n : ℕ} {t : Tenancy} → Awaited p r end t n → EnteredBy r (cub_of p n) t n f
+  pub whole_left : {from f n : ℕ} {t : Tenancy} → Awaited p r end t n → EnteredBy r (cub_of p n) t n f
       → Lives r (cub_of p n) from f → from ≤ f → MayServe p r (cub_of p n) t n 0 f
       → due p t.slot.0 n ≤ time_of p f
       → LeftOrFailed p q w end (cub_of p n) t n 0
@@ -120,6 +120,29 @@ module _ (p : Params) (r : Facts) (q : PieceFacts) (w : ServiceFacts) (end : ℕ
       let k = later_comes i h.more high v lives (inr (omega (arith, s.setting.room))) let_in late in
       let before = time_below p h.beat f (omega (arith, s.setting.room)) in
       whole_left v k lives (omega arith) (back_may_serve p r q w end s h f) late
+
+  -- Where the next cub split a visit since the visit's own died, its record of the first piece arose
+  -- with that, and the mirror states of the others went out.
+  goes_out : {e n b : ℕ} {t : Tenancy} → Awaited p r end t n → r.Died (cub_of p n) e
+      → q.Split (cub_of p (n + 1)) t n b → (j : ℕ) → 1 ≤ j → j ≤ p.pieces
+      → Arises r q (cub_of p (n + j)) t n j b ⊎ GoesOut p q t n j b
+  goes_out v died split zero some few = absurd (omega arith)
+  goes_out v died split (suc zero) some few = inl (inr (inl (refl, split)))
+  goes_out {e} {n} {b} {t} v died split (suc (suc k)) some few =
+      let early = split_soon p r q w end s {gap = 1} (inl (refl, split)) in
+      let far = in_run p r q w end s t n v b (omega (arith, s.setting.room)) in
+      let here = goes_on p r q w end s b n died (omega arith) in
+      let sent = s.laws.mirrors_due (k + 1) split here.ticked (omega arith) (omega arith) in
+      let piece : k + 1 + 1 ≡ suc (suc k) = omega arith in
+      let sum : n + 1 + (k + 1) ≡ n + suc (suc k) = omega arith in
+      let to : cub_of p (n + suc (suc k)) ≡ cub_of p (cub_of p (n + 1) + (k + 1)) =
+      sym (cub_ahead p (n + 1) (k + 1) ∙ ap (λ m. cub_of p m) sum) in
+      inr (record {
+        from = cub_of p (n + 1);
+        ahead = k + 1;
+        sent = subst (λ i. q.MirrorSent (cub_of p (n + 1)) (k + 1) t n i b) piece sent;
+        to = to;
+      })
 
   -- If the visit's cub died first and did not come back in time, then the next one took over and
   -- served the visit in pieces, or a piece was lost, or the visit was due too soon after the death.
@@ -154,7 +177,8 @@ module _ (p : Params) (r : Facts) (q : PieceFacts) (w : ServiceFacts) (end : ℕ
         high = one.high;
         lost = one.lost;
       }))))
-      (all_or_one p r q w end s t n v e died split.beat split.split p.pieces (omega arith)))
+      (all_or_one p r q w end s t n v split.beat 1 (cub_of p (n + 1)) (inl (refl, split.split))
+      (λ j some few. goes_out v died split.split j some few) p.pieces (omega arith)))
       (cases_lt (due p t.slot.0 n) (time_of p e + takeover p))
 
   -- So each awaited visit of what is put is served, or there is an excuse: its cub goes on until it

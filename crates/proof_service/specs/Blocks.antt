@@ -98,13 +98,14 @@ IsSettled p end t n = due p t.slot.0 n + 2 * p.play ≤ time_of p (end + 1)
 abbrev pub IsUnstopped : Params → Facts → Tenancy → ℕ → Type 0
 IsUnstopped p r t n = (z : ℕ) → r.Gone t.instance.0 z → due p t.slot.0 n + p.play ≤ time_of p z
 
--- Blocks are served: what holds of all that was put, and of all that is sent to the viewers.
-pub record AreBlocksServed (p : Params) (r : Facts) (q : PieceFacts) (w : ServiceFacts)
-    (end : ℕ) : Type 0 where
+-- Blocks are served but for excuses: what holds of all that was put, and of all that is sent to the
+-- viewers. Excused tells which visits of a tenancy have an excuse.
+pub record AreServedBut (p : Params) (r : Facts) (q : PieceFacts) (end : ℕ)
+    (Excused : Tenancy → ℕ → Type 0) : Type 0 where
   -- Each settled visit of a tenancy that was put, and not stopped by then, is delivered or excused.
   pub served : (c x n : ℕ) (t : Tenancy)
       → r.Put c t x → t.first ≤ n → n ≤ t.last → IsSettled p end t n → IsUnstopped p r t n
-      → IsDelivered p q end t n ⊎ IsExcused p r w end t n
+      → IsDelivered p q end t n ⊎ Excused t n
   -- What is sent is of a visit of a tenancy that was put.
   pub held : (c n j b : ℕ) (t : Tenancy) → q.Serves c t n j b → IsHeld r t n b
   -- Piece j of a visit is sent by the j-th cub after the visit's, and the whole block by the
@@ -135,6 +136,10 @@ pub record AreBlocksServed (p : Params) (r : Facts) (q : PieceFacts) (w : Servic
   pub order : (c d n m i j x y : ℕ) (t u : Tenancy)
       → n < m → q.Serves c t n i x → q.Serves d u m j y → u.instance.0 ≡ t.instance.0
       → x + p.delay < y
+
+-- Blocks are served: the excuses are those of a run in which cubs may die.
+abbrev pub AreBlocksServed : Params → Facts → PieceFacts → ServiceFacts → ℕ → Type 0
+AreBlocksServed p r q w end = AreServedBut p r q end (IsExcused p r w end)
 
 -- Whatever the facts of a run of a plan, if they meet the laws of the schedule, of pieces and of
 -- blocks, blocks are served.

@@ -36,6 +36,12 @@ pub record SplitBy (q : PieceFacts) (c : ℕ) (t : Tenancy) (n b : ℕ) : Type 0
   pub split : q.Split c t n beat
   pub by : beat ≤ b
 
+-- Cub c split visit n of t, one of its own, in beat b or before it.
+pub record SparedBy (q : PieceFacts) (c : ℕ) (t : Tenancy) (n b : ℕ) : Type 0 where
+  pub beat : ℕ
+  pub spared : q.Spared c t n beat
+  pub by : beat ≤ b
+
 -- The record by which piece j is asked for entered in beat b or before it, in the same life.
 pub record ArisesBy (r : Facts) (q : PieceFacts) (c : ℕ) (t : Tenancy) (n j b : ℕ) : Type 0 where
   pub beat : ℕ

@@ -90,6 +90,8 @@ pub record ServiceLaws (p : Params) (r : Facts) (q : PieceFacts) (w : ServiceFac
   pub left : {c : ℕ} {t : Tenancy} {n b : ℕ} → q.Split c t n b → IsLeftTo p w c t n b
   -- Serving: a cub that has come back sends a whole block only of a visit that is due late enough.
   pub may_serve : {c : ℕ} {t : Tenancy} {n j b : ℕ} → q.Serves c t n j b → MayServe p r c t n j b
+  -- Disk and serving: what was split since its disk is dead is not sent whole.
+  pub unread : {c d : ℕ} {t : Tenancy} {n x b : ℕ} → q.Spared c t n x → q.Serves d t n 0 b → ⊥
   -- Deadman: a cub in its first life that does not believe its predecessor dead has heard it, or
   -- the run has just begun.
   pub watches : {c b l : ℕ}

@@ -55,7 +55,7 @@ use Rattle.proof_facts.specs.Blocks.{KilledAt}
 use Rattle.proof_facts.specs.Carried.{Leads, CubsAreTold, TookInOrder, WasSentBy}
 use Rattle.proof_facts.specs.Laws.{KillBefore}
 use Rattle.proof_lives.specs.FactsBy.{Beyond, CameToTick, IsInOneLife, facts_by}
-use Rattle.proof_facts.specs.Pieces.{piece, stamp_of as made_stamp, MirrorSentAt, MirroredAt, KillSentAt, AsksAt, ServesAt, pieces_by}
+use Rattle.proof_facts.specs.Pieces.{piece, stamp_of as made_stamp, MirrorSentAt, MirroredAt, KillSentAt, SplitAt, AsksAt, ServesAt, pieces_by}
 use Rattle.cub_rules.specs.Comebacks.{lets_in}
 use Rattle.proof_lives.proofs.Fitting.{Fits}
 use Rattle.proof_lives.proofs.SameLife.{back_in_life, let_in_late, returned, same_life}
@@ -143,6 +143,27 @@ kill_stops p c (Tick stamp) h link v s n i =
 
 -- ---- of one life
 
+-- In its life a cub has never split off a piece.
+abbrev pub SplitsOffNone : Params → Lives → ℕ → PieceState → Type 0
+SplitsOffNone p lives c x = (i : ℕ) (stamp : Stamp) → i < lives.count c → lives.input c i ≡ Tick stamp
+    → IsSplitOff p c stamp (store_at p c (lives.input c) i) x → ⊥
+
+-- So it is if it never splits a visit, and no death cuts it off.
+pub splits_off_none : (p : Params) (lives : Lives) (c : ℕ) (x : PieceState) → c < p.cubs
+    → ((t : Tenancy) (n b : ℕ) → SplitAt p lives c t n b → ⊥) → ((i : ℕ) → i < lives.count c → cut_in lives c i ≡ None)
+    → SplitsOffNone p lives c x
+splits_off_none p lives c x small none whole i stamp low is w = none x.tenancy x.visit stamp.beat (record {
+  reading = stamp.reading;
+  tick = record { small = small; at = i; done = low; is = is };
+  believes = w.believes;
+  line = w.line;
+  there = w.there;
+  must = w.must;
+  left = w.left;
+  number = 0;
+  goes = inl (whole i low);
+})
+
 module _ (p : Params) (lives : Lives) (are : AreLives p lives) where
   -- a mirror state is of a split of its beat
   pub mirrors : {a k : ℕ} {t : Tenancy} {n j b : ℕ} → MirrorSentAt p lives a k t n j b
@@ -195,11 +216,12 @@ module _ (p : Params) (plan : IsPlan p) (lives : Lives) (are : AreLives p lives)
       → enters_from p (time_of p w) ≤ leave p t n j
   late {c} {t} {n} {j} {y} {w} m back le =
       let s = known.mirror_sent (mirrored m).sent in
-      let number = s.number in
+      let some = s.some in
+      let low : 1 ≤ j = ⊎_elim (λ q. omega arith) (λ q. omega arith) s.number in
       let eb : beat_at (lives.input c) m.at ≡ y = ap (λ (k : Input Msg). (stamp_of k).beat) m.is in
       let enters = let_in_late p lives beyond are fits c m.at m.at (leaving_of p (piece t n j)) w m.small m.done m.lets back
       (omega arith) in
-      let is = leave_is p t n j (omega arith) in
+      let is = leave_is p t n j low in
       omega arith
 
   -- who is told to drop pieces was told so by a kill
@@ -267,13 +289,15 @@ module _ (p : Params) (plan : IsPlan p) (lives : Lives) (are : AreLives p lives)
       ⊎ ReachedBy (facts_by p lives beyond) c t.instance.0 (x + p.delay)
   mirror_arrives {a} {k} {t} {n} {j} {x} c b w to here up one_life lets late =
       let m = known.mirror_sent w in
-      let number = m.number in
+      let some = m.some in
       let few = m.few in
+      let low : 1 ≤ j = ⊎_elim (λ q. omega arith) (λ q. omega arith) m.number in
+      let near : k ≤ j = ⊎_elim (λ q. omega arith) (λ q. omega arith) m.number in
       let small : c < p.cubs = subst (λ (d : ℕ). d < p.cubs) (sym to) (cub_below p (a + k) plan.ranges) in
       let leads : Leads p (way_ahead p a k) a c = subst (λ (d : ℕ). Leads p (way_ahead p a k) a d) (sym to)
       (ahead_ends p a k plan m.small m.some (omega arith)) in
       let g = told.to a c x b (way_ahead p a k) (msg.MirrorState (piece t n j)) m.sends leads small up one_life late in
-      of_taken g small (omega arith)
+      of_taken g small low
     where
       of_taken : TookInOrder p lives beyond a c (way_ahead p a k) (msg.MirrorState (piece t n j)) x → c < p.cubs → 1 ≤ j
           → ArisesBy (facts_by p lives beyond) (pieces_by p lives) c t n j (x + p.delay)
@@ -363,30 +387,36 @@ module _ (p : Params) (plan : IsPlan p) (lives : Lives) (are : AreLives p lives)
       (omega arith) in
       d.behind g.at first (subst (λ (k : Input Msg). CutsOff k x) (sym g.is) (same, visit))
 
+  -- What is known of all mirror states: how much the number of a piece is above the steps that it goes.
+  abbrev pub AllGo : ℕ → Type 0
+  AllGo gap = (a k : ℕ) (t : Tenancy) (n j b : ℕ) → among.MirrorSent a k t n j b → j ≡ k + gap
+
   -- a mirror state that came on whatever link was sent by the cub as many steps before as its piece says
-  record CameFrom (c : ℕ) (x : PieceState) (link : LinkNo) (y : ℕ) : Type 0 where
+  record CameFrom (gap c : ℕ) (x : PieceState) (link : LinkNo) (y : ℕ) : Type 0 where
     from : ℕ
+    ahead : ℕ
     small : from < p.cubs
     few : x.piece ≤ p.pieces
-    way : link ≡ way_ahead p from (x.piece - 1)
-    to : c ≡ cub_of p (from + (x.piece - 1))
+    number : x.piece ≡ ahead + gap
+    way : link ≡ way_ahead p from ahead
+    to : c ≡ cub_of p (from + ahead)
     sent : WasSentBy p beyond from c link (msg.MirrorState x) y
 
-  came_from : (c i : ℕ) (stamp : Stamp) (link : LinkNo) (x : PieceState) → c < p.cubs → i < lives.count c
+  came_from : (gap : ℕ) → AllGo gap → (c i : ℕ) (stamp : Stamp) (link : LinkNo) (x : PieceState) → c < p.cubs → i < lives.count c
       → lives.input c i ≡ Take stamp link (msg.MirrorState x)
-      → CameFrom c x link stamp.beat
-  came_from c i stamp link x small low e =
+      → CameFrom gap c x link stamp.beat
+  came_from gap go c i stamp link x small low e =
       let a = told.mirrors c i stamp link x small low e in
       let sends = subst (λ (l : LinkNo). beyond.Sends a.from l (msg.MirrorState x) a.sent.beat) a.way a.sent.sent in
-      let s = known.mirror_sent (known.mirror a.from a.ahead x.tenancy x.visit x.piece a.sent.beat a.small a.some sends) in
-      let number = s.number in
-      let steps : a.ahead ≡ x.piece - 1 = omega arith in
+      let m = known.mirror a.from a.ahead x.tenancy x.visit x.piece a.sent.beat a.small a.some sends in
       record {
         from = a.from;
+        ahead = a.ahead;
         small = a.small;
-        few = s.few;
-        way = a.way ∙ ap (λ (k : ℕ). way_ahead p a.from k) steps;
-        to = a.to ∙ ap (λ (k : ℕ). cub_of p (a.from + k)) steps;
+        few = (known.mirror_sent m).few;
+        number = go a.from a.ahead x.tenancy x.visit x.piece a.sent.beat m;
+        way = a.way;
+        to = a.to;
         sent = a.sent;
       }
 
@@ -400,12 +430,13 @@ module _ (p : Params) (plan : IsPlan p) (lives : Lives) (are : AreLives p lives)
 
   -- what stands at a tick that a kill must have come before entered by a mirror state that was sent behind it: behind it on the
   -- link, or since the cub came back
-  behind_kill : (a k c : ℕ) (t : Tenancy) (n j y b i : ℕ) (stamp : Stamp)
-      → IsKillSend p beyond a k t.instance.0 t.slot.0 n y → c ≡ cub_of p (a + k) → j ≡ k + 1
+  behind_kill : (gap : ℕ) → AllGo gap → (a k c : ℕ) (t : Tenancy) (n j y b i : ℕ) (stamp : Stamp)
+      → IsKillSend p beyond a k t.instance.0 t.slot.0 n y → c ≡ cub_of p (a + k) → j ≡ k + gap
+      → SplitsOffNone p lives c (piece t n j)
       → y + p.delay ≤ b → c < p.cubs → i < lives.count c → lives.input c i ≡ Tick stamp → stamp.beat ≡ b
       → CameToTick p lives c b
       → In (piece t n j) (store_at p c (lives.input c) i).pieces.items → MirrorSince among a k t n j y
-  behind_kill a k c t n j y b i stamp kill to number late small low tick eb up there =
+  behind_kill gap go a k c t n j y b i stamp kill to number none late small low tick eb up there =
       let d = (life c small).entered i (piece t n j) (omega arith) there in
       of_entry d (lives.input c d.at) refl d.enters
     where
@@ -415,17 +446,18 @@ module _ (p : Params) (plan : IsPlan p) (lives : Lives) (are : AreLives p lives)
       of_entry : (d : StandsSince p c (lives.input c) (piece t n j) i) → (q : Input Msg) → lives.input c d.at ≡ q
           → Enters p c q (store_at p c (lives.input c) d.at) (piece t n j)
           → MirrorSince among a k t n j y
-      of_entry d (Tick at) e w = let first = w.first in let some = kill.some in absurd (omega arith)
+      of_entry d (Tick at) e w = let before = d.before in absurd (none d.at at (omega arith) e w)
       of_entry d (Take at link m) e w =
           let x : PieceState = piece t n j in
           let before = d.before in
           let done : d.at < lives.count c = omega arith in
           let is : lives.input c d.at ≡ Take at link (msg.MirrorState x) = e
           ∙ ap (λ (o : Msg). Take at link o) w.is in
-          let f = came_from c d.at at link x small done is in
+          let f = came_from gap go c d.at at link x small done is in
           let some = kill.some in
           let most = f.few in
-          let steps : j - 1 ≡ k = omega arith in
+          let above = f.number in
+          let steps : f.ahead ≡ k = omega arith in
           let from : f.from ≡ a = one_before p f.from a k f.small kill.small
           (ap (λ (s : ℕ). cub_of p (f.from + s)) (sym steps) ∙ sym f.to ∙ to) in
           let way : link ≡ way_ahead p a k = f.way ∙ ap (λ (s : ℕ). way_ahead p f.from s) steps
@@ -462,19 +494,20 @@ module _ (p : Params) (plan : IsPlan p) (lives : Lives) (are : AreLives p lives)
           })
           (cases_lt y (beat_at (lives.input c) 0))
 
-  -- what is used when a kill must have come was sent behind it
-  pub killed : {a k c : ℕ} {t : Tenancy} {n j y b : ℕ} → among.KillSent a k t.instance.0 t.slot.0 n y
-      → c ≡ cub_of p (a + k) → j ≡ k + 1
+  -- What is used when a kill must have come was sent behind it, if all mirror states go with one gap, and the cub has not split
+  -- the piece off itself.
+  pub killed_by_link : (gap : ℕ) → AllGo gap → {a k c : ℕ} {t : Tenancy} {n j y b : ℕ}
+      → IsKillSend p beyond a k t.instance.0 t.slot.0 n y → c ≡ cub_of p (a + k) → j ≡ k + gap
+      → SplitsOffNone p lives c (piece t n j)
       → Uses (pieces_by p lives) c t n j b → y + p.delay ≤ b → MirrorSince among a k t n j y
-  killed {a} {k} {c} {t} {n} {j} {y} {b} sent to number uses late =
-      let kill = known.kill_sent sent in
+  killed_by_link gap go {a} {k} {c} {t} {n} {j} {y} {b} kill to number none uses late =
       let some = kill.some in
       ⊎_elim
       (λ (w : AsksAt p lives c t n j b).
       let tick = w.tick in
       let stamp : Stamp = made_stamp b w.reading in
       let inner = (life c tick.small).in_tick tick.at stamp (piece t n j) in
-      of_use kill tick (⊎_elim
+      of_use tick (⊎_elim
       (λ q. let zero = q.0 in absurd (omega arith))
       (λ q. ⊎_elim (λ u. inl ((life c tick.small).within tick.at (piece t n j) u)) (λ u. inr u) (inner.unasked q.1))
       w.asks))
@@ -482,18 +515,28 @@ module _ (p : Params) (plan : IsPlan p) (lives : Lives) (are : AreLives p lives)
       let tick = w.sends.tick in
       let stamp : Stamp = made_stamp b w.sends.reading in
       let inner = (life c tick.small).in_tick tick.at stamp (piece t n j) in
-      of_use kill tick (⊎_elim
+      of_use tick (⊎_elim
       (λ q. let zero = q.0 in absurd (omega arith))
       (λ q. inner.at_serving q.1)
       w.sends.serves))
       uses
     where
-      of_use : {l : ℕ} → IsKillSend p beyond a k t.instance.0 t.slot.0 n y → (tick : TickAt p lives c b l)
+      of_use : {l : ℕ} → (tick : TickAt p lives c b l)
           → In (piece t n j) (store_at p c (lives.input c) tick.at).pieces.items
           ⊎ IsSplitOff p c (made_stamp b l) (store_at p c (lives.input c) tick.at) (piece t n j)
           → MirrorSince among a k t n j y
-      of_use {l} kill tick how = ⊎_elim
-          (λ u. behind_kill a k c t n j y b tick.at
-          (made_stamp b l) kill to number late tick.small tick.done tick.is refl (record { reading = l; tick = tick }) u)
-          (λ u. let first = u.first in let some = kill.some in absurd (omega arith))
+      of_use {l} tick how = ⊎_elim
+          (λ u. behind_kill gap go a k c t n j y b tick.at
+          (made_stamp b l) kill to number none late tick.small tick.done tick.is refl (record { reading = l; tick = tick }) u)
+          (λ u. absurd (none tick.at (made_stamp b l) tick.done tick.is u))
           how
+
+  -- So it is by the rules: a piece that is killed is not the first one.
+  pub killed : {a k c : ℕ} {t : Tenancy} {n j x y b : ℕ} → among.Split a t n x → among.KillSent a k t.instance.0 t.slot.0 n y
+      → c ≡ cub_of p (a + k) → j ≡ k + 1
+      → Uses (pieces_by p lives) c t n j b → y + p.delay ≤ b → MirrorSince among a k t n j y
+  killed {a} {k} {c} {t} {n} {j} {x} {y} {b} split sent to number uses late =
+      let kill = known.kill_sent sent in
+      let some = kill.some in
+      killed_by_link 1 (λ d i u m q z w. known.by_rules split w) kill to number
+      (λ i stamp low is u. let first = u.first in omega arith) uses late

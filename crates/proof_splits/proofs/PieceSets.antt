@@ -126,15 +126,15 @@ one_more_there {X} before same x (z ∷ zs) =
     (λ _. inr (one_more_there before same x zs))
     (λ g. inl (same x z f g)))
 
-with_piece_from : (p : Params) (x y : PieceState) (ys : List PieceState) → In y (with_piece p x ys) → (y ≡ x) ⊎ In y ys
+pub with_piece_from : (p : Params) (x y : PieceState) (ys : List PieceState) → In y (with_piece p x ys) → (y ≡ x) ⊎ In y ys
 unfolding with_piece
 with_piece_from p x y ys i = one_more_from (comes_before p) x y ys i
 
-with_piece_stays : (p : Params) (x y : PieceState) (ys : List PieceState) → In y ys → In y (with_piece p x ys)
+pub with_piece_stays : (p : Params) (x y : PieceState) (ys : List PieceState) → In y ys → In y (with_piece p x ys)
 unfolding with_piece
 with_piece_stays p x y ys i = one_more_stays (comes_before p) x y ys i
 
-with_piece_there : (p : Params) (x : PieceState) (ys : List PieceState) → In x (with_piece p x ys)
+pub with_piece_there : (p : Params) (x : PieceState) (ys : List PieceState) → In x (with_piece p x ys)
 unfolding with_piece
 with_piece_there p x ys = one_more_there (comes_before p)
     (λ a b f g. same_piece a b ((pieces_same p).neither a b f g)) x ys

@@ -113,12 +113,13 @@ pub split_laws : (p : Params) (lives : Lives) → IsPlan p → AreLives p lives 
 split_laws p lives plan are formed beyond fits told among known disk_at = record {
   splits = λ w. splits p plan lives are formed beyond fits.came w;
   left = λ w. left p plan lives are formed beyond told among known disk_at w;
+  nothing_spared = λ c t n b w. absurd w;
   mirrors = λ w. mirrors p lives are w;
   mirrored = λ w. mirrored p plan lives are formed beyond fits told among known w;
   late = λ m back le. late p plan lives are formed beyond fits told among known m back le;
   kills = λ w g less up le. kills p lives plan are formed beyond w g less up.tick le;
   kill_reached = λ w. kill_reached p lives are w;
-  killed = λ w to number uses after. killed p plan lives are formed beyond fits told among known w to number uses after;
+  killed = λ split w to number uses after. killed p plan lives are formed beyond fits told among known split w to number uses after;
   split_due = λ believed entered next tick first left time.
       split_due p plan lives are formed beyond believed entered next tick left time;
   mirrors_due = λ k w tick low high. sends_all p lives _ k w (whole_tick p lives are w.tick tick) low high;

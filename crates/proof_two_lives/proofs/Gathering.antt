@@ -10,14 +10,14 @@ use Rattle.stripe_layout.specs.declared.catalogue.Catalogue.{Catalogue}
 use Rattle.proof_schedule.specs.Facts.{Facts, BelievedBy, EnteredBy, IsFirstLife}
 use Rattle.proof_schedule.specs.Laws.{Laws}
 use Rattle.proof_pieces.specs.PieceFacts.{PieceFacts}
-use Rattle.proof_pieces.specs.PieceLaws.{PieceLaws, MirrorSince}
+use Rattle.proof_pieces.specs.PieceLaws.{PieceLaws, IsSpareMirror, MirrorSince}
 use Rattle.proof_service.specs.Disks.{DiskLaws, IsRefused}
 use Rattle.proof_service.specs.Files.{AreOfFiles}
 use Rattle.proof_service.specs.ServiceFacts.{ServiceFacts, IsLeftTo}
 use Rattle.proof_service.specs.ServiceLaws.{ServiceLaws, WasReached}
 use Rattle.proof_two_lives.specs.Laws.{CubLaws, KillBefore, ReadLaws}
 use Rattle.proof_two_lives.specs.Statements.{AreUp, LawsOfParts, ScheduleOfLives, ServiceOfLives}
-use Rattle.proof_two_lives.specs.TwoLives.{CameBackBy, beside, beside_blocks, joined_facts, joined_blocks, joined_pieces}
+use Rattle.proof_two_lives.specs.TwoLives.{BesideFacts, CameBackBy, beside, beside_blocks, joined_facts, joined_blocks, joined_pieces, with_beside}
 use Rattle.proof_two_lives.proofs.Cubs.{cub_laws, laws_of}
 use Rattle.proof_two_lives.proofs.Forward.{reached_of}
 use Rattle.proof_two_lives.proofs.Joined.{first_life, later_life}
@@ -56,13 +56,13 @@ module _ {p : Params} {r s : Facts} {First Later : ℕ → ℕ → Type 0}
       (given.two.came c b came)
 
 module _ {p : Params} {catalogue : Catalogue} {r s : Facts} {q o : PieceFacts}
-    {w u : ServiceFacts} {First Later : ℕ → ℕ → Type 0}
-    (given : ServiceOfLives p catalogue r s q o w u First Later) where
+    {w u : ServiceFacts} {x : BesideFacts} {First Later : ℕ → ℕ → Type 0}
+    (given : ServiceOfLives p catalogue r s q o w u x First Later) where
   abbrev J : Facts
   J = joined_facts r s
 
   abbrev K : PieceFacts
-  K = joined_pieces q o
+  K = with_beside (joined_pieces q o) x
 
   abbrev Z : ServiceFacts
   Z = joined_blocks w u
@@ -74,10 +74,10 @@ module _ {p : Params} {catalogue : Catalogue} {r s : Facts} {q o : PieceFacts}
   g = later_life given.schedule.two.firsts given.schedule.two.laters
 
   abbrev fq : ArePiecesOfOne q K J (IsFirstLife r)
-  fq = first_pieces s given.pieces
+  fq = first_pieces s x given.pieces
 
   abbrev gq : ArePiecesOfOne o K J (CameBackBy r)
-  gq = later_pieces s given.pieces
+  gq = later_pieces s x given.pieces
 
   once : (c x y : ℕ) → r.Returned c x → r.Returned c y → y ≡ x
   once c x y a b = given.returns.returns_once a b
@@ -102,23 +102,39 @@ module _ {p : Params} {catalogue : Catalogue} {r s : Facts} {q o : PieceFacts}
 
   -- ---- pieces
 
-  killed : (a k c n j y b : ℕ) (t : Tenancy) → K.KillSent a k t.instance.0 t.slot.0 n y
-      → c ≡ cub_of p (a + k) → j ≡ k + 1
+  killed : (a k c n j e y b : ℕ) (t : Tenancy) → K.Split a t n e
+      → K.KillSent a k t.instance.0 t.slot.0 n y → c ≡ cub_of p (a + k) → j ≡ k + 1
       → (q.Asks c t n j b ⊎ o.Asks c t n j b) ⊎ (q.Serves c t n j b ⊎ o.Serves c t n j b)
       → y + p.delay ≤ b → MirrorSince K a k t n j y
-  killed a k c n j y b t sent to piece used late =
+  killed a k c n j e y b t split sent to piece used late =
       let first = given.first.splits in
       let later = given.later.splits in
       ⊎_elim
       (λ m. ⊎_elim
-      (λ h. first.killed sent to piece (inl h) late)
-      (λ h. later.killed sent to piece (inl h) late)
+      (λ h. first.killed split sent to piece (inl h) late)
+      (λ h. later.killed split sent to piece (inl h) late)
       m)
       (λ m. ⊎_elim
-      (λ h. first.killed sent to piece (inr h) late)
-      (λ h. later.killed sent to piece (inr h) late)
+      (λ h. first.killed split sent to piece (inr h) late)
+      (λ h. later.killed split sent to piece (inr h) late)
       m)
       used
+
+  -- What is split of a cub's own is told beside the cubs' rules.
+  spared : {c n b : ℕ} {t : Tenancy} → K.Spared c t n b → x.Spared c t n b
+  spared {c} {n} {b} {t} k = ⊎_elim
+      (λ h. absurd (⊎_elim
+      (λ m. given.first.splits.nothing_spared c t n b m)
+      (λ m. given.later.splits.nothing_spared c t n b m)
+      h))
+      (λ h. h)
+      k
+
+  spare_mirror : {a i n j b : ℕ} {t : Tenancy} → x.MirrorSent a i t n j b
+      → IsSpareMirror K a i t n j b
+  spare_mirror h =
+      let m = given.beside.mirrors h in
+      record { spared = inr m.0; piece = m.1.0; some = m.1.1 }
 
   pub pieces : PieceLaws p J K
   pieces = record {
@@ -126,9 +142,13 @@ module _ {p : Params} {catalogue : Catalogue} {r s : Facts} {q o : PieceFacts}
         (λ h. serving.splits f at_first fq given.first.splits h)
         (λ h. serving.splits g at_later gq given.later.splits h)
         k;
+    spares = λ k. given.beside.spares (spared k);
     mirrors = λ k. ⊎_elim
+        (λ m. inl (⊎_elim
         (λ h. serving.mirrors f at_first fq given.first.splits h)
         (λ h. serving.mirrors g at_later gq given.later.splits h)
+        m))
+        (λ h. inr (spare_mirror h))
         k;
     mirrored = λ k. ⊎_elim
         (λ h. given.first.splits.mirrored h)
@@ -155,8 +175,10 @@ module _ {p : Params} {catalogue : Catalogue} {r s : Facts} {q o : PieceFacts}
         (λ h. serving.kills f at_first fq given.first.splits h reached before came le same)
         (λ h. serving.kills g at_later gq given.later.splits h reached before came le same)
         k;
-    killed = λ {a} {k} {c} {t} {n} {j} {y} {b} sent to piece used late.
-        killed a k c n j y b t sent to piece used late;
+    spare_kills = λ k reached before. given.beside.kills (spared k) reached before;
+    spare_killed = λ k sent to used late. given.beside.killed (spared k) sent to used late;
+    killed = λ {a} {k} {c} {t} {n} {j} {x = e} {y} {b} split sent to piece used late.
+        killed a k c n j e y b t split sent to piece used late;
   }
 
   -- ---- blocks
@@ -191,14 +213,15 @@ module _ {p : Params} {catalogue : Catalogue} {r s : Facts} {q o : PieceFacts}
 
   -- Before a cub of one life sent word to drop pieces a deschedule had reached it.
   was_reached : {v n y : ℕ} → KillBefore K v n y → WasReached J v y
-  was_reached h = ⊎_elim
-      (λ m.
-      let reached = given.first.splits.kill_reached m in
-      record { cub = h.from; beat = h.beat; reached = inl reached; earlier = h.before })
-      (λ m.
-      let reached = given.later.splits.kill_reached m in
-      record { cub = h.from; beat = h.beat; reached = inr reached; earlier = h.before })
-      h.sent
+  was_reached h =
+      let reached = ⊎_elim
+      (λ k. ⊎_elim
+      (λ m. inl (given.first.splits.kill_reached m))
+      (λ m. inr (given.later.splits.kill_reached m))
+      k)
+      (λ m. given.beside.kill_reached m)
+      h.sent in
+      record { cub = h.from; beat = h.beat; reached = reached; earlier = h.before }
 
   first_belief : {c b : ℕ} → IsFirstLife r c b → BelievedBy J c b → BelievedBy r c b
   first_belief here h =
@@ -240,6 +263,7 @@ module _ {p : Params} {catalogue : Catalogue} {r s : Facts} {q o : PieceFacts}
         (λ h. serving.may_serve f at_first fq fr once h)
         (λ h. serving.may_serve g at_later gq gr once h)
         k;
+    unread = λ k sent. given.beside.unread (spared k) sent;
     watches = λ tick here. (cubs given.schedule).rest.watches tick here;
     heard_from = λ heard small next. given.schedule.ring.heard_from heard small next;
     split_due = λ {c} {t} {n} {b} {l} believed entered next tick here left soon.

@@ -3,17 +3,19 @@ use Rattle.std.proofs.Common.{◌≡◌, ℕ, arith, inl, inr}
 use Rattle.proof_schedule.specs.Facts.{Facts, IsFirstLife}
 use Rattle.proof_pieces.specs.PieceFacts.{PieceFacts}
 use Rattle.proof_service.specs.ServiceFacts.{ServiceFacts}
-use Rattle.proof_two_lives.specs.TwoLives.{ArePiecesOfTwoLives, AreBlocksOfTwoLives, CameBackBefore, CameBackBy, beside_blocks, joined_facts, joined_blocks, joined_pieces}
+use Rattle.proof_two_lives.specs.TwoLives.{ArePiecesOfTwoLives, AreBlocksOfTwoLives, BesideFacts, CameBackBefore, CameBackBy, beside_blocks, joined_facts, joined_blocks, joined_pieces, with_beside}
 use Rattle.proof_two_lives.proofs.Joined.{keep_first, keep_later}
 use Rattle.proof_two_lives.proofs.PiecesOf.{AreBlocksOfOne, ArePiecesOfOne}
 
-module _ {r : Facts} (s : Facts) {q o : PieceFacts} (two : ArePiecesOfTwoLives r q o) where
-  pub first_pieces : ArePiecesOfOne q (joined_pieces q o) (joined_facts r s) (IsFirstLife r)
+module _ {r : Facts} (s : Facts) (x : BesideFacts) {q o : PieceFacts}
+    (two : ArePiecesOfTwoLives r q o) where
+  pub first_pieces : ArePiecesOfOne q (with_beside (joined_pieces q o) x) (joined_facts r s)
+      (IsFirstLife r)
   first_pieces = record {
     split = λ a. inl a;
     mirrored = λ a. inl a;
-    kill = λ a. inl a;
-    mirror = λ a. inl a;
+    kill = λ a. inl (inl a);
+    mirror = λ a. inl (inl a);
     asks = λ a. inl a;
     serves = λ a. inl a;
     lives = two.firsts;
@@ -23,12 +25,13 @@ module _ {r : Facts} (s : Facts) {q o : PieceFacts} (two : ArePiecesOfTwoLives r
         keep_first r s here le (two.laters.mirrored c t n i y) k;
   }
 
-  pub later_pieces : ArePiecesOfOne o (joined_pieces q o) (joined_facts r s) (CameBackBy r)
+  pub later_pieces : ArePiecesOfOne o (with_beside (joined_pieces q o) x) (joined_facts r s)
+      (CameBackBy r)
   later_pieces = record {
     split = λ a. inr a;
     mirrored = λ a. inr a;
-    kill = λ a. inr a;
-    mirror = λ a. inr a;
+    kill = λ a. inl (inr a);
+    mirror = λ a. inl (inr a);
     asks = λ a. inr a;
     serves = λ a. inr a;
     lives = two.laters;

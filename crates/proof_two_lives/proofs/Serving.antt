@@ -65,10 +65,11 @@ module _ {p : Params} {x j : Facts} {In Here : ℕ → ℕ → Type 0} (one : Is
       (law.mirror_arrives c b sent to at came same (lets_in_of one p c (leave p t n i) b let_in)
       late)
 
-  pub killed : {a m c n i y b : ℕ} {t : Tenancy} → k.KillSent a m t.instance.0 t.slot.0 n y
-      → c ≡ cub_of p (a + m) → i ≡ m + 1 → Uses q c t n i b → y + p.delay ≤ b
+  pub killed : {a m c n i x y b : ℕ} {t : Tenancy} → k.Split a t n x
+      → k.KillSent a m t.instance.0 t.slot.0 n y → c ≡ cub_of p (a + m) → i ≡ m + 1
+      → Uses q c t n i b → y + p.delay ≤ b
       → MirrorSince k a m t n i y
-  killed sent to piece used late = law.killed sent to piece used late
+  killed split sent to piece used late = law.killed split sent to piece used late
 
 module _ {p : Params} {catalogue : Catalogue} {x j : Facts} {In Here : ℕ → ℕ → Type 0}
     (one : IsOneLife x j In) (here : (c b : ℕ) → j.Came c b → In c b → Here c b)

@@ -14,11 +14,12 @@ use Rattle.proof_schedule.specs.StartLaws.{Comes, Waits, IsPlacedBy, IsInWindow}
 use Rattle.proof_schedule.specs.WatchLaws.{WatchLaws}
 use Rattle.proof_schedule.specs.StopLaws.{StopLaws}
 use Rattle.proof_schedule.specs.HoldLaws.{HoldLaws}
-use Rattle.proof_pieces.specs.PieceFacts.{PieceFacts, leave, Uses}
-use Rattle.proof_pieces.specs.PieceLaws.{IsSplit, IsMirror, WasMirrored, WasUndue, IsThere, WasAsked, IsKilled, IsForgotten, MirrorSince}
+use Rattle.proof_pieces.specs.PieceFacts.{PieceFacts, NothingIsSpared, leave, Uses}
+use Rattle.proof_pieces.specs.PieceLaws.{IsSplit, IsMirror, IsSpared, IsSpareKilled, WasMirrored, WasUndue, IsThere, WasAsked, IsKilled, IsForgotten, MirrorSince}
 use Rattle.proof_service.specs.ServiceFacts.{ServiceFacts, SplitBy, ArisesBy, AsksInLife, IsCutOff, IsLeftTo, LetsIn, MayServe, serves_from}
 use Rattle.proof_service.specs.ServiceLaws.{HeardTill, WasUp, IsAnswered, TookBackBy, WasBack}
 use Rattle.proof_service.specs.Disks.{FailedThere, IsRefused, IsRead}
+use Rattle.proof_two_lives.specs.TwoLives.{BesideFacts}
 
 -- ---- schedule
 
@@ -126,6 +127,7 @@ pub record SplitLaws (p : Params) (r : Facts) (q among : PieceFacts) (w : Servic
     (Here : ℕ → ℕ → Type 0) : Type 0 where
   pub splits : {c : ℕ} {t : Tenancy} {n b : ℕ} → q.Split c t n b → IsSplit p r c t n b
   pub left : {c : ℕ} {t : Tenancy} {n b : ℕ} → q.Split c t n b → IsLeftTo p w c t n b
+  pub nothing_spared : NothingIsSpared q
   pub mirrors : {a k : ℕ} {t : Tenancy} {n j b : ℕ}
       → q.MirrorSent a k t n j b → IsMirror p q a k t n j b
   pub mirrored : {c : ℕ} {t : Tenancy} {n j y : ℕ}
@@ -136,9 +138,9 @@ pub record SplitLaws (p : Params) (r : Facts) (q among : PieceFacts) (w : Servic
       → q.Split a t n x → r.Reached a t.instance.0 y → x < y → Here a b → y ≤ b
       → IsKilled p r q a t n x y ⊎ IsForgotten p r a t n y
   pub kill_reached : {a k v s n b : ℕ} → q.KillSent a k v s n b → r.Reached a v b
-  pub killed : {a k c : ℕ} {t : Tenancy} {n j y b : ℕ}
-      → among.KillSent a k t.instance.0 t.slot.0 n y → c ≡ cub_of p (a + k) → j ≡ k + 1
-      → Uses q c t n j b → y + p.delay ≤ b
+  pub killed : {a k c : ℕ} {t : Tenancy} {n j x y b : ℕ}
+      → among.Split a t n x → among.KillSent a k t.instance.0 t.slot.0 n y → c ≡ cub_of p (a + k)
+      → j ≡ k + 1 → Uses q c t n j b → y + p.delay ≤ b
       → MirrorSince among a k t n j y
   pub split_due : {c : ℕ} {t : Tenancy} {n b l : ℕ}
       → BelievedBy r c b → EnteredBy r c t n b → c ≡ cub_of p (n + 1) → r.Ticked c b l
@@ -153,6 +155,22 @@ pub record SplitLaws (p : Params) (r : Facts) (q among : PieceFacts) (w : Servic
       → Here c b → IsSameLife r c x b → LetsIn p r c (leave p t n j) b → x + p.delay ≤ b
       → ArisesBy r q c t n j (x + p.delay) ⊎ ReachedBy r c t.instance.0 (x + p.delay)
   pub dropped : {c v n y : ℕ} → w.Killed c v n y → KillBefore among v n y
+
+-- What is beside the cubs' rules: of one cub, and of the links that carry what goes out there. All is
+-- what is told of pieces of all lives, and of what is beside.
+pub record BesideLaws (p : Params) (r : Facts) (x : BesideFacts) (all : PieceFacts) : Type 0 where
+  pub spares : {c : ℕ} {t : Tenancy} {n b : ℕ} → x.Spared c t n b → IsSpared p r c t n b
+  pub mirrors : {a k : ℕ} {t : Tenancy} {n j b : ℕ}
+      → x.MirrorSent a k t n j b → x.Spared a t n b × ((j ≡ k) × (1 ≤ k))
+  pub kill_reached : {a k v s n b : ℕ} → x.KillSent a k v s n b → r.Reached a v b
+  pub kills : {a : ℕ} {t : Tenancy} {n y z : ℕ}
+      → x.Spared a t n y → r.Reached a t.instance.0 z → y < z
+      → IsSpareKilled p r all a t n y z ⊎ IsForgotten p r a t n z
+  pub killed : {a k c : ℕ} {t : Tenancy} {n y z b : ℕ}
+      → x.Spared a t n y → all.KillSent a k t.instance.0 t.slot.0 n z → c ≡ cub_of p (a + k)
+      → Uses all c t n k b → z + p.delay ≤ b
+      → MirrorSince all a k t n k z
+  pub unread : {c d : ℕ} {t : Tenancy} {n y b : ℕ} → x.Spared c t n y → all.Serves d t n 0 b → ⊥
 
 -- What the cubs' rules on asking and serving give of one life of each cub, and the disks and the
 -- links to them, of the pieces whose number is one of these: 0 for whole blocks, and from 1 on for

@@ -15,8 +15,8 @@ use Rattle.proof_service.specs.Files.{AreOfFiles}
 use Rattle.proof_service.specs.ServiceFacts.{ServiceFacts}
 use Rattle.proof_service.specs.ServiceLaws.{ServiceLaws}
 use Rattle.proof_service.specs.ServiceLogs.{ServiceFact, service_in}
-use Rattle.proof_two_lives.specs.Laws.{LifeLaws, ReadLaws, ReturnLaws, RingLaws, SplitLaws}
-use Rattle.proof_two_lives.specs.TwoLives.{AreBlocksOfTwoLives, ArePiecesOfTwoLives, AreTwoLives, among, beside, beside_blocks, joined_facts, joined_blocks, joined_pieces}
+use Rattle.proof_two_lives.specs.Laws.{BesideLaws, LifeLaws, ReadLaws, ReturnLaws, RingLaws, SplitLaws}
+use Rattle.proof_two_lives.specs.TwoLives.{AreBlocksOfTwoLives, ArePiecesOfTwoLives, AreTwoLives, BesideFacts, among, beside, beside_blocks, beside_in, joined_facts, joined_blocks, joined_pieces, with_beside}
 
 -- The cubs' laws of both lives, and the ring's laws of all.
 pub record ScheduleOfLives (p : Params) (r s : Facts) (First Later : ℕ → ℕ → Type 0) : Type 0 where
@@ -36,12 +36,14 @@ pub record PartLaws (p : Params) (catalogue : Catalogue) (x : Facts) (q all : Pi
 -- The laws of pieces and blocks of both lives, beside those of the schedule; and of all lives those
 -- of returns and of clocks, whose readings never fall.
 pub record ServiceOfLives (p : Params) (catalogue : Catalogue) (r s : Facts) (q o : PieceFacts)
-    (w u : ServiceFacts) (First Later : ℕ → ℕ → Type 0) : Type 0 where
+    (w u : ServiceFacts) (x : BesideFacts) (First Later : ℕ → ℕ → Type 0) : Type 0 where
   pub schedule : ScheduleOfLives p r s First Later
   pub pieces : ArePiecesOfTwoLives r q o
   pub blocks : AreBlocksOfTwoLives r w u
-  pub first : PartLaws p catalogue r q (joined_pieces q o) w First
-  pub later : PartLaws p catalogue (beside r s) o (joined_pieces q o) (beside_blocks w u) Later
+  pub first : PartLaws p catalogue r q (with_beside (joined_pieces q o) x) w First
+  pub later : PartLaws p catalogue (beside r s) o (with_beside (joined_pieces q o) x)
+      (beside_blocks w u) Later
+  pub beside : BesideLaws p (joined_facts r s) x (with_beside (joined_pieces q o) x)
   pub returns : ReturnLaws p (joined_facts r s) (joined_blocks w u)
   pub rising : (c a b l m : ℕ)
       → r.Ticked c a l ⊎ s.Ticked c a l → r.Ticked c b m ⊎ s.Ticked c b m → a ≤ b → l ≤ m
@@ -73,11 +75,11 @@ pub record LawsOfParts (p : Params) (catalogue : Catalogue) (r : Facts) (q : Pie
 abbrev pub LivesServeTheirBlocks : Type 0
 LivesServeTheirBlocks = (p : Params) (catalogue : Catalogue) (first later : List Fact)
     (cut_first cut_later : List PieceFact) (got_first got_later : List ServiceFact)
-    (here there : List (ℕ × ℕ))
+    (here there : List (ℕ × ℕ)) (more : List PieceFact)
     → IsPlan p
     → ServiceOfLives p catalogue (facts_in first) (facts_in later) (pieces_in cut_first)
-    (pieces_in cut_later) (service_in got_first) (service_in got_later) (listed_ticks here)
-    (listed_ticks there)
+    (pieces_in cut_later) (service_in got_first) (service_in got_later) (beside_in more)
+    (listed_ticks here) (listed_ticks there)
     → LawsOfParts p catalogue (joined_facts (facts_in first) (facts_in later))
-    (joined_pieces (pieces_in cut_first) (pieces_in cut_later))
+    (with_beside (joined_pieces (pieces_in cut_first) (pieces_in cut_later)) (beside_in more))
     (joined_blocks (service_in got_first) (service_in got_later))

@@ -1,9 +1,10 @@
 -- The facts of cubs of which each may have two lives: what is told of the one, and what is told of the other.
-use Rattle.std.specs.Prelude.{ℕ, ◌<◌, ◌≤◌, ◌⊎◌}
+use Rattle.std.specs.Prelude.{ℕ, ◌<◌, ◌≤◌, ◌⊎◌, List}
 use Rattle.tiger_base.specs.declared.tenancy.Ask.{Ask}
 use Rattle.tiger_base.specs.declared.tenancy.Tenancy.{Tenancy}
 use Rattle.proof_schedule.specs.Facts.{Facts, IsFirstLife}
 use Rattle.proof_pieces.specs.PieceFacts.{PieceFacts}
+use Rattle.proof_pieces.specs.PieceLogs.{PieceFact, pieces_in}
 use Rattle.proof_service.specs.ServiceFacts.{ServiceFacts}
 
 -- What is told of first lives, and what is told of later ones. What is not told by lives is the
@@ -39,11 +40,45 @@ joined_facts r s = record {
 abbrev pub joined_pieces : PieceFacts → PieceFacts → PieceFacts
 joined_pieces q o = record {
   Split = λ c t n b. q.Split c t n b ⊎ o.Split c t n b;
+  Spared = λ c t n b. q.Spared c t n b ⊎ o.Spared c t n b;
   MirrorSent = λ a k t n j b. q.MirrorSent a k t n j b ⊎ o.MirrorSent a k t n j b;
   Mirrored = λ c t n j b. q.Mirrored c t n j b ⊎ o.Mirrored c t n j b;
   KillSent = λ a k v s n b. q.KillSent a k v s n b ⊎ o.KillSent a k v s n b;
   Asks = λ c t n j b. q.Asks c t n j b ⊎ o.Asks c t n j b;
   Serves = λ c t n j b. q.Serves c t n j b ⊎ o.Serves c t n j b;
+}
+
+-- What cubs do beside their rules: which visits of their own they split, and what they send of these.
+pub record BesideFacts : Type 1 where
+  -- Cub c split visit n of t, one of its own.
+  pub Spared : (c : ℕ) (t : Tenancy) (n b : ℕ) → Type 0
+  -- Cub a sent the mirror state of piece j to the k-th cub after it.
+  pub MirrorSent : (a k : ℕ) (t : Tenancy) (n j b : ℕ) → Type 0
+  -- Cub a told the k-th cub after it to drop the pieces of visit n of instance v in slot s.
+  pub KillSent : (a k v s n b : ℕ) → Type 0
+
+-- As a log tells it, of which only this is read.
+abbrev pub beside_in : List PieceFact → BesideFacts
+beside_in log = record {
+  Spared = (pieces_in log).Spared;
+  MirrorSent = (pieces_in log).MirrorSent;
+  KillSent = (pieces_in log).KillSent;
+}
+
+-- They do nothing beside their rules.
+abbrev pub nothing_beside : BesideFacts
+nothing_beside = record {
+  Spared = λ c t n b. ⊥;
+  MirrorSent = λ a k t n j b. ⊥;
+  KillSent = λ a k v s n b. ⊥;
+}
+
+-- What is told of pieces, and what cubs do beside their rules.
+abbrev pub with_beside : PieceFacts → BesideFacts → PieceFacts
+with_beside q x = record q {
+  Spared = λ c t n b. q.Spared c t n b ⊎ x.Spared c t n b;
+  MirrorSent = λ a k t n j b. q.MirrorSent a k t n j b ⊎ x.MirrorSent a k t n j b;
+  KillSent = λ a k v s n b. q.KillSent a k v s n b ⊎ x.KillSent a k v s n b;
 }
 
 abbrev pub joined_blocks : ServiceFacts → ServiceFacts → ServiceFacts
