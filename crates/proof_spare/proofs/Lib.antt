@@ -1,0 +1,12 @@
+pub mod Added
+pub mod Beside
+pub mod Claims
+pub mod Cubs
+pub mod Deaths
+pub mod Delivered
+pub mod Laws
+pub mod Memory
+pub mod Rings
+pub mod Runs
+pub mod Splits
+pub mod Unread

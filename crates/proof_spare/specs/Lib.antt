@@ -1,0 +1,5 @@
+pub mod Added
+pub mod Claims
+pub mod Laws
+pub mod Rings
+pub mod Runs
