@@ -7,6 +7,8 @@ use Rattle.tiger_input.specs.declared.status.Status.{Status}
 use Rattle.tiger_input.specs.declared.status.Status.TheVariants as statuses
 use Rattle.tiger_input.specs.Inputs.{InputsCause}
 use Rattle.tiger_input.specs.Ending.{EndsInputs, EndsSink, Wrote}
+-- The lemmas of a run's orders and of its text are passed on with it.
+pub use Rattle.tiger_run.proofs.Endings.{EndsSink-wrote, length-orders_from}
 
 -- an input was refused, or there was no memory for the run
 pub refused_ends : (status : Status) (name : List ℕ) (old new : FilesState) → InputsCause name old new status → EndsInputs name old new status

@@ -17,6 +17,8 @@ const HELP: &str = "tiger: a video fileserver whose schedule no machine holds
 usage: tiger run NAME W      run the scenario of the file NAME with W workers, 1 to 64
        tiger make NUMBER     make the scenario of NUMBER, run it, and sum it up
        tiger journal NAME W  run a scenario as run does, and write its journals
+       tiger spare NAME W    run a scenario in which disks may die, and no cub does: each
+                             cub knows from when on each of its disks is dead
        tiger net NAME        run the plan of a network's schedule of the file NAME
        tiger disks NAME IMAGE [--force]
                              store the disks of a scenario in the file IMAGE, and read

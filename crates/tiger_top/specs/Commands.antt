@@ -25,10 +25,20 @@ pub record AsksJournal (words : List (List ℕ)) (name : List ℕ) (workers : �
 abbrev pub AsksNoJournal : List (List ℕ) → Type 0
 AsksNoJournal words = (name : List ℕ) (workers : ℕ) → ¬ AsksJournal words name workers
 
+-- the words `spare NAME W`, and W is from 1 to 64 in decimal
+pub record AsksSpare (words : List (List ℕ)) (name : List ℕ) (workers : ℕ) : Type 0 where
+  pub form : words ≡ codes "spare" ∷ name ∷ decimal workers ∷ []
+  pub some : 1 ≤ workers
+  pub few : workers ≤ most_workers
+
+abbrev pub AsksNoSpare : List (List ℕ) → Type 0
+AsksNoSpare words = (name : List ℕ) (workers : ℕ) → ¬ AsksSpare words name workers
+
 -- the words are none of the commands beside those of `tiger`, so that they are for `tiger` to answer
 pub record AreTigers (words : List (List ℕ)) : Type 0 where
   pub no_net : IsNoNet words
   pub no_journal : AsksNoJournal words
+  pub no_spare : AsksNoSpare words
   pub no_disks : IsNoDisks words
   pub no_check : IsNoCheck words
   pub no_audit : IsNoAudit words
@@ -43,6 +53,7 @@ abbrev pub AsksTop : List (List ℕ) → TopCommand → Type 0
 AsksTop words command.Tiger = AreTigers words
 AsksTop words (command.Net name) = IsNet words name.now
 AsksTop words (command.Journal name workers) = AsksJournal words name.now workers
+AsksTop words (command.Spare name workers) = AsksSpare words name.now workers
 AsksTop words (command.Disks name image over) = AsksDisks words name.now image.now over
 AsksTop words (command.Check name) = AsksCheck words name.now
 AsksTop words (command.Audit name) = AsksAudit words name.now
@@ -56,6 +67,10 @@ IfTigers words P = AreTigers (texts_of words.items) → P (texts_of words.items)
 -- if they are `journal NAME W`, this holds of the name
 abbrev pub IfJournal : Vec (String Global) Global → (List ℕ → Type 0) → Type 0
 IfJournal words P = (name : List ℕ) (workers : ℕ) → AsksJournal (texts_of words.items) name workers → P name
+
+-- if they are `spare NAME W`, this holds of the name
+abbrev pub IfSpare : Vec (String Global) Global → (List ℕ → Type 0) → Type 0
+IfSpare words P = (name : List ℕ) (workers : ℕ) → AsksSpare (texts_of words.items) name workers → P name
 
 -- if they are `net NAME`, this holds of the name
 abbrev pub IfNet : Vec (String Global) Global → (List ℕ → Type 0) → Type 0

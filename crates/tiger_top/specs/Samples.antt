@@ -11,6 +11,10 @@ nets name = codes "net" ∷ name ∷ []
 abbrev pub journal_words : List ℕ → ℕ → List (List ℕ)
 journal_words name workers = codes "journal" ∷ name ∷ decimal workers ∷ []
 
+-- the words to run the scenario of a name in which disks may die, with this number of workers
+abbrev pub spare_words : List ℕ → ℕ → List (List ℕ)
+spare_words name workers = codes "spare" ∷ name ∷ decimal workers ∷ []
+
 -- the words to check the scenario of a name
 abbrev pub check_words : List ℕ → List (List ℕ)
 check_words name = codes "check" ∷ name ∷ []

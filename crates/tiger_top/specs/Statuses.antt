@@ -2,6 +2,7 @@
 use Rattle.std.specs.Prelude.{◌≡◌, ℕ, List, ◌++◌, None, Result, Ok, Err, codes, ◌⊎◌}
 use Rattle.outside.specs.declared.sink.SinkFault.{SinkFault}
 use Rattle.outside.specs.declared.sink.SinkFault.TheVariants as faults
+use Rattle.scenario_read.specs.declared.stop.ScenarioFault.{ScenarioFault}
 use Rattle.tiger_net.specs.declared.stop.NetStop.{NetStop}
 use Rattle.tiger_net.specs.declared.stop.NetStop.TheVariants as stops
 use Rattle.tiger_net.specs.Stops.{rule_number}
@@ -78,6 +79,10 @@ IsDone status = status ≡ tops.Tiger statuses.Done
 
 abbrev pub IsDoneOrNoMemory : TopStatus → Type 0
 IsDoneOrNoMemory status = IsDone status ⊎ (status ≡ tops.Tiger statuses.NoMemory)
+
+-- a scenario broke this rule, unless there was no memory
+abbrev pub IsRuleOrNoMemory : ScenarioFault → TopStatus → Type 0
+IsRuleOrNoMemory fault status = (status ≡ tops.Tiger (statuses.Scenario fault)) ⊎ (status ≡ tops.Tiger statuses.NoMemory)
 
 -- the words, an input, a run that was judged or an image were refused, and it is not so that the false conditions of a plan were written
 abbrev pub IsTopRefusal : TopStatus → Type 0

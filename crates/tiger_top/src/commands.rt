@@ -4,7 +4,7 @@ ghost use Rattle.tiger_input.specs.Words.{texts_of};
 ghost use Rattle.tiger_audit.specs.Words.{IsNoAudit};
 ghost use Rattle.tiger_check.specs.Words.{IsNoCheck};
 ghost use Rattle.tiger_disks.specs.Words.{IsNoDisks};
-ghost use Rattle.tiger_top.specs.Commands.{AsksTop, IsNet, IsNoNet, AsksJournal, AsksNoJournal};
+ghost use Rattle.tiger_top.specs.Commands.{AsksTop, IsNet, IsNoNet, AsksJournal, AsksNoJournal, AsksSpare, AsksNoSpare};
 
 use tiger_audit::audit_in;
 use tiger_check::check_in;
@@ -22,6 +22,11 @@ pub enum TopCommand<'a> {
     },
     /// To run the scenario of the file `name`, with 1 to 64 workers, and to write what is kept of it.
     Journal {
+        name: &'a str,
+        workers: u32,
+    },
+    /// To run the scenario of the file `name`, in which disks may die and no cub does, with 1 to 64 workers.
+    Spare {
         name: &'a str,
         workers: u32,
     },
@@ -88,7 +93,47 @@ fn journal_in(words: &[String]) -> Option<(&str, u32)>
     }
 }
 
-/// The command that the words are, if they are `journal NAME W` or one of `tiger`.
+fn is_spare(word: &str) -> bool
+    ensures { IsTrue result ↔ (word.now ≡ codes "spare") }
+{
+    word == "spare"
+}
+
+/// The name of the scenario and the number of workers, if the words are `spare NAME W`.
+fn spare_in(words: &[String]) -> Option<(&str, u32)>
+    ensures { let texts = texts_of words.now in
+        MatchOption result (AsksNoSpare texts) (λ j. AsksSpare texts j.0.now j.1) }
+{
+    match words {
+        [command, name, workers] => {
+            if !is_spare(command.as_str()) {
+                return None;
+            }
+            match workers_of(workers.as_str()) {
+                Some(workers) => Some((name.as_str(), workers)),
+                None => None,
+            }
+        }
+        _ => None,
+    }
+}
+
+/// The command that the words are, if they are `spare NAME W` or one of `tiger`.
+fn spare_command_in(words: &[String]) -> TopCommand<'_>
+    requires no_net { IsNoNet (texts_of words.now) }
+    requires no_check { IsNoCheck (texts_of words.now) }
+    requires no_audit { IsNoAudit (texts_of words.now) }
+    requires no_disks { IsNoDisks (texts_of words.now) }
+    requires no_journal { AsksNoJournal (texts_of words.now) }
+    ensures { AsksTop (texts_of words.now) result }
+{
+    match spare_in(words) {
+        Some((name, workers)) => TopCommand::Spare { name, workers },
+        None => TopCommand::Tiger,
+    }
+}
+
+/// The command that the words are, if they are `journal NAME W`, `spare NAME W` or one of `tiger`.
 fn ring_command_in(words: &[String]) -> TopCommand<'_>
     requires no_net { IsNoNet (texts_of words.now) }
     requires no_check { IsNoCheck (texts_of words.now) }
@@ -98,7 +143,7 @@ fn ring_command_in(words: &[String]) -> TopCommand<'_>
 {
     match journal_in(words) {
         Some((name, workers)) => TopCommand::Journal { name, workers },
-        None => TopCommand::Tiger,
+        None => spare_command_in(words),
     }
 }
 

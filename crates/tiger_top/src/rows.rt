@@ -9,6 +9,7 @@ ghost use Rattle.net_read.specs.declared.fault.NetFault.TheVariants as faults;
 ghost use Rattle.net_read.specs.Meaning.{net_meaning};
 ghost use Rattle.net_read.specs.Plans.{NetSaid};
 ghost use Rattle.net_run.specs.Text.{net_text};
+ghost use Rattle.scenario_read.specs.Fault.{broken};
 ghost use Rattle.scenario_read.specs.declared.stop.ScenarioFault.{ScenarioFault};
 ghost use Rattle.tiger_audit.specs.Samples.{that_entry, some_clause};
 ghost use Rattle.tiger_audit.specs.declared.status.AuditStatus.TheVariants as audits;
@@ -21,20 +22,21 @@ ghost use Rattle.tiger_input.specs.declared.status.Status.TheVariants as statuse
 ghost use Rattle.tiger_top.specs.declared.status.TopStatus.TheVariants as tops;
 ghost use Rattle.tiger_disks.specs.Samples.{disks_words, one_name};
 ghost use Rattle.tiger_disks.specs.declared.status.DisksStatus.TheVariants as ends;
-ghost use Rattle.tiger_top.specs.Commands.{AreTigers, IsNoTopCommand, IfTigers, IfJournal, IfNet, IfDisks, IfNoDisks, IfCheck, IfAudit};
+ghost use Rattle.tiger_top.specs.Commands.{AreTigers, IsNoTopCommand, IfTigers, IfJournal, IfSpare, IfNet, IfDisks, IfNoDisks, IfCheck, IfAudit};
 ghost use Rattle.tiger_top.specs.Ends.{IsRunnableNet, NetCause, NetWrote};
-ghost use Rattle.tiger_top.specs.Samples.{journal_words, nets, check_words, audit_words, sunk};
-ghost use Rattle.tiger_top.specs.Statuses.{OfTiger, OfCheck, OfAudit, IfDisksStopped, IsDone, IsDoneOrNoMemory, IsTopRefusal};
+ghost use Rattle.tiger_top.specs.Samples.{journal_words, spare_words, nets, check_words, audit_words, sunk};
+ghost use Rattle.tiger_top.specs.Statuses.{OfTiger, OfCheck, OfAudit, IfDisksStopped, IsDone, IsDoneOrNoMemory, IsRuleOrNoMemory, IsTopRefusal};
 ghost use Rattle.tiger_input.specs.Statuses.{line_of};
 ghost use Rattle.tiger_top.specs.Statuses.{top_line, top_exit};
 
-/// Words are for `tiger`, or they are `net NAME`, `journal NAME W`, `disks NAME IMAGE`, `check NAME` or `audit NAME`; and they may be no
-/// command of all these.
+/// Words are for `tiger`, or they are `net NAME`, `journal NAME W`, `spare NAME W`, `disks NAME IMAGE`, `check NAME` or
+/// `audit NAME`; and they may be no command of all these.
 pub fn commands()
     ensures run { AreTigers (runs here 1) }
     ensures make { AreTigers (makes 7) }
     ensures net { AreTigers (nets here) → ⊥ }
     ensures journal { AreTigers (journal_words here 1) → ⊥ }
+    ensures spare { AreTigers (spare_words here 1) → ⊥ }
     ensures disks { AreTigers (disks_words []) → ⊥ }
     ensures forced { AreTigers (disks_words (codes "--force" ∷ [])) → ⊥ }
     ensures check { AreTigers (check_words here) → ⊥ }
@@ -46,6 +48,7 @@ pub fn commands()
     ensures no_force { IsNoTopCommand (disks_words (codes "force" ∷ [])) }
     ensures no_refused_net { IsNoTopCommand (nets here) → ⊥ }
     ensures no_refused_journal { IsNoTopCommand (journal_words here 1) → ⊥ }
+    ensures no_refused_spare { IsNoTopCommand (spare_words here 1) → ⊥ }
     ensures no_refused_run { IsNoTopCommand (runs here 1) → ⊥ }
     ensures no_refused_check { IsNoTopCommand (check_words here) → ⊥ }
     ensures no_refused_audit { IsNoTopCommand (audit_words here) → ⊥ }
@@ -66,6 +69,12 @@ pub fn calls()
         texts_of words.items ≡ nets here → IfJournal words (λ _. ⊥) }
     ensures journal_name { (words : Vec (String Global) Global) →
         texts_of words.items ≡ journal_words here 1 → IfJournal words (λ name. name ≡ []) → ⊥ }
+    ensures spare { (words : Vec (String Global) Global) →
+        texts_of words.items ≡ spare_words here 1 → IfSpare words (λ name. name ≡ here) }
+    ensures no_spare { (words : Vec (String Global) Global) →
+        texts_of words.items ≡ journal_words here 1 → IfSpare words (λ _. ⊥) }
+    ensures spare_name { (words : Vec (String Global) Global) →
+        texts_of words.items ≡ spare_words here 1 → IfSpare words (λ name. name ≡ []) → ⊥ }
     ensures disks { (words : Vec (String Global) Global) → texts_of words.items ≡ disks_words [] →
         IfDisks words (λ name over. (name ≡ one_name) × (over ≡ false)) }
     ensures forced { (words : Vec (String Global) Global) →
@@ -164,6 +173,16 @@ pub fn dones()
     ensures or_is { IsDoneOrNoMemory (tops.Tiger statuses.Done) }
     ensures or_no_memory { IsDoneOrNoMemory (tops.Tiger statuses.NoMemory) }
     ensures or_write_fault { IsDoneOrNoMemory (tops.Tiger statuses.WriteFault) → ⊥ }
+{}
+
+/// A scenario broke a rule, or there was no memory.
+pub fn broken_rules()
+    ensures rule { IsRuleOrNoMemory (broken 14 0)
+        (tops.Tiger (statuses.Scenario (broken 14 0))) }
+    ensures no_memory { IsRuleOrNoMemory (broken 14 0) (tops.Tiger statuses.NoMemory) }
+    ensures other_rule { IsRuleOrNoMemory (broken 14 0)
+        (tops.Tiger (statuses.Scenario (broken 13 0))) → ⊥ }
+    ensures done { IsRuleOrNoMemory (broken 14 0) (tops.Tiger statuses.Done) → ⊥ }
 {}
 
 /// Why a plan is refused: it is not there, or breaks the first rule, or the second one.

@@ -12,13 +12,16 @@ ghost use Rattle.tiger_input.specs.Inputs.{MadeCalls, most_reads, most_earlier};
 ghost use Rattle.tiger_input.specs.Tellings.{TellsAll};
 ghost use Rattle.tiger_input.specs.Runnable.{IsRunnable, IsRunnableCommand, NoReadFailed, NoPutFailed};
 ghost use Rattle.tiger_input.specs.Ending.{IsWritten, EndsInputs, EndsSink, InputCause};
-ghost use Rattle.tiger_journal.specs.Answers.{IsAskedRun, IsNamedRun, IsTheAnswer, IsTheNamedRun, text_for};
+ghost use Rattle.tiger_spare.specs.Ends.{EndsSpare, IsDeadly, IsNamedSpare, IsRunnableSpare};
+ghost use Rattle.run_report.specs.Text.{report_text};
+ghost use Rattle.tiger_spare.specs.Ends.{IsAskedRun, IsNamedRun, IsTheAnswer, IsTheNamedRun, text_for};
 ghost use Rattle.audit_text.specs.Texts.{text_of};
 ghost use Rattle.tiger_input.specs.declared.status.Status.TheVariants as statuses;
 ghost use Rattle.tiger_top.specs.declared.status.TopStatus.TheVariants as tops;
-ghost use Rattle.tiger_top.specs.Commands.{IfTigers, IfJournal, IfNet, IfDisks, IfNoDisks, IfCheck, IfAudit, IsNoTopCommand};
+ghost use Rattle.tiger_top.specs.Commands.{IfTigers, IfJournal, IfSpare, IfNet, IfDisks, IfNoDisks, IfCheck, IfAudit, IsNoTopCommand};
 ghost use Rattle.tiger_top.specs.Statuses.{OfTiger, OfCheck, OfAudit, IfDisksStopped, IsDone, IsDoneOrNoMemory, IsTopRefusal};
-ghost use Rattle.tiger_top.specs.Statuses.{status_of};
+ghost use Rattle.tiger_top.specs.Statuses.{IsRuleOrNoMemory, status_of};
+ghost use Rattle.scenario_read.specs.Fault.{broken};
 ghost use Rattle.tiger_top.specs.Ends.{IsRunnableNet, NetCause, NetWrote, AreStored};
 
 use crate::audit::audit_text;
@@ -34,7 +37,7 @@ use std::alloc::Global;
 use std::sync::Wait;
 use std::thread::Threads;
 use tiger_input::Status;
-use tiger_journal::{Ended, tiger, write_journal};
+use tiger_spare::{Ended, tiger, write_journal, write_spare};
 
 /// How a command ended, and what was kept of a run of the ring.
 #[derive(Drop)]
@@ -74,7 +77,8 @@ fn unkept(status: TopStatus) -> TopEnded
 }
 
 /// Does what the words say: as `tiger` does it; for `journal NAME W` runs the scenario as `run` does, and writes what is
-/// kept of the run as a text; for `net NAME` reads the plan of a network's schedule, runs it, and writes the lines that
+/// kept of the run as a text; for `spare NAME W` runs the scenario with cubs that know from when on each of their disks is
+/// dead, and writes the report of the run; for `net NAME` reads the plan of a network's schedule, runs it, and writes the lines that
 /// tell of its entries; for `disks NAME IMAGE` stores the disks of a scenario in an image of the device, and writes a line
 /// for each; for `check NAME` says of a scenario what can be said before a run; for `audit NAME` judges the run that a text
 /// keeps by the twelve clauses. The call may wait for a thread.
@@ -172,6 +176,31 @@ pub fn tiger_top<R: Threads + Wait + Sync, F: Files, K: Sink, V: Device, G: Gate
     ensures journal_complete { let old = F.state files.old in IfJournal words.now (λ name.
         IsRunnable old.told name → NoReadFailed old (F.state files.new) →
         NoPutFailed (K.state out.old) (K.state out.new) → IsDoneOrNoMemory result.status) }
+
+    // ---- Of `spare NAME W`.
+
+    // What is kept is the run of the scenario that was read, and then each of its files, with cubs
+    // that know from when on each of their disks is dead; no cub dies in it, and it meets all claims
+    // of such a run.
+    ensures spare_ran { IfSpare words.now (λ name. IfSome result.kept
+        (IsNamedSpare G (F.state files.old) (F.state files.new) name)) }
+
+    // Why an input was refused: it is the first, in the order of work, that is not as it should be.
+    ensures spare_input { IfSpare words.now (λ name.
+        OfTiger (EndsSpare name (F.state files.old) (F.state files.new)) result.status) }
+
+    // What was written with each status, and what is kept: if all was done, the report of it.
+    ensures spare_sink { let old = K.state out.old in IfSpare words.now (λ name.
+        OfTiger (EndsSink old (K.state out.new) report_text result.kept) result.status) }
+
+    // A scenario that is told and lets no cub die is run, unless something stands in its way; and
+    // one that lets a cub die is refused for that.
+    ensures spare_complete { let old = F.state files.old in IfSpare words.now (λ name.
+        IsRunnableSpare old.told name → NoReadFailed old (F.state files.new) →
+        NoPutFailed (K.state out.old) (K.state out.new) → IsDoneOrNoMemory result.status) }
+    ensures spare_deadly { let old = F.state files.old in IfSpare words.now (λ name.
+        IsDeadly old.told name → NoReadFailed old (F.state files.new) →
+        IsRuleOrNoMemory (broken 14 0) result.status) }
 
     // ---- Of `net NAME`.
 
@@ -286,6 +315,9 @@ pub fn tiger_top<R: Threads + Wait + Sync, F: Files, K: Sink, V: Device, G: Gate
         TopCommand::Tiger => by_tiger(tiger(rt, alloc, words, files, out, gate)),
         TopCommand::Journal { name, workers } => {
             by_tiger(write_journal(rt, alloc, name, workers, files, out, gate))
+        }
+        TopCommand::Spare { name, workers } => {
+            by_tiger(write_spare(rt, alloc, name, workers, files, out, gate))
         }
         TopCommand::Net { name } => without_ring(write_net(alloc, name, files, out)),
         TopCommand::Disks { name, image, over } => {

@@ -1,8 +1,8 @@
 use Rattle.std.proofs.Common.{ℕ, true, false, List, [], length, get_or, sym, ap, subst, ◌∙◌, arith, refl}
 use Rattle.tiger_input.specs.Samples.{here}
 use Rattle.tiger_disks.specs.Samples.{image_name, one_name}
-use Rattle.tiger_top.specs.Commands.{AreTigers, AsksJournal}
-use Rattle.tiger_top.proofs.Asked.{tigers_by, one_worker}
+use Rattle.tiger_top.specs.Commands.{AreTigers, AsksJournal, AsksSpare}
+use Rattle.tiger_top.proofs.Asked.{tigers_by, one_worker, one_spare}
 use Rattle.tiger_top.proofs.rows.calls.Goals as goal
 
 abbrev count : List (List ℕ) → ℕ
@@ -36,6 +36,19 @@ returns-clause-journal_name c words is h =
     let e = ap length (h here 1 journal) in
     omega (arith, e)
 
+pub returns-clause-spare : goal.returns-clause-spare
+returns-clause-spare c words is name workers spare = ap second (sym spare.form ∙ is)
+
+pub returns-clause-no_spare : goal.returns-clause-no_spare
+returns-clause-no_spare c words is name workers spare =
+    let e = ap first_letter (sym is ∙ spare.form) in absurd (omega (arith, e))
+
+pub returns-clause-spare_name : goal.returns-clause-spare_name
+returns-clause-spare_name c words is h =
+    let spare = subst (λ (texts : List (List ℕ)). AsksSpare texts here 1) (sym is) (one_spare here) in
+    let e = ap length (h here 1 spare) in
+    omega (arith, e)
+
 pub returns-clause-tigers : goal.returns-clause-tigers
 returns-clause-tigers c words is tigers = is
 
@@ -44,7 +57,7 @@ returns-clause-no_tigers c words is tigers = tigers.no_net here is
 
 pub returns-clause-tigers_texts : goal.returns-clause-tigers_texts
 returns-clause-tigers_texts c words is h =
-    let tigers = subst AreTigers (sym is) (tigers_by _ (λ n f. omega (arith, n, f)) (λ n f. omega (arith, n, f)) (λ f. omega (arith, f)) (λ n f. omega (arith, n, f)) (λ n f. omega (arith, n, f))) in
+    let tigers = subst AreTigers (sym is) (tigers_by _ (λ n f. omega (arith, n, f)) (λ n f. omega (arith, n, f)) (λ n f. omega (arith, n, f)) (λ f. omega (arith, f)) (λ n f. omega (arith, n, f)) (λ n f. omega (arith, n, f))) in
     let e = ap count (sym is ∙ h tigers) in
     omega (arith, e)
 

@@ -1,7 +1,10 @@
-use Rattle.std.proofs.Common.{◌≡◌, ℕ, List, [], get_or, sym, ap, ◌∙◌}
+use Rattle.std.proofs.Common.{◌≡◌, ℕ, List, [], get_or, sym, ap, subst, ◌∙◌}
 use Rattle.tiger_input.specs.Words.{texts_of}
+use Rattle.tiger_disks.specs.Ends.{InputEnd}
 use Rattle.tiger_disks.specs.Words.{AsksDisks}
-use Rattle.tiger_top.specs.Commands.{AsksJournal}
+use Rattle.tiger_top.specs.Commands.{AsksJournal, AsksSpare}
+use Rattle.tiger_top.specs.Statuses.{IfDisksStopped}
+use Rattle.tiger_top.specs.declared.status.TopStatus.{TopStatus}
 use Rattle.tiger_top.proofs.top.tiger_top.Goals as goal
 
 abbrev second : List (List ℕ) → List ℕ
@@ -24,6 +27,45 @@ pub returns-in-Journal-clause-sink : goal.returns-in-Journal-clause-sink
 returns-in-Journal-clause-sink g c = λ tigers.
     let journal : AsksJournal (texts_of c.args.words.now.items) c.in-Journal.name.now c.in-Journal.workers = rw c.as_slice.ensures.value at c.in-Journal.ensures in
     absurd (tigers.no_journal c.in-Journal.name.now c.in-Journal.workers journal)
+
+pub returns-in-Spare-clause-done : goal.returns-in-Spare-clause-done
+returns-in-Spare-clause-done g c = λ tigers.
+    let spare : AsksSpare (texts_of c.args.words.now.items) c.in-Spare.name.now c.in-Spare.workers = rw c.as_slice.ensures.value at c.in-Spare.ensures in
+    absurd (tigers.no_spare c.in-Spare.name.now c.in-Spare.workers spare)
+
+pub returns-in-Spare-clause-ran : goal.returns-in-Spare-clause-ran
+returns-in-Spare-clause-ran g c = λ tigers.
+    let spare : AsksSpare (texts_of c.args.words.now.items) c.in-Spare.name.now c.in-Spare.workers = rw c.as_slice.ensures.value at c.in-Spare.ensures in
+    absurd (tigers.no_spare c.in-Spare.name.now c.in-Spare.workers spare)
+
+pub returns-in-Spare-clause-sink : goal.returns-in-Spare-clause-sink
+returns-in-Spare-clause-sink g c = λ tigers.
+    let spare : AsksSpare (texts_of c.args.words.now.items) c.in-Spare.name.now c.in-Spare.workers = rw c.as_slice.ensures.value at c.in-Spare.ensures in
+    absurd (tigers.no_spare c.in-Spare.name.now c.in-Spare.workers spare)
+
+pub returns-in-Spare-clause-input : goal.returns-in-Spare-clause-input
+returns-in-Spare-clause-input g c = λ tigers.
+    let spare : AsksSpare (texts_of c.args.words.now.items) c.in-Spare.name.now c.in-Spare.workers = rw c.as_slice.ensures.value at c.in-Spare.ensures in
+    absurd (tigers.no_spare c.in-Spare.name.now c.in-Spare.workers spare)
+
+pub returns-in-Disks-clause-words : goal.returns-in-Disks-clause-words
+returns-in-Disks-clause-words g c =
+    let disks : AsksDisks (texts_of c.args.words.now.items) c.in-Disks.name.now c.in-Disks.image.now c.in-Disks.over = rw c.as_slice.ensures.value at c.in-Disks.ensures in
+    let old = g.F.Files.state c.args.files.now in
+    let new = g.F.Files.state c.write_image.new.files in (
+      λ is. absurd (subst (λ (s : TopStatus). IfDisksStopped (InputEnd c.in-Disks.name.now old new) s) (rw c.without_ring-in-Disks.ensures at is) c.write_image.ensures.input),
+      λ none. absurd (none.tigers.no_disks c.in-Disks.name.now c.in-Disks.image.now c.in-Disks.over disks),
+    )
+
+pub returns-in-Disks-clause-no_image : goal.returns-in-Disks-clause-no_image
+returns-in-Disks-clause-no_image g c = λ none.
+    let disks : AsksDisks (texts_of c.args.words.now.items) c.in-Disks.name.now c.in-Disks.image.now c.in-Disks.over = rw c.as_slice.ensures.value at c.in-Disks.ensures in
+    absurd (none c.in-Disks.name.now c.in-Disks.image.now c.in-Disks.over disks)
+
+pub returns-in-Disks-clause-done : goal.returns-in-Disks-clause-done
+returns-in-Disks-clause-done g c = λ tigers.
+    let disks : AsksDisks (texts_of c.args.words.now.items) c.in-Disks.name.now c.in-Disks.image.now c.in-Disks.over = rw c.as_slice.ensures.value at c.in-Disks.ensures in
+    absurd (tigers.no_disks c.in-Disks.name.now c.in-Disks.image.now c.in-Disks.over disks)
 
 pub returns-in-Disks-clause-input : goal.returns-in-Disks-clause-input
 returns-in-Disks-clause-input g c = λ tigers.

@@ -1,0 +1,43 @@
+//! The run of the scenario of a name, before anything of it is written.
+ghost use Rattle.std.specs.Prelude.{◌≡◌, ◌+◌, ◌≤◌, ◌<◌, length, IfOk, IfErr};
+ghost use Rattle.run_report.specs.Text.{kept_outcomes};
+ghost use Rattle.run_report.specs.declared.TheConstants.{ORDERS_LIMIT};
+ghost use Rattle.tiger_input.specs.Inputs.{most_reads, most_earlier};
+ghost use Rattle.tiger_spare.specs.Ends.{IsNamedSpare, SpareCause};
+
+use crate::reading::read_spare_inputs;
+use node_kit::Gate;
+use outside::Files;
+use spare_ring::{SpareRun, run_spare};
+use std::alloc::Global;
+use std::sync::Wait;
+use std::thread::Threads;
+use tiger_input::{Inputs, Status};
+
+/// Reads the scenario of a name and its files, and runs it by so many workers. The call may wait for a thread.
+pub fn named_spare<R: Threads + Wait + Sync, F: Files, G: Gate + Sync>(
+    rt: &R,
+    alloc: Global,
+    name: &str,
+    workers: u32,
+    files: &mut F,
+    gate: &G,
+) -> Result<SpareRun, Status>
+    requires workers { (1 ≤ workers) × (workers ≤ 64) }
+    requires calls { (F.state files.old).counts.calls ≤ most_earlier }
+    ensures ran { let old = F.state files.old in
+        IfOk result (λ run. IsNamedSpare G old (F.state files.new) name.now run.kept) }
+    ensures outcomes { IfOk result (λ run. run.outcomes.items ≡ kept_outcomes run.kept) }
+    ensures few { IfOk result (λ run. length run.kept.orders < ORDERS_LIMIT) }
+    ensures input { let old = F.state files.old in
+        IfErr result (SpareCause name.now old (F.state files.new)) }
+    ensures same { (F.state files.new).told ≡ (F.state files.old).told }
+    ensures few_calls { let old = F.state files.old in
+        (F.state files.new).counts.calls ≤ old.counts.calls + most_reads }
+{
+    let Inputs { scenario, library } = read_spare_inputs(alloc, files, name)?;
+    match run_spare(rt, alloc, scenario, &library, gate, workers) {
+        Ok(run) => Ok(run),
+        Err(_) => Err(Status::NoMemory),
+    }
+}
