@@ -89,7 +89,7 @@ def unknown_word(word):
 
 
 def cause(rule, item, value):
-    """What breaks a rule from 2 to 12, or rule 15, in the value of a scenario, in words; nothing if it is not found."""
+    """What breaks a rule from 2 to 12, or rule 14 or 15, in the value of a scenario, in words; nothing if it is not found."""
     if rule == 2 and has_keys(value, OF_PLANS, OF_SCENARIOS):
         return "the keys are those of a network's plan, which tiger net takes"
     if rule == 2:
@@ -102,6 +102,8 @@ def cause(rule, item, value):
         return links_cause(value["links"], value["plan"]["delay"])
     if rule == 10:
         return visits_cause(value)
+    if rule == 14:
+        return f"deaths[0] is {shown(value['deaths'][0])}"
     if rule == 15:
         return parts_cause(value["plan"])
     return element_cause(rule, item, value) if rule in ARRAYS else ""

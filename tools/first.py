@@ -24,7 +24,7 @@ def answer(words):
         return text and shows(text)
     if not is_command(words):
         return refuses(WORDS, "words")
-    return scenario_fault(words[1]) if words[0] in ("run", "journal", "net", "disks", "check", "audit") else None
+    return scenario_fault(words[1]) if words[0] in ("run", "journal", "spare", "net", "disks", "check", "audit") else None
 
 
 def text_in_source(name):
@@ -51,7 +51,7 @@ def is_command(words):
     """Whether the program takes these words for a command."""
     if not all(map(is_text, words)):
         return False
-    if len(words) == 3 and words[0] in ("run", "journal"):
+    if len(words) == 3 and words[0] in ("run", "journal", "spare"):
         return is_number(words[2], 1, MOST_WORKERS)
     if words[:1] == ["disks"]:
         return len(words) == 3 or len(words) == 4 and words[3] == "--force"

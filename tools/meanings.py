@@ -5,9 +5,9 @@ The texts are those of the tables in docs/formats.md, and tools/check-program co
 
 STATUSES = {  # what happened
     0: "all was read, run and written",
-    2: "the words are none of `run SCENARIO WORKERS`, `make NUMBER`, `journal SCENARIO WORKERS`, `net PLAN`, "
-       "`disks SCENARIO IMAGE`, `disks SCENARIO IMAGE --force`, `check SCENARIO` and `audit TEXT`, or a number has a leading "
-       "zero or is out of its range",
+    2: "the words are none of `run SCENARIO WORKERS`, `make NUMBER`, `journal SCENARIO WORKERS`, "
+       "`spare SCENARIO WORKERS`, `net PLAN`, `disks SCENARIO IMAGE`, `disks SCENARIO IMAGE --force`, `check SCENARIO` and "
+       "`audit TEXT`, or a number has a leading zero or is out of its range",
     3: "a file is not there",
     4: "a file cannot be read, for any other cause",
     5: "the scenario breaks a rule",
@@ -53,6 +53,7 @@ RULES = {  # what is wrong, and how to mend it
     12: ("`read_faults` is not of its form",
          "see that the disk is there, that `from` is below `until`, and that `until` is at most `beats`"),
     13: ("a file has no bytes", "name a file that is not empty"),
+    14: ("the scenario lets a cub die; `spare` alone asks this, behind rule 12", "take the deaths out, or use `run`"),
     15: ("the disks of the scenario have more parts than 4000000, each block once whole and each of its pieces once; "
          "`disks` alone asks this", "make `block` larger or `pieces` fewer, or name shorter files"),
 }

@@ -38,7 +38,7 @@ SAID = re.compile(rb"\Ascenario cubs \d+ slots \d+ starts \d+ beats \d+ memory \
 YES = re.compile(rb"\Aaudit yes\nentries \d+ puts \d+ stops \d+ deaths \d+ blocks \d+ pieces \d+"
                  rb" settled \d+ read \d+ piece \d+ dead \d+ stopped \d+\n\Z")  # of a kept run
 CONDITIONS = re.compile(rb"\A(?:condition \d+ left \d+ right \d+ needs [^\n]+\n)+\Z")  # of a plan, by `check`
-LAST = {"run": TOTAL, "make": TOTAL, "net": PEAK, "journal": END, "disks": DISK, "check": SAID, "audit": YES}  # of each command
+LAST = {"run": TOTAL, "make": TOTAL, "net": PEAK, "journal": END, "spare": TOTAL, "disks": DISK, "check": SAID, "audit": YES}  # of each command
 REFUSALS = (2, 3, 4, 5, 8, 13)  # the statuses of runs that write nothing but one line on standard error
 IMAGES = (11, 12, 14)  # those of `disks` that do so besides: the device, a damaged part, an image that exists
 AUDITS = (9, 10)  # those of `audit`: a broken clause, which has a second line for its place, and a text that is none

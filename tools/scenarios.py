@@ -284,6 +284,34 @@ def draw_faults(rng, disks, beats, number):
     return faults
 
 
+def with_dying_disks(rng, scenario):
+    """The scenario with disks that die and, in most cases, no cub that does; now and then with another fault of such a
+    disk, which ends or lasts as well, and with faults of others."""
+    plan, beats = scenario["plan"], scenario["beats"]
+    disks = plan["cubs"] * plan["disks"]
+    faults = scenario.get("read_faults", [])[:some(rng, 0, 0, 1, 3)]
+    for _ in range(some(rng, 1, 2, 2, 3, 3, plan["cubs"])):
+        disk = (rng.choice(scenario["files"])["disk"] + rng.randrange(12)) % disks
+        faults.append({"disk": disk, "from": draw_disk_death(rng, plan, beats, disk), "until": beats})
+        if rng.random() < 0.2:
+            faults += [{**fault, "disk": disk} for fault in draw_faults(rng, disks, beats, 1)]
+    rng.shuffle(faults)
+    is_calm = rng.random() < 0.8
+    calm = {key: value for key, value in scenario.items() if not (is_calm and key == "deaths")}
+    return {**calm, "read_faults": faults}
+
+
+def draw_disk_death(rng, plan, beats, disk):
+    """The beat from which on a disk is dead: any, or one about the last from which a visit of it can still be split."""
+    disks, beat = plan["cubs"] * plan["disks"], plan["beat"]
+    turns = beats * beat // (disks * plan["play"]) + 1
+    first = rng.randrange(plan["slots"]) * disks * plan["play"] // plan["slots"]
+    due = first + (disk + disks * rng.randrange(turns)) * plan["play"]
+    last = (due - plan["read_lead"] - plan["skew"] - plan["delay"] * beat) // beat - 1
+    near = last + some(rng, 0, 0, 1, 1, -1, 2, -rng.randint(0, plan["skew"] // beat + 1))
+    return some(rng, 0, rng.randrange(beats), rng.randrange(beats), *[min(max(near, 0), beats - 1)] * 3)
+
+
 def draw_media(rng, folder, count):
     """Files of one byte to some thousand, with lengths at and beside whole blocks; their names and lengths, by length."""
     names = []

@@ -20,6 +20,7 @@ KEPT = {  # the pictures of examples/, each with the words that make it from a s
     "back.svg": ("back",),
     "cut.svg": ("cut",),
     "dead-cub.svg": ("dead-cub",),
+    "dead-disk.svg": ("dead-disk", "--report", "dead-disk.spare"),
     "full-house.svg": ("full-house",),
     "net.svg": ("net",),
     "read-fault.svg": ("read-fault",),
@@ -234,6 +235,8 @@ def broken():
     late = {"cub": 7, "beat": 598, "back": 599}
     yield 5, {**one, "deaths": [late]}, "its back would have to be 600 at least, and the last beat of the run is 599"
     yield 5, {**one, "deaths": [{"cub": 7, "beat": 1, "after": 1, "back": 3, "until": 2}]}, 'it has the key "until"'
+    yield 5, {**one, "deaths": [{"cub": 7, "beat": 1}]}, 'deaths[0] is {"cub":7,"beat":1}'
+    yield 5, {**one, "deaths": [{"cub": 7, "beat": 1}], "files": [{"name": "gone", "disk": 0}]}, "or use run"
     yield 5, {**one, "read_faults": [{"disk": 0, "from": 9, "until": 9}]}, "must be below its until, 9"
     yield 5, {**one, "files": [{"name": "nothing", "disk": 0}]}, 'files[0] names it "nothing"'
     tiny = {**one, "plan": {**small_plan(), "block": 1, "pieces": 6}, "files": [{"name": "most", "disk": 0}]}
@@ -260,7 +263,8 @@ def explained(tiger, folder):
                                  (["12", "one.json"], 0, b"Status 12: "), (["14", "one.json"], 0, b"Status 14: "),
                                  (["tiger: image exists"], 0, b"Status 14: "), (["tiger: damaged disk 3"], 1, b""),
                                  (["tiger: scenario rule 15 item 0 left 9 right 8"], 0, b"Rule 15: "),
-                                 (["tiger: scenario rule 14 item 0 left 0 right 0"], 1, b""), (["x"], 1, b""),
+                                 (["tiger: scenario rule 14 item 0 left 0 right 0"], 0, b"Rule 14: "),
+                                 (["tiger: scenario rule 16 item 0 left 0 right 0"], 1, b""), (["x"], 1, b""),
                                  (["5", "one.json"], 1, b""),
                                  (["tiger: scenario rule 4 item 1 left 9 right 9", "/"], 1, b""),
                                  (["tiger: scenario rule 9 item 3999 left 0 right 0", "one.json"], 0, b"Rule 9: ")):
