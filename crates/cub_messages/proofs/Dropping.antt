@@ -14,7 +14,6 @@ use Rattle.partial_view.specs.Lines.{key_of, visit_of, is_of}
 use Rattle.partial_view.specs.Views.{Seen, IsWalk, first_of, without, without_instance}
 use Rattle.partial_view.proofs.Calls.{record_of}
 use Rattle.partial_view.proofs.Laws.{without-front, without-here}
-use Rattle.partial_view.proofs.Order.{walk_without}
 use Rattle.cub_rules.specs.Records.{dropped}
 use Rattle.cub_messages.proofs.Standing.{found_has}
 
@@ -66,7 +65,6 @@ module _ (v : Instance) where
 -- some lines of an instance are taken out, and written down
 pub record Dropping (v : Instance) (before : Seen) (outs_before : List (Out Msg)) (now : Seen) (outs_now : List (Out Msg)) : Type 0 where
   pub params : now.params ≡ before.params
-  pub walk : IsWalk now.params now.lines
   pub outs : outs_now ++ map dropped (filter (is_of v) now.lines) ≡ outs_before ++ map dropped (filter (is_of v) before.lines)
   pub left : filter (λ y. not (is_of v y)) now.lines ≡ filter (λ y. not (is_of v y)) before.lines
 
@@ -93,14 +91,14 @@ none_of v xs e = by_line (find (is_of v) xs) refl e
     by_line (Some x) f e = absurd (cc)
 
 -- nothing is taken out yet
-pub dropping : (v : Instance) (s : Seen) (outs : List (Out Msg)) → IsWalk s.params s.lines → Dropping v s outs s outs
-dropping v s outs walk = record { params = refl; walk = walk; outs = refl; left = refl }
+pub dropping : (v : Instance) (s : Seen) (outs : List (Out Msg)) → Dropping v s outs s outs
+dropping v s outs = record { params = refl; outs = refl; left = refl }
 
 module _ {v : Instance} {before : Seen} {outs_before : List (Out Msg)} {now : Seen} {outs_now : List (Out Msg)} (h : Dropping v before outs_before now outs_now) where
   -- the first line that is left is taken out
-  module _ (r : Rec) (first : Some r ≡ option_map (λ x. x.rec) (first_of v now.lines)) where
+  module _ (r : Rec) (first : Some r ≡ option_map (λ x. x.rec) (first_of v now.lines)) (walk : IsWalk now.params now.lines) where
     here : IsFirstRec v now r
-    here = first_rec v now r h.walk first
+    here = first_rec v now r walk first
 
     pub drop_key : IsKey now.params (visit_of r)
     drop_key = subst (λ (s : Rec). IsKey now.params (visit_of s)) here.is here.first.key
@@ -118,7 +116,6 @@ module _ {v : Instance} {before : Seen} {outs_before : List (Out Msg)} {now : Se
           let put : outs_after ≡ outs_now ++ dropped here.line ∷ [] = outs ∙ ap (λ (s : Rec). outs_now ++ out.Act (what.Dropped s) ∷ []) (sym here.is) in
           record {
             params = params_are ∙ h.params;
-            walk = rw (params_are, lines_are) (walk_without now.params (key_of here.line) now.lines h.walk);
             outs = rw (put, lines_are) (append_assoc outs_now (dropped here.line ∷ []) rest ∙ ap (λ (ys : List Line). outs_now ++ map dropped ys) (sym here.first.first) ∙ h.outs);
             left = rw lines_are (here.first.others ∙ h.left);
           }

@@ -2,7 +2,7 @@
 ghost use Rattle.std.specs.Prelude.{◌≡◌, IsTrue, IfOk, OnOk, None, not, if◌then◌else◌};
 ghost use Rattle.node_kit.specs.Form.{is_piece};
 ghost use Rattle.cub_rules.specs.State.{IsStoreOf};
-ghost use Rattle.mirror_schedule.specs.Pieces.{IsPieceOf, IsPieces, is_in};
+ghost use Rattle.mirror_schedule.specs.Pieces.{IsPieceOf, is_in};
 ghost use Rattle.cub_rules.specs.Records.{pieces_with, with_piece_record};
 ghost use Rattle.cub_rules.specs.Messages.{meeting_piece, meeting_kill};
 ghost use Rattle.cub_messages.specs.Rules.{DidQuietly};
@@ -43,15 +43,8 @@ fn add_new(piece: PieceState, pieces: &mut PieceView) -> Result<bool, NoMemory>
     ensures after { OnOk result (pieces.new
         ≡ (if is_in piece pieces.old.items then pieces.old else pieces_with piece pieces.old)) }
 {
-    stand_in_order(pieces);
+    pieces.are_in_order();
     pieces.add(piece)
-}
-
-/// The pieces of a set stand in their order.
-fn stand_in_order(pieces: &PieceView)
-    ensures { IsPieces pieces.now.params pieces.now.items }
-{
-    pieces.after(None);
 }
 
 /// The piece records of a visit, and the parts that are stored for them, are dropped.

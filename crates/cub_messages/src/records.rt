@@ -55,8 +55,8 @@ fn drop_each<'a>(
     ensures outs { OnOk result (out.new ≡ out.old
         ++ map dropped (filter (is_of instance) view.old.lines)) }
 {
-    stand_in_order(view);
     while let Some(rec) = first_of(view, instance) {
+        stand_in_order(view);
         out.push(Out::Act(What::Dropped(rec)))?;
         view.remove(rec.tenancy.slot, rec.visit);
     }
@@ -74,7 +74,7 @@ fn first_of(view: &CubView, instance: Instance) -> Option<Rec>
 fn stand_in_order(view: &CubView)
     ensures { IsWalk view.now.params view.now.lines }
 {
-    view.view().after(None);
+    view.view().are_in_order();
 }
 
 /// A start of an instance is dropped; one that waited is written down.

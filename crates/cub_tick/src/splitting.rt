@@ -2,7 +2,7 @@
 ghost use Rattle.std.specs.Prelude.{◌≡◌, ◌≤◌, ◌++◌, ◌∷◌, [], OnOk, Some, map};
 ghost use Rattle.std.specs.List.{flat_map};
 ghost use Rattle.tiger_base.specs.Limits.{most_reading};
-ghost use Rattle.mirror_schedule.specs.Pieces.{IsPieceOf, IsPieces};
+ghost use Rattle.mirror_schedule.specs.Pieces.{IsPieceOf};
 ghost use Rattle.node_kit.specs.Deeds.{Did};
 ghost use Rattle.cub_rules.specs.State.{IsStoreOf, IsLineOf};
 ghost use Rattle.cub_rules.specs.Ticks.{splitting, split_line, split_outs, sent_ahead};
@@ -173,16 +173,9 @@ fn add_piece(
     ensures unasked { OnOk result (unasked.new ≡ with_new piece pieces.old unasked.old) }
 {
     // The call tells that the set has each piece once, in order.
-    are_in_order(pieces);
+    pieces.are_in_order();
     if pieces.add(piece)? {
         unasked.add(piece)?;
     }
     Ok(())
-}
-
-/// A set of pieces has each of them once, in their order.
-fn are_in_order(pieces: &PieceView)
-    ensures { IsPieces pieces.now.params pieces.now.items }
-{
-    pieces.after(None);
 }

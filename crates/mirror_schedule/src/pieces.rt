@@ -62,6 +62,13 @@ impl PieceView {
         Ok(new)
     }
 
+    /// The pieces stand in their order, each once. The call looks at none.
+    pub fn are_in_order(&self)
+        ensures { IsPieces self.now.params self.now.items }
+    {
+        let _ = &self.plan;
+    }
+
     /// The next piece behind the given one, or the first if none is given; `None` exactly if there
     /// is none.
     pub fn after(&self, given: Option<PieceState>) -> Option<PieceState>

@@ -166,8 +166,8 @@ impl View {
         self.wheel.left_in_turn(work, near, from)
     }
 
-    /// The lines stand in their order, with one line for each visit.
-    pub(crate) fn are_in_order(&self)
+    /// The lines stand in their order, with one line for each visit. The call looks at none.
+    pub fn are_in_order(&self)
         ensures { IsWalk self.now.params self.now.lines }
     {
         self.wheel.are_in_order();
