@@ -22,18 +22,19 @@ use Rattle.cub_rules.specs.Messages.{taking}
 use Rattle.cub_rules.specs.Ticks.{number, ticking}
 use Rattle.cub_changes.specs.Changes.{Change, did}
 use Rattle.cub_changes.specs.Changes.Change.{DropStart, QueueApart, HearBeat, Believe, PutStart}
-use Rattle.cub_changes.specs.Causes.{Stage, Cause}
+use Rattle.cub_changes.specs.Causes.{Stage, Cause, IsDeadman}
 use Rattle.lists.specs.Elements.{In}
 use Rattle.cub_changes.specs.Causes.Stage.{OnMessage, OnRelease, OnDeadman, OnInsertion, OnService}
 use Rattle.cub_changes.specs.Outputs.{Output, output, ComesOf}
 use Rattle.cub_changes.specs.Outputs.Output.{Believed}
 use Rattle.cub_changes.specs.Laws.{believed_out, CubsKeepBelief}
-use Rattle.cub_changes.proofs.Closed.{IsClosed}
+use Rattle.cub_changes.proofs.Closed.{IsClosed, OfEach}
 use Rattle.lists.proofs.Each.{all_in}
 use Rattle.lists.proofs.Elements.{in_left, in_right, in_cases}
 use Rattle.cub_changes.proofs.Messages.{taking_by}
-use Rattle.cub_changes.proofs.Ticks.{IsOfTick, ticking_by}
+use Rattle.cub_changes.proofs.Ticks.{IsOfTick, ticking_by, late_by, before_inserting}
 use Rattle.cub_changes.proofs.Outputs.{forms_of}
+use Rattle.cub_changes.proofs.Chains.{tick_late}
 
 pub not_true : (b : Bool) → not b ≡ true → b ≡ false
 not_true true e = absurd (cc)
@@ -153,6 +154,17 @@ module _ (p : Params) (c : ℕ) (stamp : Stamp) where
 
   ticking_minds : (h : Store) → Minds h (ticking p c stamp h)
   ticking_minds h = ticking_by Minds minds_closed p c stamp h (λ g from t x q cause. minds_each g from t x q cause)
+
+  -- once insertion begins a tick changes no belief
+  none_later : (g : Stage) → (IsDeadman g → ⊥) → (from : Store) → OfEach (λ q d. d.state.believes ≡ q.believes) p c stamp g from
+  none_later g late from Believe h cause = absurd (late cause.0)
+  none_later g late from other h cause = refl
+
+  pub belief_lasts : (h : Store) → (ticking p c stamp h).state.believes ≡ (before_inserting p c stamp h).believes
+  belief_lasts h =
+      ap (λ (s : Store). s.believes) (tick_late p c stamp h)
+      ∙ late_by (λ q d. d.state.believes ≡ q.believes) (record { none = λ q. refl; both = λ q d e one two. two ∙ one }) p c stamp
+      (before_inserting p c stamp h) (none_later OnInsertion (λ k. k)) (none_later OnService (λ k. k))
 
   -- ---- a cub that believes has no redundant starts
   abbrev IsApart : Store → Type 0

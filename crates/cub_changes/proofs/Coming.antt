@@ -1,5 +1,5 @@
 -- A cub that came back stays one that did, and puts nobody.
-use Rattle.std.proofs.Common.{◌≡◌, ℕ, Option, None, refl, sym, subst, ◌∙◌, ⊎_elim, Some, ap, inl, inr}
+use Rattle.std.proofs.Common.{◌≡◌, ℕ, ◌==◌, ◌%◌, true, Option, None, refl, sym, subst, ◌∙◌, ⊎_elim, Some, ap, inl, inr}
 use Rattle.tiger_base.specs.declared.number.Stamp.{Stamp}
 use Rattle.tiger_base.specs.declared.tenancy.Tenancy.{Tenancy}
 use Rattle.tiger_base.specs.declared.message.Msg.{Msg}
@@ -17,13 +17,17 @@ use Rattle.cub_changes.specs.Changes.Change.{HearBack, Release, PutStart}
 use Rattle.cub_changes.specs.Causes.{Stage, IsOfPredecessor, IsToldBack, Cause}
 use Rattle.cub_changes.specs.Causes.Stage.{OnMessage, OnRelease, OnDeadman, OnInsertion, OnService}
 use Rattle.lists.specs.Elements.{In}
-use Rattle.lists.proofs.Elements.{in_cases}
+use Rattle.lists.proofs.Elements.{in_cases, in_right}
+use Rattle.node_kit.specs.declared.outbox.Out.{Out}
+use Rattle.node_kit.specs.Ways.{way_ahead}
+use Rattle.cub_changes.proofs.Chains.{beats, tick_served, service_out}
+use Rattle.cub_changes.proofs.Order.{from_reading}
 use Rattle.cub_changes.specs.Laws.{CubsKeepComeback}
 use Rattle.cub_changes.proofs.Closed.{IsClosed, OfEach}
 use Rattle.cub_changes.proofs.Messages.{taking_by}
 use Rattle.cub_changes.proofs.Outputs.{tells_of}
 use Rattle.cub_changes.proofs.Puts.{inserting_by}
-use Rattle.cub_changes.proofs.Ticks.{releasing_by, believing_by, splitting_by, forwarding_by, reading_by, serving_by, ticking_since, IsOfTick, before_inserting, before_splitting, ticking_by}
+use Rattle.cub_changes.proofs.Ticks.{releasing_by, believing_by, splitting_by, forwarding_by, reading_by, serving_by, ticking_since, IsOfTick, before_inserting, before_splitting, before_forwarding, ticking_by}
 use Rattle.std.specs.Prelude.{◌⊎◌}
 use Rattle.tiger_base.specs.declared.number.LinkNo.{LinkNo}
 use Rattle.cub_rules.specs.Messages.{taking}
@@ -85,6 +89,27 @@ module _ (p : Params) (c : ℕ) (stamp : Stamp) (h : Store) where
 
   pub serving_same : (serving p c stamp h).state.comeback ≡ h.comeback
   serving_same = serving_by IsSame same_closed p c stamp h (same_in OnService)
+
+  -- so one that did not come back puts out a heartbeat in each beat of the number
+  pub beat_out : h.comeback ≡ None → (stamp.beat % p.heart == 0) ≡ true
+      → In (out.Send (way_ahead p c 1) msg.Heartbeat) (ticking p c stamp h).outs
+  beat_out first e =
+      let o : Out Msg = out.Send (way_ahead p c 1) msg.Heartbeat in
+      let h3 : Store = before_splitting p c stamp h in
+      let h4 : Store = before_forwarding p c stamp h in
+      let h5 : Store = from_reading p c stamp h in
+      let h6 : Store = (reading p stamp h5).state in
+      let h7 : Store = (serving p c stamp h6).state in
+      let none : h7.comeback ≡ None = keep_all ∙ first in
+      service_out p c stamp h o
+      (in_right o (splitting p c stamp h3).outs _ (in_right o (forwarding p c stamp h4).outs _ (in_right o (reading p stamp h5).outs _
+      (in_right o (serving p c stamp h6).outs _
+      (subst (λ (d : Deed Msg Store). In o d.outs) (sym (beats p c stamp h7 none e)) (inl refl))))))
+    where
+      keep_all : (serving p c stamp (reading p stamp (from_reading p c stamp h)).state).state.comeback ≡ h.comeback
+      keep_all =
+          ap (λ (s : Store). s.comeback) (sym (tick_served p c stamp h))
+          ∙ ticking_by IsSame same_closed p c stamp h (λ g from t x q cause. same_change p c stamp x q)
 
 -- ---- what the predecessor handed back changes at its message alone
 

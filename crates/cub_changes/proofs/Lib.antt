@@ -1,6 +1,7 @@
 pub mod Allowing
 pub mod Beliefs
 pub mod Causing
+pub mod Chains
 pub mod Closed
 pub mod Coming
 pub mod Fits
@@ -19,3 +20,4 @@ pub mod Splitting
 pub mod Stopping
 pub mod Stores
 pub mod Ticks
+pub mod Turns

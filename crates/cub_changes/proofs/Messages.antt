@@ -35,7 +35,7 @@ use Rattle.node_kit.specs.Ways.{way_ahead, predecessor}
 use Rattle.cub_rules.specs.declared.store.Store.{Store}
 use Rattle.cub_rules.specs.declared.comeback.Comeback.{Comeback}
 use Rattle.cub_rules.specs.Comebacks.{due_of_record, lets_in, records_let_in}
-use Rattle.cub_rules.specs.Records.{took, view_with, dropping_lines, dropping_start, dropping_pieces, with_piece_record}
+use Rattle.cub_rules.specs.Records.{took, view_with, dropping_lines, dropping_start, dropping_pieces, pieces_with, with_piece_record}
 use Rattle.cub_rules.specs.Messages.{position_at, position, records_told, is_news, place_told, is_discarded, is_wanted, passing_on, passing_from, told, met, meeting_state, queueing, queueing_redundant, meeting_start, holding, passing, killing_splits, dropping_all, descheduling, meeting_piece, meeting_kill, storing, meeting_answer, hearing_beat, hearing_back, hearing, taking}
 use Rattle.cub_rules.specs.Ticks.{sending, told_placed}
 use Rattle.cub_changes.specs.Changes.{did}
@@ -72,18 +72,28 @@ pub took_of : (P : Deed Msg Store → Type 0) (r : Rec) (h : Store)
 unfolding took
 took_of P r h there new = cond_both (is_some (line_at (lines.visit_of r) h.view.lines)) (nothing h) (taken_in r h) P there new
 
+-- a piece record is added if it is not there
+pub with_piece_of : (P : Store → Type 0) (x : PieceState) (h : Store) → (pieces.is_in x h.pieces.items ≡ true → P h)
+    → (pieces.is_in x h.pieces.items ≡ false → P (record h { pieces = pieces_with x h.pieces; unasked = pieces_with x h.unasked }))
+    → P (with_piece_record x h)
+unfolding with_piece_record
+with_piece_of P x h there new = cond_both (pieces.is_in x h.pieces.items) h _ P there new
+
 module _ (P : Store → Deed Msg Store → Type 0) (closed : IsClosed P) (p : Params) (c : ℕ) (stamp : Stamp) where
   pub took_by : (g : Stage) (from : Store) → OfEach P p c stamp g from → (r : Rec) → MayTake p c stamp g from r → (h : Store)
       → P h (took r h)
   took_by g from each r may h = took_of (P h) r h (λ _. closed.none h) (λ e. each (TakeRecord r) h (may, e))
 
+  pub passing_each : (v : Instance) (o : Option Key) (h : Store)
+      → ((k : Key) → o ≡ Some k → must_pass h.held v ≡ true → P h (did p c stamp (PassOn v k) h)) → P h (passing_from p c stamp v o h)
+  unfolding passing_on
+  passing_each v None h one = closed.none h
+  passing_each v (Some k) h one =
+      if_by P closed (must_pass h.held v) h (passing_on p c stamp v k h) (nothing h) (one k refl) (λ _. closed.none h)
+
   passing_by : (g : Stage) (from : Store) → OfEach P p c stamp g from → (v : Instance) (o : Option Key) (h : Store)
       → ((k : Key) → o ≡ Some k → must_pass h.held v ≡ true → MayPass p c stamp g from v k) → P h (passing_from p c stamp v o h)
-  unfolding passing_on
-  passing_by g from each v None h may = closed.none h
-  passing_by g from each v (Some k) h may =
-      if_by P closed (must_pass h.held v) h (passing_on p c stamp v k h) (nothing h) (λ e. each (PassOn v k) h (may k refl e))
-      (λ _. closed.none h)
+  passing_by g from each v o h may = passing_each v o h (λ k is must. each (PassOn v k) h (may k is must))
 
   pub told_by : (s : State) (k : Key) (h : Store) → P h (did p c stamp (DropStart s.tenancy.instance) h)
       → ((r : Rec) → In r (records_told s k) → lets_in h.comeback (due_of_record p r) ≡ true
@@ -194,9 +204,8 @@ module _ (P : Store → Deed Msg Store → Type 0) (closed : IsClosed P) (p : Pa
 
   pub add_by : (g : Stage) (from : Store) → OfEach P p c stamp g from → (x : PieceState) (h : Store) → MayAdd p c stamp g x from
       → P h (record { outs = []; state = with_piece_record x h })
-  unfolding with_piece_record
   add_by g from each x h may =
-      cond_both (pieces.is_in x h.pieces.items) h _ (λ (s : Store). P h (record { outs = []; state = s })) (λ _. closed.none h)
+      with_piece_of (λ (s : Store). P h (record { outs = []; state = s })) x h (λ _. closed.none h)
       (λ e. each (AddPiece x) h (may, e))
 
   pub piece_by : (link : LinkNo) (x : PieceState) (h : Store) → OfEach P p c stamp (OnMessage link (msg.MirrorState x)) h

@@ -39,6 +39,9 @@ stands_at p c slot visit =
     cond_both (cub_of p (visit + 1) == c) (Some (slot, visit + 1)) None If
     (λ e. record { slot_same = refl; here = eqb-true _ _ e; other = λ _. refl }) (λ _. tt))
 
+pub stands : (p : Params) (c : ℕ) (slot : SlotNo) (visit : ℕ) (k : Key) → position_at p c slot visit ≡ Some k → StandsAt p c slot visit k
+stands p c slot visit k e = subst (λ (o : Option Key). IfSome o (StandsAt p c slot visit)) e (stands_at p c slot visit)
+
 -- the records that a state in form tells are of the cub
 pub told_records : (p : Params) (c : ℕ) (s : State) (k : Key) → IsTrue (is_tenancy p s.tenancy) → s.tenancy.first ≤ s.visit → s.visit ≤ s.tenancy.last
     → StandsAt p c s.tenancy.slot s.visit k → AllByRecursion (IsRecordOf p c) (records_told s k)

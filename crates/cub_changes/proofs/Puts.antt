@@ -2,7 +2,6 @@
 use Rattle.std.proofs.Common.{◌≡◌, ℕ, ◌+◌, List, [], ◌∷◌, ◌++◌, filter, Bool, true, false, not, nat_lt, cond, is_some, Option, Some, None, refl, ◌∙◌, sym, ap, subst, ⊎_elim, inl, inr}
 use Rattle.std.specs.Prelude.{◌⊎◌}
 use Rattle.std.proofs.lemmas.Bool.{cond_both}
-use Rattle.std.proofs.lemmas.List.Folds.{list_any-append}
 use Rattle.tiger_base.specs.declared.number.Instance.{Instance}
 use Rattle.tiger_base.specs.declared.number.Stamp.{Stamp}
 use Rattle.tiger_base.specs.declared.tenancy.Ask.{Ask}
@@ -16,7 +15,7 @@ use Rattle.slot_plan.specs.Keys.{Key}
 use Rattle.node_kit.specs.declared.outbox.Out.TheVariants as out
 use Rattle.node_kit.specs.Steps.{Deed}
 use Rattle.insert_queue.specs.Queues.{Queues, is_of, has_start, without_start, IsOnce}
-use Rattle.insert_queue.proofs.Once.{none_of, IsOnce-without}
+use Rattle.insert_queue.proofs.Once.{none_of, IsOnce-without, once_front}
 use Rattle.node_kit.specs.Deeds.{nothing, then_do, each_in_turn}
 use Rattle.node_kit.specs.Ways.{way_ahead, predecessor}
 use Rattle.cub_rules.specs.declared.store.Store.{Store}
@@ -90,10 +89,6 @@ dead_drops p c t h =
     (two.0 ∙ one.0, two.1 ∙ one.1)
 
 -- ---- starts of which each instance has one
-is_front : (xs ys : List Ask) → IsOnce (xs ++ ys) → IsOnce xs
-is_front [] ys o = tt
-is_front (x ∷ xs) ys o = ((none_of (has_start xs x.instance) (has_start ys x.instance) (sym (list_any-append (is_of x.instance) xs ys) ∙ o.0)).0, is_front xs ys o.1)
-
 none_filtered : (test : Ask → Bool) (asks : List Ask) (v : Instance) → has_start asks v ≡ false → has_start (filter test asks) v ≡ false
 none_filtered test [] v e = refl
 none_filtered test (a ∷ rest) v e =
@@ -199,7 +194,7 @@ module _ (P : Store → Deed Msg Store → Type 0) (closed : IsClosed P) (p : Pa
       (record {
         for = λ a i. let k = from_filter (is_for disk) a h.starts.waiting i in (k.1, f.fewer a k.0);
         still = λ o a i. (from_filter (is_for disk) a h.starts.waiting i).0;
-        single = λ o. once_filtered (is_for disk) h.starts.waiting (is_front h.starts.waiting h.starts.redundant (f.once o));
+        single = λ o. once_filtered (is_for disk) h.starts.waiting (once_front h.starts.waiting h.starts.redundant (f.once o));
       })
 
   pub disks_by : (disks : List ℕ) → ((disk : ℕ) → In disk disks → on disk) → (h : Store) → IsFewer from h

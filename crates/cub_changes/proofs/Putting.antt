@@ -1,7 +1,7 @@
 -- Each Put is of a start that waited.
-use Rattle.std.proofs.Common.{◌≡◌, ℕ, ◌&&◌, true, false, not, refl, sym, ap, subst, ◌∙◌, ⊎_elim, inl, inr}
+use Rattle.std.proofs.Common.{◌≡◌, ℕ, true, false, not, refl, sym, ap, subst, ◌∙◌, ⊎_elim, inl, inr}
 use Rattle.std.specs.Prelude.{◌⊎◌}
-use Rattle.std.proofs.lemmas.Bool.{and_parts, cond_both}
+use Rattle.std.proofs.lemmas.Bool.{and_parts}
 use Rattle.tiger_base.specs.declared.number.LinkNo.{LinkNo}
 use Rattle.tiger_base.specs.declared.number.Stamp.{Stamp}
 use Rattle.tiger_base.specs.declared.tenancy.Ask.{Ask}
@@ -13,7 +13,6 @@ use Rattle.node_kit.specs.declared.outbox.Out.{Out}
 use Rattle.node_kit.specs.declared.outbox.Out.TheVariants as out
 use Rattle.node_kit.specs.Steps.{Deed}
 use Rattle.node_kit.specs.Steps.Input.{Take, Tick}
-use Rattle.node_kit.specs.Deeds.{nothing, then_do}
 use Rattle.deadman.specs.Silence.{is_silent}
 use Rattle.cub_rules.specs.declared.store.Store.{Store}
 use Rattle.cub_rules.specs.Messages.{taking}
@@ -26,14 +25,15 @@ use Rattle.cub_changes.specs.Causes.Stage.{OnMessage, OnRelease, OnDeadman, OnIn
 use Rattle.cub_changes.specs.Outputs.{Output, output, ComesOf}
 use Rattle.cub_changes.specs.Outputs.Output.{Put}
 use Rattle.cub_changes.specs.Laws.{IsPutOfStart, CubsPutStarts}
-use Rattle.cub_changes.proofs.Closed.{OfEach, then_by}
+use Rattle.cub_changes.proofs.Chains.{deadman_of}
+use Rattle.cub_changes.proofs.Closed.{OfEach}
 use Rattle.lists.proofs.Each.{all_in}
 use Rattle.lists.proofs.Elements.{in_cases}
 use Rattle.cub_changes.proofs.Messages.{taking_by}
 use Rattle.cub_changes.proofs.Puts.{inserting_by}
-use Rattle.cub_changes.proofs.Ticks.{service_steps, late_steps, releasing_by, believing_by, service_by, late_by}
+use Rattle.cub_changes.proofs.Ticks.{releasing_by, believing_by, service_by, tick_chain}
 use Rattle.cub_changes.proofs.Outputs.{forms_of, Puts, puts_closed}
-use Rattle.cub_changes.proofs.Beliefs.{Minds, not_true, minds_closed, minds_each}
+use Rattle.cub_changes.proofs.Beliefs.{not_true, belief_lasts}
 
 module _ (p : Params) (c : ℕ) (stamp : Stamp) where
   put_form : (x : Change) (h : Store) (t : Tenancy) (o : Output) → ComesOf p c stamp x h o
@@ -62,31 +62,24 @@ module _ (p : Params) (c : ℕ) (stamp : Stamp) where
   began h = (believing p c stamp (releasing p stamp h).state).state
 
   ticking_puts : (h : Store) → Puts p c stamp (OfPut (WasPut p c stamp (began h))) h (ticking p c stamp h)
-  unfolding ticking
   ticking_puts h =
       let X : Tenancy → Type 0 = WasPut p c stamp (began h) in
       let P : Store → Deed Msg Store → Type 0 = Puts p c stamp (OfPut X) in
       let closed = puts_closed p c stamp (OfPut X) in
       let h1 : Store = (releasing p stamp h).state in
-      let h2 : Store = (inserting p c stamp (began h)).state in
-      then_by P closed (releasing p stamp) (then_do (believing p c stamp) (late_steps p c stamp)) h
+      tick_chain P closed p c stamp h
       (releasing_by P closed p c stamp h (of_cause X OnRelease h (λ t q k. absurd (k.0))))
-      (then_by P closed (believing p c stamp) (late_steps p c stamp) h1
       (believing_by P closed p c stamp h1 (of_cause X OnDeadman h1 (λ t q k. absurd (k.0))))
-      (then_by P closed (inserting p c stamp) (service_steps p c stamp) (began h)
       (inserting_by P closed p c stamp (began h) (of_cause X OnInsertion (began h) (λ t q k. (q, k.1))))
-      (service_by P closed p c stamp h2 (λ from. of_cause X OnService from (λ t q k. absurd (k.0))))))
+      (service_by P closed p c stamp (inserting p c stamp (began h)).state (λ from. of_cause X OnService from (λ t q k. absurd (k.0))))
 
   -- a start that waits then waited before, or was redundant and the cub came to believe its predecessor dead
   abbrev WaitedBefore : Store → Store → Ask → Type 0
   WaitedBefore h new a = In a h.starts.waiting ⊎ (In a h.starts.redundant × (h.believes ≡ false) × (new.believes ≡ true))
 
   waited : (h : Store) (a : Ask) → In a (began h).starts.waiting → WaitedBefore h (began h) a
-  unfolding releasing believing
   waited h a i =
-      let g : Store = (releasing p stamp h).state in
-      let then_waits : Deed Msg Store → Type 0 = λ d. In a d.state.starts.waiting → WaitedBefore h d.state a in
-      cond_both (not g.believes && is_silent g.watch stamp.reading) _ (nothing g) then_waits
+      deadman_of p c stamp (λ (d : Deed Msg Store). In a d.state.starts.waiting → WaitedBefore h d.state a) h
       (λ e k.
       let unbelieved = not_true h.believes (and_parts (not h.believes) (is_silent h.watch stamp.reading) e).0 in
       ⊎_elim (λ q. inl q) (λ q. inr (q, unbelieved, refl)) (in_cases a h.starts.waiting h.starts.redundant k))
@@ -95,11 +88,7 @@ module _ (p : Params) (c : ℕ) (stamp : Stamp) where
 
   -- a belief that the cub has then it has after the tick
   believes_on : (h : Store) → (began h).believes ≡ true → (ticking p c stamp h).state.believes ≡ true
-  unfolding ticking
-  believes_on h b =
-      (late_by (Minds p c stamp) (minds_closed p c stamp) p c stamp (began h)
-      (λ from. minds_each p c stamp OnInsertion from tt)
-      (λ from. minds_each p c stamp OnService from tt)).stays b
+  believes_on h b = belief_lasts p c stamp h ∙ b
 
   put_of_start : (h : Store) (t : Tenancy) → WasPut p c stamp (began h) t
       → IsPutOfStart p c (Tick stamp) h (ticking p c stamp h).state t

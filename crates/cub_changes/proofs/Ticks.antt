@@ -87,7 +87,7 @@ module _ (P : Store → Deed Msg Store → Type 0) (closed : IsClosed P) (p : Pa
       (one x (inl refl) h) (adding_from xs (λ y i. one y (inr i)) g)
 
   -- each step from what holds of its own changes
-  splitting_of : (h : Store) → (h.believes ≡ true → P h (did p c stamp SplitVisits h))
+  pub splitting_of : (h : Store) → (h.believes ≡ true → P h (did p c stamp SplitVisits h))
       → (h.believes ≡ true
       → (x : PieceState) → In x (flat_map (first_pieces p stamp h.handback) h.view.lines)
       → (q : Store) → P q (record { outs = []; state = with_piece_record x q }))

@@ -209,18 +209,11 @@ fn split_own<'a>(
         visit: rec.visit,
         piece: 1,
     };
-    are_in_order(remembered);
+    remembered.are_in_order();
     if remembered.add(first)? {
         send_pieces(site, rec, out)?;
     }
     Ok(())
-}
-
-/// A set of pieces has each of them once, in their order.
-fn are_in_order(pieces: &PieceView)
-    ensures { IsPieces pieces.now.params pieces.now.items }
-{
-    pieces.after(None);
 }
 
 /// Sends the mirror states of all pieces of a visit.

@@ -1,7 +1,7 @@
 -- What a cub writes of its own is writable, and it sends no start.
-use Rattle.std.proofs.Common.{ℕ, ◌<◌, ◌≤◌, ◌^◌, List, Option, None, IsTrue, subst, arith, ⊎_elim}
+use Rattle.std.proofs.Common.{◌≡◌, ℕ, ◌<◌, ◌≤◌, ◌^◌, List, true, false, Option, None, IsTrue, sym, subst, arith, ⊎_elim}
 use Rattle.std.specs.List.{AllByRecursion}
-use Rattle.std.proofs.lemmas.Bool.{cond_both}
+use Rattle.std.proofs.lemmas.Bool.{cases_Bool}
 use Rattle.tiger_base.specs.declared.number.Stamp.{Stamp}
 use Rattle.tiger_base.specs.declared.tenancy.Rec.{Rec}
 use Rattle.tiger_base.specs.declared.tenancy.Tenancy.{Tenancy}
@@ -13,7 +13,6 @@ use Rattle.slot_plan.specs.declared.params.Params.{Params}
 use Rattle.slot_plan.specs.Conditions.{IsPlan}
 use Rattle.node_kit.specs.declared.outbox.Out.{Out}
 use Rattle.node_kit.specs.declared.outbox.Out.TheVariants as out
-use Rattle.node_kit.specs.Deeds.{then_do}
 use Rattle.node_kit.specs.Form.{is_tenancy, is_place}
 use Rattle.node_kit.specs.Steps.{Deed, Input, stamp_of}
 use Rattle.node_kit.specs.Steps.Input.{Take, Tick}
@@ -28,6 +27,7 @@ use Rattle.cub_changes.specs.Causes.{Stage, Cause, Fills, IsAnswer, IsInsertion}
 use Rattle.cub_changes.specs.Causes.Stage.{OnMessage, OnInsertion}
 use Rattle.cub_changes.specs.Outputs.{Output, output, ComesOf}
 use Rattle.cub_changes.specs.Outputs.Output.{Took, Dropped, Put, ReadFailed}
+use Rattle.cub_changes.proofs.Chains.{ending_on, ending_back}
 use Rattle.cub_changes.proofs.Closed.{IsClosed, OfEach, then_by}
 use Rattle.cub_changes.proofs.Keeping.{IsSound, change_keeps}
 use Rattle.cub_changes.proofs.Messages.{taking_in_form}
@@ -141,13 +141,14 @@ module _ (p : Params) (c : ℕ) (stamp : Stamp) (plan : IsPlan p) (here : c < p.
       (λ g d t so. each_fine d.state (so kept).keeps g (known_in_tick short g t)) kept
 
   ending_fine : (last : Option ℕ) → stamp.reading ≤ most_reading → (h : Store) → Fine p c h (ending p c last stamp h)
-  unfolding ending
   ending_fine last short h =
       let back : Store → Deed Msg Store = coming_back p c stamp in
       let tick : Store → Deed Msg Store = ticking p c stamp in
-      cond_both (was_away last stamp.beat) (then_do back tick h) (tick h) (Fine p c h)
-      (λ _. then_by (Fine p c) (fine_closed p c) back tick h (coming_fine h) (ticking_fine short (back h).state))
-      (λ _. ticking_fine short h)
+      ⊎_elim
+      (λ (away : was_away last stamp.beat ≡ true). subst (Fine p c h) (sym (ending_back p c stamp last h away))
+      (then_by (Fine p c) (fine_closed p c) back tick h (coming_fine h) (ticking_fine short (back h).state)))
+      (λ (on : was_away last stamp.beat ≡ false). subst (Fine p c h) (sym (ending_on p c stamp last h on)) (ticking_fine short h))
+      (cases_Bool (was_away last stamp.beat))
 
 cub_fine : (s : CubState) (i : Input Msg) (p : Params) (n : ℕ) → (stamp_of i).reading ≤ most_reading → IsCub s p n
     → AreFine s.params (cub_step s i).outs

@@ -14,13 +14,12 @@ use Rattle.node_kit.specs.Form.{IsInForm}
 use Rattle.node_kit.specs.Links.{links_of, viewers_of}
 use Rattle.node_kit.specs.declared.course.Order.{Order}
 use Rattle.node_kit.specs.declared.course.ReadFault.{ReadFault}
-use Rattle.node_kit.specs.Deeds.{then_do, wrapped}
+use Rattle.node_kit.specs.Deeds.{wrapped}
 use Rattle.node_kit.specs.Steps.{Deed, Input}
 use Rattle.node_kit.specs.Steps.Input.{Take, Tick}
 use Rattle.disk_image.specs.Image.{Image}
-use Rattle.cub_rules.specs.Cubs.{coming_back, cub_step, ending, ticked_cub, was_away}
+use Rattle.cub_rules.specs.Cubs.{cub_step, ticked_cub, was_away}
 use Rattle.cub_rules.specs.State.{CubState, opening_store}
-use Rattle.cub_rules.specs.Ticks.{ticking}
 use Rattle.cub_rules.specs.declared.store.Store.{Store}
 use Rattle.ring_nodes.specs.declared.nodes.AnyNode.{AnyNode}
 use Rattle.ring_nodes.specs.declared.nodes.AnyNode.TheVariants as node
@@ -29,7 +28,7 @@ use Rattle.ring_nodes.proofs.Numbered.{length-numbered, opening_count}
 use Rattle.ring_facts.specs.Steps.{ring_of}
 use Rattle.proof_turns.specs.Laws.{AreToldApart, AreOfTake, BeginsOtherwise}
 use Rattle.proof_turns.proofs.Takes.{takes_own}
-use Rattle.proof_turns.proofs.Ticks.{ticks_other}
+use Rattle.proof_turns.proofs.Ticks.{ticks_other, ending_back}
 use Rattle.ring_world.specs.Laws.{IsPlace}
 use Rattle.ring_world.proofs.Places.{plans-places}
 use Rattle.kept_worlds.specs.Laws.{CubsStand, ForgetsTicks}
@@ -128,24 +127,19 @@ since (node.Disk q) beat = false
 since (node.Controller q) beat = false
 since (node.Viewers q) beat = false
 
--- what it does hangs on nothing that it kept
-ending-away : (p : Params) (cub : ℕ) (last : Option ℕ) (stamp : Stamp) (a b : Store) → was_away last stamp.beat ≡ true
-    → ending p cub last stamp a ≡ then_do (coming_back p cub stamp) (ticking p cub stamp) b
-unfolding ending
-ending-away p cub last stamp a b away = rw away refl
-
 away-by : (last : Option ℕ) (now later : ℕ) → ticked_since last now ≡ false → now + 2 ≤ later → was_away last later ≡ true
 away-by None now later fresh apart = grind (arith, nat_tests, apart)
 away-by (Some last) now later fresh apart = grind (arith, nat_tests, fresh, apart)
 
+-- what it does then hangs on nothing that it kept
 cub-anew : (q : CubState) (now later : Stamp) → ticked_since q.last now.beat ≡ false → now.beat + 2 ≤ later.beat
     → cub_step (cub_step q (Tick now)).state (Tick later) ≡ cub_step q (Tick later)
 cub-anew q now later fresh apart =
     let one = (cub_step q (Tick now)).state in
     let away : was_away one.last later.beat ≡ true = grind (arith, nat_tests, apart) in
     ap (λ (d : Deed Msg Store). ticked_cub q later.beat d)
-    (ending-away q.params q.cub one.last later one.store q.store away
-    ∙ sym (ending-away q.params q.cub q.last later q.store q.store (away-by q.last now.beat later.beat fresh apart)))
+    (ending_back q.params q.cub later one.last one.store away
+    ∙ sym (ending_back q.params q.cub later q.last q.store (away-by q.last now.beat later.beat fresh apart)))
 
 forgets-cub : (G : Type 0) (k : Kept) (library : List (List ℕ))
     → ForgetsTicks (any_step {G = G}) IsCubOf k.course.plan.params (ring_of G k.course k.catalogue library k.orders)

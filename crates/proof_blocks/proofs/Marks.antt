@@ -1,7 +1,6 @@
 -- What a cub's rules make of the lines of its view and of the mark that tells that a line's block was asked for.
-use Rattle.std.proofs.Common.{◌≡◌, ℕ, ◌+◌, ◌<◌, ◌≤◌, List, ◌++◌, map, filter, Bool, true, false, not, is_some, refl, sym, ap, subst, ◌∙◌, ⊎_elim, inl, inr}
+use Rattle.std.proofs.Common.{◌≡◌, ℕ, ◌+◌, ◌<◌, ◌≤◌, List, [], ◌∷◌, ◌++◌, map, filter, Bool, true, false, not, is_some, refl, sym, ap, subst, ◌∙◌, ⊎_elim, inl, inr}
 use Rattle.std.specs.Prelude.{◌⊎◌}
-use Rattle.std.specs.List.{flat_map}
 use Rattle.std.proofs.lemmas.Bool.{cases_lt, and_from, le-leb}
 use Rattle.tiger_base.specs.declared.number.Instance.{Instance}
 use Rattle.tiger_base.specs.declared.number.LinkNo.{LinkNo}
@@ -21,21 +20,22 @@ use Rattle.partial_view.specs.Views.{line_at, with_line, with_record, without_in
 use Rattle.cub_rules.specs.declared.store.Store.{Store}
 use Rattle.cub_rules.specs.Records.{with_piece_record}
 use Rattle.cub_rules.specs.Messages.{taking}
-use Rattle.cub_rules.specs.Ticks.{releasing, believing, inserting, split_outs, split_line, first_pieces, with_each, with_split_lines, splitting, forward_line, forwarding, must_read, ask_line, reading_blocks, reading_pieces, reading, is_served, is_past, serving_blocks, dropping_backups, serving_pieces, serving, ticking}
+use Rattle.cub_rules.specs.Ticks.{releasing, believing, inserting, split_line, splitting, forward_line, forwarding, must_read, ask_line, reading, is_served, is_past, ticking}
 use Rattle.cub_changes.specs.Changes.{Change, did}
 use Rattle.cub_changes.specs.Changes.Change.{DropLines, TakeRecord, SplitVisits, Forward, AskBlocks, ServeBlocks, DropBackups}
 use Rattle.cub_changes.specs.Causes.{Stage, Cause}
 use Rattle.cub_changes.specs.Causes.Stage.{OnMessage, OnRelease, OnDeadman, OnInsertion}
-use Rattle.cub_changes.proofs.Beliefs.{not_true}
 use Rattle.proof_lives.proofs.HoldLaws.{no_both}
+use Rattle.cub_changes.proofs.Chains as chains
+use Rattle.cub_changes.proofs.Chains.{read_is, tick_outs}
 use Rattle.cub_changes.proofs.Closed.{IsClosed, OfEach, then_by}
 use Rattle.cub_changes.proofs.Messages.{taking_by}
 use Rattle.cub_changes.proofs.Puts.{inserting_by}
-use Rattle.cub_changes.proofs.Ticks.{releasing_by, believing_by}
+use Rattle.cub_changes.proofs.Ticks.{releasing_by, believing_by, splitting_of, forwarding_from}
 use Rattle.lists.specs.Elements.{In}
 use Rattle.lists.proofs.Elements.{chosen, in_left, in_right, in_cases, from_map, from_filter}
 use Rattle.proof_lives.proofs.Moves.{taken_out, from_with_line, forward_keeps, split_same}
-use Rattle.proof_lives.proofs.Steps.{same_with_pieces, beating_lines}
+use Rattle.proof_lives.proofs.Steps.{same_with_pieces}
 use Rattle.proof_facts.specs.Pieces.{before_reading, before_serving}
 
 -- A line is of a record that was there, and has the mark of that one's line.
@@ -156,25 +156,16 @@ taking_none p c stamp link m h =
     taking_by SetsNoMark none_closed p c stamp link m h (stage_none p c stamp (OnMessage link m) h (λ from q a. a))
 
 splitting_none : (p : Params) (c : ℕ) (stamp : Stamp) (h : Store) → SetsNoMark h (splitting p c stamp h)
-unfolding splitting
 splitting_none p c stamp h =
-    let g : Store = with_split_lines p stamp h in
-    let done : Deed Msg Store = record {
-      outs = flat_map (split_outs p c stamp h.handback) h.view.lines;
-      state = with_each with_piece_record (flat_map (first_pieces p stamp h.handback) h.view.lines) g;
-    } in
-    chosen (λ (d : Deed Msg Store). SetsNoMark h d) h.believes done (nothing h)
-    (λ _.
-    sets_none h done (λ y i.
-    was_mapped (split_line p stamp) (λ x. ((split_same p stamp x).0, (split_same p stamp x).2)) h.view.lines y
-    (subst (λ (ls : List Line). In y ls) (same_with_pieces (flat_map (first_pieces p stamp h.handback) h.view.lines) g) i)))
-    (λ _. none_closed.none h)
+    splitting_of SetsNoMark none_closed p c stamp h (λ _. change_none p c stamp SplitVisits h (λ e. absurd (cc)))
+    (λ _ x _ q.
+    let g : Store = with_piece_record x q in
+    sets_none q (record { outs = []; state = g })
+    (λ y i. itself q.view.lines y (subst (λ (ls : List Line). In y ls) (same_with_pieces (x ∷ []) q) i)))
 
 forwarding_none : (p : Params) (c : ℕ) (stamp : Stamp) (h : Store) → SetsNoMark h (forwarding p c stamp h)
-unfolding forwarding
 forwarding_none p c stamp h =
-    sets_none h (forwarding p c stamp h)
-    (λ y i. was_mapped (forward_line p stamp) (forward_keeps p stamp) h.view.lines y i)
+    forwarding_from SetsNoMark none_closed p c stamp h (change_none p c stamp Forward h (λ e. absurd (cc)))
 
 -- the steps of a tick before it asks
 abbrev pub before_asking : Params → ℕ → Stamp → Store → Deed Msg Store
@@ -206,17 +197,17 @@ in_front x front xs ys f i = ⊎_elim (λ k. in_left x front ys k) (λ k. in_rig
 
 pub before_out : (p : Params) (c : ℕ) (stamp : Stamp) (h : Store) (o : Out Msg) → In o (before_asking p c stamp h).outs
     → In o (ticking p c stamp h).outs
-unfolding ticking
 before_out p c stamp h o i =
     let h1 : Store = (releasing p stamp h).state in
     let h2 : Store = (believing p c stamp h1).state in
     let h3 : Store = (inserting p c stamp h2).state in
     let h4 : Store = (splitting p c stamp h3).state in
-    in_front o (releasing p stamp h).outs _ _
+    subst (λ (os : List (Out Msg)). In o os) (tick_outs p c stamp h)
+    (in_front o (releasing p stamp h).outs _ _
     (in_front o (believing p c stamp h1).outs _ _
     (in_front o (inserting p c stamp h2).outs _ _
     (in_front o (splitting p c stamp h3).outs _ _
-    (in_left o (forwarding p c stamp h4).outs _)))) i
+    (in_left o (forwarding p c stamp h4).outs _)))) i)
 
 -- ---- the second half of a tick
 
@@ -228,20 +219,9 @@ pub record IsLeft (p : Params) (c : ℕ) (stamp : Stamp) (h : Store) (y : Line) 
   pub is : y ≡ ask_line p stamp line
   pub undue : is_served p stamp y ≡ false
 
--- what is served, and what is past, leaves
-pub serving_left : (p : Params) (c : ℕ) (stamp : Stamp) (h : Store) (y : Line)
-    → In y (serving p c stamp h).state.view.lines
-    → In y h.view.lines × (is_served p stamp y ≡ false)
-unfolding serving serving_blocks dropping_backups serving_pieces
-serving_left p c stamp h y i =
-    let one = from_filter (λ x. not (is_past p stamp x)) y (filter (λ x. not (is_served p stamp x)) h.view.lines) i in
-    let two = from_filter (λ x. not (is_served p stamp x)) y h.view.lines one.0 in
-    (two.0, not_true (is_served p stamp y) two.1)
-
 pub reading_lines : (p : Params) (stamp : Stamp) (h : Store)
     → (reading p stamp h).state.view.lines ≡ map (ask_line p stamp) h.view.lines
-unfolding reading reading_blocks reading_pieces
-reading_lines p stamp h = refl
+reading_lines p stamp h = ap (λ (d : Deed Msg Store). d.state.view.lines) (read_is p 0 stamp h)
 
 -- a line that is there when a cub serves was there when it asked
 pub served_from : (p : Params) (c : ℕ) (stamp : Stamp) (h : Store) (y : Line)
@@ -254,11 +234,8 @@ served_from p c stamp h y i =
 pub ticking_left : (p : Params) (c : ℕ) (stamp : Stamp) (h : Store) (y : Line)
     → In y (ticking p c stamp h).state.view.lines
     → IsLeft p c stamp h y
-unfolding ticking
 ticking_left p c stamp h y i =
-    let g : Store = before_serving p c stamp h in
-    let h7 : Store = (serving p c stamp g).state in
-    let s = serving_left p c stamp g y (subst (λ (ls : List Line). In y ls) (beating_lines p c stamp h7) i) in
+    let s = chains.ticking_left p c stamp h y i in
     let r = served_from p c stamp h y s.0 in
     record { line = r.0; there = r.1; is = r.2; undue = s.1 }
 

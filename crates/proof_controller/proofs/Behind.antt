@@ -30,6 +30,7 @@ use Rattle.proof_controller.proofs.Places.{get_below}
 use Rattle.proof_controller.proofs.Commands.{sends_both}
 use Rattle.proof_controller.proofs.Stopping.{spoken, starts_speak}
 use Rattle.proof_controller.specs.Stops.{tag_at, stop_outs}
+use Rattle.node_kit.proofs.Rows.{get-front}
 
 -- an element of two lists behind one another
 get_cases : {X : Type 0} (xs ys : List X) (k : ℕ) (x : X) → slice_get (xs ++ ys) k ≡ Some x → ((k < length xs) × (slice_get xs k ≡ Some x)) ⊎ ((m : ℕ) × (k ≡ length xs + m) × (slice_get ys m ≡ Some x))
@@ -39,11 +40,6 @@ get_cases (z ∷ zs) ys (suc k) x h = ⊎_elim
     (λ old. let q = old.0 in inl (omega arith, old.1))
     (λ new. let q = new.1 in inr (new.0, omega arith, new.2))
     (get_cases zs ys k x h)
-
-get_front : {X : Type 0} (xs ys : List X) (k : ℕ) (x : X) → slice_get xs k ≡ Some x → slice_get (xs ++ ys) k ≡ Some x
-get_front [] ys k x h = absurd (none-some x h)
-get_front (z ∷ zs) ys zero x h = h
-get_front (z ∷ zs) ys (suc k) x h = get_front zs ys k x h
 
 -- an element of a filtered list, and what stands before it
 pub record Kept {X : Type 0} (test : X → Bool) (xs : List X) (i : ℕ) (x : X) : Type 0 where
@@ -200,7 +196,7 @@ module _ (p : Params) (orders : List Order) (r : ℕ) where
           let there = subst (λ (ys : List (Out Msg)). In (out.Send way (msg.Start x ask)) ys) (sym (carrying_begin o known ask (ap (λ (y : Order). y.what) s ∙ begins))) k in
           let g = sends_place l b d.outs way (msg.Start x ask) link there in
           let low = get_below (sends_of l b d.outs) g.0 (record { beat = b; item = msg.Start x ask }) g.1 in
-          (g.0, omega arith, get_front (sends_of l b d.outs) (sends_of l b f.outs) g.0 (record { beat = b; item = msg.Start x ask }) g.1)
+          (g.0, omega arith, get-front (sends_of l b d.outs) (sends_of l b f.outs) g.0 (record { beat = b; item = msg.Start x ask }) g.1)
       earlier o os known l b place v m n w (suc i) q ask way x less is begins k link =
           let d : Deed Msg Known = carrying p orders r o known in
           let f : Deed Msg Known = each_in_turn (carrying p orders r) os d.state in

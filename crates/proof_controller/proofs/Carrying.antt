@@ -1,6 +1,5 @@
 -- What a controller puts out in a beat: its orders' starts, and Gone of the instances that are stopped there.
-use Rattle.std.proofs.Common.{◌≡◌, ℕ, List, [], ◌∷◌, ◌++◌, length, Bool, true, false, cond, not, ◌&&◌, ◌||◌, ◌==◌, nat_lt, Option, Some, None, IsTrue, IfSome, arith, refl, sym, ap, subst, ◌∙◌}
-use Rattle.std.proofs.lemmas.Bool.Decides.{nat_tests}
+use Rattle.std.proofs.Common.{◌≡◌, ℕ, List, [], ◌∷◌, ◌++◌, length, Bool, true, false, cond, not, ◌&&◌, ◌||◌, ◌==◌, nat_lt, Option, Some, None, IsTrue, IfSome, refl, sym, ap, subst, ◌∙◌}
 use Rattle.tiger_base.specs.declared.number.Instance.{Instance}
 use Rattle.tiger_base.specs.declared.tenancy.Ask.{Ask}
 use Rattle.tiger_base.specs.declared.tenancy.Tag.{Tag}
@@ -23,6 +22,7 @@ use Rattle.controller_core.specs.Rules.{starts, gone_from, visit_due, stops_at, 
 use Rattle.controller_core.proofs.InForm.{found_in_form}
 use Rattle.proof_controller.proofs.Late.{late_is_due}
 use Rattle.proof_controller.proofs.Noted.{any_out, count_out, flat_out}
+use Rattle.std.proofs.lemmas.Bool.{eqb-true}
 
 abbrev pub one_if : Bool → ℕ
 one_if b = cond b 1 0
@@ -106,15 +106,12 @@ unless_gone_says p os r v w ask known false plan form e = stops_says p os r v w 
 abbrev pub takes_effect : Params → ℕ → Known → Instance → Bool
 takes_effect p r known v = not (is_gone known.gone v) && not (is_over p r (tenancy_of known.placed v))
 
-equal : (a b : ℕ) → (a == b) ≡ true → a ≡ b
-equal a b e = grind (arith, nat_tests)
-
 same_instance : (p : Params) (r : ℕ) (known : Known) (v w : Instance)
     → ((w.0 == v.0) && takes_effect p r known w) ≡ ((w.0 == v.0) && takes_effect p r known v)
 same_instance p r known v w = by_test (w.0 == v.0) refl
   where
     by_test : (b : Bool) → (w.0 == v.0) ≡ b → (b && takes_effect p r known w) ≡ (b && takes_effect p r known v)
-    by_test true e = ap (λ n. takes_effect p r known (record { 0 = n })) (equal w.0 v.0 e)
+    by_test true e = ap (λ n. takes_effect p r known (record { 0 = n })) (eqb-true w.0 v.0 e)
     by_test false e = refl
 
 stopping_says : (p : Params) (os : List Order) (r : ℕ) (v w : Instance) (ask : Ask) (known : Known) → IsPlan p → AreInForm p known

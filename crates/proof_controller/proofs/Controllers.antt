@@ -13,10 +13,7 @@ use Rattle.node_kit.specs.Ways.{way_to_cub}
 use Rattle.lists.specs.Elements.{In}
 use Rattle.proof_controller.specs.Stops.{tag_at, stop_outs}
 use Rattle.proof_controller.proofs.Knowing.{some_same}
-
--- instances of one number are one
-pub same_instance : (v w : Instance) → v.0 ≡ w.0 → v ≡ w
-same_instance v w e = ap (λ (n : ℕ). record { 0 = n }) e
+pub use Rattle.proof_lives.proofs.Ledger.{same_instance}
 
 -- the tag of a deschedule among the outputs of a stop, and its link
 pub tag_sent : (p : Params) (link : LinkNo) (v w : Instance) (a b : Option Tag) (n : ℕ) → In (out.Send link (msg.Deschedule v a)) (stop_outs p w b n)

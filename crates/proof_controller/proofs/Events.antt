@@ -31,6 +31,7 @@ use Rattle.proof_controller.proofs.Grown.{gone_in-append, gone_before-append, pl
 use Rattle.proof_controller.proofs.Noted.{any_out, flat_out, any_stamped, any_noted, count_noted, flat_stamped, stamped, count-append}
 use Rattle.proof_controller.proofs.Starting.{beat_sends, have_starts}
 use Rattle.proof_controller.proofs.Taking.{taking_gone, taking_in_form, found, taking_tells}
+use Rattle.std.proofs.lemmas.Bool.{eqb-true}
 
 -- so many beats are over, and the journal follows the orders in them; what the controller knows is what it tells
 pub record Followed (p : Params) (os : List Order) (reading : ℕ → ℕ) (t : ℕ) (known : Known) (journal : List Entry) : Type 0 where
@@ -125,9 +126,6 @@ took p os reading known journal stamp link m f =
           ∙ (let e : length (filter (λ (e : Entry). is_gone_of v.0 e.what) journal) + 0 ≡ length (filter (λ (e : Entry). is_gone_of v.0 e.what) journal) = omega arith in e
           ∙ (f.once v ∙ sym (ap (λ g. one_if (is_gone g v)) gone)));
     }
-
-equal : (a b : ℕ) → (a == b) ≡ true → a ≡ b
-equal a b e = grind (arith, nat_tests)
 
 not_itself : (t : ℕ) → nat_lt t t ≡ false
 not_itself t = grind (arith, nat_tests)
@@ -260,7 +258,7 @@ ticked p os reading known journal stamp plan are e f =
           ∙ (ap (λ xs. cond (nat_lt b t) (starts_ordered p b os) [] ++ xs)
           (out_starts p b stamp d.outs ∙ ap (λ xs. cond (t == b) xs []) (command_sends p os stamp known plan))
           ∙ (join_starts (nat_lt b t) (t == b) (starts_ordered p b os) (starts_ordered p t os) (below_differs b t)
-          (λ same. ap (λ n. starts_ordered p n os) (equal t b same))
+          (λ same. ap (λ n. starts_ordered p n os) (eqb-true t b same))
           ∙ ap (λ c. cond c (starts_ordered p b os) []) (sym (below_next b t)))));
       stops_are = λ v b.
           gone_in-append journal es v b
@@ -270,7 +268,7 @@ ticked p os reading known journal stamp plan are e f =
           (is_stopped p os (journal ++ es) v b (reading b)) (below_differs b t)
           (λ before. stopped_before p os _ _ t journal es v b (reading b) news before)
           (λ same.
-          ap (λ n. is_stopped p os (journal ++ es) v n (reading n)) (sym (equal t b same))
+          ap (λ n. is_stopped p os (journal ++ es) v n (reading n)) (sym (eqb-true t b same))
           ∙ (stopped_now p os reading stamp known journal es _ v f news e ∙ sym (says (record { 0 = v })).said))
           ∙ ap (λ c. c && is_stopped p os (journal ++ es) v b (reading b)) (sym (below_next b t)))));
       once = λ v.

@@ -1,5 +1,5 @@
 -- In what a cub puts out a Put stands in front of its state and of the place that is told, so that it goes out if one of these does.
-use Rattle.std.proofs.Common.{◌≡◌, ℕ, ◌<◌, List, [], ◌∷◌, ◌++◌, Option, refl, sym, ap, subst, ◌∙◌, ⊎_elim, inl}
+use Rattle.std.proofs.Common.{◌≡◌, ℕ, List, [], ◌∷◌, ◌++◌, Option, sym, ap, subst, ◌∙◌, ⊎_elim, inl}
 use Rattle.std.specs.List.{AllByRecursion}
 use Rattle.tiger_base.specs.declared.number.Stamp.{Stamp}
 use Rattle.tiger_base.specs.declared.tenancy.Rec.{Rec}
@@ -23,6 +23,7 @@ use Rattle.proof_lives.proofs.Beside.{goes_at, in_place, in_tick, no_place, outs
 use Rattle.proof_lives.proofs.Inserting.{put_out}
 use Rattle.proof_lives.proofs.Moves.{IsQuiet}
 use Rattle.proof_lives.proofs.Putting.{OfPut, TakesOwn, TakesForDead, own_outs, dead_outs}
+use Rattle.cub_changes.proofs.Chains.{own_puts, dead_puts}
 
 -- the state of a tenancy's first visit
 abbrev pub first_state : Tenancy → State
@@ -73,12 +74,10 @@ module _ (p : Params) (c : ℕ) where
 
   module _ (stamp : Stamp) where
     own_led : (t : Tenancy) (h : Store) → Led h (putting_own p c t h)
-    unfolding putting_own
-    own_led t h = led_one t (TakesOwn t) (putting_own p c t h).outs _ refl (own_outs p c stamp t h)
+    own_led t h = led_one t (TakesOwn t) (putting_own p c t h).outs _ (sym (own_puts p c t h)) (own_outs p c stamp t h)
 
     dead_led : (t : Tenancy) (h : Store) → Led h (putting_for_dead p c t h)
-    unfolding putting_for_dead
-    dead_led t h = led_one t (TakesForDead t) (putting_for_dead p c t h).outs _ refl (dead_outs p c stamp t h)
+    dead_led t h = led_one t (TakesForDead t) (putting_for_dead p c t h).outs _ (sym (dead_puts p c t h)) (dead_outs p c stamp t h)
 
     -- all Puts of a tick
     inserting_led : (h : Store) → AreLed (inserting p c stamp h).outs

@@ -1,11 +1,12 @@
 -- Starts stand once among what a controller sends: within a beat, and over all beats.
-use Rattle.std.proofs.Common.{◌≡◌, ℕ, zero, suc, ◌+◌, List, [], ◌∷◌, ◌++◌, length, Some, arith, ⊎_elim, inl, inr}
-use Rattle.std.specs.Prelude.{◌⊎◌, slice_get}
+use Rattle.std.proofs.Common.{◌≡◌, ℕ, ◌+◌, List, [], ◌++◌, length, arith, ⊎_elim, inl, inr}
+use Rattle.std.specs.Prelude.{◌⊎◌}
 use Rattle.std.proofs.lemmas.Option.{none-some}
 use Rattle.tiger_base.specs.declared.message.Msg.{Msg}
 use Rattle.tiger_base.specs.declared.message.Msg.TheVariants as msg
 use Rattle.run_facts.specs.Events.{Dated}
 use Rattle.proof_controller.specs.Orders.{StartAt, IsOnce}
+use Rattle.run_facts.proofs.Counts.{get-append}
 
 pub none_in_nothing : (k v : ℕ) → StartAt [] k v → ⊥
 none_in_nothing k v s = none-some (record { beat = s.beat; item = msg.Start s.redundant s.ask }) s.at
@@ -13,16 +14,11 @@ none_in_nothing k v s = none-some (record { beat = s.beat; item = msg.Start s.re
 pub once_nothing : IsOnce []
 once_nothing v j k s t = absurd (none_in_nothing j v s)
 
-pub get_parts : {X : Type 0} (xs ys : List X) (k : ℕ) (x : X) → slice_get (xs ++ ys) k ≡ Some x → (slice_get xs k ≡ Some x) ⊎ ((m : ℕ) × (k ≡ length xs + m) × (slice_get ys m ≡ Some x))
-get_parts [] ys k x h = inr (k, omega arith, h)
-get_parts (z ∷ zs) ys zero x h = inl h
-get_parts (z ∷ zs) ys (suc k) x h = ⊎_elim (λ old. inl old) (λ new. let q = new.1 in inr (new.0, omega (arith, q), new.2)) (get_parts zs ys k x h)
-
 pub start_parts : (xs ys : List (Dated Msg)) (k v : ℕ) → StartAt (xs ++ ys) k v → StartAt xs k v ⊎ ((m : ℕ) × (k ≡ length xs + m) × StartAt ys m v)
 start_parts xs ys k v s = ⊎_elim
     (λ q. inl (record { beat = s.beat; ask = s.ask; redundant = s.redundant; at = q; same = s.same }))
     (λ q. inr (q.0, q.1, record { beat = s.beat; ask = s.ask; redundant = s.redundant; at = q.2; same = s.same }))
-    (get_parts xs ys k (record { beat = s.beat; item = msg.Start s.redundant s.ask }) s.at)
+    (get-append xs ys k (record { beat = s.beat; item = msg.Start s.redundant s.ask }) s.at)
 
 -- two lists in which each stands once, and none in both
 pub once_both : (xs ys : List (Dated Msg)) → IsOnce xs → IsOnce ys → ((v j k : ℕ) → StartAt xs j v → StartAt ys k v → ⊥) → IsOnce (xs ++ ys)

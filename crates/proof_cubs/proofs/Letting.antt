@@ -2,8 +2,7 @@
 -- instance is taken and no deschedule comes.
 use Rattle.std.proofs.Common.{◌≡◌, ℕ, zero, suc, ◌<◌, List, [], ◌∷◌, Bool, true, false, not, refl, sym, ap, subst, ◌∙◌, arith, ⊎_elim, inl, inr, eq-or-lt_of_le, is_some}
 use Rattle.std.specs.Prelude.{◌⊎◌, ◌||◌}
-use Rattle.std.proofs.lemmas.Bool.{cases_Bool}
-use Rattle.tiger_base.specs.declared.number.Instance.{Instance}
+use Rattle.std.proofs.lemmas.Bool.{cases_Bool, not-false}
 use Rattle.tiger_base.specs.declared.number.LinkNo.{LinkNo}
 use Rattle.tiger_base.specs.declared.number.Stamp.{Stamp}
 use Rattle.tiger_base.specs.declared.tenancy.Ask.{Ask}
@@ -22,42 +21,34 @@ use Rattle.node_kit.specs.Deeds.{each_in_turn}
 use Rattle.cub_rules.specs.declared.store.Store.{Store}
 use Rattle.cub_rules.specs.State.{is_ask}
 use Rattle.cub_rules.specs.Records.{took, dropping_start}
-use Rattle.cub_rules.specs.Messages.{records_told, told, shows, meeting_start, taking, is_discarded}
+use Rattle.cub_rules.specs.Messages.{records_told, told, shows, taking, is_discarded}
 use Rattle.proof_cubs.specs.Grounds.{IsLetIn}
 use Rattle.proof_lives.specs.Lives.{store_at, deed_of}
 use Rattle.run_facts.specs.Events.{is_tick_input}
 use Rattle.lists.specs.Elements.{In}
 use Rattle.proof_lives.proofs.Moves.{taken_out}
-use Rattle.proof_lives.proofs.Queuing.{took_steady, takes_start}
-use Rattle.proof_lives.proofs.Steps.{not_false}
+use Rattle.proof_lives.proofs.Queuing.{took_steady}
 use Rattle.proof_lives.proofs.Taking.{taking_hears}
 use Rattle.proof_lives.proofs.Telling.{taking_told, took_told}
 use Rattle.proof_lives.proofs.Waiting.{IsQueued, queued_since}
 use Rattle.cub_rules.specs.Comebacks.{records_let_in}
-
-no_either : (a b : Bool) → (a || b) ≡ false → (a ≡ false) × (b ≡ false)
-no_either true b e = absurd (cc)
-no_either false b e = (refl, e)
+use Rattle.cub_changes.proofs.Chains.{start_dropped, refuses_start}
+use Rattle.insert_queue.proofs.Once.{none_of}
 
 -- A start that is discarded leaves the lists as they are.
 start_refused : (p : Params) (c : ℕ) (stamp : Stamp) (link : LinkNo) (a : Ask) (redundant : Bool) (h : Store)
     → is_discarded a h ≡ true → (taking p c stamp link (msg.Start redundant a) h).state.starts ≡ h.starts
-unfolding meeting_start
-start_refused p c stamp link a redundant h e =
-    ap (λ (d : Deed Msg Store). d.state.starts) (takes_start p c stamp link a redundant h) ∙ rw e refl
+start_refused p c stamp link a redundant h e = ap (λ (d : Deed Msg Store). d.state.starts) (refuses_start p c stamp link a redundant h e)
 
 -- ---- a state of which a record is taken drops the starts of its instance
 took_each : (rs : List Rec) (h : Store) → (each_in_turn took rs h).state.starts ≡ h.starts
 took_each [] h = refl
 took_each (r ∷ rs) h = took_each rs (took r h).state ∙ (took_steady r h).0
 
-drops : (v : Instance) (h : Store) → (dropping_start v h).state.starts ≡ without_start h.starts v
-unfolding dropping_start
-drops v h = refl
-
 told_drops : (p : Params) (c : ℕ) (s : State) (k : Key) (h : Store) → (told p c s k h).state.starts ≡ without_start h.starts s.tenancy.instance
 told_drops p c s k h =
-    took_each (records_let_in p h.comeback (records_told s k)) (dropping_start s.tenancy.instance h).state ∙ drops s.tenancy.instance h
+    took_each (records_let_in p h.comeback (records_told s k)) (dropping_start s.tenancy.instance h).state
+    ∙ ap (λ (d : Deed Msg Store). d.state.starts) (start_dropped s.tenancy.instance h)
 
 -- A message of which a record is taken is such a state.
 pub took_drops : (p : Params) (c : ℕ) (k : Input Msg) (r : Rec) (h : Store) → is_tick_input k ≡ false
@@ -89,9 +80,9 @@ module _ (p : Params) (c : ℕ) (inputs : ℕ → Input Msg) where
       let now = subst (λ (x : Input Msg). IsQueued a (deed_of p c x h).state.starts) is q in
       inl (subst (λ (w : Queues). IsQueued a w) (start_refused p c s.stamp s.link a s.redundant h t) now))
       (λ (t : is_discarded a h ≡ false).
-      let may = no_either (is_some h.comeback) (not (is_ask a) || is_held h.held a.instance || shows h.view.lines a.instance) t in
-      let one = no_either (not (is_ask a) || is_held h.held a.instance) (shows h.view.lines a.instance) may.1 in
-      let two = no_either (not (is_ask a)) (is_held h.held a.instance) one.0 in
+      let may = none_of (is_some h.comeback) (not (is_ask a) || is_held h.held a.instance || shows h.view.lines a.instance) t in
+      let one = none_of (not (is_ask a) || is_held h.held a.instance) (shows h.view.lines a.instance) may.1 in
+      let two = none_of (not (is_ask a)) (is_held h.held a.instance) one.0 in
       inr (record {
         at = i;
         before = omega arith;
@@ -99,7 +90,7 @@ module _ (p : Params) (c : ℕ) (inputs : ℕ → Input Msg) where
         link = s.link;
         redundant = s.redundant;
         is = is;
-        counted = not_false (is_ask a) two.0;
+        counted = not-false (is_ask a) two.0;
         free = two.1;
         unshown = one.1;
         waits = λ k l m.

@@ -1,5 +1,5 @@
 -- A start joins a cub's lists and stands there until the cub knows that its instance was put or stopped.
-use Rattle.std.proofs.Common.{◌≡◌, ℕ, suc, ◌<◌, ◌≤◌, List, [], ◌∷◌, ◌++◌, Bool, true, false, None, cond, not, refl, sym, subst, arith, ⊎_elim, inl, inr}
+use Rattle.std.proofs.Common.{◌≡◌, ℕ, suc, ◌<◌, ◌≤◌, List, [], ◌∷◌, ◌++◌, Bool, true, false, None, not, refl, sym, subst, arith, ⊎_elim, inl, inr}
 use Rattle.std.specs.Prelude.{◌⊎◌, ◌&&◌, ◌||◌}
 use Rattle.std.proofs.lemmas.Bool.{cases_Bool, and_parts, eqb-true}
 use Rattle.tiger_base.specs.declared.number.LinkNo.{LinkNo}
@@ -18,7 +18,7 @@ use Rattle.insert_queue.specs.Queues as queues
 use Rattle.insert_queue.specs.Queues.{Queues, is_asked, has_start}
 use Rattle.deschedule.specs.Holds.{is_held}
 use Rattle.cub_rules.specs.declared.store.Store.{Store}
-use Rattle.cub_rules.specs.Messages.{taking, shows, meeting_start, queueing, queueing_redundant, is_discarded}
+use Rattle.cub_rules.specs.Messages.{taking, shows, queueing, queueing_redundant, is_discarded}
 use Rattle.cub_changes.specs.Laws.{IsListed, TellsOf, HasPutOf, KeepsStart}
 use Rattle.cub_changes.proofs.Listing.{keep_starts}
 use Rattle.proof_schedule.specs.Facts.{Facts, ReachedBy}
@@ -30,7 +30,6 @@ use Rattle.proof_lives.proofs.Inputs.{got_message}
 use Rattle.lists.proofs.Elements.{chosen, in_right}
 use Rattle.proof_lives.proofs.Keeping.{held_stopped}
 use Rattle.proof_lives.proofs.Order.{beats_rise}
-use Rattle.proof_lives.proofs.Queuing.{takes_start}
 use Rattle.proof_lives.proofs.Seating.{PutOf}
 use Rattle.proof_lives.proofs.Waiting.{IsQueued, queued_came, shown_line}
 use Rattle.proof_lives.proofs.Trails.{held_until}
@@ -42,6 +41,7 @@ use Rattle.proof_lives.specs.FactsBy.{Beyond, facts_by}
 use Rattle.proof_cubs.proofs.Setting.{Setting}
 use Rattle.proof_cubs.proofs.Inserting.{inserted}
 use Rattle.proof_cubs.proofs.Standing.{come_before}
+use Rattle.cub_changes.proofs.Chains.{lets_start}
 
 -- What one event makes of a start that is listed is as cub_changes proves it for the whole cub.
 keeps_start : (p : Params) (c : ℕ) (i : Input Msg) (a : Ask) (h : Store) → KeepsStart i a h (deed_of p c i h)
@@ -73,19 +73,16 @@ HasJoined a redundant q = In a q.waiting ⊎ ((redundant ≡ true) × In a q.red
 start_queued : (p : Params) (c : ℕ) (stamp : Stamp) (link : LinkNo) (a : Ask) (redundant : Bool) (h : Store)
     → is_discarded a h ≡ false → is_asked h.starts a.instance ≡ false
     → HasJoined a redundant (taking p c stamp link (msg.Start redundant a) h).state.starts
-unfolding meeting_start
 start_queued p c stamp link a redundant h e none =
     let Q : Deed Msg Store → Type 0 = λ d. HasJoined a redundant d.state.starts in
     let q : Queues = h.starts in
-    subst Q (sym (takes_start p c stamp link a redundant h))
-    (chosen Q (is_discarded a h) _ (cond (redundant && not h.believes) (queueing_redundant a h) (queueing a h))
-    (λ t. absurd (no_both t e))
-    (λ _. chosen Q (redundant && not h.believes) (queueing_redundant a h) (queueing a h)
+    subst Q (sym (lets_start p c stamp link a redundant h e))
+    (chosen Q (redundant && not h.believes) (queueing_redundant a h) (queueing a h)
     (λ apart. chosen (HasJoined a redundant) (is_asked q a.instance) q (record q { redundant = q.redundant ++ a ∷ [] })
     (λ t. absurd (no_both t none))
     (λ _. inr ((and_parts redundant (not h.believes) apart).0, in_right a q.redundant (a ∷ []) (inl refl))))
     (λ _. chosen (HasJoined a redundant) (is_asked q a.instance) q (record q { waiting = q.waiting ++ a ∷ [] })
-    (λ t. absurd (no_both t none)) (λ _. inl (in_right a q.waiting (a ∷ []) (inl refl))))))
+    (λ t. absurd (no_both t none)) (λ _. inl (in_right a q.waiting (a ∷ []) (inl refl)))))
 
 module _ (p : Params) (lives : Lives) (beyond : Beyond) (set : Setting p lives beyond) (orders : List Order)
     (order : AreInOrder p lives beyond orders) where

@@ -1,6 +1,6 @@
 -- What belongs to a Put stands with it: directly behind one at a visit of the cub's own its record and its state; behind one for a
 -- dead cub its record, and that of the second visit unless one stood there. So a Put goes out with all of it.
-use Rattle.std.proofs.Common.{◌≡◌, ℕ, ◌+◌, ◌<◌, ◌%◌, nat_lt, List, [], ◌∷◌, ◌++◌, true, false, cond, is_some, Option, refl, sym, ap, subst, ◌∙◌, ⊎_elim, inl, inr}
+use Rattle.std.proofs.Common.{◌≡◌, ℕ, ◌+◌, ◌<◌, ◌%◌, nat_lt, List, [], ◌∷◌, ◌++◌, true, false, is_some, Option, refl, sym, ap, subst, ◌∙◌, ⊎_elim, inl, inr}
 use Rattle.std.specs.Prelude.{◌⊎◌}
 use Rattle.std.specs.List.{AllByRecursion}
 use Rattle.std.proofs.lemmas.Bool.{cases_Bool, lt-ltb}
@@ -44,6 +44,8 @@ use Rattle.proof_lives.proofs.Steps.{forwarding_tells}
 use Rattle.proof_lives.proofs.Telling.{found_in}
 use Rattle.proof_lives.proofs.Ticking.{before_inserting, before_forwarding, same_before}
 use Rattle.cub_changes.specs.Changes.Change.{PutStart, Forward}
+use Rattle.cub_changes.proofs.Chains.{second, own_puts, dead_puts}
+use Rattle.cub_changes.proofs.Messages.{took_of}
 
 -- A start that fills a visit on a disk of the cub's own is put at a visit of the cub's own.
 pub first_own : (p : Params) (c : ℕ) (stamp : Stamp) → IsPlan p → c < p.cubs → (from : Store) (t : Tenancy) (h : Store)
@@ -179,21 +181,16 @@ together_closed p c = record {
 
 -- what a record that is taken puts out
 took_only : (r : Rec) (h : Store) (o : Out Msg) → In o (took r h).outs → o ≡ taken_out r
-unfolding took
 took_only r h o =
-    chosen (λ (d : Deed Msg Store). In o d.outs → o ≡ taken_out r) (is_taken r h) (nothing h) _
+    took_of (λ (d : Deed Msg Store). In o d.outs → o ≡ taken_out r) r h
     (λ _ i. absurd i)
     (λ _ i. ⊎_elim (λ e. e) (λ w. absurd w) i)
 
 own_list : (p : Params) (c : ℕ) (t : Tenancy) (h : Store) → is_taken (own_of t t.first) h ≡ false
     → (putting_own p c t h).outs ≡ put_out t ∷ taken_out (own_of t t.first) ∷ state_out p c t ∷ told_placed p c t ∷ []
-unfolding putting_own
 own_list p c t h free =
-    ap (λ (l : List (Out Msg)). put_out t ∷ l ++ state_out p c t ∷ told_placed p c t ∷ []) (took_new (own_of t t.first) (putting t h).state free).0
-
--- The own record of the visit behind the first one, if there is one.
-abbrev second : Tenancy → Store → Deed Msg Store
-second t = cond (nat_lt t.first t.last) (took (own_of t (t.first + 1))) nothing
+    sym (own_puts p c t h)
+    ∙ ap (λ (l : List (Out Msg)). put_out t ∷ l ++ state_out p c t ∷ told_placed p c t ∷ []) (took_new (own_of t t.first) (putting t h).state free).0
 
 second_only : (t : Tenancy) (h : Store) (o : Out Msg) → In o (second t h).outs → o ≡ taken_out (own_of t (t.first + 1))
 second_only t h o =
@@ -209,9 +206,9 @@ behind_first t h = (took (backup_of t t.first) (putting t h).state).state
 dead_list : (p : Params) (c : ℕ) (t : Tenancy) (h : Store) → is_taken (backup_of t t.first) h ≡ false
     → (putting_for_dead p c t h).outs
     ≡ put_out t ∷ taken_out (backup_of t t.first) ∷ (second t (behind_first t h)).outs ++ told_placed p c t ∷ []
-unfolding putting_for_dead
 dead_list p c t h free =
-    ap (λ (l : List (Out Msg)). put_out t ∷ l ++ ((second t (behind_first t h)).outs ++ told_placed p c t ∷ []))
+    sym (dead_puts p c t h)
+    ∙ ap (λ (l : List (Out Msg)). put_out t ∷ l ++ ((second t (behind_first t h)).outs ++ told_placed p c t ∷ []))
     (took_new (backup_of t t.first) (putting t h).state free).0
 
 -- The second record of a Put is taken, or a line stands in its place.

@@ -12,8 +12,7 @@ use Rattle.slot_plan.specs.Times.{due, disk_of}
 use Rattle.node_kit.specs.declared.course.Order.{Order}
 use Rattle.node_kit.specs.declared.journal.What.TheVariants as what
 use Rattle.node_kit.specs.declared.outbox.Out.TheVariants as out
-use Rattle.node_kit.specs.Steps.{Input, stamp_of}
-use Rattle.insert_queue.specs.Queues.{Queues}
+use Rattle.node_kit.specs.Steps.{Input, stamp_of, Deed}
 use Rattle.partial_view.specs.declared.line.Line.{Line}
 use Rattle.cub_rules.specs.declared.store.Store.{Store}
 use Rattle.cub_rules.specs.Ticks.{inserting}
@@ -33,7 +32,7 @@ use Rattle.proof_lives.proofs.Order.{not_behind}
 use Rattle.proof_lives.proofs.States.{tick_true, from_tick}
 use Rattle.proof_lives.proofs.Seating.{PutOf, IsFull}
 use Rattle.proof_lives.proofs.Filling.{inserting_full}
-use Rattle.proof_lives.proofs.Waiting.{IsQueued, before_forth, before_starts}
+use Rattle.proof_lives.proofs.Waiting.{IsQueued, before_forth}
 use Rattle.proof_lives.specs.InOrder.{AreInOrder}
 use Rattle.proof_lives.specs.FactsBy.{Beyond, facts_by}
 use Rattle.proof_facts.specs.Laws.{ShowsSlot}
@@ -44,17 +43,15 @@ use Rattle.proof_cubs.proofs.Inserting.{line_stands}
 use Rattle.proof_cubs.proofs.Listing.{IsOut, put_out_by, queued_on, waits_on, start_joins}
 use Rattle.proof_lives.proofs.FirstLife.{inserting_first}
 use Rattle.proof_lives.proofs.SameLife.{not_back}
+use Rattle.cub_changes.proofs.Chains.{deadman_of}
 
 -- A start that stands in a list when a tick begins stands in one when insertion begins.
 before_queued : (p : Params) (c : ℕ) (stamp : Stamp) (h : Store) (a : Ask) → IsQueued a h.starts
     → IsQueued a (before_inserting p c stamp h).starts
-before_queued p c stamp h a k = ⊎_elim
-    (λ e. subst (λ (q : Queues). IsQueued a q) (sym e) k)
-    (λ e. subst (λ (q : Queues). IsQueued a q) (sym e) (inl (⊎_elim
-    (λ w. in_left a h.starts.waiting h.starts.redundant w)
-    (λ w. in_right a h.starts.waiting h.starts.redundant w)
-    k)))
-    (before_starts p c stamp h)
+before_queued p c stamp h a k =
+    deadman_of p c stamp (λ (d : Deed Msg Store). IsQueued a d.state.starts) h
+    (λ _. inl (⊎_elim (λ w. in_left a h.starts.waiting h.starts.redundant w) (λ w. in_right a h.starts.waiting h.starts.redundant w) k))
+    (λ _. k)
 
 module _ (p : Params) (lives : Lives) (beyond : Beyond) (set : Setting p lives beyond)
     (orders : List Order) (order : AreInOrder p lives beyond orders) where

@@ -19,7 +19,7 @@ use Rattle.cub_rules.specs.declared.store.Store.{Store}
 use Rattle.cub_rules.specs.Messages.{taking}
 use Rattle.cub_changes.specs.Changes.{Change, did}
 use Rattle.cub_changes.specs.Changes.Change.{HearBeat}
-use Rattle.cub_changes.specs.Causes.{IsHeartbeat, Cause}
+use Rattle.cub_changes.specs.Causes.{Cause}
 use Rattle.cub_changes.specs.Causes.Stage.{OnMessage}
 use Rattle.cub_changes.proofs.Closed.{IsClosed}
 use Rattle.cub_changes.proofs.Messages.{taking_by}
@@ -31,16 +31,17 @@ use Rattle.proof_lives.specs.Lives.{Lives, heard_first, deed_of, store_at, beat_
 use Rattle.lists.specs.Elements.{In}
 use Rattle.proof_lives.proofs.Order.{beats_rise}
 use Rattle.proof_lives.proofs.SameLife.{begins_first}
-use Rattle.proof_lives.proofs.Queuing.{ticking_watch}
+use Rattle.proof_lives.proofs.Queuing.{ticking_watch, is_beat}
 use Rattle.proof_lives.proofs.Cuts.{was_put_out}
 use Rattle.proof_lives.proofs.Inputs.{got_message, tick_there}
 use Rattle.proof_lives.proofs.Watching.{IsBeat, heard_now, timeout_at, beats, since, back_before}
 use Rattle.proof_lives.specs.FactsBy.{Beyond, WroteBelief, facts_by}
 use Rattle.proof_cubs.specs.Grounds.{HasHeard}
 use Rattle.proof_cubs.proofs.Setting.{Setting}
-use Rattle.proof_cubs.proofs.Believing.{keeps_belief, silent_believes}
+use Rattle.proof_cubs.proofs.Believing.{silent_believes}
 use Rattle.proof_cubs.proofs.Inserting.{believed_by}
 use Rattle.proof_cubs.proofs.Standing.{is_tick}
+use Rattle.cub_changes.proofs.Beliefs.{keep_belief}
 
 -- ---- the watch changes at a heartbeat of the predecessor alone
 module _ (p : Params) (c : ℕ) (stamp : Stamp) (link : LinkNo) (m : Msg) where
@@ -56,12 +57,7 @@ module _ (p : Params) (c : ℕ) (stamp : Stamp) (link : LinkNo) (m : Msg) where
 
   hears_each : (from : Store) (x : Change) (h : Store) → Cause p c stamp (OnMessage link m) from x h
       → Hears h (did p c stamp x h)
-  hears_each from HearBeat h cause = inr (is_heartbeat m cause)
-    where
-      is_heartbeat : (n : Msg) → IsHeartbeat p c (OnMessage link n)
-          → (n ≡ msg.Heartbeat) × (link.0 ≡ (way_ahead p (predecessor p c) 1).0)
-      is_heartbeat msg.Heartbeat e = (refl, e)
-      is_heartbeat other e = absurd e
+  hears_each from HearBeat h cause = inr (is_beat p c stamp link m m cause)
   hears_each from other h cause = inl refl
 
   taking_hears : (h : Store) → Hears h (taking p c stamp link m h)
@@ -117,13 +113,13 @@ written_at : (p : Params) (c : ℕ) (h : Store) (k : Input Msg) (who : CubNo)
     → In (out.Act (what.Believed who)) (deed_of p c k h).outs → IsWritten p c h k
 written_at p c h (Take stamp link m) who i =
     let k : Input Msg = Take stamp link m in
-    absurd (((keeps_belief p c k h).entry who i).0)
+    absurd (((keep_belief p c k h).entry who i).0)
 written_at p c h (Tick stamp) who i = record {
   stamp = stamp;
   is = refl;
   silent =
       let k : Input Msg = Tick stamp in
-      ((keeps_belief p c k h).entry who i).3;
+      ((keep_belief p c k h).entry who i).3;
 }
 
 module _ (p : Params) (lives : Lives) (beyond : Beyond) (set : Setting p lives beyond) where

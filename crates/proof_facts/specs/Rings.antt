@@ -80,11 +80,6 @@ pub record PutsOutWith {S : Type 0} (step : S → Input Msg → Deed Msg S) (p :
       ≡ commands_at p orders ((lives_of h).input (controller p)) i
   pub views : (i : ℕ) → i < h.count (viewers p) → outs noted step h (viewers p) i ≡ []
 
--- Nothing is added.
-abbrev pub PutsOutByRules : {S : Type 0} → (S → Input Msg → Deed Msg S) → Params → List Order
-    → (ℕ → DiskState) → History Msg S → Type 0
-PutsOutByRules step p orders disk_at h = PutsOutWith step p orders disk_at nothing_added h
-
 -- A history of a run whose nodes put out what their rules say, and cubs what is added, and of which no
 -- two neighbours die. A death may come in the middle of an event, and a cub that died may return. Time
 -- is not too long.

@@ -1,5 +1,5 @@
 -- What a cub's outputs tell besides their records: whom it believes dead, at which visit it puts, and in which order.
-use Rattle.std.proofs.Common.{◌≡◌, ℕ, ◌+◌, ◌<◌, ◌≤◌, List, ◌++◌, refl, sym, subst}
+use Rattle.std.proofs.Common.{◌≡◌, ℕ, ◌+◌, ◌<◌, ◌≤◌, List, ◌++◌, refl, sym, subst, ap, ◌∙◌}
 use Rattle.std.specs.List.{AllByRecursion}
 use Rattle.tiger_base.specs.declared.number.CubNo.{CubNo}
 use Rattle.tiger_base.specs.declared.number.Instance.{Instance}
@@ -14,7 +14,7 @@ use Rattle.slot_plan.proofs.Windows.{least_visit_found}
 use Rattle.node_kit.specs.declared.journal.What.TheVariants as what
 use Rattle.node_kit.specs.declared.outbox.Out.{Out}
 use Rattle.node_kit.specs.declared.outbox.Out.TheVariants as out
-use Rattle.node_kit.specs.Steps.{Input, stamp_of}
+use Rattle.node_kit.specs.Steps.{Deed, Input, stamp_of}
 use Rattle.node_kit.specs.Steps.Input.{Take, Tick}
 use Rattle.node_kit.specs.Ways.{predecessor}
 use Rattle.partial_view.specs.Free.{is_free}
@@ -25,6 +25,7 @@ use Rattle.cub_changes.specs.Causes.{Stage, IsDeadman, IsInsertion, Fills, Cause
 use Rattle.cub_changes.specs.Causes.Stage.{OnMessage, OnDeadman, OnInsertion, OnService}
 use Rattle.cub_changes.specs.Outputs.{Output, output, ComesOf}
 use Rattle.cub_changes.specs.Outputs.Output.{Put, Believed}
+use Rattle.cub_changes.proofs.Chains.{release_is, tick_outs}
 use Rattle.cub_changes.proofs.Closed.{OfEach}
 use Rattle.cub_changes.proofs.Messages.{taking_by}
 use Rattle.cub_changes.proofs.Outputs.{forms_of, Puts, puts_closed}
@@ -145,7 +146,6 @@ module _ (p : Params) (c : ℕ) (stamp : Stamp) where
       form other comes = tt
 
   pub believes_first : (h : Store) → BelievesFirst (ticking p c stamp h).outs
-  unfolding ticking releasing
   believes_first h =
       let Q : Out Msg → Type 0 = OfPut (λ t. ⊥) in
       let h1 : Store = (releasing p stamp h).state in
@@ -153,7 +153,8 @@ module _ (p : Params) (c : ℕ) (stamp : Stamp) where
       record {
         first = (believing p c stamp h1).outs;
         rest = (late_steps p c stamp h2).outs;
-        is = refl;
+        is = sym (tick_outs p c stamp h)
+            ∙ ap (λ (d : Deed Msg Store). d.outs ++ ((believing p c stamp h1).outs ++ (late_steps p c stamp h2).outs)) (release_is p c stamp h);
         puts_none =
             believing_by (Puts p c stamp Q) (puts_closed p c stamp Q) p c stamp h1
             (of_cause p c stamp (λ t. ⊥) OnDeadman h1 (λ t q put _. put));

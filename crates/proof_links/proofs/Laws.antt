@@ -3,11 +3,9 @@ use Rattle.std.proofs.Common.{⊎_elim}
 use Rattle.proof_facts.specs.Facts.{facts_of}
 use Rattle.proof_lives.specs.TwoLifeRun.WhichLife.{First, Later}
 use Rattle.proof_schedule.specs.LinkLaws.{LinkLaws}
-use Rattle.proof_links.specs.Statements.{CubsAreToldInOrder, DisksAnswerAsks, HistoriesCarryAdditions, HistoriesHaveTwoLives, LinksMeetTheLaws, MessagesComeInOrder, ReturnsMeetTheLaws}
-use Rattle.proof_links.proofs.Added.{pieces_are_carried}
+use Rattle.proof_links.specs.Statements.{CubsAreToldInOrder, DisksAnswerAsks, HistoriesHaveTwoLives, LinksMeetTheLaws, MessagesComeInOrder, ReturnsMeetTheLaws}
 use Rattle.proof_links.proofs.Asking.{disks_answer}
 use Rattle.proof_links.proofs.InOrder.{in_order}
-use Rattle.proof_links.proofs.Nodes.{added_is}
 use Rattle.proof_links.proofs.Returning.{return_laws}
 use Rattle.proof_links.proofs.Running.{run_laws}
 use Rattle.proof_links.proofs.Stops.{stop_laws}
@@ -58,7 +56,3 @@ histories_have_two_lives S step p orders disk_at added h plan ring = record {
   pieces = pieces_of_two_lives plan ring;
   blocks = blocks_of_two_lives plan ring disk_at;
 }
-
-pub histories_carry_additions : (S : Type 0) → HistoriesCarryAdditions S
-histories_carry_additions S step p orders disk_at added h plan ring =
-    record { are = λ a. added_is plan ring a; carried = pieces_are_carried plan ring }

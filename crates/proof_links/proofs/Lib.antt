@@ -1,4 +1,3 @@
-pub mod Added
 pub mod Asking
 pub mod Beating
 pub mod Carrying

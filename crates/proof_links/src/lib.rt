@@ -2,7 +2,7 @@
 //! and return, and add outputs beside what their rules make.
 #![tactic(auto)]
 
-ghost use Rattle.proof_links.specs.Statements.{CubsAreToldInOrder, DisksAnswerAsks, HistoriesCarryAdditions, HistoriesHaveTwoLives};
+ghost use Rattle.proof_links.specs.Statements.{CubsAreToldInOrder, DisksAnswerAsks, HistoriesHaveTwoLives};
 ghost use Rattle.proof_links.specs.Statements.{LinksMeetTheLaws, MessagesComeInOrder, ReturnsMeetTheLaws};
 
 /// Every history of a ring meets the laws of the run, of the links and of the controller.
@@ -33,9 +33,4 @@ pub fn disks_answer_asks<S>()
 /// The facts of a history are those of two lives of each cub: one before its return, and one from it on.
 pub fn histories_have_two_lives<S>()
     ensures { HistoriesHaveTwoLives S }
-{}
-
-/// Mirror states and kills that came were sent, by rules or as additions; a kill that was sent comes in time, and in order.
-pub fn histories_carry_additions<S>()
-    ensures { HistoriesCarryAdditions S }
 {}

@@ -1,12 +1,11 @@
 -- What goes out with an output of a tick that may be cut off: all that stands in front of it; and with a Put what is taken with
 -- it, and its state.
-use Rattle.std.proofs.Common.{◌≡◌, ℕ, ◌<◌, ◌≤◌, List, [], ◌∷◌, ◌++◌, true, false, Option, Some, None, not, refl, sym, ap, subst, ◌∙◌, arith, ⊎_elim, inl, inr, append_assoc, eq-or-lt_of_le}
+use Rattle.std.proofs.Common.{◌≡◌, ℕ, ◌<◌, ◌≤◌, List, [], ◌∷◌, ◌++◌, true, false, Option, Some, None, refl, sym, ap, subst, ◌∙◌, arith, ⊎_elim, inl, inr, append_assoc, eq-or-lt_of_le}
 use Rattle.std.specs.Prelude.{◌⊎◌, ◌==◌, ◌&&◌}
 use Rattle.std.specs.List.{AllByRecursion}
 use Rattle.std.proofs.lemmas.Bool.{cases_Bool}
 use Rattle.tiger_base.specs.declared.number.LinkNo.{LinkNo}
 use Rattle.tiger_base.specs.declared.number.Stamp.{Stamp}
-use Rattle.tiger_base.specs.declared.tenancy.Ask.{Ask}
 use Rattle.tiger_base.specs.declared.tenancy.Rec.{Rec}
 use Rattle.tiger_base.specs.declared.tenancy.Tenancy.{Tenancy}
 use Rattle.tiger_base.specs.declared.message.Msg.{Msg}
@@ -15,12 +14,10 @@ use Rattle.slot_plan.specs.declared.params.Params.{Params}
 use Rattle.node_kit.specs.declared.journal.What.TheVariants as what
 use Rattle.node_kit.specs.declared.outbox.Out.{Out}
 use Rattle.node_kit.specs.declared.outbox.Out.TheVariants as out
-use Rattle.node_kit.specs.Deeds.{nothing}
 use Rattle.node_kit.specs.Outputs.{begins_taking, begins_lost, fewer_behind, cut_at}
 use Rattle.node_kit.specs.Steps.{Deed, Input, stamp_of}
 use Rattle.node_kit.specs.Steps.Input.{Tick}
 use Rattle.node_kit.proofs.Cutting.{lost-none, lost-not}
-use Rattle.deadman.specs.Silence.{is_silent}
 use Rattle.cub_rules.specs.declared.store.Store.{Store}
 use Rattle.cub_rules.specs.Ticks.{queued, releasing, believing, inserting, splitting, forwarding, ticking}
 use Rattle.cub_changes.specs.Laws.{believed_out}
@@ -28,7 +25,7 @@ use Rattle.cub_changes.proofs.Ticks.{end_steps, service_steps, before_splitting}
 use Rattle.lists.specs.Elements.{In}
 use Rattle.lists.proofs.Cuts.{cut_by}
 use Rattle.lists.proofs.Each.{all_append, all_in, all_map}
-use Rattle.lists.proofs.Elements.{chosen, in_left, in_right, in_cases}
+use Rattle.lists.proofs.Elements.{in_left, in_right, in_cases}
 use Rattle.run_facts.specs.Events.{is_tick_input}
 use Rattle.proof_lives.specs.Lives.{Lives, AreLives, beat_at, cut_in, cut_outs, deed_of, outs_in, store_at}
 use Rattle.proof_lives.specs.Facts.{TickAt, TickedAt}
@@ -37,6 +34,8 @@ use Rattle.proof_lives.proofs.Order.{not_behind}
 use Rattle.proof_lives.proofs.Moves.{IsQuiet, AreQuiet}
 use Rattle.proof_lives.proofs.Steps.{releasing_quiet, believing_quiet, splitting_quiet, end_quiet}
 use Rattle.proof_lives.proofs.Ticking.{before_inserting, before_forwarding}
+use Rattle.cub_changes.proofs.Chains.{release_is, deadman_of}
+use Rattle.cub_changes.proofs.Chains as chains
 
 -- ---- where an output stands in lists that are put together
 
@@ -246,8 +245,7 @@ module _ (p : Params) (c : ℕ) (stamp : Stamp) (h : Store) where
   outs_of_forwarding = (forwarding p c stamp (before_forwarding p c stamp h)).outs
 
   pub tick_is : outs_of_release ++ (outs_of_belief ++ (outs_of_insertion ++ outs_of_service)) ≡ (ticking p c stamp h).outs
-  unfolding ticking
-  tick_is = refl
+  tick_is = chains.tick_outs p c stamp h
 
   -- An output of the tick stands in what insertion puts out.
   pub record IsInserted (xs ys : List (Out Msg)) (o : Out Msg) : Type 0 where
@@ -297,33 +295,18 @@ module _ (p : Params) (c : ℕ) (stamp : Stamp) (h : Store) where
 
   -- ---- belief goes out in every tick in which it begins
 
-  is_kept : (a : Ask) → IsKept (queued a)
-  is_kept a = (refl, refl)
-
   first_acts : AllByRecursion IsKept outs_of_belief
-  unfolding believing
   first_acts =
-      let h1 : Store = (releasing p stamp h).state in
-      chosen (λ (d : Deed Msg Store). AllByRecursion IsKept d.outs) (not h1.believes && is_silent h1.watch stamp.reading) _ (nothing h1)
-      (λ _. ((refl, refl), all_map IsKept queued h1.starts.redundant (λ a i. is_kept a)))
-      (λ _. tt)
+      deadman_of p c stamp (λ (d : Deed Msg Store). AllByRecursion IsKept d.outs) h
+      (λ _. ((refl, refl), all_map IsKept queued h.starts.redundant (λ a i. (refl, refl)))) (λ _. tt)
 
   none_first : AllByRecursion IsKept outs_of_release
-  unfolding releasing
-  none_first = tt
-
-  same_belief : (releasing p stamp h).state.believes ≡ h.believes
-  unfolding releasing
-  same_belief = refl
+  none_first = subst (λ (d : Deed Msg Store). AllByRecursion IsKept d.outs) (sym (release_is p c stamp h)) tt
 
   belief_there : h.believes ≡ false → (before_inserting p c stamp h).believes ≡ true → In (believed_out p c) outs_of_belief
-  unfolding believing
   belief_there none =
-      let h1 : Store = (releasing p stamp h).state in
-      chosen (λ (d : Deed Msg Store). d.state.believes ≡ true → In (believed_out p c) d.outs)
-      (not h1.believes && is_silent h1.watch stamp.reading) _ (nothing h1)
-      (λ _ _. inl refl)
-      (λ _ e. let z : true ≡ false = sym e ∙ (same_belief ∙ none) in absurd (cc))
+      deadman_of p c stamp (λ (d : Deed Msg Store). d.state.believes ≡ true → In (believed_out p c) d.outs) h
+      (λ _ _. inl refl) (λ _ e. let z : true ≡ false = sym e ∙ none in absurd (cc))
 
   pub belief_goes : (cut : Option ℕ) → h.believes ≡ false → (before_inserting p c stamp h).believes ≡ true
       → In (believed_out p c) (cut_outs cut (ticking p c stamp h).outs)

@@ -38,6 +38,7 @@ use Rattle.lists.proofs.Each.{all_in}
 use Rattle.proof_lives.proofs.Moves.{from_with_line, in_with_line, stays_with_line, with_record_new, ask_same, forward_same, split_same}
 use Rattle.proof_lives.specs.Records.{recorded_by, AreRecordsOf, AreFromRecords}
 use Rattle.proof_lives.proofs.Told.{record_is, record_same, recorded_append, from_append, any_in, IsQuiet, quiet_recorded, quiet_from, IsDrop, AreDrops, drops_from, IsOther, stays_told, was_told}
+use Rattle.proof_lives.proofs.Holds.{no_both}
 
 -- What a deed makes of the view its outputs tell, and the states that it sends follow from records that are told of then.
 pub record Tells (h : Store) (d : Deed Msg Store) : Type 0 where
@@ -87,9 +88,6 @@ record Drops (test : Line → Bool) (h : Store) (d : Deed Msg Store) : Type 0 wh
   each : (x : Line) → In x h.view.lines → test x ≡ true → In (dropped x) d.outs
   only : AreDrops (λ r. (x : Line) × In x h.view.lines × (test x ≡ true) × (x.rec ≡ r)) d.outs
 
-not_both : {b : Bool} → b ≡ true → b ≡ false → ⊥
-not_both t f = let e : true ≡ false = sym t ∙ f in absurd (cc)
-
 weaker_drops : (P Q : Rec → Type 0) → ((r : Rec) → P r → Q r) → (outs : List (Out Msg)) → AreDrops P outs → AreDrops Q outs
 weaker_drops P Q less [] h = tt
 weaker_drops P Q less (o ∷ os) h = (one o h.0, weaker_drops P Q less os h.1)
@@ -108,7 +106,7 @@ module _ (test : Line → Bool) (h : Store) (d : Deed Msg Store) (all : Drops te
   apart : (y : Line) → test y ≡ false → (r : Rec) → (x : Line) × In x h.view.lines × (test x ≡ true) × (x.rec ≡ r) → IsOther y.rec r
   apart y stays r was = ⊎_elim
       (λ (e : same_record r y.rec ≡ true).
-      absurd (not_both was.2 (all.by_record was.0 y (was.3 ∙ record_is r y.rec e) ∙ stays)))
+      absurd (no_both was.2 (all.by_record was.0 y (was.3 ∙ record_is r y.rec e) ∙ stays)))
       (λ (e : same_record r y.rec ≡ false). e)
       (cases_Bool (same_record r y.rec))
 
@@ -121,7 +119,7 @@ module _ (test : Line → Bool) (h : Store) (d : Deed Msg Store) (all : Drops te
           ⊎_elim
           (λ (e : test s.0 ≡ true).
           let f = all_in (IsDrop (IsOther q)) (dropped s.0) d.outs was.1 (all.each s.0 s.1 e) in
-          absurd (not_both (record_same q) (subst (λ (r : Rec). same_record r q ≡ false) s.2 f)))
+          absurd (no_both (record_same q) (subst (λ (r : Rec). same_record r q ≡ false) s.2 f)))
           (λ (e : test s.0 ≡ false). (s.0, in_filter (λ x. not (test x)) s.0 h.view.lines s.1 (ap not e), s.2))
           (cases_Bool (test s.0));
       told = λ y i.

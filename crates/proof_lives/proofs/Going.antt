@@ -34,6 +34,7 @@ use Rattle.proof_lives.proofs.Taking.{taking_hears}
 use Rattle.proof_lives.proofs.Telling.{took_told}
 use Rattle.cub_rules.specs.Comebacks.{lets_in, records_let_in}
 use Rattle.slot_plan.specs.Times.{due}
+use Rattle.cub_changes.proofs.Chains.{start_dropped}
 
 -- what goes out is a front of what was put out
 pub front_of_outs : {M : Type 0} (cut : Option ℕ) (os : List (Out M)) → (rest : List (Out M)) × (cut_outs cut os ++ rest ≡ os)
@@ -53,8 +54,9 @@ first_goes {M} (Some k) o x os i =
 -- ---- of a state
 
 drop_kept : (v : Instance) (h : Store) → AllByRecursion IsKept (dropping_start v h).outs
-unfolding dropping_start
-drop_kept v h = all_if IsKept (has_start h.starts.waiting v) (out.Act (what.Unqueued v) ∷ []) (λ _. ((refl, refl), tt))
+drop_kept v h =
+    subst (λ (d : Deed Msg Store). AllByRecursion IsKept d.outs) (sym (start_dropped v h))
+    (all_if IsKept (has_start h.starts.waiting v) (out.Act (what.Unqueued v) ∷ []) (λ _. ((refl, refl), tt)))
 
 took_kept : (r : Rec) (h : Store) → AllByRecursion IsKept (took r h).outs
 took_kept r h =

@@ -1,7 +1,7 @@
 -- What cubs hold, as laws: a deschedule is passed on once while its instance is held, and who gets a tag has passed it on.
 use Rattle.std.proofs.Common.{◌≡◌, ℕ, suc, ◌+◌, ◌<◌, ◌≤◌, List, true, false, Option, Some, None, refl, sym, ap, subst, ◌∙◌, arith, ⊎_elim, inl, inr, eq-or-lt_of_le}
-use Rattle.std.specs.Prelude.{◌⊎◌, ◌==◌}
-use Rattle.std.proofs.lemmas.Bool.{cases_Bool, cases_lt, eq-eqb}
+use Rattle.std.specs.Prelude.{◌⊎◌}
+use Rattle.std.proofs.lemmas.Bool.{cases_Bool, cases_lt, cases_eq}
 use Rattle.tiger_base.specs.declared.number.Instance.{Instance}
 use Rattle.tiger_base.specs.declared.number.LinkNo.{LinkNo}
 use Rattle.tiger_base.specs.declared.number.SlotNo.{SlotNo}
@@ -29,14 +29,13 @@ use Rattle.proof_lives.specs.Lives.{Lives, AreLives, store_at, deed_of, beat_at,
 use Rattle.run_facts.specs.Events.{is_tick_input}
 use Rattle.lists.specs.Elements.{In}
 use Rattle.proof_lives.specs.Facts.{TookAt, TookMessage, ReachedAt}
-use Rattle.lists.proofs.Elements.{chosen}
 use Rattle.proof_lives.proofs.Cuts.{was_put_out}
 use Rattle.proof_lives.proofs.Moves.{taken_out}
 use Rattle.proof_lives.proofs.Inputs.{got_message}
 use Rattle.proof_lives.proofs.Order.{beats_rise}
 use Rattle.proof_lives.proofs.States.{stamp_made}
 use Rattle.proof_lives.proofs.Taking.{message_took}
-use Rattle.proof_lives.proofs.Telling.{position_told}
+use Rattle.proof_lives.proofs.Telling.{position_told, position_here, position_next}
 use Rattle.proof_lives.proofs.Trails.{within_wider}
 use Rattle.proof_schedule.specs.Facts.{PassedBy, IsReleasedBy, IsBeside}
 use Rattle.proof_lives.specs.FactsBy.{Beyond, facts_by}
@@ -60,13 +59,10 @@ one_key p c stamp other h v j k a b = absurd a
 
 -- where a cub stands beside a visit it has a position
 pub beside_position : (p : Params) (c : ℕ) (s : SlotNo) (m : ℕ) → IsBeside p c m → (k : Key) × (position_at p c s m ≡ Some k)
-unfolding position_at
-beside_position p c s m to =
-    chosen (λ (o : Option Key). (k : Key) × (o ≡ Some k)) (cub_of p m == c) (Some (s, m)) _
-    (λ _. ((s, m), refl))
-    (λ f. chosen (λ (o : Option Key). (k : Key) × (o ≡ Some k)) (cub_of p (m + 1) == c) (Some (s, m + 1)) None
-    (λ _. ((s, m + 1), refl))
-    (λ g. absurd (⊎_elim (λ e. no_both (eq-eqb _ _ (sym e)) f) (λ e. no_both (eq-eqb _ _ (sym e)) g) to)))
+beside_position p c s m to = ⊎_elim
+    (λ (e : cub_of p m ≡ c). ((s, m), position_here p c s m (sym e)))
+    (λ (f : cub_of p m ≡ c → ⊥). ((s, m + 1), position_next p c s m f (⊎_elim (λ e. absurd (f (sym e))) (λ e. e) to)))
+    (cases_eq (cub_of p m) c)
 
 -- at a message a record is taken of a state, whose instance is not held
 pub record IsOfState (m : Msg) (h : Store) (r : Rec) : Type 0 where

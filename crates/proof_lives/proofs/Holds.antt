@@ -2,7 +2,7 @@
 use Rattle.std.proofs.Common.{◌≡◌, ℕ, List, [], ◌∷◌, ◌++◌, Bool, true, false, not, refl, sym, ap, subst, ◌∙◌, ⊎_elim, inl, inr}
 use Rattle.std.specs.Prelude.{◌⊎◌, ◌&&◌, ◌||◌}
 use Rattle.std.specs.List.{list_any}
-use Rattle.std.proofs.lemmas.Bool.{true≢false, cases_Bool, eqb-true, eq-eqb, and_parts, and_from, or_left, or_right}
+use Rattle.std.proofs.lemmas.Bool.{true≢false, cases_Bool, eqb-true, eq-eqb, and_parts, and_from, or_left, or_right, not-true}
 use Rattle.tiger_base.specs.declared.number.Instance.{Instance}
 use Rattle.deschedule.specs.declared.held.Holding.{Holding}
 use Rattle.deschedule.specs.Holds.{is_of, is_held, must_pass, with_hold, once_passed, with_pass}
@@ -43,11 +43,7 @@ pub must_in : (v : Instance) (xs : List Holding) → must_pass xs v ≡ true
 must_in v xs e =
     let r = any_in (is_unpassed v) xs e in
     let b = and_parts (is_of v r.0) (not r.0.passed) r.2 in
-    (r.0, r.1, eqb-true _ _ b.0, unmarked r.0.passed b.1)
-  where
-    unmarked : (b : Bool) → not b ≡ true → b ≡ false
-    unmarked true e = absurd (cc)
-    unmarked false e = refl
+    (r.0, r.1, eqb-true _ _ b.0, not-true r.0.passed b.1)
 
 pub all_passed : (v : Instance) (x : Holding) (xs : List Holding) → In x xs → x.instance.0 ≡ v.0 → must_pass xs v ≡ false
     → x.passed ≡ true

@@ -1,7 +1,7 @@
 -- What insertion puts, takes and sends, and that each Put is at a place that was free.
-use Rattle.std.proofs.Common.{◌≡◌, ℕ, ◌+◌, ◌-◌, ◌<◌, ◌≤◌, List, [], ◌∷◌, ◌++◌, find, Bool, true, false, not, is_some, Option, Some, IsTrue, refl, sym, ap, subst, ◌∙◌, ⊎_elim, inl, inr}
+use Rattle.std.proofs.Common.{◌≡◌, ℕ, ◌+◌, ◌-◌, ◌<◌, ◌≤◌, List, [], ◌∷◌, ◌++◌, find, Bool, true, false, is_some, Option, Some, sym, ap, subst, ◌∙◌, ⊎_elim, inl, inr}
 use Rattle.std.specs.Prelude.{◌⊎◌}
-use Rattle.std.proofs.lemmas.Bool.{eq-eqb, and_from}
+use Rattle.std.proofs.lemmas.Bool.{eq-eqb, and_from, not-true}
 use Rattle.tiger_base.specs.declared.number.Instance.{Instance}
 use Rattle.tiger_base.specs.declared.number.LinkNo.{LinkNo}
 use Rattle.tiger_base.specs.declared.tenancy.Ask.{Ask}
@@ -221,13 +221,9 @@ pub record IsOpening (p : Params) (reading disk : ℕ) (h : Store) (k : Key) : T
   pub below : due p k.0.0 k.1 ≤ reading + p.window_a
   pub free : is_some (line_at k h.view.lines) ≡ false
 
-not_true : (b : Bool) → IsTrue (not b) → b ≡ false
-not_true true t = let q : false ≡ true = t in absurd (cc)
-not_true false t = refl
-
 pub opening : (p : Params) (reading disk : ℕ) (h : Store) (k : Key) → IsPlan p → free_on p reading disk h ≡ Some k → IsOpening p reading disk h k
 unfolding free_on is_free
 opening p reading disk h k plan e =
     let free = (least_visit_found p reading disk (is_free h.view.lines) k plan e).here in
     let window = window_parts p reading k.0.0 k.1 free.window in
-    record { slot = free.in_plan; on_disk = free.on_disk; above = window.1; below = window.0; free = not_true _ free.passes }
+    record { slot = free.in_plan; on_disk = free.on_disk; above = window.1; below = window.0; free = not-true _ free.passes }

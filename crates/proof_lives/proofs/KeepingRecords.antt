@@ -1,8 +1,8 @@
 -- What a cub does at any input of its life keeps its journal and its view together.
-use Rattle.std.proofs.Common.{◌≡◌, ℕ, ◌<◌, nat_le, List, [], ◌∷◌, ◌++◌, filter, Bool, true, false, not, refl, sym, subst, ⊎_elim, inl}
+use Rattle.std.proofs.Common.{◌≡◌, ℕ, ◌<◌, nat_le, List, [], ◌∷◌, ◌++◌, Bool, true, false, not, refl, sym, subst, ⊎_elim, inl}
 use Rattle.std.specs.Prelude.{◌⊎◌, ◌&&◌}
 use Rattle.std.specs.List.{AllByRecursion}
-use Rattle.std.proofs.lemmas.Bool.{leb-false, not-true}
+use Rattle.std.proofs.lemmas.Bool.{leb-false}
 use Rattle.tiger_base.specs.declared.number.LinkNo.{LinkNo}
 use Rattle.tiger_base.specs.declared.number.Stamp.{Stamp}
 use Rattle.tiger_base.specs.declared.tenancy.Rec.{Rec}
@@ -24,25 +24,24 @@ use Rattle.partial_view.specs.declared.line.Line.{Line}
 use Rattle.partial_view.specs.Lines.{key_of}
 use Rattle.cub_rules.specs.declared.store.Store.{Store}
 use Rattle.cub_rules.specs.Messages.{taking}
-use Rattle.cub_rules.specs.Ticks.{is_served, is_past, reading, serving_blocks, dropping_backups, serving_pieces, serving, ticking}
+use Rattle.cub_rules.specs.Ticks.{is_served, is_past, reading, ticking}
 use Rattle.cub_changes.specs.Changes.{Change, did}
 use Rattle.cub_changes.specs.Causes.{Cause}
 use Rattle.cub_changes.specs.Causes.Stage.{OnMessage}
 use Rattle.cub_changes.specs.Outputs.{Output, output, ComesOf}
 use Rattle.cub_changes.specs.Outputs.Output.{StateSent}
 use Rattle.cub_changes.proofs.Messages.{taking_by}
-use Rattle.cub_changes.proofs.Order.{from_reading}
 use Rattle.cub_changes.proofs.Outputs.{forms_of, Puts, puts_closed}
-use Rattle.cub_changes.proofs.Ticks.{ticking_by, beating_same}
+use Rattle.cub_changes.proofs.Ticks.{ticking_by}
 use Rattle.run_model.specs.Parts.{IsAtOrBefore, IsForCub}
 use Rattle.proof_lives.specs.Lives.{deed_of, store_at}
 use Rattle.lists.specs.Elements.{In}
 use Rattle.lists.proofs.Each.{all_in}
-use Rattle.lists.proofs.Elements.{from_filter}
 use Rattle.proof_lives.specs.Records.{CubsKeepTheirRecords}
 use Rattle.proof_lives.proofs.Deeds.{Tells, tells_closed, each}
 use Rattle.proof_lives.proofs.Takes.{OfTook, IsToldIn, taking_took}
 use Rattle.proof_lives.proofs.Seats.{AreSeated, seated_at, seated_for, ticking_seats}
+use Rattle.cub_changes.proofs.Chains.{ticking_left}
 
 module _ (p : Params) (c : ℕ) where
   -- ---- what is told of the view
@@ -115,21 +114,9 @@ module _ (p : Params) (c : ℕ) where
       neither true late one two = one
       neither false late one two = two
 
-  serving_leaves : (stamp : Stamp) (h : Store) (x : Line) → In x (serving p c stamp h).state.view.lines
+  pub ticking_leaves : (stamp : Stamp) (h : Store) (x : Line) → In x (ticking p c stamp h).state.view.lines
       → stamp.reading < due p x.rec.tenancy.slot.0 x.rec.visit
-  unfolding serving serving_blocks dropping_backups serving_pieces
-  serving_leaves stamp h x i =
-      let past = from_filter (λ y. not (is_past p stamp y)) x (filter (λ y. not (is_served p stamp y)) h.view.lines) i in
-      let served = from_filter (λ y. not (is_served p stamp y)) x h.view.lines past.0 in
-      not_due stamp x (not-true _ served.1) (not-true _ past.1)
-
-  ticking_leaves : (stamp : Stamp) (h : Store) (x : Line) → In x (ticking p c stamp h).state.view.lines
-      → stamp.reading < due p x.rec.tenancy.slot.0 x.rec.visit
-  unfolding ticking
-  ticking_leaves stamp h x i =
-      let h6 : Store = (reading p stamp (from_reading p c stamp h)).state in
-      serving_leaves stamp h6 x
-      (subst (λ (s : Store). In x s.view.lines) (beating_same p c stamp (serving p c stamp h6).state) i)
+  ticking_leaves stamp h x i = let left = ticking_left p c stamp h x i in not_due stamp x left.1 left.2
 
 pub keeps_records : CubsKeepTheirRecords
 keeps_records p c inputs i plan here =

@@ -26,6 +26,7 @@ use Rattle.cub_changes.proofs.Ticks.{believing_by, late_by}
 use Rattle.lists.specs.Elements.{In}
 use Rattle.lists.proofs.Elements.{chosen, in_map, from_map}
 use Rattle.proof_lives.proofs.Holds.{no_both, held_in, in_held, hold_in, with_hold_back, with_hold_forth, must_begin}
+use Rattle.cub_changes.proofs.Chains.{release_is, tick_late}
 
 pub same_instance : (v w : Instance) → v.0 ≡ w.0 → v ≡ w
 same_instance v w e = ap (λ (n : ℕ). record { 0 = n }) e
@@ -48,13 +49,14 @@ module _ (p : Params) (c : ℕ) (stamp : Stamp) where
 
   -- a tick holds what is held still
   pub ticking_held : (h : Store) → (ticking p c stamp h).state.held ≡ holds_at h.held stamp.reading
-  unfolding ticking releasing
   ticking_held h =
       let h0 : Store = (releasing p stamp h).state in
-      late_by Same same_closed p c stamp (believing p c stamp h0).state
+      ap (λ (s : Store). s.held) (tick_late p c stamp h)
+      ∙ late_by Same same_closed p c stamp (believing p c stamp h0).state
       (λ from. same_each OnInsertion from (λ k. k) (λ v k. k) (λ v j k. k))
       (λ from. same_each OnService from (λ k. k) (λ v k. k) (λ v j k. k))
       ∙ believing_by Same same_closed p c stamp h0 (same_each OnDeadman h0 (λ k. k) (λ v k. k) (λ v j k. k))
+      ∙ ap (λ (d : Deed Msg Store). d.state.held) (release_is p c stamp h)
 
   pub dropping_same : (v : Instance) (h : Store) → Same h (dropping_all p c v h)
   dropping_same v h = dropping_by Same same_closed p c stamp v h (λ q. refl) (λ q. refl) (λ q. refl) (λ q. refl)

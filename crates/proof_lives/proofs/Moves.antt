@@ -2,7 +2,7 @@
 use Rattle.std.proofs.Common.{◌≡◌, ℕ, ◌≤◌, nat_le, List, [], ◌∷◌, ◌++◌, map, filter, Bool, true, false, not, is_some, refl, sym, ap, subst, ◌∙◌, ⊎_elim, inl, inr}
 use Rattle.std.specs.Prelude.{◌⊎◌}
 use Rattle.std.specs.List.{flat_map, AllByRecursion}
-use Rattle.std.proofs.lemmas.Bool.{cases_Bool, eqb-true, leb-true, and_parts}
+use Rattle.std.proofs.lemmas.Bool.{cases_Bool, eqb-true, leb-true, and_parts, not-false}
 use Rattle.tiger_base.specs.declared.number.Instance.{Instance}
 use Rattle.tiger_base.specs.declared.number.Stamp.{Stamp}
 use Rattle.tiger_base.specs.declared.tenancy.Rec.{Rec}
@@ -34,6 +34,7 @@ use Rattle.cub_changes.proofs.Outputs.{tells_of}
 use Rattle.lists.specs.Elements.{In}
 use Rattle.lists.proofs.Elements.{chosen, in_left, in_right, in_cases, in_map, from_map, in_flat_map, in_filter, from_filter}
 use Rattle.lists.proofs.Each.{all_in}
+use Rattle.cub_changes.proofs.Messages.{took_of}
 
 -- the entry that a record was taken
 abbrev pub taken_out : Rec → Out Msg
@@ -233,8 +234,9 @@ unfolding with_record
 with_record_new p r ys e = rw e refl
 
 pub took_new : (r : Rec) (h : Store) → is_taken r h ≡ false → ((took r h).outs ≡ taken_out r ∷ []) × ((took r h).state.view.lines ≡ with_line h.view.params (unmarked r) h.view.lines)
-unfolding took
-took_new r h e = (rw e refl, rw e (with_record_new h.view.params r h.view.lines e))
+took_new r h e =
+    took_of (λ (d : Deed Msg Store). (d.outs ≡ taken_out r ∷ []) × (d.state.view.lines ≡ with_line h.view.params (unmarked r) h.view.lines)) r h
+    (λ t. let z : true ≡ false = sym t ∙ e in absurd (cc)) (λ _. (refl, with_record_new h.view.params r h.view.lines e))
 
 -- ---- single changes
 
@@ -248,10 +250,6 @@ MayGo p stamp (DropLines v) r = r.tenancy.instance.0 ≡ v.0
 MayGo p stamp ServeBlocks r = IsDueAt p stamp.reading r
 MayGo p stamp DropBackups r = IsDueAt p stamp.reading r
 MayGo p stamp other r = ⊥
-
-pub not_false : (b : Bool) → not b ≡ false → b ≡ true
-not_false true e = refl
-not_false false e = absurd (cc)
 
 pub served_due : (p : Params) (stamp : Stamp) (x : Line) → is_served p stamp x ≡ true → IsDueAt p stamp.reading x.rec
 unfolding is_served
@@ -326,11 +324,11 @@ module _ (p : Params) (c : ℕ) (stamp : Stamp) (May : Rec → Type 0) where
   unfolding without_instance
   moves_of g from (TakeRecord r) h cause may = take_moves r h cause.1
   moves_of g from (DropLines v) h cause may =
-      filtered p c May (λ x. not (is_of v x)) h.view.lines _ refl (λ x e. may x.rec (eqb-true _ _ (not_false (is_of v x) e))) (no_record (DropLines v) h (λ r e. absurd (cc)))
+      filtered p c May (λ x. not (is_of v x)) h.view.lines _ refl (λ x e. may x.rec (eqb-true _ _ (not-false (is_of v x) e))) (no_record (DropLines v) h (λ r e. absurd (cc)))
   moves_of g from ServeBlocks h cause may =
-      filtered p c May (λ x. not (is_served p stamp x)) h.view.lines _ refl (λ x e. may x.rec (served_due p stamp x (not_false (is_served p stamp x) e))) (no_record ServeBlocks h (λ r e. absurd (cc)))
+      filtered p c May (λ x. not (is_served p stamp x)) h.view.lines _ refl (λ x e. may x.rec (served_due p stamp x (not-false (is_served p stamp x) e))) (no_record ServeBlocks h (λ r e. absurd (cc)))
   moves_of g from DropBackups h cause may =
-      filtered p c May (λ x. not (is_past p stamp x)) h.view.lines _ refl (λ x e. may x.rec (past_due p stamp x (not_false (is_past p stamp x) e))) (no_record DropBackups h (λ r e. absurd (cc)))
+      filtered p c May (λ x. not (is_past p stamp x)) h.view.lines _ refl (λ x e. may x.rec (past_due p stamp x (not-false (is_past p stamp x) e))) (no_record DropBackups h (λ r e. absurd (cc)))
   moves_of g from SplitVisits h cause may =
       mapped p c May (split_line p stamp) h.view.lines _ refl (λ x. (split_same p stamp x).0) (λ x i. inl (split_same p stamp x).1) (no_record SplitVisits h (λ r e. absurd (cc)))
   moves_of g from Forward h cause may =

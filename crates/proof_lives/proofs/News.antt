@@ -14,16 +14,14 @@ use Rattle.tiger_base.specs.Records.{backup_of}
 use Rattle.slot_plan.specs.declared.params.Params.{Params}
 use Rattle.slot_plan.specs.Keys.{Key}
 use Rattle.node_kit.specs.declared.outbox.Out.{Out}
-use Rattle.node_kit.specs.Deeds.{nothing, each_in_turn}
+use Rattle.node_kit.specs.Deeds.{each_in_turn}
 use Rattle.node_kit.specs.Form.{is_in_form}
 use Rattle.node_kit.specs.Steps.{Deed}
-use Rattle.partial_view.specs.Lines.{visit_of}
 use Rattle.partial_view.specs.Views.{line_at}
 use Rattle.cub_rules.specs.declared.store.Store.{Store}
 use Rattle.cub_rules.specs.Messages.{records_told, is_news, place_told, told, taking}
 use Rattle.cub_rules.specs.Records.{took, dropping_start}
 use Rattle.cub_rules.specs.Ticks.{told_placed}
-use Rattle.cub_changes.specs.Changes.{did}
 use Rattle.cub_changes.specs.Changes.Change.{DropStart, TakeRecord, SendPlaced}
 use Rattle.cub_changes.proofs.Messages.{told_by}
 use Rattle.cub_changes.proofs.Outputs.{tells_of}
@@ -31,11 +29,12 @@ use Rattle.lists.specs.Elements.{In}
 use Rattle.lists.proofs.Elements.{chosen, in_right}
 use Rattle.proof_lives.proofs.Inserting.{Fresh, fresh_closed}
 use Rattle.proof_lives.proofs.Moves.{taken_out}
-use Rattle.proof_lives.proofs.Putting.{fresh_same, fresh_took}
+use Rattle.proof_lives.proofs.Putting.{fresh_same, fresh_new}
 use Rattle.proof_lives.proofs.Taking.{message_took, taking_hears}
-use Rattle.proof_lives.proofs.Telling.{found_in, out_of_form, takes_told}
+use Rattle.proof_lives.proofs.Telling.{found_in, takes_told}
 use Rattle.cub_rules.specs.Comebacks.{lets_in, records_let_in}
 use Rattle.slot_plan.specs.Times.{due}
+use Rattle.cub_changes.proofs.Chains.{ignores}
 
 -- a state is of a tenancy's first visit, and the cub is the next one
 record IsFirstNext (s : State) (k : Key) (t : Tenancy) : Type 0 where
@@ -63,16 +62,12 @@ first_next s k t =
     i)
 
 module _ (p : Params) (c : ℕ) (stamp : Stamp) (link : LinkNo) (h : Store) where
-  fresh_new : (r : Rec) (q : Store) → is_some (line_at (visit_of r) q.view.lines) ≡ false → Fresh p c q (did p c stamp (TakeRecord r) q)
-  unfolding took
-  fresh_new r q e = subst (λ (b : Bool). Fresh p c q (cond b (nothing q) (did p c stamp (TakeRecord r) q))) e (fresh_took p c stamp r q)
-
   -- what is taken at a state finds no line at its place, which no other of its records takes before
   told_fresh : (s : State) (k : Key) → Fresh p c h (told p c s k h)
   told_fresh s k =
       told_by (Fresh p c) (fresh_closed p c) p c stamp s k h
       (fresh_same p c stamp h _ refl (λ r i. let e : DropStart s.tenancy.instance ≡ TakeRecord r = tells_of p c stamp (DropStart s.tenancy.instance) h (taken_out r) i in absurd (cc)))
-      (λ r i o q e. fresh_new r q e)
+      (λ r i o q e. fresh_new p c stamp r q e)
       (λ q e o. fresh_same p c stamp q _ refl (λ r i. let e : SendPlaced s.tenancy ≡ TakeRecord r = tells_of p c stamp (SendPlaced s.tenancy) q (taken_out r) i in absurd (cc)))
 
   -- so a first backup record that is taken is news
@@ -117,7 +112,7 @@ module _ (p : Params) (c : ℕ) (stamp : Stamp) (link : LinkNo) (h : Store) wher
       let news = is_new s k t f (subst (λ (d : Deed Msg Store). In (taken_out r) d.outs) is i) in
       subst (λ (d : Deed Msg Store). In (told_placed p c t) d.outs) (sym is)
       (subst (λ (u : Tenancy). In (told_placed p c u) (told p c s k h).outs) (sym f.same) (news_there s k news lets)))
-      (λ (e : is_in_form p (noted m) ≡ false). absurd (subst (λ (d : Deed Msg Store). In (taken_out r) d.outs) (out_of_form p c stamp link s h e) i))
+      (λ (e : is_in_form p (noted m) ≡ false). absurd (subst (λ (d : Deed Msg Store). In (taken_out r) d.outs) (ignores p c stamp link m h e) i))
       (cases_Bool (is_in_form p (noted m)))
 
   -- whoever takes the backup record of a first visit tells the controller of the place

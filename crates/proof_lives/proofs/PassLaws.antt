@@ -1,6 +1,6 @@
 -- Passing on, as laws: from where a cub passes a deschedule on, what it then sends, and that it sends no other.
 use Rattle.std.proofs.Common.{◌≡◌, ℕ, ◌+◌, ◌*◌, ◌<◌, ◌≤◌, List, [], ◌∷◌, ◌++◌, find, true, Option, Some, None, refl, sym, ap, subst, ◌∙◌, arith, inl, inr, suc, false, ⊎_elim}
-use Rattle.std.proofs.lemmas.Bool.{eqb-true, leb-true, le-leb}
+use Rattle.std.proofs.lemmas.Bool.{eqb-true, leb-true, le-leb, cases_Bool}
 use Rattle.std.specs.Prelude.{◌⊎◌, ◌==◌}
 use Rattle.tiger_base.specs.declared.message.Msg.{Msg}
 use Rattle.tiger_base.specs.declared.message.Msg.TheVariants as msg
@@ -27,7 +27,7 @@ use Rattle.partial_view.specs.Views.{first_of}
 use Rattle.partial_view.specs.declared.line.Line.{Line}
 use Rattle.deschedule.specs.Holds.{is_held, must_pass}
 use Rattle.deschedule.specs.declared.held.Holding.{Holding}
-use Rattle.cub_rules.specs.Messages.{position_at, position_by, position_of, is_reached, passing_on}
+use Rattle.cub_rules.specs.Messages.{position_at, position_by, position_of, is_reached}
 use Rattle.cub_rules.specs.State.{visit_here, IsRecordOf, IsLineOf}
 use Rattle.cub_rules.specs.declared.store.Store.{Store}
 use Rattle.cub_changes.specs.Causes.{PassesOn}
@@ -57,6 +57,9 @@ use Rattle.proof_lives.proofs.Fitting.{Fits}
 use Rattle.proof_lives.proofs.SameLife.{same_life}
 use Rattle.proof_lives.proofs.Passing.{taking_passes}
 use Rattle.proof_lives.proofs.Tags.{tag_behind, pass_sends, pass_first, sent_passes}
+use Rattle.cub_changes.specs.Changes.{did}
+use Rattle.cub_changes.specs.Changes.Change.{PassOn}
+use Rattle.cub_changes.proofs.Positions.{stands}
 
 pub reached_true : (p : Params) (stamp : Stamp) (s : SlotNo) (n : ℕ) → due p s.0 n ≤ stamp.reading + p.max_lead + 2 * p.play + p.skew → is_reached p stamp s n ≡ true
 unfolding is_reached
@@ -68,16 +71,12 @@ reached_due p stamp s n e = leb-true _ _ e
 
 -- which position a slot and visit give
 pub position_parts : (p : Params) (c : ℕ) (s : SlotNo) (m : ℕ) (k : Key) → position_at p c s m ≡ Some k → (k.0 ≡ s) × ((k.1 ≡ m) ⊎ (k.1 ≡ m + 1)) × (c ≡ cub_of p k.1)
-unfolding position_at
-position_parts p c s m k =
-    chosen (λ (o : Option Key). o ≡ Some k → (k.0 ≡ s) × ((k.1 ≡ m) ⊎ (k.1 ≡ m + 1)) × (c ≡ cub_of p k.1)) (cub_of p m == c) (Some (s, m)) _
-    (λ t e. let q : (s, m) ≡ k = some_is (s, m) k e in (sym (ap (λ (x : Key). x.0) q), inl (sym (ap (λ (x : Key). x.1) q)), sym (eqb-true _ _ t) ∙ ap (λ (x : Key). cub_of p x.1) q))
-    (λ _. chosen (λ (o : Option Key). o ≡ Some k → (k.0 ≡ s) × ((k.1 ≡ m) ⊎ (k.1 ≡ m + 1)) × (c ≡ cub_of p k.1)) (cub_of p (m + 1) == c) (Some (s, m + 1)) None
-    (λ t e. let q : (s, m + 1) ≡ k = some_is (s, m + 1) k e in (sym (ap (λ (x : Key). x.0) q), inr (sym (ap (λ (x : Key). x.1) q)), sym (eqb-true _ _ t) ∙ ap (λ (x : Key). cub_of p x.1) q))
-    (λ _ e. absurd (cc)))
-  where
-    some_is : (a b : Key) → Some a ≡ Some b → a ≡ b
-    some_is a b e = cc
+position_parts p c s m k e =
+    let at = stands p c s m k e in
+    (at.slot_same, ⊎_elim (λ (t : (k.1 == m) ≡ true). inl (eqb-true _ _ t)) (λ (f : (k.1 == m) ≡ false). inr (at.other f)) (cases_Bool (k.1 == m)), sym at.here)
+
+some_is : {X : Type 0} (a b : X) → Some a ≡ Some b → a ≡ b
+some_is a b e = cc
 
 -- the first line of an instance is one of its lines
 pub first_in : (v : Instance) (ls : List Line) (x : Line) → first_of v ls ≡ Some x → In x ls × (x.rec.tenancy.instance.0 ≡ v.0)
@@ -88,9 +87,6 @@ first_in v (z ∷ zs) x e =
     (λ t e. let q : z ≡ x = some_is z x e in (inl (sym q), ap (λ (y : Line). y.rec.tenancy.instance.0) (sym q) ∙ eqb-true _ _ t))
     (λ _ e. let r = first_in v zs x e in (inr r.0, r.1))
     e
-  where
-    some_is : (a b : Line) → Some a ≡ Some b → a ≡ b
-    some_is a b e = cc
 
 -- the record that gives a position
 pub record FirstLine (v : Instance) (ls : List Line) (k : Key) : Type 0 where
@@ -102,9 +98,6 @@ pub record FirstLine (v : Instance) (ls : List Line) (k : Key) : Type 0 where
 pub first_line : (v : Instance) (ls : List Line) (k : Key) (o : Option Line) → first_of v ls ≡ o → position_by o ≡ Some k → FirstLine v ls k
 first_line v ls k None e at = absurd (cc)
 first_line v ls k (Some x) e at = let f = first_in v ls x e in record { line = x; there = f.0; same = f.1; at = some_is (position_of x.rec) k at }
-  where
-    some_is : (a b : Key) → Some a ≡ Some b → a ≡ b
-    some_is a b e = cc
 
 pub here_visit : (kind : Kind) (n : ℕ) → (visit_here kind n ≡ n) ⊎ (visit_here kind n ≡ n + 1)
 here_visit Own n = inl refl
@@ -142,7 +135,7 @@ module _ (p : Params) (plan : IsPlan p) (lives : Lives) (are : AreLives p lives)
       let both = pass_sends p c stamp a.instance a.key g.before (reached_true p stamp a.key.0 (a.key.1 + 1) (omega arith)) in
       let ends : beat_at inputs tick.at ≡ b = ap (λ (x : Input Msg). (stamp_of x).beat) tick.is in
       let whole = whole_by_tick p lives are c a.at tick.at a.small a.done tick.done (ap is_tick_input a.is) (ap is_tick_input tick.is) (omega arith) in
-      let done : (o : Out Msg) → In o (passing_on p c stamp a.instance a.key g.before).outs → In o (outs_in p lives c a.at) = λ o i.
+      let done : (o : Out Msg) → In o (did p c stamp (PassOn a.instance a.key) g.before).outs → In o (outs_in p lives c a.at) = λ o i.
       goes_whole p lives c a.at o whole (subst (λ (x : Input Msg). In o (deed_of p c x (store_at p c inputs a.at)).outs) (sym a.is) (g.outs o i)) in
       (told_one 1 (inl refl) a (done _ both.0), told_one 2 (inr refl) a (done _ both.1))
 
@@ -183,9 +176,6 @@ module _ (p : Params) (plan : IsPlan p) (lives : Lives) (are : AreLives p lives)
         ahead = which;
         soon = omega arith;
       }
-    where
-      some_is : (a b : Tag) → Some a ≡ Some b → a ≡ b
-      some_is a b e = cc
   told_by c i k v s q x small low which w same tag slot visit link (Tick stamp) is eb d =
       absurd (tick_meek p c plan small stamp (store_at p c (lives.input c) i) link (msg.Deschedule w (Some tag)) (λ n. n) (λ n. n) (λ n e. absurd (cc)) d)
 
@@ -215,9 +205,6 @@ module _ (p : Params) (plan : IsPlan p) (lives : Lives) (are : AreLives p lives)
       subst (λ (os : List (Out Msg)). In near (cut_outs cut os)) is_front
       (first_goes cut o near rest (subst (λ (os : List (Out Msg)). In o (cut_outs cut os)) (sym is_front) goes)) in
       subst (λ (t : Tag). In (out.Send (way_ahead p c 1) (msg.Deschedule w (Some t))) (cut_outs cut outs)) (sym tags) there
-    where
-      some_is : (a b : Tag) → Some a ≡ Some b → a ≡ b
-      some_is a b e = cc
   next_out cut c i small low w tag link (Tick stamp) is goes =
       let h : Store = store_at p c (lives.input c) i in
       let d = from_cut_outs cut (out.Send link (msg.Deschedule w (Some tag))) (deed_of p c (Tick stamp) h).outs goes in

@@ -12,7 +12,6 @@ use Rattle.node_kit.specs.Steps.Input.{Take, Tick}
 use Rattle.deschedule.specs.declared.held.Holding.{Holding}
 use Rattle.deschedule.specs.Holds.{is_held, is_kept}
 use Rattle.cub_rules.specs.declared.store.Store.{Store}
-use Rattle.cub_rules.specs.Messages.{descheduling}
 use Rattle.proof_lives.specs.Lives.{store_at, deed_of}
 use Rattle.lists.specs.Elements.{In}
 use Rattle.lists.proofs.Elements.{in_filter}
@@ -21,7 +20,7 @@ use Rattle.proof_lives.specs.HoldsHere.{IsFormed}
 use Rattle.proof_lives.proofs.Begun.{IsStop, stop_as, begun}
 use Rattle.proof_lives.proofs.Holds.{no_both, in_held}
 use Rattle.proof_lives.proofs.Ledger.{from_same, taking_keeps, stop_keeps, ticking_held, hold_there, hold_back}
-use Rattle.proof_lives.proofs.Passing.{stop_taking}
+use Rattle.cub_changes.proofs.Chains.{takes_stop}
 
 module _ (p : Params) (c : ℕ) (inputs : ℕ → Input Msg) where
   -- before an input an instance is held by a deschedule that came by another one
@@ -79,13 +78,12 @@ module _ (p : Params) (c : ℕ) (inputs : ℕ → Input Msg) where
 
   -- a deschedule leaves a hold, which it begins or finds
   stop_holds : (count : ℕ) → IsFormed p count inputs → (i v : ℕ) → i < count → IsStop p c inputs i v → IsHeldBy i v (suc i)
-  unfolding descheduling
   stop_holds count formed i v low s =
       let h : Store = store_at p c inputs i in
       let m : Msg = msg.Deschedule s.instance s.tag in
       let y = hold_there p s.stamp s.instance h in
       let x = (stop_keeps p c s.stamp s.link s.instance s.tag h).forth y.0 y.1 in
-      let taken = stop_taking p c s.stamp s.link s.instance s.tag h (formed i s.stamp s.link m low s.is) in
+      let taken = takes_stop p c s.stamp s.link s.instance s.tag h (formed i s.stamp s.link m low s.is) in
       let done = subst (λ (d : Deed Msg Store). In x.0 d.state.held) (sym taken) x.1 in
       let here = subst (λ (q : Input Msg). In x.0 (deed_of p c q h).state.held) (sym s.is) done in
       let same = from_same p c s.stamp m h x.0 y.0 x.2 in

@@ -37,6 +37,7 @@ use Rattle.cub_changes.proofs.Messages.{took_of}
 use Rattle.lists.proofs.Elements.{in_left, in_right}
 use Rattle.proof_lives.proofs.Moves.{Never, IsMeek, taken_out, is_taken, took_new, untaken, take_moves}
 use Rattle.proof_lives.proofs.Inserting.{Nobody, put_out, state_out, none_at, PutWell, Fresh, fresh_closed, Puts, opening}
+use Rattle.cub_changes.proofs.Chains as chains
 
 -- ---- what a Put puts out
 
@@ -73,18 +74,19 @@ module _ (p : Params) (c : ℕ) (stamp : Stamp) where
       (λ q e. took_all Q (own_of t (t.first + 1)) (inr (refl, e)) q) (λ q. (refl, tt))
 
   -- ---- what it does to lines
+  pub fresh_new : (r : Rec) (h : Store) → is_taken r h ≡ false → Fresh p c h (did p c stamp (TakeRecord r) h)
+  fresh_new r h e = record {
+    moves = take_moves p c stamp Never r h e;
+    fresh = λ s x i j at. ⊎_elim
+        (λ (q : taken_out s ≡ taken_out r).
+        let same : s ≡ r = cc in
+        none_at (visit_of r) x h.view.lines e j (at.0 ∙ ap (λ (z : Rec). z.tenancy.slot.0) same, at.1 ∙ ap (λ (z : Rec). z.visit) same))
+        (λ q. absurd q)
+        i;
+  }
+
   pub fresh_took : (r : Rec) (h : Store) → Fresh p c h (took r h)
-  fresh_took r h =
-      took_of (λ (d : Deed Msg Store). Fresh p c h d) r h (λ _. (fresh_closed p c).none h)
-      (λ e. record {
-        moves = take_moves p c stamp Never r h e;
-        fresh = λ s x i j at. ⊎_elim
-            (λ (q : taken_out s ≡ taken_out r).
-            let same : s ≡ r = cc in
-            none_at (visit_of r) x h.view.lines e j (at.0 ∙ ap (λ (z : Rec). z.tenancy.slot.0) same, at.1 ∙ ap (λ (z : Rec). z.visit) same))
-            (λ q. absurd q)
-            i;
-      })
+  fresh_took r h = took_of (λ (d : Deed Msg Store). Fresh p c h d) r h (λ _. (fresh_closed p c).none h) (fresh_new r h)
 
   pub fresh_same : (h : Store) (d : Deed Msg Store) → d.state.view.lines ≡ h.view.lines → ((r : Rec) → In (taken_out r) d.outs → ⊥) → Fresh p c h d
   fresh_same h d e none = record { moves = untaken p c Never h.view.lines d e none; fresh = λ r x i. absurd (none r i) }
@@ -107,24 +109,28 @@ module _ (p : Params) (c : ℕ) (stamp : Stamp) where
 took_there : (r : Rec) (h : Store) → is_taken r h ≡ false → In (taken_out r) (took r h).outs
 took_there r h e = subst (λ (os : List (Out Msg)). In (taken_out r) os) (sym (took_new r h e).0) (inl refl)
 
-pub own_there : (p : Params) (c : ℕ) (t : Tenancy) (h : Store) → In (put_out t) (putting_own p c t h).outs
-    × In (state_out p c t) (putting_own p c t h).outs × In (told_placed p c t) (putting_own p c t h).outs
-    × (is_taken (own_of t t.first) h ≡ false → In (taken_out (own_of t t.first)) (putting_own p c t h).outs)
-unfolding putting_own
+pub own_there : (p : Params) (c : ℕ) (t : Tenancy) (h : Store) → let outs : List (Out Msg) = (putting_own p c t h).outs in
+    In (put_out t) outs × In (state_out p c t) outs × In (told_placed p c t) outs
+    × (is_taken (own_of t t.first) h ≡ false → In (taken_out (own_of t t.first)) outs)
 own_there p c t h =
-    let taken : List (Out Msg) = (took (own_of t t.first) (putting t h).state).outs in (
+    let taken : List (Out Msg) = (took (own_of t t.first) (putting t h).state).outs in
+    let All : List (Out Msg) → Type 0 = λ outs. In (put_out t) outs × In (state_out p c t) outs × In (told_placed p c t) outs
+    × (is_taken (own_of t t.first) h ≡ false → In (taken_out (own_of t t.first)) outs) in
+    subst All (chains.own_puts p c t h) (
       inl refl,
       inr (in_right (state_out p c t) taken _ (inl refl)),
       inr (in_right (told_placed p c t) taken _ (inr (inl refl))),
       (λ e. inr (in_left (taken_out (own_of t t.first)) taken _ (took_there (own_of t t.first) (putting t h).state e))),
     )
 
-pub dead_there : (p : Params) (c : ℕ) (t : Tenancy) (h : Store) → In (put_out t) (putting_for_dead p c t h).outs
-    × In (told_placed p c t) (putting_for_dead p c t h).outs
-    × (is_taken (backup_of t t.first) h ≡ false → In (taken_out (backup_of t t.first)) (putting_for_dead p c t h).outs)
-unfolding putting_for_dead
+pub dead_there : (p : Params) (c : ℕ) (t : Tenancy) (h : Store) → let outs : List (Out Msg) = (putting_for_dead p c t h).outs in
+    In (put_out t) outs × In (told_placed p c t) outs
+    × (is_taken (backup_of t t.first) h ≡ false → In (taken_out (backup_of t t.first)) outs)
 dead_there p c t h =
-    let taken : List (Out Msg) = (took (backup_of t t.first) (putting t h).state).outs in (
+    let taken : List (Out Msg) = (took (backup_of t t.first) (putting t h).state).outs in
+    let All : List (Out Msg) → Type 0 = λ outs. In (put_out t) outs × In (told_placed p c t) outs
+    × (is_taken (backup_of t t.first) h ≡ false → In (taken_out (backup_of t t.first)) outs) in
+    subst All (chains.dead_puts p c t h) (
       inl refl,
       inr (in_right (told_placed p c t) taken _ (in_right (told_placed p c t) _ (told_placed p c t ∷ []) (inl refl))),
       (λ e. inr (in_left (taken_out (backup_of t t.first)) taken _ (took_there (backup_of t t.first) (putting t h).state e))),

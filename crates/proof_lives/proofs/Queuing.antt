@@ -1,28 +1,23 @@
 -- The starts that a cub keeps, and when it last heard its predecessor: which messages and steps change that.
-use Rattle.std.proofs.Common.{◌≡◌, ℕ, ◌++◌, Bool, not, Option, Some, None, refl, sym, ap, subst, ◌∙◌, ⊎_elim, inl, inr, append-nil}
-use Rattle.std.specs.Prelude.{◌⊎◌, ◌&&◌}
-use Rattle.std.proofs.lemmas.Bool.{eq-eqb}
+use Rattle.std.proofs.Common.{◌≡◌, ℕ, ◌++◌, Option, refl, sym, ap, subst, true, ◌∙◌, ⊎_elim, inl, inr, append-nil}
+use Rattle.std.specs.Prelude.{◌⊎◌}
 use Rattle.tiger_base.specs.declared.number.Instance.{Instance}
 use Rattle.tiger_base.specs.declared.number.LinkNo.{LinkNo}
 use Rattle.tiger_base.specs.declared.number.Stamp.{Stamp}
-use Rattle.tiger_base.specs.declared.tenancy.Ask.{Ask}
 use Rattle.tiger_base.specs.declared.tenancy.Rec.{Rec}
 use Rattle.tiger_base.specs.declared.tenancy.Tag.{Tag}
 use Rattle.tiger_base.specs.declared.message.Msg.{Msg}
 use Rattle.tiger_base.specs.declared.message.Msg.TheVariants as msg
 use Rattle.slot_plan.specs.declared.params.Params.{Params}
-use Rattle.slot_plan.specs.Keys.{Key}
-use Rattle.insert_queue.specs.Queues.{Queues, without_start, after_take_over, IsOnce}
+use Rattle.insert_queue.specs.Queues.{Queues, without_start, IsOnce}
 use Rattle.insert_queue.proofs.Once.{IsOnce-more, IsOnce-end, IsOnce-without}
-use Rattle.deschedule.specs.Holds.{must_pass}
-use Rattle.deadman.specs.Silence.{Silence, is_silent}
+use Rattle.deadman.specs.Silence.{Silence}
 use Rattle.node_kit.specs.Steps.{Deed}
 use Rattle.node_kit.specs.Ways.{way_ahead, predecessor}
-use Rattle.node_kit.specs.Deeds.{nothing}
 use Rattle.cub_rules.specs.declared.store.Store.{Store}
-use Rattle.cub_rules.specs.Records.{took, dropping_lines, dropping_start, dropping_pieces}
-use Rattle.cub_rules.specs.Messages.{passing_on, passing_from, meeting_start, position, holding, killing_splits, descheduling, hearing_beat, hearing, taking}
-use Rattle.cub_rules.specs.Ticks.{releasing, believing, inserting, ticking}
+use Rattle.cub_rules.specs.Records.{took}
+use Rattle.cub_rules.specs.Messages.{position, holding, taking}
+use Rattle.cub_rules.specs.Ticks.{inserting, ticking}
 use Rattle.cub_changes.specs.Changes.{Change, did}
 use Rattle.cub_changes.specs.Changes.Change.{DropStart, Queue, QueueApart, HearBeat, Believe, PutStart}
 use Rattle.cub_changes.specs.Causes.{Stage, IsHeartbeat}
@@ -30,9 +25,11 @@ use Rattle.cub_changes.specs.Causes.Stage.{OnMessage, OnService}
 use Rattle.cub_changes.proofs.Closed.{IsClosed, OfEach}
 use Rattle.cub_changes.proofs.Beliefs.{Minds, minds_closed, minds_each}
 use Rattle.cub_changes.proofs.Fits.{IsOfService, fits}
-use Rattle.cub_changes.proofs.Messages.{taking_by, took_of}
+use Rattle.cub_changes.proofs.Messages.{passing_each, taking_by, took_of}
 use Rattle.cub_changes.proofs.Ticks.{before_inserting, before_splitting, service_by, ticking_by}
-use Rattle.lists.proofs.Elements.{chosen}
+use Rattle.cub_changes.proofs.Chains.{tick_late, stopped}
+use Rattle.node_kit.specs.Form.{is_in_form}
+use Rattle.tiger_base.specs.Notes.{noted}
 
 -- ---- single rules
 
@@ -43,44 +40,18 @@ Steady h d = (d.state.starts ≡ h.starts) × (d.state.watch ≡ h.watch)
 pub took_steady : (r : Rec) (h : Store) → Steady h (took r h)
 took_steady r h = took_of (Steady h) r h (λ _. (refl, refl)) (λ _. (refl, refl))
 
-passing_steady : (p : Params) (c : ℕ) (stamp : Stamp) (v : Instance) (o : Option Key) (h : Store) → Steady h (passing_from p c stamp v o h)
-unfolding passing_on
-passing_steady p c stamp v None h = (refl, refl)
-passing_steady p c stamp v (Some k) h =
-    chosen (λ (d : Deed Msg Store). Steady h d) (must_pass h.held v) (passing_on p c stamp v k h) (nothing h) (λ _. (refl, refl)) (λ _. (refl, refl))
+steady_closed : IsClosed Steady
+steady_closed = record { none = λ h. (refl, refl); both = λ h d e one two. (two.0 ∙ one.0, two.1 ∙ one.1) }
 
 -- a deschedule drops the starts of its instance
-pub descheduling_after : (p : Params) (c : ℕ) (stamp : Stamp) (v : Instance) (tag : Option Tag) (h : Store)
-    → ((descheduling p c stamp v tag h).state.starts ≡ without_start h.starts v) × ((descheduling p c stamp v tag h).state.watch ≡ h.watch)
-unfolding descheduling dropping_lines dropping_start dropping_pieces killing_splits
-descheduling_after p c stamp v tag h =
-    let h1 : Store = (holding p stamp v h).state in
-    let passed = passing_steady p c stamp v (position p c v tag h1.view.lines) h1 in
-    (ap (λ (q : Queues). without_start q v) passed.0, passed.1)
-
-pub beat_heard : (p : Params) (c : ℕ) (stamp : Stamp) (link : LinkNo) (h : Store) → link.0 ≡ (way_ahead p (predecessor p c) 1).0 → (hearing_beat p c stamp link h).state.watch ≡ record h.watch { heard = stamp.reading }
-unfolding hearing_beat
-beat_heard p c stamp link h e = rw (eq-eqb _ _ e) refl
-
--- starts and heartbeats are always in form
-pub takes_start : (p : Params) (c : ℕ) (stamp : Stamp) (link : LinkNo) (a : Ask) (redundant : Bool) (h : Store) → taking p c stamp link (msg.Start redundant a) h ≡ meeting_start a redundant h
-unfolding taking hearing
-takes_start p c stamp link a redundant h = refl
-
-pub takes_beat : (p : Params) (c : ℕ) (stamp : Stamp) (link : LinkNo) (h : Store) → taking p c stamp link msg.Heartbeat h ≡ hearing_beat p c stamp link h
-unfolding taking hearing
-takes_beat p c stamp link h = refl
-
-pub releasing_steady : (p : Params) (stamp : Stamp) (h : Store) → Steady h (releasing p stamp h)
-unfolding releasing
-releasing_steady p stamp h = (refl, refl)
-
-pub believing_after : (p : Params) (c : ℕ) (stamp : Stamp) (h : Store)
-    → ((believing p c stamp h).state.starts ≡ h.starts) ⊎ ((believing p c stamp h).state.starts ≡ after_take_over h.starts)
-unfolding believing
-believing_after p c stamp h =
-    chosen (λ (d : Deed Msg Store). (d.state.starts ≡ h.starts) ⊎ (d.state.starts ≡ after_take_over h.starts)) (not h.believes && is_silent h.watch stamp.reading) _ (nothing h)
-    (λ _. inr refl) (λ _. inl refl)
+pub stop_starts : (p : Params) (c : ℕ) (stamp : Stamp) (link : LinkNo) (v : Instance) (tag : Option Tag) (h : Store)
+    → is_in_form p (noted (msg.Deschedule v tag)) ≡ true
+    → (taking p c stamp link (msg.Deschedule v tag) h).state.starts ≡ without_start h.starts v
+stop_starts p c stamp link v tag h form =
+    let g : Store = (holding p stamp v h).state in
+    ap (λ (s : Store). s.starts) (stopped p c stamp link v tag h form)
+    ∙ ap (λ (q : Queues). without_start q v)
+    (passing_each Steady steady_closed p c stamp v (position p c v tag g.view.lines) g (λ k is must. (refl, refl))).0
 
 -- ---- each instance stands in the lists once
 abbrev pub AreOnce : Queues → Type 0
@@ -123,7 +94,7 @@ module _ (p : Params) (c : ℕ) (stamp : Stamp) (link : LinkNo) (m : Msg) where
         two;
   }
 
-  is_beat : (n : Msg) → IsHeartbeat p c (OnMessage link n) → (n ≡ msg.Heartbeat) × (link.0 ≡ (way_ahead p (predecessor p c) 1).0)
+  pub is_beat : (n : Msg) → IsHeartbeat p c (OnMessage link n) → (n ≡ msg.Heartbeat) × (link.0 ≡ (way_ahead p (predecessor p c) 1).0)
   is_beat msg.Heartbeat k = (refl, k)
   is_beat other k = absurd k
 
@@ -148,7 +119,7 @@ same_starts p c stamp Believe f h = absurd f
 same_starts p c stamp other f h = refl
 
 pub ticking_starts : (p : Params) (c : ℕ) (stamp : Stamp) (h : Store) → (ticking p c stamp h).state.starts ≡ (inserting p c stamp (before_inserting p c stamp h)).state.starts
-unfolding ticking
 ticking_starts p c stamp h =
-    service_by (λ (s : Store) (d : Deed Msg Store). d.state.starts ≡ s.starts) (record { none = λ s. refl; both = λ s d e one two. two ∙ one }) p c stamp (before_splitting p c stamp h)
+    ap (λ (s : Store). s.starts) (tick_late p c stamp h)
+    ∙ service_by (λ (s : Store) (d : Deed Msg Store). d.state.starts ≡ s.starts) (record { none = λ s. refl; both = λ s d e one two. two ∙ one }) p c stamp (before_splitting p c stamp h)
     (λ from x q cause. same_starts p c stamp x (fits p c stamp from OnService x q cause) q)

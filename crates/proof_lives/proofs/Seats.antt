@@ -1,8 +1,8 @@
 -- What a tick tells of a view: each record that is taken then is of a tenancy that was put before, and so is each first state.
-use Rattle.std.proofs.Common.{◌≡◌, ℕ, ◌+◌, ◌<◌, ◌%◌, nat_lt, List, [], ◌∷◌, ◌++◌, false, cond, is_some, Some, refl, sym, ap, subst, ◌∙◌, ⊎_elim, inl, inr}
+use Rattle.std.proofs.Common.{◌≡◌, ℕ, ◌+◌, ◌<◌, ◌%◌, nat_lt, List, [], ◌∷◌, ◌++◌, false, cond, is_some, refl, sym, ap, subst, ◌∙◌, ⊎_elim, inl, inr}
 use Rattle.std.specs.Prelude.{◌⊎◌}
 use Rattle.std.specs.List.{AllByRecursion}
-use Rattle.std.proofs.lemmas.Bool.{cond_both, not-true}
+use Rattle.std.proofs.lemmas.Bool.{cond_both}
 use Rattle.tiger_base.specs.declared.number.Stamp.{Stamp}
 use Rattle.tiger_base.specs.declared.tenancy.Rec.{Rec}
 use Rattle.tiger_base.specs.declared.tenancy.Tenancy.{Tenancy}
@@ -10,9 +10,7 @@ use Rattle.tiger_base.specs.declared.message.Msg.{Msg}
 use Rattle.tiger_base.specs.Records.{own_of, backup_of}
 use Rattle.slot_plan.specs.declared.params.Params.{Params}
 use Rattle.slot_plan.specs.Conditions.{IsPlan}
-use Rattle.slot_plan.specs.Times.{cub_of, disk_of}
-use Rattle.slot_plan.specs.Keys.{Key}
-use Rattle.slot_plan.proofs.Windows.{least_visit_found}
+use Rattle.slot_plan.specs.Times.{cub_of}
 use Rattle.node_kit.specs.declared.journal.What.TheVariants as what
 use Rattle.node_kit.specs.declared.outbox.Out.{Out}
 use Rattle.node_kit.specs.declared.outbox.Out.TheVariants as out
@@ -22,10 +20,9 @@ use Rattle.node_kit.specs.Ways.{predecessor}
 use Rattle.partial_view.specs.declared.line.Line.{Line}
 use Rattle.partial_view.specs.Lines.{unmarked, visit_of}
 use Rattle.partial_view.specs.Views.{line_at}
-use Rattle.partial_view.specs.Free.{is_free}
 use Rattle.cub_rules.specs.declared.store.Store.{Store}
 use Rattle.cub_rules.specs.Records.{took}
-use Rattle.cub_rules.specs.Ticks.{disks_at, free_on, sending, putting, told_placed, putting_own, putting_for_dead, releasing, ticking}
+use Rattle.cub_rules.specs.Ticks.{disks_at, putting, told_placed, putting_own, putting_for_dead, releasing, ticking}
 use Rattle.cub_changes.specs.Changes.{did}
 use Rattle.cub_changes.specs.Changes.Change.{PutStart, SendFirst, SendPlaced}
 use Rattle.lists.specs.Elements.{In}
@@ -38,10 +35,12 @@ use Rattle.cub_changes.proofs.Puts.{dead_from, puts_by}
 use Rattle.cub_changes.proofs.Ticks.{before_inserting, before_splitting, releasing_by, believing_by, service_by, tick_chain}
 use Rattle.cub_changes.proofs.Numbers.{visit_own, next_own, disks_own, predecessor_below}
 use Rattle.run_model.specs.Parts.{IsAtOrBefore, IsForCub, IsOwnRecordFor}
-use Rattle.proof_lives.proofs.Moves.{in_with_line, with_record_new}
+use Rattle.proof_lives.proofs.Moves.{in_with_line, took_new}
 use Rattle.proof_lives.proofs.Told.{any_in}
 use Rattle.proof_lives.proofs.Deeds.{Tells, tells_closed, tells_quiet, takes, each}
 use Rattle.proof_lives.proofs.Takes.{OfTook, each_took}
+use Rattle.cub_changes.proofs.Chains.{own_puts, dead_puts, own_is}
+use Rattle.proof_lives.proofs.Inserting.{opening}
 
 -- ---- lists of outputs
 
@@ -134,18 +133,8 @@ module _ (p : Params) (c : ℕ) where
 
     took_there : (r : Rec) (h : Store) → is_some (line_at (visit_of r) h.view.lines) ≡ false
         → In (unmarked r) (took r h).state.view.lines
-    unfolding took
     took_there r h e =
-        rw e (subst (λ (ls : List Line). In (unmarked r) ls) (sym (with_record_new h.view.params r h.view.lines e))
-        (in_with_line h.view.params (unmarked r) h.view.lines))
-
-    -- what a cub finds free is on the disk, and no line is there
-    open_at : (disk : ℕ) (h : Store) (k : Key) → IsPlan p → free_on p stamp.reading disk h ≡ Some k
-        → (disk_of p k.1 ≡ disk) × (is_some (line_at k h.view.lines) ≡ false)
-    unfolding free_on is_free
-    open_at disk h k plan e =
-        let found = (least_visit_found p stamp.reading disk (is_free h.view.lines) k plan e).here in
-        (found.on_disk, not-true _ found.passes)
+        subst (λ (ls : List Line). In (unmarked r) ls) (sym (took_new r h e).1) (in_with_line h.view.params (unmarked r) h.view.lines)
 
     put_tells : (t : Tenancy) (h : Store) → Tells h (putting t h)
     put_tells t h = each p c stamp (PutStart t) h (λ r e. absurd (cc)) (λ u e. absurd (cc))
@@ -153,15 +142,15 @@ module _ (p : Params) (c : ℕ) where
     -- on a disk of the cub's own the first state follows from the record that was just taken
     own_tells : (t : Tenancy) (h : Store) → is_some (line_at (visit_of (own_of t t.first)) h.view.lines) ≡ false
         → Tells h (putting_own p c t h)
-    unfolding putting_own
     own_tells t h free =
         let r : Rec = own_of t t.first in
-        let last : List (Out Msg) = (did p c stamp (SendFirst t) h).outs in
+        let last : Store → Deed Msg Store = did p c stamp (SendFirst t) in
         let g : Store = (putting t h).state in
         let q : Store = (took r g).state in
-        then_by Tells tells_closed (putting t) (then_do (took r) (sending last)) h (put_tells t h)
-        (then_by Tells tells_closed (took r) (sending last) g (taking r g)
-        (tells_quiet q (sending last q)
+        subst (Tells h) (sym (own_is p c stamp t h))
+        (then_by Tells tells_closed (putting t) (then_do (took r) last) h (put_tells t h)
+        (then_by Tells tells_closed (took r) last g (taking r g)
+        (tells_quiet q (last q)
         (λ rs a. (
           a,
           (
@@ -169,24 +158,23 @@ module _ (p : Params) (c : ℕ) where
                 (refl, refl, inl refl),
             (tt, tt),
           ),
-        ))))
+        )))))
 
     own_seats : IsPlan p → c < p.cubs → (from : Store) (t : Tenancy) (h : Store) (o : Fills p c stamp from t h)
         → In o.disk (disks_at p c) → Seats h (putting_own p c t h)
-    unfolding putting_own
     own_seats plan here from t h o on =
-        let found = open_at o.disk h o.key plan o.free in
+        let found = opening p stamp.reading o.disk h o.key plan o.free in
         let mine : cub_of p o.key.1 ≡ c =
-        visit_own p c o.disk o.key.1 found.0 (all_in (λ d. d % p.cubs ≡ c) o.disk (disks_at p c) (disks_own p c here) on) in
+        visit_own p c o.disk o.key.1 found.on_disk (all_in (λ d. d % p.cubs ≡ c) o.disk (disks_at p c) (disks_own p c here) on) in
         let mine_t : cub_of p t.first ≡ c = ap (λ (z : Tenancy). cub_of p z.first) o.is ∙ mine in
         let free : is_some (line_at (visit_of (own_of t t.first)) h.view.lines) ≡ false =
-        ap (λ (z : Tenancy). is_some (line_at (visit_of (own_of z z.first)) h.view.lines)) o.is ∙ found.1 in
+        ap (λ (z : Tenancy). is_some (line_at (visit_of (own_of z z.first)) h.view.lines)) o.is ∙ found.free in
         let put : List (Out Msg) = out.Act (what.Put t) ∷ [] in
         let last : List (Out Msg) = (did p c stamp (SendFirst t) h).outs in
         let g : Store = (putting t h).state in
         record {
           tells = own_tells t h free;
-          seated = (
+          seated = subst (AreSeated []) (own_puts p c t h) (
             tt,
             seated_append put (took (own_of t t.first) g).outs last
                 (took_seated (own_of t t.first) g put (inl refl) (inl refl) mine_t) (tt, (tt, tt)),
@@ -196,10 +184,9 @@ module _ (p : Params) (c : ℕ) where
     -- for the predecessor both records are those of the cub
     dead_seats : IsPlan p → c < p.cubs → (from : Store) (t : Tenancy) (h : Store) (o : Fills p c stamp from t h)
         → In o.disk (disks_at p (predecessor p c)) → Seats h (putting_for_dead p c t h)
-    unfolding putting_for_dead
     dead_seats plan here from t h o on =
         let before : ℕ = predecessor p c in
-        let theirs = visit_own p before o.disk o.key.1 (open_at o.disk h o.key plan o.free).0
+        let theirs = visit_own p before o.disk o.key.1 (opening p stamp.reading o.disk h o.key plan o.free).on_disk
         (all_in (λ d. d % p.cubs ≡ before) o.disk (disks_at p before) (disks_own p before (predecessor_below p c plan)) on) in
         let next : cub_of p (t.first + 1) ≡ c =
         ap (λ (z : Tenancy). cub_of p (z.first + 1)) o.is ∙ next_own p c o.key.1 plan here theirs in
@@ -212,7 +199,7 @@ module _ (p : Params) (c : ℕ) where
               dead_from Tells tells_closed p c stamp t h (put_tells t h) (taking (backup_of t t.first))
               (λ k _. taking (own_of t (t.first + 1)) k)
               (λ k. each p c stamp (SendPlaced t) k (λ r e. absurd (cc)) (λ u e. absurd (cc)));
-          seated = (
+          seated = subst (AreSeated []) (dead_puts p c t h) (
             tt,
             seated_append put (took (backup_of t t.first) g).outs _
                 (took_seated (backup_of t t.first) g put (inl refl) (inl refl) next)

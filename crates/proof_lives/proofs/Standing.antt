@@ -11,15 +11,14 @@ use Rattle.tiger_base.specs.declared.message.Msg.{Msg}
 use Rattle.tiger_base.specs.declared.message.Msg.TheVariants as msg
 use Rattle.slot_plan.specs.declared.params.Params.{Params}
 use Rattle.slot_plan.specs.Conditions.{IsPlan}
-use Rattle.node_kit.specs.Steps.{Deed, Input}
+use Rattle.node_kit.specs.Steps.{Input}
 use Rattle.node_kit.specs.Steps.Input.{Tick}
 use Rattle.partial_view.specs.declared.line.Line.{Line}
 use Rattle.partial_view.specs.Lines as lines
 use Rattle.partial_view.specs.Views.{without_instance}
 use Rattle.state_forward.specs.Forwards.{must_forward}
 use Rattle.cub_rules.specs.declared.store.Store.{Store}
-use Rattle.cub_rules.specs.Records.{dropping_lines, dropping_start, dropping_pieces}
-use Rattle.cub_rules.specs.Messages.{holding, passing, killing_splits, descheduling}
+use Rattle.cub_rules.specs.Messages.{holding, passing, taking}
 use Rattle.cub_rules.specs.Ticks.{inserting}
 use Rattle.proof_lives.specs.Lives.{store_at, outs_at, deed_of}
 use Rattle.run_facts.specs.Events.{is_tick_input}
@@ -35,36 +34,22 @@ use Rattle.proof_lives.proofs.Waiting.{IsQueued, before_back}
 use Rattle.proof_lives.specs.HoldsHere.{IsFormed}
 use Rattle.proof_lives.proofs.Begun.{IsStop}
 use Rattle.proof_lives.proofs.HoldLaws.{no_both, input_free}
-use Rattle.proof_lives.proofs.Passing.{stop_taking}
 use Rattle.proof_lives.proofs.Persist.{IsReleased, unheld_released}
 use Rattle.proof_lives.proofs.Starts.{queued_released}
+use Rattle.cub_changes.proofs.Chains.{stopped}
+use Rattle.tiger_base.specs.declared.number.LinkNo.{LinkNo}
+use Rattle.node_kit.specs.Form.{is_in_form}
+use Rattle.tiger_base.specs.Notes.{noted}
 
 -- a deschedule leaves no line of its instance
-pub start_lines : (v : Instance) (h : Store) → (dropping_start v h).state.view.lines ≡ h.view.lines
-unfolding dropping_start
-start_lines v h = refl
-
-pub pieces_lines : (v : Instance) (h : Store) → (dropping_pieces v h).state.view.lines ≡ h.view.lines
-unfolding dropping_pieces
-pieces_lines v h = refl
-
-pub splits_lines : (p : Params) (c : ℕ) (v : Instance) (h : Store) → (killing_splits p c v h).state.view.lines ≡ h.view.lines
-unfolding killing_splits
-splits_lines p c v h = refl
-
-pub lines_dropped : (v : Instance) (h : Store) (y : Line) → In y (dropping_lines v h).state.view.lines → y.rec.tenancy.instance.0 ≡ v.0 → ⊥
-unfolding dropping_lines without_instance
-lines_dropped v h y i e = no_both (from_filter (λ x. not (lines.is_of v x)) y h.view.lines i).1 (ap not (eq-eqb y.rec.tenancy.instance.0 v.0 e))
-
-pub descheduling_leaves : (p : Params) (c : ℕ) (stamp : Stamp) (v : Instance) (tag : Option Tag) (h : Store) (y : Line) → In y (descheduling p c stamp v tag h).state.view.lines
+pub stop_leaves : (p : Params) (c : ℕ) (stamp : Stamp) (link : LinkNo) (v : Instance) (tag : Option Tag) (h : Store) (y : Line)
+    → is_in_form p (noted (msg.Deschedule v tag)) ≡ true → In y (taking p c stamp link (msg.Deschedule v tag) h).state.view.lines
     → y.rec.tenancy.instance.0 ≡ v.0 → ⊥
-unfolding descheduling
-descheduling_leaves p c stamp v tag h y i e =
-    let h2 : Store = (passing p c stamp v tag (holding p stamp v h).state).state in
-    let h3 : Store = (dropping_lines v h2).state in
-    let h4 : Store = (dropping_start v h3).state in
-    let same = splits_lines p c v (dropping_pieces v h4).state ∙ pieces_lines v h4 ∙ start_lines v h3 in
-    lines_dropped v h2 y (subst (λ ls. In y ls) same i) e
+unfolding without_instance
+stop_leaves p c stamp link v tag h y form i e =
+    let q : Store = (passing p c stamp v tag (holding p stamp v h).state).state in
+    let there = subst (λ (s : Store). In y s.view.lines) (stopped p c stamp link v tag h form) i in
+    no_both (from_filter (λ x. not (lines.is_of v x)) y q.view.lines there).1 (ap not (eq-eqb y.rec.tenancy.instance.0 v.0 e))
 
 -- of one cub's life
 module _ (p : Params) (c : ℕ) (plan : IsPlan p) (here : c < p.cubs) (count : ℕ) (inputs : ℕ → Input Msg) (formed : IsFormed p count inputs) where
@@ -109,8 +94,7 @@ module _ (p : Params) (c : ℕ) (plan : IsPlan p) (here : c < p.cubs) (count : �
       let s : IsStop p c inputs i y.rec.tenancy.instance.0 = subst (λ (n : ℕ). IsStop p c inputs n y.rec.tenancy.instance.0) e stop in
       let form = formed i s.stamp s.link (msg.Deschedule s.instance s.tag) low s.is in
       let there = subst (λ (q : Input Msg). In y (deed_of p c q h).state.view.lines) s.is k in
-      descheduling_leaves p c s.stamp s.instance s.tag h y
-      (subst (λ (d : Deed Msg Store). In y d.state.view.lines) (stop_taking p c s.stamp s.link s.instance s.tag h form) there) (sym s.same)
+      stop_leaves p c s.stamp s.link s.instance s.tag h y form there (sym s.same)
 
   pub standing : (i : ℕ) → i ≤ count → (y : Line) → In y (store_at p c inputs i).view.lines → Standing y i
   standing zero low y h = absurd h

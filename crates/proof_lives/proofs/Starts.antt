@@ -1,6 +1,6 @@
 -- No start of an instance that is held stands in a cub's lists, so none is put and no record of it enters by a Put.
-use Rattle.std.proofs.Common.{◌≡◌, ℕ, suc, ◌<◌, ◌≤◌, Bool, true, false, cond, not, refl, sym, ap, subst, ◌∙◌, arith, ⊎_elim, inl, inr, is_some}
-use Rattle.std.specs.Prelude.{◌⊎◌, ◌&&◌, ◌||◌}
+use Rattle.std.proofs.Common.{◌≡◌, ℕ, suc, ◌<◌, ◌≤◌, Bool, true, false, not, refl, sym, ap, subst, ◌∙◌, arith, ⊎_elim, inl, inr, is_some}
+use Rattle.std.specs.Prelude.{◌⊎◌, ◌||◌}
 use Rattle.std.proofs.lemmas.Bool.{cases_Bool, eq-eqb, or_left, or_right}
 use Rattle.tiger_base.specs.declared.number.Instance.{Instance}
 use Rattle.tiger_base.specs.declared.number.LinkNo.{LinkNo}
@@ -15,36 +15,28 @@ use Rattle.node_kit.specs.Steps.{Deed, Input}
 use Rattle.node_kit.specs.Steps.Input.{Take}
 use Rattle.insert_queue.specs.Queues.{Queues, is_of, without_start}
 use Rattle.deschedule.specs.Holds.{is_held}
-use Rattle.node_kit.specs.Deeds.{nothing}
 use Rattle.cub_rules.specs.declared.store.Store.{Store}
 use Rattle.cub_rules.specs.State.{is_ask}
-use Rattle.cub_rules.specs.Messages.{queueing, queueing_redundant, shows, meeting_start, descheduling, hearing, taking, is_discarded}
+use Rattle.cub_rules.specs.Messages.{shows, taking}
 use Rattle.proof_lives.specs.Lives.{store_at, deed_of}
-use Rattle.lists.proofs.Elements.{chosen, from_filter}
-use Rattle.proof_lives.proofs.Queuing.{descheduling_after}
+use Rattle.lists.proofs.Elements.{from_filter}
+use Rattle.proof_lives.proofs.Queuing.{stop_starts}
 use Rattle.proof_lives.proofs.Trails.{within_wider, held_or_came}
 use Rattle.proof_lives.proofs.Waiting.{IsQueued, queued_since}
 use Rattle.proof_lives.specs.HoldsHere.{IsFormed}
 use Rattle.proof_lives.proofs.Begun.{IsStop}
 use Rattle.proof_lives.proofs.Holds.{no_both}
-use Rattle.proof_lives.proofs.Passing.{stop_taking}
 use Rattle.proof_lives.proofs.Persist.{IsOver, IsReleased, unheld_released}
+use Rattle.cub_changes.proofs.Chains.{refuses_start}
 
 -- a start of an instance that is held is discarded
-pub start_refused : (a : Ask) (redundant : Bool) (h : Store) → is_held h.held a.instance ≡ true → (meeting_start a redundant h).state.starts ≡ h.starts
-unfolding meeting_start
-start_refused a redundant h held =
-    chosen (λ (d : Deed Msg Store). d.state.starts ≡ h.starts) (is_discarded a h) (nothing h)
-    (cond (redundant && not h.believes) (queueing_redundant a h) (queueing a h)) (λ _. refl)
-    (λ f.
-    absurd (no_both (or_right (is_some h.comeback) (not (is_ask a) || is_held h.held a.instance || shows h.view.lines a.instance)
-    (or_left (not (is_ask a) || is_held h.held a.instance) (shows h.view.lines a.instance) (or_right (not (is_ask a)) (is_held h.held a.instance) held))) f))
-
 pub start_taken : (p : Params) (c : ℕ) (stamp : Stamp) (link : LinkNo) (a : Ask) (redundant : Bool) (h : Store) → is_held h.held a.instance ≡ true
     → (taking p c stamp link (msg.Start redundant a) h).state.starts ≡ h.starts
-unfolding taking hearing
 start_taken p c stamp link a redundant h held =
-    chosen (λ (d : Deed Msg Store). d.state.starts ≡ h.starts) (is_in_form p (noted (msg.Start redundant a))) (meeting_start a redundant h) (nothing h) (λ _. start_refused a redundant h held) (λ _. refl)
+    ap (λ (d : Deed Msg Store). d.state.starts)
+    (refuses_start p c stamp link a redundant h
+    (or_right (is_some h.comeback) (not (is_ask a) || is_held h.held a.instance || shows h.view.lines a.instance)
+    (or_left (not (is_ask a) || is_held h.held a.instance) (shows h.view.lines a.instance) (or_right (not (is_ask a)) (is_held h.held a.instance) held))))
 
 -- a deschedule drops the starts of its instance
 pub without_none : (old : Queues) (v : Instance) (a : Ask) → a.instance.0 ≡ v.0 → IsQueued a (without_start old v) → ⊥
@@ -85,8 +77,7 @@ module _ (p : Params) (c : ℕ) (inputs : ℕ → Input Msg) where
   stop_drops j a s form q =
       let h : Store = store_at p c inputs j in
       let now : IsQueued a (taking p c s.stamp s.link (msg.Deschedule s.instance s.tag) h).state.starts = subst (λ (x : Input Msg). IsQueued a (deed_of p c x h).state.starts) s.is q in
-      let gone : IsQueued a (descheduling p c s.stamp s.instance s.tag h).state.starts = subst (λ (d : Deed Msg Store). IsQueued a d.state.starts) (stop_taking p c s.stamp s.link s.instance s.tag h form) now in
-      without_none h.starts s.instance a (sym s.same) (subst (λ (w : Queues). IsQueued a w) (descheduling_after p c s.stamp s.instance s.tag h).0 gone)
+      without_none h.starts s.instance a (sym s.same) (subst (λ (w : Queues). IsQueued a w) (stop_starts p c s.stamp s.link s.instance s.tag h form) now)
 
   -- what is in the lists behind a deschedule was let in when the hold was over
   pub queued_released : (count : ℕ) → IsFormed p count inputs → (i j : ℕ) (a : Ask) → j < i → i ≤ count → IsStop p c inputs j a.instance.0 → IsQueued a (store_at p c inputs i).starts

@@ -15,22 +15,23 @@ use Rattle.partial_view.specs.declared.line.Line.{Line}
 use Rattle.partial_view.specs.declared.line.Flag.TheVariants as flag
 use Rattle.partial_view.specs.Lines.{marked}
 use Rattle.state_forward.specs.Forwards.{must_forward}
-use Rattle.mirror_schedule.specs.Pieces as pieces
-use Rattle.node_kit.specs.Deeds.{nothing}
 use Rattle.cub_rules.specs.declared.store.Store.{Store}
 use Rattle.cub_rules.specs.Records.{with_piece_record}
-use Rattle.cub_rules.specs.Ticks.{releasing, believing, with_each, splitting, is_to_forward, forward_line, forwarding, reading, beating}
+use Rattle.cub_rules.specs.Ticks.{releasing, believing, with_each, splitting, is_to_forward, forward_line, forwarding, reading}
 use Rattle.cub_changes.specs.Changes.{Change, did}
 use Rattle.cub_changes.specs.Changes.Change.{PassOn, TakeRecord, Believe, PutStart, SendFirst, SendPlaced, SplitVisits, Forward, AskBlocks, AskPieces}
 use Rattle.cub_changes.specs.Causes.Stage.{OnDeadman, OnService}
 use Rattle.cub_changes.proofs.Closed.{IsClosed}
 use Rattle.cub_changes.proofs.Fits.{IsOfDeadman, fits}
 use Rattle.cub_changes.proofs.Outputs.{Puts, puts_closed, Tells, outs_of, tells_of}
-use Rattle.cub_changes.proofs.Ticks.{IsOfEnd, end_steps, believing_by, splitting_from, reading_from, end_from, beating_same}
+use Rattle.cub_changes.proofs.Ticks.{IsOfEnd, end_steps, believing_by, splitting_from, reading_from, end_from, forwarding_from}
 use Rattle.lists.specs.Elements.{In}
 use Rattle.lists.proofs.Elements.{chosen, from_map}
 use Rattle.proof_lives.proofs.Moves.{Moves, taken_out, IsQuiet, AreQuiet, MovesOn, moves_closed, moves_of, untaken}
-pub use Rattle.proof_lives.proofs.Moves.{IsDueAt, served_due, split_same, ask_same, forward_same, not_false}
+pub use Rattle.proof_lives.proofs.Moves.{IsDueAt, served_due, split_same, ask_same, forward_same}
+use Rattle.cub_changes.proofs.Chains.{release_is, forward_is}
+use Rattle.cub_changes.proofs.Messages.{with_piece_of}
+use Rattle.std.proofs.lemmas.Bool.{not-false}
 
 -- ---- silent changes, and steps of silent changes
 
@@ -89,46 +90,34 @@ module _ (p : Params) (c : ℕ) (stamp : Stamp) where
 
   -- what forwarding puts out
   pub forwarding_tells : (h : Store) (o : Out Msg) → In o (forwarding p c stamp h).outs → Tells p c stamp Forward h o
-  unfolding forwarding
-  forwarding_tells h o i = tells_of p c stamp Forward h o i
+  forwarding_tells h o i = tells_of p c stamp Forward h o (subst (λ (d : Deed Msg Store). In o d.outs) (forward_is p c stamp h) i)
 
   pub forwarding_untaken : (h : Store) (r : Rec) → In (taken_out r) (forwarding p c stamp h).outs → ⊥
   forwarding_untaken h r i = let e : Forward ≡ TakeRecord r = forwarding_tells h (taken_out r) i in absurd (cc)
 
 pub releasing_quiet : (p : Params) (stamp : Stamp) (h : Store) → AreQuiet (releasing p stamp h).outs
-unfolding releasing
-releasing_quiet p stamp h = tt
+releasing_quiet p stamp h = subst (λ (d : Deed Msg Store). AreQuiet d.outs) (sym (release_is p 0 stamp h)) tt
 
 -- ---- the lines
 
 pub releasing_lines : (p : Params) (stamp : Stamp) (h : Store) → (releasing p stamp h).state.view.lines ≡ h.view.lines
-unfolding releasing
-releasing_lines p stamp h = refl
-
-pub believing_lines : (p : Params) (c : ℕ) (stamp : Stamp) (h : Store) → (believing p c stamp h).state.view.lines ≡ h.view.lines
-unfolding believing
-believing_lines p c stamp h = chosen (λ (d : Deed Msg Store). d.state.view.lines ≡ h.view.lines) _ _ (nothing h) (λ _. refl) (λ _. refl)
-
-pub beating_lines : (p : Params) (c : ℕ) (stamp : Stamp) (h : Store) → (beating p c stamp h).state.view.lines ≡ h.view.lines
-beating_lines p c stamp h = ap (λ (s : Store). s.view.lines) (beating_same p c stamp h)
-
-same_with_piece : (x : PieceState) (h : Store) → (with_piece_record x h).view.lines ≡ h.view.lines
-unfolding with_piece_record
-same_with_piece x h = chosen (λ (s : Store). s.view.lines ≡ h.view.lines) (pieces.is_in x h.pieces.items) h _ (λ _. refl) (λ _. refl)
+releasing_lines p stamp h = ap (λ (d : Deed Msg Store). d.state.view.lines) (release_is p 0 stamp h)
 
 pub same_with_pieces : (xs : List PieceState) (h : Store) → (with_each with_piece_record xs h).view.lines ≡ h.view.lines
 same_with_pieces [] h = refl
-same_with_pieces (x ∷ xs) h = same_with_pieces xs (with_piece_record x h) ∙ same_with_piece x h
+same_with_pieces (x ∷ xs) h = same_with_pieces xs (with_piece_record x h)
+    ∙ with_piece_of (λ (s : Store). s.view.lines ≡ h.view.lines) x h (λ _. refl) (λ _. refl)
 
 module _ (p : Params) (c : ℕ) (May : Rec → Type 0) (stamp : Stamp) where
   pub splitting_moves : (h : Store) → Moves p c May h.view.lines (splitting p c stamp h)
   splitting_moves h =
       splitting_from (MovesOn p c May) (moves_closed p c May) p c stamp h (λ e. moves_of p c stamp May OnService h SplitVisits h (tt, e) (λ r m. absurd m))
-      (λ e x q. untaken p c May q.view.lines (record { outs = []; state = with_piece_record x q }) (same_with_piece x q) (λ r i. i))
+      (λ e x q. untaken p c May q.view.lines (record { outs = []; state = with_piece_record x q })
+      (with_piece_of (λ (s : Store). s.view.lines ≡ q.view.lines) x q (λ _. refl) (λ _. refl)) (λ r i. i))
 
   pub forwarding_moves : (h : Store) → Moves p c May h.view.lines (forwarding p c stamp h)
-  unfolding forwarding
-  forwarding_moves h = moves_of p c stamp May OnService h Forward h tt (λ r m. absurd m)
+  forwarding_moves h =
+      forwarding_from (MovesOn p c May) (moves_closed p c May) p c stamp h (moves_of p c stamp May OnService h Forward h tt (λ r m. absurd m))
 
   pub reading_moves : (h : Store) → Moves p c May h.view.lines (reading p stamp h)
   reading_moves h =
@@ -147,10 +136,9 @@ settled_line : (p : Params) (stamp : Stamp) (x : Line) → IsSettled p stamp (fo
 unfolding is_to_forward
 settled_line p stamp x =
     chosen (λ (y : Line). IsSettled p stamp y) (is_to_forward p stamp x) (marked flag.Forwarded x) x (λ _. inl refl)
-    (λ e. ⊎_elim (λ f. inl (not_false x.forwarded f)) (λ f. inr f) (and_false (not x.forwarded) (must_forward p stamp x.rec) e))
+    (λ e. ⊎_elim (λ f. inl (not-false x.forwarded f)) (λ f. inr f) (and_false (not x.forwarded) (must_forward p stamp x.rec) e))
 
 pub forwarding_settles : (p : Params) (c : ℕ) (stamp : Stamp) (h : Store) (y : Line) → In y (forwarding p c stamp h).state.view.lines → IsSettled p stamp y
-unfolding forwarding
 forwarding_settles p c stamp h y i =
-    let r = from_map (forward_line p stamp) y h.view.lines i in
+    let r = from_map (forward_line p stamp) y h.view.lines (subst (λ (d : Deed Msg Store). In y d.state.view.lines) (forward_is p c stamp h) i) in
     subst (λ (z : Line). IsSettled p stamp z) (sym r.2) (settled_line p stamp r.0)

@@ -13,12 +13,14 @@ use Rattle.node_kit.specs.declared.outbox.Out.{Out}
 use Rattle.node_kit.specs.declared.outbox.Out.TheVariants as out
 use Rattle.node_kit.specs.Ways.{way_ahead}
 use Rattle.cub_rules.specs.declared.store.Store.{Store}
-use Rattle.cub_rules.specs.Messages.{is_reached, passed_on, passing_on, taking}
+use Rattle.cub_rules.specs.Messages.{is_reached, passed_on, taking}
 use Rattle.cub_changes.specs.Changes.{Change}
 use Rattle.cub_changes.specs.Causes.{PassesOn, Cause}
 use Rattle.cub_changes.specs.Causes.Stage.{OnMessage}
 use Rattle.lists.specs.Elements.{In}
 use Rattle.proof_lives.proofs.Taking.{message_out}
+use Rattle.cub_changes.specs.Changes.{did}
+use Rattle.cub_changes.specs.Changes.Change.{PassOn}
 
 -- the tag of the visit behind a position
 abbrev pub tag_behind : Key → Tag
@@ -26,16 +28,14 @@ tag_behind k = record { slot = k.0; visit = k.1 + 1 }
 
 -- a pass sends both where the states may be on their way
 pub pass_sends : (p : Params) (c : ℕ) (stamp : Stamp) (v : Instance) (k : Key) (g : Store) → is_reached p stamp k.0 (k.1 + 1) ≡ true
-    → In (out.Send (way_ahead p c 1) (msg.Deschedule v (Some (tag_behind k)))) (passing_on p c stamp v k g).outs
-    × In (out.Send (way_ahead p c 2) (msg.Deschedule v (Some (tag_behind k)))) (passing_on p c stamp v k g).outs
-unfolding passing_on
+    → In (out.Send (way_ahead p c 1) (msg.Deschedule v (Some (tag_behind k)))) (did p c stamp (PassOn v k) g).outs
+    × In (out.Send (way_ahead p c 2) (msg.Deschedule v (Some (tag_behind k)))) (did p c stamp (PassOn v k) g).outs
 pass_sends p c stamp v k g e = rw e (inl refl, inr (inl refl))
 
 -- the first message that it sends goes to the next cub
 pub pass_first : (p : Params) (c : ℕ) (stamp : Stamp) (v : Instance) (k : Key) (g : Store) → is_reached p stamp k.0 (k.1 + 1) ≡ true
     → (rest : List (Out Msg))
-    × ((passing_on p c stamp v k g).outs ≡ out.Send (way_ahead p c 1) (msg.Deschedule v (Some (tag_behind k))) ∷ rest)
-unfolding passing_on
+    × ((did p c stamp (PassOn v k) g).outs ≡ out.Send (way_ahead p c 1) (msg.Deschedule v (Some (tag_behind k))) ∷ rest)
 pass_first p c stamp v k g e = rw e (drop 1 (passed_on p c v (tag_behind k)), refl)
 
 -- a deschedule goes out at a pass

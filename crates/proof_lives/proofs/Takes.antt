@@ -1,8 +1,8 @@
 -- Which records a cub takes at a message: those that a viewer state tells it.
-use Rattle.std.proofs.Common.{◌≡◌, ℕ, List, IfSome, ◌+◌, nat_lt, [], ◌∷◌, cond, Option, refl, sym, ap, subst, ◌∙◌, ⊎_elim, inl, inr}
+use Rattle.std.proofs.Common.{◌≡◌, ℕ, List, ◌+◌, nat_lt, [], ◌∷◌, cond, refl, sym, ap, subst, ◌∙◌, ⊎_elim, inl, inr, arith, Some}
 use Rattle.std.specs.Prelude.{◌==◌}
 use Rattle.std.specs.List.{AllByRecursion}
-use Rattle.std.proofs.lemmas.Bool.{eqb-true, cond_both}
+use Rattle.std.proofs.lemmas.Bool.{eqb-true, cond_both, ltb-true}
 use Rattle.tiger_base.specs.declared.number.LinkNo.{LinkNo}
 use Rattle.tiger_base.specs.declared.number.Stamp.{Stamp}
 use Rattle.tiger_base.specs.declared.tenancy.Kind.TheVariants.{Own, Backup}
@@ -17,7 +17,7 @@ use Rattle.node_kit.specs.declared.journal.What.TheVariants as what
 use Rattle.node_kit.specs.declared.outbox.Out.{Out}
 use Rattle.node_kit.specs.declared.outbox.Out.TheVariants as out
 use Rattle.cub_rules.specs.declared.store.Store.{Store}
-use Rattle.cub_rules.specs.Messages.{records_told, taking}
+use Rattle.cub_rules.specs.Messages.{records_told, taking, position_at}
 use Rattle.cub_changes.specs.Causes.{Stage, Cause, MayTake}
 use Rattle.lists.specs.Elements.{In}
 use Rattle.cub_changes.specs.Causes.Stage.{OnMessage}
@@ -26,9 +26,10 @@ use Rattle.cub_changes.specs.Outputs.{Output, output, ComesOf}
 use Rattle.cub_changes.specs.Outputs.Output.{Took}
 use Rattle.cub_changes.proofs.Closed.{OfEach}
 use Rattle.cub_changes.proofs.Messages.{taking_by}
-use Rattle.cub_changes.proofs.Positions.{StandsAt, stands_at}
+use Rattle.cub_changes.proofs.Positions.{stands}
 use Rattle.cub_changes.proofs.Outputs.{forms_of, Puts, puts_closed}
 use Rattle.run_model.specs.Parts.{IsAtOrBefore, IsForCub}
+use Rattle.proof_schedule.specs.Facts.{IsGiven}
 
 -- if an output takes a record, this holds of it
 abbrev pub OfTook : (Rec → Type 0) → Out Msg → Type 0
@@ -48,28 +49,31 @@ each_took p c stamp X g from gives x h cause = forms_of p c stamp (OfTook X) x h
 abbrev pub IsToldBy : Params → ℕ → State → Rec → Type 0
 IsToldBy p c s r = IsForCub p c r.kind r.visit × (s.tenancy ≡ r.tenancy) × IsAtOrBefore s.visit r.visit
 
-module _ (p : Params) (c : ℕ) (s : State) (r : Rec) where
-  same : (q : Rec) → r ≡ q → IsToldBy p c s q → IsToldBy p c s r
-  same q e told = subst (IsToldBy p c s) (sym e) told
-
-  -- a cub is told what is for it
-  told_at : (k : Key) → StandsAt p c s.tenancy.slot s.visit k → In r (records_told s k) → IsToldBy p c s r
-  told_at k at =
-      let own : ℕ → Rec = λ n. record { tenancy = s.tenancy; visit = n; kind = Own } in
-      let backup : Rec = record { tenancy = s.tenancy; visit = s.visit; kind = Backup } in
-      let more : List Rec = cond (nat_lt s.visit s.tenancy.last) (own (s.visit + 1) ∷ []) [] in
-      let told : List Rec → Type 0 = λ rs. In r rs → IsToldBy p c s r in
-      cond_both (k.1 == s.visit) (own s.visit ∷ []) (backup ∷ more) told
-      (λ e i.
-      let here : cub_of p s.visit ≡ c = ap (cub_of p) (sym (eqb-true _ _ e)) ∙ at.here in
-      ⊎_elim (λ q. same (own s.visit) q (here, refl, inl refl)) (λ q. absurd q) i)
-      (λ e i.
-      let next : cub_of p (s.visit + 1) ≡ c = ap (cub_of p) (sym (at.other e)) ∙ at.here in
-      ⊎_elim
-      (λ q. same backup q (next, refl, inl refl))
-      (cond_both (nat_lt s.visit s.tenancy.last) (own (s.visit + 1) ∷ []) [] told
-      (λ _ j. ⊎_elim (λ q. same (own (s.visit + 1)) q (next, refl, inr refl)) (λ q. absurd q) j) (λ _ j. absurd j))
-      i)
+-- from its position a cub is told what is for it, at a visit that the state gives
+pub told_at : (p : Params) (c : ℕ) (s : State) (r : Rec) (k : Key) → position_at p c s.tenancy.slot s.visit ≡ Some k → In r (records_told s k)
+    → IsToldBy p c s r × IsGiven p c s.tenancy s.visit r.visit
+told_at p c s r k is =
+    let at = stands p c s.tenancy.slot s.visit k is in
+    let own : ℕ → Rec = λ n. record { tenancy = s.tenancy; visit = n; kind = Own } in
+    let backup : Rec = record { tenancy = s.tenancy; visit = s.visit; kind = Backup } in
+    let more : List Rec = cond (nat_lt s.visit s.tenancy.last) (own (s.visit + 1) ∷ []) [] in
+    let Of : Rec → Type 0 = λ q. IsToldBy p c s q × IsGiven p c s.tenancy s.visit q.visit in
+    let told : List Rec → Type 0 = λ rs. In r rs → Of r in
+    let same : (q : Rec) → r ≡ q → Of q → Of r = λ q e o. subst Of (sym e) o in
+    cond_both (k.1 == s.visit) (own s.visit ∷ []) (backup ∷ more) told
+    (λ e i.
+    let here : cub_of p s.visit ≡ c = ap (cub_of p) (sym (eqb-true _ _ e)) ∙ at.here in
+    ⊎_elim (λ q. same (own s.visit) q ((here, refl, inl refl), inl (refl, inl (sym here)))) (λ q. absurd q) i)
+    (λ e i.
+    let next : cub_of p (s.visit + 1) ≡ c = ap (cub_of p) (sym (at.other e)) ∙ at.here in
+    ⊎_elim
+    (λ q. same backup q ((next, refl, inl refl), inl (refl, inr (sym next))))
+    (cond_both (nat_lt s.visit s.tenancy.last) (own (s.visit + 1) ∷ []) [] told
+    (λ l j.
+    let less = ltb-true _ _ l in
+    ⊎_elim (λ q. same (own (s.visit + 1)) q ((next, refl, inr refl), inr (refl, omega arith, sym next))) (λ q. absurd q) j)
+    (λ _ j. absurd j))
+    i)
 
 -- the message is a state that tells the record
 abbrev pub IsToldIn : Params → ℕ → Msg → Rec → Type 0
@@ -79,8 +83,7 @@ IsToldIn p c other r = ⊥
 of_message : (p : Params) (c : ℕ) (stamp : Stamp) (link : LinkNo) (m : Msg) (h : Store) (r : Rec)
     → MayTake p c stamp (OnMessage link m) h r → IsToldIn p c m r
 of_message p c stamp link (msg.ViewerState s) h r may =
-    told_at p c s r may.0
-    (subst (λ (o : Option Key). IfSome o (StandsAt p c s.tenancy.slot s.visit)) may.1.1 (stands_at p c s.tenancy.slot s.visit)) may.2
+    (told_at p c s r may.0 may.1.1 may.2).0
 of_message p c stamp link other h r may = absurd may
 
 pub taking_took : (p : Params) (c : ℕ) (stamp : Stamp) (link : LinkNo) (m : Msg) (h : Store)

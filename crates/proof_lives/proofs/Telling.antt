@@ -1,8 +1,7 @@
 -- What a viewer state tells a cub: the records that it takes, and that each of them finds its place taken or takes it.
-use Rattle.std.proofs.Common.{◌≡◌, ℕ, ◌+◌, ◌<◌, ◌==◌, nat_lt, List, [], ◌∷◌, ◌++◌, find, true, false, cond, is_some, Option, Some, None, refl, sym, ap, subst, ◌∙◌, arith, ⊎_elim, inl, inr}
+use Rattle.std.proofs.Common.{◌≡◌, ℕ, ◌+◌, ◌<◌, List, [], ◌∷◌, ◌++◌, find, true, false, is_some, Option, Some, refl, sym, ap, subst, ◌∙◌, arith, ⊎_elim, inl, inr}
 use Rattle.std.specs.Prelude.{◌⊎◌}
-use Rattle.std.proofs.lemmas.Bool.{cases_Bool, ltb-true, lt-ltb, eqb-true, eq-eqb, ne_eqb, and_parts}
-use Rattle.tiger_base.specs.declared.number.Instance.{Instance}
+use Rattle.std.proofs.lemmas.Bool.{cases_Bool, lt-ltb, eqb-true, eq-eqb, ne_eqb, and_parts}
 use Rattle.tiger_base.specs.declared.number.LinkNo.{LinkNo}
 use Rattle.tiger_base.specs.declared.number.Stamp.{Stamp}
 use Rattle.tiger_base.specs.declared.tenancy.Kind.TheVariants.{Own, Backup}
@@ -25,10 +24,10 @@ use Rattle.partial_view.specs.declared.line.Line.{Line}
 use Rattle.partial_view.specs.Lines.{visit_of, is_at}
 use Rattle.partial_view.specs.Views.{line_at}
 use Rattle.deschedule.specs.Holds.{is_held}
-use Rattle.node_kit.specs.Deeds.{nothing, each_in_turn}
+use Rattle.node_kit.specs.Deeds.{each_in_turn}
 use Rattle.cub_rules.specs.declared.store.Store.{Store}
 use Rattle.cub_rules.specs.Records.{took, dropping_start}
-use Rattle.cub_rules.specs.Messages.{position_at, records_told, place_told, told, meeting_state, hearing, taking}
+use Rattle.cub_rules.specs.Messages.{position_at, records_told, place_told, told, taking}
 use Rattle.proof_schedule.specs.Facts.{IsGiven}
 use Rattle.lists.specs.Elements.{In}
 use Rattle.lists.proofs.Elements.{chosen, in_left, in_right}
@@ -36,6 +35,9 @@ use Rattle.proof_lives.proofs.Moves.{taken_out, with_record_new, from_with_line,
 use Rattle.proof_lives.proofs.Taking.{message_took}
 use Rattle.cub_rules.specs.Comebacks.{lets_in, records_let_in, due_of_record}
 use Rattle.cub_changes.proofs.Messages.{of_let_in, in_let_in, took_of}
+use Rattle.cub_changes.proofs.Chains.{start_dropped, ignores, takes_state}
+use Rattle.proof_lives.proofs.Takes.{told_at}
+use Rattle.tiger_base.specs.declared.number.SlotNo.{SlotNo}
 
 -- a line is found only where it is
 pub found_in : (k : Key) (lines : List Line) → is_some (line_at k lines) ≡ true → (x : Line) × In x lines × IsAt k.0.0 k.1 x
@@ -95,42 +97,8 @@ pub record IsTold (p : Params) (c : ℕ) (s : State) (r : Rec) : Type 0 where
   pub tenancy : r.tenancy ≡ s.tenancy
   pub given : IsGiven p c s.tenancy s.visit r.visit
 
--- a cub stands at the state's visit or at the next one
-pub told_here : (p : Params) (c : ℕ) (s : State) (k : Key) (r : Rec) → k.1 ≡ s.visit → c ≡ cub_of p s.visit → In r (records_told s k) → IsTold p c s r
-told_here p c s k r e here =
-    chosen (λ (rs : List Rec). In r rs → IsTold p c s r) (k.1 == s.visit) (record { tenancy = s.tenancy; visit = s.visit; kind = Own } ∷ []) _
-    (λ _ i. ⊎_elim (λ q. record { tenancy = ap (λ (x : Rec). x.tenancy) q; given = inl (ap (λ (x : Rec). x.visit) q, inl here) }) (λ q. absurd q) i)
-    (λ f i. let z : true ≡ false = sym (eq-eqb k.1 s.visit e) ∙ f in absurd (cc))
-
-pub told_next : (p : Params) (c : ℕ) (s : State) (k : Key) (r : Rec) → k.1 ≡ s.visit + 1 → c ≡ cub_of p (s.visit + 1) → In r (records_told s k) → IsTold p c s r
-told_next p c s k r e next =
-    chosen (λ (rs : List Rec). In r rs → IsTold p c s r) (k.1 == s.visit) (record { tenancy = s.tenancy; visit = s.visit; kind = Own } ∷ []) _
-    (λ t i. let z : k.1 ≡ s.visit = eqb-true _ _ t in absurd (omega arith))
-    (λ _ i. ⊎_elim
-    (λ q. record { tenancy = ap (λ (x : Rec). x.tenancy) q; given = inl (ap (λ (x : Rec). x.visit) q, inr next) })
-    (λ i. chosen (λ (rs : List Rec). In r rs → IsTold p c s r) (nat_lt s.visit s.tenancy.last) (record { tenancy = s.tenancy; visit = s.visit + 1; kind = Own } ∷ []) []
-    (λ t i. ⊎_elim
-    (λ q.
-    let n : r.visit ≡ s.visit + 1 = ap (λ (x : Rec). x.visit) q in
-    let more = ltb-true _ _ t in
-    record { tenancy = ap (λ (x : Rec). x.tenancy) q; given = inr (n, omega arith, next ∙ ap (λ v. cub_of p v) (sym n)) })
-    (λ q. absurd q) i)
-    (λ t i. absurd i)
-    i)
-    i)
-
 pub position_told : (p : Params) (c : ℕ) (s : State) (k : Key) (r : Rec) → position_at p c s.tenancy.slot s.visit ≡ Some k → In r (records_told s k) → IsTold p c s r
-unfolding position_at
-position_told p c s k r =
-    let rest : Option Key = cond (cub_of p (s.visit + 1) == c) (Some (s.tenancy.slot, s.visit + 1)) None in
-    chosen (λ (o : Option Key). o ≡ Some k → In r (records_told s k) → IsTold p c s r) (cub_of p s.visit == c) (Some (s.tenancy.slot, s.visit)) rest
-    (λ t e i. let q : (s.tenancy.slot, s.visit) ≡ k = some_is (s.tenancy.slot, s.visit) k e in told_here p c s k r (sym (ap (λ (x : Key). x.1) q)) (sym (eqb-true _ _ t)) i)
-    (λ _. chosen (λ (o : Option Key). o ≡ Some k → In r (records_told s k) → IsTold p c s r) (cub_of p (s.visit + 1) == c) (Some (s.tenancy.slot, s.visit + 1)) None
-    (λ t e i. let q : (s.tenancy.slot, s.visit + 1) ≡ k = some_is (s.tenancy.slot, s.visit + 1) k e in told_next p c s k r (sym (ap (λ (x : Key). x.1) q)) (sym (eqb-true _ _ t)) i)
-    (λ _ e i. absurd (cc)))
-  where
-    some_is : (a b : Key) → Some a ≡ Some b → a ≡ b
-    some_is a b e = cc
+position_told p c s k r at i = let w = told_at p c s r k at i in record { tenancy = sym w.0.1; given = w.1 }
 
 -- what is taken at a viewer state is what it tells
 pub taking_told : (p : Params) (c : ℕ) (stamp : Stamp) (link : LinkNo) (s : State) (r : Rec) (h : Store) → In (taken_out r) (taking p c stamp link (msg.ViewerState s) h).outs → IsTold p c s r
@@ -142,13 +110,7 @@ taking_told p c stamp link s r h i =
 pub takes_told : (p : Params) (c : ℕ) (stamp : Stamp) (link : LinkNo) (s : State) (k : Key) (h : Store) → is_in_form p (noted (msg.ViewerState s)) ≡ true
     → is_visit_of s.tenancy s.visit ≡ true → position_at p c s.tenancy.slot s.visit ≡ Some k → is_held h.held s.tenancy.instance ≡ false
     → taking p c stamp link (msg.ViewerState s) h ≡ told p c s k h
-unfolding taking hearing meeting_state
-takes_told p c stamp link s k h form visit position free = rw (form, visit, position, free) refl
-
-pub out_of_form : (p : Params) (c : ℕ) (stamp : Stamp) (link : LinkNo) (s : State) (h : Store) → is_in_form p (noted (msg.ViewerState s)) ≡ false
-    → taking p c stamp link (msg.ViewerState s) h ≡ nothing h
-unfolding taking
-out_of_form p c stamp link s h e = rw e refl
+takes_told p c stamp link s k h form visit position free = takes_state p c stamp link s k h form visit position ∙ rw free refl
 
 -- a state of which a record is taken is told from the cub's position
 pub took_told : (p : Params) (c : ℕ) (stamp : Stamp) (link : LinkNo) (s : State) (r : Rec) (h : Store) → In (taken_out r) (taking p c stamp link (msg.ViewerState s) h).outs
@@ -157,7 +119,7 @@ took_told p c stamp link s r h i =
     let may = message_took p c stamp link (msg.ViewerState s) h r i in
     ⊎_elim
     (λ (e : is_in_form p (noted (msg.ViewerState s)) ≡ true). (may.0, takes_told p c stamp link s may.0 h e may.1.0 may.1.1 may.3))
-    (λ (e : is_in_form p (noted (msg.ViewerState s)) ≡ false). absurd (subst (λ (d : Deed Msg Store). In (taken_out r) d.outs) (out_of_form p c stamp link s h e) i))
+    (λ (e : is_in_form p (noted (msg.ViewerState s)) ≡ false). absurd (subst (λ (d : Deed Msg Store). In (taken_out r) d.outs) (ignores p c stamp link (msg.ViewerState s) h e) i))
     (cases_Bool (is_in_form p (noted (msg.ViewerState s))))
 
 -- where it stands, and the record of a visit that it is given
@@ -169,13 +131,13 @@ pub record Position (p : Params) (c : ℕ) (s : State) (n : ℕ) : Type 0 where
   tenancy : rec.tenancy ≡ s.tenancy
   visit : rec.visit ≡ n
 
-pub position_here : (p : Params) (c : ℕ) (s : State) → c ≡ cub_of p s.visit → position_at p c s.tenancy.slot s.visit ≡ Some (s.tenancy.slot, s.visit)
+pub position_here : (p : Params) (c : ℕ) (s : SlotNo) (m : ℕ) → c ≡ cub_of p m → position_at p c s m ≡ Some (s, m)
 unfolding position_at
-position_here p c s here = rw (eq-eqb _ _ (sym here)) refl
+position_here p c s m here = rw (eq-eqb _ _ (sym here)) refl
 
-pub position_next : (p : Params) (c : ℕ) (s : State) → (cub_of p s.visit ≡ c → ⊥) → c ≡ cub_of p (s.visit + 1) → position_at p c s.tenancy.slot s.visit ≡ Some (s.tenancy.slot, s.visit + 1)
+pub position_next : (p : Params) (c : ℕ) (s : SlotNo) (m : ℕ) → (cub_of p m ≡ c → ⊥) → c ≡ cub_of p (m + 1) → position_at p c s m ≡ Some (s, m + 1)
 unfolding position_at
-position_next p c s other next = rw (ne_eqb _ _ other, eq-eqb _ _ (sym next)) refl
+position_next p c s m other next = rw (ne_eqb _ _ other, eq-eqb _ _ (sym next)) refl
 
 pub told_own : (s : State) → In (record { tenancy = s.tenancy; visit = s.visit; kind = Own }) (records_told s (s.tenancy.slot, s.visit))
 told_own s = rw (eq-eqb s.visit s.visit refl) (inl refl)
@@ -192,23 +154,19 @@ position_of p c s n plan given =
     let apart : c ≡ cub_of p (s.visit + 1) → cub_of p s.visit ≡ c → ⊥ = λ e f. cub_apart p s.visit 1 (omega arith) (omega arith) (f ∙ e) in
     ⊎_elim
     (λ e. ⊎_elim
-    (λ here. record { key = (s.tenancy.slot, s.visit); at = position_here p c s here; rec = record { tenancy = s.tenancy; visit = s.visit; kind = Own }; told = told_own s; tenancy = refl; visit = sym e.0 })
-    (λ next. record { key = (s.tenancy.slot, s.visit + 1); at = position_next p c s (apart next) next; rec = record { tenancy = s.tenancy; visit = s.visit; kind = Backup }; told = told_backup s; tenancy = refl; visit = sym e.0 })
+    (λ here. record { key = (s.tenancy.slot, s.visit); at = position_here p c s.tenancy.slot s.visit here; rec = record { tenancy = s.tenancy; visit = s.visit; kind = Own }; told = told_own s; tenancy = refl; visit = sym e.0 })
+    (λ next. record { key = (s.tenancy.slot, s.visit + 1); at = position_next p c s.tenancy.slot s.visit (apart next) next; rec = record { tenancy = s.tenancy; visit = s.visit; kind = Backup }; told = told_backup s; tenancy = refl; visit = sym e.0 })
     e.1)
     (λ e.
     let e0 = e.0 in
     let e1 = e.1 in
     let next : c ≡ cub_of p (s.visit + 1) = e.2 ∙ ap (λ v. cub_of p v) e.0 in
-    record { key = (s.tenancy.slot, s.visit + 1); at = position_next p c s (apart next) next; rec = record { tenancy = s.tenancy; visit = s.visit + 1; kind = Own }; told = told_second s (omega arith); tenancy = refl; visit = sym e.0 })
+    record { key = (s.tenancy.slot, s.visit + 1); at = position_next p c s.tenancy.slot s.visit (apart next) next; rec = record { tenancy = s.tenancy; visit = s.visit + 1; kind = Own }; told = told_second s (omega arith); tenancy = refl; visit = sym e.0 })
     given
 
 -- each record that a state gives finds its place taken, or its tenancy takes it
 pub record FindsIts (s : State) (n : ℕ) (lines : List Line) (outs : List (Out Msg)) : Type 0 where
   pub how : ((x : Line) × In x lines × IsAt s.tenancy.slot.0 n x) ⊎ ((q : Rec) × In (taken_out q) outs × (q.tenancy ≡ s.tenancy) × (q.visit ≡ n))
-
-pub same_start : (v : Instance) (h : Store) → (dropping_start v h).state.view.lines ≡ h.view.lines
-unfolding dropping_start
-same_start v h = refl
 
 pub told_places : (p : Params) (c : ℕ) (s : State) (n : ℕ) (o : Position p c s n) (h : Store)
     → lets_in h.comeback (due p s.tenancy.slot.0 n) ≡ true → FindsIts s n h.view.lines (told p c s o.key h).outs
@@ -223,7 +181,7 @@ told_places p c s n o h lets =
     let last : List (Out Msg) = place_told p c s o.key h in
     record {
       how = ⊎_elim
-          (λ w. inl (w.0, subst (λ (ls : List Line). In w.0 ls) (same_start s.tenancy.instance h) w.1, (w.2.0 ∙ ap (λ (t : Tenancy). t.slot.0) o.tenancy, w.2.1 ∙ o.visit)))
+          (λ w. inl (w.0, subst (λ (ls : List Line). In w.0 ls) (ap (λ (d : Deed Msg Store). d.state.view.lines) (start_dropped s.tenancy.instance h)) w.1, (w.2.0 ∙ ap (λ (t : Tenancy). t.slot.0) o.tenancy, w.2.1 ∙ o.visit)))
           (λ w. inr (w.0, in_right (taken_out w.0) before (after ++ last) (in_left (taken_out w.0) after last w.2), (position_told p c s o.key w.0 o.at (of_let_in p h.comeback w.0 (records_told s o.key) w.1).0).tenancy, w.4 ∙ o.visit))
           (each_place rs o.rec g (in_let_in p h.comeback o.rec (records_told s o.key) o.told may));
     }

@@ -1,7 +1,7 @@
 -- What a whole tick makes of a view's lines, and what it puts out of records, Puts and states.
 use Rattle.std.proofs.Common.{◌≡◌, ℕ, ◌<◌, ◌≤◌, List, Bool, true, false, not, refl, sym, ap, subst, ◌∙◌, ⊎_elim, inl, inr}
 use Rattle.std.specs.Prelude.{◌⊎◌, ◌+◌}
-use Rattle.std.proofs.lemmas.Bool.{and_parts}
+use Rattle.std.proofs.lemmas.Bool.{and_parts, not-true}
 use Rattle.tiger_base.specs.declared.number.Instance.{Instance}
 use Rattle.tiger_base.specs.declared.number.Stamp.{Stamp}
 use Rattle.tiger_base.specs.declared.number.LinkNo.{LinkNo}
@@ -32,11 +32,13 @@ use Rattle.cub_changes.proofs.Outputs.{IsNextWay}
 use Rattle.cub_changes.proofs.Puts.{inserting_by}
 use Rattle.cub_changes.proofs.Ticks.{IsOfTick, end_steps, before_splitting, service_by, end_by, ticking_by, tick_chain}
 use Rattle.lists.specs.Elements.{In}
-use Rattle.lists.proofs.Elements.{in_left, in_right, in_cases}
+use Rattle.lists.proofs.Elements.{in_cases}
 use Rattle.lists.proofs.Each.{all_in}
 use Rattle.proof_lives.proofs.Moves.{Never, Moves, Stays, taken_out, IsQuiet, AreQuiet, quiet_took, untaken, IsDueAt, MayGo, MovesOn, moves_closed, moves_in}
-use Rattle.proof_lives.proofs.Steps.{IsSettled, releasing_quiet, releasing_lines, believing_quiet, believing_lines, splitting_quiet, splitting_moves, forwarding_tells, forwarding_settles, end_quiet}
+use Rattle.proof_lives.proofs.Steps.{IsSettled, releasing_quiet, releasing_lines, believing_quiet, splitting_quiet, splitting_moves, forwarding_tells, forwarding_settles, end_quiet}
 pub use Rattle.cub_changes.proofs.Ticks.{before_inserting, before_forwarding}
+use Rattle.cub_changes.proofs.Chains.{tick_late, deadman_of}
+pub use Rattle.cub_changes.proofs.Chains.{inserted_out}
 
 -- the steps before forwarding
 abbrev pub early : Params → ℕ → Stamp → Store → Deed Msg Store
@@ -53,7 +55,7 @@ module _ (P : Store → Deed Msg Store → Type 0) (closed : IsClosed P) (p : Pa
       (then_by P closed (inserting p c stamp) (splitting p c stamp) (before_inserting p c stamp h) three four))
 
 pub same_before : (p : Params) (c : ℕ) (stamp : Stamp) (h : Store) → (before_inserting p c stamp h).view.lines ≡ h.view.lines
-same_before p c stamp h = believing_lines p c stamp (releasing p stamp h).state ∙ releasing_lines p stamp h
+same_before p c stamp h = deadman_of p c stamp (λ (d : Deed Msg Store). d.state.view.lines ≡ h.view.lines) h (λ _. refl) (λ _. refl)
 
 -- ---- the lines
 
@@ -84,7 +86,7 @@ early_moves p c stamp h =
     let h1 : Store = (releasing p stamp h).state in
     early_chain (MovesOn p c Never) (moves_closed p c Never) p c stamp h
     (untaken p c Never h.view.lines (releasing p stamp h) (releasing_lines p stamp h) (λ r i. quiet_took r _ (releasing_quiet p stamp h) i))
-    (untaken p c Never h1.view.lines (believing p c stamp h1) (believing_lines p c stamp h1) (λ r i. quiet_took r _ (believing_quiet p c stamp h1) i))
+    (untaken p c Never h1.view.lines (believing p c stamp h1) (same_before p c stamp h ∙ sym (releasing_lines p stamp h)) (λ r i. quiet_took r _ (believing_quiet p c stamp h1) i))
     (inserting_moves p c Never stamp (before_inserting p c stamp h)) (splitting_moves p c Never stamp (before_splitting p c stamp h))
 
 pub ticking_moves : (p : Params) (c : ℕ) (stamp : Stamp) (h : Store) → Moves p c (IsDueAt p stamp.reading) h.view.lines (ticking p c stamp h)
@@ -95,10 +97,10 @@ ticking_moves p c stamp h =
 -- what stands after insertion and is not due stands after the tick
 pub after_insertion_stays : (p : Params) (c : ℕ) (stamp : Stamp) (h : Store) (x : Line) → In x (before_splitting p c stamp h).view.lines
     → Stays x.rec (ticking p c stamp h).state.view.lines ⊎ IsDueAt p stamp.reading x.rec
-unfolding ticking
 after_insertion_stays p c stamp h x i =
     let May : Rec → Type 0 = IsDueAt p stamp.reading in
-    (service_by (MovesOn p c May) (moves_closed p c May) p c stamp (before_splitting p c stamp h) (λ from. moves_in p c stamp May OnService from (tick_goes p stamp OnService tt))).forth x i
+    subst (λ (s : Store). Stays x.rec s.view.lines ⊎ May x.rec) (sym (tick_late p c stamp h))
+    ((service_by (MovesOn p c May) (moves_closed p c May) p c stamp (before_splitting p c stamp h) (λ from. moves_in p c stamp May OnService from (tick_goes p stamp OnService tt))).forth x i)
 
 -- ---- the outputs
 
@@ -125,17 +127,8 @@ loud p c stamp h o not_quiet =
     (then_by P closed (splitting p c stamp) (then_do (forwarding p c stamp) (end_steps p c stamp)) h3 (no_quiet o not_quiet _ (splitting_quiet p c stamp h3))
     (then_by P closed (forwarding p c stamp) (end_steps p c stamp) h4 (λ i. inr i) (no_quiet o not_quiet _ (end_quiet p c stamp (forwarding p c stamp h4).state))))
 
--- what insertion puts out the tick puts out
-pub inserted_out : (p : Params) (c : ℕ) (stamp : Stamp) (h : Store) (o : Out Msg) → In o (inserting p c stamp (before_inserting p c stamp h)).outs → In o (ticking p c stamp h).outs
-unfolding ticking
-inserted_out p c stamp h o i =
-    let h1 : Store = (releasing p stamp h).state in
-    let h2 : Store = before_inserting p c stamp h in
-    in_right o (releasing p stamp h).outs _ (in_right o (believing p c stamp h1).outs _ (in_left o (inserting p c stamp h2).outs _ i))
-
 -- after a tick whoever must be forwarded is marked
 pub ticking_settles : (p : Params) (c : ℕ) (stamp : Stamp) (h : Store) (y : Line) → In y (ticking p c stamp h).state.view.lines → IsSettled p stamp y
-unfolding ticking
 ticking_settles p c stamp h y i =
     let May : Rec → Type 0 = IsDueAt p stamp.reading in
     let h4 : Store = before_forwarding p c stamp h in
@@ -148,7 +141,7 @@ ticking_settles p c stamp h y i =
     (λ k. inl k.0)
     w.mark)
     (λ w. absurd (quiet_took y.rec _ (end_quiet p c stamp h5) w.taken))
-    (m.back y i)
+    (m.back y (subst (λ (s : Store). In y s.view.lines) (tick_late p c stamp h) i))
 
 -- what the early steps put out of these the tick puts out
 early_out : (p : Params) (c : ℕ) (stamp : Stamp) (h : Store) (o : Out Msg) → (IsQuiet o → ⊥) → In o (early p c stamp h).outs → In o (ticking p c stamp h).outs
@@ -158,13 +151,9 @@ early_out p c stamp h o not_quiet =
     (no_quiet o not_quiet _ (believing_quiet p c stamp (releasing p stamp h).state)) (inserted_out p c stamp h o)
     (no_quiet o not_quiet _ (splitting_quiet p c stamp (before_splitting p c stamp h)))
 
-pub not_true : (b : Bool) → not b ≡ true → b ≡ false
-not_true true e = absurd (cc)
-not_true false e = refl
-
 ready_unmarked : (p : Params) (stamp : Stamp) (x : Line) → is_to_forward p stamp x ≡ true → (x.forwarded ≡ false) × (must_forward p stamp x.rec ≡ true)
 unfolding is_to_forward
-ready_unmarked p stamp x e = let both = and_parts (not x.forwarded) (must_forward p stamp x.rec) e in (not_true x.forwarded both.0, both.1)
+ready_unmarked p stamp x e = let both = and_parts (not x.forwarded) (must_forward p stamp x.rec) e in (not-true x.forwarded both.0, both.1)
 
 -- what a tick forwards
 pub record Forwarded (p : Params) (c : ℕ) (stamp : Stamp) (h : Store) (s : State) : Type 0 where

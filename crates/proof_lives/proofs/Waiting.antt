@@ -10,14 +10,14 @@ use Rattle.tiger_base.specs.declared.tenancy.Tenancy.{Tenancy}
 use Rattle.tiger_base.specs.declared.message.Msg.{Msg}
 use Rattle.tiger_base.specs.declared.message.Msg.TheVariants as msg
 use Rattle.slot_plan.specs.declared.params.Params.{Params}
-use Rattle.node_kit.specs.Steps.{Input}
+use Rattle.node_kit.specs.Steps.{Input, Deed}
 use Rattle.node_kit.specs.Steps.Input.{Take, Tick}
 use Rattle.partial_view.specs.declared.line.Line.{Line}
 use Rattle.partial_view.specs.Lines as lines
 use Rattle.partial_view.specs.Views.{first_of}
-use Rattle.insert_queue.specs.Queues.{Queues, after_take_over, IsOnce}
+use Rattle.insert_queue.specs.Queues.{Queues, IsOnce}
 use Rattle.cub_rules.specs.declared.store.Store.{Store}
-use Rattle.cub_rules.specs.Ticks.{releasing, inserting, ticking}
+use Rattle.cub_rules.specs.Ticks.{inserting, ticking}
 use Rattle.proof_lives.specs.Lives.{deed_of, store_at}
 use Rattle.lists.specs.Elements.{In}
 use Rattle.lists.proofs.Elements.{chosen, in_left, in_cases}
@@ -29,37 +29,28 @@ use Rattle.cub_changes.proofs.Listing.{keep_starts}
 use Rattle.cub_changes.proofs.Messages.{taking_by}
 use Rattle.cub_changes.proofs.Ticks.{ticking_by}
 pub use Rattle.proof_lives.proofs.Queuing.{AreOnce}
-use Rattle.proof_lives.proofs.Queuing.{StaysOnce, once_closed, once_each, releasing_steady, believing_after, ticking_starts}
+use Rattle.proof_lives.proofs.Queuing.{StaysOnce, once_closed, once_each, ticking_starts}
 use Rattle.proof_lives.proofs.Seating.{Seats, inserting_seats}
+use Rattle.cub_changes.proofs.Chains.{deadman_of}
 
 -- a start stands in one of the lists
 abbrev pub IsQueued : Ask → Queues → Type 0
 IsQueued a q = In a q.waiting ⊎ In a q.redundant
 
--- the tick: at insertion the starts are as before, or all of them wait
-pub before_starts : (p : Params) (c : ℕ) (stamp : Stamp) (h : Store) → ((before_inserting p c stamp h).starts ≡ h.starts) ⊎ ((before_inserting p c stamp h).starts ≡ after_take_over h.starts)
-before_starts p c stamp h =
-    let g : Store = (releasing p stamp h).state in
-    let same = (releasing_steady p stamp h).0 in
-    ⊎_elim (λ e. inl (e ∙ same)) (λ e. inr (e ∙ ap after_take_over same)) (believing_after p c stamp g)
-
 pub before_once : (p : Params) (c : ℕ) (stamp : Stamp) (h : Store) → AreOnce h.starts → AreOnce (before_inserting p c stamp h).starts
-before_once p c stamp h o = ⊎_elim
-    (λ e. subst AreOnce (sym e) o)
-    (λ e. subst AreOnce (sym e) (subst IsOnce (sym (append-nil (h.starts.waiting ++ h.starts.redundant))) o))
-    (before_starts p c stamp h)
+before_once p c stamp h o =
+    deadman_of p c stamp (λ (d : Deed Msg Store). AreOnce d.state.starts) h
+    (λ _. subst IsOnce (sym (append-nil (h.starts.waiting ++ h.starts.redundant))) o) (λ _. o)
 
 pub before_back : (p : Params) (c : ℕ) (stamp : Stamp) (h : Store) (a : Ask) → IsQueued a (before_inserting p c stamp h).starts → IsQueued a h.starts
-before_back p c stamp h a k = ⊎_elim
-    (λ e. subst (λ (q : Queues). IsQueued a q) e k)
-    (λ e. ⊎_elim (λ w. in_cases a h.starts.waiting h.starts.redundant w) (λ w. absurd w) (subst (λ (q : Queues). IsQueued a q) e k))
-    (before_starts p c stamp h)
+before_back p c stamp h a =
+    deadman_of p c stamp (λ (d : Deed Msg Store). IsQueued a d.state.starts → IsQueued a h.starts) h
+    (λ _ k. ⊎_elim (λ w. in_cases a h.starts.waiting h.starts.redundant w) (λ w. absurd w) k) (λ _ k. k)
 
 pub before_forth : (p : Params) (c : ℕ) (stamp : Stamp) (h : Store) (a : Ask) → In a h.starts.waiting → In a (before_inserting p c stamp h).starts.waiting
-before_forth p c stamp h a k = ⊎_elim
-    (λ e. subst (λ (q : Queues). In a q.waiting) (sym e) k)
-    (λ e. subst (λ (q : Queues). In a q.waiting) (sym e) (in_left a h.starts.waiting h.starts.redundant k))
-    (before_starts p c stamp h)
+before_forth p c stamp h a k =
+    deadman_of p c stamp (λ (d : Deed Msg Store). In a d.state.starts.waiting) h
+    (λ _. in_left a h.starts.waiting h.starts.redundant k) (λ _. k)
 
 pub tick_seats : (p : Params) (c : ℕ) (stamp : Stamp) (h : Store) → AreOnce h.starts
     → Seats (before_inserting p c stamp h) (inserting p c stamp (before_inserting p c stamp h))

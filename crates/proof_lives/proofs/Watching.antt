@@ -1,5 +1,5 @@
 -- The watch along a cub's life: it shows the last heartbeat heard, and who is believed dead was silent.
-use Rattle.std.proofs.Common.{◌≡◌, ℕ, zero, suc, ◌+◌, ◌<◌, ◌≤◌, ◌%◌, cond, Bool, true, false, refl, sym, ap, subst, ◌∙◌, arith, ⊎_elim, inl, inr, eq-or-lt_of_le, None}
+use Rattle.std.proofs.Common.{◌≡◌, ℕ, zero, suc, ◌+◌, ◌<◌, ◌≤◌, ◌%◌, cond, Bool, true, false, refl, sym, ap, subst, ◌∙◌, arith, ⊎_elim, inl, inr, eq-or-lt_of_le}
 use Rattle.std.specs.Prelude.{◌⊎◌, ◌==◌}
 use Rattle.std.proofs.lemmas.Bool.{cases_Bool, ltb-true, eq-eqb}
 use Rattle.tiger_base.specs.declared.number.LinkNo.{LinkNo}
@@ -8,29 +8,27 @@ use Rattle.tiger_base.specs.declared.message.Msg.{Msg}
 use Rattle.tiger_base.specs.declared.message.Msg.TheVariants as msg
 use Rattle.slot_plan.specs.declared.params.Params.{Params}
 use Rattle.slot_plan.specs.Times.{time_of}
-use Rattle.node_kit.specs.declared.outbox.Out.{Out}
 use Rattle.node_kit.specs.declared.outbox.Out.TheVariants as out
 use Rattle.node_kit.specs.Steps.{Deed, Input, stamp_of}
 use Rattle.node_kit.specs.Steps.Input.{Take, Tick}
 use Rattle.deadman.specs.Silence.{Silence, is_silent}
 use Rattle.node_kit.specs.Ways.{way_ahead, predecessor}
 use Rattle.cub_rules.specs.declared.store.Store.{Store}
-use Rattle.cub_rules.specs.Ticks.{releasing, believing, inserting, splitting, forwarding, reading, serving, beating, ticking}
+use Rattle.cub_rules.specs.Ticks.{reading}
 use Rattle.proof_lives.specs.Lives.{Lives, IsLife, AreLives, heard_first, deed_of, store_at, beat_at, reading_at}
 use Rattle.run_facts.specs.Events.{is_tick_input}
-use Rattle.lists.specs.Elements.{In}
 use Rattle.proof_lives.specs.Facts.{TickAt, TickedAt, DidAt, HeardAt}
-use Rattle.lists.proofs.Elements.{in_right}
 use Rattle.proof_lives.proofs.Cuts.{goes_whole}
-use Rattle.proof_lives.proofs.Queuing.{taking_watch, takes_beat, beat_heard, ticking_watch}
+use Rattle.proof_lives.proofs.Queuing.{taking_watch, ticking_watch}
 use Rattle.proof_lives.proofs.Order.{not_behind}
 use Rattle.proof_lives.proofs.States.{from_tick, tick_true}
-use Rattle.cub_changes.proofs.Coming.{releasing_same, believing_same, inserting_same, splitting_same, forwarding_same, reading_same, serving_same}
 use Rattle.proof_lives.proofs.FirstLife.{some_beat}
 use Rattle.proof_lives.proofs.Fitting.{Fits}
 use Rattle.proof_lives.proofs.SameLife.{back_in_life, not_back}
 use Rattle.proof_lives.specs.FactsBy.{Beyond, facts_by}
 use Rattle.proof_schedule.specs.Facts.{IsFirstLife}
+use Rattle.cub_changes.proofs.Coming.{beat_out}
+use Rattle.cub_changes.proofs.Chains.{hears_beat}
 
 -- the watch after an input
 pub watch_after : (p : Params) (c : ℕ) (i : Input Msg) (h : Store) → ((deed_of p c i h).state.watch ≡ h.watch) ⊎ ((deed_of p c i h).state.watch ≡ record h.watch { heard = (stamp_of i).reading })
@@ -54,7 +52,7 @@ pub heard_now : (p : Params) (c : ℕ) (inputs : ℕ → Input Msg) (j : ℕ) �
 heard_now p c inputs j b =
     let h : Store = store_at p c inputs j in
     let e : (deed_of p c (inputs j) h).state.watch ≡ record h.watch { heard = b.stamp.reading } =
-    ap (λ (i : Input Msg). (deed_of p c i h).state.watch) b.is ∙ ap (λ (d : Deed Msg Store). d.state.watch) (takes_beat p c b.stamp b.link h) ∙ beat_heard p c b.stamp b.link h b.from in
+    ap (λ (i : Input Msg). (deed_of p c i h).state.watch) b.is ∙ ap (λ (d : Deed Msg Store). d.state.watch) (hears_beat p c b.stamp b.link h b.from) in
     ap (λ (w : Silence). w.heard) e ∙ sym (ap (λ (i : Input Msg). (stamp_of i).reading) b.is)
 
 -- what was heard before is not later than what the watch shows
@@ -70,28 +68,6 @@ heard_by p c count inputs life (suc i) j low h b = ⊎_elim
     (λ e. let q = ap (λ (w : Silence). w.heard) e in omega arith)
     (watch_after p c (inputs i) (store_at p c inputs i)))
     (eq-or-lt_of_le (let z : j ≤ i = omega arith in z))
-
--- a heartbeat goes out in each beat of its number
-pub beating_out : (p : Params) (c : ℕ) (stamp : Stamp) (h : Store) → h.comeback ≡ None → stamp.beat % p.heart ≡ 0 → In (out.Send (way_ahead p c 1) msg.Heartbeat) (beating p c stamp h).outs
-unfolding beating
-beating_out p c stamp h first e = rw (first, eq-eqb _ _ e) (inl refl)
-
-pub ticking_out : (p : Params) (c : ℕ) (stamp : Stamp) (h : Store) → h.comeback ≡ None → stamp.beat % p.heart ≡ 0 → In (out.Send (way_ahead p c 1) msg.Heartbeat) (ticking p c stamp h).outs
-unfolding ticking
-ticking_out p c stamp h first e =
-    let o : Out Msg = out.Send (way_ahead p c 1) msg.Heartbeat in
-    let h1 : Store = (releasing p stamp h).state in
-    let h2 : Store = (believing p c stamp h1).state in
-    let h3 : Store = (inserting p c stamp h2).state in
-    let h4 : Store = (splitting p c stamp h3).state in
-    let h5 : Store = (forwarding p c stamp h4).state in
-    let h6 : Store = (reading p stamp h5).state in
-    let h7 : Store = (serving p c stamp h6).state in
-    let still : h7.comeback ≡ None =
-    serving_same p c stamp h6 ∙ (reading_same p c stamp h5 ∙ (forwarding_same p c stamp h4 ∙ (splitting_same p c stamp h3
-    ∙ (inserting_same p c stamp h2 ∙ (believing_same p c stamp h1 ∙ (releasing_same p c stamp h ∙ first)))))) in
-    in_right o (releasing p stamp h).outs _ (in_right o (believing p c stamp h1).outs _ (in_right o (inserting p c stamp h2).outs _ (in_right o (splitting p c stamp h3).outs _
-    (in_right o (forwarding p c stamp h4).outs _ (in_right o (reading p stamp h5).outs _ (in_right o (serving p c stamp h6).outs _ (beating_out p c stamp h7 still e)))))))
 
 not_above : (stamp : Stamp) → heard_first stamp ≤ stamp.reading
 not_above stamp = ⊎_elim
@@ -131,7 +107,7 @@ module _ (p : Params) (lives : Lives) (are : AreLives p lives) where
         done = w.done;
         in_beat = ap (λ (i : Input Msg). (stamp_of i).beat) w.is;
         did = goes_whole p lives c w.at (out.Send (way_ahead p c 1) msg.Heartbeat) w.whole
-            (from_tick p c inputs w.at stamp (out.Send (way_ahead p c 1) msg.Heartbeat) w.is (ticking_out p c stamp (store_at p c inputs w.at) first e));
+            (from_tick p c inputs w.at stamp (out.Send (way_ahead p c 1) msg.Heartbeat) w.is (beat_out p c stamp (store_at p c inputs w.at) first (eq-eqb _ _ e)));
       }
 
   pub since : (c b l y : ℕ) (w : TickAt p lives c b l) → is_silent (store_at p c (lives.input c) w.at).watch l ≡ true → HeardAt p lives c y → y ≤ b → time_of p y + p.deadman < l

@@ -9,7 +9,7 @@ use Rattle.node_kit.specs.Steps.{Deed, Input, stamp_of}
 use Rattle.node_kit.specs.Steps.Input.{Take, Tick}
 use Rattle.cub_rules.specs.declared.store.Store.{Store}
 use Rattle.cub_rules.specs.State.{CubState, returning_store}
-use Rattle.cub_rules.specs.Cubs.{coming_back, cub_step, was_away, ending}
+use Rattle.cub_rules.specs.Cubs.{coming_back, cub_step, was_away}
 use Rattle.run_facts.specs.Events.{NodeEvent, Past, after, after_input, after_cut, kept_outs, left_outs, outs_of, is_return, is_tick_input}
 use Rattle.run_facts.specs.Events.NodeEvent.{Does, Ends, Dies, Returns}
 use Rattle.run_facts.specs.Histories.{History, IsRun, beat, open_beat}
@@ -19,6 +19,7 @@ use Rattle.proof_lives.proofs.Acting.{acts_at, ticks_acting}
 use Rattle.proof_lives.proofs.Order.{after_tick, tick_of}
 use Rattle.proof_lives.proofs.Returns.{died, first_ended, first_here, open_first, opens_after, opens_rise}
 use Rattle.proof_lives.proofs.TwoLives.{first_beat}
+use Rattle.cub_changes.proofs.Chains.{ending_on, ending_back}
 
 -- cub c of a plan with what it keeps, and the beat of its last tick
 abbrev pub cub_with : Params → ℕ → Store → Option ℕ → CubState
@@ -40,15 +41,13 @@ GoesOn last (Tick stamp) = was_away last stamp.beat ≡ false
 
 pub cub_state : (p : Params) (c : ℕ) (h : Store) (last : Option ℕ) (k : Input Msg) → GoesOn last k
     → (cub_step (cub_with p c h last) k).state ≡ cub_with p c (deed_of p c k h).state (last_behind k last)
-unfolding ending
 cub_state p c h last (Take stamp link m) on = refl
-cub_state p c h last (Tick stamp) on = rw on refl
+cub_state p c h last (Tick stamp) on = ap (λ (d : Deed Msg Store). cub_with p c d.state (Some stamp.beat)) (ending_on p c stamp last h on)
 
 pub cub_outs : (p : Params) (c : ℕ) (h : Store) (last : Option ℕ) (k : Input Msg) → GoesOn last k
     → (cub_step (cub_with p c h last) k).outs ≡ (deed_of p c k h).outs
-unfolding ending
 cub_outs p c h last (Take stamp link m) on = refl
-cub_outs p c h last (Tick stamp) on = rw on refl
+cub_outs p c h last (Tick stamp) on = ap (λ (d : Deed Msg Store). d.outs) (ending_on p c stamp last h on)
 
 -- ---- a tick ends each beat of a life, so none of its ticks is a return
 
@@ -87,14 +86,12 @@ life_goes_on count inputs in_beat i low =
 pub back_state : (p : Params) (c : ℕ) (h : Store) (last : Option ℕ) (stamp : Stamp) → was_away last stamp.beat ≡ true
     → (cub_step (cub_with p c h last) (Tick stamp)).state
     ≡ cub_with p c (deed_of p c (Tick stamp) (returning_store p stamp.reading)).state (Some stamp.beat)
-unfolding ending
-back_state p c h last stamp away = rw away refl
+back_state p c h last stamp away = ap (λ (d : Deed Msg Store). cub_with p c d.state (Some stamp.beat)) (ending_back p c stamp last h away)
 
 pub back_outs : (p : Params) (c : ℕ) (h : Store) (last : Option ℕ) (stamp : Stamp) → was_away last stamp.beat ≡ true
     → (cub_step (cub_with p c h last) (Tick stamp)).outs
     ≡ (coming_back p c stamp h).outs ++ (deed_of p c (Tick stamp) (returning_store p stamp.reading)).outs
-unfolding ending
-back_outs p c h last stamp away = rw away refl
+back_outs p c h last stamp away = ap (λ (d : Deed Msg Store). d.outs) (ending_back p c stamp last h away)
 
 -- what it keeps then is what its life begins with
 begins_back : (p : Params) (stamp : Stamp) → 0 < stamp.beat → beginning p stamp ≡ returning_store p stamp.reading

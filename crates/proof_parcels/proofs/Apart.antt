@@ -18,14 +18,14 @@ use Rattle.mirror_schedule.specs.Pieces as pieces
 use Rattle.mirror_schedule.specs.Pieces.{comes_before, is_in, with_piece}
 use Rattle.mirror_schedule.specs.Sorted.{with_one}
 use Rattle.cub_rules.specs.declared.store.Store.{Store}
-use Rattle.cub_rules.specs.Records.{pieces_with, with_piece_record}
+use Rattle.cub_rules.specs.Records.{pieces_with}
 use Rattle.cub_rules.specs.Ticks.{releasing, believing, inserting, splitting, split_line, forward_line, ask_line, is_served, is_past, leaves_by}
 use Rattle.cub_changes.specs.Changes.{Change, did}
 use Rattle.cub_changes.specs.Changes.Change.{DropLines, DropPieces, TakeRecord, AddPiece, DropKilled, SplitVisits, Forward, AskBlocks, AskPieces, ServeBlocks, DropBackups, ServePieces}
 use Rattle.cub_changes.specs.Causes.{Stage, Cause}
 use Rattle.cub_changes.specs.Causes.Stage.{OnMessage, OnRelease, OnDeadman, OnInsertion, OnService}
 use Rattle.cub_changes.proofs.Closed.{IsClosed, OfEach}
-use Rattle.cub_changes.proofs.Messages.{taking_by}
+use Rattle.cub_changes.proofs.Messages.{taking_by, with_piece_of}
 use Rattle.cub_changes.proofs.Puts.{inserting_by}
 use Rattle.cub_changes.proofs.Ticks.{releasing_by, believing_by, splitting_by, forwarding_by, reading_by, ticking_by}
 use Rattle.proof_lives.specs.Lives.{deed_of, store_at}
@@ -199,19 +199,14 @@ one_line p r lines pieces unasked none s = record {
   within = s.within;
 }
 
--- a piece that is new
-new_record : (x : PieceState) (h : Store) → is_in x h.pieces.items ≡ false
-    → with_piece_record x h ≡ record h { pieces = pieces_with x h.pieces; unasked = pieces_with x h.unasked }
-unfolding with_piece_record
-new_record x h none = rw none refl
-
 one_piece : (x : PieceState) (h : Store) → is_in x h.pieces.items ≡ false → IsOnce h → StandOnce h.view.lines
     (pieces_with x h.pieces).items (pieces_with x h.unasked).items
 unfolding with_piece
 one_piece x h none s =
     let new : In x h.pieces.items → ⊥ = λ i. true≢false (sym (is_in_there x h.pieces.items i) ∙ none) in
-    let there : In x (pieces_with x h.pieces).items = subst (λ (k : Store). In x k.pieces.items)
-    (new_record x h none) (with_there x h) in
+    let there : In x (pieces_with x h.pieces).items =
+    with_piece_of (λ (k : Store). In x k.pieces.items → In x (pieces_with x h.pieces).items) x h
+    (λ e. absurd (true≢false (sym e ∙ none))) (λ _ i. i) (with_there x h) in
     record {
       lines_apart = s.lines_apart;
       pieces_apart = apart_one (comes_before h.pieces.params) x h.pieces.items new s.pieces_apart;

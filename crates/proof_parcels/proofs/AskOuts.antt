@@ -14,8 +14,10 @@ use Rattle.node_kit.specs.declared.outbox.Out.{Out}
 use Rattle.node_kit.specs.declared.outbox.Out.TheVariants as out
 use Rattle.node_kit.specs.Ways.{way_to_disk}
 use Rattle.partial_view.specs.declared.line.Line.{Line}
+use Rattle.node_kit.specs.Steps.{Deed}
 use Rattle.cub_rules.specs.declared.store.Store.{Store}
-use Rattle.cub_rules.specs.Ticks.{must_read, ask_outs, asked_of_disk, leaves_by, reading_blocks, reading_pieces, reading, asked_block}
+use Rattle.cub_rules.specs.Ticks.{must_read, ask_outs, asked_of_disk, leaves_by, reading, asked_block}
+use Rattle.cub_changes.proofs.Chains.{read_is}
 use Rattle.lists.specs.Elements.{In}
 use Rattle.lists.proofs.Elements.{chosen, from_filter, from_flat_map, in_cases}
 use Rattle.lists.proofs.Each.{all_in}
@@ -110,12 +112,12 @@ module _ (p : Params) (stamp : Stamp) (h : Store) where
   pub ask_once : (w : Want) → IsOnce h → ((x : PieceState) → In x h.unasked.items → 1 ≤ x.piece)
       → ((t u : Tenancy) (n j : ℕ) → AsksFor p stamp h t n j → AsksFor p stamp h u n j → u.slot.0 ≡ t.slot.0 → u ≡ t)
       → IsOne (asks w) (reading p stamp h).outs
-  unfolding reading reading_blocks reading_pieces
   ask_once w once low one_record =
       let soon : PieceState → Bool = leaves_by p (stamp.reading + p.read_lead) in
       let late : List PieceState = filter soon h.unasked.items in
       let line_ask : Line → Out Msg = λ x. out.Send (way_to_disk p (disk_of p x.rec.visit)) (msg.ReadAsk (want_of x.rec)) in
-      subst (λ (os : List (Out Msg)). IsOne (asks w) (flat_map (ask_outs p stamp h.comeback) h.view.lines ++ os)) (one_by_one (asked_of_disk p) late)
+      subst (λ (d : Deed Msg Store). IsOne (asks w) d.outs) (sym (read_is p 0 stamp h))
+      (subst (λ (os : List (Out Msg)). IsOne (asks w) (flat_map (ask_outs p stamp h.comeback) h.view.lines ++ os)) (one_by_one (asked_of_disk p) late)
       (one_of_records (asks w) w h.view.lines late [] (ask_outs p stamp h.comeback) (λ x. asked_of_disk p x ∷ []) once.lines_apart
       (apart_filter Differ soon h.unasked.items once.unasked_apart)
       (λ x. one_if (asks w) (must_read p stamp x) (asked_block p h.comeback x)
@@ -133,4 +135,4 @@ module _ (p : Params) (stamp : Stamp) (h : Store) where
       let g = from_filter soon y h.unasked.items j in
       one_record x.tenancy y.tenancy x.visit x.piece (inr (low x f.0, f.0, f.1))
       (subst (λ (n : ℕ). AsksFor p stamp h y.tenancy n x.piece) visits
-      (subst (λ (m : ℕ). AsksFor p stamp h y.tenancy y.visit m) numbers (inr (low y g.0, g.0, g.1)))) slots))
+      (subst (λ (m : ℕ). AsksFor p stamp h y.tenancy y.visit m) numbers (inr (low y g.0, g.0, g.1)))) slots)))

@@ -1,5 +1,5 @@
 -- At which input of a cub a read or a part goes out, and for which record.
-use Rattle.std.proofs.Common.{◌≡◌, ℕ, ◌+◌, ◌<◌, ◌≤◌, List, Bool, true, false, refl, sym, subst, arith, ⊎_elim, inr}
+use Rattle.std.proofs.Common.{◌≡◌, ℕ, ◌+◌, ◌<◌, ◌≤◌, List, Bool, true, false, refl, sym, ap, subst, arith, ⊎_elim, inr}
 use Rattle.std.specs.Prelude.{◌&&◌, ◌==◌, nat_le, Some}
 use Rattle.std.proofs.lemmas.Bool.{eq-eqb, ne_eqb}
 use Rattle.tiger_base.specs.Limits.{most_reading}
@@ -17,13 +17,14 @@ use Rattle.node_kit.specs.declared.outbox.Out.{Out}
 use Rattle.node_kit.specs.declared.outbox.Out.TheVariants as out
 use Rattle.node_kit.specs.Form.{is_tenancy}
 use Rattle.node_kit.specs.Steps as steps
-use Rattle.node_kit.specs.Steps.{Input}
+use Rattle.node_kit.specs.Steps.{Deed, Input}
 use Rattle.node_kit.specs.Steps.Input.{Take, Tick}
 use Rattle.node_kit.specs.Ways.{way_to_viewers}
 use Rattle.cub_rules.specs.declared.store.Store.{Store}
 use Rattle.cub_rules.specs.State.{IsStoreOf, IsPieceAt}
 use Rattle.cub_rules.specs.Records.{stored_for}
-use Rattle.cub_rules.specs.Ticks.{reading_blocks, reading_pieces, reading, ticking}
+use Rattle.cub_rules.specs.Ticks.{reading, ticking}
+use Rattle.cub_changes.proofs.Chains.{read_is}
 use Rattle.cub_changes.proofs.Rules.{forwarding_right, reading_right}
 use Rattle.run_model.proofs.Reflects.{and_left, and_right, at_most}
 use Rattle.cub_changes.proofs.Order.{is_ask, is_parcel, asks_in_reading, parcels_in_serving, no_ask_taken, no_parcel_taken}
@@ -56,8 +57,7 @@ numbered p c x h =
 
 -- asking takes no piece record away
 reading_pieces_stay : (p : Params) (stamp : Stamp) (h : Store) → (reading p stamp h).state.pieces.items ≡ h.pieces.items
-unfolding reading reading_blocks reading_pieces
-reading_pieces_stay p stamp h = refl
+reading_pieces_stay p stamp h = ap (λ (d : Deed Msg Store). d.state.pieces.items) (read_is p 0 stamp h)
 
 ask_is_ask : (w : Want) (o : Out Msg) → asks w o ≡ true → is_ask o ≡ true
 ask_is_ask w (out.Send link (msg.ReadAsk v)) t = refl

@@ -29,13 +29,14 @@ use Rattle.partial_view.specs.Lines.{is_at, key_of}
 use Rattle.partial_view.specs.Views.{line_at}
 use Rattle.partial_view.proofs.Order.{same_is, same_itself}
 use Rattle.cub_rules.specs.declared.store.Store.{Store}
-use Rattle.cub_rules.specs.Messages.{is_block_of, is_wanted, storing, meeting_answer, hearing, taking}
+use Rattle.cub_rules.specs.Messages.{is_block_of, is_wanted, storing, taking}
 use Rattle.cub_rules.specs.Ticks.{ticking}
 use Rattle.cub_changes.specs.Causes.{Stage, IsAnswer, Cause}
 use Rattle.cub_changes.specs.Causes.Stage.{OnMessage}
 use Rattle.cub_changes.specs.Changes.{Change}
 use Rattle.cub_changes.specs.Outputs.{Output, output, ComesOf}
 use Rattle.cub_changes.specs.Outputs.Output.{ReadFailed}
+use Rattle.cub_changes.proofs.Chains.{ignores, takes_answer}
 use Rattle.cub_changes.proofs.Closed.{OfEach}
 use Rattle.cub_changes.proofs.Messages.{taking_by}
 use Rattle.cub_changes.proofs.Outputs.{forms_of, Puts, puts_closed}
@@ -96,16 +97,16 @@ pub record IsFailedRead (p : Params) (i : Input Msg) (h : Store) (w : Want) : Ty
 answered : (p : Params) (c : ℕ) (stamp : Stamp) (link : LinkNo) (w : Want) (h : Store)
     → In (out.Act (what.ReadFailed w)) (taking p c stamp link (msg.ReadDone w None) h).outs
     → (is_in_form p (noted (msg.ReadDone w None)) ≡ true) × (is_wanted w h ≡ true)
-unfolding taking hearing meeting_answer
 answered p c stamp link w h k =
     let o : Out Msg = out.Act (what.ReadFailed w) in
-    let Both : Type 0 = (is_in_form p (noted (msg.ReadDone w None)) ≡ true) × (is_wanted w h ≡ true) in
-    chosen (λ (d : Deed Msg Store). In o d.outs → Both) (is_in_form p (noted (msg.ReadDone w None)))
-    (hearing p c stamp link (msg.ReadDone w None) h) (nothing h)
-    (λ t. chosen (λ (d : Deed Msg Store). In o d.outs → Both) (is_wanted w h) (storing w None h) (nothing h)
-    (λ s _. (t, s)) (λ _ i. absurd i))
-    (λ _ i. absurd i)
-    k
+    let Goes : Deed Msg Store → Type 0 = λ d. In o d.outs in
+    ⊎_elim (λ (f : is_in_form p (noted (msg.ReadDone w None)) ≡ true). (
+      f,
+      chosen (λ (d : Deed Msg Store). Goes d → is_wanted w h ≡ true) (is_wanted w h) (storing w None h) (nothing h)
+          (λ s _. s) (λ _ i. absurd i) (subst Goes (takes_answer p c stamp link w None h f) k),
+    ))
+    (λ (f : is_in_form p (noted (msg.ReadDone w None)) ≡ false). absurd (subst Goes (ignores p c stamp link (msg.ReadDone w None) h f) k))
+    (cases_Bool (is_in_form p (noted (msg.ReadDone w None))))
 
 pub failed_read : (p : Params) (c : ℕ) (i : Input Msg) (h : Store) (w : Want)
     → In (out.Act (what.ReadFailed w)) (deed_of p c i h).outs → IsFailedRead p i h w

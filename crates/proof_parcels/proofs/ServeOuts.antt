@@ -20,17 +20,20 @@ use Rattle.tiger_base.specs.Records.{own_of, want_of, want_of_piece, same_want}
 use Rattle.slot_plan.specs.declared.params.Params.{Params}
 use Rattle.node_kit.specs.declared.outbox.Out.{Out}
 use Rattle.node_kit.specs.declared.outbox.Out.TheVariants as out
+use Rattle.node_kit.specs.Deeds.{then_do}
+use Rattle.node_kit.specs.Steps.{Deed}
 use Rattle.node_kit.specs.Ways.{way_to_viewers}
 use Rattle.partial_view.specs.declared.line.Line.{Line}
 use Rattle.cub_rules.specs.declared.store.Store.{Store}
 use Rattle.cub_rules.specs.declared.store.StoredPart.{StoredPart}
 use Rattle.cub_rules.specs.Records.{stored_for, dropped}
-use Rattle.cub_rules.specs.Ticks.{is_served, is_past, leaves_by, sent_whole, serve_outs, sent_piece, piece_outs, serving_blocks, dropping_backups, serving_pieces, serving, served_whole}
+use Rattle.cub_rules.specs.Ticks.{is_served, is_past, leaves_by, sent_whole, serve_outs, sent_piece, piece_outs, serving, served_whole}
 use Rattle.cub_changes.specs.Changes.{Change, did}
 use Rattle.cub_changes.specs.Changes.Change.{ServeBlocks, DropBackups, ServePieces}
 use Rattle.cub_changes.specs.Outputs.{Output, output, ComesOf}
 use Rattle.cub_changes.specs.Outputs.Output.{BlockSent, PieceSent}
 use Rattle.lists.proofs.Each.{all_append, all_if}
+use Rattle.cub_changes.proofs.Chains.{serve_is}
 use Rattle.cub_changes.proofs.Outputs.{forms_of}
 use Rattle.lists.specs.Elements.{In}
 use Rattle.lists.proofs.Elements.{in_left, in_right, in_filter, from_filter, in_flat_map}
@@ -138,15 +141,15 @@ module _ (p : Params) (c : ℕ) (stamp : Stamp) (h : Store) where
   -- each part that goes out is of a record, if no piece record has the number 0
   pub serving_of_records : ((x : PieceState) → In x h.pieces.items → 1 ≤ x.piece)
       → AllByRecursion IsOfRecord (serving p c stamp h).outs
-  unfolding serving serving_blocks dropping_backups serving_pieces
   serving_of_records low =
-      let h1 : Store = (serving_blocks p c stamp h).state in
-      let h2 : Store = (dropping_backups p stamp h1).state in
-      all_append IsOfRecord (serving_blocks p c stamp h).outs _
+      let blocks : Deed Msg Store = did p c stamp ServeBlocks h in
+      let backups : Deed Msg Store = did p c stamp DropBackups blocks.state in
+      subst (λ (d : Deed Msg Store). AllByRecursion IsOfRecord d.outs) (sym (serve_is p c stamp h))
+      (all_append IsOfRecord blocks.outs _
       (of_record low ServeBlocks h (record { lines = λ _. refl; pieces = refl; parts = refl; comeback = refl }))
-      (all_append IsOfRecord (dropping_backups p stamp h1).outs (serving_pieces p c stamp h2).outs
-      (of_record low DropBackups h1 (record { lines = λ e. absurd (cc); pieces = refl; parts = refl; comeback = refl }))
-      (of_record low ServePieces h2 (record { lines = λ e. absurd (cc); pieces = refl; parts = refl; comeback = refl })))
+      (all_append IsOfRecord backups.outs (did p c stamp ServePieces backups.state).outs
+      (of_record low DropBackups blocks.state (record { lines = λ e. absurd (cc); pieces = refl; parts = refl; comeback = refl }))
+      (of_record low ServePieces backups.state (record { lines = λ e. absurd (cc); pieces = refl; parts = refl; comeback = refl }))))
 
   -- the other way round: what is to be served is sent, if its part is stored
   line_serves : (t : Tenancy) (n : ℕ) (x : Line) (part : LibraryPart) → HasOwn h t n x → is_served p stamp x ≡ true
@@ -166,14 +169,18 @@ module _ (p : Params) (c : ℕ) (stamp : Stamp) (h : Store) where
       subst (λ (z : Want). In (out.Send (way_to_viewers p c) (msg.Whole z stamp.beat part))
       (serve_outs p c stamp h.comeback h.parts x)) is both
 
+  -- what goes out in the three changes goes out in serving
+  in_serving : (o : Out Msg) → In o (then_do (did p c stamp ServeBlocks) (then_do (did p c stamp DropBackups) (did p c stamp ServePieces)) h).outs
+      → In o (serving p c stamp h).outs
+  in_serving o i = subst (λ (d : Deed Msg Store). In o d.outs) (sym (serve_is p c stamp h)) i
+
   pub serves_out : (t : Tenancy) (n j : ℕ) (part : LibraryPart) → IsToServe p stamp h t n j
       → stored_for (want t n j) h.parts ≡ Some part
       → In (out.Send (way_to_viewers p c) (part_sent (want t n j) stamp.beat part)) (serving p c stamp h).outs
-  unfolding serving serving_blocks dropping_backups serving_pieces
   serves_out t n zero part to_serve stored = ⊎_elim
-      (λ l. in_left _ (flat_map (serve_outs p c stamp h.comeback h.parts) h.view.lines) _
+      (λ l. in_serving _ (in_left _ (flat_map (serve_outs p c stamp h.comeback h.parts) h.view.lines) _
       (in_flat_map (serve_outs p c stamp h.comeback h.parts) (out.Send (way_to_viewers p c)
-      (msg.Whole (want t n 0) stamp.beat part)) l.1 h.view.lines l.2.0 (line_serves t n l.1 part l.2 l.3 l.4 stored)))
+      (msg.Whole (want t n 0) stamp.beat part)) l.1 h.view.lines l.2.0 (line_serves t n l.1 part l.2 l.3 l.4 stored))))
       (λ l. let low = l.0 in absurd (omega arith))
       to_serve
   serves_out t n (suc k) part to_serve stored = ⊎_elim
@@ -185,12 +192,13 @@ module _ (p : Params) (c : ℕ) (stamp : Stamp) (h : Store) where
       (piece_outs p c stamp h.parts x) =
       subst (λ (s : Option LibraryPart). In (out.Send (way_to_viewers p c) (msg.Piece (want t n (suc k)) stamp.beat
       part)) (sent_piece p c stamp (want t n (suc k)) s)) (sym stored) (inl refl) in
-      let left : List Line = (serving_blocks p c stamp h).state.view.lines in
-      let found = in_right _ (flat_map (serve_outs p c stamp h.comeback h.parts) h.view.lines) _
+      let left : List Line = (did p c stamp ServeBlocks h).state.view.lines in
+      let found = in_serving (out.Send (way_to_viewers p c) (msg.Piece (want t n (suc k)) stamp.beat part))
+      (in_right _ (flat_map (serve_outs p c stamp h.comeback h.parts) h.view.lines) _
       (in_right _ (map dropped (filter (is_past p stamp) left)) (flat_map (piece_outs p c stamp h.parts) late)
       (in_flat_map (piece_outs p c stamp h.parts) (out.Send (way_to_viewers p c)
       (msg.Piece (want t n (suc k)) stamp.beat part)) x late (in_filter (leaves_by p stamp.reading) x
-      h.pieces.items l.1 l.2) there)) in
+      h.pieces.items l.1 l.2) there))) in
       let f : (suc k == 0) ≡ false = ne_eqb _ _ (λ e. absurd (omega arith)) in
       rw f found)
       to_serve
@@ -222,15 +230,15 @@ module _ (p : Params) (c : ℕ) (stamp : Stamp) (h : Store) where
   pub serve_once : (w : Want) → IsOnce h → ((x : PieceState) → In x h.pieces.items → 1 ≤ x.piece)
       → ((t u : Tenancy) (n j : ℕ) → Leaves (piece t n j) → Leaves (piece u n j) → u.slot.0 ≡ t.slot.0 → u ≡ t)
       → IsOne (sends w) (serving p c stamp h).outs
-  unfolding serving serving_blocks dropping_backups serving_pieces
   serve_once w once low one_record =
       let leaves : PieceState → Bool = leaves_by p stamp.reading in
       let late : List PieceState = filter leaves h.pieces.items in
-      let left : List Line = filter (is_past p stamp) (serving_blocks p c stamp h).state.view.lines in
+      let left : List Line = filter (is_past p stamp) (did p c stamp ServeBlocks h).state.view.lines in
       let whole : Line → List (Out Msg) = λ x. sent_whole p c stamp (want_of x.rec) (stored_for (want_of x.rec) h.parts) in
       let served : Line → List (Out Msg) = served_whole p c stamp h.comeback h.parts in
       let serves : Line → Bool = λ x. serves_at h.comeback (due_of p (key_of x)) in
-      one_of_records (sends w) w h.view.lines late (map dropped left) (serve_outs p c stamp h.comeback h.parts) (piece_outs p c stamp h.parts)
+      subst (λ (d : Deed Msg Store). IsOne (sends w) d.outs) (sym (serve_is p c stamp h))
+      (one_of_records (sends w) w h.view.lines late (map dropped left) (serve_outs p c stamp h.comeback h.parts) (piece_outs p c stamp h.parts)
       once.lines_apart (apart_filter Differ leaves h.pieces.items once.pieces_apart)
       (λ x. one_if (sends w) (is_served p stamp x) (served x ++ dropped x ∷ [])
       (one_append (sends w) (served x) (dropped x ∷ []) (one_if (sends w) (serves x) (whole x) (one_whole w (want_of x.rec) (stored_for (want_of x.rec) h.parts)).0)
@@ -248,4 +256,4 @@ module _ (p : Params) (c : ℕ) (stamp : Stamp) (h : Store) where
       let g = from_filter leaves y h.pieces.items j in
       one_record x.tenancy y.tenancy x.visit x.piece f
       (subst (λ (n : ℕ). Leaves (piece y.tenancy n x.piece)) visits
-      (subst (λ (m : ℕ). Leaves (piece y.tenancy y.visit m)) numbers g)) slots)
+      (subst (λ (m : ℕ). Leaves (piece y.tenancy y.visit m)) numbers g)) slots))

@@ -14,12 +14,13 @@ use Rattle.slot_plan.specs.Conditions.{IsPlan}
 use Rattle.slot_plan.specs.Times.{cub_of, disk_of}
 use Rattle.node_kit.specs.declared.outbox.Out.{Out}
 use Rattle.node_kit.specs.declared.outbox.Out.TheVariants as out
-use Rattle.node_kit.specs.Steps.{Input, stamp_of}
+use Rattle.node_kit.specs.Steps.{Deed, Input, stamp_of}
 use Rattle.node_kit.specs.Steps.Input.{Take, Tick}
 use Rattle.node_kit.specs.Ways.{way_to_disk}
 use Rattle.partial_view.specs.declared.line.Line.{Line}
 use Rattle.cub_rules.specs.declared.store.Store.{Store}
-use Rattle.cub_rules.specs.Ticks.{releasing, believing, inserting, splitting, forwarding, ask_outs, asked_of_disk, leaves_by, reading_blocks, reading_pieces, reading, ticking}
+use Rattle.cub_rules.specs.Ticks.{splitting, forwarding, ask_outs, asked_of_disk, leaves_by, reading, ticking}
+use Rattle.cub_changes.proofs.Chains.{read_is, service_out}
 use Rattle.cub_changes.proofs.Numbers.{piece_disk_own}
 use Rattle.proof_lives.specs.Lives.{Lives, AreLives, cut_in, store_at, deed_of}
 use Rattle.lists.specs.Elements.{In}
@@ -28,7 +29,7 @@ use Rattle.lists.proofs.Elements.{in_left, in_right, in_map, in_filter, in_flat_
 use Rattle.lists.proofs.Each.{all_in}
 use Rattle.proof_lives.proofs.Cuts.{was_put_out, goes_whole}
 use Rattle.proof_facts.specs.Carried.{AskedDisk}
-use Rattle.proof_facts.specs.Pieces.{want, stamp_of as made_of, before_reading, AsksFor, AsksAt}
+use Rattle.proof_facts.specs.Pieces.{want, stamp_of as made_of, before_splitting, before_reading, AsksFor, AsksAt}
 use Rattle.proof_service.specs.Disks.{disk_at}
 use Rattle.proof_parts.specs.Asks.{IsAskOf, AskedForRecord}
 use Rattle.proof_parts.proofs.AskOutputs.{OfAsk, ticking_asks, taking_asks, reading_asks, whole_disk}
@@ -41,12 +42,13 @@ read_of p t n j = out.Send (way_to_disk p (disk_at p n j)) (msg.ReadAsk (want t 
 -- A record whose time to be asked for has come is asked for in the reading.
 read_goes : (p : Params) → IsPlan p → (stamp : Stamp) (g : Store) (t : Tenancy) (n j : ℕ) → AsksFor p stamp g t n j
     → In (read_of p t n j) (reading p stamp g).outs
-unfolding reading reading_blocks reading_pieces
 read_goes p plan stamp g t n j asks =
+    let Goes : Deed Msg Store → Type 0 = λ d. In (read_of p t n j) d.outs in
     let soon = leaves_by p (stamp.reading + p.read_lead) in
     let blocks : List (Out Msg) = flat_map (ask_outs p stamp g.comeback) g.view.lines in
     let pieces : List (Out Msg) = map (asked_of_disk p) (filter soon g.unasked.items) in
-    ⊎_elim
+    subst Goes (sym (read_is p 0 stamp g))
+    (⊎_elim
     (λ a.
     let x : Line = a.1 in
     let o : Out Msg = out.Send (way_to_disk p (disk_of p x.rec.visit)) (msg.ReadAsk (want_of x.rec)) in
@@ -61,25 +63,19 @@ read_goes p plan stamp g t n j asks =
     let y : PieceState = record { tenancy = t; visit = n; piece = j } in
     in_right (read_of p t n j) blocks pieces
     (in_map (asked_of_disk p) y (filter soon g.unasked.items) (in_filter soon y g.unasked.items a.1 a.2)))
-    asks
+    asks)
 
 -- what goes out in the reading goes out at the tick
 tick_goes : (p : Params) (c : ℕ) (stamp : Stamp) (h : Store) (o : Out Msg)
     → In o (reading p stamp (before_reading p c stamp h)).outs
     → In o (ticking p c stamp h).outs
-unfolding ticking
 tick_goes p c stamp h o k =
-    let h1 : Store = (releasing p stamp h).state in
-    let h2 : Store = (believing p c stamp h1).state in
-    let h3 : Store = (inserting p c stamp h2).state in
+    let h3 : Store = before_splitting p c stamp h in
     let h4 : Store = (splitting p c stamp h3).state in
     let h5 : Store = (forwarding p c stamp h4).state in
-    in_right o (releasing p stamp h).outs _
-    (in_right o (believing p c stamp h1).outs _
-    (in_right o (inserting p c stamp h2).outs _
+    service_out p c stamp h o
     (in_right o (splitting p c stamp h3).outs _
-    (in_right o (forwarding p c stamp h4).outs _
-    (in_left o (reading p stamp h5).outs _ k)))))
+    (in_right o (forwarding p c stamp h4).outs _ (in_left o (reading p stamp h5).outs _ k)))
 
 module _ (p : Params) (plan : IsPlan p) (lives : Lives) (are : AreLives p lives) where
   -- a read that goes out at an input

@@ -1,5 +1,5 @@
 -- Each read that a cub asks of a disk goes out at a tick, for a record that the cub keeps before it reads.
-use Rattle.std.proofs.Common.{◌≡◌, ℕ, ◌+◌, ◌%◌, ◌≤◌, [], ◌∷◌, map, filter, Bool, true, false, refl, sym, ap, ◌∙◌, arith, inl, inr}
+use Rattle.std.proofs.Common.{◌≡◌, ℕ, ◌+◌, ◌%◌, ◌≤◌, [], ◌∷◌, map, filter, Bool, true, false, refl, sym, ap, subst, ◌∙◌, arith, inl, inr}
 use Rattle.std.specs.Prelude.{◌&&◌, not, nat_le}
 use Rattle.std.specs.List.{AllByRecursion, flat_map}
 use Rattle.std.proofs.Math.Nat.{mod-eq_of_lt}
@@ -21,14 +21,16 @@ use Rattle.slot_plan.proofs.Times.{disk_below}
 use Rattle.mirror_pieces.specs.Pieces.{piece_disk}
 use Rattle.node_kit.specs.declared.outbox.Out.{Out}
 use Rattle.node_kit.specs.declared.outbox.Out.TheVariants as out
+use Rattle.node_kit.specs.Steps.{Deed}
 use Rattle.node_kit.specs.Ways.{way_to_disk}
 use Rattle.partial_view.specs.declared.line.Line.{Line}
 use Rattle.cub_rules.specs.declared.store.Store.{Store}
 use Rattle.cub_rules.specs.Messages.{taking}
-use Rattle.cub_rules.specs.Ticks.{must_read, ask_outs, asked_of_disk, leaves_by, reading_blocks, reading_pieces, reading, ticking, asked_block}
+use Rattle.cub_rules.specs.Ticks.{must_read, ask_outs, asked_of_disk, leaves_by, reading, ticking, asked_block}
 use Rattle.lists.specs.Elements.{In}
 use Rattle.lists.proofs.Each.{all_append, all_map, all_flat_map, all_if, all_wider}
 use Rattle.cub_changes.proofs.Beliefs.{not_true}
+use Rattle.cub_changes.proofs.Chains.{read_is}
 use Rattle.cub_changes.proofs.Order.{is_ask, all_of_part, asks_in_reading, no_ask_taken}
 use Rattle.lists.proofs.Elements.{from_filter}
 use Rattle.proof_facts.specs.Pieces.{before_reading}
@@ -93,9 +95,9 @@ module _ (Asked : LinkNo → Want → Type 0) where
 pub reading_asks : (p : Params) → IsPlan p → (stamp : Stamp) (g : Store)
     → ((y : PieceState) → In y g.unasked.items → 1 ≤ y.piece)
     → AllByRecursion (OfAsk (IsAskOf p stamp g)) (reading p stamp g).outs
-unfolding reading reading_blocks reading_pieces
 reading_asks p plan stamp g low =
-    all_append Q (flat_map (ask_outs p stamp g.comeback) g.view.lines) (map (asked_of_disk p) (filter soon g.unasked.items))
+    subst (λ (d : Deed Msg Store). AllByRecursion Q d.outs) (sym (read_is p 0 stamp g))
+    (all_append Q (flat_map (ask_outs p stamp g.comeback) g.view.lines) (map (asked_of_disk p) (filter soon g.unasked.items))
     (all_flat_map Q (ask_outs p stamp g.comeback) g.view.lines
     (λ x k.
     let o : Out Msg = out.Send (way_to_disk p (disk_of p x.rec.visit)) (msg.ReadAsk (want_of x.rec)) in
@@ -114,7 +116,7 @@ reading_asks p plan stamp g low =
     (all_map Q (asked_of_disk p) (filter soon g.unasked.items)
     (λ y k.
     let f = from_filter soon y g.unasked.items k in
-    record { tenancy = y.tenancy; asks = inr (low y f.0, f.0, f.1); same = refl; way = refl }))
+    record { tenancy = y.tenancy; asks = inr (low y f.0, f.0, f.1); same = refl; way = refl })))
   where
     Q : Out Msg → Type 0
     Q = OfAsk (IsAskOf p stamp g)

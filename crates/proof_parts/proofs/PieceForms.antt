@@ -1,15 +1,15 @@
 -- Each piece record that a cub keeps, at an input or within a tick, is in form and for this cub.
-use Rattle.std.proofs.Common.{◌≡◌, ℕ, ◌<◌, ◌≤◌, refl, ap, subst, sym, arith}
+use Rattle.std.proofs.Common.{◌≡◌, ℕ, ◌<◌, ◌≤◌, ap, subst, sym, arith}
 use Rattle.tiger_base.specs.declared.number.Stamp.{Stamp}
 use Rattle.tiger_base.specs.declared.tenancy.PieceState.{PieceState}
 use Rattle.tiger_base.specs.declared.message.Msg.{Msg}
 use Rattle.slot_plan.specs.declared.params.Params.{Params}
 use Rattle.slot_plan.specs.Conditions.{IsPlan}
-use Rattle.node_kit.specs.Steps.{Input, stamp_of}
+use Rattle.node_kit.specs.Steps.{Deed, Input, stamp_of}
 use Rattle.node_kit.specs.Steps.Input.{Tick}
 use Rattle.cub_rules.specs.declared.store.Store.{Store}
 use Rattle.cub_rules.specs.State.{IsStoreOf, IsPieceAt}
-use Rattle.cub_rules.specs.Ticks.{forwarding}
+use Rattle.cub_changes.proofs.Chains.{forward_is}
 use Rattle.cub_changes.proofs.Numbers.{piece_parts}
 use Rattle.proof_lives.specs.Lives.{Lives, AreLives, store_at}
 use Rattle.lists.specs.Elements.{In}
@@ -17,11 +17,6 @@ use Rattle.proof_lives.proofs.Lines.{kept_at}
 use Rattle.lists.proofs.Each.{all_in}
 use Rattle.proof_lives.proofs.Ticking.{before_forwarding, kept_before}
 use Rattle.proof_facts.specs.Pieces.{before_reading}
-
-forwarding_unasked : (p : Params) (c : ℕ) (stamp : Stamp) (h : Store)
-    → (forwarding p c stamp h).state.unasked ≡ h.unasked
-unfolding forwarding
-forwarding_unasked p c stamp h = refl
 
 -- the number of a piece in form
 pub numbered : (p : Params) (c : ℕ) (x : PieceState) → IsPieceAt p c x → (1 ≤ x.piece) × (x.piece ≤ p.pieces)
@@ -51,4 +46,4 @@ module _ (p : Params) (plan : IsPlan p) (lives : Lives) (are : AreLives p lives)
   unasked_within c i stamp x small low is there =
       let g : Store = before_forwarding p c stamp (store_at p c (lives.input c) i) in
       all_in (IsPieceAt p c) x g.unasked.items (kept_within c i stamp small low is).unasked
-      (subst (λ s. In x s.items) (forwarding_unasked p c stamp g) there)
+      (subst (λ (d : Deed Msg Store). In x d.state.unasked.items) (forward_is p c stamp g) there)

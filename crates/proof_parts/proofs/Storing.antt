@@ -18,11 +18,12 @@ use Rattle.node_kit.specs.Deeds.{nothing, then_do}
 use Rattle.cub_rules.specs.declared.store.Store.{Store}
 use Rattle.cub_rules.specs.declared.store.StoredPart.{StoredPart}
 use Rattle.cub_rules.specs.Records.{is_part_of}
-use Rattle.cub_rules.specs.Messages.{is_wanted, is_piece_part, storing, meeting_answer, hearing, taking}
+use Rattle.cub_rules.specs.Messages.{is_wanted, is_piece_part, storing, taking}
 use Rattle.cub_rules.specs.Ticks.{is_stale, releasing, believing, inserting, splitting, forwarding, reading}
 use Rattle.cub_changes.specs.Changes.Change.{DropPieces, DropKilled, StorePart, Release}
 use Rattle.cub_changes.specs.Causes.{Stage, Cause, IsDeschedule, IsKill, IsAnswer}
 use Rattle.cub_changes.specs.Causes.Stage.{OnMessage, OnRelease, OnDeadman, OnInsertion, OnService}
+use Rattle.cub_changes.proofs.Chains.{ignores, takes_answer}
 use Rattle.cub_changes.proofs.Closed.{IsClosed, OfEach, then_by}
 use Rattle.cub_changes.proofs.Fits.{fits}
 use Rattle.cub_changes.proofs.Messages.{taking_by}
@@ -30,7 +31,7 @@ use Rattle.cub_changes.proofs.Puts.{inserting_by}
 use Rattle.cub_changes.proofs.Ticks.{IsOfTick, releasing_by, believing_by, splitting_by, forwarding_by, reading_by, ticking_by}
 use Rattle.proof_lives.specs.Lives.{deed_of}
 use Rattle.lists.specs.Elements.{In}
-use Rattle.lists.proofs.Elements.{chosen, in_left, in_cases, in_filter, from_filter}
+use Rattle.lists.proofs.Elements.{in_left, in_cases, in_filter, from_filter}
 use Rattle.proof_facts.specs.Pieces.{before_serving}
 use Rattle.proof_parts.specs.Parts.{MayCost}
 
@@ -164,22 +165,15 @@ pub answer_kept : (p : Params) (c : ℕ) (stamp : Stamp) (link : LinkNo) (want :
     (h : Store)
     → is_in_form p (noted (msg.ReadDone want part)) ≡ true → is_wanted want h ≡ true
     → taking p c stamp link (msg.ReadDone want part) h ≡ storing want part h
-unfolding taking hearing meeting_answer
-answer_kept p c stamp link want part h formed wanted = rw (formed, wanted) refl
+answer_kept p c stamp link want part h formed wanted = takes_answer p c stamp link want part h formed ∙ rw wanted refl
 
 answer_idle : (p : Params) (c : ℕ) (stamp : Stamp) (link : LinkNo) (want : Want) (part : Option LibraryPart) (h : Store)
     → is_wanted want h ≡ false
     → taking p c stamp link (msg.ReadDone want part) h ≡ nothing h
-unfolding taking hearing meeting_answer
 answer_idle p c stamp link want part h none =
-    chosen (λ (d : Deed Msg Store). d ≡ nothing h) (is_in_form p (noted (msg.ReadDone want part)))
-    (hearing p c stamp link (msg.ReadDone want part) h) (nothing h) (λ _. rw none refl) (λ _. refl)
-
-answer_unformed : (p : Params) (c : ℕ) (stamp : Stamp) (link : LinkNo) (m : Msg) (h : Store)
-    → is_in_form p (noted m) ≡ false
-    → taking p c stamp link m h ≡ nothing h
-unfolding taking
-answer_unformed p c stamp link m h none = rw none refl
+    ⊎_elim (λ (f : is_in_form p (noted (msg.ReadDone want part)) ≡ true). takes_answer p c stamp link want part h f ∙ rw none refl)
+    (λ (f : is_in_form p (noted (msg.ReadDone want part)) ≡ false). ignores p c stamp link (msg.ReadDone want part) h f)
+    (cases_Bool (is_in_form p (noted (msg.ReadDone want part))))
 
 -- ---- an input
 
@@ -210,7 +204,7 @@ part_back p c (Take stamp link m) h x k =
     inr (record { stamp = stamp; link = link; is = ap (λ (n : Msg). Take stamp link n) e; formed = f; wanted = w }))
     (λ (w : is_wanted x.want h ≡ false). inl (idle (answer_idle p c stamp link x.want (Some x.part) h w)))
     (cases_Bool (is_wanted x.want h)))
-    (λ (f : is_in_form p (noted answer) ≡ false). inl (idle (answer_unformed p c stamp link answer h f)))
+    (λ (f : is_in_form p (noted answer) ≡ false). inl (idle (ignores p c stamp link answer h f)))
     (cases_Bool (is_in_form p (noted answer))))
     ((taking_moves p c stamp link m h x).came k)
 

@@ -19,9 +19,6 @@ use Rattle.lists.proofs.Each.{all_append, all_map, all_flat_map}
 use Rattle.proof_facts.specs.Beside.{IsAddition}
 
 module _ (p : Params) (c : ℕ) where
-  AreAdditions : List (Out Msg) → Type 0
-  AreAdditions os = AllByRecursion (IsAddition p c) os
-
   one_mirror : (r : Rec) (k : ℕ) → 1 ≤ k → k ≤ p.pieces → IsAddition p c (sent_to_mirror p c r k)
   one_mirror r k low high = inl (piece_numbered r k, record { ahead = k; some = low; few = high; is = refl })
 

@@ -16,12 +16,12 @@ use Rattle.cub_changes.specs.Changes.{Change, did}
 use Rattle.cub_changes.specs.Changes.Change.{Believe}
 use Rattle.lists.specs.Elements.{In}
 use Rattle.cub_changes.specs.Causes.{Cause}
-use Rattle.cub_changes.specs.Causes.Stage.{OnInsertion, OnService}
+use Rattle.cub_changes.specs.Causes.Stage.{OnInsertion}
 use Rattle.cub_changes.specs.Laws.{believed_out, KeepsBelief}
-use Rattle.cub_changes.proofs.Beliefs.{keep_belief}
+use Rattle.cub_changes.proofs.Beliefs.{belief_lasts, keep_belief}
 use Rattle.cub_changes.proofs.Closed.{IsClosed}
 use Rattle.cub_changes.proofs.Puts.{inserting_by}
-use Rattle.cub_changes.proofs.Ticks.{before_inserting, service_by}
+use Rattle.cub_changes.proofs.Ticks.{before_inserting}
 use Rattle.proof_lives.specs.Lives.{Lives, AreLives, cut_in, store_at, deed_of, outs_at, outs_in, beat_at}
 use Rattle.run_facts.specs.Events.{is_tick_input}
 use Rattle.proof_lives.proofs.Beside.{belief_goes, tick_outs}
@@ -45,10 +45,6 @@ module _ (p : Params) (c : ℕ) (stamp : Stamp) where
   same_closed : IsClosed Same
   same_closed = record { none = λ h. refl; both = λ h d e one two. two ∙ one }
 
-  same_each : (from : Store) (x : Change) (h : Store) → Cause p c stamp OnService from x h → Same h (did p c stamp x h)
-  same_each from Believe h cause = absurd cause.0
-  same_each from other h cause = refl
-
   same_put : (from : Store) (x : Change) (h : Store) → Cause p c stamp OnInsertion from x h → Same h (did p c stamp x h)
   same_put from Believe h cause = absurd cause.0
   same_put from other h cause = refl
@@ -60,9 +56,7 @@ module _ (p : Params) (c : ℕ) (stamp : Stamp) where
       inserting_by Same same_closed p c stamp h2 (λ x q cause. same_put h2 x q cause)
 
   belief_splits : (h : Store) → (ticking p c stamp h).state.believes ≡ (before_splitting p c stamp h).believes
-  unfolding ticking
-  belief_splits h = service_by Same same_closed p c stamp (before_splitting p c stamp h)
-      (λ from x q cause. same_each from x q cause)
+  belief_splits h = belief_lasts p c stamp h ∙ sym (belief_inserts h)
 
 -- ---- a life
 

@@ -1,28 +1,25 @@
 -- What a cub splits is left to it, whatever it was told of the return of its predecessor.
-use Rattle.std.proofs.Common.{◌≡◌, ℕ, suc, ◌+◌, ◌<◌, ◌≤◌, ◌==◌, ◌&&◌, nat_le, Bool, true, false, cond, not, Option, Some, refl, sym, ap, subst, ◌∙◌, arith, ⊎_elim, inl, inr}
+use Rattle.std.proofs.Common.{◌≡◌, ℕ, suc, ◌+◌, ◌<◌, ◌≤◌, ◌==◌, ◌&&◌, nat_le, Bool, true, false, not, Option, Some, refl, sym, ap, subst, ◌∙◌, arith, ⊎_elim, inl, inr}
 use Rattle.std.specs.Prelude.{◌⊎◌}
 use Rattle.std.proofs.Math.Nat.{mod-eq_of_lt}
-use Rattle.std.proofs.lemmas.Bool.{cases_lt, eq-eqb, eqb-true, le-leb}
+use Rattle.std.proofs.lemmas.Bool.{cases_lt, eqb-true, le-leb}
 use Rattle.tiger_base.specs.declared.number.LinkNo.{LinkNo}
 use Rattle.tiger_base.specs.declared.number.Stamp.{Stamp}
 use Rattle.tiger_base.specs.declared.tenancy.Rec.{Rec}
 use Rattle.tiger_base.specs.declared.tenancy.Tenancy.{Tenancy}
 use Rattle.tiger_base.specs.declared.message.Msg.{Msg}
 use Rattle.tiger_base.specs.declared.message.Msg.TheVariants as msg
-use Rattle.tiger_base.specs.Notes.{noted}
 use Rattle.tiger_base.specs.Records.{backup_of}
 use Rattle.slot_plan.specs.declared.params.Params.{Params}
 use Rattle.slot_plan.specs.Conditions.{IsPlan}
 use Rattle.slot_plan.specs.Times.{due, cub_of}
-use Rattle.node_kit.specs.Deeds.{nothing}
-use Rattle.node_kit.specs.Form.{is_in_form}
-use Rattle.node_kit.specs.Steps.{Input, stamp_of}
+use Rattle.node_kit.specs.Steps.{Deed, Input, stamp_of}
 use Rattle.node_kit.specs.Steps.Input.{Take, Tick}
 use Rattle.node_kit.specs.Ways.{way_ahead, predecessor}
 use Rattle.cub_rules.specs.declared.store.Store.{Store}
 use Rattle.cub_rules.specs.Comebacks.{due_of_record, is_handed_back}
-use Rattle.cub_rules.specs.Messages.{hearing, hearing_back, taking}
 use Rattle.cub_changes.specs.Causes.{IsOfPredecessor}
+use Rattle.cub_changes.proofs.Chains.{hears_back}
 use Rattle.cub_changes.proofs.Coming.{splitting_handback, taking_hears_back, ticking_handback}
 use Rattle.cub_changes.proofs.Numbers.{next_own, predecessor_below}
 use Rattle.disk_core.specs.State.{DiskState}
@@ -58,20 +55,6 @@ not_handed_back p from r e = ⊎_elim
     by_late false b f e = absurd (cc)
 
 -- ---- along a life
-
-told_heard : (p : Params) (c : ℕ) (link : LinkNo) (from : ℕ) (h : Store) → IsOfPredecessor p c link
-    → (hearing_back p c link from h).state.handback ≡ Some from
-unfolding hearing_back
-told_heard p c link from h of = rw (eq-eqb link.0 (way_ahead p (predecessor p c) 1).0 of) refl
-
--- a message in form by which the predecessor known of its return is heard
-hears_back : (p : Params) (c : ℕ) (stamp : Stamp) (link : LinkNo) (from : ℕ) (h : Store)
-    → is_in_form p (noted (msg.Back from)) ≡ true → IsOfPredecessor p c link
-    → (taking p c stamp link (msg.Back from) h).state.handback ≡ Some from
-unfolding taking hearing
-hears_back p c stamp link from h formed of =
-    subst (λ (b : Bool). (cond b (hearing_back p c link from h) (nothing h)).state.handback ≡ Some from) (sym formed)
-    (told_heard p c link from h of)
 
 module _ (p : Params) (c : ℕ) (inputs : ℕ → Input Msg) where
   -- a cub knows of a time from which on its predecessor serves
@@ -130,8 +113,8 @@ module _ (p : Params) (plan : IsPlan p) (lives : Lives) (are : AreLives p lives)
       let ei : beat_at inputs i ≡ stamp.beat = ap (λ (k : Input Msg). (stamp_of k).beat) is in
       let before = message_before p lives are c i t.at small low t.done (ap is_tick_input is) (ap is_tick_input t.is)
       (omega arith) in
-      let heard = hears_back p c (made_stamp y t.reading) t.link from (store_at p c inputs t.at)
-      (formed c small t.at (made_stamp y t.reading) t.link (msg.Back from) t.done t.is) w.link in
+      let heard = ap (λ (d : Deed Msg Store). d.state.handback) (hears_back p c (made_stamp y t.reading) t.link from (store_at p c inputs t.at)
+      (formed c small t.at (made_stamp y t.reading) t.link (msg.Back from) t.done t.is) w.link) in
       let after = subst (λ (k : Input Msg). (deed_of p c k (store_at p c inputs t.at)).state.handback ≡ Some from) (sym t.is)
       heard in
       let now = knows_on p c inputs (suc t.at) i (omega arith) (from, after) in

@@ -1,6 +1,6 @@
 -- Mirror states go out at a split alone, one for each piece behind the first, to as many cubs ahead.
 use Rattle.std.proofs.Common.{◌≡◌, ℕ, zero, suc, ◌+◌, ◌-◌, ◌*◌, ◌<◌, ◌≤◌, max, List, map, drop, true, Option, None, refl, sym, ap, subst, ◌∙◌, arith, ⊎_elim, inl, inr, eq-or-lt_of_le, false}
-use Rattle.std.specs.List.{flat_map, range_with_len, AllByRecursion}
+use Rattle.std.specs.List.{range_with_len, AllByRecursion}
 use Rattle.tiger_base.specs.declared.number.LinkNo.{LinkNo}
 use Rattle.tiger_base.specs.declared.number.Stamp.{Stamp}
 use Rattle.tiger_base.specs.declared.tenancy.PieceState.{PieceState}
@@ -14,20 +14,20 @@ use Rattle.partial_view.specs.declared.line.Line.{Line}
 use Rattle.mirror_schedule.specs.Pieces.{pieces_of}
 use Rattle.node_kit.specs.declared.outbox.Out.{Out}
 use Rattle.node_kit.specs.declared.outbox.Out.TheVariants as out
-use Rattle.node_kit.specs.Deeds.{nothing, then_do}
+use Rattle.node_kit.specs.Deeds.{then_do}
 use Rattle.node_kit.specs.Steps.{Deed, Input, stamp_of}
 use Rattle.node_kit.specs.Steps.Input.{Take, Tick}
 use Rattle.node_kit.specs.Ways.{way_ahead}
 use Rattle.cub_rules.specs.declared.store.Store.{Store}
-use Rattle.cub_rules.specs.Records.{with_piece_record}
 use Rattle.cub_rules.specs.Messages.{taking}
-use Rattle.cub_rules.specs.Ticks.{releasing, believing, inserting, must_split, sent_ahead, split_outs, first_pieces, with_each, with_split_lines, splitting, forwarding, ticking}
+use Rattle.cub_rules.specs.Ticks.{releasing, believing, must_split, sent_ahead, split_outs, splitting, forwarding, ticking}
 use Rattle.cub_changes.specs.Changes.{Change, did}
 use Rattle.cub_changes.specs.Changes.Change.{SplitVisits, Forward}
 use Rattle.cub_changes.specs.Causes.Stage.{OnMessage, OnRelease, OnDeadman, OnInsertion}
 use Rattle.cub_changes.specs.Causes.{Stage, IsService, Cause}
 use Rattle.cub_changes.specs.Outputs.{Output, output, ComesOf}
 use Rattle.cub_changes.specs.Outputs.Output.{MirrorStateSent}
+use Rattle.cub_changes.proofs.Chains.{split_is, service_out}
 use Rattle.cub_changes.proofs.Closed.{OfEach, then_by}
 use Rattle.cub_changes.proofs.Messages.{taking_by}
 use Rattle.cub_changes.proofs.Outputs.{forms_of, Puts, puts_closed}
@@ -36,12 +36,11 @@ use Rattle.cub_changes.proofs.Ticks.{end_steps, IsOfEnd, splitting_from, forward
 use Rattle.proof_lives.specs.Lives.{Lives, cut_in, cut_outs, store_at, deed_of, outs_in}
 use Rattle.lists.specs.Elements.{In}
 use Rattle.proof_lives.specs.Facts.{DidAt}
-use Rattle.lists.proofs.Elements.{chosen, in_left, in_right, in_map, from_map, in_flat_map}
+use Rattle.lists.proofs.Elements.{in_left, in_map, from_map, in_flat_map}
 use Rattle.lists.proofs.Each.{all_in}
 use Rattle.proof_facts.specs.Pieces.{before_splitting, piece, stamp_of as made_stamp, SplitAt, MirrorSentAt}
 use Rattle.proof_lives.proofs.Beside.{outs_of_release, outs_of_belief, outs_of_insertion, inserted_go, tick_outs}
 use Rattle.proof_lives.proofs.Cuts.{was_put_out, goes_whole}
-use Rattle.proof_lives.proofs.HoldLaws.{no_both}
 use Rattle.proof_lives.proofs.States.{from_tick}
 use Rattle.proof_lives.proofs.Ticking.{inserted_out}
 use Rattle.proof_splits.proofs.PieceMoves.{backup_line}
@@ -151,20 +150,13 @@ splitting_sends_all : (p : Params) (c : ℕ) (stamp : Stamp) (h : Store) (y : Li
     → In y h.view.lines
     → must_split p stamp y ≡ true → is_handed_back p h.handback y.rec ≡ false → 2 ≤ k → k ≤ p.pieces
     → In (sent_ahead p c (piece y.rec.tenancy y.rec.visit k)) (splitting p c stamp h).outs
-unfolding splitting
 splitting_sends_all p c stamp h y k b there must left low high =
     let x : PieceState = piece y.rec.tenancy y.rec.visit k in
     let here : In (sent_ahead p c x) (split_outs p c stamp h.handback y) =
     in_split_off p stamp h.handback y (sent_ahead p c x) (map (sent_ahead p c) (drop 1 (pieces_of p y.rec))) must left
     (in_map (sent_ahead p c) x (drop 1 (pieces_of p y.rec)) (later_there p y.rec k low high)) in
-    chosen (λ (d : Deed Msg Store). In (sent_ahead p c x) d.outs) h.believes
-    (record {
-      outs = flat_map (split_outs p c stamp h.handback) h.view.lines;
-      state = with_each with_piece_record
-          (flat_map (first_pieces p stamp h.handback) h.view.lines) (with_split_lines p stamp h);
-    })
-    (nothing h)
-    (λ _. in_flat_map (split_outs p c stamp h.handback) (sent_ahead p c x) y h.view.lines there here) (λ f. absurd (no_both b f))
+    subst (λ (d : Deed Msg Store). In (sent_ahead p c x) d.outs) (sym (split_is p c stamp h b))
+    (in_flat_map (split_outs p c stamp h.handback) (sent_ahead p c x) y h.view.lines there here)
 
 module _ (p : Params) (c : ℕ) (stamp : Stamp) (X : LinkNo → PieceState → Type 0) where
   -- only the change that splits visits sends mirror states
@@ -214,14 +206,7 @@ module _ (p : Params) (c : ℕ) (stamp : Stamp) where
 
   from_splitting : (h : Store) (o : Out Msg) → In o (splitting p c stamp (before_splitting p c stamp h)).outs
       → In o (ticking p c stamp h).outs
-  unfolding ticking
-  from_splitting h o i =
-      let h1 : Store = (releasing p stamp h).state in
-      let h2 : Store = (believing p c stamp h1).state in
-      let h3 : Store = before_splitting p c stamp h in
-      in_right o (releasing p stamp h).outs _
-      (in_right o (believing p c stamp h1).outs _
-      (in_right o (inserting p c stamp h2).outs _ (in_left o (splitting p c stamp h3).outs _ i)))
+  from_splitting h o i = service_out p c stamp h o (in_left o (splitting p c stamp (before_splitting p c stamp h)).outs _ i)
 
   -- One that goes out goes out behind all that insertion puts out.
   behind_insertion : (cut : Option ℕ) (h : Store) (link : LinkNo) (x : PieceState)

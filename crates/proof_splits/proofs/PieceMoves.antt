@@ -20,31 +20,28 @@ use Rattle.partial_view.specs.declared.line.Line.{Line}
 use Rattle.deschedule.specs.Holds.{is_held}
 use Rattle.mirror_schedule.specs.Pieces as pieces
 use Rattle.mirror_schedule.specs.Pieces.{pieces_of}
-use Rattle.node_kit.specs.Deeds.{nothing}
 use Rattle.node_kit.specs.Steps.{Deed, Input}
 use Rattle.node_kit.specs.Steps.Input.{Take, Tick}
 use Rattle.cub_rules.specs.declared.store.Store.{Store}
-use Rattle.cub_rules.specs.Records.{with_piece_record}
 use Rattle.cub_rules.specs.Messages.{taking}
-use Rattle.cub_rules.specs.Ticks.{releasing, believing, inserting, must_split, split_outs, first_pieces, with_each, with_split_lines, splitting, forwarding, leaves_by, reading_blocks, reading_pieces, reading, serving_blocks, dropping_backups, serving_pieces, serving, beating, ticking}
+use Rattle.cub_rules.specs.Ticks.{releasing, believing, inserting, must_split, first_pieces, with_split_lines, splitting, forwarding, leaves_by, reading, serving, ticking}
 use Rattle.cub_changes.specs.Changes.{Change, did}
 use Rattle.cub_changes.specs.Changes.Change.{DropPieces, TakeRecord, AddPiece, DropKilled, Believe, PutStart, SendFirst, SendPlaced, AskPieces, ServePieces}
 use Rattle.cub_changes.specs.Causes.{Cause}
 use Rattle.cub_changes.specs.Causes.Stage.{OnMessage, OnDeadman, OnInsertion}
-pub use Rattle.cub_changes.proofs.Ticks.{beating_same}
+use Rattle.cub_changes.proofs.Chains.{release_is, read_is, serve_is, split_is, forward_is, tick_served}
 use Rattle.cub_changes.proofs.Closed.{IsClosed}
 use Rattle.cub_changes.proofs.Fits.{IsOfInsertion, IsOfDeadman, fits}
 use Rattle.cub_changes.proofs.Messages.{taking_by}
 use Rattle.cub_changes.proofs.Puts.{inserting_by}
-use Rattle.cub_changes.proofs.Ticks.{believing_by}
+use Rattle.cub_changes.proofs.Ticks.{believing_by, splitting_of, before_forwarding}
 use Rattle.proof_lives.specs.Lives.{deed_of}
 use Rattle.lists.specs.Elements.{In}
-use Rattle.lists.proofs.Elements.{chosen, from_flat_map, in_flat_map, from_filter}
+use Rattle.lists.proofs.Elements.{from_flat_map, in_flat_map, from_filter}
 use Rattle.proof_facts.specs.Pieces.{before_splitting, before_reading, before_serving, piece}
 use Rattle.proof_splits.specs.PieceRecords.{IsMirrored, IsSplitOff, Enters, CutsOff, MayGo, IsAsked}
-use Rattle.proof_lives.proofs.HoldLaws.{no_both}
 use Rattle.cub_changes.proofs.Beliefs.{not_true}
-use Rattle.proof_splits.proofs.PieceSets.{Moves, moves_same, moves_then, moves_more, moves_fewer, moves_asked, moves_with_each, with_each_there}
+use Rattle.proof_splits.proofs.PieceSets.{Moves, moves_same, moves_then, moves_more, moves_fewer, moves_asked, moves_with, with_each_there}
 use Rattle.cub_rules.specs.Comebacks.{is_handed_back}
 use Rattle.proof_splits.proofs.Handing.{from_split_off, in_split_off}
 
@@ -173,8 +170,7 @@ deadman_blind other f = absurd f
 -- what a tick makes of the sets, up to each point
 module _ (Why Go Asked : PieceState → Type 0) (p : Params) (c : ℕ) (stamp : Stamp) where
   releasing_moves : (h : Store) → Moves Why Go Asked h (releasing p stamp h).state
-  unfolding releasing
-  releasing_moves h = moves_same Why Go Asked h _ refl refl
+  releasing_moves h = subst (MovesBy Why Go Asked p c stamp h) (sym (release_is p c stamp h)) (moves_same Why Go Asked h _ refl refl)
 
   believing_moves : (h : Store) → Moves Why Go Asked h (believing p c stamp h).state
   believing_moves h =
@@ -189,39 +185,29 @@ module _ (Why Go Asked : PieceState → Type 0) (p : Params) (c : ℕ) (stamp : 
   splitting_moves : (h : Store) → ((x : PieceState) (y : Line) → h.believes ≡ true → In y h.view.lines
       → must_split p stamp y ≡ true → is_handed_back p h.handback y.rec ≡ false → In x (take 1 (pieces_of p y.rec)) → Why x)
       → Moves Why Go Asked h (splitting p c stamp h).state
-  unfolding splitting
   splitting_moves h why =
-      let xs : List PieceState = flat_map (first_pieces p stamp h.handback) h.view.lines in
-      let g : Store = with_split_lines p stamp h in
-      chosen (λ (d : Deed Msg Store). Moves Why Go Asked h d.state) h.believes
-      (record { outs = flat_map (split_outs p c stamp h.handback) h.view.lines; state = with_each with_piece_record xs g })
-      (nothing h)
-      (λ b. moves_then Why Go Asked h g (with_each with_piece_record xs g) (moves_same Why Go Asked h g refl refl)
-      (moves_with_each Why Go Asked xs g (λ x i.
+      splitting_of (MovesBy Why Go Asked p c stamp) (moves_closed Why Go Asked p c stamp) p c stamp h
+      (λ _. moves_same Why Go Asked h _ refl refl)
+      (λ b x i q.
       let o = from_flat_map (first_pieces p stamp h.handback) x h.view.lines i in
       let f = from_split_off p stamp h.handback o.0 x (take 1 (pieces_of p o.0.rec)) o.2 in
-      why x o.0 b o.1 f.0 f.1 f.2)))
-      (λ _. moves_same Why Go Asked h h refl refl)
+      moves_with Why Go Asked x q (why x o.0 b o.1 f.0 f.1 f.2))
 
   forwarding_moves : (h : Store) → Moves Why Go Asked h (forwarding p c stamp h).state
-  unfolding forwarding
-  forwarding_moves h = moves_same Why Go Asked h _ refl refl
+  forwarding_moves h = subst (MovesBy Why Go Asked p c stamp h) (sym (forward_is p c stamp h)) (moves_same Why Go Asked h _ refl refl)
 
   reading_moves : (h : Store) → ((x : PieceState) → In x h.unasked.items
       → leaves_by p (stamp.reading + p.read_lead) x ≡ true → Asked x)
       → Moves Why Go Asked h (reading p stamp h).state
-  unfolding reading reading_blocks reading_pieces
-  reading_moves h asked = moves_asked Why Go Asked (leaves_by p (stamp.reading + p.read_lead)) h _ refl refl asked
+  reading_moves h asked =
+      subst (MovesBy Why Go Asked p c stamp h) (sym (read_is p c stamp h))
+      (moves_asked Why Go Asked (leaves_by p (stamp.reading + p.read_lead)) h _ refl refl asked)
 
   serving_moves : (h : Store) → ((x : PieceState) → leaves_by p stamp.reading x ≡ true → Go x)
       → Moves Why Go Asked h (serving p c stamp h).state
-  unfolding serving serving_blocks dropping_backups serving_pieces
-  serving_moves h go = moves_fewer Why Go Asked (leaves_by p stamp.reading) h _ refl refl go
-
-  beating_moves : (h : Store) → Moves Why Go Asked h (beating p c stamp h).state
-  beating_moves h =
-      let same = beating_same p c stamp h in
-      moves_same Why Go Asked h _ (ap (λ (k : Store). k.pieces) same) (ap (λ (k : Store). k.unasked) same)
+  serving_moves h go =
+      subst (MovesBy Why Go Asked p c stamp h) (sym (serve_is p c stamp h))
+      (moves_fewer Why Go Asked (leaves_by p stamp.reading) h _ refl refl go)
 
   -- from its beginning to where it splits, asks, and serves, and to its end
   pub to_splitting : (h : Store) → Moves Why Go Asked h (before_splitting p c stamp h)
@@ -266,14 +252,12 @@ module _ (Why Go Asked : PieceState → Type 0) (p : Params) (c : ℕ) (stamp : 
   pub rest_moves : (h : Store) → ((x : PieceState) → leaves_by p stamp.reading x ≡ true → Go x)
       → ((x : PieceState) → IsAsked p c stamp h x → Asked x)
       → Moves Why Go Asked (before_reading p c stamp h) (ticking p c stamp h).state
-  unfolding ticking
   rest_moves h go asked =
       let h5 : Store = before_reading p c stamp h in
       let h6 : Store = before_serving p c stamp h in
-      let h7 : Store = (serving p c stamp h6).state in
-      let h8 : Store = (beating p c stamp h7).state in
-      moves_then Why Go Asked h5 h6 h8 (reading_moves h5 (λ x i t. asked x (record { unasked = i; soon = t })))
-      (moves_then Why Go Asked h6 h7 h8 (serving_moves h6 go) (beating_moves h7))
+      subst (λ (k : Store). Moves Why Go Asked h5 k) (sym (tick_served p c stamp h))
+      (moves_then Why Go Asked h5 h6 (serving p c stamp h6).state
+      (reading_moves h5 (λ x i t. asked x (record { unasked = i; soon = t }))) (serving_moves h6 go))
 
   -- all of a tick
   ticking_moves : (h : Store) → ((x : PieceState) → IsSplitOff p c stamp h x → Why x)
@@ -286,70 +270,58 @@ module _ (Why Go Asked : PieceState → Type 0) (p : Params) (c : ℕ) (stamp : 
 -- ---- what holds at the points of a tick
 
 module _ (p : Params) (c : ℕ) (stamp : Stamp) where
-  -- what is split off stands before the reading
+  -- what is split off stands behind the splitting
   splitting_there : (h : Store) (x : PieceState) (y : Line) → h.believes ≡ true → In y h.view.lines
       → must_split p stamp y ≡ true → is_handed_back p h.handback y.rec ≡ false → In x (take 1 (pieces_of p y.rec))
       → In x (splitting p c stamp h).state.pieces.items
-  unfolding splitting
   splitting_there h x y b i must left f =
       let xs : List PieceState = flat_map (first_pieces p stamp h.handback) h.view.lines in
       let here : In x (first_pieces p stamp h.handback y) =
       in_split_off p stamp h.handback y x (take 1 (pieces_of p y.rec)) must left f in
-      chosen (λ (d : Deed Msg Store). In x d.state.pieces.items) h.believes
-      (record {
-        outs = flat_map (split_outs p c stamp h.handback) h.view.lines;
-        state = with_each with_piece_record xs
-            (with_split_lines p stamp h);
-      }) (nothing h)
-      (λ _. with_each_there x xs (with_split_lines p stamp h)
-      (in_flat_map (first_pieces p stamp h.handback) x y h.view.lines i here))
-      (λ f. absurd (no_both b f))
+      subst (λ (d : Deed Msg Store). In x d.state.pieces.items) (sym (split_is p c stamp h b))
+      (with_each_there x xs (with_split_lines p stamp h) (in_flat_map (first_pieces p stamp h.handback) x y h.view.lines i here))
 
   -- what is split off stands before the reading
   pub split_there : (h : Store) (x : PieceState) → 1 ≤ p.pieces → IsSplitOff p c stamp h x
       → In x (before_reading p c stamp h).pieces.items
-  unfolding forwarding
   split_there h x some s =
       let first = first_there p s.line.rec some in
       let e : piece s.line.rec.tenancy s.line.rec.visit 1 ≡ x = ap (λ (r : Rec). piece r.tenancy r.visit 1) s.there.1
       ∙ ap (λ (k : ℕ). piece x.tenancy x.visit k) (sym s.first) in
-      splitting_there (before_splitting p c stamp h) x s.line s.believes s.there.0 s.must s.left
-      (subst (λ (z : PieceState). In z (take 1 (pieces_of p s.line.rec))) e first)
+      subst (λ (d : Deed Msg Store). In x d.state.pieces.items) (sym (forward_is p c stamp (before_forwarding p c stamp h)))
+      (splitting_there (before_splitting p c stamp h) x s.line s.believes s.there.0 s.must s.left
+      (subst (λ (z : PieceState). In z (take 1 (pieces_of p s.line.rec))) e first))
 
   -- what leaves by a tick is gone after it, and so is from those to be asked for what leaves within the lead
   serving_leaves : (h : Store) (x : PieceState) → In x (serving p c stamp h).state.pieces.items
       → leaves_by p stamp.reading x ≡ false
-  unfolding serving serving_blocks dropping_backups serving_pieces
-  serving_leaves h x i = not_true _ (from_filter (λ y. not (leaves_by p stamp.reading y)) x h.pieces.items i).1
+  serving_leaves h x i =
+      let there = subst (λ (d : Deed Msg Store). In x d.state.pieces.items) (serve_is p c stamp h) i in
+      not_true _ (from_filter (λ y. not (leaves_by p stamp.reading y)) x h.pieces.items there).1
 
   reading_leaves : (h : Store) (x : PieceState) → In x (reading p stamp h).state.unasked.items
       → leaves_by p (stamp.reading + p.read_lead) x ≡ false
-  unfolding reading reading_blocks reading_pieces
-  reading_leaves h x i = not_true _
-      (from_filter (λ y. not (leaves_by p (stamp.reading + p.read_lead) y)) x h.unasked.items i).1
+  reading_leaves h x i =
+      let there = subst (λ (d : Deed Msg Store). In x d.state.unasked.items) (read_is p c stamp h) i in
+      not_true _ (from_filter (λ y. not (leaves_by p (stamp.reading + p.read_lead) y)) x h.unasked.items there).1
 
   serving_unasked : (h : Store) (x : PieceState) → In x (serving p c stamp h).state.unasked.items → In x h.unasked.items
-  unfolding serving serving_blocks dropping_backups serving_pieces
-  serving_unasked h x i = (from_filter (λ y. not (leaves_by p stamp.reading y)) x h.unasked.items i).0
+  serving_unasked h x i =
+      let there = subst (λ (d : Deed Msg Store). In x d.state.unasked.items) (serve_is p c stamp h) i in
+      (from_filter (λ y. not (leaves_by p stamp.reading y)) x h.unasked.items there).0
 
   -- after a tick no record stands of a piece that leaves by then
   pub ticking_leaves : (h : Store) (x : PieceState) → In x (ticking p c stamp h).state.pieces.items
       → leaves_by p stamp.reading x ≡ false
-  unfolding ticking
   ticking_leaves h x i =
-      let h6 : Store = before_serving p c stamp h in
-      let h7 : Store = (serving p c stamp h6).state in
-      serving_leaves h6 x (subst (λ (k : Store). In x k.pieces.items) (beating_same p c stamp h7) i)
+      serving_leaves (before_serving p c stamp h) x (subst (λ (k : Store). In x k.pieces.items) (tick_served p c stamp h) i)
 
   -- and none is to be asked for that leaves within the read lead
   pub ticking_asks : (h : Store) (x : PieceState) → In x (ticking p c stamp h).state.unasked.items
       → leaves_by p (stamp.reading + p.read_lead) x ≡ false
-  unfolding ticking
   ticking_asks h x i =
-      let h6 : Store = before_serving p c stamp h in
-      let h7 : Store = (serving p c stamp h6).state in
       reading_leaves (before_reading p c stamp h) x
-      (serving_unasked h6 x (subst (λ (k : Store). In x k.unasked.items) (beating_same p c stamp h7) i))
+      (serving_unasked (before_serving p c stamp h) x (subst (λ (k : Store). In x k.unasked.items) (tick_served p c stamp h) i))
 
 -- ---- any input
 

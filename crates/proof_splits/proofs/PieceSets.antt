@@ -11,6 +11,7 @@ use Rattle.mirror_schedule.proofs.Ranks.{pieces_same}
 use Rattle.cub_rules.specs.declared.store.Store.{Store}
 use Rattle.cub_rules.specs.Records.{pieces_with, with_piece_record}
 use Rattle.cub_rules.specs.Ticks.{with_each}
+use Rattle.cub_changes.proofs.Messages.{with_piece_of}
 use Rattle.lists.specs.Elements.{In}
 use Rattle.proof_lives.proofs.HoldLaws.{no_both}
 use Rattle.lists.proofs.Elements.{chosen, in_filter, from_filter}
@@ -282,11 +283,8 @@ module _ (Why Go Asked : PieceState → Type 0) where
 
   -- a piece record is added, if there is none of that piece
   pub moves_with : (x : PieceState) (h : Store) → Why x → Moves Why Go Asked h (with_piece_record x h)
-  unfolding with_piece_record
   moves_with x h why =
-      chosen (λ (k : Store). Moves Why Go Asked h k) (is_in x h.pieces.items) h
-      (record h { pieces = pieces_with x h.pieces; unasked = pieces_with x h.unasked })
-      (λ _. moves_same h h refl refl) (λ new. moves_more x h why new)
+      with_piece_of (λ (k : Store). Moves Why Go Asked h k) x h (λ _. moves_same h h refl refl) (λ new. moves_more x h why new)
 
   -- some records are added, one after another
   pub moves_with_each : (xs : List PieceState) (h : Store) → ((x : PieceState) → In x xs → Why x)
@@ -299,11 +297,9 @@ module _ (Why Go Asked : PieceState → Type 0) where
 
 -- what is added stands then
 pub with_there : (x : PieceState) (h : Store) → In x (with_piece_record x h).pieces.items
-unfolding with_piece_record
 with_there x h =
-    chosen (λ (k : Store). In x k.pieces.items) (is_in x h.pieces.items) h
-    (record h { pieces = pieces_with x h.pieces; unasked = pieces_with x h.unasked })
-    (λ t. there_is_in x h.pieces.items t) (λ _. with_piece_there h.pieces.params x h.pieces.items)
+    with_piece_of (λ (k : Store). In x k.pieces.items) x h (λ t. there_is_in x h.pieces.items t)
+    (λ _. with_piece_there h.pieces.params x h.pieces.items)
 
 with_each_stays : (x : PieceState) (xs : List PieceState) (h : Store) → In x h.pieces.items
     → In x (with_each with_piece_record xs h).pieces.items

@@ -1,5 +1,5 @@
 -- The splits that a cub remembers: each stays until a deschedule comes, which kills it, or a tick at which it is over.
-use Rattle.std.proofs.Common.{◌≡◌, ℕ, suc, ◌+◌, ◌-◌, ◌<◌, ◌≤◌, List, [], ◌∷◌, ◌++◌, filter, Bool, true, false, cond, not, Option, refl, sym, ap, subst, ◌∙◌, arith, ⊎_elim, inl, inr}
+use Rattle.std.proofs.Common.{◌≡◌, ℕ, suc, ◌+◌, ◌-◌, ◌<◌, ◌≤◌, List, [], ◌∷◌, ◌++◌, filter, true, false, not, Option, refl, sym, ap, subst, ◌∙◌, arith, ⊎_elim, inl, inr}
 use Rattle.std.specs.Prelude.{◌⊎◌, ◌==◌}
 use Rattle.std.specs.List.{flat_map, range_with_len}
 use Rattle.std.proofs.lemmas.Bool.{cases_Bool, and_parts, eq-eqb, eqb-true, leb-true}
@@ -16,38 +16,37 @@ use Rattle.tiger_base.specs.Notes.{noted}
 use Rattle.slot_plan.specs.declared.params.Params.{Params}
 use Rattle.slot_plan.specs.Times.{due}
 use Rattle.partial_view.specs.declared.line.Line.{Line}
-use Rattle.mirror_schedule.specs.Pieces as pieces
 use Rattle.mirror_schedule.specs.Splits as splits
 use Rattle.mirror_schedule.specs.Splits.{Split}
 use Rattle.mirror_schedule.proofs.Numbers.{is_less-neither}
 use Rattle.node_kit.specs.declared.outbox.Out.{Out}
 use Rattle.node_kit.specs.declared.outbox.Out.TheVariants as out
-use Rattle.node_kit.specs.Deeds.{nothing}
+use Rattle.node_kit.specs.Deeds.{then_do}
 use Rattle.node_kit.specs.Form.{is_in_form}
 use Rattle.node_kit.specs.Steps.{Deed, Input}
 use Rattle.node_kit.specs.Steps.Input.{Take, Tick}
 use Rattle.node_kit.specs.Ways.{way_ahead}
 use Rattle.cub_rules.specs.declared.store.Store.{Store}
-use Rattle.cub_rules.specs.Records.{with_piece_record, dropping_lines, dropping_start, dropping_pieces}
-use Rattle.cub_rules.specs.Messages.{holding, passing, kills, killing_splits, descheduling, hearing, taking}
-use Rattle.cub_rules.specs.Ticks.{must_split, first_pieces, split_outs, split_visits, with_each, with_split_lines, splitting, forwarding, reading_blocks, reading_pieces, reading, serving_blocks, dropping_backups, serving_pieces, serving, ticking}
+use Rattle.cub_rules.specs.Records.{with_piece_record}
+use Rattle.cub_rules.specs.Messages.{holding, passing, kills, taking}
+use Rattle.cub_rules.specs.Ticks.{must_split, first_pieces, split_visits, with_each, with_split_lines, splitting, forwarding, ticking}
 use Rattle.cub_changes.specs.Changes.{Change, did}
-use Rattle.cub_changes.specs.Changes.Change.{KillSplits, Release, SplitVisits}
+use Rattle.cub_changes.specs.Changes.Change.{KillSplits, Release, SplitVisits, AskBlocks, AskPieces, ServeBlocks, DropBackups, ServePieces, Beat}
 use Rattle.cub_changes.specs.Causes.{Stage, Cause}
 use Rattle.cub_changes.specs.Causes.Stage.{OnMessage, OnRelease, OnDeadman, OnInsertion, OnService}
-use Rattle.cub_changes.proofs.Closed.{IsClosed}
-use Rattle.cub_changes.proofs.Messages.{taking_by}
-use Rattle.cub_changes.proofs.Ticks.{IsOfTick, ticking_by}
+use Rattle.cub_changes.proofs.Chains.{split_is, tick_late, stopped}
+use Rattle.cub_changes.proofs.Closed.{IsClosed, then_by}
+use Rattle.cub_changes.proofs.Messages.{taking_by, with_piece_of}
+use Rattle.cub_changes.proofs.Ticks.{IsOfTick, IsOfEnd, end_steps, forwarding_from, end_from, ticking_by}
 use Rattle.proof_lives.specs.Lives.{Lives, store_at, deed_of, outs_at}
 use Rattle.lists.specs.Elements.{In}
-use Rattle.lists.proofs.Elements.{chosen, in_left, in_right, in_map, in_filter, from_filter, in_flat_map}
+use Rattle.lists.proofs.Elements.{in_left, in_right, in_map, in_filter, from_filter, in_flat_map}
 use Rattle.proof_lives.proofs.Trails.{held_until}
 use Rattle.proof_lives.specs.HoldsHere.{IsFormed}
 use Rattle.proof_lives.proofs.Begun.{IsStop}
 use Rattle.proof_facts.specs.Pieces.{before_splitting, stamp_of, kept_at, SplitAt}
 use Rattle.proof_lives.proofs.HoldLaws.{no_both}
 use Rattle.proof_splits.proofs.PieceSets.{one_more_stays, one_more_there}
-use Rattle.proof_splits.proofs.PieceMoves.{beating_same}
 use Rattle.proof_splits.proofs.MirrorStates.{in_range}
 use Rattle.cub_rules.specs.Comebacks.{is_handed_back}
 use Rattle.proof_splits.proofs.Handing.{in_split_off}
@@ -191,28 +190,14 @@ module _ (p : Params) (c : ℕ) (s : Split) where
       k
 
 -- a deschedule leaves no split of its instance
-killing_leaves : (p : Params) (c : ℕ) (v : Instance) (h : Store) (s : Split)
-    → In s (killing_splits p c v h).state.splits → v.0 ≡ s.0.0 → ⊥
-unfolding killing_splits
-killing_leaves p c v h s i e = no_both (from_filter (λ x. not (splits.is_of v x)) s h.splits i).1
-    (ap not (eq-eqb s.0.0 v.0 (sym e)))
-
-descheduling_forgets : (p : Params) (c : ℕ) (stamp : Stamp) (v : Instance) (tag : Option Tag) (h : Store) (s : Split)
-    → In s (descheduling p c stamp v tag h).state.splits → v.0 ≡ s.0.0 → ⊥
-unfolding descheduling
-descheduling_forgets p c stamp v tag h s i e =
-    let h2 : Store = (passing p c stamp v tag (holding p stamp v h).state).state in
-    let h4 : Store = (dropping_start v (dropping_lines v h2).state).state in
-    killing_leaves p c v (dropping_pieces v h4).state s i e
-
 taking_forgets : (p : Params) (c : ℕ) (stamp : Stamp) (link : LinkNo) (v : Instance) (tag : Option Tag) (h : Store)
     (s : Split)
     → is_in_form p (noted (msg.Deschedule v tag)) ≡ true → v.0 ≡ s.0.0
     → In s (taking p c stamp link (msg.Deschedule v tag) h).state.splits → ⊥
-unfolding taking hearing
 taking_forgets p c stamp link v tag h s form e i =
-    descheduling_forgets p c stamp v tag h s
-    (subst (λ (b : Bool). In s (cond b (descheduling p c stamp v tag h) (nothing h)).state.splits) form i) e
+    let g : Store = (passing p c stamp v tag (holding p stamp v h).state).state in
+    let there = subst (λ (k : Store). In s k.splits) (stopped p c stamp link v tag h form) i in
+    no_both (from_filter (λ x. not (splits.is_of v x)) s g.splits there).1 (ap not (eq-eqb s.0.0 v.0 (sym e)))
 
 -- ---- what is split is remembered
 
@@ -221,9 +206,7 @@ abbrev pub split_of : Rec → Split
 split_of r = (r.tenancy.instance, r.tenancy.slot, r.visit)
 
 with_piece_splits : (x : PieceState) (h : Store) → (with_piece_record x h).splits ≡ h.splits
-unfolding with_piece_record
-with_piece_splits x h = chosen (λ (k : Store). k.splits ≡ h.splits) (pieces.is_in x h.pieces.items) h _ (λ _. refl)
-    (λ _. refl)
+with_piece_splits x h = with_piece_of (λ (k : Store). k.splits ≡ h.splits) x h (λ _. refl) (λ _. refl)
 
 with_pieces_splits : (xs : List PieceState) (h : Store) → (with_each with_piece_record xs h).splits ≡ h.splits
 with_pieces_splits [] h = refl
@@ -232,39 +215,47 @@ with_pieces_splits (x ∷ xs) h = with_pieces_splits xs (with_piece_record x h) 
 splitting_remembers : (p : Params) (c : ℕ) (stamp : Stamp) (h : Store) (y : Line) → h.believes ≡ true
     → In y h.view.lines → must_split p stamp y ≡ true → is_handed_back p h.handback y.rec ≡ false
     → In (split_of y.rec) (splitting p c stamp h).state.splits
-unfolding splitting
 splitting_remembers p c stamp h y believes i must left =
     let s : Split = split_of y.rec in
     let xs : List PieceState = flat_map (first_pieces p stamp h.handback) h.view.lines in
     let here : In s (split_visits p stamp h.handback y) = in_split_off p stamp h.handback y s (s ∷ []) must left (inl refl) in
-    chosen (λ (d : Deed Msg Store). In s d.state.splits) h.believes
-    (record {
-      outs = flat_map (split_outs p c stamp h.handback) h.view.lines;
-      state = with_each with_piece_record xs
-          (with_split_lines p stamp h);
-    }) (nothing h)
-    (λ _. subst (λ (ls : List Split). In s ls) (sym (with_pieces_splits xs (with_split_lines p stamp h)))
+    subst (λ (d : Deed Msg Store). In s d.state.splits) (sym (split_is p c stamp h believes))
+    (subst (λ (ls : List Split). In s ls) (sym (with_pieces_splits xs (with_split_lines p stamp h)))
     (with_splits_there s (flat_map (split_visits p stamp h.handback) h.view.lines) h.splits
     (in_flat_map (split_visits p stamp h.handback) s y h.view.lines i here)))
-    (λ f. absurd (no_both believes f))
 
-serving_splits : (p : Params) (c : ℕ) (stamp : Stamp) (h : Store)
-    → (serving p c stamp (reading p stamp (forwarding p c stamp h).state).state).state.splits ≡ h.splits
-unfolding serving serving_blocks dropping_backups serving_pieces reading reading_blocks reading_pieces forwarding
-serving_splits p c stamp h = refl
+-- the steps behind splitting neither add nor drop any
+abbrev SameSplits : Store → Deed Msg Store → Type 0
+SameSplits h d = d.state.splits ≡ h.splits
+
+same_closed : IsClosed SameSplits
+same_closed = record { none = λ h. refl; both = λ h d e one two. two ∙ one }
+
+same_end : (p : Params) (c : ℕ) (stamp : Stamp) (x : Change) → IsOfEnd x → (h : Store) → SameSplits h (did p c stamp x h)
+same_end p c stamp AskBlocks of h = refl
+same_end p c stamp AskPieces of h = refl
+same_end p c stamp ServeBlocks of h = refl
+same_end p c stamp DropBackups of h = refl
+same_end p c stamp ServePieces of h = refl
+same_end p c stamp Beat of h = refl
+same_end p c stamp other of h = absurd of
+
+late_splits : (p : Params) (c : ℕ) (stamp : Stamp) (h : Store)
+    → (then_do (forwarding p c stamp) (end_steps p c stamp) h).state.splits ≡ h.splits
+late_splits p c stamp h =
+    then_by SameSplits same_closed (forwarding p c stamp) (end_steps p c stamp) h
+    (forwarding_from SameSplits same_closed p c stamp h refl)
+    (end_from SameSplits same_closed p c stamp (forwarding p c stamp h).state (same_end p c stamp))
 
 ticking_remembers : (p : Params) (c : ℕ) (stamp : Stamp) (h : Store) (y : Line)
     → (before_splitting p c stamp h).believes ≡ true
     → In y (before_splitting p c stamp h).view.lines → must_split p stamp y ≡ true
     → is_handed_back p (before_splitting p c stamp h).handback y.rec ≡ false
     → In (split_of y.rec) (ticking p c stamp h).state.splits
-unfolding ticking
 ticking_remembers p c stamp h y believes i must left =
     let h3 : Store = before_splitting p c stamp h in
-    let h4 : Store = (splitting p c stamp h3).state in
-    let h7 : Store = (serving p c stamp (reading p stamp (forwarding p c stamp h4).state).state).state in
-    subst (λ (k : Store). In (split_of y.rec) k.splits) (sym (beating_same p c stamp h7))
-    (subst (λ (ls : List Split). In (split_of y.rec) ls) (sym (serving_splits p c stamp h4))
+    subst (λ (k : Store). In (split_of y.rec) k.splits) (sym (tick_late p c stamp h))
+    (subst (λ (ls : List Split). In (split_of y.rec) ls) (sym (late_splits p c stamp (splitting p c stamp h3).state))
     (splitting_remembers p c stamp h3 y believes i must left))
 
 -- at the end of the tick at which a cub splits a visit it remembers that

@@ -1,28 +1,26 @@
 -- A cub's piece records along its life: how each entered, how long it stands, and until when it is to be asked for.
-use Rattle.std.proofs.Common.{◌≡◌, ℕ, zero, suc, ◌+◌, ◌<◌, ◌≤◌, Bool, true, false, cond, not, Option, refl, sym, ap, subst, arith, ⊎_elim, inl, inr}
+use Rattle.std.proofs.Common.{◌≡◌, ℕ, zero, suc, ◌+◌, ◌<◌, ◌≤◌, true, false, not, refl, sym, ap, subst, arith, ⊎_elim, inl, inr}
 use Rattle.std.specs.Prelude.{◌⊎◌}
 use Rattle.std.proofs.lemmas.Bool.{cases_Bool, cases_lt, eq-eqb, and_from}
 use Rattle.tiger_base.specs.declared.number.Instance.{Instance}
 use Rattle.tiger_base.specs.declared.number.LinkNo.{LinkNo}
 use Rattle.tiger_base.specs.declared.number.Stamp.{Stamp}
 use Rattle.tiger_base.specs.declared.tenancy.PieceState.{PieceState}
-use Rattle.tiger_base.specs.declared.tenancy.Tag.{Tag}
 use Rattle.tiger_base.specs.declared.message.Msg.{Msg}
 use Rattle.tiger_base.specs.declared.message.Msg.TheVariants as msg
 use Rattle.tiger_base.specs.Notes.{noted}
 use Rattle.slot_plan.specs.declared.params.Params.{Params}
-use Rattle.slot_plan.specs.Times.{cub_of}
-use Rattle.deschedule.specs.Holds.{is_held}
 use Rattle.mirror_schedule.specs.Pieces as pieces
-use Rattle.mirror_schedule.specs.Pieces.{is_in, leaving_of}
+use Rattle.mirror_schedule.specs.Pieces.{is_in}
 use Rattle.node_kit.specs.Form.{is_in_form}
-use Rattle.node_kit.specs.Deeds.{nothing}
-use Rattle.node_kit.specs.Steps.{Input}
+use Rattle.node_kit.specs.Steps.{Deed, Input}
 use Rattle.node_kit.specs.Steps.Input.{Take, Tick}
 use Rattle.cub_rules.specs.declared.store.Store.{Store}
-use Rattle.cub_rules.specs.Records.{dropping_lines, dropping_start, dropping_pieces}
-use Rattle.cub_rules.specs.Messages.{holding, passing, killing_splits, descheduling, meeting_piece, meeting_kill, hearing, taking}
+use Rattle.cub_rules.specs.Messages.{holding, passing, taking}
 use Rattle.cub_rules.specs.Ticks.{leaves_by, ticking}
+use Rattle.cub_changes.specs.Changes.{did}
+use Rattle.cub_changes.specs.Changes.Change.{DropPieces, DropKilled}
+use Rattle.cub_changes.proofs.Chains.{takes_piece, takes_kill, stopped}
 use Rattle.proof_lives.specs.Lives.{deed_of, store_at}
 use Rattle.lists.specs.Elements.{In}
 use Rattle.lists.proofs.Elements.{from_filter}
@@ -33,66 +31,40 @@ use Rattle.proof_splits.specs.PieceRecords.{IsMirrored, IsSplitOff, Enters, Cuts
 use Rattle.proof_lives.proofs.HoldLaws.{no_both}
 use Rattle.proof_splits.proofs.PieceSets.{Moves, there_is_in, with_there}
 use Rattle.proof_splits.proofs.PieceMoves.{to_reading, to_serving, split_there, ticking_leaves, ticking_asks, rest_moves, deed_moves}
-use Rattle.cub_rules.specs.Comebacks.{lets_in}
 
 -- ---- what a deschedule, a kill and a mirror state leave
 
-dropping_leaves : (v : Instance) (h : Store) (x : PieceState) → In x (dropping_pieces v h).state.pieces.items
-    → v.0 ≡ x.tenancy.instance.0 → ⊥
-unfolding dropping_pieces
-dropping_leaves v h x i e = no_both (from_filter (λ y. not (pieces.is_of v y)) x h.pieces.items i).1
+dropped : (p : Params) (c : ℕ) (stamp : Stamp) (v : Instance) (h : Store) (x : PieceState)
+    → In x (did p c stamp (DropPieces v) h).state.pieces.items → v.0 ≡ x.tenancy.instance.0 → ⊥
+dropped p c stamp v h x i e = no_both (from_filter (λ y. not (pieces.is_of v y)) x h.pieces.items i).1
     (ap not (eq-eqb x.tenancy.instance.0 v.0 (sym e)))
 
-splits_pieces : (p : Params) (c : ℕ) (v : Instance) (h : Store) → (killing_splits p c v h).state.pieces ≡ h.pieces
-unfolding killing_splits
-splits_pieces p c v h = refl
-
-descheduling_leaves : (p : Params) (c : ℕ) (stamp : Stamp) (v : Instance) (tag : Option Tag) (h : Store)
-    (x : PieceState)
-    → In x (descheduling p c stamp v tag h).state.pieces.items → v.0 ≡ x.tenancy.instance.0 → ⊥
-unfolding descheduling
-descheduling_leaves p c stamp v tag h x i e =
-    let h2 : Store = (passing p c stamp v tag (holding p stamp v h).state).state in
-    let h4 : Store = (dropping_start v (dropping_lines v h2).state).state in
-    dropping_leaves v h4 x (subst (λ (s : pieces.Pieces). In x s.items)
-    (splits_pieces p c v (dropping_pieces v h4).state) i) e
-
-kill_leaves : (v : Instance) (n : ℕ) (h : Store) (x : PieceState) → In x (meeting_kill v n h).state.pieces.items
-    → v.0 ≡ x.tenancy.instance.0 → n ≡ x.visit
-    → ⊥
-unfolding meeting_kill
-kill_leaves v n h x i e q =
+killed : (p : Params) (c : ℕ) (stamp : Stamp) (v : Instance) (n : ℕ) (h : Store) (x : PieceState)
+    → In x (did p c stamp (DropKilled v n) h).state.pieces.items → v.0 ≡ x.tenancy.instance.0 → n ≡ x.visit → ⊥
+killed p c stamp v n h x i e q =
     no_both (from_filter (λ y. not (pieces.is_of_visit v n y)) x h.pieces.items i).1
     (ap not (and_from _ _ (eq-eqb x.tenancy.instance.0 v.0 (sym e)) (eq-eqb x.visit n (sym q))))
 
 taking_cut : (p : Params) (c : ℕ) (stamp : Stamp) (link : LinkNo) (m : Msg) (h : Store) (x : PieceState)
     → is_in_form p (noted m) ≡ true
     → CutsOff (Take stamp link m) x → In x (taking p c stamp link m h).state.pieces.items → ⊥
-unfolding taking hearing
 taking_cut p c stamp link (msg.Deschedule v tag) h x form cut i =
-    descheduling_leaves p c stamp v tag h x
-    (subst (λ (b : Bool). In x (cond b (descheduling p c stamp v tag h) (nothing h)).state.pieces.items) form i) cut
+    dropped p c stamp v (passing p c stamp v tag (holding p stamp v h).state).state x
+    (subst (λ (s : Store). In x s.pieces.items) (stopped p c stamp link v tag h form) i) cut
 taking_cut p c stamp link (msg.Kill v slot n) h x form cut i =
-    kill_leaves v n h x (subst (λ (b : Bool). In x (cond b (meeting_kill v n h) (nothing h)).state.pieces.items) form i)
+    killed p c stamp v n h x (subst (λ (d : Deed Msg Store). In x d.state.pieces.items) (takes_kill p c stamp link v slot n h form) i)
     cut.0 cut.1
 taking_cut p c stamp link other h x form cut i = absurd cut
-
-meeting_there : (p : Params) (c : ℕ) (x : PieceState) (h : Store) → is_held h.held x.tenancy.instance ≡ false
-    → cub_of p (x.visit + x.piece) ≡ c → lets_in h.comeback (leaving_of p x) ≡ true
-    → In x (meeting_piece p c x h).state.pieces.items
-unfolding meeting_piece
-meeting_there p c x h free here lets = rw (free, eq-eqb (cub_of p (x.visit + x.piece)) c here, lets) (with_there x h)
 
 taking_there : (p : Params) (c : ℕ) (stamp : Stamp) (link : LinkNo) (m : Msg) (h : Store) (x : PieceState)
     → is_in_form p (noted m) ≡ true → IsMirrored p c m h x
     → In x (taking p c stamp link m h).state.pieces.items
-unfolding taking hearing
 taking_there p c stamp link m h x form w =
     let f : is_in_form p (noted (msg.MirrorState x)) ≡ true = subst
     (λ (o : Msg). is_in_form p (noted o) ≡ true) w.is form in
     subst (λ (o : Msg). In x (taking p c stamp link o h).state.pieces.items) (sym w.is)
-    (subst (λ (b : Bool). In x (cond b (meeting_piece p c x h) (nothing h)).state.pieces.items) (sym f)
-    (meeting_there p c x h w.free w.here w.lets))
+    (subst (λ (d : Deed Msg Store). In x d.state.pieces.items) (sym (takes_piece p c stamp link x h f w.free w.here w.lets))
+    (with_there x h))
 
 -- ---- a life
 

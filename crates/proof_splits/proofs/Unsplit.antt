@@ -25,26 +25,26 @@ use Rattle.partial_view.specs.Lines as lines
 use Rattle.partial_view.specs.Lines.{marked, unmarked}
 use Rattle.partial_view.specs.Views.{line_at, with_line, with_record, without_instance}
 use Rattle.node_kit.specs.declared.outbox.Out.{Out}
-use Rattle.node_kit.specs.Deeds.{nothing}
+use Rattle.node_kit.specs.Deeds.{then_do}
 use Rattle.node_kit.specs.Steps.{Deed, Input, stamp_of}
 use Rattle.node_kit.specs.Steps.Input.{Take, Tick}
 use Rattle.cub_rules.specs.declared.store.Store.{Store}
 use Rattle.cub_rules.specs.State.{visit_here}
-use Rattle.cub_rules.specs.Records.{with_piece_record}
 use Rattle.cub_rules.specs.Messages.{taking}
-use Rattle.cub_rules.specs.Ticks.{releasing, believing, inserting, must_split, split_line, split_outs, first_pieces, with_each, with_split_lines, splitting, is_to_forward, forward_line, forwarding, must_read, ask_line, reading_blocks, reading_pieces, reading, is_served, is_past, serving_blocks, dropping_backups, serving_pieces, serving, ticking}
+use Rattle.cub_rules.specs.Ticks.{releasing, believing, inserting, must_split, split_line, first_pieces, with_split_lines, splitting, is_to_forward, forward_line, forwarding, must_read, ask_line, is_served, is_past, ticking}
 use Rattle.cub_changes.specs.Changes.{Change, did}
-use Rattle.cub_changes.specs.Changes.Change.{DropLines, TakeRecord, SplitVisits, Forward, AskBlocks, AskPieces, ServeBlocks, DropBackups, ServePieces}
+use Rattle.cub_changes.specs.Changes.Change.{DropLines, TakeRecord, SplitVisits, Forward, AskBlocks, ServeBlocks, DropBackups}
 use Rattle.cub_changes.specs.Causes.{Cause}
 use Rattle.cub_changes.specs.Causes.Stage.{OnMessage, OnDeadman, OnInsertion}
 use Rattle.cub_changes.specs.Outputs.{Output, output, ComesOf}
 use Rattle.cub_changes.specs.Outputs.Output.{Took}
-use Rattle.cub_changes.proofs.Closed.{IsClosed}
+use Rattle.cub_changes.proofs.Chains.{release_is, split_is, split_none, tick_late}
+use Rattle.cub_changes.proofs.Closed.{IsClosed, then_by}
 use Rattle.cub_changes.proofs.Fits.{IsOfInsertion, IsOfDeadman, fits}
 use Rattle.cub_changes.proofs.Messages.{taking_by}
 use Rattle.cub_changes.proofs.Outputs.{forms_of}
 use Rattle.cub_changes.proofs.Puts.{inserting_by}
-use Rattle.cub_changes.proofs.Ticks.{believing_by}
+use Rattle.cub_changes.proofs.Ticks.{IsOfEnd, end_steps, believing_by, forwarding_from, end_from}
 use Rattle.proof_lives.specs.Lives.{Lives, AreLives, cut_in, store_at, deed_of, outs_at, beat_at}
 use Rattle.run_facts.specs.Events.{is_tick_input}
 use Rattle.lists.specs.Elements.{In}
@@ -63,7 +63,7 @@ use Rattle.proof_schedule.specs.Facts.{BelievedBy, EnteredBy, ReachedBy}
 use Rattle.proof_service.specs.ServiceFacts.{SplitBy}
 use Rattle.proof_lives.specs.FactsBy.{Beyond, facts_by}
 use Rattle.proof_facts.specs.Pieces.{before_splitting, stamp_of as made_stamp, SplitAt, pieces_by}
-use Rattle.proof_splits.proofs.PieceMoves.{backup_line, beating_same}
+use Rattle.proof_splits.proofs.PieceMoves.{backup_line}
 use Rattle.proof_splits.proofs.Beliefs.{believes_then}
 use Rattle.proof_splits.proofs.Backups.{line_here}
 use Rattle.cub_rules.specs.Comebacks.{is_handed_back}
@@ -254,8 +254,9 @@ module _ (r : Rec) (p : Params) (c : ℕ) (stamp : Stamp) where
 
   -- up to where the cub splits the line stays
   at_release : (h : Store) → HasUnsplit r h → HasUnsplit r (releasing p stamp h).state
-  unfolding releasing
-  at_release h u = record { line = u.line; there = u.there; is = u.is; unsplit = u.unsplit }
+  at_release h u =
+      subst (λ (d : Deed Msg Store). HasUnsplit r d.state) (sym (release_is p c stamp h))
+      (record { line = u.line; there = u.there; is = u.is; unsplit = u.unsplit })
 
   none_left : {X : Type 0} → X ⊎ ⊥ → X
   none_left k = ⊎_elim (λ x. x) (λ x. absurd x) k
@@ -296,30 +297,25 @@ module _ (r : Rec) (p : Params) (c : ℕ) (stamp : Stamp) where
   -- there it is split, or stays
   at_splitting : (h : Store) → (u : HasUnsplit r h) → ((h.believes ≡ true) × (must_split p stamp u.line ≡ true))
       ⊎ HasUnsplit r (splitting p c stamp h).state
-  unfolding splitting
   at_splitting h u =
       let xs : List PieceState = flat_map (first_pieces p stamp h.handback) h.view.lines in
-      let done : Deed Msg Store = record {
-        outs = flat_map (split_outs p c stamp h.handback) h.view.lines;
-        state = with_each with_piece_record xs
-            (with_split_lines p stamp h);
-      } in
-      chosen (λ (d : Deed Msg Store). ((h.believes ≡ true) × (must_split p stamp u.line ≡ true)) ⊎ HasUnsplit r d.state)
-      h.believes done (nothing h)
-      (λ b. ⊎_elim
+      let Unsplit : Deed Msg Store → Type 0 = λ d. HasUnsplit r d.state in
+      ⊎_elim
+      (λ (b : h.believes ≡ true). ⊎_elim
       (λ (t : must_split p stamp u.line ≡ true). inl (b, t))
       (λ (f : must_split p stamp u.line ≡ false).
       let same : split_line p stamp u.line ≡ u.line = rw f refl in
-      inr (record {
+      inr (subst Unsplit (sym (split_is p c stamp h b)) (record {
         line = u.line;
         there = subst (λ (ls : List Line). In u.line ls) (sym (same_with_pieces xs (with_split_lines p stamp h)))
             (subst (λ (y : Line). In y (map (split_line p stamp) h.view.lines)) same
             (in_map (split_line p stamp) u.line h.view.lines u.there));
         is = u.is;
         unsplit = u.unsplit;
-      }))
+      })))
       (cases_Bool (must_split p stamp u.line)))
-      (λ _. inr u)
+      (λ (f : h.believes ≡ false). inr (subst Unsplit (sym (split_none p c stamp h f)) u))
+      (cases_Bool h.believes)
 
   -- and from there on, until it is due
   abbrev IsDueBy : Type 0
@@ -331,38 +327,29 @@ module _ (r : Rec) (p : Params) (c : ℕ) (stamp : Stamp) where
   goes_on x h apart keeps k =
       ⊎_elim (λ u. stands_by r p c stamp IsDueBy x h apart (λ v e s. absurd (keeps v e)) (λ d w. d) u) (λ d. inr d) k
 
-  after_splitting : (h : Store) → HasUnsplit r h
-      → HasUnsplit r (serving p c stamp (reading p stamp (forwarding p c stamp h).state).state).state ⊎ IsDueBy
-  unfolding serving serving_blocks dropping_backups serving_pieces reading reading_blocks reading_pieces forwarding
-  after_splitting h u =
-      let h1 : Store = (forwarding p c stamp h).state in
-      let h2 : Store = (reading_blocks p stamp h1).state in
-      let h3 : Store = (reading_pieces p stamp h2).state in
-      let h4 : Store = (serving_blocks p c stamp h3).state in
-      let h5 : Store = (dropping_backups p stamp h4).state in
-      goes_on ServePieces h5 (λ e. absurd (cc)) (λ v e. absurd (cc))
-      (goes_on DropBackups h4 (λ e. absurd (cc)) (λ v e. absurd (cc))
-      (goes_on ServeBlocks h3 (λ e. absurd (cc)) (λ v e. absurd (cc))
-      (goes_on AskPieces h2 (λ e. absurd (cc)) (λ v e. absurd (cc))
-      (goes_on AskBlocks h1 (λ e. absurd (cc)) (λ v e. absurd (cc))
-      (goes_on Forward h (λ e. absurd (cc)) (λ v e. absurd (cc)) (inl u))))))
+  abbrev GoesOn : Store → Deed Msg Store → Type 0
+  GoesOn h d = HasUnsplit r h ⊎ IsDueBy → HasUnsplit r d.state ⊎ IsDueBy
+
+  goes_closed : IsClosed GoesOn
+  goes_closed = record { none = λ h k. k; both = λ h d e one two k. two (one k) }
+
+  after_splitting : (h : Store) → GoesOn h (then_do (forwarding p c stamp) (end_steps p c stamp) h)
+  after_splitting h =
+      then_by GoesOn goes_closed (forwarding p c stamp) (end_steps p c stamp) h
+      (forwarding_from GoesOn goes_closed p c stamp h (goes_on Forward h (λ e. absurd (cc)) (λ v e. absurd (cc))))
+      (end_from GoesOn goes_closed p c stamp (forwarding p c stamp h).state
+      (λ x of q. goes_on x q (λ e. subst IsOfEnd e of) (λ v e. subst IsOfEnd e of)))
 
   at_tick : (h : Store) → HasUnsplit r h
       ⊎ In (taken_out r) (inserting p c stamp (believing p c stamp (releasing p stamp h).state).state).outs
       → HasItsTurn p c stamp h r ⊎ (HasUnsplit r (ticking p c stamp h).state ⊎ IsDueBy)
-  unfolding ticking
   at_tick h k =
       let h3 : Store = before_splitting p c stamp h in
-      let h4 : Store = (splitting p c stamp h3).state in
       let u = to_splitting h k in
       ⊎_elim
       (λ s. inl (record { believes = s.0; line = u.line; there = u.there; is = u.is; must = s.1 }))
-      (λ w. inr (⊎_elim
-      (λ z. inl (subst (λ (q : Store). HasUnsplit r q)
-      (sym (beating_same p c stamp (serving p c stamp
-      (reading p stamp (forwarding p c stamp h4).state).state).state)) z))
-      (λ z. inr z)
-      (after_splitting h4 w)))
+      (λ w. inr (subst (λ (q : Store). HasUnsplit r q ⊎ IsDueBy) (sym (tick_late p c stamp h))
+      (after_splitting (splitting p c stamp h3).state (inl w))))
       (at_splitting h3 u)
 
 -- ---- a life

@@ -1,15 +1,14 @@
 -- What a cub puts out first in a tick right behind a message may not come of the take of the message.
-use Rattle.std.proofs.Common.{◌≡◌, ℕ, List, [], ◌∷◌, ◌++◌, map, filter, not, Bool, true, false, refl, sym, ap, subst, ◌∙◌, ⊎_elim, inl, inr, cond, Option}
+use Rattle.std.proofs.Common.{◌≡◌, ℕ, List, [], ◌∷◌, ◌++◌, map, filter, not, Bool, true, false, refl, sym, ap, subst, ◌∙◌, ⊎_elim, inl, inr, Option}
 use Rattle.std.specs.Prelude.{◌⊎◌, ◌==◌, Option}
 use Rattle.std.specs.List.{AllByRecursion}
-use Rattle.std.proofs.lemmas.Bool.{cond_both}
+use Rattle.std.proofs.lemmas.Bool.{cases_Bool, cond_both}
 use Rattle.tiger_base.specs.declared.number.Instance.{Instance}
 use Rattle.tiger_base.specs.declared.number.LinkNo.{LinkNo}
 use Rattle.tiger_base.specs.declared.number.Stamp.{Stamp}
 use Rattle.tiger_base.specs.declared.tenancy.Rec.{Rec}
 use Rattle.tiger_base.specs.declared.tenancy.PieceState.{PieceState}
 use Rattle.tiger_base.specs.declared.tenancy.State.{State}
-use Rattle.tiger_base.specs.declared.tenancy.Tag.{Tag}
 use Rattle.tiger_base.specs.declared.tenancy.Tenancy.{Tenancy}
 use Rattle.tiger_base.specs.declared.tenancy.Want.{Want}
 use Rattle.tiger_base.specs.Span.{LibraryPart}
@@ -23,21 +22,21 @@ use Rattle.node_kit.specs.declared.outbox.Out.{Out}
 use Rattle.node_kit.specs.Form.{IsInForm}
 use Rattle.node_kit.specs.Steps.{Deed, what_of}
 use Rattle.node_kit.specs.declared.journal.What.TheVariants as what
-use Rattle.node_kit.specs.Deeds.{nothing, then_do}
 use Rattle.partial_view.specs.declared.line.Line.{Line}
 use Rattle.partial_view.specs.declared.line.Flag.TheVariants as flag
 use Rattle.partial_view.specs.Lines as lines
 use Rattle.partial_view.specs.Lines.{marked}
 use Rattle.partial_view.specs.Views.{without_instance}
 use Rattle.cub_rules.specs.declared.store.Store.{Store}
-use Rattle.cub_rules.specs.Records.{dropping_lines, dropping_start, dropping_pieces}
-use Rattle.cub_rules.specs.Messages.{holding, passing, dropping_all, killing_splits, descheduling, hearing, taking}
+use Rattle.cub_rules.specs.Messages.{holding, passing, taking}
 use Rattle.cub_rules.specs.Ticks.{releasing, believing, putting_own, putting_for_dead, split_line, forward_line, ask_line, must_split, is_to_forward, must_read, is_served, is_past, ticking}
 use Rattle.cub_changes.specs.Changes.{Change, did}
 use Rattle.cub_changes.specs.Changes.Change.{PassOn, DropLines, DropStart, KillSplits, TakeRecord, Queue, FailRead, PutStart, SendFirst, SendPlaced, AddPiece, Believe, SplitVisits, Forward, AskBlocks, AskPieces, ServeBlocks, DropBackups, ServePieces, Beat}
 use Rattle.cub_changes.specs.Causes.Stage.{OnDeadman, OnService}
 use Rattle.cub_changes.specs.Outputs.{Output, output, ComesOf}
 use Rattle.cub_changes.specs.Outputs.Output.{Took, Dropped, Unqueued, Queued, Put, Believed, ReadFailed, DescheduleSent, KillSent, StateSent, MirrorStateSent, PlacedSent, AskSent, BlockSent, PieceSent, HeartbeatSent}
+use Rattle.cub_changes.proofs.Chains.{release_is, own_puts, dead_puts, stopped, ending_on}
+pub use Rattle.cub_changes.proofs.Chains.{ending_back}
 use Rattle.cub_changes.proofs.Closed.{IsClosed, OfEach}
 use Rattle.cub_changes.proofs.Fits.{IsOfService, fits}
 use Rattle.cub_changes.proofs.Outputs.{forms_of}
@@ -48,7 +47,7 @@ use Rattle.lists.proofs.Each.{all_in, all_by}
 use Rattle.lists.proofs.Elements.{from_filter, from_map}
 use Rattle.proof_turns.specs.Turns.{is_of_take}
 use Rattle.proof_turns.specs.Laws.{BeginsOtherwise, TicksBeginOtherwise}
-use Rattle.cub_rules.specs.Cubs.{was_away, coming_back, ending}
+use Rattle.cub_rules.specs.Cubs.{was_away, ending}
 
 -- no line is of the instance that a message stops
 abbrev AreApart : Note → List Line → Type 0
@@ -220,8 +219,8 @@ module _ (p : Params) (c : ℕ) (stamp : Stamp) where
       leaves other may = absurd may
 
   begins-releasing : (message : Note) (h : Store) → Begins message h (releasing p stamp h)
-  unfolding releasing
-  begins-releasing message h apart = inl (refl, apart)
+  begins-releasing message h =
+      subst (λ (d : Deed Msg Store). Begins message h d) (sym (release_is p c stamp h)) (λ apart. inl (refl, apart))
 
   begins-believing : (message : Note) (h : Store) → Begins message h (believing p c stamp h)
   begins-believing message h = believing_by (Begins message) (begins-closed message) p c stamp h each
@@ -231,12 +230,12 @@ module _ (p : Params) (c : ℕ) (stamp : Stamp) where
       each other g cause apart = absurd (fits p c stamp h OnDeadman other g cause)
 
   begins-own : (message : Note) (t : Tenancy) (h : Store) → Begins message h (putting_own p c t h)
-  unfolding putting_own
-  begins-own message t h apart = inr (none-put message t)
+  begins-own message t h apart =
+      inr (subst (λ (os : List (Out Msg)). IsOther message os) (own_puts p c t h) (none-put message t))
 
   begins-dead : (message : Note) (t : Tenancy) (h : Store) → Begins message h (putting_for_dead p c t h)
-  unfolding putting_for_dead
-  begins-dead message t h apart = inr (none-put message t)
+  begins-dead message t h apart =
+      inr (subst (λ (os : List (Out Msg)). IsOther message os) (dead_puts p c t h) (none-put message t))
 
   begins-ticking : (message : Note) (h : Store) → Begins message h (ticking p c stamp h)
   begins-ticking message h =
@@ -253,29 +252,17 @@ not-true : (b : Bool) → not b ≡ true → b ≡ false
 not-true true h = absurd (cc)
 not-true false h = refl
 
-all-dropped : (p : Params) (c : ℕ) (v : Instance) (h : Store)
-    → AllByRecursion (λ (x : Line). lines.is_of v x ≡ false) (dropping_all p c v h).state.view.lines
-unfolding dropping_lines dropping_start dropping_pieces killing_splits without_instance
-all-dropped p c v h =
-    all_by (λ (x : Line). lines.is_of v x ≡ false) (filter (λ x. not (lines.is_of v x)) h.view.lines) (λ x i.
-    not-true (lines.is_of v x) (from_filter (λ y. not (lines.is_of v y)) x h.view.lines i).1)
-
-taken-is : (p : Params) (c : ℕ) (stamp : Stamp) (link : LinkNo) (m : Msg) (h : Store) → IsInForm p (noted m)
-    → taking p c stamp link m h ≡ hearing p c stamp link m h
-unfolding taking
-taken-is p c stamp link m h form = ap (λ b. cond b (hearing p c stamp link m h) (nothing h)) form
-
-dropped-is : (p : Params) (c : ℕ) (stamp : Stamp) (link : LinkNo) (v : Instance) (tag : Option Tag) (h : Store)
-    → AllByRecursion (λ (x : Line). lines.is_of v x ≡ false)
-    (hearing p c stamp link (msg.Deschedule v tag) h).state.view.lines
-unfolding hearing descheduling
-dropped-is p c stamp link v tag h = all-dropped p c v (passing p c stamp v tag (holding p stamp v h).state).state
+all-dropped : (v : Instance) (xs : List Line) → AllByRecursion (λ (x : Line). lines.is_of v x ≡ false) (without_instance v xs)
+unfolding without_instance
+all-dropped v xs =
+    all_by (λ (x : Line). lines.is_of v x ≡ false) (filter (λ x. not (lines.is_of v x)) xs) (λ x i.
+    not-true (lines.is_of v x) (from_filter (λ y. not (lines.is_of v y)) x xs i).1)
 
 apart-behind : (p : Params) (c : ℕ) (stamp : Stamp) (link : LinkNo) (m : Msg) (h : Store) → IsInForm p (noted m)
     → AreApart (noted m) (taking p c stamp link m h).state.view.lines
 apart-behind p c stamp link (msg.Deschedule v tag) h form =
-    subst (λ (d : Deed Msg Store). AllByRecursion (λ (x : Line). lines.is_of v x ≡ false) d.state.view.lines)
-    (sym (taken-is p c stamp link (msg.Deschedule v tag) h form)) (dropped-is p c stamp link v tag h)
+    subst (λ (s : Store). AllByRecursion (λ (x : Line). lines.is_of v x ≡ false) s.view.lines)
+    (sym (stopped p c stamp link v tag h form)) (all-dropped v (passing p c stamp v tag (holding p stamp v h).state).state.view.lines)
 apart-behind p c stamp link other h form = tt
 
 begun : (message : Note) (outs : List (Out Msg)) (A : Type 0) → ((outs ≡ []) × A) ⊎ IsOther message outs
@@ -296,11 +283,11 @@ none-returned other = refl
 
 ending-other : (p : Params) (c : ℕ) (last : Option ℕ) (now : Stamp) (message : Note) (h : Store)
     → BeginsOtherwise noted message (ticking p c now h).outs → BeginsOtherwise noted message (ending p c last now h).outs
-unfolding ending
 ending-other p c last now message h tick =
     let Other : Deed Msg Store → Type 0 = λ d. BeginsOtherwise noted message d.outs in
-    cond_both (was_away last now.beat) (then_do (coming_back p c now) (ticking p c now) h) (ticking p c now h) Other
-    (λ _. none-returned message) (λ _. tick)
+    ⊎_elim (λ (away : was_away last now.beat ≡ true). subst Other (sym (ending_back p c now last h away)) (none-returned message))
+    (λ (on : was_away last now.beat ≡ false). subst Other (sym (ending_on p c now last h on)) tick)
+    (cases_Bool (was_away last now.beat))
 
 pub ticks_other : TicksBeginOtherwise
 ticks_other s stamp now link m form =

@@ -65,14 +65,6 @@ beside_in log = record {
   KillSent = (pieces_in log).KillSent;
 }
 
--- They do nothing beside their rules.
-abbrev pub nothing_beside : BesideFacts
-nothing_beside = record {
-  Spared = λ c t n b. ⊥;
-  MirrorSent = λ a k t n j b. ⊥;
-  KillSent = λ a k v s n b. ⊥;
-}
-
 -- What is told of pieces, and what cubs do beside their rules.
 abbrev pub with_beside : PieceFacts → BesideFacts → PieceFacts
 with_beside q x = record q {
