@@ -1,19 +1,14 @@
 -- What a table has under a key after one thing more.
-use Rattle.std.proofs.Common.{◌≡◌, ℕ, Bool, true, false, ◌&&◌, ◌||◌, ◌==◌, cond, List, Option, Some, if◌then◌else◌, refl, sym, ap, ◌∙◌}
+use Rattle.std.proofs.Common.{◌≡◌, ℕ, Bool, true, ◌&&◌, ◌||◌, ◌==◌, cond, List, Option, Some, if◌then◌else◌, sym, ap, ◌∙◌}
 use Rattle.std.specs.Cmp.{unsigned_tied, tied_then}
 use Rattle.std.specs.Ordering.{is_eq, nat_cmp, ordering_then}
+use Rattle.audit_frame.proofs.Keyed.{or_turned}
 use Rattle.audit_blocks.specs.declared.receipts.Receipt.{Receipt}
 use Rattle.audit_blocks.specs.declared.receipts.Came.{Came}
 use Rattle.audit_blocks.specs.declared.dispatches.Dispatch.{Dispatch}
 use Rattle.audit_blocks.specs.Dispatches.{has_dispatch, dispatch_of, dispatch_cmp, is_dispatch}
 use Rattle.audit_blocks.specs.Parts.{PartNumbers, has_part}
 use Rattle.audit_blocks.specs.Receipts.{KeptArrivals, came_under, again}
-
-or_turned : (a b : Bool) → cond a true b ≡ (b || a)
-or_turned true true = refl
-or_turned true false = refl
-or_turned false true = refl
-or_turned false false = refl
 
 three_same : (v n k i m j : ℕ)
     → is_eq (ordering_then (ordering_then (nat_cmp v i) (nat_cmp n m)) (nat_cmp k j)) ≡ ((v == i) && (n == m) && (k == j))

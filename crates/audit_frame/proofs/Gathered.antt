@@ -14,7 +14,7 @@ use Rattle.run_facts.proofs.Orders.{groups}
 use Rattle.run_facts.proofs.Rows.{all-append}
 use Rattle.audit_frame.specs.declared.lines.Line.{Line}
 use Rattle.audit_frame.specs.Lines.{noted_line, noted_by, told_by, entry_told, journal_told, journals_told}
-use Rattle.audit_frame.proofs.Grouped.{sorted_groups}
+use Rattle.run_facts.proofs.Grouped.{sorted_groups}
 
 -- ---- a turn of each loop
 

@@ -8,6 +8,10 @@ pub mod Joined
 pub mod Seated
 pub mod Spans
 pub mod Tabled
-pub mod Grouped
+pub mod Asked
+pub mod Keyed
+pub mod Recorded
+pub mod Kept
+pub mod Shelved
 pub mod Gathered
 pub mod Wanting

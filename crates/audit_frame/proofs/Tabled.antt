@@ -13,7 +13,7 @@ both_equal Less b = refl
 both_equal Equal b = refl
 both_equal Greater b = refl
 
-both_same : (m n k l : ℕ) → is_eq (ordering_then (nat_cmp m k) (nat_cmp n l)) ≡ ((m == k) && (n == l))
+pub both_same : (m n k l : ℕ) → is_eq (ordering_then (nat_cmp m k) (nat_cmp n l)) ≡ ((m == k) && (n == l))
 both_same m n k l =
     both_equal (nat_cmp m k) (nat_cmp n l)
     ∙ ap (λ (b : Bool). b && is_eq (nat_cmp n l)) (unsigned_tied m k)
@@ -76,3 +76,16 @@ set_under {T} key k value old mid new view e =
     e
     ∙ (ap (λ (b : Bool). cond b (Some value) (lookup (λ q. is_eq (nat_cmp k q)) mid)) (unsigned_tied key k)
     ∙ ap (λ (rows : List (ℕ × T)). cond (key == k) (Some value) (lookup (λ q. is_eq (nat_cmp k q)) rows)) view)
+
+-- and under two numbers
+pub set_under_both : {T : Type 0} (left right m n : ℕ) (value : T) (old mid new : List ((ℕ × ℕ) × T)) → mid ≡ old
+    → lookup (λ q. is_eq (ordering_then (nat_cmp m q.0) (nat_cmp n q.1))) new
+    ≡ cond (is_eq (ordering_then (nat_cmp left m) (nat_cmp right n))) (Some value)
+    (lookup (λ q. is_eq (ordering_then (nat_cmp m q.0) (nat_cmp n q.1))) mid)
+    → lookup (λ q. is_eq (ordering_then (nat_cmp m q.0) (nat_cmp n q.1))) new
+    ≡ (if (left == m) && (right == n) then Some value else lookup (λ q. is_eq (ordering_then (nat_cmp m q.0) (nat_cmp n q.1))) old)
+set_under_both {T} left right m n value old mid new view e =
+    e
+    ∙ (ap (λ (b : Bool). cond b (Some value) (lookup (λ q. is_eq (ordering_then (nat_cmp m q.0) (nat_cmp n q.1))) mid)) (both_same left right m n)
+    ∙ ap (λ (rows : List ((ℕ × ℕ) × T)). cond ((left == m) && (right == n)) (Some value)
+    (lookup (λ q. is_eq (ordering_then (nat_cmp m q.0) (nat_cmp n q.1))) rows)) view)

@@ -15,26 +15,31 @@ use Rattle.audit_orders.specs.declared.flaw.Flaw.{Flaw}
 use Rattle.audit_orders.specs.declared.timing.Untimed.{Untimed}
 use Rattle.audit_orders.specs.declared.timing.Untimed.TheVariants as untimed
 
-pub none_below : (c : Course) (journals : List (List Entry)) → AreTimedBelow c 0 journals
-none_below c journals m journal low at = absurd (omega (arith, low))
-
 -- the journal of a number is there
 pub journal_there : (journals : List (List Entry)) (n : ℕ) (journal : List Entry) → n < length journals → journal ≡ get_or journals n journal
     → slice_get journals n ≡ Some journal
 journal_there journals n journal low is = rw (slice_get-get_or journals n journal low, ← is) refl
 
-pub one_more_timed : (c : Course) (journals : List (List Entry)) (n : ℕ) (journal : List Entry) → n < length journals
-    → journal ≡ get_or journals n journal → AreTimedBelow c n journals → IsTimedIn c n journal → AreTimedBelow c (n + 1) journals
-one_more_timed c journals n journal low is lower here m other below at = ⊎_elim
+-- what is so of each journal below one
+abbrev pub AllBelow : (ℕ → List Entry → Type 0) → ℕ → List (List Entry) → Type 0
+AllBelow Is n journals = (m : ℕ) (journal : List Entry) → m < n → slice_get journals m ≡ Some journal → Is m journal
+
+pub none_below : (Is : ℕ → List Entry → Type 0) (journals : List (List Entry)) → AllBelow Is 0 journals
+none_below Is journals m journal low at = absurd (omega (arith, low))
+
+pub one_more_below : (Is : ℕ → List Entry → Type 0) (journals : List (List Entry)) (n : ℕ) (journal : List Entry) → n < length journals
+    → journal ≡ get_or journals n journal → AllBelow Is n journals → Is n journal → AllBelow Is (n + 1) journals
+one_more_below Is journals n journal low is lower here m other below at = ⊎_elim
     (λ (e : m ≡ n).
     let there : Some journal ≡ Some other = sym (journal_there journals n journal low is) ∙ subst (λ (k : ℕ). slice_get journals k ≡ Some other) e at in
     let same : journal ≡ other = cc in
-    subst (λ (k : ℕ). IsTimedIn c k other) (sym e) (subst (λ (j : List Entry). IsTimedIn c n j) same here))
+    subst (λ (k : ℕ). Is k other) (sym e) (subst (λ (j : List Entry). Is n j) same here))
     (λ (ne : m ≡ n → ⊥). lower m other (omega (arith, below, ne)) at)
     (cases_eq m n)
 
-pub all_timed : (c : Course) (journals : List (List Entry)) (n : ℕ) → length journals ≤ n → AreTimedBelow c n journals → AreTimedIn c journals
-all_timed c journals n over lower m journal at =
+pub all_below : (Is : ℕ → List Entry → Type 0) (journals : List (List Entry)) (n : ℕ) → length journals ≤ n → AllBelow Is n journals
+    → (m : ℕ) (journal : List Entry) → slice_get journals m ≡ Some journal → Is m journal
+all_below Is journals n over lower m journal at =
     let low = slice_get_within journals m journal at in
     lower m journal (omega (arith, over, low)) at
 

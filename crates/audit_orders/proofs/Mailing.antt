@@ -1,26 +1,8 @@
--- What the tables of messages and of numbers have after one more.
-use Rattle.std.proofs.Common.{◌≡◌, ℕ, zero, suc, ◌<◌, Bool, ◌&&◌, ◌==◌, cond, true, false, [], ◌∷◌, length, Some, if◌then◌else◌, refl, ap, subst, ◌∙◌, arith}
+-- What the table of numbers has after one more.
+use Rattle.std.proofs.Common.{◌≡◌, ℕ, zero, suc, ◌<◌, Bool, ◌==◌, cond, true, false, [], ◌∷◌, length, if◌then◌else◌, refl, ap, subst, ◌∙◌, arith}
 use Rattle.std.proofs.lemmas.Bool.{eqb-true, eqb-false}
 use Rattle.std.specs.Prelude.{slice_set}
-use Rattle.std.specs.Ordering.{is_eq, nat_cmp, ordering_then}
-use Rattle.std.specs.Cmp.{unsigned_tied}
-use Rattle.audit_frame.proofs.Tabled.{both_equal}
-use Rattle.audit_orders.specs.Carrying.{KeptMail, StreamCounts, mail_under, count_under}
-use Rattle.audit_orders.specs.declared.mail.Mail.{Mail}
-
-both_same : (m n k l : ℕ) → is_eq (ordering_then (nat_cmp m k) (nat_cmp n l)) ≡ ((m == k) && (n == l))
-both_same m n k l =
-    both_equal (nat_cmp m k) (nat_cmp n l)
-    ∙ ap (λ (b : Bool). b && is_eq (nat_cmp n l)) (unsigned_tied m k)
-    ∙ ap (λ (b : Bool). (m == k) && b) (unsigned_tied n l)
-
-pub mail_set : (stream place s n : ℕ) (mail : Mail) (old mid new : KeptMail) → mid ≡ old
-    → mail_under s n new ≡ cond (is_eq (ordering_then (nat_cmp stream s) (nat_cmp place n))) (Some mail) (mail_under s n mid)
-    → mail_under s n new ≡ (if (stream == s) && (place == n) then Some mail else mail_under s n old)
-mail_set stream place s n mail old mid new view e =
-    e
-    ∙ (ap (λ (b : Bool). cond b (Some mail) (mail_under s n mid)) (both_same stream place s n)
-    ∙ ap (λ (rows : KeptMail). cond ((stream == s) && (place == n)) (Some mail) (mail_under s n rows)) view)
+use Rattle.audit_orders.specs.Carrying.{StreamCounts, count_under}
 
 -- the number of a stream that has a place is set, and the others stay
 put_here : (counts : StreamCounts) (i count : ℕ) → i < length counts → count_under i (slice_set counts i count) ≡ count

@@ -1,12 +1,11 @@
 -- A journal tells its node's return exactly if each entry may stand behind the one before it, and the last one is no death
 -- behind which a return is to come.
-use Rattle.std.proofs.Common.{◌≡◌, ℕ, ◌+◌, ◌<◌, ◌≤◌, Bool, true, false, ◌&&◌, IsTrue, List, [], ◌∷◌, ◌++◌, length, take, get_or, Option, Some, None, is_some, refl, sym, ap, subst, ◌∙◌, ⊎_elim, inr, append-nil, arith}
-use Rattle.std.specs.Prelude.{◌↔◌, slice_get}
+use Rattle.std.proofs.Common.{◌≡◌, ℕ, ◌+◌, ◌<◌, ◌≤◌, Bool, true, false, ◌&&◌, IsTrue, List, [], ◌∷◌, ◌++◌, length, take, get_or, Option, Some, None, is_some, refl, sym, ap, subst, ◌∙◌, inr, append-nil, arith}
+use Rattle.std.specs.Prelude.{◌↔◌}
 use Rattle.std.specs.List.{fold}
-use Rattle.std.proofs.lemmas.Bool.{cases_eq, false≢true}
+use Rattle.std.proofs.lemmas.Bool.{false≢true}
 use Rattle.std.proofs.lemmas.List.{take_all}
 use Rattle.std.proofs.lemmas.List.Sums.{fold-append}
-use Rattle.std.proofs.lemmas.Option.{slice_get_within}
 use Rattle.node_kit.specs.declared.course.Course.{Course}
 use Rattle.node_kit.specs.declared.journal.Entry.{Entry}
 use Rattle.node_kit.specs.declared.journal.What.TheVariants as what
@@ -18,7 +17,7 @@ use Rattle.run_model.specs.Tests.{may_follow}
 use Rattle.run_model.proofs.Fronts.{at_each_more}
 use Rattle.run_model.proofs.Reflects.{equal}
 use Rattle.run_model.proofs.Timely.{follows}
-use Rattle.audit_orders.specs.Returning.{TellsReturnIn, TellReturns, TellReturnsBelow, IsUntoldAt, IsFirstUntold}
+use Rattle.audit_orders.specs.Returning.{TellReturnsBelow, IsUntoldAt, IsFirstUntold}
 use Rattle.audit_orders.proofs.Firsts.{journal_there}
 use Rattle.audit_orders.proofs.Walks.{GoesToAnEnd, done_here, unfinished_here}
 
@@ -140,24 +139,6 @@ return_told beats back es i died r over known right is told =
     (ap (λ (d : Bool). d && is_some (death_within beats back)) (sym known) ∙ (sym is ∙ told))
 
 -- ---- all journals
-
-pub none_told : (c : Course) (journals : List (List Entry)) → TellReturnsBelow c 0 journals
-none_told c journals m journal low at = absurd (omega (arith, low))
-
-pub one_more_told : (c : Course) (journals : List (List Entry)) (n : ℕ) (journal : List Entry) → n < length journals
-    → journal ≡ get_or journals n journal → TellReturnsBelow c n journals → TellsReturnIn c n journal → TellReturnsBelow c (n + 1) journals
-one_more_told c journals n journal low is lower here m other below at = ⊎_elim
-    (λ (e : m ≡ n).
-    let there : Some journal ≡ Some other = sym (journal_there journals n journal low is) ∙ subst (λ (k : ℕ). slice_get journals k ≡ Some other) e at in
-    let same : journal ≡ other = cc in
-    subst (λ (k : ℕ). TellsReturnIn c k other) (sym e) (subst (λ (j : List Entry). TellsReturnIn c n j) same here))
-    (λ (ne : m ≡ n → ⊥). lower m other (omega (arith, below, ne)) at)
-    (cases_eq m n)
-
-pub all_told : (c : Course) (journals : List (List Entry)) (n : ℕ) → length journals ≤ n → TellReturnsBelow c n journals → TellReturns c journals
-all_told c journals n over lower m journal at =
-    let low = slice_get_within journals m journal at in
-    lower m journal (omega (arith, over, low)) at
 
 pub untold_found : (c : Course) (journals : List (List Entry)) (n : ℕ) (journal : List Entry) (i : ℕ) → n < length journals
     → journal ≡ get_or journals n journal → TellReturnsBelow c n journals → IsUntoldAt c.beats (back_of c n) journal i

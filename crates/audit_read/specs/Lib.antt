@@ -1,4 +1,5 @@
 pub mod Begun
+pub mod Cuts
 pub mod Drafts
 pub mod Reached
 pub mod Samples

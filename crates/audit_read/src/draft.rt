@@ -139,7 +139,7 @@ impl Draft {
     }
 
     /// Reads an entry, which nearly all lines are: so the draft stays where it is.
-    fn entry(&mut self, e: Entry) -> Result<bool, NoMemory>
+    pub fn entry(&mut self, e: Entry) -> Result<bool, NoMemory>
         requires { IsSound self.old }
         ensures { IfOk result (λ yes.
             IsNext self.old (item.Entry e) (if yes then Some self.new else None)) }

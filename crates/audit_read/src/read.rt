@@ -2,6 +2,7 @@
 ghost use Rattle.std.specs.Prelude.{◌≡◌, IfOk, IfErr, if◌then◌else◌, Some, None};
 ghost use Rattle.audit_text.specs.Texts.{text_of};
 ghost use Rattle.audit_read.specs.Begun.{HasCause, HasNoFeed};
+ghost use Rattle.audit_read.specs.Cuts.{Says};
 ghost use Rattle.audit_read.specs.Drafts.{IsSound, IsRead};
 ghost use Rattle.audit_read.specs.Reached.{Reached};
 ghost use Rattle.audit_read.specs.declared.draft.Draft.TheVariants as fronts;
@@ -9,9 +10,9 @@ ghost use Rattle.audit_read.specs.Writable.{IsWritable};
 
 use crate::draft::Draft;
 use crate::fits::item_fits;
-use crate::lines::split_line;
+use crate::lines::next_line;
 use audit_text::Desk;
-use node_kit::Kept;
+use node_kit::{Entry, Kept};
 use std::alloc::{AllocError, Global};
 use tiger_base::NoMemory;
 
@@ -37,17 +38,22 @@ impl From<NoMemory> for TextStop {
     }
 }
 
-/// Reads this line, if it may stand next.
+/// Reads this line, which says this entry if one is given, if it may stand next.
 fn read_next(
     alloc: Global,
     desk: &mut Desk,
     draft: &mut Draft,
     line: &[u8],
+    said: Option<Entry>,
 ) -> Result<bool, NoMemory>
-    requires { IsSound draft.old }
+    requires sound { IsSound draft.old }
+    requires says { Says line.now said }
     ensures { IfOk result (λ yes.
         IsRead draft.old line.now (if yes then Some draft.new else None)) }
 {
+    if let Some(entry) = said {
+        return draft.entry(entry);
+    }
     match desk.read(alloc, line)? {
         Some(item) => {
             if !item_fits(&item) {
@@ -73,12 +79,12 @@ fn read_lines<'a>(
     let mut desk = Desk::new(alloc);
     let mut rest = bytes;
     let mut line = 1;
-    while let Some((first, behind)) = split_line(rest) {
-        let yes = read_next(alloc, &mut desk, draft, first)?;
+    while let Some(first) = next_line(rest) {
+        let yes = read_next(alloc, &mut desk, draft, first.line, first.entry)?;
         if !yes {
             return Err(TextStop::Fault { line });
         }
-        rest = behind;
+        rest = first.behind;
         line += 1;
     }
     Ok((line, rest))

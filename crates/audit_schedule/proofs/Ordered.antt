@@ -1,8 +1,8 @@
 -- The table of the orders' asks has the ask of a tenancy exactly if a start that asks for it was ordered.
 use Rattle.std.proofs.Common.{◌≡◌, ℕ, ◌+◌, ◌-◌, ◌<◌, ◌≤◌, Bool, ◌&&◌, ◌||◌, IsTrue, nat_le, List, [], ◌∷◌, length, take, get_or, refl, sym, ap, subst, ◌∙◌, arith}
-use Rattle.std.specs.Prelude.{◌==◌, ◌↔◌}
+use Rattle.std.specs.Prelude.{◌↔◌}
 use Rattle.std.specs.List.{list_any}
-use Rattle.std.proofs.lemmas.Bool.{eqb-true, eq-eqb, false≢true}
+use Rattle.std.proofs.lemmas.Bool.{false≢true}
 use Rattle.std.proofs.lemmas.List.{take_more, take_all}
 use Rattle.std.proofs.lemmas.List.Folds.{list_any-append}
 use Rattle.tiger_base.specs.declared.number.DiskNo.{DiskNo}
@@ -18,23 +18,8 @@ use Rattle.run_model.specs.Orders.{IsOrdered}
 use Rattle.run_model.proofs.Reflects.{and_both, and_left, and_right, any, at_most}
 use Rattle.audit_frame.specs.Tables.{AskNumbers, has_ask, same_ask}
 use Rattle.audit_frame.proofs.Added.{or_false}
+use Rattle.audit_frame.proofs.Asked.{one_ask, same_itself}
 use Rattle.audit_schedule.specs.Fair.{IsAskedFor, begins_for, AreAsksOf, ask_by}
-
-one_ask : (b a : Ask) → IsTrue (same_ask b a) → b ≡ a
-one_ask b a h =
-    let first = and_left ((b.instance.0 == a.instance.0) && (b.file.0 == a.file.0)) ((b.count == a.count) && (b.disk.0 == a.disk.0)) h in
-    let second = and_right ((b.instance.0 == a.instance.0) && (b.file.0 == a.file.0)) ((b.count == a.count) && (b.disk.0 == a.disk.0)) h in
-    let instance = eqb-true b.instance.0 a.instance.0 (and_left (b.instance.0 == a.instance.0) (b.file.0 == a.file.0) first) in
-    let file = eqb-true b.file.0 a.file.0 (and_right (b.instance.0 == a.instance.0) (b.file.0 == a.file.0) first) in
-    let count = eqb-true b.count a.count (and_left (b.count == a.count) (b.disk.0 == a.disk.0) second) in
-    let disk = eqb-true b.disk.0 a.disk.0 (and_right (b.count == a.count) (b.disk.0 == a.disk.0) second) in
-    λ i. record { instance = record { 0 = instance i }; file = record { 0 = file i }; count = count i; disk = record { 0 = disk i } }
-
-same_itself : (a : Ask) → IsTrue (same_ask a a)
-same_itself a =
-    and_both ((a.instance.0 == a.instance.0) && (a.file.0 == a.file.0)) ((a.count == a.count) && (a.disk.0 == a.disk.0))
-    (and_both (a.instance.0 == a.instance.0) (a.file.0 == a.file.0) (eq-eqb a.instance.0 a.instance.0 refl) (eq-eqb a.file.0 a.file.0 refl))
-    (and_both (a.count == a.count) (a.disk.0 == a.disk.0) (eq-eqb a.count a.count refl) (eq-eqb a.disk.0 a.disk.0 refl))
 
 begun : (a : Ask) (k : OrderKind) → IsTrue (begins_for a k) → k ≡ kind.Begin a
 begun a (kind.Begin b) h = ap (λ (q : Ask). kind.Begin q) (one_ask b a h)

@@ -3,4 +3,5 @@ pub mod Digits
 pub mod Feeds
 pub mod Gathering
 mod Numbers
+pub mod Taking
 pub mod Whole

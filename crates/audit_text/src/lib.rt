@@ -2,6 +2,7 @@
 //! that it is the line of.
 #![tactic(auto)]
 
+mod entries;
 mod item;
 mod laws;
 mod parts;
@@ -12,6 +13,7 @@ mod text;
 mod words;
 mod writing;
 
+pub use entries::entry_line;
 pub use item::{Item, Word};
 pub use laws::text_is_exact;
 pub use reading::Desk;

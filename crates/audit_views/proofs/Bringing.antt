@@ -21,15 +21,17 @@ use Rattle.run_model.specs.Views.{same_record}
 use Rattle.run_model.specs.Moments.{Moment, next_moment, opening, view_of}
 use Rattle.run_model.specs.Parts.{Brings, EntriesAreLocal, IsAtOrBefore, IsForCub, IsLocal, IsLocalEntry, IsLocalRecord, IsOwnRecordFor, is_from_before}
 use Rattle.run_model.proofs.Reflects.{and_both, and_left, and_right, or_either, or_first, or_second, any_found, any_gives, at_most, less}
+use Rattle.audit_frame.specs.Records.{is_same}
+use Rattle.audit_frame.specs.declared.records.Held.{Held}
 use Rattle.audit_frame.proofs.Added.{any_before, any_end, any_more}
 use Rattle.audit_frame.proofs.Deciding.{GoesBySteps}
+use Rattle.audit_frame.proofs.Recorded.{one_record, record_itself}
 use Rattle.audit_frame.proofs.Spans.{same_test}
-use Rattle.audit_views.specs.Standing.{has_record, is_same}
+use Rattle.audit_views.specs.Standing.{has_record}
 use Rattle.audit_views.specs.Local.{BringsAt, TellsBrought, TellsLocal, has_by, is_soon, state_brings, note_brings}
 use Rattle.audit_views.specs.Views.{is_in_view, TellsRecords}
-use Rattle.audit_views.specs.declared.records.Held.{Held}
-use Rattle.audit_views.proofs.Members.{one_record, record_itself, stands}
-use Rattle.audit_views.proofs.Taking.{empties, of_records, same_is, same_told, nothing_told, took_told, dropped_told, emptied_told}
+use Rattle.audit_views.proofs.Members.{stands}
+use Rattle.audit_views.proofs.Taking.{empties, of_records, same_told, nothing_told, took_told, dropped_told, emptied_told}
 
 pub local_goes_by_steps : (p : Params) → GoesBySteps (EntriesAreLocal p) (IsLocal p) next_moment opening
 local_goes_by_steps p log = ((λ h. h), (λ h. h))
@@ -259,13 +261,11 @@ added_more p n w old new b added brings c t visit =
 own_same : (n c : ℕ) (s t : Tenancy) (at visit : ℕ) → IsTrue (is_same n (own_of s at) c (own_of t visit)) ↔ ((n ≡ c) × ((s ≡ t) × (at ≡ visit)))
 own_same n c s t at visit = (
   (λ h.
-      let both = sym (same_is n c (own_of s at) (own_of t visit)) ∙ h in
-      let same = one_record (own_of s at) (own_of t visit) (and_right (n == c) (same_record (own_of s at) (own_of t visit)) both) in (
-        eqb-true n c (and_left (n == c) (same_record (own_of s at) (own_of t visit)) both),
+      let same = one_record (own_of s at) (own_of t visit) (and_right (n == c) (same_record (own_of s at) (own_of t visit)) h) in (
+        eqb-true n c (and_left (n == c) (same_record (own_of s at) (own_of t visit)) h),
         (ap (λ (k : Rec). k.tenancy) same, ap (λ (k : Rec). k.visit) same),
       )),
-  (λ h. same_is n c (own_of s at) (own_of t visit)
-      ∙ and_both (n == c) (same_record (own_of s at) (own_of t visit)) (eq-eqb n c h.0)
+  (λ h. and_both (n == c) (same_record (own_of s at) (own_of t visit)) (eq-eqb n c h.0)
       (subst (λ (k : Rec). IsTrue (same_record (own_of s at) k)) (λ i. own_of (h.1.0 i) (h.1.1 i)) (record_itself (own_of s at)))),
 )
 

@@ -1,5 +1,5 @@
 -- Whether the records of an instance are part of the schedule is told by the tables.
-use Rattle.std.proofs.Common.{◌≡◌, ℕ, zero, suc, ◌+◌, ◌-◌, ◌/◌, ◌<◌, ◌≤◌, Bool, true, false, ◌&&◌, IsTrue, nat_lt, nat_le, cond, List, [], ◌∷◌, length, filter, Option, Some, None, is_some, option_map, refl, sym, ap, subst, ◌∙◌, ⊎_elim, inl, inr, arith}
+use Rattle.std.proofs.Common.{◌≡◌, ℕ, zero, suc, ◌+◌, ◌-◌, ◌/◌, ◌<◌, ◌≤◌, Bool, true, false, not, ◌&&◌, IsTrue, nat_lt, nat_le, cond, List, [], ◌∷◌, length, filter, Option, Some, None, is_some, option_map, refl, sym, ap, subst, ◌∙◌, ⊎_elim, inl, inr, arith}
 use Rattle.std.specs.Prelude.{◌==◌, ◌↔◌, ◌⊎◌, slice_index_or}
 use Rattle.std.specs.List.{AllByRecursion, list_all, list_any}
 use Rattle.std.specs.List.Sorted.{IsNonDecreasingBy, IsPartitionPoint}
@@ -20,13 +20,16 @@ use Rattle.run_model.specs.Moments.{Moment, next_moment}
 use Rattle.run_model.specs.Parts.{HasVisit, IsPart, ViewsArePart, was_just_stopped}
 use Rattle.run_model.proofs.Reflects.{and_both, and_left, and_right, or_either, or_first, or_second, any_found, any_gives, at_most}
 use Rattle.audit_frame.specs.Tables.{MarkNumbers, Tenancies, mark_under, seat_under, unless_by}
+use Rattle.audit_frame.specs.Records.{held_by, held_cmp, record_of, tenancy_held}
+use Rattle.audit_frame.specs.declared.records.By.TheVariants as way
+use Rattle.audit_frame.specs.declared.records.Held.{Held}
 use Rattle.audit_frame.proofs.Added.{meet, not_below}
+use Rattle.audit_frame.proofs.Kept.{held_again, held_itself, one_held}
+use Rattle.audit_frame.proofs.Recorded.{one_tenancy, tenancy_itself}
 use Rattle.audit_frame.proofs.Spans.{same_test, within_is}
-use Rattle.audit_views.specs.Standing.{has_record, held_by, held_cmp, record_of, tenancy_held}
+use Rattle.audit_views.specs.Standing.{has_record}
 use Rattle.audit_views.specs.Views.{is_in_view, is_in_time, is_marked, is_of, is_held_visit, is_seated, are_seated, of_instance, IsInstancePart, IsLatestStop, IsRecordTaken, IsTakenPart, LateArePart, RunsOut, RunsOutUpTo, Touches, TellsSchedule, TellsViews, told_stop, stops_of}
-use Rattle.audit_views.specs.declared.records.Held.{Held}
 use Rattle.audit_views.specs.declared.views.Stopped.{Stopped}
-use Rattle.audit_views.proofs.Kept.{held_again, held_itself, one_held}
 use Rattle.audit_views.proofs.Members.{all_part}
 use Rattle.audit_views.proofs.Steps.{is_stop_in_time, kept_part, part_of_all, late_of_all}
 
@@ -93,13 +96,13 @@ none_given (x ∷ xs) t = absurd (false≢true t)
 -- ---- views and tables
 
 in_table : (p : Params) (seats : Tenancies) (marks : MarkNumbers) (kept : List Stopped) (held : List Held) (now : ℕ) (m : Moment)
-    → TellsViews p seats marks kept held now m → (c : ℕ) (r : Rec) → IsTrue (is_in_view p m c r) → IsAmong (held_by c r) held
+    → TellsViews p seats marks kept held now m → (c : ℕ) (r : Rec) → IsTrue (is_in_view p m c r) → IsAmong (held_by way.Instance c r) held
 in_table p seats marks kept held now m h c r t = h.records c r ∙ t
 
 in_its_view : (p : Params) (seats : Tenancies) (marks : MarkNumbers) (kept : List Stopped) (held : List Held) (now : ℕ) (m : Moment)
-    → TellsViews p seats marks kept held now m → (k : Held) → IsAmong k held → IsTrue (is_in_view p m k.cub (record_of k))
+    → TellsViews p seats marks kept held now m → (k : Held) → IsAmong k held → IsTrue (is_in_view p m k.cub (record_of way.Instance k))
 in_its_view p seats marks kept held now m h k among =
-    sym (h.records k.cub (record_of k)) ∙ subst (λ (q : Held). IsAmong q held) (sym (held_again k)) among
+    sym (h.records k.cub (record_of way.Instance k)) ∙ subst (λ (q : Held). IsAmong q held) (sym (held_again way.Instance k)) among
 
 -- ---- an instance that was stopped
 
@@ -134,88 +137,50 @@ may_stand_judged p seats marks kept held now m v stop r marked judged h =
       (λ t. ⊎_elim
           (λ a c q seen own. inr (subst (λ (k : ℕ). IsTrue (was_just_stopped p m k)) (sym own) (just ∙ a)))
           (λ none c q seen own. absurd (false≢true
-          (all_found (λ k. false) (λ k. k.instance == v) held (none_found (of_instance v held) none) (held_by c q)
+          (all_found (λ k. false) (λ k. k.under == v) held (none_found (of_instance v held) none) (held_by way.Instance c q)
           (in_table p seats marks kept held now m h c q seen) (eq-eqb q.tenancy.instance.0 v own))))
           (judged.0 t)),
       (λ part. judged.1 (go (is_in_time p now stop) refl part)),
     )
   where
-    nowhere : (is_in_time p now stop ≡ false) → IsInstancePart p m v → (k : Held) → IsAmong k held → IsTrue (k.instance == v) → ⊥
+    nowhere : (is_in_time p now stop ≡ false) → IsInstancePart p m v → (k : Held) → IsAmong k held → IsTrue (k.under == v) → ⊥
     nowhere late part k among own =
-        let is = eqb-true k.instance v own in
+        let is = eqb-true k.under v own in
         ⊎_elim
-        (λ has. stopped_holds_none p seats marks kept now m.schedule stop (tenancy_held k) h.schedule
+        (λ has. stopped_holds_none p seats marks kept now m.schedule stop (tenancy_held way.Instance k) h.schedule
         (subst (λ (n : ℕ). mark_under n marks ≡ Some stop) (sym is) marked) has.holder)
         (λ just. both_ways (is_in_time p now stop) late
         (sym (just_by_latest p m v stop (subst (IsLatestStop v m.schedule.stops) marked (h.schedule.latest v))
         ∙ ap (λ (b : ℕ). is_in_time p b stop) (sym h.beat)) ∙ subst (λ (n : ℕ). IsTrue (was_just_stopped p m n)) is just))
-        (part k.cub (record_of k) (in_its_view p seats marks kept held now m h k among) is)
+        (part k.cub (record_of way.Instance k) (in_its_view p seats marks kept held now m h k among) is)
 
     go : (b : Bool) → is_in_time p now stop ≡ b → IsInstancePart p m v → IsTrue (is_in_time p now stop) ⊎ (of_instance v held ≡ [])
     go true e part = inl e
     go false e part = inr (none_given (of_instance v held)
-        (all_given (λ k. false) (λ k. k.instance == v) held (λ k among own. absurd (nowhere e part k among own))))
+        (all_given (λ k. false) (λ k. k.under == v) held (λ k among own. absurd (nowhere e part k among own))))
 
 -- ---- one that was not stopped
 
-one_visit : (t : Tenancy) (k : Held) → IsTrue (is_of t k) → t ≡ tenancy_held k
-one_visit t k h =
-    let a = t.instance.0 == k.instance in
-    let b = t.file.0 == k.file in
-    let c = t.slot.0 == k.slot in
-    let d = t.first == k.first in
-    let e = t.last == k.last in
-    let h4 = and_left (((a && b) && c) && d) e h in
-    let h3 = and_left ((a && b) && c) d h4 in
-    let h2 = and_left (a && b) c h3 in
-    let instance = eqb-true t.instance.0 k.instance (and_left a b h2) in
-    let file = eqb-true t.file.0 k.file (and_right a b h2) in
-    let slot = eqb-true t.slot.0 k.slot (and_right (a && b) c h3) in
-    let first = eqb-true t.first k.first (and_right ((a && b) && c) d h4) in
-    let last = eqb-true t.last k.last (and_right (((a && b) && c) && d) e h) in
-    λ i. record {
-      instance = record { 0 = instance i };
-      file = record { 0 = file i };
-      slot = record { 0 = slot i };
-      first = first i;
-      last = last i;
-    }
-
-own_visit : (k : Held) → IsTrue (is_of (tenancy_held k) k)
-own_visit k =
-    let a = k.instance == k.instance in
-    let b = k.file == k.file in
-    let c = k.slot == k.slot in
-    let d = k.first == k.first in
-    let e = k.last == k.last in
-    and_both (((a && b) && c) && d) e
-    (and_both ((a && b) && c) d
-    (and_both (a && b) c
-    (and_both a b (eq-eqb k.instance k.instance refl) (eq-eqb k.file k.file refl))
-    (eq-eqb k.slot k.slot refl))
-    (eq-eqb k.first k.first refl))
-    (eq-eqb k.last k.last refl)
-
-seat_found : (s : Schedule) (marks : MarkNumbers) (o : Option Tenancy) (k : Held) → is_marked marks k.instance ≡ false
-    → s.holder k.slot ≡ unless_by (is_marked marks) o → IsTrue (is_held_visit o k) → HasVisit s (tenancy_held k) k.visit
+seat_found : (s : Schedule) (marks : MarkNumbers) (o : Option Tenancy) (k : Held) → is_marked marks k.under ≡ false
+    → s.holder k.beside ≡ unless_by (is_marked marks) o → IsTrue (is_held_visit o k) → HasVisit s (tenancy_held way.Instance k) k.visit
 seat_found s marks None k free holder h = absurd (false≢true h)
 seat_found s marks (Some t) k free holder h =
     let visits = nat_le k.first k.visit && nat_le k.visit k.last in
-    let same = one_visit t k (and_left (is_of t k) visits h) in
+    let same = one_tenancy t (tenancy_held way.Instance k) (and_left (is_of t k) visits h) in
     let rest = and_right (is_of t k) visits h in
     record {
       holder = holder ∙ ap (λ (u : Tenancy). cond (is_marked marks u.instance.0) None (Some u)) same
-          ∙ ap (λ (b : Bool). cond b None (Some (tenancy_held k))) free;
+          ∙ ap (λ (b : Bool). cond b None (Some (tenancy_held way.Instance k))) free;
       first = (at_most k.first k.visit).0 (and_left (nat_le k.first k.visit) (nat_le k.visit k.last) rest);
       last = (at_most k.visit k.last).0 (and_right (nat_le k.first k.visit) (nat_le k.visit k.last) rest);
     }
 
-seat_given : (s : Schedule) (marks : MarkNumbers) (o : Option Tenancy) (k : Held) → s.holder k.slot ≡ unless_by (is_marked marks) o
-    → HasVisit s (tenancy_held k) k.visit → IsTrue (is_held_visit o k)
+seat_given : (s : Schedule) (marks : MarkNumbers) (o : Option Tenancy) (k : Held) → s.holder k.beside ≡ unless_by (is_marked marks) o
+    → HasVisit s (tenancy_held way.Instance k) k.visit → IsTrue (is_held_visit o k)
 seat_given s marks o k holder h =
-    let is = (nobody_seated marks o (tenancy_held k) (sym holder ∙ h.holder)).0 in
+    let is = (nobody_seated marks o (tenancy_held way.Instance k) (sym holder ∙ h.holder)).0 in
     subst (λ (q : Option Tenancy). IsTrue (is_held_visit q k)) (sym is)
-    (and_both (is_of (tenancy_held k) k) (nat_le k.first k.visit && nat_le k.visit k.last) (own_visit k)
+    (and_both (is_of (tenancy_held way.Instance k) k) (nat_le k.first k.visit && nat_le k.visit k.last) (tenancy_itself (tenancy_held way.Instance k))
     (and_both (nat_le k.first k.visit) (nat_le k.visit k.last) ((at_most k.first k.visit).1 h.first) ((at_most k.visit k.last).1 h.last)))
 
 pub seated_judged : (p : Params) (seats : Tenancies) (marks : MarkNumbers) (kept : List Stopped) (held : List Held) (now : ℕ)
@@ -223,18 +188,18 @@ pub seated_judged : (p : Params) (seats : Tenancies) (marks : MarkNumbers) (kept
     → TellsViews p seats marks kept held now m → IsTrue r ↔ IsInstancePart p m v
 seated_judged p seats marks kept held now m v r free judged h = (
   (λ t c q seen own.
-      let k = held_by c q in
-      let seated = all_found (is_seated seats) (λ e. e.instance == v) held (sym judged ∙ t) k
+      let k = held_by way.Instance c q in
+      let seated = all_found (is_seated seats) (λ e. e.under == v) held (sym judged ∙ t) k
       (in_table p seats marks kept held now m h c q seen) (eq-eqb q.tenancy.instance.0 v own) in
       inl (seat_found m.schedule marks (seat_under q.tenancy.slot.0 seats) k (not_marked q.tenancy.instance.0 own)
       (h.schedule.holder q.tenancy.slot.0) seated)),
-  (λ part. judged ∙ all_given (is_seated seats) (λ e. e.instance == v) held (λ k among own.
-      let is = eqb-true k.instance v own in
+  (λ part. judged ∙ all_given (is_seated seats) (λ e. e.under == v) held (λ k among own.
+      let is = eqb-true k.under v own in
       ⊎_elim
-      (λ has. seat_given m.schedule marks (seat_under k.slot seats) k (h.schedule.holder k.slot) has)
+      (λ has. seat_given m.schedule marks (seat_under k.beside seats) k (h.schedule.holder k.beside) has)
       (λ just. absurd (not_just p m v (subst (IsLatestStop v m.schedule.stops) free (h.schedule.latest v))
       (subst (λ (n : ℕ). IsTrue (was_just_stopped p m n)) is just)))
-      (part k.cub (record_of k) (in_its_view p seats marks kept held now m h k among) is))),
+      (part k.cub (record_of way.Instance k) (in_its_view p seats marks kept held now m h k among) is))),
 ) where
   not_marked : (n : ℕ) → n ≡ v → is_marked marks n ≡ false
   not_marked n e = ap (is_marked marks) e ∙ ap is_some free
@@ -295,34 +260,36 @@ stopped_part p seats marks kept held now m q stop r marked judged h =
 
 -- and one of an instance that was not
 pub seated_part : (p : Params) (seats : Tenancies) (marks : MarkNumbers) (kept : List Stopped) (held : List Held) (now : ℕ)
-    (m : Moment) (c : ℕ) (q : Rec) (r : Bool) → mark_under q.tenancy.instance.0 marks ≡ None → r ≡ is_seated seats (held_by c q)
+    (m : Moment) (c : ℕ) (q : Rec) (r : Bool) → mark_under q.tenancy.instance.0 marks ≡ None → r ≡ is_seated seats (held_by way.Instance c q)
     → TellsViews p seats marks kept held now m → IsTrue r ↔ IsPart p m q.tenancy q.visit
 seated_part p seats marks kept held now m c q r free judged h =
     let slot = q.tenancy.slot.0 in (
-      (λ t. inl (seat_found m.schedule marks (seat_under slot seats) (held_by c q) (ap is_some free) (h.schedule.holder slot) (sym judged ∙ t))),
+      (λ t. inl (seat_found m.schedule marks (seat_under slot seats) (held_by way.Instance c q) (ap is_some free) (h.schedule.holder slot) (sym judged ∙ t))),
       (λ part. ⊎_elim
-          (λ has. judged ∙ seat_given m.schedule marks (seat_under slot seats) (held_by c q) (h.schedule.holder slot) has)
+          (λ has. judged ∙ seat_given m.schedule marks (seat_under slot seats) (held_by way.Instance c q) (h.schedule.holder slot) has)
           (λ just. absurd (not_just p m q.tenancy.instance.0
           (subst (IsLatestStop q.tenancy.instance.0 m.schedule.stops) free (h.schedule.latest q.tenancy.instance.0)) just))
           part),
     )
 
 -- a record counts if the node's view has it
-pub absent_part : (p : Params) (seats : Tenancies) (marks : MarkNumbers) (kept : List Stopped) (held : List Held) (now : ℕ)
-    (m : Moment) (c : ℕ) (q : Rec) (r : Bool) → r ≡ has_record c q held → r ≡ false → TellsViews p seats marks kept held now m
+pub right_part : (p : Params) (m : Moment) (c : ℕ) (q : Rec) (a : Bool) → a ≡ true → IsTrue a ↔ IsPart p m q.tenancy q.visit
     → IsTrue true ↔ (IsTrue (is_in_view p m c q) → IsPart p m q.tenancy q.visit)
-absent_part p seats marks kept held now m c q r is e h = (
-  (λ t seen. absurd (false≢true (sym e ∙ (is ∙ (h.records c q ∙ seen))))),
+right_part p m c q a e judged = (
+  (λ t seen. judged.0 e),
   (λ all. refl),
 )
 
-pub present_part : (p : Params) (seats : Tenancies) (marks : MarkNumbers) (kept : List Stopped) (held : List Held) (now : ℕ)
-    (m : Moment) (c : ℕ) (q : Rec) (r a : Bool) → r ≡ has_record c q held → r ≡ true → TellsViews p seats marks kept held now m
-    → IsTrue a ↔ IsPart p m q.tenancy q.visit → IsTrue a ↔ (IsTrue (is_in_view p m c q) → IsPart p m q.tenancy q.visit)
-present_part p seats marks kept held now m c q r a is e h judged = (
-  (λ t seen. judged.0 t),
-  (λ all. judged.1 (all (sym (h.records c q) ∙ (sym is ∙ e)))),
-)
+pub absent_part : (p : Params) (seats : Tenancies) (marks : MarkNumbers) (kept : List Stopped) (held : List Held) (now : ℕ)
+    (m : Moment) (c : ℕ) (q : Rec) (r a : Bool) → r ≡ has_record c q held → a ≡ false → TellsViews p seats marks kept held now m
+    → IsTrue a ↔ IsPart p m q.tenancy q.visit → IsTrue (not r) ↔ (IsTrue (is_in_view p m c q) → IsPart p m q.tenancy q.visit)
+absent_part p seats marks kept held now m c q r a is e h judged = go r refl where
+  go : (b : Bool) → r ≡ b → IsTrue (not b) ↔ (IsTrue (is_in_view p m c q) → IsPart p m q.tenancy q.visit)
+  go false f = ((λ t seen. absurd (false≢true (sym f ∙ (is ∙ (h.records c q ∙ seen))))), (λ all. refl))
+  go true f = (
+    (λ t. absurd (false≢true t)),
+    (λ all. absurd (false≢true (sym e ∙ judged.1 (all (sym (h.records c q) ∙ (sym is ∙ f)))))),
+  )
 
 pub took_judged : (p : Params) (m : Moment) (c : ℕ) (w : What) (q : Rec) (r : Bool) → w ≡ what.Took q
     → IsTrue r ↔ (IsTrue (is_in_view p m c q) → IsPart p m q.tenancy q.visit) → IsTrue r ↔ IsTakenPart p m c w

@@ -1,4 +1,3 @@
-pub mod Kept
 pub mod Members
 pub mod Steps
 pub mod Taking

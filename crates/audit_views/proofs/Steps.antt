@@ -20,8 +20,9 @@ use Rattle.run_model.specs.Parts.{IsPart, ViewsArePart, ViewsAreAlwaysPart, was_
 use Rattle.run_model.proofs.Reflects.{and_both, and_left, and_right, or_either, or_first, or_second, at_most}
 use Rattle.audit_frame.proofs.Added.{or_false}
 use Rattle.audit_frame.proofs.Deciding.{GoesBySteps}
+use Rattle.audit_frame.proofs.Recorded.{one_record}
 use Rattle.audit_views.specs.Views.{is_in_view, IsInstancePart, IsRecordTaken, Touches, KeepsPart, LateArePart, RunsOut, is_in_time}
-use Rattle.audit_views.proofs.Members.{one_record, kept_stood, of_cub, stands, all_part, from_part}
+use Rattle.audit_views.proofs.Members.{kept_stood, of_cub, stands, all_part, from_part}
 
 -- ---- a record that stands after an entry stood before it, or is the one that it takes
 

@@ -1,5 +1,5 @@
 -- What the tables tell after one entry more.
-use Rattle.std.proofs.Common.{◌≡◌, ℕ, ◌-◌, ◌≤◌, Bool, true, false, not, ◌&&◌, ◌||◌, IsTrue, nat_lt, cond, List, [], ◌∷◌, ◌++◌, length, Option, Some, None, is_some, refl, sym, ap, subst, ◌∙◌, arith}
+use Rattle.std.proofs.Common.{◌≡◌, ℕ, ◌-◌, ◌≤◌, Bool, true, false, not, ◌&&◌, ◌||◌, nat_lt, cond, List, [], ◌∷◌, ◌++◌, length, Option, Some, None, is_some, refl, sym, ap, subst, ◌∙◌, arith}
 use Rattle.std.specs.Prelude.{◌==◌}
 use Rattle.std.specs.List.{AllByRecursion, list_any}
 use Rattle.std.proofs.lemmas.Bool.{eqb-true, eq-eqb, false≢true, both_ways}
@@ -17,18 +17,18 @@ use Rattle.run_facts.proofs.Rows.{all-append, all-map, all-weaker}
 use Rattle.run_model.specs.Schedule.{Schedule, Stop, is_stopped, unless_of, after_entry, changed}
 use Rattle.run_model.specs.Views.{same_record, recorded}
 use Rattle.run_model.specs.Moments.{Moment, next_moment, opening}
-use Rattle.run_model.proofs.Reflects.{and_both, and_left, and_right, any_gives}
+use Rattle.run_model.proofs.Reflects.{any_gives}
 use Rattle.audit_frame.specs.Tables.{MarkNumbers, Tenancies, mark_under, seat_under, seat_by, unless_by}
+use Rattle.audit_frame.specs.Records.{is_same}
+use Rattle.audit_frame.specs.declared.records.Held.{Held}
 use Rattle.audit_frame.proofs.Added.{any_before, any_end, or_none}
 use Rattle.audit_frame.proofs.Deciding.{each_at}
+use Rattle.audit_frame.proofs.Keyed.{any_filtered}
+use Rattle.audit_frame.proofs.Recorded.{one_record, same_turned}
 use Rattle.audit_frame.proofs.Seated.{put_holder, put_stops, gone_seat}
-use Rattle.audit_frame.proofs.Spans.{same_test}
-use Rattle.audit_views.specs.Standing.{has_record, held_by, is_same, record_of}
+use Rattle.audit_views.specs.Standing.{has_record}
 use Rattle.audit_views.specs.Views.{is_in_view, is_marked, IsLatestStop, told_stop, TellsSchedule, TellsRecords, TellsViews}
-use Rattle.audit_views.specs.declared.records.Held.{Held}
 use Rattle.audit_views.specs.declared.views.Stopped.{Stopped}
-use Rattle.audit_views.proofs.Kept.{any_filtered, held_itself, one_held, record_again}
-use Rattle.audit_views.proofs.Members.{one_record, record_itself}
 
 -- ---- the schedule
 
@@ -161,24 +161,6 @@ unrecorded xs other e = refl
 
 -- ---- the records
 
-pub same_is : (n c : ℕ) (r q : Rec) → is_same n r c q ≡ ((n == c) && same_record r q)
-same_is n c r q = same_test (is_same n r c q) ((n == c) && same_record r q)
-    (λ h.
-    let e = one_held (held_by n r) (held_by c q) h in
-    let same : r ≡ q = sym (record_again n r) ∙ (ap record_of e ∙ record_again c q) in
-    and_both (n == c) (same_record r q) (eq-eqb n c (ap (λ (k : Held). k.cub) e))
-    (subst (λ (k : Rec). IsTrue (same_record r k)) same (record_itself r)))
-    (λ h.
-    let same = one_record r q (and_right (n == c) (same_record r q) h) in
-    let cub = eqb-true n c (and_left (n == c) (same_record r q) h) in
-    subst (λ (k : ℕ). IsTrue (is_same n r k q)) cub
-    (subst (λ (k : Rec). IsTrue (is_same n r n k)) same (held_itself (held_by n r))))
-
-same_turned : (r q : Rec) → same_record r q ≡ same_record q r
-same_turned r q = same_test (same_record r q) (same_record q r)
-    (λ h. subst (λ (k : Rec). IsTrue (same_record k r)) (one_record r q h) (record_itself r))
-    (λ h. subst (λ (k : Rec). IsTrue (same_record k q)) (one_record q r h) (record_itself q))
-
 -- what the view of a cub has after an entry of a node, if that is the cub, and if it is not
 abbrev seen_after : Params → Moment → ℕ → Rec → Bool → What → Bool
 seen_after p m c r here w = nat_lt c p.cubs && list_any (same_record r) (cond here (recorded (m.records c) w) (m.records c))
@@ -207,7 +189,6 @@ unfolding next_moment
 took_told p old new m x q is added h c r =
     added c r
     ∙ ap (λ (b : Bool). b || (nat_lt x.node p.cubs && is_same x.node q c r)) (h c r)
-    ∙ ap (λ (b : Bool). is_in_view p m c r || (nat_lt x.node p.cubs && b)) (same_is x.node c q r)
     ∙ took_here p m x.node c q r (x.node == c) refl
     ∙ ap (seen_after p m c r (x.node == c)) (sym is)
 
@@ -237,7 +218,6 @@ unfolding next_moment
 dropped_told p old new m x q is removed h c r =
     removed c r
     ∙ ap (λ (b : Bool). b && not (is_same x.node q c r)) (h c r)
-    ∙ ap (λ (b : Bool). is_in_view p m c r && not b) (same_is x.node c q r)
     ∙ dropped_here p m c q r (x.node == c)
     ∙ ap (seen_after p m c r (x.node == c)) (sym is)
 

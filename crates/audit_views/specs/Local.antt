@@ -14,9 +14,10 @@ use Rattle.node_kit.specs.Links.{links_of, ends_of}
 use Rattle.run_model.specs.Fronts.{AnyByRecursion}
 use Rattle.run_model.specs.Moments.{Moment}
 use Rattle.run_model.specs.Parts.{is_from_before}
-use Rattle.audit_views.specs.Standing.{has_record, is_same}
+use Rattle.audit_frame.specs.Records.{is_same}
+use Rattle.audit_frame.specs.declared.records.Held.{Held}
+use Rattle.audit_views.specs.Standing.{has_record}
 use Rattle.audit_views.specs.Views.{TellsRecords}
-use Rattle.audit_views.specs.declared.records.Held.{Held}
 
 -- ---- what is brought
 

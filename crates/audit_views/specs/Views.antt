@@ -11,12 +11,14 @@ use Rattle.node_kit.specs.declared.journal.What.TheVariants as what
 use Rattle.run_facts.specs.Order.{Noted}
 use Rattle.run_model.specs.Fronts.{AnyByRecursion}
 use Rattle.run_model.specs.Schedule.{Schedule, Stop}
-use Rattle.run_model.specs.Views.{same_record}
+use Rattle.run_model.specs.Views.{same_record, same_tenancy}
 use Rattle.run_model.specs.Moments.{Moment, next_moment}
 use Rattle.run_model.specs.Parts.{IsPart}
 use Rattle.audit_frame.specs.Tables.{MarkNumbers, Tenancies, mark_under, seat_under, unless_by}
+use Rattle.audit_frame.specs.Records.{tenancy_held}
+use Rattle.audit_frame.specs.declared.records.By.TheVariants as way
+use Rattle.audit_frame.specs.declared.records.Held.{Held}
 use Rattle.audit_views.specs.Standing.{has_record}
-use Rattle.audit_views.specs.declared.records.Held.{Held}
 use Rattle.audit_views.specs.declared.views.Stopped.{Stopped}
 
 -- ---- views
@@ -113,19 +115,18 @@ pub record TellsViews (p : Params) (seats : Tenancies) (marks : MarkNumbers) (ke
 
 -- whether a record is of a tenancy, and whether it is of a visit of the tenancy that has its slot
 abbrev pub is_of : Tenancy → Held → Bool
-is_of t h =
-    (t.instance.0 == h.instance) && (t.file.0 == h.file) && (t.slot.0 == h.slot) && (t.first == h.first) && (t.last == h.last)
+is_of t h = same_tenancy t (tenancy_held way.Instance h)
 
 abbrev pub is_held_visit : Option Tenancy → Held → Bool
 is_held_visit None h = false
 is_held_visit (Some t) h = is_of t h && (nat_le h.first h.visit && nat_le h.visit h.last)
 
 abbrev pub is_seated : Tenancies → Held → Bool
-is_seated seats h = is_held_visit (seat_under h.slot seats) h
+is_seated seats h = is_held_visit (seat_under h.beside seats) h
 
 -- the records of an instance, and whether all of them are so
 abbrev pub of_instance : ℕ → List Held → List Held
-of_instance v held = filter (λ h. h.instance == v) held
+of_instance v held = filter (λ h. h.under == v) held
 
 abbrev pub are_seated : Tenancies → ℕ → List Held → Bool
 are_seated seats v held = list_all (is_seated seats) (of_instance v held)

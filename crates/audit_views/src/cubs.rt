@@ -1,9 +1,10 @@
 //! What entries make of the records that stand in the views of cubs.
 ghost use Rattle.std.specs.Prelude.{◌≡◌, ◌&&◌, ◌||◌, nat_lt, ℕ, OnOk};
 ghost use Rattle.tiger_base.specs.declared.tenancy.Rec.{Rec};
-ghost use Rattle.audit_views.specs.Standing.{has_record, is_same};
+ghost use Rattle.audit_frame.specs.Records.{is_same};
+ghost use Rattle.audit_views.specs.Standing.{has_record};
 
-use crate::records::Records;
+use audit_frame::{By, Records};
 use slot_plan::Plan;
 use tiger_base::{NoMemory, NodeNo, Rec};
 
@@ -21,5 +22,5 @@ pub(crate) fn take_record(
     if node.0 as u64 >= plan.params.cubs {
         return Ok(());
     }
-    records.add(node, r)
+    records.add(By::Instance, node, r)
 }

@@ -5,10 +5,9 @@
 mod cubs;
 pub mod laws;
 mod local;
-mod records;
 pub mod rows;
+mod seated;
 mod views;
 
 pub use local::first_not_local;
-pub use records::Records;
 pub use views::first_stray_view;

@@ -11,12 +11,12 @@ ghost use Rattle.run_model.specs.Moments.{Moment, next_moment};
 ghost use Rattle.run_model.specs.Parts.{EntriesAreLocal, IsForCub, IsLocal, IsLocalEntry, IsLocalRecord, is_from_before};
 ghost use Rattle.audit_frame.specs.First.{Decides};
 ghost use Rattle.audit_frame.specs.Lines.{noted_line, told_by};
-ghost use Rattle.audit_views.specs.Standing.{has_record, is_same};
+ghost use Rattle.audit_frame.specs.Records.{is_same};
+ghost use Rattle.audit_views.specs.Standing.{has_record};
 ghost use Rattle.audit_views.specs.Local.{TellsLocal, has_by, is_before, is_soon, note_brings, state_brings};
 
 use crate::cubs::take_record;
-use crate::records::Records;
-use audit_frame::{Line, line_at};
+use audit_frame::{By, Line, Records, line_at};
 use node_kit::{LinkTable, What};
 use slot_plan::Plan;
 use std::alloc::Global;
@@ -120,7 +120,7 @@ impl SoFar {
             What::Got(link, note) => keep_note(&mut self.brought, plan, line.node, link, &note),
             What::Took(r) => take_record(&mut self.records, plan, line.node, &r),
             What::Dropped(r) => {
-                self.records.remove(line.node, &r);
+                self.records.remove(By::Instance, line.node, &r);
                 Ok(())
             }
             What::Died | What::Returned => {
@@ -143,10 +143,11 @@ fn are_three(mine: bool, came: bool, soon: bool) -> bool
 fn has_by(records: &Records, cub: NodeNo, t: &Tenancy, visit: Visit) -> bool
     ensures { result ≡ has_by cub.0 t.now visit records.now }
 {
-    if records.has(cub, &Rec::own(*t, visit)) {
+    // Of a state that came and of a record that is passed on the visit is mostly the one before.
+    if visit > 0 && records.has(By::Instance, cub, &Rec::own(*t, visit - 1)) {
         return true;
     }
-    visit > 0 && records.has(cub, &Rec::own(*t, visit - 1))
+    records.has(By::Instance, cub, &Rec::own(*t, visit))
 }
 
 /// Whether the visit of a record is a cub's own, or for a backup record that of the cub before it.
@@ -240,7 +241,7 @@ fn keep_own(brought: &mut Records, node: NodeNo, t: &Tenancy, visit: Visit) -> R
     ensures { OnOk result ((c : ℕ) (q : Rec) → has_record c q brought.new
         ≡ (has_record c q brought.old || is_same node.0 (own_of t.now visit) c q)) }
 {
-    brought.add(node, &Rec::own(*t, visit))
+    brought.add(By::Instance, node, &Rec::own(*t, visit))
 }
 
 /// Whether a link leads to its node from one of the two cubs before a node.

@@ -13,8 +13,8 @@ ghost use Rattle.audit_views.specs.Views.{TellsViews, IsInstancePart, IsTakenPar
 ghost use Rattle.audit_views.specs.declared.views.Stopped.{Stopped};
 
 use crate::cubs::take_record;
-use crate::records::{Records, held_by, is_seated};
-use audit_frame::{Line, Marks, Seats, is_within, line_at};
+use crate::seated::{are_seated, have_none, is_seated};
+use audit_frame::{By, Line, Marks, Records, Seats, held_by, is_within, line_at};
 use node_kit::What;
 use slot_plan::Plan;
 use std::alloc::Global;
@@ -144,7 +144,7 @@ impl SoFar {
             What::Gone(v) => keep_stop(&mut self.latest, &mut self.stops, v, line.entry.stamp.beat),
             What::Took(r) => take_record(&mut self.records, plan, line.node, &r),
             What::Dropped(r) => {
-                self.records.remove(line.node, &r);
+                self.records.remove(By::Instance, line.node, &r);
                 Ok(())
             }
             What::Died | What::Returned => {
@@ -177,10 +177,10 @@ impl SoFar {
             → IsTrue result ↔ (IsTrue (is_in_view plan.now.params m node.0 r.now)
             → IsPart plan.now.params m r.now.tenancy r.now.visit) }
     {
-        if !self.records.has(node, r) {
+        if self.is_record_part(plan, node, r) {
             return true;
         }
-        self.is_record_part(plan, node, r)
+        !self.records.has(By::Instance, node, r)
     }
 
     /// Whether a record is part: one of an instance that was stopped for a block play time after it, and another one if
@@ -193,7 +193,7 @@ impl SoFar {
     {
         match self.latest.get(r.tenancy.instance.0) {
             Some(stop) => is_within(plan, plan.params.play, self.beat, stop),
-            None => is_seated(&self.seats, &held_by(node, r)),
+            None => is_seated(&self.seats, &held_by(By::Instance, node, r)),
         }
     }
 
@@ -255,7 +255,7 @@ impl SoFar {
     {
         match self.latest.get(v.0) {
             Some(stop) => self.may_stand(plan, v, stop),
-            None => self.records.are_seated(&self.seats, v),
+            None => are_seated(&self.records, &self.seats, v),
         }
     }
 
@@ -265,7 +265,7 @@ impl SoFar {
             ⊎ (of_instance v.0 self.now.records ≡ [])) }
     {
         let in_time = is_within(plan, plan.params.play, self.beat, stop);
-        let none = self.records.have_none(v);
+        let none = have_none(&self.records, v);
         is_either(in_time, none)
     }
 }

@@ -1,4 +1,3 @@
-pub mod Tabling
 pub mod Counting
 pub mod Fronting
 pub mod Asking

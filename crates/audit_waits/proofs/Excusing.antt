@@ -19,24 +19,25 @@ use Rattle.run_model.specs.Moments.{Moment, next_moment, opening, is_belief_of, 
 use Rattle.run_model.specs.Orders.{IsOfRecentlyStopped, IsRecentStop}
 use Rattle.run_model.proofs.Reflects.{and_both, and_left, and_right, or_either, or_first, or_second, any, any_found, at_most, both, equal}
 use Rattle.slot_plan.specs.Times.{time_of}
+use Rattle.audit_frame.specs.Records.{has_held, held_by, held_cmp, is_held_at, is_same, record_of}
 use Rattle.audit_frame.specs.Tables.{has_number, has_pair}
+use Rattle.audit_frame.specs.declared.records.By.TheVariants as way
+use Rattle.audit_frame.specs.declared.records.Held.{Held}
 use Rattle.audit_frame.proofs.Added.{or_false, or_none}
+use Rattle.audit_frame.proofs.Kept.{held_again, held_itself, one_held, record_again}
+use Rattle.audit_frame.proofs.Keyed.{any_filtered}
+use Rattle.audit_frame.proofs.Recorded.{one_record, record_itself, same_turned}
 use Rattle.audit_waits.specs.Cubs.{TellsCubs, excuses_in, is_excusing}
 use Rattle.audit_waits.specs.Holders.{TellsHolders, is_recent_stop}
-use Rattle.audit_waits.specs.Spots.{has_spot, is_one_spot, is_spot_of, record_on, spot_by, spot_cmp}
 use Rattle.audit_waits.specs.declared.cubs.Cubs.{Cubs}
 use Rattle.audit_waits.specs.declared.holders.Holders.{Holders}
-use Rattle.audit_waits.specs.declared.spots.Spot.{Spot}
-use Rattle.audit_waits.proofs.Keyed.{any_filtered}
-use Rattle.audit_waits.proofs.Recorded.{one_record, record_itself, same_turned}
-use Rattle.audit_waits.proofs.Spotted.{one_spot, one_spot_is, record_back, spot_back, spot_itself}
 
 -- ---- one entry more
 
 cubs_told : (old new : Cubs) (m : Moment) (x : Noted)
     → ((n : ℕ) → has_number n new.dead ≡ (has_number n old.dead || ((x.node == n) && is_died x.entry.what)))
     → ((c d : ℕ) → has_pair c d new.believed ≡ (has_pair c d old.believed || ((x.node == c) && is_belief_of d x.entry.what)))
-    → ((c : ℕ) (r : Rec) → has_spot c r new.records
+    → ((c : ℕ) (r : Rec) → has_held way.Slot c r new.records
     ≡ list_any (same_record r) (cond (x.node == c) (recorded (m.records c) x.entry.what) (m.records c)))
     → TellsCubs old m → TellsCubs new (next_moment m x)
 unfolding next_moment
@@ -62,9 +63,9 @@ either_way t true xs = refl
 either_way t false xs = refl
 
 records_still : (c : ℕ) (r : Rec) (old new : Cubs) (m : Moment) (x : Noted) → new.records ≡ old.records → recorded (m.records c) x.entry.what ≡ m.records c
-    → TellsCubs old m → has_spot c r new.records ≡ list_any (same_record r) (cond (x.node == c) (recorded (m.records c) x.entry.what) (m.records c))
+    → TellsCubs old m → has_held way.Slot c r new.records ≡ list_any (same_record r) (cond (x.node == c) (recorded (m.records c) x.entry.what) (m.records c))
 records_still c r old new m x same e h =
-    ap (has_spot c r) same ∙ h.records c r ∙ either_way (same_record r) (x.node == c) (m.records c)
+    ap (has_held way.Slot c r) same ∙ h.records c r ∙ either_way (same_record r) (x.node == c) (m.records c)
     ∙ ap (λ (xs : List Rec). list_any (same_record r) (cond (x.node == c) xs (m.records c))) (sym e)
 
 -- ---- a record is taken, and dropped
@@ -77,15 +78,14 @@ took_here r q true xs =
 took_here r q false xs = or_false (list_any (same_record r) xs)
 
 pub took_known : (old new : Cubs) (m : Moment) (x : Noted) (q : Rec) → x.entry.what ≡ what.Took q → new.dead ≡ old.dead → new.believed ≡ old.believed
-    → ((c : ℕ) (r : Rec) → has_spot c r new.records ≡ (has_spot c r old.records || is_one_spot x.node q c r))
+    → ((c : ℕ) (r : Rec) → has_held way.Slot c r new.records ≡ (has_held way.Slot c r old.records || is_same x.node q c r))
     → TellsCubs old m → TellsCubs new (next_moment m x)
 took_known old new m x q is dead believed added h = cubs_told old new m x
     (λ n. dead_still n old.dead new.dead x dead (ap is_died is))
     (λ c d. belief_still c d old.believed new.believed x believed (ap (is_belief_of d) is))
     (λ c r.
     added c r
-    ∙ ap (λ (b : Bool). b || is_one_spot x.node q c r) (h.records c r)
-    ∙ ap (λ (b : Bool). list_any (same_record r) (m.records c) || b) (one_spot_is x.node c q r)
+    ∙ ap (λ (b : Bool). b || is_same x.node q c r) (h.records c r)
     ∙ took_here r q (x.node == c) (m.records c)
     ∙ ap (λ (w : What). list_any (same_record r) (cond (x.node == c) (recorded (m.records c) w) (m.records c))) (sym is))
     h
@@ -101,15 +101,14 @@ dropped_here r q false xs = go (list_any (same_record r) xs) where
   go false = refl
 
 pub dropped_known : (old new : Cubs) (m : Moment) (x : Noted) (q : Rec) → x.entry.what ≡ what.Dropped q → new.dead ≡ old.dead → new.believed ≡ old.believed
-    → ((c : ℕ) (r : Rec) → has_spot c r new.records ≡ (has_spot c r old.records && not (is_one_spot x.node q c r)))
+    → ((c : ℕ) (r : Rec) → has_held way.Slot c r new.records ≡ (has_held way.Slot c r old.records && not (is_same x.node q c r)))
     → TellsCubs old m → TellsCubs new (next_moment m x)
 dropped_known old new m x q is dead believed removed h = cubs_told old new m x
     (λ n. dead_still n old.dead new.dead x dead (ap is_died is))
     (λ c d. belief_still c d old.believed new.believed x believed (ap (is_belief_of d) is))
     (λ c r.
     removed c r
-    ∙ ap (λ (b : Bool). b && not (is_one_spot x.node q c r)) (h.records c r)
-    ∙ ap (λ (b : Bool). list_any (same_record r) (m.records c) && not b) (one_spot_is x.node c q r)
+    ∙ ap (λ (b : Bool). b && not (is_same x.node q c r)) (h.records c r)
     ∙ dropped_here r q (x.node == c) (m.records c)
     ∙ ap (λ (w : What). list_any (same_record r) (cond (x.node == c) (recorded (m.records c) w) (m.records c))) (sym is))
     h
@@ -152,8 +151,8 @@ emptied_here r false xs = same (list_any (same_record r) xs) where
   same false = refl
 
 records_emptied : (c : ℕ) (r : Rec) (old new : Cubs) (m : Moment) (x : Noted) → empties x.entry.what ≡ true
-    → ((d : ℕ) (q : Rec) → has_spot d q new.records ≡ (has_spot d q old.records && not (x.node == d)))
-    → TellsCubs old m → has_spot c r new.records ≡ list_any (same_record r) (cond (x.node == c) (recorded (m.records c) x.entry.what) (m.records c))
+    → ((d : ℕ) (q : Rec) → has_held way.Slot d q new.records ≡ (has_held way.Slot d q old.records && not (x.node == d)))
+    → TellsCubs old m → has_held way.Slot c r new.records ≡ list_any (same_record r) (cond (x.node == c) (recorded (m.records c) x.entry.what) (m.records c))
 records_emptied c r old new m x is cleared h =
     cleared c r
     ∙ ap (λ (b : Bool). b && not (x.node == c)) (h.records c r)
@@ -161,7 +160,7 @@ records_emptied c r old new m x is cleared h =
     ∙ ap (λ (xs : List Rec). list_any (same_record r) (cond (x.node == c) xs (m.records c))) (sym (emptied (m.records c) x.entry.what is))
 
 pub return_known : (old new : Cubs) (m : Moment) (x : Noted) → x.entry.what ≡ what.Returned → new.dead ≡ old.dead → new.believed ≡ old.believed
-    → ((c : ℕ) (r : Rec) → has_spot c r new.records ≡ (has_spot c r old.records && not (x.node == c)))
+    → ((c : ℕ) (r : Rec) → has_held way.Slot c r new.records ≡ (has_held way.Slot c r old.records && not (x.node == c)))
     → TellsCubs old m → TellsCubs new (next_moment m x)
 return_known old new m x is dead believed cleared h = cubs_told old new m x
     (λ n. dead_still n old.dead new.dead x dead (ap is_died is))
@@ -170,7 +169,7 @@ return_known old new m x is dead believed cleared h = cubs_told old new m x
     h
 
 pub death_known : (old new : Cubs) (m : Moment) (x : Noted) → x.entry.what ≡ what.Died → new.believed ≡ old.believed
-    → ((c : ℕ) (r : Rec) → has_spot c r new.records ≡ (has_spot c r old.records && not (x.node == c)))
+    → ((c : ℕ) (r : Rec) → has_held way.Slot c r new.records ≡ (has_held way.Slot c r old.records && not (x.node == c)))
     → ((n : ℕ) → has_number n new.dead ≡ (has_number n old.dead || (x.node == n)))
     → TellsCubs old m → TellsCubs new (next_moment m x)
 death_known old new m x is believed cleared added h = cubs_told old new m x
@@ -206,17 +205,17 @@ pub cubs_opening : (s : Cubs) → s.dead ≡ [] → s.believed ≡ [] → s.reco
 cubs_opening s dead believed records = record {
   dead = λ n. sym (ap (has_number n) dead);
   believed = λ c d. sym (ap (has_pair c d) believed);
-  records = λ c r. ap (has_spot c r) records;
+  records = λ c r. ap (has_held way.Slot c r) records;
 }
 
 -- ---- records that excuse
 
-some_spot : (f : Spot → Bool) (spots : List Spot) → IsTrue (list_any f spots)
-    → (s : Spot) × IsTrue (f s) × IsTrue (list_any (λ k. is_eq (spot_cmp s k)) spots)
-some_spot f [] h = absurd (false≢true h)
-some_spot f (s ∷ ss) h = ⊎_elim
-    (λ a. (s, a, or_first (is_eq (spot_cmp s s)) (list_any (λ k. is_eq (spot_cmp s k)) ss) (spot_itself s)))
-    (λ a. let r = some_spot f ss a in (r.0, r.1, or_second (is_eq (spot_cmp r.0 s)) (list_any (λ k. is_eq (spot_cmp r.0 k)) ss) r.2))
+some_held : (f : Held → Bool) (rows : List Held) → IsTrue (list_any f rows)
+    → (s : Held) × IsTrue (f s) × IsTrue (list_any (λ k. is_eq (held_cmp s k)) rows)
+some_held f [] h = absurd (false≢true h)
+some_held f (s ∷ ss) h = ⊎_elim
+    (λ a. (s, a, or_first (is_eq (held_cmp s s)) (list_any (λ k. is_eq (held_cmp s k)) ss) (held_itself s)))
+    (λ a. let r = some_held f ss a in (r.0, r.1, or_second (is_eq (held_cmp r.0 s)) (list_any (λ k. is_eq (held_cmp r.0 k)) ss) r.2))
     (or_either (f s) (list_any f ss) h)
 
 some_record : (P : Rec → Type 0) (xs : List Rec) → AnyByRecursion P xs → (r : Rec) × P r × IsTrue (list_any (same_record r) xs)
@@ -237,56 +236,56 @@ recent_is : (p : Params) (beat v : ℕ) (stop : Stop) → IsTrue (is_recent_stop
 recent_is p beat v stop = both _ _ (stop.instance ≡ v) _ (equal stop.instance v) (at_most (time_of p beat) (time_of p stop.beat + p.play))
 
 -- one record, by its numbers
-spot_is : (p : Params) (h : Holders) (m : Moment) (beat slot visit : ℕ) (s : Spot) → TellsHolders p h m.schedule
-    → IsTrue (((s.slot == slot) && (s.visit == visit)) && is_excusing p h beat s) ↔ IsOfRecentlyStopped p m beat slot visit (record_on s)
-spot_is p h m beat slot visit s tells =
-    let stops = any (IsRecentStop p beat s.instance) (is_recent_stop p beat s.instance) (recent_is p beat s.instance) m.schedule.stops in (
+held_is : (p : Params) (h : Holders) (m : Moment) (beat slot visit : ℕ) (s : Held) → TellsHolders p h m.schedule
+    → IsTrue (((s.under == slot) && (s.visit == visit)) && is_excusing p h beat s) ↔ IsOfRecentlyStopped p m beat slot visit (record_of way.Slot s)
+held_is p h m beat slot visit s tells =
+    let stops = any (IsRecentStop p beat s.beside) (is_recent_stop p beat s.beside) (recent_is p beat s.beside) m.schedule.stops in (
       (λ t.
-          let place = and_left ((s.slot == slot) && (s.visit == visit)) (is_excusing p h beat s) t in (
-            eqb-true s.slot slot (and_left (s.slot == slot) (s.visit == visit) place),
-            eqb-true s.visit visit (and_right (s.slot == slot) (s.visit == visit) place),
-            stops.0 (subst IsTrue (sym (tells.recent s.instance beat)) (and_right ((s.slot == slot) && (s.visit == visit)) (is_excusing p h beat s) t)),
+          let place = and_left ((s.under == slot) && (s.visit == visit)) (is_excusing p h beat s) t in (
+            eqb-true s.under slot (and_left (s.under == slot) (s.visit == visit) place),
+            eqb-true s.visit visit (and_right (s.under == slot) (s.visit == visit) place),
+            stops.0 (subst IsTrue (sym (tells.recent s.beside beat)) (and_right ((s.under == slot) && (s.visit == visit)) (is_excusing p h beat s) t)),
           )),
-      (λ t. and_both ((s.slot == slot) && (s.visit == visit)) (is_excusing p h beat s)
-          (and_both (s.slot == slot) (s.visit == visit) (eq-eqb s.slot slot t.0) (eq-eqb s.visit visit t.1))
-          (subst IsTrue (tells.recent s.instance beat) (stops.1 t.2))),
+      (λ t. and_both ((s.under == slot) && (s.visit == visit)) (is_excusing p h beat s)
+          (and_both (s.under == slot) (s.visit == visit) (eq-eqb s.under slot t.0) (eq-eqb s.visit visit t.1))
+          (subst IsTrue (tells.recent s.beside beat) (stops.1 t.2))),
     )
 
-spots_tell : (p : Params) (h : Holders) (s : Cubs) (m : Moment) (c beat slot visit : ℕ) → TellsHolders p h m.schedule → TellsCubs s m
-    → IsTrue (list_any (λ x. is_spot_of c slot visit x && is_excusing p h beat x) s.records)
+records_tell : (p : Params) (h : Holders) (s : Cubs) (m : Moment) (c beat slot visit : ℕ) → TellsHolders p h m.schedule → TellsCubs s m
+    → IsTrue (list_any (λ x. is_held_at slot c visit x && is_excusing p h beat x) s.records)
     ↔ AnyByRecursion (IsOfRecentlyStopped p m beat slot visit) (m.records c)
-spots_tell p h s m c beat slot visit holders cubs = (there, back) where
-  there : IsTrue (list_any (λ x. is_spot_of c slot visit x && is_excusing p h beat x) s.records) → AnyByRecursion (IsOfRecentlyStopped p m beat slot visit) (m.records c)
+records_tell p h s m c beat slot visit holders cubs = (there, back) where
+  there : IsTrue (list_any (λ x. is_held_at slot c visit x && is_excusing p h beat x) s.records) → AnyByRecursion (IsOfRecentlyStopped p m beat slot visit) (m.records c)
   there t =
-      let x = some_spot (λ x. is_spot_of c slot visit x && is_excusing p h beat x) s.records t in
-      let place = and_left (is_spot_of c slot visit x.0) (is_excusing p h beat x.0) x.1 in
-      let cub = eqb-true x.0.cub c (and_left (x.0.cub == c) ((x.0.slot == slot) && (x.0.visit == visit)) place) in
-      let fits = (spot_is p h m beat slot visit x.0 holders).0
-      (and_both ((x.0.slot == slot) && (x.0.visit == visit)) (is_excusing p h beat x.0)
-      (and_right (x.0.cub == c) ((x.0.slot == slot) && (x.0.visit == visit)) place)
-      (and_right (is_spot_of c slot visit x.0) (is_excusing p h beat x.0) x.1)) in
-      let member : IsTrue (has_spot x.0.cub (record_on x.0) s.records) =
-      subst (λ (y : Spot). IsTrue (list_any (λ k. is_eq (spot_cmp y k)) s.records)) (sym (spot_back x.0)) x.2 in
-      let stands : IsTrue (list_any (same_record (record_on x.0)) (m.records c)) =
-      subst (λ (k : ℕ). IsTrue (list_any (same_record (record_on x.0)) (m.records k))) cub
-      (subst IsTrue (cubs.records x.0.cub (record_on x.0)) member) in
-      any_found (IsOfRecentlyStopped p m beat slot visit) (same_record (record_on x.0))
-      (λ q e. subst (IsOfRecentlyStopped p m beat slot visit) (one_record (record_on x.0) q e) fits) (m.records c) stands
+      let x = some_held (λ x. is_held_at slot c visit x && is_excusing p h beat x) s.records t in
+      let place = and_left (is_held_at slot c visit x.0) (is_excusing p h beat x.0) x.1 in
+      let cub = eqb-true x.0.cub c (and_left (x.0.cub == c) ((x.0.under == slot) && (x.0.visit == visit)) place) in
+      let fits = (held_is p h m beat slot visit x.0 holders).0
+      (and_both ((x.0.under == slot) && (x.0.visit == visit)) (is_excusing p h beat x.0)
+      (and_right (x.0.cub == c) ((x.0.under == slot) && (x.0.visit == visit)) place)
+      (and_right (is_held_at slot c visit x.0) (is_excusing p h beat x.0) x.1)) in
+      let member : IsTrue (has_held way.Slot x.0.cub (record_of way.Slot x.0) s.records) =
+      subst (λ (y : Held). IsTrue (list_any (λ k. is_eq (held_cmp y k)) s.records)) (sym (held_again way.Slot x.0)) x.2 in
+      let stands : IsTrue (list_any (same_record (record_of way.Slot x.0)) (m.records c)) =
+      subst (λ (k : ℕ). IsTrue (list_any (same_record (record_of way.Slot x.0)) (m.records k))) cub
+      (subst IsTrue (cubs.records x.0.cub (record_of way.Slot x.0)) member) in
+      any_found (IsOfRecentlyStopped p m beat slot visit) (same_record (record_of way.Slot x.0))
+      (λ q e. subst (IsOfRecentlyStopped p m beat slot visit) (one_record (record_of way.Slot x.0) q e) fits) (m.records c) stands
 
-  back : AnyByRecursion (IsOfRecentlyStopped p m beat slot visit) (m.records c) → IsTrue (list_any (λ x. is_spot_of c slot visit x && is_excusing p h beat x) s.records)
+  back : AnyByRecursion (IsOfRecentlyStopped p m beat slot visit) (m.records c) → IsTrue (list_any (λ x. is_held_at slot c visit x && is_excusing p h beat x) s.records)
   back t =
       let r = some_record (IsOfRecentlyStopped p m beat slot visit) (m.records c) t in
-      let own = (spot_is p h m beat slot visit (spot_by c r.0) holders).1
-      (subst (IsOfRecentlyStopped p m beat slot visit) (sym (record_back c r.0)) r.1) in
-      let here : IsTrue (is_spot_of c slot visit (spot_by c r.0) && is_excusing p h beat (spot_by c r.0)) =
-      and_both (is_spot_of c slot visit (spot_by c r.0)) (is_excusing p h beat (spot_by c r.0))
+      let own = (held_is p h m beat slot visit (held_by way.Slot c r.0) holders).1
+      (subst (IsOfRecentlyStopped p m beat slot visit) (sym (record_again way.Slot c r.0)) r.1) in
+      let here : IsTrue (is_held_at slot c visit (held_by way.Slot c r.0) && is_excusing p h beat (held_by way.Slot c r.0)) =
+      and_both (is_held_at slot c visit (held_by way.Slot c r.0)) (is_excusing p h beat (held_by way.Slot c r.0))
       (and_both (c == c) ((r.0.tenancy.slot.0 == slot) && (r.0.visit == visit)) (eq-eqb c c refl)
-      (and_left ((r.0.tenancy.slot.0 == slot) && (r.0.visit == visit)) (is_excusing p h beat (spot_by c r.0)) own))
-      (and_right ((r.0.tenancy.slot.0 == slot) && (r.0.visit == visit)) (is_excusing p h beat (spot_by c r.0)) own) in
-      any_implied (λ k. is_eq (spot_cmp (spot_by c r.0) k)) (λ x. is_spot_of c slot visit x && is_excusing p h beat x) s.records
-      (λ k e. subst (λ (y : Spot). IsTrue (is_spot_of c slot visit y && is_excusing p h beat y)) (one_spot (spot_by c r.0) k e) here)
+      (and_left ((r.0.tenancy.slot.0 == slot) && (r.0.visit == visit)) (is_excusing p h beat (held_by way.Slot c r.0)) own))
+      (and_right ((r.0.tenancy.slot.0 == slot) && (r.0.visit == visit)) (is_excusing p h beat (held_by way.Slot c r.0)) own) in
+      any_implied (λ k. is_eq (held_cmp (held_by way.Slot c r.0) k)) (λ x. is_held_at slot c visit x && is_excusing p h beat x) s.records
+      (λ k e. subst (λ (y : Held). IsTrue (is_held_at slot c visit y && is_excusing p h beat y)) (one_held (held_by way.Slot c r.0) k e) here)
       (subst IsTrue (sym (cubs.records c r.0)) r.2)
 
 pub excuses_is : (p : Params) (h : Holders) (s : Cubs) (m : Moment) (c beat slot visit : ℕ) → TellsHolders p h m.schedule → TellsCubs s m
     → IsTrue (excuses_in p h s c beat slot visit) ↔ AnyByRecursion (IsOfRecentlyStopped p m beat slot visit) (view_of m c)
-excuses_is p h s m c beat slot visit holders cubs = spots_tell p h s m c beat slot visit holders cubs
+excuses_is p h s m c beat slot visit holders cubs = records_tell p h s m c beat slot visit holders cubs

@@ -1,20 +1,17 @@
 -- What a set of numbers in groups has after a change.
-use Rattle.std.proofs.Common.{◌≡◌, ℕ, ◌+◌, nat_le, arith, Bool, true, false, not, ◌&&◌, ◌||◌, ◌==◌, cond, List, [], ◌∷◌, filter, Option, Some, None, is_some, Bor, refl, sym, ap, ◌∙◌}
+use Rattle.std.proofs.Common.{◌≡◌, ℕ, ◌+◌, nat_le, arith, Bool, true, false, not, ◌&&◌, ◌||◌, ◌==◌, cond, List, [], ◌∷◌, filter, length, Option, Some, None, is_some, Bor, refl, sym, ap, ◌∙◌}
 use Rattle.std.specs.declared.ops.Bound.TheVariants.{Included, Excluded}
 use Rattle.std.specs.BTreeMap.Range.{range_contains}
-use Rattle.std.specs.Cmp.{unsigned_tied}
 use Rattle.std.specs.List.{list_any}
 use Rattle.std.specs.Map.Iter.{TakesFirst, deref}
 use Rattle.std.specs.Ordering.{is_eq, is_le, nat_cmp, ordering_then}
 use Rattle.std.proofs.lemmas.Bool.{eqb-true, false≢true}
-use Rattle.std.proofs.lemmas.Bool.Decides.{nat_tests}
-use Rattle.run_model.proofs.Reflects.{and_right}
 use Rattle.slot_plan.specs.declared.params.Params.{Params}
 use Rattle.audit_frame.specs.Tables.{has_pair}
 use Rattle.audit_frame.proofs.Added.{or_false, turned}
-use Rattle.audit_frame.proofs.Tabled.{both_equal}
+use Rattle.audit_frame.proofs.Keyed.{and_not, filter_alike, le_then, le_is, least_number, one_between}
+use Rattle.audit_frame.proofs.Tabled.{both_same}
 use Rattle.audit_waits.specs.Starts.{cub_for}
-use Rattle.audit_waits.proofs.Keyed.{any_filtered, filter_alike, le_then, le_is, least_number}
 
 -- ---- lists
 
@@ -49,6 +46,10 @@ any_times {X} test a b (x ∷ xs) =
     ap (λ (c : Bool). (a && (test x && b)) || c) (any_times test a b xs)
     ∙ distributes a b (test x) (list_any test xs)
 
+pub nothing_in : {X : Type 0} (xs : List X) → length xs ≡ 0 → xs ≡ []
+nothing_in [] e = refl
+nothing_in (x ∷ xs) e = absurd (omega (arith, e))
+
 -- what is first of the elements that pass a test
 none_pass : {X : Type 0} (test : X → Bool) (xs : List X) → filter test xs ≡ [] → list_any test xs ≡ false
 none_pass test [] e = refl
@@ -80,20 +81,70 @@ first_tells test (Some x) r part rest all e takes is = e ∙ sym (one_passes tes
 
 -- ---- pairs
 
-pub pair_is : (m n k l : ℕ) → is_eq (ordering_then (nat_cmp m k) (nat_cmp n l)) ≡ ((m == k) && (n == l))
-pair_is m n k l =
-    both_equal (nat_cmp m k) (nat_cmp n l)
-    ∙ ap (λ (b : Bool). b && is_eq (nat_cmp n l)) (unsigned_tied m k)
-    ∙ ap (λ (b : Bool). (m == k) && b) (unsigned_tied n l)
+-- a number leaves a group
+pub pair_left : (group number g n : ℕ) (old mid new : List (ℕ × ℕ)) → mid ≡ old
+    → has_pair g n new ≡ cond (is_eq (ordering_then (nat_cmp group g) (nat_cmp number n))) false (has_pair g n mid)
+    → has_pair g n new ≡ (has_pair g n old && not ((group == g) && (number == n)))
+pair_left group number g n old mid new view e =
+    e ∙ ap (λ (b : Bool). cond b false (has_pair g n mid)) (both_same group number g n)
+    ∙ and_not ((group == g) && (number == n)) (has_pair g n mid)
+    ∙ ap (λ (rows : List (ℕ × ℕ)). has_pair g n rows && not ((group == g) && (number == n))) view
 
--- a number leaves
-pub number_left : (number g n : ℕ) (old mid new : List (ℕ × ℕ)) → mid ≡ old → new ≡ filter (λ k. not (number == k.1)) mid
-    → has_pair g n new ≡ (has_pair g n old && not (number == n))
-number_left number g n old mid new view is =
-    ap (has_pair g n) is
-    ∙ any_filtered (λ k. is_eq (ordering_then (nat_cmp g k.0) (nat_cmp n k.1))) (λ k. not (number == k.1)) (not (number == n)) mid
-    (λ k e. ap (λ (i : ℕ). not (number == i)) (sym (eqb-true n k.1 (and_right (g == k.0) (n == k.1) (sym (pair_is g n k.0 k.1) ∙ e)))))
-    ∙ ap (λ (rows : List (ℕ × ℕ)). has_pair g n rows && not (number == n)) view
+-- whether a number leaves a group by a pair
+abbrev pub leaves_pair : ℕ → ℕ → ℕ → ℕ × ℕ → Bool
+leaves_pair number g n k = (k.1 == g) && (number == n)
+
+one_leaves : (number g n : ℕ) (k : ℕ × ℕ) → ((k.0 == number) && leaves_pair number g n k)
+    ≡ ((number == n) && (is_eq (ordering_then (nat_cmp number k.0) (nat_cmp g k.1)) && true))
+one_leaves number g n k =
+    moved (k.0 == number) (k.1 == g) (number == n)
+    ∙ ap (λ (b : Bool). (number == n) && ((b && (k.1 == g)) && true)) (turned k.0 number)
+    ∙ ap (λ (b : Bool). (number == n) && (((number == k.0) && b) && true)) (turned k.1 g)
+    ∙ ap (λ (b : Bool). (number == n) && (b && true)) (sym (both_same number g k.0 k.1))
+  where
+    moved : (x y a : Bool) → (x && (y && a)) ≡ (a && ((x && y) && true))
+    moved true true true = refl
+    moved true true false = refl
+    moved true false true = refl
+    moved true false false = refl
+    moved false y true = refl
+    moved false y false = refl
+
+pub all_leave : (number g n : ℕ) (groups : List (ℕ × ℕ))
+    → list_any (leaves_pair number g n) (filter (λ k. k.0 == number) groups) ≡ ((number == n) && has_pair number g groups)
+all_leave number g n groups =
+    any_of_filter (leaves_pair number g n) (λ k. k.0 == number) groups
+    ∙ any_alike _ _ groups (one_leaves number g n)
+    ∙ any_times (λ k. is_eq (ordering_then (nat_cmp number k.0) (nat_cmp g k.1))) (number == n) true groups
+    ∙ ap (λ (b : Bool). (number == n) && b) (with_true (has_pair number g groups))
+  where
+    with_true : (b : Bool) → (b && true) ≡ b
+    with_true true = refl
+    with_true false = refl
+
+-- by one pair of those that are left
+pub one_left : (number g n : ℕ) (k : ℕ × ℕ) (rest left : List (ℕ × ℕ)) (was is all : Bool) → left ≡ k ∷ rest
+    → is ≡ (was && not (leaves_pair number g n k)) → (was && not (list_any (leaves_pair number g n) left)) ≡ all
+    → (is && not (list_any (leaves_pair number g n) rest)) ≡ all
+one_left number g n k rest left was is all first one before =
+    ap (λ (b : Bool). b && not (list_any (leaves_pair number g n) rest)) one
+    ∙ regroup was (leaves_pair number g n k) (list_any (leaves_pair number g n) rest)
+    ∙ ap (λ (ks : List (ℕ × ℕ)). was && not (list_any (leaves_pair number g n) ks)) (sym first) ∙ before
+  where
+    regroup : (a b c : Bool) → ((a && not b) && not c) ≡ (a && not (b || c))
+    regroup true true c = refl
+    regroup true false c = refl
+    regroup false b c = refl
+
+-- by no pair any more
+pub none_left : (number g n : ℕ) (left : List (ℕ × ℕ)) (was all : Bool) → left ≡ []
+    → (was && not (list_any (leaves_pair number g n) left)) ≡ all → was ≡ all
+none_left number g n left was all none e =
+    whole was ∙ ap (λ (ks : List (ℕ × ℕ)). was && not (list_any (leaves_pair number g n) ks)) (sym none) ∙ e
+  where
+    whole : (b : Bool) → b ≡ (b && true)
+    whole true = refl
+    whole false = refl
 
 -- ---- a group
 
@@ -102,13 +153,10 @@ pub in_group : (v : ℕ) (k : ℕ × ℕ)
 in_group v k =
     ap (λ (b : Bool). b && not (is_le (ordering_then (nat_cmp (v + 1) k.0) (nat_cmp 0 k.1)))) (from_lowest v)
     ∙ ap (λ (b : Bool). nat_le v k.0 && not b) (from_lowest (v + 1))
-    ∙ alike v k.0
+    ∙ one_between v k.0
   where
     from_lowest : (g : ℕ) → is_le (ordering_then (nat_cmp g k.0) (nat_cmp 0 k.1)) ≡ nat_le g k.0
     from_lowest g = le_then (nat_cmp g k.0) (nat_cmp 0 k.1) (least_number k.1) ∙ le_is g k.0
-
-    alike : (m n : ℕ) → (nat_le m n && not (nat_le (m + 1) n)) ≡ (n == m)
-    alike m n = grind (arith, nat_tests)
 
 pub group_between : (v : ℕ) (lo hi : ℕ × ℕ) (keys all : List (ℕ × ℕ)) → lo ≡ (v, 0) → hi ≡ (v + 1, 0) → keys ≡ all
     → filter (range_contains (λ a b. ordering_then (nat_cmp a.0 b.0) (nat_cmp a.1 b.1)) (Included lo) (Excluded hi)) keys
@@ -127,7 +175,7 @@ one_pair : (p : Params) (redundant : Bool) (node v d n : ℕ) (k : ℕ × ℕ)
     ≡ ((v == n) && (is_eq (ordering_then (nat_cmp n k.0) (nat_cmp d k.1)) && (node == cub_for p redundant d)))
 one_pair p redundant node v d n k =
     go (v == n) (k.1 == d) refl refl
-    ∙ ap (λ (b : Bool). (v == n) && (b && (node == cub_for p redundant d))) (sym (pair_is n d k.0 k.1))
+    ∙ ap (λ (b : Bool). (v == n) && (b && (node == cub_for p redundant d))) (sym (both_same n d k.0 k.1))
   where
     go : (a c : Bool) → (v == n) ≡ a → (k.1 == d) ≡ c
         → ((k.0 == v) && (a && (c && (node == cub_for p redundant k.1)))) ≡ (a && (((n == k.0) && (d == k.1)) && (node == cub_for p redundant d)))

@@ -19,6 +19,7 @@ use Rattle.run_model.specs.Schedule.{is_stopped}
 use Rattle.run_model.specs.Orders.{IsNotPassedOver, IsOfRecentlyStopped, IsOrdered, IsStartOf, IsTaken, HasStart}
 use Rattle.run_model.proofs.Reflects.{and_both, and_left, and_right, or_either, or_first, or_second, at_most, either}
 use Rattle.audit_frame.specs.Tables.{has_number, has_pair}
+use Rattle.audit_frame.proofs.Tabled.{both_same}
 use Rattle.audit_waits.specs.Groups.{has_group}
 use Rattle.audit_waits.specs.Cubs.{excuses_in}
 use Rattle.audit_waits.specs.Holders.{has_its_visit, holder_in}
@@ -26,7 +27,6 @@ use Rattle.audit_waits.specs.Starts.{cub_for, waiting_in}
 use Rattle.audit_waits.specs.Ticks.{AreDisksServed, AreVisitsTaken, IsDiskServed, TellsWaits, is_missed_by, is_taken_by}
 use Rattle.audit_waits.specs.declared.so_far.SoFar.{SoFar}
 use Rattle.audit_waits.proofs.Excusing.{excuses_is}
-use Rattle.audit_waits.proofs.Grouped.{pair_is}
 use Rattle.audit_waits.proofs.Ordered.{asked_of}
 use Rattle.audit_waits.proofs.Waiting.{waits_is}
 
@@ -84,7 +84,7 @@ group_of : (d v : ℕ) (pairs : List (ℕ × ℕ)) → IsTrue (has_pair d v pair
 group_of d v [] h = absurd (false≢true h)
 group_of d v (k ∷ ks) h = ⊎_elim
     (λ a. or_first (k.0 == d) (has_group d ks)
-    (eq-eqb k.0 d (sym (eqb-true d k.0 (and_left (d == k.0) (v == k.1) (sym (pair_is d v k.0 k.1) ∙ a))))))
+    (eq-eqb k.0 d (sym (eqb-true d k.0 (and_left (d == k.0) (v == k.1) (sym (both_same d v k.0 k.1) ∙ a))))))
     (λ a. or_second (k.0 == d) (has_group d ks) (group_of d v ks a))
     (or_either (is_eq (ordering_then (nat_cmp d k.0) (nat_cmp v k.1))) (has_pair d v ks) h)
 
@@ -94,7 +94,7 @@ group_has d (k ∷ ks) h = ⊎_elim
     (λ a. (
       k.1,
       or_first (is_eq (ordering_then (nat_cmp d k.0) (nat_cmp k.1 k.1))) (has_pair d k.1 ks)
-          (pair_is d k.1 k.0 k.1 ∙ and_both (d == k.0) (k.1 == k.1) (eq-eqb d k.0 (sym (eqb-true k.0 d a))) (eq-eqb k.1 k.1 refl)),
+          (both_same d k.1 k.0 k.1 ∙ and_both (d == k.0) (k.1 == k.1) (eq-eqb d k.0 (sym (eqb-true k.0 d a))) (eq-eqb k.1 k.1 refl)),
     ))
     (λ a. let r = group_has d ks a in (r.0, or_second (is_eq (ordering_then (nat_cmp d k.0) (nat_cmp r.0 k.1))) (has_pair d r.0 ks) r.1))
     (or_either (k.0 == d) (has_group d ks) h)
@@ -262,6 +262,17 @@ tick_back p orders s m c beat reading before low early is tells patient = (
         ),
       ))),
 )
+
+-- if no start waits anywhere
+pub nobody_waits : (p : Params) (orders : List Order) (s : SoFar) (m : Moment) (c beat reading : ℕ) → IsPlan p → c < p.cubs
+    → TellsWaits p orders s m → ((redundant : Bool) → waiting_in redundant s.starts ≡ []) → IsNotPassedOver p orders m c beat reading
+nobody_waits p orders s m c beat reading plan low tells none =
+    tick_there p orders s m c beat reading ((c + p.cubs - 1) % p.cubs) plan low refl tells
+    (λ lives. none_there false c) (λ believed. none_there true ((c + p.cubs - 1) % p.cubs))
+  where
+    none_there : (redundant : Bool) (cub : ℕ) → AreDisksServed p s.starts.disks m c beat reading redundant cub
+    none_there redundant cub k few v waits = absurd (false≢true
+        (sym (ap (has_pair (cub + k * p.cubs) v) (none redundant)) ∙ (tells.starts.waiting redundant (cub + k * p.cubs) v ∙ waits)))
 
 -- the plain starts of a cub count if it has never died
 pub not_living : (p : Params) (orders : List Order) (s : SoFar) (m : Moment) (c : ℕ) (died : Bool) (D : Type 0) → TellsWaits p orders s m

@@ -1,9 +1,6 @@
-pub mod Keyed
-pub mod Recorded
 pub mod Grouped
 pub mod Ordered
 pub mod Waiting
-pub mod Spotted
 pub mod Holding
 pub mod Excusing
 pub mod Windows

@@ -22,7 +22,7 @@ use Rattle.run_model.proofs.Reflects.{and_both, and_left, and_right, negated, an
 use Rattle.audit_frame.specs.Tables.{has_number, has_pair}
 use Rattle.audit_frame.proofs.Added.{or_false}
 use Rattle.audit_frame.proofs.Seated.{put_stops}
-use Rattle.audit_waits.specs.Starts.{AreDisksOf, HasEnded, HasLetIn, HasTakenNote, TellsStarts, WaitsFor, cub_for, ends_wait, is_over, is_start_of, note_lets_in, same_way, waiting_in, waits_for, was_got}
+use Rattle.audit_waits.specs.Starts.{AreDisksOf, AreOrdered, HasEnded, HasLetIn, HasTakenNote, TellsStarts, WaitsFor, cub_for, ends_wait, is_over, is_start_of, note_lets_in, same_way, waiting_in, waits_for, was_got}
 use Rattle.audit_waits.specs.declared.starts.Starts.{Starts}
 
 -- ---- tests
@@ -305,13 +305,29 @@ spare_let_in p node i old new over same added false disk v =
 
 -- ---- an end
 
+-- what waits is ordered
+pub are_ordered : (p : Params) (s : Starts) (m : Moment) → TellsStarts p s m → AreOrdered s
+are_ordered p s m h redundant disk v waits =
+    and_left (has_pair v disk s.disks) _ (sym (h.waiting redundant disk v) ∙ waits)
+
+-- whoever leaves the disks for which his starts were ordered waits for none
+left_all : (i n g : ℕ) (old new : Bool) (disks : List (ℕ × ℕ)) → (IsTrue old → IsTrue (has_pair n g disks))
+    → new ≡ (old && not ((i == n) && has_pair i g disks)) → new ≡ (old && not (i == n))
+left_all i n g old new disks ordered e = e ∙ go old (i == n) refl refl where
+  go : (a b : Bool) → old ≡ a → (i == n) ≡ b → (a && not (b && has_pair i g disks)) ≡ (a && not b)
+  go false b f h = refl
+  go true false f h = refl
+  go true true f h =
+      ap (λ (k : ℕ). not (has_pair k g disks)) (eqb-true i n h) ∙ ap not (ordered f)
+
 pub has_ended : (i : ℕ) (old new : Starts) → ((n : ℕ) → has_number n new.over ≡ (has_number n old.over || (i == n)))
-    → ((g n : ℕ) → has_pair g n new.plain ≡ (has_pair g n old.plain && not (i == n)))
-    → ((g n : ℕ) → has_pair g n new.spare ≡ (has_pair g n old.spare && not (i == n))) → HasEnded i old new
-has_ended i old new over plain spare = record { over = over; waiting = both } where
+    → ((g n : ℕ) → has_pair g n new.plain ≡ (has_pair g n old.plain && not ((i == n) && has_pair i g old.disks)))
+    → ((g n : ℕ) → has_pair g n new.spare ≡ (has_pair g n old.spare && not ((i == n) && has_pair i g old.disks)))
+    → AreOrdered old → HasEnded i old new
+has_ended i old new over plain spare ordered = record { over = over; waiting = both } where
   both : (redundant : Bool) (disk n : ℕ) → has_pair disk n (waiting_in redundant new) ≡ (has_pair disk n (waiting_in redundant old) && not (i == n))
-  both false = plain
-  both true = spare
+  both false disk n = left_all i n disk (has_pair disk n old.plain) (has_pair disk n new.plain) old.disks (ordered false disk n) (plain disk n)
+  both true disk n = left_all i n disk (has_pair disk n old.spare) (has_pair disk n new.spare) old.disks (ordered true disk n) (spare disk n)
 
 -- ---- the test in the claim's words
 
@@ -362,3 +378,8 @@ waits_is p orders disks m redundant disk v all =
           (and_both (was_got v redundant journal) (not (is_over m v)) (got.1 h.got)
           ((negated (is_over m v)).1 (none_of (m.put v) (is_stopped v m.schedule.stops) h.put h.stopped)))),
     )
+
+-- no start waits if none does plainly and none redundantly
+pub none_in : (s : Starts) → s.plain ≡ [] → s.spare ≡ [] → (redundant : Bool) → waiting_in redundant s ≡ []
+none_in s plain spare false = plain
+none_in s plain spare true = spare

@@ -1,6 +1,5 @@
 pub mod Groups
 pub mod Starts
-pub mod Spots
 pub mod Holders
 pub mod Seen
 pub mod Cubs

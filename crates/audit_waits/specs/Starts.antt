@@ -89,6 +89,10 @@ abbrev pub waiting_in : Bool → Starts → List (ℕ × ℕ)
 waiting_in false s = s.plain
 waiting_in true s = s.spare
 
+-- starts wait for disks alone for which they were ordered
+abbrev pub AreOrdered : Starts → Type 0
+AreOrdered s = (redundant : Bool) (disk v : ℕ) → IsTrue (has_pair disk v (waiting_in redundant s)) → IsTrue (has_pair v disk s.disks)
+
 -- tables tell who was put or stopped, and which starts wait
 pub record TellsStarts (p : Params) (s : Starts) (m : Moment) : Type 0 where
   pub over : (v : ℕ) → has_number v s.over ≡ is_over m v

@@ -4,23 +4,23 @@ ghost use Rattle.tiger_base.specs.declared.tenancy.Rec.{Rec};
 ghost use Rattle.run_model.specs.Moments.{Moment, next_moment};
 ghost use Rattle.audit_frame.specs.Lines.{noted_line};
 ghost use Rattle.audit_frame.specs.Tables.{has_number, has_pair};
-ghost use Rattle.audit_waits.specs.Cubs.{TellsCubs, excuses_in};
-ghost use Rattle.audit_waits.specs.Spots.{has_spot};
+ghost use Rattle.audit_frame.specs.Records.{has_held};
+ghost use Rattle.audit_frame.specs.declared.records.By.TheVariants as way;
+ghost use Rattle.audit_waits.specs.Cubs.{TellsCubs, excuses_in, is_excusing};
 
 use crate::holders::Holders;
-use crate::spots::Spots;
-use audit_frame::{Line, Numbers, Pairs};
+use audit_frame::{By, Held, Line, Numbers, Pairs, Records};
 use node_kit::What;
 use slot_plan::Plan;
 use std::alloc::Global;
-use tiger_base::{Beat, NoMemory, NodeNo, SlotNo, Visit};
+use tiger_base::{Beat, Instance, NoMemory, NodeNo, SlotNo, Visit};
 
 /// Who has ever died, whom the cubs believe dead, and the records in their views.
 #[derive(Drop)]
 pub struct Cubs {
     dead: Numbers,
     believed: Pairs,
-    records: Spots,
+    records: Records,
 }
 
 impl Cubs {
@@ -33,7 +33,7 @@ impl Cubs {
         Cubs {
             dead: Numbers::new(alloc),
             believed: Pairs::new(alloc),
-            records: Spots::new(alloc),
+            records: Records::new(alloc),
         }
     }
 
@@ -65,7 +65,8 @@ impl Cubs {
         ensures { result ≡ excuses_in plan.now.params holders.now self.now cub.0 beat slot.0 visit }
     {
         self.records
-            .has_excuse(plan, holders, beat, cub, slot, visit)
+            .at(slot.0, cub, visit)
+            .any(|held| is_excusing(plan, holders, beat, held))
     }
 
     /// Takes one more entry.
@@ -74,9 +75,9 @@ impl Cubs {
             → TellsCubs self.new (next_moment m (noted_line line.now))) }
     {
         match line.entry.what {
-            What::Took(r) => self.records.add(line.node, &r),
+            What::Took(r) => self.records.add(By::Slot, line.node, &r),
             What::Dropped(r) => {
-                self.records.remove(line.node, &r);
+                self.records.remove(By::Slot, line.node, &r);
                 Ok(())
             }
             What::Believed(other) => self.believed.add(line.node.0, other.0),
@@ -92,12 +93,19 @@ impl Cubs {
     /// Takes the death of a node, with which its records go.
     fn take_death(&mut self, node: NodeNo) -> Result<(), NoMemory>
         ensures believed { self.new.believed ≡ self.old.believed }
-        ensures records { OnOk result ((c : ℕ) (q : Rec) → has_spot c q self.new.records
-            ≡ (has_spot c q self.old.records && not (node.0 == c))) }
+        ensures records { OnOk result ((c : ℕ) (q : Rec) → has_held way.Slot c q self.new.records
+            ≡ (has_held way.Slot c q self.old.records && not (node.0 == c))) }
         ensures dead { OnOk result ((n : ℕ) → has_number n self.new.dead
             ≡ (has_number n self.old.dead || (node.0 == n))) }
     {
         self.records.clear(node);
         self.dead.add(node.0)
     }
+}
+
+/// Whether the instance of a record was stopped a block play time before a beat at most.
+fn is_excusing(plan: &Plan, holders: &Holders, beat: Beat, held: &Held) -> bool
+    ensures { result ≡ is_excusing plan.now.params holders.now beat held.now }
+{
+    holders.was_stopped_lately(plan, beat, Instance(held.beside))
 }

@@ -1,5 +1,5 @@
 //! A set of numbers in groups.
-ghost use Rattle.std.specs.Prelude.{◌≡◌, ◌==◌, ◌&&◌, ◌||◌, not, ℕ, [], OnOk};
+ghost use Rattle.std.specs.Prelude.{◌≡◌, ◌==◌, ◌&&◌, ◌||◌, not, ℕ, [], IsTrue, OnOk};
 ghost use Rattle.audit_frame.specs.Tables.{has_pair};
 ghost use Rattle.audit_waits.specs.Groups.{has_group};
 ghost use Rattle.audit_waits.specs.Starts.{cub_for};
@@ -44,11 +44,31 @@ impl Groups {
         Ok(())
     }
 
-    /// Takes a number out of all groups.
-    pub fn leave(&mut self, number: u32)
-        ensures { (g n : ℕ) → has_pair g n self.new ≡ (has_pair g n self.old && not (number == n)) }
+    /// Takes a number out of each group that another set has as a number in the number's group.
+    pub fn leave(&mut self, groups: &Groups, number: u32)
+        ensures { (g n : ℕ) → has_pair g n self.new
+            ≡ (has_pair g n self.old && not ((number == n) && has_pair number g groups.now)) }
     {
-        self.kept.retain(|pair| number != pair.1);
+        let from = (number as u64, 0);
+        let to = (number as u64 + 1, 0);
+        for pair in groups.kept.range(from..to) {
+            self.leave_one(pair.1, number);
+        }
+    }
+
+    /// Takes a number out of a group.
+    fn leave_one(&mut self, group: u32, number: u32)
+        ensures { (g n : ℕ) → has_pair g n self.new
+            ≡ (has_pair g n self.old && not ((group == g) && (number == n))) }
+    {
+        self.kept.remove(&(group as u64, number));
+    }
+
+    /// Whether no group has a number.
+    pub fn is_empty(&self) -> bool
+        ensures { IsTrue result → self.now ≡ [] }
+    {
+        self.kept.is_empty()
     }
 
     /// Whether a group has a number.

@@ -9,7 +9,6 @@ mod marking;
 pub mod rows;
 mod seen;
 mod so_far;
-mod spots;
 mod starts;
 mod tick;
 mod walk;

@@ -1,10 +1,10 @@
 //! Which starts wait for which disks, as far as the entries tell that a walk along a log has passed.
-ghost use Rattle.std.specs.Prelude.{◌≡◌, ◌==◌, ◌&&◌, ◌||◌, true, not, ℕ, [], IsTrue, OnOk, IfOk, get_or, slice_set};
+ghost use Rattle.std.specs.Prelude.{◌≡◌, Bool, ◌==◌, ◌&&◌, ◌||◌, true, not, ℕ, [], IsTrue, OnOk, IfOk, get_or, slice_set};
 ghost use Rattle.run_model.specs.Moments.{Moment, next_moment};
 ghost use Rattle.audit_frame.specs.Lines.{noted_line};
 ghost use Rattle.audit_frame.specs.Tables.{has_number, has_pair};
 ghost use Rattle.audit_waits.specs.Groups.{has_group};
-ghost use Rattle.audit_waits.specs.Starts.{TellsStarts, HasLetIn, HasTakenNote, HasEnded, AreAsked, AreDisksOf, begins_at, begins_on, waiting_in};
+ghost use Rattle.audit_waits.specs.Starts.{TellsStarts, AreOrdered, HasLetIn, HasTakenNote, HasEnded, AreAsked, AreDisksOf, begins_at, begins_on, waiting_in};
 
 use crate::groups::Groups;
 use audit_frame::{Line, Numbers};
@@ -66,6 +66,17 @@ impl Starts {
         }
     }
 
+    /// Whether no start waits for any disk.
+    pub fn none_wait(&self) -> bool
+        ensures { IsTrue result → (redundant : Bool) → waiting_in redundant self.now ≡ [] }
+    {
+        let plain = self.plain.is_empty();
+        if !plain {
+            return false;
+        }
+        self.spare.is_empty()
+    }
+
     /// Takes one more entry.
     pub fn take<'a>(&mut self, plan: &Plan, line: &Line<'a>) -> Result<(), NoMemory>
         ensures disks { self.new.disks ≡ self.old.disks }
@@ -121,10 +132,10 @@ impl Starts {
     fn end(&mut self, v: Instance) -> Result<(), NoMemory>
         ensures disks { self.new.disks ≡ self.old.disks }
         ensures asked { self.new.asked.items ≡ self.old.asked.items }
-        ensures ended { OnOk result (HasEnded v.0 self.old self.new) }
+        ensures ended { OnOk result (AreOrdered self.old → HasEnded v.0 self.old self.new) }
     {
-        self.plain.leave(v.0);
-        self.spare.leave(v.0);
+        self.plain.leave(&self.disks, v.0);
+        self.spare.leave(&self.disks, v.0);
         self.over.add(v.0)
     }
 }

@@ -39,10 +39,10 @@ pub struct Walk {
 
 /// The first tick of a course, by beat and then by cub, at the end of which a start that waits is passed over; `None` if
 /// there is none. The log is that of the course: its entries stand by beat, then by node. An entry costs the logarithm of
-/// what is kept, a Put and a stop a look at each start that waits, a death and a return a look at each record, and a tick a
-/// look at the cub's disks. Of a disk for which a start waits each visit in the window costs the logarithm of what is kept
-/// once, and at each tick at which no tenancy has it or one before it; and once more after a stop, and after a Put into a
-/// slot that another tenancy had.
+/// what is kept, a Put and a stop that for each disk of the instance's starts, a death and a return a look at each record, and
+/// a tick a look at the cub's disks, if any start waits. Of a disk for which a start waits each visit in the window costs the
+/// logarithm of what is kept once, and at each tick at which no tenancy has it or one before it; and once more after a stop,
+/// and after a Put into a slot that another tenancy had.
 ///
 /// `NoMemory` is the only error.
 pub fn first_passed_over<'a>(
@@ -211,12 +211,15 @@ impl Walk {
             → JudgesTick course.now.plan.params orders (ticks_in course.now) m cub.0 beat
             self.old.place result }
     {
-        if !ends_beat(course, cub, beat) {
+        if self.so_far.starts.none_wait() {
             return None;
         }
         let reading = course.stamp(NodeNo(cub.0), beat).reading;
         let tick = Tick { cub, beat, reading };
         if self.so_far.is_patient(&course.plan, tick, &mut self.marks) {
+            return None;
+        }
+        if !ends_beat(course, cub, beat) {
             return None;
         }
         let place = last_place(self.place);

@@ -14,16 +14,16 @@ loop-first-init c =
 
 pub returns-then-not-yes-clause-cause : goal.returns-then-not-yes-clause-cause
 returns-then-not-yes-clause-cause c =
-    fault_at_line c.args.bytes.now c.loop-first.draft c.loop-first.line c.loop-first.rest.now c.in-Some.first.now c.in-Some.behind.now
-    c.loop-first.invariant.reached c.in-Some.ensures.1 c.in-Some.ensures.0
-    (none_read c.loop-first.draft c.in-Some.first.now c.read_next.new.draft c.in_ok-yes.yes c.in_ok-yes.ensures c.if-not-yes.true)
+    fault_at_line c.args.bytes.now c.loop-first.draft c.loop-first.line c.loop-first.rest.now c.in-Some.first.line.now c.in-Some.first.behind.now
+    c.loop-first.invariant.reached c.in-Some.ensures.parts c.in-Some.ensures.free
+    (none_read c.loop-first.draft c.in-Some.first.line.now c.read_next.new.draft c.in_ok-yes.yes c.in_ok-yes.ensures c.if-not-yes.true)
 
 pub loop-first-preserved : goal.loop-first-preserved
 loop-first-preserved c = record {
   reached =
-      at_next c.args.bytes.now c.loop-first.draft c.read_next.new.draft c.loop-first.line c.loop-first.rest.now c.in-Some.first.now c.in-Some.behind.now
-      c.loop-first.invariant.reached c.in-Some.ensures.1
-      (some_read c.loop-first.draft c.in-Some.first.now c.read_next.new.draft c.in_ok-yes.yes c.in_ok-yes.ensures c.if-not-yes.false);
+      at_next c.args.bytes.now c.loop-first.draft c.read_next.new.draft c.loop-first.line c.loop-first.rest.now c.in-Some.first.line.now c.in-Some.first.behind.now
+      c.loop-first.invariant.reached c.in-Some.ensures.parts
+      (some_read c.loop-first.draft c.in-Some.first.line.now c.read_next.new.draft c.in_ok-yes.yes c.in_ok-yes.ensures c.if-not-yes.false);
   within =
-      omega (arith, c.loop-first.invariant.within, shorter c.loop-first.rest.now c.in-Some.first.now c.in-Some.behind.now c.in-Some.ensures.1);
+      omega (arith, c.loop-first.invariant.within, shorter c.loop-first.rest.now c.in-Some.first.line.now c.in-Some.first.behind.now c.in-Some.ensures.parts);
 }

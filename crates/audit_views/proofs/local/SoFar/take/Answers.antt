@@ -1,6 +1,7 @@
 use Rattle.std.proofs.Common.{ap, ⊎_elim}
 use Rattle.std.proofs.lemmas.Result.{on_ok_weaker}
 use Rattle.audit_frame.specs.Lines.{noted_line}
+use Rattle.audit_frame.specs.declared.records.By.TheVariants as way
 use Rattle.audit_views.proofs.Bringing.{put_local, got_local, took_local, dropped_local, emptied_local, other_local}
 use Rattle.audit_views.proofs.Taking.{empties}
 use Rattle.audit_views.proofs.local.SoFar.take.Goals as goal
@@ -25,7 +26,7 @@ returns-in-Dropped c = λ m h.
 pub returns-in-Died : goal.returns-in-Died
 returns-in-Died c = λ m h.
     emptied_local c.args.plan.now.params _ _ _ m (noted_line c.args.line.now)
-    (⊎_elim (λ e. ap empties e) (λ e. ap empties e) c.in-Died.is) c.clear.ensures h
+    (⊎_elim (λ e. ap empties e) (λ e. ap empties e) c.in-Died.is) (c.clear.ensures way.Instance) h
 
 pub returns-in_default : goal.returns-in_default
 returns-in_default c = λ m h.

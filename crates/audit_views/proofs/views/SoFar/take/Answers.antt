@@ -1,6 +1,7 @@
 use Rattle.std.proofs.Common.{ap, ⊎_elim}
 use Rattle.std.proofs.lemmas.Result.{on_ok_weaker}
 use Rattle.audit_frame.specs.Lines.{noted_line}
+use Rattle.audit_frame.specs.declared.records.By.TheVariants as way
 use Rattle.audit_frame.proofs.Joined.{both_ok}
 use Rattle.audit_views.proofs.Taking.{put_taken, gone_taken, took_taken, dropped_taken, emptied_taken, empties, other_taken}
 use Rattle.audit_views.proofs.views.SoFar.take.Goals as goal
@@ -26,7 +27,7 @@ returns-in-Dropped c = λ m h le.
 pub returns-in-Died : goal.returns-in-Died
 returns-in-Died c = λ m h le.
     emptied_taken c.args.plan.now.params _ _ _ _ _ _ m (noted_line c.args.line.now)
-    (⊎_elim (λ e. ap empties e) (λ e. ap empties e) c.in-Died.is) c.clear.ensures h le
+    (⊎_elim (λ e. ap empties e) (λ e. ap empties e) c.in-Died.is) (c.clear.ensures way.Instance) h le
 
 pub returns-in_default : goal.returns-in_default
 returns-in_default c = λ m h le.

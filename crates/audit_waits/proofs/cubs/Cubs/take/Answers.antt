@@ -1,6 +1,7 @@
 use Rattle.std.proofs.Common.{refl}
 use Rattle.std.proofs.lemmas.Result.{on_ok_weaker}
 use Rattle.audit_frame.specs.Lines.{noted_line}
+use Rattle.audit_frame.specs.declared.records.By.TheVariants as way
 use Rattle.audit_frame.proofs.Joined.{both_ok}
 use Rattle.audit_waits.proofs.Excusing.{took_known, dropped_known, belief_known, death_known, return_known, other_known}
 use Rattle.audit_waits.proofs.cubs.Cubs.take.Goals as goal
@@ -24,7 +25,7 @@ returns-in-Died c = both_ok c.take_death.result _ _ _ (λ cleared added m h.
 
 pub returns-in-Returned : goal.returns-in-Returned
 returns-in-Returned c = λ m h.
-    return_known c.args.self.now _ m (noted_line c.args.line.now) c.in-Returned.is refl refl c.clear.ensures h
+    return_known c.args.self.now _ m (noted_line c.args.line.now) c.in-Returned.is refl refl (c.clear.ensures way.Slot) h
 
 pub returns-in_default : goal.returns-in_default
 returns-in_default c = λ m h.

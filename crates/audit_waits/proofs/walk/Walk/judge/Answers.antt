@@ -1,7 +1,13 @@
 use Rattle.std.proofs.Common.{ap, not}
 use Rattle.tiger_base.specs.declared.number.Stamp.{Stamp}
+use Rattle.audit_waits.proofs.Judged.{nobody_waits}
 use Rattle.audit_waits.proofs.Passing.{passed_then, patient_then, rests_then}
 use Rattle.audit_waits.proofs.walk.Walk.judge.Goals as goal
+
+pub returns-then-none_wait-clause-found : goal.returns-then-none_wait-clause-found
+returns-then-none_wait-clause-found c = λ orders m tells reading ticks.
+    nobody_waits c.args.course.now.plan.params orders c.args.self.now.so_far m c.args.cub.0 c.args.beat reading c.args.course.now.plan.sound
+    c.requires.cub tells (c.none_wait.ensures c.if-none_wait.true)
 
 pub returns-then-not-ends_beat-clause-found : goal.returns-then-not-ends_beat-clause-found
 returns-then-not-ends_beat-clause-found c = λ orders m tells.

@@ -1,7 +1,0 @@
-use Rattle.audit_views.specs.Standing.{held_by}
-use Rattle.audit_views.proofs.Kept.{record_removed}
-use Rattle.audit_views.proofs.records.Records.remove.Goals as goal
-
-pub returns : goal.returns
-returns c = λ n q. record_removed c.args.cub.0 n c.args.r.now q _ _ _ _ c.self.view_is c.held_by-held.ensures
-    (c.remove.ensures.updates.0 (held_by n q))
